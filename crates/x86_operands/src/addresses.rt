@@ -19,9 +19,9 @@ fn part(reg: Option<RegSpec>, times: u8, regs: &RegFile, next: u64) -> u128
     match reg {
         None => 0,
         Some(reg) => {
-            let value = match reg.class {
+            let value = match reg.class() {
                 RegisterClass::EIP | RegisterClass::RIP => next,
-                _ => regs.regs[(reg.num % 16) as usize],
+                _ => regs.regs[(reg.num() % 16) as usize],
             };
             times as u128 * value as u128
         }

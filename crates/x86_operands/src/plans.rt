@@ -2,7 +2,7 @@
 ghost use Rattle.std.specs.Prelude.{◌≡◌, ◌<◌, ℕ};
 ghost use Rattle.x86_operands.specs.Plans.{is_memory, reads, named_by_suffix, refused, refuses, memory_only, register_only, size_by, reg_number, rm_number, register_at, accumulator_of, immediate_of};
 
-use crate::{extend, register, width};
+use crate::{extend, register};
 use x86_fields::Prefixes;
 use x86_opcodes::Opcode;
 use x86_regs::{RegSpec, RegisterClass};

@@ -19,31 +19,19 @@ pub fn base(raw: &Raw) -> Option<RegSpec>
         None => {
             if raw.modrm / 64 == 0 && raw.modrm % 8 == 5 {
                 if raw.address_size {
-                    Some(RegSpec {
-                        num: 0,
-                        class: RegisterClass::EIP,
-                    })
+                    Some(RegSpec::of(0, RegisterClass::EIP))
                 } else {
-                    Some(RegSpec {
-                        num: 0,
-                        class: RegisterClass::RIP,
-                    })
+                    Some(RegSpec::of(0, RegisterClass::RIP))
                 }
             } else {
-                Some(RegSpec {
-                    num: extend(raw.rex_b, raw.modrm % 8),
-                    class,
-                })
+                Some(RegSpec::of(extend(raw.rex_b, raw.modrm % 8), class))
             }
         }
         Some(sib) => {
             if raw.modrm / 64 == 0 && sib % 8 == 5 {
                 None
             } else {
-                Some(RegSpec {
-                    num: extend(raw.rex_b, sib % 8),
-                    class,
-                })
+                Some(RegSpec::of(extend(raw.rex_b, sib % 8), class))
             }
         }
     }
@@ -63,10 +51,7 @@ pub fn index(raw: &Raw) -> Option<RegSpec>
             if sib / 8 % 8 == 4 && !raw.rex_x {
                 None
             } else {
-                Some(RegSpec {
-                    num: extend(raw.rex_x, sib / 8 % 8),
-                    class,
-                })
+                Some(RegSpec::of(extend(raw.rex_x, sib / 8 % 8), class))
             }
         }
     }
@@ -137,4 +122,3 @@ pub fn shape(raw: &Raw) -> (Slot, Operand)
         ),
     }
 }
-

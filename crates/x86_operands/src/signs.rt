@@ -54,10 +54,7 @@ fn rm_mm(modrm: u8, memory: Option<Raw>) -> Pair
 {
     match memory {
         None => {
-            let reg = RegSpec {
-                num: modrm % 8,
-                class: RegisterClass::MM,
-            };
+            let reg = RegSpec::mm(modrm % 8);
             (Slot::Rm, Operand::Register { reg })
         }
         Some(raw) => shape(&raw),
@@ -81,10 +78,7 @@ pub fn read_sign<T: Reader<u64, u8>>(
             Ok((Slot::Reg, Operand::Register { reg }))
         }
         Sign::Gmm => {
-            let reg = RegSpec {
-                num: modrm / 8 % 8,
-                class: RegisterClass::MM,
-            };
+            let reg = RegSpec::mm(modrm / 8 % 8);
             Ok((Slot::Reg, Operand::Register { reg }))
         }
         Sign::E(class) => Ok(rm(class, prefixes, modrm, memory)),

@@ -1,7 +1,7 @@
 //! Register classes by the prefixes.
 ghost use Rattle.std.specs.Prelude.{◌≡◌, ◌<◌, ◌≤◌};
 ghost use Rattle.x86_operands.specs.Shape.{extended};
-ghost use Rattle.x86_operands.specs.Sizes.{v, vq, width_of, register_of};
+ghost use Rattle.x86_operands.specs.Sizes.{v, vq, register_of};
 
 use x86_fields::Prefixes;
 use x86_regs::{RegSpec, RegisterClass};
@@ -28,40 +28,19 @@ pub fn vq_class(prefixes: &Prefixes) -> RegisterClass
     }
 }
 
-pub fn width(class: RegisterClass) -> u8
-    ensures { result ≡ width_of class }
-{
-    match class {
-        RegisterClass::B | RegisterClass::RB => 1,
-        RegisterClass::W | RegisterClass::S => 2,
-        RegisterClass::D | RegisterClass::EIP => 4,
-        RegisterClass::X => 16,
-        RegisterClass::Q
-        | RegisterClass::CR
-        | RegisterClass::DR
-        | RegisterClass::MM
-        | RegisterClass::RIP => 8,
-    }
-}
-
+/// The register of a class. A byte register from 4 on is another one with a live REX.
 pub fn register(class: RegisterClass, prefixes: &Prefixes, num: u8) -> RegSpec
     ensures { result ≡ register_of class prefixes.now num }
 {
     match class {
         RegisterClass::B => {
             if prefixes.rex().is_some() && 4 <= num {
-                RegSpec {
-                    num,
-                    class: RegisterClass::RB,
-                }
+                RegSpec::of(num, RegisterClass::RB)
             } else {
-                RegSpec {
-                    num,
-                    class: RegisterClass::B,
-                }
+                RegSpec::of(num, RegisterClass::B)
             }
         }
-        other => RegSpec { num, class: other },
+        other => RegSpec::of(num, other),
     }
 }
 
@@ -71,4 +50,3 @@ pub fn extend(bit: bool, num: u8) -> u8
 {
     if bit { num + 8 } else { num }
 }
-
