@@ -21,7 +21,7 @@ fn fault(_row: TableRow, _prefixes: &Prefixes) -> Option<Fault>
     Some(Fault::Incomplete)
 }
 
-fn plan(_strict: bool, _row: TableRow, _prefixes: &Prefixes, _modrm: u8) -> Plan
+fn plan(_row: TableRow, _prefixes: &Prefixes, _modrm: u8, _strict: bool) -> Plan
     ensures { result ≡ refuses Fault.Incomplete Moment.AtModRM }
 {
     refuses(Fault::Incomplete, Moment::AtModRM)
@@ -38,8 +38,9 @@ pub fn read_group<T: Reader<u64, u8>>(
     requires group { is_group_form row.form ≡ true }
     ensures { outcome result (T.state words.new) ≡ record_step (group_record strict row prefixes) prefixes (T.state words.old) }
 {
-    refuse(fault(row, &prefixes))?;
+    let fault = fault(row, &prefixes);
+    refuse(fault)?;
     let modrm = read_modrm(words, ModrmUse::Fields)?;
-    let plan = plan(strict, row, &prefixes, modrm);
+    let plan = plan(row, &prefixes, modrm, strict);
     read_plan(words, &plan, prefixes, modrm)
 }
