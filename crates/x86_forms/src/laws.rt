@@ -26,7 +26,7 @@ pub fn printed_words_are_the_printed_rows()
     ensures words { (map : Map) → (column : Column) → (byte : ℕ) → IfSome (printed_row map column byte) HasWord }
 {}
 
-/// `==` holds exactly of the same map, of the same column, of the same form with the same number, and of rows with the same
+/// `==` on the types of this crate: it holds exactly of the same map, of the same column, of the same form with the same number, and of rows with the same
 /// opcode and form.
 pub fn equality_is_of_all_parts()
     ensures maps { (m n : Map) → IsTrue (equal_maps m n) ↔ (m ≡ n) }
