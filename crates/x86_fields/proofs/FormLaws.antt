@@ -93,15 +93,15 @@ wrapped x m h = wrapped_by (nat_lt x m) x m refl h
 
 same_term : (a b c m : ℕ) → a < m → b < m → c < m → (a + c) % m ≡ (b + c) % m → a ≡ b
 same_term a b c m ha hb hc e = elim (wrapped (a + c) m (omega arith)) [
-    | within h x ↦ elim (wrapped (b + c) m (omega arith)) [
-        | within k y ↦ omega arith
-        | around k y ↦ omega arith
-      ]
-    | around h x ↦ elim (wrapped (b + c) m (omega arith)) [
-        | within k y ↦ omega arith
-        | around k y ↦ omega arith
-      ]
+  | within h x ↦ elim (wrapped (b + c) m (omega arith)) [
+    | within k y ↦ omega arith
+    | around k y ↦ omega arith
   ]
+  | around h x ↦ elim (wrapped (b + c) m (omega arith)) [
+    | within k y ↦ omega arith
+    | around k y ↦ omega arith
+  ]
+]
 
 module _ (f g : Linear) (same : f.modulus ≡ g.modulus) (f_small : IsReduced f) (g_small : IsReduced g) where
   constants : AgreeAtUnits f g → f.constant ≡ g.constant

@@ -73,21 +73,13 @@ pub fn read_num<T: Reader<u64, u8>>(words: &mut T, width: u8) -> Result<u64, Dec
     requires { IsTrue (is_number_width width) }
     ensures { outcome result (T.state words.new) ≡ num_step width (T.state words.old) }
 {
-    match width {
-        1 => {
-            let number = read_u8(words)?;
-            Ok(number as u64)
-        }
-        2 => {
-            let number = read_u16(words)?;
-            Ok(number as u64)
-        }
-        4 => {
-            let number = read_u32(words)?;
-            Ok(number as u64)
-        }
-        _ => read_u64(words),
-    }
+    let number = match width {
+        1 => read_u8(words)? as u64,
+        2 => read_u16(words)? as u64,
+        4 => read_u32(words)? as u64,
+        _ => read_u64(words)?,
+    };
+    Ok(number)
 }
 
 /// A signed number of 1, 2 or 4 bytes. Where fewer are left, none is taken.
@@ -96,18 +88,10 @@ pub fn read_imm_signed<T: Reader<u64, u8>>(words: &mut T, width: u8) -> Result<i
     requires { IsTrue (is_signed_width width) }
     ensures { outcome result (T.state words.new) ≡ signed_step width (T.state words.old) }
 {
-    match width {
-        1 => {
-            let number = read_u8(words)?;
-            Ok(number.cast_signed() as i64)
-        }
-        2 => {
-            let number = read_u16(words)?;
-            Ok(number.cast_signed() as i64)
-        }
-        _ => {
-            let number = read_u32(words)?;
-            Ok(number.cast_signed() as i64)
-        }
-    }
+    let number = match width {
+        1 => read_u8(words)?.cast_signed() as i64,
+        2 => read_u16(words)?.cast_signed() as i64,
+        _ => read_u32(words)?.cast_signed() as i64,
+    };
+    Ok(number)
 }
