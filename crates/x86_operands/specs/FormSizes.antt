@@ -9,15 +9,7 @@ use Rattle.x86_opcodes.specs.Kinds.{is_among}
 use Rattle.x86_opcodes.specs.Names.{CALL, CMPSD, CMPSS, ROUNDSS, ROUNDSD, LFS, LGS, LSS, ENQCMD, ENQCMDS, MOVDDUP, MOVNTSS, MOVNTPS, MOVNTPD, MOVNTDQ, PEXTRB, PEXTRW, EXTRACTPS, PINSRB, INSERTPS, PMOVSXBQ, PMOVZXBQ, PMOVSXBD, PMOVZXBD, PMOVSXWQ, PMOVZXWQ, UCOMISS, COMISS, CVTSS2SD, MOVLPD, MOVHPD, PUNPCKLBW, PUNPCKLWD, PUNPCKLDQ, RETURN, RETF, PUSHF, POPF, LEAVE, XLAT, CBW, CWDE, CDQE, CWD, CDQ, CQO}
 use Rattle.x86_operands.specs.declared.plans.Sign.{Sign}
 use Rattle.x86_operands.specs.declared.plans.Sign.TheVariants.{I16, I32, I64Whole, Address32, Address64}
-use Rattle.x86_operands.specs.Sizes.{v}
-
--- D under live W or without 66, else W
-abbrev pub vd : Prefixes → RegisterClass
-vd p = if rex_w p then D else (if p.operand_size then W else D)
-
--- Q under live W, else D
-abbrev pub dq : Prefixes → RegisterClass
-dq p = if rex_w p then Q else D
+use Rattle.x86_fields.specs.Sizes.{v}
 
 -- the class of an address register
 abbrev pub pointer_class : Prefixes → RegisterClass

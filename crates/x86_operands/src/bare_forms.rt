@@ -7,7 +7,7 @@ ghost use Rattle.x86_operands.specs.Forms.{accumulator_plan, exchange_plan, form
 
 use crate::form_sizes::{
     address, call_size, doubling, nothing_size, pointer_class, port_size, push_immediate,
-    return_size, v_size, vd_class, whole_immediate, widening,
+    return_size, v_size, whole_immediate, widening,
 };
 use crate::general_forms::general_plan;
 use crate::plans::Sign::{ConstantU8, Fixed, I8, I32, Pointer, U8, U16, X16};
@@ -15,7 +15,6 @@ use crate::plans::Signs::{One, Two, Zero};
 use crate::plans::{
     Mark, Plan, PointerSlot, RegisterSlot, Sign, accumulator, immediate, reads, register_at,
 };
-use crate::sizes::{v_class, vq_class};
 use x86_fields::Prefixes;
 use x86_forms::Form;
 use x86_opcodes::Opcode;
@@ -111,11 +110,11 @@ fn sets_es(plan: Plan) -> Plan
 fn accumulator_plan(form: Form, opcode: Opcode, prefixes: &Prefixes, modrm: u8) -> Plan
     ensures { result ≡ accumulator_plan form opcode prefixes.now modrm }
 {
-    let v = v_class(prefixes);
+    let v = prefixes.v_class();
     let v_size = v_size(prefixes);
     let al = accumulator(B, prefixes);
     let ax = accumulator(v, prefixes);
-    let ax_port = accumulator(vd_class(prefixes), prefixes);
+    let ax_port = accumulator(prefixes.vd_class(), prefixes);
     match form {
         Form::AL_Ibs => reads(opcode, Two(al, I8), 0),
         Form::AX_Ivd => reads(opcode, Two(ax, immediate(v)), 0),
@@ -170,7 +169,7 @@ fn exchange_plan(opcode: Opcode, num: u8, prefixes: &Prefixes) -> Plan
     if num == 0 && !prefixes.has_b() {
         return reads(Opcode::NOP, Zero, 0);
     }
-    let v = v_class(prefixes);
+    let v = prefixes.v_class();
     let register = z_in(RegisterSlot::Rm, num, v, prefixes);
     reads(opcode, Two(accumulator(v, prefixes), register), 0)
 }
@@ -202,11 +201,11 @@ pub fn form_plan(form: Form, opcode: Opcode, prefixes: &Prefixes, modrm: u8) -> 
     requires { IsForm form }
     ensures { result ≡ form_plan form opcode prefixes.now modrm }
 {
-    let v = v_class(prefixes);
+    let v = prefixes.v_class();
     let reg = RegisterSlot::Reg;
     match form {
         Form::Zv_R(num) => {
-            let register = z_in(reg, num, vq_class(prefixes), prefixes);
+            let register = z_in(reg, num, prefixes.vq_class(), prefixes);
             reads(opcode, One(register), 8)
         }
         Form::Zv_AX_R(num) => exchange_plan(opcode, num, prefixes),

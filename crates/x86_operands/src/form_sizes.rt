@@ -2,37 +2,12 @@
 ghost use Rattle.std.specs.Prelude.{◌≡◌, if◌then◌else◌};
 ghost use Rattle.x86_fields.specs.Raw.{rex_w};
 ghost use Rattle.x86_operands.specs.Forms.{size_v, or_v};
-ghost use Rattle.x86_operands.specs.FormSizes.{vd, dq, pointer_class, whole_immediate, push_immediate, address_sign, widening, doubling, nothing_size, call_size, return_size, port_size, is_far_load, far_class, far_size, duplicate_size, stream_size, scalar_size, extend_size, is_half_load, extract_size, insert_size, unpack_size};
+ghost use Rattle.x86_operands.specs.FormSizes.{pointer_class, whole_immediate, push_immediate, address_sign, widening, doubling, nothing_size, call_size, return_size, port_size, is_far_load, far_class, far_size, duplicate_size, stream_size, scalar_size, extend_size, is_half_load, extract_size, insert_size, unpack_size};
 
 use crate::plans::{Sign, size_by};
-use crate::sizes::v_class;
 use x86_fields::Prefixes;
 use x86_opcodes::Opcode;
 use x86_regs::RegisterClass;
-
-/// D under a live W or without 66, else W.
-pub fn vd_class(prefixes: &Prefixes) -> RegisterClass
-    ensures { result ≡ vd prefixes.now }
-{
-    if prefixes.has_w() {
-        RegisterClass::D
-    } else if prefixes.operand_size() {
-        RegisterClass::W
-    } else {
-        RegisterClass::D
-    }
-}
-
-/// Q under a live W, else D.
-pub fn dq_class(prefixes: &Prefixes) -> RegisterClass
-    ensures { result ≡ dq prefixes.now }
-{
-    if prefixes.has_w() {
-        RegisterClass::Q
-    } else {
-        RegisterClass::D
-    }
-}
 
 /// The class of an address register.
 pub fn pointer_class(prefixes: &Prefixes) -> RegisterClass
@@ -49,7 +24,7 @@ pub fn pointer_class(prefixes: &Prefixes) -> RegisterClass
 pub fn v_size(prefixes: &Prefixes) -> u8
     ensures { result ≡ size_v prefixes.now }
 {
-    v_class(prefixes).width()
+    prefixes.v_class().width()
 }
 
 /// The size in the memory form, and that of v in the register form.
@@ -162,7 +137,7 @@ pub fn far_class(opcode: Opcode, prefixes: &Prefixes) -> RegisterClass
     ensures { result ≡ far_class opcode prefixes.now }
 {
     if is_far_load(opcode) {
-        v_class(prefixes)
+        prefixes.v_class()
     } else {
         RegisterClass::Q
     }

@@ -2,14 +2,13 @@
 ghost use Rattle.std.specs.Prelude.{◌≡◌};
 ghost use Rattle.x86_operands.specs.Forms.{general_plan, cl_third};
 
-use crate::form_sizes::{dq_class, far_class, far_size, or_v, pointer_class, v_size, vd_class};
+use crate::form_sizes::{far_class, far_size, or_v, pointer_class, v_size};
 use crate::plans::Sign::{E, G, I8, M};
 use crate::plans::Signs::{One, Three, Two};
 use crate::plans::{
     Fault, Moment, Plan, RegisterSlot, Sign, immediate, memory_only, reads, refused, reg_number,
     size_by,
 };
-use crate::sizes::v_class;
 use crate::xmm_forms::xmm_plan;
 use x86_fields::Prefixes;
 use x86_forms::Form;
@@ -26,7 +25,7 @@ fn cl_third() -> Sign
 pub fn general_plan(form: Form, opcode: Opcode, prefixes: &Prefixes, modrm: u8) -> Plan
     ensures { result ≡ general_plan form opcode prefixes.now modrm }
 {
-    let v = v_class(prefixes);
+    let v = prefixes.v_class();
     let v_size = v_size(prefixes);
     match form {
         Form::Eb_Gb => reads(opcode, Two(E(B), G(B)), 1),
@@ -42,7 +41,7 @@ pub fn general_plan(form: Form, opcode: Opcode, prefixes: &Prefixes, modrm: u8) 
         Form::Gdq_Ed => reads(opcode, Two(G(Q), E(D)), or_v(4, prefixes, modrm)),
         Form::Gd_Ed => reads(opcode, Two(G(D), E(D)), or_v(4, prefixes, modrm)),
         Form::Gdq_Ev => {
-            let dq = dq_class(prefixes);
+            let dq = prefixes.dq_class();
             reads(opcode, Two(G(dq), E(v)), or_v(4, prefixes, modrm))
         }
         Form::Gv_Ev_Ib => reads(opcode, Three(G(v), E(v), I8), v_size),
@@ -51,7 +50,7 @@ pub fn general_plan(form: Form, opcode: Opcode, prefixes: &Prefixes, modrm: u8) 
         Form::Ev_Gv_CL => reads(opcode, Three(E(v), G(v), cl_third()), v_size),
         Form::Gv_Ew_LAR => reads(opcode, Two(G(v), E(v)), or_v(2, prefixes, modrm)),
         Form::Gv_Ew_LSL => {
-            let vd = vd_class(prefixes);
+            let vd = prefixes.vd_class();
             reads(opcode, Two(G(v), E(vd)), or_v(2, prefixes, modrm))
         }
         Form::Ew_Sw => {
@@ -75,7 +74,7 @@ pub fn general_plan(form: Form, opcode: Opcode, prefixes: &Prefixes, modrm: u8) 
             memory_only(modrm, plan)
         }
         Form::Mdq_Gdq => {
-            let dq = dq_class(prefixes);
+            let dq = prefixes.dq_class();
             memory_only(modrm, reads(opcode, Two(M, G(dq)), dq.width()))
         }
         Form::G_E_q => reads(opcode, Two(G(Q), E(Q)), or_v(8, prefixes, modrm)),

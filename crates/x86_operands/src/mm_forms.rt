@@ -2,7 +2,7 @@
 ghost use Rattle.std.specs.Prelude.{◌≡◌};
 ghost use Rattle.x86_operands.specs.Forms.{mm_plan};
 
-use crate::form_sizes::{dq_class, or_v, unpack_size, v_size};
+use crate::form_sizes::{or_v, unpack_size, v_size};
 use crate::plans::Sign::{E, Emm, G, Gmm, I8, M, U, U8, Umm};
 use crate::plans::Signs::{Three, Two};
 use crate::plans::{
@@ -16,7 +16,7 @@ use x86_regs::RegisterClass::{D, X};
 pub fn mm_plan(form: Form, opcode: Opcode, prefixes: &Prefixes, modrm: u8) -> Plan
     ensures { result ≡ mm_plan form opcode prefixes.now modrm }
 {
-    let dq = dq_class(prefixes);
+    let dq = prefixes.dq_class();
     let v_size = v_size(prefixes);
     match form {
         Form::G_xmm_E_mm => reads(opcode, Two(G(X), Emm), or_v(8, prefixes, modrm)),

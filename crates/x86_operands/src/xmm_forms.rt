@@ -4,14 +4,13 @@ ghost use Rattle.x86_fields.specs.Raw.{rex_w};
 ghost use Rattle.x86_operands.specs.Forms.{xmm_plan};
 
 use crate::form_sizes::{
-    dq_class, duplicate_size, extend_size, extract_size, insert_size, is_half_load, or_v,
-    scalar_size, stream_size, v_size,
+    duplicate_size, extend_size, extract_size, insert_size, is_half_load, or_v, scalar_size,
+    stream_size, v_size,
 };
 use crate::mm_forms::mm_plan;
 use crate::plans::Sign::{E, G, I8, M, U, U8};
 use crate::plans::Signs::{Three, Two};
 use crate::plans::{Fault, Moment, Plan, memory_form, memory_only, reads, refused, register_only};
-use crate::sizes::v_class;
 use x86_fields::Prefixes;
 use x86_forms::Form;
 use x86_opcodes::Opcode;
@@ -33,8 +32,8 @@ fn size_by_w(prefixes: &Prefixes) -> u8
 pub fn xmm_plan(form: Form, opcode: Opcode, prefixes: &Prefixes, modrm: u8) -> Plan
     ensures { result ≡ xmm_plan form opcode prefixes.now modrm }
 {
-    let v = v_class(prefixes);
-    let dq = dq_class(prefixes);
+    let v = prefixes.v_class();
+    let dq = prefixes.dq_class();
     let v_size = v_size(prefixes);
     let both = Two(G(X), E(X));
     match form {

@@ -5,7 +5,7 @@ ghost use Rattle.std.specs.Ordering.{ordering_then, nat_cmp};
 ghost use Rattle.std.specs.Cmp.{IsTotalOrder};
 ghost use Rattle.x86_regs.specs.Class.{code_of};
 
-use crate::{RegSpec, RegisterClass};
+use crate::{MergeMode, RegSpec, RegisterClass, SaeMode, Segment};
 use std::cmp::Ordering;
 use std::hash::Hash;
 
@@ -35,4 +35,12 @@ pub fn classes_are_ordered()
 pub fn classes_are_equal()
     ensures exactly { (a b : RegisterClass) → IsTrue (⟦<RegisterClass as PartialEq>⟧.eq a b) ↔ (a ≡ b) }
     ensures hashed { (a b : RegisterClass) → IsTrue (⟦<RegisterClass as PartialEq>⟧.eq a b) → ⟦<RegisterClass as Hash>⟧.hash_input a ≡ ⟦<RegisterClass as Hash>⟧.hash_input b }
+{}
+
+/// Segments and modes are equal exactly where they are the same, and equal segments hash equally.
+pub fn modes_are_equal()
+    ensures segments { (a b : Segment) → IsTrue (⟦<Segment as PartialEq>⟧.eq a b) ↔ (a ≡ b) }
+    ensures hashed { (a b : Segment) → IsTrue (⟦<Segment as PartialEq>⟧.eq a b) → ⟦<Segment as Hash>⟧.hash_input a ≡ ⟦<Segment as Hash>⟧.hash_input b }
+    ensures merging { (a b : MergeMode) → IsTrue (⟦<MergeMode as PartialEq>⟧.eq a b) ↔ (a ≡ b) }
+    ensures rounding { (a b : SaeMode) → IsTrue (⟦<SaeMode as PartialEq>⟧.eq a b) ↔ (a ≡ b) }
 {}
