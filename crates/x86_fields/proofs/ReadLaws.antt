@@ -60,21 +60,23 @@ disp_short width s = by_width (width == 1) (width == 4)
     by_width false true = map_short (number_step w32) (cast_signed w32) s (number_short w32 s)
     by_width false false = never (pos 0) s s
 
-made : Prefixes → ℕ → Option ℕ → ℤ → Raw
+abbrev made : Prefixes → ℕ → Option ℕ → ℤ → Raw
 made p modrm sib disp = record { rex_b = rex_b p; rex_x = rex_x p; address_size = p.address_size; modrm = modrm; sib = sib; disp = disp }
 
-pub raw_short : (p : Prefixes) (modrm : ℕ) (s : State ℕ) → ShortAt (raw_step p modrm s) (advanced (sib_taken modrm s.left) s)
-unfolding raw_step byte_step made
-raw_short p modrm s = go (low_field modrm == 4) s.left
-  where
-    rest : Option ℕ → Step Raw
-    rest sib = disp_step (disp_width modrm sib) >>= λ disp. pure (made p modrm sib disp)
+abbrev behind_sib : Prefixes → ℕ → Option ℕ → Step Raw
+behind_sib p modrm sib = disp_step (disp_width modrm sib) >>= λ disp. pure (made p modrm sib disp)
 
-    go : (b : Bool) (l : List ℕ) → ShortAt (((if b then ((λ t. byte_of l t) >>= λ sib. pure (Some sib)) else pure None) >>= rest) s) (advanced (if b then length (take 1 l) else 0) s)
-    unfolding rest
-    go false l = λ e h. let short = map_short (disp_step (disp_width modrm None)) (made p modrm None) s (disp_short (disp_width modrm None) s) e h in (short.0, short.1 ∙ sym (advanced_zero s))
-    go true [] = λ e h. let short = out {X = Raw} s e h in (short.0, short.1 ∙ sym (advanced_zero s))
-    go true (x ∷ l) = map_short (disp_step (disp_width modrm (Some x))) (made p modrm (Some x)) (advanced 1 s) (disp_short (disp_width modrm (Some x)) (advanced 1 s))
+pub raw_short : (p : Prefixes) (modrm : ℕ) (s : State ℕ) → ShortAt (raw_step p modrm s) (advanced (sib_taken modrm s.left) s)
+unfolding raw_step byte_step
+raw_short p modrm s = go (low_field modrm == 4)
+  where
+    with_sib : (l : List ℕ) → ShortAt ((((λ t. byte_of l t) >>= λ sib. pure (Some sib)) >>= behind_sib p modrm) s) (advanced (length (take 1 l)) s)
+    with_sib [] = λ e h. let short = out {X = Raw} s e h in (short.0, short.1 ∙ sym (advanced_zero s))
+    with_sib (x ∷ l) = map_short (disp_step (disp_width modrm (Some x))) (made p modrm (Some x)) (advanced 1 s) (disp_short (disp_width modrm (Some x)) (advanced 1 s))
+
+    go : (b : Bool) → ShortAt (((if b then (byte_step >>= λ sib. pure (Some sib)) else pure None) >>= behind_sib p modrm) s) (advanced (if b then length (take 1 s.left) else 0) s)
+    go false = λ e h. let short = map_short (disp_step (disp_width modrm None)) (made p modrm None) s (disp_short (disp_width modrm None) s) e h in (short.0, short.1 ∙ sym (advanced_zero s))
+    go true = with_sib s.left
 
 pub raw_exactly : (p : Prefixes) (modrm : ℕ) (s : State ℕ) (bytes rest : List ℕ) (raw : Raw) → s.left ≡ bytes ++ rest → SpellsRaw p modrm bytes raw → raw_step p modrm s ≡ outcome (Ok raw) (advanced (length bytes) s)
 raw_exactly p modrm s bytes rest raw front spelled = (takes_raw p modrm bytes raw spelled).takes rest s front
