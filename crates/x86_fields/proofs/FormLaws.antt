@@ -1,13 +1,16 @@
 -- Two address forms are equal where their values agree.
-use Rattle.std.proofs.Common.{◌≡◌, ◌≢◌, ℕ, zero, suc, ◌+◌, ◌-◌, ◌*◌, ◌%◌, ◌<◌, ◌≤◌, ◌^◌, ◌==◌, nat_le, nat_lt, Bool, true, false, ◌&&◌, if◌then◌else◌, List, [], ◌∷◌, length, refl, sym, ap, ◌∙◌, arith, IsTrue, inl, inr}
-use Rattle.std.specs.Prelude.{slice_index, slice_set, replicate}
+use Rattle.std.proofs.Common.{◌≡◌, ◌≢◌, ℕ, zero, suc, ◌+◌, ◌-◌, ◌*◌, ◌%◌, ◌<◌, ◌≤◌, ◌^◌, ◌==◌, nat_le, nat_lt, Bool, true, false, ◌&&◌, if◌then◌else◌, List, [], ◌∷◌, length, refl, sym, ap, ◌∙◌, arith, IsTrue, Option, Some, None, ℤ, pos, negsuc}
+use Rattle.std.specs.Prelude.{slice_index, slice_set, replicate, FitsSigned}
 use Rattle.std.specs.List.{list_all}
-use Rattle.std.specs.Int.{sum_through}
+use Rattle.std.specs.Int.{w32, sum_through}
 use Rattle.std.proofs.lemmas.Bool.{and_parts}
 use Rattle.std.proofs.lemmas.Bool.Decides.{nat_tests}
 use Rattle.std.proofs.lemmas.List.{get_or-replicate, get_or-set_same, get_or-set_other, length-set}
 use Rattle.std.proofs.Math.Nat.{mod-eq_of_lt, add-mod_right}
-use Rattle.x86_fields.specs.Linear.{Linear, value_at, IsSameAddress, IsReduced, IsRegFile, zero_file, unit_file, AgreeEverywhere, AgreeAtUnits}
+use Rattle.x86_regs.specs.declared.RegSpec.{RegSpec}
+use Rattle.x86_fields.specs.declared.Raw.{Raw}
+use Rattle.x86_fields.specs.Address.{base_of, index_of, scale_by}
+use Rattle.x86_fields.specs.Linear.{Linear, linear, raw_form, modulus_by, constant_by, adds_to, adds_next, is_pointer, value_at, IsSameAddress, IsReduced, IsRegFile, zero_file, unit_file, AgreeEverywhere, AgreeAtUnits}
 use Rattle.x86_fields.proofs.LinearLaws.{sum_none, sum_one}
 
 -- ---- sums
@@ -150,3 +153,46 @@ same_value f g same regs next =
 
 pub forms_exactly : (f g : Linear) → f.modulus ≡ g.modulus → IsReduced f → IsReduced g → (IsSameAddress f g → AgreeEverywhere f g) × (AgreeEverywhere f g → IsSameAddress f g)
 forms_exactly f g same f_small g_small = (λ equal regs next file small. same_value f g equal regs next, λ agree. units_show f g same f_small g_small (units_of f g agree))
+
+-- ---- the forms of raw fields
+
+adds_little : (o : Option RegSpec) (t r : ℕ) → adds_to o t r ≤ t
+adds_little None t r = omega arith
+adds_little (Some reg) t r = by_tests (is_pointer reg.class) (reg.num % 16 == r)
+  where
+    by_tests : (a b : Bool) → (if a then 0 else (if b then t else 0)) ≤ t
+    by_tests true b = omega arith
+    by_tests false true = omega arith
+    by_tests false false = omega arith
+
+adds_next_little : (o : Option RegSpec) (t : ℕ) → adds_next o t ≤ t
+adds_next_little None t = omega arith
+adds_next_little (Some reg) t = by_test (is_pointer reg.class)
+  where
+    by_test : (a : Bool) → (if a then t else 0) ≤ t
+    by_test true = omega arith
+    by_test false = omega arith
+
+large : (short : Bool) → 16 ≤ modulus_by short
+large true = omega arith
+large false = omega arith
+
+constant_small : (short : Bool) (d : ℤ) → FitsSigned w32 d → constant_by short d < modulus_by short
+constant_small true (pos n) fits = let h : n < 2 ^ 31 = fits.sfits in omega arith
+constant_small true (negsuc n) fits = let h : n < 2 ^ 31 = fits.sfits in omega arith
+constant_small false (pos n) fits = let h : n < 2 ^ 31 = fits.sfits in omega arith
+constant_small false (negsuc n) fits = let h : n < 2 ^ 31 = fits.sfits in omega arith
+
+linear_reduced : (short : Bool) (b i : Option RegSpec) (s : ℕ) (d : ℤ) → s ≤ 8 → FitsSigned w32 d → IsReduced (linear short b i s d)
+linear_reduced short b i s d scale fits =
+    let modulus : 16 ≤ modulus_by short = large short in
+    let next_base : adds_next b 1 ≤ 1 = adds_next_little b 1 in
+    let next_index : adds_next i s ≤ s = adds_next_little i s in
+    record {
+      registers = λ r h. let base : adds_to b 1 r ≤ 1 = adds_little b 1 r in let index : adds_to i s r ≤ s = adds_little i s r in omega arith;
+      next = omega arith;
+      constant = constant_small short d fits;
+    }
+
+pub raw_reduced : (raw : Raw) → scale_by raw.sib ≤ 8 → FitsSigned w32 raw.disp → IsReduced (raw_form raw)
+raw_reduced raw scale fits = linear_reduced raw.address_size (base_of raw) (index_of raw) (scale_by raw.sib) raw.disp scale fits

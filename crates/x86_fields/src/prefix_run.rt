@@ -193,36 +193,42 @@ impl Prefixes {
         self.segment
     }
 
+    /// Whether the segment is CS.
     pub fn cs(&self) -> bool
         ensures { IsTrue result ↔ (self.now.segment ≡ Segment.CS) }
     {
         self.segment == Segment::CS
     }
 
+    /// Whether the segment is DS.
     pub fn ds(&self) -> bool
         ensures { IsTrue result ↔ (self.now.segment ≡ Segment.DS) }
     {
         self.segment == Segment::DS
     }
 
+    /// Whether the segment is ES.
     pub fn es(&self) -> bool
         ensures { IsTrue result ↔ (self.now.segment ≡ Segment.ES) }
     {
         self.segment == Segment::ES
     }
 
+    /// Whether the segment is FS.
     pub fn fs(&self) -> bool
         ensures { IsTrue result ↔ (self.now.segment ≡ Segment.FS) }
     {
         self.segment == Segment::FS
     }
 
+    /// Whether the segment is GS.
     pub fn gs(&self) -> bool
         ensures { IsTrue result ↔ (self.now.segment ≡ Segment.GS) }
     {
         self.segment == Segment::GS
     }
 
+    /// Whether the segment is SS.
     pub fn ss(&self) -> bool
         ensures { IsTrue result ↔ (self.now.segment ≡ Segment.SS) }
     {
