@@ -11,7 +11,7 @@ use Rattle.x86_operands.specs.declared.plans.Mark.TheVariants.{ClearsOperandSize
 use Rattle.x86_operands.specs.declared.plans.Plan.{Plan}
 use Rattle.x86_operands.specs.Plans.{is_memory, reads, size_by, rm_number}
 use Rattle.x86_operands.specs.declared.plans.RegisterSlot.TheVariants as place
-use Rattle.x86_opcodes.specs.Names.{CLWB, CLFLUSHOPT, CLFLUSH, TPAUSE, UMWAIT, PTWRITE, RDFSBASE, RDGSBASE, WRFSBASE, WRGSBASE, INCSSP, UMONITOR, CLRSSBSY, FXSAVE, XSAVE, FXRSTOR, XRSTOR, LDMXCSR, STMXCSR, XSAVEOPT, LFENCE, MFENCE, SFENCE}
+use Rattle.x86_opcodes.specs.Names.{CLWB, CLFLUSH, CLFLUSHOPT, TPAUSE, UMWAIT, PTWRITE, RDFSBASE, RDGSBASE, WRFSBASE, WRGSBASE, INCSSP, UMONITOR, CLRSSBSY, FXSAVE, XSAVE, FXRSTOR, XRSTOR, LDMXCSR, STMXCSR, XSAVEOPT, LFENCE, MFENCE, SFENCE}
 use Rattle.x86_groups.specs.Choice.{bad_opcode, bad_operand, bare, named_by_reg, on_memory, on_register, reg, rm}
 
 -- 66 alone: the answer's prefixes show 66 cleared
@@ -59,12 +59,16 @@ f3_0fae p m =
 unfoldable pub fence : Bool → ℕ → ℕ → Plan
 fence strict opcode m = if strict && not (rm m == 0) then bad_operand else bare opcode
 
+-- the size of a saved state is the processor's choice, which 63 stands for
+abbrev pub state_name : ℕ → ℕ
+state_name m = named_by_reg (FXSAVE ∷ FXRSTOR ∷ LDMXCSR ∷ STMXCSR ∷ XSAVE ∷ XRSTOR ∷ XSAVEOPT ∷ CLFLUSH ∷ []) m
+
+abbrev pub state_size : ℕ → ℕ
+state_size m = slice_index_or (63 ∷ 63 ∷ 4 ∷ 4 ∷ 63 ∷ 63 ∷ 63 ∷ 64 ∷ []) (reg m) 63
+
 unfoldable pub plain_0fae : Bool → ℕ → Plan
 plain_0fae strict m =
-    if is_memory m then
-        on_memory
-            (named_by_reg (FXSAVE ∷ FXRSTOR ∷ LDMXCSR ∷ STMXCSR ∷ XSAVE ∷ XRSTOR ∷ XSAVEOPT ∷ CLFLUSH ∷ []) m)
-            (slice_index_or (63 ∷ 63 ∷ 4 ∷ 4 ∷ 63 ∷ 63 ∷ 63 ∷ 64 ∷ []) (reg m) 0)
+    if is_memory m then on_memory (state_name m) (state_size m)
     else (if reg m == 5 then fence strict LFENCE m
     else (if reg m == 6 then fence strict MFENCE m
     else (if reg m == 7 then fence strict SFENCE m
