@@ -12,13 +12,17 @@ use Rattle.x86_operands.specs.declared.plans.Fault.TheVariants.{BadOpcode, BadOp
 use Rattle.x86_operands.specs.declared.plans.Moment.TheVariants.{AfterAddress}
 use Rattle.x86_operands.specs.declared.plans.Plan.{Plan}
 use Rattle.x86_operands.specs.Plans.{is_memory, reads, refuses, memory_only, size_by}
-use Rattle.x86_opcodes.specs.Names.{BT, BTS, BTR, BTC, CMPXCHG16B, CMPXCHG8B, VMCLEAR, RDRAND, RDSEED, VMXON, SENDUIPI, RDPID, XRSTORS64, XRSTORS, XSAVEC, XSAVEC64, XSAVES64, XSAVES, VMPTRLD, VMPTRST}
+use Rattle.x86_opcodes.specs.Names.{BT, BTS, BTR, BTC, CMPXCHG16B, CMPXCHG8B, VMCLEAR, RDRAND, RDSEED, VMXON, SENDUIPI, RDPID, XRSTORS, XRSTORS64, XSAVEC, XSAVEC64, XSAVES, XSAVES64, VMPTRLD, VMPTRST}
 use Rattle.x86_groups.specs.Choice.{bad_opcode, bad_operand, name_at, on_memory, on_register, reg}
 
 unfoldable pub plan_0fba : Prefixes → ℕ → Plan
 plan_0fba p m =
     if nat_lt (reg m) 4 then bad_opcode
     else reads (name_at (BT ∷ BTS ∷ BTR ∷ BTC ∷ []) (reg m - 4)) (Two (E (vq p)) I8) (size_by m (width_of (vq p)) 0)
+
+-- one name without a live W, and one with it
+abbrev pub by_w : Prefixes → ℕ → ℕ → ℕ
+by_w p without with_w = if rex_w p then with_w else without
 
 -- /1, whatever the prefixes are
 abbrev pub compares_0fc7 : Prefixes → ℕ → Plan
@@ -38,9 +42,9 @@ f3_0fc7 m =
 
 unfoldable pub plain_0fc7 : Prefixes → ℕ → Plan
 plain_0fc7 p m =
-    if reg m == 3 then memory_only m (on_memory (if rex_w p then XRSTORS64 else XRSTORS) 63)
-    else (if reg m == 4 then memory_only m (on_memory (if rex_w p then XSAVEC64 else XSAVEC) 63)
-    else (if reg m == 5 then memory_only m (on_memory (if rex_w p then XSAVES64 else XSAVES) 63)
+    if reg m == 3 then memory_only m (on_memory (by_w p XRSTORS XRSTORS64) 63)
+    else (if reg m == 4 then memory_only m (on_memory (by_w p XSAVEC XSAVEC64) 63)
+    else (if reg m == 5 then memory_only m (on_memory (by_w p XSAVES XSAVES64) 63)
     else (if reg m == 6 then (if is_memory m then on_memory VMPTRLD 8 else on_register RDRAND (v p))
     else (if reg m == 7 then (if is_memory m then on_memory VMPTRST 8 else on_register RDSEED (v p))
     else bad_operand))))

@@ -9,6 +9,10 @@ ghost use Rattle.x86_operands.specs.Signs.{record_step};
 ghost use Rattle.x86_groups.specs.Groups.{group_fault, group_modrm, group_plan, group_record};
 
 mod arithmetic;
+mod bits;
+mod shifts;
+mod moves;
+mod keys;
 mod fences;
 mod hints;
 mod system;
