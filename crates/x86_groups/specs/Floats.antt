@@ -8,7 +8,7 @@ use Rattle.x86_operands.specs.declared.plans.Signs.TheVariants.{One, Two}
 use Rattle.x86_operands.specs.declared.plans.Plan.{Plan}
 use Rattle.x86_operands.specs.Plans.{is_memory, reads}
 use Rattle.x86_operands.specs.declared.plans.RegisterSlot.TheVariants as place
-use Rattle.x86_opcodes.specs.Names.{FADD, FMUL, FCOM, FCOMP, FSUB, FSUBR, FDIV, FDIVR, FIADD, FIMUL, FICOM, FICOMP, FISUB, FISUBR, FIDIV, FIDIVR, FLD, FST, FSTP, FLDENV, FLDCW, FNSTENV, FNSTCW, FCHS, FABS, FTST, FXAM, FLD1, FLDL2T, FLDL2E, FLDPI, FLDLG2, FLDLN2, FLDZ, F2XM1, FYL2X, FPTAN, FPATAN, FXTRACT, FPREM, FPREM1, FDECSTP, FINCSTP, FYL2XP1, FSQRT, FSINCOS, FSIN, FRNDINT, FSCALE, FCOS, FXCH, FNOP, FSTPNCE, FCMOVB, FCMOVE, FCMOVBE, FCMOVU, FUCOMPP, FUCOMP, FUCOM, FILD, FISTTP, FIST, FISTP, FCMOVNB, FCMOVNE, FCMOVNBE, FCMOVNU, FENI8087_NOP, FDISI8087_NOP, FNCLEX, FNINIT, FSETPM287_NOP, FUCOMI, FCOMI, FRSTOR, FNSAVE, FNSTSW, FFREE, FADDP, FMULP, FCOMPP, FSUBRP, FSUBP, FDIVRP, FDIVP, FBLD, FBSTP, FFREEP, FUCOMIP, FCOMIP}
+use Rattle.x86_opcodes.specs.Names.{FADD, FMUL, FCOM, FCOMP, FSUB, FSUBR, FDIV, FDIVR, FIADD, FIMUL, FICOM, FICOMP, FISUB, FISUBR, FIDIV, FIDIVR, FLD, FST, FSTP, FLDENV, FLDCW, FNSTENV, FNSTCW, FCHS, FABS, FTST, FXAM, FLD1, FLDL2T, FLDL2E, FLDPI, FLDLG2, FLDLN2, FLDZ, F2XM1, FYL2X, FPTAN, FPATAN, FXTRACT, FPREM1, FPREM, FDECSTP, FINCSTP, FYL2XP1, FSQRT, FSIN, FSINCOS, FRNDINT, FSCALE, FCOS, FXCH, FNOP, FSTPNCE, FCMOVB, FCMOVE, FCMOVBE, FCMOVU, FUCOM, FUCOMP, FUCOMPP, FILD, FIST, FISTTP, FISTP, FENI8087_NOP, FDISI8087_NOP, FNCLEX, FNINIT, FSETPM287_NOP, FCMOVNB, FCMOVNE, FCMOVNBE, FCMOVNU, FUCOMI, FCOMI, FRSTOR, FNSAVE, FNSTSW, FFREE, FADDP, FMULP, FCOMPP, FSUBRP, FSUBP, FDIVRP, FDIVP, FBLD, FBSTP, FFREEP, FUCOMIP, FCOMIP}
 use Rattle.x86_groups.specs.Choice.{bad_opcode, bad_operand, bare, name_at, named_by_reg, on_memory, on_register, reg, rm}
 
 -- st(0) in slot Reg, and st(rm) in slot Rm, which no B extends
@@ -113,13 +113,19 @@ memory_db m =
     else (if reg m == 7 then stores FSTP 10
     else bad_opcode)))))
 
+-- E0 to E7
+unfoldable pub control_db : ℕ → Plan
+control_db m =
+    if nat_le 0xe0 m && nat_le m 0xe4 then bare (name_at (FENI8087_NOP ∷ FDISI8087_NOP ∷ FNCLEX ∷ FNINIT ∷ FSETPM287_NOP ∷ []) (m - 0xe0))
+    else bad_opcode
+
 unfoldable pub register_db : ℕ → Plan
 register_db m =
     if reg m == 0 then into_st0 FCMOVNB m
     else (if reg m == 1 then into_st0 FCMOVNE m
     else (if reg m == 2 then into_st0 FCMOVNBE m
     else (if reg m == 3 then into_st0 FCMOVNU m
-    else (if nat_le 0xe0 m && nat_le m 0xe4 then bare (name_at (FENI8087_NOP ∷ FDISI8087_NOP ∷ FNCLEX ∷ FNINIT ∷ FSETPM287_NOP ∷ []) (m - 0xe0))
+    else (if reg m == 4 then control_db m
     else (if reg m == 5 then into_st0 FUCOMI m
     else (if reg m == 6 then into_st0 FCOMI m
     else bad_opcode))))))
@@ -204,7 +210,7 @@ register_df m =
     else (if reg m == 1 then into_st0 FXCH m
     else (if reg m == 2 then into_st_rm FSTP m
     else (if reg m == 3 then into_st_rm FSTP m
-    else (if m == 0xe0 then on_register FNSTSW W
+    else (if reg m == 4 then (if m == 0xe0 then on_register FNSTSW W else bad_opcode)
     else (if reg m == 5 then into_st0 FUCOMIP m
     else (if reg m == 6 then into_st0 FCOMIP m
     else bad_opcode))))))

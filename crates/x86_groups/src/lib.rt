@@ -14,6 +14,7 @@ mod shifts;
 mod moves;
 mod keys;
 mod fences;
+mod floats;
 mod hints;
 mod system;
 mod choice;
