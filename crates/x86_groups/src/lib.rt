@@ -8,6 +8,18 @@ ghost use Rattle.x86_forms.specs.Groups.{is_group_form};
 ghost use Rattle.x86_operands.specs.Signs.{record_step};
 ghost use Rattle.x86_groups.specs.Groups.{group_fault, group_modrm, group_plan, group_record};
 
+mod arithmetic;
+mod bits;
+mod shifts;
+mod moves;
+mod keys;
+mod fences;
+mod floats;
+mod hints;
+mod system;
+mod choice;
+mod operations;
+
 use x86_arch::Reader;
 use x86_fields::{DecodeError, Prefixes};
 use x86_forms::{Form, TableRow};
