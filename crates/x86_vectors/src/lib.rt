@@ -4,4 +4,14 @@
 #[cfg(test)]
 mod answers;
 #[cfg(test)]
+mod operand_tests;
+#[cfg(test)]
+mod plain_tests;
+#[cfg(test)]
+mod reader_tests;
+#[cfg(test)]
+mod recorder;
+#[cfg(test)]
 mod tests;
+#[cfg(test)]
+mod walk_tests;

@@ -1,0 +1,195 @@
+//! Operands: the visitor, and the addresses that operands denote.
+ghost use Rattle.std.specs.Prelude.{◌<◌};
+
+use crate::recorder::{Call, Recorder};
+use x86_decode::InstDecoder;
+use x86_fields::{RegFile, address_of};
+use x86_operands::Operand;
+use x86_regs::{MergeMode, RegSpec, SaeMode};
+
+fn call_of(operand: Operand) -> Option<Call> {
+    operand.visit(&mut Recorder).ok()
+}
+
+#[test]
+fn visited_immediates_and_registers(rt: HostRuntime) {
+    let rax = RegSpec::rax();
+    let k1 = RegSpec::mask(1);
+    let merge = MergeMode::Zero;
+    let sae = SaeMode::RoundDown;
+    let table = [
+        (Operand::ImmediateI8 { imm: -1 }, Call::I8(-1)),
+        (Operand::ImmediateU8 { imm: 2 }, Call::U8(2)),
+        (Operand::ImmediateI16 { imm: -3 }, Call::I16(-3)),
+        (Operand::ImmediateU16 { imm: 4 }, Call::U16(4)),
+        (Operand::ImmediateI32 { imm: -5 }, Call::I32(-5)),
+        (Operand::ImmediateU32 { imm: 6 }, Call::U32(6)),
+        (Operand::ImmediateI64 { imm: -7 }, Call::I64(-7)),
+        (Operand::ImmediateU64 { imm: 8 }, Call::U64(8)),
+        (Operand::Register { reg: rax }, Call::Reg(rax)),
+        (
+            Operand::RegisterMaskMerge {
+                reg: rax,
+                mask: k1,
+                merge,
+            },
+            Call::RegMaskMerge(rax, k1, merge),
+        ),
+        (
+            Operand::RegisterMaskMergeSae {
+                reg: rax,
+                mask: k1,
+                merge,
+                sae,
+            },
+            Call::RegMaskMergeSae(rax, k1, merge, sae),
+        ),
+        (
+            Operand::RegisterMaskMergeSaeNoround {
+                reg: rax,
+                mask: k1,
+                merge,
+            },
+            Call::RegMaskMergeSaeNoround(rax, k1, merge),
+        ),
+        (Operand::AbsoluteU32 { addr: 9 }, Call::AbsU32(9)),
+        (Operand::AbsoluteU64 { addr: 10 }, Call::AbsU64(10)),
+        (Operand::Nothing, Call::Other),
+    ];
+    for (operand, call) in table {
+        assert!(rt; call_of(operand) == Some(call));
+    }
+}
+
+#[test]
+fn visited_memory(rt: HostRuntime) {
+    let base = RegSpec::rax();
+    let index = RegSpec::rcx();
+    let (scale, disp) = (4, -8);
+    let table = [
+        (Operand::MemDeref { base }, Call::Deref(base)),
+        (Operand::Disp { base, disp }, Call::Disp(base, disp)),
+        (
+            Operand::MemIndexScale { index, scale },
+            Call::IndexScale(index, scale),
+        ),
+        (
+            Operand::MemIndexScaleDisp { index, scale, disp },
+            Call::IndexScaleDisp(index, scale, disp),
+        ),
+        (
+            Operand::MemBaseIndexScale { base, index, scale },
+            Call::BaseIndexScale(base, index, scale),
+        ),
+        (
+            Operand::MemBaseIndexScaleDisp {
+                base,
+                index,
+                scale,
+                disp,
+            },
+            Call::BaseIndexScaleDisp(base, index, scale, disp),
+        ),
+    ];
+    for (operand, call) in table {
+        assert!(rt; call_of(operand) == Some(call));
+    }
+}
+
+#[test]
+fn visited_masked_memory(rt: HostRuntime) {
+    let base = RegSpec::rax();
+    let index = RegSpec::rcx();
+    let mask = RegSpec::mask(1);
+    let (scale, disp) = (4, -8);
+    let table = [
+        (
+            Operand::MemDerefMasked { base, mask },
+            Call::DerefMasked(base, mask),
+        ),
+        (
+            Operand::DispMasked { base, disp, mask },
+            Call::DispMasked(base, disp, mask),
+        ),
+        (
+            Operand::MemIndexScaleMasked { index, scale, mask },
+            Call::IndexScaleMasked(index, scale, mask),
+        ),
+        (
+            Operand::MemIndexScaleDispMasked {
+                index,
+                scale,
+                disp,
+                mask,
+            },
+            Call::IndexScaleDispMasked(index, scale, disp, mask),
+        ),
+        (
+            Operand::MemBaseIndexScaleMasked {
+                base,
+                index,
+                scale,
+                mask,
+            },
+            Call::BaseIndexScaleMasked(base, index, scale, mask),
+        ),
+        (
+            Operand::MemBaseIndexScaleDispMasked {
+                base,
+                index,
+                scale,
+                disp,
+                mask,
+            },
+            Call::BaseIndexScaleDispMasked(base, index, scale, disp, mask),
+        ),
+    ];
+    for (operand, call) in table {
+        assert!(rt; call_of(operand) == Some(call));
+    }
+}
+
+/// The address of operand 1, with all registers 0 and the next instruction at `next`.
+fn address(bytes: &[u8], next: u64) -> Option<u64> {
+    let regs = RegFile { regs: [0; 16] };
+    match InstDecoder::default().decode_slice(bytes) {
+        Ok(instruction) => {
+            let short = instruction.prefixes.address_size();
+            instruction.operand(1).address(short, &regs, next)
+        }
+        Err(_) => None,
+    }
+}
+
+#[test]
+fn addresses(rt: HostRuntime) {
+    let negative = [0x03, 0x04, 0x25, 0x00, 0x00, 0x00, 0x80];
+    assert!(rt; address(&negative, 0) == Some(0xffff_ffff_8000_0000));
+    let short = [0x67, 0x03, 0x04, 0x25, 0x00, 0x00, 0x00, 0x80];
+    assert!(rt; address(&short, 0) == Some(0x8000_0000));
+    let long = [0x48, 0xa1, 0x88, 0x77, 0x66, 0x55, 0x44, 0x33, 0x22, 0x11];
+    assert!(rt; address(&long, 0) == Some(0x1122_3344_5566_7788));
+    // rip is the address of the next instruction.
+    assert!(rt; address(&[0x03, 0x05, 0xff, 0xff, 0xff, 0xff], 0x1000) == Some(0xfff));
+    assert!(rt; address(&[0x03, 0xc0], 0).is_none());
+}
+
+#[test]
+fn sib_address_by_hand(rt: HostRuntime) {
+    // mod 01, rm 100; SIB 44: scale 2, index rax, base rsp: rsp + 2 * rax - 8.
+    let raw = x86_fields::Raw {
+        rex_b: false,
+        rex_x: false,
+        address_size: false,
+        modrm: 0x44,
+        sib: Some(0x44),
+        disp: -8,
+    };
+    let mut regs = RegFile { regs: [0; 16] };
+    regs.regs[0] = 0x10;
+    regs.regs[4] = 0x1000;
+    assert!(rt; raw.fits());
+    if raw.fits() {
+        assert!(rt; address_of(&raw, &regs, 0) == 0x1018);
+    }
+}

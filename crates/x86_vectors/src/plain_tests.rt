@@ -1,0 +1,176 @@
+//! The decoder against a plain loop over the printed rows.
+ghost use Rattle.std.specs.Prelude.{◌<◌, ◌≤◌};
+
+use crate::answers::{ACCEPTED, REFUSED};
+use x86_arch::{Reader, U8Reader};
+use x86_decode::{InstDecoder, Instruction};
+use x86_fields::{DecodeError, Prefixes, is_legacy, is_rex, next_byte};
+use x86_forms::{Column, Map, row};
+use x86_groups::read_group;
+use x86_operands::{Reading, read_form};
+
+fn column(prefixes: &Prefixes) -> Column {
+    if prefixes.repnz() {
+        Column::F2
+    } else if prefixes.rep() {
+        Column::F3
+    } else if prefixes.operand_size() {
+        Column::P66
+    } else {
+        Column::Plain
+    }
+}
+
+/// The map and the opcode byte, where `byte` is the first behind the prefixes.
+fn opcode<T: Reader<u64, u8>>(words: &mut T, byte: u8) -> Result<(Map, u8), DecodeError> {
+    if byte != 0x0f {
+        return Ok((Map::One, byte));
+    }
+    let second = next_byte(words)?;
+    match second {
+        0x38 => {
+            let third = next_byte(words)?;
+            Ok((Map::Of38, third))
+        }
+        0x3a => {
+            let third = next_byte(words)?;
+            Ok((Map::Of3a, third))
+        }
+        _ => Ok((Map::Of, second)),
+    }
+}
+
+fn refuse_vex(prefixes: &Prefixes, byte: u8) -> Result<(), DecodeError> {
+    if byte != 0xc4 && byte != 0xc5 && byte != 0x62 {
+        Ok(())
+    } else if prefixes.operand_size() || prefixes.lock() || prefixes.rex().is_some() {
+        Err(DecodeError::InvalidPrefixes)
+    } else {
+        Err(DecodeError::IncompleteDecoder)
+    }
+}
+
+fn read_row<T: Reader<u64, u8>>(
+    words: &mut T,
+    prefixes: Prefixes,
+    byte: u8,
+    strict: bool,
+) -> Result<Reading, DecodeError> {
+    let (map, byte) = opcode(words, byte)?;
+    let column = column(&prefixes);
+    let Some(found) = row(map, column, byte) else {
+        return Err(DecodeError::InvalidOpcode);
+    };
+    let clears = map == Map::Of38 && column == Column::P66 && byte != 0xf0 && byte != 0xf1;
+    let seen = if clears {
+        prefixes.without_operand_size()
+    } else {
+        prefixes
+    };
+    if found.form.is_group() {
+        read_group(words, found, seen, strict)
+    } else {
+        read_form(words, found, seen)
+    }
+}
+
+fn read_all<T: Reader<u64, u8>>(words: &mut T, strict: bool) -> Result<Reading, DecodeError> {
+    let mut prefixes = Prefixes::none();
+    for _ in 0..16u8 {
+        let byte = next_byte(words)?;
+        if is_legacy(byte) || is_rex(byte) {
+            prefixes = prefixes.after(byte);
+        } else {
+            refuse_vex(&prefixes, byte)?;
+            return read_row(words, prefixes, byte, strict);
+        }
+    }
+    Err(DecodeError::TooLong)
+}
+
+/// The answer of the loop, and the bytes that it takes.
+fn plain(bytes: &[u8], strict: bool) -> (Result<Reading, DecodeError>, u64) {
+    let room = if bytes.len() < 15 { bytes.len() } else { 15 };
+    let mut words = U8Reader::new(&bytes[..room]);
+    let answer = read_all(&mut words, strict);
+    let taken = words.offset();
+    match answer {
+        Err(DecodeError::ExhaustedInput) if room == 15 => (Err(DecodeError::TooLong), 15),
+        Ok(reading) if reading.prefixes.lock() => {
+            if reading.opcode.can_lock() && reading.slots[0].is_memory() {
+                (Ok(reading), taken)
+            } else {
+                (Err(DecodeError::InvalidPrefixes), taken)
+            }
+        }
+        other => (other, taken),
+    }
+}
+
+fn is_same(instruction: &Instruction, reading: &Reading) -> bool {
+    let places = [0u8, 1, 2, 3];
+    instruction.opcode() == reading.opcode
+        && instruction.prefixes == reading.prefixes
+        && instruction.operand_count() == reading.count
+        && places.iter().all(|i| {
+            *i >= 4
+                || (instruction.operand(*i) == reading.operands[*i as usize]
+                    && instruction.slot(*i) == reading.slots[*i as usize])
+        })
+}
+
+fn agree(bytes: &[u8], strict: bool) -> bool {
+    let decoder = if strict {
+        InstDecoder::strict()
+    } else {
+        InstDecoder::default()
+    };
+    let mut words = U8Reader::new(bytes);
+    let answer = decoder.decode(&mut words);
+    let (expected, taken) = plain(bytes, strict);
+    let same = match (&answer, &expected) {
+        (Ok(instruction), Ok(reading)) => is_same(instruction, reading),
+        (Err(left), Err(right)) => left == right,
+        _ => false,
+    };
+    same && words.offset() == taken
+}
+
+fn agree_on(bytes: &[u8]) -> bool {
+    agree(bytes, false) && agree(bytes, true)
+}
+
+#[test]
+fn worked_answers_by_a_plain_loop(rt: HostRuntime) {
+    for (bytes, _, _) in ACCEPTED {
+        assert!(rt; agree_on(bytes));
+    }
+    for (bytes, _, _) in REFUSED {
+        assert!(rt; agree_on(bytes));
+    }
+}
+
+/// Every opcode byte of a map, with a register and with a memory form behind it.
+fn map_agrees(prefix: u8, escape: &[u8]) -> bool {
+    (0..=255u8).all(|byte| {
+        let mut bytes = [prefix, 0, 0, 0, byte, 0xc1, 0x24, 1, 2, 3, 4, 5, 6, 7, 8, 9];
+        for (i, e) in escape.iter().enumerate() {
+            if i < 3 {
+                bytes[i + 1] = *e;
+            }
+        }
+        let register = agree_on(&bytes);
+        bytes[5] = 0x44;
+        register && agree_on(&bytes)
+    })
+}
+
+#[test]
+fn every_opcode_by_a_plain_loop(rt: HostRuntime) {
+    for prefix in [0x2eu8, 0x66, 0xf2, 0xf3, 0xf0, 0x67] {
+        assert!(rt; map_agrees(prefix, &[0x2e, 0x2e, 0x48]));
+        assert!(rt; map_agrees(prefix, &[0x2e, 0x2e, 0x0f]));
+        assert!(rt; map_agrees(prefix, &[0x2e, 0x0f, 0x38]));
+        assert!(rt; map_agrees(prefix, &[0x2e, 0x0f, 0x3a]));
+    }
+}

@@ -1,0 +1,160 @@
+//! Every memory form, at three register files, against the sum written out.
+ghost use Rattle.std.specs.Prelude.{◌<◌, ◌≤◌};
+
+use arrayvec::ArrayVec;
+use x86_decode::InstDecoder;
+use x86_fields::RegFile;
+
+/// One memory form of `ADD r32, m32`.
+#[derive(Clone, Copy, Drop)]
+struct MemoryForm {
+    rex_x: bool,
+    rex_b: bool,
+    address_size: bool,
+    modrm: u8,
+    sib: u8,
+    disp: i32,
+}
+
+impl MemoryForm {
+    fn has_sib(&self) -> bool {
+        self.modrm % 8 == 4
+    }
+
+    /// How many bytes of displacement there are.
+    fn disp_width(&self) -> u8 {
+        let low = if self.has_sib() {
+            self.sib % 8
+        } else {
+            self.modrm % 8
+        };
+        match self.modrm / 64 {
+            1 => 1,
+            2 => 4,
+            _ => { if low == 5 { 4 } else { 0 } }
+        }
+    }
+
+    fn bytes(&self) -> ArrayVec<u8, 15> {
+        let mut bytes = ArrayVec::new();
+        if self.address_size {
+            let _ = bytes.try_push(0x67);
+        }
+        let rex = 0x40 + 2 * self.rex_x as u8 + self.rex_b as u8;
+        let _ = bytes.try_extend_from_slice(&[rex, 0x03, self.modrm]);
+        if self.has_sib() {
+            let _ = bytes.try_push(self.sib);
+        }
+        let disp = self.disp.to_le_bytes();
+        let _ = match self.disp_width() {
+            1 => bytes.try_extend_from_slice(&disp[..1]),
+            4 => bytes.try_extend_from_slice(&disp),
+            _ => Ok(()),
+        };
+        bytes
+    }
+
+    /// The displacement, where there is one.
+    fn distance(&self) -> u64 {
+        if self.disp_width() == 0 {
+            0
+        } else {
+            (self.disp as i64).cast_unsigned()
+        }
+    }
+
+    fn full_sum(&self, regs: &[u64; 16], next: u64) -> u64 {
+        let b = 8 * self.rex_b as u8;
+        let x = 8 * self.rex_x as u8;
+        let at_mod_00 = self.modrm / 64 == 0;
+        if !self.has_sib() {
+            if at_mod_00 && self.modrm % 8 == 5 {
+                return next.wrapping_add(self.distance());
+            }
+            return regs[(self.modrm % 8 + b) as usize].wrapping_add(self.distance());
+        }
+        let base = if at_mod_00 && self.sib % 8 == 5 {
+            0
+        } else {
+            regs[(self.sib % 8 + b) as usize]
+        };
+        let index = if self.sib / 8 % 8 == 4 && !self.rex_x {
+            0
+        } else {
+            regs[(self.sib / 8 % 8 + x) as usize]
+        };
+        let scale = match self.sib / 64 {
+            0 => 1,
+            1 => 2,
+            2 => 4,
+            _ => 8,
+        };
+        base.wrapping_add(index.wrapping_mul(scale))
+            .wrapping_add(self.distance())
+    }
+
+    fn sum(&self, regs: &[u64; 16], next: u64) -> u64 {
+        let sum = self.full_sum(regs, next);
+        if self.address_size {
+            sum % 0x1_0000_0000
+        } else {
+            sum
+        }
+    }
+
+    fn is_right(&self) -> bool {
+        let bytes = self.bytes();
+        match InstDecoder::default().decode_slice(bytes.as_slice()) {
+            Err(_) => false,
+            Ok(instruction) => {
+                let next = 0xffff_ffff_0000_1000;
+                let memory = instruction.operand(1);
+                files().iter().all(|regs| {
+                    let file = RegFile { regs: *regs };
+                    memory.address(self.address_size, &file, next) == Some(self.sum(regs, next))
+                })
+            }
+        }
+    }
+}
+
+/// Small numbers, numbers that wrap, and numbers without a pattern.
+fn files() -> [[u64; 16]; 3] {
+    let mut small = [0; 16];
+    let mut wide = [0; 16];
+    let mut mixed = [0; 16];
+    for i in 0..16u64 {
+        small[i as usize] = 16 * i + 1;
+        wide[i as usize] = u64::MAX - 0x100 * i;
+        mixed[i as usize] = (i + 1).wrapping_mul(0x9e37_79b9_7f4a_7c15);
+    }
+    [small, wide, mixed]
+}
+
+/// The form with each REX bit, 67 or none, and three displacements.
+fn variants_are_right(modrm: u8, sib: u8) -> bool {
+    (0..8u8).all(|bits| {
+        [0, 5, -3].iter().all(|disp| {
+            let form = MemoryForm {
+                rex_x: bits % 2 == 1,
+                rex_b: bits / 2 % 2 == 1,
+                address_size: bits / 4 == 1,
+                modrm,
+                sib,
+                disp: *disp,
+            };
+            form.is_right()
+        })
+    })
+}
+
+#[test]
+fn every_memory_form(rt: HostRuntime) {
+    for modrm in 0..0xc0u8 {
+        if modrm % 8 == 4 {
+            assert!(rt; (0..=255u8).all(|sib| variants_are_right(modrm, sib)));
+        } else {
+            assert!(rt; variants_are_right(modrm, 0));
+        }
+    }
+}
