@@ -9,7 +9,9 @@ use Rattle.x86_operands.specs.declared.reader.Reading.{Reading}
 use Rattle.x86_operands.specs.declared.operands.Slot.{Slot}
 use Rattle.x86_operands.specs.declared.operands.Slot.TheVariants as slots
 use Rattle.x86_operands.specs.declared.operands.Operand.{Operand}
+use Rattle.x86_operands.specs.declared.operands.MemoryAccessSize.{MemoryAccessSize}
 use Rattle.x86_operands.specs.declared.operands.Operand.TheVariants as operands
+use Rattle.x86_operands.specs.Operands.{is_memory_slot}
 use Rattle.x86_decode.specs.declared.instructions.Instruction.{Instruction}
 use Rattle.x86_decode.specs.declared.instructions.Shown.{Shown}
 
@@ -51,20 +53,9 @@ slot_at i k = if nat_lt k i.count then slice_index_or i.slots k slots.Nothing el
 abbrev pub operand_at : Instruction → ℕ → Operand
 operand_at i k = if nat_lt k i.count then slice_index_or i.operands k operands.Nothing else operands.Nothing
 
--- the slots of memory operands
-abbrev pub is_memory_slot : Slot → Bool
-is_memory_slot slots.Nothing = false
-is_memory_slot slots.Reg = false
-is_memory_slot slots.Rm = false
-is_memory_slot slots.Third = false
-is_memory_slot slots.ImmI8 = false
-is_memory_slot slots.ImmU8 = false
-is_memory_slot slots.ImmI16 = false
-is_memory_slot slots.ImmU16 = false
-is_memory_slot slots.ImmI32 = false
-is_memory_slot slots.ImmI64 = false
-is_memory_slot slots.ImmInDisp = false
-is_memory_slot s = true
+-- the size of what is read or written in memory, where one is named
+abbrev pub mem_size_of : Instruction → Option MemoryAccessSize
+mem_size_of i = if i.mem_size == 0 then None else Some (record { size = i.mem_size })
 
 abbrev pub is_rm_slot : Slot → Bool
 is_rm_slot slots.Rm = true

@@ -4,12 +4,14 @@ ghost use Rattle.std.specs.Cmp.{on_equiv, on_per};
 ghost use Rattle.std.specs.Ordering.{on};
 ghost use Rattle.x86_decode.specs.contracts.instructions.ShownPartialEq.TheImpl.Laws as shown_eq;
 ghost use Rattle.x86_decode.specs.contracts.instructions.ShownEq.TheImpl.Laws as shown_equivalence;
-ghost use Rattle.x86_decode.specs.Instruction.{instruction_of, invalid_instruction, slot_at, operand_at, shown_of, is_memory_slot, acquires, releases, exchanges, is_release_slot, is_rm_slot};
+ghost use Rattle.x86_operands.specs.Visitor.{visit_of};
+ghost use Rattle.x86_decode.specs.Instruction.{instruction_of, invalid_instruction, slot_at, operand_at, shown_of, override_at, unless_ds, mem_size_of, acquires, releases, exchanges, is_release_slot, is_rm_slot};
 
 use x86_arch::{AddressDiff, LengthedInstruction};
 use x86_fields::Prefixes;
 use x86_opcodes::Opcode;
-use x86_operands::{Operand, Reading, Slot};
+use x86_operands::{MemoryAccessSize, Operand, OperandVisitor, Reading, Slot};
+use x86_regs::Segment;
 
 /// An instruction: prefixes, opcode, at most four operands with the slots that they come from, the size of what is read or
 /// written in memory, and the length of the encoding.
@@ -56,18 +58,6 @@ pub fn of_reading(reading: Reading, length: u64) -> Instruction
     }
 }
 
-/// Whether a slot is that of a memory operand.
-pub fn is_memory(slot: Slot) -> bool
-    ensures { result ≡ is_memory_slot slot }
-{
-    match slot {
-        Slot::Nothing | Slot::Reg | Slot::Rm | Slot::Third => false,
-        Slot::ImmI8 | Slot::ImmU8 | Slot::ImmI16 | Slot::ImmU16 => false,
-        Slot::ImmI32 | Slot::ImmI64 | Slot::ImmInDisp => false,
-        _ => true,
-    }
-}
-
 fn is_rm(slot: Slot) -> bool
     ensures { result ≡ is_rm_slot slot }
 {
@@ -81,6 +71,15 @@ fn is_release(slot: Slot) -> bool
         slot,
         Slot::Reg | Slot::ImmI8 | Slot::ImmI16 | Slot::ImmI32 | Slot::ImmI64
     )
+}
+
+fn other_than_ds(segment: Segment) -> Option<Segment>
+    ensures { result ≡ unless_ds segment }
+{
+    match segment {
+        Segment::DS => None,
+        other => Some(other),
+    }
 }
 
 impl Instruction {
@@ -142,6 +141,59 @@ impl Instruction {
             self.slots[i as usize]
         } else {
             Slot::Nothing
+        }
+    }
+
+    /// Makes the one call of the visitor that names the operand at a place, and answers what that answers; at the count and
+    /// above it that is `visit_other`.
+    pub fn visit_operand<T: OperandVisitor>(
+        &self,
+        i: u8,
+        visitor: &mut T,
+    ) -> Result<T::Ok, T::Error>
+        requires { i < 4 }
+        ensures { T.answers (visit_of (operand_at self.now i)) visitor.old visitor.new result }
+    {
+        self.operand(i).visit(visitor)
+    }
+
+    /// The size in bytes of what the operation reads or writes in memory; `None` where it names no size.
+    pub fn mem_size(&self) -> Option<MemoryAccessSize>
+        ensures { result ≡ mem_size_of self.now }
+    {
+        if self.mem_size == 0 {
+            None
+        } else {
+            Some(MemoryAccessSize::new(self.mem_size))
+        }
+    }
+
+    /// The segment that the operand at a place is in, where it isn't the default one (Intel SDM volume 1, section 3.7.4).
+    ///
+    /// MOVS writes to ES and reads from the segment of the prefixes. CMPS names rdi first, which here takes the segment of the
+    /// prefixes, and then rsi, which takes ES. Of another operation a memory operand is in the segment of the prefixes, and
+    /// `None` stands for DS.
+    pub fn segment_override_for_op(&self, op: u8) -> Option<Segment>
+        requires { op < 4 }
+        ensures { result ≡ override_at self.now op }
+    {
+        let segment = self.prefixes.segment();
+        if self.opcode == Opcode::MOVS {
+            match op {
+                0 => Some(Segment::ES),
+                1 => Some(segment),
+                _ => None,
+            }
+        } else if self.opcode == Opcode::CMPS {
+            match op {
+                0 => Some(segment),
+                1 => Some(Segment::ES),
+                _ => None,
+            }
+        } else if self.slot(op).is_memory() {
+            other_than_ds(segment)
+        } else {
+            None
         }
     }
 

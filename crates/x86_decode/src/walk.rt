@@ -10,7 +10,7 @@ ghost use Rattle.x86_decode.specs.Grammar.{record_of, first_slot, lock_allowed};
 ghost use Rattle.x86_decode.specs.Walk.{head_step, escaped_step, opcode_step, body_step, walk_step, decode_step, is_exhausted};
 
 use crate::bounded::{Bounded, Start, takes_rest};
-use crate::instructions::{Instruction, is_memory, of_reading};
+use crate::instructions::{Instruction, of_reading};
 use std::marker::{Brand, PhantomData};
 use x86_arch::Reader;
 use x86_fields::{DecodeError, Prefixes, is_legacy, is_rex, next_byte};
@@ -126,7 +126,7 @@ fn slot_0(reading: &Reading) -> Slot
 fn allows_lock(reading: &Reading) -> bool
     ensures { result ≡ lock_allowed reading.now }
 {
-    !reading.prefixes.lock() || (reading.opcode.can_lock() && is_memory(slot_0(reading)))
+    !reading.prefixes.lock() || (reading.opcode.can_lock() && slot_0(reading).is_memory())
 }
 
 /// What a row asks behind its opcode byte.
