@@ -164,3 +164,81 @@ pub fn read_group<T: Reader<u64, u8>>(
     let plan = form_plan(row.form, row.opcode, strict, &prefixes, modrm);
     read_plan(words, &plan, prefixes, modrm)
 }
+
+#[cfg(test)]
+mod tests {
+    use super::*;
+    use x86_arch::U8Reader;
+    use x86_operands::{Operand, Slot};
+    use x86_regs::RegSpec;
+
+    /// What stands behind an opcode byte, and how many bytes are taken.
+    fn read(
+        form: Form,
+        run: Prefixes,
+        bytes: &[u8],
+        strict: bool,
+    ) -> (Result<Reading, DecodeError>, u64)
+        requires { is_group_form form ≡ true }
+    {
+        let row = TableRow {
+            opcode: Opcode::Invalid,
+            form,
+        };
+        let mut words = U8Reader::new(bytes);
+        let answer = read_group(&mut words, row, run, strict);
+        (answer, words.offset())
+    }
+
+    fn refusal(form: Form, bytes: &[u8]) -> (Option<DecodeError>, u64)
+        requires { is_group_form form ≡ true }
+    {
+        let (answer, taken) = read(form, Prefixes::none(), bytes, false);
+        (answer.err(), taken)
+    }
+
+    #[test]
+    fn refusals_come_at_their_moments(rt: HostRuntime) {
+        let exhausted = Some(DecodeError::ExhaustedInput);
+        let incomplete = Some(DecodeError::IncompleteDecoder);
+        let opcode = Some(DecodeError::InvalidOpcode);
+        let operand = Some(DecodeError::InvalidOperand);
+        assert_eq!(rt; refusal(Form::ModRM_0x8f, &[0x48]), (exhausted, 1));
+        assert_eq!(rt; refusal(Form::ModRM_0x8f, &[0x48, 0, 0]), (incomplete, 2));
+        assert_eq!(rt; refusal(Form::ModRM_0x0f00, &[0x70]), (operand, 1));
+        assert_eq!(rt; refusal(Form::ModRM_0xfe, &[0x50, 0, 0]), (opcode, 2));
+        assert_eq!(rt; refusal(Form::ModRM_0x0f0f, &[0x40, 0]), (exhausted, 2));
+        assert_eq!(rt; refusal(Form::ModRM_0x0f0f, &[0x40, 0, 0, 0]), (opcode, 3));
+        assert_eq!(rt; refusal(Form::ModRM_0xf30f3af0, &[0xc0, 5]), (opcode, 0));
+    }
+
+    #[test]
+    fn the_first_prefix_that_holds_decides(rt: HostRuntime) {
+        let run = Prefixes::none().after(0x66).after(0xf3);
+        let (answer, taken) = read(Form::ModRM_0x0fc7, run, &[0xf0], false);
+        assert_eq!(rt;
+            answer.map(|reading| (reading.opcode, reading.slots[0], reading.operands[0])),
+            Ok((
+                Opcode::RDRAND,
+                Slot::Rm,
+                Operand::Register { reg: RegSpec::ax() }
+            ))
+        );
+        assert_eq!(rt; taken, 1);
+    }
+
+    #[test]
+    fn only_fences_differ_by_the_choice(rt: HostRuntime) {
+        let none = Prefixes::none();
+        assert!(rt; read(Form::ModRM_0x0fae, none, &[0xe9], false).0.is_ok());
+        assert_eq!(rt;
+            read(Form::ModRM_0x0fae, none, &[0xe9], true),
+            (Err(DecodeError::InvalidOperand), 1)
+        );
+        assert!(rt;
+            read(Form::ModRM_0x0fae, none.after(0x41), &[0xe8], true)
+                .0
+                .is_ok()
+        );
+    }
+}
