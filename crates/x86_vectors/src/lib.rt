@@ -2,7 +2,11 @@
 #![tactic(auto)]
 
 #[cfg(test)]
+mod accessor_tests;
+#[cfg(test)]
 mod answers;
+#[cfg(test)]
+mod guide_tests;
 #[cfg(test)]
 mod operand_tests;
 #[cfg(test)]

@@ -1,14 +1,22 @@
 //! The worked answers, asked of the decoder.
 use crate::answers::{ACCEPTED, Accepted, REFUSED, Refused};
 use x86_arch::{ChunkReader, Reader, U8Reader};
-use x86_decode::InstDecoder;
+use x86_decode::{InstDecoder, Instruction};
 use x86_fields::DecodeError;
 
+fn size_of(instruction: &Instruction) -> u8 {
+    match instruction.mem_size() {
+        None => 0,
+        Some(size) => size.bytes_size().unwrap_or(63),
+    }
+}
+
 fn is_accepted(vector: &Accepted) -> bool {
-    let (bytes, mnemonic, _) = *vector;
+    let (bytes, mnemonic, size) = *vector;
     match InstDecoder::default().decode_slice(bytes) {
         Ok(instruction) => {
             instruction.opcode().mnemonic() == mnemonic
+                && size_of(&instruction) == size
                 && instruction.len().to_const() == bytes.len() as u64
         }
         Err(_) => false,

@@ -1,0 +1,79 @@
+//! What instructions are asked.
+use x86_decode::{ConditionCode, InstDecoder, Opcode, Operand, RegSpec, Segment};
+
+fn condition(bytes: &[u8]) -> Option<ConditionCode> {
+    match InstDecoder::default().decode_slice(bytes) {
+        Ok(instruction) => instruction.opcode().condition(),
+        Err(_) => None,
+    }
+}
+
+#[test]
+fn conditions(rt: HostRuntime) {
+    assert!(rt; condition(&[0x73, 0x00]) == Some(ConditionCode::AE));
+    assert!(rt; condition(&[0x0f, 0x96, 0xc0]) == Some(ConditionCode::BE));
+    assert!(rt; condition(&[0x0f, 0x46, 0xc0]) == Some(ConditionCode::BE));
+    assert!(rt; condition(&[0x89, 0xc0]).is_none());
+    assert!(rt; Opcode::JNB.is_jcc() && !Opcode::JNB.is_setcc());
+}
+
+fn hints(bytes: &[u8]) -> Option<(bool, bool)> {
+    match InstDecoder::default().decode_slice(bytes) {
+        Ok(instruction) => Some((instruction.xacquire(), instruction.xrelease())),
+        Err(_) => None,
+    }
+}
+
+#[test]
+fn lock_hints(rt: HostRuntime) {
+    assert!(rt; hints(&[0xf2, 0xf0, 0x01, 0x18]) == Some((true, false)));
+    assert!(rt; hints(&[0xf2, 0x87, 0x08]) == Some((true, false)));
+    assert!(rt; hints(&[0xf2, 0x87, 0xc8]) == Some((false, false)));
+    assert!(rt; hints(&[0xf3, 0xc7, 0, 0, 0, 0, 0]) == Some((false, true)));
+}
+
+#[test]
+fn segments(rt: HostRuntime) {
+    let decoder = InstDecoder::default();
+    let moved = decoder.decode_slice(&[0x64, 0xa4]);
+    assert!(rt; moved.is_ok());
+    if let Ok(moves) = moved {
+        assert!(rt; moves.segment_override_for_op(0) == Some(Segment::ES));
+        assert!(rt; moves.segment_override_for_op(1) == Some(Segment::FS));
+        assert!(rt; moves.segment_override_for_op(2).is_none());
+    }
+    // The store of STOS goes by ES, whatever the prefixes say.
+    let stored = decoder.decode_slice(&[0x64, 0xab]);
+    assert!(rt; stored.is_ok());
+    if let Ok(stores) = stored {
+        assert!(rt; stores.prefixes.es() && stores.prefixes.segment() == Segment::ES);
+    }
+}
+
+#[test]
+fn registers_and_absent_operands(rt: HostRuntime) {
+    assert!(rt; RegSpec::al() < RegSpec::ax());
+    assert!(rt; RegSpec::rax() < RegSpec::cl());
+    let added = InstDecoder::default().decode_slice(&[0x01, 0xd8]);
+    assert!(rt; added.is_ok());
+    if let Ok(instruction) = added {
+        assert!(rt; instruction.operand(3) == Operand::Nothing);
+        assert!(rt; !instruction.operand_present(3));
+    }
+}
+
+#[test]
+fn cleared_prefixes(rt: HostRuntime) {
+    for (bytes, cleared) in [
+        ([0x66u8, 0x0f, 0xae, 0xf1, 0x00], true),
+        ([0x66, 0x0f, 0x38, 0x00, 0xc1], true),
+        ([0x66, 0x0f, 0x38, 0xf1, 0x00], false),
+    ] {
+        match InstDecoder::default().decode_slice(&bytes) {
+            Ok(instruction) => {
+                assert!(rt; instruction.prefixes.operand_size() != cleared);
+            }
+            Err(_) => assert!(rt; false),
+        }
+    }
+}
