@@ -1,4 +1,4 @@
-//! What holds of rows and words alone, whatever a table says.
+//! What holds of rows and words over the definitions alone: each law is the contract of a function that does nothing.
 ghost use Rattle.std.specs.Prelude.{◌≡◌, ◌≢◌, ◌↔◌, ℕ, Some, IfSome, IsTrue};
 ghost use Rattle.x86_forms.specs.declared.Map.{Map};
 ghost use Rattle.x86_forms.specs.declared.Column.{Column};
@@ -22,12 +22,15 @@ pub fn words_are_read_back()
 
 /// The table of the printed words has the printed rows, each of which has a word.
 pub fn printed_words_are_the_printed_rows()
-    ensures rows { (map : Map) → (column : Column) → (byte : ℕ) → rows_of word_at map column byte ≡ printed_row map column byte }
+    ensures rows { (map : Map) → (column : Column) → (byte : ℕ) →
+        rows_of word_at map column byte ≡ printed_row map column byte }
     ensures words { (map : Map) → (column : Column) → (byte : ℕ) → IfSome (printed_row map column byte) HasWord }
 {}
 
-/// `==` on the types of this crate: it holds exactly of the same map, of the same column, of the same form with the same number, and of rows with the same
+/// `==` holds exactly of the same map, of the same column, of the same form with the same number, and of rows with the same
 /// opcode and form.
+///
+/// `equal_forms` and the others are what `==` answers; a caller that compares forms or rows cites this law.
 pub fn equality_is_of_all_parts()
     ensures maps { (m n : Map) → IsTrue (equal_maps m n) ↔ (m ≡ n) }
     ensures columns { (c d : Column) → IsTrue (equal_columns c d) ↔ (c ≡ d) }
