@@ -2,6 +2,7 @@ use Rattle.x86_forms.specs.Words.{rows_of}
 use Rattle.x86_decode.proofs.Theorem.{answered_by}
 use Rattle.x86_decode.proofs.AnswerLaws.{at_most_fifteen}
 use Rattle.x86_decode.proofs.CauseLaws.{accepted, exhausted, opcode_faulted, operand_faulted, prefixes_faulted, too_long, left_out}
+use Rattle.x86_decode.proofs.SentenceLaws.{answer_tied}
 use Rattle.x86_decode.proofs.InstDecoder.decode_by.Goals as goal
 
 pub returns-clause-answer : goal.returns-clause-answer
@@ -33,3 +34,6 @@ returns-clause-too_long g c = too_long (rows_of (g.W.Words.word_in c.args.rows.n
 
 pub returns-clause-incomplete : goal.returns-clause-incomplete
 returns-clause-incomplete g c = left_out (rows_of (g.W.Words.word_in c.args.rows.now)) c.args.self.now.strict (g.T.Reader.state c.args.words.now).left c.walk.result (g.T.Reader.state c.walk.new.words).since_mark (answered_by (rows_of (g.W.Words.word_in c.args.rows.now)) c.args.self.now.strict (g.T.Reader.state c.args.words.now) (g.T.Reader.state c.walk.new.words) c.walk.result c.walk.ensures).0
+
+pub returns-clause-tied : goal.returns-clause-tied
+returns-clause-tied g c = answer_tied (rows_of (g.W.Words.word_in c.args.rows.now)) c.args.self.now.strict (g.T.Reader.state c.args.words.now).left c.walk.result (g.T.Reader.state c.walk.new.words).since_mark (answered_by (rows_of (g.W.Words.word_in c.args.rows.now)) c.args.self.now.strict (g.T.Reader.state c.args.words.now) (g.T.Reader.state c.walk.new.words) c.walk.result c.walk.ensures).0

@@ -1,0 +1,38 @@
+-- The ModRM memory operand of a sentence, and its raw fields.
+use Rattle.std.specs.Prelude.{ℕ, Bool, true, false, Option, Some, None, List, [], ◌∷◌, zero, suc}
+use Rattle.x86_fields.specs.declared.Raw.{Raw}
+use Rattle.x86_fields.specs.Run.{reading_of}
+use Rattle.x86_operands.specs.declared.plans.Sign.{Sign}
+use Rattle.x86_operands.specs.declared.plans.Sign.TheVariants.{E, Emm, M}
+use Rattle.x86_operands.specs.declared.plans.Plan.{Plan}
+use Rattle.x86_operands.specs.declared.reader.Reading.{Reading}
+use Rattle.x86_operands.specs.Plans.{list_of}
+use Rattle.x86_operands.specs.Pieces.{modrm_of}
+use Rattle.x86_decode.specs.Head.{Rows, seen}
+use Rattle.x86_decode.specs.Grammar.{record_of, Whole}
+
+-- the signs that a memory operand of ModRM is written as
+abbrev pub is_modrm_sign : Sign → Bool
+is_modrm_sign (E c) = true
+is_modrm_sign Emm = true
+is_modrm_sign M = true
+is_modrm_sign s = false
+
+-- whether the sign at a place is one of these
+abbrev pub names_modrm : List Sign → ℕ → Bool
+names_modrm [] k = false
+names_modrm (s ∷ rest) zero = is_modrm_sign s
+names_modrm (s ∷ rest) (suc k) = names_modrm rest k
+
+module _ (rows : Rows) (strict : Bool) (s : List ℕ) (reading : Reading) (w : Whole rows strict s reading) where
+  -- the plan that the record of the encoding's row has at its ModRM
+  abbrev pub plan_within : Plan
+  plan_within = let r = record_of strict w.row (seen w.map w.opcode (reading_of w.run)) in r.plan (modrm_of r.modrm w.asked.modrm)
+
+  -- the signs of its operands
+  abbrev pub signs_within : List Sign
+  signs_within = list_of (plan_within).signs
+
+  -- the raw fields, in the memory form
+  abbrev pub fields_within : Option Raw
+  fields_within = w.asked.behind.pieces.memory
