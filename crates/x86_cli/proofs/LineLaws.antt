@@ -1,0 +1,44 @@
+-- Operands, one after the other.
+use Rattle.std.proofs.Common.{◌≡◌, ◌≢◌, ℕ, suc, zero, ◌+◌, ◌<◌, ◌≤◌, List, [], ◌∷◌, ◌++◌, length, take, get_or, refl, arith, ap, ◌∙◌, sym, append_assoc, append-nil, Option, Some, None}
+use Rattle.std.proofs.Math.Dec.{eqb-suc-zero}
+use Rattle.std.specs.Prelude.{min, codes, ◌==◌, if◌then◌else◌}
+use Rattle.std.specs.List.{flat_map}
+use Rattle.std.proofs.lemmas.Grind.{flat_map-append}
+use Rattle.std.proofs.lemmas.List.{take_min, take_more, length-take-le}
+use Rattle.x86_stub.specs.declared.MemoryAccessSize.{MemoryAccessSize}
+use Rattle.x86_stub.specs.declared.Operand.{Operand}
+use Rattle.x86_stub.specs.declared.Operand.TheVariants as operand
+use Rattle.x86_cli.specs.Line.{operand_text, operands_text, joint_text, size_text}
+
+operands_push : (xs : List Operand) (n : ℕ) (o : Operand) → n ≡ length xs →
+    operands_text xs ++ (joint_text n ++ operand_text o) ≡ operands_text (xs ++ o ∷ [])
+unfolding operands_text
+operands_push [] n o e = rw e (ap (λ t. codes " " ++ t) (sym (append-nil (operand_text o))))
+operands_push (x ∷ xs) zero o e = absurd (omega (arith, e))
+operands_push (x ∷ xs) (suc n) o e =
+    let f : Operand → List ℕ = λ o. codes ", " ++ operand_text o in
+    rw eqb-suc-zero (
+    ap (λ t. 32 ∷ t) (
+    append_assoc (operand_text x) (flat_map f xs) (f o)
+    ∙ ap (λ t. operand_text x ++ t) (sym (flat_map-append f xs (o ∷ []) ∙ ap (λ t. flat_map f xs ++ t) (append-nil (f o))))
+    )
+    )
+
+-- one more
+pub operands_next : (start line joined whole : List ℕ) (os : List Operand) (i : ℕ) (o : Operand) → line ≡ start ++ operands_text (take i os) → joined ≡ line ++ joint_text i →
+    whole ≡ joined ++ operand_text o → i < length os → o ≡ get_or os i operand.Nothing → whole ≡ start ++ operands_text (take (i + 1) os)
+operands_next start line joined whole os i o e f g lt is =
+    let taken : i ≡ length (take i os) = sym (length-take-le i os (omega (arith, lt))) in
+    let step : take i os ++ o ∷ [] ≡ take (i + 1) os = rw is (sym (take_more os i operand.Nothing lt)) in
+    g ∙ ap (λ t. t ++ operand_text o) (f ∙ ap (λ t. t ++ joint_text i) e)
+    ∙ append_assoc (start ++ operands_text (take i os)) (joint_text i) (operand_text o)
+    ∙ append_assoc start (operands_text (take i os)) (joint_text i ++ operand_text o)
+    ∙ ap (λ t. start ++ t) (operands_push (take i os) i o taken ∙ ap operands_text step)
+
+pub no_size : (m : ℕ) (o : Option MemoryAccessSize) (s : MemoryAccessSize) → o ≡ (if m == 0 then None else Some s) → o ≡ None → size_text m ≡ size_text 0
+no_size zero o s e f = refl
+no_size (suc m) o s e f = let g : o ≡ Some s = e ∙ rw eqb-suc-zero refl in cc
+
+-- as many as there are, or fewer
+pub take_enough : (xs : List Operand) (m n : ℕ) → m ≡ min n (length xs) → take m xs ≡ take n xs
+take_enough xs m n e = rw e (take_min n xs)
