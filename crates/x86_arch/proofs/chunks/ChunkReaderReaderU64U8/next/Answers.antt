@@ -1,0 +1,8 @@
+use Rattle.std.proofs.Common.{◌++◌}
+use Rattle.x86_arch.proofs.StateLaws.{at_moved}
+use Rattle.x86_arch.proofs.chunks.ChunkReaderReaderU64U8.next.Goals as goal
+
+pub returns-then-self-seam-2-clause-moved : goal.returns-then-self-seam-2-clause-moved
+returns-then-self-seam-2-clause-moved c =
+    let reader = c.args.self.now in
+    at_moved (reader.first.now ++ reader.rest.now) reader.place reader.mark 1 reader.in_range.0

@@ -1,0 +1,45 @@
+//! What code over any reader learns, and what equality says.
+
+ghost use Rattle.std.specs.Prelude.{◌≡◌, ◌↔◌, ℕ, ◌+◌, length, IsTrue, OnOk};
+
+use crate::{AddressDiff, ReadError, Reader, U8Reader};
+
+/// Over any reader `next` gives what it gives over a slice with the same bytes left: the answer, and the count taken.
+pub fn next_is_that_of_a_slice<T: Reader<u64, u8>>(
+    words: &mut T,
+    bytes: &[u8],
+) -> (Result<u8, ReadError>, Result<u8, ReadError>, u64)
+    requires { (T.state words.old).left ≡ bytes.now }
+    ensures same_answer { result.0 ≡ result.1 }
+    ensures same_count { (T.state words.new).since_made ≡ (T.state words.old).since_made + result.2 }
+{
+    let mut slice = U8Reader::new(bytes);
+    let given = words.next();
+    let over_slice = slice.next();
+    (given, over_slice, slice.total_offset())
+}
+
+/// Over any reader `next_n` gives what it gives over a slice with the same bytes left: the answer, the bytes, and the count taken.
+pub fn next_n_is_that_of_a_slice<T: Reader<u64, u8>>(
+    words: &mut T,
+    bytes: &[u8],
+    given: &mut [u8],
+    over_slice: &mut [u8],
+) -> (Result<(), ReadError>, Result<(), ReadError>, u64)
+    requires same_left { (T.state words.old).left ≡ bytes.now }
+    requires same_room { length given.old ≡ length over_slice.old }
+    ensures same_answer { result.0 ≡ result.1 }
+    ensures same_bytes { OnOk result.0 (given.new ≡ over_slice.new) }
+    ensures same_count { (T.state words.new).since_made ≡ (T.state words.old).since_made + result.2 }
+{
+    let mut slice = U8Reader::new(bytes);
+    let answer = words.next_n(given);
+    let answer_over_slice = slice.next_n(over_slice);
+    (answer, answer_over_slice, slice.total_offset())
+}
+
+/// Distances are equal exactly where their numbers are, and any two refusals of a reader are equal.
+pub fn values_are_equal()
+    ensures distances { (a b : AddressDiff ℕ) → IsTrue (⟦<AddressDiff<u64> as PartialEq>⟧.eq a b) ↔ (a ≡ b) }
+    ensures refusals { (a b : ReadError) → IsTrue (⟦<ReadError as PartialEq>⟧.eq a b) ↔ (a ≡ b) }
+{}

@@ -1,0 +1,46 @@
+//! Groups: the forms of which ModRM or a suffix chooses the operation.
+#![tactic(auto)]
+
+ghost use Rattle.std.specs.Prelude.{◌≡◌, true, Some};
+ghost use Rattle.x86_arch.specs.Reader.{State};
+ghost use Rattle.x86_fields.specs.Steps.{outcome};
+ghost use Rattle.x86_forms.specs.Groups.{is_group_form};
+ghost use Rattle.x86_operands.specs.Plans.{refuses};
+ghost use Rattle.x86_operands.specs.Signs.{record_step};
+ghost use Rattle.x86_groups.specs.Groups.{group_record};
+
+use x86_arch::Reader;
+use x86_fields::{DecodeError, Prefixes};
+use x86_forms::TableRow;
+use x86_operands::plans::{Fault, ModrmUse, Moment, Plan, refuses};
+use x86_operands::{Reading, read_modrm, read_plan, refuse};
+
+fn fault(_row: TableRow, _prefixes: &Prefixes) -> Option<Fault>
+    ensures { result ≡ Some Fault.Incomplete }
+{
+    Some(Fault::Incomplete)
+}
+
+fn plan(_row: TableRow, _prefixes: &Prefixes, _modrm: u8, _strict: bool) -> Plan
+    ensures { result ≡ refuses Fault.Incomplete Moment.AtModRM }
+{
+    refuses(Fault::Incomplete, Moment::AtModRM)
+}
+
+/// Reads what a row asks behind its opcode byte, where its form is a group.
+#[tactic(auto, unfolding(crate::specs::Groups::group_record, x86_operands::specs::Signs::record_step))]
+pub fn read_group<T: Reader<u64, u8>>(
+    words: &mut T,
+    row: TableRow,
+    prefixes: Prefixes,
+    strict: bool,
+) -> Result<Reading, DecodeError>
+    requires group { is_group_form row.form ≡ true }
+    ensures { outcome result (T.state words.new) ≡ record_step (group_record strict row prefixes) prefixes (T.state words.old) }
+{
+    let fault = fault(row, &prefixes);
+    refuse(fault)?;
+    let modrm = read_modrm(words, ModrmUse::Fields)?;
+    let plan = plan(row, &prefixes, modrm, strict);
+    read_plan(words, &plan, prefixes, modrm)
+}

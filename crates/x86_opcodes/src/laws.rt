@@ -1,0 +1,15 @@
+//! What holds of the opcodes' kinds, over the definitions alone.
+ghost use Rattle.std.specs.Prelude.{◌≡◌, ◌&&◌, ℕ, false, is_some};
+ghost use Rattle.x86_opcodes.specs.Kinds.{condition_of, is_among, is_conditional, jumps, moves, settings};
+
+/// An operation has a condition exactly where it is a conditional jump, move or setting.
+pub fn condition_is_of_the_three_kinds()
+    ensures { (o : ℕ) → is_some (condition_of o) ≡ is_conditional o }
+{}
+
+/// An operation is of one of the three kinds at most.
+pub fn kinds_exclude_each_other()
+    ensures jump_or_move { (o : ℕ) → (is_among jumps o && is_among moves o) ≡ false }
+    ensures jump_or_setting { (o : ℕ) → (is_among jumps o && is_among settings o) ≡ false }
+    ensures move_or_setting { (o : ℕ) → (is_among moves o && is_among settings o) ≡ false }
+{}

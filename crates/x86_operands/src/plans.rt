@@ -1,0 +1,277 @@
+//! What the rows' records ask: their vocabulary.
+ghost use Rattle.std.specs.Prelude.{◌≡◌, ◌<◌, ℕ};
+ghost use Rattle.x86_operands.specs.Plans.{is_memory, reads, named_by_suffix, refused, refuses, memory_only, register_only, size_by, reg_number, rm_number, register_at, accumulator_of, immediate_of};
+
+use crate::{extend, register};
+use x86_fields::Prefixes;
+use x86_opcodes::Opcode;
+use x86_regs::{RegSpec, RegisterClass};
+
+/// The slot of a register that isn't one of ModRM's by its sign.
+#[derive(Clone, Copy, PartialEq, Eq, Debug, Drop)]
+pub enum RegisterSlot {
+    Reg,
+    Rm,
+    Third,
+}
+
+/// The slot of a string operand.
+#[derive(Clone, Copy, PartialEq, Eq, Debug, Drop)]
+pub enum PointerSlot {
+    Deref,
+    DerefEsi,
+    DerefEdi,
+    DerefRsi,
+    DerefRdi,
+}
+
+/// What a record asks for one operand, in the letters of the Intel SDM, volume 2, appendix A.2.
+#[derive(Clone, Copy, PartialEq, Eq, Debug, Drop)]
+pub enum Sign {
+    /// The register of reg, with R.
+    G(RegisterClass),
+    /// The mm register of reg, without R.
+    Gmm,
+    /// The register of rm with B, or the memory operand.
+    E(RegisterClass),
+    /// The mm register of rm without B, or the memory operand.
+    Emm,
+    /// `E` in the memory form.
+    M,
+    /// `E` in the register form.
+    U(RegisterClass),
+    /// `Emm` in the register form.
+    Umm,
+    /// A register that the record names.
+    Fixed(RegisterSlot, RegSpec),
+    /// Memory at a register that the record names.
+    Pointer(PointerSlot, RegSpec),
+    /// A signed immediate of 1 byte.
+    I8,
+    /// A signed immediate of 2 bytes.
+    I16,
+    /// A signed immediate of 4 bytes.
+    I32,
+    /// A signed immediate of 4 bytes, extended to 64 bits.
+    I64,
+    /// A signed immediate of 2 bytes, extended to 32 bits.
+    I32From16,
+    /// A signed immediate of 8 bytes.
+    I64Whole,
+    /// An unsigned immediate of 1 byte.
+    U8,
+    /// An unsigned immediate of 2 bytes.
+    U16,
+    /// An unsigned number of 16 bits in slot `ImmInDisp`, from 1 byte.
+    X8,
+    /// An unsigned number of 16 bits in slot `ImmInDisp`, from 2 bytes.
+    X16,
+    /// An immediate that no byte spells.
+    ConstantI8(i8),
+    /// An unsigned immediate that no byte spells.
+    ConstantU8(u8),
+    /// An address of 4 bytes.
+    Address32,
+    /// An address of 8 bytes.
+    Address64,
+}
+
+/// The signs of a record, at most four.
+#[derive(Clone, Copy, PartialEq, Eq, Debug, Drop)]
+pub enum Signs {
+    Zero,
+    One(Sign),
+    Two(Sign, Sign),
+    Three(Sign, Sign, Sign),
+    Four(Sign, Sign, Sign, Sign),
+}
+
+/// Behind which byte a record refuses.
+#[derive(Clone, Copy, PartialEq, Eq, Debug, Drop)]
+pub enum Moment {
+    /// Behind ModRM.
+    AtModRM,
+    /// Behind SIB and displacement.
+    AfterAddress,
+    /// Behind the last byte that the row asks.
+    AfterSuffix,
+}
+
+/// Why a record refuses. No record refuses for want of bytes or for length.
+#[derive(Clone, Copy, PartialEq, Eq, Debug, Drop)]
+pub enum Fault {
+    BadOpcode,
+    BadOperand,
+    Incomplete,
+}
+
+/// Whether a record gives an instruction.
+#[derive(Clone, Copy, PartialEq, Eq, Debug, Drop)]
+pub enum Verdict {
+    Accepts,
+    /// A last byte names the opcode, as in 3DNow, or is refused.
+    NamedBySuffix,
+    Refuses(Fault, Moment),
+}
+
+/// What a record changes in the prefixes of its answer.
+#[derive(Clone, Copy, PartialEq, Eq, Debug, Drop)]
+pub enum Mark {
+    Keeps,
+    ClearsOperandSize,
+    SetsEs,
+}
+
+/// Whether a row has a ModRM byte, and how it is read.
+#[derive(Clone, Copy, PartialEq, Eq, Debug, Drop)]
+pub enum ModrmUse {
+    /// No ModRM byte.
+    Absent,
+    /// A ModRM byte, whose memory forms have SIB and displacement.
+    Fields,
+    /// A ModRM byte of which every mod is a register form.
+    Registers,
+}
+
+/// What a record asks behind ModRM, and what it gives.
+#[derive(Clone, Copy, PartialEq, Eq, Debug, Drop)]
+pub struct Plan {
+    pub opcode: Opcode,
+    pub signs: Signs,
+    pub size: u8,
+    pub mark: Mark,
+    pub verdict: Verdict,
+}
+
+/// Whether the ModRM byte is a memory form.
+pub fn memory_form(modrm: u8) -> bool
+    ensures { result ≡ is_memory modrm }
+{
+    modrm < 0xc0
+}
+
+/// The plan that accepts.
+pub fn reads(opcode: Opcode, signs: Signs, size: u8) -> Plan
+    ensures { result ≡ reads opcode signs size }
+{
+    Plan {
+        opcode,
+        signs,
+        size,
+        mark: Mark::Keeps,
+        verdict: Verdict::Accepts,
+    }
+}
+
+/// The plan whose opcode is named by a last byte.
+pub fn named_by_suffix(signs: Signs, size: u8) -> Plan
+    ensures { result ≡ named_by_suffix signs size }
+{
+    Plan {
+        opcode: Opcode::Invalid,
+        signs,
+        size,
+        mark: Mark::Keeps,
+        verdict: Verdict::NamedBySuffix,
+    }
+}
+
+/// The plan that refuses.
+pub fn refuses(fault: Fault, moment: Moment) -> Plan
+    ensures { result ≡ refuses fault moment }
+{
+    Plan {
+        opcode: Opcode::Invalid,
+        signs: Signs::Zero,
+        size: 0,
+        mark: Mark::Keeps,
+        verdict: Verdict::Refuses(fault, moment),
+    }
+}
+
+/// The plan, refused where the test holds.
+pub fn refused(test: bool, fault: Fault, moment: Moment, plan: Plan) -> Plan
+    ensures { result ≡ refused test fault moment plan }
+{
+    if test {
+        Plan {
+            verdict: Verdict::Refuses(fault, moment),
+            ..plan
+        }
+    } else {
+        plan
+    }
+}
+
+/// The plan, for which a register form is refused at ModRM.
+pub fn memory_only(modrm: u8, plan: Plan) -> Plan
+    ensures { result ≡ memory_only modrm plan }
+{
+    refused(
+        !memory_form(modrm),
+        Fault::BadOperand,
+        Moment::AtModRM,
+        plan,
+    )
+}
+
+/// The plan, for which a memory form is refused behind the address.
+pub fn register_only(modrm: u8, plan: Plan) -> Plan
+    ensures { result ≡ register_only modrm plan }
+{
+    refused(
+        memory_form(modrm),
+        Fault::BadOperand,
+        Moment::AfterAddress,
+        plan,
+    )
+}
+
+/// The size in the memory form, or in the register form.
+pub fn size_by(modrm: u8, memory: u8, register: u8) -> u8
+    ensures { result ≡ size_by modrm memory register }
+{
+    if memory_form(modrm) { memory } else { register }
+}
+
+/// The number of reg, with R.
+pub fn reg_number(modrm: u8, prefixes: &Prefixes) -> u8
+    ensures value { result ≡ reg_number modrm prefixes.now }
+    ensures small { result < 16 }
+{
+    extend(prefixes.has_r(), modrm / 8 % 8)
+}
+
+/// The number of rm, with B.
+pub fn rm_number(modrm: u8, prefixes: &Prefixes) -> u8
+    ensures value { result ≡ rm_number modrm prefixes.now }
+    ensures small { result < 16 }
+{
+    extend(prefixes.has_b(), modrm % 8)
+}
+
+/// The register that an opcode byte carries, with B.
+pub fn register_at(num: u8, class: RegisterClass, prefixes: &Prefixes) -> RegSpec
+    requires { num < 8 }
+    ensures { result ≡ register_at num class prefixes.now }
+{
+    register(class, prefixes, extend(prefixes.has_b(), num))
+}
+
+/// Register 0 of a class.
+pub fn accumulator(class: RegisterClass, prefixes: &Prefixes) -> Sign
+    ensures { result ≡ accumulator_of class prefixes.now }
+{
+    Sign::Fixed(RegisterSlot::Reg, register(class, prefixes, 0))
+}
+
+/// The immediate of a class v.
+pub fn immediate(class: RegisterClass) -> Sign
+    ensures { result ≡ immediate_of class }
+{
+    match class {
+        RegisterClass::W => Sign::I16,
+        RegisterClass::Q => Sign::I64,
+        _ => Sign::I32,
+    }
+}

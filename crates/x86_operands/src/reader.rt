@@ -1,0 +1,262 @@
+//! The one reader of plans: what a record asks behind its opcode byte.
+ghost use Rattle.std.specs.Prelude.{◌≡◌, ℕ, ◌<◌, ◌∷◌, []};
+ghost use Rattle.x86_arch.specs.Reader.{State};
+ghost use Rattle.x86_fields.specs.Steps.{outcome};
+ghost use Rattle.x86_operands.specs.Plans.{list_of};
+ghost use Rattle.x86_operands.specs.Suffix.{opcode_of_suffix};
+ghost use Rattle.x86_operands.specs.Signs.{given_step, error_of, same_moment, refusal_step, named_step, opcode_step, memory_step, marked, plan_step, modrm_step, fault_step};
+
+use crate::operands::{Operand, Slot};
+use crate::plans::{Fault, Mark, ModrmUse, Moment, Plan, Signs, Verdict, memory_form};
+use crate::signs::{Pair, read_sign};
+use x86_arch::Reader;
+use x86_fields::{DecodeError, Prefixes, Raw, next_byte, read_raw};
+use x86_opcodes::Opcode;
+
+/// What was read behind an opcode byte. At and above `count`, which is at most 4, slots and operands are `Nothing`.
+/// `mem_size` is in bytes: 0 for none, and 63 where the processor decides.
+#[derive(Clone, Copy, PartialEq, Eq, Debug, Drop)]
+pub struct Reading {
+    pub opcode: Opcode,
+    pub count: u8,
+    pub slots: [Slot; 4],
+    pub operands: [Operand; 4],
+    pub mem_size: u8,
+    pub prefixes: Prefixes,
+}
+
+/// What the signs of a record gave.
+#[derive(Clone, Copy, Drop)]
+struct Given {
+    count: u8,
+    slots: [Slot; 4],
+    operands: [Operand; 4],
+}
+
+const NOTHING: Pair = (Slot::Nothing, Operand::Nothing);
+
+fn in_four(count: u8, first: Pair, second: Pair, third: Pair, fourth: Pair) -> Given
+    ensures { result ≡ record { count = count; slots = first.0 ∷ second.0 ∷ third.0 ∷ fourth.0 ∷ []; operands = first.1 ∷ second.1 ∷ third.1 ∷ fourth.1 ∷ [] } }
+{
+    Given {
+        count,
+        slots: [first.0, second.0, third.0, fourth.0],
+        operands: [first.1, second.1, third.1, fourth.1],
+    }
+}
+
+/// The operands in order, each with its immediate.
+#[tactic(auto, unfolding(crate::specs::Signs::given_step, crate::specs::Signs::signs_step))]
+fn read_signs<T: Reader<u64, u8>>(
+    words: &mut T,
+    signs: Signs,
+    prefixes: &Prefixes,
+    modrm: u8,
+    memory: Option<Raw>,
+) -> Result<Given, DecodeError>
+    ensures { outcome result (T.state words.new) ≡ given_step (list_of signs) prefixes.now modrm memory (T.state words.old) }
+{
+    match signs {
+        Signs::Zero => Ok(in_four(0, NOTHING, NOTHING, NOTHING, NOTHING)),
+        Signs::One(a) => {
+            let a = read_sign(words, a, prefixes, modrm, memory)?;
+            Ok(in_four(1, a, NOTHING, NOTHING, NOTHING))
+        }
+        Signs::Two(a, b) => {
+            let a = read_sign(words, a, prefixes, modrm, memory)?;
+            let b = read_sign(words, b, prefixes, modrm, memory)?;
+            Ok(in_four(2, a, b, NOTHING, NOTHING))
+        }
+        Signs::Three(a, b, c) => {
+            let a = read_sign(words, a, prefixes, modrm, memory)?;
+            let b = read_sign(words, b, prefixes, modrm, memory)?;
+            let c = read_sign(words, c, prefixes, modrm, memory)?;
+            Ok(in_four(3, a, b, c, NOTHING))
+        }
+        Signs::Four(a, b, c, d) => {
+            let a = read_sign(words, a, prefixes, modrm, memory)?;
+            let b = read_sign(words, b, prefixes, modrm, memory)?;
+            let c = read_sign(words, c, prefixes, modrm, memory)?;
+            let d = read_sign(words, d, prefixes, modrm, memory)?;
+            Ok(in_four(4, a, b, c, d))
+        }
+    }
+}
+
+fn error(fault: Fault) -> DecodeError
+    ensures { result ≡ error_of fault }
+{
+    match fault {
+        Fault::BadOpcode => DecodeError::InvalidOpcode,
+        Fault::BadOperand => DecodeError::InvalidOperand,
+        Fault::Incomplete => DecodeError::IncompleteDecoder,
+    }
+}
+
+fn is_same(a: Moment, b: Moment) -> bool
+    ensures { result ≡ same_moment a b }
+{
+    match (a, b) {
+        (Moment::AtModRM, Moment::AtModRM) => true,
+        (Moment::AfterAddress, Moment::AfterAddress) => true,
+        (Moment::AfterSuffix, Moment::AfterSuffix) => true,
+        _ => false,
+    }
+}
+
+/// The refusal of a plan, at its moment.
+fn refuse_at(verdict: Verdict, at: Moment) -> Result<(), DecodeError>
+    ensures { (s : State ℕ) → outcome result s ≡ refusal_step verdict at s }
+{
+    match verdict {
+        Verdict::Accepts | Verdict::NamedBySuffix => Ok(()),
+        Verdict::Refuses(fault, moment) => {
+            if is_same(moment, at) {
+                Err(error(fault))
+            } else {
+                Ok(())
+            }
+        }
+    }
+}
+
+/// The refusal of a row at its opcode byte.
+pub fn refuse(fault: Option<Fault>) -> Result<(), DecodeError>
+    ensures { (s : State ℕ) → outcome result s ≡ fault_step fault s }
+{
+    match fault {
+        None => Ok(()),
+        Some(fault) => Err(error(fault)),
+    }
+}
+
+/// The opcode that a suffix byte names.
+#[tactic(auto, unfolding(crate::specs::Suffix::opcode_of_suffix))]
+fn suffix_opcode(byte: u8) -> Option<Opcode>
+    ensures { result ≡ opcode_of_suffix byte }
+{
+    match byte {
+        0x0c => Some(Opcode::PI2FW),
+        0x0d => Some(Opcode::PI2FD),
+        0x1c => Some(Opcode::PF2IW),
+        0x1d => Some(Opcode::PF2ID),
+        0x8a => Some(Opcode::PFNACC),
+        0x8e => Some(Opcode::PFPNACC),
+        0x90 => Some(Opcode::PFCMPGE),
+        0x94 => Some(Opcode::PFMIN),
+        0x96 => Some(Opcode::PFRCP),
+        0x97 => Some(Opcode::PFRSQRT),
+        0x9a => Some(Opcode::PFSUB),
+        0x9e => Some(Opcode::PFADD),
+        0xa0 => Some(Opcode::PFCMPGT),
+        0xa4 => Some(Opcode::PFMAX),
+        0xa6 => Some(Opcode::PFRCPIT1),
+        0xa7 => Some(Opcode::PFRSQIT1),
+        0xaa => Some(Opcode::PFSUBR),
+        0xae => Some(Opcode::PFACC),
+        0xb0 => Some(Opcode::PFCMPEQ),
+        0xb4 => Some(Opcode::PFMUL),
+        0xb6 => Some(Opcode::PFRCPIT2),
+        0xb7 => Some(Opcode::PMULHRW),
+        0xbb => Some(Opcode::PSWAPD),
+        0xbf => Some(Opcode::PAVGUSB),
+        _ => None,
+    }
+}
+
+fn name(opcode: Option<Opcode>) -> Result<Opcode, DecodeError>
+    ensures { (s : State ℕ) → outcome result s ≡ named_step opcode s }
+{
+    match opcode {
+        None => Err(DecodeError::InvalidOpcode),
+        Some(opcode) => Ok(opcode),
+    }
+}
+
+/// The plan's opcode, or the one that the suffix names.
+fn read_opcode<T: Reader<u64, u8>>(
+    words: &mut T,
+    verdict: Verdict,
+    opcode: Opcode,
+) -> Result<Opcode, DecodeError>
+    ensures { outcome result (T.state words.new) ≡ opcode_step verdict opcode (T.state words.old) }
+{
+    match verdict {
+        Verdict::NamedBySuffix => {
+            let byte = next_byte(words)?;
+            name(suffix_opcode(byte))
+        }
+        Verdict::Accepts | Verdict::Refuses(_, _) => Ok(opcode),
+    }
+}
+
+/// The memory operand's bytes, in the memory form.
+fn read_memory<T: Reader<u64, u8>>(
+    words: &mut T,
+    prefixes: &Prefixes,
+    modrm: u8,
+) -> Result<Option<Raw>, DecodeError>
+    ensures { outcome result (T.state words.new) ≡ memory_step prefixes.now modrm (T.state words.old) }
+{
+    if memory_form(modrm) {
+        let raw = read_raw(words, prefixes, modrm)?;
+        Ok(Some(raw))
+    } else {
+        Ok(None)
+    }
+}
+
+fn apply(mark: Mark, prefixes: Prefixes) -> Prefixes
+    ensures { result ≡ marked mark prefixes }
+{
+    match mark {
+        Mark::Keeps => prefixes,
+        Mark::ClearsOperandSize => prefixes.without_operand_size(),
+        Mark::SetsEs => prefixes.with_es(),
+    }
+}
+
+/// The ModRM byte as a row uses it.
+pub fn read_modrm<T: Reader<u64, u8>>(words: &mut T, modrm: ModrmUse) -> Result<u8, DecodeError>
+    ensures { outcome result (T.state words.new) ≡ modrm_step modrm (T.state words.old) }
+{
+    match modrm {
+        ModrmUse::Absent => Ok(0xc0),
+        ModrmUse::Fields => {
+            let byte = next_byte(words)?;
+            Ok(byte)
+        }
+        ModrmUse::Registers => {
+            let byte = next_byte(words)?;
+            Ok(0xc0 + byte % 0x40)
+        }
+    }
+}
+
+/// What a record asks behind its ModRM.
+#[tactic(auto, unfolding(crate::specs::Signs::plan_step))]
+pub fn read_plan<T: Reader<u64, u8>>(
+    words: &mut T,
+    plan: &Plan,
+    prefixes: Prefixes,
+    modrm: u8,
+) -> Result<Reading, DecodeError>
+    ensures { outcome result (T.state words.new) ≡ plan_step plan.now prefixes modrm (T.state words.old) }
+{
+    refuse_at(plan.verdict, Moment::AtModRM)?;
+    let memory = read_memory(words, &prefixes, modrm)?;
+    refuse_at(plan.verdict, Moment::AfterAddress)?;
+    let given = read_signs(words, plan.signs, &prefixes, modrm, memory)?;
+    let opcode = read_opcode(words, plan.verdict, plan.opcode)?;
+    refuse_at(plan.verdict, Moment::AfterSuffix)?;
+    let slots = given.slots;
+    let operands = given.operands;
+    Ok(Reading {
+        opcode,
+        count: given.count,
+        slots,
+        operands,
+        mem_size: plan.size,
+        prefixes: apply(plan.mark, prefixes),
+    })
+}

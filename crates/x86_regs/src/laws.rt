@@ -1,0 +1,38 @@
+//! What equality, order and hash of registers and classes say.
+
+ghost use Rattle.std.specs.Prelude.{◌≡◌, ◌↔◌, IsTrue};
+ghost use Rattle.std.specs.Ordering.{ordering_then, nat_cmp};
+ghost use Rattle.std.specs.Cmp.{IsTotalOrder};
+ghost use Rattle.x86_regs.specs.Class.{code_of};
+
+use crate::{RegSpec, RegisterClass};
+use std::cmp::Ordering;
+use std::hash::Hash;
+
+/// Registers are ordered by number, then by the code of their class, and the order is total.
+pub fn registers_are_ordered()
+    ensures by_number_then_code { (a b : RegSpec) → ⟦<RegSpec as Ord>⟧.cmp a b ≡ ordering_then (nat_cmp a.num b.num) (nat_cmp (code_of a.class) (code_of b.class)) }
+    ensures partly { (a b : RegSpec) → ⟦<RegSpec as PartialOrd>⟧.partial_cmp a b ≡ Some (⟦<RegSpec as Ord>⟧.cmp a b) }
+    ensures total { IsTotalOrder ⟦<RegSpec as Ord>⟧.cmp }
+    ensures agrees { (a b : RegSpec) → ⟦<RegSpec as Ord>⟧.cmp a b ≡ Ordering.Equal ↔ (a ≡ b) }
+{}
+
+/// Two registers are equal exactly where number and class are, and equal registers hash equally.
+pub fn registers_are_equal()
+    ensures exactly { (a b : RegSpec) → IsTrue (⟦<RegSpec as PartialEq>⟧.eq a b) ↔ (a ≡ b) }
+    ensures hashed { (a b : RegSpec) → IsTrue (⟦<RegSpec as PartialEq>⟧.eq a b) → ⟦<RegSpec as Hash>⟧.hash_input a ≡ ⟦<RegSpec as Hash>⟧.hash_input b }
+{}
+
+/// Classes are ordered by their codes, and the order is total.
+pub fn classes_are_ordered()
+    ensures by_code { (a b : RegisterClass) → ⟦<RegisterClass as Ord>⟧.cmp a b ≡ nat_cmp (code_of a) (code_of b) }
+    ensures partly { (a b : RegisterClass) → ⟦<RegisterClass as PartialOrd>⟧.partial_cmp a b ≡ Some (⟦<RegisterClass as Ord>⟧.cmp a b) }
+    ensures total { IsTotalOrder ⟦<RegisterClass as Ord>⟧.cmp }
+    ensures agrees { (a b : RegisterClass) → ⟦<RegisterClass as Ord>⟧.cmp a b ≡ Ordering.Equal ↔ (a ≡ b) }
+{}
+
+/// Two classes are equal exactly where they are the same, and equal classes hash equally.
+pub fn classes_are_equal()
+    ensures exactly { (a b : RegisterClass) → IsTrue (⟦<RegisterClass as PartialEq>⟧.eq a b) ↔ (a ≡ b) }
+    ensures hashed { (a b : RegisterClass) → IsTrue (⟦<RegisterClass as PartialEq>⟧.eq a b) → ⟦<RegisterClass as Hash>⟧.hash_input a ≡ ⟦<RegisterClass as Hash>⟧.hash_input b }
+{}

@@ -1,0 +1,182 @@
+#!/usr/bin/env python3
+"""Writes the files that only repeat what three lists say, so that a name, a form or a row is edited in one place.
+
+    python3 tools/tables.py            writes them
+    python3 tools/tables.py --check    changes nothing; says which are not what it would write, and then ends with status 1
+
+The lists, which people edit:
+
+    crates/x86_opcodes/specs/Mnemonics.antt    the opcodes, a line for each name
+    crates/x86_forms/src/lib.rt                the forms, the variants of `Form`
+    crates/x86_forms/specs/Rows.antt           the rows of each map, a line for each row
+
+Nothing rests on this script. What it writes is checked like all other code: that the constants have the numbers of the
+names, that each form stands at its place, and that each table has the words of the rows, is proved, and a wrong entry is
+refused, whether the script or a hand wrote it.
+"""
+
+import re
+import sys
+from pathlib import Path
+
+TOP = Path(__file__).resolve().parent.parent
+OPCODES = TOP / "crates" / "x86_opcodes"
+FORMS = TOP / "crates" / "x86_forms"
+
+COLUMNS = ["Plain", "P66", "F3", "F2"]
+CARRIED = 8  # how many numbers a form with a field can carry
+NOTE = "Written by tools/tables.py from {}. The proof doesn't rest on that script: a wrong entry is refused."
+
+
+def names():
+    """The opcodes in the order of their numbers."""
+    text = (OPCODES / "specs" / "Mnemonics.antt").read_text()
+    return re.findall(r'^    is opcode\.(\w+) \(codes "\w+"\) ∷$', text, re.M)
+
+
+def forms():
+    """The forms in the order of their places, each with whether it carries a number."""
+    text = (FORMS / "src" / "lib.rt").read_text()
+    variants = re.search(r"^pub enum Form \{\n(.*?)^\}", text, re.M | re.S).group(1)
+    return [(form, bool(field)) for form, field in re.findall(r"^    (\w+)(\(u8\))?,$", variants, re.M)]
+
+
+def places():
+    """The place of each form among all forms with all numbers."""
+    place, answer = 0, {}
+    for form, carries in forms():
+        answer[form] = place
+        place += CARRIED if carries else 1
+    return answer
+
+
+def rows():
+    """The rows of each map: the columns, the byte, the opcode, the form and the number that it carries."""
+    text = (FORMS / "specs" / "Rows.antt").read_text()
+    answer = {}
+    for rows_of, body in re.findall(r"^rows_of_(\w+) =\n(.*?)^    \[\]$", text, re.M | re.S):
+        answer[rows_of] = []
+        for line in body.splitlines():
+            if line.strip().startswith("--"):
+                continue
+            row = re.fullmatch(r"    in_(\w+) 0x(..) opcode\.(\w+) (?:form\.(\w+)|\(form\.(\w+) ([0-7])\)) ∷", line)
+            if row is None:
+                sys.exit(f"tables.py: not read as a row: {line}")
+            columns, byte, opcode, form, carrying, number = row.groups()
+            answer[rows_of].append((columns, int(byte, 16), opcode, form or carrying, int(number or 0)))
+    return answer
+
+
+def stands_in(columns, column):
+    return columns == "all" or column.lower() in columns.split("_")
+
+
+def words(map_rows, column):
+    """The words of a column by the byte, where the first of several rows counts."""
+    numbers = {name: number for number, name in enumerate(names())}
+    place = places()
+    answer = [0] * 256
+    for columns, byte, opcode, form, number in reversed(map_rows):
+        if stands_in(columns, column):
+            answer[byte] = 256 * numbers[opcode] + 1 + place[form] + number
+    return answer
+
+
+def names_antt():
+    note = NOTE.format("specs/Mnemonics.antt")
+    lines = ["-- The numbers of the opcodes, which clauses name. A number tells names apart and means nothing more.", f"-- {note}"]
+    lines += ["use Rattle.std.specs.Prelude.{ℕ, List, [], ◌∷◌}", ""]
+    for number, name in enumerate(names()):
+        lines += [f"abbrev pub {name} : ℕ", f"{name} = {number}", ""]
+    lines += ["-- every opcode in the order of the numbers", "abbrev pub every_opcode : List ℕ", "every_opcode ="]
+    lines += [f"    {name} ∷" for name in names()] + ["    []"]
+    return lines
+
+
+def names_rt():
+    count = len(names())
+    lines = ["//! The constants of the opcodes, their numbers and their spellings.", "//!"]
+    lines += ["//! " + NOTE.format("specs/Mnemonics.antt"), "use crate::Opcode;", "", "impl Opcode {"]
+    for number, name in enumerate(names()):
+        lines += [f"    pub const {name}: Opcode = Opcode {{ number: {number} }};", ""]
+    lines[-1] = "}"
+    lines += ["", "/// How many names there are, `Invalid` among them.", f"pub(crate) const OPCODES: u16 = {count};"]
+    lines += ["", "/// The numbers of the constants, each by its name.", f"pub(crate) const NUMBERS: &[u16; {count}] = &["]
+    lines += [f"    Opcode::{name}.number," for name in names()] + ["];", ""]
+    lines += ["/// The spellings in the order of the numbers.", f"pub(crate) const MNEMONICS: [&str; {count}] = ["]
+    return lines + [f'    "{name}",' for name in names()] + ["];"]
+
+
+def places_antt():
+    lines = ["-- The places of the forms.", "-- " + NOTE.format("the variants of Form in src/lib.rt")]
+    lines += ["use Rattle.std.specs.Prelude.{ℕ, ◌+◌}", "use Rattle.x86_forms.specs.declared.Form.{Form}"]
+    lines += ["use Rattle.x86_forms.specs.declared.Form.TheVariants as form", ""]
+    lines += ["-- the place of a form among the forms, each of which stands there with every number that it may carry"]
+    lines += ["unfoldable pub place_of : Form → ℕ"]
+    place = places()
+    for form, carries in forms():
+        lines.append(f"place_of (form.{form} n) = {place[form]} + n" if carries else f"place_of form.{form} = {place[form]}")
+    return lines
+
+
+def places_rt():
+    every = []
+    for form, carries in forms():
+        every += [f"Form::{form}({number})" for number in range(CARRIED)] if carries else [f"Form::{form}"]
+    lines = ["//! The forms in the order of their places, each with every number that it may carry.", "//!"]
+    lines += ["//! " + NOTE.format("the variants of `Form`"), "use crate::Form;", ""]
+    lines += [f"pub(crate) const FORMS: &[Form; {len(every)}] = &["]
+    return lines + [f"    {form}," for form in every] + ["];"]
+
+
+def table(name, entries):
+    lines = ["", f"pub(crate) const {name}: &[u64; 256] = &["]
+    for byte in range(0, 256, 8):
+        lines.append("    " + ", ".join(f"0x{word:05x}" for word in entries[byte : byte + 8]) + f", // {byte:02X}")
+    return lines + ["];"]
+
+
+def tables_rt():
+    lines = ["//! The words of the rows, by the opcode byte: eight on a line, behind which the byte of the first stands.", "//!"]
+    lines += ["//! The last two digits of a word are the form's place and 1, the digits before them the opcode's number.", "//!"]
+    lines += ["//! " + NOTE.format("specs/Rows.antt")]
+    for rows_of, map_rows in rows().items():
+        if rows_of == "One":
+            lines += table("ONE", words(map_rows, "Plain"))
+            continue
+        for column in COLUMNS:
+            lines += table(f"{rows_of}_{column}".upper(), words(map_rows, column))
+    return lines
+
+
+def written():
+    """Each file with its lines."""
+    return {
+        OPCODES / "specs" / "Names.antt": names_antt(),
+        OPCODES / "src" / "names.rt": names_rt(),
+        FORMS / "specs" / "Places.antt": places_antt(),
+        FORMS / "src" / "places.rt": places_rt(),
+        FORMS / "src" / "tables.rt": tables_rt(),
+    }
+
+
+def main():
+    check = sys.argv[1:] == ["--check"]
+    if sys.argv[1:] and not check:
+        sys.exit(__doc__)
+    stale = False
+    for path, lines in written().items():
+        text = "\n".join(lines) + "\n"
+        if path.exists() and path.read_text() == text:
+            continue
+        if check:
+            stale = True
+            print(f"{path.relative_to(TOP)} is not what tools/tables.py writes")
+        else:
+            path.write_text(text)
+            print(f"wrote {path.relative_to(TOP)}")
+    return 1 if stale else 0
+
+
+if __name__ == "__main__":
+    sys.exit(main())
