@@ -7,5 +7,4 @@ pub mod ListingLaws
 pub mod Stands
 pub mod Standing
 pub mod Causes
-pub mod Mnemonics
 pub mod LineLaws

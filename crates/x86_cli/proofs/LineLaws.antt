@@ -6,8 +6,8 @@ use Rattle.std.specs.List.{flat_map}
 use Rattle.std.proofs.lemmas.Grind.{flat_map-append}
 use Rattle.std.proofs.lemmas.List.{take_min, take_more, length-take-le}
 use Rattle.x86_stub.specs.declared.MemoryAccessSize.{MemoryAccessSize}
-use Rattle.x86_stub.specs.declared.Operand.{Operand}
-use Rattle.x86_stub.specs.declared.Operand.TheVariants as operand
+use Rattle.x86_operands.specs.declared.operands.Operand.{Operand}
+use Rattle.x86_operands.specs.declared.operands.Operand.TheVariants as operand
 use Rattle.x86_cli.specs.Line.{operand_text, operands_text, joint_text, size_text}
 
 operands_push : (xs : List Operand) (n : ℕ) (o : Operand) → n ≡ length xs →

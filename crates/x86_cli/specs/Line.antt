@@ -4,12 +4,13 @@ use Rattle.std.specs.Fmt.{signed_decimal}
 use Rattle.std.specs.Int.{is_negative}
 use Rattle.std.specs.List.{flat_map}
 use Rattle.x86_opcodes.specs.Mnemonics.{mnemonic_of}
-use Rattle.x86_stub.specs.declared.RegSpec.{RegSpec}
-use Rattle.x86_stub.specs.declared.Operand.{Operand}
-use Rattle.x86_stub.specs.declared.Operand.TheVariants as operand
+use Rattle.x86_regs.specs.declared.RegSpec.{RegSpec}
+use Rattle.x86_operands.specs.declared.operands.Operand.{Operand}
+use Rattle.x86_operands.specs.declared.operands.Operand.TheVariants as operand
 use Rattle.x86_stub.specs.declared.instruction.Instruction.{Instruction}
 use Rattle.x86_stub.specs.declared.DecodeError.{DecodeError}
-use Rattle.x86_stub.specs.Answer.{description_of, name_of}
+use Rattle.x86_stub.specs.Answer.{description_of}
+use Rattle.x86_regs.specs.Names.{name_of}
 
 -- a line with its end
 abbrev pub line : List ℕ → List ℕ
@@ -17,16 +18,20 @@ line text = text ++ codes "\n"
 
 -- the parts of a memory operand: a base, an index with its scale, a displacement; each where it is named
 
+-- a register is printed by its name
+unfoldable pub register_text : RegSpec → List ℕ
+register_text register = name_of register
+
 abbrev pub base_text : Option RegSpec → List ℕ
 base_text None = []
-base_text (Some base) = name_of base
+base_text (Some base) = register_text base
 
 abbrev pub plus_text : Option RegSpec → List ℕ
 plus_text None = []
 plus_text (Some base) = codes "+"
 
 abbrev pub scaled_text : RegSpec → ℕ → List ℕ
-scaled_text index scale = name_of index ++ codes "*" ++ decimal scale
+scaled_text index scale = register_text index ++ codes "*" ++ decimal scale
 
 abbrev pub sign_text : ℤ → List ℕ
 sign_text n = if is_negative n then codes "-" else codes "+"
@@ -37,10 +42,10 @@ displacement_text disp = sign_text disp ++ decimal (unsigned_abs disp)
 -- [base], [base+disp], [index*scale], [index*scale+disp], [base+index*scale], [base+index*scale+disp]
 
 unfoldable pub deref_text : RegSpec → List ℕ
-deref_text base = codes "[" ++ name_of base ++ codes "]"
+deref_text base = codes "[" ++ register_text base ++ codes "]"
 
 unfoldable pub moved_text : RegSpec → ℤ → List ℕ
-moved_text base disp = codes "[" ++ name_of base ++ displacement_text disp ++ codes "]"
+moved_text base disp = codes "[" ++ register_text base ++ displacement_text disp ++ codes "]"
 
 unfoldable pub index_text : Option RegSpec → RegSpec → ℕ → List ℕ
 index_text base index scale = codes "[" ++ base_text base ++ plus_text base ++ scaled_text index scale ++ codes "]"
@@ -60,10 +65,10 @@ operand_text (operand.ImmediateI32 n) = codes "i32:" ++ signed_decimal n
 operand_text (operand.ImmediateU32 n) = codes "u32:" ++ decimal n
 operand_text (operand.ImmediateI64 n) = codes "i64:" ++ signed_decimal n
 operand_text (operand.ImmediateU64 n) = codes "u64:" ++ decimal n
-operand_text (operand.Register reg) = name_of reg
-operand_text (operand.RegisterMaskMerge reg _ _) = name_of reg
-operand_text (operand.RegisterMaskMergeSae reg _ _ _) = name_of reg
-operand_text (operand.RegisterMaskMergeSaeNoround reg _ _) = name_of reg
+operand_text (operand.Register reg) = register_text reg
+operand_text (operand.RegisterMaskMerge reg _ _) = register_text reg
+operand_text (operand.RegisterMaskMergeSae reg _ _ _) = register_text reg
+operand_text (operand.RegisterMaskMergeSaeNoround reg _ _) = register_text reg
 operand_text (operand.AbsoluteU32 addr) = codes "[abs32:" ++ decimal addr ++ codes "]"
 operand_text (operand.AbsoluteU64 addr) = codes "[abs64:" ++ decimal addr ++ codes "]"
 operand_text (operand.MemDeref base) = deref_text base

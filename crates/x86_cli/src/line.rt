@@ -4,12 +4,14 @@ ghost use Rattle.std.specs.Prelude.{ℕ, List, ◌≡◌, ◌+◌, ◌++◌, len
 ghost use Rattle.arrayvec.specs.ArrayVec.{array_vec_len};
 ghost use Rattle.x86_stub.specs.declared.instruction.Instruction.{Instruction};
 ghost use Rattle.x86_opcodes.specs.Mnemonics.{mnemonic_of};
-ghost use Rattle.x86_cli.specs.Line.{instruction_text, operands_text, joint_text, operand_text, deref_text, moved_text, index_text, moved_index_text, scaled_text, displacement_text, base_text, plus_text, size_text, refusal_text, bad_text};
+ghost use Rattle.x86_cli.specs.Line.{instruction_text, operands_text, joint_text, operand_text, deref_text, moved_text, index_text, moved_index_text, scaled_text, displacement_text, register_text, base_text, plus_text, size_text, refusal_text, bad_text};
 
 use arrayvec::ArrayVec;
 use itoa::{Buffer, Integer};
 use x86_opcodes::Opcode;
-use x86_stub::{DecodeError, Instruction, Operand, RegSpec};
+use x86_operands::Operand;
+use x86_regs::RegSpec;
+use x86_stub::{DecodeError, Instruction};
 
 /// A line, with room for its end.
 pub type Line = ArrayVec<u8, 192>;
@@ -63,9 +65,10 @@ fn push_immediate<I: Integer>(line: &mut Line, mark: &[u8], n: I)
     push_number(line, n);
 }
 
+#[tactic(auto, unfolding(crate::specs::Line::register_text))]
 fn push_register(line: &mut Line, register: &RegSpec)
     requires { array_vec_len line.old + 6 ≤ 192 }
-    ensures text { line.new.items ≡ line.old.items ++ base_text (Some register.now) }
+    ensures text { line.new.items ≡ line.old.items ++ register_text register.now }
     ensures short { array_vec_len line.new ≤ array_vec_len line.old + 6 }
 {
     push_bytes(line, register.name().as_bytes());

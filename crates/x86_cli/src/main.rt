@@ -11,6 +11,8 @@ mod listing;
 mod sink;
 mod source;
 mod status;
+#[cfg(test)]
+mod tests;
 mod text;
 mod window;
 

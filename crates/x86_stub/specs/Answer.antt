@@ -1,9 +1,9 @@
 use Rattle.std.specs.Prelude.{ℕ, Bool, true, false, List, [], ◌∷◌, Option, Some, None, Result, Ok, Err, ◌==◌, if◌then◌else◌, codes}
 use Rattle.x86_opcodes.specs.Names as opcode
-use Rattle.x86_stub.specs.declared.RegisterClass.TheVariants.{B, D, Q, RIP}
-use Rattle.x86_stub.specs.declared.RegSpec.{RegSpec}
-use Rattle.x86_stub.specs.declared.Operand.{Operand}
-use Rattle.x86_stub.specs.declared.Operand.TheVariants.{Register, Nothing}
+use Rattle.x86_regs.specs.declared.RegisterClass.TheVariants.{D}
+use Rattle.x86_regs.specs.declared.RegSpec.{RegSpec}
+use Rattle.x86_operands.specs.declared.operands.Operand.{Operand}
+use Rattle.x86_operands.specs.declared.operands.Operand.TheVariants.{Register, Nothing}
 use Rattle.x86_stub.specs.declared.MemoryAccessSize.{MemoryAccessSize}
 use Rattle.x86_stub.specs.declared.instruction.Instruction.{Instruction}
 use Rattle.x86_stub.specs.declared.DecodeError.{DecodeError}
@@ -35,9 +35,6 @@ answer_of strict (b ∷ bs) =
     if b == 144 then Ok Nop
     else (if b == 1 then behind bs (Ok Add)
     else (if b == 15 then behind bs (if strict then Err InvalidOperand else Ok Lfence) else Err InvalidOpcode))
-
-abbrev pub name_of : RegSpec → List ℕ
-name_of r = elim r.class [ B ↦ codes "al" | D ↦ if r.num == 0 then codes "eax" else codes "ebx" | Q ↦ codes "rax" | RIP ↦ codes "rip" ]
 
 abbrev pub description_of : DecodeError → List ℕ
 description_of ExhaustedInput = codes "exhausted input"

@@ -1,8 +1,9 @@
 ghost use Rattle.std.specs.Prelude.{◌≡◌, ◌<◌, ◌≤◌, ◌==◌, length, get_or, if◌then◌else◌, Some, None, [], ◌∷◌};
 ghost use Rattle.x86_stub.specs.declared.MemoryAccessSize.{MemoryAccessSize};
-ghost use Rattle.x86_stub.specs.declared.Operand.{Operand};
+ghost use Rattle.x86_operands.specs.declared.operands.Operand.{Operand};
 
-use crate::{AddressDiff, MemoryAccessSize, Operand};
+use crate::{AddressDiff, MemoryAccessSize};
+use x86_operands::Operand;
 use x86_opcodes::Opcode;
 
 #[derive(Clone, Copy, Debug, Drop)]

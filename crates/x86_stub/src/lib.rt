@@ -2,7 +2,7 @@
 #![tactic(auto)]
 
 ghost use Rattle.std.specs.Prelude.{◌≡◌, ◌<◌, ◌≤◌, ◌==◌, length, get_or, if◌then◌else◌, Some, None, true, false};
-ghost use Rattle.x86_stub.specs.Answer.{answer_of, name_of, description_of, bytes_size_of};
+ghost use Rattle.x86_stub.specs.Answer.{answer_of, description_of, bytes_size_of};
 
 mod instruction;
 pub mod laws;
@@ -10,6 +10,8 @@ pub mod laws;
 pub use instruction::{Instruction, plain};
 
 use x86_opcodes::Opcode;
+use x86_operands::Operand;
+use x86_regs::RegSpec;
 
 #[derive(Clone, Copy, PartialEq, Eq, Debug, Drop)]
 pub enum DecodeError {
@@ -35,91 +37,6 @@ impl DecodeError {
             DecodeError::IncompleteDecoder => "the decoder is incomplete",
         }
     }
-}
-
-#[derive(Clone, Copy, PartialEq, Eq, Debug, Drop)]
-pub enum RegisterClass {
-    B,
-    D,
-    Q,
-    RIP,
-}
-
-#[derive(Clone, Copy, PartialEq, Eq, Debug, Drop)]
-pub struct RegSpec {
-    num: u8,
-    class: RegisterClass,
-}
-
-impl RegSpec {
-    pub fn new(num: u8, class: RegisterClass) -> RegSpec
-        ensures { result ≡ record { num = num; class = class } }
-    {
-        RegSpec { num, class }
-    }
-
-    pub fn name(&self) -> &'static str
-        ensures value { result.now ≡ name_of self.now }
-        ensures short { length result.now ≤ 6 }
-    {
-        match self.class {
-            RegisterClass::B => "al",
-            RegisterClass::D => {
-                if self.num == 0 {
-                    "eax"
-                } else {
-                    "ebx"
-                }
-            }
-            RegisterClass::Q => "rax",
-            RegisterClass::RIP => "rip",
-        }
-    }
-}
-
-#[derive(Clone, Copy, PartialEq, Eq, Debug, Drop)]
-pub enum MergeMode {
-    Merge,
-    Zero,
-}
-
-#[derive(Clone, Copy, PartialEq, Eq, Debug, Drop)]
-pub enum SaeMode {
-    RoundNearest,
-    RoundDown,
-    RoundUp,
-    RoundZero,
-}
-
-#[derive(Clone, Copy, PartialEq, Eq, Debug, Drop)]
-pub enum Operand {
-    ImmediateI8 { imm: i8 },
-    ImmediateU8 { imm: u8 },
-    ImmediateI16 { imm: i16 },
-    ImmediateU16 { imm: u16 },
-    ImmediateI32 { imm: i32 },
-    ImmediateU32 { imm: u32 },
-    ImmediateI64 { imm: i64 },
-    ImmediateU64 { imm: u64 },
-    Register { reg: RegSpec },
-    RegisterMaskMerge { reg: RegSpec, mask: RegSpec, merge: MergeMode },
-    RegisterMaskMergeSae { reg: RegSpec, mask: RegSpec, merge: MergeMode, sae: SaeMode },
-    RegisterMaskMergeSaeNoround { reg: RegSpec, mask: RegSpec, merge: MergeMode },
-    AbsoluteU32 { addr: u32 },
-    AbsoluteU64 { addr: u64 },
-    MemDeref { base: RegSpec },
-    Disp { base: RegSpec, disp: i32 },
-    MemIndexScale { index: RegSpec, scale: u8 },
-    MemIndexScaleDisp { index: RegSpec, scale: u8, disp: i32 },
-    MemBaseIndexScale { base: RegSpec, index: RegSpec, scale: u8 },
-    MemBaseIndexScaleDisp { base: RegSpec, index: RegSpec, scale: u8, disp: i32 },
-    MemDerefMasked { base: RegSpec, mask: RegSpec },
-    DispMasked { base: RegSpec, disp: i32, mask: RegSpec },
-    MemIndexScaleMasked { index: RegSpec, scale: u8, mask: RegSpec },
-    MemIndexScaleDispMasked { index: RegSpec, scale: u8, disp: i32, mask: RegSpec },
-    MemBaseIndexScaleMasked { base: RegSpec, index: RegSpec, scale: u8, mask: RegSpec },
-    MemBaseIndexScaleDispMasked { base: RegSpec, index: RegSpec, scale: u8, disp: i32, mask: RegSpec },
-    Nothing,
 }
 
 #[derive(Clone, Copy, PartialEq, Eq, Debug, Drop)]
@@ -191,10 +108,10 @@ impl InstDecoder {
                 count: 2,
                 operands: [
                     Operand::Register {
-                        reg: RegSpec::new(0, RegisterClass::D),
+                        reg: RegSpec::d(0),
                     },
                     Operand::Register {
-                        reg: RegSpec::new(3, RegisterClass::D),
+                        reg: RegSpec::d(3),
                     },
                     Operand::Nothing,
                     Operand::Nothing,

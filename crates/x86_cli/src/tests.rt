@@ -1,0 +1,389 @@
+//! Worked listings, by whole runs.
+
+ghost use Rattle.std.specs.Prelude.{None};
+
+use crate::command::{TEXT_MAX, USAGE, run};
+use crate::gathered::Gathered;
+use crate::sink::{ArraySink, NullSink, Sink, SinkFailed, StdSink};
+use crate::source::{Got, SliceSource, SoundSource, Source, StdSource};
+use crate::status::Status;
+use std::alloc::{AllocError, Global};
+use std::io;
+use std::io::{ErrorKind, Read, Write};
+use std::process::Abort;
+
+fn words(alloc: Global, texts: &[&str]) -> Result<Vec<String>, AllocError> {
+    let mut words = Vec::new(alloc);
+    for text in texts {
+        words.push(String::from_str(alloc, text)?)?;
+    }
+    Ok(words)
+}
+
+/// The words are collected before the run, so a refused allocation ends a test and never changes an answer.
+fn expect(
+    rt: &HostRuntime,
+    texts: &[&str],
+    text: &[u8],
+    fails: &[u64],
+    written: &[u8],
+    status: Status,
+) {
+    let Ok(words) = words(rt.alloc(), texts) else {
+        return;
+    };
+    let mut source = SliceSource::new(text, fails);
+    let mut sink = ArraySink::<256>::new(u64::MAX);
+    assert!(rt; run(words.as_slice(), &mut source, &mut sink) == status);
+    assert!(rt; sink.written() == written);
+}
+
+fn lists(rt: &HostRuntime, text: &[u8], written: &[u8], status: Status) {
+    expect(rt, &["list"], text, &[], written, status);
+}
+
+#[test]
+fn ends_of_the_text(rt: HostRuntime) {
+    lists(&rt, b"", b"", Status::Done);
+    lists(&rt, b"01 d8", b"0 2 ADD eax, ebx m4\n", Status::Done);
+    lists(&rt, b"01", b"0 error: exhausted input\n", Status::Refused);
+    lists(
+        &rt,
+        b"01 d8 06",
+        b"0 2 ADD eax, ebx m4\n2 error: invalid opcode\n",
+        Status::Refused,
+    );
+    lists(
+        &rt,
+        b"01 d8 06 01 d8",
+        b"0 2 ADD eax, ebx m4\n2 error: invalid opcode\n",
+        Status::Refused,
+    );
+    lists(&rt, b"01 zz", b"text error at 3\n", Status::BadText);
+    lists(
+        &rt,
+        b"01 d8 4",
+        b"0 2 ADD eax, ebx m4\ntext error at 7\n",
+        Status::BadText,
+    );
+    lists(
+        &rt,
+        b"01D8\t01\r\nd8",
+        b"0 2 ADD eax, ebx m4\n2 2 ADD eax, ebx m4\n",
+        Status::Done,
+    );
+    expect(
+        &rt,
+        &["list", "--strict"],
+        b"0f ae e9",
+        &[],
+        b"0 error: invalid operand\n",
+        Status::Refused,
+    );
+}
+
+#[test]
+fn words_matched_whole(rt: HostRuntime) {
+    for texts in [
+        [].as_slice(),
+        ["List"].as_slice(),
+        ["list", "strict"].as_slice(),
+        ["list", "--strict", ""].as_slice(),
+        ["--strict", "list"].as_slice(),
+    ] {
+        expect(&rt, texts, b"01 d8", &[], b"", Status::Usage);
+    }
+    assert!(&rt; USAGE == "usage: list [--strict]");
+}
+
+#[test]
+fn failing_sources(rt: HostRuntime) {
+    let one: &[u8] = b"0 2 ADD eax, ebx m4\nread fault\n";
+    let two: &[u8] = b"0 2 ADD eax, ebx m4\n2 2 ADD eax, ebx m4\n";
+    expect(&rt, &["list"], b"01 d8", &[5], one, Status::ReadFault);
+    for call in [0, 1, 2, 3, 4] {
+        expect(
+            &rt,
+            &["list"],
+            b"01 d8 01 d8",
+            &[call],
+            b"read fault\n",
+            Status::ReadFault,
+        );
+    }
+    for call in [5, 6, 7, 8, 9, 10] {
+        expect(
+            &rt,
+            &["list"],
+            b"01 d8 01 d8",
+            &[call],
+            one,
+            Status::ReadFault,
+        );
+    }
+    expect(
+        &rt,
+        &["list"],
+        b"01 d8 01 d8",
+        &[11],
+        b"0 2 ADD eax, ebx m4\n2 2 ADD eax, ebx m4\nread fault\n",
+        Status::ReadFault,
+    );
+    expect(&rt, &["list"], b"01 d8 01 d8", &[12], two, Status::Done);
+    expect(
+        &rt,
+        &["list"],
+        b"01",
+        &[2],
+        b"read fault\n",
+        Status::ReadFault,
+    );
+    // Nothing is read behind a Failed: the call behind it would give the rest.
+    expect(
+        &rt,
+        &["list"],
+        b"01 d8",
+        &[0],
+        b"read fault\n",
+        Status::ReadFault,
+    );
+    // Nothing is asked behind End.
+    expect(
+        &rt,
+        &["list"],
+        b"01 d8",
+        &[6, 7, 8],
+        b"0 2 ADD eax, ebx m4\n",
+        Status::Done,
+    );
+}
+
+#[test]
+fn failing_sinks(rt: HostRuntime) {
+    let Ok(words) = words(rt.alloc(), &["list"]) else {
+        return;
+    };
+    let words = words.as_slice();
+    let mut small = ArraySink::<5>::new(u64::MAX);
+    assert!(&rt; run(words, &mut SoundSource::new(b"01 d8"), &mut small) == Status::WriteFault);
+    assert!(&rt; small.written() == b"0 2 A".as_slice());
+    let mut between = ArraySink::<24>::new(u64::MAX);
+    assert!(&rt;
+        run(words, &mut SoundSource::new(b"01 d8 01 d8"), &mut between) == Status::WriteFault
+    );
+    assert!(&rt; between.written() == b"0 2 ADD eax, ebx m4\n2 2 ".as_slice());
+    let table: [(u64, &[u8], Status); 3] = [
+        (0, b"", Status::WriteFault),
+        (1, b"0 2 ADD eax, ebx m4\n", Status::WriteFault),
+        (
+            2,
+            b"0 2 ADD eax, ebx m4\n2 2 ADD eax, ebx m4\n",
+            Status::Done,
+        ),
+    ];
+    for (fails, written, status) in table {
+        let mut sink = ArraySink::<64>::new(fails);
+        assert!(&rt; run(words, &mut SoundSource::new(b"01 d8 01 d8"), &mut sink) == status);
+        assert!(&rt; sink.written() == written);
+    }
+    assert!(&rt; run(words, &mut SoundSource::new(b"01 d8"), &mut NullSink::new()) == Status::Done);
+}
+
+/// So many times a unit, then a tail.
+#[derive(Drop)]
+struct Repeated<'a> {
+    unit: &'a [u8],
+    left: u64,
+    place: usize,
+    tail: &'a [u8],
+}
+
+impl<'a> Repeated<'a> {
+    fn new(unit: &'a [u8], times: u64, tail: &'a [u8]) -> Repeated<'a> {
+        Repeated {
+            unit,
+            left: times,
+            place: 0,
+            tail,
+        }
+    }
+}
+
+impl Source for Repeated<'_> {
+    ghost left = { λ s. None };
+
+    ghost faults = { λ s. 0 };
+
+    fn next(&mut self) -> Got {
+        if self.left > 0 && self.place < self.unit.len() {
+            let byte = self.unit[self.place];
+            self.place += 1;
+            if self.place == self.unit.len() {
+                self.place = 0;
+                self.left -= 1;
+            }
+            return Got::Byte(byte);
+        }
+        match self.tail.split_first() {
+            Some((first, rest)) => {
+                self.tail = rest;
+                Got::Byte(*first)
+            }
+            None => Got::End,
+        }
+    }
+}
+
+/// Counts the pieces, and compares each with what is wanted of the last.
+#[derive(Drop)]
+struct LastPiece<'a> {
+    wanted: &'a [u8],
+    is_wanted: bool,
+    pieces: u64,
+}
+
+impl Sink for LastPiece<'_> {
+    ghost written = { λ s. None };
+
+    ghost faults = { λ s. 0 };
+
+    fn put(&mut self, piece: &[u8]) -> Result<(), SinkFailed> {
+        self.is_wanted = piece == self.wanted;
+        self.pieces = self.pieces.saturating_add(1);
+        Ok(())
+    }
+}
+
+fn expect_last(
+    rt: &HostRuntime,
+    mut source: Repeated<'_>,
+    pieces: u64,
+    last: &[u8],
+    status: Status,
+) {
+    let Ok(words) = words(rt.alloc(), &["list"]) else {
+        return;
+    };
+    let mut sink = LastPiece {
+        wanted: last,
+        is_wanted: pieces == 0,
+        pieces: 0,
+    };
+    assert!(rt; run(words.as_slice(), &mut source, &mut sink) == status);
+    assert!(rt; sink.pieces == pieces);
+    assert!(rt; sink.is_wanted);
+}
+
+#[test]
+fn limit_of_the_text(rt: HostRuntime) {
+    assert!(&rt; TEXT_MAX == 67108864);
+    expect_last(&rt, Repeated::new(b" ", 4096, b""), 0, b"", Status::Done);
+    expect_last(&rt, Repeated::new(b" ", 4097, b""), 0, b"", Status::Done);
+    expect_last(
+        &rt,
+        Repeated::new(b" ", 67108864, b""),
+        0,
+        b"",
+        Status::Done,
+    );
+    expect_last(
+        &rt,
+        Repeated::new(b" ", 67108865, b""),
+        1,
+        b"text too long\n",
+        Status::TooLarge,
+    );
+    expect_last(
+        &rt,
+        Repeated::new(b"01 d8 ", 10000, b""),
+        10000,
+        b"19998 2 ADD eax, ebx m4\n",
+        Status::Done,
+    );
+    expect_last(
+        &rt,
+        Repeated::new(b" ", 67108860, b"01d8"),
+        1,
+        b"0 2 ADD eax, ebx m4\n",
+        Status::Done,
+    );
+    expect_last(
+        &rt,
+        Repeated::new(b" ", 67108861, b"01d8"),
+        1,
+        b"text too long\n",
+        Status::TooLarge,
+    );
+}
+
+/// Gives its bytes in two reads, and fails at the third.
+#[derive(Drop)]
+struct FailingReader<'a> {
+    bytes: &'a [u8],
+    reads: u8,
+}
+
+impl Read for FailingReader<'_> {
+    fn read(&mut self, buf: &mut [u8]) -> io::Result<usize> {
+        self.reads = self.reads.saturating_add(1);
+        if self.reads > 2 {
+            return Err(io::const_error(ErrorKind::Other, "refused"));
+        }
+        let half = self.bytes.len().div_ceil(2);
+        let mut part = &self.bytes[..half];
+        self.bytes = &self.bytes[half..];
+        part.read(buf)
+    }
+}
+
+/// Takes so many bytes, and then none.
+#[derive(Drop)]
+struct NarrowWriter {
+    room: usize,
+}
+
+impl Write for NarrowWriter {
+    fn write(&mut self, buf: &[u8]) -> io::Result<usize> {
+        let count = buf.len().min(self.room);
+        self.room -= count;
+        Ok(count)
+    }
+
+    fn flush(&mut self) -> io::Result<()> {
+        Ok(())
+    }
+}
+
+#[test]
+fn real_streams(rt: HostRuntime) {
+    let Ok(words) = words(rt.alloc(), &["list"]) else {
+        return;
+    };
+    let words = words.as_slice();
+    let text: &[u8] = b"01 d8 01 d8";
+    let mut written = [0; 40];
+    {
+        let mut room: &mut [u8] = &mut written;
+        let mut sink = StdSink::new(&mut room);
+        assert!(&rt; run(words, &mut StdSource::new(text), &mut sink) == Status::Done);
+        assert!(&rt; sink.faults() == 0);
+    }
+    assert!(&rt; written.as_slice() == b"0 2 ADD eax, ebx m4\n2 2 ADD eax, ebx m4\n".as_slice());
+    let mut source = StdSource::new(FailingReader {
+        bytes: text,
+        reads: 0,
+    });
+    assert!(&rt; run(words, &mut source, &mut NullSink::new()) == Status::ReadFault);
+    assert!(&rt; source.faults() == 1);
+    let mut narrow = StdSink::new(NarrowWriter { room: 30 });
+    assert!(&rt; run(words, &mut StdSource::new(text), &mut narrow) == Status::WriteFault);
+    assert!(&rt; narrow.faults() == 1);
+    let mut gathered = Gathered::new(NarrowWriter { room: 30 });
+    let status = run(
+        words,
+        &mut StdSource::new(text),
+        &mut StdSink::new(&mut gathered),
+    );
+    assert!(&rt; status == Status::Done);
+    assert!(&rt; gathered.flush().is_err());
+}
