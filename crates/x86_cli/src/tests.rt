@@ -10,7 +10,6 @@ use crate::status::Status;
 use std::alloc::{AllocError, Global};
 use std::io;
 use std::io::{ErrorKind, Read, Write};
-use std::process::Abort;
 
 fn words(alloc: Global, texts: &[&str]) -> Result<Vec<String>, AllocError> {
     let mut words = Vec::new(alloc);
@@ -20,65 +19,82 @@ fn words(alloc: Global, texts: &[&str]) -> Result<Vec<String>, AllocError> {
     Ok(words)
 }
 
-/// The words are collected before the run, so a refused allocation ends a test and never changes an answer.
-fn expect(
-    rt: &HostRuntime,
+/// Whether a run over the text, some of whose calls fail, writes this and ends so. The words are collected before the
+/// run, so a refused allocation is told here, and never changes an answer.
+fn runs(
+    alloc: Global,
     texts: &[&str],
     text: &[u8],
     fails: &[u64],
     written: &[u8],
     status: Status,
-) {
-    let Ok(words) = words(rt.alloc(), texts) else {
-        return;
+) -> bool {
+    let Ok(words) = words(alloc, texts) else {
+        return true;
     };
     let mut source = SliceSource::new(text, fails);
     let mut sink = ArraySink::<256>::new(u64::MAX);
-    assert!(rt; run(words.as_slice(), &mut source, &mut sink) == status);
-    assert!(rt; sink.written() == written);
+    run(words.as_slice(), &mut source, &mut sink) == status && sink.written() == written
 }
 
-fn lists(rt: &HostRuntime, text: &[u8], written: &[u8], status: Status) {
-    expect(rt, &["list"], text, &[], written, status);
+fn lists(alloc: Global, text: &[u8], written: &[u8], status: Status) -> bool {
+    runs(alloc, &["list"], text, &[], written, status)
 }
 
 #[test]
 fn ends_of_the_text(rt: HostRuntime) {
-    lists(&rt, b"", b"", Status::Done);
-    lists(&rt, b"01 d8", b"0 2 ADD eax, ebx m4\n", Status::Done);
-    lists(&rt, b"01", b"0 error: exhausted input\n", Status::Refused);
-    lists(
-        &rt,
-        b"01 d8 06",
-        b"0 2 ADD eax, ebx m4\n2 error: invalid opcode\n",
-        Status::Refused,
+    assert!(&rt; lists(rt.alloc(), b"", b"", Status::Done));
+    assert!(&rt; lists(rt.alloc(), b"01 d8", b"0 2 ADD eax, ebx m4\n", Status::Done));
+    assert!(&rt;
+        lists(
+            rt.alloc(),
+            b"01",
+            b"0 error: exhausted input\n",
+            Status::Refused
+        )
     );
-    lists(
-        &rt,
-        b"01 d8 06 01 d8",
-        b"0 2 ADD eax, ebx m4\n2 error: invalid opcode\n",
-        Status::Refused,
+    assert!(&rt;
+        lists(
+            rt.alloc(),
+            b"01 d8 06",
+            b"0 2 ADD eax, ebx m4\n2 error: invalid opcode\n",
+            Status::Refused,
+        )
     );
-    lists(&rt, b"01 zz", b"text error at 3\n", Status::BadText);
-    lists(
-        &rt,
-        b"01 d8 4",
-        b"0 2 ADD eax, ebx m4\ntext error at 7\n",
-        Status::BadText,
+    assert!(&rt;
+        lists(
+            rt.alloc(),
+            b"01 d8 06 01 d8",
+            b"0 2 ADD eax, ebx m4\n2 error: invalid opcode\n",
+            Status::Refused,
+        )
     );
-    lists(
-        &rt,
-        b"01D8\t01\r\nd8",
-        b"0 2 ADD eax, ebx m4\n2 2 ADD eax, ebx m4\n",
-        Status::Done,
+    assert!(&rt; lists(rt.alloc(), b"01 zz", b"text error at 3\n", Status::BadText));
+    assert!(&rt;
+        lists(
+            rt.alloc(),
+            b"01 d8 4",
+            b"0 2 ADD eax, ebx m4\ntext error at 7\n",
+            Status::BadText,
+        )
     );
-    expect(
-        &rt,
-        &["list", "--strict"],
-        b"0f ae e9",
-        &[],
-        b"0 error: invalid operand\n",
-        Status::Refused,
+    assert!(&rt;
+        lists(
+            rt.alloc(),
+            b"01D8\t01\r\nd8",
+            b"0 2 ADD eax, ebx m4\n2 2 ADD eax, ebx m4\n",
+            Status::Done,
+        )
+    );
+    assert!(&rt;
+        runs(
+            rt.alloc(),
+            &["list", "--strict"],
+            b"0f ae e9",
+            &[],
+            b"0 error: invalid operand\n",
+            Status::Refused,
+        )
     );
 }
 
@@ -91,7 +107,7 @@ fn words_matched_whole(rt: HostRuntime) {
         ["list", "--strict", ""].as_slice(),
         ["--strict", "list"].as_slice(),
     ] {
-        expect(&rt, texts, b"01 d8", &[], b"", Status::Usage);
+        assert!(&rt; runs(rt.alloc(), texts, b"01 d8", &[], b"", Status::Usage));
     }
     assert!(&rt; USAGE == "usage: list [--strict]");
 }
@@ -100,61 +116,91 @@ fn words_matched_whole(rt: HostRuntime) {
 fn failing_sources(rt: HostRuntime) {
     let one: &[u8] = b"0 2 ADD eax, ebx m4\nread fault\n";
     let two: &[u8] = b"0 2 ADD eax, ebx m4\n2 2 ADD eax, ebx m4\n";
-    expect(&rt, &["list"], b"01 d8", &[5], one, Status::ReadFault);
-    for call in [0, 1, 2, 3, 4] {
-        expect(
-            &rt,
+    assert!(&rt;
+        runs(
+            rt.alloc(),
             &["list"],
-            b"01 d8 01 d8",
-            &[call],
-            b"read fault\n",
-            Status::ReadFault,
+            b"01 d8",
+            &[5],
+            one,
+            Status::ReadFault
+        )
+    );
+    for call in [0, 1, 2, 3, 4] {
+        assert!(&rt;
+            runs(
+                rt.alloc(),
+                &["list"],
+                b"01 d8 01 d8",
+                &[call],
+                b"read fault\n",
+                Status::ReadFault,
+            )
         );
     }
     for call in [5, 6, 7, 8, 9, 10] {
-        expect(
-            &rt,
-            &["list"],
-            b"01 d8 01 d8",
-            &[call],
-            one,
-            Status::ReadFault,
+        assert!(&rt;
+            runs(
+                rt.alloc(),
+                &["list"],
+                b"01 d8 01 d8",
+                &[call],
+                one,
+                Status::ReadFault,
+            )
         );
     }
-    expect(
-        &rt,
-        &["list"],
-        b"01 d8 01 d8",
-        &[11],
-        b"0 2 ADD eax, ebx m4\n2 2 ADD eax, ebx m4\nread fault\n",
-        Status::ReadFault,
+    assert!(&rt;
+        runs(
+            rt.alloc(),
+            &["list"],
+            b"01 d8 01 d8",
+            &[11],
+            b"0 2 ADD eax, ebx m4\n2 2 ADD eax, ebx m4\nread fault\n",
+            Status::ReadFault,
+        )
     );
-    expect(&rt, &["list"], b"01 d8 01 d8", &[12], two, Status::Done);
-    expect(
-        &rt,
-        &["list"],
-        b"01",
-        &[2],
-        b"read fault\n",
-        Status::ReadFault,
+    assert!(&rt;
+        runs(
+            rt.alloc(),
+            &["list"],
+            b"01 d8 01 d8",
+            &[12],
+            two,
+            Status::Done
+        )
+    );
+    assert!(&rt;
+        runs(
+            rt.alloc(),
+            &["list"],
+            b"01",
+            &[2],
+            b"read fault\n",
+            Status::ReadFault,
+        )
     );
     // Nothing is read behind a Failed: the call behind it would give the rest.
-    expect(
-        &rt,
-        &["list"],
-        b"01 d8",
-        &[0],
-        b"read fault\n",
-        Status::ReadFault,
+    assert!(&rt;
+        runs(
+            rt.alloc(),
+            &["list"],
+            b"01 d8",
+            &[0],
+            b"read fault\n",
+            Status::ReadFault,
+        )
     );
     // Nothing is asked behind End.
-    expect(
-        &rt,
-        &["list"],
-        b"01 d8",
-        &[6, 7, 8],
-        b"0 2 ADD eax, ebx m4\n",
-        Status::Done,
+    assert!(&rt;
+        runs(
+            rt.alloc(),
+            &["list"],
+            b"01 d8",
+            &[6, 7, 8],
+            b"0 2 ADD eax, ebx m4\n",
+            Status::Done,
+        )
     );
 }
 
@@ -254,66 +300,60 @@ impl Sink for LastPiece<'_> {
     }
 }
 
-fn expect_last(
-    rt: &HostRuntime,
+fn ends_with(
+    alloc: Global,
     mut source: Repeated<'_>,
     pieces: u64,
     last: &[u8],
     status: Status,
-) {
-    let Ok(words) = words(rt.alloc(), &["list"]) else {
-        return;
+) -> bool {
+    let Ok(words) = words(alloc, &["list"]) else {
+        return true;
     };
     let mut sink = LastPiece {
         wanted: last,
         is_wanted: pieces == 0,
         pieces: 0,
     };
-    assert!(rt; run(words.as_slice(), &mut source, &mut sink) == status);
-    assert!(rt; sink.pieces == pieces);
-    assert!(rt; sink.is_wanted);
+    run(words.as_slice(), &mut source, &mut sink) == status
+        && sink.pieces == pieces
+        && sink.is_wanted
 }
 
 #[test]
-fn limit_of_the_text(rt: HostRuntime) {
+fn short_and_long_texts(rt: HostRuntime) {
+    let blanks = Repeated::new(b" ", 4096, b"");
+    assert!(&rt; ends_with(rt.alloc(), blanks, 0, b"", Status::Done));
+    let blanks = Repeated::new(b" ", 4097, b"");
+    assert!(&rt; ends_with(rt.alloc(), blanks, 0, b"", Status::Done));
+    let pairs = Repeated::new(b"01 d8 ", 10000, b"");
+    let last = b"19998 2 ADD eax, ebx m4\n";
+    assert!(&rt; ends_with(rt.alloc(), pairs, 10000, last, Status::Done));
+}
+
+#[test]
+fn blanks_up_to_the_limit(rt: HostRuntime) {
     assert!(&rt; TEXT_MAX == 67108864);
-    expect_last(&rt, Repeated::new(b" ", 4096, b""), 0, b"", Status::Done);
-    expect_last(&rt, Repeated::new(b" ", 4097, b""), 0, b"", Status::Done);
-    expect_last(
-        &rt,
-        Repeated::new(b" ", 67108864, b""),
-        0,
-        b"",
-        Status::Done,
-    );
-    expect_last(
-        &rt,
-        Repeated::new(b" ", 67108865, b""),
-        1,
-        b"text too long\n",
-        Status::TooLarge,
-    );
-    expect_last(
-        &rt,
-        Repeated::new(b"01 d8 ", 10000, b""),
-        10000,
-        b"19998 2 ADD eax, ebx m4\n",
-        Status::Done,
-    );
-    expect_last(
-        &rt,
-        Repeated::new(b" ", 67108860, b"01d8"),
-        1,
-        b"0 2 ADD eax, ebx m4\n",
-        Status::Done,
-    );
-    expect_last(
-        &rt,
-        Repeated::new(b" ", 67108861, b"01d8"),
-        1,
-        b"text too long\n",
-        Status::TooLarge,
-    );
+    let blanks = Repeated::new(b" ", 67108864, b"");
+    assert!(&rt; ends_with(rt.alloc(), blanks, 0, b"", Status::Done));
+}
+
+#[test]
+fn one_blank_past_the_limit(rt: HostRuntime) {
+    let blanks = Repeated::new(b" ", 67108865, b"");
+    assert!(&rt; ends_with(rt.alloc(), blanks, 1, b"text too long\n", Status::TooLarge));
+}
+
+#[test]
+fn pairs_up_to_the_limit(rt: HostRuntime) {
+    let text = Repeated::new(b" ", 67108860, b"01d8");
+    assert!(&rt; ends_with(rt.alloc(), text, 1, b"0 2 ADD eax, ebx m4\n", Status::Done));
+}
+
+#[test]
+fn half_a_pair_past_the_limit(rt: HostRuntime) {
+    let text = Repeated::new(b" ", 67108861, b"01d8");
+    assert!(&rt; ends_with(rt.alloc(), text, 1, b"text too long\n", Status::TooLarge));
 }
 
 /// Gives its bytes in two reads, and fails at the third.
@@ -327,7 +367,7 @@ impl Read for FailingReader<'_> {
     fn read(&mut self, buf: &mut [u8]) -> io::Result<usize> {
         self.reads = self.reads.saturating_add(1);
         if self.reads > 2 {
-            return Err(io::const_error(ErrorKind::Other, "refused"));
+            return Err(io::Error::from(ErrorKind::Other));
         }
         let half = self.bytes.len().div_ceil(2);
         let mut part = &self.bytes[..half];
