@@ -1,8 +1,10 @@
 //! What holds of rows and words alone, whatever a table says.
-ghost use Rattle.std.specs.Prelude.{◌≡◌, ◌≢◌, ℕ, Some, IfSome};
+ghost use Rattle.std.specs.Prelude.{◌≡◌, ◌≢◌, ◌↔◌, ℕ, Some, IfSome, IsTrue};
 ghost use Rattle.x86_forms.specs.declared.Map.{Map};
 ghost use Rattle.x86_forms.specs.declared.Column.{Column};
+ghost use Rattle.x86_forms.specs.declared.Form.{Form};
 ghost use Rattle.x86_forms.specs.declared.TableRow.{TableRow};
+ghost use Rattle.x86_forms.specs.Equality.{equal_columns, equal_forms, equal_maps, equal_rows};
 ghost use Rattle.x86_forms.specs.Rows.{printed_row};
 ghost use Rattle.x86_forms.specs.Words.{HasWord, row_of_word, rows_of, word_at, word_of};
 
@@ -22,4 +24,13 @@ pub fn words_are_read_back()
 pub fn printed_words_are_the_printed_rows()
     ensures rows { (map : Map) → (column : Column) → (byte : ℕ) → rows_of word_at map column byte ≡ printed_row map column byte }
     ensures words { (map : Map) → (column : Column) → (byte : ℕ) → IfSome (printed_row map column byte) HasWord }
+{}
+
+/// `==` on the types of this crate: it holds exactly of the same map, of the same column, of the same form with the same number, and of rows with the same
+/// opcode and form.
+pub fn equality_is_of_all_parts()
+    ensures maps { (m n : Map) → IsTrue (equal_maps m n) ↔ (m ≡ n) }
+    ensures columns { (c d : Column) → IsTrue (equal_columns c d) ↔ (c ≡ d) }
+    ensures forms { (f g : Form) → IsTrue (equal_forms f g) ↔ (f ≡ g) }
+    ensures rows { (r s : TableRow) → IsTrue (equal_rows r s) ↔ (r ≡ s) }
 {}

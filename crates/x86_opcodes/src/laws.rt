@@ -1,5 +1,7 @@
 //! What holds of the opcodes' kinds, over the definitions alone.
-ghost use Rattle.std.specs.Prelude.{◌≡◌, ◌&&◌, ℕ, false, is_some};
+ghost use Rattle.std.specs.Prelude.{◌≡◌, ◌&&◌, ◌↔◌, ℕ, IsTrue, false, is_some};
+ghost use Rattle.x86_opcodes.specs.declared.ConditionCode.{ConditionCode};
+ghost use Rattle.x86_opcodes.specs.Equality.{equal_codes, equal_opcodes};
 ghost use Rattle.x86_opcodes.specs.Kinds.{condition_of, is_among, is_conditional, jumps, moves, settings};
 
 /// An operation has a condition exactly where it is a conditional jump, move or setting.
@@ -12,4 +14,10 @@ pub fn kinds_exclude_each_other()
     ensures jump_or_move { (o : ℕ) → (is_among jumps o && is_among moves o) ≡ false }
     ensures jump_or_setting { (o : ℕ) → (is_among jumps o && is_among settings o) ≡ false }
     ensures move_or_setting { (o : ℕ) → (is_among moves o && is_among settings o) ≡ false }
+{}
+
+/// `==` holds exactly of the same opcode, and of the same condition.
+pub fn equality_is_of_the_name()
+    ensures opcodes { (o p : ℕ) → IsTrue (equal_opcodes o p) ↔ (o ≡ p) }
+    ensures codes { (c d : ConditionCode) → IsTrue (equal_codes c d) ↔ (c ≡ d) }
 {}

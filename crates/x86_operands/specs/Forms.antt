@@ -1,40 +1,274 @@
--- The records of the plain forms: what each asks behind its opcode byte, and what it gives.
-use Rattle.std.specs.Prelude.{ℕ, Bool, true, false, Option, Some, None}
-use Rattle.x86_regs.specs.declared.RegisterClass.TheVariants.{B}
+-- The records of the plain forms: what each asks behind its opcode byte, and what it gives. The letters are those of the Intel SDM,
+-- volume 2, appendix A.2: G and E are the operands of ModRM's reg and rm, M and U its memory and its register form, I an
+-- immediate, J a branch, O an address, X and Y the strings at rsi and rdi, Z the register of the opcode byte.
+use Rattle.std.specs.Prelude.{ℕ, ◌==◌, ◌&&◌, ◌||◌, nat_lt, not, Bool, if◌then◌else◌, Option, None}
+use Rattle.x86_regs.specs.declared.RegisterClass.{RegisterClass}
+use Rattle.x86_regs.specs.declared.RegisterClass.TheVariants.{B, W, D, Q, S, X}
+use Rattle.x86_regs.specs.declared.RegSpec.{RegSpec}
 use Rattle.x86_regs.specs.Class.{width_of}
 use Rattle.x86_fields.specs.declared.Prefixes.{Prefixes}
+use Rattle.x86_fields.specs.Raw.{rex_w, rex_b}
+use Rattle.x86_opcodes.specs.Names.{NOP, JECXZ, IRET, IRETD, IRETQ, MOVQ, PEXTRD, PEXTRQ, PINSRD, PINSRQ}
 use Rattle.x86_forms.specs.declared.Form.{Form}
 use Rattle.x86_forms.specs.declared.Form.TheVariants as form
 use Rattle.x86_forms.specs.declared.TableRow.{TableRow}
-use Rattle.x86_operands.specs.declared.plans.Sign.TheVariants.{G, E}
-use Rattle.x86_operands.specs.declared.plans.Signs.TheVariants.{Two}
+use Rattle.x86_operands.specs.declared.plans.RegisterSlot.{RegisterSlot}
+use Rattle.x86_operands.specs.declared.plans.RegisterSlot.TheVariants.{Reg, Rm, Third}
+use Rattle.x86_operands.specs.declared.plans.PointerSlot.{PointerSlot}
+use Rattle.x86_operands.specs.declared.plans.PointerSlot.TheVariants.{Deref, DerefEsi, DerefEdi, DerefRsi, DerefRdi}
+use Rattle.x86_operands.specs.declared.plans.Sign.{Sign}
+use Rattle.x86_operands.specs.declared.plans.Sign.TheVariants.{G, Gmm, E, Emm, M, U, Umm, Fixed, Pointer, I8, I16, I32, U8, U16, X16, ConstantU8}
+use Rattle.x86_operands.specs.declared.plans.Signs.TheVariants.{Zero, One, Two, Three}
 use Rattle.x86_operands.specs.declared.plans.Fault.{Fault}
-use Rattle.x86_operands.specs.declared.plans.Fault.TheVariants.{Incomplete}
-use Rattle.x86_operands.specs.declared.plans.Moment.TheVariants.{AtModRM}
+use Rattle.x86_operands.specs.declared.plans.Fault.TheVariants.{BadOperand, Incomplete}
+use Rattle.x86_operands.specs.declared.plans.Moment.TheVariants.{AtModRM, AfterAddress, AfterSuffix}
+use Rattle.x86_operands.specs.declared.plans.Mark.TheVariants.{SetsEs}
 use Rattle.x86_operands.specs.declared.plans.ModrmUse.{ModrmUse}
 use Rattle.x86_operands.specs.declared.plans.ModrmUse.TheVariants.{Absent, Fields}
 use Rattle.x86_operands.specs.declared.plans.Plan.{Plan}
-use Rattle.x86_operands.specs.Sizes.{v}
-use Rattle.x86_operands.specs.Plans.{RowRecord, reads, refuses}
+use Rattle.x86_fields.specs.Sizes.{v, vq, vd, dq}
+use Rattle.x86_operands.specs.Plans.{RowRecord, reads, refuses, refused, memory_only, register_only, is_memory, size_by, reg_number, register_at, accumulator_of, immediate_of}
+use Rattle.x86_operands.specs.FormSizes.{pointer_class, whole_immediate, push_immediate, address_sign, widening, doubling, nothing_size, call_size, return_size, port_size, far_class, far_size, duplicate_size, stream_size, scalar_size, extend_size, is_half_load, extract_size, insert_size, unpack_size}
 
--- the forms that are built
-abbrev pub fault_of : Form → Option Fault
-fault_of form.Eb_Gb = None
-fault_of form.Ev_Gv = None
-fault_of form.Gb_Eb = None
-fault_of form.Gv_Ev = None
-fault_of f = Some Incomplete
+-- ---- signs of these forms
 
-abbrev pub modrm_use : Form → ModrmUse
-modrm_use f = Fields
+-- the register of the opcode byte, in a slot
+abbrev pub z_in : RegisterSlot → ℕ → RegisterClass → Prefixes → Sign
+z_in slot n c p = Fixed slot (register_at n c p)
+
+abbrev pub dx_port : Sign
+dx_port = Fixed Rm (record { num = 2; class = W })
+
+abbrev pub dl_in_reg : Sign
+dl_in_reg = Fixed Reg (record { num = 2; class = B })
+
+abbrev pub dx_in_reg : Sign
+dx_in_reg = Fixed Reg (record { num = 2; class = W })
+
+abbrev pub cl_third : Sign
+cl_third = Fixed Third (record { num = 1; class = B })
+
+abbrev pub segment_register : ℕ → Sign
+segment_register n = Fixed Reg (record { num = n; class = S })
+
+-- memory at rsi or esi, and at rdi or edi
+abbrev pub at_rsi : PointerSlot → Prefixes → Sign
+at_rsi slot p = Pointer slot (record { num = 6; class = pointer_class p })
+
+abbrev pub at_rdi : PointerSlot → Prefixes → Sign
+at_rdi slot p = Pointer slot (record { num = 7; class = pointer_class p })
+
+-- the same in a slot of its own
+abbrev pub source_string : Prefixes → Sign
+source_string p = at_rsi (if p.address_size then DerefEsi else DerefRsi) p
+
+abbrev pub target_string : Prefixes → Sign
+target_string p = at_rdi (if p.address_size then DerefEdi else DerefRdi) p
+
+-- the strings of INS and OUTS, which 67 doesn't shorten
+abbrev pub wide_rsi : Sign
+wide_rsi = Pointer Deref (record { num = 6; class = Q })
+
+abbrev pub wide_rdi : Sign
+wide_rdi = Pointer Deref (record { num = 7; class = Q })
+
+abbrev pub sets_es : Plan → Plan
+sets_es plan = record plan { mark = SetsEs }
+
+-- the size of v
+abbrev pub size_v : Prefixes → ℕ
+size_v p = width_of (v p)
+
+-- this size in the memory form, and that of v in the register form
+abbrev pub or_v : ℕ → Prefixes → ℕ → ℕ
+or_v memory p m = size_by m memory (size_v p)
+
+-- ---- mm registers
+abbrev pub mm_plan : Form → ℕ → Prefixes → ℕ → Plan
+mm_plan form.G_xmm_E_mm o p m = reads o (Two (G X) Emm) (or_v 8 p m)
+mm_plan form.G_mm_E_xmm o p m = reads o (Two Gmm (E X)) (or_v 16 p m)
+mm_plan form.G_xmm_U_mm o p m = register_only m (reads o (Two (G X) Umm) (size_v p))
+mm_plan form.G_mm_U_xmm o p m = register_only m (reads o (Two Gmm (U X)) (size_v p))
+mm_plan form.G_U_mm o p m = register_only m (reads o (Two (G D) Umm) (size_v p))
+mm_plan form.G_E_mm o p m = reads o (Two Gmm Emm) (or_v (unpack_size o) p m)
+mm_plan form.G_mm_E o p m = reads o (Two Gmm Emm) (or_v 8 p m)
+mm_plan form.E_G_mm o p m = reads o (Two Emm Gmm) (or_v 8 p m)
+mm_plan form.G_E_mm_Ib o p m = reads o (Three Gmm Emm I8) (size_by m 8 0)
+mm_plan form.G_mm_Edq o p m = reads o (Two Gmm (E (dq p))) (size_v p)
+mm_plan form.Edq_G_mm o p m = reads o (Two (E (dq p)) Gmm) (or_v (width_of (dq p)) p m)
+mm_plan form.G_Mq_mm o p m = memory_only m (reads o (Two M Gmm) 8)
+mm_plan form.G_mm_U_mm o p m = register_only m (reads o (Two Gmm Umm) 8)
+mm_plan form.Rv_Gmm_Ib o p m = refused (is_memory m) BadOperand AfterSuffix (reads o (Three (G D) Umm U8) (size_v p))
+mm_plan form.G_mm_Ew_Ib o p m = reads o (Three Gmm (E D) I8) (or_v 2 p m)
+mm_plan f o p m = refuses Incomplete AtModRM
+
+-- ---- xmm registers
+abbrev pub xmm_plan : Form → ℕ → Prefixes → ℕ → Plan
+xmm_plan form.G_E_xmm o p m = reads o (Two (G X) (E X)) (or_v (duplicate_size o) p m)
+xmm_plan form.E_G_xmm o p m = reads o (Two (E X) (G X)) (or_v 16 p m)
+xmm_plan form.G_Ed_xmm o p m = reads o (Two (G X) (E X)) (or_v 4 p m)
+xmm_plan form.Ed_G_xmm o p m = reads o (Two (E X) (G X)) (or_v 4 p m)
+xmm_plan form.G_M_xmm o p m = memory_only m (reads o (Two (G X) M) 16)
+xmm_plan form.M_G_xmm o p m = memory_only m (reads o (Two M (G X)) (stream_size o))
+xmm_plan form.G_E_xmm_Ib o p m = reads o (Three (G X) (E X) I8) (or_v (scalar_size o) p m)
+xmm_plan form.G_E_xmm_Ub o p m = reads o (Three (G X) (E X) U8) (or_v 16 p m)
+xmm_plan form.PMOVX_G_E_xmm o p m = refused (is_half_load o && not (is_memory m)) BadOperand AtModRM (reads o (Two (G X) (E X)) (or_v (extend_size o) p m))
+xmm_plan form.PMOVX_E_G_xmm o p m = reads o (Two (E X) (G X)) (or_v 8 p m)
+xmm_plan form.MOVQ_f30f o p m = reads o (Two (G X) (E X)) (or_v 8 p m)
+xmm_plan form.Gdq_Eq_xmm o p m = reads o (Two (G (v p)) (E X)) (or_v 8 p m)
+xmm_plan form.Gv_E_xmm o p m = reads o (Two (G (v p)) (E X)) (or_v 4 p m)
+xmm_plan form.Gd_U_xmm o p m = register_only m (reads o (Two (G D) (U X)) (size_v p))
+xmm_plan form.G_U_xmm o p m = register_only m (reads o (Two (G X) (U X)) (size_v p))
+xmm_plan form.MASKMOVDQU o p m = register_only m (reads o (Two (G X) (U X)) 16)
+xmm_plan form.G_U_xmm_Ub o p m = register_only m (reads o (Three (G D) (U X) U8) (size_v p))
+xmm_plan form.Ev_G_xmm_Ib o p m = reads o (Three (E (v p)) (G X) U8) (extract_size o)
+xmm_plan form.Pextr_dq o p m = reads (if rex_w p then PEXTRQ else PEXTRD) (Three (E (v p)) (G X) U8) (if rex_w p then 8 else 4)
+xmm_plan form.G_Ev_xmm_Ib o p m = reads o (Three (G X) (E X) U8) (or_v (insert_size o) p m)
+xmm_plan form.Pinsr_dq o p m = reads (if rex_w p then PINSRQ else PINSRD) (Three (G X) (E X) U8) (or_v (if rex_w p then 8 else 4) p m)
+xmm_plan form.G_xmm_Ew_Ib o p m = reads o (Three (G X) (E D) U8) (or_v 2 p m)
+xmm_plan form.G_xmm_Edq o p m = reads o (Two (G X) (E (dq p))) (size_v p)
+xmm_plan form.Edq_G_xmm o p m = reads (if rex_w p then MOVQ else o) (Two (E (dq p)) (G X)) (or_v (width_of (dq p)) p m)
+xmm_plan f o p m = mm_plan f o p m
+
+-- ---- general registers
+abbrev pub general_plan : Form → ℕ → Prefixes → ℕ → Plan
+general_plan form.Eb_Gb o p m = reads o (Two (E B) (G B)) 1
+general_plan form.Gb_Eb o p m = reads o (Two (G B) (E B)) 1
+general_plan form.Ev_Gv o p m = reads o (Two (E (v p)) (G (v p))) (size_v p)
+general_plan form.Gv_Ev o p m = reads o (Two (G (v p)) (E (v p))) (size_v p)
+general_plan form.Gv_M o p m = memory_only m (reads o (Two (G (v p)) M) (size_v p))
+general_plan form.M_Gv o p m = memory_only m (reads o (Two M (G (v p))) (size_v p))
+general_plan form.Eb_R0 o p m = reads o (One (E B)) 1
+general_plan form.Ev o p m = reads o (One (E (v p))) (size_v p)
+general_plan form.Gv_Eb o p m = reads o (Two (G (v p)) (E B)) (size_by m 1 0)
+general_plan form.Gv_Ew o p m = reads o (Two (G (v p)) (E W)) (size_by m 2 0)
+general_plan form.Gdq_Ed o p m = reads o (Two (G Q) (E D)) (or_v 4 p m)
+general_plan form.Gd_Ed o p m = reads o (Two (G D) (E D)) (or_v 4 p m)
+general_plan form.Gdq_Ev o p m = reads o (Two (G (dq p)) (E (v p))) (or_v 4 p m)
+general_plan form.Gv_Ev_Ib o p m = reads o (Three (G (v p)) (E (v p)) I8) (size_v p)
+general_plan form.Gv_Ev_Iv o p m = reads o (Three (G (v p)) (E (v p)) (immediate_of (v p))) (size_v p)
+general_plan form.Ev_Gv_Ib o p m = reads o (Three (E (v p)) (G (v p)) I8) (size_v p)
+general_plan form.Ev_Gv_CL o p m = reads o (Three (E (v p)) (G (v p)) cl_third) (size_v p)
+general_plan form.Gv_Ew_LAR o p m = reads o (Two (G (v p)) (E (v p))) (or_v 2 p m)
+general_plan form.Gv_Ew_LSL o p m = reads o (Two (G (v p)) (E (vd p))) (or_v 2 p m)
+general_plan form.Ew_Sw o p m = refused (nat_lt 5 (reg_number m p)) BadOperand AfterAddress (reads o (Two (E D) (G S)) (or_v 2 p m))
+general_plan form.Sw_Ew o p m = refused (nat_lt 5 (reg_number m p) || (reg_number m p == 1)) BadOperand AfterAddress (reads o (Two (G S) (E W)) (or_v 2 p m))
+general_plan form.INV_Gv_M o p m = memory_only m (reads o (Two (G (far_class o p)) M) (far_size o p))
+general_plan form.MOVDIR64B o p m = memory_only m (reads o (Two (G (pointer_class p)) M) 64)
+general_plan form.Mdq_Gdq o p m = memory_only m (reads o (Two M (G (dq p))) (width_of (dq p)))
+general_plan form.G_E_q o p m = reads o (Two (G Q) (E Q)) (or_v 8 p m)
+general_plan form.E_G_q o p m = reads o (Two (E Q) (G Q)) (or_v 8 p m)
+general_plan f o p m = xmm_plan f o p m
+
+-- ---- no ModRM: accumulators, addresses and strings
+abbrev pub accumulator_plan : Form → ℕ → Prefixes → ℕ → Plan
+accumulator_plan form.AL_Ibs o p m = reads o (Two (accumulator_of B p) I8) 0
+accumulator_plan form.AX_Ivd o p m = reads o (Two (accumulator_of (v p) p) (immediate_of (v p))) 0
+accumulator_plan form.AL_Ib o p m = reads o (Two (accumulator_of B p) U8) 0
+accumulator_plan form.AX_Ib o p m = reads o (Two (accumulator_of (vd p) p) U8) 0
+accumulator_plan form.Ib_AL o p m = reads o (Two U8 (accumulator_of B p)) 0
+accumulator_plan form.Ib_AX o p m = reads o (Two U8 (accumulator_of (vd p) p)) 0
+accumulator_plan form.AL_DX o p m = reads o (Two (accumulator_of B p) dx_port) 0
+accumulator_plan form.AX_DX o p m = reads o (Two (accumulator_of (vd p) p) dx_port) 0
+accumulator_plan form.DX_AL o p m = reads o (Two dx_port (accumulator_of B p)) 0
+accumulator_plan form.DX_AX o p m = reads o (Two dx_port (accumulator_of (vd p) p)) 0
+accumulator_plan form.AL_Ob o p m = reads o (Two (accumulator_of B p) (address_sign p)) 1
+accumulator_plan form.AX_Ov o p m = reads o (Two (accumulator_of (v p) p) (address_sign p)) (size_v p)
+accumulator_plan form.Ob_AL o p m = reads o (Two (address_sign p) (accumulator_of B p)) 1
+accumulator_plan form.Ov_AX o p m = reads o (Two (address_sign p) (accumulator_of (v p) p)) (size_v p)
+accumulator_plan form.AL_Xb o p m = reads o (Two (accumulator_of B p) (at_rsi Deref p)) 1
+accumulator_plan form.AX_Xv o p m = reads o (Two (accumulator_of (v p) p) (at_rsi Deref p)) (size_v p)
+accumulator_plan form.Yb_AL o p m = sets_es (reads o (Two (at_rdi Deref p) (accumulator_of B p)) 1)
+accumulator_plan form.Yv_AX o p m = sets_es (reads o (Two (at_rdi Deref p) (accumulator_of (v p) p)) (size_v p))
+accumulator_plan form.Yb_Xb o p m = reads o (Two (target_string p) (source_string p)) 1
+accumulator_plan form.Yv_Xv o p m = reads o (Two (target_string p) (source_string p)) (size_v p)
+accumulator_plan form.Yb_DX o p m = reads o (Two wide_rdi dl_in_reg) 1
+accumulator_plan form.Yv_DX o p m = reads o (Two wide_rdi dx_in_reg) (port_size p)
+accumulator_plan form.DX_Xb o p m = reads o (Two dl_in_reg wide_rsi) 1
+accumulator_plan form.DX_Xv o p m = reads o (Two dx_in_reg wide_rsi) (port_size p)
+accumulator_plan f o p m = general_plan f o p m
+
+-- ---- no ModRM: the register of the opcode byte, immediates, and nothing
+
+-- XCHG with the accumulator; field 0 without B is NOP
+abbrev pub exchange_plan : ℕ → ℕ → Prefixes → Plan
+exchange_plan n o p = if (n == 0) && not (rex_b p) then reads NOP Zero 0 else reads o (Two (accumulator_of (v p) p) (z_in Rm n (v p) p)) 0
 
 abbrev pub form_plan : Form → ℕ → Prefixes → ℕ → Plan
-form_plan form.Eb_Gb o p m = reads o (Two (E B) (G B)) 1
-form_plan form.Ev_Gv o p m = reads o (Two (E (v p)) (G (v p))) (width_of (v p))
-form_plan form.Gb_Eb o p m = reads o (Two (G B) (E B)) 1
-form_plan form.Gv_Ev o p m = reads o (Two (G (v p)) (E (v p))) (width_of (v p))
-form_plan f o p m = refuses Incomplete AtModRM
+form_plan (form.Zv_R n) o p m = reads o (One (z_in Reg n (vq p) p)) 8
+form_plan (form.Zv_AX_R n) o p m = exchange_plan n o p
+form_plan (form.Zb_Ib_R n) o p m = reads o (Two (z_in Reg n B p) U8) 0
+form_plan (form.Zv_Ivq_R n) o p m = reads o (Two (z_in Reg n (v p) p) (whole_immediate (v p))) 0
+form_plan (form.Zv_B n) o p m = reads o (One (z_in Reg n (v p) p)) 0
+form_plan form.Nothing o p m = reads o Zero (nothing_size o)
+form_plan form.Ibs o p m = reads o (One I8) 0
+form_plan form.Jvds o p m = reads o (One I32) (call_size o)
+form_plan form.PushIbs o p m = reads o (One I8) 8
+form_plan form.PushIvs o p m = reads o (One (push_immediate p)) 8
+form_plan form.Ib o p m = reads o (One U8) 0
+form_plan form.I_3 o p m = reads o (One (ConstantU8 3)) 0
+form_plan form.I_1 o p m = reads o (One (ConstantU8 1)) 0
+form_plan form.Iw o p m = reads o (One U16) (return_size o)
+form_plan form.Iw_Ib o p m = reads o (Two X16 U8) 8
+form_plan form.CXZ o p m = reads (if p.address_size then JECXZ else o) (One I8) 0
+form_plan form.CVT_AA o p m = reads (widening (v p)) Zero 0
+form_plan form.CVT_DA o p m = reads (doubling (v p)) Zero 0
+form_plan form.Fw o p m = reads (if rex_w p then IRETQ else (if p.operand_size then IRET else IRETD)) Zero 0
+form_plan form.FS o p m = reads o (One (segment_register 4)) 8
+form_plan form.GS o p m = reads o (One (segment_register 5)) 8
+form_plan form.AH o p m = reads o Zero 0
+form_plan f o p m = accumulator_plan f o p m
 
--- the record of a row whose form is no group
+-- the plain forms that have no ModRM byte
+abbrev pub modrm_use : Form → ModrmUse
+modrm_use (form.Zv_R n) = Absent
+modrm_use (form.Zv_AX_R n) = Absent
+modrm_use (form.Zb_Ib_R n) = Absent
+modrm_use (form.Zv_Ivq_R n) = Absent
+modrm_use (form.Zv_B n) = Absent
+modrm_use form.Nothing = Absent
+modrm_use form.Ibs = Absent
+modrm_use form.Jvds = Absent
+modrm_use form.PushIbs = Absent
+modrm_use form.PushIvs = Absent
+modrm_use form.Ib = Absent
+modrm_use form.I_3 = Absent
+modrm_use form.I_1 = Absent
+modrm_use form.Iw = Absent
+modrm_use form.Iw_Ib = Absent
+modrm_use form.CXZ = Absent
+modrm_use form.AL_Ibs = Absent
+modrm_use form.AX_Ivd = Absent
+modrm_use form.AL_Ib = Absent
+modrm_use form.AX_Ib = Absent
+modrm_use form.Ib_AL = Absent
+modrm_use form.Ib_AX = Absent
+modrm_use form.AL_DX = Absent
+modrm_use form.AX_DX = Absent
+modrm_use form.DX_AL = Absent
+modrm_use form.DX_AX = Absent
+modrm_use form.AL_Ob = Absent
+modrm_use form.AX_Ov = Absent
+modrm_use form.Ob_AL = Absent
+modrm_use form.Ov_AX = Absent
+modrm_use form.AL_Xb = Absent
+modrm_use form.AX_Xv = Absent
+modrm_use form.Yb_AL = Absent
+modrm_use form.Yv_AX = Absent
+modrm_use form.Yb_Xb = Absent
+modrm_use form.Yv_Xv = Absent
+modrm_use form.Yb_DX = Absent
+modrm_use form.Yv_DX = Absent
+modrm_use form.DX_Xb = Absent
+modrm_use form.DX_Xv = Absent
+modrm_use form.CVT_AA = Absent
+modrm_use form.CVT_DA = Absent
+modrm_use form.Fw = Absent
+modrm_use form.FS = Absent
+modrm_use form.GS = Absent
+modrm_use form.AH = Absent
+modrm_use f = Fields
+
+-- The record of a row whose form is no group. No plain form refuses at the opcode.
 unfoldable pub form_record : TableRow → Prefixes → RowRecord
-form_record row p = record { at_opcode = fault_of row.form; modrm = modrm_use row.form; plan = λ m. form_plan row.form row.opcode p m }
+form_record row p = record { at_opcode = None; modrm = modrm_use row.form; plan = λ m. form_plan row.form row.opcode p m }

@@ -1,55 +1,52 @@
-//! The records of the plain forms.
-ghost use Rattle.std.specs.Prelude.{◌≡◌, ℕ, false};
+//! What a row asks whose form is no group.
+ghost use Rattle.std.specs.Prelude.{◌≡◌, false, None};
 ghost use Rattle.x86_arch.specs.Reader.{State};
 ghost use Rattle.x86_fields.specs.Steps.{outcome};
 ghost use Rattle.x86_forms.specs.Groups.{is_group_form};
 ghost use Rattle.x86_forms.specs.Words.{IsForm};
-ghost use Rattle.x86_operands.specs.Forms.{fault_of, modrm_use, form_plan, form_record};
+ghost use Rattle.x86_operands.specs.Forms.{modrm_use, form_record};
 ghost use Rattle.x86_operands.specs.Signs.{record_step};
 
-use crate::plans::{Fault, ModrmUse, Moment, Plan, Sign, Signs, reads, refuses};
-use crate::reader::{Reading, read_modrm, read_plan, refuse};
-use crate::sizes::v_class;
+use crate::bare_forms::form_plan;
+use crate::plans::ModrmUse;
+use crate::reader::{Reading, read_modrm, read_plan};
 use x86_arch::Reader;
 use x86_fields::{DecodeError, Prefixes};
 use x86_forms::{Form, TableRow};
-use x86_regs::RegisterClass;
 
-fn fault(form: Form) -> Option<Fault>
-    ensures { result ≡ fault_of form }
+fn modrm_use(form: Form) -> ModrmUse
+    ensures { result ≡ modrm_use form }
 {
     match form {
-        Form::Eb_Gb | Form::Ev_Gv | Form::Gb_Eb | Form::Gv_Ev => None,
-        _ => Some(Fault::Incomplete),
+        Form::Zv_R(_) | Form::Zv_AX_R(_) | Form::Zb_Ib_R(_) | Form::Zv_Ivq_R(_) | Form::Zv_B(_) =>
+            ModrmUse::Absent,
+        Form::Nothing | Form::AH | Form::CVT_AA | Form::CVT_DA | Form::Fw | Form::FS | Form::GS =>
+            ModrmUse::Absent,
+        Form::Ibs
+        | Form::Jvds
+        | Form::PushIbs
+        | Form::PushIvs
+        | Form::Ib
+        | Form::I_3
+        | Form::I_1
+        | Form::Iw
+        | Form::Iw_Ib
+        | Form::CXZ => ModrmUse::Absent,
+        Form::AL_Ibs | Form::AX_Ivd | Form::AL_Ib | Form::AX_Ib | Form::Ib_AL | Form::Ib_AX =>
+            ModrmUse::Absent,
+        Form::AL_DX | Form::AX_DX | Form::DX_AL | Form::DX_AX => ModrmUse::Absent,
+        Form::AL_Ob | Form::AX_Ov | Form::Ob_AL | Form::Ov_AX => ModrmUse::Absent,
+        Form::AL_Xb | Form::AX_Xv | Form::Yb_AL | Form::Yv_AX | Form::Yb_Xb | Form::Yv_Xv =>
+            ModrmUse::Absent,
+        Form::Yb_DX | Form::Yv_DX | Form::DX_Xb | Form::DX_Xv => ModrmUse::Absent,
+        _ => ModrmUse::Fields,
     }
 }
 
-fn modrm_use(_form: Form) -> ModrmUse
-    ensures { result ≡ modrm_use _form }
-{
-    ModrmUse::Fields
-}
-
-fn plan(row: TableRow, prefixes: &Prefixes) -> Plan
-    ensures { (m : ℕ) → result ≡ form_plan row.form row.opcode prefixes.now m }
-{
-    let v = v_class(prefixes);
-    match row.form {
-        Form::Eb_Gb => {
-            let signs = Signs::Two(Sign::E(RegisterClass::B), Sign::G(RegisterClass::B));
-            reads(row.opcode, signs, 1)
-        }
-        Form::Ev_Gv => reads(row.opcode, Signs::Two(Sign::E(v), Sign::G(v)), v.width()),
-        Form::Gb_Eb => {
-            let signs = Signs::Two(Sign::G(RegisterClass::B), Sign::E(RegisterClass::B));
-            reads(row.opcode, signs, 1)
-        }
-        Form::Gv_Ev => reads(row.opcode, Signs::Two(Sign::G(v), Sign::E(v)), v.width()),
-        _ => refuses(Fault::Incomplete, Moment::AtModRM),
-    }
-}
-
-/// Reads what a row asks behind its opcode byte, where its form is no group.
+/// Reads what a row asks behind its opcode byte, where its form is no group: ModRM, the memory operand, the immediates.
+///
+/// The bytes taken are exactly those that the record asks; after a refusal, those up to its moment; at
+/// `ExhaustedInput`, the pieces before the first that isn't whole.
 #[tactic(auto, unfolding(crate::specs::Forms::form_record, crate::specs::Signs::record_step))]
 pub fn read_form<T: Reader<u64, u8>>(
     words: &mut T,
@@ -60,7 +57,7 @@ pub fn read_form<T: Reader<u64, u8>>(
     requires carried { IsForm row.form }
     ensures { outcome result (T.state words.new) ≡ record_step (form_record row prefixes) prefixes (T.state words.old) }
 {
-    refuse(fault(row.form))?;
     let modrm = read_modrm(words, modrm_use(row.form))?;
-    read_plan(words, &plan(row, &prefixes), prefixes, modrm)
+    let plan = form_plan(row.form, row.opcode, &prefixes, modrm);
+    read_plan(words, &plan, prefixes, modrm)
 }

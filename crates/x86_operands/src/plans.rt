@@ -2,8 +2,7 @@
 ghost use Rattle.std.specs.Prelude.{◌≡◌, ◌<◌, ℕ};
 ghost use Rattle.x86_operands.specs.Plans.{is_memory, reads, named_by_suffix, refused, refuses, memory_only, register_only, size_by, reg_number, rm_number, register_at, accumulator_of, immediate_of};
 
-use crate::{extend, register};
-use x86_fields::Prefixes;
+use x86_fields::{Prefixes, extend};
 use x86_opcodes::Opcode;
 use x86_regs::{RegSpec, RegisterClass};
 
@@ -255,14 +254,14 @@ pub fn register_at(num: u8, class: RegisterClass, prefixes: &Prefixes) -> RegSpe
     requires { num < 8 }
     ensures { result ≡ register_at num class prefixes.now }
 {
-    register(class, prefixes, extend(prefixes.has_b(), num))
+    prefixes.register(class, extend(prefixes.has_b(), num))
 }
 
 /// Register 0 of a class.
 pub fn accumulator(class: RegisterClass, prefixes: &Prefixes) -> Sign
     ensures { result ≡ accumulator_of class prefixes.now }
 {
-    Sign::Fixed(RegisterSlot::Reg, register(class, prefixes, 0))
+    Sign::Fixed(RegisterSlot::Reg, prefixes.register(class, 0))
 }
 
 /// The immediate of a class v.

@@ -5,7 +5,6 @@ ghost use Rattle.x86_operands.specs.Signs.{slot_at, pointer_at, rm_operand, rm_m
 
 use crate::operands::{Operand, Slot};
 use crate::plans::{PointerSlot, RegisterSlot, Sign, reg_number, rm_number};
-use crate::register;
 use crate::shapes::shape;
 use x86_arch::Reader;
 use x86_fields::{DecodeError, Prefixes, Raw, read_u8, read_u16, read_u32, read_u64};
@@ -42,7 +41,7 @@ fn rm(class: RegisterClass, prefixes: &Prefixes, modrm: u8, memory: Option<Raw>)
 {
     match memory {
         None => {
-            let reg = register(class, prefixes, rm_number(modrm, prefixes));
+            let reg = prefixes.register(class, rm_number(modrm, prefixes));
             (Slot::Rm, Operand::Register { reg })
         }
         Some(raw) => shape(&raw),
@@ -74,7 +73,7 @@ pub fn read_sign<T: Reader<u64, u8>>(
 {
     match sign {
         Sign::G(class) => {
-            let reg = register(class, prefixes, reg_number(modrm, prefixes));
+            let reg = prefixes.register(class, reg_number(modrm, prefixes));
             Ok((Slot::Reg, Operand::Register { reg }))
         }
         Sign::Gmm => {

@@ -1,11 +1,14 @@
 //! What equality, order and hash of registers and classes say.
 
-ghost use Rattle.std.specs.Prelude.{◌≡◌, ◌↔◌, IsTrue};
+ghost use Rattle.std.specs.Prelude.{◌≡◌, ◌↔◌, ◌∷◌, [], IsTrue};
 ghost use Rattle.std.specs.Ordering.{ordering_then, nat_cmp};
 ghost use Rattle.std.specs.Cmp.{IsTotalOrder};
 ghost use Rattle.x86_regs.specs.Class.{code_of};
 
-use crate::{RegSpec, RegisterClass};
+use crate::register_class::{
+    B, CR, D, DR, EFLAGS, EIP, K, MM, Q, RB, RFLAGS, RIP, S, ST, W, X, Y, Z,
+};
+use crate::{MergeMode, RegSpec, RegisterClass, SaeMode, Segment};
 use std::cmp::Ordering;
 use std::hash::Hash;
 
@@ -35,4 +38,20 @@ pub fn classes_are_ordered()
 pub fn classes_are_equal()
     ensures exactly { (a b : RegisterClass) → IsTrue (⟦<RegisterClass as PartialEq>⟧.eq a b) ↔ (a ≡ b) }
     ensures hashed { (a b : RegisterClass) → IsTrue (⟦<RegisterClass as PartialEq>⟧.eq a b) → ⟦<RegisterClass as Hash>⟧.hash_input a ≡ ⟦<RegisterClass as Hash>⟧.hash_input b }
+{}
+
+/// Segments and modes are equal exactly where they are the same, and equal segments hash equally.
+pub fn modes_are_equal()
+    ensures segments { (a b : Segment) → IsTrue (⟦<Segment as PartialEq>⟧.eq a b) ↔ (a ≡ b) }
+    ensures hashed { (a b : Segment) → IsTrue (⟦<Segment as PartialEq>⟧.eq a b) → ⟦<Segment as Hash>⟧.hash_input a ≡ ⟦<Segment as Hash>⟧.hash_input b }
+    ensures merging { (a b : MergeMode) → IsTrue (⟦<MergeMode as PartialEq>⟧.eq a b) ↔ (a ≡ b) }
+    ensures rounding { (a b : SaeMode) → IsTrue (⟦<SaeMode as PartialEq>⟧.eq a b) ↔ (a ≡ b) }
+{}
+
+/// The constants are the classes of their names.
+pub fn constants_are_classes()
+    ensures general { (B ∷ W ∷ D ∷ RB ∷ Q ∷ []) ≡ (RegisterClass.B ∷ RegisterClass.W ∷ RegisterClass.D ∷ RegisterClass.RB ∷ RegisterClass.Q ∷ []) }
+    ensures system { (CR ∷ DR ∷ S ∷ []) ≡ (RegisterClass.CR ∷ RegisterClass.DR ∷ RegisterClass.S ∷ []) }
+    ensures vector { (X ∷ Y ∷ Z ∷ ST ∷ MM ∷ K ∷ []) ≡ (RegisterClass.X ∷ RegisterClass.Y ∷ RegisterClass.Z ∷ RegisterClass.ST ∷ RegisterClass.MM ∷ RegisterClass.K ∷ []) }
+    ensures pointers { (EIP ∷ RIP ∷ EFLAGS ∷ RFLAGS ∷ []) ≡ (RegisterClass.EIP ∷ RegisterClass.RIP ∷ RegisterClass.EFlags ∷ RegisterClass.RFlags ∷ []) }
 {}

@@ -1,0 +1,5 @@
+use Rattle.x86_decode.proofs.PrintedLaws.{empty_input}
+use Rattle.x86_decode.proofs.laws.empty_input.Goals as goal
+
+pub returns : goal.returns
+returns c = empty_input

@@ -1,0 +1,5 @@
+use Rattle.x86_decode.proofs.PrintedLaws.{fifteen_are_enough}
+use Rattle.x86_decode.proofs.laws.fifteen_are_enough.Goals as goal
+
+pub returns : goal.returns
+returns c = fifteen_are_enough

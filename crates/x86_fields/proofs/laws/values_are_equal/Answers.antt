@@ -1,0 +1,72 @@
+use Rattle.std.proofs.Common.{◌≡◌, Bool, true, false, ◌&&◌, ℕ, ℤ, Option, Some, None, rules, refl, sym, ap, ◌∙◌, true≢false}
+use Rattle.std.specs.Cmp.{booleans_Decides}
+use Rattle.std.proofs.lemmas.Bool.Decides.{Decides-eqb, Decides-int_eq}
+use Rattle.std.specs.Option.{option_eq}
+use Rattle.std.proofs.lemmas.Bool.{and_parts}
+use Rattle.x86_regs.specs.declared.Segment.{Segment}
+use Rattle.x86_fields.specs.declared.Prefixes.{Prefixes}
+use Rattle.x86_fields.specs.declared.PrefixRex.{PrefixRex}
+use Rattle.x86_fields.specs.declared.Raw.{Raw}
+use Rattle.x86_fields.specs.declared.Repeat.{Repeat}
+use Rattle.x86_fields.specs.contracts.PrefixesPartialEq.TheImpl as prefixes
+use Rattle.x86_fields.specs.contracts.PrefixesEq.TheImpl.Laws as prefixes_laws
+use Rattle.x86_fields.specs.contracts.RawPartialEq.TheImpl as raw
+use Rattle.x86_fields.specs.contracts.RawEq.TheImpl.Laws as raw_laws
+use Rattle.x86_regs.specs.contracts.SegmentPartialEq.TheImpl as segment
+use Rattle.x86_fields.specs.contracts.RepeatPartialEq.TheImpl as repeat
+use Rattle.x86_fields.specs.contracts.PrefixRexPartialEq.TheImpl as rex
+use Rattle.x86_fields.proofs.RunLemmas.{cong6, same_prefixes}
+use Rattle.x86_fields.proofs.laws.values_are_equal.Goals as goal
+
+option_same : {K : Type 0} (E : K → K → Bool) → ((x y : K) → E x y ≡ true → x ≡ y) → (p q : Option K) → option_eq E p q ≡ true → p ≡ q
+option_same E same None None h = refl
+option_same E same None (Some y) h = absurd (true≢false (sym h))
+option_same E same (Some x) None h = absurd (true≢false (sym h))
+option_same E same (Some x) (Some y) h = ap Some (same x y h)
+
+segment_same : (x y : Segment) → segment.ghosts.eq x y ≡ true → x ≡ y
+segment_same x y h = search rules
+
+repeat_same : (x y : Repeat) → repeat.ghosts.eq x y ≡ true → x ≡ y
+repeat_same x y h = search rules
+
+rex_same : (x y : PrefixRex) → rex.ghosts.eq x y ≡ true → x ≡ y
+rex_same x y h = search rules
+
+-- the fields of prefixes that are found equal
+prefixes_same : (a b : Prefixes) → prefixes.ghosts.eq a b ≡ true → a ≡ b
+prefixes_same a b h =
+    let h0 = and_parts _ _ h in
+    let h1 = and_parts _ _ h0.1 in
+    let h2 = and_parts _ _ h1.1 in
+    let h3 = and_parts _ _ h2.1 in
+    let h4 = and_parts _ _ h3.1 in
+    let operand : a.operand_size ≡ b.operand_size = (booleans_Decides a.operand_size b.operand_size).0 h0.0 in
+    let address : a.address_size ≡ b.address_size = (booleans_Decides a.address_size b.address_size).0 h1.0 in
+    let lock : a.lock ≡ b.lock = (booleans_Decides a.lock b.lock).0 h2.0 in
+    let repeat : a.repeat ≡ b.repeat = option_same repeat.ghosts.eq repeat_same a.repeat b.repeat h3.0 in
+    let segment : a.segment ≡ b.segment = segment_same a.segment b.segment h4.0 in
+    let rex : a.rex ≡ b.rex = option_same rex.ghosts.eq rex_same a.rex b.rex h4.1 in
+    same_prefixes operand address lock repeat segment rex
+
+pub returns-clause-prefixes : goal.returns-clause-prefixes
+returns-clause-prefixes c a b = (prefixes_same a b, λ e. ap (λ x. prefixes.ghosts.eq a x) (sym e) ∙ prefixes_laws.laws-law.refl a)
+
+raw_same : (a b : Raw) → raw.ghosts.eq a b ≡ true → a ≡ b
+raw_same a b h =
+    let h0 = and_parts _ _ h in
+    let h1 = and_parts _ _ h0.1 in
+    let h2 = and_parts _ _ h1.1 in
+    let h3 = and_parts _ _ h2.1 in
+    let h4 = and_parts _ _ h3.1 in
+    let rex_b : a.rex_b ≡ b.rex_b = (booleans_Decides a.rex_b b.rex_b).0 h0.0 in
+    let rex_x : a.rex_x ≡ b.rex_x = (booleans_Decides a.rex_x b.rex_x).0 h1.0 in
+    let address : a.address_size ≡ b.address_size = (booleans_Decides a.address_size b.address_size).0 h2.0 in
+    let modrm : a.modrm ≡ b.modrm = (Decides-eqb a.modrm b.modrm).0 h3.0 in
+    let sib : a.sib ≡ b.sib = option_same _ (λ x y. (Decides-eqb x y).0) a.sib b.sib h4.0 in
+    let disp : a.disp ≡ b.disp = (Decides-int_eq a.disp b.disp).0 h4.1 in
+    let make : Bool → Bool → Bool → ℕ → Option ℕ → ℤ → Raw = λ b x s m i d. record { rex_b = b; rex_x = x; address_size = s; modrm = m; sib = i; disp = d } in
+    cong6 make rex_b rex_x address modrm sib disp
+
+pub returns-clause-raw : goal.returns-clause-raw
+returns-clause-raw c a b = (raw_same a b, λ e. ap (λ x. raw.ghosts.eq a x) (sym e) ∙ raw_laws.laws-law.refl a)

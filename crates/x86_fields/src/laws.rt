@@ -1,0 +1,47 @@
+//! What prefixes, address forms and equality say, over the definitions alone.
+
+ghost use Rattle.std.specs.Prelude.{◌≡◌, ◌↔◌, ◌≤◌, ◌++◌, ◌||◌, ℕ, List, length, IsTrue, false, FitsSigned, Ok, Err};
+ghost use Rattle.std.specs.Int.{w32};
+ghost use Rattle.x86_arch.specs.Reader.{State, advanced};
+ghost use Rattle.x86_fields.specs.Address.{scale_by};
+ghost use Rattle.x86_fields.specs.Linear.{Linear, raw_form, IsSameAddress, IsReduced, AgreeEverywhere, AgreeAtUnits};
+ghost use Rattle.x86_fields.specs.Pieces.{SpellsRaw, IsReadRaw, sib_taken};
+ghost use Rattle.x86_fields.specs.Raw.{raw_step};
+ghost use Rattle.x86_fields.specs.Steps.{outcome};
+ghost use Rattle.x86_fields.specs.Run.{has_f2, has_f3, has_repeat};
+
+use crate::{DecodeError, PrefixRex, Prefixes, Raw};
+
+/// F2 and F3 are never in force together, and one of them is exactly where `rep_any` holds.
+pub fn repeats_exclude()
+    ensures never_both { (p : Prefixes) → IsTrue (has_f3 p) → has_f2 p ≡ false }
+    ensures one_of_them { (p : Prefixes) → has_repeat p ≡ (has_f3 p || has_f2 p) }
+{}
+
+/// Two reduced address forms of one modulus are the same address exactly where their values agree at every register
+/// file and next pointer. The zero file, the sixteen unit files and the unit next pointer show it.
+pub fn forms_are_their_values()
+    ensures exactly { (f g : Linear) → f.modulus ≡ g.modulus → IsReduced f → IsReduced g → IsSameAddress f g ↔ AgreeEverywhere f g }
+    ensures shown_by_units { (f g : Linear) → f.modulus ≡ g.modulus → IsReduced f → IsReduced g → AgreeAtUnits f g → IsSameAddress f g }
+{}
+
+/// What `read_raw` takes. It answers the fields that the bytes in front spell, wherever some do, and takes those bytes.
+/// It refuses for want of bytes alone, and has then taken a SIB that is asked and there, and nothing of a displacement.
+pub fn raw_fields_are_read()
+    ensures whole { (p : Prefixes) (modrm : ℕ) (s : State ℕ) (raw : Raw) → (raw_step p modrm s).answer ≡ Ok raw → IsReadRaw p modrm raw s (raw_step p modrm s).after }
+    ensures wherever { (p : Prefixes) (modrm : ℕ) (s : State ℕ) (bytes rest : List ℕ) (raw : Raw) → s.left ≡ bytes ++ rest → SpellsRaw p modrm bytes raw → raw_step p modrm s ≡ outcome (Ok raw) (advanced (length bytes) s) }
+    ensures short { (p : Prefixes) (modrm : ℕ) (s : State ℕ) (e : DecodeError) → (raw_step p modrm s).answer ≡ Err e → (e ≡ DecodeError.ExhaustedInput) × ((raw_step p modrm s).after ≡ advanced (sib_taken modrm s.left) s) }
+{}
+
+/// The address forms of raw fields are reduced, so that the law on forms speaks of any two of one modulus.
+pub fn raw_forms_are_reduced()
+    ensures { (raw : Raw) → scale_by raw.sib ≤ 8 → FitsSigned w32 raw.disp → IsReduced (raw_form raw) }
+{}
+
+/// Errors, prefixes and raw fields are equal exactly where all that their calls and fields tell is.
+pub fn values_are_equal()
+    ensures errors { (a b : DecodeError) → IsTrue (⟦<DecodeError as PartialEq>⟧.eq a b) ↔ (a ≡ b) }
+    ensures prefixes { (a b : Prefixes) → IsTrue (⟦<Prefixes as PartialEq>⟧.eq a b) ↔ (a ≡ b) }
+    ensures rex { (a b : PrefixRex) → IsTrue (⟦<PrefixRex as PartialEq>⟧.eq a b) ↔ (a ≡ b) }
+    ensures raw { (a b : Raw) → IsTrue (⟦<Raw as PartialEq>⟧.eq a b) ↔ (a ≡ b) }
+{}

@@ -1,0 +1,97 @@
+//! Little-endian numbers.
+
+ghost use Rattle.std.specs.Prelude.{◌≡◌, IsTrue};
+ghost use Rattle.std.specs.Int.{w8, w16, w32, w64};
+ghost use Rattle.x86_arch.specs.Reader.{State};
+ghost use Rattle.x86_fields.specs.Steps.{outcome, bytes_step, byte_step, number_step, num_step, signed_step, is_number_width, is_signed_width};
+
+use crate::DecodeError;
+use x86_arch::Reader;
+
+/// One byte.
+#[tactic(auto, unfolding(crate::specs::Steps::byte_step))]
+pub fn next_byte<T: Reader<u64, u8>>(words: &mut T) -> Result<u8, DecodeError>
+    ensures { outcome result (T.state words.new) ≡ byte_step (T.state words.old) }
+{
+    match words.next() {
+        Ok(byte) => Ok(byte),
+        Err(_) => Err(DecodeError::ExhaustedInput),
+    }
+}
+
+/// As many bytes as the array has.
+#[tactic(auto, unfolding(crate::specs::Steps::bytes_step))]
+pub fn next_bytes<const N: usize, T: Reader<u64, u8>>(words: &mut T) -> Result<[u8; N], DecodeError>
+    ensures { outcome result (T.state words.new) ≡ bytes_step N (T.state words.old) }
+{
+    let mut bytes = [0; N];
+    match words.next_n(&mut bytes) {
+        Ok(()) => Ok(bytes),
+        Err(_) => Err(DecodeError::ExhaustedInput),
+    }
+}
+
+/// A number of one byte.
+#[tactic(auto, unfolding(crate::specs::Steps::number_step))]
+pub fn read_u8<T: Reader<u64, u8>>(words: &mut T) -> Result<u8, DecodeError>
+    ensures { outcome result (T.state words.new) ≡ number_step w8 (T.state words.old) }
+{
+    let bytes = next_bytes::<1, T>(words)?;
+    Ok(u8::from_le_bytes(bytes))
+}
+
+/// A number of two bytes.
+#[tactic(auto, unfolding(crate::specs::Steps::number_step))]
+pub fn read_u16<T: Reader<u64, u8>>(words: &mut T) -> Result<u16, DecodeError>
+    ensures { outcome result (T.state words.new) ≡ number_step w16 (T.state words.old) }
+{
+    let bytes = next_bytes::<2, T>(words)?;
+    Ok(u16::from_le_bytes(bytes))
+}
+
+/// A number of four bytes.
+#[tactic(auto, unfolding(crate::specs::Steps::number_step))]
+pub fn read_u32<T: Reader<u64, u8>>(words: &mut T) -> Result<u32, DecodeError>
+    ensures { outcome result (T.state words.new) ≡ number_step w32 (T.state words.old) }
+{
+    let bytes = next_bytes::<4, T>(words)?;
+    Ok(u32::from_le_bytes(bytes))
+}
+
+/// A number of eight bytes.
+#[tactic(auto, unfolding(crate::specs::Steps::number_step))]
+pub fn read_u64<T: Reader<u64, u8>>(words: &mut T) -> Result<u64, DecodeError>
+    ensures { outcome result (T.state words.new) ≡ number_step w64 (T.state words.old) }
+{
+    let bytes = next_bytes::<8, T>(words)?;
+    Ok(u64::from_le_bytes(bytes))
+}
+
+/// A number of 1, 2, 4 or 8 bytes. Where fewer are left, none is taken.
+#[tactic(auto, unfolding(crate::specs::Steps::num_step))]
+pub fn read_num<T: Reader<u64, u8>>(words: &mut T, width: u8) -> Result<u64, DecodeError>
+    requires { IsTrue (is_number_width width) }
+    ensures { outcome result (T.state words.new) ≡ num_step width (T.state words.old) }
+{
+    let number = match width {
+        1 => read_u8(words)? as u64,
+        2 => read_u16(words)? as u64,
+        4 => read_u32(words)? as u64,
+        _ => read_u64(words)?,
+    };
+    Ok(number)
+}
+
+/// A signed number of 1, 2 or 4 bytes. Where fewer are left, none is taken.
+#[tactic(auto, unfolding(crate::specs::Steps::signed_step))]
+pub fn read_imm_signed<T: Reader<u64, u8>>(words: &mut T, width: u8) -> Result<i64, DecodeError>
+    requires { IsTrue (is_signed_width width) }
+    ensures { outcome result (T.state words.new) ≡ signed_step width (T.state words.old) }
+{
+    let number = match width {
+        1 => read_u8(words)?.cast_signed() as i64,
+        2 => read_u16(words)?.cast_signed() as i64,
+        _ => read_u32(words)?.cast_signed() as i64,
+    };
+    Ok(number)
+}

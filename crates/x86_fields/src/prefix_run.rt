@@ -1,0 +1,284 @@
+//! Runs of prefixes. Source: Intel SDM volume 2, sections 2.1.1 and 2.2.1.
+
+ghost use Rattle.std.specs.Prelude.{◌≡◌, ◌↔◌, ℕ, ◌∷◌, ◌++◌, List, [], IsTrue, false};
+ghost use Rattle.std.specs.List.{list_all};
+ghost use Rattle.x86_fields.specs.Run.{has_f2, has_f3, has_repeat, reading_of, rex_bits, is_legacy_byte, is_rex_byte, is_prefix_byte};
+ghost use Rattle.x86_fields.specs.Raw.{rex_w, rex_r, rex_x, rex_b};
+
+use crate::{PrefixRex, Prefixes, Repeat};
+use x86_regs::Segment;
+
+/// Whether the byte is a legacy prefix.
+pub fn is_legacy(byte: u8) -> bool
+    ensures { result ≡ is_legacy_byte byte }
+{
+    matches!(
+        byte,
+        0x66 | 0x67 | 0xf0 | 0xf2 | 0xf3 | 0x26 | 0x2e | 0x36 | 0x3e | 0x64 | 0x65
+    )
+}
+
+/// Whether the byte is a REX.
+pub fn is_rex(byte: u8) -> bool
+    ensures { result ≡ is_rex_byte byte }
+{
+    0x40 <= byte && byte < 0x50
+}
+
+impl PrefixRex {
+    fn of(byte: u8) -> PrefixRex
+        ensures { result ≡ rex_bits byte }
+    {
+        PrefixRex {
+            w: byte / 8 % 2 == 1,
+            r: byte / 4 % 2 == 1,
+            x: byte / 2 % 2 == 1,
+            b: byte % 2 == 1,
+        }
+    }
+
+    /// Whether operands have 64 bits.
+    pub fn w(&self) -> bool
+        ensures { result ≡ self.now.w }
+    {
+        self.w
+    }
+
+    /// The fourth bit of the reg field of ModRM.
+    pub fn r(&self) -> bool
+        ensures { result ≡ self.now.r }
+    {
+        self.r
+    }
+
+    /// The fourth bit of the index field of SIB.
+    pub fn x(&self) -> bool
+        ensures { result ≡ self.now.x }
+    {
+        self.x
+    }
+
+    /// The fourth bit of the rm field of ModRM, of the base field of SIB, or of a register in the opcode.
+    pub fn b(&self) -> bool
+        ensures { result ≡ self.now.b }
+    {
+        self.b
+    }
+}
+
+impl Prefixes {
+    /// Nothing is set, and the segment is DS.
+    pub fn none() -> Prefixes
+        ensures { result ≡ reading_of [] }
+    {
+        Prefixes {
+            operand_size: false,
+            address_size: false,
+            lock: false,
+            repeat: None,
+            segment: Segment::DS,
+            rex: None,
+        }
+    }
+
+    /// The effect of one more prefix byte. A REX is live only as the last byte of a run.
+    pub fn after(self, byte: u8) -> Prefixes
+        requires { IsTrue (is_prefix_byte byte) }
+        ensures { (run : List ℕ) → self ≡ reading_of run → result ≡ reading_of (run ++ byte ∷ []) }
+    {
+        let without = Prefixes { rex: None, ..self };
+        match byte {
+            0x66 => Prefixes {
+                operand_size: true,
+                ..without
+            },
+            0x67 => Prefixes {
+                address_size: true,
+                ..without
+            },
+            0xf0 => Prefixes {
+                lock: true,
+                ..without
+            },
+            0xf2 => Prefixes {
+                repeat: Some(Repeat::F2),
+                ..without
+            },
+            0xf3 => Prefixes {
+                repeat: Some(Repeat::F3),
+                ..without
+            },
+            0x64 => Prefixes {
+                segment: Segment::FS,
+                ..without
+            },
+            0x65 => Prefixes {
+                segment: Segment::GS,
+                ..without
+            },
+            0x40..=0x4f => Prefixes {
+                rex: Some(PrefixRex::of(byte)),
+                ..without
+            },
+            _ => without,
+        }
+    }
+
+    /// 66 is cleared.
+    pub fn without_operand_size(self) -> Prefixes
+        ensures { result ≡ record self { operand_size = false } }
+    {
+        Prefixes {
+            operand_size: false,
+            ..self
+        }
+    }
+
+    /// The segment is ES.
+    pub fn with_es(self) -> Prefixes
+        ensures { result ≡ record self { segment = Segment.ES } }
+    {
+        Prefixes {
+            segment: Segment::ES,
+            ..self
+        }
+    }
+
+    /// Whether F3 is in force.
+    pub fn rep(&self) -> bool
+        ensures { result ≡ has_f3 self.now }
+    {
+        matches!(self.repeat, Some(Repeat::F3))
+    }
+
+    /// Whether F2 is in force.
+    pub fn repnz(&self) -> bool
+        ensures { result ≡ has_f2 self.now }
+    {
+        matches!(self.repeat, Some(Repeat::F2))
+    }
+
+    /// Whether F2 or F3 is in force.
+    pub fn rep_any(&self) -> bool
+        ensures { result ≡ has_repeat self.now }
+    {
+        self.repeat.is_some()
+    }
+
+    /// Whether 66 is in force.
+    pub fn operand_size(&self) -> bool
+        ensures { result ≡ self.now.operand_size }
+    {
+        self.operand_size
+    }
+
+    /// Whether 67 is in force.
+    pub fn address_size(&self) -> bool
+        ensures { result ≡ self.now.address_size }
+    {
+        self.address_size
+    }
+
+    /// Whether F0 is in force.
+    pub fn lock(&self) -> bool
+        ensures { result ≡ self.now.lock }
+    {
+        self.lock
+    }
+
+    /// The segment that 64 or 65 chose, else DS.
+    pub fn segment(&self) -> Segment
+        ensures { result ≡ self.now.segment }
+    {
+        self.segment
+    }
+
+    /// Whether the segment is CS.
+    pub fn cs(&self) -> bool
+        ensures { IsTrue result ↔ (self.now.segment ≡ Segment.CS) }
+    {
+        self.segment == Segment::CS
+    }
+
+    /// Whether the segment is DS.
+    pub fn ds(&self) -> bool
+        ensures { IsTrue result ↔ (self.now.segment ≡ Segment.DS) }
+    {
+        self.segment == Segment::DS
+    }
+
+    /// Whether the segment is ES.
+    pub fn es(&self) -> bool
+        ensures { IsTrue result ↔ (self.now.segment ≡ Segment.ES) }
+    {
+        self.segment == Segment::ES
+    }
+
+    /// Whether the segment is FS.
+    pub fn fs(&self) -> bool
+        ensures { IsTrue result ↔ (self.now.segment ≡ Segment.FS) }
+    {
+        self.segment == Segment::FS
+    }
+
+    /// Whether the segment is GS.
+    pub fn gs(&self) -> bool
+        ensures { IsTrue result ↔ (self.now.segment ≡ Segment.GS) }
+    {
+        self.segment == Segment::GS
+    }
+
+    /// Whether the segment is SS.
+    pub fn ss(&self) -> bool
+        ensures { IsTrue result ↔ (self.now.segment ≡ Segment.SS) }
+    {
+        self.segment == Segment::SS
+    }
+
+    /// The bits of the REX that is live, if one is.
+    pub fn rex(&self) -> Option<PrefixRex>
+        ensures { result ≡ self.now.rex }
+    {
+        self.rex
+    }
+
+    /// Whether a live REX has W.
+    pub fn has_w(&self) -> bool
+        ensures { result ≡ rex_w self.now }
+    {
+        self.rex.is_some_and(|rex| rex.w)
+    }
+
+    /// Whether a live REX has R.
+    pub fn has_r(&self) -> bool
+        ensures { result ≡ rex_r self.now }
+    {
+        self.rex.is_some_and(|rex| rex.r)
+    }
+
+    /// Whether a live REX has X.
+    pub fn has_x(&self) -> bool
+        ensures { result ≡ rex_x self.now }
+    {
+        self.rex.is_some_and(|rex| rex.x)
+    }
+
+    /// Whether a live REX has B.
+    pub fn has_b(&self) -> bool
+        ensures { result ≡ rex_b self.now }
+    {
+        self.rex.is_some_and(|rex| rex.b)
+    }
+}
+
+/// The reading of a whole run.
+pub fn read_run(run: &[u8]) -> Prefixes
+    requires { IsTrue (list_all is_prefix_byte run.now) }
+    ensures { result ≡ reading_of run.now }
+{
+    let mut prefixes = Prefixes::none();
+    for byte in run {
+        prefixes = prefixes.after(*byte);
+    }
+    prefixes
+}

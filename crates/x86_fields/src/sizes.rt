@@ -1,0 +1,77 @@
+//! Classes of operands by prefixes. Source: Intel SDM volume 2, sections 2.2.1.2 and 3.1.1.3, and volume 1, section 3.6.1.
+
+ghost use Rattle.std.specs.Prelude.{◌≡◌, ◌<◌, None};
+ghost use Rattle.x86_fields.specs.Sizes.{v, vq, vd, dq, byte_register, register_of};
+
+use crate::Prefixes;
+use x86_regs::{RegSpec, RegisterClass};
+
+impl Prefixes {
+    /// Q under a live W, else W under 66, else D.
+    pub fn v_class(&self) -> RegisterClass
+        ensures { result ≡ v self.now }
+    {
+        if self.has_w() {
+            RegisterClass::Q
+        } else if self.operand_size {
+            RegisterClass::W
+        } else {
+            RegisterClass::D
+        }
+    }
+
+    /// W under 66, else Q.
+    pub fn vq_class(&self) -> RegisterClass
+        ensures { result ≡ vq self.now }
+    {
+        if self.operand_size {
+            RegisterClass::W
+        } else {
+            RegisterClass::Q
+        }
+    }
+
+    /// D under a live W or without 66, else W.
+    pub fn vd_class(&self) -> RegisterClass
+        ensures { result ≡ vd self.now }
+    {
+        if self.has_w() || !self.operand_size {
+            RegisterClass::D
+        } else {
+            RegisterClass::W
+        }
+    }
+
+    /// Q under a live W, else D.
+    pub fn dq_class(&self) -> RegisterClass
+        ensures { result ≡ dq self.now }
+    {
+        if self.has_w() {
+            RegisterClass::Q
+        } else {
+            RegisterClass::D
+        }
+    }
+
+    /// The byte register of a number: from 4 on `spl` with a live REX, and `ah` without.
+    pub fn byte_reg(&self, num: u8) -> RegSpec
+        requires number { num < 16 }
+        requires without_rex { self.now.rex ≡ None → num < 8 }
+        ensures { result ≡ byte_register self.now num }
+    {
+        self.register(RegisterClass::B, num)
+    }
+
+    /// The register of a class and a number, where class B stands for the byte registers.
+    pub fn register(&self, class: RegisterClass, num: u8) -> RegSpec
+        ensures { result ≡ register_of class self.now num }
+    {
+        match class {
+            RegisterClass::B if self.rex.is_some() && 4 <= num => RegSpec::of(
+                num,
+                RegisterClass::RB,
+            ),
+            other => RegSpec::of(num, other),
+        }
+    }
+}

@@ -1,0 +1,90 @@
+-- Sizes and classes that go by the opcode or by a form of its own. In a form that gives sizes for named opcodes alone, any other
+-- opcode has size 0.
+use Rattle.std.specs.Prelude.{ℕ, ◌&&◌, ◌||◌, ◌==◌, nat_lt, not, Bool, if◌then◌else◌, [], ◌∷◌}
+use Rattle.x86_regs.specs.declared.RegisterClass.{RegisterClass}
+use Rattle.x86_regs.specs.declared.RegisterClass.TheVariants.{W, D, Q}
+use Rattle.x86_fields.specs.declared.Prefixes.{Prefixes}
+use Rattle.x86_fields.specs.Raw.{rex_w}
+use Rattle.x86_opcodes.specs.Kinds.{is_among}
+use Rattle.x86_opcodes.specs.Names.{CALL, CMPSD, CMPSS, ROUNDSS, ROUNDSD, LFS, LGS, LSS, ENQCMD, ENQCMDS, MOVDDUP, MOVNTSS, MOVNTPS, MOVNTPD, MOVNTDQ, PEXTRB, PEXTRW, EXTRACTPS, PINSRB, INSERTPS, PMOVSXBQ, PMOVZXBQ, PMOVSXBD, PMOVZXBD, PMOVSXWQ, PMOVZXWQ, UCOMISS, COMISS, CVTSS2SD, MOVLPD, MOVHPD, PUNPCKLBW, PUNPCKLWD, PUNPCKLDQ, RETURN, RETF, PUSHF, POPF, LEAVE, XLAT, CBW, CWDE, CDQE, CWD, CDQ, CQO}
+use Rattle.x86_operands.specs.declared.plans.Sign.{Sign}
+use Rattle.x86_operands.specs.declared.plans.Sign.TheVariants.{I16, I32, I64Whole, Address32, Address64}
+use Rattle.x86_fields.specs.Sizes.{v}
+
+-- the class of an address register
+abbrev pub pointer_class : Prefixes → RegisterClass
+pointer_class p = if p.address_size then D else Q
+
+-- the immediate of a class v that has its whole width
+abbrev pub whole_immediate : RegisterClass → Sign
+whole_immediate W = I16
+whole_immediate Q = I64Whole
+whole_immediate c = I32
+
+-- the immediate of PUSH
+abbrev pub push_immediate : Prefixes → Sign
+push_immediate p = if p.operand_size && not (rex_w p) then I16 else I32
+
+-- an absolute address
+abbrev pub address_sign : Prefixes → Sign
+address_sign p = if p.address_size then Address32 else Address64
+
+-- the opcode of 98 and of 99, by the class v
+abbrev pub widening : RegisterClass → ℕ
+widening W = CBW
+widening Q = CDQE
+widening c = CWDE
+
+abbrev pub doubling : RegisterClass → ℕ
+doubling W = CWD
+doubling Q = CQO
+doubling c = CDQ
+
+abbrev pub nothing_size : ℕ → ℕ
+nothing_size o = if is_among (RETURN ∷ PUSHF ∷ POPF ∷ LEAVE ∷ []) o then 8 else (if o == RETF then 10 else (if o == XLAT then 1 else 0))
+
+abbrev pub call_size : ℕ → ℕ
+call_size o = if o == CALL then 8 else 0
+
+abbrev pub return_size : ℕ → ℕ
+return_size o = if o == RETURN then 8 else (if o == RETF then 10 else 0)
+
+abbrev pub port_size : Prefixes → ℕ
+port_size p = if p.operand_size then 2 else 4
+
+abbrev pub is_far_load : ℕ → Bool
+is_far_load o = is_among (LFS ∷ LGS ∷ LSS ∷ []) o
+
+abbrev pub far_class : ℕ → Prefixes → RegisterClass
+far_class o p = if is_far_load o then v p else Q
+
+abbrev pub far_size : ℕ → Prefixes → ℕ
+far_size o p =
+    if is_far_load o then (if rex_w p then 10 else (if p.operand_size then 4 else 6))
+    else (if is_among (ENQCMD ∷ ENQCMDS ∷ []) o then 64 else 16)
+
+abbrev pub duplicate_size : ℕ → ℕ
+duplicate_size o = if o == MOVDDUP then 8 else 16
+
+abbrev pub stream_size : ℕ → ℕ
+stream_size o = if o == MOVNTSS then 4 else (if is_among (MOVNTPS ∷ MOVNTPD ∷ MOVNTDQ ∷ []) o then 16 else 8)
+
+abbrev pub scalar_size : ℕ → ℕ
+scalar_size o = if is_among (CMPSS ∷ ROUNDSS ∷ []) o then 4 else (if is_among (CMPSD ∷ ROUNDSD ∷ []) o then 8 else 16)
+
+abbrev pub extend_size : ℕ → ℕ
+extend_size o =
+    if is_among (PMOVSXBQ ∷ PMOVZXBQ ∷ []) o then 2
+    else (if is_among (PMOVSXBD ∷ PMOVZXBD ∷ PMOVSXWQ ∷ PMOVZXWQ ∷ UCOMISS ∷ COMISS ∷ CVTSS2SD ∷ []) o then 4 else 8)
+
+abbrev pub is_half_load : ℕ → Bool
+is_half_load o = is_among (MOVLPD ∷ MOVHPD ∷ []) o
+
+abbrev pub extract_size : ℕ → ℕ
+extract_size o = if o == PEXTRB then 1 else (if o == PEXTRW then 2 else (if o == EXTRACTPS then 4 else 0))
+
+abbrev pub insert_size : ℕ → ℕ
+insert_size o = if o == PINSRB then 1 else (if o == INSERTPS then 4 else 0)
+
+abbrev pub unpack_size : ℕ → ℕ
+unpack_size o = if is_among (PUNPCKLBW ∷ PUNPCKLWD ∷ PUNPCKLDQ ∷ []) o then 4 else 8
