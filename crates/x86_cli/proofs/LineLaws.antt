@@ -5,10 +5,12 @@ use Rattle.std.specs.Prelude.{min, codes, ◌==◌, if◌then◌else◌}
 use Rattle.std.specs.List.{flat_map}
 use Rattle.std.proofs.lemmas.Grind.{flat_map-append}
 use Rattle.std.proofs.lemmas.List.{take_min, take_more, length-take-le}
+use Rattle.x86_stub.specs.declared.instruction.Instruction.{Instruction}
+use Rattle.x86_stub.specs.Operands.{operand_at}
 use Rattle.x86_stub.specs.declared.MemoryAccessSize.{MemoryAccessSize}
 use Rattle.x86_operands.specs.declared.operands.Operand.{Operand}
 use Rattle.x86_operands.specs.declared.operands.Operand.TheVariants as operand
-use Rattle.x86_cli.specs.Line.{operand_text, operands_text, joint_text, size_text}
+use Rattle.x86_cli.specs.Line.{operand_text, operands_text, shown_operands, joint_text, size_text}
 
 operands_push : (xs : List Operand) (n : ℕ) (o : Operand) → n ≡ length xs →
     operands_text xs ++ (joint_text n ++ operand_text o) ≡ operands_text (xs ++ o ∷ [])
@@ -39,6 +41,23 @@ pub no_size : (m : ℕ) (o : Option MemoryAccessSize) (s : MemoryAccessSize) →
 no_size zero o s e f = refl
 no_size (suc m) o s e f = let g : o ≡ Some s = e ∙ rw eqb-suc-zero refl in cc
 
--- as many as there are, or fewer
-pub take_enough : (xs : List Operand) (m n : ℕ) → m ≡ min n (length xs) → take m xs ≡ take n xs
-take_enough xs m n e = rw e (take_min n xs)
+-- the four places of an instruction
+
+pub four : Instruction → List Operand
+four i = operand_at i 0 ∷ operand_at i 1 ∷ operand_at i 2 ∷ operand_at i 3 ∷ []
+
+pub place_of_four : (i : Instruction) (k : ℕ) → k < 4 → operand_at i k ≡ get_or (four i) k operand.Nothing
+unfolding four
+place_of_four i zero lt = refl
+place_of_four i (suc zero) lt = refl
+place_of_four i (suc (suc zero)) lt = refl
+place_of_four i (suc (suc (suc zero))) lt = refl
+place_of_four i (suc (suc (suc (suc k)))) lt = absurd (omega (arith, lt))
+
+pub four_long : (i : Instruction) → length (four i) ≡ 4
+unfolding four
+four_long i = refl
+
+pub all_shown : (i : Instruction) (n : ℕ) → n ≡ min i.count 4 → take n (four i) ≡ shown_operands i
+unfolding four
+all_shown i n e = rw e (take_min i.count (four i))

@@ -9,6 +9,7 @@ use Rattle.x86_operands.specs.declared.operands.Operand.{Operand}
 use Rattle.x86_operands.specs.declared.operands.Operand.TheVariants as operand
 use Rattle.x86_stub.specs.declared.instruction.Instruction.{Instruction}
 use Rattle.x86_stub.specs.declared.DecodeError.{DecodeError}
+use Rattle.x86_stub.specs.Operands.{operand_at}
 use Rattle.x86_stub.specs.Answer.{description_of}
 use Rattle.x86_regs.specs.Names.{name_of}
 
@@ -98,11 +99,15 @@ operands_text (o ∷ os) = codes " " ++ operand_text o ++ flat_map (λ o. codes 
 abbrev pub size_text : ℕ → List ℕ
 size_text size = if size == 63 then codes "?" else decimal size
 
+-- the operands that an instruction has, of its four places
+abbrev pub shown_operands : Instruction → List Operand
+shown_operands i = take i.count (operand_at i 0 ∷ operand_at i 1 ∷ operand_at i 2 ∷ operand_at i 3 ∷ [])
+
 -- PLACE LENGTH MNEMONIC, the operands, and the size
 unfoldable pub instruction_text : ℕ → Instruction → List ℕ
 instruction_text place i =
     decimal place ++ codes " " ++ decimal i.length ++ codes " " ++ mnemonic_of i.opcode
-    ++ operands_text (take i.count i.operands) ++ codes " m" ++ size_text i.mem_size
+    ++ operands_text (shown_operands i) ++ codes " m" ++ size_text i.mem_size
 
 unfoldable pub refusal_text : ℕ → DecodeError → List ℕ
 refusal_text place error = decimal place ++ codes " error: " ++ description_of error

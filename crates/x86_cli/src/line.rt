@@ -4,7 +4,7 @@ ghost use Rattle.std.specs.Prelude.{ℕ, List, ◌≡◌, ◌+◌, ◌++◌, len
 ghost use Rattle.arrayvec.specs.ArrayVec.{array_vec_len};
 ghost use Rattle.x86_stub.specs.declared.instruction.Instruction.{Instruction};
 ghost use Rattle.x86_opcodes.specs.Mnemonics.{mnemonic_of};
-ghost use Rattle.x86_cli.specs.Line.{instruction_text, operands_text, joint_text, operand_text, deref_text, moved_text, index_text, moved_index_text, scaled_text, displacement_text, register_text, base_text, plus_text, size_text, refusal_text, bad_text};
+ghost use Rattle.x86_cli.specs.Line.{instruction_text, operands_text, shown_operands, joint_text, operand_text, deref_text, moved_text, index_text, moved_index_text, scaled_text, displacement_text, register_text, base_text, plus_text, size_text, refusal_text, bad_text};
 
 use arrayvec::ArrayVec;
 use itoa::{Buffer, Integer};
@@ -230,7 +230,7 @@ fn push_joint(line: &mut Line, number: u8)
 #[tactic(auto, unfolding(crate::specs::Line::operands_text))]
 fn push_operands(line: &mut Line, instruction: &Instruction)
     requires { array_vec_len line.old ≤ 58 }
-    ensures text { line.new.items ≡ line.old.items ++ operands_text (take instruction.now.count instruction.now.operands) }
+    ensures text { line.new.items ≡ line.old.items ++ operands_text (shown_operands instruction.now) }
     ensures short { array_vec_len line.new ≤ 186 }
 {
     let count = instruction.operand_count().min(4);

@@ -1,4 +1,5 @@
 ghost use Rattle.std.specs.Prelude.{◌≡◌, ◌<◌, ◌≤◌, ◌==◌, length, get_or, if◌then◌else◌, Some, None, [], ◌∷◌};
+ghost use Rattle.x86_stub.specs.Operands.{operand_at};
 ghost use Rattle.x86_stub.specs.declared.MemoryAccessSize.{MemoryAccessSize};
 ghost use Rattle.x86_operands.specs.declared.operands.Operand.{Operand};
 
@@ -23,17 +24,20 @@ impl Instruction {
     }
 
     pub fn operand_count(&self) -> u8
-        ensures value { result ≡ self.now.count }
-        ensures four { length self.now.operands ≡ 4 }
+        ensures { result ≡ self.now.count }
     {
         self.count
     }
 
     pub fn operand(&self, i: u8) -> Operand
         requires { i < 4 }
-        ensures { result ≡ get_or self.now.operands i Operand.Nothing }
+        ensures { result ≡ operand_at self.now i }
     {
-        self.operands[i as usize]
+        if i < self.count {
+            self.operands[i as usize]
+        } else {
+            Operand::Nothing
+        }
     }
 
     pub fn mem_size(&self) -> Option<MemoryAccessSize>
