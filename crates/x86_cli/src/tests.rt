@@ -98,17 +98,17 @@ fn ends_of_the_text(rt: HostRuntime) {
     );
 }
 
+fn is_usage(alloc: Global, texts: &[&str]) -> bool {
+    runs(alloc, texts, b"01 d8", &[], b"", Status::Usage)
+}
+
 #[test]
 fn words_matched_whole(rt: HostRuntime) {
-    for texts in [
-        [].as_slice(),
-        ["List"].as_slice(),
-        ["list", "strict"].as_slice(),
-        ["list", "--strict", ""].as_slice(),
-        ["--strict", "list"].as_slice(),
-    ] {
-        assert!(&rt; runs(rt.alloc(), texts, b"01 d8", &[], b"", Status::Usage));
-    }
+    assert!(&rt; is_usage(rt.alloc(), &[]));
+    assert!(&rt; is_usage(rt.alloc(), &["List"]));
+    assert!(&rt; is_usage(rt.alloc(), &["list", "strict"]));
+    assert!(&rt; is_usage(rt.alloc(), &["list", "--strict", ""]));
+    assert!(&rt; is_usage(rt.alloc(), &["--strict", "list"]));
     assert!(&rt; USAGE == "usage: list [--strict]");
 }
 
@@ -204,6 +204,13 @@ fn failing_sources(rt: HostRuntime) {
     );
 }
 
+/// Whether a run whose put with a number fails writes this and ends so.
+fn stops_at(words: &[String], fails: u64, written: &[u8], status: Status) -> bool {
+    let mut sink = ArraySink::<64>::new(fails);
+    run(words, &mut SoundSource::new(b"01 d8 01 d8"), &mut sink) == status
+        && sink.written() == written
+}
+
 #[test]
 fn failing_sinks(rt: HostRuntime) {
     let Ok(words) = words(rt.alloc(), &["list"]) else {
@@ -218,20 +225,10 @@ fn failing_sinks(rt: HostRuntime) {
         run(words, &mut SoundSource::new(b"01 d8 01 d8"), &mut between) == Status::WriteFault
     );
     assert!(&rt; between.written() == b"0 2 ADD eax, ebx m4\n2 2 ".as_slice());
-    let table: [(u64, &[u8], Status); 3] = [
-        (0, b"", Status::WriteFault),
-        (1, b"0 2 ADD eax, ebx m4\n", Status::WriteFault),
-        (
-            2,
-            b"0 2 ADD eax, ebx m4\n2 2 ADD eax, ebx m4\n",
-            Status::Done,
-        ),
-    ];
-    for (fails, written, status) in table {
-        let mut sink = ArraySink::<64>::new(fails);
-        assert!(&rt; run(words, &mut SoundSource::new(b"01 d8 01 d8"), &mut sink) == status);
-        assert!(&rt; sink.written() == written);
-    }
+    assert!(&rt; stops_at(words, 0, b"", Status::WriteFault));
+    assert!(&rt; stops_at(words, 1, b"0 2 ADD eax, ebx m4\n", Status::WriteFault));
+    let both: &[u8] = b"0 2 ADD eax, ebx m4\n2 2 ADD eax, ebx m4\n";
+    assert!(&rt; stops_at(words, 2, both, Status::Done));
     assert!(&rt; run(words, &mut SoundSource::new(b"01 d8"), &mut NullSink::new()) == Status::Done);
 }
 
