@@ -23,22 +23,38 @@ TOP = Path(__file__).resolve().parent.parent
 OPCODES = TOP / "crates" / "x86_opcodes"
 FORMS = TOP / "crates" / "x86_forms"
 
+MAPS = ["One", "Of", "Of38", "Of3a"]
 COLUMNS = ["Plain", "P66", "F3", "F2"]
 CARRIED = 8  # how many numbers a form with a field can carry
 NOTE = "Written by tools/tables.py from {}. The proof doesn't rest on that script: a wrong entry is refused."
 
 
-def names():
-    """The opcodes in the order of their numbers."""
+def lines_of(text, first, last, pattern):
+    """The lines between two lines, each read by the pattern; comments are left out."""
+    body = re.search(rf"^{first}\n(.*?)^{last}$", text, re.M | re.S).group(1)
+    for line in body.splitlines():
+        if line.strip().startswith(("--", "//")):
+            continue
+        read = re.fullmatch(pattern, line)
+        if read is None:
+            sys.exit(f"tables.py: not read: {line}")
+        yield read.groups()
+
+
+def spellings():
+    """The opcodes in the order of their numbers, each with its spelling."""
     text = (OPCODES / "specs" / "Mnemonics.antt").read_text()
-    return re.findall(r'^    is opcode\.(\w+) \(codes "\w+"\) ∷$', text, re.M)
+    return list(lines_of(text, "all_names =", r"    \[\]", r'    is opcode\.(\w+) \(codes "(\w+)"\) ∷'))
+
+
+def names():
+    return [name for name, _ in spellings()]
 
 
 def forms():
     """The forms in the order of their places, each with whether it carries a number."""
     text = (FORMS / "src" / "lib.rt").read_text()
-    variants = re.search(r"^pub enum Form \{\n(.*?)^\}", text, re.M | re.S).group(1)
-    return [(form, bool(field)) for form, field in re.findall(r"^    (\w+)(\(u8\))?,$", variants, re.M)]
+    return [(form, bool(field)) for form, field in lines_of(text, r"pub enum Form \{", r"\}", r"    (\w+)(\(u8\))?,")]
 
 
 def places():
@@ -53,17 +69,13 @@ def places():
 def rows():
     """The rows of each map: the columns, the byte, the opcode, the form and the number that it carries."""
     text = (FORMS / "specs" / "Rows.antt").read_text()
+    pattern = r"    in_(\w+) 0x(..) opcode\.(\w+) (?:form\.(\w+)|\(form\.(\w+) ([0-7])\)) ∷"
     answer = {}
-    for rows_of, body in re.findall(r"^rows_of_(\w+) =\n(.*?)^    \[\]$", text, re.M | re.S):
-        answer[rows_of] = []
-        for line in body.splitlines():
-            if line.strip().startswith("--"):
-                continue
-            row = re.fullmatch(r"    in_(\w+) 0x(..) opcode\.(\w+) (?:form\.(\w+)|\(form\.(\w+) ([0-7])\)) ∷", line)
-            if row is None:
-                sys.exit(f"tables.py: not read as a row: {line}")
-            columns, byte, opcode, form, carrying, number = row.groups()
-            answer[rows_of].append((columns, int(byte, 16), opcode, form or carrying, int(number or 0)))
+    for of in MAPS:
+        answer[of] = [
+            (columns, int(byte, 16), opcode, form or carrying, int(number or 0))
+            for columns, byte, opcode, form, carrying, number in lines_of(text, f"rows_of_{of} =", r"    \[\]", pattern)
+        ]
     return answer
 
 
@@ -104,7 +116,7 @@ def names_rt():
     lines += ["", "/// The numbers of the constants, each by its name.", f"pub(crate) const NUMBERS: &[u16; {count}] = &["]
     lines += [f"    Opcode::{name}.number," for name in names()] + ["];", ""]
     lines += ["/// The spellings in the order of the numbers.", f"pub(crate) const MNEMONICS: [&str; {count}] = ["]
-    return lines + [f'    "{name}",' for name in names()] + ["];"]
+    return lines + [f'    "{spelling}",' for _, spelling in spellings()] + ["];"]
 
 
 def places_antt():
@@ -140,12 +152,12 @@ def tables_rt():
     lines = ["//! The words of the rows, by the opcode byte: eight on a line, behind which the byte of the first stands.", "//!"]
     lines += ["//! The last two digits of a word are the form's place and 1, the digits before them the opcode's number.", "//!"]
     lines += ["//! " + NOTE.format("specs/Rows.antt")]
-    for rows_of, map_rows in rows().items():
-        if rows_of == "One":
+    for of, map_rows in rows().items():
+        if of == "One":
             lines += table("ONE", words(map_rows, "Plain"))
             continue
         for column in COLUMNS:
-            lines += table(f"{rows_of}_{column}".upper(), words(map_rows, column))
+            lines += table(f"{of}_{column}".upper(), words(map_rows, column))
     return lines
 
 

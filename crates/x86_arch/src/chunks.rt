@@ -15,6 +15,7 @@ pub struct ChunkReader<'a> {
 }
 
 impl<'a> ChunkReader<'a> {
+    /// The bytes of `first` are left, and then those of `rest`. A number may lie across the seam.
     pub fn new(first: &'a [u8], rest: &'a [u8]) -> ChunkReader<'a>
         requires { length first.now + length rest.now ≤ usize.MAX }
         ensures { ⟦<ChunkReader<'a> as Reader<u64, u8>>⟧.state result ≡ record { left = first.now ++ rest.now; since_mark = 0; since_made = 0 } }

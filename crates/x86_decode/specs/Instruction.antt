@@ -1,12 +1,17 @@
 -- Instructions: what a reading holds, with the length of its encoding.
-use Rattle.std.specs.Prelude.{ℕ, [], ◌∷◌, Result, Ok, Err}
-use Rattle.x86_opcodes.specs.Names.{Invalid}
+use Rattle.std.specs.Prelude.{ℕ, ◌==◌, ◌&&◌, ◌||◌, not, nat_lt, Bool, true, false, if◌then◌else◌, Option, Some, None, [], ◌∷◌, Result, Ok, Err, slice_index_or}
+use Rattle.x86_regs.specs.declared.Segment.{Segment}
+use Rattle.x86_regs.specs.declared.Segment.TheVariants.{DS, ES}
+use Rattle.x86_opcodes.specs.Names.{Invalid, MOVS, CMPS, XCHG, MOV}
 use Rattle.x86_fields.specs.declared.DecodeError.{DecodeError}
-use Rattle.x86_fields.specs.Run.{reading_of}
+use Rattle.x86_fields.specs.Run.{reading_of, has_f2, has_f3}
 use Rattle.x86_operands.specs.declared.reader.Reading.{Reading}
+use Rattle.x86_operands.specs.declared.operands.Slot.{Slot}
 use Rattle.x86_operands.specs.declared.operands.Slot.TheVariants as slots
+use Rattle.x86_operands.specs.declared.operands.Operand.{Operand}
 use Rattle.x86_operands.specs.declared.operands.Operand.TheVariants as operands
 use Rattle.x86_decode.specs.declared.instructions.Instruction.{Instruction}
+use Rattle.x86_decode.specs.declared.instructions.Shown.{Shown}
 
 -- what was read, in an encoding of this length
 abbrev pub instruction_of : Reading → ℕ → Instruction
@@ -36,3 +41,74 @@ invalid_instruction = record {
 abbrev pub holding : Instruction → Result (Unit {0}) DecodeError → Result Instruction DecodeError
 holding inst (Ok x) = Ok inst
 holding inst (Err e) = Err e
+
+-- ---- what an instruction is asked
+
+-- the slot and the operand at a place: nothing at the count and above
+abbrev pub slot_at : Instruction → ℕ → Slot
+slot_at i k = if nat_lt k i.count then slice_index_or i.slots k slots.Nothing else slots.Nothing
+
+abbrev pub operand_at : Instruction → ℕ → Operand
+operand_at i k = if nat_lt k i.count then slice_index_or i.operands k operands.Nothing else operands.Nothing
+
+-- the slots of memory operands
+abbrev pub is_memory_slot : Slot → Bool
+is_memory_slot slots.Nothing = false
+is_memory_slot slots.Reg = false
+is_memory_slot slots.Rm = false
+is_memory_slot slots.Third = false
+is_memory_slot slots.ImmI8 = false
+is_memory_slot slots.ImmU8 = false
+is_memory_slot slots.ImmI16 = false
+is_memory_slot slots.ImmU16 = false
+is_memory_slot slots.ImmI32 = false
+is_memory_slot slots.ImmI64 = false
+is_memory_slot slots.ImmInDisp = false
+is_memory_slot s = true
+
+abbrev pub is_rm_slot : Slot → Bool
+is_rm_slot slots.Rm = true
+is_rm_slot s = false
+
+-- a segment other than the default one
+abbrev pub unless_ds : Segment → Option Segment
+unless_ds DS = None
+unless_ds s = Some s
+
+-- the segment of the operand at a place, where it isn't the default one
+abbrev pub override_at : Instruction → ℕ → Option Segment
+override_at i k =
+    if i.opcode == MOVS then (if k == 0 then Some ES else (if k == 1 then Some i.prefixes.segment else None))
+    else (if i.opcode == CMPS then (if k == 0 then Some i.prefixes.segment else (if k == 1 then Some ES else None))
+    else (if is_memory_slot (slot_at i k) then unless_ds i.prefixes.segment else None))
+
+-- XCHG with neither slot 0 nor slot 1 a register of rm
+abbrev pub exchanges : Instruction → Bool
+exchanges i = (i.opcode == XCHG) && (not (is_rm_slot (slot_at i 0)) && not (is_rm_slot (slot_at i 1)))
+
+-- the slots of what MOV may store with a release: a register of reg, or a signed immediate
+abbrev pub is_release_slot : Slot → Bool
+is_release_slot slots.Reg = true
+is_release_slot slots.ImmI8 = true
+is_release_slot slots.ImmI16 = true
+is_release_slot slots.ImmI32 = true
+is_release_slot slots.ImmI64 = true
+is_release_slot s = false
+
+-- Source: Intel SDM volume 2, XACQUIRE/XRELEASE.
+abbrev pub acquires : Instruction → Bool
+acquires i = has_f2 i.prefixes && (i.prefixes.lock || exchanges i)
+
+abbrev pub releases : Instruction → Bool
+releases i = has_f3 i.prefixes && (i.prefixes.lock || (exchanges i || ((i.opcode == MOV) && (not (is_rm_slot (slot_at i 0)) && is_release_slot (slot_at i 1)))))
+
+-- what equality looks at: all but the length, and of slots and operands those below the count
+abbrev pub shown_of : Instruction → Shown
+shown_of i = record {
+  prefixes = i.prefixes;
+  opcode = i.opcode;
+  count = i.count;
+  mem_size = i.mem_size;
+  slots = slot_at i 0 ∷ slot_at i 1 ∷ slot_at i 2 ∷ slot_at i 3 ∷ [];
+  operands = operand_at i 0 ∷ operand_at i 1 ∷ operand_at i 2 ∷ operand_at i 3 ∷ [];
+}

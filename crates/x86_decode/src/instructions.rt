@@ -1,14 +1,24 @@
 //! Instructions, and what they are asked.
-ghost use Rattle.std.specs.Prelude.{◌≡◌, ℕ};
-ghost use Rattle.x86_decode.specs.Instruction.{instruction_of, invalid_instruction};
+ghost use Rattle.std.specs.Prelude.{◌≡◌, ◌<◌, ℕ, true, nat_lt};
+ghost use Rattle.std.specs.Cmp.{on_equiv, on_per};
+ghost use Rattle.std.specs.Ordering.{on};
+ghost use Rattle.x86_decode.specs.contracts.instructions.ShownPartialEq.TheImpl.Laws as shown_eq;
+ghost use Rattle.x86_decode.specs.contracts.instructions.ShownEq.TheImpl.Laws as shown_equivalence;
+ghost use Rattle.x86_decode.specs.Instruction.{instruction_of, invalid_instruction, slot_at, operand_at, shown_of, is_memory_slot, acquires, releases, exchanges, is_release_slot, is_rm_slot};
 
+use x86_arch::{AddressDiff, LengthedInstruction};
 use x86_fields::Prefixes;
 use x86_opcodes::Opcode;
 use x86_operands::{Operand, Reading, Slot};
 
-/// An instruction that was read.
-#[derive(Clone, Copy, PartialEq, Eq, Debug, Drop)]
+/// An instruction: prefixes, opcode, at most four operands with the slots that they come from, the size of what is read or
+/// written in memory, and the length of the encoding.
+///
+/// Two instructions are equal where all of this but the length is, so instructions from encodings of different length may be equal.
+#[derive(Clone, Copy, Debug, Drop)]
 pub struct Instruction {
+    /// What the prefixes select, with the changes that the operation makes: where 66 chooses the operation it is cleared. Nothing
+    /// ties this field to the operands once a caller has written to it.
     pub prefixes: Prefixes,
     opcode: Opcode,
     count: u8,
@@ -16,6 +26,17 @@ pub struct Instruction {
     operands: [Operand; 4],
     mem_size: u8,
     length: u64,
+}
+
+/// What equality looks at.
+#[derive(Clone, Copy, PartialEq, Eq, Drop)]
+struct Shown {
+    prefixes: Prefixes,
+    opcode: Opcode,
+    count: u8,
+    mem_size: u8,
+    slots: [Slot; 4],
+    operands: [Operand; 4],
 }
 
 /// What was read, in an encoding of this length.
@@ -35,6 +56,33 @@ pub fn of_reading(reading: Reading, length: u64) -> Instruction
     }
 }
 
+/// Whether a slot is that of a memory operand.
+pub fn is_memory(slot: Slot) -> bool
+    ensures { result ≡ is_memory_slot slot }
+{
+    match slot {
+        Slot::Nothing | Slot::Reg | Slot::Rm | Slot::Third => false,
+        Slot::ImmI8 | Slot::ImmU8 | Slot::ImmI16 | Slot::ImmU16 => false,
+        Slot::ImmI32 | Slot::ImmI64 | Slot::ImmInDisp => false,
+        _ => true,
+    }
+}
+
+fn is_rm(slot: Slot) -> bool
+    ensures { result ≡ is_rm_slot slot }
+{
+    matches!(slot, Slot::Rm)
+}
+
+fn is_release(slot: Slot) -> bool
+    ensures { result ≡ is_release_slot slot }
+{
+    matches!(
+        slot,
+        Slot::Reg | Slot::ImmI8 | Slot::ImmI16 | Slot::ImmI32 | Slot::ImmI64
+    )
+}
+
 impl Instruction {
     /// No instruction: opcode `Invalid`, no prefixes, no operand, memory size 0 and length 0.
     pub fn invalid() -> Instruction
@@ -49,5 +97,159 @@ impl Instruction {
             mem_size: 0,
             length: 0,
         }
+    }
+
+    /// The operation.
+    pub fn opcode(&self) -> Opcode
+        ensures { result ≡ self.now.opcode }
+    {
+        self.opcode
+    }
+
+    /// How many operands there are: at most 4.
+    pub fn operand_count(&self) -> u8
+        ensures { result ≡ self.now.count }
+    {
+        self.count
+    }
+
+    /// Whether there is an operand at a place, counted from 0.
+    pub fn operand_present(&self, i: u8) -> bool
+        requires { i < 4 }
+        ensures { result ≡ nat_lt i self.now.count }
+    {
+        i < self.count
+    }
+
+    /// The operand at a place, counted from 0; at the count and above it `Operand::Nothing`.
+    pub fn operand(&self, i: u8) -> Operand
+        requires { i < 4 }
+        ensures { result ≡ operand_at self.now i }
+    {
+        if i < self.count {
+            self.operands[i as usize]
+        } else {
+            Operand::Nothing
+        }
+    }
+
+    /// Where in the encoding the operand at a place comes from; at the count and above it `Slot::Nothing`.
+    pub fn slot(&self, i: u8) -> Slot
+        requires { i < 4 }
+        ensures { result ≡ slot_at self.now i }
+    {
+        if i < self.count {
+            self.slots[i as usize]
+        } else {
+            Slot::Nothing
+        }
+    }
+
+    /// XCHG with a memory operand.
+    fn exchanges_memory(&self) -> bool
+        ensures { result ≡ exchanges self.now }
+    {
+        self.opcode == Opcode::XCHG && !is_rm(self.slot(0)) && !is_rm(self.slot(1))
+    }
+
+    /// Whether F2 is a hint that the operation begins a critical section (Intel SDM volume 2, XACQUIRE/XRELEASE).
+    pub fn xacquire(&self) -> bool
+        ensures { result ≡ acquires self.now }
+    {
+        self.prefixes.repnz() && (self.prefixes.lock() || self.exchanges_memory())
+    }
+
+    /// Whether F3 is a hint that the operation ends a critical section (Intel SDM volume 2, XACQUIRE/XRELEASE).
+    pub fn xrelease(&self) -> bool
+        ensures { result ≡ releases self.now }
+    {
+        let stores = self.opcode == Opcode::MOV && !is_rm(self.slot(0)) && is_release(self.slot(1));
+        self.prefixes.rep() && (self.prefixes.lock() || self.exchanges_memory() || stores)
+    }
+
+    /// How many bytes the encoding has; 0 of the invalid instruction.
+    pub fn len(&self) -> AddressDiff<u64>
+        ensures { result ≡ record { amount = self.now.length } }
+    {
+        AddressDiff::from_const(self.length)
+    }
+
+    /// The length of the shortest instructions: 1.
+    pub fn min_size() -> AddressDiff<u64>
+        ensures { result ≡ record { amount = 1 } }
+    {
+        AddressDiff::from_const(1)
+    }
+
+    /// Always: no instruction is left open.
+    pub fn well_defined(&self) -> bool
+        ensures { result ≡ true }
+    {
+        true
+    }
+
+    fn shown(&self) -> Shown
+        ensures { result ≡ shown_of self.now }
+    {
+        Shown {
+            prefixes: self.prefixes,
+            opcode: self.opcode,
+            count: self.count,
+            mem_size: self.mem_size,
+            slots: [self.slot(0), self.slot(1), self.slot(2), self.slot(3)],
+            operands: [
+                self.operand(0),
+                self.operand(1),
+                self.operand(2),
+                self.operand(3),
+            ],
+        }
+    }
+}
+
+impl Default for Instruction {
+    /// `Instruction::invalid()`.
+    fn default() -> Instruction
+        ensures { result ≡ invalid_instruction }
+    {
+        Instruction::invalid()
+    }
+}
+
+impl PartialEq for Instruction {
+    ghost eq = { on shown_of ⟦<Shown as PartialEq>⟧.eq };
+
+    ghost laws = { on_per shown_of shown_eq.laws-law };
+
+    fn eq(&self, other: &Instruction) -> bool {
+        self.shown() == other.shown()
+    }
+}
+
+impl Eq for Instruction {
+    ghost laws = { on_equiv shown_of shown_equivalence.laws-law };
+}
+
+impl x86_arch::Instruction for Instruction {
+    ghost defined = { λ _. true };
+
+    fn well_defined(&self) -> bool {
+        Instruction::well_defined(self)
+    }
+}
+
+impl LengthedInstruction for Instruction {
+    type Unit = AddressDiff<u64>;
+
+    ghost length_of = { λ i. record { amount = i.length } };
+
+    ghost least = { record { amount = 1 } };
+
+    fn len(&self) -> AddressDiff<u64> {
+        Instruction::len(self)
+    }
+
+    fn min_size() -> AddressDiff<u64> {
+        Instruction::min_size()
     }
 }

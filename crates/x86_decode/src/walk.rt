@@ -6,11 +6,11 @@ ghost use Rattle.x86_fields.specs.Run.{is_prefix_byte};
 ghost use Rattle.x86_forms.specs.Words.{IsForm, rows_of};
 ghost use Rattle.x86_operands.specs.Signs.{record_step};
 ghost use Rattle.x86_decode.specs.Head.{column_of, is_vex, vex_error, seen};
-ghost use Rattle.x86_decode.specs.Grammar.{record_of, is_memory_slot, first_slot, lock_allowed};
+ghost use Rattle.x86_decode.specs.Grammar.{record_of, first_slot, lock_allowed};
 ghost use Rattle.x86_decode.specs.Walk.{head_step, escaped_step, opcode_step, body_step, walk_step, decode_step, is_exhausted};
 
 use crate::bounded::{Bounded, Start, takes_rest};
-use crate::instructions::{Instruction, of_reading};
+use crate::instructions::{Instruction, is_memory, of_reading};
 use std::marker::{Brand, PhantomData};
 use x86_arch::Reader;
 use x86_fields::{DecodeError, Prefixes, is_legacy, is_rex, next_byte};
@@ -114,18 +114,6 @@ fn seen_by(map: Map, byte: u8, prefixes: Prefixes) -> Prefixes
             }
         }
         _ => prefixes,
-    }
-}
-
-/// Whether a slot is that of a memory operand.
-fn is_memory(slot: Slot) -> bool
-    ensures { result ≡ is_memory_slot slot }
-{
-    match slot {
-        Slot::Nothing | Slot::Reg | Slot::Rm | Slot::Third => false,
-        Slot::ImmI8 | Slot::ImmU8 | Slot::ImmI16 | Slot::ImmU16 => false,
-        Slot::ImmI32 | Slot::ImmI64 | Slot::ImmInDisp => false,
-        _ => true,
     }
 }
 

@@ -1,5 +1,5 @@
-use Rattle.std.proofs.Common.{◌≡◌, ℕ, ◌<◌, ltb, subst, Bool, true, false, eqb, not, ◌&&◌, Option, Some, List, [], ◌∷◌, zero, suc, slice_get, refl, arith, ap, sym, ◌∙◌}
-use Rattle.std.proofs.lemmas.Bool.{and_parts, eqb-true, eq-eqb, not-true, ltb-true}
+use Rattle.std.proofs.Common.{◌≡◌, ℕ, ◌<◌, subst, Bool, true, false, eqb, not, ◌&&◌, Some, List, [], ◌∷◌, zero, suc, slice_get, refl, arith, ap, sym, ◌∙◌}
+use Rattle.std.proofs.lemmas.Bool.{and_parts, eqb-true, eq-eqb, not-true}
 use Rattle.x86_forms.specs.declared.Form.{Form}
 use Rattle.x86_forms.specs.declared.Form.TheVariants as form
 use Rattle.x86_forms.specs.declared.TableRow.{TableRow}
@@ -11,7 +11,7 @@ use Rattle.x86_forms.specs.contracts.FormPartialEq.TheImpl.Laws as laws
 use Rattle.x86_forms.specs.declared.places.TheConstants.{FORMS}
 use Rattle.x86_forms.specs.Equality.{equal_columns, equal_forms, equal_maps, equal_rows}
 use Rattle.x86_forms.specs.Places.{place_of}
-use Rattle.x86_forms.specs.Words.{carried, IsForm}
+use Rattle.x86_forms.specs.Words.{IsForm}
 use Rattle.x86_forms.proofs.FormLemmas.{at_place}
 
 both_true : (a b : Bool) → a ≡ true → b ≡ true → (a && b) ≡ true

@@ -1,1 +1,14 @@
+pub mod Choice
+pub mod Arithmetic
+pub mod Operations
+pub mod System
+pub mod Hints
+pub mod Fences
+pub mod Bits
+pub mod Shifts
+pub mod Moves
+pub mod Extract
+pub mod Keys
+pub mod ThreeDNow
+pub mod Floats
 pub mod Groups

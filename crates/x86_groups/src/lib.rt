@@ -6,46 +6,121 @@ ghost use Rattle.x86_arch.specs.Reader.{State};
 ghost use Rattle.x86_fields.specs.Steps.{outcome};
 ghost use Rattle.x86_forms.specs.Groups.{is_group_form};
 ghost use Rattle.x86_operands.specs.Signs.{record_step};
-ghost use Rattle.x86_groups.specs.Groups.{group_fault, group_modrm, group_plan, group_record};
+ghost use Rattle.x86_groups.specs.Groups.{form_plan, group_fault, group_modrm, group_record};
 
+mod arithmetic;
+mod bits;
+mod choice;
+mod fences;
+mod floats;
+mod hints;
+mod keys;
+mod moves;
+mod operations;
+mod shifts;
+mod system;
+
+use arithmetic::{plan_80, plan_81, plan_83, plan_c0, plan_c1, plan_d0, plan_d1, plan_d2, plan_d3, plan_f6, plan_f7};
+use bits::{plan_0fba, plan_0fc7};
+use fences::plan_0fae;
+use floats::{plan_d8, plan_d9, plan_da, plan_db, plan_dc, plan_dd, plan_de, plan_df};
+use hints::{plan_0f0d, plan_0f12, plan_0f16, plan_0f18, plan_f30f1e};
+use keys::{fault_f30f3af0, plan_0f0f, plan_f30f38d8, plan_f30f38dc, plan_f30f38dd, plan_f30f38de, plan_f30f38df, plan_f30f38fa, plan_f30f38fb, plan_f30f3af0};
+use moves::{plan_660f78, plan_cq_rq, plan_dq_rq, plan_f20f78, plan_rq_cq, plan_rq_dq};
+use operations::{plan_8f, plan_c6, plan_c7, plan_fe, plan_ff};
+use shifts::{plan_0f71, plan_0f72, plan_0f73};
+use system::{plan_0f00, plan_0f01};
 use x86_arch::Reader;
 use x86_fields::{DecodeError, Prefixes};
 use x86_forms::{Form, TableRow};
-use x86_operands::plans::{Fault, ModrmUse, Moment, Plan, Signs, reads, refused};
+use x86_opcodes::Opcode;
+use x86_operands::plans::{Fault, ModrmUse, Plan, Signs, reads};
 use x86_operands::{Reading, read_modrm, read_plan, refuse};
 
-fn fault(form: Form, _prefixes: &Prefixes) -> Option<Fault>
-    ensures { result ≡ group_fault form _prefixes.now }
+fn fault(form: Form, prefixes: &Prefixes) -> Option<Fault>
+    ensures { result ≡ group_fault form prefixes.now }
 {
-    if form.is_group() {
-        Some(Fault::Incomplete)
-    } else {
-        None
+    match form {
+        Form::ModRM_0xf30f3af0 => fault_f30f3af0(prefixes),
+        _ => None,
     }
 }
 
 fn modrm_use(form: Form) -> ModrmUse
     ensures { result ≡ group_modrm form }
 {
-    if form.is_group() {
-        ModrmUse::Fields
-    } else {
-        ModrmUse::Absent
+    match form {
+        Form::Rq_Cq_0 | Form::Rq_Dq_0 | Form::Cq_Rq_0 | Form::Dq_Rq_0 => ModrmUse::Registers,
+        _ => ModrmUse::Fields,
     }
 }
 
-fn plan(row: TableRow, _prefixes: &Prefixes, _modrm: u8, _strict: bool) -> Plan
-    ensures { result ≡ group_plan row _prefixes.now _modrm _strict }
+#[tactic(auto, unfolding(crate::specs::Groups::form_plan))]
+fn plan(form: Form, opcode: Opcode, strict: bool, prefixes: &Prefixes, modrm: u8) -> Plan
+    ensures { result ≡ form_plan form opcode strict prefixes.now modrm }
 {
-    refused(
-        row.form.is_group(),
-        Fault::Incomplete,
-        Moment::AtModRM,
-        reads(row.opcode, Signs::Zero, 0),
-    )
+    match form {
+        Form::ModRM_0x80 => plan_80(prefixes, modrm),
+        Form::ModRM_0x81 => plan_81(prefixes, modrm),
+        Form::ModRM_0x83 => plan_83(prefixes, modrm),
+        Form::ModRM_0x8f => plan_8f(prefixes, modrm),
+        Form::ModRM_0xc0 => plan_c0(prefixes, modrm),
+        Form::ModRM_0xc1 => plan_c1(prefixes, modrm),
+        Form::ModRM_0xc6 => plan_c6(prefixes, modrm),
+        Form::ModRM_0xc7 => plan_c7(prefixes, modrm),
+        Form::ModRM_0xd0 => plan_d0(prefixes, modrm),
+        Form::ModRM_0xd1 => plan_d1(prefixes, modrm),
+        Form::ModRM_0xd2 => plan_d2(prefixes, modrm),
+        Form::ModRM_0xd3 => plan_d3(prefixes, modrm),
+        Form::x87_d8 => plan_d8(prefixes, modrm),
+        Form::x87_d9 => plan_d9(prefixes, modrm),
+        Form::x87_da => plan_da(prefixes, modrm),
+        Form::x87_db => plan_db(prefixes, modrm),
+        Form::x87_dc => plan_dc(prefixes, modrm),
+        Form::x87_dd => plan_dd(prefixes, modrm),
+        Form::x87_de => plan_de(prefixes, modrm),
+        Form::x87_df => plan_df(prefixes, modrm),
+        Form::ModRM_0xf6 => plan_f6(prefixes, modrm),
+        Form::ModRM_0xf7 => plan_f7(prefixes, modrm),
+        Form::ModRM_0xfe => plan_fe(prefixes, modrm),
+        Form::ModRM_0xff => plan_ff(prefixes, modrm),
+        Form::ModRM_0x0f00 => plan_0f00(prefixes, modrm),
+        Form::ModRM_0x0f01 => plan_0f01(prefixes, modrm),
+        Form::ModRM_0x0f0d => plan_0f0d(prefixes, modrm),
+        Form::ModRM_0x0f0f => plan_0f0f(prefixes, modrm),
+        Form::ModRM_0x0f12 => plan_0f12(prefixes, modrm),
+        Form::ModRM_0x0f16 => plan_0f16(prefixes, modrm),
+        Form::ModRM_0x0f18 => plan_0f18(prefixes, modrm),
+        Form::Rq_Cq_0 => plan_rq_cq(opcode, prefixes, modrm),
+        Form::Rq_Dq_0 => plan_rq_dq(opcode, prefixes, modrm),
+        Form::Cq_Rq_0 => plan_cq_rq(opcode, prefixes, modrm),
+        Form::Dq_Rq_0 => plan_dq_rq(opcode, prefixes, modrm),
+        Form::ModRM_0x0f71 => plan_0f71(prefixes, modrm),
+        Form::ModRM_0x0f72 => plan_0f72(prefixes, modrm),
+        Form::ModRM_0x0f73 => plan_0f73(prefixes, modrm),
+        Form::ModRM_0x0fae => plan_0fae(strict, prefixes, modrm),
+        Form::ModRM_0x0fba => plan_0fba(prefixes, modrm),
+        Form::ModRM_0x0fc7 => plan_0fc7(prefixes, modrm),
+        Form::ModRM_0x660f78 => plan_660f78(prefixes, modrm),
+        Form::ModRM_0xf20f78 => plan_f20f78(prefixes, modrm),
+        Form::ModRM_0xf30f1e => plan_f30f1e(prefixes, modrm),
+        Form::ModRM_0xf30f38d8 => plan_f30f38d8(prefixes, modrm),
+        Form::ModRM_0xf30f38dc => plan_f30f38dc(prefixes, modrm),
+        Form::ModRM_0xf30f38dd => plan_f30f38dd(prefixes, modrm),
+        Form::ModRM_0xf30f38de => plan_f30f38de(prefixes, modrm),
+        Form::ModRM_0xf30f38df => plan_f30f38df(prefixes, modrm),
+        Form::ModRM_0xf30f38fa => plan_f30f38fa(prefixes, modrm),
+        Form::ModRM_0xf30f38fb => plan_f30f38fb(prefixes, modrm),
+        Form::ModRM_0xf30f3af0 => plan_f30f3af0(prefixes, modrm),
+        _ => reads(opcode, Signs::Zero, 0),
+    }
 }
 
 /// Reads what a row asks behind its opcode byte, where its form is a group.
+///
+/// `strict` chooses whether LFENCE, MFENCE and SFENCE are refused where rm isn't 0; nothing else depends on it. Of the errors
+/// come `InvalidOpcode` and `InvalidOperand` where the row's record refuses, `IncompleteDecoder` for 8F with a reg other than 0,
+/// and `ExhaustedInput`. After a refusal the bytes up to its moment are taken: none, ModRM, the address, or all.
 #[tactic(auto, unfolding(crate::specs::Groups::group_record, x86_operands::specs::Signs::record_step))]
 pub fn read_group<T: Reader<u64, u8>>(
     words: &mut T,
@@ -58,6 +133,6 @@ pub fn read_group<T: Reader<u64, u8>>(
 {
     refuse(fault(row.form, &prefixes))?;
     let modrm = read_modrm(words, modrm_use(row.form))?;
-    let plan = plan(row, &prefixes, modrm, strict);
+    let plan = plan(row.form, row.opcode, strict, &prefixes, modrm);
     read_plan(words, &plan, prefixes, modrm)
 }

@@ -1,4 +1,10 @@
 //! Operands and where they come from.
+ghost use Rattle.std.specs.Prelude.{◌≡◌, ◌==◌, ◌%◌, ◌<◌, ◌^◌, if◌then◌else◌, Some, None};
+ghost use Rattle.x86_fields.specs.Linear.{modulus_by};
+ghost use Rattle.x86_operands.specs.Linear.{operand_address};
+ghost use Rattle.x86_operands.specs.Operands.{is_memory_operand, is_memory_slot, operand_width};
+
+use x86_fields::{AddressParts, RegFile};
 use x86_regs::{MergeMode, RegSpec, SaeMode};
 
 /// An operand of an instruction. The masked and the sae variants can be built by hand; no instruction here has one.
@@ -145,4 +151,167 @@ pub enum Slot {
     IndexScaleDisp,
     BaseIndexScale,
     BaseIndexScaleDisp,
+}
+
+/// A memory size in bytes, as an instruction has it.
+#[derive(Clone, Copy, PartialEq, Eq, Debug, Drop)]
+pub struct MemoryAccessSize {
+    size: u8,
+}
+
+impl MemoryAccessSize {
+    pub fn new(size: u8) -> MemoryAccessSize
+        ensures { result ≡ record { size = size } }
+    {
+        MemoryAccessSize { size }
+    }
+
+    /// The size in bytes, or `None` where the processor decides it, as for the state that XSAVE stores.
+    pub fn bytes_size(&self) -> Option<u8>
+        ensures { result ≡ if self.now.size == 63 then None else Some self.now.size }
+    {
+        if self.size == 63 {
+            None
+        } else {
+            Some(self.size)
+        }
+    }
+}
+
+impl Slot {
+    /// Whether the slot is one of memory.
+    pub fn is_memory(&self) -> bool
+        ensures { result ≡ is_memory_slot self.now }
+    {
+        matches!(
+            *self,
+            Slot::DispU32
+                | Slot::DispU64
+                | Slot::Deref
+                | Slot::DerefEsi
+                | Slot::DerefEdi
+                | Slot::DerefRsi
+                | Slot::DerefRdi
+                | Slot::Disp
+                | Slot::IndexScale
+                | Slot::IndexScaleDisp
+                | Slot::BaseIndexScale
+                | Slot::BaseIndexScaleDisp
+        )
+    }
+}
+
+/// An address without an index.
+fn based(address_size: bool, base: Option<RegSpec>, disp: i32) -> AddressParts
+    ensures { result ≡ record { address_size = address_size; base = base; index = None; scale = 1; disp = disp } }
+{
+    AddressParts {
+        address_size,
+        base,
+        index: None,
+        scale: 1,
+        disp,
+    }
+}
+
+/// A number of 64 bits, or its low 32 bits.
+fn shortened(address: u64, address_size: bool) -> u64
+    ensures { result ≡ address % modulus_by address_size }
+{
+    if address_size {
+        address % 0x1_0000_0000
+    } else {
+        address
+    }
+}
+
+impl Operand {
+    /// Whether the operand is memory, masked memory among it.
+    pub fn is_memory(&self) -> bool
+        ensures { result ≡ is_memory_operand self.now }
+    {
+        matches!(
+            *self,
+            Operand::AbsoluteU32 { .. }
+                | Operand::AbsoluteU64 { .. }
+                | Operand::MemDeref { .. }
+                | Operand::Disp { .. }
+                | Operand::MemIndexScale { .. }
+                | Operand::MemIndexScaleDisp { .. }
+                | Operand::MemBaseIndexScale { .. }
+                | Operand::MemBaseIndexScaleDisp { .. }
+                | Operand::MemDerefMasked { .. }
+                | Operand::DispMasked { .. }
+                | Operand::MemIndexScaleMasked { .. }
+                | Operand::MemIndexScaleDispMasked { .. }
+                | Operand::MemBaseIndexScaleMasked { .. }
+                | Operand::MemBaseIndexScaleDispMasked { .. }
+        )
+    }
+
+    /// The width in bytes of a register or an immediate. Memory has none: its size is the instruction's.
+    pub fn width(&self) -> Option<u8>
+        ensures { result ≡ operand_width self.now }
+    {
+        match *self {
+            Operand::Register { reg } => Some(reg.width()),
+            Operand::RegisterMaskMerge { reg, .. } => Some(reg.width()),
+            Operand::ImmediateI8 { .. } | Operand::ImmediateU8 { .. } => Some(1),
+            Operand::ImmediateI16 { .. } | Operand::ImmediateU16 { .. } => Some(2),
+            Operand::ImmediateI32 { .. } | Operand::ImmediateU32 { .. } => Some(4),
+            Operand::ImmediateI64 { .. } | Operand::ImmediateU64 { .. } => Some(8),
+            _ => None,
+        }
+    }
+
+    /// The address of a memory operand, modulo 2^64, or modulo 2^32 where `address_size` (67) holds; `next` is the
+    /// address behind the instruction. `None` where the operand isn't memory or is masked.
+    ///
+    /// Segment bases are not added. Source: Intel SDM volume 1, section 3.7.5.
+    #[tactic(auto, using(crate::proofs::AddressLaws::absolute_value))]
+    pub fn address(&self, address_size: bool, regs: &RegFile, next: u64) -> Option<u64>
+        ensures { result ≡ operand_address address_size self.now regs.now.regs next }
+    {
+        let parts = match *self {
+            Operand::AbsoluteU64 { addr } => return Some(shortened(addr, address_size)),
+            Operand::AbsoluteU32 { addr } => based(address_size, None, addr.cast_signed()),
+            Operand::MemDeref { base } => based(address_size, Some(base), 0),
+            Operand::Disp { base, disp } => based(address_size, Some(base), disp),
+            Operand::MemIndexScale { index, scale } => AddressParts {
+                address_size,
+                base: None,
+                index: Some(index),
+                scale,
+                disp: 0,
+            },
+            Operand::MemIndexScaleDisp { index, scale, disp } => AddressParts {
+                address_size,
+                base: None,
+                index: Some(index),
+                scale,
+                disp,
+            },
+            Operand::MemBaseIndexScale { base, index, scale } => AddressParts {
+                address_size,
+                base: Some(base),
+                index: Some(index),
+                scale,
+                disp: 0,
+            },
+            Operand::MemBaseIndexScaleDisp {
+                base,
+                index,
+                scale,
+                disp,
+            } => AddressParts {
+                address_size,
+                base: Some(base),
+                index: Some(index),
+                scale,
+                disp,
+            },
+            _ => return None,
+        };
+        Some(parts.value(regs, next))
+    }
 }

@@ -1,5 +1,4 @@
-use Rattle.std.proofs.Common.{◌≡◌, None, ap, sym, ◌∙◌}
-use Rattle.x86_forms.specs.Words.{form_numbered}
+use Rattle.std.proofs.Common.{sym, ◌∙◌}
 use Rattle.x86_forms.proofs.WordLemmas.{form_at_number}
 use Rattle.x86_forms.proofs.form_of_number.Goals as goal
 

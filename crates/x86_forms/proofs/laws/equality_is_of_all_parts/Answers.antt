@@ -1,4 +1,4 @@
-use Rattle.std.proofs.Common.{◌≡◌, ap, sym, ◌∙◌}
+use Rattle.std.proofs.Common.{ap, sym, ◌∙◌}
 use Rattle.x86_forms.specs.Equality.{equal_columns, equal_forms, equal_maps, equal_rows}
 use Rattle.x86_forms.proofs.EqualLemmas.{reflexive, reflexive_columns, reflexive_maps, reflexive_rows, same_columns, same_maps, same_parts, same_rows}
 use Rattle.x86_forms.proofs.laws.equality_is_of_all_parts.Goals as goal

@@ -1,4 +1,4 @@
-use Rattle.std.proofs.Common.{◌≡◌, ℕ, Bool, true, false, cond, eqb, ◌||◌, List, [], ◌∷◌, ◌++◌, map, is_some, Some, refl, ap, ◌∙◌}
+use Rattle.std.proofs.Common.{◌≡◌, ℕ, true, false, cond, eqb, ◌||◌, List, [], ◌∷◌, ◌++◌, map, is_some, Some, refl, ap, ◌∙◌}
 use Rattle.x86_opcodes.specs.Kinds.{Conditional, conditional, condition_in, is_among, jumps, moves, settings}
 use Rattle.x86_opcodes.proofs.laws.condition_is_of_the_three_kinds.Goals as goal
 

@@ -1,0 +1,74 @@
+-- Arithmetic, shifts and rotations, chosen by reg. Source: Intel SDM volume 2, appendix A.4, groups 1, 2 and 3.
+use Rattle.std.specs.Prelude.{ℕ, nat_lt, pos, Bool, if◌then◌else◌, [], ◌∷◌}
+use Rattle.x86_regs.specs.declared.RegisterClass.TheVariants.{B}
+use Rattle.x86_regs.specs.Class.{width_of}
+use Rattle.x86_fields.specs.declared.Prefixes.{Prefixes}
+use Rattle.x86_fields.specs.Sizes.{v}
+use Rattle.x86_operands.specs.declared.plans.Sign.{Sign}
+use Rattle.x86_operands.specs.declared.plans.Sign.TheVariants.{E, I8, Fixed, ConstantI8}
+use Rattle.x86_operands.specs.declared.plans.Signs.TheVariants.{One, Two}
+use Rattle.x86_operands.specs.declared.plans.Plan.{Plan}
+use Rattle.x86_operands.specs.Plans.{reads, immediate_of}
+use Rattle.x86_operands.specs.declared.plans.RegisterSlot.TheVariants as place
+use Rattle.x86_opcodes.specs.Names.{ADD, OR, ADC, SBB, AND, SUB, XOR, CMP, ROL, ROR, RCL, RCR, SHL, SHR, SAL, SAR, TEST, NOT, NEG, MUL, IMUL, DIV, IDIV}
+use Rattle.x86_groups.specs.Choice.{named_by_reg, reg}
+
+abbrev pub arithmetic_name : ℕ → ℕ
+arithmetic_name m = named_by_reg (ADD ∷ OR ∷ ADC ∷ SBB ∷ AND ∷ SUB ∷ XOR ∷ CMP ∷ []) m
+
+unfoldable pub plan_80 : Prefixes → ℕ → Plan
+plan_80 p m = reads (arithmetic_name m) (Two (E B) I8) 1
+
+unfoldable pub plan_81 : Prefixes → ℕ → Plan
+plan_81 p m = reads (arithmetic_name m) (Two (E (v p)) (immediate_of (v p))) (width_of (v p))
+
+unfoldable pub plan_83 : Prefixes → ℕ → Plan
+plan_83 p m = reads (arithmetic_name m) (Two (E (v p)) I8) (width_of (v p))
+
+abbrev pub rotation_name : ℕ → ℕ
+rotation_name m = named_by_reg (ROL ∷ ROR ∷ RCL ∷ RCR ∷ SHL ∷ SHR ∷ SAL ∷ SAR ∷ []) m
+
+-- the count is an immediate, 1 without a byte, or cl
+abbrev pub one : Sign
+one = ConstantI8 (pos 1)
+
+abbrev pub cl : Sign
+cl = Fixed place.Reg (record { num = 1; class = B })
+
+-- the first operand is a byte, or of class v
+abbrev pub rotates_byte : Sign → ℕ → Plan
+rotates_byte count m = reads (rotation_name m) (Two (E B) count) 1
+
+abbrev pub rotates_word : Sign → Prefixes → ℕ → Plan
+rotates_word count p m = reads (rotation_name m) (Two (E (v p)) count) (width_of (v p))
+
+unfoldable pub plan_c0 : Prefixes → ℕ → Plan
+plan_c0 p m = rotates_byte I8 m
+
+unfoldable pub plan_c1 : Prefixes → ℕ → Plan
+plan_c1 p m = rotates_word I8 p m
+
+unfoldable pub plan_d0 : Prefixes → ℕ → Plan
+plan_d0 p m = rotates_byte one m
+
+unfoldable pub plan_d1 : Prefixes → ℕ → Plan
+plan_d1 p m = rotates_word one p m
+
+unfoldable pub plan_d2 : Prefixes → ℕ → Plan
+plan_d2 p m = rotates_byte cl m
+
+unfoldable pub plan_d3 : Prefixes → ℕ → Plan
+plan_d3 p m = rotates_word cl p m
+
+abbrev pub test_name : ℕ → ℕ
+test_name m = named_by_reg (TEST ∷ TEST ∷ NOT ∷ NEG ∷ MUL ∷ IMUL ∷ DIV ∷ IDIV ∷ []) m
+
+-- TEST, which is /0 and /1, has an immediate
+abbrev pub is_test : ℕ → Bool
+is_test m = nat_lt (reg m) 2
+
+unfoldable pub plan_f6 : Prefixes → ℕ → Plan
+plan_f6 p m = reads (test_name m) (if is_test m then Two (E B) I8 else One (E B)) 1
+
+unfoldable pub plan_f7 : Prefixes → ℕ → Plan
+plan_f7 p m = reads (test_name m) (if is_test m then Two (E (v p)) (immediate_of (v p)) else One (E (v p))) (width_of (v p))

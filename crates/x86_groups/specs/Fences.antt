@@ -1,0 +1,82 @@
+-- 0F AE: fences, saved states, cache lines, waits, and the bases of FS and GS. Source: Intel SDM volume 2, appendix A.4, group 15.
+use Rattle.std.specs.Prelude.{ℕ, ◌==◌, Bool, not, ◌&&◌, if◌then◌else◌, [], ◌∷◌, slice_index_or}
+use Rattle.x86_regs.specs.declared.RegisterClass.TheVariants.{D, Q}
+use Rattle.x86_regs.specs.Class.{width_of}
+use Rattle.x86_fields.specs.declared.Prefixes.{Prefixes}
+use Rattle.x86_fields.specs.Run.{has_f2, has_f3}
+use Rattle.x86_fields.specs.Sizes.{dq}
+use Rattle.x86_operands.specs.declared.plans.Sign.TheVariants.{E, Fixed}
+use Rattle.x86_operands.specs.declared.plans.Signs.TheVariants.{One}
+use Rattle.x86_operands.specs.declared.plans.Mark.TheVariants.{ClearsOperandSize}
+use Rattle.x86_operands.specs.declared.plans.Plan.{Plan}
+use Rattle.x86_operands.specs.Plans.{is_memory, reads, size_by, rm_number}
+use Rattle.x86_operands.specs.declared.plans.RegisterSlot.TheVariants as place
+use Rattle.x86_opcodes.specs.Names.{CLWB, CLFLUSH, CLFLUSHOPT, TPAUSE, UMWAIT, PTWRITE, RDFSBASE, RDGSBASE, WRFSBASE, WRGSBASE, INCSSP, UMONITOR, CLRSSBSY, FXSAVE, XSAVE, FXRSTOR, XRSTOR, LDMXCSR, STMXCSR, XSAVEOPT, LFENCE, MFENCE, SFENCE}
+use Rattle.x86_groups.specs.Choice.{bad_opcode, bad_operand, bare, named_by_reg, on_memory, on_register, reg, rm}
+
+-- 66 alone: the answer's prefixes show 66 cleared
+abbrev pub clears_operand_size : Plan → Plan
+clears_operand_size plan = record plan { mark = ClearsOperandSize }
+
+abbrev pub operand_size_0fae : Prefixes → ℕ → Plan
+operand_size_0fae p m =
+    if is_memory m then
+        (if reg m == 6 then on_memory CLWB 64
+        else (if reg m == 7 then on_memory CLFLUSHOPT 64
+        else bad_opcode))
+    else (if reg m == 6 then on_register TPAUSE D else bad_opcode)
+
+-- UMWAIT has its register, numbered by rm with B, in the slot of reg.
+unfoldable pub f2_0fae : Prefixes → ℕ → Plan
+f2_0fae p m =
+    if is_memory m then bad_operand
+    else (if reg m == 6 then reads UMWAIT (One (Fixed place.Reg (record { num = rm_number m p; class = D }))) 0
+    else bad_opcode)
+
+-- F3, /4: memory or a register
+unfoldable pub trace_0fae : Prefixes → ℕ → Plan
+trace_0fae p m =
+    if p.operand_size then bad_opcode
+    else reads PTWRITE (One (E (dq p))) (size_by m (width_of (dq p)) 0)
+
+abbrev pub f3_register_0fae : Prefixes → ℕ → Plan
+f3_register_0fae p m =
+    if reg m == 0 then on_register RDFSBASE (dq p)
+    else (if reg m == 1 then on_register RDGSBASE (dq p)
+    else (if reg m == 2 then on_register WRFSBASE (dq p)
+    else (if reg m == 3 then on_register WRGSBASE (dq p)
+    else (if reg m == 5 then on_register INCSSP (dq p)
+    else (if reg m == 6 then on_register UMONITOR Q
+    else bad_opcode)))))
+
+unfoldable pub f3_0fae : Prefixes → ℕ → Plan
+f3_0fae p m =
+    if reg m == 4 then trace_0fae p m
+    else (if is_memory m then (if reg m == 6 then on_memory CLRSSBSY 8 else bad_operand)
+    else f3_register_0fae p m)
+
+-- a fence: under the strict choice a fence whose rm isn't 0 is refused
+unfoldable pub fence : Bool → ℕ → ℕ → Plan
+fence strict opcode m = if strict && not (rm m == 0) then bad_operand else bare opcode
+
+-- the size of a saved state is the processor's choice, which 63 stands for
+abbrev pub state_name : ℕ → ℕ
+state_name m = named_by_reg (FXSAVE ∷ FXRSTOR ∷ LDMXCSR ∷ STMXCSR ∷ XSAVE ∷ XRSTOR ∷ XSAVEOPT ∷ CLFLUSH ∷ []) m
+
+abbrev pub state_size : ℕ → ℕ
+state_size m = slice_index_or (63 ∷ 63 ∷ 4 ∷ 4 ∷ 63 ∷ 63 ∷ 63 ∷ 64 ∷ []) (reg m) 63
+
+unfoldable pub plain_0fae : Bool → ℕ → Plan
+plain_0fae strict m =
+    if is_memory m then on_memory (state_name m) (state_size m)
+    else (if reg m == 5 then fence strict LFENCE m
+    else (if reg m == 6 then fence strict MFENCE m
+    else (if reg m == 7 then fence strict SFENCE m
+    else bad_opcode)))
+
+unfoldable pub plan_0fae : Bool → Prefixes → ℕ → Plan
+plan_0fae strict p m =
+    if has_f2 p then f2_0fae p m
+    else (if has_f3 p then f3_0fae p m
+    else (if p.operand_size then clears_operand_size (operand_size_0fae p m)
+    else plain_0fae strict m))

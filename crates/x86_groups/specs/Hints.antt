@@ -1,0 +1,35 @@
+-- Prefetches, hints, and moves that have another name with a register.
+-- Source: Intel SDM volume 2, appendix A.4, group 16, and the pages of MOVLPS, MOVHPS, ENDBR64; AMD APM volume 3, PREFETCH.
+use Rattle.std.specs.Prelude.{ℕ, ◌==◌, if◌then◌else◌, [], ◌∷◌}
+use Rattle.x86_regs.specs.declared.RegisterClass.TheVariants.{X}
+use Rattle.x86_regs.specs.Class.{width_of}
+use Rattle.x86_fields.specs.declared.Prefixes.{Prefixes}
+use Rattle.x86_fields.specs.Sizes.{v}
+use Rattle.x86_operands.specs.declared.plans.Sign.TheVariants.{G, E}
+use Rattle.x86_operands.specs.declared.plans.Signs.TheVariants.{One, Two}
+use Rattle.x86_operands.specs.declared.plans.Plan.{Plan}
+use Rattle.x86_operands.specs.Plans.{is_memory, reads, memory_only, size_by}
+use Rattle.x86_opcodes.specs.Names.{PREFETCHW, NOP, MOVLPS, MOVHLPS, MOVHPS, MOVLHPS, PREFETCHNTA, PREFETCH0, PREFETCH1, PREFETCH2, ENDBR64, ENDBR32}
+use Rattle.x86_groups.specs.Choice.{bare, named_by_reg, on_memory, reg}
+
+unfoldable pub plan_0f0d : Prefixes → ℕ → Plan
+plan_0f0d p m = memory_only m (on_memory (if reg m == 1 then PREFETCHW else NOP) 64)
+
+unfoldable pub plan_0f12 : Prefixes → ℕ → Plan
+plan_0f12 p m = reads (if is_memory m then MOVLPS else MOVHLPS) (Two (G X) (E X)) (size_by m 8 (width_of (v p)))
+
+unfoldable pub plan_0f16 : Prefixes → ℕ → Plan
+plan_0f16 p m = reads (if is_memory m then MOVHPS else MOVLHPS) (Two (G X) (E X)) (size_by m 8 (width_of (v p)))
+
+abbrev pub prefetch_name : ℕ → ℕ
+prefetch_name m = named_by_reg (PREFETCHNTA ∷ PREFETCH0 ∷ PREFETCH1 ∷ PREFETCH2 ∷ NOP ∷ NOP ∷ NOP ∷ NOP ∷ []) m
+
+unfoldable pub plan_0f18 : Prefixes → ℕ → Plan
+plan_0f18 p m = reads (if is_memory m then prefetch_name m else NOP) (One (E (v p))) (size_by m 64 (width_of (v p)))
+
+-- FA and FB are whole ModRM bytes
+unfoldable pub plan_f30f1e : Prefixes → ℕ → Plan
+plan_f30f1e p m =
+    if m == 0xfa then bare ENDBR64
+    else (if m == 0xfb then bare ENDBR32
+    else reads NOP (Two (E (v p)) (G (v p))) (width_of (v p)))

@@ -1,0 +1,56 @@
+-- Moves, pushes, calls and jumps of the one-byte map. Source: Intel SDM volume 2, appendix A.4, groups 1A, 4, 5 and 11.
+use Rattle.std.specs.Prelude.{ℕ, ◌==◌, if◌then◌else◌}
+use Rattle.x86_regs.specs.declared.RegisterClass.{RegisterClass}
+use Rattle.x86_regs.specs.declared.RegisterClass.TheVariants.{B, W, Q}
+use Rattle.x86_regs.specs.Class.{width_of}
+use Rattle.x86_fields.specs.declared.Prefixes.{Prefixes}
+use Rattle.x86_fields.specs.Sizes.{v}
+use Rattle.x86_operands.specs.declared.plans.Sign.{Sign}
+use Rattle.x86_operands.specs.declared.plans.Sign.TheVariants.{E, I8, I32, I32From16}
+use Rattle.x86_operands.specs.declared.plans.Signs.TheVariants.{One, Two}
+use Rattle.x86_operands.specs.declared.plans.Fault.TheVariants.{BadOpcode, BadOperand, Incomplete}
+use Rattle.x86_operands.specs.declared.plans.Moment.TheVariants.{AfterAddress}
+use Rattle.x86_operands.specs.declared.plans.Plan.{Plan}
+use Rattle.x86_operands.specs.Plans.{reads, refuses, memory_only, size_by, immediate_of}
+use Rattle.x86_opcodes.specs.Names.{POP, MOV, XABORT, XBEGIN, INC, DEC, CALL, CALLF, JMP, JMPF, PUSH}
+use Rattle.x86_groups.specs.Choice.{is_register_0, on_memory, reg}
+
+-- of a memory form 8 bytes without 66, else the width of v
+unfoldable pub plan_8f : Prefixes → ℕ → Plan
+plan_8f p m =
+    if reg m == 0 then reads POP (One (E (v p))) (size_by m (if p.operand_size then width_of (v p) else 8) (width_of (v p)))
+    else refuses Incomplete AfterAddress
+
+unfoldable pub plan_c6 : Prefixes → ℕ → Plan
+plan_c6 p m =
+    if reg m == 0 then reads MOV (Two (E B) I8) 1
+    else (if is_register_0 m then reads XABORT (One I8) 1
+    else refuses BadOperand AfterAddress)
+
+-- the distance of XBEGIN: 2 bytes where v is W, else 4
+abbrev pub distance_of : RegisterClass → Sign
+distance_of W = I32From16
+distance_of c = I32
+
+unfoldable pub plan_c7 : Prefixes → ℕ → Plan
+plan_c7 p m =
+    if reg m == 0 then reads MOV (Two (E (v p)) (immediate_of (v p))) (width_of (v p))
+    else (if is_register_0 m then reads XBEGIN (One (distance_of (v p))) (width_of (v p))
+    else refuses BadOperand AfterAddress)
+
+unfoldable pub plan_fe : Prefixes → ℕ → Plan
+plan_fe p m =
+    if reg m == 0 then reads INC (One (E B)) 1
+    else (if reg m == 1 then reads DEC (One (E B)) 1
+    else refuses BadOpcode AfterAddress)
+
+unfoldable pub plan_ff : Prefixes → ℕ → Plan
+plan_ff p m =
+    if reg m == 0 then reads INC (One (E (v p))) (width_of (v p))
+    else (if reg m == 1 then reads DEC (One (E (v p))) (width_of (v p))
+    else (if reg m == 2 then reads CALL (One (E Q)) 8
+    else (if reg m == 3 then memory_only m (on_memory CALLF 10)
+    else (if reg m == 4 then reads JMP (One (E Q)) (size_by m 8 (width_of (v p)))
+    else (if reg m == 5 then memory_only m (on_memory JMPF 10)
+    else (if reg m == 6 then reads PUSH (One (E (v p))) (if p.operand_size then 2 else 8)
+    else refuses BadOpcode AfterAddress))))))

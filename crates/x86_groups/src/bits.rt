@@ -1,0 +1,110 @@
+//! Bit tests with an immediate, and 0F C7.
+ghost use Rattle.std.specs.Prelude.{◌≡◌};
+ghost use Rattle.x86_groups.specs.Bits.{plan_0fba, by_w, compares_0fc7, operand_size_0fc7, f3_0fc7, plain_0fc7, plan_0fc7};
+
+use crate::choice::{bad_opcode, bad_operand, name_at, on_memory, on_register, reg};
+use x86_fields::Prefixes;
+use x86_opcodes::Opcode;
+use x86_operands::plans::{Fault, Moment, Plan, Sign, Signs, memory_form, memory_only, reads, refuses, size_by};
+use x86_regs::RegisterClass;
+
+#[tactic(auto, unfolding(crate::specs::Bits::plan_0fba))]
+pub fn plan_0fba(prefixes: &Prefixes, modrm: u8) -> Plan
+    ensures { result ≡ plan_0fba prefixes.now modrm }
+{
+    let reg = reg(modrm);
+    if reg < 4 {
+        return bad_opcode();
+    }
+    let names = [Opcode::BT, Opcode::BTS, Opcode::BTR, Opcode::BTC];
+    let vq = prefixes.vq_class();
+    let signs = Signs::Two(Sign::E(vq), Sign::I8);
+    reads(name_at(&names, reg - 4), signs, size_by(modrm, vq.width(), 0))
+}
+
+/// /1, whatever the prefixes are.
+fn compares_0fc7(prefixes: &Prefixes, modrm: u8) -> Plan
+    ensures { result ≡ compares_0fc7 prefixes.now modrm }
+{
+    let plan = if prefixes.has_w() {
+        on_memory(Opcode::CMPXCHG16B, 16)
+    } else {
+        on_memory(Opcode::CMPXCHG8B, 8)
+    };
+    memory_only(modrm, plan)
+}
+
+#[tactic(auto, unfolding(crate::specs::Bits::operand_size_0fc7))]
+fn operand_size_0fc7(modrm: u8) -> Plan
+    ensures { result ≡ operand_size_0fc7 modrm }
+{
+    match (reg(modrm), memory_form(modrm)) {
+        (6, true) => on_memory(Opcode::VMCLEAR, 8),
+        (6, false) => on_register(Opcode::RDRAND, RegisterClass::W),
+        (7, true) => refuses(Fault::BadOpcode, Moment::AfterAddress),
+        (7, false) => on_register(Opcode::RDSEED, RegisterClass::W),
+        _ => bad_opcode(),
+    }
+}
+
+#[tactic(auto, unfolding(crate::specs::Bits::f3_0fc7))]
+fn f3_0fc7(modrm: u8) -> Plan
+    ensures { result ≡ f3_0fc7 modrm }
+{
+    match (reg(modrm), memory_form(modrm)) {
+        (6, true) => on_memory(Opcode::VMXON, 8),
+        (6, false) => on_register(Opcode::SENDUIPI, RegisterClass::Q),
+        (7, true) => refuses(Fault::BadOperand, Moment::AfterAddress),
+        (7, false) => on_register(Opcode::RDPID, RegisterClass::Q),
+        _ => bad_opcode(),
+    }
+}
+
+/// One name without W and one with it.
+fn by_w(prefixes: &Prefixes, without: Opcode, with: Opcode) -> Opcode
+    ensures { result ≡ by_w prefixes.now without with }
+{
+    if prefixes.has_w() { with } else { without }
+}
+
+#[tactic(auto, unfolding(crate::specs::Bits::plain_0fc7))]
+fn plain_0fc7(prefixes: &Prefixes, modrm: u8) -> Plan
+    ensures { result ≡ plain_0fc7 prefixes.now modrm }
+{
+    match (reg(modrm), memory_form(modrm)) {
+        (3, _) => {
+            let opcode = by_w(prefixes, Opcode::XRSTORS, Opcode::XRSTORS64);
+            memory_only(modrm, on_memory(opcode, 63))
+        }
+        (4, _) => {
+            let opcode = by_w(prefixes, Opcode::XSAVEC, Opcode::XSAVEC64);
+            memory_only(modrm, on_memory(opcode, 63))
+        }
+        (5, _) => {
+            let opcode = by_w(prefixes, Opcode::XSAVES, Opcode::XSAVES64);
+            memory_only(modrm, on_memory(opcode, 63))
+        }
+        (6, true) => on_memory(Opcode::VMPTRLD, 8),
+        (6, false) => on_register(Opcode::RDRAND, prefixes.v_class()),
+        (7, true) => on_memory(Opcode::VMPTRST, 8),
+        (7, false) => on_register(Opcode::RDSEED, prefixes.v_class()),
+        _ => bad_operand(),
+    }
+}
+
+#[tactic(auto, unfolding(crate::specs::Bits::plan_0fc7))]
+pub fn plan_0fc7(prefixes: &Prefixes, modrm: u8) -> Plan
+    ensures { result ≡ plan_0fc7 prefixes.now modrm }
+{
+    if reg(modrm) == 1 {
+        compares_0fc7(prefixes, modrm)
+    } else if prefixes.repnz() {
+        bad_operand()
+    } else if prefixes.operand_size() {
+        operand_size_0fc7(modrm)
+    } else if prefixes.rep() {
+        f3_0fc7(modrm)
+    } else {
+        plain_0fc7(prefixes, modrm)
+    }
+}

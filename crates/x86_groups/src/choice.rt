@@ -1,0 +1,93 @@
+//! What a field of ModRM chooses, and the shortest plans.
+ghost use Rattle.std.specs.Prelude.{◌≡◌, ◌<◌};
+ghost use Rattle.x86_groups.specs.Choice.{reg, rm, name_at, named_by_reg, is_register_0, has_f2_or_f3, has_f2_f3_or_66, bare, on_memory, on_register, bad_opcode, bad_operand};
+
+use x86_fields::Prefixes;
+use x86_opcodes::Opcode;
+use x86_operands::plans::{Fault, Moment, Plan, Sign, Signs, memory_form, reads, refuses};
+use x86_regs::RegisterClass;
+
+/// The reg field, without R.
+pub fn reg(modrm: u8) -> u8
+    ensures value { result ≡ reg modrm }
+    ensures small { result < 8 }
+{
+    modrm / 8 % 8
+}
+
+/// The rm field, without B.
+pub fn rm(modrm: u8) -> u8
+    ensures value { result ≡ rm modrm }
+    ensures small { result < 8 }
+{
+    modrm % 8
+}
+
+/// The name at a place, counted from 0.
+pub fn name_at(names: &[Opcode], place: u8) -> Opcode
+    ensures { result ≡ name_at names.now place }
+{
+    match names.get(place as usize) {
+        Some(name) => *name,
+        None => Opcode::Invalid,
+    }
+}
+
+/// The name for /0 to /7.
+pub fn named_by_reg(names: &[Opcode], modrm: u8) -> Opcode
+    ensures { result ≡ named_by_reg names.now modrm }
+{
+    name_at(names, reg(modrm))
+}
+
+/// Whether ModRM is a register form with rm 0.
+pub fn is_register_0(modrm: u8) -> bool
+    ensures { result ≡ is_register_0 modrm }
+{
+    !memory_form(modrm) && rm(modrm) == 0
+}
+
+pub fn has_f2_or_f3(prefixes: &Prefixes) -> bool
+    ensures { result ≡ has_f2_or_f3 prefixes.now }
+{
+    prefixes.repnz() || prefixes.rep()
+}
+
+pub fn has_f2_f3_or_66(prefixes: &Prefixes) -> bool
+    ensures { result ≡ has_f2_f3_or_66 prefixes.now }
+{
+    prefixes.repnz() || prefixes.rep() || prefixes.operand_size()
+}
+
+/// No operand and no memory.
+pub fn bare(opcode: Opcode) -> Plan
+    ensures { result ≡ bare opcode }
+{
+    reads(opcode, Signs::Zero, 0)
+}
+
+/// One operand in memory.
+pub fn on_memory(opcode: Opcode, size: u8) -> Plan
+    ensures { result ≡ on_memory opcode size }
+{
+    reads(opcode, Signs::One(Sign::M), size)
+}
+
+/// One operand in a register.
+pub fn on_register(opcode: Opcode, class: RegisterClass) -> Plan
+    ensures { result ≡ on_register opcode class }
+{
+    reads(opcode, Signs::One(Sign::U(class)), 0)
+}
+
+pub fn bad_opcode() -> Plan
+    ensures { result ≡ bad_opcode }
+{
+    refuses(Fault::BadOpcode, Moment::AtModRM)
+}
+
+pub fn bad_operand() -> Plan
+    ensures { result ≡ bad_operand }
+{
+    refuses(Fault::BadOperand, Moment::AtModRM)
+}

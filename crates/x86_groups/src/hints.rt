@@ -1,0 +1,88 @@
+//! Prefetches, hints, and moves that have another name with a register.
+ghost use Rattle.std.specs.Prelude.{◌≡◌};
+ghost use Rattle.x86_groups.specs.Hints.{prefetch_name, plan_0f0d, plan_0f12, plan_0f16, plan_0f18, plan_f30f1e};
+
+use crate::choice::{bare, named_by_reg, on_memory, reg};
+use x86_fields::Prefixes;
+use x86_opcodes::Opcode;
+use x86_operands::plans::{Plan, Sign, Signs, memory_form, memory_only, reads, size_by};
+use x86_regs::RegisterClass;
+
+#[tactic(auto, unfolding(crate::specs::Hints::plan_0f0d))]
+pub fn plan_0f0d(_prefixes: &Prefixes, modrm: u8) -> Plan
+    ensures { result ≡ plan_0f0d _prefixes.now modrm }
+{
+    let opcode = if reg(modrm) == 1 {
+        Opcode::PREFETCHW
+    } else {
+        Opcode::NOP
+    };
+    memory_only(modrm, on_memory(opcode, 64))
+}
+
+#[tactic(auto, unfolding(crate::specs::Hints::plan_0f12))]
+pub fn plan_0f12(prefixes: &Prefixes, modrm: u8) -> Plan
+    ensures { result ≡ plan_0f12 prefixes.now modrm }
+{
+    let opcode = if memory_form(modrm) {
+        Opcode::MOVLPS
+    } else {
+        Opcode::MOVHLPS
+    };
+    let signs = Signs::Two(Sign::G(RegisterClass::X), Sign::E(RegisterClass::X));
+    reads(opcode, signs, size_by(modrm, 8, prefixes.v_class().width()))
+}
+
+#[tactic(auto, unfolding(crate::specs::Hints::plan_0f16))]
+pub fn plan_0f16(prefixes: &Prefixes, modrm: u8) -> Plan
+    ensures { result ≡ plan_0f16 prefixes.now modrm }
+{
+    let opcode = if memory_form(modrm) {
+        Opcode::MOVHPS
+    } else {
+        Opcode::MOVLHPS
+    };
+    let signs = Signs::Two(Sign::G(RegisterClass::X), Sign::E(RegisterClass::X));
+    reads(opcode, signs, size_by(modrm, 8, prefixes.v_class().width()))
+}
+
+fn prefetch_name(modrm: u8) -> Opcode
+    ensures { result ≡ prefetch_name modrm }
+{
+    let names = [
+        Opcode::PREFETCHNTA,
+        Opcode::PREFETCH0,
+        Opcode::PREFETCH1,
+        Opcode::PREFETCH2,
+        Opcode::NOP,
+        Opcode::NOP,
+        Opcode::NOP,
+        Opcode::NOP,
+    ];
+    named_by_reg(&names, modrm)
+}
+
+#[tactic(auto, unfolding(crate::specs::Hints::plan_0f18))]
+pub fn plan_0f18(prefixes: &Prefixes, modrm: u8) -> Plan
+    ensures { result ≡ plan_0f18 prefixes.now modrm }
+{
+    let v = prefixes.v_class();
+    let opcode = if memory_form(modrm) {
+        prefetch_name(modrm)
+    } else {
+        Opcode::NOP
+    };
+    reads(opcode, Signs::One(Sign::E(v)), size_by(modrm, 64, v.width()))
+}
+
+#[tactic(auto, unfolding(crate::specs::Hints::plan_f30f1e))]
+pub fn plan_f30f1e(prefixes: &Prefixes, modrm: u8) -> Plan
+    ensures { result ≡ plan_f30f1e prefixes.now modrm }
+{
+    let v = prefixes.v_class();
+    match modrm {
+        0xfa => bare(Opcode::ENDBR64),
+        0xfb => bare(Opcode::ENDBR32),
+        _ => reads(Opcode::NOP, Signs::Two(Sign::E(v), Sign::G(v)), v.width()),
+    }
+}

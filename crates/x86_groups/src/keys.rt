@@ -1,0 +1,138 @@
+//! Key Locker, HRESET and 3DNow.
+ghost use Rattle.std.specs.Prelude.{◌≡◌};
+ghost use Rattle.x86_groups.specs.Keys.{with_key, encodes_key, is_no_override, is_f3_alone, plan_f30f38d8, plan_f30f38dc, plan_f30f38dd, plan_f30f38de, plan_f30f38df, plan_f30f38fa, plan_f30f38fb, plan_f30f3af0, fault_f30f3af0};
+ghost use Rattle.x86_groups.specs.ThreeDNow.{plan_0f0f};
+
+use crate::choice::{bad_operand, on_memory, reg};
+use x86_fields::Prefixes;
+use x86_opcodes::Opcode;
+use x86_operands::plans::{Fault, Moment, Plan, Sign, Signs, memory_form, memory_only, named_by_suffix, reads, refused, refuses, size_by};
+use x86_regs::{RegisterClass, Segment};
+
+#[tactic(auto, unfolding(crate::specs::Keys::plan_f30f38d8))]
+pub fn plan_f30f38d8(_prefixes: &Prefixes, modrm: u8) -> Plan
+    ensures { result ≡ plan_f30f38d8 _prefixes.now modrm }
+{
+    if !memory_form(modrm) {
+        return bad_operand();
+    }
+    match reg(modrm) {
+        0 => on_memory(Opcode::AESENCWIDE128KL, 48),
+        1 => on_memory(Opcode::AESDECWIDE128KL, 48),
+        2 => on_memory(Opcode::AESENCWIDE256KL, 64),
+        3 => on_memory(Opcode::AESDECWIDE256KL, 64),
+        _ => refuses(Fault::BadOpcode, Moment::AfterAddress),
+    }
+}
+
+#[tactic(auto, unfolding(crate::specs::Keys::plan_f30f38dc))]
+pub fn plan_f30f38dc(prefixes: &Prefixes, modrm: u8) -> Plan
+    ensures { result ≡ plan_f30f38dc prefixes.now modrm }
+{
+    let opcode = if memory_form(modrm) {
+        Opcode::AESENC128KL
+    } else {
+        Opcode::LOADIWKEY
+    };
+    let signs = Signs::Two(Sign::G(RegisterClass::X), Sign::E(RegisterClass::X));
+    reads(opcode, signs, size_by(modrm, 48, prefixes.v_class().width()))
+}
+
+fn with_key(opcode: Opcode, size: u8, modrm: u8) -> Plan
+    ensures { result ≡ with_key opcode size modrm }
+{
+    let signs = Signs::Two(Sign::G(RegisterClass::X), Sign::M);
+    memory_only(modrm, reads(opcode, signs, size))
+}
+
+#[tactic(auto, unfolding(crate::specs::Keys::plan_f30f38dd))]
+pub fn plan_f30f38dd(_prefixes: &Prefixes, modrm: u8) -> Plan
+    ensures { result ≡ plan_f30f38dd _prefixes.now modrm }
+{
+    with_key(Opcode::AESDEC128KL, 48, modrm)
+}
+
+#[tactic(auto, unfolding(crate::specs::Keys::plan_f30f38de))]
+pub fn plan_f30f38de(_prefixes: &Prefixes, modrm: u8) -> Plan
+    ensures { result ≡ plan_f30f38de _prefixes.now modrm }
+{
+    with_key(Opcode::AESENC256KL, 64, modrm)
+}
+
+#[tactic(auto, unfolding(crate::specs::Keys::plan_f30f38df))]
+pub fn plan_f30f38df(_prefixes: &Prefixes, modrm: u8) -> Plan
+    ensures { result ≡ plan_f30f38df _prefixes.now modrm }
+{
+    with_key(Opcode::AESDEC256KL, 64, modrm)
+}
+
+fn encodes_key(opcode: Opcode, prefixes: &Prefixes, modrm: u8) -> Plan
+    ensures { result ≡ encodes_key opcode prefixes.now modrm }
+{
+    let signs = Signs::Two(Sign::G(RegisterClass::D), Sign::U(RegisterClass::D));
+    let plan = reads(opcode, signs, prefixes.v_class().width());
+    refused(memory_form(modrm), Fault::BadOpcode, Moment::AfterAddress, plan)
+}
+
+#[tactic(auto, unfolding(crate::specs::Keys::plan_f30f38fa))]
+pub fn plan_f30f38fa(prefixes: &Prefixes, modrm: u8) -> Plan
+    ensures { result ≡ plan_f30f38fa prefixes.now modrm }
+{
+    encodes_key(Opcode::ENCODEKEY128, prefixes, modrm)
+}
+
+#[tactic(auto, unfolding(crate::specs::Keys::plan_f30f38fb))]
+pub fn plan_f30f38fb(prefixes: &Prefixes, modrm: u8) -> Plan
+    ensures { result ≡ plan_f30f38fb prefixes.now modrm }
+{
+    encodes_key(Opcode::ENCODEKEY256, prefixes, modrm)
+}
+
+#[tactic(auto, unfolding(crate::specs::Keys::plan_f30f3af0))]
+pub fn plan_f30f3af0(_prefixes: &Prefixes, modrm: u8) -> Plan
+    ensures { result ≡ plan_f30f3af0 _prefixes.now modrm }
+{
+    let plan = reads(Opcode::HRESET, Signs::One(Sign::U8), 0);
+    refused(memory_form(modrm), Fault::BadOpcode, Moment::AtModRM, plan)
+}
+
+fn is_no_override(segment: Segment) -> bool
+    ensures { result ≡ is_no_override segment }
+{
+    match segment {
+        Segment::DS => true,
+        _ => false,
+    }
+}
+
+fn is_f3_alone(prefixes: &Prefixes) -> bool
+    ensures { result ≡ is_f3_alone prefixes.now }
+{
+    prefixes.rep()
+        && !prefixes.operand_size()
+        && !prefixes.address_size()
+        && !prefixes.lock()
+        && is_no_override(prefixes.segment())
+        && !prefixes.rex().is_some()
+}
+
+/// HRESET is refused unless F3 is the only prefix that has an effect.
+#[tactic(auto, unfolding(crate::specs::Keys::fault_f30f3af0))]
+pub fn fault_f30f3af0(prefixes: &Prefixes) -> Option<Fault>
+    ensures { result ≡ fault_f30f3af0 prefixes.now }
+{
+    if is_f3_alone(prefixes) {
+        None
+    } else {
+        Some(Fault::BadOpcode)
+    }
+}
+
+/// 3DNow, whose last byte names the opcode.
+#[tactic(auto, unfolding(crate::specs::ThreeDNow::plan_0f0f))]
+pub fn plan_0f0f(prefixes: &Prefixes, modrm: u8) -> Plan
+    ensures { result ≡ plan_0f0f prefixes.now modrm }
+{
+    let signs = Signs::Two(Sign::Gmm, Sign::Emm);
+    named_by_suffix(signs, size_by(modrm, 8, prefixes.v_class().width()))
+}

@@ -1,0 +1,83 @@
+//! Moves from and to control and debug registers, and EXTRQ and INSERTQ with two immediates.
+ghost use Rattle.std.specs.Prelude.{◌≡◌};
+ghost use Rattle.x86_groups.specs.Moves.{is_control, with_control, with_debug, plan_rq_cq, plan_cq_rq, plan_rq_dq, plan_dq_rq};
+ghost use Rattle.x86_groups.specs.Extract.{plan_660f78, plan_f20f78};
+
+use crate::choice::reg;
+use x86_fields::Prefixes;
+use x86_opcodes::Opcode;
+use x86_operands::plans::{Fault, Moment, Plan, Sign, Signs, memory_form, reads, refused, reg_number};
+use x86_regs::RegisterClass;
+
+/// Whether a control register has the number.
+fn is_control(num: u8) -> bool
+    ensures { result ≡ is_control num }
+{
+    matches!(num, 0 | 2 | 3 | 4 | 8)
+}
+
+fn with_control(prefixes: &Prefixes, modrm: u8, plan: Plan) -> Plan
+    ensures { result ≡ with_control prefixes.now modrm plan }
+{
+    let missing = !is_control(reg_number(modrm, prefixes));
+    refused(missing, Fault::BadOperand, Moment::AtModRM, plan)
+}
+
+fn with_debug(prefixes: &Prefixes, modrm: u8, plan: Plan) -> Plan
+    ensures { result ≡ with_debug prefixes.now modrm plan }
+{
+    let missing = !(reg_number(modrm, prefixes) < 8);
+    refused(missing, Fault::BadOperand, Moment::AtModRM, plan)
+}
+
+#[tactic(auto, unfolding(crate::specs::Moves::plan_rq_cq))]
+pub fn plan_rq_cq(opcode: Opcode, prefixes: &Prefixes, modrm: u8) -> Plan
+    ensures { result ≡ plan_rq_cq opcode prefixes.now modrm }
+{
+    let signs = Signs::Two(Sign::U(RegisterClass::Q), Sign::G(RegisterClass::CR));
+    with_control(prefixes, modrm, reads(opcode, signs, 0))
+}
+
+#[tactic(auto, unfolding(crate::specs::Moves::plan_cq_rq))]
+pub fn plan_cq_rq(opcode: Opcode, prefixes: &Prefixes, modrm: u8) -> Plan
+    ensures { result ≡ plan_cq_rq opcode prefixes.now modrm }
+{
+    let signs = Signs::Two(Sign::G(RegisterClass::CR), Sign::U(RegisterClass::Q));
+    with_control(prefixes, modrm, reads(opcode, signs, 0))
+}
+
+#[tactic(auto, unfolding(crate::specs::Moves::plan_rq_dq))]
+pub fn plan_rq_dq(opcode: Opcode, prefixes: &Prefixes, modrm: u8) -> Plan
+    ensures { result ≡ plan_rq_dq opcode prefixes.now modrm }
+{
+    let signs = Signs::Two(Sign::U(RegisterClass::Q), Sign::G(RegisterClass::DR));
+    with_debug(prefixes, modrm, reads(opcode, signs, 0))
+}
+
+#[tactic(auto, unfolding(crate::specs::Moves::plan_dq_rq))]
+pub fn plan_dq_rq(opcode: Opcode, prefixes: &Prefixes, modrm: u8) -> Plan
+    ensures { result ≡ plan_dq_rq opcode prefixes.now modrm }
+{
+    let signs = Signs::Two(Sign::G(RegisterClass::DR), Sign::U(RegisterClass::Q));
+    with_debug(prefixes, modrm, reads(opcode, signs, 0))
+}
+
+#[tactic(auto, unfolding(crate::specs::Extract::plan_660f78))]
+pub fn plan_660f78(_prefixes: &Prefixes, modrm: u8) -> Plan
+    ensures { result ≡ plan_660f78 _prefixes.now modrm }
+{
+    let signs = Signs::Three(Sign::U(RegisterClass::X), Sign::U8, Sign::X8);
+    let plan = reads(Opcode::EXTRQ, signs, 0);
+    let bad = memory_form(modrm) || reg(modrm) != 0;
+    refused(bad, Fault::BadOperand, Moment::AtModRM, plan)
+}
+
+#[tactic(auto, unfolding(crate::specs::Extract::plan_f20f78))]
+pub fn plan_f20f78(_prefixes: &Prefixes, modrm: u8) -> Plan
+    ensures { result ≡ plan_f20f78 _prefixes.now modrm }
+{
+    let x = RegisterClass::X;
+    let signs = Signs::Four(Sign::G(x), Sign::U(x), Sign::U8, Sign::X8);
+    let plan = reads(Opcode::INSERTQ, signs, 0);
+    refused(memory_form(modrm), Fault::BadOperand, Moment::AtModRM, plan)
+}

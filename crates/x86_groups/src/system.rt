@@ -1,0 +1,251 @@
+//! System tables and system instructions.
+ghost use Rattle.std.specs.Prelude.{◌≡◌};
+ghost use Rattle.x86_operands.specs.Signs.{slot_at};
+ghost use Rattle.x86_groups.specs.System.{rax, eax, ecx_at, edx_at, trusted_domain, monitoring, invalidates_pages, synchronizes_pages, memory_0f01, register_0f01, register_0f01_0, register_0f01_1, register_0f01_2, register_0f01_3, register_0f01_5, register_0f01_7, plan_0f00, plan_0f01};
+
+use crate::choice::{bad_opcode, bad_operand, bare, has_f2_f3_or_66, has_f2_or_f3, name_at, named_by_reg, on_memory, reg, rm};
+use x86_fields::Prefixes;
+use x86_opcodes::Opcode;
+use x86_operands::plans::{Plan, RegisterSlot, Sign, Signs, memory_form, reads, size_by};
+use x86_regs::{RegSpec, RegisterClass};
+
+#[tactic(auto, unfolding(crate::specs::System::plan_0f00))]
+pub fn plan_0f00(_prefixes: &Prefixes, modrm: u8) -> Plan
+    ensures { result ≡ plan_0f00 _prefixes.now modrm }
+{
+    if reg(modrm) >= 6 {
+        return bad_operand();
+    }
+    let names = [
+        Opcode::SLDT,
+        Opcode::STR,
+        Opcode::LLDT,
+        Opcode::LTR,
+        Opcode::VERR,
+        Opcode::VERW,
+    ];
+    let signs = Signs::One(Sign::E(RegisterClass::W));
+    reads(named_by_reg(&names, modrm), signs, size_by(modrm, 2, 0))
+}
+
+#[tactic(auto, unfolding(crate::specs::System::memory_0f01))]
+fn memory_0f01(prefixes: &Prefixes, modrm: u8) -> Plan
+    ensures { result ≡ memory_0f01 prefixes.now modrm }
+{
+    match reg(modrm) {
+        0 => on_memory(Opcode::SGDT, 10),
+        1 => on_memory(Opcode::SIDT, 10),
+        2 => on_memory(Opcode::LGDT, 10),
+        3 => on_memory(Opcode::LIDT, 10),
+        4 => on_memory(Opcode::SMSW, 2),
+        5 if prefixes.rep() => on_memory(Opcode::RSTORSSP, 8),
+        5 => bad_opcode(),
+        6 => on_memory(Opcode::LMSW, 2),
+        _ => on_memory(Opcode::INVLPG, 1),
+    }
+}
+
+#[tactic(auto, unfolding(crate::specs::System::register_0f01_0))]
+fn register_0f01_0(prefixes: &Prefixes, modrm: u8) -> Plan
+    ensures { result ≡ register_0f01_0 prefixes.now modrm }
+{
+    if has_f2_f3_or_66(prefixes) {
+        return bad_operand();
+    }
+    if rm(modrm) >= 6 {
+        return bad_opcode();
+    }
+    let names = [
+        Opcode::ENCLV,
+        Opcode::VMCALL,
+        Opcode::VMLAUNCH,
+        Opcode::VMRESUME,
+        Opcode::VMXOFF,
+        Opcode::PCONFIG,
+    ];
+    bare(name_at(&names, rm(modrm)))
+}
+
+fn trusted_domain(modrm: u8) -> Plan
+    ensures { result ≡ trusted_domain modrm }
+{
+    match rm(modrm) {
+        4 => bare(Opcode::TDCALL),
+        5 => bare(Opcode::SEAMRET),
+        6 => bare(Opcode::SEAMOPS),
+        7 => bare(Opcode::SEAMCALL),
+        _ => bad_opcode(),
+    }
+}
+
+fn monitoring(modrm: u8) -> Plan
+    ensures { result ≡ monitoring modrm }
+{
+    match rm(modrm) {
+        0 => reads(Opcode::MONITOR, Signs::Zero, 1),
+        1 => bare(Opcode::MWAIT),
+        2 => bare(Opcode::CLAC),
+        3 => bare(Opcode::STAC),
+        7 => bare(Opcode::ENCLS),
+        _ => bad_opcode(),
+    }
+}
+
+#[tactic(auto, unfolding(crate::specs::System::register_0f01_1))]
+fn register_0f01_1(prefixes: &Prefixes, modrm: u8) -> Plan
+    ensures { result ≡ register_0f01_1 prefixes.now modrm }
+{
+    if has_f2_or_f3(prefixes) {
+        bad_opcode()
+    } else if prefixes.operand_size() {
+        trusted_domain(modrm)
+    } else {
+        monitoring(modrm)
+    }
+}
+
+#[tactic(auto, unfolding(crate::specs::System::register_0f01_2))]
+fn register_0f01_2(prefixes: &Prefixes, modrm: u8) -> Plan
+    ensures { result ≡ register_0f01_2 prefixes.now modrm }
+{
+    if has_f2_f3_or_66(prefixes) {
+        return bad_operand();
+    }
+    match rm(modrm) {
+        0 => bare(Opcode::XGETBV),
+        1 => bare(Opcode::XSETBV),
+        4 => bare(Opcode::VMFUNC),
+        5 => bare(Opcode::XEND),
+        6 => bare(Opcode::XTEST),
+        7 => bare(Opcode::ENCLU),
+        _ => bad_opcode(),
+    }
+}
+
+fn rax() -> Sign
+    ensures { result ≡ rax }
+{
+    Sign::Fixed(RegisterSlot::Reg, RegSpec::of(0, RegisterClass::Q))
+}
+
+fn eax() -> Sign
+    ensures { result ≡ eax }
+{
+    Sign::Fixed(RegisterSlot::Reg, RegSpec::of(0, RegisterClass::D))
+}
+
+fn ecx_at(slot: RegisterSlot) -> Sign
+    ensures { result ≡ ecx_at slot }
+{
+    Sign::Fixed(slot, RegSpec::of(1, RegisterClass::D))
+}
+
+fn edx_at(slot: RegisterSlot) -> Sign
+    ensures { result ≡ edx_at slot }
+{
+    Sign::Fixed(slot, RegSpec::of(2, RegisterClass::D))
+}
+
+#[tactic(auto, unfolding(crate::specs::System::register_0f01_3))]
+fn register_0f01_3(_prefixes: &Prefixes, modrm: u8) -> Plan
+    ensures { result ≡ register_0f01_3 _prefixes.now modrm }
+{
+    match rm(modrm) {
+        0 => reads(Opcode::VMRUN, Signs::One(rax()), 0),
+        1 => bare(Opcode::VMMCALL),
+        2 => reads(Opcode::VMLOAD, Signs::One(rax()), 0),
+        3 => reads(Opcode::VMSAVE, Signs::One(rax()), 0),
+        4 => bare(Opcode::STGI),
+        5 => bare(Opcode::CLGI),
+        6 => reads(Opcode::SKINIT, Signs::One(eax()), 0),
+        _ => reads(Opcode::INVLPGA, Signs::Two(rax(), ecx_at(RegisterSlot::Rm)), 0),
+    }
+}
+
+#[tactic(auto, unfolding(crate::specs::System::register_0f01_5))]
+fn register_0f01_5(prefixes: &Prefixes, modrm: u8) -> Plan
+    ensures { result ≡ register_0f01_5 prefixes.now modrm }
+{
+    match rm(modrm) {
+        0 if prefixes.repnz() => bare(Opcode::XSUSLDTRK),
+        0 if prefixes.rep() => bare(Opcode::SETSSBSY),
+        1 if prefixes.repnz() => bare(Opcode::XRESLDTRK),
+        2 if prefixes.rep() => bare(Opcode::SAVEPREVSSP),
+        4 if prefixes.rep() => bare(Opcode::UIRET),
+        5 if prefixes.rep() => bare(Opcode::TESTUI),
+        6 if prefixes.rep() => bare(Opcode::CLUI),
+        6 if !has_f2_f3_or_66(prefixes) => bare(Opcode::RDPKRU),
+        7 if prefixes.rep() => bare(Opcode::STUI),
+        7 if !has_f2_f3_or_66(prefixes) => bare(Opcode::WRPKRU),
+        _ => bad_opcode(),
+    }
+}
+
+fn invalidates_pages(prefixes: &Prefixes) -> Plan
+    ensures { result ≡ invalidates_pages prefixes.now }
+{
+    if prefixes.rep() {
+        bare(Opcode::RMPADJUST)
+    } else if prefixes.repnz() {
+        bare(Opcode::RMPUPDATE)
+    } else {
+        let signs = Signs::Three(rax(), edx_at(RegisterSlot::Rm), ecx_at(RegisterSlot::Third));
+        reads(Opcode::INVLPGB, signs, 0)
+    }
+}
+
+fn synchronizes_pages(prefixes: &Prefixes) -> Plan
+    ensures { result ≡ synchronizes_pages prefixes.now }
+{
+    if prefixes.rep() {
+        bare(Opcode::PSMASH)
+    } else if prefixes.repnz() {
+        bare(Opcode::PVALIDATE)
+    } else {
+        bare(Opcode::TLBSYNC)
+    }
+}
+
+#[tactic(auto, unfolding(crate::specs::System::register_0f01_7))]
+fn register_0f01_7(prefixes: &Prefixes, modrm: u8) -> Plan
+    ensures { result ≡ register_0f01_7 prefixes.now modrm }
+{
+    match rm(modrm) {
+        0 => bare(Opcode::SWAPGS),
+        1 => bare(Opcode::RDTSCP),
+        2 => bare(Opcode::MONITORX),
+        3 => bare(Opcode::MWAITX),
+        4 => bare(Opcode::CLZERO),
+        5 => reads(Opcode::RDPRU, Signs::One(ecx_at(RegisterSlot::Reg)), 0),
+        _ if prefixes.operand_size() => bad_operand(),
+        6 => invalidates_pages(prefixes),
+        _ => synchronizes_pages(prefixes),
+    }
+}
+
+#[tactic(auto, unfolding(crate::specs::System::register_0f01))]
+fn register_0f01(prefixes: &Prefixes, modrm: u8) -> Plan
+    ensures { result ≡ register_0f01 prefixes.now modrm }
+{
+    match reg(modrm) {
+        0 => register_0f01_0(prefixes, modrm),
+        1 => register_0f01_1(prefixes, modrm),
+        2 => register_0f01_2(prefixes, modrm),
+        3 => register_0f01_3(prefixes, modrm),
+        4 => reads(Opcode::SMSW, Signs::One(Sign::U(prefixes.v_class())), 2),
+        5 => register_0f01_5(prefixes, modrm),
+        6 => reads(Opcode::LMSW, Signs::One(Sign::U(RegisterClass::W)), 2),
+        _ => register_0f01_7(prefixes, modrm),
+    }
+}
+
+#[tactic(auto, unfolding(crate::specs::System::plan_0f01))]
+pub fn plan_0f01(prefixes: &Prefixes, modrm: u8) -> Plan
+    ensures { result ≡ plan_0f01 prefixes.now modrm }
+{
+    if memory_form(modrm) {
+        memory_0f01(prefixes, modrm)
+    } else {
+        register_0f01(prefixes, modrm)
+    }
+}
