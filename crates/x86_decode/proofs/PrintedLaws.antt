@@ -13,6 +13,10 @@ pub is_answer : (strict : Bool) (xs : List ℕ) → IsAnswer (rows_of word_at) s
 unfolding answer_of count_of outcome_of
 is_answer strict xs = walk_answers (rows_of word_at) strict xs
 
+-- what answer_of gives is an answer
+pub printed_answer : (strict : Bool) (xs : List ℕ) (r : Result Instruction DecodeError) → r ≡ answer_of strict xs → IsAnswer (rows_of word_at) strict xs r (count_of strict xs)
+printed_answer strict xs r e = subst (λ r. IsAnswer (rows_of word_at) strict xs r (count_of strict xs)) (sym e) (is_answer strict xs)
+
 -- it is the only one
 pub only_answer : (strict : Bool) (xs : List ℕ) (r : Result Instruction DecodeError) (n : ℕ) → IsAnswer (rows_of word_at) strict xs r n → (r ≡ answer_of strict xs) × (n ≡ count_of strict xs)
 only_answer strict xs r n a = once (rows_of word_at) strict xs r (answer_of strict xs) n (count_of strict xs) a (is_answer strict xs)
