@@ -1,21 +1,22 @@
 -- What a run's status says of its causes.
-use Rattle.std.proofs.Common.{◌≡◌, ◌≢◌, ℕ, ◌+◌, ◌<◌, ◌≤◌, Bool, List, [], ◌∷◌, ◌++◌, length, take, drop, Option, Some, None, Result, Ok, Err, refl, arith, ap, ◌∙◌, sym, subst, length-append, append_assoc}
+use Rattle.std.proofs.Common.{◌≡◌, ◌≢◌, ℕ, zero, suc, false, ◌+◌, ◌-◌, ◌<◌, ◌≤◌, Bool, List, [], ◌∷◌, ◌++◌, length, take, drop, Option, Some, None, Result, Ok, Err, refl, arith, ap, ◌∙◌, sym, subst, length-append, append_assoc}
 use Rattle.std.proofs.Math.Seq.{drop-append_seam}
 use Rattle.std.specs.Prelude.{IfSome}
 use Rattle.std.specs.List.{concat}
 use Rattle.x86_cli.specs.Faults.{Rose}
-use Rattle.x86_stub.specs.declared.instruction.Instruction.{Instruction}
-use Rattle.x86_stub.specs.declared.DecodeError.TheVariants.{ExhaustedInput}
-use Rattle.x86_stub.specs.Answer.{answer_of}
+use Rattle.x86_decode.specs.declared.instructions.Instruction.{Instruction}
+use Rattle.x86_fields.specs.declared.DecodeError.TheVariants.{ExhaustedInput}
+use Rattle.x86_decode.specs.Answer.{answer_of}
 use Rattle.x86_cli.specs.declared.text.Ending.TheVariants.{Clean}
 use Rattle.x86_cli.specs.declared.window.Front.TheVariants.{Whole}
 use Rattle.x86_cli.specs.declared.status.Status.{Status}
 use Rattle.x86_cli.specs.declared.status.Status.TheVariants.{Done, Usage, Refused, BadText, ReadFault, WriteFault, TooLarge}
 use Rattle.x86_cli.specs.declared.text.Stop.TheVariants.{End}
 use Rattle.x86_cli.specs.declared.command.Command.{Command}
-use Rattle.x86_cli.specs.declared.command.Command.TheVariants.{List as Listed}
+use Rattle.x86_cli.specs.declared.command.Command.TheVariants.{List as Listed, Sweep as Swept}
 use Rattle.x86_cli.specs.Line.{instruction_text}
 use Rattle.x86_cli.specs.Command.{listing_for}
+use Rattle.x86_cli.specs.Sweep.{cut_length, sweep_from}
 use Rattle.x86_cli.specs.Text.{Text, text_of}
 use Rattle.x86_cli.specs.Listing.{Listing, front_of, sure_of, listing_from}
 use Rattle.x86_cli.specs.Run.{World, IsSound, Writes, full_listing, Says, Exactly, ReachesFault}
@@ -91,5 +92,16 @@ completes strict laws max old new result says =
         (full_listing (listing_for (Listed strict)) max b).status ≡ Done
     done b clean row = rw (clean, row.whole) (row_done strict laws (λ place instruction bytes. instruction_text place instruction) 0 row.sentences row.each)
 
+sweep_done : (strict : Bool) (n k : ℕ) (xs : List ℕ) → (sweep_from strict n k xs Clean).status ≡ Done
+unfolding sweep_from
+sweep_done strict n k [] = refl
+sweep_done strict n zero (x ∷ xs) = sweep_done strict (n + 1) (cut_length (answer_of strict (x ∷ xs)) - 1) xs
+sweep_done strict n (suc k) (x ∷ xs) = sweep_done strict (n + 1) k xs
+
 pub completes_command : (command : Command) → ((strict : Bool) → DecoderLaws strict) → (max : ℕ) (old new : World) (result : Status) → Says (listing_for command) max result old new → Completes command max result old new
 completes_command (Listed strict) laws max old new result says = completes strict (laws strict) max old new result says
+completes_command Swept laws max old new result says =
+    each_known old.left (λ b w clean sound. let h = w sound in (h.0 ∙ swept b clean, h.1)) (writes_all (listing_for Swept) max old new result says)
+  where
+    swept : (b : List ℕ) → (text_of max b End).ending ≡ Clean → (full_listing (listing_for Swept) max b).status ≡ Done
+    swept b clean = rw clean (sweep_done false 0 0 (text_of max b End).image)

@@ -8,3 +8,4 @@ pub mod Stands
 pub mod Standing
 pub mod Causes
 pub mod LineLaws
+pub mod SweepLaws

@@ -5,11 +5,14 @@ use Rattle.std.specs.Prelude.{min, codes, ◌==◌, if◌then◌else◌}
 use Rattle.std.specs.List.{flat_map}
 use Rattle.std.proofs.lemmas.Grind.{flat_map-append}
 use Rattle.std.proofs.lemmas.List.{take_min, take_more, length-take-le}
-use Rattle.x86_stub.specs.declared.instruction.Instruction.{Instruction}
-use Rattle.x86_stub.specs.Operands.{operand_at}
-use Rattle.x86_stub.specs.declared.MemoryAccessSize.{MemoryAccessSize}
+use Rattle.x86_decode.specs.declared.instructions.Instruction.{Instruction}
+use Rattle.x86_decode.specs.Instruction.{operand_at}
+use Rattle.x86_operands.specs.declared.operands.MemoryAccessSize.{MemoryAccessSize}
 use Rattle.x86_operands.specs.declared.operands.Operand.{Operand}
 use Rattle.x86_operands.specs.declared.operands.Operand.TheVariants as operand
+use Rattle.x86_fields.specs.declared.DecodeError.{DecodeError}
+use Rattle.x86_fields.specs.declared.DecodeError.TheVariants.{ExhaustedInput, InvalidOpcode, InvalidOperand, InvalidPrefixes, TooLong, IncompleteDecoder}
+use Rattle.x86_fields.specs.Errors.{description_of}
 use Rattle.x86_cli.specs.Line.{operand_text, operands_text, shown_operands, joint_text, size_text}
 
 operands_push : (xs : List Operand) (n : ℕ) (o : Operand) → n ≡ length xs →
@@ -61,3 +64,11 @@ four_long i = refl
 pub all_shown : (i : Instruction) (n : ℕ) → n ≡ min i.count 4 → take n (four i) ≡ shown_operands i
 unfolding four
 all_shown i n e = rw e (take_min i.count (four i))
+
+pub description_short : (e : DecodeError) → length (description_of e) ≤ 26
+description_short ExhaustedInput = omega arith
+description_short InvalidOpcode = omega arith
+description_short InvalidOperand = omega arith
+description_short InvalidPrefixes = omega arith
+description_short TooLong = omega arith
+description_short IncompleteDecoder = omega arith

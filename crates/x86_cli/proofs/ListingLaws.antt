@@ -1,7 +1,7 @@
 -- The listing by what stands at the front.
 use Rattle.std.proofs.Common.{Bool, ◌≡◌, ℕ, suc, zero, ◌+◌, ◌-◌, ◌<◌, ◌≤◌, List, [], ◌∷◌, ◌++◌, length, take, drop, refl, arith, ap, ◌∙◌, sym, subst, append_assoc, append-nil}
-use Rattle.x86_stub.specs.declared.instruction.Instruction.{Instruction}
-use Rattle.x86_stub.specs.declared.DecodeError.{DecodeError}
+use Rattle.x86_decode.specs.declared.instructions.Instruction.{Instruction}
+use Rattle.x86_fields.specs.declared.DecodeError.{DecodeError}
 use Rattle.x86_cli.specs.declared.text.Ending.{Ending}
 use Rattle.x86_cli.specs.declared.window.Front.TheVariants.{Whole, Refused, Ended}
 use Rattle.x86_cli.specs.declared.status.Status.TheVariants as status

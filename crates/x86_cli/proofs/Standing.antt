@@ -5,9 +5,9 @@ use Rattle.std.specs.Prelude.{IfSome, MatchOption}
 use Rattle.std.specs.Io.KnownBytes.{append_known}
 use Rattle.x86_cli.specs.Faults.{Rose}
 use Rattle.x86_cli.specs.declared.sink.SinkFailed.{SinkFailed}
-use Rattle.x86_stub.specs.declared.instruction.Instruction.{Instruction}
-use Rattle.x86_stub.specs.declared.DecodeError.{DecodeError}
-use Rattle.x86_stub.specs.declared.DecodeError.TheVariants.{ExhaustedInput}
+use Rattle.x86_decode.specs.declared.instructions.Instruction.{Instruction}
+use Rattle.x86_fields.specs.declared.DecodeError.{DecodeError}
+use Rattle.x86_fields.specs.declared.DecodeError.TheVariants.{ExhaustedInput}
 use Rattle.x86_cli.specs.declared.text.Ending.{Ending}
 use Rattle.x86_cli.specs.declared.text.Ending.TheVariants.{Clean}
 use Rattle.x86_cli.specs.declared.text.Stop.{Stop}

@@ -1,7 +1,7 @@
 use Rattle.std.specs.Prelude.{◌≡◌, ◌≢◌, ℕ, ◌<◌, ◌≤◌, Bool, List, [], ◌++◌, length, Ok, Err}
-use Rattle.x86_stub.specs.declared.instruction.Instruction.{Instruction}
-use Rattle.x86_stub.specs.declared.DecodeError.TheVariants.{ExhaustedInput}
-use Rattle.x86_stub.specs.Answer.{answer_of}
+use Rattle.x86_decode.specs.declared.instructions.Instruction.{Instruction}
+use Rattle.x86_fields.specs.declared.DecodeError.TheVariants.{ExhaustedInput}
+use Rattle.x86_decode.specs.Answer.{answer_of}
 
 -- what the decoder promises of its answers
 pub record DecoderLaws (strict : Bool) : Type 0 where

@@ -7,6 +7,7 @@ pub mod Line
 pub mod Listing
 pub mod DecoderLaws
 pub mod Window
+pub mod Sweep
 pub mod Codes
 pub mod Run
 pub mod Command

@@ -7,10 +7,10 @@ use Rattle.x86_opcodes.specs.Mnemonics.{mnemonic_of}
 use Rattle.x86_regs.specs.declared.RegSpec.{RegSpec}
 use Rattle.x86_operands.specs.declared.operands.Operand.{Operand}
 use Rattle.x86_operands.specs.declared.operands.Operand.TheVariants as operand
-use Rattle.x86_stub.specs.declared.instruction.Instruction.{Instruction}
-use Rattle.x86_stub.specs.declared.DecodeError.{DecodeError}
-use Rattle.x86_stub.specs.Operands.{operand_at}
-use Rattle.x86_stub.specs.Answer.{description_of}
+use Rattle.x86_decode.specs.declared.instructions.Instruction.{Instruction}
+use Rattle.x86_fields.specs.declared.DecodeError.{DecodeError}
+use Rattle.x86_decode.specs.Instruction.{operand_at}
+use Rattle.x86_fields.specs.Errors.{description_of}
 use Rattle.x86_regs.specs.Names.{name_of}
 
 -- a line with its end

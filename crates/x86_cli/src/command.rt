@@ -1,6 +1,6 @@
 //! Commands, and what each of them writes.
 
-ghost use Rattle.std.specs.Prelude.{◌≡◌, ◌↔◌, ℕ, IfSome, None, map, string_bytes};
+ghost use Rattle.std.specs.Prelude.{◌≡◌, ◌≢◌, ◌↔◌, ℕ, IfSome, Some, None, map, string_bytes};
 ghost use Rattle.x86_cli.specs.Faults.{Rose};
 ghost use Rattle.x86_cli.specs.Command.{command_of, listing_for};
 ghost use Rattle.x86_cli.specs.Run.{World, Says, Exactly, ReachesFault};
@@ -12,19 +12,22 @@ use crate::listing::list;
 use crate::sink::Sink;
 use crate::source::Source;
 use crate::status::Status;
-use x86_stub::InstDecoder;
+use crate::sweep::sweep;
+use x86_decode::InstDecoder;
 
 /// The most bytes of a text.
 pub const TEXT_MAX: u64 = 67108864;
 
 /// What is printed where the words are no command.
-pub const USAGE: &str = "usage: list [--strict]";
+pub const USAGE: &str = "usage: list [--strict] | sweep";
 
 /// What the program does.
 #[derive(Clone, Copy, PartialEq, Eq, Debug, Drop)]
 pub enum Command {
     /// The listing, by the default choice or the strict one.
     List { strict: bool },
+    /// The sweep, by the default choice.
+    Sweep,
 }
 
 fn command_from(words: &[String]) -> Option<Command>
@@ -32,6 +35,7 @@ fn command_from(words: &[String]) -> Option<Command>
 {
     match words {
         [list] if list.as_str() == "list" => Some(Command::List { strict: false }),
+        [sweep] if sweep.as_str() == "sweep" => Some(Command::Sweep),
         [list, strict] if list.as_str() == "list" && strict.as_str() == "--strict" => {
             Some(Command::List { strict: true })
         }
@@ -50,17 +54,19 @@ fn decoder(strict: bool) -> InstDecoder
 }
 
 fn obey<S: Source, K: Sink>(command: Command, source: &mut S, sink: &mut K) -> Status
-    ensures { Says (listing_for command) TEXT_MAX result
+    ensures says { Says (listing_for command) TEXT_MAX result
         (record { left = S.left source.old; source_faults = S.faults source.old; written = K.written sink.old; sink_faults = K.faults sink.old })
         (record { left = S.left source.new; source_faults = S.faults source.new; written = K.written sink.new; sink_faults = K.faults sink.new }) }
+    ensures unrefused { command ≡ Command.Sweep → result ≢ Status.Refused }
 {
     match command {
         Command::List { strict } => list(&decoder(strict), &Plain, TEXT_MAX, source, sink),
+        Command::Sweep => sweep(&decoder(false), TEXT_MAX, source, sink),
     }
 }
 
-/// Does what the words say. `list` and `list --strict` read a hex text from the source, at most `TEXT_MAX` bytes of it,
-/// and write its listing to the sink, a call of `put` for each line.
+/// Does what the words say. `list`, `list --strict` and `sweep` read a hex text from the source, at most `TEXT_MAX` bytes
+/// of it, and write its listing to the sink, a call of `put` for each line.
 pub fn run<S: Source, K: Sink>(words: &[String], source: &mut S, sink: &mut K) -> Status
     ensures says { IfSome (command_of (map string_bytes words.now)) (λ c. Says (listing_for c) TEXT_MAX result
         (record { left = S.left source.old; source_faults = S.faults source.old; written = K.written sink.old; sink_faults = K.faults sink.old })
@@ -71,6 +77,7 @@ pub fn run<S: Source, K: Sink>(words: &[String], source: &mut S, sink: &mut K) -
     ensures refused { IfSome (command_of (map string_bytes words.now)) (λ c. Exactly (listing_for c) TEXT_MAX result Status.Refused
         (record { left = S.left source.old; source_faults = S.faults source.old; written = K.written sink.old; sink_faults = K.faults sink.old })
         (record { left = S.left source.new; source_faults = S.faults source.new; written = K.written sink.new; sink_faults = K.faults sink.new })) }
+    ensures unrefused { command_of (map string_bytes words.now) ≡ Some Command.Sweep → result ≢ Status.Refused }
     ensures bad_text { IfSome (command_of (map string_bytes words.now)) (λ c. Exactly (listing_for c) TEXT_MAX result Status.BadText
         (record { left = S.left source.old; source_faults = S.faults source.old; written = K.written sink.old; sink_faults = K.faults sink.old })
         (record { left = S.left source.new; source_faults = S.faults source.new; written = K.written sink.new; sink_faults = K.faults sink.new })) }

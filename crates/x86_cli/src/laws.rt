@@ -4,7 +4,7 @@ ghost use Rattle.std.specs.Prelude.{Bool};
 ghost use Rattle.x86_cli.specs.DecoderLaws.{DecoderLaws};
 ghost use Rattle.x86_cli.specs.Rows.{RowsAreSound, BadIsFirst};
 
-use x86_stub::laws;
+use x86_decode::laws;
 
 /// No byte is bad exactly in a row of blanks and pairs.
 pub fn rows()
@@ -21,7 +21,7 @@ pub fn decoder_laws()
     ensures { (strict : Bool) → DecoderLaws strict }
 {
     laws::lengths();
-    laws::answers_stay();
+    laws::answers_of_more();
     laws::fifteen_are_enough();
     laws::empty_input();
 }

@@ -2,16 +2,18 @@
 
 ghost use Rattle.std.specs.Prelude.{ℕ, List, ◌≡◌, ◌+◌, ◌++◌, length, take, decimal, Some, codes, ◌≤◌};
 ghost use Rattle.arrayvec.specs.ArrayVec.{array_vec_len};
-ghost use Rattle.x86_stub.specs.declared.instruction.Instruction.{Instruction};
+ghost use Rattle.x86_decode.specs.declared.instructions.Instruction.{Instruction};
 ghost use Rattle.x86_opcodes.specs.Mnemonics.{mnemonic_of};
+ghost use Rattle.x86_fields.specs.Errors.{description_of};
 ghost use Rattle.x86_cli.specs.Line.{instruction_text, operands_text, shown_operands, joint_text, operand_text, deref_text, moved_text, index_text, moved_index_text, scaled_text, displacement_text, register_text, base_text, plus_text, size_text, refusal_text, bad_text};
 
 use arrayvec::ArrayVec;
 use itoa::{Buffer, Integer};
+use x86_decode::Instruction;
+use x86_fields::DecodeError;
 use x86_opcodes::Opcode;
 use x86_operands::Operand;
 use x86_regs::RegSpec;
-use x86_stub::{DecodeError, Instruction};
 
 /// A line, with room for its end.
 pub type Line = ArrayVec<u8, 192>;
@@ -280,6 +282,14 @@ pub fn line_of(place: u64, instruction: &Instruction) -> Line
     line
 }
 
+fn push_description(line: &mut Line, error: DecodeError)
+    requires { array_vec_len line.old + 26 ≤ 192 }
+    ensures text { line.new.items ≡ line.old.items ++ description_of error }
+    ensures short { array_vec_len line.new ≤ array_vec_len line.old + 26 }
+{
+    push_bytes(line, x86_arch::DecodeError::description(&error).as_bytes());
+}
+
 /// The line of a refusal at a place, without its end, as `2 error: invalid opcode`.
 #[tactic(auto, unfolding(crate::specs::Line::refusal_text))]
 pub fn refusal_of(place: u64, error: DecodeError) -> Line
@@ -289,7 +299,7 @@ pub fn refusal_of(place: u64, error: DecodeError) -> Line
     let mut line = Line::new();
     push_number(&mut line, place);
     push_bytes(&mut line, b" error: ");
-    push_bytes(&mut line, error.description().as_bytes());
+    push_description(&mut line, error);
     line
 }
 

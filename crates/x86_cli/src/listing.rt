@@ -14,7 +14,8 @@ use crate::source::Source;
 use crate::status::Status;
 use crate::text::Ending;
 use crate::window::{Front, Window};
-use x86_stub::{DecodeError, InstDecoder, Instruction};
+use x86_decode::{InstDecoder, Instruction};
+use x86_fields::DecodeError;
 
 /// Writes a line with its end.
 pub fn put_line<K: Sink>(sink: &mut K, mut text: Line) -> Result<(), SinkFailed>

@@ -11,6 +11,7 @@ mod listing;
 mod sink;
 mod source;
 mod status;
+mod sweep;
 #[cfg(test)]
 mod tests;
 mod text;

@@ -86,20 +86,35 @@ fn ends_of_the_text(rt: HostRuntime) {
             Status::Done,
         )
     );
-    assert!(&rt;
-        runs(
-            rt.alloc(),
-            &["list", "--strict"],
-            b"0f ae e9",
-            &[],
-            b"0 error: invalid operand\n",
-            Status::Refused,
-        )
-    );
 }
 
 fn is_usage(alloc: Global, texts: &[&str]) -> bool {
     runs(alloc, texts, b"01 d8", &[], b"", Status::Usage)
+}
+
+#[test]
+fn choices(rt: HostRuntime) {
+    let fence: &[u8] = b"0f ae e9";
+    assert!(&rt; lists(rt.alloc(), fence, b"0 3 LFENCE m0\n", Status::Done));
+    let refused: &[u8] = b"0 error: invalid operand\n";
+    let words: &[&str] = &["list", "--strict"];
+    assert!(&rt; runs(rt.alloc(), words, fence, &[], refused, Status::Refused));
+}
+
+#[test]
+fn printed_operands(rt: HostRuntime) {
+    let text: &[u8] = b"48 05 ff ff ff ff c8 10 00 01 67 03 04 25 00 00 00 80";
+    let written: &[u8] =
+        b"0 6 ADD rax, i64:-1 m0\n6 4 ENTER u16:16, u8:1 m8\n10 8 ADD eax, [abs32:2147483648] m4\n";
+    assert!(&rt; lists(rt.alloc(), text, written, Status::Done));
+    let text: &[u8] = b"48 a1 88 77 66 55 44 33 22 11 03 40 80 03 04 8d 10 00 00 00";
+    let written: &[u8] =
+        b"0 10 MOV rax, [abs64:1234605616436508552] m8\n10 3 ADD eax, [rax-128] m4\n13 7 ADD eax, [rcx*4+16] m4\n";
+    assert!(&rt; lists(rt.alloc(), text, written, Status::Done));
+    let text: &[u8] = b"67 03 05 01 00 00 00 43 03 44 25 00 4a 03 04 25 00 00 00 00 d9 20 d9 c1";
+    let written: &[u8] =
+        b"0 7 ADD eax, [eip+1] m4\n7 5 ADD eax, [r13+r12*1] m4\n12 8 ADD rax, [r12*1] m8\n20 2 FLDENV [rax] m?\n22 2 FLD st(0), st(1) m0\n";
+    assert!(&rt; lists(rt.alloc(), text, written, Status::Done));
 }
 
 #[test]
@@ -109,7 +124,35 @@ fn words_matched_whole(rt: HostRuntime) {
     assert!(&rt; is_usage(rt.alloc(), &["list", "strict"]));
     assert!(&rt; is_usage(rt.alloc(), &["list", "--strict", ""]));
     assert!(&rt; is_usage(rt.alloc(), &["--strict", "list"]));
-    assert!(&rt; USAGE == "usage: list [--strict]");
+    assert!(&rt; USAGE == "usage: list [--strict] | sweep");
+}
+
+#[test]
+fn sweeps(rt: HostRuntime) {
+    let written: &[u8] =
+        b"0 error: invalid opcode\n1 2 ADD eax, ebx m4\n3 error: exhausted input\n";
+    assert!(&rt;
+        runs(
+            rt.alloc(),
+            &["sweep"],
+            b"06 01 d8 01",
+            &[],
+            written,
+            Status::Done
+        )
+    );
+    let written: &[u8] = b"0 2 ADD eax, ebx m4\ntext error at 7\n";
+    assert!(&rt;
+        runs(
+            rt.alloc(),
+            &["sweep"],
+            b"01 d8 4",
+            &[],
+            written,
+            Status::BadText
+        )
+    );
+    assert!(&rt; runs(rt.alloc(), &["sweep"], b"", &[], b"", Status::Done));
 }
 
 #[test]

@@ -10,7 +10,8 @@ use crate::laws::decoder_laws;
 use crate::source::Source;
 use crate::text::{Ending, Piece, TextReader};
 use arrayvec::ArrayVec;
-use x86_stub::{DecodeError, InstDecoder, Instruction};
+use x86_decode::{InstDecoder, Instruction};
+use x86_fields::DecodeError;
 
 /// What stands at the front of an image.
 #[derive(Clone, Copy, Drop)]
