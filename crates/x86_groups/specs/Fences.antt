@@ -21,9 +21,9 @@ clears_operand_size plan = record plan { mark = ClearsOperandSize }
 abbrev pub operand_size_0fae : Prefixes → ℕ → Plan
 operand_size_0fae p m =
     if is_memory m then
-        (if reg m == 6 then on_memory CLWB 64
-        else (if reg m == 7 then on_memory CLFLUSHOPT 64
-        else bad_opcode))
+    (if reg m == 6 then on_memory CLWB 64
+    else (if reg m == 7 then on_memory CLFLUSHOPT 64
+    else bad_opcode))
     else (if reg m == 6 then on_register TPAUSE D else bad_opcode)
 
 -- UMWAIT has its register, numbered by rm with B, in the slot of reg.

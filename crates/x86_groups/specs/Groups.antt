@@ -1,13 +1,13 @@
 -- The records of the groups: forms of which ModRM or a suffix chooses the operation. Source: Intel SDM volume 2, appendix A.4.
 use Rattle.std.specs.Prelude.{ℕ, Bool, Option, None}
 use Rattle.x86_fields.specs.declared.Prefixes.{Prefixes}
-use Rattle.x86_operands.specs.declared.plans.Signs.TheVariants.{Zero}
 use Rattle.x86_operands.specs.declared.plans.Fault.{Fault}
 use Rattle.x86_operands.specs.declared.plans.ModrmUse.{ModrmUse}
 use Rattle.x86_operands.specs.declared.plans.ModrmUse.TheVariants.{Fields, Registers}
 use Rattle.x86_operands.specs.declared.plans.Plan.{Plan}
-use Rattle.x86_operands.specs.Plans.{reads, RowRecord}
+use Rattle.x86_operands.specs.Plans.{RowRecord}
 use Rattle.x86_forms.specs.declared.Form.TheVariants as form
+use Rattle.x86_groups.specs.Choice.{bad_opcode}
 use Rattle.x86_groups.specs.Arithmetic.{plan_80, plan_81, plan_83, plan_c0, plan_c1, plan_d0, plan_d1, plan_d2, plan_d3, plan_f6, plan_f7}
 use Rattle.x86_groups.specs.Operations.{plan_8f, plan_c6, plan_c7, plan_fe, plan_ff}
 use Rattle.x86_groups.specs.System.{plan_0f00, plan_0f01}
@@ -23,7 +23,6 @@ use Rattle.x86_groups.specs.Floats.{plan_d8, plan_d9, plan_da, plan_db, plan_dc,
 use Rattle.x86_forms.specs.declared.Form.{Form}
 use Rattle.x86_forms.specs.declared.TableRow.{TableRow}
 
-
 -- HRESET alone refuses at the opcode
 abbrev pub group_fault : Form → Prefixes → Option Fault
 group_fault form.ModRM_0xf30f3af0 p = fault_f30f3af0 p
@@ -37,7 +36,45 @@ group_modrm form.Cq_Rq_0 = Registers
 group_modrm form.Dq_Rq_0 = Registers
 group_modrm f = Fields
 
--- the plan of a form, the opcode of its row, the choice and the prefixes, at a ModRM byte
+-- ---- the plan of a form under the prefixes, at a ModRM byte
+
+-- maps 0F38 and 0F3A
+unfoldable pub three_byte_plan : Form → Prefixes → ℕ → Plan
+three_byte_plan form.ModRM_0xf30f38d8 p m = plan_f30f38d8 p m
+three_byte_plan form.ModRM_0xf30f38dc p m = plan_f30f38dc p m
+three_byte_plan form.ModRM_0xf30f38dd p m = plan_f30f38dd p m
+three_byte_plan form.ModRM_0xf30f38de p m = plan_f30f38de p m
+three_byte_plan form.ModRM_0xf30f38df p m = plan_f30f38df p m
+three_byte_plan form.ModRM_0xf30f38fa p m = plan_f30f38fa p m
+three_byte_plan form.ModRM_0xf30f38fb p m = plan_f30f38fb p m
+three_byte_plan form.ModRM_0xf30f3af0 p m = plan_f30f3af0 p m
+three_byte_plan f p m = bad_opcode
+
+-- map 0F, with the choice and the opcode of the row
+unfoldable pub two_byte_plan : Form → ℕ → Bool → Prefixes → ℕ → Plan
+two_byte_plan form.ModRM_0x0f00 o strict p m = plan_0f00 p m
+two_byte_plan form.ModRM_0x0f01 o strict p m = plan_0f01 p m
+two_byte_plan form.ModRM_0x0f0d o strict p m = plan_0f0d p m
+two_byte_plan form.ModRM_0x0f0f o strict p m = plan_0f0f p m
+two_byte_plan form.ModRM_0x0f12 o strict p m = plan_0f12 p m
+two_byte_plan form.ModRM_0x0f16 o strict p m = plan_0f16 p m
+two_byte_plan form.ModRM_0x0f18 o strict p m = plan_0f18 p m
+two_byte_plan form.Rq_Cq_0 o strict p m = plan_rq_cq o p m
+two_byte_plan form.Rq_Dq_0 o strict p m = plan_rq_dq o p m
+two_byte_plan form.Cq_Rq_0 o strict p m = plan_cq_rq o p m
+two_byte_plan form.Dq_Rq_0 o strict p m = plan_dq_rq o p m
+two_byte_plan form.ModRM_0x0f71 o strict p m = plan_0f71 p m
+two_byte_plan form.ModRM_0x0f72 o strict p m = plan_0f72 p m
+two_byte_plan form.ModRM_0x0f73 o strict p m = plan_0f73 p m
+two_byte_plan form.ModRM_0x0fae o strict p m = plan_0fae strict p m
+two_byte_plan form.ModRM_0x0fba o strict p m = plan_0fba p m
+two_byte_plan form.ModRM_0x0fc7 o strict p m = plan_0fc7 p m
+two_byte_plan form.ModRM_0x660f78 o strict p m = plan_660f78 p m
+two_byte_plan form.ModRM_0xf20f78 o strict p m = plan_f20f78 p m
+two_byte_plan form.ModRM_0xf30f1e o strict p m = plan_f30f1e p m
+two_byte_plan f o strict p m = three_byte_plan f p m
+
+-- the one-byte map
 unfoldable pub form_plan : Form → ℕ → Bool → Prefixes → ℕ → Plan
 form_plan form.ModRM_0x80 o strict p m = plan_80 p m
 form_plan form.ModRM_0x81 o strict p m = plan_81 p m
@@ -63,35 +100,7 @@ form_plan form.ModRM_0xf6 o strict p m = plan_f6 p m
 form_plan form.ModRM_0xf7 o strict p m = plan_f7 p m
 form_plan form.ModRM_0xfe o strict p m = plan_fe p m
 form_plan form.ModRM_0xff o strict p m = plan_ff p m
-form_plan form.ModRM_0x0f00 o strict p m = plan_0f00 p m
-form_plan form.ModRM_0x0f01 o strict p m = plan_0f01 p m
-form_plan form.ModRM_0x0f0d o strict p m = plan_0f0d p m
-form_plan form.ModRM_0x0f0f o strict p m = plan_0f0f p m
-form_plan form.ModRM_0x0f12 o strict p m = plan_0f12 p m
-form_plan form.ModRM_0x0f16 o strict p m = plan_0f16 p m
-form_plan form.ModRM_0x0f18 o strict p m = plan_0f18 p m
-form_plan form.Rq_Cq_0 o strict p m = plan_rq_cq o p m
-form_plan form.Rq_Dq_0 o strict p m = plan_rq_dq o p m
-form_plan form.Cq_Rq_0 o strict p m = plan_cq_rq o p m
-form_plan form.Dq_Rq_0 o strict p m = plan_dq_rq o p m
-form_plan form.ModRM_0x0f71 o strict p m = plan_0f71 p m
-form_plan form.ModRM_0x0f72 o strict p m = plan_0f72 p m
-form_plan form.ModRM_0x0f73 o strict p m = plan_0f73 p m
-form_plan form.ModRM_0x0fae o strict p m = plan_0fae strict p m
-form_plan form.ModRM_0x0fba o strict p m = plan_0fba p m
-form_plan form.ModRM_0x0fc7 o strict p m = plan_0fc7 p m
-form_plan form.ModRM_0x660f78 o strict p m = plan_660f78 p m
-form_plan form.ModRM_0xf20f78 o strict p m = plan_f20f78 p m
-form_plan form.ModRM_0xf30f1e o strict p m = plan_f30f1e p m
-form_plan form.ModRM_0xf30f38d8 o strict p m = plan_f30f38d8 p m
-form_plan form.ModRM_0xf30f38dc o strict p m = plan_f30f38dc p m
-form_plan form.ModRM_0xf30f38dd o strict p m = plan_f30f38dd p m
-form_plan form.ModRM_0xf30f38de o strict p m = plan_f30f38de p m
-form_plan form.ModRM_0xf30f38df o strict p m = plan_f30f38df p m
-form_plan form.ModRM_0xf30f38fa o strict p m = plan_f30f38fa p m
-form_plan form.ModRM_0xf30f38fb o strict p m = plan_f30f38fb p m
-form_plan form.ModRM_0xf30f3af0 o strict p m = plan_f30f3af0 p m
-form_plan f o strict p m = reads o Zero 0
+form_plan f o strict p m = two_byte_plan f o strict p m
 
 abbrev pub group_plan : TableRow → Prefixes → ℕ → Bool → Plan
 group_plan row p m strict = form_plan row.form row.opcode strict p m

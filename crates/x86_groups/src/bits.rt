@@ -5,7 +5,9 @@ ghost use Rattle.x86_groups.specs.Bits.{plan_0fba, by_w, compares_0fc7, operand_
 use crate::choice::{bad_opcode, bad_operand, name_at, on_memory, on_register, reg};
 use x86_fields::Prefixes;
 use x86_opcodes::Opcode;
-use x86_operands::plans::{Fault, Moment, Plan, Sign, Signs, memory_form, memory_only, reads, refuses, size_by};
+use x86_operands::plans::{
+    Fault, Moment, Plan, Sign, Signs, memory_form, memory_only, reads, refuses, size_by,
+};
 use x86_regs::RegisterClass;
 
 #[tactic(auto, unfolding(crate::specs::Bits::plan_0fba))]
@@ -19,7 +21,11 @@ pub fn plan_0fba(prefixes: &Prefixes, modrm: u8) -> Plan
     let names = [Opcode::BT, Opcode::BTS, Opcode::BTR, Opcode::BTC];
     let vq = prefixes.vq_class();
     let signs = Signs::Two(Sign::E(vq), Sign::I8);
-    reads(name_at(&names, reg - 4), signs, size_by(modrm, vq.width(), 0))
+    reads(
+        name_at(&names, reg - 4),
+        signs,
+        size_by(modrm, vq.width(), 0),
+    )
 }
 
 /// /1, whatever the prefixes are.

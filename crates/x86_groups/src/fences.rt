@@ -5,7 +5,9 @@ ghost use Rattle.x86_groups.specs.Fences.{clears_operand_size, operand_size_0fae
 use crate::choice::{bad_opcode, bad_operand, bare, named_by_reg, on_memory, on_register, reg, rm};
 use x86_fields::Prefixes;
 use x86_opcodes::Opcode;
-use x86_operands::plans::{Mark, Plan, RegisterSlot, Sign, Signs, memory_form, reads, rm_number, size_by};
+use x86_operands::plans::{
+    Mark, Plan, RegisterSlot, Sign, Signs, memory_form, reads, rm_number, size_by,
+};
 use x86_regs::{RegSpec, RegisterClass};
 
 /// The answer's prefixes show 66 cleared.
@@ -37,7 +39,11 @@ fn f2_0fae(prefixes: &Prefixes, modrm: u8) -> Plan
         bad_operand()
     } else if reg(modrm) == 6 {
         let register = RegSpec::of(rm_number(modrm, prefixes), RegisterClass::D);
-        reads(Opcode::UMWAIT, Signs::One(Sign::Fixed(RegisterSlot::Reg, register)), 0)
+        reads(
+            Opcode::UMWAIT,
+            Signs::One(Sign::Fixed(RegisterSlot::Reg, register)),
+            0,
+        )
     } else {
         bad_opcode()
     }
@@ -51,7 +57,11 @@ fn trace_0fae(prefixes: &Prefixes, modrm: u8) -> Plan
         return bad_opcode();
     }
     let dq = prefixes.dq_class();
-    reads(Opcode::PTWRITE, Signs::One(Sign::E(dq)), size_by(modrm, dq.width(), 0))
+    reads(
+        Opcode::PTWRITE,
+        Signs::One(Sign::E(dq)),
+        size_by(modrm, dq.width(), 0),
+    )
 }
 
 fn f3_register_0fae(prefixes: &Prefixes, modrm: u8) -> Plan

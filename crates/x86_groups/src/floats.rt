@@ -2,7 +2,9 @@
 ghost use Rattle.std.specs.Prelude.{◌≡◌, ◌≤◌};
 ghost use Rattle.x86_groups.specs.Floats.{control_db, st0, st_rm, loads, stores, into_st0, into_st_rm, of_st_rm, float_name, integer_name, memory_d9, constant_d9, function_d9, register_d9, register_da, memory_db, register_db, register_dc, memory_dd, register_dd, register_de, memory_df, register_df, plan_d8, plan_d9, plan_da, plan_db, plan_dc, plan_dd, plan_de, plan_df};
 
-use crate::choice::{bad_opcode, bad_operand, bare, name_at, named_by_reg, on_memory, on_register, reg, rm};
+use crate::choice::{
+    bad_opcode, bad_operand, bare, name_at, named_by_reg, on_memory, on_register, reg, rm,
+};
 use x86_fields::Prefixes;
 use x86_opcodes::Opcode;
 use x86_operands::plans::{Plan, RegisterSlot, Sign, Signs, memory_form, reads};

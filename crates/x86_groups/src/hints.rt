@@ -72,7 +72,11 @@ pub fn plan_0f18(prefixes: &Prefixes, modrm: u8) -> Plan
     } else {
         Opcode::NOP
     };
-    reads(opcode, Signs::One(Sign::E(v)), size_by(modrm, 64, v.width()))
+    reads(
+        opcode,
+        Signs::One(Sign::E(v)),
+        size_by(modrm, 64, v.width()),
+    )
 }
 
 #[tactic(auto, unfolding(crate::specs::Hints::plan_f30f1e))]

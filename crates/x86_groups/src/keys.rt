@@ -6,7 +6,10 @@ ghost use Rattle.x86_groups.specs.ThreeDNow.{plan_0f0f};
 use crate::choice::{bad_operand, on_memory, reg};
 use x86_fields::Prefixes;
 use x86_opcodes::Opcode;
-use x86_operands::plans::{Fault, Moment, Plan, Sign, Signs, memory_form, memory_only, named_by_suffix, reads, refused, refuses, size_by};
+use x86_operands::plans::{
+    Fault, Moment, Plan, Sign, Signs, memory_form, memory_only, named_by_suffix, reads, refused,
+    refuses, size_by,
+};
 use x86_regs::{RegisterClass, Segment};
 
 #[tactic(auto, unfolding(crate::specs::Keys::plan_f30f38d8))]
@@ -35,7 +38,11 @@ pub fn plan_f30f38dc(prefixes: &Prefixes, modrm: u8) -> Plan
         Opcode::LOADIWKEY
     };
     let signs = Signs::Two(Sign::G(RegisterClass::X), Sign::E(RegisterClass::X));
-    reads(opcode, signs, size_by(modrm, 48, prefixes.v_class().width()))
+    reads(
+        opcode,
+        signs,
+        size_by(modrm, 48, prefixes.v_class().width()),
+    )
 }
 
 fn with_key(opcode: Opcode, size: u8, modrm: u8) -> Plan
@@ -71,7 +78,12 @@ fn encodes_key(opcode: Opcode, prefixes: &Prefixes, modrm: u8) -> Plan
 {
     let signs = Signs::Two(Sign::G(RegisterClass::D), Sign::U(RegisterClass::D));
     let plan = reads(opcode, signs, prefixes.v_class().width());
-    refused(memory_form(modrm), Fault::BadOpcode, Moment::AfterAddress, plan)
+    refused(
+        memory_form(modrm),
+        Fault::BadOpcode,
+        Moment::AfterAddress,
+        plan,
+    )
 }
 
 #[tactic(auto, unfolding(crate::specs::Keys::plan_f30f38fa))]

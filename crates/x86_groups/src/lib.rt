@@ -6,7 +6,7 @@ ghost use Rattle.x86_arch.specs.Reader.{State};
 ghost use Rattle.x86_fields.specs.Steps.{outcome};
 ghost use Rattle.x86_forms.specs.Groups.{is_group_form};
 ghost use Rattle.x86_operands.specs.Signs.{record_step};
-ghost use Rattle.x86_groups.specs.Groups.{form_plan, group_fault, group_modrm, group_record};
+ghost use Rattle.x86_groups.specs.Groups.{form_plan, three_byte_plan, two_byte_plan, group_fault, group_modrm, group_record};
 
 mod arithmetic;
 mod bits;
@@ -20,12 +20,19 @@ mod operations;
 mod shifts;
 mod system;
 
-use arithmetic::{plan_80, plan_81, plan_83, plan_c0, plan_c1, plan_d0, plan_d1, plan_d2, plan_d3, plan_f6, plan_f7};
+use arithmetic::{
+    plan_80, plan_81, plan_83, plan_c0, plan_c1, plan_d0, plan_d1, plan_d2, plan_d3, plan_f6,
+    plan_f7,
+};
 use bits::{plan_0fba, plan_0fc7};
+use choice::bad_opcode;
 use fences::plan_0fae;
 use floats::{plan_d8, plan_d9, plan_da, plan_db, plan_dc, plan_dd, plan_de, plan_df};
 use hints::{plan_0f0d, plan_0f12, plan_0f16, plan_0f18, plan_f30f1e};
-use keys::{fault_f30f3af0, plan_0f0f, plan_f30f38d8, plan_f30f38dc, plan_f30f38dd, plan_f30f38de, plan_f30f38df, plan_f30f38fa, plan_f30f38fb, plan_f30f3af0};
+use keys::{
+    fault_f30f3af0, plan_0f0f, plan_f30f3af0, plan_f30f38d8, plan_f30f38dc, plan_f30f38dd,
+    plan_f30f38de, plan_f30f38df, plan_f30f38fa, plan_f30f38fb,
+};
 use moves::{plan_660f78, plan_cq_rq, plan_dq_rq, plan_f20f78, plan_rq_cq, plan_rq_dq};
 use operations::{plan_8f, plan_c6, plan_c7, plan_fe, plan_ff};
 use shifts::{plan_0f71, plan_0f72, plan_0f73};
@@ -34,7 +41,7 @@ use x86_arch::Reader;
 use x86_fields::{DecodeError, Prefixes};
 use x86_forms::{Form, TableRow};
 use x86_opcodes::Opcode;
-use x86_operands::plans::{Fault, ModrmUse, Plan, Signs, reads};
+use x86_operands::plans::{Fault, ModrmUse, Plan};
 use x86_operands::{Reading, read_modrm, read_plan, refuse};
 
 fn fault(form: Form, prefixes: &Prefixes) -> Option<Fault>
@@ -55,8 +62,57 @@ fn modrm_use(form: Form) -> ModrmUse
     }
 }
 
+/// Maps 0F38 and 0F3A.
+#[tactic(auto, unfolding(crate::specs::Groups::three_byte_plan))]
+fn three_byte_plan(form: Form, prefixes: &Prefixes, modrm: u8) -> Plan
+    ensures { result ≡ three_byte_plan form prefixes.now modrm }
+{
+    match form {
+        Form::ModRM_0xf30f38d8 => plan_f30f38d8(prefixes, modrm),
+        Form::ModRM_0xf30f38dc => plan_f30f38dc(prefixes, modrm),
+        Form::ModRM_0xf30f38dd => plan_f30f38dd(prefixes, modrm),
+        Form::ModRM_0xf30f38de => plan_f30f38de(prefixes, modrm),
+        Form::ModRM_0xf30f38df => plan_f30f38df(prefixes, modrm),
+        Form::ModRM_0xf30f38fa => plan_f30f38fa(prefixes, modrm),
+        Form::ModRM_0xf30f38fb => plan_f30f38fb(prefixes, modrm),
+        Form::ModRM_0xf30f3af0 => plan_f30f3af0(prefixes, modrm),
+        _ => bad_opcode(),
+    }
+}
+
+/// Map 0F.
+#[tactic(auto, unfolding(crate::specs::Groups::two_byte_plan))]
+fn two_byte_plan(form: Form, opcode: Opcode, strict: bool, prefixes: &Prefixes, modrm: u8) -> Plan
+    ensures { result ≡ two_byte_plan form opcode strict prefixes.now modrm }
+{
+    match form {
+        Form::ModRM_0x0f00 => plan_0f00(prefixes, modrm),
+        Form::ModRM_0x0f01 => plan_0f01(prefixes, modrm),
+        Form::ModRM_0x0f0d => plan_0f0d(prefixes, modrm),
+        Form::ModRM_0x0f0f => plan_0f0f(prefixes, modrm),
+        Form::ModRM_0x0f12 => plan_0f12(prefixes, modrm),
+        Form::ModRM_0x0f16 => plan_0f16(prefixes, modrm),
+        Form::ModRM_0x0f18 => plan_0f18(prefixes, modrm),
+        Form::Rq_Cq_0 => plan_rq_cq(opcode, prefixes, modrm),
+        Form::Rq_Dq_0 => plan_rq_dq(opcode, prefixes, modrm),
+        Form::Cq_Rq_0 => plan_cq_rq(opcode, prefixes, modrm),
+        Form::Dq_Rq_0 => plan_dq_rq(opcode, prefixes, modrm),
+        Form::ModRM_0x0f71 => plan_0f71(prefixes, modrm),
+        Form::ModRM_0x0f72 => plan_0f72(prefixes, modrm),
+        Form::ModRM_0x0f73 => plan_0f73(prefixes, modrm),
+        Form::ModRM_0x0fae => plan_0fae(strict, prefixes, modrm),
+        Form::ModRM_0x0fba => plan_0fba(prefixes, modrm),
+        Form::ModRM_0x0fc7 => plan_0fc7(prefixes, modrm),
+        Form::ModRM_0x660f78 => plan_660f78(prefixes, modrm),
+        Form::ModRM_0xf20f78 => plan_f20f78(prefixes, modrm),
+        Form::ModRM_0xf30f1e => plan_f30f1e(prefixes, modrm),
+        _ => three_byte_plan(form, prefixes, modrm),
+    }
+}
+
+/// The plan of a form; `opcode` is that of its row.
 #[tactic(auto, unfolding(crate::specs::Groups::form_plan))]
-fn plan(form: Form, opcode: Opcode, strict: bool, prefixes: &Prefixes, modrm: u8) -> Plan
+fn form_plan(form: Form, opcode: Opcode, strict: bool, prefixes: &Prefixes, modrm: u8) -> Plan
     ensures { result ≡ form_plan form opcode strict prefixes.now modrm }
 {
     match form {
@@ -84,35 +140,7 @@ fn plan(form: Form, opcode: Opcode, strict: bool, prefixes: &Prefixes, modrm: u8
         Form::ModRM_0xf7 => plan_f7(prefixes, modrm),
         Form::ModRM_0xfe => plan_fe(prefixes, modrm),
         Form::ModRM_0xff => plan_ff(prefixes, modrm),
-        Form::ModRM_0x0f00 => plan_0f00(prefixes, modrm),
-        Form::ModRM_0x0f01 => plan_0f01(prefixes, modrm),
-        Form::ModRM_0x0f0d => plan_0f0d(prefixes, modrm),
-        Form::ModRM_0x0f0f => plan_0f0f(prefixes, modrm),
-        Form::ModRM_0x0f12 => plan_0f12(prefixes, modrm),
-        Form::ModRM_0x0f16 => plan_0f16(prefixes, modrm),
-        Form::ModRM_0x0f18 => plan_0f18(prefixes, modrm),
-        Form::Rq_Cq_0 => plan_rq_cq(opcode, prefixes, modrm),
-        Form::Rq_Dq_0 => plan_rq_dq(opcode, prefixes, modrm),
-        Form::Cq_Rq_0 => plan_cq_rq(opcode, prefixes, modrm),
-        Form::Dq_Rq_0 => plan_dq_rq(opcode, prefixes, modrm),
-        Form::ModRM_0x0f71 => plan_0f71(prefixes, modrm),
-        Form::ModRM_0x0f72 => plan_0f72(prefixes, modrm),
-        Form::ModRM_0x0f73 => plan_0f73(prefixes, modrm),
-        Form::ModRM_0x0fae => plan_0fae(strict, prefixes, modrm),
-        Form::ModRM_0x0fba => plan_0fba(prefixes, modrm),
-        Form::ModRM_0x0fc7 => plan_0fc7(prefixes, modrm),
-        Form::ModRM_0x660f78 => plan_660f78(prefixes, modrm),
-        Form::ModRM_0xf20f78 => plan_f20f78(prefixes, modrm),
-        Form::ModRM_0xf30f1e => plan_f30f1e(prefixes, modrm),
-        Form::ModRM_0xf30f38d8 => plan_f30f38d8(prefixes, modrm),
-        Form::ModRM_0xf30f38dc => plan_f30f38dc(prefixes, modrm),
-        Form::ModRM_0xf30f38dd => plan_f30f38dd(prefixes, modrm),
-        Form::ModRM_0xf30f38de => plan_f30f38de(prefixes, modrm),
-        Form::ModRM_0xf30f38df => plan_f30f38df(prefixes, modrm),
-        Form::ModRM_0xf30f38fa => plan_f30f38fa(prefixes, modrm),
-        Form::ModRM_0xf30f38fb => plan_f30f38fb(prefixes, modrm),
-        Form::ModRM_0xf30f3af0 => plan_f30f3af0(prefixes, modrm),
-        _ => reads(opcode, Signs::Zero, 0),
+        _ => two_byte_plan(form, opcode, strict, prefixes, modrm),
     }
 }
 
@@ -133,6 +161,6 @@ pub fn read_group<T: Reader<u64, u8>>(
 {
     refuse(fault(row.form, &prefixes))?;
     let modrm = read_modrm(words, modrm_use(row.form))?;
-    let plan = plan(row.form, row.opcode, strict, &prefixes, modrm);
+    let plan = form_plan(row.form, row.opcode, strict, &prefixes, modrm);
     read_plan(words, &plan, prefixes, modrm)
 }

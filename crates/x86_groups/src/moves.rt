@@ -6,7 +6,9 @@ ghost use Rattle.x86_groups.specs.Extract.{plan_660f78, plan_f20f78};
 use crate::choice::reg;
 use x86_fields::Prefixes;
 use x86_opcodes::Opcode;
-use x86_operands::plans::{Fault, Moment, Plan, Sign, Signs, memory_form, reads, refused, reg_number};
+use x86_operands::plans::{
+    Fault, Moment, Plan, Sign, Signs, memory_form, reads, refused, reg_number,
+};
 use x86_regs::RegisterClass;
 
 /// Whether a control register has the number.

@@ -5,7 +5,9 @@ ghost use Rattle.x86_groups.specs.Operations.{distance_of, plan_8f, plan_c6, pla
 use crate::choice::{is_register_0, on_memory, reg};
 use x86_fields::Prefixes;
 use x86_opcodes::Opcode;
-use x86_operands::plans::{Fault, Moment, Plan, Sign, Signs, immediate, memory_only, reads, refuses, size_by};
+use x86_operands::plans::{
+    Fault, Moment, Plan, Sign, Signs, immediate, memory_only, reads, refuses, size_by,
+};
 use x86_regs::RegisterClass;
 
 #[tactic(auto, unfolding(crate::specs::Operations::plan_8f))]
@@ -16,8 +18,16 @@ pub fn plan_8f(prefixes: &Prefixes, modrm: u8) -> Plan
         return refuses(Fault::Incomplete, Moment::AfterAddress);
     }
     let v = prefixes.v_class();
-    let memory = if prefixes.operand_size() { v.width() } else { 8 };
-    reads(Opcode::POP, Signs::One(Sign::E(v)), size_by(modrm, memory, v.width()))
+    let memory = if prefixes.operand_size() {
+        v.width()
+    } else {
+        8
+    };
+    reads(
+        Opcode::POP,
+        Signs::One(Sign::E(v)),
+        size_by(modrm, memory, v.width()),
+    )
 }
 
 #[tactic(auto, unfolding(crate::specs::Operations::plan_c6))]
@@ -25,7 +35,11 @@ pub fn plan_c6(_prefixes: &Prefixes, modrm: u8) -> Plan
     ensures { result ≡ plan_c6 _prefixes.now modrm }
 {
     if reg(modrm) == 0 {
-        reads(Opcode::MOV, Signs::Two(Sign::E(RegisterClass::B), Sign::I8), 1)
+        reads(
+            Opcode::MOV,
+            Signs::Two(Sign::E(RegisterClass::B), Sign::I8),
+            1,
+        )
     } else if is_register_0(modrm) {
         reads(Opcode::XABORT, Signs::One(Sign::I8), 1)
     } else {
@@ -83,7 +97,11 @@ pub fn plan_ff(prefixes: &Prefixes, modrm: u8) -> Plan
         3 => memory_only(modrm, on_memory(Opcode::CALLF, 10)),
         4 => reads(Opcode::JMP, target, size_by(modrm, 8, v.width())),
         5 => memory_only(modrm, on_memory(Opcode::JMPF, 10)),
-        6 => reads(Opcode::PUSH, operand, if prefixes.operand_size() { 2 } else { 8 }),
+        6 => reads(
+            Opcode::PUSH,
+            operand,
+            if prefixes.operand_size() { 2 } else { 8 },
+        ),
         _ => refuses(Fault::BadOpcode, Moment::AfterAddress),
     }
 }

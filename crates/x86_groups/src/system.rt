@@ -3,7 +3,10 @@ ghost use Rattle.std.specs.Prelude.{◌≡◌};
 ghost use Rattle.x86_operands.specs.Signs.{slot_at};
 ghost use Rattle.x86_groups.specs.System.{rax, eax, ecx_at, edx_at, trusted_domain, monitoring, invalidates_pages, synchronizes_pages, memory_0f01, register_0f01, register_0f01_0, register_0f01_1, register_0f01_2, register_0f01_3, register_0f01_5, register_0f01_7, plan_0f00, plan_0f01};
 
-use crate::choice::{bad_opcode, bad_operand, bare, has_f2_f3_or_66, has_f2_or_f3, name_at, named_by_reg, on_memory, reg, rm};
+use crate::choice::{
+    bad_opcode, bad_operand, bare, has_f2_f3_or_66, has_f2_or_f3, name_at, named_by_reg, on_memory,
+    reg, rm,
+};
 use x86_fields::Prefixes;
 use x86_opcodes::Opcode;
 use x86_operands::plans::{Plan, RegisterSlot, Sign, Signs, memory_form, reads, size_by};
@@ -158,7 +161,11 @@ fn register_0f01_3(_prefixes: &Prefixes, modrm: u8) -> Plan
         4 => bare(Opcode::STGI),
         5 => bare(Opcode::CLGI),
         6 => reads(Opcode::SKINIT, Signs::One(eax()), 0),
-        _ => reads(Opcode::INVLPGA, Signs::Two(rax(), ecx_at(RegisterSlot::Rm)), 0),
+        _ => reads(
+            Opcode::INVLPGA,
+            Signs::Two(rax(), ecx_at(RegisterSlot::Rm)),
+            0,
+        ),
     }
 }
 

@@ -1,0 +1,63 @@
+//! The worked answers, asked of the decoder.
+use crate::answers::{ACCEPTED, Accepted, REFUSED, Refused};
+use x86_arch::{ChunkReader, Reader, U8Reader};
+use x86_decode::InstDecoder;
+use x86_fields::DecodeError;
+
+fn is_accepted(vector: &Accepted) -> bool {
+    let (bytes, mnemonic, _) = *vector;
+    match InstDecoder::default().decode_slice(bytes) {
+        Ok(instruction) => {
+            instruction.opcode().mnemonic() == mnemonic
+                && instruction.len().to_const() == bytes.len() as u64
+        }
+        Err(_) => false,
+    }
+}
+
+#[test]
+fn accepted(rt: HostRuntime) {
+    for vector in ACCEPTED {
+        assert!(rt; is_accepted(vector));
+    }
+}
+
+fn is_refused(vector: &Refused) -> bool {
+    let (bytes, error, taken) = *vector;
+    let mut words = U8Reader::new(bytes);
+    let answer = InstDecoder::default().decode(&mut words);
+    answer == Err(error) && words.offset() == taken
+}
+
+#[test]
+fn refused(rt: HostRuntime) {
+    for vector in REFUSED {
+        assert!(rt; is_refused(vector));
+    }
+}
+
+/// Each proper prefix of an encoding answers `ExhaustedInput`.
+fn is_open_before_its_end(bytes: &[u8]) -> bool {
+    for end in 0..bytes.len() {
+        if InstDecoder::default().decode_slice(&bytes[..end]) != Err(DecodeError::ExhaustedInput) {
+            return false;
+        }
+    }
+    true
+}
+
+/// The encoding with FF behind it answers as by itself.
+fn stays(bytes: &'static [u8]) -> bool {
+    let mut words = ChunkReader::new(bytes, &[0xff]);
+    let decoder = InstDecoder::default();
+    decoder.decode(&mut words) == decoder.decode_slice(bytes)
+        && words.offset() == bytes.len() as u64
+}
+
+#[test]
+fn cut_and_appended(rt: HostRuntime) {
+    for (bytes, _, _) in ACCEPTED {
+        assert!(rt; is_open_before_its_end(bytes));
+        assert!(rt; stays(bytes));
+    }
+}
