@@ -1,5 +1,5 @@
 //! Instructions, and what they are asked.
-ghost use Rattle.std.specs.Prelude.{◌≡◌, ◌<◌, ℕ, true, nat_lt};
+ghost use Rattle.std.specs.Prelude.{◌≡◌, ◌<◌, ◌==◌, ℕ, None, Some, true, nat_lt, if◌then◌else◌};
 ghost use Rattle.std.specs.Cmp.{on_equiv, on_per};
 ghost use Rattle.std.specs.Ordering.{on};
 ghost use Rattle.x86_decode.specs.contracts.instructions.ShownPartialEq.TheImpl.Laws as shown_eq;
@@ -217,6 +217,17 @@ impl Instruction {
     {
         let stores = self.opcode == Opcode::MOV && !is_rm(self.slot(0)) && is_release(self.slot(1));
         self.prefixes.rep() && (self.prefixes.lock() || self.exchanges_memory() || stores)
+    }
+
+    /// The size of the memory access, or `None` where there is none.
+    pub fn mem_size(&self) -> Option<MemoryAccessSize>
+        ensures { result ≡ if self.now.mem_size == 0 then None else Some (record { size = self.now.mem_size }) }
+    {
+        if self.mem_size == 0 {
+            None
+        } else {
+            Some(MemoryAccessSize::new(self.mem_size))
+        }
     }
 
     /// How many bytes the encoding has; 0 of the invalid instruction.

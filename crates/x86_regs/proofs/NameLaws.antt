@@ -9,7 +9,7 @@ use Rattle.x86_regs.specs.declared.RegisterClass.TheVariants.{B, W, D, RB, Q, CR
 use Rattle.x86_regs.specs.Names.{names_of}
 
 abbrev is_short : List ℕ → Bool
-is_short name = nat_le (length name) 8
+is_short name = nat_le (length name) 6
 
 place_short : (names : List (List ℕ)) (n : ℕ) → list_all is_short names ≡ true → is_short (unwrap_or (slice_get names n) []) ≡ true
 place_short [] n all = refl
@@ -36,5 +36,5 @@ all_short RIP = refl
 all_short EFlags = refl
 all_short RFlags = refl
 
-pub name_short : (c : RegisterClass) (n : ℕ) → length (unwrap_or (slice_get (names_of c) n) []) ≤ 8
+pub name_short : (c : RegisterClass) (n : ℕ) → length (unwrap_or (slice_get (names_of c) n) []) ≤ 6
 name_short c n = let e : is_short (unwrap_or (slice_get (names_of c) n) []) ≡ true = place_short (names_of c) n (all_short c) in grind (arith, nat_tests)

@@ -116,7 +116,7 @@ impl RegSpec {
     /// The name in lower case, as `rax`, `r8d` or `st(0)`.
     pub fn name(&self) -> &'static str
         ensures printed { result.now ≡ name_of self.now }
-        ensures short { length result.now ≤ 8 }
+        ensures short { length result.now ≤ 6 }
     {
         text_at(names(self.class), self.num)
     }

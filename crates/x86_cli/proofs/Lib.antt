@@ -1,0 +1,11 @@
+pub mod TextLaws
+pub mod ReadLaws
+pub mod RowLaws
+pub mod FillLaws
+pub mod FrontLaws
+pub mod ListingLaws
+pub mod Stands
+pub mod Standing
+pub mod Causes
+pub mod LineLaws
+pub mod SweepLaws

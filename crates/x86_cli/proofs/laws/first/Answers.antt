@@ -1,0 +1,5 @@
+use Rattle.x86_cli.proofs.RowLaws.{bad_is_first}
+use Rattle.x86_cli.proofs.laws.first.Goals as goal
+
+pub returns : goal.returns
+returns c = bad_is_first

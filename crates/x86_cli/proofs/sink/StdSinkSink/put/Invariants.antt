@@ -1,0 +1,8 @@
+use Rattle.std.proofs.Common.{◌≡◌, length}
+use Rattle.x86_cli.proofs.sink.StdSinkSink.put.Given as goal
+
+abbrev pub invariant-loop-rest : goal.invariant-loop-rest
+invariant-loop-rest g l = l.self.faults ≡ l.initial.self.faults
+
+abbrev pub decreases-loop-rest : goal.decreases-loop-rest
+decreases-loop-rest g l = length l.rest

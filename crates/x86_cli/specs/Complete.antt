@@ -1,0 +1,41 @@
+-- Rows of sentences, and what a run of them answers.
+use Rattle.std.specs.Prelude.{◌≡◌, ℕ, Bool, List, [], ◌∷◌, length, Result, Ok, IfSome, ⊤}
+use Rattle.std.specs.List.{concat}
+use Rattle.std.specs.Io.KnownBytes.{append_known}
+use Rattle.x86_decode.specs.declared.instructions.Instruction.{Instruction}
+use Rattle.x86_decode.specs.Answer.{answer_of}
+use Rattle.x86_cli.specs.declared.text.Ending.TheVariants.{Clean}
+use Rattle.x86_cli.specs.declared.text.Stop.TheVariants.{End}
+use Rattle.x86_cli.specs.declared.status.Status.{Status}
+use Rattle.x86_cli.specs.declared.status.Status.TheVariants.{Done}
+use Rattle.x86_cli.specs.declared.command.Command.{Command}
+use Rattle.x86_cli.specs.declared.command.Command.TheVariants.{List as Listed, Sweep as Swept}
+use Rattle.x86_cli.specs.Text.{text_of}
+use Rattle.x86_cli.specs.Command.{listing_for}
+use Rattle.x86_cli.specs.Run.{World, IsSound, full_listing}
+
+-- the bytes are one instruction, whole
+pub record IsSentence (strict : Bool) (bytes : List ℕ) : Type 0 where
+  pub instruction : Instruction
+  pub answer : answer_of strict bytes ≡ Ok instruction
+  pub whole : instruction.length ≡ length bytes
+
+abbrev pub AreSentences : Bool → List (List ℕ) → Type 0
+AreSentences strict [] = ⊤
+AreSentences strict (s ∷ ss) = IsSentence strict s × AreSentences strict ss
+
+-- An image that is a row of sentences
+pub record IsRowOfSentences (strict : Bool) (image : List ℕ) : Type 0 where
+  pub sentences : List (List ℕ)
+  pub each : AreSentences strict sentences
+  pub whole : image ≡ concat sentences
+
+-- Where the text is clean and its image is a row of sentences, and neither count rose, the run is done and has written all.
+-- A sweep asks no sentences.
+abbrev pub Completes : Command → ℕ → Status → World → World → Type 0
+Completes (Listed strict) max result old new =
+    IfSome old.left (λ b. (text_of max b End).ending ≡ Clean → IsRowOfSentences strict (text_of max b End).image → IsSound old new →
+    (result ≡ Done) × (new.written ≡ append_known old.written (full_listing (listing_for (Listed strict)) max b).bytes))
+Completes Swept max result old new =
+    IfSome old.left (λ b. (text_of max b End).ending ≡ Clean → IsSound old new →
+    (result ≡ Done) × (new.written ≡ append_known old.written (full_listing (listing_for Swept) max b).bytes))

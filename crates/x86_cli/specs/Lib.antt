@@ -1,0 +1,14 @@
+pub mod Faults
+pub mod Outside
+pub mod Text
+pub mod Reading
+pub mod Rows
+pub mod Line
+pub mod Listing
+pub mod DecoderLaws
+pub mod Window
+pub mod Sweep
+pub mod Codes
+pub mod Run
+pub mod Command
+pub mod Complete

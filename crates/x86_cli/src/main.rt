@@ -1,0 +1,66 @@
+//! The listing of the x86-64 instructions of a hex text.
+#![tactic(auto)]
+
+ghost use Rattle.std.specs.Prelude.{◌≡◌};
+
+mod command;
+mod gathered;
+mod laws;
+mod line;
+mod listing;
+mod sink;
+mod source;
+mod status;
+mod sweep;
+#[cfg(test)]
+mod tests;
+mod text;
+mod window;
+
+use command::{USAGE, run};
+use gathered::Gathered;
+use sink::StdSink;
+use source::StdSource;
+use status::Status;
+use std::io::Write;
+use std::process::ExitCode;
+use std::{env, io};
+
+fn words(rt: &HostRuntime) -> io::Result<Vec<String>> {
+    let mut words = Vec::new(rt.alloc());
+    for word in env::args(rt)?.skip(1) {
+        words.push(word)?;
+    }
+    Ok(words)
+}
+
+/// Runs over standard input and output. What was gathered is flushed at the end, but not behind a failed write; a
+/// flush that fails is a write fault.
+fn listed(rt: &HostRuntime, words: &[String]) -> Status {
+    let mut source = StdSource::new(rt.reader());
+    let mut out = Gathered::new(io::writer(rt));
+    let status = {
+        let mut sink = StdSink::new(&mut out);
+        run(words, &mut source, &mut sink)
+    };
+    if let Status::WriteFault = status {
+        return status;
+    }
+    match out.flush() {
+        Ok(()) => status,
+        Err(_) => Status::WriteFault,
+    }
+}
+
+fn main(rt: HostRuntime) -> ExitCode {
+    match words(&rt) {
+        Err(_) => ExitCode::from(1),
+        Ok(words) => {
+            let status = listed(&rt, words.as_slice());
+            if let Status::Usage = status {
+                let _ = eprintln!(rt; "{USAGE}");
+            }
+            ExitCode::from(status.code())
+        }
+    }
+}

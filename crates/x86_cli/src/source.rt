@@ -1,0 +1,203 @@
+//! What a text is read from.
+
+ghost use Rattle.std.specs.Prelude.{◌≡◌, ◌≢◌, ◌↔◌, ◌≤◌, ◌<◌, ℕ, List, Option, Some, None, [], drop, length, Bool, true, false, ◌&&◌, IsTrue};
+ghost use Rattle.std.specs.Io.KnownBytes.{prepend_known};
+ghost use Rattle.x86_cli.specs.Outside.{taken, EndsOnly, CountsFailed, is_listed, next_call};
+
+use std::io::Read;
+
+/// What a source gives.
+#[derive(Clone, Copy, PartialEq, Eq, Debug, Drop)]
+pub enum Got {
+    Byte(u8),
+    End,
+    Failed,
+}
+
+/// Bytes that are taken one by one, and a count of faults that never falls and stops at `u64::MAX`.
+pub trait Source {
+    /// The bytes left, where the source tells them.
+    ghost left: { Self → Option (List ℕ) };
+
+    /// How often the source has failed.
+    ghost faults: { Self → ℕ };
+
+    /// The first byte left, if the source doesn't fail. A failed call takes no byte.
+    fn next(&mut self) -> Got
+        ensures bytes { left self.old ≡ prepend_known (taken result) (left self.new) }
+        ensures end { EndsOnly result (left self.old) }
+        ensures cause { CountsFailed result (faults self.old) (faults self.new) };
+}
+
+/// The bytes of a slice. The calls whose numbers, from 0, stand in `fails` answer `Failed`; the number of a call stops
+/// at `u64::MAX`, and a call with that number doesn't fail.
+#[derive(Drop)]
+pub struct SliceSource<'a> {
+    bytes: &'a [u8],
+    fails: &'a [u64],
+    place: usize,
+    call: u64,
+    faults: u64,
+    ghost in_range: { place ≤ length bytes.now },
+}
+
+impl<'a> SliceSource<'a> {
+    /// A source of these bytes, at its call 0.
+    pub fn new(bytes: &'a [u8], fails: &'a [u64]) -> SliceSource<'a>
+        ensures bytes { ⟦<SliceSource<'a> as Source>⟧.left result ≡ Some bytes.entry.now }
+        ensures sound { ⟦<SliceSource<'a> as Source>⟧.faults result ≡ 0 }
+        ensures fails { result.fails.now ≡ fails.entry.now }
+        ensures call { result.call ≡ 0 }
+    {
+        SliceSource {
+            bytes,
+            fails,
+            place: 0,
+            call: 0,
+            faults: 0,
+        }
+    }
+
+    /// How often a call has failed.
+    pub fn faults(&self) -> u64
+        ensures { result ≡ ⟦<SliceSource<'a> as Source>⟧.faults self.now }
+    {
+        self.faults
+    }
+
+    fn fails_now(&self) -> bool
+        ensures { result ≡ is_listed self.now.call self.now.fails.now }
+    {
+        let call = self.call;
+        call < u64::MAX && self.fails.contains(&call)
+    }
+}
+
+impl<'a> Source for SliceSource<'a> {
+    ghost left = { λ s. Some (drop s.place s.bytes.now) };
+
+    ghost faults = { λ s. s.faults };
+
+    fn next(&mut self) -> Got
+        ensures bytes { ⟦<SliceSource<'a> as Source>⟧.left self.old ≡ prepend_known (taken result) (⟦<SliceSource<'a> as Source>⟧.left self.new) }
+        ensures end { EndsOnly result (⟦<SliceSource<'a> as Source>⟧.left self.old) }
+        ensures cause { CountsFailed result (⟦<SliceSource<'a> as Source>⟧.faults self.old) (⟦<SliceSource<'a> as Source>⟧.faults self.new) }
+        ensures failed { (result ≡ Got.Failed) ↔ IsTrue (is_listed self.old.call self.old.fails.now) }
+        ensures ended { (result ≡ Got.End) ↔ ((is_listed self.old.call self.old.fails.now ≡ false) × (⟦<SliceSource<'a> as Source>⟧.left self.old ≡ Some [])) }
+        ensures call { self.new.call ≡ next_call self.old.call }
+        ensures fails { self.new.fails ≡ self.old.fails }
+    {
+        let failed = self.fails_now();
+        self.call = self.call.saturating_add(1);
+        if failed {
+            self.faults = self.faults.saturating_add(1);
+            return Got::Failed;
+        }
+        if self.place < self.bytes.len() {
+            let byte = self.bytes[self.place];
+            self.place += 1;
+            Got::Byte(byte)
+        } else {
+            Got::End
+        }
+    }
+}
+
+/// The bytes of a slice, without fail.
+#[derive(Drop)]
+pub struct SoundSource<'a> {
+    bytes: &'a [u8],
+}
+
+impl<'a> SoundSource<'a> {
+    /// A source of these bytes.
+    pub fn new(bytes: &'a [u8]) -> SoundSource<'a>
+        ensures { ⟦<SoundSource<'a> as Source>⟧.left result ≡ Some bytes.entry.now }
+    {
+        SoundSource { bytes }
+    }
+}
+
+impl<'a> Source for SoundSource<'a> {
+    ghost left = { λ s. Some s.bytes.now };
+
+    ghost faults = { λ s. 0 };
+
+    fn next(&mut self) -> Got
+        ensures bytes { ⟦<SoundSource<'a> as Source>⟧.left self.old ≡ prepend_known (taken result) (⟦<SoundSource<'a> as Source>⟧.left self.new) }
+        ensures end { EndsOnly result (⟦<SoundSource<'a> as Source>⟧.left self.old) }
+        ensures cause { CountsFailed result (⟦<SoundSource<'a> as Source>⟧.faults self.old) (⟦<SoundSource<'a> as Source>⟧.faults self.new) }
+        ensures sound { result ≢ Got.Failed }
+        ensures ended { (result ≡ Got.End) ↔ (⟦<SoundSource<'a> as Source>⟧.left self.old ≡ Some []) }
+    {
+        match self.bytes.split_first() {
+            Some((first, rest)) => {
+                self.bytes = rest;
+                Got::Byte(*first)
+            }
+            None => Got::End,
+        }
+    }
+}
+
+/// How many bytes one read may give.
+const BUFFER: usize = 65536;
+
+/// The bytes of a reader, one read a buffer. It tells nothing of content. A read that gives no byte is the end.
+#[derive(Drop)]
+pub struct StdSource<R: Read + Drop> {
+    reader: R,
+    buffer: [u8; BUFFER],
+    place: usize,
+    filled: usize,
+    faults: u64,
+    ghost in_range: { filled ≤ 65536 },
+}
+
+impl<R: Read + Drop> StdSource<R> {
+    /// A source over the reader, with nothing read.
+    pub fn new(reader: R) -> StdSource<R>
+        ensures { ⟦<StdSource<R> as Source>⟧.faults result ≡ 0 }
+    {
+        StdSource {
+            reader,
+            buffer: [0; BUFFER],
+            place: 0,
+            filled: 0,
+            faults: 0,
+        }
+    }
+
+    /// How many reads have failed.
+    pub fn faults(&self) -> u64
+        ensures { result ≡ ⟦<StdSource<R> as Source>⟧.faults self.now }
+    {
+        self.faults
+    }
+}
+
+impl<R: Read + Drop> Source for StdSource<R> {
+    ghost left = { λ s. None };
+
+    ghost faults = { λ s. s.faults };
+
+    fn next(&mut self) -> Got {
+        if self.place < self.filled {
+            let byte = self.buffer[self.place];
+            self.place += 1;
+            return Got::Byte(byte);
+        }
+        match self.reader.read(&mut self.buffer) {
+            Ok(0) => Got::End,
+            Ok(count) => {
+                self.filled = count;
+                self.place = 1;
+                Got::Byte(self.buffer[0])
+            }
+            Err(_) => {
+                self.faults = self.faults.saturating_add(1);
+                Got::Failed
+            }
+        }
+    }
+}

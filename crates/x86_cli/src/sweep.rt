@@ -1,0 +1,91 @@
+//! Sweeps: listings that go on behind a refusal.
+
+ghost use Rattle.std.specs.Prelude.{◌≡◌, ◌≢◌, ◌<◌, ◌≤◌, ◌^◌, None};
+ghost use Rattle.arrayvec.specs.ArrayVec.{array_vec_len};
+ghost use Rattle.x86_cli.specs.Run.{World, Says};
+ghost use Rattle.x86_cli.specs.Sweep.{cut_text, cut_length, sweep_at, ShowsCut};
+
+use crate::laws::decoder_laws;
+use crate::line::{Line, line_of, refusal_of};
+use crate::listing::{end, put_line};
+use crate::sink::Sink;
+use crate::source::Source;
+use crate::status::Status;
+use crate::text::Ending;
+use crate::window::Window;
+use x86_decode::{InstDecoder, Instruction};
+use x86_fields::DecodeError;
+
+/// The next cut of a sweep.
+pub enum Cut {
+    Piece(Result<Instruction, DecodeError>),
+    Ended(Ending),
+}
+
+fn cut_line(place: u64, answer: &Result<Instruction, DecodeError>) -> Line
+    ensures text { result.items ≡ cut_text place answer.now }
+    ensures short { array_vec_len result ≤ 191 }
+{
+    match answer {
+        Ok(instruction) => line_of(place, instruction),
+        Err(error) => refusal_of(place, *error),
+    }
+}
+
+fn cut_len(answer: &Result<Instruction, DecodeError>) -> u64
+    ensures { result ≡ cut_length answer.now }
+{
+    match answer {
+        Ok(instruction) => instruction.len().to_const(),
+        Err(_) => 1,
+    }
+}
+
+fn next_cut(window: &Window, decoder: &InstDecoder) -> Cut
+    requires { window.now.ended ≡ None → array_vec_len window.now.bytes ≡ 15 }
+    ensures { ShowsCut decoder.now.strict result window.now.ended window.now.bytes.items window.now.reader.place window.now.reader.room }
+{
+    if !window.bytes.is_empty() {
+        decoder_laws();
+        return Cut::Piece(decoder.decode_slice(window.bytes.as_slice()));
+    }
+    match window.ended {
+        Some(ending) => Cut::Ended(ending),
+        None => unreachable!(),
+    }
+}
+
+/// Writes the sweep of the text that the source gives.
+pub fn sweep<S: Source, K: Sink>(
+    decoder: &InstDecoder,
+    max: u64,
+    source: &mut S,
+    sink: &mut K,
+) -> Status
+    requires { max < 2 ^ 62 }
+    ensures says { Says (sweep_at decoder.now.strict 0) max result
+        (record { left = S.left source.old; source_faults = S.faults source.old; written = K.written sink.old; sink_faults = K.faults sink.old })
+        (record { left = S.left source.new; source_faults = S.faults source.new; written = K.written sink.new; sink_faults = K.faults sink.new }) }
+    ensures unrefused { result ≢ Status.Refused }
+{
+    let mut window = Window::new(max);
+    let mut place = 0u64;
+    'cuts: loop {
+        window.refill(source);
+        match next_cut(&window, decoder) {
+            Cut::Piece(answer) => {
+                match put_line(sink, cut_line(place, &answer)) {
+                    Ok(()) => {}
+                    Err(_) => return Status::WriteFault,
+                }
+                let length = cut_len(&answer);
+                window.leave(length as usize);
+                place += length;
+            }
+            Cut::Ended(ending) => match end(sink, ending) {
+                Ok(status) => return status,
+                Err(_) => return Status::WriteFault,
+            },
+        }
+    }
+}

@@ -1,0 +1,147 @@
+//! The next bytes of an image.
+
+ghost use Rattle.std.specs.Prelude.{◌≡◌, ℕ, ◌+◌, ◌<◌, ◌≤◌, List, [], length, take, drop, None, Some, MatchOption};
+ghost use Rattle.arrayvec.specs.ArrayVec.{array_vec_len};
+ghost use Rattle.x86_cli.specs.declared.text.Stop.{Stop};
+ghost use Rattle.x86_cli.specs.Listing.{front_of, judged, sure_of};
+ghost use Rattle.x86_cli.specs.Window.{rest_of, Fills, Faulted, Finished, Shows};
+
+use crate::laws::decoder_laws;
+use crate::source::Source;
+use crate::text::{Ending, Piece, TextReader};
+use arrayvec::ArrayVec;
+use x86_decode::{InstDecoder, Instruction};
+use x86_fields::DecodeError;
+
+/// What stands at the front of an image.
+#[derive(Clone, Copy, Drop)]
+pub enum Front {
+    Whole(Instruction),
+    Refused(DecodeError),
+    Ended(Ending),
+}
+
+fn sure(answer: Result<Instruction, DecodeError>) -> Front
+    ensures { result ≡ sure_of answer }
+{
+    match answer {
+        Ok(instruction) => Front::Whole(instruction),
+        Err(error) => Front::Refused(error),
+    }
+}
+
+fn judge(answer: Result<Instruction, DecodeError>, ending: Ending) -> Front
+    ensures { result ≡ judged answer ending }
+{
+    match answer {
+        Ok(instruction) => Front::Whole(instruction),
+        Err(DecodeError::ExhaustedInput) => match ending {
+            Ending::Clean => Front::Refused(DecodeError::ExhaustedInput),
+            Ending::Bad(place) => Front::Ended(Ending::Bad(place)),
+            Ending::Large => Front::Ended(Ending::Large),
+            Ending::Fault => Front::Ended(Ending::Fault),
+        },
+        Err(error) => Front::Refused(error),
+    }
+}
+
+/// The next bytes of an image, and the reader of what follows them.
+#[derive(Drop)]
+pub struct Window {
+    pub bytes: ArrayVec<u8, 15>,
+    pub reader: TextReader,
+    pub ended: Option<Ending>,
+}
+
+impl Window {
+    pub fn new(max: u64) -> Window
+        ensures bytes { result.bytes.items ≡ [] }
+        ensures place { result.reader.place ≡ 0 }
+        ensures room { result.reader.room ≡ max }
+        ensures ended { result.ended ≡ None }
+    {
+        Window {
+            bytes: ArrayVec::new(),
+            reader: TextReader::new(max),
+            ended: None,
+        }
+    }
+
+    /// Takes bytes of the image until the window is full or the text has ended.
+    pub fn fill<S: Source>(&mut self, source: &mut S)
+        requires { self.old.ended ≡ None }
+        ensures fills { Fills (rest_of None self.old.bytes.items self.old.reader.place self.old.reader.room)
+            self.new.ended self.new.bytes.items self.new.reader.place self.new.reader.room (S.left source.old) (S.left source.new) }
+        ensures faulted { Faulted self.new.ended (S.faults source.old) (S.faults source.new) }
+        ensures finished { Finished self.new.ended (S.left source.new) }
+        ensures full { self.new.ended ≡ None → array_vec_len self.new.bytes ≡ 15 }
+        ensures uses { array_vec_len self.new.bytes + self.new.reader.room ≤ array_vec_len self.old.bytes + self.old.reader.room }
+    {
+        while !self.bytes.is_full() {
+            match self.reader.next(source) {
+                Piece::Byte(byte) => self.bytes.push(byte),
+                Piece::Stopped(ending) => {
+                    self.ended = Some(ending);
+                    return;
+                }
+            }
+        }
+    }
+
+    /// The same, where the text may have ended.
+    pub fn refill<S: Source>(&mut self, source: &mut S)
+        ensures cases { MatchOption self.old.ended
+            (Fills (rest_of None self.old.bytes.items self.old.reader.place self.old.reader.room)
+            self.new.ended self.new.bytes.items self.new.reader.place self.new.reader.room (S.left source.old) (S.left source.new)
+            × Faulted self.new.ended (S.faults source.old) (S.faults source.new) × Finished self.new.ended (S.left source.new))
+            (λ e. (self.new ≡ self.old) × (source.new ≡ source.old)) }
+        ensures full { self.new.ended ≡ None → array_vec_len self.new.bytes ≡ 15 }
+        ensures uses { array_vec_len self.new.bytes + self.new.reader.room ≤ array_vec_len self.old.bytes + self.old.reader.room }
+    {
+        if self.ended.is_none() {
+            self.fill(source);
+        }
+    }
+
+    /// What stands at the front of the image that is left.
+    pub fn front(&self, decoder: &InstDecoder) -> Front
+        requires { self.now.ended ≡ None → array_vec_len self.now.bytes ≡ 15 }
+        ensures rest { (xs : List ℕ) (stop : Stop) →
+            let rest = rest_of self.now.ended self.now.bytes.items self.now.reader.place self.now.reader.room xs stop in
+            front_of decoder.now.strict rest.image rest.ending ≡ result }
+        ensures shows { Shows decoder.now.strict result self.now.ended self.now.bytes.items }
+    {
+        decoder_laws();
+        let answer = decoder.decode_slice(self.bytes.as_slice());
+        match self.ended {
+            None => sure(answer),
+            Some(ending) => {
+                if self.bytes.is_empty() {
+                    Front::Ended(ending)
+                } else {
+                    judge(answer, ending)
+                }
+            }
+        }
+    }
+
+    /// The first bytes.
+    pub fn first(&self, count: usize) -> &[u8]
+        requires { count ≤ array_vec_len self.now.bytes }
+        ensures { result.now ≡ take count self.now.bytes.items }
+    {
+        &self.bytes.as_slice()[..count]
+    }
+
+    /// Lets the first bytes go.
+    pub fn leave(&mut self, count: usize)
+        requires { count ≤ array_vec_len self.old.bytes }
+        ensures bytes { self.new.bytes.items ≡ drop count self.old.bytes.items }
+        ensures reader { self.new.reader ≡ self.old.reader }
+        ensures ended { self.new.ended ≡ self.old.ended }
+    {
+        for _ in 0..count {
+            self.bytes.remove(0);
+        }
+    }
+}
