@@ -219,17 +219,6 @@ impl Instruction {
         self.prefixes.rep() && (self.prefixes.lock() || self.exchanges_memory() || stores)
     }
 
-    /// The size of the memory access, or `None` where there is none.
-    pub fn mem_size(&self) -> Option<MemoryAccessSize>
-        ensures { result ≡ if self.now.mem_size == 0 then None else Some (record { size = self.now.mem_size }) }
-    {
-        if self.mem_size == 0 {
-            None
-        } else {
-            Some(MemoryAccessSize::new(self.mem_size))
-        }
-    }
-
     /// How many bytes the encoding has; 0 of the invalid instruction.
     pub fn len(&self) -> AddressDiff<u64>
         ensures { result ≡ record { amount = self.now.length } }
