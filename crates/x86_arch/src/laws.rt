@@ -1,6 +1,6 @@
 //! What code over any reader learns, and what equality says.
 
-ghost use Rattle.std.specs.Prelude.{◌≡◌, ◌↔◌, ℕ, ◌+◌, length, IsTrue, OnOk};
+ghost use Rattle.std.specs.Prelude.{◌≡◌, ◌↔◌, ℕ, ◌+◌, ◌<◌, ◌∷◌, [], length, take, IsTrue, IfOk, OnOk, OnErr};
 
 use crate::{AddressDiff, ReadError, Reader, U8Reader};
 
@@ -10,6 +10,8 @@ pub fn next_is_that_of_a_slice<T: Reader<u64, u8>>(
     bytes: &[u8],
 ) -> (Result<u8, ReadError>, Result<u8, ReadError>, u64)
     requires { (T.state words.old).left ≡ bytes.now }
+    ensures taken { IfOk result.0 (λ item. bytes.now ≡ item ∷ (T.state words.new).left) }
+    ensures none_left { OnErr result.0 (bytes.now ≡ []) }
     ensures same_answer { result.0 ≡ result.1 }
     ensures same_count { (T.state words.new).since_made ≡ (T.state words.old).since_made + result.2 }
 {
@@ -28,6 +30,8 @@ pub fn next_n_is_that_of_a_slice<T: Reader<u64, u8>>(
 ) -> (Result<(), ReadError>, Result<(), ReadError>, u64)
     requires same_left { (T.state words.old).left ≡ bytes.now }
     requires same_room { length given.old ≡ length over_slice.old }
+    ensures filled { OnOk result.0 (given.new ≡ take (length given.old) bytes.now) }
+    ensures too_few { OnErr result.0 (length bytes.now < length given.old) }
     ensures same_answer { result.0 ≡ result.1 }
     ensures same_bytes { OnOk result.0 (given.new ≡ over_slice.new) }
     ensures same_count { (T.state words.new).since_made ≡ (T.state words.old).since_made + result.2 }

@@ -7,8 +7,8 @@ use Rattle.x86_fields.specs.declared.DecodeError.{DecodeError}
 use Rattle.x86_fields.specs.declared.DecodeError.TheVariants.{ExhaustedInput}
 use Rattle.x86_fields.specs.declared.Prefixes.{Prefixes}
 use Rattle.x86_fields.specs.declared.Raw.{Raw}
-use Rattle.x86_fields.specs.Steps.{Step, Outcome, outcome, then_from, pure, ◌>>=◌, byte_step, byte_of, bytes_step, number_step, Takes}
-use Rattle.x86_fields.specs.Raw.{raw_step, sib_step, disp_step, disp_width, low_field, rex_b, rex_x}
+use Rattle.x86_fields.specs.Steps.{Step, Outcome, outcome, then_from, pure, ◌>>=◌, byte_step, byte_of, bytes_step, number_step}
+use Rattle.x86_fields.specs.Raw.{raw_step, disp_step, disp_width, low_field, rex_b, rex_x}
 use Rattle.x86_fields.specs.Pieces.{SpellsRaw, IsReadRaw, sib_taken}
 use Rattle.x86_fields.proofs.StepLaws.{advanced_zero}
 use Rattle.x86_fields.proofs.EndLaws.{Ends, settles, runs_out, Only}

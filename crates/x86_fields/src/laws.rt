@@ -21,7 +21,7 @@ pub fn repeats_exclude()
 /// Two reduced address forms of one modulus are the same address exactly where their values agree at every register
 /// file and next pointer. The zero file, the sixteen unit files and the unit next pointer show it.
 pub fn forms_are_their_values()
-    ensures exactly { (f g : Linear) → f.modulus ≡ g.modulus → IsReduced f → IsReduced g → IsSameAddress f g ↔ AgreeEverywhere f g }
+    ensures exactly { (f g : Linear) → f.modulus ≡ g.modulus → IsReduced f → IsReduced g → (IsSameAddress f g ↔ AgreeEverywhere f g) }
     ensures shown_by_units { (f g : Linear) → f.modulus ≡ g.modulus → IsReduced f → IsReduced g → AgreeAtUnits f g → IsSameAddress f g }
 {}
 
