@@ -1,13 +1,13 @@
 //! The walk over the bytes of an encoding: the run of prefixes, the escape and the opcode byte, and what the row asks.
-ghost use Rattle.std.specs.Prelude.{◌≡◌, ℕ, Bool, Option};
+ghost use Rattle.std.specs.Prelude.{◌≡◌, ℕ, List, Bool, Option};
 ghost use Rattle.x86_arch.specs.Reader.{State, advanced, marked};
 ghost use Rattle.x86_fields.specs.Steps.{outcome};
-ghost use Rattle.x86_fields.specs.Run.{is_prefix_byte};
+ghost use Rattle.x86_fields.specs.Run.{is_prefix_byte, reading_of};
 ghost use Rattle.x86_forms.specs.Words.{IsForm, rows_of};
 ghost use Rattle.x86_operands.specs.Signs.{record_step};
 ghost use Rattle.x86_decode.specs.Head.{column_of, is_vex, vex_error, seen};
 ghost use Rattle.x86_decode.specs.Grammar.{record_of, first_slot, lock_allowed};
-ghost use Rattle.x86_decode.specs.Walk.{head_step, escaped_step, opcode_step, body_step, walk_step, decode_step, is_exhausted};
+ghost use Rattle.x86_decode.specs.Walk.{head_from, head_step, escaped_step, opcode_step, body_step, walk_step, decode_step, is_exhausted};
 
 use crate::bounded::{Bounded, Start, takes_rest};
 use crate::instructions::{Instruction, of_reading};
@@ -24,11 +24,14 @@ fn is_prefix(byte: u8) -> bool
     is_legacy(byte) || is_rex(byte)
 }
 
-/// The run of prefixes and the byte behind it.
-fn read_head<T: Reader<u64, u8>>(words: &mut T) -> Result<(Prefixes, u8), DecodeError>
-    ensures { outcome result (T.state words.new) ≡ head_step (T.state words.old) }
+/// The rest of a run of which some bytes were read, and the byte behind it.
+fn read_on<T: Reader<u64, u8>>(
+    words: &mut T,
+    begin: Prefixes,
+) -> Result<(Prefixes, u8), DecodeError>
+    ensures { (front : List ℕ) → begin ≡ reading_of front → outcome result (T.state words.new) ≡ head_from front (T.state words.old) }
 {
-    let mut prefixes = Prefixes::none();
+    let mut prefixes = begin;
     'run: loop {
         let byte = next_byte(words)?;
         if !is_prefix(byte) {
@@ -36,6 +39,25 @@ fn read_head<T: Reader<u64, u8>>(words: &mut T) -> Result<(Prefixes, u8), Decode
         }
         prefixes = prefixes.after(byte);
     }
+}
+
+/// The run of prefixes and the byte behind it. Most encodings have no prefix, or one that is a REX or 66: these don't enter the loop.
+fn read_head<T: Reader<u64, u8>>(words: &mut T) -> Result<(Prefixes, u8), DecodeError>
+    ensures { outcome result (T.state words.new) ≡ head_step (T.state words.old) }
+{
+    let first = next_byte(words)?;
+    if !is_prefix(first) {
+        return Ok((Prefixes::none(), first));
+    }
+    let prefixes = Prefixes::none().after(first);
+    if first != 0x66 && !is_rex(first) {
+        return read_on(words, prefixes);
+    }
+    let second = next_byte(words)?;
+    if !is_prefix(second) {
+        return Ok((prefixes, second));
+    }
+    read_on(words, prefixes.after(second))
 }
 
 fn vex(byte: u8) -> bool
