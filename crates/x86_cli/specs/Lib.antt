@@ -12,3 +12,4 @@ pub mod Codes
 pub mod Run
 pub mod Command
 pub mod Complete
+pub mod Make

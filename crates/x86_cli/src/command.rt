@@ -3,12 +3,14 @@
 ghost use Rattle.std.specs.Prelude.{◌≡◌, ◌≢◌, ◌↔◌, ℕ, IfSome, Some, None, map, string_bytes};
 ghost use Rattle.x86_cli.specs.Faults.{Rose};
 ghost use Rattle.x86_cli.specs.Command.{command_of, listing_for};
+ghost use Rattle.x86_cli.specs.Make.{IsMake, IsNoCommand, Makes};
 ghost use Rattle.x86_cli.specs.Run.{World, Says, Exactly, ReachesFault};
 ghost use Rattle.x86_cli.specs.Complete.{Completes};
 
 use crate::laws::decoder_laws;
 use crate::line::Plain;
 use crate::listing::list;
+use crate::make::{count_from, make};
 use crate::sink::Sink;
 use crate::source::Source;
 use crate::status::Status;
@@ -19,7 +21,7 @@ use x86_decode::InstDecoder;
 pub const TEXT_MAX: u64 = 67108864;
 
 /// What is printed where the words are no command.
-pub const USAGE: &str = "usage: list [--strict] | sweep";
+pub const USAGE: &str = "usage: list [--strict] | make N | sweep";
 
 /// What the program does.
 #[derive(Clone, Copy, PartialEq, Eq, Debug, Drop)]
@@ -39,6 +41,17 @@ fn command_from(words: &[String]) -> Option<Command>
         [list, strict] if list.as_str() == "list" && strict.as_str() == "--strict" => {
             Some(Command::List { strict: true })
         }
+        _ => None,
+    }
+}
+
+/// How many encodings the words ask to be made.
+fn made_from(words: &[String]) -> Option<u32>
+    ensures found { IfSome result (λ n. IsMake (map string_bytes words.now) n) }
+    ensures every { (n : ℕ) → IsMake (map string_bytes words.now) n → result ≡ Some n }
+{
+    match words {
+        [make, count] if make.as_str() == "make" => count_from(count.as_str()),
         _ => None,
     }
 }
@@ -71,7 +84,11 @@ pub fn run<S: Source, K: Sink>(words: &[String], source: &mut S, sink: &mut K) -
     ensures says { IfSome (command_of (map string_bytes words.now)) (λ c. Says (listing_for c) TEXT_MAX result
         (record { left = S.left source.old; source_faults = S.faults source.old; written = K.written sink.old; sink_faults = K.faults sink.old })
         (record { left = S.left source.new; source_faults = S.faults source.new; written = K.written sink.new; sink_faults = K.faults sink.new })) }
-    ensures usage { (result ≡ Status.Usage) ↔ (command_of (map string_bytes words.now) ≡ None) }
+    ensures made { (n : ℕ) → IsMake (map string_bytes words.now) n → Makes n result
+        (record { left = None; source_faults = 0; written = K.written sink.old; sink_faults = K.faults sink.old })
+        (record { left = None; source_faults = 0; written = K.written sink.new; sink_faults = K.faults sink.new }) }
+    ensures made_of_nothing { (n : ℕ) → IsMake (map string_bytes words.now) n → source.new ≡ source.old }
+    ensures usage { (result ≡ Status.Usage) ↔ IsNoCommand (map string_bytes words.now) }
     ensures reads_nothing { result ≡ Status.Usage → source.new ≡ source.old }
     ensures writes_nothing { result ≡ Status.Usage → sink.new ≡ sink.old }
     ensures refused { IfSome (command_of (map string_bytes words.now)) (λ c. Exactly (listing_for c) TEXT_MAX result Status.Refused
@@ -94,7 +111,10 @@ pub fn run<S: Source, K: Sink>(words: &[String], source: &mut S, sink: &mut K) -
 {
     decoder_laws();
     match command_from(words) {
-        None => Status::Usage,
         Some(command) => obey(command, source, sink),
+        None => match made_from(words) {
+            Some(count) => make(count, sink),
+            None => Status::Usage,
+        },
     }
 }

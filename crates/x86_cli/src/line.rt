@@ -49,7 +49,8 @@ pub fn push_bytes(line: &mut Line, bytes: &[u8])
     let _ = line.try_extend_from_slice(bytes);
 }
 
-fn push_number<I: Integer>(line: &mut Line, n: I)
+/// Appends the decimal of a number.
+pub fn push_number<I: Integer>(line: &mut Line, n: I)
     requires { array_vec_len line.old + I.MAX_STR_LEN ≤ 192 }
     ensures text { line.new.items ≡ line.old.items ++ I.text n }
     ensures short { array_vec_len line.new ≤ array_vec_len line.old + I.MAX_STR_LEN }

@@ -8,6 +8,7 @@ mod gathered;
 mod laws;
 mod line;
 mod listing;
+mod make;
 mod sink;
 mod source;
 mod status;

@@ -16,6 +16,8 @@ mod reader_tests;
 #[cfg(test)]
 mod recorder;
 #[cfg(test)]
+mod refusals;
+#[cfg(test)]
 mod tests;
 #[cfg(test)]
 mod walk_tests;

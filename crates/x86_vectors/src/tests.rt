@@ -1,5 +1,6 @@
 //! The worked answers, asked of the decoder.
 use crate::answers::{ACCEPTED, Accepted, REFUSED, Refused};
+use crate::refusals::PARTS;
 use x86_arch::{ChunkReader, Reader, U8Reader};
 use x86_decode::{InstDecoder, Instruction};
 use x86_fields::DecodeError;
@@ -41,6 +42,15 @@ fn is_refused(vector: &Refused) -> bool {
 fn refused(rt: HostRuntime) {
     for vector in REFUSED {
         assert!(rt; is_refused(vector));
+    }
+}
+
+#[test]
+fn refused_by_records(rt: HostRuntime) {
+    for part in PARTS {
+        for vector in *part {
+            assert!(rt; is_refused(vector));
+        }
     }
 }
 
