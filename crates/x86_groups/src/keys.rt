@@ -13,8 +13,8 @@ use x86_operands::plans::{
 use x86_regs::{RegisterClass, Segment};
 
 #[tactic(auto, unfolding(crate::specs::Keys::plan_f30f38d8))]
-pub fn plan_f30f38d8(_prefixes: &Prefixes, modrm: u8) -> Plan
-    ensures { result ≡ plan_f30f38d8 _prefixes.now modrm }
+pub fn plan_f30f38d8(modrm: u8) -> Plan
+    ensures { result ≡ plan_f30f38d8 modrm }
 {
     if !memory_form(modrm) {
         return bad_operand();
@@ -53,22 +53,22 @@ fn with_key(opcode: Opcode, size: u8, modrm: u8) -> Plan
 }
 
 #[tactic(auto, unfolding(crate::specs::Keys::plan_f30f38dd))]
-pub fn plan_f30f38dd(_prefixes: &Prefixes, modrm: u8) -> Plan
-    ensures { result ≡ plan_f30f38dd _prefixes.now modrm }
+pub fn plan_f30f38dd(modrm: u8) -> Plan
+    ensures { result ≡ plan_f30f38dd modrm }
 {
     with_key(Opcode::AESDEC128KL, 48, modrm)
 }
 
 #[tactic(auto, unfolding(crate::specs::Keys::plan_f30f38de))]
-pub fn plan_f30f38de(_prefixes: &Prefixes, modrm: u8) -> Plan
-    ensures { result ≡ plan_f30f38de _prefixes.now modrm }
+pub fn plan_f30f38de(modrm: u8) -> Plan
+    ensures { result ≡ plan_f30f38de modrm }
 {
     with_key(Opcode::AESENC256KL, 64, modrm)
 }
 
 #[tactic(auto, unfolding(crate::specs::Keys::plan_f30f38df))]
-pub fn plan_f30f38df(_prefixes: &Prefixes, modrm: u8) -> Plan
-    ensures { result ≡ plan_f30f38df _prefixes.now modrm }
+pub fn plan_f30f38df(modrm: u8) -> Plan
+    ensures { result ≡ plan_f30f38df modrm }
 {
     with_key(Opcode::AESDEC256KL, 64, modrm)
 }
@@ -101,8 +101,8 @@ pub fn plan_f30f38fb(prefixes: &Prefixes, modrm: u8) -> Plan
 }
 
 #[tactic(auto, unfolding(crate::specs::Keys::plan_f30f3af0))]
-pub fn plan_f30f3af0(_prefixes: &Prefixes, modrm: u8) -> Plan
-    ensures { result ≡ plan_f30f3af0 _prefixes.now modrm }
+pub fn plan_f30f3af0(modrm: u8) -> Plan
+    ensures { result ≡ plan_f30f3af0 modrm }
 {
     let plan = reads(Opcode::HRESET, Signs::One(Sign::U8), 0);
     refused(memory_form(modrm), Fault::BadOpcode, Moment::AtModRM, plan)

@@ -65,8 +65,8 @@ pub fn plan_dq_rq(opcode: Opcode, prefixes: &Prefixes, modrm: u8) -> Plan
 }
 
 #[tactic(auto, unfolding(crate::specs::Extract::plan_660f78))]
-pub fn plan_660f78(_prefixes: &Prefixes, modrm: u8) -> Plan
-    ensures { result ≡ plan_660f78 _prefixes.now modrm }
+pub fn plan_660f78(modrm: u8) -> Plan
+    ensures { result ≡ plan_660f78 modrm }
 {
     let signs = Signs::Three(Sign::U(RegisterClass::X), Sign::U8, Sign::X8);
     let plan = reads(Opcode::EXTRQ, signs, 0);
@@ -75,8 +75,8 @@ pub fn plan_660f78(_prefixes: &Prefixes, modrm: u8) -> Plan
 }
 
 #[tactic(auto, unfolding(crate::specs::Extract::plan_f20f78))]
-pub fn plan_f20f78(_prefixes: &Prefixes, modrm: u8) -> Plan
-    ensures { result ≡ plan_f20f78 _prefixes.now modrm }
+pub fn plan_f20f78(modrm: u8) -> Plan
+    ensures { result ≡ plan_f20f78 modrm }
 {
     let x = RegisterClass::X;
     let signs = Signs::Four(Sign::G(x), Sign::U(x), Sign::U8, Sign::X8);
