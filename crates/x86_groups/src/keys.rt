@@ -1,14 +1,12 @@
-//! Key Locker, HRESET and 3DNow.
+//! Key Locker and HRESET.
 ghost use Rattle.std.specs.Prelude.{◌≡◌};
 ghost use Rattle.x86_groups.specs.Keys.{with_key, encodes_key, is_no_override, is_f3_alone, plan_f30f38d8, plan_f30f38dc, plan_f30f38dd, plan_f30f38de, plan_f30f38df, plan_f30f38fa, plan_f30f38fb, plan_f30f3af0, fault_f30f3af0};
-ghost use Rattle.x86_groups.specs.ThreeDNow.{plan_0f0f};
 
 use crate::choice::{bad_operand, on_memory, reg};
 use x86_fields::Prefixes;
 use x86_opcodes::Opcode;
 use x86_operands::plans::{
-    Fault, Moment, Plan, Sign, Signs, memory_form, memory_only, named_by_suffix, reads, refused,
-    refuses, size_by,
+    Fault, Moment, Plan, Sign, Signs, memory_form, memory_only, reads, refused, refuses, size_by,
 };
 use x86_regs::{RegisterClass, Segment};
 
@@ -138,13 +136,4 @@ pub fn fault_f30f3af0(prefixes: &Prefixes) -> Option<Fault>
     } else {
         Some(Fault::BadOpcode)
     }
-}
-
-/// 3DNow, whose last byte names the opcode.
-#[tactic(auto, unfolding(crate::specs::ThreeDNow::plan_0f0f))]
-pub fn plan_0f0f(prefixes: &Prefixes, modrm: u8) -> Plan
-    ensures { result ≡ plan_0f0f prefixes.now modrm }
-{
-    let signs = Signs::Two(Sign::Gmm, Sign::Emm);
-    named_by_suffix(signs, size_by(modrm, 8, prefixes.v_class().width()))
 }

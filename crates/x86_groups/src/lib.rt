@@ -11,6 +11,7 @@ ghost use Rattle.x86_groups.specs.Groups.{form_plan, three_byte_plan, two_byte_p
 mod arithmetic;
 mod bits;
 mod choice;
+mod extract;
 mod fences;
 mod floats;
 mod hints;
@@ -19,6 +20,7 @@ mod moves;
 mod operations;
 mod shifts;
 mod system;
+mod three_d_now;
 
 use arithmetic::{
     plan_80, plan_81, plan_83, plan_c0, plan_c1, plan_d0, plan_d1, plan_d2, plan_d3, plan_f6,
@@ -26,17 +28,19 @@ use arithmetic::{
 };
 use bits::{plan_0fba, plan_0fc7};
 use choice::bad_opcode;
+use extract::{plan_660f78, plan_f20f78};
 use fences::plan_0fae;
 use floats::{plan_d8, plan_d9, plan_da, plan_db, plan_dc, plan_dd, plan_de, plan_df};
 use hints::{plan_0f0d, plan_0f12, plan_0f16, plan_0f18, plan_f30f1e};
 use keys::{
-    fault_f30f3af0, plan_0f0f, plan_f30f3af0, plan_f30f38d8, plan_f30f38dc, plan_f30f38dd,
-    plan_f30f38de, plan_f30f38df, plan_f30f38fa, plan_f30f38fb,
+    fault_f30f3af0, plan_f30f3af0, plan_f30f38d8, plan_f30f38dc, plan_f30f38dd, plan_f30f38de,
+    plan_f30f38df, plan_f30f38fa, plan_f30f38fb,
 };
-use moves::{plan_660f78, plan_cq_rq, plan_dq_rq, plan_f20f78, plan_rq_cq, plan_rq_dq};
+use moves::{plan_cq_rq, plan_dq_rq, plan_rq_cq, plan_rq_dq};
 use operations::{plan_8f, plan_c6, plan_c7, plan_fe, plan_ff};
 use shifts::{plan_0f71, plan_0f72, plan_0f73};
 use system::{plan_0f00, plan_0f01};
+use three_d_now::plan_0f0f;
 use x86_arch::Reader;
 use x86_fields::{DecodeError, Prefixes};
 use x86_forms::{Form, TableRow};
