@@ -16,8 +16,8 @@ use Rattle.x86_groups.specs.Choice.{named_by_reg, reg}
 abbrev pub arithmetic_name : ℕ → ℕ
 arithmetic_name m = named_by_reg (ADD ∷ OR ∷ ADC ∷ SBB ∷ AND ∷ SUB ∷ XOR ∷ CMP ∷ []) m
 
-unfoldable pub plan_80 : Prefixes → ℕ → Plan
-plan_80 p m = reads (arithmetic_name m) (Two (E B) I8) 1
+unfoldable pub plan_80 : ℕ → Plan
+plan_80 m = reads (arithmetic_name m) (Two (E B) I8) 1
 
 unfoldable pub plan_81 : Prefixes → ℕ → Plan
 plan_81 p m = reads (arithmetic_name m) (Two (E (v p)) (immediate_of (v p))) (width_of (v p))
@@ -42,20 +42,20 @@ rotates_byte count m = reads (rotation_name m) (Two (E B) count) 1
 abbrev pub rotates_word : Sign → Prefixes → ℕ → Plan
 rotates_word count p m = reads (rotation_name m) (Two (E (v p)) count) (width_of (v p))
 
-unfoldable pub plan_c0 : Prefixes → ℕ → Plan
-plan_c0 p m = rotates_byte I8 m
+unfoldable pub plan_c0 : ℕ → Plan
+plan_c0 m = rotates_byte I8 m
 
 unfoldable pub plan_c1 : Prefixes → ℕ → Plan
 plan_c1 p m = rotates_word I8 p m
 
-unfoldable pub plan_d0 : Prefixes → ℕ → Plan
-plan_d0 p m = rotates_byte one m
+unfoldable pub plan_d0 : ℕ → Plan
+plan_d0 m = rotates_byte one m
 
 unfoldable pub plan_d1 : Prefixes → ℕ → Plan
 plan_d1 p m = rotates_word one p m
 
-unfoldable pub plan_d2 : Prefixes → ℕ → Plan
-plan_d2 p m = rotates_byte cl m
+unfoldable pub plan_d2 : ℕ → Plan
+plan_d2 m = rotates_byte cl m
 
 unfoldable pub plan_d3 : Prefixes → ℕ → Plan
 plan_d3 p m = rotates_word cl p m
@@ -67,8 +67,8 @@ test_name m = named_by_reg (TEST ∷ TEST ∷ NOT ∷ NEG ∷ MUL ∷ IMUL ∷ D
 abbrev pub is_test : ℕ → Bool
 is_test m = nat_lt (reg m) 2
 
-unfoldable pub plan_f6 : Prefixes → ℕ → Plan
-plan_f6 p m = reads (test_name m) (if is_test m then Two (E B) I8 else One (E B)) 1
+unfoldable pub plan_f6 : ℕ → Plan
+plan_f6 m = reads (test_name m) (if is_test m then Two (E B) I8 else One (E B)) 1
 
 unfoldable pub plan_f7 : Prefixes → ℕ → Plan
 plan_f7 p m = reads (test_name m) (if is_test m then Two (E (v p)) (immediate_of (v p)) else One (E (v p))) (width_of (v p))

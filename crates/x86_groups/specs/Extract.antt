@@ -1,7 +1,6 @@
 -- EXTRQ and INSERTQ with two immediates. Source: AMD APM volume 4, EXTRQ and INSERTQ.
 use Rattle.std.specs.Prelude.{ℕ, ◌==◌, not, ◌||◌}
 use Rattle.x86_regs.specs.declared.RegisterClass.TheVariants.{X}
-use Rattle.x86_fields.specs.declared.Prefixes.{Prefixes}
 use Rattle.x86_operands.specs.declared.plans.Sign.TheVariants.{G, U, U8, X8}
 use Rattle.x86_operands.specs.declared.plans.Signs.TheVariants.{Three, Four}
 use Rattle.x86_operands.specs.declared.plans.Fault.TheVariants.{BadOperand}
@@ -11,8 +10,8 @@ use Rattle.x86_operands.specs.Plans.{is_memory, reads, refused}
 use Rattle.x86_opcodes.specs.Names.{EXTRQ, INSERTQ}
 use Rattle.x86_groups.specs.Choice.{reg}
 
-unfoldable pub plan_660f78 : Prefixes → ℕ → Plan
-plan_660f78 p m = refused (is_memory m || not (reg m == 0)) BadOperand AtModRM (reads EXTRQ (Three (U X) U8 X8) 0)
+unfoldable pub plan_660f78 : ℕ → Plan
+plan_660f78 m = refused (is_memory m || not (reg m == 0)) BadOperand AtModRM (reads EXTRQ (Three (U X) U8 X8) 0)
 
-unfoldable pub plan_f20f78 : Prefixes → ℕ → Plan
-plan_f20f78 p m = refused (is_memory m) BadOperand AtModRM (reads INSERTQ (Four (G X) (U X) U8 X8) 0)
+unfoldable pub plan_f20f78 : ℕ → Plan
+plan_f20f78 m = refused (is_memory m) BadOperand AtModRM (reads INSERTQ (Four (G X) (U X) U8 X8) 0)

@@ -18,8 +18,8 @@ use Rattle.x86_groups.specs.Choice.{bad_opcode, bad_operand, bare, named_by_reg,
 abbrev pub clears_operand_size : Plan → Plan
 clears_operand_size plan = record plan { mark = ClearsOperandSize }
 
-abbrev pub operand_size_0fae : Prefixes → ℕ → Plan
-operand_size_0fae p m =
+abbrev pub operand_size_0fae : ℕ → Plan
+operand_size_0fae m =
     if is_memory m then
     (if reg m == 6 then on_memory CLWB 64
     else (if reg m == 7 then on_memory CLFLUSHOPT 64
@@ -78,5 +78,5 @@ unfoldable pub plan_0fae : Bool → Prefixes → ℕ → Plan
 plan_0fae strict p m =
     if has_f2 p then f2_0fae p m
     else (if has_f3 p then f3_0fae p m
-    else (if p.operand_size then clears_operand_size (operand_size_0fae p m)
+    else (if p.operand_size then clears_operand_size (operand_size_0fae m)
     else plain_0fae strict m))

@@ -1,7 +1,6 @@
 -- x87: D8 to DF, with memory by reg, and with a register by reg or by the whole ModRM byte. Source: Intel SDM volume 2, appendix A.5.
 use Rattle.std.specs.Prelude.{ℕ, nat_lt, nat_le, ◌==◌, ◌-◌, ◌&&◌, if◌then◌else◌, [], ◌∷◌}
 use Rattle.x86_regs.specs.declared.RegisterClass.TheVariants.{W, ST}
-use Rattle.x86_fields.specs.declared.Prefixes.{Prefixes}
 use Rattle.x86_operands.specs.declared.plans.Sign.{Sign}
 use Rattle.x86_operands.specs.declared.plans.Sign.TheVariants.{M, Fixed}
 use Rattle.x86_operands.specs.declared.plans.Signs.TheVariants.{One, Two}
@@ -45,8 +44,8 @@ integer_name m = named_by_reg (FIADD ∷ FIMUL ∷ FICOM ∷ FICOMP ∷ FISUB �
 
 -- ---- D8
 
-unfoldable pub plan_d8 : Prefixes → ℕ → Plan
-plan_d8 p m = if is_memory m then loads (float_name m) 4 else into_st0 (float_name m) m
+unfoldable pub plan_d8 : ℕ → Plan
+plan_d8 m = if is_memory m then loads (float_name m) 4 else into_st0 (float_name m) m
 
 -- ---- D9
 
@@ -84,8 +83,8 @@ register_d9 m =
     else (if nat_lt m 0xf0 then constant_d9 m
     else function_d9 m))))
 
-unfoldable pub plan_d9 : Prefixes → ℕ → Plan
-plan_d9 p m = if is_memory m then memory_d9 m else register_d9 m
+unfoldable pub plan_d9 : ℕ → Plan
+plan_d9 m = if is_memory m then memory_d9 m else register_d9 m
 
 -- ---- DA
 
@@ -98,8 +97,8 @@ register_da m =
     else (if m == 0xe9 then bare FUCOMPP
     else bad_opcode))))
 
-unfoldable pub plan_da : Prefixes → ℕ → Plan
-plan_da p m = if is_memory m then loads (integer_name m) 4 else register_da m
+unfoldable pub plan_da : ℕ → Plan
+plan_da m = if is_memory m then loads (integer_name m) 4 else register_da m
 
 -- ---- DB
 
@@ -130,8 +129,8 @@ register_db m =
     else (if reg m == 6 then into_st0 FCOMI m
     else bad_opcode))))))
 
-unfoldable pub plan_db : Prefixes → ℕ → Plan
-plan_db p m = if is_memory m then memory_db m else register_db m
+unfoldable pub plan_db : ℕ → Plan
+plan_db m = if is_memory m then memory_db m else register_db m
 
 -- ---- DC
 
@@ -146,8 +145,8 @@ register_dc m =
     else (if reg m == 6 then into_st_rm FDIVR m
     else into_st_rm FDIV m))))))
 
-unfoldable pub plan_dc : Prefixes → ℕ → Plan
-plan_dc p m = if is_memory m then loads (float_name m) 8 else register_dc m
+unfoldable pub plan_dc : ℕ → Plan
+plan_dc m = if is_memory m then loads (float_name m) 8 else register_dc m
 
 -- ---- DD
 
@@ -172,8 +171,8 @@ register_dd m =
     else (if reg m == 5 then into_st0 FUCOMP m
     else bad_opcode)))))
 
-unfoldable pub plan_dd : Prefixes → ℕ → Plan
-plan_dd p m = if is_memory m then memory_dd m else register_dd m
+unfoldable pub plan_dd : ℕ → Plan
+plan_dd m = if is_memory m then memory_dd m else register_dd m
 
 -- ---- DE
 
@@ -188,8 +187,8 @@ register_de m =
     else (if reg m == 6 then into_st_rm FDIVRP m
     else into_st_rm FDIVP m))))))
 
-unfoldable pub plan_de : Prefixes → ℕ → Plan
-plan_de p m = if is_memory m then loads (integer_name m) 2 else register_de m
+unfoldable pub plan_de : ℕ → Plan
+plan_de m = if is_memory m then loads (integer_name m) 2 else register_de m
 
 -- ---- DF
 
@@ -215,5 +214,5 @@ register_df m =
     else (if reg m == 6 then into_st0 FCOMIP m
     else bad_opcode))))))
 
-unfoldable pub plan_df : Prefixes → ℕ → Plan
-plan_df p m = if is_memory m then memory_df m else register_df m
+unfoldable pub plan_df : ℕ → Plan
+plan_df m = if is_memory m then memory_df m else register_df m

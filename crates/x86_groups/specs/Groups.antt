@@ -40,21 +40,21 @@ group_modrm f = Fields
 
 -- maps 0F38 and 0F3A
 unfoldable pub three_byte_plan : Form → Prefixes → ℕ → Plan
-three_byte_plan form.ModRM_0xf30f38d8 p m = plan_f30f38d8 p m
+three_byte_plan form.ModRM_0xf30f38d8 p m = plan_f30f38d8 m
 three_byte_plan form.ModRM_0xf30f38dc p m = plan_f30f38dc p m
-three_byte_plan form.ModRM_0xf30f38dd p m = plan_f30f38dd p m
-three_byte_plan form.ModRM_0xf30f38de p m = plan_f30f38de p m
-three_byte_plan form.ModRM_0xf30f38df p m = plan_f30f38df p m
+three_byte_plan form.ModRM_0xf30f38dd p m = plan_f30f38dd m
+three_byte_plan form.ModRM_0xf30f38de p m = plan_f30f38de m
+three_byte_plan form.ModRM_0xf30f38df p m = plan_f30f38df m
 three_byte_plan form.ModRM_0xf30f38fa p m = plan_f30f38fa p m
 three_byte_plan form.ModRM_0xf30f38fb p m = plan_f30f38fb p m
-three_byte_plan form.ModRM_0xf30f3af0 p m = plan_f30f3af0 p m
+three_byte_plan form.ModRM_0xf30f3af0 p m = plan_f30f3af0 m
 three_byte_plan f p m = bad_opcode
 
 -- map 0F, with the choice and the opcode of the row
 unfoldable pub two_byte_plan : Form → ℕ → Bool → Prefixes → ℕ → Plan
-two_byte_plan form.ModRM_0x0f00 o strict p m = plan_0f00 p m
+two_byte_plan form.ModRM_0x0f00 o strict p m = plan_0f00 m
 two_byte_plan form.ModRM_0x0f01 o strict p m = plan_0f01 p m
-two_byte_plan form.ModRM_0x0f0d o strict p m = plan_0f0d p m
+two_byte_plan form.ModRM_0x0f0d o strict p m = plan_0f0d m
 two_byte_plan form.ModRM_0x0f0f o strict p m = plan_0f0f p m
 two_byte_plan form.ModRM_0x0f12 o strict p m = plan_0f12 p m
 two_byte_plan form.ModRM_0x0f16 o strict p m = plan_0f16 p m
@@ -69,36 +69,36 @@ two_byte_plan form.ModRM_0x0f73 o strict p m = plan_0f73 p m
 two_byte_plan form.ModRM_0x0fae o strict p m = plan_0fae strict p m
 two_byte_plan form.ModRM_0x0fba o strict p m = plan_0fba p m
 two_byte_plan form.ModRM_0x0fc7 o strict p m = plan_0fc7 p m
-two_byte_plan form.ModRM_0x660f78 o strict p m = plan_660f78 p m
-two_byte_plan form.ModRM_0xf20f78 o strict p m = plan_f20f78 p m
+two_byte_plan form.ModRM_0x660f78 o strict p m = plan_660f78 m
+two_byte_plan form.ModRM_0xf20f78 o strict p m = plan_f20f78 m
 two_byte_plan form.ModRM_0xf30f1e o strict p m = plan_f30f1e p m
 two_byte_plan f o strict p m = three_byte_plan f p m
 
 -- the one-byte map
 unfoldable pub form_plan : Form → ℕ → Bool → Prefixes → ℕ → Plan
-form_plan form.ModRM_0x80 o strict p m = plan_80 p m
+form_plan form.ModRM_0x80 o strict p m = plan_80 m
 form_plan form.ModRM_0x81 o strict p m = plan_81 p m
 form_plan form.ModRM_0x83 o strict p m = plan_83 p m
 form_plan form.ModRM_0x8f o strict p m = plan_8f p m
-form_plan form.ModRM_0xc0 o strict p m = plan_c0 p m
+form_plan form.ModRM_0xc0 o strict p m = plan_c0 m
 form_plan form.ModRM_0xc1 o strict p m = plan_c1 p m
-form_plan form.ModRM_0xc6 o strict p m = plan_c6 p m
+form_plan form.ModRM_0xc6 o strict p m = plan_c6 m
 form_plan form.ModRM_0xc7 o strict p m = plan_c7 p m
-form_plan form.ModRM_0xd0 o strict p m = plan_d0 p m
+form_plan form.ModRM_0xd0 o strict p m = plan_d0 m
 form_plan form.ModRM_0xd1 o strict p m = plan_d1 p m
-form_plan form.ModRM_0xd2 o strict p m = plan_d2 p m
+form_plan form.ModRM_0xd2 o strict p m = plan_d2 m
 form_plan form.ModRM_0xd3 o strict p m = plan_d3 p m
-form_plan form.x87_d8 o strict p m = plan_d8 p m
-form_plan form.x87_d9 o strict p m = plan_d9 p m
-form_plan form.x87_da o strict p m = plan_da p m
-form_plan form.x87_db o strict p m = plan_db p m
-form_plan form.x87_dc o strict p m = plan_dc p m
-form_plan form.x87_dd o strict p m = plan_dd p m
-form_plan form.x87_de o strict p m = plan_de p m
-form_plan form.x87_df o strict p m = plan_df p m
-form_plan form.ModRM_0xf6 o strict p m = plan_f6 p m
+form_plan form.x87_d8 o strict p m = plan_d8 m
+form_plan form.x87_d9 o strict p m = plan_d9 m
+form_plan form.x87_da o strict p m = plan_da m
+form_plan form.x87_db o strict p m = plan_db m
+form_plan form.x87_dc o strict p m = plan_dc m
+form_plan form.x87_dd o strict p m = plan_dd m
+form_plan form.x87_de o strict p m = plan_de m
+form_plan form.x87_df o strict p m = plan_df m
+form_plan form.ModRM_0xf6 o strict p m = plan_f6 m
 form_plan form.ModRM_0xf7 o strict p m = plan_f7 p m
-form_plan form.ModRM_0xfe o strict p m = plan_fe p m
+form_plan form.ModRM_0xfe o strict p m = plan_fe m
 form_plan form.ModRM_0xff o strict p m = plan_ff p m
 form_plan f o strict p m = two_byte_plan f o strict p m
 

@@ -17,8 +17,8 @@ use Rattle.x86_operands.specs.Plans.{is_memory, reads, refuses, refused, memory_
 use Rattle.x86_opcodes.specs.Names.{AESENCWIDE128KL, AESDECWIDE128KL, AESENCWIDE256KL, AESDECWIDE256KL, AESENC128KL, LOADIWKEY, AESDEC128KL, AESENC256KL, AESDEC256KL, ENCODEKEY128, ENCODEKEY256, HRESET}
 use Rattle.x86_groups.specs.Choice.{bad_operand, on_memory, reg}
 
-unfoldable pub plan_f30f38d8 : Prefixes → ℕ → Plan
-plan_f30f38d8 p m =
+unfoldable pub plan_f30f38d8 : ℕ → Plan
+plan_f30f38d8 m =
     if not (is_memory m) then bad_operand
     else (if reg m == 0 then on_memory AESENCWIDE128KL 48
     else (if reg m == 1 then on_memory AESDECWIDE128KL 48
@@ -32,14 +32,14 @@ plan_f30f38dc p m = reads (if is_memory m then AESENC128KL else LOADIWKEY) (Two 
 abbrev pub with_key : ℕ → ℕ → ℕ → Plan
 with_key opcode size m = memory_only m (reads opcode (Two (G X) M) size)
 
-unfoldable pub plan_f30f38dd : Prefixes → ℕ → Plan
-plan_f30f38dd p m = with_key AESDEC128KL 48 m
+unfoldable pub plan_f30f38dd : ℕ → Plan
+plan_f30f38dd m = with_key AESDEC128KL 48 m
 
-unfoldable pub plan_f30f38de : Prefixes → ℕ → Plan
-plan_f30f38de p m = with_key AESENC256KL 64 m
+unfoldable pub plan_f30f38de : ℕ → Plan
+plan_f30f38de m = with_key AESENC256KL 64 m
 
-unfoldable pub plan_f30f38df : Prefixes → ℕ → Plan
-plan_f30f38df p m = with_key AESDEC256KL 64 m
+unfoldable pub plan_f30f38df : ℕ → Plan
+plan_f30f38df m = with_key AESDEC256KL 64 m
 
 abbrev pub encodes_key : ℕ → Prefixes → ℕ → Plan
 encodes_key opcode p m = refused (is_memory m) BadOpcode AfterAddress (reads opcode (Two (G D) (U D)) (width_of (v p)))
@@ -50,8 +50,8 @@ plan_f30f38fa p m = encodes_key ENCODEKEY128 p m
 unfoldable pub plan_f30f38fb : Prefixes → ℕ → Plan
 plan_f30f38fb p m = encodes_key ENCODEKEY256 p m
 
-unfoldable pub plan_f30f3af0 : Prefixes → ℕ → Plan
-plan_f30f3af0 p m = refused (is_memory m) BadOpcode AtModRM (reads HRESET (One U8) 0)
+unfoldable pub plan_f30f3af0 : ℕ → Plan
+plan_f30f3af0 m = refused (is_memory m) BadOpcode AtModRM (reads HRESET (One U8) 0)
 
 -- neither 64 nor 65 chose a segment
 abbrev pub is_no_override : Segment → Bool

@@ -21,8 +21,8 @@ plan_8f p m =
     if reg m == 0 then reads POP (One (E (v p))) (size_by m (if p.operand_size then width_of (v p) else 8) (width_of (v p)))
     else refuses Incomplete AfterAddress
 
-unfoldable pub plan_c6 : Prefixes → ℕ → Plan
-plan_c6 p m =
+unfoldable pub plan_c6 : ℕ → Plan
+plan_c6 m =
     if reg m == 0 then reads MOV (Two (E B) I8) 1
     else (if is_register_0 m then reads XABORT (One I8) 1
     else refuses BadOperand AfterAddress)
@@ -38,8 +38,8 @@ plan_c7 p m =
     else (if is_register_0 m then reads XBEGIN (One (distance_of (v p))) (width_of (v p))
     else refuses BadOperand AfterAddress)
 
-unfoldable pub plan_fe : Prefixes → ℕ → Plan
-plan_fe p m =
+unfoldable pub plan_fe : ℕ → Plan
+plan_fe m =
     if reg m == 0 then reads INC (One (E B)) 1
     else (if reg m == 1 then reads DEC (One (E B)) 1
     else refuses BadOpcode AfterAddress)

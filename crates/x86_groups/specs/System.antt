@@ -14,8 +14,8 @@ use Rattle.x86_operands.specs.declared.plans.RegisterSlot.TheVariants as place
 use Rattle.x86_opcodes.specs.Names.{SLDT, STR, LLDT, LTR, VERR, VERW, SGDT, SIDT, LGDT, LIDT, SMSW, RSTORSSP, LMSW, INVLPG, ENCLV, VMCALL, VMLAUNCH, VMRESUME, VMXOFF, PCONFIG, TDCALL, SEAMRET, SEAMOPS, SEAMCALL, MONITOR, MWAIT, CLAC, STAC, ENCLS, XGETBV, XSETBV, VMFUNC, XEND, XTEST, ENCLU, VMRUN, VMMCALL, VMLOAD, VMSAVE, STGI, CLGI, SKINIT, INVLPGA, XSUSLDTRK, SETSSBSY, XRESLDTRK, SAVEPREVSSP, UIRET, TESTUI, STUI, CLUI, RDPKRU, WRPKRU, RMPADJUST, RMPUPDATE, INVLPGB, PSMASH, PVALIDATE, TLBSYNC, SWAPGS, RDTSCP, MONITORX, MWAITX, CLZERO, RDPRU}
 use Rattle.x86_groups.specs.Choice.{bad_opcode, bad_operand, bare, has_f2_f3_or_66, has_f2_or_f3, name_at, named_by_reg, on_memory, reg, rm}
 
-unfoldable pub plan_0f00 : Prefixes → ℕ → Plan
-plan_0f00 p m =
+unfoldable pub plan_0f00 : ℕ → Plan
+plan_0f00 m =
     if nat_lt (reg m) 6 then reads (named_by_reg (SLDT ∷ STR ∷ LLDT ∷ LTR ∷ VERR ∷ VERW ∷ []) m) (One (E W)) (size_by m 2 0)
     else bad_operand
 
@@ -88,8 +88,8 @@ ecx_at slot = Fixed slot (record { num = 1; class = D })
 abbrev pub edx_at : RegisterSlot → Sign
 edx_at slot = Fixed slot (record { num = 2; class = D })
 
-unfoldable pub register_0f01_3 : Prefixes → ℕ → Plan
-register_0f01_3 p m =
+unfoldable pub register_0f01_3 : ℕ → Plan
+register_0f01_3 m =
     if rm m == 0 then reads VMRUN (One rax) 0
     else (if rm m == 1 then bare VMMCALL
     else (if rm m == 2 then reads VMLOAD (One rax) 0
@@ -140,7 +140,7 @@ register_0f01 p m =
     if reg m == 0 then register_0f01_0 p m
     else (if reg m == 1 then register_0f01_1 p m
     else (if reg m == 2 then register_0f01_2 p m
-    else (if reg m == 3 then register_0f01_3 p m
+    else (if reg m == 3 then register_0f01_3 m
     else (if reg m == 4 then reads SMSW (One (U (v p))) 2
     else (if reg m == 5 then register_0f01_5 p m
     else (if reg m == 6 then reads LMSW (One (U W)) 2

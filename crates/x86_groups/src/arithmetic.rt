@@ -25,8 +25,8 @@ fn arithmetic_name(modrm: u8) -> Opcode
 }
 
 #[tactic(auto, unfolding(crate::specs::Arithmetic::plan_80))]
-pub fn plan_80(_prefixes: &Prefixes, modrm: u8) -> Plan
-    ensures { result ≡ plan_80 _prefixes.now modrm }
+pub fn plan_80(modrm: u8) -> Plan
+    ensures { result ≡ plan_80 modrm }
 {
     let signs = Signs::Two(Sign::E(RegisterClass::B), Sign::I8);
     reads(arithmetic_name(modrm), signs, 1)
@@ -88,8 +88,8 @@ fn rotates_word(count: Sign, prefixes: &Prefixes, modrm: u8) -> Plan
 }
 
 #[tactic(auto, unfolding(crate::specs::Arithmetic::plan_c0))]
-pub fn plan_c0(_prefixes: &Prefixes, modrm: u8) -> Plan
-    ensures { result ≡ plan_c0 _prefixes.now modrm }
+pub fn plan_c0(modrm: u8) -> Plan
+    ensures { result ≡ plan_c0 modrm }
 {
     rotates_byte(Sign::I8, modrm)
 }
@@ -102,8 +102,8 @@ pub fn plan_c1(prefixes: &Prefixes, modrm: u8) -> Plan
 }
 
 #[tactic(auto, unfolding(crate::specs::Arithmetic::plan_d0))]
-pub fn plan_d0(_prefixes: &Prefixes, modrm: u8) -> Plan
-    ensures { result ≡ plan_d0 _prefixes.now modrm }
+pub fn plan_d0(modrm: u8) -> Plan
+    ensures { result ≡ plan_d0 modrm }
 {
     rotates_byte(Sign::ConstantI8(1), modrm)
 }
@@ -116,8 +116,8 @@ pub fn plan_d1(prefixes: &Prefixes, modrm: u8) -> Plan
 }
 
 #[tactic(auto, unfolding(crate::specs::Arithmetic::plan_d2))]
-pub fn plan_d2(_prefixes: &Prefixes, modrm: u8) -> Plan
-    ensures { result ≡ plan_d2 _prefixes.now modrm }
+pub fn plan_d2(modrm: u8) -> Plan
+    ensures { result ≡ plan_d2 modrm }
 {
     rotates_byte(cl(), modrm)
 }
@@ -152,8 +152,8 @@ fn is_test(modrm: u8) -> bool
 }
 
 #[tactic(auto, unfolding(crate::specs::Arithmetic::plan_f6))]
-pub fn plan_f6(_prefixes: &Prefixes, modrm: u8) -> Plan
-    ensures { result ≡ plan_f6 _prefixes.now modrm }
+pub fn plan_f6(modrm: u8) -> Plan
+    ensures { result ≡ plan_f6 modrm }
 {
     let operand = Sign::E(RegisterClass::B);
     let signs = if is_test(modrm) {

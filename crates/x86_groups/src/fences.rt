@@ -20,8 +20,8 @@ fn clears_operand_size(plan: Plan) -> Plan
     }
 }
 
-fn operand_size_0fae(_prefixes: &Prefixes, modrm: u8) -> Plan
-    ensures { result ≡ operand_size_0fae _prefixes.now modrm }
+fn operand_size_0fae(modrm: u8) -> Plan
+    ensures { result ≡ operand_size_0fae modrm }
 {
     match (memory_form(modrm), reg(modrm)) {
         (true, 6) => on_memory(Opcode::CLWB, 64),
@@ -151,7 +151,7 @@ pub fn plan_0fae(strict: bool, prefixes: &Prefixes, modrm: u8) -> Plan
     } else if prefixes.rep() {
         f3_0fae(prefixes, modrm)
     } else if prefixes.operand_size() {
-        clears_operand_size(operand_size_0fae(prefixes, modrm))
+        clears_operand_size(operand_size_0fae(modrm))
     } else {
         plain_0fae(strict, modrm)
     }

@@ -5,7 +5,6 @@ ghost use Rattle.x86_groups.specs.Floats.{control_db, st0, st_rm, loads, stores,
 use crate::choice::{
     bad_opcode, bad_operand, bare, name_at, named_by_reg, on_memory, on_register, reg, rm,
 };
-use x86_fields::Prefixes;
 use x86_opcodes::Opcode;
 use x86_operands::plans::{Plan, RegisterSlot, Sign, Signs, memory_form, reads};
 use x86_regs::{RegSpec, RegisterClass};
@@ -86,8 +85,8 @@ fn integer_name(modrm: u8) -> Opcode
 }
 
 #[tactic(auto, unfolding(crate::specs::Floats::plan_d8))]
-pub fn plan_d8(_prefixes: &Prefixes, modrm: u8) -> Plan
-    ensures { result ≡ plan_d8 _prefixes.now modrm }
+pub fn plan_d8(modrm: u8) -> Plan
+    ensures { result ≡ plan_d8 modrm }
 {
     if memory_form(modrm) {
         loads(float_name(modrm), 4)
@@ -179,8 +178,8 @@ fn register_d9(modrm: u8) -> Plan
 }
 
 #[tactic(auto, unfolding(crate::specs::Floats::plan_d9))]
-pub fn plan_d9(_prefixes: &Prefixes, modrm: u8) -> Plan
-    ensures { result ≡ plan_d9 _prefixes.now modrm }
+pub fn plan_d9(modrm: u8) -> Plan
+    ensures { result ≡ plan_d9 modrm }
 {
     if memory_form(modrm) {
         memory_d9(modrm)
@@ -204,8 +203,8 @@ fn register_da(modrm: u8) -> Plan
 }
 
 #[tactic(auto, unfolding(crate::specs::Floats::plan_da))]
-pub fn plan_da(_prefixes: &Prefixes, modrm: u8) -> Plan
-    ensures { result ≡ plan_da _prefixes.now modrm }
+pub fn plan_da(modrm: u8) -> Plan
+    ensures { result ≡ plan_da modrm }
 {
     if memory_form(modrm) {
         loads(integer_name(modrm), 4)
@@ -264,8 +263,8 @@ fn register_db(modrm: u8) -> Plan
 }
 
 #[tactic(auto, unfolding(crate::specs::Floats::plan_db))]
-pub fn plan_db(_prefixes: &Prefixes, modrm: u8) -> Plan
-    ensures { result ≡ plan_db _prefixes.now modrm }
+pub fn plan_db(modrm: u8) -> Plan
+    ensures { result ≡ plan_db modrm }
 {
     if memory_form(modrm) {
         memory_db(modrm)
@@ -291,8 +290,8 @@ fn register_dc(modrm: u8) -> Plan
 }
 
 #[tactic(auto, unfolding(crate::specs::Floats::plan_dc))]
-pub fn plan_dc(_prefixes: &Prefixes, modrm: u8) -> Plan
-    ensures { result ≡ plan_dc _prefixes.now modrm }
+pub fn plan_dc(modrm: u8) -> Plan
+    ensures { result ≡ plan_dc modrm }
 {
     if memory_form(modrm) {
         loads(float_name(modrm), 8)
@@ -333,8 +332,8 @@ fn register_dd(modrm: u8) -> Plan
 }
 
 #[tactic(auto, unfolding(crate::specs::Floats::plan_dd))]
-pub fn plan_dd(_prefixes: &Prefixes, modrm: u8) -> Plan
-    ensures { result ≡ plan_dd _prefixes.now modrm }
+pub fn plan_dd(modrm: u8) -> Plan
+    ensures { result ≡ plan_dd modrm }
 {
     if memory_form(modrm) {
         memory_dd(modrm)
@@ -361,8 +360,8 @@ fn register_de(modrm: u8) -> Plan
 }
 
 #[tactic(auto, unfolding(crate::specs::Floats::plan_de))]
-pub fn plan_de(_prefixes: &Prefixes, modrm: u8) -> Plan
-    ensures { result ≡ plan_de _prefixes.now modrm }
+pub fn plan_de(modrm: u8) -> Plan
+    ensures { result ≡ plan_de modrm }
 {
     if memory_form(modrm) {
         loads(integer_name(modrm), 2)
@@ -404,8 +403,8 @@ fn register_df(modrm: u8) -> Plan
 }
 
 #[tactic(auto, unfolding(crate::specs::Floats::plan_df))]
-pub fn plan_df(_prefixes: &Prefixes, modrm: u8) -> Plan
-    ensures { result ≡ plan_df _prefixes.now modrm }
+pub fn plan_df(modrm: u8) -> Plan
+    ensures { result ≡ plan_df modrm }
 {
     if memory_form(modrm) {
         memory_df(modrm)

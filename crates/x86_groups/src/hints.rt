@@ -9,8 +9,8 @@ use x86_operands::plans::{Plan, Sign, Signs, memory_form, memory_only, reads, si
 use x86_regs::RegisterClass;
 
 #[tactic(auto, unfolding(crate::specs::Hints::plan_0f0d))]
-pub fn plan_0f0d(_prefixes: &Prefixes, modrm: u8) -> Plan
-    ensures { result ≡ plan_0f0d _prefixes.now modrm }
+pub fn plan_0f0d(modrm: u8) -> Plan
+    ensures { result ≡ plan_0f0d modrm }
 {
     let opcode = if reg(modrm) == 1 {
         Opcode::PREFETCHW

@@ -1,20 +1,18 @@
-//! Key Locker, HRESET and 3DNow.
+//! Key Locker and HRESET.
 ghost use Rattle.std.specs.Prelude.{◌≡◌};
 ghost use Rattle.x86_groups.specs.Keys.{with_key, encodes_key, is_no_override, is_f3_alone, plan_f30f38d8, plan_f30f38dc, plan_f30f38dd, plan_f30f38de, plan_f30f38df, plan_f30f38fa, plan_f30f38fb, plan_f30f3af0, fault_f30f3af0};
-ghost use Rattle.x86_groups.specs.ThreeDNow.{plan_0f0f};
 
 use crate::choice::{bad_operand, on_memory, reg};
 use x86_fields::Prefixes;
 use x86_opcodes::Opcode;
 use x86_operands::plans::{
-    Fault, Moment, Plan, Sign, Signs, memory_form, memory_only, named_by_suffix, reads, refused,
-    refuses, size_by,
+    Fault, Moment, Plan, Sign, Signs, memory_form, memory_only, reads, refused, refuses, size_by,
 };
 use x86_regs::{RegisterClass, Segment};
 
 #[tactic(auto, unfolding(crate::specs::Keys::plan_f30f38d8))]
-pub fn plan_f30f38d8(_prefixes: &Prefixes, modrm: u8) -> Plan
-    ensures { result ≡ plan_f30f38d8 _prefixes.now modrm }
+pub fn plan_f30f38d8(modrm: u8) -> Plan
+    ensures { result ≡ plan_f30f38d8 modrm }
 {
     if !memory_form(modrm) {
         return bad_operand();
@@ -53,22 +51,22 @@ fn with_key(opcode: Opcode, size: u8, modrm: u8) -> Plan
 }
 
 #[tactic(auto, unfolding(crate::specs::Keys::plan_f30f38dd))]
-pub fn plan_f30f38dd(_prefixes: &Prefixes, modrm: u8) -> Plan
-    ensures { result ≡ plan_f30f38dd _prefixes.now modrm }
+pub fn plan_f30f38dd(modrm: u8) -> Plan
+    ensures { result ≡ plan_f30f38dd modrm }
 {
     with_key(Opcode::AESDEC128KL, 48, modrm)
 }
 
 #[tactic(auto, unfolding(crate::specs::Keys::plan_f30f38de))]
-pub fn plan_f30f38de(_prefixes: &Prefixes, modrm: u8) -> Plan
-    ensures { result ≡ plan_f30f38de _prefixes.now modrm }
+pub fn plan_f30f38de(modrm: u8) -> Plan
+    ensures { result ≡ plan_f30f38de modrm }
 {
     with_key(Opcode::AESENC256KL, 64, modrm)
 }
 
 #[tactic(auto, unfolding(crate::specs::Keys::plan_f30f38df))]
-pub fn plan_f30f38df(_prefixes: &Prefixes, modrm: u8) -> Plan
-    ensures { result ≡ plan_f30f38df _prefixes.now modrm }
+pub fn plan_f30f38df(modrm: u8) -> Plan
+    ensures { result ≡ plan_f30f38df modrm }
 {
     with_key(Opcode::AESDEC256KL, 64, modrm)
 }
@@ -101,8 +99,8 @@ pub fn plan_f30f38fb(prefixes: &Prefixes, modrm: u8) -> Plan
 }
 
 #[tactic(auto, unfolding(crate::specs::Keys::plan_f30f3af0))]
-pub fn plan_f30f3af0(_prefixes: &Prefixes, modrm: u8) -> Plan
-    ensures { result ≡ plan_f30f3af0 _prefixes.now modrm }
+pub fn plan_f30f3af0(modrm: u8) -> Plan
+    ensures { result ≡ plan_f30f3af0 modrm }
 {
     let plan = reads(Opcode::HRESET, Signs::One(Sign::U8), 0);
     refused(memory_form(modrm), Fault::BadOpcode, Moment::AtModRM, plan)
@@ -138,13 +136,4 @@ pub fn fault_f30f3af0(prefixes: &Prefixes) -> Option<Fault>
     } else {
         Some(Fault::BadOpcode)
     }
-}
-
-/// 3DNow, whose last byte names the opcode.
-#[tactic(auto, unfolding(crate::specs::ThreeDNow::plan_0f0f))]
-pub fn plan_0f0f(prefixes: &Prefixes, modrm: u8) -> Plan
-    ensures { result ≡ plan_0f0f prefixes.now modrm }
-{
-    let signs = Signs::Two(Sign::Gmm, Sign::Emm);
-    named_by_suffix(signs, size_by(modrm, 8, prefixes.v_class().width()))
 }

@@ -11,6 +11,7 @@ ghost use Rattle.x86_groups.specs.Groups.{form_plan, three_byte_plan, two_byte_p
 mod arithmetic;
 mod bits;
 mod choice;
+mod extract;
 mod fences;
 mod floats;
 mod hints;
@@ -19,6 +20,7 @@ mod moves;
 mod operations;
 mod shifts;
 mod system;
+mod three_d_now;
 
 use arithmetic::{
     plan_80, plan_81, plan_83, plan_c0, plan_c1, plan_d0, plan_d1, plan_d2, plan_d3, plan_f6,
@@ -26,17 +28,19 @@ use arithmetic::{
 };
 use bits::{plan_0fba, plan_0fc7};
 use choice::bad_opcode;
+use extract::{plan_660f78, plan_f20f78};
 use fences::plan_0fae;
 use floats::{plan_d8, plan_d9, plan_da, plan_db, plan_dc, plan_dd, plan_de, plan_df};
 use hints::{plan_0f0d, plan_0f12, plan_0f16, plan_0f18, plan_f30f1e};
 use keys::{
-    fault_f30f3af0, plan_0f0f, plan_f30f3af0, plan_f30f38d8, plan_f30f38dc, plan_f30f38dd,
-    plan_f30f38de, plan_f30f38df, plan_f30f38fa, plan_f30f38fb,
+    fault_f30f3af0, plan_f30f3af0, plan_f30f38d8, plan_f30f38dc, plan_f30f38dd, plan_f30f38de,
+    plan_f30f38df, plan_f30f38fa, plan_f30f38fb,
 };
-use moves::{plan_660f78, plan_cq_rq, plan_dq_rq, plan_f20f78, plan_rq_cq, plan_rq_dq};
+use moves::{plan_cq_rq, plan_dq_rq, plan_rq_cq, plan_rq_dq};
 use operations::{plan_8f, plan_c6, plan_c7, plan_fe, plan_ff};
 use shifts::{plan_0f71, plan_0f72, plan_0f73};
 use system::{plan_0f00, plan_0f01};
+use three_d_now::plan_0f0f;
 use x86_arch::Reader;
 use x86_fields::{DecodeError, Prefixes};
 use x86_forms::{Form, TableRow};
@@ -68,14 +72,14 @@ fn three_byte_plan(form: Form, prefixes: &Prefixes, modrm: u8) -> Plan
     ensures { result ≡ three_byte_plan form prefixes.now modrm }
 {
     match form {
-        Form::ModRM_0xf30f38d8 => plan_f30f38d8(prefixes, modrm),
+        Form::ModRM_0xf30f38d8 => plan_f30f38d8(modrm),
         Form::ModRM_0xf30f38dc => plan_f30f38dc(prefixes, modrm),
-        Form::ModRM_0xf30f38dd => plan_f30f38dd(prefixes, modrm),
-        Form::ModRM_0xf30f38de => plan_f30f38de(prefixes, modrm),
-        Form::ModRM_0xf30f38df => plan_f30f38df(prefixes, modrm),
+        Form::ModRM_0xf30f38dd => plan_f30f38dd(modrm),
+        Form::ModRM_0xf30f38de => plan_f30f38de(modrm),
+        Form::ModRM_0xf30f38df => plan_f30f38df(modrm),
         Form::ModRM_0xf30f38fa => plan_f30f38fa(prefixes, modrm),
         Form::ModRM_0xf30f38fb => plan_f30f38fb(prefixes, modrm),
-        Form::ModRM_0xf30f3af0 => plan_f30f3af0(prefixes, modrm),
+        Form::ModRM_0xf30f3af0 => plan_f30f3af0(modrm),
         _ => bad_opcode(),
     }
 }
@@ -86,9 +90,9 @@ fn two_byte_plan(form: Form, opcode: Opcode, strict: bool, prefixes: &Prefixes, 
     ensures { result ≡ two_byte_plan form opcode strict prefixes.now modrm }
 {
     match form {
-        Form::ModRM_0x0f00 => plan_0f00(prefixes, modrm),
+        Form::ModRM_0x0f00 => plan_0f00(modrm),
         Form::ModRM_0x0f01 => plan_0f01(prefixes, modrm),
-        Form::ModRM_0x0f0d => plan_0f0d(prefixes, modrm),
+        Form::ModRM_0x0f0d => plan_0f0d(modrm),
         Form::ModRM_0x0f0f => plan_0f0f(prefixes, modrm),
         Form::ModRM_0x0f12 => plan_0f12(prefixes, modrm),
         Form::ModRM_0x0f16 => plan_0f16(prefixes, modrm),
@@ -103,8 +107,8 @@ fn two_byte_plan(form: Form, opcode: Opcode, strict: bool, prefixes: &Prefixes, 
         Form::ModRM_0x0fae => plan_0fae(strict, prefixes, modrm),
         Form::ModRM_0x0fba => plan_0fba(prefixes, modrm),
         Form::ModRM_0x0fc7 => plan_0fc7(prefixes, modrm),
-        Form::ModRM_0x660f78 => plan_660f78(prefixes, modrm),
-        Form::ModRM_0xf20f78 => plan_f20f78(prefixes, modrm),
+        Form::ModRM_0x660f78 => plan_660f78(modrm),
+        Form::ModRM_0xf20f78 => plan_f20f78(modrm),
         Form::ModRM_0xf30f1e => plan_f30f1e(prefixes, modrm),
         _ => three_byte_plan(form, prefixes, modrm),
     }
@@ -116,29 +120,29 @@ fn form_plan(form: Form, opcode: Opcode, strict: bool, prefixes: &Prefixes, modr
     ensures { result ≡ form_plan form opcode strict prefixes.now modrm }
 {
     match form {
-        Form::ModRM_0x80 => plan_80(prefixes, modrm),
+        Form::ModRM_0x80 => plan_80(modrm),
         Form::ModRM_0x81 => plan_81(prefixes, modrm),
         Form::ModRM_0x83 => plan_83(prefixes, modrm),
         Form::ModRM_0x8f => plan_8f(prefixes, modrm),
-        Form::ModRM_0xc0 => plan_c0(prefixes, modrm),
+        Form::ModRM_0xc0 => plan_c0(modrm),
         Form::ModRM_0xc1 => plan_c1(prefixes, modrm),
-        Form::ModRM_0xc6 => plan_c6(prefixes, modrm),
+        Form::ModRM_0xc6 => plan_c6(modrm),
         Form::ModRM_0xc7 => plan_c7(prefixes, modrm),
-        Form::ModRM_0xd0 => plan_d0(prefixes, modrm),
+        Form::ModRM_0xd0 => plan_d0(modrm),
         Form::ModRM_0xd1 => plan_d1(prefixes, modrm),
-        Form::ModRM_0xd2 => plan_d2(prefixes, modrm),
+        Form::ModRM_0xd2 => plan_d2(modrm),
         Form::ModRM_0xd3 => plan_d3(prefixes, modrm),
-        Form::x87_d8 => plan_d8(prefixes, modrm),
-        Form::x87_d9 => plan_d9(prefixes, modrm),
-        Form::x87_da => plan_da(prefixes, modrm),
-        Form::x87_db => plan_db(prefixes, modrm),
-        Form::x87_dc => plan_dc(prefixes, modrm),
-        Form::x87_dd => plan_dd(prefixes, modrm),
-        Form::x87_de => plan_de(prefixes, modrm),
-        Form::x87_df => plan_df(prefixes, modrm),
-        Form::ModRM_0xf6 => plan_f6(prefixes, modrm),
+        Form::x87_d8 => plan_d8(modrm),
+        Form::x87_d9 => plan_d9(modrm),
+        Form::x87_da => plan_da(modrm),
+        Form::x87_db => plan_db(modrm),
+        Form::x87_dc => plan_dc(modrm),
+        Form::x87_dd => plan_dd(modrm),
+        Form::x87_de => plan_de(modrm),
+        Form::x87_df => plan_df(modrm),
+        Form::ModRM_0xf6 => plan_f6(modrm),
         Form::ModRM_0xf7 => plan_f7(prefixes, modrm),
-        Form::ModRM_0xfe => plan_fe(prefixes, modrm),
+        Form::ModRM_0xfe => plan_fe(modrm),
         Form::ModRM_0xff => plan_ff(prefixes, modrm),
         _ => two_byte_plan(form, opcode, strict, prefixes, modrm),
     }

@@ -1,14 +1,10 @@
-//! Moves from and to control and debug registers, and EXTRQ and INSERTQ with two immediates.
+//! Moves from and to control and debug registers.
 ghost use Rattle.std.specs.Prelude.{◌≡◌};
 ghost use Rattle.x86_groups.specs.Moves.{is_control, with_control, with_debug, plan_rq_cq, plan_cq_rq, plan_rq_dq, plan_dq_rq};
-ghost use Rattle.x86_groups.specs.Extract.{plan_660f78, plan_f20f78};
 
-use crate::choice::reg;
 use x86_fields::Prefixes;
 use x86_opcodes::Opcode;
-use x86_operands::plans::{
-    Fault, Moment, Plan, Sign, Signs, memory_form, reads, refused, reg_number,
-};
+use x86_operands::plans::{Fault, Moment, Plan, Sign, Signs, reads, refused, reg_number};
 use x86_regs::RegisterClass;
 
 /// Whether a control register has the number.
@@ -62,24 +58,4 @@ pub fn plan_dq_rq(opcode: Opcode, prefixes: &Prefixes, modrm: u8) -> Plan
 {
     let signs = Signs::Two(Sign::G(RegisterClass::DR), Sign::U(RegisterClass::Q));
     with_debug(prefixes, modrm, reads(opcode, signs, 0))
-}
-
-#[tactic(auto, unfolding(crate::specs::Extract::plan_660f78))]
-pub fn plan_660f78(_prefixes: &Prefixes, modrm: u8) -> Plan
-    ensures { result ≡ plan_660f78 _prefixes.now modrm }
-{
-    let signs = Signs::Three(Sign::U(RegisterClass::X), Sign::U8, Sign::X8);
-    let plan = reads(Opcode::EXTRQ, signs, 0);
-    let bad = memory_form(modrm) || reg(modrm) != 0;
-    refused(bad, Fault::BadOperand, Moment::AtModRM, plan)
-}
-
-#[tactic(auto, unfolding(crate::specs::Extract::plan_f20f78))]
-pub fn plan_f20f78(_prefixes: &Prefixes, modrm: u8) -> Plan
-    ensures { result ≡ plan_f20f78 _prefixes.now modrm }
-{
-    let x = RegisterClass::X;
-    let signs = Signs::Four(Sign::G(x), Sign::U(x), Sign::U8, Sign::X8);
-    let plan = reads(Opcode::INSERTQ, signs, 0);
-    refused(memory_form(modrm), Fault::BadOperand, Moment::AtModRM, plan)
 }

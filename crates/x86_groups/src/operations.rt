@@ -31,8 +31,8 @@ pub fn plan_8f(prefixes: &Prefixes, modrm: u8) -> Plan
 }
 
 #[tactic(auto, unfolding(crate::specs::Operations::plan_c6))]
-pub fn plan_c6(_prefixes: &Prefixes, modrm: u8) -> Plan
-    ensures { result ≡ plan_c6 _prefixes.now modrm }
+pub fn plan_c6(modrm: u8) -> Plan
+    ensures { result ≡ plan_c6 modrm }
 {
     if reg(modrm) == 0 {
         reads(
@@ -72,8 +72,8 @@ pub fn plan_c7(prefixes: &Prefixes, modrm: u8) -> Plan
 }
 
 #[tactic(auto, unfolding(crate::specs::Operations::plan_fe))]
-pub fn plan_fe(_prefixes: &Prefixes, modrm: u8) -> Plan
-    ensures { result ≡ plan_fe _prefixes.now modrm }
+pub fn plan_fe(modrm: u8) -> Plan
+    ensures { result ≡ plan_fe modrm }
 {
     let operand = Signs::One(Sign::E(RegisterClass::B));
     match reg(modrm) {

@@ -13,8 +13,8 @@ use x86_operands::plans::{Plan, RegisterSlot, Sign, Signs, memory_form, reads, s
 use x86_regs::{RegSpec, RegisterClass};
 
 #[tactic(auto, unfolding(crate::specs::System::plan_0f00))]
-pub fn plan_0f00(_prefixes: &Prefixes, modrm: u8) -> Plan
-    ensures { result ≡ plan_0f00 _prefixes.now modrm }
+pub fn plan_0f00(modrm: u8) -> Plan
+    ensures { result ≡ plan_0f00 modrm }
 {
     if reg(modrm) >= 6 {
         return bad_operand();
@@ -150,8 +150,8 @@ fn edx_at(slot: RegisterSlot) -> Sign
 }
 
 #[tactic(auto, unfolding(crate::specs::System::register_0f01_3))]
-fn register_0f01_3(_prefixes: &Prefixes, modrm: u8) -> Plan
-    ensures { result ≡ register_0f01_3 _prefixes.now modrm }
+fn register_0f01_3(modrm: u8) -> Plan
+    ensures { result ≡ register_0f01_3 modrm }
 {
     match rm(modrm) {
         0 => reads(Opcode::VMRUN, Signs::One(rax()), 0),
@@ -238,7 +238,7 @@ fn register_0f01(prefixes: &Prefixes, modrm: u8) -> Plan
         0 => register_0f01_0(prefixes, modrm),
         1 => register_0f01_1(prefixes, modrm),
         2 => register_0f01_2(prefixes, modrm),
-        3 => register_0f01_3(prefixes, modrm),
+        3 => register_0f01_3(modrm),
         4 => reads(Opcode::SMSW, Signs::One(Sign::U(prefixes.v_class())), 2),
         5 => register_0f01_5(prefixes, modrm),
         6 => reads(Opcode::LMSW, Signs::One(Sign::U(RegisterClass::W)), 2),
