@@ -1,21 +1,35 @@
-use Rattle.std.proofs.Common.{rules, ◌≡◌, ◌+◌, ◌≤◌, ◌++◌, ℕ, IfSome, Some, None, length, decimal, ◌-◌, ◌*◌, ◌<◌, ◌/◌, ◌%◌, Bool, true, false, nat_eq, nat_lt, List, [], ◌∷◌, slice_index_or, slice_set, bit_and, bit_or, Fits, w8, w32, w64, Bor, MutBor}
-use Rattle.arrayvec.specs.ArrayVec.{array_vec_len}
-use Rattle.x86_cli.specs.Run.{World}
-use Rattle.x86_cli.specs.Make.{made, has_long_displacement, is_rip, is_at_rip, is_absolute, has_operand, answer_has, one_if, tally_of, tally_text, Makes}
+use Rattle.std.proofs.Common.{◌≡◌, ◌≤◌, ◌<◌, ◌×◌, ◌⊎◌, inl, inr, ℕ, List, Some, None, Result, true, false, decimal, nat_eq, ap, sym, ◌∙◌, arith}
+use Rattle.std.proofs.lemmas.Fmt.{parse-decimal}
+use Rattle.std.specs.Fmt.{ParsesUnsigned}
+use Rattle.std.specs.Result.{result_ok}
 use Rattle.x86_cli.proofs.make.count_from.Goals as goal
 
--- src/make.rt:174:17
+-- a decimal up to a million is parsed as its number
+parsed : {E : Type 0} (word : List ℕ) (r : Result ℕ E) (n : ℕ) → n ≤ 1000000 → word ≡ decimal n → ParsesUnsigned 32 10 word r → result_ok r ≡ Some n
+parsed word r n most e p = ap result_ok (parse-decimal 32 n word r (omega arith) (omega arith) e p)
+
+same : (a b : ℕ) → ◌≡◌ {A = Option ℕ} (Some a) (Some b) → a ≡ b
+same a b e = cc
+
 pub returns-in_err-count-clause-every : goal.returns-in_err-count-clause-every
-returns-in_err-count-clause-every c = ?
+returns-in_err-count-clause-every c n least most e =
+    let p = parsed c.args.word.now c.parse.result n most e c.parse.ensures.value in
+    c.from_residual.ensures ∙ sym (c.in_err-count.was tt) ∙ c.ok.ensures.value ∙ p
 
--- src/make.rt:176:9
 pub returns-then-count-eq0-clause-every : goal.returns-then-count-eq0-clause-every
-returns-then-count-eq0-clause-every c = ?
+returns-then-count-eq0-clause-every c n least most e =
+    let p = parsed c.args.word.now c.parse.result n most e c.parse.ensures.value in
+    let k : c.in_ok-count.count ≡ n = same c.in_ok-count.count n (sym (c.in_ok-count.was tt) ∙ c.ok.ensures.value ∙ p) in
+    absurd (out c.in_ok-count.count c.then-count-eq0.either (omega arith) (omega arith))
+  where
+    out : (k : ℕ) → (k ≡ 0) ⊎ ((k ≡ 0 → ⊥) × 1000000 < k) → 1 ≤ k → k ≤ 1000000 → ⊥
+    out k (inl zero_is) a b = omega arith
+    out k (inr w) a b = let more : 1000000 < k = w.1 in omega arith
 
--- src/make.rt:170:1
 pub returns-then-eq-clause-every : goal.returns-then-eq-clause-every
-returns-then-eq-clause-every c = ?
+returns-then-eq-clause-every c n least most e =
+    let p = parsed c.args.word.now c.parse.result n most e c.parse.ensures.value in
+    sym (c.in_ok-count.was tt) ∙ c.ok.ensures.value ∙ p
 
--- src/make.rt:170:1
 pub returns-else-eq-clause-every : goal.returns-else-eq-clause-every
-returns-else-eq-clause-every c = ?
+returns-else-eq-clause-every c n least most e = ?

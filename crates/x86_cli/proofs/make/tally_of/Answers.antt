@@ -1,13 +1,41 @@
-use Rattle.std.proofs.Common.{rules, ◌≡◌, ◌+◌, ◌≤◌, ◌++◌, ℕ, IfSome, Some, None, length, decimal, ◌-◌, ◌*◌, ◌<◌, ◌/◌, ◌%◌, Bool, true, false, nat_eq, nat_lt, List, [], ◌∷◌, slice_index_or, slice_set, bit_and, bit_or, Fits, w8, w32, w64, Bor, MutBor}
-use Rattle.arrayvec.specs.ArrayVec.{array_vec_len}
-use Rattle.x86_cli.specs.Run.{World}
-use Rattle.x86_cli.specs.Make.{made, has_long_displacement, is_rip, is_at_rip, is_absolute, has_operand, answer_has, one_if, tally_of, tally_text, Makes}
+use Rattle.std.proofs.Common.{◌≡◌, ◌≤◌, ◌*◌, ◌+◌, ℕ, suc, List, length, false, refl, sym, ap, subst, ◌∙◌, add-one, arith}
+use Rattle.x86_decode.specs.Answer.{answer_of}
+use Rattle.x86_cli.specs.declared.make.Tally.{Tally}
+use Rattle.x86_cli.specs.Make.{made, tally_of, counted, one_if, answer_has, is_at_rip, is_absolute}
 use Rattle.x86_cli.proofs.make.tally_of.Goals as goal
 
--- src/make.rt:138:5
-pub loop-i-init : goal.loop-i-init
-loop-i-init c = ?
+abbrev of_three : ℕ → ℕ → ℕ → Tally
+of_three b r a = record { bytes = b; at_rip = r; absolute = a }
 
--- src/make.rt:138:5
+-- one more encoding is counted
+next : (i b r a l x y : ℕ) → of_three b r a ≡ tally_of i → l ≡ length (made i) → x ≡ one_if (answer_has is_at_rip (answer_of false (made i))) → y ≡ one_if (answer_has is_absolute (answer_of false (made i))) → of_three (b + l) (r + x) (a + y) ≡ tally_of (i + 1)
+unfolding tally_of
+next i b r a l x y e long at_rip absolute =
+    let t : Tally = tally_of i in
+    let rips : ℕ = one_if (answer_has is_at_rip (answer_of false (made i))) in
+    let here : of_three (b + l) (r + x) (a + y) ≡ tally_of (suc i) =
+        ap (λ (s : Tally). of_three (s.bytes + l) (s.at_rip + x) (s.absolute + y)) e
+        ∙ ap (λ n. of_three (t.bytes + n) (t.at_rip + x) (t.absolute + y)) long
+        ∙ ap (λ n. of_three (t.bytes + length (made i)) (t.at_rip + n) (t.absolute + y)) at_rip
+        ∙ ap (λ n. of_three (t.bytes + length (made i)) (t.at_rip + rips) (t.absolute + n)) absolute in
+    subst (λ k. of_three (b + l) (r + x) (a + y) ≡ tally_of k) (sym (add-one i)) here
+
+pub loop-i-init : goal.loop-i-init
+unfolding tally_of
+loop-i-init c = record { counted = refl; few_bytes = omega arith; few_at_rip = omega arith; few_absolute = omega arith }
+
 pub loop-i-preserved : goal.loop-i-preserved
-loop-i-preserved c = ?
+loop-i-preserved c =
+    let i : ℕ = c.loop-i.i in
+    let bytes : c.as_slice.result.now ≡ made i = c.as_slice.ensures.value ∙ c.generate-encoding.ensures in
+    let answer : c.decode_slice-answer.result ≡ answer_of false (made i) =
+        c.decode_slice-answer.ensures.value ∙ ap (λ s. answer_of s c.as_slice.result.now) c.default-decoder.ensures ∙ ap (answer_of false) bytes in
+    record {
+      counted = next i c.loop-i.bytes c.loop-i.at_rip c.loop-i.absolute c.len.result c.one_at_rip-at_rip.result c.one_absolute-absolute.result c.loop-i.invariant.counted
+          (c.len.ensures.value ∙ ap length c.generate-encoding.ensures)
+          (c.one_at_rip-at_rip.ensures.value ∙ ap (λ a. one_if (answer_has is_at_rip a)) answer)
+          (c.one_absolute-absolute.ensures.value ∙ ap (λ a. one_if (answer_has is_absolute a)) answer);
+      few_bytes = omega (arith, c.as_slice.ensures.fits);
+      few_at_rip = omega arith;
+      few_absolute = omega arith;
+    }
