@@ -1,6 +1,7 @@
-use Rattle.std.proofs.Common.{◌≡◌, ◌≤◌, ◌<◌, ◌×◌, ◌⊎◌, inl, inr, ℕ, List, Some, None, Result, true, false, decimal, nat_eq, ap, sym, ◌∙◌, arith}
+use Rattle.std.proofs.Common.{◌≡◌, ◌≤◌, ◌<◌, ◌⊎◌, inl, inr, ℕ, List, Option, Some, None, Result, true, false, decimal, nat_eq, ap, sym, ◌∙◌, arith}
 use Rattle.std.proofs.lemmas.Fmt.{parse-decimal}
-use Rattle.std.specs.Fmt.{ParsesUnsigned}
+use Rattle.std.specs.Str.Parse.{ParsesUnsigned}
+use Rattle.std.specs.Cmp.Lexicographic.{other_text}
 use Rattle.std.specs.Result.{result_ok}
 use Rattle.x86_cli.proofs.make.count_from.Goals as goal
 
@@ -13,13 +14,13 @@ same a b e = cc
 
 pub returns-in_err-count-clause-every : goal.returns-in_err-count-clause-every
 returns-in_err-count-clause-every c n least most e =
-    let p = parsed c.args.word.now c.parse.result n most e c.parse.ensures.value in
-    c.from_residual.ensures ∙ sym (c.in_err-count.was tt) ∙ c.ok.ensures.value ∙ p
+    let p = parsed c.args.word.now c.parse.result n most e c.parse.ensures.value.0 in
+    c.from_residual.ensures ∙ sym c.in_err-count.was ∙ c.ok.ensures.value ∙ p
 
 pub returns-then-count-eq0-clause-every : goal.returns-then-count-eq0-clause-every
 returns-then-count-eq0-clause-every c n least most e =
-    let p = parsed c.args.word.now c.parse.result n most e c.parse.ensures.value in
-    let k : c.in_ok-count.count ≡ n = same c.in_ok-count.count n (sym (c.in_ok-count.was tt) ∙ c.ok.ensures.value ∙ p) in
+    let p = parsed c.args.word.now c.parse.result n most e c.parse.ensures.value.0 in
+    let k : c.in_ok-count.count ≡ n = same c.in_ok-count.count n (sym c.in_ok-count.was ∙ c.ok.ensures.value ∙ p) in
     absurd (out c.in_ok-count.count c.then-count-eq0.either (omega arith) (omega arith))
   where
     out : (k : ℕ) → (k ≡ 0) ⊎ ((k ≡ 0 → ⊥) × 1000000 < k) → 1 ≤ k → k ≤ 1000000 → ⊥
@@ -28,8 +29,11 @@ returns-then-count-eq0-clause-every c n least most e =
 
 pub returns-then-eq-clause-every : goal.returns-then-eq-clause-every
 returns-then-eq-clause-every c n least most e =
-    let p = parsed c.args.word.now c.parse.result n most e c.parse.ensures.value in
-    sym (c.in_ok-count.was tt) ∙ c.ok.ensures.value ∙ p
+    let p = parsed c.args.word.now c.parse.result n most e c.parse.ensures.value.0 in
+    sym c.in_ok-count.was ∙ c.ok.ensures.value ∙ p
 
 pub returns-else-eq-clause-every : goal.returns-else-eq-clause-every
-returns-else-eq-clause-every c n least most e = ?
+returns-else-eq-clause-every c n least most e =
+    let p = parsed c.args.word.now c.parse.result n most e c.parse.ensures.value.0 in
+    let k : c.in_ok-count.count ≡ n = same c.in_ok-count.count n (sym c.in_ok-count.was ∙ c.ok.ensures.value ∙ p) in
+    absurd (other_text c.format.result.now c.args.word.now c.if-eq.ensures (c.format.ensures.text ∙ ap decimal k ∙ sym e))
