@@ -1,5 +1,5 @@
 -- Each answer comes exactly where its case decides.
-use Rattle.std.proofs.Common.{◌≡◌, ◌≢◌, ◌↔◌, ℕ, ◌≤◌, ◌⊎◌, inl, inr, Bool, true, false, if◌then◌else◌, List, ◌++◌, length, Result, Ok, Err, IsOk, refl, sym, ap, subst, ◌∙◌, arith}
+use Rattle.std.proofs.Common.{◌≡◌, ◌≢◌, ◌↔◌, ℕ, inl, inr, Bool, true, false, if◌then◌else◌, List, length, Result, Ok, Err, IsOk, refl, ap, subst, arith}
 use Rattle.x86_fields.specs.declared.DecodeError.{DecodeError}
 use Rattle.x86_fields.specs.declared.DecodeError.TheVariants.{ExhaustedInput, InvalidOpcode, InvalidOperand, InvalidPrefixes, TooLong, IncompleteDecoder}
 use Rattle.x86_fields.specs.Run.{reading_of}
@@ -7,8 +7,8 @@ use Rattle.x86_operands.specs.declared.plans.Fault.{Fault}
 use Rattle.x86_operands.specs.declared.plans.Fault.TheVariants.{BadOpcode, BadOperand, Incomplete}
 use Rattle.x86_operands.specs.Signs.{error_of}
 use Rattle.x86_decode.specs.declared.instructions.Instruction.{Instruction}
-use Rattle.x86_decode.specs.Head.{Rows, bars_vex, vex_error}
-use Rattle.x86_decode.specs.Grammar.{IsVexBehindRun, IsRefusedByRecord, DecidesByBytes, case_1, case_2, case_3, case_4, Decides, by_bytes, case_5, IsRefusal, IsOpen, IsAnswer}
+use Rattle.x86_decode.specs.Head.{Rows, bars_vex}
+use Rattle.x86_decode.specs.Grammar.{IsVexBehindRun, IsRefusedByRecord, case_1, case_2, case_3, case_4, Decides, by_bytes, case_5, IsRefusal, IsOpen, IsAnswer}
 use Rattle.x86_decode.specs.Causes.{Faults, IsDecidedBy, IsUndecided, HasSentence, HasFaultyOpcode, HasFaultyOperand, HasFaultyPrefixes, HasNoRoom, IsLeftOut}
 use Rattle.x86_decode.proofs.Theorem.{refusal_answer, same_error}
 use Rattle.x86_decode.proofs.AnswerLaws.{once, answer_refusal}

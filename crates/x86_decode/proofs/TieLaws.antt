@@ -1,14 +1,11 @@
 -- What the pieces of a row give: tied slots and operands, and the address of the raw fields.
-use Rattle.std.proofs.Common.{◌≡◌, ℕ, zero, suc, ◌+◌, ◌<◌, ◌≤◌, Bool, true, false, if◌then◌else◌, nat_lt, List, [], ◌∷◌, ◌++◌, length, Option, Some, None, Result, Ok, Err, ℤ, slice_index_or, refl, sym, ap, subst, ◌∙◌, arith}
+use Rattle.std.proofs.Common.{◌≡◌, ℕ, zero, suc, ◌<◌, ◌≤◌, Bool, true, false, if◌then◌else◌, nat_lt, List, [], ◌∷◌, length, Option, Some, None, ℤ, slice_index_or, refl, sym, ap, subst, ◌∙◌, arith}
 use Rattle.std.specs.Prelude.{FitsSigned}
 use Rattle.std.specs.Int.{w32}
 use Rattle.std.proofs.lemmas.Bool.Decides.{nat_tests}
 use Rattle.x86_regs.specs.declared.RegSpec.{RegSpec}
-use Rattle.x86_regs.specs.declared.RegisterClass.{RegisterClass}
-use Rattle.x86_fields.specs.declared.DecodeError.{DecodeError}
 use Rattle.x86_fields.specs.declared.Prefixes.{Prefixes}
 use Rattle.x86_fields.specs.declared.Raw.{Raw}
-use Rattle.x86_fields.specs.Run.{reading_of}
 use Rattle.x86_fields.specs.Address.{base_of, index_of, scale_by}
 use Rattle.x86_fields.specs.Linear.{raw_form}
 use Rattle.x86_operands.specs.declared.operands.Slot.{Slot}
@@ -28,7 +25,6 @@ use Rattle.x86_operands.specs.Shape.{shape_by, shape_of}
 use Rattle.x86_operands.specs.Linear.{operand_form}
 use Rattle.x86_operands.specs.Plans.{RowRecord, list_of}
 use Rattle.x86_operands.specs.Signs.{pair_at, four_of}
-use Rattle.x86_fields.specs.Pieces.{SpellsRaw}
 use Rattle.x86_operands.specs.Pieces.{modrm_of, sign_gives, SpellsSigns, SpellsMemory, SpellsRow}
 use Rattle.x86_operands.proofs.ShapeLaws.{shape_has_form}
 use Rattle.x86_decode.specs.declared.instructions.Instruction.{Instruction}

@@ -1,6 +1,5 @@
 -- The answer of bytes over the printed rows, and its count, as functions of the bytes.
 use Rattle.std.specs.Prelude.{ℕ, Bool, List, Result}
-use Rattle.x86_arch.specs.Reader.{State}
 use Rattle.x86_fields.specs.declared.DecodeError.{DecodeError}
 use Rattle.x86_fields.specs.Steps.{Outcome}
 use Rattle.x86_forms.specs.Words.{rows_of, word_at}

@@ -3,7 +3,7 @@ use Rattle.x86_forms.specs.Words.{rows_of, word_at}
 use Rattle.x86_fields.specs.declared.DecodeError.TheVariants.{InvalidOpcode, InvalidOperand, InvalidPrefixes, TooLong, IncompleteDecoder}
 use Rattle.x86_decode.specs.Answer.{answer_of, count_of}
 use Rattle.x86_decode.proofs.PrintedLaws.{printed_answer}
-use Rattle.x86_decode.proofs.CauseLaws.{accepted, exhausted, opcode_faulted, operand_faulted, prefixes_faulted, too_long, left_out, same_refusal}
+use Rattle.x86_decode.proofs.CauseLaws.{opcode_faulted, operand_faulted, prefixes_faulted, too_long, left_out, same_refusal}
 use Rattle.x86_decode.proofs.InstDecoder.decode_into.Goals as goal
 
 pub returns-in-Err-clause-invalid_opcode : goal.returns-in-Err-clause-invalid_opcode
