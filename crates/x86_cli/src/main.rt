@@ -5,10 +5,14 @@ ghost use Rattle.std.specs.Prelude.{◌≡◌};
 
 mod command;
 mod gathered;
+#[cfg(test)]
+mod group_lines;
 mod laws;
 mod line;
 mod listing;
 mod make;
+#[cfg(test)]
+mod plain_lines;
 mod sink;
 mod source;
 mod status;

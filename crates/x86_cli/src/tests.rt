@@ -4,9 +4,11 @@ ghost use Rattle.std.specs.Prelude.{None};
 
 use crate::command::{TEXT_MAX, USAGE, run};
 use crate::gathered::Gathered;
+use crate::plain_lines::Worked;
 use crate::sink::{ArraySink, NullSink, Sink, SinkFailed, StdSink};
 use crate::source::{Got, SliceSource, SoundSource, Source, StdSource};
 use crate::status::Status;
+use crate::{group_lines, plain_lines};
 use std::alloc::{AllocError, Global};
 use std::io;
 use std::io::{ErrorKind, Read, Write};
@@ -92,6 +94,55 @@ fn is_usage(alloc: Global, texts: &[&str]) -> bool {
     runs(alloc, texts, b"01 d8", &[], b"", Status::Usage)
 }
 
+fn is_worked(alloc: Global, worked: &Worked) -> bool {
+    let (text, written) = *worked;
+    lists(alloc, text.as_bytes(), written.as_bytes(), Status::Done)
+}
+
+#[test]
+fn worked_plain_forms(rt: HostRuntime) {
+    for part in plain_lines::PARTS {
+        for worked in *part {
+            assert!(&rt; is_worked(rt.alloc(), worked));
+        }
+    }
+}
+
+#[test]
+fn worked_groups(rt: HostRuntime) {
+    for part in group_lines::PARTS {
+        for worked in *part {
+            assert!(&rt; is_worked(rt.alloc(), worked));
+        }
+    }
+}
+
+fn makes(alloc: Global, count: &str, written: &[u8]) -> bool {
+    runs(
+        alloc,
+        &["make", count],
+        b"01 d8",
+        &[],
+        written,
+        Status::Done,
+    )
+}
+
+#[test]
+fn made_encodings(rt: HostRuntime) {
+    let line: &[u8] = b"1 instructions 2 bytes 0 rip 0 abs\n";
+    assert!(&rt; makes(rt.alloc(), "1", line));
+    let line: &[u8] = b"192 instructions 760 bytes 8 rip 0 abs\n";
+    assert!(&rt; makes(rt.alloc(), "192", line));
+    let line: &[u8] = b"7296 instructions 29040 bytes 304 rip 8 abs\n";
+    assert!(&rt; makes(rt.alloc(), "7296", line));
+    assert!(&rt; is_usage(rt.alloc(), &["make"]));
+    assert!(&rt; is_usage(rt.alloc(), &["make", "0"]));
+    assert!(&rt; is_usage(rt.alloc(), &["make", "01"]));
+    assert!(&rt; is_usage(rt.alloc(), &["make", "+1"]));
+    assert!(&rt; is_usage(rt.alloc(), &["make", "1000001"]));
+}
+
 #[test]
 fn choices(rt: HostRuntime) {
     let fence: &[u8] = b"0f ae e9";
@@ -124,7 +175,7 @@ fn words_matched_whole(rt: HostRuntime) {
     assert!(&rt; is_usage(rt.alloc(), &["list", "strict"]));
     assert!(&rt; is_usage(rt.alloc(), &["list", "--strict", ""]));
     assert!(&rt; is_usage(rt.alloc(), &["--strict", "list"]));
-    assert!(&rt; USAGE == "usage: list [--strict] | sweep");
+    assert!(&rt; USAGE == "usage: list [--strict] | make N | sweep");
 }
 
 #[test]

@@ -12,10 +12,13 @@ returns-in-Err g c =
     let failed = c.in-Err.ensures in
     let n : ℕ = failed.part.0 in
     record {
-      made = (failed.cause, record {
-        part = take n whole;
-        more = drop n whole;
-        whole = sym (take-append-drop n whole);
-        written = failed.part.1 ∙ ap (λ t. append_known (g.K.Sink.written c.args.sink.now) (take n (line t))) text;
-      });
+      made = (
+        failed.cause,
+        record {
+          part = take n whole;
+          more = drop n whole;
+          whole = sym (take-append-drop n whole);
+          written = failed.part.1 ∙ ap (λ t. append_known (g.K.Sink.written c.args.sink.now) (take n (line t))) text;
+        },
+      );
     }

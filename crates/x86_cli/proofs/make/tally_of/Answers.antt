@@ -14,10 +14,10 @@ next i b r a l x y e long at_rip absolute =
     let t : Tally = tally_of i in
     let rips : ℕ = one_if (answer_has is_at_rip (answer_of false (made i))) in
     let here : of_three (b + l) (r + x) (a + y) ≡ tally_of (suc i) =
-        ap (λ (s : Tally). of_three (s.bytes + l) (s.at_rip + x) (s.absolute + y)) e
-        ∙ ap (λ n. of_three (t.bytes + n) (t.at_rip + x) (t.absolute + y)) long
-        ∙ ap (λ n. of_three (t.bytes + length (made i)) (t.at_rip + n) (t.absolute + y)) at_rip
-        ∙ ap (λ n. of_three (t.bytes + length (made i)) (t.at_rip + rips) (t.absolute + n)) absolute in
+    ap (λ (s : Tally). of_three (s.bytes + l) (s.at_rip + x) (s.absolute + y)) e
+    ∙ ap (λ n. of_three (t.bytes + n) (t.at_rip + x) (t.absolute + y)) long
+    ∙ ap (λ n. of_three (t.bytes + length (made i)) (t.at_rip + n) (t.absolute + y)) at_rip
+    ∙ ap (λ n. of_three (t.bytes + length (made i)) (t.at_rip + rips) (t.absolute + n)) absolute in
     subst (λ k. of_three (b + l) (r + x) (a + y) ≡ tally_of k) (sym (add-one i)) here
 
 pub loop-i-init : goal.loop-i-init
@@ -29,7 +29,7 @@ loop-i-preserved c =
     let i : ℕ = c.loop-i.i in
     let bytes : c.as_slice.result.now ≡ made i = c.as_slice.ensures.value ∙ c.generate-encoding.ensures in
     let answer : c.decode_slice-answer.result ≡ answer_of false (made i) =
-        c.decode_slice-answer.ensures.value ∙ ap (λ s. answer_of s c.as_slice.result.now) c.default-decoder.ensures ∙ ap (answer_of false) bytes in
+    c.decode_slice-answer.ensures.value ∙ ap (λ s. answer_of s c.as_slice.result.now) c.default-decoder.ensures ∙ ap (answer_of false) bytes in
     record {
       counted = next i c.loop-i.bytes c.loop-i.at_rip c.loop-i.absolute c.len.result c.one_at_rip-at_rip.result c.one_absolute-absolute.result c.loop-i.invariant.counted
           (c.len.ensures.value ∙ ap length c.generate-encoding.ensures)
