@@ -1,0 +1,3 @@
+mod CutLaws
+mod MarkLaws
+mod PlaceLaws

@@ -1,0 +1,5 @@
+pub mod Branches
+pub mod Cuts
+pub mod Lengths
+pub mod Marks
+pub mod Sweeps
