@@ -6,13 +6,13 @@ ghost use Rattle.std.specs.Prelude.{◌≡◌};
 mod command;
 mod gathered;
 #[cfg(test)]
-mod group_lines;
+mod group_table;
 mod laws;
 mod line;
 mod listing;
 mod make;
 #[cfg(test)]
-mod plain_lines;
+mod plain_table;
 mod sink;
 mod source;
 mod status;
@@ -21,6 +21,8 @@ mod sweep;
 mod tests;
 mod text;
 mod window;
+#[cfg(test)]
+mod worked_tests;
 
 use command::{USAGE, run};
 use gathered::Gathered;

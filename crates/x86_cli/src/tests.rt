@@ -4,7 +4,6 @@ ghost use Rattle.std.specs.Prelude.{None};
 
 use crate::command::{TEXT_MAX, USAGE, run};
 use crate::gathered::Gathered;
-use crate::plain_lines::Worked;
 use crate::sink::{ArraySink, NullSink, Sink, SinkFailed, StdSink};
 use crate::source::{Got, SliceSource, SoundSource, Source, StdSource};
 use crate::status::Status;
@@ -23,7 +22,7 @@ fn words(alloc: Global, texts: &[&str]) -> Result<Vec<String>, AllocError> {
 
 /// Whether a run over the text, some of whose calls fail, writes this and ends so. The words are collected before the
 /// run, so a refused allocation is told here, and never changes an answer.
-fn runs(
+pub fn runs(
     alloc: Global,
     texts: &[&str],
     text: &[u8],
@@ -39,7 +38,7 @@ fn runs(
     run(words.as_slice(), &mut source, &mut sink) == status && sink.written() == written
 }
 
-fn lists(alloc: Global, text: &[u8], written: &[u8], status: Status) -> bool {
+pub fn lists(alloc: Global, text: &[u8], written: &[u8], status: Status) -> bool {
     runs(alloc, &["list"], text, &[], written, status)
 }
 
@@ -90,57 +89,8 @@ fn ends_of_the_text(rt: HostRuntime) {
     );
 }
 
-fn is_usage(alloc: Global, texts: &[&str]) -> bool {
+pub fn is_usage(alloc: Global, texts: &[&str]) -> bool {
     runs(alloc, texts, b"01 d8", &[], b"", Status::Usage)
-}
-
-fn is_worked(alloc: Global, worked: &Worked) -> bool {
-    let (text, written) = *worked;
-    lists(alloc, text.as_bytes(), written.as_bytes(), Status::Done)
-}
-
-#[test]
-fn worked_plain_forms(rt: HostRuntime) {
-    for part in plain_lines::PARTS {
-        for worked in *part {
-            assert!(&rt; is_worked(rt.alloc(), worked));
-        }
-    }
-}
-
-#[test]
-fn worked_groups(rt: HostRuntime) {
-    for part in group_lines::PARTS {
-        for worked in *part {
-            assert!(&rt; is_worked(rt.alloc(), worked));
-        }
-    }
-}
-
-fn makes(alloc: Global, count: &str, written: &[u8]) -> bool {
-    runs(
-        alloc,
-        &["make", count],
-        b"01 d8",
-        &[],
-        written,
-        Status::Done,
-    )
-}
-
-#[test]
-fn made_encodings(rt: HostRuntime) {
-    let line: &[u8] = b"1 instructions 2 bytes 0 rip 0 abs\n";
-    assert!(&rt; makes(rt.alloc(), "1", line));
-    let line: &[u8] = b"192 instructions 760 bytes 8 rip 0 abs\n";
-    assert!(&rt; makes(rt.alloc(), "192", line));
-    let line: &[u8] = b"7296 instructions 29040 bytes 304 rip 8 abs\n";
-    assert!(&rt; makes(rt.alloc(), "7296", line));
-    assert!(&rt; is_usage(rt.alloc(), &["make"]));
-    assert!(&rt; is_usage(rt.alloc(), &["make", "0"]));
-    assert!(&rt; is_usage(rt.alloc(), &["make", "01"]));
-    assert!(&rt; is_usage(rt.alloc(), &["make", "+1"]));
-    assert!(&rt; is_usage(rt.alloc(), &["make", "1000001"]));
 }
 
 #[test]

@@ -16,7 +16,7 @@ mod reader_tests;
 #[cfg(test)]
 mod recorder;
 #[cfg(test)]
-mod refusals;
+mod refusal_table;
 #[cfg(test)]
 mod tests;
 #[cfg(test)]

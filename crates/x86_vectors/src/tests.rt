@@ -1,6 +1,6 @@
 //! The worked answers, asked of the decoder.
 use crate::answers::{ACCEPTED, Accepted, REFUSED, Refused};
-use crate::refusals::PARTS;
+use crate::refusal_table::PARTS;
 use x86_arch::{ChunkReader, Reader, U8Reader};
 use x86_decode::{InstDecoder, Instruction};
 use x86_fields::DecodeError;

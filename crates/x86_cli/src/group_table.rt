@@ -1,6 +1,6 @@
 //! Encodings of the groups, of 3DNow and of x87, worked by hand from the rows, with the lines that list them.
 
-use crate::plain_lines::Worked;
+use crate::plain_table::Worked;
 
 const PART_1: &[Worked] = &[
     ("80 c0 ff", "0 3 ADD al, i8:-1 m1\n"),
