@@ -7,7 +7,6 @@ use crate::gathered::Gathered;
 use crate::sink::{ArraySink, NullSink, Sink, SinkFailed, StdSink};
 use crate::source::{Got, SliceSource, SoundSource, Source, StdSource};
 use crate::status::Status;
-use crate::{group_lines, plain_lines};
 use std::alloc::{AllocError, Global};
 use std::io;
 use std::io::{ErrorKind, Read, Write};
