@@ -12,3 +12,4 @@ pub mod Keys
 pub mod ThreeDNow
 pub mod Floats
 pub mod Groups
+pub mod Choices
