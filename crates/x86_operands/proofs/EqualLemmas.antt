@@ -1,13 +1,11 @@
 -- Operands that == finds equal are the same.
-use Rattle.std.proofs.Common.{◌≡◌, Bool, true, false, ◌&&◌, rules, refl, sym, ap, true≢false}
+use Rattle.std.proofs.Common.{◌≡◌, true, rules, refl, sym, ap, true≢false}
 use Rattle.std.proofs.lemmas.Bool.Decides.{Decides-eqb, Decides-int_eq}
 use Rattle.std.proofs.lemmas.Bool.{and_parts}
 use Rattle.x86_regs.specs.declared.RegSpec.{RegSpec}
-use Rattle.x86_regs.specs.declared.RegisterClass.{RegisterClass}
 use Rattle.x86_regs.specs.declared.MergeMode.{MergeMode}
 use Rattle.x86_regs.specs.declared.SaeMode.{SaeMode}
 use Rattle.x86_regs.specs.contracts.RegSpecPartialEq.TheImpl as register
-use Rattle.x86_regs.specs.contracts.RegisterClassPartialEq.TheImpl as class
 use Rattle.x86_regs.specs.contracts.MergeModePartialEq.TheImpl as merge
 use Rattle.x86_regs.specs.contracts.SaeModePartialEq.TheImpl as rounding
 use Rattle.x86_operands.specs.declared.operands.MemoryAccessSize.{MemoryAccessSize}
