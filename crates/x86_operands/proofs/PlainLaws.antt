@@ -1,0 +1,37 @@
+-- What holds of the plans of all plain forms.
+use Rattle.std.proofs.Common.{◌≡◌, ◌≢◌, ◌≤◌, ℕ, true, false, not, ◌&&◌, ◌==◌, rules, refl, sym, ap, ◌∙◌}
+use Rattle.x86_fields.specs.declared.Prefixes.{Prefixes}
+use Rattle.x86_fields.specs.Raw.{rex_b}
+use Rattle.x86_fields.specs.Sizes.{v}
+use Rattle.x86_opcodes.specs.Names.{NOP}
+use Rattle.x86_operands.specs.declared.plans.RegisterSlot.TheVariants.{Rm}
+use Rattle.x86_operands.specs.declared.plans.Signs.TheVariants.{Zero, Two}
+use Rattle.x86_forms.specs.declared.Form.{Form}
+use Rattle.x86_forms.specs.declared.Form.TheVariants as form
+use Rattle.x86_forms.specs.Groups.{is_group_form}
+use Rattle.x86_operands.specs.declared.plans.Fault.TheVariants.{Incomplete}
+use Rattle.x86_operands.specs.declared.plans.Moment.{Moment}
+use Rattle.x86_operands.specs.declared.plans.Verdict.TheVariants.{Refuses}
+use Rattle.x86_operands.specs.Plans.{reads, accumulator_of}
+use Rattle.x86_forms.specs.declared.TableRow.{TableRow}
+use Rattle.x86_operands.specs.Forms.{z_in, form_plan, form_record}
+use Rattle.x86_operands.proofs.PlanTests.{passes, either_passes, small_steps, without_gap, at_most_64}
+
+-- by the form, of which the last clause covers all that carry no number
+plain_passes : (f : Form) (o : ℕ) (p : Prefixes) (m : ℕ) → passes (is_group_form f) (form_plan f o p m) ≡ true
+plain_passes (form.Zv_R n) o p m = refl
+plain_passes (form.Zv_AX_R n) o p m =
+    either_passes false ((n == 0) && not (rex_b p)) (reads NOP Zero 0) (reads o (Two (accumulator_of (v p) p) (z_in Rm n (v p) p)) 0) refl refl
+plain_passes (form.Zb_Ib_R n) o p m = refl
+plain_passes (form.Zv_Ivq_R n) o p m = refl
+plain_passes (form.Zv_B n) o p m = refl
+plain_passes _ o p m = search (rules, small_steps)
+
+pub plain_built : (row : TableRow) (p : Prefixes) (m : ℕ) (w : Moment) → is_group_form row.form ≡ false → ((form_record row p).plan m).verdict ≢ Refuses Incomplete w
+unfolding form_record
+plain_built row p m w plain e =
+    without_gap (form_plan row.form row.opcode p m) w (ap (λ g. passes g (form_plan row.form row.opcode p m)) (sym plain) ∙ plain_passes row.form row.opcode p m) e
+
+pub plain_small : (row : TableRow) (p : Prefixes) (m : ℕ) → ((form_record row p).plan m).size ≤ 64
+unfolding form_record
+plain_small row p m = at_most_64 (is_group_form row.form) (form_plan row.form row.opcode p m) (plain_passes row.form row.opcode p m)
