@@ -43,7 +43,7 @@ is_memory_slot slot = false
 -- the width in bytes, where the operand itself has one
 abbrev pub operand_width : Operand → Option ℕ
 operand_width (operands.Register reg) = Some (width_of reg.class)
-operand_width (operands.RegisterMaskMerge reg k merge) = Some (width_of reg.class)
+operand_width (operands.RegisterMaskMerge reg k _) = Some (width_of reg.class)
 operand_width (operands.ImmediateI8 z) = Some 1
 operand_width (operands.ImmediateU8 n) = Some 1
 operand_width (operands.ImmediateI16 z) = Some 2
