@@ -16,6 +16,7 @@ mod fences;
 mod floats;
 mod hints;
 mod keys;
+pub mod laws;
 mod moves;
 mod operations;
 mod shifts;
