@@ -1,11 +1,32 @@
-//! What the default and the strict choice have in common, and where they differ.
+//! What holds of the records of all groups, over the definitions alone, and where the default and the strict choice differ.
 
-ghost use Rattle.std.specs.Prelude.{◌≡◌, ◌⊎◌, ℕ, true, false};
+ghost use Rattle.std.specs.Prelude.{◌≡◌, ◌≢◌, ◌≤◌, ◌⊎◌, ℕ, Bool, true, false, Some};
 ghost use Rattle.x86_fields.specs.declared.Prefixes.{Prefixes};
+ghost use Rattle.x86_fields.specs.Raw.{middle_field};
 ghost use Rattle.x86_forms.specs.declared.TableRow.{TableRow};
+ghost use Rattle.x86_operands.specs.declared.plans.Fault.TheVariants.{Incomplete};
+ghost use Rattle.x86_operands.specs.declared.plans.Moment.{Moment};
+ghost use Rattle.x86_operands.specs.declared.plans.Moment.TheVariants.{AfterAddress};
+ghost use Rattle.x86_operands.specs.declared.plans.Verdict.TheVariants.{Refuses};
 ghost use Rattle.x86_groups.specs.Choice.{bare, bad_operand};
 ghost use Rattle.x86_groups.specs.Choices.{IsFenceWithRm};
 ghost use Rattle.x86_groups.specs.Groups.{group_record, group_plan};
+
+use x86_forms::Form;
+
+/// Of the groups only 8F with a reg other than 0 isn't built: no other plan of a record refuses as `Incomplete`, and no record
+/// does so at the opcode byte. Source: Intel SDM volume 2, appendix A.4, group 1A.
+pub fn groups_are_built()
+    ensures at_opcode { (strict : Bool) (row : TableRow) (p : Prefixes) → (group_record strict row p).at_opcode ≢ Some Incomplete }
+    ensures form { (strict : Bool) (row : TableRow) (p : Prefixes) (m : ℕ) (w : Moment) → ((group_record strict row p).plan m).verdict ≡ Refuses Incomplete w → row.form ≡ Form.ModRM_0x8f }
+    ensures reg { (strict : Bool) (row : TableRow) (p : Prefixes) (m : ℕ) (w : Moment) → ((group_record strict row p).plan m).verdict ≡ Refuses Incomplete w → middle_field m ≢ 0 }
+    ensures moment { (strict : Bool) (row : TableRow) (p : Prefixes) (m : ℕ) (w : Moment) → ((group_record strict row p).plan m).verdict ≡ Refuses Incomplete w → w ≡ AfterAddress }
+{}
+
+/// The memory size of each plan is at most 64 bytes.
+pub fn group_sizes_are_small()
+    ensures { (strict : Bool) (row : TableRow) (p : Prefixes) (m : ℕ) → ((group_record strict row p).plan m).size ≤ 64 }
+{}
 
 /// The default and the strict choice differ on LFENCE, MFENCE and SFENCE with rm other than 0, and on nothing else: there the
 /// default reads the fence, without an operand, and the strict choice refuses its operand behind ModRM.

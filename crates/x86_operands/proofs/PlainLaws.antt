@@ -19,6 +19,7 @@ use Rattle.x86_operands.proofs.PlanTests.{passes, either_passes, small_steps, wi
 
 -- by the form, of which the last clause covers all that carry no number
 plain_passes : (f : Form) (o : ℕ) (p : Prefixes) (m : ℕ) → passes (is_group_form f) (form_plan f o p m) ≡ true
+unfolding passes
 plain_passes (form.Zv_R n) o p m = refl
 plain_passes (form.Zv_AX_R n) o p m =
     either_passes false ((n == 0) && not (rex_b p)) (reads NOP Zero 0) (reads o (Two (accumulator_of (v p) p) (z_in Rm n (v p) p)) 0) refl refl

@@ -1,0 +1,14 @@
+use Rattle.x86_groups.proofs.GroupLaws.{no_fault, gap_form, gap_reg, gap_moment}
+use Rattle.x86_groups.proofs.laws.groups_are_built.Goals as goal
+
+pub returns-clause-at_opcode : goal.returns-clause-at_opcode
+returns-clause-at_opcode c = no_fault
+
+pub returns-clause-form : goal.returns-clause-form
+returns-clause-form c = gap_form
+
+pub returns-clause-reg : goal.returns-clause-reg
+returns-clause-reg c = gap_reg
+
+pub returns-clause-moment : goal.returns-clause-moment
+returns-clause-moment c = gap_moment
