@@ -1,2 +1,2 @@
-pub mod PlanLaws
+mod PlanLaws
 pub mod GroupLaws
