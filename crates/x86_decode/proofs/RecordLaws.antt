@@ -1,5 +1,5 @@
 -- What holds of the records of all rows: sizes up to 64 bytes, and only 8F left out.
-use Rattle.std.proofs.Common.{◌≡◌, ◌≢◌, ℕ, ◌<◌, ◌≤◌, Bool, true, false, if◌then◌else◌, List, Some, None, Result, Ok, Err, IfOk, refl, sym, ap, ◌∙◌, arith}
+use Rattle.std.proofs.Common.{◌≡◌, ◌≢◌, ℕ, ◌<◌, ◌≤◌, Bool, true, false, if◌then◌else◌, List, Some, Result, Ok, Err, IfOk, refl, sym, ap, ◌∙◌, arith}
 use Rattle.x86_fields.specs.declared.DecodeError.{DecodeError}
 use Rattle.x86_fields.specs.declared.Prefixes.{Prefixes}
 use Rattle.x86_fields.specs.Run.{reading_of}
@@ -10,7 +10,6 @@ use Rattle.x86_forms.specs.Words.{rows_of, word_at}
 use Rattle.x86_operands.specs.declared.plans.Fault.TheVariants.{Incomplete}
 use Rattle.x86_operands.specs.declared.plans.Moment.{Moment}
 use Rattle.x86_operands.specs.declared.plans.Verdict.TheVariants.{Refuses}
-use Rattle.x86_operands.specs.declared.plans.Plan.{Plan}
 use Rattle.x86_operands.specs.Plans.{RowRecord}
 use Rattle.x86_operands.specs.Forms.{form_record}
 use Rattle.x86_operands.specs.Pieces.{modrm_of, RefusesTail, at_modrm, after_address, after_suffix, no_name, RefusesRow, at_opcode, behind_modrm}
