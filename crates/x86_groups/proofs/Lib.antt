@@ -1,3 +1,3 @@
 pub mod ChoiceLaws
-pub mod PlanLaws
+mod PlanLaws
 pub mod GroupLaws

@@ -1,5 +1,5 @@
 -- What holds of the plans of all plain forms.
-use Rattle.std.proofs.Common.{◌≡◌, ◌≢◌, ◌≤◌, ℕ, true, false, not, ◌&&◌, ◌==◌, rules, refl, sym, ap, ◌∙◌}
+use Rattle.std.proofs.Common.{◌≡◌, ◌≢◌, ◌≤◌, ℕ, None, true, false, not, ◌&&◌, ◌==◌, rules, refl, sym, ap, ◌∙◌}
 use Rattle.x86_fields.specs.declared.Prefixes.{Prefixes}
 use Rattle.x86_fields.specs.Raw.{rex_b}
 use Rattle.x86_fields.specs.Sizes.{v}
@@ -36,3 +36,7 @@ plain_built row p m w plain e =
 pub plain_small : (row : TableRow) (p : Prefixes) (m : ℕ) → ((form_record row p).plan m).size ≤ 64
 unfolding form_record
 plain_small row p m = at_most_64 (is_group_form row.form) (form_plan row.form row.opcode p m) (plain_passes row.form row.opcode p m)
+
+pub plain_passed : (row : TableRow) (p : Prefixes) → (form_record row p).at_opcode ≡ None
+unfolding form_record
+plain_passed row p = refl

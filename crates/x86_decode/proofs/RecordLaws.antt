@@ -1,0 +1,76 @@
+-- What holds of the records of all rows: sizes up to 64 bytes, and only 8F left out.
+use Rattle.std.proofs.Common.{◌≡◌, ◌≢◌, ℕ, ◌<◌, ◌≤◌, Bool, true, false, if◌then◌else◌, List, Some, Result, Ok, Err, IfOk, refl, sym, ap, ◌∙◌, arith}
+use Rattle.x86_fields.specs.declared.DecodeError.{DecodeError}
+use Rattle.x86_fields.specs.declared.Prefixes.{Prefixes}
+use Rattle.x86_fields.specs.Run.{reading_of}
+use Rattle.x86_forms.specs.declared.Form.TheVariants as form
+use Rattle.x86_forms.specs.declared.TableRow.{TableRow}
+use Rattle.x86_forms.specs.Groups.{is_group_form}
+use Rattle.x86_forms.specs.Words.{rows_of, word_at}
+use Rattle.x86_operands.specs.declared.plans.Fault.TheVariants.{Incomplete}
+use Rattle.x86_operands.specs.declared.plans.Moment.{Moment}
+use Rattle.x86_operands.specs.declared.plans.Verdict.TheVariants.{Refuses}
+use Rattle.x86_operands.specs.Plans.{RowRecord}
+use Rattle.x86_operands.specs.Forms.{form_record}
+use Rattle.x86_operands.specs.Pieces.{modrm_of, RefusesTail, at_modrm, after_address, after_suffix, no_name, RefusesRow, at_opcode, behind_modrm}
+use Rattle.x86_operands.proofs.PlainLaws.{plain_built, plain_passed, plain_small}
+use Rattle.x86_groups.specs.Groups.{group_record}
+use Rattle.x86_groups.proofs.GroupLaws.{no_fault, gap_form, group_small}
+use Rattle.x86_decode.specs.declared.instructions.Instruction.{Instruction}
+use Rattle.x86_decode.specs.Head.{Rows, seen}
+use Rattle.x86_decode.specs.Grammar.{record_of, IsSentence, IsRefusedByRecord, IsAnswer}
+use Rattle.x86_decode.specs.Answer.{answer_of, count_of}
+use Rattle.x86_decode.proofs.PrintedLaws.{printed_answer}
+
+record_small : (strict : Bool) (row : TableRow) (p : Prefixes) (m : ℕ) → ((record_of strict row p).plan m).size ≤ 64
+record_small strict row p m = by (is_group_form row.form)
+  where
+    by : (t : Bool) → ((if t then group_record strict row p else form_record row p).plan m).size ≤ 64
+    by true = group_small strict row p m
+    by false = plain_small row p m
+
+-- an instruction has the size of its plan
+sentence_small : (rows : Rows) (strict : Bool) (s : List ℕ) (a : Instruction) → IsSentence rows strict s a → a.mem_size < 65
+sentence_small rows strict s a is =
+    let p : Prefixes = seen is.whole.map is.whole.opcode (reading_of is.whole.run) in
+    let r : RowRecord = record_of strict is.whole.row p in
+    let m : ℕ = modrm_of r.modrm is.whole.asked.modrm in
+    let size : a.mem_size ≡ (r.plan m).size = ap (λ i. i.mem_size) is.gives ∙ ap (λ x. x.mem_size) is.whole.asked.behind.gives in
+    let small : (r.plan m).size ≤ 64 = record_small strict is.whole.row p m in
+    omega arith
+
+answer_small : (rows : Rows) (strict : Bool) (input : List ℕ) (r : Result Instruction DecodeError) (n : ℕ) → IsAnswer rows strict input r n → IfOk r (λ a. a.mem_size < 65)
+answer_small rows strict input (Ok a) n h = sentence_small rows strict h.sentence a h.is
+answer_small rows strict input (Err e) n h = tt
+
+pub printed_small : (strict : Bool) (xs : List ℕ) (i : Instruction) → answer_of strict xs ≡ Ok i → i.mem_size < 65
+printed_small strict xs i e = answer_small (rows_of word_at) strict xs (Ok i) (count_of strict xs) (printed_answer strict xs (Ok i) (sym e))
+
+-- ---- records that are left out
+
+no_gap_at_opcode : (strict : Bool) (row : TableRow) (p : Prefixes) → (record_of strict row p).at_opcode ≢ Some Incomplete
+no_gap_at_opcode strict row p = by (is_group_form row.form)
+  where
+    by : (t : Bool) → (if t then group_record strict row p else form_record row p).at_opcode ≢ Some Incomplete
+    by true e = no_fault strict row p e
+    by false e = let none = plain_passed row p in absurd cc
+
+gap_of_8f : (strict : Bool) (row : TableRow) (p : Prefixes) (m : ℕ) (w : Moment) → ((record_of strict row p).plan m).verdict ≡ Refuses Incomplete w → row.form ≡ form.ModRM_0x8f
+gap_of_8f strict row p m w = by (is_group_form row.form) refl
+  where
+    by : (t : Bool) → is_group_form row.form ≡ t → ((if t then group_record strict row p else form_record row p).plan m).verdict ≡ Refuses Incomplete w → row.form ≡ form.ModRM_0x8f
+    by true is e = gap_form strict row p m w e
+    by false is e = absurd (plain_built row p m w is e)
+
+tail_of_8f : (strict : Bool) (row : TableRow) (p : Prefixes) (m : ℕ) (tail : List ℕ) → RefusesTail ((record_of strict row p).plan m) p m tail Incomplete → row.form ≡ form.ModRM_0x8f
+tail_of_8f strict row p m tail (at_modrm e _) = gap_of_8f strict row p m _ e
+tail_of_8f strict row p m tail (after_address _ e _) = gap_of_8f strict row p m _ e
+tail_of_8f strict row p m tail (after_suffix e _) = gap_of_8f strict row p m _ e
+tail_of_8f strict row p m tail (no_name _ _ _ e) = absurd cc
+
+row_of_8f : (strict : Bool) (row : TableRow) (p : Prefixes) (bytes : List ℕ) → RefusesRow (record_of strict row p) p bytes Incomplete → row.form ≡ form.ModRM_0x8f
+row_of_8f strict row p bytes (at_opcode e _) = absurd (no_gap_at_opcode strict row p e)
+row_of_8f strict row p bytes (behind_modrm modrm tail _ _ _ t) = tail_of_8f strict row p (modrm_of (record_of strict row p).modrm modrm) tail t
+
+pub left_out_is_8f : (rows : Rows) (strict : Bool) (q : List ℕ) (c : IsRefusedByRecord rows strict q Incomplete) → c.row.form ≡ form.ModRM_0x8f
+left_out_is_8f rows strict q c = row_of_8f strict c.row (seen c.map c.opcode (reading_of c.run)) c.tail c.refuses
