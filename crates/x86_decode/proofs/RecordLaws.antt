@@ -1,9 +1,16 @@
 -- What holds of the records of all rows: sizes up to 64 bytes, and only 8F left out.
-use Rattle.std.proofs.Common.{◌≡◌, ◌≢◌, ℕ, ◌<◌, ◌≤◌, Bool, true, false, if◌then◌else◌, List, Some, Result, Ok, Err, IfOk, refl, sym, ap, ◌∙◌, arith}
+use Rattle.std.proofs.Common.{◌≡◌, ◌≢◌, ℕ, ◌<◌, ◌≤◌, Bool, true, false, if◌then◌else◌, List, Some, Result, Ok, Err, IfOk, refl, sym, ap, ◌∙◌, arith, [], ◌∷◌, not, ◌||◌, ◌&&◌, ◌==◌, eqb, IfSome, subst}
+use Rattle.std.proofs.lemmas.Bool.{and_parts, cond_both, eqb-true}
 use Rattle.x86_fields.specs.declared.DecodeError.{DecodeError}
 use Rattle.x86_fields.specs.declared.Prefixes.{Prefixes}
 use Rattle.x86_fields.specs.Run.{reading_of}
+use Rattle.x86_forms.specs.declared.Map.{Map}
+use Rattle.x86_forms.specs.declared.Map.TheVariants.{One, Of, Of38, Of3a}
+use Rattle.x86_forms.specs.declared.Column.{Column}
+use Rattle.x86_forms.specs.declared.Form.{Form}
 use Rattle.x86_forms.specs.declared.Form.TheVariants as form
+use Rattle.x86_forms.specs.Rows.{Row, printed_rows, row_in, stands_in, printed_row}
+use Rattle.x86_forms.proofs.WordLemmas.{row_of_printed_word}
 use Rattle.x86_forms.specs.declared.TableRow.{TableRow}
 use Rattle.x86_forms.specs.Groups.{is_group_form}
 use Rattle.x86_forms.specs.Words.{rows_of, word_at}
@@ -17,7 +24,7 @@ use Rattle.x86_operands.proofs.PlainLaws.{plain_built, plain_passed, plain_small
 use Rattle.x86_groups.specs.Groups.{group_record}
 use Rattle.x86_groups.proofs.GroupLaws.{no_fault, gap_form, group_small}
 use Rattle.x86_decode.specs.declared.instructions.Instruction.{Instruction}
-use Rattle.x86_decode.specs.Head.{Rows, seen}
+use Rattle.x86_decode.specs.Head.{Rows, column_of, seen}
 use Rattle.x86_decode.specs.Grammar.{record_of, IsSentence, IsRefusedByRecord, IsAnswer}
 use Rattle.x86_decode.specs.Answer.{answer_of, count_of}
 use Rattle.x86_decode.proofs.PrintedLaws.{printed_answer}
@@ -74,3 +81,53 @@ row_of_8f strict row p bytes (behind_modrm modrm tail _ _ _ t) = tail_of_8f stri
 
 pub left_out_is_8f : (rows : Rows) (strict : Bool) (q : List ℕ) (c : IsRefusedByRecord rows strict q Incomplete) → c.row.form ≡ form.ModRM_0x8f
 left_out_is_8f rows strict q c = row_of_8f strict c.row (seen c.map c.opcode (reading_of c.run)) c.tail c.refuses
+
+-- ---- where the form of 8F is printed
+
+abbrev is_8f : Form → Bool
+is_8f form.ModRM_0x8f = true
+is_8f f = false
+
+abbrev stands_at_8f : Map → ℕ → Bool
+stands_at_8f One byte = byte == 0x8f
+stands_at_8f m byte = false
+
+abbrev all_at_8f : Map → List Row → Bool
+all_at_8f m [] = true
+all_at_8f m (r ∷ rs) = (not (is_8f r.row.form) || stands_at_8f m r.byte) && all_at_8f m rs
+
+printed_at_8f : (m : Map) → all_at_8f m (printed_rows m) ≡ true
+printed_at_8f One = refl
+printed_at_8f Of = refl
+printed_at_8f Of38 = refl
+printed_at_8f Of3a = refl
+
+is_place_8f : (m : Map) (byte : ℕ) → stands_at_8f m byte ≡ true → (m ≡ One) × (byte ≡ 0x8f)
+is_place_8f One byte h = (refl, eqb-true byte 0x8f h)
+is_place_8f _ byte h = absurd cc
+
+only_8f : (m : Map) (r : Row) → (not (is_8f r.row.form) || stands_at_8f m r.byte) ≡ true → r.row.form ≡ form.ModRM_0x8f → (m ≡ One) × (r.byte ≡ 0x8f)
+only_8f m r h e =
+    let is : is_8f r.row.form ≡ true = ap is_8f e in
+    is_place_8f m r.byte (ap (λ t. not t || stands_at_8f m r.byte) (sym is) ∙ h)
+
+found_at_8f : (m : Map) (rs : List Row) (column : Column) (byte : ℕ) → all_at_8f m rs ≡ true → IfSome (row_in rs column byte) (λ row. row.form ≡ form.ModRM_0x8f → (m ≡ One) × (byte ≡ 0x8f))
+found_at_8f m [] column byte h = tt
+found_at_8f m (r ∷ rs) column byte h =
+    let parts = and_parts (not (is_8f r.row.form) || stands_at_8f m r.byte) (all_at_8f m rs) h in
+    cond_both (eqb r.byte byte && stands_in r.columns column) (Some r.row) (row_in rs column byte) (λ o. IfSome o (λ row. row.form ≡ form.ModRM_0x8f → (m ≡ One) × (byte ≡ 0x8f)))
+    (λ here e.
+    let same : r.byte ≡ byte = eqb-true r.byte byte (and_parts (eqb r.byte byte) (stands_in r.columns column) here).0 in
+    let place = only_8f m r parts.0 e in
+    (place.0, sym same ∙ place.1))
+    (λ _. found_at_8f m rs column byte parts.1)
+
+row_at_8f : (m : Map) (column : Column) (byte : ℕ) → IfSome (rows_of word_at m column byte) (λ row. row.form ≡ form.ModRM_0x8f → (m ≡ One) × (byte ≡ 0x8f))
+unfolding printed_row
+row_at_8f m column byte =
+    subst (λ o. IfSome o (λ row. row.form ≡ form.ModRM_0x8f → (m ≡ One) × (byte ≡ 0x8f))) (sym (row_of_printed_word m column byte)) (found_at_8f m (printed_rows m) column byte (printed_at_8f m))
+
+pub left_out_at_8f : (strict : Bool) (q : List ℕ) (c : IsRefusedByRecord (rows_of word_at) strict q Incomplete) → (c.map ≡ One) × (c.opcode ≡ 0x8f)
+left_out_at_8f strict q c =
+    let there = subst (λ o. IfSome o (λ row. row.form ≡ form.ModRM_0x8f → (c.map ≡ One) × (c.opcode ≡ 0x8f))) c.has_row (row_at_8f c.map (column_of (reading_of c.run)) c.opcode) in
+    there (left_out_is_8f (rows_of word_at) strict q c)
