@@ -1,5 +1,5 @@
 -- The value of an address without registers.
-use Rattle.std.proofs.Common.{◌≡◌, ℕ, ◌+◌, ◌*◌, ◌%◌, Bool, true, false, List, sym, ap, ◌∙◌, arith}
+use Rattle.std.proofs.Common.{◌≡◌, ℕ, ◌+◌, ◌*◌, ◌%◌, Bool, true, false, List, ap, ◌∙◌, arith}
 use Rattle.std.specs.Prelude.{slice_index}
 use Rattle.x86_fields.specs.Linear.{modulus_by, value_at}
 use Rattle.x86_fields.proofs.LinearLaws.{sum_none}

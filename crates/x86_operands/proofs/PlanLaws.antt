@@ -9,7 +9,7 @@ use Rattle.x86_fields.specs.Steps.{Step, pure, ◌>>=◌, Takes}
 use Rattle.x86_fields.specs.Pieces.{SpellsRaw, EndsBetween, raw_widths, total}
 use Rattle.x86_fields.proofs.StepLaws.{takes_pure, takes_bind, takes_err}
 use Rattle.x86_fields.proofs.EndLaws.{EndsWell, IsEmpty, Only, ends_pure, ends_bind, ends_then, ends_map, weaken, Stands, stands_bind, stands_empty, stands_refused, stands_same, over, final_err, bind_assoc}
-use Rattle.x86_fields.proofs.PieceLaws.{takes_map, ends_raw, takes_raw, stands_raw, raw_long, none_there, one_there, more_missing, more_there, StandsOn, FirstPiece, nothing, piece, first_piece, between_nil, stands_then}
+use Rattle.x86_fields.proofs.PieceLaws.{takes_map, ends_raw, takes_raw, stands_raw, raw_long, none_there, more_missing, more_there, FirstPiece, nothing, piece, first_piece, between_nil}
 use Rattle.x86_operands.specs.declared.operands.Slot.{Slot}
 use Rattle.x86_operands.specs.declared.operands.Operand.{Operand}
 use Rattle.x86_operands.specs.declared.plans.Sign.{Sign}

@@ -1,8 +1,8 @@
 -- What a row asks behind its opcode byte, where it ends, and that its pieces are taken.
-use Rattle.std.proofs.Common.{◌≡◌, ℕ, ◌+◌, ◌%◌, List, [], ◌∷◌, ◌++◌, length, Option, Some, None, Result, Ok, Err, refl, sym, ap, subst, ◌∙◌, arith}
+use Rattle.std.proofs.Common.{◌≡◌, ℕ, ◌+◌, ◌%◌, List, [], ◌∷◌, ◌++◌, length, Option, Some, None, Result, Ok, Err, refl, sym, ap, subst, arith}
 use Rattle.x86_fields.specs.declared.DecodeError.{DecodeError}
 use Rattle.x86_fields.specs.declared.Prefixes.{Prefixes}
-use Rattle.x86_fields.specs.Steps.{Step, pure, refuse, ◌>>=◌, byte_step, Takes}
+use Rattle.x86_fields.specs.Steps.{Step, ◌>>=◌, byte_step, Takes}
 use Rattle.x86_fields.specs.Pieces.{EndsBetween}
 use Rattle.x86_fields.proofs.StepLaws.{takes_pure, takes_bind, takes_err, takes_byte}
 use Rattle.x86_fields.proofs.EndLaws.{EndsWell, IsEmpty, Only, IsByte, ends_byte, ends_pure, ends_refuse, ends_bind, ends_then, ends_map, weaken, Stands, stands_bind, stands_empty, stands_refused}
@@ -15,7 +15,7 @@ use Rattle.x86_operands.specs.Plans.{RowRecord}
 use Rattle.x86_operands.specs.Signs.{modrm_step, fault_step, plan_step, record_step, error_of}
 use Rattle.x86_operands.specs.Pieces.{SpellsTail, RefusesTail, tail_widths, modrm_of, modrm_width, SpellsRow, RefusesRow, at_opcode, behind_modrm, BetweenRow, before, behind}
 use Rattle.x86_operands.proofs.VerdictLaws.{Faults, Never, fault_error}
-use Rattle.x86_operands.proofs.PlanLaws.{PlanGives, PlanBetween, ends_plan, takes_tail, takes_tail_refused, stands_plan}
+use Rattle.x86_operands.proofs.PlanLaws.{PlanGives, ends_plan, takes_tail, takes_tail_refused, stands_plan}
 
 abbrev pub RowGives : RowRecord → Prefixes → List ℕ → Result Reading DecodeError → Type 0
 RowGives r p q (Ok reading) = SpellsRow r p q reading

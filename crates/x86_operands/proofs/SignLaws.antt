@@ -1,8 +1,7 @@
 -- What the signs of a record take, and where they end: their immediates, one after another.
-use Rattle.std.proofs.Common.{◌≡◌, ℕ, ◌+◌, List, [], ◌∷◌, ◌++◌, length, map, Option, Result, Ok, Err, refl, sym, ap, subst, ◌∙◌}
+use Rattle.std.proofs.Common.{◌≡◌, ℕ, List, [], ◌∷◌, ◌++◌, length, map, Option, Ok, refl, sym, ap, subst, ◌∙◌}
 use Rattle.std.proofs.lemmas.List.{append-nil}
 use Rattle.std.specs.Int.{Width, w8, w16, w32, w64, byte_len, from_le_bytes, cast_signed}
-use Rattle.x86_fields.specs.declared.DecodeError.{DecodeError}
 use Rattle.x86_fields.specs.declared.Prefixes.{Prefixes}
 use Rattle.x86_fields.specs.declared.Raw.{Raw}
 use Rattle.x86_fields.specs.Steps.{Step, pure, ◌>>=◌, number_step, Takes}
@@ -16,9 +15,8 @@ use Rattle.x86_operands.specs.declared.operands.Operand.{Operand}
 use Rattle.x86_operands.specs.declared.operands.Operand.TheVariants as operands
 use Rattle.x86_operands.specs.declared.plans.Sign.{Sign}
 use Rattle.x86_operands.specs.declared.plans.Sign.TheVariants.{G, Gmm, E, Emm, M, U, Umm, Fixed, Pointer, I8, I16, I32, I64, I32From16, I64Whole, U8, U16, X8, X16, ConstantI8, ConstantU8, Address32, Address64}
-use Rattle.x86_operands.specs.declared.reader.Given.{Given}
-use Rattle.x86_operands.specs.Signs.{sign_step, signs_step, given_step, four_of}
-use Rattle.x86_operands.specs.Pieces.{immediate_width, sign_gives, SpellsSign, SpellsSigns}
+use Rattle.x86_operands.specs.Signs.{sign_step, signs_step}
+use Rattle.x86_operands.specs.Pieces.{immediate_width, sign_gives, SpellsSigns}
 
 module _ (p : Prefixes) (m : ℕ) (memory : Option Raw) where
   -- ---- one sign

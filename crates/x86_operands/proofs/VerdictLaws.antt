@@ -3,11 +3,10 @@ use Rattle.std.proofs.Common.{◌≡◌, ◌≢◌, ℕ, Bool, true, false, if�
 use Rattle.std.proofs.lemmas.List.{append-nil}
 use Rattle.x86_fields.specs.declared.DecodeError.{DecodeError}
 use Rattle.x86_fields.specs.declared.DecodeError.TheVariants.{ExhaustedInput}
-use Rattle.x86_fields.specs.Steps.{Step, pure, refuse, ◌>>=◌, byte_step, Takes}
-use Rattle.x86_fields.specs.Pieces.{EndsBetween}
-use Rattle.x86_fields.proofs.StepLaws.{takes_pure, takes_bind, takes_err, takes_byte}
-use Rattle.x86_fields.proofs.EndLaws.{EndsWell, IsEmpty, IsByte, ends_byte, ends_pure, ends_refuse, ends_bind, ends_then}
-use Rattle.x86_fields.proofs.PieceLaws.{none_there, nil_of}
+use Rattle.x86_fields.specs.Steps.{pure, refuse, byte_step, Takes}
+use Rattle.x86_fields.proofs.StepLaws.{takes_pure, takes_bind, takes_byte}
+use Rattle.x86_fields.proofs.EndLaws.{EndsWell, IsEmpty, IsByte, ends_byte, ends_pure, ends_refuse, ends_then}
+use Rattle.x86_fields.proofs.PieceLaws.{nil_of}
 use Rattle.x86_operands.specs.declared.plans.Moment.{Moment}
 use Rattle.x86_operands.specs.declared.plans.Moment.TheVariants.{AtModRM, AfterAddress, AfterSuffix}
 use Rattle.x86_operands.specs.declared.plans.Fault.{Fault}

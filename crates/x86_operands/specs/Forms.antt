@@ -1,10 +1,9 @@
 -- The records of the plain forms: what each asks behind its opcode byte, and what it gives. The letters are those of the Intel SDM,
 -- volume 2, appendix A.2: G and E are the operands of ModRM's reg and rm, M and U its memory and its register form, I an
 -- immediate, J a branch, O an address, X and Y the strings at rsi and rdi, Z the register of the opcode byte.
-use Rattle.std.specs.Prelude.{ℕ, ◌==◌, ◌&&◌, ◌||◌, nat_lt, not, Bool, if◌then◌else◌, Option, None}
+use Rattle.std.specs.Prelude.{ℕ, ◌==◌, ◌&&◌, ◌||◌, nat_lt, not, if◌then◌else◌, None}
 use Rattle.x86_regs.specs.declared.RegisterClass.{RegisterClass}
 use Rattle.x86_regs.specs.declared.RegisterClass.TheVariants.{B, W, D, Q, S, X}
-use Rattle.x86_regs.specs.declared.RegSpec.{RegSpec}
 use Rattle.x86_regs.specs.Class.{width_of}
 use Rattle.x86_fields.specs.declared.Prefixes.{Prefixes}
 use Rattle.x86_fields.specs.Raw.{rex_w, rex_b}
@@ -17,9 +16,8 @@ use Rattle.x86_operands.specs.declared.plans.RegisterSlot.TheVariants.{Reg, Rm, 
 use Rattle.x86_operands.specs.declared.plans.PointerSlot.{PointerSlot}
 use Rattle.x86_operands.specs.declared.plans.PointerSlot.TheVariants.{Deref, DerefEsi, DerefEdi, DerefRsi, DerefRdi}
 use Rattle.x86_operands.specs.declared.plans.Sign.{Sign}
-use Rattle.x86_operands.specs.declared.plans.Sign.TheVariants.{G, Gmm, E, Emm, M, U, Umm, Fixed, Pointer, I8, I16, I32, U8, U16, X16, ConstantU8}
+use Rattle.x86_operands.specs.declared.plans.Sign.TheVariants.{G, Gmm, E, Emm, M, U, Umm, Fixed, Pointer, I8, I32, U8, U16, X16, ConstantU8}
 use Rattle.x86_operands.specs.declared.plans.Signs.TheVariants.{Zero, One, Two, Three}
-use Rattle.x86_operands.specs.declared.plans.Fault.{Fault}
 use Rattle.x86_operands.specs.declared.plans.Fault.TheVariants.{BadOperand, Incomplete}
 use Rattle.x86_operands.specs.declared.plans.Moment.TheVariants.{AtModRM, AfterAddress, AfterSuffix}
 use Rattle.x86_operands.specs.declared.plans.Mark.TheVariants.{SetsEs}

@@ -1,7 +1,5 @@
 -- What an operand and a slot tell by themselves.
 use Rattle.std.specs.Prelude.{ℕ, Bool, true, false, Option, Some, None}
-use Rattle.x86_regs.specs.declared.RegSpec.{RegSpec}
-use Rattle.x86_regs.specs.declared.MergeMode.{MergeMode}
 use Rattle.x86_regs.specs.Class.{width_of}
 use Rattle.x86_operands.specs.declared.operands.Slot.{Slot}
 use Rattle.x86_operands.specs.declared.operands.Slot.TheVariants as slots
