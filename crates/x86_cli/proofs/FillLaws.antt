@@ -1,5 +1,5 @@
 -- What the window and the reader together have left.
-use Rattle.std.proofs.Common.{◌≡◌, ℕ, suc, zero, ◌+◌, ◌<◌, ◌≤◌, List, [], ◌∷◌, ◌++◌, length, refl, arith, Option, Some, None, ap, ◌∙◌, sym, subst, append_assoc, append-nil}
+use Rattle.std.proofs.Common.{◌≡◌, ℕ, List, [], ◌∷◌, ◌++◌, refl, Option, Some, None, ap, ◌∙◌, sym, subst, append_assoc, append-nil}
 use Rattle.std.specs.Prelude.{IfSome}
 use Rattle.std.specs.Io.KnownBytes.{prepend_known}
 use Rattle.x86_cli.specs.declared.text.Ending.{Ending}
@@ -8,7 +8,7 @@ use Rattle.x86_cli.specs.declared.text.Stop.{Stop}
 use Rattle.x86_cli.specs.declared.text.Stop.TheVariants.{End, Failed}
 use Rattle.x86_cli.specs.declared.text.Piece.TheVariants.{Byte, Stopped}
 use Rattle.x86_cli.specs.Text.{Text, text_at}
-use Rattle.x86_cli.specs.Reading.{with_front, ended, StopsAs, Reads}
+use Rattle.x86_cli.specs.Reading.{ended, StopsAs, Reads}
 use Rattle.x86_cli.proofs.ReadLaws.{prepend-prepend, prepend-nil}
 use Rattle.x86_cli.specs.Window.{behind, rest_of, MayCome, Fills}
 

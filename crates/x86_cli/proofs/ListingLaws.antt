@@ -1,12 +1,12 @@
 -- The listing by what stands at the front.
-use Rattle.std.proofs.Common.{Bool, ◌≡◌, ℕ, suc, zero, ◌+◌, ◌-◌, ◌<◌, ◌≤◌, List, [], ◌∷◌, ◌++◌, length, take, drop, refl, arith, ap, ◌∙◌, sym, subst, append_assoc, append-nil}
+use Rattle.std.proofs.Common.{Bool, ◌≡◌, ℕ, suc, zero, ◌+◌, ◌-◌, ◌<◌, ◌≤◌, List, [], ◌∷◌, length, take, drop, refl, arith, ap, sym, subst}
 use Rattle.x86_decode.specs.declared.instructions.Instruction.{Instruction}
 use Rattle.x86_fields.specs.declared.DecodeError.{DecodeError}
 use Rattle.x86_cli.specs.declared.text.Ending.{Ending}
 use Rattle.x86_cli.specs.declared.window.Front.TheVariants.{Whole, Refused, Ended}
 use Rattle.x86_cli.specs.declared.status.Status.TheVariants as status
 use Rattle.x86_cli.specs.Line.{line, refusal_text}
-use Rattle.x86_cli.specs.Listing.{Listing, with_bytes, at_end, listed, front_of, listing_from}
+use Rattle.x86_cli.specs.Listing.{with_bytes, at_end, front_of, listing_from}
 
 module _ (strict : Bool) (text : ℕ → Instruction → List ℕ → List ℕ) where
   -- bytes that belong to an instruction before

@@ -1,10 +1,9 @@
 -- Rows of blanks and pairs.
-use Rattle.std.proofs.Common.{◌≡◌, ◌≢◌, ℕ, suc, zero, ◌+◌, ◌*◌, ◌<◌, ◌≤◌, List, [], ◌∷◌, ◌++◌, length, take, refl, arith, Option, Some, None, Bool, true, false, ap, ◌∙◌, sym, subst, append_assoc, append-nil}
-use Rattle.std.specs.Prelude.{unwrap_or, is_some}
+use Rattle.std.proofs.Common.{◌≡◌, ℕ, suc, ◌+◌, ◌*◌, ◌<◌, List, [], ◌∷◌, ◌++◌, length, take, refl, arith, Option, Some, None, Bool, true, false, ap, ◌∙◌, sym}
 use Rattle.std.specs.List.{flat_map}
 use Rattle.std.specs.Option.{option_map}
 use Rattle.x86_cli.specs.Text.{is_blank, value_of, bad_of, image_of, ends_in_half}
-use Rattle.x86_cli.specs.Rows.{Item, blank, pair, bytes_of, values_of, IsDigit, AreItems, IsHalf, IsRow, is_half, RowsAreSound, BadIsFirst}
+use Rattle.x86_cli.specs.Rows.{Item, blank, pair, bytes_of, values_of, AreItems, IsHalf, IsRow, is_half, RowsAreSound, BadIsFirst}
 use Rattle.x86_cli.proofs.TextLaws.{value-blank, image-blank, bad-blank, half-blank}
 
 by_bool : {G : Type 0} (b : Bool) → (b ≡ true → G) → (b ≡ false → G) → G

@@ -1,5 +1,5 @@
 -- Where a run of a listing that ends at a refusal stands between two lines.
-use Rattle.std.proofs.Common.{◌≡◌, ◌≢◌, inl, Bool, ℕ, ◌+◌, ◌<◌, ◌≤◌, List, [], ◌∷◌, ◌++◌, length, take, drop, Option, Some, None, Result, Ok, Err, refl, arith, ap, ◌∙◌, sym, subst, append_assoc, append-nil, length-append}
+use Rattle.std.proofs.Common.{◌≡◌, inl, Bool, ℕ, ◌+◌, ◌<◌, ◌≤◌, List, [], ◌++◌, length, take, drop, Option, Some, None, Ok, Err, refl, arith, ap, ◌∙◌, sym, subst, append_assoc, append-nil, length-append}
 use Rattle.std.proofs.lemmas.List.{drop-append-le, take-append-le}
 use Rattle.std.specs.Prelude.{IfSome, MatchOption}
 use Rattle.std.specs.Io.KnownBytes.{append_known}
@@ -11,7 +11,7 @@ use Rattle.x86_fields.specs.declared.DecodeError.TheVariants.{ExhaustedInput}
 use Rattle.x86_cli.specs.declared.text.Ending.{Ending}
 use Rattle.x86_cli.specs.declared.text.Ending.TheVariants.{Clean}
 use Rattle.x86_cli.specs.declared.text.Stop.{Stop}
-use Rattle.x86_cli.specs.declared.text.Stop.TheVariants.{End, Failed}
+use Rattle.x86_cli.specs.declared.text.Stop.TheVariants.{End}
 use Rattle.x86_cli.specs.Text.{Text, text_at, text_of}
 use Rattle.x86_cli.specs.declared.window.Front.TheVariants.{Whole, Refused, Ended}
 use Rattle.x86_cli.specs.declared.status.Status.{Status}

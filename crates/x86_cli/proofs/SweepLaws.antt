@@ -1,9 +1,8 @@
 -- The sweep by its cuts.
-use Rattle.std.proofs.Common.{Bool, ◌≡◌, ◌≢◌, ℕ, suc, zero, ◌+◌, ◌-◌, ◌<◌, ◌≤◌, List, [], ◌∷◌, ◌++◌, length, take, drop, Option, Some, None, Result, Ok, Err, refl, arith, ap, ◌∙◌, sym, subst, append-nil, length-append}
+use Rattle.std.proofs.Common.{Bool, ◌≡◌, ◌≢◌, ℕ, suc, zero, ◌+◌, ◌-◌, ◌<◌, ◌≤◌, List, [], ◌∷◌, ◌++◌, length, drop, Option, Some, None, Result, Ok, Err, refl, arith, ap, ◌∙◌, sym, length-append}
 use Rattle.std.proofs.lemmas.List.{drop-append-le}
 use Rattle.x86_decode.specs.declared.instructions.Instruction.{Instruction}
 use Rattle.x86_fields.specs.declared.DecodeError.{DecodeError}
-use Rattle.x86_fields.specs.declared.DecodeError.TheVariants.{ExhaustedInput}
 use Rattle.x86_decode.specs.Answer.{answer_of}
 use Rattle.x86_cli.specs.DecoderLaws.{DecoderLaws}
 use Rattle.x86_cli.specs.declared.text.Ending.{Ending}
@@ -12,9 +11,9 @@ use Rattle.x86_cli.specs.declared.status.Status.{Status}
 use Rattle.x86_cli.specs.declared.status.Status.TheVariants as outcome
 use Rattle.x86_cli.specs.declared.text.Stop.{Stop}
 use Rattle.x86_cli.specs.Text.{Text, text_at}
-use Rattle.x86_cli.specs.declared.sweep.Cut.TheVariants.{Piece, Ended}
+use Rattle.x86_cli.specs.declared.sweep.Cut.TheVariants.{Piece}
 use Rattle.x86_cli.specs.Line.{line}
-use Rattle.x86_cli.specs.Listing.{Listing, with_bytes, at_end}
+use Rattle.x86_cli.specs.Listing.{with_bytes, at_end}
 use Rattle.x86_cli.specs.Window.{rest_of}
 use Rattle.x86_cli.specs.Sweep.{cut_text, cut_length, sweep_from, sweep_at, ShowsCut}
 

@@ -1,4 +1,4 @@
-use Rattle.std.specs.Prelude.{ℕ, Bool, true, false, List, [], ◌∷◌, Option, Some, None, ◌==◌, ◌&&◌, if◌then◌else◌, codes, bytes_eq}
+use Rattle.std.specs.Prelude.{ℕ, true, false, List, [], ◌∷◌, Option, Some, None, ◌&&◌, if◌then◌else◌, codes, bytes_eq}
 use Rattle.x86_cli.specs.declared.command.Command.{Command}
 use Rattle.x86_cli.specs.declared.command.Command.TheVariants.{List as Listed, Sweep as Swept}
 use Rattle.x86_cli.specs.Text.{Text}

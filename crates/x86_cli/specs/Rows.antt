@@ -1,5 +1,5 @@
 -- A text as its author sees it: a row of blanks and pairs of hex digits, and at most one digit more.
-use Rattle.std.specs.Prelude.{◌≡◌, ◌≢◌, ℕ, ◌+◌, ◌*◌, ◌<◌, ◌≤◌, List, [], ◌∷◌, ◌++◌, length, take, Option, Some, None, Bool, true, false, unwrap_or, ⊤}
+use Rattle.std.specs.Prelude.{◌≡◌, ℕ, ◌+◌, ◌*◌, ◌<◌, List, [], ◌∷◌, ◌++◌, length, take, Some, None, Bool, true, false, unwrap_or, ⊤}
 use Rattle.std.specs.List.{flat_map}
 use Rattle.x86_cli.specs.Text.{is_blank, value_of, bad_of, image_of, ends_in_half}
 

@@ -1,4 +1,4 @@
-use Rattle.std.specs.Prelude.{◌≡◌, ◌⊎◌, ◌↔◌, ℕ, List, [], ◌++◌, Option, Some, None, Result, Ok, Err, IfSome, take}
+use Rattle.std.specs.Prelude.{◌≡◌, ◌⊎◌, ◌↔◌, ℕ, List, [], ◌++◌, Option, Result, Ok, Err, IfSome, take}
 use Rattle.std.specs.Io.KnownBytes.{prepend_known, append_known}
 use Rattle.x86_cli.specs.Faults.{Rose}
 use Rattle.x86_cli.specs.declared.sink.SinkFailed.{SinkFailed}

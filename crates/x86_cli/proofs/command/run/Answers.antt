@@ -1,4 +1,4 @@
-use Rattle.std.proofs.Common.{◌≡◌, ◌∙◌, sym}
+use Rattle.std.proofs.Common.{◌∙◌, sym}
 use Rattle.x86_cli.specs.declared.command.TheConstants.{TEXT_MAX}
 use Rattle.x86_cli.specs.Run.{World}
 use Rattle.x86_cli.proofs.Causes.{completes_command}

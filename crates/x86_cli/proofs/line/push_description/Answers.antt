@@ -1,4 +1,4 @@
-use Rattle.std.proofs.Common.{◌≡◌, ◌∙◌, ap, length, arith}
+use Rattle.std.proofs.Common.{◌∙◌, ap, length, arith}
 use Rattle.x86_cli.proofs.LineLaws.{description_short}
 use Rattle.x86_cli.proofs.line.push_description.Goals as goal
 

@@ -1,4 +1,4 @@
-use Rattle.std.proofs.Common.{arith, ◌≡◌, ◌∙◌, ap, ◌++◌, ◌<◌, sym}
+use Rattle.std.proofs.Common.{arith, ◌≡◌, ◌∙◌, ap, ◌++◌, ◌<◌}
 use Rattle.std.specs.Prelude.{min}
 use Rattle.x86_cli.specs.Line.{operands_text}
 use Rattle.x86_cli.proofs.LineLaws.{operands_next, four, four_long, place_of_four, all_shown}

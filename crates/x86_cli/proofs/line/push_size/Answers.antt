@@ -1,4 +1,4 @@
-use Rattle.std.proofs.Common.{◌≡◌, ◌∙◌, ap, ◌++◌, sym}
+use Rattle.std.proofs.Common.{◌∙◌, ap, ◌++◌, sym}
 use Rattle.x86_cli.proofs.LineLaws.{no_size}
 use Rattle.x86_cli.proofs.line.push_size.Goals as goal
 

@@ -1,9 +1,7 @@
-use Rattle.std.proofs.Common.{◌≡◌, ◌≤◌, ◌<◌, ◌+◌, ◌-◌, ℕ, List, Option, arith, length, take, drop, refl, sym, ap, ◌∙◌, length-drop}
-use Rattle.arrayvec.specs.ArrayVec.{array_vec_len}
+use Rattle.std.proofs.Common.{arith, length, take, ap, ◌∙◌, length-drop}
 use Rattle.std.specs.Io.KnownBytes.{append_known}
 use Rattle.x86_cli.specs.Line.{line}
-use Rattle.x86_cli.specs.Run.{World}
-use Rattle.x86_cli.proofs.Standing.{Standing, standing_new, standing_refill, standing_line, says_failed_line, says_refused, says_failed_refusal, says_ended, says_failed_ended}
+use Rattle.x86_cli.proofs.Standing.{standing_new, standing_refill, standing_line, says_failed_line, says_refused, says_failed_refusal, says_ended, says_failed_ended}
 use Rattle.x86_cli.proofs.listing.list.Goals as goal
 
 pub lines-init : goal.lines-init

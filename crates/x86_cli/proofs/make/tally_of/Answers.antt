@@ -1,7 +1,7 @@
-use Rattle.std.proofs.Common.{◌≡◌, ◌≤◌, ◌*◌, ◌+◌, ℕ, suc, List, length, false, refl, sym, ap, subst, ◌∙◌, add-one, arith}
+use Rattle.std.proofs.Common.{◌≡◌, ◌+◌, ℕ, suc, length, false, refl, sym, ap, subst, ◌∙◌, add-one, arith}
 use Rattle.x86_decode.specs.Answer.{answer_of}
 use Rattle.x86_cli.specs.declared.make.Tally.{Tally}
-use Rattle.x86_cli.specs.Make.{made, tally_of, counted, one_if, answer_has, is_at_rip, is_absolute}
+use Rattle.x86_cli.specs.Make.{made, tally_of, one_if, answer_has, is_at_rip, is_absolute}
 use Rattle.x86_cli.proofs.make.tally_of.Goals as goal
 
 abbrev of_three : ℕ → ℕ → ℕ → Tally

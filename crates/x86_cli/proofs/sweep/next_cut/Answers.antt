@@ -1,4 +1,4 @@
-use Rattle.std.proofs.Common.{◌≡◌, ◌<◌, arith, length}
+use Rattle.std.proofs.Common.{◌<◌, arith, length}
 use Rattle.std.proofs.lemmas.Bool.Decides.{nat_tests}
 use Rattle.x86_cli.proofs.SweepLaws.{shows_cut}
 use Rattle.x86_cli.proofs.sweep.next_cut.Goals as goal

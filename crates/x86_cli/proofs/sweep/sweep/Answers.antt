@@ -1,9 +1,8 @@
-use Rattle.std.proofs.Common.{◌≡◌, ◌≤◌, ◌<◌, ◌+◌, ◌-◌, ℕ, List, Option, arith, length, take, drop, refl, sym, ap, ◌∙◌, length-drop}
-use Rattle.arrayvec.specs.ArrayVec.{array_vec_len}
+use Rattle.std.proofs.Common.{arith, length, take, ap, ◌∙◌, length-drop}
 use Rattle.std.specs.Io.KnownBytes.{append_known}
 use Rattle.x86_cli.specs.Line.{line}
-use Rattle.x86_cli.specs.Sweep.{cut_text, cut_length, sweep_at}
-use Rattle.x86_cli.proofs.Stands.{Stands, stands_new, stands_refill, stands_step, says_failed, says_end, says_failed_end}
+use Rattle.x86_cli.specs.Sweep.{cut_text, sweep_at}
+use Rattle.x86_cli.proofs.Stands.{stands_new, stands_refill, stands_step, says_failed, says_end, says_failed_end}
 use Rattle.x86_cli.proofs.SweepLaws.{rest_cut, rest_end, end_unrefused}
 use Rattle.x86_cli.proofs.sweep.sweep.Goals as goal
 

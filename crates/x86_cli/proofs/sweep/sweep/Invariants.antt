@@ -1,4 +1,4 @@
-use Rattle.std.proofs.Common.{◌≡◌, ◌≤◌, ◌+◌}
+use Rattle.std.proofs.Common.{◌≤◌, ◌+◌}
 use Rattle.arrayvec.specs.ArrayVec.{array_vec_len}
 use Rattle.x86_cli.specs.Sweep.{sweep_at}
 use Rattle.x86_cli.proofs.Stands.{Stands}

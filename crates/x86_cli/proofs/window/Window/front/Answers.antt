@@ -1,4 +1,4 @@
-use Rattle.std.proofs.Common.{◌≡◌, ◌<◌, arith, length, sym, rules, false}
+use Rattle.std.proofs.Common.{◌≡◌, ◌<◌, arith, length}
 use Rattle.std.proofs.lemmas.Bool.Decides.{nat_tests}
 use Rattle.x86_cli.proofs.FrontLaws.{front_open, shows_open, front_closed, shows_closed, front_empty}
 use Rattle.x86_cli.proofs.window.Window.front.Goals as goal

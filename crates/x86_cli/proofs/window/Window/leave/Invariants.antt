@@ -1,5 +1,4 @@
-use Rattle.std.proofs.Common.{◌≡◌, ◌≤◌, ◌+◌, ◌-◌, drop}
-use Rattle.arrayvec.specs.ArrayVec.{array_vec_len}
+use Rattle.std.proofs.Common.{◌≡◌, drop}
 use Rattle.x86_cli.proofs.window.Window.leave.Given as goal
 
 abbrev pub invariant-loop : goal.invariant-loop
