@@ -2,7 +2,7 @@
 use crate::answers::Refused;
 use x86_fields::DecodeError;
 
-const PART_1: &[Refused] = &[
+pub const PART_1: &[Refused] = &[
     (&[0xf0, 0x50], DecodeError::InvalidPrefixes, 2),
     (&[0xf0, 0x91], DecodeError::InvalidPrefixes, 2),
     (&[0xf0, 0x90], DecodeError::InvalidPrefixes, 2),
@@ -189,7 +189,7 @@ const PART_1: &[Refused] = &[
     ),
 ];
 
-const PART_2: &[Refused] = &[
+pub const PART_2: &[Refused] = &[
     (
         &[0xf2, 0x66, 0x0f, 0x01, 0xfe],
         DecodeError::InvalidOperand,
@@ -436,7 +436,7 @@ const PART_2: &[Refused] = &[
     (&[0xdb, 0x20], DecodeError::InvalidOpcode, 2),
 ];
 
-const PART_3: &[Refused] = &[
+pub const PART_3: &[Refused] = &[
     (&[0xdb, 0x30], DecodeError::InvalidOpcode, 2),
     (&[0xdb, 0xe5], DecodeError::InvalidOpcode, 2),
     (&[0xdb, 0xf8], DecodeError::InvalidOpcode, 2),
@@ -589,6 +589,3 @@ const PART_3: &[Refused] = &[
         15,
     ),
 ];
-
-/// All of them, in parts.
-pub const PARTS: &[&[Refused]] = &[PART_1, PART_2, PART_3];
