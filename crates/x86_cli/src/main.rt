@@ -23,6 +23,8 @@ mod text;
 mod window;
 #[cfg(test)]
 mod worked_tests;
+#[cfg(test)]
+mod x87_table;
 
 use command::{USAGE, run};
 use gathered::Gathered;

@@ -3,7 +3,7 @@
 /// A text and its listing.
 pub type Worked = (&'static str, &'static str);
 
-const PART_1: &[Worked] = &[
+pub const PART_1: &[Worked] = &[
     ("50", "0 1 PUSH rax m8\n"),
     ("41 57", "0 2 PUSH r15 m8\n"),
     ("66 53", "0 2 PUSH bx m8\n"),
@@ -127,7 +127,7 @@ const PART_1: &[Worked] = &[
     ("aa", "0 1 STOS [rdi], al m1\n"),
 ];
 
-const PART_2: &[Worked] = &[
+pub const PART_2: &[Worked] = &[
     ("67 ae", "0 2 SCAS [edi], al m1\n"),
     ("f3 48 ab", "0 3 STOS [rdi], rax m8\n"),
     ("66 af", "0 2 SCAS [rdi], ax m2\n"),
@@ -239,7 +239,7 @@ const PART_2: &[Worked] = &[
     ),
 ];
 
-const PART_3: &[Worked] = &[
+pub const PART_3: &[Worked] = &[
     ("48 69 00 ff ff ff ff", "0 7 IMUL rax, [rax], i64:-1 m8\n"),
     ("0f a4 c8 04", "0 4 SHLD eax, ecx, i8:4 m4\n"),
     ("66 0f ac 07 ff", "0 5 SHRD [rdi], ax, i8:-1 m2\n"),
@@ -348,7 +348,7 @@ const PART_3: &[Worked] = &[
     ("f2 0f 79 c1", "0 4 INSERTQ xmm0, xmm1 m4\n"),
 ];
 
-const PART_4: &[Worked] = &[
+pub const PART_4: &[Worked] = &[
     ("66 0f f7 c1", "0 4 MASKMOVDQU xmm0, xmm1 m16\n"),
     ("66 0f c5 c1 07", "0 5 PEXTRW eax, xmm1, u8:7 m2\n"),
     ("66 4d 0f c5 c1 80", "0 6 PEXTRW r8d, xmm9, u8:128 m8\n"),
@@ -414,6 +414,3 @@ const PART_4: &[Worked] = &[
     ("0f c5 c1 07", "0 4 PEXTRW eax, mm1, u8:7 m4\n"),
     ("4c 0f c5 c1 01", "0 5 PEXTRW r8d, mm1, u8:1 m8\n"),
 ];
-
-/// All of them, in parts.
-pub const PARTS: &[&[Worked]] = &[PART_1, PART_2, PART_3, PART_4];
