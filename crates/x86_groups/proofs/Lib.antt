@@ -1,3 +1,4 @@
 pub mod ChoiceLaws
 mod PlanLaws
 pub mod GroupLaws
+mod AskLaws

@@ -1,10 +1,11 @@
 //! Groups: the forms of which ModRM or a suffix chooses the operation.
 #![tactic(auto)]
 
-ghost use Rattle.std.specs.Prelude.{◌≡◌, true};
+ghost use Rattle.std.specs.Prelude.{◌≡◌, Bool, true};
 ghost use Rattle.x86_arch.specs.Reader.{State};
 ghost use Rattle.x86_fields.specs.Steps.{outcome};
 ghost use Rattle.x86_forms.specs.Groups.{is_group_form};
+ghost use Rattle.x86_operands.specs.Asks.{ask_of};
 ghost use Rattle.x86_operands.specs.Signs.{record_step};
 ghost use Rattle.x86_groups.specs.Groups.{form_plan, three_byte_plan, two_byte_plan, group_fault, group_modrm, group_record};
 
@@ -47,7 +48,7 @@ use x86_fields::{DecodeError, Prefixes};
 use x86_forms::{Form, TableRow};
 use x86_opcodes::Opcode;
 use x86_operands::plans::{Fault, ModrmUse, Plan};
-use x86_operands::{Reading, read_modrm, read_plan, refuse};
+use x86_operands::{Ask, Reading, plan_ask, read_modrm, read_plan, refuse, used_modrm};
 
 fn fault(form: Form, prefixes: &Prefixes) -> Option<Fault>
     ensures { result ≡ group_fault form prefixes.now }
@@ -168,6 +169,20 @@ pub fn read_group<T: Reader<u64, u8>>(
     let modrm = read_modrm(words, modrm_use(row.form))?;
     let plan = form_plan(row.form, row.opcode, strict, &prefixes, modrm);
     read_plan(words, &plan, prefixes, modrm)
+}
+
+/// Which parts a row asks whose form is a group, at a ModRM byte: the same under both choices. Where the row refuses under both
+/// choices and with every suffix, the answer is open.
+///
+/// For the row of F7 at ModRM C0, which is TEST, this is a ModRM, and an immediate of 4 bytes without 66.
+pub fn group_ask(row: TableRow, prefixes: Prefixes, modrm: u8) -> Ask
+    requires { is_group_form row.form ≡ true }
+    ensures { (strict : Bool) → result ≡ ask_of (group_record strict row prefixes) modrm }
+{
+    let usage = modrm_use(row.form);
+    let modrm = used_modrm(usage, modrm);
+    let plan = form_plan(row.form, row.opcode, false, &prefixes, modrm);
+    plan_ask(usage, modrm, &plan)
 }
 
 #[cfg(test)]

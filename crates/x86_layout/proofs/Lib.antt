@@ -1,3 +1,5 @@
 mod CutLaws
 mod MarkLaws
+mod PartLaws
 mod PlaceLaws
+mod SplitLaws

@@ -1,5 +1,7 @@
 pub mod Branches
 pub mod Cuts
+pub mod Heads
 pub mod Lengths
 pub mod Marks
+pub mod Parts
 pub mod Sweeps

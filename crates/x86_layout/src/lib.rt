@@ -1,20 +1,23 @@
-//! The bytes of encodings: the cuts of a sweep over any bytes, and where the instructions in them branch to.
+//! The bytes of encodings: their parts, the cuts of a sweep over any bytes, and where the instructions in them branch to.
 #![tactic(auto)]
 
 mod branches;
 mod cuts;
+mod heads;
 pub mod laws;
 mod marks;
+mod parts;
 mod sweeps;
 
 pub use branches::branch_target;
 pub use cuts::Cut;
 pub use marks::mark_targets;
+pub use parts::{Parts, split};
 pub use sweeps::Sweep;
 
 #[cfg(test)]
 mod tests {
-    use crate::{Sweep, branch_target, mark_targets};
+    use crate::{Sweep, branch_target, mark_targets, split};
     use x86_decode::InstDecoder;
     use x86_fields::DecodeError;
     use x86_opcodes::Opcode;
@@ -78,5 +81,73 @@ mod tests {
         let mut marks = [true; 2];
         mark_targets(&decoder, &[0xeb, 0x7f], &mut marks);
         assert!(rt; marks == [false; 2]);
+    }
+
+    /// Whether the parts of the encoding at the front are these, in order.
+    fn has_parts(bytes: &[u8], wanted: [&[u8]; 8]) -> bool {
+        match split(&InstDecoder::default(), bytes) {
+            Ok(parts) => {
+                parts.prefixes == wanted[0]
+                    && parts.escape == wanted[1]
+                    && parts.opcode == wanted[2]
+                    && parts.modrm == wanted[3]
+                    && parts.sib == wanted[4]
+                    && parts.displacement == wanted[5]
+                    && parts.immediate == wanted[6]
+                    && parts.suffix == wanted[7]
+            }
+            Err(_) => false,
+        }
+    }
+
+    #[test]
+    fn parts(rt: HostRuntime) {
+        let bytes = [0x48, 0x03, 0x44, 0x25, 0x00, 0x90];
+        assert!(rt;
+            has_parts(
+                &bytes,
+                [&[0x48], &[], &[0x03], &[0x44], &[0x25], &[0x00], &[], &[]]
+            )
+        );
+        assert!(rt; has_parts(&[0x90], [&[], &[], &[0x90], &[], &[], &[], &[], &[]]));
+        let bytes = [0x48, 0xa1, 0x88, 0x77, 0x66, 0x55, 0x44, 0x33, 0x22, 0x11];
+        assert!(rt;
+            has_parts(
+                &bytes,
+                [&[0x48], &[], &[0xa1], &[], &[], &[], &bytes[2..], &[]]
+            )
+        );
+        let bytes = [0x0f, 0x0f, 0xc1, 0x9e, 0x06];
+        assert!(rt;
+            has_parts(
+                &bytes,
+                [&[], &[0x0f], &[0x0f], &[0xc1], &[], &[], &[], &[0x9e]]
+            )
+        );
+        let bytes = [0x66, 0x0f, 0x3a, 0x16, 0xc1, 0x02];
+        assert!(rt;
+            has_parts(
+                &bytes,
+                [
+                    &[0x66],
+                    &[0x0f, 0x3a],
+                    &[0x16],
+                    &[0xc1],
+                    &[],
+                    &[],
+                    &[0x02],
+                    &[]
+                ]
+            )
+        );
+        let bytes = [0xc7, 0x45, 0xfc, 0x00, 0x00, 0x00, 0x00];
+        assert!(rt;
+            has_parts(
+                &bytes,
+                [&[], &[], &[0xc7], &[0x45], &[], &[0xfc], &bytes[3..], &[]]
+            )
+        );
+        let refused = split(&InstDecoder::default(), &[0x06]);
+        assert!(rt; matches!(refused, Err(DecodeError::InvalidOpcode)));
     }
 }

@@ -4,9 +4,11 @@ ghost use Rattle.x86_arch.specs.Reader.{State};
 ghost use Rattle.x86_fields.specs.Steps.{outcome};
 ghost use Rattle.x86_forms.specs.Groups.{is_group_form};
 ghost use Rattle.x86_forms.specs.Words.{IsForm};
+ghost use Rattle.x86_operands.specs.Asks.{ask_of};
 ghost use Rattle.x86_operands.specs.Forms.{modrm_use, form_record};
 ghost use Rattle.x86_operands.specs.Signs.{record_step};
 
+use crate::asks::{Ask, plan_ask, used_modrm};
 use crate::bare_forms::form_plan;
 use crate::plans::ModrmUse;
 use crate::reader::{Reading, read_modrm, read_plan};
@@ -60,4 +62,20 @@ pub fn read_form<T: Reader<u64, u8>>(
     let modrm = read_modrm(words, modrm_use(row.form))?;
     let plan = form_plan(row.form, row.opcode, &prefixes, modrm);
     read_plan(words, &plan, prefixes, modrm)
+}
+
+/// Which parts a row asks whose form is no group, at a ModRM byte. `modrm` is looked at only where the row asks a ModRM. Where the
+/// row refuses with every suffix, the answer is open.
+///
+/// For the row of 03, which is ADD, at ModRM 44 this is a ModRM of the memory form, and nothing else.
+#[tactic(auto, unfolding(crate::specs::Forms::form_record, crate::specs::Asks::ask_of))]
+pub fn form_ask(row: TableRow, prefixes: Prefixes, modrm: u8) -> Ask
+    requires plain { is_group_form row.form ≡ false }
+    requires carried { IsForm row.form }
+    ensures { result ≡ ask_of (form_record row prefixes) modrm }
+{
+    let usage = modrm_use(row.form);
+    let modrm = used_modrm(usage, modrm);
+    let plan = form_plan(row.form, row.opcode, &prefixes, modrm);
+    plan_ask(usage, modrm, &plan)
 }

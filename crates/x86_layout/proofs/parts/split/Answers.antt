@@ -1,0 +1,50 @@
+use Rattle.std.proofs.Common.{◌≡◌, ◌++◌, length, Ok, sym, ap, subst, ◌∙◌}
+use Rattle.x86_fields.specs.Run.{reading_of}
+use Rattle.x86_forms.specs.Words.{rows_of, word_at}
+use Rattle.x86_decode.specs.Head.{seen}
+use Rattle.x86_decode.specs.Grammar.{IsAccepted}
+use Rattle.x86_decode.specs.Answer.{answer_of, count_of}
+use Rattle.x86_layout.specs.Parts.{Encoding, record_in, HasParts}
+use Rattle.x86_layout.proofs.PartLaws.{front_is}
+use Rattle.x86_layout.proofs.SplitLaws.{joined_is}
+use Rattle.x86_layout.proofs.parts.split.Goals as goal
+
+pub returns : goal.returns
+returns c =
+    let strict = c.args.decoder.now.strict in
+    let bytes = c.args.bytes.now in
+    let instruction = c.in_ok-instruction.instruction in
+    let value : answer_of strict bytes ≡ Ok instruction = sym c.in_ok-instruction.ensures.value in
+    let accepted : IsAccepted (rows_of word_at) strict bytes instruction (count_of strict bytes) = c.in_ok-instruction.ensures.answer in
+    let counted : instruction.length ≡ count_of strict bytes = c.lengths.ensures.counted strict bytes instruction value in
+    let n : c.to_const.result ≡ length accepted.sentence = c.to_const.ensures ∙ ap (λ d. d.amount) c.len.ensures ∙ counted ∙ sym accepted.long in
+    let front : c.cut.result.0.now ≡ accepted.sentence = c.cut.ensures.front ∙ front_is bytes accepted.sentence accepted.rest c.to_const.result accepted.begins n in
+    let encoding = c.cut.result.0.now in
+    let reading = accepted.is.reading in
+    let whole : Encoding strict encoding reading = subst (λ l. Encoding strict l reading) (sym front) accepted.is.whole in
+    let head = c.head_of.ensures strict reading whole in
+    let behind = c.parts_behind.ensures in
+    let row = record_in strict encoding reading whole in
+    let tail = behind.tail row (seen whole.map whole.opcode (reading_of whole.run)) reading whole.tail head.tail head.ask whole.asked in
+    let parts : HasParts strict encoding reading whole c.parts_behind.result = record {
+      prefixes = behind.prefixes ∙ head.prefixes;
+      escape = behind.escape ∙ head.escape;
+      opcode = behind.opcode ∙ head.opcode;
+      modrm = tail.modrm;
+      sib = tail.sib;
+      address = tail.address;
+      immediate = tail.immediate;
+      suffix = tail.suffix;
+    } in
+    record {
+      instruction = instruction;
+      encoding = encoding;
+      rest = accepted.rest;
+      reading = reading;
+      accepted = value;
+      begins = accepted.begins ∙ ap (λ l. l ++ accepted.rest) (sym front);
+      long = ap length front ∙ accepted.long ∙ sym counted;
+      whole = whole;
+      parts = parts;
+      together = joined_is strict encoding reading whole c.parts_behind.result parts;
+    }

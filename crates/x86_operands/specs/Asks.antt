@@ -1,0 +1,41 @@
+-- What a row asks behind its opcode byte, told from a ModRM byte alone.
+use Rattle.std.specs.Prelude.{ℕ, Bool, true, false, List, [], ◌∷◌, map}
+use Rattle.x86_fields.specs.Pieces.{total}
+use Rattle.x86_operands.specs.declared.plans.Verdict.{Verdict}
+use Rattle.x86_operands.specs.declared.plans.Verdict.TheVariants.{NamedBySuffix}
+use Rattle.x86_operands.specs.declared.plans.Signs.{Signs}
+use Rattle.x86_operands.specs.declared.plans.ModrmUse.{ModrmUse}
+use Rattle.x86_operands.specs.declared.plans.ModrmUse.TheVariants.{Absent}
+use Rattle.x86_operands.specs.declared.plans.Plan.{Plan}
+use Rattle.x86_operands.specs.declared.asks.Ask.{Ask}
+use Rattle.x86_operands.specs.Plans.{RowRecord, is_memory, list_of}
+use Rattle.x86_operands.specs.Pieces.{immediate_width, modrm_of}
+
+abbrev pub asks_modrm : ModrmUse → Bool
+asks_modrm Absent = false
+asks_modrm usage = true
+
+abbrev pub asks_suffix : Verdict → Bool
+asks_suffix NamedBySuffix = true
+asks_suffix verdict = false
+
+-- how many bytes the immediates have together; those of an absolute address count
+abbrev pub immediates_width : Signs → ℕ
+immediates_width signs = total (map immediate_width (list_of signs))
+
+-- a ModRM byte as the row uses it
+abbrev pub used : ModrmUse → ℕ → ℕ
+used usage m = modrm_of usage (m ∷ [])
+
+-- what a plan asks at a ModRM byte that is used so
+abbrev pub plan_ask : ModrmUse → ℕ → Plan → Ask
+plan_ask usage m plan = record {
+  modrm = asks_modrm usage;
+  memory = is_memory m;
+  immediate = immediates_width plan.signs;
+  suffix = asks_suffix plan.verdict;
+}
+
+-- what a row asks at a ModRM byte
+unfoldable pub ask_of : RowRecord → ℕ → Ask
+ask_of r m = plan_ask r.modrm (used r.modrm m) (r.plan (used r.modrm m))

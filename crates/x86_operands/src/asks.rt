@@ -1,0 +1,80 @@
+//! What a row asks behind its opcode byte, told from a ModRM byte alone.
+ghost use Rattle.std.specs.Prelude.{◌≡◌, ◌≤◌};
+ghost use Rattle.x86_operands.specs.Pieces.{immediate_width};
+ghost use Rattle.x86_operands.specs.Asks.{asks_modrm, asks_suffix, immediates_width, used, plan_ask};
+
+use crate::plans::{ModrmUse, Plan, Sign, Signs, Verdict, memory_form};
+
+/// Which parts of an encoding a row asks behind its opcode byte. Whether there is a SIB, and how long the displacement of a memory
+/// form is, ModRM and SIB tell (Intel SDM volume 2, section 2.1.5).
+#[derive(Clone, Copy, PartialEq, Eq, Debug, Drop)]
+pub struct Ask {
+    /// Whether there is a ModRM byte.
+    pub modrm: bool,
+    /// Whether ModRM is a memory form that is read as such.
+    pub memory: bool,
+    /// How many bytes the immediates have together. The absolute addresses of opcodes A0 to A3 count as immediates.
+    pub immediate: u8,
+    /// Whether a last byte names the operation.
+    pub suffix: bool,
+}
+
+fn width(sign: Sign) -> u8
+    ensures value { result ≡ immediate_width sign }
+    ensures small { result ≤ 8 }
+{
+    match sign {
+        Sign::I8 | Sign::U8 | Sign::X8 => 1,
+        Sign::I16 | Sign::I32From16 | Sign::U16 | Sign::X16 => 2,
+        Sign::I32 | Sign::I64 | Sign::Address32 => 4,
+        Sign::I64Whole | Sign::Address64 => 8,
+        _ => 0,
+    }
+}
+
+fn width_of_all(signs: Signs) -> u8
+    ensures { result ≡ immediates_width signs }
+{
+    match signs {
+        Signs::Zero => 0,
+        Signs::One(a) => width(a),
+        Signs::Two(a, b) => width(a) + width(b),
+        Signs::Three(a, b, c) => width(a) + width(b) + width(c),
+        Signs::Four(a, b, c, d) => width(a) + width(b) + width(c) + width(d),
+    }
+}
+
+fn has_modrm(usage: ModrmUse) -> bool
+    ensures { result ≡ asks_modrm usage }
+{
+    !matches!(usage, ModrmUse::Absent)
+}
+
+fn has_suffix(verdict: Verdict) -> bool
+    ensures { result ≡ asks_suffix verdict }
+{
+    matches!(verdict, Verdict::NamedBySuffix)
+}
+
+/// A ModRM byte as a row uses it.
+pub fn used_modrm(usage: ModrmUse, modrm: u8) -> u8
+    ensures { result ≡ used usage modrm }
+{
+    match usage {
+        ModrmUse::Absent => 0xc0,
+        ModrmUse::Fields => modrm,
+        ModrmUse::Registers => 0xc0 + modrm % 0x40,
+    }
+}
+
+/// What a plan asks at a ModRM byte that is used so.
+pub fn plan_ask(usage: ModrmUse, modrm: u8, plan: &Plan) -> Ask
+    ensures { result ≡ plan_ask usage modrm plan.now }
+{
+    Ask {
+        modrm: has_modrm(usage),
+        memory: memory_form(modrm),
+        immediate: width_of_all(plan.signs),
+        suffix: has_suffix(plan.verdict),
+    }
+}
