@@ -1,4 +1,5 @@
 mod CutLaws
+mod FrontLaws
 mod MarkLaws
 mod PartLaws
 mod PlaceLaws

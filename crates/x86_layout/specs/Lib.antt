@@ -1,5 +1,6 @@
 pub mod Branches
 pub mod Cuts
+pub mod Front
 pub mod Heads
 pub mod Lengths
 pub mod Marks

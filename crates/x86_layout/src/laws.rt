@@ -1,10 +1,13 @@
-//! What follows from the definition of the cuts.
+//! What follows from the definitions of the cuts and of the parts.
 
-ghost use Rattle.std.specs.Prelude.{◌≡◌, ℕ, ◌+◌, ◌<◌, ◌≤◌, Bool, List, [], ◌∷◌, length, drop};
+ghost use Rattle.std.specs.Prelude.{◌≡◌, ℕ, ◌+◌, ◌<◌, ◌≤◌, Bool, List, [], ◌∷◌, ◌++◌, length, drop};
 ghost use Rattle.std.specs.List.{sum_by, All};
 ghost use Rattle.x86_decode.specs.Answer.{answer_of};
 ghost use Rattle.x86_layout.specs.Cuts.{cut_length, cut_at, cuts_from, cuts_of};
 ghost use Rattle.x86_layout.specs.Lengths.{IsWithin};
+ghost use Rattle.x86_operands.specs.declared.reader.Reading.{Reading};
+ghost use Rattle.x86_layout.specs.Parts.{Encoding, HasParts};
+ghost use Rattle.x86_layout.specs.Front.{parts_of};
 
 use x86_decode::laws;
 
@@ -25,3 +28,8 @@ pub fn cuts_cover()
 {
     laws::lengths();
 }
+
+/// The pieces of every whole encoding at the front of bytes are the parts of those bytes, whatever stands behind it.
+pub fn parts_are_those_of_the_bytes()
+    ensures { (strict : Bool) (s rest : List ℕ) (reading : Reading) (w : Encoding strict s reading) → HasParts strict s reading w (parts_of strict (s ++ rest)) }
+{}
