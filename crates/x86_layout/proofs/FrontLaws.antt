@@ -28,11 +28,11 @@ pub record AddressParts (m : ℕ) (address : List ℕ) : Type 0 where
   pub sib_long : length sib ≡ sib_width m
   pub disp_long : length disp ≡ (if is_memory m then disp_width m (first_byte sib) else 0)
 
-option_count : (o : Option ℕ) → length (option_bytes o) ≡ one_if (is_some o)
+pub option_count : (o : Option ℕ) → length (option_bytes o) ≡ one_if (is_some o)
 option_count None = refl
 option_count (Some b) = refl
 
-first_of : (o : Option ℕ) → first_byte (option_bytes o) ≡ o
+pub first_of : (o : Option ℕ) → first_byte (option_bytes o) ≡ o
 first_of None = refl
 first_of (Some b) = refl
 

@@ -3,17 +3,22 @@
 
 mod branches;
 mod cuts;
+mod entries;
+mod fields;
 mod heads;
 pub mod laws;
 mod marks;
 mod parts;
 mod sweeps;
+mod writing;
 
 pub use branches::branch_target;
 pub use cuts::Cut;
+pub use fields::Fields;
 pub use marks::mark_targets;
 pub use parts::{Parts, split};
 pub use sweeps::Sweep;
+pub use writing::{EmitError, emit};
 
 #[cfg(test)]
 mod tests {

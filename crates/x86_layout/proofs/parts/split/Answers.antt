@@ -1,4 +1,4 @@
-use Rattle.std.proofs.Common.{◌≡◌, ◌++◌, length, Ok, sym, ap, subst, ◌∙◌}
+use Rattle.std.proofs.Common.{◌≡◌, ◌≤◌, arith, ◌++◌, length, Ok, sym, ap, subst, ◌∙◌}
 use Rattle.x86_fields.specs.Run.{reading_of}
 use Rattle.x86_forms.specs.Words.{rows_of, word_at}
 use Rattle.x86_decode.specs.Head.{seen}
@@ -7,6 +7,7 @@ use Rattle.x86_decode.specs.Answer.{answer_of, count_of}
 use Rattle.x86_layout.specs.Parts.{lists_of, Encoding, record_in, HasParts}
 use Rattle.x86_layout.proofs.PartLaws.{front_is}
 use Rattle.x86_layout.specs.Front.{parts_of}
+use Rattle.x86_layout.proofs.LengthLaws.{lengths_of}
 use Rattle.x86_layout.proofs.FrontLaws.{parts_are, parts_once}
 use Rattle.x86_layout.proofs.SplitLaws.{joined_is}
 use Rattle.x86_layout.proofs.parts.split.Goals as goal
@@ -57,3 +58,9 @@ returns-clause-value c =
     let x = returns-clause-pieces c in
     parts_once strict x.encoding x.reading x.whole (lists_of c.parts_behind.result) (parts_of strict c.args.bytes.now) x.parts
     (subst (λ l. HasParts strict x.encoding x.reading x.whole (parts_of strict l)) (sym x.begins) (parts_are strict x.encoding x.rest x.reading x.whole))
+
+pub returns-clause-lengths : goal.returns-clause-lengths
+returns-clause-lengths c =
+    let x = returns-clause-pieces c in
+    let short : length x.encoding ≤ 15 = let e = x.long in let s = c.lengths.ensures.short c.args.decoder.now.strict c.args.bytes.now x.instruction x.accepted in omega (arith, e, s) in
+    lengths_of c.args.decoder.now.strict x.encoding x.reading x.whole (lists_of c.parts_behind.result) x.parts short
