@@ -1,6 +1,6 @@
 //! Fields written as bytes.
 
-ghost use Rattle.std.specs.Prelude.{◌≡◌, ◌+◌, ◌≤◌, ◌++◌, length, is_some, IfSome, MatchResult, Some, None};
+ghost use Rattle.std.specs.Prelude.{◌≡◌, ◌+◌, ◌≤◌, ◌++◌, length, is_some, IfSome, MatchResult, IsOk, IfOk, IfErr, ◌↔◌, Some, None};
 ghost use Rattle.arrayvec.specs.ArrayVec.{array_vec_len};
 ghost use Rattle.x86_fields.specs.Pieces.{option_bytes};
 ghost use Rattle.x86_forms.specs.Words.{IsForm};
@@ -196,7 +196,9 @@ fn emit_row(strict: bool, entry: &Entry, fields: &Fields) -> Result<ArrayVec<u8,
 /// The fields of the split of `48 03 44 25 00` give these bytes again, and `Shape` where their SIB is taken away.
 #[tactic(auto, unfolding(crate::specs::Permitted::first_failing))]
 pub fn emit(decoder: &InstDecoder, fields: &Fields) -> Result<ArrayVec<u8, 15>, EmitError>
-    ensures { MatchResult result (λ bytes. IsPermitted decoder.now.strict fields.now × (bytes.items ≡ joined (lists_in fields.now))) (λ error. first_failing decoder.now.strict fields.now ≡ Some error) }
+    ensures permitted { IsOk result ↔ IsPermitted decoder.now.strict fields.now }
+    ensures bytes { IfOk result (λ bytes. bytes.items ≡ joined (lists_in fields.now)) }
+    ensures first { IfErr result (λ error. first_failing decoder.now.strict fields.now ≡ Some error) }
 {
     if !is_legal_run(fields.prefixes.as_slice()) {
         return Err(EmitError::Prefixes);
