@@ -1,4 +1,4 @@
--- What holds of the records of all rows: sizes up to 64 bytes, and only 8F left out.
+-- What holds of the records of all rows: sizes up to 64 bytes, only 8F left out, and where 8F and the fences stand.
 use Rattle.std.proofs.Common.{◌≡◌, ◌≢◌, ℕ, ◌<◌, ◌≤◌, Bool, true, false, if◌then◌else◌, List, Some, Result, Ok, Err, IfOk, refl, sym, ap, ◌∙◌, arith, [], ◌∷◌, not, ◌||◌, ◌&&◌, ◌==◌, eqb, IfSome, subst}
 use Rattle.std.proofs.lemmas.Bool.{and_parts, cond_both, eqb-true}
 use Rattle.x86_fields.specs.declared.DecodeError.{DecodeError}
@@ -27,6 +27,7 @@ use Rattle.x86_decode.specs.declared.instructions.Instruction.{Instruction}
 use Rattle.x86_decode.specs.Head.{Rows, column_of, seen}
 use Rattle.x86_decode.specs.Grammar.{record_of, IsSentence, IsRefusedByRecord, IsAnswer}
 use Rattle.x86_decode.specs.Answer.{answer_of, count_of}
+use Rattle.x86_decode.specs.Choices.{IsFence}
 use Rattle.x86_decode.proofs.PrintedLaws.{printed_answer}
 
 record_small : (strict : Bool) (row : TableRow) (p : Prefixes) (m : ℕ) → ((record_of strict row p).plan m).size ≤ 64
@@ -82,7 +83,35 @@ row_of_8f strict row p bytes (behind_modrm modrm tail _ _ _ t) = tail_of_8f stri
 pub left_out_is_8f : (rows : Rows) (strict : Bool) (q : List ℕ) (c : IsRefusedByRecord rows strict q Incomplete) → c.row.form ≡ form.ModRM_0x8f
 left_out_is_8f rows strict q c = row_of_8f strict c.row (seen c.map c.opcode (reading_of c.run)) c.tail c.refuses
 
--- ---- where the form of 8F is printed
+-- ---- where a form is printed
+
+-- Each row of the list whose form passes the test stands at a place that passes the other.
+abbrev all_at : (Form → Bool) → (Map → ℕ → Bool) → Map → List Row → Bool
+all_at is at m [] = true
+all_at is at m (r ∷ rs) = (not (is r.row.form) || at m r.byte) && all_at is at m rs
+
+module _ (is : Form → Bool) (f : Form) (named : is f ≡ true) (at : Map → ℕ → Bool) where
+  stands : (m : Map) (r : Row) → (not (is r.row.form) || at m r.byte) ≡ true → r.row.form ≡ f → at m r.byte ≡ true
+  stands m r h e =
+      let passes : is r.row.form ≡ true = ap is e ∙ named in
+      ap (λ t. not t || at m r.byte) (sym passes) ∙ h
+
+  found : (m : Map) (rs : List Row) (column : Column) (byte : ℕ) → all_at is at m rs ≡ true → IfSome (row_in rs column byte) (λ row. row.form ≡ f → at m byte ≡ true)
+  found m [] column byte h = tt
+  found m (r ∷ rs) column byte h =
+      let parts = and_parts (not (is r.row.form) || at m r.byte) (all_at is at m rs) h in
+      cond_both (eqb r.byte byte && stands_in r.columns column) (Some r.row) (row_in rs column byte) (λ o. IfSome o (λ row. row.form ≡ f → at m byte ≡ true))
+      (λ here e.
+      let same : r.byte ≡ byte = eqb-true r.byte byte (and_parts (eqb r.byte byte) (stands_in r.columns column) here).0 in
+      ap (at m) (sym same) ∙ stands m r parts.0 e)
+      (λ _. found m rs column byte parts.1)
+
+  -- the form stands at such a place of the printed table alone
+  printed_at : (m : Map) (column : Column) (byte : ℕ) (row : TableRow) → all_at is at m (printed_rows m) ≡ true → rows_of word_at m column byte ≡ Some row → row.form ≡ f → at m byte ≡ true
+  unfolding printed_row
+  printed_at m column byte row h e =
+      let there = subst (λ o. IfSome o (λ row. row.form ≡ f → at m byte ≡ true)) (sym (row_of_printed_word m column byte)) (found m (printed_rows m) column byte h) in
+      subst (λ o. IfSome o (λ row. row.form ≡ f → at m byte ≡ true)) e there
 
 abbrev is_8f : Form → Bool
 is_8f form.ModRM_0x8f = true
@@ -92,42 +121,38 @@ abbrev stands_at_8f : Map → ℕ → Bool
 stands_at_8f One byte = byte == 0x8f
 stands_at_8f m byte = false
 
-abbrev all_at_8f : Map → List Row → Bool
-all_at_8f m [] = true
-all_at_8f m (r ∷ rs) = (not (is_8f r.row.form) || stands_at_8f m r.byte) && all_at_8f m rs
-
-printed_at_8f : (m : Map) → all_at_8f m (printed_rows m) ≡ true
-printed_at_8f One = refl
-printed_at_8f Of = refl
-printed_at_8f Of38 = refl
-printed_at_8f Of3a = refl
+all_at_8f : (m : Map) → all_at is_8f stands_at_8f m (printed_rows m) ≡ true
+all_at_8f One = refl
+all_at_8f Of = refl
+all_at_8f Of38 = refl
+all_at_8f Of3a = refl
 
 is_place_8f : (m : Map) (byte : ℕ) → stands_at_8f m byte ≡ true → (m ≡ One) × (byte ≡ 0x8f)
 is_place_8f One byte h = (refl, eqb-true byte 0x8f h)
 is_place_8f _ byte h = absurd cc
 
-only_8f : (m : Map) (r : Row) → (not (is_8f r.row.form) || stands_at_8f m r.byte) ≡ true → r.row.form ≡ form.ModRM_0x8f → (m ≡ One) × (r.byte ≡ 0x8f)
-only_8f m r h e =
-    let is : is_8f r.row.form ≡ true = ap is_8f e in
-    is_place_8f m r.byte (ap (λ t. not t || stands_at_8f m r.byte) (sym is) ∙ h)
-
-found_at_8f : (m : Map) (rs : List Row) (column : Column) (byte : ℕ) → all_at_8f m rs ≡ true → IfSome (row_in rs column byte) (λ row. row.form ≡ form.ModRM_0x8f → (m ≡ One) × (byte ≡ 0x8f))
-found_at_8f m [] column byte h = tt
-found_at_8f m (r ∷ rs) column byte h =
-    let parts = and_parts (not (is_8f r.row.form) || stands_at_8f m r.byte) (all_at_8f m rs) h in
-    cond_both (eqb r.byte byte && stands_in r.columns column) (Some r.row) (row_in rs column byte) (λ o. IfSome o (λ row. row.form ≡ form.ModRM_0x8f → (m ≡ One) × (byte ≡ 0x8f)))
-    (λ here e.
-    let same : r.byte ≡ byte = eqb-true r.byte byte (and_parts (eqb r.byte byte) (stands_in r.columns column) here).0 in
-    let place = only_8f m r parts.0 e in
-    (place.0, sym same ∙ place.1))
-    (λ _. found_at_8f m rs column byte parts.1)
-
-row_at_8f : (m : Map) (column : Column) (byte : ℕ) → IfSome (rows_of word_at m column byte) (λ row. row.form ≡ form.ModRM_0x8f → (m ≡ One) × (byte ≡ 0x8f))
-unfolding printed_row
-row_at_8f m column byte =
-    subst (λ o. IfSome o (λ row. row.form ≡ form.ModRM_0x8f → (m ≡ One) × (byte ≡ 0x8f))) (sym (row_of_printed_word m column byte)) (found_at_8f m (printed_rows m) column byte (printed_at_8f m))
-
 pub left_out_at_8f : (strict : Bool) (q : List ℕ) (c : IsRefusedByRecord (rows_of word_at) strict q Incomplete) → (c.map ≡ One) × (c.opcode ≡ 0x8f)
 left_out_at_8f strict q c =
-    let there = subst (λ o. IfSome o (λ row. row.form ≡ form.ModRM_0x8f → (c.map ≡ One) × (c.opcode ≡ 0x8f))) c.has_row (row_at_8f c.map (column_of (reading_of c.run)) c.opcode) in
-    there (left_out_is_8f (rows_of word_at) strict q c)
+    is_place_8f c.map c.opcode (printed_at is_8f form.ModRM_0x8f refl stands_at_8f c.map (column_of (reading_of c.run)) c.opcode c.row (all_at_8f c.map) c.has_row (left_out_is_8f (rows_of word_at) strict q c))
+
+abbrev is_0fae : Form → Bool
+is_0fae form.ModRM_0x0fae = true
+is_0fae f = false
+
+abbrev stands_at_0fae : Map → ℕ → Bool
+stands_at_0fae Of byte = byte == 0xae
+stands_at_0fae m byte = false
+
+all_at_0fae : (m : Map) → all_at is_0fae stands_at_0fae m (printed_rows m) ≡ true
+all_at_0fae One = refl
+all_at_0fae Of = refl
+all_at_0fae Of38 = refl
+all_at_0fae Of3a = refl
+
+is_place_0fae : (m : Map) (byte : ℕ) → stands_at_0fae m byte ≡ true → (m ≡ Of) × (byte ≡ 0xae)
+is_place_0fae Of byte h = (refl, eqb-true byte 0xae h)
+is_place_0fae _ byte h = absurd cc
+
+pub fence_at_0fae : (q : List ℕ) (c : IsFence (rows_of word_at) q) → (c.map ≡ Of) × (c.opcode ≡ 0xae)
+fence_at_0fae q c =
+    is_place_0fae c.map c.opcode (printed_at is_0fae form.ModRM_0x0fae refl stands_at_0fae c.map (column_of (reading_of c.run)) c.opcode c.row (all_at_0fae c.map) c.has_row c.names.group)

@@ -1,4 +1,5 @@
 use Rattle.x86_decode.proofs.ChoiceLaws.{same_elsewhere_on, fence_read, fence_locked, fence_strict_answer, printed_elsewhere}
+use Rattle.x86_decode.proofs.RecordLaws.{fence_at_0fae}
 use Rattle.x86_decode.proofs.laws.choices_differ_on_fences.Goals as goal
 
 pub returns-clause-elsewhere : goal.returns-clause-elsewhere
@@ -15,3 +16,6 @@ returns-clause-strictly c = fence_strict_answer
 
 pub returns-clause-printed : goal.returns-clause-printed
 returns-clause-printed c = printed_elsewhere
+
+pub returns-clause-place : goal.returns-clause-place
+returns-clause-place c = λ xs f. fence_at_0fae f.fence f.is
