@@ -13,14 +13,14 @@ use Rattle.x86_cli.specs.declared.status.Status.{Status}
 use Rattle.x86_cli.specs.declared.status.Status.TheVariants.{Done, Usage, Refused, BadText, ReadFault, WriteFault, TooLarge}
 use Rattle.x86_cli.specs.declared.text.Stop.TheVariants.{End}
 use Rattle.x86_cli.specs.declared.command.Command.{Command}
-use Rattle.x86_cli.specs.declared.command.Command.TheVariants.{List as Listed, Sweep as Swept}
+use Rattle.x86_cli.specs.declared.command.Command.TheVariants.{List as Listed, Sweep as Swept, Targets as Targeted}
 use Rattle.x86_cli.specs.Line.{instruction_text}
 use Rattle.x86_cli.specs.Command.{listing_for}
 use Rattle.x86_cli.specs.Sweep.{cut_length, sweep_from}
 use Rattle.x86_cli.specs.Text.{Text, text_of}
 use Rattle.x86_cli.specs.Listing.{Listing, front_of, sure_of, listing_from}
 use Rattle.x86_cli.specs.Run.{World, IsSound, Writes, full_listing, Says, Exactly, ReachesFault}
-use Rattle.x86_cli.specs.Complete.{IsSentence, AreSentences, IsRowOfSentences, Completes}
+use Rattle.x86_cli.specs.Complete.{IsSentence, AreSentences, GoesThrough, Completes}
 use Rattle.x86_cli.specs.DecoderLaws.{DecoderLaws}
 use Rattle.x86_cli.proofs.FrontLaws.{front-stays}
 use Rattle.x86_cli.proofs.ListingLaws.{listing-whole}
@@ -84,24 +84,22 @@ module _ (strict : Bool) (laws : DecoderLaws strict) (text : ℕ → Instruction
       ∙ ap (λ xs. (listing_from strict text (n + i.length) 0 xs Clean).status) dropped
       ∙ row_done (n + i.length) ss each.1
 
-completes : (strict : Bool) → DecoderLaws strict → (max : ℕ) (old new : World) (result : Status) → Says (listing_for (Listed strict)) max result old new → Completes (Listed strict) max result old new
-completes strict laws max old new result says =
-    each_known old.left (λ b w clean row sound. let h = w sound in (h.0 ∙ done b clean row, h.1)) (writes_all (listing_for (Listed strict)) max old new result says)
-  where
-    done : (b : List ℕ) → (text_of max b End).ending ≡ Clean → IsRowOfSentences strict (text_of max b End).image →
-        (full_listing (listing_for (Listed strict)) max b).status ≡ Done
-    done b clean row = rw (clean, row.whole) (row_done strict laws (λ place instruction bytes. instruction_text place instruction) 0 row.sentences row.each)
-
 sweep_done : (strict : Bool) (n k : ℕ) (xs : List ℕ) → (sweep_from strict n k xs Clean).status ≡ Done
 unfolding sweep_from
 sweep_done strict n k [] = refl
 sweep_done strict n zero (x ∷ xs) = sweep_done strict (n + 1) (cut_length (answer_of strict (x ∷ xs)) - 1) xs
 sweep_done strict n (suc k) (x ∷ xs) = sweep_done strict (n + 1) k xs
 
-pub completes_command : (command : Command) → ((strict : Bool) → DecoderLaws strict) → (max : ℕ) (old new : World) (result : Status) → Says (listing_for command) max result old new → Completes command max result old new
-completes_command (Listed strict) laws max old new result says = completes strict (laws strict) max old new result says
-completes_command Swept laws max old new result says =
-    each_known old.left (λ b w clean sound. let h = w sound in (h.0 ∙ swept b clean, h.1)) (writes_all (listing_for Swept) max old new result says)
-  where
-    swept : (b : List ℕ) → (text_of max b End).ending ≡ Clean → (full_listing (listing_for Swept) max b).status ≡ Done
-    swept b clean = rw clean (sweep_done false 0 0 (text_of max b End).image)
+-- the listing of a clean text whose image a command goes through
+text_done : (command : Command) → ((strict : Bool) → DecoderLaws strict) → (t : Text) → t.ending ≡ Clean → GoesThrough command t.image → (listing_for command t).status ≡ Done
+text_done (Listed strict) laws t clean row =
+    rw (clean, row.whole) (row_done strict (laws strict) (λ place instruction bytes. instruction_text place instruction) 0 row.sentences row.each)
+text_done Swept laws t clean any = rw clean (sweep_done false 0 0 t.image)
+text_done Targeted laws t clean any = rw clean refl
+
+pub completes : (command : Command) → ((strict : Bool) → DecoderLaws strict) → (max : ℕ) (old new : World) (result : Status) →
+    Says (listing_for command) max result old new → Completes command max result old new
+completes command laws max old new result says =
+    each_known old.left
+    (λ b w clean through sound. let h = w sound in (h.0 ∙ text_done command laws (text_of max b End) clean through, h.1))
+    (writes_all (listing_for command) max old new result says)

@@ -9,3 +9,4 @@ pub mod Standing
 pub mod Causes
 pub mod LineLaws
 pub mod SweepLaws
+pub mod TargetLaws

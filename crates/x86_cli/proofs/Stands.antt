@@ -15,7 +15,7 @@ use Rattle.x86_cli.specs.declared.status.Status.{Status}
 use Rattle.x86_cli.specs.declared.status.Status.TheVariants as outcome
 use Rattle.x86_cli.specs.declared.window.Window.{Window}
 use Rattle.x86_cli.specs.Listing.{Listing, with_bytes, at_end}
-use Rattle.x86_cli.specs.Window.{rest_of, MayCome, Faulted, Finished, Fills}
+use Rattle.x86_cli.specs.Window.{rest_of, MayCome, Faulted, Finished, Fills, ReadsWhole}
 use Rattle.x86_cli.specs.Run.{World, full_listing, cut_listing, Writes, WritesFront, Closes, Says}
 use Rattle.x86_cli.proofs.FillLaws.{joined}
 
@@ -66,6 +66,20 @@ module _ (at : ℕ → Text → Listing) where
     source = refl;
     sink = refl;
     finished = tt;
+  }
+
+  -- the text was read to its end
+  pub stands_whole : (max : ℕ) (now : World) (e : Ending) (w : List ℕ) (left : Option (List ℕ)) (faults : ℕ) →
+      ReadsWhole max w e now.left left → Faulted (Some e) now.source_faults faults → Finished (Some e) left → Stands max 0 (Some e) w 0 0 now (sourced now left faults)
+  stands_whole max now e w left faults reads faulted finished = record {
+    u = reads.bytes;
+    takes = reads.takes;
+    out = [];
+    wrote = sym (append-none now.written);
+    lists = λ xs stop may. ap (at 0) (reads.text xs stop may);
+    source = faulted;
+    sink = refl;
+    finished = finished;
   }
 
   unfoldable pub stands_fill : (max n : ℕ) (w : List ℕ) (p r : ℕ) (old now : World) → Stands max n None w p r old now →

@@ -9,7 +9,7 @@ use Rattle.x86_cli.specs.declared.text.Stop.TheVariants.{End}
 use Rattle.x86_cli.specs.declared.status.Status.{Status}
 use Rattle.x86_cli.specs.declared.status.Status.TheVariants.{Done}
 use Rattle.x86_cli.specs.declared.command.Command.{Command}
-use Rattle.x86_cli.specs.declared.command.Command.TheVariants.{List as Listed, Sweep as Swept}
+use Rattle.x86_cli.specs.declared.command.Command.TheVariants.{List as Listed, Sweep as Swept, Targets as Targeted}
 use Rattle.x86_cli.specs.Text.{text_of}
 use Rattle.x86_cli.specs.Command.{listing_for}
 use Rattle.x86_cli.specs.Run.{World, IsSound, full_listing}
@@ -30,12 +30,14 @@ pub record IsRowOfSentences (strict : Bool) (image : List ℕ) : Type 0 where
   pub each : AreSentences strict sentences
   pub whole : image ≡ concat sentences
 
--- Where the text is clean and its image is a row of sentences, and neither count rose, the run is done and has written all.
--- A sweep asks no sentences.
+-- The command goes through the image to its end: a listing where that is a row of sentences, a sweep always.
+abbrev pub GoesThrough : Command → List ℕ → Type 0
+GoesThrough (Listed strict) image = IsRowOfSentences strict image
+GoesThrough Swept image = ⊤
+GoesThrough Targeted image = ⊤
+
+-- Where the text is clean, the command goes through its image, and neither count rose, the run is done and has written all.
 abbrev pub Completes : Command → ℕ → Status → World → World → Type 0
-Completes (Listed strict) max result old new =
-    IfSome old.left (λ b. (text_of max b End).ending ≡ Clean → IsRowOfSentences strict (text_of max b End).image → IsSound old new →
-    (result ≡ Done) × (new.written ≡ append_known old.written (full_listing (listing_for (Listed strict)) max b).bytes))
-Completes Swept max result old new =
-    IfSome old.left (λ b. (text_of max b End).ending ≡ Clean → IsSound old new →
-    (result ≡ Done) × (new.written ≡ append_known old.written (full_listing (listing_for Swept) max b).bytes))
+Completes command max result old new =
+    IfSome old.left (λ b. (text_of max b End).ending ≡ Clean → GoesThrough command (text_of max b End).image → IsSound old new →
+    (result ≡ Done) × (new.written ≡ append_known old.written (full_listing (listing_for command) max b).bytes))

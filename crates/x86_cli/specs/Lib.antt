@@ -8,6 +8,7 @@ pub mod Listing
 pub mod DecoderLaws
 pub mod Window
 pub mod Sweep
+pub mod Targets
 pub mod Codes
 pub mod Run
 pub mod Command

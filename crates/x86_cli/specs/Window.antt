@@ -6,7 +6,7 @@ use Rattle.x86_cli.specs.declared.text.Ending.{Ending}
 use Rattle.x86_cli.specs.declared.text.Ending.TheVariants.{Clean, Bad, Large, Fault}
 use Rattle.x86_cli.specs.declared.text.Stop.{Stop}
 use Rattle.x86_cli.specs.declared.text.Stop.TheVariants.{End, Failed}
-use Rattle.x86_cli.specs.Text.{Text, text_at}
+use Rattle.x86_cli.specs.Text.{Text, text_at, text_of}
 use Rattle.x86_cli.specs.declared.window.Front.{Front}
 use Rattle.x86_cli.specs.declared.window.Front.TheVariants.{Whole, Refused, Ended}
 use Rattle.x86_cli.specs.Listing.{front_of}
@@ -51,6 +51,12 @@ pub record Fills (old : List ℕ → Stop → Text) (ended : Option Ending) (win
   pub takes : before ≡ prepend_known bytes after
   pub rest : (xs : List ℕ) (stop : Stop) → MayCome ended after xs stop → old (bytes ++ xs) stop ≡ rest_of ended window place room xs stop
   pub front : (xs : List ℕ) (stop : Stop) → (more : Text) × (old (bytes ++ xs) stop ≡ behind window more)
+
+-- What reading a text to its end says: whatever may come behind the bytes taken, this is its image, and so it ends.
+pub record ReadsWhole (max : ℕ) (image : List ℕ) (ending : Ending) (before after : Option (List ℕ)) : Type 0 where
+  pub bytes : List ℕ
+  pub takes : before ≡ prepend_known bytes after
+  pub text : (xs : List ℕ) (stop : Stop) → MayCome (Some ending) after xs stop → text_of max (bytes ++ xs) stop ≡ record { image = image; ending = ending }
 
 -- what the window shows of its front, whatever stands behind it
 abbrev pub Shows : Bool → Front → Option Ending → List ℕ → Type 0

@@ -1,8 +1,8 @@
 //! Commands, and what each of them writes.
 
-ghost use Rattle.std.specs.Prelude.{◌≡◌, ◌≢◌, ◌↔◌, ℕ, IfSome, Some, None, map, string_bytes};
+ghost use Rattle.std.specs.Prelude.{◌≡◌, ◌≢◌, ◌↔◌, ℕ, IsTrue, IfSome, Some, None, map, string_bytes};
 ghost use Rattle.x86_cli.specs.Faults.{Rose};
-ghost use Rattle.x86_cli.specs.Command.{command_of, listing_for};
+ghost use Rattle.x86_cli.specs.Command.{command_by, command_of, listing_for, max_of, goes_past_refusals};
 ghost use Rattle.x86_cli.specs.Make.{IsMake, IsNoCommand, Makes};
 ghost use Rattle.x86_cli.specs.Run.{World, Says, Exactly, ReachesFault};
 ghost use Rattle.x86_cli.specs.Complete.{Completes};
@@ -15,13 +15,17 @@ use crate::sink::Sink;
 use crate::source::Source;
 use crate::status::Status;
 use crate::sweep::sweep;
+use crate::targets::targets;
 use x86_decode::InstDecoder;
 
 /// The most bytes of a text.
 pub const TEXT_MAX: u64 = 67108864;
 
+/// The most bytes of a text whose image is held whole, as `targets` does.
+pub const TARGETS_MAX: u64 = 16384;
+
 /// What is printed where the words are no command.
-pub const USAGE: &str = "usage: list [--strict] | make N | sweep";
+pub const USAGE: &str = "usage: list [--strict] | make N | sweep | targets";
 
 /// What the program does.
 #[derive(Clone, Copy, PartialEq, Eq, Debug, Drop)]
@@ -30,14 +34,27 @@ pub enum Command {
     List { strict: bool },
     /// The sweep, by the default choice.
     Sweep,
+    /// The places that the instructions of the sweep branch to, by the default choice.
+    Targets,
+}
+
+/// The command that is one word.
+fn command_by(word: &str) -> Option<Command>
+    ensures { result ≡ command_by word.now }
+{
+    match word {
+        "list" => Some(Command::List { strict: false }),
+        "sweep" => Some(Command::Sweep),
+        "targets" => Some(Command::Targets),
+        _ => None,
+    }
 }
 
 fn command_from(words: &[String]) -> Option<Command>
     ensures { result ≡ command_of (map string_bytes words.now) }
 {
     match words {
-        [list] if list.as_str() == "list" => Some(Command::List { strict: false }),
-        [sweep] if sweep.as_str() == "sweep" => Some(Command::Sweep),
+        [word] => command_by(word.as_str()),
         [list, strict] if list.as_str() == "list" && strict.as_str() == "--strict" => {
             Some(Command::List { strict: true })
         }
@@ -67,21 +84,22 @@ fn decoder(strict: bool) -> InstDecoder
 }
 
 fn obey<S: Source, K: Sink>(command: Command, source: &mut S, sink: &mut K) -> Status
-    ensures says { Says (listing_for command) TEXT_MAX result
+    ensures says { Says (listing_for command) (max_of command) result
         (record { left = S.left source.old; source_faults = S.faults source.old; written = K.written sink.old; sink_faults = K.faults sink.old })
         (record { left = S.left source.new; source_faults = S.faults source.new; written = K.written sink.new; sink_faults = K.faults sink.new }) }
-    ensures unrefused { command ≡ Command.Sweep → result ≢ Status.Refused }
+    ensures unrefused { IsTrue (goes_past_refusals command) → result ≢ Status.Refused }
 {
     match command {
         Command::List { strict } => list(&decoder(strict), &Plain, TEXT_MAX, source, sink),
         Command::Sweep => sweep(&decoder(false), TEXT_MAX, source, sink),
+        Command::Targets => targets(&decoder(false), TARGETS_MAX, source, sink),
     }
 }
 
-/// Does what the words say. `list`, `list --strict` and `sweep` read a hex text from the source, at most `TEXT_MAX` bytes
-/// of it, and write its listing to the sink, a call of `put` for each line.
+/// Does what the words say. `list`, `list --strict`, `sweep` and `targets` read a hex text from the source, at most
+/// `TEXT_MAX` bytes of it (`TARGETS_MAX` for `targets`), and write its listing to the sink, a call of `put` for each line.
 pub fn run<S: Source, K: Sink>(words: &[String], source: &mut S, sink: &mut K) -> Status
-    ensures says { IfSome (command_of (map string_bytes words.now)) (λ c. Says (listing_for c) TEXT_MAX result
+    ensures says { IfSome (command_of (map string_bytes words.now)) (λ c. Says (listing_for c) (max_of c) result
         (record { left = S.left source.old; source_faults = S.faults source.old; written = K.written sink.old; sink_faults = K.faults sink.old })
         (record { left = S.left source.new; source_faults = S.faults source.new; written = K.written sink.new; sink_faults = K.faults sink.new })) }
     ensures made { (n : ℕ) → IsMake (map string_bytes words.now) n → Makes n result
@@ -91,21 +109,21 @@ pub fn run<S: Source, K: Sink>(words: &[String], source: &mut S, sink: &mut K) -
     ensures usage { (result ≡ Status.Usage) ↔ IsNoCommand (map string_bytes words.now) }
     ensures reads_nothing { result ≡ Status.Usage → source.new ≡ source.old }
     ensures writes_nothing { result ≡ Status.Usage → sink.new ≡ sink.old }
-    ensures refused { IfSome (command_of (map string_bytes words.now)) (λ c. Exactly (listing_for c) TEXT_MAX result Status.Refused
+    ensures refused { IfSome (command_of (map string_bytes words.now)) (λ c. Exactly (listing_for c) (max_of c) result Status.Refused
         (record { left = S.left source.old; source_faults = S.faults source.old; written = K.written sink.old; sink_faults = K.faults sink.old })
         (record { left = S.left source.new; source_faults = S.faults source.new; written = K.written sink.new; sink_faults = K.faults sink.new })) }
-    ensures unrefused { command_of (map string_bytes words.now) ≡ Some Command.Sweep → result ≢ Status.Refused }
-    ensures bad_text { IfSome (command_of (map string_bytes words.now)) (λ c. Exactly (listing_for c) TEXT_MAX result Status.BadText
+    ensures unrefused { IfSome (command_of (map string_bytes words.now)) (λ c. IsTrue (goes_past_refusals c) → result ≢ Status.Refused) }
+    ensures bad_text { IfSome (command_of (map string_bytes words.now)) (λ c. Exactly (listing_for c) (max_of c) result Status.BadText
         (record { left = S.left source.old; source_faults = S.faults source.old; written = K.written sink.old; sink_faults = K.faults sink.old })
         (record { left = S.left source.new; source_faults = S.faults source.new; written = K.written sink.new; sink_faults = K.faults sink.new })) }
-    ensures too_large { IfSome (command_of (map string_bytes words.now)) (λ c. Exactly (listing_for c) TEXT_MAX result Status.TooLarge
+    ensures too_large { IfSome (command_of (map string_bytes words.now)) (λ c. Exactly (listing_for c) (max_of c) result Status.TooLarge
         (record { left = S.left source.old; source_faults = S.faults source.old; written = K.written sink.old; sink_faults = K.faults sink.old })
         (record { left = S.left source.new; source_faults = S.faults source.new; written = K.written sink.new; sink_faults = K.faults sink.new })) }
     ensures read_fault { result ≡ Status.ReadFault → Rose (S.faults source.old) (S.faults source.new) }
     ensures fault_reached { IfSome (command_of (map string_bytes words.now)) (λ c. result ≡ Status.ReadFault →
-        ReachesFault (listing_for c) TEXT_MAX (S.left source.old) (S.left source.new)) }
+        ReachesFault (listing_for c) (max_of c) (S.left source.old) (S.left source.new)) }
     ensures write_fault { result ≡ Status.WriteFault → Rose (K.faults sink.old) (K.faults sink.new) }
-    ensures complete { IfSome (command_of (map string_bytes words.now)) (λ c. Completes c TEXT_MAX result
+    ensures complete { IfSome (command_of (map string_bytes words.now)) (λ c. Completes c (max_of c) result
         (record { left = S.left source.old; source_faults = S.faults source.old; written = K.written sink.old; sink_faults = K.faults sink.old })
         (record { left = S.left source.new; source_faults = S.faults source.new; written = K.written sink.new; sink_faults = K.faults sink.new })) }
 {

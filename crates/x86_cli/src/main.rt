@@ -4,6 +4,8 @@
 ghost use Rattle.std.specs.Prelude.{◌≡◌};
 
 mod command;
+#[cfg(test)]
+mod command_tests;
 mod gathered;
 #[cfg(test)]
 mod group_table;
@@ -17,6 +19,7 @@ mod sink;
 mod source;
 mod status;
 mod sweep;
+mod targets;
 #[cfg(test)]
 mod tests;
 mod text;

@@ -11,7 +11,7 @@ use std::alloc::{AllocError, Global};
 use std::io;
 use std::io::{ErrorKind, Read, Write};
 
-fn words(alloc: Global, texts: &[&str]) -> Result<Vec<String>, AllocError> {
+pub fn words(alloc: Global, texts: &[&str]) -> Result<Vec<String>, AllocError> {
     let mut words = Vec::new(alloc);
     for text in texts {
         words.push(String::from_str(alloc, text)?)?;
@@ -124,35 +124,7 @@ fn words_matched_whole(rt: HostRuntime) {
     assert!(&rt; is_usage(rt.alloc(), &["list", "strict"]));
     assert!(&rt; is_usage(rt.alloc(), &["list", "--strict", ""]));
     assert!(&rt; is_usage(rt.alloc(), &["--strict", "list"]));
-    assert!(&rt; USAGE == "usage: list [--strict] | make N | sweep");
-}
-
-#[test]
-fn sweeps(rt: HostRuntime) {
-    let written: &[u8] =
-        b"0 error: invalid opcode\n1 2 ADD eax, ebx m4\n3 error: exhausted input\n";
-    assert!(&rt;
-        runs(
-            rt.alloc(),
-            &["sweep"],
-            b"06 01 d8 01",
-            &[],
-            written,
-            Status::Done
-        )
-    );
-    let written: &[u8] = b"0 2 ADD eax, ebx m4\ntext error at 7\n";
-    assert!(&rt;
-        runs(
-            rt.alloc(),
-            &["sweep"],
-            b"01 d8 4",
-            &[],
-            written,
-            Status::BadText
-        )
-    );
-    assert!(&rt; runs(rt.alloc(), &["sweep"], b"", &[], b"", Status::Done));
+    assert!(&rt; USAGE == "usage: list [--strict] | make N | sweep | targets");
 }
 
 #[test]
@@ -277,7 +249,7 @@ fn failing_sinks(rt: HostRuntime) {
 
 /// So many times a unit, then a tail.
 #[derive(Drop)]
-struct Repeated<'a> {
+pub struct Repeated<'a> {
     unit: &'a [u8],
     left: u64,
     place: usize,
@@ -285,7 +257,7 @@ struct Repeated<'a> {
 }
 
 impl<'a> Repeated<'a> {
-    fn new(unit: &'a [u8], times: u64, tail: &'a [u8]) -> Repeated<'a> {
+    pub fn new(unit: &'a [u8], times: u64, tail: &'a [u8]) -> Repeated<'a> {
         Repeated {
             unit,
             left: times,
@@ -340,14 +312,16 @@ impl Sink for LastPiece<'_> {
     }
 }
 
-fn ends_with(
+/// Whether a run of a command makes so many calls of `put`, the last of which writes this, and ends so.
+pub fn ends_with(
     alloc: Global,
+    command: &str,
     mut source: Repeated<'_>,
     pieces: u64,
     last: &[u8],
     status: Status,
 ) -> bool {
-    let Ok(words) = words(alloc, &["list"]) else {
+    let Ok(words) = words(alloc, &[command]) else {
         return true;
     };
     let mut sink = LastPiece {
@@ -363,37 +337,64 @@ fn ends_with(
 #[test]
 fn short_and_long_texts(rt: HostRuntime) {
     let blanks = Repeated::new(b" ", 4096, b"");
-    assert!(&rt; ends_with(rt.alloc(), blanks, 0, b"", Status::Done));
+    assert!(&rt; ends_with(rt.alloc(), "list", blanks, 0, b"", Status::Done));
     let blanks = Repeated::new(b" ", 4097, b"");
-    assert!(&rt; ends_with(rt.alloc(), blanks, 0, b"", Status::Done));
+    assert!(&rt; ends_with(rt.alloc(), "list", blanks, 0, b"", Status::Done));
     let pairs = Repeated::new(b"01 d8 ", 10000, b"");
     let last = b"19998 2 ADD eax, ebx m4\n";
-    assert!(&rt; ends_with(rt.alloc(), pairs, 10000, last, Status::Done));
+    assert!(&rt; ends_with(rt.alloc(), "list", pairs, 10000, last, Status::Done));
 }
 
 #[test]
 fn blanks_up_to_the_limit(rt: HostRuntime) {
     assert!(&rt; TEXT_MAX == 67108864);
     let blanks = Repeated::new(b" ", 67108864, b"");
-    assert!(&rt; ends_with(rt.alloc(), blanks, 0, b"", Status::Done));
+    assert!(&rt; ends_with(rt.alloc(), "list", blanks, 0, b"", Status::Done));
 }
 
 #[test]
 fn one_blank_past_the_limit(rt: HostRuntime) {
     let blanks = Repeated::new(b" ", 67108865, b"");
-    assert!(&rt; ends_with(rt.alloc(), blanks, 1, b"text too long\n", Status::TooLarge));
+    assert!(&rt;
+        ends_with(
+            rt.alloc(),
+            "list",
+            blanks,
+            1,
+            b"text too long\n",
+            Status::TooLarge
+        )
+    );
 }
 
 #[test]
 fn pairs_up_to_the_limit(rt: HostRuntime) {
     let text = Repeated::new(b" ", 67108860, b"01d8");
-    assert!(&rt; ends_with(rt.alloc(), text, 1, b"0 2 ADD eax, ebx m4\n", Status::Done));
+    assert!(&rt;
+        ends_with(
+            rt.alloc(),
+            "list",
+            text,
+            1,
+            b"0 2 ADD eax, ebx m4\n",
+            Status::Done
+        )
+    );
 }
 
 #[test]
 fn half_a_pair_past_the_limit(rt: HostRuntime) {
     let text = Repeated::new(b" ", 67108861, b"01d8");
-    assert!(&rt; ends_with(rt.alloc(), text, 1, b"text too long\n", Status::TooLarge));
+    assert!(&rt;
+        ends_with(
+            rt.alloc(),
+            "list",
+            text,
+            1,
+            b"text too long\n",
+            Status::TooLarge
+        )
+    );
 }
 
 /// Gives its bytes in two reads, and fails at the third.

@@ -1,0 +1,15 @@
+use Rattle.std.proofs.Common.{◌≡◌, ◌≤◌, ◌+◌, ◌*◌}
+use Rattle.arrayvec.specs.ArrayVec.{array_vec_len}
+use Rattle.x86_cli.specs.Text.{text_of}
+use Rattle.x86_cli.proofs.FillLaws.{Filling}
+use Rattle.x86_cli.proofs.targets.read_whole.Given as goal
+
+abbrev pub invariant-pairs : goal.invariant-pairs
+invariant-pairs g l = record {
+  filling : Filling (text_of l.fn.max) l.image.items l.reader.place l.reader.room (g.S.Source.left l.fn.source) (g.S.Source.left l.source);
+  still : g.S.Source.faults l.source ≡ g.S.Source.faults l.fn.source;
+  fits : 2 * array_vec_len l.image + l.reader.room ≤ l.fn.max;
+}
+
+abbrev pub decreases-pairs : goal.decreases-pairs
+decreases-pairs g l = l.reader.room

@@ -1,0 +1,95 @@
+//! Worked runs of the commands beside `list`.
+
+use crate::command::{TARGETS_MAX, run};
+use crate::sink::ArraySink;
+use crate::source::SoundSource;
+use crate::status::Status;
+use crate::tests::{Repeated, ends_with, runs, words};
+
+#[test]
+fn sweeps(rt: HostRuntime) {
+    let written: &[u8] =
+        b"0 error: invalid opcode\n1 2 ADD eax, ebx m4\n3 error: exhausted input\n";
+    assert!(&rt;
+        runs(
+            rt.alloc(),
+            &["sweep"],
+            b"06 01 d8 01",
+            &[],
+            written,
+            Status::Done
+        )
+    );
+    let written: &[u8] = b"0 2 ADD eax, ebx m4\ntext error at 7\n";
+    assert!(&rt;
+        runs(
+            rt.alloc(),
+            &["sweep"],
+            b"01 d8 4",
+            &[],
+            written,
+            Status::BadText
+        )
+    );
+    assert!(&rt; runs(rt.alloc(), &["sweep"], b"", &[], b"", Status::Done));
+}
+
+#[test]
+fn targets(rt: HostRuntime) {
+    let worked: [(&str, &str); 4] = [
+        ("eb fe", "0\n"),
+        ("74 01 06 eb fb 90", "0\n3\n"),
+        ("eb ff 90", ""),
+        ("eb 7f", ""),
+    ];
+    for (text, written) in worked {
+        let (text, written) = (text.as_bytes(), written.as_bytes());
+        assert!(&rt; runs(rt.alloc(), &["targets"], text, &[], written, Status::Done));
+    }
+    let (text, written): (&[u8], &[u8]) = (b"eb fe 9", b"0\ntext error at 7\n");
+    assert!(&rt;
+        runs(
+            rt.alloc(),
+            &["targets"],
+            text,
+            &[],
+            written,
+            Status::BadText
+        )
+    );
+}
+
+#[test]
+fn targets_of_long_texts(rt: HostRuntime) {
+    assert!(&rt; TARGETS_MAX == 16384);
+    let blanks = Repeated::new(b" ", 16385, b"");
+    let line = b"text too long\n";
+    assert!(&rt; ends_with(rt.alloc(), "targets", blanks, 1, line, Status::TooLarge));
+    let pairs = Repeated::new(b"90", 8190, b"ebfe");
+    assert!(&rt; ends_with(rt.alloc(), "targets", pairs, 1, b"8190\n", Status::Done));
+    let pairs = Repeated::new(b"90", 8190, b"ebfe9");
+    assert!(&rt; ends_with(rt.alloc(), "targets", pairs, 2, line, Status::TooLarge));
+}
+
+#[test]
+fn failing_targets(rt: HostRuntime) {
+    let (text, one): (&[u8], &[u8]) = (b"eb fe", b"0\nread fault\n");
+    assert!(&rt; runs(rt.alloc(), &["targets"], text, &[5], one, Status::ReadFault));
+    assert!(&rt;
+        runs(
+            rt.alloc(),
+            &["targets"],
+            text,
+            &[4],
+            b"read fault\n",
+            Status::ReadFault
+        )
+    );
+    let Ok(words) = words(rt.alloc(), &["targets"]) else {
+        return;
+    };
+    let mut sink = ArraySink::<64>::new(1);
+    let mut source = SoundSource::new(b"74 01 06 eb fb 90");
+    assert!(&rt; run(words.as_slice(), &mut source, &mut sink) == Status::WriteFault);
+    assert!(&rt; sink.written() == b"0\n".as_slice());
+}

@@ -1,0 +1,107 @@
+//! The places that the instructions of a sweep branch to.
+
+ghost use Rattle.std.specs.Prelude.{◌≡◌, ◌≢◌, ℕ, ◌<◌, ◌≤◌, length, take, slice_index_or, false, decimal, Some, OnOk, OnErr};
+ghost use Rattle.std.specs.Io.KnownBytes.{append_known};
+ghost use Rattle.arrayvec.specs.ArrayVec.{array_vec_len};
+ghost use Rattle.x86_layout.specs.Marks.{is_marked};
+ghost use Rattle.x86_cli.specs.Faults.{Rose};
+ghost use Rattle.x86_cli.specs.Run.{World, Says};
+ghost use Rattle.x86_cli.specs.Targets.{line_if, targets_at};
+ghost use Rattle.x86_cli.specs.Window.{ReadsWhole, Faulted, Finished};
+
+use crate::line::{Line, push_number};
+use crate::listing::{end, put_line};
+use crate::sink::{Sink, SinkFailed};
+use crate::source::Source;
+use crate::status::Status;
+use crate::text::{Ending, Piece, TextReader};
+use arrayvec::ArrayVec;
+use x86_decode::InstDecoder;
+use x86_layout::mark_targets;
+
+/// The most bytes of an image that is held whole.
+const IMAGE_MAX: usize = 8192;
+
+/// A text that is read to its end, its image held whole.
+#[derive(Drop)]
+pub struct HeldText {
+    image: ArrayVec<u8, IMAGE_MAX>,
+    ending: Ending,
+}
+
+/// Reads a text to its end.
+fn read_whole<S: Source>(max: u64, source: &mut S) -> HeldText
+    requires { max ≤ 16384 }
+    ensures reads { ReadsWhole max result.image.items result.ending (S.left source.old) (S.left source.new) }
+    ensures faulted { Faulted (Some result.ending) (S.faults source.old) (S.faults source.new) }
+    ensures finished { Finished (Some result.ending) (S.left source.new) }
+{
+    let mut image = ArrayVec::new();
+    let mut reader = TextReader::new(max);
+    'pairs: loop {
+        match reader.next(source) {
+            Piece::Byte(byte) => image.push(byte),
+            Piece::Stopped(ending) => return HeldText { image, ending },
+        }
+    }
+}
+
+/// Marks the places of an image that the instructions of its sweep branch to.
+fn mark(decoder: &InstDecoder, image: &[u8], marks: &mut [bool; IMAGE_MAX])
+    requires { length image.now ≤ 8192 }
+    ensures { (p : ℕ) → p < length image.now → slice_index_or marks.new p false ≡ is_marked decoder.now.strict image.now p }
+{
+    mark_targets(decoder, image, &mut marks[..image.len()]);
+}
+
+fn place_line(place: u64) -> Line
+    ensures text { result.items ≡ decimal place }
+    ensures short { array_vec_len result ≤ 191 }
+{
+    let mut line = Line::new();
+    push_number(&mut line, place);
+    line
+}
+
+/// Writes the line of a place, where it is marked.
+fn put_if_marked<K: Sink>(sink: &mut K, marked: bool, place: u64) -> Result<(), SinkFailed>
+    ensures ok { OnOk result (K.written sink.new ≡ append_known (K.written sink.old) (line_if marked place)) }
+    ensures still { OnOk result (K.faults sink.new ≡ K.faults sink.old) }
+    ensures part { OnErr result ((n : ℕ) × (K.written sink.new ≡ append_known (K.written sink.old) (take n (line_if marked place)))) }
+    ensures cause { OnErr result (Rose (K.faults sink.old) (K.faults sink.new)) }
+{
+    if marked {
+        put_line(sink, place_line(place))
+    } else {
+        Ok(())
+    }
+}
+
+/// Writes the places that the instructions of a text branch to, of a text that is short enough to be held whole.
+pub fn targets<S: Source, K: Sink>(
+    decoder: &InstDecoder,
+    max: u64,
+    source: &mut S,
+    sink: &mut K,
+) -> Status
+    requires { max ≤ 16384 }
+    ensures says { Says (targets_at decoder.now.strict 0) max result
+        (record { left = S.left source.old; source_faults = S.faults source.old; written = K.written sink.old; sink_faults = K.faults sink.old })
+        (record { left = S.left source.new; source_faults = S.faults source.new; written = K.written sink.new; sink_faults = K.faults sink.new }) }
+    ensures unrefused { result ≢ Status.Refused }
+{
+    let text = read_whole(max, source);
+    let image = text.image.as_slice();
+    let mut marks = [false; IMAGE_MAX];
+    mark(decoder, image, &mut marks);
+    'places: for place in 0..image.len() {
+        match put_if_marked(sink, marks[place], place as u64) {
+            Ok(()) => {}
+            Err(_) => return Status::WriteFault,
+        }
+    }
+    match end(sink, text.ending) {
+        Ok(status) => status,
+        Err(_) => Status::WriteFault,
+    }
+}
