@@ -140,8 +140,8 @@ impl Window {
         ensures reader { self.new.reader ≡ self.old.reader }
         ensures ended { self.new.ended ≡ self.old.ended }
     {
-        for _ in 0..count {
-            self.bytes.remove(0);
-        }
+        let mut rest = ArrayVec::new();
+        let _ = rest.try_extend_from_slice(&self.bytes.as_slice()[count..]);
+        self.bytes = rest;
     }
 }
