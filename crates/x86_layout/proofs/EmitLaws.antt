@@ -6,7 +6,6 @@ use Rattle.x86_arch.specs.Reader.{State}
 use Rattle.x86_fields.specs.declared.DecodeError.{DecodeError}
 use Rattle.x86_fields.specs.declared.Prefixes.{Prefixes}
 use Rattle.x86_fields.specs.Run.{reading_of}
-use Rattle.x86_fields.specs.Steps.{outcome}
 use Rattle.x86_forms.specs.declared.Map.{Map}
 use Rattle.x86_forms.specs.declared.Map.TheVariants.{One, Of, Of38, Of3a}
 use Rattle.x86_forms.specs.declared.TableRow.{TableRow}
@@ -25,7 +24,7 @@ use Rattle.x86_layout.specs.declared.fields.Fields as fields
 use Rattle.x86_layout.specs.declared.entries.Entry.{Entry}
 use Rattle.x86_layout.specs.declared.writing.EmitError.{EmitError}
 use Rattle.x86_layout.specs.declared.writing.EmitError.TheVariants as error
-use Rattle.x86_layout.specs.Parts.{PartLists, Encoding, record_in, HasParts, joined}
+use Rattle.x86_layout.specs.Parts.{Encoding, record_in, HasParts, joined}
 use Rattle.x86_layout.specs.Front.{parts_of}
 use Rattle.x86_layout.specs.Fields.{lists_in, HasFieldLengths}
 use Rattle.x86_layout.specs.Permitted.{map_named, entry_by, entry_at, entry_of, record_by, has_legal_run, passes_record, has_asked_parts, tail_of, allows_lock, has_lawful_lock, is_short, unless, failing_at, first_failing, IsPermitted, ArePartsOfSentence}
@@ -33,7 +32,7 @@ use Rattle.x86_layout.proofs.PartLaws.{front_is}
 use Rattle.x86_layout.proofs.FrontLaws.{parts_are, parts_once}
 use Rattle.x86_layout.proofs.SplitLaws.{joined_is}
 use Rattle.x86_layout.proofs.LengthLaws.{lengths_of}
-use Rattle.x86_layout.proofs.SpellLaws.{same_number, SpellsFields, spelled, HoldsPieces, passes, asked}
+use Rattle.x86_layout.proofs.SpellLaws.{same_number, spelled, HoldsPieces, passes, asked}
 
 -- ---- the first that fails
 

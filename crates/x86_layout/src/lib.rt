@@ -215,7 +215,7 @@ mod tests {
     #[test]
     fn prefixes_are_taken_away(rt: HostRuntime) {
         let bytes = without_prefixes(&[0x66, 0x48, 0x01, 0xd8]).expect(&rt, "an encoding");
-        assert!(rt; bytes.as_slice() == &[0x01, 0xd8]);
+        assert!(rt; bytes.as_slice() == [0x01, 0xd8].as_slice());
     }
 
     #[test]
