@@ -16,7 +16,6 @@ use Rattle.x86_cli.specs.declared.command.Command.{Command}
 use Rattle.x86_cli.specs.declared.command.Command.TheVariants.{List as Listed, Sweep as Swept, Targets as Targeted}
 use Rattle.x86_cli.specs.Line.{instruction_text}
 use Rattle.x86_cli.specs.Command.{listing_for}
-use Rattle.x86_cli.specs.Sweep.{cut_length, sweep_from}
 use Rattle.x86_cli.specs.Text.{Text, text_of}
 use Rattle.x86_cli.specs.Listing.{Listing, front_of, sure_of, listing_from}
 use Rattle.x86_cli.specs.Run.{World, IsSound, Writes, full_listing, Says, Exactly, ReachesFault}
@@ -84,17 +83,11 @@ module _ (strict : Bool) (laws : DecoderLaws strict) (text : ℕ → Instruction
       ∙ ap (λ xs. (listing_from strict text (n + i.length) 0 xs Clean).status) dropped
       ∙ row_done (n + i.length) ss each.1
 
-sweep_done : (strict : Bool) (n k : ℕ) (xs : List ℕ) → (sweep_from strict n k xs Clean).status ≡ Done
-unfolding sweep_from
-sweep_done strict n k [] = refl
-sweep_done strict n zero (x ∷ xs) = sweep_done strict (n + 1) (cut_length (answer_of strict (x ∷ xs)) - 1) xs
-sweep_done strict n (suc k) (x ∷ xs) = sweep_done strict (n + 1) k xs
-
 -- the listing of a clean text whose image a command goes through
 text_done : (command : Command) → ((strict : Bool) → DecoderLaws strict) → (t : Text) → t.ending ≡ Clean → GoesThrough command t.image → (listing_for command t).status ≡ Done
 text_done (Listed strict) laws t clean row =
     rw (clean, row.whole) (row_done strict (laws strict) (λ place instruction bytes. instruction_text place instruction) 0 row.sentences row.each)
-text_done Swept laws t clean any = rw clean (sweep_done false 0 0 t.image)
+text_done Swept laws t clean any = rw clean refl
 text_done Targeted laws t clean any = rw clean refl
 
 pub completes : (command : Command) → ((strict : Bool) → DecoderLaws strict) → (max : ℕ) (old new : World) (result : Status) →

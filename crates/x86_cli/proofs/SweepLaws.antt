@@ -1,5 +1,6 @@
 -- The sweep by its cuts.
-use Rattle.std.proofs.Common.{Bool, ◌≡◌, ◌≢◌, ℕ, suc, zero, ◌+◌, ◌-◌, ◌<◌, ◌≤◌, List, [], ◌∷◌, ◌++◌, length, drop, Option, Some, None, Result, Ok, Err, refl, arith, ap, ◌∙◌, sym, length-append}
+use Rattle.std.proofs.Common.{Bool, ◌≡◌, ◌≢◌, ℕ, ◌+◌, ◌<◌, ◌≤◌, List, [], ◌++◌, length, drop, Option, Some, None, Result, Ok, Err, refl, arith, ap, ◌∙◌, sym, length-append}
+use Rattle.std.specs.List.{flat_map}
 use Rattle.std.proofs.lemmas.List.{drop-append-le}
 use Rattle.x86_decode.specs.declared.instructions.Instruction.{Instruction}
 use Rattle.x86_fields.specs.declared.DecodeError.{DecodeError}
@@ -15,32 +16,19 @@ use Rattle.x86_cli.specs.declared.sweep.Cut.TheVariants.{Piece}
 use Rattle.x86_cli.specs.Line.{line}
 use Rattle.x86_cli.specs.Listing.{with_bytes, at_end}
 use Rattle.x86_cli.specs.Window.{rest_of}
-use Rattle.x86_cli.specs.Sweep.{cut_text, cut_length, sweep_from, sweep_at, ShowsCut}
+use Rattle.x86_layout.specs.Cuts.{cut_length, cut_at, cuts_from}
+use Rattle.x86_layout.proofs.CutLaws.{first_and_rest, none_left}
+use Rattle.x86_cli.specs.Sweep.{cut_text, cut_line, sweep_at, ShowsCut}
+use Rattle.x86_cli.proofs.Stands.{with-with}
 
 module _ (strict : Bool) where
-  sweep-skip : (n k : ℕ) (xs : List ℕ) (e : Ending) → k ≤ length xs → sweep_from strict n k xs e ≡ sweep_from strict (n + k) 0 (drop k xs) e
-  unfolding sweep_from
-  sweep-skip n zero xs e le = let same : n + 0 ≡ n = omega arith in rw same refl
-  sweep-skip n (suc k) [] e le = absurd (omega arith)
-  sweep-skip n (suc k) (x ∷ xs) e le =
-      let le' : k ≤ length xs = omega arith in
-      let place : n + suc k ≡ (n + 1) + k = omega arith in
-      rw place (sweep-skip (n + 1) k xs e le')
-
-  cut-at : (n k : ℕ) (xs : List ℕ) (e : Ending) (a : Result Instruction DecodeError) → answer_of strict xs ≡ a → cut_length a ≡ suc k → suc k ≤ length xs →
-      sweep_from strict n 0 xs e ≡ with_bytes (line (cut_text n a)) (sweep_from strict (n + suc k) 0 (drop (suc k) xs) e)
-  unfolding sweep_from
-  cut-at n k [] e a h len le = absurd (omega arith)
-  cut-at n k (x ∷ xs) e a h len le =
-      let less : cut_length a - 1 ≡ k = omega arith in
-      let le' : k ≤ length xs = omega arith in
-      let place : n + suc k ≡ (n + 1) + k = omega arith in
-      rw (h, less, place) (ap (with_bytes (line (cut_text n a))) (sweep-skip (n + 1) k xs e le'))
-
   sweep-cut : (n len : ℕ) (xs : List ℕ) (e : Ending) (a : Result Instruction DecodeError) → answer_of strict xs ≡ a → cut_length a ≡ len → 0 < len → len ≤ length xs →
-      sweep_from strict n 0 xs e ≡ with_bytes (line (cut_text n a)) (sweep_from strict (n + len) 0 (drop len xs) e)
-  sweep-cut n zero xs e a h same some le = absurd (omega arith)
-  sweep-cut n (suc k) xs e a h same some le = cut-at n k xs e a h same le
+      sweep_at strict n (record { image = xs; ending = e }) ≡ with_bytes (line (cut_text n a)) (sweep_at strict (n + len) (record { image = drop len xs; ending = e }))
+  sweep-cut n len xs e a h same some le =
+      let behind : List ℕ = flat_map cut_line (cuts_from strict (n + len) (drop len xs)) in
+      ap (λ cs. with_bytes (flat_map cut_line cs) (at_end e)) (first_and_rest strict len n xs (ap cut_length h ∙ same) some (omega arith))
+      ∙ sym (with-with (cut_line (cut_at strict n xs)) behind (at_end e))
+      ∙ ap (λ a. with_bytes (line (cut_text n a)) (with_bytes behind (at_end e))) h
 
   -- one cut of the rest
   pub rest_cut : (ended : Option Ending) (n : ℕ) (w : List ℕ) (p r : ℕ) (a : Result Instruction DecodeError) → ShowsCut strict (Piece a) ended w p r → (xs : List ℕ) (stop : Stop) →
@@ -49,12 +37,11 @@ module _ (strict : Bool) where
       let t : Text = text_at p r xs stop in
       let fits : cut_length a ≤ length (w ++ t.image) = simp length-append (omega (arith, shows.1)) in
       sweep-cut n (cut_length a) (w ++ t.image) t.ending a (shows.2 xs stop) refl shows.0 fits
-      ∙ ap (λ ys. with_bytes (line (cut_text n a)) (sweep_from strict (n + cut_length a) 0 ys t.ending)) (drop-append-le (cut_length a) w t.image shows.1)
+      ∙ ap (λ ys. with_bytes (line (cut_text n a)) (sweep_at strict (n + cut_length a) (record { image = ys; ending = t.ending }))) (drop-append-le (cut_length a) w t.image shows.1)
   rest_cut (Some e) n w p r a shows xs stop = sweep-cut n (cut_length a) w e a (shows.2 xs stop) refl shows.0 shows.1
 
   pub rest_end : (n : ℕ) (w : List ℕ) (e : Ending) → w ≡ [] → sweep_at strict n (record { image = w; ending = e }) ≡ at_end e
-  unfolding sweep_from
-  rest_end n w e none = rw none refl
+  rest_end n w e none = ap (λ xs. sweep_at strict n (record { image = xs; ending = e })) none ∙ ap (λ cs. with_bytes (flat_map cut_line cs) (at_end e)) (none_left strict n [] refl)
 
   -- no sweep refuses
   pub end_unrefused : (e : Ending) (status : Status) → status ≡ (at_end e).status → status ≢ outcome.Refused

@@ -1,7 +1,11 @@
-use Rattle.std.specs.Prelude.{Bool, ◌≡◌, ℕ, ◌+◌, ◌-◌, ◌<◌, ◌≤◌, List, [], ◌∷◌, length, Option, Some, Result, Ok, Err, zero, suc}
+-- The listing of a sweep.
+use Rattle.std.specs.Prelude.{Bool, ◌≡◌, ℕ, ◌<◌, ◌≤◌, List, [], length, Option, Some, Result, Ok, Err}
+use Rattle.std.specs.List.{flat_map}
 use Rattle.x86_decode.specs.declared.instructions.Instruction.{Instruction}
 use Rattle.x86_fields.specs.declared.DecodeError.{DecodeError}
 use Rattle.x86_decode.specs.Answer.{answer_of}
+use Rattle.x86_layout.specs.declared.cuts.Cut.{Cut as SweptCut}
+use Rattle.x86_layout.specs.Cuts.{cut_length, cuts_from}
 use Rattle.x86_cli.specs.declared.text.Ending.{Ending}
 use Rattle.x86_cli.specs.declared.text.Stop.{Stop}
 use Rattle.x86_cli.specs.Text.{Text}
@@ -16,19 +20,15 @@ abbrev pub cut_text : ℕ → Result Instruction DecodeError → List ℕ
 cut_text place (Ok i) = instruction_text place i
 cut_text place (Err e) = refusal_text place e
 
-abbrev pub cut_length : Result Instruction DecodeError → ℕ
-cut_length (Ok i) = i.length
-cut_length (Err e) = 1
+-- the line of a cut of the image
+abbrev pub cut_line : SweptCut → List ℕ
+cut_line c = line (cut_text c.place c.answer)
 
-unfoldable pub sweep_from : Bool → ℕ → ℕ → List ℕ → Ending → Listing
-sweep_from strict place skip [] e = at_end e
-sweep_from strict place zero (x ∷ xs) e =
-    with_bytes (line (cut_text place (answer_of strict (x ∷ xs)))) (sweep_from strict (place + 1) (cut_length (answer_of strict (x ∷ xs)) - 1) xs e)
-sweep_from strict place (suc skip) (x ∷ xs) e = sweep_from strict (place + 1) skip xs e
-
+-- The sweep of a text whose image stands from a place on: a line for each cut of the image, in order, and then the end's.
 abbrev pub sweep_at : Bool → ℕ → Text → Listing
-sweep_at strict place t = sweep_from strict place 0 t.image t.ending
+sweep_at strict place t = with_bytes (flat_map cut_line (cuts_from strict place t.image)) (at_end t.ending)
 
+-- what a window shows of its front: the next cut, or the end
 abbrev pub ShowsCut : Bool → Cut → Option Ending → List ℕ → ℕ → ℕ → Type 0
 ShowsCut strict (Piece a) ended w place room =
     (0 < cut_length a) × (cut_length a ≤ length w) × ((xs : List ℕ) (stop : Stop) → answer_of strict (rest_of ended w place room xs stop).image ≡ a)

@@ -3,7 +3,8 @@
 ghost use Rattle.std.specs.Prelude.{◌≡◌, ◌≢◌, ◌<◌, ◌≤◌, ◌^◌, None};
 ghost use Rattle.arrayvec.specs.ArrayVec.{array_vec_len};
 ghost use Rattle.x86_cli.specs.Run.{World, Says};
-ghost use Rattle.x86_cli.specs.Sweep.{cut_text, cut_length, sweep_at, ShowsCut};
+ghost use Rattle.x86_layout.specs.Cuts.{cut_length};
+ghost use Rattle.x86_cli.specs.Sweep.{cut_text, sweep_at, ShowsCut};
 
 use crate::laws::decoder_laws;
 use crate::line::{Line, line_of, refusal_of};

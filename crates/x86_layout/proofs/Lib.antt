@@ -1,4 +1,4 @@
-mod CutLaws
+pub mod CutLaws
 mod EmitLaws
 mod FrontLaws
 mod LengthLaws
