@@ -13,6 +13,8 @@ use Rattle.x86_operands.specs.declared.operands.Slot.{Slot}
 use Rattle.x86_operands.specs.declared.operands.Slot.TheVariants as slots
 use Rattle.x86_operands.specs.declared.operands.Operand.{Operand}
 use Rattle.x86_operands.specs.declared.operands.Operand.TheVariants as operands
+use Rattle.x86_operands.specs.declared.asks.Ask.{Ask}
+use Rattle.x86_operands.specs.contracts.asks.AskPartialEq.TheImpl as ask
 use Rattle.x86_operands.specs.contracts.operands.OperandPartialEq.TheImpl as operand
 use Rattle.x86_operands.specs.contracts.operands.SlotPartialEq.TheImpl as slot
 use Rattle.x86_operands.specs.contracts.operands.MemoryAccessSizePartialEq.TheImpl as size
@@ -40,6 +42,9 @@ same_roundings a b h = search rules
 
 pub same_sizes : (a b : MemoryAccessSize) → size.ghosts.eq a b ≡ true → a ≡ b
 same_sizes a b h = search rules
+
+pub same_asks : (a b : Ask) → ask.ghosts.eq a b ≡ true → a ≡ b
+same_asks a b h = search rules
 
 pub same_slots : (a b : Slot) → slot.ghosts.eq a b ≡ true → a ≡ b
 same_slots slots.Nothing slots.Nothing h = refl

@@ -9,13 +9,14 @@ ghost use Rattle.x86_operands.specs.declared.plans.Moment.{Moment};
 ghost use Rattle.x86_operands.specs.declared.plans.Verdict.TheVariants.{Refuses};
 ghost use Rattle.x86_operands.specs.Forms.{form_record};
 
-use crate::{MemoryAccessSize, Operand, Slot};
+use crate::{Ask, MemoryAccessSize, Operand, Slot};
 
-/// Operands, slots and memory sizes are equal exactly where they are the same.
+/// Operands, slots, memory sizes and asks are equal exactly where they are the same.
 pub fn values_are_equal()
     ensures operands { (a b : Operand) → IsTrue (⟦<Operand as PartialEq>⟧.eq a b) ↔ (a ≡ b) }
     ensures slots { (a b : Slot) → IsTrue (⟦<Slot as PartialEq>⟧.eq a b) ↔ (a ≡ b) }
     ensures sizes { (a b : MemoryAccessSize) → IsTrue (⟦<MemoryAccessSize as PartialEq>⟧.eq a b) ↔ (a ≡ b) }
+    ensures asks { (a b : Ask) → IsTrue (⟦<Ask as PartialEq>⟧.eq a b) ↔ (a ≡ b) }
 {}
 
 /// No record of a plain form refuses at the opcode byte.
