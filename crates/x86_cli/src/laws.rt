@@ -1,9 +1,12 @@
-//! Laws of the text, and those of the decoder on which the window stands.
+//! Laws of the text and of the values of the outside, and those of the decoder on which the window stands.
 
-ghost use Rattle.std.specs.Prelude.{Bool};
+ghost use Rattle.std.specs.Prelude.{◌≡◌, ◌↔◌, Bool, IsTrue};
 ghost use Rattle.x86_cli.specs.DecoderLaws.{DecoderLaws};
 ghost use Rattle.x86_cli.specs.Rows.{RowsAreSound, BadIsFirst};
 
+use crate::sink::SinkFailed;
+use crate::source::Got;
+use crate::status::Status;
 use x86_decode::laws;
 
 /// No byte is bad exactly in a row of blanks and pairs.
@@ -25,3 +28,10 @@ pub fn decoder_laws()
     laws::fifteen_are_enough();
     laws::empty_input();
 }
+
+/// What a source gives, refusals of a sink, and statuses are equal exactly where they are the same.
+pub fn values_are_equal()
+    ensures given { (a b : Got) → IsTrue (⟦<Got as PartialEq>⟧.eq a b) ↔ (a ≡ b) }
+    ensures refusals { (a b : SinkFailed) → IsTrue (⟦<SinkFailed as PartialEq>⟧.eq a b) ↔ (a ≡ b) }
+    ensures statuses { (a b : Status) → IsTrue (⟦<Status as PartialEq>⟧.eq a b) ↔ (a ≡ b) }
+{}
