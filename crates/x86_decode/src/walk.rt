@@ -18,7 +18,8 @@ use x86_forms::{Column, Map, TableRow, Words, unpack};
 use x86_groups::read_group;
 use x86_operands::{Reading, Slot, read_form};
 
-fn is_prefix(byte: u8) -> bool
+/// Whether the byte is a legacy prefix or a REX.
+pub fn is_prefix(byte: u8) -> bool
     ensures { result ≡ is_prefix_byte byte }
 {
     is_legacy(byte) || is_rex(byte)
@@ -60,7 +61,8 @@ fn read_head<T: Reader<u64, u8>>(words: &mut T) -> Result<(Prefixes, u8), Decode
     read_on(words, prefixes.after(second))
 }
 
-fn vex(byte: u8) -> bool
+/// Whether the byte is C4, C5 or 62.
+pub fn is_vex(byte: u8) -> bool
     ensures { result ≡ is_vex byte }
 {
     byte == 0xc4 || byte == 0xc5 || byte == 0x62
@@ -99,7 +101,7 @@ fn read_opcode<T: Reader<u64, u8>>(
 ) -> Result<(Map, u8), DecodeError>
     ensures { outcome result (T.state words.new) ≡ opcode_step prefixes.now byte (T.state words.old) }
 {
-    if vex(byte) {
+    if is_vex(byte) {
         Err(vex_refusal(prefixes))
     } else if byte == 0x0f {
         let second = next_byte(words)?;
@@ -109,7 +111,8 @@ fn read_opcode<T: Reader<u64, u8>>(
     }
 }
 
-fn selected(prefixes: &Prefixes) -> Column
+/// The column of the opcode tables behind a run that reads so.
+pub fn selected(prefixes: &Prefixes) -> Column
     ensures { result ≡ column_of prefixes.now }
 {
     if prefixes.repnz() {
@@ -123,8 +126,8 @@ fn selected(prefixes: &Prefixes) -> Column
     }
 }
 
-/// The prefixes as a record sees them.
-fn seen_by(map: Map, byte: u8, prefixes: Prefixes) -> Prefixes
+/// The prefixes as a record sees them: 66 that chooses the operation is cleared.
+pub fn seen_by(map: Map, byte: u8, prefixes: Prefixes) -> Prefixes
     ensures { result ≡ seen map byte prefixes }
 {
     match (map, selected(&prefixes)) {
@@ -145,14 +148,15 @@ fn slot_0(reading: &Reading) -> Slot
     reading.slots[0]
 }
 
-fn allows_lock(reading: &Reading) -> bool
+/// Whether F0 is absent, or stands in front of an operation that takes it, with memory as its first operand.
+pub fn allows_lock(reading: &Reading) -> bool
     ensures { result ≡ lock_allowed reading.now }
 {
     !reading.prefixes.lock() || (reading.opcode.can_lock() && slot_0(reading).is_memory())
 }
 
 /// What a row asks behind its opcode byte.
-fn read_row<T: Reader<u64, u8>>(
+pub fn read_row<T: Reader<u64, u8>>(
     strict: bool,
     row: TableRow,
     prefixes: Prefixes,

@@ -8,8 +8,8 @@ ghost use Rattle.x86_fields.specs.Raw.{raw_step, disp_step, sib_step, disp_width
 use crate::{DecodeError, Prefixes, Raw, next_byte, read_u8, read_u32};
 use x86_arch::Reader;
 
-/// How many bytes of displacement a memory form has.
-fn displacement_width(modrm: u8, sib: Option<u8>) -> u8
+/// How many bytes of displacement a memory form has, by ModRM and SIB (Intel SDM volume 2, section 2.1.5).
+pub fn displacement_width(modrm: u8, sib: Option<u8>) -> u8
     ensures { result ≡ disp_width modrm sib }
 {
     let low = match sib {

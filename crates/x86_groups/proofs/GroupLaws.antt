@@ -12,7 +12,8 @@ use Rattle.x86_groups.specs.Keys.{is_f3_alone, fault_f30f3af0}
 use Rattle.x86_operands.specs.declared.plans.Moment.{Moment}
 use Rattle.x86_operands.specs.declared.plans.Moment.TheVariants.{AfterAddress}
 use Rattle.x86_operands.specs.declared.plans.Verdict.TheVariants.{Refuses}
-use Rattle.x86_operands.proofs.PlanTests.{passes, small_steps, without_gap, at_most_64}
+use Rattle.x86_operands.specs.Asks.{immediates_width}
+use Rattle.x86_operands.proofs.PlanTests.{passes, small_steps, without_gap, at_most_64, at_most_8}
 use Rattle.x86_groups.specs.Choice.{reg}
 use Rattle.x86_groups.specs.Groups.{group_fault, form_plan, two_byte_plan, three_byte_plan, group_record}
 use Rattle.x86_groups.proofs.PlanLaws.{plan_80_passes, plan_81_passes, plan_83_passes, plan_c0_passes, plan_c1_passes, plan_c6_passes, plan_c7_passes, plan_d0_passes, plan_d1_passes, plan_d2_passes, plan_d3_passes, plan_d8_passes, plan_d9_passes, plan_da_passes, plan_db_passes, plan_dc_passes, plan_dd_passes, plan_de_passes, plan_df_passes, plan_f6_passes, plan_f7_passes, plan_fe_passes, plan_ff_passes, plan_0f00_passes, plan_0f01_passes, plan_0f0d_passes, plan_0f0f_passes, plan_0f12_passes, plan_0f16_passes, plan_0f18_passes, plan_rq_cq_passes, plan_rq_dq_passes, plan_cq_rq_passes, plan_dq_rq_passes, plan_0f71_passes, plan_0f72_passes, plan_0f73_passes, plan_0fae_passes, plan_0fba_passes, plan_0fc7_passes, plan_660f78_passes, plan_f20f78_passes, plan_f30f1e_passes, plan_f30f38d8_passes, plan_f30f38dc_passes, plan_f30f38dd_passes, plan_f30f38de_passes, plan_f30f38df_passes, plan_f30f38fa_passes, plan_f30f38fb_passes, plan_f30f3af0_passes, plan_8f_passes, plan_8f_moment}
@@ -89,6 +90,10 @@ group_passes f o strict p m = two_byte_passes f o strict p m
 pub group_small : (strict : Bool) (row : TableRow) (p : Prefixes) (m : ℕ) → ((group_record strict row p).plan m).size ≤ 64
 unfolding group_record
 group_small strict row p m = at_most_64 (has_wait row.form m) (form_plan row.form row.opcode strict p m) (group_passes row.form row.opcode strict p m)
+
+pub group_narrow : (strict : Bool) (row : TableRow) (p : Prefixes) (m : ℕ) → immediates_width ((group_record strict row p).plan m).signs ≤ 8
+unfolding group_record
+group_narrow strict row p m = at_most_8 (has_wait row.form m) (form_plan row.form row.opcode strict p m) (group_passes row.form row.opcode strict p m)
 
 opcode_fault : (b : Bool) → (if b then None else Some BadOpcode) ≢ Some Incomplete
 opcode_fault true e = absurd cc

@@ -13,7 +13,7 @@ use Rattle.x86_operands.specs.declared.plans.Moment.TheVariants.{AfterAddress}
 use Rattle.x86_operands.specs.declared.plans.Verdict.TheVariants.{Refuses}
 use Rattle.x86_operands.specs.declared.plans.Plan.{Plan}
 use Rattle.x86_operands.specs.Plans.{reads, refuses, size_by}
-use Rattle.x86_operands.proofs.PlanTests.{passes, small_steps}
+use Rattle.x86_operands.proofs.PlanTests.{narrow, both, passes, small_steps}
 use Rattle.x86_groups.specs.Choice.{reg}
 use Rattle.x86_groups.specs.Arithmetic.{plan_80, plan_81, plan_83, plan_c0, plan_c1, plan_d0, plan_d1, plan_d2, plan_d3, plan_f6, plan_f7}
 use Rattle.x86_groups.specs.Operations.{plan_8f, plan_c6, plan_c7, plan_fe, plan_ff}
@@ -72,10 +72,10 @@ pub plan_f7_passes : (p : Prefixes) (m : ℕ) → passes false (plan_f7 p m) ≡
 unfolding plan_f7
 plan_f7_passes p m = search (rules, small_steps) depth 20
 
-refusal_passes : (b : Bool) (x y : Plan) → passes false x ≡ true → nat_lt y.size 65 ≡ true → passes (not b) (if b then x else y) ≡ true
+refusal_passes : (b : Bool) (x y : Plan) → passes false x ≡ true → nat_lt y.size 65 ≡ true → narrow y.signs ≡ true → passes (not b) (if b then x else y) ≡ true
 unfolding passes
-refusal_passes true x y h k = h
-refusal_passes false x y h k = k
+refusal_passes true x y h k w = h
+refusal_passes false x y h k w = both (nat_lt y.size 65) (narrow y.signs) k w
 
 -- 8F with a reg other than 0 has a gap
 pub plan_8f_passes : (p : Prefixes) (m : ℕ) → passes (not (reg m == 0)) (plan_8f p m) ≡ true

@@ -5,7 +5,7 @@ ghost use Rattle.std.specs.Prelude.{◌≡◌, Bool, true};
 ghost use Rattle.x86_arch.specs.Reader.{State};
 ghost use Rattle.x86_fields.specs.Steps.{outcome};
 ghost use Rattle.x86_forms.specs.Groups.{is_group_form};
-ghost use Rattle.x86_operands.specs.Asks.{ask_of};
+ghost use Rattle.x86_operands.specs.Asks.{ask_of, record_at};
 ghost use Rattle.x86_operands.specs.Signs.{record_step};
 ghost use Rattle.x86_groups.specs.Groups.{form_plan, three_byte_plan, two_byte_plan, group_fault, group_modrm, group_record};
 
@@ -48,7 +48,9 @@ use x86_fields::{DecodeError, Prefixes};
 use x86_forms::{Form, TableRow};
 use x86_opcodes::Opcode;
 use x86_operands::plans::{Fault, ModrmUse, Plan};
-use x86_operands::{Ask, Reading, plan_ask, read_modrm, read_plan, refuse, used_modrm};
+use x86_operands::{
+    Ask, Reading, RecordAt, plan_ask, read_modrm, read_plan, refuse, used_modrm, used_or_none,
+};
 
 fn fault(form: Form, prefixes: &Prefixes) -> Option<Fault>
     ensures { result ≡ group_fault form prefixes.now }
@@ -183,6 +185,22 @@ pub fn group_ask(row: TableRow, prefixes: Prefixes, modrm: u8) -> Ask
     let modrm = used_modrm(usage, modrm);
     let plan = form_plan(row.form, row.opcode, false, &prefixes, modrm);
     plan_ask(usage, modrm, &plan)
+}
+
+/// The record of a row whose form is a group, at a ModRM byte.
+#[tactic(auto, unfolding(crate::specs::Groups::group_record, x86_operands::specs::Asks::record_at))]
+pub fn group_at(row: TableRow, prefixes: Prefixes, modrm: Option<u8>, strict: bool) -> RecordAt
+    requires { is_group_form row.form ≡ true }
+    ensures { result ≡ record_at (group_record strict row prefixes) modrm }
+{
+    let usage = modrm_use(row.form);
+    let modrm = used_or_none(usage, modrm);
+    RecordAt {
+        at_opcode: fault(row.form, &prefixes),
+        usage,
+        modrm,
+        plan: form_plan(row.form, row.opcode, strict, &prefixes, modrm),
+    }
 }
 
 #[cfg(test)]

@@ -1,5 +1,9 @@
 mod CutLaws
+mod EmitLaws
+mod FrontLaws
+mod LengthLaws
 mod MarkLaws
 mod PartLaws
 mod PlaceLaws
+mod SpellLaws
 mod SplitLaws

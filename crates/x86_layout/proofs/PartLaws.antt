@@ -141,7 +141,7 @@ sib_by false used raw h = refl
 large : (n : ℕ) → is_memory (0xc0 + n) ≡ false
 large n = grind (arith, nat_tests)
 
-as_it_stands : (u : ModrmUse) (m : ℕ) → is_memory (used u m) ≡ true → used u m ≡ m
+pub as_it_stands : (u : ModrmUse) (m : ℕ) → is_memory (used u m) ≡ true → used u m ≡ m
 as_it_stands Absent m e = absurd (let h : false ≡ true = e in cc)
 as_it_stands Fields m e = refl
 as_it_stands Registers m e = absurd (let h : false ≡ true = sym (large (m % 0x40)) ∙ e in cc)
@@ -166,17 +166,18 @@ sib_within p m address (Some raw) h =
 
 -- ---- the counts that an ask tells
 
-module _ (r : RowRecord) (p : Prefixes) (tail : List ℕ) (reading : Reading) (a : SpellsRow r p tail reading) (ask : Ask) (k : ask ≡ ask_of r (slice_index tail 0)) where
-  read_as : modrm_of r.modrm a.modrm ≡ used r.modrm (slice_index tail 0)
-  read_as = used_is r.modrm a.modrm a.tail tail a.spelled a.modrm_asked
+-- behind the pieces of a row stand further bytes
+module _ (r : RowRecord) (p : Prefixes) (tail : List ℕ) (reading : Reading) (a : SpellsRow r p tail reading) (all more : List ℕ) (e : all ≡ a.modrm ++ more) (ask : Ask) (k : ask ≡ ask_of r (slice_index all 0)) where
+  pub read_as : modrm_of r.modrm a.modrm ≡ used r.modrm (slice_index all 0)
+  read_as = used_is r.modrm a.modrm more all e a.modrm_asked
 
   pub modrm_count : one_if ask.modrm ≡ length a.modrm
   unfolding ask_of
   modrm_count = ap (λ x. one_if x.modrm) k ∙ modrm_long r.modrm a.modrm a.modrm_asked
 
-  pub sib_count : one_if (asks_sib ask (slice_index tail 0)) ≡ sib_width (modrm_of r.modrm a.modrm)
+  pub sib_count : one_if (asks_sib ask (slice_index all 0)) ≡ sib_width (modrm_of r.modrm a.modrm)
   unfolding ask_of
-  sib_count = ap (λ x. one_if (asks_sib x (slice_index tail 0))) k ∙ sib_asked r.modrm (slice_index tail 0) ∙ ap sib_width (sym read_as)
+  sib_count = ap (λ x. one_if (asks_sib x (slice_index all 0))) k ∙ sib_asked r.modrm (slice_index all 0) ∙ ap sib_width (sym read_as)
 
   pub immediate_count : ask.immediate ≡ length a.behind.pieces.immediates
   unfolding ask_of

@@ -1,7 +1,10 @@
 pub mod Branches
 pub mod Cuts
+pub mod Fields
+pub mod Front
 pub mod Heads
 pub mod Lengths
 pub mod Marks
 pub mod Parts
+pub mod Permitted
 pub mod Sweeps

@@ -12,6 +12,30 @@ use Rattle.x86_decode.specs.Grammar.{Whole, record_of}
 use Rattle.x86_decode.specs.Answer.{answer_of}
 use Rattle.x86_layout.specs.declared.parts.Parts.{Parts}
 
+-- the parts of an encoding, as lists of bytes
+pub record PartLists : Type 0 where
+  pub prefixes : List ℕ
+  pub escape : List ℕ
+  pub opcode : List ℕ
+  pub modrm : List ℕ
+  pub sib : List ℕ
+  pub displacement : List ℕ
+  pub immediate : List ℕ
+  pub suffix : List ℕ
+
+-- the bytes of the slices
+abbrev pub lists_of : Parts → PartLists
+lists_of p = record {
+  prefixes = p.prefixes.now;
+  escape = p.escape.now;
+  opcode = p.opcode.now;
+  modrm = p.modrm.now;
+  sib = p.sib.now;
+  displacement = p.displacement.now;
+  immediate = p.immediate.now;
+  suffix = p.suffix.now;
+}
+
 -- whole encodings by the printed rows
 abbrev pub Encoding : Bool → List ℕ → Reading → Type 0
 Encoding strict s reading = Whole (rows_of word_at) strict s reading
@@ -26,19 +50,19 @@ module _ (strict : Bool) (s : List ℕ) (reading : Reading) (w : Encoding strict
   record_in = record_of strict w.row (seen w.map w.opcode (reading_of w.run))
 
   -- These are the pieces of a whole encoding: SIB and displacement together are the bytes of its address.
-  pub record HasParts (parts : Parts) : Type 0 where
-    pub prefixes : parts.prefixes.now ≡ w.run
-    pub escape : parts.escape.now ≡ escape_bytes w.map
-    pub opcode : parts.opcode.now ≡ w.opcode ∷ []
-    pub modrm : parts.modrm.now ≡ w.asked.modrm
-    pub sib : length parts.sib.now ≡ sib_width (modrm_of record_in.modrm w.asked.modrm)
-    pub address : parts.sib.now ++ parts.displacement.now ≡ w.asked.behind.pieces.address
-    pub immediate : parts.immediate.now ≡ w.asked.behind.pieces.immediates
-    pub suffix : parts.suffix.now ≡ w.asked.behind.pieces.suffix
+  pub record HasParts (parts : PartLists) : Type 0 where
+    pub prefixes : parts.prefixes ≡ w.run
+    pub escape : parts.escape ≡ escape_bytes w.map
+    pub opcode : parts.opcode ≡ w.opcode ∷ []
+    pub modrm : parts.modrm ≡ w.asked.modrm
+    pub sib : length parts.sib ≡ sib_width (modrm_of record_in.modrm w.asked.modrm)
+    pub address : parts.sib ++ parts.displacement ≡ w.asked.behind.pieces.address
+    pub immediate : parts.immediate ≡ w.asked.behind.pieces.immediates
+    pub suffix : parts.suffix ≡ w.asked.behind.pieces.suffix
 
 -- the parts in order
-abbrev pub joined : Parts → List ℕ
-joined p = p.prefixes.now ++ (p.escape.now ++ (p.opcode.now ++ (p.modrm.now ++ ((p.sib.now ++ p.displacement.now) ++ (p.immediate.now ++ p.suffix.now)))))
+abbrev pub joined : PartLists → List ℕ
+joined p = p.prefixes ++ (p.escape ++ (p.opcode ++ (p.modrm ++ ((p.sib ++ p.displacement) ++ (p.immediate ++ p.suffix)))))
 
 -- The bytes begin with an accepted encoding, which has these parts.
 pub record IsSplit (strict : Bool) (bytes : List ℕ) (split : Parts) : Type 0 where
@@ -50,5 +74,5 @@ pub record IsSplit (strict : Bool) (bytes : List ℕ) (split : Parts) : Type 0 w
   pub begins : bytes ≡ encoding ++ rest
   pub long : length encoding ≡ instruction.length
   pub whole : Encoding strict encoding reading
-  pub parts : HasParts strict encoding reading whole split
-  pub together : joined split ≡ encoding
+  pub parts : HasParts strict encoding reading whole (lists_of split)
+  pub together : joined (lists_of split) ≡ encoding

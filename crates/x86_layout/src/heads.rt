@@ -12,8 +12,9 @@ ghost use Rattle.x86_layout.specs.Heads.{map_by, IsHead};
 ghost use Rattle.x86_layout.specs.Parts.{Encoding};
 ghost use Rattle.x86_operands.specs.declared.reader.Reading.{Reading};
 
-use x86_fields::{Prefixes, is_legacy, is_rex, read_run};
-use x86_forms::{Column, Map, TableRow, packed, unpack};
+use x86_decode::{is_prefix, seen_by, selected};
+use x86_fields::{Prefixes, read_run};
+use x86_forms::{Map, TableRow, packed, unpack};
 use x86_groups::group_ask;
 use x86_operands::{Ask, form_ask};
 
@@ -47,12 +48,6 @@ pub fn byte_at(bytes: &[u8], place: usize) -> u8
         Some(byte) => *byte,
         None => 0,
     }
-}
-
-fn is_prefix(byte: u8) -> bool
-    ensures { result ≡ is_prefix_byte byte }
-{
-    is_legacy(byte) || is_rex(byte)
 }
 
 /// How many prefix bytes stand in front.
@@ -92,36 +87,6 @@ fn escape_length(map: Map) -> usize
         Map::One => 0,
         Map::Of => 1,
         Map::Of38 | Map::Of3a => 2,
-    }
-}
-
-fn selected(prefixes: &Prefixes) -> Column
-    ensures { result ≡ column_of prefixes.now }
-{
-    if prefixes.repnz() {
-        Column::F2
-    } else if prefixes.rep() {
-        Column::F3
-    } else if prefixes.operand_size() {
-        Column::P66
-    } else {
-        Column::Plain
-    }
-}
-
-/// The prefixes as a record sees them: 66 that chooses the operation is cleared.
-fn seen_by(map: Map, byte: u8, prefixes: Prefixes) -> Prefixes
-    ensures { result ≡ seen map byte prefixes }
-{
-    match (map, selected(&prefixes)) {
-        (Map::Of38, Column::P66) => {
-            if byte == 0xf0 || byte == 0xf1 {
-                prefixes
-            } else {
-                prefixes.without_operand_size()
-            }
-        }
-        _ => prefixes,
     }
 }
 

@@ -1,10 +1,17 @@
-//! What follows from the definition of the cuts.
+//! What follows from the definitions of the cuts and of the parts.
 
-ghost use Rattle.std.specs.Prelude.{◌≡◌, ℕ, ◌+◌, ◌<◌, ◌≤◌, Bool, List, [], ◌∷◌, length, drop};
+ghost use Rattle.std.specs.Prelude.{◌≡◌, ℕ, ◌+◌, ◌<◌, ◌≤◌, Bool, List, [], ◌∷◌, ◌++◌, length, take, drop, Ok};
 ghost use Rattle.std.specs.List.{sum_by, All};
 ghost use Rattle.x86_decode.specs.Answer.{answer_of};
 ghost use Rattle.x86_layout.specs.Cuts.{cut_length, cut_at, cuts_from, cuts_of};
 ghost use Rattle.x86_layout.specs.Lengths.{IsWithin};
+ghost use Rattle.x86_operands.specs.declared.reader.Reading.{Reading};
+ghost use Rattle.x86_layout.specs.Parts.{Encoding, HasParts, joined};
+ghost use Rattle.x86_decode.specs.declared.instructions.Instruction.{Instruction};
+ghost use Rattle.x86_layout.specs.declared.fields.Fields.{Fields};
+ghost use Rattle.x86_layout.specs.Front.{parts_of};
+ghost use Rattle.x86_layout.specs.Fields.{lists_in};
+ghost use Rattle.x86_layout.specs.Permitted.{IsPermitted};
 
 use x86_decode::laws;
 
@@ -23,5 +30,27 @@ pub fn cuts_cover()
     ensures sum { (strict : Bool) (xs : List ℕ) → sum_by (λ c. c.length) (cuts_of strict xs) ≡ length xs }
     ensures count { (strict : Bool) (xs : List ℕ) → length (cuts_of strict xs) ≤ length xs }
 {
+    laws::lengths();
+}
+
+/// The pieces of every whole encoding at the front of bytes are the parts of those bytes, whatever stands behind it.
+pub fn parts_are_those_of_the_bytes()
+    ensures { (strict : Bool) (s rest : List ℕ) (reading : Reading) (w : Encoding strict s reading) → HasParts strict s reading w (parts_of strict (s ++ rest)) }
+{}
+
+/// What permitted fields spell is accepted, whatever stands behind it, and has these fields again: `split` of the bytes that `emit`
+/// wrote answers parts that are equal to the fields.
+pub fn permitted_fields_are_split_again()
+    ensures { (strict : Bool) (f : Fields) (rest : List ℕ) → IsPermitted strict f → (i : Instruction) × (answer_of strict (joined (lists_in f) ++ rest) ≡ Ok i) × (parts_of strict (joined (lists_in f) ++ rest) ≡ lists_in f) }
+{
+    laws::answer_is();
+}
+
+/// Fields that hold the parts of an accepted encoding are permitted, and spell that encoding: `emit` of the fields of a split gives
+/// its very bytes.
+pub fn accepted_encodings_are_emitted_again()
+    ensures { (strict : Bool) (bytes : List ℕ) (i : Instruction) (f : Fields) → answer_of strict bytes ≡ Ok i → lists_in f ≡ parts_of strict bytes → IsPermitted strict f × (joined (lists_in f) ≡ take i.length bytes) }
+{
+    laws::answer_is();
     laws::lengths();
 }

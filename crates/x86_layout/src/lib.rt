@@ -3,21 +3,26 @@
 
 mod branches;
 mod cuts;
+mod entries;
+mod fields;
 mod heads;
 pub mod laws;
 mod marks;
 mod parts;
 mod sweeps;
+mod writing;
 
 pub use branches::branch_target;
 pub use cuts::Cut;
+pub use fields::Fields;
 pub use marks::mark_targets;
 pub use parts::{Parts, split};
 pub use sweeps::Sweep;
+pub use writing::{EmitError, emit};
 
 #[cfg(test)]
 mod tests {
-    use crate::{Sweep, branch_target, mark_targets, split};
+    use crate::{EmitError, Fields, Sweep, branch_target, emit, mark_targets, split};
     use x86_decode::InstDecoder;
     use x86_fields::DecodeError;
     use x86_opcodes::Opcode;
@@ -149,5 +154,76 @@ mod tests {
         );
         let refused = split(&InstDecoder::default(), &[0x06]);
         assert!(rt; matches!(refused, Err(DecodeError::InvalidOpcode)));
+    }
+
+    /// The fields of the encoding at the front.
+    fn fields_of(bytes: &[u8]) -> Option<Fields> {
+        match split(&InstDecoder::default(), bytes) {
+            Ok(parts) => Some(Fields::of(&parts)),
+            Err(_) => None,
+        }
+    }
+
+    /// The same fields with other prefixes, as many as fit.
+    fn behind(prefixes: &[u8], fields: &Fields) -> Fields {
+        let mut changed = fields.clone();
+        changed.prefixes.clear();
+        let _ = changed.prefixes.try_extend_from_slice(prefixes);
+        changed
+    }
+
+    fn writes(fields: &Fields, wanted: &[u8]) -> bool {
+        match emit(&InstDecoder::default(), fields) {
+            Ok(bytes) => bytes.as_slice() == wanted,
+            Err(_) => false,
+        }
+    }
+
+    fn refusal(fields: &Fields) -> Option<EmitError> {
+        emit(&InstDecoder::default(), fields).err()
+    }
+
+    #[test]
+    fn fields_are_written(rt: HostRuntime) {
+        let fields = fields_of(&[0x48, 0x03, 0x44, 0x25, 0x00, 0x90]).expect(&rt, "fields");
+        assert!(rt; writes(&fields, &[0x48, 0x03, 0x44, 0x25, 0x00]));
+        let twice = behind(&[0x48, 0x48], &fields);
+        assert!(rt; writes(&twice, &[0x48, 0x48, 0x03, 0x44, 0x25, 0x00]));
+        let mut run = [0x66; 12];
+        run[10] = 0x48;
+        let long = behind(&run[..11], &fields);
+        let bytes = [
+            0x66, 0x66, 0x66, 0x66, 0x66, 0x66, 0x66, 0x66, 0x66, 0x66, 0x48, 0x03, 0x44, 0x25, 0x00,
+        ];
+        assert!(rt; writes(&long, &bytes));
+        run[10] = 0x66;
+        run[11] = 0x48;
+        assert!(rt; refusal(&behind(&run, &fields)) == Some(EmitError::Length));
+    }
+
+    #[test]
+    fn fields_are_refused(rt: HostRuntime) {
+        let fields = fields_of(&[0x48, 0x03, 0x44, 0x25, 0x00, 0x90]).expect(&rt, "fields");
+        assert!(rt; refusal(&behind(&[0x90], &fields)) == Some(EmitError::Prefixes));
+        assert!(rt; refusal(&behind(&[0xf0], &fields)) == Some(EmitError::Lock));
+        let mut changed = fields.clone();
+        changed.sib = None;
+        assert!(rt; refusal(&changed) == Some(EmitError::Shape));
+        let mut changed = fields.clone();
+        changed.opcode = 0x06;
+        assert!(rt; refusal(&changed) == Some(EmitError::Row));
+        // FE /2 has no row, whatever else is missing
+        let mut changed = fields.clone();
+        changed.opcode = 0xfe;
+        changed.modrm = Some(0x50);
+        changed.displacement.clear();
+        assert!(rt; refusal(&changed) == Some(EmitError::Row));
+        let mut changed = fields_of(&[0x0f, 0x0f, 0xc1, 0x9e]).expect(&rt, "fields");
+        changed.suffix = Some(0x06);
+        assert!(rt; refusal(&changed) == Some(EmitError::Row));
+        let fence = fields_of(&[0x0f, 0xae, 0xe9]).expect(&rt, "fields");
+        assert!(rt; writes(&fence, &[0x0f, 0xae, 0xe9]));
+        let strictly = emit(&InstDecoder::strict(), &fence).err();
+        assert!(rt; strictly == Some(EmitError::Row));
     }
 }

@@ -1,6 +1,6 @@
 //! The parts of an encoding.
 
-ghost use Rattle.std.specs.Prelude.{◌≡◌, ◌≤◌, ◌&&◌, ◌==◌, ℕ, Bool, List, slice_index, MatchResult, Err};
+ghost use Rattle.std.specs.Prelude.{◌≡◌, ◌≤◌, ◌&&◌, ◌==◌, ℕ, Bool, List, slice_index, MatchResult, IfOk, Err};
 ghost use Rattle.x86_fields.specs.declared.Prefixes.{Prefixes};
 ghost use Rattle.x86_operands.specs.declared.reader.Reading.{Reading};
 ghost use Rattle.x86_operands.specs.Plans.{RowRecord};
@@ -8,7 +8,9 @@ ghost use Rattle.x86_operands.specs.Pieces.{SpellsRow};
 ghost use Rattle.x86_operands.specs.Asks.{ask_of};
 ghost use Rattle.x86_decode.specs.Answer.{answer_of};
 ghost use Rattle.x86_layout.specs.Heads.{one_if, asks_sib, IsTail};
-ghost use Rattle.x86_layout.specs.Parts.{IsSplit};
+ghost use Rattle.x86_layout.specs.Parts.{lists_of, IsSplit};
+ghost use Rattle.x86_layout.specs.Front.{parts_of};
+ghost use Rattle.x86_layout.specs.Fields.{HasFieldLengths};
 
 use crate::heads::{Head, byte_at, cut, head_of};
 use x86_decode::{InstDecoder, laws};
@@ -34,14 +36,15 @@ pub struct Parts<'a> {
 }
 
 /// How many bytes a part has that is there or not.
-fn one_if(flag: bool) -> usize
+pub fn one_if(flag: bool) -> usize
     ensures value { result ≡ one_if flag }
     ensures small { result ≤ 1 }
 {
     if flag { 1 } else { 0 }
 }
 
-fn asks_sib(ask: &Ask, modrm: u8) -> bool
+/// Whether there is a SIB at a ModRM byte.
+pub fn asks_sib(ask: &Ask, modrm: u8) -> bool
     ensures { result ≡ asks_sib ask.now modrm }
 {
     ask.memory && modrm % 8 == 4
@@ -79,7 +82,9 @@ fn parts_behind<'a>(head: &Head<'a>) -> Parts<'a>
 ///
 /// For `48 03 44 25 00 90` the prefixes are 48, the opcode is 03, ModRM is 44, SIB is 25 and the displacement is 00.
 pub fn split<'a>(decoder: &InstDecoder, bytes: &'a [u8]) -> Result<Parts<'a>, DecodeError>
-    ensures { MatchResult result (λ parts. IsSplit decoder.now.strict bytes.now parts) (λ error. answer_of decoder.now.strict bytes.now ≡ Err error) }
+    ensures pieces { MatchResult result (λ parts. IsSplit decoder.now.strict bytes.now parts) (λ error. answer_of decoder.now.strict bytes.now ≡ Err error) }
+    ensures value { IfOk result (λ parts. lists_of parts ≡ parts_of decoder.now.strict bytes.now) }
+    ensures lengths { IfOk result (λ parts. HasFieldLengths (lists_of parts)) }
 {
     laws::lengths();
     let instruction = decoder.decode_slice(bytes)?;

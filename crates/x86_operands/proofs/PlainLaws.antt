@@ -14,18 +14,18 @@ use Rattle.x86_operands.specs.declared.plans.Moment.{Moment}
 use Rattle.x86_operands.specs.declared.plans.Verdict.TheVariants.{Refuses}
 use Rattle.x86_operands.specs.Plans.{reads, accumulator_of}
 use Rattle.x86_forms.specs.declared.TableRow.{TableRow}
+use Rattle.x86_operands.specs.Asks.{immediates_width}
 use Rattle.x86_operands.specs.Forms.{z_in, form_plan, form_record}
-use Rattle.x86_operands.proofs.PlanTests.{passes, either_passes, small_steps, without_gap, at_most_64}
+use Rattle.x86_operands.proofs.PlanTests.{passes, either_passes, small_steps, without_gap, at_most_64, at_most_8}
 
 -- by the form, of which the last clause covers all that carry no number
 plain_passes : (f : Form) (o : ℕ) (p : Prefixes) (m : ℕ) → passes (is_group_form f) (form_plan f o p m) ≡ true
 unfolding passes
-plain_passes (form.Zv_R n) o p m = refl
-plain_passes (form.Zv_AX_R n) o p m =
-    either_passes false ((n == 0) && not (rex_b p)) (reads NOP Zero 0) (reads o (Two (accumulator_of (v p) p) (z_in Rm n (v p) p)) 0) refl refl
-plain_passes (form.Zb_Ib_R n) o p m = refl
-plain_passes (form.Zv_Ivq_R n) o p m = refl
-plain_passes (form.Zv_B n) o p m = refl
+plain_passes (form.Zv_R n) o p m = search (rules, small_steps)
+plain_passes (form.Zv_AX_R n) o p m = search (rules, small_steps)
+plain_passes (form.Zb_Ib_R n) o p m = search (rules, small_steps)
+plain_passes (form.Zv_Ivq_R n) o p m = search (rules, small_steps)
+plain_passes (form.Zv_B n) o p m = search (rules, small_steps)
 plain_passes _ o p m = search (rules, small_steps)
 
 pub plain_built : (row : TableRow) (p : Prefixes) (m : ℕ) (w : Moment) → is_group_form row.form ≡ false → ((form_record row p).plan m).verdict ≢ Refuses Incomplete w
@@ -36,6 +36,10 @@ plain_built row p m w plain e =
 pub plain_small : (row : TableRow) (p : Prefixes) (m : ℕ) → ((form_record row p).plan m).size ≤ 64
 unfolding form_record
 plain_small row p m = at_most_64 (is_group_form row.form) (form_plan row.form row.opcode p m) (plain_passes row.form row.opcode p m)
+
+pub plain_narrow : (row : TableRow) (p : Prefixes) (m : ℕ) → immediates_width ((form_record row p).plan m).signs ≤ 8
+unfolding form_record
+plain_narrow row p m = at_most_8 (is_group_form row.form) (form_plan row.form row.opcode p m) (plain_passes row.form row.opcode p m)
 
 pub plain_passed : (row : TableRow) (p : Prefixes) → (form_record row p).at_opcode ≡ None
 unfolding form_record

@@ -1,5 +1,5 @@
--- Two tests of plans, that hold of a choice where they hold of both sides.
-use Rattle.std.proofs.Common.{◌≡◌, ◌≢◌, ◌≤◌, ℕ, nat_lt, Bool, true, false, not, ◌&&◌, ◌||◌, if◌then◌else◌, rules, arith, refl, ap}
+-- Tests of plans, that hold of a choice where they hold of both sides.
+use Rattle.std.proofs.Common.{◌≡◌, ◌≢◌, ◌≤◌, ◌+◌, ℕ, nat_lt, Bool, true, false, not, ◌&&◌, ◌||◌, if◌then◌else◌, rules, arith, refl, ap}
 use Rattle.std.proofs.lemmas.Bool.{and_parts}
 use Rattle.std.proofs.lemmas.Bool.Decides.{nat_tests}
 use Rattle.x86_regs.specs.declared.RegisterClass.{RegisterClass}
@@ -11,7 +11,12 @@ use Rattle.x86_operands.specs.declared.plans.Verdict.{Verdict}
 use Rattle.x86_operands.specs.declared.plans.Verdict.TheVariants.{Refuses}
 use Rattle.x86_operands.specs.declared.plans.Plan.{Plan}
 use Rattle.x86_operands.specs.declared.plans.Mark.{Mark}
+use Rattle.x86_operands.specs.declared.plans.Sign.{Sign}
+use Rattle.x86_operands.specs.declared.plans.Sign.TheVariants.{G, Gmm, E, Emm, M, U, Umm, Fixed, Pointer, I8, I16, I32, I64, I32From16, I64Whole, U8, U16, X8, X16, ConstantI8, ConstantU8, Address32, Address64}
 use Rattle.x86_operands.specs.declared.plans.Signs.{Signs}
+use Rattle.x86_operands.specs.declared.plans.Signs.TheVariants.{One, Two, Three}
+use Rattle.x86_operands.specs.Pieces.{immediate_width}
+use Rattle.x86_operands.specs.Asks.{immediates_width}
 use Rattle.x86_opcodes.specs.declared.Opcode.{Opcode}
 
 -- a refusal for a form that isn't built
@@ -23,9 +28,71 @@ abbrev pub has_gap : Verdict → Bool
 has_gap (Refuses fault moment) = is_gap fault
 has_gap verdict = false
 
--- A plan has no gap, unless gaps are passed, and its size is at most 64.
+-- the immediates have at most 8 bytes together
+unfoldable pub narrow : Signs → Bool
+narrow signs = nat_lt (immediates_width signs) 9
+
+-- A plan has no gap, unless gaps are passed, its size is at most 64, and its immediates have at most 8 bytes.
 unfoldable pub passes : Bool → Plan → Bool
-passes gaps plan = (gaps || not (has_gap plan.verdict)) && nat_lt plan.size 65
+passes gaps plan = ((gaps || not (has_gap plan.verdict)) && nat_lt plan.size 65) && narrow plan.signs
+
+width_small : (s : Sign) → nat_lt (immediate_width s) 9 ≡ true
+width_small (G c) = refl
+width_small Gmm = refl
+width_small (E c) = refl
+width_small Emm = refl
+width_small M = refl
+width_small (U c) = refl
+width_small Umm = refl
+width_small (Fixed slot reg) = refl
+width_small (Pointer slot reg) = refl
+width_small I8 = refl
+width_small I16 = refl
+width_small I32 = refl
+width_small I64 = refl
+width_small I32From16 = refl
+width_small I64Whole = refl
+width_small U8 = refl
+width_small U16 = refl
+width_small X8 = refl
+width_small X16 = refl
+width_small (ConstantI8 z) = refl
+width_small (ConstantU8 n) = refl
+width_small Address32 = refl
+width_small Address64 = refl
+
+alone : (w : ℕ) → nat_lt w 9 ≡ true → nat_lt (w + 0) 9 ≡ true
+alone w h = grind (arith, nat_tests)
+
+behind_none : (x w : ℕ) → x ≡ 0 → nat_lt w 9 ≡ true → nat_lt (x + w) 9 ≡ true
+behind_none x w e h = grind (arith, nat_tests)
+
+before_none : (w x : ℕ) → x ≡ 0 → nat_lt w 9 ≡ true → nat_lt (w + (x + 0)) 9 ≡ true
+before_none w x e h = grind (arith, nat_tests)
+
+pub narrow_by : (signs : Signs) → nat_lt (immediates_width signs) 9 ≡ true → narrow signs ≡ true
+unfolding narrow
+narrow_by signs h = h
+
+pub narrow_one : (a : Sign) → narrow (One a) ≡ true
+unfolding narrow
+narrow_one a = alone (immediate_width a) (width_small a)
+
+pub narrow_second : (a b : Sign) → immediate_width a ≡ 0 → narrow (Two a b) ≡ true
+unfolding narrow
+narrow_second a b e = behind_none (immediate_width a) (immediate_width b + 0) e (alone (immediate_width b) (width_small b))
+
+pub narrow_first : (a b : Sign) → immediate_width b ≡ 0 → narrow (Two a b) ≡ true
+unfolding narrow
+narrow_first a b e = before_none (immediate_width a) (immediate_width b) e (width_small a)
+
+pub narrow_third : (a b c : Sign) → immediate_width a ≡ 0 → immediate_width b ≡ 0 → narrow (Three a b c) ≡ true
+unfolding narrow
+narrow_third a b c e h = behind_none (immediate_width a) (immediate_width b + (immediate_width c + 0)) e (behind_none (immediate_width b) (immediate_width c + 0) h (alone (immediate_width c) (width_small c)))
+
+pub narrow_if : (b : Bool) (x y : Signs) → narrow x ≡ true → narrow y ≡ true → narrow (if b then x else y) ≡ true
+narrow_if true x y h k = h
+narrow_if false x y h k = k
 
 pub small_if : (b : Bool) (x y : ℕ) → nat_lt x 65 ≡ true → nat_lt y 65 ≡ true → nat_lt (if b then x else y) 65 ≡ true
 small_if true x y h k = h
@@ -38,7 +105,7 @@ or_true : (a b : Bool) → b ≡ true → (a || b) ≡ true
 or_true true b h = refl
 or_true false b h = h
 
-both : (a b : Bool) → a ≡ true → b ≡ true → (a && b) ≡ true
+pub both : (a b : Bool) → a ≡ true → b ≡ true → (a && b) ≡ true
 both a b p q = cc
 
 pub no_gap_if : (b : Bool) (x y : Verdict) → not (has_gap x) ≡ true → not (has_gap y) ≡ true → not (has_gap (if b then x else y)) ≡ true
@@ -49,20 +116,35 @@ pub either_passes : (gaps b : Bool) (x y : Plan) → passes gaps x ≡ true → 
 either_passes gaps true x y h k = h
 either_passes gaps false x y h k = k
 
-pub plan_passes : (gaps : Bool) (opcode : Opcode) (signs : Signs) (n : ℕ) (mark : Mark) (verdict : Verdict) → not (has_gap verdict) ≡ true → nat_lt n 65 ≡ true → passes gaps (record { opcode = opcode; signs = signs; size = n; mark = mark; verdict = verdict }) ≡ true
+pub plan_passes : (gaps : Bool) (opcode : Opcode) (signs : Signs) (n : ℕ) (mark : Mark) (verdict : Verdict) → not (has_gap verdict) ≡ true → nat_lt n 65 ≡ true → narrow signs ≡ true → passes gaps (record { opcode = opcode; signs = signs; size = n; mark = mark; verdict = verdict }) ≡ true
 unfolding passes
-plan_passes gaps opcode signs n mark verdict v k = both (gaps || not (has_gap verdict)) (nat_lt n 65) (or_true gaps _ v) k
+plan_passes gaps opcode signs n mark verdict v k w =
+    both ((gaps || not (has_gap verdict)) && nat_lt n 65) (narrow signs) (both (gaps || not (has_gap verdict)) (nat_lt n 65) (or_true gaps _ v) k) w
 
-pub ruleset small_steps = (either_passes, plan_passes, small_if, small_width, no_gap_if)
+pub ruleset small_steps = (either_passes, plan_passes, small_if, small_width, no_gap_if, narrow_by, narrow_one, narrow_second, narrow_first, narrow_third, narrow_if)
+
+-- the three tests that a plan passes
+module _ (gaps : Bool) (plan : Plan) (h : passes gaps plan ≡ true) where
+  first_two : ((gaps || not (has_gap plan.verdict)) && nat_lt plan.size 65) ≡ true
+  unfolding passes
+  first_two = (and_parts ((gaps || not (has_gap plan.verdict)) && nat_lt plan.size 65) (narrow plan.signs) h).0
+
+  closed_gap : (gaps || not (has_gap plan.verdict)) ≡ true
+  closed_gap = (and_parts (gaps || not (has_gap plan.verdict)) (nat_lt plan.size 65) first_two).0
+
+  pub at_most_64 : plan.size ≤ 64
+  at_most_64 =
+      let small : nat_lt plan.size 65 ≡ true = (and_parts (gaps || not (has_gap plan.verdict)) (nat_lt plan.size 65) first_two).1 in
+      grind (arith, nat_tests)
+
+  pub at_most_8 : immediates_width plan.signs ≤ 8
+  unfolding passes narrow
+  at_most_8 =
+      let small : nat_lt (immediates_width plan.signs) 9 ≡ true = (and_parts ((gaps || not (has_gap plan.verdict)) && nat_lt plan.size 65) (narrow plan.signs) h).1 in
+      grind (arith, nat_tests)
 
 pub without_gap : (plan : Plan) (w : Moment) → passes false plan ≡ true → plan.verdict ≢ Refuses Incomplete w
-unfolding passes
 without_gap plan w h e =
     let gap : has_gap plan.verdict ≡ true = ap has_gap e in
+    let none : not (has_gap plan.verdict) ≡ true = closed_gap false plan h in
     absurd cc
-
-pub at_most_64 : (gaps : Bool) (plan : Plan) → passes gaps plan ≡ true → plan.size ≤ 64
-unfolding passes
-at_most_64 gaps plan h =
-    let small : nat_lt plan.size 65 ≡ true = (and_parts (gaps || not (has_gap plan.verdict)) (nat_lt plan.size 65) h).1 in
-    grind (arith, nat_tests)

@@ -1,6 +1,6 @@
 -- What a row asks behind its opcode byte, told from a ModRM byte alone.
-use Rattle.std.specs.Prelude.{ℕ, Bool, true, false, List, [], ◌∷◌, map}
-use Rattle.x86_fields.specs.Pieces.{total}
+use Rattle.std.specs.Prelude.{ℕ, Bool, true, false, Option, List, [], ◌∷◌, map}
+use Rattle.x86_fields.specs.Pieces.{total, option_bytes}
 use Rattle.x86_operands.specs.declared.plans.Verdict.{Verdict}
 use Rattle.x86_operands.specs.declared.plans.Verdict.TheVariants.{NamedBySuffix}
 use Rattle.x86_operands.specs.declared.plans.Signs.{Signs}
@@ -8,6 +8,7 @@ use Rattle.x86_operands.specs.declared.plans.ModrmUse.{ModrmUse}
 use Rattle.x86_operands.specs.declared.plans.ModrmUse.TheVariants.{Absent}
 use Rattle.x86_operands.specs.declared.plans.Plan.{Plan}
 use Rattle.x86_operands.specs.declared.asks.Ask.{Ask}
+use Rattle.x86_operands.specs.declared.asks.RecordAt.{RecordAt}
 use Rattle.x86_operands.specs.Plans.{RowRecord, is_memory, list_of}
 use Rattle.x86_operands.specs.Pieces.{immediate_width, modrm_of}
 
@@ -39,3 +40,12 @@ plan_ask usage m plan = record {
 -- what a row asks at a ModRM byte
 unfoldable pub ask_of : RowRecord → ℕ → Ask
 ask_of r m = plan_ask r.modrm (used r.modrm m) (r.plan (used r.modrm m))
+
+-- a record at a ModRM byte; one that isn't there reads as C0
+unfoldable pub record_at : RowRecord → Option ℕ → RecordAt
+record_at r modrm = record {
+  at_opcode = r.at_opcode;
+  usage = r.modrm;
+  modrm = modrm_of r.modrm (option_bytes modrm);
+  plan = r.plan (modrm_of r.modrm (option_bytes modrm));
+}

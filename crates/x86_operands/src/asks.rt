@@ -1,9 +1,10 @@
 //! What a row asks behind its opcode byte, told from a ModRM byte alone.
 ghost use Rattle.std.specs.Prelude.{◌≡◌, ◌≤◌};
-ghost use Rattle.x86_operands.specs.Pieces.{immediate_width};
+ghost use Rattle.x86_fields.specs.Pieces.{option_bytes};
+ghost use Rattle.x86_operands.specs.Pieces.{immediate_width, modrm_of};
 ghost use Rattle.x86_operands.specs.Asks.{asks_modrm, asks_suffix, immediates_width, used, plan_ask};
 
-use crate::plans::{ModrmUse, Plan, Sign, Signs, Verdict, memory_form};
+use crate::plans::{Fault, ModrmUse, Plan, Sign, Signs, Verdict, memory_form};
 
 /// Which parts of an encoding a row asks behind its opcode byte. Whether there is a SIB, and how long the displacement of a memory
 /// form is, ModRM and SIB tell (Intel SDM volume 2, section 2.1.5).
@@ -17,6 +18,17 @@ pub struct Ask {
     pub immediate: u8,
     /// Whether a last byte names the operation.
     pub suffix: bool,
+}
+
+/// A row's record at one ModRM byte. One that isn't there reads as C0.
+#[derive(Clone, Copy, Debug, Drop)]
+pub struct RecordAt {
+    /// The refusal at the opcode byte.
+    pub at_opcode: Option<Fault>,
+    pub usage: ModrmUse,
+    /// ModRM as the row uses it.
+    pub modrm: u8,
+    pub plan: Plan,
 }
 
 fn width(sign: Sign) -> u8
@@ -64,6 +76,16 @@ pub fn used_modrm(usage: ModrmUse, modrm: u8) -> u8
         ModrmUse::Absent => 0xc0,
         ModrmUse::Fields => modrm,
         ModrmUse::Registers => 0xc0 + modrm % 0x40,
+    }
+}
+
+/// A ModRM byte as a row uses it, or C0 where there is none.
+pub fn used_or_none(usage: ModrmUse, modrm: Option<u8>) -> u8
+    ensures { result ≡ modrm_of usage (option_bytes modrm) }
+{
+    match modrm {
+        Some(modrm) => used_modrm(usage, modrm),
+        None => 0xc0,
     }
 }
 

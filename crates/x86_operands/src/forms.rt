@@ -4,11 +4,11 @@ ghost use Rattle.x86_arch.specs.Reader.{State};
 ghost use Rattle.x86_fields.specs.Steps.{outcome};
 ghost use Rattle.x86_forms.specs.Groups.{is_group_form};
 ghost use Rattle.x86_forms.specs.Words.{IsForm};
-ghost use Rattle.x86_operands.specs.Asks.{ask_of};
+ghost use Rattle.x86_operands.specs.Asks.{ask_of, record_at};
 ghost use Rattle.x86_operands.specs.Forms.{modrm_use, form_record};
 ghost use Rattle.x86_operands.specs.Signs.{record_step};
 
-use crate::asks::{Ask, plan_ask, used_modrm};
+use crate::asks::{Ask, RecordAt, plan_ask, used_modrm, used_or_none};
 use crate::bare_forms::form_plan;
 use crate::plans::ModrmUse;
 use crate::reader::{Reading, read_modrm, read_plan};
@@ -78,4 +78,21 @@ pub fn form_ask(row: TableRow, prefixes: Prefixes, modrm: u8) -> Ask
     let modrm = used_modrm(usage, modrm);
     let plan = form_plan(row.form, row.opcode, &prefixes, modrm);
     plan_ask(usage, modrm, &plan)
+}
+
+/// The record of a row whose form is no group, at a ModRM byte.
+#[tactic(auto, unfolding(crate::specs::Forms::form_record, crate::specs::Asks::record_at))]
+pub fn form_at(row: TableRow, prefixes: Prefixes, modrm: Option<u8>) -> RecordAt
+    requires plain { is_group_form row.form ≡ false }
+    requires carried { IsForm row.form }
+    ensures { result ≡ record_at (form_record row prefixes) modrm }
+{
+    let usage = modrm_use(row.form);
+    let modrm = used_or_none(usage, modrm);
+    RecordAt {
+        at_opcode: None,
+        usage,
+        modrm,
+        plan: form_plan(row.form, row.opcode, &prefixes, modrm),
+    }
 }

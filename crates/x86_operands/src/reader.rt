@@ -130,9 +130,9 @@ pub fn refuse(fault: Option<Fault>) -> Result<(), DecodeError>
     }
 }
 
-/// The opcode that a suffix byte names.
+/// The opcode that a suffix byte names (AMD APM volume 3, appendix A.1.2).
 #[tactic(auto, unfolding(crate::specs::Suffix::opcode_of_suffix))]
-fn suffix_opcode(byte: u8) -> Option<Opcode>
+pub fn suffix_opcode(byte: u8) -> Option<Opcode>
     ensures { result ≡ opcode_of_suffix byte }
 {
     match byte {

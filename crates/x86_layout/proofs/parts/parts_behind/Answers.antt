@@ -11,23 +11,23 @@ returns-clause-tail c = λ r p reading tail e k a.
     let ask = c.args.head.now.ask in
     let s = a.behind.pieces in
     let behind : c.args.head.now.tail.now ≡ a.modrm ++ a.tail = e ∙ a.spelled in
-    let modrm_n : c.one_if.result ≡ length a.modrm = c.one_if.ensures.value ∙ modrm_count r p tail reading a ask k in
+    let modrm_n : c.one_if.result ≡ length a.modrm = c.one_if.ensures.value ∙ modrm_count r p tail reading a tail a.tail a.spelled ask k in
     let modrm = c.cut.ensures.front ∙ front_is _ a.modrm a.tail c.one_if.result behind modrm_n in
     let rest = c.cut.ensures.behind ∙ rest_is _ a.modrm a.tail c.one_if.result behind modrm_n in
     let rest' : c.cut.result.1.now ≡ s.address ++ (s.immediates ++ s.suffix) = rest ∙ s.spelled in
-    let immediate_n : c.from-immediate_length.result ≡ length s.immediates = c.from-immediate_length.ensures ∙ immediate_count r p tail reading a ask k in
+    let immediate_n : c.from-immediate_length.result ≡ length s.immediates = c.from-immediate_length.ensures ∙ immediate_count r p tail reading a tail a.tail a.spelled ask k in
     let address_n : c.saturating_sub.result ≡ length s.address =
     let f = c.from-immediate_length.ensures in
     let g = c.one_if-2.ensures.value in
     let l = ap length rest in
-    let h = address_count r p tail reading a ask k in
+    let h = address_count r p tail reading a tail a.tail a.spelled ask k in
     omega (arith, f, g, l, h, c.saturating_sub.ensures, c.saturating_sub-before_suffix.ensures) in
     let address = c.cut-2.ensures.front ∙ front_is _ s.address (s.immediates ++ s.suffix) c.saturating_sub.result rest' address_n in
     let last = c.cut-2.ensures.behind ∙ rest_is _ s.address (s.immediates ++ s.suffix) c.saturating_sub.result rest' address_n in
     let m : ℕ = modrm_of r.modrm a.modrm in
     let n : ℕ = c.one_if-sib_length.result in
     let sib_n : n ≡ sib_width m =
-    c.one_if-sib_length.ensures.value ∙ ap one_if (c.asks_sib.ensures ∙ ap (asks_sib ask) (c.byte_at.ensures ∙ ap (λ l. slice_index l 0) e)) ∙ sib_count r p tail reading a ask k in
+    c.one_if-sib_length.ensures.value ∙ ap one_if (c.asks_sib.ensures ∙ ap (asks_sib ask) (c.byte_at.ensures ∙ ap (λ l. slice_index l 0) e)) ∙ sib_count r p tail reading a tail a.tail a.spelled ask k in
     let within : sib_width m ≤ length s.address = sib_within p m s.address s.memory s.address_asked in
     let both = c.cut-2.result.0.now in
     record {

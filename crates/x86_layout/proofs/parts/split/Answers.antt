@@ -1,16 +1,19 @@
-use Rattle.std.proofs.Common.{◌≡◌, ◌++◌, length, Ok, sym, ap, subst, ◌∙◌}
+use Rattle.std.proofs.Common.{◌≡◌, ◌≤◌, arith, ◌++◌, length, Ok, sym, ap, subst, ◌∙◌}
 use Rattle.x86_fields.specs.Run.{reading_of}
 use Rattle.x86_forms.specs.Words.{rows_of, word_at}
 use Rattle.x86_decode.specs.Head.{seen}
 use Rattle.x86_decode.specs.Grammar.{IsAccepted}
 use Rattle.x86_decode.specs.Answer.{answer_of, count_of}
-use Rattle.x86_layout.specs.Parts.{Encoding, record_in, HasParts}
+use Rattle.x86_layout.specs.Parts.{lists_of, Encoding, record_in, HasParts}
 use Rattle.x86_layout.proofs.PartLaws.{front_is}
+use Rattle.x86_layout.specs.Front.{parts_of}
+use Rattle.x86_layout.proofs.LengthLaws.{lengths_of}
+use Rattle.x86_layout.proofs.FrontLaws.{parts_are, parts_once}
 use Rattle.x86_layout.proofs.SplitLaws.{joined_is}
 use Rattle.x86_layout.proofs.parts.split.Goals as goal
 
-pub returns : goal.returns
-returns c =
+pub returns-clause-pieces : goal.returns-clause-pieces
+returns-clause-pieces c =
     let strict = c.args.decoder.now.strict in
     let bytes = c.args.bytes.now in
     let instruction = c.in_ok-instruction.instruction in
@@ -26,7 +29,7 @@ returns c =
     let behind = c.parts_behind.ensures in
     let row = record_in strict encoding reading whole in
     let tail = behind.tail row (seen whole.map whole.opcode (reading_of whole.run)) reading whole.tail head.tail head.ask whole.asked in
-    let parts : HasParts strict encoding reading whole c.parts_behind.result = record {
+    let parts : HasParts strict encoding reading whole (lists_of c.parts_behind.result) = record {
       prefixes = behind.prefixes ∙ head.prefixes;
       escape = behind.escape ∙ head.escape;
       opcode = behind.opcode ∙ head.opcode;
@@ -46,5 +49,18 @@ returns c =
       long = ap length front ∙ accepted.long ∙ sym counted;
       whole = whole;
       parts = parts;
-      together = joined_is strict encoding reading whole c.parts_behind.result parts;
+      together = joined_is strict encoding reading whole (lists_of c.parts_behind.result) parts;
     }
+
+pub returns-clause-value : goal.returns-clause-value
+returns-clause-value c =
+    let strict = c.args.decoder.now.strict in
+    let x = returns-clause-pieces c in
+    parts_once strict x.encoding x.reading x.whole (lists_of c.parts_behind.result) (parts_of strict c.args.bytes.now) x.parts
+    (subst (λ l. HasParts strict x.encoding x.reading x.whole (parts_of strict l)) (sym x.begins) (parts_are strict x.encoding x.rest x.reading x.whole))
+
+pub returns-clause-lengths : goal.returns-clause-lengths
+returns-clause-lengths c =
+    let x = returns-clause-pieces c in
+    let short : length x.encoding ≤ 15 = let e = x.long in let s = c.lengths.ensures.short c.args.decoder.now.strict c.args.bytes.now x.instruction x.accepted in omega (arith, e, s) in
+    lengths_of c.args.decoder.now.strict x.encoding x.reading x.whole (lists_of c.parts_behind.result) x.parts short

@@ -1,0 +1,5 @@
+use Rattle.x86_layout.proofs.FrontLaws.{parts_are}
+use Rattle.x86_layout.proofs.laws.parts_are_those_of_the_bytes.Goals as goal
+
+pub returns : goal.returns
+returns c = λ strict s rest reading w. parts_are strict s rest reading w

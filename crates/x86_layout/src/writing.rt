@@ -1,0 +1,210 @@
+//! Fields written as bytes.
+
+ghost use Rattle.std.specs.Prelude.{◌≡◌, ◌+◌, ◌≤◌, ◌++◌, length, is_some, IfSome, MatchResult, IsOk, IfOk, IfErr, ◌↔◌, Some, None};
+ghost use Rattle.arrayvec.specs.ArrayVec.{array_vec_len};
+ghost use Rattle.x86_fields.specs.Pieces.{option_bytes};
+ghost use Rattle.x86_forms.specs.Words.{IsForm};
+ghost use Rattle.x86_operands.specs.Pieces.{is_refusal};
+ghost use Rattle.x86_decode.specs.Head.{is_run};
+ghost use Rattle.x86_layout.specs.Parts.{joined};
+ghost use Rattle.x86_layout.specs.Fields.{lists_in};
+ghost use Rattle.x86_layout.specs.Permitted.{record_by, lacks_modrm, refuses_suffix, passes_record, displacement_asked, has_asked_parts, tail_of, has_lawful_lock, is_short, failing_at, first_failing, IsPermitted};
+
+use crate::entries::{Entry, entry_of, record_at};
+use crate::fields::Fields;
+use crate::parts::{asks_sib, one_if};
+use arrayvec::ArrayVec;
+use x86_arch::U8Reader;
+use x86_decode::{InstDecoder, allows_lock, is_prefix, read_row};
+use x86_fields::displacement_width;
+use x86_operands::plans::{Verdict, memory_form};
+use x86_operands::{RecordAt, plan_ask, suffix_opcode};
+
+/// Why fields aren't written: the first condition that fails, in this order.
+#[derive(Clone, Copy, PartialEq, Eq, Debug, Drop)]
+pub enum EmitError {
+    /// One of the prefix bytes is neither a legacy prefix nor a REX.
+    Prefixes,
+    /// The escape is none of the four, the opcode byte has no row, or the row's record refuses at the opcode, for the ModRM that is
+    /// there, or for the suffix that is there.
+    Row,
+    /// A part that the row asks is missing or has another length, or one is there that it doesn't ask.
+    Shape,
+    /// F0 is there and isn't allowed.
+    Lock,
+    /// There are more than 15 bytes.
+    Length,
+}
+
+fn is_legal_run(prefixes: &[u8]) -> bool
+    ensures { result ≡ is_run prefixes.now }
+{
+    prefixes.iter().all(|byte| is_prefix(*byte))
+}
+
+/// Whether a ModRM that the row asks isn't there.
+fn lacks_modrm(record: &RecordAt, fields: &Fields) -> bool
+    ensures { result ≡ lacks_modrm record.now fields.now }
+{
+    let ask = plan_ask(record.usage, record.modrm, &record.plan);
+    ask.modrm && fields.modrm.is_none()
+}
+
+/// Whether the suffix that is there names no operation, where the row asks one.
+fn refuses_suffix(verdict: Verdict, suffix: Option<u8>) -> bool
+    ensures { result ≡ refuses_suffix verdict suffix }
+{
+    match (verdict, suffix) {
+        (Verdict::NamedBySuffix, Some(byte)) => suffix_opcode(byte).is_none(),
+        _ => false,
+    }
+}
+
+fn is_refusal(verdict: Verdict) -> bool
+    ensures { result ≡ is_refusal verdict }
+{
+    matches!(verdict, Verdict::Refuses(_, _))
+}
+
+/// Whether a record refuses neither at the opcode nor for the ModRM and the suffix that are there.
+fn passes_record(record: &RecordAt, fields: &Fields) -> bool
+    ensures { result ≡ passes_record record.now fields.now }
+{
+    let modrm_passes = !is_refusal(record.plan.verdict) || lacks_modrm(record, fields);
+    let suffix_passes = !refuses_suffix(record.plan.verdict, fields.suffix);
+    record.at_opcode.is_none() && modrm_passes && suffix_passes
+}
+
+/// How many bytes of displacement there are at ModRM and SIB.
+fn displacement_asked(modrm: u8, sib: Option<u8>) -> u8
+    ensures { result ≡ displacement_asked modrm sib }
+{
+    if memory_form(modrm) {
+        displacement_width(modrm, sib)
+    } else {
+        0
+    }
+}
+
+/// Whether each part that a record asks is there with its length, and no other part is.
+fn has_asked_parts(record: &RecordAt, fields: &Fields) -> bool
+    ensures { result ≡ has_asked_parts record.now fields.now }
+{
+    let ask = plan_ask(record.usage, record.modrm, &record.plan);
+    let sib_asked = asks_sib(&ask, record.modrm);
+    let displacement = usize::from(displacement_asked(record.modrm, fields.sib));
+    let modrm_fits = one_if(fields.modrm.is_some()) == one_if(ask.modrm);
+    let sib_fits = one_if(fields.sib.is_some()) == one_if(sib_asked);
+    let displacement_fits = fields.displacement.len() == displacement;
+    let immediate_fits = fields.immediate.len() == usize::from(ask.immediate);
+    let suffix_fits = one_if(fields.suffix.is_some()) == one_if(ask.suffix);
+    modrm_fits && sib_fits && displacement_fits && immediate_fits && suffix_fits
+}
+
+fn push(bytes: &mut ArrayVec<u8, 15>, part: &[u8])
+    requires { array_vec_len bytes.old + length part.now ≤ 15 }
+    ensures text { bytes.new.items ≡ bytes.old.items ++ part.now }
+    ensures len { array_vec_len bytes.new ≡ array_vec_len bytes.old + length part.now }
+{
+    let _ = bytes.try_extend_from_slice(part);
+}
+
+fn push_byte(bytes: &mut ArrayVec<u8, 15>, part: Option<u8>)
+    requires { array_vec_len bytes.old + 1 ≤ 15 }
+    ensures text { bytes.new.items ≡ bytes.old.items ++ option_bytes part }
+    ensures len { array_vec_len bytes.new ≤ array_vec_len bytes.old + 1 }
+{
+    match part {
+        Some(byte) => push(bytes, &[byte]),
+        None => {}
+    }
+}
+
+/// What stands behind the opcode byte, at most 15 bytes.
+fn tail_of(fields: &Fields) -> ArrayVec<u8, 15>
+    ensures { result.items ≡ tail_of fields.now }
+{
+    let displacement = fields.displacement.as_slice();
+    let immediate = fields.immediate.as_slice();
+    let mut tail = ArrayVec::new();
+    push_byte(&mut tail, fields.modrm);
+    push_byte(&mut tail, fields.sib);
+    push(&mut tail, displacement);
+    push(&mut tail, immediate);
+    push_byte(&mut tail, fields.suffix);
+    tail
+}
+
+/// Whether F0 is absent, or allowed for the reading of what stands behind the opcode byte.
+fn has_lawful_lock(strict: bool, entry: &Entry, fields: &Fields) -> bool
+    requires { IsForm entry.now.row.form }
+    ensures { result ≡ has_lawful_lock strict entry.now fields.now }
+{
+    let tail = tail_of(fields);
+    let mut words = U8Reader::new(tail.as_slice());
+    match read_row(strict, entry.row, entry.prefixes, &mut words) {
+        Ok(reading) => allows_lock(&reading),
+        Err(_) => false,
+    }
+}
+
+/// The parts in order, where they have at most 15 bytes in all.
+fn joined(fields: &Fields) -> Option<ArrayVec<u8, 15>>
+    ensures short { is_some result ≡ is_short fields.now }
+    ensures bytes { IfSome result (λ bytes. bytes.items ≡ joined (lists_in fields.now)) }
+{
+    let prefixes = fields.prefixes.as_slice();
+    let escape = fields.escape.as_slice();
+    let tail = tail_of(fields);
+    let behind = tail.as_slice();
+    if prefixes.len() + escape.len() + 1 + behind.len() > 15 {
+        return None;
+    }
+    let mut bytes = ArrayVec::new();
+    push(&mut bytes, prefixes);
+    push(&mut bytes, escape);
+    push(&mut bytes, &[fields.opcode]);
+    push(&mut bytes, behind);
+    Some(bytes)
+}
+
+/// Writes fields whose row is known.
+fn emit_row(strict: bool, entry: &Entry, fields: &Fields) -> Result<ArrayVec<u8, 15>, EmitError>
+    requires { IsForm entry.now.row.form }
+    ensures { MatchResult result (λ bytes. (failing_at strict (Some entry.now) fields.now ≡ None) × (bytes.items ≡ joined (lists_in fields.now))) (λ error. failing_at strict (Some entry.now) fields.now ≡ Some error) }
+{
+    let record = record_at(strict, entry, fields.modrm);
+    if !passes_record(&record, fields) {
+        return Err(EmitError::Row);
+    }
+    if !has_asked_parts(&record, fields) {
+        return Err(EmitError::Shape);
+    }
+    if !has_lawful_lock(strict, entry, fields) {
+        return Err(EmitError::Lock);
+    }
+    match joined(fields) {
+        Some(bytes) => Ok(bytes),
+        None => Err(EmitError::Length),
+    }
+}
+
+/// The encoding that has these parts, where they are permitted: the prefixes are a legal run; the opcode byte has a row, and its
+/// record doesn't refuse; each part that the row asks is there with its length, and no other part; F0 is absent or allowed; and the
+/// parts have at most 15 bytes in all. Else the error says which of these fails first (Intel SDM volume 2, section 2.1).
+///
+/// The fields of the split of `48 03 44 25 00` give these bytes again, and `Shape` where their SIB is taken away.
+#[tactic(auto, unfolding(crate::specs::Permitted::first_failing))]
+pub fn emit(decoder: &InstDecoder, fields: &Fields) -> Result<ArrayVec<u8, 15>, EmitError>
+    ensures permitted { IsOk result ↔ IsPermitted decoder.now.strict fields.now }
+    ensures bytes { IfOk result (λ bytes. bytes.items ≡ joined (lists_in fields.now)) }
+    ensures first { IfErr result (λ error. first_failing decoder.now.strict fields.now ≡ Some error) }
+{
+    if !is_legal_run(fields.prefixes.as_slice()) {
+        return Err(EmitError::Prefixes);
+    }
+    match entry_of(fields) {
+        Some(entry) => emit_row(decoder.is_strict(), &entry, fields),
+        None => Err(EmitError::Row),
+    }
+}
