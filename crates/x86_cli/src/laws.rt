@@ -24,4 +24,5 @@ pub fn decoder_laws()
     laws::answers_of_more();
     laws::fifteen_are_enough();
     laws::empty_input();
+    laws::answer_is();
 }
