@@ -1,5 +1,5 @@
 -- What a window shows of what stands behind it.
-use Rattle.std.proofs.Common.{◌≡◌, ◌≢◌, ℕ, ◌<◌, List, [], ◌∷◌, ◌++◌, length, refl, arith, Option, Some, None, Result, Ok, Err, Bool, ap, ◌∙◌, sym}
+use Rattle.std.proofs.Common.{◌≡◌, ◌≢◌, ℕ, ◌<◌, List, [], ◌∷◌, ◌++◌, length, take, refl, arith, Option, Some, None, Result, Ok, Err, Bool, ap, ◌∙◌, sym, append-nil}
 use Rattle.x86_decode.specs.declared.instructions.Instruction.{Instruction}
 use Rattle.x86_fields.specs.declared.DecodeError.{DecodeError}
 use Rattle.x86_fields.specs.declared.DecodeError.TheVariants.{ExhaustedInput}
@@ -8,7 +8,7 @@ use Rattle.x86_cli.specs.declared.text.Ending.{Ending}
 use Rattle.x86_cli.specs.declared.text.Ending.TheVariants.{Clean, Bad, Large, Fault}
 use Rattle.x86_cli.specs.declared.text.Stop.{Stop}
 use Rattle.x86_cli.specs.declared.window.Front.{Front}
-use Rattle.x86_cli.specs.declared.window.Front.TheVariants.{Ended}
+use Rattle.x86_cli.specs.declared.window.Front.TheVariants.{Whole, Ended}
 use Rattle.x86_cli.specs.Listing.{front_of, judged, sure_of}
 use Rattle.x86_cli.specs.DecoderLaws.{DecoderLaws}
 use Rattle.x86_cli.specs.Window.{rest_of, Shows}
@@ -18,7 +18,24 @@ judged-sure (Ok i) e ne = refl
 judged-sure (Err ExhaustedInput) e ne = absurd (ne refl)
 judged-sure (Err error) e ne = refl
 
+judged-whole : (a : Result Instruction DecodeError) (e : Ending) (i : Instruction) → judged a e ≡ Whole i → a ≡ Ok i
+judged-whole (Ok j) e i h = let same : j ≡ i = cc in ap Ok same
+judged-whole (Err ExhaustedInput) Clean i h = cc
+judged-whole (Err ExhaustedInput) (Bad n) i h = cc
+judged-whole (Err ExhaustedInput) Large i h = cc
+judged-whole (Err ExhaustedInput) Fault i h = cc
+judged-whole (Err error) e i h = cc
+
 module _ (strict : Bool) (laws : DecoderLaws strict) where
+  whole_answer : (w : List ℕ) (e : Ending) (i : Instruction) → front_of strict w e ≡ Whole i → answer_of strict w ≡ Ok i
+  unfolding front_of
+  whole_answer [] e i h = cc
+  whole_answer (x ∷ w) e i h = judged-whole (answer_of strict (x ∷ w)) e i h
+
+  -- what a window that shows an instruction says of its bytes alone
+  pub shown_answer : (ended : Option Ending) (w : List ℕ) (i : Instruction) → Shows strict (Whole i) ended w → answer_of strict (take i.length w) ≡ Ok i
+  shown_answer ended w i shows = laws.alone w i (whole_answer w Clean i (rw append-nil at (shows.2 [] Clean)))
+
   -- an answer that more bytes don't change
   pub front-stays : (w ys : List ℕ) (e : Ending) → answer_of strict w ≢ Err ExhaustedInput → front_of strict (w ++ ys) e ≡ sure_of (answer_of strict w)
   unfolding front_of

@@ -1,5 +1,5 @@
 -- Rows of sentences, and what a run of them answers.
-use Rattle.std.specs.Prelude.{◌≡◌, ℕ, Bool, List, [], ◌∷◌, length, Ok, IfSome, ⊤}
+use Rattle.std.specs.Prelude.{◌≡◌, ℕ, Bool, false, List, [], ◌∷◌, length, Ok, IfSome, ⊤}
 use Rattle.std.specs.List.{concat}
 use Rattle.std.specs.Io.KnownBytes.{append_known}
 use Rattle.x86_decode.specs.declared.instructions.Instruction.{Instruction}
@@ -9,7 +9,7 @@ use Rattle.x86_cli.specs.declared.text.Stop.TheVariants.{End}
 use Rattle.x86_cli.specs.declared.status.Status.{Status}
 use Rattle.x86_cli.specs.declared.status.Status.TheVariants.{Done}
 use Rattle.x86_cli.specs.declared.command.Command.{Command}
-use Rattle.x86_cli.specs.declared.command.Command.TheVariants.{List as Listed, Sweep as Swept, Targets as Targeted}
+use Rattle.x86_cli.specs.declared.command.Command.TheVariants.{List as Listed, Sweep as Swept, Targets as Targeted, Fields as Fielded}
 use Rattle.x86_cli.specs.Text.{text_of}
 use Rattle.x86_cli.specs.Command.{listing_for}
 use Rattle.x86_cli.specs.Run.{World, IsSound, full_listing}
@@ -33,6 +33,7 @@ pub record IsRowOfSentences (strict : Bool) (image : List ℕ) : Type 0 where
 -- The command goes through the image to its end: a listing where that is a row of sentences, a sweep always.
 abbrev pub GoesThrough : Command → List ℕ → Type 0
 GoesThrough (Listed strict) image = IsRowOfSentences strict image
+GoesThrough Fielded image = IsRowOfSentences false image
 GoesThrough Swept image = ⊤
 GoesThrough Targeted image = ⊤
 

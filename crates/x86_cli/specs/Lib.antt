@@ -4,6 +4,7 @@ pub mod Text
 pub mod Reading
 pub mod Rows
 pub mod Line
+pub mod Fields
 pub mod Listing
 pub mod DecoderLaws
 pub mod Window

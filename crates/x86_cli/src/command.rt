@@ -7,6 +7,7 @@ ghost use Rattle.x86_cli.specs.Make.{IsMake, IsNoCommand, Makes};
 ghost use Rattle.x86_cli.specs.Run.{World, Says, Exactly, ReachesFault};
 ghost use Rattle.x86_cli.specs.Complete.{Completes};
 
+use crate::fields::Fielded;
 use crate::laws::decoder_laws;
 use crate::line::Plain;
 use crate::listing::list;
@@ -25,13 +26,15 @@ pub const TEXT_MAX: u64 = 67108864;
 pub const TARGETS_MAX: u64 = 16384;
 
 /// What is printed where the words are no command.
-pub const USAGE: &str = "usage: list [--strict] | make N | sweep | targets";
+pub const USAGE: &str = "usage: list [--strict] | make N | fields | sweep | targets";
 
 /// What the program does.
 #[derive(Clone, Copy, PartialEq, Eq, Debug, Drop)]
 pub enum Command {
     /// The listing, by the default choice or the strict one.
     List { strict: bool },
+    /// The parts of each encoding, by the default choice.
+    Fields,
     /// The sweep, by the default choice.
     Sweep,
     /// The places that the instructions of the sweep branch to, by the default choice.
@@ -44,6 +47,7 @@ fn command_by(word: &str) -> Option<Command>
 {
     match word {
         "list" => Some(Command::List { strict: false }),
+        "fields" => Some(Command::Fields),
         "sweep" => Some(Command::Sweep),
         "targets" => Some(Command::Targets),
         _ => None,
@@ -91,12 +95,13 @@ fn obey<S: Source, K: Sink>(command: Command, source: &mut S, sink: &mut K) -> S
 {
     match command {
         Command::List { strict } => list(&decoder(strict), &Plain, TEXT_MAX, source, sink),
+        Command::Fields => list(&decoder(false), &Fielded, TEXT_MAX, source, sink),
         Command::Sweep => sweep(&decoder(false), TEXT_MAX, source, sink),
         Command::Targets => targets(&decoder(false), TARGETS_MAX, source, sink),
     }
 }
 
-/// Does what the words say. `list`, `list --strict`, `sweep` and `targets` read a hex text from the source, at most
+/// Does what the words say. `list`, `list --strict`, `fields`, `sweep` and `targets` read a hex text from the source, at most
 /// `TEXT_MAX` bytes of it (`TARGETS_MAX` for `targets`), and write its listing to the sink, a call of `put` for each line.
 pub fn run<S: Source, K: Sink>(words: &[String], source: &mut S, sink: &mut K) -> Status
     ensures says { IfSome (command_of (map string_bytes words.now)) (λ c. Says (listing_for c) (max_of c) result

@@ -35,6 +35,33 @@ fn sweeps(rt: HostRuntime) {
 }
 
 #[test]
+fn fields(rt: HostRuntime) {
+    let worked: [(&str, &str, Status); 3] = [
+        (
+            "48 03 44 25 00 90",
+            "0 5 48 - 03 44 25 00 - -\n5 1 - - 90 - - - - -\n",
+            Status::Done,
+        ),
+        (
+            "48 a1 88 77 66 55 44 33 22 11",
+            "0 10 48 - a1 - - - 8877665544332211 -\n",
+            Status::Done,
+        ),
+        (
+            "0f 0f c1 9e 06",
+            "0 4 - 0f 0f c1 - - - 9e\n4 error: invalid opcode\n",
+            Status::Refused,
+        ),
+    ];
+    for (text, written, status) in worked {
+        let (text, written) = (text.as_bytes(), written.as_bytes());
+        assert!(&rt; runs(rt.alloc(), &["fields"], text, &[], written, status));
+    }
+    let (text, one): (&[u8], &[u8]) = (b"90 90", b"0 1 - - 90 - - - - -\nread fault\n");
+    assert!(&rt; runs(rt.alloc(), &["fields"], text, &[3], one, Status::ReadFault));
+}
+
+#[test]
 fn targets(rt: HostRuntime) {
     let worked: [(&str, &str); 4] = [
         ("eb fe", "0\n"),

@@ -27,6 +27,7 @@ pub fn decoder_laws()
     laws::answers_of_more();
     laws::fifteen_are_enough();
     laws::empty_input();
+    laws::answer_is();
 }
 
 /// What a source gives, refusals of a sink, and statuses are equal exactly where they are the same.

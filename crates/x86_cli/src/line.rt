@@ -1,15 +1,16 @@
 //! The lines of a listing.
 
-ghost use Rattle.std.specs.Prelude.{ℕ, List, ◌≡◌, ◌+◌, ◌++◌, length, take, decimal, Some, codes, ◌≤◌};
+ghost use Rattle.std.specs.Prelude.{Bool, ℕ, List, Ok, ◌≡◌, ◌+◌, ◌++◌, length, take, decimal, Some, codes, ◌≤◌};
 ghost use Rattle.arrayvec.specs.ArrayVec.{array_vec_len};
 ghost use Rattle.x86_decode.specs.declared.instructions.Instruction.{Instruction};
+ghost use Rattle.x86_decode.specs.Answer.{answer_of};
 ghost use Rattle.x86_opcodes.specs.Mnemonics.{mnemonic_of};
 ghost use Rattle.x86_fields.specs.Errors.{description_of};
 ghost use Rattle.x86_cli.specs.Line.{instruction_text, operands_text, shown_operands, joint_text, operand_text, deref_text, moved_text, index_text, moved_index_text, scaled_text, displacement_text, register_text, base_text, plus_text, size_text, refusal_text, bad_text};
 
 use arrayvec::ArrayVec;
 use itoa::{Buffer, Integer};
-use x86_decode::Instruction;
+use x86_decode::{InstDecoder, Instruction};
 use x86_fields::DecodeError;
 use x86_opcodes::Opcode;
 use x86_operands::Operand;
@@ -20,12 +21,19 @@ pub type Line = ArrayVec<u8, 192>;
 
 /// What a command writes for an accepted cut.
 pub trait Lines {
-    /// The line of an instruction at a place, given its bytes.
-    ghost text: { Self → ℕ → Instruction → List ℕ → List ℕ };
+    /// The line of an instruction at a place, under a choice and given its bytes.
+    ghost text: { Self → Bool → ℕ → Instruction → List ℕ → List ℕ };
 
-    /// That line, without its end.
-    fn line(&self, place: u64, instruction: &Instruction, bytes: &[u8]) -> Line
-        ensures text { result.items ≡ text self.now place instruction.now bytes.now }
+    /// That line, without its end. The bytes are those of the instruction.
+    fn line(
+        &self,
+        decoder: &InstDecoder,
+        place: u64,
+        instruction: &Instruction,
+        bytes: &[u8],
+    ) -> Line
+        requires { answer_of decoder.now.strict bytes.now ≡ Ok instruction.now }
+        ensures text { result.items ≡ text self.now decoder.now.strict place instruction.now bytes.now }
         ensures short { array_vec_len result ≤ 191 };
 }
 
@@ -33,9 +41,15 @@ pub trait Lines {
 pub struct Plain;
 
 impl Lines for Plain {
-    ghost text = { λ s place instruction bytes. instruction_text place instruction };
+    ghost text = { λ s strict place instruction bytes. instruction_text place instruction };
 
-    fn line(&self, place: u64, instruction: &Instruction, _bytes: &[u8]) -> Line {
+    fn line(
+        &self,
+        _decoder: &InstDecoder,
+        place: u64,
+        instruction: &Instruction,
+        _bytes: &[u8],
+    ) -> Line {
         line_of(place, instruction)
     }
 }

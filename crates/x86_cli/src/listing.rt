@@ -8,6 +8,7 @@ ghost use Rattle.x86_cli.specs.Line.{line, refusal_text};
 ghost use Rattle.x86_cli.specs.Listing.{at_end, listing_of};
 ghost use Rattle.x86_cli.specs.Run.{World, Says, Closes};
 
+use crate::laws::decoder_laws;
 use crate::line::{Line, Lines, push_bytes, refusal_of, text_error};
 use crate::sink::{Sink, SinkFailed};
 use crate::source::Source;
@@ -85,10 +86,11 @@ pub fn list<L: Lines, S: Source, K: Sink>(
     sink: &mut K,
 ) -> Status
     requires { max < 2 ^ 62 }
-    ensures { Says (listing_of decoder.now.strict (L.text lines.now)) max result
+    ensures { Says (listing_of decoder.now.strict (L.text lines.now decoder.now.strict)) max result
         (record { left = S.left source.old; source_faults = S.faults source.old; written = K.written sink.old; sink_faults = K.faults sink.old })
         (record { left = S.left source.new; source_faults = S.faults source.new; written = K.written sink.new; sink_faults = K.faults sink.new }) }
 {
+    decoder_laws();
     let mut window = Window::new(max);
     let mut place = 0u64;
     'lines: loop {
@@ -96,7 +98,7 @@ pub fn list<L: Lines, S: Source, K: Sink>(
         match window.front(decoder) {
             Front::Whole(instruction) => {
                 let length = length_of(&instruction);
-                let text = lines.line(place, &instruction, window.first(length as usize));
+                let text = lines.line(decoder, place, &instruction, window.first(length as usize));
                 match put_line(sink, text) {
                     Ok(()) => {}
                     Err(_) => return Status::WriteFault,

@@ -6,6 +6,7 @@ ghost use Rattle.std.specs.Prelude.{◌≡◌};
 mod command;
 #[cfg(test)]
 mod command_tests;
+mod fields;
 mod gathered;
 #[cfg(test)]
 mod group_table;
