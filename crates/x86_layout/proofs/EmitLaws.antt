@@ -1,12 +1,11 @@
 -- Permitted fields are the parts of an accepted encoding, and the parts of an accepted encoding are permitted.
-use Rattle.std.proofs.Common.{◌≡◌, ℕ, ◌≤◌, ◌==◌, nat_le, Bool, true, false, if◌then◌else◌, List, [], ◌∷◌, ◌++◌, length, take, slice_index, Option, Some, None, Result, Ok, refl, sym, ap, subst, ◌∙◌, arith}
+use Rattle.std.proofs.Common.{◌≡◌, ℕ, ◌↔◌, ◌≤◌, ◌==◌, nat_le, Bool, true, false, if◌then◌else◌, List, [], ◌∷◌, ◌++◌, length, take, slice_index, Option, Some, None, Result, Ok, refl, sym, ap, subst, ◌∙◌, arith}
 use Rattle.std.proofs.lemmas.List.{append-nil}
 use Rattle.std.proofs.lemmas.Bool.Decides.{nat_tests}
 use Rattle.x86_arch.specs.Reader.{State}
 use Rattle.x86_fields.specs.declared.DecodeError.{DecodeError}
 use Rattle.x86_fields.specs.declared.Prefixes.{Prefixes}
 use Rattle.x86_fields.specs.Run.{reading_of}
-use Rattle.x86_fields.specs.Steps.{outcome}
 use Rattle.x86_forms.specs.declared.Map.{Map}
 use Rattle.x86_forms.specs.declared.Map.TheVariants.{One, Of, Of38, Of3a}
 use Rattle.x86_forms.specs.declared.TableRow.{TableRow}
@@ -25,14 +24,15 @@ use Rattle.x86_layout.specs.declared.fields.Fields as fields
 use Rattle.x86_layout.specs.declared.entries.Entry.{Entry}
 use Rattle.x86_layout.specs.declared.writing.EmitError.{EmitError}
 use Rattle.x86_layout.specs.declared.writing.EmitError.TheVariants as error
-use Rattle.x86_layout.specs.Parts.{PartLists, Encoding, record_in, HasParts, joined}
+use Rattle.x86_layout.specs.Parts.{Encoding, record_in, HasParts, joined}
 use Rattle.x86_layout.specs.Front.{parts_of}
-use Rattle.x86_layout.specs.Fields.{lists_in}
-use Rattle.x86_layout.specs.Permitted.{map_named, entry_by, entry_at, entry_of, record_by, has_legal_run, passes_record, has_asked_parts, tail_of, allows_lock, has_lawful_lock, is_short, unless, failing_at, first_failing, IsPermitted}
+use Rattle.x86_layout.specs.Fields.{lists_in, HasFieldLengths}
+use Rattle.x86_layout.specs.Permitted.{map_named, entry_by, entry_at, entry_of, record_by, has_legal_run, passes_record, has_asked_parts, tail_of, allows_lock, has_lawful_lock, is_short, unless, failing_at, first_failing, IsPermitted, ArePartsOfSentence}
 use Rattle.x86_layout.proofs.PartLaws.{front_is}
 use Rattle.x86_layout.proofs.FrontLaws.{parts_are, parts_once}
 use Rattle.x86_layout.proofs.SplitLaws.{joined_is}
-use Rattle.x86_layout.proofs.SpellLaws.{same_number, SpellsFields, spelled, HoldsPieces, passes, asked}
+use Rattle.x86_layout.proofs.LengthLaws.{lengths_of}
+use Rattle.x86_layout.proofs.SpellLaws.{same_number, spelled, HoldsPieces, passes, asked}
 
 -- ---- the first that fails
 
@@ -273,3 +273,27 @@ emitted_again strict bytes i f a counted e =
     let h : HasParts strict s x.reading x.whole (lists_in f) =
     subst (HasParts strict s x.reading x.whole) (sym (e ∙ ap (parts_of strict) a.begins)) (parts_are strict s a.rest x.reading x.whole) in
     (permitted strict s x.reading x.whole f h x.lock x.short, joined_is strict s x.reading x.whole (lists_in f) h ∙ sym (front_is bytes s a.rest i.length a.begins (counted ∙ sym a.long)))
+
+-- Fields are permitted exactly where they are the parts of a sentence.
+pub permitted_are_parts : (strict : Bool) (f : fields.Fields) → IsPermitted strict f ↔ ArePartsOfSentence strict f
+permitted_are_parts strict f = (there, back)
+  where
+    there : IsPermitted strict f → ArePartsOfSentence strict f
+    there h =
+        let x = emitted strict f h in
+        record {
+          answer = instruction_of x.reading (length (joined (lists_in f)));
+          sentence = record { reading = x.reading; whole = x.whole; lock = x.lock; short = x.short; gives = refl };
+          parts = x.parts;
+        }
+
+    back : ArePartsOfSentence strict f → IsPermitted strict f
+    back k = permitted strict (joined (lists_in f)) k.sentence.reading k.sentence.whole f k.parts k.sentence.lock k.sentence.short
+
+-- The parts of an accepted encoding have lengths that fields can hold.
+pub parts_fit : (strict : Bool) (bytes : List ℕ) (i : Instruction) → IsAccepted (rows_of word_at) strict bytes i (count_of strict bytes) → HasFieldLengths (parts_of strict bytes)
+parts_fit strict bytes i a =
+    let x = a.is in
+    let h : HasParts strict a.sentence x.reading x.whole (parts_of strict bytes) =
+    subst (HasParts strict a.sentence x.reading x.whole) (sym (ap (parts_of strict) a.begins)) (parts_are strict a.sentence a.rest x.reading x.whole) in
+    lengths_of strict a.sentence x.reading x.whole (parts_of strict bytes) h x.short

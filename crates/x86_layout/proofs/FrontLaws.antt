@@ -6,8 +6,6 @@ use Rattle.x86_fields.specs.declared.Raw.{Raw}
 use Rattle.x86_fields.specs.Run.{is_prefix_byte, reading_of}
 use Rattle.x86_fields.specs.Raw.{low_field, disp_width}
 use Rattle.x86_fields.specs.Pieces.{option_bytes, first_byte}
-use Rattle.x86_forms.specs.declared.Map.{Map}
-use Rattle.x86_forms.specs.declared.TableRow.{TableRow}
 use Rattle.x86_operands.specs.declared.asks.Ask.{Ask}
 use Rattle.x86_operands.specs.declared.reader.Reading.{Reading}
 use Rattle.x86_operands.specs.Plans.{RowRecord, is_memory}

@@ -1,5 +1,5 @@
 -- Fields that meet the conditions on their row spell what the row asks, and the other way round.
-use Rattle.std.proofs.Common.{◌≡◌, ℕ, ◌+◌, ◌-◌, ◌≤◌, ◌==◌, ◌&&◌, ◌||◌, not, Bool, true, false, if◌then◌else◌, List, [], ◌∷◌, ◌++◌, length, take, drop, map, Option, Some, None, is_some, is_none, refl, sym, ap, subst, ◌∙◌, arith, length-append, length-take, length-drop}
+use Rattle.std.proofs.Common.{◌≡◌, ℕ, ◌==◌, ◌&&◌, ◌||◌, not, Bool, true, false, if◌then◌else◌, List, [], ◌∷◌, ◌++◌, length, take, drop, map, Option, Some, None, is_some, is_none, refl, sym, ap, subst, ◌∙◌, arith, length-take, length-drop}
 use Rattle.std.proofs.lemmas.List.{take-append-drop}
 use Rattle.std.proofs.lemmas.Bool.{and_parts}
 use Rattle.std.proofs.lemmas.Bool.Decides.{nat_tests}
@@ -23,7 +23,7 @@ use Rattle.x86_operands.specs.Asks.{asks_modrm, asks_suffix, immediates_width, r
 use Rattle.x86_layout.specs.declared.fields.Fields as fields
 use Rattle.x86_layout.specs.Heads.{one_if}
 use Rattle.x86_layout.specs.Parts.{sib_width}
-use Rattle.x86_layout.specs.Permitted.{lacks_modrm, refuses_suffix, passes_record, displacement_asked, has_asked_parts, tail_of}
+use Rattle.x86_layout.specs.Permitted.{refuses_suffix, passes_record, displacement_asked, has_asked_parts, tail_of}
 use Rattle.x86_layout.proofs.PartLaws.{front_is, rest_is, signs_long}
 use Rattle.x86_layout.proofs.FrontLaws.{option_count, first_of, address_parts}
 

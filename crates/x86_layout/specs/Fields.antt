@@ -1,5 +1,5 @@
 -- The parts that fields hold.
-use Rattle.std.specs.Prelude.{◌≡◌, ℕ, ◌≤◌, [], ◌∷◌, length}
+use Rattle.std.specs.Prelude.{◌≡◌, ◌≤◌, [], ◌∷◌, length}
 use Rattle.x86_fields.specs.Pieces.{option_bytes}
 use Rattle.x86_layout.specs.declared.fields.Fields.{Fields}
 use Rattle.x86_layout.specs.Parts.{PartLists}

@@ -1,5 +1,5 @@
 -- The parts of the encoding at the front of bytes, told from the bytes.
-use Rattle.std.specs.Prelude.{ℕ, Bool, true, false, if◌then◌else◌, Option, Some, None, List, length, take, drop, slice_index}
+use Rattle.std.specs.Prelude.{ℕ, Bool, false, if◌then◌else◌, Option, Some, None, List, length, take, drop, slice_index}
 use Rattle.std.specs.List.{prefix_len}
 use Rattle.x86_fields.specs.declared.Prefixes.{Prefixes}
 use Rattle.x86_fields.specs.Run.{is_prefix_byte, reading_of}

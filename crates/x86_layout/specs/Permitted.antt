@@ -1,5 +1,5 @@
 -- Permitted fields: five conditions, in order, each with the error where it is the first that fails.
-use Rattle.std.specs.Prelude.{◌≡◌, ℕ, ◌==◌, ◌&&◌, ◌||◌, nat_le, not, Bool, true, false, if◌then◌else◌, Option, Some, None, is_some, is_none, List, [], ◌∷◌, ◌++◌, length, Result, Ok, Err}
+use Rattle.std.specs.Prelude.{◌≡◌, ℕ, ◌==◌, ◌&&◌, ◌||◌, nat_le, not, Bool, false, if◌then◌else◌, Option, Some, None, is_some, is_none, List, [], ◌∷◌, ◌++◌, length, Result, Ok, Err}
 use Rattle.x86_fields.specs.declared.DecodeError.{DecodeError}
 use Rattle.x86_fields.specs.declared.Prefixes.{Prefixes}
 use Rattle.x86_fields.specs.Run.{reading_of}
@@ -19,13 +19,14 @@ use Rattle.x86_operands.specs.Suffix.{opcode_of_suffix}
 use Rattle.x86_operands.specs.Asks.{asks_modrm, asks_suffix, immediates_width, record_at}
 use Rattle.x86_operands.specs.Signs.{record_step}
 use Rattle.x86_decode.specs.Head.{is_run, column_of, is_opcode, seen}
-use Rattle.x86_decode.specs.Grammar.{record_of, lock_allowed}
+use Rattle.x86_decode.specs.declared.instructions.Instruction.{Instruction}
+use Rattle.x86_decode.specs.Grammar.{record_of, lock_allowed, IsSentence}
 use Rattle.x86_layout.specs.declared.fields.Fields.{Fields}
 use Rattle.x86_layout.specs.declared.entries.Entry.{Entry}
 use Rattle.x86_layout.specs.declared.writing.EmitError.{EmitError}
 use Rattle.x86_layout.specs.declared.writing.EmitError.TheVariants as error
 use Rattle.x86_layout.specs.Heads.{one_if}
-use Rattle.x86_layout.specs.Parts.{sib_width, joined}
+use Rattle.x86_layout.specs.Parts.{sib_width, HasParts, joined}
 use Rattle.x86_layout.specs.Fields.{lists_in}
 
 -- ---- the row that fields name
@@ -121,3 +122,9 @@ first_failing strict f = unless (has_legal_run f) error.Prefixes (failing_at str
 
 abbrev pub IsPermitted : Bool → Fields → Type 0
 IsPermitted strict f = first_failing strict f ≡ None
+
+-- The fields are the parts of a sentence.
+pub record ArePartsOfSentence (strict : Bool) (f : Fields) : Type 0 where
+  pub answer : Instruction
+  pub sentence : IsSentence (rows_of word_at) strict (joined (lists_in f)) answer
+  pub parts : HasParts strict (joined (lists_in f)) sentence.reading sentence.whole (lists_in f)

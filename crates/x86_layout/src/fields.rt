@@ -10,7 +10,7 @@ use crate::parts::Parts;
 use arrayvec::ArrayVec;
 
 /// The parts of an encoding, owned, so that one can be changed alone (Intel SDM volume 2, section 2.1).
-#[derive(Clone, Debug, Drop)]
+#[derive(Debug, Drop)]
 pub struct Fields {
     /// The legacy prefixes and REX bytes.
     pub prefixes: ArrayVec<u8, 14>,

@@ -1,10 +1,9 @@
 //! What stands in front of the pieces that a row asks, and what the row asks.
 
-ghost use Rattle.std.specs.Prelude.{◌≡◌, ℕ, Bool, true, List, length, take, drop, slice_index, IsTrue, IfSome};
+ghost use Rattle.std.specs.Prelude.{◌≡◌, Bool, true, length, take, drop, slice_index, IfSome};
 ghost use Rattle.std.specs.List.{list_all, prefix_len};
-ghost use Rattle.x86_fields.specs.Run.{is_prefix_byte, reading_of};
+ghost use Rattle.x86_fields.specs.Run.{is_prefix_byte};
 ghost use Rattle.x86_forms.specs.Words.{IsForm, rows_of, word_at};
-ghost use Rattle.x86_forms.specs.declared.TableRow.{TableRow};
 ghost use Rattle.x86_operands.specs.Asks.{ask_of};
 ghost use Rattle.x86_decode.specs.Head.{column_of, escape_bytes, seen};
 ghost use Rattle.x86_decode.specs.Grammar.{record_of};

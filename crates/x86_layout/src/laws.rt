@@ -1,6 +1,6 @@
 //! What follows from the definitions of the cuts and of the parts.
 
-ghost use Rattle.std.specs.Prelude.{◌≡◌, ℕ, ◌+◌, ◌<◌, ◌≤◌, Bool, List, [], ◌∷◌, ◌++◌, length, take, drop, Ok};
+ghost use Rattle.std.specs.Prelude.{◌≡◌, ◌↔◌, ℕ, ◌+◌, ◌<◌, ◌≤◌, Bool, List, [], ◌∷◌, ◌++◌, length, take, drop, Ok};
 ghost use Rattle.std.specs.List.{sum_by, All};
 ghost use Rattle.x86_decode.specs.Answer.{answer_of};
 ghost use Rattle.x86_layout.specs.Cuts.{cut_length, cut_at, cuts_from, cuts_of};
@@ -10,8 +10,8 @@ ghost use Rattle.x86_layout.specs.Parts.{Encoding, HasParts, joined};
 ghost use Rattle.x86_decode.specs.declared.instructions.Instruction.{Instruction};
 ghost use Rattle.x86_layout.specs.declared.fields.Fields.{Fields};
 ghost use Rattle.x86_layout.specs.Front.{parts_of};
-ghost use Rattle.x86_layout.specs.Fields.{lists_in};
-ghost use Rattle.x86_layout.specs.Permitted.{IsPermitted};
+ghost use Rattle.x86_layout.specs.Fields.{lists_in, HasFieldLengths};
+ghost use Rattle.x86_layout.specs.Permitted.{IsPermitted, ArePartsOfSentence};
 
 use x86_decode::laws;
 
@@ -36,6 +36,18 @@ pub fn cuts_cover()
 /// The pieces of every whole encoding at the front of bytes are the parts of those bytes, whatever stands behind it.
 pub fn parts_are_those_of_the_bytes()
     ensures { (strict : Bool) (s rest : List ℕ) (reading : Reading) (w : Encoding strict s reading) → HasParts strict s reading w (parts_of strict (s ++ rest)) }
+{}
+
+/// The parts of an accepted encoding have lengths that fields can hold.
+pub fn parts_fit_fields()
+    ensures { (strict : Bool) (bytes : List ℕ) (i : Instruction) → answer_of strict bytes ≡ Ok i → HasFieldLengths (parts_of strict bytes) }
+{
+    laws::answer_is();
+}
+
+/// Fields are permitted exactly where they are the parts of a sentence of the encoding grammar (docs/ENCODING.md).
+pub fn permitted_fields_are_the_parts_of_sentences()
+    ensures { (strict : Bool) (f : Fields) → IsPermitted strict f ↔ ArePartsOfSentence strict f }
 {}
 
 /// What permitted fields spell is accepted, whatever stands behind it, and has these fields again: `split` of the bytes that `emit`

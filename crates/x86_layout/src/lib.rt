@@ -1,4 +1,5 @@
-//! The bytes of encodings: their parts, the cuts of a sweep over any bytes, and where the instructions in them branch to.
+//! The bytes of encodings: their parts, parts written as bytes, the cuts of a sweep over any bytes, and where the instructions in them
+//! branch to.
 #![tactic(auto)]
 
 mod branches;
@@ -23,6 +24,7 @@ pub use writing::{EmitError, emit};
 #[cfg(test)]
 mod tests {
     use crate::{EmitError, Fields, Sweep, branch_target, emit, mark_targets, split};
+    use arrayvec::ArrayVec;
     use x86_decode::InstDecoder;
     use x86_fields::DecodeError;
     use x86_opcodes::Opcode;
@@ -164,66 +166,99 @@ mod tests {
         }
     }
 
-    /// The same fields with other prefixes, as many as fit.
-    fn behind(prefixes: &[u8], fields: &Fields) -> Fields {
-        let mut changed = fields.clone();
-        changed.prefixes.clear();
-        let _ = changed.prefixes.try_extend_from_slice(prefixes);
-        changed
+    const ADD: [u8; 5] = [0x48, 0x03, 0x44, 0x25, 0x00];
+
+    /// The fields of `ADD` with other prefixes, as many as fit.
+    fn add_behind(prefixes: &[u8]) -> Option<Fields> {
+        let mut fields = fields_of(&ADD)?;
+        fields.prefixes.clear();
+        let _ = fields.prefixes.try_extend_from_slice(prefixes);
+        Some(fields)
     }
 
-    fn writes(fields: &Fields, wanted: &[u8]) -> bool {
-        match emit(&InstDecoder::default(), fields) {
-            Ok(bytes) => bytes.as_slice() == wanted,
-            Err(_) => false,
+    /// The fields of `ADD` with another opcode and ModRM, and without a displacement.
+    fn with_opcode(opcode: u8, modrm: u8) -> Option<Fields> {
+        let mut fields = fields_of(&ADD)?;
+        fields.opcode = opcode;
+        fields.modrm = Some(modrm);
+        fields.displacement.clear();
+        Some(fields)
+    }
+
+    fn writes(fields: Option<Fields>, wanted: &[u8]) -> bool {
+        match fields {
+            Some(fields) => match emit(&InstDecoder::default(), &fields) {
+                Ok(bytes) => bytes.as_slice() == wanted,
+                Err(_) => false,
+            },
+            None => false,
         }
     }
 
-    fn refusal(fields: &Fields) -> Option<EmitError> {
-        emit(&InstDecoder::default(), fields).err()
+    fn refusal(fields: Option<Fields>) -> Option<EmitError> {
+        emit(&InstDecoder::default(), &fields?).err()
+    }
+
+    /// The encoding at the front without its prefixes.
+    fn without_prefixes(bytes: &[u8]) -> Option<ArrayVec<u8, 15>> {
+        let decoder = InstDecoder::default();
+        match split(&decoder, bytes) {
+            Ok(parts) => {
+                let mut fields = Fields::of(&parts);
+                fields.prefixes.clear();
+                emit(&decoder, &fields).ok()
+            }
+            Err(_) => None,
+        }
+    }
+
+    #[test]
+    fn prefixes_are_taken_away(rt: HostRuntime) {
+        let bytes = without_prefixes(&[0x66, 0x48, 0x01, 0xd8]).expect(&rt, "an encoding");
+        assert!(rt; bytes.as_slice() == [0x01, 0xd8].as_slice());
     }
 
     #[test]
     fn fields_are_written(rt: HostRuntime) {
-        let fields = fields_of(&[0x48, 0x03, 0x44, 0x25, 0x00, 0x90]).expect(&rt, "fields");
-        assert!(rt; writes(&fields, &[0x48, 0x03, 0x44, 0x25, 0x00]));
-        let twice = behind(&[0x48, 0x48], &fields);
-        assert!(rt; writes(&twice, &[0x48, 0x48, 0x03, 0x44, 0x25, 0x00]));
+        assert!(rt; writes(fields_of(&[0x48, 0x03, 0x44, 0x25, 0x00, 0x90]), &ADD));
+        assert!(rt;
+            writes(
+                add_behind(&[0x48, 0x48]),
+                &[0x48, 0x48, 0x03, 0x44, 0x25, 0x00]
+            )
+        );
         let mut run = [0x66; 12];
         run[10] = 0x48;
-        let long = behind(&run[..11], &fields);
         let bytes = [
-            0x66, 0x66, 0x66, 0x66, 0x66, 0x66, 0x66, 0x66, 0x66, 0x66, 0x48, 0x03, 0x44, 0x25, 0x00,
+            0x66, 0x66, 0x66, 0x66, 0x66, 0x66, 0x66, 0x66, 0x66, 0x66, 0x48, 0x03, 0x44, 0x25,
+            0x00,
         ];
-        assert!(rt; writes(&long, &bytes));
+        assert!(rt; writes(add_behind(&run[..11]), &bytes));
         run[10] = 0x66;
         run[11] = 0x48;
-        assert!(rt; refusal(&behind(&run, &fields)) == Some(EmitError::Length));
+        assert!(rt; refusal(add_behind(&run)) == Some(EmitError::Length));
     }
 
     #[test]
     fn fields_are_refused(rt: HostRuntime) {
-        let fields = fields_of(&[0x48, 0x03, 0x44, 0x25, 0x00, 0x90]).expect(&rt, "fields");
-        assert!(rt; refusal(&behind(&[0x90], &fields)) == Some(EmitError::Prefixes));
-        assert!(rt; refusal(&behind(&[0xf0], &fields)) == Some(EmitError::Lock));
-        let mut changed = fields.clone();
-        changed.sib = None;
-        assert!(rt; refusal(&changed) == Some(EmitError::Shape));
-        let mut changed = fields.clone();
-        changed.opcode = 0x06;
-        assert!(rt; refusal(&changed) == Some(EmitError::Row));
-        // FE /2 has no row, whatever else is missing
-        let mut changed = fields.clone();
-        changed.opcode = 0xfe;
-        changed.modrm = Some(0x50);
-        changed.displacement.clear();
-        assert!(rt; refusal(&changed) == Some(EmitError::Row));
-        let mut changed = fields_of(&[0x0f, 0x0f, 0xc1, 0x9e]).expect(&rt, "fields");
-        changed.suffix = Some(0x06);
-        assert!(rt; refusal(&changed) == Some(EmitError::Row));
-        let fence = fields_of(&[0x0f, 0xae, 0xe9]).expect(&rt, "fields");
-        assert!(rt; writes(&fence, &[0x0f, 0xae, 0xe9]));
-        let strictly = emit(&InstDecoder::strict(), &fence).err();
-        assert!(rt; strictly == Some(EmitError::Row));
+        assert!(rt; refusal(add_behind(&[0x90])) == Some(EmitError::Prefixes));
+        assert!(rt; refusal(add_behind(&[0xf0])) == Some(EmitError::Lock));
+        let mut fields = fields_of(&ADD).expect(&rt, "fields");
+        fields.sib = None;
+        assert!(rt; refusal(Some(fields)) == Some(EmitError::Shape));
+        assert!(rt; refusal(with_opcode(0x06, 0x44)) == Some(EmitError::Row));
+        // the row of FE refuses /2, and the displacement is missing
+        assert!(rt; refusal(with_opcode(0xfe, 0x54)) == Some(EmitError::Row));
+        let mut fields = fields_of(&[0x0f, 0x0f, 0xc1, 0x9e]).expect(&rt, "fields");
+        fields.suffix = Some(0x06);
+        assert!(rt; refusal(Some(fields)) == Some(EmitError::Row));
+    }
+
+    #[test]
+    fn a_strict_decoder_writes_fewer_fences(rt: HostRuntime) {
+        let fence = [0x0f, 0xae, 0xe9];
+        assert!(rt; writes(fields_of(&fence), &fence));
+        let fields = fields_of(&fence).expect(&rt, "fields");
+        assert!(rt; emit(&InstDecoder::strict(), &fields).err() == Some(EmitError::Row));
     }
 }

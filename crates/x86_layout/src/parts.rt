@@ -1,6 +1,6 @@
 //! The parts of an encoding.
 
-ghost use Rattle.std.specs.Prelude.{◌≡◌, ◌≤◌, ◌&&◌, ◌==◌, ℕ, Bool, List, slice_index, MatchResult, IfOk, Err};
+ghost use Rattle.std.specs.Prelude.{◌≡◌, ◌≤◌, ℕ, List, slice_index, MatchResult, IfOk, Err};
 ghost use Rattle.x86_fields.specs.declared.Prefixes.{Prefixes};
 ghost use Rattle.x86_operands.specs.declared.reader.Reading.{Reading};
 ghost use Rattle.x86_operands.specs.Plans.{RowRecord};

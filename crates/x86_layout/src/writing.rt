@@ -8,7 +8,7 @@ ghost use Rattle.x86_operands.specs.Pieces.{is_refusal};
 ghost use Rattle.x86_decode.specs.Head.{is_run};
 ghost use Rattle.x86_layout.specs.Parts.{joined};
 ghost use Rattle.x86_layout.specs.Fields.{lists_in};
-ghost use Rattle.x86_layout.specs.Permitted.{record_by, lacks_modrm, refuses_suffix, passes_record, displacement_asked, has_asked_parts, tail_of, has_lawful_lock, is_short, failing_at, first_failing, IsPermitted};
+ghost use Rattle.x86_layout.specs.Permitted.{lacks_modrm, refuses_suffix, passes_record, displacement_asked, has_asked_parts, tail_of, has_lawful_lock, is_short, failing_at, first_failing, IsPermitted};
 
 use crate::entries::{Entry, entry_of, record_at};
 use crate::fields::Fields;

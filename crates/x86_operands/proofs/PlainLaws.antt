@@ -1,22 +1,16 @@
 -- What holds of the plans of all plain forms.
-use Rattle.std.proofs.Common.{◌≡◌, ◌≢◌, ◌≤◌, ℕ, None, true, false, not, ◌&&◌, ◌==◌, rules, refl, sym, ap, ◌∙◌}
+use Rattle.std.proofs.Common.{◌≡◌, ◌≢◌, ◌≤◌, ℕ, None, true, false, rules, refl, sym, ap, ◌∙◌}
 use Rattle.x86_fields.specs.declared.Prefixes.{Prefixes}
-use Rattle.x86_fields.specs.Raw.{rex_b}
-use Rattle.x86_fields.specs.Sizes.{v}
-use Rattle.x86_opcodes.specs.Names.{NOP}
-use Rattle.x86_operands.specs.declared.plans.RegisterSlot.TheVariants.{Rm}
-use Rattle.x86_operands.specs.declared.plans.Signs.TheVariants.{Zero, Two}
 use Rattle.x86_forms.specs.declared.Form.{Form}
 use Rattle.x86_forms.specs.declared.Form.TheVariants as form
 use Rattle.x86_forms.specs.Groups.{is_group_form}
 use Rattle.x86_operands.specs.declared.plans.Fault.TheVariants.{Incomplete}
 use Rattle.x86_operands.specs.declared.plans.Moment.{Moment}
 use Rattle.x86_operands.specs.declared.plans.Verdict.TheVariants.{Refuses}
-use Rattle.x86_operands.specs.Plans.{reads, accumulator_of}
 use Rattle.x86_forms.specs.declared.TableRow.{TableRow}
 use Rattle.x86_operands.specs.Asks.{immediates_width}
-use Rattle.x86_operands.specs.Forms.{z_in, form_plan, form_record}
-use Rattle.x86_operands.proofs.PlanTests.{passes, either_passes, small_steps, without_gap, at_most_64, at_most_8}
+use Rattle.x86_operands.specs.Forms.{form_plan, form_record}
+use Rattle.x86_operands.proofs.PlanTests.{passes, small_steps, without_gap, at_most_64, at_most_8}
 
 -- by the form, of which the last clause covers all that carry no number
 plain_passes : (f : Form) (o : ℕ) (p : Prefixes) (m : ℕ) → passes (is_group_form f) (form_plan f o p m) ≡ true

@@ -1,5 +1,5 @@
 -- What a row asks behind its opcode byte, told from a ModRM byte alone.
-use Rattle.std.specs.Prelude.{ℕ, Bool, true, false, Option, List, [], ◌∷◌, map}
+use Rattle.std.specs.Prelude.{ℕ, Bool, true, false, Option, [], ◌∷◌, map}
 use Rattle.x86_fields.specs.Pieces.{total, option_bytes}
 use Rattle.x86_operands.specs.declared.plans.Verdict.{Verdict}
 use Rattle.x86_operands.specs.declared.plans.Verdict.TheVariants.{NamedBySuffix}
