@@ -7,7 +7,7 @@ ghost use Rattle.x86_cli.specs.Make.{IsMake, IsNoCommand, Makes};
 ghost use Rattle.x86_cli.specs.Run.{World, Says, Exactly, ReachesFault};
 ghost use Rattle.x86_cli.specs.Complete.{Completes};
 
-use crate::fields::Fielded;
+use crate::fields::FieldLines;
 use crate::laws::decoder_laws;
 use crate::line::Plain;
 use crate::listing::list;
@@ -95,7 +95,7 @@ fn obey<S: Source, K: Sink>(command: Command, source: &mut S, sink: &mut K) -> S
 {
     match command {
         Command::List { strict } => list(&decoder(strict), &Plain, TEXT_MAX, source, sink),
-        Command::Fields => list(&decoder(false), &Fielded, TEXT_MAX, source, sink),
+        Command::Fields => list(&decoder(false), &FieldLines, TEXT_MAX, source, sink),
         Command::Sweep => sweep(&decoder(false), TEXT_MAX, source, sink),
         Command::Targets => targets(&decoder(false), TARGETS_MAX, source, sink),
     }

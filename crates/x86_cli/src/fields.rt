@@ -14,9 +14,9 @@ use x86_decode::{InstDecoder, Instruction};
 use x86_layout::{Parts, split};
 
 /// The lines of `fields`, which show the parts of each encoding.
-pub struct Fielded;
+pub struct FieldLines;
 
-impl Lines for Fielded {
+impl Lines for FieldLines {
     ghost text = { λ s strict place instruction bytes. fields_text place (parts_of strict bytes) };
 
     fn line(

@@ -6,7 +6,7 @@ ghost use Rattle.x86_cli.specs.Codes.{code_of};
 /// How a run ended.
 #[derive(Clone, Copy, PartialEq, Eq, Debug, Drop)]
 pub enum Status {
-    /// The text was read to its end, and each of its instructions was listed.
+    /// The text was read to its end, and all that its listing says was written.
     Done,
     /// The words are no command. Nothing was read or written.
     Usage,

@@ -1,6 +1,6 @@
 //! The places that the instructions of a sweep branch to.
 
-ghost use Rattle.std.specs.Prelude.{◌≡◌, ◌≢◌, ℕ, ◌<◌, ◌≤◌, length, take, slice_index_or, false, decimal, Some, OnOk, OnErr};
+ghost use Rattle.std.specs.Prelude.{◌≡◌, ◌≢◌, ℕ, ◌*◌, ◌<◌, ◌≤◌, length, take, slice_index_or, false, decimal, Some, OnOk, OnErr};
 ghost use Rattle.std.specs.Io.KnownBytes.{append_known};
 ghost use Rattle.arrayvec.specs.ArrayVec.{array_vec_len};
 ghost use Rattle.x86_layout.specs.Marks.{is_marked};
@@ -24,14 +24,14 @@ const IMAGE_MAX: usize = 8192;
 
 /// A text that is read to its end, its image held whole.
 #[derive(Drop)]
-pub struct HeldText {
+struct HeldText {
     image: ArrayVec<u8, IMAGE_MAX>,
     ending: Ending,
 }
 
-/// Reads a text to its end.
+/// Reads a text to its end. Each byte of the image takes at least two bytes of text.
 fn read_whole<S: Source>(max: u64, source: &mut S) -> HeldText
-    requires { max ≤ 16384 }
+    requires { max ≤ 2 * IMAGE_MAX }
     ensures reads { ReadsWhole max result.image.items result.ending (S.left source.old) (S.left source.new) }
     ensures faulted { Faulted (Some result.ending) (S.faults source.old) (S.faults source.new) }
     ensures finished { Finished (Some result.ending) (S.left source.new) }
@@ -48,7 +48,7 @@ fn read_whole<S: Source>(max: u64, source: &mut S) -> HeldText
 
 /// Marks the places of an image that the instructions of its sweep branch to.
 fn mark(decoder: &InstDecoder, image: &[u8], marks: &mut [bool; IMAGE_MAX])
-    requires { length image.now ≤ 8192 }
+    requires { length image.now ≤ IMAGE_MAX }
     ensures { (p : ℕ) → p < length image.now → slice_index_or marks.new p false ≡ is_marked decoder.now.strict image.now p }
 {
     mark_targets(decoder, image, &mut marks[..image.len()]);
@@ -84,7 +84,7 @@ pub fn targets<S: Source, K: Sink>(
     source: &mut S,
     sink: &mut K,
 ) -> Status
-    requires { max ≤ 16384 }
+    requires { max ≤ 2 * IMAGE_MAX }
     ensures says { Says (targets_at decoder.now.strict 0) max result
         (record { left = S.left source.old; source_faults = S.faults source.old; written = K.written sink.old; sink_faults = K.faults sink.old })
         (record { left = S.left source.new; source_faults = S.faults source.new; written = K.written sink.new; sink_faults = K.faults sink.new }) }
