@@ -1,5 +1,9 @@
 mod CutLaws
+mod FieldLaws
 mod MarkLaws
 mod PartLaws
 mod PlaceLaws
+mod ShortestLaws
+mod SpelledLaws
 mod SplitLaws
+mod WeightLaws

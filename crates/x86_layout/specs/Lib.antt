@@ -4,4 +4,6 @@ pub mod Heads
 pub mod Lengths
 pub mod Marks
 pub mod Parts
+pub mod Places
+pub mod Shortest
 pub mod Sweeps

@@ -1,10 +1,15 @@
 //! What follows from the definition of the cuts.
 
-ghost use Rattle.std.specs.Prelude.{◌≡◌, ℕ, ◌+◌, ◌<◌, ◌≤◌, Bool, List, [], ◌∷◌, length, drop};
+ghost use Rattle.std.specs.Prelude.{◌≡◌, ℕ, ◌+◌, ◌<◌, ◌≤◌, Bool, false, List, [], ◌∷◌, length, drop};
 ghost use Rattle.std.specs.List.{sum_by, All};
 ghost use Rattle.x86_decode.specs.Answer.{answer_of};
 ghost use Rattle.x86_layout.specs.Cuts.{cut_length, cut_at, cuts_from, cuts_of};
 ghost use Rattle.x86_layout.specs.Lengths.{IsWithin};
+ghost use Rattle.x86_layout.specs.Places.{is_ip_relative};
+ghost use Rattle.x86_layout.specs.Shortest.{shortest, address_length, IsOfBytes};
+ghost use Rattle.x86_fields.specs.declared.Raw.{Raw};
+ghost use Rattle.x86_fields.specs.Raw.{middle_field};
+ghost use Rattle.x86_fields.specs.Linear.{raw_form, IsSameAddress};
 
 use x86_decode::laws;
 
@@ -25,3 +30,15 @@ pub fn cuts_cover()
 {
     laws::lengths();
 }
+
+/// The shortest raw fields have the address of the given ones and the same reg field, need no bit of a REX where the given ones
+/// have none, and no raw fields of that address have fewer bytes of SIB and displacement.
+///
+/// This is said of raw fields that aren't relative to the next instruction. Source: Intel SDM volume 2, sections 2.1.5 and 2.2.1.
+pub fn shortest_fields()
+    ensures of_bytes { (raw : Raw) → IsOfBytes raw → IsOfBytes (shortest raw) }
+    ensures same_address { (raw : Raw) → IsOfBytes raw → is_ip_relative raw ≡ false → IsSameAddress (raw_form (shortest raw)) (raw_form raw) }
+    ensures same_register { (raw : Raw) → middle_field (shortest raw).modrm ≡ middle_field raw.modrm }
+    ensures no_new_bits { (raw : Raw) → raw.rex_b ≡ false → raw.rex_x ≡ false → ((shortest raw).rex_b ≡ false) × ((shortest raw).rex_x ≡ false) }
+    ensures none_shorter { (raw other : Raw) → IsOfBytes raw → IsOfBytes other → is_ip_relative raw ≡ false → IsSameAddress (raw_form other) (raw_form raw) → address_length (shortest raw) ≤ address_length other }
+{}

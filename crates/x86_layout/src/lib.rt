@@ -7,6 +7,8 @@ mod heads;
 pub mod laws;
 mod marks;
 mod parts;
+mod places;
+mod shortest;
 mod sweeps;
 
 pub use branches::branch_target;
