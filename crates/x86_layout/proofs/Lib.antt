@@ -1,9 +1,15 @@
+mod AddressLaws
 mod CutLaws
 mod FieldLaws
 mod MarkLaws
 mod PartLaws
 mod PlaceLaws
+mod PlanAlikeLaws
+mod RelativeLaws
+mod RespellLaws
+mod RexLaws
 mod ShortestLaws
 mod SpelledLaws
 mod SplitLaws
+mod TightenLaws
 mod WeightLaws

@@ -260,3 +260,7 @@ shortest_keeps_bits raw e f =
     placed_low raw.disp _ _ (scale_in raw.sib)
     (ap (λ t. fourth_bit (base_in t raw.modrm raw.sib)) e ∙ low_base raw.modrm raw.sib)
     (ap (λ t. fourth_bit (index_in t raw.sib)) f ∙ low_index raw.sib)
+
+pub shortest_keeps_67 : (raw : Raw) → (shortest raw).address_size ≡ raw.address_size
+unfolding shortest
+shortest_keeps_67 raw = refl

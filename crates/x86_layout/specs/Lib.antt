@@ -7,3 +7,4 @@ pub mod Parts
 pub mod Places
 pub mod Shortest
 pub mod Sweeps
+pub mod Tighten

@@ -8,14 +8,17 @@ pub mod laws;
 mod marks;
 mod parts;
 mod places;
+mod respell;
 mod shortest;
 mod sweeps;
+mod tightening;
 
 pub use branches::branch_target;
 pub use cuts::Cut;
 pub use marks::mark_targets;
 pub use parts::{Parts, split};
 pub use sweeps::Sweep;
+pub use tightening::{TightenError, tighten};
 
 #[cfg(test)]
 mod tests {
