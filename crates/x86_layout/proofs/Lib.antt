@@ -1,6 +1,7 @@
 mod AddressLaws
 mod CutLaws
 mod FieldLaws
+mod LeastLaws
 mod MarkLaws
 mod PartLaws
 mod PlaceLaws

@@ -202,7 +202,7 @@ module _ (strict : Bool) (s : List ℕ) (a : Reading) (v : Encoding strict s a) 
       address = record { from = raw; to = Other; old = read; new = (rerow).memory; same = shortest_has_the_address raw fit ip };
     }
 
-    long : length t ≡ length v.run + (length (escape_bytes v.map) + (2 + (address_length (Other) + (length v.asked.behind.pieces.immediates + length v.asked.behind.pieces.suffix))))
+    pub long : length t ≡ length v.run + (length (escape_bytes v.map) + (2 + (address_length (Other) + (length v.asked.behind.pieces.immediates + length v.asked.behind.pieces.suffix))))
     long =
         let imm = v.asked.behind.pieces.immediates in
         let suffix = v.asked.behind.pieces.suffix in

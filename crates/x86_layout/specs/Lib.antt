@@ -1,6 +1,7 @@
 pub mod Branches
 pub mod Cuts
 pub mod Heads
+pub mod Least
 pub mod Lengths
 pub mod Marks
 pub mod Parts

@@ -4,6 +4,7 @@ ghost use Rattle.std.specs.Prelude.{◌≡◌, ◌≤◌, Bool, length, MatchRes
 ghost use Rattle.x86_forms.specs.Words.{rows_of, word_at};
 ghost use Rattle.x86_decode.specs.declared.instructions.Instruction.{Instruction};
 ghost use Rattle.x86_decode.specs.Grammar.{IsSentence};
+ghost use Rattle.x86_layout.specs.Least.{least_in, least_of, HasLengthOfFront};
 ghost use Rattle.x86_layout.specs.Tighten.{IsTightened, HasNoRelative, HasSentence, OfFront, IsNotTightened};
 
 use crate::heads::{cut, head_of};
@@ -33,7 +34,8 @@ pub enum TightenError {
 /// The shortest relative of an encoding.
 fn tightened(encoding: &[u8]) -> Result<ArrayVec<u8, 15>, TightenError>
     requires { HasSentence encoding.now }
-    ensures { (strict : Bool) (a : Instruction) (is : IsSentence (rows_of word_at) strict encoding.now a) → MatchResult result (λ t. IsTightened strict encoding.now is.reading is.whole t.items) (λ error. HasNoRelative strict encoding.now is.reading is.whole error) }
+    ensures shortest { (strict : Bool) (a : Instruction) (is : IsSentence (rows_of word_at) strict encoding.now a) → MatchResult result (λ t. IsTightened strict encoding.now is.reading is.whole t.items) (λ error. HasNoRelative strict encoding.now is.reading is.whole error) }
+    ensures least { (strict : Bool) (a : Instruction) → IsSentence (rows_of word_at) strict encoding.now a → MatchResult result (λ t. length t.items ≡ least_in strict encoding.now) (λ _. least_in strict encoding.now ≡ length encoding.now) }
 {
     let head = head_of(encoding);
     if !head.ask.memory {
@@ -56,7 +58,8 @@ fn tightened(encoding: &[u8]) -> Result<ArrayVec<u8, 15>, TightenError>
 ///
 /// For `48 8b 84 25 00 00 00 00`, which is MOV rax, [rbp], this is `48 8b 45 00` (Intel SDM volume 2, section 2.1.5).
 pub fn tighten(decoder: &InstDecoder, bytes: &[u8]) -> Result<ArrayVec<u8, 15>, TightenError>
-    ensures { MatchResult result (λ t. OfFront decoder.now.strict bytes.now (λ strict s a v. IsTightened strict s a v t.items)) (λ error. IsNotTightened decoder.now.strict bytes.now error) }
+    ensures shortest { MatchResult result (λ t. OfFront decoder.now.strict bytes.now (λ strict s a v. IsTightened strict s a v t.items)) (λ error. IsNotTightened decoder.now.strict bytes.now error) }
+    ensures least { MatchResult result (λ t. length t.items ≡ least_of decoder.now.strict bytes.now) (λ _. HasLengthOfFront decoder.now.strict bytes.now) }
 {
     laws::lengths();
     laws::answer_is();
