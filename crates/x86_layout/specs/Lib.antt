@@ -3,8 +3,12 @@ pub mod Cuts
 pub mod Fields
 pub mod Front
 pub mod Heads
+pub mod Least
 pub mod Lengths
 pub mod Marks
 pub mod Parts
 pub mod Permitted
+pub mod Places
+pub mod Shortest
 pub mod Sweeps
+pub mod Tighten

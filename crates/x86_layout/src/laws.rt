@@ -1,6 +1,6 @@
 //! What follows from the definitions of the cuts and of the parts.
 
-ghost use Rattle.std.specs.Prelude.{◌≡◌, ◌↔◌, ℕ, ◌+◌, ◌<◌, ◌≤◌, Bool, List, [], ◌∷◌, ◌++◌, length, take, drop, Ok};
+ghost use Rattle.std.specs.Prelude.{◌≡◌, ◌↔◌, ℕ, ◌+◌, ◌<◌, ◌≤◌, Bool, false, IsTrue, List, [], ◌∷◌, ◌++◌, length, take, drop, Ok};
 ghost use Rattle.std.specs.List.{sum_by, All};
 ghost use Rattle.x86_decode.specs.Answer.{answer_of};
 ghost use Rattle.x86_layout.specs.Cuts.{cut_length, cut_at, cuts_from, cuts_of};
@@ -12,7 +12,13 @@ ghost use Rattle.x86_layout.specs.declared.fields.Fields.{Fields};
 ghost use Rattle.x86_layout.specs.Front.{parts_of};
 ghost use Rattle.x86_layout.specs.Fields.{lists_in, HasFieldLengths};
 ghost use Rattle.x86_layout.specs.Permitted.{IsPermitted, ArePartsOfSentence};
+ghost use Rattle.x86_layout.specs.Places.{is_ip_relative};
+ghost use Rattle.x86_layout.specs.Shortest.{shortest, address_length, IsOfBytes};
+ghost use Rattle.x86_fields.specs.declared.Raw.{Raw};
+ghost use Rattle.x86_fields.specs.Raw.{middle_field};
+ghost use Rattle.x86_fields.specs.Linear.{raw_form, IsSameAddress};
 
+use crate::EmitError;
 use x86_decode::laws;
 
 /// Where bytes are left, a cut begins at their front, and the next one behind it; where none is left there is no cut.
@@ -66,3 +72,20 @@ pub fn accepted_encodings_are_emitted_again()
     laws::answer_is();
     laws::lengths();
 }
+
+/// The shortest raw fields have the address of the given ones and the same reg field, need no bit of a REX where the given ones
+/// have none, and no raw fields of that address have fewer bytes of SIB and displacement.
+///
+/// This is said of raw fields that aren't relative to the next instruction. Source: Intel SDM volume 2, sections 2.1.5 and 2.2.1.
+pub fn shortest_fields()
+    ensures of_bytes { (raw : Raw) → IsOfBytes raw → IsOfBytes (shortest raw) }
+    ensures same_address { (raw : Raw) → IsOfBytes raw → is_ip_relative raw ≡ false → IsSameAddress (raw_form (shortest raw)) (raw_form raw) }
+    ensures same_register { (raw : Raw) → middle_field (shortest raw).modrm ≡ middle_field raw.modrm }
+    ensures no_new_bits { (raw : Raw) → raw.rex_b ≡ false → raw.rex_x ≡ false → ((shortest raw).rex_b ≡ false) × ((shortest raw).rex_x ≡ false) }
+    ensures none_shorter { (raw other : Raw) → IsOfBytes raw → IsOfBytes other → is_ip_relative raw ≡ false → IsSameAddress (raw_form other) (raw_form raw) → address_length (shortest raw) ≤ address_length other }
+{}
+
+/// Errors of `emit` are equal exactly where they are the same.
+pub fn values_are_equal()
+    ensures { (a b : EmitError) → IsTrue (⟦<EmitError as PartialEq>⟧.eq a b) ↔ (a ≡ b) }
+{}

@@ -10,7 +10,11 @@ mod heads;
 pub mod laws;
 mod marks;
 mod parts;
+mod places;
+mod respell;
+mod shortest;
 mod sweeps;
+mod tightening;
 mod writing;
 
 pub use branches::branch_target;
@@ -19,6 +23,7 @@ pub use fields::Fields;
 pub use marks::mark_targets;
 pub use parts::{Parts, split};
 pub use sweeps::Sweep;
+pub use tightening::{TightenError, tighten};
 pub use writing::{EmitError, emit};
 
 #[cfg(test)]

@@ -51,7 +51,7 @@ pub fn asks_sib(ask: &Ask, modrm: u8) -> bool
 }
 
 /// The parts of an encoding that has this head.
-fn parts_behind<'a>(head: &Head<'a>) -> Parts<'a>
+pub fn parts_behind<'a>(head: &Head<'a>) -> Parts<'a>
     ensures prefixes { result.prefixes.now ≡ head.now.prefixes.now }
     ensures escape { result.escape.now ≡ head.now.escape.now }
     ensures opcode { result.opcode.now ≡ head.now.opcode.now }
