@@ -13,10 +13,12 @@ use Rattle.x86_cli.specs.declared.status.Status.{Status}
 use Rattle.x86_cli.specs.declared.status.Status.TheVariants.{Done, Usage, Refused, BadText, ReadFault, WriteFault, TooLarge}
 use Rattle.x86_cli.specs.declared.text.Stop.TheVariants.{End}
 use Rattle.x86_cli.specs.declared.command.Command.{Command}
-use Rattle.x86_cli.specs.declared.command.Command.TheVariants.{List as Listed, Sweep as Swept, Targets as Targeted, Fields as Fielded}
+use Rattle.x86_cli.specs.declared.command.Command.TheVariants.{List as Listed, Sweep as Swept, Targets as Targeted, Fields as Fielded, Tighten as Tightened}
 use Rattle.x86_layout.specs.Front.{parts_of}
 use Rattle.x86_cli.specs.Line.{instruction_text}
 use Rattle.x86_cli.specs.Fields.{fields_text}
+use Rattle.x86_cli.specs.Tighten.{least_text}
+use Rattle.x86_layout.specs.Least.{least_of}
 use Rattle.x86_cli.specs.Command.{listing_for}
 use Rattle.x86_cli.specs.Text.{Text, text_of}
 use Rattle.x86_cli.specs.Listing.{Listing, front_of, sure_of, listing_from}
@@ -91,6 +93,8 @@ text_done (Listed strict) laws t clean row =
     rw (clean, row.whole) (row_done strict (laws strict) (λ place instruction bytes. instruction_text place instruction) 0 row.sentences row.each)
 text_done Fielded laws t clean row =
     rw (clean, row.whole) (row_done false (laws false) (λ place instruction bytes. fields_text place (parts_of false bytes)) 0 row.sentences row.each)
+text_done Tightened laws t clean row =
+    rw (clean, row.whole) (row_done false (laws false) (λ place instruction bytes. least_text place instruction.length (least_of false bytes)) 0 row.sentences row.each)
 text_done Swept laws t clean any = rw clean refl
 text_done Targeted laws t clean any = rw clean refl
 

@@ -9,7 +9,7 @@ use Rattle.x86_cli.specs.declared.text.Stop.TheVariants.{End}
 use Rattle.x86_cli.specs.declared.status.Status.{Status}
 use Rattle.x86_cli.specs.declared.status.Status.TheVariants.{Done}
 use Rattle.x86_cli.specs.declared.command.Command.{Command}
-use Rattle.x86_cli.specs.declared.command.Command.TheVariants.{List as Listed, Sweep as Swept, Targets as Targeted, Fields as Fielded}
+use Rattle.x86_cli.specs.declared.command.Command.TheVariants.{List as Listed, Sweep as Swept, Targets as Targeted, Fields as Fielded, Tighten as Tightened}
 use Rattle.x86_cli.specs.Text.{text_of}
 use Rattle.x86_cli.specs.Command.{listing_for}
 use Rattle.x86_cli.specs.Run.{World, IsSound, full_listing}
@@ -34,6 +34,7 @@ pub record IsRowOfSentences (strict : Bool) (image : List ℕ) : Type 0 where
 abbrev pub GoesThrough : Command → List ℕ → Type 0
 GoesThrough (Listed strict) image = IsRowOfSentences strict image
 GoesThrough Fielded image = IsRowOfSentences false image
+GoesThrough Tightened image = IsRowOfSentences false image
 GoesThrough Swept image = ⊤
 GoesThrough Targeted image = ⊤
 

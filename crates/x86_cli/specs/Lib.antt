@@ -10,6 +10,7 @@ pub mod DecoderLaws
 pub mod Window
 pub mod Sweep
 pub mod Targets
+pub mod Tighten
 pub mod Codes
 pub mod Run
 pub mod Command

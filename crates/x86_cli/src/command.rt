@@ -17,6 +17,7 @@ use crate::source::Source;
 use crate::status::Status;
 use crate::sweep::sweep;
 use crate::targets::targets;
+use crate::tightening::LeastLines;
 use x86_decode::InstDecoder;
 
 /// The most bytes of a text.
@@ -26,7 +27,7 @@ pub const TEXT_MAX: u64 = 67108864;
 pub const TARGETS_MAX: u64 = 16384;
 
 /// What is printed where the words are no command.
-pub const USAGE: &str = "usage: list [--strict] | make N | fields | sweep | targets";
+pub const USAGE: &str = "usage: list [--strict] | make N | fields | tighten | sweep | targets";
 
 /// What the program does.
 #[derive(Clone, Copy, PartialEq, Eq, Debug, Drop)]
@@ -35,6 +36,8 @@ pub enum Command {
     List { strict: bool },
     /// The parts of each encoding, by the default choice.
     Fields,
+    /// The length of a shortest relative of each encoding, by the default choice.
+    Tighten,
     /// The sweep, by the default choice.
     Sweep,
     /// The places that the instructions of the sweep branch to, by the default choice.
@@ -48,6 +51,7 @@ fn command_by(word: &str) -> Option<Command>
     match word {
         "list" => Some(Command::List { strict: false }),
         "fields" => Some(Command::Fields),
+        "tighten" => Some(Command::Tighten),
         "sweep" => Some(Command::Sweep),
         "targets" => Some(Command::Targets),
         _ => None,
@@ -96,12 +100,13 @@ fn obey<S: Source, K: Sink>(command: Command, source: &mut S, sink: &mut K) -> S
     match command {
         Command::List { strict } => list(&decoder(strict), &Plain, TEXT_MAX, source, sink),
         Command::Fields => list(&decoder(false), &FieldLines, TEXT_MAX, source, sink),
+        Command::Tighten => list(&decoder(false), &LeastLines, TEXT_MAX, source, sink),
         Command::Sweep => sweep(&decoder(false), TEXT_MAX, source, sink),
         Command::Targets => targets(&decoder(false), TARGETS_MAX, source, sink),
     }
 }
 
-/// Does what the words say. `list`, `list --strict`, `fields`, `sweep` and `targets` read a hex text from the source, at most
+/// Does what the words say. `list`, `list --strict`, `fields`, `tighten`, `sweep` and `targets` read a hex text from the source, at most
 /// `TEXT_MAX` bytes of it (`TARGETS_MAX` for `targets`), and write its listing to the sink, a call of `put` for each line.
 pub fn run<S: Source, K: Sink>(words: &[String], source: &mut S, sink: &mut K) -> Status
     ensures says { IfSome (command_of (map string_bytes words.now)) (λ c. Says (listing_for c) (max_of c) result

@@ -62,6 +62,27 @@ fn fields(rt: HostRuntime) {
 }
 
 #[test]
+fn tighten(rt: HostRuntime) {
+    let worked: [(&str, &str, Status); 3] = [
+        (
+            "48 8b 84 25 00 00 00 00 8b c0",
+            "0 8 4\n8 2 2\n",
+            Status::Done,
+        ),
+        (
+            "8b 05 00 00 00 00 8b 04 45 00 00 00 00",
+            "0 6 6\n6 7 3\n",
+            Status::Done,
+        ),
+        ("06", "0 error: invalid opcode\n", Status::Refused),
+    ];
+    for (text, written, status) in worked {
+        let (text, written) = (text.as_bytes(), written.as_bytes());
+        assert!(&rt; runs(rt.alloc(), &["tighten"], text, &[], written, status));
+    }
+}
+
+#[test]
 fn targets(rt: HostRuntime) {
     let worked: [(&str, &str); 4] = [
         ("eb fe", "0\n"),

@@ -24,6 +24,7 @@ mod targets;
 #[cfg(test)]
 mod tests;
 mod text;
+mod tightening;
 mod window;
 #[cfg(test)]
 mod worked_tests;

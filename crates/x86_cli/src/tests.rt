@@ -124,7 +124,7 @@ fn words_matched_whole(rt: HostRuntime) {
     assert!(&rt; is_usage(rt.alloc(), &["list", "strict"]));
     assert!(&rt; is_usage(rt.alloc(), &["list", "--strict", ""]));
     assert!(&rt; is_usage(rt.alloc(), &["--strict", "list"]));
-    assert!(&rt; USAGE == "usage: list [--strict] | make N | fields | sweep | targets");
+    assert!(&rt; USAGE == "usage: list [--strict] | make N | fields | tighten | sweep | targets");
 }
 
 #[test]
