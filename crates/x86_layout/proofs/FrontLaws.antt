@@ -113,10 +113,16 @@ module _ (r : RowRecord) (p : Prefixes) (tail : List ℕ) (reading : Reading) (a
 
 -- ---- the whole encoding
 
--- The parts of bytes that begin with a whole encoding are its pieces.
-pub parts_are : (strict : Bool) (s rest : List ℕ) (reading : Reading) (w : Encoding strict s reading) → HasParts strict s reading w (parts_of strict (s ++ rest))
-unfolding parts_of
-parts_are strict s rest reading w =
+-- What stands up to the opcode byte and behind it, and what the row asks.
+pub record HasHead (strict : Bool) (s rest : List ℕ) (reading : Reading) (w : Encoding strict s reading) : Type 0 where
+  pub prefixes : run_in (s ++ rest) ≡ w.run
+  pub map : map_in (s ++ rest) ≡ w.map
+  pub opcode : opcode_in (s ++ rest) ≡ w.opcode ∷ []
+  pub tail : tail_in (s ++ rest) ≡ w.tail ++ rest
+  pub ask : ask_in (s ++ rest) strict ≡ ask_of (record_in strict s reading w) (slice_index (tail_in (s ++ rest)) 0)
+
+pub has_head : (strict : Bool) (s rest : List ℕ) (reading : Reading) (w : Encoding strict s reading) → HasHead strict s rest reading w
+has_head strict s rest reading w =
     let bytes : List ℕ = s ++ rest in
     let tail' : List ℕ = w.tail ++ rest in
     let behind : List ℕ = escape_bytes w.map ++ w.opcode ∷ tail' in
@@ -131,18 +137,30 @@ parts_are strict s rest reading w =
     let map : map_in bytes ≡ w.map = ap (λ l. map_by (slice_index l 0) (slice_index l 1)) run_rest ∙ map_is w.map w.opcode tail' w.meant in
     let escape_rest : behind_escape bytes ≡ w.opcode ∷ tail' = rest_is _ (escape_bytes w.map) (w.opcode ∷ tail') _ run_rest (ap (λ x. length (escape_bytes x)) map) in
     let opcode : opcode_in bytes ≡ w.opcode ∷ [] = front_is _ (w.opcode ∷ []) tail' 1 escape_rest refl in
-    let tail : tail_in bytes ≡ tail' = rest_is _ (w.opcode ∷ []) tail' 1 escape_rest refl in
     let first : ℕ = slice_index (tail_in bytes) 0 in
-    let ask : ask_in bytes strict ≡ ask_of (record_in strict s reading w) first =
-    ap (λ q. ask_behind strict q (map_in bytes) (slice_index (opcode_in bytes) 0) first) prefixes
-    ∙ ap (λ q. ask_behind strict w.run q (slice_index (opcode_in bytes) 0) first) map
-    ∙ ap (λ l. ask_behind strict w.run w.map (slice_index l 0) first) opcode
-    ∙ ap (λ o. ask_by strict o (seen w.map w.opcode (reading_of w.run)) first) w.has_row in
-    let t = has_tail (record_in strict s reading w) (seen w.map w.opcode (reading_of w.run)) w.tail reading w.asked (tail_in bytes) rest tail (ask_in bytes strict) ask in
     record {
       prefixes = prefixes;
-      escape = ap escape_bytes map;
+      map = map;
       opcode = opcode;
+      tail = rest_is _ (w.opcode ∷ []) tail' 1 escape_rest refl;
+      ask =
+          ap (λ q. ask_behind strict q (map_in bytes) (slice_index (opcode_in bytes) 0) first) prefixes
+          ∙ ap (λ q. ask_behind strict w.run q (slice_index (opcode_in bytes) 0) first) map
+          ∙ ap (λ l. ask_behind strict w.run w.map (slice_index l 0) first) opcode
+          ∙ ap (λ o. ask_by strict o (seen w.map w.opcode (reading_of w.run)) first) w.has_row;
+    }
+
+-- The parts of bytes that begin with a whole encoding are its pieces.
+pub parts_are : (strict : Bool) (s rest : List ℕ) (reading : Reading) (w : Encoding strict s reading) → HasParts strict s reading w (parts_of strict (s ++ rest))
+unfolding parts_of
+parts_are strict s rest reading w =
+    let h = has_head strict s rest reading w in
+    let bytes : List ℕ = s ++ rest in
+    let t = has_tail (record_in strict s reading w) (seen w.map w.opcode (reading_of w.run)) w.tail reading w.asked (tail_in bytes) rest h.tail (ask_in bytes strict) h.ask in
+    record {
+      prefixes = h.prefixes;
+      escape = ap escape_bytes h.map;
+      opcode = h.opcode;
       modrm = t.modrm;
       sib = t.sib;
       address = t.address;

@@ -13,10 +13,10 @@ use Rattle.x86_decode.specs.Head.{escape_bytes}
 use Rattle.x86_layout.specs.declared.heads.Head.{Head}
 use Rattle.x86_layout.specs.declared.parts.Parts.{Parts}
 use Rattle.x86_layout.specs.Heads.{one_if, IsHead, IsTail}
-use Rattle.x86_layout.specs.Parts.{Encoding, HasParts, lists_of}
+use Rattle.x86_layout.specs.Parts.{PartLists, Encoding, HasParts, lists_of}
 use Rattle.x86_layout.specs.Places.{is_ip_relative}
 use Rattle.x86_layout.specs.Shortest.{shortest, IsOfBytes}
-use Rattle.x86_layout.specs.Tighten.{run_with, raw_in, address_bytes, respelled, respelled_length}
+use Rattle.x86_layout.specs.Tighten.{run_with, raw_of, address_bytes, respelled, respelled_length}
 use Rattle.x86_layout.proofs.PartLaws.{front_is, rest_is, used_is}
 use Rattle.x86_layout.proofs.RexLaws.{seen_rex, seen_67}
 use Rattle.x86_layout.proofs.RelativeLaws.{Seen, Row, Byte, Address, spells, byte, length_is, no_longer, Bytes'}
@@ -70,34 +70,34 @@ module _ (strict : Bool) (s : List ℕ) (a : Reading) (v : Encoding strict s a) 
     suffix = tail.suffix;
   }
 
-  module _ (raw : Raw) (read : v.asked.behind.pieces.memory ≡ Some raw) (parts : Parts) (h : HasParts strict s a v (lists_of parts)) where
+  module _ (raw : Raw) (read : v.asked.behind.pieces.memory ≡ Some raw) (parts : PartLists) (h : HasParts strict s a v parts) where
     spelled : SpellsRaw (Seen strict s a v) (Byte strict s a v) (Address strict s a v) raw
     spelled = (spells strict s a v raw read).1
 
-    sib_long : length parts.sib.now ≡ length (option_bytes (spelled).sib)
+    sib_long : length parts.sib ≡ length (option_bytes (spelled).sib)
     sib_long =
         h.sib ∙ ap (λ t. if t && low_field (Byte strict s a v) == 4 then 1 else 0) (spells strict s a v raw read).0
         ∙ ap one_if (sym (spelled).sib_asked) ∙ sym (option_long (spelled).sib)
 
-    both : parts.sib.now ++ parts.displacement.now ≡ option_bytes (spelled).sib ++ (spelled).disp
+    both : parts.sib ++ parts.displacement ≡ option_bytes (spelled).sib ++ (spelled).disp
     both = h.address ∙ (spelled).spelled
 
-    sib_is : first_byte parts.sib.now ≡ (spelled).sib
-    sib_is = ap first_byte (take_of parts.sib.now parts.displacement.now _ (spelled).disp both sib_long) ∙ first_of_option (spelled).sib
+    sib_is : first_byte parts.sib ≡ (spelled).sib
+    sib_is = ap first_byte (take_of parts.sib parts.displacement _ (spelled).disp both sib_long) ∙ first_of_option (spelled).sib
 
-    displacement_is : parts.displacement.now ≡ (spelled).disp
-    displacement_is = drop_of parts.sib.now parts.displacement.now (option_bytes (spelled).sib) (spelled).disp both sib_long
+    displacement_is : parts.displacement ≡ (spelled).disp
+    displacement_is = drop_of parts.sib parts.displacement (option_bytes (spelled).sib) (spelled).disp both sib_long
 
-    disp_is : signed_by (length parts.displacement.now) parts.displacement.now ≡ signed_by (disp_width (Byte strict s a v) (spelled).sib) (spelled).disp
+    disp_is : signed_by (length parts.displacement) parts.displacement ≡ signed_by (disp_width (Byte strict s a v) (spelled).sib) (spelled).disp
     disp_is = ap (λ l. signed_by (length l) l) displacement_is ∙ ap (λ n. signed_by n (spelled).disp) (spelled).disp_asked
 
-    prefixes_is : reading_of parts.prefixes.now ≡ reading_of v.run
+    prefixes_is : reading_of parts.prefixes ≡ reading_of v.run
     prefixes_is = ap reading_of h.prefixes
 
     -- the raw fields of the parts are those of the encoding
-    pub fields_are : raw_in parts ≡ raw
+    pub fields_are : raw_of parts ≡ raw
     fields_are =
-        let in' = raw_in parts in
+        let in' = raw_of parts in
         let p = Seen strict s a v in
         let b : in'.rex_b ≡ rex_b p = ap rex_b prefixes_is ∙ ap (live_bit (λ r. r.b)) (sym (seen_rex v.map v.opcode (reading_of v.run))) in
         let x : in'.rex_x ≡ rex_x p = ap rex_x prefixes_is ∙ ap (live_bit (λ r. r.x)) (sym (seen_rex v.map v.opcode (reading_of v.run))) in
@@ -111,6 +111,7 @@ module _ (strict : Bool) (s : List ℕ) (a : Reading) (v : Encoding strict s a) 
         ∙ ap (λ d. record in' { rex_b = rex_b p; rex_x = rex_x p; address_size = p.address_size; modrm = Byte strict s a v; sib = (spelled).sib; disp = d }) disp_is
         ∙ sym (spelled).fields
 
+  module _ (raw : Raw) (read : v.asked.behind.pieces.memory ≡ Some raw) (parts : Parts) (h : HasParts strict s a v (lists_of parts)) where
     module _ (fit : IsOfBytes raw) where
       pub respelled_is : respelled parts (shortest raw) ≡ Bytes' strict s a v raw read fit
       respelled_is =

@@ -16,7 +16,7 @@ use Rattle.x86_decode.specs.Answer.{answer_of}
 use Rattle.x86_layout.specs.declared.parts.Parts.{Parts}
 use Rattle.x86_layout.specs.declared.tightening.TightenError.{TightenError}
 use Rattle.x86_layout.specs.declared.tightening.TightenError.TheVariants.{Refused, NoMemoryForm, IpRelative}
-use Rattle.x86_layout.specs.Parts.{Encoding}
+use Rattle.x86_layout.specs.Parts.{PartLists, Encoding, lists_of}
 use Rattle.x86_layout.specs.Places.{is_ip_relative}
 use Rattle.x86_layout.specs.Shortest.{address_length}
 
@@ -38,15 +38,18 @@ run_with x b (byte ∷ next ∷ rest) = byte ∷ run_with x b (next ∷ rest)
 -- ---- raw fields and their bytes
 
 -- the raw fields of parts
-abbrev pub raw_in : Parts → Raw
-raw_in parts = let p = reading_of parts.prefixes.now in record {
+abbrev pub raw_of : PartLists → Raw
+raw_of parts = let p = reading_of parts.prefixes in record {
   rex_b = rex_b p;
   rex_x = rex_x p;
   address_size = p.address_size;
-  modrm = slice_index parts.modrm.now 0;
-  sib = first_byte parts.sib.now;
-  disp = signed_by (length parts.displacement.now) parts.displacement.now;
+  modrm = slice_index parts.modrm 0;
+  sib = first_byte parts.sib;
+  disp = signed_by (length parts.displacement) parts.displacement;
 }
+
+abbrev pub raw_in : Parts → Raw
+raw_in parts = raw_of (lists_of parts)
 
 -- the displacement, in as many bytes as its fields have
 abbrev pub displacement_bytes : Raw → List ℕ

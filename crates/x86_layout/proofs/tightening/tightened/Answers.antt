@@ -56,7 +56,7 @@ returns-then-is_ip_relative-clause-shortest c = λ strict a is.
     let h = c.head_of-head.ensures strict is.reading is.whole in
     let has = parts_are strict s is.reading is.whole head parts h tie.prefixes tie.escape tie.opcode tie.tail in
     let some = some_memory strict s is.reading is.whole (sym (asks_memory strict s is.reading is.whole head h) ∙ c.if-not-head.false) in
-    let fields = c.raw_in-raw.ensures ∙ fields_are strict s is.reading is.whole some.0 some.1 parts has in
+    let fields = c.raw_in-raw.ensures ∙ fields_are strict s is.reading is.whole some.0 some.1 (lists_of parts) has in
     record { raw = some.0; read = some.1; form = ap is_ip_relative (sym fields) ∙ sym c.is_ip_relative.ensures ∙ c.if-is_ip_relative.true }
 
 pub returns-then-is_ip_relative-clause-least : goal.returns-then-is_ip_relative-clause-least
@@ -68,7 +68,7 @@ returns-then-is_ip_relative-clause-least c = λ strict a is.
     let h = c.head_of-head.ensures strict is.reading is.whole in
     let has = parts_are strict s is.reading is.whole head parts h tie.prefixes tie.escape tie.opcode tie.tail in
     let some = some_memory strict s is.reading is.whole (sym (asks_memory strict s is.reading is.whole head h) ∙ c.if-not-head.false) in
-    let fields = c.raw_in-raw.ensures ∙ fields_are strict s is.reading is.whole some.0 some.1 parts has in
+    let fields = c.raw_in-raw.ensures ∙ fields_are strict s is.reading is.whole some.0 some.1 (lists_of parts) has in
     least_at_ip strict s is.reading is.whole some.0 some.1 (ap is_ip_relative (sym fields) ∙ sym c.is_ip_relative.ensures ∙ c.if-is_ip_relative.true)
 
 pub respelled-requires : goal.respelled-requires
@@ -82,7 +82,7 @@ respelled-requires c =
     let h = c.head_of-head.ensures strict is.reading is.whole in
     let has = parts_are strict s is.reading is.whole head parts h tie.prefixes tie.escape tie.opcode tie.tail in
     let some = some_memory strict s is.reading is.whole (sym (asks_memory strict s is.reading is.whole head h) ∙ c.if-not-head.false) in
-    let fields = c.raw_in-raw.ensures ∙ fields_are strict s is.reading is.whole some.0 some.1 parts has in
+    let fields = c.raw_in-raw.ensures ∙ fields_are strict s is.reading is.whole some.0 some.1 (lists_of parts) has in
     let ip : is_ip_relative some.0 ≡ false = ap is_ip_relative (sym fields) ∙ sym c.is_ip_relative.ensures ∙ c.if-is_ip_relative.false in
     let fit : IsOfBytes some.0 = fields_of_bytes strict s is.reading is.whole some.0 some.1 (bytes_at s c.type_inv.encoding) in
     subst (λ r. respelled_length parts r ≤ 15) (sym (c.shortest.ensures ∙ ap shortest fields)) (respelled_fits strict s is.reading is.whole some.0 some.1 parts has fit ip is.short)
@@ -96,7 +96,7 @@ returns-clause-shortest c = λ strict a is.
     let h = c.head_of-head.ensures strict is.reading is.whole in
     let has = parts_are strict s is.reading is.whole head parts h tie.prefixes tie.escape tie.opcode tie.tail in
     let some = some_memory strict s is.reading is.whole (sym (asks_memory strict s is.reading is.whole head h) ∙ c.if-not-head.false) in
-    let fields = c.raw_in-raw.ensures ∙ fields_are strict s is.reading is.whole some.0 some.1 parts has in
+    let fields = c.raw_in-raw.ensures ∙ fields_are strict s is.reading is.whole some.0 some.1 (lists_of parts) has in
     let ip : is_ip_relative some.0 ≡ false = ap is_ip_relative (sym fields) ∙ sym c.is_ip_relative.ensures ∙ c.if-is_ip_relative.false in
     let fit : IsOfBytes some.0 = fields_of_bytes strict s is.reading is.whole some.0 some.1 (bytes_at s c.type_inv.encoding) in
     let spelled = c.respelled.ensures ∙ ap (respelled parts) (c.shortest.ensures ∙ ap shortest fields) ∙ respelled_is strict s is.reading is.whole some.0 some.1 parts has fit in
@@ -114,7 +114,7 @@ returns-clause-least c = λ strict a is.
     let h = c.head_of-head.ensures strict is.reading is.whole in
     let has = parts_are strict s is.reading is.whole head parts h tie.prefixes tie.escape tie.opcode tie.tail in
     let some = some_memory strict s is.reading is.whole (sym (asks_memory strict s is.reading is.whole head h) ∙ c.if-not-head.false) in
-    let fields = c.raw_in-raw.ensures ∙ fields_are strict s is.reading is.whole some.0 some.1 parts has in
+    let fields = c.raw_in-raw.ensures ∙ fields_are strict s is.reading is.whole some.0 some.1 (lists_of parts) has in
     let ip : is_ip_relative some.0 ≡ false = ap is_ip_relative (sym fields) ∙ sym c.is_ip_relative.ensures ∙ c.if-is_ip_relative.false in
     let fit : IsOfBytes some.0 = fields_of_bytes strict s is.reading is.whole some.0 some.1 (bytes_at s c.type_inv.encoding) in
     let spelled = c.respelled.ensures ∙ ap (respelled parts) (c.shortest.ensures ∙ ap shortest fields) ∙ respelled_is strict s is.reading is.whole some.0 some.1 parts has fit in
