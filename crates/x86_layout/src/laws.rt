@@ -12,6 +12,10 @@ ghost use Rattle.x86_layout.specs.declared.fields.Fields.{Fields};
 ghost use Rattle.x86_layout.specs.Front.{parts_of};
 ghost use Rattle.x86_layout.specs.Fields.{lists_in, HasFieldLengths};
 ghost use Rattle.x86_layout.specs.Permitted.{IsPermitted, ArePartsOfSentence};
+ghost use Rattle.x86_forms.specs.Words.{rows_of, word_at};
+ghost use Rattle.x86_decode.specs.Grammar.{IsSentence};
+ghost use Rattle.x86_layout.specs.Least.{least_in};
+ghost use Rattle.x86_layout.specs.Tighten.{HasMemoryForm, IsShortest};
 ghost use Rattle.x86_layout.specs.Places.{is_ip_relative};
 ghost use Rattle.x86_layout.specs.Shortest.{shortest, address_length, IsOfBytes};
 ghost use Rattle.x86_fields.specs.declared.Raw.{Raw};
@@ -83,6 +87,12 @@ pub fn shortest_fields()
     ensures same_register { (raw : Raw) → middle_field (shortest raw).modrm ≡ middle_field raw.modrm }
     ensures no_new_bits { (raw : Raw) → raw.rex_b ≡ false → raw.rex_x ≡ false → ((shortest raw).rex_b ≡ false) × ((shortest raw).rex_x ≡ false) }
     ensures none_shorter { (raw other : Raw) → IsOfBytes raw → IsOfBytes other → is_ip_relative raw ≡ false → IsSameAddress (raw_form other) (raw_form raw) → address_length (shortest raw) ≤ address_length other }
+{}
+
+/// An encoding with a memory form that isn't relative to the next instruction has a shortest relative, and the length of that is the
+/// one that `least_of` tells from the bytes.
+pub fn shortest_relatives_have_the_least_length()
+    ensures { (strict : Bool) (s : List ℕ) (a : Instruction) (is : IsSentence (rows_of word_at) strict s a) → All (λ byte. byte < 256) s → HasMemoryForm strict s is.reading is.whole false → (t : List ℕ) × IsShortest strict s is.reading is.whole t × (length t ≡ least_in strict s) }
 {}
 
 /// Errors of `emit` are equal exactly where they are the same.
