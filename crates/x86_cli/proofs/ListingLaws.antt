@@ -3,10 +3,11 @@ use Rattle.std.proofs.Common.{Bool, ◌≡◌, ℕ, suc, zero, ◌+◌, ◌-◌,
 use Rattle.x86_decode.specs.declared.instructions.Instruction.{Instruction}
 use Rattle.x86_fields.specs.declared.DecodeError.{DecodeError}
 use Rattle.x86_cli.specs.declared.text.Ending.{Ending}
+use Rattle.x86_cli.specs.declared.window.Front.{Front}
 use Rattle.x86_cli.specs.declared.window.Front.TheVariants.{Whole, Refused, Ended}
 use Rattle.x86_cli.specs.declared.status.Status.TheVariants as status
 use Rattle.x86_cli.specs.Line.{line, refusal_text}
-use Rattle.x86_cli.specs.Listing.{with_bytes, at_end, front_of, listing_from}
+use Rattle.x86_cli.specs.Listing.{Listing, with_bytes, at_end, front_of, listed, listing_from, LinesLeaveStatus}
 
 module _ (strict : Bool) (text : ℕ → Instruction → List ℕ → List ℕ) where
   -- bytes that belong to an instruction before
@@ -47,3 +48,21 @@ module _ (strict : Bool) (text : ℕ → Instruction → List ℕ → List ℕ) 
   unfolding listing_from front_of
   listing-ended n [] e f h = let same : e ≡ f = cc in ap at_end same
   listing-ended n (x ∷ xs) e f h = rw h refl
+
+-- the same status with other lines
+
+module _ (strict : Bool) (text other : ℕ → Instruction → List ℕ → List ℕ) where
+  listed-status : (f : Front) (n : ℕ) (xs : List ℕ) (a b : ℕ → Listing) → ((k : ℕ) → (a k).status ≡ (b k).status) →
+      (listed strict text f n xs a).status ≡ (listed strict other f n xs b).status
+  listed-status (Whole i) n xs a b h = h (i.length - 1)
+  listed-status (Refused error) n xs a b h = refl
+  listed-status (Ended e) n xs a b h = refl
+
+  listing-status : (n k : ℕ) (xs : List ℕ) (e : Ending) → (listing_from strict text n k xs e).status ≡ (listing_from strict other n k xs e).status
+  unfolding listing_from
+  listing-status n k [] e = refl
+  listing-status n zero (x ∷ xs) e = listed-status (front_of strict (x ∷ xs) e) n (x ∷ xs) _ _ (λ k. listing-status (n + 1) k xs e)
+  listing-status n (suc k) (x ∷ xs) e = listing-status (n + 1) k xs e
+
+pub lines_leave_status : LinesLeaveStatus
+lines_leave_status strict text other t = listing-status strict text other 0 0 t.image t.ending

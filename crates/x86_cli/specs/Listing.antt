@@ -1,4 +1,4 @@
-use Rattle.std.specs.Prelude.{ℕ, Bool, ◌+◌, ◌-◌, List, [], ◌∷◌, ◌++◌, Result, Ok, Err, codes, zero, suc, take}
+use Rattle.std.specs.Prelude.{◌≡◌, ℕ, Bool, ◌+◌, ◌-◌, List, [], ◌∷◌, ◌++◌, Result, Ok, Err, codes, zero, suc, take}
 use Rattle.x86_decode.specs.declared.instructions.Instruction.{Instruction}
 use Rattle.x86_fields.specs.declared.DecodeError.{DecodeError}
 use Rattle.x86_fields.specs.declared.DecodeError.TheVariants.{ExhaustedInput}
@@ -64,3 +64,8 @@ module _ (strict : Bool) (text : ℕ → Instruction → List ℕ → List ℕ) 
   -- the listing of a text
   abbrev pub listing_of : Text → Listing
   listing_of t = listing_at 0 t
+
+-- Whatever the lines of instructions are, the listing of a text ends with the same status.
+abbrev pub LinesLeaveStatus : Type 0
+LinesLeaveStatus = (strict : Bool) (text other : ℕ → Instruction → List ℕ → List ℕ) (t : Text) →
+    (listing_of strict text t).status ≡ (listing_of strict other t).status

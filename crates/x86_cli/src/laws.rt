@@ -2,6 +2,7 @@
 
 ghost use Rattle.std.specs.Prelude.{◌≡◌, ◌↔◌, Bool, IsTrue};
 ghost use Rattle.x86_cli.specs.DecoderLaws.{DecoderLaws};
+ghost use Rattle.x86_cli.specs.Listing.{LinesLeaveStatus};
 ghost use Rattle.x86_cli.specs.Rows.{RowsAreSound, BadIsFirst};
 
 use crate::sink::SinkFailed;
@@ -17,6 +18,11 @@ pub fn rows()
 /// A bad place is the first.
 pub fn first()
     ensures { BadIsFirst }
+{}
+
+/// A listing ends with the same status whatever its lines are, as those of `list` and `fields` do.
+pub fn statuses()
+    ensures { LinesLeaveStatus }
 {}
 
 /// What the window needs of the decoder, under either choice.

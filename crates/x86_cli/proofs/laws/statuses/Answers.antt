@@ -1,0 +1,5 @@
+use Rattle.x86_cli.proofs.ListingLaws.{lines_leave_status}
+use Rattle.x86_cli.proofs.laws.statuses.Goals as goal
+
+pub returns : goal.returns
+returns c = lines_leave_status
