@@ -14,3 +14,4 @@ mod SpelledLaws
 mod SplitLaws
 mod TightenLaws
 mod WeightLaws
+mod WritesLaws
