@@ -1,4 +1,4 @@
-//! What follows from the definition of the cuts.
+//! What follows from the definitions of the cuts and of the shortest raw fields.
 
 ghost use Rattle.std.specs.Prelude.{◌≡◌, ℕ, ◌+◌, ◌<◌, ◌≤◌, Bool, false, List, [], ◌∷◌, length, drop};
 ghost use Rattle.std.specs.List.{sum_by, All};
