@@ -18,3 +18,4 @@ mod SpelledLaws
 mod SplitLaws
 mod TightenLaws
 mod WeightLaws
+mod WritesLaws

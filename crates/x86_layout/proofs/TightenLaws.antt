@@ -16,10 +16,11 @@ use Rattle.x86_layout.specs.Heads.{one_if, IsHead, IsTail}
 use Rattle.x86_layout.specs.Parts.{PartLists, Encoding, HasParts, lists_of}
 use Rattle.x86_layout.specs.Places.{is_ip_relative}
 use Rattle.x86_layout.specs.Shortest.{shortest, IsOfBytes}
-use Rattle.x86_layout.specs.Tighten.{run_with, raw_of, address_bytes, respelled, respelled_length}
+use Rattle.x86_layout.specs.Tighten.{HasMemoryOperand, HasOperandForm, run_with, raw_of, address_bytes, respelled, respelled_length}
 use Rattle.x86_layout.proofs.PartLaws.{front_is, rest_is, used_is}
 use Rattle.x86_layout.proofs.RexLaws.{seen_rex, seen_67}
-use Rattle.x86_layout.proofs.RelativeLaws.{Seen, Row, Byte, Address, spells, byte, length_is, no_longer, Bytes'}
+use Rattle.x86_layout.proofs.WritesLaws.{row_writes}
+use Rattle.x86_layout.proofs.RelativeLaws.{Seen, Row, Byte, Address, spells, fields, byte, length_is, no_longer, Bytes'}
 
 -- ---- a list in two ways of two parts
 
@@ -56,6 +57,23 @@ module _ (strict : Bool) (s : List ℕ) (a : Reading) (v : Encoding strict s a) 
 
   pub some_memory : is_memory (Byte strict s a v) ≡ true → (raw : Raw) × (v.asked.behind.pieces.memory ≡ Some raw)
   some_memory e = some_by (Seen strict s a v) (Byte strict s a v) (Address strict s a v) v.asked.behind.pieces.memory v.asked.behind.pieces.address_asked e
+
+  -- it is written as an operand
+  pub operand_form : (raw : Raw) → v.asked.behind.pieces.memory ≡ Some raw → (ip : Bool) → is_ip_relative raw ≡ ip → HasOperandForm strict s a v ip
+  operand_form raw read ip e = record {
+    operand = record {
+      raw = raw;
+      read = read;
+      written = row_writes strict v.row (Seen strict s a v) (Byte strict s a v) (spells strict s a v raw read).0 (fields strict s a v raw read) v.asked.behind.accepted;
+    };
+    form = e;
+  }
+
+  none_some : {x : Raw} → None ≡ Some x → ⊥
+  none_some e = cc
+
+  pub no_operand : is_memory (Byte strict s a v) ≡ false → HasMemoryOperand strict s a v → ⊥
+  no_operand e o = none_some (sym (no_memory e) ∙ o.read)
 
   -- the parts by the head and the tail
   pub has_parts : (head : Head) (parts : Parts) → IsHead strict s a v head → parts.prefixes.now ≡ head.prefixes.now → parts.escape.now ≡ head.escape.now → parts.opcode.now ≡ head.opcode.now → IsTail (Row strict s a v) (Seen strict s a v) v.tail a v.asked parts → HasParts strict s a v (lists_of parts)

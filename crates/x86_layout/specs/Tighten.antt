@@ -1,5 +1,6 @@
 -- Encodings that differ in how they name an address.
 use Rattle.std.specs.Prelude.{◌≡◌, ℕ, ◌+◌, ◌*◌, ◌/◌, ◌≤◌, ◌<◌, ◌++◌, Bool, true, false, if◌then◌else◌, Option, Some, None, List, [], ◌∷◌, length, map, take, slice_index, Ok, Err, All}
+use Rattle.std.specs.List.{list_any}
 use Rattle.std.specs.Int.{w32, cast_unsigned, to_le_bytes}
 use Rattle.x86_fields.specs.declared.PrefixRex.{PrefixRex}
 use Rattle.x86_fields.specs.declared.Raw.{Raw}
@@ -13,6 +14,7 @@ use Rattle.x86_decode.specs.declared.instructions.Instruction.{Instruction}
 use Rattle.x86_decode.specs.Head.{escape_bytes}
 use Rattle.x86_decode.specs.Grammar.{IsSentence}
 use Rattle.x86_decode.specs.Answer.{answer_of}
+use Rattle.x86_decode.specs.Addresses.{is_modrm_sign, signs_within}
 use Rattle.x86_layout.specs.declared.parts.Parts.{Parts}
 use Rattle.x86_layout.specs.declared.tightening.TightenError.{TightenError}
 use Rattle.x86_layout.specs.declared.tightening.TightenError.TheVariants.{Refused, NoMemoryForm, IpRelative}
@@ -102,22 +104,27 @@ module _ (strict : Bool) (s : List ℕ) (a : Reading) (v : Encoding strict s a) 
     pub relative : IsRelative strict s a v t sentence.reading sentence.whole
     pub least : IsLeast t
 
-  -- ModRM is a memory form, whose base is the next instruction or isn't.
-  pub record HasMemoryForm (ip_relative : Bool) : Type 0 where
+  -- A memory operand is read from ModRM: it is a memory form, and an operand is written as its memory.
+  pub record HasMemoryOperand : Type 0 where
     pub raw : Raw
     pub read : v.asked.behind.pieces.memory ≡ Some raw
-    pub form : is_ip_relative raw ≡ ip_relative
+    pub written : list_any is_modrm_sign (signs_within (rows_of word_at) strict s a v) ≡ true
 
-  -- The encoding has a memory form that isn't relative to the next instruction, and these are the bytes of a shortest relative.
+  -- There is such an operand, and its base is the next instruction or isn't.
+  pub record HasOperandForm (ip_relative : Bool) : Type 0 where
+    pub operand : HasMemoryOperand
+    pub form : is_ip_relative operand.raw ≡ ip_relative
+
+  -- The encoding has a memory operand of ModRM that isn't relative to the next instruction, and t is a shortest relative.
   pub record IsTightened (t : List ℕ) : Type 0 where
-    pub form : HasMemoryForm false
+    pub form : HasOperandForm false
     pub shortest : IsShortest t
 
   -- The encoding has no relative to seek.
   abbrev pub HasNoRelative : TightenError → Type 0
   HasNoRelative (Refused error) = ⊥
-  HasNoRelative NoMemoryForm = v.asked.behind.pieces.memory ≡ None
-  HasNoRelative IpRelative = HasMemoryForm true
+  HasNoRelative NoMemoryForm = HasMemoryOperand → ⊥
+  HasNoRelative IpRelative = HasOperandForm true
 
 -- ---- at the front of bytes
 

@@ -1,4 +1,4 @@
-//! What follows from the definitions of the cuts and of the parts.
+//! What follows from the definitions of the cuts, of the parts, and of the shortest raw fields.
 
 ghost use Rattle.std.specs.Prelude.{◌≡◌, ◌↔◌, ℕ, ◌+◌, ◌<◌, ◌≤◌, Bool, false, IsTrue, List, [], ◌∷◌, ◌++◌, length, take, drop, Ok};
 ghost use Rattle.std.specs.List.{sum_by, All};
@@ -15,7 +15,7 @@ ghost use Rattle.x86_layout.specs.Permitted.{IsPermitted, ArePartsOfSentence};
 ghost use Rattle.x86_forms.specs.Words.{rows_of, word_at};
 ghost use Rattle.x86_decode.specs.Grammar.{IsSentence};
 ghost use Rattle.x86_layout.specs.Least.{least_in};
-ghost use Rattle.x86_layout.specs.Tighten.{HasMemoryForm, IsShortest};
+ghost use Rattle.x86_layout.specs.Tighten.{HasOperandForm, IsShortest};
 ghost use Rattle.x86_layout.specs.Places.{is_ip_relative};
 ghost use Rattle.x86_layout.specs.Shortest.{shortest, address_length, IsOfBytes};
 ghost use Rattle.x86_fields.specs.declared.Raw.{Raw};
@@ -89,10 +89,10 @@ pub fn shortest_fields()
     ensures none_shorter { (raw other : Raw) → IsOfBytes raw → IsOfBytes other → is_ip_relative raw ≡ false → IsSameAddress (raw_form other) (raw_form raw) → address_length (shortest raw) ≤ address_length other }
 {}
 
-/// An encoding with a memory form that isn't relative to the next instruction has a shortest relative, and the length of that is the
+/// An encoding with a memory operand of ModRM that isn't relative to the next instruction has a shortest relative, and the length of that is the
 /// one that `least_of` tells from the bytes.
 pub fn shortest_relatives_have_the_least_length()
-    ensures { (strict : Bool) (s : List ℕ) (a : Instruction) (is : IsSentence (rows_of word_at) strict s a) → All (λ byte. byte < 256) s → HasMemoryForm strict s is.reading is.whole false → (t : List ℕ) × IsShortest strict s is.reading is.whole t × (length t ≡ least_in strict s) }
+    ensures { (strict : Bool) (s : List ℕ) (a : Instruction) (is : IsSentence (rows_of word_at) strict s a) → All (λ byte. byte < 256) s → HasOperandForm strict s is.reading is.whole false → (t : List ℕ) × IsShortest strict s is.reading is.whole t × (length t ≡ least_in strict s) }
 {}
 
 /// Errors of `emit` are equal exactly where they are the same.

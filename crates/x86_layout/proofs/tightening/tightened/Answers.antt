@@ -1,4 +1,4 @@
-use Rattle.std.proofs.Common.{◌≡◌, ℕ, zero, suc, ◌≤◌, Bool, false, List, [], ◌∷◌, slice_index, sym, ap, subst, ◌∙◌, arith, Fits, w8}
+use Rattle.std.proofs.Common.{true, ◌≡◌, ℕ, zero, suc, ◌≤◌, Bool, false, List, [], ◌∷◌, slice_index, sym, ap, subst, ◌∙◌, arith, Fits, w8}
 use Rattle.std.specs.List.{list_all}
 use Rattle.x86_fields.specs.declared.Prefixes.{Prefixes}
 use Rattle.x86_fields.specs.Run.{is_prefix_byte}
@@ -16,7 +16,7 @@ use Rattle.x86_layout.specs.Shortest.{shortest, IsOfBytes}
 use Rattle.x86_layout.specs.Tighten.{respelled, respelled_length}
 use Rattle.x86_layout.proofs.RelativeLaws.{Seen, Row, fields_of_bytes, shortest_relative}
 use Rattle.x86_layout.proofs.LeastLaws.{least_without, least_at_ip, least_of_shortest}
-use Rattle.x86_layout.proofs.TightenLaws.{asks_memory, no_memory, some_memory, has_parts, fields_are, respelled_is, respelled_fits}
+use Rattle.x86_layout.proofs.TightenLaws.{asks_memory, no_operand, operand_form, some_memory, has_parts, fields_are, respelled_is, respelled_fits}
 use Rattle.x86_layout.proofs.tightening.tightened.Goals as goal
 
 bytes_at : (l : List ℕ) → ((i : ℕ) → Fits w8 (slice_index l i)) → Bytes l
@@ -33,7 +33,7 @@ pub returns-then-not-head-clause-shortest : goal.returns-then-not-head-clause-sh
 returns-then-not-head-clause-shortest c = λ strict a is.
     let s = c.args.encoding.now in
     let h = c.head_of-head.ensures strict is.reading is.whole in
-    no_memory strict s is.reading is.whole (sym (asks_memory strict s is.reading is.whole c.head_of-head.result h) ∙ c.if-not-head.true)
+    no_operand strict s is.reading is.whole (sym (asks_memory strict s is.reading is.whole c.head_of-head.result h) ∙ c.if-not-head.true)
 
 pub returns-then-not-head-clause-least : goal.returns-then-not-head-clause-least
 returns-then-not-head-clause-least c = λ strict a is.
@@ -57,7 +57,7 @@ returns-then-is_ip_relative-clause-shortest c = λ strict a is.
     let has = parts_are strict s is.reading is.whole head parts h tie.prefixes tie.escape tie.opcode tie.tail in
     let some = some_memory strict s is.reading is.whole (sym (asks_memory strict s is.reading is.whole head h) ∙ c.if-not-head.false) in
     let fields = c.raw_in-raw.ensures ∙ fields_are strict s is.reading is.whole some.0 some.1 (lists_of parts) has in
-    record { raw = some.0; read = some.1; form = ap is_ip_relative (sym fields) ∙ sym c.is_ip_relative.ensures ∙ c.if-is_ip_relative.true }
+    operand_form strict s is.reading is.whole some.0 some.1 true (ap is_ip_relative (sym fields) ∙ sym c.is_ip_relative.ensures ∙ c.if-is_ip_relative.true)
 
 pub returns-then-is_ip_relative-clause-least : goal.returns-then-is_ip_relative-clause-least
 returns-then-is_ip_relative-clause-least c = λ strict a is.
@@ -101,7 +101,7 @@ returns-clause-shortest c = λ strict a is.
     let fit : IsOfBytes some.0 = fields_of_bytes strict s is.reading is.whole some.0 some.1 (bytes_at s c.type_inv.encoding) in
     let spelled = c.respelled.ensures ∙ ap (respelled parts) (c.shortest.ensures ∙ ap shortest fields) ∙ respelled_is strict s is.reading is.whole some.0 some.1 parts has fit in
     record {
-      form = record { raw = some.0; read = some.1; form = ip };
+      form = operand_form strict s is.reading is.whole some.0 some.1 false ip;
       shortest = shortest_relative strict s is.reading is.whole some.0 some.1 fit c.respelled.result.items spelled is.lock is.short ip;
     }
 
