@@ -43,10 +43,10 @@ fn is_legal_run(prefixes: &[u8]) -> bool
 }
 
 /// Whether a ModRM that the row asks isn't there.
-fn lacks_modrm(record: &RecordAt, fields: &Fields) -> bool
-    ensures { result ≡ lacks_modrm record.now fields.now }
+fn lacks_modrm(row_record: &RecordAt, fields: &Fields) -> bool
+    ensures { result ≡ lacks_modrm row_record.now fields.now }
 {
-    let ask = plan_ask(record.usage, record.modrm, &record.plan);
+    let ask = plan_ask(row_record.usage, row_record.modrm, &row_record.plan);
     ask.modrm && fields.modrm.is_none()
 }
 
@@ -67,12 +67,12 @@ fn is_refusal(verdict: Verdict) -> bool
 }
 
 /// Whether a record refuses neither at the opcode nor for the ModRM and the suffix that are there.
-fn passes_record(record: &RecordAt, fields: &Fields) -> bool
-    ensures { result ≡ passes_record record.now fields.now }
+fn passes_record(row_record: &RecordAt, fields: &Fields) -> bool
+    ensures { result ≡ passes_record row_record.now fields.now }
 {
-    let modrm_passes = !is_refusal(record.plan.verdict) || lacks_modrm(record, fields);
-    let suffix_passes = !refuses_suffix(record.plan.verdict, fields.suffix);
-    record.at_opcode.is_none() && modrm_passes && suffix_passes
+    let modrm_passes = !is_refusal(row_record.plan.verdict) || lacks_modrm(row_record, fields);
+    let suffix_passes = !refuses_suffix(row_record.plan.verdict, fields.suffix);
+    row_record.at_opcode.is_none() && modrm_passes && suffix_passes
 }
 
 /// How many bytes of displacement there are at ModRM and SIB.
@@ -87,12 +87,12 @@ fn displacement_asked(modrm: u8, sib: Option<u8>) -> u8
 }
 
 /// Whether each part that a record asks is there with its length, and no other part is.
-fn has_asked_parts(record: &RecordAt, fields: &Fields) -> bool
-    ensures { result ≡ has_asked_parts record.now fields.now }
+fn has_asked_parts(row_record: &RecordAt, fields: &Fields) -> bool
+    ensures { result ≡ has_asked_parts row_record.now fields.now }
 {
-    let ask = plan_ask(record.usage, record.modrm, &record.plan);
-    let sib_asked = asks_sib(&ask, record.modrm);
-    let displacement = usize::from(displacement_asked(record.modrm, fields.sib));
+    let ask = plan_ask(row_record.usage, row_record.modrm, &row_record.plan);
+    let sib_asked = asks_sib(&ask, row_record.modrm);
+    let displacement = usize::from(displacement_asked(row_record.modrm, fields.sib));
     let modrm_fits = one_if(fields.modrm.is_some()) == one_if(ask.modrm);
     let sib_fits = one_if(fields.sib.is_some()) == one_if(sib_asked);
     let displacement_fits = fields.displacement.len() == displacement;
