@@ -10,8 +10,9 @@ ghost use Rattle.x86_layout.specs.Tighten.{byte_with, run_with, raw_in, displace
 
 use crate::heads::byte_at;
 use crate::parts::Parts;
+use crate::writing::push;
 use arrayvec::ArrayVec;
-use x86_fields::{Raw, is_rex, read_run};
+use x86_fields::{Raw, displacement_width, is_rex, read_run};
 
 /// The number of a displacement of one or four bytes, and 0 where there is none.
 fn signed(displacement: &[u8]) -> i32
@@ -41,27 +42,11 @@ pub fn raw_in(parts: &Parts) -> Raw
 }
 
 /// How many bytes of displacement raw fields have.
-fn displacement_width(raw: &Raw) -> usize
+fn width(raw: &Raw) -> usize
     ensures value { result ≡ disp_width raw.now.modrm raw.now.sib }
     ensures small { result ≤ 4 }
 {
-    let low = match raw.sib {
-        Some(sib) => sib % 8,
-        None => raw.modrm % 8,
-    };
-    match raw.modrm / 64 {
-        1 => 1,
-        2 => 4,
-        _ => { if low == 5 { 4 } else { 0 } }
-    }
-}
-
-fn push(encoding: &mut ArrayVec<u8, 15>, bytes: &[u8])
-    requires { array_vec_len encoding.old + length bytes.now ≤ 15 }
-    ensures text { encoding.new.items ≡ encoding.old.items ++ bytes.now }
-    ensures len { array_vec_len encoding.new ≡ array_vec_len encoding.old + length bytes.now }
-{
-    let _ = encoding.try_extend_from_slice(bytes);
+    usize::from(displacement_width(raw.modrm, raw.sib))
 }
 
 /// A REX byte with these bits X and B; another byte stays.
@@ -103,7 +88,7 @@ fn push_displacement(encoding: &mut ArrayVec<u8, 15>, raw: &Raw)
     ensures len { array_vec_len encoding.new ≡ array_vec_len encoding.old + disp_width raw.now.modrm raw.now.sib }
 {
     let bytes = raw.disp.to_le_bytes();
-    push(encoding, &bytes[..displacement_width(raw)]);
+    push(encoding, &bytes[..width(raw)]);
 }
 
 /// The parts in order, with other raw fields.

@@ -101,7 +101,8 @@ fn has_asked_parts(row_record: &RecordAt, fields: &Fields) -> bool
     modrm_fits && sib_fits && displacement_fits && immediate_fits && suffix_fits
 }
 
-fn push(bytes: &mut ArrayVec<u8, 15>, part: &[u8])
+/// Appends a part of an encoding.
+pub fn push(bytes: &mut ArrayVec<u8, 15>, part: &[u8])
     requires { array_vec_len bytes.old + length part.now ≤ 15 }
     ensures text { bytes.new.items ≡ bytes.old.items ++ part.now }
     ensures len { array_vec_len bytes.new ≡ array_vec_len bytes.old + length part.now }
