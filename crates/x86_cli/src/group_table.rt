@@ -1,536 +1,503 @@
-//! Encodings of the groups and of 3DNow, worked by hand from the rows, with the lines that list them.
+//! Encodings of the groups and of 3DNow, worked by hand from the rows, each with the line that lists it.
 
-use crate::plain_table::Worked;
+pub const PART_1: &str = "80 c0 ff => 0 3 ADD al, i8:-1 m1
+80 08 7f => 0 3 OR [rax], i8:127 m1
+80 d4 01 => 0 3 ADC ah, i8:1 m1
+40 80 dc 01 => 0 4 SBB spl, i8:1 m1
+80 24 24 0f => 0 4 AND [rsp], i8:15 m1
+41 80 ef 80 => 0 4 SUB r15b, i8:-128 m1
+f0 80 36 01 => 0 4 XOR [rsi], i8:1 m1
+80 3d 00 00 00 00 05 => 0 7 CMP [rip], i8:5 m1
+81 c1 00 01 00 00 => 0 6 ADD ecx, i32:256 m4
+66 81 09 ff ff => 0 5 OR [rcx], i16:-1 m2
+48 81 d1 ff ff ff ff => 0 7 ADC rcx, i64:-1 m8
+66 49 81 1b 01 00 00 00 => 0 8 SBB [r11], i64:1 m8
+81 e7 0f 00 00 00 => 0 6 AND edi, i32:15 m4
+81 6d fc 00 00 00 80 => 0 7 SUB [rbp-4], i32:-2147483648 m4
+66 81 f3 34 12 => 0 5 XOR bx, i16:4660 m2
+48 81 38 01 00 00 00 => 0 7 CMP [rax], i64:1 m8
+83 c0 01 => 0 3 ADD eax, i8:1 m4
+66 83 08 ff => 0 4 OR [rax], i8:-1 m2
+48 83 d0 00 => 0 4 ADC rax, i8:0 m8
+83 18 01 => 0 3 SBB [rax], i8:1 m4
+48 83 e4 f0 => 0 4 AND rsp, i8:-16 m8
+48 83 ec 10 => 0 4 SUB rsp, i8:16 m8
+f0 83 30 01 => 0 4 XOR [rax], i8:1 m4
+66 83 f8 7f => 0 4 CMP ax, i8:127 m2
+c0 c0 04 => 0 3 ROL al, i8:4 m1
+c0 08 01 => 0 3 ROR [rax], i8:1 m1
+c0 d1 ff => 0 3 RCL cl, i8:-1 m1
+c0 19 07 => 0 3 RCR [rcx], i8:7 m1
+40 c0 e7 01 => 0 4 SHL dil, i8:1 m1
+c0 2a 01 => 0 3 SHR [rdx], i8:1 m1
+c0 f4 01 => 0 3 SAL ah, i8:1 m1
+c0 3b 01 => 0 3 SAR [rbx], i8:1 m1
+66 c1 c0 08 => 0 4 ROL ax, i8:8 m2
+48 c1 0f 3f => 0 4 ROR [rdi], i8:63 m8
+c1 d0 02 => 0 3 RCL eax, i8:2 m4
+c1 18 02 => 0 3 RCR [rax], i8:2 m4
+c1 e0 02 => 0 3 SHL eax, i8:2 m4
+49 c1 e8 04 => 0 4 SHR r8, i8:4 m8
+c1 30 01 => 0 3 SAL [rax], i8:1 m4
+48 c1 f8 3f => 0 4 SAR rax, i8:63 m8
+d0 c0 => 0 2 ROL al, i8:1 m1
+d0 0e => 0 2 ROR [rsi], i8:1 m1
+d0 d0 => 0 2 RCL al, i8:1 m1
+d0 18 => 0 2 RCR [rax], i8:1 m1
+d0 e0 => 0 2 SHL al, i8:1 m1
+d0 2f => 0 2 SHR [rdi], i8:1 m1
+d0 f0 => 0 2 SAL al, i8:1 m1
+41 d0 fe => 0 3 SAR r14b, i8:1 m1
+d1 c0 => 0 2 ROL eax, i8:1 m4
+66 d1 08 => 0 3 ROR [rax], i8:1 m2
+48 d1 d0 => 0 3 RCL rax, i8:1 m8
+d1 18 => 0 2 RCR [rax], i8:1 m4
+d1 e1 => 0 2 SHL ecx, i8:1 m4
+48 d1 2a => 0 3 SHR [rdx], i8:1 m8
+d1 f2 => 0 2 SAL edx, i8:1 m4
+48 d1 fb => 0 3 SAR rbx, i8:1 m8
+d2 c0 => 0 2 ROL al, cl m1
+d2 08 => 0 2 ROR [rax], cl m1
+d2 d3 => 0 2 RCL bl, cl m1
+d2 1b => 0 2 RCR [rbx], cl m1
+d2 e4 => 0 2 SHL ah, cl m1
+d2 2c 24 => 0 3 SHR [rsp], cl m1
+d2 f1 => 0 2 SAL cl, cl m1
+40 d2 fd => 0 3 SAR bpl, cl m1
+d3 c0 => 0 2 ROL eax, cl m4
+66 d3 08 => 0 3 ROR [rax], cl m2
+d3 d0 => 0 2 RCL eax, cl m4
+48 d3 18 => 0 3 RCR [rax], cl m8
+48 d3 e0 => 0 3 SHL rax, cl m8
+66 d3 e8 => 0 3 SHR ax, cl m2
+d3 30 => 0 2 SAL [rax], cl m4
+41 d3 f8 => 0 3 SAR r8d, cl m4
+8f c0 => 0 2 POP eax m4
+48 8f c0 => 0 3 POP rax m8
+66 8f c0 => 0 3 POP ax m2
+8f 00 => 0 2 POP [rax] m8
+66 8f 00 => 0 3 POP [rax] m2
+66 48 8f 00 => 0 4 POP [rax] m8
+c6 00 80 => 0 3 MOV [rax], i8:-128 m1
+c6 c4 01 => 0 3 MOV ah, i8:1 m1
+40 c6 c4 01 => 0 4 MOV spl, i8:1 m1
+c6 f8 05 => 0 3 XABORT i8:5 m1
+c6 c8 ff => 0 3 XABORT i8:-1 m1
+41 c6 e8 05 => 0 4 XABORT i8:5 m1
+c7 00 78 56 34 12 => 0 6 MOV [rax], i32:305419896 m4
+66 c7 c0 ff ff => 0 5 MOV ax, i16:-1 m2
+48 c7 c0 ff ff ff ff => 0 7 MOV rax, i64:-1 m8
+66 c7 45 00 34 12 => 0 6 MOV [rbp], i16:4660 m2
+c7 f8 00 00 00 80 => 0 6 XBEGIN i32:-2147483648 m4
+66 c7 f8 00 80 => 0 5 XBEGIN i32:-32768 m2
+48 c7 f8 01 00 00 00 => 0 7 XBEGIN i32:1 m8
+66 48 c7 c8 01 00 00 00 => 0 8 XBEGIN i32:1 m8
+f6 c0 01 => 0 3 TEST al, i8:1 m1
+f6 08 ff => 0 3 TEST [rax], i8:-1 m1
+f6 d0 => 0 2 NOT al m1
+f0 f6 18 => 0 3 NEG [rax] m1
+f6 e4 => 0 2 MUL ah m1
+40 f6 ec => 0 3 IMUL spl m1
+f6 30 => 0 2 DIV [rax] m1
+f6 fb => 0 2 IDIV bl m1";
 
-pub const PART_1: &[Worked] = &[
-    ("80 c0 ff", "0 3 ADD al, i8:-1 m1\n"),
-    ("80 08 7f", "0 3 OR [rax], i8:127 m1\n"),
-    ("80 d4 01", "0 3 ADC ah, i8:1 m1\n"),
-    ("40 80 dc 01", "0 4 SBB spl, i8:1 m1\n"),
-    ("80 24 24 0f", "0 4 AND [rsp], i8:15 m1\n"),
-    ("41 80 ef 80", "0 4 SUB r15b, i8:-128 m1\n"),
-    ("f0 80 36 01", "0 4 XOR [rsi], i8:1 m1\n"),
-    ("80 3d 00 00 00 00 05", "0 7 CMP [rip], i8:5 m1\n"),
-    ("81 c1 00 01 00 00", "0 6 ADD ecx, i32:256 m4\n"),
-    ("66 81 09 ff ff", "0 5 OR [rcx], i16:-1 m2\n"),
-    ("48 81 d1 ff ff ff ff", "0 7 ADC rcx, i64:-1 m8\n"),
-    ("66 49 81 1b 01 00 00 00", "0 8 SBB [r11], i64:1 m8\n"),
-    ("81 e7 0f 00 00 00", "0 6 AND edi, i32:15 m4\n"),
-    (
-        "81 6d fc 00 00 00 80",
-        "0 7 SUB [rbp-4], i32:-2147483648 m4\n",
-    ),
-    ("66 81 f3 34 12", "0 5 XOR bx, i16:4660 m2\n"),
-    ("48 81 38 01 00 00 00", "0 7 CMP [rax], i64:1 m8\n"),
-    ("83 c0 01", "0 3 ADD eax, i8:1 m4\n"),
-    ("66 83 08 ff", "0 4 OR [rax], i8:-1 m2\n"),
-    ("48 83 d0 00", "0 4 ADC rax, i8:0 m8\n"),
-    ("83 18 01", "0 3 SBB [rax], i8:1 m4\n"),
-    ("48 83 e4 f0", "0 4 AND rsp, i8:-16 m8\n"),
-    ("48 83 ec 10", "0 4 SUB rsp, i8:16 m8\n"),
-    ("f0 83 30 01", "0 4 XOR [rax], i8:1 m4\n"),
-    ("66 83 f8 7f", "0 4 CMP ax, i8:127 m2\n"),
-    ("c0 c0 04", "0 3 ROL al, i8:4 m1\n"),
-    ("c0 08 01", "0 3 ROR [rax], i8:1 m1\n"),
-    ("c0 d1 ff", "0 3 RCL cl, i8:-1 m1\n"),
-    ("c0 19 07", "0 3 RCR [rcx], i8:7 m1\n"),
-    ("40 c0 e7 01", "0 4 SHL dil, i8:1 m1\n"),
-    ("c0 2a 01", "0 3 SHR [rdx], i8:1 m1\n"),
-    ("c0 f4 01", "0 3 SAL ah, i8:1 m1\n"),
-    ("c0 3b 01", "0 3 SAR [rbx], i8:1 m1\n"),
-    ("66 c1 c0 08", "0 4 ROL ax, i8:8 m2\n"),
-    ("48 c1 0f 3f", "0 4 ROR [rdi], i8:63 m8\n"),
-    ("c1 d0 02", "0 3 RCL eax, i8:2 m4\n"),
-    ("c1 18 02", "0 3 RCR [rax], i8:2 m4\n"),
-    ("c1 e0 02", "0 3 SHL eax, i8:2 m4\n"),
-    ("49 c1 e8 04", "0 4 SHR r8, i8:4 m8\n"),
-    ("c1 30 01", "0 3 SAL [rax], i8:1 m4\n"),
-    ("48 c1 f8 3f", "0 4 SAR rax, i8:63 m8\n"),
-    ("d0 c0", "0 2 ROL al, i8:1 m1\n"),
-    ("d0 0e", "0 2 ROR [rsi], i8:1 m1\n"),
-    ("d0 d0", "0 2 RCL al, i8:1 m1\n"),
-    ("d0 18", "0 2 RCR [rax], i8:1 m1\n"),
-    ("d0 e0", "0 2 SHL al, i8:1 m1\n"),
-    ("d0 2f", "0 2 SHR [rdi], i8:1 m1\n"),
-    ("d0 f0", "0 2 SAL al, i8:1 m1\n"),
-    ("41 d0 fe", "0 3 SAR r14b, i8:1 m1\n"),
-    ("d1 c0", "0 2 ROL eax, i8:1 m4\n"),
-    ("66 d1 08", "0 3 ROR [rax], i8:1 m2\n"),
-    ("48 d1 d0", "0 3 RCL rax, i8:1 m8\n"),
-    ("d1 18", "0 2 RCR [rax], i8:1 m4\n"),
-    ("d1 e1", "0 2 SHL ecx, i8:1 m4\n"),
-    ("48 d1 2a", "0 3 SHR [rdx], i8:1 m8\n"),
-    ("d1 f2", "0 2 SAL edx, i8:1 m4\n"),
-    ("48 d1 fb", "0 3 SAR rbx, i8:1 m8\n"),
-    ("d2 c0", "0 2 ROL al, cl m1\n"),
-    ("d2 08", "0 2 ROR [rax], cl m1\n"),
-    ("d2 d3", "0 2 RCL bl, cl m1\n"),
-    ("d2 1b", "0 2 RCR [rbx], cl m1\n"),
-    ("d2 e4", "0 2 SHL ah, cl m1\n"),
-    ("d2 2c 24", "0 3 SHR [rsp], cl m1\n"),
-    ("d2 f1", "0 2 SAL cl, cl m1\n"),
-    ("40 d2 fd", "0 3 SAR bpl, cl m1\n"),
-    ("d3 c0", "0 2 ROL eax, cl m4\n"),
-    ("66 d3 08", "0 3 ROR [rax], cl m2\n"),
-    ("d3 d0", "0 2 RCL eax, cl m4\n"),
-    ("48 d3 18", "0 3 RCR [rax], cl m8\n"),
-    ("48 d3 e0", "0 3 SHL rax, cl m8\n"),
-    ("66 d3 e8", "0 3 SHR ax, cl m2\n"),
-    ("d3 30", "0 2 SAL [rax], cl m4\n"),
-    ("41 d3 f8", "0 3 SAR r8d, cl m4\n"),
-    ("8f c0", "0 2 POP eax m4\n"),
-    ("48 8f c0", "0 3 POP rax m8\n"),
-    ("66 8f c0", "0 3 POP ax m2\n"),
-    ("8f 00", "0 2 POP [rax] m8\n"),
-    ("66 8f 00", "0 3 POP [rax] m2\n"),
-    ("66 48 8f 00", "0 4 POP [rax] m8\n"),
-    ("c6 00 80", "0 3 MOV [rax], i8:-128 m1\n"),
-    ("c6 c4 01", "0 3 MOV ah, i8:1 m1\n"),
-    ("40 c6 c4 01", "0 4 MOV spl, i8:1 m1\n"),
-    ("c6 f8 05", "0 3 XABORT i8:5 m1\n"),
-    ("c6 c8 ff", "0 3 XABORT i8:-1 m1\n"),
-    ("41 c6 e8 05", "0 4 XABORT i8:5 m1\n"),
-    ("c7 00 78 56 34 12", "0 6 MOV [rax], i32:305419896 m4\n"),
-    ("66 c7 c0 ff ff", "0 5 MOV ax, i16:-1 m2\n"),
-    ("48 c7 c0 ff ff ff ff", "0 7 MOV rax, i64:-1 m8\n"),
-    ("66 c7 45 00 34 12", "0 6 MOV [rbp], i16:4660 m2\n"),
-    ("c7 f8 00 00 00 80", "0 6 XBEGIN i32:-2147483648 m4\n"),
-    ("66 c7 f8 00 80", "0 5 XBEGIN i32:-32768 m2\n"),
-    ("48 c7 f8 01 00 00 00", "0 7 XBEGIN i32:1 m8\n"),
-    ("66 48 c7 c8 01 00 00 00", "0 8 XBEGIN i32:1 m8\n"),
-    ("f6 c0 01", "0 3 TEST al, i8:1 m1\n"),
-    ("f6 08 ff", "0 3 TEST [rax], i8:-1 m1\n"),
-    ("f6 d0", "0 2 NOT al m1\n"),
-    ("f0 f6 18", "0 3 NEG [rax] m1\n"),
-    ("f6 e4", "0 2 MUL ah m1\n"),
-    ("40 f6 ec", "0 3 IMUL spl m1\n"),
-    ("f6 30", "0 2 DIV [rax] m1\n"),
-    ("f6 fb", "0 2 IDIV bl m1\n"),
-];
+pub const PART_2: &str = "f7 c1 01 00 00 00 => 0 6 TEST ecx, i32:1 m4
+66 f7 08 01 80 => 0 5 TEST [rax], i16:-32767 m2
+48 f7 c0 00 00 00 80 => 0 7 TEST rax, i64:-2147483648 m8
+f0 48 f7 10 => 0 4 NOT [rax] m8
+66 f7 d8 => 0 3 NEG ax m2
+f7 20 => 0 2 MUL [rax] m4
+49 f7 e9 => 0 3 IMUL r9 m8
+f7 f1 => 0 2 DIV ecx m4
+48 f7 3b => 0 3 IDIV [rbx] m8
+fe c0 => 0 2 INC al m1
+fe 00 => 0 2 INC [rax] m1
+f0 fe 08 => 0 3 DEC [rax] m1
+40 fe ce => 0 3 DEC sil m1
+ff c0 => 0 2 INC eax m4
+66 ff 00 => 0 3 INC [rax] m2
+f0 48 ff 08 => 0 4 DEC [rax] m8
+66 ff c8 => 0 3 DEC ax m2
+ff 10 => 0 2 CALL [rax] m8
+66 ff d1 => 0 3 CALL rcx m8
+41 ff d1 => 0 3 CALL r9 m8
+ff 18 => 0 2 CALLF [rax] m10
+48 ff 1d 00 00 00 00 => 0 7 CALLF [rip] m10
+ff 20 => 0 2 JMP [rax] m8
+66 ff 20 => 0 3 JMP [rax] m8
+66 ff e0 => 0 3 JMP rax m2
+48 ff e0 => 0 3 JMP rax m8
+ff 28 => 0 2 JMPF [rax] m10
+ff 30 => 0 2 PUSH [rax] m8
+ff f0 => 0 2 PUSH eax m8
+66 ff f0 => 0 3 PUSH ax m2
+48 ff f0 => 0 3 PUSH rax m8
+66 48 ff 30 => 0 4 PUSH [rax] m2
+0f 00 c0 => 0 3 SLDT ax m0
+0f 00 08 => 0 3 STR [rax] m2
+48 0f 00 d1 => 0 4 LLDT cx m0
+0f 00 18 => 0 3 LTR [rax] m2
+0f 00 e0 => 0 3 VERR ax m0
+0f 00 20 => 0 3 VERR [rax] m2
+41 0f 00 e8 => 0 4 VERW r8w m0
+0f 01 00 => 0 3 SGDT [rax] m10
+66 0f 01 08 => 0 4 SIDT [rax] m10
+f3 0f 01 10 => 0 4 LGDT [rax] m10
+f2 0f 01 1c 24 => 0 5 LIDT [rsp] m10
+0f 01 20 => 0 3 SMSW [rax] m2
+f3 0f 01 28 => 0 4 RSTORSSP [rax] m8
+f3 66 0f 01 28 => 0 5 RSTORSSP [rax] m8
+0f 01 30 => 0 3 LMSW [rax] m2
+67 0f 01 38 => 0 4 INVLPG [eax] m1
+0f 01 c0 => 0 3 ENCLV m0
+0f 01 c1 => 0 3 VMCALL m0
+0f 01 c2 => 0 3 VMLAUNCH m0
+0f 01 c3 => 0 3 VMRESUME m0
+0f 01 c4 => 0 3 VMXOFF m0
+0f 01 c5 => 0 3 PCONFIG m0
+0f 01 c8 => 0 3 MONITOR m1
+0f 01 c9 => 0 3 MWAIT m0
+0f 01 ca => 0 3 CLAC m0
+48 0f 01 cb => 0 4 STAC m0
+0f 01 cf => 0 3 ENCLS m0
+66 0f 01 cc => 0 4 TDCALL m0
+66 0f 01 cd => 0 4 SEAMRET m0
+66 0f 01 ce => 0 4 SEAMOPS m0
+66 0f 01 cf => 0 4 SEAMCALL m0
+0f 01 d0 => 0 3 XGETBV m0
+0f 01 d1 => 0 3 XSETBV m0
+0f 01 d4 => 0 3 VMFUNC m0
+0f 01 d5 => 0 3 XEND m0
+0f 01 d6 => 0 3 XTEST m0
+0f 01 d7 => 0 3 ENCLU m0
+0f 01 d8 => 0 3 VMRUN rax m0
+0f 01 d9 => 0 3 VMMCALL m0
+67 0f 01 da => 0 4 VMLOAD rax m0
+f3 0f 01 db => 0 4 VMSAVE rax m0
+0f 01 dc => 0 3 STGI m0
+0f 01 dd => 0 3 CLGI m0
+f2 0f 01 de => 0 4 SKINIT eax m0
+66 41 0f 01 df => 0 5 INVLPGA rax, ecx m0
+0f 01 e0 => 0 3 SMSW eax m2
+66 0f 01 e1 => 0 4 SMSW cx m2
+49 0f 01 e0 => 0 4 SMSW r8 m2
+0f 01 f0 => 0 3 LMSW ax m2
+49 0f 01 f1 => 0 4 LMSW r9w m2
+f2 0f 01 e8 => 0 4 XSUSLDTRK m0
+f3 0f 01 e8 => 0 4 SETSSBSY m0
+f2 0f 01 e9 => 0 4 XRESLDTRK m0
+f3 0f 01 ea => 0 4 SAVEPREVSSP m0
+f3 0f 01 ec => 0 4 UIRET m0
+f3 0f 01 ed => 0 4 TESTUI m0
+f3 0f 01 ee => 0 4 CLUI m0
+f3 66 0f 01 ee => 0 5 CLUI m0
+0f 01 ee => 0 3 RDPKRU m0
+f3 0f 01 ef => 0 4 STUI m0
+0f 01 ef => 0 3 WRPKRU m0
+0f 01 f8 => 0 3 SWAPGS m0
+66 0f 01 f8 => 0 4 SWAPGS m0
+0f 01 f9 => 0 3 RDTSCP m0
+0f 01 fa => 0 3 MONITORX m0
+0f 01 fb => 0 3 MWAITX m0
+0f 01 fc => 0 3 CLZERO m0
+0f 01 fd => 0 3 RDPRU ecx m0";
 
-pub const PART_2: &[Worked] = &[
-    ("f7 c1 01 00 00 00", "0 6 TEST ecx, i32:1 m4\n"),
-    ("66 f7 08 01 80", "0 5 TEST [rax], i16:-32767 m2\n"),
-    ("48 f7 c0 00 00 00 80", "0 7 TEST rax, i64:-2147483648 m8\n"),
-    ("f0 48 f7 10", "0 4 NOT [rax] m8\n"),
-    ("66 f7 d8", "0 3 NEG ax m2\n"),
-    ("f7 20", "0 2 MUL [rax] m4\n"),
-    ("49 f7 e9", "0 3 IMUL r9 m8\n"),
-    ("f7 f1", "0 2 DIV ecx m4\n"),
-    ("48 f7 3b", "0 3 IDIV [rbx] m8\n"),
-    ("fe c0", "0 2 INC al m1\n"),
-    ("fe 00", "0 2 INC [rax] m1\n"),
-    ("f0 fe 08", "0 3 DEC [rax] m1\n"),
-    ("40 fe ce", "0 3 DEC sil m1\n"),
-    ("ff c0", "0 2 INC eax m4\n"),
-    ("66 ff 00", "0 3 INC [rax] m2\n"),
-    ("f0 48 ff 08", "0 4 DEC [rax] m8\n"),
-    ("66 ff c8", "0 3 DEC ax m2\n"),
-    ("ff 10", "0 2 CALL [rax] m8\n"),
-    ("66 ff d1", "0 3 CALL rcx m8\n"),
-    ("41 ff d1", "0 3 CALL r9 m8\n"),
-    ("ff 18", "0 2 CALLF [rax] m10\n"),
-    ("48 ff 1d 00 00 00 00", "0 7 CALLF [rip] m10\n"),
-    ("ff 20", "0 2 JMP [rax] m8\n"),
-    ("66 ff 20", "0 3 JMP [rax] m8\n"),
-    ("66 ff e0", "0 3 JMP rax m2\n"),
-    ("48 ff e0", "0 3 JMP rax m8\n"),
-    ("ff 28", "0 2 JMPF [rax] m10\n"),
-    ("ff 30", "0 2 PUSH [rax] m8\n"),
-    ("ff f0", "0 2 PUSH eax m8\n"),
-    ("66 ff f0", "0 3 PUSH ax m2\n"),
-    ("48 ff f0", "0 3 PUSH rax m8\n"),
-    ("66 48 ff 30", "0 4 PUSH [rax] m2\n"),
-    ("0f 00 c0", "0 3 SLDT ax m0\n"),
-    ("0f 00 08", "0 3 STR [rax] m2\n"),
-    ("48 0f 00 d1", "0 4 LLDT cx m0\n"),
-    ("0f 00 18", "0 3 LTR [rax] m2\n"),
-    ("0f 00 e0", "0 3 VERR ax m0\n"),
-    ("0f 00 20", "0 3 VERR [rax] m2\n"),
-    ("41 0f 00 e8", "0 4 VERW r8w m0\n"),
-    ("0f 01 00", "0 3 SGDT [rax] m10\n"),
-    ("66 0f 01 08", "0 4 SIDT [rax] m10\n"),
-    ("f3 0f 01 10", "0 4 LGDT [rax] m10\n"),
-    ("f2 0f 01 1c 24", "0 5 LIDT [rsp] m10\n"),
-    ("0f 01 20", "0 3 SMSW [rax] m2\n"),
-    ("f3 0f 01 28", "0 4 RSTORSSP [rax] m8\n"),
-    ("f3 66 0f 01 28", "0 5 RSTORSSP [rax] m8\n"),
-    ("0f 01 30", "0 3 LMSW [rax] m2\n"),
-    ("67 0f 01 38", "0 4 INVLPG [eax] m1\n"),
-    ("0f 01 c0", "0 3 ENCLV m0\n"),
-    ("0f 01 c1", "0 3 VMCALL m0\n"),
-    ("0f 01 c2", "0 3 VMLAUNCH m0\n"),
-    ("0f 01 c3", "0 3 VMRESUME m0\n"),
-    ("0f 01 c4", "0 3 VMXOFF m0\n"),
-    ("0f 01 c5", "0 3 PCONFIG m0\n"),
-    ("0f 01 c8", "0 3 MONITOR m1\n"),
-    ("0f 01 c9", "0 3 MWAIT m0\n"),
-    ("0f 01 ca", "0 3 CLAC m0\n"),
-    ("48 0f 01 cb", "0 4 STAC m0\n"),
-    ("0f 01 cf", "0 3 ENCLS m0\n"),
-    ("66 0f 01 cc", "0 4 TDCALL m0\n"),
-    ("66 0f 01 cd", "0 4 SEAMRET m0\n"),
-    ("66 0f 01 ce", "0 4 SEAMOPS m0\n"),
-    ("66 0f 01 cf", "0 4 SEAMCALL m0\n"),
-    ("0f 01 d0", "0 3 XGETBV m0\n"),
-    ("0f 01 d1", "0 3 XSETBV m0\n"),
-    ("0f 01 d4", "0 3 VMFUNC m0\n"),
-    ("0f 01 d5", "0 3 XEND m0\n"),
-    ("0f 01 d6", "0 3 XTEST m0\n"),
-    ("0f 01 d7", "0 3 ENCLU m0\n"),
-    ("0f 01 d8", "0 3 VMRUN rax m0\n"),
-    ("0f 01 d9", "0 3 VMMCALL m0\n"),
-    ("67 0f 01 da", "0 4 VMLOAD rax m0\n"),
-    ("f3 0f 01 db", "0 4 VMSAVE rax m0\n"),
-    ("0f 01 dc", "0 3 STGI m0\n"),
-    ("0f 01 dd", "0 3 CLGI m0\n"),
-    ("f2 0f 01 de", "0 4 SKINIT eax m0\n"),
-    ("66 41 0f 01 df", "0 5 INVLPGA rax, ecx m0\n"),
-    ("0f 01 e0", "0 3 SMSW eax m2\n"),
-    ("66 0f 01 e1", "0 4 SMSW cx m2\n"),
-    ("49 0f 01 e0", "0 4 SMSW r8 m2\n"),
-    ("0f 01 f0", "0 3 LMSW ax m2\n"),
-    ("49 0f 01 f1", "0 4 LMSW r9w m2\n"),
-    ("f2 0f 01 e8", "0 4 XSUSLDTRK m0\n"),
-    ("f3 0f 01 e8", "0 4 SETSSBSY m0\n"),
-    ("f2 0f 01 e9", "0 4 XRESLDTRK m0\n"),
-    ("f3 0f 01 ea", "0 4 SAVEPREVSSP m0\n"),
-    ("f3 0f 01 ec", "0 4 UIRET m0\n"),
-    ("f3 0f 01 ed", "0 4 TESTUI m0\n"),
-    ("f3 0f 01 ee", "0 4 CLUI m0\n"),
-    ("f3 66 0f 01 ee", "0 5 CLUI m0\n"),
-    ("0f 01 ee", "0 3 RDPKRU m0\n"),
-    ("f3 0f 01 ef", "0 4 STUI m0\n"),
-    ("0f 01 ef", "0 3 WRPKRU m0\n"),
-    ("0f 01 f8", "0 3 SWAPGS m0\n"),
-    ("66 0f 01 f8", "0 4 SWAPGS m0\n"),
-    ("0f 01 f9", "0 3 RDTSCP m0\n"),
-    ("0f 01 fa", "0 3 MONITORX m0\n"),
-    ("0f 01 fb", "0 3 MWAITX m0\n"),
-    ("0f 01 fc", "0 3 CLZERO m0\n"),
-    ("0f 01 fd", "0 3 RDPRU ecx m0\n"),
-];
+pub const PART_3: &str = "f3 0f 01 fe => 0 4 RMPADJUST m0
+f2 0f 01 fe => 0 4 RMPUPDATE m0
+0f 01 fe => 0 3 INVLPGB rax, edx, ecx m0
+f3 0f 01 ff => 0 4 PSMASH m0
+f2 0f 01 ff => 0 4 PVALIDATE m0
+0f 01 ff => 0 3 TLBSYNC m0
+0f 0d 08 => 0 3 PREFETCHW [rax] m64
+0f 0d 00 => 0 3 NOP [rax] m64
+66 0f 0d 38 => 0 4 NOP [rax] m64
+0f 0f 01 0c => 0 4 PI2FW mm0, [rcx] m8
+0f 0f c1 0d => 0 4 PI2FD mm0, mm1 m4
+0f 0f 41 04 1c => 0 5 PF2IW mm0, [rcx+4] m8
+48 0f 0f c1 1d => 0 5 PF2ID mm0, mm1 m8
+66 0f 0f c1 8a => 0 5 PFNACC mm0, mm1 m2
+45 0f 0f ca 8e => 0 5 PFPNACC mm1, mm2 m4
+0f 0f 05 10 00 00 00 90 => 0 8 PFCMPGE mm0, [rip+16] m8
+0f 0f c1 94 => 0 4 PFMIN mm0, mm1 m4
+0f 0f 00 96 => 0 4 PFRCP mm0, [rax] m8
+0f 0f c8 97 => 0 4 PFRSQRT mm1, mm0 m4
+0f 0f d0 9a => 0 4 PFSUB mm2, mm0 m4
+0f 0f 3c 24 9e => 0 5 PFADD mm7, [rsp] m8
+0f 0f c1 a0 => 0 4 PFCMPGT mm0, mm1 m4
+0f 0f c1 a4 => 0 4 PFMAX mm0, mm1 m4
+0f 0f c1 a6 => 0 4 PFRCPIT1 mm0, mm1 m4
+f3 0f 0f c1 a7 => 0 5 PFRSQIT1 mm0, mm1 m4
+0f 0f 01 aa => 0 4 PFSUBR mm0, [rcx] m8
+0f 0f c1 ae => 0 4 PFACC mm0, mm1 m4
+0f 0f c1 b0 => 0 4 PFCMPEQ mm0, mm1 m4
+0f 0f 01 b4 => 0 4 PFMUL mm0, [rcx] m8
+0f 0f c1 b6 => 0 4 PFRCPIT2 mm0, mm1 m4
+0f 0f c1 b7 => 0 4 PMULHRW mm0, mm1 m4
+f2 0f 0f c1 bb => 0 5 PSWAPD mm0, mm1 m4
+0f 0f c1 bf => 0 4 PAVGUSB mm0, mm1 m4
+0f 12 01 => 0 3 MOVLPS xmm0, [rcx] m8
+45 0f 12 c1 => 0 4 MOVHLPS xmm8, xmm9 m4
+0f 16 01 => 0 3 MOVHPS xmm0, [rcx] m8
+48 0f 16 c1 => 0 4 MOVLHPS xmm0, xmm1 m8
+0f 18 00 => 0 3 PREFETCHNTA [rax] m64
+66 0f 18 08 => 0 4 PREFETCH0 [rax] m64
+0f 18 10 => 0 3 PREFETCH1 [rax] m64
+0f 18 18 => 0 3 PREFETCH2 [rax] m64
+0f 18 20 => 0 3 NOP [rax] m64
+0f 18 38 => 0 3 NOP [rax] m64
+0f 18 c0 => 0 3 NOP eax m4
+66 0f 18 c8 => 0 4 NOP ax m2
+49 0f 18 f8 => 0 4 NOP r8 m8
+0f 71 d1 04 => 0 4 PSRLW mm1, u8:4 m4
+66 0f 71 e1 0f => 0 5 PSRAW xmm1, u8:15 m2
+41 0f 71 f1 ff => 0 5 PSLLW mm1, u8:255 m4
+66 41 0f 71 f1 01 => 0 6 PSLLW xmm9, u8:1 m2
+0f 72 d1 04 => 0 4 PSRLD mm1, u8:4 m4
+66 0f 72 e1 04 => 0 5 PSRAD xmm1, u8:4 m2
+48 0f 72 f1 04 => 0 5 PSLLD mm1, u8:4 m8
+0f 73 d1 20 => 0 4 PSRLQ mm1, u8:32 m4
+66 0f 73 d9 08 => 0 5 PSRLDQ xmm1, u8:8 m2
+66 0f 73 f1 80 => 0 5 PSLLQ xmm1, u8:128 m2
+66 48 0f 73 fb 08 => 0 6 PSLLDQ xmm3, u8:8 m8
+66 0f ae 30 => 0 4 CLWB [rax] m64
+66 0f ae 38 => 0 4 CLFLUSHOPT [rax] m64
+66 41 0f ae f1 => 0 5 TPAUSE r9d m0
+f2 0f ae f1 => 0 4 UMWAIT ecx m0
+f2 49 0f ae f1 => 0 5 UMWAIT r9d m0
+66 f2 0f ae f0 => 0 5 UMWAIT eax m0
+f3 0f ae e1 => 0 4 PTWRITE ecx m0
+f3 48 0f ae e1 => 0 5 PTWRITE rcx m0
+f3 0f ae 20 => 0 4 PTWRITE [rax] m4
+f3 48 0f ae 20 => 0 5 PTWRITE [rax] m8
+f3 0f ae c1 => 0 4 RDFSBASE ecx m0
+f3 48 0f ae c9 => 0 5 RDGSBASE rcx m0
+f3 66 0f ae d1 => 0 5 WRFSBASE ecx m0
+f3 49 0f ae d9 => 0 5 WRGSBASE r9 m0
+f3 0f ae e9 => 0 4 INCSSP ecx m0
+f3 48 0f ae e9 => 0 5 INCSSP rcx m0
+f3 0f ae f1 => 0 4 UMONITOR rcx m0
+f3 0f ae 30 => 0 4 CLRSSBSY [rax] m8
+0f ae 00 => 0 3 FXSAVE [rax] m?
+48 0f ae 08 => 0 4 FXRSTOR [rax] m?
+0f ae 10 => 0 3 LDMXCSR [rax] m4
+0f ae 18 => 0 3 STMXCSR [rax] m4
+0f ae 20 => 0 3 XSAVE [rax] m?
+0f ae 28 => 0 3 XRSTOR [rax] m?
+0f ae 30 => 0 3 XSAVEOPT [rax] m?
+0f ae 38 => 0 3 CLFLUSH [rax] m64
+0f ae e8 => 0 3 LFENCE m0
+0f ae f0 => 0 3 MFENCE m0
+0f ae f8 => 0 3 SFENCE m0
+0f ae ef => 0 3 LFENCE m0
+0f ae f1 => 0 3 MFENCE m0
+0f ae fa => 0 3 SFENCE m0
+0f ba e0 05 => 0 4 BT rax, i8:5 m0
+66 0f ba 28 ff => 0 5 BTS [rax], i8:-1 m2
+0f ba 30 01 => 0 4 BTR [rax], i8:1 m8
+f0 0f ba 38 1f => 0 5 BTC [rax], i8:31 m8
+66 48 0f ba f1 01 => 0 6 BTR cx, i8:1 m0
+0f c7 08 => 0 3 CMPXCHG8B [rax] m8
+f3 48 0f c7 08 => 0 5 CMPXCHG16B [rax] m16
+66 0f c7 0f => 0 4 CMPXCHG8B [rdi] m8
+f0 f2 0f c7 08 => 0 5 CMPXCHG8B [rax] m8
+66 0f c7 30 => 0 4 VMCLEAR [rax] m8
+66 0f c7 f1 => 0 4 RDRAND cx m0";
 
-pub const PART_3: &[Worked] = &[
-    ("f3 0f 01 fe", "0 4 RMPADJUST m0\n"),
-    ("f2 0f 01 fe", "0 4 RMPUPDATE m0\n"),
-    ("0f 01 fe", "0 3 INVLPGB rax, edx, ecx m0\n"),
-    ("f3 0f 01 ff", "0 4 PSMASH m0\n"),
-    ("f2 0f 01 ff", "0 4 PVALIDATE m0\n"),
-    ("0f 01 ff", "0 3 TLBSYNC m0\n"),
-    ("0f 0d 08", "0 3 PREFETCHW [rax] m64\n"),
-    ("0f 0d 00", "0 3 NOP [rax] m64\n"),
-    ("66 0f 0d 38", "0 4 NOP [rax] m64\n"),
-    ("0f 0f 01 0c", "0 4 PI2FW mm0, [rcx] m8\n"),
-    ("0f 0f c1 0d", "0 4 PI2FD mm0, mm1 m4\n"),
-    ("0f 0f 41 04 1c", "0 5 PF2IW mm0, [rcx+4] m8\n"),
-    ("48 0f 0f c1 1d", "0 5 PF2ID mm0, mm1 m8\n"),
-    ("66 0f 0f c1 8a", "0 5 PFNACC mm0, mm1 m2\n"),
-    ("45 0f 0f ca 8e", "0 5 PFPNACC mm1, mm2 m4\n"),
-    ("0f 0f 05 10 00 00 00 90", "0 8 PFCMPGE mm0, [rip+16] m8\n"),
-    ("0f 0f c1 94", "0 4 PFMIN mm0, mm1 m4\n"),
-    ("0f 0f 00 96", "0 4 PFRCP mm0, [rax] m8\n"),
-    ("0f 0f c8 97", "0 4 PFRSQRT mm1, mm0 m4\n"),
-    ("0f 0f d0 9a", "0 4 PFSUB mm2, mm0 m4\n"),
-    ("0f 0f 3c 24 9e", "0 5 PFADD mm7, [rsp] m8\n"),
-    ("0f 0f c1 a0", "0 4 PFCMPGT mm0, mm1 m4\n"),
-    ("0f 0f c1 a4", "0 4 PFMAX mm0, mm1 m4\n"),
-    ("0f 0f c1 a6", "0 4 PFRCPIT1 mm0, mm1 m4\n"),
-    ("f3 0f 0f c1 a7", "0 5 PFRSQIT1 mm0, mm1 m4\n"),
-    ("0f 0f 01 aa", "0 4 PFSUBR mm0, [rcx] m8\n"),
-    ("0f 0f c1 ae", "0 4 PFACC mm0, mm1 m4\n"),
-    ("0f 0f c1 b0", "0 4 PFCMPEQ mm0, mm1 m4\n"),
-    ("0f 0f 01 b4", "0 4 PFMUL mm0, [rcx] m8\n"),
-    ("0f 0f c1 b6", "0 4 PFRCPIT2 mm0, mm1 m4\n"),
-    ("0f 0f c1 b7", "0 4 PMULHRW mm0, mm1 m4\n"),
-    ("f2 0f 0f c1 bb", "0 5 PSWAPD mm0, mm1 m4\n"),
-    ("0f 0f c1 bf", "0 4 PAVGUSB mm0, mm1 m4\n"),
-    ("0f 12 01", "0 3 MOVLPS xmm0, [rcx] m8\n"),
-    ("45 0f 12 c1", "0 4 MOVHLPS xmm8, xmm9 m4\n"),
-    ("0f 16 01", "0 3 MOVHPS xmm0, [rcx] m8\n"),
-    ("48 0f 16 c1", "0 4 MOVLHPS xmm0, xmm1 m8\n"),
-    ("0f 18 00", "0 3 PREFETCHNTA [rax] m64\n"),
-    ("66 0f 18 08", "0 4 PREFETCH0 [rax] m64\n"),
-    ("0f 18 10", "0 3 PREFETCH1 [rax] m64\n"),
-    ("0f 18 18", "0 3 PREFETCH2 [rax] m64\n"),
-    ("0f 18 20", "0 3 NOP [rax] m64\n"),
-    ("0f 18 38", "0 3 NOP [rax] m64\n"),
-    ("0f 18 c0", "0 3 NOP eax m4\n"),
-    ("66 0f 18 c8", "0 4 NOP ax m2\n"),
-    ("49 0f 18 f8", "0 4 NOP r8 m8\n"),
-    ("0f 71 d1 04", "0 4 PSRLW mm1, u8:4 m4\n"),
-    ("66 0f 71 e1 0f", "0 5 PSRAW xmm1, u8:15 m2\n"),
-    ("41 0f 71 f1 ff", "0 5 PSLLW mm1, u8:255 m4\n"),
-    ("66 41 0f 71 f1 01", "0 6 PSLLW xmm9, u8:1 m2\n"),
-    ("0f 72 d1 04", "0 4 PSRLD mm1, u8:4 m4\n"),
-    ("66 0f 72 e1 04", "0 5 PSRAD xmm1, u8:4 m2\n"),
-    ("48 0f 72 f1 04", "0 5 PSLLD mm1, u8:4 m8\n"),
-    ("0f 73 d1 20", "0 4 PSRLQ mm1, u8:32 m4\n"),
-    ("66 0f 73 d9 08", "0 5 PSRLDQ xmm1, u8:8 m2\n"),
-    ("66 0f 73 f1 80", "0 5 PSLLQ xmm1, u8:128 m2\n"),
-    ("66 48 0f 73 fb 08", "0 6 PSLLDQ xmm3, u8:8 m8\n"),
-    ("66 0f ae 30", "0 4 CLWB [rax] m64\n"),
-    ("66 0f ae 38", "0 4 CLFLUSHOPT [rax] m64\n"),
-    ("66 41 0f ae f1", "0 5 TPAUSE r9d m0\n"),
-    ("f2 0f ae f1", "0 4 UMWAIT ecx m0\n"),
-    ("f2 49 0f ae f1", "0 5 UMWAIT r9d m0\n"),
-    ("66 f2 0f ae f0", "0 5 UMWAIT eax m0\n"),
-    ("f3 0f ae e1", "0 4 PTWRITE ecx m0\n"),
-    ("f3 48 0f ae e1", "0 5 PTWRITE rcx m0\n"),
-    ("f3 0f ae 20", "0 4 PTWRITE [rax] m4\n"),
-    ("f3 48 0f ae 20", "0 5 PTWRITE [rax] m8\n"),
-    ("f3 0f ae c1", "0 4 RDFSBASE ecx m0\n"),
-    ("f3 48 0f ae c9", "0 5 RDGSBASE rcx m0\n"),
-    ("f3 66 0f ae d1", "0 5 WRFSBASE ecx m0\n"),
-    ("f3 49 0f ae d9", "0 5 WRGSBASE r9 m0\n"),
-    ("f3 0f ae e9", "0 4 INCSSP ecx m0\n"),
-    ("f3 48 0f ae e9", "0 5 INCSSP rcx m0\n"),
-    ("f3 0f ae f1", "0 4 UMONITOR rcx m0\n"),
-    ("f3 0f ae 30", "0 4 CLRSSBSY [rax] m8\n"),
-    ("0f ae 00", "0 3 FXSAVE [rax] m?\n"),
-    ("48 0f ae 08", "0 4 FXRSTOR [rax] m?\n"),
-    ("0f ae 10", "0 3 LDMXCSR [rax] m4\n"),
-    ("0f ae 18", "0 3 STMXCSR [rax] m4\n"),
-    ("0f ae 20", "0 3 XSAVE [rax] m?\n"),
-    ("0f ae 28", "0 3 XRSTOR [rax] m?\n"),
-    ("0f ae 30", "0 3 XSAVEOPT [rax] m?\n"),
-    ("0f ae 38", "0 3 CLFLUSH [rax] m64\n"),
-    ("0f ae e8", "0 3 LFENCE m0\n"),
-    ("0f ae f0", "0 3 MFENCE m0\n"),
-    ("0f ae f8", "0 3 SFENCE m0\n"),
-    ("0f ae ef", "0 3 LFENCE m0\n"),
-    ("0f ae f1", "0 3 MFENCE m0\n"),
-    ("0f ae fa", "0 3 SFENCE m0\n"),
-    ("0f ba e0 05", "0 4 BT rax, i8:5 m0\n"),
-    ("66 0f ba 28 ff", "0 5 BTS [rax], i8:-1 m2\n"),
-    ("0f ba 30 01", "0 4 BTR [rax], i8:1 m8\n"),
-    ("f0 0f ba 38 1f", "0 5 BTC [rax], i8:31 m8\n"),
-    ("66 48 0f ba f1 01", "0 6 BTR cx, i8:1 m0\n"),
-    ("0f c7 08", "0 3 CMPXCHG8B [rax] m8\n"),
-    ("f3 48 0f c7 08", "0 5 CMPXCHG16B [rax] m16\n"),
-    ("66 0f c7 0f", "0 4 CMPXCHG8B [rdi] m8\n"),
-    ("f0 f2 0f c7 08", "0 5 CMPXCHG8B [rax] m8\n"),
-    ("66 0f c7 30", "0 4 VMCLEAR [rax] m8\n"),
-    ("66 0f c7 f1", "0 4 RDRAND cx m0\n"),
-];
+pub const PART_4: &str = "66 49 0f c7 f1 => 0 5 RDRAND r9w m0
+66 0f c7 f9 => 0 4 RDSEED cx m0
+66 f3 0f c7 f0 => 0 5 RDRAND ax m0
+66 f3 0f c7 30 => 0 5 VMCLEAR [rax] m8
+f3 0f c7 30 => 0 4 VMXON [rax] m8
+f3 0f c7 f1 => 0 4 SENDUIPI rcx m0
+f3 0f c7 f9 => 0 4 RDPID rcx m0
+f3 41 0f c7 ff => 0 5 RDPID r15 m0
+0f c7 18 => 0 3 XRSTORS [rax] m?
+0f c7 20 => 0 3 XSAVEC [rax] m?
+0f c7 28 => 0 3 XSAVES [rax] m?
+48 0f c7 18 => 0 4 XRSTORS64 [rax] m?
+48 0f c7 20 => 0 4 XSAVEC64 [rax] m?
+48 0f c7 28 => 0 4 XSAVES64 [rax] m?
+0f c7 30 => 0 3 VMPTRLD [rax] m8
+0f c7 f1 => 0 3 RDRAND ecx m0
+48 0f c7 f1 => 0 4 RDRAND rcx m0
+0f c7 38 => 0 3 VMPTRST [rax] m8
+0f c7 ff => 0 3 RDSEED edi m0
+66 0f 78 c1 02 03 => 0 6 EXTRQ xmm1, u8:2, u16:3 m0
+66 41 0f 78 c1 ff fe => 0 7 EXTRQ xmm9, u8:255, u16:254 m0
+66 44 0f 78 c1 02 03 => 0 7 EXTRQ xmm1, u8:2, u16:3 m0
+f2 45 0f 78 c1 02 03 => 0 7 INSERTQ xmm8, xmm9, u8:2, u16:3 m0
+f2 66 0f 78 d3 80 ff => 0 7 INSERTQ xmm2, xmm3, u8:128, u16:255 m0
+f3 0f 1e fa => 0 4 ENDBR64 m0
+f3 0f 1e fb => 0 4 ENDBR32 m0
+66 f3 41 0f 1e fa => 0 6 ENDBR64 m0
+f3 0f 1e c8 => 0 4 NOP eax, ecx m4
+f3 48 0f 1e f9 => 0 5 NOP rcx, rdi m8
+f3 66 0f 1e 00 => 0 5 NOP [rax], ax m2
+f3 0f 1e fc => 0 4 NOP esp, edi m4
+f3 0f 1e 7a 01 => 0 5 NOP [rdx+1], edi m4
+f3 0f 38 d8 00 => 0 5 AESENCWIDE128KL [rax] m48
+f3 0f 38 d8 08 => 0 5 AESDECWIDE128KL [rax] m48
+f3 0f 38 d8 10 => 0 5 AESENCWIDE256KL [rax] m64
+f3 0f 38 d8 18 => 0 5 AESDECWIDE256KL [rax] m64
+f3 0f 38 dc 01 => 0 5 AESENC128KL xmm0, [rcx] m48
+f3 45 0f 38 dc c1 => 0 6 LOADIWKEY xmm8, xmm9 m4
+f3 66 0f 38 dc c1 => 0 6 LOADIWKEY xmm0, xmm1 m2
+f3 0f 38 dd 01 => 0 5 AESDEC128KL xmm0, [rcx] m48
+f3 44 0f 38 de 01 => 0 6 AESENC256KL xmm8, [rcx] m64
+f3 0f 38 df 01 => 0 5 AESDEC256KL xmm0, [rcx] m64
+f3 0f 38 fa c1 => 0 5 ENCODEKEY128 eax, ecx m4
+f3 4d 0f 38 fb c1 => 0 6 ENCODEKEY256 r8d, r9d m8
+f3 0f 3a f0 c0 05 => 0 6 HRESET u8:5 m0
+f3 0f 3a f0 ff 80 => 0 6 HRESET u8:128 m0
+f2 f3 0f 3a f0 c0 05 => 0 7 HRESET u8:5 m0
+48 f3 0f 3a f0 c0 01 => 0 7 HRESET u8:1 m0
+f3 3e 0f 3a f0 c0 01 => 0 7 HRESET u8:1 m0
+0f 20 c1 => 0 3 MOV rcx, cr0 m0
+0f 20 14 => 0 3 MOV rsp, cr2 m0
+44 0f 20 c0 => 0 4 MOV rax, cr8 m0
+0f 22 d8 => 0 3 MOV cr3, rax m0
+41 0f 22 20 => 0 4 MOV cr4, r8 m0
+66 45 0f 22 c7 => 0 5 MOV cr8, r15 m0
+0f 21 f8 => 0 3 MOV rax, dr7 m0
+0f 21 4d => 0 3 MOV rbp, dr1 m0
+0f 23 00 => 0 3 MOV dr0, rax m0
+49 0f 23 e4 => 0 4 MOV dr4, r12 m0
+80 00 01 => 0 3 ADD [rax], i8:1 m1
+80 10 02 => 0 3 ADC [rax], i8:2 m1
+80 18 03 => 0 3 SBB [rax], i8:3 m1
+80 28 05 => 0 3 SUB [rax], i8:5 m1
+80 c9 f0 => 0 3 OR cl, i8:-16 m1
+80 e2 0f => 0 3 AND dl, i8:15 m1
+80 f3 55 => 0 3 XOR bl, i8:85 m1
+80 f8 ff => 0 3 CMP al, i8:-1 m1
+81 00 01 00 00 00 => 0 6 ADD [rax], i32:1 m4
+66 81 10 01 00 => 0 5 ADC [rax], i16:1 m2
+48 81 20 ff 00 00 00 => 0 7 AND [rax], i64:255 m8
+81 30 ff ff ff ff => 0 6 XOR [rax], i32:-1 m4
+81 c8 01 00 00 00 => 0 6 OR eax, i32:1 m4
+66 81 da 01 00 => 0 5 SBB dx, i16:1 m2
+48 81 ec 00 01 00 00 => 0 7 SUB rsp, i64:256 m8
+81 fb 00 00 00 80 => 0 6 CMP ebx, i32:-2147483648 m4
+83 00 ff => 0 3 ADD [rax], i8:-1 m4
+66 83 10 01 => 0 4 ADC [rax], i8:1 m2
+48 83 20 f0 => 0 4 AND [rax], i8:-16 m8
+83 28 01 => 0 3 SUB [rax], i8:1 m4
+83 38 00 => 0 3 CMP [rax], i8:0 m4
+83 c9 ff => 0 3 OR ecx, i8:-1 m4
+48 83 d9 00 => 0 4 SBB rcx, i8:0 m8
+41 83 f0 01 => 0 4 XOR r8d, i8:1 m4
+c0 00 01 => 0 3 ROL [rax], i8:1 m1
+c0 10 01 => 0 3 RCL [rax], i8:1 m1
+c0 20 01 => 0 3 SHL [rax], i8:1 m1
+c0 30 01 => 0 3 SAL [rax], i8:1 m1
+c0 c9 01 => 0 3 ROR cl, i8:1 m1
+c0 db 01 => 0 3 RCR bl, i8:1 m1
+c0 ed 01 => 0 3 SHR ch, i8:1 m1
+c0 f8 80 => 0 3 SAR al, i8:-128 m1
+c1 00 01 => 0 3 ROL [rax], i8:1 m4
+66 c1 10 01 => 0 4 RCL [rax], i8:1 m2
+48 c1 20 01 => 0 4 SHL [rax], i8:1 m8
+c1 28 01 => 0 3 SHR [rax], i8:1 m4
+c1 38 01 => 0 3 SAR [rax], i8:1 m4
+c1 c9 01 => 0 3 ROR ecx, i8:1 m4
+66 c1 db 01 => 0 4 RCR bx, i8:1 m2
+48 c1 f6 01 => 0 4 SAL rsi, i8:1 m8
+d0 00 => 0 2 ROL [rax], i8:1 m1";
 
-pub const PART_4: &[Worked] = &[
-    ("66 49 0f c7 f1", "0 5 RDRAND r9w m0\n"),
-    ("66 0f c7 f9", "0 4 RDSEED cx m0\n"),
-    ("66 f3 0f c7 f0", "0 5 RDRAND ax m0\n"),
-    ("66 f3 0f c7 30", "0 5 VMCLEAR [rax] m8\n"),
-    ("f3 0f c7 30", "0 4 VMXON [rax] m8\n"),
-    ("f3 0f c7 f1", "0 4 SENDUIPI rcx m0\n"),
-    ("f3 0f c7 f9", "0 4 RDPID rcx m0\n"),
-    ("f3 41 0f c7 ff", "0 5 RDPID r15 m0\n"),
-    ("0f c7 18", "0 3 XRSTORS [rax] m?\n"),
-    ("0f c7 20", "0 3 XSAVEC [rax] m?\n"),
-    ("0f c7 28", "0 3 XSAVES [rax] m?\n"),
-    ("48 0f c7 18", "0 4 XRSTORS64 [rax] m?\n"),
-    ("48 0f c7 20", "0 4 XSAVEC64 [rax] m?\n"),
-    ("48 0f c7 28", "0 4 XSAVES64 [rax] m?\n"),
-    ("0f c7 30", "0 3 VMPTRLD [rax] m8\n"),
-    ("0f c7 f1", "0 3 RDRAND ecx m0\n"),
-    ("48 0f c7 f1", "0 4 RDRAND rcx m0\n"),
-    ("0f c7 38", "0 3 VMPTRST [rax] m8\n"),
-    ("0f c7 ff", "0 3 RDSEED edi m0\n"),
-    ("66 0f 78 c1 02 03", "0 6 EXTRQ xmm1, u8:2, u16:3 m0\n"),
-    (
-        "66 41 0f 78 c1 ff fe",
-        "0 7 EXTRQ xmm9, u8:255, u16:254 m0\n",
-    ),
-    ("66 44 0f 78 c1 02 03", "0 7 EXTRQ xmm1, u8:2, u16:3 m0\n"),
-    (
-        "f2 45 0f 78 c1 02 03",
-        "0 7 INSERTQ xmm8, xmm9, u8:2, u16:3 m0\n",
-    ),
-    (
-        "f2 66 0f 78 d3 80 ff",
-        "0 7 INSERTQ xmm2, xmm3, u8:128, u16:255 m0\n",
-    ),
-    ("f3 0f 1e fa", "0 4 ENDBR64 m0\n"),
-    ("f3 0f 1e fb", "0 4 ENDBR32 m0\n"),
-    ("66 f3 41 0f 1e fa", "0 6 ENDBR64 m0\n"),
-    ("f3 0f 1e c8", "0 4 NOP eax, ecx m4\n"),
-    ("f3 48 0f 1e f9", "0 5 NOP rcx, rdi m8\n"),
-    ("f3 66 0f 1e 00", "0 5 NOP [rax], ax m2\n"),
-    ("f3 0f 1e fc", "0 4 NOP esp, edi m4\n"),
-    ("f3 0f 1e 7a 01", "0 5 NOP [rdx+1], edi m4\n"),
-    ("f3 0f 38 d8 00", "0 5 AESENCWIDE128KL [rax] m48\n"),
-    ("f3 0f 38 d8 08", "0 5 AESDECWIDE128KL [rax] m48\n"),
-    ("f3 0f 38 d8 10", "0 5 AESENCWIDE256KL [rax] m64\n"),
-    ("f3 0f 38 d8 18", "0 5 AESDECWIDE256KL [rax] m64\n"),
-    ("f3 0f 38 dc 01", "0 5 AESENC128KL xmm0, [rcx] m48\n"),
-    ("f3 45 0f 38 dc c1", "0 6 LOADIWKEY xmm8, xmm9 m4\n"),
-    ("f3 66 0f 38 dc c1", "0 6 LOADIWKEY xmm0, xmm1 m2\n"),
-    ("f3 0f 38 dd 01", "0 5 AESDEC128KL xmm0, [rcx] m48\n"),
-    ("f3 44 0f 38 de 01", "0 6 AESENC256KL xmm8, [rcx] m64\n"),
-    ("f3 0f 38 df 01", "0 5 AESDEC256KL xmm0, [rcx] m64\n"),
-    ("f3 0f 38 fa c1", "0 5 ENCODEKEY128 eax, ecx m4\n"),
-    ("f3 4d 0f 38 fb c1", "0 6 ENCODEKEY256 r8d, r9d m8\n"),
-    ("f3 0f 3a f0 c0 05", "0 6 HRESET u8:5 m0\n"),
-    ("f3 0f 3a f0 ff 80", "0 6 HRESET u8:128 m0\n"),
-    ("f2 f3 0f 3a f0 c0 05", "0 7 HRESET u8:5 m0\n"),
-    ("48 f3 0f 3a f0 c0 01", "0 7 HRESET u8:1 m0\n"),
-    ("f3 3e 0f 3a f0 c0 01", "0 7 HRESET u8:1 m0\n"),
-    ("0f 20 c1", "0 3 MOV rcx, cr0 m0\n"),
-    ("0f 20 14", "0 3 MOV rsp, cr2 m0\n"),
-    ("44 0f 20 c0", "0 4 MOV rax, cr8 m0\n"),
-    ("0f 22 d8", "0 3 MOV cr3, rax m0\n"),
-    ("41 0f 22 20", "0 4 MOV cr4, r8 m0\n"),
-    ("66 45 0f 22 c7", "0 5 MOV cr8, r15 m0\n"),
-    ("0f 21 f8", "0 3 MOV rax, dr7 m0\n"),
-    ("0f 21 4d", "0 3 MOV rbp, dr1 m0\n"),
-    ("0f 23 00", "0 3 MOV dr0, rax m0\n"),
-    ("49 0f 23 e4", "0 4 MOV dr4, r12 m0\n"),
-    ("80 00 01", "0 3 ADD [rax], i8:1 m1\n"),
-    ("80 10 02", "0 3 ADC [rax], i8:2 m1\n"),
-    ("80 18 03", "0 3 SBB [rax], i8:3 m1\n"),
-    ("80 28 05", "0 3 SUB [rax], i8:5 m1\n"),
-    ("80 c9 f0", "0 3 OR cl, i8:-16 m1\n"),
-    ("80 e2 0f", "0 3 AND dl, i8:15 m1\n"),
-    ("80 f3 55", "0 3 XOR bl, i8:85 m1\n"),
-    ("80 f8 ff", "0 3 CMP al, i8:-1 m1\n"),
-    ("81 00 01 00 00 00", "0 6 ADD [rax], i32:1 m4\n"),
-    ("66 81 10 01 00", "0 5 ADC [rax], i16:1 m2\n"),
-    ("48 81 20 ff 00 00 00", "0 7 AND [rax], i64:255 m8\n"),
-    ("81 30 ff ff ff ff", "0 6 XOR [rax], i32:-1 m4\n"),
-    ("81 c8 01 00 00 00", "0 6 OR eax, i32:1 m4\n"),
-    ("66 81 da 01 00", "0 5 SBB dx, i16:1 m2\n"),
-    ("48 81 ec 00 01 00 00", "0 7 SUB rsp, i64:256 m8\n"),
-    ("81 fb 00 00 00 80", "0 6 CMP ebx, i32:-2147483648 m4\n"),
-    ("83 00 ff", "0 3 ADD [rax], i8:-1 m4\n"),
-    ("66 83 10 01", "0 4 ADC [rax], i8:1 m2\n"),
-    ("48 83 20 f0", "0 4 AND [rax], i8:-16 m8\n"),
-    ("83 28 01", "0 3 SUB [rax], i8:1 m4\n"),
-    ("83 38 00", "0 3 CMP [rax], i8:0 m4\n"),
-    ("83 c9 ff", "0 3 OR ecx, i8:-1 m4\n"),
-    ("48 83 d9 00", "0 4 SBB rcx, i8:0 m8\n"),
-    ("41 83 f0 01", "0 4 XOR r8d, i8:1 m4\n"),
-    ("c0 00 01", "0 3 ROL [rax], i8:1 m1\n"),
-    ("c0 10 01", "0 3 RCL [rax], i8:1 m1\n"),
-    ("c0 20 01", "0 3 SHL [rax], i8:1 m1\n"),
-    ("c0 30 01", "0 3 SAL [rax], i8:1 m1\n"),
-    ("c0 c9 01", "0 3 ROR cl, i8:1 m1\n"),
-    ("c0 db 01", "0 3 RCR bl, i8:1 m1\n"),
-    ("c0 ed 01", "0 3 SHR ch, i8:1 m1\n"),
-    ("c0 f8 80", "0 3 SAR al, i8:-128 m1\n"),
-    ("c1 00 01", "0 3 ROL [rax], i8:1 m4\n"),
-    ("66 c1 10 01", "0 4 RCL [rax], i8:1 m2\n"),
-    ("48 c1 20 01", "0 4 SHL [rax], i8:1 m8\n"),
-    ("c1 28 01", "0 3 SHR [rax], i8:1 m4\n"),
-    ("c1 38 01", "0 3 SAR [rax], i8:1 m4\n"),
-    ("c1 c9 01", "0 3 ROR ecx, i8:1 m4\n"),
-    ("66 c1 db 01", "0 4 RCR bx, i8:1 m2\n"),
-    ("48 c1 f6 01", "0 4 SAL rsi, i8:1 m8\n"),
-    ("d0 00", "0 2 ROL [rax], i8:1 m1\n"),
-];
-
-pub const PART_5: &[Worked] = &[
-    ("d0 10", "0 2 RCL [rax], i8:1 m1\n"),
-    ("d0 20", "0 2 SHL [rax], i8:1 m1\n"),
-    ("d0 30", "0 2 SAL [rax], i8:1 m1\n"),
-    ("d0 38", "0 2 SAR [rax], i8:1 m1\n"),
-    ("d0 c9", "0 2 ROR cl, i8:1 m1\n"),
-    ("d0 db", "0 2 RCR bl, i8:1 m1\n"),
-    ("d0 ed", "0 2 SHR ch, i8:1 m1\n"),
-    ("d1 00", "0 2 ROL [rax], i8:1 m4\n"),
-    ("66 d1 10", "0 3 RCL [rax], i8:1 m2\n"),
-    ("48 d1 20", "0 3 SHL [rax], i8:1 m8\n"),
-    ("d1 30", "0 2 SAL [rax], i8:1 m4\n"),
-    ("d1 38", "0 2 SAR [rax], i8:1 m4\n"),
-    ("d1 c9", "0 2 ROR ecx, i8:1 m4\n"),
-    ("d1 db", "0 2 RCR ebx, i8:1 m4\n"),
-    ("66 d1 ed", "0 3 SHR bp, i8:1 m2\n"),
-    ("d2 00", "0 2 ROL [rax], cl m1\n"),
-    ("d2 10", "0 2 RCL [rax], cl m1\n"),
-    ("d2 20", "0 2 SHL [rax], cl m1\n"),
-    ("d2 30", "0 2 SAL [rax], cl m1\n"),
-    ("d2 38", "0 2 SAR [rax], cl m1\n"),
-    ("d2 c9", "0 2 ROR cl, cl m1\n"),
-    ("d2 db", "0 2 RCR bl, cl m1\n"),
-    ("d2 ed", "0 2 SHR ch, cl m1\n"),
-    ("d3 00", "0 2 ROL [rax], cl m4\n"),
-    ("66 d3 10", "0 3 RCL [rax], cl m2\n"),
-    ("48 d3 20", "0 3 SHL [rax], cl m8\n"),
-    ("d3 28", "0 2 SHR [rax], cl m4\n"),
-    ("d3 38", "0 2 SAR [rax], cl m4\n"),
-    ("d3 c9", "0 2 ROR ecx, cl m4\n"),
-    ("d3 db", "0 2 RCR ebx, cl m4\n"),
-    ("d3 f6", "0 2 SAL esi, cl m4\n"),
-    ("c6 d0 01", "0 3 XABORT i8:1 m1\n"),
-    ("c6 d8 02", "0 3 XABORT i8:2 m1\n"),
-    ("c6 e0 03", "0 3 XABORT i8:3 m1\n"),
-    ("c6 f0 04", "0 3 XABORT i8:4 m1\n"),
-    ("c7 d0 ff ff ff ff", "0 6 XBEGIN i32:-1 m4\n"),
-    ("66 c7 d8 ff 7f", "0 5 XBEGIN i32:32767 m2\n"),
-    ("49 c7 e0 00 00 00 80", "0 7 XBEGIN i32:-2147483648 m8\n"),
-    ("c7 e8 00 01 00 00", "0 6 XBEGIN i32:256 m4\n"),
-    ("c7 f0 00 00 00 00", "0 6 XBEGIN i32:0 m4\n"),
-    ("f6 00 80", "0 3 TEST [rax], i8:-128 m1\n"),
-    ("f0 f6 10", "0 3 NOT [rax] m1\n"),
-    ("f6 20", "0 2 MUL [rax] m1\n"),
-    ("f6 28", "0 2 IMUL [rax] m1\n"),
-    ("f6 38", "0 2 IDIV [rax] m1\n"),
-    ("f6 c9 01", "0 3 TEST cl, i8:1 m1\n"),
-    ("f6 d8", "0 2 NEG al m1\n"),
-    ("f6 f3", "0 2 DIV bl m1\n"),
-    ("f7 00 01 00 00 00", "0 6 TEST [rax], i32:1 m4\n"),
-    ("48 f7 18", "0 3 NEG [rax] m8\n"),
-    ("f7 28", "0 2 IMUL [rax] m4\n"),
-    ("66 f7 30", "0 3 DIV [rax] m2\n"),
-    ("48 f7 c9 ff ff ff ff", "0 7 TEST rcx, i64:-1 m8\n"),
-    ("f7 e1", "0 2 MUL ecx m4\n"),
-    ("66 f7 f9", "0 3 IDIV cx m2\n"),
-    ("0f 00 00", "0 3 SLDT [rax] m2\n"),
-    ("0f 00 10", "0 3 LLDT [rax] m2\n"),
-    ("0f 00 28", "0 3 VERW [rax] m2\n"),
-    ("66 0f 00 c8", "0 4 STR ax m0\n"),
-    ("0f 00 d8", "0 3 LTR ax m0\n"),
-    ("0f 0d 10", "0 3 NOP [rax] m64\n"),
-    ("0f 0d 18", "0 3 NOP [rax] m64\n"),
-    ("f3 0f 0d 20", "0 4 NOP [rax] m64\n"),
-    ("0f 0d 28", "0 3 NOP [rax] m64\n"),
-    ("0f 0d 30", "0 3 NOP [rax] m64\n"),
-    ("0f 18 28", "0 3 NOP [rax] m64\n"),
-    ("0f 18 30", "0 3 NOP [rax] m64\n"),
-    ("0f 18 d1", "0 3 NOP ecx m4\n"),
-    ("0f 18 da", "0 3 NOP edx m4\n"),
-    ("0f 18 e3", "0 3 NOP ebx m4\n"),
-    ("0f 18 ec", "0 3 NOP esp m4\n"),
-    ("0f 18 f5", "0 3 NOP ebp m4\n"),
-    ("0f ba 20 01", "0 4 BT [rax], i8:1 m8\n"),
-    ("0f ba ea 80", "0 4 BTS rdx, i8:-128 m0\n"),
-    ("41 0f ba fa 07", "0 5 BTC r10, i8:7 m0\n"),
-    ("0f 20 00", "0 3 MOV rax, cr0 m0\n"),
-    ("0f 20 d8", "0 3 MOV rax, cr3 m0\n"),
-    ("0f 20 e0", "0 3 MOV rax, cr4 m0\n"),
-    ("0f 22 c1", "0 3 MOV cr0, rcx m0\n"),
-    ("0f 22 d0", "0 3 MOV cr2, rax m0\n"),
-    ("0f 22 e7", "0 3 MOV cr4, rdi m0\n"),
-    ("0f 21 c0", "0 3 MOV rax, dr0 m0\n"),
-    ("0f 21 ca", "0 3 MOV rdx, dr1 m0\n"),
-    ("0f 21 d3", "0 3 MOV rbx, dr2 m0\n"),
-    ("0f 21 dc", "0 3 MOV rsp, dr3 m0\n"),
-    ("0f 21 e5", "0 3 MOV rbp, dr4 m0\n"),
-    ("0f 21 ee", "0 3 MOV rsi, dr5 m0\n"),
-    ("0f 21 f7", "0 3 MOV rdi, dr6 m0\n"),
-    ("0f 23 c9", "0 3 MOV dr1, rcx m0\n"),
-    ("0f 23 d2", "0 3 MOV dr2, rdx m0\n"),
-    ("0f 23 db", "0 3 MOV dr3, rbx m0\n"),
-    ("0f 23 ed", "0 3 MOV dr5, rbp m0\n"),
-    ("0f 23 f6", "0 3 MOV dr6, rsi m0\n"),
-    ("0f 23 ff", "0 3 MOV dr7, rdi m0\n"),
-    (
-        "66 66 66 66 66 66 66 66 66 66 66 66 c0 c0 01",
-        "0 15 ROL al, i8:1 m1\n",
-    ),
-    (
-        "26 26 26 26 26 26 26 26 26 26 26 0f 0f c1 9e",
-        "0 15 PFADD mm0, mm1 m4\n",
-    ),
-    (
-        "f0 f0 f0 f0 f0 f0 f0 f0 f0 f0 f0 f0 f0 f7 10",
-        "0 15 NOT [rax] m4\n",
-    ),
-];
+pub const PART_5: &str = "d0 10 => 0 2 RCL [rax], i8:1 m1
+d0 20 => 0 2 SHL [rax], i8:1 m1
+d0 30 => 0 2 SAL [rax], i8:1 m1
+d0 38 => 0 2 SAR [rax], i8:1 m1
+d0 c9 => 0 2 ROR cl, i8:1 m1
+d0 db => 0 2 RCR bl, i8:1 m1
+d0 ed => 0 2 SHR ch, i8:1 m1
+d1 00 => 0 2 ROL [rax], i8:1 m4
+66 d1 10 => 0 3 RCL [rax], i8:1 m2
+48 d1 20 => 0 3 SHL [rax], i8:1 m8
+d1 30 => 0 2 SAL [rax], i8:1 m4
+d1 38 => 0 2 SAR [rax], i8:1 m4
+d1 c9 => 0 2 ROR ecx, i8:1 m4
+d1 db => 0 2 RCR ebx, i8:1 m4
+66 d1 ed => 0 3 SHR bp, i8:1 m2
+d2 00 => 0 2 ROL [rax], cl m1
+d2 10 => 0 2 RCL [rax], cl m1
+d2 20 => 0 2 SHL [rax], cl m1
+d2 30 => 0 2 SAL [rax], cl m1
+d2 38 => 0 2 SAR [rax], cl m1
+d2 c9 => 0 2 ROR cl, cl m1
+d2 db => 0 2 RCR bl, cl m1
+d2 ed => 0 2 SHR ch, cl m1
+d3 00 => 0 2 ROL [rax], cl m4
+66 d3 10 => 0 3 RCL [rax], cl m2
+48 d3 20 => 0 3 SHL [rax], cl m8
+d3 28 => 0 2 SHR [rax], cl m4
+d3 38 => 0 2 SAR [rax], cl m4
+d3 c9 => 0 2 ROR ecx, cl m4
+d3 db => 0 2 RCR ebx, cl m4
+d3 f6 => 0 2 SAL esi, cl m4
+c6 d0 01 => 0 3 XABORT i8:1 m1
+c6 d8 02 => 0 3 XABORT i8:2 m1
+c6 e0 03 => 0 3 XABORT i8:3 m1
+c6 f0 04 => 0 3 XABORT i8:4 m1
+c7 d0 ff ff ff ff => 0 6 XBEGIN i32:-1 m4
+66 c7 d8 ff 7f => 0 5 XBEGIN i32:32767 m2
+49 c7 e0 00 00 00 80 => 0 7 XBEGIN i32:-2147483648 m8
+c7 e8 00 01 00 00 => 0 6 XBEGIN i32:256 m4
+c7 f0 00 00 00 00 => 0 6 XBEGIN i32:0 m4
+f6 00 80 => 0 3 TEST [rax], i8:-128 m1
+f0 f6 10 => 0 3 NOT [rax] m1
+f6 20 => 0 2 MUL [rax] m1
+f6 28 => 0 2 IMUL [rax] m1
+f6 38 => 0 2 IDIV [rax] m1
+f6 c9 01 => 0 3 TEST cl, i8:1 m1
+f6 d8 => 0 2 NEG al m1
+f6 f3 => 0 2 DIV bl m1
+f7 00 01 00 00 00 => 0 6 TEST [rax], i32:1 m4
+48 f7 18 => 0 3 NEG [rax] m8
+f7 28 => 0 2 IMUL [rax] m4
+66 f7 30 => 0 3 DIV [rax] m2
+48 f7 c9 ff ff ff ff => 0 7 TEST rcx, i64:-1 m8
+f7 e1 => 0 2 MUL ecx m4
+66 f7 f9 => 0 3 IDIV cx m2
+0f 00 00 => 0 3 SLDT [rax] m2
+0f 00 10 => 0 3 LLDT [rax] m2
+0f 00 28 => 0 3 VERW [rax] m2
+66 0f 00 c8 => 0 4 STR ax m0
+0f 00 d8 => 0 3 LTR ax m0
+0f 0d 10 => 0 3 NOP [rax] m64
+0f 0d 18 => 0 3 NOP [rax] m64
+f3 0f 0d 20 => 0 4 NOP [rax] m64
+0f 0d 28 => 0 3 NOP [rax] m64
+0f 0d 30 => 0 3 NOP [rax] m64
+0f 18 28 => 0 3 NOP [rax] m64
+0f 18 30 => 0 3 NOP [rax] m64
+0f 18 d1 => 0 3 NOP ecx m4
+0f 18 da => 0 3 NOP edx m4
+0f 18 e3 => 0 3 NOP ebx m4
+0f 18 ec => 0 3 NOP esp m4
+0f 18 f5 => 0 3 NOP ebp m4
+0f ba 20 01 => 0 4 BT [rax], i8:1 m8
+0f ba ea 80 => 0 4 BTS rdx, i8:-128 m0
+41 0f ba fa 07 => 0 5 BTC r10, i8:7 m0
+0f 20 00 => 0 3 MOV rax, cr0 m0
+0f 20 d8 => 0 3 MOV rax, cr3 m0
+0f 20 e0 => 0 3 MOV rax, cr4 m0
+0f 22 c1 => 0 3 MOV cr0, rcx m0
+0f 22 d0 => 0 3 MOV cr2, rax m0
+0f 22 e7 => 0 3 MOV cr4, rdi m0
+0f 21 c0 => 0 3 MOV rax, dr0 m0
+0f 21 ca => 0 3 MOV rdx, dr1 m0
+0f 21 d3 => 0 3 MOV rbx, dr2 m0
+0f 21 dc => 0 3 MOV rsp, dr3 m0
+0f 21 e5 => 0 3 MOV rbp, dr4 m0
+0f 21 ee => 0 3 MOV rsi, dr5 m0
+0f 21 f7 => 0 3 MOV rdi, dr6 m0
+0f 23 c9 => 0 3 MOV dr1, rcx m0
+0f 23 d2 => 0 3 MOV dr2, rdx m0
+0f 23 db => 0 3 MOV dr3, rbx m0
+0f 23 ed => 0 3 MOV dr5, rbp m0
+0f 23 f6 => 0 3 MOV dr6, rsi m0
+0f 23 ff => 0 3 MOV dr7, rdi m0
+66 66 66 66 66 66 66 66 66 66 66 66 c0 c0 01 => 0 15 ROL al, i8:1 m1
+26 26 26 26 26 26 26 26 26 26 26 0f 0f c1 9e => 0 15 PFADD mm0, mm1 m4
+f0 f0 f0 f0 f0 f0 f0 f0 f0 f0 f0 f0 f0 f7 10 => 0 15 NOT [rax] m4";

@@ -1,416 +1,369 @@
-//! Encodings of the plain forms, worked by hand from the rows, with the lines that list them.
+//! Encodings of the plain forms, worked by hand from the rows, each with the line that lists it.
 
-/// A text and its listing.
-pub type Worked = (&'static str, &'static str);
+pub const PART_1: &str = "50 => 0 1 PUSH rax m8
+41 57 => 0 2 PUSH r15 m8
+66 53 => 0 2 PUSH bx m8
+66 48 50 => 0 3 PUSH ax m8
+5f => 0 1 POP rdi m8
+48 5c => 0 2 POP rsp m8
+66 41 58 => 0 3 POP r8w m8
+90 => 0 1 NOP m0
+f3 90 => 0 2 NOP m0
+66 90 => 0 2 NOP m0
+42 90 => 0 2 NOP m0
+91 => 0 1 XCHG eax, ecx m0
+48 97 => 0 2 XCHG rax, rdi m0
+66 41 90 => 0 3 XCHG ax, r8w m0
+49 90 => 0 2 XCHG rax, r8 m0
+b0 7f => 0 2 MOV al, u8:127 m0
+b4 80 => 0 2 MOV ah, u8:128 m0
+40 b4 80 => 0 3 MOV spl, u8:128 m0
+40 b3 01 => 0 3 MOV bl, u8:1 m0
+41 b7 ff => 0 3 MOV r15b, u8:255 m0
+b8 78 56 34 12 => 0 5 MOV eax, i32:305419896 m0
+66 bf fe ff => 0 4 MOV di, i16:-2 m0
+49 bf ff ff ff ff ff ff ff 7f => 0 10 MOV r15, i64:9223372036854775807 m0
+66 48 ba 01 00 00 00 00 00 00 00 => 0 11 MOV rdx, i64:1 m0
+0f c8 => 0 2 BSWAP eax m0
+48 0f cf => 0 3 BSWAP rdi m0
+66 0f c9 => 0 3 BSWAP cx m0
+41 0f c8 => 0 3 BSWAP r8d m0
+f2 66 49 0f cb => 0 5 BSWAP r11 m0
+c3 => 0 1 RETURN m8
+9c => 0 1 PUSHF m8
+66 9d => 0 2 POPF m8
+c9 => 0 1 LEAVE m8
+cb => 0 1 RETF m10
+d7 => 0 1 XLAT m1
+f4 => 0 1 HLT m0
+0f a2 => 0 2 CPUID m0
+0f 77 => 0 2 EMMS m0
+75 fe => 0 2 JNZ i8:-2 m0
+66 eb 7f => 0 3 JMP i8:127 m0
+e2 80 => 0 2 LOOP i8:-128 m0
+e8 ff ff ff ff => 0 5 CALL i32:-1 m8
+66 e9 00 01 00 00 => 0 6 JMP i32:256 m0
+0f 84 10 00 00 00 => 0 6 JZ i32:16 m0
+f2 0f 8f fc ff ff ff => 0 7 JG i32:-4 m0
+48 e8 00 00 00 80 => 0 6 CALL i32:-2147483648 m8
+6a ff => 0 2 PUSH i8:-1 m8
+66 6a 05 => 0 3 PUSH i8:5 m8
+68 01 00 00 80 => 0 5 PUSH i32:-2147483647 m8
+66 68 ff 7f => 0 4 PUSH i16:32767 m8
+66 48 68 01 00 00 00 => 0 7 PUSH i32:1 m8
+48 68 ff ff ff ff => 0 6 PUSH i32:-1 m8
+cd 80 => 0 2 INT u8:128 m0
+cc => 0 1 INT u8:3 m0
+f1 => 0 1 INT u8:1 m0
+c2 10 00 => 0 3 RETURN u16:16 m8
+ca ff ff => 0 3 RETF u16:65535 m10
+c8 00 80 ff => 0 4 ENTER u16:32768, u8:255 m8
+e3 00 => 0 2 JRCXZ i8:0 m0
+67 e3 f0 => 0 3 JECXZ i8:-16 m0
+04 ff => 0 2 ADD al, i8:-1 m0
+48 3c 7f => 0 3 CMP al, i8:127 m0
+a8 80 => 0 2 TEST al, i8:-128 m0
+2d 00 00 00 80 => 0 5 SUB eax, i32:-2147483648 m0
+66 35 ff ff => 0 4 XOR ax, i16:-1 m0
+48 a9 fe ff ff ff => 0 6 TEST rax, i64:-2 m0
+66 48 0d 01 00 00 00 => 0 7 OR rax, i64:1 m0
+e4 60 => 0 2 IN al, u8:96 m0
+e5 60 => 0 2 IN eax, u8:96 m0
+66 e5 ff => 0 3 IN ax, u8:255 m0
+66 48 e5 01 => 0 4 IN eax, u8:1 m0
+e6 71 => 0 2 OUT u8:113, al m0
+e7 71 => 0 2 OUT u8:113, eax m0
+66 e7 00 => 0 3 OUT u8:0, ax m0
+48 e7 80 => 0 3 OUT u8:128, eax m0
+ec => 0 1 IN al, dx m0
+ed => 0 1 IN eax, dx m0
+66 ed => 0 2 IN ax, dx m0
+48 ed => 0 2 IN eax, dx m0
+ee => 0 1 OUT dx, al m0
+ef => 0 1 OUT dx, eax m0
+66 ef => 0 2 OUT dx, ax m0
+66 48 ef => 0 3 OUT dx, eax m0
+a0 ff ff ff ff ff ff ff ff => 0 9 MOV al, [abs64:18446744073709551615] m1
+67 a0 ff ff ff ff => 0 6 MOV al, [abs32:4294967295] m1
+a1 10 00 00 00 00 00 00 00 => 0 9 MOV eax, [abs64:16] m4
+66 67 a1 01 00 00 00 => 0 7 MOV ax, [abs32:1] m2
+48 a1 00 00 00 00 00 00 00 80 => 0 10 MOV rax, [abs64:9223372036854775808] m8
+a2 00 10 00 00 00 00 00 00 => 0 9 MOV [abs64:4096], al m1
+67 a2 00 00 00 80 => 0 6 MOV [abs32:2147483648], al m1
+48 a3 00 01 00 00 00 00 00 00 => 0 10 MOV [abs64:256], rax m8
+66 a3 00 01 00 00 00 00 00 00 => 0 10 MOV [abs64:256], ax m2
+67 48 a3 02 00 00 00 => 0 7 MOV [abs32:2], rax m8
+ac => 0 1 LODS al, [rsi] m1
+67 ac => 0 2 LODS al, [esi] m1
+ad => 0 1 LODS eax, [rsi] m4
+66 ad => 0 2 LODS ax, [rsi] m2
+67 48 ad => 0 3 LODS rax, [esi] m8
+48 67 ad => 0 3 LODS eax, [esi] m4
+aa => 0 1 STOS [rdi], al m1";
 
-pub const PART_1: &[Worked] = &[
-    ("50", "0 1 PUSH rax m8\n"),
-    ("41 57", "0 2 PUSH r15 m8\n"),
-    ("66 53", "0 2 PUSH bx m8\n"),
-    ("66 48 50", "0 3 PUSH ax m8\n"),
-    ("5f", "0 1 POP rdi m8\n"),
-    ("48 5c", "0 2 POP rsp m8\n"),
-    ("66 41 58", "0 3 POP r8w m8\n"),
-    ("90", "0 1 NOP m0\n"),
-    ("f3 90", "0 2 NOP m0\n"),
-    ("66 90", "0 2 NOP m0\n"),
-    ("42 90", "0 2 NOP m0\n"),
-    ("91", "0 1 XCHG eax, ecx m0\n"),
-    ("48 97", "0 2 XCHG rax, rdi m0\n"),
-    ("66 41 90", "0 3 XCHG ax, r8w m0\n"),
-    ("49 90", "0 2 XCHG rax, r8 m0\n"),
-    ("b0 7f", "0 2 MOV al, u8:127 m0\n"),
-    ("b4 80", "0 2 MOV ah, u8:128 m0\n"),
-    ("40 b4 80", "0 3 MOV spl, u8:128 m0\n"),
-    ("40 b3 01", "0 3 MOV bl, u8:1 m0\n"),
-    ("41 b7 ff", "0 3 MOV r15b, u8:255 m0\n"),
-    ("b8 78 56 34 12", "0 5 MOV eax, i32:305419896 m0\n"),
-    ("66 bf fe ff", "0 4 MOV di, i16:-2 m0\n"),
-    (
-        "49 bf ff ff ff ff ff ff ff 7f",
-        "0 10 MOV r15, i64:9223372036854775807 m0\n",
-    ),
-    (
-        "66 48 ba 01 00 00 00 00 00 00 00",
-        "0 11 MOV rdx, i64:1 m0\n",
-    ),
-    ("0f c8", "0 2 BSWAP eax m0\n"),
-    ("48 0f cf", "0 3 BSWAP rdi m0\n"),
-    ("66 0f c9", "0 3 BSWAP cx m0\n"),
-    ("41 0f c8", "0 3 BSWAP r8d m0\n"),
-    ("f2 66 49 0f cb", "0 5 BSWAP r11 m0\n"),
-    ("c3", "0 1 RETURN m8\n"),
-    ("9c", "0 1 PUSHF m8\n"),
-    ("66 9d", "0 2 POPF m8\n"),
-    ("c9", "0 1 LEAVE m8\n"),
-    ("cb", "0 1 RETF m10\n"),
-    ("d7", "0 1 XLAT m1\n"),
-    ("f4", "0 1 HLT m0\n"),
-    ("0f a2", "0 2 CPUID m0\n"),
-    ("0f 77", "0 2 EMMS m0\n"),
-    ("75 fe", "0 2 JNZ i8:-2 m0\n"),
-    ("66 eb 7f", "0 3 JMP i8:127 m0\n"),
-    ("e2 80", "0 2 LOOP i8:-128 m0\n"),
-    ("e8 ff ff ff ff", "0 5 CALL i32:-1 m8\n"),
-    ("66 e9 00 01 00 00", "0 6 JMP i32:256 m0\n"),
-    ("0f 84 10 00 00 00", "0 6 JZ i32:16 m0\n"),
-    ("f2 0f 8f fc ff ff ff", "0 7 JG i32:-4 m0\n"),
-    ("48 e8 00 00 00 80", "0 6 CALL i32:-2147483648 m8\n"),
-    ("6a ff", "0 2 PUSH i8:-1 m8\n"),
-    ("66 6a 05", "0 3 PUSH i8:5 m8\n"),
-    ("68 01 00 00 80", "0 5 PUSH i32:-2147483647 m8\n"),
-    ("66 68 ff 7f", "0 4 PUSH i16:32767 m8\n"),
-    ("66 48 68 01 00 00 00", "0 7 PUSH i32:1 m8\n"),
-    ("48 68 ff ff ff ff", "0 6 PUSH i32:-1 m8\n"),
-    ("cd 80", "0 2 INT u8:128 m0\n"),
-    ("cc", "0 1 INT u8:3 m0\n"),
-    ("f1", "0 1 INT u8:1 m0\n"),
-    ("c2 10 00", "0 3 RETURN u16:16 m8\n"),
-    ("ca ff ff", "0 3 RETF u16:65535 m10\n"),
-    ("c8 00 80 ff", "0 4 ENTER u16:32768, u8:255 m8\n"),
-    ("e3 00", "0 2 JRCXZ i8:0 m0\n"),
-    ("67 e3 f0", "0 3 JECXZ i8:-16 m0\n"),
-    ("04 ff", "0 2 ADD al, i8:-1 m0\n"),
-    ("48 3c 7f", "0 3 CMP al, i8:127 m0\n"),
-    ("a8 80", "0 2 TEST al, i8:-128 m0\n"),
-    ("2d 00 00 00 80", "0 5 SUB eax, i32:-2147483648 m0\n"),
-    ("66 35 ff ff", "0 4 XOR ax, i16:-1 m0\n"),
-    ("48 a9 fe ff ff ff", "0 6 TEST rax, i64:-2 m0\n"),
-    ("66 48 0d 01 00 00 00", "0 7 OR rax, i64:1 m0\n"),
-    ("e4 60", "0 2 IN al, u8:96 m0\n"),
-    ("e5 60", "0 2 IN eax, u8:96 m0\n"),
-    ("66 e5 ff", "0 3 IN ax, u8:255 m0\n"),
-    ("66 48 e5 01", "0 4 IN eax, u8:1 m0\n"),
-    ("e6 71", "0 2 OUT u8:113, al m0\n"),
-    ("e7 71", "0 2 OUT u8:113, eax m0\n"),
-    ("66 e7 00", "0 3 OUT u8:0, ax m0\n"),
-    ("48 e7 80", "0 3 OUT u8:128, eax m0\n"),
-    ("ec", "0 1 IN al, dx m0\n"),
-    ("ed", "0 1 IN eax, dx m0\n"),
-    ("66 ed", "0 2 IN ax, dx m0\n"),
-    ("48 ed", "0 2 IN eax, dx m0\n"),
-    ("ee", "0 1 OUT dx, al m0\n"),
-    ("ef", "0 1 OUT dx, eax m0\n"),
-    ("66 ef", "0 2 OUT dx, ax m0\n"),
-    ("66 48 ef", "0 3 OUT dx, eax m0\n"),
-    (
-        "a0 ff ff ff ff ff ff ff ff",
-        "0 9 MOV al, [abs64:18446744073709551615] m1\n",
-    ),
-    ("67 a0 ff ff ff ff", "0 6 MOV al, [abs32:4294967295] m1\n"),
-    ("a1 10 00 00 00 00 00 00 00", "0 9 MOV eax, [abs64:16] m4\n"),
-    ("66 67 a1 01 00 00 00", "0 7 MOV ax, [abs32:1] m2\n"),
-    (
-        "48 a1 00 00 00 00 00 00 00 80",
-        "0 10 MOV rax, [abs64:9223372036854775808] m8\n",
-    ),
-    (
-        "a2 00 10 00 00 00 00 00 00",
-        "0 9 MOV [abs64:4096], al m1\n",
-    ),
-    ("67 a2 00 00 00 80", "0 6 MOV [abs32:2147483648], al m1\n"),
-    (
-        "48 a3 00 01 00 00 00 00 00 00",
-        "0 10 MOV [abs64:256], rax m8\n",
-    ),
-    (
-        "66 a3 00 01 00 00 00 00 00 00",
-        "0 10 MOV [abs64:256], ax m2\n",
-    ),
-    ("67 48 a3 02 00 00 00", "0 7 MOV [abs32:2], rax m8\n"),
-    ("ac", "0 1 LODS al, [rsi] m1\n"),
-    ("67 ac", "0 2 LODS al, [esi] m1\n"),
-    ("ad", "0 1 LODS eax, [rsi] m4\n"),
-    ("66 ad", "0 2 LODS ax, [rsi] m2\n"),
-    ("67 48 ad", "0 3 LODS rax, [esi] m8\n"),
-    ("48 67 ad", "0 3 LODS eax, [esi] m4\n"),
-    ("aa", "0 1 STOS [rdi], al m1\n"),
-];
+pub const PART_2: &str = "67 ae => 0 2 SCAS [edi], al m1
+f3 48 ab => 0 3 STOS [rdi], rax m8
+66 af => 0 2 SCAS [rdi], ax m2
+67 ab => 0 2 STOS [edi], eax m4
+a4 => 0 1 MOVS [rdi], [rsi] m1
+67 a6 => 0 2 CMPS [edi], [esi] m1
+a5 => 0 1 MOVS [rdi], [rsi] m4
+66 a7 => 0 2 CMPS [rdi], [rsi] m2
+67 48 a5 => 0 3 MOVS [edi], [esi] m8
+6c => 0 1 INS [rdi], dl m1
+67 6c => 0 2 INS [rdi], dl m1
+6d => 0 1 INS [rdi], dx m4
+66 6d => 0 2 INS [rdi], dx m2
+48 6d => 0 2 INS [rdi], dx m4
+66 48 6d => 0 3 INS [rdi], dx m2
+6e => 0 1 OUTS dl, [rsi] m1
+6f => 0 1 OUTS dx, [rsi] m4
+66 67 6f => 0 3 OUTS dx, [rsi] m2
+98 => 0 1 CWDE m0
+66 98 => 0 2 CBW m0
+48 98 => 0 2 CDQE m0
+66 48 98 => 0 3 CDQE m0
+99 => 0 1 CDQ m0
+66 99 => 0 2 CWD m0
+48 99 => 0 2 CQO m0
+cf => 0 1 IRETD m0
+66 cf => 0 2 IRET m0
+48 cf => 0 2 IRETQ m0
+66 48 cf => 0 3 IRETQ m0
+0f a0 => 0 2 PUSH fs m8
+66 0f a1 => 0 3 POP fs m8
+0f a8 => 0 2 PUSH gs m8
+66 0f a9 => 0 3 POP gs m8
+9e => 0 1 SAHF m0
+9f => 0 1 LAHF m0
+00 20 => 0 2 ADD [rax], ah m1
+40 00 e6 => 0 3 ADD sil, spl m1
+00 e6 => 0 2 ADD dh, ah m1
+44 88 3c 24 => 0 4 MOV [rsp], r15b m1
+f0 0f b0 0b => 0 4 CMPXCHG [rbx], cl m1
+f0 86 0b => 0 3 XCHG [rbx], cl m1
+02 c3 => 0 2 ADD al, bl m1
+8a 0d 04 00 00 00 => 0 6 MOV cl, [rip+4] m1
+67 8a 0d fc ff ff ff => 0 7 MOV cl, [eip-4] m1
+45 8a f9 => 0 3 MOV r15b, r9b m1
+66 01 d8 => 0 3 ADD ax, bx m2
+4d 89 4e 08 => 0 4 MOV [r14+8], r9 m8
+f0 48 0f c1 07 => 0 5 XADD [rdi], rax m8
+0f a3 c8 => 0 3 BT eax, ecx m4
+67 66 0f bb 44 8b f0 => 0 7 BTC [ebx+ecx*4-16], ax m2
+8b 84 cd 00 01 00 00 => 0 7 MOV eax, [rbp+rcx*8+256] m4
+46 8b 04 a5 00 00 00 80 => 0 8 MOV r8d, [r12*4-2147483648] m4
+8b 04 25 ff ff ff ff => 0 7 MOV eax, [abs32:4294967295] m4
+49 8b 44 24 7f => 0 5 MOV rax, [r12+127] m8
+66 0f 4f c8 => 0 4 CMOVG cx, ax m2
+f3 48 0f b8 d1 => 0 5 POPCNT rdx, rcx m8
+f3 66 0f bc 07 => 0 5 TZCNT ax, [rdi] m2
+0f bc d1 => 0 3 BSF edx, ecx m4
+f2 0f bd 07 => 0 4 BSR eax, [rdi] m4
+66 0f 38 f6 c1 => 0 5 ADCX eax, ecx m4
+f3 0f 38 f6 01 => 0 5 ADOX eax, [rcx] m4
+f3 66 0f 38 f6 c1 => 0 6 ADOX ax, cx m2
+48 8d 44 00 01 => 0 5 LEA rax, [rax+rax*1+1] m8
+66 8d 00 => 0 3 LEA ax, [rax] m2
+67 8d 04 05 10 00 00 00 => 0 8 LEA eax, [eax*1+16] m4
+0f 38 f0 00 => 0 4 MOVBE eax, [rax] m4
+66 0f 38 f0 00 => 0 5 MOVBE ax, [rax] m2
+66 48 0f 38 f0 00 => 0 6 MOVBE rax, [rax] m8
+0f 38 f1 00 => 0 4 MOVBE [rax], eax m4
+4c 0f 38 f1 00 => 0 5 MOVBE [rax], r8 m8
+0f 94 c0 => 0 3 SETZ al m1
+40 0f 95 c7 => 0 4 SETNZ dil m1
+0f 95 c7 => 0 3 SETNZ bh m1
+0f 9f 45 ff => 0 4 SETG [rbp-1] m1
+0f 1f 00 => 0 3 NOP [rax] m4
+66 0f 1f 84 00 00 00 00 00 => 0 9 NOP [rax+rax*1] m2
+48 0f 19 c1 => 0 4 NOP rcx m8
+f2 0f 1e c0 => 0 4 NOP eax m4
+0f b6 c4 => 0 3 MOVZX eax, ah m0
+48 0f be 00 => 0 4 MOVSX rax, [rax] m1
+66 41 0f b6 c4 => 0 5 MOVZX ax, r12b m0
+f2 0f 38 f0 c4 => 0 5 CRC32 eax, ah m0
+f2 48 0f 38 f0 06 => 0 6 CRC32 rax, [rsi] m1
+0f b7 c9 => 0 3 MOVZX ecx, cx m0
+4c 0f bf 3f => 0 4 MOVSX r15, [rdi] m2
+63 c1 => 0 2 MOVSXD rax, ecx m4
+48 63 07 => 0 3 MOVSXD rax, [rdi] m4
+66 63 c1 => 0 3 MOVSXD rax, ecx m2
+48 63 c1 => 0 3 MOVSXD rax, ecx m8
+0f ff c1 => 0 3 UD0 eax, ecx m4
+48 0f ff 01 => 0 4 UD0 eax, [rcx] m4
+66 0f ff c1 => 0 4 UD0 eax, ecx m2
+f2 0f 38 f1 01 => 0 5 CRC32 eax, [rcx] m4
+f2 66 0f 38 f1 c1 => 0 6 CRC32 eax, cx m2
+f2 48 0f 38 f1 01 => 0 6 CRC32 rax, [rcx] m4
+f2 48 0f 38 f1 c1 => 0 6 CRC32 rax, rcx m8
+6b c1 fe => 0 3 IMUL eax, ecx, i8:-2 m4
+66 6b 07 7f => 0 4 IMUL ax, [rdi], i8:127 m2
+69 c1 00 00 01 00 => 0 6 IMUL eax, ecx, i32:65536 m4
+66 69 05 00 00 00 00 ff ff => 0 9 IMUL ax, [rip], i16:-1 m2";
 
-pub const PART_2: &[Worked] = &[
-    ("67 ae", "0 2 SCAS [edi], al m1\n"),
-    ("f3 48 ab", "0 3 STOS [rdi], rax m8\n"),
-    ("66 af", "0 2 SCAS [rdi], ax m2\n"),
-    ("67 ab", "0 2 STOS [edi], eax m4\n"),
-    ("a4", "0 1 MOVS [rdi], [rsi] m1\n"),
-    ("67 a6", "0 2 CMPS [edi], [esi] m1\n"),
-    ("a5", "0 1 MOVS [rdi], [rsi] m4\n"),
-    ("66 a7", "0 2 CMPS [rdi], [rsi] m2\n"),
-    ("67 48 a5", "0 3 MOVS [edi], [esi] m8\n"),
-    ("6c", "0 1 INS [rdi], dl m1\n"),
-    ("67 6c", "0 2 INS [rdi], dl m1\n"),
-    ("6d", "0 1 INS [rdi], dx m4\n"),
-    ("66 6d", "0 2 INS [rdi], dx m2\n"),
-    ("48 6d", "0 2 INS [rdi], dx m4\n"),
-    ("66 48 6d", "0 3 INS [rdi], dx m2\n"),
-    ("6e", "0 1 OUTS dl, [rsi] m1\n"),
-    ("6f", "0 1 OUTS dx, [rsi] m4\n"),
-    ("66 67 6f", "0 3 OUTS dx, [rsi] m2\n"),
-    ("98", "0 1 CWDE m0\n"),
-    ("66 98", "0 2 CBW m0\n"),
-    ("48 98", "0 2 CDQE m0\n"),
-    ("66 48 98", "0 3 CDQE m0\n"),
-    ("99", "0 1 CDQ m0\n"),
-    ("66 99", "0 2 CWD m0\n"),
-    ("48 99", "0 2 CQO m0\n"),
-    ("cf", "0 1 IRETD m0\n"),
-    ("66 cf", "0 2 IRET m0\n"),
-    ("48 cf", "0 2 IRETQ m0\n"),
-    ("66 48 cf", "0 3 IRETQ m0\n"),
-    ("0f a0", "0 2 PUSH fs m8\n"),
-    ("66 0f a1", "0 3 POP fs m8\n"),
-    ("0f a8", "0 2 PUSH gs m8\n"),
-    ("66 0f a9", "0 3 POP gs m8\n"),
-    ("9e", "0 1 SAHF m0\n"),
-    ("9f", "0 1 LAHF m0\n"),
-    ("00 20", "0 2 ADD [rax], ah m1\n"),
-    ("40 00 e6", "0 3 ADD sil, spl m1\n"),
-    ("00 e6", "0 2 ADD dh, ah m1\n"),
-    ("44 88 3c 24", "0 4 MOV [rsp], r15b m1\n"),
-    ("f0 0f b0 0b", "0 4 CMPXCHG [rbx], cl m1\n"),
-    ("f0 86 0b", "0 3 XCHG [rbx], cl m1\n"),
-    ("02 c3", "0 2 ADD al, bl m1\n"),
-    ("8a 0d 04 00 00 00", "0 6 MOV cl, [rip+4] m1\n"),
-    ("67 8a 0d fc ff ff ff", "0 7 MOV cl, [eip-4] m1\n"),
-    ("45 8a f9", "0 3 MOV r15b, r9b m1\n"),
-    ("66 01 d8", "0 3 ADD ax, bx m2\n"),
-    ("4d 89 4e 08", "0 4 MOV [r14+8], r9 m8\n"),
-    ("f0 48 0f c1 07", "0 5 XADD [rdi], rax m8\n"),
-    ("0f a3 c8", "0 3 BT eax, ecx m4\n"),
-    ("67 66 0f bb 44 8b f0", "0 7 BTC [ebx+ecx*4-16], ax m2\n"),
-    ("8b 84 cd 00 01 00 00", "0 7 MOV eax, [rbp+rcx*8+256] m4\n"),
-    (
-        "46 8b 04 a5 00 00 00 80",
-        "0 8 MOV r8d, [r12*4-2147483648] m4\n",
-    ),
-    (
-        "8b 04 25 ff ff ff ff",
-        "0 7 MOV eax, [abs32:4294967295] m4\n",
-    ),
-    ("49 8b 44 24 7f", "0 5 MOV rax, [r12+127] m8\n"),
-    ("66 0f 4f c8", "0 4 CMOVG cx, ax m2\n"),
-    ("f3 48 0f b8 d1", "0 5 POPCNT rdx, rcx m8\n"),
-    ("f3 66 0f bc 07", "0 5 TZCNT ax, [rdi] m2\n"),
-    ("0f bc d1", "0 3 BSF edx, ecx m4\n"),
-    ("f2 0f bd 07", "0 4 BSR eax, [rdi] m4\n"),
-    ("66 0f 38 f6 c1", "0 5 ADCX eax, ecx m4\n"),
-    ("f3 0f 38 f6 01", "0 5 ADOX eax, [rcx] m4\n"),
-    ("f3 66 0f 38 f6 c1", "0 6 ADOX ax, cx m2\n"),
-    ("48 8d 44 00 01", "0 5 LEA rax, [rax+rax*1+1] m8\n"),
-    ("66 8d 00", "0 3 LEA ax, [rax] m2\n"),
-    ("67 8d 04 05 10 00 00 00", "0 8 LEA eax, [eax*1+16] m4\n"),
-    ("0f 38 f0 00", "0 4 MOVBE eax, [rax] m4\n"),
-    ("66 0f 38 f0 00", "0 5 MOVBE ax, [rax] m2\n"),
-    ("66 48 0f 38 f0 00", "0 6 MOVBE rax, [rax] m8\n"),
-    ("0f 38 f1 00", "0 4 MOVBE [rax], eax m4\n"),
-    ("4c 0f 38 f1 00", "0 5 MOVBE [rax], r8 m8\n"),
-    ("0f 94 c0", "0 3 SETZ al m1\n"),
-    ("40 0f 95 c7", "0 4 SETNZ dil m1\n"),
-    ("0f 95 c7", "0 3 SETNZ bh m1\n"),
-    ("0f 9f 45 ff", "0 4 SETG [rbp-1] m1\n"),
-    ("0f 1f 00", "0 3 NOP [rax] m4\n"),
-    ("66 0f 1f 84 00 00 00 00 00", "0 9 NOP [rax+rax*1] m2\n"),
-    ("48 0f 19 c1", "0 4 NOP rcx m8\n"),
-    ("f2 0f 1e c0", "0 4 NOP eax m4\n"),
-    ("0f b6 c4", "0 3 MOVZX eax, ah m0\n"),
-    ("48 0f be 00", "0 4 MOVSX rax, [rax] m1\n"),
-    ("66 41 0f b6 c4", "0 5 MOVZX ax, r12b m0\n"),
-    ("f2 0f 38 f0 c4", "0 5 CRC32 eax, ah m0\n"),
-    ("f2 48 0f 38 f0 06", "0 6 CRC32 rax, [rsi] m1\n"),
-    ("0f b7 c9", "0 3 MOVZX ecx, cx m0\n"),
-    ("4c 0f bf 3f", "0 4 MOVSX r15, [rdi] m2\n"),
-    ("63 c1", "0 2 MOVSXD rax, ecx m4\n"),
-    ("48 63 07", "0 3 MOVSXD rax, [rdi] m4\n"),
-    ("66 63 c1", "0 3 MOVSXD rax, ecx m2\n"),
-    ("48 63 c1", "0 3 MOVSXD rax, ecx m8\n"),
-    ("0f ff c1", "0 3 UD0 eax, ecx m4\n"),
-    ("48 0f ff 01", "0 4 UD0 eax, [rcx] m4\n"),
-    ("66 0f ff c1", "0 4 UD0 eax, ecx m2\n"),
-    ("f2 0f 38 f1 01", "0 5 CRC32 eax, [rcx] m4\n"),
-    ("f2 66 0f 38 f1 c1", "0 6 CRC32 eax, cx m2\n"),
-    ("f2 48 0f 38 f1 01", "0 6 CRC32 rax, [rcx] m4\n"),
-    ("f2 48 0f 38 f1 c1", "0 6 CRC32 rax, rcx m8\n"),
-    ("6b c1 fe", "0 3 IMUL eax, ecx, i8:-2 m4\n"),
-    ("66 6b 07 7f", "0 4 IMUL ax, [rdi], i8:127 m2\n"),
-    ("69 c1 00 00 01 00", "0 6 IMUL eax, ecx, i32:65536 m4\n"),
-    (
-        "66 69 05 00 00 00 00 ff ff",
-        "0 9 IMUL ax, [rip], i16:-1 m2\n",
-    ),
-];
+pub const PART_3: &str = "48 69 00 ff ff ff ff => 0 7 IMUL rax, [rax], i64:-1 m8
+0f a4 c8 04 => 0 4 SHLD eax, ecx, i8:4 m4
+66 0f ac 07 ff => 0 5 SHRD [rdi], ax, i8:-1 m2
+0f a5 c8 => 0 3 SHLD eax, ecx, cl m4
+48 0f ad 07 => 0 4 SHRD [rdi], rax, cl m8
+0f 02 c1 => 0 3 LAR eax, ecx m4
+66 0f 02 01 => 0 4 LAR ax, [rcx] m2
+48 0f 02 c1 => 0 4 LAR rax, rcx m8
+0f 03 c1 => 0 3 LSL eax, ecx m4
+48 0f 03 c1 => 0 4 LSL rax, ecx m8
+66 0f 03 c1 => 0 4 LSL ax, cx m2
+48 0f 03 01 => 0 4 LSL rax, [rcx] m2
+8c d8 => 0 2 MOV eax, ds m4
+66 41 8c e9 => 0 4 MOV r9d, gs m2
+8c 20 => 0 2 MOV [rax], fs m2
+8e d8 => 0 2 MOV ds, ax m4
+48 8e e1 => 0 3 MOV fs, cx m8
+8e 55 fe => 0 3 MOV ss, [rbp-2] m2
+0f b4 00 => 0 3 LFS eax, [rax] m6
+48 0f b5 01 => 0 4 LGS rax, [rcx] m10
+66 0f b2 00 => 0 4 LSS ax, [rax] m4
+66 48 0f b4 00 => 0 5 LFS rax, [rax] m10
+66 0f 38 80 01 => 0 5 INVEPT rax, [rcx] m16
+66 44 0f 38 82 01 => 0 6 INVPCID r8, [rcx] m16
+f3 0f 38 f8 00 => 0 5 ENQCMDS rax, [rax] m64
+f2 0f 38 f8 08 => 0 5 ENQCMD rcx, [rax] m64
+66 0f 38 f8 01 => 0 5 MOVDIR64B rax, [rcx] m64
+67 66 0f 38 f8 01 => 0 6 MOVDIR64B eax, [ecx] m64
+0f c3 01 => 0 3 MOVNTI [rcx], eax m4
+48 0f c3 01 => 0 4 MOVNTI [rcx], rax m8
+66 0f 38 f5 01 => 0 5 WRUSS [rcx], eax m4
+0f 38 f6 0a => 0 4 WRSS [rdx], ecx m4
+4c 0f 38 f9 01 => 0 5 MOVDIRI [rcx], r8 m8
+0f 79 c1 => 0 3 VMWRITE rax, rcx m4
+0f 79 01 => 0 3 VMWRITE rax, [rcx] m8
+0f 78 c1 => 0 3 VMREAD rcx, rax m4
+48 0f 78 c1 => 0 4 VMREAD rcx, rax m8
+44 0f 78 45 00 => 0 5 VMREAD [rbp], r8 m8
+0f 28 c1 => 0 3 MOVAPS xmm0, xmm1 m4
+66 45 0f 28 3f => 0 5 MOVAPD xmm15, [r15] m16
+48 0f 58 c1 => 0 4 ADDPS xmm0, xmm1 m8
+f2 0f 12 01 => 0 4 MOVDDUP xmm0, [rcx] m8
+f3 0f 6f 01 => 0 4 MOVDQU xmm0, [rcx] m16
+66 0f 38 17 c1 => 0 5 PTEST xmm0, xmm1 m4
+66 0f ef c0 => 0 4 PXOR xmm0, xmm0 m2
+0f 38 c9 d1 => 0 4 SHA1MSG1 xmm2, xmm1 m4
+0f 29 c1 => 0 3 MOVAPS xmm1, xmm0 m4
+66 0f 7f 01 => 0 4 MOVDQA [rcx], xmm0 m16
+f3 0f 10 c1 => 0 4 MOVSS xmm0, xmm1 m4
+f3 0f 51 01 => 0 4 SQRTSS xmm0, [rcx] m4
+f3 66 0f 58 c1 => 0 5 ADDSS xmm0, xmm1 m2
+f3 0f 11 c1 => 0 4 MOVSS xmm1, xmm0 m4
+f3 48 0f 11 01 => 0 5 MOVSS [rcx], xmm0 m4
+f3 48 0f 11 c1 => 0 5 MOVSS xmm1, xmm0 m8
+66 0f 38 2a 01 => 0 5 MOVNTDQA xmm0, [rcx] m16
+f2 0f f0 01 => 0 4 LDDQU xmm0, [rcx] m16
+0f 13 01 => 0 3 MOVLPS [rcx], xmm0 m8
+0f 2b 01 => 0 3 MOVNTPS [rcx], xmm0 m16
+66 0f e7 01 => 0 4 MOVNTDQ [rcx], xmm0 m16
+66 0f 2b 01 => 0 4 MOVNTPD [rcx], xmm0 m16
+f3 0f 2b 01 => 0 4 MOVNTSS [rcx], xmm0 m4
+f2 0f 2b 01 => 0 4 MOVNTSD [rcx], xmm0 m8
+66 0f 70 c1 1b => 0 5 PSHUFD xmm0, xmm1, i8:27 m2
+f3 0f c2 01 00 => 0 5 CMPSS xmm0, [rcx], i8:0 m4
+f2 0f c2 01 ff => 0 5 CMPSD xmm0, [rcx], i8:-1 m8
+66 0f 3a 0a 01 08 => 0 6 ROUNDSS xmm0, [rcx], i8:8 m4
+66 0f 3a 0b 01 08 => 0 6 ROUNDSD xmm0, [rcx], i8:8 m8
+66 0f 3a 0f c1 04 => 0 6 PALIGNR xmm0, xmm1, i8:4 m2
+0f c6 01 e4 => 0 4 SHUFPS xmm0, [rcx], i8:-28 m16
+66 0f 3a 44 01 11 => 0 6 PCLMULQDQ xmm0, [rcx], i8:17 m16
+0f 3a cc c1 03 => 0 5 SHA1RNDS4 xmm0, xmm1, u8:3 m4
+66 0f 3a df 01 ff => 0 6 AESKEYGENASSIST xmm0, [rcx], u8:255 m16
+0f 2e 01 => 0 3 UCOMISS xmm0, [rcx] m4
+66 0f 2f 01 => 0 4 COMISD xmm0, [rcx] m8
+66 0f 38 22 01 => 0 5 PMOVSXBQ xmm0, [rcx] m2
+66 0f 38 31 01 => 0 5 PMOVZXBD xmm0, [rcx] m4
+66 0f 38 24 01 => 0 5 PMOVSXWQ xmm0, [rcx] m4
+66 0f 38 30 01 => 0 5 PMOVZXBW xmm0, [rcx] m8
+66 0f 38 35 c1 => 0 5 PMOVZXDQ xmm0, xmm1 m4
+f2 0f 10 01 => 0 4 MOVSD xmm0, [rcx] m8
+f2 48 0f 58 c1 => 0 5 ADDSD xmm0, xmm1 m8
+f3 0f 5a 01 => 0 4 CVTSS2SD xmm0, [rcx] m4
+f3 0f e6 01 => 0 4 CVTDQ2PD xmm0, [rcx] m8
+0f 5a 01 => 0 3 CVTPS2PD xmm0, [rcx] m8
+66 0f 12 01 => 0 4 MOVLPD xmm0, [rcx] m8
+66 0f d6 01 => 0 4 MOVQ [rcx], xmm0 m8
+f2 0f 11 c1 => 0 4 MOVSD xmm1, xmm0 m4
+f3 0f 7e c1 => 0 4 MOVQ xmm0, xmm1 m4
+f3 44 0f 7e 01 => 0 5 MOVQ xmm8, [rcx] m8
+f2 0f 2c c1 => 0 4 CVTTSD2SI eax, xmm1 m4
+f2 0f 2c 01 => 0 4 CVTTSD2SI eax, [rcx] m8
+f2 48 0f 2d 01 => 0 5 CVTSD2SI rax, [rcx] m8
+f2 66 0f 2c c1 => 0 5 CVTTSD2SI ax, xmm1 m2
+f3 0f 2c c1 => 0 4 CVTTSS2SI eax, xmm1 m4
+f3 48 0f 2d 01 => 0 5 CVTSS2SI rax, [rcx] m4
+f3 48 0f 2d c1 => 0 5 CVTSS2SI rax, xmm1 m8
+0f 50 c1 => 0 3 MOVMSKPS eax, xmm1 m4
+66 4d 0f d7 c9 => 0 5 PMOVMSKB r9d, xmm9 m8
+66 0f 79 c1 => 0 4 EXTRQ xmm0, xmm1 m2
+f2 0f 79 c1 => 0 4 INSERTQ xmm0, xmm1 m4";
 
-pub const PART_3: &[Worked] = &[
-    ("48 69 00 ff ff ff ff", "0 7 IMUL rax, [rax], i64:-1 m8\n"),
-    ("0f a4 c8 04", "0 4 SHLD eax, ecx, i8:4 m4\n"),
-    ("66 0f ac 07 ff", "0 5 SHRD [rdi], ax, i8:-1 m2\n"),
-    ("0f a5 c8", "0 3 SHLD eax, ecx, cl m4\n"),
-    ("48 0f ad 07", "0 4 SHRD [rdi], rax, cl m8\n"),
-    ("0f 02 c1", "0 3 LAR eax, ecx m4\n"),
-    ("66 0f 02 01", "0 4 LAR ax, [rcx] m2\n"),
-    ("48 0f 02 c1", "0 4 LAR rax, rcx m8\n"),
-    ("0f 03 c1", "0 3 LSL eax, ecx m4\n"),
-    ("48 0f 03 c1", "0 4 LSL rax, ecx m8\n"),
-    ("66 0f 03 c1", "0 4 LSL ax, cx m2\n"),
-    ("48 0f 03 01", "0 4 LSL rax, [rcx] m2\n"),
-    ("8c d8", "0 2 MOV eax, ds m4\n"),
-    ("66 41 8c e9", "0 4 MOV r9d, gs m2\n"),
-    ("8c 20", "0 2 MOV [rax], fs m2\n"),
-    ("8e d8", "0 2 MOV ds, ax m4\n"),
-    ("48 8e e1", "0 3 MOV fs, cx m8\n"),
-    ("8e 55 fe", "0 3 MOV ss, [rbp-2] m2\n"),
-    ("0f b4 00", "0 3 LFS eax, [rax] m6\n"),
-    ("48 0f b5 01", "0 4 LGS rax, [rcx] m10\n"),
-    ("66 0f b2 00", "0 4 LSS ax, [rax] m4\n"),
-    ("66 48 0f b4 00", "0 5 LFS rax, [rax] m10\n"),
-    ("66 0f 38 80 01", "0 5 INVEPT rax, [rcx] m16\n"),
-    ("66 44 0f 38 82 01", "0 6 INVPCID r8, [rcx] m16\n"),
-    ("f3 0f 38 f8 00", "0 5 ENQCMDS rax, [rax] m64\n"),
-    ("f2 0f 38 f8 08", "0 5 ENQCMD rcx, [rax] m64\n"),
-    ("66 0f 38 f8 01", "0 5 MOVDIR64B rax, [rcx] m64\n"),
-    ("67 66 0f 38 f8 01", "0 6 MOVDIR64B eax, [ecx] m64\n"),
-    ("0f c3 01", "0 3 MOVNTI [rcx], eax m4\n"),
-    ("48 0f c3 01", "0 4 MOVNTI [rcx], rax m8\n"),
-    ("66 0f 38 f5 01", "0 5 WRUSS [rcx], eax m4\n"),
-    ("0f 38 f6 0a", "0 4 WRSS [rdx], ecx m4\n"),
-    ("4c 0f 38 f9 01", "0 5 MOVDIRI [rcx], r8 m8\n"),
-    ("0f 79 c1", "0 3 VMWRITE rax, rcx m4\n"),
-    ("0f 79 01", "0 3 VMWRITE rax, [rcx] m8\n"),
-    ("0f 78 c1", "0 3 VMREAD rcx, rax m4\n"),
-    ("48 0f 78 c1", "0 4 VMREAD rcx, rax m8\n"),
-    ("44 0f 78 45 00", "0 5 VMREAD [rbp], r8 m8\n"),
-    ("0f 28 c1", "0 3 MOVAPS xmm0, xmm1 m4\n"),
-    ("66 45 0f 28 3f", "0 5 MOVAPD xmm15, [r15] m16\n"),
-    ("48 0f 58 c1", "0 4 ADDPS xmm0, xmm1 m8\n"),
-    ("f2 0f 12 01", "0 4 MOVDDUP xmm0, [rcx] m8\n"),
-    ("f3 0f 6f 01", "0 4 MOVDQU xmm0, [rcx] m16\n"),
-    ("66 0f 38 17 c1", "0 5 PTEST xmm0, xmm1 m4\n"),
-    ("66 0f ef c0", "0 4 PXOR xmm0, xmm0 m2\n"),
-    ("0f 38 c9 d1", "0 4 SHA1MSG1 xmm2, xmm1 m4\n"),
-    ("0f 29 c1", "0 3 MOVAPS xmm1, xmm0 m4\n"),
-    ("66 0f 7f 01", "0 4 MOVDQA [rcx], xmm0 m16\n"),
-    ("f3 0f 10 c1", "0 4 MOVSS xmm0, xmm1 m4\n"),
-    ("f3 0f 51 01", "0 4 SQRTSS xmm0, [rcx] m4\n"),
-    ("f3 66 0f 58 c1", "0 5 ADDSS xmm0, xmm1 m2\n"),
-    ("f3 0f 11 c1", "0 4 MOVSS xmm1, xmm0 m4\n"),
-    ("f3 48 0f 11 01", "0 5 MOVSS [rcx], xmm0 m4\n"),
-    ("f3 48 0f 11 c1", "0 5 MOVSS xmm1, xmm0 m8\n"),
-    ("66 0f 38 2a 01", "0 5 MOVNTDQA xmm0, [rcx] m16\n"),
-    ("f2 0f f0 01", "0 4 LDDQU xmm0, [rcx] m16\n"),
-    ("0f 13 01", "0 3 MOVLPS [rcx], xmm0 m8\n"),
-    ("0f 2b 01", "0 3 MOVNTPS [rcx], xmm0 m16\n"),
-    ("66 0f e7 01", "0 4 MOVNTDQ [rcx], xmm0 m16\n"),
-    ("66 0f 2b 01", "0 4 MOVNTPD [rcx], xmm0 m16\n"),
-    ("f3 0f 2b 01", "0 4 MOVNTSS [rcx], xmm0 m4\n"),
-    ("f2 0f 2b 01", "0 4 MOVNTSD [rcx], xmm0 m8\n"),
-    ("66 0f 70 c1 1b", "0 5 PSHUFD xmm0, xmm1, i8:27 m2\n"),
-    ("f3 0f c2 01 00", "0 5 CMPSS xmm0, [rcx], i8:0 m4\n"),
-    ("f2 0f c2 01 ff", "0 5 CMPSD xmm0, [rcx], i8:-1 m8\n"),
-    ("66 0f 3a 0a 01 08", "0 6 ROUNDSS xmm0, [rcx], i8:8 m4\n"),
-    ("66 0f 3a 0b 01 08", "0 6 ROUNDSD xmm0, [rcx], i8:8 m8\n"),
-    ("66 0f 3a 0f c1 04", "0 6 PALIGNR xmm0, xmm1, i8:4 m2\n"),
-    ("0f c6 01 e4", "0 4 SHUFPS xmm0, [rcx], i8:-28 m16\n"),
-    (
-        "66 0f 3a 44 01 11",
-        "0 6 PCLMULQDQ xmm0, [rcx], i8:17 m16\n",
-    ),
-    ("0f 3a cc c1 03", "0 5 SHA1RNDS4 xmm0, xmm1, u8:3 m4\n"),
-    (
-        "66 0f 3a df 01 ff",
-        "0 6 AESKEYGENASSIST xmm0, [rcx], u8:255 m16\n",
-    ),
-    ("0f 2e 01", "0 3 UCOMISS xmm0, [rcx] m4\n"),
-    ("66 0f 2f 01", "0 4 COMISD xmm0, [rcx] m8\n"),
-    ("66 0f 38 22 01", "0 5 PMOVSXBQ xmm0, [rcx] m2\n"),
-    ("66 0f 38 31 01", "0 5 PMOVZXBD xmm0, [rcx] m4\n"),
-    ("66 0f 38 24 01", "0 5 PMOVSXWQ xmm0, [rcx] m4\n"),
-    ("66 0f 38 30 01", "0 5 PMOVZXBW xmm0, [rcx] m8\n"),
-    ("66 0f 38 35 c1", "0 5 PMOVZXDQ xmm0, xmm1 m4\n"),
-    ("f2 0f 10 01", "0 4 MOVSD xmm0, [rcx] m8\n"),
-    ("f2 48 0f 58 c1", "0 5 ADDSD xmm0, xmm1 m8\n"),
-    ("f3 0f 5a 01", "0 4 CVTSS2SD xmm0, [rcx] m4\n"),
-    ("f3 0f e6 01", "0 4 CVTDQ2PD xmm0, [rcx] m8\n"),
-    ("0f 5a 01", "0 3 CVTPS2PD xmm0, [rcx] m8\n"),
-    ("66 0f 12 01", "0 4 MOVLPD xmm0, [rcx] m8\n"),
-    ("66 0f d6 01", "0 4 MOVQ [rcx], xmm0 m8\n"),
-    ("f2 0f 11 c1", "0 4 MOVSD xmm1, xmm0 m4\n"),
-    ("f3 0f 7e c1", "0 4 MOVQ xmm0, xmm1 m4\n"),
-    ("f3 44 0f 7e 01", "0 5 MOVQ xmm8, [rcx] m8\n"),
-    ("f2 0f 2c c1", "0 4 CVTTSD2SI eax, xmm1 m4\n"),
-    ("f2 0f 2c 01", "0 4 CVTTSD2SI eax, [rcx] m8\n"),
-    ("f2 48 0f 2d 01", "0 5 CVTSD2SI rax, [rcx] m8\n"),
-    ("f2 66 0f 2c c1", "0 5 CVTTSD2SI ax, xmm1 m2\n"),
-    ("f3 0f 2c c1", "0 4 CVTTSS2SI eax, xmm1 m4\n"),
-    ("f3 48 0f 2d 01", "0 5 CVTSS2SI rax, [rcx] m4\n"),
-    ("f3 48 0f 2d c1", "0 5 CVTSS2SI rax, xmm1 m8\n"),
-    ("0f 50 c1", "0 3 MOVMSKPS eax, xmm1 m4\n"),
-    ("66 4d 0f d7 c9", "0 5 PMOVMSKB r9d, xmm9 m8\n"),
-    ("66 0f 79 c1", "0 4 EXTRQ xmm0, xmm1 m2\n"),
-    ("f2 0f 79 c1", "0 4 INSERTQ xmm0, xmm1 m4\n"),
-];
-
-pub const PART_4: &[Worked] = &[
-    ("66 0f f7 c1", "0 4 MASKMOVDQU xmm0, xmm1 m16\n"),
-    ("66 0f c5 c1 07", "0 5 PEXTRW eax, xmm1, u8:7 m2\n"),
-    ("66 4d 0f c5 c1 80", "0 6 PEXTRW r8d, xmm9, u8:128 m8\n"),
-    ("66 0f 3a 14 c1 0f", "0 6 PEXTRB cx, xmm0, u8:15 m1\n"),
-    ("66 0f 3a 15 01 07", "0 6 PEXTRW [rcx], xmm0, u8:7 m2\n"),
-    ("66 48 0f 3a 17 c1 01", "0 7 EXTRACTPS rcx, xmm0, u8:1 m4\n"),
-    ("66 0f 3a 16 01 02", "0 6 PEXTRD [rcx], xmm0, u8:2 m4\n"),
-    ("66 41 0f 3a 16 c1 02", "0 7 PEXTRD r9w, xmm0, u8:2 m4\n"),
-    ("66 4c 0f 3a 16 01 01", "0 7 PEXTRQ [rcx], xmm8, u8:1 m8\n"),
-    ("66 0f 3a 20 c1 0f", "0 6 PINSRB xmm0, xmm1, u8:15 m2\n"),
-    ("66 0f 3a 20 01 0f", "0 6 PINSRB xmm0, [rcx], u8:15 m1\n"),
-    ("66 0f 3a 21 01 80", "0 6 INSERTPS xmm0, [rcx], u8:128 m4\n"),
-    ("66 48 0f 3a 21 c1 00", "0 7 INSERTPS xmm0, xmm1, u8:0 m8\n"),
-    ("66 0f 3a 22 c1 03", "0 6 PINSRD xmm0, xmm1, u8:3 m2\n"),
-    ("66 0f 3a 22 01 03", "0 6 PINSRD xmm0, [rcx], u8:3 m4\n"),
-    ("66 48 0f 3a 22 c1 01", "0 7 PINSRQ xmm0, xmm1, u8:1 m8\n"),
-    ("66 48 0f 3a 22 01 01", "0 7 PINSRQ xmm0, [rcx], u8:1 m8\n"),
-    ("66 0f c4 c1 07", "0 5 PINSRW xmm0, ecx, u8:7 m2\n"),
-    ("66 0f c4 01 ff", "0 5 PINSRW xmm0, [rcx], u8:255 m2\n"),
-    ("66 49 0f c4 c1 07", "0 6 PINSRW xmm0, r9d, u8:7 m8\n"),
-    ("0f c4 c1 ff", "0 4 PINSRW mm0, ecx, i8:-1 m4\n"),
-    ("4d 0f c4 01 03", "0 5 PINSRW mm0, [r9], i8:3 m2\n"),
-    ("f3 0f 2a c1", "0 4 CVTSI2SS xmm0, ecx m4\n"),
-    ("f2 48 0f 2a 01", "0 5 CVTSI2SD xmm0, [rcx] m8\n"),
-    ("66 0f 6e 01", "0 4 MOVD xmm0, [rcx] m2\n"),
-    ("66 48 0f 6e c1", "0 5 MOVD xmm0, rcx m8\n"),
-    ("f3 66 0f 2a 01", "0 5 CVTSI2SS xmm0, [rcx] m2\n"),
-    ("66 0f 7e c1", "0 4 MOVD ecx, xmm0 m2\n"),
-    ("66 0f 7e 01", "0 4 MOVD [rcx], xmm0 m4\n"),
-    ("66 48 0f 7e 01", "0 5 MOVQ [rcx], xmm0 m8\n"),
-    ("0f 2a c1", "0 3 CVTPI2PS xmm0, mm1 m4\n"),
-    ("66 0f 2a 01", "0 4 CVTPI2PD xmm0, [rcx] m8\n"),
-    ("45 0f 2a c1", "0 4 CVTPI2PS xmm8, mm1 m4\n"),
-    ("0f 2c c1", "0 3 CVTTPS2PI mm0, xmm1 m4\n"),
-    ("0f 2d 01", "0 3 CVTPS2PI mm0, [rcx] m16\n"),
-    ("66 45 0f 2d c1", "0 5 CVTPD2PI mm0, xmm9 m2\n"),
-    ("f3 0f d6 c1", "0 4 MOVQ2DQ xmm0, mm1 m4\n"),
-    ("f2 0f d6 c1", "0 4 MOVDQ2Q mm0, xmm1 m4\n"),
-    ("f2 4d 0f d6 c1", "0 5 MOVDQ2Q mm0, xmm9 m8\n"),
-    ("0f d7 c1", "0 3 PMOVMSKB eax, mm1 m4\n"),
-    ("45 0f d7 c1", "0 4 PMOVMSKB r8d, mm1 m4\n"),
-    ("0f 60 01", "0 3 PUNPCKLBW mm0, [rcx] m4\n"),
-    ("0f 60 c1", "0 3 PUNPCKLBW mm0, mm1 m4\n"),
-    ("0f 63 01", "0 3 PACKSSWB mm0, [rcx] m8\n"),
-    ("45 0f fc c1", "0 4 PADDB mm0, mm1 m4\n"),
-    ("48 0f fe c1", "0 4 PADDD mm0, mm1 m8\n"),
-    ("0f 38 00 01", "0 4 PSHUFB mm0, [rcx] m8\n"),
-    ("0f 6f c1", "0 3 MOVQ mm0, mm1 m4\n"),
-    ("0f 6f 01", "0 3 MOVQ mm0, [rcx] m8\n"),
-    ("0f 7f c1", "0 3 MOVQ mm1, mm0 m4\n"),
-    ("0f 7f 01", "0 3 MOVQ [rcx], mm0 m8\n"),
-    ("0f 70 c1 e4", "0 4 PSHUFW mm0, mm1, i8:-28 m0\n"),
-    ("0f 3a 0f 01 08", "0 5 PALIGNR mm0, [rcx], i8:8 m8\n"),
-    ("0f 6e c1", "0 3 MOVD mm0, ecx m4\n"),
-    ("48 0f 6e 01", "0 4 MOVD mm0, [rcx] m8\n"),
-    ("49 0f 6e c1", "0 4 MOVD mm0, r9 m8\n"),
-    ("0f 7e c1", "0 3 MOVD ecx, mm0 m4\n"),
-    ("0f 7e 01", "0 3 MOVD [rcx], mm0 m4\n"),
-    ("48 0f 7e 01", "0 4 MOVD [rcx], mm0 m8\n"),
-    ("0f e7 01", "0 3 MOVNTQ [rcx], mm0 m8\n"),
-    ("0f f7 c1", "0 3 MASKMOVQ mm0, mm1 m8\n"),
-    ("4d 0f f7 c1", "0 4 MASKMOVQ mm0, mm1 m8\n"),
-    ("0f c5 c1 07", "0 4 PEXTRW eax, mm1, u8:7 m4\n"),
-    ("4c 0f c5 c1 01", "0 5 PEXTRW r8d, mm1, u8:1 m8\n"),
-];
+pub const PART_4: &str = "66 0f f7 c1 => 0 4 MASKMOVDQU xmm0, xmm1 m16
+66 0f c5 c1 07 => 0 5 PEXTRW eax, xmm1, u8:7 m2
+66 4d 0f c5 c1 80 => 0 6 PEXTRW r8d, xmm9, u8:128 m8
+66 0f 3a 14 c1 0f => 0 6 PEXTRB cx, xmm0, u8:15 m1
+66 0f 3a 15 01 07 => 0 6 PEXTRW [rcx], xmm0, u8:7 m2
+66 48 0f 3a 17 c1 01 => 0 7 EXTRACTPS rcx, xmm0, u8:1 m4
+66 0f 3a 16 01 02 => 0 6 PEXTRD [rcx], xmm0, u8:2 m4
+66 41 0f 3a 16 c1 02 => 0 7 PEXTRD r9w, xmm0, u8:2 m4
+66 4c 0f 3a 16 01 01 => 0 7 PEXTRQ [rcx], xmm8, u8:1 m8
+66 0f 3a 20 c1 0f => 0 6 PINSRB xmm0, xmm1, u8:15 m2
+66 0f 3a 20 01 0f => 0 6 PINSRB xmm0, [rcx], u8:15 m1
+66 0f 3a 21 01 80 => 0 6 INSERTPS xmm0, [rcx], u8:128 m4
+66 48 0f 3a 21 c1 00 => 0 7 INSERTPS xmm0, xmm1, u8:0 m8
+66 0f 3a 22 c1 03 => 0 6 PINSRD xmm0, xmm1, u8:3 m2
+66 0f 3a 22 01 03 => 0 6 PINSRD xmm0, [rcx], u8:3 m4
+66 48 0f 3a 22 c1 01 => 0 7 PINSRQ xmm0, xmm1, u8:1 m8
+66 48 0f 3a 22 01 01 => 0 7 PINSRQ xmm0, [rcx], u8:1 m8
+66 0f c4 c1 07 => 0 5 PINSRW xmm0, ecx, u8:7 m2
+66 0f c4 01 ff => 0 5 PINSRW xmm0, [rcx], u8:255 m2
+66 49 0f c4 c1 07 => 0 6 PINSRW xmm0, r9d, u8:7 m8
+0f c4 c1 ff => 0 4 PINSRW mm0, ecx, i8:-1 m4
+4d 0f c4 01 03 => 0 5 PINSRW mm0, [r9], i8:3 m2
+f3 0f 2a c1 => 0 4 CVTSI2SS xmm0, ecx m4
+f2 48 0f 2a 01 => 0 5 CVTSI2SD xmm0, [rcx] m8
+66 0f 6e 01 => 0 4 MOVD xmm0, [rcx] m2
+66 48 0f 6e c1 => 0 5 MOVD xmm0, rcx m8
+f3 66 0f 2a 01 => 0 5 CVTSI2SS xmm0, [rcx] m2
+66 0f 7e c1 => 0 4 MOVD ecx, xmm0 m2
+66 0f 7e 01 => 0 4 MOVD [rcx], xmm0 m4
+66 48 0f 7e 01 => 0 5 MOVQ [rcx], xmm0 m8
+0f 2a c1 => 0 3 CVTPI2PS xmm0, mm1 m4
+66 0f 2a 01 => 0 4 CVTPI2PD xmm0, [rcx] m8
+45 0f 2a c1 => 0 4 CVTPI2PS xmm8, mm1 m4
+0f 2c c1 => 0 3 CVTTPS2PI mm0, xmm1 m4
+0f 2d 01 => 0 3 CVTPS2PI mm0, [rcx] m16
+66 45 0f 2d c1 => 0 5 CVTPD2PI mm0, xmm9 m2
+f3 0f d6 c1 => 0 4 MOVQ2DQ xmm0, mm1 m4
+f2 0f d6 c1 => 0 4 MOVDQ2Q mm0, xmm1 m4
+f2 4d 0f d6 c1 => 0 5 MOVDQ2Q mm0, xmm9 m8
+0f d7 c1 => 0 3 PMOVMSKB eax, mm1 m4
+45 0f d7 c1 => 0 4 PMOVMSKB r8d, mm1 m4
+0f 60 01 => 0 3 PUNPCKLBW mm0, [rcx] m4
+0f 60 c1 => 0 3 PUNPCKLBW mm0, mm1 m4
+0f 63 01 => 0 3 PACKSSWB mm0, [rcx] m8
+45 0f fc c1 => 0 4 PADDB mm0, mm1 m4
+48 0f fe c1 => 0 4 PADDD mm0, mm1 m8
+0f 38 00 01 => 0 4 PSHUFB mm0, [rcx] m8
+0f 6f c1 => 0 3 MOVQ mm0, mm1 m4
+0f 6f 01 => 0 3 MOVQ mm0, [rcx] m8
+0f 7f c1 => 0 3 MOVQ mm1, mm0 m4
+0f 7f 01 => 0 3 MOVQ [rcx], mm0 m8
+0f 70 c1 e4 => 0 4 PSHUFW mm0, mm1, i8:-28 m0
+0f 3a 0f 01 08 => 0 5 PALIGNR mm0, [rcx], i8:8 m8
+0f 6e c1 => 0 3 MOVD mm0, ecx m4
+48 0f 6e 01 => 0 4 MOVD mm0, [rcx] m8
+49 0f 6e c1 => 0 4 MOVD mm0, r9 m8
+0f 7e c1 => 0 3 MOVD ecx, mm0 m4
+0f 7e 01 => 0 3 MOVD [rcx], mm0 m4
+48 0f 7e 01 => 0 4 MOVD [rcx], mm0 m8
+0f e7 01 => 0 3 MOVNTQ [rcx], mm0 m8
+0f f7 c1 => 0 3 MASKMOVQ mm0, mm1 m8
+4d 0f f7 c1 => 0 4 MASKMOVQ mm0, mm1 m8
+0f c5 c1 07 => 0 4 PEXTRW eax, mm1, u8:7 m4
+4c 0f c5 c1 01 => 0 5 PEXTRW r8d, mm1, u8:1 m8";

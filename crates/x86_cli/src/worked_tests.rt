@@ -1,20 +1,42 @@
 //! Listings worked by hand from the rows, and the lines of `make`.
 
-use crate::plain_table::Worked;
+use crate::command::run;
+use crate::sink::ArraySink;
+use crate::source::SoundSource;
 use crate::status::Status;
-use crate::tests::{is_usage, lists, runs};
+use crate::tests::{is_usage, runs, words};
 use crate::{group_table, plain_table, x87_table};
 use std::alloc::Global;
 
-fn is_worked(alloc: Global, worked: &Worked) -> bool {
-    let (text, written) = *worked;
-    lists(alloc, text.as_bytes(), written.as_bytes(), Status::Done)
+/// Whether what was written is this line with its end.
+fn is_line(written: &[u8], line: &str) -> bool {
+    match written.split_last() {
+        Some((last, front)) => *last == b'\n' && front == line.as_bytes(),
+        None => false,
+    }
 }
 
-fn are_worked(alloc: Global, table: &[Worked]) -> bool {
-    for worked in table {
-        if !is_worked(alloc, worked) {
-            return false;
+/// Whether `list` writes this line of the text. Where memory is refused to the words, nothing is told.
+fn is_worked(alloc: Global, text: &str, line: &str) -> bool {
+    let Ok(words) = words(alloc, &["list"]) else {
+        return true;
+    };
+    let mut source = SoundSource::new(text.as_bytes());
+    let mut sink = ArraySink::<128>::new(u64::MAX);
+    let status = run(words.as_slice(), &mut source, &mut sink);
+    status == Status::Done && is_line(sink.written(), line)
+}
+
+/// Whether each line of a table, `TEXT => LINE`, is so.
+fn are_worked(alloc: Global, table: &str) -> bool {
+    for worked in table.lines() {
+        match worked.split_once(" => ") {
+            Some((text, line)) => {
+                if !is_worked(alloc, text, line) {
+                    return false;
+                }
+            }
+            None => return false,
         }
     }
     true

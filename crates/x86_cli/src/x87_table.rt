@@ -1,154 +1,148 @@
-//! Encodings of x87, worked by hand from the rows, with the lines that list them.
+//! Encodings of x87, worked by hand from the rows, each with the line that lists it.
 
-use crate::plain_table::Worked;
+pub const PART_1: &str = "d8 00 => 0 2 FADD st(0), [rax] m4
+d8 08 => 0 2 FMUL st(0), [rax] m4
+d8 10 => 0 2 FCOM st(0), [rax] m4
+d8 18 => 0 2 FCOMP st(0), [rax] m4
+d8 20 => 0 2 FSUB st(0), [rax] m4
+d8 28 => 0 2 FSUBR st(0), [rax] m4
+d8 34 24 => 0 3 FDIV st(0), [rsp] m4
+66 d8 38 => 0 3 FDIVR st(0), [rax] m4
+d8 c1 => 0 2 FADD st(0), st(1) m0
+d8 ca => 0 2 FMUL st(0), st(2) m0
+d8 d3 => 0 2 FCOM st(0), st(3) m0
+d8 dc => 0 2 FCOMP st(0), st(4) m0
+d8 e5 => 0 2 FSUB st(0), st(5) m0
+d8 ee => 0 2 FSUBR st(0), st(6) m0
+d8 f7 => 0 2 FDIV st(0), st(7) m0
+41 d8 f8 => 0 3 FDIVR st(0), st(0) m0
+d9 00 => 0 2 FLD st(0), [rax] m4
+d9 10 => 0 2 FST [rax], st(0) m4
+d9 58 08 => 0 3 FSTP [rax+8], st(0) m4
+d9 20 => 0 2 FLDENV [rax] m?
+d9 28 => 0 2 FLDCW [rax] m2
+d9 30 => 0 2 FNSTENV [rax] m?
+d9 38 => 0 2 FNSTCW [rax] m2
+d9 c1 => 0 2 FLD st(0), st(1) m0
+d9 c9 => 0 2 FXCH st(0), st(1) m0
+d9 d0 => 0 2 FNOP m0
+d9 d9 => 0 2 FSTPNCE st(1), st(0) m0
+d9 e0 => 0 2 FCHS m0
+d9 e1 => 0 2 FABS m0
+d9 e4 => 0 2 FTST m0
+d9 e5 => 0 2 FXAM m0
+d9 e8 => 0 2 FLD1 m0
+d9 e9 => 0 2 FLDL2T m0
+d9 ea => 0 2 FLDL2E m0
+d9 eb => 0 2 FLDPI m0
+d9 ec => 0 2 FLDLG2 m0
+d9 ed => 0 2 FLDLN2 m0
+d9 ee => 0 2 FLDZ m0
+d9 f0 => 0 2 F2XM1 m0
+d9 f1 => 0 2 FYL2X m0
+d9 f2 => 0 2 FPTAN m0
+d9 f3 => 0 2 FPATAN m0
+d9 f4 => 0 2 FXTRACT m0
+d9 f5 => 0 2 FPREM1 m0
+d9 f6 => 0 2 FDECSTP m0
+d9 f7 => 0 2 FINCSTP m0
+d9 f8 => 0 2 FPREM m0
+d9 f9 => 0 2 FYL2XP1 m0
+d9 fa => 0 2 FSQRT m0
+d9 fb => 0 2 FSINCOS m0
+d9 fc => 0 2 FRNDINT m0
+d9 fd => 0 2 FSCALE m0
+d9 fe => 0 2 FSIN m0
+d9 ff => 0 2 FCOS m0
+da 00 => 0 2 FIADD st(0), [rax] m4
+da 08 => 0 2 FIMUL st(0), [rax] m4
+da 10 => 0 2 FICOM st(0), [rax] m4
+da 18 => 0 2 FICOMP st(0), [rax] m4
+da 20 => 0 2 FISUB st(0), [rax] m4
+da 28 => 0 2 FISUBR st(0), [rax] m4
+da 30 => 0 2 FIDIV st(0), [rax] m4
+48 da 38 => 0 3 FIDIVR st(0), [rax] m4
+da c1 => 0 2 FCMOVB st(0), st(1) m0
+da c9 => 0 2 FCMOVE st(0), st(1) m0
+da d1 => 0 2 FCMOVBE st(0), st(1) m0
+da d9 => 0 2 FCMOVU st(0), st(1) m0
+da e9 => 0 2 FUCOMPP m0
+db 00 => 0 2 FILD st(0), [rax] m4
+db 08 => 0 2 FISTTP [rax], st(0) m4
+db 10 => 0 2 FIST [rax], st(0) m4
+db 18 => 0 2 FISTP [rax], st(0) m4
+db 28 => 0 2 FLD st(0), [rax] m10
+db 38 => 0 2 FSTP [rax], st(0) m10";
 
-pub const PART_1: &[Worked] = &[
-    ("d8 00", "0 2 FADD st(0), [rax] m4\n"),
-    ("d8 08", "0 2 FMUL st(0), [rax] m4\n"),
-    ("d8 10", "0 2 FCOM st(0), [rax] m4\n"),
-    ("d8 18", "0 2 FCOMP st(0), [rax] m4\n"),
-    ("d8 20", "0 2 FSUB st(0), [rax] m4\n"),
-    ("d8 28", "0 2 FSUBR st(0), [rax] m4\n"),
-    ("d8 34 24", "0 3 FDIV st(0), [rsp] m4\n"),
-    ("66 d8 38", "0 3 FDIVR st(0), [rax] m4\n"),
-    ("d8 c1", "0 2 FADD st(0), st(1) m0\n"),
-    ("d8 ca", "0 2 FMUL st(0), st(2) m0\n"),
-    ("d8 d3", "0 2 FCOM st(0), st(3) m0\n"),
-    ("d8 dc", "0 2 FCOMP st(0), st(4) m0\n"),
-    ("d8 e5", "0 2 FSUB st(0), st(5) m0\n"),
-    ("d8 ee", "0 2 FSUBR st(0), st(6) m0\n"),
-    ("d8 f7", "0 2 FDIV st(0), st(7) m0\n"),
-    ("41 d8 f8", "0 3 FDIVR st(0), st(0) m0\n"),
-    ("d9 00", "0 2 FLD st(0), [rax] m4\n"),
-    ("d9 10", "0 2 FST [rax], st(0) m4\n"),
-    ("d9 58 08", "0 3 FSTP [rax+8], st(0) m4\n"),
-    ("d9 20", "0 2 FLDENV [rax] m?\n"),
-    ("d9 28", "0 2 FLDCW [rax] m2\n"),
-    ("d9 30", "0 2 FNSTENV [rax] m?\n"),
-    ("d9 38", "0 2 FNSTCW [rax] m2\n"),
-    ("d9 c1", "0 2 FLD st(0), st(1) m0\n"),
-    ("d9 c9", "0 2 FXCH st(0), st(1) m0\n"),
-    ("d9 d0", "0 2 FNOP m0\n"),
-    ("d9 d9", "0 2 FSTPNCE st(1), st(0) m0\n"),
-    ("d9 e0", "0 2 FCHS m0\n"),
-    ("d9 e1", "0 2 FABS m0\n"),
-    ("d9 e4", "0 2 FTST m0\n"),
-    ("d9 e5", "0 2 FXAM m0\n"),
-    ("d9 e8", "0 2 FLD1 m0\n"),
-    ("d9 e9", "0 2 FLDL2T m0\n"),
-    ("d9 ea", "0 2 FLDL2E m0\n"),
-    ("d9 eb", "0 2 FLDPI m0\n"),
-    ("d9 ec", "0 2 FLDLG2 m0\n"),
-    ("d9 ed", "0 2 FLDLN2 m0\n"),
-    ("d9 ee", "0 2 FLDZ m0\n"),
-    ("d9 f0", "0 2 F2XM1 m0\n"),
-    ("d9 f1", "0 2 FYL2X m0\n"),
-    ("d9 f2", "0 2 FPTAN m0\n"),
-    ("d9 f3", "0 2 FPATAN m0\n"),
-    ("d9 f4", "0 2 FXTRACT m0\n"),
-    ("d9 f5", "0 2 FPREM1 m0\n"),
-    ("d9 f6", "0 2 FDECSTP m0\n"),
-    ("d9 f7", "0 2 FINCSTP m0\n"),
-    ("d9 f8", "0 2 FPREM m0\n"),
-    ("d9 f9", "0 2 FYL2XP1 m0\n"),
-    ("d9 fa", "0 2 FSQRT m0\n"),
-    ("d9 fb", "0 2 FSINCOS m0\n"),
-    ("d9 fc", "0 2 FRNDINT m0\n"),
-    ("d9 fd", "0 2 FSCALE m0\n"),
-    ("d9 fe", "0 2 FSIN m0\n"),
-    ("d9 ff", "0 2 FCOS m0\n"),
-    ("da 00", "0 2 FIADD st(0), [rax] m4\n"),
-    ("da 08", "0 2 FIMUL st(0), [rax] m4\n"),
-    ("da 10", "0 2 FICOM st(0), [rax] m4\n"),
-    ("da 18", "0 2 FICOMP st(0), [rax] m4\n"),
-    ("da 20", "0 2 FISUB st(0), [rax] m4\n"),
-    ("da 28", "0 2 FISUBR st(0), [rax] m4\n"),
-    ("da 30", "0 2 FIDIV st(0), [rax] m4\n"),
-    ("48 da 38", "0 3 FIDIVR st(0), [rax] m4\n"),
-    ("da c1", "0 2 FCMOVB st(0), st(1) m0\n"),
-    ("da c9", "0 2 FCMOVE st(0), st(1) m0\n"),
-    ("da d1", "0 2 FCMOVBE st(0), st(1) m0\n"),
-    ("da d9", "0 2 FCMOVU st(0), st(1) m0\n"),
-    ("da e9", "0 2 FUCOMPP m0\n"),
-    ("db 00", "0 2 FILD st(0), [rax] m4\n"),
-    ("db 08", "0 2 FISTTP [rax], st(0) m4\n"),
-    ("db 10", "0 2 FIST [rax], st(0) m4\n"),
-    ("db 18", "0 2 FISTP [rax], st(0) m4\n"),
-    ("db 28", "0 2 FLD st(0), [rax] m10\n"),
-    ("db 38", "0 2 FSTP [rax], st(0) m10\n"),
-];
-
-pub const PART_2: &[Worked] = &[
-    ("db c1", "0 2 FCMOVNB st(0), st(1) m0\n"),
-    ("db c9", "0 2 FCMOVNE st(0), st(1) m0\n"),
-    ("db d1", "0 2 FCMOVNBE st(0), st(1) m0\n"),
-    ("db d9", "0 2 FCMOVNU st(0), st(1) m0\n"),
-    ("db e0", "0 2 FENI8087_NOP m0\n"),
-    ("db e1", "0 2 FDISI8087_NOP m0\n"),
-    ("db e2", "0 2 FNCLEX m0\n"),
-    ("db e3", "0 2 FNINIT m0\n"),
-    ("db e4", "0 2 FSETPM287_NOP m0\n"),
-    ("db e9", "0 2 FUCOMI st(0), st(1) m0\n"),
-    ("db f1", "0 2 FCOMI st(0), st(1) m0\n"),
-    ("dc 00", "0 2 FADD st(0), [rax] m8\n"),
-    ("dc 08", "0 2 FMUL st(0), [rax] m8\n"),
-    ("dc 10", "0 2 FCOM st(0), [rax] m8\n"),
-    ("dc 18", "0 2 FCOMP st(0), [rax] m8\n"),
-    ("dc 20", "0 2 FSUB st(0), [rax] m8\n"),
-    ("dc 28", "0 2 FSUBR st(0), [rax] m8\n"),
-    ("dc 30", "0 2 FDIV st(0), [rax] m8\n"),
-    ("dc 38", "0 2 FDIVR st(0), [rax] m8\n"),
-    ("dc c1", "0 2 FADD st(1), st(0) m0\n"),
-    ("dc c9", "0 2 FMUL st(1), st(0) m0\n"),
-    ("dc d1", "0 2 FCOM st(0), st(1) m0\n"),
-    ("dc d9", "0 2 FCOMP st(0), st(1) m0\n"),
-    ("dc e1", "0 2 FSUBR st(1), st(0) m0\n"),
-    ("dc e9", "0 2 FSUB st(1), st(0) m0\n"),
-    ("dc f1", "0 2 FDIVR st(1), st(0) m0\n"),
-    ("dc f9", "0 2 FDIV st(1), st(0) m0\n"),
-    ("dd 00", "0 2 FLD st(0), [rax] m8\n"),
-    ("dd 08", "0 2 FISTTP [rax], st(0) m8\n"),
-    ("dd 10", "0 2 FST [rax], st(0) m8\n"),
-    ("dd 18", "0 2 FSTP [rax], st(0) m8\n"),
-    ("dd 20", "0 2 FRSTOR [rax] m?\n"),
-    ("dd 30", "0 2 FNSAVE [rax] m?\n"),
-    ("dd 38", "0 2 FNSTSW [rax] m2\n"),
-    ("dd c1", "0 2 FFREE st(1) m0\n"),
-    ("dd c9", "0 2 FXCH st(0), st(1) m0\n"),
-    ("dd d1", "0 2 FST st(1), st(0) m0\n"),
-    ("dd d9", "0 2 FSTP st(1), st(0) m0\n"),
-    ("dd e1", "0 2 FUCOM st(0), st(1) m0\n"),
-    ("dd e9", "0 2 FUCOMP st(0), st(1) m0\n"),
-    ("de 00", "0 2 FIADD st(0), [rax] m2\n"),
-    ("de 08", "0 2 FIMUL st(0), [rax] m2\n"),
-    ("de 10", "0 2 FICOM st(0), [rax] m2\n"),
-    ("de 18", "0 2 FICOMP st(0), [rax] m2\n"),
-    ("de 20", "0 2 FISUB st(0), [rax] m2\n"),
-    ("de 28", "0 2 FISUBR st(0), [rax] m2\n"),
-    ("de 30", "0 2 FIDIV st(0), [rax] m2\n"),
-    ("de 38", "0 2 FIDIVR st(0), [rax] m2\n"),
-    ("de c1", "0 2 FADDP st(1), st(0) m0\n"),
-    ("de c9", "0 2 FMULP st(1), st(0) m0\n"),
-    ("de d1", "0 2 FCOMP st(0), st(1) m0\n"),
-    ("de d9", "0 2 FCOMPP m0\n"),
-    ("de e1", "0 2 FSUBRP st(1), st(0) m0\n"),
-    ("de e9", "0 2 FSUBP st(1), st(0) m0\n"),
-    ("de f1", "0 2 FDIVRP st(1), st(0) m0\n"),
-    ("de f9", "0 2 FDIVP st(1), st(0) m0\n"),
-    ("df 00", "0 2 FILD st(0), [rax] m2\n"),
-    ("df 08", "0 2 FISTTP [rax], st(0) m2\n"),
-    ("df 10", "0 2 FIST [rax], st(0) m2\n"),
-    ("df 18", "0 2 FISTP [rax], st(0) m2\n"),
-    ("df 20", "0 2 FBLD st(0), [rax] m10\n"),
-    ("df 28", "0 2 FILD st(0), [rax] m8\n"),
-    ("df 30", "0 2 FBSTP [rax], st(0) m10\n"),
-    ("df 38", "0 2 FISTP [rax], st(0) m8\n"),
-    ("df c1", "0 2 FFREEP st(1) m0\n"),
-    ("df c9", "0 2 FXCH st(0), st(1) m0\n"),
-    ("df d1", "0 2 FSTP st(1), st(0) m0\n"),
-    ("df d9", "0 2 FSTP st(1), st(0) m0\n"),
-    ("df e0", "0 2 FNSTSW ax m0\n"),
-    ("41 df e0", "0 3 FNSTSW r8w m0\n"),
-    ("df e9", "0 2 FUCOMIP st(0), st(1) m0\n"),
-    ("df f1", "0 2 FCOMIP st(0), st(1) m0\n"),
-];
+pub const PART_2: &str = "db c1 => 0 2 FCMOVNB st(0), st(1) m0
+db c9 => 0 2 FCMOVNE st(0), st(1) m0
+db d1 => 0 2 FCMOVNBE st(0), st(1) m0
+db d9 => 0 2 FCMOVNU st(0), st(1) m0
+db e0 => 0 2 FENI8087_NOP m0
+db e1 => 0 2 FDISI8087_NOP m0
+db e2 => 0 2 FNCLEX m0
+db e3 => 0 2 FNINIT m0
+db e4 => 0 2 FSETPM287_NOP m0
+db e9 => 0 2 FUCOMI st(0), st(1) m0
+db f1 => 0 2 FCOMI st(0), st(1) m0
+dc 00 => 0 2 FADD st(0), [rax] m8
+dc 08 => 0 2 FMUL st(0), [rax] m8
+dc 10 => 0 2 FCOM st(0), [rax] m8
+dc 18 => 0 2 FCOMP st(0), [rax] m8
+dc 20 => 0 2 FSUB st(0), [rax] m8
+dc 28 => 0 2 FSUBR st(0), [rax] m8
+dc 30 => 0 2 FDIV st(0), [rax] m8
+dc 38 => 0 2 FDIVR st(0), [rax] m8
+dc c1 => 0 2 FADD st(1), st(0) m0
+dc c9 => 0 2 FMUL st(1), st(0) m0
+dc d1 => 0 2 FCOM st(0), st(1) m0
+dc d9 => 0 2 FCOMP st(0), st(1) m0
+dc e1 => 0 2 FSUBR st(1), st(0) m0
+dc e9 => 0 2 FSUB st(1), st(0) m0
+dc f1 => 0 2 FDIVR st(1), st(0) m0
+dc f9 => 0 2 FDIV st(1), st(0) m0
+dd 00 => 0 2 FLD st(0), [rax] m8
+dd 08 => 0 2 FISTTP [rax], st(0) m8
+dd 10 => 0 2 FST [rax], st(0) m8
+dd 18 => 0 2 FSTP [rax], st(0) m8
+dd 20 => 0 2 FRSTOR [rax] m?
+dd 30 => 0 2 FNSAVE [rax] m?
+dd 38 => 0 2 FNSTSW [rax] m2
+dd c1 => 0 2 FFREE st(1) m0
+dd c9 => 0 2 FXCH st(0), st(1) m0
+dd d1 => 0 2 FST st(1), st(0) m0
+dd d9 => 0 2 FSTP st(1), st(0) m0
+dd e1 => 0 2 FUCOM st(0), st(1) m0
+dd e9 => 0 2 FUCOMP st(0), st(1) m0
+de 00 => 0 2 FIADD st(0), [rax] m2
+de 08 => 0 2 FIMUL st(0), [rax] m2
+de 10 => 0 2 FICOM st(0), [rax] m2
+de 18 => 0 2 FICOMP st(0), [rax] m2
+de 20 => 0 2 FISUB st(0), [rax] m2
+de 28 => 0 2 FISUBR st(0), [rax] m2
+de 30 => 0 2 FIDIV st(0), [rax] m2
+de 38 => 0 2 FIDIVR st(0), [rax] m2
+de c1 => 0 2 FADDP st(1), st(0) m0
+de c9 => 0 2 FMULP st(1), st(0) m0
+de d1 => 0 2 FCOMP st(0), st(1) m0
+de d9 => 0 2 FCOMPP m0
+de e1 => 0 2 FSUBRP st(1), st(0) m0
+de e9 => 0 2 FSUBP st(1), st(0) m0
+de f1 => 0 2 FDIVRP st(1), st(0) m0
+de f9 => 0 2 FDIVP st(1), st(0) m0
+df 00 => 0 2 FILD st(0), [rax] m2
+df 08 => 0 2 FISTTP [rax], st(0) m2
+df 10 => 0 2 FIST [rax], st(0) m2
+df 18 => 0 2 FISTP [rax], st(0) m2
+df 20 => 0 2 FBLD st(0), [rax] m10
+df 28 => 0 2 FILD st(0), [rax] m8
+df 30 => 0 2 FBSTP [rax], st(0) m10
+df 38 => 0 2 FISTP [rax], st(0) m8
+df c1 => 0 2 FFREEP st(1) m0
+df c9 => 0 2 FXCH st(0), st(1) m0
+df d1 => 0 2 FSTP st(1), st(0) m0
+df d9 => 0 2 FSTP st(1), st(0) m0
+df e0 => 0 2 FNSTSW ax m0
+41 df e0 => 0 3 FNSTSW r8w m0
+df e9 => 0 2 FUCOMIP st(0), st(1) m0
+df f1 => 0 2 FCOMIP st(0), st(1) m0";
