@@ -1,591 +1,296 @@
-//! Refusals worked by hand from the rows, with the bytes that are taken.
-use crate::answers::Refused;
-use x86_fields::DecodeError;
+//! Refusals worked by hand from the rows: the bytes, how many of them are taken, and why they are refused.
 
-pub const PART_1: &[Refused] = &[
-    (&[0xf0, 0x50], DecodeError::InvalidPrefixes, 2),
-    (&[0xf0, 0x91], DecodeError::InvalidPrefixes, 2),
-    (&[0xf0, 0x90], DecodeError::InvalidPrefixes, 2),
-    (
-        &[0x48, 0xb8, 0x01, 0x02, 0x03, 0x04, 0x05, 0x06, 0x07],
-        DecodeError::ExhaustedInput,
-        2,
-    ),
-    (&[0x66, 0x0f, 0x77], DecodeError::InvalidOpcode, 3),
-    (&[0xf0, 0x9b], DecodeError::InvalidPrefixes, 2),
-    (&[0xe8, 0x00, 0x00, 0x00], DecodeError::ExhaustedInput, 1),
-    (&[0xc8, 0x10, 0x00], DecodeError::ExhaustedInput, 3),
-    (&[0xc8, 0x10], DecodeError::ExhaustedInput, 1),
-    (
-        &[0xf0, 0x05, 0x00, 0x00, 0x00, 0x00],
-        DecodeError::InvalidPrefixes,
-        6,
-    ),
-    (
-        &[0xa0, 0x01, 0x02, 0x03, 0x04, 0x05, 0x06, 0x07],
-        DecodeError::ExhaustedInput,
-        1,
-    ),
-    (&[0xf0, 0x02, 0x03], DecodeError::InvalidPrefixes, 3),
-    (&[0xf0, 0x89, 0x07], DecodeError::InvalidPrefixes, 3),
-    (
-        &[0x8b, 0x84, 0x24, 0x01, 0x02, 0x03],
-        DecodeError::ExhaustedInput,
-        3,
-    ),
-    (&[0x8d, 0xc0], DecodeError::InvalidOperand, 2),
-    (&[0x0f, 0x38, 0xf0, 0xc0], DecodeError::InvalidOperand, 4),
-    (&[0x0f, 0x38, 0xf1, 0xc8], DecodeError::InvalidOperand, 4),
-    (
-        &[0x66, 0x69, 0x05, 0x00, 0x00, 0x00, 0x00, 0xff],
-        DecodeError::ExhaustedInput,
-        7,
-    ),
-    (&[0x8c, 0xf0], DecodeError::InvalidOperand, 2),
-    (&[0x44, 0x8c, 0x45, 0x00], DecodeError::InvalidOperand, 4),
-    (&[0x8c, 0x70], DecodeError::ExhaustedInput, 2),
-    (&[0x8e, 0xc8], DecodeError::InvalidOperand, 2),
-    (
-        &[0x8e, 0xb4, 0x24, 0x00, 0x00, 0x00, 0x00],
-        DecodeError::InvalidOperand,
-        7,
-    ),
-    (&[0x44, 0x8e, 0xc8], DecodeError::InvalidOperand, 3),
-    (&[0x0f, 0xb2, 0xc0], DecodeError::InvalidOperand, 3),
-    (
-        &[0x66, 0x0f, 0x38, 0xf8, 0xc1],
-        DecodeError::InvalidOperand,
-        5,
-    ),
-    (&[0x0f, 0xc3, 0xc1], DecodeError::InvalidOperand, 3),
-    (&[0xf2, 0x0f, 0xf0, 0xc1], DecodeError::InvalidOperand, 4),
-    (&[0x66, 0x0f, 0x17, 0xc1], DecodeError::InvalidOperand, 4),
-    (&[0x66, 0x0f, 0x12, 0xc1], DecodeError::InvalidOperand, 4),
-    (&[0x66, 0x0f, 0x16, 0xc1], DecodeError::InvalidOperand, 4),
-    (&[0x0f, 0x50, 0x45, 0x00], DecodeError::InvalidOperand, 4),
-    (&[0xf2, 0x0f, 0x79, 0x01], DecodeError::InvalidOperand, 4),
-    (
-        &[0x66, 0x0f, 0xf7, 0x04, 0x25, 0x00, 0x00, 0x00, 0x00],
-        DecodeError::InvalidOperand,
-        9,
-    ),
-    (&[0x66, 0x0f, 0xc5, 0x01], DecodeError::InvalidOperand, 4),
-    (&[0xf3, 0x0f, 0xd6, 0x01], DecodeError::InvalidOperand, 4),
-    (
-        &[0xf2, 0x0f, 0xd6, 0x41, 0x00],
-        DecodeError::InvalidOperand,
-        5,
-    ),
-    (&[0x0f, 0xd7, 0x01], DecodeError::InvalidOperand, 3),
-    (&[0x0f, 0xe7, 0xc1], DecodeError::InvalidOperand, 3),
-    (&[0x0f, 0xf7, 0x01], DecodeError::InvalidOperand, 3),
-    (&[0x0f, 0xc5, 0x01, 0xff], DecodeError::InvalidOperand, 4),
-    (
-        &[0x0f, 0xc5, 0x04, 0x25, 0x00, 0x00, 0x00, 0x00, 0x00],
-        DecodeError::InvalidOperand,
-        9,
-    ),
-    (
-        &[0x0f, 0xc5, 0x04, 0x25, 0x00, 0x00, 0x00, 0x00],
-        DecodeError::ExhaustedInput,
-        8,
-    ),
-    (&[0xf0, 0x80, 0x3e, 0x01], DecodeError::InvalidPrefixes, 4),
-    (&[0xf0, 0x80, 0xc0, 0x01], DecodeError::InvalidPrefixes, 4),
-    (
-        &[0x80, 0x3d, 0x00, 0x00, 0x00, 0x00],
-        DecodeError::ExhaustedInput,
-        6,
-    ),
-    (
-        &[0x81, 0x6d, 0xfc, 0x00, 0x00, 0x00],
-        DecodeError::ExhaustedInput,
-        3,
-    ),
-    (&[0x8f, 0xc8], DecodeError::IncompleteDecoder, 2),
-    (&[0x8f, 0xf9], DecodeError::IncompleteDecoder, 2),
-    (&[0x8f, 0x48, 0x00], DecodeError::IncompleteDecoder, 3),
-    (
-        &[0x8f, 0xb4, 0x24, 0x00, 0x00, 0x00, 0x00],
-        DecodeError::IncompleteDecoder,
-        7,
-    ),
-    (
-        &[0x8f, 0xb4, 0x24, 0x00, 0x00, 0x00],
-        DecodeError::ExhaustedInput,
-        3,
-    ),
-    (&[0xc6, 0xf9], DecodeError::InvalidOperand, 2),
-    (&[0xc6, 0x48, 0x10], DecodeError::InvalidOperand, 3),
-    (&[0xc6, 0x0c, 0x24], DecodeError::InvalidOperand, 3),
-    (&[0xc6, 0xf8], DecodeError::ExhaustedInput, 2),
-    (&[0xc7, 0xf9], DecodeError::InvalidOperand, 2),
-    (&[0xc7, 0x7d, 0x00], DecodeError::InvalidOperand, 3),
-    (&[0xf0, 0xf7, 0x20], DecodeError::InvalidPrefixes, 3),
-    (&[0xf0, 0xf7, 0xd0], DecodeError::InvalidPrefixes, 3),
-    (&[0xfe, 0xd0], DecodeError::InvalidOpcode, 2),
-    (&[0xfe, 0x18], DecodeError::InvalidOpcode, 2),
-    (&[0xfe, 0x60, 0x01], DecodeError::InvalidOpcode, 3),
-    (
-        &[0xfe, 0xac, 0x24, 0x01, 0x00, 0x00, 0x00],
-        DecodeError::InvalidOpcode,
-        7,
-    ),
-    (
-        &[0xfe, 0x35, 0x00, 0x00, 0x00, 0x00],
-        DecodeError::InvalidOpcode,
-        6,
-    ),
-    (&[0xfe, 0xf8], DecodeError::InvalidOpcode, 2),
-    (&[0xf0, 0xfe, 0xc0], DecodeError::InvalidPrefixes, 3),
-    (&[0xff, 0xd8], DecodeError::InvalidOperand, 2),
-    (&[0xff, 0xe8], DecodeError::InvalidOperand, 2),
-    (&[0xff, 0xf8], DecodeError::InvalidOpcode, 2),
-    (&[0xff, 0x78, 0x00], DecodeError::InvalidOpcode, 3),
-    (&[0x0f, 0x00, 0xf0], DecodeError::InvalidOperand, 3),
-    (&[0x0f, 0x00, 0x7d], DecodeError::InvalidOperand, 3),
-    (
-        &[0x0f, 0x00, 0xb4, 0x24, 0x00, 0x00, 0x00, 0x00],
-        DecodeError::InvalidOperand,
-        3,
-    ),
-    (&[0x0f, 0x01, 0x28], DecodeError::InvalidOpcode, 3),
-    (
-        &[0x66, 0x0f, 0x01, 0x6c, 0x24, 0x08],
-        DecodeError::InvalidOpcode,
-        4,
-    ),
-    (&[0xf2, 0x0f, 0x01, 0x28], DecodeError::InvalidOpcode, 4),
-    (&[0x0f, 0x01, 0xc6], DecodeError::InvalidOpcode, 3),
-    (&[0x0f, 0x01, 0xc7], DecodeError::InvalidOpcode, 3),
-    (&[0x66, 0x0f, 0x01, 0xc1], DecodeError::InvalidOperand, 4),
-    (&[0xf3, 0x0f, 0x01, 0xc7], DecodeError::InvalidOperand, 4),
-    (&[0xf2, 0x0f, 0x01, 0xc0], DecodeError::InvalidOperand, 4),
-    (&[0x0f, 0x01, 0xcc], DecodeError::InvalidOpcode, 3),
-    (&[0x66, 0x0f, 0x01, 0xc8], DecodeError::InvalidOpcode, 4),
-    (
-        &[0xf3, 0x66, 0x0f, 0x01, 0xcc],
-        DecodeError::InvalidOpcode,
-        5,
-    ),
-    (&[0xf2, 0x0f, 0x01, 0xc8], DecodeError::InvalidOpcode, 4),
-    (&[0x0f, 0x01, 0xd2], DecodeError::InvalidOpcode, 3),
-    (&[0x0f, 0x01, 0xd3], DecodeError::InvalidOpcode, 3),
-    (&[0x66, 0x0f, 0x01, 0xd2], DecodeError::InvalidOperand, 4),
-    (&[0xf3, 0x0f, 0x01, 0xd0], DecodeError::InvalidOperand, 4),
-    (&[0xf2, 0x0f, 0x01, 0xd6], DecodeError::InvalidOperand, 4),
-    (&[0x0f, 0x01, 0xe8], DecodeError::InvalidOpcode, 3),
-    (&[0xf3, 0x0f, 0x01, 0xe9], DecodeError::InvalidOpcode, 4),
-    (&[0x66, 0x0f, 0x01, 0xee], DecodeError::InvalidOpcode, 4),
-    (&[0xf2, 0x0f, 0x01, 0xee], DecodeError::InvalidOpcode, 4),
-    (&[0xf3, 0x0f, 0x01, 0xeb], DecodeError::InvalidOpcode, 4),
-    (&[0xf2, 0x0f, 0x01, 0xea], DecodeError::InvalidOpcode, 4),
-    (&[0x66, 0x0f, 0x01, 0xef], DecodeError::InvalidOpcode, 4),
-    (&[0x66, 0x0f, 0x01, 0xfe], DecodeError::InvalidOperand, 4),
-    (
-        &[0x66, 0xf3, 0x0f, 0x01, 0xff],
-        DecodeError::InvalidOperand,
-        5,
-    ),
-];
+pub const PART_1: &str = "f050 => 2 invalid prefixes
+f091 => 2 invalid prefixes
+f090 => 2 invalid prefixes
+48b801020304050607 => 2 exhausted input
+660f77 => 3 invalid opcode
+f09b => 2 invalid prefixes
+e8000000 => 1 exhausted input
+c81000 => 3 exhausted input
+c810 => 1 exhausted input
+f00500000000 => 6 invalid prefixes
+a001020304050607 => 1 exhausted input
+f00203 => 3 invalid prefixes
+f08907 => 3 invalid prefixes
+8b8424010203 => 3 exhausted input
+8dc0 => 2 invalid operand
+0f38f0c0 => 4 invalid operand
+0f38f1c8 => 4 invalid operand
+66690500000000ff => 7 exhausted input
+8cf0 => 2 invalid operand
+448c4500 => 4 invalid operand
+8c70 => 2 exhausted input
+8ec8 => 2 invalid operand
+8eb42400000000 => 7 invalid operand
+448ec8 => 3 invalid operand
+0fb2c0 => 3 invalid operand
+660f38f8c1 => 5 invalid operand
+0fc3c1 => 3 invalid operand
+f20ff0c1 => 4 invalid operand
+660f17c1 => 4 invalid operand
+660f12c1 => 4 invalid operand
+660f16c1 => 4 invalid operand
+0f504500 => 4 invalid operand
+f20f7901 => 4 invalid operand
+660ff7042500000000 => 9 invalid operand
+660fc501 => 4 invalid operand
+f30fd601 => 4 invalid operand
+f20fd64100 => 5 invalid operand
+0fd701 => 3 invalid operand
+0fe7c1 => 3 invalid operand
+0ff701 => 3 invalid operand
+0fc501ff => 4 invalid operand
+0fc504250000000000 => 9 invalid operand
+0fc5042500000000 => 8 exhausted input
+f0803e01 => 4 invalid prefixes
+f080c001 => 4 invalid prefixes
+803d00000000 => 6 exhausted input
+816dfc000000 => 3 exhausted input
+8fc8 => 2 the decoder is incomplete
+8ff9 => 2 the decoder is incomplete
+8f4800 => 3 the decoder is incomplete
+8fb42400000000 => 7 the decoder is incomplete
+8fb424000000 => 3 exhausted input
+c6f9 => 2 invalid operand
+c64810 => 3 invalid operand
+c60c24 => 3 invalid operand
+c6f8 => 2 exhausted input
+c7f9 => 2 invalid operand
+c77d00 => 3 invalid operand
+f0f720 => 3 invalid prefixes
+f0f7d0 => 3 invalid prefixes
+fed0 => 2 invalid opcode
+fe18 => 2 invalid opcode
+fe6001 => 3 invalid opcode
+feac2401000000 => 7 invalid opcode
+fe3500000000 => 6 invalid opcode
+fef8 => 2 invalid opcode
+f0fec0 => 3 invalid prefixes
+ffd8 => 2 invalid operand
+ffe8 => 2 invalid operand
+fff8 => 2 invalid opcode
+ff7800 => 3 invalid opcode
+0f00f0 => 3 invalid operand
+0f007d => 3 invalid operand
+0f00b42400000000 => 3 invalid operand
+0f0128 => 3 invalid opcode
+660f016c2408 => 4 invalid opcode
+f20f0128 => 4 invalid opcode
+0f01c6 => 3 invalid opcode
+0f01c7 => 3 invalid opcode
+660f01c1 => 4 invalid operand
+f30f01c7 => 4 invalid operand
+f20f01c0 => 4 invalid operand
+0f01cc => 3 invalid opcode
+660f01c8 => 4 invalid opcode
+f3660f01cc => 5 invalid opcode
+f20f01c8 => 4 invalid opcode
+0f01d2 => 3 invalid opcode
+0f01d3 => 3 invalid opcode
+660f01d2 => 4 invalid operand
+f30f01d0 => 4 invalid operand
+f20f01d6 => 4 invalid operand
+0f01e8 => 3 invalid opcode
+f30f01e9 => 4 invalid opcode
+660f01ee => 4 invalid opcode
+f20f01ee => 4 invalid opcode
+f30f01eb => 4 invalid opcode
+f20f01ea => 4 invalid opcode
+660f01ef => 4 invalid opcode
+660f01fe => 4 invalid operand
+66f30f01ff => 5 invalid operand";
 
-pub const PART_2: &[Refused] = &[
-    (
-        &[0xf2, 0x66, 0x0f, 0x01, 0xfe],
-        DecodeError::InvalidOperand,
-        5,
-    ),
-    (&[0x0f, 0x0d, 0xc8], DecodeError::InvalidOperand, 3),
-    (&[0x0f, 0x0f, 0xc1, 0x00], DecodeError::InvalidOpcode, 4),
-    (&[0x0f, 0x0f, 0xc1, 0x0e], DecodeError::InvalidOpcode, 4),
-    (
-        &[0x0f, 0x0f, 0x44, 0x24, 0x01, 0xff],
-        DecodeError::InvalidOpcode,
-        6,
-    ),
-    (
-        &[0x0f, 0x0f, 0x44, 0x24, 0x01],
-        DecodeError::ExhaustedInput,
-        5,
-    ),
-    (
-        &[0xf0, 0x0f, 0x0f, 0x01, 0x9e],
-        DecodeError::InvalidPrefixes,
-        5,
-    ),
-    (&[0x0f, 0x71, 0xc0], DecodeError::InvalidOpcode, 3),
-    (&[0x66, 0x0f, 0x71, 0xf8], DecodeError::InvalidOpcode, 4),
-    (&[0x0f, 0x71, 0x10], DecodeError::InvalidOperand, 3),
-    (&[0x0f, 0x71, 0x00], DecodeError::InvalidOperand, 3),
-    (&[0x0f, 0x71, 0x50, 0x08], DecodeError::InvalidOperand, 4),
-    (&[0xf3, 0x0f, 0x71, 0xd1], DecodeError::InvalidOperand, 4),
-    (&[0xf2, 0x0f, 0x71, 0xc0], DecodeError::InvalidOperand, 4),
-    (
-        &[0xf3, 0x66, 0x0f, 0x71, 0xd1],
-        DecodeError::InvalidOperand,
-        5,
-    ),
-    (&[0x0f, 0x72, 0xd8], DecodeError::InvalidOpcode, 3),
-    (&[0x0f, 0x72, 0x14, 0x24], DecodeError::InvalidOperand, 4),
-    (&[0x0f, 0x73, 0xd9], DecodeError::InvalidOperand, 3),
-    (&[0x0f, 0x73, 0xf9], DecodeError::InvalidOperand, 3),
-    (&[0x0f, 0x73, 0xe1], DecodeError::InvalidOpcode, 3),
-    (&[0xf2, 0x0f, 0x73, 0xd1], DecodeError::InvalidOperand, 4),
-    (&[0x66, 0x0f, 0xae, 0xe8], DecodeError::InvalidOpcode, 4),
-    (&[0x66, 0x0f, 0xae, 0x00], DecodeError::InvalidOpcode, 4),
-    (&[0x66, 0x0f, 0xae, 0xf8], DecodeError::InvalidOpcode, 4),
-    (
-        &[0x66, 0x0f, 0xae, 0x64, 0x24, 0x08],
-        DecodeError::InvalidOpcode,
-        4,
-    ),
-    (&[0xf2, 0x0f, 0xae, 0xe8], DecodeError::InvalidOpcode, 4),
-    (&[0xf2, 0x0f, 0xae, 0x30], DecodeError::InvalidOperand, 4),
-    (
-        &[0xf2, 0x0f, 0xae, 0x74, 0x24, 0x08],
-        DecodeError::InvalidOperand,
-        4,
-    ),
-    (
-        &[0xf3, 0x66, 0x0f, 0xae, 0x20],
-        DecodeError::InvalidOpcode,
-        5,
-    ),
-    (
-        &[0xf3, 0x66, 0x0f, 0xae, 0xe1],
-        DecodeError::InvalidOpcode,
-        5,
-    ),
-    (&[0xf3, 0x0f, 0xae, 0xf8], DecodeError::InvalidOpcode, 4),
-    (&[0xf3, 0x0f, 0xae, 0x28], DecodeError::InvalidOperand, 4),
-    (&[0xf3, 0x0f, 0xae, 0x00], DecodeError::InvalidOperand, 4),
-    (&[0x0f, 0xae, 0xc0], DecodeError::InvalidOpcode, 3),
-    (&[0x0f, 0xae, 0xe7], DecodeError::InvalidOpcode, 3),
-    (&[0x0f, 0xba, 0xc0], DecodeError::InvalidOpcode, 3),
-    (&[0x0f, 0xba, 0x58], DecodeError::InvalidOpcode, 3),
-    (
-        &[0xf0, 0x0f, 0xba, 0x20, 0x01],
-        DecodeError::InvalidPrefixes,
-        5,
-    ),
-    (
-        &[0xf0, 0x0f, 0xba, 0xe8, 0x01],
-        DecodeError::InvalidPrefixes,
-        5,
-    ),
-    (&[0x0f, 0xc7, 0xc8], DecodeError::InvalidOperand, 3),
-    (
-        &[0xf2, 0x66, 0x0f, 0xc7, 0xc9],
-        DecodeError::InvalidOperand,
-        5,
-    ),
-    (&[0xf2, 0x0f, 0xc7, 0x30], DecodeError::InvalidOperand, 4),
-    (
-        &[0xf2, 0x66, 0x0f, 0xc7, 0xf0],
-        DecodeError::InvalidOperand,
-        5,
-    ),
-    (&[0x66, 0x0f, 0xc7, 0x38], DecodeError::InvalidOpcode, 4),
-    (
-        &[0x66, 0x0f, 0xc7, 0x78, 0x00],
-        DecodeError::InvalidOpcode,
-        5,
-    ),
-    (
-        &[0x66, 0x0f, 0xc7, 0x58, 0x00],
-        DecodeError::InvalidOpcode,
-        4,
-    ),
-    (&[0x66, 0x0f, 0xc7, 0xe0], DecodeError::InvalidOpcode, 4),
-    (
-        &[0xf3, 0x0f, 0xc7, 0x7c, 0x24, 0x08],
-        DecodeError::InvalidOperand,
-        6,
-    ),
-    (&[0xf3, 0x0f, 0xc7, 0x18], DecodeError::InvalidOpcode, 4),
-    (&[0xf3, 0x0f, 0xc7, 0xd8], DecodeError::InvalidOpcode, 4),
-    (&[0x0f, 0xc7, 0xd8], DecodeError::InvalidOperand, 3),
-    (&[0x48, 0x0f, 0xc7, 0xe0], DecodeError::InvalidOperand, 4),
-    (&[0x0f, 0xc7, 0xe8], DecodeError::InvalidOperand, 3),
-    (&[0x0f, 0xc7, 0xc0], DecodeError::InvalidOperand, 3),
-    (
-        &[0x0f, 0xc7, 0x44, 0x24, 0x08],
-        DecodeError::InvalidOperand,
-        3,
-    ),
-    (&[0x0f, 0xc7, 0x10], DecodeError::InvalidOperand, 3),
-    (&[0x66, 0x0f, 0x78, 0xc8], DecodeError::InvalidOperand, 4),
-    (&[0x66, 0x0f, 0x78, 0x40], DecodeError::InvalidOperand, 4),
-    (
-        &[0x66, 0x0f, 0x78, 0xc1, 0x02],
-        DecodeError::ExhaustedInput,
-        5,
-    ),
-    (&[0xf2, 0x0f, 0x78, 0x40], DecodeError::InvalidOperand, 4),
-    (&[0xf3, 0x0f, 0x78, 0xc1], DecodeError::InvalidOpcode, 3),
-    (
-        &[0xf3, 0x0f, 0x38, 0xd8, 0x20],
-        DecodeError::InvalidOpcode,
-        5,
-    ),
-    (
-        &[0xf3, 0x0f, 0x38, 0xd8, 0x68, 0x00],
-        DecodeError::InvalidOpcode,
-        6,
-    ),
-    (
-        &[0xf3, 0x0f, 0x38, 0xd8, 0x34, 0x24],
-        DecodeError::InvalidOpcode,
-        6,
-    ),
-    (
-        &[0xf3, 0x0f, 0x38, 0xd8, 0x3d, 0x00, 0x00, 0x00, 0x00],
-        DecodeError::InvalidOpcode,
-        9,
-    ),
-    (
-        &[0xf3, 0x0f, 0x38, 0xd8, 0xc0],
-        DecodeError::InvalidOperand,
-        5,
-    ),
-    (
-        &[0xf3, 0x0f, 0x38, 0xdd, 0xc1],
-        DecodeError::InvalidOperand,
-        5,
-    ),
-    (
-        &[0xf3, 0x0f, 0x38, 0xde, 0xc1],
-        DecodeError::InvalidOperand,
-        5,
-    ),
-    (
-        &[0xf3, 0x0f, 0x38, 0xdf, 0xc1],
-        DecodeError::InvalidOperand,
-        5,
-    ),
-    (
-        &[0xf3, 0x0f, 0x38, 0xfa, 0x01],
-        DecodeError::InvalidOpcode,
-        5,
-    ),
-    (
-        &[0xf3, 0x0f, 0x38, 0xfb, 0x41, 0x10],
-        DecodeError::InvalidOpcode,
-        6,
-    ),
-    (
-        &[0xf3, 0x66, 0x0f, 0x3a, 0xf0],
-        DecodeError::InvalidOpcode,
-        5,
-    ),
-    (
-        &[0x67, 0xf3, 0x0f, 0x3a, 0xf0, 0xc0, 0x05],
-        DecodeError::InvalidOpcode,
-        5,
-    ),
-    (
-        &[0xf0, 0xf3, 0x0f, 0x3a, 0xf0],
-        DecodeError::InvalidOpcode,
-        5,
-    ),
-    (
-        &[0xf3, 0x64, 0x0f, 0x3a, 0xf0],
-        DecodeError::InvalidOpcode,
-        5,
-    ),
-    (
-        &[0x65, 0xf3, 0x0f, 0x3a, 0xf0],
-        DecodeError::InvalidOpcode,
-        5,
-    ),
-    (
-        &[0xf3, 0x40, 0x0f, 0x3a, 0xf0],
-        DecodeError::InvalidOpcode,
-        5,
-    ),
-    (
-        &[0xf3, 0x0f, 0x3a, 0xf0, 0x00],
-        DecodeError::InvalidOpcode,
-        5,
-    ),
-    (
-        &[0xf3, 0x0f, 0x3a, 0xf0, 0x84, 0x24],
-        DecodeError::InvalidOpcode,
-        5,
-    ),
-    (&[0x44, 0x0f, 0x20, 0xc8], DecodeError::InvalidOperand, 4),
-    (&[0x44, 0x0f, 0x20, 0xd0], DecodeError::InvalidOperand, 4),
-    (&[0x0f, 0x20, 0x68, 0x00], DecodeError::InvalidOperand, 3),
-    (&[0x0f, 0x22, 0xc8], DecodeError::InvalidOperand, 3),
-    (&[0x0f, 0x22, 0xf8], DecodeError::InvalidOperand, 3),
-    (&[0x44, 0x0f, 0x21, 0xc0], DecodeError::InvalidOperand, 4),
-    (&[0x44, 0x0f, 0x23, 0xf8], DecodeError::InvalidOperand, 4),
-    (&[0xd9, 0x08], DecodeError::InvalidOpcode, 2),
-    (&[0xd9, 0x48, 0x00], DecodeError::InvalidOpcode, 2),
-    (&[0xf0, 0xd9, 0x10], DecodeError::InvalidPrefixes, 3),
-    (&[0xd9, 0xd1], DecodeError::InvalidOpcode, 2),
-    (&[0xd9, 0xe2], DecodeError::InvalidOpcode, 2),
-    (&[0xd9, 0xe3], DecodeError::InvalidOpcode, 2),
-    (&[0xd9, 0xe6], DecodeError::InvalidOpcode, 2),
-    (&[0xd9, 0xe7], DecodeError::InvalidOpcode, 2),
-    (&[0xd9, 0xef], DecodeError::InvalidOpcode, 2),
-    (&[0xda, 0xe8], DecodeError::InvalidOpcode, 2),
-    (&[0xda, 0xe0], DecodeError::InvalidOpcode, 2),
-    (&[0xda, 0xf0], DecodeError::InvalidOpcode, 2),
-    (&[0xda, 0xf8], DecodeError::InvalidOpcode, 2),
-    (&[0xdb, 0x20], DecodeError::InvalidOpcode, 2),
-];
+pub const PART_2: &str = "f2660f01fe => 5 invalid operand
+0f0dc8 => 3 invalid operand
+0f0fc100 => 4 invalid opcode
+0f0fc10e => 4 invalid opcode
+0f0f442401ff => 6 invalid opcode
+0f0f442401 => 5 exhausted input
+f00f0f019e => 5 invalid prefixes
+0f71c0 => 3 invalid opcode
+660f71f8 => 4 invalid opcode
+0f7110 => 3 invalid operand
+0f7100 => 3 invalid operand
+0f715008 => 4 invalid operand
+f30f71d1 => 4 invalid operand
+f20f71c0 => 4 invalid operand
+f3660f71d1 => 5 invalid operand
+0f72d8 => 3 invalid opcode
+0f721424 => 4 invalid operand
+0f73d9 => 3 invalid operand
+0f73f9 => 3 invalid operand
+0f73e1 => 3 invalid opcode
+f20f73d1 => 4 invalid operand
+660faee8 => 4 invalid opcode
+660fae00 => 4 invalid opcode
+660faef8 => 4 invalid opcode
+660fae642408 => 4 invalid opcode
+f20faee8 => 4 invalid opcode
+f20fae30 => 4 invalid operand
+f20fae742408 => 4 invalid operand
+f3660fae20 => 5 invalid opcode
+f3660faee1 => 5 invalid opcode
+f30faef8 => 4 invalid opcode
+f30fae28 => 4 invalid operand
+f30fae00 => 4 invalid operand
+0faec0 => 3 invalid opcode
+0faee7 => 3 invalid opcode
+0fbac0 => 3 invalid opcode
+0fba58 => 3 invalid opcode
+f00fba2001 => 5 invalid prefixes
+f00fbae801 => 5 invalid prefixes
+0fc7c8 => 3 invalid operand
+f2660fc7c9 => 5 invalid operand
+f20fc730 => 4 invalid operand
+f2660fc7f0 => 5 invalid operand
+660fc738 => 4 invalid opcode
+660fc77800 => 5 invalid opcode
+660fc75800 => 4 invalid opcode
+660fc7e0 => 4 invalid opcode
+f30fc77c2408 => 6 invalid operand
+f30fc718 => 4 invalid opcode
+f30fc7d8 => 4 invalid opcode
+0fc7d8 => 3 invalid operand
+480fc7e0 => 4 invalid operand
+0fc7e8 => 3 invalid operand
+0fc7c0 => 3 invalid operand
+0fc7442408 => 3 invalid operand
+0fc710 => 3 invalid operand
+660f78c8 => 4 invalid operand
+660f7840 => 4 invalid operand
+660f78c102 => 5 exhausted input
+f20f7840 => 4 invalid operand
+f30f78c1 => 3 invalid opcode
+f30f38d820 => 5 invalid opcode
+f30f38d86800 => 6 invalid opcode
+f30f38d83424 => 6 invalid opcode
+f30f38d83d00000000 => 9 invalid opcode
+f30f38d8c0 => 5 invalid operand
+f30f38ddc1 => 5 invalid operand
+f30f38dec1 => 5 invalid operand
+f30f38dfc1 => 5 invalid operand
+f30f38fa01 => 5 invalid opcode
+f30f38fb4110 => 6 invalid opcode
+f3660f3af0 => 5 invalid opcode
+67f30f3af0c005 => 5 invalid opcode
+f0f30f3af0 => 5 invalid opcode
+f3640f3af0 => 5 invalid opcode
+65f30f3af0 => 5 invalid opcode
+f3400f3af0 => 5 invalid opcode
+f30f3af000 => 5 invalid opcode
+f30f3af08424 => 5 invalid opcode
+440f20c8 => 4 invalid operand
+440f20d0 => 4 invalid operand
+0f206800 => 3 invalid operand
+0f22c8 => 3 invalid operand
+0f22f8 => 3 invalid operand
+440f21c0 => 4 invalid operand
+440f23f8 => 4 invalid operand
+d908 => 2 invalid opcode
+d94800 => 2 invalid opcode
+f0d910 => 3 invalid prefixes
+d9d1 => 2 invalid opcode
+d9e2 => 2 invalid opcode
+d9e3 => 2 invalid opcode
+d9e6 => 2 invalid opcode
+d9e7 => 2 invalid opcode
+d9ef => 2 invalid opcode
+dae8 => 2 invalid opcode
+dae0 => 2 invalid opcode
+daf0 => 2 invalid opcode
+daf8 => 2 invalid opcode
+db20 => 2 invalid opcode";
 
-pub const PART_3: &[Refused] = &[
-    (&[0xdb, 0x30], DecodeError::InvalidOpcode, 2),
-    (&[0xdb, 0xe5], DecodeError::InvalidOpcode, 2),
-    (&[0xdb, 0xf8], DecodeError::InvalidOpcode, 2),
-    (&[0xdd, 0x28], DecodeError::InvalidOpcode, 2),
-    (&[0xdd, 0xf0], DecodeError::InvalidOpcode, 2),
-    (&[0xdd, 0xf8], DecodeError::InvalidOpcode, 2),
-    (&[0xde, 0xd8], DecodeError::InvalidOperand, 2),
-    (&[0xde, 0xdf], DecodeError::InvalidOperand, 2),
-    (&[0xdf, 0xe1], DecodeError::InvalidOpcode, 2),
-    (&[0xdf, 0xf8], DecodeError::InvalidOpcode, 2),
-    (&[0x8f, 0x10], DecodeError::IncompleteDecoder, 2),
-    (&[0x8f, 0x18], DecodeError::IncompleteDecoder, 2),
-    (&[0x8f, 0x20], DecodeError::IncompleteDecoder, 2),
-    (&[0x8f, 0x28], DecodeError::IncompleteDecoder, 2),
-    (
-        &[0x8f, 0x3d, 0x00, 0x00, 0x00, 0x00],
-        DecodeError::IncompleteDecoder,
-        6,
-    ),
-    (&[0x8f, 0xd0], DecodeError::IncompleteDecoder, 2),
-    (&[0x8f, 0xd8], DecodeError::IncompleteDecoder, 2),
-    (&[0x8f, 0xe0], DecodeError::IncompleteDecoder, 2),
-    (&[0x8f, 0xe8], DecodeError::IncompleteDecoder, 2),
-    (&[0x8f, 0xf0], DecodeError::IncompleteDecoder, 2),
-    (&[0xf0, 0x8f, 0x00], DecodeError::InvalidPrefixes, 3),
-    (&[0xc6, 0x10], DecodeError::InvalidOperand, 2),
-    (&[0xc6, 0x18], DecodeError::InvalidOperand, 2),
-    (&[0xc6, 0x20], DecodeError::InvalidOperand, 2),
-    (&[0xc6, 0x28], DecodeError::InvalidOperand, 2),
-    (&[0xc6, 0x30], DecodeError::InvalidOperand, 2),
-    (&[0xc6, 0x38], DecodeError::InvalidOperand, 2),
-    (&[0xc6, 0xe5], DecodeError::InvalidOperand, 2),
-    (&[0xc7, 0x08], DecodeError::InvalidOperand, 2),
-    (&[0xc7, 0x10], DecodeError::InvalidOperand, 2),
-    (&[0xc7, 0x18], DecodeError::InvalidOperand, 2),
-    (&[0xc7, 0x20], DecodeError::InvalidOperand, 2),
-    (&[0xc7, 0x28], DecodeError::InvalidOperand, 2),
-    (
-        &[0xc7, 0xb4, 0x24, 0x00, 0x00, 0x00, 0x00],
-        DecodeError::InvalidOperand,
-        7,
-    ),
-    (&[0xfe, 0x10], DecodeError::InvalidOpcode, 2),
-    (&[0xfe, 0x38], DecodeError::InvalidOpcode, 2),
-    (&[0xfe, 0xd8], DecodeError::InvalidOpcode, 2),
-    (&[0xfe, 0xe0], DecodeError::InvalidOpcode, 2),
-    (&[0xfe, 0xe8], DecodeError::InvalidOpcode, 2),
-    (&[0xfe, 0xf0], DecodeError::InvalidOpcode, 2),
-    (&[0x0f, 0x00, 0xf8], DecodeError::InvalidOperand, 3),
-    (&[0x0f, 0x0d, 0xc0], DecodeError::InvalidOperand, 3),
-    (&[0x0f, 0x0d, 0xf8], DecodeError::InvalidOperand, 3),
-    (&[0x0f, 0x71, 0xc8], DecodeError::InvalidOpcode, 3),
-    (&[0x0f, 0x71, 0xd8], DecodeError::InvalidOpcode, 3),
-    (&[0x0f, 0x71, 0xe8], DecodeError::InvalidOpcode, 3),
-    (&[0x0f, 0x71, 0x20], DecodeError::InvalidOperand, 3),
-    (&[0x66, 0x0f, 0x71, 0x30], DecodeError::InvalidOperand, 4),
-    (&[0x0f, 0x72, 0xc0], DecodeError::InvalidOpcode, 3),
-    (&[0x0f, 0x72, 0xc8], DecodeError::InvalidOpcode, 3),
-    (&[0x0f, 0x72, 0xe8], DecodeError::InvalidOpcode, 3),
-    (&[0x66, 0x0f, 0x72, 0xf8], DecodeError::InvalidOpcode, 4),
-    (&[0x0f, 0x72, 0x00], DecodeError::InvalidOperand, 3),
-    (&[0xf3, 0x0f, 0x72, 0xd1], DecodeError::InvalidOperand, 4),
-    (&[0x0f, 0x73, 0xc0], DecodeError::InvalidOpcode, 3),
-    (&[0x0f, 0x73, 0xc8], DecodeError::InvalidOpcode, 3),
-    (&[0x66, 0x0f, 0x73, 0xe8], DecodeError::InvalidOpcode, 4),
-    (&[0x0f, 0x73, 0x10], DecodeError::InvalidOperand, 3),
-    (
-        &[0x66, 0x0f, 0x73, 0x3d, 0x00, 0x00, 0x00, 0x00],
-        DecodeError::InvalidOperand,
-        8,
-    ),
-    (
-        &[0x66, 0xf3, 0x0f, 0x73, 0xf9],
-        DecodeError::InvalidOperand,
-        5,
-    ),
-    (&[0x0f, 0xba, 0x00], DecodeError::InvalidOpcode, 3),
-    (&[0x0f, 0xba, 0x08], DecodeError::InvalidOpcode, 3),
-    (&[0x0f, 0xba, 0x10], DecodeError::InvalidOpcode, 3),
-    (&[0x0f, 0xba, 0xc8], DecodeError::InvalidOpcode, 3),
-    (&[0x0f, 0xba, 0xd0], DecodeError::InvalidOpcode, 3),
-    (&[0x0f, 0xba, 0xd8], DecodeError::InvalidOpcode, 3),
-    (&[0x0f, 0xc7, 0xd0], DecodeError::InvalidOperand, 3),
-    (&[0x0f, 0xc7, 0x00], DecodeError::InvalidOperand, 3),
-    (&[0x66, 0x0f, 0x78, 0x08], DecodeError::InvalidOperand, 4),
-    (&[0x66, 0x0f, 0x78, 0xd0], DecodeError::InvalidOperand, 4),
-    (&[0x66, 0x0f, 0x78, 0xf8], DecodeError::InvalidOperand, 4),
-    (
-        &[0xf3, 0x0f, 0x38, 0xd8, 0xc8],
-        DecodeError::InvalidOperand,
-        5,
-    ),
-    (
-        &[0xf3, 0x0f, 0x38, 0xd8, 0xf8],
-        DecodeError::InvalidOperand,
-        5,
-    ),
-    (&[0x0f, 0x20, 0xe8], DecodeError::InvalidOperand, 3),
-    (&[0x0f, 0x20, 0xf0], DecodeError::InvalidOperand, 3),
-    (&[0x0f, 0x20, 0xf8], DecodeError::InvalidOperand, 3),
-    (&[0x0f, 0x22, 0xe8], DecodeError::InvalidOperand, 3),
-    (&[0x0f, 0x22, 0xf0], DecodeError::InvalidOperand, 3),
-    (&[0x44, 0x0f, 0x22, 0xd8], DecodeError::InvalidOperand, 4),
-    (&[0xc4], DecodeError::IncompleteDecoder, 1),
-    (&[0x62], DecodeError::IncompleteDecoder, 1),
-    (&[0xf2, 0xc4, 0xe2], DecodeError::IncompleteDecoder, 2),
-    (&[0x66, 0x62, 0xf1], DecodeError::InvalidPrefixes, 2),
-    (&[0xf0, 0xc4], DecodeError::InvalidPrefixes, 2),
-    (&[0x40, 0xc5, 0xf8], DecodeError::InvalidPrefixes, 2),
-    (&[0x40, 0x26, 0xc5], DecodeError::IncompleteDecoder, 3),
-    (&[0x67, 0x64, 0xc5], DecodeError::IncompleteDecoder, 3),
-    (
-        &[
-            0x66, 0x66, 0x66, 0x66, 0x66, 0x66, 0x66, 0x66, 0x66, 0x66, 0x66, 0x66, 0x66, 0xc0,
-            0xc0,
-        ],
-        DecodeError::TooLong,
-        15,
-    ),
-    (
-        &[
-            0x66, 0x66, 0x66, 0x66, 0x66, 0x66, 0x66, 0x66, 0x66, 0x66, 0x66, 0x66, 0x8f, 0x48,
-            0x00,
-        ],
-        DecodeError::IncompleteDecoder,
-        15,
-    ),
-    (
-        &[
-            0x66, 0x66, 0x66, 0x66, 0x66, 0x66, 0x66, 0x66, 0x66, 0x66, 0x66, 0x66, 0x66, 0x8f,
-            0x48, 0x00,
-        ],
-        DecodeError::TooLong,
-        15,
-    ),
-    (
-        &[
-            0x26, 0x26, 0x26, 0x26, 0x26, 0x26, 0x26, 0x26, 0x26, 0x26, 0x26, 0x26, 0x0f, 0x0f,
-            0xc1, 0x9e,
-        ],
-        DecodeError::TooLong,
-        15,
-    ),
-    (
-        &[
-            0xf0, 0xf0, 0xf0, 0xf0, 0xf0, 0xf0, 0xf0, 0xf0, 0xf0, 0xf0, 0xf0, 0xf0, 0xf0, 0xf7,
-            0xd0,
-        ],
-        DecodeError::InvalidPrefixes,
-        15,
-    ),
-];
+pub const PART_3: &str = "db30 => 2 invalid opcode
+dbe5 => 2 invalid opcode
+dbf8 => 2 invalid opcode
+dd28 => 2 invalid opcode
+ddf0 => 2 invalid opcode
+ddf8 => 2 invalid opcode
+ded8 => 2 invalid operand
+dedf => 2 invalid operand
+dfe1 => 2 invalid opcode
+dff8 => 2 invalid opcode
+8f10 => 2 the decoder is incomplete
+8f18 => 2 the decoder is incomplete
+8f20 => 2 the decoder is incomplete
+8f28 => 2 the decoder is incomplete
+8f3d00000000 => 6 the decoder is incomplete
+8fd0 => 2 the decoder is incomplete
+8fd8 => 2 the decoder is incomplete
+8fe0 => 2 the decoder is incomplete
+8fe8 => 2 the decoder is incomplete
+8ff0 => 2 the decoder is incomplete
+f08f00 => 3 invalid prefixes
+c610 => 2 invalid operand
+c618 => 2 invalid operand
+c620 => 2 invalid operand
+c628 => 2 invalid operand
+c630 => 2 invalid operand
+c638 => 2 invalid operand
+c6e5 => 2 invalid operand
+c708 => 2 invalid operand
+c710 => 2 invalid operand
+c718 => 2 invalid operand
+c720 => 2 invalid operand
+c728 => 2 invalid operand
+c7b42400000000 => 7 invalid operand
+fe10 => 2 invalid opcode
+fe38 => 2 invalid opcode
+fed8 => 2 invalid opcode
+fee0 => 2 invalid opcode
+fee8 => 2 invalid opcode
+fef0 => 2 invalid opcode
+0f00f8 => 3 invalid operand
+0f0dc0 => 3 invalid operand
+0f0df8 => 3 invalid operand
+0f71c8 => 3 invalid opcode
+0f71d8 => 3 invalid opcode
+0f71e8 => 3 invalid opcode
+0f7120 => 3 invalid operand
+660f7130 => 4 invalid operand
+0f72c0 => 3 invalid opcode
+0f72c8 => 3 invalid opcode
+0f72e8 => 3 invalid opcode
+660f72f8 => 4 invalid opcode
+0f7200 => 3 invalid operand
+f30f72d1 => 4 invalid operand
+0f73c0 => 3 invalid opcode
+0f73c8 => 3 invalid opcode
+660f73e8 => 4 invalid opcode
+0f7310 => 3 invalid operand
+660f733d00000000 => 8 invalid operand
+66f30f73f9 => 5 invalid operand
+0fba00 => 3 invalid opcode
+0fba08 => 3 invalid opcode
+0fba10 => 3 invalid opcode
+0fbac8 => 3 invalid opcode
+0fbad0 => 3 invalid opcode
+0fbad8 => 3 invalid opcode
+0fc7d0 => 3 invalid operand
+0fc700 => 3 invalid operand
+660f7808 => 4 invalid operand
+660f78d0 => 4 invalid operand
+660f78f8 => 4 invalid operand
+f30f38d8c8 => 5 invalid operand
+f30f38d8f8 => 5 invalid operand
+0f20e8 => 3 invalid operand
+0f20f0 => 3 invalid operand
+0f20f8 => 3 invalid operand
+0f22e8 => 3 invalid operand
+0f22f0 => 3 invalid operand
+440f22d8 => 4 invalid operand
+c4 => 1 the decoder is incomplete
+62 => 1 the decoder is incomplete
+f2c4e2 => 2 the decoder is incomplete
+6662f1 => 2 invalid prefixes
+f0c4 => 2 invalid prefixes
+40c5f8 => 2 invalid prefixes
+4026c5 => 3 the decoder is incomplete
+6764c5 => 3 the decoder is incomplete
+66666666666666666666666666c0c0 => 15 too long
+6666666666666666666666668f4800 => 15 the decoder is incomplete
+666666666666666666666666668f4800 => 15 too long
+2626262626262626262626260f0fc19e => 15 too long
+f0f0f0f0f0f0f0f0f0f0f0f0f0f7d0 => 15 invalid prefixes";

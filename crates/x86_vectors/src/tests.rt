@@ -45,9 +45,38 @@ fn refused(rt: HostRuntime) {
     }
 }
 
-fn are_refused(vectors: &[Refused]) -> bool {
-    for vector in vectors {
-        if !is_refused(vector) {
+/// Whether bytes are refused for this reason, given by its description, and so many of them are taken.
+fn is_refused_as(bytes: &[u8], taken: &str, reason: &str) -> bool {
+    let mut words = U8Reader::new(bytes);
+    match InstDecoder::default().decode(&mut words) {
+        Ok(_) => false,
+        Err(error) => {
+            let described = x86_arch::DecodeError::description(&error) == reason;
+            described && taken.parse::<u64>() == Ok(words.offset())
+        }
+    }
+}
+
+/// Whether a line of a table, `HEX => TAKEN REASON`, is so.
+fn is_refused_row(row: &str) -> bool {
+    let Some((digits, answer)) = row.split_once(" => ") else {
+        return false;
+    };
+    let Some((taken, reason)) = answer.split_once(" ") else {
+        return false;
+    };
+    let mut buffer = [0; 24];
+    let count = digits.len() / 2;
+    if count > buffer.len() {
+        return false;
+    }
+    let bytes = &mut buffer[..count];
+    hex::decode_to_slice(digits, bytes).is_ok() && is_refused_as(bytes, taken, reason)
+}
+
+fn are_refused(table: &str) -> bool {
+    for row in table.lines() {
+        if !is_refused_row(row) {
             return false;
         }
     }
