@@ -322,7 +322,7 @@ module _ (rows : Rows) where
       closed_as : (t : Bool) → lock_allowed (fence_reading is.names.opcode p) ≡ t → walked false ≡ (if t then outcome (Ok fence_instruction) (advanced (length f.fence) start) else outcome (Err InvalidPrefixes) (advanced (length f.fence) start))
       closed_as t e = read_walk ∙ ap (λ b. if b then outcome (Ok fence_instruction) (advanced (length f.fence) start) else outcome (Err InvalidPrefixes) (advanced (length f.fence) start)) e
 
-      pub fence_read : (reading_of is.run).lock ≡ false → (i : Instruction) × IsAnswer rows false input (Ok i) (length f.fence) × (i.opcode ≡ is.names.opcode) × (i.count ≡ 0)
+      pub fence_read : (reading_of is.run).lock ≡ false → (i : Instruction) × IsAnswer rows false input (Ok i) (length f.fence) × (i.opcode ≡ is.names.opcode) × (i.given.count ≡ 0)
       unfolding fence_reading
       fence_read free = (fence_instruction, answer_at false (Ok fence_instruction) (length f.fence) (closed_as true (read_lock ∙ ap not free)), refl, refl)
 

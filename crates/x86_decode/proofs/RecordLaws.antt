@@ -38,20 +38,20 @@ record_small strict row p m = by (is_group_form row.form)
     by false = plain_small row p m
 
 -- an instruction has the size of its plan
-sentence_small : (rows : Rows) (strict : Bool) (s : List ℕ) (a : Instruction) → IsSentence rows strict s a → a.mem_size < 65
+sentence_small : (rows : Rows) (strict : Bool) (s : List ℕ) (a : Instruction) → IsSentence rows strict s a → a.given.mem_size < 65
 sentence_small rows strict s a is =
     let p : Prefixes = seen is.whole.map is.whole.opcode (reading_of is.whole.run) in
     let r : RowRecord = record_of strict is.whole.row p in
     let m : ℕ = modrm_of r.modrm is.whole.asked.modrm in
-    let size : a.mem_size ≡ (r.plan m).size = ap (λ i. i.mem_size) is.gives ∙ ap (λ x. x.mem_size) is.whole.asked.behind.gives in
+    let size : a.given.mem_size ≡ (r.plan m).size = ap (λ i. i.given.mem_size) is.gives ∙ ap (λ x. x.mem_size) is.whole.asked.behind.gives in
     let small : (r.plan m).size ≤ 64 = record_small strict is.whole.row p m in
     omega arith
 
-answer_small : (rows : Rows) (strict : Bool) (input : List ℕ) (r : Result Instruction DecodeError) (n : ℕ) → IsAnswer rows strict input r n → IfOk r (λ a. a.mem_size < 65)
+answer_small : (rows : Rows) (strict : Bool) (input : List ℕ) (r : Result Instruction DecodeError) (n : ℕ) → IsAnswer rows strict input r n → IfOk r (λ a. a.given.mem_size < 65)
 answer_small rows strict input (Ok a) n h = sentence_small rows strict h.sentence a h.is
 answer_small rows strict input (Err e) n h = tt
 
-pub printed_small : (strict : Bool) (xs : List ℕ) (i : Instruction) → answer_of strict xs ≡ Ok i → i.mem_size < 65
+pub printed_small : (strict : Bool) (xs : List ℕ) (i : Instruction) → answer_of strict xs ≡ Ok i → i.given.mem_size < 65
 printed_small strict xs i e = answer_small (rows_of word_at) strict xs (Ok i) (count_of strict xs) (printed_answer strict xs (Ok i) (sym e))
 
 -- ---- records that are left out

@@ -192,20 +192,20 @@ module _ (r : RowRecord) (p : Prefixes) (q : List ℕ) (reading : Reading) (n : 
   tied : (length given ≡ length (list_of (plan).signs)) × pairs_tied given
   tied = signs_tied (list_of (plan).signs) p m asked.behind.pieces.memory asked.behind.pieces.immediates given asked.behind.pieces.immediates_asked
 
-  counts : made.count ≡ length given
+  counts : made.given.count ≡ length given
   counts = ap (λ x. x.count) asked.behind.gives
 
-  pub few : made.count ≤ 4
+  pub few : made.given.count ≤ 4
   few = let t = tied.0 in let c = counts in let f = at_most_four (plan).signs in omega arith
 
-  slot_here : (k : ℕ) → k < made.count → slot_at made k ≡ (pair_at given k).0
+  slot_here : (k : ℕ) → k < made.given.count → slot_at made k ≡ (pair_at given k).0
   slot_here k below =
-      ap (λ t. if t then slice_index_or made.slots k slots.Nothing else slots.Nothing) (test_yes k made.count below)
+      ap (λ t. if t then slice_index_or made.given.slots k slots.Nothing else slots.Nothing) (test_yes k made.given.count below)
       ∙ ap (λ x. slice_index_or x.slots k slots.Nothing) asked.behind.gives ∙ slot_in given k (let f = few in omega arith)
 
-  pub operand_here : (k : ℕ) → k < made.count → operand_at made k ≡ (pair_at given k).1
+  pub operand_here : (k : ℕ) → k < made.given.count → operand_at made k ≡ (pair_at given k).1
   operand_here k below =
-      ap (λ t. if t then slice_index_or made.operands k operands.Nothing else operands.Nothing) (test_yes k made.count below)
+      ap (λ t. if t then slice_index_or made.given.operands k operands.Nothing else operands.Nothing) (test_yes k made.given.count below)
       ∙ ap (λ x. slice_index_or x.operands k operands.Nothing) asked.behind.gives ∙ operand_in given k (let f = few in omega arith)
 
   pub tied_operands : HasTiedOperands made
@@ -219,7 +219,7 @@ module _ (r : RowRecord) (p : Prefixes) (q : List ℕ) (reading : Reading) (n : 
     stands : StandsAt given k raw
     stands = memory_at (list_of (plan).signs) p m raw asked.behind.pieces.immediates given k (subst (λ o. SpellsSigns (list_of (plan).signs) p m o asked.behind.pieces.immediates given) memory asked.behind.pieces.immediates_asked) named
 
-    below : k < made.count
+    below : k < made.given.count
     below = let c = counts in let t = stands.0 in omega arith
 
     -- the slot and the operand are the shape of the raw fields

@@ -12,6 +12,7 @@ use Rattle.x86_operands.specs.declared.operands.Operand.{Operand}
 use Rattle.x86_operands.specs.declared.operands.MemoryAccessSize.{MemoryAccessSize}
 use Rattle.x86_operands.specs.declared.operands.Operand.TheVariants as operands
 use Rattle.x86_operands.specs.Operands.{is_memory_slot}
+use Rattle.x86_operands.specs.Encodings.{no_operands, placed_reading}
 use Rattle.x86_decode.specs.declared.instructions.Instruction.{Instruction}
 use Rattle.x86_decode.specs.declared.instructions.Shown.{Shown}
 
@@ -20,22 +21,20 @@ abbrev pub instruction_of : Reading → ℕ → Instruction
 instruction_of r length = record {
   prefixes = r.prefixes;
   opcode = r.opcode;
-  count = r.count;
-  slots = r.slots;
-  operands = r.operands;
-  mem_size = r.mem_size;
+  given = record { slots = r.slots; operands = r.operands; count = r.count; mem_size = r.mem_size };
   length = length;
 }
+
+-- what an instruction has of a reading
+abbrev pub reading_in : Instruction → Reading
+reading_in i = placed_reading i.opcode i.prefixes i.given
 
 -- the instruction that stands for none
 abbrev pub invalid_instruction : Instruction
 invalid_instruction = record {
   prefixes = reading_of [];
   opcode = Invalid;
-  count = 0;
-  slots = slots.Nothing ∷ slots.Nothing ∷ slots.Nothing ∷ slots.Nothing ∷ [];
-  operands = operands.Nothing ∷ operands.Nothing ∷ operands.Nothing ∷ operands.Nothing ∷ [];
-  mem_size = 0;
+  given = no_operands;
   length = 0;
 }
 
@@ -48,14 +47,14 @@ holding inst (Err e) = Err e
 
 -- the slot and the operand at a place: nothing at the count and above
 abbrev pub slot_at : Instruction → ℕ → Slot
-slot_at i k = if nat_lt k i.count then slice_index_or i.slots k slots.Nothing else slots.Nothing
+slot_at i k = if nat_lt k i.given.count then slice_index_or i.given.slots k slots.Nothing else slots.Nothing
 
 abbrev pub operand_at : Instruction → ℕ → Operand
-operand_at i k = if nat_lt k i.count then slice_index_or i.operands k operands.Nothing else operands.Nothing
+operand_at i k = if nat_lt k i.given.count then slice_index_or i.given.operands k operands.Nothing else operands.Nothing
 
 -- the size of what is read or written in memory, where one is named
 abbrev pub mem_size_of : Instruction → Option MemoryAccessSize
-mem_size_of i = if i.mem_size == 0 then None else Some (record { size = i.mem_size })
+mem_size_of i = if i.given.mem_size == 0 then None else Some (record { size = i.given.mem_size })
 
 abbrev pub is_rm_slot : Slot → Bool
 is_rm_slot slots.Rm = true
@@ -98,8 +97,8 @@ abbrev pub shown_of : Instruction → Shown
 shown_of i = record {
   prefixes = i.prefixes;
   opcode = i.opcode;
-  count = i.count;
-  mem_size = i.mem_size;
+  count = i.given.count;
+  mem_size = i.given.mem_size;
   slots = slot_at i 0 ∷ slot_at i 1 ∷ slot_at i 2 ∷ slot_at i 3 ∷ [];
   operands = operand_at i 0 ∷ operand_at i 1 ∷ operand_at i 2 ∷ operand_at i 3 ∷ [];
 }

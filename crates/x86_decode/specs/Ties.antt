@@ -44,6 +44,6 @@ suits slot op = true
 
 -- At most four operands, each of them decoded and suited to its slot.
 pub record HasTiedOperands (i : Instruction) : Type 0 where
-  pub few : i.count ≤ 4
-  pub decoded : (k : ℕ) → k < i.count → is_decoded (operand_at i k) ≡ true
-  pub suited : (k : ℕ) → k < i.count → suits (slot_at i k) (operand_at i k) ≡ true
+  pub few : i.given.count ≤ 4
+  pub decoded : (k : ℕ) → k < i.given.count → is_decoded (operand_at i k) ≡ true
+  pub suited : (k : ℕ) → k < i.given.count → suits (slot_at i k) (operand_at i k) ≡ true

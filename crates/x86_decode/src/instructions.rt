@@ -5,12 +5,12 @@ ghost use Rattle.std.specs.Ordering.{on};
 ghost use Rattle.x86_decode.specs.contracts.instructions.ShownPartialEq.TheImpl.Laws as shown_eq;
 ghost use Rattle.x86_decode.specs.contracts.instructions.ShownEq.TheImpl.Laws as shown_equivalence;
 ghost use Rattle.x86_operands.specs.Visitor.{visit_of};
-ghost use Rattle.x86_decode.specs.Instruction.{instruction_of, invalid_instruction, slot_at, operand_at, shown_of, override_at, unless_ds, mem_size_of, acquires, releases, exchanges, is_release_slot, is_rm_slot};
+ghost use Rattle.x86_decode.specs.Instruction.{invalid_instruction, slot_at, operand_at, shown_of, override_at, unless_ds, mem_size_of, acquires, releases, exchanges, is_release_slot, is_rm_slot};
 
 use x86_arch::{AddressDiff, LengthedInstruction};
 use x86_fields::Prefixes;
 use x86_opcodes::Opcode;
-use x86_operands::{MemoryAccessSize, Operand, OperandVisitor, Reading, Slot};
+use x86_operands::{MemoryAccessSize, Operand, OperandVisitor, Operands, Slot};
 use x86_regs::Segment;
 
 /// An instruction: prefixes, opcode, at most four operands with the slots that they come from, the size of what is read or
@@ -22,12 +22,9 @@ pub struct Instruction {
     /// What the prefixes select, with the changes that the operation makes: where 66 chooses the operation it is cleared. Nothing
     /// ties this field to the operands once a caller has written to it.
     pub prefixes: Prefixes,
-    opcode: Opcode,
-    count: u8,
-    slots: [Slot; 4],
-    operands: [Operand; 4],
-    mem_size: u8,
-    length: u64,
+    pub(crate) opcode: Opcode,
+    pub(crate) given: Operands,
+    pub(crate) length: u64,
 }
 
 /// What equality looks at.
@@ -39,23 +36,6 @@ struct Shown {
     mem_size: u8,
     slots: [Slot; 4],
     operands: [Operand; 4],
-}
-
-/// What was read, in an encoding of this length.
-pub fn of_reading(reading: Reading, length: u64) -> Instruction
-    ensures { result ≡ instruction_of reading length }
-{
-    let slots = reading.slots;
-    let operands = reading.operands;
-    Instruction {
-        prefixes: reading.prefixes,
-        opcode: reading.opcode,
-        count: reading.count,
-        slots,
-        operands,
-        mem_size: reading.mem_size,
-        length,
-    }
 }
 
 fn is_rm(slot: Slot) -> bool
@@ -90,10 +70,7 @@ impl Instruction {
         Instruction {
             prefixes: Prefixes::none(),
             opcode: Opcode::Invalid,
-            count: 0,
-            slots: [Slot::Nothing; 4],
-            operands: [Operand::Nothing; 4],
-            mem_size: 0,
+            given: Operands::none(),
             length: 0,
         }
     }
@@ -107,17 +84,17 @@ impl Instruction {
 
     /// How many operands there are: at most 4.
     pub fn operand_count(&self) -> u8
-        ensures { result ≡ self.now.count }
+        ensures { result ≡ self.now.given.count }
     {
-        self.count
+        self.given.count
     }
 
     /// Whether there is an operand at a place, counted from 0.
     pub fn operand_present(&self, i: u8) -> bool
         requires { i < 4 }
-        ensures { result ≡ nat_lt i self.now.count }
+        ensures { result ≡ nat_lt i self.now.given.count }
     {
-        i < self.count
+        i < self.given.count
     }
 
     /// The operand at a place, counted from 0; at the count and above it `Operand::Nothing`.
@@ -125,11 +102,7 @@ impl Instruction {
         requires { i < 4 }
         ensures { result ≡ operand_at self.now i }
     {
-        if i < self.count {
-            self.operands[i as usize]
-        } else {
-            Operand::Nothing
-        }
+        self.given.operand(i)
     }
 
     /// Where in the encoding the operand at a place comes from; at the count and above it `Slot::Nothing`.
@@ -137,11 +110,7 @@ impl Instruction {
         requires { i < 4 }
         ensures { result ≡ slot_at self.now i }
     {
-        if i < self.count {
-            self.slots[i as usize]
-        } else {
-            Slot::Nothing
-        }
+        self.given.slot(i)
     }
 
     /// Makes the one call of the visitor that names the operand at a place, and answers what that answers; at the count and
@@ -161,10 +130,10 @@ impl Instruction {
     pub fn mem_size(&self) -> Option<MemoryAccessSize>
         ensures { result ≡ mem_size_of self.now }
     {
-        if self.mem_size == 0 {
+        if self.given.mem_size == 0 {
             None
         } else {
-            Some(MemoryAccessSize::new(self.mem_size))
+            Some(MemoryAccessSize::new(self.given.mem_size))
         }
     }
 
@@ -246,8 +215,8 @@ impl Instruction {
         Shown {
             prefixes: self.prefixes,
             opcode: self.opcode,
-            count: self.count,
-            mem_size: self.mem_size,
+            count: self.given.count,
+            mem_size: self.given.mem_size,
             slots: [self.slot(0), self.slot(1), self.slot(2), self.slot(3)],
             operands: [
                 self.operand(0),

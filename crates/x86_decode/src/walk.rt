@@ -1,28 +1,62 @@
-//! The walk over the bytes of an encoding: the run of prefixes, the escape and the opcode byte, and what the row asks.
-ghost use Rattle.std.specs.Prelude.{◌≡◌, ℕ, List, Bool, Option};
+//! The walk over the bytes of an encoding: the run of prefixes, the escape and the opcode byte, and what the row asks, written where it
+//! stays.
+ghost use Rattle.std.specs.Prelude.{◌≡◌, ℕ, List, Bool, IfOk, IfSome, true, false, [], take};
 ghost use Rattle.x86_arch.specs.Reader.{State, advanced, marked};
-ghost use Rattle.x86_fields.specs.Steps.{outcome};
+ghost use Rattle.x86_fields.specs.Steps.{outcome, then_from};
+ghost use Rattle.x86_fields.specs.declared.Prefixes.{Prefixes};
 ghost use Rattle.x86_fields.specs.Run.{is_prefix_byte, reading_of};
 ghost use Rattle.x86_forms.specs.Words.{IsForm, rows_of};
+ghost use Rattle.x86_operands.specs.Encodings.{held, no_operands};
 ghost use Rattle.x86_operands.specs.Signs.{record_step};
+ghost use Rattle.x86_decode.specs.Answer.{answer_of};
 ghost use Rattle.x86_decode.specs.Head.{column_of, is_vex, vex_error, seen};
 ghost use Rattle.x86_decode.specs.Grammar.{record_of, first_slot, lock_allowed};
-ghost use Rattle.x86_decode.specs.Walk.{head_from, head_step, escaped_step, opcode_step, body_step, walk_step, decode_step, is_exhausted};
+ghost use Rattle.x86_decode.specs.Instruction.{holding, invalid_instruction, reading_in};
+ghost use Rattle.x86_decode.specs.Walk.{Headed, HasForm, head_from, head_at, head_step, escaped_step, found_word, found_step, IsUsual, usual_step, rest_step, row_step, plan_at, behind_step, long_step, walk_step, body_step, decode_step, is_exhausted, is_nothing, lock_taken, judgement, limited};
 
 use crate::bounded::{Bounded, Start, takes_rest};
-use crate::instructions::{Instruction, of_reading};
+use crate::instructions::Instruction;
+use crate::leads::{Lead, lead_of};
 use std::marker::{Brand, PhantomData};
-use x86_arch::Reader;
-use x86_fields::{DecodeError, Prefixes, is_legacy, is_rex, next_byte};
-use x86_forms::{Column, Map, TableRow, Words, unpack};
-use x86_groups::read_group;
-use x86_operands::{Reading, Slot, read_form};
+use x86_arch::{Reader, U8Reader};
+use x86_fields::{DecodeError, Prefixes, next_byte};
+use x86_forms::{Column, Map, Packed, TableRow, Words, unpack};
+use x86_groups::{chosen, group_plan, place_group, read_group};
+use x86_opcodes::Opcode;
+use x86_operands::plans::Plan;
+use x86_operands::{
+    Behind, Encoding, Reading, Slot, carried, encoding_of, form_plan, place_form, place_plan,
+    read_form, read_modrm,
+};
+
+/// What is left of a row that wasn't read at once.
+#[derive(Clone, Copy, Drop)]
+enum Rest {
+    Nothing,
+    /// All of a row.
+    Row(TableRow),
+    /// What stands behind this ModRM byte.
+    Behind(TableRow, u8),
+}
+
+/// The line of the operand encodings for a row, with the operation, and the ModRM byte; one that isn't there is C0.
+#[derive(Clone, Copy, Drop)]
+struct Usual<'a> {
+    encoding: &'a Encoding,
+    opcode: Opcode,
+    modrm: u8,
+}
 
 /// Whether the byte is a legacy prefix or a REX.
+#[inline(always)]
+#[tactic(auto, using(crate::proofs::LeadLemmas::prefix_lead))]
 pub fn is_prefix(byte: u8) -> bool
     ensures { result ≡ is_prefix_byte byte }
 {
-    is_legacy(byte) || is_rex(byte)
+    match lead_of(byte) {
+        Lead::Legacy | Lead::Rex => true,
+        _ => false,
+    }
 }
 
 /// The rest of a run of which some bytes were read, and the byte behind it.
@@ -42,23 +76,39 @@ fn read_on<T: Reader<u64, u8>>(
     }
 }
 
-/// The run of prefixes and the byte behind it. Most encodings have no prefix, or one that is a REX or 66: these don't enter the loop.
-fn read_head<T: Reader<u64, u8>>(words: &mut T) -> Result<(Prefixes, u8), DecodeError>
-    ensures { outcome result (T.state words.new) ≡ head_step (T.state words.old) }
+/// The byte behind a run so far, or behind that and a REX.
+#[inline(always)]
+fn read_rex<T: Reader<u64, u8>>(
+    words: &mut T,
+    prefixes: &mut Prefixes,
+    byte: u8,
+) -> Result<u8, DecodeError>
+    ensures { (front : List ℕ) → prefixes.old ≡ reading_of front → Headed result prefixes.new (T.state words.new) (head_at front byte (T.state words.old)) }
+{
+    match lead_of(byte) {
+        Lead::Rex => {
+            prefixes.push_rex(byte);
+            next_byte(words)
+        }
+        _ => Ok(byte),
+    }
+}
+
+/// A run of at most one legacy prefix and a REX, as most are, and the byte behind that.
+#[inline(always)]
+fn read_head<T: Reader<u64, u8>>(words: &mut T, prefixes: &mut Prefixes) -> Result<u8, DecodeError>
+    requires { prefixes.old ≡ reading_of [] }
+    ensures { Headed result prefixes.new (T.state words.new) (head_step (T.state words.old)) }
 {
     let first = next_byte(words)?;
-    if !is_prefix(first) {
-        return Ok((Prefixes::none(), first));
+    match lead_of(first) {
+        Lead::Legacy => {
+            *prefixes = prefixes.after(first);
+            let second = next_byte(words)?;
+            read_rex(words, prefixes, second)
+        }
+        _ => read_rex(words, prefixes, first),
     }
-    let prefixes = Prefixes::none().after(first);
-    if first != 0x66 && !is_rex(first) {
-        return read_on(words, prefixes);
-    }
-    let second = next_byte(words)?;
-    if !is_prefix(second) {
-        return Ok((prefixes, second));
-    }
-    read_on(words, prefixes.after(second))
 }
 
 /// Whether the byte is C4, C5 or 62.
@@ -78,6 +128,7 @@ fn vex_refusal(prefixes: &Prefixes) -> DecodeError
     }
 }
 
+#[inline(always)]
 fn read_escaped<T: Reader<u64, u8>>(words: &mut T, byte: u8) -> Result<(Map, u8), DecodeError>
     ensures { outcome result (T.state words.new) ≡ escaped_step byte (T.state words.old) }
 {
@@ -92,26 +143,8 @@ fn read_escaped<T: Reader<u64, u8>>(words: &mut T, byte: u8) -> Result<(Map, u8)
     }
 }
 
-/// The map and the opcode byte.
-#[tactic(auto, unfolding(crate::specs::Walk::opcode_step))]
-fn read_opcode<T: Reader<u64, u8>>(
-    words: &mut T,
-    prefixes: &Prefixes,
-    byte: u8,
-) -> Result<(Map, u8), DecodeError>
-    ensures { outcome result (T.state words.new) ≡ opcode_step prefixes.now byte (T.state words.old) }
-{
-    if is_vex(byte) {
-        Err(vex_refusal(prefixes))
-    } else if byte == 0x0f {
-        let second = next_byte(words)?;
-        read_escaped(words, second)
-    } else {
-        Ok((Map::One, byte))
-    }
-}
-
 /// The column of the opcode tables behind a run that reads so.
+#[inline(always)]
 pub fn selected(prefixes: &Prefixes) -> Column
     ensures { result ≡ column_of prefixes.now }
 {
@@ -127,6 +160,7 @@ pub fn selected(prefixes: &Prefixes) -> Column
 }
 
 /// The prefixes as a record sees them: 66 that chooses the operation is cleared.
+#[inline(always)]
 pub fn seen_by(map: Map, byte: u8, prefixes: Prefixes) -> Prefixes
     ensures { result ≡ seen map byte prefixes }
 {
@@ -142,17 +176,29 @@ pub fn seen_by(map: Map, byte: u8, prefixes: Prefixes) -> Prefixes
     }
 }
 
-fn slot_0(reading: &Reading) -> Slot
-    ensures { result ≡ first_slot reading.now.slots }
+fn first_slot(slots: &[Slot; 4]) -> Slot
+    ensures { result ≡ first_slot slots.now }
 {
-    reading.slots[0]
+    slots[0]
 }
 
 /// Whether F0 is absent, or stands in front of an operation that takes it, with memory as its first operand.
 pub fn allows_lock(reading: &Reading) -> bool
     ensures { result ≡ lock_allowed reading.now }
 {
-    !reading.prefixes.lock() || (reading.opcode.can_lock() && slot_0(reading).is_memory())
+    takes_lock(
+        &reading.prefixes,
+        reading.opcode,
+        first_slot(&reading.slots),
+    )
+}
+
+/// The same of the parts of a reading.
+#[inline(always)]
+fn takes_lock(prefixes: &Prefixes, opcode: Opcode, first: Slot) -> bool
+    ensures { result ≡ lock_taken prefixes.now opcode first }
+{
+    !prefixes.lock() || (opcode.can_lock() && first.is_memory())
 }
 
 /// What a row asks behind its opcode byte.
@@ -172,20 +218,260 @@ pub fn read_row<T: Reader<u64, u8>>(
     }
 }
 
-/// What stands up to the end of what the row asks.
-#[tactic(auto, unfolding(crate::specs::Walk::body_step))]
-fn read_body<W: Words, T: Reader<u64, u8>>(
-    strict: bool,
+/// The word of the row at an opcode byte, which is this byte or stands behind the escape that it begins. Where 66 chooses the operation
+/// it is cleared.
+#[inline(always)]
+fn read_word<W: Words, T: Reader<u64, u8>>(
     rows: &W,
     words: &mut T,
-) -> Result<Reading, DecodeError>
-    ensures { outcome result (T.state words.new) ≡ body_step (rows_of (W.word_in rows.now)) strict (T.state words.old) }
+    prefixes: &mut Prefixes,
+    byte: u8,
+) -> Result<u64, DecodeError>
+    ensures { then_from result (T.state words.new) (found_word prefixes.new) ≡ found_step (rows_of (W.word_in rows.now)) prefixes.old byte (T.state words.old) }
 {
-    let (prefixes, byte) = read_head(words)?;
-    let (map, opcode) = read_opcode(words, &prefixes, byte)?;
-    match unpack(rows.word(map, selected(&prefixes), opcode)) {
+    match lead_of(byte) {
+        Lead::Escape => {
+            let second = next_byte(words)?;
+            let (map, opcode) = read_escaped(words, second)?;
+            let word = rows.word(map, selected(prefixes), opcode);
+            *prefixes = seen_by(map, opcode, *prefixes);
+            Ok(word)
+        }
+        Lead::Vex => Err(vex_refusal(prefixes)),
+        _ => Ok(rows.word(Map::One, selected(prefixes), byte)),
+    }
+}
+
+/// ModRM, and the line for a row; none for a row that no line may describe, of which nothing is read.
+#[inline(always)]
+fn read_usual<'a, T: Reader<u64, u8>>(
+    row: &TableRow,
+    words: &mut T,
+) -> Result<Option<Usual<'a>>, DecodeError>
+    requires { IsForm row.now.form }
+    ensures read { (strict : Bool) (p : Prefixes) → then_from result (T.state words.new) (usual_step strict row.now p) ≡ row_step strict row.now p (T.state words.old) }
+    ensures usual { IfOk result (λ usual. IfSome usual (IsUsual row.now)) }
+{
+    let encoding = encoding_of(row.form);
+    match encoding.behind {
+        Behind::ByReg(group) => {
+            let modrm = next_byte(words)?;
+            let (opcode, encoding) = chosen(group, modrm);
+            Ok(Some(Usual {
+                encoding,
+                opcode,
+                modrm,
+            }))
+        }
+        behind => {
+            if !behind.is_row() {
+                return Ok(None);
+            }
+            let modrm = read_modrm(words, encoding.modrm_use())?;
+            Ok(Some(Usual {
+                encoding,
+                opcode: row.opcode,
+                modrm,
+            }))
+        }
+    }
+}
+
+/// What a row asks behind its opcode byte, if a line of the operand encodings describes it.
+#[inline(always)]
+#[tactic(auto, using(x86_operands::proofs::OrderLaws::allowed_row))]
+fn place_usual<T: Reader<u64, u8>>(
+    row: TableRow,
+    words: &mut T,
+    inst: &mut Instruction,
+) -> Result<Rest, DecodeError>
+    requires form { IsForm row.form }
+    requires blank { inst.old.given ≡ no_operands }
+    ensures read { (strict : Bool) → then_from result (T.state words.new) (rest_step strict inst.new) ≡ row_step strict row inst.old.prefixes (T.state words.old) }
+    ensures blank { IfOk result (λ rest. is_nothing rest ≡ false → inst.new.given ≡ no_operands) }
+    ensures form { IfOk result HasForm }
+{
+    match read_usual(&row, words) {
+        Err(error) => Err(error),
+        Ok(None) => Ok(Rest::Row(row)),
+        Ok(Some(usual)) => {
+            if !usual.encoding.behind.allows(usual.modrm) {
+                return Ok(Rest::Behind(row, usual.modrm));
+            }
+            inst.opcode = usual.opcode;
+            let num = carried(row.form);
+            inst.given.place(
+                words,
+                usual.encoding,
+                usual.opcode,
+                num,
+                &inst.prefixes,
+                usual.modrm,
+            )?;
+            Ok(Rest::Nothing)
+        }
+    }
+}
+
+/// What stands behind the run, where this byte is the first of it.
+#[inline(always)]
+fn place_behind<W: Words, T: Reader<u64, u8>>(
+    rows: &W,
+    words: &mut T,
+    inst: &mut Instruction,
+    byte: u8,
+) -> Result<Rest, DecodeError>
+    requires { inst.old.given ≡ no_operands }
+    ensures read { (strict : Bool) → then_from result (T.state words.new) (rest_step strict inst.new) ≡ behind_step (rows_of (W.word_in rows.now)) strict inst.old.prefixes byte (T.state words.old) }
+    ensures blank { IfOk result (λ rest. is_nothing rest ≡ false → inst.new.given ≡ no_operands) }
+    ensures form { IfOk result HasForm }
+{
+    let word = read_word(rows, words, &mut inst.prefixes, byte)?;
+    match unpack(word) {
         None => Err(DecodeError::InvalidOpcode),
-        Some(row) => read_row(strict, row, seen_by(map, opcode, prefixes), words),
+        Some(row) => place_usual(row, words, inst),
+    }
+}
+
+fn plan_at(strict: bool, row: TableRow, prefixes: &Prefixes, modrm: u8) -> Plan
+    requires { IsForm row.form }
+    ensures { result ≡ plan_at strict row prefixes.now modrm }
+{
+    if row.form.is_group() {
+        group_plan(row, strict, prefixes, modrm)
+    } else {
+        form_plan(row.form, row.opcode, prefixes, modrm)
+    }
+}
+
+fn place_row<T: Reader<u64, u8>>(
+    strict: bool,
+    row: TableRow,
+    words: &mut T,
+    inst: &mut Instruction,
+) -> Result<(), DecodeError>
+    requires form { IsForm row.form }
+    requires blank { inst.old.given ≡ no_operands }
+    ensures { outcome (held result (reading_in inst.new)) (T.state words.new) ≡ row_step strict row inst.old.prefixes (T.state words.old) }
+{
+    if row.form.is_group() {
+        place_group(
+            words,
+            row,
+            strict,
+            &mut inst.prefixes,
+            &mut inst.opcode,
+            &mut inst.given,
+        )
+    } else {
+        place_form(
+            words,
+            row,
+            &mut inst.prefixes,
+            &mut inst.opcode,
+            &mut inst.given,
+        )
+    }
+}
+
+/// What is left of a row.
+#[inline(never)]
+fn place_rest<T: Reader<u64, u8>>(
+    strict: bool,
+    rest: Rest,
+    words: &mut T,
+    inst: &mut Instruction,
+) -> Result<(), DecodeError>
+    requires form { HasForm rest }
+    requires blank { is_nothing rest ≡ false → inst.old.given ≡ no_operands }
+    ensures { outcome (held result (reading_in inst.new)) (T.state words.new) ≡ rest_step strict inst.old rest (T.state words.old) }
+{
+    match rest {
+        Rest::Nothing => Ok(()),
+        Rest::Row(row) => place_row(strict, row, words, inst),
+        Rest::Behind(row, modrm) => {
+            let plan = plan_at(strict, row, &inst.prefixes, modrm);
+            place_plan(
+                words,
+                &plan,
+                modrm,
+                &mut inst.prefixes,
+                &mut inst.opcode,
+                &mut inst.given,
+            )
+        }
+    }
+}
+
+/// An encoding with a longer run, of which this is the next byte.
+#[inline(never)]
+fn place_long<W: Words, T: Reader<u64, u8>>(
+    strict: bool,
+    rows: &W,
+    first: u8,
+    words: &mut T,
+    inst: &mut Instruction,
+) -> Result<(), DecodeError>
+    requires prefix { is_prefix_byte first ≡ true }
+    requires blank { inst.old.given ≡ no_operands }
+    ensures { (front : List ℕ) → inst.old.prefixes ≡ reading_of front → outcome (held result (reading_in inst.new)) (T.state words.new) ≡ long_step (rows_of (W.word_in rows.now)) strict front first (T.state words.old) }
+{
+    let (prefixes, byte) = read_on(words, inst.prefixes.after(first))?;
+    inst.prefixes = prefixes;
+    match place_behind(rows, words, inst, byte) {
+        Err(error) => Err(error),
+        Ok(rest) => place_rest(strict, rest, words, inst),
+    }
+}
+
+/// What stands behind the run, where this byte is the first of it. The reader comes back.
+#[inline(always)]
+fn walk_behind<W: Words, T: Reader<u64, u8>>(
+    strict: bool,
+    rows: &W,
+    words: T,
+    inst: &mut Instruction,
+    byte: u8,
+) -> (Result<(), DecodeError>, T)
+    requires { inst.old.given ≡ no_operands }
+    ensures { outcome (held result.0 (reading_in inst.new)) (T.state result.1) ≡ behind_step (rows_of (W.word_in rows.now)) strict inst.old.prefixes byte (T.state words) }
+{
+    let mut words = words;
+    match place_behind(rows, &mut words, inst, byte) {
+        Err(error) => (Err(error), words),
+        Ok(Rest::Nothing) => (Ok(()), words),
+        Ok(rest) => {
+            let mut moved = words;
+            let read = place_rest(strict, rest, &mut moved, inst);
+            (read, moved)
+        }
+    }
+}
+
+/// What stands up to the end of what the row asks, into a blank instruction. The reader comes back: so it stays in registers where
+/// nothing rare is read.
+#[inline(always)]
+fn walk_within<W: Words, T: Reader<u64, u8>>(
+    strict: bool,
+    rows: &W,
+    words: T,
+    inst: &mut Instruction,
+) -> (Result<(), DecodeError>, T)
+    requires { inst.old ≡ invalid_instruction }
+    ensures { outcome (held result.0 (reading_in inst.new)) (T.state result.1) ≡ body_step (rows_of (W.word_in rows.now)) strict (T.state words) }
+{
+    let mut words = words;
+    match read_head(&mut words, &mut inst.prefixes) {
+        Err(error) => (Err(error), words),
+        Ok(byte) => {
+            if is_prefix(byte) {
+                let mut moved = words;
+                let read = place_long(strict, rows, byte, &mut moved, inst);
+                (read, moved)
+            } else {
+                walk_behind(strict, rows, words, inst, byte)
+            }
+        }
     }
 }
 
@@ -195,38 +481,47 @@ fn exhausted(error: DecodeError) -> bool
     matches!(error, DecodeError::ExhaustedInput)
 }
 
+/// The refusal of F0 where it isn't allowed.
+#[inline(always)]
+fn judged(inst: &Instruction) -> Result<(), DecodeError>
+    ensures { result ≡ judgement (reading_in inst.now) }
+{
+    if takes_lock(&inst.prefixes, inst.opcode, first_slot(&inst.given.slots)) {
+        Ok(())
+    } else {
+        Err(DecodeError::InvalidPrefixes)
+    }
+}
+
 /// The walk within fifteen items. The reference comes back.
 fn walk_bounded<'a, W: Words, T: Reader<u64, u8>, K: Start>(
     strict: bool,
     rows: &W,
     words: &'a mut T,
-) -> (Result<Instruction, DecodeError>, &'a mut T)
+    inst: &mut Instruction,
+) -> (Result<(), DecodeError>, &'a mut T)
     requires same_reference { words.ghost_name ≡ K.name }
     requires here { T.state words.old ≡ K.state }
     requires marked { (T.state words.old).since_mark ≡ 0 }
+    requires blank { inst.old ≡ invalid_instruction }
     ensures same_reference { result.1.ghost_name ≡ words.entry.ghost_name }
-    ensures walked { outcome result.0 (T.state result.1.now) ≡ walk_step (rows_of (W.word_in rows.now)) strict (T.state words.old) }
+    ensures walked { outcome (holding inst.new result.0) (T.state result.1.now) ≡ walk_step (rows_of (W.word_in rows.now)) strict (T.state words.old) }
 {
-    let mut bounded: Bounded<'a, T, K> = Bounded {
+    let bounded: Bounded<'a, T, K> = Bounded {
         words,
         allowed: 15,
         start: PhantomData,
     };
-    let result = read_body(strict, rows, &mut bounded);
-    let length = bounded.offset();
+    let (result, back) = walk_within(strict, rows, bounded, inst);
+    let mut back = back;
+    inst.length = back.offset();
     let Bounded {
         words,
         allowed,
         start: _,
-    } = bounded;
+    } = back;
     match result {
-        Ok(reading) => {
-            if allows_lock(&reading) {
-                (Ok(of_reading(reading, length)), words)
-            } else {
-                (Err(DecodeError::InvalidPrefixes), words)
-            }
-        }
+        Ok(()) => (judged(inst), words),
         Err(error) => {
             if !exhausted(error) {
                 (Err(error), words)
@@ -239,8 +534,62 @@ fn walk_bounded<'a, W: Words, T: Reader<u64, u8>, K: Start>(
     }
 }
 
-/// The instruction at the front of what the reader has left. The reader is marked, and then moves by what the answer takes.
+/// The refusal where fifteen bytes were there, or fewer.
+fn limited(error: DecodeError, full: bool) -> DecodeError
+    ensures { result ≡ limited error full }
+{
+    match error {
+        DecodeError::ExhaustedInput if full => DecodeError::TooLong,
+        other => other,
+    }
+}
+
+/// The first fifteen bytes.
+#[inline(always)]
+fn first_fifteen(bytes: &[u8]) -> &[u8]
+    ensures { result.now ≡ take 15 bytes.now }
+{
+    if bytes.len() > 15 {
+        &bytes[..15]
+    } else {
+        bytes
+    }
+}
+
+/// The walk within the first fifteen bytes of a slice, into a blank instruction.
+#[inline(never)]
+pub fn walk_slice(strict: bool, bytes: &[u8], inst: &mut Instruction) -> Result<(), DecodeError>
+    requires { inst.old ≡ invalid_instruction }
+    ensures { holding inst.new result ≡ answer_of strict bytes.now }
+{
+    let within = first_fifteen(bytes);
+    let (result, back) = walk_within(strict, &Packed, U8Reader::new(within), inst);
+    let mut back = back;
+    inst.length = back.offset();
+    match result {
+        Ok(()) => judged(inst),
+        Err(error) => Err(limited(error, within.len() == 15)),
+    }
+}
+
+/// The instruction at the front of what the reader has left, into a blank one. The reader is marked, and then moves by what the
+/// answer takes.
 #[tactic(auto, unfolding(crate::specs::Walk::decode_step))]
+pub fn walk_into<W: Words, T: Reader<u64, u8>>(
+    strict: bool,
+    rows: &W,
+    words: &mut T,
+    inst: &mut Instruction,
+) -> Result<(), DecodeError>
+    requires { inst.old ≡ invalid_instruction }
+    ensures { outcome (holding inst.new result) (T.state words.new) ≡ decode_step (rows_of (W.word_in rows.now)) strict (T.state words.old) }
+{
+    words.mark();
+    let (result, _back) = walk_bounded::<W, T, Brand>(strict, rows, words, inst);
+    result
+}
+
+/// The same by value.
 pub fn walk<W: Words, T: Reader<u64, u8>>(
     strict: bool,
     rows: &W,
@@ -248,7 +597,9 @@ pub fn walk<W: Words, T: Reader<u64, u8>>(
 ) -> Result<Instruction, DecodeError>
     ensures { outcome result (T.state words.new) ≡ decode_step (rows_of (W.word_in rows.now)) strict (T.state words.old) }
 {
-    words.mark();
-    let (result, _back) = walk_bounded::<W, T, Brand>(strict, rows, words);
-    result
+    let mut inst = Instruction::invalid();
+    match walk_into(strict, rows, words, &mut inst) {
+        Ok(()) => Ok(inst),
+        Err(error) => Err(error),
+    }
 }

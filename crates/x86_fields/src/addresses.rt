@@ -9,6 +9,7 @@ use crate::{AddressParts, Raw, RegFile};
 use x86_regs::{RegSpec, RegisterClass};
 
 /// A field of three bits under its fourth, which a REX has.
+#[inline(always)]
 pub fn extend(bit: bool, num: u8) -> u8
     requires { num < 8 }
     ensures { result ≡ extended bit num }
@@ -29,6 +30,7 @@ impl Raw {
     }
 
     /// The base, where there is one. At mod 00 with rm 101 it is rip, or eip under 67.
+    #[inline(always)]
     pub fn base(&self) -> Option<RegSpec>
         ensures { result ≡ base_of self.now }
     {
@@ -40,6 +42,7 @@ impl Raw {
         }
     }
 
+    #[inline(always)]
     fn next_pointer(&self) -> RegSpec
         ensures { result ≡ next_pointer self.now }
     {
@@ -51,6 +54,7 @@ impl Raw {
     }
 
     /// The index, where there is one. SIB index 100 is none without X, and r12 with it.
+    #[inline(always)]
     pub fn index(&self) -> Option<RegSpec>
         ensures { result ≡ index_of self.now }
     {
@@ -62,6 +66,7 @@ impl Raw {
     }
 
     /// What the index is multiplied by: 1, 2, 4 or 8.
+    #[inline(always)]
     pub fn scale(&self) -> u8
         ensures { result ≡ scale_by self.now.sib }
     {

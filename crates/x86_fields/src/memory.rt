@@ -9,6 +9,7 @@ use crate::{DecodeError, Prefixes, Raw, next_byte, read_u8, read_u32};
 use x86_arch::Reader;
 
 /// How many bytes of displacement a memory form has, by ModRM and SIB (Intel SDM volume 2, section 2.1.5).
+#[inline(always)]
 pub fn displacement_width(modrm: u8, sib: Option<u8>) -> u8
     ensures { result ≡ disp_width modrm sib }
 {
@@ -37,6 +38,7 @@ impl Raw {
     }
 }
 
+#[inline(always)]
 fn read_sib<T: Reader<u64, u8>>(words: &mut T, modrm: u8) -> Result<Option<u8>, DecodeError>
     ensures read { outcome result (T.state words.new) ≡ sib_step modrm (T.state words.old) }
     ensures fits { IfOk result (λ sib. IsTrue (sib_fits modrm sib)) }
@@ -49,6 +51,7 @@ fn read_sib<T: Reader<u64, u8>>(words: &mut T, modrm: u8) -> Result<Option<u8>, 
     }
 }
 
+#[inline(always)]
 fn read_displacement<T: Reader<u64, u8>>(words: &mut T, width: u8) -> Result<i32, DecodeError>
     ensures read { outcome result (T.state words.new) ≡ disp_step width (T.state words.old) }
     ensures fits { IfOk result (λ disp. IsTrue (disp_fits width disp)) }
@@ -70,6 +73,7 @@ fn read_displacement<T: Reader<u64, u8>>(words: &mut T, width: u8) -> Result<i32
 ///
 /// Where the bytes end before both are whole, a SIB that is asked and there is taken, and of the displacement nothing.
 #[tactic(auto, unfolding(crate::specs::Raw::raw_step))]
+#[inline(always)]
 pub fn read_raw<T: Reader<u64, u8>>(
     words: &mut T,
     prefixes: &Prefixes,

@@ -10,6 +10,7 @@ use x86_arch::Reader;
 
 /// One byte.
 #[tactic(auto, unfolding(crate::specs::Steps::byte_step))]
+#[inline(always)]
 pub fn next_byte<T: Reader<u64, u8>>(words: &mut T) -> Result<u8, DecodeError>
     ensures { outcome result (T.state words.new) ≡ byte_step (T.state words.old) }
 {
@@ -21,6 +22,7 @@ pub fn next_byte<T: Reader<u64, u8>>(words: &mut T) -> Result<u8, DecodeError>
 
 /// As many bytes as the array has.
 #[tactic(auto, unfolding(crate::specs::Steps::bytes_step))]
+#[inline(always)]
 pub fn next_bytes<const N: usize, T: Reader<u64, u8>>(words: &mut T) -> Result<[u8; N], DecodeError>
     ensures { outcome result (T.state words.new) ≡ bytes_step N (T.state words.old) }
 {
@@ -33,6 +35,7 @@ pub fn next_bytes<const N: usize, T: Reader<u64, u8>>(words: &mut T) -> Result<[
 
 /// A number of one byte.
 #[tactic(auto, unfolding(crate::specs::Steps::number_step))]
+#[inline(always)]
 pub fn read_u8<T: Reader<u64, u8>>(words: &mut T) -> Result<u8, DecodeError>
     ensures { outcome result (T.state words.new) ≡ number_step w8 (T.state words.old) }
 {
@@ -42,6 +45,7 @@ pub fn read_u8<T: Reader<u64, u8>>(words: &mut T) -> Result<u8, DecodeError>
 
 /// A number of two bytes.
 #[tactic(auto, unfolding(crate::specs::Steps::number_step))]
+#[inline(always)]
 pub fn read_u16<T: Reader<u64, u8>>(words: &mut T) -> Result<u16, DecodeError>
     ensures { outcome result (T.state words.new) ≡ number_step w16 (T.state words.old) }
 {
@@ -51,6 +55,7 @@ pub fn read_u16<T: Reader<u64, u8>>(words: &mut T) -> Result<u16, DecodeError>
 
 /// A number of four bytes.
 #[tactic(auto, unfolding(crate::specs::Steps::number_step))]
+#[inline(always)]
 pub fn read_u32<T: Reader<u64, u8>>(words: &mut T) -> Result<u32, DecodeError>
     ensures { outcome result (T.state words.new) ≡ number_step w32 (T.state words.old) }
 {
@@ -60,6 +65,7 @@ pub fn read_u32<T: Reader<u64, u8>>(words: &mut T) -> Result<u32, DecodeError>
 
 /// A number of eight bytes.
 #[tactic(auto, unfolding(crate::specs::Steps::number_step))]
+#[inline(always)]
 pub fn read_u64<T: Reader<u64, u8>>(words: &mut T) -> Result<u64, DecodeError>
     ensures { outcome result (T.state words.new) ≡ number_step w64 (T.state words.old) }
 {

@@ -25,16 +25,38 @@ pub fn is_rex(byte: u8) -> bool
     0x40 <= byte && byte < 0x50
 }
 
+macro_rules! bits {
+    ($w:literal, $r:literal, $x:literal, $b:literal) => {
+        PrefixRex { w: $w, r: $r, x: $x, b: $b }
+    };
+}
+
+/// The bits W, R, X and B of a REX, by its low four bits.
+const REXES: &[PrefixRex; 16] = &[
+    bits!(false, false, false, false), // 40
+    bits!(false, false, false, true),
+    bits!(false, false, true, false),
+    bits!(false, false, true, true),
+    bits!(false, true, false, false), // 44
+    bits!(false, true, false, true),
+    bits!(false, true, true, false),
+    bits!(false, true, true, true),
+    bits!(true, false, false, false), // 48
+    bits!(true, false, false, true),
+    bits!(true, false, true, false),
+    bits!(true, false, true, true),
+    bits!(true, true, false, false), // 4C
+    bits!(true, true, false, true),
+    bits!(true, true, true, false),
+    bits!(true, true, true, true),
+];
+
 impl PrefixRex {
+    #[inline(always)]
     fn of(byte: u8) -> PrefixRex
         ensures { result ≡ rex_bits byte }
     {
-        PrefixRex {
-            w: byte / 8 % 2 == 1,
-            r: byte / 4 % 2 == 1,
-            x: byte / 2 % 2 == 1,
-            b: byte % 2 == 1,
-        }
+        REXES[(byte % 16) as usize]
     }
 
     /// Whether operands have 64 bits.
@@ -68,6 +90,7 @@ impl PrefixRex {
 
 impl Prefixes {
     /// Nothing is set, and the segment is DS.
+    #[inline(always)]
     pub fn none() -> Prefixes
         ensures { result ≡ reading_of [] }
     {
@@ -124,7 +147,17 @@ impl Prefixes {
         }
     }
 
+    /// The effect of a REX, in place.
+    #[inline(always)]
+    pub fn push_rex(&mut self, byte: u8)
+        requires { IsTrue (is_rex_byte byte) }
+        ensures { (run : List ℕ) → self.old ≡ reading_of run → self.new ≡ reading_of (run ++ byte ∷ []) }
+    {
+        self.rex = Some(PrefixRex::of(byte));
+    }
+
     /// 66 is cleared.
+    #[inline(always)]
     pub fn without_operand_size(self) -> Prefixes
         ensures { result ≡ record self { operand_size = false } }
     {
@@ -135,6 +168,7 @@ impl Prefixes {
     }
 
     /// The segment is ES.
+    #[inline(always)]
     pub fn with_es(self) -> Prefixes
         ensures { result ≡ record self { segment = Segment.ES } }
     {
@@ -145,6 +179,7 @@ impl Prefixes {
     }
 
     /// Whether F3 is in force.
+    #[inline(always)]
     pub fn rep(&self) -> bool
         ensures { result ≡ has_f3 self.now }
     {
@@ -152,6 +187,7 @@ impl Prefixes {
     }
 
     /// Whether F2 is in force.
+    #[inline(always)]
     pub fn repnz(&self) -> bool
         ensures { result ≡ has_f2 self.now }
     {
@@ -166,6 +202,7 @@ impl Prefixes {
     }
 
     /// Whether 66 is in force.
+    #[inline(always)]
     pub fn operand_size(&self) -> bool
         ensures { result ≡ self.now.operand_size }
     {
@@ -180,6 +217,7 @@ impl Prefixes {
     }
 
     /// Whether F0 is in force.
+    #[inline(always)]
     pub fn lock(&self) -> bool
         ensures { result ≡ self.now.lock }
     {
@@ -236,6 +274,7 @@ impl Prefixes {
     }
 
     /// The bits of the REX that is live, if one is.
+    #[inline(always)]
     pub fn rex(&self) -> Option<PrefixRex>
         ensures { result ≡ self.now.rex }
     {
@@ -243,6 +282,7 @@ impl Prefixes {
     }
 
     /// Whether a live REX has W.
+    #[inline(always)]
     pub fn has_w(&self) -> bool
         ensures { result ≡ rex_w self.now }
     {
@@ -250,6 +290,7 @@ impl Prefixes {
     }
 
     /// Whether a live REX has R.
+    #[inline(always)]
     pub fn has_r(&self) -> bool
         ensures { result ≡ rex_r self.now }
     {
@@ -257,6 +298,7 @@ impl Prefixes {
     }
 
     /// Whether a live REX has X.
+    #[inline(always)]
     pub fn has_x(&self) -> bool
         ensures { result ≡ rex_x self.now }
     {
@@ -264,6 +306,7 @@ impl Prefixes {
     }
 
     /// Whether a live REX has B.
+    #[inline(always)]
     pub fn has_b(&self) -> bool
         ensures { result ≡ rex_b self.now }
     {

@@ -8,6 +8,7 @@ use x86_regs::{RegSpec, RegisterClass};
 
 impl Prefixes {
     /// Q under a live W, else W under 66, else D.
+    #[inline(always)]
     pub fn v_class(&self) -> RegisterClass
         ensures { result ≡ v self.now }
     {
@@ -21,6 +22,7 @@ impl Prefixes {
     }
 
     /// W under 66, else Q.
+    #[inline(always)]
     pub fn vq_class(&self) -> RegisterClass
         ensures { result ≡ vq self.now }
     {
@@ -32,6 +34,7 @@ impl Prefixes {
     }
 
     /// D under a live W or without 66, else W.
+    #[inline(always)]
     pub fn vd_class(&self) -> RegisterClass
         ensures { result ≡ vd self.now }
     {
@@ -43,6 +46,7 @@ impl Prefixes {
     }
 
     /// Q under a live W, else D.
+    #[inline(always)]
     pub fn dq_class(&self) -> RegisterClass
         ensures { result ≡ dq self.now }
     {
@@ -63,6 +67,7 @@ impl Prefixes {
     }
 
     /// The register of a class and a number, where class B stands for the byte registers.
+    #[inline(always)]
     pub fn register(&self, class: RegisterClass, num: u8) -> RegSpec
         ensures { result ≡ register_of class self.now num }
     {

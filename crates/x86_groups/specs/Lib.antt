@@ -13,3 +13,4 @@ pub mod ThreeDNow
 pub mod Floats
 pub mod Groups
 pub mod Choices
+pub mod ByReg

@@ -21,22 +21,24 @@ plan_8f p m =
     if reg m == 0 then reads POP (One (E (v p))) (size_by m (if p.operand_size then width_of (v p) else 8) (width_of (v p)))
     else refuses Incomplete AfterAddress
 
+-- C6 with a reg other than 0
+abbrev pub abort_plan : ℕ → Plan
+abort_plan m = if is_register_0 m then reads XABORT (One I8) 1 else refuses BadOperand AfterAddress
+
 unfoldable pub plan_c6 : ℕ → Plan
-plan_c6 m =
-    if reg m == 0 then reads MOV (Two (E B) I8) 1
-    else (if is_register_0 m then reads XABORT (One I8) 1
-    else refuses BadOperand AfterAddress)
+plan_c6 m = if reg m == 0 then reads MOV (Two (E B) I8) 1 else abort_plan m
 
 -- the distance of XBEGIN: 2 bytes where v is W, else 4
 abbrev pub distance_of : RegisterClass → Sign
 distance_of W = I32From16
 distance_of c = I32
 
+-- C7 with a reg other than 0
+abbrev pub begin_plan : Prefixes → ℕ → Plan
+begin_plan p m = if is_register_0 m then reads XBEGIN (One (distance_of (v p))) (width_of (v p)) else refuses BadOperand AfterAddress
+
 unfoldable pub plan_c7 : Prefixes → ℕ → Plan
-plan_c7 p m =
-    if reg m == 0 then reads MOV (Two (E (v p)) (immediate_of (v p))) (width_of (v p))
-    else (if is_register_0 m then reads XBEGIN (One (distance_of (v p))) (width_of (v p))
-    else refuses BadOperand AfterAddress)
+plan_c7 p m = if reg m == 0 then reads MOV (Two (E (v p)) (immediate_of (v p))) (width_of (v p)) else begin_plan p m
 
 unfoldable pub plan_fe : ℕ → Plan
 plan_fe m =

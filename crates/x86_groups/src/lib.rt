@@ -7,10 +7,11 @@ ghost use Rattle.x86_fields.specs.Steps.{outcome};
 ghost use Rattle.x86_forms.specs.Groups.{is_group_form};
 ghost use Rattle.x86_operands.specs.Asks.{ask_of, record_at};
 ghost use Rattle.x86_operands.specs.Signs.{record_step};
-ghost use Rattle.x86_groups.specs.Groups.{form_plan, three_byte_plan, two_byte_plan, group_fault, group_modrm, group_record};
+ghost use Rattle.x86_operands.specs.Encodings.{held, no_operands, placed_reading};
+ghost use Rattle.x86_groups.specs.Groups.{form_plan, three_byte_plan, two_byte_plan, group_fault, group_modrm, group_plan, group_record};
 
-mod arithmetic;
 mod bits;
+mod by_reg;
 mod choice;
 mod extract;
 mod fences;
@@ -24,11 +25,9 @@ mod shifts;
 mod system;
 mod three_d_now;
 
-use arithmetic::{
-    plan_80, plan_81, plan_83, plan_c0, plan_c1, plan_d0, plan_d1, plan_d2, plan_d3, plan_f6,
-    plan_f7,
-};
 use bits::{plan_0fba, plan_0fc7};
+pub use by_reg::chosen;
+use by_reg::chosen_plan;
 use choice::bad_opcode;
 use extract::{plan_660f78, plan_f20f78};
 use fences::plan_0fae;
@@ -39,7 +38,7 @@ use keys::{
     plan_f30f38df, plan_f30f38fa, plan_f30f38fb,
 };
 use moves::{plan_cq_rq, plan_dq_rq, plan_rq_cq, plan_rq_dq};
-use operations::{plan_8f, plan_c6, plan_c7, plan_fe, plan_ff};
+use operations::plan_8f;
 use shifts::{plan_0f71, plan_0f72, plan_0f73};
 use system::{plan_0f00, plan_0f01};
 use three_d_now::plan_0f0f;
@@ -49,7 +48,8 @@ use x86_forms::{Form, TableRow};
 use x86_opcodes::Opcode;
 use x86_operands::plans::{Fault, ModrmUse, Plan};
 use x86_operands::{
-    Ask, Reading, RecordAt, plan_ask, read_modrm, read_plan, refuse, used_modrm, used_or_none,
+    Ask, Operands, Reading, RecordAt, RegGroup, place_plan, plan_ask, read_modrm, refuse,
+    used_modrm, used_or_none,
 };
 
 fn fault(form: Form, prefixes: &Prefixes) -> Option<Fault>
@@ -124,18 +124,18 @@ fn form_plan(form: Form, opcode: Opcode, strict: bool, prefixes: &Prefixes, modr
     ensures { result ≡ form_plan form opcode strict prefixes.now modrm }
 {
     match form {
-        Form::ModRM_0x80 => plan_80(modrm),
-        Form::ModRM_0x81 => plan_81(prefixes, modrm),
-        Form::ModRM_0x83 => plan_83(prefixes, modrm),
+        Form::ModRM_0x80 => chosen_plan(RegGroup::G80, prefixes, modrm),
+        Form::ModRM_0x81 => chosen_plan(RegGroup::G81, prefixes, modrm),
+        Form::ModRM_0x83 => chosen_plan(RegGroup::G83, prefixes, modrm),
         Form::ModRM_0x8f => plan_8f(prefixes, modrm),
-        Form::ModRM_0xc0 => plan_c0(modrm),
-        Form::ModRM_0xc1 => plan_c1(prefixes, modrm),
-        Form::ModRM_0xc6 => plan_c6(modrm),
-        Form::ModRM_0xc7 => plan_c7(prefixes, modrm),
-        Form::ModRM_0xd0 => plan_d0(modrm),
-        Form::ModRM_0xd1 => plan_d1(prefixes, modrm),
-        Form::ModRM_0xd2 => plan_d2(modrm),
-        Form::ModRM_0xd3 => plan_d3(prefixes, modrm),
+        Form::ModRM_0xc0 => chosen_plan(RegGroup::C0, prefixes, modrm),
+        Form::ModRM_0xc1 => chosen_plan(RegGroup::C1, prefixes, modrm),
+        Form::ModRM_0xc6 => chosen_plan(RegGroup::C6, prefixes, modrm),
+        Form::ModRM_0xc7 => chosen_plan(RegGroup::C7, prefixes, modrm),
+        Form::ModRM_0xd0 => chosen_plan(RegGroup::D0, prefixes, modrm),
+        Form::ModRM_0xd1 => chosen_plan(RegGroup::D1, prefixes, modrm),
+        Form::ModRM_0xd2 => chosen_plan(RegGroup::D2, prefixes, modrm),
+        Form::ModRM_0xd3 => chosen_plan(RegGroup::D3, prefixes, modrm),
         Form::x87_d8 => plan_d8(modrm),
         Form::x87_d9 => plan_d9(modrm),
         Form::x87_da => plan_da(modrm),
@@ -144,12 +144,39 @@ fn form_plan(form: Form, opcode: Opcode, strict: bool, prefixes: &Prefixes, modr
         Form::x87_dd => plan_dd(modrm),
         Form::x87_de => plan_de(modrm),
         Form::x87_df => plan_df(modrm),
-        Form::ModRM_0xf6 => plan_f6(modrm),
-        Form::ModRM_0xf7 => plan_f7(prefixes, modrm),
-        Form::ModRM_0xfe => plan_fe(modrm),
-        Form::ModRM_0xff => plan_ff(prefixes, modrm),
+        Form::ModRM_0xf6 => chosen_plan(RegGroup::F6, prefixes, modrm),
+        Form::ModRM_0xf7 => chosen_plan(RegGroup::F7, prefixes, modrm),
+        Form::ModRM_0xfe => chosen_plan(RegGroup::FE, prefixes, modrm),
+        Form::ModRM_0xff => chosen_plan(RegGroup::FF, prefixes, modrm),
         _ => two_byte_plan(form, opcode, strict, prefixes, modrm),
     }
+}
+
+/// What a row asks whose form is a group, written to what was blank.
+#[inline(never)]
+#[tactic(auto, unfolding(crate::specs::Groups::group_record, x86_operands::specs::Signs::record_step))]
+pub fn place_group<T: Reader<u64, u8>>(
+    words: &mut T,
+    row: TableRow,
+    strict: bool,
+    prefixes: &mut Prefixes,
+    opcode: &mut Opcode,
+    given: &mut Operands,
+) -> Result<(), DecodeError>
+    requires { given.old ≡ no_operands }
+    ensures { outcome (held result (placed_reading opcode.new prefixes.new given.new)) (T.state words.new) ≡ record_step (group_record strict row prefixes.old) prefixes.old (T.state words.old) }
+{
+    refuse(fault(row.form, prefixes))?;
+    let modrm = read_modrm(words, modrm_use(row.form))?;
+    let plan = form_plan(row.form, row.opcode, strict, prefixes, modrm);
+    place_plan(words, &plan, modrm, prefixes, opcode, given)
+}
+
+/// The plan of a row whose form is a group, at a ModRM byte.
+pub fn group_plan(row: TableRow, strict: bool, prefixes: &Prefixes, modrm: u8) -> Plan
+    ensures { result ≡ group_plan row prefixes.now modrm strict }
+{
+    form_plan(row.form, row.opcode, strict, prefixes, modrm)
 }
 
 /// Reads what a row asks behind its opcode byte, where its form is a group.
@@ -157,7 +184,6 @@ fn form_plan(form: Form, opcode: Opcode, strict: bool, prefixes: &Prefixes, modr
 /// `strict` chooses whether LFENCE, MFENCE and SFENCE are refused where rm isn't 0; nothing else depends on it. Of the errors
 /// come `InvalidOpcode` and `InvalidOperand` where the row's record refuses, `IncompleteDecoder` for 8F with a reg other than 0,
 /// and `ExhaustedInput`. After a refusal the bytes up to its moment are taken: none, ModRM, the address, or all.
-#[tactic(auto, unfolding(crate::specs::Groups::group_record, x86_operands::specs::Signs::record_step))]
 pub fn read_group<T: Reader<u64, u8>>(
     words: &mut T,
     row: TableRow,
@@ -167,10 +193,18 @@ pub fn read_group<T: Reader<u64, u8>>(
     requires group { is_group_form row.form ≡ true }
     ensures { outcome result (T.state words.new) ≡ record_step (group_record strict row prefixes) prefixes (T.state words.old) }
 {
-    refuse(fault(row.form, &prefixes))?;
-    let modrm = read_modrm(words, modrm_use(row.form))?;
-    let plan = form_plan(row.form, row.opcode, strict, &prefixes, modrm);
-    read_plan(words, &plan, prefixes, modrm)
+    let mut prefixes = prefixes;
+    let mut opcode = row.opcode;
+    let mut given = Operands::none();
+    place_group(words, row, strict, &mut prefixes, &mut opcode, &mut given)?;
+    Ok(Reading {
+        opcode,
+        count: given.count,
+        slots: given.slots,
+        operands: given.operands,
+        mem_size: given.mem_size,
+        prefixes,
+    })
 }
 
 /// Which parts a row asks whose form is a group, at a ModRM byte: the same under both choices. Where the row refuses under both

@@ -1,13 +1,13 @@
 //! Moves, pushes, calls and jumps of the one-byte map.
 ghost use Rattle.std.specs.Prelude.{◌≡◌};
-ghost use Rattle.x86_groups.specs.Operations.{distance_of, plan_8f, plan_c6, plan_c7, plan_fe, plan_ff};
+ghost use Rattle.x86_groups.specs.ByReg.{far_plan, other_plan};
+ghost use Rattle.x86_groups.specs.Operations.{abort_plan, begin_plan, distance_of, plan_8f};
 
 use crate::choice::{is_register_0, on_memory, reg};
 use x86_fields::Prefixes;
 use x86_opcodes::Opcode;
-use x86_operands::plans::{
-    Fault, Moment, Plan, Sign, Signs, immediate, memory_only, reads, refuses, size_by,
-};
+use x86_operands::RegGroup;
+use x86_operands::plans::{Fault, Moment, Plan, Sign, Signs, memory_only, reads, refuses, size_by};
 use x86_regs::RegisterClass;
 
 #[tactic(auto, unfolding(crate::specs::Operations::plan_8f))]
@@ -30,17 +30,11 @@ pub fn plan_8f(prefixes: &Prefixes, modrm: u8) -> Plan
     )
 }
 
-#[tactic(auto, unfolding(crate::specs::Operations::plan_c6))]
-pub fn plan_c6(modrm: u8) -> Plan
-    ensures { result ≡ plan_c6 modrm }
+/// C6 with a reg other than 0.
+fn abort_plan(modrm: u8) -> Plan
+    ensures { result ≡ abort_plan modrm }
 {
-    if reg(modrm) == 0 {
-        reads(
-            Opcode::MOV,
-            Signs::Two(Sign::E(RegisterClass::B), Sign::I8),
-            1,
-        )
-    } else if is_register_0(modrm) {
+    if is_register_0(modrm) {
         reads(Opcode::XABORT, Signs::One(Sign::I8), 1)
     } else {
         refuses(Fault::BadOperand, Moment::AfterAddress)
@@ -57,51 +51,37 @@ fn distance(class: RegisterClass) -> Sign
     }
 }
 
-#[tactic(auto, unfolding(crate::specs::Operations::plan_c7))]
-pub fn plan_c7(prefixes: &Prefixes, modrm: u8) -> Plan
-    ensures { result ≡ plan_c7 prefixes.now modrm }
+/// C7 with a reg other than 0.
+fn begin_plan(prefixes: &Prefixes, modrm: u8) -> Plan
+    ensures { result ≡ begin_plan prefixes.now modrm }
 {
     let v = prefixes.v_class();
-    if reg(modrm) == 0 {
-        reads(Opcode::MOV, Signs::Two(Sign::E(v), immediate(v)), v.width())
-    } else if is_register_0(modrm) {
+    if is_register_0(modrm) {
         reads(Opcode::XBEGIN, Signs::One(distance(v)), v.width())
     } else {
         refuses(Fault::BadOperand, Moment::AfterAddress)
     }
 }
 
-#[tactic(auto, unfolding(crate::specs::Operations::plan_fe))]
-pub fn plan_fe(modrm: u8) -> Plan
-    ensures { result ≡ plan_fe modrm }
+/// FF with reg 3 and 5, and 7, which is none.
+fn far_plan(modrm: u8) -> Plan
+    ensures { result ≡ far_plan modrm }
 {
-    let operand = Signs::One(Sign::E(RegisterClass::B));
     match reg(modrm) {
-        0 => reads(Opcode::INC, operand, 1),
-        1 => reads(Opcode::DEC, operand, 1),
+        3 => memory_only(modrm, on_memory(Opcode::CALLF, 10)),
+        5 => memory_only(modrm, on_memory(Opcode::JMPF, 10)),
         _ => refuses(Fault::BadOpcode, Moment::AfterAddress),
     }
 }
 
-#[tactic(auto, unfolding(crate::specs::Operations::plan_ff))]
-pub fn plan_ff(prefixes: &Prefixes, modrm: u8) -> Plan
-    ensures { result ≡ plan_ff prefixes.now modrm }
+/// The plan of what reg chooses where no row describes it.
+pub fn other_plan(group: RegGroup, prefixes: &Prefixes, modrm: u8) -> Plan
+    ensures { result ≡ other_plan group prefixes.now modrm }
 {
-    let v = prefixes.v_class();
-    let operand = Signs::One(Sign::E(v));
-    let target = Signs::One(Sign::E(RegisterClass::Q));
-    match reg(modrm) {
-        0 => reads(Opcode::INC, operand, v.width()),
-        1 => reads(Opcode::DEC, operand, v.width()),
-        2 => reads(Opcode::CALL, target, 8),
-        3 => memory_only(modrm, on_memory(Opcode::CALLF, 10)),
-        4 => reads(Opcode::JMP, target, size_by(modrm, 8, v.width())),
-        5 => memory_only(modrm, on_memory(Opcode::JMPF, 10)),
-        6 => reads(
-            Opcode::PUSH,
-            operand,
-            if prefixes.operand_size() { 2 } else { 8 },
-        ),
+    match group {
+        RegGroup::C6 => abort_plan(modrm),
+        RegGroup::C7 => begin_plan(prefixes, modrm),
+        RegGroup::FF => far_plan(modrm),
         _ => refuses(Fault::BadOpcode, Moment::AfterAddress),
     }
 }

@@ -1,55 +1,67 @@
 //! What a row asks whose form is no group.
-ghost use Rattle.std.specs.Prelude.{◌≡◌, false, None};
+ghost use Rattle.std.specs.Prelude.{◌≡◌, false};
 ghost use Rattle.x86_arch.specs.Reader.{State};
 ghost use Rattle.x86_fields.specs.Steps.{outcome};
 ghost use Rattle.x86_forms.specs.Groups.{is_group_form};
 ghost use Rattle.x86_forms.specs.Words.{IsForm};
 ghost use Rattle.x86_operands.specs.Asks.{ask_of, record_at};
-ghost use Rattle.x86_operands.specs.Forms.{modrm_use, form_record};
+ghost use Rattle.x86_operands.specs.Encodings.{held, no_operands, placed_reading};
+ghost use Rattle.x86_operands.specs.Forms.{form_plan, form_record, modrm_use};
 ghost use Rattle.x86_operands.specs.Signs.{record_step};
 
 use crate::asks::{Ask, RecordAt, plan_ask, used_modrm, used_or_none};
-use crate::bare_forms::form_plan;
-use crate::plans::ModrmUse;
-use crate::reader::{Reading, read_modrm, read_plan};
+use crate::form_encodings::{carried, encoding_of};
+use crate::peculiar_forms::peculiar_plan;
+use crate::placing::Operands;
+use crate::plans::{ModrmUse, Plan};
+use crate::reader::{Reading, place_plan, read_modrm};
 use x86_arch::Reader;
 use x86_fields::{DecodeError, Prefixes};
 use x86_forms::{Form, TableRow};
+use x86_opcodes::Opcode;
 
 fn modrm_use(form: Form) -> ModrmUse
     ensures { result ≡ modrm_use form }
 {
-    match form {
-        Form::Zv_R(_) | Form::Zv_AX_R(_) | Form::Zb_Ib_R(_) | Form::Zv_Ivq_R(_) | Form::Zv_B(_) =>
-            ModrmUse::Absent,
-        Form::Nothing | Form::AH | Form::CVT_AA | Form::CVT_DA | Form::Fw | Form::FS | Form::GS =>
-            ModrmUse::Absent,
-        Form::Ibs
-        | Form::Jvds
-        | Form::PushIbs
-        | Form::PushIvs
-        | Form::Ib
-        | Form::I_3
-        | Form::I_1
-        | Form::Iw
-        | Form::Iw_Ib
-        | Form::CXZ => ModrmUse::Absent,
-        Form::AL_Ibs | Form::AX_Ivd | Form::AL_Ib | Form::AX_Ib | Form::Ib_AL | Form::Ib_AX =>
-            ModrmUse::Absent,
-        Form::AL_DX | Form::AX_DX | Form::DX_AL | Form::DX_AX => ModrmUse::Absent,
-        Form::AL_Ob | Form::AX_Ov | Form::Ob_AL | Form::Ov_AX => ModrmUse::Absent,
-        Form::AL_Xb | Form::AX_Xv | Form::Yb_AL | Form::Yv_AX | Form::Yb_Xb | Form::Yv_Xv =>
-            ModrmUse::Absent,
-        Form::Yb_DX | Form::Yv_DX | Form::DX_Xb | Form::DX_Xv => ModrmUse::Absent,
-        _ => ModrmUse::Fields,
+    encoding_of(form).modrm_use()
+}
+
+/// The plan of a form that is no group.
+pub fn form_plan(form: Form, opcode: Opcode, prefixes: &Prefixes, modrm: u8) -> Plan
+    requires { IsForm form }
+    ensures { result ≡ form_plan form opcode prefixes.now modrm }
+{
+    let encoding = encoding_of(form);
+    if encoding.behind.is_row() {
+        encoding.plan(opcode, carried(form), prefixes, modrm)
+    } else {
+        peculiar_plan(form, opcode, prefixes, modrm)
     }
+}
+
+/// What a row asks whose form is no group, written to what was blank.
+#[inline(never)]
+#[tactic(auto, unfolding(crate::specs::Forms::form_record, crate::specs::Signs::record_step))]
+pub fn place_form<T: Reader<u64, u8>>(
+    words: &mut T,
+    row: TableRow,
+    prefixes: &mut Prefixes,
+    opcode: &mut Opcode,
+    given: &mut Operands,
+) -> Result<(), DecodeError>
+    requires carried { IsForm row.form }
+    requires blank { given.old ≡ no_operands }
+    ensures { outcome (held result (placed_reading opcode.new prefixes.new given.new)) (T.state words.new) ≡ record_step (form_record row prefixes.old) prefixes.old (T.state words.old) }
+{
+    let modrm = read_modrm(words, modrm_use(row.form))?;
+    let plan = form_plan(row.form, row.opcode, prefixes, modrm);
+    place_plan(words, &plan, modrm, prefixes, opcode, given)
 }
 
 /// Reads what a row asks behind its opcode byte, where its form is no group: ModRM, the memory operand, the immediates.
 ///
 /// The bytes taken are exactly those that the record asks; after a refusal, those up to its moment; at
 /// `ExhaustedInput`, the pieces before the first that isn't whole.
-#[tactic(auto, unfolding(crate::specs::Forms::form_record, crate::specs::Signs::record_step))]
 pub fn read_form<T: Reader<u64, u8>>(
     words: &mut T,
     row: TableRow,
@@ -59,9 +71,18 @@ pub fn read_form<T: Reader<u64, u8>>(
     requires carried { IsForm row.form }
     ensures { outcome result (T.state words.new) ≡ record_step (form_record row prefixes) prefixes (T.state words.old) }
 {
-    let modrm = read_modrm(words, modrm_use(row.form))?;
-    let plan = form_plan(row.form, row.opcode, &prefixes, modrm);
-    read_plan(words, &plan, prefixes, modrm)
+    let mut prefixes = prefixes;
+    let mut opcode = row.opcode;
+    let mut given = Operands::none();
+    place_form(words, row, &mut prefixes, &mut opcode, &mut given)?;
+    Ok(Reading {
+        opcode,
+        count: given.count,
+        slots: given.slots,
+        operands: given.operands,
+        mem_size: given.mem_size,
+        prefixes,
+    })
 }
 
 /// Which parts a row asks whose form is no group, at a ModRM byte. `modrm` is looked at only where the row asks a ModRM. Where the

@@ -1,4 +1,5 @@
 //! The one reader of plans: what a record asks behind its opcode byte.
+ghost use Rattle.x86_operands.specs.Encodings.{held, no_operands, placed_reading, sign_put, given_from};
 ghost use Rattle.std.specs.Prelude.{◌≡◌, ℕ, ◌<◌, ◌∷◌, []};
 ghost use Rattle.x86_arch.specs.Reader.{State};
 ghost use Rattle.x86_fields.specs.Steps.{outcome};
@@ -7,8 +8,9 @@ ghost use Rattle.x86_operands.specs.Suffix.{opcode_of_suffix};
 ghost use Rattle.x86_operands.specs.Signs.{given_step, error_of, same_moment, refusal_step, named_step, opcode_step, memory_step, marked, plan_step, modrm_step, fault_step};
 
 use crate::operands::{Operand, Slot};
-use crate::plans::{Fault, Mark, ModrmUse, Moment, Plan, Signs, Verdict, memory_form};
-use crate::signs::{Pair, read_sign};
+use crate::placing::Operands;
+use crate::plans::{Fault, Mark, ModrmUse, Moment, Plan, Sign, Signs, Verdict, memory_form};
+use crate::signs::read_sign;
 use x86_arch::Reader;
 use x86_fields::{DecodeError, Prefixes, Raw, next_byte, read_raw};
 use x86_opcodes::Opcode;
@@ -31,56 +33,6 @@ struct Given {
     count: u8,
     slots: [Slot; 4],
     operands: [Operand; 4],
-}
-
-const NOTHING: Pair = (Slot::Nothing, Operand::Nothing);
-
-fn in_four(count: u8, first: Pair, second: Pair, third: Pair, fourth: Pair) -> Given
-    ensures { result ≡ record { count = count; slots = first.0 ∷ second.0 ∷ third.0 ∷ fourth.0 ∷ []; operands = first.1 ∷ second.1 ∷ third.1 ∷ fourth.1 ∷ [] } }
-{
-    Given {
-        count,
-        slots: [first.0, second.0, third.0, fourth.0],
-        operands: [first.1, second.1, third.1, fourth.1],
-    }
-}
-
-/// The operands in order, each with its immediate.
-#[tactic(auto, unfolding(crate::specs::Signs::given_step, crate::specs::Signs::signs_step))]
-fn read_signs<T: Reader<u64, u8>>(
-    words: &mut T,
-    signs: Signs,
-    prefixes: &Prefixes,
-    modrm: u8,
-    memory: Option<Raw>,
-) -> Result<Given, DecodeError>
-    ensures { outcome result (T.state words.new) ≡ given_step (list_of signs) prefixes.now modrm memory (T.state words.old) }
-{
-    match signs {
-        Signs::Zero => Ok(in_four(0, NOTHING, NOTHING, NOTHING, NOTHING)),
-        Signs::One(a) => {
-            let a = read_sign(words, a, prefixes, modrm, memory)?;
-            Ok(in_four(1, a, NOTHING, NOTHING, NOTHING))
-        }
-        Signs::Two(a, b) => {
-            let a = read_sign(words, a, prefixes, modrm, memory)?;
-            let b = read_sign(words, b, prefixes, modrm, memory)?;
-            Ok(in_four(2, a, b, NOTHING, NOTHING))
-        }
-        Signs::Three(a, b, c) => {
-            let a = read_sign(words, a, prefixes, modrm, memory)?;
-            let b = read_sign(words, b, prefixes, modrm, memory)?;
-            let c = read_sign(words, c, prefixes, modrm, memory)?;
-            Ok(in_four(3, a, b, c, NOTHING))
-        }
-        Signs::Four(a, b, c, d) => {
-            let a = read_sign(words, a, prefixes, modrm, memory)?;
-            let b = read_sign(words, b, prefixes, modrm, memory)?;
-            let c = read_sign(words, c, prefixes, modrm, memory)?;
-            let d = read_sign(words, d, prefixes, modrm, memory)?;
-            Ok(in_four(4, a, b, c, d))
-        }
-    }
 }
 
 fn error(fault: Fault) -> DecodeError
@@ -216,6 +168,91 @@ fn apply(mark: Mark, prefixes: Prefixes) -> Prefixes
     }
 }
 
+impl Operands {
+    /// What a sign gives, at an index.
+    fn put_sign<T: Reader<u64, u8>>(
+        &mut self,
+        at: usize,
+        words: &mut T,
+        sign: Sign,
+        prefixes: &Prefixes,
+        modrm: u8,
+        memory: Option<Raw>,
+    ) -> Result<(), DecodeError>
+        requires { at < 4 }
+        ensures { outcome (held result self.new) (T.state words.new) ≡ sign_put at sign prefixes.now modrm memory self.old (T.state words.old) }
+    {
+        let (slot, operand) = read_sign(words, sign, prefixes, modrm, memory)?;
+        self.slots[at] = slot;
+        self.operands[at] = operand;
+        Ok(())
+    }
+
+    /// The operands in order, each with its immediate.
+    #[tactic(auto, unfolding(crate::specs::Signs::given_step, crate::specs::Signs::signs_step))]
+    fn put_signs<T: Reader<u64, u8>>(
+        &mut self,
+        words: &mut T,
+        signs: Signs,
+        prefixes: &Prefixes,
+        modrm: u8,
+        memory: Option<Raw>,
+    ) -> Result<(), DecodeError>
+        requires { self.old ≡ no_operands }
+        ensures { outcome (held result (given_from self.new)) (T.state words.new) ≡ given_step (list_of signs) prefixes.now modrm memory (T.state words.old) }
+    {
+        match signs {
+            Signs::Zero => Ok(()),
+            Signs::One(a) => {
+                self.count = 1;
+                self.put_sign(0, words, a, prefixes, modrm, memory)
+            }
+            Signs::Two(a, b) => {
+                self.count = 2;
+                self.put_sign(0, words, a, prefixes, modrm, memory)?;
+                self.put_sign(1, words, b, prefixes, modrm, memory)
+            }
+            Signs::Three(a, b, c) => {
+                self.count = 3;
+                self.put_sign(0, words, a, prefixes, modrm, memory)?;
+                self.put_sign(1, words, b, prefixes, modrm, memory)?;
+                self.put_sign(2, words, c, prefixes, modrm, memory)
+            }
+            Signs::Four(a, b, c, d) => {
+                self.count = 4;
+                self.put_sign(0, words, a, prefixes, modrm, memory)?;
+                self.put_sign(1, words, b, prefixes, modrm, memory)?;
+                self.put_sign(2, words, c, prefixes, modrm, memory)?;
+                self.put_sign(3, words, d, prefixes, modrm, memory)
+            }
+        }
+    }
+}
+
+/// What a record asks behind its ModRM, written to what was blank.
+#[tactic(auto, unfolding(crate::specs::Signs::plan_step))]
+pub fn place_plan<T: Reader<u64, u8>>(
+    words: &mut T,
+    plan: &Plan,
+    modrm: u8,
+    prefixes: &mut Prefixes,
+    opcode: &mut Opcode,
+    given: &mut Operands,
+) -> Result<(), DecodeError>
+    requires { given.old ≡ no_operands }
+    ensures { outcome (held result (placed_reading opcode.new prefixes.new given.new)) (T.state words.new) ≡ plan_step plan.now prefixes.old modrm (T.state words.old) }
+{
+    refuse_at(plan.verdict, Moment::AtModRM)?;
+    let memory = read_memory(words, prefixes, modrm)?;
+    refuse_at(plan.verdict, Moment::AfterAddress)?;
+    given.put_signs(words, plan.signs, prefixes, modrm, memory)?;
+    *opcode = read_opcode(words, plan.verdict, plan.opcode)?;
+    refuse_at(plan.verdict, Moment::AfterSuffix)?;
+    given.mem_size = plan.size;
+    *prefixes = apply(plan.mark, *prefixes);
+    Ok(())
+}
+
 /// The ModRM byte as a row uses it.
 pub fn read_modrm<T: Reader<u64, u8>>(words: &mut T, modrm: ModrmUse) -> Result<u8, DecodeError>
     ensures { outcome result (T.state words.new) ≡ modrm_step modrm (T.state words.old) }
@@ -234,7 +271,6 @@ pub fn read_modrm<T: Reader<u64, u8>>(words: &mut T, modrm: ModrmUse) -> Result<
 }
 
 /// What a record asks behind its ModRM.
-#[tactic(auto, unfolding(crate::specs::Signs::plan_step))]
 pub fn read_plan<T: Reader<u64, u8>>(
     words: &mut T,
     plan: &Plan,
@@ -243,20 +279,16 @@ pub fn read_plan<T: Reader<u64, u8>>(
 ) -> Result<Reading, DecodeError>
     ensures { outcome result (T.state words.new) ≡ plan_step plan.now prefixes modrm (T.state words.old) }
 {
-    refuse_at(plan.verdict, Moment::AtModRM)?;
-    let memory = read_memory(words, &prefixes, modrm)?;
-    refuse_at(plan.verdict, Moment::AfterAddress)?;
-    let given = read_signs(words, plan.signs, &prefixes, modrm, memory)?;
-    let opcode = read_opcode(words, plan.verdict, plan.opcode)?;
-    refuse_at(plan.verdict, Moment::AfterSuffix)?;
-    let slots = given.slots;
-    let operands = given.operands;
+    let mut prefixes = prefixes;
+    let mut opcode = plan.opcode;
+    let mut given = Operands::none();
+    place_plan(words, plan, modrm, &mut prefixes, &mut opcode, &mut given)?;
     Ok(Reading {
         opcode,
         count: given.count,
-        slots,
-        operands,
-        mem_size: plan.size,
-        prefixes: apply(plan.mark, prefixes),
+        slots: given.slots,
+        operands: given.operands,
+        mem_size: given.mem_size,
+        prefixes,
     })
 }

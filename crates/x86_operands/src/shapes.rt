@@ -6,6 +6,7 @@ use crate::operands::{Operand, Slot};
 use x86_fields::Raw;
 
 /// The memory operand of raw fields, with the parts that are present.
+#[inline(always)]
 #[tactic(auto, unfolding(crate::specs::Shape::shape_of))]
 pub fn shape(raw: &Raw) -> (Slot, Operand)
     ensures { result ≡ shape_of raw.now }

@@ -1,0 +1,17 @@
+use Rattle.std.proofs.Common.{rules, ◌≡◌, sym, ap, ◌∙◌}
+use Rattle.x86_decode.specs.Instruction.{reading_in}
+use Rattle.x86_decode.proofs.WalkLaws.{held_ok, held_err}
+use Rattle.x86_decode.proofs.SliceLaws.{at_start, slice_ok, slice_err}
+use Rattle.x86_decode.proofs.walk.walk_slice.Goals as goal
+
+pub returns-in-Ok : goal.returns-in-Ok
+returns-in-Ok c =
+    let i = c.walk_within-result.new.inst in
+    slice_ok c.args.strict c.args.bytes.now i c.offset-inst.result c.judged.result _ _ (c.new.ensures ∙ ap at_start c.first_fifteen-within.ensures)
+    (held_ok c.walk_within-result.result.0 (reading_in i) _ _ c.in-Ok.is c.walk_within-result.ensures) c.offset-inst.ensures.count c.judged.ensures
+
+pub returns-in-Err : goal.returns-in-Err
+returns-in-Err c =
+    let i = c.walk_within-result.new.inst in
+    slice_err c.args.strict c.args.bytes.now c.first_fifteen-within.result.now c.in-Err.error c.limited.result _ _ c.first_fifteen-within.ensures (c.new.ensures ∙ ap at_start c.first_fifteen-within.ensures)
+    (held_err c.walk_within-result.result.0 (reading_in i) c.in-Err.error _ _ c.in-Err.is c.walk_within-result.ensures) c.limited.ensures

@@ -1,0 +1,369 @@
+//! What a row of the operand encodings says.
+
+ghost use Rattle.std.specs.Prelude.{◌≡◌, ◌<◌};
+ghost use Rattle.x86_operands.specs.Encodings.{class_of, bytes_of, last_sign, reg_sign, rm_sign, same_place, sign_at, signs_in, plan_of, use_of, is_row, allowed, size_at};
+
+use crate::form_sizes::{
+    call_size, duplicate_size, extract_size, insert_size, nothing_size, push_immediate,
+    return_size, scalar_size, stream_size, unpack_size, v_size, whole_immediate,
+};
+use crate::order::{Order, Place};
+use crate::plans::{
+    ModrmUse, Plan, RegisterSlot, Sign, Signs, accumulator, immediate, memory_form, memory_only,
+    reads, register_at, register_only,
+};
+use x86_fields::Prefixes;
+use x86_opcodes::Opcode;
+use x86_regs::{RegSpec, RegisterClass};
+
+/// The groups whose rows reg alone chooses, by their opcode byte.
+#[derive(Clone, Copy, PartialEq, Eq, Debug, Drop)]
+pub enum RegGroup {
+    G80,
+    G81,
+    G83,
+    C0,
+    C1,
+    C6,
+    C7,
+    D0,
+    D1,
+    D2,
+    D3,
+    F6,
+    F7,
+    FE,
+    FF,
+}
+
+/// What stands behind the opcode byte.
+#[derive(Clone, Copy, PartialEq, Eq, Debug, Drop)]
+pub enum Behind {
+    Nothing,
+    Opcode,
+    Accumulator,
+    Fields,
+    Memory,
+    Registers,
+    /// A ModRM whose reg chooses the row.
+    ByReg(RegGroup),
+    /// A form with a plan of its own.
+    Peculiar(ModrmUse),
+    /// Another group.
+    Group,
+}
+
+/// The small letter behind G, E or Z: a class of registers, always the same or by W and 66.
+#[derive(Clone, Copy, PartialEq, Eq, Debug, Drop)]
+pub enum Width {
+    B,
+    Mm,
+    W,
+    D,
+    Q,
+    X,
+    V,
+    Vq,
+    Vd,
+    Dq,
+}
+
+/// The operand that is none of ModRM and no register of the opcode byte.
+#[derive(Clone, Copy, PartialEq, Eq, Debug, Drop)]
+pub enum Last {
+    Absent,
+    I8,
+    U8,
+    U16,
+    I32,
+    /// Of v, at most 4 bytes.
+    Iv,
+    /// Of v, with its whole width.
+    Ivq,
+    /// Of PUSH.
+    Ip,
+    /// 1 as a signed byte, which no byte spells.
+    One,
+    /// 1, which no byte spells.
+    Once,
+    /// 3, which no byte spells.
+    Three,
+    /// The register CL.
+    Cl,
+    /// The register CL, behind two others.
+    ClThird,
+}
+
+/// A memory size in bytes: by itself, by W and 66, or by the operation.
+#[derive(Clone, Copy, PartialEq, Eq, Debug, Drop)]
+pub enum Size {
+    Zero,
+    One,
+    Two,
+    Four,
+    Eight,
+    Sixteen,
+    V,
+    Dq,
+    /// 2 under 66, else 8.
+    Push,
+    Call,
+    Bare,
+    Return,
+    Duplicate,
+    Stream,
+    Scalar,
+    Extract,
+    Insert,
+    Unpack,
+}
+
+/// How the operands of a form are encoded.
+#[derive(Clone, Copy, PartialEq, Eq, Debug, Drop)]
+pub struct Encoding {
+    pub behind: Behind,
+    pub order: Order,
+    pub reg: Width,
+    pub rm: Width,
+    pub last: Last,
+    pub in_memory: Size,
+    pub in_register: Size,
+}
+
+impl Width {
+    #[inline(always)]
+    pub fn class(self, prefixes: &Prefixes) -> RegisterClass
+        ensures { result ≡ class_of self prefixes.now }
+    {
+        match self {
+            Width::B => RegisterClass::B,
+            Width::Mm => RegisterClass::MM,
+            Width::W => RegisterClass::W,
+            Width::D => RegisterClass::D,
+            Width::Q => RegisterClass::Q,
+            Width::X => RegisterClass::X,
+            Width::V => prefixes.v_class(),
+            Width::Vq => prefixes.vq_class(),
+            Width::Vd => prefixes.vd_class(),
+            Width::Dq => prefixes.dq_class(),
+        }
+    }
+}
+
+impl Size {
+    #[inline(always)]
+    pub fn bytes(self, opcode: Opcode, prefixes: &Prefixes) -> u8
+        ensures { result ≡ bytes_of self opcode prefixes.now }
+    {
+        match self {
+            Size::Zero => 0,
+            Size::One => 1,
+            Size::Two => 2,
+            Size::Four => 4,
+            Size::Eight => 8,
+            Size::Sixteen => 16,
+            Size::V => v_size(prefixes),
+            Size::Dq => prefixes.dq_class().width(),
+            Size::Push => if prefixes.operand_size() { 2 } else { 8 },
+            Size::Call => call_size(opcode),
+            Size::Bare => nothing_size(opcode),
+            Size::Return => return_size(opcode),
+            Size::Duplicate => duplicate_size(opcode),
+            Size::Stream => stream_size(opcode),
+            Size::Scalar => scalar_size(opcode),
+            Size::Extract => extract_size(opcode),
+            Size::Insert => insert_size(opcode),
+            Size::Unpack => unpack_size(opcode),
+        }
+    }
+}
+
+impl Last {
+    fn sign(self, prefixes: &Prefixes) -> Sign
+        ensures { result ≡ last_sign self prefixes.now }
+    {
+        match self {
+            Last::Absent => Sign::ConstantU8(0),
+            Last::I8 => Sign::I8,
+            Last::U8 => Sign::U8,
+            Last::U16 => Sign::U16,
+            Last::I32 => Sign::I32,
+            Last::Iv => immediate(prefixes.v_class()),
+            Last::Ivq => whole_immediate(prefixes.v_class()),
+            Last::Ip => push_immediate(prefixes),
+            Last::One => Sign::ConstantI8(1),
+            Last::Once => Sign::ConstantU8(1),
+            Last::Three => Sign::ConstantU8(3),
+            Last::Cl => Sign::Fixed(RegisterSlot::Reg, RegSpec::b(1)),
+            Last::ClThird => Sign::Fixed(RegisterSlot::Third, RegSpec::b(1)),
+        }
+    }
+}
+
+fn reg_sign(behind: Behind, width: Width, num: u8, prefixes: &Prefixes) -> Sign
+    requires { num < 8 }
+    ensures { result ≡ reg_sign behind width num prefixes.now }
+{
+    match (behind, width) {
+        (Behind::Opcode, w) => Sign::Fixed(
+            RegisterSlot::Reg,
+            register_at(num, w.class(prefixes), prefixes),
+        ),
+        (Behind::Accumulator, w) => accumulator(w.class(prefixes), prefixes),
+        (_, Width::Mm) => Sign::Gmm,
+        (_, w) => Sign::G(w.class(prefixes)),
+    }
+}
+
+fn rm_sign(behind: Behind, width: Width, prefixes: &Prefixes) -> Sign
+    ensures { result ≡ rm_sign behind width prefixes.now }
+{
+    match (behind, width) {
+        (Behind::Memory, _) => Sign::M,
+        (Behind::Registers, Width::Mm) => Sign::Umm,
+        (Behind::Registers, w) => Sign::U(w.class(prefixes)),
+        (_, Width::Mm) => Sign::Emm,
+        (_, w) => Sign::E(w.class(prefixes)),
+    }
+}
+
+fn is_at(place: Place, k: Place) -> bool
+    ensures { result ≡ same_place place k }
+{
+    match (place, k) {
+        (Place::First, Place::First) => true,
+        (Place::Second, Place::Second) => true,
+        (Place::Third, Place::Third) => true,
+        _ => false,
+    }
+}
+
+fn sign_at(order: &Order, k: Place, reg: Sign, rm: Sign, last: Sign) -> Sign
+    ensures { result ≡ sign_at order.now k reg rm last }
+{
+    if is_at(order.reg, k) {
+        reg
+    } else if is_at(order.rm, k) {
+        rm
+    } else {
+        last
+    }
+}
+
+fn signs_in(order: &Order, reg: Sign, rm: Sign, last: Sign) -> Signs
+    ensures { result ≡ signs_in order.now reg rm last }
+{
+    let first = sign_at(order, Place::First, reg, rm, last);
+    let second = sign_at(order, Place::Second, reg, rm, last);
+    let third = sign_at(order, Place::Third, reg, rm, last);
+    if order.count == 0 {
+        Signs::Zero
+    } else if order.count == 1 {
+        Signs::One(first)
+    } else if order.count == 2 {
+        Signs::Two(first, second)
+    } else {
+        Signs::Three(first, second, third)
+    }
+}
+
+impl Behind {
+    /// Whether a row describes the form.
+    #[inline(always)]
+    pub fn is_row(self) -> bool
+        ensures { result ≡ is_row self }
+    {
+        match self {
+            Behind::ByReg(_) | Behind::Peculiar(_) | Behind::Group => false,
+            _ => true,
+        }
+    }
+
+    /// Whether a row accepts at this ModRM byte; one that isn't there reads as C0.
+    #[inline(always)]
+    pub fn allows(self, modrm: u8) -> bool
+        ensures { result ≡ allowed self modrm }
+    {
+        match self {
+            Behind::Fields => true,
+            Behind::Memory => memory_form(modrm),
+            Behind::ByReg(_) | Behind::Peculiar(_) | Behind::Group => false,
+            _ => !memory_form(modrm),
+        }
+    }
+}
+
+impl Encoding {
+    /// The memory size at a ModRM byte.
+    #[inline(always)]
+    pub fn size_at(&self, modrm: u8) -> Size
+        ensures { result ≡ size_at self.now modrm }
+    {
+        if memory_form(modrm) {
+            self.in_memory
+        } else {
+            self.in_register
+        }
+    }
+
+    /// How a form with this encoding uses a ModRM byte.
+    #[inline(always)]
+    pub fn modrm_use(&self) -> ModrmUse
+        ensures { result ≡ use_of self.now.behind }
+    {
+        match self.behind {
+            Behind::Nothing | Behind::Opcode | Behind::Accumulator => ModrmUse::Absent,
+            Behind::Peculiar(usage) => usage,
+            _ => ModrmUse::Fields,
+        }
+    }
+
+    /// The plan of a form with this encoding, whose opcode byte carries `num`.
+    pub fn plan(&self, opcode: Opcode, num: u8, prefixes: &Prefixes, modrm: u8) -> Plan
+        requires { num < 8 }
+        ensures { result ≡ plan_of self.now num opcode prefixes.now modrm }
+    {
+        let reg = reg_sign(self.behind, self.reg, num, prefixes);
+        let rm = rm_sign(self.behind, self.rm, prefixes);
+        let signs = signs_in(&self.order, reg, rm, self.last.sign(prefixes));
+        let plan = reads(opcode, signs, self.size_at(modrm).bytes(opcode, prefixes));
+        match self.behind {
+            Behind::Memory => memory_only(modrm, plan),
+            Behind::Registers => register_only(modrm, plan),
+            _ => plan,
+        }
+    }
+}
+
+/// A row: what stands behind the opcode byte, the order of operands, the widths of reg and rm, the last operand, and the memory
+/// size in the memory form and in the register form.
+#[macro_export]
+macro_rules! row {
+    ($behind:ident $order:ident $reg:ident $rm:ident $last:ident $memory:ident $register:ident) => {
+        &$crate::Encoding {
+            behind: $crate::Behind::$behind,
+            order: $crate::order::$order,
+            reg: $crate::Width::$reg,
+            rm: $crate::Width::$rm,
+            last: $crate::Last::$last,
+            in_memory: $crate::Size::$memory,
+            in_register: $crate::Size::$register,
+        }
+    };
+}
+
+/// A form that no row describes.
+#[macro_export]
+macro_rules! other {
+    ($behind:expr) => {
+        &$crate::Encoding {
+            behind: $behind,
+            order: $crate::order::NO,
+            reg: $crate::Width::B,
+            rm: $crate::Width::B,
+            last: $crate::Last::Absent,
+            in_memory: $crate::Size::Zero,
+            in_register: $crate::Size::Zero,
+        }
+    };
+}

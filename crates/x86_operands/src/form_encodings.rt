@@ -1,0 +1,187 @@
+//! The operand encodings of the forms: a line a form.
+//!
+//! A row reads: what stands behind the opcode byte, the order of operands, the widths of reg and rm, the last operand, and the
+//! memory size in the memory form and in the register form. A width or a size that no operand has is B or Zero.
+
+ghost use Rattle.std.specs.Prelude.{◌≡◌, ◌<◌, true};
+ghost use Rattle.x86_forms.specs.Words.{IsForm};
+ghost use Rattle.x86_operands.specs.Forms.{modrm_use};
+ghost use Rattle.x86_operands.specs.Encodings.{Belongs, Describes, IsLeft, carried, is_sound, use_of};
+
+use crate::encodings::Behind::{ByReg, Group, Peculiar};
+use crate::encodings::{Encoding, RegGroup};
+use crate::plans::ModrmUse;
+use crate::{other, row};
+use x86_forms::Form;
+
+/// The operand encoding of a form.
+#[inline(always)]
+pub fn encoding_of(form: Form) -> &'static Encoding
+    ensures describes { Describes result.now form }
+    ensures peculiar { IsLeft result.now form }
+    ensures group { Belongs result.now.behind form }
+    ensures sound { is_sound result.now ≡ true }
+    ensures usage { modrm_use form ≡ use_of result.now.behind }
+{
+    match form {
+        // the register of the opcode byte
+        Form::Zv_R(_) => row!(Opcode R Vq B Absent Eight Eight),
+        Form::Zv_B(_) => row!(Opcode R V B Absent Zero Zero),
+        Form::Zb_Ib_R(_) => row!(Opcode R_I B B U8 Zero Zero),
+        Form::Zv_Ivq_R(_) => row!(Opcode R_I V B Ivq Zero Zero),
+        // the accumulator
+        Form::AL_Ibs => row!(Accumulator R_I B B I8 Zero Zero),
+        Form::AX_Ivd => row!(Accumulator R_I V B Iv Zero Zero),
+        Form::AL_Ib => row!(Accumulator R_I B B U8 Zero Zero),
+        Form::AX_Ib => row!(Accumulator R_I Vd B U8 Zero Zero),
+        Form::Ib_AL => row!(Accumulator I_R B B U8 Zero Zero),
+        Form::Ib_AX => row!(Accumulator I_R Vd B U8 Zero Zero),
+        // nothing, or an immediate
+        Form::Nothing => row!(Nothing NO B B Absent Bare Bare),
+        Form::AH => row!(Nothing NO B B Absent Zero Zero),
+        Form::Ibs => row!(Nothing I B B I8 Zero Zero),
+        Form::Ib => row!(Nothing I B B U8 Zero Zero),
+        Form::Iw => row!(Nothing I B B U16 Return Return),
+        Form::I_1 => row!(Nothing I B B Once Zero Zero),
+        Form::I_3 => row!(Nothing I B B Three Zero Zero),
+        Form::Jvds => row!(Nothing I B B I32 Call Call),
+        Form::PushIbs => row!(Nothing I B B I8 Eight Eight),
+        Form::PushIvs => row!(Nothing I B B Ip Eight Eight),
+        // general registers
+        Form::Eb_Gb => row!(Fields E_G B B Absent One One),
+        Form::Ev_Gv => row!(Fields E_G V V Absent V V),
+        Form::Gb_Eb => row!(Fields G_E B B Absent One One),
+        Form::Gv_Ev => row!(Fields G_E V V Absent V V),
+        Form::Gv_M => row!(Memory G_E V V Absent V V),
+        Form::M_Gv => row!(Memory E_G V V Absent V V),
+        Form::Eb_R0 => row!(Fields E B B Absent One One),
+        Form::Ev => row!(Fields E B V Absent V V),
+        Form::Gv_Eb => row!(Fields G_E V B Absent One Zero),
+        Form::Gv_Ew => row!(Fields G_E V W Absent Two Zero),
+        Form::Gdq_Ed => row!(Fields G_E Q D Absent Four V),
+        Form::Gd_Ed => row!(Fields G_E D D Absent Four V),
+        Form::Gdq_Ev => row!(Fields G_E Dq V Absent Four V),
+        Form::Gv_Ev_Ib => row!(Fields G_E_I V V I8 V V),
+        Form::Gv_Ev_Iv => row!(Fields G_E_I V V Iv V V),
+        Form::Ev_Gv_Ib => row!(Fields E_G_I V V I8 V V),
+        Form::Ev_Gv_CL => row!(Fields E_G_I V V ClThird V V),
+        Form::Gv_Ew_LAR => row!(Fields G_E V V Absent Two V),
+        Form::Gv_Ew_LSL => row!(Fields G_E V Vd Absent Two V),
+        Form::Mdq_Gdq => row!(Memory E_G Dq Q Absent Dq Dq),
+        Form::G_E_q => row!(Fields G_E Q Q Absent Eight V),
+        Form::E_G_q => row!(Fields E_G Q Q Absent Eight V),
+        // xmm registers
+        Form::G_E_xmm => row!(Fields G_E X X Absent Duplicate V),
+        Form::E_G_xmm => row!(Fields E_G X X Absent Sixteen V),
+        Form::G_Ed_xmm => row!(Fields G_E X X Absent Four V),
+        Form::Ed_G_xmm => row!(Fields E_G X X Absent Four V),
+        Form::G_M_xmm => row!(Memory G_E X X Absent Sixteen Sixteen),
+        Form::M_G_xmm => row!(Memory E_G X X Absent Stream Stream),
+        Form::G_E_xmm_Ib => row!(Fields G_E_I X X I8 Scalar V),
+        Form::G_E_xmm_Ub => row!(Fields G_E_I X X U8 Sixteen V),
+        Form::PMOVX_E_G_xmm => row!(Fields E_G X X Absent Eight V),
+        Form::MOVQ_f30f => row!(Fields G_E X X Absent Eight V),
+        Form::Gdq_Eq_xmm => row!(Fields G_E V X Absent Eight V),
+        Form::Gv_E_xmm => row!(Fields G_E V X Absent Four V),
+        Form::Gd_U_xmm => row!(Registers G_E D X Absent V V),
+        Form::G_U_xmm => row!(Registers G_E X X Absent V V),
+        Form::MASKMOVDQU => row!(Registers G_E X X Absent Sixteen Sixteen),
+        Form::G_U_xmm_Ub => row!(Registers G_E_I D X U8 V V),
+        Form::Ev_G_xmm_Ib => row!(Fields E_G_I X V U8 Extract Extract),
+        Form::G_Ev_xmm_Ib => row!(Fields G_E_I X X U8 Insert V),
+        Form::G_xmm_Ew_Ib => row!(Fields G_E_I X D U8 Two V),
+        Form::G_xmm_Edq => row!(Fields G_E X Dq Absent V V),
+        // mm registers
+        Form::G_xmm_E_mm => row!(Fields G_E X Mm Absent Eight V),
+        Form::G_mm_E_xmm => row!(Fields G_E Mm X Absent Sixteen V),
+        Form::G_xmm_U_mm => row!(Registers G_E X Mm Absent V V),
+        Form::G_mm_U_xmm => row!(Registers G_E Mm X Absent V V),
+        Form::G_U_mm => row!(Registers G_E D Mm Absent V V),
+        Form::G_E_mm => row!(Fields G_E Mm Mm Absent Unpack V),
+        Form::G_mm_E => row!(Fields G_E Mm Mm Absent Eight V),
+        Form::E_G_mm => row!(Fields E_G Mm Mm Absent Eight V),
+        Form::G_E_mm_Ib => row!(Fields G_E_I Mm Mm I8 Eight Zero),
+        Form::G_mm_Edq => row!(Fields G_E Mm Dq Absent V V),
+        Form::Edq_G_mm => row!(Fields E_G Mm Dq Absent Dq V),
+        Form::G_Mq_mm => row!(Memory E_G Mm Q Absent Eight Eight),
+        Form::G_mm_U_mm => row!(Registers G_E Mm Mm Absent Eight Eight),
+        Form::G_mm_Ew_Ib => row!(Fields G_E_I Mm D I8 Two V),
+        // plans of their own, with ModRM and without
+        Form::Ew_Sw
+        | Form::Sw_Ew
+        | Form::INV_Gv_M
+        | Form::MOVDIR64B
+        | Form::PMOVX_G_E_xmm
+        | Form::Pextr_dq
+        | Form::Pinsr_dq
+        | Form::Edq_G_xmm
+        | Form::Rv_Gmm_Ib => other!(Peculiar(ModrmUse::Fields)),
+        Form::Zv_AX_R(_) | Form::CVT_AA | Form::CVT_DA | Form::Fw | Form::FS | Form::GS => other!(
+            Peculiar(ModrmUse::Absent)
+        ),
+        Form::Iw_Ib | Form::CXZ => other!(Peculiar(ModrmUse::Absent)),
+        Form::AL_DX | Form::AX_DX | Form::DX_AL | Form::DX_AX => other!(Peculiar(ModrmUse::Absent)),
+        Form::AL_Ob | Form::AX_Ov | Form::Ob_AL | Form::Ov_AX => other!(Peculiar(ModrmUse::Absent)),
+        Form::AL_Xb | Form::AX_Xv | Form::Yb_AL | Form::Yv_AX | Form::Yb_Xb | Form::Yv_Xv => other!(
+            Peculiar(ModrmUse::Absent)
+        ),
+        Form::Yb_DX | Form::Yv_DX | Form::DX_Xb | Form::DX_Xv => other!(Peculiar(ModrmUse::Absent)),
+        // groups by reg
+        Form::ModRM_0x80 => other!(ByReg(RegGroup::G80)),
+        Form::ModRM_0x81 => other!(ByReg(RegGroup::G81)),
+        Form::ModRM_0x83 => other!(ByReg(RegGroup::G83)),
+        Form::ModRM_0xc0 => other!(ByReg(RegGroup::C0)),
+        Form::ModRM_0xc1 => other!(ByReg(RegGroup::C1)),
+        Form::ModRM_0xc6 => other!(ByReg(RegGroup::C6)),
+        Form::ModRM_0xc7 => other!(ByReg(RegGroup::C7)),
+        Form::ModRM_0xd0 => other!(ByReg(RegGroup::D0)),
+        Form::ModRM_0xd1 => other!(ByReg(RegGroup::D1)),
+        Form::ModRM_0xd2 => other!(ByReg(RegGroup::D2)),
+        Form::ModRM_0xd3 => other!(ByReg(RegGroup::D3)),
+        Form::ModRM_0xf6 => other!(ByReg(RegGroup::F6)),
+        Form::ModRM_0xf7 => other!(ByReg(RegGroup::F7)),
+        Form::ModRM_0xfe => other!(ByReg(RegGroup::FE)),
+        Form::ModRM_0xff => other!(ByReg(RegGroup::FF)),
+        // the other groups
+        Form::x87_d8 | Form::x87_d9 | Form::x87_da | Form::x87_db => other!(Group),
+        Form::x87_dc | Form::x87_dd | Form::x87_de | Form::x87_df => other!(Group),
+        Form::Rq_Cq_0 | Form::Rq_Dq_0 | Form::Cq_Rq_0 | Form::Dq_Rq_0 => other!(Group),
+        Form::ModRM_0x8f | Form::ModRM_0x0f00 | Form::ModRM_0x0f01 | Form::ModRM_0x0f0d => other!(
+            Group
+        ),
+        Form::ModRM_0x0f0f | Form::ModRM_0x0f12 | Form::ModRM_0x0f16 | Form::ModRM_0x0f18 => other!(
+            Group
+        ),
+        Form::ModRM_0x0f71 | Form::ModRM_0x0f72 | Form::ModRM_0x0f73 | Form::ModRM_0x0fae => other!(
+            Group
+        ),
+        Form::ModRM_0x0fba | Form::ModRM_0x0fc7 | Form::ModRM_0x660f78 | Form::ModRM_0xf20f78 =>
+            other!(Group),
+        Form::ModRM_0xf30f1e
+        | Form::ModRM_0xf30f38d8
+        | Form::ModRM_0xf30f38dc
+        | Form::ModRM_0xf30f38dd => other!(Group),
+        Form::ModRM_0xf30f38de
+        | Form::ModRM_0xf30f38df
+        | Form::ModRM_0xf30f38fa
+        | Form::ModRM_0xf30f38fb => other!(Group),
+        Form::ModRM_0xf30f3af0 => other!(Group),
+    }
+}
+
+/// The number that a form carries, or 0.
+#[inline(always)]
+pub fn carried(form: Form) -> u8
+    requires { IsForm form }
+    ensures value { result ≡ carried form }
+    ensures small { result < 8 }
+{
+    match form {
+        Form::Zv_R(num)
+        | Form::Zv_AX_R(num)
+        | Form::Zb_Ib_R(num)
+        | Form::Zv_Ivq_R(num)
+        | Form::Zv_B(num) => num,
+        _ => 0,
+    }
+}

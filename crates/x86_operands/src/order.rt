@@ -1,0 +1,112 @@
+//! In which order the operands of a form stand.
+
+ghost use Rattle.std.specs.Prelude.{◌≡◌};
+ghost use Rattle.x86_operands.specs.Encodings.{somewhere};
+
+/// Which operand something is.
+#[derive(Clone, Copy, PartialEq, Eq, Debug, Drop)]
+pub enum Place {
+    First,
+    Second,
+    Third,
+    Nowhere,
+}
+
+impl Place {
+    #[inline(always)]
+    pub fn is_somewhere(self) -> bool
+        ensures { result ≡ somewhere self }
+    {
+        match self {
+            Place::Nowhere => false,
+            _ => true,
+        }
+    }
+}
+
+/// In which order the operands stand.
+#[derive(Clone, Copy, PartialEq, Eq, Debug, Drop)]
+pub struct Order {
+    pub count: u8,
+    pub reg: Place,
+    pub rm: Place,
+    pub last: Place,
+}
+
+/// No operand.
+pub const NO: Order = Order {
+    count: 0,
+    reg: Place::Nowhere,
+    rm: Place::Nowhere,
+    last: Place::Nowhere,
+};
+/// The last one alone.
+pub const I: Order = Order {
+    count: 1,
+    reg: Place::Nowhere,
+    rm: Place::Nowhere,
+    last: Place::First,
+};
+/// The register of reg, of the opcode byte, or 0.
+pub const R: Order = Order {
+    count: 1,
+    reg: Place::First,
+    rm: Place::Nowhere,
+    last: Place::Nowhere,
+};
+
+pub const R_I: Order = Order {
+    count: 2,
+    reg: Place::First,
+    rm: Place::Nowhere,
+    last: Place::Second,
+};
+
+pub const I_R: Order = Order {
+    count: 2,
+    reg: Place::Second,
+    rm: Place::Nowhere,
+    last: Place::First,
+};
+/// The operand of rm.
+pub const E: Order = Order {
+    count: 1,
+    reg: Place::Nowhere,
+    rm: Place::First,
+    last: Place::Nowhere,
+};
+
+pub const E_I: Order = Order {
+    count: 2,
+    reg: Place::Nowhere,
+    rm: Place::First,
+    last: Place::Second,
+};
+
+pub const E_G: Order = Order {
+    count: 2,
+    reg: Place::Second,
+    rm: Place::First,
+    last: Place::Nowhere,
+};
+
+pub const G_E: Order = Order {
+    count: 2,
+    reg: Place::First,
+    rm: Place::Second,
+    last: Place::Nowhere,
+};
+
+pub const E_G_I: Order = Order {
+    count: 3,
+    reg: Place::Second,
+    rm: Place::First,
+    last: Place::Third,
+};
+
+pub const G_E_I: Order = Order {
+    count: 3,
+    reg: Place::First,
+    rm: Place::Second,
+    last: Place::Third,
+};
