@@ -10,3 +10,8 @@ pub mod Causes
 pub mod LineLaws
 pub mod SweepLaws
 pub mod TargetLaws
+pub mod OutsideLaws
+pub mod Tells
+pub mod StayLaws
+pub mod SaysLaws
+pub mod ProgramLaws

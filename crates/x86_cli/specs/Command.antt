@@ -1,4 +1,5 @@
-use Rattle.std.specs.Prelude.{ℕ, Bool, true, false, List, [], ◌∷◌, Option, Some, None, ◌&&◌, if◌then◌else◌, codes, bytes_eq}
+use Rattle.std.specs.Prelude.{ℕ, Bool, true, false, List, [], ◌∷◌, Option, Some, None, ◌&&◌, if◌then◌else◌, IfSome, map, codes, bytes_eq, String, string_bytes}
+use Rattle.std.specs.declared.alloc.Global.{Global}
 use Rattle.x86_cli.specs.declared.command.Command.{Command}
 use Rattle.x86_cli.specs.declared.command.Command.TheVariants.{List as Listed, Sweep as Swept, Targets as Targeted, Fields as Fielded, Tighten as Tightened}
 use Rattle.x86_cli.specs.declared.command.TheConstants.{TEXT_MAX, TARGETS_MAX}
@@ -27,6 +28,10 @@ command_of [] = None
 command_of (a ∷ []) = command_by a
 command_of (a ∷ b ∷ []) = if bytes_eq a (codes "list") && bytes_eq b (codes "--strict") then Some (Listed true) else None
 command_of (a ∷ b ∷ c ∷ words) = None
+
+-- Where the words are a command that reads, this is so of it.
+abbrev pub IfCommand : List (String Global) → (Command → Type 0) → Type 0
+IfCommand words says = IfSome (command_of (map string_bytes words)) says
 
 -- what a command lists of a text
 abbrev pub listing_for : Command → Text → Listing
