@@ -15,3 +15,4 @@ pub mod Tells
 pub mod StayLaws
 pub mod SaysLaws
 pub mod ProgramLaws
+pub mod AheadLaws

@@ -4,8 +4,9 @@ use Rattle.std.specs.Prelude.{⊤}
 use Rattle.x86_cli.specs.declared.source.Got.{Got}
 use Rattle.x86_cli.specs.declared.sink.SinkFailed.{SinkFailed}
 use Rattle.x86_cli.specs.declared.status.Status.{Status}
-use Rattle.x86_cli.specs.Run.{Closes, Ran}
-use Rattle.x86_cli.proofs.Stands.{Stands, stands_step, ran_failed, ran_closed, ran_unclosed}
+use Rattle.x86_cli.specs.Run.{Closes, RanInWindow}
+use Rattle.x86_cli.proofs.Stands.{Stands}
+use Rattle.x86_cli.proofs.AheadLaws.{reaches, end_one, stands_line, window_failed, window_closed, window_unclosed}
 use Rattle.std.proofs.lemmas.List.{drop-append-le, take-append-le}
 use Rattle.x86_decode.specs.declared.instructions.Instruction.{Instruction}
 use Rattle.x86_fields.specs.declared.DecodeError.{DecodeError}
@@ -41,37 +42,37 @@ module _ (strict : Bool) (text : ℕ → Instruction → List ℕ → List ℕ) 
 
   -- between two lines
   module _ {S K : Type 0} (gives : S → Got → S → Type 0) (takes : K → List ℕ → Result ⊤ SinkFailed → K → Type 0)
-      (max n : ℕ) (ended : Option Ending) (w : List ℕ) (p r : ℕ) (a b : S) (k l : K) (s : Stands gives takes at max n ended w p r a b k l) where
+      (max n : ℕ) (ended : Option Ending) (w : List ℕ) (p r : ℕ) (a b : S) (k l : K) (s : Stands gives takes at reaches max n ended w p r a b k l) where
     -- what the window shows of its front
     module _ (i : Instruction) (some : 0 < i.length) (le : i.length ≤ length w)
         (whole : (xs : List ℕ) (stop : Stop) → front_of strict (rest_of ended w p r xs stop).image (rest_of ended w p r xs stop).ending ≡ Whole i)
         (written : List ℕ) (is : written ≡ text n i (take i.length w)) (m : K) where
-      pub list_line : (w' : List ℕ) → w' ≡ drop i.length w → takes l (line written) (Ok tt) m → Stands gives takes at max (n + i.length) ended w' p r a b k m
-      list_line w' dropped put = rw dropped (stands_step gives takes at max n ended w p r a b k l s (line written ∷ []) (n + i.length) (drop i.length w)
-          (λ xs stop. rw is (rest_line ended n w i p r xs stop (whole xs stop) some le)) m (m, put, refl))
+      pub list_line : (w' : List ℕ) → w' ≡ drop i.length w → takes l (line written) (Ok tt) m → Stands gives takes at reaches max (n + i.length) ended w' p r a b k m
+      list_line w' dropped put = rw dropped (stands_line gives takes at max n ended w p r a b k l s (line written) i.length le
+          (λ xs stop. rw is (rest_line ended n w i p r xs stop (whole xs stop) some le)) m put)
 
-      pub list_failed : (e : SinkFailed) → takes l (line written) (Err e) m → Ran gives takes (at 0) max outcome.WriteFault a b k m
-      list_failed e put = ran_failed gives takes at max n ended w p r a b k l s (line written)
+      pub list_failed : length w ≤ 15 → (e : SinkFailed) → takes l (line written) (Err e) m → RanInWindow gives takes at max outcome.WriteFault a b k m
+      list_failed few e put = window_failed gives takes at max n ended w p r a b k l s few (line written)
           (λ xs stop. (at (n + i.length) (rest_of ended (drop i.length w) p r xs stop), rw is (rest_line ended n w i p r xs stop (whole xs stop) some le))) e m put
 
-    module _ (error : DecodeError)
+    module _ (few : length w ≤ 15) (error : DecodeError)
         (refused : (xs : List ℕ) (stop : Stop) → front_of strict (rest_of ended w p r xs stop).image (rest_of ended w p r xs stop).ending ≡ Refused error) where
       last_refusal : (xs : List ℕ) (stop : Stop) → at n (rest_of ended w p r xs stop) ≡ record { lines = line (refusal_text n error) ∷ []; status = outcome.Refused }
       last_refusal xs stop = listing-refused strict text n (rest_of ended w p r xs stop).image (rest_of ended w p r xs stop).ending error (refused xs stop)
 
-      pub list_refused : (status : Status) (m : K) → Closes takes (record { lines = line (refusal_text n error) ∷ []; status = outcome.Refused }) (Ok status) l m → Ran gives takes (at 0) max status a b k m
-      list_refused status m closes = ran_closed gives takes at max n ended w p r a b k l s _ last_refusal status m closes
+      pub list_refused : (status : Status) (m : K) → Closes takes (record { lines = line (refusal_text n error) ∷ []; status = outcome.Refused }) (Ok status) l m → RanInWindow gives takes at max status a b k m
+      list_refused status m closes = window_closed gives takes at max n ended w p r a b k l s few _ (omega arith) last_refusal status m closes
 
-      pub list_unrefused : (e : SinkFailed) (m : K) → Closes takes (record { lines = line (refusal_text n error) ∷ []; status = outcome.Refused }) (Err e) l m → Ran gives takes (at 0) max outcome.WriteFault a b k m
-      list_unrefused e m closes = ran_unclosed gives takes at max n ended w p r a b k l s _ last_refusal e m closes
+      pub list_unrefused : (e : SinkFailed) (m : K) → Closes takes (record { lines = line (refusal_text n error) ∷ []; status = outcome.Refused }) (Err e) l m → RanInWindow gives takes at max outcome.WriteFault a b k m
+      list_unrefused e m closes = window_unclosed gives takes at max n ended w p r a b k l s few _ last_refusal e m closes
 
-    module _ (e : Ending)
+    module _ (few : length w ≤ 15) (e : Ending)
         (ends : (xs : List ℕ) (stop : Stop) → front_of strict (rest_of ended w p r xs stop).image (rest_of ended w p r xs stop).ending ≡ Ended e) where
       last_end : (xs : List ℕ) (stop : Stop) → at n (rest_of ended w p r xs stop) ≡ at_end e
       last_end xs stop = listing-ended strict text n (rest_of ended w p r xs stop).image (rest_of ended w p r xs stop).ending e (ends xs stop)
 
-      pub list_ended : (status : Status) (m : K) → Closes takes (at_end e) (Ok status) l m → Ran gives takes (at 0) max status a b k m
-      list_ended status m closes = ran_closed gives takes at max n ended w p r a b k l s (at_end e) last_end status m closes
+      pub list_ended : (status : Status) (m : K) → Closes takes (at_end e) (Ok status) l m → RanInWindow gives takes at max status a b k m
+      list_ended status m closes = window_closed gives takes at max n ended w p r a b k l s few (at_end e) (end_one e) last_end status m closes
 
-      pub list_unended : (f : SinkFailed) (m : K) → Closes takes (at_end e) (Err f) l m → Ran gives takes (at 0) max outcome.WriteFault a b k m
-      list_unended f m closes = ran_unclosed gives takes at max n ended w p r a b k l s (at_end e) last_end f m closes
+      pub list_unended : (f : SinkFailed) (m : K) → Closes takes (at_end e) (Err f) l m → RanInWindow gives takes at max outcome.WriteFault a b k m
+      list_unended f m closes = window_unclosed gives takes at max n ended w p r a b k l s few (at_end e) last_end f m closes

@@ -9,10 +9,10 @@ use Rattle.x86_cli.specs.declared.text.Stop.TheVariants.{Failed}
 use Rattle.x86_cli.specs.declared.status.Status.{Status}
 use Rattle.x86_cli.specs.declared.status.Status.TheVariants as outcome
 use Rattle.x86_cli.specs.declared.window.Window.{Window}
-use Rattle.x86_cli.specs.Text.{Text, text_at, text_of}
+use Rattle.x86_cli.specs.Text.{Text, text_of}
 use Rattle.x86_cli.specs.Reading.{Asked, Gave, MayCome}
 use Rattle.x86_cli.specs.Listing.{Listing, with_lines}
-use Rattle.x86_cli.specs.Window.{rest_of, Open, Fills}
+use Rattle.x86_cli.specs.Window.{behind, rest_of, Open, Fills}
 use Rattle.x86_cli.specs.Run.{Took, Closes, Ran}
 use Rattle.x86_cli.proofs.ReadLaws.{gave-gave, asked-asked, asked-same}
 
@@ -22,6 +22,9 @@ with-with a b l = ap (λ ls. record { lines = ls; status = l.status }) (sym (app
 pub match_case : {A B G : Type 0} (o : Option Ending) → MatchOption o A (λ e. B) → (o ≡ None → A → G) → (B → G) → G
 match_case None m f g = f refl m
 match_case (Some e) m f g = g m
+
+pub behind-behind : (a b : List ℕ) (t : Text) → behind a (behind b t) ≡ behind (a ++ b) t
+behind-behind a b t = ap (λ i. record { image = i; ending = t.ending }) (sym (append_assoc a b t.image))
 
 -- at an end, what is left is the window
 pub rest_is : (at : ℕ → Text → Listing) (n : ℕ) (ended : Option Ending) (w : List ℕ) (p r : ℕ) (e : Ending) (l : Listing) → ended ≡ Some e →
@@ -35,30 +38,35 @@ module _ {K : Type 0} (takes : K → List ℕ → Result ⊤ SinkFailed → K �
   took-took (x ∷ u) t failed a b d e f = (e.0, e.1, took-took u t failed e.0 b d e.2 f)
 
 -- at place text: what is listed of a text that stands from a place on
-module _ {S K : Type 0} (gives : S → Got → S → Type 0) (takes : K → List ℕ → Result ⊤ SinkFailed → K → Type 0) (at : ℕ → Text → Listing) where
+-- Walks place walked: these bytes of the image stand in front of what is left, at this place
+module _ {S K : Type 0} (gives : S → Got → S → Type 0) (takes : K → List ℕ → Result ⊤ SinkFailed → K → Type 0) (at : ℕ → Text → Listing) (Walks : ℕ → List ℕ → Type 0) where
   pub record Stands (max n : ℕ) (ended : Option Ending) (w : List ℕ) (p r : ℕ) (source source' : S) (sink sink' : K) : Type 0 where
     pub bytes : List ℕ
     pub stop : Option Stop
     pub gave : Gave gives bytes stop source source'
     pub asked : Asked (text_of max) bytes stop
     pub goes_on : Open ended stop
-    pub text : ended ≡ None → (xs : List ℕ) (s : Stop) → (text_of max (bytes ++ xs) s).ending ≡ (text_at p r xs s).ending
+    pub walked : List ℕ
+    pub walks : Walks n walked
+    pub front : (xs : List ℕ) (s : Stop) → MayCome stop xs s → text_of max (bytes ++ xs) s ≡ behind walked (rest_of ended w p r xs s)
     pub lines : List (List ℕ)
     pub took : Took takes lines None sink sink'
     pub lists : (xs : List ℕ) (s : Stop) → MayCome stop xs s → at 0 (text_of max (bytes ++ xs) s) ≡ with_lines lines (at n (rest_of ended w p r xs s))
 
-  pub stands_new : (max : ℕ) (a : S) (k : K) → Stands max 0 None [] 0 max a a k k
-  stands_new max a k = record { bytes = []; stop = None; gave = refl; asked = tt; goes_on = refl; text = λ _ xs s. refl; lines = []; took = refl; lists = λ xs s _. refl }
+  pub stands_new : Walks 0 [] → (max : ℕ) (a : S) (k : K) → Stands max 0 None [] 0 max a a k k
+  stands_new walks max a k = record { bytes = []; stop = None; gave = refl; asked = tt; goes_on = refl; walked = []; walks = walks; front = λ xs s _. refl; lines = []; took = refl; lists = λ xs s _. refl }
 
   -- the text was read to its end
-  pub stands_whole : (max : ℕ) (e : Ending) (w : List ℕ) (a b : S) (k : K) → Fills gives (text_of max) (Some e) w 0 0 a b → Stands max 0 (Some e) w 0 0 a b k k
-  stands_whole max e w a b k fills = record {
+  pub stands_whole : Walks 0 [] → (max : ℕ) (e : Ending) (w : List ℕ) (a b : S) (k : K) → Fills gives (text_of max) (Some e) w 0 0 a b → Stands max 0 (Some e) w 0 0 a b k k
+  stands_whole walks max e w a b k fills = record {
     bytes = fills.bytes;
     stop = fills.stop;
     gave = fills.gave;
     asked = fills.asked;
     goes_on = tt;
-    text = λ none. cc;
+    walked = [];
+    walks = walks;
+    front = fills.rest;
     lines = [];
     took = refl;
     lists = λ xs s may. ap (at 0) (fills.rest xs s may);
@@ -72,13 +80,13 @@ module _ {S K : Type 0} (gives : S → Got → S → Type 0) (takes : K → List
     gave = let P : Option Stop → Type 0 = λ o. Gave gives s.bytes o a b in gave-gave gives s.bytes fills.bytes fills.stop a b d (subst P s.goes_on s.gave) fills.gave;
     asked = let P : Option Stop → Type 0 = λ o. Asked (text_of max) s.bytes o in
         asked-asked (text_of max) s.bytes fills.bytes fills.stop (subst P s.goes_on s.asked)
-        (asked-same (λ xs stop. text_of max (s.bytes ++ xs) stop) (rest_of None w p r) fills.bytes fills.stop (λ xs. s.text refl xs Failed) fills.asked);
+        (asked-same (λ xs stop. text_of max (s.bytes ++ xs) stop) (rest_of None w p r) fills.bytes fills.stop (λ xs. ap (λ t. t.ending) (s.front xs Failed (rw s.goes_on tt))) fills.asked);
     goes_on = fills.goes_on;
-    text = λ none xs stop.
-        let P : Option Ending → Type 0 = λ o. Open o fills.stop in
-        let open_yet : fills.stop ≡ None = subst P none fills.goes_on in
-        let may : MayCome fills.stop xs stop = rw open_yet tt in
-        rw append_assoc (s.text refl (fills.bytes ++ xs) stop ∙ ap (λ t. t.ending) (fills.rest xs stop may) ∙ rw none refl);
+    walked = s.walked;
+    walks = s.walks;
+    front = λ xs stop may.
+        let may' : MayCome s.stop (fills.bytes ++ xs) stop = rw s.goes_on tt in
+        rw append_assoc (s.front (fills.bytes ++ xs) stop may' ∙ ap (behind s.walked) (fills.rest xs stop may));
     lines = s.lines;
     took = s.took;
     lists = λ xs stop may.
@@ -102,26 +110,24 @@ module _ {S K : Type 0} (gives : S → Got → S → Type 0) (takes : K → List
   module _ (max n : ℕ) (ended : Option Ending) (w : List ℕ) (p r : ℕ) (a b : S) (k l : K) (s : Stands max n ended w p r a b k l) where
     pub stands_step : (ls : List (List ℕ)) (n' : ℕ) (w' : List ℕ) →
         ((xs : List ℕ) (stop : Stop) → at n (rest_of ended w p r xs stop) ≡ with_lines ls (at n' (rest_of ended w' p r xs stop))) →
-        (m : K) → Took takes ls None l m → Stands max n' ended w' p r a b k m
-    stands_step ls n' w' step m took = record {
+        (ahead : List ℕ) → ((xs : List ℕ) (stop : Stop) → rest_of ended w p r xs stop ≡ behind ahead (rest_of ended w' p r xs stop)) →
+        ((walked : List ℕ) → Walks n walked → Walks n' (walked ++ ahead)) → (m : K) → Took takes ls None l m → Stands max n' ended w' p r a b k m
+    stands_step ls n' w' step ahead split longer m took = record {
       bytes = s.bytes;
       stop = s.stop;
       gave = s.gave;
       asked = s.asked;
       goes_on = s.goes_on;
-      text = s.text;
+      walked = s.walked ++ ahead;
+      walks = longer s.walked s.walks;
+      front = λ xs stop may. s.front xs stop may ∙ ap (behind s.walked) (split xs stop) ∙ behind-behind s.walked ahead (rest_of ended w' p r xs stop);
       lines = s.lines ++ ls;
       took = took-took takes s.lines ls None k l m s.took took;
       lists = λ xs stop may. s.lists xs stop may ∙ ap (with_lines s.lines) (step xs stop) ∙ with-with s.lines ls (at n' (rest_of ended w' p r xs stop));
     }
 
-    pub stands_line : (x : List ℕ) (n' : ℕ) (w' : List ℕ) →
-        ((xs : List ℕ) (stop : Stop) → at n (rest_of ended w p r xs stop) ≡ with_lines (x ∷ []) (at n' (rest_of ended w' p r xs stop))) →
-        (m : K) → takes l x (Ok tt) m → Stands max n' ended w' p r a b k m
-    stands_line x n' w' step m put = stands_step (x ∷ []) n' w' step m (m, put, refl)
-
     -- a put failed
-    pub ran_failed : (x : List ℕ) → ((xs : List ℕ) (stop : Stop) → (after : Listing) × (at n (rest_of ended w p r xs stop) ≡ with_lines (x ∷ []) after)) →
+    abbrev pub ran_failed : (x : List ℕ) → ((xs : List ℕ) (stop : Stop) → (after : Listing) × (at n (rest_of ended w p r xs stop) ≡ with_lines (x ∷ []) after)) →
         (e : SinkFailed) (m : K) → takes l x (Err e) m → Ran gives takes (at 0) max outcome.WriteFault a b k m
     ran_failed x front e m failed = record {
       bytes = s.bytes;
@@ -138,7 +144,7 @@ module _ {S K : Type 0} (gives : S → Got → S → Type 0) (takes : K → List
     }
 
     -- a last listing
-    pub ran_closed : (last : Listing) → ((xs : List ℕ) (stop : Stop) → at n (rest_of ended w p r xs stop) ≡ last) →
+    abbrev pub ran_closed : (last : Listing) → ((xs : List ℕ) (stop : Stop) → at n (rest_of ended w p r xs stop) ≡ last) →
         (status : Status) (m : K) → Closes takes last (Ok status) l m → Ran gives takes (at 0) max status a b k m
     ran_closed last is status m closes = record {
       bytes = s.bytes;
@@ -152,7 +158,7 @@ module _ {S K : Type 0} (gives : S → Got → S → Type 0) (takes : K → List
           s.lists xs stop may ∙ ap (with_lines s.lines) (is xs stop) ∙ ap (λ st. record { lines = s.lines ++ last.lines; status = st }) (sym closes.0);
     }
 
-    pub ran_unclosed : (last : Listing) → ((xs : List ℕ) (stop : Stop) → at n (rest_of ended w p r xs stop) ≡ last) →
+    abbrev pub ran_unclosed : (last : Listing) → ((xs : List ℕ) (stop : Stop) → at n (rest_of ended w p r xs stop) ≡ last) →
         (e : SinkFailed) (m : K) → Closes takes last (Err e) l m → Ran gives takes (at 0) max outcome.WriteFault a b k m
     ran_unclosed last is e m closes =
         let whole : last ≡ with_lines (closes.0 ∷ []) (record { lines = []; status = last.status }) = ap (λ ls. record { lines = ls; status = last.status }) closes.1 in

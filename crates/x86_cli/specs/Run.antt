@@ -1,12 +1,14 @@
-use Rattle.std.specs.Prelude.{◌≡◌, ℕ, List, [], ◌∷◌, ◌++◌, Option, Some, None, Result, Ok, Err, ⊤}
+use Rattle.std.specs.Prelude.{◌≡◌, ◌≤◌, ℕ, List, [], ◌∷◌, ◌++◌, length, Option, Some, None, Result, Ok, Err, ⊤}
 use Rattle.x86_cli.specs.declared.source.Got.{Got}
 use Rattle.x86_cli.specs.declared.sink.SinkFailed.{SinkFailed}
 use Rattle.x86_cli.specs.declared.text.Stop.{Stop}
+use Rattle.x86_cli.specs.declared.text.Stop.TheVariants.{Failed}
 use Rattle.x86_cli.specs.declared.status.Status.{Status}
 use Rattle.x86_cli.specs.declared.status.Status.TheVariants.{WriteFault}
 use Rattle.x86_cli.specs.Text.{Text, text_of}
 use Rattle.x86_cli.specs.Reading.{Gave, Asked, MayCome}
-use Rattle.x86_cli.specs.Listing.{Listing}
+use Rattle.x86_cli.specs.Listing.{Listing, with_lines}
+use Rattle.x86_cli.specs.Window.{behind}
 
 -- The run wrote these lines of the listing and ended so: all of them, or those before the one at which the sink failed.
 abbrev pub Lists : Status → List (List ℕ) → Option (List ℕ) → Listing → Type 0
@@ -44,3 +46,24 @@ pub record Ran {S K : Type 0} (gives : S → Got → S → Type 0) (takes : K �
   pub failed : Option (List ℕ)
   pub took : Took takes lines failed sink sink'
   pub lists : (xs : List ℕ) (s : Stop) → MayCome stop xs s → Lists status lines failed (listing (text_of max (bytes ++ xs) s))
+
+-- How far ahead of its lines a run reads: the image that the source gave is what the lines walked, up to their place, and at most 15 bytes
+-- more. Of every text that begins with what was given, the listing is the lines shown, and then that of the rest from this place on. At most
+-- one line is put behind them: a refusal's or an end's.
+pub record Ahead (at : ℕ → Text → Listing) (text : List ℕ → Stop → Text) (bytes : List ℕ) (stop : Option Stop) (lines : List (List ℕ)) : Type 0 where
+  pub walked : List ℕ
+  pub held : List ℕ
+  pub taken : (text bytes Failed).image ≡ walked ++ held
+  pub few : length held ≤ 15
+  pub shown : List (List ℕ)
+  pub last : List (List ℕ)
+  pub split : lines ≡ shown ++ last
+  pub one : length last ≤ 1
+  pub lists : (xs : List ℕ) (s : Stop) → MayCome stop xs s →
+      (rest : Text) × (text (bytes ++ xs) s ≡ behind walked rest) × (at 0 (text (bytes ++ xs) s) ≡ with_lines shown (at (length walked) rest))
+
+-- A run that holds a window: at place text is the listing of a text that stands from a place on.
+abbrev pub RanInWindow : {S K : Type 0} → (S → Got → S → Type 0) → (K → List ℕ → Result ⊤ SinkFailed → K → Type 0) →
+    (ℕ → Text → Listing) → ℕ → Status → S → S → K → K → Type 0
+RanInWindow gives takes at max status source source' sink sink' =
+    (ran : Ran gives takes (at 0) max status source source' sink sink') × Ahead at (text_of max) ran.bytes ran.stop ran.lines

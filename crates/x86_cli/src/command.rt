@@ -2,9 +2,9 @@
 
 ghost use Rattle.std.specs.Prelude.{◌≡◌, ◌≢◌, ◌↔◌, ℕ, IsTrue, IfSome, Some, None, map, string_bytes};
 ghost use Rattle.x86_cli.specs.Faults.{Rose};
-ghost use Rattle.x86_cli.specs.Command.{command_by, command_of, IfCommand, listing_for, max_of, goes_past_refusals};
+ghost use Rattle.x86_cli.specs.Command.{command_by, command_of, IfCommand, Runs, goes_past_refusals};
 ghost use Rattle.x86_cli.specs.Make.{IsMake, IsNoCommand, made_listing};
-ghost use Rattle.x86_cli.specs.Run.{Ran, Wrote};
+ghost use Rattle.x86_cli.specs.Run.{Wrote};
 ghost use Rattle.x86_cli.specs.Says.{Sees, Says, IsExact, HasReadFault, Completes};
 
 use crate::fields::FieldLines;
@@ -92,7 +92,7 @@ fn decoder(strict: bool) -> InstDecoder
 }
 
 fn obey<S: Source, K: Sink>(command: Command, source: &mut S, sink: &mut K) -> Status
-    ensures ran { Ran S.gives K.takes (listing_for command) (max_of command) result source.old source.new sink.old sink.new }
+    ensures ran { Runs S.gives K.takes command result source.old source.new sink.old sink.new }
     ensures unrefused { IsTrue (goes_past_refusals command) → result ≢ Status.Refused }
 {
     match command {
@@ -107,7 +107,7 @@ fn obey<S: Source, K: Sink>(command: Command, source: &mut S, sink: &mut K) -> S
 /// Does what the words say. `list`, `list --strict`, `fields`, `tighten`, `sweep` and `targets` read a hex text from the source, at most
 /// `TEXT_MAX` bytes of it (`TARGETS_MAX` for `targets`), and write its listing to the sink, a call of `put` for each line.
 pub fn run<S: Source, K: Sink>(words: &[String], source: &mut S, sink: &mut K) -> Status
-    ensures ran { IfCommand words.now (λ c. Ran S.gives K.takes (listing_for c) (max_of c) result source.old source.new sink.old sink.new) }
+    ensures ran { IfCommand words.now (λ c. Runs S.gives K.takes c result source.old source.new sink.old sink.new) }
     ensures made { (n : ℕ) → IsMake (map string_bytes words.now) n → Wrote K.takes (made_listing n) result sink.old sink.new }
     ensures usage { (result ≡ Status.Usage) ↔ IsNoCommand (map string_bytes words.now) }
     ensures reads_nothing { command_of (map string_bytes words.now) ≡ None → source.new ≡ source.old }

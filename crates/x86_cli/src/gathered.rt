@@ -1,6 +1,6 @@
 //! Output that is gathered, without an allocation.
 
-ghost use Rattle.std.specs.Prelude.{◌≡◌, ◌+◌, ◌≤◌, [], ◌++◌, length, take, OnOk};
+ghost use Rattle.std.specs.Prelude.{◌≡◌, ◌+◌, ◌≤◌, [], ◌++◌, length, take, drop, OnOk};
 ghost use Rattle.std.specs.Io.KnownBytes.{Keeps, Appends, WriteAppends, append_known};
 ghost use Rattle.std.specs.Io.{WritesAtMost};
 ghost use Rattle.arrayvec.specs.ArrayVec.{array_vec_len};
@@ -45,10 +45,23 @@ impl<W: Write + Drop> Gathered<W> {
             (append_known (W.contents self.new.writer) self.new.bytes.items) }
     {
         let (sent, result) = send_out(self.bytes.as_slice(), &mut self.writer);
-        let mut rest = ArrayVec::new();
-        append(&mut rest, &self.bytes.as_slice()[sent..]);
-        self.bytes = rest;
+        self.leave(sent);
         result
+    }
+
+    /// Lets the first bytes go.
+    fn leave(&mut self, count: usize)
+        requires { count ≤ array_vec_len self.old.bytes }
+        ensures bytes { self.new.bytes.items ≡ drop count self.old.bytes.items }
+        ensures writer { self.new.writer ≡ self.old.writer }
+    {
+        if count == self.bytes.len() {
+            self.bytes.clear();
+            return;
+        }
+        let mut rest = ArrayVec::new();
+        append(&mut rest, &self.bytes.as_slice()[count..]);
+        self.bytes = rest;
     }
 }
 

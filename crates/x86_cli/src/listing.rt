@@ -3,8 +3,8 @@
 ghost use Rattle.std.specs.Prelude.{◌≡◌, ℕ, ◌<◌, ◌≤◌, ◌^◌, [], ◌∷◌, length};
 ghost use Rattle.arrayvec.specs.ArrayVec.{array_vec_len};
 ghost use Rattle.x86_cli.specs.Line.{line, refusal_text};
-ghost use Rattle.x86_cli.specs.Listing.{at_end, listing_of};
-ghost use Rattle.x86_cli.specs.Run.{Ran, Closes};
+ghost use Rattle.x86_cli.specs.Listing.{at_end, listing_at};
+ghost use Rattle.x86_cli.specs.Run.{RanInWindow, Closes};
 
 use crate::laws::decoder_laws;
 use crate::line::{Line, Lines, push_bytes, refusal_of, text_error};
@@ -80,7 +80,7 @@ pub fn list<L: Lines, S: Source, K: Sink>(
     sink: &mut K,
 ) -> Status
     requires { max < 2 ^ 62 }
-    ensures { Ran S.gives K.takes (listing_of decoder.now.strict (L.text lines.now decoder.now.strict)) max result source.old source.new sink.old sink.new }
+    ensures { RanInWindow S.gives K.takes (listing_at decoder.now.strict (L.text lines.now decoder.now.strict)) max result source.old source.new sink.old sink.new }
 {
     decoder_laws();
     let mut window = Window::new(max);

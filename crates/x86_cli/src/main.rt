@@ -17,6 +17,8 @@ mod make;
 #[cfg(test)]
 mod plain_table;
 mod program;
+#[cfg(test)]
+mod program_tests;
 mod sink;
 mod source;
 mod status;

@@ -2,7 +2,7 @@
 
 ghost use Rattle.std.specs.Prelude.{◌≡◌, ◌≢◌, ◌<◌, ◌≤◌, ◌^◌, None};
 ghost use Rattle.arrayvec.specs.ArrayVec.{array_vec_len};
-ghost use Rattle.x86_cli.specs.Run.{Ran};
+ghost use Rattle.x86_cli.specs.Run.{RanInWindow};
 ghost use Rattle.x86_layout.specs.Cuts.{cut_length};
 ghost use Rattle.x86_cli.specs.Sweep.{cut_text, sweep_at, ShowsCut};
 
@@ -64,7 +64,7 @@ pub fn sweep<S: Source, K: Sink>(
     sink: &mut K,
 ) -> Status
     requires { max < 2 ^ 62 }
-    ensures ran { Ran S.gives K.takes (sweep_at decoder.now.strict 0) max result source.old source.new sink.old sink.new }
+    ensures ran { RanInWindow S.gives K.takes (sweep_at decoder.now.strict) max result source.old source.new sink.old sink.new }
     ensures unrefused { result ≢ Status.Refused }
 {
     let mut window = Window::new(max);

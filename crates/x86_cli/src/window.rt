@@ -72,6 +72,7 @@ impl Window {
         requires { self.old.ended ≡ None }
         ensures fills { Fills S.gives (rest_of None self.old.bytes.items self.old.reader.place self.old.reader.room)
             self.new.ended self.new.bytes.items self.new.reader.place self.new.reader.room source.old source.new }
+        ensures few { array_vec_len self.new.bytes ≤ 15 }
         ensures full { self.new.ended ≡ None → array_vec_len self.new.bytes ≡ 15 }
         ensures uses { array_vec_len self.new.bytes + self.new.reader.room ≤ array_vec_len self.old.bytes + self.old.reader.room }
     {
@@ -93,6 +94,7 @@ impl Window {
             self.new.ended self.new.bytes.items self.new.reader.place self.new.reader.room source.old source.new)
             (λ e. (self.new ≡ self.old) × (source.new ≡ source.old)) }
         ensures full { self.new.ended ≡ None → array_vec_len self.new.bytes ≡ 15 }
+        ensures few { array_vec_len self.old.bytes ≤ 15 → array_vec_len self.new.bytes ≤ 15 }
         ensures uses { array_vec_len self.new.bytes + self.new.reader.room ≤ array_vec_len self.old.bytes + self.old.reader.room }
     {
         if self.ended.is_none() {
