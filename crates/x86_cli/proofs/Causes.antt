@@ -1,17 +1,23 @@
 -- What a run's status says of its causes.
-use Rattle.std.proofs.Common.{◌≡◌, ◌≢◌, ℕ, false, ◌+◌, ◌<◌, ◌≤◌, Bool, List, [], ◌∷◌, ◌++◌, length, drop, Option, Some, None, Ok, Err, refl, arith, ap, ◌∙◌, sym, subst, length-append}
+use Rattle.std.proofs.Common.{◌≡◌, ◌≢◌, ℕ, suc, zero, false, ◌+◌, ◌-◌, ◌<◌, ◌≤◌, Bool, List, [], ◌∷◌, ◌++◌, length, drop, Option, Some, None, Result, Ok, Err, refl, arith, ap, ◌∙◌, sym, length-append, take, true}
 use Rattle.std.proofs.Math.Seq.{drop-append_seam}
-use Rattle.std.specs.Prelude.{IfSome}
+use Rattle.std.specs.Prelude.{⊤}
 use Rattle.std.specs.List.{concat}
-use Rattle.x86_cli.specs.Faults.{Rose}
 use Rattle.x86_decode.specs.declared.instructions.Instruction.{Instruction}
+use Rattle.x86_fields.specs.declared.DecodeError.{DecodeError}
 use Rattle.x86_fields.specs.declared.DecodeError.TheVariants.{ExhaustedInput}
 use Rattle.x86_decode.specs.Answer.{answer_of}
-use Rattle.x86_cli.specs.declared.text.Ending.TheVariants.{Clean}
-use Rattle.x86_cli.specs.declared.window.Front.TheVariants.{Whole}
+use Rattle.x86_cli.specs.declared.source.Got.{Got}
+use Rattle.x86_cli.specs.declared.sink.SinkFailed.{SinkFailed}
+use Rattle.x86_cli.specs.declared.text.Ending.{Ending}
+use Rattle.x86_cli.specs.declared.text.Ending.TheVariants.{Clean, Bad, Large, Fault}
+use Rattle.x86_cli.specs.declared.text.Stop.{Stop}
+use Rattle.x86_cli.specs.declared.text.Stop.TheVariants.{End, Failed}
+use Rattle.x86_cli.specs.declared.window.Front.{Front}
+use Rattle.x86_cli.specs.declared.window.Front.TheVariants.{Whole, Refused, Ended}
 use Rattle.x86_cli.specs.declared.status.Status.{Status}
-use Rattle.x86_cli.specs.declared.status.Status.TheVariants.{Done, Usage, Refused, BadText, ReadFault, WriteFault, TooLarge}
-use Rattle.x86_cli.specs.declared.text.Stop.TheVariants.{End}
+use Rattle.x86_cli.specs.declared.status.Status.TheVariants as outcome
+use Rattle.x86_cli.specs.declared.status.Status.TheVariants.{Done, Usage}
 use Rattle.x86_cli.specs.declared.command.Command.{Command}
 use Rattle.x86_cli.specs.declared.command.Command.TheVariants.{List as Listed, Sweep as Swept, Targets as Targeted, Fields as Fielded, Tighten as Tightened}
 use Rattle.x86_layout.specs.Front.{parts_of}
@@ -20,51 +26,126 @@ use Rattle.x86_cli.specs.Fields.{fields_text}
 use Rattle.x86_cli.specs.Tighten.{least_text}
 use Rattle.x86_layout.specs.Least.{least_of}
 use Rattle.x86_cli.specs.Command.{listing_for}
-use Rattle.x86_cli.specs.Text.{Text, text_of}
-use Rattle.x86_cli.specs.Listing.{Listing, front_of, sure_of, listing_from}
-use Rattle.x86_cli.specs.Run.{World, IsSound, Writes, full_listing, Says, Exactly, ReachesFault}
-use Rattle.x86_cli.specs.Complete.{IsSentence, AreSentences, GoesThrough, Completes}
+use Rattle.x86_cli.specs.Text.{Text, text_at, text_of, ending_by, bad_of, ends_in_half}
+use Rattle.x86_cli.specs.Reading.{MayCome}
+use Rattle.x86_cli.specs.Listing.{Listing, at_end, front_of, judged, sure_of, listed, listing_from}
+use Rattle.x86_cli.specs.Run.{Lists, Ran}
+use Rattle.x86_cli.specs.Causes.{HaveCauses}
+use Rattle.x86_cli.specs.Complete.{IsSentence, AreSentences, CompletesTexts}
 use Rattle.x86_cli.specs.DecoderLaws.{DecoderLaws}
 use Rattle.x86_cli.proofs.FrontLaws.{front-stays}
 use Rattle.x86_cli.proofs.ListingLaws.{listing-whole}
 
-each_known : {P Q : List ℕ → Type 0} (o : Option (List ℕ)) → ((b : List ℕ) → P b → Q b) → IfSome o P → IfSome o Q
-each_known None f h = tt
-each_known (Some b) f h = f b h
+-- a status with which no listing of a text ends
 
-any_known : {Q : List ℕ → Type 0} (o : Option (List ℕ)) → ((b : List ℕ) → Q b) → IfSome o Q
-any_known None f = tt
-any_known (Some b) f = f b
+judged_end : (answer : Result Instruction DecodeError) (e g : Ending) → judged answer e ≡ Ended g → g ≡ e
+judged_end (Ok i) e g h = cc
+judged_end (Err ExhaustedInput) Clean g h = cc
+judged_end (Err ExhaustedInput) (Bad n) g h = cc
+judged_end (Err ExhaustedInput) Large g h = cc
+judged_end (Err ExhaustedInput) Fault g h = cc
+judged_end (Err error) e g h = cc
 
-module _ (listing : Text → Listing) (max : ℕ) (old new : World) where
-  -- the whole listing, where neither count rose
-  writes_all : (result : Status) → Says listing max result old new → IfSome old.left (λ b. IsSound old new → Writes result old new (full_listing listing max b))
-  writes_all Done says = each_known old.left (λ b w _. w) says.0
-  writes_all Usage says = absurd says
-  writes_all Refused says = each_known old.left (λ b w _. w) says.0
-  writes_all BadText says = each_known old.left (λ b w _. w) says.0
-  writes_all TooLarge says = each_known old.left (λ b w _. w) says.0
-  writes_all ReadFault says = any_known old.left (λ b sound. absurd (sound.0 says.0.cause))
-  writes_all WriteFault says = any_known old.left (λ b sound. absurd (sound.1 says.0))
+front_end : (strict : Bool) (x : ℕ) (xs : List ℕ) (e g : Ending) → front_of strict (x ∷ xs) e ≡ Ended g → g ≡ e
+unfolding front_of
+front_end strict x xs e g h = judged_end (answer_of strict (x ∷ xs)) e g h
 
-  pub exactly : (result status : Status) → Says listing max result old new → Exactly listing max result status old new
-  exactly result status says =
-      each_known old.left (λ b w sound. let e = (w sound).0 in (λ h. sym e ∙ h, λ h. e ∙ h)) (writes_all result says)
+module _ (other : Status) (refusal : outcome.Refused ≢ other) (e : Ending) (end : (at_end e).status ≢ other) where
+  module _ (strict : Bool) (text : ℕ → Instruction → List ℕ → List ℕ) where
+    listed_never : (f : Front) (n : ℕ) (xs : List ℕ) (after : ℕ → Listing) → ((g : Ending) → f ≡ Ended g → g ≡ e) → ((k : ℕ) → (after k).status ≢ other) →
+        (listed strict text f n xs after).status ≢ other
+    listed_never (Whole i) n xs after same h = h (i.length - 1)
+    listed_never (Refused error) n xs after same h = refusal
+    listed_never (Ended g) n xs after same h = rw (same g refl) end
 
-  pub not_usage : (result : Status) → Says listing max result old new → result ≡ Usage → ⊥
-  not_usage result says e = let P : Status → Type 0 = λ s. Says listing max s old new in subst P e says
+    listing_never : (n k : ℕ) (xs : List ℕ) → (listing_from strict text n k xs e).status ≢ other
+    unfolding listing_from
+    listing_never n k [] = end
+    listing_never n zero (x ∷ xs) = listed_never (front_of strict (x ∷ xs) e) n (x ∷ xs) _ (front_end strict x xs e) (λ k. listing_never (n + 1) k xs)
+    listing_never n (suc k) (x ∷ xs) = listing_never (n + 1) k xs
 
-  pub source_rose : (result : Status) → Says listing max result old new → result ≡ ReadFault → Rose old.source_faults new.source_faults
-  source_rose result says e = let P : Status → Type 0 = λ s. Says listing max s old new in let h : Says listing max ReadFault old new = subst P e says in h.0.cause
+  pub command_never : (c : Command) (image : List ℕ) → (listing_for c (record { image = image; ending = e })).status ≢ other
+  command_never (Listed strict) image = listing_never strict (λ place instruction bytes. instruction_text place instruction) 0 0 image
+  command_never Fielded image = listing_never false (λ place instruction bytes. fields_text place (parts_of false bytes)) 0 0 image
+  command_never Tightened image = listing_never false (λ place instruction bytes. least_text place instruction.length (least_of false bytes)) 0 0 image
+  command_never Swept image = end
+  command_never Targeted image = end
 
-  pub reaches_fault : (result : Status) → Says listing max result old new → result ≡ ReadFault → ReachesFault listing max old.left new.left
-  reaches_fault result says e =
-      let P : Status → Type 0 = λ s. Says listing max s old new in
-      let h : Says listing max ReadFault old new = subst P e says in
-      (h.0.taken, h.0.takes, sym h.0.writes.0)
+end_used : (e : Ending) → (at_end e).status ≢ Usage
+end_used Clean = λ f. cc
+end_used (Bad n) = λ f. cc
+end_used Large = λ f. cc
+end_used Fault = λ f. cc
 
-  pub sink_rose : (result : Status) → Says listing max result old new → result ≡ WriteFault → Rose old.sink_faults new.sink_faults
-  sink_rose result says e = let P : Status → Type 0 = λ s. Says listing max s old new in let h : Says listing max WriteFault old new = subst P e says in h.0
+end_written : (e : Ending) → (at_end e).status ≢ outcome.WriteFault
+end_written Clean = λ f. cc
+end_written (Bad n) = λ f. cc
+end_written Large = λ f. cc
+end_written Fault = λ f. cc
+
+end_read : (e : Ending) → e ≢ Fault → (at_end e).status ≢ outcome.ReadFault
+end_read Clean ne = λ f. cc
+end_read (Bad n) ne = λ f. cc
+end_read Large ne = λ f. cc
+end_read Fault ne = absurd (ne refl)
+
+-- the bytes up to the end are no fault
+ending_end : (p : ℕ) (o : Option ℕ) (more : List ℕ) (half : Bool) (len : ℕ) → ending_by p o more half len End ≢ Fault
+ending_end p (Some n) more half len = λ f. cc
+ending_end p None (x ∷ more) half len = λ f. cc
+ending_end p None [] true len = λ f. cc
+ending_end p None [] false len = λ f. cc
+
+text_end : (max : ℕ) (bytes : List ℕ) → (text_of max bytes End).ending ≢ Fault
+unfolding text_at
+text_end max bytes = ending_end 0 (bad_of (take max bytes)) (drop max bytes) (ends_in_half (take max bytes)) (length bytes)
+
+pub command_used : (c : Command) (t : Text) → (listing_for c t).status ≢ Usage
+command_used c t = command_never Usage (λ f. cc) t.ending (end_used t.ending) c t.image
+
+pub command_read : (c : Command) (max : ℕ) (bytes : List ℕ) → (listing_for c (text_of max bytes End)).status ≢ outcome.ReadFault
+command_read c max bytes =
+    let t = text_of max bytes End in
+    command_never outcome.ReadFault (λ f. cc) t.ending (end_read t.ending (text_end max bytes)) c t.image
+
+pub command_written : (c : Command) (t : Text) → (listing_for c t).status ≢ outcome.WriteFault
+command_written c t = command_never outcome.WriteFault (λ f. cc) t.ending (end_written t.ending) c t.image
+
+-- a stop that may come behind the bytes that were given
+pub some_stop : (stop : Option Stop) → (s : Stop) × MayCome stop [] s
+some_stop None = (End, tt)
+some_stop (Some given) = (given, (refl, refl))
+
+lists_used : (status : Status) (lines : List (List ℕ)) (failed : Option (List ℕ)) (l : Listing) → Lists status lines failed l → l.status ≢ Usage → status ≢ Usage
+lists_used status lines None l h ne = λ e. ne (ap (λ l. l.status) h ∙ e)
+lists_used status lines (Some failed) l h ne = λ e. let f : outcome.WriteFault ≡ Usage = sym h.0 ∙ e in cc
+
+pub ran_used : {S K : Type 0} (gives : S → Got → S → Type 0) (takes : K → List ℕ → Result ⊤ SinkFailed → K → Type 0) (c : Command) (max : ℕ) (status : Status) (a b : S) (k l : K) →
+    Ran gives takes (listing_for c) max status a b k l → status ≢ Usage
+ran_used gives takes c max status a b k l ran =
+    let s = some_stop ran.stop in
+    lists_used status ran.lines ran.failed _ (ran.lists [] s.0 s.1) (command_used c _)
+
+lists_read : (lines : List (List ℕ)) (failed : Option (List ℕ)) (l : Listing) → Lists outcome.ReadFault lines failed l → l.status ≢ outcome.ReadFault → ⊥
+lists_read lines None l h ne = ne (ap (λ l. l.status) h)
+lists_read lines (Some failed) l h ne = let e : outcome.ReadFault ≡ outcome.WriteFault = h.0 in cc
+
+lists_written : (lines : List (List ℕ)) (failed : Option (List ℕ)) (l : Listing) → Lists outcome.WriteFault lines failed l → l.status ≢ outcome.WriteFault → failed ≢ None
+lists_written lines None l h ne = λ _. ne (ap (λ l. l.status) h)
+lists_written lines (Some failed) l h ne = λ e. cc
+
+pub fault_stop : (stop : Option Stop) → (MayCome stop [] End → ⊥) → stop ≡ Some Failed
+fault_stop None never = absurd (never tt)
+fault_stop (Some End) never = absurd (never (refl, refl))
+fault_stop (Some Failed) never = refl
+
+pub causes : {S K : Type 0} (gives : S → Got → S → Type 0) (takes : K → List ℕ → Result ⊤ SinkFailed → K → Type 0) → HaveCauses gives takes
+causes gives takes c max a b k l = (
+  λ ran. fault_stop ran.stop (λ may. lists_read ran.lines ran.failed _ (ran.lists [] End may) (command_read c max (ran.bytes ++ []))),
+  λ ran.
+      let s = some_stop ran.stop in
+      lists_written ran.lines ran.failed _ (ran.lists [] s.0 s.1) (command_written c _),
+)
 
 -- rows of sentences
 
@@ -88,19 +169,12 @@ module _ (strict : Bool) (laws : DecoderLaws strict) (text : ℕ → Instruction
       ∙ row_done (n + i.length) ss each.1
 
 -- the listing of a clean text whose image a command goes through
-text_done : (command : Command) → ((strict : Bool) → DecoderLaws strict) → (t : Text) → t.ending ≡ Clean → GoesThrough command t.image → (listing_for command t).status ≡ Done
-text_done (Listed strict) laws t clean row =
+pub text_done : ((strict : Bool) → DecoderLaws strict) → CompletesTexts
+text_done laws (Listed strict) t clean row =
     rw (clean, row.whole) (row_done strict (laws strict) (λ place instruction bytes. instruction_text place instruction) 0 row.sentences row.each)
-text_done Fielded laws t clean row =
+text_done laws Fielded t clean row =
     rw (clean, row.whole) (row_done false (laws false) (λ place instruction bytes. fields_text place (parts_of false bytes)) 0 row.sentences row.each)
-text_done Tightened laws t clean row =
+text_done laws Tightened t clean row =
     rw (clean, row.whole) (row_done false (laws false) (λ place instruction bytes. least_text place instruction.length (least_of false bytes)) 0 row.sentences row.each)
-text_done Swept laws t clean any = rw clean refl
-text_done Targeted laws t clean any = rw clean refl
-
-pub completes : (command : Command) → ((strict : Bool) → DecoderLaws strict) → (max : ℕ) (old new : World) (result : Status) →
-    Says (listing_for command) max result old new → Completes command max result old new
-completes command laws max old new result says =
-    each_known old.left
-    (λ b w clean through sound. let h = w sound in (h.0 ∙ text_done command laws (text_of max b End) clean through, h.1))
-    (writes_all (listing_for command) max old new result says)
+text_done laws Swept t clean any = rw clean refl
+text_done laws Targeted t clean any = rw clean refl

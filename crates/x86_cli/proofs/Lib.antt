@@ -10,3 +10,9 @@ pub mod Causes
 pub mod LineLaws
 pub mod SweepLaws
 pub mod TargetLaws
+pub mod OutsideLaws
+pub mod Tells
+pub mod StayLaws
+pub mod SaysLaws
+pub mod ProgramLaws
+pub mod AheadLaws

@@ -7,7 +7,7 @@ use Rattle.x86_cli.specs.declared.window.Front.{Front}
 use Rattle.x86_cli.specs.declared.window.Front.TheVariants.{Whole, Refused, Ended}
 use Rattle.x86_cli.specs.declared.status.Status.TheVariants as status
 use Rattle.x86_cli.specs.Line.{line, refusal_text}
-use Rattle.x86_cli.specs.Listing.{Listing, with_bytes, at_end, front_of, listed, listing_from, LinesLeaveStatus}
+use Rattle.x86_cli.specs.Listing.{Listing, with_lines, at_end, front_of, listed, listing_from, LinesLeaveStatus}
 
 module _ (strict : Bool) (text : ℕ → Instruction → List ℕ → List ℕ) where
   -- bytes that belong to an instruction before
@@ -22,24 +22,24 @@ module _ (strict : Bool) (text : ℕ → Instruction → List ℕ → List ℕ) 
       rw place (listing-skip (n + 1) k xs e le')
 
   whole-at : (n k : ℕ) (xs : List ℕ) (e : Ending) (i : Instruction) → front_of strict xs e ≡ Whole i → i.length ≡ suc k → suc k ≤ length xs →
-      listing_from strict text n 0 xs e ≡ with_bytes (line (text n i (take i.length xs))) (listing_from strict text (n + suc k) 0 (drop (suc k) xs) e)
+      listing_from strict text n 0 xs e ≡ with_lines (line (text n i (take i.length xs)) ∷ []) (listing_from strict text (n + suc k) 0 (drop (suc k) xs) e)
   unfolding listing_from
   whole-at n k [] e i h len le = absurd (omega arith)
   whole-at n k (x ∷ xs) e i h len le =
       let less : i.length - 1 ≡ k = omega arith in
       let le' : k ≤ length xs = omega arith in
       let place : n + suc k ≡ (n + 1) + k = omega arith in
-      rw (h, less, place) (ap (with_bytes (line (text n i (take i.length (x ∷ xs))))) (listing-skip (n + 1) k xs e le'))
+      rw (h, less, place) (ap (with_lines (line (text n i (take i.length (x ∷ xs))) ∷ [])) (listing-skip (n + 1) k xs e le'))
 
   pub listing-whole : (n : ℕ) (xs : List ℕ) (e : Ending) (i : Instruction) → front_of strict xs e ≡ Whole i → 0 < i.length → i.length ≤ length xs →
-      listing_from strict text n 0 xs e ≡ with_bytes (line (text n i (take i.length xs))) (listing_from strict text (n + i.length) 0 (drop i.length xs) e)
+      listing_from strict text n 0 xs e ≡ with_lines (line (text n i (take i.length xs)) ∷ []) (listing_from strict text (n + i.length) 0 (drop i.length xs) e)
   listing-whole n xs e i h some le =
       let len : i.length ≡ suc (i.length - 1) = omega arith in
-      let P : ℕ → Type 0 = λ m. listing_from strict text n 0 xs e ≡ with_bytes (line (text n i (take i.length xs))) (listing_from strict text (n + m) 0 (drop m xs) e) in
+      let P : ℕ → Type 0 = λ m. listing_from strict text n 0 xs e ≡ with_lines (line (text n i (take i.length xs)) ∷ []) (listing_from strict text (n + m) 0 (drop m xs) e) in
       subst P (sym len) (whole-at n (i.length - 1) xs e i h len (omega arith))
 
   pub listing-refused : (n : ℕ) (xs : List ℕ) (e : Ending) (error : DecodeError) → front_of strict xs e ≡ Refused error →
-      listing_from strict text n 0 xs e ≡ record { bytes = line (refusal_text n error); status = status.Refused }
+      listing_from strict text n 0 xs e ≡ record { lines = line (refusal_text n error) ∷ []; status = status.Refused }
   unfolding listing_from front_of
   listing-refused n [] e error h = cc
   listing-refused n (x ∷ xs) e error h = rw h refl

@@ -1,6 +1,5 @@
 -- The sweep by its cuts.
-use Rattle.std.proofs.Common.{Bool, ◌≡◌, ◌≢◌, ℕ, ◌+◌, ◌<◌, ◌≤◌, List, [], ◌++◌, length, drop, Option, Some, None, Result, Ok, Err, refl, arith, ap, ◌∙◌, sym, length-append}
-use Rattle.std.specs.List.{flat_map}
+use Rattle.std.proofs.Common.{Bool, ◌≡◌, ◌≢◌, ℕ, ◌+◌, ◌<◌, ◌≤◌, List, [], ◌∷◌, ◌++◌, map, length, drop, Option, Some, None, Result, Ok, Err, refl, arith, ap, ◌∙◌, sym, length-append}
 use Rattle.std.proofs.lemmas.List.{drop-append-le}
 use Rattle.x86_decode.specs.declared.instructions.Instruction.{Instruction}
 use Rattle.x86_fields.specs.declared.DecodeError.{DecodeError}
@@ -14,7 +13,7 @@ use Rattle.x86_cli.specs.declared.text.Stop.{Stop}
 use Rattle.x86_cli.specs.Text.{Text, text_at}
 use Rattle.x86_cli.specs.declared.sweep.Cut.TheVariants.{Piece}
 use Rattle.x86_cli.specs.Line.{line}
-use Rattle.x86_cli.specs.Listing.{with_bytes, at_end}
+use Rattle.x86_cli.specs.Listing.{with_lines, at_end}
 use Rattle.x86_cli.specs.Window.{rest_of}
 use Rattle.x86_layout.specs.Cuts.{cut_length, cut_at, cuts_from}
 use Rattle.x86_layout.proofs.CutLaws.{first_and_rest, none_left}
@@ -23,25 +22,25 @@ use Rattle.x86_cli.proofs.Stands.{with-with}
 
 module _ (strict : Bool) where
   sweep-cut : (n len : ℕ) (xs : List ℕ) (e : Ending) (a : Result Instruction DecodeError) → answer_of strict xs ≡ a → cut_length a ≡ len → 0 < len → len ≤ length xs →
-      sweep_at strict n (record { image = xs; ending = e }) ≡ with_bytes (line (cut_text n a)) (sweep_at strict (n + len) (record { image = drop len xs; ending = e }))
+      sweep_at strict n (record { image = xs; ending = e }) ≡ with_lines (line (cut_text n a) ∷ []) (sweep_at strict (n + len) (record { image = drop len xs; ending = e }))
   sweep-cut n len xs e a h same some le =
-      let behind : List ℕ = flat_map cut_line (cuts_from strict (n + len) (drop len xs)) in
-      ap (λ cs. with_bytes (flat_map cut_line cs) (at_end e)) (first_and_rest strict len n xs (ap cut_length h ∙ same) some (omega arith))
-      ∙ sym (with-with (cut_line (cut_at strict n xs)) behind (at_end e))
-      ∙ ap (λ a. with_bytes (line (cut_text n a)) (with_bytes behind (at_end e))) h
+      let behind : List (List ℕ) = map cut_line (cuts_from strict (n + len) (drop len xs)) in
+      ap (λ cs. with_lines (map cut_line cs) (at_end e)) (first_and_rest strict len n xs (ap cut_length h ∙ same) some (omega arith))
+      ∙ sym (with-with (cut_line (cut_at strict n xs) ∷ []) behind (at_end e))
+      ∙ ap (λ a. with_lines (line (cut_text n a) ∷ []) (with_lines behind (at_end e))) h
 
   -- one cut of the rest
   pub rest_cut : (ended : Option Ending) (n : ℕ) (w : List ℕ) (p r : ℕ) (a : Result Instruction DecodeError) → ShowsCut strict (Piece a) ended w p r → (xs : List ℕ) (stop : Stop) →
-      sweep_at strict n (rest_of ended w p r xs stop) ≡ with_bytes (line (cut_text n a)) (sweep_at strict (n + cut_length a) (rest_of ended (drop (cut_length a) w) p r xs stop))
+      sweep_at strict n (rest_of ended w p r xs stop) ≡ with_lines (line (cut_text n a) ∷ []) (sweep_at strict (n + cut_length a) (rest_of ended (drop (cut_length a) w) p r xs stop))
   rest_cut None n w p r a shows xs stop =
       let t : Text = text_at p r xs stop in
       let fits : cut_length a ≤ length (w ++ t.image) = simp length-append (omega (arith, shows.1)) in
       sweep-cut n (cut_length a) (w ++ t.image) t.ending a (shows.2 xs stop) refl shows.0 fits
-      ∙ ap (λ ys. with_bytes (line (cut_text n a)) (sweep_at strict (n + cut_length a) (record { image = ys; ending = t.ending }))) (drop-append-le (cut_length a) w t.image shows.1)
+      ∙ ap (λ ys. with_lines (line (cut_text n a) ∷ []) (sweep_at strict (n + cut_length a) (record { image = ys; ending = t.ending }))) (drop-append-le (cut_length a) w t.image shows.1)
   rest_cut (Some e) n w p r a shows xs stop = sweep-cut n (cut_length a) w e a (shows.2 xs stop) refl shows.0 shows.1
 
   pub rest_end : (n : ℕ) (w : List ℕ) (e : Ending) → w ≡ [] → sweep_at strict n (record { image = w; ending = e }) ≡ at_end e
-  rest_end n w e none = ap (λ xs. sweep_at strict n (record { image = xs; ending = e })) none ∙ ap (λ cs. with_bytes (flat_map cut_line cs) (at_end e)) (none_left strict n [] refl)
+  rest_end n w e none = ap (λ xs. sweep_at strict n (record { image = xs; ending = e })) none ∙ ap (λ cs. with_lines (map cut_line cs) (at_end e)) (none_left strict n [] refl)
 
   -- no sweep refuses
   pub end_unrefused : (e : Ending) (status : Status) → status ≡ (at_end e).status → status ≢ outcome.Refused

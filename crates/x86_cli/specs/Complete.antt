@@ -1,18 +1,14 @@
 -- Rows of sentences, and what a run of them answers.
-use Rattle.std.specs.Prelude.{◌≡◌, ℕ, Bool, false, List, [], ◌∷◌, length, Ok, IfSome, ⊤}
+use Rattle.std.specs.Prelude.{◌≡◌, ℕ, Bool, false, List, [], ◌∷◌, length, Ok, ⊤}
 use Rattle.std.specs.List.{concat}
-use Rattle.std.specs.Io.KnownBytes.{append_known}
 use Rattle.x86_decode.specs.declared.instructions.Instruction.{Instruction}
 use Rattle.x86_decode.specs.Answer.{answer_of}
 use Rattle.x86_cli.specs.declared.text.Ending.TheVariants.{Clean}
-use Rattle.x86_cli.specs.declared.text.Stop.TheVariants.{End}
-use Rattle.x86_cli.specs.declared.status.Status.{Status}
 use Rattle.x86_cli.specs.declared.status.Status.TheVariants.{Done}
+use Rattle.x86_cli.specs.Text.{Text}
+use Rattle.x86_cli.specs.Command.{listing_for}
 use Rattle.x86_cli.specs.declared.command.Command.{Command}
 use Rattle.x86_cli.specs.declared.command.Command.TheVariants.{List as Listed, Sweep as Swept, Targets as Targeted, Fields as Fielded, Tighten as Tightened}
-use Rattle.x86_cli.specs.Text.{text_of}
-use Rattle.x86_cli.specs.Command.{listing_for}
-use Rattle.x86_cli.specs.Run.{World, IsSound, full_listing}
 
 -- the bytes are one instruction, whole
 pub record IsSentence (strict : Bool) (bytes : List ℕ) : Type 0 where
@@ -38,8 +34,6 @@ GoesThrough Tightened image = IsRowOfSentences false image
 GoesThrough Swept image = ⊤
 GoesThrough Targeted image = ⊤
 
--- Where the text is clean, the command goes through its image, and neither count rose, the run is done and has written all.
-abbrev pub Completes : Command → ℕ → Status → World → World → Type 0
-Completes command max result old new =
-    IfSome old.left (λ b. (text_of max b End).ending ≡ Clean → GoesThrough command (text_of max b End).image → IsSound old new →
-    (result ≡ Done) × (new.written ≡ append_known old.written (full_listing (listing_for command) max b).bytes))
+-- A command that goes through the image of a clean text is done at its end.
+abbrev pub CompletesTexts : Type 0
+CompletesTexts = (command : Command) (t : Text) → t.ending ≡ Clean → GoesThrough command t.image → (listing_for command t).status ≡ Done

@@ -16,3 +16,7 @@ pub mod Run
 pub mod Command
 pub mod Complete
 pub mod Make
+pub mod Told
+pub mod Causes
+pub mod Says
+pub mod Program

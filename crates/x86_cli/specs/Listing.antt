@@ -13,19 +13,19 @@ use Rattle.x86_cli.specs.declared.status.Status.TheVariants as status
 use Rattle.x86_cli.specs.declared.window.Front.{Front}
 use Rattle.x86_cli.specs.declared.window.Front.TheVariants.{Whole, Refused, Ended}
 
--- what is written, and the status
+-- the lines that are written, and the status
 pub record Listing : Type 0 where
-  pub bytes : List ℕ
+  pub lines : List (List ℕ)
   pub status : Status
 
-abbrev pub with_bytes : List ℕ → Listing → Listing
-with_bytes front l = record { bytes = front ++ l.bytes; status = l.status }
+abbrev pub with_lines : List (List ℕ) → Listing → Listing
+with_lines front l = record { lines = front ++ l.lines; status = l.status }
 
 abbrev pub at_end : Ending → Listing
-at_end Clean = record { bytes = []; status = Done }
-at_end (Bad n) = record { bytes = line (bad_text n); status = BadText }
-at_end Large = record { bytes = line (codes "text too long"); status = TooLarge }
-at_end Fault = record { bytes = line (codes "read fault"); status = ReadFault }
+at_end Clean = record { lines = []; status = Done }
+at_end (Bad n) = record { lines = line (bad_text n) ∷ []; status = BadText }
+at_end Large = record { lines = line (codes "text too long") ∷ []; status = TooLarge }
+at_end Fault = record { lines = line (codes "read fault") ∷ []; status = ReadFault }
 
 -- An end that isn't clean overrules a refusal that more bytes could lift.
 abbrev pub judged : Result Instruction DecodeError → Ending → Front
@@ -48,8 +48,8 @@ front_of strict (x ∷ xs) e = judged (answer_of strict (x ∷ xs)) e
 -- The listings of commands differ in the line of an instruction, which may look at the instruction's bytes.
 module _ (strict : Bool) (text : ℕ → Instruction → List ℕ → List ℕ) where
   abbrev pub listed : Front → ℕ → List ℕ → (ℕ → Listing) → Listing
-  listed (Whole i) place bytes after = with_bytes (line (text place i (take i.length bytes))) (after (i.length - 1))
-  listed (Refused error) place bytes after = record { bytes = line (refusal_text place error); status = status.Refused }
+  listed (Whole i) place bytes after = with_lines (line (text place i (take i.length bytes)) ∷ []) (after (i.length - 1))
+  listed (Refused error) place bytes after = record { lines = line (refusal_text place error) ∷ []; status = status.Refused }
   listed (Ended e) place bytes after = at_end e
 
   -- the listing of an image that stands from a place on, without its first bytes that belong to an instruction before

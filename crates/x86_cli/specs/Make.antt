@@ -1,7 +1,6 @@
 -- The encodings that `make` makes, and what it counts of their answers.
 use Rattle.std.specs.Prelude.{◌≡◌, ℕ, zero, suc, ◌+◌, ◌/◌, ◌%◌, ◌≤◌, ◌==◌, ◌&&◌, ◌||◌, Bool, true, false, if◌then◌else◌, List, [], ◌∷◌, ◌++◌, length, Result, Ok, Err, None, codes, decimal}
 use Rattle.std.specs.Int.{w32, to_le_bytes}
-use Rattle.std.specs.Io.KnownBytes.{append_known}
 use Rattle.x86_regs.specs.declared.RegisterClass.{RegisterClass}
 use Rattle.x86_regs.specs.declared.RegisterClass.TheVariants.{RIP}
 use Rattle.x86_fields.specs.declared.DecodeError.{DecodeError}
@@ -11,13 +10,10 @@ use Rattle.x86_decode.specs.declared.instructions.Instruction.{Instruction}
 use Rattle.x86_decode.specs.Instruction.{operand_at}
 use Rattle.x86_decode.specs.Answer.{answer_of}
 use Rattle.x86_cli.specs.declared.make.Tally.{Tally}
-use Rattle.x86_cli.specs.declared.status.Status.{Status}
-use Rattle.x86_cli.specs.declared.status.Status.TheVariants.{Done, WriteFault}
-use Rattle.x86_cli.specs.Faults.{Rose}
+use Rattle.x86_cli.specs.declared.status.Status.TheVariants.{Done}
 use Rattle.x86_cli.specs.Command.{command_of}
 use Rattle.x86_cli.specs.Line.{line}
 use Rattle.x86_cli.specs.Listing.{Listing}
-use Rattle.x86_cli.specs.Run.{World, WritesFront}
 
 -- ---- encoding i: opcode 03, a ModRM of the memory form, SIB where it asks one, and a displacement
 
@@ -99,10 +95,4 @@ abbrev pub IsNoCommand : List (List ℕ) → Type 0
 IsNoCommand words = (command_of words ≡ None) × ((n : ℕ) → IsMake words n → ⊥)
 
 abbrev pub made_listing : ℕ → Listing
-made_listing n = record { bytes = line (tally_text n (tally_of n)); status = Done }
-
--- The line is written whole, or in part where the sink failed.
-abbrev pub Makes : ℕ → Status → World → World → Type 0
-Makes n Done old new = (new.written ≡ append_known old.written (made_listing n).bytes) × (new.sink_faults ≡ old.sink_faults)
-Makes n WriteFault old new = Rose old.sink_faults new.sink_faults × WritesFront old new (made_listing n)
-Makes n status old new = ⊥
+made_listing n = record { lines = line (tally_text n (tally_of n)) ∷ []; status = Done }

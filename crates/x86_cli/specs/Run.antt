@@ -1,84 +1,69 @@
-use Rattle.std.specs.Prelude.{◌≡◌, ◌⊎◌, ◌↔◌, ℕ, List, [], ◌++◌, Option, Result, Ok, Err, IfSome, take}
-use Rattle.std.specs.Io.KnownBytes.{prepend_known, append_known}
-use Rattle.x86_cli.specs.Faults.{Rose}
+use Rattle.std.specs.Prelude.{◌≡◌, ◌≤◌, ℕ, List, [], ◌∷◌, ◌++◌, length, Option, Some, None, Result, Ok, Err, ⊤}
+use Rattle.x86_cli.specs.declared.source.Got.{Got}
 use Rattle.x86_cli.specs.declared.sink.SinkFailed.{SinkFailed}
-use Rattle.x86_cli.specs.declared.text.Stop.TheVariants.{End, Failed}
-use Rattle.x86_cli.specs.Text.{Text, text_of}
+use Rattle.x86_cli.specs.declared.text.Stop.{Stop}
+use Rattle.x86_cli.specs.declared.text.Stop.TheVariants.{Failed}
 use Rattle.x86_cli.specs.declared.status.Status.{Status}
-use Rattle.x86_cli.specs.declared.status.Status.TheVariants.{Done, Usage, Refused, BadText, ReadFault, WriteFault, TooLarge}
-use Rattle.x86_cli.specs.Listing.{Listing}
+use Rattle.x86_cli.specs.declared.status.Status.TheVariants.{WriteFault}
+use Rattle.x86_cli.specs.Text.{Text, text_of}
+use Rattle.x86_cli.specs.Reading.{Gave, Asked, MayCome}
+use Rattle.x86_cli.specs.Listing.{Listing, with_lines}
+use Rattle.x86_cli.specs.Window.{behind}
 
--- what can be seen of a source and a sink
-pub record World : Type 0 where
-  pub left : Option (List ℕ)
-  pub source_faults : ℕ
-  pub written : Option (List ℕ)
-  pub sink_faults : ℕ
+-- The run wrote these lines of the listing and ended so: all of them, or those before the one at which the sink failed.
+abbrev pub Lists : Status → List (List ℕ) → Option (List ℕ) → Listing → Type 0
+Lists status lines None l = l ≡ record { lines = lines; status = status }
+Lists status lines (Some failed) l = (status ≡ WriteFault) × ((more : List (List ℕ)) × (l.lines ≡ lines ++ failed ∷ more))
 
--- The status and the bytes written are this listing.
-abbrev pub Writes : Status → World → World → Listing → Type 0
-Writes status old new l = (status ≡ l.status) × (new.written ≡ append_known old.written l.bytes)
+-- takes k piece answer l: a put of the piece at k may answer so, and leave l
+module _ {K : Type 0} (takes : K → List ℕ → Result ⊤ SinkFailed → K → Type 0) where
+  -- The sink took these pieces, one a put, and then, where there is one, failed at a piece. Nothing was put behind it.
+  abbrev pub Took : List (List ℕ) → Option (List ℕ) → K → K → Type 0
+  Took [] None k l = l ≡ k
+  Took [] (Some failed) k l = (e : SinkFailed) × takes k failed (Err e) l
+  Took (piece ∷ pieces) failed k l = (m : K) × takes k piece (Ok tt) m × Took pieces failed m l
 
--- The bytes written are a front of this listing's.
-pub record WritesFront (old new : World) (l : Listing) : Type 0 where
-  pub part : List ℕ
-  pub more : List ℕ
-  pub whole : l.bytes ≡ part ++ more
-  pub written : new.written ≡ append_known old.written part
+  -- What a last line does: it is put, or the sink fails at it.
+  abbrev pub Closes : Listing → Result Status SinkFailed → K → K → Type 0
+  Closes l (Ok status) old new = (status ≡ l.status) × Took l.lines None old new
+  Closes l (Err e) old new = (failed : List ℕ) × (l.lines ≡ failed ∷ []) × takes old failed (Err e) new
 
--- What a last line does: it is written whole, or in part where the sink failed.
-abbrev pub Closes : Listing → Result Status SinkFailed → Option (List ℕ) → Option (List ℕ) → ℕ → ℕ → Type 0
-Closes l (Ok status) old new faults faults' = (status ≡ l.status) × (new ≡ append_known old l.bytes) × (faults' ≡ faults)
-Closes l (Err e) old new faults faults' = Rose faults faults' × ((n : ℕ) × (new ≡ append_known old (take n l.bytes)))
+  -- a run that reads nothing
+  pub record Wrote (listing : Listing) (status : Status) (old new : K) : Type 0 where
+    pub lines : List (List ℕ)
+    pub failed : Option (List ℕ)
+    pub took : Took lines failed old new
+    pub lists : Lists status lines failed listing
 
--- Neither count rose.
-abbrev pub IsSound : World → World → Type 0
-IsSound old new = (Rose old.source_faults new.source_faults → ⊥) × (Rose old.sink_faults new.sink_faults → ⊥)
+-- A run: the calls of the source and of the sink, and of every text that begins with what the source gave, the listing.
+pub record Ran {S K : Type 0} (gives : S → Got → S → Type 0) (takes : K → List ℕ → Result ⊤ SinkFailed → K → Type 0)
+    (listing : Text → Listing) (max : ℕ) (status : Status) (source source' : S) (sink sink' : K) : Type 0 where
+  pub bytes : List ℕ
+  pub stop : Option Stop
+  pub gave : Gave gives bytes stop source source'
+  pub asked : Asked (text_of max) bytes stop
+  pub lines : List (List ℕ)
+  pub failed : Option (List ℕ)
+  pub took : Took takes lines failed sink sink'
+  pub lists : (xs : List ℕ) (s : Stop) → MayCome stop xs s → Lists status lines failed (listing (text_of max (bytes ++ xs) s))
 
--- For any listing of texts.
-module _ (listing : Text → Listing) where
-  -- the listing of all the bytes b that a source tells, and that of the bytes t that were taken of it
-  abbrev pub full_listing : ℕ → List ℕ → Listing
-  full_listing max b = listing (text_of max b End)
+-- How far ahead of its lines a run reads: the image that the source gave is what the lines walked, up to their place, and at most 15 bytes
+-- more. Of every text that begins with what was given, the listing is the lines shown, and then that of the rest from this place on. At most
+-- one line is put behind them: a refusal's or an end's.
+pub record Ahead (at : ℕ → Text → Listing) (text : List ℕ → Stop → Text) (bytes : List ℕ) (stop : Option Stop) (lines : List (List ℕ)) : Type 0 where
+  pub walked : List ℕ
+  pub held : List ℕ
+  pub taken : (text bytes Failed).image ≡ walked ++ held
+  pub few : length held ≤ 15
+  pub shown : List (List ℕ)
+  pub last : List (List ℕ)
+  pub split : lines ≡ shown ++ last
+  pub one : length last ≤ 1
+  pub lists : (xs : List ℕ) (s : Stop) → MayCome stop xs s →
+      (rest : Text) × (text (bytes ++ xs) s ≡ behind walked rest) × (at 0 (text (bytes ++ xs) s) ≡ with_lines shown (at (length walked) rest))
 
-  abbrev pub cut_listing : ℕ → List ℕ → Listing
-  cut_listing max t = listing (text_of max t Failed)
-
-  abbrev pub Full : ℕ → Status → World → World → Type 0
-  Full max status old new = IfSome old.left (λ b. Writes status old new (full_listing max b))
-
-  -- the bytes that the call took of the source
-  pub record Cut (max : ℕ) (status : Status) (old new : World) : Type 0 where
-    pub taken : List ℕ
-    pub takes : old.left ≡ prepend_known taken new.left
-    pub writes : Writes status old new (cut_listing max taken)
-    pub cause : Rose old.source_faults new.source_faults
-
-  pub record CutFront (max : ℕ) (old new : World) : Type 0 where
-    pub taken : List ℕ
-    pub takes : old.left ≡ prepend_known taken new.left
-    pub writes : WritesFront old new (cut_listing max taken)
-    pub cause : Rose old.source_faults new.source_faults
-
-  -- What each status of a run of `list` says.
-  abbrev pub Says : ℕ → Status → World → World → Type 0
-  Says max Usage old new = ⊥
-  Says max Done old new =
-      Full max Done old new × (new.source_faults ≡ old.source_faults) × (new.sink_faults ≡ old.sink_faults)
-      × IfSome new.left (λ xs. xs ≡ [])
-  Says max Refused old new = Full max Refused old new × (new.sink_faults ≡ old.sink_faults)
-  Says max BadText old new = Full max BadText old new × (new.source_faults ≡ old.source_faults) × (new.sink_faults ≡ old.sink_faults)
-  Says max TooLarge old new = Full max TooLarge old new × (new.source_faults ≡ old.source_faults) × (new.sink_faults ≡ old.sink_faults)
-  Says max ReadFault old new = Cut max ReadFault old new × (new.sink_faults ≡ old.sink_faults)
-  Says max WriteFault old new =
-      Rose old.sink_faults new.sink_faults
-      × (IfSome old.left (λ b. WritesFront old new (full_listing max b)) ⊎ CutFront max old new)
-
-  -- Where neither count rose, the status comes exactly where the listing ends with it.
-  abbrev pub Exactly : ℕ → Status → Status → World → World → Type 0
-  Exactly max result status old new =
-      IfSome old.left (λ b. IsSound old new → (result ≡ status) ↔ ((full_listing max b).status ≡ status))
-
-  -- The listing of the bytes that were taken reaches the fault.
-  abbrev pub ReachesFault : ℕ → Option (List ℕ) → Option (List ℕ) → Type 0
-  ReachesFault max before after = (taken : List ℕ) × (before ≡ prepend_known taken after) × ((cut_listing max taken).status ≡ ReadFault)
+-- A run that holds a window: at place text is the listing of a text that stands from a place on.
+abbrev pub RanInWindow : {S K : Type 0} → (S → Got → S → Type 0) → (K → List ℕ → Result ⊤ SinkFailed → K → Type 0) →
+    (ℕ → Text → Listing) → ℕ → Status → S → S → K → K → Type 0
+RanInWindow gives takes at max status source source' sink sink' =
+    (ran : Ran gives takes (at 0) max status source source' sink sink') × Ahead at (text_of max) ran.bytes ran.stop ran.lines

@@ -1,6 +1,5 @@
 -- The listing of a sweep.
-use Rattle.std.specs.Prelude.{Bool, ◌≡◌, ℕ, ◌<◌, ◌≤◌, List, [], length, Option, Some, Result, Ok, Err}
-use Rattle.std.specs.List.{flat_map}
+use Rattle.std.specs.Prelude.{Bool, ◌≡◌, ℕ, ◌<◌, ◌≤◌, List, [], length, map, Option, Some, Result, Ok, Err}
 use Rattle.x86_decode.specs.declared.instructions.Instruction.{Instruction}
 use Rattle.x86_fields.specs.declared.DecodeError.{DecodeError}
 use Rattle.x86_decode.specs.Answer.{answer_of}
@@ -10,7 +9,7 @@ use Rattle.x86_cli.specs.declared.text.Ending.{Ending}
 use Rattle.x86_cli.specs.declared.text.Stop.{Stop}
 use Rattle.x86_cli.specs.Text.{Text}
 use Rattle.x86_cli.specs.Line.{line, instruction_text, refusal_text}
-use Rattle.x86_cli.specs.Listing.{Listing, with_bytes, at_end}
+use Rattle.x86_cli.specs.Listing.{Listing, with_lines, at_end}
 use Rattle.x86_cli.specs.Window.{rest_of}
 use Rattle.x86_cli.specs.declared.sweep.Cut.{Cut}
 use Rattle.x86_cli.specs.declared.sweep.Cut.TheVariants.{Piece, Ended}
@@ -26,7 +25,7 @@ cut_line c = line (cut_text c.place c.answer)
 
 -- The sweep of a text whose image stands from a place on: a line for each cut of the image, in order, and then the end's.
 abbrev pub sweep_at : Bool → ℕ → Text → Listing
-sweep_at strict place t = with_bytes (flat_map cut_line (cuts_from strict place t.image)) (at_end t.ending)
+sweep_at strict place t = with_lines (map cut_line (cuts_from strict place t.image)) (at_end t.ending)
 
 -- what a window shows of its front: the next cut, or the end
 abbrev pub ShowsCut : Bool → Cut → Option Ending → List ℕ → ℕ → ℕ → Type 0

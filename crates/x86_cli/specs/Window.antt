@@ -1,12 +1,11 @@
-use Rattle.std.specs.Prelude.{Bool, ◌≡◌, ◌≢◌, ℕ, ◌<◌, ◌≤◌, List, [], ◌++◌, length, Option, Some, None, ⊤}
-use Rattle.std.specs.Io.KnownBytes.{prepend_known}
-use Rattle.x86_cli.specs.Faults.{Rose}
+use Rattle.std.specs.Prelude.{Bool, ◌≡◌, ◌≢◌, ℕ, ◌<◌, ◌≤◌, List, ◌++◌, length, Option, Some, None, ⊤}
+use Rattle.x86_cli.specs.declared.source.Got.{Got}
+use Rattle.x86_cli.specs.Reading.{Gave, Asked, MayCome}
 use Rattle.x86_fields.specs.declared.DecodeError.TheVariants.{ExhaustedInput}
 use Rattle.x86_cli.specs.declared.text.Ending.{Ending}
-use Rattle.x86_cli.specs.declared.text.Ending.TheVariants.{Clean, Bad, Large, Fault}
+use Rattle.x86_cli.specs.declared.text.Ending.TheVariants.{Clean}
 use Rattle.x86_cli.specs.declared.text.Stop.{Stop}
-use Rattle.x86_cli.specs.declared.text.Stop.TheVariants.{End, Failed}
-use Rattle.x86_cli.specs.Text.{Text, text_at, text_of}
+use Rattle.x86_cli.specs.Text.{Text, text_at}
 use Rattle.x86_cli.specs.declared.window.Front.{Front}
 use Rattle.x86_cli.specs.declared.window.Front.TheVariants.{Whole, Refused, Ended}
 use Rattle.x86_cli.specs.Listing.{front_of}
@@ -20,43 +19,19 @@ abbrev pub rest_of : Option Ending → List ℕ → ℕ → ℕ → List ℕ →
 rest_of None window place room xs stop = behind window (text_at place room xs stop)
 rest_of (Some e) window place room xs stop = record { image = window; ending = e }
 
--- what may come yet, given how the text ended and what the source has left
-abbrev pub MayCome : Option Ending → Option (List ℕ) → List ℕ → Stop → Type 0
-MayCome None left xs stop = ⊤
-MayCome (Some Clean) left xs stop = (left ≡ Some xs) × (stop ≡ End)
-MayCome (Some (Bad n)) left xs stop = (left ≡ Some xs) × (stop ≡ End)
-MayCome (Some Large) left xs stop = (left ≡ Some xs) × (stop ≡ End)
-MayCome (Some Fault) left xs stop = (xs ≡ []) × (stop ≡ Failed)
+-- Where the text has not ended, the source was not asked for a stop.
+abbrev pub Open : Option Ending → Option Stop → Type 0
+Open None stop = stop ≡ None
+Open (Some e) stop = ⊤
 
--- the count of faults rose only where the text ended so
-abbrev pub Faulted : Option Ending → ℕ → ℕ → Type 0
-Faulted None old new = new ≡ old
-Faulted (Some Clean) old new = new ≡ old
-Faulted (Some (Bad n)) old new = new ≡ old
-Faulted (Some Large) old new = new ≡ old
-Faulted (Some Fault) old new = Rose old new
-
--- where the text ended clean, nothing is left
-abbrev pub Finished : Option Ending → Option (List ℕ) → Type 0
-Finished None left = ⊤
-Finished (Some Clean) left = (xs : List ℕ) → left ≡ Some xs → xs ≡ []
-Finished (Some (Bad n)) left = ⊤
-Finished (Some Large) left = ⊤
-Finished (Some Fault) left = ⊤
-
--- What taking bytes into the window keeps: the text that is left, for all that may come; and for all that could
--- ever come, the window stands at its front.
-pub record Fills (old : List ℕ → Stop → Text) (ended : Option Ending) (window : List ℕ) (place room : ℕ) (before after : Option (List ℕ)) : Type 0 where
+-- What taking bytes into the window keeps: the text that is left, for all that may come.
+pub record Fills {S : Type 0} (gives : S → Got → S → Type 0) (old : List ℕ → Stop → Text) (ended : Option Ending) (window : List ℕ) (place room : ℕ) (before after : S) : Type 0 where
   pub bytes : List ℕ
-  pub takes : before ≡ prepend_known bytes after
-  pub rest : (xs : List ℕ) (stop : Stop) → MayCome ended after xs stop → old (bytes ++ xs) stop ≡ rest_of ended window place room xs stop
-  pub front : (xs : List ℕ) (stop : Stop) → (more : Text) × (old (bytes ++ xs) stop ≡ behind window more)
-
--- What reading a text to its end says: whatever may come behind the bytes taken, this is its image, and so it ends.
-pub record ReadsWhole (max : ℕ) (image : List ℕ) (ending : Ending) (before after : Option (List ℕ)) : Type 0 where
-  pub bytes : List ℕ
-  pub takes : before ≡ prepend_known bytes after
-  pub text : (xs : List ℕ) (stop : Stop) → MayCome (Some ending) after xs stop → text_of max (bytes ++ xs) stop ≡ record { image = image; ending = ending }
+  pub stop : Option Stop
+  pub gave : Gave gives bytes stop before after
+  pub asked : Asked old bytes stop
+  pub goes_on : Open ended stop
+  pub rest : (xs : List ℕ) (s : Stop) → MayCome stop xs s → old (bytes ++ xs) s ≡ rest_of ended window place room xs s
 
 -- what the window shows of its front, whatever stands behind it
 abbrev pub Shows : Bool → Front → Option Ending → List ℕ → Type 0

@@ -2,10 +2,10 @@
 
 ghost use Rattle.std.specs.Prelude.{◌≡◌, ◌≢◌, ◌↔◌, ℕ, IsTrue, IfSome, Some, None, map, string_bytes};
 ghost use Rattle.x86_cli.specs.Faults.{Rose};
-ghost use Rattle.x86_cli.specs.Command.{command_by, command_of, listing_for, max_of, goes_past_refusals};
-ghost use Rattle.x86_cli.specs.Make.{IsMake, IsNoCommand, Makes};
-ghost use Rattle.x86_cli.specs.Run.{World, Says, Exactly, ReachesFault};
-ghost use Rattle.x86_cli.specs.Complete.{Completes};
+ghost use Rattle.x86_cli.specs.Command.{command_by, command_of, IfCommand, Runs, goes_past_refusals};
+ghost use Rattle.x86_cli.specs.Make.{IsMake, IsNoCommand, made_listing};
+ghost use Rattle.x86_cli.specs.Run.{Wrote};
+ghost use Rattle.x86_cli.specs.Says.{Sees, Says, IsExact, HasReadFault, Completes};
 
 use crate::fields::FieldLines;
 use crate::laws::decoder_laws;
@@ -92,9 +92,7 @@ fn decoder(strict: bool) -> InstDecoder
 }
 
 fn obey<S: Source, K: Sink>(command: Command, source: &mut S, sink: &mut K) -> Status
-    ensures says { Says (listing_for command) (max_of command) result
-        (record { left = S.left source.old; source_faults = S.faults source.old; written = K.written sink.old; sink_faults = K.faults sink.old })
-        (record { left = S.left source.new; source_faults = S.faults source.new; written = K.written sink.new; sink_faults = K.faults sink.new }) }
+    ensures ran { Runs S.gives K.takes command result source.old source.new sink.old sink.new }
     ensures unrefused { IsTrue (goes_past_refusals command) → result ≢ Status.Refused }
 {
     match command {
@@ -109,33 +107,17 @@ fn obey<S: Source, K: Sink>(command: Command, source: &mut S, sink: &mut K) -> S
 /// Does what the words say. `list`, `list --strict`, `fields`, `tighten`, `sweep` and `targets` read a hex text from the source, at most
 /// `TEXT_MAX` bytes of it (`TARGETS_MAX` for `targets`), and write its listing to the sink, a call of `put` for each line.
 pub fn run<S: Source, K: Sink>(words: &[String], source: &mut S, sink: &mut K) -> Status
-    ensures says { IfSome (command_of (map string_bytes words.now)) (λ c. Says (listing_for c) (max_of c) result
-        (record { left = S.left source.old; source_faults = S.faults source.old; written = K.written sink.old; sink_faults = K.faults sink.old })
-        (record { left = S.left source.new; source_faults = S.faults source.new; written = K.written sink.new; sink_faults = K.faults sink.new })) }
-    ensures made { (n : ℕ) → IsMake (map string_bytes words.now) n → Makes n result
-        (record { left = None; source_faults = 0; written = K.written sink.old; sink_faults = K.faults sink.old })
-        (record { left = None; source_faults = 0; written = K.written sink.new; sink_faults = K.faults sink.new }) }
-    ensures made_of_nothing { (n : ℕ) → IsMake (map string_bytes words.now) n → source.new ≡ source.old }
+    ensures ran { IfCommand words.now (λ c. Runs S.gives K.takes c result source.old source.new sink.old sink.new) }
+    ensures made { (n : ℕ) → IsMake (map string_bytes words.now) n → Wrote K.takes (made_listing n) result sink.old sink.new }
     ensures usage { (result ≡ Status.Usage) ↔ IsNoCommand (map string_bytes words.now) }
-    ensures reads_nothing { result ≡ Status.Usage → source.new ≡ source.old }
+    ensures reads_nothing { command_of (map string_bytes words.now) ≡ None → source.new ≡ source.old }
     ensures writes_nothing { result ≡ Status.Usage → sink.new ≡ sink.old }
-    ensures refused { IfSome (command_of (map string_bytes words.now)) (λ c. Exactly (listing_for c) (max_of c) result Status.Refused
-        (record { left = S.left source.old; source_faults = S.faults source.old; written = K.written sink.old; sink_faults = K.faults sink.old })
-        (record { left = S.left source.new; source_faults = S.faults source.new; written = K.written sink.new; sink_faults = K.faults sink.new })) }
-    ensures unrefused { IfSome (command_of (map string_bytes words.now)) (λ c. IsTrue (goes_past_refusals c) → result ≢ Status.Refused) }
-    ensures bad_text { IfSome (command_of (map string_bytes words.now)) (λ c. Exactly (listing_for c) (max_of c) result Status.BadText
-        (record { left = S.left source.old; source_faults = S.faults source.old; written = K.written sink.old; sink_faults = K.faults sink.old })
-        (record { left = S.left source.new; source_faults = S.faults source.new; written = K.written sink.new; sink_faults = K.faults sink.new })) }
-    ensures too_large { IfSome (command_of (map string_bytes words.now)) (λ c. Exactly (listing_for c) (max_of c) result Status.TooLarge
-        (record { left = S.left source.old; source_faults = S.faults source.old; written = K.written sink.old; sink_faults = K.faults sink.old })
-        (record { left = S.left source.new; source_faults = S.faults source.new; written = K.written sink.new; sink_faults = K.faults sink.new })) }
-    ensures read_fault { result ≡ Status.ReadFault → Rose (S.faults source.old) (S.faults source.new) }
-    ensures fault_reached { IfSome (command_of (map string_bytes words.now)) (λ c. result ≡ Status.ReadFault →
-        ReachesFault (listing_for c) (max_of c) (S.left source.old) (S.left source.new)) }
+    ensures says { Sees words.now (Says result) S.left S.faults K.written K.faults source.old source.new sink.old sink.new }
+    ensures exact { Sees words.now (IsExact result) S.left S.faults K.written K.faults source.old source.new sink.old sink.new }
+    ensures unrefused { IfCommand words.now (λ c. IsTrue (goes_past_refusals c) → result ≢ Status.Refused) }
+    ensures read_fault { Sees words.now (HasReadFault result) S.left S.faults K.written K.faults source.old source.new sink.old sink.new }
     ensures write_fault { result ≡ Status.WriteFault → Rose (K.faults sink.old) (K.faults sink.new) }
-    ensures complete { IfSome (command_of (map string_bytes words.now)) (λ c. Completes c (max_of c) result
-        (record { left = S.left source.old; source_faults = S.faults source.old; written = K.written sink.old; sink_faults = K.faults sink.old })
-        (record { left = S.left source.new; source_faults = S.faults source.new; written = K.written sink.new; sink_faults = K.faults sink.new })) }
+    ensures complete { Sees words.now (Completes result) S.left S.faults K.written K.faults source.old source.new sink.old sink.new }
 {
     decoder_laws();
     match command_from(words) {

@@ -1,13 +1,21 @@
 //! Laws of the text and of the values of the outside, and those of the decoder on which the window stands.
 
-ghost use Rattle.std.specs.Prelude.{◌≡◌, ◌↔◌, Bool, IsTrue};
+ghost use Rattle.std.specs.Prelude.{◌≡◌, ◌↔◌, ℕ, Bool, IsTrue, List, Option};
 ghost use Rattle.x86_cli.specs.DecoderLaws.{DecoderLaws};
+ghost use Rattle.x86_cli.specs.Causes.{HaveCauses};
+ghost use Rattle.x86_cli.specs.Complete.{CompletesTexts};
 ghost use Rattle.x86_cli.specs.Listing.{LinesLeaveStatus};
+ghost use Rattle.x86_cli.specs.Reading.{Gave};
+ghost use Rattle.x86_cli.specs.Make.{made_listing};
+ghost use Rattle.x86_cli.specs.Run.{Took, Wrote};
+ghost use Rattle.x86_cli.specs.Says.{Makes};
+ghost use Rattle.x86_cli.specs.Told.{TellsGave, TellsTook};
 ghost use Rattle.x86_cli.specs.Rows.{RowsAreSound, BadIsFirst};
 
-use crate::sink::SinkFailed;
-use crate::source::Got;
+use crate::sink::{Sink, SinkFailed};
+use crate::source::{Got, Source};
 use crate::status::Status;
+use crate::text::Stop;
 use x86_decode::laws;
 
 /// No byte is bad exactly in a row of blanks and pairs.
@@ -41,4 +49,30 @@ pub fn values_are_equal()
     ensures given { (a b : Got) → IsTrue (⟦<Got as PartialEq>⟧.eq a b) ↔ (a ≡ b) }
     ensures refusals { (a b : SinkFailed) → IsTrue (⟦<SinkFailed as PartialEq>⟧.eq a b) ↔ (a ≡ b) }
     ensures statuses { (a b : Status) → IsTrue (⟦<Status as PartialEq>⟧.eq a b) ↔ (a ≡ b) }
+{}
+
+/// Where a command goes through the image of a clean text, its listing ends as done.
+pub fn complete()
+    ensures { CompletesTexts }
+{
+    decoder_laws();
+}
+
+/// What the calls of a run say, where the source tells its bytes and the sink what was written.
+pub fn told<S: Source, K: Sink>()
+    ensures source { (bytes : List ℕ) (stop : Option Stop) (a b : S) → Gave S.gives bytes stop a b
+        → TellsGave bytes stop (S.left a) (S.left b) (S.faults a) (S.faults b) }
+    ensures sink { (pieces : List (List ℕ)) (failed : Option (List ℕ)) (k l : K) → Took K.takes pieces failed k l
+        → TellsTook pieces failed (K.written k) (K.written l) (K.faults k) (K.faults l) }
+{}
+
+/// A read fault comes only behind a call of the source that failed, and a write fault behind a put that failed.
+pub fn causes<S: Source, K: Sink>()
+    ensures { HaveCauses S.gives K.takes }
+{}
+
+/// What a run of `make` says, where the sink tells what was written.
+pub fn made<K: Sink>()
+    ensures { (n : ℕ) (status : Status) (k l : K) → Wrote K.takes (made_listing n) status k l
+        → Makes n status (K.written k) (K.written l) (K.faults k) (K.faults l) }
 {}

@@ -1,12 +1,10 @@
 //! Listings, line by line.
 
-ghost use Rattle.std.specs.Prelude.{◌≡◌, ℕ, ◌<◌, ◌≤◌, ◌^◌, OnOk, OnErr, take, length};
-ghost use Rattle.std.specs.Io.KnownBytes.{append_known};
+ghost use Rattle.std.specs.Prelude.{◌≡◌, ℕ, ◌<◌, ◌≤◌, ◌^◌, [], ◌∷◌, length};
 ghost use Rattle.arrayvec.specs.ArrayVec.{array_vec_len};
-ghost use Rattle.x86_cli.specs.Faults.{Rose};
 ghost use Rattle.x86_cli.specs.Line.{line, refusal_text};
-ghost use Rattle.x86_cli.specs.Listing.{at_end, listing_of};
-ghost use Rattle.x86_cli.specs.Run.{World, Says, Closes};
+ghost use Rattle.x86_cli.specs.Listing.{at_end, listing_at};
+ghost use Rattle.x86_cli.specs.Run.{RanInWindow, Closes};
 
 use crate::laws::decoder_laws;
 use crate::line::{Line, Lines, push_bytes, refusal_of, text_error};
@@ -21,18 +19,14 @@ use x86_fields::DecodeError;
 /// Writes a line with its end.
 pub fn put_line<K: Sink>(sink: &mut K, mut text: Line) -> Result<(), SinkFailed>
     requires { array_vec_len text ≤ 191 }
-    ensures ok { OnOk result (K.written sink.new ≡ append_known (K.written sink.old) (line text.items)) }
-    ensures still { OnOk result (K.faults sink.new ≡ K.faults sink.old) }
-    ensures part { OnErr result ((n : ℕ) × (K.written sink.new ≡ append_known (K.written sink.old) (take n (line text.items)))) }
-    ensures cause { OnErr result (Rose (K.faults sink.old) (K.faults sink.new)) }
+    ensures { K.takes sink.old (line text.items) result sink.new }
 {
     push_bytes(&mut text, b"\n");
     sink.put(text.as_slice())
 }
 
 fn refuse<K: Sink>(sink: &mut K, place: u64, error: DecodeError) -> Result<Status, SinkFailed>
-    ensures { Closes (record { bytes = line (refusal_text place error); status = Status.Refused }) result
-        (K.written sink.old) (K.written sink.new) (K.faults sink.old) (K.faults sink.new) }
+    ensures { Closes K.takes (record { lines = line (refusal_text place error) ∷ []; status = Status.Refused }) result sink.old sink.new }
 {
     match put_line(sink, refusal_of(place, error)) {
         Ok(()) => Ok(Status::Refused),
@@ -52,7 +46,7 @@ fn constant(text: &[u8]) -> Line
 
 /// Writes what an end asks.
 pub fn end<K: Sink>(sink: &mut K, ending: Ending) -> Result<Status, SinkFailed>
-    ensures { Closes (at_end ending) result (K.written sink.old) (K.written sink.new) (K.faults sink.old) (K.faults sink.new) }
+    ensures { Closes K.takes (at_end ending) result sink.old sink.new }
 {
     match ending {
         Ending::Clean => Ok(Status::Done),
@@ -86,9 +80,7 @@ pub fn list<L: Lines, S: Source, K: Sink>(
     sink: &mut K,
 ) -> Status
     requires { max < 2 ^ 62 }
-    ensures { Says (listing_of decoder.now.strict (L.text lines.now decoder.now.strict)) max result
-        (record { left = S.left source.old; source_faults = S.faults source.old; written = K.written sink.old; sink_faults = K.faults sink.old })
-        (record { left = S.left source.new; source_faults = S.faults source.new; written = K.written sink.new; sink_faults = K.faults sink.new }) }
+    ensures { RanInWindow S.gives K.takes (listing_at decoder.now.strict (L.text lines.now decoder.now.strict)) max result source.old source.new sink.old sink.new }
 {
     decoder_laws();
     let mut window = Window::new(max);

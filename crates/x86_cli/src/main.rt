@@ -16,6 +16,9 @@ mod listing;
 mod make;
 #[cfg(test)]
 mod plain_table;
+mod program;
+#[cfg(test)]
+mod program_tests;
 mod sink;
 mod source;
 mod status;
@@ -31,12 +34,9 @@ mod worked_tests;
 #[cfg(test)]
 mod x87_table;
 
-use command::{USAGE, run};
-use gathered::Gathered;
-use sink::StdSink;
-use source::StdSource;
+use command::USAGE;
+use program::listed;
 use status::Status;
-use std::io::Write;
 use std::process::ExitCode;
 use std::{env, io};
 
@@ -48,29 +48,11 @@ fn words(rt: &HostRuntime) -> io::Result<Vec<String>> {
     Ok(words)
 }
 
-/// Runs over standard input and output. What was gathered is flushed at the end, but not behind a failed write; a
-/// flush that fails is a write fault.
-fn listed(rt: &HostRuntime, words: &[String]) -> Status {
-    let mut source = StdSource::new(rt.reader());
-    let mut out = Gathered::new(io::writer(rt));
-    let status = {
-        let mut sink = StdSink::new(&mut out);
-        run(words, &mut source, &mut sink)
-    };
-    if let Status::WriteFault = status {
-        return status;
-    }
-    match out.flush() {
-        Ok(()) => status,
-        Err(_) => Status::WriteFault,
-    }
-}
-
 fn main(rt: HostRuntime) -> ExitCode {
     match words(&rt) {
         Err(_) => ExitCode::from(1),
         Ok(words) => {
-            let status = listed(&rt, words.as_slice());
+            let (status, _) = listed(words.as_slice(), rt.reader(), io::writer(&rt));
             if let Status::Usage = status {
                 let _ = eprintln!(rt; "{USAGE}");
             }

@@ -2,8 +2,8 @@
 
 ghost use Rattle.std.specs.Prelude.{◌≡◌, ◌+◌, ◌≤◌, ◌++◌, ℕ, IfSome, Some, None, length, decimal};
 ghost use Rattle.arrayvec.specs.ArrayVec.{array_vec_len};
-ghost use Rattle.x86_cli.specs.Run.{World};
-ghost use Rattle.x86_cli.specs.Make.{made, has_long_displacement, is_rip, is_at_rip, is_absolute, has_operand, answer_has, one_if, tally_of, tally_text, Makes};
+ghost use Rattle.x86_cli.specs.Run.{Wrote};
+ghost use Rattle.x86_cli.specs.Make.{made, has_long_displacement, is_rip, is_at_rip, is_absolute, has_operand, answer_has, one_if, tally_of, tally_text, made_listing};
 
 use crate::line::{Line, push_bytes, push_number};
 use crate::listing::put_line;
@@ -185,9 +185,7 @@ pub fn count_from(word: &str) -> Option<u32>
 
 /// Makes, decodes and counts `count` encodings, and writes the line of it.
 pub fn make<K: Sink>(count: u32, sink: &mut K) -> Status
-    ensures made { Makes count result
-        (record { left = None; source_faults = 0; written = K.written sink.old; sink_faults = K.faults sink.old })
-        (record { left = None; source_faults = 0; written = K.written sink.new; sink_faults = K.faults sink.new }) }
+    ensures { Wrote K.takes (made_listing count) result sink.old sink.new }
 {
     let tally = tally_of(count);
     match put_line(sink, tally_line(count, &tally)) {

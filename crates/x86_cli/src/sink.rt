@@ -1,10 +1,9 @@
 //! What a listing is written to.
 
-ghost use Rattle.std.specs.Prelude.{◌≡◌, ◌↔◌, ◌⊎◌, ◌+◌, ◌<◌, ℕ, List, Option, Some, None, [], take, length, Bool, true, false, IsTrue, OnOk, OnErr, IsErr};
-ghost use Rattle.std.specs.Io.KnownBytes.{append_known};
+ghost use Rattle.std.specs.Prelude.{◌≡◌, ◌↔◌, ◌⊎◌, ◌+◌, ◌<◌, ℕ, List, Option, Some, None, [], length, Bool, true, false, IsTrue, IsErr, Result, ⊤};
 ghost use Rattle.arrayvec.specs.ArrayVec.{array_vec_len};
-ghost use Rattle.x86_cli.specs.Faults.{Rose};
-ghost use Rattle.x86_cli.specs.Outside.{is_chosen, next_call, as_far_as_fits};
+ghost use Rattle.x86_cli.specs.Outside.{TellsPut, PutByNumber, is_chosen};
+ghost use Rattle.x86_cli.specs.declared.sink.SinkFailed.{SinkFailed};
 
 use arrayvec::ArrayVec;
 use std::io::Write;
@@ -21,12 +20,15 @@ pub trait Sink {
     /// How often the sink has failed.
     ghost faults: { Self → ℕ };
 
+    /// What a put of a piece may answer, and what it may leave of the sink.
+    ghost takes: { Self → List ℕ → Result ⊤ SinkFailed → Self → Type 0 };
+
     /// Appends the piece. A failed call appends a prefix of it.
     fn put(&mut self, piece: &[u8]) -> Result<(), SinkFailed>
-        ensures ok { OnOk result (written self.new ≡ append_known (written self.old) piece.now) }
-        ensures still { OnOk result (faults self.new ≡ faults self.old) }
-        ensures part { OnErr result ((n : ℕ) × (written self.new ≡ append_known (written self.old) (take n piece.now))) }
-        ensures cause { OnErr result (Rose (faults self.old) (faults self.new)) };
+        ensures { takes self.old piece.now result self.new };
+
+    /// What a put says, where the sink tells what was written.
+    ghost tells: { (s : Self) (piece : List ℕ) (r : Result ⊤ SinkFailed) (t : Self) → takes s piece r t → TellsPut r piece (written s) (written t) (faults s) (faults t) };
 }
 
 /// At most `N` bytes. The call with the number `fails`, from 0, fails and appends nothing; `u64::MAX` chooses no call.
@@ -81,17 +83,12 @@ impl<const N: usize> Sink for ArraySink<N> {
 
     ghost faults = { λ s. s.faults };
 
-    fn put(&mut self, piece: &[u8]) -> Result<(), SinkFailed>
-        ensures ok { OnOk result (⟦<ArraySink<N> as Sink>⟧.written self.new ≡ append_known (⟦<ArraySink<N> as Sink>⟧.written self.old) piece.now) }
-        ensures still { OnOk result (⟦<ArraySink<N> as Sink>⟧.faults self.new ≡ ⟦<ArraySink<N> as Sink>⟧.faults self.old) }
-        ensures part { OnErr result ((n : ℕ) × (⟦<ArraySink<N> as Sink>⟧.written self.new ≡ append_known (⟦<ArraySink<N> as Sink>⟧.written self.old) (take n piece.now))) }
-        ensures cause { OnErr result (Rose (⟦<ArraySink<N> as Sink>⟧.faults self.old) (⟦<ArraySink<N> as Sink>⟧.faults self.new)) }
-        ensures failed { IsErr result ↔ (IsTrue (is_chosen self.old.call self.old.fails) ⊎ (N < array_vec_len self.old.bytes + length piece.now)) }
-        ensures chosen { is_chosen self.old.call self.old.fails ≡ true → self.new.bytes.items ≡ self.old.bytes.items }
-        ensures fitted { is_chosen self.old.call self.old.fails ≡ false → self.new.bytes.items ≡ as_far_as_fits N self.old.bytes.items piece.now }
-        ensures call { self.new.call ≡ next_call self.old.call }
-        ensures fails { self.new.fails ≡ self.old.fails }
-    {
+    ghost takes = { λ s piece r t. TellsPut r piece (Some s.bytes.items) (Some t.bytes.items) s.faults t.faults
+        × PutByNumber r N piece s.bytes.items t.bytes.items s.call t.call s.fails t.fails };
+
+    ghost tells = { λ s piece r t h. h.0 };
+
+    fn put(&mut self, piece: &[u8]) -> Result<(), SinkFailed> {
         let failed = self.fails_now();
         self.call = self.call.saturating_add(1);
         if failed {
@@ -126,18 +123,19 @@ impl Sink for NullSink {
 
     ghost faults = { λ s. 0 };
 
+    ghost takes = { λ s piece r t. TellsPut r piece None None 0 0 };
+
+    ghost tells = { λ s piece r t h. h };
+
     fn put(&mut self, _piece: &[u8]) -> Result<(), SinkFailed>
-        ensures ok { OnOk result (⟦<NullSink as Sink>⟧.written self.new ≡ append_known (⟦<NullSink as Sink>⟧.written self.old) _piece.now) }
-        ensures still { OnOk result (⟦<NullSink as Sink>⟧.faults self.new ≡ ⟦<NullSink as Sink>⟧.faults self.old) }
-        ensures part { OnErr result ((n : ℕ) × (⟦<NullSink as Sink>⟧.written self.new ≡ append_known (⟦<NullSink as Sink>⟧.written self.old) (take n _piece.now))) }
-        ensures cause { OnErr result (Rose (⟦<NullSink as Sink>⟧.faults self.old) (⟦<NullSink as Sink>⟧.faults self.new)) }
+        ensures takes { ⟦<NullSink as Sink>⟧.takes self.old _piece.now result self.new }
         ensures sound { result ≡ Ok tt }
     {
         Ok(())
     }
 }
 
-/// Pieces that go to a writer. It tells nothing of content. A write that takes none of a piece that isn't empty fails.
+/// Pieces that go to a writer. It tells what the writer tells. A write that takes none of a piece that isn't empty fails.
 #[derive(Drop)]
 pub struct StdSink<W: Write + Drop> {
     writer: W,
@@ -147,9 +145,17 @@ pub struct StdSink<W: Write + Drop> {
 impl<W: Write + Drop> StdSink<W> {
     /// A sink over the writer.
     pub fn new(writer: W) -> StdSink<W>
-        ensures { ⟦<StdSink<W> as Sink>⟧.faults result ≡ 0 }
+        ensures sound { ⟦<StdSink<W> as Sink>⟧.faults result ≡ 0 }
+        ensures writer { result.writer ≡ writer }
     {
         StdSink { writer, faults: 0 }
+    }
+
+    /// Gives the writer back.
+    pub fn into_writer(self) -> W
+        ensures { result ≡ self.writer }
+    {
+        self.writer
     }
 
     /// How many writes have failed.
@@ -161,9 +167,13 @@ impl<W: Write + Drop> StdSink<W> {
 }
 
 impl<W: Write + Drop> Sink for StdSink<W> {
-    ghost written = { λ s. None };
+    ghost written = { λ s. W.contents s.writer };
 
     ghost faults = { λ s. s.faults };
+
+    ghost takes = { λ s piece r t. TellsPut r piece (W.contents s.writer) (W.contents t.writer) s.faults t.faults };
+
+    ghost tells = { λ s piece r t h. h };
 
     fn put(&mut self, piece: &[u8]) -> Result<(), SinkFailed> {
         let mut rest = piece;

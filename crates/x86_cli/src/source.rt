@@ -1,8 +1,9 @@
 //! What a text is read from.
 
-ghost use Rattle.std.specs.Prelude.{◌≡◌, ◌≢◌, ◌↔◌, ◌≤◌, ◌<◌, ℕ, List, Option, Some, None, [], drop, length, Bool, true, false, ◌&&◌, IsTrue};
+ghost use Rattle.std.specs.Prelude.{◌≡◌, ◌≢◌, ◌↔◌, ◌≤◌, ◌<◌, ℕ, List, Option, Some, None, [], drop, length, slice_range, Bool, true, false, ◌&&◌, IsTrue};
+ghost use Rattle.x86_cli.specs.Outside.{TellsGot, ByNumber, is_listed};
 ghost use Rattle.std.specs.Io.KnownBytes.{prepend_known};
-ghost use Rattle.x86_cli.specs.Outside.{taken, EndsOnly, CountsFailed, is_listed, next_call};
+ghost use Rattle.x86_cli.specs.declared.source.Got.{Got};
 
 use std::io::Read;
 
@@ -22,11 +23,15 @@ pub trait Source {
     /// How often the source has failed.
     ghost faults: { Self → ℕ };
 
+    /// What a call may answer, and what it may leave of the source.
+    ghost gives: { Self → Got → Self → Type 0 };
+
     /// The first byte left, if the source doesn't fail. A failed call takes no byte.
     fn next(&mut self) -> Got
-        ensures bytes { left self.old ≡ prepend_known (taken result) (left self.new) }
-        ensures end { EndsOnly result (left self.old) }
-        ensures cause { CountsFailed result (faults self.old) (faults self.new) };
+        ensures { gives self.old result self.new };
+
+    /// What a call says, where the source tells its bytes.
+    ghost tells: { (s : Self) (g : Got) (t : Self) → gives s g t → TellsGot g (left s) (left t) (faults s) (faults t) };
 }
 
 /// The bytes of a slice. The calls whose numbers, from 0, stand in `fails` answer `Failed`; the number of a call stops
@@ -78,15 +83,12 @@ impl<'a> Source for SliceSource<'a> {
 
     ghost faults = { λ s. s.faults };
 
-    fn next(&mut self) -> Got
-        ensures bytes { ⟦<SliceSource<'a> as Source>⟧.left self.old ≡ prepend_known (taken result) (⟦<SliceSource<'a> as Source>⟧.left self.new) }
-        ensures end { EndsOnly result (⟦<SliceSource<'a> as Source>⟧.left self.old) }
-        ensures cause { CountsFailed result (⟦<SliceSource<'a> as Source>⟧.faults self.old) (⟦<SliceSource<'a> as Source>⟧.faults self.new) }
-        ensures failed { (result ≡ Got.Failed) ↔ IsTrue (is_listed self.old.call self.old.fails.now) }
-        ensures ended { (result ≡ Got.End) ↔ ((is_listed self.old.call self.old.fails.now ≡ false) × (⟦<SliceSource<'a> as Source>⟧.left self.old ≡ Some [])) }
-        ensures call { self.new.call ≡ next_call self.old.call }
-        ensures fails { self.new.fails ≡ self.old.fails }
-    {
+    ghost gives = { λ s g t. TellsGot g (Some (drop s.place s.bytes.now)) (Some (drop t.place t.bytes.now)) s.faults t.faults
+        × ByNumber g (drop s.place s.bytes.now) s.call t.call s.fails.now t.fails.now };
+
+    ghost tells = { λ s g t h. h.0 };
+
+    fn next(&mut self) -> Got {
         let failed = self.fails_now();
         self.call = self.call.saturating_add(1);
         if failed {
@@ -123,10 +125,12 @@ impl<'a> Source for SoundSource<'a> {
 
     ghost faults = { λ s. 0 };
 
+    ghost gives = { λ s g t. TellsGot g (Some s.bytes.now) (Some t.bytes.now) 0 0 };
+
+    ghost tells = { λ s g t h. h };
+
     fn next(&mut self) -> Got
-        ensures bytes { ⟦<SoundSource<'a> as Source>⟧.left self.old ≡ prepend_known (taken result) (⟦<SoundSource<'a> as Source>⟧.left self.new) }
-        ensures end { EndsOnly result (⟦<SoundSource<'a> as Source>⟧.left self.old) }
-        ensures cause { CountsFailed result (⟦<SoundSource<'a> as Source>⟧.faults self.old) (⟦<SoundSource<'a> as Source>⟧.faults self.new) }
+        ensures gives { ⟦<SoundSource<'a> as Source>⟧.gives self.old result self.new }
         ensures sound { result ≢ Got.Failed }
         ensures ended { (result ≡ Got.End) ↔ (⟦<SoundSource<'a> as Source>⟧.left self.old ≡ Some []) }
     {
@@ -143,7 +147,7 @@ impl<'a> Source for SoundSource<'a> {
 /// How many bytes one read may give.
 const BUFFER: usize = 65536;
 
-/// The bytes of a reader, one read a buffer. It tells nothing of content. A read that gives no byte is the end.
+/// The bytes of a reader, one read a buffer. It tells what the reader tells, behind what is buffered. A read that gives no byte is the end.
 #[derive(Drop)]
 pub struct StdSource<R: Read + Drop> {
     reader: R,
@@ -152,12 +156,14 @@ pub struct StdSource<R: Read + Drop> {
     filled: usize,
     faults: u64,
     ghost in_range: { filled ≤ 65536 },
+    ghost in_order: { place ≤ filled },
 }
 
 impl<R: Read + Drop> StdSource<R> {
     /// A source over the reader, with nothing read.
     pub fn new(reader: R) -> StdSource<R>
-        ensures { ⟦<StdSource<R> as Source>⟧.faults result ≡ 0 }
+        ensures bytes { ⟦<StdSource<R> as Source>⟧.left result ≡ R.remaining reader }
+        ensures sound { ⟦<StdSource<R> as Source>⟧.faults result ≡ 0 }
     {
         StdSource {
             reader,
@@ -177,9 +183,13 @@ impl<R: Read + Drop> StdSource<R> {
 }
 
 impl<R: Read + Drop> Source for StdSource<R> {
-    ghost left = { λ s. None };
+    ghost left = { λ s. prepend_known (slice_range s.buffer s.place s.filled) (R.remaining s.reader) };
 
     ghost faults = { λ s. s.faults };
+
+    ghost gives = { λ s g t. TellsGot g (prepend_known (slice_range s.buffer s.place s.filled) (R.remaining s.reader)) (prepend_known (slice_range t.buffer t.place t.filled) (R.remaining t.reader)) s.faults t.faults };
+
+    ghost tells = { λ s g t h. h };
 
     fn next(&mut self) -> Got {
         if self.place < self.filled {

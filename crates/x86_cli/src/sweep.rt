@@ -2,7 +2,7 @@
 
 ghost use Rattle.std.specs.Prelude.{◌≡◌, ◌≢◌, ◌<◌, ◌≤◌, ◌^◌, None};
 ghost use Rattle.arrayvec.specs.ArrayVec.{array_vec_len};
-ghost use Rattle.x86_cli.specs.Run.{World, Says};
+ghost use Rattle.x86_cli.specs.Run.{RanInWindow};
 ghost use Rattle.x86_layout.specs.Cuts.{cut_length};
 ghost use Rattle.x86_cli.specs.Sweep.{cut_text, sweep_at, ShowsCut};
 
@@ -64,9 +64,7 @@ pub fn sweep<S: Source, K: Sink>(
     sink: &mut K,
 ) -> Status
     requires { max < 2 ^ 62 }
-    ensures says { Says (sweep_at decoder.now.strict 0) max result
-        (record { left = S.left source.old; source_faults = S.faults source.old; written = K.written sink.old; sink_faults = K.faults sink.old })
-        (record { left = S.left source.new; source_faults = S.faults source.new; written = K.written sink.new; sink_faults = K.faults sink.new }) }
+    ensures ran { RanInWindow S.gives K.takes (sweep_at decoder.now.strict) max result source.old source.new sink.old sink.new }
     ensures unrefused { result ≢ Status.Refused }
 {
     let mut window = Window::new(max);

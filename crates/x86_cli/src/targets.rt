@@ -1,13 +1,12 @@
 //! The places that the instructions of a sweep branch to.
 
-ghost use Rattle.std.specs.Prelude.{◌≡◌, ◌≢◌, ℕ, ◌*◌, ◌<◌, ◌≤◌, length, take, slice_index_or, false, decimal, Some, OnOk, OnErr};
-ghost use Rattle.std.specs.Io.KnownBytes.{append_known};
+ghost use Rattle.std.specs.Prelude.{◌≡◌, ◌≢◌, ℕ, ◌*◌, ◌<◌, ◌≤◌, length, slice_index_or, true, false, decimal, None, Some, Err, OnOk, IfErr};
+ghost use Rattle.x86_cli.specs.Text.{text_of};
 ghost use Rattle.arrayvec.specs.ArrayVec.{array_vec_len};
 ghost use Rattle.x86_layout.specs.Marks.{is_marked};
-ghost use Rattle.x86_cli.specs.Faults.{Rose};
-ghost use Rattle.x86_cli.specs.Run.{World, Says};
-ghost use Rattle.x86_cli.specs.Targets.{line_if, targets_at};
-ghost use Rattle.x86_cli.specs.Window.{ReadsWhole, Faulted, Finished};
+ghost use Rattle.x86_cli.specs.Run.{Ran, Took};
+ghost use Rattle.x86_cli.specs.Targets.{place_line, lines_if, targets_at};
+ghost use Rattle.x86_cli.specs.Window.{Fills};
 
 use crate::line::{Line, push_number};
 use crate::listing::{end, put_line};
@@ -32,9 +31,7 @@ struct HeldText {
 /// Reads a text to its end. Each byte of the image takes at least two bytes of text.
 fn read_whole<S: Source>(max: u64, source: &mut S) -> HeldText
     requires { max ≤ 2 * IMAGE_MAX }
-    ensures reads { ReadsWhole max result.image.items result.ending (S.left source.old) (S.left source.new) }
-    ensures faulted { Faulted (Some result.ending) (S.faults source.old) (S.faults source.new) }
-    ensures finished { Finished (Some result.ending) (S.left source.new) }
+    ensures { Fills S.gives (text_of max) (Some result.ending) result.image.items 0 0 source.old source.new }
 {
     let mut image = ArrayVec::new();
     let mut reader = TextReader::new(max);
@@ -65,10 +62,8 @@ fn place_line(place: u64) -> Line
 
 /// Writes the line of a place, where it is marked.
 fn put_if_marked<K: Sink>(sink: &mut K, marked: bool, place: u64) -> Result<(), SinkFailed>
-    ensures ok { OnOk result (K.written sink.new ≡ append_known (K.written sink.old) (line_if marked place)) }
-    ensures still { OnOk result (K.faults sink.new ≡ K.faults sink.old) }
-    ensures part { OnErr result ((n : ℕ) × (K.written sink.new ≡ append_known (K.written sink.old) (take n (line_if marked place)))) }
-    ensures cause { OnErr result (Rose (K.faults sink.old) (K.faults sink.new)) }
+    ensures ok { OnOk result (Took K.takes (lines_if marked place) None sink.old sink.new) }
+    ensures failed { IfErr result (λ e. (marked ≡ true) × K.takes sink.old (place_line place) (Err e) sink.new) }
 {
     if marked {
         put_line(sink, place_line(place))
@@ -85,9 +80,7 @@ pub fn targets<S: Source, K: Sink>(
     sink: &mut K,
 ) -> Status
     requires { max ≤ 2 * IMAGE_MAX }
-    ensures says { Says (targets_at decoder.now.strict 0) max result
-        (record { left = S.left source.old; source_faults = S.faults source.old; written = K.written sink.old; sink_faults = K.faults sink.old })
-        (record { left = S.left source.new; source_faults = S.faults source.new; written = K.written sink.new; sink_faults = K.faults sink.new }) }
+    ensures ran { Ran S.gives K.takes (targets_at decoder.now.strict 0) max result source.old source.new sink.old sink.new }
     ensures unrefused { result ≢ Status.Refused }
 {
     let text = read_whole(max, source);

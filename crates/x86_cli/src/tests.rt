@@ -1,6 +1,7 @@
 //! Worked listings, by whole runs.
 
 ghost use Rattle.std.specs.Prelude.{None};
+ghost use Rattle.x86_cli.specs.Outside.{TellsGot, TellsPut};
 
 use crate::command::{TEXT_MAX, USAGE, run};
 use crate::gathered::Gathered;
@@ -272,6 +273,10 @@ impl Source for Repeated<'_> {
 
     ghost faults = { λ s. 0 };
 
+    ghost gives = { λ s g t. TellsGot g None None 0 0 };
+
+    ghost tells = { λ s g t h. h };
+
     fn next(&mut self) -> Got {
         if self.left > 0 && self.place < self.unit.len() {
             let byte = self.unit[self.place];
@@ -304,6 +309,10 @@ impl Sink for LastPiece<'_> {
     ghost written = { λ s. None };
 
     ghost faults = { λ s. 0 };
+
+    ghost takes = { λ s piece r t. TellsPut r piece None None 0 0 };
+
+    ghost tells = { λ s piece r t h. h };
 
     fn put(&mut self, piece: &[u8]) -> Result<(), SinkFailed> {
         self.is_wanted = piece == self.wanted;

@@ -1,9 +1,8 @@
 //! Hex text, read byte by byte.
 
 ghost use Rattle.std.specs.Prelude.{◌≡◌, ℕ, ◌+◌, ◌<◌, ◌^◌, IfSome, List, [], ◌∷◌, Option, false};
-ghost use Rattle.std.specs.Io.KnownBytes.{prepend_known};
 ghost use Rattle.x86_cli.specs.Text.{is_blank, value_of};
-ghost use Rattle.x86_cli.specs.Reading.{Reads, HasCause, UsesRoom};
+ghost use Rattle.x86_cli.specs.Reading.{Reads, UsesRoom};
 
 use crate::source::{Got, Source};
 
@@ -85,10 +84,9 @@ impl TextReader {
     fn second<S: Source>(&mut self, source: &mut S, high: u8) -> Piece
         requires { high < 16 }
         // Behind a digit x at the place before, it tells the text of x and what follows.
-        ensures reads { (place room x : ℕ) (before : Option (List ℕ)) → self.old.place ≡ place + 1 → room ≡ self.old.room + 1
-            → is_blank x ≡ false → value_of x ≡ Some high → before ≡ prepend_known (x ∷ []) (S.left source.old)
-            → Reads result place room self.new.place self.new.room before (S.left source.new) }
-        ensures cause { HasCause result (S.faults source.old) (S.faults source.new) }
+        ensures reads { (place room x : ℕ) (before : S) → self.old.place ≡ place + 1 → room ≡ self.old.room + 1
+            → is_blank x ≡ false → value_of x ≡ Some high → S.gives before (Got.Byte x) source.old
+            → Reads S.gives result place room self.new.place self.new.room before source.new }
         ensures uses { UsesRoom result (self.old.room + 1) self.new.room }
     {
         match source.next() {
@@ -111,8 +109,7 @@ impl TextReader {
 
     /// Takes bytes up to the next pair, or the end of the text.
     pub fn next<S: Source>(&mut self, source: &mut S) -> Piece
-        ensures reads { Reads result self.old.place self.old.room self.new.place self.new.room (S.left source.old) (S.left source.new) }
-        ensures cause { HasCause result (S.faults source.old) (S.faults source.new) }
+        ensures reads { Reads S.gives result self.old.place self.old.room self.new.place self.new.room source.old source.new }
         ensures uses { UsesRoom result self.old.room self.new.room }
     {
         loop {

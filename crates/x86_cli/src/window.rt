@@ -4,7 +4,7 @@ ghost use Rattle.std.specs.Prelude.{◌≡◌, ℕ, ◌+◌, ◌<◌, ◌≤◌,
 ghost use Rattle.arrayvec.specs.ArrayVec.{array_vec_len};
 ghost use Rattle.x86_cli.specs.declared.text.Stop.{Stop};
 ghost use Rattle.x86_cli.specs.Listing.{front_of, judged, sure_of};
-ghost use Rattle.x86_cli.specs.Window.{rest_of, Fills, Faulted, Finished, Shows};
+ghost use Rattle.x86_cli.specs.Window.{rest_of, Fills, Shows};
 
 use crate::laws::decoder_laws;
 use crate::source::Source;
@@ -70,10 +70,9 @@ impl Window {
     /// Takes bytes of the image until the window is full or the text has ended.
     pub fn fill<S: Source>(&mut self, source: &mut S)
         requires { self.old.ended ≡ None }
-        ensures fills { Fills (rest_of None self.old.bytes.items self.old.reader.place self.old.reader.room)
-            self.new.ended self.new.bytes.items self.new.reader.place self.new.reader.room (S.left source.old) (S.left source.new) }
-        ensures faulted { Faulted self.new.ended (S.faults source.old) (S.faults source.new) }
-        ensures finished { Finished self.new.ended (S.left source.new) }
+        ensures fills { Fills S.gives (rest_of None self.old.bytes.items self.old.reader.place self.old.reader.room)
+            self.new.ended self.new.bytes.items self.new.reader.place self.new.reader.room source.old source.new }
+        ensures few { array_vec_len self.new.bytes ≤ 15 }
         ensures full { self.new.ended ≡ None → array_vec_len self.new.bytes ≡ 15 }
         ensures uses { array_vec_len self.new.bytes + self.new.reader.room ≤ array_vec_len self.old.bytes + self.old.reader.room }
     {
@@ -91,11 +90,11 @@ impl Window {
     /// The same, where the text may have ended.
     pub fn refill<S: Source>(&mut self, source: &mut S)
         ensures cases { MatchOption self.old.ended
-            (Fills (rest_of None self.old.bytes.items self.old.reader.place self.old.reader.room)
-            self.new.ended self.new.bytes.items self.new.reader.place self.new.reader.room (S.left source.old) (S.left source.new)
-            × Faulted self.new.ended (S.faults source.old) (S.faults source.new) × Finished self.new.ended (S.left source.new))
+            (Fills S.gives (rest_of None self.old.bytes.items self.old.reader.place self.old.reader.room)
+            self.new.ended self.new.bytes.items self.new.reader.place self.new.reader.room source.old source.new)
             (λ e. (self.new ≡ self.old) × (source.new ≡ source.old)) }
         ensures full { self.new.ended ≡ None → array_vec_len self.new.bytes ≡ 15 }
+        ensures few { array_vec_len self.old.bytes ≤ 15 → array_vec_len self.new.bytes ≤ 15 }
         ensures uses { array_vec_len self.new.bytes + self.new.reader.room ≤ array_vec_len self.old.bytes + self.old.reader.room }
     {
         if self.ended.is_none() {

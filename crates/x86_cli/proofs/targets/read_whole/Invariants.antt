@@ -1,4 +1,4 @@
-use Rattle.std.proofs.Common.{◌≡◌, ◌≤◌, ◌+◌, ◌*◌}
+use Rattle.std.proofs.Common.{◌≤◌, ◌+◌, ◌*◌}
 use Rattle.arrayvec.specs.ArrayVec.{array_vec_len}
 use Rattle.x86_cli.specs.Text.{text_of}
 use Rattle.x86_cli.proofs.FillLaws.{Filling}
@@ -6,8 +6,7 @@ use Rattle.x86_cli.proofs.targets.read_whole.Given as goal
 
 abbrev pub invariant-pairs : goal.invariant-pairs
 invariant-pairs g l = record {
-  filling : Filling (text_of l.fn.max) l.image.items l.reader.place l.reader.room (g.S.Source.left l.fn.source) (g.S.Source.left l.source);
-  still : g.S.Source.faults l.source ≡ g.S.Source.faults l.fn.source;
+  filling : Filling g.S.Source.gives (text_of l.fn.max) l.image.items l.reader.place l.reader.room l.fn.source l.source;
   fits : 2 * array_vec_len l.image + l.reader.room ≤ l.fn.max;
 }
 

@@ -1,0 +1,5 @@
+use Rattle.x86_cli.proofs.Causes.{causes}
+use Rattle.x86_cli.proofs.laws.causes.Goals as goal
+
+pub returns : goal.returns
+returns g c = causes g.S.Source.gives g.K.Sink.takes

@@ -1,0 +1,5 @@
+use Rattle.x86_cli.proofs.SaysLaws.{wrote_says}
+use Rattle.x86_cli.proofs.laws.made.Goals as goal
+
+pub returns : goal.returns
+returns g c = wrote_says g.K.Sink.takes g.K.Sink.written g.K.Sink.faults g.met.K.Sink.tells

@@ -1,0 +1,50 @@
+//! The program over a reader and a writer.
+
+ghost use Rattle.std.specs.Prelude.{◌≡◌, ◌≢◌, ◌↔◌, ℕ, [], map, string_bytes};
+ghost use Rattle.std.specs.Io.KnownBytes.{Keeps, append_known};
+ghost use Rattle.x86_cli.specs.Command.{IfCommand};
+ghost use Rattle.x86_cli.specs.Make.{IsMake, IsNoCommand};
+ghost use Rattle.x86_cli.specs.Program.{Ends, EndsMade};
+
+use crate::command::run;
+use crate::gathered::Gathered;
+use crate::sink::StdSink;
+use crate::source::StdSource;
+use crate::status::Status;
+use std::io::{Read, Write};
+
+/// Flushes what a run gathered, and answers how the program ends. Behind a failed write nothing is sent.
+fn finish<W: Write + Drop>(status: Status, out: &mut Gathered<W>) -> Status
+    ensures bytes { Keeps (append_known (W.contents out.old.writer) out.old.bytes.items) (append_known (W.contents out.new.writer) out.new.bytes.items) }
+    ensures same { result ≢ Status.WriteFault → result ≡ status }
+    ensures sent { result ≢ Status.WriteFault → result ≢ Status.Usage → out.new.bytes.items ≡ [] }
+    ensures usage { status ≡ Status.Usage → (result ≡ Status.Usage) × (out.new ≡ out.old) }
+{
+    match status {
+        Status::Usage | Status::WriteFault => status,
+        _ => match out.flush() {
+            Ok(()) => status,
+            Err(_) => Status::WriteFault,
+        },
+    }
+}
+
+/// Does what the words say, over a reader and a writer, and gives back how the program ends and the writer. What is
+/// written is gathered, and flushed at the end; where that flush fails, the program ends as at a failed write.
+pub fn listed<R: Read + Drop, W: Write + Drop>(
+    words: &[String],
+    reader: R,
+    writer: W,
+) -> (Status, W)
+    ensures lists { IfCommand words.now (λ c. Ends result.0 c (R.remaining reader) (W.contents writer) (W.contents result.1)) }
+    ensures made { (n : ℕ) → IsMake (map string_bytes words.now) n → EndsMade result.0 n (W.contents writer) (W.contents result.1) }
+    ensures usage { (result.0 ≡ Status.Usage) ↔ IsNoCommand (map string_bytes words.now) }
+    ensures writes_nothing { result.0 ≡ Status.Usage → result.1 ≡ writer }
+{
+    let mut source = StdSource::new(reader);
+    let mut sink = StdSink::new(Gathered::new(writer));
+    let status = run(words, &mut source, &mut sink);
+    let mut out = sink.into_writer();
+    let ended = finish(status, &mut out);
+    (ended, out.into_writer())
+}
