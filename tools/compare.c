@@ -4,14 +4,19 @@
  *
  *     PLACE OURS THEIRS BYTES
  *
- * OURS and THEIRS are a length, or `-` and why it was refused. BYTES are the 15 bytes from there, or those up to the end. The last line is
- * `cuts N accepted N refused N both N`: lines of the sweep, those that accept and that refuse, and refused by both.
+ * OURS and THEIRS are a length, or `-` and why it was refused. BYTES are the 15 bytes from there, or those up to the end. Then comes a line
+ * for each two names that stand for the same bytes and aren't the same letters, with how often they do and the first place:
+ *
+ *     name OURS THEIRS COUNT PLACE
+ *
+ * The last line is `cuts N accepted N refused N both N`: lines of the sweep, those that accept and that refuse, and refused by both.
  * That the cuts of the sweep are in order and leave no byte out is tested too.
  */
 #include <Zydis/Zydis.h>
 #include <stdio.h>
 #include <stdlib.h>
 #include <string.h>
+#include <strings.h>
 
 static const char *why(ZyanStatus status)
 {
@@ -29,6 +34,25 @@ static const char *why(ZyanStatus status)
     case ZYDIS_STATUS_INVALID_MASK: return "-invalid-mask";
     default: return "-other";
     }
+}
+
+/* Names of the program that differ from those of zydis, each with how often it stands for what zydis calls so. */
+static struct {
+    char ours[24];
+    size_t count[ZYDIS_MNEMONIC_MAX_VALUE + 1], first[ZYDIS_MNEMONIC_MAX_VALUE + 1];
+} names[256];
+static int named;
+
+static void count_names(const char *ours, ZydisMnemonic theirs, size_t place)
+{
+    if (strcasecmp(ours, ZydisMnemonicGetString(theirs)) == 0) return;
+    int at = 0;
+    while (at < named && strcmp(names[at].ours, ours) != 0) at++;
+    if (at == named) {
+        if (named == 256) { fprintf(stderr, "compare: too many names\n"); exit(2); }
+        snprintf(names[named++].ours, sizeof names->ours, "%s", ours);
+    }
+    if (names[at].count[theirs]++ == 0) names[at].first[theirs] = place;
 }
 
 static unsigned char *contents(const char *path, size_t *count)
@@ -81,9 +105,18 @@ int main(int argc, char **argv)
             for (size_t k = at; k < count && k < at + 15; k++) printf("%02x", bytes[k]);
             putchar('\n');
         }
+        if (!refuses && !theirs_refuses) {
+            char *name = text + 1;
+            name[strcspn(name, " \n")] = '\0';
+            count_names(name, read.mnemonic, at);
+        }
         at += refuses ? 1 : length;
     }
     if (at != count) { fprintf(stderr, "compare: the sweep ends at byte %zu of %zu\n", at, count); return 2; }
+    for (int k = 0; k < named; k++)
+        for (int it = 0; it <= ZYDIS_MNEMONIC_MAX_VALUE; it++)
+            if (names[k].count[it] > 0)
+                printf("name %s %s %zu %zu\n", names[k].ours, ZydisMnemonicGetString(it), names[k].count[it], names[k].first[it]);
     printf("cuts %zu accepted %zu refused %zu both %zu\n", cuts, cuts - refused, refused, both);
     return 0;
 }
