@@ -1,11 +1,14 @@
-//! The examples of docs/GUIDE.md.
-ghost use Rattle.std.specs.Prelude.{⊤, ◌<◌};
+//! The examples of docs/GUIDE.md, as they stand there.
+ghost use Rattle.std.specs.Prelude.{⊤, ◌+◌, ◌<◌, ◌≤◌, length};
 
+use arrayvec::ArrayVec;
 use x86_arch::ChunkReader;
 use x86_decode::{
-    DecodeError, InstDecoder, Instruction, MergeMode, Opcode, OperandVisitor, RegSpec, SaeMode,
+    DecodeError, InstDecoder, Instruction, MergeMode, Opcode, Operand, OperandVisitor, RegSpec,
+    SaeMode,
 };
 use x86_fields::RegFile;
+use x86_layout::{Fields, Sweep, TightenError, branch_target, emit, mark_targets, split, tighten};
 
 fn opcode_and_length(bytes: &[u8]) -> Result<(Opcode, u64), DecodeError> {
     let instruction = InstDecoder::default().decode_slice(bytes)?;
@@ -40,15 +43,19 @@ fn tell_refusals_apart(rt: HostRuntime) {
     assert!(rt; advice_for(&[0x06]) == Advice::Skip);
 }
 
+/// The instruction at the front of two slices of which the second goes on where the first ends.
+fn decode_over(first: &[u8], rest: &[u8]) -> Result<Instruction, DecodeError>
+    requires { length first.now + length rest.now ≤ usize.MAX }
+{
+    let mut words = ChunkReader::new(first, rest);
+    InstDecoder::default().decode(&mut words)
+}
+
 #[test]
 fn read_over_two_buffers(rt: HostRuntime) {
     // lea rax, [rip + 16], cut inside the displacement
-    let mut words = ChunkReader::new(&[0x48, 0x8d, 0x05, 0x10], &[0x00, 0x00, 0x00]);
-    let read = InstDecoder::default().decode(&mut words);
-    assert!(rt; read.is_ok());
-    if let Ok(instruction) = read {
-        assert!(rt; instruction.opcode() == Opcode::LEA);
-    }
+    let read = decode_over(&[0x48, 0x8d, 0x05, 0x10], &[0x00, 0x00, 0x00]);
+    assert!(rt; matches!(read, Ok(instruction) if instruction.opcode() == Opcode::LEA));
 }
 
 fn address_of_operand(instruction: &Instruction, regs: &RegFile, place: u64) -> Option<u64> {
@@ -71,7 +78,42 @@ fn compute_an_address(rt: HostRuntime) {
     }
 }
 
-/// Names the register of an operand, or the base of its memory.
+/// Whether an operand is memory.
+fn has_memory(instruction: &Instruction) -> bool {
+    for i in 0..4u8 {
+        if instruction.operand(i).is_memory() {
+            return true;
+        }
+    }
+    false
+}
+
+/// The name of the register that an operand is, or of the base of its memory.
+fn first_register(operand: Operand) -> Option<&'static str> {
+    match operand {
+        Operand::Register { reg } => Some(reg.name()),
+        Operand::MemDeref { base } => Some(base.name()),
+        Operand::Disp { base, .. } => Some(base.name()),
+        Operand::MemBaseIndexScale { base, .. } => Some(base.name()),
+        Operand::MemBaseIndexScaleDisp { base, .. } => Some(base.name()),
+        _ => None,
+    }
+}
+
+#[test]
+fn match_an_operand(rt: HostRuntime) {
+    // add [rax + 8], ebx
+    let decoded = InstDecoder::default().decode_slice(&[0x01, 0x58, 0x08]);
+    assert!(rt; decoded.is_ok());
+    if let Ok(instruction) = decoded {
+        assert!(rt; has_memory(&instruction));
+        assert!(rt; first_register(instruction.operand(0)) == Some("rax"));
+        assert!(rt; first_register(instruction.operand(1)) == Some("ebx"));
+        assert!(rt; first_register(instruction.operand(2)).is_none());
+    }
+}
+
+/// Answers the name of the register that an operand is, or else of the first one of its memory.
 #[derive(Drop)]
 struct FirstRegister;
 
@@ -291,4 +333,79 @@ fn walk_the_operands(rt: HostRuntime) {
         assert!(rt; instruction.visit_operand(1, &mut visitor) == Ok(Some("ebx")));
         assert!(rt; instruction.visit_operand(2, &mut visitor) == Ok(None));
     }
+}
+
+/// The encoding at the front without its prefixes, where that is one.
+fn without_prefixes(bytes: &[u8]) -> Option<ArrayVec<u8, 15>> {
+    let decoder = InstDecoder::default();
+    match split(&decoder, bytes) {
+        Ok(parts) => {
+            let mut fields = Fields::of(&parts);
+            fields.prefixes.clear();
+            emit(&decoder, &fields).ok()
+        }
+        Err(_) => None,
+    }
+}
+
+#[test]
+fn change_a_part(rt: HostRuntime) {
+    let bytes = without_prefixes(&[0x66, 0x48, 0x01, 0xd8]).expect(&rt, "an encoding");
+    assert!(rt; bytes.as_slice() == [0x01, 0xd8].as_slice());
+}
+
+/// How many bytes a shorter form of the address spares.
+fn spared(bytes: &[u8]) -> Result<u64, TightenError> {
+    let decoder = InstDecoder::default();
+    let length = decoder.decode_slice(bytes).map_err(TightenError::Refused)?;
+    let short = tighten(&decoder, bytes)?;
+    Ok(length.len().to_const().saturating_sub(short.len() as u64))
+}
+
+#[test]
+fn take_the_shortest_address(rt: HostRuntime) {
+    let bytes = [0x48, 0x8b, 0x84, 0x25, 0, 0, 0, 0];
+    let short = tighten(&InstDecoder::default(), &bytes).expect(&rt, "an encoding");
+    assert!(rt; short.as_slice() == [0x48, 0x8b, 0x45, 0x00].as_slice());
+    assert!(rt; matches!(spared(&bytes), Ok(4)));
+    assert!(rt; matches!(spared(&[0x8b, 0xc0]), Err(TightenError::NoMemoryForm)));
+}
+
+/// Where the last instruction of a sweep stands.
+fn last_place(bytes: &[u8]) -> Option<usize> {
+    let mut last = None;
+    for cut in Sweep::new(InstDecoder::default(), bytes) {
+        let place = cut.place;
+        match cut.answer {
+            Ok(_) => last = Some(place),
+            Err(_) => {}
+        }
+    }
+    last
+}
+
+/// The target of the instruction at the front, if it is a relative branch. The bytes stand at `place`.
+fn target(bytes: &[u8], place: u64) -> Option<u64> {
+    match InstDecoder::default().decode_slice(bytes) {
+        Ok(instruction) => {
+            let next = place.wrapping_add(instruction.len().to_const());
+            branch_target(&instruction, next)
+        }
+        Err(_) => None,
+    }
+}
+
+/// Which of six bytes are branched to.
+fn marked(bytes: &[u8; 6]) -> [bool; 6] {
+    let mut marks = [false; 6];
+    mark_targets(&InstDecoder::default(), bytes, &mut marks);
+    marks
+}
+
+#[test]
+fn go_over_any_bytes(rt: HostRuntime) {
+    assert!(rt; last_place(&[0x06, 0x90, 0xc3, 0x06]) == Some(2));
+    assert!(rt; target(&[0xeb, 0xfe], 0x40_1000) == Some(0x40_1000));
+    let marks = marked(&[0x74, 0x01, 0x06, 0xeb, 0xfb, 0x90]);
+    assert!(rt; marks == [true, false, false, true, false, false]);
 }

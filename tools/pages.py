@@ -1,0 +1,121 @@
+#!/usr/bin/env python3
+"""Holds what the pages print against what is so.
+
+    python3 tools/pages.py
+
+Examples of README.md and docs/USAGE.md: in a block of indented lines, each line behind `$ ` is run by the shell, in a folder with `x86`
+and examples/, and what it prints must be the lines below it. Where these are `...`, anything may be printed. In the table of statuses the
+example of a row must end with its status. The program is the built one, or the one that PROGRAM names; where there is none, or a tool
+of an example is missing, these examples are skipped with a line.
+
+Examples of docs/GUIDE.md: each indented block stands in one of the files of `CODE`, line by line, only further to the right.
+"""
+
+import os
+import re
+import shutil
+import subprocess
+import sys
+import tempfile
+from pathlib import Path
+
+TOP = Path(__file__).resolve().parent.parent
+PROGRAM = Path(os.environ.get("PROGRAM") or TOP / "crates" / "x86_cli" / "out" / "x86_cli").resolve()
+CODE = ["crates/x86_vectors/src/guide_tests.rt", "examples/own", "tools/own_test"]
+TOOLS = ["objcopy", "xxd", "hexdump", "od", "paste", "xargs"]
+
+
+def blocks(page):
+    """The blocks of indented lines of a page, each as its lines."""
+    block = []
+    for line in [*(TOP / page).read_text().splitlines(), "end"]:
+        if line.startswith("    "):
+            block.append(line[4:])
+        elif line == "" and block:
+            block.append("")
+        elif block:
+            yield "\n".join(block).rstrip("\n").split("\n")
+            block = []
+
+
+def examples(page):
+    """The commands of a page, each with the text that it prints. A command goes on in lines behind `> `."""
+    for block in blocks(page):
+        if block[0].startswith("$ "):
+            for part in re.split(r"^\$ ", "\n".join(block), flags=re.M)[1:]:
+                command, *rest = part.split("\n")
+                while rest and rest[0].startswith("> "):
+                    command += "\n" + rest.pop(0)[2:]
+                yield command, "\n".join(rest).rstrip("\n")
+
+
+def lacking(command):
+    return [tool for tool in TOOLS if re.search(rf"\b{tool}\b", command) and shutil.which(tool) is None]
+
+
+def run(command, folder):
+    return subprocess.run(["sh", "-c", command], cwd=folder, stdin=subprocess.DEVNULL, stdout=subprocess.PIPE, stderr=subprocess.STDOUT, text=True)
+
+
+def run_examples(page):
+    """Runs the examples of a page, and answers how many print something else."""
+    wrong = 0
+    with tempfile.TemporaryDirectory() as folder:
+        os.symlink(PROGRAM, Path(folder) / "x86")
+        shutil.copytree(TOP / "examples", Path(folder) / "examples")
+        for command, wanted in examples(page):
+            if lacking(command):
+                print(f"pages: skipped, {lacking(command)[0]} is missing: {command}", file=sys.stderr)
+                continue
+            got = run(command, folder).stdout.rstrip("\n")
+            if wanted != "..." and got != wanted:
+                print(f"pages: {page}: {command}\n--- the page\n{wanted}\n--- printed\n{got}\n---", file=sys.stderr)
+                wrong += 1
+        for status, command in re.findall(r"^\| (\d+) \|.*\| `(.*)` \|$", (TOP / page).read_text(), re.M):
+            command = command.replace("\\|", "|")
+            got = run(command, folder).returncode
+            if got != int(status):
+                print(f"pages: {page}: status {got} and not {status}: {command}", file=sys.stderr)
+                wrong += 1
+    return wrong
+
+
+def dedent(lines):
+    """The lines without the indentation that all of them have, as one text."""
+    least = min((len(line) - len(line.lstrip()) for line in lines if line), default=0)
+    return "\n".join(line[least:] for line in lines)
+
+
+def stands_in(block, text):
+    """Whether the lines stand in the text, one below the other, all as far to the right as the first."""
+    lines = text.split("\n")
+    for at in range(len(lines) - len(block) + 1):
+        if lines[at].endswith(block[0]) and dedent(lines[at : at + len(block)]) == dedent(block):
+            return True
+    return False
+
+
+def read_guide(page):
+    """Looks for the examples of the guide in the files of code, and answers how many aren't there."""
+    files = [file for name in CODE for file in ([TOP / name] if (TOP / name).is_file() else sorted((TOP / name).rglob("*"))) if file.is_file()]
+    texts = [file.read_text() for file in files]
+    wrong = 0
+    for block in blocks(page):
+        if not block[0].startswith("$ ") and not any(stands_in(block, text) for text in texts):
+            print(f"pages: {page}: no test has these lines:\n" + "\n".join(block), file=sys.stderr)
+            wrong += 1
+    return wrong
+
+
+def main():
+    wrong = read_guide("docs/GUIDE.md")
+    if os.access(PROGRAM, os.X_OK):
+        wrong += sum(run_examples(page) for page in ("README.md", "docs/USAGE.md"))
+    else:
+        print(f"pages: the examples are skipped, {PROGRAM} is missing", file=sys.stderr)
+    if wrong == 0:
+        print("pages: passed")
+    return 1 if wrong else 0
+
+
+sys.exit(main())
