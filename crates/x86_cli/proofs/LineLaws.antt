@@ -61,9 +61,9 @@ pub four_long : (i : Instruction) → length (four i) ≡ 4
 unfolding four
 four_long i = refl
 
-pub all_shown : (i : Instruction) (n : ℕ) → n ≡ min i.count 4 → take n (four i) ≡ shown_operands i
+pub all_shown : (i : Instruction) (n : ℕ) → n ≡ min i.given.count 4 → take n (four i) ≡ shown_operands i
 unfolding four
-all_shown i n e = rw e (take_min i.count (four i))
+all_shown i n e = rw e (take_min i.given.count (four i))
 
 pub description_short : (e : DecodeError) → length (description_of e) ≤ 26
 description_short ExhaustedInput = omega arith

@@ -101,13 +101,13 @@ size_text size = if size == 63 then codes "?" else decimal size
 
 -- the operands that an instruction has, of its four places
 abbrev pub shown_operands : Instruction → List Operand
-shown_operands i = take i.count (operand_at i 0 ∷ operand_at i 1 ∷ operand_at i 2 ∷ operand_at i 3 ∷ [])
+shown_operands i = take i.given.count (operand_at i 0 ∷ operand_at i 1 ∷ operand_at i 2 ∷ operand_at i 3 ∷ [])
 
 -- PLACE LENGTH MNEMONIC, the operands, and the size
 unfoldable pub instruction_text : ℕ → Instruction → List ℕ
 instruction_text place i =
     decimal place ++ codes " " ++ decimal i.length ++ codes " " ++ mnemonic_of i.opcode
-    ++ operands_text (shown_operands i) ++ codes " m" ++ size_text i.mem_size
+    ++ operands_text (shown_operands i) ++ codes " m" ++ size_text i.given.mem_size
 
 unfoldable pub refusal_text : ℕ → DecodeError → List ℕ
 refusal_text place error = decimal place ++ codes " error: " ++ description_of error

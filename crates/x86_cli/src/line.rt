@@ -259,7 +259,7 @@ fn push_operands(line: &mut Line, instruction: &Instruction)
 
 fn push_size(line: &mut Line, instruction: &Instruction)
     requires { array_vec_len line.old + 3 ≤ 192 }
-    ensures text { line.new.items ≡ line.old.items ++ size_text instruction.now.mem_size }
+    ensures text { line.new.items ≡ line.old.items ++ size_text instruction.now.given.mem_size }
     ensures short { array_vec_len line.new ≤ array_vec_len line.old + 3 }
 {
     match instruction.mem_size() {

@@ -17,5 +17,5 @@ loop-i-preserved c =
 pub returns-clause-text : goal.returns-clause-text
 returns-clause-text c =
     let inst = c.args.instruction.now in
-    let count : c.loop-i.i ≡ min inst.count 4 = omega (arith, c.operand_count.ensures, c.min-count.ensures, c.loop-i-test.false, c.loop-i.auto.i-end) in
+    let count : c.loop-i.i ≡ min inst.given.count 4 = omega (arith, c.operand_count.ensures, c.min-count.ensures, c.loop-i-test.false, c.loop-i.auto.i-end) in
     c.loop-i.invariant.text ∙ ap (λ os. c.args.line.now.items ++ operands_text os) (all_shown inst c.loop-i.i count)
