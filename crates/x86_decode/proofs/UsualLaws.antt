@@ -1,9 +1,9 @@
 -- The line of a row, and what the row asks behind ModRM.
-use Rattle.std.proofs.Common.{◌≡◌, ℕ, Bool, true, false, if◌then◌else◌, IsTrue, Result, Ok, Err, refl, sym, ap, ◌∙◌, subst}
+use Rattle.std.proofs.Common.{◌≡◌, ℕ, Bool, true, false, if◌then◌else◌, IsTrue, Result, Ok, Err, refl, sym, ap, ◌∙◌, subst, ◌⊎◌, inl, inr}
 use Rattle.x86_arch.specs.Reader.{State}
 use Rattle.x86_fields.specs.declared.DecodeError.{DecodeError}
 use Rattle.x86_fields.specs.declared.Prefixes.{Prefixes}
-use Rattle.x86_fields.specs.Steps.{Outcome, outcome, then_from, pure, byte_step}
+use Rattle.x86_fields.specs.Steps.{Outcome, outcome, then_from}
 use Rattle.x86_forms.specs.Groups.{is_group_form}
 use Rattle.x86_forms.specs.declared.Form.{Form}
 use Rattle.x86_forms.specs.declared.TableRow.{TableRow}
@@ -11,9 +11,11 @@ use Rattle.x86_operands.specs.declared.encodings.Behind.{Behind}
 use Rattle.x86_operands.specs.declared.encodings.Behind.TheVariants as behind
 use Rattle.x86_operands.specs.declared.encodings.Encoding.{Encoding}
 use Rattle.x86_operands.specs.declared.encodings.RegGroup.{RegGroup}
+use Rattle.x86_operands.specs.declared.plans.ModrmUse.{ModrmUse}
+use Rattle.x86_operands.specs.declared.plans.ModrmUse.TheVariants.{Absent, Fields}
 use Rattle.x86_operands.specs.declared.plans.Plan.{Plan}
 use Rattle.x86_operands.specs.declared.reader.Reading.{Reading}
-use Rattle.x86_operands.specs.Encodings.{Belongs, Describes, carried, group_form, is_row, plan_of, use_of}
+use Rattle.x86_operands.specs.Encodings.{Belongs, carried, group_form, is_row, plan_of, use_of}
 use Rattle.x86_operands.specs.Forms.{form_plan, form_record, modrm_use}
 use Rattle.x86_operands.specs.Signs.{modrm_step, plan_step, record_step}
 use Rattle.x86_groups.specs.ByReg.{Chooses, reg_plan}
@@ -31,38 +33,43 @@ same_asks strict row p e = ap (λ o. asks strict row p o.answer o.after) e
 
 -- ---- rows of the table
 
-pub plain_row : (b : Behind) (f : Form) → IsTrue (is_row b) → Belongs b f → is_group_form f ≡ false
-plain_row (behind.ByReg g) f h e = cc
-plain_row behind.Group f h e = cc
-plain_row (behind.Peculiar u) f h e = e
-plain_row b f h e = e
+abbrev pub IsPlain : ModrmUse → Behind → Form → Type 0
+IsPlain u b f = (use_of b ≡ u) × (is_group_form f ≡ false)
+
+pub with_fields : (b : Behind) (f : Form) → b ≡ behind.Fields → Belongs b f → IsPlain Fields b f
+with_fields b f e h = (ap use_of e, subst (λ k. Belongs k f) e h)
+
+pub with_modrm : (b : Behind) (f : Form) → (b ≡ behind.Memory) ⊎ (b ≡ behind.Registers) → Belongs b f → IsPlain Fields b f
+with_modrm b f (inl e) h = (ap use_of e, subst (λ k. Belongs k f) e h)
+with_modrm b f (inr e) h = (ap use_of e, subst (λ k. Belongs k f) e h)
+
+pub with_none : (b : Behind) (f : Form) → (b ≡ behind.Nothing) ⊎ ((b ≡ behind.Opcode) ⊎ (b ≡ behind.Accumulator)) → Belongs b f → IsPlain Absent b f
+with_none b f (inl e) h = (ap use_of e, subst (λ k. Belongs k f) e h)
+with_none b f (inr (inl e)) h = (ap use_of e, subst (λ k. Belongs k f) e h)
+with_none b f (inr (inr e)) h = (ap use_of e, subst (λ k. Belongs k f) e h)
 
 plain_asks : (strict : Bool) (row : TableRow) (p : Prefixes) (s : State ℕ) → is_group_form row.form ≡ false → row_step strict row p s ≡ asks strict row p (modrm_step (modrm_use row.form) s).answer (modrm_step (modrm_use row.form) s).after
 unfolding record_step form_record
 plain_asks strict row p s e = rw e refl
 
-pub row_asks : {r : Result ℕ DecodeError} {t : State ℕ} (s : State ℕ) (strict : Bool) (row : TableRow) (p : Prefixes) (b : Behind) → is_group_form row.form ≡ false → modrm_use row.form ≡ use_of b → outcome r t ≡ modrm_step (use_of b) s → asks strict row p r t ≡ row_step strict row p s
-row_asks {r} {t} s strict row p b plain usage e = same_asks strict row p (e ∙ ap (λ u. modrm_step u s) (sym usage)) ∙ sym (plain_asks strict row p s plain)
-
-pub row_described : (strict : Bool) (row : TableRow) (p : Prefixes) (m : ℕ) (e : Encoding) → is_group_form row.form ≡ false → Describes e row.form → IsTrue (is_row e.behind) → plan_of e (carried row.form) row.opcode p m ≡ plan_at strict row p m
-row_described strict row p m e plain d is = d is row.opcode m p ∙ rw plain refl
+pub row_asks : {r : Result ℕ DecodeError} {t : State ℕ} (s : State ℕ) (strict : Bool) (row : TableRow) (p : Prefixes) (u : ModrmUse) (b : Behind) → IsPlain u b row.form → modrm_use row.form ≡ use_of b → outcome r t ≡ modrm_step u s → asks strict row p r t ≡ row_step strict row p s
+row_asks {r} {t} s strict row p u b plain usage e = same_asks strict row p (e ∙ ap (λ k. modrm_step k s) (sym (usage ∙ plain.0))) ∙ sym (plain_asks strict row p s plain.1)
 
 -- ---- groups by reg
 
 chosen_plan : (g : RegGroup) (strict : Bool) (row : TableRow) (p : Prefixes) (m : ℕ) → row.form ≡ group_form g → plan_at strict row p m ≡ reg_plan g p m
 chosen_plan g strict row p m e = ap (λ t. if t then group_plan row p m strict else form_plan row.form row.opcode p m) (reg_group g row.form e) ∙ reg_chosen g strict row p m e
 
-reg_behind : (g : RegGroup) (strict : Bool) (row : TableRow) (p : Prefixes) (r : Result ℕ DecodeError) (t : State ℕ) → row.form ≡ group_form g →
-    then_from (then_from r t (λ m. pure m)).answer (then_from r t (λ m. pure m)).after (λ m. plan_step (reg_plan g p m) p m) ≡ asks strict row p r t
+reg_behind : (g : RegGroup) (strict : Bool) (row : TableRow) (p : Prefixes) (r : Result ℕ DecodeError) (t : State ℕ) → row.form ≡ group_form g → then_from r t (λ m. plan_step (reg_plan g p m) p m) ≡ asks strict row p r t
 reg_behind g strict row p (Ok m) t e = ap (λ plan. plan_step plan p m t) (sym (chosen_plan g strict row p m e))
 reg_behind g strict row p (Err x) t e = refl
 
-group_row : (g : RegGroup) (strict : Bool) (row : TableRow) (p : Prefixes) (s : State ℕ) → row.form ≡ group_form g → row_step strict row p s ≡ asks strict row p (byte_step s).answer (byte_step s).after
+group_row : (g : RegGroup) (strict : Bool) (row : TableRow) (p : Prefixes) (s : State ℕ) → row.form ≡ group_form g → row_step strict row p s ≡ asks strict row p (modrm_step Fields s).answer (modrm_step Fields s).after
 group_row g strict row p s e =
     ap (λ t. record_step (if t then group_record strict row p else form_record row p) p s) (reg_group g row.form e)
-    ∙ reg_record g strict row p s e ∙ reg_behind g strict row p (byte_step s).answer (byte_step s).after e
+    ∙ reg_record g strict row p s e ∙ reg_behind g strict row p (modrm_step Fields s).answer (modrm_step Fields s).after e
 
-pub group_asks : {r : Result ℕ DecodeError} {t : State ℕ} (s : State ℕ) (strict : Bool) (row : TableRow) (p : Prefixes) (g : RegGroup) → row.form ≡ group_form g → outcome r t ≡ byte_step s → asks strict row p r t ≡ row_step strict row p s
+pub group_asks : {r : Result ℕ DecodeError} {t : State ℕ} (s : State ℕ) (strict : Bool) (row : TableRow) (p : Prefixes) (g : RegGroup) → row.form ≡ group_form g → outcome r t ≡ modrm_step Fields s → asks strict row p r t ≡ row_step strict row p s
 group_asks {r} {t} s strict row p g e b = same_asks strict row p b ∙ sym (group_row g strict row p s e)
 
 pub group_described : (strict : Bool) (row : TableRow) (p : Prefixes) (m o : ℕ) (g : RegGroup) (e : Encoding) → row.form ≡ group_form g → Chooses g m o e → IsTrue (is_row e.behind) → plan_of e (carried row.form) o p m ≡ plan_at strict row p m

@@ -1,18 +1,19 @@
 //! The walk over the bytes of an encoding: the run of prefixes, the escape and the opcode byte, and what the row asks, written where it
 //! stays.
-ghost use Rattle.std.specs.Prelude.{◌≡◌, ℕ, List, Bool, IfOk, IfSome, true, false, [], take};
+ghost use Rattle.std.specs.Prelude.{◌≡◌, ℕ, List, Bool, IfOk, IsTrue, true, false, [], take};
 ghost use Rattle.x86_arch.specs.Reader.{State, advanced, marked};
 ghost use Rattle.x86_fields.specs.Steps.{outcome, then_from};
 ghost use Rattle.x86_fields.specs.declared.Prefixes.{Prefixes};
 ghost use Rattle.x86_fields.specs.Run.{is_prefix_byte, reading_of};
 ghost use Rattle.x86_forms.specs.Words.{IsForm, rows_of};
-ghost use Rattle.x86_operands.specs.Encodings.{held, no_operands};
-ghost use Rattle.x86_operands.specs.Signs.{record_step};
+ghost use Rattle.x86_operands.specs.Encodings.{carried, held, is_row, is_sound, no_operands, plan_of};
+ghost use Rattle.x86_operands.specs.Signs.{plan_step, record_step};
+ghost use Rattle.x86_decode.specs.declared.instructions.Instruction.{Instruction};
 ghost use Rattle.x86_decode.specs.Answer.{answer_of};
 ghost use Rattle.x86_decode.specs.Head.{column_of, is_vex, vex_error, seen};
 ghost use Rattle.x86_decode.specs.Grammar.{record_of, first_slot, lock_allowed};
 ghost use Rattle.x86_decode.specs.Instruction.{holding, invalid_instruction, reading_in};
-ghost use Rattle.x86_decode.specs.Walk.{Headed, HasForm, head_from, head_at, head_step, escaped_step, found_word, found_step, IsUsual, usual_step, rest_step, row_step, plan_at, behind_step, long_step, walk_step, body_step, decode_step, is_exhausted, is_nothing, lock_taken, judgement, limited};
+ghost use Rattle.x86_decode.specs.Walk.{Headed, HasForm, head_from, head_at, head_step, escaped_step, found_word, found_step, IsFound, found_row_step, plan_at, rest_step, row_step, behind_step, long_step, walk_step, body_step, decode_step, is_exhausted, is_nothing, lock_taken, judgement, limited};
 
 use crate::bounded::{Bounded, Start, takes_rest};
 use crate::instructions::Instruction;
@@ -23,7 +24,7 @@ use x86_fields::{DecodeError, Prefixes, next_byte};
 use x86_forms::{Column, Map, Packed, TableRow, Words, unpack};
 use x86_groups::{chosen, group_plan, place_group, read_group};
 use x86_opcodes::Opcode;
-use x86_operands::plans::Plan;
+use x86_operands::plans::{ModrmUse, Plan};
 use x86_operands::{
     Behind, Encoding, Reading, Slot, carried, encoding_of, form_plan, place_form, place_plan,
     read_form, read_modrm,
@@ -45,6 +46,13 @@ struct Usual<'a> {
     encoding: &'a Encoding,
     opcode: Opcode,
     modrm: u8,
+}
+
+/// What a row comes to behind its ModRM byte, if it has one.
+#[derive(Clone, Copy, Drop)]
+enum Found<'a> {
+    Line(Usual<'a>),
+    Left(Rest),
 }
 
 /// Whether the byte is a legacy prefix or a REX.
@@ -242,44 +250,67 @@ fn read_word<W: Words, T: Reader<u64, u8>>(
     }
 }
 
-/// ModRM, and the line for a row; none for a row that no line may describe, of which nothing is read.
+/// ModRM, and the line that describes the row there; else what is left of the row.
 #[inline(always)]
 fn read_usual<'a, T: Reader<u64, u8>>(
     row: &TableRow,
     words: &mut T,
-) -> Result<Option<Usual<'a>>, DecodeError>
+) -> Result<Found<'a>, DecodeError>
     requires { IsForm row.now.form }
-    ensures read { (strict : Bool) (p : Prefixes) → then_from result (T.state words.new) (usual_step strict row.now p) ≡ row_step strict row.now p (T.state words.old) }
-    ensures usual { IfOk result (λ usual. IfSome usual (IsUsual row.now)) }
+    ensures read { (strict : Bool) (i : Instruction) → then_from result (T.state words.new) (found_row_step strict row.now i) ≡ row_step strict row.now i.prefixes (T.state words.old) }
+    ensures found { IfOk result (IsFound row.now) }
 {
     let encoding = encoding_of(row.form);
+    let opcode = row.opcode;
     match encoding.behind {
+        Behind::Peculiar(_) | Behind::Group => Ok(Found::Left(Rest::Row(*row))),
         Behind::ByReg(group) => {
-            let modrm = next_byte(words)?;
+            let modrm = read_modrm(words, ModrmUse::Fields)?;
             let (opcode, encoding) = chosen(group, modrm);
-            Ok(Some(Usual {
+            Ok(line_at(row, encoding, opcode, modrm))
+        }
+        Behind::Fields => {
+            let modrm = read_modrm(words, ModrmUse::Fields)?;
+            Ok(Found::Line(Usual {
                 encoding,
                 opcode,
                 modrm,
             }))
         }
-        behind => {
-            if !behind.is_row() {
-                return Ok(None);
-            }
-            let modrm = read_modrm(words, encoding.modrm_use())?;
-            Ok(Some(Usual {
-                encoding,
-                opcode: row.opcode,
-                modrm,
-            }))
+        Behind::Memory | Behind::Registers => {
+            let modrm = read_modrm(words, ModrmUse::Fields)?;
+            Ok(line_at(row, encoding, opcode, modrm))
         }
+        Behind::Nothing | Behind::Opcode | Behind::Accumulator => Ok(Found::Line(Usual {
+            encoding,
+            opcode,
+            modrm: 0xc0,
+        })),
+    }
+}
+
+/// The line, if it accepts at this ModRM byte.
+#[inline(always)]
+fn line_at<'a>(row: &TableRow, encoding: &'a Encoding, opcode: Opcode, modrm: u8) -> Found<'a>
+    requires form { IsForm row.now.form }
+    requires sound { is_sound encoding.now ≡ true }
+    requires describes { (strict : Bool) (p : Prefixes) → IsTrue (is_row encoding.now.behind) → plan_of encoding.now (carried row.now.form) opcode p modrm ≡ plan_at strict row.now p modrm }
+    ensures found { IsFound row.now result }
+    ensures modrm { (strict : Bool) (i : Instruction) → found_row_step strict row.now i result ≡ plan_step (plan_at strict row.now i.prefixes modrm) i.prefixes modrm }
+{
+    if encoding.behind.allows(modrm) {
+        Found::Line(Usual {
+            encoding,
+            opcode,
+            modrm,
+        })
+    } else {
+        Found::Left(Rest::Behind(*row, modrm))
     }
 }
 
 /// What a row asks behind its opcode byte, if a line of the operand encodings describes it.
 #[inline(always)]
-#[tactic(auto, using(x86_operands::proofs::OrderLaws::allowed_row))]
 fn place_usual<T: Reader<u64, u8>>(
     row: TableRow,
     words: &mut T,
@@ -293,11 +324,8 @@ fn place_usual<T: Reader<u64, u8>>(
 {
     match read_usual(&row, words) {
         Err(error) => Err(error),
-        Ok(None) => Ok(Rest::Row(row)),
-        Ok(Some(usual)) => {
-            if !usual.encoding.behind.allows(usual.modrm) {
-                return Ok(Rest::Behind(row, usual.modrm));
-            }
+        Ok(Found::Left(rest)) => Ok(rest),
+        Ok(Found::Line(usual)) => {
             inst.opcode = usual.opcode;
             let num = carried(row.form);
             inst.given.place(
