@@ -1,5 +1,5 @@
 -- What the table of leads says of a byte.
-use Rattle.std.proofs.Common.{◌≡◌, ◌==◌, ◌||◌, ℕ, Bool, true, false, if◌then◌else◌, IsTrue, refl, sym, ◌∙◌}
+use Rattle.std.proofs.Common.{◌≡◌, ◌==◌, ◌||◌, ℕ, Bool, true, false, if◌then◌else◌, IsTrue, refl}
 use Rattle.std.proofs.lemmas.Bool.{eqb-true}
 use Rattle.x86_fields.specs.Run.{is_legacy_byte, is_rex_byte, is_prefix_byte}
 use Rattle.x86_decode.specs.declared.leads.TheConstants.{LEADS}

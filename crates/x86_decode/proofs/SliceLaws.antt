@@ -1,16 +1,16 @@
 -- The walk over the first fifteen bytes of a slice.
-use Rattle.std.proofs.Common.{◌≡◌, ◌==◌, ℕ, Bool, true, false, if◌then◌else◌, List, length, take, min, nat_le, Result, Ok, Err, refl, sym, ap, ◌∙◌, arith, length-take}
+use Rattle.std.proofs.Common.{◌≡◌, ◌==◌, ℕ, Bool, true, false, List, length, take, min, nat_le, Result, Ok, Err, refl, ap, ◌∙◌, arith, length-take}
 use Rattle.std.proofs.lemmas.Bool.Decides.{nat_tests}
-use Rattle.x86_arch.specs.Reader.{State, advanced}
+use Rattle.x86_arch.specs.Reader.{State}
 use Rattle.x86_fields.specs.declared.DecodeError.{DecodeError}
-use Rattle.x86_fields.specs.declared.DecodeError.TheVariants.{ExhaustedInput, InvalidPrefixes, TooLong}
-use Rattle.x86_fields.specs.Steps.{Outcome, outcome}
+use Rattle.x86_fields.specs.declared.DecodeError.TheVariants.{ExhaustedInput}
+use Rattle.x86_fields.specs.Steps.{outcome}
 use Rattle.x86_forms.specs.Words.{rows_of, word_at}
 use Rattle.x86_operands.specs.declared.reader.Reading.{Reading}
 use Rattle.x86_decode.specs.declared.instructions.Instruction.{Instruction}
 use Rattle.x86_decode.specs.Answer.{answer_of, outcome_of}
 use Rattle.x86_decode.specs.Grammar.{lock_allowed}
-use Rattle.x86_decode.specs.Instruction.{instruction_of, holding, reading_in}
+use Rattle.x86_decode.specs.Instruction.{holding, reading_in}
 use Rattle.x86_decode.specs.Walk.{body_step, closed, decode_step, judgement, limited}
 
 abbrev pub at_start : List ℕ → State ℕ

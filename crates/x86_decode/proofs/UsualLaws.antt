@@ -1,5 +1,5 @@
 -- The line of a row, and what the row asks behind ModRM.
-use Rattle.std.proofs.Common.{◌≡◌, ℕ, Bool, true, false, if◌then◌else◌, IsTrue, Result, Ok, Err, refl, sym, ap, ◌∙◌, subst, ◌⊎◌, inl, inr}
+use Rattle.std.proofs.Common.{◌≡◌, ℕ, Bool, false, if◌then◌else◌, IsTrue, Result, Ok, Err, refl, sym, ap, ◌∙◌, subst, ◌⊎◌, inl, inr}
 use Rattle.x86_arch.specs.Reader.{State}
 use Rattle.x86_fields.specs.declared.DecodeError.{DecodeError}
 use Rattle.x86_fields.specs.declared.Prefixes.{Prefixes}
@@ -13,7 +13,6 @@ use Rattle.x86_operands.specs.declared.encodings.Encoding.{Encoding}
 use Rattle.x86_operands.specs.declared.encodings.RegGroup.{RegGroup}
 use Rattle.x86_operands.specs.declared.plans.ModrmUse.{ModrmUse}
 use Rattle.x86_operands.specs.declared.plans.ModrmUse.TheVariants.{Absent, Fields}
-use Rattle.x86_operands.specs.declared.plans.Plan.{Plan}
 use Rattle.x86_operands.specs.declared.reader.Reading.{Reading}
 use Rattle.x86_operands.specs.Encodings.{Belongs, carried, group_form, is_row, plan_of, use_of}
 use Rattle.x86_operands.specs.Forms.{form_plan, form_record, modrm_use}
@@ -21,7 +20,6 @@ use Rattle.x86_operands.specs.Signs.{modrm_step, plan_step, record_step}
 use Rattle.x86_groups.specs.ByReg.{Chooses, reg_plan}
 use Rattle.x86_groups.specs.Groups.{group_plan, group_record}
 use Rattle.x86_groups.proofs.RegLaws.{reg_record, reg_chosen, reg_group, reg_carries}
-use Rattle.x86_decode.specs.Grammar.{record_of}
 use Rattle.x86_decode.specs.Walk.{row_step, plan_at}
 
 -- what stands behind a ModRM byte that was read

@@ -1,14 +1,14 @@
 -- The escape, the opcode byte and the word of its row.
-use Rattle.std.proofs.Common.{◌≡◌, ◌==◌, ℕ, Bool, true, false, if◌then◌else◌, Result, Ok, Err, Option, refl, sym, ap, ◌∙◌}
+use Rattle.std.proofs.Common.{◌≡◌, ℕ, true, Result, Ok, Err, Option, refl, ap, ◌∙◌}
 use Rattle.x86_arch.specs.Reader.{State}
 use Rattle.x86_fields.specs.declared.DecodeError.{DecodeError}
 use Rattle.x86_fields.specs.declared.Prefixes.{Prefixes}
-use Rattle.x86_fields.specs.Steps.{Outcome, outcome, then_from, pure, ◌>>=◌, byte_step}
+use Rattle.x86_fields.specs.Steps.{Outcome, outcome, then_from, pure, byte_step}
 use Rattle.x86_forms.specs.declared.Map.{Map}
 use Rattle.x86_forms.specs.declared.Map.TheVariants.{One}
 use Rattle.x86_forms.specs.declared.TableRow.{TableRow}
 use Rattle.x86_decode.specs.declared.leads.Lead.TheVariants.{Vex, Escape}
-use Rattle.x86_decode.specs.Head.{Rows, column_of, is_vex, vex_error, seen}
+use Rattle.x86_decode.specs.Head.{Rows, column_of, vex_error, seen}
 use Rattle.x86_decode.specs.Lead.{lead}
 use Rattle.x86_decode.specs.Walk.{escaped_step, opcode_step, found_step}
 use Rattle.x86_decode.proofs.LeadLemmas.{vex_lead, escape_lead, plain_lead, is_plain}

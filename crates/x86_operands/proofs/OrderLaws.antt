@@ -1,7 +1,6 @@
 -- What an encoding writes in place is what its plan gives.
-use Rattle.std.proofs.Common.{◌≡◌, ◌<◌, ℕ, Bool, true, false, not, if◌then◌else◌, ◌&&◌, ◌≢◌, IsTrue, refl, sym, ap, ◌∙◌, List, [], ◌∷◌, Ok, Err, Result, None, Some, Option, is_some}
+use Rattle.std.proofs.Common.{◌≡◌, ℕ, Bool, true, false, not, if◌then◌else◌, ◌&&◌, ◌≢◌, IsTrue, refl, sym, ap, ◌∙◌, Ok, Err, Result, None, Some, Option, is_some}
 use Rattle.std.proofs.lemmas.Bool.{eqb-true}
-use borrow.Author.Tests.{ltb-true}
 use Rattle.x86_arch.specs.Reader.{State}
 use Rattle.x86_regs.specs.declared.RegisterClass.{RegisterClass}
 use Rattle.x86_regs.specs.declared.RegisterClass.TheVariants as class
@@ -10,7 +9,7 @@ use Rattle.x86_fields.specs.declared.Prefixes.{Prefixes}
 use Rattle.x86_fields.specs.declared.Raw.{Raw}
 use Rattle.x86_fields.specs.Raw.{raw_step, rex_w}
 use Rattle.x86_fields.specs.Sizes.{v}
-use Rattle.x86_fields.specs.Steps.{Step, Outcome, outcome, then_from, pure, refuse, ◌>>=◌}
+use Rattle.x86_fields.specs.Steps.{Step, Outcome, outcome, then_from, pure, ◌>>=◌}
 use Rattle.x86_operands.specs.declared.operands.Slot.{Slot}
 use Rattle.x86_operands.specs.declared.operands.Operand.{Operand}
 use Rattle.x86_operands.specs.declared.plans.Sign.{Sign}
@@ -29,12 +28,10 @@ use Rattle.x86_operands.specs.declared.encodings.Encoding.{Encoding}
 use Rattle.x86_operands.specs.declared.encodings.Size.{Size}
 use Rattle.x86_operands.specs.declared.reader.Reading.{Reading}
 use Rattle.x86_operands.specs.declared.placing.Operands.{Operands}
-use Rattle.x86_operands.specs.declared.plans.Plan.{Plan}
-use Rattle.x86_fields.specs.declared.DecodeError.TheVariants.{InvalidOperand}
 use Rattle.x86_operands.specs.Signs.{plan_step, memory_step, given_step, signs_step, sign_step, reading_from, rm_operand}
 use Rattle.x86_operands.specs.Plans.{is_memory, list_of, reads, immediate_of}
-use Rattle.x86_operands.specs.FormSizes.{whole_immediate, push_immediate}
-use Rattle.x86_operands.specs.Encodings.{last_sign, reg_sign, rm_sign, signs_in, judged, plan_of, bytes_of, fields_placed, is_last, ends, put, rm_pair, reg_pair, fixed_pair, placed_reading, sized, last_placed, front_placed, placed, somewhere, is_row, is_sound, size_at, is_order_of, is_order, has_modrm, has_register, fits, allowed}
+use Rattle.x86_operands.specs.FormSizes.{whole_immediate}
+use Rattle.x86_operands.specs.Encodings.{last_sign, reg_sign, rm_sign, signs_in, judged, plan_of, bytes_of, fields_placed, is_last, ends, put, rm_pair, reg_pair, fixed_pair, placed_reading, sized, last_placed, placed, somewhere, is_row, is_sound, size_at, is_order_of, is_order, has_modrm, has_register, fits, allowed}
 
 abbrev Pair : Type 0
 Pair = Slot × Operand

@@ -31,21 +31,20 @@ use Rattle.x86_operands.specs.declared.encodings.Size.{Size}
 use Rattle.x86_operands.specs.declared.encodings.Size.TheVariants as size
 use Rattle.x86_operands.specs.declared.encodings.Encoding.{Encoding}
 use Rattle.x86_fields.specs.declared.Raw.{Raw}
-use Rattle.x86_operands.specs.Plans.{is_memory, reads, refuses, memory_only, register_only, size_by, reg_number, register_at, accumulator_of, immediate_of}
+use Rattle.x86_operands.specs.Plans.{is_memory, reads, refuses, memory_only, register_only, reg_number, register_at, accumulator_of, immediate_of}
 use Rattle.x86_operands.specs.FormSizes.{whole_immediate, push_immediate, nothing_size, call_size, return_size, duplicate_size, stream_size, scalar_size, extract_size, insert_size, unpack_size}
 use Rattle.x86_operands.specs.Forms.{form_plan, cl_third, size_v}
-use Rattle.std.specs.Prelude.{Result, Ok, Err, Option, None, Some, not, pos, nat_lt, slice_index_or, ⊤, slice_set, ◌∷◌, [], ◌||◌, ◌&&◌}
+use Rattle.std.specs.Prelude.{Result, Ok, Err, Option, None, not, pos, nat_lt, slice_index_or, ⊤, slice_set, ◌∷◌, [], ◌&&◌}
 use Rattle.x86_operands.specs.declared.operands.Slot.TheVariants as slots
 use Rattle.x86_operands.specs.declared.operands.Operand.TheVariants as operands
 use Rattle.x86_fields.specs.declared.DecodeError.{DecodeError}
-use Rattle.x86_fields.specs.Steps.{Step, ◌>>=◌, pure, refuse}
-use Rattle.x86_fields.specs.declared.DecodeError.TheVariants.{InvalidOperand}
+use Rattle.x86_fields.specs.Steps.{Step, ◌>>=◌, pure}
 use Rattle.x86_operands.specs.declared.plans.ModrmUse.{ModrmUse}
 use Rattle.x86_operands.specs.declared.plans.ModrmUse.TheVariants as use_as
 use Rattle.x86_fields.specs.Raw.{raw_step, middle_field}
 use Rattle.x86_fields.specs.Sizes.{register_of}
 use Rattle.x86_operands.specs.Shape.{shape_of}
-use Rattle.x86_operands.specs.Signs.{sign_step, plan_step, memory_step, modrm_step, rm_operand, rm_mm_operand}
+use Rattle.x86_operands.specs.Signs.{sign_step, memory_step, rm_operand, rm_mm_operand}
 use Rattle.x86_operands.specs.declared.reader.Reading.{Reading}
 use Rattle.x86_operands.specs.declared.reader.Given.{Given}
 use Rattle.x86_operands.specs.declared.operands.Slot.{Slot}

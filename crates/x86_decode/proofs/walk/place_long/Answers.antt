@@ -1,8 +1,6 @@
-use Rattle.std.proofs.Common.{rules, ◌≡◌, Err, [], ◌∷◌, ◌++◌, ap, ◌∙◌}
-use Rattle.x86_fields.specs.Steps.{outcome, then_from}
+use Rattle.std.proofs.Common.{[], ◌∷◌, ◌++◌, ap, ◌∙◌}
+use Rattle.x86_fields.specs.Steps.{then_from}
 use Rattle.x86_forms.specs.Words.{rows_of}
-use Rattle.x86_operands.specs.Encodings.{held}
-use Rattle.x86_decode.specs.Instruction.{reading_in}
 use Rattle.x86_decode.specs.Walk.{behind_step}
 use Rattle.x86_decode.proofs.walk.place_long.Goals as goal
 

@@ -1,4 +1,4 @@
-use Rattle.std.proofs.Common.{rules, ◌≡◌, sym, ap, ◌∙◌}
+use Rattle.std.proofs.Common.{ap, ◌∙◌}
 use Rattle.x86_decode.specs.Instruction.{reading_in}
 use Rattle.x86_decode.proofs.WalkLaws.{held_ok, held_err}
 use Rattle.x86_decode.proofs.SliceLaws.{at_start, slice_ok, slice_err}

@@ -1,8 +1,8 @@
-use Rattle.std.proofs.Common.{rules, ◌≡◌, ℕ, List, true, false, sym, ap, ◌∙◌}
-use Rattle.x86_fields.specs.Run.{is_prefix_byte, reading_of}
+use Rattle.std.proofs.Common.{rules, ◌≡◌, true, false, ap, ◌∙◌}
+use Rattle.x86_fields.specs.Run.{is_prefix_byte}
 use Rattle.x86_fields.specs.Steps.{then_from}
 use Rattle.x86_forms.specs.Words.{rows_of}
-use Rattle.x86_decode.specs.Walk.{behind_step, body_step, head_at, head_step}
+use Rattle.x86_decode.specs.Walk.{behind_step, body_step}
 use Rattle.x86_decode.proofs.HeadWalk.{at_prefix, at_other}
 use Rattle.x86_decode.proofs.walk.walk_within.Goals as goal
 
