@@ -9,6 +9,13 @@
  *
  *     name OURS THEIRS COUNT PLACE
  *
+ * and one for each opcode byte whose operands differ, with the name, the map (0, 0F, 0F38, 0F3A or 0F0F) and how often:
+ *
+ *     operands NAME MAP OPCODE COUNT PLACE
+ *
+ * Operands are the same where registers, address forms and the bits of immediates are. St(0) isn't looked at, since zydis shows it where it is
+ * written alone; nor are operands of which zydis shows none, nor the order of those of XCHG, nor a register that a NOP has behind its memory.
+ *
  * The last line is `cuts N accepted N refused N both N`: lines of the sweep, those that accept and that refuse, and refused by both.
  * That the cuts of the sweep are in order and leave no byte out is tested too.
  */
@@ -53,6 +60,72 @@ static void count_names(const char *ours, ZydisMnemonic theirs, size_t place)
         snprintf(names[named++].ours, sizeof names->ours, "%s", ours);
     }
     if (names[at].count[theirs]++ == 0) names[at].first[theirs] = place;
+}
+
+/* The opcode bytes whose operands differ. */
+static const char *const maps[] = {"0", "0F", "0F38", "0F3A", "0F0F"};
+static struct { char name[24]; size_t count, first; } unlike[5][256];
+
+/* An operand of zydis as the program would write it; an immediate without its type. */
+static void show(const ZydisDecodedOperand *operand, char *text, size_t size)
+{
+    if (operand->type == ZYDIS_OPERAND_TYPE_REGISTER) {
+        const char *name = ZydisRegisterGetString(operand->reg.value);
+        if (strncmp(name, "st", 2) == 0) snprintf(text, size, "st(%s)", name + 2);
+        else snprintf(text, size, "%s", name);
+    } else if (operand->type == ZYDIS_OPERAND_TYPE_MEMORY) {
+        const char *base = operand->mem.base ? ZydisRegisterGetString(operand->mem.base) : "";
+        long long by = operand->mem.disp.value;
+        char index[32] = "", disp[32] = "";
+        if (operand->mem.index) {
+            const char *name = ZydisRegisterGetString(operand->mem.index);
+            snprintf(index, sizeof index, "%s%s*%d", *base ? "+" : "", name, operand->mem.scale);
+        }
+        if (!*base && !*index) snprintf(text, size, "[%llu]", (unsigned long long)by);
+        else {
+            if (by != 0) snprintf(disp, sizeof disp, "%+lld", by);
+            snprintf(text, size, "[%s%s%s]", base, index, disp);
+        }
+    } else snprintf(text, size, "%llu", (unsigned long long)operand->imm.value.u);
+}
+
+/* Whether an operand of the program is that of zydis. */
+static int is_same(const char *ours, const char *theirs)
+{
+    if (strncmp(ours, "[abs", 4) == 0 && *theirs == '[') {
+        unsigned long long mask = ours[4] == '3' ? 0xffffffff : ~0ull;
+        return ((strtoull(ours + 7, NULL, 10) ^ strtoull(theirs + 1, NULL, 10)) & mask) == 0;
+    }
+    if ((*ours == 'i' || *ours == 'u') && strchr(ours, ':') != NULL && strspn(theirs, "0123456789") == strlen(theirs)) {
+        int bits = atoi(ours + 1);
+        unsigned long long mask = bits == 64 ? ~0ull : (1ull << bits) - 1;
+        return (((unsigned long long)strtoll(strchr(ours, ':') + 1, NULL, 10) ^ strtoull(theirs, NULL, 10)) & mask) == 0
+            || strtoull(strchr(ours, ':') + 1, NULL, 10) == strtoull(theirs, NULL, 10);
+    }
+    return strcmp(ours, theirs) == 0;
+}
+
+/* Whether the operands of a line are those of zydis. The text is that behind the name. */
+static int are_same(const char *name, char *text, const ZydisDecodedInstruction *read, const ZydisDecodedOperand *operands)
+{
+    char ours[5][64], theirs[ZYDIS_MAX_OPERAND_COUNT][64];
+    int own = 0, other = 0;
+    for (char *it = strtok(text, " "); it != NULL && own < 5; it = strtok(NULL, " ")) {
+        it[strcspn(it, ",\n")] = '\0';
+        if (*it != 'm' || strspn(it + 1, "0123456789?") != strlen(it + 1))
+            if (strcmp(it, "st(0)") != 0) snprintf(ours[own++], sizeof *ours, "%s", it);
+    }
+    if (read->operand_count_visible == 0) return 1;
+    for (int k = 0; k < read->operand_count_visible; k++) {
+        show(&operands[k], theirs[other], sizeof *theirs);
+        other += strcmp(theirs[other], "st(0)") != 0;
+    }
+    if (strcmp(name, "NOP") == 0 && own == 1 && other == 2) other = 1;
+    if (own != other) return 0;
+    int same = 1;
+    for (int k = 0; k < own; k++) same = same && is_same(ours[k], theirs[k]);
+    if (strcmp(name, "XCHG") == 0 && own == 2) same = same || (is_same(ours[0], theirs[1]) && is_same(ours[1], theirs[0]));
+    return same;
 }
 
 static unsigned char *contents(const char *path, size_t *count)
@@ -106,9 +179,17 @@ int main(int argc, char **argv)
             putchar('\n');
         }
         if (!refuses && !theirs_refuses) {
-            char *name = text + 1;
-            name[strcspn(name, " \n")] = '\0';
+            char *name = text + 1, *behind = name + strcspn(name, " ");
+            *behind++ = '\0';
             count_names(name, read.mnemonic, at);
+            if (!are_same(name, behind, &read, operands)) {
+                int map = read.opcode_map == ZYDIS_OPCODE_MAP_0F0F ? 4 : (int)read.opcode_map;
+                if (map > 4) map = 0;
+                if (unlike[map][read.opcode].count++ == 0) {
+                    snprintf(unlike[map][read.opcode].name, sizeof unlike[0][0].name, "%s", name);
+                    unlike[map][read.opcode].first = at;
+                }
+            }
         }
         at += refuses ? 1 : length;
     }
@@ -117,6 +198,10 @@ int main(int argc, char **argv)
         for (int it = 0; it <= ZYDIS_MNEMONIC_MAX_VALUE; it++)
             if (names[k].count[it] > 0)
                 printf("name %s %s %zu %zu\n", names[k].ours, ZydisMnemonicGetString(it), names[k].count[it], names[k].first[it]);
+    for (int map = 0; map < 5; map++)
+        for (int it = 0; it < 256; it++)
+            if (unlike[map][it].count > 0)
+                printf("operands %s %s %02X %zu %zu\n", unlike[map][it].name, maps[map], it, unlike[map][it].count, unlike[map][it].first);
     printf("cuts %zu accepted %zu refused %zu both %zu\n", cuts, cuts - refused, refused, both);
     return 0;
 }
