@@ -1,7 +1,6 @@
 -- What the program leaves, from what its run says and what was sent behind it.
-use Rattle.std.proofs.Common.{◌≡◌, ◌≢◌, ◌⊎◌, inl, inr, ℕ, List, [], ◌++◌, Option, Some, None, refl, ap, ◌∙◌, sym, subst, append_assoc, append-nil}
+use Rattle.std.proofs.Common.{◌≡◌, ◌≢◌, inl, inr, ℕ, List, [], ◌++◌, Option, Some, None, refl, ap, ◌∙◌, sym, subst, append_assoc, append-nil}
 use Rattle.std.proofs.Math.Seq.{take-append_seam}
-use Rattle.std.proofs.KnownBytes.{Appends-trans}
 use Rattle.std.specs.Prelude.{IfSome, OnOk, Result, Ok, Err, ⊤}
 use Rattle.std.specs.List.{concat}
 use Rattle.std.specs.Io.{StartsWith}
@@ -11,9 +10,9 @@ use Rattle.x86_cli.specs.declared.status.Status.{Status}
 use Rattle.x86_cli.specs.declared.status.Status.TheVariants.{Done, Usage, Refused, BadText, ReadFault, WriteFault, TooLarge}
 use Rattle.x86_cli.specs.Listing.{Listing}
 use Rattle.x86_cli.specs.Make.{made_listing}
-use Rattle.x86_cli.specs.Says.{World, full_listing, cut_listing, Writes, WritesFront, CutFront, Makes, Says}
+use Rattle.x86_cli.specs.Says.{World, full_listing, cut_listing, WritesFront, Makes, Says}
 use Rattle.x86_cli.proofs.SaysLaws.{each_known}
-use Rattle.x86_cli.specs.Program.{ending_of, Has, HasFront, HasFrontOf, Ends, EndsMade}
+use Rattle.x86_cli.specs.Program.{ending_of, Has, HasFront, Ends, EndsMade}
 
 taken_front : (a b : Option (List ℕ)) (taken : List ℕ) → Consumes a b taken → IfSome a (λ xs. StartsWith xs taken)
 taken_front None b taken c = tt

@@ -1,4 +1,4 @@
-use Rattle.std.proofs.Common.{◌≡◌, ◌≢◌, ◌∙◌, List, ℕ, [], Option, ap, sym, map, string_bytes}
+use Rattle.std.proofs.Common.{◌≡◌, ◌∙◌, List, ℕ, [], Option, ap, sym, map, string_bytes}
 use Rattle.std.specs.Io.KnownBytes.{Keeps, append_known}
 use Rattle.x86_cli.specs.Command.{command_of}
 use Rattle.x86_cli.proofs.ProgramLaws.{each_command, ends_same, ends_flushed, program_ends, program_made}
