@@ -1,8 +1,7 @@
 -- What the program leaves, from what its run says and what was sent behind it.
-use Rattle.std.proofs.Common.{◌≡◌, ◌≢◌, ◌⊎◌, inl, inr, ℕ, List, [], ◌++◌, Option, Some, None, refl, ap, ◌∙◌, sym, subst, append_assoc, append-nil}
+use Rattle.std.proofs.Common.{◌≡◌, ◌≢◌, inl, inr, ℕ, List, [], ◌++◌, Option, Some, None, refl, ap, ◌∙◌, sym, subst, append_assoc, append-nil}
 use Rattle.std.proofs.Math.Seq.{take-append_seam}
-use Rattle.std.proofs.KnownBytes.{Appends-trans}
-use Rattle.std.specs.Prelude.{IfSome}
+use Rattle.std.specs.Prelude.{IfSome, OnOk, Result, Ok, Err, ⊤}
 use Rattle.std.specs.List.{concat}
 use Rattle.std.specs.Io.{StartsWith}
 use Rattle.std.specs.Io.KnownBytes.{Keeps, Consumes, Appends, append_known}
@@ -11,12 +10,9 @@ use Rattle.x86_cli.specs.declared.status.Status.{Status}
 use Rattle.x86_cli.specs.declared.status.Status.TheVariants.{Done, Usage, Refused, BadText, ReadFault, WriteFault, TooLarge}
 use Rattle.x86_cli.specs.Listing.{Listing}
 use Rattle.x86_cli.specs.Make.{made_listing}
-use Rattle.x86_cli.specs.Says.{World, full_listing, cut_listing, Writes, WritesFront, CutFront, Makes, Says}
-use Rattle.x86_cli.specs.Program.{Has, HasFront, HasFrontOf, Ends, EndsMade}
-
-each_known : {P Q : List ℕ → Type 0} (o : Option (List ℕ)) → ((b : List ℕ) → P b → Q b) → IfSome o P → IfSome o Q
-each_known None f h = tt
-each_known (Some b) f h = f b h
+use Rattle.x86_cli.specs.Says.{World, full_listing, cut_listing, WritesFront, Makes, Says}
+use Rattle.x86_cli.proofs.SaysLaws.{each_known}
+use Rattle.x86_cli.specs.Program.{ending_of, Has, HasFront, Ends, EndsMade}
 
 taken_front : (a b : Option (List ℕ)) (taken : List ℕ) → Consumes a b taken → IfSome a (λ xs. StartsWith xs taken)
 taken_front None b taken c = tt
@@ -135,6 +131,17 @@ module _ (g w w' : Option (List ℕ)) (held : List ℕ) (kept : Keeps g (append_
   program_made n status ended written0 faults faults' same_written same sent makes =
       let P : Option (List ℕ) → Type 0 = λ o. Makes n status o g faults faults' in
       ends_made n faults faults' status ended same sent (subst P same_written makes)
+
+-- what a flush behind a run says of how the program ends
+
+pub ends_same : {E : Type 0} (status : Status) (flushed : Result ⊤ E) (ended : Status) → ended ≡ ending_of status flushed → ended ≢ WriteFault → ended ≡ status
+ends_same status (Ok done) ended is written = is
+ends_same status (Err e) ended is written = absurd (written is)
+
+pub ends_flushed : {E P : Type 0} (status : Status) (flushed : Result ⊤ E) (ended : Status) → ended ≡ ending_of status flushed →
+    OnOk flushed (status ≢ Usage → status ≢ WriteFault → P) → ended ≢ WriteFault → ended ≢ Usage → P
+ends_flushed status (Ok done) ended is sent written used = sent (λ e. used (is ∙ e)) (λ e. written (is ∙ e))
+ends_flushed status (Err e) ended is sent written used = absurd (written is)
 
 pub each_command : {P Q : Command → Type 0} (o : Option Command) → ((c : Command) → P c → Q c) → IfSome o P → IfSome o Q
 each_command None f h = tt

@@ -252,7 +252,7 @@ make_rose n status w w' faults faults' makes is =
 
 -- what follows
 
-each_known : {P Q : List ℕ → Type 0} (o : Option (List ℕ)) → ((b : List ℕ) → P b → Q b) → IfSome o P → IfSome o Q
+pub each_known : {P Q : List ℕ → Type 0} (o : Option (List ℕ)) → ((b : List ℕ) → P b → Q b) → IfSome o P → IfSome o Q
 each_known None f h = tt
 each_known (Some b) f h = f b h
 

@@ -1,5 +1,5 @@
 -- What a run of a listing that ends at a refusal does at the front of its window.
-use Rattle.std.proofs.Common.{◌≡◌, Bool, ℕ, ◌+◌, ◌<◌, ◌≤◌, List, [], ◌∷◌, ◌++◌, length, take, drop, Option, Some, None, Result, Ok, Err, refl, arith, ap, ◌∙◌, length-append}
+use Rattle.std.proofs.Common.{◌≡◌, Bool, ℕ, ◌+◌, ◌<◌, ◌≤◌, List, [], ◌∷◌, ◌++◌, length, take, drop, Option, Some, None, Result, Ok, Err, arith, ap, ◌∙◌, length-append}
 use Rattle.std.specs.Prelude.{⊤}
 use Rattle.x86_cli.specs.declared.source.Got.{Got}
 use Rattle.x86_cli.specs.declared.sink.SinkFailed.{SinkFailed}

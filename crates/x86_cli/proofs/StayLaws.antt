@@ -9,8 +9,6 @@ use Rattle.x86_cli.specs.declared.text.Ending.{Ending}
 use Rattle.x86_cli.specs.declared.text.Ending.TheVariants.{Fault}
 use Rattle.x86_cli.specs.declared.text.Stop.{Stop}
 use Rattle.x86_cli.specs.declared.text.Stop.TheVariants.{Failed}
-use Rattle.x86_cli.specs.declared.window.Front.{Front}
-use Rattle.x86_cli.specs.declared.window.Front.TheVariants.{Whole}
 use Rattle.x86_cli.specs.declared.status.Status.TheVariants as outcome
 use Rattle.x86_cli.specs.declared.command.Command.{Command}
 use Rattle.x86_cli.specs.declared.command.Command.TheVariants.{List as Listed, Sweep as Swept, Targets as Targeted, Fields as Fielded, Tighten as Tightened}

@@ -1,5 +1,5 @@
 -- What the program leaves, over a reader that tells the bytes it has left and a writer that tells the bytes it has.
-use Rattle.std.specs.Prelude.{◌≡◌, ◌⊎◌, ℕ, List, Option, IfSome}
+use Rattle.std.specs.Prelude.{◌≡◌, ◌⊎◌, ℕ, List, Option, IfSome, Result, Ok, Err, ⊤}
 use Rattle.std.specs.List.{concat}
 use Rattle.std.specs.Io.{StartsWith}
 use Rattle.std.specs.Io.KnownBytes.{Appends, append_known}
@@ -9,6 +9,11 @@ use Rattle.x86_cli.specs.declared.status.Status.TheVariants.{Done, Usage, Refuse
 use Rattle.x86_cli.specs.Listing.{Listing}
 use Rattle.x86_cli.specs.Make.{made_listing}
 use Rattle.x86_cli.specs.Says.{full_listing, cut_listing}
+
+-- The status of a run stands, but a last flush that fails is a write fault.
+abbrev pub ending_of : {E : Type 0} → Status → Result ⊤ E → Status
+ending_of status (Ok done) = status
+ending_of status (Err e) = WriteFault
 
 -- The writer has all lines of the listing behind what it had, and the listing ends so.
 abbrev pub Has : Status → Listing → Option (List ℕ) → Option (List ℕ) → Type 0

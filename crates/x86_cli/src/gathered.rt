@@ -1,8 +1,9 @@
 //! Output that is gathered, without an allocation.
 
-ghost use Rattle.std.specs.Prelude.{◌≡◌, ◌+◌, ◌≤◌, [], ◌++◌, length, take, drop, OnOk};
+ghost use Rattle.std.specs.Prelude.{◌≡◌, ◌≢◌, ◌+◌, ◌<◌, ◌≤◌, [], ◌++◌, length, take, drop, OnOk, IfOk, IfErr, IsOk};
 ghost use Rattle.std.specs.Io.KnownBytes.{Keeps, Appends, WriteAppends, append_known};
 ghost use Rattle.std.specs.Io.{WritesAtMost};
+ghost use Rattle.std.specs.IoError.{error_kind};
 ghost use Rattle.arrayvec.specs.ArrayVec.{array_vec_len};
 
 use arrayvec::ArrayVec;
@@ -38,8 +39,9 @@ impl<W: Write + Drop> Gathered<W> {
         self.writer
     }
 
-    /// Sends what was gathered.
+    /// Sends what was gathered. Where that is nothing, it can't fail.
     fn send(&mut self) -> io::Result<()>
+        ensures nothing { self.old.bytes.items ≡ [] → IsOk result }
         ensures empty { OnOk result (self.new.bytes.items ≡ []) }
         ensures bytes { Keeps (append_known (W.contents self.old.writer) self.old.bytes.items)
             (append_known (W.contents self.new.writer) self.new.bytes.items) }
@@ -76,6 +78,7 @@ fn append(bytes: &mut ArrayVec<u8, SIZE>, piece: &[u8])
 /// One write, which is tried again where a signal interrupts it.
 fn write_some<W: Write>(to: &mut W, bytes: &[u8]) -> io::Result<usize>
     ensures bound { WritesAtMost result bytes.now }
+    ensures retried { IfErr result (λ e. error_kind e ≢ ErrorKind.Interrupted) }
     ensures bytes { WriteAppends (W.contents to.old) (W.contents to.new) result bytes.now }
 {
     for _ in 0..u64::MAX {
@@ -88,12 +91,13 @@ fn write_some<W: Write>(to: &mut W, bytes: &[u8]) -> io::Result<usize>
             }
         }
     }
-    Err(Error::from(ErrorKind::Interrupted))
+    Err(Error::from(ErrorKind::Other))
 }
 
 /// Writes the bytes until all are written or a write fails, and returns how many were written.
 fn send_out<W: Write>(bytes: &[u8], to: &mut W) -> (usize, io::Result<()>)
     ensures bound { result.0 ≤ length bytes.now }
+    ensures nothing { length bytes.now ≡ 0 → IsOk result.1 }
     ensures all { OnOk result.1 (result.0 ≡ length bytes.now) }
     ensures bytes { Appends (W.contents to.old) (W.contents to.new) (take result.0 bytes.now) }
 {
@@ -111,7 +115,13 @@ fn send_out<W: Write>(bytes: &[u8], to: &mut W) -> (usize, io::Result<()>)
 impl<W: Write + Drop> Write for Gathered<W> {
     ghost contents = { λ s. append_known (W.contents s.writer) s.bytes.items };
 
-    fn write(&mut self, buf: &[u8]) -> io::Result<usize> {
+    fn write(&mut self, buf: &[u8]) -> io::Result<usize>
+        ensures bound { WritesAtMost result buf.now }
+        ensures bytes { WriteAppends (append_known (W.contents self.old.writer) self.old.bytes.items)
+            (append_known (W.contents self.new.writer) self.new.bytes.items) result buf.now }
+        ensures room { array_vec_len self.old.bytes < SIZE → IsOk result }
+        ensures some { IfOk result (λ n. n ≡ 0 → length buf.now ≡ 0) }
+    {
         if self.bytes.is_full() {
             self.send()?;
         }

@@ -1,31 +1,38 @@
 //! The program over a reader and a writer.
 
-ghost use Rattle.std.specs.Prelude.{◌≡◌, ◌≢◌, ◌↔◌, ℕ, [], map, string_bytes};
+ghost use Rattle.std.specs.Prelude.{◌≡◌, ◌≢◌, ◌↔◌, ℕ, [], OnOk, IsOk, map, string_bytes};
 ghost use Rattle.std.specs.Io.KnownBytes.{Keeps, append_known};
 ghost use Rattle.x86_cli.specs.Command.{IfCommand};
 ghost use Rattle.x86_cli.specs.Make.{IsMake, IsNoCommand};
-ghost use Rattle.x86_cli.specs.Program.{Ends, EndsMade};
+ghost use Rattle.x86_cli.specs.Program.{ending_of, Ends, EndsMade};
 
 use crate::command::run;
 use crate::gathered::Gathered;
 use crate::sink::StdSink;
 use crate::source::StdSource;
 use crate::status::Status;
+use std::io;
 use std::io::{Read, Write};
 
-/// Flushes what a run gathered, and answers how the program ends. Behind a failed write nothing is sent.
-fn finish<W: Write + Drop>(status: Status, out: &mut Gathered<W>) -> Status
+/// Flushes what a run gathered. Behind a failed write nothing is sent, and where the words are no command there is nothing.
+fn send_rest<W: Write + Drop>(status: Status, out: &mut Gathered<W>) -> io::Result<()>
     ensures bytes { Keeps (append_known (W.contents out.old.writer) out.old.bytes.items) (append_known (W.contents out.new.writer) out.new.bytes.items) }
-    ensures same { result ≢ Status.WriteFault → result ≡ status }
-    ensures sent { result ≢ Status.WriteFault → result ≢ Status.Usage → out.new.bytes.items ≡ [] }
-    ensures usage { status ≡ Status.Usage → (result ≡ Status.Usage) × (out.new ≡ out.old) }
+    ensures sent { OnOk result (status ≢ Status.Usage → status ≢ Status.WriteFault → out.new.bytes.items ≡ []) }
+    ensures usage { status ≡ Status.Usage → IsOk result × (out.new ≡ out.old) }
 {
     match status {
-        Status::Usage | Status::WriteFault => status,
-        _ => match out.flush() {
-            Ok(()) => status,
-            Err(_) => Status::WriteFault,
-        },
+        Status::Usage | Status::WriteFault => Ok(()),
+        _ => out.flush(),
+    }
+}
+
+/// How the program ends, where its run ended so and the flush behind it answered this.
+fn ending(status: Status, flushed: &io::Result<()>) -> Status
+    ensures { result ≡ ending_of status flushed.now }
+{
+    match flushed {
+        Ok(()) => status,
+        Err(_) => Status::WriteFault,
     }
 }
 
@@ -45,6 +52,6 @@ pub fn listed<R: Read + Drop, W: Write + Drop>(
     let mut sink = StdSink::new(Gathered::new(writer));
     let status = run(words, &mut source, &mut sink);
     let mut out = sink.into_writer();
-    let ended = finish(status, &mut out);
-    (ended, out.into_writer())
+    let flushed = send_rest(status, &mut out);
+    (ending(status, &flushed), out.into_writer())
 }

@@ -1,7 +1,6 @@
 use Rattle.std.proofs.Common.{◌≡◌, ◌≢◌, ◌∙◌, sym, Option, Some, None}
 use Rattle.x86_cli.specs.declared.command.Command.{Command}
 use Rattle.x86_cli.specs.declared.status.Status.TheVariants.{Usage}
-use Rattle.x86_cli.specs.Says.{World, Says}
 use Rattle.x86_cli.proofs.Causes.{ran_used}
 use Rattle.x86_cli.proofs.SaysLaws.{ran_says, wrote_says, make_rose, exact, has_read_fault, sink_rose, completes}
 use Rattle.x86_cli.proofs.command.run.Goals as goal
