@@ -8,7 +8,7 @@ use Rattle.x86_decode.specs.Lead.{lead}
 use Rattle.x86_decode.specs.Walk.{found_word}
 use Rattle.x86_decode.proofs.LeadLemmas.{is_plain, plain_not}
 use Rattle.x86_decode.proofs.WordWalk.{found_vex, found_plain, found_escape, found_escaped}
-use Rattle.x86_decode.proofs.walk.read_word.Goals as goal
+use Rattle.x86_decode.proofs.head.read_word.Goals as goal
 
 pub returns-in_err-second-in-Escape : goal.returns-in_err-second-in-Escape
 returns-in_err-second-in-Escape g c =

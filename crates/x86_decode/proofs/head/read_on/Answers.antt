@@ -1,7 +1,7 @@
 use Rattle.std.proofs.Common.{rules, ◌≡◌, Err, ap, ◌∙◌}
 use Rattle.x86_fields.specs.Steps.{outcome}
 use Rattle.x86_decode.proofs.HeadWalk.{walk_begins, walk_lacks, walk_stops, walk_goes, gets_shorter}
-use Rattle.x86_decode.proofs.walk.read_on.Goals as goal
+use Rattle.x86_decode.proofs.head.read_on.Goals as goal
 
 pub run-init : goal.run-init
 run-init g c = walk_begins (g.T.Reader.state c.args.words.now) c.args.begin

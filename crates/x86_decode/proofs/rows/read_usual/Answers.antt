@@ -4,7 +4,7 @@ use Rattle.x86_operands.specs.declared.plans.ModrmUse.TheVariants.{Absent, Field
 use Rattle.x86_operands.specs.Encodings.{group_form}
 use Rattle.x86_decode.specs.Walk.{found_row_step}
 use Rattle.x86_decode.proofs.UsualLaws.{IsPlain, belongs_reg, with_fields, with_modrm, with_none, row_asks, group_asks, group_described}
-use Rattle.x86_decode.proofs.walk.read_usual.Goals as goal
+use Rattle.x86_decode.proofs.rows.read_usual.Goals as goal
 
 pub returns-in_err-modrm-in-ByReg-clause-read : goal.returns-in_err-modrm-in-ByReg-clause-read
 returns-in_err-modrm-in-ByReg-clause-read g c = λ strict i.

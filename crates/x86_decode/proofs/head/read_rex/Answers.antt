@@ -4,7 +4,7 @@ use Rattle.x86_decode.specs.Lead.{lead}
 use Rattle.x86_decode.specs.Walk.{head_at, head_from}
 use Rattle.x86_decode.proofs.HeadWalk.{at_prefix, headed_next, headed_as}
 use Rattle.x86_decode.proofs.LeadLemmas.{of_prefix, prefix_lead}
-use Rattle.x86_decode.proofs.walk.read_rex.Goals as goal
+use Rattle.x86_decode.proofs.head.read_rex.Goals as goal
 
 pub returns-in-Rex : goal.returns-in-Rex
 returns-in-Rex g c = λ front e.

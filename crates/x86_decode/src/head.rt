@@ -1,0 +1,168 @@
+//! The front of an encoding: the run of prefixes, the escape and the opcode byte.
+ghost use Rattle.std.specs.Prelude.{◌≡◌, ℕ, List, []};
+ghost use Rattle.x86_fields.specs.Steps.{outcome, then_from};
+ghost use Rattle.x86_fields.specs.Run.{is_prefix_byte, reading_of};
+ghost use Rattle.x86_forms.specs.Words.{rows_of};
+ghost use Rattle.x86_decode.specs.Head.{column_of, is_vex, vex_error, seen};
+ghost use Rattle.x86_decode.specs.Walk.{Headed, head_from, head_at, head_step, escaped_step, found_word, found_step};
+
+use crate::leads::{Lead, lead_of};
+use x86_arch::Reader;
+use x86_fields::{DecodeError, Prefixes, next_byte};
+use x86_forms::{Column, Map, Words};
+
+/// Whether the byte is a legacy prefix or a REX.
+#[inline(always)]
+#[tactic(auto, using(crate::proofs::LeadLemmas::prefix_lead))]
+pub fn is_prefix(byte: u8) -> bool
+    ensures { result ≡ is_prefix_byte byte }
+{
+    match lead_of(byte) {
+        Lead::Legacy | Lead::Rex => true,
+        _ => false,
+    }
+}
+
+/// The rest of a run of which some bytes were read, and the byte behind it.
+pub fn read_on<T: Reader<u64, u8>>(
+    words: &mut T,
+    begin: Prefixes,
+) -> Result<(Prefixes, u8), DecodeError>
+    ensures { (front : List ℕ) → begin ≡ reading_of front → outcome result (T.state words.new) ≡ head_from front (T.state words.old) }
+{
+    let mut prefixes = begin;
+    'run: loop {
+        let byte = next_byte(words)?;
+        if !is_prefix(byte) {
+            return Ok((prefixes, byte));
+        }
+        prefixes = prefixes.after(byte);
+    }
+}
+
+/// The byte behind a run so far, or behind that and a REX.
+#[inline(always)]
+fn read_rex<T: Reader<u64, u8>>(
+    words: &mut T,
+    prefixes: &mut Prefixes,
+    byte: u8,
+) -> Result<u8, DecodeError>
+    ensures { (front : List ℕ) → prefixes.old ≡ reading_of front → Headed result prefixes.new (T.state words.new) (head_at front byte (T.state words.old)) }
+{
+    match lead_of(byte) {
+        Lead::Rex => {
+            prefixes.push_rex(byte);
+            next_byte(words)
+        }
+        _ => Ok(byte),
+    }
+}
+
+/// A run of at most one legacy prefix and a REX, as most are, and the byte behind that.
+#[inline(always)]
+pub fn read_head<T: Reader<u64, u8>>(
+    words: &mut T,
+    prefixes: &mut Prefixes,
+) -> Result<u8, DecodeError>
+    requires { prefixes.old ≡ reading_of [] }
+    ensures { Headed result prefixes.new (T.state words.new) (head_step (T.state words.old)) }
+{
+    let first = next_byte(words)?;
+    match lead_of(first) {
+        Lead::Legacy => {
+            *prefixes = prefixes.after(first);
+            let second = next_byte(words)?;
+            read_rex(words, prefixes, second)
+        }
+        _ => read_rex(words, prefixes, first),
+    }
+}
+
+/// Whether the byte is C4, C5 or 62.
+pub fn is_vex(byte: u8) -> bool
+    ensures { result ≡ is_vex byte }
+{
+    byte == 0xc4 || byte == 0xc5 || byte == 0x62
+}
+
+fn vex_refusal(prefixes: &Prefixes) -> DecodeError
+    ensures { result ≡ vex_error prefixes.now }
+{
+    if prefixes.operand_size() || prefixes.lock() || prefixes.rex().is_some() {
+        DecodeError::InvalidPrefixes
+    } else {
+        DecodeError::IncompleteDecoder
+    }
+}
+
+#[inline(always)]
+fn read_escaped<T: Reader<u64, u8>>(words: &mut T, byte: u8) -> Result<(Map, u8), DecodeError>
+    ensures { outcome result (T.state words.new) ≡ escaped_step byte (T.state words.old) }
+{
+    if byte == 0x38 {
+        let opcode = next_byte(words)?;
+        Ok((Map::Of38, opcode))
+    } else if byte == 0x3a {
+        let opcode = next_byte(words)?;
+        Ok((Map::Of3a, opcode))
+    } else {
+        Ok((Map::Of, byte))
+    }
+}
+
+/// The column of the opcode tables behind a run that reads so.
+#[inline(always)]
+pub fn selected(prefixes: &Prefixes) -> Column
+    ensures { result ≡ column_of prefixes.now }
+{
+    if prefixes.repnz() {
+        Column::F2
+    } else if prefixes.rep() {
+        Column::F3
+    } else if prefixes.operand_size() {
+        Column::P66
+    } else {
+        Column::Plain
+    }
+}
+
+/// The prefixes as a record sees them: 66 that chooses the operation is cleared.
+#[inline(always)]
+pub fn seen_by(map: Map, byte: u8, prefixes: Prefixes) -> Prefixes
+    ensures { result ≡ seen map byte prefixes }
+{
+    match (map, selected(&prefixes)) {
+        (Map::Of38, Column::P66) => {
+            if byte == 0xf0 || byte == 0xf1 {
+                prefixes
+            } else {
+                prefixes.without_operand_size()
+            }
+        }
+        _ => prefixes,
+    }
+}
+
+/// The word of the row at an opcode byte, which is this byte or stands behind the escape that it begins. Where 66 chooses the operation
+/// it is cleared.
+#[inline(always)]
+pub fn read_word<W: Words, T: Reader<u64, u8>>(
+    rows: &W,
+    words: &mut T,
+    prefixes: &mut Prefixes,
+    byte: u8,
+) -> Result<u64, DecodeError>
+    ensures { then_from result (T.state words.new) (found_word prefixes.new) ≡ found_step (rows_of (W.word_in rows.now)) prefixes.old byte (T.state words.old) }
+{
+    match lead_of(byte) {
+        Lead::Escape => {
+            let second = next_byte(words)?;
+            let (map, opcode) = read_escaped(words, second)?;
+            let word = rows.word(map, selected(prefixes), opcode);
+            *prefixes = seen_by(map, opcode, *prefixes);
+            Ok(word)
+        }
+        Lead::Vex => Err(vex_refusal(prefixes)),
+        _ => Ok(rows.word(Map::One, selected(prefixes), byte)),
+    }
+}

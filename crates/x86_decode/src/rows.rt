@@ -1,0 +1,226 @@
+//! What a row asks behind its opcode byte, written where it stays.
+ghost use Rattle.std.specs.Prelude.{◌≡◌, Bool, IfOk, IsTrue, true, false};
+ghost use Rattle.x86_fields.specs.Steps.{outcome, then_from};
+ghost use Rattle.x86_fields.specs.declared.Prefixes.{Prefixes};
+ghost use Rattle.x86_forms.specs.Words.{IsForm};
+ghost use Rattle.x86_operands.specs.Encodings.{carried, held, is_row, is_sound, no_operands, plan_of};
+ghost use Rattle.x86_operands.specs.Signs.{plan_step, record_step};
+ghost use Rattle.x86_decode.specs.declared.instructions.Instruction.{Instruction};
+ghost use Rattle.x86_decode.specs.Grammar.{record_of};
+ghost use Rattle.x86_decode.specs.Instruction.{reading_in};
+ghost use Rattle.x86_decode.specs.Walk.{HasForm, IsFound, found_row_step, plan_at, rest_step, row_step, is_nothing};
+
+use crate::instructions::Instruction;
+use x86_arch::Reader;
+use x86_fields::{DecodeError, Prefixes};
+use x86_forms::TableRow;
+use x86_groups::{chosen, group_plan, place_group, read_group};
+use x86_opcodes::Opcode;
+use x86_operands::plans::{ModrmUse, Plan};
+use x86_operands::{
+    Behind, Encoding, Reading, carried, encoding_of, form_plan, place_form, place_plan, read_form,
+    read_modrm,
+};
+
+/// What is left of a row that wasn't read at once.
+#[derive(Clone, Copy, Drop)]
+pub enum Rest {
+    Nothing,
+    /// All of a row.
+    Row(TableRow),
+    /// What stands behind this ModRM byte.
+    Behind(TableRow, u8),
+}
+
+/// The line of the operand encodings for a row, with the operation, and the ModRM byte; one that isn't there is C0.
+#[derive(Clone, Copy, Drop)]
+struct Usual<'a> {
+    encoding: &'a Encoding,
+    opcode: Opcode,
+    modrm: u8,
+}
+
+/// What a row comes to behind its ModRM byte, if it has one.
+#[derive(Clone, Copy, Drop)]
+enum Found<'a> {
+    Line(Usual<'a>),
+    Left(Rest),
+}
+
+/// What a row asks behind its opcode byte.
+pub fn read_row<T: Reader<u64, u8>>(
+    strict: bool,
+    row: TableRow,
+    prefixes: Prefixes,
+    words: &mut T,
+) -> Result<Reading, DecodeError>
+    requires { IsForm row.form }
+    ensures { outcome result (T.state words.new) ≡ record_step (record_of strict row prefixes) prefixes (T.state words.old) }
+{
+    if row.form.is_group() {
+        read_group(words, row, prefixes, strict)
+    } else {
+        read_form(words, row, prefixes)
+    }
+}
+
+/// ModRM, and the line that describes the row there; else what is left of the row.
+#[inline(always)]
+fn read_usual<'a, T: Reader<u64, u8>>(
+    row: &TableRow,
+    words: &mut T,
+) -> Result<Found<'a>, DecodeError>
+    requires { IsForm row.now.form }
+    ensures read { (strict : Bool) (i : Instruction) → then_from result (T.state words.new) (found_row_step strict row.now i) ≡ row_step strict row.now i.prefixes (T.state words.old) }
+    ensures found { IfOk result (IsFound row.now) }
+{
+    let encoding = encoding_of(row.form);
+    let opcode = row.opcode;
+    match encoding.behind {
+        Behind::Peculiar(_) | Behind::Group => Ok(Found::Left(Rest::Row(*row))),
+        Behind::ByReg(group) => {
+            let modrm = read_modrm(words, ModrmUse::Fields)?;
+            let (opcode, encoding) = chosen(group, modrm);
+            Ok(line_at(row, encoding, opcode, modrm))
+        }
+        Behind::Fields => {
+            let modrm = read_modrm(words, ModrmUse::Fields)?;
+            Ok(Found::Line(Usual {
+                encoding,
+                opcode,
+                modrm,
+            }))
+        }
+        Behind::Memory | Behind::Registers => {
+            let modrm = read_modrm(words, ModrmUse::Fields)?;
+            Ok(line_at(row, encoding, opcode, modrm))
+        }
+        Behind::Nothing | Behind::Opcode | Behind::Accumulator => Ok(Found::Line(Usual {
+            encoding,
+            opcode,
+            modrm: 0xc0,
+        })),
+    }
+}
+
+/// The line, if it accepts at this ModRM byte.
+#[inline(always)]
+fn line_at<'a>(row: &TableRow, encoding: &'a Encoding, opcode: Opcode, modrm: u8) -> Found<'a>
+    requires form { IsForm row.now.form }
+    requires sound { is_sound encoding.now ≡ true }
+    requires describes { (strict : Bool) (p : Prefixes) → IsTrue (is_row encoding.now.behind) → plan_of encoding.now (carried row.now.form) opcode p modrm ≡ plan_at strict row.now p modrm }
+    ensures found { IsFound row.now result }
+    ensures modrm { (strict : Bool) (i : Instruction) → found_row_step strict row.now i result ≡ plan_step (plan_at strict row.now i.prefixes modrm) i.prefixes modrm }
+{
+    if encoding.behind.allows(modrm) {
+        Found::Line(Usual {
+            encoding,
+            opcode,
+            modrm,
+        })
+    } else {
+        Found::Left(Rest::Behind(*row, modrm))
+    }
+}
+
+/// What a row asks behind its opcode byte, if a line of the operand encodings describes it.
+#[inline(always)]
+pub fn place_usual<T: Reader<u64, u8>>(
+    row: TableRow,
+    words: &mut T,
+    inst: &mut Instruction,
+) -> Result<Rest, DecodeError>
+    requires form { IsForm row.form }
+    requires blank { inst.old.given ≡ no_operands }
+    ensures read { (strict : Bool) → then_from result (T.state words.new) (rest_step strict inst.new) ≡ row_step strict row inst.old.prefixes (T.state words.old) }
+    ensures blank { IfOk result (λ rest. is_nothing rest ≡ false → inst.new.given ≡ no_operands) }
+    ensures form { IfOk result HasForm }
+{
+    match read_usual(&row, words) {
+        Err(error) => Err(error),
+        Ok(Found::Left(rest)) => Ok(rest),
+        Ok(Found::Line(usual)) => {
+            inst.opcode = usual.opcode;
+            let num = carried(row.form);
+            inst.given.place(
+                words,
+                usual.encoding,
+                usual.opcode,
+                num,
+                &inst.prefixes,
+                usual.modrm,
+            )?;
+            Ok(Rest::Nothing)
+        }
+    }
+}
+
+fn plan_at(strict: bool, row: TableRow, prefixes: &Prefixes, modrm: u8) -> Plan
+    requires { IsForm row.form }
+    ensures { result ≡ plan_at strict row prefixes.now modrm }
+{
+    if row.form.is_group() {
+        group_plan(row, strict, prefixes, modrm)
+    } else {
+        form_plan(row.form, row.opcode, prefixes, modrm)
+    }
+}
+
+fn place_row<T: Reader<u64, u8>>(
+    strict: bool,
+    row: TableRow,
+    words: &mut T,
+    inst: &mut Instruction,
+) -> Result<(), DecodeError>
+    requires form { IsForm row.form }
+    requires blank { inst.old.given ≡ no_operands }
+    ensures { outcome (held result (reading_in inst.new)) (T.state words.new) ≡ row_step strict row inst.old.prefixes (T.state words.old) }
+{
+    if row.form.is_group() {
+        place_group(
+            words,
+            row,
+            strict,
+            &mut inst.prefixes,
+            &mut inst.opcode,
+            &mut inst.given,
+        )
+    } else {
+        place_form(
+            words,
+            row,
+            &mut inst.prefixes,
+            &mut inst.opcode,
+            &mut inst.given,
+        )
+    }
+}
+
+/// What is left of a row.
+#[inline(never)]
+pub fn place_rest<T: Reader<u64, u8>>(
+    strict: bool,
+    rest: Rest,
+    words: &mut T,
+    inst: &mut Instruction,
+) -> Result<(), DecodeError>
+    requires form { HasForm rest }
+    requires blank { is_nothing rest ≡ false → inst.old.given ≡ no_operands }
+    ensures { outcome (held result (reading_in inst.new)) (T.state words.new) ≡ rest_step strict inst.old rest (T.state words.old) }
+{
+    match rest {
+        Rest::Nothing => Ok(()),
+        Rest::Row(row) => place_row(strict, row, words, inst),
+        Rest::Behind(row, modrm) => {
+            let plan = plan_at(strict, row, &inst.prefixes, modrm);
+            place_plan(
+                words,
+                &plan,
+                modrm,
+                &mut inst.prefixes,
+                &mut inst.opcode,
+                &mut inst.given,
+            )
+        }
+    }
+}
