@@ -111,6 +111,24 @@ fn readers_stand_behind_what_was_taken(rt: HostRuntime) {
 }
 
 #[test]
+fn a_slice_is_read_into_an_instruction(rt: HostRuntime) {
+    let decoder = InstDecoder::default();
+    let mut inst = Instruction::default();
+    assert_eq!(rt;
+        decoder.decode_slice_into(&mut inst, &[0x48, 0x01, 0xd8, 0x90]),
+        Ok(())
+    );
+    assert_eq!(rt; named(Ok(inst)), Ok((Opcode::ADD, 3)));
+    assert_eq!(rt; decoder.decode_slice_into(&mut inst, &[0x90]), Ok(()));
+    assert_eq!(rt; named(Ok(inst)), Ok((Opcode::NOP, 1)));
+    assert!(rt; inst.operand_count() == 0);
+    let refused = decoder.decode_slice_into(&mut inst, &[0x06]);
+    assert_eq!(rt; refused, Err(DecodeError::InvalidOpcode));
+    assert!(rt; inst == Instruction::invalid());
+    assert_eq!(rt; inst.len().to_const(), 0);
+}
+
+#[test]
 fn tables_give_the_rows(rt: HostRuntime) {
     let nop = packed(Map::One, Column::Plain, 0x90);
     let over_packed = InstDecoder::default().decode_by(&Packed, &mut U8Reader::new(&[0x06]));
