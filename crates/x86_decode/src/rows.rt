@@ -166,7 +166,8 @@ fn plan_at(strict: bool, row: TableRow, prefixes: &Prefixes, modrm: u8) -> Plan
     }
 }
 
-fn place_row<T: Reader<u64, u8>>(
+/// All of a row, by its plan.
+pub fn place_row<T: Reader<u64, u8>>(
     strict: bool,
     row: TableRow,
     words: &mut T,

@@ -13,7 +13,7 @@ ghost use Rattle.x86_decode.specs.Walk.{HasForm, rest_step, behind_step, long_st
 use crate::bounded::{Bounded, Start, takes_rest};
 use crate::head::{is_prefix, read_head, read_on, read_word};
 use crate::instructions::Instruction;
-use crate::rows::{Rest, place_rest, place_usual};
+use crate::rows::{Rest, place_rest, place_row, place_usual};
 use std::marker::{Brand, PhantomData};
 use x86_arch::{Reader, U8Reader};
 use x86_fields::{DecodeError, Prefixes};
@@ -66,6 +66,25 @@ fn place_behind<W: Words, T: Reader<u64, u8>>(
     }
 }
 
+/// What stands behind the run, where this byte is the first of it, by the plan of its row. So the quick walk stands in the code once for
+/// each reader.
+fn place_by_plan<W: Words, T: Reader<u64, u8>>(
+    strict: bool,
+    rows: &W,
+    words: &mut T,
+    inst: &mut Instruction,
+    byte: u8,
+) -> Result<(), DecodeError>
+    requires { inst.old.given ≡ no_operands }
+    ensures { outcome (held result (reading_in inst.new)) (T.state words.new) ≡ behind_step (rows_of (W.word_in rows.now)) strict inst.old.prefixes byte (T.state words.old) }
+{
+    let word = read_word(rows, words, &mut inst.prefixes, byte)?;
+    match unpack(word) {
+        None => Err(DecodeError::InvalidOpcode),
+        Some(row) => place_row(strict, row, words, inst),
+    }
+}
+
 /// An encoding with a longer run, of which this is the next byte.
 #[inline(never)]
 fn place_long<W: Words, T: Reader<u64, u8>>(
@@ -81,10 +100,7 @@ fn place_long<W: Words, T: Reader<u64, u8>>(
 {
     let (prefixes, byte) = read_on(words, inst.prefixes.after(first))?;
     inst.prefixes = prefixes;
-    match place_behind(rows, words, inst, byte) {
-        Err(error) => Err(error),
-        Ok(rest) => place_rest(strict, rest, words, inst),
-    }
+    place_by_plan(strict, rows, words, inst, byte)
 }
 
 /// What stands behind the run, where this byte is the first of it. The reader comes back.
