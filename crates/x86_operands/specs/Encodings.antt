@@ -41,7 +41,7 @@ use Rattle.x86_fields.specs.declared.DecodeError.{DecodeError}
 use Rattle.x86_fields.specs.Steps.{Step, ◌>>=◌, pure}
 use Rattle.x86_operands.specs.declared.plans.ModrmUse.{ModrmUse}
 use Rattle.x86_operands.specs.declared.plans.ModrmUse.TheVariants as use_as
-use Rattle.x86_fields.specs.Raw.{raw_step, middle_field}
+use Rattle.x86_fields.specs.Raw.{raw_step, middle_field, rex_w}
 use Rattle.x86_fields.specs.Sizes.{register_of}
 use Rattle.x86_operands.specs.Shape.{shape_of}
 use Rattle.x86_operands.specs.Signs.{sign_step, memory_step, rm_operand, rm_mm_operand}
@@ -100,6 +100,12 @@ last_sign last.Once p = sign.ConstantU8 1
 last_sign last.Three p = sign.ConstantU8 3
 last_sign last.Cl p = sign.Fixed slot.Reg (record { num = 1; class = class.B })
 last_sign last.ClThird p = cl_third
+
+-- the class of a signed immediate that goes by prefixes, or has four bytes
+abbrev pub last_class : Last → Prefixes → RegisterClass
+last_class last.Iv p = v p
+last_class last.Ip p = if p.operand_size && not (rex_w p) then class.W else class.D
+last_class l p = class.D
 
 abbrev pub reg_sign : Behind → Width → ℕ → Prefixes → Sign
 reg_sign behind.Opcode w n p = sign.Fixed slot.Reg (register_at n (class_of w p) p)

@@ -72,7 +72,7 @@ impl Operands {
         Ok(())
     }
 
-    /// The immediate of a class v.
+    /// The last operand.
     #[tactic(auto, unfolding(crate::specs::Signs::sign_step))]
     #[inline(always)]
     fn place_sign<T: Reader<u64, u8>>(
@@ -100,27 +100,16 @@ impl Operands {
                 let imm = read_u16(words)?;
                 self.put_in(at, Slot::ImmU16, Operand::ImmediateU16 { imm });
             }
-            Last::I32 => {
-                let imm = read_u32(words)?.cast_signed();
-                self.put_in(at, Slot::ImmI32, Operand::ImmediateI32 { imm });
-            }
-            Last::Iv => return self.place_v(at, words, prefixes.v_class()),
             Last::Ivq => {
-                if let RegisterClass::Q = prefixes.v_class() {
+                if prefixes.has_w() {
                     let imm = read_u64(words)?.cast_signed();
                     self.put_in(at, Slot::ImmI64, Operand::ImmediateI64 { imm });
                 } else {
                     return self.place_v(at, words, prefixes.v_class());
                 }
             }
-            Last::Ip => {
-                if prefixes.operand_size() && !prefixes.has_w() {
-                    let imm = read_u16(words)?.cast_signed();
-                    self.put_in(at, Slot::ImmI16, Operand::ImmediateI16 { imm });
-                } else {
-                    let imm = read_u32(words)?.cast_signed();
-                    self.put_in(at, Slot::ImmI32, Operand::ImmediateI32 { imm });
-                }
+            Last::I32 | Last::Iv | Last::Ip => {
+                return self.place_v(at, words, last.class(prefixes));
             }
             Last::One => self.put_in(at, Slot::ImmI8, Operand::ImmediateI8 { imm: 1 }),
             Last::Once => self.put_in(at, Slot::ImmU8, Operand::ImmediateU8 { imm: 1 }),
@@ -131,6 +120,7 @@ impl Operands {
         Ok(())
     }
 
+    /// A signed immediate by its class, of at most four bytes.
     #[tactic(auto, unfolding(crate::specs::Signs::sign_step))]
     #[inline(always)]
     fn place_v<T: Reader<u64, u8>>(
