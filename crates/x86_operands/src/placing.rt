@@ -74,7 +74,7 @@ impl Operands {
 
     /// The last operand.
     #[tactic(auto, unfolding(crate::specs::Signs::sign_step))]
-    #[inline(always)]
+    #[inline]
     fn place_sign<T: Reader<u64, u8>>(
         &mut self,
         at: Place,
