@@ -1,6 +1,7 @@
 pub mod Faults
 pub mod Outside
 pub mod Text
+pub mod Kinds
 pub mod Reading
 pub mod Rows
 pub mod Line

@@ -1,9 +1,10 @@
 //! Hex text, read byte by byte.
 
-ghost use Rattle.std.specs.Prelude.{◌≡◌, ℕ, ◌+◌, ◌<◌, ◌^◌, IfSome, List, [], ◌∷◌, Option, false};
+ghost use Rattle.std.specs.Prelude.{◌≡◌, ℕ, ◌+◌, ◌<◌, ◌^◌, List, [], ◌∷◌, Option, false};
 ghost use Rattle.x86_cli.specs.Text.{is_blank, value_of};
 ghost use Rattle.x86_cli.specs.Reading.{Reads, UsesRoom};
 
+use crate::kinds::{Kind, kind_of};
 use crate::source::{Got, Source};
 
 /// How a text ends.
@@ -37,28 +38,6 @@ pub struct TextReader {
     ghost in_range: { place + room < 2 ^ 64 },
 }
 
-fn blank(byte: u8) -> bool
-    ensures { result ≡ is_blank byte }
-{
-    byte == 32 || byte == 9 || byte == 10 || byte == 13
-}
-
-#[tactic(auto, unfolding(crate::specs::Text::value_of))]
-fn hex_value(byte: u8) -> Option<u8>
-    ensures value { result ≡ value_of byte }
-    ensures small { IfSome result (λ v. v < 16) }
-{
-    if 48 <= byte && byte <= 57 {
-        Some(byte - 48)
-    } else if 97 <= byte && byte <= 102 {
-        Some(byte - 97 + 10)
-    } else if 65 <= byte && byte <= 70 {
-        Some(byte - 65 + 10)
-    } else {
-        None
-    }
-}
-
 impl TextReader {
     /// A reader of a text of at most `max` bytes.
     pub fn new(max: u64) -> TextReader
@@ -71,6 +50,7 @@ impl TextReader {
         }
     }
 
+    #[inline(always)]
     fn advance(&mut self)
         requires { 0 < self.old.room }
         ensures place { self.new.place ≡ self.old.place + 1 }
@@ -81,6 +61,7 @@ impl TextReader {
     }
 
     /// Reads on behind the first digit of a pair.
+    #[inline(always)]
     fn second<S: Source>(&mut self, source: &mut S, high: u8) -> Piece
         requires { high < 16 }
         // Behind a digit x at the place before, it tells the text of x and what follows.
@@ -96,18 +77,19 @@ impl TextReader {
                 if self.room == 0 {
                     return Piece::Stopped(Ending::Large);
                 }
-                match hex_value(byte) {
-                    None => Piece::Stopped(Ending::Bad(self.place)),
-                    Some(low) => {
+                match kind_of(byte) {
+                    Kind::Digit(low) => {
                         self.advance();
                         Piece::Byte(16 * high + low)
                     }
+                    Kind::Blank | Kind::Other => Piece::Stopped(Ending::Bad(self.place)),
                 }
             }
         }
     }
 
     /// Takes bytes up to the next pair, or the end of the text.
+    #[inline(always)]
     pub fn next<S: Source>(&mut self, source: &mut S) -> Piece
         ensures reads { Reads S.gives result self.old.place self.old.room self.new.place self.new.room source.old source.new }
         ensures uses { UsesRoom result self.old.room self.new.room }
@@ -120,16 +102,14 @@ impl TextReader {
                     if self.room == 0 {
                         return Piece::Stopped(Ending::Large);
                     }
-                    if !blank(byte) {
-                        match hex_value(byte) {
-                            None => return Piece::Stopped(Ending::Bad(self.place)),
-                            Some(high) => {
-                                self.advance();
-                                return self.second(source, high);
-                            }
+                    match kind_of(byte) {
+                        Kind::Digit(high) => {
+                            self.advance();
+                            return self.second(source, high);
                         }
+                        Kind::Blank => self.advance(),
+                        Kind::Other => return Piece::Stopped(Ending::Bad(self.place)),
                     }
-                    self.advance();
                 }
             }
         }
