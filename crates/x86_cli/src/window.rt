@@ -76,15 +76,19 @@ impl Window {
         ensures full { self.new.ended ≡ None → array_vec_len self.new.bytes ≡ 15 }
         ensures uses { array_vec_len self.new.bytes + self.new.reader.room ≤ array_vec_len self.old.bytes + self.old.reader.room }
     {
+        // The reader is a local value meanwhile, so that its place need not go to memory at each byte.
+        let mut reader = self.reader;
         while !self.bytes.is_full() {
-            match self.reader.next(source) {
+            match reader.next(source) {
                 Piece::Byte(byte) => self.bytes.push(byte),
                 Piece::Stopped(ending) => {
+                    self.reader = reader;
                     self.ended = Some(ending);
                     return;
                 }
             }
         }
+        self.reader = reader;
     }
 
     /// The same, where the text may have ended.
