@@ -2,6 +2,7 @@ pub mod Faults
 pub mod Outside
 pub mod Text
 pub mod Kinds
+pub mod Standing
 pub mod Reading
 pub mod Rows
 pub mod Line

@@ -1,11 +1,12 @@
 //! Hex text, read byte by byte.
 
-ghost use Rattle.std.specs.Prelude.{◌≡◌, ℕ, ◌+◌, ◌<◌, ◌^◌, List, [], ◌∷◌, Option, false};
+ghost use Rattle.std.specs.Prelude.{◌≡◌, ℕ, ◌+◌, ◌<◌, ◌^◌, List, [], ◌∷◌, Option, true, false};
 ghost use Rattle.x86_cli.specs.Text.{is_blank, value_of};
 ghost use Rattle.x86_cli.specs.Reading.{Reads, UsesRoom};
 
 use crate::kinds::{Kind, kind_of};
 use crate::source::{Got, Source};
+use std::marker::Model;
 
 /// How a text ends.
 #[derive(Clone, Copy, PartialEq, Eq, Debug, Drop)]
@@ -30,12 +31,28 @@ pub enum Piece {
     Stopped(Ending),
 }
 
-/// Where in a text the reader stands, and how many bytes it may still take.
-#[derive(Clone, Copy, PartialEq, Eq, Debug, Drop)]
+/// Where in a text the reader stands, and the place up to which it may take bytes. What contracts see of it is its place and how many bytes
+/// it may still take.
+#[derive(Clone, Copy, Drop)]
 pub struct TextReader {
-    pub place: u64,
-    pub room: u64,
-    ghost in_range: { place + room < 2 ^ 64 },
+    place: u64,
+    end: u64,
+}
+
+impl Model for TextReader {
+    ghost use Rattle.std.specs.Prelude.{ℕ, ◌≤◌, ◌+◌, ◌-◌};
+    ghost use Rattle.std.proofs.Common.{arith, ap};
+    ghost use Rattle.x86_cli.specs.Standing.{Standing};
+
+    ghost Value = { Standing };
+
+    ghost view = { λ r. record { place = r.place; room = r.end - r.place } };
+
+    ghost invariant = { λ r. r.place ≤ r.end };
+
+    ghost inverse = { λ s. record { place = s.place; end = s.place + s.room } };
+
+    ghost inverse_ok = { λ r h. ap (λ (e : ℕ). record { place = r.place; end = e }) (omega (arith, h)) };
 }
 
 impl TextReader {
@@ -44,10 +61,7 @@ impl TextReader {
         ensures place { result.place ≡ 0 }
         ensures room { result.room ≡ max }
     {
-        TextReader {
-            place: 0,
-            room: max,
-        }
+        TextReader { place: 0, end: max }
     }
 
     #[inline(always)]
@@ -56,8 +70,23 @@ impl TextReader {
         ensures place { self.new.place ≡ self.old.place + 1 }
         ensures room { self.new.room + 1 ≡ self.old.room }
     {
-        self.room -= 1;
         self.place += 1;
+    }
+
+    /// Whether no further byte may be taken.
+    #[inline(always)]
+    fn is_at_end(&self) -> bool
+        ensures at_end { result ≡ true → self.now.room ≡ 0 }
+        ensures before { result ≡ false → 0 < self.now.room }
+    {
+        self.place == self.end
+    }
+
+    #[inline(always)]
+    fn place(&self) -> u64
+        ensures { result ≡ self.now.place }
+    {
+        self.place
     }
 
     /// Reads on behind the first digit of a pair.
@@ -71,10 +100,10 @@ impl TextReader {
         ensures uses { UsesRoom result (self.old.room + 1) self.new.room }
     {
         match source.next() {
-            Got::End => Piece::Stopped(Ending::Bad(self.place)),
+            Got::End => Piece::Stopped(Ending::Bad(self.place())),
             Got::Failed => Piece::Stopped(Ending::Fault),
             Got::Byte(byte) => {
-                if self.room == 0 {
+                if self.is_at_end() {
                     return Piece::Stopped(Ending::Large);
                 }
                 match kind_of(byte) {
@@ -82,7 +111,7 @@ impl TextReader {
                         self.advance();
                         Piece::Byte(16 * high + low)
                     }
-                    Kind::Blank | Kind::Other => Piece::Stopped(Ending::Bad(self.place)),
+                    Kind::Blank | Kind::Other => Piece::Stopped(Ending::Bad(self.place())),
                 }
             }
         }
@@ -99,7 +128,7 @@ impl TextReader {
                 Got::End => return Piece::Stopped(Ending::Clean),
                 Got::Failed => return Piece::Stopped(Ending::Fault),
                 Got::Byte(byte) => {
-                    if self.room == 0 {
+                    if self.is_at_end() {
                         return Piece::Stopped(Ending::Large);
                     }
                     match kind_of(byte) {
@@ -108,7 +137,7 @@ impl TextReader {
                             return self.second(source, high);
                         }
                         Kind::Blank => self.advance(),
-                        Kind::Other => return Piece::Stopped(Ending::Bad(self.place)),
+                        Kind::Other => return Piece::Stopped(Ending::Bad(self.place())),
                     }
                 }
             }
