@@ -2,7 +2,7 @@ pub mod Faults
 pub mod Outside
 pub mod Text
 pub mod Kinds
-pub mod Standing
+pub mod Reader
 pub mod Reading
 pub mod Rows
 pub mod Line

@@ -42,9 +42,9 @@ pub struct TextReader {
 impl Model for TextReader {
     ghost use Rattle.std.specs.Prelude.{ℕ, ◌≤◌, ◌+◌, ◌-◌};
     ghost use Rattle.std.proofs.Common.{arith, ap};
-    ghost use Rattle.x86_cli.specs.Standing.{Standing};
+    ghost use Rattle.x86_cli.specs.Reader.{Reader};
 
-    ghost Value = { Standing };
+    ghost Value = { Reader };
 
     ghost view = { λ r. record { place = r.place; room = r.end - r.place } };
 
