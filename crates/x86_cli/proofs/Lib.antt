@@ -1,4 +1,5 @@
 pub mod TextLaws
+pub mod KindLaws
 pub mod ReadLaws
 pub mod RowLaws
 pub mod FillLaws

@@ -1,6 +1,8 @@
 pub mod Faults
 pub mod Outside
 pub mod Text
+pub mod Kinds
+pub mod Reader
 pub mod Reading
 pub mod Rows
 pub mod Line

@@ -10,6 +10,8 @@ mod fields;
 mod gathered;
 #[cfg(test)]
 mod group_table;
+mod held;
+mod kinds;
 mod laws;
 mod line;
 mod listing;

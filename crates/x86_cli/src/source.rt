@@ -1,9 +1,10 @@
 //! What a text is read from.
 
 ghost use Rattle.std.specs.Prelude.{◌≡◌, ◌≢◌, ◌↔◌, ◌≤◌, ◌<◌, ℕ, List, Option, Some, None, [], drop, length, slice_range, Bool, true, false, ◌&&◌, IsTrue};
-ghost use Rattle.x86_cli.specs.Outside.{TellsGot, ByNumber, is_listed};
+ghost use Rattle.x86_cli.specs.Outside.{TellsGot, TellsRefill, ByNumber, is_listed};
 ghost use Rattle.std.specs.Io.KnownBytes.{prepend_known};
 ghost use Rattle.x86_cli.specs.declared.source.Got.{Got};
+ghost use Rattle.x86_cli.specs.declared.source.Refill.{Refill};
 
 use std::io::Read;
 
@@ -182,6 +183,51 @@ impl<R: Read + Drop> StdSource<R> {
     }
 }
 
+/// What a read gave.
+#[derive(Clone, Copy, Drop)]
+enum Refill {
+    Bytes,
+    Nothing,
+    Fault,
+}
+
+impl<R: Read + Drop> StdSource<R> {
+    /// Reads on, where no byte of the buffer is left.
+    #[cold]
+    #[inline(never)]
+    fn refill(&mut self) -> Refill
+        requires { self.old.place ≡ self.old.filled }
+        ensures told { TellsRefill result (prepend_known (slice_range self.old.buffer self.old.place self.old.filled) (R.remaining self.old.reader))
+            (prepend_known (slice_range self.new.buffer self.new.place self.new.filled) (R.remaining self.new.reader)) self.old.faults self.new.faults }
+        ensures some { result ≡ Refill.Bytes → self.new.place < self.new.filled }
+    {
+        match self.reader.read(&mut self.buffer) {
+            Ok(0) => Refill::Nothing,
+            Ok(count) => {
+                self.place = 0;
+                self.filled = count;
+                Refill::Bytes
+            }
+            Err(_) => {
+                self.faults = self.faults.saturating_add(1);
+                Refill::Fault
+            }
+        }
+    }
+
+    /// Takes the first byte that is buffered.
+    #[inline(always)]
+    fn take(&mut self) -> u8
+        requires { self.old.place < self.old.filled }
+        ensures { TellsGot (Got.Byte result) (prepend_known (slice_range self.old.buffer self.old.place self.old.filled) (R.remaining self.old.reader))
+            (prepend_known (slice_range self.new.buffer self.new.place self.new.filled) (R.remaining self.new.reader)) self.old.faults self.new.faults }
+    {
+        let byte = self.buffer[self.place];
+        self.place += 1;
+        byte
+    }
+}
+
 impl<R: Read + Drop> Source for StdSource<R> {
     ghost left = { λ s. prepend_known (slice_range s.buffer s.place s.filled) (R.remaining s.reader) };
 
@@ -191,23 +237,15 @@ impl<R: Read + Drop> Source for StdSource<R> {
 
     ghost tells = { λ s g t h. h };
 
+    #[inline(always)]
     fn next(&mut self) -> Got {
-        if self.place < self.filled {
-            let byte = self.buffer[self.place];
-            self.place += 1;
-            return Got::Byte(byte);
-        }
-        match self.reader.read(&mut self.buffer) {
-            Ok(0) => Got::End,
-            Ok(count) => {
-                self.filled = count;
-                self.place = 1;
-                Got::Byte(self.buffer[0])
-            }
-            Err(_) => {
-                self.faults = self.faults.saturating_add(1);
-                Got::Failed
+        if self.place == self.filled {
+            match self.refill() {
+                Refill::Bytes => {}
+                Refill::Nothing => return Got::End,
+                Refill::Fault => return Got::Failed,
             }
         }
+        Got::Byte(self.take())
     }
 }

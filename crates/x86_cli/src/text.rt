@@ -1,10 +1,12 @@
 //! Hex text, read byte by byte.
 
-ghost use Rattle.std.specs.Prelude.{◌≡◌, ℕ, ◌+◌, ◌<◌, ◌^◌, IfSome, List, [], ◌∷◌, Option, false};
+ghost use Rattle.std.specs.Prelude.{◌≡◌, ℕ, ◌+◌, ◌<◌, ◌^◌, List, [], ◌∷◌, Option, true, false};
 ghost use Rattle.x86_cli.specs.Text.{is_blank, value_of};
 ghost use Rattle.x86_cli.specs.Reading.{Reads, UsesRoom};
 
+use crate::kinds::{Kind, kind_of};
 use crate::source::{Got, Source};
+use std::marker::Model;
 
 /// How a text ends.
 #[derive(Clone, Copy, PartialEq, Eq, Debug, Drop)]
@@ -29,34 +31,28 @@ pub enum Piece {
     Stopped(Ending),
 }
 
-/// Where in a text the reader stands, and how many bytes it may still take.
-#[derive(Clone, Copy, PartialEq, Eq, Debug, Drop)]
+/// Where in a text the reader stands, and the place up to which it may take bytes. What contracts see of it is its place and how many bytes
+/// it may still take.
+#[derive(Clone, Copy, Drop)]
 pub struct TextReader {
-    pub place: u64,
-    pub room: u64,
-    ghost in_range: { place + room < 2 ^ 64 },
+    place: u64,
+    end: u64,
 }
 
-fn blank(byte: u8) -> bool
-    ensures { result ≡ is_blank byte }
-{
-    byte == 32 || byte == 9 || byte == 10 || byte == 13
-}
+impl Model for TextReader {
+    ghost use Rattle.std.specs.Prelude.{ℕ, ◌≤◌, ◌+◌, ◌-◌};
+    ghost use Rattle.std.proofs.Common.{arith, ap};
+    ghost use Rattle.x86_cli.specs.Reader.{Reader};
 
-#[tactic(auto, unfolding(crate::specs::Text::value_of))]
-fn hex_value(byte: u8) -> Option<u8>
-    ensures value { result ≡ value_of byte }
-    ensures small { IfSome result (λ v. v < 16) }
-{
-    if 48 <= byte && byte <= 57 {
-        Some(byte - 48)
-    } else if 97 <= byte && byte <= 102 {
-        Some(byte - 97 + 10)
-    } else if 65 <= byte && byte <= 70 {
-        Some(byte - 65 + 10)
-    } else {
-        None
-    }
+    ghost Value = { Reader };
+
+    ghost view = { λ r. record { place = r.place; room = r.end - r.place } };
+
+    ghost invariant = { λ r. r.place ≤ r.end };
+
+    ghost inverse = { λ s. record { place = s.place; end = s.place + s.room } };
+
+    ghost inverse_ok = { λ r h. ap (λ (e : ℕ). record { place = r.place; end = e }) (omega (arith, h)) };
 }
 
 impl TextReader {
@@ -65,22 +61,36 @@ impl TextReader {
         ensures place { result.place ≡ 0 }
         ensures room { result.room ≡ max }
     {
-        TextReader {
-            place: 0,
-            room: max,
-        }
+        TextReader { place: 0, end: max }
     }
 
+    #[inline(always)]
     fn advance(&mut self)
         requires { 0 < self.old.room }
         ensures place { self.new.place ≡ self.old.place + 1 }
         ensures room { self.new.room + 1 ≡ self.old.room }
     {
-        self.room -= 1;
         self.place += 1;
     }
 
+    /// Whether no further byte may be taken.
+    #[inline(always)]
+    fn is_at_end(&self) -> bool
+        ensures at_end { result ≡ true → self.now.room ≡ 0 }
+        ensures before { result ≡ false → 0 < self.now.room }
+    {
+        self.place == self.end
+    }
+
+    #[inline(always)]
+    fn place(&self) -> u64
+        ensures { result ≡ self.now.place }
+    {
+        self.place
+    }
+
     /// Reads on behind the first digit of a pair.
+    #[inline(always)]
     fn second<S: Source>(&mut self, source: &mut S, high: u8) -> Piece
         requires { high < 16 }
         // Behind a digit x at the place before, it tells the text of x and what follows.
@@ -90,24 +100,25 @@ impl TextReader {
         ensures uses { UsesRoom result (self.old.room + 1) self.new.room }
     {
         match source.next() {
-            Got::End => Piece::Stopped(Ending::Bad(self.place)),
+            Got::End => Piece::Stopped(Ending::Bad(self.place())),
             Got::Failed => Piece::Stopped(Ending::Fault),
             Got::Byte(byte) => {
-                if self.room == 0 {
+                if self.is_at_end() {
                     return Piece::Stopped(Ending::Large);
                 }
-                match hex_value(byte) {
-                    None => Piece::Stopped(Ending::Bad(self.place)),
-                    Some(low) => {
+                match kind_of(byte) {
+                    Kind::Digit(low) => {
                         self.advance();
                         Piece::Byte(16 * high + low)
                     }
+                    Kind::Blank | Kind::Other => Piece::Stopped(Ending::Bad(self.place())),
                 }
             }
         }
     }
 
     /// Takes bytes up to the next pair, or the end of the text.
+    #[inline(always)]
     pub fn next<S: Source>(&mut self, source: &mut S) -> Piece
         ensures reads { Reads S.gives result self.old.place self.old.room self.new.place self.new.room source.old source.new }
         ensures uses { UsesRoom result self.old.room self.new.room }
@@ -117,19 +128,17 @@ impl TextReader {
                 Got::End => return Piece::Stopped(Ending::Clean),
                 Got::Failed => return Piece::Stopped(Ending::Fault),
                 Got::Byte(byte) => {
-                    if self.room == 0 {
+                    if self.is_at_end() {
                         return Piece::Stopped(Ending::Large);
                     }
-                    if !blank(byte) {
-                        match hex_value(byte) {
-                            None => return Piece::Stopped(Ending::Bad(self.place)),
-                            Some(high) => {
-                                self.advance();
-                                return self.second(source, high);
-                            }
+                    match kind_of(byte) {
+                        Kind::Digit(high) => {
+                            self.advance();
+                            return self.second(source, high);
                         }
+                        Kind::Blank => self.advance(),
+                        Kind::Other => return Piece::Stopped(Ending::Bad(self.place())),
                     }
-                    self.advance();
                 }
             }
         }

@@ -6,10 +6,10 @@ ghost use Rattle.x86_cli.specs.declared.text.Stop.{Stop};
 ghost use Rattle.x86_cli.specs.Listing.{front_of, judged, sure_of};
 ghost use Rattle.x86_cli.specs.Window.{rest_of, Fills, Shows};
 
+use crate::held::Held;
 use crate::laws::decoder_laws;
 use crate::source::Source;
 use crate::text::{Ending, Piece, TextReader};
-use arrayvec::ArrayVec;
 use x86_decode::{InstDecoder, Instruction};
 use x86_fields::DecodeError;
 
@@ -48,7 +48,7 @@ fn judge(answer: Result<Instruction, DecodeError>, ending: Ending) -> Front
 /// The next bytes of an image, and the reader of what follows them.
 #[derive(Drop)]
 pub struct Window {
-    pub bytes: ArrayVec<u8, 15>,
+    pub bytes: Held,
     pub reader: TextReader,
     pub ended: Option<Ending>,
 }
@@ -61,7 +61,7 @@ impl Window {
         ensures ended { result.ended ≡ None }
     {
         Window {
-            bytes: ArrayVec::new(),
+            bytes: Held::new(),
             reader: TextReader::new(max),
             ended: None,
         }
@@ -76,15 +76,19 @@ impl Window {
         ensures full { self.new.ended ≡ None → array_vec_len self.new.bytes ≡ 15 }
         ensures uses { array_vec_len self.new.bytes + self.new.reader.room ≤ array_vec_len self.old.bytes + self.old.reader.room }
     {
+        // The reader is a local value meanwhile, so that its place need not go to memory at each byte.
+        let mut reader = self.reader;
         while !self.bytes.is_full() {
-            match self.reader.next(source) {
+            match reader.next(source) {
                 Piece::Byte(byte) => self.bytes.push(byte),
                 Piece::Stopped(ending) => {
+                    self.reader = reader;
                     self.ended = Some(ending);
                     return;
                 }
             }
         }
+        self.reader = reader;
     }
 
     /// The same, where the text may have ended.
@@ -139,8 +143,6 @@ impl Window {
         ensures reader { self.new.reader ≡ self.old.reader }
         ensures ended { self.new.ended ≡ self.old.ended }
     {
-        let mut rest = ArrayVec::new();
-        let _ = rest.try_extend_from_slice(&self.bytes.as_slice()[count..]);
-        self.bytes = rest;
+        self.bytes.leave(count);
     }
 }
