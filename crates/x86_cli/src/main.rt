@@ -27,6 +27,7 @@ mod targets;
 #[cfg(test)]
 mod tests;
 mod text;
+mod text_line;
 mod tightening;
 mod window;
 #[cfg(test)]

@@ -5,10 +5,10 @@ ghost use Rattle.arrayvec.specs.ArrayVec.{array_vec_len};
 ghost use Rattle.x86_cli.specs.Run.{Wrote};
 ghost use Rattle.x86_cli.specs.Make.{made, has_long_displacement, is_rip, is_at_rip, is_absolute, has_operand, answer_has, one_if, tally_of, tally_text, made_listing};
 
-use crate::line::{Line, push_bytes, push_number};
 use crate::listing::put_line;
 use crate::sink::Sink;
 use crate::status::Status;
+use crate::text_line::Line;
 use arrayvec::ArrayVec;
 use itoa::Buffer;
 use x86_decode::{InstDecoder, Instruction};
@@ -155,14 +155,14 @@ fn tally_line(count: u32, tally: &Tally) -> Line
     ensures short { array_vec_len result ≤ 191 }
 {
     let mut line = Line::new();
-    push_number(&mut line, count);
-    push_bytes(&mut line, b" instructions ");
-    push_number(&mut line, tally.bytes);
-    push_bytes(&mut line, b" bytes ");
-    push_number(&mut line, tally.at_rip);
-    push_bytes(&mut line, b" rip ");
-    push_number(&mut line, tally.absolute);
-    push_bytes(&mut line, b" abs");
+    line.push_u32(count);
+    line.extend(b" instructions ");
+    line.push_u64(tally.bytes);
+    line.extend(b" bytes ");
+    line.push_u64(tally.at_rip);
+    line.extend(b" rip ");
+    line.push_u64(tally.absolute);
+    line.extend(b" abs");
     line
 }
 
@@ -188,7 +188,8 @@ pub fn make<K: Sink>(count: u32, sink: &mut K) -> Status
     ensures { Wrote K.takes (made_listing count) result sink.old sink.new }
 {
     let tally = tally_of(count);
-    match put_line(sink, tally_line(count, &tally)) {
+    let mut line = tally_line(count, &tally);
+    match put_line(sink, &mut line) {
         Ok(()) => Status::Done,
         Err(_) => Status::WriteFault,
     }

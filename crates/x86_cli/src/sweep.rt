@@ -7,12 +7,13 @@ ghost use Rattle.x86_layout.specs.Cuts.{cut_length};
 ghost use Rattle.x86_cli.specs.Sweep.{cut_text, sweep_at, ShowsCut};
 
 use crate::laws::decoder_laws;
-use crate::line::{Line, line_of, refusal_of};
+use crate::line::{write_instruction, write_refusal};
 use crate::listing::{end, put_line};
 use crate::sink::Sink;
 use crate::source::Source;
 use crate::status::Status;
 use crate::text::Ending;
+use crate::text_line::Line;
 use crate::window::Window;
 use x86_decode::{InstDecoder, Instruction};
 use x86_fields::DecodeError;
@@ -23,13 +24,14 @@ pub enum Cut {
     Ended(Ending),
 }
 
-fn cut_line(place: u64, answer: &Result<Instruction, DecodeError>) -> Line
-    ensures text { result.items ≡ cut_text place answer.now }
-    ensures short { array_vec_len result ≤ 191 }
+/// Writes the line of a cut at a place over another, without its end.
+fn write_cut(line: &mut Line, place: u64, answer: &Result<Instruction, DecodeError>)
+    ensures text { line.new.items ≡ cut_text place answer.now }
+    ensures short { array_vec_len line.new ≤ 191 }
 {
     match answer {
-        Ok(instruction) => line_of(place, instruction),
-        Err(error) => refusal_of(place, *error),
+        Ok(instruction) => write_instruction(line, place, instruction),
+        Err(error) => write_refusal(line, place, *error),
     }
 }
 
@@ -68,12 +70,14 @@ pub fn sweep<S: Source, K: Sink>(
     ensures unrefused { result ≢ Status.Refused }
 {
     let mut window = Window::new(max);
+    let mut line = Line::new();
     let mut place = 0u64;
     'cuts: loop {
         window.refill(source);
         match next_cut(&window, decoder) {
             Cut::Piece(answer) => {
-                match put_line(sink, cut_line(place, &answer)) {
+                write_cut(&mut line, place, &answer);
+                match put_line(sink, &mut line) {
                     Ok(()) => {}
                     Err(_) => return Status::WriteFault,
                 }
