@@ -86,15 +86,16 @@ pub fn list<L: Lines, S: Source, K: Sink>(
 {
     decoder_laws();
     let mut window = Window::new(max);
+    let mut inst = Instruction::invalid();
     let mut text = Line::new();
     let mut place = 0u64;
     'lines: loop {
         window.refill(source);
-        match window.front(decoder) {
-            Front::Whole(instruction) => {
-                let length = length_of(&instruction);
+        match window.front(decoder, &mut inst) {
+            Front::Whole(()) => {
+                let length = length_of(&inst);
                 let bytes = window.first(length as usize);
-                lines.write(decoder, place, &instruction, bytes, &mut text);
+                lines.write(decoder, place, &inst, bytes, &mut text);
                 match put_line(sink, &mut text) {
                     Ok(()) => {}
                     Err(_) => return Status::WriteFault,
