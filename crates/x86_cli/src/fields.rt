@@ -10,7 +10,7 @@ ghost use Rattle.x86_layout.specs.Front.{parts_of};
 ghost use Rattle.x86_cli.specs.Fields.{in_order, spaced, fields_text};
 
 use crate::line::Lines;
-use crate::text_line::Line;
+use crate::room::Line;
 use x86_decode::{InstDecoder, Instruction};
 use x86_layout::{Parts, split};
 

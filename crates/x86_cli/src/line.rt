@@ -9,7 +9,7 @@ ghost use Rattle.x86_opcodes.specs.Mnemonics.{mnemonic_of};
 ghost use Rattle.x86_fields.specs.Errors.{description_of};
 ghost use Rattle.x86_cli.specs.Line.{instruction_text, operands_text, shown_operands, joint_text, operand_text, deref_text, moved_text, index_text, moved_index_text, scaled_text, displacement_text, register_text, base_text, plus_text, size_text, refusal_text, bad_text};
 
-use crate::text_line::Line;
+use crate::room::Line;
 use x86_decode::{InstDecoder, Instruction};
 use x86_fields::DecodeError;
 use x86_opcodes::Opcode;

@@ -8,11 +8,11 @@ ghost use Rattle.x86_cli.specs.Run.{RanInWindow, Closes};
 
 use crate::laws::decoder_laws;
 use crate::line::{Lines, refusal_of, text_error};
+use crate::room::Line;
 use crate::sink::{Sink, SinkFailed};
 use crate::source::Source;
 use crate::status::Status;
 use crate::text::Ending;
-use crate::text_line::Line;
 use crate::window::{Front, Window};
 use x86_decode::{InstDecoder, Instruction};
 use x86_fields::DecodeError;

@@ -19,6 +19,7 @@ mod plain_table;
 mod program;
 #[cfg(test)]
 mod program_tests;
+mod room;
 mod sink;
 mod source;
 mod status;
@@ -27,7 +28,6 @@ mod targets;
 #[cfg(test)]
 mod tests;
 mod text;
-mod text_line;
 mod tightening;
 mod window;
 #[cfg(test)]

@@ -6,9 +6,9 @@ ghost use Rattle.x86_cli.specs.Run.{Wrote};
 ghost use Rattle.x86_cli.specs.Make.{made, has_long_displacement, is_rip, is_at_rip, is_absolute, has_operand, answer_has, one_if, tally_of, tally_text, made_listing};
 
 use crate::listing::put_line;
+use crate::room::Line;
 use crate::sink::Sink;
 use crate::status::Status;
-use crate::text_line::Line;
 use arrayvec::ArrayVec;
 use itoa::Buffer;
 use x86_decode::{InstDecoder, Instruction};

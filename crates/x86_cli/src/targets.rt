@@ -9,11 +9,11 @@ ghost use Rattle.x86_cli.specs.Targets.{place_line, lines_if, targets_at};
 ghost use Rattle.x86_cli.specs.Window.{Fills};
 
 use crate::listing::{end, put_line};
+use crate::room::Line;
 use crate::sink::{Sink, SinkFailed};
 use crate::source::Source;
 use crate::status::Status;
 use crate::text::{Ending, Piece, TextReader};
-use crate::text_line::Line;
 use arrayvec::ArrayVec;
 use x86_decode::InstDecoder;
 use x86_layout::mark_targets;

@@ -7,7 +7,7 @@ ghost use Rattle.x86_layout.specs.Least.{least_of};
 ghost use Rattle.x86_cli.specs.Tighten.{least_text};
 
 use crate::line::Lines;
-use crate::text_line::Line;
+use crate::room::Line;
 use x86_decode::{InstDecoder, Instruction};
 use x86_layout::tighten;
 

@@ -1,23 +1,23 @@
-//! A line that is being written.
+//! Bytes that are being gathered.
 
-ghost use Rattle.std.specs.Prelude.{◌≡◌, ℕ, ◌+◌, ◌≤◌, ◌++◌, ◌∷◌, [], length, take, decimal};
+ghost use Rattle.std.specs.Prelude.{◌≡◌, ℕ, ◌+◌, ◌≤◌, ◌++◌, ◌∷◌, [], length, take, drop, decimal};
 ghost use Rattle.std.specs.Fmt.{signed_decimal};
 ghost use Rattle.arrayvec.specs.ArrayVec.{array_vec_len};
 
 use itoa::write_digits;
 use std::marker::Model;
 
-/// The most bytes of a line with its end.
-const LINE_MAX: usize = 192;
-
-/// At most `LINE_MAX` bytes. What was in a line isn't blanked when the next is written over it.
+/// At most `N` bytes. What is let go isn't blanked.
 #[derive(Drop)]
-pub struct Line {
-    cells: [u8; LINE_MAX],
+pub struct Room<const N: usize> {
+    cells: [u8; N],
     len: usize,
 }
 
-impl Model for Line {
+/// A line, with room for its end.
+pub type Line = Room<192>;
+
+impl<const N: usize> Model for Room<N> {
     ghost use Rattle.std.specs.Prelude.{ℕ, ◌≡◌, ◌≤◌, length, take};
     ghost use Rattle.arrayvec.specs.ArrayVec.{ArrayVec as Items};
 
@@ -25,7 +25,7 @@ impl Model for Line {
 
     ghost view = { λ l. record { items = take l.len l.cells } };
 
-    ghost invariant = { λ l. l.len ≤ 192 };
+    ghost invariant = { λ l. l.len ≤ N };
 }
 
 /// How many digits the decimal of a number has.
@@ -45,13 +45,13 @@ fn digits_of(n: u64) -> usize
     }
 }
 
-impl Line {
-    /// An empty line.
-    pub fn new() -> Line
+impl<const N: usize> Room<N> {
+    /// Nothing yet.
+    pub fn new() -> Room<N>
         ensures { result.items ≡ [] }
     {
-        Line {
-            cells: [0; LINE_MAX],
+        Room {
+            cells: [0; N],
             len: 0,
         }
     }
@@ -64,6 +64,16 @@ impl Line {
         self.len = 0;
     }
 
+    /// Lets the first bytes go.
+    pub fn leave(&mut self, count: usize)
+        requires { count ≤ array_vec_len self.old }
+        ensures { self.new.items ≡ drop count self.old.items }
+    {
+        let len = self.len;
+        self.cells.copy_within(count..len, 0);
+        self.len = len - count;
+    }
+
     /// The bytes.
     #[inline(always)]
     pub fn as_slice(&self) -> &[u8]
@@ -72,10 +82,18 @@ impl Line {
         &self.cells[..self.len]
     }
 
+    /// How many bytes still fit.
+    #[inline(always)]
+    pub fn left(&self) -> usize
+        ensures { array_vec_len self.now + result ≡ N }
+    {
+        N - self.len
+    }
+
     /// Appends a byte.
     #[inline(always)]
     pub fn push(&mut self, byte: u8)
-        requires { array_vec_len self.old + 1 ≤ 192 }
+        requires { array_vec_len self.old + 1 ≤ N }
         ensures text { self.new.items ≡ self.old.items ++ byte ∷ [] }
         ensures len { array_vec_len self.new ≡ array_vec_len self.old + 1 }
     {
@@ -87,20 +105,21 @@ impl Line {
     /// Appends bytes.
     #[inline(always)]
     pub fn extend(&mut self, bytes: &[u8])
-        requires { array_vec_len self.old + length bytes.now ≤ 192 }
+        requires { array_vec_len self.old + length bytes.now ≤ N }
         ensures text { self.new.items ≡ self.old.items ++ bytes.now }
         ensures len { array_vec_len self.new ≡ array_vec_len self.old + length bytes.now }
     {
         let len = self.len;
         let end = len + bytes.len();
-        self.cells[len..end].copy_from_slice(bytes);
+        let cells = &mut self.cells[..];
+        cells[len..end].copy_from_slice(bytes);
         self.len = end;
     }
 
     /// Appends the decimal of a number.
     #[inline(always)]
     pub fn push_u64(&mut self, n: u64)
-        requires { array_vec_len self.old + 20 ≤ 192 }
+        requires { array_vec_len self.old + 20 ≤ N }
         ensures text { self.new.items ≡ self.old.items ++ decimal n }
         ensures short { array_vec_len self.new ≤ array_vec_len self.old + 20 }
     {
@@ -110,7 +129,7 @@ impl Line {
     /// Appends the decimal of a number, which has at most ten digits.
     #[inline(always)]
     pub fn push_u32(&mut self, n: u32)
-        requires { array_vec_len self.old + 10 ≤ 192 }
+        requires { array_vec_len self.old + 10 ≤ N }
         ensures text { self.new.items ≡ self.old.items ++ decimal n }
         ensures short { array_vec_len self.new ≤ array_vec_len self.old + 10 }
     {
@@ -120,7 +139,7 @@ impl Line {
     /// Appends the decimal of a number, which has at most three digits.
     #[inline(always)]
     pub fn push_u8(&mut self, n: u8)
-        requires { array_vec_len self.old + 3 ≤ 192 }
+        requires { array_vec_len self.old + 3 ≤ N }
         ensures text { self.new.items ≡ self.old.items ++ decimal n }
         ensures short { array_vec_len self.new ≤ array_vec_len self.old + 3 }
     {
@@ -130,7 +149,7 @@ impl Line {
     /// Appends the decimal of a number with its sign.
     #[inline(always)]
     pub fn push_i64(&mut self, n: i64)
-        requires { array_vec_len self.old + 20 ≤ 192 }
+        requires { array_vec_len self.old + 20 ≤ N }
         ensures text { self.new.items ≡ self.old.items ++ signed_decimal n }
         ensures short { array_vec_len self.new ≤ array_vec_len self.old + 20 }
     {
@@ -142,7 +161,7 @@ impl Line {
 
     #[inline(always)]
     fn push_decimal(&mut self, n: u64)
-        requires { array_vec_len self.old + length (decimal n) ≤ 192 }
+        requires { array_vec_len self.old + length (decimal n) ≤ N }
         ensures text { self.new.items ≡ self.old.items ++ decimal n }
         ensures len { array_vec_len self.new ≡ array_vec_len self.old + length (decimal n) }
     {
@@ -155,7 +174,7 @@ impl Line {
 
     #[inline(never)]
     fn push_digits(&mut self, n: u64)
-        requires { array_vec_len self.old + length (decimal n) ≤ 192 }
+        requires { array_vec_len self.old + length (decimal n) ≤ N }
         ensures text { self.new.items ≡ self.old.items ++ decimal n }
         ensures len { array_vec_len self.new ≡ array_vec_len self.old + length (decimal n) }
     {

@@ -1,7 +1,7 @@
 use Rattle.std.proofs.Common.{◌≡◌, ◌≤◌, ◌<◌, ◌+◌, ◌/◌, ◌^◌, arith, length, decimal, sym, ap, ◌∙◌}
 use Rattle.std.proofs.lemmas.Fmt.{length-decimal-le}
 use Rattle.itoa.proofs.Decimal.{length_one, length_two, length_pair, length_four}
-use Rattle.x86_cli.proofs.text_line.+digits_of.Goals as goal
+use Rattle.x86_cli.proofs.room.+digits_of.Goals as goal
 
 pub overflow_add-result : goal.overflow_add-result
 overflow_add-result t c = grind (arith, c.digits_of.ensures, length-decimal-le 20 (c.args.n / 10000) (omega arith) (omega (arith, c.ranges.n.fits)) (omega (arith, c.ranges.n.fits)))
