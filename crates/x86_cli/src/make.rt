@@ -2,6 +2,7 @@
 
 ghost use Rattle.std.specs.Prelude.{◌≡◌, ◌+◌, ◌≤◌, ◌++◌, ℕ, IfSome, Some, None, length, decimal};
 ghost use Rattle.arrayvec.specs.ArrayVec.{array_vec_len};
+ghost use Rattle.x86_decode.specs.Instruction.{holding};
 ghost use Rattle.x86_cli.specs.Run.{Wrote};
 ghost use Rattle.x86_cli.specs.Make.{made, has_long_displacement, is_rip, is_at_rip, is_absolute, has_operand, answer_has, one_if, tally_of, tally_text, made_listing};
 
@@ -107,22 +108,22 @@ fn has_absolute_operand(instruction: &Instruction) -> bool
         || is_absolute(instruction.operand(3))
 }
 
-fn one_at_rip(answer: &Result<Instruction, DecodeError>) -> u64
-    ensures value { result ≡ one_if (answer_has is_at_rip answer.now) }
+fn one_at_rip(inst: &Instruction, answer: Result<(), DecodeError>) -> u64
+    ensures value { result ≡ one_if (answer_has is_at_rip (holding inst.now answer)) }
     ensures small { result ≤ 1 }
 {
     match answer {
-        Ok(instruction) => has_operand_at_rip(instruction) as u64,
+        Ok(()) => has_operand_at_rip(inst) as u64,
         Err(_) => 0,
     }
 }
 
-fn one_absolute(answer: &Result<Instruction, DecodeError>) -> u64
-    ensures value { result ≡ one_if (answer_has is_absolute answer.now) }
+fn one_absolute(inst: &Instruction, answer: Result<(), DecodeError>) -> u64
+    ensures value { result ≡ one_if (answer_has is_absolute (holding inst.now answer)) }
     ensures small { result ≤ 1 }
 {
     match answer {
-        Ok(instruction) => has_absolute_operand(instruction) as u64,
+        Ok(()) => has_absolute_operand(inst) as u64,
         Err(_) => 0,
     }
 }
@@ -132,15 +133,16 @@ fn tally_of(count: u32) -> Tally
     ensures { result ≡ tally_of count }
 {
     let decoder = InstDecoder::default();
+    let mut inst = Instruction::invalid();
     let mut bytes = 0u64;
     let mut at_rip = 0u64;
     let mut absolute = 0u64;
     for i in 0..count {
         let encoding = generate(i);
-        let answer = decoder.decode_slice(encoding.as_slice());
+        let answer = decoder.decode_slice_into(&mut inst, encoding.as_slice());
         bytes += encoding.len() as u64;
-        at_rip += one_at_rip(&answer);
-        absolute += one_absolute(&answer);
+        at_rip += one_at_rip(&inst, answer);
+        absolute += one_absolute(&inst, answer);
     }
     Tally {
         bytes,
