@@ -3,7 +3,6 @@
 ghost use Rattle.std.specs.Prelude.{◌≡◌, ◌+◌, ◌*◌, ◌≤◌, ◌++◌, length, codes};
 ghost use Rattle.std.specs.List.{sum_by};
 ghost use Rattle.arrayvec.specs.ArrayVec.{array_vec_len};
-ghost use Rattle.hex.specs.Hex.{encode_lower};
 ghost use Rattle.x86_layout.specs.Parts.{lists_of};
 ghost use Rattle.x86_layout.specs.Fields.{HasFieldLengths};
 ghost use Rattle.x86_layout.specs.Front.{parts_of};
@@ -50,23 +49,9 @@ fn length_of(parts: &Parts) -> usize
         + parts.suffix.len()
 }
 
-/// Appends the hex digits of some bytes.
-fn push_hex(line: &mut Line, bytes: &[u8])
-    requires room { array_vec_len line.old + 2 * length bytes.now ≤ 192 }
-    requires few { length bytes.now ≤ 14 }
-    ensures text { line.new.items ≡ line.old.items ++ encode_lower bytes.now }
-    ensures len { array_vec_len line.new ≡ array_vec_len line.old + 2 * length bytes.now }
-{
-    let mut digits = [0u8; 28];
-    let digits = &mut digits[..2 * bytes.len()];
-    let _ = hex::encode_to_slice(bytes, digits);
-    line.extend(digits);
-}
-
 /// Appends a part behind a space.
 fn push_part(line: &mut Line, part: &[u8])
-    requires room { array_vec_len line.old + 2 + 2 * length part.now ≤ 192 }
-    requires few { length part.now ≤ 14 }
+    requires { array_vec_len line.old + 2 + 2 * length part.now ≤ 192 }
     ensures text { line.new.items ≡ line.old.items ++ spaced part.now }
     ensures short { array_vec_len line.new ≤ array_vec_len line.old + 2 + 2 * length part.now }
 {
@@ -74,7 +59,7 @@ fn push_part(line: &mut Line, part: &[u8])
     if part.is_empty() {
         line.push(b'-');
     } else {
-        push_hex(line, part);
+        line.push_hex(part);
     }
 }
 

@@ -1,8 +1,9 @@
 //! Bytes that are being gathered.
 
-ghost use Rattle.std.specs.Prelude.{◌≡◌, ℕ, ◌+◌, ◌≤◌, ◌++◌, ◌∷◌, [], length, take, drop, decimal};
+ghost use Rattle.std.specs.Prelude.{◌≡◌, ℕ, ◌+◌, ◌*◌, ◌≤◌, ◌++◌, ◌∷◌, [], length, take, drop, decimal};
 ghost use Rattle.std.specs.Fmt.{signed_decimal};
 ghost use Rattle.arrayvec.specs.ArrayVec.{array_vec_len};
+ghost use Rattle.hex.specs.Hex.{encode_lower};
 
 use itoa::write_digits;
 use std::marker::Model;
@@ -113,6 +114,19 @@ impl<const N: usize> Room<N> {
         let end = len + bytes.len();
         let cells = &mut self.cells[..];
         cells[len..end].copy_from_slice(bytes);
+        self.len = end;
+    }
+
+    /// Appends the hex digits of some bytes.
+    pub fn push_hex(&mut self, bytes: &[u8])
+        requires { array_vec_len self.old + 2 * length bytes.now ≤ N }
+        ensures text { self.new.items ≡ self.old.items ++ encode_lower bytes.now }
+        ensures len { array_vec_len self.new ≡ array_vec_len self.old + 2 * length bytes.now }
+    {
+        let len = self.len;
+        let end = len + 2 * bytes.len();
+        let cells = &mut self.cells[..];
+        let _ = hex::encode_to_slice(bytes, &mut cells[len..end]);
         self.len = end;
     }
 
