@@ -1,4 +1,4 @@
-use Rattle.std.proofs.Common.{◌≡◌, ◌≤◌, ◌<◌, ◌+◌, ◌/◌, ◌^◌, arith, length, decimal, sym, ap, ◌∙◌}
+use Rattle.std.proofs.Common.{◌/◌, arith, sym}
 use Rattle.std.proofs.lemmas.Fmt.{length-decimal-le}
 use Rattle.itoa.proofs.Decimal.{length_one, length_two, length_pair, length_four}
 use Rattle.x86_cli.proofs.room.+digits_of.Goals as goal

@@ -1,4 +1,4 @@
-use Rattle.std.proofs.Common.{◌≡◌, ◌≤◌, ◌<◌, ◌+◌, ◌++◌, arith, length, decimal, sym, ap, ◌∙◌}
+use Rattle.std.proofs.Common.{◌++◌, arith, sym, ap, ◌∙◌}
 use Rattle.std.proofs.lemmas.Fmt.{decimal_digit}
 use Rattle.itoa.proofs.Decimal.{length_one}
 use Rattle.x86_cli.proofs.room.Room.push_decimal.Goals as goal
