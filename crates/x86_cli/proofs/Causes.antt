@@ -52,7 +52,7 @@ front_end strict x xs e g h = judged_end (answer_of strict (x ∷ xs)) e g h
 
 module _ (other : Status) (refusal : outcome.Refused ≢ other) (e : Ending) (end : (at_end e).status ≢ other) where
   module _ (strict : Bool) (text : ℕ → Instruction → List ℕ → List ℕ) where
-    listed_never : (f : Front) (n : ℕ) (xs : List ℕ) (after : ℕ → Listing) → ((g : Ending) → f ≡ Ended g → g ≡ e) → ((k : ℕ) → (after k).status ≢ other) →
+    listed_never : (f : Front Instruction) (n : ℕ) (xs : List ℕ) (after : ℕ → Listing) → ((g : Ending) → f ≡ Ended g → g ≡ e) → ((k : ℕ) → (after k).status ≢ other) →
         (listed strict text f n xs after).status ≢ other
     listed_never (Whole i) n xs after same h = h (i.length - 1)
     listed_never (Refused error) n xs after same h = refusal

@@ -86,7 +86,7 @@ module _ (strict : Bool) (laws : DecoderLaws strict) where
 
   -- the same of what the code knows
 
-  module _ (w s : List ℕ) (a : Result Instruction DecodeError) (ended : Option Ending) (result : Front) (answer : a ≡ answer_of strict s) (bytes : s ≡ w) where
+  module _ (w s : List ℕ) (a : Result Instruction DecodeError) (ended : Option Ending) (result : Front Instruction) (answer : a ≡ answer_of strict s) (bytes : s ≡ w) where
     answered : a ≡ answer_of strict w
     answered = answer ∙ ap (answer_of strict) bytes
 

@@ -52,7 +52,7 @@ module _ (strict : Bool) (text : ℕ → Instruction → List ℕ → List ℕ) 
 -- the same status with other lines
 
 module _ (strict : Bool) (text other : ℕ → Instruction → List ℕ → List ℕ) where
-  listed-status : (f : Front) (n : ℕ) (xs : List ℕ) (a b : ℕ → Listing) → ((k : ℕ) → (a k).status ≡ (b k).status) →
+  listed-status : (f : Front Instruction) (n : ℕ) (xs : List ℕ) (a b : ℕ → Listing) → ((k : ℕ) → (a k).status ≡ (b k).status) →
       (listed strict text f n xs a).status ≡ (listed strict other f n xs b).status
   listed-status (Whole i) n xs a b h = h (i.length - 1)
   listed-status (Refused error) n xs a b h = refl

@@ -11,13 +11,12 @@ use Rattle.x86_cli.specs.declared.status.Status.{Status}
 use Rattle.x86_cli.specs.declared.status.Status.TheVariants as outcome
 use Rattle.x86_cli.specs.declared.text.Stop.{Stop}
 use Rattle.x86_cli.specs.Text.{Text, text_at}
-use Rattle.x86_cli.specs.declared.sweep.Cut.TheVariants.{Piece}
 use Rattle.x86_cli.specs.Line.{line}
 use Rattle.x86_cli.specs.Listing.{with_lines, at_end}
 use Rattle.x86_cli.specs.Window.{rest_of}
 use Rattle.x86_layout.specs.Cuts.{cut_length, cut_at, cuts_from}
 use Rattle.x86_layout.proofs.CutLaws.{first_and_rest, none_left}
-use Rattle.x86_cli.specs.Sweep.{cut_text, cut_line, sweep_at, ShowsCut}
+use Rattle.x86_cli.specs.Sweep.{cut_text, cut_line, sweep_at, ShowsAnswer}
 use Rattle.x86_cli.proofs.Stands.{with-with}
 
 module _ (strict : Bool) where
@@ -30,7 +29,7 @@ module _ (strict : Bool) where
       ∙ ap (λ a. with_lines (line (cut_text n a) ∷ []) (with_lines behind (at_end e))) h
 
   -- one cut of the rest
-  pub rest_cut : (ended : Option Ending) (n : ℕ) (w : List ℕ) (p r : ℕ) (a : Result Instruction DecodeError) → ShowsCut strict (Piece a) ended w p r → (xs : List ℕ) (stop : Stop) →
+  pub rest_cut : (ended : Option Ending) (n : ℕ) (w : List ℕ) (p r : ℕ) (a : Result Instruction DecodeError) → ShowsAnswer strict a ended w p r → (xs : List ℕ) (stop : Stop) →
       sweep_at strict n (rest_of ended w p r xs stop) ≡ with_lines (line (cut_text n a) ∷ []) (sweep_at strict (n + cut_length a) (rest_of ended (drop (cut_length a) w) p r xs stop))
   rest_cut None n w p r a shows xs stop =
       let t : Text = text_at p r xs stop in
@@ -61,7 +60,7 @@ module _ (strict : Bool) (laws : DecoderLaws strict) where
   same_answer (Some e) w p r full xs stop = refl
 
   pub shows_cut : (ended : Option Ending) (w s : List ℕ) (p r : ℕ) (a : Result Instruction DecodeError) → (ended ≡ None → length w ≡ 15) → 0 < length w →
-      a ≡ answer_of strict s → s ≡ w → ShowsCut strict (Piece a) ended w p r
+      a ≡ answer_of strict s → s ≡ w → ShowsAnswer strict a ended w p r
   shows_cut ended w s p r a full some answer same =
       let here : answer_of strict w ≡ a = sym (answer ∙ ap (answer_of strict) same) in
       let h = answer_shows a w here some in

@@ -28,7 +28,7 @@ at_end Large = record { lines = line (codes "text too long") ∷ []; status = To
 at_end Fault = record { lines = line (codes "read fault") ∷ []; status = ReadFault }
 
 -- An end that isn't clean overrules a refusal that more bytes could lift.
-abbrev pub judged : Result Instruction DecodeError → Ending → Front
+abbrev pub judged : Result Instruction DecodeError → Ending → Front Instruction
 judged (Ok i) e = Whole i
 judged (Err ExhaustedInput) (Bad n) = Ended (Bad n)
 judged (Err ExhaustedInput) Large = Ended Large
@@ -36,18 +36,18 @@ judged (Err ExhaustedInput) Fault = Ended Fault
 judged (Err error) e = Refused error
 
 -- where more bytes lift nothing
-abbrev pub sure_of : Result Instruction DecodeError → Front
+abbrev pub sure_of : Result Instruction DecodeError → Front Instruction
 sure_of (Ok i) = Whole i
 sure_of (Err error) = Refused error
 
 -- what stands at the front of an image
-unfoldable pub front_of : Bool → List ℕ → Ending → Front
+unfoldable pub front_of : Bool → List ℕ → Ending → Front Instruction
 front_of strict [] e = Ended e
 front_of strict (x ∷ xs) e = judged (answer_of strict (x ∷ xs)) e
 
 -- The listings of commands differ in the line of an instruction, which may look at the instruction's bytes.
 module _ (strict : Bool) (text : ℕ → Instruction → List ℕ → List ℕ) where
-  abbrev pub listed : Front → ℕ → List ℕ → (ℕ → Listing) → Listing
+  abbrev pub listed : Front Instruction → ℕ → List ℕ → (ℕ → Listing) → Listing
   listed (Whole i) place bytes after = with_lines (line (text place i (take i.length bytes)) ∷ []) (after (i.length - 1))
   listed (Refused error) place bytes after = record { lines = line (refusal_text place error) ∷ []; status = status.Refused }
   listed (Ended e) place bytes after = at_end e

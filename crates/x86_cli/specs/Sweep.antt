@@ -3,6 +3,7 @@ use Rattle.std.specs.Prelude.{Bool, ◌≡◌, ℕ, ◌<◌, ◌≤◌, List, []
 use Rattle.x86_decode.specs.declared.instructions.Instruction.{Instruction}
 use Rattle.x86_fields.specs.declared.DecodeError.{DecodeError}
 use Rattle.x86_decode.specs.Answer.{answer_of}
+use Rattle.x86_decode.specs.Instruction.{holding}
 use Rattle.x86_layout.specs.declared.cuts.Cut.{Cut as SweptCut}
 use Rattle.x86_layout.specs.Cuts.{cut_length, cuts_from}
 use Rattle.x86_cli.specs.declared.text.Ending.{Ending}
@@ -27,8 +28,12 @@ cut_line c = line (cut_text c.place c.answer)
 abbrev pub sweep_at : Bool → ℕ → Text → Listing
 sweep_at strict place t = with_lines (map cut_line (cuts_from strict place t.image)) (at_end t.ending)
 
--- what a window shows of its front: the next cut, or the end
-abbrev pub ShowsCut : Bool → Cut → Option Ending → List ℕ → ℕ → ℕ → Type 0
-ShowsCut strict (Piece a) ended w place room =
+-- what a window shows of its front, where a cut stands there: whatever follows, that the next cut has this answer
+abbrev pub ShowsAnswer : Bool → Result Instruction DecodeError → Option Ending → List ℕ → ℕ → ℕ → Type 0
+ShowsAnswer strict a ended w place room =
     (0 < cut_length a) × (cut_length a ≤ length w) × ((xs : List ℕ) (stop : Stop) → answer_of strict (rest_of ended w place room xs stop).image ≡ a)
-ShowsCut strict (Ended e) ended w place room = (ended ≡ Some e) × (w ≡ [])
+
+-- what a window shows of its front: the next cut, whose instruction stands beside it, or the end
+abbrev pub ShowsCut : Bool → Instruction → Cut → Option Ending → List ℕ → ℕ → ℕ → Type 0
+ShowsCut strict inst (Piece answer) ended w place room = ShowsAnswer strict (holding inst answer) ended w place room
+ShowsCut strict inst (Ended e) ended w place room = (ended ≡ Some e) × (w ≡ [])

@@ -1,6 +1,7 @@
 use Rattle.std.specs.Prelude.{Bool, ◌≡◌, ◌≢◌, ℕ, ◌<◌, ◌≤◌, List, ◌++◌, length, Option, Some, None, ⊤}
 use Rattle.x86_cli.specs.declared.source.Got.{Got}
 use Rattle.x86_cli.specs.Reading.{Gave, Asked, MayCome}
+use Rattle.x86_decode.specs.declared.instructions.Instruction.{Instruction}
 use Rattle.x86_fields.specs.declared.DecodeError.TheVariants.{ExhaustedInput}
 use Rattle.x86_cli.specs.declared.text.Ending.{Ending}
 use Rattle.x86_cli.specs.declared.text.Ending.TheVariants.{Clean}
@@ -33,8 +34,14 @@ pub record Fills {S : Type 0} (gives : S → Got → S → Type 0) (old : List �
   pub goes_on : Open ended stop
   pub rest : (xs : List ℕ) (s : Stop) → MayCome stop xs s → old (bytes ++ xs) s ≡ rest_of ended window place room xs s
 
+-- a front, where Whole holds this instruction
+abbrev pub front_with : Instruction → Front (Unit {0}) → Front Instruction
+front_with i (Whole x) = Whole i
+front_with i (Refused error) = Refused error
+front_with i (Ended e) = Ended e
+
 -- what the window shows of its front, whatever stands behind it
-abbrev pub Shows : Bool → Front → Option Ending → List ℕ → Type 0
+abbrev pub Shows : Bool → Front Instruction → Option Ending → List ℕ → Type 0
 Shows strict (Whole i) ended window = (0 < i.length) × (i.length ≤ length window) × ((ys : List ℕ) (e : Ending) → front_of strict (window ++ ys) e ≡ Whole i)
 Shows strict (Refused error) ended window =
     (error ≡ ExhaustedInput → ended ≡ Some Clean) × (error ≢ ExhaustedInput → (ys : List ℕ) (e : Ending) → front_of strict (window ++ ys) e ≡ Refused error)

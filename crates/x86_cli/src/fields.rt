@@ -3,13 +3,13 @@
 ghost use Rattle.std.specs.Prelude.{◌≡◌, ◌+◌, ◌*◌, ◌≤◌, ◌++◌, length, codes};
 ghost use Rattle.std.specs.List.{sum_by};
 ghost use Rattle.arrayvec.specs.ArrayVec.{array_vec_len};
-ghost use Rattle.hex.specs.Hex.{encode_lower};
 ghost use Rattle.x86_layout.specs.Parts.{lists_of};
 ghost use Rattle.x86_layout.specs.Fields.{HasFieldLengths};
 ghost use Rattle.x86_layout.specs.Front.{parts_of};
 ghost use Rattle.x86_cli.specs.Fields.{in_order, spaced, fields_text};
 
-use crate::line::{Line, Lines, push_bytes, push_number};
+use crate::line::Lines;
+use crate::room::Line;
 use x86_decode::{InstDecoder, Instruction};
 use x86_layout::{Parts, split};
 
@@ -19,15 +19,16 @@ pub struct FieldLines;
 impl Lines for FieldLines {
     ghost text = { λ s strict place instruction bytes. fields_text place (parts_of strict bytes) };
 
-    fn line(
+    fn write(
         &self,
         decoder: &InstDecoder,
         place: u64,
         _instruction: &Instruction,
         bytes: &[u8],
-    ) -> Line {
+        line: &mut Line,
+    ) {
         match split(decoder, bytes) {
-            Ok(parts) => fields_line(place, &parts),
+            Ok(parts) => write_fields(line, place, &parts),
             Err(_) => unreachable!(),
         }
     }
@@ -48,55 +49,51 @@ fn length_of(parts: &Parts) -> usize
         + parts.suffix.len()
 }
 
-/// Appends the hex digits of some bytes.
-fn push_hex(line: &mut Line, bytes: &[u8])
-    requires room { array_vec_len line.old + 2 * length bytes.now ≤ 192 }
-    requires few { length bytes.now ≤ 14 }
-    ensures text { line.new.items ≡ line.old.items ++ encode_lower bytes.now }
-    ensures len { array_vec_len line.new ≡ array_vec_len line.old + 2 * length bytes.now }
-{
-    let mut digits = [0u8; 28];
-    let digits = &mut digits[..2 * bytes.len()];
-    let _ = hex::encode_to_slice(bytes, digits);
-    push_bytes(line, digits);
-}
-
 /// Appends a part behind a space.
 fn push_part(line: &mut Line, part: &[u8])
-    requires room { array_vec_len line.old + 2 + 2 * length part.now ≤ 192 }
-    requires few { length part.now ≤ 14 }
+    requires { array_vec_len line.old + 2 + 2 * length part.now ≤ 192 }
     ensures text { line.new.items ≡ line.old.items ++ spaced part.now }
     ensures short { array_vec_len line.new ≤ array_vec_len line.old + 2 + 2 * length part.now }
 {
-    push_bytes(line, b" ");
+    line.push(b' ');
     if part.is_empty() {
-        push_bytes(line, b"-");
+        line.push(b'-');
     } else {
-        push_hex(line, part);
+        line.push_hex(part);
     }
 }
 
-/// The line of the parts of an encoding at a place, without its end: the place, how many bytes the parts have together, and
-/// each part as hex digits, or a dash where it is empty.
+/// Writes the line of the parts of an encoding at a place over another, without its end: the place, how many bytes the parts have
+/// together, and each part as hex digits, or a dash where it is empty.
 ///
 /// For `48 03 44 25 00` at place 0 this is `0 5 48 - 03 44 25 00 - -`.
 #[tactic(auto, unfolding(crate::specs::Fields::fields_text))]
+pub fn write_fields(line: &mut Line, place: u64, parts: &Parts)
+    requires { HasFieldLengths (lists_of parts.now) }
+    ensures text { line.new.items ≡ fields_text place (lists_of parts.now) }
+    ensures short { array_vec_len line.new ≤ 191 }
+{
+    line.clear();
+    line.push_u64(place);
+    line.push(b' ');
+    line.push_u64(length_of(parts) as u64);
+    push_part(line, parts.prefixes);
+    push_part(line, parts.escape);
+    push_part(line, parts.opcode);
+    push_part(line, parts.modrm);
+    push_part(line, parts.sib);
+    push_part(line, parts.displacement);
+    push_part(line, parts.immediate);
+    push_part(line, parts.suffix);
+}
+
+/// The line of the parts of an encoding at a place, without its end.
 pub fn fields_line(place: u64, parts: &Parts) -> Line
     requires { HasFieldLengths (lists_of parts.now) }
     ensures text { result.items ≡ fields_text place (lists_of parts.now) }
     ensures short { array_vec_len result ≤ 191 }
 {
     let mut line = Line::new();
-    push_number(&mut line, place);
-    push_bytes(&mut line, b" ");
-    push_number(&mut line, length_of(parts));
-    push_part(&mut line, parts.prefixes);
-    push_part(&mut line, parts.escape);
-    push_part(&mut line, parts.opcode);
-    push_part(&mut line, parts.modrm);
-    push_part(&mut line, parts.sib);
-    push_part(&mut line, parts.displacement);
-    push_part(&mut line, parts.immediate);
-    push_part(&mut line, parts.suffix);
+    write_fields(&mut line, place, parts);
     line
 }

@@ -6,7 +6,7 @@ ghost use Rattle.std.specs.Io.{WritesAtMost};
 ghost use Rattle.std.specs.IoError.{error_kind};
 ghost use Rattle.arrayvec.specs.ArrayVec.{array_vec_len};
 
-use arrayvec::ArrayVec;
+use crate::room::Room;
 use std::io;
 use std::io::{Error, ErrorKind, Write};
 
@@ -17,7 +17,7 @@ const SIZE: usize = 65536;
 #[derive(Drop)]
 pub struct Gathered<W: Write + Drop> {
     writer: W,
-    bytes: ArrayVec<u8, SIZE>,
+    bytes: Room<SIZE>,
 }
 
 impl<W: Write + Drop> Gathered<W> {
@@ -28,7 +28,7 @@ impl<W: Write + Drop> Gathered<W> {
     {
         Gathered {
             writer,
-            bytes: ArrayVec::new(),
+            bytes: Room::new(),
         }
     }
 
@@ -47,32 +47,28 @@ impl<W: Write + Drop> Gathered<W> {
             (append_known (W.contents self.new.writer) self.new.bytes.items) }
     {
         let (sent, result) = send_out(self.bytes.as_slice(), &mut self.writer);
-        self.leave(sent);
+        self.bytes.leave(sent);
         result
     }
 
-    /// Lets the first bytes go.
-    fn leave(&mut self, count: usize)
-        requires { count ≤ array_vec_len self.old.bytes }
-        ensures bytes { self.new.bytes.items ≡ drop count self.old.bytes.items }
-        ensures writer { self.new.writer ≡ self.old.writer }
+    /// Takes as much as fits, where not all does. A full buffer is handed on first.
+    #[cold]
+    #[inline(never)]
+    fn write_part(&mut self, buf: &[u8]) -> io::Result<usize>
+        ensures bound { WritesAtMost result buf.now }
+        ensures bytes { WriteAppends (append_known (W.contents self.old.writer) self.old.bytes.items)
+            (append_known (W.contents self.new.writer) self.new.bytes.items) result buf.now }
+        ensures room { array_vec_len self.old.bytes < SIZE → IsOk result }
+        ensures some { IfOk result (λ n. n ≡ 0 → length buf.now ≡ 0) }
     {
-        if count == self.bytes.len() {
-            self.bytes.clear();
-            return;
+        if self.bytes.left() == 0 {
+            self.send()?;
         }
-        let mut rest = ArrayVec::new();
-        append(&mut rest, &self.bytes.as_slice()[count..]);
-        self.bytes = rest;
+        let room = self.bytes.left();
+        let count = if buf.len() < room { buf.len() } else { room };
+        self.bytes.extend(&buf[..count]);
+        Ok(count)
     }
-}
-
-/// Appends what fits.
-fn append(bytes: &mut ArrayVec<u8, SIZE>, piece: &[u8])
-    requires { array_vec_len bytes.old + length piece.now ≤ SIZE }
-    ensures { bytes.new.items ≡ bytes.old.items ++ piece.now }
-{
-    let _ = bytes.try_extend_from_slice(piece);
 }
 
 /// One write, which is tried again where a signal interrupts it.
@@ -122,13 +118,11 @@ impl<W: Write + Drop> Write for Gathered<W> {
         ensures room { array_vec_len self.old.bytes < SIZE → IsOk result }
         ensures some { IfOk result (λ n. n ≡ 0 → length buf.now ≡ 0) }
     {
-        if self.bytes.is_full() {
-            self.send()?;
+        if buf.len() <= self.bytes.left() {
+            self.bytes.extend(buf);
+            return Ok(buf.len());
         }
-        let room = self.bytes.remaining_capacity();
-        let count = if buf.len() < room { buf.len() } else { room };
-        append(&mut self.bytes, &buf[..count]);
-        Ok(count)
+        self.write_part(buf)
     }
 
     fn flush(&mut self) -> io::Result<()>

@@ -1,6 +1,7 @@
 //! The lines of a listing.
 
 ghost use Rattle.std.specs.Prelude.{Bool, ℕ, List, Ok, ◌≡◌, ◌+◌, ◌++◌, length, take, decimal, Some, codes, ◌≤◌};
+ghost use Rattle.std.specs.Fmt.{signed_decimal};
 ghost use Rattle.arrayvec.specs.ArrayVec.{array_vec_len};
 ghost use Rattle.x86_decode.specs.declared.instructions.Instruction.{Instruction};
 ghost use Rattle.x86_decode.specs.Answer.{answer_of};
@@ -8,33 +9,30 @@ ghost use Rattle.x86_opcodes.specs.Mnemonics.{mnemonic_of};
 ghost use Rattle.x86_fields.specs.Errors.{description_of};
 ghost use Rattle.x86_cli.specs.Line.{instruction_text, operands_text, shown_operands, joint_text, operand_text, deref_text, moved_text, index_text, moved_index_text, scaled_text, displacement_text, register_text, base_text, plus_text, size_text, refusal_text, bad_text};
 
-use arrayvec::ArrayVec;
-use itoa::{Buffer, Integer};
+use crate::room::Line;
 use x86_decode::{InstDecoder, Instruction};
 use x86_fields::DecodeError;
 use x86_opcodes::Opcode;
 use x86_operands::Operand;
 use x86_regs::RegSpec;
 
-/// A line, with room for its end.
-pub type Line = ArrayVec<u8, 192>;
-
 /// What a command writes for an accepted cut.
 pub trait Lines {
     /// The line of an instruction at a place, under a choice and given its bytes.
     ghost text: { Self → Bool → ℕ → Instruction → List ℕ → List ℕ };
 
-    /// That line, without its end. The bytes are those of the instruction.
-    fn line(
+    /// Writes that line over another, without its end. The bytes are those of the instruction.
+    fn write(
         &self,
         decoder: &InstDecoder,
         place: u64,
         instruction: &Instruction,
         bytes: &[u8],
-    ) -> Line
+        line: &mut Line,
+    )
         requires { answer_of decoder.now.strict bytes.now ≡ Ok instruction.now }
-        ensures text { result.items ≡ text self.now decoder.now.strict place instruction.now bytes.now }
-        ensures short { array_vec_len result ≤ 191 };
+        ensures text { line.new.items ≡ text self.now decoder.now.strict place instruction.now bytes.now }
+        ensures short { array_vec_len line.new ≤ 191 };
 }
 
 /// The lines of `list`, which don't look at the bytes.
@@ -43,43 +41,34 @@ pub struct Plain;
 impl Lines for Plain {
     ghost text = { λ s strict place instruction bytes. instruction_text place instruction };
 
-    fn line(
+    fn write(
         &self,
         _decoder: &InstDecoder,
         place: u64,
         instruction: &Instruction,
         _bytes: &[u8],
-    ) -> Line {
-        line_of(place, instruction)
+        line: &mut Line,
+    ) {
+        write_instruction(line, place, instruction);
     }
 }
 
-/// Appends bytes.
-pub fn push_bytes(line: &mut Line, bytes: &[u8])
-    requires { array_vec_len line.old + length bytes.now ≤ 192 }
-    ensures text { line.new.items ≡ line.old.items ++ bytes.now }
-    ensures len { array_vec_len line.new ≡ array_vec_len line.old + length bytes.now }
+fn push_signed(line: &mut Line, mark: &[u8], n: i64)
+    requires { array_vec_len line.old + length mark.now + 20 ≤ 192 }
+    ensures text { line.new.items ≡ line.old.items ++ mark.now ++ signed_decimal n }
+    ensures short { array_vec_len line.new ≤ array_vec_len line.old + length mark.now + 20 }
 {
-    let _ = line.try_extend_from_slice(bytes);
+    line.extend(mark);
+    line.push_i64(n);
 }
 
-/// Appends the decimal of a number.
-pub fn push_number<I: Integer>(line: &mut Line, n: I)
-    requires { array_vec_len line.old + I.MAX_STR_LEN ≤ 192 }
-    ensures text { line.new.items ≡ line.old.items ++ I.text n }
-    ensures short { array_vec_len line.new ≤ array_vec_len line.old + I.MAX_STR_LEN }
+fn push_unsigned(line: &mut Line, mark: &[u8], n: u64)
+    requires { array_vec_len line.old + length mark.now + 20 ≤ 192 }
+    ensures text { line.new.items ≡ line.old.items ++ mark.now ++ decimal n }
+    ensures short { array_vec_len line.new ≤ array_vec_len line.old + length mark.now + 20 }
 {
-    let mut buffer = Buffer::new();
-    push_bytes(line, buffer.format(n).as_bytes());
-}
-
-fn push_immediate<I: Integer>(line: &mut Line, mark: &[u8], n: I)
-    requires { array_vec_len line.old + length mark.now + I.MAX_STR_LEN ≤ 192 }
-    ensures text { line.new.items ≡ line.old.items ++ mark.now ++ I.text n }
-    ensures short { array_vec_len line.new ≤ array_vec_len line.old + length mark.now + I.MAX_STR_LEN }
-{
-    push_bytes(line, mark);
-    push_number(line, n);
+    line.extend(mark);
+    line.push_u64(n);
 }
 
 #[tactic(auto, unfolding(crate::specs::Line::register_text))]
@@ -88,7 +77,7 @@ fn push_register(line: &mut Line, register: &RegSpec)
     ensures text { line.new.items ≡ line.old.items ++ register_text register.now }
     ensures short { array_vec_len line.new ≤ array_vec_len line.old + 6 }
 {
-    push_bytes(line, register.name().as_bytes());
+    line.extend(register.name().as_bytes());
 }
 
 fn push_displacement(line: &mut Line, disp: i32)
@@ -96,9 +85,8 @@ fn push_displacement(line: &mut Line, disp: i32)
     ensures text { line.new.items ≡ line.old.items ++ displacement_text disp }
     ensures short { array_vec_len line.new ≤ array_vec_len line.old + 11 }
 {
-    let sign: &[u8] = if disp < 0 { b"-" } else { b"+" };
-    push_bytes(line, sign);
-    push_number(line, disp.unsigned_abs());
+    line.push(if disp < 0 { b'-' } else { b'+' });
+    line.push_u32(disp.unsigned_abs());
 }
 
 fn push_scaled(line: &mut Line, base: Option<RegSpec>, index: &RegSpec, scale: u8)
@@ -108,11 +96,11 @@ fn push_scaled(line: &mut Line, base: Option<RegSpec>, index: &RegSpec, scale: u
 {
     if let Some(base) = base {
         push_register(line, &base);
-        push_bytes(line, b"+");
+        line.push(b'+');
     }
     push_register(line, index);
-    push_bytes(line, b"*");
-    push_number(line, scale);
+    line.push(b'*');
+    line.push_u8(scale);
 }
 
 #[tactic(auto, unfolding(crate::specs::Line::deref_text))]
@@ -121,9 +109,9 @@ fn push_deref(line: &mut Line, base: &RegSpec)
     ensures text { line.new.items ≡ line.old.items ++ deref_text base.now }
     ensures short { array_vec_len line.new ≤ array_vec_len line.old + 30 }
 {
-    push_bytes(line, b"[");
+    line.push(b'[');
     push_register(line, base);
-    push_bytes(line, b"]");
+    line.push(b']');
 }
 
 #[tactic(auto, unfolding(crate::specs::Line::moved_text))]
@@ -132,10 +120,10 @@ fn push_moved(line: &mut Line, base: &RegSpec, disp: i32)
     ensures text { line.new.items ≡ line.old.items ++ moved_text base.now disp }
     ensures short { array_vec_len line.new ≤ array_vec_len line.old + 30 }
 {
-    push_bytes(line, b"[");
+    line.push(b'[');
     push_register(line, base);
     push_displacement(line, disp);
-    push_bytes(line, b"]");
+    line.push(b']');
 }
 
 #[tactic(auto, unfolding(crate::specs::Line::index_text))]
@@ -144,9 +132,9 @@ fn push_index(line: &mut Line, base: Option<RegSpec>, index: &RegSpec, scale: u8
     ensures text { line.new.items ≡ line.old.items ++ index_text base index.now scale }
     ensures short { array_vec_len line.new ≤ array_vec_len line.old + 30 }
 {
-    push_bytes(line, b"[");
+    line.push(b'[');
     push_scaled(line, base, index, scale);
-    push_bytes(line, b"]");
+    line.push(b']');
 }
 
 #[tactic(auto, unfolding(crate::specs::Line::moved_index_text))]
@@ -155,19 +143,19 @@ fn push_moved_index(line: &mut Line, base: Option<RegSpec>, index: &RegSpec, sca
     ensures text { line.new.items ≡ line.old.items ++ moved_index_text base index.now scale disp }
     ensures short { array_vec_len line.new ≤ array_vec_len line.old + 30 }
 {
-    push_bytes(line, b"[");
+    line.push(b'[');
     push_scaled(line, base, index, scale);
     push_displacement(line, disp);
-    push_bytes(line, b"]");
+    line.push(b']');
 }
 
-fn push_absolute<I: Integer>(line: &mut Line, mark: &[u8], addr: I)
-    requires { array_vec_len line.old + length mark.now + I.MAX_STR_LEN + 1 ≤ 192 }
-    ensures text { line.new.items ≡ line.old.items ++ mark.now ++ I.text addr ++ codes "]" }
-    ensures short { array_vec_len line.new ≤ array_vec_len line.old + length mark.now + I.MAX_STR_LEN + 1 }
+fn push_absolute(line: &mut Line, mark: &[u8], addr: u64)
+    requires { array_vec_len line.old + length mark.now + 21 ≤ 192 }
+    ensures text { line.new.items ≡ line.old.items ++ mark.now ++ decimal addr ++ codes "]" }
+    ensures short { array_vec_len line.new ≤ array_vec_len line.old + length mark.now + 21 }
 {
-    push_immediate(line, mark, addr);
-    push_bytes(line, b"]");
+    push_unsigned(line, mark, addr);
+    line.push(b']');
 }
 
 #[tactic(auto, unfolding(crate::specs::Line::operand_text))]
@@ -177,19 +165,19 @@ fn push_operand(line: &mut Line, operand: &Operand)
     ensures short { array_vec_len line.new ≤ array_vec_len line.old + 30 }
 {
     match *operand {
-        Operand::ImmediateI8 { imm } => push_immediate(line, b"i8:", imm),
-        Operand::ImmediateU8 { imm } => push_immediate(line, b"u8:", imm),
-        Operand::ImmediateI16 { imm } => push_immediate(line, b"i16:", imm),
-        Operand::ImmediateU16 { imm } => push_immediate(line, b"u16:", imm),
-        Operand::ImmediateI32 { imm } => push_immediate(line, b"i32:", imm),
-        Operand::ImmediateU32 { imm } => push_immediate(line, b"u32:", imm),
-        Operand::ImmediateI64 { imm } => push_immediate(line, b"i64:", imm),
-        Operand::ImmediateU64 { imm } => push_immediate(line, b"u64:", imm),
+        Operand::ImmediateI8 { imm } => push_signed(line, b"i8:", imm as i64),
+        Operand::ImmediateU8 { imm } => push_unsigned(line, b"u8:", imm as u64),
+        Operand::ImmediateI16 { imm } => push_signed(line, b"i16:", imm as i64),
+        Operand::ImmediateU16 { imm } => push_unsigned(line, b"u16:", imm as u64),
+        Operand::ImmediateI32 { imm } => push_signed(line, b"i32:", imm as i64),
+        Operand::ImmediateU32 { imm } => push_unsigned(line, b"u32:", imm as u64),
+        Operand::ImmediateI64 { imm } => push_signed(line, b"i64:", imm),
+        Operand::ImmediateU64 { imm } => push_unsigned(line, b"u64:", imm),
         Operand::Register { reg }
         | Operand::RegisterMaskMerge { reg, .. }
         | Operand::RegisterMaskMergeSae { reg, .. }
         | Operand::RegisterMaskMergeSaeNoround { reg, .. } => push_register(line, &reg),
-        Operand::AbsoluteU32 { addr } => push_absolute(line, b"[abs32:", addr),
+        Operand::AbsoluteU32 { addr } => push_absolute(line, b"[abs32:", addr as u64),
         Operand::AbsoluteU64 { addr } => push_absolute(line, b"[abs64:", addr),
         Operand::MemDeref { base } | Operand::MemDerefMasked { base, .. } => push_deref(
             line, &base,
@@ -238,9 +226,9 @@ fn push_joint(line: &mut Line, number: u8)
     ensures short { array_vec_len line.new ≤ array_vec_len line.old + 2 }
 {
     if number == 0 {
-        push_bytes(line, b" ");
+        line.push(b' ');
     } else {
-        push_bytes(line, b", ");
+        line.extend(b", ");
     }
 }
 
@@ -263,10 +251,10 @@ fn push_size(line: &mut Line, instruction: &Instruction)
     ensures short { array_vec_len line.new ≤ array_vec_len line.old + 3 }
 {
     match instruction.mem_size() {
-        None => push_number(line, 0u8),
+        None => line.push_u8(0),
         Some(size) => match size.bytes_size() {
-            None => push_bytes(line, b"?"),
-            Some(bytes) => push_number(line, bytes),
+            None => line.extend(b"?"),
+            Some(bytes) => line.push_u8(bytes),
         },
     }
 }
@@ -276,24 +264,33 @@ fn push_mnemonic(line: &mut Line, opcode: Opcode)
     ensures text { line.new.items ≡ line.old.items ++ mnemonic_of opcode }
     ensures short { array_vec_len line.new ≤ array_vec_len line.old + 16 }
 {
-    push_bytes(line, opcode.mnemonic().as_bytes());
+    line.extend(opcode.mnemonic().as_bytes());
 }
 
-/// The line of an instruction at a place, without its end, as `4 3 ADD rax, rbx m8`.
+/// Writes the line of an instruction at a place over another, without its end, as `4 3 ADD rax, rbx m8`.
 #[tactic(auto, unfolding(crate::specs::Line::instruction_text))]
+pub fn write_instruction(line: &mut Line, place: u64, instruction: &Instruction)
+    ensures text { line.new.items ≡ instruction_text place instruction.now }
+    ensures short { array_vec_len line.new ≤ 191 }
+{
+    line.clear();
+    line.push_u64(place);
+    line.push(b' ');
+    line.push_u64(instruction.len().to_const());
+    line.push(b' ');
+    push_mnemonic(line, instruction.opcode());
+    push_operands(line, instruction);
+    line.extend(b" m");
+    push_size(line, instruction);
+}
+
+/// The line of an instruction at a place, without its end.
 pub fn line_of(place: u64, instruction: &Instruction) -> Line
     ensures text { result.items ≡ instruction_text place instruction.now }
     ensures short { array_vec_len result ≤ 191 }
 {
     let mut line = Line::new();
-    push_number(&mut line, place);
-    push_bytes(&mut line, b" ");
-    push_number(&mut line, instruction.len().to_const());
-    push_bytes(&mut line, b" ");
-    push_mnemonic(&mut line, instruction.opcode());
-    push_operands(&mut line, instruction);
-    push_bytes(&mut line, b" m");
-    push_size(&mut line, instruction);
+    write_instruction(&mut line, place, instruction);
     line
 }
 
@@ -302,19 +299,28 @@ fn push_description(line: &mut Line, error: DecodeError)
     ensures text { line.new.items ≡ line.old.items ++ description_of error }
     ensures short { array_vec_len line.new ≤ array_vec_len line.old + 26 }
 {
-    push_bytes(line, x86_arch::DecodeError::description(&error).as_bytes());
+    line.extend(x86_arch::DecodeError::description(&error).as_bytes());
 }
 
-/// The line of a refusal at a place, without its end, as `2 error: invalid opcode`.
+/// Writes the line of a refusal at a place over another, without its end, as `2 error: invalid opcode`.
 #[tactic(auto, unfolding(crate::specs::Line::refusal_text))]
+pub fn write_refusal(line: &mut Line, place: u64, error: DecodeError)
+    ensures text { line.new.items ≡ refusal_text place error }
+    ensures short { array_vec_len line.new ≤ 191 }
+{
+    line.clear();
+    line.push_u64(place);
+    line.extend(b" error: ");
+    push_description(line, error);
+}
+
+/// The line of a refusal at a place, without its end.
 pub fn refusal_of(place: u64, error: DecodeError) -> Line
     ensures text { result.items ≡ refusal_text place error }
     ensures short { array_vec_len result ≤ 191 }
 {
     let mut line = Line::new();
-    push_number(&mut line, place);
-    push_bytes(&mut line, b" error: ");
-    push_description(&mut line, error);
+    write_refusal(&mut line, place, error);
     line
 }
 
@@ -325,7 +331,7 @@ pub fn text_error(place: u64) -> Line
     ensures short { array_vec_len result ≤ 191 }
 {
     let mut line = Line::new();
-    push_bytes(&mut line, b"text error at ");
-    push_number(&mut line, place);
+    line.extend(b"text error at ");
+    line.push_u64(place);
     line
 }

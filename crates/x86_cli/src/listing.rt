@@ -7,7 +7,8 @@ ghost use Rattle.x86_cli.specs.Listing.{at_end, listing_at};
 ghost use Rattle.x86_cli.specs.Run.{RanInWindow, Closes};
 
 use crate::laws::decoder_laws;
-use crate::line::{Line, Lines, push_bytes, refusal_of, text_error};
+use crate::line::{Lines, refusal_of, text_error};
+use crate::room::Line;
 use crate::sink::{Sink, SinkFailed};
 use crate::source::Source;
 use crate::status::Status;
@@ -17,18 +18,19 @@ use x86_decode::{InstDecoder, Instruction};
 use x86_fields::DecodeError;
 
 /// Writes a line with its end.
-pub fn put_line<K: Sink>(sink: &mut K, mut text: Line) -> Result<(), SinkFailed>
-    requires { array_vec_len text ≤ 191 }
-    ensures { K.takes sink.old (line text.items) result sink.new }
+pub fn put_line<K: Sink>(sink: &mut K, text: &mut Line) -> Result<(), SinkFailed>
+    requires { array_vec_len text.old ≤ 191 }
+    ensures { K.takes sink.old (line text.old.items) result sink.new }
 {
-    push_bytes(&mut text, b"\n");
+    text.push(b'\n');
     sink.put(text.as_slice())
 }
 
 fn refuse<K: Sink>(sink: &mut K, place: u64, error: DecodeError) -> Result<Status, SinkFailed>
     ensures { Closes K.takes (record { lines = line (refusal_text place error) ∷ []; status = Status.Refused }) result sink.old sink.new }
 {
-    match put_line(sink, refusal_of(place, error)) {
+    let mut text = refusal_of(place, error);
+    match put_line(sink, &mut text) {
         Ok(()) => Ok(Status::Refused),
         Err(failed) => Err(failed),
     }
@@ -40,7 +42,7 @@ fn constant(text: &[u8]) -> Line
     ensures short { array_vec_len result ≤ 191 }
 {
     let mut line = Line::new();
-    push_bytes(&mut line, text);
+    line.extend(text);
     line
 }
 
@@ -50,15 +52,15 @@ pub fn end<K: Sink>(sink: &mut K, ending: Ending) -> Result<Status, SinkFailed>
 {
     match ending {
         Ending::Clean => Ok(Status::Done),
-        Ending::Bad(place) => match put_line(sink, text_error(place)) {
+        Ending::Bad(place) => match put_line(sink, &mut text_error(place)) {
             Ok(()) => Ok(Status::BadText),
             Err(failed) => Err(failed),
         },
-        Ending::Large => match put_line(sink, constant(b"text too long")) {
+        Ending::Large => match put_line(sink, &mut constant(b"text too long")) {
             Ok(()) => Ok(Status::TooLarge),
             Err(failed) => Err(failed),
         },
-        Ending::Fault => match put_line(sink, constant(b"read fault")) {
+        Ending::Fault => match put_line(sink, &mut constant(b"read fault")) {
             Ok(()) => Ok(Status::ReadFault),
             Err(failed) => Err(failed),
         },
@@ -84,14 +86,17 @@ pub fn list<L: Lines, S: Source, K: Sink>(
 {
     decoder_laws();
     let mut window = Window::new(max);
+    let mut inst = Instruction::invalid();
+    let mut text = Line::new();
     let mut place = 0u64;
     'lines: loop {
         window.refill(source);
-        match window.front(decoder) {
-            Front::Whole(instruction) => {
-                let length = length_of(&instruction);
-                let text = lines.line(decoder, place, &instruction, window.first(length as usize));
-                match put_line(sink, text) {
+        match window.front(decoder, &mut inst) {
+            Front::Whole(()) => {
+                let length = length_of(&inst);
+                let bytes = window.first(length as usize);
+                lines.write(decoder, place, &inst, bytes, &mut text);
+                match put_line(sink, &mut text) {
                     Ok(()) => {}
                     Err(_) => return Status::WriteFault,
                 }

@@ -21,6 +21,7 @@ mod plain_table;
 mod program;
 #[cfg(test)]
 mod program_tests;
+mod room;
 mod sink;
 mod source;
 mod status;

@@ -2,11 +2,12 @@
 
 ghost use Rattle.std.specs.Prelude.{◌≡◌, ◌+◌, ◌≤◌, ◌++◌, ℕ, IfSome, Some, None, length, decimal};
 ghost use Rattle.arrayvec.specs.ArrayVec.{array_vec_len};
+ghost use Rattle.x86_decode.specs.Instruction.{holding};
 ghost use Rattle.x86_cli.specs.Run.{Wrote};
 ghost use Rattle.x86_cli.specs.Make.{made, has_long_displacement, is_rip, is_at_rip, is_absolute, has_operand, answer_has, one_if, tally_of, tally_text, made_listing};
 
-use crate::line::{Line, push_bytes, push_number};
 use crate::listing::put_line;
+use crate::room::Line;
 use crate::sink::Sink;
 use crate::status::Status;
 use arrayvec::ArrayVec;
@@ -107,22 +108,22 @@ fn has_absolute_operand(instruction: &Instruction) -> bool
         || is_absolute(instruction.operand(3))
 }
 
-fn one_at_rip(answer: &Result<Instruction, DecodeError>) -> u64
-    ensures value { result ≡ one_if (answer_has is_at_rip answer.now) }
+fn one_at_rip(inst: &Instruction, answer: Result<(), DecodeError>) -> u64
+    ensures value { result ≡ one_if (answer_has is_at_rip (holding inst.now answer)) }
     ensures small { result ≤ 1 }
 {
     match answer {
-        Ok(instruction) => has_operand_at_rip(instruction) as u64,
+        Ok(()) => has_operand_at_rip(inst) as u64,
         Err(_) => 0,
     }
 }
 
-fn one_absolute(answer: &Result<Instruction, DecodeError>) -> u64
-    ensures value { result ≡ one_if (answer_has is_absolute answer.now) }
+fn one_absolute(inst: &Instruction, answer: Result<(), DecodeError>) -> u64
+    ensures value { result ≡ one_if (answer_has is_absolute (holding inst.now answer)) }
     ensures small { result ≤ 1 }
 {
     match answer {
-        Ok(instruction) => has_absolute_operand(instruction) as u64,
+        Ok(()) => has_absolute_operand(inst) as u64,
         Err(_) => 0,
     }
 }
@@ -132,15 +133,16 @@ fn tally_of(count: u32) -> Tally
     ensures { result ≡ tally_of count }
 {
     let decoder = InstDecoder::default();
+    let mut inst = Instruction::invalid();
     let mut bytes = 0u64;
     let mut at_rip = 0u64;
     let mut absolute = 0u64;
     for i in 0..count {
         let encoding = generate(i);
-        let answer = decoder.decode_slice(encoding.as_slice());
+        let answer = decoder.decode_slice_into(&mut inst, encoding.as_slice());
         bytes += encoding.len() as u64;
-        at_rip += one_at_rip(&answer);
-        absolute += one_absolute(&answer);
+        at_rip += one_at_rip(&inst, answer);
+        absolute += one_absolute(&inst, answer);
     }
     Tally {
         bytes,
@@ -155,14 +157,14 @@ fn tally_line(count: u32, tally: &Tally) -> Line
     ensures short { array_vec_len result ≤ 191 }
 {
     let mut line = Line::new();
-    push_number(&mut line, count);
-    push_bytes(&mut line, b" instructions ");
-    push_number(&mut line, tally.bytes);
-    push_bytes(&mut line, b" bytes ");
-    push_number(&mut line, tally.at_rip);
-    push_bytes(&mut line, b" rip ");
-    push_number(&mut line, tally.absolute);
-    push_bytes(&mut line, b" abs");
+    line.push_u32(count);
+    line.extend(b" instructions ");
+    line.push_u64(tally.bytes);
+    line.extend(b" bytes ");
+    line.push_u64(tally.at_rip);
+    line.extend(b" rip ");
+    line.push_u64(tally.absolute);
+    line.extend(b" abs");
     line
 }
 
@@ -188,7 +190,8 @@ pub fn make<K: Sink>(count: u32, sink: &mut K) -> Status
     ensures { Wrote K.takes (made_listing count) result sink.old sink.new }
 {
     let tally = tally_of(count);
-    match put_line(sink, tally_line(count, &tally)) {
+    let mut line = tally_line(count, &tally);
+    match put_line(sink, &mut line) {
         Ok(()) => Status::Done,
         Err(_) => Status::WriteFault,
     }

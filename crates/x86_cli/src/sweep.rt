@@ -4,11 +4,13 @@ ghost use Rattle.std.specs.Prelude.{◌≡◌, ◌≢◌, ◌<◌, ◌≤◌, �
 ghost use Rattle.arrayvec.specs.ArrayVec.{array_vec_len};
 ghost use Rattle.x86_cli.specs.Run.{RanInWindow};
 ghost use Rattle.x86_layout.specs.Cuts.{cut_length};
+ghost use Rattle.x86_decode.specs.Instruction.{holding};
 ghost use Rattle.x86_cli.specs.Sweep.{cut_text, sweep_at, ShowsCut};
 
 use crate::laws::decoder_laws;
-use crate::line::{Line, line_of, refusal_of};
+use crate::line::{write_instruction, write_refusal};
 use crate::listing::{end, put_line};
+use crate::room::Line;
 use crate::sink::Sink;
 use crate::source::Source;
 use crate::status::Status;
@@ -17,38 +19,40 @@ use crate::window::Window;
 use x86_decode::{InstDecoder, Instruction};
 use x86_fields::DecodeError;
 
-/// The next cut of a sweep.
+/// The next cut of a sweep. The instruction of a piece stands beside it.
 pub enum Cut {
-    Piece(Result<Instruction, DecodeError>),
+    Piece(Result<(), DecodeError>),
     Ended(Ending),
 }
 
-fn cut_line(place: u64, answer: &Result<Instruction, DecodeError>) -> Line
-    ensures text { result.items ≡ cut_text place answer.now }
-    ensures short { array_vec_len result ≤ 191 }
+/// Writes the line of a cut at a place over another, without its end.
+fn write_cut(line: &mut Line, place: u64, inst: &Instruction, answer: Result<(), DecodeError>)
+    ensures text { line.new.items ≡ cut_text place (holding inst.now answer) }
+    ensures short { array_vec_len line.new ≤ 191 }
 {
     match answer {
-        Ok(instruction) => line_of(place, instruction),
-        Err(error) => refusal_of(place, *error),
+        Ok(()) => write_instruction(line, place, inst),
+        Err(error) => write_refusal(line, place, error),
     }
 }
 
-fn cut_len(answer: &Result<Instruction, DecodeError>) -> u64
-    ensures { result ≡ cut_length answer.now }
+fn cut_len(inst: &Instruction, answer: Result<(), DecodeError>) -> u64
+    ensures { result ≡ cut_length (holding inst.now answer) }
 {
     match answer {
-        Ok(instruction) => instruction.len().to_const(),
+        Ok(()) => inst.len().to_const(),
         Err(_) => 1,
     }
 }
 
-fn next_cut(window: &Window, decoder: &InstDecoder) -> Cut
+/// The next cut. Where it is an instruction, that is written to the one given.
+fn next_cut(window: &Window, decoder: &InstDecoder, inst: &mut Instruction) -> Cut
     requires { window.now.ended ≡ None → array_vec_len window.now.bytes ≡ 15 }
-    ensures { ShowsCut decoder.now.strict result window.now.ended window.now.bytes.items window.now.reader.place window.now.reader.room }
+    ensures { ShowsCut decoder.now.strict inst.new result window.now.ended window.now.bytes.items window.now.reader.place window.now.reader.room }
 {
     if !window.bytes.is_empty() {
         decoder_laws();
-        return Cut::Piece(decoder.decode_slice(window.bytes.as_slice()));
+        return Cut::Piece(decoder.decode_slice_into(inst, window.bytes.as_slice()));
     }
     match window.ended {
         Some(ending) => Cut::Ended(ending),
@@ -68,16 +72,19 @@ pub fn sweep<S: Source, K: Sink>(
     ensures unrefused { result ≢ Status.Refused }
 {
     let mut window = Window::new(max);
+    let mut inst = Instruction::invalid();
+    let mut line = Line::new();
     let mut place = 0u64;
     'cuts: loop {
         window.refill(source);
-        match next_cut(&window, decoder) {
+        match next_cut(&window, decoder, &mut inst) {
             Cut::Piece(answer) => {
-                match put_line(sink, cut_line(place, &answer)) {
+                write_cut(&mut line, place, &inst, answer);
+                match put_line(sink, &mut line) {
                     Ok(()) => {}
                     Err(_) => return Status::WriteFault,
                 }
-                let length = cut_len(&answer);
+                let length = cut_len(&inst, answer);
                 window.leave(length as usize);
                 place += length;
             }

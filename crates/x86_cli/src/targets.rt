@@ -8,8 +8,8 @@ ghost use Rattle.x86_cli.specs.Run.{Ran, Took};
 ghost use Rattle.x86_cli.specs.Targets.{place_line, lines_if, targets_at};
 ghost use Rattle.x86_cli.specs.Window.{Fills};
 
-use crate::line::{Line, push_number};
 use crate::listing::{end, put_line};
+use crate::room::Line;
 use crate::sink::{Sink, SinkFailed};
 use crate::source::Source;
 use crate::status::Status;
@@ -56,7 +56,7 @@ fn place_line(place: u64) -> Line
     ensures short { array_vec_len result ≤ 191 }
 {
     let mut line = Line::new();
-    push_number(&mut line, place);
+    line.push_u64(place);
     line
 }
 
@@ -66,7 +66,8 @@ fn put_if_marked<K: Sink>(sink: &mut K, marked: bool, place: u64) -> Result<(), 
     ensures failed { IfErr result (λ e. (marked ≡ true) × K.takes sink.old (place_line place) (Err e) sink.new) }
 {
     if marked {
-        put_line(sink, place_line(place))
+        let mut line = place_line(place);
+        put_line(sink, &mut line)
     } else {
         Ok(())
     }

@@ -6,7 +6,8 @@ ghost use Rattle.x86_decode.specs.Answer.{answer_of};
 ghost use Rattle.x86_layout.specs.Least.{least_of};
 ghost use Rattle.x86_cli.specs.Tighten.{least_text};
 
-use crate::line::{Line, Lines, push_bytes, push_number};
+use crate::line::Lines;
+use crate::room::Line;
 use x86_decode::{InstDecoder, Instruction};
 use x86_layout::tighten;
 
@@ -16,15 +17,16 @@ pub struct LeastLines;
 impl Lines for LeastLines {
     ghost text = { λ s strict place instruction bytes. least_text place instruction.length (least_of strict bytes) };
 
-    fn line(
+    fn write(
         &self,
         decoder: &InstDecoder,
         place: u64,
         instruction: &Instruction,
         bytes: &[u8],
-    ) -> Line {
+        line: &mut Line,
+    ) {
         let least = least_length(decoder, instruction, bytes);
-        least_line(place, instruction.len().to_const(), least)
+        write_least(line, place, instruction.len().to_const(), least);
     }
 }
 
@@ -39,19 +41,18 @@ fn least_length(decoder: &InstDecoder, instruction: &Instruction, bytes: &[u8]) 
     }
 }
 
-/// The line of an encoding at a place, without its end: the place, how many bytes the encoding has, and how many a shortest relative has.
+/// Writes the line of an encoding at a place over another, without its end: the place, how many bytes the encoding has, and how many a shortest relative has.
 ///
 /// For `48 8b 84 25 00 00 00 00` at place 0 this is `0 8 4`.
 #[tactic(auto, unfolding(crate::specs::Tighten::least_text))]
-fn least_line(place: u64, length: u64, least: u64) -> Line
-    ensures text { result.items ≡ least_text place length least }
-    ensures short { array_vec_len result ≤ 191 }
+fn write_least(line: &mut Line, place: u64, length: u64, least: u64)
+    ensures text { line.new.items ≡ least_text place length least }
+    ensures short { array_vec_len line.new ≤ 191 }
 {
-    let mut line = Line::new();
-    push_number(&mut line, place);
-    push_bytes(&mut line, b" ");
-    push_number(&mut line, length);
-    push_bytes(&mut line, b" ");
-    push_number(&mut line, least);
-    line
+    line.clear();
+    line.push_u64(place);
+    line.push(b' ');
+    line.push_u64(length);
+    line.push(b' ');
+    line.push_u64(least);
 }

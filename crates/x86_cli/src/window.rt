@@ -3,8 +3,10 @@
 ghost use Rattle.std.specs.Prelude.{◌≡◌, ℕ, ◌+◌, ◌<◌, ◌≤◌, List, [], length, take, drop, None, Some, MatchOption};
 ghost use Rattle.arrayvec.specs.ArrayVec.{array_vec_len};
 ghost use Rattle.x86_cli.specs.declared.text.Stop.{Stop};
+ghost use Rattle.x86_decode.specs.declared.instructions.Instruction.{Instruction};
+ghost use Rattle.x86_decode.specs.Instruction.{holding};
 ghost use Rattle.x86_cli.specs.Listing.{front_of, judged, sure_of};
-ghost use Rattle.x86_cli.specs.Window.{rest_of, Fills, Shows};
+ghost use Rattle.x86_cli.specs.Window.{rest_of, front_with, Fills, Shows};
 
 use crate::held::Held;
 use crate::laws::decoder_laws;
@@ -13,28 +15,28 @@ use crate::text::{Ending, Piece, TextReader};
 use x86_decode::{InstDecoder, Instruction};
 use x86_fields::DecodeError;
 
-/// What stands at the front of an image.
+/// What stands at the front of an image. In contracts `I` is the instruction; in code it is `()`, and the instruction stands beside it.
 #[derive(Clone, Copy, Drop)]
-pub enum Front {
-    Whole(Instruction),
+pub enum Front<I> {
+    Whole(I),
     Refused(DecodeError),
     Ended(Ending),
 }
 
-fn sure(answer: Result<Instruction, DecodeError>) -> Front
-    ensures { result ≡ sure_of answer }
+fn sure(answer: Result<(), DecodeError>) -> Front<()>
+    ensures { (i : Instruction) → front_with i result ≡ sure_of (holding i answer) }
 {
     match answer {
-        Ok(instruction) => Front::Whole(instruction),
+        Ok(()) => Front::Whole(()),
         Err(error) => Front::Refused(error),
     }
 }
 
-fn judge(answer: Result<Instruction, DecodeError>, ending: Ending) -> Front
-    ensures { result ≡ judged answer ending }
+fn judge(answer: Result<(), DecodeError>, ending: Ending) -> Front<()>
+    ensures { (i : Instruction) → front_with i result ≡ judged (holding i answer) ending }
 {
     match answer {
-        Ok(instruction) => Front::Whole(instruction),
+        Ok(()) => Front::Whole(()),
         Err(DecodeError::ExhaustedInput) => match ending {
             Ending::Clean => Front::Refused(DecodeError::ExhaustedInput),
             Ending::Bad(place) => Front::Ended(Ending::Bad(place)),
@@ -106,16 +108,16 @@ impl Window {
         }
     }
 
-    /// What stands at the front of the image that is left.
-    pub fn front(&self, decoder: &InstDecoder) -> Front
+    /// What stands at the front of the image that is left. Where it is an instruction, that is written to the one given.
+    pub fn front(&self, decoder: &InstDecoder, inst: &mut Instruction) -> Front<()>
         requires { self.now.ended ≡ None → array_vec_len self.now.bytes ≡ 15 }
         ensures rest { (xs : List ℕ) (stop : Stop) →
             let rest = rest_of self.now.ended self.now.bytes.items self.now.reader.place self.now.reader.room xs stop in
-            front_of decoder.now.strict rest.image rest.ending ≡ result }
-        ensures shows { Shows decoder.now.strict result self.now.ended self.now.bytes.items }
+            front_of decoder.now.strict rest.image rest.ending ≡ front_with inst.new result }
+        ensures shows { Shows decoder.now.strict (front_with inst.new result) self.now.ended self.now.bytes.items }
     {
         decoder_laws();
-        let answer = decoder.decode_slice(self.bytes.as_slice());
+        let answer = decoder.decode_slice_into(inst, self.bytes.as_slice());
         match self.ended {
             None => sure(answer),
             Some(ending) => {

@@ -2,8 +2,8 @@ use Rattle.std.proofs.Common.{◌∙◌, ap, length, arith}
 use Rattle.x86_cli.proofs.LineLaws.{description_short}
 use Rattle.x86_cli.proofs.line.push_description.Goals as goal
 
-pub push_bytes-requires : goal.push_bytes-requires
-push_bytes-requires c = omega (arith, c.requires, description_short c.args.error, ap length (c.as_bytes.ensures.value ∙ c.description.ensures))
+pub extend-requires : goal.extend-requires
+extend-requires c = omega (arith, c.requires, description_short c.args.error, ap length (c.as_bytes.ensures.value ∙ c.description.ensures))
 
 pub returns-clause-short : goal.returns-clause-short
-returns-clause-short c = omega (arith, c.push_bytes.ensures.len, description_short c.args.error, ap length (c.as_bytes.ensures.value ∙ c.description.ensures))
+returns-clause-short c = omega (arith, c.extend.ensures.len, description_short c.args.error, ap length (c.as_bytes.ensures.value ∙ c.description.ensures))

@@ -4,4 +4,4 @@ use Rattle.x86_cli.proofs.line.push_size.Goals as goal
 
 pub returns-in-None-clause-text : goal.returns-in-None-clause-text
 returns-in-None-clause-text c =
-    c.push_number.ensures.text ∙ ap (λ t. c.args.line.now.items ++ t) (sym (no_size c.args.instruction.now.given.mem_size _ _ c.mem_size.ensures c.in-None.is))
+    c.push_u8.ensures.text ∙ ap (λ t. c.args.line.now.items ++ t) (sym (no_size c.args.instruction.now.given.mem_size _ _ c.mem_size.ensures c.in-None.is))

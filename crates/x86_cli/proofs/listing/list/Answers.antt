@@ -19,10 +19,10 @@ pub lines-preserved : goal.lines-preserved
 lines-preserved g c =
     let s = stands_refill g.S.Source.gives g.K.Sink.takes (listing_at c.args.decoder.now.strict (g.L.Lines.text c.args.lines.now c.args.decoder.now.strict)) reaches _ _ _ _ _ _ _ _ _ c.lines.invariant.stands c.refill.ensures.cases in
     let shows = c.in-Whole.ensures.shows in
-    let is = c.line-text.ensures.text ∙ ap (g.L.Lines.text c.args.lines.now c.args.decoder.now.strict c.lines.place c.in-Whole.instruction) (rw c.length_of-length.ensures at c.first.ensures) in
+    let is = c.write.ensures.text ∙ ap (g.L.Lines.text c.args.lines.now c.args.decoder.now.strict c.lines.place c.front.new.inst) (rw c.length_of-length.ensures at c.first-bytes.ensures) in
     record {
       stands = rw (c.leave.ensures.ended, c.leave.ensures.reader, c.length_of-length.ensures)
-          (list_line c.args.decoder.now.strict (g.L.Lines.text c.args.lines.now c.args.decoder.now.strict) g.S.Source.gives g.K.Sink.takes _ _ _ _ _ _ _ _ _ _ s c.in-Whole.instruction shows.0 shows.1 c.in-Whole.ensures.rest _ is _ _ (rw c.length_of-length.ensures at c.leave.ensures.bytes) c.in-Ok.ensures);
+          (list_line c.args.decoder.now.strict (g.L.Lines.text c.args.lines.now c.args.decoder.now.strict) g.S.Source.gives g.K.Sink.takes _ _ _ _ _ _ _ _ _ _ s c.front.new.inst shows.0 shows.1 c.in-Whole.ensures.rest _ is _ _ (rw c.length_of-length.ensures at c.leave.ensures.bytes) c.in-Ok.ensures);
       few = omega (arith, simp length-drop at (ap length c.leave.ensures.bytes), c.refill.ensures.few c.lines.invariant.few);
       fits = omega (arith, simp length-drop at (ap length c.leave.ensures.bytes), ap (λ r. r.room) c.leave.ensures.reader, c.refill.ensures.uses, c.lines.invariant.fits, shows.1, c.length_of-length.ensures);
     }
@@ -31,8 +31,8 @@ pub returns-in-Err : goal.returns-in-Err
 returns-in-Err g c =
     let s = stands_refill g.S.Source.gives g.K.Sink.takes (listing_at c.args.decoder.now.strict (g.L.Lines.text c.args.lines.now c.args.decoder.now.strict)) reaches _ _ _ _ _ _ _ _ _ c.lines.invariant.stands c.refill.ensures.cases in
     let shows = c.in-Whole.ensures.shows in
-    let is = c.line-text.ensures.text ∙ ap (g.L.Lines.text c.args.lines.now c.args.decoder.now.strict c.lines.place c.in-Whole.instruction) (rw c.length_of-length.ensures at c.first.ensures) in
-    list_failed c.args.decoder.now.strict (g.L.Lines.text c.args.lines.now c.args.decoder.now.strict) g.S.Source.gives g.K.Sink.takes _ _ _ _ _ _ _ _ _ _ s c.in-Whole.instruction shows.0 shows.1 c.in-Whole.ensures.rest _ is _ (c.refill.ensures.few c.lines.invariant.few) _ c.in-Err.ensures
+    let is = c.write.ensures.text ∙ ap (g.L.Lines.text c.args.lines.now c.args.decoder.now.strict c.lines.place c.front.new.inst) (rw c.length_of-length.ensures at c.first-bytes.ensures) in
+    list_failed c.args.decoder.now.strict (g.L.Lines.text c.args.lines.now c.args.decoder.now.strict) g.S.Source.gives g.K.Sink.takes _ _ _ _ _ _ _ _ _ _ s c.front.new.inst shows.0 shows.1 c.in-Whole.ensures.rest _ is _ (c.refill.ensures.few c.lines.invariant.few) _ c.in-Err.ensures
 
 pub returns-in-Ok-refuse : goal.returns-in-Ok-refuse
 returns-in-Ok-refuse g c =
@@ -54,7 +54,7 @@ returns-in-Err-end g c =
     let s = stands_refill g.S.Source.gives g.K.Sink.takes (listing_at c.args.decoder.now.strict (g.L.Lines.text c.args.lines.now c.args.decoder.now.strict)) reaches _ _ _ _ _ _ _ _ _ c.lines.invariant.stands c.refill.ensures.cases in
     list_unended c.args.decoder.now.strict (g.L.Lines.text c.args.lines.now c.args.decoder.now.strict) g.S.Source.gives g.K.Sink.takes _ _ _ _ _ _ _ _ _ _ s (c.refill.ensures.few c.lines.invariant.few) c.in-Ended.ending c.in-Ended.ensures.rest c.in-Err-end.field-0 _ c.in-Err-end.ensures
 
-pub line-text-requires : goal.line-text-requires
-line-text-requires g c =
-    let taken = rw c.length_of-length.ensures at c.first.ensures in
-    rw taken (shown_answer c.args.decoder.now.strict (c.decoder_laws.ensures _) None c.refill.new.self.bytes.items c.in-Whole.instruction c.in-Whole.ensures.shows)
+pub write-requires : goal.write-requires
+write-requires g c =
+    let taken = rw c.length_of-length.ensures at c.first-bytes.ensures in
+    rw taken (shown_answer c.args.decoder.now.strict (c.decoder_laws.ensures _) None c.refill.new.self.bytes.items c.front.new.inst c.in-Whole.ensures.shows)

@@ -5,7 +5,7 @@ use Rattle.x86_cli.proofs.make.make.Goals as goal
 
 pub returns-in-Ok : goal.returns-in-Ok
 returns-in-Ok g c =
-    let text : c.tally_line.result.items ≡ tally_text c.args.count (tally_of c.args.count) = c.tally_line.ensures.text ∙ ap (tally_text c.args.count) c.tally_of-tally.ensures in
+    let text : c.tally_line-line.result.items ≡ tally_text c.args.count (tally_of c.args.count) = c.tally_line-line.ensures.text ∙ ap (tally_text c.args.count) c.tally_of-tally.ensures in
     record {
       lines = line (tally_text c.args.count (tally_of c.args.count)) ∷ [];
       failed = None;
@@ -15,7 +15,7 @@ returns-in-Ok g c =
 
 pub returns-in-Err : goal.returns-in-Err
 returns-in-Err g c =
-    let text : c.tally_line.result.items ≡ tally_text c.args.count (tally_of c.args.count) = c.tally_line.ensures.text ∙ ap (tally_text c.args.count) c.tally_of-tally.ensures in
+    let text : c.tally_line-line.result.items ≡ tally_text c.args.count (tally_of c.args.count) = c.tally_line-line.ensures.text ∙ ap (tally_text c.args.count) c.tally_of-tally.ensures in
     record {
       lines = [];
       failed = Some (line (tally_text c.args.count (tally_of c.args.count)));

@@ -1,5 +1,6 @@
 use Rattle.std.proofs.Common.{◌≡◌, ◌+◌, ℕ, suc, length, false, refl, sym, ap, subst, ◌∙◌, add-one, arith}
 use Rattle.x86_decode.specs.Answer.{answer_of}
+use Rattle.x86_decode.specs.Instruction.{holding}
 use Rattle.x86_cli.specs.declared.make.Tally.{Tally}
 use Rattle.x86_cli.specs.Make.{made, tally_of, one_if, answer_has, is_at_rip, is_absolute}
 use Rattle.x86_cli.proofs.make.tally_of.Goals as goal
@@ -28,8 +29,8 @@ pub loop-i-preserved : goal.loop-i-preserved
 loop-i-preserved c =
     let i : ℕ = c.loop-i.i in
     let bytes : c.as_slice.result.now ≡ made i = c.as_slice.ensures.value ∙ c.generate-encoding.ensures in
-    let answer : c.decode_slice-answer.result ≡ answer_of false (made i) =
-    c.decode_slice-answer.ensures.value ∙ ap (λ s. answer_of s c.as_slice.result.now) c.default-decoder.ensures ∙ ap (answer_of false) bytes in
+    let answer : holding c.decode_slice_into-answer.new.inst c.decode_slice_into-answer.result ≡ answer_of false (made i) =
+    c.decode_slice_into-answer.ensures.value ∙ ap (λ s. answer_of s c.as_slice.result.now) c.default-decoder.ensures ∙ ap (answer_of false) bytes in
     record {
       counted = next i c.loop-i.bytes c.loop-i.at_rip c.loop-i.absolute c.len.result c.one_at_rip-at_rip.result c.one_absolute-absolute.result c.loop-i.invariant.counted
           (c.len.ensures.value ∙ ap length c.generate-encoding.ensures)

@@ -1,4 +1,5 @@
 use Rattle.std.proofs.Common.{refl, arith, length, ap, length-drop}
+use Rattle.x86_decode.specs.Instruction.{holding}
 use Rattle.x86_cli.specs.Line.{line}
 use Rattle.x86_cli.specs.Sweep.{cut_text, sweep_at}
 use Rattle.x86_cli.proofs.Stands.{stands_new, stands_refill, rest_is}
@@ -21,8 +22,8 @@ cuts-preserved g c =
     let shows = c.in-Piece.ensures in
     record {
       stands = rw (c.leave.ensures.ended, c.leave.ensures.reader, c.leave.ensures.bytes, c.cut_len-length.ensures)
-          (stands_line g.S.Source.gives g.K.Sink.takes (sweep_at c.args.decoder.now.strict) _ _ _ _ _ _ _ _ _ _ s (line (cut_text c.cuts.place c.in-Piece.answer)) _ shows.1 (rest_cut c.args.decoder.now.strict _ _ _ _ _ c.in-Piece.answer shows) _
-          (rw c.cut_line.ensures.text at c.in-Ok.ensures));
+          (stands_line g.S.Source.gives g.K.Sink.takes (sweep_at c.args.decoder.now.strict) _ _ _ _ _ _ _ _ _ _ s (line (cut_text c.cuts.place (holding c.next_cut.new.inst c.in-Piece.answer))) _ shows.1 (rest_cut c.args.decoder.now.strict _ _ _ _ _ (holding c.next_cut.new.inst c.in-Piece.answer) shows) _
+          (rw c.write_cut.ensures.text at c.in-Ok.ensures));
       few = omega (arith, simp length-drop at (ap length c.leave.ensures.bytes), c.refill.ensures.few c.cuts.invariant.few);
       fits = omega (arith, simp length-drop at (ap length c.leave.ensures.bytes), ap (λ r. r.room) c.leave.ensures.reader, c.refill.ensures.uses, c.cuts.invariant.fits, shows.1, c.cut_len-length.ensures);
     }
@@ -30,8 +31,8 @@ cuts-preserved g c =
 pub returns-in-Err-clause-ran : goal.returns-in-Err-clause-ran
 returns-in-Err-clause-ran g c =
     let s = stands_refill g.S.Source.gives g.K.Sink.takes (sweep_at c.args.decoder.now.strict) reaches _ _ _ _ _ _ _ _ _ c.cuts.invariant.stands c.refill.ensures.cases in
-    window_failed g.S.Source.gives g.K.Sink.takes (sweep_at c.args.decoder.now.strict) _ _ _ _ _ _ _ _ _ _ s (c.refill.ensures.few c.cuts.invariant.few) (line (cut_text c.cuts.place c.in-Piece.answer))
-    (λ xs stop. (_, rest_cut c.args.decoder.now.strict _ _ _ _ _ c.in-Piece.answer c.in-Piece.ensures xs stop)) _ _ (rw c.cut_line.ensures.text at c.in-Err.ensures)
+    window_failed g.S.Source.gives g.K.Sink.takes (sweep_at c.args.decoder.now.strict) _ _ _ _ _ _ _ _ _ _ s (c.refill.ensures.few c.cuts.invariant.few) (line (cut_text c.cuts.place (holding c.next_cut.new.inst c.in-Piece.answer)))
+    (λ xs stop. (_, rest_cut c.args.decoder.now.strict _ _ _ _ _ (holding c.next_cut.new.inst c.in-Piece.answer) c.in-Piece.ensures xs stop)) _ _ (rw c.write_cut.ensures.text at c.in-Err.ensures)
 
 pub returns-in-Ok-end-clause-ran : goal.returns-in-Ok-end-clause-ran
 returns-in-Ok-end-clause-ran g c =

@@ -7,5 +7,4 @@ split held s rest n same e = sym (take-append-drop n held) ∙ ap (λ s. take n 
 
 pub returns-clause-bytes : goal.returns-clause-bytes
 returns-clause-bytes g c =
-    let moved = append_known-moved _ _ _ _ _ c.send_out-sent.ensures.bytes (split _ _ _ c.send_out-sent.result.0 c.as_slice.ensures.value c.leave.ensures.bytes) in
-    rw c.leave.ensures.writer moved
+    append_known-moved _ _ _ _ _ c.send_out-sent.ensures.bytes (split _ _ _ c.send_out-sent.result.0 c.as_slice.ensures c.leave.ensures)

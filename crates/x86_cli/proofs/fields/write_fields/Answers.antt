@@ -2,7 +2,7 @@ use Rattle.std.proofs.Common.{◌≡◌, ℕ, List, ◌++◌, length, codes, dec
 use Rattle.std.specs.List.{flat_map, sum_by}
 use Rattle.x86_layout.specs.Parts.{PartLists, lists_of}
 use Rattle.x86_cli.specs.Fields.{in_order, spaced, fields_text}
-use Rattle.x86_cli.proofs.fields.fields_line.Goals as goal
+use Rattle.x86_cli.proofs.fields.write_fields.Goals as goal
 
 -- eight parts, one behind the other
 all_parts : (f : List ℕ → List ℕ) (p : PartLists) (l0 l1 l2 l3 l4 l5 l6 l7 l8 : List ℕ) →
@@ -15,9 +15,9 @@ pub returns-clause-text : goal.returns-clause-text
 unfolding fields_text
 returns-clause-text c =
     let p : PartLists = lists_of c.args.parts.now in
-    let start : c.push_bytes.new.line.items ≡ decimal c.args.place ++ codes " " =
-    c.push_bytes.ensures.text ∙ ap (λ l. l ++ codes " ") (c.push_number.ensures.text ∙ ap (λ l. l ++ decimal c.args.place) c.new-line.ensures) in
+    let start : c.push.new.self.items ≡ decimal c.args.place ++ codes " " =
+    c.push.ensures.text ∙ ap (λ l. l ++ codes " ") (c.push_u64.ensures.text ∙ ap (λ l. l ++ decimal c.args.place) c.clear.ensures) in
     all_parts spaced p _ _ _ _ _ _ _ _ _ c.push_part.ensures.text c.push_part-2.ensures.text c.push_part-3.ensures.text c.push_part-4.ensures.text
     c.push_part-5.ensures.text c.push_part-6.ensures.text c.push_part-7.ensures.text c.push_part-8.ensures.text
     ∙ ap (λ l. l ++ flat_map spaced (in_order p))
-    (c.push_number-2.ensures.text ∙ ap (λ n. c.push_bytes.new.line.items ++ decimal n) c.length_of.ensures ∙ ap (λ l. l ++ decimal (sum_by length (in_order p))) start)
+    (c.push_u64-2.ensures.text ∙ ap (λ n. c.push.new.self.items ++ decimal n) c.length_of.ensures ∙ ap (λ l. l ++ decimal (sum_by length (in_order p))) start)
