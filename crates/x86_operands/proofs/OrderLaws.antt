@@ -51,7 +51,7 @@ pub data Named : Order → Type 0 where
   e_g_i_named : Named (record { count = 3; reg = Second; rm = First; last = Third })
   g_e_i_named : Named (record { count = 3; reg = First; rm = Second; last = Third })
 
-named_of : (a b c : Place) (n : ℕ) → is_order_of a b c n ≡ true → Named (record { count = n; reg = a; rm = b; last = c })
+pub named_of : (a b c : Place) (n : ℕ) → is_order_of a b c n ≡ true → Named (record { count = n; reg = a; rm = b; last = c })
 named_of Nowhere Nowhere Nowhere n h = rw (eqb-true n 0 h) no_named
 named_of Nowhere Nowhere First n h = rw (eqb-true n 1 h) i_named
 named_of First Nowhere Nowhere n h = rw (eqb-true n 1 h) r_named

@@ -2,9 +2,11 @@
 ghost use Rattle.std.specs.Prelude.{◌≡◌, ◌≤◌};
 ghost use Rattle.x86_fields.specs.Pieces.{option_bytes};
 ghost use Rattle.x86_operands.specs.Pieces.{immediate_width, modrm_of};
-ghost use Rattle.x86_operands.specs.Asks.{asks_modrm, asks_suffix, immediates_width, used, plan_ask};
+ghost use Rattle.x86_operands.specs.Asks.{asks_modrm, asks_suffix, encoding_ask, immediates_width, used, plan_ask};
 
+use crate::encodings::Encoding;
 use crate::plans::{Fault, ModrmUse, Plan, Sign, Signs, Verdict, memory_form};
+use x86_fields::Prefixes;
 
 /// Which parts of an encoding a row asks behind its opcode byte. Whether there is a SIB, and how long the displacement of a memory
 /// form is, ModRM and SIB tell (Intel SDM volume 2, section 2.1.5).
@@ -98,5 +100,23 @@ pub fn plan_ask(usage: ModrmUse, modrm: u8, plan: &Plan) -> Ask
         memory: memory_form(modrm),
         immediate: width_of_all(plan.signs),
         suffix: has_suffix(plan.verdict),
+    }
+}
+
+/// What a line of the operand encodings asks at a ModRM byte that is used so.
+#[inline(always)]
+pub fn encoding_ask(encoding: &Encoding, prefixes: &Prefixes, modrm: u8) -> Ask
+    ensures { result ≡ encoding_ask encoding.now prefixes.now modrm }
+{
+    let immediate = if encoding.order.last.is_somewhere() {
+        width(encoding.last.sign(prefixes))
+    } else {
+        0
+    };
+    Ask {
+        modrm: has_modrm(encoding.modrm_use()),
+        memory: memory_form(modrm),
+        immediate,
+        suffix: false,
     }
 }

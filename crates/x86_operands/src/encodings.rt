@@ -191,7 +191,8 @@ impl Last {
         }
     }
 
-    fn sign(self, prefixes: &Prefixes) -> Sign
+    /// What the last operand asks.
+    pub fn sign(self, prefixes: &Prefixes) -> Sign
         ensures { result ≡ last_sign self prefixes.now }
     {
         match self {
