@@ -11,7 +11,7 @@ ghost use Rattle.x86_cli.specs.Fields.{in_order, spaced, fields_text};
 use crate::line::Lines;
 use crate::room::Line;
 use x86_decode::{InstDecoder, Instruction};
-use x86_layout::{Parts, split};
+use x86_layout::{Parts, split_decoded};
 
 /// The lines of `fields`, which show the parts of each encoding.
 pub struct FieldLines;
@@ -23,14 +23,11 @@ impl Lines for FieldLines {
         &self,
         decoder: &InstDecoder,
         place: u64,
-        _instruction: &Instruction,
+        instruction: &Instruction,
         bytes: &[u8],
         line: &mut Line,
     ) {
-        match split(decoder, bytes) {
-            Ok(parts) => write_fields(line, place, &parts),
-            Err(_) => unreachable!(),
-        }
+        write_fields(line, place, &split_decoded(decoder, instruction, bytes));
     }
 }
 

@@ -2,14 +2,13 @@
 
 ghost use Rattle.std.specs.Prelude.{◌≡◌, ◌+◌, ◌≤◌, ◌++◌, length, codes};
 ghost use Rattle.arrayvec.specs.ArrayVec.{array_vec_len};
-ghost use Rattle.x86_decode.specs.Answer.{answer_of};
 ghost use Rattle.x86_layout.specs.Least.{least_of};
 ghost use Rattle.x86_cli.specs.Tighten.{least_text};
 
 use crate::line::Lines;
 use crate::room::Line;
 use x86_decode::{InstDecoder, Instruction};
-use x86_layout::tighten;
+use x86_layout::shortest_length;
 
 /// The lines of `tighten`, which show how short each encoding could be.
 pub struct LeastLines;
@@ -25,19 +24,8 @@ impl Lines for LeastLines {
         bytes: &[u8],
         line: &mut Line,
     ) {
-        let least = least_length(decoder, instruction, bytes);
+        let least = shortest_length(decoder, instruction, bytes);
         write_least(line, place, instruction.len().to_const(), least);
-    }
-}
-
-/// How many bytes a shortest relative of an instruction has, and the instruction itself where it has none to seek.
-fn least_length(decoder: &InstDecoder, instruction: &Instruction, bytes: &[u8]) -> u64
-    requires { answer_of decoder.now.strict bytes.now ≡ Ok instruction.now }
-    ensures { result ≡ least_of decoder.now.strict bytes.now }
-{
-    match tighten(decoder, bytes) {
-        Ok(encoding) => encoding.len() as u64,
-        Err(_) => instruction.len().to_const(),
     }
 }
 

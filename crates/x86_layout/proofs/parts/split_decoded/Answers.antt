@@ -2,7 +2,7 @@ use Rattle.std.proofs.Common.{◌≡◌, ◌≤◌, arith, ◌++◌, length, Ok,
 use Rattle.x86_fields.specs.Run.{reading_of}
 use Rattle.x86_forms.specs.Words.{rows_of, word_at}
 use Rattle.x86_decode.specs.Head.{seen}
-use Rattle.x86_decode.specs.Grammar.{IsAccepted}
+use Rattle.x86_decode.specs.Grammar.{IsAccepted, IsAnswer}
 use Rattle.x86_decode.specs.Answer.{answer_of, count_of}
 use Rattle.x86_layout.specs.Parts.{lists_of, Encoding, record_in, HasParts}
 use Rattle.x86_layout.proofs.PartLaws.{front_is}
@@ -10,15 +10,15 @@ use Rattle.x86_layout.specs.Front.{parts_of}
 use Rattle.x86_layout.proofs.LengthLaws.{lengths_of}
 use Rattle.x86_layout.proofs.FrontLaws.{parts_are, parts_once}
 use Rattle.x86_layout.proofs.SplitLaws.{joined_is}
-use Rattle.x86_layout.proofs.parts.split.Goals as goal
+use Rattle.x86_layout.proofs.parts.split_decoded.Goals as goal
 
 pub returns-clause-pieces : goal.returns-clause-pieces
 returns-clause-pieces c =
     let strict = c.args.decoder.now.strict in
     let bytes = c.args.bytes.now in
-    let instruction = c.in_ok-instruction.instruction in
-    let value : answer_of strict bytes ≡ Ok instruction = sym c.in_ok-instruction.ensures.value in
-    let accepted : IsAccepted (rows_of word_at) strict bytes instruction (count_of strict bytes) = c.in_ok-instruction.ensures.answer in
+    let instruction = c.args.instruction.now in
+    let value : answer_of strict bytes ≡ Ok instruction = c.requires.decoded in
+    let accepted : IsAccepted (rows_of word_at) strict bytes instruction (count_of strict bytes) = subst (λ r. IsAnswer (rows_of word_at) strict bytes r (count_of strict bytes)) value (c.answer_is.ensures.there strict bytes) in
     let counted : instruction.length ≡ count_of strict bytes = c.lengths.ensures.counted strict bytes instruction value in
     let n : c.to_const.result ≡ length accepted.sentence = c.to_const.ensures ∙ ap (λ d. d.amount) c.len.ensures ∙ counted ∙ sym accepted.long in
     let front : c.cut.result.0.now ≡ accepted.sentence = c.cut.ensures.front ∙ front_is bytes accepted.sentence accepted.rest c.to_const.result accepted.begins n in
