@@ -8,9 +8,7 @@ ghost use Rattle.x86_decode.specs.Instruction.{holding};
 ghost use Rattle.x86_cli.specs.Sweep.{cut_text, sweep_at, ShowsCut};
 
 use crate::laws::decoder_laws;
-use crate::line::{write_instruction, write_refusal};
 use crate::listing::{end, put_line};
-use crate::room::Line;
 use crate::sink::Sink;
 use crate::source::Source;
 use crate::status::Status;
@@ -18,6 +16,7 @@ use crate::text::Ending;
 use crate::window::Window;
 use x86_decode::{InstDecoder, Instruction};
 use x86_fields::DecodeError;
+use x86_text::{LINE_MAX, Line, write_instruction, write_refusal};
 
 /// The next cut of a sweep. The instruction of a piece stands beside it.
 pub enum Cut {
@@ -28,7 +27,7 @@ pub enum Cut {
 /// Writes the line of a cut at a place over another, without its end.
 fn write_cut(line: &mut Line, place: u64, inst: &Instruction, answer: Result<(), DecodeError>)
     ensures text { line.new.items ≡ cut_text place (holding inst.now answer) }
-    ensures short { array_vec_len line.new ≤ 191 }
+    ensures short { array_vec_len line.new ≤ LINE_MAX }
 {
     match answer {
         Ok(()) => write_instruction(line, place, inst),

@@ -7,9 +7,9 @@ ghost use Rattle.x86_layout.specs.Least.{least_of};
 ghost use Rattle.x86_cli.specs.Tighten.{least_text};
 
 use crate::line::Lines;
-use crate::room::Line;
 use x86_decode::{InstDecoder, Instruction};
 use x86_layout::tighten;
+use x86_text::{LINE_MAX, Line};
 
 /// The lines of `tighten`, which show how short each encoding could be.
 pub struct LeastLines;
@@ -47,7 +47,7 @@ fn least_length(decoder: &InstDecoder, instruction: &Instruction, bytes: &[u8]) 
 #[tactic(auto, unfolding(crate::specs::Tighten::least_text))]
 fn write_least(line: &mut Line, place: u64, length: u64, least: u64)
     ensures text { line.new.items ≡ least_text place length least }
-    ensures short { array_vec_len line.new ≤ 191 }
+    ensures short { array_vec_len line.new ≤ LINE_MAX }
 {
     line.clear();
     line.push_u64(place);
