@@ -21,8 +21,8 @@ use Rattle.x86_cli.specs.declared.status.Status.TheVariants.{Done, Usage}
 use Rattle.x86_cli.specs.declared.command.Command.{Command}
 use Rattle.x86_cli.specs.declared.command.Command.TheVariants.{List as Listed, Sweep as Swept, Targets as Targeted, Fields as Fielded, Tighten as Tightened}
 use Rattle.x86_layout.specs.Front.{parts_of}
-use Rattle.x86_cli.specs.Line.{instruction_text}
-use Rattle.x86_cli.specs.Fields.{fields_text}
+use Rattle.x86_text.specs.Lines.{line_text}
+use Rattle.x86_text.specs.Parts.{fields_text}
 use Rattle.x86_cli.specs.Tighten.{least_text}
 use Rattle.x86_layout.specs.Least.{least_of}
 use Rattle.x86_cli.specs.Command.{listing_for}
@@ -65,7 +65,7 @@ module _ (other : Status) (refusal : outcome.Refused ≢ other) (e : Ending) (en
     listing_never n (suc k) (x ∷ xs) = listing_never (n + 1) k xs
 
   pub command_never : (c : Command) (image : List ℕ) → (listing_for c (record { image = image; ending = e })).status ≢ other
-  command_never (Listed strict) image = listing_never strict (λ place instruction bytes. instruction_text place instruction) 0 0 image
+  command_never (Listed strict) image = listing_never strict (λ place instruction bytes. line_text place instruction) 0 0 image
   command_never Fielded image = listing_never false (λ place instruction bytes. fields_text place (parts_of false bytes)) 0 0 image
   command_never Tightened image = listing_never false (λ place instruction bytes. least_text place instruction.length (least_of false bytes)) 0 0 image
   command_never Swept image = end
@@ -171,7 +171,7 @@ module _ (strict : Bool) (laws : DecoderLaws strict) (text : ℕ → Instruction
 -- the listing of a clean text whose image a command goes through
 pub text_done : ((strict : Bool) → DecoderLaws strict) → CompletesTexts
 text_done laws (Listed strict) t clean row =
-    rw (clean, row.whole) (row_done strict (laws strict) (λ place instruction bytes. instruction_text place instruction) 0 row.sentences row.each)
+    rw (clean, row.whole) (row_done strict (laws strict) (λ place instruction bytes. line_text place instruction) 0 row.sentences row.each)
 text_done laws Fielded t clean row =
     rw (clean, row.whole) (row_done false (laws false) (λ place instruction bytes. fields_text place (parts_of false bytes)) 0 row.sentences row.each)
 text_done laws Tightened t clean row =

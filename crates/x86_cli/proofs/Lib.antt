@@ -8,7 +8,6 @@ pub mod ListingLaws
 pub mod Stands
 pub mod Standing
 pub mod Causes
-pub mod LineLaws
 pub mod SweepLaws
 pub mod TargetLaws
 pub mod OutsideLaws

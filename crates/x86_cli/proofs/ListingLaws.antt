@@ -6,7 +6,8 @@ use Rattle.x86_cli.specs.declared.text.Ending.{Ending}
 use Rattle.x86_cli.specs.declared.window.Front.{Front}
 use Rattle.x86_cli.specs.declared.window.Front.TheVariants.{Whole, Refused, Ended}
 use Rattle.x86_cli.specs.declared.status.Status.TheVariants as status
-use Rattle.x86_cli.specs.Line.{line, refusal_text}
+use Rattle.x86_text.specs.Lines.{refusal_text}
+use Rattle.x86_cli.specs.Line.{line}
 use Rattle.x86_cli.specs.Listing.{Listing, with_lines, at_end, front_of, listed, listing_from, LinesLeaveStatus}
 
 module _ (strict : Bool) (text : ℕ → Instruction → List ℕ → List ℕ) where

@@ -15,7 +15,8 @@ use Rattle.x86_cli.specs.declared.text.Stop.{Stop}
 use Rattle.x86_cli.specs.Text.{Text, text_at}
 use Rattle.x86_cli.specs.declared.window.Front.TheVariants.{Whole, Refused, Ended}
 use Rattle.x86_cli.specs.declared.status.Status.TheVariants as outcome
-use Rattle.x86_cli.specs.Line.{line, refusal_text}
+use Rattle.x86_text.specs.Lines.{refusal_text}
+use Rattle.x86_cli.specs.Line.{line}
 use Rattle.x86_cli.specs.Listing.{Listing, with_lines, at_end, front_of, listing_from, listing_at}
 use Rattle.x86_cli.specs.Window.{behind, rest_of}
 use Rattle.x86_cli.proofs.ListingLaws.{listing-whole, listing-refused, listing-ended}

@@ -14,8 +14,9 @@ use Rattle.x86_cli.specs.declared.command.Command.{Command}
 use Rattle.x86_cli.specs.declared.command.Command.TheVariants.{List as Listed, Sweep as Swept, Targets as Targeted, Fields as Fielded, Tighten as Tightened}
 use Rattle.x86_layout.specs.Front.{parts_of}
 use Rattle.x86_layout.specs.Least.{least_of}
-use Rattle.x86_cli.specs.Line.{line, instruction_text}
-use Rattle.x86_cli.specs.Fields.{fields_text}
+use Rattle.x86_text.specs.Lines.{line_text}
+use Rattle.x86_text.specs.Parts.{fields_text}
+use Rattle.x86_cli.specs.Line.{line}
 use Rattle.x86_cli.specs.Tighten.{least_text}
 use Rattle.x86_cli.specs.Command.{listing_for}
 use Rattle.x86_cli.specs.Text.{Text, is_blank, value_of, paired, image_of, text_at, text_of}
@@ -94,7 +95,7 @@ unrefused t fault refused = let e : outcome.ReadFault ≡ outcome.Refused = ap (
 
 module _ (laws : (strict : Bool) → DecoderLaws strict) where
   command_stays : (c : Command) (t t' : Text) → IsFront t.image t'.image → t.ending ≡ Fault → (listing_for c t).status ≡ outcome.Refused → listing_for c t' ≡ listing_for c t
-  command_stays (Listed strict) t t' front fault refused = list_stays strict (laws strict) (λ place instruction bytes. instruction_text place instruction) t t' front fault refused
+  command_stays (Listed strict) t t' front fault refused = list_stays strict (laws strict) (λ place instruction bytes. line_text place instruction) t t' front fault refused
   command_stays Fielded t t' front fault refused = list_stays false (laws false) (λ place instruction bytes. fields_text place (parts_of false bytes)) t t' front fault refused
   command_stays Tightened t t' front fault refused =
       list_stays false (laws false) (λ place instruction bytes. least_text place instruction.length (least_of false bytes)) t t' front fault refused

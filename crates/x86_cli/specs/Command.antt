@@ -10,8 +10,8 @@ use Rattle.x86_cli.specs.Text.{Text, text_of}
 use Rattle.x86_cli.specs.Run.{Ran, Ahead}
 use Rattle.x86_layout.specs.Front.{parts_of}
 use Rattle.x86_layout.specs.Least.{least_of}
-use Rattle.x86_cli.specs.Line.{instruction_text}
-use Rattle.x86_cli.specs.Fields.{fields_text}
+use Rattle.x86_text.specs.Lines.{line_text}
+use Rattle.x86_text.specs.Parts.{fields_text}
 use Rattle.x86_cli.specs.Tighten.{least_text}
 use Rattle.x86_cli.specs.Listing.{Listing, listing_at}
 use Rattle.x86_cli.specs.Sweep.{sweep_at}
@@ -39,7 +39,7 @@ IfCommand words says = IfSome (command_of (map string_bytes words)) says
 
 -- what a command lists of a text that stands from a place on, and of a whole text
 abbrev pub listed_at : Command → ℕ → Text → Listing
-listed_at (Listed strict) place t = listing_at strict (λ place instruction bytes. instruction_text place instruction) place t
+listed_at (Listed strict) place t = listing_at strict (λ place instruction bytes. line_text place instruction) place t
 listed_at Fielded place t = listing_at false (λ place instruction bytes. fields_text place (parts_of false bytes)) place t
 listed_at Tightened place t = listing_at false (λ place instruction bytes. least_text place instruction.length (least_of false bytes)) place t
 listed_at Swept place t = sweep_at false place t

@@ -6,7 +6,6 @@ pub mod Reader
 pub mod Reading
 pub mod Rows
 pub mod Line
-pub mod Fields
 pub mod Listing
 pub mod DecoderLaws
 pub mod Window

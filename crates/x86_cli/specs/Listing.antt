@@ -6,7 +6,8 @@ use Rattle.x86_decode.specs.Answer.{answer_of}
 use Rattle.x86_cli.specs.declared.text.Ending.{Ending}
 use Rattle.x86_cli.specs.declared.text.Ending.TheVariants.{Clean, Bad, Large, Fault}
 use Rattle.x86_cli.specs.Text.{Text}
-use Rattle.x86_cli.specs.Line.{line, refusal_text, bad_text}
+use Rattle.x86_text.specs.Lines.{refusal_text}
+use Rattle.x86_cli.specs.Line.{line, bad_text}
 use Rattle.x86_cli.specs.declared.status.Status.{Status}
 use Rattle.x86_cli.specs.declared.status.Status.TheVariants.{Done, BadText, TooLarge, ReadFault}
 use Rattle.x86_cli.specs.declared.status.Status.TheVariants as status

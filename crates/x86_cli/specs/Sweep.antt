@@ -9,7 +9,8 @@ use Rattle.x86_layout.specs.Cuts.{cut_length, cuts_from}
 use Rattle.x86_cli.specs.declared.text.Ending.{Ending}
 use Rattle.x86_cli.specs.declared.text.Stop.{Stop}
 use Rattle.x86_cli.specs.Text.{Text}
-use Rattle.x86_cli.specs.Line.{line, instruction_text, refusal_text}
+use Rattle.x86_text.specs.Lines.{line_text, refusal_text}
+use Rattle.x86_cli.specs.Line.{line}
 use Rattle.x86_cli.specs.Listing.{Listing, with_lines, at_end}
 use Rattle.x86_cli.specs.Window.{rest_of}
 use Rattle.x86_cli.specs.declared.sweep.Cut.{Cut}
@@ -17,7 +18,7 @@ use Rattle.x86_cli.specs.declared.sweep.Cut.TheVariants.{Piece, Ended}
 
 -- a cut of the sweep: a refusal is a cut of one byte
 abbrev pub cut_text : ℕ → Result Instruction DecodeError → List ℕ
-cut_text place (Ok i) = instruction_text place i
+cut_text place (Ok i) = line_text place i
 cut_text place (Err e) = refusal_text place e
 
 -- the line of a cut of the image

@@ -1,17 +1,12 @@
 //! The lines of the parts of encodings.
 
-ghost use Rattle.std.specs.Prelude.{◌≡◌, ◌+◌, ◌*◌, ◌≤◌, ◌++◌, length, codes};
-ghost use Rattle.std.specs.List.{sum_by};
-ghost use Rattle.arrayvec.specs.ArrayVec.{array_vec_len};
-ghost use Rattle.x86_layout.specs.Parts.{lists_of};
-ghost use Rattle.x86_layout.specs.Fields.{HasFieldLengths};
 ghost use Rattle.x86_layout.specs.Front.{parts_of};
-ghost use Rattle.x86_cli.specs.Fields.{in_order, spaced, fields_text};
+ghost use Rattle.x86_text.specs.Parts.{fields_text};
 
 use crate::line::Lines;
-use crate::room::Line;
 use x86_decode::{InstDecoder, Instruction};
-use x86_layout::{Parts, split_decoded};
+use x86_layout::split_decoded;
+use x86_text::{Line, Place, write_fields};
 
 /// The lines of `fields`, which show the parts of each encoding.
 pub struct FieldLines;
@@ -22,75 +17,11 @@ impl Lines for FieldLines {
     fn write(
         &self,
         decoder: &InstDecoder,
-        place: u64,
+        place: &Place,
         instruction: &Instruction,
         bytes: &[u8],
         line: &mut Line,
     ) {
         write_fields(line, place, &split_decoded(decoder, instruction, bytes));
     }
-}
-
-/// How many bytes the parts have together.
-fn length_of(parts: &Parts) -> usize
-    requires { HasFieldLengths (lists_of parts.now) }
-    ensures { result ≡ sum_by length (in_order (lists_of parts.now)) }
-{
-    parts.prefixes.len()
-        + parts.escape.len()
-        + parts.opcode.len()
-        + parts.modrm.len()
-        + parts.sib.len()
-        + parts.displacement.len()
-        + parts.immediate.len()
-        + parts.suffix.len()
-}
-
-/// Appends a part behind a space.
-fn push_part(line: &mut Line, part: &[u8])
-    requires { array_vec_len line.old + 2 + 2 * length part.now ≤ 192 }
-    ensures text { line.new.items ≡ line.old.items ++ spaced part.now }
-    ensures short { array_vec_len line.new ≤ array_vec_len line.old + 2 + 2 * length part.now }
-{
-    line.push(b' ');
-    if part.is_empty() {
-        line.push(b'-');
-    } else {
-        line.push_hex(part);
-    }
-}
-
-/// Writes the line of the parts of an encoding at a place over another, without its end: the place, how many bytes the parts have
-/// together, and each part as hex digits, or a dash where it is empty.
-///
-/// For `48 03 44 25 00` at place 0 this is `0 5 48 - 03 44 25 00 - -`.
-#[tactic(auto, unfolding(crate::specs::Fields::fields_text))]
-pub fn write_fields(line: &mut Line, place: u64, parts: &Parts)
-    requires { HasFieldLengths (lists_of parts.now) }
-    ensures text { line.new.items ≡ fields_text place (lists_of parts.now) }
-    ensures short { array_vec_len line.new ≤ 191 }
-{
-    line.clear();
-    line.push_u64(place);
-    line.push(b' ');
-    line.push_u64(length_of(parts) as u64);
-    push_part(line, parts.prefixes);
-    push_part(line, parts.escape);
-    push_part(line, parts.opcode);
-    push_part(line, parts.modrm);
-    push_part(line, parts.sib);
-    push_part(line, parts.displacement);
-    push_part(line, parts.immediate);
-    push_part(line, parts.suffix);
-}
-
-/// The line of the parts of an encoding at a place, without its end.
-pub fn fields_line(place: u64, parts: &Parts) -> Line
-    requires { HasFieldLengths (lists_of parts.now) }
-    ensures text { result.items ≡ fields_text place (lists_of parts.now) }
-    ensures short { array_vec_len result ≤ 191 }
-{
-    let mut line = Line::new();
-    write_fields(&mut line, place, parts);
-    line
 }

@@ -6,9 +6,9 @@ ghost use Rattle.std.specs.Io.{WritesAtMost};
 ghost use Rattle.std.specs.IoError.{error_kind};
 ghost use Rattle.arrayvec.specs.ArrayVec.{array_vec_len};
 
-use crate::room::Room;
 use std::io;
 use std::io::{Error, ErrorKind, Write};
+use x86_text::Room;
 
 const SIZE: usize = 65536;
 

@@ -2,13 +2,13 @@
 
 ghost use Rattle.std.specs.Prelude.{◌≡◌, ℕ, ◌<◌, ◌≤◌, ◌^◌, [], ◌∷◌, length};
 ghost use Rattle.arrayvec.specs.ArrayVec.{array_vec_len};
-ghost use Rattle.x86_cli.specs.Line.{line, refusal_text};
+ghost use Rattle.x86_text.specs.Lines.{refusal_text};
+ghost use Rattle.x86_cli.specs.Line.{line};
 ghost use Rattle.x86_cli.specs.Listing.{at_end, listing_at};
 ghost use Rattle.x86_cli.specs.Run.{RanInWindow, Closes};
 
 use crate::laws::decoder_laws;
-use crate::line::{Lines, refusal_of, text_error};
-use crate::room::Line;
+use crate::line::{Lines, text_error};
 use crate::sink::{Sink, SinkFailed};
 use crate::source::Source;
 use crate::status::Status;
@@ -16,10 +16,11 @@ use crate::text::Ending;
 use crate::window::{Front, Window};
 use x86_decode::{InstDecoder, Instruction};
 use x86_fields::DecodeError;
+use x86_text::{LINE_MAX, Line, Place, refusal_of};
 
 /// Writes a line with its end.
 pub fn put_line<K: Sink>(sink: &mut K, text: &mut Line) -> Result<(), SinkFailed>
-    requires { array_vec_len text.old ≤ 191 }
+    requires { array_vec_len text.old ≤ LINE_MAX }
     ensures { K.takes sink.old (line text.old.items) result sink.new }
 {
     text.push(b'\n');
@@ -37,9 +38,9 @@ fn refuse<K: Sink>(sink: &mut K, place: u64, error: DecodeError) -> Result<Statu
 }
 
 fn constant(text: &[u8]) -> Line
-    requires { length text.now ≤ 191 }
+    requires { length text.now ≤ LINE_MAX }
     ensures text { result.items ≡ text.now }
-    ensures short { array_vec_len result ≤ 191 }
+    ensures short { array_vec_len result ≤ LINE_MAX }
 {
     let mut line = Line::new();
     line.extend(text);
@@ -88,22 +89,22 @@ pub fn list<L: Lines, S: Source, K: Sink>(
     let mut window = Window::new(max);
     let mut inst = Instruction::invalid();
     let mut text = Line::new();
-    let mut place = 0u64;
+    let mut place = Place::at(0);
     'lines: loop {
         window.refill(source);
         match window.front(decoder, &mut inst) {
             Front::Whole(()) => {
                 let length = length_of(&inst);
                 let bytes = window.first(length as usize);
-                lines.write(decoder, place, &inst, bytes, &mut text);
+                lines.write(decoder, &place, &inst, bytes, &mut text);
                 match put_line(sink, &mut text) {
                     Ok(()) => {}
                     Err(_) => return Status::WriteFault,
                 }
                 window.leave(length as usize);
-                place += length;
+                place.advance(length);
             }
-            Front::Refused(error) => match refuse(sink, place, error) {
+            Front::Refused(error) => match refuse(sink, place.number(), error) {
                 Ok(status) => return status,
                 Err(_) => return Status::WriteFault,
             },

@@ -8,8 +8,6 @@ mod command;
 mod command_tests;
 mod fields;
 mod gathered;
-#[cfg(test)]
-mod group_table;
 mod held;
 mod kinds;
 mod laws;
@@ -17,11 +15,10 @@ mod line;
 mod listing;
 mod make;
 #[cfg(test)]
-mod plain_table;
+mod make_tests;
 mod program;
 #[cfg(test)]
 mod program_tests;
-mod room;
 mod sink;
 mod source;
 mod status;
@@ -32,16 +29,13 @@ mod tests;
 mod text;
 mod tightening;
 mod window;
-#[cfg(test)]
-mod worked_tests;
-#[cfg(test)]
-mod x87_table;
 
 use command::USAGE;
 use program::listed;
 use status::Status;
 use std::process::ExitCode;
 use std::{env, io};
+pub use x86_text::{fields_line, line_of, refusal_of};
 
 fn words(rt: &HostRuntime) -> io::Result<Vec<String>> {
     let mut words = Vec::new(rt.alloc());

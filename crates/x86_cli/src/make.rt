@@ -7,7 +7,6 @@ ghost use Rattle.x86_cli.specs.Run.{Wrote};
 ghost use Rattle.x86_cli.specs.Make.{made, has_long_displacement, is_rip, is_at_rip, is_absolute, has_operand, answer_has, one_if, tally_of, tally_text, made_listing};
 
 use crate::listing::put_line;
-use crate::room::Line;
 use crate::sink::Sink;
 use crate::status::Status;
 use arrayvec::ArrayVec;
@@ -16,6 +15,7 @@ use x86_decode::{InstDecoder, Instruction};
 use x86_fields::DecodeError;
 use x86_operands::Operand;
 use x86_regs::{RegSpec, RegisterClass};
+use x86_text::{LINE_MAX, Line};
 
 /// The most encodings that `make` makes.
 pub const MAKE_MAX: u32 = 1000000;
@@ -154,7 +154,7 @@ fn tally_of(count: u32) -> Tally
 #[tactic(auto, unfolding(crate::specs::Make::tally_text))]
 fn tally_line(count: u32, tally: &Tally) -> Line
     ensures text { result.items ≡ tally_text count tally.now }
-    ensures short { array_vec_len result ≤ 191 }
+    ensures short { array_vec_len result ≤ LINE_MAX }
 {
     let mut line = Line::new();
     line.push_u32(count);

@@ -8,9 +8,7 @@ ghost use Rattle.x86_decode.specs.Instruction.{holding};
 ghost use Rattle.x86_cli.specs.Sweep.{cut_text, sweep_at, ShowsCut};
 
 use crate::laws::decoder_laws;
-use crate::line::{write_instruction, write_refusal};
 use crate::listing::{end, put_line};
-use crate::room::Line;
 use crate::sink::Sink;
 use crate::source::Source;
 use crate::status::Status;
@@ -18,6 +16,7 @@ use crate::text::Ending;
 use crate::window::Window;
 use x86_decode::{InstDecoder, Instruction};
 use x86_fields::DecodeError;
+use x86_text::{LINE_MAX, Line, Place, write_instruction, write_refusal};
 
 /// The next cut of a sweep. The instruction of a piece stands beside it.
 pub enum Cut {
@@ -26,9 +25,9 @@ pub enum Cut {
 }
 
 /// Writes the line of a cut at a place over another, without its end.
-fn write_cut(line: &mut Line, place: u64, inst: &Instruction, answer: Result<(), DecodeError>)
-    ensures text { line.new.items ≡ cut_text place (holding inst.now answer) }
-    ensures short { array_vec_len line.new ≤ 191 }
+fn write_cut(line: &mut Line, place: &Place, inst: &Instruction, answer: Result<(), DecodeError>)
+    ensures text { line.new.items ≡ cut_text place.now (holding inst.now answer) }
+    ensures short { array_vec_len line.new ≤ LINE_MAX }
 {
     match answer {
         Ok(()) => write_instruction(line, place, inst),
@@ -74,19 +73,19 @@ pub fn sweep<S: Source, K: Sink>(
     let mut window = Window::new(max);
     let mut inst = Instruction::invalid();
     let mut line = Line::new();
-    let mut place = 0u64;
+    let mut place = Place::at(0);
     'cuts: loop {
         window.refill(source);
         match next_cut(&window, decoder, &mut inst) {
             Cut::Piece(answer) => {
-                write_cut(&mut line, place, &inst, answer);
+                write_cut(&mut line, &place, &inst, answer);
                 match put_line(sink, &mut line) {
                     Ok(()) => {}
                     Err(_) => return Status::WriteFault,
                 }
                 let length = cut_len(&inst, answer);
                 window.leave(length as usize);
-                place += length;
+                place.advance(length);
             }
             Cut::Ended(ending) => match end(sink, ending) {
                 Ok(status) => return status,

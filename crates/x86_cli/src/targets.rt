@@ -9,7 +9,6 @@ ghost use Rattle.x86_cli.specs.Targets.{place_line, lines_if, targets_at};
 ghost use Rattle.x86_cli.specs.Window.{Fills};
 
 use crate::listing::{end, put_line};
-use crate::room::Line;
 use crate::sink::{Sink, SinkFailed};
 use crate::source::Source;
 use crate::status::Status;
@@ -17,6 +16,7 @@ use crate::text::{Ending, Piece, TextReader};
 use arrayvec::ArrayVec;
 use x86_decode::InstDecoder;
 use x86_layout::mark_targets;
+use x86_text::{LINE_MAX, Line};
 
 /// The most bytes of an image that is held whole.
 const IMAGE_MAX: usize = 8192;
@@ -53,7 +53,7 @@ fn mark(decoder: &InstDecoder, image: &[u8], marks: &mut [bool; IMAGE_MAX])
 
 fn place_line(place: u64) -> Line
     ensures text { result.items ≡ decimal place }
-    ensures short { array_vec_len result ≤ 191 }
+    ensures short { array_vec_len result ≤ LINE_MAX }
 {
     let mut line = Line::new();
     line.push_u64(place);

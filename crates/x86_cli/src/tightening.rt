@@ -6,9 +6,9 @@ ghost use Rattle.x86_layout.specs.Least.{least_of};
 ghost use Rattle.x86_cli.specs.Tighten.{least_text};
 
 use crate::line::Lines;
-use crate::room::Line;
 use x86_decode::{InstDecoder, Instruction};
 use x86_layout::shortest_length;
+use x86_text::{LINE_MAX, Line, Place};
 
 /// The lines of `tighten`, which show how short each encoding could be.
 pub struct LeastLines;
@@ -19,7 +19,7 @@ impl Lines for LeastLines {
     fn write(
         &self,
         decoder: &InstDecoder,
-        place: u64,
+        place: &Place,
         instruction: &Instruction,
         bytes: &[u8],
         line: &mut Line,
@@ -33,12 +33,11 @@ impl Lines for LeastLines {
 ///
 /// For `48 8b 84 25 00 00 00 00` at place 0 this is `0 8 4`.
 #[tactic(auto, unfolding(crate::specs::Tighten::least_text))]
-fn write_least(line: &mut Line, place: u64, length: u64, least: u64)
-    ensures text { line.new.items ≡ least_text place length least }
-    ensures short { array_vec_len line.new ≤ 191 }
+fn write_least(line: &mut Line, place: &Place, length: u64, least: u64)
+    ensures text { line.new.items ≡ least_text place.now length least }
+    ensures short { array_vec_len line.new ≤ LINE_MAX }
 {
-    line.clear();
-    line.push_u64(place);
+    line.set(place.digits());
     line.push(b' ');
     line.push_u64(length);
     line.push(b' ');

@@ -10,7 +10,7 @@ pub lines-init : goal.lines-init
 lines-init g c =
     let e = c.new-window.ensures in
     record {
-      stands = rw (e.ended, e.bytes, e.place, e.room) (stands_new g.S.Source.gives g.K.Sink.takes (listing_at c.args.decoder.now.strict (g.L.Lines.text c.args.lines.now c.args.decoder.now.strict)) reaches refl c.args.max _ _);
+      stands = rw (e.ended, e.bytes, e.place, e.room, c.at-place.ensures) (stands_new g.S.Source.gives g.K.Sink.takes (listing_at c.args.decoder.now.strict (g.L.Lines.text c.args.lines.now c.args.decoder.now.strict)) reaches refl c.args.max _ _);
       few = omega (arith, ap length e.bytes);
       fits = omega (arith, ap length e.bytes, e.room);
     }
@@ -21,7 +21,7 @@ lines-preserved g c =
     let shows = c.in-Whole.ensures.shows in
     let is = c.write.ensures.text ∙ ap (g.L.Lines.text c.args.lines.now c.args.decoder.now.strict c.lines.place c.front.new.inst) (rw c.length_of-length.ensures at c.first-bytes.ensures) in
     record {
-      stands = rw (c.leave.ensures.ended, c.leave.ensures.reader, c.length_of-length.ensures)
+      stands = rw (c.advance.ensures, c.leave.ensures.ended, c.leave.ensures.reader, c.length_of-length.ensures)
           (list_line c.args.decoder.now.strict (g.L.Lines.text c.args.lines.now c.args.decoder.now.strict) g.S.Source.gives g.K.Sink.takes _ _ _ _ _ _ _ _ _ _ s c.front.new.inst shows.0 shows.1 c.in-Whole.ensures.rest _ is _ _ (rw c.length_of-length.ensures at c.leave.ensures.bytes) c.in-Ok.ensures);
       few = omega (arith, simp length-drop at (ap length c.leave.ensures.bytes), c.refill.ensures.few c.lines.invariant.few);
       fits = omega (arith, simp length-drop at (ap length c.leave.ensures.bytes), ap (λ r. r.room) c.leave.ensures.reader, c.refill.ensures.uses, c.lines.invariant.fits, shows.1, c.length_of-length.ensures);
@@ -37,12 +37,12 @@ returns-in-Err g c =
 pub returns-in-Ok-refuse : goal.returns-in-Ok-refuse
 returns-in-Ok-refuse g c =
     let s = stands_refill g.S.Source.gives g.K.Sink.takes (listing_at c.args.decoder.now.strict (g.L.Lines.text c.args.lines.now c.args.decoder.now.strict)) reaches _ _ _ _ _ _ _ _ _ c.lines.invariant.stands c.refill.ensures.cases in
-    list_refused c.args.decoder.now.strict (g.L.Lines.text c.args.lines.now c.args.decoder.now.strict) g.S.Source.gives g.K.Sink.takes _ _ _ _ _ _ _ _ _ _ s (c.refill.ensures.few c.lines.invariant.few) c.in-Refused.error c.in-Refused.ensures.rest _ _ c.in-Ok-refuse.ensures
+    list_refused c.args.decoder.now.strict (g.L.Lines.text c.args.lines.now c.args.decoder.now.strict) g.S.Source.gives g.K.Sink.takes _ _ _ _ _ _ _ _ _ _ s (c.refill.ensures.few c.lines.invariant.few) c.in-Refused.error c.in-Refused.ensures.rest _ _ (rw c.number.ensures at c.in-Ok-refuse.ensures)
 
 pub returns-in-Err-refuse : goal.returns-in-Err-refuse
 returns-in-Err-refuse g c =
     let s = stands_refill g.S.Source.gives g.K.Sink.takes (listing_at c.args.decoder.now.strict (g.L.Lines.text c.args.lines.now c.args.decoder.now.strict)) reaches _ _ _ _ _ _ _ _ _ c.lines.invariant.stands c.refill.ensures.cases in
-    list_unrefused c.args.decoder.now.strict (g.L.Lines.text c.args.lines.now c.args.decoder.now.strict) g.S.Source.gives g.K.Sink.takes _ _ _ _ _ _ _ _ _ _ s (c.refill.ensures.few c.lines.invariant.few) c.in-Refused.error c.in-Refused.ensures.rest c.in-Err-refuse.field-0 _ c.in-Err-refuse.ensures
+    list_unrefused c.args.decoder.now.strict (g.L.Lines.text c.args.lines.now c.args.decoder.now.strict) g.S.Source.gives g.K.Sink.takes _ _ _ _ _ _ _ _ _ _ s (c.refill.ensures.few c.lines.invariant.few) c.in-Refused.error c.in-Refused.ensures.rest c.in-Err-refuse.field-0 _ (rw c.number.ensures at c.in-Err-refuse.ensures)
 
 pub returns-in-Ok-end : goal.returns-in-Ok-end
 returns-in-Ok-end g c =
