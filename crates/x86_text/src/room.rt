@@ -90,7 +90,9 @@ impl<const N: usize> Room<N> {
         ensures text { self.new.items ≡ bytes.now.items }
         ensures short { array_vec_len self.new ≤ M }
     {
-        self.cells[..M].copy_from_slice(&bytes.cells);
+        if let Some(front) = self.cells.first_chunk_mut::<M>() {
+            *front = bytes.cells;
+        }
         self.len = bytes.len;
     }
 
