@@ -55,32 +55,14 @@ fn of_st_rm(opcode: Opcode, modrm: u8) -> Plan
 fn float_name(modrm: u8) -> Opcode
     ensures { result ≡ float_name modrm }
 {
-    let names = [
-        Opcode::FADD,
-        Opcode::FMUL,
-        Opcode::FCOM,
-        Opcode::FCOMP,
-        Opcode::FSUB,
-        Opcode::FSUBR,
-        Opcode::FDIV,
-        Opcode::FDIVR,
-    ];
+    let names = names!(FADD FMUL FCOM FCOMP FSUB FSUBR FDIV FDIVR);
     named_by_reg(&names, modrm)
 }
 
 fn integer_name(modrm: u8) -> Opcode
     ensures { result ≡ integer_name modrm }
 {
-    let names = [
-        Opcode::FIADD,
-        Opcode::FIMUL,
-        Opcode::FICOM,
-        Opcode::FICOMP,
-        Opcode::FISUB,
-        Opcode::FISUBR,
-        Opcode::FIDIV,
-        Opcode::FIDIVR,
-    ];
+    let names = names!(FIADD FIMUL FICOM FICOMP FISUB FISUBR FIDIV FIDIVR);
     named_by_reg(&names, modrm)
 }
 
@@ -116,15 +98,7 @@ fn memory_d9(modrm: u8) -> Plan
 fn constant_d9(modrm: u8) -> Plan
     ensures { result ≡ constant_d9 modrm }
 {
-    let constants = [
-        Opcode::FLD1,
-        Opcode::FLDL2T,
-        Opcode::FLDL2E,
-        Opcode::FLDPI,
-        Opcode::FLDLG2,
-        Opcode::FLDLN2,
-        Opcode::FLDZ,
-    ];
+    let constants = names!(FLD1 FLDL2T FLDL2E FLDPI FLDLG2 FLDLN2 FLDZ);
     match modrm {
         0xe0 => bare(Opcode::FCHS),
         0xe1 => bare(Opcode::FABS),
@@ -141,24 +115,10 @@ fn function_d9(modrm: u8) -> Plan
     requires { 0xf0 ≤ modrm }
     ensures { result ≡ function_d9 modrm }
 {
-    let functions = [
-        Opcode::F2XM1,
-        Opcode::FYL2X,
-        Opcode::FPTAN,
-        Opcode::FPATAN,
-        Opcode::FXTRACT,
-        Opcode::FPREM1,
-        Opcode::FDECSTP,
-        Opcode::FINCSTP,
-        Opcode::FPREM,
-        Opcode::FYL2XP1,
-        Opcode::FSQRT,
-        Opcode::FSINCOS,
-        Opcode::FRNDINT,
-        Opcode::FSCALE,
-        Opcode::FSIN,
-        Opcode::FCOS,
-    ];
+    let functions = names!(
+        F2XM1 FYL2X FPTAN FPATAN FXTRACT FPREM1 FDECSTP FINCSTP
+        FPREM FYL2XP1 FSQRT FSINCOS FRNDINT FSCALE FSIN FCOS
+    );
     bare(name_at(&functions, modrm - 0xf0))
 }
 
@@ -233,13 +193,7 @@ fn memory_db(modrm: u8) -> Plan
 fn control_db(modrm: u8) -> Plan
     ensures { result ≡ control_db modrm }
 {
-    let controls = [
-        Opcode::FENI8087_NOP,
-        Opcode::FDISI8087_NOP,
-        Opcode::FNCLEX,
-        Opcode::FNINIT,
-        Opcode::FSETPM287_NOP,
-    ];
+    let controls = names!(FENI8087_NOP FDISI8087_NOP FNCLEX FNINIT FSETPM287_NOP);
     match modrm {
         0xe0..=0xe4 => bare(name_at(&controls, modrm - 0xe0)),
         _ => bad_opcode(),

@@ -19,14 +19,7 @@ pub fn plan_0f00(modrm: u8) -> Plan
     if reg(modrm) >= 6 {
         return bad_operand();
     }
-    let names = [
-        Opcode::SLDT,
-        Opcode::STR,
-        Opcode::LLDT,
-        Opcode::LTR,
-        Opcode::VERR,
-        Opcode::VERW,
-    ];
+    let names = names!(SLDT STR LLDT LTR VERR VERW);
     let signs = Signs::One(Sign::E(RegisterClass::W));
     reads(named_by_reg(&names, modrm), signs, size_by(modrm, 2, 0))
 }
@@ -58,14 +51,7 @@ fn register_0f01_0(prefixes: &Prefixes, modrm: u8) -> Plan
     if rm(modrm) >= 6 {
         return bad_opcode();
     }
-    let names = [
-        Opcode::ENCLV,
-        Opcode::VMCALL,
-        Opcode::VMLAUNCH,
-        Opcode::VMRESUME,
-        Opcode::VMXOFF,
-        Opcode::PCONFIG,
-    ];
+    let names = names!(ENCLV VMCALL VMLAUNCH VMRESUME VMXOFF PCONFIG);
     bare(name_at(&names, rm(modrm)))
 }
 
@@ -161,11 +147,10 @@ fn register_0f01_3(modrm: u8) -> Plan
         4 => bare(Opcode::STGI),
         5 => bare(Opcode::CLGI),
         6 => reads(Opcode::SKINIT, Signs::One(eax()), 0),
-        _ => reads(
-            Opcode::INVLPGA,
-            Signs::Two(rax(), ecx_at(RegisterSlot::Rm)),
-            0,
-        ),
+        _ => {
+            let signs = Signs::Two(rax(), ecx_at(RegisterSlot::Rm));
+            reads(Opcode::INVLPGA, signs, 0)
+        }
     }
 }
 

@@ -2,7 +2,7 @@
 ghost use Rattle.std.specs.Prelude.{◌≡◌, ◌≤◌};
 ghost use Rattle.x86_fields.specs.Pieces.{option_bytes};
 ghost use Rattle.x86_operands.specs.Pieces.{immediate_width, modrm_of};
-ghost use Rattle.x86_operands.specs.Asks.{asks_modrm, asks_suffix, immediates_width, used, plan_ask};
+ghost use Rattle.x86_operands.specs.Asks.{immediates_width, used, plan_ask};
 
 use crate::plans::{Fault, ModrmUse, Plan, Sign, Signs, Verdict, memory_form};
 
@@ -56,18 +56,6 @@ fn width_of_all(signs: Signs) -> u8
     }
 }
 
-fn has_modrm(usage: ModrmUse) -> bool
-    ensures { result ≡ asks_modrm usage }
-{
-    !matches!(usage, ModrmUse::Absent)
-}
-
-fn has_suffix(verdict: Verdict) -> bool
-    ensures { result ≡ asks_suffix verdict }
-{
-    matches!(verdict, Verdict::NamedBySuffix)
-}
-
 /// A ModRM byte as a row uses it.
 pub fn used_modrm(usage: ModrmUse, modrm: u8) -> u8
     ensures { result ≡ used usage modrm }
@@ -94,9 +82,9 @@ pub fn plan_ask(usage: ModrmUse, modrm: u8, plan: &Plan) -> Ask
     ensures { result ≡ plan_ask usage modrm plan.now }
 {
     Ask {
-        modrm: has_modrm(usage),
+        modrm: !matches!(usage, ModrmUse::Absent),
         memory: memory_form(modrm),
         immediate: width_of_all(plan.signs),
-        suffix: has_suffix(plan.verdict),
+        suffix: matches!(plan.verdict, Verdict::NamedBySuffix),
     }
 }

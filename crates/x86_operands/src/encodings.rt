@@ -1,7 +1,7 @@
 //! What a row of the operand encodings says.
 
 ghost use Rattle.std.specs.Prelude.{◌≡◌, ◌<◌};
-ghost use Rattle.x86_operands.specs.Encodings.{class_of, bytes_of, last_class, last_sign, reg_sign, rm_sign, same_place, sign_at, signs_in, plan_of, use_of, is_row, allowed, size_at};
+ghost use Rattle.x86_operands.specs.Encodings.{class_of, bytes_of, last_sign, reg_sign, rm_sign, same_place, sign_at, signs_in, plan_of, use_of, is_row, allowed, size_at};
 
 use crate::form_sizes::{
     call_size, duplicate_size, extract_size, insert_size, nothing_size, push_immediate,
@@ -179,19 +179,9 @@ impl Size {
 }
 
 impl Last {
-    /// The class of a signed immediate that goes by prefixes, or has four bytes.
+    /// What the last operand gives.
     #[inline(always)]
-    pub fn class(self, prefixes: &Prefixes) -> RegisterClass
-        ensures { result ≡ last_class self prefixes.now }
-    {
-        match self {
-            Last::Iv => prefixes.v_class(),
-            Last::Ip if prefixes.operand_size() && !prefixes.has_w() => RegisterClass::W,
-            _ => RegisterClass::D,
-        }
-    }
-
-    fn sign(self, prefixes: &Prefixes) -> Sign
+    pub fn sign(self, prefixes: &Prefixes) -> Sign
         ensures { result ≡ last_sign self prefixes.now }
     {
         match self {
@@ -216,14 +206,12 @@ fn reg_sign(behind: Behind, width: Width, num: u8, prefixes: &Prefixes) -> Sign
     requires { num < 8 }
     ensures { result ≡ reg_sign behind width num prefixes.now }
 {
+    let class = width.class(prefixes);
     match (behind, width) {
-        (Behind::Opcode, w) => Sign::Fixed(
-            RegisterSlot::Reg,
-            register_at(num, w.class(prefixes), prefixes),
-        ),
-        (Behind::Accumulator, w) => accumulator(w.class(prefixes), prefixes),
+        (Behind::Opcode, _) => Sign::Fixed(RegisterSlot::Reg, register_at(num, class, prefixes)),
+        (Behind::Accumulator, _) => accumulator(class, prefixes),
         (_, Width::Mm) => Sign::Gmm,
-        (_, w) => Sign::G(w.class(prefixes)),
+        _ => Sign::G(class),
     }
 }
 

@@ -201,15 +201,21 @@ impl Slot {
     }
 }
 
-/// An address without an index.
-fn based(address_size: bool, base: Option<RegSpec>, disp: i32) -> AddressParts
-    ensures { result ≡ record { address_size = address_size; base = base; index = None; scale = 1; disp = disp } }
+/// The parts of an address, whose index counts as often as its scale says.
+fn parts(
+    address_size: bool,
+    base: Option<RegSpec>,
+    index: Option<RegSpec>,
+    scale: u8,
+    disp: i32,
+) -> AddressParts
+    ensures { result ≡ record { address_size = address_size; base = base; index = index; scale = scale; disp = disp } }
 {
     AddressParts {
         address_size,
         base,
-        index: None,
-        scale: 1,
+        index,
+        scale,
         disp,
     }
 }
@@ -274,42 +280,24 @@ impl Operand {
     {
         let parts = match *self {
             Operand::AbsoluteU64 { addr } => return Some(shortened(addr, address_size)),
-            Operand::AbsoluteU32 { addr } => based(address_size, None, addr.cast_signed()),
-            Operand::MemDeref { base } => based(address_size, Some(base), 0),
-            Operand::Disp { base, disp } => based(address_size, Some(base), disp),
-            Operand::MemIndexScale { index, scale } => AddressParts {
-                address_size,
-                base: None,
-                index: Some(index),
-                scale,
-                disp: 0,
-            },
-            Operand::MemIndexScaleDisp { index, scale, disp } => AddressParts {
-                address_size,
-                base: None,
-                index: Some(index),
-                scale,
-                disp,
-            },
-            Operand::MemBaseIndexScale { base, index, scale } => AddressParts {
-                address_size,
-                base: Some(base),
-                index: Some(index),
-                scale,
-                disp: 0,
-            },
+            Operand::AbsoluteU32 { addr } => parts(address_size, None, None, 1, addr.cast_signed()),
+            Operand::MemDeref { base } => parts(address_size, Some(base), None, 1, 0),
+            Operand::Disp { base, disp } => parts(address_size, Some(base), None, 1, disp),
+            Operand::MemIndexScale { index, scale } => {
+                parts(address_size, None, Some(index), scale, 0)
+            }
+            Operand::MemIndexScaleDisp { index, scale, disp } => {
+                parts(address_size, None, Some(index), scale, disp)
+            }
+            Operand::MemBaseIndexScale { base, index, scale } => {
+                parts(address_size, Some(base), Some(index), scale, 0)
+            }
             Operand::MemBaseIndexScaleDisp {
                 base,
                 index,
                 scale,
                 disp,
-            } => AddressParts {
-                address_size,
-                base: Some(base),
-                index: Some(index),
-                scale,
-                disp,
-            },
+            } => parts(address_size, Some(base), Some(index), scale, disp),
             _ => return None,
         };
         Some(parts.value(regs, next))

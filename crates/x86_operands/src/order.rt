@@ -1,8 +1,5 @@
 //! In which order the operands of a form stand.
 
-ghost use Rattle.std.specs.Prelude.{◌≡◌};
-ghost use Rattle.x86_operands.specs.Encodings.{somewhere};
-
 /// Which operand something is.
 #[derive(Clone, Copy, PartialEq, Eq, Debug, Drop)]
 pub enum Place {
@@ -10,18 +7,6 @@ pub enum Place {
     Second,
     Third,
     Nowhere,
-}
-
-impl Place {
-    #[inline(always)]
-    pub fn is_somewhere(self) -> bool
-        ensures { result ≡ somewhere self }
-    {
-        match self {
-            Place::Nowhere => false,
-            _ => true,
-        }
-    }
 }
 
 /// In which order the operands stand.
