@@ -39,11 +39,17 @@ pub enum RegGroup {
 /// What stands behind the opcode byte.
 #[derive(Clone, Copy, PartialEq, Eq, Debug, Drop)]
 pub enum Behind {
+    /// No ModRM, and no register.
     Nothing,
+    /// No ModRM: the opcode byte carries the number of a register.
     Opcode,
+    /// No ModRM: register 0 is an operand.
     Accumulator,
+    /// A ModRM of either form.
     Fields,
+    /// A ModRM of the memory form; the register form is refused.
     Memory,
+    /// A ModRM of the register form; the memory form is refused.
     Registers,
     /// A ModRM whose reg chooses the row.
     ByReg(RegGroup),
@@ -53,7 +59,7 @@ pub enum Behind {
     Group,
 }
 
-/// The small letter behind G, E or Z: a class of registers, always the same or by W and 66.
+/// The small letter behind G, E or Z: a class of registers, always the same or by W and 66 (Intel SDM volume 2, appendix A.2.2).
 #[derive(Clone, Copy, PartialEq, Eq, Debug, Drop)]
 pub enum Width {
     B,
@@ -62,9 +68,13 @@ pub enum Width {
     D,
     Q,
     X,
+    /// Q under W, else W under 66, else D.
     V,
+    /// W under 66, else Q.
     Vq,
+    /// D under W or without 66, else W.
     Vd,
+    /// Q under W, else D.
     Dq,
 }
 
@@ -121,12 +131,19 @@ pub enum Size {
 /// How the operands of a form are encoded.
 #[derive(Clone, Copy, PartialEq, Eq, Debug, Drop)]
 pub struct Encoding {
+    /// What stands behind the opcode byte.
     pub behind: Behind,
+    /// In which order reg, rm and the last operand stand.
     pub order: Order,
+    /// The width of the register of the field reg, of the opcode byte, or of the accumulator.
     pub reg: Width,
+    /// The width of the register of the field rm.
     pub rm: Width,
+    /// The operand that is none of these.
     pub last: Last,
+    /// The size of what is read or written in memory, in the memory form.
     pub in_memory: Size,
+    /// The same in the register form, and without ModRM.
     pub in_register: Size,
 }
 

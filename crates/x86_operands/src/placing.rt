@@ -21,12 +21,15 @@ use x86_fields::{DecodeError, Prefixes, Raw, read_raw, read_u8, read_u16, read_u
 use x86_opcodes::Opcode;
 use x86_regs::{RegSpec, RegisterClass};
 
-/// The operands of an instruction.
+/// The operands of an instruction, in the order in which a listing names them.
 #[derive(Clone, Copy, PartialEq, Eq, Debug, Drop)]
 pub struct Operands {
+    /// Where each operand comes from.
     pub slots: [Slot; 4],
     pub operands: [Operand; 4],
+    /// How many there are, at most 4. What stands at this place and above it is no operand.
     pub count: u8,
+    /// The size in bytes of what is read or written in memory: 0 for none, and 63 where the processor decides.
     pub mem_size: u8,
 }
 

@@ -135,10 +135,15 @@ pub enum ModrmUse {
 /// What a record asks behind ModRM, and what it gives.
 #[derive(Clone, Copy, PartialEq, Eq, Debug, Drop)]
 pub struct Plan {
+    /// The operation, unless a suffix names it.
     pub opcode: Opcode,
+    /// What each operand is, in their order, which is that of their immediates too.
     pub signs: Signs,
+    /// The size in bytes of what is read or written in memory: 0 for none, and 63 where the processor decides.
     pub size: u8,
+    /// What changes in the prefixes of the answer.
     pub mark: Mark,
+    /// Whether there is an answer.
     pub verdict: Verdict,
 }
 

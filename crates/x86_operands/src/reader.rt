@@ -15,15 +15,19 @@ use x86_arch::Reader;
 use x86_fields::{DecodeError, Prefixes, Raw, next_byte, read_raw};
 use x86_opcodes::Opcode;
 
-/// What was read behind an opcode byte. At and above `count`, which is at most 4, slots and operands are `Nothing`.
-/// `mem_size` is in bytes: 0 for none, and 63 where the processor decides.
+/// What was read behind an opcode byte.
 #[derive(Clone, Copy, PartialEq, Eq, Debug, Drop)]
 pub struct Reading {
+    /// The operation: that of the row, or the one that ModRM or a suffix chose.
     pub opcode: Opcode,
+    /// How many operands there are, at most 4. At this place and above it slots and operands are `Nothing`.
     pub count: u8,
+    /// Where each operand comes from.
     pub slots: [Slot; 4],
     pub operands: [Operand; 4],
+    /// The size in bytes of what is read or written in memory: 0 for none, and 63 where the processor decides.
     pub mem_size: u8,
+    /// The prefixes with the changes that the operation makes.
     pub prefixes: Prefixes,
 }
 
