@@ -117,6 +117,7 @@ abbrev pub same_place : Place → Place → Bool
 same_place First First = true
 same_place Second Second = true
 same_place Third Third = true
+same_place Nowhere Nowhere = true
 same_place a b = false
 
 abbrev pub sign_at : Order → Place → Sign → Sign → Sign → Sign

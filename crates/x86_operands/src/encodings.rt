@@ -1,7 +1,7 @@
 //! What a row of the operand encodings says.
 
 ghost use Rattle.std.specs.Prelude.{◌≡◌, ◌<◌};
-ghost use Rattle.x86_operands.specs.Encodings.{class_of, bytes_of, last_sign, reg_sign, rm_sign, same_place, sign_at, signs_in, plan_of, use_of, is_row, allowed, size_at};
+ghost use Rattle.x86_operands.specs.Encodings.{class_of, bytes_of, last_sign, reg_sign, rm_sign, sign_at, signs_in, plan_of, use_of, is_row, allowed, size_at};
 
 use crate::form_sizes::{
     call_size, duplicate_size, extract_size, insert_size, nothing_size, push_immediate,
@@ -244,23 +244,12 @@ fn rm_sign(behind: Behind, width: Width, prefixes: &Prefixes) -> Sign
     }
 }
 
-fn is_at(place: Place, k: Place) -> bool
-    ensures { result ≡ same_place place k }
-{
-    match (place, k) {
-        (Place::First, Place::First) => true,
-        (Place::Second, Place::Second) => true,
-        (Place::Third, Place::Third) => true,
-        _ => false,
-    }
-}
-
 fn sign_at(order: &Order, k: Place, reg: Sign, rm: Sign, last: Sign) -> Sign
     ensures { result ≡ sign_at order.now k reg rm last }
 {
-    if is_at(order.reg, k) {
+    if order.reg == k {
         reg
-    } else if is_at(order.rm, k) {
+    } else if order.rm == k {
         rm
     } else {
         last
@@ -273,14 +262,11 @@ fn signs_in(order: &Order, reg: Sign, rm: Sign, last: Sign) -> Signs
     let first = sign_at(order, Place::First, reg, rm, last);
     let second = sign_at(order, Place::Second, reg, rm, last);
     let third = sign_at(order, Place::Third, reg, rm, last);
-    if order.count == 0 {
-        Signs::Zero
-    } else if order.count == 1 {
-        Signs::One(first)
-    } else if order.count == 2 {
-        Signs::Two(first, second)
-    } else {
-        Signs::Three(first, second, third)
+    match order.count {
+        0 => Signs::Zero,
+        1 => Signs::One(first),
+        2 => Signs::Two(first, second),
+        _ => Signs::Three(first, second, third),
     }
 }
 

@@ -134,7 +134,7 @@ pub enum Slot {
     Nothing,
     /// A register of the field reg or of the opcode byte, or one that the operation names, as the accumulator.
     Reg,
-    /// The register of the field rm; of XCHG with the accumulator, that of the opcode byte; or one that the operation names, as the port dx.
+    /// The register of the field rm, that of the opcode byte of XCHG, or one that the operation names, as the port dx.
     Rm,
     /// A register that the operation names behind two others, as cl of SHLD.
     Third,

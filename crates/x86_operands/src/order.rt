@@ -1,5 +1,8 @@
 //! In which order the operands of a form stand.
 
+ghost use Rattle.std.specs.Prelude.{◌≡◌, ◌<◌};
+ghost use Rattle.x86_operands.specs.Encodings.{index_of_place};
+
 /// Which operand something is.
 #[derive(Clone, Copy, PartialEq, Eq, Debug, Drop)]
 pub enum Place {
@@ -7,6 +10,22 @@ pub enum Place {
     Second,
     Third,
     Nowhere,
+}
+
+impl Place {
+    /// The place, counted from 0. `Nowhere` has one behind the others.
+    #[inline(always)]
+    pub fn index(self) -> usize
+        ensures value { result ≡ index_of_place self }
+        ensures small { result < 4 }
+    {
+        match self {
+            Place::First => 0,
+            Place::Second => 1,
+            Place::Third => 2,
+            Place::Nowhere => 3,
+        }
+    }
 }
 
 /// In which order the operands stand.

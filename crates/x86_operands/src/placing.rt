@@ -7,7 +7,7 @@ ghost use Rattle.x86_fields.specs.declared.Prefixes.{Prefixes};
 ghost use Rattle.x86_operands.specs.declared.encodings.Last.TheVariants.{Absent};
 ghost use Rattle.x86_operands.specs.declared.order.Place.TheVariants.{Nowhere};
 ghost use Rattle.x86_operands.specs.Signs.{memory_or, plan_step, pointer_at, slot_at};
-ghost use Rattle.x86_operands.specs.Encodings.{rm_placed, reg_pair, fixed_pair, no_operands, placed_reading, plan_of, held, put, put_at, sign_put, last_sign, index_of_place, sign_placed, front_placed, placed, allowed, is_sound, slot_in, operand_in};
+ghost use Rattle.x86_operands.specs.Encodings.{rm_placed, reg_pair, fixed_pair, no_operands, placed_reading, plan_of, held, put, put_at, sign_put, last_sign, sign_placed, front_placed, allowed, is_sound, slot_in, operand_in};
 
 use crate::encodings::{Behind, Encoding, Last, Width};
 use crate::operands::{Operand, Slot};
@@ -52,19 +52,6 @@ fn pointer_slot(slot: PointerSlot) -> Slot
         PointerSlot::DerefEdi => Slot::DerefEdi,
         PointerSlot::DerefRsi => Slot::DerefRsi,
         PointerSlot::DerefRdi => Slot::DerefRdi,
-    }
-}
-
-#[inline(always)]
-fn index(at: Place) -> usize
-    ensures value { result ≡ index_of_place at }
-    ensures small { result < 4 }
-{
-    match at {
-        Place::First => 0,
-        Place::Second => 1,
-        Place::Third => 2,
-        Place::Nowhere => 3,
     }
 }
 
@@ -212,7 +199,7 @@ impl Operands {
         requires { at ≢ Nowhere }
         ensures { self.new ≡ put at (slot, operand) self.old }
     {
-        self.put(index(at), slot, operand);
+        self.put(at.index(), slot, operand);
     }
 
     /// The last operand, as a sign gives it.
@@ -228,7 +215,7 @@ impl Operands {
         requires { at ≢ Nowhere }
         ensures { outcome (held result self.new) (T.state words.new) ≡ sign_placed at (last_sign last prefixes.now) prefixes.now self.old (T.state words.old) }
     {
-        self.put_sign(index(at), words, last.sign(prefixes), prefixes, 0xc0, None)
+        self.put_sign(at.index(), words, last.sign(prefixes), prefixes, 0xc0, None)
     }
 
     /// The operand of rm.
@@ -318,27 +305,6 @@ impl Operands {
         Ok(())
     }
 
-    /// What an encoding writes.
-    #[inline(always)]
-    fn place_all<T: Reader<u64, u8>>(
-        &mut self,
-        words: &mut T,
-        encoding: &Encoding,
-        num: u8,
-        prefixes: &Prefixes,
-        modrm: u8,
-    ) -> Result<(), DecodeError>
-        requires small { num < 8 }
-        requires last { encoding.now.order.last ≢ Nowhere → encoding.now.last ≢ Absent }
-        ensures { outcome (held result self.new) (T.state words.new) ≡ placed encoding.now num prefixes.now modrm self.old (T.state words.old) }
-    {
-        self.place_front(words, encoding, num, prefixes, modrm)?;
-        match encoding.order.last {
-            Place::Nowhere => Ok(()),
-            at => self.place_sign(at, words, encoding.last, prefixes),
-        }
-    }
-
     /// No operands.
     #[inline(always)]
     pub fn none() -> Operands
@@ -372,7 +338,11 @@ impl Operands {
     {
         self.count = encoding.order.count;
         self.mem_size = encoding.size_at(modrm).bytes(opcode, prefixes);
-        self.place_all(words, encoding, num, prefixes, modrm)
+        self.place_front(words, encoding, num, prefixes, modrm)?;
+        match encoding.order.last {
+            Place::Nowhere => Ok(()),
+            at => self.place_sign(at, words, encoding.last, prefixes),
+        }
     }
 
     /// The slot at a place, counted from 0; at the count and above it `Slot::Nothing`.

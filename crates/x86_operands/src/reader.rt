@@ -5,7 +5,7 @@ ghost use Rattle.x86_arch.specs.Reader.{State};
 ghost use Rattle.x86_fields.specs.Steps.{outcome};
 ghost use Rattle.x86_operands.specs.Plans.{list_of};
 ghost use Rattle.x86_operands.specs.Suffix.{opcode_of_suffix};
-ghost use Rattle.x86_operands.specs.Signs.{given_step, error_of, same_moment, refusal_step, opcode_step, memory_step, marked, plan_step, modrm_step, fault_step};
+ghost use Rattle.x86_operands.specs.Signs.{given_step, error_of, refusal_step, opcode_step, memory_step, marked, plan_step, modrm_step, fault_step};
 
 use crate::asks::used_modrm;
 use crate::operands::{Operand, Slot};
@@ -41,23 +41,12 @@ fn error(fault: Fault) -> DecodeError
     }
 }
 
-fn is_same(a: Moment, b: Moment) -> bool
-    ensures { result ≡ same_moment a b }
-{
-    match (a, b) {
-        (Moment::AtModRM, Moment::AtModRM) => true,
-        (Moment::AfterAddress, Moment::AfterAddress) => true,
-        (Moment::AfterSuffix, Moment::AfterSuffix) => true,
-        _ => false,
-    }
-}
-
 /// The refusal of a plan, at its moment.
 fn refuse_at(verdict: Verdict, at: Moment) -> Result<(), DecodeError>
     ensures { (s : State ℕ) → outcome result s ≡ refusal_step verdict at s }
 {
     match verdict {
-        Verdict::Refuses(fault, moment) if is_same(moment, at) => Err(error(fault)),
+        Verdict::Refuses(fault, moment) if moment == at => Err(error(fault)),
         _ => Ok(()),
     }
 }
