@@ -14,7 +14,7 @@ use crate::form_encodings::{carried, encoding_of};
 use crate::peculiar_forms::peculiar_plan;
 use crate::placing::Operands;
 use crate::plans::{ModrmUse, Plan};
-use crate::reader::{Reading, place_plan, read_modrm};
+use crate::reader::{Reading, place_plan, read_modrm, read_plan};
 use x86_arch::Reader;
 use x86_fields::{DecodeError, Prefixes};
 use x86_forms::{Form, TableRow};
@@ -62,6 +62,7 @@ pub fn place_form<T: Reader<u64, u8>>(
 ///
 /// The bytes taken are exactly those that the record asks; after a refusal, those up to its moment; at
 /// `ExhaustedInput`, the pieces before the first that isn't whole.
+#[tactic(auto, unfolding(crate::specs::Forms::form_record, crate::specs::Signs::record_step))]
 pub fn read_form<T: Reader<u64, u8>>(
     words: &mut T,
     row: TableRow,
@@ -71,18 +72,9 @@ pub fn read_form<T: Reader<u64, u8>>(
     requires carried { IsForm row.form }
     ensures { outcome result (T.state words.new) ≡ record_step (form_record row prefixes) prefixes (T.state words.old) }
 {
-    let mut prefixes = prefixes;
-    let mut opcode = row.opcode;
-    let mut given = Operands::none();
-    place_form(words, row, &mut prefixes, &mut opcode, &mut given)?;
-    Ok(Reading {
-        opcode,
-        count: given.count,
-        slots: given.slots,
-        operands: given.operands,
-        mem_size: given.mem_size,
-        prefixes,
-    })
+    let modrm = read_modrm(words, modrm_use(row.form))?;
+    let plan = form_plan(row.form, row.opcode, &prefixes, modrm);
+    read_plan(words, &plan, prefixes, modrm)
 }
 
 /// Which parts a row asks whose form is no group, at a ModRM byte. `modrm` is looked at only where the row asks a ModRM. Where the
