@@ -8,9 +8,13 @@ use Rattle.x86_decode.specs.declared.instructions.Instruction.{Instruction}
 use Rattle.x86_decode.specs.Instruction.{operand_at}
 use Rattle.x86_text.specs.Operands.{operands_text}
 
--- the memory size: 0 for none, and a question mark for 63, where the processor decides
+-- the memory size that stands for one that the processor decides
+abbrev pub undecided_size : ℕ
+undecided_size = 63
+
+-- the memory size: 0 for none, and a question mark where the processor decides
 abbrev pub size_text : ℕ → List ℕ
-size_text size = if size == 63 then codes "?" else decimal size
+size_text size = if size == undecided_size then codes "?" else decimal size
 
 -- the operands that an instruction has, of its four places
 abbrev pub shown_operands : Instruction → List Operand
