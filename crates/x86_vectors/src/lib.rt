@@ -12,6 +12,8 @@ mod guide_tests;
 #[cfg(test)]
 mod line_tests;
 #[cfg(test)]
+mod mixed_table;
+#[cfg(test)]
 mod operand_tests;
 #[cfg(test)]
 mod plain_table;

@@ -1,5 +1,5 @@
 //! Lines of instructions, worked by hand from the rows.
-use crate::{group_table, plain_table, x87_table};
+use crate::{group_table, mixed_table, plain_table, x87_table};
 use arrayvec::ArrayVec;
 use x86_decode::InstDecoder;
 use x86_text::line_of;
@@ -65,4 +65,10 @@ fn worked_groups(rt: HostRuntime) {
 fn worked_x87(rt: HostRuntime) {
     assert!(rt; are_worked(x87_table::PART_1));
     assert!(rt; are_worked(x87_table::PART_2));
+}
+
+#[test]
+fn worked_encodings_of_all_kinds(rt: HostRuntime) {
+    assert!(rt; are_worked(mixed_table::PART_1));
+    assert!(rt; are_worked(mixed_table::PART_2));
 }

@@ -51,6 +51,16 @@ fn ends_of_the_text(rt: HostRuntime) {
 }
 
 #[test]
+fn instructions_of_one_byte(rt: HostRuntime) {
+    assert!(&rt; lists(rt.alloc(), b"90", b"0 1 NOP m0\n", Status::Done));
+    let refused: &[u8] = b"0 1 NOP m0\n1 error: invalid opcode\n";
+    assert!(&rt; lists(rt.alloc(), b"90 06 90", refused, Status::Refused));
+    let half: &[u8] = b"0 1 NOP m0\ntext error at 4\n";
+    assert!(&rt; lists(rt.alloc(), b"90 4", half, Status::BadText));
+    assert!(&rt; lists(rt.alloc(), b"03 zz", b"text error at 3\n", Status::BadText));
+}
+
+#[test]
 fn choices(rt: HostRuntime) {
     let fence: &[u8] = b"0f ae e9";
     assert!(&rt; lists(rt.alloc(), fence, b"0 3 LFENCE m0\n", Status::Done));

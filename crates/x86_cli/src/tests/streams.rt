@@ -10,6 +10,7 @@ use crate::outside::sound_source::SoundSource;
 use crate::outside::std_sink::StdSink;
 use crate::outside::std_source::StdSource;
 use crate::tests::support::{runs, words};
+use std::alloc::Global;
 use std::io;
 use std::io::{ErrorKind, Read, Write};
 
@@ -105,6 +106,29 @@ fn failing_sources(rt: HostRuntime) {
     );
 }
 
+/// Whether the listing of a text, whose source fails at a call, is this and ends so.
+fn fails_at(alloc: Global, text: &[u8], call: u64, written: &[u8], status: Status) -> bool {
+    runs(alloc, &["list"], text, &[call], written, status)
+}
+
+#[test]
+fn sources_that_fail_between_instructions_of_one_byte(rt: HostRuntime) {
+    let fault: &[u8] = b"read fault\n";
+    let one: &[u8] = b"0 1 NOP m0\nread fault\n";
+    let two: &[u8] = b"0 1 NOP m0\n1 1 NOP m0\nread fault\n";
+    let whole: &[u8] = b"0 1 NOP m0\n1 1 NOP m0\n";
+    assert!(&rt; fails_at(rt.alloc(), b"90", 2, one, Status::ReadFault));
+    for call in [0, 1] {
+        assert!(&rt; fails_at(rt.alloc(), b"90 90", call, fault, Status::ReadFault));
+    }
+    for call in [2, 3, 4] {
+        assert!(&rt; fails_at(rt.alloc(), b"90 90", call, one, Status::ReadFault));
+    }
+    assert!(&rt; fails_at(rt.alloc(), b"90 90", 5, two, Status::ReadFault));
+    assert!(&rt; fails_at(rt.alloc(), b"90 90", 6, whole, Status::Done));
+    assert!(&rt; fails_at(rt.alloc(), b"03", 2, fault, Status::ReadFault));
+}
+
 /// Whether a run whose put with a number fails writes this and ends so.
 fn stops_at(words: &[String], fails: u64, written: &[u8], status: Status) -> bool {
     let mut sink = ArraySink::<64>::new(fails);
@@ -126,6 +150,9 @@ fn failing_sinks(rt: HostRuntime) {
         run(words, &mut SoundSource::new(b"01 d8 01 d8"), &mut between) == Status::WriteFault
     );
     assert!(&rt; between.written() == b"0 2 ADD eax, ebx m4\n2 2 ".as_slice());
+    let mut narrow = ArraySink::<15>::new(u64::MAX);
+    assert!(&rt; run(words, &mut SoundSource::new(b"90 90"), &mut narrow) == Status::WriteFault);
+    assert!(&rt; narrow.written() == b"0 1 NOP m0\n1 1 ".as_slice());
     assert!(&rt; stops_at(words, 0, b"", Status::WriteFault));
     assert!(&rt; stops_at(words, 1, b"0 2 ADD eax, ebx m4\n", Status::WriteFault));
     let both: &[u8] = b"0 2 ADD eax, ebx m4\n2 2 ADD eax, ebx m4\n";
