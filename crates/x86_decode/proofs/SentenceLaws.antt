@@ -14,14 +14,17 @@ use Rattle.x86_operands.specs.Linear.{operand_form}
 use Rattle.x86_operands.specs.Plans.{RowRecord}
 use Rattle.x86_decode.specs.declared.instructions.Instruction.{Instruction}
 use Rattle.x86_decode.specs.Head.{Rows, escape_bytes, clears, column_of, seen}
-use Rattle.x86_decode.specs.Instruction.{instruction_of, slot_at, operand_at}
+use Rattle.x86_decode.specs.Instruction.{slot_at, operand_at}
 use Rattle.x86_decode.specs.Ties.{HasTiedOperands}
-use Rattle.x86_decode.specs.Addresses.{names_modrm, signs_within, fields_within}
+use Rattle.x86_decode.specs.Addresses.{signs_within, fields_within}
 use Rattle.x86_decode.specs.Grammar.{record_of, IsSentence, IsAnswer}
 use Rattle.x86_decode.specs.Answer.{answer_of, count_of}
-use Rattle.x86_operands.specs.Pieces.{modrm_of}
+use Rattle.x86_operands.specs.declared.reader.Reading.{Reading}
+use Rattle.x86_operands.specs.Pieces.{modrm_of, SpellsRow}
+use Rattle.x86_operands.specs.Ties.{names_modrm, signs_of, HasShapeAt}
 use Rattle.x86_decode.proofs.ByteLaws.{Bytes, bytes_of, bytes_behind, bytes_before, memory_fits}
-use Rattle.x86_decode.proofs.TieLaws.{tied_operands, is_shape, has_address}
+use Rattle.x86_operands.proofs.TieLaws.{spelled_tied}
+use Rattle.x86_decode.proofs.TieLaws.{tied_operands, is_shape}
 use Rattle.x86_decode.proofs.PrintedLaws.{printed_answer}
 
 -- clearing 66 leaves 67
@@ -33,44 +36,66 @@ seen_address_size map b p = by (clears map (column_of p) b)
     by false = refl
 
 module _ (rows : Rows) (strict : Bool) (s : List ℕ) (a : Instruction) (is : IsSentence rows strict s a) where
-  abbrev p : Prefixes
-  p = seen is.whole.map is.whole.opcode (reading_of is.whole.run)
+  abbrev row_prefixes : Prefixes
+  row_prefixes = seen is.whole.map is.whole.opcode (reading_of is.whole.run)
 
-  abbrev r : RowRecord
-  r = record_of strict is.whole.row p
+  abbrev row_record : RowRecord
+  row_record = record_of strict is.whole.row row_prefixes
 
   pub sentence_tied : HasTiedOperands a
-  sentence_tied = subst HasTiedOperands (sym is.gives) (tied_operands r p is.whole.tail is.reading (length s) is.whole.asked)
+  sentence_tied = subst HasTiedOperands (sym is.gives) (tied_operands is.reading (length s) (spelled_tied row_record row_prefixes is.whole.tail is.reading is.whole.asked))
 
-  module _ (raw : Raw) (k : ℕ) (memory : fields_within rows strict s is.reading is.whole ≡ Some raw) (named : names_modrm (signs_within rows strict s is.reading is.whole) k ≡ true) where
-    pub sentence_slot : slot_at a k ≡ (shape_of raw).0
-    sentence_slot = ap (λ i. slot_at i k) is.gives ∙ (is_shape r p is.whole.tail is.reading (length s) is.whole.asked raw k memory named).0
+-- ---- the memory operand of ModRM, by the laws on such operands and on shapes
 
-    pub sentence_operand : operand_at a k ≡ (shape_of raw).1
-    sentence_operand = ap (λ i. operand_at i k) is.gives ∙ (is_shape r p is.whole.tail is.reading (length s) is.whole.asked raw k memory named).1
+abbrev StandAsShapes : Type 0
+StandAsShapes = (r : RowRecord) (p : Prefixes) (bytes : List ℕ) (reading : Reading) (asked : SpellsRow r p bytes reading) (raw : Raw) → asked.behind.pieces.memory ≡ Some raw → (k : ℕ) → names_modrm (signs_of r p bytes reading asked) k ≡ true → HasShapeAt reading k raw
 
-    -- the bytes of SIB and displacement
-    address_bytes : Bytes s → Bytes is.whole.asked.behind.pieces.address
-    address_bytes b =
-        let w = is.whole in
-        let behind_run = bytes_behind w.run (escape_bytes w.map ++ w.opcode ∷ w.tail) (subst Bytes w.spelled b) in
-        let behind_opcode : Bytes w.tail = (bytes_behind (escape_bytes w.map) (w.opcode ∷ w.tail) behind_run).1 in
-        let behind_modrm : Bytes w.asked.tail = bytes_behind w.asked.modrm w.asked.tail (subst Bytes w.asked.spelled behind_opcode) in
-        let q = w.asked.behind.pieces in
-        bytes_before q.address (q.immediates ++ q.suffix) (subst Bytes q.spelled behind_modrm)
+abbrev HaveTheirSize : Type 0
+HaveTheirSize = (r : RowRecord) (p : Prefixes) (bytes : List ℕ) (reading : Reading) (asked : SpellsRow r p bytes reading) (raw : Raw) → asked.behind.pieces.memory ≡ Some raw → raw.address_size ≡ p.address_size
 
-    pub sentence_address : All (λ b. b < 256) s → operand_form (reading_of is.whole.run).address_size (operand_at a k) ≡ Some (raw_form raw)
-    sentence_address bytes =
-        let q = is.whole.asked.behind.pieces in
-        let fits : FitsSigned w32 raw.disp = memory_fits p (modrm_of r.modrm is.whole.asked.modrm) q.address q.memory raw q.address_asked memory (address_bytes (bytes_of s bytes)) in
-        ap (λ i. operand_form (reading_of is.whole.run).address_size (operand_at i k)) is.gives
-        ∙ ap (λ t. operand_form t (operand_at (instruction_of is.reading (length s)) k)) (sym (seen_address_size is.whole.map is.whole.opcode (reading_of is.whole.run)))
-        ∙ has_address r p is.whole.tail is.reading (length s) is.whole.asked raw k memory named fits
+abbrev HaveTheForm : Type 0
+HaveTheForm = (raw : Raw) → FitsSigned w32 raw.disp → operand_form raw.address_size (shape_of raw).1 ≡ Some (raw_form raw)
+
+module _ (stand : StandAsShapes) (rows : Rows) (strict : Bool) (s : List ℕ) (a : Instruction) (is : IsSentence rows strict s a) (raw : Raw) (k : ℕ) (memory : fields_within rows strict s is.reading is.whole ≡ Some raw) (named : names_modrm (signs_within rows strict s is.reading is.whole) k ≡ true) where
+  shape_here : (slot_at a k ≡ (shape_of raw).0) × (operand_at a k ≡ (shape_of raw).1)
+  shape_here =
+      let at : HasShapeAt is.reading k raw = stand (row_record rows strict s a is) (row_prefixes rows strict s a is) is.whole.tail is.reading is.whole.asked raw memory k named in
+      let here = is_shape is.reading (length s) k raw at in
+      (ap (λ i. slot_at i k) is.gives ∙ here.0, ap (λ i. operand_at i k) is.gives ∙ here.1)
+
+  pub sentence_slot : slot_at a k ≡ (shape_of raw).0
+  sentence_slot = shape_here.0
+
+  pub sentence_operand : operand_at a k ≡ (shape_of raw).1
+  sentence_operand = shape_here.1
+
+  -- the bytes of SIB and displacement
+  address_bytes : Bytes s → Bytes is.whole.asked.behind.pieces.address
+  address_bytes b =
+      let w = is.whole in
+      let behind_run = bytes_behind w.run (escape_bytes w.map ++ w.opcode ∷ w.tail) (subst Bytes w.spelled b) in
+      let behind_opcode : Bytes w.tail = (bytes_behind (escape_bytes w.map) (w.opcode ∷ w.tail) behind_run).1 in
+      let behind_modrm : Bytes w.asked.tail = bytes_behind w.asked.modrm w.asked.tail (subst Bytes w.asked.spelled behind_opcode) in
+      let q = w.asked.behind.pieces in
+      bytes_before q.address (q.immediates ++ q.suffix) (subst Bytes q.spelled behind_modrm)
+
+  pub sentence_address : HaveTheirSize → HaveTheForm → All (λ b. b < 256) s → operand_form (reading_of is.whole.run).address_size (operand_at a k) ≡ Some (raw_form raw)
+  sentence_address size form bytes =
+      let w = is.whole in
+      let q = w.asked.behind.pieces in
+      let r : RowRecord = row_record rows strict s a is in
+      let p : Prefixes = row_prefixes rows strict s a is in
+      let fits : FitsSigned w32 raw.disp = memory_fits p (modrm_of r.modrm w.asked.modrm) q.address q.memory raw q.address_asked memory (address_bytes (bytes_of s bytes)) in
+      let short : (reading_of w.run).address_size ≡ raw.address_size = sym (seen_address_size w.map w.opcode (reading_of w.run)) ∙ sym (size r p w.tail is.reading w.asked raw memory) in
+      ap (λ t. operand_form t (operand_at a k)) short ∙ ap (operand_form raw.address_size) sentence_operand ∙ form raw fits
 
 -- an answer has tied operands
 pub answer_tied : (rows : Rows) (strict : Bool) (input : List ℕ) (r : Result Instruction DecodeError) (n : ℕ) → IsAnswer rows strict input r n → IfOk r HasTiedOperands
 answer_tied rows strict input (Ok a) n h = sentence_tied rows strict h.sentence a h.is
 answer_tied rows strict input (Err e) n h = tt
+
+pub accepted_tied : (rows : Rows) (strict : Bool) (input : List ℕ) (a : Instruction) (n : ℕ) → IsAnswer rows strict input (Ok a) n → HasTiedOperands a
+accepted_tied rows strict input a n h = sentence_tied rows strict h.sentence a h.is
 
 pub printed_tied : (strict : Bool) (xs : List ℕ) (i : Instruction) → answer_of strict xs ≡ Ok i → HasTiedOperands i
 printed_tied strict xs i e = answer_tied (rows_of word_at) strict xs (Ok i) (count_of strict xs) (printed_answer strict xs (Ok i) (sym e))

@@ -1,28 +1,15 @@
 -- The ModRM memory operand of a sentence, and its raw fields.
-use Rattle.std.specs.Prelude.{ℕ, Bool, true, false, Option, List, [], ◌∷◌, zero, suc}
+use Rattle.std.specs.Prelude.{ℕ, Bool, Option, List}
 use Rattle.x86_fields.specs.declared.Raw.{Raw}
 use Rattle.x86_fields.specs.Run.{reading_of}
 use Rattle.x86_operands.specs.declared.plans.Sign.{Sign}
-use Rattle.x86_operands.specs.declared.plans.Sign.TheVariants.{E, Emm, M}
 use Rattle.x86_operands.specs.declared.plans.Plan.{Plan}
 use Rattle.x86_operands.specs.declared.reader.Reading.{Reading}
 use Rattle.x86_operands.specs.Plans.{list_of}
 use Rattle.x86_operands.specs.Pieces.{modrm_of}
 use Rattle.x86_decode.specs.Head.{Rows, seen}
 use Rattle.x86_decode.specs.Grammar.{record_of, Whole}
-
--- the signs that a memory operand of ModRM is written as
-abbrev pub is_modrm_sign : Sign → Bool
-is_modrm_sign (E c) = true
-is_modrm_sign Emm = true
-is_modrm_sign M = true
-is_modrm_sign s = false
-
--- whether the sign at a place is one of these
-abbrev pub names_modrm : List Sign → ℕ → Bool
-names_modrm [] k = false
-names_modrm (s ∷ rest) zero = is_modrm_sign s
-names_modrm (s ∷ rest) (suc k) = names_modrm rest k
+pub use Rattle.x86_operands.specs.Ties.{is_modrm_sign, names_modrm}
 
 module _ (rows : Rows) (strict : Bool) (s : List ℕ) (reading : Reading) (w : Whole rows strict s reading) where
   -- the plan that the record of the encoding's row has at its ModRM

@@ -1,5 +1,5 @@
 -- Instructions: what a reading holds, with the length of its encoding.
-use Rattle.std.specs.Prelude.{ℕ, ◌==◌, ◌&&◌, ◌||◌, not, nat_lt, Bool, true, false, if◌then◌else◌, Option, Some, None, [], ◌∷◌, Result, Ok, Err, slice_index_or}
+use Rattle.std.specs.Prelude.{◌≡◌, ℕ, ◌<◌, ◌==◌, ◌&&◌, ◌||◌, not, nat_lt, Bool, true, false, if◌then◌else◌, Option, Some, None, [], ◌∷◌, Result, Ok, Err, slice_index_or}
 use Rattle.x86_regs.specs.declared.Segment.{Segment}
 use Rattle.x86_regs.specs.declared.Segment.TheVariants.{DS, ES}
 use Rattle.x86_opcodes.specs.Names.{Invalid, MOVS, CMPS, XCHG, MOV}
@@ -102,3 +102,12 @@ shown_of i = record {
   slots = slot_at i 0 ∷ slot_at i 1 ∷ slot_at i 2 ∷ slot_at i 3 ∷ [];
   operands = operand_at i 0 ∷ operand_at i 1 ∷ operand_at i 2 ∷ operand_at i 3 ∷ [];
 }
+
+-- All that equality looks at is the same.
+pub record IsSameInstruction (a b : Instruction) : Type 0 where
+  pub prefixes : a.prefixes ≡ b.prefixes
+  pub opcode : a.opcode ≡ b.opcode
+  pub count : a.given.count ≡ b.given.count
+  pub mem_size : a.given.mem_size ≡ b.given.mem_size
+  pub slots : (k : ℕ) → k < 4 → slot_at a k ≡ slot_at b k
+  pub operands : (k : ℕ) → k < 4 → operand_at a k ≡ operand_at b k

@@ -1,16 +1,23 @@
 //! What prefixes, address forms and equality say, over the definitions alone.
 
-ghost use Rattle.std.specs.Prelude.{◌≡◌, ◌↔◌, ◌≤◌, ◌++◌, ◌||◌, ℕ, List, length, IsTrue, false, FitsSigned, Ok, Err};
+ghost use Rattle.std.specs.Prelude.{◌≡◌, ◌↔◌, ◌≤◌, ◌++◌, ◌||◌, ℕ, List, [], ◌∷◌, length, IsTrue, false, FitsSigned, Ok, Err};
 ghost use Rattle.std.specs.Int.{w32};
+ghost use Rattle.std.specs.List.{fold};
 ghost use Rattle.x86_arch.specs.Reader.{State, advanced};
 ghost use Rattle.x86_fields.specs.Address.{scale_by};
 ghost use Rattle.x86_fields.specs.Linear.{Linear, raw_form, IsSameAddress, IsReduced, AgreeEverywhere, AgreeAtUnits};
 ghost use Rattle.x86_fields.specs.Pieces.{SpellsRaw, IsReadRaw, sib_taken};
 ghost use Rattle.x86_fields.specs.Raw.{raw_step};
 ghost use Rattle.x86_fields.specs.Steps.{outcome};
-ghost use Rattle.x86_fields.specs.Run.{has_f2, has_f3, has_repeat};
+ghost use Rattle.x86_fields.specs.Run.{has_f2, has_f3, has_repeat, reading_of, after_of};
 
 use crate::{DecodeError, PrefixRex, Prefixes, Raw};
+
+/// The reading of a run is what its bytes do one after another, from no prefix on.
+pub fn runs_are_folded()
+    ensures folded { (run : List ℕ) → reading_of run ≡ fold after_of (reading_of []) run }
+    ensures longer { (run : List ℕ) (byte : ℕ) → reading_of (run ++ byte ∷ []) ≡ after_of (reading_of run) byte }
+{}
 
 /// F2 and F3 are never in force together, and one of them is exactly where `rep_any` holds.
 pub fn repeats_exclude()

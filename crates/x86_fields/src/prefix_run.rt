@@ -2,7 +2,7 @@
 
 ghost use Rattle.std.specs.Prelude.{◌≡◌, ◌↔◌, ℕ, ◌∷◌, ◌++◌, List, [], IsTrue, false};
 ghost use Rattle.std.specs.List.{list_all};
-ghost use Rattle.x86_fields.specs.Run.{has_f2, has_f3, has_repeat, reading_of, rex_bits, is_legacy_byte, is_rex_byte, is_prefix_byte};
+ghost use Rattle.x86_fields.specs.Run.{has_f2, has_f3, has_repeat, reading_of, after_of, rex_bits, is_legacy_byte, is_rex_byte, is_prefix_byte};
 ghost use Rattle.x86_fields.specs.Raw.{rex_w, rex_r, rex_x, rex_b};
 
 use crate::{PrefixRex, Prefixes, Repeat};
@@ -107,7 +107,8 @@ impl Prefixes {
     /// The effect of one more prefix byte. A REX is live only as the last byte of a run.
     pub fn after(self, byte: u8) -> Prefixes
         requires { IsTrue (is_prefix_byte byte) }
-        ensures { (run : List ℕ) → self ≡ reading_of run → result ≡ reading_of (run ++ byte ∷ []) }
+        ensures effect { result ≡ after_of self byte }
+        ensures reading { (run : List ℕ) → self ≡ reading_of run → result ≡ reading_of (run ++ byte ∷ []) }
     {
         let without = Prefixes { rex: None, ..self };
         match byte {
@@ -151,7 +152,8 @@ impl Prefixes {
     #[inline(always)]
     pub fn push_rex(&mut self, byte: u8)
         requires { IsTrue (is_rex_byte byte) }
-        ensures { (run : List ℕ) → self.old ≡ reading_of run → self.new ≡ reading_of (run ++ byte ∷ []) }
+        ensures effect { self.new ≡ after_of self.old byte }
+        ensures reading { (run : List ℕ) → self.old ≡ reading_of run → self.new ≡ reading_of (run ++ byte ∷ []) }
     {
         self.rex = Some(PrefixRex::of(byte));
     }

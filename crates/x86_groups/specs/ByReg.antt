@@ -1,6 +1,10 @@
 -- Groups whose rows reg alone chooses.
 use Rattle.std.specs.Prelude.{ℕ, Bool, true, false, ◌≡◌, ◌==◌, if◌then◌else◌, IsTrue}
 use Rattle.x86_fields.specs.declared.Prefixes.{Prefixes}
+use Rattle.x86_fields.specs.Steps.{Step, ◌>>=◌}
+use Rattle.x86_operands.specs.declared.plans.ModrmUse.TheVariants.{Fields}
+use Rattle.x86_operands.specs.declared.reader.Reading.{Reading}
+use Rattle.x86_operands.specs.Signs.{modrm_step, plan_step}
 use Rattle.x86_operands.specs.declared.plans.Plan.{Plan}
 use Rattle.x86_operands.specs.declared.encodings.RegGroup.{RegGroup}
 use Rattle.x86_operands.specs.declared.encodings.RegGroup.TheVariants as group
@@ -60,3 +64,7 @@ IsLeft g m e = is_row e.behind ≡ false → (p : Prefixes) → reg_plan g p m �
 abbrev pub has_fields : Behind → Bool
 has_fields behind.Fields = true
 has_fields b = false
+
+-- what a group reads behind its opcode byte: ModRM, and what its line asks there
+abbrev pub reg_step : RegGroup → Prefixes → Step Reading
+reg_step g p = modrm_step Fields >>= λ m. plan_step (reg_plan g p m) p m

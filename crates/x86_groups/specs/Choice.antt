@@ -7,7 +7,7 @@ use Rattle.x86_fields.specs.Raw.{middle_field, low_field}
 use Rattle.x86_fields.specs.Run.{has_f2, has_f3}
 use Rattle.x86_operands.specs.declared.plans.Sign.TheVariants.{M, U}
 use Rattle.x86_operands.specs.declared.plans.Signs.TheVariants.{Zero, One}
-use Rattle.x86_operands.specs.declared.plans.Fault.TheVariants.{BadOpcode, BadOperand}
+use Rattle.x86_operands.specs.declared.plans.Fault.TheVariants.{BadOpcode, BadOperand, Incomplete}
 use Rattle.x86_operands.specs.declared.plans.Moment.TheVariants.{AtModRM}
 use Rattle.x86_operands.specs.declared.plans.Plan.{Plan}
 use Rattle.x86_operands.specs.Plans.{is_memory, reads, refuses}
@@ -57,3 +57,7 @@ bad_opcode = refuses BadOpcode AtModRM
 
 abbrev pub bad_operand : Plan
 bad_operand = refuses BadOperand AtModRM
+
+-- a form that has no plan
+abbrev pub left_out : Plan
+left_out = refuses Incomplete AtModRM

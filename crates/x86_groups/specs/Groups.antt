@@ -7,7 +7,7 @@ use Rattle.x86_operands.specs.declared.plans.ModrmUse.TheVariants.{Fields, Regis
 use Rattle.x86_operands.specs.declared.plans.Plan.{Plan}
 use Rattle.x86_operands.specs.Plans.{RowRecord}
 use Rattle.x86_forms.specs.declared.Form.TheVariants as form
-use Rattle.x86_groups.specs.Choice.{bad_opcode}
+use Rattle.x86_groups.specs.Choice.{left_out}
 use Rattle.x86_groups.specs.Arithmetic.{plan_80, plan_81, plan_83, plan_c0, plan_c1, plan_d0, plan_d1, plan_d2, plan_d3, plan_f6, plan_f7}
 use Rattle.x86_groups.specs.Operations.{plan_8f, plan_c6, plan_c7, plan_fe, plan_ff}
 use Rattle.x86_groups.specs.System.{plan_0f00, plan_0f01}
@@ -38,7 +38,7 @@ group_modrm f = Fields
 
 -- ---- the plan of a form under the prefixes, at a ModRM byte
 
--- maps 0F38 and 0F3A
+-- maps 0F38 and 0F3A; of the groups none is left to the last line
 unfoldable pub three_byte_plan : Form → Prefixes → ℕ → Plan
 three_byte_plan form.ModRM_0xf30f38d8 p m = plan_f30f38d8 m
 three_byte_plan form.ModRM_0xf30f38dc p m = plan_f30f38dc p m
@@ -48,7 +48,7 @@ three_byte_plan form.ModRM_0xf30f38df p m = plan_f30f38df m
 three_byte_plan form.ModRM_0xf30f38fa p m = plan_f30f38fa p m
 three_byte_plan form.ModRM_0xf30f38fb p m = plan_f30f38fb p m
 three_byte_plan form.ModRM_0xf30f3af0 p m = plan_f30f3af0 m
-three_byte_plan f p m = bad_opcode
+three_byte_plan f p m = left_out
 
 -- map 0F, with the choice and the opcode of the row
 unfoldable pub two_byte_plan : Form → ℕ → Bool → Prefixes → ℕ → Plan

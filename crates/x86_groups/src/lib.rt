@@ -35,7 +35,7 @@ mod three_d_now;
 use bits::{plan_0fba, plan_0fc7};
 pub use by_reg::chosen;
 use by_reg::chosen_plan;
-use choice::bad_opcode;
+use choice::left_out;
 use extract::{plan_660f78, plan_f20f78};
 use fences::plan_0fae;
 use floats::{plan_d8, plan_d9, plan_da, plan_db, plan_dc, plan_dd, plan_de, plan_df};
@@ -91,7 +91,7 @@ fn three_byte_plan(form: Form, prefixes: &Prefixes, modrm: u8) -> Plan
         Form::ModRM_0xf30f38fa => plan_f30f38fa(prefixes, modrm),
         Form::ModRM_0xf30f38fb => plan_f30f38fb(prefixes, modrm),
         Form::ModRM_0xf30f3af0 => plan_f30f3af0(modrm),
-        _ => bad_opcode(),
+        _ => left_out(),
     }
 }
 

@@ -1,15 +1,20 @@
 -- What holds of the plans of all plain forms.
-use Rattle.std.proofs.Common.{◌≡◌, ◌≢◌, ◌≤◌, ℕ, None, true, false, rules, refl, sym, ap, ◌∙◌}
+use Rattle.std.proofs.Common.{◌≡◌, ◌≢◌, ◌≤◌, inl, inr, ℕ, Option, Some, None, Err, true, false, rules, refl, sym, ap, ◌∙◌}
+use Rattle.x86_arch.specs.Reader.{State}
+use Rattle.x86_fields.specs.declared.DecodeError.TheVariants.{IncompleteDecoder}
 use Rattle.x86_fields.specs.declared.Prefixes.{Prefixes}
 use Rattle.x86_forms.specs.declared.Form.{Form}
 use Rattle.x86_forms.specs.declared.Form.TheVariants as form
 use Rattle.x86_forms.specs.Groups.{is_group_form}
+use Rattle.x86_operands.specs.declared.plans.Fault.{Fault}
 use Rattle.x86_operands.specs.declared.plans.Fault.TheVariants.{Incomplete}
 use Rattle.x86_operands.specs.declared.plans.Moment.{Moment}
 use Rattle.x86_operands.specs.declared.plans.Verdict.TheVariants.{Refuses}
 use Rattle.x86_forms.specs.declared.TableRow.{TableRow}
+use Rattle.x86_operands.specs.Signs.{record_step}
 use Rattle.x86_operands.specs.Asks.{immediates_width}
 use Rattle.x86_operands.specs.Forms.{form_plan, form_record}
+use Rattle.x86_operands.proofs.RowLaws.{HasGap, row_left_out}
 use Rattle.x86_operands.proofs.PlanTests.{passes, small_steps, without_gap, at_most_64, at_most_8}
 
 -- by the form, of which the last clause covers all that carry no number
@@ -38,3 +43,14 @@ plain_narrow row p m = at_most_8 (is_group_form row.form) (form_plan row.form ro
 pub plain_passed : (row : TableRow) (p : Prefixes) → (form_record row p).at_opcode ≡ None
 unfolding form_record
 plain_passed row p = refl
+
+-- a row of a plain form is never left out
+pub plain_read : (row : TableRow) (p : Prefixes) (s : State ℕ) → is_group_form row.form ≡ false → (record_step (form_record row p) p s).answer ≢ Err IncompleteDecoder
+plain_read row p s plain h = by (row_left_out (form_record row p) p s h)
+  where
+    by : HasGap (form_record row p) p → ⊥
+    by (inl e) = absurd (none_apart (sym (plain_passed row p) ∙ e))
+      where
+        none_apart : ◌≡◌ {A = Option Fault} None (Some Incomplete) → ⊥
+        none_apart e = cc
+    by (inr (m, w, e)) = plain_built row p m w plain e

@@ -19,4 +19,4 @@ pub run-smaller : goal.run-smaller
 run-smaller g c = gets_shorter c.in_ok-byte.byte (g.T.Reader.state c.run.words) (g.T.Reader.state c.next_byte.new.words) c.in_ok-byte.ensures
 
 pub run-preserved : goal.run-preserved
-run-preserved g c = walk_goes (g.T.Reader.state c.args.words.now) (g.T.Reader.state c.run.words) (g.T.Reader.state c.next_byte.new.words) c.args.begin c.run.prefixes c.after-prefixes.result c.in_ok-byte.byte c.run.invariant c.in_ok-byte.ensures (search rules) c.after-prefixes.ensures
+run-preserved g c = walk_goes (g.T.Reader.state c.args.words.now) (g.T.Reader.state c.run.words) (g.T.Reader.state c.next_byte.new.words) c.args.begin c.run.prefixes c.after-prefixes.result c.in_ok-byte.byte c.run.invariant c.in_ok-byte.ensures (search rules) c.after-prefixes.ensures.reading

@@ -1,4 +1,4 @@
-use Rattle.x86_groups.proofs.GroupLaws.{no_fault, gap_form, gap_reg, gap_moment}
+use Rattle.x86_groups.proofs.GroupLaws.{no_fault, gap_form, gap_reg, gap_moment, group_left_out}
 use Rattle.x86_groups.proofs.laws.groups_are_built.Goals as goal
 
 pub returns-clause-at_opcode : goal.returns-clause-at_opcode
@@ -12,3 +12,6 @@ returns-clause-reg c = gap_reg
 
 pub returns-clause-moment : goal.returns-clause-moment
 returns-clause-moment c = gap_moment
+
+pub returns-clause-answer : goal.returns-clause-answer
+returns-clause-answer c = group_left_out

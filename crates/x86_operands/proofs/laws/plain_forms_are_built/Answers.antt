@@ -1,5 +1,8 @@
-use Rattle.x86_operands.proofs.PlainLaws.{plain_built}
+use Rattle.x86_operands.proofs.PlainLaws.{plain_built, plain_read}
 use Rattle.x86_operands.proofs.laws.plain_forms_are_built.Goals as goal
 
-pub returns : goal.returns
-returns c = plain_built
+pub returns-clause-plan : goal.returns-clause-plan
+returns-clause-plan c = plain_built
+
+pub returns-clause-answer : goal.returns-clause-answer
+returns-clause-answer c = plain_read

@@ -1,0 +1,141 @@
+-- The step of a row, by the law of what is read of it: it takes its pieces whatever follows, and runs out between them.
+use Rattle.std.proofs.Common.{◌≡◌, ◌≢◌, ◌⊎◌, inl, inr, ℕ, ◌+◌, ◌≤◌, List, [], ◌++◌, length, Result, Ok, Err, refl, sym, ap, subst, ◌∙◌, arith, length-append, append_assoc}
+use Rattle.std.proofs.lemmas.List.{append-nil}
+use Rattle.x86_arch.specs.Reader.{State, advanced}
+use Rattle.x86_fields.specs.declared.DecodeError.{DecodeError}
+use Rattle.x86_fields.specs.declared.DecodeError.TheVariants.{ExhaustedInput, InvalidOpcode, InvalidOperand, InvalidPrefixes, TooLong, IncompleteDecoder}
+use Rattle.x86_fields.specs.declared.Prefixes.{Prefixes}
+use Rattle.x86_fields.specs.Steps.{Step, outcome, Takes}
+use Rattle.x86_fields.proofs.StepLaws.{fresh}
+use Rattle.x86_fields.proofs.EndLaws.{EndsWell, Ends, settles, runs_out, OutOn, final_ok, final_err, Stands, out, over}
+use Rattle.x86_operands.specs.declared.plans.Fault.{Fault}
+use Rattle.x86_operands.specs.declared.plans.Fault.TheVariants.{BadOpcode, BadOperand, Incomplete}
+use Rattle.x86_operands.specs.declared.reader.Reading.{Reading}
+use Rattle.x86_operands.specs.Plans.{RowRecord}
+use Rattle.x86_operands.specs.Signs.{record_step, error_of}
+use Rattle.x86_operands.specs.Pieces.{SpellsRow, RefusesRow, BetweenRow, IsOpenRow}
+use Rattle.x86_operands.proofs.RowLaws.{row_read, row_refused, row_open, row_wherever, row_refuses}
+
+pub exhausted_or_not : (e : DecodeError) → (e ≡ ExhaustedInput) ⊎ (e ≢ ExhaustedInput)
+exhausted_or_not ExhaustedInput = inl refl
+exhausted_or_not InvalidOpcode = inr (λ h. let k : InvalidOpcode ≡ ExhaustedInput = h in cc)
+exhausted_or_not InvalidOperand = inr (λ h. let k : InvalidOperand ≡ ExhaustedInput = h in cc)
+exhausted_or_not InvalidPrefixes = inr (λ h. let k : InvalidPrefixes ≡ ExhaustedInput = h in cc)
+exhausted_or_not TooLong = inr (λ h. let k : TooLong ≡ ExhaustedInput = h in cc)
+exhausted_or_not IncompleteDecoder = inr (λ h. let k : IncompleteDecoder ≡ ExhaustedInput = h in cc)
+
+-- no fault is for want of bytes
+pub fault_error : (f : Fault) → error_of f ≢ ExhaustedInput
+fault_error BadOpcode e = cc
+fault_error BadOperand e = cc
+fault_error Incomplete e = cc
+
+ok_apart : (reading : Reading) → ◌≡◌ {A = Result Reading DecodeError} (Ok reading) (Err ExhaustedInput) → ⊥
+ok_apart reading e = cc
+
+same_error : (d e : DecodeError) → ◌≡◌ {A = Result Reading DecodeError} (Err d) (Err e) → d ≡ e
+same_error d e h = cc
+
+-- what the bytes are that a row takes with this answer
+abbrev pub RowGives : RowRecord → Prefixes → List ℕ → Result Reading DecodeError → Type 0
+RowGives r p bytes (Ok reading) = SpellsRow r p bytes reading
+RowGives r p bytes (Err e) = (fault : Fault) × (e ≡ error_of fault) × RefusesRow r p bytes fault
+
+front_of_more : (q more back left whole : List ℕ) → left ≡ q ++ more → whole ≡ left ++ back → whole ≡ q ++ (more ++ back)
+front_of_more q more back left whole e h = h ∙ ap (λ l. l ++ back) e ∙ append_assoc q more back
+
+module _ (r : RowRecord) (p : Prefixes) where
+  abbrev step : Step Reading
+  step = record_step r p
+
+  pub takes_row : (bytes : List ℕ) (reading : Reading) → SpellsRow r p bytes reading → Takes step bytes (Ok reading)
+  takes_row bytes reading spelled = record { takes = λ rest s front. row_wherever r p s bytes rest reading front spelled }
+
+  pub takes_row_refused : (bytes : List ℕ) (fault : Fault) → RefusesRow r p bytes fault → Takes step bytes (Err (error_of fault))
+  takes_row_refused bytes fault refuses = record { takes = λ rest s front. row_refuses r p s bytes rest fault front refuses }
+
+  -- ---- on a front of an input on which the row is open it is open at the same place
+
+  module _ (s : State ℕ) (opened : (step s).answer ≡ Err ExhaustedInput) (is : IsOpenRow r p s (step s).after) (t : State ℕ) (back : List ℕ) (front : s.left ≡ t.left ++ back) where
+    not_read : (reading : Reading) → (step t).answer ≡ Ok reading → ⊥
+    not_read reading h =
+        let read = row_read r p t reading h in
+        let here = row_wherever r p s read.bytes (read.rest ++ back) reading (front_of_more read.bytes read.rest back t.left s.left read.front front) read.spelled in
+        ok_apart reading (sym (ap (λ o. o.answer) here) ∙ opened)
+
+    not_refused : (e : DecodeError) → (step t).answer ≡ Err e → e ≢ ExhaustedInput → ⊥
+    not_refused e h other =
+        let no = row_refused r p t e h other in
+        let here = row_refuses r p s no.bytes (no.rest ++ back) no.fault (front_of_more no.bytes no.rest back t.left s.left no.front front) no.refuses in
+        fault_error no.fault (same_error (error_of no.fault) ExhaustedInput (sym (ap (λ o. o.answer) here) ∙ opened))
+
+    stays_open : (a : Result Reading DecodeError) → (step t).answer ≡ a → (step t).answer ≡ Err ExhaustedInput
+    stays_open (Ok reading) h = absurd (not_read reading h)
+    stays_open (Err e) h = by (exhausted_or_not e)
+      where
+        by : (e ≡ ExhaustedInput) ⊎ (e ≢ ExhaustedInput) → (step t).answer ≡ Err ExhaustedInput
+        by (inl same) = h ∙ ap (λ d. Err d) same
+        by (inr other) = absurd (not_refused e h other)
+
+    same_place : (rest : List ℕ) → t.left ≡ is.bytes ++ rest → step t ≡ outcome (Err ExhaustedInput) (advanced (length is.bytes) t)
+    same_place rest begins =
+        let h : (step t).answer ≡ Err ExhaustedInput = stays_open (step t).answer refl in
+        let there = row_open r p t h in
+        let at_least : length is.bytes ≤ length there.bytes = there.longest is.bytes rest begins is.between in
+        let at_most : length there.bytes ≤ length is.bytes = is.longest there.bytes (there.rest ++ back) (front_of_more there.bytes there.rest back t.left s.left there.front front) there.between in
+        let same : length there.bytes ≡ length is.bytes = omega arith in
+        ap (λ a. outcome a (step t).after) h ∙ ap (outcome (Err ExhaustedInput)) (there.taken ∙ ap (λ n. advanced n t) same)
+
+  open_on : (s : State ℕ) → (step s).answer ≡ Err ExhaustedInput → (is : IsOpenRow r p s (step s).after) → OutOn step is.bytes is.rest
+  open_on s opened is front back cut t left =
+      same_place s opened is t back (is.front ∙ ap (λ l. is.bytes ++ l) cut ∙ sym (append_assoc is.bytes front back) ∙ ap (λ l. l ++ back) (sym left)) front left
+
+  -- ---- what a row takes has the pieces of the row, or ends between them
+
+  module _ (s : State ℕ) where
+    read : (reading : Reading) → (step s).answer ≡ Ok reading → Ends (RowGives r p) (BetweenRow r p) step s
+    read reading h =
+        let is = row_read r p s reading h in
+        settles is.bytes is.rest (Ok reading) is.front (takes_row is.bytes reading is.spelled) (final_ok reading) is.spelled
+
+    refused : (e : DecodeError) → (step s).answer ≡ Err e → e ≢ ExhaustedInput → Ends (RowGives r p) (BetweenRow r p) step s
+    refused e h other =
+        let is = row_refused r p s e h other in
+        settles is.bytes is.rest (Err e) is.front (subst (λ d. Takes step is.bytes (Err d)) (sym is.named) (takes_row_refused is.bytes is.fault is.refuses)) (final_err e other) (is.fault, is.named, is.refuses)
+
+    between : (step s).answer ≡ Err ExhaustedInput → Ends (RowGives r p) (BetweenRow r p) step s
+    between h = let is = row_open r p s h in runs_out is.bytes is.rest is.front is.between (open_on s h is)
+
+    ends_by : (a : Result Reading DecodeError) → (step s).answer ≡ a → Ends (RowGives r p) (BetweenRow r p) step s
+    ends_by (Ok reading) h = read reading h
+    ends_by (Err e) h = by (exhausted_or_not e)
+      where
+        by : (e ≡ ExhaustedInput) ⊎ (e ≢ ExhaustedInput) → Ends (RowGives r p) (BetweenRow r p) step s
+        by (inl same) = between (h ∙ ap (λ d. Err d) same)
+        by (inr other) = refused e h other
+
+  pub ends_row : EndsWell (RowGives r p) (BetweenRow r p) step
+  ends_row s = ends_by s (step s).answer refl
+
+  -- ---- the row stands on bytes that end between its pieces
+
+  no_more : (b rest q : List ℕ) → q ≡ b ++ rest → length q ≤ length b → length b ≡ length q
+  no_more b rest q e le = let long : length q ≡ length b + length rest = ap length e ∙ length-append b rest in omega arith
+
+  stands_by : (q : List ℕ) → BetweenRow r p q → Ends (RowGives r p) (BetweenRow r p) step (fresh q) → Stands step q
+  stands_by q between (settles bytes rest a front takes final _) = over bytes rest a front takes final
+  stands_by q between (runs_out bytes rest front _ ends) = by (row_open r p (fresh q) answer)
+    where
+      took : step (fresh q) ≡ outcome (Err ExhaustedInput) (advanced (length bytes) (fresh q))
+      took = ends rest [] (sym (append-nil rest)) (fresh q) front
+
+      answer : (step (fresh q)).answer ≡ Err ExhaustedInput
+      answer = ap (λ o. o.answer) took
+
+      by : IsOpenRow r p (fresh q) (step (fresh q)).after → Stands step q
+      by is =
+          let all : length is.bytes ≡ length q = no_more is.bytes is.rest q is.front (is.longest q [] (sym (append-nil q)) between) in
+          out (λ t left. open_on (fresh q) answer is is.rest [] (sym (append-nil is.rest)) t (left ∙ is.front) ∙ ap (λ n. outcome (Err ExhaustedInput) (advanced n t)) all)
+
+  pub stands_row : (q : List ℕ) → BetweenRow r p q → Stands step q
+  stands_row q between = stands_by q between (ends_row (fresh q))

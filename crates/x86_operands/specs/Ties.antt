@@ -1,0 +1,87 @@
+-- What the slots and operands of a reading have in common, and which of them is the memory operand of ModRM.
+use Rattle.std.specs.Prelude.{◌≡◌, ℕ, zero, suc, ◌<◌, ◌≤◌, Bool, true, false, List, [], ◌∷◌, slice_index_or}
+use Rattle.x86_fields.specs.declared.Prefixes.{Prefixes}
+use Rattle.x86_fields.specs.declared.Raw.{Raw}
+use Rattle.x86_operands.specs.declared.operands.Slot.{Slot}
+use Rattle.x86_operands.specs.declared.operands.Slot.TheVariants as slots
+use Rattle.x86_operands.specs.declared.operands.Operand.{Operand}
+use Rattle.x86_operands.specs.declared.operands.Operand.TheVariants as operands
+use Rattle.x86_operands.specs.declared.plans.Sign.{Sign}
+use Rattle.x86_operands.specs.declared.plans.Sign.TheVariants.{E, Emm, M}
+use Rattle.x86_operands.specs.declared.reader.Reading.{Reading}
+use Rattle.x86_operands.specs.Shape.{shape_of}
+use Rattle.x86_operands.specs.Plans.{RowRecord, list_of}
+use Rattle.x86_operands.specs.Pieces.{SpellsRow, modrm_of}
+
+-- the operands that are decoded: not Nothing, no unsigned immediate of 32 or 64 bits, and nothing masked or rounded
+abbrev pub is_decoded : Operand → Bool
+is_decoded (operands.ImmediateI8 z) = true
+is_decoded (operands.ImmediateU8 n) = true
+is_decoded (operands.ImmediateI16 z) = true
+is_decoded (operands.ImmediateU16 n) = true
+is_decoded (operands.ImmediateI32 z) = true
+is_decoded (operands.ImmediateI64 z) = true
+is_decoded (operands.Register reg) = true
+is_decoded (operands.AbsoluteU32 n) = true
+is_decoded (operands.AbsoluteU64 n) = true
+is_decoded (operands.MemDeref b) = true
+is_decoded (operands.Disp b d) = true
+is_decoded (operands.MemIndexScale i s) = true
+is_decoded (operands.MemIndexScaleDisp i s d) = true
+is_decoded (operands.MemBaseIndexScale b i s) = true
+is_decoded (operands.MemBaseIndexScaleDisp b i s d) = true
+is_decoded op = false
+
+-- in the slot of an immediate stands that immediate
+abbrev pub suits : Slot → Operand → Bool
+suits slots.ImmI8 (operands.ImmediateI8 z) = true
+suits slots.ImmI8 op = false
+suits slots.ImmU8 (operands.ImmediateU8 n) = true
+suits slots.ImmU8 op = false
+suits slots.ImmI16 (operands.ImmediateI16 z) = true
+suits slots.ImmI16 op = false
+suits slots.ImmU16 (operands.ImmediateU16 n) = true
+suits slots.ImmU16 op = false
+suits slots.ImmI32 (operands.ImmediateI32 z) = true
+suits slots.ImmI32 op = false
+suits slots.ImmI64 (operands.ImmediateI64 z) = true
+suits slots.ImmI64 op = false
+suits slot op = true
+
+-- the slot and the operand that a reading has at a place
+abbrev pub slot_read : Reading → ℕ → Slot
+slot_read reading k = slice_index_or reading.slots k slots.Nothing
+
+abbrev pub operand_read : Reading → ℕ → Operand
+operand_read reading k = slice_index_or reading.operands k operands.Nothing
+
+-- At most four operands, each of them decoded and suited to its slot, and nothing in the places behind them.
+pub record HasTiedPlaces (reading : Reading) : Type 0 where
+  pub few : reading.count ≤ 4
+  pub decoded : (k : ℕ) → k < reading.count → is_decoded (operand_read reading k) ≡ true
+  pub suited : (k : ℕ) → k < reading.count → suits (slot_read reading k) (operand_read reading k) ≡ true
+  pub empty_slots : (k : ℕ) → reading.count ≤ k → slot_read reading k ≡ slots.Nothing
+  pub empty_operands : (k : ℕ) → reading.count ≤ k → operand_read reading k ≡ operands.Nothing
+
+-- the signs that a memory operand of ModRM is written as
+abbrev pub is_modrm_sign : Sign → Bool
+is_modrm_sign (E c) = true
+is_modrm_sign Emm = true
+is_modrm_sign M = true
+is_modrm_sign s = false
+
+-- whether the sign at a place is one of these
+abbrev pub names_modrm : List Sign → ℕ → Bool
+names_modrm [] k = false
+names_modrm (s ∷ rest) zero = is_modrm_sign s
+names_modrm (s ∷ rest) (suc k) = names_modrm rest k
+
+-- the signs of the row's operands at its ModRM
+abbrev pub signs_of : (r : RowRecord) (p : Prefixes) (bytes : List ℕ) (reading : Reading) → SpellsRow r p bytes reading → List Sign
+signs_of r p bytes reading asked = list_of (r.plan (modrm_of r.modrm asked.modrm)).signs
+
+-- At a place below the count stands the shape of raw fields.
+pub record HasShapeAt (reading : Reading) (k : ℕ) (raw : Raw) : Type 0 where
+  pub below : k < reading.count
+  pub slot : slot_read reading k ≡ (shape_of raw).0
+  pub operand : operand_read reading k ≡ (shape_of raw).1
