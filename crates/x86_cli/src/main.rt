@@ -1,8 +1,6 @@
 //! The listing of the x86-64 instructions of a hex text.
 #![tactic(auto)]
 
-ghost use Rattle.std.specs.Prelude.{◌≡◌};
-
 mod commands;
 mod laws;
 mod listings;

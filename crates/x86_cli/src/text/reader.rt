@@ -1,6 +1,6 @@
 //! Hex text, read byte by byte.
 
-ghost use Rattle.std.specs.Prelude.{◌≡◌, ℕ, ◌+◌, ◌<◌, ◌^◌, List, [], ◌∷◌, Option, true, false};
+ghost use Rattle.std.specs.Prelude.{◌≡◌, ℕ, ◌+◌, ◌<◌, true, false};
 ghost use Rattle.x86_cli.specs.Text.{is_blank, value_of};
 ghost use Rattle.x86_cli.specs.Text.Reading.{Reads, UsesRoom};
 
