@@ -1,21 +1,4 @@
-mod AddressLaws
-pub mod CutLaws
-mod EmitLaws
-mod FieldLaws
-mod FrontLaws
-mod LeastLaws
-mod LengthLaws
-mod MarkLaws
-mod PartLaws
-mod PlaceLaws
-mod PlanAlikeLaws
-mod RelativeLaws
-mod RespellLaws
-mod RexLaws
-mod ShortestLaws
-mod SpellLaws
-mod SpelledLaws
-mod SplitLaws
-mod TightenLaws
-mod WeightLaws
-mod WritesLaws
+-- The lemmas on parts, on shortest encodings and on sweeps.
+mod PartLemmas
+mod TightenLemmas
+pub mod SweepLemmas

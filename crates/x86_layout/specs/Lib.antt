@@ -1,14 +1,4 @@
-pub mod Branches
-pub mod Cuts
-pub mod Fields
-pub mod Front
-pub mod Heads
-pub mod Least
-pub mod Lengths
-pub mod Marks
+-- The definitions that the contracts cite.
 pub mod Parts
-pub mod Permitted
-pub mod Places
-pub mod Shortest
+pub mod Tightening
 pub mod Sweeps
-pub mod Tighten

@@ -1,9 +1,6 @@
--- What a sweep has before it.
-use Rattle.std.specs.Prelude.{List}
-use Rattle.x86_layout.specs.declared.cuts.Cut.{Cut}
-use Rattle.x86_layout.specs.declared.sweeps.Sweep.{Sweep}
-use Rattle.x86_layout.specs.Cuts.{cuts_from}
-
--- the cuts that a sweep has before it
-abbrev pub cuts_left : Sweep → List Cut
-cuts_left s = cuts_from s.decoder.strict s.place s.rest.now
+-- The cuts of a sweep over any bytes, and where the instructions in them branch to.
+pub mod Cuts
+pub mod Lengths
+pub mod Sweep
+pub mod Branches
+pub mod Marks

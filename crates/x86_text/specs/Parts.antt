@@ -2,7 +2,7 @@
 use Rattle.std.specs.Prelude.{ℕ, List, [], ◌∷◌, ◌++◌, length, codes, decimal}
 use Rattle.std.specs.List.{flat_map, sum_by}
 use Rattle.hex.specs.Hex.{encode_lower}
-use Rattle.x86_layout.specs.Parts.{PartLists}
+use Rattle.x86_layout.specs.Parts.Split.{PartLists}
 
 -- the parts in the order in which they stand
 abbrev pub in_order : PartLists → List (List ℕ)

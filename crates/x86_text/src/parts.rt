@@ -3,8 +3,8 @@
 ghost use Rattle.std.specs.Prelude.{◌≡◌, ◌+◌, ◌*◌, ◌≤◌, ◌++◌, length};
 ghost use Rattle.std.specs.List.{sum_by};
 ghost use Rattle.arrayvec.specs.ArrayVec.{array_vec_len};
-ghost use Rattle.x86_layout.specs.Parts.{lists_of};
-ghost use Rattle.x86_layout.specs.Fields.{HasFieldLengths};
+ghost use Rattle.x86_layout.specs.Parts.Split.{lists_of};
+ghost use Rattle.x86_layout.specs.Parts.Fields.{HasFieldLengths};
 ghost use Rattle.x86_text.specs.Parts.{in_order, spaced, fields_text};
 
 use crate::place::Place;

@@ -19,11 +19,11 @@ use Rattle.x86_cli.specs.declared.listings.status.Status.TheVariants as outcome
 use Rattle.x86_cli.specs.declared.listings.status.Status.TheVariants.{Done, Usage}
 use Rattle.x86_cli.specs.declared.commands.command.Command.{Command}
 use Rattle.x86_cli.specs.declared.commands.command.Command.TheVariants.{List as Listed, Sweep as Swept, Targets as Targeted, Fields as Fielded, Tighten as Tightened}
-use Rattle.x86_layout.specs.Front.{parts_of}
+use Rattle.x86_layout.specs.Parts.Front.{parts_of}
 use Rattle.x86_text.specs.Lines.{line_text}
 use Rattle.x86_text.specs.Parts.{fields_text}
 use Rattle.x86_cli.specs.Listings.Tighten.{least_text}
-use Rattle.x86_layout.specs.Least.{least_of}
+use Rattle.x86_layout.specs.Tightening.Least.{least_of}
 use Rattle.x86_cli.specs.Commands.Command.{listing_for}
 use Rattle.x86_cli.specs.Text.{Text, text_at, text_of, ending_by, bad_of, ends_in_half}
 use Rattle.x86_cli.specs.Text.Reading.{MayCome}

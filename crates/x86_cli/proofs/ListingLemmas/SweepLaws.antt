@@ -14,8 +14,8 @@ use Rattle.x86_cli.specs.Text.{Text, text_at}
 use Rattle.x86_cli.specs.Listings.Line.{line}
 use Rattle.x86_cli.specs.Listings.Listing.{with_lines, at_end}
 use Rattle.x86_cli.specs.Text.Window.{rest_of}
-use Rattle.x86_layout.specs.Cuts.{cut_length, cut_at, cuts_from}
-use Rattle.x86_layout.proofs.CutLaws.{first_and_rest, none_left}
+use Rattle.x86_layout.specs.Sweeps.Cuts.{cut_length, cut_at, cuts_from}
+use Rattle.x86_layout.proofs.SweepLemmas.CutLaws.{first_and_rest, none_left}
 use Rattle.x86_cli.specs.Listings.Sweep.{cut_text, cut_line, sweep_at, ShowsAnswer}
 use Rattle.x86_cli.proofs.ListingLemmas.Stands.{with-with}
 

@@ -1,7 +1,7 @@
 -- The targets place by place.
 use Rattle.std.proofs.Common.{Bool, true, false, ◌≡◌, ℕ, suc, ◌+◌, ◌-◌, ◌<◌, List, [], ◌∷◌, ◌++◌, map, length, refl, arith, ap, ◌∙◌, sym, if◌then◌else◌}
 use Rattle.std.specs.List.{filter, range_with_len}
-use Rattle.x86_layout.specs.Marks.{is_marked}
+use Rattle.x86_layout.specs.Sweeps.Marks.{is_marked}
 use Rattle.x86_cli.specs.declared.text.reader.Ending.{Ending}
 use Rattle.x86_cli.specs.Text.{Text}
 use Rattle.x86_cli.specs.Listings.Listing.{with_lines, at_end}

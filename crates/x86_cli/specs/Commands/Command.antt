@@ -8,8 +8,8 @@ use Rattle.x86_cli.specs.declared.outside.sink.SinkFailed.{SinkFailed}
 use Rattle.x86_cli.specs.declared.listings.status.Status.{Status}
 use Rattle.x86_cli.specs.Text.{Text, text_of}
 use Rattle.x86_cli.specs.Commands.Run.{Ran, Ahead}
-use Rattle.x86_layout.specs.Front.{parts_of}
-use Rattle.x86_layout.specs.Least.{least_of}
+use Rattle.x86_layout.specs.Parts.Front.{parts_of}
+use Rattle.x86_layout.specs.Tightening.Least.{least_of}
 use Rattle.x86_text.specs.Lines.{line_text}
 use Rattle.x86_text.specs.Parts.{fields_text}
 use Rattle.x86_cli.specs.Listings.Tighten.{least_text}

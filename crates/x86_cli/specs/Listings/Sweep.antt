@@ -4,8 +4,8 @@ use Rattle.x86_decode.specs.declared.instructions.Instruction.{Instruction}
 use Rattle.x86_fields.specs.declared.DecodeError.{DecodeError}
 use Rattle.x86_decode.specs.Answer.{answer_of}
 use Rattle.x86_decode.specs.Instruction.{holding}
-use Rattle.x86_layout.specs.declared.cuts.Cut.{Cut as SweptCut}
-use Rattle.x86_layout.specs.Cuts.{cut_length, cuts_from}
+use Rattle.x86_layout.specs.declared.sweeps.cuts.Cut.{Cut as SweptCut}
+use Rattle.x86_layout.specs.Sweeps.Cuts.{cut_length, cuts_from}
 use Rattle.x86_cli.specs.declared.text.reader.Ending.{Ending}
 use Rattle.x86_cli.specs.Outside.Stop.{Stop}
 use Rattle.x86_cli.specs.Text.{Text}

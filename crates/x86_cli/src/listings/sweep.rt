@@ -3,7 +3,7 @@
 ghost use Rattle.std.specs.Prelude.{◌≡◌, ◌≢◌, ◌<◌, ◌≤◌, ◌^◌, None};
 ghost use Rattle.arrayvec.specs.ArrayVec.{array_vec_len};
 ghost use Rattle.x86_cli.specs.Commands.Run.{RanInWindow};
-ghost use Rattle.x86_layout.specs.Cuts.{cut_length};
+ghost use Rattle.x86_layout.specs.Sweeps.Cuts.{cut_length};
 ghost use Rattle.x86_decode.specs.Instruction.{holding};
 ghost use Rattle.x86_cli.specs.Listings.Sweep.{cut_text, sweep_at, ShowsCut};
 

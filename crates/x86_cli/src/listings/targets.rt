@@ -3,7 +3,7 @@
 ghost use Rattle.std.specs.Prelude.{◌≡◌, ◌≢◌, ℕ, ◌*◌, ◌<◌, ◌≤◌, length, slice_index_or, true, false, decimal, None, Some, Err, OnOk, IfErr};
 ghost use Rattle.x86_cli.specs.Text.{text_of};
 ghost use Rattle.arrayvec.specs.ArrayVec.{array_vec_len};
-ghost use Rattle.x86_layout.specs.Marks.{is_marked};
+ghost use Rattle.x86_layout.specs.Sweeps.Marks.{is_marked};
 ghost use Rattle.x86_cli.specs.Commands.Run.{Ran, Took};
 ghost use Rattle.x86_cli.specs.Listings.Targets.{place_line, lines_if, targets_at};
 ghost use Rattle.x86_cli.specs.Text.Window.{Fills};

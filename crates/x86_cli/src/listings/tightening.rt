@@ -2,7 +2,7 @@
 
 ghost use Rattle.std.specs.Prelude.{◌≡◌, ◌+◌, ◌≤◌, ◌++◌, length, codes};
 ghost use Rattle.arrayvec.specs.ArrayVec.{array_vec_len};
-ghost use Rattle.x86_layout.specs.Least.{least_of};
+ghost use Rattle.x86_layout.specs.Tightening.Least.{least_of};
 ghost use Rattle.x86_cli.specs.Listings.Tighten.{least_text};
 
 use crate::listings::line::Lines;

@@ -1,15 +1,15 @@
 use Rattle.std.proofs.Common.{◌≡◌, ℕ, Bool, true, false, List, length, refl}
 use Rattle.x86_operands.specs.declared.reader.Reading.{Reading}
 use Rattle.x86_operands.specs.Plans.{is_memory}
-use Rattle.x86_layout.specs.declared.tightening.TightenError.{TightenError}
-use Rattle.x86_layout.specs.declared.tightening.TightenError.TheVariants.{Refused, NoMemoryForm, IpRelative}
-use Rattle.x86_layout.specs.Least.{least_in}
-use Rattle.x86_layout.specs.Parts.{Encoding}
-use Rattle.x86_layout.specs.Places.{is_ip_relative}
-use Rattle.x86_layout.specs.Tighten.{HasMemoryOperand, HasNoRelative}
-use Rattle.x86_layout.proofs.LeastLaws.{least_without, least_at_ip}
-use Rattle.x86_layout.proofs.RelativeLaws.{Byte}
-use Rattle.x86_layout.proofs.TightenLaws.{operand_form, some_memory}
+use Rattle.x86_layout.specs.declared.tightening.tighten.TightenError.{TightenError}
+use Rattle.x86_layout.specs.declared.tightening.tighten.TightenError.TheVariants.{Refused, NoMemoryForm, IpRelative}
+use Rattle.x86_layout.specs.Tightening.Least.{least_in}
+use Rattle.x86_layout.specs.Parts.Split.{Encoding}
+use Rattle.x86_layout.specs.Tightening.Places.{is_ip_relative}
+use Rattle.x86_layout.specs.Tightening.Tighten.{HasMemoryOperand, HasNoRelative}
+use Rattle.x86_layout.proofs.TightenLemmas.LeastLaws.{least_without, least_at_ip}
+use Rattle.x86_layout.proofs.TightenLemmas.RelativeLaws.{Byte}
+use Rattle.x86_layout.proofs.TightenLemmas.TightenLaws.{operand_form, some_memory}
 use Rattle.x86_layout.proofs.laws.encodings_without_a_relative_keep_their_length.Goals as goal
 
 module _ (strict : Bool) (s : List ℕ) (a : Reading) (v : Encoding strict s a) where

@@ -1,4 +1,4 @@
-use Rattle.x86_layout.proofs.ShortestLaws.{shortest_is_of_bytes, shortest_has_the_address, shortest_keeps_reg, shortest_keeps_bits, none_is_shorter}
+use Rattle.x86_layout.proofs.TightenLemmas.ShortestLaws.{shortest_is_of_bytes, shortest_has_the_address, shortest_keeps_reg, shortest_keeps_bits, none_is_shorter}
 use Rattle.x86_layout.proofs.laws.shortest_fields.Goals as goal
 
 pub returns : goal.returns

@@ -1,8 +1,8 @@
 use Rattle.std.proofs.Common.{List, ℕ, refl}
 use Rattle.x86_decode.proofs.ByteLaws.{bytes_of}
-use Rattle.x86_layout.specs.Shortest.{IsOfBytes}
-use Rattle.x86_layout.proofs.RelativeLaws.{Bytes', fields_of_bytes, shortest_relative}
-use Rattle.x86_layout.proofs.LeastLaws.{least_of_shortest}
+use Rattle.x86_layout.specs.Tightening.Shortest.{IsOfBytes}
+use Rattle.x86_layout.proofs.TightenLemmas.RelativeLaws.{Bytes', fields_of_bytes, shortest_relative}
+use Rattle.x86_layout.proofs.TightenLemmas.LeastLaws.{least_of_shortest}
 use Rattle.x86_layout.proofs.laws.shortest_relatives_have_the_least_length.Goals as goal
 
 pub returns : goal.returns

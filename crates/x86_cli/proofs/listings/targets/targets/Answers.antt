@@ -1,6 +1,6 @@
 use Rattle.std.proofs.Common.{Bool, List, [], refl, ◌≡◌, ◌∙◌, ℕ, ◌<◌, ap, arith, false, true, length, ◌+◌, sym, slice_index_or}
 use Rattle.std.specs.Prelude.{⊤}
-use Rattle.x86_layout.specs.Marks.{is_marked}
+use Rattle.x86_layout.specs.Sweeps.Marks.{is_marked}
 use Rattle.x86_cli.specs.Text.{Text}
 use Rattle.x86_cli.specs.Listings.Listing.{with_lines}
 use Rattle.x86_cli.specs.Listings.Targets.{lines_if, place_line, targets_at}

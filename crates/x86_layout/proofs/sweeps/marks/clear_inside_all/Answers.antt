@@ -1,0 +1,42 @@
+use Rattle.std.proofs.Common.{◌≡◌, ◌&&◌, not, false, length, slice_index_or, arith, ap, sym, ◌∙◌}
+use Rattle.std.specs.List.{list_any}
+use Rattle.std.proofs.lemmas.List.Elements.{All-same, All-rest}
+use Rattle.x86_layout.specs.Sweeps.Cuts.{cuts_of}
+use Rattle.x86_layout.specs.Sweeps.Sweep.{cuts_left}
+use Rattle.x86_layout.specs.Sweeps.Lengths.{IsWithin}
+use Rattle.x86_layout.specs.Sweeps.Marks.{is_inside}
+use Rattle.x86_layout.proofs.SweepLemmas.PlaceLaws.{all_within, begins_or_inside}
+use Rattle.x86_layout.proofs.SweepLemmas.MarkLaws.{one_more_cleared, all_cleared}
+use Rattle.x86_layout.proofs.sweeps.marks.clear_inside_all.Goals as goal
+
+pub loop-cut-init : goal.loop-cut-init
+loop-cut-init c =
+    let strict = c.args.decoder.now.strict in
+    let bytes = c.args.bytes.now in
+    let left = cuts_left c.into_iter-cut-iterator.result in
+    let e : left ≡ cuts_of strict bytes = ap cuts_left c.into_iter-cut-iterator.ensures.into_iter_gives ∙ c.new-cut-items.ensures in (
+      tt,
+      tt,
+      All-same (IsWithin (length bytes)) left (cuts_of strict bytes) e (all_within strict (c.lengths.ensures.within strict) bytes),
+      λ p h. ap (λ l. slice_index_or c.args.marks.now p false && not (list_any (is_inside p) l)) e,
+    )
+
+pub loop-cut-preserved : goal.loop-cut-preserved
+loop-cut-preserved c =
+    let before = c.loop-cut.invariant in
+    let left = cuts_left c.loop-cut.cut-iterator in
+    let e = c.in-Some.ensures.steps in (
+      tt,
+      tt,
+      All-rest (IsWithin (length c.args.bytes.now)) c.in-Some.cut (cuts_left c.next.new.self) left e before.2,
+      λ p h. one_more_cleared _ _ _ _ _ (c.clear_inside.ensures p (omega (arith, c.loop-cut.auto.marks)))
+          (ap (λ l. slice_index_or c.loop-cut.marks p false && not (list_any (is_inside p) l)) (sym e) ∙ before.3 p h),
+    )
+
+pub returns : goal.returns
+returns c =
+    let strict = c.args.decoder.now.strict in
+    let bytes = c.args.bytes.now in
+    let none = c.in-None.ensures.steps.0 in
+    λ p h. all_cleared _ _ _ _ (ap (λ l. slice_index_or c.loop-cut.marks p false && not (list_any (is_inside p) l)) (sym none) ∙ c.loop-cut.invariant.3 p h)
+    (begins_or_inside strict (c.lengths.ensures.within strict) p bytes (omega (arith, c.requires)))

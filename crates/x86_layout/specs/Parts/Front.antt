@@ -1,0 +1,93 @@
+-- The parts of the encoding at the front of bytes, told from the bytes.
+use Rattle.std.specs.Prelude.{ℕ, Bool, false, if◌then◌else◌, Option, Some, None, List, length, take, drop, slice_index}
+use Rattle.std.specs.List.{prefix_len}
+use Rattle.x86_fields.specs.declared.Prefixes.{Prefixes}
+use Rattle.x86_fields.specs.Run.{is_prefix_byte, reading_of}
+use Rattle.x86_fields.specs.Raw.{disp_width}
+use Rattle.x86_fields.specs.Pieces.{first_byte}
+use Rattle.x86_forms.specs.declared.Map.{Map}
+use Rattle.x86_forms.specs.declared.TableRow.{TableRow}
+use Rattle.x86_forms.specs.Words.{rows_of, word_at}
+use Rattle.x86_operands.specs.declared.asks.Ask.{Ask}
+use Rattle.x86_operands.specs.Asks.{ask_of}
+use Rattle.x86_decode.specs.Head.{column_of, escape_bytes, seen}
+use Rattle.x86_decode.specs.Grammar.{record_of}
+use Rattle.x86_layout.specs.Parts.Heads.{map_by, one_if, asks_sib}
+use Rattle.x86_layout.specs.Parts.Split.{PartLists}
+
+-- what a row asks at a ModRM byte; nothing where there is no row
+abbrev pub ask_by : Bool → Option TableRow → Prefixes → ℕ → Ask
+ask_by strict None p m = record { modrm = false; memory = false; immediate = 0; suffix = false }
+ask_by strict (Some row) p m = ask_of (record_of strict row p) m
+
+-- what the row of an opcode byte behind a run asks at a ModRM byte
+abbrev pub ask_behind : Bool → List ℕ → Map → ℕ → ℕ → Ask
+ask_behind strict run map opcode m = ask_by strict (rows_of word_at map (column_of (reading_of run)) opcode) (seen map opcode (reading_of run)) m
+
+-- how many bytes of displacement there are at ModRM and SIB
+abbrev pub displacement_width : Ask → ℕ → List ℕ → ℕ
+displacement_width ask m sib = if ask.memory then disp_width m (first_byte sib) else 0
+
+-- ---- up to the opcode byte
+
+module _ (bytes : List ℕ) where
+  abbrev pub run_in : List ℕ
+  run_in = take (prefix_len is_prefix_byte bytes) bytes
+
+  abbrev pub behind_run : List ℕ
+  behind_run = drop (prefix_len is_prefix_byte bytes) bytes
+
+  abbrev pub map_in : Map
+  map_in = map_by (slice_index behind_run 0) (slice_index behind_run 1)
+
+  abbrev pub behind_escape : List ℕ
+  behind_escape = drop (length (escape_bytes map_in)) behind_run
+
+  abbrev pub opcode_in : List ℕ
+  opcode_in = take 1 behind_escape
+
+  abbrev pub tail_in : List ℕ
+  tail_in = drop 1 behind_escape
+
+  abbrev pub ask_in : Bool → Ask
+  ask_in strict = ask_behind strict run_in map_in (slice_index opcode_in 0) (slice_index tail_in 0)
+
+-- ---- behind the opcode byte, by what the row asks
+
+module _ (ask : Ask) (tail : List ℕ) where
+  abbrev pub modrm_in : List ℕ
+  modrm_in = take (one_if ask.modrm) tail
+
+  abbrev pub behind_modrm : List ℕ
+  behind_modrm = drop (one_if ask.modrm) tail
+
+  abbrev pub sib_in : List ℕ
+  sib_in = take (one_if (asks_sib ask (slice_index tail 0))) behind_modrm
+
+  abbrev pub behind_sib : List ℕ
+  behind_sib = drop (one_if (asks_sib ask (slice_index tail 0))) behind_modrm
+
+  abbrev pub displacement_in : List ℕ
+  displacement_in = take (displacement_width ask (slice_index tail 0) sib_in) behind_sib
+
+  abbrev pub behind_address : List ℕ
+  behind_address = drop (displacement_width ask (slice_index tail 0) sib_in) behind_sib
+
+  abbrev pub immediate_in : List ℕ
+  immediate_in = take ask.immediate behind_address
+
+  abbrev pub suffix_in : List ℕ
+  suffix_in = take (one_if ask.suffix) (drop ask.immediate behind_address)
+
+-- The parts of the encoding at the front of bytes, under a choice. Source: Intel SDM volume 2, section 2.1.
+unfoldable pub parts_of : Bool → List ℕ → PartLists
+parts_of strict bytes = record {
+  prefixes = run_in bytes;
+  escape = escape_bytes (map_in bytes);
+  opcode = opcode_in bytes;
+  modrm = modrm_in (ask_in bytes strict) (tail_in bytes);
+  sib = sib_in (ask_in bytes strict) (tail_in bytes);
+  displacement = displacement_in (ask_in bytes strict) (tail_in bytes);
+  immediate = immediate_in (ask_in bytes strict) (tail_in bytes);
+  suffix = suffix_in (ask_in bytes strict) (tail_in bytes);
+}

@@ -1,0 +1,44 @@
+-- The map by the first two bytes behind the run, and the pieces in front of and behind it.
+use Rattle.std.specs.Prelude.{◌≡◌, ℕ, ◌==◌, ◌&&◌, Bool, if◌then◌else◌, List, [], ◌∷◌, ◌++◌, length, slice_index}
+use Rattle.x86_fields.specs.declared.Prefixes.{Prefixes}
+use Rattle.x86_fields.specs.Raw.{low_field}
+use Rattle.x86_forms.specs.declared.Map.{Map}
+use Rattle.x86_forms.specs.declared.Map.TheVariants.{One, Of, Of38, Of3a}
+use Rattle.x86_operands.specs.declared.asks.Ask.{Ask}
+use Rattle.x86_operands.specs.declared.reader.Reading.{Reading}
+use Rattle.x86_operands.specs.Plans.{RowRecord}
+use Rattle.x86_operands.specs.Pieces.{SpellsRow, modrm_of}
+use Rattle.x86_operands.specs.Asks.{ask_of}
+use Rattle.x86_decode.specs.Head.{escape_bytes}
+use Rattle.x86_layout.specs.declared.parts.heads.Head.{Head}
+use Rattle.x86_layout.specs.declared.parts.split.Parts.{Parts}
+use Rattle.x86_layout.specs.Parts.Split.{Encoding, record_in, sib_width}
+
+abbrev pub map_by : ℕ → ℕ → Map
+map_by first second =
+    if first == 0x0f
+    then (if second == 0x38 then Of38 else (if second == 0x3a then Of3a else Of))
+    else One
+
+abbrev pub one_if : Bool → ℕ
+one_if flag = if flag then 1 else 0
+
+-- whether a SIB is asked, told from what the row asks and the byte behind the opcode
+abbrev pub asks_sib : Ask → ℕ → Bool
+asks_sib ask modrm = ask.memory && low_field modrm == 4
+
+-- These are the pieces up to the opcode byte, what stands behind it, and what the row asks.
+pub record IsHead (strict : Bool) (s : List ℕ) (reading : Reading) (w : Encoding strict s reading) (h : Head) : Type 0 where
+  pub prefixes : h.prefixes.now ≡ w.run
+  pub escape : h.escape.now ≡ escape_bytes w.map
+  pub opcode : h.opcode.now ≡ w.opcode ∷ []
+  pub tail : h.tail.now ≡ w.tail
+  pub ask : h.ask ≡ ask_of (record_in strict s reading w) (slice_index w.tail 0)
+
+-- These are the pieces behind the opcode byte.
+pub record IsTail (r : RowRecord) (p : Prefixes) (tail : List ℕ) (reading : Reading) (a : SpellsRow r p tail reading) (parts : Parts) : Type 0 where
+  pub modrm : parts.modrm.now ≡ a.modrm
+  pub sib : length parts.sib.now ≡ sib_width (modrm_of r.modrm a.modrm)
+  pub address : parts.sib.now ++ parts.displacement.now ≡ a.behind.pieces.address
+  pub immediate : parts.immediate.now ≡ a.behind.pieces.immediates
+  pub suffix : parts.suffix.now ≡ a.behind.pieces.suffix

@@ -1,0 +1,130 @@
+-- Permitted fields: five conditions, in order, each with the error where it is the first that fails.
+use Rattle.std.specs.Prelude.{◌≡◌, ℕ, ◌==◌, ◌&&◌, ◌||◌, nat_le, not, Bool, false, if◌then◌else◌, Option, Some, None, is_some, is_none, List, [], ◌∷◌, ◌++◌, length, Result, Ok, Err}
+use Rattle.x86_fields.specs.declared.DecodeError.{DecodeError}
+use Rattle.x86_fields.specs.declared.Prefixes.{Prefixes}
+use Rattle.x86_fields.specs.Run.{reading_of}
+use Rattle.x86_fields.specs.Raw.{disp_width}
+use Rattle.x86_fields.specs.Pieces.{option_bytes}
+use Rattle.x86_forms.specs.declared.Map.{Map}
+use Rattle.x86_forms.specs.declared.Map.TheVariants.{One, Of, Of38, Of3a}
+use Rattle.x86_forms.specs.declared.TableRow.{TableRow}
+use Rattle.x86_forms.specs.Words.{rows_of, word_at}
+use Rattle.x86_operands.specs.declared.plans.Verdict.{Verdict}
+use Rattle.x86_operands.specs.declared.plans.Verdict.TheVariants.{NamedBySuffix}
+use Rattle.x86_operands.specs.declared.asks.RecordAt.{RecordAt}
+use Rattle.x86_operands.specs.declared.reader.Reading.{Reading}
+use Rattle.x86_operands.specs.Plans.{is_memory}
+use Rattle.x86_operands.specs.Pieces.{is_refusal}
+use Rattle.x86_operands.specs.Suffix.{opcode_of_suffix}
+use Rattle.x86_operands.specs.Asks.{asks_modrm, asks_suffix, immediates_width, record_at}
+use Rattle.x86_operands.specs.Signs.{record_step}
+use Rattle.x86_decode.specs.Head.{is_run, column_of, is_opcode, seen}
+use Rattle.x86_decode.specs.declared.instructions.Instruction.{Instruction}
+use Rattle.x86_decode.specs.Grammar.{record_of, lock_allowed, IsSentence}
+use Rattle.x86_layout.specs.declared.parts.fields.Fields.{Fields}
+use Rattle.x86_layout.specs.declared.parts.entries.Entry.{Entry}
+use Rattle.x86_layout.specs.declared.parts.emit.EmitError.{EmitError}
+use Rattle.x86_layout.specs.declared.parts.emit.EmitError.TheVariants as error
+use Rattle.x86_layout.specs.Parts.Heads.{one_if}
+use Rattle.x86_layout.specs.Parts.Split.{sib_width, HasParts, joined}
+use Rattle.x86_layout.specs.Parts.Fields.{lists_in}
+
+-- ---- the row that fields name
+
+-- the map of an escape, where it is one of the four
+abbrev pub map_named : List ℕ → Option Map
+map_named [] = Some One
+map_named (a ∷ []) = if a == 0x0f then Some Of else None
+map_named (a ∷ b ∷ []) = if a == 0x0f then (if b == 0x38 then Some Of38 else (if b == 0x3a then Some Of3a else None)) else None
+map_named (a ∷ b ∷ c ∷ rest) = None
+
+abbrev pub entry_by : Option TableRow → Prefixes → Option Entry
+entry_by None p = None
+entry_by (Some row) p = Some (record { row = row; prefixes = p })
+
+abbrev pub entry_at : Option Map → Prefixes → ℕ → Option Entry
+entry_at None p opcode = None
+entry_at (Some map) p opcode = if is_opcode map opcode then entry_by (rows_of word_at map (column_of p) opcode) (seen map opcode p) else None
+
+-- the row of the opcode byte in the map of the escape and the column of the run, and the prefixes as its record sees them
+abbrev pub entry_of : Fields → Option Entry
+entry_of f = entry_at (map_named f.escape.items) (reading_of f.prefixes.items) f.opcode
+
+-- its record, at the ModRM that is there
+abbrev pub record_by : Bool → Entry → Fields → RecordAt
+record_by strict e f = record_at (record_of strict e.row e.prefixes) f.modrm
+
+-- ---- the conditions
+
+-- 1: the prefixes are a legal run
+abbrev pub has_legal_run : Fields → Bool
+has_legal_run f = is_run f.prefixes.items
+
+-- a ModRM that the row asks isn't there
+abbrev pub lacks_modrm : RecordAt → Fields → Bool
+lacks_modrm at f = asks_modrm at.usage && is_none f.modrm
+
+-- the suffix that is there names no operation, where the row asks one
+abbrev pub refuses_suffix : Verdict → Option ℕ → Bool
+refuses_suffix NamedBySuffix (Some b) = is_none (opcode_of_suffix b)
+refuses_suffix verdict suffix = false
+
+-- 2: the record refuses neither at the opcode, nor for the ModRM that is there, nor for the suffix that is there
+abbrev pub passes_record : RecordAt → Fields → Bool
+passes_record at f = is_none at.at_opcode && (not (is_refusal at.plan.verdict) || lacks_modrm at f) && not (refuses_suffix at.plan.verdict f.suffix)
+
+-- how many bytes of displacement there are at ModRM and SIB
+abbrev pub displacement_asked : ℕ → Option ℕ → ℕ
+displacement_asked m sib = if is_memory m then disp_width m sib else 0
+
+-- 3: each part that the row asks is there with its length, and no other part is
+abbrev pub has_asked_parts : RecordAt → Fields → Bool
+has_asked_parts at f =
+    (one_if (is_some f.modrm) == one_if (asks_modrm at.usage))
+    && (one_if (is_some f.sib) == sib_width at.modrm)
+    && (length f.displacement.items == displacement_asked at.modrm f.sib)
+    && (length f.immediate.items == immediates_width at.plan.signs)
+    && (one_if (is_some f.suffix) == one_if (asks_suffix at.plan.verdict))
+
+-- what stands behind the opcode byte
+abbrev pub tail_of : Fields → List ℕ
+tail_of f = option_bytes f.modrm ++ ((option_bytes f.sib ++ f.displacement.items) ++ (f.immediate.items ++ option_bytes f.suffix))
+
+abbrev pub allows_lock : Result Reading DecodeError → Bool
+allows_lock (Ok reading) = lock_allowed reading
+allows_lock (Err e) = false
+
+-- 4: F0 is absent, or allowed for the reading of what stands behind the opcode byte
+abbrev pub has_lawful_lock : Bool → Entry → Fields → Bool
+has_lawful_lock strict e f = allows_lock (record_step (record_of strict e.row e.prefixes) e.prefixes (record { left = tail_of f; since_mark = 0; since_made = 0 })).answer
+
+-- 5: the parts have at most 15 bytes in all
+abbrev pub is_short : Fields → Bool
+is_short f = nat_le (length (joined (lists_in f))) 15
+
+-- ---- the first that fails
+
+abbrev pub unless : Bool → EmitError → Option EmitError → Option EmitError
+unless holds e rest = if holds then rest else Some e
+
+-- conditions 2 to 5, where there is a row
+abbrev pub failing_at : Bool → Option Entry → Fields → Option EmitError
+failing_at strict None f = Some error.Row
+failing_at strict (Some e) f =
+    unless (passes_record (record_by strict e f) f) error.Row
+    (unless (has_asked_parts (record_by strict e f) f) error.Shape
+    (unless (has_lawful_lock strict e f) error.Lock
+    (unless (is_short f) error.Length None)))
+
+-- the error of the first condition that fails; fields are permitted where none does
+unfoldable pub first_failing : Bool → Fields → Option EmitError
+first_failing strict f = unless (has_legal_run f) error.Prefixes (failing_at strict (entry_of f) f)
+
+abbrev pub IsPermitted : Bool → Fields → Type 0
+IsPermitted strict f = first_failing strict f ≡ None
+
+-- The fields are the parts of a sentence.
+pub record ArePartsOfSentence (strict : Bool) (f : Fields) : Type 0 where
+  pub answer : Instruction
+  pub sentence : IsSentence (rows_of word_at) strict (joined (lists_in f)) answer
+  pub parts : HasParts strict (joined (lists_in f)) sentence.reading sentence.whole (lists_in f)

@@ -1,0 +1,78 @@
+-- The parts of an encoding.
+use Rattle.std.specs.Prelude.{◌≡◌, ℕ, ◌==◌, ◌&&◌, Bool, if◌then◌else◌, List, [], ◌∷◌, ◌++◌, length, Ok}
+use Rattle.x86_forms.specs.Words.{rows_of, word_at}
+use Rattle.x86_fields.specs.Run.{reading_of}
+use Rattle.x86_fields.specs.Raw.{low_field}
+use Rattle.x86_operands.specs.declared.reader.Reading.{Reading}
+use Rattle.x86_operands.specs.Plans.{RowRecord, is_memory}
+use Rattle.x86_operands.specs.Pieces.{modrm_of}
+use Rattle.x86_decode.specs.declared.instructions.Instruction.{Instruction}
+use Rattle.x86_decode.specs.Head.{escape_bytes, seen}
+use Rattle.x86_decode.specs.Grammar.{Whole, record_of}
+use Rattle.x86_decode.specs.Answer.{answer_of}
+use Rattle.x86_layout.specs.declared.parts.split.Parts.{Parts}
+
+-- the parts of an encoding, as lists of bytes
+pub record PartLists : Type 0 where
+  pub prefixes : List ℕ
+  pub escape : List ℕ
+  pub opcode : List ℕ
+  pub modrm : List ℕ
+  pub sib : List ℕ
+  pub displacement : List ℕ
+  pub immediate : List ℕ
+  pub suffix : List ℕ
+
+-- the bytes of the slices
+abbrev pub lists_of : Parts → PartLists
+lists_of p = record {
+  prefixes = p.prefixes.now;
+  escape = p.escape.now;
+  opcode = p.opcode.now;
+  modrm = p.modrm.now;
+  sib = p.sib.now;
+  displacement = p.displacement.now;
+  immediate = p.immediate.now;
+  suffix = p.suffix.now;
+}
+
+-- whole encodings by the printed rows
+abbrev pub Encoding : Bool → List ℕ → Reading → Type 0
+Encoding strict s reading = Whole (rows_of word_at) strict s reading
+
+-- SIB is there where ModRM is read as a memory form and its rm is 100 (Intel SDM volume 2, section 2.1.5)
+abbrev pub sib_width : ℕ → ℕ
+sib_width modrm = if is_memory modrm && low_field modrm == 4 then 1 else 0
+
+module _ (strict : Bool) (s : List ℕ) (reading : Reading) (w : Encoding strict s reading) where
+  -- the record of the encoding's row
+  abbrev pub record_in : RowRecord
+  record_in = record_of strict w.row (seen w.map w.opcode (reading_of w.run))
+
+  -- These are the pieces of a whole encoding: SIB and displacement together are the bytes of its address.
+  pub record HasParts (parts : PartLists) : Type 0 where
+    pub prefixes : parts.prefixes ≡ w.run
+    pub escape : parts.escape ≡ escape_bytes w.map
+    pub opcode : parts.opcode ≡ w.opcode ∷ []
+    pub modrm : parts.modrm ≡ w.asked.modrm
+    pub sib : length parts.sib ≡ sib_width (modrm_of record_in.modrm w.asked.modrm)
+    pub address : parts.sib ++ parts.displacement ≡ w.asked.behind.pieces.address
+    pub immediate : parts.immediate ≡ w.asked.behind.pieces.immediates
+    pub suffix : parts.suffix ≡ w.asked.behind.pieces.suffix
+
+-- the parts in order
+abbrev pub joined : PartLists → List ℕ
+joined p = p.prefixes ++ (p.escape ++ (p.opcode ++ (p.modrm ++ ((p.sib ++ p.displacement) ++ (p.immediate ++ p.suffix)))))
+
+-- The bytes begin with an accepted encoding, which has these parts.
+pub record IsSplit (strict : Bool) (bytes : List ℕ) (split : Parts) : Type 0 where
+  pub instruction : Instruction
+  pub encoding : List ℕ
+  pub rest : List ℕ
+  pub reading : Reading
+  pub accepted : answer_of strict bytes ≡ Ok instruction
+  pub begins : bytes ≡ encoding ++ rest
+  pub long : length encoding ≡ instruction.length
+  pub whole : Encoding strict encoding reading
+  pub parts : HasParts strict encoding reading whole (lists_of split)
+  pub together : joined (lists_of split) ≡ encoding

@@ -1,0 +1,29 @@
+-- The cuts of bytes.
+use Rattle.std.specs.Prelude.{ℕ, ◌+◌, ◌-◌, zero, suc, Bool, List, [], ◌∷◌, Result, Ok, Err}
+use Rattle.x86_fields.specs.declared.DecodeError.{DecodeError}
+use Rattle.x86_decode.specs.declared.instructions.Instruction.{Instruction}
+use Rattle.x86_decode.specs.Answer.{answer_of}
+use Rattle.x86_layout.specs.declared.sweeps.cuts.Cut.{Cut}
+
+-- as long as the instruction, else one byte
+abbrev pub cut_length : Result Instruction DecodeError → ℕ
+cut_length (Ok i) = i.length
+cut_length (Err e) = 1
+
+-- the cut at a place, where these bytes stand
+abbrev pub cut_at : Bool → ℕ → List ℕ → Cut
+cut_at strict place bytes = record { place = place; length = cut_length (answer_of strict bytes); answer = answer_of strict bytes }
+
+-- the cuts of bytes that stand from a place on, without the bytes at the front that belong to the cut before
+unfoldable pub cuts_behind : Bool → ℕ → ℕ → List ℕ → List Cut
+cuts_behind strict skip place [] = []
+cuts_behind strict zero place (x ∷ xs) = cut_at strict place (x ∷ xs) ∷ cuts_behind strict (cut_length (answer_of strict (x ∷ xs)) - 1) (place + 1) xs
+cuts_behind strict (suc skip) place (x ∷ xs) = cuts_behind strict skip (place + 1) xs
+
+-- the cuts of bytes that stand from a place on
+abbrev pub cuts_from : Bool → ℕ → List ℕ → List Cut
+cuts_from strict place bytes = cuts_behind strict 0 place bytes
+
+-- the cuts of an input
+abbrev pub cuts_of : Bool → List ℕ → List Cut
+cuts_of strict bytes = cuts_from strict 0 bytes

@@ -1,0 +1,34 @@
+-- The places of bytes that the instructions of a sweep branch to.
+use Rattle.std.specs.Prelude.{ℕ, ◌+◌, ◌==◌, ◌&&◌, nat_lt, Bool, false, Option, Some, None, List, Result, Ok, Err}
+use Rattle.std.specs.List.{list_any}
+use Rattle.x86_fields.specs.declared.DecodeError.{DecodeError}
+use Rattle.x86_decode.specs.declared.instructions.Instruction.{Instruction}
+use Rattle.x86_layout.specs.declared.sweeps.cuts.Cut.{Cut}
+use Rattle.x86_layout.specs.Sweeps.Cuts.{cuts_of}
+use Rattle.x86_layout.specs.Sweeps.Branches.{target_of}
+
+-- the target of an accepted cut; a refused one has none
+abbrev pub target_by : Result Instruction DecodeError → ℕ → Option ℕ
+target_by (Ok i) next = target_of i next
+target_by (Err e) next = None
+
+abbrev pub target_of_cut : Cut → Option ℕ
+target_of_cut c = target_by c.answer (c.place + c.length)
+
+abbrev pub is_target : ℕ → Option ℕ → Bool
+is_target place None = false
+is_target place (Some t) = t == place
+
+abbrev pub targets : ℕ → Cut → Bool
+targets place c = is_target place (target_of_cut c)
+
+abbrev pub begins_at : ℕ → Cut → Bool
+begins_at place c = c.place == place
+
+-- the place is behind the first byte of a cut, and not behind its last one
+abbrev pub is_inside : ℕ → Cut → Bool
+is_inside place c = nat_lt c.place place && nat_lt place (c.place + c.length)
+
+-- the place is that of a cut of the bytes, and the target of a cut of the bytes
+abbrev pub is_marked : Bool → List ℕ → ℕ → Bool
+is_marked strict bytes place = list_any (begins_at place) (cuts_of strict bytes) && list_any (targets place) (cuts_of strict bytes)

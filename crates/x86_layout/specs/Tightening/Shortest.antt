@@ -1,0 +1,128 @@
+-- The raw fields of an address with the fewest bytes. Source: Intel SDM volume 2, sections 2.1.5 and 2.2.1.
+use Rattle.std.specs.Prelude.{◌≡◌, ℕ, ◌+◌, ◌*◌, ◌==◌, ◌&&◌, not, nat_le, Bool, true, false, if◌then◌else◌, Option, Some, None, is_some, ℤ, FitsSigned}
+use Rattle.std.specs.Int.{w32}
+use Rattle.x86_fields.specs.declared.Raw.{Raw}
+use Rattle.x86_fields.specs.Raw.{middle_field, low_field, disp_width, is_zero, is_byte, fits}
+use Rattle.x86_layout.specs.declared.tightening.places.Scale.{Scale}
+use Rattle.x86_layout.specs.declared.tightening.places.Scale.TheVariants.{One, Two, Four, Eight}
+use Rattle.x86_layout.specs.declared.tightening.places.Places.{Places}
+use Rattle.x86_layout.specs.Tightening.Places.{places_of, IsByteOption}
+
+-- ---- where the registers stand
+
+-- a base whose number ends in 101 has a displacement, also of 0
+abbrev pub asks_displacement : ℕ → Bool
+asks_displacement base = low_field base == 5
+
+abbrev pub is_bare : ℤ → ℕ → Bool
+is_bare disp base = is_zero disp && not (asks_displacement base)
+
+-- an index alone stands as base where it counts once, and as both where it counts twice
+abbrev pub lone : ℕ → Scale → Places
+lone index One = record { base = Some index; index = None; scale = One }
+lone index Two = record { base = Some index; index = Some index; scale = One }
+lone index Four = record { base = None; index = Some index; scale = Four }
+lone index Eight = record { base = None; index = Some index; scale = Eight }
+
+-- base and index change places where that spares a displacement of 0
+abbrev pub exchanged : ℤ → ℕ → ℕ → Places
+exchanged disp base index =
+    if is_zero disp && (asks_displacement base && not (asks_displacement index))
+    then record { base = Some index; index = Some base; scale = One }
+    else record { base = Some base; index = Some index; scale = One }
+
+abbrev pub both : ℤ → ℕ → ℕ → Scale → Places
+both disp base index One = exchanged disp base index
+both disp base index scale = record { base = Some base; index = Some index; scale = scale }
+
+abbrev pub placed : ℤ → Option ℕ → Option ℕ → Scale → Places
+placed disp None None scale = record { base = None; index = None; scale = One }
+placed disp (Some b) None scale = record { base = Some b; index = None; scale = One }
+placed disp None (Some i) scale = lone i scale
+placed disp (Some b) (Some i) scale = both disp b i scale
+
+-- where the registers stand in the shortest form
+abbrev pub shortest_places : Raw → Places
+shortest_places raw = let at = places_of raw in placed raw.disp at.base at.index at.scale
+
+-- ---- how many bytes
+
+-- of the displacement, behind a base
+abbrev pub behind_base : ℤ → ℕ → ℕ
+behind_base disp base = if is_bare disp base then 0 else (if is_byte disp then 1 else 4)
+
+-- of SIB and displacement, where the registers stand so
+abbrev pub bytes_by : ℤ → Option ℕ → Option ℕ → ℕ
+bytes_by disp None index = 5
+bytes_by disp (Some b) None = (if low_field b == 4 then 1 else 0) + behind_base disp b
+bytes_by disp (Some b) (Some i) = 1 + behind_base disp b
+
+abbrev pub bytes_at : ℤ → Places → ℕ
+bytes_at disp at = bytes_by disp at.base at.index
+
+-- how many bytes SIB and displacement of raw fields have
+abbrev pub address_length : Raw → ℕ
+address_length raw = (if is_some raw.sib then 1 else 0) + disp_width raw.modrm raw.sib
+
+-- ---- the raw fields
+
+abbrev pub mod_by : ℤ → ℕ → ℕ
+mod_by disp base = if is_bare disp base then 0 else (if is_byte disp then 1 else 2)
+
+abbrev pub mod_of : ℤ → Option ℕ → ℕ
+mod_of disp None = 0
+mod_of disp (Some b) = mod_by disp b
+
+abbrev pub packed_byte : ℕ → ℕ → ℕ → ℕ
+packed_byte high middle low = high * 64 + (middle * 8 + low)
+
+-- the fourth bit of a register's number
+abbrev pub fourth_bit : Option ℕ → Bool
+fourth_bit None = false
+fourth_bit (Some n) = nat_le 8 n
+
+abbrev pub scale_field : Scale → ℕ
+scale_field One = 0
+scale_field Two = 1
+scale_field Four = 2
+scale_field Eight = 3
+
+-- the three bits of a register's number, and these where there is none
+abbrev pub field_or : ℕ → Option ℕ → ℕ
+field_or none None = none
+field_or none (Some n) = low_field n
+
+abbrev pub sib_byte : Places → ℕ
+sib_byte at = packed_byte (scale_field at.scale) (field_or 4 at.index) (field_or 5 at.base)
+
+-- SIB isn't needed where there is a base alone, whose number doesn't end in 100
+abbrev pub rm_alone : Option ℕ → Option ℕ → Option ℕ
+rm_alone (Some b) None = if low_field b == 4 then None else Some (low_field b)
+rm_alone base index = None
+
+abbrev pub sib_by : Option ℕ → ℕ → Option ℕ
+sib_by None sib = Some sib
+sib_by (Some rm) sib = None
+
+abbrev pub rm_by : Option ℕ → ℕ
+rm_by None = 4
+rm_by (Some rm) = rm
+
+-- the raw fields where the registers stand so, with the reg field and the displacement of some raw fields
+abbrev pub spelled : Raw → Places → Raw
+spelled raw at = record raw {
+  rex_b = fourth_bit at.base;
+  rex_x = fourth_bit at.index;
+  modrm = packed_byte (mod_of raw.disp at.base) (middle_field raw.modrm) (rm_by (rm_alone at.base at.index));
+  sib = sib_by (rm_alone at.base at.index) (sib_byte at);
+}
+
+-- raw fields of the same address with the fewest bytes
+unfoldable pub shortest : Raw → Raw
+shortest raw = spelled raw (shortest_places raw)
+
+-- The raw fields are those of some bytes.
+pub record IsOfBytes (raw : Raw) : Type 0 where
+  pub fit : fits raw ≡ true
+  pub sib : IsByteOption raw.sib
+  pub disp : FitsSigned w32 raw.disp

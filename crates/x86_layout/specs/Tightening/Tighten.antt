@@ -1,0 +1,158 @@
+-- Encodings that differ in how they name an address.
+use Rattle.std.specs.Prelude.{◌≡◌, ℕ, ◌+◌, ◌*◌, ◌/◌, ◌≤◌, ◌<◌, ◌++◌, Bool, true, false, if◌then◌else◌, Option, Some, None, List, [], ◌∷◌, length, map, take, slice_index, Ok, Err, All}
+use Rattle.std.specs.List.{list_any}
+use Rattle.std.specs.Int.{w32, cast_unsigned, to_le_bytes}
+use Rattle.x86_fields.specs.declared.PrefixRex.{PrefixRex}
+use Rattle.x86_fields.specs.declared.Raw.{Raw}
+use Rattle.x86_fields.specs.Run.{is_rex_byte, reading_of}
+use Rattle.x86_fields.specs.Raw.{middle_field, disp_width, rex_b, rex_x}
+use Rattle.x86_fields.specs.Pieces.{option_bytes, first_byte, signed_by}
+use Rattle.x86_fields.specs.Linear.{raw_form, IsSameAddress}
+use Rattle.x86_forms.specs.Words.{rows_of, word_at}
+use Rattle.x86_operands.specs.declared.reader.Reading.{Reading}
+use Rattle.x86_decode.specs.declared.instructions.Instruction.{Instruction}
+use Rattle.x86_decode.specs.Head.{escape_bytes}
+use Rattle.x86_decode.specs.Grammar.{IsSentence}
+use Rattle.x86_decode.specs.Answer.{answer_of}
+use Rattle.x86_decode.specs.Addresses.{is_modrm_sign, signs_within}
+use Rattle.x86_layout.specs.declared.parts.split.Parts.{Parts}
+use Rattle.x86_layout.specs.declared.tightening.tighten.Addressed.{Addressed}
+use Rattle.x86_layout.specs.declared.tightening.tighten.TightenError.{TightenError}
+use Rattle.x86_layout.specs.declared.tightening.tighten.TightenError.TheVariants.{Refused, NoMemoryForm, IpRelative}
+use Rattle.x86_layout.specs.Parts.Split.{PartLists, Encoding, HasParts, lists_of}
+use Rattle.x86_layout.specs.Tightening.Places.{is_ip_relative}
+use Rattle.x86_layout.specs.Tightening.Shortest.{address_length}
+
+-- a REX with other bits X and B
+abbrev pub bits_in : Bool → Bool → Option PrefixRex → Option PrefixRex
+bits_in x b None = None
+bits_in x b (Some r) = Some (record r { x = x; b = b })
+
+-- a REX byte with these bits X and B; another byte stays
+abbrev pub byte_with : Bool → Bool → ℕ → ℕ
+byte_with x b byte = if is_rex_byte byte then (byte / 4) * 4 + ((if x then 2 else 0) + (if b then 1 else 0)) else byte
+
+-- a run whose live REX, which is its last byte, has these bits X and B
+unfoldable pub run_with : Bool → Bool → List ℕ → List ℕ
+run_with x b [] = []
+run_with x b (byte ∷ []) = byte_with x b byte ∷ []
+run_with x b (byte ∷ next ∷ rest) = byte ∷ run_with x b (next ∷ rest)
+
+-- ---- raw fields and their bytes
+
+-- the raw fields of parts
+abbrev pub raw_of : PartLists → Raw
+raw_of parts = let p = reading_of parts.prefixes in record {
+  rex_b = rex_b p;
+  rex_x = rex_x p;
+  address_size = p.address_size;
+  modrm = slice_index parts.modrm 0;
+  sib = first_byte parts.sib;
+  disp = signed_by (length parts.displacement) parts.displacement;
+}
+
+abbrev pub raw_in : Parts → Raw
+raw_in parts = raw_of (lists_of parts)
+
+-- the displacement, in as many bytes as its fields have
+abbrev pub displacement_bytes : Raw → List ℕ
+displacement_bytes raw = take (disp_width raw.modrm raw.sib) (to_le_bytes w32 (cast_unsigned w32 raw.disp))
+
+abbrev pub address_bytes : Raw → List ℕ
+address_bytes raw = option_bytes raw.sib ++ displacement_bytes raw
+
+-- parts with other raw fields, in order
+abbrev pub respelled : Parts → Raw → List ℕ
+respelled p raw = run_with raw.rex_x raw.rex_b p.prefixes.now ++ (p.escape.now ++ (p.opcode.now ++ (raw.modrm ∷ (address_bytes raw ++ (p.immediate.now ++ p.suffix.now)))))
+
+-- how many bytes that are
+abbrev pub respelled_length : Parts → Raw → ℕ
+respelled_length p raw = length p.prefixes.now + length p.escape.now + length p.opcode.now + 1 + address_length raw + length p.immediate.now + length p.suffix.now
+
+-- ---- relatives
+
+module _ (strict : Bool) (s : List ℕ) (a : Reading) (v : Encoding strict s a) (t : List ℕ) (b : Reading) (w : Encoding strict t b) where
+  -- The parts of t are those of s, but for mod and rm of ModRM, SIB, displacement, and the bits X and B of a live REX.
+  pub record HasPartsOf : Type 0 where
+    pub prefixes : run_with false false w.run ≡ run_with false false v.run
+    pub escape : escape_bytes w.map ≡ escape_bytes v.map
+    pub opcode : w.opcode ≡ v.opcode
+    pub register : map middle_field w.asked.modrm ≡ map middle_field v.asked.modrm
+    pub immediate : w.asked.behind.pieces.immediates ≡ v.asked.behind.pieces.immediates
+    pub suffix : w.asked.behind.pieces.suffix ≡ v.asked.behind.pieces.suffix
+
+  -- The raw fields of t have the same address as those of s.
+  pub record HasAddressOf : Type 0 where
+    pub from : Raw
+    pub to : Raw
+    pub old : v.asked.behind.pieces.memory ≡ Some from
+    pub new : w.asked.behind.pieces.memory ≡ Some to
+    pub same : IsSameAddress (raw_form to) (raw_form from)
+
+  pub record IsRelative : Type 0 where
+    pub parts : HasPartsOf
+    pub address : HasAddressOf
+
+module _ (strict : Bool) (s : List ℕ) (a : Reading) (v : Encoding strict s a) where
+  -- No relative of s is shorter.
+  abbrev pub IsLeast : List ℕ → Type 0
+  IsLeast t = (u : List ℕ) (c : Instruction) (is : IsSentence (rows_of word_at) strict u c) → All (λ byte. byte < 256) u → IsRelative strict s a v u is.reading is.whole → length t ≤ length u
+
+  -- t is a sentence that is a relative of s, and no relative of s is shorter.
+  pub record IsShortest (t : List ℕ) : Type 0 where
+    pub answer : Instruction
+    pub sentence : IsSentence (rows_of word_at) strict t answer
+    pub relative : IsRelative strict s a v t sentence.reading sentence.whole
+    pub least : IsLeast t
+
+  -- A memory operand is read from ModRM: it is a memory form, and an operand is written as its memory.
+  pub record HasMemoryOperand : Type 0 where
+    pub raw : Raw
+    pub read : v.asked.behind.pieces.memory ≡ Some raw
+    pub written : list_any is_modrm_sign (signs_within (rows_of word_at) strict s a v) ≡ true
+
+  -- There is such an operand, and its base is the next instruction or isn't.
+  pub record HasOperandForm (ip_relative : Bool) : Type 0 where
+    pub operand : HasMemoryOperand
+    pub form : is_ip_relative operand.raw ≡ ip_relative
+
+  -- These are the parts of the encoding, and the raw fields of its memory operand, which isn't relative to the next instruction.
+  pub record HasFields (found : Addressed) : Type 0 where
+    pub parts : HasParts strict s a v (lists_of found.parts)
+    pub read : v.asked.behind.pieces.memory ≡ Some found.raw
+    pub form : is_ip_relative found.raw ≡ false
+
+  -- The encoding has a memory operand of ModRM that isn't relative to the next instruction, and t is a shortest relative.
+  pub record IsTightened (t : List ℕ) : Type 0 where
+    pub form : HasOperandForm false
+    pub shortest : IsShortest t
+
+  -- The encoding has no relative to seek.
+  abbrev pub HasNoRelative : TightenError → Type 0
+  HasNoRelative (Refused error) = ⊥
+  HasNoRelative NoMemoryForm = HasMemoryOperand → ⊥
+  HasNoRelative IpRelative = HasOperandForm true
+
+-- ---- at the front of bytes
+
+-- what is said of a sentence by its pieces
+abbrev pub Statement : Type 1
+Statement = (strict : Bool) (s : List ℕ) (a : Reading) → Encoding strict s a → Type 0
+
+-- The bytes begin with a sentence, and this holds of it.
+pub record OfFront (strict : Bool) (bytes : List ℕ) (Holds : Statement) : Type 0 where
+  pub instruction : Instruction
+  pub accepted : answer_of strict bytes ≡ Ok instruction
+  pub of_it : (s rest : List ℕ) (a : Instruction) (is : IsSentence (rows_of word_at) strict s a) → bytes ≡ s ++ rest → Holds strict s is.reading is.whole
+
+-- The bytes are refused, or their sentence has no relative to seek.
+abbrev pub IsNotTightened : Bool → List ℕ → TightenError → Type 0
+IsNotTightened strict bytes (Refused error) = answer_of strict bytes ≡ Err error
+IsNotTightened strict bytes NoMemoryForm = OfFront strict bytes (λ strict s a v. HasNoRelative strict s a v NoMemoryForm)
+IsNotTightened strict bytes IpRelative = OfFront strict bytes (λ strict s a v. HasNoRelative strict s a v IpRelative)
+
+-- The bytes are a sentence under some choice.
+pub record HasSentence (s : List ℕ) : Type 0 where
+  pub strict : Bool
+  pub answer : Instruction
+  pub is : IsSentence (rows_of word_at) strict s answer

@@ -1,0 +1,344 @@
+//! Fields written as bytes.
+
+ghost use Rattle.std.specs.Prelude.{◌≡◌, ◌+◌, ◌≤◌, ◌++◌, length, is_some, IfSome, MatchResult, IsOk, IfOk, IfErr, ◌↔◌, Some, None};
+ghost use Rattle.arrayvec.specs.ArrayVec.{array_vec_len};
+ghost use Rattle.x86_fields.specs.Pieces.{option_bytes};
+ghost use Rattle.x86_forms.specs.Words.{IsForm};
+ghost use Rattle.x86_operands.specs.Pieces.{is_refusal};
+ghost use Rattle.x86_decode.specs.Head.{is_run};
+ghost use Rattle.x86_layout.specs.Parts.Split.{joined};
+ghost use Rattle.x86_layout.specs.Parts.Fields.{lists_in};
+ghost use Rattle.x86_layout.specs.Parts.Permitted.{lacks_modrm, refuses_suffix, passes_record, displacement_asked, has_asked_parts, tail_of, has_lawful_lock, is_short, failing_at, first_failing, IsPermitted};
+
+use crate::parts::entries::{Entry, entry_of, record_at};
+use crate::parts::fields::Fields;
+use crate::parts::split::{asks_sib, one_if};
+use arrayvec::ArrayVec;
+use thiserror::Error;
+use x86_arch::U8Reader;
+use x86_decode::InstDecoder;
+use x86_decode::builders::{allows_lock, is_prefix, read_row};
+use x86_fields::displacement_width;
+use x86_operands::plans::{Verdict, memory_form};
+use x86_operands::{RecordAt, plan_ask, suffix_opcode};
+
+/// Why fields aren't written: the first condition that fails, in this order.
+#[derive(Clone, Copy, PartialEq, Eq, Debug, Drop, Error)]
+pub enum EmitError {
+    /// One of the prefix bytes is neither a legacy prefix nor a REX.
+    #[error("not a prefix byte")]
+    Prefixes,
+    /// The escape is none of the four, the opcode byte has no row, or the row's record refuses at the opcode, for the ModRM that is
+    /// there, or for the suffix that is there.
+    #[error("no row for these fields")]
+    Row,
+    /// A part that the row asks is missing or has another length, or one is there that it doesn't ask.
+    #[error("parts other than the row asks")]
+    Shape,
+    /// F0 is there and isn't allowed.
+    #[error("lock prefix not allowed")]
+    Lock,
+    /// There are more than 15 bytes.
+    #[error("more than 15 bytes")]
+    Length,
+}
+
+fn is_legal_run(prefixes: &[u8]) -> bool
+    ensures { result ≡ is_run prefixes.now }
+{
+    prefixes.iter().all(|byte| is_prefix(*byte))
+}
+
+/// Whether a ModRM that the row asks isn't there.
+fn lacks_modrm(row_record: &RecordAt, fields: &Fields) -> bool
+    ensures { result ≡ lacks_modrm row_record.now fields.now }
+{
+    let ask = plan_ask(row_record.usage, row_record.modrm, &row_record.plan);
+    ask.modrm && fields.modrm.is_none()
+}
+
+/// Whether the suffix that is there names no operation, where the row asks one.
+fn refuses_suffix(verdict: Verdict, suffix: Option<u8>) -> bool
+    ensures { result ≡ refuses_suffix verdict suffix }
+{
+    match (verdict, suffix) {
+        (Verdict::NamedBySuffix, Some(byte)) => suffix_opcode(byte).is_none(),
+        _ => false,
+    }
+}
+
+fn is_refusal(verdict: Verdict) -> bool
+    ensures { result ≡ is_refusal verdict }
+{
+    matches!(verdict, Verdict::Refuses(_, _))
+}
+
+/// Whether a record refuses neither at the opcode nor for the ModRM and the suffix that are there.
+fn passes_record(row_record: &RecordAt, fields: &Fields) -> bool
+    ensures { result ≡ passes_record row_record.now fields.now }
+{
+    let modrm_passes = !is_refusal(row_record.plan.verdict) || lacks_modrm(row_record, fields);
+    let suffix_passes = !refuses_suffix(row_record.plan.verdict, fields.suffix);
+    row_record.at_opcode.is_none() && modrm_passes && suffix_passes
+}
+
+/// How many bytes of displacement there are at ModRM and SIB.
+fn displacement_asked(modrm: u8, sib: Option<u8>) -> u8
+    ensures { result ≡ displacement_asked modrm sib }
+{
+    if memory_form(modrm) {
+        displacement_width(modrm, sib)
+    } else {
+        0
+    }
+}
+
+/// Whether each part that a record asks is there with its length, and no other part is.
+fn has_asked_parts(row_record: &RecordAt, fields: &Fields) -> bool
+    ensures { result ≡ has_asked_parts row_record.now fields.now }
+{
+    let ask = plan_ask(row_record.usage, row_record.modrm, &row_record.plan);
+    let sib_asked = asks_sib(&ask, row_record.modrm);
+    let displacement = usize::from(displacement_asked(row_record.modrm, fields.sib));
+    let modrm_fits = one_if(fields.modrm.is_some()) == one_if(ask.modrm);
+    let sib_fits = one_if(fields.sib.is_some()) == one_if(sib_asked);
+    let displacement_fits = fields.displacement.len() == displacement;
+    let immediate_fits = fields.immediate.len() == usize::from(ask.immediate);
+    let suffix_fits = one_if(fields.suffix.is_some()) == one_if(ask.suffix);
+    modrm_fits && sib_fits && displacement_fits && immediate_fits && suffix_fits
+}
+
+/// Appends a part of an encoding.
+pub fn push(bytes: &mut ArrayVec<u8, 15>, part: &[u8])
+    requires { array_vec_len bytes.old + length part.now ≤ 15 }
+    ensures text { bytes.new.items ≡ bytes.old.items ++ part.now }
+    ensures len { array_vec_len bytes.new ≡ array_vec_len bytes.old + length part.now }
+{
+    let _ = bytes.try_extend_from_slice(part);
+}
+
+fn push_byte(bytes: &mut ArrayVec<u8, 15>, part: Option<u8>)
+    requires { array_vec_len bytes.old + 1 ≤ 15 }
+    ensures text { bytes.new.items ≡ bytes.old.items ++ option_bytes part }
+    ensures len { array_vec_len bytes.new ≤ array_vec_len bytes.old + 1 }
+{
+    match part {
+        Some(byte) => push(bytes, &[byte]),
+        None => {}
+    }
+}
+
+/// What stands behind the opcode byte, at most 15 bytes.
+fn tail_of(fields: &Fields) -> ArrayVec<u8, 15>
+    ensures { result.items ≡ tail_of fields.now }
+{
+    let displacement = fields.displacement.as_slice();
+    let immediate = fields.immediate.as_slice();
+    let mut tail = ArrayVec::new();
+    push_byte(&mut tail, fields.modrm);
+    push_byte(&mut tail, fields.sib);
+    push(&mut tail, displacement);
+    push(&mut tail, immediate);
+    push_byte(&mut tail, fields.suffix);
+    tail
+}
+
+/// Whether F0 is absent, or allowed for the reading of what stands behind the opcode byte.
+fn has_lawful_lock(strict: bool, entry: &Entry, fields: &Fields) -> bool
+    requires { IsForm entry.now.row.form }
+    ensures { result ≡ has_lawful_lock strict entry.now fields.now }
+{
+    let tail = tail_of(fields);
+    let mut words = U8Reader::new(tail.as_slice());
+    match read_row(strict, entry.row, entry.prefixes, &mut words) {
+        Ok(reading) => allows_lock(&reading),
+        Err(_) => false,
+    }
+}
+
+/// The parts in order, where they have at most 15 bytes in all.
+fn joined(fields: &Fields) -> Option<ArrayVec<u8, 15>>
+    ensures short { is_some result ≡ is_short fields.now }
+    ensures bytes { IfSome result (λ bytes. bytes.items ≡ joined (lists_in fields.now)) }
+{
+    let prefixes = fields.prefixes.as_slice();
+    let escape = fields.escape.as_slice();
+    let tail = tail_of(fields);
+    let behind = tail.as_slice();
+    if prefixes.len() + escape.len() + 1 + behind.len() > 15 {
+        return None;
+    }
+    let mut bytes = ArrayVec::new();
+    push(&mut bytes, prefixes);
+    push(&mut bytes, escape);
+    push(&mut bytes, &[fields.opcode]);
+    push(&mut bytes, behind);
+    Some(bytes)
+}
+
+/// Writes fields whose row is known.
+fn emit_row(strict: bool, entry: &Entry, fields: &Fields) -> Result<ArrayVec<u8, 15>, EmitError>
+    requires { IsForm entry.now.row.form }
+    ensures { MatchResult result (λ bytes. (failing_at strict (Some entry.now) fields.now ≡ None) × (bytes.items ≡ joined (lists_in fields.now))) (λ error. failing_at strict (Some entry.now) fields.now ≡ Some error) }
+{
+    let record = record_at(strict, entry, fields.modrm);
+    if !passes_record(&record, fields) {
+        return Err(EmitError::Row);
+    }
+    if !has_asked_parts(&record, fields) {
+        return Err(EmitError::Shape);
+    }
+    if !has_lawful_lock(strict, entry, fields) {
+        return Err(EmitError::Lock);
+    }
+    match joined(fields) {
+        Some(bytes) => Ok(bytes),
+        None => Err(EmitError::Length),
+    }
+}
+
+/// The encoding that has these parts, where they are permitted: the prefixes are a legal run; the opcode byte has a row, and its
+/// record doesn't refuse; each part that the row asks is there with its length, and no other part; F0 is absent or allowed; and the
+/// parts have at most 15 bytes in all. Else the error says which of these fails first (Intel SDM volume 2, section 2.1).
+///
+/// The fields of the split of `48 03 44 25 00` give these bytes again, and `Shape` where their SIB is taken away.
+#[tactic(auto, unfolding(crate::specs::Parts::Permitted::first_failing))]
+pub fn emit(decoder: &InstDecoder, fields: &Fields) -> Result<ArrayVec<u8, 15>, EmitError>
+    ensures permitted { IsOk result ↔ IsPermitted decoder.now.strict fields.now }
+    ensures bytes { IfOk result (λ bytes. bytes.items ≡ joined (lists_in fields.now)) }
+    ensures first { IfErr result (λ error. first_failing decoder.now.strict fields.now ≡ Some error) }
+{
+    if !is_legal_run(fields.prefixes.as_slice()) {
+        return Err(EmitError::Prefixes);
+    }
+    match entry_of(fields) {
+        Some(entry) => emit_row(decoder.is_strict(), &entry, fields),
+        None => Err(EmitError::Row),
+    }
+}
+
+#[cfg(test)]
+mod tests {
+    use crate::{EmitError, Fields, emit, split};
+    use arrayvec::ArrayVec;
+    use x86_decode::InstDecoder;
+
+    /// The fields of the encoding at the front.
+    fn fields_of(bytes: &[u8]) -> Option<Fields> {
+        match split(&InstDecoder::default(), bytes) {
+            Ok(parts) => Some(Fields::of(&parts)),
+            Err(_) => None,
+        }
+    }
+
+    const ADD: [u8; 5] = [0x48, 0x03, 0x44, 0x25, 0x00];
+
+    /// The fields of `ADD` with other prefixes, as many as fit.
+    fn add_behind(prefixes: &[u8]) -> Option<Fields> {
+        let mut fields = fields_of(&ADD)?;
+        fields.prefixes.clear();
+        let _ = fields.prefixes.try_extend_from_slice(prefixes);
+        Some(fields)
+    }
+
+    /// The fields of `ADD` with another opcode and ModRM, and without a displacement.
+    fn with_opcode(opcode: u8, modrm: u8) -> Option<Fields> {
+        let mut fields = fields_of(&ADD)?;
+        fields.opcode = opcode;
+        fields.modrm = Some(modrm);
+        fields.displacement.clear();
+        Some(fields)
+    }
+
+    fn writes(fields: Option<Fields>, wanted: &[u8]) -> bool {
+        match fields {
+            Some(fields) => match emit(&InstDecoder::default(), &fields) {
+                Ok(bytes) => bytes.as_slice() == wanted,
+                Err(_) => false,
+            },
+            None => false,
+        }
+    }
+
+    fn refusal(fields: Option<Fields>) -> Option<EmitError> {
+        emit(&InstDecoder::default(), &fields?).err()
+    }
+
+    /// The encoding at the front without its prefixes.
+    fn without_prefixes(bytes: &[u8]) -> Option<ArrayVec<u8, 15>> {
+        let decoder = InstDecoder::default();
+        match split(&decoder, bytes) {
+            Ok(parts) => {
+                let mut fields = Fields::of(&parts);
+                fields.prefixes.clear();
+                emit(&decoder, &fields).ok()
+            }
+            Err(_) => None,
+        }
+    }
+
+    #[test]
+    fn prefixes_are_taken_away(rt: HostRuntime) {
+        let bytes = without_prefixes(&[0x66, 0x48, 0x01, 0xd8]).expect(&rt, "an encoding");
+        assert!(rt; bytes.as_slice() == [0x01, 0xd8].as_slice());
+    }
+
+    #[test]
+    fn fields_are_written(rt: HostRuntime) {
+        assert!(rt; writes(fields_of(&[0x48, 0x03, 0x44, 0x25, 0x00, 0x90]), &ADD));
+        assert!(rt;
+            writes(
+                add_behind(&[0x48, 0x48]),
+                &[0x48, 0x48, 0x03, 0x44, 0x25, 0x00]
+            )
+        );
+        let mut run = [0x66; 12];
+        run[10] = 0x48;
+        let bytes = [
+            0x66, 0x66, 0x66, 0x66, 0x66, 0x66, 0x66, 0x66, 0x66, 0x66, 0x48, 0x03, 0x44, 0x25,
+            0x00,
+        ];
+        assert!(rt; writes(add_behind(&run[..11]), &bytes));
+        run[10] = 0x66;
+        run[11] = 0x48;
+        assert!(rt; refusal(add_behind(&run)) == Some(EmitError::Length));
+    }
+
+    #[test]
+    fn fields_are_refused(rt: HostRuntime) {
+        assert!(rt; refusal(add_behind(&[0x90])) == Some(EmitError::Prefixes));
+        assert!(rt; refusal(add_behind(&[0xf0])) == Some(EmitError::Lock));
+        let mut fields = fields_of(&ADD).expect(&rt, "fields");
+        fields.sib = None;
+        assert!(rt; refusal(Some(fields)) == Some(EmitError::Shape));
+        assert!(rt; refusal(with_opcode(0x06, 0x44)) == Some(EmitError::Row));
+        // the row of FE refuses /2, and the displacement is missing
+        assert!(rt; refusal(with_opcode(0xfe, 0x54)) == Some(EmitError::Row));
+        let mut fields = fields_of(&[0x0f, 0x0f, 0xc1, 0x9e]).expect(&rt, "fields");
+        fields.suffix = Some(0x06);
+        assert!(rt; refusal(Some(fields)) == Some(EmitError::Row));
+    }
+
+    #[test]
+    fn a_strict_decoder_writes_fewer_fences(rt: HostRuntime) {
+        let fence = [0x0f, 0xae, 0xe9];
+        assert!(rt; writes(fields_of(&fence), &fence));
+        let fields = fields_of(&fence).expect(&rt, "fields");
+        assert!(rt; emit(&InstDecoder::strict(), &fields).err() == Some(EmitError::Row));
+    }
+
+    #[test]
+    fn the_texts_of_the_errors(rt: HostRuntime) {
+        let texts = [
+            (EmitError::Prefixes, "not a prefix byte"),
+            (EmitError::Row, "no row for these fields"),
+            (EmitError::Shape, "parts other than the row asks"),
+            (EmitError::Lock, "lock prefix not allowed"),
+            (EmitError::Length, "more than 15 bytes"),
+        ];
+        for (error, expected) in texts {
+            let text = format!(in rt.alloc(); "{error}").expect(&rt, "memory");
+            assert!(rt; text.as_str() == expected);
+        }
+    }
+}

@@ -1,0 +1,101 @@
+//! The row that fields name.
+
+ghost use Rattle.std.specs.Prelude.{◌≡◌, [], ◌∷◌, Some, IfSome, IsTrue};
+ghost use Rattle.x86_forms.specs.Words.{IsForm};
+ghost use Rattle.x86_operands.specs.Asks.{record_at};
+ghost use Rattle.x86_decode.specs.Head.{is_run, is_opcode};
+ghost use Rattle.x86_decode.specs.Grammar.{record_of};
+ghost use Rattle.x86_layout.specs.Parts.Permitted.{map_named, entry_at, entry_of};
+
+use crate::parts::fields::Fields;
+use x86_decode::builders::{is_prefix, is_vex, seen_by, selected};
+use x86_fields::{Prefixes, read_run};
+use x86_forms::{Map, TableRow, packed, unpack};
+use x86_groups::group_at;
+use x86_operands::{RecordAt, form_at};
+
+/// A row, and the prefixes as its record sees them.
+#[derive(Clone, Copy, Drop)]
+pub struct Entry {
+    pub row: TableRow,
+    pub prefixes: Prefixes,
+}
+
+/// The map of an escape of two bytes.
+fn three_byte_map(first: u8, second: u8) -> Option<Map>
+    ensures { result ≡ map_named (first ∷ second ∷ []) }
+{
+    if first != 0x0f {
+        None
+    } else if second == 0x38 {
+        Some(Map::Of38)
+    } else if second == 0x3a {
+        Some(Map::Of3a)
+    } else {
+        None
+    }
+}
+
+/// The map of an escape, where it is one of the four.
+fn map_named(escape: &[u8]) -> Option<Map>
+    ensures { result ≡ map_named escape.now }
+{
+    match escape {
+        [] => Some(Map::One),
+        [first] => { if *first == 0x0f { Some(Map::Of) } else { None } }
+        [first, second] => three_byte_map(*first, *second),
+        _ => None,
+    }
+}
+
+/// Whether the byte is an opcode of the map, whatever the table gives it.
+fn is_opcode(map: Map, byte: u8) -> bool
+    ensures { result ≡ is_opcode map byte }
+{
+    match map {
+        Map::One => !(is_prefix(byte) || byte == 0x0f || is_vex(byte)),
+        Map::Of => !(byte == 0x38 || byte == 0x3a),
+        Map::Of38 | Map::Of3a => true,
+    }
+}
+
+/// The row of an opcode byte in a map, behind a run that reads so.
+fn entry_in(map: Map, prefixes: Prefixes, opcode: u8) -> Option<Entry>
+    ensures value { result ≡ entry_at (Some map) prefixes opcode }
+    ensures carried { IfSome result (λ entry. IsForm entry.row.form) }
+{
+    if !is_opcode(map, opcode) {
+        return None;
+    }
+    match unpack(packed(map, selected(&prefixes), opcode)) {
+        Some(row) => Some(Entry {
+            row,
+            prefixes: seen_by(map, opcode, prefixes),
+        }),
+        None => None,
+    }
+}
+
+/// The row that fields with a legal run name: that of their opcode byte in the map of their escape and the column of the run.
+pub fn entry_of(fields: &Fields) -> Option<Entry>
+    requires { IsTrue (is_run fields.now.prefixes.items) }
+    ensures value { result ≡ entry_of fields.now }
+    ensures carried { IfSome result (λ entry. IsForm entry.row.form) }
+{
+    match map_named(&fields.escape) {
+        Some(map) => entry_in(map, read_run(&fields.prefixes), fields.opcode),
+        None => None,
+    }
+}
+
+/// The row's record at a ModRM byte.
+pub fn record_at(strict: bool, entry: &Entry, modrm: Option<u8>) -> RecordAt
+    requires { IsForm entry.now.row.form }
+    ensures { result ≡ record_at (record_of strict entry.now.row entry.now.prefixes) modrm }
+{
+    if entry.row.form.is_group() {
+        group_at(entry.row, entry.prefixes, modrm, strict)
+    } else {
+        form_at(entry.row, entry.prefixes, modrm)
+    }
+}

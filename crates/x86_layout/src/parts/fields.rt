@@ -1,0 +1,69 @@
+//! The parts of an encoding, owned.
+
+ghost use Rattle.std.specs.Prelude.{◌≡◌, ◌≤◌, length};
+ghost use Rattle.x86_fields.specs.Pieces.{option_bytes};
+ghost use Rattle.x86_layout.specs.Parts.Split.{lists_of};
+ghost use Rattle.x86_layout.specs.Parts.Fields.{lists_in, HasFieldLengths};
+
+use crate::parts::heads::byte_at;
+use crate::parts::split::Parts;
+use arrayvec::ArrayVec;
+
+/// The parts of an encoding, owned, so that one can be changed alone (Intel SDM volume 2, section 2.1).
+#[derive(Debug, Drop)]
+pub struct Fields {
+    /// The legacy prefixes and REX bytes.
+    pub prefixes: ArrayVec<u8, 14>,
+    /// Nothing, or 0F, 0F 38 or 0F 3A.
+    pub escape: ArrayVec<u8, 2>,
+    pub opcode: u8,
+    pub modrm: Option<u8>,
+    pub sib: Option<u8>,
+    pub displacement: ArrayVec<u8, 4>,
+    /// The immediates in order. The absolute addresses of opcodes A0 to A3 count as immediates.
+    pub immediate: ArrayVec<u8, 8>,
+    /// The byte that names the operation, as in 3DNow.
+    pub suffix: Option<u8>,
+}
+
+/// The bytes of a part, held in place.
+fn held<const N: usize>(bytes: &[u8]) -> ArrayVec<u8, N>
+    requires { length bytes.now ≤ N }
+    ensures { result.items ≡ bytes.now }
+{
+    let mut held = ArrayVec::new();
+    let _ = held.try_extend_from_slice(bytes);
+    held
+}
+
+/// The byte of a part that is there or not.
+fn single(bytes: &[u8]) -> Option<u8>
+    requires { length bytes.now ≤ 1 }
+    ensures { option_bytes result ≡ bytes.now }
+{
+    match bytes {
+        [byte] => Some(*byte),
+        _ => None,
+    }
+}
+
+impl Fields {
+    /// The same parts, owned. The parts that [`split`](crate::split) gives have the lengths that this asks.
+    ///
+    /// Of the parts of `48 03 44 25 00`, ModRM is `Some(0x44)` and the displacement holds 00.
+    pub fn of(parts: &Parts) -> Fields
+        requires { HasFieldLengths (lists_of parts.now) }
+        ensures { lists_in result ≡ lists_of parts.now }
+    {
+        Fields {
+            prefixes: held(parts.prefixes),
+            escape: held(parts.escape),
+            opcode: byte_at(parts.opcode, 0),
+            modrm: single(parts.modrm),
+            sib: single(parts.sib),
+            displacement: held(parts.displacement),
+            immediate: held(parts.immediate),
+            suffix: single(parts.suffix),
+        }
+    }
+}

@@ -1,0 +1,149 @@
+//! What stands in front of the pieces that a row asks, and what the row asks.
+
+ghost use Rattle.std.specs.Prelude.{◌≡◌, Bool, true, length, take, drop, slice_index, IfSome};
+ghost use Rattle.std.specs.List.{list_all, prefix_len};
+ghost use Rattle.x86_fields.specs.Run.{is_prefix_byte};
+ghost use Rattle.x86_forms.specs.Words.{IsForm, rows_of, word_at};
+ghost use Rattle.x86_operands.specs.Asks.{ask_of};
+ghost use Rattle.x86_decode.specs.Head.{column_of, escape_bytes, seen};
+ghost use Rattle.x86_decode.specs.Grammar.{record_of};
+ghost use Rattle.x86_layout.specs.Parts.Heads.{map_by, IsHead};
+ghost use Rattle.x86_layout.specs.Parts.Split.{Encoding};
+ghost use Rattle.x86_operands.specs.declared.reader.Reading.{Reading};
+
+use x86_decode::builders::{is_prefix, seen_by, selected};
+use x86_fields::{Prefixes, read_run};
+use x86_forms::{Map, TableRow, packed, unpack};
+use x86_groups::group_ask;
+use x86_operands::{Ask, form_ask};
+
+/// An encoding up to its opcode byte, what stands behind it, and what its row asks there.
+#[derive(Clone, Copy, Drop)]
+pub struct Head<'a> {
+    pub prefixes: &'a [u8],
+    pub escape: &'a [u8],
+    pub opcode: &'a [u8],
+    pub tail: &'a [u8],
+    pub ask: Ask,
+}
+
+/// The first bytes, as many as are there, and those behind them.
+pub fn cut(bytes: &[u8], count: usize) -> (&[u8], &[u8])
+    ensures front { result.0.now ≡ take count bytes.now }
+    ensures behind { result.1.now ≡ drop count bytes.now }
+{
+    if count <= bytes.len() {
+        bytes.split_at(count)
+    } else {
+        (bytes, &[])
+    }
+}
+
+/// The byte at a place, or 0 where there is none.
+pub fn byte_at(bytes: &[u8], place: usize) -> u8
+    ensures { result ≡ slice_index bytes.now place }
+{
+    match bytes.get(place) {
+        Some(byte) => *byte,
+        None => 0,
+    }
+}
+
+/// How many prefix bytes stand in front.
+fn run_length(bytes: &[u8]) -> usize
+    ensures { result ≡ prefix_len is_prefix_byte bytes.now }
+{
+    let mut length = 0;
+    for byte in bytes {
+        if !is_prefix(*byte) {
+            return length;
+        }
+        length += 1;
+    }
+    length
+}
+
+/// The map by the first two bytes behind the run.
+fn map_of(first: u8, second: u8) -> Map
+    ensures { result ≡ map_by first second }
+{
+    if first != 0x0f {
+        Map::One
+    } else if second == 0x38 {
+        Map::Of38
+    } else if second == 0x3a {
+        Map::Of3a
+    } else {
+        Map::Of
+    }
+}
+
+/// How many bytes the escape of a map has.
+fn escape_length(map: Map) -> usize
+    ensures { result ≡ length (escape_bytes map) }
+{
+    match map {
+        Map::One => 0,
+        Map::Of => 1,
+        Map::Of38 | Map::Of3a => 2,
+    }
+}
+
+/// What a row asks at a ModRM byte, under either choice.
+fn ask_of_row(row: TableRow, prefixes: Prefixes, modrm: u8) -> Ask
+    requires { IsForm row.form }
+    ensures { (strict : Bool) → result ≡ ask_of (record_of strict row prefixes) modrm }
+{
+    if row.form.is_group() {
+        group_ask(row, prefixes, modrm)
+    } else {
+        form_ask(row, prefixes, modrm)
+    }
+}
+
+/// What the row of an opcode byte asks, and nothing where it has no row.
+fn ask_at(map: Map, prefixes: Prefixes, opcode: u8, modrm: u8) -> Ask
+    ensures { (strict : Bool) → IfSome (rows_of word_at map (column_of prefixes) opcode) (λ row. result ≡ ask_of (record_of strict row (seen map opcode prefixes)) modrm) }
+{
+    match unpack(packed(map, selected(&prefixes), opcode)) {
+        Some(row) => ask_of_row(row, seen_by(map, opcode, prefixes), modrm),
+        None => Ask {
+            modrm: false,
+            memory: false,
+            immediate: 0,
+            suffix: false,
+        },
+    }
+}
+
+/// The run of prefixes in front.
+fn run_of(bytes: &[u8]) -> (&[u8], &[u8])
+    ensures prefixes { list_all is_prefix_byte result.0.now ≡ true }
+    ensures front { result.0.now ≡ take (prefix_len is_prefix_byte bytes.now) bytes.now }
+    ensures behind { result.1.now ≡ drop (prefix_len is_prefix_byte bytes.now) bytes.now }
+{
+    cut(bytes, run_length(bytes))
+}
+
+/// The head of an encoding.
+pub fn head_of(encoding: &[u8]) -> Head<'_>
+    ensures { (strict : Bool) (reading : Reading) (w : Encoding strict encoding.now reading) → IsHead strict encoding.now reading w result }
+{
+    let (prefixes, rest) = run_of(encoding);
+    let map = map_of(byte_at(rest, 0), byte_at(rest, 1));
+    let (escape, rest) = cut(rest, escape_length(map));
+    let (opcode, tail) = cut(rest, 1);
+    let ask = ask_at(
+        map,
+        read_run(prefixes),
+        byte_at(opcode, 0),
+        byte_at(tail, 0),
+    );
+    Head {
+        prefixes,
+        escape,
+        opcode,
+        tail,
+        ask,
+    }
+}

@@ -1,0 +1,186 @@
+//! The parts of an encoding.
+
+ghost use Rattle.std.specs.Prelude.{◌≡◌, ◌≤◌, ℕ, List, slice_index, MatchResult, IfOk, Ok, Err};
+ghost use Rattle.x86_fields.specs.declared.Prefixes.{Prefixes};
+ghost use Rattle.x86_operands.specs.declared.reader.Reading.{Reading};
+ghost use Rattle.x86_operands.specs.Plans.{RowRecord};
+ghost use Rattle.x86_operands.specs.Pieces.{SpellsRow};
+ghost use Rattle.x86_operands.specs.Asks.{ask_of};
+ghost use Rattle.x86_decode.specs.Answer.{answer_of};
+ghost use Rattle.x86_layout.specs.Parts.Heads.{one_if, asks_sib, IsTail};
+ghost use Rattle.x86_layout.specs.Parts.Split.{lists_of, IsSplit};
+ghost use Rattle.x86_layout.specs.Parts.Front.{parts_of};
+ghost use Rattle.x86_layout.specs.Parts.Fields.{HasFieldLengths};
+
+use crate::parts::heads::{Head, byte_at, cut, head_of};
+use x86_decode::{InstDecoder, Instruction, laws};
+use x86_fields::DecodeError;
+use x86_operands::Ask;
+
+/// The parts of an encoding, in order. Their concatenation is the encoding (Intel SDM volume 2, section 2.1).
+#[derive(Clone, Copy, Debug, Drop)]
+pub struct Parts<'a> {
+    /// The legacy prefixes and REX bytes.
+    pub prefixes: &'a [u8],
+    /// Nothing, or 0F, 0F 38 or 0F 3A.
+    pub escape: &'a [u8],
+    /// The opcode byte.
+    pub opcode: &'a [u8],
+    pub modrm: &'a [u8],
+    pub sib: &'a [u8],
+    pub displacement: &'a [u8],
+    /// The immediates in order. The absolute addresses of opcodes A0 to A3 count as immediates.
+    pub immediate: &'a [u8],
+    /// The byte that names the operation, as in 3DNow.
+    pub suffix: &'a [u8],
+}
+
+/// How many bytes a part has that is there or not.
+pub fn one_if(flag: bool) -> usize
+    ensures value { result ≡ one_if flag }
+    ensures small { result ≤ 1 }
+{
+    if flag { 1 } else { 0 }
+}
+
+/// Whether there is a SIB at a ModRM byte.
+pub fn asks_sib(ask: &Ask, modrm: u8) -> bool
+    ensures { result ≡ asks_sib ask.now modrm }
+{
+    ask.memory && modrm % 8 == 4
+}
+
+/// The parts of an encoding that has this head.
+pub fn parts_behind<'a>(head: &Head<'a>) -> Parts<'a>
+    ensures prefixes { result.prefixes.now ≡ head.now.prefixes.now }
+    ensures escape { result.escape.now ≡ head.now.escape.now }
+    ensures opcode { result.opcode.now ≡ head.now.opcode.now }
+    ensures tail { (r : RowRecord) (p : Prefixes) (reading : Reading) (tail : List ℕ) → head.now.tail.now ≡ tail → head.now.ask ≡ ask_of r (slice_index tail 0) → (a : SpellsRow r p tail reading) → IsTail r p tail reading a result }
+{
+    let ask = head.ask;
+    let immediate_length = usize::from(ask.immediate);
+    let sib_length = one_if(asks_sib(&ask, byte_at(head.tail, 0)));
+    let (modrm, rest) = cut(head.tail, one_if(ask.modrm));
+    let before_suffix = rest.len().saturating_sub(one_if(ask.suffix));
+    let (address, rest) = cut(rest, before_suffix.saturating_sub(immediate_length));
+    let (sib, displacement) = cut(address, sib_length);
+    let (immediate, suffix) = cut(rest, immediate_length);
+    Parts {
+        prefixes: head.prefixes,
+        escape: head.escape,
+        opcode: head.opcode,
+        modrm,
+        sib,
+        displacement,
+        immediate,
+        suffix,
+    }
+}
+
+/// The parts of an encoding that was decoded: what [`split`] answers, with no second decode. `instruction` is what the decoder answers
+/// for the bytes.
+///
+/// For `48 03 44 25 00` and its instruction the displacement is 00 (Intel SDM volume 2, section 2.1).
+pub fn split_decoded<'a>(
+    decoder: &InstDecoder,
+    instruction: &Instruction,
+    bytes: &'a [u8],
+) -> Parts<'a>
+    requires decoded { answer_of decoder.now.strict bytes.now ≡ Ok instruction.now }
+    ensures pieces { IsSplit decoder.now.strict bytes.now result }
+    ensures value { lists_of result ≡ parts_of decoder.now.strict bytes.now }
+    ensures lengths { HasFieldLengths (lists_of result) }
+{
+    laws::lengths();
+    laws::answer_is();
+    let (encoding, _) = cut(bytes, instruction.len().to_const() as usize);
+    parts_behind(&head_of(encoding))
+}
+
+/// The parts of the accepted encoding at the front of the bytes, in order; their concatenation is that encoding. Refused as
+/// `InstDecoder::decode_slice` refuses.
+///
+/// For `48 03 44 25 00 90` the prefixes are 48, the opcode is 03, ModRM is 44, SIB is 25 and the displacement is 00.
+pub fn split<'a>(decoder: &InstDecoder, bytes: &'a [u8]) -> Result<Parts<'a>, DecodeError>
+    ensures pieces { MatchResult result (λ parts. IsSplit decoder.now.strict bytes.now parts) (λ error. answer_of decoder.now.strict bytes.now ≡ Err error) }
+    ensures value { IfOk result (λ parts. lists_of parts ≡ parts_of decoder.now.strict bytes.now) }
+    ensures lengths { IfOk result (λ parts. HasFieldLengths (lists_of parts)) }
+{
+    let instruction = decoder.decode_slice(bytes)?;
+    Ok(split_decoded(decoder, &instruction, bytes))
+}
+
+#[cfg(test)]
+mod tests {
+    use crate::split;
+    use x86_decode::InstDecoder;
+    use x86_fields::DecodeError;
+
+    /// Whether the parts of the encoding at the front are these, in order.
+    fn has_parts(bytes: &[u8], wanted: [&[u8]; 8]) -> bool {
+        match split(&InstDecoder::default(), bytes) {
+            Ok(parts) => {
+                parts.prefixes == wanted[0]
+                    && parts.escape == wanted[1]
+                    && parts.opcode == wanted[2]
+                    && parts.modrm == wanted[3]
+                    && parts.sib == wanted[4]
+                    && parts.displacement == wanted[5]
+                    && parts.immediate == wanted[6]
+                    && parts.suffix == wanted[7]
+            }
+            Err(_) => false,
+        }
+    }
+
+    #[test]
+    fn parts(rt: HostRuntime) {
+        let bytes = [0x48, 0x03, 0x44, 0x25, 0x00, 0x90];
+        assert!(rt;
+            has_parts(
+                &bytes,
+                [&[0x48], &[], &[0x03], &[0x44], &[0x25], &[0x00], &[], &[]]
+            )
+        );
+        assert!(rt; has_parts(&[0x90], [&[], &[], &[0x90], &[], &[], &[], &[], &[]]));
+        let bytes = [0x48, 0xa1, 0x88, 0x77, 0x66, 0x55, 0x44, 0x33, 0x22, 0x11];
+        assert!(rt;
+            has_parts(
+                &bytes,
+                [&[0x48], &[], &[0xa1], &[], &[], &[], &bytes[2..], &[]]
+            )
+        );
+        let bytes = [0x0f, 0x0f, 0xc1, 0x9e, 0x06];
+        assert!(rt;
+            has_parts(
+                &bytes,
+                [&[], &[0x0f], &[0x0f], &[0xc1], &[], &[], &[], &[0x9e]]
+            )
+        );
+        let bytes = [0x66, 0x0f, 0x3a, 0x16, 0xc1, 0x02];
+        assert!(rt;
+            has_parts(
+                &bytes,
+                [
+                    &[0x66],
+                    &[0x0f, 0x3a],
+                    &[0x16],
+                    &[0xc1],
+                    &[],
+                    &[],
+                    &[0x02],
+                    &[]
+                ]
+            )
+        );
+        let bytes = [0xc7, 0x45, 0xfc, 0x00, 0x00, 0x00, 0x00];
+        assert!(rt;
+            has_parts(
+                &bytes,
+                [&[], &[], &[0xc7], &[0x45], &[], &[0xfc], &bytes[3..], &[]]
+            )
+        );
+        let refused = split(&InstDecoder::default(), &[0x06]);
+        assert!(rt; matches!(refused, Err(DecodeError::InvalidOpcode)));
+    }
+}

@@ -1,0 +1,81 @@
+//! Where the instructions of a sweep branch to.
+
+ghost use Rattle.std.specs.Prelude.{◌≡◌};
+ghost use Rattle.x86_layout.specs.Sweeps.Branches.{is_branch, is_offset_slot, offset_of, target_of};
+
+use x86_decode::Instruction;
+use x86_opcodes::Opcode;
+use x86_operands::{Operand, Slot};
+
+/// Whether the operation may have a target relative to the next instruction.
+fn may_branch(opcode: Opcode) -> bool
+    ensures { result ≡ is_branch opcode }
+{
+    opcode.is_jcc()
+        || matches!(
+            opcode,
+            Opcode::CALL
+                | Opcode::JMP
+                | Opcode::LOOPNZ
+                | Opcode::LOOPZ
+                | Opcode::LOOP
+                | Opcode::JRCXZ
+                | Opcode::JECXZ
+        )
+}
+
+/// Whether a relative target comes from this slot.
+fn is_offset(slot: Slot) -> bool
+    ensures { result ≡ is_offset_slot slot }
+{
+    matches!(slot, Slot::ImmI8 | Slot::ImmI32)
+}
+
+/// The number that is added to the address of the next instruction.
+fn offset(operand: Operand) -> i64
+    ensures { result ≡ offset_of operand }
+{
+    match operand {
+        Operand::ImmediateI8 { imm } => i64::from(imm),
+        Operand::ImmediateI32 { imm } => i64::from(imm),
+        _ => 0,
+    }
+}
+
+/// The address that an instruction branches to, where `next` is the address behind it: `next` plus its sign-extended immediate,
+/// modulo 2^64. `None` where the operation isn't CALL, JMP, a Jcc, LOOPNZ, LOOPZ, LOOP, JRCXZ or JECXZ, or its target isn't an
+/// immediate (Intel SDM volume 2, CALL, JMP, Jcc and LOOP/LOOPcc).
+///
+/// For `eb fe` at address 0, with `next` 2, this is `Some(0)`; for `ff e0`, which is JMP rax, it is `None`.
+pub fn branch_target(inst: &Instruction, next: u64) -> Option<u64>
+    ensures { result ≡ target_of inst.now next }
+{
+    if may_branch(inst.opcode()) && is_offset(inst.slot(0)) {
+        Some(next.wrapping_add_signed(offset(inst.operand(0))))
+    } else {
+        None
+    }
+}
+
+#[cfg(test)]
+mod tests {
+    use crate::branch_target;
+    use x86_decode::InstDecoder;
+
+    fn target(bytes: &[u8], next: u64) -> Option<u64> {
+        match InstDecoder::default().decode_slice(bytes) {
+            Ok(instruction) => branch_target(&instruction, next),
+            Err(_) => None,
+        }
+    }
+
+    #[test]
+    fn branches(rt: HostRuntime) {
+        assert!(rt; target(&[0xeb, 0xfe], 2) == Some(0));
+        assert!(rt; target(&[0xeb, 0xfe], 1) == Some(u64::MAX));
+        assert!(rt; target(&[0xe8, 0x00, 0x00, 0x00, 0x80], 5) == Some(0xffff_ffff_8000_0005));
+        assert!(rt; target(&[0x0f, 0x84, 0x01, 0x00, 0x00, 0x00], 6) == Some(7));
+        assert!(rt; target(&[0xff, 0xe0], 2).is_none());
+        assert!(rt; target(&[0x6a, 0x01], 2).is_none());
+    }
+}

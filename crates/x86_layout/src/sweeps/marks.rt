@@ -1,0 +1,113 @@
+//! The places of bytes that the instructions of a sweep branch to.
+
+ghost use Rattle.std.specs.Prelude.{◌≡◌, ◌+◌, ◌^◌, ◌<◌, ◌≤◌, ◌&&◌, ◌||◌, ℕ, Bool, not, false, length, slice_index_or};
+ghost use Rattle.std.specs.List.{list_any};
+ghost use Rattle.x86_layout.specs.Sweeps.Cuts.{cuts_of};
+ghost use Rattle.x86_layout.specs.Sweeps.Marks.{target_of_cut, targets, begins_at, is_inside, is_marked};
+ghost use Rattle.x86_layout.specs.Sweeps.Lengths.{IsWithin};
+
+use crate::sweeps::branches::branch_target;
+use crate::sweeps::cuts::Cut;
+use crate::sweeps::sweep::Sweep;
+use x86_decode::{InstDecoder, laws};
+
+/// The target of a cut's instruction.
+fn target(cut: &Cut) -> Option<u64>
+    requires { cut.now.place + cut.now.length < 2 ^ 64 }
+    ensures { result ≡ target_of_cut cut.now }
+{
+    match cut.answer {
+        Ok(instruction) => branch_target(&instruction, (cut.place + cut.length) as u64),
+        Err(_) => None,
+    }
+}
+
+/// Marks the target of a cut.
+fn mark_target(cut: &Cut, marks: &mut [bool])
+    requires { cut.now.place + cut.now.length < 2 ^ 64 }
+    ensures { (p : ℕ) → p < length marks.old → slice_index_or marks.new p false ≡ (slice_index_or marks.old p false || targets p cut.now) }
+{
+    if let Some(place) = target(cut) {
+        if place < marks.len() as u64 {
+            marks[place as usize] = true;
+        }
+    }
+}
+
+/// Takes the marks inside a cut away.
+fn clear_inside(cut: &Cut, marks: &mut [bool])
+    requires { IsWithin (length marks.old) cut.now }
+    ensures { (p : ℕ) → p < length marks.old → slice_index_or marks.new p false ≡ (slice_index_or marks.old p false && not (is_inside p cut.now)) }
+{
+    for place in cut.place + 1..cut.place + cut.length {
+        marks[place] = false;
+    }
+}
+
+/// Takes all marks away.
+fn clear(marks: &mut [bool])
+    ensures { (p : ℕ) → p < length marks.old → slice_index_or marks.new p false ≡ false }
+{
+    for mark in marks.iter_mut() {
+        *mark = false;
+    }
+}
+
+/// Marks the target of each cut.
+fn mark_targets_of(decoder: &InstDecoder, bytes: &[u8], marks: &mut [bool])
+    requires { length bytes.now ≡ length marks.old }
+    ensures { (p : ℕ) → p < length marks.old → slice_index_or marks.new p false ≡ (slice_index_or marks.old p false || list_any (targets p) (cuts_of decoder.now.strict bytes.now)) }
+{
+    laws::lengths();
+    for cut in Sweep::new(*decoder, bytes) {
+        mark_target(&cut, marks);
+    }
+}
+
+/// Takes the marks inside the cuts away, so that marks are left at their places alone.
+fn clear_inside_all(decoder: &InstDecoder, bytes: &[u8], marks: &mut [bool])
+    requires { length bytes.now ≡ length marks.old }
+    ensures { (p : ℕ) → p < length marks.old → slice_index_or marks.new p false ≡ (slice_index_or marks.old p false && list_any (begins_at p) (cuts_of decoder.now.strict bytes.now)) }
+{
+    laws::lengths();
+    for cut in Sweep::new(*decoder, bytes) {
+        clear_inside(&cut, marks);
+    }
+}
+
+/// Marks the places that the instructions of a sweep branch to. `marks[p]` becomes true exactly where a cut of the sweep begins at
+/// p and an instruction of the sweep has the target p, by [`branch_target`] with places as addresses. A target inside a cut or outside the
+/// bytes isn't marked.
+///
+/// Over `eb fe` the marks are true and false.
+pub fn mark_targets(decoder: &InstDecoder, bytes: &[u8], marks: &mut [bool])
+    requires { length bytes.now ≡ length marks.old }
+    ensures { (p : ℕ) → p < length marks.old → slice_index_or marks.new p false ≡ is_marked decoder.now.strict bytes.now p }
+{
+    clear(marks);
+    mark_targets_of(decoder, bytes, marks);
+    clear_inside_all(decoder, bytes, marks);
+}
+
+#[cfg(test)]
+mod tests {
+    use crate::mark_targets;
+    use x86_decode::InstDecoder;
+
+    #[test]
+    fn marks(rt: HostRuntime) {
+        let decoder = InstDecoder::default();
+        let mut marks = [true; 2];
+        mark_targets(&decoder, &[0xeb, 0xfe], &mut marks);
+        assert!(rt; marks == [true, false]);
+        let mut marks = [false; 6];
+        mark_targets(&decoder, &[0x74, 0x01, 0x06, 0xeb, 0xfb, 0x90], &mut marks);
+        assert!(rt; marks == [true, false, false, true, false, false]);
+        let mut marks = [false; 3];
+        mark_targets(&decoder, &[0xeb, 0xff, 0x90], &mut marks);
+        assert!(rt; marks == [false; 3]);
+        let mut marks = [true; 2];
+        mark_targets(&decoder, &[0xeb, 0x7f], &mut marks);
+        assert!(rt; marks == [false; 2]);
+    }
+}

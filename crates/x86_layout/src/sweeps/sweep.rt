@@ -1,0 +1,104 @@
+//! Sweeps: bytes cut into pieces from the first to the last, past every refusal.
+
+ghost use Rattle.std.specs.Prelude.{◌≡◌, ◌+◌, ◌^◌, ◌<◌, ◌≤◌, ◌∷◌, length, drop};
+
+use crate::sweeps::cuts::{Cut, first_cut};
+use x86_decode::InstDecoder;
+
+/// The cuts of bytes, in order. Every byte belongs to exactly one of them.
+#[derive(Drop)]
+pub struct Sweep<'a> {
+    decoder: InstDecoder,
+    place: usize,
+    rest: &'a [u8],
+    ghost in_range: { place + length rest.now < 2 ^ 64 },
+}
+
+/// The bytes from a place on.
+fn behind(bytes: &[u8], place: usize) -> &[u8]
+    requires { place ≤ length bytes.now }
+    ensures { result.now ≡ drop place bytes.now }
+{
+    &bytes[place..]
+}
+
+impl<'a> Sweep<'a> {
+    ghost use Rattle.x86_layout.specs.Sweeps.Cuts.{cuts_of};
+    ghost use Rattle.x86_layout.specs.Sweeps.Sweep.{cuts_left};
+
+    /// The cuts of the bytes, from place 0 on.
+    pub fn new(decoder: InstDecoder, bytes: &'a [u8]) -> Sweep<'a>
+        ensures { cuts_left result ≡ cuts_of decoder.strict bytes.now }
+    {
+        Sweep {
+            decoder,
+            place: 0,
+            rest: bytes,
+        }
+    }
+
+    /// Cuts off the first cut of what is left.
+    fn cut_off(&mut self) -> Cut
+        requires { 0 < length self.old.rest.now }
+        ensures first { cuts_left self.old ≡ result ∷ cuts_left self.new }
+        ensures fewer { length (cuts_left self.new) < length (cuts_left self.old) }
+    {
+        let cut = first_cut(&self.decoder, self.place, self.rest);
+        self.place += cut.length;
+        self.rest = behind(self.rest, cut.length);
+        cut
+    }
+}
+
+impl<'a> Iterator for Sweep<'a> {
+    ghost use Rattle.std.specs.Iterator.{YieldsFirst, item_count};
+    ghost use Rattle.x86_layout.specs.Sweeps.Sweep.{cuts_left};
+
+    type Item = Cut;
+
+    ghost next_gives = { YieldsFirst cuts_left };
+
+    ghost remaining = { item_count cuts_left };
+
+    fn next(&mut self) -> Option<Cut> {
+        if self.rest.is_empty() {
+            return None;
+        }
+        Some(self.cut_off())
+    }
+}
+
+#[cfg(test)]
+mod tests {
+    use crate::Sweep;
+    use x86_decode::InstDecoder;
+    use x86_fields::DecodeError;
+    use x86_opcodes::Opcode;
+
+    #[test]
+    fn a_sweep_goes_on_behind_a_refusal(rt: HostRuntime) {
+        let mut sweep = Sweep::new(InstDecoder::default(), &[0x06, 0x90, 0x48]);
+        let first = sweep.next().expect(&rt, "a cut");
+        assert!(rt; first.place == 0 && first.length == 1);
+        assert!(rt; matches!(first.answer, Err(DecodeError::InvalidOpcode)));
+        let second = sweep.next().expect(&rt, "a cut");
+        assert!(rt; second.place == 1 && second.length == 1);
+        assert!(rt; matches!(second.answer, Ok(read) if read.opcode() == Opcode::NOP));
+        let third = sweep.next().expect(&rt, "a cut");
+        assert!(rt; third.place == 2 && third.length == 1);
+        assert!(rt; matches!(third.answer, Err(DecodeError::ExhaustedInput)));
+        assert!(rt; sweep.next().is_none());
+    }
+
+    #[test]
+    fn a_sweep_ends(rt: HostRuntime) {
+        let mut last = 0;
+        for cut in Sweep::new(
+            InstDecoder::default(),
+            &[0x48, 0x01, 0xd8, 0x06, 0xe8, 0, 0],
+        ) {
+            last = cut.place;
+        }
+        assert!(rt; last == 5);
+    }
+}

@@ -1,0 +1,118 @@
+//! Encodings with other raw fields.
+
+ghost use Rattle.std.specs.Prelude.{◌≡◌, true, ◌+◌, ◌≤◌, ◌++◌, [], ◌∷◌, length};
+ghost use Rattle.std.specs.List.{list_all};
+ghost use Rattle.x86_fields.specs.Run.{is_prefix_byte};
+ghost use Rattle.arrayvec.specs.ArrayVec.{array_vec_len};
+ghost use Rattle.x86_fields.specs.Raw.{disp_width};
+ghost use Rattle.x86_fields.specs.Pieces.{first_byte, signed_by, option_bytes};
+ghost use Rattle.x86_layout.specs.Tightening.Shortest.{address_length};
+ghost use Rattle.x86_layout.specs.Tightening.Tighten.{byte_with, run_with, raw_in, displacement_bytes, respelled, respelled_length};
+
+use crate::parts::emit::push;
+use crate::parts::heads::byte_at;
+use crate::parts::split::{Parts, one_if};
+use arrayvec::ArrayVec;
+use x86_fields::{Raw, displacement_width, is_rex, read_run};
+
+/// The number of a displacement of one or four bytes, and 0 where there is none.
+fn signed(displacement: &[u8]) -> i32
+    ensures { result ≡ signed_by (length displacement.now) displacement.now }
+{
+    match displacement {
+        [byte] => byte.cast_signed() as i32,
+        [a, b, c, d] => i32::from_le_bytes([*a, *b, *c, *d]),
+        _ => 0,
+    }
+}
+
+/// The raw fields of parts that have a ModRM of the memory form.
+pub fn raw_in(parts: &Parts) -> Raw
+    requires { list_all is_prefix_byte parts.now.prefixes.now ≡ true }
+    ensures { result ≡ raw_in parts.now }
+{
+    let prefixes = read_run(parts.prefixes);
+    Raw {
+        rex_b: prefixes.has_b(),
+        rex_x: prefixes.has_x(),
+        address_size: prefixes.address_size(),
+        modrm: byte_at(parts.modrm, 0),
+        sib: parts.sib.first().copied(),
+        disp: signed(parts.displacement),
+    }
+}
+
+/// How many bytes of displacement raw fields have.
+fn width(raw: &Raw) -> usize
+    ensures value { result ≡ disp_width raw.now.modrm raw.now.sib }
+    ensures small { result ≤ 4 }
+{
+    usize::from(displacement_width(raw.modrm, raw.sib))
+}
+
+/// How many bytes SIB and displacement of raw fields have.
+pub fn address_length(raw: &Raw) -> usize
+    ensures value { result ≡ address_length raw.now }
+    ensures small { result ≤ 5 }
+{
+    one_if(raw.sib.is_some()) + width(raw)
+}
+
+/// A REX byte with these bits X and B; another byte stays.
+fn byte_with(x: bool, b: bool, byte: u8) -> u8
+    ensures { result ≡ byte_with x b byte }
+{
+    if is_rex(byte) {
+        byte / 4 * 4 + u8::from(x) * 2 + u8::from(b)
+    } else {
+        byte
+    }
+}
+
+/// A run whose live REX has these bits X and B.
+fn push_run(encoding: &mut ArrayVec<u8, 15>, run: &[u8], x: bool, b: bool)
+    requires { array_vec_len encoding.old + length run.now ≤ 15 }
+    ensures text { encoding.new.items ≡ encoding.old.items ++ run_with x b run.now }
+    ensures len { array_vec_len encoding.new ≡ array_vec_len encoding.old + length run.now }
+{
+    if let Some((last, front)) = run.split_last() {
+        push(encoding, front);
+        encoding.push(byte_with(x, b, *last));
+    }
+}
+
+fn push_sib(encoding: &mut ArrayVec<u8, 15>, sib: Option<u8>)
+    requires { array_vec_len encoding.old + length (option_bytes sib) ≤ 15 }
+    ensures text { encoding.new.items ≡ encoding.old.items ++ option_bytes sib }
+    ensures len { array_vec_len encoding.new ≡ array_vec_len encoding.old + length (option_bytes sib) }
+{
+    if let Some(sib) = sib {
+        encoding.push(sib);
+    }
+}
+
+fn push_displacement(encoding: &mut ArrayVec<u8, 15>, raw: &Raw)
+    requires { array_vec_len encoding.old + disp_width raw.now.modrm raw.now.sib ≤ 15 }
+    ensures text { encoding.new.items ≡ encoding.old.items ++ displacement_bytes raw.now }
+    ensures len { array_vec_len encoding.new ≡ array_vec_len encoding.old + disp_width raw.now.modrm raw.now.sib }
+{
+    let bytes = raw.disp.to_le_bytes();
+    push(encoding, &bytes[..width(raw)]);
+}
+
+/// The parts in order, with other raw fields.
+pub fn respelled(parts: &Parts, raw: &Raw) -> ArrayVec<u8, 15>
+    requires { respelled_length parts.now raw.now ≤ 15 }
+    ensures { result.items ≡ respelled parts.now raw.now }
+{
+    let mut encoding = ArrayVec::new();
+    push_run(&mut encoding, parts.prefixes, raw.rex_x, raw.rex_b);
+    push(&mut encoding, parts.escape);
+    push(&mut encoding, parts.opcode);
+    encoding.push(raw.modrm);
+    push_sib(&mut encoding, raw.sib);
+    push_displacement(&mut encoding, raw);
+    push(&mut encoding, parts.immediate);
+    push(&mut encoding, parts.suffix);
+    encoding
+}

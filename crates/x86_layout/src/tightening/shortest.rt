@@ -1,0 +1,200 @@
+//! The raw fields of an address with the fewest bytes. Source: Intel SDM volume 2, sections 2.1.5 and 2.2.1.
+
+ghost use Rattle.std.specs.Prelude.{◌≡◌, ◌<◌};
+ghost use Rattle.x86_layout.specs.Tightening.Shortest.{asks_displacement, is_bare, lone, both, exchanged, placed, mod_by, mod_of, packed_byte, fourth_bit, scale_field, field_or, sib_byte, rm_alone, spelled, shortest};
+
+use crate::tightening::places::{Places, Scale, places_of};
+use x86_fields::Raw;
+
+/// Whether a base asks a displacement, also of 0: its number ends in 101.
+fn asks_displacement(base: u8) -> bool
+    ensures { result ≡ asks_displacement base }
+{
+    base % 8 == 5
+}
+
+/// Where an index stands that is alone.
+fn lone(index: u8, scale: Scale) -> Places
+    ensures { result ≡ lone index scale }
+{
+    match scale {
+        Scale::One => Places {
+            base: Some(index),
+            index: None,
+            scale,
+        },
+        Scale::Two => Places {
+            base: Some(index),
+            index: Some(index),
+            scale: Scale::One,
+        },
+        Scale::Four | Scale::Eight => Places {
+            base: None,
+            index: Some(index),
+            scale,
+        },
+    }
+}
+
+/// Base and index that count once each, which may change places.
+fn exchanged(disp: i32, base: u8, index: u8) -> Places
+    ensures { result ≡ exchanged disp base index }
+{
+    if disp == 0 && asks_displacement(base) && !asks_displacement(index) {
+        Places {
+            base: Some(index),
+            index: Some(base),
+            scale: Scale::One,
+        }
+    } else {
+        Places {
+            base: Some(base),
+            index: Some(index),
+            scale: Scale::One,
+        }
+    }
+}
+
+fn both(disp: i32, base: u8, index: u8, scale: Scale) -> Places
+    ensures { result ≡ both disp base index scale }
+{
+    match scale {
+        Scale::One => exchanged(disp, base, index),
+        _ => Places {
+            base: Some(base),
+            index: Some(index),
+            scale,
+        },
+    }
+}
+
+/// Where the registers stand in the shortest form.
+fn placed(disp: i32, at: Places) -> Places
+    ensures { result ≡ placed disp at.base at.index at.scale }
+{
+    match (at.base, at.index) {
+        (Some(base), Some(index)) => both(disp, base, index, at.scale),
+        (None, Some(index)) => lone(index, at.scale),
+        (base, None) => Places {
+            base,
+            index: None,
+            scale: Scale::One,
+        },
+    }
+}
+
+/// The mod field: no displacement, one of a byte, or one of four bytes.
+fn mod_behind(disp: i32, base: u8) -> u8
+    ensures value { result ≡ mod_by disp base }
+    ensures small { result < 3 }
+{
+    if disp == 0 && !asks_displacement(base) {
+        0
+    } else if -128 <= disp && disp < 128 {
+        1
+    } else {
+        2
+    }
+}
+
+fn mod_field(disp: i32, base: Option<u8>) -> u8
+    ensures value { result ≡ mod_of disp base }
+    ensures small { result < 3 }
+{
+    match base {
+        Some(base) => mod_behind(disp, base),
+        None => 0,
+    }
+}
+
+/// A byte of a field of two bits and two of three.
+fn packed(high: u8, middle: u8, low: u8) -> u8
+    requires high { high < 4 }
+    requires middle { middle < 8 }
+    requires low { low < 8 }
+    ensures { result ≡ packed_byte high middle low }
+{
+    high * 64 + middle * 8 + low
+}
+
+fn scale_field(scale: Scale) -> u8
+    ensures value { result ≡ scale_field scale }
+    ensures small { result < 4 }
+{
+    match scale {
+        Scale::One => 0,
+        Scale::Two => 1,
+        Scale::Four => 2,
+        Scale::Eight => 3,
+    }
+}
+
+/// The fourth bit of a register's number.
+fn fourth_bit(number: Option<u8>) -> bool
+    ensures { result ≡ fourth_bit number }
+{
+    match number {
+        Some(number) => 8 <= number,
+        None => false,
+    }
+}
+
+/// The three bits of a register's number, and these where there is none.
+fn field_or(none: u8, number: Option<u8>) -> u8
+    requires { none < 8 }
+    ensures value { result ≡ field_or none number }
+    ensures small { result < 8 }
+{
+    match number {
+        Some(number) => number % 8,
+        None => none,
+    }
+}
+
+fn sib_byte(at: &Places) -> u8
+    ensures { result ≡ sib_byte at.now }
+{
+    packed(
+        scale_field(at.scale),
+        field_or(4, at.index),
+        field_or(5, at.base),
+    )
+}
+
+/// The rm field where no SIB is needed: a base alone, whose number doesn't end in 100.
+fn rm_alone(at: &Places) -> Option<u8>
+    ensures { result ≡ rm_alone at.now.base at.now.index }
+{
+    match (at.base, at.index) {
+        (Some(base), None) if base % 8 != 4 => Some(base % 8),
+        _ => None,
+    }
+}
+
+/// The raw fields where the registers stand so.
+fn spelled(raw: &Raw, at: &Places) -> Raw
+    ensures { result ≡ spelled raw.now at.now }
+{
+    let high = mod_field(raw.disp, at.base);
+    let middle = raw.modrm / 8 % 8;
+    let (rm, sib) = match rm_alone(at) {
+        Some(rm) => (rm, None),
+        None => (4, Some(sib_byte(at))),
+    };
+    Raw {
+        rex_b: fourth_bit(at.base),
+        rex_x: fourth_bit(at.index),
+        address_size: raw.address_size,
+        modrm: packed(high, middle, rm),
+        sib,
+        disp: raw.disp,
+    }
+}
+
+/// Raw fields of the same address with the fewest bytes, for fields that aren't relative to the next instruction.
+#[tactic(auto, unfolding(crate::specs::Tightening::Shortest::shortest))]
+pub fn shortest(raw: &Raw) -> Raw
+    ensures { result ≡ shortest raw.now }
+{
+    spelled(raw, &placed(raw.disp, places_of(raw)))
+}

@@ -1,0 +1,187 @@
+//! The shortest encoding of an address. Source: Intel SDM volume 2, sections 2.1.5 and 2.2.1.
+
+ghost use Rattle.std.specs.Prelude.{◌≡◌, ◌≤◌, Bool, length, MatchResult, IfErr, Ok};
+ghost use Rattle.x86_forms.specs.Words.{rows_of, word_at};
+ghost use Rattle.x86_decode.specs.declared.instructions.Instruction.{Instruction};
+ghost use Rattle.x86_decode.specs.Grammar.{IsSentence};
+ghost use Rattle.x86_layout.specs.Tightening.Least.{least_in, least_of, HasLengthOfFront};
+ghost use Rattle.x86_decode.specs.Answer.{answer_of};
+ghost use Rattle.x86_layout.specs.Tightening.Tighten.{IsTightened, HasFields, HasNoRelative, HasSentence, OfFront, IsNotTightened};
+
+use crate::parts::heads::{cut, head_of};
+use crate::parts::split::{Parts, parts_behind};
+use crate::tightening::places::is_ip_relative;
+use crate::tightening::respell::{address_length, raw_in, respelled};
+use crate::tightening::shortest::shortest;
+use arrayvec::ArrayVec;
+use thiserror::Error;
+use x86_decode::{InstDecoder, Instruction, laws};
+use x86_fields::{DecodeError, Raw};
+
+/// Why `tighten` has no shorter encoding to seek.
+#[derive(Debug, Drop, Error)]
+pub enum TightenError {
+    /// The bytes are refused as `InstDecoder::decode_slice` refuses them.
+    #[error("{0}")]
+    Refused(DecodeError),
+    /// The encoding has no memory operand that is read from ModRM.
+    #[error("no memory form")]
+    NoMemoryForm,
+    /// Its address is relative to the next instruction: mod 00 with rm 101.
+    #[error("ip-relative form")]
+    IpRelative,
+}
+
+/// The parts of an encoding, and the raw fields of its memory operand.
+#[derive(Clone, Copy, Drop)]
+struct Addressed<'a> {
+    parts: Parts<'a>,
+    raw: Raw,
+}
+
+/// What an encoding has that may have a shorter relative; else why there is none to seek.
+#[inline(always)]
+fn fields_in(encoding: &[u8]) -> Result<Addressed<'_>, TightenError>
+    requires { HasSentence encoding.now }
+    ensures fields { (strict : Bool) (a : Instruction) (is : IsSentence (rows_of word_at) strict encoding.now a) → MatchResult result (λ found. HasFields strict encoding.now is.reading is.whole found) (λ error. HasNoRelative strict encoding.now is.reading is.whole error) }
+    ensures least { (strict : Bool) (a : Instruction) → IsSentence (rows_of word_at) strict encoding.now a → IfErr result (λ _. least_in strict encoding.now ≡ length encoding.now) }
+{
+    let head = head_of(encoding);
+    if !head.ask.memory {
+        return Err(TightenError::NoMemoryForm);
+    }
+    let parts = parts_behind(&head);
+    let raw = raw_in(&parts);
+    if is_ip_relative(&raw) {
+        return Err(TightenError::IpRelative);
+    }
+    Ok(Addressed { parts, raw })
+}
+
+/// The shortest relative of an encoding.
+fn tightened(encoding: &[u8]) -> Result<ArrayVec<u8, 15>, TightenError>
+    requires { HasSentence encoding.now }
+    ensures shortest { (strict : Bool) (a : Instruction) (is : IsSentence (rows_of word_at) strict encoding.now a) → MatchResult result (λ t. IsTightened strict encoding.now is.reading is.whole t.items) (λ error. HasNoRelative strict encoding.now is.reading is.whole error) }
+    ensures least { (strict : Bool) (a : Instruction) → IsSentence (rows_of word_at) strict encoding.now a → MatchResult result (λ t. length t.items ≡ least_in strict encoding.now) (λ _. least_in strict encoding.now ≡ length encoding.now) }
+{
+    match fields_in(encoding) {
+        Ok(found) => Ok(respelled(&found.parts, &shortest(&found.raw))),
+        Err(error) => Err(error),
+    }
+}
+
+/// How many bytes a shortest relative has, and the encoding itself where it has none to seek.
+fn least_length(encoding: &[u8]) -> usize
+    requires { HasSentence encoding.now }
+    ensures { (strict : Bool) (a : Instruction) → IsSentence (rows_of word_at) strict encoding.now a → result ≡ least_in strict encoding.now }
+{
+    match fields_in(encoding) {
+        Ok(found) => {
+            encoding.len() - address_length(&found.raw) + address_length(&shortest(&found.raw))
+        }
+        Err(_) => encoding.len(),
+    }
+}
+
+/// How many bytes a shortest relative of an encoding has that was decoded, and the encoding itself where it has none to seek: the
+/// length of what [`tighten`] answers, with no second decode. `instruction` is what the decoder answers for the bytes.
+///
+/// For `48 8b 84 25 00 00 00 00` and its instruction this is 4 (Intel SDM volume 2, section 2.1.5).
+pub fn shortest_length(decoder: &InstDecoder, instruction: &Instruction, bytes: &[u8]) -> u64
+    requires decoded { answer_of decoder.now.strict bytes.now ≡ Ok instruction.now }
+    ensures { result ≡ least_of decoder.now.strict bytes.now }
+{
+    laws::lengths();
+    laws::answer_is();
+    let (encoding, _) = cut(bytes, instruction.len().to_const() as usize);
+    least_length(encoding) as u64
+}
+
+/// An encoding with the same instruction and the same address as the accepted encoding at the front of the bytes, of which none is
+/// shorter.
+///
+/// Its parts are those of that encoding, but for mod and rm of ModRM, SIB, the displacement, and the bits X and B of a live REX.
+/// Base and index may change places at scale 1, and the processor's default segment with them. Refused as
+/// `InstDecoder::decode_slice` refuses; `NoMemoryForm` where ModRM is no memory form, and `IpRelative` at mod 00 with rm 101.
+///
+/// For `48 8b 84 25 00 00 00 00`, which is MOV rax, [rbp], this is `48 8b 45 00` (Intel SDM volume 2, section 2.1.5).
+pub fn tighten(decoder: &InstDecoder, bytes: &[u8]) -> Result<ArrayVec<u8, 15>, TightenError>
+    ensures shortest { MatchResult result (λ t. OfFront decoder.now.strict bytes.now (λ strict s a v. IsTightened strict s a v t.items)) (λ error. IsNotTightened decoder.now.strict bytes.now error) }
+    ensures least { MatchResult result (λ t. length t.items ≡ least_of decoder.now.strict bytes.now) (λ _. HasLengthOfFront decoder.now.strict bytes.now) }
+{
+    laws::lengths();
+    laws::answer_is();
+    let instruction = match decoder.decode_slice(bytes) {
+        Ok(instruction) => instruction,
+        Err(error) => return Err(TightenError::Refused(error)),
+    };
+    let (encoding, _) = cut(bytes, instruction.len().to_const() as usize);
+    tightened(encoding)
+}
+
+#[cfg(test)]
+mod tests {
+    use crate::{TightenError, tighten};
+    use x86_decode::InstDecoder;
+    use x86_fields::DecodeError;
+
+    fn gives(bytes: &[u8], wanted: &[u8]) -> bool {
+        match tighten(&InstDecoder::default(), bytes) {
+            Ok(encoding) => encoding.as_slice() == wanted,
+            Err(_) => false,
+        }
+    }
+
+    #[test]
+    fn the_shortest_addresses(rt: HostRuntime) {
+        assert!(rt;
+            gives(
+                &[0x48, 0x8b, 0x84, 0x25, 0, 0, 0, 0],
+                &[0x48, 0x8b, 0x45, 0]
+            )
+        );
+        assert!(rt; gives(&[0x43, 0x8b, 0x44, 0x25, 0], &[0x43, 0x8b, 0x04, 0x2c]));
+        assert!(rt; gives(&[0x8b, 0x44, 0x05, 0], &[0x8b, 0x04, 0x28]));
+        assert!(rt; gives(&[0x8b, 0x44, 0x24, 0], &[0x8b, 0x04, 0x24]));
+        assert!(rt; gives(&[0x8b, 0x04, 0x45, 0, 0, 0, 0], &[0x8b, 0x04, 0x00]));
+        assert!(rt;
+            gives(
+                &[0x8b, 0x84, 0x85, 0xfc, 0xff, 0xff, 0xff, 0x90],
+                &[0x8b, 0x44, 0x85, 0xfc]
+            )
+        );
+        assert!(rt;
+            gives(
+                &[0x67, 0x8b, 0x80, 0x80, 0, 0, 0],
+                &[0x67, 0x8b, 0x80, 0x80, 0, 0, 0]
+            )
+        );
+    }
+
+    #[test]
+    fn nothing_to_tighten(rt: HostRuntime) {
+        let decoder = InstDecoder::default();
+        let ip_relative = tighten(&decoder, &[0x8b, 0x05, 0, 0, 0, 0]);
+        assert!(rt; matches!(ip_relative, Err(TightenError::IpRelative)));
+        let registers = tighten(&decoder, &[0x8b, 0xc0]);
+        assert!(rt; matches!(registers, Err(TightenError::NoMemoryForm)));
+        let refused = tighten(&decoder, &[0x06]);
+        assert!(rt;
+            matches!(
+                refused,
+                Err(TightenError::Refused(DecodeError::InvalidOpcode))
+            )
+        );
+    }
+
+    #[test]
+    fn the_texts_of_the_errors(rt: HostRuntime) {
+        let refused = TightenError::Refused(DecodeError::InvalidOpcode);
+        let text = format!(in rt.alloc(); "{refused}").expect(&rt, "memory");
+        assert!(rt; text.as_str() == "invalid opcode");
+        let text = format!(in rt.alloc(); "{}", TightenError::NoMemoryForm).expect(&rt, "memory");
+        assert!(rt; text.as_str() == "no memory form");
+        let text = format!(in rt.alloc(); "{}", TightenError::IpRelative).expect(&rt, "memory");
+        assert!(rt; text.as_str() == "ip-relative form");
+    }
+}
