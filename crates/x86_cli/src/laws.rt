@@ -2,25 +2,25 @@
 
 ghost use Rattle.std.specs.Prelude.{◌≡◌, ◌↔◌, ℕ, Bool, IsTrue, List, Option};
 ghost use Rattle.x86_cli.specs.DecoderLaws.{DecoderLaws};
-ghost use Rattle.x86_cli.specs.Causes.{HaveCauses};
-ghost use Rattle.x86_cli.specs.Complete.{CompletesTexts};
-ghost use Rattle.x86_cli.specs.Listing.{LinesLeaveStatus};
-ghost use Rattle.x86_cli.specs.Reading.{Gave};
-ghost use Rattle.x86_cli.specs.Make.{made_listing};
-ghost use Rattle.x86_cli.specs.Run.{Took, Wrote};
-ghost use Rattle.x86_cli.specs.Says.{Makes};
-ghost use Rattle.x86_cli.specs.Told.{TellsGave, TellsTook};
-ghost use Rattle.x86_cli.specs.Rows.{RowsAreSound, BadIsFirst};
+ghost use Rattle.x86_cli.specs.Commands.Causes.{HaveCauses};
+ghost use Rattle.x86_cli.specs.Commands.Complete.{CompletesTexts};
+ghost use Rattle.x86_cli.specs.Listings.Listing.{LinesLeaveStatus};
+ghost use Rattle.x86_cli.specs.Text.Reading.{Gave};
+ghost use Rattle.x86_cli.specs.Commands.Make.{made_listing};
+ghost use Rattle.x86_cli.specs.Commands.Run.{Took, Wrote};
+ghost use Rattle.x86_cli.specs.Commands.Says.{Makes};
+ghost use Rattle.x86_cli.specs.Outside.Stop.{Stop};
+ghost use Rattle.x86_cli.specs.Outside.Told.{TellsGave, TellsTook};
+ghost use Rattle.x86_cli.specs.Text.Pairs.{SequencesAreSound, BadIsFirst};
 
-use crate::sink::{Sink, SinkFailed};
-use crate::source::{Got, Source};
-use crate::status::Status;
-use crate::text::Stop;
+use crate::listings::status::Status;
+use crate::outside::sink::{Sink, SinkFailed};
+use crate::outside::source::{Got, Source};
 use x86_decode::laws;
 
-/// No byte is bad exactly in a row of blanks and pairs.
-pub fn rows()
-    ensures { RowsAreSound }
+/// No byte is bad exactly in a sequence of blanks and pairs.
+pub fn sequences()
+    ensures { SequencesAreSound }
 {}
 
 /// A bad place is the first.

@@ -3,59 +3,34 @@
 
 ghost use Rattle.std.specs.Prelude.{◌≡◌};
 
-mod command;
-#[cfg(test)]
-mod command_tests;
-mod fields;
-mod gathered;
-#[cfg(test)]
-mod group_table;
-mod held;
-mod kinds;
+mod commands;
 mod laws;
-mod line;
-mod listing;
-mod make;
-#[cfg(test)]
-mod plain_table;
-mod program;
-#[cfg(test)]
-mod program_tests;
-mod room;
-mod sink;
-mod source;
-mod status;
-mod sweep;
-mod targets;
+mod listings;
+mod outside;
 #[cfg(test)]
 mod tests;
 mod text;
-mod tightening;
-mod window;
-#[cfg(test)]
-mod worked_tests;
-#[cfg(test)]
-mod x87_table;
 
-use command::USAGE;
-use program::listed;
-use status::Status;
+use commands::command::USAGE;
+use commands::program::listed;
+use listings::status::Status;
 use std::process::ExitCode;
 use std::{env, io};
+pub use x86_text::{fields_line, line_of, refusal_of};
 
-fn words(rt: &HostRuntime) -> io::Result<Vec<String>> {
-    let mut words = Vec::new(rt.alloc());
-    for word in env::args(rt)?.skip(1) {
-        words.push(word)?;
+fn arguments(rt: &HostRuntime) -> io::Result<Vec<String>> {
+    let mut arguments = Vec::new(rt.alloc());
+    for argument in env::args(rt)?.skip(1) {
+        arguments.push(argument)?;
     }
-    Ok(words)
+    Ok(arguments)
 }
 
 fn main(rt: HostRuntime) -> ExitCode {
-    match words(&rt) {
+    match arguments(&rt) {
         Err(_) => ExitCode::from(1),
-        Ok(words) => {
-            let (status, _) = listed(words.as_slice(), rt.reader(), io::writer(&rt));
+        Ok(arguments) => {
+            let (status, _) = listed(arguments.as_slice(), rt.reader(), io::writer(&rt));
             if let Status::Usage = status {
                 let _ = eprintln!(rt; "{USAGE}");
             }

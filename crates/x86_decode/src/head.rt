@@ -17,10 +17,7 @@ use x86_forms::{Column, Map, Words};
 pub fn is_prefix(byte: u8) -> bool
     ensures { result ≡ is_prefix_byte byte }
 {
-    match lead_of(byte) {
-        Lead::Legacy | Lead::Rex => true,
-        _ => false,
-    }
+    matches!(lead_of(byte), Lead::Legacy | Lead::Rex)
 }
 
 /// The rest of a run of which some bytes were read, and the byte behind it.
@@ -99,14 +96,10 @@ fn vex_refusal(prefixes: &Prefixes) -> DecodeError
 fn read_escaped<T: Reader<u64, u8>>(words: &mut T, byte: u8) -> Result<(Map, u8), DecodeError>
     ensures { outcome result (T.state words.new) ≡ escaped_step byte (T.state words.old) }
 {
-    if byte == 0x38 {
-        let opcode = next_byte(words)?;
-        Ok((Map::Of38, opcode))
-    } else if byte == 0x3a {
-        let opcode = next_byte(words)?;
-        Ok((Map::Of3a, opcode))
-    } else {
-        Ok((Map::Of, byte))
+    match byte {
+        0x38 => Ok((Map::Of38, next_byte(words)?)),
+        0x3a => Ok((Map::Of3a, next_byte(words)?)),
+        _ => Ok((Map::Of, byte)),
     }
 }
 
@@ -132,13 +125,7 @@ pub fn seen_by(map: Map, byte: u8, prefixes: Prefixes) -> Prefixes
     ensures { result ≡ seen map byte prefixes }
 {
     match (map, selected(&prefixes)) {
-        (Map::Of38, Column::P66) => {
-            if byte == 0xf0 || byte == 0xf1 {
-                prefixes
-            } else {
-                prefixes.without_operand_size()
-            }
-        }
+        (Map::Of38, Column::P66) if byte != 0xf0 && byte != 0xf1 => prefixes.without_operand_size(),
         _ => prefixes,
     }
 }

@@ -177,23 +177,16 @@ pub fn place_row<T: Reader<u64, u8>>(
     requires blank { inst.old.given ≡ no_operands }
     ensures { outcome (held result (reading_in inst.new)) (T.state words.new) ≡ row_step strict row inst.old.prefixes (T.state words.old) }
 {
+    let Instruction {
+        prefixes,
+        opcode,
+        given,
+        ..
+    } = inst;
     if row.form.is_group() {
-        place_group(
-            words,
-            row,
-            strict,
-            &mut inst.prefixes,
-            &mut inst.opcode,
-            &mut inst.given,
-        )
+        place_group(words, row, strict, prefixes, opcode, given)
     } else {
-        place_form(
-            words,
-            row,
-            &mut inst.prefixes,
-            &mut inst.opcode,
-            &mut inst.given,
-        )
+        place_form(words, row, prefixes, opcode, given)
     }
 }
 
@@ -214,14 +207,13 @@ pub fn place_rest<T: Reader<u64, u8>>(
         Rest::Row(row) => place_row(strict, row, words, inst),
         Rest::Behind(row, modrm) => {
             let plan = plan_at(strict, row, &inst.prefixes, modrm);
-            place_plan(
-                words,
-                &plan,
-                modrm,
-                &mut inst.prefixes,
-                &mut inst.opcode,
-                &mut inst.given,
-            )
+            let Instruction {
+                prefixes,
+                opcode,
+                given,
+                ..
+            } = inst;
+            place_plan(words, &plan, modrm, prefixes, opcode, given)
         }
     }
 }

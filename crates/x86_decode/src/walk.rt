@@ -277,8 +277,6 @@ pub fn walk<W: Words, T: Reader<u64, u8>>(
     ensures { outcome result (T.state words.new) ≡ decode_step (rows_of (W.word_in rows.now)) strict (T.state words.old) }
 {
     let mut inst = Instruction::invalid();
-    match walk_into(strict, rows, words, &mut inst) {
-        Ok(()) => Ok(inst),
-        Err(error) => Err(error),
-    }
+    walk_into(strict, rows, words, &mut inst)?;
+    Ok(inst)
 }

@@ -1,5 +1,7 @@
 //! Bit tests with an immediate, and 0F C7.
 ghost use Rattle.std.specs.Prelude.{◌≡◌};
+ghost use Rattle.x86_operands.specs.Plans.{memory_only};
+ghost use Rattle.x86_groups.specs.Choice.{on_memory};
 ghost use Rattle.x86_groups.specs.Bits.{plan_0fba, by_w, compares_0fc7, operand_size_0fc7, f3_0fc7, plain_0fc7, plan_0fc7};
 
 use crate::choice::{bad_opcode, bad_operand, name_at, on_memory, on_register, reg};
@@ -18,26 +20,22 @@ pub fn plan_0fba(prefixes: &Prefixes, modrm: u8) -> Plan
     if reg < 4 {
         return bad_opcode();
     }
-    let names = [Opcode::BT, Opcode::BTS, Opcode::BTR, Opcode::BTC];
+    let names = names!(BT BTS BTR BTC);
     let vq = prefixes.vq_class();
     let signs = Signs::Two(Sign::E(vq), Sign::I8);
-    reads(
-        name_at(&names, reg - 4),
-        signs,
-        size_by(modrm, vq.width(), 0),
-    )
+    let size = size_by(modrm, vq.width(), 0);
+    reads(name_at(&names, reg - 4), signs, size)
 }
 
 /// /1, whatever the prefixes are.
 fn compares_0fc7(prefixes: &Prefixes, modrm: u8) -> Plan
     ensures { result ≡ compares_0fc7 prefixes.now modrm }
 {
-    let plan = if prefixes.has_w() {
-        on_memory(Opcode::CMPXCHG16B, 16)
+    if prefixes.has_w() {
+        memory_only(modrm, on_memory(Opcode::CMPXCHG16B, 16))
     } else {
-        on_memory(Opcode::CMPXCHG8B, 8)
-    };
-    memory_only(modrm, plan)
+        memory_only(modrm, on_memory(Opcode::CMPXCHG8B, 8))
+    }
 }
 
 #[tactic(auto, unfolding(crate::specs::Bits::operand_size_0fc7))]
@@ -73,23 +71,21 @@ fn by_w(prefixes: &Prefixes, without: Opcode, with: Opcode) -> Opcode
     if prefixes.has_w() { with } else { without }
 }
 
+/// One operand in memory, of a size that the processor decides.
+fn on_state(opcode: Opcode, modrm: u8) -> Plan
+    ensures { result ≡ memory_only modrm (on_memory opcode 63) }
+{
+    memory_only(modrm, on_memory(opcode, 63))
+}
+
 #[tactic(auto, unfolding(crate::specs::Bits::plain_0fc7))]
 fn plain_0fc7(prefixes: &Prefixes, modrm: u8) -> Plan
     ensures { result ≡ plain_0fc7 prefixes.now modrm }
 {
     match (reg(modrm), memory_form(modrm)) {
-        (3, _) => {
-            let opcode = by_w(prefixes, Opcode::XRSTORS, Opcode::XRSTORS64);
-            memory_only(modrm, on_memory(opcode, 63))
-        }
-        (4, _) => {
-            let opcode = by_w(prefixes, Opcode::XSAVEC, Opcode::XSAVEC64);
-            memory_only(modrm, on_memory(opcode, 63))
-        }
-        (5, _) => {
-            let opcode = by_w(prefixes, Opcode::XSAVES, Opcode::XSAVES64);
-            memory_only(modrm, on_memory(opcode, 63))
-        }
+        (3, _) => on_state(by_w(prefixes, Opcode::XRSTORS, Opcode::XRSTORS64), modrm),
+        (4, _) => on_state(by_w(prefixes, Opcode::XSAVEC, Opcode::XSAVEC64), modrm),
+        (5, _) => on_state(by_w(prefixes, Opcode::XSAVES, Opcode::XSAVES64), modrm),
         (6, true) => on_memory(Opcode::VMPTRLD, 8),
         (6, false) => on_register(Opcode::RDRAND, prefixes.v_class()),
         (7, true) => on_memory(Opcode::VMPTRST, 8),

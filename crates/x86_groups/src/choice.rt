@@ -1,5 +1,6 @@
 //! What a field of ModRM chooses, and the shortest plans.
-ghost use Rattle.std.specs.Prelude.{◌≡◌, ◌<◌};
+ghost use Rattle.std.specs.Prelude.{◌≡◌, ◌<◌, if◌then◌else◌};
+ghost use Rattle.x86_operands.specs.Plans.{is_memory};
 ghost use Rattle.x86_groups.specs.Choice.{reg, rm, name_at, named_by_reg, is_register_0, has_f2_or_f3, has_f2_f3_or_66, bare, on_memory, on_register, bad_opcode, bad_operand, left_out};
 
 use x86_fields::Prefixes;
@@ -38,6 +39,13 @@ pub fn named_by_reg(names: &[Opcode], modrm: u8) -> Opcode
     ensures { result ≡ named_by_reg names.now modrm }
 {
     name_at(names, reg(modrm))
+}
+
+/// The name in the memory form, or in the register form.
+pub fn name_by(modrm: u8, memory: Opcode, register: Opcode) -> Opcode
+    ensures { result ≡ if is_memory modrm then memory else register }
+{
+    if memory_form(modrm) { memory } else { register }
 }
 
 /// Whether ModRM is a register form with rm 0.

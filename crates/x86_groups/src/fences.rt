@@ -39,11 +39,8 @@ fn f2_0fae(prefixes: &Prefixes, modrm: u8) -> Plan
         bad_operand()
     } else if reg(modrm) == 6 {
         let register = RegSpec::of(rm_number(modrm, prefixes), RegisterClass::D);
-        reads(
-            Opcode::UMWAIT,
-            Signs::One(Sign::Fixed(RegisterSlot::Reg, register)),
-            0,
-        )
+        let sign = Sign::Fixed(RegisterSlot::Reg, register);
+        reads(Opcode::UMWAIT, Signs::One(sign), 0)
     } else {
         bad_opcode()
     }
@@ -57,11 +54,8 @@ fn trace_0fae(prefixes: &Prefixes, modrm: u8) -> Plan
         return bad_opcode();
     }
     let dq = prefixes.dq_class();
-    reads(
-        Opcode::PTWRITE,
-        Signs::One(Sign::E(dq)),
-        size_by(modrm, dq.width(), 0),
-    )
+    let size = size_by(modrm, dq.width(), 0);
+    reads(Opcode::PTWRITE, Signs::One(Sign::E(dq)), size)
 }
 
 fn f3_register_0fae(prefixes: &Prefixes, modrm: u8) -> Plan
@@ -106,16 +100,7 @@ fn fence(strict: bool, opcode: Opcode, modrm: u8) -> Plan
 fn state_name(modrm: u8) -> Opcode
     ensures { result ≡ state_name modrm }
 {
-    let names = [
-        Opcode::FXSAVE,
-        Opcode::FXRSTOR,
-        Opcode::LDMXCSR,
-        Opcode::STMXCSR,
-        Opcode::XSAVE,
-        Opcode::XRSTOR,
-        Opcode::XSAVEOPT,
-        Opcode::CLFLUSH,
-    ];
+    let names = names!(FXSAVE FXRSTOR LDMXCSR STMXCSR XSAVE XRSTOR XSAVEOPT CLFLUSH);
     named_by_reg(&names, modrm)
 }
 

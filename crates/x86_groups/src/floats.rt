@@ -1,6 +1,6 @@
 //! x87: D8 to DF.
 ghost use Rattle.std.specs.Prelude.{◌≡◌, ◌≤◌};
-ghost use Rattle.x86_groups.specs.Floats.{control_db, st0, st_rm, loads, stores, into_st0, into_st_rm, of_st_rm, float_name, integer_name, memory_d9, constant_d9, function_d9, register_d9, register_da, memory_db, register_db, register_dc, memory_dd, register_dd, register_de, memory_df, register_df, plan_d8, plan_d9, plan_da, plan_db, plan_dc, plan_dd, plan_de, plan_df};
+ghost use Rattle.x86_groups.specs.Floats.{control_db, st0, st_rm, loads, stores, into_st0, into_st_rm, of_st_rm, float_name, integer_name, constant_d9, function_d9, plan_d8, plan_d9, plan_da, plan_db, plan_dc, plan_dd, plan_de, plan_df};
 
 use crate::choice::{
     bad_opcode, bad_operand, bare, name_at, named_by_reg, on_memory, on_register, reg, rm,
@@ -55,32 +55,14 @@ fn of_st_rm(opcode: Opcode, modrm: u8) -> Plan
 fn float_name(modrm: u8) -> Opcode
     ensures { result ≡ float_name modrm }
 {
-    let names = [
-        Opcode::FADD,
-        Opcode::FMUL,
-        Opcode::FCOM,
-        Opcode::FCOMP,
-        Opcode::FSUB,
-        Opcode::FSUBR,
-        Opcode::FDIV,
-        Opcode::FDIVR,
-    ];
+    let names = names!(FADD FMUL FCOM FCOMP FSUB FSUBR FDIV FDIVR);
     named_by_reg(&names, modrm)
 }
 
 fn integer_name(modrm: u8) -> Opcode
     ensures { result ≡ integer_name modrm }
 {
-    let names = [
-        Opcode::FIADD,
-        Opcode::FIMUL,
-        Opcode::FICOM,
-        Opcode::FICOMP,
-        Opcode::FISUB,
-        Opcode::FISUBR,
-        Opcode::FIDIV,
-        Opcode::FIDIVR,
-    ];
+    let names = names!(FIADD FIMUL FICOM FICOMP FISUB FISUBR FIDIV FIDIVR);
     named_by_reg(&names, modrm)
 }
 
@@ -95,36 +77,12 @@ pub fn plan_d8(modrm: u8) -> Plan
     }
 }
 
-#[tactic(auto, unfolding(crate::specs::Floats::memory_d9))]
-fn memory_d9(modrm: u8) -> Plan
-    ensures { result ≡ memory_d9 modrm }
-{
-    match reg(modrm) {
-        0 => loads(Opcode::FLD, 4),
-        1 => bad_opcode(),
-        2 => stores(Opcode::FST, 4),
-        3 => stores(Opcode::FSTP, 4),
-        4 => on_memory(Opcode::FLDENV, 63),
-        5 => on_memory(Opcode::FLDCW, 2),
-        6 => on_memory(Opcode::FNSTENV, 63),
-        _ => on_memory(Opcode::FNSTCW, 2),
-    }
-}
-
 /// E0 to EF.
 #[tactic(auto, unfolding(crate::specs::Floats::constant_d9))]
 fn constant_d9(modrm: u8) -> Plan
     ensures { result ≡ constant_d9 modrm }
 {
-    let constants = [
-        Opcode::FLD1,
-        Opcode::FLDL2T,
-        Opcode::FLDL2E,
-        Opcode::FLDPI,
-        Opcode::FLDLG2,
-        Opcode::FLDLN2,
-        Opcode::FLDZ,
-    ];
+    let constants = names!(FLD1 FLDL2T FLDL2E FLDPI FLDLG2 FLDLN2 FLDZ);
     match modrm {
         0xe0 => bare(Opcode::FCHS),
         0xe1 => bare(Opcode::FABS),
@@ -141,58 +99,42 @@ fn function_d9(modrm: u8) -> Plan
     requires { 0xf0 ≤ modrm }
     ensures { result ≡ function_d9 modrm }
 {
-    let functions = [
-        Opcode::F2XM1,
-        Opcode::FYL2X,
-        Opcode::FPTAN,
-        Opcode::FPATAN,
-        Opcode::FXTRACT,
-        Opcode::FPREM1,
-        Opcode::FDECSTP,
-        Opcode::FINCSTP,
-        Opcode::FPREM,
-        Opcode::FYL2XP1,
-        Opcode::FSQRT,
-        Opcode::FSINCOS,
-        Opcode::FRNDINT,
-        Opcode::FSCALE,
-        Opcode::FSIN,
-        Opcode::FCOS,
-    ];
+    let functions = names!(
+        F2XM1 FYL2X FPTAN FPATAN FXTRACT FPREM1 FDECSTP FINCSTP
+        FPREM FYL2XP1 FSQRT FSINCOS FRNDINT FSCALE FSIN FCOS
+    );
     bare(name_at(&functions, modrm - 0xf0))
 }
 
-#[tactic(auto, unfolding(crate::specs::Floats::register_d9))]
-fn register_d9(modrm: u8) -> Plan
-    ensures { result ≡ register_d9 modrm }
-{
-    match reg(modrm) {
-        0 => into_st0(Opcode::FLD, modrm),
-        1 => into_st0(Opcode::FXCH, modrm),
-        2 if modrm == 0xd0 => bare(Opcode::FNOP),
-        2 => bad_opcode(),
-        3 => into_st_rm(Opcode::FSTPNCE, modrm),
-        _ if modrm < 0xf0 => constant_d9(modrm),
-        _ => function_d9(modrm),
-    }
-}
-
-#[tactic(auto, unfolding(crate::specs::Floats::plan_d9))]
+#[tactic(auto, unfolding(crate::specs::Floats::plan_d9, crate::specs::Floats::memory_d9, crate::specs::Floats::register_d9))]
 pub fn plan_d9(modrm: u8) -> Plan
     ensures { result ≡ plan_d9 modrm }
 {
-    if memory_form(modrm) {
-        memory_d9(modrm)
-    } else {
-        register_d9(modrm)
+    match (memory_form(modrm), reg(modrm)) {
+        (true, 0) => loads(Opcode::FLD, 4),
+        (true, 1) => bad_opcode(),
+        (true, 2) => stores(Opcode::FST, 4),
+        (true, 3) => stores(Opcode::FSTP, 4),
+        (true, 4) => on_memory(Opcode::FLDENV, 63),
+        (true, 5) => on_memory(Opcode::FLDCW, 2),
+        (true, 6) => on_memory(Opcode::FNSTENV, 63),
+        (true, _) => on_memory(Opcode::FNSTCW, 2),
+        (false, 0) => into_st0(Opcode::FLD, modrm),
+        (false, 1) => into_st0(Opcode::FXCH, modrm),
+        (false, 2) if modrm == 0xd0 => bare(Opcode::FNOP),
+        (false, 2) => bad_opcode(),
+        (false, 3) => into_st_rm(Opcode::FSTPNCE, modrm),
+        (false, _) if modrm < 0xf0 => constant_d9(modrm),
+        (false, _) => function_d9(modrm),
     }
 }
 
-#[tactic(auto, unfolding(crate::specs::Floats::register_da))]
-fn register_da(modrm: u8) -> Plan
-    ensures { result ≡ register_da modrm }
+#[tactic(auto, unfolding(crate::specs::Floats::plan_da, crate::specs::Floats::register_da))]
+pub fn plan_da(modrm: u8) -> Plan
+    ensures { result ≡ plan_da modrm }
 {
     match reg(modrm) {
+        _ if memory_form(modrm) => loads(integer_name(modrm), 4),
         0 => into_st0(Opcode::FCMOVB, modrm),
         1 => into_st0(Opcode::FCMOVE, modrm),
         2 => into_st0(Opcode::FCMOVBE, modrm),
@@ -202,82 +144,47 @@ fn register_da(modrm: u8) -> Plan
     }
 }
 
-#[tactic(auto, unfolding(crate::specs::Floats::plan_da))]
-pub fn plan_da(modrm: u8) -> Plan
-    ensures { result ≡ plan_da modrm }
-{
-    if memory_form(modrm) {
-        loads(integer_name(modrm), 4)
-    } else {
-        register_da(modrm)
-    }
-}
-
-#[tactic(auto, unfolding(crate::specs::Floats::memory_db))]
-fn memory_db(modrm: u8) -> Plan
-    ensures { result ≡ memory_db modrm }
-{
-    match reg(modrm) {
-        0 => loads(Opcode::FILD, 4),
-        1 => stores(Opcode::FISTTP, 4),
-        2 => stores(Opcode::FIST, 4),
-        3 => stores(Opcode::FISTP, 4),
-        5 => loads(Opcode::FLD, 10),
-        7 => stores(Opcode::FSTP, 10),
-        _ => bad_opcode(),
-    }
-}
-
 /// E0 to E4.
 #[tactic(auto, unfolding(crate::specs::Floats::control_db))]
 fn control_db(modrm: u8) -> Plan
     ensures { result ≡ control_db modrm }
 {
-    let controls = [
-        Opcode::FENI8087_NOP,
-        Opcode::FDISI8087_NOP,
-        Opcode::FNCLEX,
-        Opcode::FNINIT,
-        Opcode::FSETPM287_NOP,
-    ];
+    let controls = names!(FENI8087_NOP FDISI8087_NOP FNCLEX FNINIT FSETPM287_NOP);
     match modrm {
         0xe0..=0xe4 => bare(name_at(&controls, modrm - 0xe0)),
         _ => bad_opcode(),
     }
 }
 
-#[tactic(auto, unfolding(crate::specs::Floats::register_db))]
-fn register_db(modrm: u8) -> Plan
-    ensures { result ≡ register_db modrm }
-{
-    match reg(modrm) {
-        0 => into_st0(Opcode::FCMOVNB, modrm),
-        1 => into_st0(Opcode::FCMOVNE, modrm),
-        2 => into_st0(Opcode::FCMOVNBE, modrm),
-        3 => into_st0(Opcode::FCMOVNU, modrm),
-        4 => control_db(modrm),
-        5 => into_st0(Opcode::FUCOMI, modrm),
-        6 => into_st0(Opcode::FCOMI, modrm),
-        _ => bad_opcode(),
-    }
-}
-
-#[tactic(auto, unfolding(crate::specs::Floats::plan_db))]
+#[tactic(auto, unfolding(crate::specs::Floats::plan_db, crate::specs::Floats::memory_db, crate::specs::Floats::register_db))]
 pub fn plan_db(modrm: u8) -> Plan
     ensures { result ≡ plan_db modrm }
 {
-    if memory_form(modrm) {
-        memory_db(modrm)
-    } else {
-        register_db(modrm)
+    match (memory_form(modrm), reg(modrm)) {
+        (true, 0) => loads(Opcode::FILD, 4),
+        (true, 1) => stores(Opcode::FISTTP, 4),
+        (true, 2) => stores(Opcode::FIST, 4),
+        (true, 3) => stores(Opcode::FISTP, 4),
+        (true, 5) => loads(Opcode::FLD, 10),
+        (true, 7) => stores(Opcode::FSTP, 10),
+        (true, _) => bad_opcode(),
+        (false, 0) => into_st0(Opcode::FCMOVNB, modrm),
+        (false, 1) => into_st0(Opcode::FCMOVNE, modrm),
+        (false, 2) => into_st0(Opcode::FCMOVNBE, modrm),
+        (false, 3) => into_st0(Opcode::FCMOVNU, modrm),
+        (false, 4) => control_db(modrm),
+        (false, 5) => into_st0(Opcode::FUCOMI, modrm),
+        (false, 6) => into_st0(Opcode::FCOMI, modrm),
+        (false, _) => bad_opcode(),
     }
 }
 
-#[tactic(auto, unfolding(crate::specs::Floats::register_dc))]
-fn register_dc(modrm: u8) -> Plan
-    ensures { result ≡ register_dc modrm }
+#[tactic(auto, unfolding(crate::specs::Floats::plan_dc, crate::specs::Floats::register_dc))]
+pub fn plan_dc(modrm: u8) -> Plan
+    ensures { result ≡ plan_dc modrm }
 {
     match reg(modrm) {
+        _ if memory_form(modrm) => loads(float_name(modrm), 8),
         0 => into_st_rm(Opcode::FADD, modrm),
         1 => into_st_rm(Opcode::FMUL, modrm),
         2 => into_st0(Opcode::FCOM, modrm),
@@ -289,64 +196,35 @@ fn register_dc(modrm: u8) -> Plan
     }
 }
 
-#[tactic(auto, unfolding(crate::specs::Floats::plan_dc))]
-pub fn plan_dc(modrm: u8) -> Plan
-    ensures { result ≡ plan_dc modrm }
-{
-    if memory_form(modrm) {
-        loads(float_name(modrm), 8)
-    } else {
-        register_dc(modrm)
-    }
-}
-
-#[tactic(auto, unfolding(crate::specs::Floats::memory_dd))]
-fn memory_dd(modrm: u8) -> Plan
-    ensures { result ≡ memory_dd modrm }
-{
-    match reg(modrm) {
-        0 => loads(Opcode::FLD, 8),
-        1 => stores(Opcode::FISTTP, 8),
-        2 => stores(Opcode::FST, 8),
-        3 => stores(Opcode::FSTP, 8),
-        4 => on_memory(Opcode::FRSTOR, 63),
-        5 => bad_opcode(),
-        6 => on_memory(Opcode::FNSAVE, 63),
-        _ => on_memory(Opcode::FNSTSW, 2),
-    }
-}
-
-#[tactic(auto, unfolding(crate::specs::Floats::register_dd))]
-fn register_dd(modrm: u8) -> Plan
-    ensures { result ≡ register_dd modrm }
-{
-    match reg(modrm) {
-        0 => of_st_rm(Opcode::FFREE, modrm),
-        1 => into_st0(Opcode::FXCH, modrm),
-        2 => into_st_rm(Opcode::FST, modrm),
-        3 => into_st_rm(Opcode::FSTP, modrm),
-        4 => into_st0(Opcode::FUCOM, modrm),
-        5 => into_st0(Opcode::FUCOMP, modrm),
-        _ => bad_opcode(),
-    }
-}
-
-#[tactic(auto, unfolding(crate::specs::Floats::plan_dd))]
+#[tactic(auto, unfolding(crate::specs::Floats::plan_dd, crate::specs::Floats::memory_dd, crate::specs::Floats::register_dd))]
 pub fn plan_dd(modrm: u8) -> Plan
     ensures { result ≡ plan_dd modrm }
 {
-    if memory_form(modrm) {
-        memory_dd(modrm)
-    } else {
-        register_dd(modrm)
+    match (memory_form(modrm), reg(modrm)) {
+        (true, 0) => loads(Opcode::FLD, 8),
+        (true, 1) => stores(Opcode::FISTTP, 8),
+        (true, 2) => stores(Opcode::FST, 8),
+        (true, 3) => stores(Opcode::FSTP, 8),
+        (true, 4) => on_memory(Opcode::FRSTOR, 63),
+        (true, 5) => bad_opcode(),
+        (true, 6) => on_memory(Opcode::FNSAVE, 63),
+        (true, _) => on_memory(Opcode::FNSTSW, 2),
+        (false, 0) => of_st_rm(Opcode::FFREE, modrm),
+        (false, 1) => into_st0(Opcode::FXCH, modrm),
+        (false, 2) => into_st_rm(Opcode::FST, modrm),
+        (false, 3) => into_st_rm(Opcode::FSTP, modrm),
+        (false, 4) => into_st0(Opcode::FUCOM, modrm),
+        (false, 5) => into_st0(Opcode::FUCOMP, modrm),
+        (false, _) => bad_opcode(),
     }
 }
 
-#[tactic(auto, unfolding(crate::specs::Floats::register_de))]
-fn register_de(modrm: u8) -> Plan
-    ensures { result ≡ register_de modrm }
+#[tactic(auto, unfolding(crate::specs::Floats::plan_de, crate::specs::Floats::register_de))]
+pub fn plan_de(modrm: u8) -> Plan
+    ensures { result ≡ plan_de modrm }
 {
     match reg(modrm) {
+        _ if memory_form(modrm) => loads(integer_name(modrm), 2),
         0 => into_st_rm(Opcode::FADDP, modrm),
         1 => into_st_rm(Opcode::FMULP, modrm),
         2 => into_st0(Opcode::FCOMP, modrm),
@@ -359,56 +237,26 @@ fn register_de(modrm: u8) -> Plan
     }
 }
 
-#[tactic(auto, unfolding(crate::specs::Floats::plan_de))]
-pub fn plan_de(modrm: u8) -> Plan
-    ensures { result ≡ plan_de modrm }
-{
-    if memory_form(modrm) {
-        loads(integer_name(modrm), 2)
-    } else {
-        register_de(modrm)
-    }
-}
-
-#[tactic(auto, unfolding(crate::specs::Floats::memory_df))]
-fn memory_df(modrm: u8) -> Plan
-    ensures { result ≡ memory_df modrm }
-{
-    match reg(modrm) {
-        0 => loads(Opcode::FILD, 2),
-        1 => stores(Opcode::FISTTP, 2),
-        2 => stores(Opcode::FIST, 2),
-        3 => stores(Opcode::FISTP, 2),
-        4 => loads(Opcode::FBLD, 10),
-        5 => loads(Opcode::FILD, 8),
-        6 => stores(Opcode::FBSTP, 10),
-        _ => stores(Opcode::FISTP, 8),
-    }
-}
-
-#[tactic(auto, unfolding(crate::specs::Floats::register_df))]
-fn register_df(modrm: u8) -> Plan
-    ensures { result ≡ register_df modrm }
-{
-    match reg(modrm) {
-        0 => of_st_rm(Opcode::FFREEP, modrm),
-        1 => into_st0(Opcode::FXCH, modrm),
-        2 | 3 => into_st_rm(Opcode::FSTP, modrm),
-        4 if modrm == 0xe0 => on_register(Opcode::FNSTSW, RegisterClass::W),
-        4 => bad_opcode(),
-        5 => into_st0(Opcode::FUCOMIP, modrm),
-        6 => into_st0(Opcode::FCOMIP, modrm),
-        _ => bad_opcode(),
-    }
-}
-
-#[tactic(auto, unfolding(crate::specs::Floats::plan_df))]
+#[tactic(auto, unfolding(crate::specs::Floats::plan_df, crate::specs::Floats::memory_df, crate::specs::Floats::register_df))]
 pub fn plan_df(modrm: u8) -> Plan
     ensures { result ≡ plan_df modrm }
 {
-    if memory_form(modrm) {
-        memory_df(modrm)
-    } else {
-        register_df(modrm)
+    match (memory_form(modrm), reg(modrm)) {
+        (true, 0) => loads(Opcode::FILD, 2),
+        (true, 1) => stores(Opcode::FISTTP, 2),
+        (true, 2) => stores(Opcode::FIST, 2),
+        (true, 3) => stores(Opcode::FISTP, 2),
+        (true, 4) => loads(Opcode::FBLD, 10),
+        (true, 5) => loads(Opcode::FILD, 8),
+        (true, 6) => stores(Opcode::FBSTP, 10),
+        (true, _) => stores(Opcode::FISTP, 8),
+        (false, 0) => of_st_rm(Opcode::FFREEP, modrm),
+        (false, 1) => into_st0(Opcode::FXCH, modrm),
+        (false, 2) | (false, 3) => into_st_rm(Opcode::FSTP, modrm),
+        (false, 4) if modrm == 0xe0 => on_register(Opcode::FNSTSW, RegisterClass::W),
+        (false, 4) => bad_opcode(),
+        (false, 5) => into_st0(Opcode::FUCOMIP, modrm),
+        (false, 6) => into_st0(Opcode::FCOMIP, modrm),
+        (false, _) => bad_opcode(),
     }
 }

@@ -2,10 +2,10 @@
 ghost use Rattle.std.specs.Prelude.{◌≡◌};
 ghost use Rattle.x86_groups.specs.Hints.{prefetch_name, plan_0f0d, plan_0f12, plan_0f16, plan_0f18, plan_f30f1e};
 
-use crate::choice::{bare, named_by_reg, on_memory, reg};
+use crate::choice::{bare, name_by, named_by_reg, on_memory, reg};
 use x86_fields::Prefixes;
 use x86_opcodes::Opcode;
-use x86_operands::plans::{Plan, Sign, Signs, memory_form, memory_only, reads, size_by};
+use x86_operands::plans::{Plan, Sign, Signs, memory_only, reads, size_by};
 use x86_regs::RegisterClass;
 
 #[tactic(auto, unfolding(crate::specs::Hints::plan_0f0d))]
@@ -24,11 +24,7 @@ pub fn plan_0f0d(modrm: u8) -> Plan
 pub fn plan_0f12(prefixes: &Prefixes, modrm: u8) -> Plan
     ensures { result ≡ plan_0f12 prefixes.now modrm }
 {
-    let opcode = if memory_form(modrm) {
-        Opcode::MOVLPS
-    } else {
-        Opcode::MOVHLPS
-    };
+    let opcode = name_by(modrm, Opcode::MOVLPS, Opcode::MOVHLPS);
     let signs = Signs::Two(Sign::G(RegisterClass::X), Sign::E(RegisterClass::X));
     reads(opcode, signs, size_by(modrm, 8, prefixes.v_class().width()))
 }
@@ -37,11 +33,7 @@ pub fn plan_0f12(prefixes: &Prefixes, modrm: u8) -> Plan
 pub fn plan_0f16(prefixes: &Prefixes, modrm: u8) -> Plan
     ensures { result ≡ plan_0f16 prefixes.now modrm }
 {
-    let opcode = if memory_form(modrm) {
-        Opcode::MOVHPS
-    } else {
-        Opcode::MOVLHPS
-    };
+    let opcode = name_by(modrm, Opcode::MOVHPS, Opcode::MOVLHPS);
     let signs = Signs::Two(Sign::G(RegisterClass::X), Sign::E(RegisterClass::X));
     reads(opcode, signs, size_by(modrm, 8, prefixes.v_class().width()))
 }
@@ -49,16 +41,7 @@ pub fn plan_0f16(prefixes: &Prefixes, modrm: u8) -> Plan
 fn prefetch_name(modrm: u8) -> Opcode
     ensures { result ≡ prefetch_name modrm }
 {
-    let names = [
-        Opcode::PREFETCHNTA,
-        Opcode::PREFETCH0,
-        Opcode::PREFETCH1,
-        Opcode::PREFETCH2,
-        Opcode::NOP,
-        Opcode::NOP,
-        Opcode::NOP,
-        Opcode::NOP,
-    ];
+    let names = names!(PREFETCHNTA PREFETCH0 PREFETCH1 PREFETCH2 NOP NOP NOP NOP);
     named_by_reg(&names, modrm)
 }
 
@@ -67,16 +50,9 @@ pub fn plan_0f18(prefixes: &Prefixes, modrm: u8) -> Plan
     ensures { result ≡ plan_0f18 prefixes.now modrm }
 {
     let v = prefixes.v_class();
-    let opcode = if memory_form(modrm) {
-        prefetch_name(modrm)
-    } else {
-        Opcode::NOP
-    };
-    reads(
-        opcode,
-        Signs::One(Sign::E(v)),
-        size_by(modrm, 64, v.width()),
-    )
+    let opcode = name_by(modrm, prefetch_name(modrm), Opcode::NOP);
+    let signs = Signs::One(Sign::E(v));
+    reads(opcode, signs, size_by(modrm, 64, v.width()))
 }
 
 #[tactic(auto, unfolding(crate::specs::Hints::plan_f30f1e))]

@@ -2,7 +2,7 @@
 ghost use Rattle.std.specs.Prelude.{◌≡◌};
 ghost use Rattle.x86_groups.specs.Keys.{with_key, encodes_key, is_no_override, is_f3_alone, plan_f30f38d8, plan_f30f38dc, plan_f30f38dd, plan_f30f38de, plan_f30f38df, plan_f30f38fa, plan_f30f38fb, plan_f30f3af0, fault_f30f3af0};
 
-use crate::choice::{bad_operand, on_memory, reg};
+use crate::choice::{bad_operand, name_by, on_memory, reg};
 use x86_fields::Prefixes;
 use x86_opcodes::Opcode;
 use x86_operands::plans::{
@@ -30,17 +30,10 @@ pub fn plan_f30f38d8(modrm: u8) -> Plan
 pub fn plan_f30f38dc(prefixes: &Prefixes, modrm: u8) -> Plan
     ensures { result ≡ plan_f30f38dc prefixes.now modrm }
 {
-    let opcode = if memory_form(modrm) {
-        Opcode::AESENC128KL
-    } else {
-        Opcode::LOADIWKEY
-    };
+    let opcode = name_by(modrm, Opcode::AESENC128KL, Opcode::LOADIWKEY);
     let signs = Signs::Two(Sign::G(RegisterClass::X), Sign::E(RegisterClass::X));
-    reads(
-        opcode,
-        signs,
-        size_by(modrm, 48, prefixes.v_class().width()),
-    )
+    let size = size_by(modrm, 48, prefixes.v_class().width());
+    reads(opcode, signs, size)
 }
 
 fn with_key(opcode: Opcode, size: u8, modrm: u8) -> Plan
@@ -76,12 +69,8 @@ fn encodes_key(opcode: Opcode, prefixes: &Prefixes, modrm: u8) -> Plan
 {
     let signs = Signs::Two(Sign::G(RegisterClass::D), Sign::U(RegisterClass::D));
     let plan = reads(opcode, signs, prefixes.v_class().width());
-    refused(
-        memory_form(modrm),
-        Fault::BadOpcode,
-        Moment::AfterAddress,
-        plan,
-    )
+    let memory = memory_form(modrm);
+    refused(memory, Fault::BadOpcode, Moment::AfterAddress, plan)
 }
 
 #[tactic(auto, unfolding(crate::specs::Keys::plan_f30f38fa))]
@@ -109,10 +98,7 @@ pub fn plan_f30f3af0(modrm: u8) -> Plan
 fn is_no_override(segment: Segment) -> bool
     ensures { result ≡ is_no_override segment }
 {
-    match segment {
-        Segment::DS => true,
-        _ => false,
-    }
+    matches!(segment, Segment::DS)
 }
 
 fn is_f3_alone(prefixes: &Prefixes) -> bool

@@ -10,6 +10,13 @@ ghost use Rattle.x86_operands.specs.Signs.{record_step};
 ghost use Rattle.x86_operands.specs.Encodings.{held, no_operands, placed_reading};
 ghost use Rattle.x86_groups.specs.Groups.{form_plan, three_byte_plan, two_byte_plan, group_fault, group_modrm, group_plan, group_record};
 
+/// Operations in their order: `names!(ADD OR)`.
+macro_rules! names {
+    ($($name:ident)*) => {
+        [$(Opcode::$name),*]
+    };
+}
+
 mod bits;
 mod by_reg;
 mod choice;
@@ -48,8 +55,8 @@ use x86_forms::{Form, TableRow};
 use x86_opcodes::Opcode;
 use x86_operands::plans::{Fault, ModrmUse, Plan};
 use x86_operands::{
-    Ask, Operands, Reading, RecordAt, RegGroup, place_plan, plan_ask, read_modrm, refuse,
-    used_modrm, used_or_none,
+    Ask, Operands, Reading, RecordAt, RegGroup, place_plan, plan_ask, read_modrm, read_plan,
+    refuse, used_modrm, used_or_none,
 };
 
 fn fault(form: Form, prefixes: &Prefixes) -> Option<Fault>
@@ -184,6 +191,7 @@ pub fn group_plan(row: TableRow, strict: bool, prefixes: &Prefixes, modrm: u8) -
 /// `strict` chooses whether LFENCE, MFENCE and SFENCE are refused where rm isn't 0; nothing else depends on it. Of the errors
 /// come `InvalidOpcode` and `InvalidOperand` where the row's record refuses, `IncompleteDecoder` for 8F with a reg other than 0,
 /// and `ExhaustedInput`. After a refusal the bytes up to its moment are taken: none, ModRM, the address, or all.
+#[tactic(auto, unfolding(crate::specs::Groups::group_record, x86_operands::specs::Signs::record_step))]
 pub fn read_group<T: Reader<u64, u8>>(
     words: &mut T,
     row: TableRow,
@@ -193,18 +201,10 @@ pub fn read_group<T: Reader<u64, u8>>(
     requires group { is_group_form row.form ≡ true }
     ensures { outcome result (T.state words.new) ≡ record_step (group_record strict row prefixes) prefixes (T.state words.old) }
 {
-    let mut prefixes = prefixes;
-    let mut opcode = row.opcode;
-    let mut given = Operands::none();
-    place_group(words, row, strict, &mut prefixes, &mut opcode, &mut given)?;
-    Ok(Reading {
-        opcode,
-        count: given.count,
-        slots: given.slots,
-        operands: given.operands,
-        mem_size: given.mem_size,
-        prefixes,
-    })
+    refuse(fault(row.form, &prefixes))?;
+    let modrm = read_modrm(words, modrm_use(row.form))?;
+    let plan = form_plan(row.form, row.opcode, strict, &prefixes, modrm);
+    read_plan(words, &plan, prefixes, modrm)
 }
 
 /// Which parts a row asks whose form is a group, at a ModRM byte: the same under both choices. Where the row refuses under both

@@ -18,16 +18,14 @@ pub fn plan_8f(prefixes: &Prefixes, modrm: u8) -> Plan
         return refuses(Fault::Incomplete, Moment::AfterAddress);
     }
     let v = prefixes.v_class();
-    let memory = if prefixes.operand_size() {
-        v.width()
+    let in_register = v.width();
+    let in_memory = if prefixes.operand_size() {
+        in_register
     } else {
         8
     };
-    reads(
-        Opcode::POP,
-        Signs::One(Sign::E(v)),
-        size_by(modrm, memory, v.width()),
-    )
+    let size = size_by(modrm, in_memory, in_register);
+    reads(Opcode::POP, Signs::One(Sign::E(v)), size)
 }
 
 /// C6 with a reg other than 0.

@@ -29,10 +29,8 @@ fn refuses_shift(prefixes: &Prefixes, modrm: u8) -> bool
 pub fn plan_0f71(prefixes: &Prefixes, modrm: u8) -> Plan
     ensures { result ≡ plan_0f71 prefixes.now modrm }
 {
-    if refuses_shift(prefixes, modrm) {
-        return refuses(Fault::BadOperand, Moment::AfterAddress);
-    }
     match reg(modrm) {
+        _ if refuses_shift(prefixes, modrm) => refuses(Fault::BadOperand, Moment::AfterAddress),
         2 => packed_shift(prefixes, Opcode::PSRLW),
         4 => packed_shift(prefixes, Opcode::PSRAW),
         6 => packed_shift(prefixes, Opcode::PSLLW),
@@ -44,10 +42,8 @@ pub fn plan_0f71(prefixes: &Prefixes, modrm: u8) -> Plan
 pub fn plan_0f72(prefixes: &Prefixes, modrm: u8) -> Plan
     ensures { result ≡ plan_0f72 prefixes.now modrm }
 {
-    if refuses_shift(prefixes, modrm) {
-        return refuses(Fault::BadOperand, Moment::AfterAddress);
-    }
     match reg(modrm) {
+        _ if refuses_shift(prefixes, modrm) => refuses(Fault::BadOperand, Moment::AfterAddress),
         2 => packed_shift(prefixes, Opcode::PSRLD),
         4 => packed_shift(prefixes, Opcode::PSRAD),
         6 => packed_shift(prefixes, Opcode::PSLLD),
@@ -70,10 +66,8 @@ fn whole_shift(prefixes: &Prefixes, opcode: Opcode) -> Plan
 pub fn plan_0f73(prefixes: &Prefixes, modrm: u8) -> Plan
     ensures { result ≡ plan_0f73 prefixes.now modrm }
 {
-    if refuses_shift(prefixes, modrm) {
-        return refuses(Fault::BadOperand, Moment::AfterAddress);
-    }
     match reg(modrm) {
+        _ if refuses_shift(prefixes, modrm) => refuses(Fault::BadOperand, Moment::AfterAddress),
         2 => packed_shift(prefixes, Opcode::PSRLQ),
         3 => whole_shift(prefixes, Opcode::PSRLDQ),
         6 => packed_shift(prefixes, Opcode::PSLLQ),

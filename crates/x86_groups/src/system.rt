@@ -1,7 +1,7 @@
 //! System tables and system instructions.
 ghost use Rattle.std.specs.Prelude.{◌≡◌};
 ghost use Rattle.x86_operands.specs.Signs.{slot_at};
-ghost use Rattle.x86_groups.specs.System.{rax, eax, ecx_at, edx_at, trusted_domain, monitoring, invalidates_pages, synchronizes_pages, memory_0f01, register_0f01, register_0f01_0, register_0f01_1, register_0f01_2, register_0f01_3, register_0f01_5, register_0f01_7, plan_0f00, plan_0f01};
+ghost use Rattle.x86_groups.specs.System.{rax, eax, ecx_at, edx_at, trusted_domain, monitoring, invalidates_pages, synchronizes_pages, register_0f01_0, register_0f01_1, register_0f01_2, register_0f01_3, register_0f01_5, register_0f01_7, plan_0f00, plan_0f01};
 
 use crate::choice::{
     bad_opcode, bad_operand, bare, has_f2_f3_or_66, has_f2_or_f3, name_at, named_by_reg, on_memory,
@@ -19,33 +19,9 @@ pub fn plan_0f00(modrm: u8) -> Plan
     if reg(modrm) >= 6 {
         return bad_operand();
     }
-    let names = [
-        Opcode::SLDT,
-        Opcode::STR,
-        Opcode::LLDT,
-        Opcode::LTR,
-        Opcode::VERR,
-        Opcode::VERW,
-    ];
+    let names = names!(SLDT STR LLDT LTR VERR VERW);
     let signs = Signs::One(Sign::E(RegisterClass::W));
     reads(named_by_reg(&names, modrm), signs, size_by(modrm, 2, 0))
-}
-
-#[tactic(auto, unfolding(crate::specs::System::memory_0f01))]
-fn memory_0f01(prefixes: &Prefixes, modrm: u8) -> Plan
-    ensures { result ≡ memory_0f01 prefixes.now modrm }
-{
-    match reg(modrm) {
-        0 => on_memory(Opcode::SGDT, 10),
-        1 => on_memory(Opcode::SIDT, 10),
-        2 => on_memory(Opcode::LGDT, 10),
-        3 => on_memory(Opcode::LIDT, 10),
-        4 => on_memory(Opcode::SMSW, 2),
-        5 if prefixes.rep() => on_memory(Opcode::RSTORSSP, 8),
-        5 => bad_opcode(),
-        6 => on_memory(Opcode::LMSW, 2),
-        _ => on_memory(Opcode::INVLPG, 1),
-    }
 }
 
 #[tactic(auto, unfolding(crate::specs::System::register_0f01_0))]
@@ -58,14 +34,7 @@ fn register_0f01_0(prefixes: &Prefixes, modrm: u8) -> Plan
     if rm(modrm) >= 6 {
         return bad_opcode();
     }
-    let names = [
-        Opcode::ENCLV,
-        Opcode::VMCALL,
-        Opcode::VMLAUNCH,
-        Opcode::VMRESUME,
-        Opcode::VMXOFF,
-        Opcode::PCONFIG,
-    ];
+    let names = names!(ENCLV VMCALL VMLAUNCH VMRESUME VMXOFF PCONFIG);
     bare(name_at(&names, rm(modrm)))
 }
 
@@ -161,11 +130,10 @@ fn register_0f01_3(modrm: u8) -> Plan
         4 => bare(Opcode::STGI),
         5 => bare(Opcode::CLGI),
         6 => reads(Opcode::SKINIT, Signs::One(eax()), 0),
-        _ => reads(
-            Opcode::INVLPGA,
-            Signs::Two(rax(), ecx_at(RegisterSlot::Rm)),
-            0,
-        ),
+        _ => {
+            let signs = Signs::Two(rax(), ecx_at(RegisterSlot::Rm));
+            reads(Opcode::INVLPGA, signs, 0)
+        }
     }
 }
 
@@ -230,29 +198,27 @@ fn register_0f01_7(prefixes: &Prefixes, modrm: u8) -> Plan
     }
 }
 
-#[tactic(auto, unfolding(crate::specs::System::register_0f01))]
-fn register_0f01(prefixes: &Prefixes, modrm: u8) -> Plan
-    ensures { result ≡ register_0f01 prefixes.now modrm }
-{
-    match reg(modrm) {
-        0 => register_0f01_0(prefixes, modrm),
-        1 => register_0f01_1(prefixes, modrm),
-        2 => register_0f01_2(prefixes, modrm),
-        3 => register_0f01_3(modrm),
-        4 => reads(Opcode::SMSW, Signs::One(Sign::U(prefixes.v_class())), 2),
-        5 => register_0f01_5(prefixes, modrm),
-        6 => reads(Opcode::LMSW, Signs::One(Sign::U(RegisterClass::W)), 2),
-        _ => register_0f01_7(prefixes, modrm),
-    }
-}
-
-#[tactic(auto, unfolding(crate::specs::System::plan_0f01))]
+#[tactic(auto, unfolding(crate::specs::System::plan_0f01, crate::specs::System::memory_0f01, crate::specs::System::register_0f01))]
 pub fn plan_0f01(prefixes: &Prefixes, modrm: u8) -> Plan
     ensures { result ≡ plan_0f01 prefixes.now modrm }
 {
-    if memory_form(modrm) {
-        memory_0f01(prefixes, modrm)
-    } else {
-        register_0f01(prefixes, modrm)
+    match (memory_form(modrm), reg(modrm)) {
+        (true, 0) => on_memory(Opcode::SGDT, 10),
+        (true, 1) => on_memory(Opcode::SIDT, 10),
+        (true, 2) => on_memory(Opcode::LGDT, 10),
+        (true, 3) => on_memory(Opcode::LIDT, 10),
+        (true, 4) => on_memory(Opcode::SMSW, 2),
+        (true, 5) if prefixes.rep() => on_memory(Opcode::RSTORSSP, 8),
+        (true, 5) => bad_opcode(),
+        (true, 6) => on_memory(Opcode::LMSW, 2),
+        (true, _) => on_memory(Opcode::INVLPG, 1),
+        (false, 0) => register_0f01_0(prefixes, modrm),
+        (false, 1) => register_0f01_1(prefixes, modrm),
+        (false, 2) => register_0f01_2(prefixes, modrm),
+        (false, 3) => register_0f01_3(modrm),
+        (false, 4) => reads(Opcode::SMSW, Signs::One(Sign::U(prefixes.v_class())), 2),
+        (false, 5) => register_0f01_5(prefixes, modrm),
+        (false, 6) => reads(Opcode::LMSW, Signs::One(Sign::U(RegisterClass::W)), 2),
+        (false, _) => register_0f01_7(prefixes, modrm),
     }
 }

@@ -1,11 +1,13 @@
 -- The length of a shortest relative, by the pieces of an encoding.
-use Rattle.std.proofs.Common.{◌≡◌, ℕ, ◌+◌, ◌-◌, ◌&&◌, not, Bool, true, false, if◌then◌else◌, Some, List, [], length, slice_index, refl, sym, ap, subst, ◌∙◌, arith, append-nil}
+use Rattle.std.proofs.Common.{◌≡◌, ℕ, ◌+◌, ◌-◌, ◌&&◌, not, Bool, true, false, if◌then◌else◌, Some, List, [], length, take, slice_index, Ok, refl, sym, ap, subst, ◌∙◌, arith, append-nil}
 use Rattle.x86_fields.specs.declared.Raw.{Raw}
 use Rattle.x86_operands.specs.declared.reader.Reading.{Reading}
 use Rattle.x86_operands.specs.Plans.{is_memory}
 use Rattle.x86_operands.specs.Asks.{ask_of}
 use Rattle.x86_layout.specs.Front.{ask_in, parts_of}
-use Rattle.x86_layout.specs.Least.{least_by, least_in}
+use Rattle.x86_decode.specs.declared.instructions.Instruction.{Instruction}
+use Rattle.x86_decode.specs.Answer.{answer_of}
+use Rattle.x86_layout.specs.Least.{least_by, least_for, least_in, least_of}
 use Rattle.x86_layout.specs.Parts.{Encoding, HasParts}
 use Rattle.x86_layout.specs.Places.{is_ip_relative}
 use Rattle.x86_layout.specs.Shortest.{shortest, address_length, IsOfBytes}
@@ -47,9 +49,17 @@ module _ (strict : Bool) (s : List ℕ) (a : Reading) (v : Encoding strict s a) 
     pub least_at_ip : is_ip_relative raw ≡ true → least_in strict s ≡ length s
     least_at_ip e = least_with true e
 
+    pub least_of_fields : is_ip_relative raw ≡ false → least_in strict s ≡ (length s - address_length raw) + address_length (shortest raw)
+    least_of_fields e = least_with false e
+
     pub least_of_shortest : (fit : IsOfBytes raw) (t : List ℕ) → t ≡ Bytes' strict s a v raw read fit → is_ip_relative raw ≡ false → length t ≡ least_in strict s
     least_of_shortest fit t spelled e =
         let h = least_with false e in
         let old = length_is strict s a v raw read in
         let new = long strict s a v raw read fit t spelled in
         omega (arith, h, old, new)
+
+-- at the front of bytes
+pub least_front : (strict : Bool) (bytes encoding : List ℕ) (instruction : Instruction) (n : ℕ) → answer_of strict bytes ≡ Ok instruction → encoding ≡ take n bytes → n ≡ instruction.length → least_of strict bytes ≡ least_in strict encoding
+unfolding least_of
+least_front strict bytes encoding instruction n accepted front counted = ap (least_for strict bytes) accepted ∙ ap (λ k. least_in strict (take k bytes)) (sym counted) ∙ ap (least_in strict) (sym front)

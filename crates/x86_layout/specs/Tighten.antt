@@ -16,9 +16,10 @@ use Rattle.x86_decode.specs.Grammar.{IsSentence}
 use Rattle.x86_decode.specs.Answer.{answer_of}
 use Rattle.x86_decode.specs.Addresses.{is_modrm_sign, signs_within}
 use Rattle.x86_layout.specs.declared.parts.Parts.{Parts}
+use Rattle.x86_layout.specs.declared.tightening.Addressed.{Addressed}
 use Rattle.x86_layout.specs.declared.tightening.TightenError.{TightenError}
 use Rattle.x86_layout.specs.declared.tightening.TightenError.TheVariants.{Refused, NoMemoryForm, IpRelative}
-use Rattle.x86_layout.specs.Parts.{PartLists, Encoding, lists_of}
+use Rattle.x86_layout.specs.Parts.{PartLists, Encoding, HasParts, lists_of}
 use Rattle.x86_layout.specs.Places.{is_ip_relative}
 use Rattle.x86_layout.specs.Shortest.{address_length}
 
@@ -114,6 +115,12 @@ module _ (strict : Bool) (s : List ℕ) (a : Reading) (v : Encoding strict s a) 
   pub record HasOperandForm (ip_relative : Bool) : Type 0 where
     pub operand : HasMemoryOperand
     pub form : is_ip_relative operand.raw ≡ ip_relative
+
+  -- These are the parts of the encoding, and the raw fields of its memory operand, which isn't relative to the next instruction.
+  pub record HasFields (found : Addressed) : Type 0 where
+    pub parts : HasParts strict s a v (lists_of found.parts)
+    pub read : v.asked.behind.pieces.memory ≡ Some found.raw
+    pub form : is_ip_relative found.raw ≡ false
 
   -- The encoding has a memory operand of ModRM that isn't relative to the next instruction, and t is a shortest relative.
   pub record IsTightened (t : List ℕ) : Type 0 where

@@ -8,7 +8,7 @@ ghost use Rattle.x86_decode.specs.Grammar.{record_of};
 ghost use Rattle.x86_layout.specs.Permitted.{map_named, entry_at, entry_of};
 
 use crate::fields::Fields;
-use x86_decode::{is_prefix, is_vex, seen_by, selected};
+use x86_decode::builders::{is_prefix, is_vex, seen_by, selected};
 use x86_fields::{Prefixes, read_run};
 use x86_forms::{Map, TableRow, packed, unpack};
 use x86_groups::group_at;

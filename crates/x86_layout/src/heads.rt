@@ -11,7 +11,7 @@ ghost use Rattle.x86_layout.specs.Heads.{map_by, IsHead};
 ghost use Rattle.x86_layout.specs.Parts.{Encoding};
 ghost use Rattle.x86_operands.specs.declared.reader.Reading.{Reading};
 
-use x86_decode::{is_prefix, seen_by, selected};
+use x86_decode::builders::{is_prefix, seen_by, selected};
 use x86_fields::{Prefixes, read_run};
 use x86_forms::{Map, TableRow, packed, unpack};
 use x86_groups::group_ask;

@@ -15,7 +15,8 @@ ghost use Rattle.x86_layout.specs.Permitted.{IsPermitted, ArePartsOfSentence};
 ghost use Rattle.x86_forms.specs.Words.{rows_of, word_at};
 ghost use Rattle.x86_decode.specs.Grammar.{IsSentence};
 ghost use Rattle.x86_layout.specs.Least.{least_in};
-ghost use Rattle.x86_layout.specs.Tighten.{HasOperandForm, IsShortest};
+ghost use Rattle.x86_layout.specs.declared.tightening.TightenError.{TightenError};
+ghost use Rattle.x86_layout.specs.Tighten.{HasNoRelative, HasOperandForm, IsShortest};
 ghost use Rattle.x86_layout.specs.Places.{is_ip_relative};
 ghost use Rattle.x86_layout.specs.Shortest.{shortest, address_length, IsOfBytes};
 ghost use Rattle.x86_fields.specs.declared.Raw.{Raw};
@@ -93,6 +94,12 @@ pub fn shortest_fields()
 /// one that `least_of` tells from the bytes.
 pub fn shortest_relatives_have_the_least_length()
     ensures { (strict : Bool) (s : List ℕ) (a : Instruction) (is : IsSentence (rows_of word_at) strict s a) → All (λ byte. byte < 256) s → HasOperandForm strict s is.reading is.whole false → (t : List ℕ) × IsShortest strict s is.reading is.whole t × (length t ≡ least_in strict s) }
+{}
+
+/// An encoding that has no relative to seek, for want of a memory operand of ModRM or since that is relative to the next instruction,
+/// keeps its length: it is the one that `least_of` tells from the bytes.
+pub fn encodings_without_a_relative_keep_their_length()
+    ensures { (strict : Bool) (s : List ℕ) (a : Instruction) (is : IsSentence (rows_of word_at) strict s a) (error : TightenError) → HasNoRelative strict s is.reading is.whole error → least_in strict s ≡ length s }
 {}
 
 /// Errors of `emit` are equal exactly where they are the same.

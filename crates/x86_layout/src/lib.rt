@@ -21,9 +21,9 @@ pub use branches::branch_target;
 pub use cuts::Cut;
 pub use fields::Fields;
 pub use marks::mark_targets;
-pub use parts::{Parts, split};
+pub use parts::{Parts, split, split_decoded};
 pub use sweeps::Sweep;
-pub use tightening::{TightenError, tighten};
+pub use tightening::{TightenError, shortest_length, tighten};
 pub use writing::{EmitError, emit};
 
 #[cfg(test)]

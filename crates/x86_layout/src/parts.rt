@@ -1,6 +1,6 @@
 //! The parts of an encoding.
 
-ghost use Rattle.std.specs.Prelude.{◌≡◌, ◌≤◌, ℕ, List, slice_index, MatchResult, IfOk, Err};
+ghost use Rattle.std.specs.Prelude.{◌≡◌, ◌≤◌, ℕ, List, slice_index, MatchResult, IfOk, Ok, Err};
 ghost use Rattle.x86_fields.specs.declared.Prefixes.{Prefixes};
 ghost use Rattle.x86_operands.specs.declared.reader.Reading.{Reading};
 ghost use Rattle.x86_operands.specs.Plans.{RowRecord};
@@ -13,7 +13,7 @@ ghost use Rattle.x86_layout.specs.Front.{parts_of};
 ghost use Rattle.x86_layout.specs.Fields.{HasFieldLengths};
 
 use crate::heads::{Head, byte_at, cut, head_of};
-use x86_decode::{InstDecoder, laws};
+use x86_decode::{InstDecoder, Instruction, laws};
 use x86_fields::DecodeError;
 use x86_operands::Ask;
 
@@ -77,6 +77,26 @@ pub fn parts_behind<'a>(head: &Head<'a>) -> Parts<'a>
     }
 }
 
+/// The parts of an encoding that was decoded: what [`split`] answers, with no second decode. `instruction` is what the decoder answers
+/// for the bytes.
+///
+/// For `48 03 44 25 00` and its instruction the displacement is 00 (Intel SDM volume 2, section 2.1).
+pub fn split_decoded<'a>(
+    decoder: &InstDecoder,
+    instruction: &Instruction,
+    bytes: &'a [u8],
+) -> Parts<'a>
+    requires decoded { answer_of decoder.now.strict bytes.now ≡ Ok instruction.now }
+    ensures pieces { IsSplit decoder.now.strict bytes.now result }
+    ensures value { lists_of result ≡ parts_of decoder.now.strict bytes.now }
+    ensures lengths { HasFieldLengths (lists_of result) }
+{
+    laws::lengths();
+    laws::answer_is();
+    let (encoding, _) = cut(bytes, instruction.len().to_const() as usize);
+    parts_behind(&head_of(encoding))
+}
+
 /// The parts of the accepted encoding at the front of the bytes, in order; their concatenation is that encoding. Refused as
 /// `InstDecoder::decode_slice` refuses.
 ///
@@ -86,8 +106,6 @@ pub fn split<'a>(decoder: &InstDecoder, bytes: &'a [u8]) -> Result<Parts<'a>, De
     ensures value { IfOk result (λ parts. lists_of parts ≡ parts_of decoder.now.strict bytes.now) }
     ensures lengths { IfOk result (λ parts. HasFieldLengths (lists_of parts)) }
 {
-    laws::lengths();
     let instruction = decoder.decode_slice(bytes)?;
-    let (encoding, _) = cut(bytes, instruction.len().to_const() as usize);
-    Ok(parts_behind(&head_of(encoding)))
+    Ok(split_decoded(decoder, &instruction, bytes))
 }

@@ -6,10 +6,11 @@ ghost use Rattle.x86_fields.specs.Run.{is_prefix_byte};
 ghost use Rattle.arrayvec.specs.ArrayVec.{array_vec_len};
 ghost use Rattle.x86_fields.specs.Raw.{disp_width};
 ghost use Rattle.x86_fields.specs.Pieces.{first_byte, signed_by, option_bytes};
+ghost use Rattle.x86_layout.specs.Shortest.{address_length};
 ghost use Rattle.x86_layout.specs.Tighten.{byte_with, run_with, raw_in, displacement_bytes, respelled, respelled_length};
 
 use crate::heads::byte_at;
-use crate::parts::Parts;
+use crate::parts::{Parts, one_if};
 use crate::writing::push;
 use arrayvec::ArrayVec;
 use x86_fields::{Raw, displacement_width, is_rex, read_run};
@@ -47,6 +48,14 @@ fn width(raw: &Raw) -> usize
     ensures small { result ≤ 4 }
 {
     usize::from(displacement_width(raw.modrm, raw.sib))
+}
+
+/// How many bytes SIB and displacement of raw fields have.
+pub fn address_length(raw: &Raw) -> usize
+    ensures value { result ≡ address_length raw.now }
+    ensures small { result ≤ 5 }
+{
+    one_if(raw.sib.is_some()) + width(raw)
 }
 
 /// A REX byte with these bits X and B; another byte stays.

@@ -1,21 +1,22 @@
 //! The shortest encoding of an address. Source: Intel SDM volume 2, sections 2.1.5 and 2.2.1.
 
-ghost use Rattle.std.specs.Prelude.{◌≡◌, ◌≤◌, Bool, length, MatchResult};
+ghost use Rattle.std.specs.Prelude.{◌≡◌, ◌≤◌, Bool, length, MatchResult, IfErr, Ok};
 ghost use Rattle.x86_forms.specs.Words.{rows_of, word_at};
 ghost use Rattle.x86_decode.specs.declared.instructions.Instruction.{Instruction};
 ghost use Rattle.x86_decode.specs.Grammar.{IsSentence};
 ghost use Rattle.x86_layout.specs.Least.{least_in, least_of, HasLengthOfFront};
-ghost use Rattle.x86_layout.specs.Tighten.{IsTightened, HasNoRelative, HasSentence, OfFront, IsNotTightened};
+ghost use Rattle.x86_decode.specs.Answer.{answer_of};
+ghost use Rattle.x86_layout.specs.Tighten.{IsTightened, HasFields, HasNoRelative, HasSentence, OfFront, IsNotTightened};
 
 use crate::heads::{cut, head_of};
-use crate::parts::parts_behind;
+use crate::parts::{Parts, parts_behind};
 use crate::places::is_ip_relative;
-use crate::respell::{raw_in, respelled};
+use crate::respell::{address_length, raw_in, respelled};
 use crate::shortest::shortest;
 use arrayvec::ArrayVec;
 use thiserror::Error;
-use x86_decode::{InstDecoder, laws};
-use x86_fields::DecodeError;
+use x86_decode::{InstDecoder, Instruction, laws};
+use x86_fields::{DecodeError, Raw};
 
 /// Why `tighten` has no shorter encoding to seek.
 #[derive(Debug, Drop, Error)]
@@ -31,11 +32,19 @@ pub enum TightenError {
     IpRelative,
 }
 
-/// The shortest relative of an encoding.
-fn tightened(encoding: &[u8]) -> Result<ArrayVec<u8, 15>, TightenError>
+/// The parts of an encoding, and the raw fields of its memory operand.
+#[derive(Clone, Copy, Drop)]
+struct Addressed<'a> {
+    parts: Parts<'a>,
+    raw: Raw,
+}
+
+/// What an encoding has that may have a shorter relative; else why there is none to seek.
+#[inline(always)]
+fn fields_in(encoding: &[u8]) -> Result<Addressed<'_>, TightenError>
     requires { HasSentence encoding.now }
-    ensures shortest { (strict : Bool) (a : Instruction) (is : IsSentence (rows_of word_at) strict encoding.now a) → MatchResult result (λ t. IsTightened strict encoding.now is.reading is.whole t.items) (λ error. HasNoRelative strict encoding.now is.reading is.whole error) }
-    ensures least { (strict : Bool) (a : Instruction) → IsSentence (rows_of word_at) strict encoding.now a → MatchResult result (λ t. length t.items ≡ least_in strict encoding.now) (λ _. least_in strict encoding.now ≡ length encoding.now) }
+    ensures fields { (strict : Bool) (a : Instruction) (is : IsSentence (rows_of word_at) strict encoding.now a) → MatchResult result (λ found. HasFields strict encoding.now is.reading is.whole found) (λ error. HasNoRelative strict encoding.now is.reading is.whole error) }
+    ensures least { (strict : Bool) (a : Instruction) → IsSentence (rows_of word_at) strict encoding.now a → IfErr result (λ _. least_in strict encoding.now ≡ length encoding.now) }
 {
     let head = head_of(encoding);
     if !head.ask.memory {
@@ -46,7 +55,46 @@ fn tightened(encoding: &[u8]) -> Result<ArrayVec<u8, 15>, TightenError>
     if is_ip_relative(&raw) {
         return Err(TightenError::IpRelative);
     }
-    Ok(respelled(&parts, &shortest(&raw)))
+    Ok(Addressed { parts, raw })
+}
+
+/// The shortest relative of an encoding.
+fn tightened(encoding: &[u8]) -> Result<ArrayVec<u8, 15>, TightenError>
+    requires { HasSentence encoding.now }
+    ensures shortest { (strict : Bool) (a : Instruction) (is : IsSentence (rows_of word_at) strict encoding.now a) → MatchResult result (λ t. IsTightened strict encoding.now is.reading is.whole t.items) (λ error. HasNoRelative strict encoding.now is.reading is.whole error) }
+    ensures least { (strict : Bool) (a : Instruction) → IsSentence (rows_of word_at) strict encoding.now a → MatchResult result (λ t. length t.items ≡ least_in strict encoding.now) (λ _. least_in strict encoding.now ≡ length encoding.now) }
+{
+    match fields_in(encoding) {
+        Ok(found) => Ok(respelled(&found.parts, &shortest(&found.raw))),
+        Err(error) => Err(error),
+    }
+}
+
+/// How many bytes a shortest relative has, and the encoding itself where it has none to seek.
+fn least_length(encoding: &[u8]) -> usize
+    requires { HasSentence encoding.now }
+    ensures { (strict : Bool) (a : Instruction) → IsSentence (rows_of word_at) strict encoding.now a → result ≡ least_in strict encoding.now }
+{
+    match fields_in(encoding) {
+        Ok(found) => {
+            encoding.len() - address_length(&found.raw) + address_length(&shortest(&found.raw))
+        }
+        Err(_) => encoding.len(),
+    }
+}
+
+/// How many bytes a shortest relative of an encoding has that was decoded, and the encoding itself where it has none to seek: the
+/// length of what [`tighten`] answers, with no second decode. `instruction` is what the decoder answers for the bytes.
+///
+/// For `48 8b 84 25 00 00 00 00` and its instruction this is 4 (Intel SDM volume 2, section 2.1.5).
+pub fn shortest_length(decoder: &InstDecoder, instruction: &Instruction, bytes: &[u8]) -> u64
+    requires decoded { answer_of decoder.now.strict bytes.now ≡ Ok instruction.now }
+    ensures { result ≡ least_of decoder.now.strict bytes.now }
+{
+    laws::lengths();
+    laws::answer_is();
+    let (encoding, _) = cut(bytes, instruction.len().to_const() as usize);
+    least_length(encoding) as u64
 }
 
 /// An encoding with the same instruction and the same address as the accepted encoding at the front of the bytes, of which none is

@@ -14,25 +14,32 @@ use crate::entries::{Entry, entry_of, record_at};
 use crate::fields::Fields;
 use crate::parts::{asks_sib, one_if};
 use arrayvec::ArrayVec;
+use thiserror::Error;
 use x86_arch::U8Reader;
-use x86_decode::{InstDecoder, allows_lock, is_prefix, read_row};
+use x86_decode::InstDecoder;
+use x86_decode::builders::{allows_lock, is_prefix, read_row};
 use x86_fields::displacement_width;
 use x86_operands::plans::{Verdict, memory_form};
 use x86_operands::{RecordAt, plan_ask, suffix_opcode};
 
 /// Why fields aren't written: the first condition that fails, in this order.
-#[derive(Clone, Copy, PartialEq, Eq, Debug, Drop)]
+#[derive(Clone, Copy, PartialEq, Eq, Debug, Drop, Error)]
 pub enum EmitError {
     /// One of the prefix bytes is neither a legacy prefix nor a REX.
+    #[error("not a prefix byte")]
     Prefixes,
     /// The escape is none of the four, the opcode byte has no row, or the row's record refuses at the opcode, for the ModRM that is
     /// there, or for the suffix that is there.
+    #[error("no row for these fields")]
     Row,
     /// A part that the row asks is missing or has another length, or one is there that it doesn't ask.
+    #[error("parts other than the row asks")]
     Shape,
     /// F0 is there and isn't allowed.
+    #[error("lock prefix not allowed")]
     Lock,
     /// There are more than 15 bytes.
+    #[error("more than 15 bytes")]
     Length,
 }
 
@@ -207,5 +214,25 @@ pub fn emit(decoder: &InstDecoder, fields: &Fields) -> Result<ArrayVec<u8, 15>, 
     match entry_of(fields) {
         Some(entry) => emit_row(decoder.is_strict(), &entry, fields),
         None => Err(EmitError::Row),
+    }
+}
+
+#[cfg(test)]
+mod tests {
+    use crate::EmitError;
+
+    #[test]
+    fn the_texts_of_the_errors(rt: HostRuntime) {
+        let texts = [
+            (EmitError::Prefixes, "not a prefix byte"),
+            (EmitError::Row, "no row for these fields"),
+            (EmitError::Shape, "parts other than the row asks"),
+            (EmitError::Lock, "lock prefix not allowed"),
+            (EmitError::Length, "more than 15 bytes"),
+        ];
+        for (error, expected) in texts {
+            let text = format!(in rt.alloc(); "{error}").expect(&rt, "memory");
+            assert!(rt; text.as_str() == expected);
+        }
     }
 }

@@ -1,5 +1,5 @@
 -- What an encoding writes in place is what its plan gives.
-use Rattle.std.proofs.Common.{◌⊎◌, inl, inr, ◌≡◌, ℕ, Bool, true, false, not, if◌then◌else◌, ◌&&◌, ◌≢◌, IsTrue, refl, sym, ap, ◌∙◌, Ok, Err, Result, None, Some, Option, is_some}
+use Rattle.std.proofs.Common.{◌≡◌, ℕ, Bool, true, false, not, if◌then◌else◌, ◌&&◌, ◌≢◌, IsTrue, refl, sym, ap, ◌∙◌, Ok, Err, Result, None, Some, Option, is_some}
 use Rattle.std.proofs.lemmas.Bool.{eqb-true}
 use Rattle.x86_arch.specs.Reader.{State}
 use Rattle.x86_regs.specs.declared.RegisterClass.{RegisterClass}
@@ -31,7 +31,8 @@ use Rattle.x86_operands.specs.declared.placing.Operands.{Operands}
 use Rattle.x86_operands.specs.Signs.{plan_step, memory_step, given_step, signs_step, sign_step, reading_from, rm_operand}
 use Rattle.x86_operands.specs.Plans.{is_memory, list_of, reads, immediate_of}
 use Rattle.x86_operands.specs.FormSizes.{whole_immediate}
-use Rattle.x86_operands.specs.Encodings.{last_class, last_sign, reg_sign, rm_sign, signs_in, judged, plan_of, bytes_of, fields_placed, is_last, ends, put, rm_pair, reg_pair, fixed_pair, placed_reading, sized, last_placed, placed, somewhere, is_row, is_sound, size_at, is_order_of, is_order, has_modrm, has_register, fits, allowed}
+use Rattle.x86_operands.specs.Shape.{shape_of}
+use Rattle.x86_operands.specs.Encodings.{last_sign, reg_sign, rm_sign, signs_in, judged, plan_of, bytes_of, fields_placed, index_of_place, sign_placed, sign_put, is_last, ends, put, rm_pair, reg_pair, fixed_pair, placed_reading, sized, last_placed, placed, somewhere, is_row, is_sound, size_at, is_order_of, is_order, has_modrm, has_register, fits, allowed}
 
 abbrev Pair : Type 0
 Pair = Slot × Operand
@@ -51,7 +52,7 @@ pub data Named : Order → Type 0 where
   e_g_i_named : Named (record { count = 3; reg = Second; rm = First; last = Third })
   g_e_i_named : Named (record { count = 3; reg = First; rm = Second; last = Third })
 
-named_of : (a b c : Place) (n : ℕ) → is_order_of a b c n ≡ true → Named (record { count = n; reg = a; rm = b; last = c })
+pub named_of : (a b c : Place) (n : ℕ) → is_order_of a b c n ≡ true → Named (record { count = n; reg = a; rm = b; last = c })
 named_of Nowhere Nowhere Nowhere n h = rw (eqb-true n 0 h) no_named
 named_of Nowhere Nowhere First n h = rw (eqb-true n 1 h) i_named
 named_of First Nowhere Nowhere n h = rw (eqb-true n 1 h) r_named
@@ -305,13 +306,14 @@ allowed_row (behind.Peculiar u) m h = cc
 allowed_row behind.Group m h = cc
 allowed_row b m h = refl
 
--- ---- immediates by their class
+-- ---- in place
 
-pub last_v : (l : Last) (p : Prefixes) → (l ≡ last.I32) ⊎ ((l ≡ last.Iv) ⊎ (l ≡ last.Ip)) → last_sign l p ≡ immediate_of (last_class l p)
-last_v l p (inl e) = rw e refl
-last_v l p (inr (inl e)) = rw e refl
-last_v l p (inr (inr e)) = rw e (by (p.operand_size && not (rex_w p)))
-  where
-    by : (b : Bool) → (if b then I16 else I32) ≡ immediate_of (if b then class.W else class.D)
-    by true = refl
-    by false = refl
+pub sign_at_place : (at : Place) (l : Sign) (p : Prefixes) (given : Operands) (s : State ℕ) → at ≢ Nowhere → sign_put (index_of_place at) l p 0xc0 None given s ≡ sign_placed at l p given s
+sign_at_place First l p given s h = refl
+sign_at_place Second l p given s h = refl
+sign_at_place Third l p given s h = refl
+sign_at_place Nowhere l p given s h = absurd (h refl)
+
+pub rm_in_memory : (w : Width) (p : Prefixes) (m : ℕ) (raw : Raw) → rm_pair w p m (Some raw) ≡ shape_of raw
+rm_in_memory width.Mm p m raw = refl
+rm_in_memory w p m raw = refl

@@ -20,10 +20,9 @@ use Rattle.x86_operands.specs.declared.plans.Fault.TheVariants.{BadOpcode}
 use Rattle.x86_operands.specs.declared.plans.Verdict.{Verdict}
 use Rattle.x86_operands.specs.declared.plans.Verdict.TheVariants.{Accepts, NamedBySuffix, Refuses}
 use Rattle.x86_operands.specs.declared.plans.Plan.{Plan}
-use Rattle.x86_operands.specs.declared.reader.Given.{Given}
 use Rattle.x86_operands.specs.declared.reader.Reading.{Reading}
 use Rattle.x86_operands.specs.Plans.{is_memory, list_of}
-use Rattle.x86_operands.specs.Signs.{signs_step, given_step, four_of, refusal_step, opcode_step, memory_step, plan_step, reading_from, error_of}
+use Rattle.x86_operands.specs.Signs.{Given, signs_step, given_step, four_of, refusal_step, opcode_step, memory_step, plan_step, reading_from, error_of}
 use Rattle.x86_operands.specs.Pieces.{immediate_width, SpellsSigns, SpellsMemory, SpellsPieces, SpellsTail, RefusesTail, at_modrm, after_address, after_suffix, no_name, is_refusal, suffix_width, opcode_by, memory_widths, plan_widths, tail_widths}
 use Rattle.x86_operands.proofs.SignLaws.{ends_signs, takes_signs, stands_signs}
 use Rattle.x86_operands.proofs.VerdictLaws.{Faults, Never, refuses_at, IsVerdict, ends_verdict, takes_passed, takes_refused, passed_other, passed_suffix, fault_error, IsNamed, ends_opcode, takes_opcode, takes_unnamed}

@@ -1,5 +1,6 @@
 -- What a row asks behind its opcode byte, told from a ModRM byte alone.
-use Rattle.std.specs.Prelude.{ℕ, Bool, true, false, Option, [], ◌∷◌, map}
+use Rattle.std.specs.Prelude.{ℕ, Bool, true, false, if◌then◌else◌, Option, [], ◌∷◌, map}
+use Rattle.x86_fields.specs.declared.Prefixes.{Prefixes}
 use Rattle.x86_fields.specs.Pieces.{total, option_bytes}
 use Rattle.x86_operands.specs.declared.plans.Verdict.{Verdict}
 use Rattle.x86_operands.specs.declared.plans.Verdict.TheVariants.{NamedBySuffix}
@@ -9,6 +10,8 @@ use Rattle.x86_operands.specs.declared.plans.ModrmUse.TheVariants.{Absent}
 use Rattle.x86_operands.specs.declared.plans.Plan.{Plan}
 use Rattle.x86_operands.specs.declared.asks.Ask.{Ask}
 use Rattle.x86_operands.specs.declared.asks.RecordAt.{RecordAt}
+use Rattle.x86_operands.specs.declared.encodings.Encoding.{Encoding}
+use Rattle.x86_operands.specs.Encodings.{last_sign, somewhere, use_of}
 use Rattle.x86_operands.specs.Plans.{RowRecord, is_memory, list_of}
 use Rattle.x86_operands.specs.Pieces.{immediate_width, modrm_of}
 
@@ -35,6 +38,15 @@ plan_ask usage m plan = record {
   memory = is_memory m;
   immediate = immediates_width plan.signs;
   suffix = asks_suffix plan.verdict;
+}
+
+-- what a line of the operand encodings asks at a ModRM byte that is used so: its last operand alone can be an immediate
+abbrev pub encoding_ask : Encoding → Prefixes → ℕ → Ask
+encoding_ask e p m = record {
+  modrm = asks_modrm (use_of e.behind);
+  memory = is_memory m;
+  immediate = if somewhere e.order.last then immediate_width (last_sign e.last p) else 0;
+  suffix = false;
 }
 
 -- what a row asks at a ModRM byte

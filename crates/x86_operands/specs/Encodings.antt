@@ -41,12 +41,11 @@ use Rattle.x86_fields.specs.declared.DecodeError.{DecodeError}
 use Rattle.x86_fields.specs.Steps.{Step, ◌>>=◌, pure}
 use Rattle.x86_operands.specs.declared.plans.ModrmUse.{ModrmUse}
 use Rattle.x86_operands.specs.declared.plans.ModrmUse.TheVariants as use_as
-use Rattle.x86_fields.specs.Raw.{raw_step, middle_field, rex_w}
+use Rattle.x86_fields.specs.Raw.{raw_step, middle_field}
 use Rattle.x86_fields.specs.Sizes.{register_of}
 use Rattle.x86_operands.specs.Shape.{shape_of}
-use Rattle.x86_operands.specs.Signs.{sign_step, memory_step, rm_operand, rm_mm_operand}
+use Rattle.x86_operands.specs.Signs.{Given, sign_step, memory_step, rm_operand, rm_mm_operand}
 use Rattle.x86_operands.specs.declared.reader.Reading.{Reading}
-use Rattle.x86_operands.specs.declared.reader.Given.{Given}
 use Rattle.x86_operands.specs.declared.operands.Slot.{Slot}
 use Rattle.x86_operands.specs.declared.operands.Operand.{Operand}
 use Rattle.x86_operands.specs.declared.placing.Operands.{Operands}
@@ -101,12 +100,6 @@ last_sign last.Three p = sign.ConstantU8 3
 last_sign last.Cl p = sign.Fixed slot.Reg (record { num = 1; class = class.B })
 last_sign last.ClThird p = cl_third
 
--- the class of a signed immediate that goes by prefixes, or has four bytes
-abbrev pub last_class : Last → Prefixes → RegisterClass
-last_class last.Iv p = v p
-last_class last.Ip p = if p.operand_size && not (rex_w p) then class.W else class.D
-last_class l p = class.D
-
 abbrev pub reg_sign : Behind → Width → ℕ → Prefixes → Sign
 reg_sign behind.Opcode w n p = sign.Fixed slot.Reg (register_at n (class_of w p) p)
 reg_sign behind.Accumulator w n p = accumulator_of (class_of w p) p
@@ -124,6 +117,7 @@ abbrev pub same_place : Place → Place → Bool
 same_place First First = true
 same_place Second Second = true
 same_place Third Third = true
+same_place Nowhere Nowhere = true
 same_place a b = false
 
 abbrev pub sign_at : Order → Place → Sign → Sign → Sign → Sign
@@ -241,10 +235,6 @@ put First x given = put_at 0 x given
 put Second x given = put_at 1 x given
 put Third x given = put_at 2 x given
 put Nowhere x given = given
-
--- the memory operand, at a place
-abbrev pub memory_placed : Place → Prefixes → ℕ → Operands → Step Operands
-memory_placed at p m given = raw_step p m >>= λ raw. pure (put at (shape_of raw) given)
 
 -- the operand of a sign that no ModRM names, at a place
 abbrev pub sign_placed : Place → Sign → Prefixes → Operands → Step Operands

@@ -1,5 +1,5 @@
 -- The calls of a visitor, each with its fields.
-use Rattle.std.specs.Prelude.{ℕ, ℤ}
+use Rattle.std.specs.Prelude.{ℕ, ℤ, Bool, true, false}
 use Rattle.x86_regs.specs.declared.RegSpec.{RegSpec}
 use Rattle.x86_regs.specs.declared.MergeMode.{MergeMode}
 use Rattle.x86_regs.specs.declared.SaeMode.{SaeMode}
@@ -66,3 +66,16 @@ visit_of (operands.MemIndexScaleDispMasked i s d k) = visit_index_scale_disp_mas
 visit_of (operands.MemBaseIndexScaleMasked b i s k) = visit_base_index_scale_masked b i s k
 visit_of (operands.MemBaseIndexScaleDispMasked b i s d k) = visit_base_index_scale_disp_masked b i s d k
 visit_of operands.Nothing = visit_other
+
+-- a register or memory with a mask
+abbrev pub is_masked : Operand → Bool
+is_masked (operands.RegisterMaskMerge reg k merge) = true
+is_masked (operands.RegisterMaskMergeSae reg k merge sae) = true
+is_masked (operands.RegisterMaskMergeSaeNoround reg k merge) = true
+is_masked (operands.MemDerefMasked b k) = true
+is_masked (operands.DispMasked b d k) = true
+is_masked (operands.MemIndexScaleMasked i s k) = true
+is_masked (operands.MemIndexScaleDispMasked i s d k) = true
+is_masked (operands.MemBaseIndexScaleMasked b i s k) = true
+is_masked (operands.MemBaseIndexScaleDispMasked b i s d k) = true
+is_masked o = false

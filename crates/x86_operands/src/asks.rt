@@ -2,9 +2,12 @@
 ghost use Rattle.std.specs.Prelude.{◌≡◌, ◌≤◌};
 ghost use Rattle.x86_fields.specs.Pieces.{option_bytes};
 ghost use Rattle.x86_operands.specs.Pieces.{immediate_width, modrm_of};
-ghost use Rattle.x86_operands.specs.Asks.{asks_modrm, asks_suffix, immediates_width, used, plan_ask};
+ghost use Rattle.x86_operands.specs.Asks.{encoding_ask, immediates_width, used, plan_ask};
 
+use crate::encodings::Encoding;
+use crate::order::Place;
 use crate::plans::{Fault, ModrmUse, Plan, Sign, Signs, Verdict, memory_form};
+use x86_fields::Prefixes;
 
 /// Which parts of an encoding a row asks behind its opcode byte. Whether there is a SIB, and how long the displacement of a memory
 /// form is, ModRM and SIB tell (Intel SDM volume 2, section 2.1.5).
@@ -56,18 +59,6 @@ fn width_of_all(signs: Signs) -> u8
     }
 }
 
-fn has_modrm(usage: ModrmUse) -> bool
-    ensures { result ≡ asks_modrm usage }
-{
-    !matches!(usage, ModrmUse::Absent)
-}
-
-fn has_suffix(verdict: Verdict) -> bool
-    ensures { result ≡ asks_suffix verdict }
-{
-    matches!(verdict, Verdict::NamedBySuffix)
-}
-
 /// A ModRM byte as a row uses it.
 pub fn used_modrm(usage: ModrmUse, modrm: u8) -> u8
     ensures { result ≡ used usage modrm }
@@ -94,9 +85,26 @@ pub fn plan_ask(usage: ModrmUse, modrm: u8, plan: &Plan) -> Ask
     ensures { result ≡ plan_ask usage modrm plan.now }
 {
     Ask {
-        modrm: has_modrm(usage),
+        modrm: !matches!(usage, ModrmUse::Absent),
         memory: memory_form(modrm),
         immediate: width_of_all(plan.signs),
-        suffix: has_suffix(plan.verdict),
+        suffix: matches!(plan.verdict, Verdict::NamedBySuffix),
+    }
+}
+
+/// What a line of the operand encodings asks at a ModRM byte that is used so.
+#[inline(always)]
+pub fn encoding_ask(encoding: &Encoding, prefixes: &Prefixes, modrm: u8) -> Ask
+    ensures { result ≡ encoding_ask encoding.now prefixes.now modrm }
+{
+    let immediate = match encoding.order.last {
+        Place::Nowhere => 0,
+        _ => width(encoding.last.sign(prefixes)),
+    };
+    Ask {
+        modrm: !matches!(encoding.modrm_use(), ModrmUse::Absent),
+        memory: memory_form(modrm),
+        immediate,
+        suffix: false,
     }
 }

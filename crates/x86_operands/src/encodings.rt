@@ -1,7 +1,7 @@
 //! What a row of the operand encodings says.
 
 ghost use Rattle.std.specs.Prelude.{◌≡◌, ◌<◌};
-ghost use Rattle.x86_operands.specs.Encodings.{class_of, bytes_of, last_class, last_sign, reg_sign, rm_sign, same_place, sign_at, signs_in, plan_of, use_of, is_row, allowed, size_at};
+ghost use Rattle.x86_operands.specs.Encodings.{class_of, bytes_of, last_sign, reg_sign, rm_sign, sign_at, signs_in, plan_of, use_of, is_row, allowed, size_at};
 
 use crate::form_sizes::{
     call_size, duplicate_size, extract_size, insert_size, nothing_size, push_immediate,
@@ -39,11 +39,17 @@ pub enum RegGroup {
 /// What stands behind the opcode byte.
 #[derive(Clone, Copy, PartialEq, Eq, Debug, Drop)]
 pub enum Behind {
+    /// No ModRM, and no register.
     Nothing,
+    /// No ModRM: the opcode byte carries the number of a register.
     Opcode,
+    /// No ModRM: register 0 is an operand.
     Accumulator,
+    /// A ModRM of either form.
     Fields,
+    /// A ModRM of the memory form; the register form is refused.
     Memory,
+    /// A ModRM of the register form; the memory form is refused.
     Registers,
     /// A ModRM whose reg chooses the row.
     ByReg(RegGroup),
@@ -53,7 +59,7 @@ pub enum Behind {
     Group,
 }
 
-/// The small letter behind G, E or Z: a class of registers, always the same or by W and 66.
+/// The small letter behind G, E or Z: a class of registers, always the same or by W and 66 (Intel SDM volume 2, appendix A.2.2).
 #[derive(Clone, Copy, PartialEq, Eq, Debug, Drop)]
 pub enum Width {
     B,
@@ -62,9 +68,13 @@ pub enum Width {
     D,
     Q,
     X,
+    /// Q under W, else W under 66, else D.
     V,
+    /// W under 66, else Q.
     Vq,
+    /// D under W or without 66, else W.
     Vd,
+    /// Q under W, else D.
     Dq,
 }
 
@@ -121,12 +131,19 @@ pub enum Size {
 /// How the operands of a form are encoded.
 #[derive(Clone, Copy, PartialEq, Eq, Debug, Drop)]
 pub struct Encoding {
+    /// What stands behind the opcode byte.
     pub behind: Behind,
+    /// In which order reg, rm and the last operand stand.
     pub order: Order,
+    /// The width of the register of the field reg, of the opcode byte, or of the accumulator.
     pub reg: Width,
+    /// The width of the register of the field rm.
     pub rm: Width,
+    /// The operand that is none of these.
     pub last: Last,
+    /// The size of what is read or written in memory, in the memory form.
     pub in_memory: Size,
+    /// The same in the register form, and without ModRM.
     pub in_register: Size,
 }
 
@@ -179,19 +196,9 @@ impl Size {
 }
 
 impl Last {
-    /// The class of a signed immediate that goes by prefixes, or has four bytes.
+    /// What the last operand gives.
     #[inline(always)]
-    pub fn class(self, prefixes: &Prefixes) -> RegisterClass
-        ensures { result ≡ last_class self prefixes.now }
-    {
-        match self {
-            Last::Iv => prefixes.v_class(),
-            Last::Ip if prefixes.operand_size() && !prefixes.has_w() => RegisterClass::W,
-            _ => RegisterClass::D,
-        }
-    }
-
-    fn sign(self, prefixes: &Prefixes) -> Sign
+    pub fn sign(self, prefixes: &Prefixes) -> Sign
         ensures { result ≡ last_sign self prefixes.now }
     {
         match self {
@@ -216,14 +223,12 @@ fn reg_sign(behind: Behind, width: Width, num: u8, prefixes: &Prefixes) -> Sign
     requires { num < 8 }
     ensures { result ≡ reg_sign behind width num prefixes.now }
 {
+    let class = width.class(prefixes);
     match (behind, width) {
-        (Behind::Opcode, w) => Sign::Fixed(
-            RegisterSlot::Reg,
-            register_at(num, w.class(prefixes), prefixes),
-        ),
-        (Behind::Accumulator, w) => accumulator(w.class(prefixes), prefixes),
+        (Behind::Opcode, _) => Sign::Fixed(RegisterSlot::Reg, register_at(num, class, prefixes)),
+        (Behind::Accumulator, _) => accumulator(class, prefixes),
         (_, Width::Mm) => Sign::Gmm,
-        (_, w) => Sign::G(w.class(prefixes)),
+        _ => Sign::G(class),
     }
 }
 
@@ -239,23 +244,12 @@ fn rm_sign(behind: Behind, width: Width, prefixes: &Prefixes) -> Sign
     }
 }
 
-fn is_at(place: Place, k: Place) -> bool
-    ensures { result ≡ same_place place k }
-{
-    match (place, k) {
-        (Place::First, Place::First) => true,
-        (Place::Second, Place::Second) => true,
-        (Place::Third, Place::Third) => true,
-        _ => false,
-    }
-}
-
 fn sign_at(order: &Order, k: Place, reg: Sign, rm: Sign, last: Sign) -> Sign
     ensures { result ≡ sign_at order.now k reg rm last }
 {
-    if is_at(order.reg, k) {
+    if order.reg == k {
         reg
-    } else if is_at(order.rm, k) {
+    } else if order.rm == k {
         rm
     } else {
         last
@@ -268,14 +262,11 @@ fn signs_in(order: &Order, reg: Sign, rm: Sign, last: Sign) -> Signs
     let first = sign_at(order, Place::First, reg, rm, last);
     let second = sign_at(order, Place::Second, reg, rm, last);
     let third = sign_at(order, Place::Third, reg, rm, last);
-    if order.count == 0 {
-        Signs::Zero
-    } else if order.count == 1 {
-        Signs::One(first)
-    } else if order.count == 2 {
-        Signs::Two(first, second)
-    } else {
-        Signs::Three(first, second, third)
+    match order.count {
+        0 => Signs::Zero,
+        1 => Signs::One(first),
+        2 => Signs::Two(first, second),
+        _ => Signs::Three(first, second, third),
     }
 }
 

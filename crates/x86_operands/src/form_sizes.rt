@@ -35,6 +35,7 @@ pub fn or_v(memory: u8, prefixes: &Prefixes, modrm: u8) -> u8
 }
 
 /// The immediate of a class v that has its whole width.
+#[inline(always)]
 pub fn whole_immediate(class: RegisterClass) -> Sign
     ensures { result ≡ whole_immediate class }
 {
@@ -46,6 +47,7 @@ pub fn whole_immediate(class: RegisterClass) -> Sign
 }
 
 /// The immediate of PUSH.
+#[inline(always)]
 pub fn push_immediate(prefixes: &Prefixes) -> Sign
     ensures { result ≡ push_immediate prefixes.now }
 {

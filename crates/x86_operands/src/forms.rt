@@ -9,12 +9,12 @@ ghost use Rattle.x86_operands.specs.Encodings.{held, no_operands, placed_reading
 ghost use Rattle.x86_operands.specs.Forms.{form_plan, form_record, modrm_use};
 ghost use Rattle.x86_operands.specs.Signs.{record_step};
 
-use crate::asks::{Ask, RecordAt, plan_ask, used_modrm, used_or_none};
+use crate::asks::{Ask, RecordAt, encoding_ask, plan_ask, used_modrm, used_or_none};
 use crate::form_encodings::{carried, encoding_of};
 use crate::peculiar_forms::peculiar_plan;
 use crate::placing::Operands;
 use crate::plans::{ModrmUse, Plan};
-use crate::reader::{Reading, place_plan, read_modrm};
+use crate::reader::{Reading, place_plan, read_modrm, read_plan};
 use x86_arch::Reader;
 use x86_fields::{DecodeError, Prefixes};
 use x86_forms::{Form, TableRow};
@@ -62,6 +62,7 @@ pub fn place_form<T: Reader<u64, u8>>(
 ///
 /// The bytes taken are exactly those that the record asks; after a refusal, those up to its moment; at
 /// `ExhaustedInput`, the pieces before the first that isn't whole.
+#[tactic(auto, unfolding(crate::specs::Forms::form_record, crate::specs::Signs::record_step))]
 pub fn read_form<T: Reader<u64, u8>>(
     words: &mut T,
     row: TableRow,
@@ -71,34 +72,30 @@ pub fn read_form<T: Reader<u64, u8>>(
     requires carried { IsForm row.form }
     ensures { outcome result (T.state words.new) ≡ record_step (form_record row prefixes) prefixes (T.state words.old) }
 {
-    let mut prefixes = prefixes;
-    let mut opcode = row.opcode;
-    let mut given = Operands::none();
-    place_form(words, row, &mut prefixes, &mut opcode, &mut given)?;
-    Ok(Reading {
-        opcode,
-        count: given.count,
-        slots: given.slots,
-        operands: given.operands,
-        mem_size: given.mem_size,
-        prefixes,
-    })
+    let modrm = read_modrm(words, modrm_use(row.form))?;
+    let plan = form_plan(row.form, row.opcode, &prefixes, modrm);
+    read_plan(words, &plan, prefixes, modrm)
 }
 
 /// Which parts a row asks whose form is no group, at a ModRM byte. `modrm` is looked at only where the row asks a ModRM. Where the
 /// row refuses with every suffix, the answer is open.
 ///
 /// For the row of 03, which is ADD, at ModRM 44 this is a ModRM of the memory form, and nothing else.
-#[tactic(auto, unfolding(crate::specs::Forms::form_record, crate::specs::Asks::ask_of))]
+#[tactic(auto, using(crate::proofs::AskLaws::encoding_asks), unfolding(crate::specs::Forms::form_record, crate::specs::Asks::ask_of))]
 pub fn form_ask(row: TableRow, prefixes: Prefixes, modrm: u8) -> Ask
     requires plain { is_group_form row.form ≡ false }
     requires carried { IsForm row.form }
     ensures { result ≡ ask_of (form_record row prefixes) modrm }
 {
-    let usage = modrm_use(row.form);
+    let encoding = encoding_of(row.form);
+    let usage = encoding.modrm_use();
     let modrm = used_modrm(usage, modrm);
-    let plan = form_plan(row.form, row.opcode, &prefixes, modrm);
-    plan_ask(usage, modrm, &plan)
+    if encoding.behind.is_row() {
+        encoding_ask(encoding, &prefixes, modrm)
+    } else {
+        let plan = peculiar_plan(row.form, row.opcode, &prefixes, modrm);
+        plan_ask(usage, modrm, &plan)
+    }
 }
 
 /// The record of a row whose form is no group, at a ModRM byte.

@@ -125,31 +125,56 @@ pub enum Operand {
     Nothing,
 }
 
-/// Where in the encoding an operand comes from.
+/// Where in the encoding an operand comes from. Immediates and displacements are little-endian.
+///
+/// Source: Intel SDM volume 2, sections 2.1.3 to 2.1.5.
 #[derive(Clone, Copy, PartialEq, Eq, Debug, Drop)]
 pub enum Slot {
+    /// No operand.
     Nothing,
+    /// A register of the field reg or of the opcode byte, or one that the operation names, as the accumulator.
     Reg,
+    /// The register of the field rm, that of the opcode byte of XCHG, or one that the operation names, as the port dx.
     Rm,
+    /// A register that the operation names behind two others, as cl of SHLD.
     Third,
+    /// A signed immediate of 1 byte. The 1 of a shift by one, which no byte spells, is one too.
     ImmI8,
+    /// An unsigned immediate of 1 byte. The 1 of F1 and the 3 of CC, which no byte spells, are such too.
     ImmU8,
+    /// A signed immediate of 2 bytes.
     ImmI16,
+    /// An unsigned immediate of 2 bytes.
     ImmU16,
+    /// A signed immediate of 4 bytes, or of 2 where it is the distance of XBEGIN under 66.
     ImmI32,
+    /// A signed immediate of 8 bytes, or of 4 that are extended to 64 bits.
     ImmI64,
+    /// An unsigned immediate beside another one: the first of ENTER, of 2 bytes, and the last of EXTRQ and INSERTQ, of 1 byte.
     ImmInDisp,
+    /// An address of 4 bytes: a displacement without base and index, or that of A0 to A3 under 67.
     DispU32,
+    /// An address of 8 bytes, that of A0 to A3.
     DispU64,
+    /// Memory at a base, or at the register of a string operation with one memory operand.
     Deref,
+    /// Memory at esi: of MOVS and CMPS under 67.
     DerefEsi,
+    /// Memory at edi: of MOVS and CMPS under 67.
     DerefEdi,
+    /// Memory at rsi: of MOVS and CMPS.
     DerefRsi,
+    /// Memory at rdi: of MOVS and CMPS.
     DerefRdi,
+    /// Memory at a base and a displacement other than 0.
     Disp,
+    /// Memory at an index times its scale.
     IndexScale,
+    /// Memory at an index times its scale and a displacement other than 0.
     IndexScaleDisp,
+    /// Memory at a base and an index times its scale.
     BaseIndexScale,
+    /// Memory at a base, an index times its scale and a displacement other than 0.
     BaseIndexScaleDisp,
 }
 
@@ -201,15 +226,21 @@ impl Slot {
     }
 }
 
-/// An address without an index.
-fn based(address_size: bool, base: Option<RegSpec>, disp: i32) -> AddressParts
-    ensures { result ≡ record { address_size = address_size; base = base; index = None; scale = 1; disp = disp } }
+/// The parts of an address, whose index counts as often as its scale says.
+fn parts(
+    address_size: bool,
+    base: Option<RegSpec>,
+    index: Option<RegSpec>,
+    scale: u8,
+    disp: i32,
+) -> AddressParts
+    ensures { result ≡ record { address_size = address_size; base = base; index = index; scale = scale; disp = disp } }
 {
     AddressParts {
         address_size,
         base,
-        index: None,
-        scale: 1,
+        index,
+        scale,
         disp,
     }
 }
@@ -274,42 +305,24 @@ impl Operand {
     {
         let parts = match *self {
             Operand::AbsoluteU64 { addr } => return Some(shortened(addr, address_size)),
-            Operand::AbsoluteU32 { addr } => based(address_size, None, addr.cast_signed()),
-            Operand::MemDeref { base } => based(address_size, Some(base), 0),
-            Operand::Disp { base, disp } => based(address_size, Some(base), disp),
-            Operand::MemIndexScale { index, scale } => AddressParts {
-                address_size,
-                base: None,
-                index: Some(index),
-                scale,
-                disp: 0,
-            },
-            Operand::MemIndexScaleDisp { index, scale, disp } => AddressParts {
-                address_size,
-                base: None,
-                index: Some(index),
-                scale,
-                disp,
-            },
-            Operand::MemBaseIndexScale { base, index, scale } => AddressParts {
-                address_size,
-                base: Some(base),
-                index: Some(index),
-                scale,
-                disp: 0,
-            },
+            Operand::AbsoluteU32 { addr } => parts(address_size, None, None, 1, addr.cast_signed()),
+            Operand::MemDeref { base } => parts(address_size, Some(base), None, 1, 0),
+            Operand::Disp { base, disp } => parts(address_size, Some(base), None, 1, disp),
+            Operand::MemIndexScale { index, scale } => {
+                parts(address_size, None, Some(index), scale, 0)
+            }
+            Operand::MemIndexScaleDisp { index, scale, disp } => {
+                parts(address_size, None, Some(index), scale, disp)
+            }
+            Operand::MemBaseIndexScale { base, index, scale } => {
+                parts(address_size, Some(base), Some(index), scale, 0)
+            }
             Operand::MemBaseIndexScaleDisp {
                 base,
                 index,
                 scale,
                 disp,
-            } => AddressParts {
-                address_size,
-                base: Some(base),
-                index: Some(index),
-                scale,
-                disp,
-            },
+            } => parts(address_size, Some(base), Some(index), scale, disp),
             _ => return None,
         };
         Some(parts.value(regs, next))

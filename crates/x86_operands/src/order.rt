@@ -1,7 +1,7 @@
 //! In which order the operands of a form stand.
 
-ghost use Rattle.std.specs.Prelude.{◌≡◌};
-ghost use Rattle.x86_operands.specs.Encodings.{somewhere};
+ghost use Rattle.std.specs.Prelude.{◌≡◌, ◌<◌};
+ghost use Rattle.x86_operands.specs.Encodings.{index_of_place};
 
 /// Which operand something is.
 #[derive(Clone, Copy, PartialEq, Eq, Debug, Drop)]
@@ -13,13 +13,17 @@ pub enum Place {
 }
 
 impl Place {
+    /// The place, counted from 0. `Nowhere` has one behind the others.
     #[inline(always)]
-    pub fn is_somewhere(self) -> bool
-        ensures { result ≡ somewhere self }
+    pub fn index(self) -> usize
+        ensures value { result ≡ index_of_place self }
+        ensures small { result < 4 }
     {
         match self {
-            Place::Nowhere => false,
-            _ => true,
+            Place::First => 0,
+            Place::Second => 1,
+            Place::Third => 2,
+            Place::Nowhere => 3,
         }
     }
 }

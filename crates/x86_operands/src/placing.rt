@@ -4,77 +4,207 @@ ghost use Rattle.std.specs.Prelude.{◌≡◌, ◌<◌, ◌≢◌, true};
 ghost use Rattle.x86_arch.specs.Reader.{State};
 ghost use Rattle.x86_fields.specs.Steps.{outcome};
 ghost use Rattle.x86_fields.specs.declared.Prefixes.{Prefixes};
-ghost use Rattle.x86_operands.specs.Plans.{immediate_of};
 ghost use Rattle.x86_operands.specs.declared.encodings.Last.TheVariants.{Absent};
 ghost use Rattle.x86_operands.specs.declared.order.Place.TheVariants.{Nowhere};
-ghost use Rattle.x86_operands.specs.Signs.{plan_step};
-ghost use Rattle.x86_operands.specs.Encodings.{rm_placed, reg_pair, fixed_pair, no_operands, placed_reading, plan_of, held, put, last_sign, index_of_place, memory_placed, sign_placed, last_placed, fields_placed, front_placed, placed, allowed, is_sound, slot_in, operand_in};
+ghost use Rattle.x86_operands.specs.Signs.{memory_or, plan_step, pointer_at, slot_at};
+ghost use Rattle.x86_operands.specs.Encodings.{rm_placed, reg_pair, fixed_pair, no_operands, placed_reading, plan_of, held, put, put_at, sign_put, last_sign, sign_placed, front_placed, allowed, is_sound, slot_in, operand_in};
 
 use crate::encodings::{Behind, Encoding, Last, Width};
 use crate::operands::{Operand, Slot};
 use crate::order::Place;
-use crate::plans::{memory_form, reg_number, register_at, rm_number};
+use crate::plans::{
+    PointerSlot, RegisterSlot, Sign, memory_form, reg_number, register_at, rm_number,
+};
 use crate::shapes::shape;
 use x86_arch::Reader;
-use x86_fields::{DecodeError, Prefixes, read_raw, read_u8, read_u16, read_u32, read_u64};
+use x86_fields::{DecodeError, Prefixes, Raw, read_raw, read_u8, read_u16, read_u32, read_u64};
 use x86_opcodes::Opcode;
 use x86_regs::{RegSpec, RegisterClass};
 
-/// The operands of an instruction.
+/// The operands of an instruction, in the order in which a listing names them.
 #[derive(Clone, Copy, PartialEq, Eq, Debug, Drop)]
 pub struct Operands {
+    /// Where each operand comes from.
     pub slots: [Slot; 4],
     pub operands: [Operand; 4],
+    /// How many there are, at most 4. What stands at this place and above it is no operand.
     pub count: u8,
+    /// The size in bytes of what is read or written in memory: 0 for none, and 63 where the processor decides.
     pub mem_size: u8,
 }
 
-#[inline(always)]
-fn index(at: Place) -> usize
-    ensures value { result ≡ index_of_place at }
-    ensures small { result < 4 }
+fn register_slot(slot: RegisterSlot) -> Slot
+    ensures { result ≡ slot_at slot }
 {
-    match at {
-        Place::First => 0,
-        Place::Second => 1,
-        Place::Third => 2,
-        Place::Nowhere => 3,
+    match slot {
+        RegisterSlot::Reg => Slot::Reg,
+        RegisterSlot::Rm => Slot::Rm,
+        RegisterSlot::Third => Slot::Third,
+    }
+}
+
+fn pointer_slot(slot: PointerSlot) -> Slot
+    ensures { result ≡ pointer_at slot }
+{
+    match slot {
+        PointerSlot::Deref => Slot::Deref,
+        PointerSlot::DerefEsi => Slot::DerefEsi,
+        PointerSlot::DerefEdi => Slot::DerefEdi,
+        PointerSlot::DerefRsi => Slot::DerefRsi,
+        PointerSlot::DerefRdi => Slot::DerefRdi,
     }
 }
 
 impl Operands {
+    /// A slot and its operand.
+    #[inline(always)]
+    pub fn put(&mut self, at: usize, slot: Slot, operand: Operand)
+        requires { at < 4 }
+        ensures { self.new ≡ put_at at (slot, operand) self.old }
+    {
+        self.slots[at] = slot;
+        self.operands[at] = operand;
+    }
+
+    #[inline(always)]
+    pub fn put_register(&mut self, at: usize, slot: Slot, reg: RegSpec)
+        requires { at < 4 }
+        ensures { self.new ≡ put_at at (slot, Operand.Register reg) self.old }
+    {
+        self.put(at, slot, Operand::Register { reg });
+    }
+
+    /// The operand of rm: memory where it was read, else the register.
+    fn put_rm(&mut self, at: usize, memory: Option<Raw>, reg: RegSpec)
+        requires { at < 4 }
+        ensures { self.new ≡ put_at at (memory_or reg memory) self.old }
+    {
+        match memory {
+            None => self.put_register(at, Slot::Rm, reg),
+            Some(raw) => {
+                let (slot, operand) = shape(&raw);
+                self.put(at, slot, operand);
+            }
+        }
+    }
+
+    #[inline(always)]
+    fn put_i8(&mut self, at: usize, imm: i8)
+        requires { at < 4 }
+        ensures { self.new ≡ put_at at (Slot.ImmI8, Operand.ImmediateI8 imm) self.old }
+    {
+        self.put(at, Slot::ImmI8, Operand::ImmediateI8 { imm });
+    }
+
+    #[inline(always)]
+    fn put_u8(&mut self, at: usize, imm: u8)
+        requires { at < 4 }
+        ensures { self.new ≡ put_at at (Slot.ImmU8, Operand.ImmediateU8 imm) self.old }
+    {
+        self.put(at, Slot::ImmU8, Operand::ImmediateU8 { imm });
+    }
+
+    #[inline(always)]
+    fn put_i16(&mut self, at: usize, imm: i16)
+        requires { at < 4 }
+        ensures { self.new ≡ put_at at (Slot.ImmI16, Operand.ImmediateI16 imm) self.old }
+    {
+        self.put(at, Slot::ImmI16, Operand::ImmediateI16 { imm });
+    }
+
+    #[inline(always)]
+    fn put_u16(&mut self, at: usize, slot: Slot, imm: u16)
+        requires { at < 4 }
+        ensures { self.new ≡ put_at at (slot, Operand.ImmediateU16 imm) self.old }
+    {
+        self.put(at, slot, Operand::ImmediateU16 { imm });
+    }
+
+    #[inline(always)]
+    fn put_i32(&mut self, at: usize, imm: i32)
+        requires { at < 4 }
+        ensures { self.new ≡ put_at at (Slot.ImmI32, Operand.ImmediateI32 imm) self.old }
+    {
+        self.put(at, Slot::ImmI32, Operand::ImmediateI32 { imm });
+    }
+
+    #[inline(always)]
+    fn put_i64(&mut self, at: usize, imm: i64)
+        requires { at < 4 }
+        ensures { self.new ≡ put_at at (Slot.ImmI64, Operand.ImmediateI64 imm) self.old }
+    {
+        self.put(at, Slot::ImmI64, Operand::ImmediateI64 { imm });
+    }
+
+    /// What a sign gives, at an index.
+    #[tactic(auto, unfolding(crate::specs::Signs::sign_step))]
+    #[inline(always)]
+    pub fn put_sign<T: Reader<u64, u8>>(
+        &mut self,
+        at: usize,
+        words: &mut T,
+        sign: Sign,
+        prefixes: &Prefixes,
+        modrm: u8,
+        memory: Option<Raw>,
+    ) -> Result<(), DecodeError>
+        requires { at < 4 }
+        ensures { outcome (held result self.new) (T.state words.new) ≡ sign_put at sign prefixes.now modrm memory self.old (T.state words.old) }
+    {
+        match sign {
+            Sign::G(class) => {
+                let reg = prefixes.register(class, reg_number(modrm, prefixes));
+                self.put_register(at, Slot::Reg, reg);
+            }
+            Sign::E(class) | Sign::U(class) => {
+                let reg = prefixes.register(class, rm_number(modrm, prefixes));
+                self.put_rm(at, memory, reg);
+            }
+            Sign::M => {
+                let reg = prefixes.register(RegisterClass::Q, rm_number(modrm, prefixes));
+                self.put_rm(at, memory, reg);
+            }
+            Sign::Gmm => self.put_register(at, Slot::Reg, RegSpec::mm(modrm / 8 % 8)),
+            Sign::Emm | Sign::Umm => self.put_rm(at, memory, RegSpec::mm(modrm % 8)),
+            Sign::Fixed(slot, reg) => self.put_register(at, register_slot(slot), reg),
+            Sign::Pointer(slot, base) => {
+                self.put(at, pointer_slot(slot), Operand::MemDeref { base });
+            }
+            Sign::I8 => self.put_i8(at, read_u8(words)?.cast_signed()),
+            Sign::I16 => self.put_i16(at, read_u16(words)?.cast_signed()),
+            Sign::I32 => self.put_i32(at, read_u32(words)?.cast_signed()),
+            Sign::I64 => self.put_i64(at, read_u32(words)?.cast_signed() as i64),
+            Sign::I32From16 => self.put_i32(at, read_u16(words)?.cast_signed() as i32),
+            Sign::I64Whole => self.put_i64(at, read_u64(words)?.cast_signed()),
+            Sign::U8 => self.put_u8(at, read_u8(words)?),
+            Sign::U16 => self.put_u16(at, Slot::ImmU16, read_u16(words)?),
+            Sign::X8 => self.put_u16(at, Slot::ImmInDisp, read_u8(words)? as u16),
+            Sign::X16 => self.put_u16(at, Slot::ImmInDisp, read_u16(words)?),
+            Sign::ConstantI8(imm) => self.put_i8(at, imm),
+            Sign::ConstantU8(imm) => self.put_u8(at, imm),
+            Sign::Address32 => {
+                let addr = read_u32(words)?;
+                self.put(at, Slot::DispU32, Operand::AbsoluteU32 { addr });
+            }
+            Sign::Address64 => {
+                let addr = read_u64(words)?;
+                self.put(at, Slot::DispU64, Operand::AbsoluteU64 { addr });
+            }
+        }
+        Ok(())
+    }
+
     #[inline(always)]
     fn put_in(&mut self, at: Place, slot: Slot, operand: Operand)
         requires { at ≢ Nowhere }
         ensures { self.new ≡ put at (slot, operand) self.old }
     {
-        self.slots[index(at)] = slot;
-        self.operands[index(at)] = operand;
+        self.put(at.index(), slot, operand);
     }
 
-    /// The memory operand.
-    #[tactic(auto, unfolding(crate::specs::Shape::shape_of))]
-    #[inline(always)]
-    fn place_memory<T: Reader<u64, u8>>(
-        &mut self,
-        at: Place,
-        words: &mut T,
-        modrm: u8,
-        prefixes: &Prefixes,
-    ) -> Result<(), DecodeError>
-        requires memory { modrm < 0xc0 }
-        requires place { at ≢ Nowhere }
-        ensures { outcome (held result self.new) (T.state words.new) ≡ memory_placed at prefixes.now modrm self.old (T.state words.old) }
-    {
-        let raw = read_raw(words, prefixes, modrm)?;
-        let (slot, operand) = shape(&raw);
-        self.put_in(at, slot, operand);
-        Ok(())
-    }
-
-    /// The last operand.
-    #[tactic(auto, unfolding(crate::specs::Signs::sign_step))]
-    #[inline]
+    /// The last operand, as a sign gives it.
+    #[tactic(auto, using(crate::proofs::OrderLaws::sign_at_place))]
+    #[inline(never)]
     fn place_sign<T: Reader<u64, u8>>(
         &mut self,
         at: Place,
@@ -82,75 +212,14 @@ impl Operands {
         last: Last,
         prefixes: &Prefixes,
     ) -> Result<(), DecodeError>
-        requires last { last ≢ Absent }
-        requires place { at ≢ Nowhere }
+        requires { at ≢ Nowhere }
         ensures { outcome (held result self.new) (T.state words.new) ≡ sign_placed at (last_sign last prefixes.now) prefixes.now self.old (T.state words.old) }
     {
-        match last {
-            Last::Absent => {}
-            Last::I8 => {
-                let imm = read_u8(words)?.cast_signed();
-                self.put_in(at, Slot::ImmI8, Operand::ImmediateI8 { imm });
-            }
-            Last::U8 => {
-                let imm = read_u8(words)?;
-                self.put_in(at, Slot::ImmU8, Operand::ImmediateU8 { imm });
-            }
-            Last::U16 => {
-                let imm = read_u16(words)?;
-                self.put_in(at, Slot::ImmU16, Operand::ImmediateU16 { imm });
-            }
-            Last::Ivq => {
-                if prefixes.has_w() {
-                    let imm = read_u64(words)?.cast_signed();
-                    self.put_in(at, Slot::ImmI64, Operand::ImmediateI64 { imm });
-                } else {
-                    return self.place_v(at, words, prefixes.v_class());
-                }
-            }
-            Last::I32 | Last::Iv | Last::Ip => {
-                return self.place_v(at, words, last.class(prefixes));
-            }
-            Last::One => self.put_in(at, Slot::ImmI8, Operand::ImmediateI8 { imm: 1 }),
-            Last::Once => self.put_in(at, Slot::ImmU8, Operand::ImmediateU8 { imm: 1 }),
-            Last::Three => self.put_in(at, Slot::ImmU8, Operand::ImmediateU8 { imm: 3 }),
-            Last::Cl => self.put_in(at, Slot::Reg, Operand::Register { reg: RegSpec::b(1) }),
-            Last::ClThird => self.put_in(at, Slot::Third, Operand::Register { reg: RegSpec::b(1) }),
-        }
-        Ok(())
-    }
-
-    /// A signed immediate by its class, of at most four bytes.
-    #[tactic(auto, unfolding(crate::specs::Signs::sign_step))]
-    #[inline(always)]
-    fn place_v<T: Reader<u64, u8>>(
-        &mut self,
-        at: Place,
-        words: &mut T,
-        class: RegisterClass,
-    ) -> Result<(), DecodeError>
-        requires { at ≢ Nowhere }
-        ensures { (p : Prefixes) → outcome (held result self.new) (T.state words.new) ≡ sign_placed at (immediate_of class) p self.old (T.state words.old) }
-    {
-        match class {
-            RegisterClass::W => {
-                let imm = read_u16(words)?.cast_signed();
-                self.put_in(at, Slot::ImmI16, Operand::ImmediateI16 { imm });
-            }
-            RegisterClass::Q => {
-                let imm = read_u32(words)?.cast_signed() as i64;
-                self.put_in(at, Slot::ImmI64, Operand::ImmediateI64 { imm });
-            }
-            _ => {
-                let imm = read_u32(words)?.cast_signed();
-                self.put_in(at, Slot::ImmI32, Operand::ImmediateI32 { imm });
-            }
-        }
-        Ok(())
+        self.put_sign(at.index(), words, last.sign(prefixes), prefixes, 0xc0, None)
     }
 
     /// The operand of rm.
-    #[tactic(auto, unfolding(crate::specs::Signs::sign_step))]
+    #[tactic(auto, using(crate::proofs::OrderLaws::rm_in_memory))]
     #[inline(always)]
     fn place_rm<T: Reader<u64, u8>>(
         &mut self,
@@ -164,104 +233,53 @@ impl Operands {
         ensures { outcome (held result self.new) (T.state words.new) ≡ rm_placed at width prefixes.now modrm self.old (T.state words.old) }
     {
         if memory_form(modrm) {
-            return self.place_memory(at, words, modrm, prefixes);
+            let raw = read_raw(words, prefixes, modrm)?;
+            let (slot, operand) = shape(&raw);
+            self.put_in(at, slot, operand);
+            return Ok(());
         }
-        match width {
-            Width::Mm => {
-                let reg = RegSpec::mm(modrm % 8);
-                self.put_in(at, Slot::Rm, Operand::Register { reg });
-            }
-            w => {
-                let reg = prefixes.register(w.class(prefixes), rm_number(modrm, prefixes));
-                self.put_in(at, Slot::Rm, Operand::Register { reg });
-            }
-        }
+        let reg = match width {
+            Width::Mm => RegSpec::mm(modrm % 8),
+            w => prefixes.register(w.class(prefixes), rm_number(modrm, prefixes)),
+        };
+        self.put_in(at, Slot::Rm, Operand::Register { reg });
         Ok(())
-    }
-
-    /// The register of reg.
-    #[inline(always)]
-    fn place_reg(&mut self, at: Place, width: Width, prefixes: &Prefixes, modrm: u8)
-        requires { at ≢ Nowhere }
-        ensures { self.new ≡ put at (reg_pair width prefixes.now modrm) self.old }
-    {
-        match width {
-            Width::Mm => {
-                let reg = RegSpec::mm(modrm / 8 % 8);
-                self.put_in(at, Slot::Reg, Operand::Register { reg });
-            }
-            w => {
-                let reg = prefixes.register(w.class(prefixes), reg_number(modrm, prefixes));
-                self.put_in(at, Slot::Reg, Operand::Register { reg });
-            }
-        }
     }
 
     /// The register of reg, if it is an operand.
     #[inline(always)]
-    fn place_any_reg(&mut self, at: Place, width: Width, prefixes: &Prefixes, modrm: u8)
+    fn place_reg(&mut self, at: Place, width: Width, prefixes: &Prefixes, modrm: u8)
         ensures { self.new ≡ put at (reg_pair width prefixes.now modrm) self.old }
     {
         match at {
             Place::Nowhere => {}
-            at => self.place_reg(at, width, prefixes, modrm),
+            at => {
+                let reg = match width {
+                    Width::Mm => RegSpec::mm(modrm / 8 % 8),
+                    w => prefixes.register(w.class(prefixes), reg_number(modrm, prefixes)),
+                };
+                self.put_in(at, Slot::Reg, Operand::Register { reg });
+            }
         }
     }
 
-    /// The register of the opcode byte, or register 0.
+    /// The register of the opcode byte, or register 0, if it is an operand.
     #[inline(always)]
-    fn place_fixed(&mut self, at: Place, behind: Behind, width: Width, num: u8, prefixes: &Prefixes)
+    fn place_fixed(&mut self, encoding: &Encoding, num: u8, prefixes: &Prefixes)
         requires { num < 8 }
-        ensures { self.new ≡ put at (fixed_pair behind width num prefixes.now) self.old }
+        ensures { self.new ≡ put encoding.now.order.reg (fixed_pair encoding.now.behind encoding.now.reg num prefixes.now) self.old }
     {
-        match at {
+        match encoding.order.reg {
             Place::Nowhere => {}
-            at => match behind {
-                Behind::Opcode => {
-                    let reg = register_at(num, width.class(prefixes), prefixes);
-                    self.put_in(at, Slot::Reg, Operand::Register { reg });
-                }
-                _ => {
-                    let reg = prefixes.register(width.class(prefixes), 0);
-                    self.put_in(at, Slot::Reg, Operand::Register { reg });
-                }
-            },
+            at => {
+                let class = encoding.reg.class(prefixes);
+                let reg = match encoding.behind {
+                    Behind::Opcode => register_at(num, class, prefixes),
+                    _ => prefixes.register(class, 0),
+                };
+                self.put_in(at, Slot::Reg, Operand::Register { reg });
+            }
         }
-    }
-
-    /// The last operand, if there is one.
-    #[inline(always)]
-    fn place_last<T: Reader<u64, u8>>(
-        &mut self,
-        at: Place,
-        words: &mut T,
-        last: Last,
-        prefixes: &Prefixes,
-    ) -> Result<(), DecodeError>
-        requires { at ≢ Nowhere → last ≢ Absent }
-        ensures { outcome (held result self.new) (T.state words.new) ≡ last_placed at last prefixes.now self.old (T.state words.old) }
-    {
-        match at {
-            Place::Nowhere => Ok(()),
-            at => self.place_sign(at, words, last, prefixes),
-        }
-    }
-
-    /// The operands of ModRM.
-    #[inline(always)]
-    fn place_fields<T: Reader<u64, u8>>(
-        &mut self,
-        words: &mut T,
-        encoding: &Encoding,
-        prefixes: &Prefixes,
-        modrm: u8,
-    ) -> Result<(), DecodeError>
-        requires { encoding.now.order.rm ≢ Nowhere }
-        ensures { outcome (held result self.new) (T.state words.new) ≡ fields_placed encoding.now.order.reg encoding.now.reg encoding.now.order.rm encoding.now.rm prefixes.now modrm self.old (T.state words.old) }
-    {
-        self.place_rm(encoding.order.rm, words, encoding.rm, prefixes, modrm)?;
-        self.place_any_reg(encoding.order.reg, encoding.reg, prefixes, modrm);
-        Ok(())
     }
 
     /// The operands of ModRM, or a register that no ModRM names.
@@ -278,36 +296,13 @@ impl Operands {
         ensures { outcome (held result self.new) (T.state words.new) ≡ front_placed encoding.now num prefixes.now modrm self.old (T.state words.old) }
     {
         match encoding.order.rm {
-            Place::Nowhere => {
-                self.place_fixed(
-                    encoding.order.reg,
-                    encoding.behind,
-                    encoding.reg,
-                    num,
-                    prefixes,
-                );
-                Ok(())
+            Place::Nowhere => self.place_fixed(encoding, num, prefixes),
+            at => {
+                self.place_rm(at, words, encoding.rm, prefixes, modrm)?;
+                self.place_reg(encoding.order.reg, encoding.reg, prefixes, modrm);
             }
-            _ => self.place_fields(words, encoding, prefixes, modrm),
         }
-    }
-
-    /// What an encoding writes.
-    #[inline(always)]
-    fn place_all<T: Reader<u64, u8>>(
-        &mut self,
-        words: &mut T,
-        encoding: &Encoding,
-        num: u8,
-        prefixes: &Prefixes,
-        modrm: u8,
-    ) -> Result<(), DecodeError>
-        requires small { num < 8 }
-        requires last { encoding.now.order.last ≢ Nowhere → encoding.now.last ≢ Absent }
-        ensures { outcome (held result self.new) (T.state words.new) ≡ placed encoding.now num prefixes.now modrm self.old (T.state words.old) }
-    {
-        self.place_front(words, encoding, num, prefixes, modrm)?;
-        self.place_last(encoding.order.last, words, encoding.last, prefixes)
+        Ok(())
     }
 
     /// No operands.
@@ -343,7 +338,11 @@ impl Operands {
     {
         self.count = encoding.order.count;
         self.mem_size = encoding.size_at(modrm).bytes(opcode, prefixes);
-        self.place_all(words, encoding, num, prefixes, modrm)
+        self.place_front(words, encoding, num, prefixes, modrm)?;
+        match encoding.order.last {
+            Place::Nowhere => Ok(()),
+            at => self.place_sign(at, words, encoding.last, prefixes),
+        }
     }
 
     /// The slot at a place, counted from 0; at the count and above it `Slot::Nothing`.

@@ -1,6 +1,6 @@
 //! What the rows' records ask: their vocabulary.
 ghost use Rattle.std.specs.Prelude.{◌≡◌, ◌<◌, ℕ};
-ghost use Rattle.x86_operands.specs.Plans.{is_memory, reads, named_by_suffix, refused, refuses, memory_only, register_only, size_by, reg_number, rm_number, register_at, accumulator_of, immediate_of};
+ghost use Rattle.x86_operands.specs.Plans.{is_memory, with_verdict, reads, named_by_suffix, refused, refuses, memory_only, register_only, size_by, reg_number, rm_number, register_at, accumulator_of, immediate_of};
 
 use x86_fields::{Prefixes, extend};
 use x86_opcodes::Opcode;
@@ -135,10 +135,15 @@ pub enum ModrmUse {
 /// What a record asks behind ModRM, and what it gives.
 #[derive(Clone, Copy, PartialEq, Eq, Debug, Drop)]
 pub struct Plan {
+    /// The operation, unless a suffix names it.
     pub opcode: Opcode,
+    /// What each operand is, in their order, which is that of their immediates too.
     pub signs: Signs,
+    /// The size in bytes of what is read or written in memory: 0 for none, and 63 where the processor decides.
     pub size: u8,
+    /// What changes in the prefixes of the answer.
     pub mark: Mark,
+    /// Whether there is an answer.
     pub verdict: Verdict,
 }
 
@@ -149,43 +154,42 @@ pub fn memory_form(modrm: u8) -> bool
     modrm < 0xc0
 }
 
-/// The plan that accepts.
-pub fn reads(opcode: Opcode, signs: Signs, size: u8) -> Plan
-    ensures { result ≡ reads opcode signs size }
+fn with_verdict(verdict: Verdict, opcode: Opcode, signs: Signs, size: u8) -> Plan
+    ensures { result ≡ with_verdict verdict opcode signs size }
 {
     Plan {
         opcode,
         signs,
         size,
         mark: Mark::Keeps,
-        verdict: Verdict::Accepts,
+        verdict,
     }
+}
+
+/// The plan that accepts.
+pub fn reads(opcode: Opcode, signs: Signs, size: u8) -> Plan
+    ensures { result ≡ reads opcode signs size }
+{
+    with_verdict(Verdict::Accepts, opcode, signs, size)
 }
 
 /// The plan whose opcode is named by a last byte.
 pub fn named_by_suffix(signs: Signs, size: u8) -> Plan
     ensures { result ≡ named_by_suffix signs size }
 {
-    Plan {
-        opcode: Opcode::Invalid,
-        signs,
-        size,
-        mark: Mark::Keeps,
-        verdict: Verdict::NamedBySuffix,
-    }
+    with_verdict(Verdict::NamedBySuffix, Opcode::Invalid, signs, size)
 }
 
 /// The plan that refuses.
 pub fn refuses(fault: Fault, moment: Moment) -> Plan
     ensures { result ≡ refuses fault moment }
 {
-    Plan {
-        opcode: Opcode::Invalid,
-        signs: Signs::Zero,
-        size: 0,
-        mark: Mark::Keeps,
-        verdict: Verdict::Refuses(fault, moment),
-    }
+    with_verdict(
+        Verdict::Refuses(fault, moment),
+        Opcode::Invalid,
+        Signs::Zero,
+        0,
+    )
 }
 
 /// The plan, refused where the test holds.
@@ -206,24 +210,16 @@ pub fn refused(test: bool, fault: Fault, moment: Moment, plan: Plan) -> Plan
 pub fn memory_only(modrm: u8, plan: Plan) -> Plan
     ensures { result ≡ memory_only modrm plan }
 {
-    refused(
-        !memory_form(modrm),
-        Fault::BadOperand,
-        Moment::AtModRM,
-        plan,
-    )
+    let register = !memory_form(modrm);
+    refused(register, Fault::BadOperand, Moment::AtModRM, plan)
 }
 
 /// The plan, for which a memory form is refused behind the address.
 pub fn register_only(modrm: u8, plan: Plan) -> Plan
     ensures { result ≡ register_only modrm plan }
 {
-    refused(
-        memory_form(modrm),
-        Fault::BadOperand,
-        Moment::AfterAddress,
-        plan,
-    )
+    let memory = memory_form(modrm);
+    refused(memory, Fault::BadOperand, Moment::AfterAddress, plan)
 }
 
 /// The size in the memory form, or in the register form.
@@ -265,6 +261,7 @@ pub fn accumulator(class: RegisterClass, prefixes: &Prefixes) -> Sign
 }
 
 /// The immediate of a class v.
+#[inline(always)]
 pub fn immediate(class: RegisterClass) -> Sign
     ensures { result ≡ immediate_of class }
 {

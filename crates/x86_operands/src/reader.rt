@@ -1,38 +1,34 @@
 //! The one reader of plans: what a record asks behind its opcode byte.
-ghost use Rattle.x86_operands.specs.Encodings.{held, no_operands, placed_reading, sign_put, given_from};
+ghost use Rattle.x86_operands.specs.Encodings.{held, no_operands, placed_reading, given_from, sign_put};
 ghost use Rattle.std.specs.Prelude.{◌≡◌, ℕ, ◌<◌, ◌∷◌, []};
 ghost use Rattle.x86_arch.specs.Reader.{State};
 ghost use Rattle.x86_fields.specs.Steps.{outcome};
 ghost use Rattle.x86_operands.specs.Plans.{list_of};
 ghost use Rattle.x86_operands.specs.Suffix.{opcode_of_suffix};
-ghost use Rattle.x86_operands.specs.Signs.{given_step, error_of, same_moment, refusal_step, named_step, opcode_step, memory_step, marked, plan_step, modrm_step, fault_step};
+ghost use Rattle.x86_operands.specs.Signs.{given_step, error_of, refusal_step, opcode_step, memory_step, marked, plan_step, modrm_step, fault_step};
 
+use crate::asks::used_modrm;
 use crate::operands::{Operand, Slot};
 use crate::placing::Operands;
 use crate::plans::{Fault, Mark, ModrmUse, Moment, Plan, Sign, Signs, Verdict, memory_form};
-use crate::signs::read_sign;
 use x86_arch::Reader;
 use x86_fields::{DecodeError, Prefixes, Raw, next_byte, read_raw};
 use x86_opcodes::Opcode;
 
-/// What was read behind an opcode byte. At and above `count`, which is at most 4, slots and operands are `Nothing`.
-/// `mem_size` is in bytes: 0 for none, and 63 where the processor decides.
+/// What was read behind an opcode byte.
 #[derive(Clone, Copy, PartialEq, Eq, Debug, Drop)]
 pub struct Reading {
+    /// The operation: that of the row, or the one that ModRM or a suffix chose.
     pub opcode: Opcode,
+    /// How many operands there are, at most 4. At this place and above it slots and operands are `Nothing`.
     pub count: u8,
+    /// Where each operand comes from.
     pub slots: [Slot; 4],
     pub operands: [Operand; 4],
+    /// The size in bytes of what is read or written in memory: 0 for none, and 63 where the processor decides.
     pub mem_size: u8,
+    /// The prefixes with the changes that the operation makes.
     pub prefixes: Prefixes,
-}
-
-/// What the signs of a record gave.
-#[derive(Clone, Copy, Drop)]
-struct Given {
-    count: u8,
-    slots: [Slot; 4],
-    operands: [Operand; 4],
 }
 
 fn error(fault: Fault) -> DecodeError
@@ -45,30 +41,13 @@ fn error(fault: Fault) -> DecodeError
     }
 }
 
-fn is_same(a: Moment, b: Moment) -> bool
-    ensures { result ≡ same_moment a b }
-{
-    match (a, b) {
-        (Moment::AtModRM, Moment::AtModRM) => true,
-        (Moment::AfterAddress, Moment::AfterAddress) => true,
-        (Moment::AfterSuffix, Moment::AfterSuffix) => true,
-        _ => false,
-    }
-}
-
 /// The refusal of a plan, at its moment.
 fn refuse_at(verdict: Verdict, at: Moment) -> Result<(), DecodeError>
     ensures { (s : State ℕ) → outcome result s ≡ refusal_step verdict at s }
 {
     match verdict {
-        Verdict::Accepts | Verdict::NamedBySuffix => Ok(()),
-        Verdict::Refuses(fault, moment) => {
-            if is_same(moment, at) {
-                Err(error(fault))
-            } else {
-                Ok(())
-            }
-        }
+        Verdict::Refuses(fault, moment) if moment == at => Err(error(fault)),
+        _ => Ok(()),
     }
 }
 
@@ -116,15 +95,6 @@ pub fn suffix_opcode(byte: u8) -> Option<Opcode>
     }
 }
 
-fn name(opcode: Option<Opcode>) -> Result<Opcode, DecodeError>
-    ensures { (s : State ℕ) → outcome result s ≡ named_step opcode s }
-{
-    match opcode {
-        None => Err(DecodeError::InvalidOpcode),
-        Some(opcode) => Ok(opcode),
-    }
-}
-
 /// The plan's opcode, or the one that the suffix names.
 fn read_opcode<T: Reader<u64, u8>>(
     words: &mut T,
@@ -136,7 +106,7 @@ fn read_opcode<T: Reader<u64, u8>>(
     match verdict {
         Verdict::NamedBySuffix => {
             let byte = next_byte(words)?;
-            name(suffix_opcode(byte))
+            suffix_opcode(byte).ok_or(DecodeError::InvalidOpcode)
         }
         Verdict::Accepts | Verdict::Refuses(_, _) => Ok(opcode),
     }
@@ -169,8 +139,9 @@ fn apply(mark: Mark, prefixes: Prefixes) -> Prefixes
 }
 
 impl Operands {
-    /// What a sign gives, at an index.
-    fn put_sign<T: Reader<u64, u8>>(
+    /// What a sign gives, at an index: `put_sign` behind one call, since it is large.
+    #[inline(never)]
+    fn put_operand<T: Reader<u64, u8>>(
         &mut self,
         at: usize,
         words: &mut T,
@@ -182,10 +153,7 @@ impl Operands {
         requires { at < 4 }
         ensures { outcome (held result self.new) (T.state words.new) ≡ sign_put at sign prefixes.now modrm memory self.old (T.state words.old) }
     {
-        let (slot, operand) = read_sign(words, sign, prefixes, modrm, memory)?;
-        self.slots[at] = slot;
-        self.operands[at] = operand;
-        Ok(())
+        self.put_sign(at, words, sign, prefixes, modrm, memory)
     }
 
     /// The operands in order, each with its immediate.
@@ -205,25 +173,25 @@ impl Operands {
             Signs::Zero => Ok(()),
             Signs::One(a) => {
                 self.count = 1;
-                self.put_sign(0, words, a, prefixes, modrm, memory)
+                self.put_operand(0, words, a, prefixes, modrm, memory)
             }
             Signs::Two(a, b) => {
                 self.count = 2;
-                self.put_sign(0, words, a, prefixes, modrm, memory)?;
-                self.put_sign(1, words, b, prefixes, modrm, memory)
+                self.put_operand(0, words, a, prefixes, modrm, memory)?;
+                self.put_operand(1, words, b, prefixes, modrm, memory)
             }
             Signs::Three(a, b, c) => {
                 self.count = 3;
-                self.put_sign(0, words, a, prefixes, modrm, memory)?;
-                self.put_sign(1, words, b, prefixes, modrm, memory)?;
-                self.put_sign(2, words, c, prefixes, modrm, memory)
+                self.put_operand(0, words, a, prefixes, modrm, memory)?;
+                self.put_operand(1, words, b, prefixes, modrm, memory)?;
+                self.put_operand(2, words, c, prefixes, modrm, memory)
             }
             Signs::Four(a, b, c, d) => {
                 self.count = 4;
-                self.put_sign(0, words, a, prefixes, modrm, memory)?;
-                self.put_sign(1, words, b, prefixes, modrm, memory)?;
-                self.put_sign(2, words, c, prefixes, modrm, memory)?;
-                self.put_sign(3, words, d, prefixes, modrm, memory)
+                self.put_operand(0, words, a, prefixes, modrm, memory)?;
+                self.put_operand(1, words, b, prefixes, modrm, memory)?;
+                self.put_operand(2, words, c, prefixes, modrm, memory)?;
+                self.put_operand(3, words, d, prefixes, modrm, memory)
             }
         }
     }
@@ -259,13 +227,9 @@ pub fn read_modrm<T: Reader<u64, u8>>(words: &mut T, modrm: ModrmUse) -> Result<
 {
     match modrm {
         ModrmUse::Absent => Ok(0xc0),
-        ModrmUse::Fields => {
+        _ => {
             let byte = next_byte(words)?;
-            Ok(byte)
-        }
-        ModrmUse::Registers => {
-            let byte = next_byte(words)?;
-            Ok(0xc0 + byte % 0x40)
+            Ok(used_modrm(modrm, byte))
         }
     }
 }

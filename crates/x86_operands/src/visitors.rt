@@ -1,6 +1,6 @@
 //! Visitors of operands.
-ghost use Rattle.std.specs.Prelude.{◌≡◌, Result};
-ghost use Rattle.x86_operands.specs.Visitor.{Visit, visit_of, visit_reg, visit_deref, visit_disp, visit_index_scale, visit_index_scale_disp, visit_base_index_scale, visit_base_index_scale_disp, visit_i8, visit_u8, visit_i16, visit_u16, visit_i32, visit_u32, visit_i64, visit_u64, visit_abs_u32, visit_abs_u64, visit_reg_mask_merge, visit_reg_mask_merge_sae, visit_reg_mask_merge_sae_noround, visit_deref_masked, visit_disp_masked, visit_index_scale_masked, visit_index_scale_disp_masked, visit_base_index_masked, visit_base_index_disp_masked, visit_base_index_scale_masked, visit_base_index_scale_disp_masked, visit_other};
+ghost use Rattle.std.specs.Prelude.{◌≡◌, Result, true};
+ghost use Rattle.x86_operands.specs.Visitor.{Visit, is_masked, visit_of, visit_reg, visit_deref, visit_disp, visit_index_scale, visit_index_scale_disp, visit_base_index_scale, visit_base_index_scale_disp, visit_i8, visit_u8, visit_i16, visit_u16, visit_i32, visit_u32, visit_i64, visit_u64, visit_abs_u32, visit_abs_u64, visit_reg_mask_merge, visit_reg_mask_merge_sae, visit_reg_mask_merge_sae_noround, visit_deref_masked, visit_disp_masked, visit_index_scale_masked, visit_index_scale_disp_masked, visit_base_index_masked, visit_base_index_disp_masked, visit_base_index_scale_masked, visit_base_index_scale_disp_masked, visit_other};
 
 use crate::operands::Operand;
 use x86_regs::{MergeMode, RegSpec, SaeMode};
@@ -212,6 +212,17 @@ impl Operand {
             Operand::ImmediateU64 { imm } => visitor.visit_u64(imm),
             Operand::AbsoluteU32 { addr } => visitor.visit_abs_u32(addr),
             Operand::AbsoluteU64 { addr } => visitor.visit_abs_u64(addr),
+            Operand::Nothing => visitor.visit_other(),
+            _ => self.visit_masked(visitor),
+        }
+    }
+
+    /// The same of a masked operand.
+    fn visit_masked<T: OperandVisitor>(&self, visitor: &mut T) -> Result<T::Ok, T::Error>
+        requires { is_masked self.now ≡ true }
+        ensures { T.answers (visit_of self.now) visitor.old visitor.new result }
+    {
+        match *self {
             Operand::RegisterMaskMerge { reg, mask, merge } => visitor.visit_reg_mask_merge(
                 reg, mask, merge,
             ),
@@ -247,7 +258,7 @@ impl Operand {
                 disp,
                 mask,
             } => visitor.visit_base_index_scale_disp_masked(base, index, scale, disp, mask),
-            Operand::Nothing => visitor.visit_other(),
+            _ => visitor.visit_other(),
         }
     }
 }

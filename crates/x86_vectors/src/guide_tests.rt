@@ -9,6 +9,7 @@ use x86_decode::{
 };
 use x86_fields::RegFile;
 use x86_layout::{Fields, Sweep, TightenError, branch_target, emit, mark_targets, split, tighten};
+use x86_text::{Line, line_of, operand_text, push_instruction, refusal_of};
 
 fn opcode_and_length(bytes: &[u8]) -> Result<(Opcode, u64), DecodeError> {
     let instruction = InstDecoder::default().decode_slice(bytes)?;
@@ -408,4 +409,38 @@ fn go_over_any_bytes(rt: HostRuntime) {
     assert!(rt; target(&[0xeb, 0xfe], 0x40_1000) == Some(0x40_1000));
     let marks = marked(&[0x74, 0x01, 0x06, 0xeb, 0xfb, 0x90]);
     assert!(rt; marks == [true, false, false, true, false, false]);
+}
+
+/// The line of the instruction at the front, or of its refusal. The bytes stand at `place`.
+fn line_at(bytes: &[u8], place: u64) -> Line {
+    match InstDecoder::default().decode_slice(bytes) {
+        Ok(instruction) => line_of(place, &instruction),
+        Err(error) => refusal_of(place, error),
+    }
+}
+
+/// The length of an instruction and its text, behind a tab.
+fn columns(instruction: &Instruction) -> Line {
+    let mut line = Line::new();
+    line.push_u64(instruction.len().to_const());
+    line.push(b'\t');
+    push_instruction(&mut line, instruction);
+    line
+}
+
+#[test]
+fn print(rt: HostRuntime) {
+    let line = line_at(&[0x48, 0x01, 0xd8], 4);
+    assert!(rt; line.as_slice() == b"4 3 ADD rax, rbx m8".as_slice());
+    let line = line_at(&[0x06], 7);
+    assert!(rt; line.as_slice() == b"7 error: invalid opcode".as_slice());
+    // add eax, [rbx+rcx*4-16]
+    let decoded = InstDecoder::default().decode_slice(&[0x03, 0x44, 0x8b, 0xf0]);
+    assert!(rt; decoded.is_ok());
+    if let Ok(instruction) = decoded {
+        let line = columns(&instruction);
+        assert!(rt; line.as_slice() == b"4\tADD eax, [rbx+rcx*4-16] m4".as_slice());
+        let memory = operand_text(&instruction.operand(1));
+        assert!(rt; memory.as_slice() == b"[rbx+rcx*4-16]".as_slice());
+    }
 }

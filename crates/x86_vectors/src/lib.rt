@@ -6,9 +6,17 @@ mod accessor_tests;
 #[cfg(test)]
 mod answers;
 #[cfg(test)]
+mod group_table;
+#[cfg(test)]
 mod guide_tests;
 #[cfg(test)]
+mod line_tests;
+#[cfg(test)]
+mod mixed_table;
+#[cfg(test)]
 mod operand_tests;
+#[cfg(test)]
+mod plain_table;
 #[cfg(test)]
 mod plain_tests;
 #[cfg(test)]
@@ -21,3 +29,5 @@ mod refusal_table;
 mod tests;
 #[cfg(test)]
 mod walk_tests;
+#[cfg(test)]
+mod x87_table;

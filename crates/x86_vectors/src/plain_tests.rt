@@ -2,6 +2,7 @@
 ghost use Rattle.std.specs.Prelude.{◌<◌, ◌≤◌};
 
 use crate::answers::{ACCEPTED, REFUSED};
+use crate::tests::size_of;
 use x86_arch::{Reader, U8Reader};
 use x86_decode::{InstDecoder, Instruction};
 use x86_fields::{DecodeError, Prefixes, is_legacy, is_rex, next_byte};
@@ -107,9 +108,11 @@ fn plain(bytes: &[u8], strict: bool) -> (Result<Reading, DecodeError>, u64) {
     }
 }
 
-fn is_same(instruction: &Instruction, reading: &Reading) -> bool {
+fn is_same(instruction: &Instruction, reading: &Reading, taken: u64) -> bool {
     let places = [0u8, 1, 2, 3];
     instruction.opcode() == reading.opcode
+        && size_of(instruction) == reading.mem_size
+        && instruction.len().to_const() == taken
         && instruction.prefixes == reading.prefixes
         && instruction.operand_count() == reading.count
         && places.iter().all(|i| {
@@ -129,7 +132,7 @@ fn agree(bytes: &[u8], strict: bool) -> bool {
     let answer = decoder.decode(&mut words);
     let (expected, taken) = plain(bytes, strict);
     let same = match (&answer, &expected) {
-        (Ok(instruction), Ok(reading)) => is_same(instruction, reading),
+        (Ok(instruction), Ok(reading)) => is_same(instruction, reading, taken),
         (Err(left), Err(right)) => left == right,
         _ => false,
     };

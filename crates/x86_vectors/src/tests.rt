@@ -5,7 +5,8 @@ use x86_arch::{ChunkReader, Reader, U8Reader};
 use x86_decode::{InstDecoder, Instruction};
 use x86_fields::DecodeError;
 
-fn size_of(instruction: &Instruction) -> u8 {
+/// The memory size in bytes: 0 for none, and 63 where the processor decides.
+pub fn size_of(instruction: &Instruction) -> u8 {
     match instruction.mem_size() {
         None => 0,
         Some(size) => size.bytes_size().unwrap_or(63),

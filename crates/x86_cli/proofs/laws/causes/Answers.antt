@@ -1,4 +1,4 @@
-use Rattle.x86_cli.proofs.Causes.{causes}
+use Rattle.x86_cli.proofs.CommandLemmas.Causes.{causes}
 use Rattle.x86_cli.proofs.laws.causes.Goals as goal
 
 pub returns : goal.returns

@@ -1,4 +1,4 @@
-use Rattle.x86_cli.proofs.Causes.{text_done}
+use Rattle.x86_cli.proofs.CommandLemmas.Causes.{text_done}
 use Rattle.x86_cli.proofs.laws.complete.Goals as goal
 
 pub returns : goal.returns

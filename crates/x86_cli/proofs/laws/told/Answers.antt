@@ -1,4 +1,4 @@
-use Rattle.x86_cli.proofs.Tells.{gave_tells, took_tells}
+use Rattle.x86_cli.proofs.OutsideLemmas.Tells.{gave_tells, took_tells}
 use Rattle.x86_cli.proofs.laws.told.Goals as goal
 
 pub returns-clause-source : goal.returns-clause-source

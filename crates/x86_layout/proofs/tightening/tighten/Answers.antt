@@ -6,7 +6,8 @@ use Rattle.x86_decode.specs.Grammar.{IsAccepted, IsSentence}
 use Rattle.x86_decode.specs.Answer.{answer_of, count_of}
 use Rattle.x86_layout.specs.declared.tightening.TightenError.{TightenError}
 use Rattle.x86_layout.specs.declared.tightening.TightenError.TheVariants.{Refused, NoMemoryForm, IpRelative}
-use Rattle.x86_layout.specs.Least.{least_in, least_for, least_of, HasLengthOfFront}
+use Rattle.x86_layout.specs.Least.{least_in, least_of, HasLengthOfFront}
+use Rattle.x86_layout.proofs.LeastLaws.{least_front}
 use Rattle.x86_layout.specs.Tighten.{HasSentence, OfFront, Statement, IsTightened, HasNoRelative, IsNotTightened}
 use Rattle.x86_layout.proofs.PartLaws.{front_is}
 use Rattle.x86_layout.proofs.tightening.tighten.Goals as goal
@@ -70,17 +71,16 @@ returns-clause-shortest c =
 
 -- the least length of an encoding at the front is that of the bytes
 module _ (strict : Bool) (bytes encoding : List ℕ) (instruction : Instruction) (n : ℕ) (accepted : answer_of strict bytes ≡ Ok instruction) (front : encoding ≡ take n bytes) (counted : n ≡ instruction.length) (long : length encoding ≡ n) where
-  least_front : least_of strict bytes ≡ least_in strict encoding
-  unfolding least_of
-  least_front = ap (least_for strict bytes) accepted ∙ ap (λ k. least_in strict (take k bytes)) (sym counted) ∙ ap (least_in strict) (sym front)
+  front_least : least_of strict bytes ≡ least_in strict encoding
+  front_least = least_front strict bytes encoding instruction n accepted front counted
 
   same_instruction : (x y : Instruction) (r : Result Instruction DecodeError) → r ≡ Ok x → r ≡ Ok y → x ≡ y
   same_instruction x y r e f = cc
 
   module _ {A : Type 0} (items : A → List ℕ) (is : Sentence strict encoding instruction) where
     measured : (result : Result A TightenError) → ((strict : Bool) (a : Instruction) → Sentence strict encoding a → MatchResult result (λ t. length (items t) ≡ least_in strict encoding) (λ _. least_in strict encoding ≡ length encoding)) → MatchResult result (λ t. length (items t) ≡ least_of strict bytes) (λ _. HasLengthOfFront strict bytes)
-    measured (Ok t) each = each strict instruction is ∙ sym least_front
-    measured (Err error) each = λ i e. least_front ∙ each strict instruction is ∙ long ∙ counted ∙ ap (λ k. k.length) (same_instruction instruction i (answer_of strict bytes) accepted e)
+    measured (Ok t) each = each strict instruction is ∙ sym front_least
+    measured (Err error) each = λ i e. front_least ∙ each strict instruction is ∙ long ∙ counted ∙ ap (λ k. k.length) (same_instruction instruction i (answer_of strict bytes) accepted e)
 
 pub returns-clause-least : goal.returns-clause-least
 returns-clause-least c =

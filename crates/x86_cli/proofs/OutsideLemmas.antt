@@ -1,0 +1,3 @@
+-- Lemmas on sources and sinks.
+pub mod SinkLaws
+pub mod Tells

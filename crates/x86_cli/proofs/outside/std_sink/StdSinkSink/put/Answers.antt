@@ -1,0 +1,18 @@
+use Rattle.std.proofs.Common.{◌≡◌, rules, refl, arith, length}
+use Rattle.std.proofs.lemmas.Bool.Decides.{nat_tests}
+use Rattle.x86_cli.proofs.OutsideLemmas.SinkLaws.{puts_none, puts_more, puts_all, puts_part}
+use Rattle.x86_cli.proofs.outside.std_sink.StdSinkSink.put.Goals as goal
+
+pub loop-rest-init : goal.loop-rest-init
+loop-rest-init g c = record { still = refl; puts = puts_none _ _ }
+
+pub loop-rest-preserved : goal.loop-rest-preserved
+loop-rest-preserved g c = record { still = c.loop-rest.invariant.still; puts = puts_more _ _ _ _ c.loop-rest.invariant.puts _ _ _ c.in-Ok.ensures.bytes refl }
+
+pub returns-in_default : goal.returns-in_default
+returns-in_default g c = (puts_part _ _ _ _ c.loop-rest.invariant.puts c.write.result _ c.write.ensures.bytes, search rules)
+
+pub returns : goal.returns
+returns g c =
+    let none : length c.loop-rest.rest.now ≡ 0 = grind (arith, nat_tests) in
+    (puts_all _ _ _ _ c.loop-rest.invariant.puts none, c.loop-rest.invariant.still)

@@ -1,9 +1,0 @@
-use Rattle.std.proofs.Common.{Some}
-use Rattle.std.specs.Prelude.{⊤}
-use Rattle.x86_cli.specs.Targets.{targets_at}
-use Rattle.x86_cli.proofs.Stands.{Stands}
-use Rattle.x86_cli.proofs.targets.targets.Given as goal
-
-abbrev pub invariant-places : goal.invariant-places
-invariant-places g l =
-    Stands g.S.Source.gives g.K.Sink.takes (targets_at l.decoder.strict) (λ place walked. ⊤) l.fn.max l.place (Some l.text.ending) l.text.image.items 0 0 l.fn.source l.source l.fn.sink l.sink

@@ -1,0 +1,12 @@
+use Rattle.std.proofs.Common.{◌≤◌}
+use Rattle.x86_cli.proofs.TextLemmas.ReadLaws.{Skips}
+use Rattle.x86_cli.proofs.text.reader.TextReader.next.Given as goal
+
+abbrev pub invariant-loop-byte : goal.invariant-loop-byte
+invariant-loop-byte g l = record {
+  skips : Skips g.S.Source.gives l.fn.self.place l.fn.self.room l.self.place l.self.room l.fn.source l.source;
+  less : l.self.room ≤ l.fn.self.room;
+}
+
+abbrev pub decreases-loop-byte : goal.decreases-loop-byte
+decreases-loop-byte g l = l.self.room

@@ -1,0 +1,16 @@
+use Rattle.std.proofs.Common.{arith}
+use Rattle.x86_cli.proofs.TextLemmas.FillLaws.{filling_byte, stopped, filled}
+use Rattle.x86_cli.proofs.text.window.Window.fill.Goals as goal
+
+pub loop-reader-preserved : goal.loop-reader-preserved
+loop-reader-preserved g c = record {
+  goes_on = c.loop-reader.invariant.goes_on;
+  filling = rw c.push.ensures.items (filling_byte g.S.Source.gives _ _ _ _ _ _ c.loop-reader.invariant.filling _ _ _ _ c.in-Byte.ensures.reads);
+  uses = omega (arith, c.loop-reader.invariant.uses, c.in-Byte.ensures.uses, c.push.ensures.len);
+}
+
+pub returns-in-Stopped-clause-fills : goal.returns-in-Stopped-clause-fills
+returns-in-Stopped-clause-fills g c = stopped g.S.Source.gives _ _ _ _ _ _ c.loop-reader.invariant.filling _ _ _ _ _ _ c.in-Stopped.ensures.reads
+
+pub returns-clause-fills : goal.returns-clause-fills
+returns-clause-fills g c = rw c.loop-reader.invariant.goes_on (filled g.S.Source.gives _ _ _ _ _ _ c.loop-reader.invariant.filling)

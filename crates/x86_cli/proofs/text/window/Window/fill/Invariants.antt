@@ -1,0 +1,16 @@
+use Rattle.std.proofs.Common.{◌≡◌, ◌≤◌, ◌+◌, ◌-◌, None}
+use Rattle.arrayvec.specs.ArrayVec.{array_vec_len}
+use Rattle.x86_cli.specs.Text.Window.{rest_of}
+use Rattle.x86_cli.proofs.TextLemmas.FillLaws.{Filling}
+use Rattle.x86_cli.proofs.text.window.Window.fill.Given as goal
+
+abbrev pub invariant-loop-reader : goal.invariant-loop-reader
+invariant-loop-reader g l = record {
+  goes_on : l.self.ended ≡ None;
+  filling : Filling g.S.Source.gives (rest_of None l.fn.self.bytes.items l.fn.self.reader.place l.fn.self.reader.room)
+      l.self.bytes.items l.reader.place l.reader.room l.fn.source l.source;
+  uses : array_vec_len l.self.bytes + l.reader.room ≤ array_vec_len l.fn.self.bytes + l.fn.self.reader.room;
+}
+
+abbrev pub decreases-loop-reader : goal.decreases-loop-reader
+decreases-loop-reader g l = 15 - array_vec_len l.self.bytes

@@ -1,0 +1,8 @@
+-- Commands, their runs, and what a run says.
+pub mod Run
+pub mod Command
+pub mod Complete
+pub mod Make
+pub mod Causes
+pub mod Says
+pub mod Program

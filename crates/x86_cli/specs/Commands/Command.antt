@@ -1,0 +1,87 @@
+-- Commands: their words, listings and limits.
+use Rattle.std.specs.Prelude.{ℕ, Bool, true, false, List, [], ◌∷◌, Option, Some, None, ◌&&◌, if◌then◌else◌, IfSome, IsTrue, Result, ⊤, map, codes, bytes_eq, String, string_bytes}
+use Rattle.std.specs.declared.alloc.Global.{Global}
+use Rattle.x86_cli.specs.declared.commands.command.Command.{Command}
+use Rattle.x86_cli.specs.declared.commands.command.Command.TheVariants.{List as Listed, Sweep as Swept, Targets as Targeted, Fields as Fielded, Tighten as Tightened}
+use Rattle.x86_cli.specs.declared.outside.source.Got.{Got}
+use Rattle.x86_cli.specs.declared.outside.sink.SinkFailed.{SinkFailed}
+use Rattle.x86_cli.specs.declared.listings.status.Status.{Status}
+use Rattle.x86_cli.specs.Text.{Text, text_of}
+use Rattle.x86_cli.specs.Commands.Run.{Ran, Ahead}
+use Rattle.x86_layout.specs.Front.{parts_of}
+use Rattle.x86_layout.specs.Least.{least_of}
+use Rattle.x86_text.specs.Lines.{line_text}
+use Rattle.x86_text.specs.Parts.{fields_text}
+use Rattle.x86_cli.specs.Listings.Tighten.{least_text}
+use Rattle.x86_cli.specs.Listings.Listing.{Listing, listing_at}
+use Rattle.x86_cli.specs.Listings.Sweep.{sweep_at}
+use Rattle.x86_cli.specs.Listings.Targets.{targets_at}
+
+-- the command that is one word
+abbrev pub command_by : List ℕ → Option Command
+command_by word =
+    if bytes_eq word (codes "list") then Some (Listed false)
+    else (if bytes_eq word (codes "fields") then Some Fielded
+    else (if bytes_eq word (codes "tighten") then Some Tightened
+    else (if bytes_eq word (codes "sweep") then Some Swept
+    else (if bytes_eq word (codes "targets") then Some Targeted else None))))
+
+-- the command that the words are, matched whole
+abbrev pub command_of : List (List ℕ) → Option Command
+command_of [] = None
+command_of (a ∷ []) = command_by a
+command_of (a ∷ b ∷ []) = if bytes_eq a (codes "list") && bytes_eq b (codes "--strict") then Some (Listed true) else None
+command_of (a ∷ b ∷ c ∷ words) = None
+
+-- Where the words are a command that reads, this is so of it.
+abbrev pub IfCommand : List (String Global) → (Command → Type 0) → Type 0
+IfCommand words says = IfSome (command_of (map string_bytes words)) says
+
+-- what a command lists of a text that stands from a place on, and of a whole text
+abbrev pub listed_at : Command → ℕ → Text → Listing
+listed_at (Listed strict) place t = listing_at strict (λ place instruction bytes. line_text place instruction) place t
+listed_at Fielded place t = listing_at false (λ place instruction bytes. fields_text place (parts_of false bytes)) place t
+listed_at Tightened place t = listing_at false (λ place instruction bytes. least_text place instruction.length (least_of false bytes)) place t
+listed_at Swept place t = sweep_at false place t
+listed_at Targeted place t = targets_at false place t
+
+abbrev pub listing_for : Command → Text → Listing
+listing_for c t = listed_at c 0 t
+
+-- the most bytes of a text, and of one whose image is held whole
+abbrev pub text_max : ℕ
+text_max = 67108864
+
+abbrev pub targets_max : ℕ
+targets_max = 16384
+
+-- the most bytes of a text that a command reads
+abbrev pub max_of : Command → ℕ
+max_of (Listed strict) = text_max
+max_of Fielded = text_max
+max_of Tightened = text_max
+max_of Swept = text_max
+max_of Targeted = targets_max
+
+-- A command that goes on behind refusals is never refused.
+abbrev pub goes_past_refusals : Command → Bool
+goes_past_refusals (Listed strict) = false
+goes_past_refusals Fielded = false
+goes_past_refusals Tightened = false
+goes_past_refusals Swept = true
+goes_past_refusals Targeted = true
+
+-- All commands but `targets` list as they read.
+abbrev pub holds_window : Command → Bool
+holds_window (Listed strict) = true
+holds_window Fielded = true
+holds_window Tightened = true
+holds_window Swept = true
+holds_window Targeted = false
+
+-- A run of a command: its calls and its listing, and how far ahead of its lines it read.
+abbrev pub Runs : {S K : Type 0} → (S → Got → S → Type 0) → (K → List ℕ → Result ⊤ SinkFailed → K → Type 0) →
+    Command → Status → S → S → K → K → Type 0
+Runs gives takes c status source source' sink sink' =
+    (ran : Ran gives takes (listing_for c) (max_of c) status source source' sink sink')
+    × (IsTrue (holds_window c) → Ahead (listed_at c) (text_of (max_of c)) ran.bytes ran.stop ran.lines)

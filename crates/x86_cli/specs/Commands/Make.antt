@@ -1,0 +1,106 @@
+-- The encodings that `make` makes, and what it counts of their answers.
+use Rattle.std.specs.Prelude.{◌≡◌, ℕ, zero, suc, ◌+◌, ◌/◌, ◌%◌, ◌≤◌, ◌==◌, ◌&&◌, ◌||◌, Bool, true, false, if◌then◌else◌, List, [], ◌∷◌, ◌++◌, length, Result, Ok, Err, None, codes, decimal}
+use Rattle.std.specs.Int.{w32, to_le_bytes}
+use Rattle.x86_regs.specs.declared.RegisterClass.{RegisterClass}
+use Rattle.x86_regs.specs.declared.RegisterClass.TheVariants.{RIP}
+use Rattle.x86_fields.specs.declared.DecodeError.{DecodeError}
+use Rattle.x86_operands.specs.declared.operands.Operand.{Operand}
+use Rattle.x86_operands.specs.declared.operands.Operand.TheVariants as operand
+use Rattle.x86_decode.specs.declared.instructions.Instruction.{Instruction}
+use Rattle.x86_decode.specs.Instruction.{operand_at}
+use Rattle.x86_decode.specs.Answer.{answer_of}
+use Rattle.x86_cli.specs.declared.commands.make.Tally.{Tally}
+use Rattle.x86_cli.specs.declared.listings.status.Status.TheVariants.{Done}
+use Rattle.x86_cli.specs.Commands.Command.{command_of}
+use Rattle.x86_cli.specs.Listings.Line.{line}
+use Rattle.x86_cli.specs.Listings.Listing.{Listing}
+
+-- ---- encoding i: opcode 03, a ModRM of the memory form, SIB where it asks one, and a displacement
+
+-- how many ModRM bytes, from 0, are memory forms: those whose mod isn't 11
+abbrev pub memory_forms : ℕ
+memory_forms = 0xc0
+
+abbrev pub made_modrm : ℕ → ℕ
+made_modrm i = i % memory_forms
+
+abbrev pub made_sib : ℕ → ℕ
+made_sib i = (i / memory_forms) % 256
+
+-- mod 10; mod 00 with rm 101; mod 00 with rm 100 and base 101
+abbrev pub has_long_displacement : ℕ → ℕ → Bool
+has_long_displacement m s = (m / 64 == 2) || ((m / 64 == 0) && ((m % 8 == 5) || ((m % 8 == 4) && (s % 8 == 5))))
+
+abbrev pub sib_bytes : ℕ → ℕ → List ℕ
+sib_bytes m s = if m % 8 == 4 then s ∷ [] else []
+
+abbrev pub displacement_bytes : ℕ → ℕ → ℕ → List ℕ
+displacement_bytes m s i =
+    if m / 64 == 1 then (i % 256) ∷ []
+    else (if has_long_displacement m s then to_le_bytes w32 i else [])
+
+unfoldable pub made : ℕ → List ℕ
+made i = (0x03 ∷ made_modrm i ∷ []) ++ sib_bytes (made_modrm i) (made_sib i) ++ displacement_bytes (made_modrm i) (made_sib i) i
+
+-- ---- counting
+
+abbrev pub is_rip : RegisterClass → Bool
+is_rip RIP = true
+is_rip c = false
+
+abbrev pub is_at_rip : Operand → Bool
+is_at_rip (operand.MemDeref base) = is_rip base.class
+is_at_rip (operand.Disp base d) = is_rip base.class
+is_at_rip (operand.MemBaseIndexScale base i s) = is_rip base.class
+is_at_rip (operand.MemBaseIndexScaleDisp base i s d) = is_rip base.class
+is_at_rip op = false
+
+abbrev pub is_absolute : Operand → Bool
+is_absolute (operand.AbsoluteU32 n) = true
+is_absolute op = false
+
+-- whether one of the operands passes a test
+abbrev pub has_operand : (Operand → Bool) → Instruction → Bool
+has_operand test i = test (operand_at i 0) || (test (operand_at i 1) || (test (operand_at i 2) || test (operand_at i 3)))
+
+abbrev pub answer_has : (Operand → Bool) → Result Instruction DecodeError → Bool
+answer_has test (Ok i) = has_operand test i
+answer_has test (Err e) = false
+
+abbrev pub one_if : Bool → ℕ
+one_if b = if b then 1 else 0
+
+abbrev pub counted : Tally → List ℕ → Result Instruction DecodeError → Tally
+counted t bytes answer = record {
+  bytes = t.bytes + length bytes;
+  at_rip = t.at_rip + one_if (answer_has is_at_rip answer);
+  absolute = t.absolute + one_if (answer_has is_absolute answer);
+}
+
+-- the bytes of the first n encodings, and how many of their answers have an operand at rip, and an absolute one
+unfoldable pub tally_of : ℕ → Tally
+tally_of zero = record { bytes = 0; at_rip = 0; absolute = 0 }
+tally_of (suc n) = counted (tally_of n) (made n) (answer_of false (made n))
+
+unfoldable pub tally_text : ℕ → Tally → List ℕ
+tally_text n t =
+    decimal n ++ codes " instructions " ++ decimal t.bytes ++ codes " bytes " ++ decimal t.at_rip ++ codes " rip " ++ decimal t.absolute ++ codes " abs"
+
+-- ---- the command
+
+-- the most encodings that are made
+abbrev pub make_max : ℕ
+make_max = 1000000
+
+-- the words `make` and a decimal from 1 to that number, without a sign or a zero in front
+pub record IsMake (words : List (List ℕ)) (n : ℕ) : Type 0 where
+  pub matched : words ≡ codes "make" ∷ decimal n ∷ []
+  pub least : 1 ≤ n
+  pub most : n ≤ make_max
+
+-- the words are neither a command that reads nor `make`
+abbrev pub IsNoCommand : List (List ℕ) → Type 0
+IsNoCommand words = (command_of words ≡ None) × ((n : ℕ) → IsMake words n → ⊥)
+
+abbrev pub made_listing : ℕ → Listing
+made_listing n = record { lines = line (tally_text n (tally_of n)) ∷ []; status = Done }

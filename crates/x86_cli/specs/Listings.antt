@@ -1,0 +1,7 @@
+-- What commands list of a text.
+pub mod Line
+pub mod Status
+pub mod Listing
+pub mod Sweep
+pub mod Targets
+pub mod Tighten

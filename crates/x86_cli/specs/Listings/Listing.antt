@@ -1,0 +1,73 @@
+-- Listings, line by line.
+use Rattle.std.specs.Prelude.{◌≡◌, ℕ, Bool, ◌+◌, ◌-◌, List, [], ◌∷◌, ◌++◌, Result, Ok, Err, codes, zero, suc, take}
+use Rattle.x86_decode.specs.declared.instructions.Instruction.{Instruction}
+use Rattle.x86_fields.specs.declared.DecodeError.{DecodeError}
+use Rattle.x86_fields.specs.declared.DecodeError.TheVariants.{ExhaustedInput}
+use Rattle.x86_decode.specs.Answer.{answer_of}
+use Rattle.x86_cli.specs.declared.text.reader.Ending.{Ending}
+use Rattle.x86_cli.specs.declared.text.reader.Ending.TheVariants.{Clean, Bad, Large, Fault}
+use Rattle.x86_cli.specs.Text.{Text}
+use Rattle.x86_text.specs.Lines.{refusal_text}
+use Rattle.x86_cli.specs.Listings.Line.{line, bad_text}
+use Rattle.x86_cli.specs.declared.listings.status.Status.{Status}
+use Rattle.x86_cli.specs.declared.listings.status.Status.TheVariants.{Done, BadText, TooLarge, ReadFault}
+use Rattle.x86_cli.specs.declared.listings.status.Status.TheVariants as status
+use Rattle.x86_cli.specs.declared.text.window.Front.{Front}
+use Rattle.x86_cli.specs.declared.text.window.Front.TheVariants.{Whole, Refused, Ended}
+
+-- the lines that are written, and the status
+pub record Listing : Type 0 where
+  pub lines : List (List ℕ)
+  pub status : Status
+
+abbrev pub with_lines : List (List ℕ) → Listing → Listing
+with_lines front l = record { lines = front ++ l.lines; status = l.status }
+
+abbrev pub at_end : Ending → Listing
+at_end Clean = record { lines = []; status = Done }
+at_end (Bad n) = record { lines = line (bad_text n) ∷ []; status = BadText }
+at_end Large = record { lines = line (codes "text too long") ∷ []; status = TooLarge }
+at_end Fault = record { lines = line (codes "read fault") ∷ []; status = ReadFault }
+
+-- An end that isn't clean overrules a refusal that more bytes could lift.
+abbrev pub judged : Result Instruction DecodeError → Ending → Front Instruction
+judged (Ok i) e = Whole i
+judged (Err ExhaustedInput) (Bad n) = Ended (Bad n)
+judged (Err ExhaustedInput) Large = Ended Large
+judged (Err ExhaustedInput) Fault = Ended Fault
+judged (Err error) e = Refused error
+
+-- where more bytes lift nothing
+abbrev pub sure_of : Result Instruction DecodeError → Front Instruction
+sure_of (Ok i) = Whole i
+sure_of (Err error) = Refused error
+
+-- what stands at the front of an image
+unfoldable pub front_of : Bool → List ℕ → Ending → Front Instruction
+front_of strict [] e = Ended e
+front_of strict (x ∷ xs) e = judged (answer_of strict (x ∷ xs)) e
+
+-- The listings of commands differ in the line of an instruction, which may look at the instruction's bytes.
+module _ (strict : Bool) (text : ℕ → Instruction → List ℕ → List ℕ) where
+  abbrev pub listed : Front Instruction → ℕ → List ℕ → (ℕ → Listing) → Listing
+  listed (Whole i) place bytes after = with_lines (line (text place i (take i.length bytes)) ∷ []) (after (i.length - 1))
+  listed (Refused error) place bytes after = record { lines = line (refusal_text place error) ∷ []; status = status.Refused }
+  listed (Ended e) place bytes after = at_end e
+
+  -- the listing of an image that stands from a place on, without its first bytes that belong to an instruction before
+  unfoldable pub listing_from : ℕ → ℕ → List ℕ → Ending → Listing
+  listing_from place skip [] e = at_end e
+  listing_from place zero (x ∷ xs) e = listed (front_of strict (x ∷ xs) e) place (x ∷ xs) (λ skip. listing_from (place + 1) skip xs e)
+  listing_from place (suc skip) (x ∷ xs) e = listing_from (place + 1) skip xs e
+
+  abbrev pub listing_at : ℕ → Text → Listing
+  listing_at place t = listing_from place 0 t.image t.ending
+
+  -- the listing of a text
+  abbrev pub listing_of : Text → Listing
+  listing_of t = listing_at 0 t
+
+-- Whatever the lines of instructions are, the listing of a text ends with the same status.
+abbrev pub LinesLeaveStatus : Type 0
+LinesLeaveStatus = (strict : Bool) (text other : ℕ → Instruction → List ℕ → List ℕ) (t : Text) →
+    (listing_of strict text t).status ≡ (listing_of strict other t).status

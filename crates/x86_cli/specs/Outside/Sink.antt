@@ -1,0 +1,10 @@
+-- What a put says.
+use Rattle.std.specs.Prelude.{◌≡◌, ℕ, List, Option, Result, Ok, Err, take, ⊤}
+use Rattle.std.specs.Io.KnownBytes.{Appends}
+use Rattle.x86_cli.specs.declared.outside.sink.SinkFailed.{SinkFailed}
+use Rattle.x86_cli.specs.Outside.FaultCounts.{Rose}
+
+-- What a put says of the bytes written, where the sink tells them, and of its faults.
+abbrev pub TellsPut : Result ⊤ SinkFailed → List ℕ → Option (List ℕ) → Option (List ℕ) → ℕ → ℕ → Type 0
+TellsPut (Ok done) piece written written' faults faults' = Appends written written' piece × (faults' ≡ faults)
+TellsPut (Err e) piece written written' faults faults' = ((n : ℕ) × Appends written written' (take n piece)) × Rose faults faults'

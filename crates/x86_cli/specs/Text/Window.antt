@@ -1,0 +1,49 @@
+-- What a window has taken, and what it shows.
+use Rattle.std.specs.Prelude.{Bool, ◌≡◌, ◌≢◌, ℕ, ◌<◌, ◌≤◌, List, ◌++◌, length, Option, Some, None, ⊤}
+use Rattle.x86_cli.specs.declared.outside.source.Got.{Got}
+use Rattle.x86_cli.specs.Text.Reading.{Gave, Asked, MayCome}
+use Rattle.x86_decode.specs.declared.instructions.Instruction.{Instruction}
+use Rattle.x86_fields.specs.declared.DecodeError.TheVariants.{ExhaustedInput}
+use Rattle.x86_cli.specs.declared.text.reader.Ending.{Ending}
+use Rattle.x86_cli.specs.declared.text.reader.Ending.TheVariants.{Clean}
+use Rattle.x86_cli.specs.Outside.Stop.{Stop}
+use Rattle.x86_cli.specs.Text.{Text, text_at}
+use Rattle.x86_cli.specs.declared.text.window.Front.{Front}
+use Rattle.x86_cli.specs.declared.text.window.Front.TheVariants.{Whole, Refused, Ended}
+use Rattle.x86_cli.specs.Listings.Listing.{front_of}
+
+-- a text with bytes in front of its image
+abbrev pub behind : List ℕ → Text → Text
+behind front t = record { image = front ++ t.image; ending = t.ending }
+
+-- The text that is left, where these bytes come and then stop: the window's, and what the reader gives of them.
+abbrev pub rest_of : Option Ending → List ℕ → ℕ → ℕ → List ℕ → Stop → Text
+rest_of None window place room xs stop = behind window (text_at place room xs stop)
+rest_of (Some e) window place room xs stop = record { image = window; ending = e }
+
+-- Where the text has not ended, the source was not asked for a stop.
+abbrev pub Open : Option Ending → Option Stop → Type 0
+Open None stop = stop ≡ None
+Open (Some e) stop = ⊤
+
+-- What taking bytes into the window keeps: the text that is left, for all that may come.
+pub record Fills {S : Type 0} (gives : S → Got → S → Type 0) (old : List ℕ → Stop → Text) (ended : Option Ending) (window : List ℕ) (place room : ℕ) (before after : S) : Type 0 where
+  pub bytes : List ℕ
+  pub stop : Option Stop
+  pub gave : Gave gives bytes stop before after
+  pub asked : Asked old bytes stop
+  pub goes_on : Open ended stop
+  pub rest : (xs : List ℕ) (s : Stop) → MayCome stop xs s → old (bytes ++ xs) s ≡ rest_of ended window place room xs s
+
+-- a front, where Whole holds this instruction
+abbrev pub front_with : Instruction → Front (Unit {0}) → Front Instruction
+front_with i (Whole x) = Whole i
+front_with i (Refused error) = Refused error
+front_with i (Ended e) = Ended e
+
+-- what the window shows of its front, whatever stands behind it
+abbrev pub Shows : Bool → Front Instruction → Option Ending → List ℕ → Type 0
+Shows strict (Whole i) ended window = (0 < i.length) × (i.length ≤ length window) × ((ys : List ℕ) (e : Ending) → front_of strict (window ++ ys) e ≡ Whole i)
+Shows strict (Refused error) ended window =
+    (error ≡ ExhaustedInput → ended ≡ Some Clean) × (error ≢ ExhaustedInput → (ys : List ℕ) (e : Ending) → front_of strict (window ++ ys) e ≡ Refused error)
+Shows strict (Ended e) ended window = ended ≡ Some e

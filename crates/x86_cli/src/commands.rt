@@ -1,0 +1,5 @@
+//! Commands, what their runs answer, and the program.
+
+pub mod command;
+pub mod make;
+pub mod program;

@@ -1,0 +1,201 @@
+//! Encodings that the program makes by itself, decodes and counts.
+
+ghost use Rattle.std.specs.Prelude.{◌≡◌, ◌+◌, ◌≤◌, ◌++◌, ℕ, IfSome, Some, None, length, decimal};
+ghost use Rattle.arrayvec.specs.ArrayVec.{array_vec_len};
+ghost use Rattle.x86_decode.specs.Instruction.{holding};
+ghost use Rattle.x86_cli.specs.Commands.Run.{Wrote};
+ghost use Rattle.x86_cli.specs.Commands.Make.{made, has_long_displacement, is_rip, is_at_rip, is_absolute, has_operand, answer_has, one_if, tally_of, tally_text, make_max, made_listing};
+
+use crate::listings::listing::put_line;
+use crate::listings::status::Status;
+use crate::outside::sink::Sink;
+use arrayvec::ArrayVec;
+use itoa::Buffer;
+use x86_decode::{InstDecoder, Instruction};
+use x86_fields::DecodeError;
+use x86_operands::Operand;
+use x86_regs::{RegSpec, RegisterClass};
+use x86_text::{LINE_MAX, Line};
+
+/// The most encodings that `make` makes.
+pub const MAKE_MAX: u32 = 1_000_000;
+
+/// How many ModRM bytes, from 0, are memory forms: those whose mod isn't 11.
+const MEMORY_FORMS: u32 = 0xc0;
+
+/// What is counted of the encodings.
+#[derive(Clone, Copy, Drop)]
+pub struct Tally {
+    bytes: u64,
+    at_rip: u64,
+    absolute: u64,
+}
+
+fn push(encoding: &mut ArrayVec<u8, 15>, bytes: &[u8])
+    requires { array_vec_len encoding.old + length bytes.now ≤ 15 }
+    ensures text { encoding.new.items ≡ encoding.old.items ++ bytes.now }
+    ensures len { array_vec_len encoding.new ≡ array_vec_len encoding.old + length bytes.now }
+{
+    let _ = encoding.try_extend_from_slice(bytes);
+}
+
+fn has_long_displacement(modrm: u8, sib: u8) -> bool
+    ensures { result ≡ has_long_displacement modrm sib }
+{
+    match modrm / 64 {
+        2 => true,
+        0 => modrm % 8 == 5 || (modrm % 8 == 4 && sib % 8 == 5),
+        _ => false,
+    }
+}
+
+/// Encoding `i` of `make`: `ADD r32, m32` with ModRM `i` modulo 0xc0.
+#[tactic(auto, unfolding(crate::specs::Commands::Make::made))]
+pub fn generate(i: u32) -> ArrayVec<u8, 15>
+    ensures { result.items ≡ made i }
+{
+    let modrm = (i % MEMORY_FORMS) as u8;
+    let sib = (i / MEMORY_FORMS % 256) as u8;
+    let mut encoding = ArrayVec::new();
+    push(&mut encoding, &[0x03, modrm]);
+    if modrm % 8 == 4 {
+        push(&mut encoding, &[sib]);
+    }
+    if modrm / 64 == 1 {
+        push(&mut encoding, &[(i % 256) as u8]);
+    } else if has_long_displacement(modrm, sib) {
+        push(&mut encoding, &i.to_le_bytes());
+    }
+    encoding
+}
+
+fn is_rip(register: RegSpec) -> bool
+    ensures { result ≡ is_rip register.class }
+{
+    matches!(register.class(), RegisterClass::RIP)
+}
+
+fn is_at_rip(operand: Operand) -> bool
+    ensures { result ≡ is_at_rip operand }
+{
+    match operand {
+        Operand::MemDeref { base }
+        | Operand::Disp { base, .. }
+        | Operand::MemBaseIndexScale { base, .. }
+        | Operand::MemBaseIndexScaleDisp { base, .. } => is_rip(base),
+        _ => false,
+    }
+}
+
+fn is_absolute(operand: Operand) -> bool
+    ensures { result ≡ is_absolute operand }
+{
+    matches!(operand, Operand::AbsoluteU32 { .. })
+}
+
+fn has_operand_at_rip(instruction: &Instruction) -> bool
+    ensures { result ≡ has_operand is_at_rip instruction.now }
+{
+    is_at_rip(instruction.operand(0))
+        || is_at_rip(instruction.operand(1))
+        || is_at_rip(instruction.operand(2))
+        || is_at_rip(instruction.operand(3))
+}
+
+fn has_absolute_operand(instruction: &Instruction) -> bool
+    ensures { result ≡ has_operand is_absolute instruction.now }
+{
+    is_absolute(instruction.operand(0))
+        || is_absolute(instruction.operand(1))
+        || is_absolute(instruction.operand(2))
+        || is_absolute(instruction.operand(3))
+}
+
+fn one_at_rip(inst: &Instruction, answer: Result<(), DecodeError>) -> u64
+    ensures value { result ≡ one_if (answer_has is_at_rip (holding inst.now answer)) }
+    ensures small { result ≤ 1 }
+{
+    match answer {
+        Ok(()) => has_operand_at_rip(inst) as u64,
+        Err(_) => 0,
+    }
+}
+
+fn one_absolute(inst: &Instruction, answer: Result<(), DecodeError>) -> u64
+    ensures value { result ≡ one_if (answer_has is_absolute (holding inst.now answer)) }
+    ensures small { result ≤ 1 }
+{
+    match answer {
+        Ok(()) => has_absolute_operand(inst) as u64,
+        Err(_) => 0,
+    }
+}
+
+/// Makes and decodes the first encodings.
+fn tally_of(count: u32) -> Tally
+    ensures { result ≡ tally_of count }
+{
+    let decoder = InstDecoder::default();
+    let mut inst = Instruction::invalid();
+    let mut bytes = 0u64;
+    let mut at_rip = 0u64;
+    let mut absolute = 0u64;
+    for i in 0..count {
+        let encoding = generate(i);
+        let answer = decoder.decode_slice_into(&mut inst, encoding.as_slice());
+        bytes += encoding.len() as u64;
+        at_rip += one_at_rip(&inst, answer);
+        absolute += one_absolute(&inst, answer);
+    }
+    Tally {
+        bytes,
+        at_rip,
+        absolute,
+    }
+}
+
+#[tactic(auto, unfolding(crate::specs::Commands::Make::tally_text))]
+fn tally_line(count: u32, tally: &Tally) -> Line
+    ensures text { result.items ≡ tally_text count tally.now }
+    ensures short { array_vec_len result ≤ LINE_MAX }
+{
+    let mut line = Line::new();
+    line.push_u32(count);
+    line.extend(b" instructions ");
+    line.push_u64(tally.bytes);
+    line.extend(b" bytes ");
+    line.push_u64(tally.at_rip);
+    line.extend(b" rip ");
+    line.push_u64(tally.absolute);
+    line.extend(b" abs");
+    line
+}
+
+/// The count that a word spells: a decimal from 1 to `MAKE_MAX`, without a sign or a zero in front.
+pub fn count_from(word: &str) -> Option<u32>
+    ensures found { IfSome result (λ n. (1 ≤ n) × (n ≤ make_max) × (word.now ≡ decimal n)) }
+    ensures every { (n : ℕ) → 1 ≤ n → n ≤ make_max → word.now ≡ decimal n → result ≡ Some n }
+{
+    let count = word.parse::<u32>().ok()?;
+    if count == 0 || count > MAKE_MAX {
+        return None;
+    }
+    let mut buffer = Buffer::new();
+    if buffer.format(count) == word {
+        Some(count)
+    } else {
+        None
+    }
+}
+
+/// Makes, decodes and counts `count` encodings, and writes the line of it.
+pub fn make<K: Sink>(count: u32, sink: &mut K) -> Status
+    ensures { Wrote K.takes (made_listing count) result sink.old sink.new }
+{
+    let tally = tally_of(count);
+    let mut line = tally_line(count, &tally);
+    match put_line(sink, &mut line) {
+        Ok(()) => Status::Done,
+        Err(_) => Status::WriteFault,
+    }
+}

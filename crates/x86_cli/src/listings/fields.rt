@@ -1,0 +1,27 @@
+//! The lines of the parts of encodings.
+
+ghost use Rattle.x86_layout.specs.Front.{parts_of};
+ghost use Rattle.x86_text.specs.Parts.{fields_text};
+
+use crate::listings::line::Lines;
+use x86_decode::{InstDecoder, Instruction};
+use x86_layout::split_decoded;
+use x86_text::{Line, Place, write_fields};
+
+/// The lines of `fields`, which show the parts of each encoding.
+pub struct FieldLines;
+
+impl Lines for FieldLines {
+    ghost text = { λ s strict place instruction bytes. fields_text place (parts_of strict bytes) };
+
+    fn write(
+        &self,
+        decoder: &InstDecoder,
+        place: &Place,
+        instruction: &Instruction,
+        bytes: &[u8],
+        line: &mut Line,
+    ) {
+        write_fields(line, place, &split_decoded(decoder, instruction, bytes));
+    }
+}

@@ -1,0 +1,60 @@
+//! The lines of a listing.
+
+ghost use Rattle.std.specs.Prelude.{Bool, ℕ, List, Ok, ◌≡◌, ◌≤◌};
+ghost use Rattle.arrayvec.specs.ArrayVec.{array_vec_len};
+ghost use Rattle.x86_decode.specs.declared.instructions.Instruction.{Instruction};
+ghost use Rattle.x86_decode.specs.Answer.{answer_of};
+ghost use Rattle.x86_text.specs.Lines.{line_text};
+ghost use Rattle.x86_cli.specs.Listings.Line.{bad_text};
+
+use x86_decode::{InstDecoder, Instruction};
+use x86_text::{LINE_MAX, Line, Place, write_instruction};
+
+/// What a command writes for an accepted cut.
+pub trait Lines {
+    /// The line of an instruction at a place, under a choice and given its bytes.
+    ghost text: { Self → Bool → ℕ → Instruction → List ℕ → List ℕ };
+
+    /// Writes that line over another, without its end. The bytes are those of the instruction.
+    fn write(
+        &self,
+        decoder: &InstDecoder,
+        place: &Place,
+        instruction: &Instruction,
+        bytes: &[u8],
+        line: &mut Line,
+    )
+        requires { answer_of decoder.now.strict bytes.now ≡ Ok instruction.now }
+        ensures text { line.new.items ≡ text self.now decoder.now.strict place.now instruction.now bytes.now }
+        ensures short { array_vec_len line.new ≤ LINE_MAX };
+}
+
+/// The lines of `list`, which don't look at the bytes.
+pub struct Plain;
+
+impl Lines for Plain {
+    ghost text = { λ s strict place instruction bytes. line_text place instruction };
+
+    fn write(
+        &self,
+        _decoder: &InstDecoder,
+        place: &Place,
+        instruction: &Instruction,
+        _bytes: &[u8],
+        line: &mut Line,
+    ) {
+        write_instruction(line, place, instruction);
+    }
+}
+
+/// The line of a text whose byte at a place can't stand there, without its end.
+#[tactic(auto, unfolding(crate::specs::Listings::Line::bad_text))]
+pub fn text_error(place: u64) -> Line
+    ensures text { result.items ≡ bad_text place }
+    ensures short { array_vec_len result ≤ LINE_MAX }
+{
+    let mut line = Line::new();
+    line.extend(b"text error at ");
+    line.push_u64(place);
+    line
+}

@@ -1,0 +1,40 @@
+//! How a run ends.
+
+ghost use Rattle.std.specs.Prelude.{◌≡◌};
+ghost use Rattle.x86_cli.specs.Listings.Status.{code_of};
+
+/// How a run ended.
+#[derive(Clone, Copy, PartialEq, Eq, Debug, Drop)]
+pub enum Status {
+    /// The text was read to its end, and all that its listing says was written.
+    Done,
+    /// The words are no command. Nothing was read or written.
+    Usage,
+    /// The listing ended in a refusal.
+    Refused,
+    /// A byte of the text can't stand at its place.
+    BadText,
+    /// The source failed, and the listing reached that place.
+    ReadFault,
+    /// The sink failed.
+    WriteFault,
+    /// The text has more bytes than are read.
+    TooLarge,
+}
+
+impl Status {
+    /// The status that the program ends with: 0, 2, 3, 4, 5, 6 and 7 in the order of the variants.
+    pub fn code(&self) -> u8
+        ensures { result ≡ code_of self.now }
+    {
+        match self {
+            Status::Done => 0,
+            Status::Usage => 2,
+            Status::Refused => 3,
+            Status::BadText => 4,
+            Status::ReadFault => 5,
+            Status::WriteFault => 6,
+            Status::TooLarge => 7,
+        }
+    }
+}

@@ -1,0 +1,101 @@
+//! The places that the instructions of a sweep branch to.
+
+ghost use Rattle.std.specs.Prelude.{◌≡◌, ◌≢◌, ℕ, ◌*◌, ◌<◌, ◌≤◌, length, slice_index_or, true, false, decimal, None, Some, Err, OnOk, IfErr};
+ghost use Rattle.x86_cli.specs.Text.{text_of};
+ghost use Rattle.arrayvec.specs.ArrayVec.{array_vec_len};
+ghost use Rattle.x86_layout.specs.Marks.{is_marked};
+ghost use Rattle.x86_cli.specs.Commands.Run.{Ran, Took};
+ghost use Rattle.x86_cli.specs.Listings.Targets.{place_line, lines_if, targets_at};
+ghost use Rattle.x86_cli.specs.Text.Window.{Fills};
+
+use crate::listings::listing::{end, put_line};
+use crate::listings::status::Status;
+use crate::outside::sink::{Sink, SinkFailed};
+use crate::outside::source::Source;
+use crate::text::reader::{Ending, Piece, TextReader};
+use arrayvec::ArrayVec;
+use x86_decode::InstDecoder;
+use x86_layout::mark_targets;
+use x86_text::{LINE_MAX, Line};
+
+/// The most bytes of an image that is held whole.
+const IMAGE_MAX: usize = 8192;
+
+/// A text that is read to its end, its image held whole.
+#[derive(Drop)]
+struct HeldText {
+    image: ArrayVec<u8, IMAGE_MAX>,
+    ending: Ending,
+}
+
+/// Reads a text to its end. Each byte of the image takes at least two bytes of text.
+fn read_whole<S: Source>(max: u64, source: &mut S) -> HeldText
+    requires { max ≤ 2 * IMAGE_MAX }
+    ensures { Fills S.gives (text_of max) (Some result.ending) result.image.items 0 0 source.old source.new }
+{
+    let mut image = ArrayVec::new();
+    let mut reader = TextReader::new(max);
+    'pairs: loop {
+        match reader.next(source) {
+            Piece::Byte(byte) => image.push(byte),
+            Piece::Stopped(ending) => return HeldText { image, ending },
+        }
+    }
+}
+
+/// Marks the places of an image that the instructions of its sweep branch to.
+fn mark(decoder: &InstDecoder, image: &[u8], marks: &mut [bool; IMAGE_MAX])
+    requires { length image.now ≤ IMAGE_MAX }
+    ensures { (p : ℕ) → p < length image.now → slice_index_or marks.new p false ≡ is_marked decoder.now.strict image.now p }
+{
+    mark_targets(decoder, image, &mut marks[..image.len()]);
+}
+
+fn place_line(place: u64) -> Line
+    ensures text { result.items ≡ decimal place }
+    ensures short { array_vec_len result ≤ LINE_MAX }
+{
+    let mut line = Line::new();
+    line.push_u64(place);
+    line
+}
+
+/// Writes the line of a place, where it is marked.
+fn put_if_marked<K: Sink>(sink: &mut K, marked: bool, place: u64) -> Result<(), SinkFailed>
+    ensures ok { OnOk result (Took K.takes (lines_if marked place) None sink.old sink.new) }
+    ensures failed { IfErr result (λ e. (marked ≡ true) × K.takes sink.old (place_line place) (Err e) sink.new) }
+{
+    if marked {
+        let mut line = place_line(place);
+        put_line(sink, &mut line)
+    } else {
+        Ok(())
+    }
+}
+
+/// Writes the places that the instructions of a text branch to, of a text that is short enough to be held whole.
+pub fn targets<S: Source, K: Sink>(
+    decoder: &InstDecoder,
+    max: u64,
+    source: &mut S,
+    sink: &mut K,
+) -> Status
+    requires { max ≤ 2 * IMAGE_MAX }
+    ensures ran { Ran S.gives K.takes (targets_at decoder.now.strict 0) max result source.old source.new sink.old sink.new }
+    ensures unrefused { result ≢ Status.Refused }
+{
+    let text = read_whole(max, source);
+    let image = text.image.as_slice();
+    let mut marks = [false; IMAGE_MAX];
+    mark(decoder, image, &mut marks);
+    'places: for place in 0..image.len() {
+        match put_if_marked(sink, marks[place], place as u64) {
+            Ok(()) => {}
+            Err(_) => return Status::WriteFault,
+        }
+    }
+    match end(sink, text.ending) {
+        Ok(status) => status,
+        Err(_) => Status::WriteFault,
+    }
+}

@@ -1,0 +1,45 @@
+//! The lines of the shortest encodings.
+
+ghost use Rattle.std.specs.Prelude.{◌≡◌, ◌+◌, ◌≤◌, ◌++◌, length, codes};
+ghost use Rattle.arrayvec.specs.ArrayVec.{array_vec_len};
+ghost use Rattle.x86_layout.specs.Least.{least_of};
+ghost use Rattle.x86_cli.specs.Listings.Tighten.{least_text};
+
+use crate::listings::line::Lines;
+use x86_decode::{InstDecoder, Instruction};
+use x86_layout::shortest_length;
+use x86_text::{LINE_MAX, Line, Place};
+
+/// The lines of `tighten`, which show how short each encoding could be.
+pub struct LeastLines;
+
+impl Lines for LeastLines {
+    ghost text = { λ s strict place instruction bytes. least_text place instruction.length (least_of strict bytes) };
+
+    fn write(
+        &self,
+        decoder: &InstDecoder,
+        place: &Place,
+        instruction: &Instruction,
+        bytes: &[u8],
+        line: &mut Line,
+    ) {
+        let least = shortest_length(decoder, instruction, bytes);
+        write_least(line, place, instruction.len().to_const(), least);
+    }
+}
+
+/// Writes the line of an encoding at a place over another, without its end: the place, how many bytes the encoding has, and how many a shortest relative has.
+///
+/// For `48 8b 84 25 00 00 00 00` at place 0 this is `0 8 4`.
+#[tactic(auto, unfolding(crate::specs::Listings::Tighten::least_text))]
+fn write_least(line: &mut Line, place: &Place, length: u64, least: u64)
+    ensures text { line.new.items ≡ least_text place.now length least }
+    ensures short { array_vec_len line.new ≤ LINE_MAX }
+{
+    line.set(place.digits());
+    line.push(b' ');
+    line.push_u64(length);
+    line.push(b' ');
+    line.push_u64(least);
+}

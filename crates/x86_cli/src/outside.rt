@@ -1,0 +1,11 @@
+//! What is outside of a run: sources, sinks, and the buffer in front of a writer.
+
+pub mod array_sink;
+pub mod gathered;
+pub mod null_sink;
+pub mod sink;
+pub mod slice_source;
+pub mod sound_source;
+pub mod source;
+pub mod std_sink;
+pub mod std_source;

@@ -1,0 +1,78 @@
+//! A source over a slice, of which chosen calls fail.
+
+ghost use Rattle.std.specs.Prelude.{◌≡◌, ◌≤◌, Some, drop, length};
+ghost use Rattle.x86_cli.specs.Outside.Source.{TellsGot};
+ghost use Rattle.x86_cli.specs.Outside.SliceSource.{ByNumber, is_listed};
+
+use crate::outside::source::{Got, Source};
+
+/// The bytes of a slice. The calls whose numbers, from 0, stand in `fails` answer `Failed`; the number of a call stops
+/// at `u64::MAX`, and a call with that number doesn't fail.
+#[derive(Drop)]
+pub struct SliceSource<'a> {
+    bytes: &'a [u8],
+    fails: &'a [u64],
+    place: usize,
+    call: u64,
+    faults: u64,
+    ghost in_range: { place ≤ length bytes.now },
+}
+
+impl<'a> SliceSource<'a> {
+    /// A source of these bytes, at its call 0.
+    pub fn new(bytes: &'a [u8], fails: &'a [u64]) -> SliceSource<'a>
+        ensures bytes { ⟦<SliceSource<'a> as Source>⟧.left result ≡ Some bytes.entry.now }
+        ensures sound { ⟦<SliceSource<'a> as Source>⟧.faults result ≡ 0 }
+        ensures fails { result.fails.now ≡ fails.entry.now }
+        ensures call { result.call ≡ 0 }
+    {
+        SliceSource {
+            bytes,
+            fails,
+            place: 0,
+            call: 0,
+            faults: 0,
+        }
+    }
+
+    /// How often a call has failed.
+    pub fn faults(&self) -> u64
+        ensures { result ≡ ⟦<SliceSource<'a> as Source>⟧.faults self.now }
+    {
+        self.faults
+    }
+
+    fn fails_now(&self) -> bool
+        ensures { result ≡ is_listed self.now.call self.now.fails.now }
+    {
+        let call = self.call;
+        call < u64::MAX && self.fails.contains(&call)
+    }
+}
+
+impl<'a> Source for SliceSource<'a> {
+    ghost left = { λ s. Some (drop s.place s.bytes.now) };
+
+    ghost faults = { λ s. s.faults };
+
+    ghost gives = { λ s g t. TellsGot g (Some (drop s.place s.bytes.now)) (Some (drop t.place t.bytes.now)) s.faults t.faults
+        × ByNumber g (drop s.place s.bytes.now) s.call t.call s.fails.now t.fails.now };
+
+    ghost tells = { λ s g t h. h.0 };
+
+    fn next(&mut self) -> Got {
+        let failed = self.fails_now();
+        self.call = self.call.saturating_add(1);
+        if failed {
+            self.faults = self.faults.saturating_add(1);
+            return Got::Failed;
+        }
+        if self.place < self.bytes.len() {
+            let byte = self.bytes[self.place];
+            self.place += 1;
+            Got::Byte(byte)
+        } else {
+            Got::End
+        }
+    }
+}

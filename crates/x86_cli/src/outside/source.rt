@@ -1,0 +1,32 @@
+//! What a text is read from.
+
+ghost use Rattle.std.specs.Prelude.{ℕ, List, Option};
+ghost use Rattle.x86_cli.specs.Outside.Source.{TellsGot};
+ghost use Rattle.x86_cli.specs.declared.outside.source.Got.{Got};
+
+/// What a source gives.
+#[derive(Clone, Copy, PartialEq, Eq, Debug, Drop)]
+pub enum Got {
+    Byte(u8),
+    End,
+    Failed,
+}
+
+/// Bytes that are taken one by one, and a count of faults that never falls and stops at `u64::MAX`.
+pub trait Source {
+    /// The bytes left, where the source tells them.
+    ghost left: { Self → Option (List ℕ) };
+
+    /// How often the source has failed.
+    ghost faults: { Self → ℕ };
+
+    /// What a call may answer, and what it may leave of the source.
+    ghost gives: { Self → Got → Self → Type 0 };
+
+    /// The first byte left, if the source doesn't fail. A failed call takes no byte.
+    fn next(&mut self) -> Got
+        ensures { gives self.old result self.new };
+
+    /// What a call says, where the source tells its bytes.
+    ghost tells: { (s : Self) (g : Got) (t : Self) → gives s g t → TellsGot g (left s) (left t) (faults s) (faults t) };
+}

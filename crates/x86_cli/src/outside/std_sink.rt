@@ -1,0 +1,62 @@
+//! A sink over a writer.
+
+ghost use Rattle.std.specs.Prelude.{◌≡◌};
+ghost use Rattle.x86_cli.specs.Outside.Sink.{TellsPut};
+
+use crate::outside::sink::{Sink, SinkFailed};
+use std::io::Write;
+
+/// Pieces that go to a writer. It tells what the writer tells. A write that takes none of a piece that isn't empty fails.
+#[derive(Drop)]
+pub struct StdSink<W: Write + Drop> {
+    writer: W,
+    faults: u64,
+}
+
+impl<W: Write + Drop> StdSink<W> {
+    /// A sink over the writer.
+    pub fn new(writer: W) -> StdSink<W>
+        ensures sound { ⟦<StdSink<W> as Sink>⟧.faults result ≡ 0 }
+        ensures writer { result.writer ≡ writer }
+    {
+        StdSink { writer, faults: 0 }
+    }
+
+    /// Gives the writer back.
+    pub fn into_writer(self) -> W
+        ensures { result ≡ self.writer }
+    {
+        self.writer
+    }
+
+    /// How many writes have failed.
+    pub fn faults(&self) -> u64
+        ensures { result ≡ ⟦<StdSink<W> as Sink>⟧.faults self.now }
+    {
+        self.faults
+    }
+}
+
+impl<W: Write + Drop> Sink for StdSink<W> {
+    ghost written = { λ s. W.contents s.writer };
+
+    ghost faults = { λ s. s.faults };
+
+    ghost takes = { λ s piece r t. TellsPut r piece (W.contents s.writer) (W.contents t.writer) s.faults t.faults };
+
+    ghost tells = { λ s piece r t h. h };
+
+    fn put(&mut self, piece: &[u8]) -> Result<(), SinkFailed> {
+        let mut rest = piece;
+        while !rest.is_empty() {
+            match self.writer.write(rest) {
+                Ok(count) if count > 0 => rest = &rest[count..],
+                _ => {
+                    self.faults = self.faults.saturating_add(1);
+                    return Err(SinkFailed);
+                }
+            }
+        }
+        Ok(())
+    }
+}

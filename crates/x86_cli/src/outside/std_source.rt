@@ -1,0 +1,114 @@
+//! A source over a reader.
+
+ghost use Rattle.std.specs.Prelude.{◌≡◌, ◌≤◌, ◌<◌, slice_range};
+ghost use Rattle.std.specs.Io.KnownBytes.{prepend_known};
+ghost use Rattle.x86_cli.specs.Outside.Source.{TellsGot};
+ghost use Rattle.x86_cli.specs.Outside.StdSource.{TellsRefill};
+
+use crate::outside::source::{Got, Source};
+use std::io::Read;
+
+/// How many bytes one read may give.
+const BUFFER: usize = 65536;
+
+/// The bytes of a reader, one read a buffer. It tells what the reader tells, behind what is buffered. A read that gives no byte is the end.
+#[derive(Drop)]
+pub struct StdSource<R: Read + Drop> {
+    reader: R,
+    buffer: [u8; BUFFER],
+    place: usize,
+    filled: usize,
+    faults: u64,
+    ghost in_range: { filled ≤ 65536 },
+    ghost in_order: { place ≤ filled },
+}
+
+impl<R: Read + Drop> StdSource<R> {
+    /// A source over the reader, with nothing read.
+    pub fn new(reader: R) -> StdSource<R>
+        ensures bytes { ⟦<StdSource<R> as Source>⟧.left result ≡ R.remaining reader }
+        ensures sound { ⟦<StdSource<R> as Source>⟧.faults result ≡ 0 }
+    {
+        StdSource {
+            reader,
+            buffer: [0; BUFFER],
+            place: 0,
+            filled: 0,
+            faults: 0,
+        }
+    }
+
+    /// How many reads have failed.
+    pub fn faults(&self) -> u64
+        ensures { result ≡ ⟦<StdSource<R> as Source>⟧.faults self.now }
+    {
+        self.faults
+    }
+}
+
+/// What a read gave.
+#[derive(Clone, Copy, Drop)]
+enum Refill {
+    Bytes,
+    Nothing,
+    Fault,
+}
+
+impl<R: Read + Drop> StdSource<R> {
+    /// Reads on, where no byte of the buffer is left.
+    #[cold]
+    #[inline(never)]
+    fn refill(&mut self) -> Refill
+        requires { self.old.place ≡ self.old.filled }
+        ensures told { TellsRefill result (prepend_known (slice_range self.old.buffer self.old.place self.old.filled) (R.remaining self.old.reader))
+            (prepend_known (slice_range self.new.buffer self.new.place self.new.filled) (R.remaining self.new.reader)) self.old.faults self.new.faults }
+        ensures some { result ≡ Refill.Bytes → self.new.place < self.new.filled }
+    {
+        match self.reader.read(&mut self.buffer) {
+            Ok(0) => Refill::Nothing,
+            Ok(count) => {
+                self.place = 0;
+                self.filled = count;
+                Refill::Bytes
+            }
+            Err(_) => {
+                self.faults = self.faults.saturating_add(1);
+                Refill::Fault
+            }
+        }
+    }
+
+    /// Takes the first byte that is buffered.
+    #[inline(always)]
+    fn take(&mut self) -> u8
+        requires { self.old.place < self.old.filled }
+        ensures { TellsGot (Got.Byte result) (prepend_known (slice_range self.old.buffer self.old.place self.old.filled) (R.remaining self.old.reader))
+            (prepend_known (slice_range self.new.buffer self.new.place self.new.filled) (R.remaining self.new.reader)) self.old.faults self.new.faults }
+    {
+        let byte = self.buffer[self.place];
+        self.place += 1;
+        byte
+    }
+}
+
+impl<R: Read + Drop> Source for StdSource<R> {
+    ghost left = { λ s. prepend_known (slice_range s.buffer s.place s.filled) (R.remaining s.reader) };
+
+    ghost faults = { λ s. s.faults };
+
+    ghost gives = { λ s g t. TellsGot g (prepend_known (slice_range s.buffer s.place s.filled) (R.remaining s.reader)) (prepend_known (slice_range t.buffer t.place t.filled) (R.remaining t.reader)) s.faults t.faults };
+
+    ghost tells = { λ s g t h. h };
+
+    #[inline(always)]
+    fn next(&mut self) -> Got {
+        if self.place == self.filled {
+            match self.refill() {
+                Refill::Bytes => {}
+                Refill::Nothing => return Got::End,
+                Refill::Fault => return Got::Failed,
+            }
+        }
+        Got::Byte(self.take())
+    }
+}

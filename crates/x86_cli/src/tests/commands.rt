@@ -1,0 +1,153 @@
+//! Worked runs of the commands beside `list`.
+
+use crate::commands::command::{TARGETS_MAX, USAGE, run};
+use crate::listings::status::Status;
+use crate::outside::array_sink::ArraySink;
+use crate::outside::sound_source::SoundSource;
+use crate::tests::support::{Repeated, ends_with, is_usage, runs, words};
+
+#[test]
+fn words_matched_whole(rt: HostRuntime) {
+    assert!(&rt; is_usage(rt.alloc(), &[]));
+    assert!(&rt; is_usage(rt.alloc(), &["List"]));
+    assert!(&rt; is_usage(rt.alloc(), &["list", "strict"]));
+    assert!(&rt; is_usage(rt.alloc(), &["list", "--strict", ""]));
+    assert!(&rt; is_usage(rt.alloc(), &["--strict", "list"]));
+    assert!(&rt; USAGE == "usage: list [--strict] | make N | fields | tighten | sweep | targets");
+}
+
+#[test]
+fn sweeps(rt: HostRuntime) {
+    let written: &[u8] =
+        b"0 error: invalid opcode\n1 2 ADD eax, ebx m4\n3 error: exhausted input\n";
+    assert!(&rt;
+        runs(
+            rt.alloc(),
+            &["sweep"],
+            b"06 01 d8 01",
+            &[],
+            written,
+            Status::Done
+        )
+    );
+    let written: &[u8] = b"0 2 ADD eax, ebx m4\ntext error at 7\n";
+    assert!(&rt;
+        runs(
+            rt.alloc(),
+            &["sweep"],
+            b"01 d8 4",
+            &[],
+            written,
+            Status::BadText
+        )
+    );
+    assert!(&rt; runs(rt.alloc(), &["sweep"], b"", &[], b"", Status::Done));
+}
+
+#[test]
+fn fields(rt: HostRuntime) {
+    let worked: [(&str, &str, Status); 3] = [
+        (
+            "48 03 44 25 00 90",
+            "0 5 48 - 03 44 25 00 - -\n5 1 - - 90 - - - - -\n",
+            Status::Done,
+        ),
+        (
+            "48 a1 88 77 66 55 44 33 22 11",
+            "0 10 48 - a1 - - - 8877665544332211 -\n",
+            Status::Done,
+        ),
+        (
+            "0f 0f c1 9e 06",
+            "0 4 - 0f 0f c1 - - - 9e\n4 error: invalid opcode\n",
+            Status::Refused,
+        ),
+    ];
+    for (text, written, status) in worked {
+        let (text, written) = (text.as_bytes(), written.as_bytes());
+        assert!(&rt; runs(rt.alloc(), &["fields"], text, &[], written, status));
+    }
+    let (text, one): (&[u8], &[u8]) = (b"90 90", b"0 1 - - 90 - - - - -\nread fault\n");
+    assert!(&rt; runs(rt.alloc(), &["fields"], text, &[3], one, Status::ReadFault));
+}
+
+#[test]
+fn tighten(rt: HostRuntime) {
+    let worked: [(&str, &str, Status); 3] = [
+        (
+            "48 8b 84 25 00 00 00 00 8b c0",
+            "0 8 4\n8 2 2\n",
+            Status::Done,
+        ),
+        (
+            "8b 05 00 00 00 00 8b 04 45 00 00 00 00",
+            "0 6 6\n6 7 3\n",
+            Status::Done,
+        ),
+        ("06", "0 error: invalid opcode\n", Status::Refused),
+    ];
+    for (text, written, status) in worked {
+        let (text, written) = (text.as_bytes(), written.as_bytes());
+        assert!(&rt; runs(rt.alloc(), &["tighten"], text, &[], written, status));
+    }
+}
+
+#[test]
+fn targets(rt: HostRuntime) {
+    let worked: [(&str, &str); 4] = [
+        ("eb fe", "0\n"),
+        ("74 01 06 eb fb 90", "0\n3\n"),
+        ("eb ff 90", ""),
+        ("eb 7f", ""),
+    ];
+    for (text, written) in worked {
+        let (text, written) = (text.as_bytes(), written.as_bytes());
+        assert!(&rt; runs(rt.alloc(), &["targets"], text, &[], written, Status::Done));
+    }
+    let (text, written): (&[u8], &[u8]) = (b"eb fe 9", b"0\ntext error at 7\n");
+    assert!(&rt;
+        runs(
+            rt.alloc(),
+            &["targets"],
+            text,
+            &[],
+            written,
+            Status::BadText
+        )
+    );
+}
+
+#[test]
+fn targets_of_long_texts(rt: HostRuntime) {
+    assert!(&rt; TARGETS_MAX == 16384);
+    let blanks = Repeated::new(b" ", 16385, b"");
+    let line = b"text too long\n";
+    assert!(&rt; ends_with(rt.alloc(), "targets", blanks, 1, line, Status::TooLarge));
+    let pairs = Repeated::new(b"90", 8190, b"ebfe");
+    assert!(&rt; ends_with(rt.alloc(), "targets", pairs, 1, b"8190\n", Status::Done));
+    let pairs = Repeated::new(b"90", 8190, b"ebfe9");
+    assert!(&rt; ends_with(rt.alloc(), "targets", pairs, 2, line, Status::TooLarge));
+}
+
+#[test]
+fn failing_targets(rt: HostRuntime) {
+    let (text, one): (&[u8], &[u8]) = (b"eb fe", b"0\nread fault\n");
+    assert!(&rt; runs(rt.alloc(), &["targets"], text, &[5], one, Status::ReadFault));
+    assert!(&rt;
+        runs(
+            rt.alloc(),
+            &["targets"],
+            text,
+            &[4],
+            b"read fault\n",
+            Status::ReadFault
+        )
+    );
+    let Ok(words) = words(rt.alloc(), &["targets"]) else {
+        return;
+    };
+    let mut sink = ArraySink::<64>::new(1);
+    let mut source = SoundSource::new(b"74 01 06 eb fb 90");
+    assert!(&rt; run(words.as_slice(), &mut source, &mut sink) == Status::WriteFault);
+    assert!(&rt; sink.written() == b"0\n".as_slice());
+}

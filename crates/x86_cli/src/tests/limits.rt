@@ -1,0 +1,68 @@
+//! Runs of `list` over long texts.
+
+use crate::commands::command::TEXT_MAX;
+use crate::listings::status::Status;
+use crate::tests::support::{Repeated, ends_with};
+
+#[test]
+fn short_and_long_texts(rt: HostRuntime) {
+    let blanks = Repeated::new(b" ", 4096, b"");
+    assert!(&rt; ends_with(rt.alloc(), "list", blanks, 0, b"", Status::Done));
+    let blanks = Repeated::new(b" ", 4097, b"");
+    assert!(&rt; ends_with(rt.alloc(), "list", blanks, 0, b"", Status::Done));
+    let pairs = Repeated::new(b"01 d8 ", 10000, b"");
+    let last = b"19998 2 ADD eax, ebx m4\n";
+    assert!(&rt; ends_with(rt.alloc(), "list", pairs, 10000, last, Status::Done));
+}
+
+#[test]
+fn blanks_up_to_the_limit(rt: HostRuntime) {
+    assert!(&rt; TEXT_MAX == 67108864);
+    let blanks = Repeated::new(b" ", 67108864, b"");
+    assert!(&rt; ends_with(rt.alloc(), "list", blanks, 0, b"", Status::Done));
+}
+
+#[test]
+fn one_blank_past_the_limit(rt: HostRuntime) {
+    let blanks = Repeated::new(b" ", 67108865, b"");
+    assert!(&rt;
+        ends_with(
+            rt.alloc(),
+            "list",
+            blanks,
+            1,
+            b"text too long\n",
+            Status::TooLarge
+        )
+    );
+}
+
+#[test]
+fn pairs_up_to_the_limit(rt: HostRuntime) {
+    let text = Repeated::new(b" ", 67108860, b"01d8");
+    assert!(&rt;
+        ends_with(
+            rt.alloc(),
+            "list",
+            text,
+            1,
+            b"0 2 ADD eax, ebx m4\n",
+            Status::Done
+        )
+    );
+}
+
+#[test]
+fn half_a_pair_past_the_limit(rt: HostRuntime) {
+    let text = Repeated::new(b" ", 67108861, b"01d8");
+    assert!(&rt;
+        ends_with(
+            rt.alloc(),
+            "list",
+            text,
+            1,
+            b"text too long\n",
+            Status::TooLarge
+        )
+    );
+}

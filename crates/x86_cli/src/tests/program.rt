@@ -1,0 +1,209 @@
+//! The whole program, over readers and writers that are slow, that are short, and that fail.
+
+use crate::commands::program::listed;
+use crate::listings::status::Status;
+use crate::tests::support::words;
+use std::alloc::{AllocError, Global};
+use std::io;
+use std::io::{ErrorKind, Read, Write};
+
+/// Gives one byte a read, and fails at the read with a number, from 0.
+#[derive(Drop)]
+struct OneByOne<'a> {
+    bytes: &'a [u8],
+    read: u64,
+    fails: u64,
+    error: ErrorKind,
+}
+
+impl Read for OneByOne<'_> {
+    fn read(&mut self, buf: &mut [u8]) -> io::Result<usize> {
+        let read = self.read;
+        self.read = read.saturating_add(1);
+        if read == self.fails {
+            return Err(io::Error::from(self.error));
+        }
+        match self.bytes.split_first() {
+            Some((first, rest)) if !buf.is_empty() => {
+                buf[0] = *first;
+                self.bytes = rest;
+                Ok(1)
+            }
+            _ => Ok(0),
+        }
+    }
+}
+
+/// Keeps what it takes, at most so many bytes a write. Each third write is interrupted, and a flush fails if it is to.
+#[derive(Drop)]
+struct Short {
+    kept: Vec<u8>,
+    most: usize,
+    write: u64,
+    flushes: bool,
+}
+
+impl Write for Short {
+    fn write(&mut self, buf: &[u8]) -> io::Result<usize> {
+        self.write = self.write.saturating_add(1);
+        if self.write % 3 == 0 {
+            return Err(io::Error::from(ErrorKind::Interrupted));
+        }
+        let count = buf.len().min(self.most);
+        self.kept.write(&buf[..count])
+    }
+
+    fn flush(&mut self) -> io::Result<()> {
+        if self.flushes {
+            Ok(())
+        } else {
+            Err(io::Error::from(ErrorKind::Other))
+        }
+    }
+}
+
+/// So many instructions of two bytes, and then of one: their text, and their listing.
+fn long_text(alloc: Global, pairs: u64, singles: u64) -> Result<(Vec<u8>, String), AllocError> {
+    let mut text = Vec::new(alloc);
+    let mut listing = String::new(alloc);
+    for i in 0..pairs {
+        text.extend_from_slice(b"01 d8 ")?;
+        let line = format!(in alloc; "{} 2 ADD eax, ebx m4\n", i.wrapping_mul(2))?;
+        listing.push_str(line.as_str())?;
+    }
+    for i in 0..singles {
+        text.extend_from_slice(b"90\n")?;
+        let place = pairs.wrapping_mul(2).wrapping_add(i);
+        let line = format!(in alloc; "{place} 1 NOP m0\n")?;
+        listing.push_str(line.as_str())?;
+    }
+    Ok((text, listing))
+}
+
+/// Whether a long text is listed whole, byte for byte, in writes of at most so many bytes.
+fn lists_whole(alloc: Global, pairs: u64, singles: u64, most: usize) -> bool {
+    let (Ok(words), Ok((text, listing))) = (
+        words(alloc, &["list"]),
+        long_text(alloc, pairs, singles),
+    ) else {
+        return true;
+    };
+    let writer = Short {
+        kept: Vec::new(alloc),
+        most,
+        write: 0,
+        flushes: true,
+    };
+    let (status, writer) = listed(words.as_slice(), text.as_slice(), writer);
+    status == Status::Done && writer.kept.as_slice() == listing.as_bytes()
+}
+
+#[test]
+fn long_outputs(rt: HostRuntime) {
+    // 65,536 bytes of output end at the last line; the next of these is a line longer.
+    assert!(&rt; lists_whole(rt.alloc(), 4, 4753, usize::MAX));
+    assert!(&rt; lists_whole(rt.alloc(), 4, 4754, usize::MAX));
+    assert!(&rt; lists_whole(rt.alloc(), 0, 24000, 1000));
+    assert!(&rt; lists_whole(rt.alloc(), 0, 24000, 65535));
+}
+
+/// Whether the listing of a text, whose read with a number fails, is written and ends so.
+fn fails_at(alloc: Global, fails: u64, error: ErrorKind, written: &[u8], status: Status) -> bool {
+    let Ok(words) = words(alloc, &["list"]) else {
+        return true;
+    };
+    let reader = OneByOne {
+        bytes: b"90 90",
+        read: 0,
+        fails,
+        error,
+    };
+    let (ended, writer) = listed(words.as_slice(), reader, Vec::new(alloc));
+    ended == status && writer.as_slice() == written
+}
+
+#[test]
+fn readers_that_fail(rt: HostRuntime) {
+    for fails in [0, 1] {
+        let written = b"read fault\n";
+        assert!(&rt;
+            fails_at(
+                rt.alloc(),
+                fails,
+                ErrorKind::Other,
+                written,
+                Status::ReadFault
+            )
+        );
+    }
+    for fails in [2, 3, 4] {
+        let written = b"0 1 NOP m0\nread fault\n";
+        assert!(&rt;
+            fails_at(
+                rt.alloc(),
+                fails,
+                ErrorKind::Other,
+                written,
+                Status::ReadFault
+            )
+        );
+    }
+    let written = b"0 1 NOP m0\n1 1 NOP m0\nread fault\n";
+    assert!(&rt; fails_at(rt.alloc(), 5, ErrorKind::Other, written, Status::ReadFault));
+    let written = b"0 1 NOP m0\n1 1 NOP m0\n";
+    assert!(&rt; fails_at(rt.alloc(), 6, ErrorKind::Other, written, Status::Done));
+    // An interrupted read is a fault like any other.
+    let written = b"read fault\n";
+    assert!(&rt;
+        fails_at(
+            rt.alloc(),
+            0,
+            ErrorKind::Interrupted,
+            written,
+            Status::ReadFault
+        )
+    );
+}
+
+#[test]
+fn flushes_that_fail(rt: HostRuntime) {
+    let Ok(words) = words(rt.alloc(), &["list"]) else {
+        return;
+    };
+    let writer = Short {
+        kept: Vec::new(rt.alloc()),
+        most: usize::MAX,
+        write: 0,
+        flushes: false,
+    };
+    let text: &[u8] = b"90";
+    let (status, writer) = listed(words.as_slice(), text, writer);
+    assert!(&rt; status == Status::WriteFault && status.code() == 6);
+    assert!(&rt; writer.kept.as_slice() == b"0 1 NOP m0\n".as_slice());
+}
+
+/// Whether the words over a text write this and end with this code.
+fn ends(alloc: Global, texts: &[&str], text: &[u8], written: &[u8], code: u8) -> bool {
+    let Ok(words) = words(alloc, texts) else {
+        return true;
+    };
+    let (status, writer) = listed(words.as_slice(), text, Vec::new(alloc));
+    status.code() == code && writer.as_slice() == written
+}
+
+#[test]
+fn exit_codes(rt: HostRuntime) {
+    assert!(&rt; ends(rt.alloc(), &[], b"90", b"", 2));
+    assert!(&rt; ends(rt.alloc(), &["list"], b"90", b"0 1 NOP m0\n", 0));
+    let refused = b"0 1 NOP m0\n1 error: invalid opcode\n";
+    assert!(&rt; ends(rt.alloc(), &["list"], b"90 06 90", refused, 3));
+    assert!(&rt;
+        ends(
+            rt.alloc(),
+            &["list"],
+            b"90 4",
+            b"0 1 NOP m0\ntext error at 4\n",
+            4
+        )
+    );
+}

@@ -1,0 +1,142 @@
+//! What tests of runs have in common.
+
+ghost use Rattle.std.specs.Prelude.{None};
+ghost use Rattle.x86_cli.specs.Outside.Source.{TellsGot};
+ghost use Rattle.x86_cli.specs.Outside.Sink.{TellsPut};
+
+use crate::commands::command::run;
+use crate::listings::status::Status;
+use crate::outside::array_sink::ArraySink;
+use crate::outside::sink::{Sink, SinkFailed};
+use crate::outside::slice_source::SliceSource;
+use crate::outside::source::{Got, Source};
+use std::alloc::{AllocError, Global};
+
+pub fn words(alloc: Global, texts: &[&str]) -> Result<Vec<String>, AllocError> {
+    let mut words = Vec::new(alloc);
+    for text in texts {
+        words.push(String::from_str(alloc, text)?)?;
+    }
+    Ok(words)
+}
+
+/// Whether a run over the text, some of whose calls fail, writes this and ends so. The words are collected before the
+/// run, so a refused allocation is told here, and never changes an answer.
+pub fn runs(
+    alloc: Global,
+    texts: &[&str],
+    text: &[u8],
+    fails: &[u64],
+    written: &[u8],
+    status: Status,
+) -> bool {
+    let Ok(words) = words(alloc, texts) else {
+        return true;
+    };
+    let mut source = SliceSource::new(text, fails);
+    let mut sink = ArraySink::<256>::new(u64::MAX);
+    run(words.as_slice(), &mut source, &mut sink) == status && sink.written() == written
+}
+
+pub fn lists(alloc: Global, text: &[u8], written: &[u8], status: Status) -> bool {
+    runs(alloc, &["list"], text, &[], written, status)
+}
+
+pub fn is_usage(alloc: Global, texts: &[&str]) -> bool {
+    runs(alloc, texts, b"01 d8", &[], b"", Status::Usage)
+}
+
+/// So many times a unit, then a tail.
+#[derive(Drop)]
+pub struct Repeated<'a> {
+    unit: &'a [u8],
+    left: u64,
+    place: usize,
+    tail: &'a [u8],
+}
+
+impl<'a> Repeated<'a> {
+    pub fn new(unit: &'a [u8], times: u64, tail: &'a [u8]) -> Repeated<'a> {
+        Repeated {
+            unit,
+            left: times,
+            place: 0,
+            tail,
+        }
+    }
+}
+
+impl Source for Repeated<'_> {
+    ghost left = { λ s. None };
+
+    ghost faults = { λ s. 0 };
+
+    ghost gives = { λ s g t. TellsGot g None None 0 0 };
+
+    ghost tells = { λ s g t h. h };
+
+    fn next(&mut self) -> Got {
+        if self.left > 0 && self.place < self.unit.len() {
+            let byte = self.unit[self.place];
+            self.place += 1;
+            if self.place == self.unit.len() {
+                self.place = 0;
+                self.left -= 1;
+            }
+            return Got::Byte(byte);
+        }
+        match self.tail.split_first() {
+            Some((first, rest)) => {
+                self.tail = rest;
+                Got::Byte(*first)
+            }
+            None => Got::End,
+        }
+    }
+}
+
+/// Counts the pieces, and compares each with what is wanted of the last.
+#[derive(Drop)]
+struct LastPiece<'a> {
+    wanted: &'a [u8],
+    is_wanted: bool,
+    pieces: u64,
+}
+
+impl Sink for LastPiece<'_> {
+    ghost written = { λ s. None };
+
+    ghost faults = { λ s. 0 };
+
+    ghost takes = { λ s piece r t. TellsPut r piece None None 0 0 };
+
+    ghost tells = { λ s piece r t h. h };
+
+    fn put(&mut self, piece: &[u8]) -> Result<(), SinkFailed> {
+        self.is_wanted = piece == self.wanted;
+        self.pieces = self.pieces.saturating_add(1);
+        Ok(())
+    }
+}
+
+/// Whether a run of a command makes so many calls of `put`, the last of which writes this, and ends so.
+pub fn ends_with(
+    alloc: Global,
+    command: &str,
+    mut source: Repeated<'_>,
+    pieces: u64,
+    last: &[u8],
+    status: Status,
+) -> bool {
+    let Ok(words) = words(alloc, &[command]) else {
+        return true;
+    };
+    let mut sink = LastPiece {
+        wanted: last,
+        is_wanted: pieces == 0,
+        pieces: 0,
+    };
+    run(words.as_slice(), &mut source, &mut sink) == status
+        && sink.pieces == pieces
+        && sink.is_wanted
+}

@@ -1,0 +1,139 @@
+//! Hex text, read byte by byte.
+
+ghost use Rattle.std.specs.Prelude.{◌≡◌, ℕ, ◌+◌, ◌<◌, ◌^◌, List, [], ◌∷◌, Option, true, false};
+ghost use Rattle.x86_cli.specs.Text.{is_blank, value_of};
+ghost use Rattle.x86_cli.specs.Text.Reading.{Reads, UsesRoom};
+
+use crate::outside::source::{Got, Source};
+use crate::text::kinds::{Kind, kind_of};
+use std::marker::Model;
+
+/// How a text ends.
+#[derive(Clone, Copy, PartialEq, Eq, Debug, Drop)]
+pub enum Ending {
+    Clean,
+    Bad(u64),
+    Large,
+    Fault,
+}
+
+/// The next byte of a text's image, or the text's end.
+#[derive(Clone, Copy, PartialEq, Eq, Debug, Drop)]
+pub enum Piece {
+    Byte(u8),
+    Stopped(Ending),
+}
+
+/// Where in a text the reader stands, and the place up to which it may take bytes. What contracts see of it is its place and how many bytes
+/// it may still take.
+#[derive(Clone, Copy, Drop)]
+pub struct TextReader {
+    place: u64,
+    end: u64,
+}
+
+impl Model for TextReader {
+    ghost use Rattle.std.specs.Prelude.{ℕ, ◌≤◌, ◌+◌, ◌-◌};
+    ghost use Rattle.std.proofs.Common.{arith, ap};
+    ghost use Rattle.x86_cli.specs.Text.Reader.{Reader};
+
+    ghost Value = { Reader };
+
+    ghost view = { λ r. record { place = r.place; room = r.end - r.place } };
+
+    ghost invariant = { λ r. r.place ≤ r.end };
+
+    ghost inverse = { λ s. record { place = s.place; end = s.place + s.room } };
+
+    ghost inverse_ok = { λ r h. ap (λ (e : ℕ). record { place = r.place; end = e }) (omega (arith, h)) };
+}
+
+impl TextReader {
+    /// A reader of a text of at most `max` bytes.
+    pub fn new(max: u64) -> TextReader
+        ensures place { result.place ≡ 0 }
+        ensures room { result.room ≡ max }
+    {
+        TextReader { place: 0, end: max }
+    }
+
+    #[inline(always)]
+    fn advance(&mut self)
+        requires { 0 < self.old.room }
+        ensures place { self.new.place ≡ self.old.place + 1 }
+        ensures room { self.new.room + 1 ≡ self.old.room }
+    {
+        self.place += 1;
+    }
+
+    /// Whether no further byte may be taken.
+    #[inline(always)]
+    fn is_at_end(&self) -> bool
+        ensures at_end { result ≡ true → self.now.room ≡ 0 }
+        ensures before { result ≡ false → 0 < self.now.room }
+    {
+        self.place == self.end
+    }
+
+    #[inline(always)]
+    fn place(&self) -> u64
+        ensures { result ≡ self.now.place }
+    {
+        self.place
+    }
+
+    /// Reads on behind the first digit of a pair.
+    #[inline(always)]
+    fn second<S: Source>(&mut self, source: &mut S, high: u8) -> Piece
+        requires { high < 16 }
+        // Behind a digit x at the place before, it tells the text of x and what follows.
+        ensures reads { (place room x : ℕ) (before : S) → self.old.place ≡ place + 1 → room ≡ self.old.room + 1
+            → is_blank x ≡ false → value_of x ≡ Some high → S.gives before (Got.Byte x) source.old
+            → Reads S.gives result place room self.new.place self.new.room before source.new }
+        ensures uses { UsesRoom result (self.old.room + 1) self.new.room }
+    {
+        match source.next() {
+            Got::End => Piece::Stopped(Ending::Bad(self.place())),
+            Got::Failed => Piece::Stopped(Ending::Fault),
+            Got::Byte(byte) => {
+                if self.is_at_end() {
+                    return Piece::Stopped(Ending::Large);
+                }
+                match kind_of(byte) {
+                    Kind::Digit(low) => {
+                        self.advance();
+                        Piece::Byte(16 * high + low)
+                    }
+                    Kind::Blank | Kind::Other => Piece::Stopped(Ending::Bad(self.place())),
+                }
+            }
+        }
+    }
+
+    /// Takes bytes up to the next pair, or the end of the text.
+    #[inline(always)]
+    pub fn next<S: Source>(&mut self, source: &mut S) -> Piece
+        ensures reads { Reads S.gives result self.old.place self.old.room self.new.place self.new.room source.old source.new }
+        ensures uses { UsesRoom result self.old.room self.new.room }
+    {
+        loop {
+            match source.next() {
+                Got::End => return Piece::Stopped(Ending::Clean),
+                Got::Failed => return Piece::Stopped(Ending::Fault),
+                Got::Byte(byte) => {
+                    if self.is_at_end() {
+                        return Piece::Stopped(Ending::Large);
+                    }
+                    match kind_of(byte) {
+                        Kind::Digit(high) => {
+                            self.advance();
+                            return self.second(source, high);
+                        }
+                        Kind::Blank => self.advance(),
+                        Kind::Other => return Piece::Stopped(Ending::Bad(self.place())),
+                    }
+                }
+            }
+        }
+    }
+}

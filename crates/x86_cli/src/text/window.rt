@@ -1,0 +1,150 @@
+//! The next bytes of an image.
+
+ghost use Rattle.std.specs.Prelude.{◌≡◌, ℕ, ◌+◌, ◌<◌, ◌≤◌, List, [], length, take, drop, None, Some, MatchOption};
+ghost use Rattle.arrayvec.specs.ArrayVec.{array_vec_len};
+ghost use Rattle.x86_cli.specs.Outside.Stop.{Stop};
+ghost use Rattle.x86_decode.specs.declared.instructions.Instruction.{Instruction};
+ghost use Rattle.x86_decode.specs.Instruction.{holding};
+ghost use Rattle.x86_cli.specs.Listings.Listing.{front_of, judged, sure_of};
+ghost use Rattle.x86_cli.specs.Text.Window.{rest_of, front_with, Fills, Shows};
+
+use crate::laws::decoder_laws;
+use crate::outside::source::Source;
+use crate::text::held::Held;
+use crate::text::reader::{Ending, Piece, TextReader};
+use x86_decode::{InstDecoder, Instruction};
+use x86_fields::DecodeError;
+
+/// What stands at the front of an image. In contracts `I` is the instruction; in code it is `()`, and the instruction stands beside it.
+#[derive(Clone, Copy, Drop)]
+pub enum Front<I> {
+    Whole(I),
+    Refused(DecodeError),
+    Ended(Ending),
+}
+
+fn sure(answer: Result<(), DecodeError>) -> Front<()>
+    ensures { (i : Instruction) → front_with i result ≡ sure_of (holding i answer) }
+{
+    match answer {
+        Ok(()) => Front::Whole(()),
+        Err(error) => Front::Refused(error),
+    }
+}
+
+fn judge(answer: Result<(), DecodeError>, ending: Ending) -> Front<()>
+    ensures { (i : Instruction) → front_with i result ≡ judged (holding i answer) ending }
+{
+    match answer {
+        Ok(()) => Front::Whole(()),
+        Err(DecodeError::ExhaustedInput) => match ending {
+            Ending::Clean => Front::Refused(DecodeError::ExhaustedInput),
+            Ending::Bad(place) => Front::Ended(Ending::Bad(place)),
+            Ending::Large => Front::Ended(Ending::Large),
+            Ending::Fault => Front::Ended(Ending::Fault),
+        },
+        Err(error) => Front::Refused(error),
+    }
+}
+
+/// The next bytes of an image, and the reader of what follows them.
+#[derive(Drop)]
+pub struct Window {
+    pub bytes: Held,
+    pub reader: TextReader,
+    pub ended: Option<Ending>,
+}
+
+impl Window {
+    pub fn new(max: u64) -> Window
+        ensures bytes { result.bytes.items ≡ [] }
+        ensures place { result.reader.place ≡ 0 }
+        ensures room { result.reader.room ≡ max }
+        ensures ended { result.ended ≡ None }
+    {
+        Window {
+            bytes: Held::new(),
+            reader: TextReader::new(max),
+            ended: None,
+        }
+    }
+
+    /// Takes bytes of the image until the window is full or the text has ended.
+    pub fn fill<S: Source>(&mut self, source: &mut S)
+        requires { self.old.ended ≡ None }
+        ensures fills { Fills S.gives (rest_of None self.old.bytes.items self.old.reader.place self.old.reader.room)
+            self.new.ended self.new.bytes.items self.new.reader.place self.new.reader.room source.old source.new }
+        ensures few { array_vec_len self.new.bytes ≤ 15 }
+        ensures full { self.new.ended ≡ None → array_vec_len self.new.bytes ≡ 15 }
+        ensures uses { array_vec_len self.new.bytes + self.new.reader.room ≤ array_vec_len self.old.bytes + self.old.reader.room }
+    {
+        // The reader is a local value meanwhile, so that its place need not go to memory at each byte.
+        let mut reader = self.reader;
+        while !self.bytes.is_full() {
+            match reader.next(source) {
+                Piece::Byte(byte) => self.bytes.push(byte),
+                Piece::Stopped(ending) => {
+                    self.reader = reader;
+                    self.ended = Some(ending);
+                    return;
+                }
+            }
+        }
+        self.reader = reader;
+    }
+
+    /// The same, where the text may have ended.
+    pub fn refill<S: Source>(&mut self, source: &mut S)
+        ensures cases { MatchOption self.old.ended
+            (Fills S.gives (rest_of None self.old.bytes.items self.old.reader.place self.old.reader.room)
+            self.new.ended self.new.bytes.items self.new.reader.place self.new.reader.room source.old source.new)
+            (λ e. (self.new ≡ self.old) × (source.new ≡ source.old)) }
+        ensures full { self.new.ended ≡ None → array_vec_len self.new.bytes ≡ 15 }
+        ensures few { array_vec_len self.old.bytes ≤ 15 → array_vec_len self.new.bytes ≤ 15 }
+        ensures uses { array_vec_len self.new.bytes + self.new.reader.room ≤ array_vec_len self.old.bytes + self.old.reader.room }
+    {
+        if self.ended.is_none() {
+            self.fill(source);
+        }
+    }
+
+    /// What stands at the front of the image that is left. Where it is an instruction, that is written to the one given.
+    pub fn front(&self, decoder: &InstDecoder, inst: &mut Instruction) -> Front<()>
+        requires { self.now.ended ≡ None → array_vec_len self.now.bytes ≡ 15 }
+        ensures rest { (xs : List ℕ) (stop : Stop) →
+            let rest = rest_of self.now.ended self.now.bytes.items self.now.reader.place self.now.reader.room xs stop in
+            front_of decoder.now.strict rest.image rest.ending ≡ front_with inst.new result }
+        ensures shows { Shows decoder.now.strict (front_with inst.new result) self.now.ended self.now.bytes.items }
+    {
+        decoder_laws();
+        let answer = decoder.decode_slice_into(inst, self.bytes.as_slice());
+        match self.ended {
+            None => sure(answer),
+            Some(ending) => {
+                if self.bytes.is_empty() {
+                    Front::Ended(ending)
+                } else {
+                    judge(answer, ending)
+                }
+            }
+        }
+    }
+
+    /// The first bytes.
+    pub fn first(&self, count: usize) -> &[u8]
+        requires { count ≤ array_vec_len self.now.bytes }
+        ensures { result.now ≡ take count self.now.bytes.items }
+    {
+        &self.bytes.as_slice()[..count]
+    }
+
+    /// Lets the first bytes go.
+    pub fn leave(&mut self, count: usize)
+        requires { count ≤ array_vec_len self.old.bytes }
+        ensures bytes { self.new.bytes.items ≡ drop count self.old.bytes.items }
+        ensures reader { self.new.reader ≡ self.old.reader }
+        ensures ended { self.new.ended ≡ self.old.ended }
+    {
+        self.bytes.leave(count);
+    }
+}

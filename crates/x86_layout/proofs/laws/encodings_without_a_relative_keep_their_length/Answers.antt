@@ -1,0 +1,27 @@
+use Rattle.std.proofs.Common.{◌≡◌, ℕ, Bool, true, false, List, length, refl}
+use Rattle.x86_operands.specs.declared.reader.Reading.{Reading}
+use Rattle.x86_operands.specs.Plans.{is_memory}
+use Rattle.x86_layout.specs.declared.tightening.TightenError.{TightenError}
+use Rattle.x86_layout.specs.declared.tightening.TightenError.TheVariants.{Refused, NoMemoryForm, IpRelative}
+use Rattle.x86_layout.specs.Least.{least_in}
+use Rattle.x86_layout.specs.Parts.{Encoding}
+use Rattle.x86_layout.specs.Places.{is_ip_relative}
+use Rattle.x86_layout.specs.Tighten.{HasMemoryOperand, HasNoRelative}
+use Rattle.x86_layout.proofs.LeastLaws.{least_without, least_at_ip}
+use Rattle.x86_layout.proofs.RelativeLaws.{Byte}
+use Rattle.x86_layout.proofs.TightenLaws.{operand_form, some_memory}
+use Rattle.x86_layout.proofs.laws.encodings_without_a_relative_keep_their_length.Goals as goal
+
+module _ (strict : Bool) (s : List ℕ) (a : Reading) (v : Encoding strict s a) where
+  -- a memory form of ModRM is an operand, so where there is no such operand ModRM is none
+  by_form : (memory : Bool) → is_memory (Byte strict s a v) ≡ memory → (HasMemoryOperand strict s a v → ⊥) → least_in strict s ≡ length s
+  by_form true e none = absurd (let read = some_memory strict s a v e in none (operand_form strict s a v read.0 read.1 (is_ip_relative read.0) refl).operand)
+  by_form false e none = least_without strict s a v e
+
+  keeps : (error : TightenError) → HasNoRelative strict s a v error → least_in strict s ≡ length s
+  keeps (Refused error) h = absurd h
+  keeps NoMemoryForm h = by_form (is_memory (Byte strict s a v)) refl h
+  keeps IpRelative h = least_at_ip strict s a v h.operand.raw h.operand.read h.form
+
+pub returns : goal.returns
+returns c = λ strict s a is error. keeps strict s is.reading is.whole error

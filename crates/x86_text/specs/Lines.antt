@@ -1,0 +1,33 @@
+-- The text of instructions, and the lines of instructions and refusals.
+use Rattle.std.specs.Prelude.{ℕ, List, [], ◌∷◌, ◌++◌, ◌==◌, if◌then◌else◌, codes, decimal, take}
+use Rattle.x86_opcodes.specs.Mnemonics.{mnemonic_of}
+use Rattle.x86_operands.specs.declared.operands.Operand.{Operand}
+use Rattle.x86_fields.specs.declared.DecodeError.{DecodeError}
+use Rattle.x86_fields.specs.Errors.{description_of}
+use Rattle.x86_decode.specs.declared.instructions.Instruction.{Instruction}
+use Rattle.x86_decode.specs.Instruction.{operand_at}
+use Rattle.x86_text.specs.Operands.{operands_text}
+
+-- the memory size that stands for one that the processor decides
+abbrev pub undecided_size : ℕ
+undecided_size = 63
+
+-- the memory size: 0 for none, and a question mark where the processor decides
+abbrev pub size_text : ℕ → List ℕ
+size_text size = if size == undecided_size then codes "?" else decimal size
+
+-- the operands that an instruction has, of its four places
+abbrev pub shown_operands : Instruction → List Operand
+shown_operands i = take i.given.count (operand_at i 0 ∷ operand_at i 1 ∷ operand_at i 2 ∷ operand_at i 3 ∷ [])
+
+-- MNEMONIC, the operands, and the size
+unfoldable pub instruction_text : Instruction → List ℕ
+instruction_text i = mnemonic_of i.opcode ++ operands_text (shown_operands i) ++ codes " m" ++ size_text i.given.mem_size
+
+-- PLACE LENGTH, and the instruction
+unfoldable pub line_text : ℕ → Instruction → List ℕ
+line_text place i = decimal place ++ codes " " ++ decimal i.length ++ codes " " ++ instruction_text i
+
+-- PLACE error: DESCRIPTION
+unfoldable pub refusal_text : ℕ → DecodeError → List ℕ
+refusal_text place error = decimal place ++ codes " error: " ++ description_of error

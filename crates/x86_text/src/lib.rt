@@ -1,0 +1,26 @@
+//! Instructions, refusals and parts of encodings as text.
+//!
+//! ```
+//! let instruction = InstDecoder::default().decode_slice(&[0x48, 0x01, 0xd8])?;
+//! line_of(4, &instruction).as_slice()             // b"4 3 ADD rax, rbx m8"
+//! instruction_text(&instruction).as_slice()       // b"ADD rax, rbx m8"
+//! operand_text(&instruction.operand(1)).as_slice() // b"rbx"
+//! ```
+//!
+//! Each text is a `Line`, which takes no memory. The calls that begin with `push` append to a line that is there, for columns of a
+//! caller's own; those that begin with `write` write over it.
+#![tactic(auto)]
+
+mod instructions;
+mod operands;
+mod parts;
+mod place;
+mod refusals;
+mod room;
+
+pub use instructions::{instruction_text, line_of, push_instruction, write_instruction};
+pub use operands::{operand_text, push_operand};
+pub use parts::{fields_line, write_fields};
+pub use place::Place;
+pub use refusals::{refusal_of, write_refusal};
+pub use room::{LINE_MAX, LINE_ROOM, Line, Room};

@@ -1,0 +1,75 @@
+//! The lines of the parts of encodings.
+
+ghost use Rattle.std.specs.Prelude.{◌≡◌, ◌+◌, ◌*◌, ◌≤◌, ◌++◌, length};
+ghost use Rattle.std.specs.List.{sum_by};
+ghost use Rattle.arrayvec.specs.ArrayVec.{array_vec_len};
+ghost use Rattle.x86_layout.specs.Parts.{lists_of};
+ghost use Rattle.x86_layout.specs.Fields.{HasFieldLengths};
+ghost use Rattle.x86_text.specs.Parts.{in_order, spaced, fields_text};
+
+use crate::place::Place;
+use crate::room::{LINE_MAX, LINE_ROOM, Line};
+use x86_layout::Parts;
+
+/// How many bytes the parts have together.
+fn length_of(parts: &Parts) -> usize
+    requires { HasFieldLengths (lists_of parts.now) }
+    ensures { result ≡ sum_by length (in_order (lists_of parts.now)) }
+{
+    parts.prefixes.len()
+        + parts.escape.len()
+        + parts.opcode.len()
+        + parts.modrm.len()
+        + parts.sib.len()
+        + parts.displacement.len()
+        + parts.immediate.len()
+        + parts.suffix.len()
+}
+
+/// Appends a part behind a space.
+fn push_part(line: &mut Line, part: &[u8])
+    requires { array_vec_len line.old + 2 + 2 * length part.now ≤ LINE_ROOM }
+    ensures text { line.new.items ≡ line.old.items ++ spaced part.now }
+    ensures short { array_vec_len line.new ≤ array_vec_len line.old + 2 + 2 * length part.now }
+{
+    line.push(b' ');
+    if part.is_empty() {
+        line.push(b'-');
+    } else {
+        line.push_hex(part);
+    }
+}
+
+/// Writes the line of the parts of an encoding at a place over another, without its end, as `fields_line` gives it.
+#[tactic(auto, unfolding(crate::specs::Parts::fields_text))]
+pub fn write_fields(line: &mut Line, place: &Place, parts: &Parts)
+    requires { HasFieldLengths (lists_of parts.now) }
+    ensures text { line.new.items ≡ fields_text place.now (lists_of parts.now) }
+    ensures short { array_vec_len line.new ≤ LINE_MAX }
+{
+    line.set(place.digits());
+    line.push(b' ');
+    line.push_u64(length_of(parts) as u64);
+    push_part(line, parts.prefixes);
+    push_part(line, parts.escape);
+    push_part(line, parts.opcode);
+    push_part(line, parts.modrm);
+    push_part(line, parts.sib);
+    push_part(line, parts.displacement);
+    push_part(line, parts.immediate);
+    push_part(line, parts.suffix);
+}
+
+/// The line of the parts of an encoding at a place, without its end: the place, how many bytes the parts have together, and each part
+/// as hex digits, or a dash where it is empty. It asks the lengths that `Fields::of` asks, which parts of `split` have.
+///
+/// For `48 03 44 25 00` at place 0 this is `0 5 48 - 03 44 25 00 - -`.
+pub fn fields_line(place: u64, parts: &Parts) -> Line
+    requires { HasFieldLengths (lists_of parts.now) }
+    ensures text { result.items ≡ fields_text place (lists_of parts.now) }
+    ensures short { array_vec_len result ≤ LINE_MAX }
+{
+    let mut line = Line::new();
+    write_fields(&mut line, &Place::at(place), parts);
+    line
+}

@@ -1,0 +1,41 @@
+//! The lines of refusals.
+
+ghost use Rattle.std.specs.Prelude.{◌≡◌, ◌+◌, ◌++◌, ◌≤◌};
+ghost use Rattle.arrayvec.specs.ArrayVec.{array_vec_len};
+ghost use Rattle.x86_fields.specs.Errors.{description_of};
+ghost use Rattle.x86_text.specs.Lines.{refusal_text};
+
+use crate::place::Place;
+use crate::room::{LINE_MAX, LINE_ROOM, Line};
+use x86_fields::DecodeError;
+
+fn push_description(line: &mut Line, error: DecodeError)
+    requires { array_vec_len line.old + 26 ≤ LINE_ROOM }
+    ensures text { line.new.items ≡ line.old.items ++ description_of error }
+    ensures short { array_vec_len line.new ≤ array_vec_len line.old + 26 }
+{
+    line.extend(x86_arch::DecodeError::description(&error).as_bytes());
+}
+
+/// Writes the line of a refusal at a place over another, without its end, as `2 error: invalid opcode`.
+#[tactic(auto, unfolding(crate::specs::Lines::refusal_text))]
+pub fn write_refusal(line: &mut Line, place: &Place, error: DecodeError)
+    ensures text { line.new.items ≡ refusal_text place.now error }
+    ensures short { array_vec_len line.new ≤ LINE_MAX }
+{
+    line.set(place.digits());
+    line.extend(b" error: ");
+    push_description(line, error);
+}
+
+/// The line of a refusal at a place, without its end: the place, and the description of the error.
+///
+/// For `InvalidOpcode` at place 2 this is `2 error: invalid opcode`.
+pub fn refusal_of(place: u64, error: DecodeError) -> Line
+    ensures text { result.items ≡ refusal_text place error }
+    ensures short { array_vec_len result ≤ LINE_MAX }
+{
+    let mut line = Line::new();
+    write_refusal(&mut line, &Place::at(place), error);
+    line
+}

@@ -1,0 +1,230 @@
+//! Room for bytes that are being gathered, and that of a line.
+
+ghost use Rattle.std.specs.Prelude.{◌≡◌, ℕ, ◌+◌, ◌-◌, ◌*◌, ◌/◌, ◌%◌, ◌<◌, ◌≤◌, ◌++◌, ◌∷◌, [], length, take, drop, decimal};
+ghost use Rattle.std.specs.Fmt.{signed_decimal};
+ghost use Rattle.arrayvec.specs.ArrayVec.{array_vec_len};
+ghost use Rattle.hex.specs.Hex.{encode_lower};
+
+use itoa::write_digits;
+use std::marker::Model;
+
+/// How many bytes a line has room for, its end included.
+pub const LINE_ROOM: usize = 192;
+
+/// The most bytes of a line without its end.
+pub const LINE_MAX: usize = 191;
+
+/// At most `N` bytes, which contracts see as those of an `ArrayVec`. What is let go isn't blanked.
+#[derive(Drop)]
+pub struct Room<const N: usize> {
+    cells: [u8; N],
+    len: usize,
+}
+
+/// A line, with room for its end.
+pub type Line = Room<LINE_ROOM>;
+
+impl<const N: usize> Model for Room<N> {
+    ghost use Rattle.std.specs.Prelude.{ℕ, ◌≡◌, ◌≤◌, length, take};
+    ghost use Rattle.arrayvec.specs.ArrayVec.{ArrayVec as Items};
+
+    ghost Value = { Items ℕ };
+
+    ghost view = { λ l. record { items = take l.len l.cells } };
+
+    ghost invariant = { λ l. l.len ≤ N };
+}
+
+/// How many digits the decimal of a number has.
+fn digits_of(n: u64) -> usize
+    ensures { result ≡ length (decimal n) }
+{
+    if n < 10 {
+        1
+    } else if n < 100 {
+        2
+    } else if n < 1000 {
+        3
+    } else if n < 10000 {
+        4
+    } else {
+        digits_of(n / 10000) + 4
+    }
+}
+
+impl<const N: usize> Room<N> {
+    /// Nothing yet.
+    pub fn new() -> Room<N>
+        ensures { result.items ≡ [] }
+    {
+        Room {
+            cells: [0; N],
+            len: 0,
+        }
+    }
+
+    /// Takes all bytes away.
+    #[inline(always)]
+    pub fn clear(&mut self)
+        ensures { self.new.items ≡ [] }
+    {
+        self.len = 0;
+    }
+
+    /// Writes the two digits of a number below 100 over the last two bytes.
+    #[inline(always)]
+    pub fn set_last_digits(&mut self, n: u8)
+        requires pair { n < 100 }
+        requires some { 2 ≤ array_vec_len self.old }
+        ensures { self.new.items ≡ take (array_vec_len self.old - 2) self.old.items ++ (48 + n / 10) ∷ (48 + n % 10) ∷ [] }
+    {
+        self.len -= 2;
+        self.push(b'0' + n / 10);
+        self.push(b'0' + n % 10);
+    }
+
+    /// Takes the bytes of a room that is no larger in place of its own.
+    #[inline(always)]
+    pub fn set<const M: usize>(&mut self, bytes: &Room<M>)
+        requires { M ≤ N }
+        ensures text { self.new.items ≡ bytes.now.items }
+        ensures short { array_vec_len self.new ≤ M }
+    {
+        if let Some(front) = self.cells.first_chunk_mut::<M>() {
+            *front = bytes.cells;
+        }
+        self.len = bytes.len;
+    }
+
+    /// Lets the first bytes go.
+    pub fn leave(&mut self, count: usize)
+        requires { count ≤ array_vec_len self.old }
+        ensures { self.new.items ≡ drop count self.old.items }
+    {
+        let len = self.len;
+        self.cells.copy_within(count..len, 0);
+        self.len = len - count;
+    }
+
+    /// The bytes.
+    #[inline(always)]
+    pub fn as_slice(&self) -> &[u8]
+        ensures { result.now ≡ self.now.items }
+    {
+        &self.cells[..self.len]
+    }
+
+    /// How many bytes still fit.
+    #[inline(always)]
+    pub fn left(&self) -> usize
+        ensures { array_vec_len self.now + result ≡ N }
+    {
+        N - self.len
+    }
+
+    /// Appends a byte.
+    #[inline(always)]
+    pub fn push(&mut self, byte: u8)
+        requires { array_vec_len self.old + 1 ≤ N }
+        ensures text { self.new.items ≡ self.old.items ++ byte ∷ [] }
+        ensures len { array_vec_len self.new ≡ array_vec_len self.old + 1 }
+    {
+        let len = self.len;
+        self.cells[len] = byte;
+        self.len = len + 1;
+    }
+
+    /// Appends bytes.
+    #[inline(always)]
+    pub fn extend(&mut self, bytes: &[u8])
+        requires { array_vec_len self.old + length bytes.now ≤ N }
+        ensures text { self.new.items ≡ self.old.items ++ bytes.now }
+        ensures len { array_vec_len self.new ≡ array_vec_len self.old + length bytes.now }
+    {
+        let len = self.len;
+        let end = len + bytes.len();
+        let cells = &mut self.cells[..];
+        cells[len..end].copy_from_slice(bytes);
+        self.len = end;
+    }
+
+    /// Appends the hex digits of some bytes.
+    pub fn push_hex(&mut self, bytes: &[u8])
+        requires { array_vec_len self.old + 2 * length bytes.now ≤ N }
+        ensures text { self.new.items ≡ self.old.items ++ encode_lower bytes.now }
+        ensures len { array_vec_len self.new ≡ array_vec_len self.old + 2 * length bytes.now }
+    {
+        let len = self.len;
+        let end = len + 2 * bytes.len();
+        let cells = &mut self.cells[..];
+        let _ = hex::encode_to_slice(bytes, &mut cells[len..end]);
+        self.len = end;
+    }
+
+    /// Appends the decimal of a number.
+    #[inline(always)]
+    pub fn push_u64(&mut self, n: u64)
+        requires { array_vec_len self.old + 20 ≤ N }
+        ensures text { self.new.items ≡ self.old.items ++ decimal n }
+        ensures short { array_vec_len self.new ≤ array_vec_len self.old + 20 }
+    {
+        self.push_decimal(n);
+    }
+
+    /// Appends the decimal of a number, which has at most ten digits.
+    #[inline(always)]
+    pub fn push_u32(&mut self, n: u32)
+        requires { array_vec_len self.old + 10 ≤ N }
+        ensures text { self.new.items ≡ self.old.items ++ decimal n }
+        ensures short { array_vec_len self.new ≤ array_vec_len self.old + 10 }
+    {
+        self.push_decimal(n as u64);
+    }
+
+    /// Appends the decimal of a number, which has at most three digits.
+    #[inline(always)]
+    pub fn push_u8(&mut self, n: u8)
+        requires { array_vec_len self.old + 3 ≤ N }
+        ensures text { self.new.items ≡ self.old.items ++ decimal n }
+        ensures short { array_vec_len self.new ≤ array_vec_len self.old + 3 }
+    {
+        self.push_decimal(n as u64);
+    }
+
+    /// Appends the decimal of a number with its sign.
+    #[inline(always)]
+    pub fn push_i64(&mut self, n: i64)
+        requires { array_vec_len self.old + 20 ≤ N }
+        ensures text { self.new.items ≡ self.old.items ++ signed_decimal n }
+        ensures short { array_vec_len self.new ≤ array_vec_len self.old + 20 }
+    {
+        if n < 0 {
+            self.push(b'-');
+        }
+        self.push_decimal(n.unsigned_abs());
+    }
+
+    #[inline(always)]
+    fn push_decimal(&mut self, n: u64)
+        requires { array_vec_len self.old + length (decimal n) ≤ N }
+        ensures text { self.new.items ≡ self.old.items ++ decimal n }
+        ensures len { array_vec_len self.new ≡ array_vec_len self.old + length (decimal n) }
+    {
+        if n < 10 {
+            self.push(b'0' + n as u8);
+        } else {
+            self.push_digits(n);
+        }
+    }
+
+    #[inline(never)]
+    fn push_digits(&mut self, n: u64)
+        requires { array_vec_len self.old + length (decimal n) ≤ N }
+        ensures text { self.new.items ≡ self.old.items ++ decimal n }
+        ensures len { array_vec_len self.new ≡ array_vec_len self.old + length (decimal n) }
+    {
+        let end = self.len + digits_of(n);
+        let _ = write_digits(n, &mut self.cells, end);
+        self.len = end;
+    }
+}
