@@ -23,7 +23,7 @@ pub fn sequences()
     ensures { SequencesAreSound }
 {}
 
-/// A bad place is the first.
+/// A bad place is the first: no front up to it has a bad byte.
 pub fn first()
     ensures { BadIsFirst }
 {}

@@ -1,7 +1,12 @@
-//! Parts of the walk, for who builds on its grammar: a splitter, an emitter, or a decoder over another table. Who decodes needs none of them.
+//! Parts of the walk, for code that builds on the grammar itself, as `split` and `emit` of x86_layout do. Who decodes
+//! needs none of them.
 //!
-//! An encoding is a run of bytes for which `is_prefix` holds, an escape, an opcode byte, and what the row there asks (`read_row`). The row
-//! stands in the column that `selected` names, and its record sees the prefixes as `seen_by` gives them.
+//! An encoding is a run of bytes for which `is_prefix` holds, an escape, an opcode byte, which `is_vex` doesn't name,
+//! and what its row asks (`read_row`). The row stands in the column that `selected` gives, and its record sees the
+//! prefixes as `seen_by` gives them. F0 stands only where `allows_lock` holds. Of `66 0f 38 00 c1`, which is PSHUFB,
+//! `selected` gives the column of 66, and `seen_by` clears 66.
+//!
+//! Source: Intel SDM volume 2, sections 2.1 and 2.2.1, and appendix A.
 
 pub use crate::head::{is_prefix, is_vex, seen_by, selected};
 pub use crate::rows::read_row;

@@ -69,9 +69,9 @@ visit_of operands.Nothing = visit_other
 
 -- a register or memory with a mask
 abbrev pub is_masked : Operand → Bool
-is_masked (operands.RegisterMaskMerge reg k merge) = true
-is_masked (operands.RegisterMaskMergeSae reg k merge sae) = true
-is_masked (operands.RegisterMaskMergeSaeNoround reg k merge) = true
+is_masked (operands.RegisterMaskMerge reg k m) = true
+is_masked (operands.RegisterMaskMergeSae reg k m sae) = true
+is_masked (operands.RegisterMaskMergeSaeNoround reg k m) = true
 is_masked (operands.MemDerefMasked b k) = true
 is_masked (operands.DispMasked b d k) = true
 is_masked (operands.MemIndexScaleMasked i s k) = true

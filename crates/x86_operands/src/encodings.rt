@@ -196,9 +196,9 @@ impl Size {
 }
 
 impl Last {
-    /// What the last operand gives.
+    /// The sign of the last operand.
     #[inline(always)]
-    pub fn sign(self, prefixes: &Prefixes) -> Sign
+    pub(crate) fn sign(self, prefixes: &Prefixes) -> Sign
         ensures { result ≡ last_sign self prefixes.now }
     {
         match self {

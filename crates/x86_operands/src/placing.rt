@@ -1,4 +1,4 @@
-//! What an encoding asks behind ModRM, written in place.
+//! What a sign gives, and what an encoding asks behind ModRM, written in place.
 
 ghost use Rattle.std.specs.Prelude.{◌≡◌, ◌<◌, ◌≢◌, true};
 ghost use Rattle.x86_arch.specs.Reader.{State};
@@ -56,9 +56,9 @@ fn pointer_slot(slot: PointerSlot) -> Slot
 }
 
 impl Operands {
-    /// A slot and its operand.
+    /// Writes a slot and its operand at an index.
     #[inline(always)]
-    pub fn put(&mut self, at: usize, slot: Slot, operand: Operand)
+    fn put(&mut self, at: usize, slot: Slot, operand: Operand)
         requires { at < 4 }
         ensures { self.new ≡ put_at at (slot, operand) self.old }
     {
@@ -67,7 +67,7 @@ impl Operands {
     }
 
     #[inline(always)]
-    pub fn put_register(&mut self, at: usize, slot: Slot, reg: RegSpec)
+    fn put_register(&mut self, at: usize, slot: Slot, reg: RegSpec)
         requires { at < 4 }
         ensures { self.new ≡ put_at at (slot, Operand.Register reg) self.old }
     {
@@ -139,7 +139,7 @@ impl Operands {
     /// What a sign gives, at an index.
     #[tactic(auto, unfolding(crate::specs::Signs::sign_step))]
     #[inline(always)]
-    pub fn put_sign<T: Reader<u64, u8>>(
+    pub(crate) fn put_sign<T: Reader<u64, u8>>(
         &mut self,
         at: usize,
         words: &mut T,
@@ -194,6 +194,7 @@ impl Operands {
         Ok(())
     }
 
+    /// Writes a slot and its operand at a place.
     #[inline(always)]
     fn put_in(&mut self, at: Place, slot: Slot, operand: Operand)
         requires { at ≢ Nowhere }
@@ -202,7 +203,7 @@ impl Operands {
         self.put(at.index(), slot, operand);
     }
 
-    /// The last operand, as a sign gives it.
+    /// The last operand, as its sign gives it.
     #[tactic(auto, using(crate::proofs::OrderLaws::sign_at_place))]
     #[inline(never)]
     fn place_sign<T: Reader<u64, u8>>(

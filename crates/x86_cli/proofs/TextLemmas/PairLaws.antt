@@ -1,7 +1,8 @@
 -- Sequences of blanks and pairs.
-use Rattle.std.proofs.Common.{◌≡◌, ℕ, suc, ◌+◌, ◌*◌, ◌<◌, List, [], ◌∷◌, ◌++◌, length, take, refl, arith, Option, Some, None, Bool, true, false, ap, ◌∙◌, sym}
+use Rattle.std.proofs.Common.{◌≡◌, ℕ, zero, suc, ◌+◌, ◌*◌, ◌<◌, List, [], ◌∷◌, ◌++◌, length, take, refl, arith, Option, Some, None, Bool, true, false, ap, ◌∙◌, sym}
 use Rattle.std.specs.List.{flat_map}
 use Rattle.std.specs.Option.{option_map}
+use lib.Seq.{take-take}
 use Rattle.x86_cli.specs.Text.{is_blank, value_of, bad_of, image_of, ends_in_half}
 use Rattle.x86_cli.specs.Text.Pairs.{Item, blank, pair, bytes_of, values_of, AreItems, IsHalf, IsSequence, is_half, SequencesAreSound, BadIsFirst}
 use Rattle.x86_cli.proofs.TextLemmas.TextLaws.{value-blank, image-blank, bad-blank, half-blank}
@@ -70,9 +71,9 @@ sequence_bad bytes image half sequence =
 Found : List ℕ → Type 0
 Found bytes = (half : List ℕ) × IsSequence bytes (image_of bytes) half × (ends_in_half bytes ≡ is_half half)
 
-blank_row : (b : ℕ) (s : List ℕ) → is_blank b ≡ true → Found s → Found (b ∷ s)
+from_blank : (b : ℕ) (s : List ℕ) → is_blank b ≡ true → Found s → Found (b ∷ s)
 unfolding Found
-blank_row b s e found =
+from_blank b s e found =
     let sequence = found.1 in (
       found.0,
       record {
@@ -85,9 +86,9 @@ blank_row b s e found =
       half-blank b s e (value-blank b e) ∙ found.2,
     )
 
-pair_row : (a b v w : ℕ) (s : List ℕ) → value_of a ≡ Some v → value_of b ≡ Some w → Found s → Found (a ∷ b ∷ s)
+from_pair : (a b v w : ℕ) (s : List ℕ) → value_of a ≡ Some v → value_of b ≡ Some w → Found s → Found (a ∷ b ∷ s)
 unfolding Found
-pair_row a b v w s d e found =
+from_pair a b v w s d e found =
     let sequence = found.1 in (
       found.0,
       record {
@@ -100,25 +101,25 @@ pair_row a b v w s d e found =
       half-pair a b v s d ∙ found.2,
     )
 
-none_row : Found []
+from_none : Found []
 unfolding Found image_of ends_in_half
-none_row = ([], record { items = []; each = tt; half_pair = tt; whole = refl; values = refl }, refl)
+from_none = ([], record { items = []; each = tt; half_pair = tt; whole = refl; values = refl }, refl)
 
-half_row : (a v : ℕ) → value_of a ≡ Some v → Found (a ∷ [])
+from_half : (a v : ℕ) → value_of a ≡ Some v → Found (a ∷ [])
 unfolding Found image_of ends_in_half
-half_row a v d = (a ∷ [], record { items = []; each = tt; half_pair = (v, d); whole = refl; values = refl }, rw d refl)
+from_half a v d = (a ∷ [], record { items = []; each = tt; half_pair = (v, d); whole = refl; values = refl }, rw d refl)
 
 sequence_of : (bytes : List ℕ) → bad_of bytes ≡ None → Found bytes
 unfolding bad_of
-sequence_of [] e = none_row
+sequence_of [] e = from_none
 sequence_of (a ∷ []) e =
-    by_bool (is_blank a) (λ h. blank_row a [] h none_row)
-    (λ h. by_option (value_of a) (λ n. let f = rw (h, n) at e in cc) (λ v d. half_row a v d))
+    by_bool (is_blank a) (λ h. from_blank a [] h from_none)
+    (λ h. by_option (value_of a) (λ n. let f = rw (h, n) at e in cc) (λ v d. from_half a v d))
 sequence_of (a ∷ b ∷ s) e =
-    by_bool (is_blank a) (λ h. blank_row a (b ∷ s) h (sequence_of (b ∷ s) (unmapped (λ n. 1 + n) (bad_of (b ∷ s)) (rw h at e))))
+    by_bool (is_blank a) (λ h. from_blank a (b ∷ s) h (sequence_of (b ∷ s) (unmapped (λ n. 1 + n) (bad_of (b ∷ s)) (rw h at e))))
     (λ h. by_option (value_of a) (λ n. let f = rw (h, n) at e in cc)
     (λ v d. by_option (value_of b) (λ n. let f = rw (h, d, n) at e in cc)
-    (λ w f. pair_row a b v w s d f (sequence_of s (unmapped (λ n. 2 + n) (bad_of s) (rw (h, d, f) at e))))))
+    (λ w f. from_pair a b v w s d f (sequence_of s (unmapped (λ n. 2 + n) (bad_of s) (rw (h, d, f) at e))))))
 
 pub sequences_sound : SequencesAreSound
 unfolding Found
@@ -185,8 +186,25 @@ first_bad (a ∷ b ∷ s) n e =
     let m = mapped 2 (bad_of s) n (rw (h, d, g) at e) in
     moved_to (a ∷ b ∷ s) n (suc (suc m.0)) (omega (arith, m.2)) (first_pair a b v w s m.0 d g (first_bad s m.0 m.1)))))
 
+-- What stands in front of no bad byte has none.
+fronts_good : (m : ℕ) (bytes : List ℕ) → bad_of bytes ≡ None → bad_of (take m bytes) ≡ None
+unfolding bad_of
+fronts_good zero bytes e = refl
+fronts_good (suc m) [] e = refl
+fronts_good (suc zero) (a ∷ []) e = e
+fronts_good (suc (suc m)) (a ∷ []) e = e
+fronts_good (suc zero) (a ∷ b ∷ s) e =
+    by_bool (is_blank a) (λ h. rw h refl)
+    (λ h. by_option (value_of a) (λ n. let f = rw (h, n) at e in cc) (λ v d. rw (h, d) refl))
+fronts_good (suc (suc m)) (a ∷ b ∷ s) e =
+    by_bool (is_blank a)
+    (λ h. bad-blank a (take (suc m) (b ∷ s)) h ∙ ap (option_map (λ n. 1 + n)) (fronts_good (suc m) (b ∷ s) (unmapped (λ n. 1 + n) (bad_of (b ∷ s)) (rw h at e))))
+    (λ h. by_option (value_of a) (λ n. let f = rw (h, n) at e in cc)
+    (λ v d. by_option (value_of b) (λ n. let f = rw (h, d, n) at e in cc)
+    (λ w f. bad-pair a b v w (take m s) d f ∙ ap (option_map (λ n. 2 + n)) (fronts_good m s (unmapped (λ n. 2 + n) (bad_of s) (rw (h, d, f) at e))))))
+
 pub bad_is_first : BadIsFirst
 bad_is_first bytes n e =
     let f = first_bad bytes n e in
     let next : n + 1 ≡ suc n = omega arith in
-    (f.inside, f.before, rw next f.here, f.image)
+    (f.inside, (λ m le. ap bad_of (sym (take-take m n bytes le)) ∙ fronts_good m (take n bytes) f.before), rw next f.here, f.image)

@@ -1,5 +1,5 @@
 -- A text as its author sees it: a sequence of blanks and pairs of hex digits, and at most one digit more.
-use Rattle.std.specs.Prelude.{◌≡◌, ℕ, ◌+◌, ◌*◌, ◌<◌, List, [], ◌∷◌, ◌++◌, length, take, Some, None, Bool, true, false, unwrap_or, ⊤}
+use Rattle.std.specs.Prelude.{◌≡◌, ℕ, ◌+◌, ◌*◌, ◌<◌, ◌≤◌, List, [], ◌∷◌, ◌++◌, length, take, Some, None, Bool, true, false, unwrap_or, ⊤}
 use Rattle.std.specs.List.{flat_map}
 use Rattle.x86_cli.specs.Text.{is_blank, value_of, bad_of, image_of, ends_in_half}
 
@@ -47,7 +47,9 @@ SequencesAreSound =
     ((bytes : List ℕ) → bad_of bytes ≡ None → (half : List ℕ) × IsSequence bytes (image_of bytes) half × (ends_in_half bytes ≡ is_half half))
     × ((bytes image half : List ℕ) → IsSequence bytes image half → (bad_of bytes ≡ None) × (image_of bytes ≡ image) × (ends_in_half bytes ≡ is_half half))
 
--- A bad place is the first byte that ends no front that is a sequence, and the image is that of the bytes before.
+-- A bad place is the first byte that ends no front that is a sequence: each front up to it has no bad byte, and the one with it has. The image
+-- is that of the bytes before.
 abbrev pub BadIsFirst : Type 0
 BadIsFirst = (bytes : List ℕ) (n : ℕ) → bad_of bytes ≡ Some n →
-    (n < length bytes) × (bad_of (take n bytes) ≡ None) × (bad_of (take (n + 1) bytes) ≡ Some n) × (image_of (take n bytes) ≡ image_of bytes)
+    (n < length bytes) × ((m : ℕ) → m ≤ n → bad_of (take m bytes) ≡ None) × (bad_of (take (n + 1) bytes) ≡ Some n)
+    × (image_of (take n bytes) ≡ image_of bytes)

@@ -5,6 +5,7 @@ ghost use Rattle.std.specs.Io.KnownBytes.{Keeps, append_known};
 ghost use Rattle.x86_cli.specs.Commands.Command.{IfCommand};
 ghost use Rattle.x86_cli.specs.Commands.Make.{IsMake, IsNoCommand};
 ghost use Rattle.x86_cli.specs.Commands.Program.{ending_of, Ends, EndsMade};
+ghost use Rattle.x86_cli.specs.Outside.Seen.{writer_behind, held_bytes};
 
 use crate::commands::command::run;
 use crate::listings::status::Status;
@@ -16,8 +17,8 @@ use std::io::{Read, Write};
 
 /// Flushes what a run gathered. Behind a failed write nothing is sent, and where the words are no command there is nothing.
 fn send_rest<W: Write + Drop>(status: Status, out: &mut Gathered<W>) -> io::Result<()>
-    ensures bytes { Keeps (append_known (W.contents out.old.writer) out.old.bytes.items) (append_known (W.contents out.new.writer) out.new.bytes.items) }
-    ensures sent { OnOk result (status ≢ Status.Usage → status ≢ Status.WriteFault → out.new.bytes.items ≡ []) }
+    ensures bytes { Keeps (append_known (W.contents (writer_behind out.old)) (held_bytes out.old)) (append_known (W.contents (writer_behind out.new)) (held_bytes out.new)) }
+    ensures sent { OnOk result (status ≢ Status.Usage → status ≢ Status.WriteFault → held_bytes out.new ≡ []) }
     ensures usage { status ≡ Status.Usage → IsOk result × (out.new ≡ out.old) }
 {
     match status {

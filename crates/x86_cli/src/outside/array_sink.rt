@@ -3,6 +3,7 @@
 ghost use Rattle.std.specs.Prelude.{◌≡◌, Some, []};
 ghost use Rattle.x86_cli.specs.Outside.Sink.{TellsPut};
 ghost use Rattle.x86_cli.specs.Outside.ArraySink.{PutByNumber, is_chosen};
+ghost use Rattle.x86_cli.specs.Outside.Seen.{array_call, array_fails};
 
 use crate::outside::sink::{Sink, SinkFailed};
 use arrayvec::ArrayVec;
@@ -22,8 +23,8 @@ impl<const N: usize> ArraySink<N> {
     pub fn new(fails: u64) -> ArraySink<N>
         ensures bytes { ⟦<ArraySink<N> as Sink>⟧.written result ≡ Some [] }
         ensures sound { ⟦<ArraySink<N> as Sink>⟧.faults result ≡ 0 }
-        ensures fails { result.fails ≡ fails }
-        ensures call { result.call ≡ 0 }
+        ensures fails { array_fails result ≡ fails }
+        ensures call { array_call result ≡ 0 }
     {
         ArraySink {
             bytes: ArrayVec::new(),
@@ -48,7 +49,7 @@ impl<const N: usize> ArraySink<N> {
     }
 
     fn fails_now(&self) -> bool
-        ensures { result ≡ is_chosen self.now.call self.now.fails }
+        ensures { result ≡ is_chosen (array_call self.now) (array_fails self.now) }
     {
         self.call < u64::MAX && self.call == self.fails
     }
@@ -60,7 +61,7 @@ impl<const N: usize> Sink for ArraySink<N> {
     ghost faults = { λ s. s.faults };
 
     ghost takes = { λ s piece r t. TellsPut r piece (Some s.bytes.items) (Some t.bytes.items) s.faults t.faults
-        × PutByNumber r N piece s.bytes.items t.bytes.items s.call t.call s.fails t.fails };
+        × PutByNumber r N piece s.bytes.items t.bytes.items (array_call s) (array_call t) (array_fails s) (array_fails t) };
 
     ghost tells = { λ s piece r t h. h.0 };
 

@@ -4,7 +4,7 @@ ghost use Rattle.std.specs.Prelude.{◌≡◌, ◌≢◌, ◌+◌, ◌<◌, ◌�
 ghost use Rattle.std.specs.Io.KnownBytes.{Keeps, Appends, WriteAppends, append_known};
 ghost use Rattle.std.specs.Io.{WritesAtMost};
 ghost use Rattle.std.specs.IoError.{error_kind};
-ghost use Rattle.arrayvec.specs.ArrayVec.{array_vec_len};
+ghost use Rattle.x86_cli.specs.Outside.Seen.{writer_behind, held_bytes};
 
 use std::io;
 use std::io::{Error, ErrorKind, Write};
@@ -23,8 +23,8 @@ pub struct Gathered<W: Write + Drop> {
 impl<W: Write + Drop> Gathered<W> {
     /// Gathers for the writer, with nothing gathered.
     pub fn new(writer: W) -> Gathered<W>
-        ensures writer { result.writer ≡ writer }
-        ensures empty { result.bytes.items ≡ [] }
+        ensures writer { writer_behind result ≡ writer }
+        ensures empty { held_bytes result ≡ [] }
     {
         Gathered {
             writer,
@@ -34,17 +34,17 @@ impl<W: Write + Drop> Gathered<W> {
 
     /// Gives the writer back. What is still gathered is let go.
     pub fn into_writer(self) -> W
-        ensures { result ≡ self.writer }
+        ensures { result ≡ writer_behind self }
     {
         self.writer
     }
 
     /// Sends what was gathered. Where that is nothing, it can't fail.
     fn send(&mut self) -> io::Result<()>
-        ensures nothing { self.old.bytes.items ≡ [] → IsOk result }
-        ensures empty { OnOk result (self.new.bytes.items ≡ []) }
-        ensures bytes { Keeps (append_known (W.contents self.old.writer) self.old.bytes.items)
-            (append_known (W.contents self.new.writer) self.new.bytes.items) }
+        ensures nothing { held_bytes self.old ≡ [] → IsOk result }
+        ensures empty { OnOk result (held_bytes self.new ≡ []) }
+        ensures bytes { Keeps (append_known (W.contents (writer_behind self.old)) (held_bytes self.old))
+            (append_known (W.contents (writer_behind self.new)) (held_bytes self.new)) }
     {
         let (sent, result) = send_out(self.bytes.as_slice(), &mut self.writer);
         self.bytes.leave(sent);
@@ -56,9 +56,9 @@ impl<W: Write + Drop> Gathered<W> {
     #[inline(never)]
     fn write_part(&mut self, buf: &[u8]) -> io::Result<usize>
         ensures bound { WritesAtMost result buf.now }
-        ensures bytes { WriteAppends (append_known (W.contents self.old.writer) self.old.bytes.items)
-            (append_known (W.contents self.new.writer) self.new.bytes.items) result buf.now }
-        ensures room { array_vec_len self.old.bytes < SIZE → IsOk result }
+        ensures bytes { WriteAppends (append_known (W.contents (writer_behind self.old)) (held_bytes self.old))
+            (append_known (W.contents (writer_behind self.new)) (held_bytes self.new)) result buf.now }
+        ensures room { length (held_bytes self.old) < SIZE → IsOk result }
         ensures some { IfOk result (λ n. n ≡ 0 → length buf.now ≡ 0) }
     {
         if self.bytes.left() == 0 {
@@ -109,13 +109,13 @@ fn send_out<W: Write>(bytes: &[u8], to: &mut W) -> (usize, io::Result<()>)
 }
 
 impl<W: Write + Drop> Write for Gathered<W> {
-    ghost contents = { λ s. append_known (W.contents s.writer) s.bytes.items };
+    ghost contents = { λ s. append_known (W.contents (writer_behind s)) (held_bytes s) };
 
     fn write(&mut self, buf: &[u8]) -> io::Result<usize>
         ensures bound { WritesAtMost result buf.now }
-        ensures bytes { WriteAppends (append_known (W.contents self.old.writer) self.old.bytes.items)
-            (append_known (W.contents self.new.writer) self.new.bytes.items) result buf.now }
-        ensures room { array_vec_len self.old.bytes < SIZE → IsOk result }
+        ensures bytes { WriteAppends (append_known (W.contents (writer_behind self.old)) (held_bytes self.old))
+            (append_known (W.contents (writer_behind self.new)) (held_bytes self.new)) result buf.now }
+        ensures room { length (held_bytes self.old) < SIZE → IsOk result }
         ensures some { IfOk result (λ n. n ≡ 0 → length buf.now ≡ 0) }
     {
         if buf.len() <= self.bytes.left() {
@@ -126,9 +126,9 @@ impl<W: Write + Drop> Write for Gathered<W> {
     }
 
     fn flush(&mut self) -> io::Result<()>
-        ensures bytes { Keeps (append_known (W.contents self.old.writer) self.old.bytes.items)
-            (append_known (W.contents self.new.writer) self.new.bytes.items) }
-        ensures empty { OnOk result (self.new.bytes.items ≡ []) }
+        ensures bytes { Keeps (append_known (W.contents (writer_behind self.old)) (held_bytes self.old))
+            (append_known (W.contents (writer_behind self.new)) (held_bytes self.new)) }
+        ensures empty { OnOk result (held_bytes self.new ≡ []) }
     {
         self.send()?;
         self.writer.flush()

@@ -19,12 +19,14 @@ pub struct SliceSource<'a> {
 }
 
 impl<'a> SliceSource<'a> {
+    ghost use Rattle.x86_cli.specs.Outside.Seen.{slice_call, slice_fails};
+
     /// A source of these bytes, at its call 0.
     pub fn new(bytes: &'a [u8], fails: &'a [u64]) -> SliceSource<'a>
         ensures bytes { ⟦<SliceSource<'a> as Source>⟧.left result ≡ Some bytes.entry.now }
         ensures sound { ⟦<SliceSource<'a> as Source>⟧.faults result ≡ 0 }
-        ensures fails { result.fails.now ≡ fails.entry.now }
-        ensures call { result.call ≡ 0 }
+        ensures fails { slice_fails result ≡ fails.entry.now }
+        ensures call { slice_call result ≡ 0 }
     {
         SliceSource {
             bytes,
@@ -43,7 +45,7 @@ impl<'a> SliceSource<'a> {
     }
 
     fn fails_now(&self) -> bool
-        ensures { result ≡ is_listed self.now.call self.now.fails.now }
+        ensures { result ≡ is_listed (slice_call self.now) (slice_fails self.now) }
     {
         let call = self.call;
         call < u64::MAX && self.fails.contains(&call)
@@ -51,12 +53,14 @@ impl<'a> SliceSource<'a> {
 }
 
 impl<'a> Source for SliceSource<'a> {
+    ghost use Rattle.x86_cli.specs.Outside.Seen.{slice_call, slice_fails};
+
     ghost left = { λ s. Some (drop s.place s.bytes.now) };
 
     ghost faults = { λ s. s.faults };
 
     ghost gives = { λ s g t. TellsGot g (Some (drop s.place s.bytes.now)) (Some (drop t.place t.bytes.now)) s.faults t.faults
-        × ByNumber g (drop s.place s.bytes.now) s.call t.call s.fails.now t.fails.now };
+        × ByNumber g (drop s.place s.bytes.now) (slice_call s) (slice_call t) (slice_fails s) (slice_fails t) };
 
     ghost tells = { λ s g t h. h.0 };
 

@@ -2,6 +2,7 @@
 
 ghost use Rattle.std.specs.Prelude.{◌≡◌};
 ghost use Rattle.x86_cli.specs.Outside.Sink.{TellsPut};
+ghost use Rattle.x86_cli.specs.Outside.Seen.{sink_writer};
 
 use crate::outside::sink::{Sink, SinkFailed};
 use std::io::Write;
@@ -17,14 +18,14 @@ impl<W: Write + Drop> StdSink<W> {
     /// A sink over the writer.
     pub fn new(writer: W) -> StdSink<W>
         ensures sound { ⟦<StdSink<W> as Sink>⟧.faults result ≡ 0 }
-        ensures writer { result.writer ≡ writer }
+        ensures writer { sink_writer result ≡ writer }
     {
         StdSink { writer, faults: 0 }
     }
 
     /// Gives the writer back.
     pub fn into_writer(self) -> W
-        ensures { result ≡ self.writer }
+        ensures { result ≡ sink_writer self }
     {
         self.writer
     }

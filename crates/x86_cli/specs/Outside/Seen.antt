@@ -1,0 +1,31 @@
+-- What callers see of sources and sinks whose fields are private.
+use Rattle.std.specs.Prelude.{ℕ, List}
+use Rattle.x86_cli.specs.declared.outside.slice_source.SliceSource.{SliceSource}
+use Rattle.x86_cli.specs.declared.outside.array_sink.ArraySink.{ArraySink}
+use Rattle.x86_cli.specs.declared.outside.std_sink.StdSink.{StdSink}
+use Rattle.x86_cli.specs.declared.outside.gathered.Gathered.{Gathered}
+
+-- the number of a slice's next call, and the numbers of those that fail
+abbrev pub slice_call : SliceSource → ℕ
+slice_call s = s.call
+
+abbrev pub slice_fails : SliceSource → List ℕ
+slice_fails s = s.fails.now
+
+-- the number of an array's next put, and that of the one that fails
+abbrev pub array_call : {N : ℕ} → ArraySink N → ℕ
+array_call s = s.call
+
+abbrev pub array_fails : {N : ℕ} → ArraySink N → ℕ
+array_fails s = s.fails
+
+-- the writer of a sink
+abbrev pub sink_writer : {W : Type 0} → StdSink W → W
+sink_writer s = s.writer
+
+-- the writer behind a buffer, and what the buffer holds
+abbrev pub writer_behind : {W : Type 0} → Gathered W → W
+writer_behind g = g.writer
+
+abbrev pub held_bytes : {W : Type 0} → Gathered W → List ℕ
+held_bytes g = g.bytes.items
