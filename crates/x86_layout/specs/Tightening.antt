@@ -1,5 +1,5 @@
 -- The shortest encoding of an address, and its length.
-pub mod Places
+pub mod Registers
 pub mod Shortest
 pub mod Tighten
 pub mod Least

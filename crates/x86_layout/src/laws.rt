@@ -17,7 +17,7 @@ ghost use Rattle.x86_decode.specs.Grammar.{IsSentence};
 ghost use Rattle.x86_layout.specs.Tightening.Least.{least_in};
 ghost use Rattle.x86_layout.specs.declared.tightening.tighten.TightenError.{TightenError};
 ghost use Rattle.x86_layout.specs.Tightening.Tighten.{HasNoRelative, HasOperandForm, IsShortest};
-ghost use Rattle.x86_layout.specs.Tightening.Places.{is_ip_relative};
+ghost use Rattle.x86_layout.specs.Tightening.Registers.{is_ip_relative};
 ghost use Rattle.x86_layout.specs.Tightening.Shortest.{shortest, address_length, IsOfBytes};
 ghost use Rattle.x86_fields.specs.declared.Raw.{Raw};
 ghost use Rattle.x86_fields.specs.Raw.{middle_field};
@@ -34,8 +34,8 @@ pub fn cuts_in_order()
     laws::lengths();
 }
 
-/// Every cut has some bytes and lies within the input, and the lengths of the cuts add up to that of the input, so there are at
-/// most as many cuts as bytes.
+/// Every cut has some bytes and lies within the input, and the lengths of the cuts add up to that of the input, so
+/// there are at most as many cuts as bytes.
 pub fn cuts_cover()
     ensures within { (strict : Bool) (xs : List ℕ) → All (IsWithin (length xs)) (cuts_of strict xs) }
     ensures sum { (strict : Bool) (xs : List ℕ) → sum_by (λ c. c.length) (cuts_of strict xs) ≡ length xs }
@@ -61,16 +61,16 @@ pub fn permitted_fields_are_the_parts_of_sentences()
     ensures { (strict : Bool) (f : Fields) → IsPermitted strict f ↔ ArePartsOfSentence strict f }
 {}
 
-/// What permitted fields spell is accepted, whatever stands behind it, and has these fields again: `split` of the bytes that `emit`
-/// wrote answers parts that are equal to the fields.
+/// What permitted fields spell is accepted, whatever stands behind it, and has these fields again: `split` of the
+/// bytes that `emit` wrote answers parts that are equal to the fields.
 pub fn permitted_fields_are_split_again()
     ensures { (strict : Bool) (f : Fields) (rest : List ℕ) → IsPermitted strict f → (i : Instruction) × (answer_of strict (joined (lists_in f) ++ rest) ≡ Ok i) × (parts_of strict (joined (lists_in f) ++ rest) ≡ lists_in f) }
 {
     laws::answer_is();
 }
 
-/// Fields that hold the parts of an accepted encoding are permitted, and spell that encoding: `emit` of the fields of a split gives
-/// its very bytes.
+/// Fields that hold the parts of an accepted encoding are permitted, and spell that encoding: `emit` of the fields of
+/// a split gives its very bytes.
 pub fn accepted_encodings_are_emitted_again()
     ensures { (strict : Bool) (bytes : List ℕ) (i : Instruction) (f : Fields) → answer_of strict bytes ≡ Ok i → lists_in f ≡ parts_of strict bytes → IsPermitted strict f × (joined (lists_in f) ≡ take i.length bytes) }
 {
@@ -78,10 +78,11 @@ pub fn accepted_encodings_are_emitted_again()
     laws::lengths();
 }
 
-/// The shortest raw fields have the address of the given ones and the same reg field, need no bit of a REX where the given ones
-/// have none, and no raw fields of that address have fewer bytes of SIB and displacement.
+/// The shortest raw fields have the address of the given ones and the same reg field, need no bit of a REX where the
+/// given ones have none, and no raw fields of that address have fewer bytes of SIB and displacement.
 ///
-/// This is said of raw fields that aren't relative to the next instruction. Source: Intel SDM volume 2, sections 2.1.5 and 2.2.1.
+/// This is said of raw fields that aren't relative to the next instruction. Source: Intel SDM volume 2, sections
+/// 2.1.5 and 2.2.1.
 pub fn shortest_fields()
     ensures of_bytes { (raw : Raw) → IsOfBytes raw → IsOfBytes (shortest raw) }
     ensures same_address { (raw : Raw) → IsOfBytes raw → is_ip_relative raw ≡ false → IsSameAddress (raw_form (shortest raw)) (raw_form raw) }
@@ -90,14 +91,14 @@ pub fn shortest_fields()
     ensures none_shorter { (raw other : Raw) → IsOfBytes raw → IsOfBytes other → is_ip_relative raw ≡ false → IsSameAddress (raw_form other) (raw_form raw) → address_length (shortest raw) ≤ address_length other }
 {}
 
-/// An encoding with a memory operand of ModRM that isn't relative to the next instruction has a shortest relative, and the length of that is the
-/// one that `least_of` tells from the bytes.
+/// An encoding with a memory operand of ModRM that isn't relative to the next instruction has a shortest relative,
+/// and the length of that is the one that `least_of` tells from the bytes.
 pub fn shortest_relatives_have_the_least_length()
     ensures { (strict : Bool) (s : List ℕ) (a : Instruction) (is : IsSentence (rows_of word_at) strict s a) → All (λ byte. byte < 256) s → HasOperandForm strict s is.reading is.whole false → (t : List ℕ) × IsShortest strict s is.reading is.whole t × (length t ≡ least_in strict s) }
 {}
 
-/// An encoding that has no relative to seek, for want of a memory operand of ModRM or since that is relative to the next instruction,
-/// keeps its length: it is the one that `least_of` tells from the bytes.
+/// An encoding that has no relative to seek, for want of a memory operand of ModRM or since that is relative to the
+/// next instruction, keeps its length: it is the one that `least_of` tells from the bytes.
 pub fn encodings_without_a_relative_keep_their_length()
     ensures { (strict : Bool) (s : List ℕ) (a : Instruction) (is : IsSentence (rows_of word_at) strict s a) (error : TightenError) → HasNoRelative strict s is.reading is.whole error → least_in strict s ≡ length s }
 {}

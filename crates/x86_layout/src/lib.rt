@@ -1,5 +1,5 @@
-//! The bytes of encodings: their parts, parts written as bytes, the cuts of a sweep over any bytes, and where the instructions in them
-//! branch to.
+//! The bytes of encodings: their parts, parts written as bytes, the cuts of a sweep over any bytes, and where the
+//! instructions in them branch to.
 #![tactic(auto)]
 
 pub mod laws;

@@ -1,6 +1,6 @@
 //! The shortest encoding of an address.
 
-pub mod places;
+pub mod registers;
 pub mod respell;
 pub mod shortest;
 pub mod tighten;

@@ -1,6 +1,7 @@
 -- What stands where in an encoding.
 use Rattle.std.proofs.Common.{◌≡◌, ℕ, suc, ◌+◌, ◌-◌, ◌%◌, ◌≤◌, ◌==◌, ◌&&◌, ◌||◌, not, Bool, true, false, if◌then◌else◌, List, [], ◌∷◌, ◌++◌, length, take, drop, map, slice_index, Option, Some, None, is_some, refl, sym, ap, subst, ◌∙◌, arith, length-append}
 use Rattle.std.specs.List.{list_all, prefix_len}
+use Rattle.std.specs.Int.{from_bool}
 use Rattle.std.proofs.Math.Seq.{take-append_seam, drop-append_seam}
 use Rattle.std.proofs.lemmas.Bool.Decides.{nat_tests}
 use Rattle.x86_fields.specs.Run.{is_prefix_byte}
@@ -25,6 +26,19 @@ use Rattle.x86_operands.specs.declared.asks.Ask.{Ask}
 use Rattle.x86_operands.specs.declared.reader.Reading.{Reading}
 use Rattle.x86_layout.specs.Parts.Heads.{map_by, one_if, asks_sib}
 use Rattle.x86_layout.specs.Parts.Split.{sib_width}
+use Rattle.x86_layout.specs.Parts.Permitted.{map_named}
+
+-- ---- lengths
+
+-- a part that is there or not has one byte or none
+pub from_is : (flag : Bool) → from_bool flag ≡ one_if flag
+from_is true = refl
+from_is false = refl
+
+-- a part of one byte, or none
+pub option_short : (o : Option ℕ) → length (option_bytes o) ≤ 1
+option_short None = omega arith
+option_short (Some b) = omega arith
 
 -- ---- pieces of a list
 
@@ -92,6 +106,36 @@ map_is One b tail h = by_first true (b == 0x0f) _ (second_of (is_prefix_byte b) 
 map_is Of b tail h = by_second (b == 0x38) (b == 0x3a) (left_of (b == 0x38) (b == 0x3a) h) (right_of (b == 0x38) (b == 0x3a) h)
 map_is Of38 b tail h = refl
 map_is Of3a b tail h = refl
+
+one_byte : (t : Bool) → (if t then Some Of else None) ≡ (let m : Map = if t then Of else One in if length (escape_bytes m) == 1 then Some m else None)
+one_byte true = refl
+one_byte false = refl
+
+two_bytes : (t u v : Bool) → (if t then (if u then Some Of38 else (if v then Some Of3a else None)) else None) ≡ (let m : Map = if t then (if u then Of38 else (if v then Of3a else Of)) else One in if length (escape_bytes m) == 2 then Some m else None)
+two_bytes false u v = refl
+two_bytes true true v = refl
+two_bytes true false true = refl
+two_bytes true false false = refl
+
+longer_than : (m : Map) (n : ℕ) → (length (escape_bytes m) == suc (suc (suc n))) ≡ false
+longer_than One n = grind (arith, nat_tests)
+longer_than Of n = grind (arith, nat_tests)
+longer_than Of38 n = grind (arith, nat_tests)
+longer_than Of3a n = grind (arith, nat_tests)
+
+none_named : (t : Bool) (m : Map) → t ≡ false → None ≡ (if t then Some m else None)
+none_named true m e = absurd (let h : true ≡ false = e in cc)
+none_named false m e = refl
+
+more_bytes : (m : Map) (n : ℕ) → None ≡ (if length (escape_bytes m) == suc (suc (suc n)) then Some m else None)
+more_bytes m n = none_named _ m (longer_than m n)
+
+-- the escape of a map is the map by the first two bytes, where these have its length
+pub map_named_is : (l : List ℕ) → map_named l ≡ (let m : Map = map_by (slice_index l 0) (slice_index l 1) in if length (escape_bytes m) == length l then Some m else None)
+map_named_is [] = refl
+map_named_is (a ∷ []) = one_byte (a == 0x0f)
+map_named_is (a ∷ b ∷ []) = two_bytes (a == 0x0f) (b == 0x38) (b == 0x3a)
+map_named_is (a ∷ b ∷ c ∷ rest) = more_bytes (map_by a b) (length rest)
 
 -- the byte behind the run is no prefix
 pub record Enters (m : Map) (b : ℕ) (tail : List ℕ) : Type 0 where

@@ -13,10 +13,11 @@ use Rattle.x86_fields.specs.Pieces.{option_bytes, signed_by}
 use Rattle.x86_operands.specs.Plans.{is_memory}
 use Rattle.x86_operands.specs.Pieces.{SpellsMemory}
 use Rattle.x86_decode.proofs.ByteLaws.{Bytes, bytes_behind, memory_fits}
-use Rattle.x86_layout.specs.Tightening.Places.{IsByteOption}
+use Rattle.x86_layout.specs.Tightening.Registers.{IsByteOption}
 use Rattle.x86_layout.specs.Tightening.Shortest.{address_length, IsOfBytes}
 use Rattle.x86_layout.specs.Tightening.Tighten.{bits_in, displacement_bytes, address_bytes}
 use Rattle.x86_layout.proofs.TightenLemmas.FieldLaws.{first_of_three, second_of_three, third_of_three}
+use Rattle.x86_layout.proofs.PartLemmas.FrontLaws.{option_count}
 
 -- ---- the displacement that bytes spell fits its width
 
@@ -63,14 +64,11 @@ of_bytes p m address raw h b =
     }
 
 -- and have as many bytes
-option_long : (sib : Option ℕ) → length (option_bytes sib) ≡ (if is_some sib then 1 else 0)
-option_long None = refl
-option_long (Some b) = refl
 
 pub address_long : (p : Prefixes) (m : ℕ) (address : List ℕ) (raw : Raw) → SpellsMemory p m address (Some raw) → length address ≡ address_length raw
 address_long p m address raw h =
     let s = h.1 in
-    ap length s.spelled ∙ length-append (option_bytes s.sib) s.disp ∙ ap (λ n. n + length s.disp) (option_long s.sib) ∙ ap (λ n. (if is_some s.sib then 1 else 0) + n) s.disp_asked
+    ap length s.spelled ∙ length-append (option_bytes s.sib) s.disp ∙ ap (λ n. n + length s.disp) (option_count s.sib) ∙ ap (λ n. (if is_some s.sib then 1 else 0) + n) s.disp_asked
     ∙ sym (ap address_length s.fields)
 
 -- ---- the bytes of raw fields spell them
@@ -150,7 +148,7 @@ respells q raw h b x short =
     )
 
 pub address_bytes_long : (raw : Raw) → length (address_bytes raw) ≡ address_length raw
-address_bytes_long raw = length-append (option_bytes raw.sib) (displacement_bytes raw) ∙ ap (λ n. n + length (displacement_bytes raw)) (option_long raw.sib) ∙ ap (λ n. (if is_some raw.sib then 1 else 0) + n) (displacement_long raw)
+address_bytes_long raw = length-append (option_bytes raw.sib) (displacement_bytes raw) ∙ ap (λ n. n + length (displacement_bytes raw)) (option_count raw.sib) ∙ ap (λ n. (if is_some raw.sib then 1 else 0) + n) (displacement_long raw)
 
 -- ---- the bits of a REX
 

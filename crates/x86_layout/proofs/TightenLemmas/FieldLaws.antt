@@ -7,7 +7,7 @@ use Rattle.x86_fields.specs.declared.Raw.{Raw}
 use Rattle.x86_fields.specs.Raw.{high_field, middle_field, low_field, disp_width, sib_fits, is_zero, is_byte, disp_fits}
 use Rattle.x86_fields.specs.Address.{extended, address_class, address_register, next_pointer, base_by, index_by, scale_by}
 use Rattle.x86_fields.specs.Linear.{adds_to, adds_next, is_pointer}
-use Rattle.x86_layout.specs.Tightening.Places.{is_ip_by, base_in, index_in, scale_in, scale_named, times, counts, IsBelow16, IsIndex, IsByteOption}
+use Rattle.x86_layout.specs.Tightening.Registers.{is_ip_by, base_in, index_in, scale_in, scale_named, times, counts, IsBelow16, IsIndex, IsByteOption}
 use Rattle.x86_layout.specs.Tightening.Shortest.{behind_base, bytes_by}
 use Rattle.x86_layout.proofs.TightenLemmas.SpelledLaws.{no_fewer, low_of_extended, low_small, middle_small}
 

@@ -9,7 +9,7 @@ use Rattle.x86_decode.specs.declared.instructions.Instruction.{Instruction}
 use Rattle.x86_decode.specs.Answer.{answer_of}
 use Rattle.x86_layout.specs.Tightening.Least.{least_by, least_for, least_in, least_of}
 use Rattle.x86_layout.specs.Parts.Split.{Encoding, HasParts}
-use Rattle.x86_layout.specs.Tightening.Places.{is_ip_relative}
+use Rattle.x86_layout.specs.Tightening.Registers.{is_ip_relative}
 use Rattle.x86_layout.specs.Tightening.Shortest.{shortest, address_length, IsOfBytes}
 use Rattle.x86_layout.specs.Tightening.Tighten.{raw_of}
 use Rattle.x86_layout.proofs.PartLemmas.FrontLaws.{has_head, parts_are}

@@ -17,7 +17,7 @@ use Rattle.x86_decode.specs.Instruction.{instruction_of}
 use Rattle.x86_decode.specs.Grammar.{record_of, lock_allowed, IsSentence}
 use Rattle.x86_decode.proofs.ByteLaws.{Bytes, bytes_of, bytes_behind, bytes_before}
 use Rattle.x86_layout.specs.Parts.Split.{Encoding, record_in}
-use Rattle.x86_layout.specs.Tightening.Places.{is_ip_relative}
+use Rattle.x86_layout.specs.Tightening.Registers.{is_ip_relative}
 use Rattle.x86_layout.specs.Tightening.Shortest.{shortest, address_length, IsOfBytes}
 use Rattle.x86_layout.specs.Tightening.Tighten.{bits_in, run_with, address_bytes, IsRelative, IsLeast, IsShortest}
 use Rattle.x86_layout.proofs.TightenLemmas.RexLaws.{run_stays, run_cleared, length_stays, seen_with, column_stays}

@@ -8,18 +8,18 @@ use Rattle.x86_fields.specs.declared.Raw.{Raw}
 use Rattle.x86_fields.specs.Raw.{high_field, middle_field, low_field, disp_width, sib_fits, disp_fits, is_zero, is_byte}
 use Rattle.x86_fields.specs.Address.{index_by, scale_by}
 use Rattle.x86_fields.specs.Linear.{adds_to, adds_next, constant_by, modulus_by, raw_form, IsSameAddress}
-use Rattle.x86_layout.specs.declared.tightening.places.Scale.{Scale}
-use Rattle.x86_layout.specs.declared.tightening.places.Scale.TheVariants.{One, Two, Four, Eight}
-use Rattle.x86_layout.specs.declared.tightening.places.Places.{Places}
-use Rattle.x86_layout.specs.Tightening.Places.{is_ip_by, is_ip_relative, base_in, index_in, scale_in, places_of, times, counts, weight, IsBelow16, IsIndex, IsByteOption}
-use Rattle.x86_layout.specs.Tightening.Shortest.{asks_displacement, exchanged, placed, shortest_places, bytes_by, bytes_at, address_length, mod_by, mod_of, packed_byte, fourth_bit, scale_field, field_or, rm_alone, rm_by, sib_by, spelled, shortest, IsOfBytes}
+use Rattle.x86_layout.specs.declared.tightening.registers.Scale.{Scale}
+use Rattle.x86_layout.specs.declared.tightening.registers.Scale.TheVariants.{One, Two, Four, Eight}
+use Rattle.x86_layout.specs.declared.tightening.registers.AddressRegisters.{AddressRegisters}
+use Rattle.x86_layout.specs.Tightening.Registers.{is_ip_by, is_ip_relative, base_in, index_in, scale_in, registers_of, times, counts, weight, IsBelow16, IsIndex, IsByteOption}
+use Rattle.x86_layout.specs.Tightening.Shortest.{asks_displacement, exchanged, placed, shortest_registers, bytes_by, bytes_at, address_length, mod_by, mod_of, packed_byte, fourth_bit, scale_field, field_or, rm_alone, rm_by, sib_by, spelled, shortest, IsOfBytes}
 use Rattle.x86_layout.proofs.TightenLemmas.WeightLaws.{Weigh, fewest}
 use Rattle.x86_layout.proofs.TightenLemmas.SpelledLaws.{high_is, low_is, middle_is, middle_small, low_small, field_small, rm_small, not_bare_five, spelled_length, spelled_fits, spelled_base, spelled_index, spelled_scale}
 use Rattle.x86_layout.proofs.TightenLemmas.FieldLaws.{least, first_of_three, second_of_three, third_of_three, base_stands, index_stands, base_counts, index_counts, base_next, index_next}
 
 -- ---- where registers are placed
 
-abbrev Stands : Places → Type 0
+abbrev Stands : AddressRegisters → Type 0
 Stands at = IsBelow16 at.base × IsIndex at.index
 
 index_below : (i : Option ℕ) → IsIndex i → IsBelow16 i
@@ -91,14 +91,14 @@ same_index i (Some n) s t r e f = ap (λ k. counts k (times s) r) e ∙ ap (λ k
 spelled_scale_where : (d : ℤ) (m : ℕ) → m < 8 → (b i : Option ℕ) (s : Scale) (n : ℕ) → i ≡ Some n → scale_in (sib_by (rm_alone b i) (packed_byte (scale_field s) (field_or 4 i) (field_or 5 b))) ≡ s
 spelled_scale_where d m below b i s n e = subst (λ k. scale_in (sib_by (rm_alone b k) (packed_byte (scale_field s) (field_or 4 k) (field_or 5 b))) ≡ s) (sym e) (spelled_scale d m below b n s)
 
-spelled_weighs : (raw : Raw) (at : Places) (r : ℕ) → Stands at → weight (places_of (spelled raw at)) r ≡ weight at r
+spelled_weighs : (raw : Raw) (at : AddressRegisters) (r : ℕ) → Stands at → weight (registers_of (spelled raw at)) r ≡ weight at r
 spelled_weighs raw at r h =
     let d = raw.disp in
     let m : ℕ = middle_field raw.modrm in
     let below : m < 8 = middle_small raw.modrm in
     let base = spelled_base d m below at.base at.index at.scale h.0 in
     let index = spelled_index d m below at.base at.index at.scale h.1 in
-    let to = places_of (spelled raw at) in
+    let to = registers_of (spelled raw at) in
     let second : counts to.index (times to.scale) r ≡ counts at.index (times at.scale) r = same_index to.index at.index to.scale at.scale r index (spelled_scale_where d m below at.base at.index at.scale) in
     ap (λ b. counts b 1 r + counts to.index (times to.scale) r) base ∙ ap (λ n. counts at.base 1 r + n) second
 
@@ -115,11 +115,11 @@ spelled_ip_by d m below (Some b) None sib = by (low_field b == 4)
         ∙ ap (λ n. (mod_by d b == 0) && (n == 5)) (low_is (mod_by d b) m (low_field b) below (low_small b))
         ∙ not_bare_five (is_zero d) (asks_displacement b) (is_byte d)
 
-spelled_ip : (raw : Raw) (at : Places) → is_ip_relative (spelled raw at) ≡ false
+spelled_ip : (raw : Raw) (at : AddressRegisters) → is_ip_relative (spelled raw at) ≡ false
 spelled_ip raw at = spelled_ip_by raw.disp (middle_field raw.modrm) (middle_small raw.modrm) at.base at.index _
 
 -- the SIB byte is a byte
-spelled_sib : (at : Places) (rm : Option ℕ) → IsByteOption (sib_by rm (packed_byte (scale_field at.scale) (field_or 4 at.index) (field_or 5 at.base)))
+spelled_sib : (at : AddressRegisters) (rm : Option ℕ) → IsByteOption (sib_by rm (packed_byte (scale_field at.scale) (field_or 4 at.index) (field_or 5 at.base)))
 spelled_sib at (Some rm) = tt
 spelled_sib at None = byte (scale_field at.scale) (field_or 4 at.index) (field_or 5 at.base) (field at.scale) (field_small 4 at.index (omega arith)) (field_small 5 at.base (omega arith))
   where
@@ -135,18 +135,18 @@ spelled_sib at None = byte (scale_field at.scale) (field_or 4 at.index) (field_o
 pub shortest_is_of_bytes : (raw : Raw) → IsOfBytes raw → IsOfBytes (shortest raw)
 unfolding shortest
 shortest_is_of_bytes raw h = record {
-  fit = spelled_fits raw.disp (middle_field raw.modrm) (middle_small raw.modrm) (shortest_places raw).base (shortest_places raw).index (shortest_places raw).scale;
-  sib = spelled_sib (shortest_places raw) (rm_alone (shortest_places raw).base (shortest_places raw).index);
+  fit = spelled_fits raw.disp (middle_field raw.modrm) (middle_small raw.modrm) (shortest_registers raw).base (shortest_registers raw).index (shortest_registers raw).scale;
+  sib = spelled_sib (shortest_registers raw) (rm_alone (shortest_registers raw).base (shortest_registers raw).index);
   disp = h.disp;
 }
 
 pub shortest_keeps_reg : (raw : Raw) → middle_field (shortest raw).modrm ≡ middle_field raw.modrm
 unfolding shortest
-shortest_keeps_reg raw = let at = shortest_places raw in middle_is _ (middle_field raw.modrm) (rm_by (rm_alone at.base at.index)) (middle_small raw.modrm) (rm_small raw.disp (middle_field raw.modrm) (middle_small raw.modrm) at.base at.index)
+shortest_keeps_reg raw = let at = shortest_registers raw in middle_is _ (middle_field raw.modrm) (rm_by (rm_alone at.base at.index)) (middle_small raw.modrm) (rm_small raw.disp (middle_field raw.modrm) (middle_small raw.modrm) at.base at.index)
 
 -- ---- the address form
 
-form_weighs : (raw : Raw) (r : ℕ) → IsByteOption raw.sib → is_ip_relative raw ≡ false → (raw_form raw).registers r ≡ weight (places_of raw) r
+form_weighs : (raw : Raw) (r : ℕ) → IsByteOption raw.sib → is_ip_relative raw ≡ false → (raw_form raw).registers r ≡ weight (registers_of raw) r
 form_weighs raw r h e = ap (λ n. n + adds_to (index_by raw raw.sib) (scale_by raw.sib) r) (base_counts raw raw.sib r e) ∙ ap (λ n. counts (base_in raw.rex_b raw.modrm raw.sib) 1 r + n) (index_counts raw raw.sib r h)
 
 form_next : (raw : Raw) → (raw_form raw).next ≡ (if is_ip_relative raw then 1 else 0)
@@ -155,15 +155,15 @@ form_next raw = ap (λ n. n + adds_next (index_by raw raw.sib) (scale_by raw.sib
     plus_zero : (n : ℕ) → n + 0 ≡ n
     plus_zero n = omega arith
 
-stands : (raw : Raw) → Stands (shortest_places raw)
+stands : (raw : Raw) → Stands (shortest_registers raw)
 stands raw = placed_stands raw.disp _ _ _ (base_stands raw.rex_b raw.modrm raw.sib) (index_stands raw.rex_x raw.sib)
 
 pub shortest_has_the_address : (raw : Raw) → IsOfBytes raw → is_ip_relative raw ≡ false → IsSameAddress (raw_form (shortest raw)) (raw_form raw)
 unfolding shortest
 shortest_has_the_address raw h e =
-    let at = shortest_places raw in
+    let at = shortest_registers raw in
     let to = spelled raw at in
-    let from = places_of raw in
+    let from = registers_of raw in
     record {
       modulus = refl;
       registers = λ r small.
@@ -192,14 +192,14 @@ ip_told : (t : Bool) → one_if_so t ≡ 0 → t ≡ false
 ip_told true e = absurd (omega (arith, e))
 ip_told false e = refl
 
-shortest_length : (raw : Raw) → address_length (shortest raw) ≡ bytes_at raw.disp (shortest_places raw)
+shortest_length : (raw : Raw) → address_length (shortest raw) ≡ bytes_at raw.disp (shortest_registers raw)
 unfolding shortest
-shortest_length raw = let at = shortest_places raw in spelled_length raw.disp (middle_field raw.modrm) (middle_small raw.modrm) at.base at.index at.scale
+shortest_length raw = let at = shortest_registers raw in spelled_length raw.disp (middle_field raw.modrm) (middle_small raw.modrm) at.base at.index at.scale
 
 pub none_is_shorter : (raw other : Raw) → IsOfBytes raw → IsOfBytes other → is_ip_relative raw ≡ false → IsSameAddress (raw_form other) (raw_form raw) → address_length (shortest raw) ≤ address_length other
 none_is_shorter raw other h k e same =
-    let from = places_of raw in
-    let to = places_of other in
+    let from = registers_of raw in
+    let to = registers_of other in
     let ip : is_ip_relative other ≡ false = ip_told (is_ip_relative other) (sym (form_next other) ∙ same.next ∙ form_next raw ∙ ap one_if_so e) in
     let disp : other.disp ≡ raw.disp = disp_told raw.address_size other.disp raw.disp k.disp h.disp (ap (λ s. constant_by s other.disp) (sym (short_told other.address_size raw.address_size same.modulus)) ∙ same.constant) in
     let counts_so : (r : ℕ) → r < 16 → weight from r ≡ weight to r = λ r small. sym (form_weighs raw r h.sib e) ∙ sym (same.registers r small) ∙ form_weighs other r k.sib ip in
@@ -231,7 +231,7 @@ placed_low d (Some b) (Some i) Four hb hi = (hb, hi)
 placed_low d (Some b) (Some i) Eight hb hi = (hb, hi)
 placed_low d (Some b) (Some i) One hb hi = by (is_zero d && (asks_displacement b && not (asks_displacement i)))
   where
-    by : (t : Bool) → (let at : Places = if t then record { base = Some i; index = Some b; scale = One } else record { base = Some b; index = Some i; scale = One } in (fourth_bit at.base ≡ false) × (fourth_bit at.index ≡ false))
+    by : (t : Bool) → (let at : AddressRegisters = if t then record { base = Some i; index = Some b; scale = One } else record { base = Some b; index = Some i; scale = One } in (fourth_bit at.base ≡ false) × (fourth_bit at.index ≡ false))
     by true = (hi, hb)
     by false = (hb, hi)
 

@@ -3,9 +3,9 @@ use Rattle.std.proofs.Common.{◌≡◌, ◌≢◌, ℕ, zero, suc, ◌+◌, ◌
 use Rattle.std.proofs.lemmas.Bool.Decides.{nat_tests}
 use Rattle.x86_fields.specs.Raw.{high_field, middle_field, low_field, names_no_base, disp_width, sib_fits, is_zero, is_byte, disp_fits}
 use Rattle.x86_fields.specs.Address.{extended}
-use Rattle.x86_layout.specs.declared.tightening.places.Scale.{Scale}
-use Rattle.x86_layout.specs.declared.tightening.places.Scale.TheVariants.{One, Two, Four, Eight}
-use Rattle.x86_layout.specs.Tightening.Places.{base_in, index_in, scale_in, scale_named, IsBelow16, IsIndex}
+use Rattle.x86_layout.specs.declared.tightening.registers.Scale.{Scale}
+use Rattle.x86_layout.specs.declared.tightening.registers.Scale.TheVariants.{One, Two, Four, Eight}
+use Rattle.x86_layout.specs.Tightening.Registers.{base_in, index_in, scale_in, scale_named, IsBelow16, IsIndex}
 use Rattle.x86_layout.specs.Tightening.Shortest.{asks_displacement, behind_base, bytes_by, mod_by, mod_of, packed_byte, fourth_bit, scale_field, field_or, rm_alone, sib_by, rm_by}
 
 -- ---- the fields of a byte

@@ -1,5 +1,5 @@
 -- What the parts of an encoding tell of its raw fields.
-use Rattle.std.proofs.Common.{◌≡◌, ℕ, ◌≤◌, ◌==◌, ◌&&◌, Bool, true, false, if◌then◌else◌, Option, Some, None, is_some, List, ◌∷◌, ◌++◌, length, slice_index, refl, sym, ap, ◌∙◌, arith}
+use Rattle.std.proofs.Common.{◌≡◌, ℕ, ◌≤◌, ◌==◌, ◌&&◌, Bool, true, false, if◌then◌else◌, Option, Some, None, List, ◌∷◌, ◌++◌, length, slice_index, refl, sym, ap, ◌∙◌, arith}
 use Rattle.x86_fields.specs.declared.Prefixes.{Prefixes}
 use Rattle.x86_fields.specs.declared.Raw.{Raw}
 use Rattle.x86_fields.specs.Raw.{low_field, rex_b, rex_x, disp_width, live_bit}
@@ -14,10 +14,11 @@ use Rattle.x86_layout.specs.declared.parts.heads.Head.{Head}
 use Rattle.x86_layout.specs.declared.parts.split.Parts.{Parts}
 use Rattle.x86_layout.specs.Parts.Heads.{one_if, IsHead, IsTail}
 use Rattle.x86_layout.specs.Parts.Split.{PartLists, Encoding, HasParts, lists_of}
-use Rattle.x86_layout.specs.Tightening.Places.{is_ip_relative}
+use Rattle.x86_layout.specs.Tightening.Registers.{is_ip_relative}
 use Rattle.x86_layout.specs.Tightening.Shortest.{shortest, IsOfBytes}
 use Rattle.x86_layout.specs.Tightening.Tighten.{HasMemoryOperand, HasOperandForm, run_with, raw_of, address_bytes, respelled, respelled_length}
 use Rattle.x86_layout.proofs.PartLemmas.PartLaws.{front_is, rest_is, used_is}
+use Rattle.x86_layout.proofs.PartLemmas.FrontLaws.{option_count, first_of}
 use Rattle.x86_layout.proofs.TightenLemmas.RexLaws.{seen_rex, seen_67}
 use Rattle.x86_layout.proofs.TightenLemmas.WritesLaws.{row_writes}
 use Rattle.x86_layout.proofs.TightenLemmas.RelativeLaws.{Seen, Row, Byte, Address, spells, fields, byte, length_is, no_longer, Bytes'}
@@ -29,14 +30,6 @@ take_of xs ys a b e h = sym (front_is (xs ++ ys) xs ys (length xs) refl refl) �
 
 drop_of : (xs ys a b : List ℕ) → xs ++ ys ≡ a ++ b → length xs ≡ length a → ys ≡ b
 drop_of xs ys a b e h = sym (rest_is (xs ++ ys) xs ys (length xs) refl refl) ∙ rest_is (xs ++ ys) a b (length xs) e h
-
-first_of_option : (sib : Option ℕ) → first_byte (option_bytes sib) ≡ sib
-first_of_option None = refl
-first_of_option (Some b) = refl
-
-option_long : (sib : Option ℕ) → length (option_bytes sib) ≡ one_if (is_some sib)
-option_long None = refl
-option_long (Some b) = refl
 
 module _ (strict : Bool) (s : List ℕ) (a : Reading) (v : Encoding strict s a) where
   -- whether the row asks a memory form
@@ -95,13 +88,13 @@ module _ (strict : Bool) (s : List ℕ) (a : Reading) (v : Encoding strict s a) 
     sib_long : length parts.sib ≡ length (option_bytes (spelled).sib)
     sib_long =
         h.sib ∙ ap (λ t. if t && low_field (Byte strict s a v) == 4 then 1 else 0) (spells strict s a v raw read).0
-        ∙ ap one_if (sym (spelled).sib_asked) ∙ sym (option_long (spelled).sib)
+        ∙ ap one_if (sym (spelled).sib_asked) ∙ sym (option_count (spelled).sib)
 
     both : parts.sib ++ parts.displacement ≡ option_bytes (spelled).sib ++ (spelled).disp
     both = h.address ∙ (spelled).spelled
 
     sib_is : first_byte parts.sib ≡ (spelled).sib
-    sib_is = ap first_byte (take_of parts.sib parts.displacement _ (spelled).disp both sib_long) ∙ first_of_option (spelled).sib
+    sib_is = ap first_byte (take_of parts.sib parts.displacement _ (spelled).disp both sib_long) ∙ first_of (spelled).sib
 
     displacement_is : parts.displacement ≡ (spelled).disp
     displacement_is = drop_of parts.sib parts.displacement (option_bytes (spelled).sib) (spelled).disp both sib_long

@@ -2,9 +2,9 @@
 use Rattle.std.proofs.Common.{◌≡◌, ◌≢◌, ℕ, ◌+◌, ◌<◌, ◌≤◌, ◌==◌, ◌&&◌, ◌⊎◌, inl, inr, not, Bool, true, false, if◌then◌else◌, Option, Some, None, ℤ, refl, sym, ap, subst, ◌∙◌, arith}
 use Rattle.std.proofs.lemmas.Bool.Decides.{nat_tests}
 use Rattle.x86_fields.specs.Raw.{low_field, is_zero, is_byte}
-use Rattle.x86_layout.specs.declared.tightening.places.Scale.{Scale}
-use Rattle.x86_layout.specs.declared.tightening.places.Scale.TheVariants.{One, Two, Four, Eight}
-use Rattle.x86_layout.specs.Tightening.Places.{times, counts, IsBelow16, IsIndex}
+use Rattle.x86_layout.specs.declared.tightening.registers.Scale.{Scale}
+use Rattle.x86_layout.specs.declared.tightening.registers.Scale.TheVariants.{One, Two, Four, Eight}
+use Rattle.x86_layout.specs.Tightening.Registers.{times, counts, IsBelow16, IsIndex}
 use Rattle.x86_layout.specs.Tightening.Shortest.{asks_displacement, is_bare, lone, both, exchanged, placed, behind_base, bytes_by, bytes_at}
 
 -- ---- how often a register counts

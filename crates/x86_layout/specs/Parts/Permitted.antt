@@ -46,7 +46,8 @@ abbrev pub entry_at : Option Map → Prefixes → ℕ → Option Entry
 entry_at None p opcode = None
 entry_at (Some map) p opcode = if is_opcode map opcode then entry_by (rows_of word_at map (column_of p) opcode) (seen map opcode p) else None
 
--- the row of the opcode byte in the map of the escape and the column of the run, and the prefixes as its record sees them
+-- the row of the opcode byte in the map of the escape and the column of the run, and the prefixes as its record sees
+-- them
 abbrev pub entry_of : Fields → Option Entry
 entry_of f = entry_at (map_named f.escape.items) (reading_of f.prefixes.items) f.opcode
 

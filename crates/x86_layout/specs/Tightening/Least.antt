@@ -5,7 +5,7 @@ use Rattle.x86_fields.specs.declared.Raw.{Raw}
 use Rattle.x86_decode.specs.declared.instructions.Instruction.{Instruction}
 use Rattle.x86_decode.specs.Answer.{answer_of}
 use Rattle.x86_layout.specs.Parts.Front.{ask_in, parts_of}
-use Rattle.x86_layout.specs.Tightening.Places.{is_ip_relative}
+use Rattle.x86_layout.specs.Tightening.Registers.{is_ip_relative}
 use Rattle.x86_layout.specs.Tightening.Shortest.{address_length, shortest}
 use Rattle.x86_layout.specs.Tightening.Tighten.{raw_of}
 
@@ -21,8 +21,8 @@ abbrev pub least_for : Bool → List ℕ → Result Instruction DecodeError → 
 least_for strict bytes (Ok i) = least_in strict (take i.length bytes)
 least_for strict bytes (Err e) = 0
 
--- how long a shortest relative of the encoding at the front is: as long as the encoding where it has none to seek, and 0 where
--- the bytes are refused
+-- how long a shortest relative of the encoding at the front is: as long as the encoding where it has none to seek,
+-- and 0 where the bytes are refused
 unfoldable pub least_of : Bool → List ℕ → ℕ
 least_of strict bytes = least_for strict bytes (answer_of strict bytes)
 

@@ -3,10 +3,10 @@ use Rattle.std.specs.Prelude.{◌≡◌, ℕ, ◌+◌, ◌*◌, ◌==◌, ◌&&�
 use Rattle.std.specs.Int.{w32}
 use Rattle.x86_fields.specs.declared.Raw.{Raw}
 use Rattle.x86_fields.specs.Raw.{middle_field, low_field, disp_width, is_zero, is_byte, fits}
-use Rattle.x86_layout.specs.declared.tightening.places.Scale.{Scale}
-use Rattle.x86_layout.specs.declared.tightening.places.Scale.TheVariants.{One, Two, Four, Eight}
-use Rattle.x86_layout.specs.declared.tightening.places.Places.{Places}
-use Rattle.x86_layout.specs.Tightening.Places.{places_of, IsByteOption}
+use Rattle.x86_layout.specs.declared.tightening.registers.Scale.{Scale}
+use Rattle.x86_layout.specs.declared.tightening.registers.Scale.TheVariants.{One, Two, Four, Eight}
+use Rattle.x86_layout.specs.declared.tightening.registers.AddressRegisters.{AddressRegisters}
+use Rattle.x86_layout.specs.Tightening.Registers.{registers_of, IsByteOption}
 
 -- ---- where the registers stand
 
@@ -18,32 +18,32 @@ abbrev pub is_bare : ℤ → ℕ → Bool
 is_bare disp base = is_zero disp && not (asks_displacement base)
 
 -- an index alone stands as base where it counts once, and as both where it counts twice
-abbrev pub lone : ℕ → Scale → Places
+abbrev pub lone : ℕ → Scale → AddressRegisters
 lone index One = record { base = Some index; index = None; scale = One }
 lone index Two = record { base = Some index; index = Some index; scale = One }
 lone index Four = record { base = None; index = Some index; scale = Four }
 lone index Eight = record { base = None; index = Some index; scale = Eight }
 
 -- base and index change places where that spares a displacement of 0
-abbrev pub exchanged : ℤ → ℕ → ℕ → Places
+abbrev pub exchanged : ℤ → ℕ → ℕ → AddressRegisters
 exchanged disp base index =
     if is_zero disp && (asks_displacement base && not (asks_displacement index))
     then record { base = Some index; index = Some base; scale = One }
     else record { base = Some base; index = Some index; scale = One }
 
-abbrev pub both : ℤ → ℕ → ℕ → Scale → Places
+abbrev pub both : ℤ → ℕ → ℕ → Scale → AddressRegisters
 both disp base index One = exchanged disp base index
 both disp base index scale = record { base = Some base; index = Some index; scale = scale }
 
-abbrev pub placed : ℤ → Option ℕ → Option ℕ → Scale → Places
+abbrev pub placed : ℤ → Option ℕ → Option ℕ → Scale → AddressRegisters
 placed disp None None scale = record { base = None; index = None; scale = One }
 placed disp (Some b) None scale = record { base = Some b; index = None; scale = One }
 placed disp None (Some i) scale = lone i scale
 placed disp (Some b) (Some i) scale = both disp b i scale
 
 -- where the registers stand in the shortest form
-abbrev pub shortest_places : Raw → Places
-shortest_places raw = let at = places_of raw in placed raw.disp at.base at.index at.scale
+abbrev pub shortest_registers : Raw → AddressRegisters
+shortest_registers raw = let at = registers_of raw in placed raw.disp at.base at.index at.scale
 
 -- ---- how many bytes
 
@@ -57,7 +57,7 @@ bytes_by disp None index = 5
 bytes_by disp (Some b) None = (if low_field b == 4 then 1 else 0) + behind_base disp b
 bytes_by disp (Some b) (Some i) = 1 + behind_base disp b
 
-abbrev pub bytes_at : ℤ → Places → ℕ
+abbrev pub bytes_at : ℤ → AddressRegisters → ℕ
 bytes_at disp at = bytes_by disp at.base at.index
 
 -- how many bytes SIB and displacement of raw fields have
@@ -92,7 +92,7 @@ abbrev pub field_or : ℕ → Option ℕ → ℕ
 field_or none None = none
 field_or none (Some n) = low_field n
 
-abbrev pub sib_byte : Places → ℕ
+abbrev pub sib_byte : AddressRegisters → ℕ
 sib_byte at = packed_byte (scale_field at.scale) (field_or 4 at.index) (field_or 5 at.base)
 
 -- SIB isn't needed where there is a base alone, whose number doesn't end in 100
@@ -109,7 +109,7 @@ rm_by None = 4
 rm_by (Some rm) = rm
 
 -- the raw fields where the registers stand so, with the reg field and the displacement of some raw fields
-abbrev pub spelled : Raw → Places → Raw
+abbrev pub spelled : Raw → AddressRegisters → Raw
 spelled raw at = record raw {
   rex_b = fourth_bit at.base;
   rex_x = fourth_bit at.index;
@@ -119,7 +119,7 @@ spelled raw at = record raw {
 
 -- raw fields of the same address with the fewest bytes
 unfoldable pub shortest : Raw → Raw
-shortest raw = spelled raw (shortest_places raw)
+shortest raw = spelled raw (shortest_registers raw)
 
 -- The raw fields are those of some bytes.
 pub record IsOfBytes (raw : Raw) : Type 0 where

@@ -20,7 +20,7 @@ use Rattle.x86_layout.specs.declared.tightening.tighten.Addressed.{Addressed}
 use Rattle.x86_layout.specs.declared.tightening.tighten.TightenError.{TightenError}
 use Rattle.x86_layout.specs.declared.tightening.tighten.TightenError.TheVariants.{Refused, NoMemoryForm, IpRelative}
 use Rattle.x86_layout.specs.Parts.Split.{PartLists, Encoding, HasParts, lists_of}
-use Rattle.x86_layout.specs.Tightening.Places.{is_ip_relative}
+use Rattle.x86_layout.specs.Tightening.Registers.{is_ip_relative}
 use Rattle.x86_layout.specs.Tightening.Shortest.{address_length}
 
 -- a REX with other bits X and B
@@ -116,13 +116,15 @@ module _ (strict : Bool) (s : List ℕ) (a : Reading) (v : Encoding strict s a) 
     pub operand : HasMemoryOperand
     pub form : is_ip_relative operand.raw ≡ ip_relative
 
-  -- These are the parts of the encoding, and the raw fields of its memory operand, which isn't relative to the next instruction.
+  -- These are the parts of the encoding, and the raw fields of its memory operand, which isn't relative to the next
+  -- instruction.
   pub record HasFields (found : Addressed) : Type 0 where
     pub parts : HasParts strict s a v (lists_of found.parts)
     pub read : v.asked.behind.pieces.memory ≡ Some found.raw
     pub form : is_ip_relative found.raw ≡ false
 
-  -- The encoding has a memory operand of ModRM that isn't relative to the next instruction, and t is a shortest relative.
+  -- The encoding has a memory operand of ModRM that isn't relative to the next instruction, and t is a shortest
+  -- relative.
   pub record IsTightened (t : List ℕ) : Type 0 where
     pub form : HasOperandForm false
     pub shortest : IsShortest t

@@ -12,7 +12,7 @@ ghost use Rattle.x86_layout.specs.Parts.Permitted.{lacks_modrm, refuses_suffix, 
 
 use crate::parts::entries::{Entry, entry_of, record_at};
 use crate::parts::fields::Fields;
-use crate::parts::split::{asks_sib, one_if};
+use crate::parts::split::asks_sib;
 use arrayvec::ArrayVec;
 use thiserror::Error;
 use x86_arch::U8Reader;
@@ -28,8 +28,8 @@ pub enum EmitError {
     /// One of the prefix bytes is neither a legacy prefix nor a REX.
     #[error("not a prefix byte")]
     Prefixes,
-    /// The escape is none of the four, the opcode byte has no row, or the row's record refuses at the opcode, for the ModRM that is
-    /// there, or for the suffix that is there.
+    /// The escape is none of the four, the opcode byte has no row, or the row's record refuses at the opcode, for the
+    /// ModRM that is there, or for the suffix that is there.
     #[error("no row for these fields")]
     Row,
     /// A part that the row asks is missing or has another length, or one is there that it doesn't ask.
@@ -100,11 +100,11 @@ fn has_asked_parts(row_record: &RecordAt, fields: &Fields) -> bool
     let ask = plan_ask(row_record.usage, row_record.modrm, &row_record.plan);
     let sib_asked = asks_sib(&ask, row_record.modrm);
     let displacement = usize::from(displacement_asked(row_record.modrm, fields.sib));
-    let modrm_fits = one_if(fields.modrm.is_some()) == one_if(ask.modrm);
-    let sib_fits = one_if(fields.sib.is_some()) == one_if(sib_asked);
+    let modrm_fits = usize::from(fields.modrm.is_some()) == usize::from(ask.modrm);
+    let sib_fits = usize::from(fields.sib.is_some()) == usize::from(sib_asked);
     let displacement_fits = fields.displacement.len() == displacement;
     let immediate_fits = fields.immediate.len() == usize::from(ask.immediate);
-    let suffix_fits = one_if(fields.suffix.is_some()) == one_if(ask.suffix);
+    let suffix_fits = usize::from(fields.suffix.is_some()) == usize::from(ask.suffix);
     modrm_fits && sib_fits && displacement_fits && immediate_fits && suffix_fits
 }
 
@@ -117,10 +117,11 @@ pub fn push(bytes: &mut ArrayVec<u8, 15>, part: &[u8])
     let _ = bytes.try_extend_from_slice(part);
 }
 
-fn push_byte(bytes: &mut ArrayVec<u8, 15>, part: Option<u8>)
-    requires { array_vec_len bytes.old + 1 ≤ 15 }
+/// Appends a part of one byte, where it is there.
+pub fn push_byte(bytes: &mut ArrayVec<u8, 15>, part: Option<u8>)
+    requires { array_vec_len bytes.old + length (option_bytes part) ≤ 15 }
     ensures text { bytes.new.items ≡ bytes.old.items ++ option_bytes part }
-    ensures len { array_vec_len bytes.new ≤ array_vec_len bytes.old + 1 }
+    ensures len { array_vec_len bytes.new ≡ array_vec_len bytes.old + length (option_bytes part) }
 {
     match part {
         Some(byte) => push(bytes, &[byte]),
@@ -129,6 +130,7 @@ fn push_byte(bytes: &mut ArrayVec<u8, 15>, part: Option<u8>)
 }
 
 /// What stands behind the opcode byte, at most 15 bytes.
+#[tactic(auto, using(crate::proofs::PartLemmas::PartLaws::option_short))]
 fn tail_of(fields: &Fields) -> ArrayVec<u8, 15>
     ensures { result.items ≡ tail_of fields.now }
 {
@@ -197,9 +199,10 @@ fn emit_row(strict: bool, entry: &Entry, fields: &Fields) -> Result<ArrayVec<u8,
     }
 }
 
-/// The encoding that has these parts, where they are permitted: the prefixes are a legal run; the opcode byte has a row, and its
-/// record doesn't refuse; each part that the row asks is there with its length, and no other part; F0 is absent or allowed; and the
-/// parts have at most 15 bytes in all. Else the error says which of these fails first (Intel SDM volume 2, section 2.1).
+/// The encoding that has these parts, where they are permitted: the prefixes are a legal run; the opcode byte has a
+/// row, and its record doesn't refuse; each part that the row asks is there with its length, and no other part; F0 is
+/// absent or allowed; and the parts have at most 15 bytes in all. Else the error says which of these fails first
+/// (Intel SDM volume 2, section 2.1).
 ///
 /// The fields of the split of `48 03 44 25 00` give these bytes again, and `Shape` where their SIB is taken away.
 #[tactic(auto, unfolding(crate::specs::Parts::Permitted::first_failing))]

@@ -1,6 +1,6 @@
 //! The row that fields name.
 
-ghost use Rattle.std.specs.Prelude.{◌≡◌, [], ◌∷◌, Some, IfSome, IsTrue};
+ghost use Rattle.std.specs.Prelude.{◌≡◌, Some, IfSome, IsTrue};
 ghost use Rattle.x86_forms.specs.Words.{IsForm};
 ghost use Rattle.x86_operands.specs.Asks.{record_at};
 ghost use Rattle.x86_decode.specs.Head.{is_run, is_opcode};
@@ -8,6 +8,7 @@ ghost use Rattle.x86_decode.specs.Grammar.{record_of};
 ghost use Rattle.x86_layout.specs.Parts.Permitted.{map_named, entry_at, entry_of};
 
 use crate::parts::fields::Fields;
+use crate::parts::heads::{byte_at, escape_length, map_of};
 use x86_decode::builders::{is_prefix, is_vex, seen_by, selected};
 use x86_fields::{Prefixes, read_run};
 use x86_forms::{Map, TableRow, packed, unpack};
@@ -21,30 +22,16 @@ pub struct Entry {
     pub prefixes: Prefixes,
 }
 
-/// The map of an escape of two bytes.
-fn three_byte_map(first: u8, second: u8) -> Option<Map>
-    ensures { result ≡ map_named (first ∷ second ∷ []) }
-{
-    if first != 0x0f {
-        None
-    } else if second == 0x38 {
-        Some(Map::Of38)
-    } else if second == 0x3a {
-        Some(Map::Of3a)
-    } else {
-        None
-    }
-}
-
 /// The map of an escape, where it is one of the four.
+#[tactic(auto, using(crate::proofs::PartLemmas::PartLaws::map_named_is))]
 fn map_named(escape: &[u8]) -> Option<Map>
     ensures { result ≡ map_named escape.now }
 {
-    match escape {
-        [] => Some(Map::One),
-        [first] => { if *first == 0x0f { Some(Map::Of) } else { None } }
-        [first, second] => three_byte_map(*first, *second),
-        _ => None,
+    let map = map_of(byte_at(escape, 0), byte_at(escape, 1));
+    if escape_length(map) == escape.len() {
+        Some(map)
+    } else {
+        None
     }
 }
 
@@ -76,7 +63,8 @@ fn entry_in(map: Map, prefixes: Prefixes, opcode: u8) -> Option<Entry>
     }
 }
 
-/// The row that fields with a legal run name: that of their opcode byte in the map of their escape and the column of the run.
+/// The row that fields with a legal run name: that of their opcode byte in the map of their escape and the column of
+/// the run.
 pub fn entry_of(fields: &Fields) -> Option<Entry>
     requires { IsTrue (is_run fields.now.prefixes.items) }
     ensures value { result ≡ entry_of fields.now }

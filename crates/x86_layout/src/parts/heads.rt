@@ -28,7 +28,7 @@ pub struct Head<'a> {
 }
 
 /// The first bytes, as many as are there, and those behind them.
-pub fn cut(bytes: &[u8], count: usize) -> (&[u8], &[u8])
+pub fn front_and_rest(bytes: &[u8], count: usize) -> (&[u8], &[u8])
     ensures front { result.0.now ≡ take count bytes.now }
     ensures behind { result.1.now ≡ drop count bytes.now }
 {
@@ -64,7 +64,7 @@ fn run_length(bytes: &[u8]) -> usize
 }
 
 /// The map by the first two bytes behind the run.
-fn map_of(first: u8, second: u8) -> Map
+pub fn map_of(first: u8, second: u8) -> Map
     ensures { result ≡ map_by first second }
 {
     if first != 0x0f {
@@ -79,7 +79,7 @@ fn map_of(first: u8, second: u8) -> Map
 }
 
 /// How many bytes the escape of a map has.
-fn escape_length(map: Map) -> usize
+pub fn escape_length(map: Map) -> usize
     ensures { result ≡ length (escape_bytes map) }
 {
     match map {
@@ -122,7 +122,7 @@ fn run_of(bytes: &[u8]) -> (&[u8], &[u8])
     ensures front { result.0.now ≡ take (prefix_len is_prefix_byte bytes.now) bytes.now }
     ensures behind { result.1.now ≡ drop (prefix_len is_prefix_byte bytes.now) bytes.now }
 {
-    cut(bytes, run_length(bytes))
+    front_and_rest(bytes, run_length(bytes))
 }
 
 /// The head of an encoding.
@@ -131,8 +131,8 @@ pub fn head_of(encoding: &[u8]) -> Head<'_>
 {
     let (prefixes, rest) = run_of(encoding);
     let map = map_of(byte_at(rest, 0), byte_at(rest, 1));
-    let (escape, rest) = cut(rest, escape_length(map));
-    let (opcode, tail) = cut(rest, 1);
+    let (escape, rest) = front_and_rest(rest, escape_length(map));
+    let (opcode, tail) = front_and_rest(rest, 1);
     let ask = ask_at(
         map,
         read_run(prefixes),

@@ -1,18 +1,18 @@
 //! The parts of an encoding.
 
-ghost use Rattle.std.specs.Prelude.{◌≡◌, ◌≤◌, ℕ, List, slice_index, MatchResult, IfOk, Ok, Err};
+ghost use Rattle.std.specs.Prelude.{◌≡◌, ℕ, List, slice_index, MatchResult, IfOk, Ok, Err};
 ghost use Rattle.x86_fields.specs.declared.Prefixes.{Prefixes};
 ghost use Rattle.x86_operands.specs.declared.reader.Reading.{Reading};
 ghost use Rattle.x86_operands.specs.Plans.{RowRecord};
 ghost use Rattle.x86_operands.specs.Pieces.{SpellsRow};
 ghost use Rattle.x86_operands.specs.Asks.{ask_of};
 ghost use Rattle.x86_decode.specs.Answer.{answer_of};
-ghost use Rattle.x86_layout.specs.Parts.Heads.{one_if, asks_sib, IsTail};
+ghost use Rattle.x86_layout.specs.Parts.Heads.{asks_sib, IsTail};
 ghost use Rattle.x86_layout.specs.Parts.Split.{lists_of, IsSplit};
 ghost use Rattle.x86_layout.specs.Parts.Front.{parts_of};
 ghost use Rattle.x86_layout.specs.Parts.Fields.{HasFieldLengths};
 
-use crate::parts::heads::{Head, byte_at, cut, head_of};
+use crate::parts::heads::{Head, byte_at, front_and_rest, head_of};
 use x86_decode::{InstDecoder, Instruction, laws};
 use x86_fields::DecodeError;
 use x86_operands::Ask;
@@ -35,14 +35,6 @@ pub struct Parts<'a> {
     pub suffix: &'a [u8],
 }
 
-/// How many bytes a part has that is there or not.
-pub fn one_if(flag: bool) -> usize
-    ensures value { result ≡ one_if flag }
-    ensures small { result ≤ 1 }
-{
-    if flag { 1 } else { 0 }
-}
-
 /// Whether there is a SIB at a ModRM byte.
 pub fn asks_sib(ask: &Ask, modrm: u8) -> bool
     ensures { result ≡ asks_sib ask.now modrm }
@@ -59,12 +51,12 @@ pub fn parts_behind<'a>(head: &Head<'a>) -> Parts<'a>
 {
     let ask = head.ask;
     let immediate_length = usize::from(ask.immediate);
-    let sib_length = one_if(asks_sib(&ask, byte_at(head.tail, 0)));
-    let (modrm, rest) = cut(head.tail, one_if(ask.modrm));
-    let before_suffix = rest.len().saturating_sub(one_if(ask.suffix));
-    let (address, rest) = cut(rest, before_suffix.saturating_sub(immediate_length));
-    let (sib, displacement) = cut(address, sib_length);
-    let (immediate, suffix) = cut(rest, immediate_length);
+    let sib_length = usize::from(asks_sib(&ask, byte_at(head.tail, 0)));
+    let (modrm, rest) = front_and_rest(head.tail, usize::from(ask.modrm));
+    let before_suffix = rest.len().saturating_sub(usize::from(ask.suffix));
+    let (address, rest) = front_and_rest(rest, before_suffix.saturating_sub(immediate_length));
+    let (sib, displacement) = front_and_rest(address, sib_length);
+    let (immediate, suffix) = front_and_rest(rest, immediate_length);
     Parts {
         prefixes: head.prefixes,
         escape: head.escape,
@@ -77,8 +69,8 @@ pub fn parts_behind<'a>(head: &Head<'a>) -> Parts<'a>
     }
 }
 
-/// The parts of an encoding that was decoded: what [`split`] answers, with no second decode. `instruction` is what the decoder answers
-/// for the bytes.
+/// The parts of an encoding that was decoded: what [`split`] answers, with no second decode. `instruction` is what
+/// the decoder answers for the bytes.
 ///
 /// For `48 03 44 25 00` and its instruction the displacement is 00 (Intel SDM volume 2, section 2.1).
 pub fn split_decoded<'a>(
@@ -93,12 +85,12 @@ pub fn split_decoded<'a>(
 {
     laws::lengths();
     laws::answer_is();
-    let (encoding, _) = cut(bytes, instruction.len().to_const() as usize);
+    let (encoding, _) = front_and_rest(bytes, instruction.len().to_const() as usize);
     parts_behind(&head_of(encoding))
 }
 
-/// The parts of the accepted encoding at the front of the bytes, in order; their concatenation is that encoding. Refused as
-/// `InstDecoder::decode_slice` refuses.
+/// The parts of the accepted encoding at the front of the bytes, in order; their concatenation is that encoding.
+/// Refused as `InstDecoder::decode_slice` refuses.
 ///
 /// For `48 03 44 25 00 90` the prefixes are 48, the opcode is 03, ModRM is 44, SIB is 25 and the displacement is 00.
 pub fn split<'a>(decoder: &InstDecoder, bytes: &'a [u8]) -> Result<Parts<'a>, DecodeError>

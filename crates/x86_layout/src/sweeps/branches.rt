@@ -42,9 +42,9 @@ fn offset(operand: Operand) -> i64
     }
 }
 
-/// The address that an instruction branches to, where `next` is the address behind it: `next` plus its sign-extended immediate,
-/// modulo 2^64. `None` where the operation isn't CALL, JMP, a Jcc, LOOPNZ, LOOPZ, LOOP, JRCXZ or JECXZ, or its target isn't an
-/// immediate (Intel SDM volume 2, CALL, JMP, Jcc and LOOP/LOOPcc).
+/// The address that an instruction branches to, where `next` is the address behind it: `next` plus its sign-extended
+/// immediate, modulo 2^64. `None` where the operation isn't CALL, JMP, a Jcc, LOOPNZ, LOOPZ, LOOP, JRCXZ or JECXZ, or
+/// its target isn't an immediate (Intel SDM volume 2, CALL, JMP, Jcc and LOOP/LOOPcc).
 ///
 /// For `eb fe` at address 0, with `next` 2, this is `Some(0)`; for `ff e0`, which is JMP rax, it is `None`.
 pub fn branch_target(inst: &Instruction, next: u64) -> Option<u64>

@@ -75,9 +75,9 @@ fn clear_inside_all(decoder: &InstDecoder, bytes: &[u8], marks: &mut [bool])
     }
 }
 
-/// Marks the places that the instructions of a sweep branch to. `marks[p]` becomes true exactly where a cut of the sweep begins at
-/// p and an instruction of the sweep has the target p, by [`branch_target`] with places as addresses. A target inside a cut or outside the
-/// bytes isn't marked.
+/// Marks the places that the instructions of a sweep branch to. `marks[p]` becomes true exactly where a cut of the
+/// sweep begins at p and an instruction of the sweep has the target p, by [`branch_target`] with places as addresses.
+/// A target inside a cut or outside the bytes isn't marked.
 ///
 /// Over `eb fe` the marks are true and false.
 pub fn mark_targets(decoder: &InstDecoder, bytes: &[u8], marks: &mut [bool])

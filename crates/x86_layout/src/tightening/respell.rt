@@ -5,13 +5,13 @@ ghost use Rattle.std.specs.List.{list_all};
 ghost use Rattle.x86_fields.specs.Run.{is_prefix_byte};
 ghost use Rattle.arrayvec.specs.ArrayVec.{array_vec_len};
 ghost use Rattle.x86_fields.specs.Raw.{disp_width};
-ghost use Rattle.x86_fields.specs.Pieces.{first_byte, signed_by, option_bytes};
+ghost use Rattle.x86_fields.specs.Pieces.{signed_by};
 ghost use Rattle.x86_layout.specs.Tightening.Shortest.{address_length};
 ghost use Rattle.x86_layout.specs.Tightening.Tighten.{byte_with, run_with, raw_in, displacement_bytes, respelled, respelled_length};
 
-use crate::parts::emit::push;
+use crate::parts::emit::{push, push_byte};
 use crate::parts::heads::byte_at;
-use crate::parts::split::{Parts, one_if};
+use crate::parts::split::Parts;
 use arrayvec::ArrayVec;
 use x86_fields::{Raw, displacement_width, is_rex, read_run};
 
@@ -55,7 +55,7 @@ pub fn address_length(raw: &Raw) -> usize
     ensures value { result ≡ address_length raw.now }
     ensures small { result ≤ 5 }
 {
-    one_if(raw.sib.is_some()) + width(raw)
+    usize::from(raw.sib.is_some()) + width(raw)
 }
 
 /// A REX byte with these bits X and B; another byte stays.
@@ -81,16 +81,7 @@ fn push_run(encoding: &mut ArrayVec<u8, 15>, run: &[u8], x: bool, b: bool)
     }
 }
 
-fn push_sib(encoding: &mut ArrayVec<u8, 15>, sib: Option<u8>)
-    requires { array_vec_len encoding.old + length (option_bytes sib) ≤ 15 }
-    ensures text { encoding.new.items ≡ encoding.old.items ++ option_bytes sib }
-    ensures len { array_vec_len encoding.new ≡ array_vec_len encoding.old + length (option_bytes sib) }
-{
-    if let Some(sib) = sib {
-        encoding.push(sib);
-    }
-}
-
+/// Appends the displacement of raw fields.
 fn push_displacement(encoding: &mut ArrayVec<u8, 15>, raw: &Raw)
     requires { array_vec_len encoding.old + disp_width raw.now.modrm raw.now.sib ≤ 15 }
     ensures text { encoding.new.items ≡ encoding.old.items ++ displacement_bytes raw.now }
@@ -110,7 +101,7 @@ pub fn respelled(parts: &Parts, raw: &Raw) -> ArrayVec<u8, 15>
     push(&mut encoding, parts.escape);
     push(&mut encoding, parts.opcode);
     encoding.push(raw.modrm);
-    push_sib(&mut encoding, raw.sib);
+    push_byte(&mut encoding, raw.sib);
     push_displacement(&mut encoding, raw);
     push(&mut encoding, parts.immediate);
     push(&mut encoding, parts.suffix);

@@ -3,7 +3,7 @@
 ghost use Rattle.std.specs.Prelude.{◌≡◌, ◌<◌};
 ghost use Rattle.x86_layout.specs.Tightening.Shortest.{asks_displacement, is_bare, lone, both, exchanged, placed, mod_by, mod_of, packed_byte, fourth_bit, scale_field, field_or, sib_byte, rm_alone, spelled, shortest};
 
-use crate::tightening::places::{Places, Scale, places_of};
+use crate::tightening::registers::{AddressRegisters, Scale, registers_of};
 use x86_fields::Raw;
 
 /// Whether a base asks a displacement, also of 0: its number ends in 101.
@@ -14,21 +14,21 @@ fn asks_displacement(base: u8) -> bool
 }
 
 /// Where an index stands that is alone.
-fn lone(index: u8, scale: Scale) -> Places
+fn lone(index: u8, scale: Scale) -> AddressRegisters
     ensures { result ≡ lone index scale }
 {
     match scale {
-        Scale::One => Places {
+        Scale::One => AddressRegisters {
             base: Some(index),
             index: None,
             scale,
         },
-        Scale::Two => Places {
+        Scale::Two => AddressRegisters {
             base: Some(index),
             index: Some(index),
             scale: Scale::One,
         },
-        Scale::Four | Scale::Eight => Places {
+        Scale::Four | Scale::Eight => AddressRegisters {
             base: None,
             index: Some(index),
             scale,
@@ -37,17 +37,17 @@ fn lone(index: u8, scale: Scale) -> Places
 }
 
 /// Base and index that count once each, which may change places.
-fn exchanged(disp: i32, base: u8, index: u8) -> Places
+fn exchanged(disp: i32, base: u8, index: u8) -> AddressRegisters
     ensures { result ≡ exchanged disp base index }
 {
     if disp == 0 && asks_displacement(base) && !asks_displacement(index) {
-        Places {
+        AddressRegisters {
             base: Some(index),
             index: Some(base),
             scale: Scale::One,
         }
     } else {
-        Places {
+        AddressRegisters {
             base: Some(base),
             index: Some(index),
             scale: Scale::One,
@@ -55,12 +55,12 @@ fn exchanged(disp: i32, base: u8, index: u8) -> Places
     }
 }
 
-fn both(disp: i32, base: u8, index: u8, scale: Scale) -> Places
+fn both(disp: i32, base: u8, index: u8, scale: Scale) -> AddressRegisters
     ensures { result ≡ both disp base index scale }
 {
     match scale {
         Scale::One => exchanged(disp, base, index),
-        _ => Places {
+        _ => AddressRegisters {
             base: Some(base),
             index: Some(index),
             scale,
@@ -69,13 +69,13 @@ fn both(disp: i32, base: u8, index: u8, scale: Scale) -> Places
 }
 
 /// Where the registers stand in the shortest form.
-fn placed(disp: i32, at: Places) -> Places
+fn placed(disp: i32, at: AddressRegisters) -> AddressRegisters
     ensures { result ≡ placed disp at.base at.index at.scale }
 {
     match (at.base, at.index) {
         (Some(base), Some(index)) => both(disp, base, index, at.scale),
         (None, Some(index)) => lone(index, at.scale),
-        (base, None) => Places {
+        (base, None) => AddressRegisters {
             base,
             index: None,
             scale: Scale::One,
@@ -151,7 +151,7 @@ fn field_or(none: u8, number: Option<u8>) -> u8
     }
 }
 
-fn sib_byte(at: &Places) -> u8
+fn sib_byte(at: &AddressRegisters) -> u8
     ensures { result ≡ sib_byte at.now }
 {
     packed(
@@ -162,7 +162,7 @@ fn sib_byte(at: &Places) -> u8
 }
 
 /// The rm field where no SIB is needed: a base alone, whose number doesn't end in 100.
-fn rm_alone(at: &Places) -> Option<u8>
+fn rm_alone(at: &AddressRegisters) -> Option<u8>
     ensures { result ≡ rm_alone at.now.base at.now.index }
 {
     match (at.base, at.index) {
@@ -172,7 +172,7 @@ fn rm_alone(at: &Places) -> Option<u8>
 }
 
 /// The raw fields where the registers stand so.
-fn spelled(raw: &Raw, at: &Places) -> Raw
+fn spelled(raw: &Raw, at: &AddressRegisters) -> Raw
     ensures { result ≡ spelled raw.now at.now }
 {
     let high = mod_field(raw.disp, at.base);
@@ -196,5 +196,5 @@ fn spelled(raw: &Raw, at: &Places) -> Raw
 pub fn shortest(raw: &Raw) -> Raw
     ensures { result ≡ shortest raw.now }
 {
-    spelled(raw, &placed(raw.disp, places_of(raw)))
+    spelled(raw, &placed(raw.disp, registers_of(raw)))
 }

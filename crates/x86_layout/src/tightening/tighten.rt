@@ -8,9 +8,9 @@ ghost use Rattle.x86_layout.specs.Tightening.Least.{least_in, least_of, HasLengt
 ghost use Rattle.x86_decode.specs.Answer.{answer_of};
 ghost use Rattle.x86_layout.specs.Tightening.Tighten.{IsTightened, HasFields, HasNoRelative, HasSentence, OfFront, IsNotTightened};
 
-use crate::parts::heads::{cut, head_of};
+use crate::parts::heads::{front_and_rest, head_of};
 use crate::parts::split::{Parts, parts_behind};
-use crate::tightening::places::is_ip_relative;
+use crate::tightening::registers::is_ip_relative;
 use crate::tightening::respell::{address_length, raw_in, respelled};
 use crate::tightening::shortest::shortest;
 use arrayvec::ArrayVec;
@@ -83,8 +83,9 @@ fn least_length(encoding: &[u8]) -> usize
     }
 }
 
-/// How many bytes a shortest relative of an encoding has that was decoded, and the encoding itself where it has none to seek: the
-/// length of what [`tighten`] answers, with no second decode. `instruction` is what the decoder answers for the bytes.
+/// How many bytes a shortest relative of an encoding has that was decoded, and the encoding itself where it has none
+/// to seek: the length of what [`tighten`] answers, with no second decode. `instruction` is what the decoder answers
+/// for the bytes.
 ///
 /// For `48 8b 84 25 00 00 00 00` and its instruction this is 4 (Intel SDM volume 2, section 2.1.5).
 pub fn shortest_length(decoder: &InstDecoder, instruction: &Instruction, bytes: &[u8]) -> u64
@@ -93,16 +94,17 @@ pub fn shortest_length(decoder: &InstDecoder, instruction: &Instruction, bytes: 
 {
     laws::lengths();
     laws::answer_is();
-    let (encoding, _) = cut(bytes, instruction.len().to_const() as usize);
+    let (encoding, _) = front_and_rest(bytes, instruction.len().to_const() as usize);
     least_length(encoding) as u64
 }
 
-/// An encoding with the same instruction and the same address as the accepted encoding at the front of the bytes, of which none is
-/// shorter.
+/// An encoding with the same instruction and the same address as the accepted encoding at the front of the bytes, of
+/// which none is shorter.
 ///
-/// Its parts are those of that encoding, but for mod and rm of ModRM, SIB, the displacement, and the bits X and B of a live REX.
-/// Base and index may change places at scale 1, and the processor's default segment with them. Refused as
-/// `InstDecoder::decode_slice` refuses; `NoMemoryForm` where ModRM is no memory form, and `IpRelative` at mod 00 with rm 101.
+/// Its parts are those of that encoding, but for mod and rm of ModRM, SIB, the displacement, and the bits X and B of
+/// a live REX. Base and index may change places at scale 1, and the processor's default segment with them. Refused as
+/// `InstDecoder::decode_slice` refuses; `NoMemoryForm` where ModRM is no memory form, and `IpRelative` at mod 00 with
+/// rm 101.
 ///
 /// For `48 8b 84 25 00 00 00 00`, which is MOV rax, [rbp], this is `48 8b 45 00` (Intel SDM volume 2, section 2.1.5).
 pub fn tighten(decoder: &InstDecoder, bytes: &[u8]) -> Result<ArrayVec<u8, 15>, TightenError>
@@ -115,7 +117,7 @@ pub fn tighten(decoder: &InstDecoder, bytes: &[u8]) -> Result<ArrayVec<u8, 15>, 
         Ok(instruction) => instruction,
         Err(error) => return Err(TightenError::Refused(error)),
     };
-    let (encoding, _) = cut(bytes, instruction.len().to_const() as usize);
+    let (encoding, _) = front_and_rest(bytes, instruction.len().to_const() as usize);
     tightened(encoding)
 }
 

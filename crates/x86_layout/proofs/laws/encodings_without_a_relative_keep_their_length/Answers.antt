@@ -5,7 +5,7 @@ use Rattle.x86_layout.specs.declared.tightening.tighten.TightenError.{TightenErr
 use Rattle.x86_layout.specs.declared.tightening.tighten.TightenError.TheVariants.{Refused, NoMemoryForm, IpRelative}
 use Rattle.x86_layout.specs.Tightening.Least.{least_in}
 use Rattle.x86_layout.specs.Parts.Split.{Encoding}
-use Rattle.x86_layout.specs.Tightening.Places.{is_ip_relative}
+use Rattle.x86_layout.specs.Tightening.Registers.{is_ip_relative}
 use Rattle.x86_layout.specs.Tightening.Tighten.{HasMemoryOperand, HasNoRelative}
 use Rattle.x86_layout.proofs.TightenLemmas.LeastLaws.{least_without, least_at_ip}
 use Rattle.x86_layout.proofs.TightenLemmas.RelativeLaws.{Byte}

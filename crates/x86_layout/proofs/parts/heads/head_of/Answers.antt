@@ -37,10 +37,10 @@ returns c = λ strict reading w.
     c.map_of-map.ensures ∙ ap (λ b. map_by b c.byte_at-2.result) c.byte_at.ensures ∙ ap (map_by (slice_index c.run_of.result.1.now 0)) c.byte_at-2.ensures
     ∙ ap (λ l. map_by (slice_index l 0) (slice_index l 1)) rest ∙ map_is w.map w.opcode w.tail w.meant in
     let escape_n : c.escape_length.result ≡ length (escape_bytes w.map) = c.escape_length.ensures ∙ ap (λ m. length (escape_bytes m)) map in
-    let escape = c.cut.ensures.front ∙ front_is _ (escape_bytes w.map) (w.opcode ∷ w.tail) _ rest escape_n in
-    let rest' = c.cut.ensures.behind ∙ rest_is _ (escape_bytes w.map) (w.opcode ∷ w.tail) _ rest escape_n in
-    let opcode = c.cut-2.ensures.front ∙ front_is _ (w.opcode ∷ []) w.tail 1 rest' refl in
-    let tail = c.cut-2.ensures.behind ∙ rest_is _ (w.opcode ∷ []) w.tail 1 rest' refl in
+    let escape = c.front_and_rest.ensures.front ∙ front_is _ (escape_bytes w.map) (w.opcode ∷ w.tail) _ rest escape_n in
+    let rest' = c.front_and_rest.ensures.behind ∙ rest_is _ (escape_bytes w.map) (w.opcode ∷ w.tail) _ rest escape_n in
+    let opcode = c.front_and_rest-2.ensures.front ∙ front_is _ (w.opcode ∷ []) w.tail 1 rest' refl in
+    let tail = c.front_and_rest-2.ensures.behind ∙ rest_is _ (w.opcode ∷ []) w.tail 1 rest' refl in
     let p : c.read_run.result ≡ reading_of w.run = c.read_run.ensures ∙ ap reading_of prefixes in
     let o : c.byte_at-3.result ≡ w.opcode = c.byte_at-3.ensures ∙ ap (λ l. slice_index l 0) opcode in
     let m : c.byte_at-4.result ≡ slice_index w.tail 0 = c.byte_at-4.ensures ∙ ap (λ l. slice_index l 0) tail in

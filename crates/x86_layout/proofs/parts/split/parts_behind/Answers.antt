@@ -3,7 +3,7 @@ use Rattle.std.proofs.lemmas.List.{take-append-drop}
 use Rattle.x86_operands.specs.Pieces.{modrm_of}
 use Rattle.x86_layout.specs.Parts.Heads.{one_if, asks_sib}
 use Rattle.x86_layout.specs.Parts.Split.{sib_width}
-use Rattle.x86_layout.proofs.PartLemmas.PartLaws.{front_is, rest_is, modrm_count, sib_count, immediate_count, address_count, sib_within}
+use Rattle.x86_layout.proofs.PartLemmas.PartLaws.{from_is, front_is, rest_is, modrm_count, sib_count, immediate_count, address_count, sib_within}
 use Rattle.x86_layout.proofs.parts.split.parts_behind.Goals as goal
 
 pub returns-clause-tail : goal.returns-clause-tail
@@ -11,33 +11,33 @@ returns-clause-tail c = λ r p reading tail e k a.
     let ask = c.args.head.now.ask in
     let s = a.behind.pieces in
     let behind : c.args.head.now.tail.now ≡ a.modrm ++ a.tail = e ∙ a.spelled in
-    let modrm_n : c.one_if.result ≡ length a.modrm = c.one_if.ensures.value ∙ modrm_count r p tail reading a tail a.tail a.spelled ask k in
-    let modrm = c.cut.ensures.front ∙ front_is _ a.modrm a.tail c.one_if.result behind modrm_n in
-    let rest = c.cut.ensures.behind ∙ rest_is _ a.modrm a.tail c.one_if.result behind modrm_n in
-    let rest' : c.cut.result.1.now ≡ s.address ++ (s.immediates ++ s.suffix) = rest ∙ s.spelled in
+    let modrm_n : c.from.result ≡ length a.modrm = c.from.ensures ∙ from_is _ ∙ modrm_count r p tail reading a tail a.tail a.spelled ask k in
+    let modrm = c.front_and_rest.ensures.front ∙ front_is _ a.modrm a.tail c.from.result behind modrm_n in
+    let rest = c.front_and_rest.ensures.behind ∙ rest_is _ a.modrm a.tail c.from.result behind modrm_n in
+    let rest' : c.front_and_rest.result.1.now ≡ s.address ++ (s.immediates ++ s.suffix) = rest ∙ s.spelled in
     let immediate_n : c.from-immediate_length.result ≡ length s.immediates = c.from-immediate_length.ensures ∙ immediate_count r p tail reading a tail a.tail a.spelled ask k in
     let address_n : c.saturating_sub.result ≡ length s.address =
     let f = c.from-immediate_length.ensures in
-    let g = c.one_if-2.ensures.value in
+    let g = c.from-2.ensures ∙ from_is _ in
     let l = ap length rest in
     let h = address_count r p tail reading a tail a.tail a.spelled ask k in
     omega (arith, f, g, l, h, c.saturating_sub.ensures, c.saturating_sub-before_suffix.ensures) in
-    let address = c.cut-2.ensures.front ∙ front_is _ s.address (s.immediates ++ s.suffix) c.saturating_sub.result rest' address_n in
-    let last = c.cut-2.ensures.behind ∙ rest_is _ s.address (s.immediates ++ s.suffix) c.saturating_sub.result rest' address_n in
+    let address = c.front_and_rest-2.ensures.front ∙ front_is _ s.address (s.immediates ++ s.suffix) c.saturating_sub.result rest' address_n in
+    let last = c.front_and_rest-2.ensures.behind ∙ rest_is _ s.address (s.immediates ++ s.suffix) c.saturating_sub.result rest' address_n in
     let m : ℕ = modrm_of r.modrm a.modrm in
-    let n : ℕ = c.one_if-sib_length.result in
+    let n : ℕ = c.from-sib_length.result in
     let sib_n : n ≡ sib_width m =
-    c.one_if-sib_length.ensures.value ∙ ap one_if (c.asks_sib.ensures ∙ ap (asks_sib ask) (c.byte_at.ensures ∙ ap (λ l. slice_index l 0) e)) ∙ sib_count r p tail reading a tail a.tail a.spelled ask k in
+    c.from-sib_length.ensures ∙ from_is _ ∙ ap one_if (c.asks_sib.ensures ∙ ap (asks_sib ask) (c.byte_at.ensures ∙ ap (λ l. slice_index l 0) e)) ∙ sib_count r p tail reading a tail a.tail a.spelled ask k in
     let within : sib_width m ≤ length s.address = sib_within p m s.address s.memory s.address_asked in
-    let both = c.cut-2.result.0.now in
+    let both = c.front_and_rest-2.result.0.now in
     record {
       modrm = modrm;
       sib =
-          let f = ap length c.cut-3.ensures.front in
+          let f = ap length c.front_and_rest-3.ensures.front in
           let g = length-take n both in
           let h = ap length address in
           omega (arith, f, g, h, sib_n, within);
-      address = ap (λ l. l ++ c.cut-3.result.1.now) c.cut-3.ensures.front ∙ ap (λ l. take n both ++ l) c.cut-3.ensures.behind ∙ take-append-drop n both ∙ address;
-      immediate = c.cut-4.ensures.front ∙ front_is _ s.immediates s.suffix c.from-immediate_length.result last immediate_n;
-      suffix = c.cut-4.ensures.behind ∙ rest_is _ s.immediates s.suffix c.from-immediate_length.result last immediate_n;
+      address = ap (λ l. l ++ c.front_and_rest-3.result.1.now) c.front_and_rest-3.ensures.front ∙ ap (λ l. take n both ++ l) c.front_and_rest-3.ensures.behind ∙ take-append-drop n both ∙ address;
+      immediate = c.front_and_rest-4.ensures.front ∙ front_is _ s.immediates s.suffix c.from-immediate_length.result last immediate_n;
+      suffix = c.front_and_rest-4.ensures.behind ∙ rest_is _ s.immediates s.suffix c.from-immediate_length.result last immediate_n;
     }

@@ -1,4 +1,4 @@
-use Rattle.std.proofs.Common.{true, Some, ◌≡◌, ℕ, zero, suc, ◌≤◌, Bool, false, List, [], ◌∷◌, slice_index, sym, ap, subst, ◌∙◌, arith, Fits, w8}
+use Rattle.std.proofs.Common.{true, Some, ◌≡◌, ℕ, zero, suc, ◌≤◌, Bool, false, List, [], ◌∷◌, slice_index, sym, ap, ◌∙◌, arith, Fits, w8}
 use Rattle.std.specs.List.{list_all}
 use Rattle.x86_fields.specs.declared.Prefixes.{Prefixes}
 use Rattle.x86_fields.specs.Run.{is_prefix_byte}
@@ -11,12 +11,10 @@ use Rattle.x86_layout.specs.declared.parts.heads.Head.{Head}
 use Rattle.x86_layout.specs.declared.parts.split.Parts.{Parts}
 use Rattle.x86_layout.specs.Parts.Heads.{IsHead, IsTail}
 use Rattle.x86_layout.specs.Parts.Split.{Encoding, HasParts, lists_of}
-use Rattle.x86_layout.specs.Tightening.Places.{is_ip_relative}
-use Rattle.x86_layout.specs.Tightening.Shortest.{shortest, IsOfBytes}
-use Rattle.x86_layout.specs.Tightening.Tighten.{respelled, respelled_length}
-use Rattle.x86_layout.proofs.TightenLemmas.RelativeLaws.{Seen, Row, fields_of_bytes, shortest_relative}
-use Rattle.x86_layout.proofs.TightenLemmas.LeastLaws.{least_without, least_at_ip, least_of_shortest}
-use Rattle.x86_layout.proofs.TightenLemmas.TightenLaws.{asks_memory, no_operand, operand_form, some_memory, has_parts, fields_are, respelled_is, respelled_fits}
+use Rattle.x86_layout.specs.Tightening.Registers.{is_ip_relative}
+use Rattle.x86_layout.proofs.TightenLemmas.RelativeLaws.{Seen, Row}
+use Rattle.x86_layout.proofs.TightenLemmas.LeastLaws.{least_without, least_at_ip}
+use Rattle.x86_layout.proofs.TightenLemmas.TightenLaws.{asks_memory, no_operand, operand_form, some_memory, has_parts, fields_are}
 use Rattle.x86_layout.proofs.tightening.tighten.fields_in.Goals as goal
 
 bytes_at : (l : List ℕ) → ((i : ℕ) → Fits w8 (slice_index l i)) → Bytes l

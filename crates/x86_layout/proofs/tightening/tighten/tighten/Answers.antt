@@ -48,8 +48,8 @@ tightened-requires c =
     let accepted : IsAccepted (rows_of word_at) strict bytes instruction (count_of strict bytes) = c.in-Ok.ensures.answer in
     let counted : instruction.length ≡ count_of strict bytes = c.lengths.ensures.counted strict bytes instruction value in
     let n : c.to_const.result ≡ length accepted.sentence = c.to_const.ensures ∙ ap (λ d. d.amount) c.len.ensures ∙ counted ∙ sym accepted.long in
-    let front : c.cut.result.0.now ≡ accepted.sentence = c.cut.ensures.front ∙ front_is bytes accepted.sentence accepted.rest c.to_const.result accepted.begins n in
-    taken strict bytes instruction c.cut.result.0.now accepted front
+    let front : c.front_and_rest.result.0.now ≡ accepted.sentence = c.front_and_rest.ensures.front ∙ front_is bytes accepted.sentence accepted.rest c.to_const.result accepted.begins n in
+    taken strict bytes instruction c.front_and_rest.result.0.now accepted front
 
 pub returns-clause-shortest : goal.returns-clause-shortest
 returns-clause-shortest c =
@@ -60,13 +60,13 @@ returns-clause-shortest c =
     let counted : instruction.length ≡ count_of strict bytes = c.lengths.ensures.counted strict bytes instruction value in
     let n : c.to_const.result ≡ count_of strict bytes = c.to_const.ensures ∙ ap (λ d. d.amount) c.len.ensures ∙ counted in
     let accepted : IsAccepted (rows_of word_at) strict bytes instruction (count_of strict bytes) = c.in-Ok.ensures.answer in
-    let encoding = c.cut.result.0.now in
-    let front' : encoding ≡ accepted.sentence = c.cut.ensures.front ∙ front_is bytes accepted.sentence accepted.rest c.to_const.result accepted.begins (n ∙ sym accepted.long) in
+    let encoding = c.front_and_rest.result.0.now in
+    let front' : encoding ≡ accepted.sentence = c.front_and_rest.ensures.front ∙ front_is bytes accepted.sentence accepted.rest c.to_const.result accepted.begins (n ∙ sym accepted.long) in
     let same : (s rest : List ℕ) (a : Instruction) → Sentence strict s a → bytes ≡ s ++ rest → s ≡ encoding =
     λ s rest a is begins.
     let front : IsAccepted (rows_of word_at) strict bytes a (length s) = record { sentence = s; rest = rest; begins = begins; long = refl; is = is } in
     let long : length s ≡ count_of strict bytes = (c.answer_is.ensures.only strict bytes (Ok a) (length s) front).1 in
-    sym (c.cut.ensures.front ∙ front_is bytes s rest c.to_const.result begins (n ∙ sym long)) in
+    sym (c.front_and_rest.ensures.front ∙ front_is bytes s rest c.to_const.result begins (n ∙ sym long)) in
     answered strict bytes encoding instruction value same (taken strict bytes instruction encoding accepted front') (λ t. t.items) c.tightened.result c.tightened.ensures.shortest
 
 -- the least length of an encoding at the front is that of the bytes
@@ -91,6 +91,6 @@ returns-clause-least c =
     let accepted : IsAccepted (rows_of word_at) strict bytes instruction (count_of strict bytes) = c.in-Ok.ensures.answer in
     let counted : c.to_const.result ≡ instruction.length = c.to_const.ensures ∙ ap (λ d. d.amount) c.len.ensures in
     let n : c.to_const.result ≡ length accepted.sentence = counted ∙ c.lengths.ensures.counted strict bytes instruction value ∙ sym accepted.long in
-    let front : c.cut.result.0.now ≡ accepted.sentence = c.cut.ensures.front ∙ front_is bytes accepted.sentence accepted.rest c.to_const.result accepted.begins n in
-    let is : Sentence strict c.cut.result.0.now instruction = subst (λ l. Sentence strict l instruction) (sym front) accepted.is in
-    measured strict bytes c.cut.result.0.now instruction c.to_const.result value c.cut.ensures.front counted (ap length front ∙ sym n) (λ t. t.items) is c.tightened.result c.tightened.ensures.least
+    let front : c.front_and_rest.result.0.now ≡ accepted.sentence = c.front_and_rest.ensures.front ∙ front_is bytes accepted.sentence accepted.rest c.to_const.result accepted.begins n in
+    let is : Sentence strict c.front_and_rest.result.0.now instruction = subst (λ l. Sentence strict l instruction) (sym front) accepted.is in
+    measured strict bytes c.front_and_rest.result.0.now instruction c.to_const.result value c.front_and_rest.ensures.front counted (ap length front ∙ sym n) (λ t. t.items) is c.tightened.result c.tightened.ensures.least

@@ -1,10 +1,9 @@
 //! Which registers an address adds, and where they stand.
 
-ghost use Rattle.std.specs.Prelude.{◌≡◌, ◌<◌};
-ghost use Rattle.x86_fields.specs.Address.{extended};
-ghost use Rattle.x86_layout.specs.Tightening.Places.{base_number, index_number, scale_in, places_of, is_ip_relative};
+ghost use Rattle.std.specs.Prelude.{◌≡◌};
+ghost use Rattle.x86_layout.specs.Tightening.Registers.{base_number, index_number, scale_in, registers_of, is_ip_relative};
 
-use x86_fields::Raw;
+use x86_fields::{Raw, extend};
 
 /// What an index is multiplied by.
 #[derive(Clone, Copy, PartialEq, Eq, Debug, Drop)]
@@ -17,18 +16,10 @@ pub enum Scale {
 
 /// The base and the index of an address, by their numbers from 0 to 15.
 #[derive(Clone, Copy, PartialEq, Eq, Debug, Drop)]
-pub struct Places {
+pub struct AddressRegisters {
     pub base: Option<u8>,
     pub index: Option<u8>,
     pub scale: Scale,
-}
-
-/// A field of three bits under its fourth.
-fn extend(bit: bool, num: u8) -> u8
-    requires { num < 8 }
-    ensures { result ≡ extended bit num }
-{
-    if bit { num + 8 } else { num }
 }
 
 fn base_number(raw: &Raw) -> Option<u8>
@@ -44,10 +35,9 @@ fn base_number(raw: &Raw) -> Option<u8>
 fn index_number(raw: &Raw) -> Option<u8>
     ensures { result ≡ index_number raw.now }
 {
-    match raw.sib {
+    match raw.index() {
+        Some(register) => Some(register.num()),
         None => None,
-        Some(sib) if sib / 8 % 8 == 4 && !raw.rex_x => None,
-        Some(sib) => Some(extend(raw.rex_x, sib / 8 % 8)),
     }
 }
 
@@ -66,10 +56,10 @@ fn scale_in(sib: Option<u8>) -> Scale
 }
 
 /// The registers of raw fields that aren't relative to the next instruction.
-pub fn places_of(raw: &Raw) -> Places
-    ensures { result ≡ places_of raw.now }
+pub fn registers_of(raw: &Raw) -> AddressRegisters
+    ensures { result ≡ registers_of raw.now }
 {
-    Places {
+    AddressRegisters {
         base: base_number(raw),
         index: index_number(raw),
         scale: scale_in(raw.sib),

@@ -3,9 +3,9 @@ use Rattle.std.specs.Prelude.{ℕ, ◌+◌, ◌<◌, ◌≢◌, ◌==◌, ◌&&�
 use Rattle.x86_fields.specs.declared.Raw.{Raw}
 use Rattle.x86_fields.specs.Raw.{high_field, middle_field, low_field}
 use Rattle.x86_fields.specs.Address.{extended}
-use Rattle.x86_layout.specs.declared.tightening.places.Scale.{Scale}
-use Rattle.x86_layout.specs.declared.tightening.places.Scale.TheVariants.{One, Two, Four, Eight}
-use Rattle.x86_layout.specs.declared.tightening.places.Places.{Places}
+use Rattle.x86_layout.specs.declared.tightening.registers.Scale.{Scale}
+use Rattle.x86_layout.specs.declared.tightening.registers.Scale.TheVariants.{One, Two, Four, Eight}
+use Rattle.x86_layout.specs.declared.tightening.registers.AddressRegisters.{AddressRegisters}
 
 -- the base is the next instruction: mod 00 with rm 101
 abbrev pub is_ip_by : ℕ → Option ℕ → Bool
@@ -38,8 +38,8 @@ abbrev pub scale_in : Option ℕ → Scale
 scale_in None = One
 scale_in (Some sib) = scale_named (high_field sib)
 
-abbrev pub places_of : Raw → Places
-places_of raw = record { base = base_number raw; index = index_number raw; scale = scale_in raw.sib }
+abbrev pub registers_of : Raw → AddressRegisters
+registers_of raw = record { base = base_number raw; index = index_number raw; scale = scale_in raw.sib }
 
 -- what the index counts
 abbrev pub times : Scale → ℕ
@@ -54,7 +54,7 @@ counts None n r = 0
 counts (Some b) n r = if b == r then n else 0
 
 -- how often a register counts in an address
-abbrev pub weight : Places → ℕ → ℕ
+abbrev pub weight : AddressRegisters → ℕ → ℕ
 weight at r = counts at.base 1 r + counts at.index (times at.scale) r
 
 -- a number from 0 to 15
@@ -68,7 +68,7 @@ IsIndex None = Unit {0}
 IsIndex (Some n) = (n < 16) × (n ≢ 4)
 
 -- These are registers that may stand there.
-pub record MayStand (at : Places) : Type 0 where
+pub record MayStand (at : AddressRegisters) : Type 0 where
   pub base : IsBelow16 at.base
   pub index : IsIndex at.index
 
