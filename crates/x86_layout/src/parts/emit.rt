@@ -100,11 +100,11 @@ fn has_asked_parts(row_record: &RecordAt, fields: &Fields) -> bool
     let ask = plan_ask(row_record.usage, row_record.modrm, &row_record.plan);
     let sib_asked = asks_sib(&ask, row_record.modrm);
     let displacement = usize::from(displacement_asked(row_record.modrm, fields.sib));
-    let modrm_fits = usize::from(fields.modrm.is_some()) == usize::from(ask.modrm);
-    let sib_fits = usize::from(fields.sib.is_some()) == usize::from(sib_asked);
+    let modrm_fits = fields.modrm.is_some() == ask.modrm;
+    let sib_fits = fields.sib.is_some() == sib_asked;
     let displacement_fits = fields.displacement.len() == displacement;
     let immediate_fits = fields.immediate.len() == usize::from(ask.immediate);
-    let suffix_fits = usize::from(fields.suffix.is_some()) == usize::from(ask.suffix);
+    let suffix_fits = fields.suffix.is_some() == ask.suffix;
     modrm_fits && sib_fits && displacement_fits && immediate_fits && suffix_fits
 }
 

@@ -11,14 +11,14 @@ returns-clause-tail c = λ r p reading tail e k a.
     let ask = c.args.head.now.ask in
     let s = a.behind.pieces in
     let behind : c.args.head.now.tail.now ≡ a.modrm ++ a.tail = e ∙ a.spelled in
-    let modrm_n : c.from.result ≡ length a.modrm = c.from.ensures ∙ from_is _ ∙ modrm_count r p tail reading a tail a.tail a.spelled ask k in
+    let modrm_n : c.from.result ≡ length a.modrm = c.from.ensures ∙ from_is ask.modrm ∙ modrm_count r p tail reading a tail a.tail a.spelled ask k in
     let modrm = c.front_and_rest.ensures.front ∙ front_is _ a.modrm a.tail c.from.result behind modrm_n in
     let rest = c.front_and_rest.ensures.behind ∙ rest_is _ a.modrm a.tail c.from.result behind modrm_n in
     let rest' : c.front_and_rest.result.1.now ≡ s.address ++ (s.immediates ++ s.suffix) = rest ∙ s.spelled in
     let immediate_n : c.from-immediate_length.result ≡ length s.immediates = c.from-immediate_length.ensures ∙ immediate_count r p tail reading a tail a.tail a.spelled ask k in
     let address_n : c.saturating_sub.result ≡ length s.address =
     let f = c.from-immediate_length.ensures in
-    let g = c.from-2.ensures ∙ from_is _ in
+    let g = c.from-2.ensures ∙ from_is ask.suffix in
     let l = ap length rest in
     let h = address_count r p tail reading a tail a.tail a.spelled ask k in
     omega (arith, f, g, l, h, c.saturating_sub.ensures, c.saturating_sub-before_suffix.ensures) in
