@@ -41,9 +41,8 @@ use Rattle.x86_fields.specs.declared.DecodeError.{DecodeError}
 use Rattle.x86_fields.specs.Steps.{Step, ◌>>=◌, pure}
 use Rattle.x86_operands.specs.declared.plans.ModrmUse.{ModrmUse}
 use Rattle.x86_operands.specs.declared.plans.ModrmUse.TheVariants as use_as
-use Rattle.x86_fields.specs.Raw.{raw_step, middle_field}
+use Rattle.x86_fields.specs.Raw.{middle_field}
 use Rattle.x86_fields.specs.Sizes.{register_of}
-use Rattle.x86_operands.specs.Shape.{shape_of}
 use Rattle.x86_operands.specs.Signs.{Given, sign_step, memory_step, rm_operand, rm_mm_operand}
 use Rattle.x86_operands.specs.declared.reader.Reading.{Reading}
 use Rattle.x86_operands.specs.declared.operands.Slot.{Slot}

@@ -1,4 +1,4 @@
-use Rattle.std.proofs.Common.{true, Some, ◌≡◌, ℕ, zero, suc, ◌≤◌, Bool, false, List, [], ◌∷◌, slice_index, sym, ap, ◌∙◌, arith, Fits, w8}
+use Rattle.std.proofs.Common.{true, Some, ◌≡◌, ℕ, zero, suc, Bool, List, [], ◌∷◌, slice_index, sym, ap, ◌∙◌, arith, Fits, w8}
 use Rattle.std.specs.List.{list_all}
 use Rattle.x86_fields.specs.declared.Prefixes.{Prefixes}
 use Rattle.x86_fields.specs.Run.{is_prefix_byte}

@@ -1,5 +1,5 @@
-use Rattle.std.proofs.Common.{◌≡◌, ◌+◌, ◌-◌, length, arith, ap, sym, ◌∙◌}
-use Rattle.x86_layout.specs.Tightening.Shortest.{address_length, shortest}
+use Rattle.std.proofs.Common.{◌+◌, ◌-◌, length, arith, ap, sym, ◌∙◌}
+use Rattle.x86_layout.specs.Tightening.Shortest.{address_length}
 use Rattle.x86_layout.proofs.TightenLemmas.LeastLaws.{least_of_fields}
 use Rattle.x86_layout.proofs.TightenLemmas.RelativeLaws.{length_is}
 use Rattle.x86_layout.proofs.tightening.tighten.least_length.Goals as goal

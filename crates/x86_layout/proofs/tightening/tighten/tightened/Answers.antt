@@ -1,6 +1,6 @@
-use Rattle.std.proofs.Common.{◌≡◌, false, zero, suc, List, [], ◌∷◌, slice_index, ap, ◌∙◌, ℕ, ◌≤◌, subst, sym, arith, Fits, w8}
+use Rattle.std.proofs.Common.{false, zero, suc, List, [], ◌∷◌, slice_index, ap, ◌∙◌, ℕ, ◌≤◌, subst, sym, arith, Fits, w8}
 use Rattle.x86_decode.proofs.ByteLaws.{Bytes}
-use Rattle.x86_layout.specs.Tightening.Shortest.{shortest, IsOfBytes}
+use Rattle.x86_layout.specs.Tightening.Shortest.{IsOfBytes}
 use Rattle.x86_layout.specs.Tightening.Tighten.{respelled, respelled_length}
 use Rattle.x86_layout.proofs.TightenLemmas.RelativeLaws.{fields_of_bytes, shortest_relative}
 use Rattle.x86_layout.proofs.TightenLemmas.LeastLaws.{least_of_shortest}

@@ -1,4 +1,4 @@
-use Rattle.std.proofs.Common.{◌≡◌, ◌+◌, ◌-◌, ◌≤◌, ◌<◌, ◌^◌, ◌%◌, ◌++◌, ℕ, arith, length, take, decimal, ap, ◌∙◌}
+use Rattle.std.proofs.Common.{◌≡◌, ◌+◌, ◌-◌, ◌<◌, ◌^◌, ◌%◌, ◌++◌, arith, length, take, decimal, ap, ◌∙◌}
 use Rattle.itoa.proofs.Decimal.{pair}
 use Rattle.x86_text.proofs.PlaceLaws.{two_digits, goes_on, last_two}
 use Rattle.x86_text.proofs.place.Place.advance.Goals as goal
