@@ -98,8 +98,7 @@ pub fn shortest_length(decoder: &InstDecoder, instruction: &Instruction, bytes: 
     least_length(encoding) as u64
 }
 
-/// An encoding with the same instruction and the same address as the accepted encoding at the front of the bytes, of
-/// which none is shorter.
+/// An encoding with the same address as the accepted encoding at the front of the bytes, of which none is shorter.
 ///
 /// Its parts are those of that encoding, but for mod and rm of ModRM, SIB, the displacement, and the bits X and B of
 /// a live REX. Base and index may change places at scale 1, and the processor's default segment with them. Refused as
