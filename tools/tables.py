@@ -26,7 +26,12 @@ FORMS = TOP / "crates" / "x86_forms"
 MAPS = ["One", "Of", "Of38", "Of3a"]
 COLUMNS = ["Plain", "P66", "F3", "F2"]
 CARRIED = 8  # how many numbers a form with a field can carry
-NOTE = "Written by tools/tables.py from {}. The proof doesn't rest on that script: a wrong entry is refused."
+NOTE = ["Written by tools/tables.py from {}.", "The proof doesn't rest on that script: a wrong entry is refused."]
+
+
+def note(mark, source):
+    """The comment on where a written file comes from."""
+    return [f"{mark} {line.format(source)}" for line in NOTE]
 
 
 def lines_of(text, first, last, pattern):
@@ -95,8 +100,8 @@ def words(map_rows, column):
 
 
 def names_antt():
-    note = NOTE.format("specs/Mnemonics.antt")
-    lines = ["-- The numbers of the opcodes, which clauses name. A number tells names apart and means nothing more.", f"-- {note}"]
+    lines = ["-- The numbers of the opcodes, which clauses name. A number tells names apart and means nothing more."]
+    lines += note("--", "specs/Mnemonics.antt")
     lines += ["use Rattle.std.specs.Prelude.{ℕ, List, [], ◌∷◌}", ""]
     for number, name in enumerate(names()):
         lines += [f"abbrev pub {name} : ℕ", f"{name} = {number}", ""]
@@ -108,7 +113,7 @@ def names_antt():
 def names_rt():
     count = len(names())
     lines = ["//! The constants of the opcodes, their numbers and their spellings.", "//!"]
-    lines += ["//! " + NOTE.format("specs/Mnemonics.antt"), "use crate::Opcode;", "", "impl Opcode {"]
+    lines += note("//!", "specs/Mnemonics.antt") + ["use crate::Opcode;", "", "impl Opcode {"]
     for number, name in enumerate(names()):
         lines += [f"    pub const {name}: Opcode = Opcode {{ number: {number} }};", ""]
     lines[-1] = "}"
@@ -120,7 +125,7 @@ def names_rt():
 
 
 def places_antt():
-    lines = ["-- The places of the forms.", "-- " + NOTE.format("the variants of Form in src/lib.rt")]
+    lines = ["-- The places of the forms."] + note("--", "the variants of Form in src/lib.rt")
     lines += ["use Rattle.std.specs.Prelude.{ℕ, ◌+◌}", "use Rattle.x86_forms.specs.declared.Form.{Form}"]
     lines += ["use Rattle.x86_forms.specs.declared.Form.TheVariants as form", ""]
     lines += ["-- the place of a form among the forms, each of which stands there with every number that it may carry"]
@@ -136,7 +141,7 @@ def places_rt():
     for form, carries in forms():
         every += [f"Form::{form}({number})" for number in range(CARRIED)] if carries else [f"Form::{form}"]
     lines = ["//! The forms in the order of their places, each with every number that it may carry.", "//!"]
-    lines += ["//! " + NOTE.format("the variants of `Form`"), "use crate::Form;", ""]
+    lines += note("//!", "the variants of `Form`") + ["use crate::Form;", ""]
     lines += [f"pub(crate) const FORMS: &[Form; {len(every)}] = &["]
     return lines + [f"    {form}," for form in every] + ["];"]
 
@@ -151,7 +156,7 @@ def table(name, entries):
 def tables_rt():
     lines = ["//! The words of the rows, by the opcode byte: eight on a line, behind which the byte of the first stands.", "//!"]
     lines += ["//! The last two digits of a word are the form's place and 1, the digits before them the opcode's number.", "//!"]
-    lines += ["//! " + NOTE.format("specs/Rows.antt")]
+    lines += note("//!", "specs/Rows.antt")
     for of, map_rows in rows().items():
         if of == "One":
             lines += table("ONE", words(map_rows, "Plain"))

@@ -21,7 +21,8 @@ pub fn next_is_that_of_a_slice<T: Reader<u64, u8>>(
     (given, over_slice, slice.total_offset())
 }
 
-/// Over any reader `next_n` gives what it gives over a slice with the same bytes left: the answer, the bytes, and the count taken.
+/// Over any reader `next_n` gives what it gives over a slice with the same bytes left: the answer, the bytes, and the
+/// count taken.
 pub fn next_n_is_that_of_a_slice<T: Reader<u64, u8>>(
     words: &mut T,
     bytes: &[u8],

@@ -130,8 +130,8 @@ pub fn seen_by(map: Map, byte: u8, prefixes: Prefixes) -> Prefixes
     }
 }
 
-/// The word of the row at an opcode byte, which is this byte or stands behind the escape that it begins. Where 66 chooses the operation
-/// it is cleared.
+/// The word of the row at an opcode byte, which is this byte or stands behind the escape that it begins. Where 66
+/// chooses the operation it is cleared.
 #[inline(always)]
 pub fn read_word<W: Words, T: Reader<u64, u8>>(
     rows: &W,

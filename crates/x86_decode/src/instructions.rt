@@ -13,14 +13,15 @@ use x86_opcodes::Opcode;
 use x86_operands::{MemoryAccessSize, Operand, OperandVisitor, Operands, Slot};
 use x86_regs::Segment;
 
-/// An instruction: prefixes, opcode, at most four operands with the slots that they come from, the size of what is read or
-/// written in memory, and the length of the encoding.
+/// An instruction: prefixes, opcode, at most four operands with the slots that they come from, the size of what is
+/// read or written in memory, and the length of the encoding.
 ///
-/// Two instructions are equal where all of this but the length is, so instructions from encodings of different length may be equal.
+/// Two instructions are equal where all of this but the length is, so instructions from encodings of different length
+/// may be equal.
 #[derive(Clone, Copy, Debug, Drop)]
 pub struct Instruction {
-    /// What the prefixes select, with the changes that the operation makes: where 66 chooses the operation it is cleared. Nothing
-    /// ties this field to the operands once a caller has written to it.
+    /// What the prefixes select, with the changes that the operation makes: where 66 chooses the operation it is
+    /// cleared. Nothing ties this field to the operands once a caller has written to it.
     pub prefixes: Prefixes,
     pub(crate) opcode: Opcode,
     pub(crate) given: Operands,
@@ -113,8 +114,8 @@ impl Instruction {
         self.given.slot(i)
     }
 
-    /// Makes the one call of the visitor that names the operand at a place, and answers what that answers; at the count and
-    /// above it that is `visit_other`.
+    /// Makes the one call of the visitor that names the operand at a place, and answers what that answers; at the
+    /// count and above it that is `visit_other`.
     pub fn visit_operand<T: OperandVisitor>(
         &self,
         i: u8,
@@ -137,11 +138,12 @@ impl Instruction {
         }
     }
 
-    /// The segment that the operand at a place is in, where it isn't the default one (Intel SDM volume 1, section 3.7.4).
+    /// The segment that the operand at a place is in, where it isn't the default one (Intel SDM volume 1, section
+    /// 3.7.4).
     ///
-    /// MOVS writes to ES and reads from the segment of the prefixes. CMPS names rdi first, which here takes the segment of the
-    /// prefixes, and then rsi, which takes ES. Of another operation a memory operand is in the segment of the prefixes, and
-    /// `None` stands for DS.
+    /// MOVS writes to ES and reads from the segment of the prefixes. CMPS names rdi first, which here takes the
+    /// segment of the prefixes, and then rsi, which takes ES. Of another operation a memory operand is in the segment
+    /// of the prefixes, and `None` stands for DS.
     pub fn segment_override_for_op(&self, op: u8) -> Option<Segment>
         requires { op < 4 }
         ensures { result ≡ override_at self.now op }

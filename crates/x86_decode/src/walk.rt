@@ -66,8 +66,8 @@ fn place_behind<W: Words, T: Reader<u64, u8>>(
     }
 }
 
-/// What stands behind the run, where this byte is the first of it, by the plan of its row. So the quick walk stands in the code once for
-/// each reader.
+/// What stands behind the run, where this byte is the first of it, by the plan of its row. So the quick walk stands
+/// in the code once for each reader.
 fn place_by_plan<W: Words, T: Reader<u64, u8>>(
     strict: bool,
     rows: &W,
@@ -127,8 +127,8 @@ fn walk_behind<W: Words, T: Reader<u64, u8>>(
     }
 }
 
-/// What stands up to the end of what the row asks, into a blank instruction. The reader comes back: so it stays in registers where
-/// nothing rare is read.
+/// What stands up to the end of what the row asks, into a blank instruction. The reader comes back: so it stays in
+/// registers where nothing rare is read.
 #[inline(always)]
 fn walk_within<W: Words, T: Reader<u64, u8>>(
     strict: bool,
@@ -251,8 +251,8 @@ pub fn walk_slice(strict: bool, bytes: &[u8], inst: &mut Instruction) -> Result<
     }
 }
 
-/// The instruction at the front of what the reader has left, into a blank one. The reader is marked, and then moves by what the
-/// answer takes.
+/// The instruction at the front of what the reader has left, into a blank one. The reader is marked, and then moves
+/// by what the answer takes.
 #[tactic(auto, unfolding(crate::specs::Walk::decode_step))]
 pub fn walk_into<W: Words, T: Reader<u64, u8>>(
     strict: bool,

@@ -1,4 +1,5 @@
-//! The address that raw fields denote. Source: Intel SDM volume 2, sections 2.1.5 and 2.2.1, and volume 1, section 3.7.5.
+//! The address that raw fields denote. Source: Intel SDM volume 2, sections 2.1.5 and 2.2.1, and volume 1, section
+//! 3.7.5.
 
 ghost use Rattle.std.specs.Prelude.{◌≡◌, ◌<◌, ◌^◌, IsTrue};
 ghost use Rattle.x86_fields.specs.Address.{base_of, index_of, scale_by, extended, address_class, next_pointer};

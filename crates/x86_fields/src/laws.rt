@@ -32,8 +32,9 @@ pub fn forms_are_their_values()
     ensures shown_by_units { (f g : Linear) → f.modulus ≡ g.modulus → IsReduced f → IsReduced g → AgreeAtUnits f g → IsSameAddress f g }
 {}
 
-/// What `read_raw` takes. It answers the fields that the bytes in front spell, wherever some do, and takes those bytes.
-/// It refuses for want of bytes alone, and has then taken a SIB that is asked and there, and nothing of a displacement.
+/// What `read_raw` takes. It answers the fields that the bytes in front spell, wherever some do, and takes those
+/// bytes. It refuses for want of bytes alone, and has then taken a SIB that is asked and there, and nothing of a
+/// displacement.
 pub fn raw_fields_are_read()
     ensures whole { (p : Prefixes) (modrm : ℕ) (s : State ℕ) (raw : Raw) → (raw_step p modrm s).answer ≡ Ok raw → IsReadRaw p modrm raw s (raw_step p modrm s).after }
     ensures wherever { (p : Prefixes) (modrm : ℕ) (s : State ℕ) (bytes rest : List ℕ) (raw : Raw) → s.left ≡ bytes ++ rest → SpellsRaw p modrm bytes raw → raw_step p modrm s ≡ outcome (Ok raw) (advanced (length bytes) s) }

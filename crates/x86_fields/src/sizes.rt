@@ -1,4 +1,5 @@
-//! Classes of operands by prefixes. Source: Intel SDM volume 2, sections 2.2.1.2 and 3.1.1.3, and volume 1, section 3.6.1.
+//! Classes of operands by prefixes. Source: Intel SDM volume 2, sections 2.2.1.2 and 3.1.1.3, and volume 1, section
+//! 3.6.1.
 
 ghost use Rattle.std.specs.Prelude.{◌≡◌, ◌<◌, None};
 ghost use Rattle.x86_fields.specs.Sizes.{v, vq, vd, dq, byte_register, register_of};

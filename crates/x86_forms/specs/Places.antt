@@ -1,5 +1,6 @@
 -- The places of the forms.
--- Written by tools/tables.py from the variants of Form in src/lib.rt. The proof doesn't rest on that script: a wrong entry is refused.
+-- Written by tools/tables.py from the variants of Form in src/lib.rt.
+-- The proof doesn't rest on that script: a wrong entry is refused.
 use Rattle.std.specs.Prelude.{ℕ, ◌+◌}
 use Rattle.x86_forms.specs.declared.Form.{Form}
 use Rattle.x86_forms.specs.declared.Form.TheVariants as form

@@ -27,8 +27,8 @@ pub fn printed_words_are_the_printed_rows()
     ensures words { (map : Map) → (column : Column) → (byte : ℕ) → IfSome (printed_row map column byte) HasWord }
 {}
 
-/// `==` holds exactly of the same map, of the same column, of the same form with the same number, and of rows with the same
-/// opcode and form.
+/// `==` holds exactly of the same map, of the same column, of the same form with the same number, and of rows with
+/// the same opcode and form.
 ///
 /// `equal_forms` and the others are what `==` answers; a caller that compares forms or rows cites this law.
 pub fn equality_is_of_all_parts()

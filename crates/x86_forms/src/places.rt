@@ -1,6 +1,7 @@
 //! The forms in the order of their places, each with every number that it may carry.
 //!
-//! Written by tools/tables.py from the variants of `Form`. The proof doesn't rest on that script: a wrong entry is refused.
+//! Written by tools/tables.py from the variants of `Form`.
+//! The proof doesn't rest on that script: a wrong entry is refused.
 use crate::Form;
 
 pub(crate) const FORMS: &[Form; 198] = &[

@@ -188,9 +188,10 @@ pub fn group_plan(row: TableRow, strict: bool, prefixes: &Prefixes, modrm: u8) -
 
 /// Reads what a row asks behind its opcode byte, where its form is a group.
 ///
-/// `strict` chooses whether LFENCE, MFENCE and SFENCE are refused where rm isn't 0; nothing else depends on it. Of the errors
-/// come `InvalidOpcode` and `InvalidOperand` where the row's record refuses, `IncompleteDecoder` for 8F with a reg other than 0,
-/// and `ExhaustedInput`. After a refusal the bytes up to its moment are taken: none, ModRM, the address, or all.
+/// `strict` chooses whether LFENCE, MFENCE and SFENCE are refused where rm isn't 0; nothing else depends on it. Of
+/// the errors come `InvalidOpcode` and `InvalidOperand` where the row's record refuses, `IncompleteDecoder` for 8F
+/// with a reg other than 0, and `ExhaustedInput`. After a refusal the bytes up to its moment are taken: none, ModRM,
+/// the address, or all.
 #[tactic(auto, unfolding(crate::specs::Groups::group_record, x86_operands::specs::Signs::record_step))]
 pub fn read_group<T: Reader<u64, u8>>(
     words: &mut T,
@@ -207,8 +208,8 @@ pub fn read_group<T: Reader<u64, u8>>(
     read_plan(words, &plan, prefixes, modrm)
 }
 
-/// Which parts a row asks whose form is a group, at a ModRM byte: the same under both choices. Where the row refuses under both
-/// choices and with every suffix, the answer is open.
+/// Which parts a row asks whose form is a group, at a ModRM byte: the same under both choices. Where the row refuses
+/// under both choices and with every suffix, the answer is open.
 ///
 /// For the row of F7 at ModRM C0, which is TEST, this is a ModRM, and an immediate of 4 bytes without 66.
 pub fn group_ask(row: TableRow, prefixes: Prefixes, modrm: u8) -> Ask

@@ -1,4 +1,5 @@
-//! What holds of opcodes and conditions over the definitions alone: each law is the contract of a function that does nothing.
+//! What holds of opcodes and conditions over the definitions alone: each law is the contract of a function that does
+//! nothing.
 ghost use Rattle.std.specs.Prelude.{◌≡◌, ◌&&◌, ◌↔◌, ℕ, IsTrue, false, is_some};
 ghost use Rattle.x86_opcodes.specs.declared.ConditionCode.{ConditionCode};
 ghost use Rattle.x86_opcodes.specs.Equality.{equal_codes, equal_opcodes};

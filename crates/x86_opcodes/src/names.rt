@@ -1,6 +1,7 @@
 //! The constants of the opcodes, their numbers and their spellings.
 //!
-//! Written by tools/tables.py from specs/Mnemonics.antt. The proof doesn't rest on that script: a wrong entry is refused.
+//! Written by tools/tables.py from specs/Mnemonics.antt.
+//! The proof doesn't rest on that script: a wrong entry is refused.
 use crate::Opcode;
 
 impl Opcode {

@@ -9,8 +9,8 @@ use crate::order::Place;
 use crate::plans::{Fault, ModrmUse, Plan, Sign, Signs, Verdict, memory_form};
 use x86_fields::Prefixes;
 
-/// Which parts of an encoding a row asks behind its opcode byte. Whether there is a SIB, and how long the displacement of a memory
-/// form is, ModRM and SIB tell (Intel SDM volume 2, section 2.1.5).
+/// Which parts of an encoding a row asks behind its opcode byte. Whether there is a SIB, and how long the
+/// displacement of a memory form is, ModRM and SIB tell (Intel SDM volume 2, section 2.1.5).
 #[derive(Clone, Copy, PartialEq, Eq, Debug, Drop)]
 pub struct Ask {
     /// Whether there is a ModRM byte.

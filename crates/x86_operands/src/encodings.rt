@@ -59,7 +59,8 @@ pub enum Behind {
     Group,
 }
 
-/// The small letter behind G, E or Z: a class of registers, always the same or by W and 66 (Intel SDM volume 2, appendix A.2.2).
+/// The small letter behind G, E or Z: a class of registers, always the same or by W and 66 (Intel SDM volume 2,
+/// appendix A.2.2).
 #[derive(Clone, Copy, PartialEq, Eq, Debug, Drop)]
 pub enum Width {
     B,
@@ -338,8 +339,8 @@ impl Encoding {
     }
 }
 
-/// A row: what stands behind the opcode byte, the order of operands, the widths of reg and rm, the last operand, and the memory
-/// size in the memory form and in the register form.
+/// A row: what stands behind the opcode byte, the order of operands, the widths of reg and rm, the last operand, and
+/// the memory size in the memory form and in the register form.
 #[macro_export]
 macro_rules! row {
     ($behind:ident $order:ident $reg:ident $rm:ident $last:ident $memory:ident $register:ident) => {

@@ -1,7 +1,8 @@
 //! The operand encodings of the forms: a line a form.
 //!
-//! A row reads: what stands behind the opcode byte, the order of operands, the widths of reg and rm, the last operand, and the
-//! memory size in the memory form and in the register form. A width or a size that no operand has is B or Zero.
+//! A row reads: what stands behind the opcode byte, the order of operands, the widths of reg and rm, the last
+//! operand, and the memory size in the memory form and in the register form. A width or a size that no operand has is
+//! B or Zero.
 
 ghost use Rattle.std.specs.Prelude.{◌≡◌, ◌<◌, true};
 ghost use Rattle.x86_forms.specs.Words.{IsForm};

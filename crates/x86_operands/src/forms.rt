@@ -58,7 +58,8 @@ pub fn place_form<T: Reader<u64, u8>>(
     place_plan(words, &plan, modrm, prefixes, opcode, given)
 }
 
-/// Reads what a row asks behind its opcode byte, where its form is no group: ModRM, the memory operand, the immediates.
+/// Reads what a row asks behind its opcode byte, where its form is no group: ModRM, the memory operand, the
+/// immediates.
 ///
 /// The bytes taken are exactly those that the record asks; after a refusal, those up to its moment; at
 /// `ExhaustedInput`, the pieces before the first that isn't whole.
@@ -77,8 +78,8 @@ pub fn read_form<T: Reader<u64, u8>>(
     read_plan(words, &plan, prefixes, modrm)
 }
 
-/// Which parts a row asks whose form is no group, at a ModRM byte. `modrm` is looked at only where the row asks a ModRM. Where the
-/// row refuses with every suffix, the answer is open.
+/// Which parts a row asks whose form is no group, at a ModRM byte. `modrm` is looked at only where the row asks a
+/// ModRM. Where the row refuses with every suffix, the answer is open.
 ///
 /// For the row of 03, which is ADD, at ModRM 44 this is a ModRM of the memory form, and nothing else.
 #[tactic(auto, using(crate::proofs::AskLaws::encoding_asks), unfolding(crate::specs::Forms::form_record, crate::specs::Asks::ask_of))]

@@ -59,9 +59,9 @@ pub fn shapes_have_the_address()
     ensures address { (raw : Raw) (regs : List ℕ) (next : ℕ) → FitsSigned w32 raw.disp → operand_address raw.address_size (shape_of raw).1 regs next ≡ Some (value_at (raw_form raw) regs next) }
 {}
 
-/// What `read_form` and `read_group` take, and any reader of a record. On Ok these are the pieces that the record asks,
-/// wherever they stand in front; after a refusal those up to its moment; and at `ExhaustedInput` those before the first
-/// that isn't whole.
+/// What `read_form` and `read_group` take, and any reader of a record. On Ok these are the pieces that the record
+/// asks, wherever they stand in front; after a refusal those up to its moment; and at `ExhaustedInput` those before
+/// the first that isn't whole.
 pub fn rows_are_read()
     ensures whole { (r : RowRecord) (p : Prefixes) (s : State ℕ) (reading : Reading) → (record_step r p s).answer ≡ Ok reading → IsReadRow r p reading s (record_step r p s).after }
     ensures refused { (r : RowRecord) (p : Prefixes) (s : State ℕ) (e : DecodeError) → (record_step r p s).answer ≡ Err e → e ≢ ExhaustedInput → IsRefusedRow r p e s (record_step r p s).after }
@@ -70,16 +70,16 @@ pub fn rows_are_read()
     ensures refuses { (r : RowRecord) (p : Prefixes) (s : State ℕ) (bytes rest : List ℕ) (fault : Fault) → s.left ≡ bytes ++ rest → RefusesRow r p bytes fault → record_step r p s ≡ outcome (Err (error_of fault)) (advanced (length bytes) s) }
 {}
 
-/// No reader of a record answers `InvalidPrefixes` or `TooLong`, and `IncompleteDecoder` comes only where the record or
-/// one of its plans refuses so.
+/// No reader of a record answers `InvalidPrefixes` or `TooLong`, and `IncompleteDecoder` comes only where the record
+/// or one of its plans refuses so.
 pub fn rows_refuse_by_faults()
     ensures no_prefixes { (r : RowRecord) (p : Prefixes) (s : State ℕ) → (record_step r p s).answer ≢ Err InvalidPrefixes }
     ensures no_length { (r : RowRecord) (p : Prefixes) (s : State ℕ) → (record_step r p s).answer ≢ Err TooLong }
     ensures left_out { (r : RowRecord) (p : Prefixes) (s : State ℕ) → (record_step r p s).answer ≡ Err IncompleteDecoder → (r.at_opcode ≡ Some Incomplete) ⊎ ((m : ℕ) × (w : Moment) × ((r.plan m).verdict ≡ Refuses Incomplete w)) }
 {}
 
-/// A reading has at most four operands. None of them is `Nothing`, masked, rounded or an unsigned immediate of 32 or 64
-/// bits, in the slot of an immediate stands that immediate, and behind the last operand stands `Nothing`.
+/// A reading has at most four operands. None of them is `Nothing`, masked, rounded or an unsigned immediate of 32 or
+/// 64 bits, in the slot of an immediate stands that immediate, and behind the last operand stands `Nothing`.
 pub fn readings_are_tied()
     ensures read { (r : RowRecord) (p : Prefixes) (s : State ℕ) (reading : Reading) → (record_step r p s).answer ≡ Ok reading → HasTiedPlaces reading }
     ensures spelled { (r : RowRecord) (p : Prefixes) (bytes : List ℕ) (reading : Reading) → SpellsRow r p bytes reading → HasTiedPlaces reading }

@@ -150,7 +150,8 @@ pub enum Slot {
     ImmI32,
     /// A signed immediate of 8 bytes, or of 4 that are extended to 64 bits.
     ImmI64,
-    /// An unsigned immediate beside another one: the first of ENTER, of 2 bytes, and the last of EXTRQ and INSERTQ, of 1 byte.
+    /// An unsigned immediate beside another one: the first of ENTER, of 2 bytes, and the last of EXTRQ and INSERTQ,
+    /// of 1 byte.
     ImmInDisp,
     /// An address of 4 bytes: a displacement without base and index, or that of A0 to A3 under 67.
     DispU32,

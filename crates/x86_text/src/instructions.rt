@@ -75,9 +75,9 @@ pub fn push_instruction(line: &mut Line, instruction: &Instruction)
     push_size(line, instruction);
 }
 
-/// The text of an instruction without its place and length: the mnemonic, the operands behind a space and joined by a comma and a
-/// space, and the bytes of memory that it reads or writes behind an m. Those are 0 where it has none, and `?` where the processor
-/// decides. For `48 01 d8` this is `ADD rax, rbx m8`.
+/// The text of an instruction without its place and length: the mnemonic, the operands behind a space and joined by a
+/// comma and a space, and the bytes of memory that it reads or writes behind an m. Those are 0 where it has none, and
+/// `?` where the processor decides. For `48 01 d8` this is `ADD rax, rbx m8`.
 pub fn instruction_text(instruction: &Instruction) -> Line
     ensures text { result.items ≡ instruction_text instruction.now }
     ensures short { array_vec_len result ≤ 149 }
@@ -100,7 +100,8 @@ pub fn write_instruction(line: &mut Line, place: &Place, instruction: &Instructi
     push_instruction(line, instruction);
 }
 
-/// The line of an instruction at a place, without its end: the place, the length in bytes, and the text of the instruction.
+/// The line of an instruction at a place, without its end: the place, the length in bytes, and the text of the
+/// instruction.
 ///
 /// For `48 01 d8` at place 4 this is `4 3 ADD rax, rbx m8`.
 pub fn line_of(place: u64, instruction: &Instruction) -> Line

@@ -7,8 +7,8 @@
 //! operand_text(&instruction.operand(1)).as_slice() // b"rbx"
 //! ```
 //!
-//! Each text is a `Line`, which takes no memory. The calls that begin with `push` append to a line that is there, for columns of a
-//! caller's own; those that begin with `write` write over it.
+//! Each text is a `Line`, which takes no memory. The calls that begin with `push` append to a line that is there, for
+//! columns of a caller's own; those that begin with `write` write over it.
 #![tactic(auto)]
 
 mod instructions;

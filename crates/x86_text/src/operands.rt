@@ -177,9 +177,9 @@ pub fn push_operand(line: &mut Line, operand: &Operand)
     }
 }
 
-/// The text of an operand. A register is its name; an immediate its type and decimal; memory its base, its index with the scale, and
-/// its displacement in brackets, each where it is named; an absolute address its width and decimal. Of a masked operand this is the
-/// register or the memory, and `Operand::Nothing` has none.
+/// The text of an operand. A register is its name; an immediate its type and decimal; memory its base, its index with
+/// the scale, and its displacement in brackets, each where it is named; an absolute address its width and decimal. Of
+/// a masked operand this is the register or the memory, and `Operand::Nothing` has none.
 ///
 /// Examples are `rax`, `i8:-1`, `[rbx+rcx*4-16]` and `[abs32:4096]`.
 pub fn operand_text(operand: &Operand) -> Line

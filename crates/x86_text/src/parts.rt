@@ -60,8 +60,9 @@ pub fn write_fields(line: &mut Line, place: &Place, parts: &Parts)
     push_part(line, parts.suffix);
 }
 
-/// The line of the parts of an encoding at a place, without its end: the place, how many bytes the parts have together, and each part
-/// as hex digits, or a dash where it is empty. It asks the lengths that `Fields::of` asks, which parts of `split` have.
+/// The line of the parts of an encoding at a place, without its end: the place, how many bytes the parts have
+/// together, and each part as hex digits, or a dash where it is empty. It asks the lengths that `Fields::of` asks,
+/// which parts of `split` have.
 ///
 /// For `48 03 44 25 00` at place 0 this is `0 5 48 - 03 44 25 00 - -`.
 pub fn fields_line(place: u64, parts: &Parts) -> Line

@@ -1,5 +1,5 @@
-//! Encodings of all kinds, worked by hand from the rows: prefixes, lengths, immediates, addresses, groups and maps. Each has the line
-//! that lists it.
+//! Encodings of all kinds, worked by hand from the rows: prefixes, lengths, immediates, addresses, groups and maps.
+//! Each has the line that lists it.
 
 pub const PART_1: &str = "00 d8 => 0 2 ADD al, bl m1
 48 01 d8 => 0 3 ADD rax, rbx m8

@@ -104,8 +104,9 @@ fn obey<S: Source, K: Sink>(command: Command, source: &mut S, sink: &mut K) -> S
     }
 }
 
-/// Does what the words say. `list`, `list --strict`, `fields`, `tighten`, `sweep` and `targets` read a hex text from the source, at most
-/// `TEXT_MAX` bytes of it (`TARGETS_MAX` for `targets`), and write its listing to the sink, a call of `put` for each line.
+/// Does what the words say. `list`, `list --strict`, `fields`, `tighten`, `sweep` and `targets` read a hex text from
+/// the source, at most `TEXT_MAX` bytes of it (`TARGETS_MAX` for `targets`), and write its listing to the sink, a
+/// call of `put` for each line.
 pub fn run<S: Source, K: Sink>(words: &[String], source: &mut S, sink: &mut K) -> Status
     ensures ran { IfCommand words.now (λ c. Runs S.gives K.takes c result source.old source.new sink.old sink.new) }
     ensures made { (n : ℕ) → IsMake (map string_bytes words.now) n → Wrote K.takes (made_listing n) result sink.old sink.new }

@@ -15,7 +15,8 @@ use crate::outside::std_source::StdSource;
 use std::io;
 use std::io::{Read, Write};
 
-/// Flushes what a run gathered. Behind a failed write nothing is sent, and where the words are no command there is nothing.
+/// Flushes what a run gathered. Behind a failed write nothing is sent, and where the words are no command there is
+/// nothing.
 fn send_rest<W: Write + Drop>(status: Status, out: &mut Gathered<W>) -> io::Result<()>
     ensures bytes { Keeps (append_known (W.contents (writer_behind out.old)) (held_bytes out.old)) (append_known (W.contents (writer_behind out.new)) (held_bytes out.new)) }
     ensures sent { OnOk result (status ≢ Status.Usage → status ≢ Status.WriteFault → held_bytes out.new ≡ []) }
@@ -37,8 +38,8 @@ fn ending(status: Status, flushed: &io::Result<()>) -> Status
     }
 }
 
-/// Does what the arguments say, over a reader and a writer, and gives back how the program ends and the writer. What is
-/// written is gathered, and flushed at the end; where that flush fails, the program ends as at a failed write.
+/// Does what the arguments say, over a reader and a writer, and gives back how the program ends and the writer. What
+/// is written is gathered, and flushed at the end; where that flush fails, the program ends as at a failed write.
 pub fn listed<R: Read + Drop, W: Write + Drop>(
     arguments: &[String],
     reader: R,

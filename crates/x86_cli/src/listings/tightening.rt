@@ -29,7 +29,8 @@ impl Lines for LeastLines {
     }
 }
 
-/// Writes the line of an encoding at a place over another, without its end: the place, how many bytes the encoding has, and how many a shortest relative has.
+/// Writes the line of an encoding at a place over another, without its end: the place, how many bytes the encoding
+/// has, and how many a shortest relative has.
 ///
 /// For `48 8b 84 25 00 00 00 00` at place 0 this is `0 8 4`.
 #[tactic(auto, unfolding(crate::specs::Listings::Tighten::least_text))]

@@ -7,7 +7,8 @@ ghost use Rattle.x86_cli.specs.Outside.Seen.{sink_writer};
 use crate::outside::sink::{Sink, SinkFailed};
 use std::io::Write;
 
-/// Pieces that go to a writer. It tells what the writer tells. A write that takes none of a piece that isn't empty fails.
+/// Pieces that go to a writer. It tells what the writer tells. A write that takes none of a piece that isn't empty
+/// fails.
 #[derive(Drop)]
 pub struct StdSink<W: Write + Drop> {
     writer: W,

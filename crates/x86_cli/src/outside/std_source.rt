@@ -11,7 +11,8 @@ use std::io::Read;
 /// How many bytes one read may give.
 const BUFFER: usize = 65536;
 
-/// The bytes of a reader, one read a buffer. It tells what the reader tells, behind what is buffered. A read that gives no byte is the end.
+/// The bytes of a reader, one read a buffer. It tells what the reader tells, behind what is buffered. A read that
+/// gives no byte is the end.
 #[derive(Drop)]
 pub struct StdSource<R: Read + Drop> {
     reader: R,

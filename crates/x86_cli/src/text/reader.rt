@@ -24,8 +24,8 @@ pub enum Piece {
     Stopped(Ending),
 }
 
-/// Where in a text the reader stands, and the place up to which it may take bytes. What contracts see of it is its place and how many bytes
-/// it may still take.
+/// Where in a text the reader stands, and the place up to which it may take bytes. What contracts see of it is its
+/// place and how many bytes it may still take.
 #[derive(Clone, Copy, Drop)]
 pub struct TextReader {
     place: u64,

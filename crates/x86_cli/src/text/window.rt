@@ -15,7 +15,8 @@ use crate::text::reader::{Ending, Piece, TextReader};
 use x86_decode::{InstDecoder, Instruction};
 use x86_fields::DecodeError;
 
-/// What stands at the front of an image. In contracts `I` is the instruction; in code it is `()`, and the instruction stands beside it.
+/// What stands at the front of an image. In contracts `I` is the instruction; in code it is `()`, and the instruction
+/// stands beside it.
 #[derive(Clone, Copy, Drop)]
 pub enum Front<I> {
     Whole(I),
@@ -108,7 +109,8 @@ impl Window {
         }
     }
 
-    /// What stands at the front of the image that is left. Where it is an instruction, that is written to the one given.
+    /// What stands at the front of the image that is left. Where it is an instruction, that is written to the one
+    /// given.
     pub fn front(&self, decoder: &InstDecoder, inst: &mut Instruction) -> Front<()>
         requires { self.now.ended ≡ None → array_vec_len self.now.bytes ≡ 15 }
         ensures rest { (xs : List ℕ) (stop : Stop) →
