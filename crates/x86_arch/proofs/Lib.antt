@@ -1,1 +1,2 @@
+-- The lemmas on reader states.
 mod StateLaws

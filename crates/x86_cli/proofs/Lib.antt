@@ -1,3 +1,4 @@
+-- The lemmas on sources and sinks, on text, on listings and on commands.
 pub mod OutsideLemmas
 pub mod TextLemmas
 pub mod ListingLemmas

@@ -1,3 +1,4 @@
+-- The definitions that the contracts cite: sources and sinks, text, listings and commands.
 pub mod Outside
 pub mod Text
 pub mod DecoderLaws

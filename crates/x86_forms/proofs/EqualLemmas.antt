@@ -1,3 +1,4 @@
+-- Forms, rows, maps and columns that == finds equal are the same, and each equals itself.
 use Rattle.std.proofs.Common.{◌≡◌, ℕ, ◌<◌, subst, Bool, true, false, eqb, not, ◌&&◌, Some, List, [], ◌∷◌, zero, suc, slice_get, refl, arith, ap, sym, ◌∙◌}
 use Rattle.std.proofs.lemmas.Bool.{and_parts, eqb-true, eq-eqb, not-true}
 use Rattle.x86_forms.specs.declared.Form.{Form}

@@ -1,3 +1,4 @@
+-- The definitions that the contracts cite: the plans of the groups, by families, and their records.
 pub mod Choice
 pub mod Arithmetic
 pub mod Operations

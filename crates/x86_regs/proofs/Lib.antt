@@ -1,1 +1,2 @@
+-- The lemmas on names of registers.
 mod NameLaws

@@ -1,3 +1,4 @@
+-- Classes of registers: their widths and codes, and how a listing writes a rounding.
 use Rattle.std.specs.Prelude.{ℕ, Bool, true, false, IsTrue, List, codes}
 use Rattle.x86_regs.specs.declared.RegisterClass.{RegisterClass}
 use Rattle.x86_regs.specs.declared.RegisterClass.TheVariants.{B, W, D, RB, Q, CR, DR, S, X, Y, Z, ST, MM, K, EIP, RIP, EFlags, RFlags}

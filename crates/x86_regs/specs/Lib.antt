@@ -1,2 +1,3 @@
+-- The definitions that the contracts cite: classes and names of registers.
 pub mod Class
 pub mod Names

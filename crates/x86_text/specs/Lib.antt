@@ -1,3 +1,4 @@
+-- The definitions that the contracts cite: texts of operands, instructions, refusals and parts.
 pub mod Operands
 pub mod Lines
 pub mod Parts
