@@ -8,7 +8,7 @@ use Rattle.x86_forms.specs.declared.Form.TheVariants as form
 use Rattle.x86_operands.specs.declared.plans.ModrmUse.{ModrmUse}
 use Rattle.x86_operands.specs.declared.plans.Plan.{Plan}
 use Rattle.x86_operands.specs.declared.asks.Ask.{Ask}
-use Rattle.x86_operands.specs.Plans.{is_memory}
+use Rattle.x86_fields.specs.ModRM.{is_memory}
 use Rattle.x86_operands.specs.Asks.{plan_ask}
 use Rattle.x86_groups.specs.Choice.{reg, rm, bare, bad_operand}
 use Rattle.x86_groups.specs.Fences.{fence, plain_0fae, plan_0fae}

@@ -4,7 +4,7 @@ use Rattle.std.proofs.lemmas.Bool.Decides.{nat_tests}
 use Rattle.x86_arch.specs.Reader.{State}
 use Rattle.x86_fields.specs.declared.DecodeError.TheVariants.{IncompleteDecoder}
 use Rattle.x86_fields.specs.declared.Prefixes.{Prefixes}
-use Rattle.x86_fields.specs.Raw.{middle_field}
+use Rattle.x86_fields.specs.ModRM.{reg_field}
 use Rattle.x86_forms.specs.declared.Form.{Form}
 use Rattle.x86_forms.specs.declared.Form.TheVariants as form
 use Rattle.x86_forms.specs.declared.TableRow.{TableRow}
@@ -138,11 +138,11 @@ gap_form strict row p m w group e = wait_form row.form m (gap_waits strict row p
 not_zero : (n : ℕ) → not (n == 0) ≡ true → n ≢ 0
 not_zero n h e = grind (arith, nat_tests)
 
-wait_reg : (f : Form) (m : ℕ) → has_wait f m ≡ true → middle_field m ≢ 0
-wait_reg form.ModRM_0x8f m h = not_zero (middle_field m) h
+wait_reg : (f : Form) (m : ℕ) → has_wait f m ≡ true → reg_field m ≢ 0
+wait_reg form.ModRM_0x8f m h = not_zero (reg_field m) h
 wait_reg _ m h = absurd (true≢false (sym h))
 
-pub gap_reg : (strict : Bool) (row : TableRow) (p : Prefixes) (m : ℕ) (w : Moment) → is_group_form row.form ≡ true → ((group_record strict row p).plan m).verdict ≡ Refuses Incomplete w → middle_field m ≢ 0
+pub gap_reg : (strict : Bool) (row : TableRow) (p : Prefixes) (m : ℕ) (w : Moment) → is_group_form row.form ≡ true → ((group_record strict row p).plan m).verdict ≡ Refuses Incomplete w → reg_field m ≢ 0
 gap_reg strict row p m w group e = wait_reg row.form m (gap_waits strict row p m w group e)
 
 wait_moment : (f : Form) (o : ℕ) (strict : Bool) (p : Prefixes) (m : ℕ) (w : Moment) → has_wait f m ≡ true → (form_plan f o strict p m).verdict ≡ Refuses Incomplete w → w ≡ AfterAddress

@@ -6,7 +6,8 @@ use Rattle.x86_operands.specs.declared.plans.Signs.TheVariants.{Three, Four}
 use Rattle.x86_operands.specs.declared.plans.Fault.TheVariants.{BadOperand}
 use Rattle.x86_operands.specs.declared.plans.Moment.TheVariants.{AtModRM}
 use Rattle.x86_operands.specs.declared.plans.Plan.{Plan}
-use Rattle.x86_operands.specs.Plans.{is_memory, reads, refused}
+use Rattle.x86_fields.specs.ModRM.{is_memory}
+use Rattle.x86_operands.specs.Plans.{reads, refused}
 use Rattle.x86_opcodes.specs.Names.{EXTRQ, INSERTQ}
 use Rattle.x86_groups.specs.Choice.{reg}
 

@@ -9,7 +9,8 @@ use Rattle.x86_operands.specs.declared.plans.Sign.TheVariants.{E, Fixed}
 use Rattle.x86_operands.specs.declared.plans.Signs.TheVariants.{One}
 use Rattle.x86_operands.specs.declared.plans.Mark.TheVariants.{ClearsOperandSize}
 use Rattle.x86_operands.specs.declared.plans.Plan.{Plan}
-use Rattle.x86_operands.specs.Plans.{is_memory, reads, size_by, rm_number}
+use Rattle.x86_fields.specs.ModRM.{is_memory}
+use Rattle.x86_operands.specs.Plans.{reads, size_by, rm_number}
 use Rattle.x86_operands.specs.declared.plans.RegisterSlot.TheVariants as place
 use Rattle.x86_opcodes.specs.Names.{CLWB, CLFLUSH, CLFLUSHOPT, TPAUSE, UMWAIT, PTWRITE, RDFSBASE, RDGSBASE, WRFSBASE, WRGSBASE, INCSSP, UMONITOR, CLRSSBSY, FXSAVE, XSAVE, FXRSTOR, XRSTOR, LDMXCSR, STMXCSR, XSAVEOPT, LFENCE, MFENCE, SFENCE}
 use Rattle.x86_groups.specs.Choice.{bad_opcode, bad_operand, bare, named_by_reg, on_memory, on_register, reg, rm}

@@ -8,7 +8,8 @@ use Rattle.x86_fields.specs.Sizes.{v}
 use Rattle.x86_operands.specs.declared.plans.Sign.TheVariants.{G, E}
 use Rattle.x86_operands.specs.declared.plans.Signs.TheVariants.{One, Two}
 use Rattle.x86_operands.specs.declared.plans.Plan.{Plan}
-use Rattle.x86_operands.specs.Plans.{is_memory, reads, memory_only, size_by}
+use Rattle.x86_fields.specs.ModRM.{is_memory}
+use Rattle.x86_operands.specs.Plans.{reads, memory_only, size_by}
 use Rattle.x86_opcodes.specs.Names.{PREFETCHW, NOP, MOVLPS, MOVHLPS, MOVHPS, MOVLHPS, PREFETCHNTA, PREFETCH0, PREFETCH1, PREFETCH2, ENDBR64, ENDBR32}
 use Rattle.x86_groups.specs.Choice.{bare, named_by_reg, on_memory, reg}
 

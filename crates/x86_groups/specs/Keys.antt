@@ -13,7 +13,8 @@ use Rattle.x86_operands.specs.declared.plans.Fault.{Fault}
 use Rattle.x86_operands.specs.declared.plans.Fault.TheVariants.{BadOpcode}
 use Rattle.x86_operands.specs.declared.plans.Moment.TheVariants.{AtModRM, AfterAddress}
 use Rattle.x86_operands.specs.declared.plans.Plan.{Plan}
-use Rattle.x86_operands.specs.Plans.{is_memory, reads, refuses, refused, memory_only, size_by}
+use Rattle.x86_fields.specs.ModRM.{is_memory}
+use Rattle.x86_operands.specs.Plans.{reads, refuses, refused, memory_only, size_by}
 use Rattle.x86_opcodes.specs.Names.{AESENCWIDE128KL, AESDECWIDE128KL, AESENCWIDE256KL, AESDECWIDE256KL, AESENC128KL, LOADIWKEY, AESDEC128KL, AESENC256KL, AESDEC256KL, ENCODEKEY128, ENCODEKEY256, HRESET}
 use Rattle.x86_groups.specs.Choice.{bad_operand, on_memory, reg}
 

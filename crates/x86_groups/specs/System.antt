@@ -9,7 +9,8 @@ use Rattle.x86_operands.specs.declared.plans.Sign.{Sign}
 use Rattle.x86_operands.specs.declared.plans.Sign.TheVariants.{E, U, Fixed}
 use Rattle.x86_operands.specs.declared.plans.Signs.TheVariants.{Zero, One, Two, Three}
 use Rattle.x86_operands.specs.declared.plans.Plan.{Plan}
-use Rattle.x86_operands.specs.Plans.{is_memory, reads, size_by}
+use Rattle.x86_fields.specs.ModRM.{is_memory}
+use Rattle.x86_operands.specs.Plans.{reads, size_by}
 use Rattle.x86_operands.specs.declared.plans.RegisterSlot.TheVariants as place
 use Rattle.x86_opcodes.specs.Names.{SLDT, STR, LLDT, LTR, VERR, VERW, SGDT, SIDT, LGDT, LIDT, SMSW, RSTORSSP, LMSW, INVLPG, ENCLV, VMCALL, VMLAUNCH, VMRESUME, VMXOFF, PCONFIG, TDCALL, SEAMRET, SEAMOPS, SEAMCALL, MONITOR, MWAIT, CLAC, STAC, ENCLS, XGETBV, XSETBV, VMFUNC, XEND, XTEST, ENCLU, VMRUN, VMMCALL, VMLOAD, VMSAVE, STGI, CLGI, SKINIT, INVLPGA, XSUSLDTRK, SETSSBSY, XRESLDTRK, SAVEPREVSSP, UIRET, TESTUI, STUI, CLUI, RDPKRU, WRPKRU, RMPADJUST, RMPUPDATE, INVLPGB, PSMASH, PVALIDATE, TLBSYNC, SWAPGS, RDTSCP, MONITORX, MWAITX, CLZERO, RDPRU}
 use Rattle.x86_groups.specs.Choice.{bad_opcode, bad_operand, bare, has_f2_f3_or_66, has_f2_or_f3, name_at, named_by_reg, on_memory, reg, rm}

@@ -29,7 +29,8 @@ use Rattle.x86_operands.specs.declared.encodings.Size.{Size}
 use Rattle.x86_operands.specs.declared.reader.Reading.{Reading}
 use Rattle.x86_operands.specs.declared.placing.Operands.{Operands}
 use Rattle.x86_operands.specs.Signs.{plan_step, memory_step, given_step, signs_step, sign_step, reading_from, rm_operand}
-use Rattle.x86_operands.specs.Plans.{is_memory, list_of, reads, immediate_of}
+use Rattle.x86_fields.specs.ModRM.{is_memory}
+use Rattle.x86_operands.specs.Plans.{list_of, reads, immediate_of}
 use Rattle.x86_operands.specs.FormSizes.{whole_immediate}
 use Rattle.x86_operands.specs.Shape.{shape_of}
 use Rattle.x86_operands.specs.Encodings.{last_sign, reg_sign, rm_sign, signs_in, judged, plan_of, bytes_of, fields_placed, index_of_place, sign_placed, sign_put, is_last, ends, put, rm_pair, reg_pair, fixed_pair, placed_reading, sized, last_placed, placed, somewhere, is_row, is_sound, size_at, is_order_of, is_order, has_modrm, has_register, fits, allowed}

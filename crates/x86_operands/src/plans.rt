@@ -1,6 +1,7 @@
 //! What the rows' records ask: their vocabulary.
 ghost use Rattle.std.specs.Prelude.{◌≡◌, ◌<◌, ℕ};
-ghost use Rattle.x86_operands.specs.Plans.{is_memory, with_verdict, reads, named_by_suffix, refused, refuses, memory_only, register_only, size_by, reg_number, rm_number, register_at, accumulator_of, immediate_of};
+ghost use Rattle.x86_fields.specs.ModRM.{is_memory};
+ghost use Rattle.x86_operands.specs.Plans.{with_verdict, reads, named_by_suffix, refused, refuses, memory_only, register_only, size_by, reg_number, rm_number, register_at, accumulator_of, immediate_of};
 
 use x86_fields::{Prefixes, extend};
 use x86_opcodes::Opcode;

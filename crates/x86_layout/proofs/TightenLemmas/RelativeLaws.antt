@@ -3,14 +3,15 @@ use Rattle.std.proofs.Common.{◌≡◌, ℕ, ◌+◌, ◌%◌, ◌≤◌, Bool,
 use Rattle.std.proofs.lemmas.Bool.Decides.{nat_tests}
 use Rattle.x86_fields.specs.declared.Prefixes.{Prefixes}
 use Rattle.x86_fields.specs.declared.Raw.{Raw}
-use Rattle.x86_fields.specs.Raw.{middle_field, live_bit, rex_b, rex_x}
+use Rattle.x86_fields.specs.ModRM.{reg_field, is_memory}
+use Rattle.x86_fields.specs.Raw.{live_bit, rex_b, rex_x}
 use Rattle.x86_fields.specs.Run.{reading_of}
 use Rattle.x86_fields.specs.Linear.{raw_form, IsSameAddress}
 use Rattle.x86_forms.specs.Words.{rows_of, word_at}
 use Rattle.x86_operands.specs.declared.plans.ModrmUse.{ModrmUse}
 use Rattle.x86_operands.specs.declared.plans.ModrmUse.TheVariants.{Absent, Fields, Registers}
 use Rattle.x86_operands.specs.declared.reader.Reading.{Reading}
-use Rattle.x86_operands.specs.Plans.{RowRecord, is_memory}
+use Rattle.x86_operands.specs.Plans.{RowRecord}
 use Rattle.x86_operands.specs.Pieces.{SpellsMemory, modrm_of, modrm_width}
 use Rattle.x86_decode.specs.Head.{escape_bytes, seen}
 use Rattle.x86_decode.specs.Instruction.{instruction_of}
@@ -144,8 +145,8 @@ module _ (strict : Bool) (s : List ℕ) (a : Reading) (v : Encoding strict s a) 
       (x_with (Other).rex_x (Other).rex_b (Before).rex (λ e. (none e).1))
       keeps
 
-  same_register : middle_field (Other).modrm ≡ middle_field (Byte strict s a v)
-  same_register = shortest_keeps_reg raw ∙ ap middle_field (raw_modrm strict s a v raw read)
+  same_register : reg_field (Other).modrm ≡ reg_field (Byte strict s a v)
+  same_register = shortest_keeps_reg raw ∙ ap reg_field (raw_modrm strict s a v raw read)
 
   rerow_bits : Rerow (Bits)
   rerow_bits =
@@ -195,7 +196,7 @@ module _ (strict : Bool) (s : List ℕ) (a : Reading) (v : Encoding strict s a) 
         prefixes = run_cleared (Other).rex_x (Other).rex_b v.run;
         escape = refl;
         opcode = refl;
-        register = ap (map middle_field) (rerow).modrm ∙ ap (λ n. n ∷ []) (same_register) ∙ sym (ap (map middle_field) (byte strict s a v raw read));
+        register = ap (map reg_field) (rerow).modrm ∙ ap (λ n. n ∷ []) (same_register) ∙ sym (ap (map reg_field) (byte strict s a v raw read));
         immediate = (rerow).immediate;
         suffix = (rerow).last;
       };

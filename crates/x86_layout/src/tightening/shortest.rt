@@ -1,7 +1,8 @@
 //! The raw fields of an address with the fewest bytes. Source: Intel SDM volume 2, sections 2.1.5 and 2.2.1.
 
 ghost use Rattle.std.specs.Prelude.{◌≡◌, ◌<◌};
-ghost use Rattle.x86_layout.specs.Tightening.Shortest.{asks_displacement, is_bare, lone, both, exchanged, placed, mod_by, mod_of, packed_byte, fourth_bit, scale_field, field_or, sib_byte, rm_alone, spelled, shortest};
+ghost use Rattle.x86_fields.specs.ModRM.{mod_field};
+ghost use Rattle.x86_layout.specs.Tightening.Shortest.{asks_displacement, is_bare, lone, both, exchanged, placed, mod_by, mod_of, fourth_bit, scale_bits, field_or, sib_byte, rm_alone, spelled, shortest};
 
 use crate::tightening::registers::{AddressRegisters, Scale, registers_of};
 use x86_fields::Raw;
@@ -117,8 +118,8 @@ fn packed(high: u8, middle: u8, low: u8) -> u8
     high * 64 + middle * 8 + low
 }
 
-fn scale_field(scale: Scale) -> u8
-    ensures value { result ≡ scale_field scale }
+fn scale_bits(scale: Scale) -> u8
+    ensures value { result ≡ scale_bits scale }
     ensures small { result < 4 }
 {
     match scale {
@@ -155,7 +156,7 @@ fn sib_byte(at: &AddressRegisters) -> u8
     ensures { result ≡ sib_byte at.now }
 {
     packed(
-        scale_field(at.scale),
+        scale_bits(at.scale),
         field_or(4, at.index),
         field_or(5, at.base),
     )
