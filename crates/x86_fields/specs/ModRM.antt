@@ -1,5 +1,6 @@
 -- The bytes ModRM and SIB: their fields, and the bytes that fields make. Source: Intel SDM volume 2, sections 2.1.3 and 2.1.5.
 use Rattle.std.specs.Prelude.{ℕ, ◌+◌, ◌*◌, ◌/◌, ◌%◌, nat_lt, Bool}
+use Rattle.x86_fields.specs.declared.modrm.TheConstants.{MEMORY_FORMS}
 
 -- the fields of ModRM: mod has two bits, reg and rm have three
 abbrev pub mod_field : ℕ → ℕ
@@ -25,17 +26,14 @@ base_field sib = sib % 8
 abbrev pub packed_byte : ℕ → ℕ → ℕ → ℕ
 packed_byte high middle low = high * 64 + (middle * 8 + low)
 
--- ModRM is a memory form below this byte: where mod isn't 11
-abbrev pub memory_forms : ℕ
-memory_forms = 0xc0
-
+-- a memory form: mod other than 11
 abbrev pub is_memory : ℕ → Bool
-is_memory modrm = nat_lt modrm memory_forms
+is_memory modrm = nat_lt modrm MEMORY_FORMS
 
--- what stands for a ModRM that isn't there: mod 11, reg 0 and rm 0
+-- what stands for a ModRM that isn't there: the register form of reg 0 and rm 0
 abbrev pub absent_modrm : ℕ
-absent_modrm = 0xc0
+absent_modrm = packed_byte 3 0 0
 
--- ModRM with mod 11 in place of its mod
+-- the register form with the same reg and rm
 abbrev pub as_register : ℕ → ℕ
-as_register modrm = 0xc0 + modrm % 0x40
+as_register modrm = packed_byte 3 (reg_field modrm) (rm_field modrm)

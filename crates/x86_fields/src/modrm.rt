@@ -33,6 +33,7 @@ impl ModRM {
     }
 
     /// The ModRM of these fields: mod below 4, reg and rm below 8.
+    #[inline(always)]
     pub fn of_fields(mod_field: u8, reg_field: u8, rm_field: u8) -> ModRM
         requires mode { mod_field < 4 }
         requires reg { reg_field < 8 }
@@ -44,12 +45,12 @@ impl ModRM {
         }
     }
 
-    /// What stands for a ModRM that isn't there: C0.
+    /// What stands for a ModRM that isn't there: C0, the register form of reg 0 and rm 0.
     #[inline(always)]
     pub fn absent() -> ModRM
         ensures { result ≡ absent_modrm }
     {
-        ModRM { byte: 0xc0 }
+        ModRM::of_fields(3, 0, 0)
     }
 
     #[inline(always)]
@@ -95,12 +96,11 @@ impl ModRM {
     }
 
     /// The register form with the same reg and rm.
+    #[inline(always)]
     pub fn as_register(self) -> ModRM
         ensures { result ≡ as_register self }
     {
-        ModRM {
-            byte: 0xc0 + self.byte % 0x40,
-        }
+        ModRM::of_fields(3, self.reg_field(), self.rm_field())
     }
 }
 
@@ -129,6 +129,7 @@ impl Sib {
     }
 
     /// The SIB of these fields: scale below 4, index and base below 8.
+    #[inline(always)]
     pub fn of_fields(scale_field: u8, index_field: u8, base_field: u8) -> Sib
         requires scale { scale_field < 4 }
         requires index { index_field < 8 }
