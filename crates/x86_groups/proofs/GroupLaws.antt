@@ -19,13 +19,13 @@ use Rattle.x86_operands.specs.Asks.{immediates_width}
 use Rattle.x86_operands.specs.Signs.{record_step}
 use Rattle.x86_operands.proofs.RowLaws.{HasGap, row_left_out}
 use Rattle.x86_operands.proofs.PlanTests.{passes, narrow, without_gap, at_most_64, at_most_8}
-use Rattle.x86_groups.specs.Choice.{reg, left_out}
+use Rattle.x86_groups.specs.Choice.{left_out}
 use Rattle.x86_groups.specs.Groups.{group_fault, form_plan, two_byte_plan, three_byte_plan, group_record}
 use Rattle.x86_groups.proofs.PlanLaws.{plan_80_passes, plan_81_passes, plan_83_passes, plan_c0_passes, plan_c1_passes, plan_c6_passes, plan_c7_passes, plan_d0_passes, plan_d1_passes, plan_d2_passes, plan_d3_passes, plan_d8_passes, plan_d9_passes, plan_da_passes, plan_db_passes, plan_dc_passes, plan_dd_passes, plan_de_passes, plan_df_passes, plan_f6_passes, plan_f7_passes, plan_fe_passes, plan_ff_passes, plan_0f00_passes, plan_0f01_passes, plan_0f0d_passes, plan_0f0f_passes, plan_0f12_passes, plan_0f16_passes, plan_0f18_passes, plan_rq_cq_passes, plan_rq_dq_passes, plan_cq_rq_passes, plan_dq_rq_passes, plan_0f71_passes, plan_0f72_passes, plan_0f73_passes, plan_0fae_passes, plan_0fba_passes, plan_0fc7_passes, plan_660f78_passes, plan_f20f78_passes, plan_f30f1e_passes, plan_f30f38d8_passes, plan_f30f38dc_passes, plan_f30f38dd_passes, plan_f30f38de_passes, plan_f30f38df_passes, plan_f30f38fa_passes, plan_f30f38fb_passes, plan_f30f3af0_passes, plan_8f_passes, plan_8f_moment}
 
 -- 8F with a reg other than 0
 abbrev pub has_wait : Form → ℕ → Bool
-has_wait form.ModRM_0x8f m = not (reg m == 0)
+has_wait form.ModRM_0x8f m = not (reg_field m == 0)
 has_wait f m = false
 
 -- what may refuse as left out: that, and what is no group

@@ -31,7 +31,7 @@ use Rattle.x86_operands.specs.declared.encodings.Size.{Size}
 use Rattle.x86_operands.specs.declared.encodings.Size.TheVariants as size
 use Rattle.x86_operands.specs.declared.encodings.Encoding.{Encoding}
 use Rattle.x86_fields.specs.declared.Raw.{Raw}
-use Rattle.x86_fields.specs.ModRM.{reg_field, is_memory}
+use Rattle.x86_fields.specs.ModRM.{reg_field, is_memory, absent_modrm}
 use Rattle.x86_operands.specs.Plans.{reads, refuses, memory_only, register_only, reg_number, register_at, accumulator_of, immediate_of}
 use Rattle.x86_operands.specs.FormSizes.{whole_immediate, push_immediate, nothing_size, call_size, return_size, duplicate_size, stream_size, scalar_size, extract_size, insert_size, unpack_size}
 use Rattle.x86_operands.specs.Forms.{form_plan, cl_third, size_v}
@@ -237,7 +237,7 @@ put Nowhere x given = given
 
 -- the operand of a sign that no ModRM names, at a place
 abbrev pub sign_placed : Place → Sign → Prefixes → Operands → Step Operands
-sign_placed at s p given = sign_step s p 0xc0 None >>= λ x. pure (put at x given)
+sign_placed at s p given = sign_step s p absent_modrm None >>= λ x. pure (put at x given)
 
 abbrev pub no_operands : Operands
 no_operands = record { slots = slots.Nothing ∷ slots.Nothing ∷ slots.Nothing ∷ slots.Nothing ∷ []; operands = operands.Nothing ∷ operands.Nothing ∷ operands.Nothing ∷ operands.Nothing ∷ []; count = 0; mem_size = 0 }
