@@ -5,7 +5,7 @@ use Rattle.std.specs.Int.{from_bool}
 use Rattle.std.proofs.Math.Seq.{take-append_seam, drop-append_seam}
 use Rattle.std.proofs.lemmas.Bool.Decides.{nat_tests}
 use Rattle.x86_fields.specs.Run.{is_prefix_byte}
-use Rattle.x86_fields.specs.ModRM.{rm_field, is_memory}
+use Rattle.x86_fields.specs.ModRM.{rm_field, is_memory, as_register}
 use Rattle.x86_fields.specs.Pieces.{option_bytes, total}
 use Rattle.x86_fields.specs.declared.Prefixes.{Prefixes}
 use Rattle.x86_fields.specs.declared.Raw.{Raw}
@@ -157,7 +157,7 @@ used_is Absent modrm more tail e h = refl
 used_is Fields [] more tail e h = absurd (omega arith)
 used_is Fields (m ∷ rest) more tail e h = sym (ap (λ l. slice_index l 0) e)
 used_is Registers [] more tail e h = absurd (omega arith)
-used_is Registers (m ∷ rest) more tail e h = sym (ap (λ l. 0xc0 + slice_index l 0 % 0x40) e)
+used_is Registers (m ∷ rest) more tail e h = sym (ap (λ l. as_register (slice_index l 0)) e)
 
 pub modrm_long : (u : ModrmUse) (modrm : List ℕ) → length modrm ≡ modrm_width u → one_if (asks_modrm u) ≡ length modrm
 modrm_long Absent modrm e = sym e
@@ -182,13 +182,13 @@ sib_by : (memory : Bool) (used raw : ℕ) → (memory ≡ true → used ≡ raw)
 sib_by true used raw h = ap (λ m. rm_field m == 4) (sym (h refl))
 sib_by false used raw h = refl
 
-large : (n : ℕ) → is_memory (0xc0 + n) ≡ false
-large n = grind (arith, nat_tests)
+large : (m : ℕ) → is_memory (as_register m) ≡ false
+large m = grind (arith, nat_tests)
 
 pub as_it_stands : (u : ModrmUse) (m : ℕ) → is_memory (used u m) ≡ true → used u m ≡ m
 as_it_stands Absent m e = absurd (let h : false ≡ true = e in cc)
 as_it_stands Fields m e = refl
-as_it_stands Registers m e = absurd (let h : false ≡ true = sym (large (m % 0x40)) ∙ e in cc)
+as_it_stands Registers m e = absurd (let h : false ≡ true = sym (large m) ∙ e in cc)
 
 pub sib_asked : (u : ModrmUse) (m : ℕ) → one_if (is_memory (used u m) && rm_field m == 4) ≡ sib_width (used u m)
 sib_asked u m = ap one_if (sib_by (is_memory (used u m)) (used u m) m (as_it_stands u m))

@@ -58,7 +58,7 @@ of_bytes p m address raw h b =
     let both : Bytes (option_bytes s.sib ++ s.disp) = subst Bytes s.spelled b in
     let disp : Bytes s.disp = bytes_behind (option_bytes s.sib) s.disp both in
     record {
-      fit = ap fits s.fields ∙ all_three (nat_lt m 0xc0) (sib_fits m s.sib) _ h.0 (sib_fits_by m s.sib s.sib_asked) (spelled_disp_fits (disp_width m s.sib) s.disp disp);
+      fit = ap fits s.fields ∙ all_three (is_memory m) (sib_fits m s.sib) _ h.0 (sib_fits_by m s.sib s.sib_asked) (spelled_disp_fits (disp_width m s.sib) s.disp disp);
       sib = subst (λ r. IsByteOption r.sib) (sym s.fields) (front_byte s.sib s.disp both);
       disp = memory_fits p m address (Some raw) raw h refl b;
     }
@@ -125,19 +125,19 @@ sib_asked modrm None e = turned (rm_field modrm == 4) e
 sib_asked modrm (Some sib) e = sym e
 
 memory_of : (raw : Raw) → IsOfBytes raw → is_memory raw.modrm ≡ true
-memory_of raw h = first_of_three (nat_lt raw.modrm 0xc0) (sib_fits raw.modrm raw.sib) (disp_fits (disp_width raw.modrm raw.sib) raw.disp) h.fit
+memory_of raw h = first_of_three (is_memory raw.modrm) (sib_fits raw.modrm raw.sib) (disp_fits (disp_width raw.modrm raw.sib) raw.disp) h.fit
 
 -- the bytes of raw fields spell them, under prefixes with their bits
 pub respells : (q : Prefixes) (raw : Raw) → IsOfBytes raw → rex_b q ≡ raw.rex_b → rex_x q ≡ raw.rex_x → q.address_size ≡ raw.address_size → SpellsMemory q raw.modrm (address_bytes raw) (Some raw)
 respells q raw h b x short =
     let width : ℕ = disp_width raw.modrm raw.sib in
-    let value = signed_back raw.modrm raw.sib raw.disp (third_of_three (nat_lt raw.modrm 0xc0) (sib_fits raw.modrm raw.sib) (disp_fits width raw.disp) h.fit) h.disp in (
+    let value = signed_back raw.modrm raw.sib raw.disp (third_of_three (is_memory raw.modrm) (sib_fits raw.modrm raw.sib) (disp_fits width raw.disp) h.fit) h.disp in (
       memory_of raw h,
       record {
         sib = raw.sib;
         disp = displacement_bytes raw;
         spelled = refl;
-        sib_asked = sib_asked raw.modrm raw.sib (second_of_three (nat_lt raw.modrm 0xc0) (sib_fits raw.modrm raw.sib) (disp_fits width raw.disp) h.fit);
+        sib_asked = sib_asked raw.modrm raw.sib (second_of_three (is_memory raw.modrm) (sib_fits raw.modrm raw.sib) (disp_fits width raw.disp) h.fit);
         disp_asked = displacement_long raw;
         fields =
             ap (λ t. record raw { rex_b = t }) (sym b)

@@ -4,17 +4,17 @@ use Rattle.std.proofs.lemmas.Bool.Decides.{nat_tests}
 use Rattle.x86_regs.specs.declared.RegisterClass.{RegisterClass}
 use Rattle.x86_regs.specs.declared.RegisterClass.TheVariants.{D, Q, EIP, RIP}
 use Rattle.x86_fields.specs.declared.Raw.{Raw}
-use Rattle.x86_fields.specs.ModRM.{mod_field, rm_field, scale_field, index_field, base_field}
+use Rattle.x86_fields.specs.ModRM.{mod_field, rm_field, scale_field, index_field, base_field, is_memory}
 use Rattle.x86_fields.specs.Raw.{disp_width, sib_fits, is_zero, is_byte, disp_fits}
 use Rattle.x86_fields.specs.Address.{extended, address_class, address_register, next_pointer, base_by, index_by, scale_by}
 use Rattle.x86_fields.specs.Linear.{adds_to, adds_next, is_pointer}
 use Rattle.x86_layout.specs.Tightening.Registers.{is_ip_by, base_in, index_in, scale_in, scale_named, times, counts, IsBelow16, IsIndex, IsByteOption}
-use Rattle.x86_layout.specs.Tightening.Shortest.{behind_base, bytes_by}
+use Rattle.x86_layout.specs.Tightening.Shortest.{behind_base, bytes_by, field_bits}
 use Rattle.x86_layout.proofs.TightenLemmas.SpelledLaws.{no_fewer, low_of_extended, low_small, middle_small}
 
 -- ---- no fields that fit have fewer bytes
 
-high_small : (m : ℕ) → nat_lt m 0xc0 ≡ true → mod_field m < 3
+high_small : (m : ℕ) → is_memory m ≡ true → mod_field m < 3
 high_small m h = grind (arith, nat_tests)
 
 pub first_of_three : (a b c : Bool) → (a && (b && c)) ≡ true → a ≡ true
@@ -31,7 +31,7 @@ not_true true h = absurd (let g : false ≡ true = h in cc)
 not_true false h = refl
 
 module _ (d : ℤ) (modrm : ℕ) where
-  behind_is_least : (b low : ℕ) → nat_lt modrm 0xc0 ≡ true → field_bits b ≡ low → ((mod_field modrm == 0) && (low == 5)) ≡ false → disp_fits (if mod_field modrm == 1 then 1 else (if mod_field modrm == 2 then 4 else (if low == 5 then 4 else 0))) d ≡ true → behind_base d b ≤ (if mod_field modrm == 1 then 1 else (if mod_field modrm == 2 then 4 else (if low == 5 then 4 else 0)))
+  behind_is_least : (b low : ℕ) → is_memory modrm ≡ true → field_bits b ≡ low → ((mod_field modrm == 0) && (low == 5)) ≡ false → disp_fits (if mod_field modrm == 1 then 1 else (if mod_field modrm == 2 then 4 else (if low == 5 then 4 else 0))) d ≡ true → behind_base d b ≤ (if mod_field modrm == 1 then 1 else (if mod_field modrm == 2 then 4 else (if low == 5 then 4 else 0)))
   behind_is_least b low h e f g =
       subst (λ n. (if is_zero d && not (n == 5) then 0 else (if is_byte d then 1 else 4)) ≤ (if mod_field modrm == 1 then 1 else (if mod_field modrm == 2 then 4 else (if low == 5 then 4 else 0)))) (sym e)
       (no_fewer (mod_field modrm) (is_zero d) (low == 5) (is_byte d) (high_small modrm h) f g)
@@ -56,11 +56,11 @@ module _ (d : ℤ) (modrm : ℕ) where
       by zero false e = absurd (let g : false ≡ true = e in cc)
       by (suc n) five e = absurd (grind (arith, nat_tests, e))
 
-  sib_least : (t bit : Bool) (sib : ℕ) (i : Option ℕ) → ((mod_field modrm == 0) && (base_field sib == 5)) ≡ t → nat_lt modrm 0xc0 ≡ true → disp_fits (disp_width modrm (Some sib)) d ≡ true → bytes_by d (if t then None else Some (extended bit (base_field sib))) i ≤ 1 + disp_width modrm (Some sib)
+  sib_least : (t bit : Bool) (sib : ℕ) (i : Option ℕ) → ((mod_field modrm == 0) && (base_field sib == 5)) ≡ t → is_memory modrm ≡ true → disp_fits (disp_width modrm (Some sib)) d ≡ true → bytes_by d (if t then None else Some (extended bit (base_field sib))) i ≤ 1 + disp_width modrm (Some sib)
   sib_least true bit sib i e h f = no_base_least (base_field sib == 5) e
   sib_least false bit sib i e h f = with_sib_least _ i _ (behind_is_least (extended bit (base_field sib)) (base_field sib) h (low_of_extended bit (base_field sib) (low_small sib)) e f)
 
-  pub least : (b_bit x_bit : Bool) (sib : Option ℕ) → nat_lt modrm 0xc0 ≡ true → sib_fits modrm sib ≡ true → disp_fits (disp_width modrm sib) d ≡ true → is_ip_by modrm sib ≡ false → bytes_by d (base_in b_bit modrm sib) (index_in x_bit sib) ≤ (if is_some sib then 1 else 0) + disp_width modrm sib
+  pub least : (b_bit x_bit : Bool) (sib : Option ℕ) → is_memory modrm ≡ true → sib_fits modrm sib ≡ true → disp_fits (disp_width modrm sib) d ≡ true → is_ip_by modrm sib ≡ false → bytes_by d (base_in b_bit modrm sib) (index_in x_bit sib) ≤ (if is_some sib then 1 else 0) + disp_width modrm sib
   least b_bit x_bit None h g f e =
       let low : field_bits (extended b_bit (rm_field modrm)) ≡ rm_field modrm = low_of_extended b_bit (rm_field modrm) (low_small modrm) in
       let four : (field_bits (extended b_bit (rm_field modrm)) == 4) ≡ false = ap (λ n. n == 4) low ∙ not_true _ g in

@@ -3,7 +3,7 @@ use Rattle.std.proofs.Common.{◌≡◌, ℕ, ◌+◌, ◌%◌, ◌≤◌, Bool,
 use Rattle.std.proofs.lemmas.Bool.Decides.{nat_tests}
 use Rattle.x86_fields.specs.declared.Prefixes.{Prefixes}
 use Rattle.x86_fields.specs.declared.Raw.{Raw}
-use Rattle.x86_fields.specs.ModRM.{reg_field, is_memory}
+use Rattle.x86_fields.specs.ModRM.{reg_field, is_memory, as_register}
 use Rattle.x86_fields.specs.Raw.{live_bit, rex_b, rex_x}
 use Rattle.x86_fields.specs.Run.{reading_of}
 use Rattle.x86_fields.specs.Linear.{raw_form, IsSameAddress}
@@ -29,14 +29,14 @@ use Rattle.x86_layout.proofs.TightenLemmas.RespellLaws.{Rerowed, rerowed}
 
 -- ---- a memory form
 
-high_is_register : (n : ℕ) → is_memory (0xc0 + n) ≡ true → false ≡ true
-high_is_register n h = grind (arith, nat_tests)
+high_is_register : (m : ℕ) → is_memory (as_register m) ≡ true → false ≡ true
+high_is_register m h = grind (arith, nat_tests)
 
 pub uses_fields : (u : ModrmUse) (modrm : List ℕ) → is_memory (modrm_of u modrm) ≡ true → u ≡ Fields
 uses_fields Absent modrm h = absurd (let g : false ≡ true = h in cc)
 uses_fields Fields modrm h = refl
 uses_fields Registers [] h = absurd (let g : false ≡ true = h in cc)
-uses_fields Registers (m ∷ rest) h = absurd (let g : false ≡ true = high_is_register (m % 0x40) h in cc)
+uses_fields Registers (m ∷ rest) h = absurd (let g : false ≡ true = high_is_register m h in cc)
 
 one_byte : (u : ModrmUse) (modrm : List ℕ) → u ≡ Fields → length modrm ≡ modrm_width u → modrm ≡ modrm_of u modrm ∷ []
 one_byte u modrm e h = subst (λ k. modrm ≡ modrm_of k modrm ∷ []) (sym e) (alone modrm (h ∙ ap modrm_width e))

@@ -5,7 +5,7 @@ use Rattle.std.specs.Int.{w32, w64, cast_signed}
 use Rattle.std.proofs.lemmas.Bool.Decides.{nat_tests}
 use Rattle.std.proofs.lemmas.Int.{to_z-of_z}
 use Rattle.x86_fields.specs.declared.Raw.{Raw}
-use Rattle.x86_fields.specs.ModRM.{mod_field, reg_field, rm_field, index_field, base_field, packed_byte}
+use Rattle.x86_fields.specs.ModRM.{mod_field, reg_field, rm_field, index_field, base_field, packed_byte, is_memory}
 use Rattle.x86_fields.specs.Raw.{disp_width, sib_fits, disp_fits, is_zero, is_byte}
 use Rattle.x86_fields.specs.Address.{index_by, scale_by}
 use Rattle.x86_fields.specs.Linear.{adds_to, adds_next, constant_by, modulus_by, raw_form, IsSameAddress}
@@ -205,7 +205,7 @@ none_is_shorter raw other h k e same =
     let disp : other.disp ≡ raw.disp = disp_told raw.address_size other.disp raw.disp k.disp h.disp (ap (λ s. constant_by s other.disp) (sym (short_told other.address_size raw.address_size same.modulus)) ∙ same.constant) in
     let counts_so : (r : ℕ) → r < 16 → weight from r ≡ weight to r = λ r small. sym (form_weighs raw r h.sib e) ∙ sym (same.registers r small) ∙ form_weighs other r k.sib ip in
     let fewer = fewest raw.disp from.base from.index from.scale to.base to.index to.scale (base_stands raw.rex_b raw.modrm raw.sib) (index_stands raw.rex_x raw.sib) (base_stands other.rex_b other.modrm other.sib) (index_stands other.rex_x other.sib) counts_so in
-    let all = least other.disp other.modrm other.rex_b other.rex_x other.sib (first_of_three _ (sib_fits other.modrm other.sib) (disp_fits (disp_width other.modrm other.sib) other.disp) k.fit) (second_of_three (nat_lt other.modrm 0xc0) _ (disp_fits (disp_width other.modrm other.sib) other.disp) k.fit) (third_of_three (nat_lt other.modrm 0xc0) (sib_fits other.modrm other.sib) _ k.fit) ip in
+    let all = least other.disp other.modrm other.rex_b other.rex_x other.sib (first_of_three _ (sib_fits other.modrm other.sib) (disp_fits (disp_width other.modrm other.sib) other.disp) k.fit) (second_of_three (is_memory other.modrm) _ (disp_fits (disp_width other.modrm other.sib) other.disp) k.fit) (third_of_three (is_memory other.modrm) (sib_fits other.modrm other.sib) _ k.fit) ip in
     at_most (shortest_length raw) fewer (subst (λ d. bytes_by d to.base to.index ≤ address_length other) disp all)
   where
     at_most : {a b c d : ℕ} → a ≡ b → b ≤ c → c ≤ d → a ≤ d

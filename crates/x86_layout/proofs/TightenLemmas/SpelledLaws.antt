@@ -1,7 +1,7 @@
 -- What spelled raw fields are read as.
 use Rattle.std.proofs.Common.{◌≡◌, ◌≢◌, ℕ, zero, suc, ◌+◌, ◌<◌, ◌≤◌, ◌==◌, nat_lt, nat_le, ◌&&◌, not, Bool, true, false, if◌then◌else◌, Option, Some, None, is_some, ℤ, refl, sym, ap, ◌∙◌, arith}
 use Rattle.std.proofs.lemmas.Bool.Decides.{nat_tests}
-use Rattle.x86_fields.specs.ModRM.{mod_field, reg_field, rm_field, scale_field, index_field, base_field, packed_byte}
+use Rattle.x86_fields.specs.ModRM.{mod_field, reg_field, rm_field, scale_field, index_field, base_field, packed_byte, is_memory}
 use Rattle.x86_fields.specs.Raw.{names_no_base, disp_width, sib_fits, is_zero, is_byte, disp_fits}
 use Rattle.x86_fields.specs.Address.{extended}
 use Rattle.x86_layout.specs.declared.tightening.registers.Scale.{Scale}
@@ -164,7 +164,7 @@ module _ (d : ℤ) (m : ℕ) (below : m < 8) where
       by true = omega arith
       by false = low_small b
 
-  byte_small : (h k l : ℕ) → h < 3 → k < 8 → l < 8 → nat_lt (packed_byte h k l) 0xc0 ≡ true
+  byte_small : (h k l : ℕ) → h < 3 → k < 8 → l < 8 → is_memory (packed_byte h k l) ≡ true
   byte_small h k l a b c = grind (arith, nat_tests)
 
   pub low_rm : (b i : Option ℕ) → rm_field (Modrm b i) ≡ rm_by (rm_alone b i)
@@ -190,7 +190,7 @@ module _ (d : ℤ) (m : ℕ) (below : m < 8) where
   all_three : (a b c : Bool) → a ≡ true → b ≡ true → c ≡ true → (a && (b && c)) ≡ true
   all_three a b c e f g = grind arith
 
-  pub spelled_fits : (b i : Option ℕ) (s : Scale) → (nat_lt (Modrm b i) 0xc0 && (sib_fits (Modrm b i) (Sib b i s) && disp_fits (disp_width (Modrm b i) (Sib b i s)) d)) ≡ true
+  pub spelled_fits : (b i : Option ℕ) (s : Scale) → (is_memory (Modrm b i) && (sib_fits (Modrm b i) (Sib b i s) && disp_fits (disp_width (Modrm b i) (Sib b i s)) d)) ≡ true
   spelled_fits b i s =
       all_three _ _ _
       (byte_small (mod_of d b) m (rm_by (rm_alone b i)) (mod_is_small b) below (rm_small b i))

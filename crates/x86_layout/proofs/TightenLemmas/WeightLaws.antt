@@ -5,7 +5,7 @@ use Rattle.x86_fields.specs.Raw.{is_zero, is_byte}
 use Rattle.x86_layout.specs.declared.tightening.registers.Scale.{Scale}
 use Rattle.x86_layout.specs.declared.tightening.registers.Scale.TheVariants.{One, Two, Four, Eight}
 use Rattle.x86_layout.specs.Tightening.Registers.{times, counts, IsBelow16, IsIndex}
-use Rattle.x86_layout.specs.Tightening.Shortest.{asks_displacement, is_bare, lone, both, exchanged, placed, behind_base, bytes_by, bytes_at}
+use Rattle.x86_layout.specs.Tightening.Shortest.{asks_displacement, is_bare, lone, both, exchanged, placed, behind_base, bytes_by, bytes_at, field_bits}
 
 -- ---- how often a register counts
 

@@ -1,5 +1,5 @@
 -- The raw fields of an address with the fewest bytes. Source: Intel SDM volume 2, sections 2.1.5 and 2.2.1.
-use Rattle.std.specs.Prelude.{◌≡◌, ℕ, ◌+◌, ◌*◌, ◌==◌, ◌&&◌, not, nat_le, Bool, true, false, if◌then◌else◌, Option, Some, None, is_some, ℤ, FitsSigned}
+use Rattle.std.specs.Prelude.{◌≡◌, ℕ, ◌+◌, ◌*◌, ◌%◌, ◌==◌, ◌&&◌, not, nat_le, Bool, true, false, if◌then◌else◌, Option, Some, None, is_some, ℤ, FitsSigned}
 use Rattle.std.specs.Int.{w32}
 use Rattle.x86_fields.specs.declared.Raw.{Raw}
 use Rattle.x86_fields.specs.ModRM.{reg_field, packed_byte}
@@ -10,6 +10,10 @@ use Rattle.x86_layout.specs.declared.tightening.registers.AddressRegisters.{Addr
 use Rattle.x86_layout.specs.Tightening.Registers.{registers_of, IsByteOption}
 
 -- ---- where the registers stand
+
+-- the three bits of a register's number that a field holds
+abbrev pub field_bits : ℕ → ℕ
+field_bits number = number % 8
 
 -- a base whose number ends in 101 has a displacement, also of 0
 abbrev pub asks_displacement : ℕ → Bool
@@ -73,9 +77,6 @@ mod_by disp base = if is_bare disp base then 0 else (if is_byte disp then 1 else
 abbrev pub mod_of : ℤ → Option ℕ → ℕ
 mod_of disp None = 0
 mod_of disp (Some b) = mod_by disp b
-
-abbrev pub packed_byte : ℕ → ℕ → ℕ → ℕ
-packed_byte high middle low = high * 64 + (middle * 8 + low)
 
 -- the fourth bit of a register's number
 abbrev pub fourth_bit : Option ℕ → Bool
