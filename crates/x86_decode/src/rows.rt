@@ -12,7 +12,7 @@ ghost use Rattle.x86_decode.specs.Walk.{HasForm, IsFound, found_row_step, plan_a
 
 use crate::instructions::Instruction;
 use x86_arch::Reader;
-use x86_fields::{DecodeError, Prefixes};
+use x86_fields::{DecodeError, ModRM, Prefixes};
 use x86_forms::TableRow;
 use x86_groups::{chosen, group_plan, place_group, read_group};
 use x86_opcodes::Opcode;
@@ -29,7 +29,7 @@ pub enum Rest {
     /// All of a row.
     Row(TableRow),
     /// What stands behind this ModRM byte.
-    Behind(TableRow, u8),
+    Behind(TableRow, ModRM),
 }
 
 /// The line of the operand encodings for a row, with the operation, and the ModRM byte; one that isn't there is C0.
@@ -37,7 +37,7 @@ pub enum Rest {
 struct Usual<'a> {
     encoding: &'a Encoding,
     opcode: Opcode,
-    modrm: u8,
+    modrm: ModRM,
 }
 
 /// What a row comes to behind its ModRM byte, if it has one.
@@ -98,14 +98,14 @@ fn read_usual<'a, T: Reader<u64, u8>>(
         Behind::Nothing | Behind::Opcode | Behind::Accumulator => Ok(Found::Line(Usual {
             encoding,
             opcode,
-            modrm: 0xc0,
+            modrm: ModRM::absent(),
         })),
     }
 }
 
 /// The line, if it accepts at this ModRM byte.
 #[inline(always)]
-fn line_at<'a>(row: &TableRow, encoding: &'a Encoding, opcode: Opcode, modrm: u8) -> Found<'a>
+fn line_at<'a>(row: &TableRow, encoding: &'a Encoding, opcode: Opcode, modrm: ModRM) -> Found<'a>
     requires form { IsForm row.now.form }
     requires sound { is_sound encoding.now ≡ true }
     requires describes { (strict : Bool) (p : Prefixes) → IsTrue (is_row encoding.now.behind) → plan_of encoding.now (carried row.now.form) opcode p modrm ≡ plan_at strict row.now p modrm }
@@ -155,7 +155,7 @@ pub fn place_usual<T: Reader<u64, u8>>(
     }
 }
 
-fn plan_at(strict: bool, row: TableRow, prefixes: &Prefixes, modrm: u8) -> Plan
+fn plan_at(strict: bool, row: TableRow, prefixes: &Prefixes, modrm: ModRM) -> Plan
     requires { IsForm row.form }
     ensures { result ≡ plan_at strict row prefixes.now modrm }
 {

@@ -8,7 +8,8 @@ use Rattle.x86_fields.specs.declared.DecodeError.TheVariants.{ExhaustedInput}
 use Rattle.x86_fields.specs.declared.Prefixes.{Prefixes}
 use Rattle.x86_fields.specs.declared.Raw.{Raw}
 use Rattle.x86_fields.specs.Steps.{Step, Outcome, outcome, then_from, pure, ◌>>=◌, byte_step, byte_of, bytes_step, number_step}
-use Rattle.x86_fields.specs.Raw.{raw_step, disp_step, disp_width, low_field, rex_b, rex_x}
+use Rattle.x86_fields.specs.ModRM.{rm_field}
+use Rattle.x86_fields.specs.Raw.{raw_step, disp_step, disp_width, rex_b, rex_x}
 use Rattle.x86_fields.specs.Pieces.{SpellsRaw, IsReadRaw, sib_taken}
 use Rattle.x86_fields.proofs.StepLaws.{advanced_zero}
 use Rattle.x86_fields.proofs.EndLaws.{Ends, settles, runs_out, Only}
@@ -68,7 +69,7 @@ behind_sib p modrm sib = disp_step (disp_width modrm sib) >>= λ disp. pure (mad
 
 pub raw_short : (p : Prefixes) (modrm : ℕ) (s : State ℕ) → ShortAt (raw_step p modrm s) (advanced (sib_taken modrm s.left) s)
 unfolding raw_step byte_step
-raw_short p modrm s = go (low_field modrm == 4)
+raw_short p modrm s = go (rm_field modrm == 4)
   where
     with_sib : (l : List ℕ) → ShortAt ((((λ t. byte_of l t) >>= λ sib. pure (Some sib)) >>= behind_sib p modrm) s) (advanced (length (take 1 l)) s)
     with_sib [] = λ e h. let short = out {X = Raw} s e h in (short.0, short.1 ∙ sym (advanced_zero s))

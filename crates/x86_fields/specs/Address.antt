@@ -4,7 +4,7 @@ use Rattle.x86_regs.specs.declared.RegisterClass.{RegisterClass}
 use Rattle.x86_regs.specs.declared.RegisterClass.TheVariants.{D, Q, EIP, RIP}
 use Rattle.x86_regs.specs.declared.RegSpec.{RegSpec}
 use Rattle.x86_fields.specs.declared.Raw.{Raw}
-use Rattle.x86_fields.specs.Raw.{high_field, middle_field, low_field}
+use Rattle.x86_fields.specs.ModRM.{mod_field, rm_field, scale_field, index_field, base_field}
 
 -- the class of base and index: D under 67, else Q
 abbrev pub address_class : Raw → RegisterClass
@@ -23,8 +23,8 @@ next_pointer raw = record { num = 0; class = if raw.address_size then EIP else R
 
 -- Without SIB the base is rm, or the next instruction at mod 00 with rm 101. With SIB it is the base field, or none at mod 00 with 101.
 abbrev pub base_by : Raw → Option ℕ → Option RegSpec
-base_by raw None = Some (if (high_field raw.modrm == 0) && (low_field raw.modrm == 5) then next_pointer raw else address_register raw raw.rex_b (low_field raw.modrm))
-base_by raw (Some sib) = if (high_field raw.modrm == 0) && (low_field sib == 5) then None else Some (address_register raw raw.rex_b (low_field sib))
+base_by raw None = Some (if (mod_field raw.modrm == 0) && (rm_field raw.modrm == 5) then next_pointer raw else address_register raw raw.rex_b (rm_field raw.modrm))
+base_by raw (Some sib) = if (mod_field raw.modrm == 0) && (base_field sib == 5) then None else Some (address_register raw raw.rex_b (base_field sib))
 
 abbrev pub base_of : Raw → Option RegSpec
 base_of raw = base_by raw raw.sib
@@ -32,11 +32,11 @@ base_of raw = base_by raw raw.sib
 -- the index field of SIB, or none at 100 without X
 abbrev pub index_by : Raw → Option ℕ → Option RegSpec
 index_by raw None = None
-index_by raw (Some sib) = if (middle_field sib == 4) && not raw.rex_x then None else Some (address_register raw raw.rex_x (middle_field sib))
+index_by raw (Some sib) = if (index_field sib == 4) && not raw.rex_x then None else Some (address_register raw raw.rex_x (index_field sib))
 
 abbrev pub index_of : Raw → Option RegSpec
 index_of raw = index_by raw raw.sib
 
 abbrev pub scale_by : Option ℕ → ℕ
 scale_by None = 1
-scale_by (Some sib) = 2 ^ high_field sib
+scale_by (Some sib) = 2 ^ scale_field sib

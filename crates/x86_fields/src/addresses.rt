@@ -6,7 +6,7 @@ ghost use Rattle.x86_fields.specs.Address.{base_of, index_of, scale_by, extended
 ghost use Rattle.x86_fields.specs.Linear.{part_value, value_at, raw_form, parts_form};
 ghost use Rattle.x86_fields.specs.Raw.{fits};
 
-use crate::{AddressParts, Raw, RegFile};
+use crate::{AddressParts, ModRM, Raw, RegFile, Sib};
 use x86_regs::{RegSpec, RegisterClass};
 
 /// A field of three bits under its fourth, which a REX has.
@@ -35,11 +35,12 @@ impl Raw {
     pub fn base(&self) -> Option<RegSpec>
         ensures { result ≡ base_of self.now }
     {
-        match self.sib {
-            None if self.modrm / 64 == 0 && self.modrm % 8 == 5 => Some(self.next_pointer()),
-            None => Some(self.register(extend(self.rex_b, self.modrm % 8))),
-            Some(sib) if self.modrm / 64 == 0 && sib % 8 == 5 => None,
-            Some(sib) => Some(self.register(extend(self.rex_b, sib % 8))),
+        let modrm = ModRM::new(self.modrm);
+        match self.sib.map(Sib::new) {
+            None if modrm.mod_field() == 0 && modrm.rm_field() == 5 => Some(self.next_pointer()),
+            None => Some(self.register(extend(self.rex_b, modrm.rm_field()))),
+            Some(sib) if modrm.mod_field() == 0 && sib.base_field() == 5 => None,
+            Some(sib) => Some(self.register(extend(self.rex_b, sib.base_field()))),
         }
     }
 
@@ -59,10 +60,10 @@ impl Raw {
     pub fn index(&self) -> Option<RegSpec>
         ensures { result ≡ index_of self.now }
     {
-        match self.sib {
+        match self.sib.map(Sib::new) {
             None => None,
-            Some(sib) if sib / 8 % 8 == 4 && !self.rex_x => None,
-            Some(sib) => Some(self.register(extend(self.rex_x, sib / 8 % 8))),
+            Some(sib) if sib.index_field() == 4 && !self.rex_x => None,
+            Some(sib) => Some(self.register(extend(self.rex_x, sib.index_field()))),
         }
     }
 
@@ -73,7 +74,7 @@ impl Raw {
     {
         match self.sib {
             None => 1,
-            Some(sib) => match sib / 64 {
+            Some(sib) => match Sib::new(sib).scale_field() {
                 0 => 1,
                 1 => 2,
                 2 => 4,

@@ -5,7 +5,7 @@ ghost use Rattle.x86_arch.specs.Reader.{State};
 ghost use Rattle.x86_fields.specs.Steps.{outcome};
 ghost use Rattle.x86_fields.specs.Raw.{raw_step, disp_step, sib_step, disp_width, fits, sib_fits, disp_fits};
 
-use crate::{DecodeError, Prefixes, Raw, next_byte, read_u8, read_u32};
+use crate::{DecodeError, MEMORY_FORMS, ModRM, Prefixes, Raw, Sib, next_byte, read_u8, read_u32};
 use x86_arch::Reader;
 
 /// How many bytes of displacement a memory form has, by ModRM and SIB (Intel SDM volume 2, section 2.1.5).
@@ -13,14 +13,15 @@ use x86_arch::Reader;
 pub fn displacement_width(modrm: u8, sib: Option<u8>) -> u8
     ensures { result ≡ disp_width modrm sib }
 {
-    let low = match sib {
-        Some(sib) => sib % 8,
-        None => modrm % 8,
+    let modrm = ModRM::new(modrm);
+    let base = match sib {
+        Some(sib) => Sib::new(sib).base_field(),
+        None => modrm.rm_field(),
     };
-    match modrm / 64 {
+    match modrm.mod_field() {
         1 => 1,
         2 => 4,
-        _ => { if low == 5 { 4 } else { 0 } }
+        _ => { if base == 5 { 4 } else { 0 } }
     }
 }
 
@@ -29,21 +30,22 @@ impl Raw {
     pub fn fits(&self) -> bool
         ensures { result ≡ fits self.now }
     {
+        let modrm = ModRM::new(self.modrm);
         let disp_fits = match displacement_width(self.modrm, self.sib) {
             0 => self.disp == 0,
             1 => -128 <= self.disp && self.disp < 128,
             _ => true,
         };
-        self.modrm < 0xc0 && self.sib.is_some() == (self.modrm % 8 == 4) && disp_fits
+        modrm.is_memory() && self.sib.is_some() == (modrm.rm_field() == 4) && disp_fits
     }
 }
 
 #[inline(always)]
-fn read_sib<T: Reader<u64, u8>>(words: &mut T, modrm: u8) -> Result<Option<u8>, DecodeError>
+fn read_sib<T: Reader<u64, u8>>(words: &mut T, modrm: ModRM) -> Result<Option<u8>, DecodeError>
     ensures read { outcome result (T.state words.new) ≡ sib_step modrm (T.state words.old) }
     ensures fits { IfOk result (λ sib. IsTrue (sib_fits modrm sib)) }
 {
-    if modrm % 8 == 4 {
+    if modrm.rm_field() == 4 {
         let sib = next_byte(words)?;
         Ok(Some(sib))
     } else {
@@ -79,11 +81,11 @@ pub fn read_raw<T: Reader<u64, u8>>(
     prefixes: &Prefixes,
     modrm: u8,
 ) -> Result<Raw, DecodeError>
-    requires { modrm < 0xc0 }
+    requires { modrm < MEMORY_FORMS }
     ensures read { outcome result (T.state words.new) ≡ raw_step prefixes.now modrm (T.state words.old) }
     ensures fits { IfOk result (λ raw. IsTrue (fits raw)) }
 {
-    let sib = read_sib(words, modrm)?;
+    let sib = read_sib(words, ModRM::new(modrm))?;
     let disp = read_displacement(words, displacement_width(modrm, sib))?;
     Ok(Raw {
         rex_b: prefixes.has_b(),

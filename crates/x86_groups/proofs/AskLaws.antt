@@ -8,9 +8,9 @@ use Rattle.x86_forms.specs.declared.Form.TheVariants as form
 use Rattle.x86_operands.specs.declared.plans.ModrmUse.{ModrmUse}
 use Rattle.x86_operands.specs.declared.plans.Plan.{Plan}
 use Rattle.x86_operands.specs.declared.asks.Ask.{Ask}
-use Rattle.x86_operands.specs.Plans.{is_memory}
+use Rattle.x86_fields.specs.ModRM.{reg_field, rm_field, is_memory}
 use Rattle.x86_operands.specs.Asks.{plan_ask}
-use Rattle.x86_groups.specs.Choice.{reg, rm, bare, bad_operand}
+use Rattle.x86_groups.specs.Choice.{bare, bad_operand}
 use Rattle.x86_groups.specs.Fences.{fence, plain_0fae, plan_0fae}
 use Rattle.x86_groups.specs.Groups.{two_byte_plan, form_plan}
 
@@ -28,15 +28,15 @@ module _ (usage : ModrmUse) (at : ℕ) where
 
   fences : (strict : Bool) (opcode m : ℕ) → asked (fence strict opcode m) ≡ asked (fence false opcode m)
   unfolding fence
-  fences strict opcode m = refused_or_not (strict && not (rm m == 0)) opcode
+  fences strict opcode m = refused_or_not (strict && not (rm_field m == 0)) opcode
 
   plain : (strict : Bool) (m : ℕ) → asked (plain_0fae strict m) ≡ asked (plain_0fae false m)
   unfolding plain_0fae
   plain strict m =
       by_test (is_memory m) _ _ _ _ refl
-      (by_test (reg m == 5) _ _ _ _ (fences strict LFENCE m)
-      (by_test (reg m == 6) _ _ _ _ (fences strict MFENCE m)
-      (by_test (reg m == 7) _ _ _ _ (fences strict SFENCE m) refl)))
+      (by_test (reg_field m == 5) _ _ _ _ (fences strict LFENCE m)
+      (by_test (reg_field m == 6) _ _ _ _ (fences strict MFENCE m)
+      (by_test (reg_field m == 7) _ _ _ _ (fences strict SFENCE m) refl)))
 
   group_0fae : (strict : Bool) (p : Prefixes) (m : ℕ) → asked (plan_0fae strict p m) ≡ asked (plan_0fae false p m)
   unfolding plan_0fae

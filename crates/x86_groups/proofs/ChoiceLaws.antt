@@ -6,9 +6,9 @@ use Rattle.x86_fields.specs.Run.{has_f2, has_f3}
 use Rattle.x86_forms.specs.declared.TableRow.{TableRow}
 use Rattle.x86_forms.specs.declared.Form.{Form}
 use Rattle.x86_forms.specs.declared.Form.TheVariants as form
-use Rattle.x86_operands.specs.Plans.{is_memory}
+use Rattle.x86_fields.specs.ModRM.{reg_field, rm_field, is_memory}
 use Rattle.x86_opcodes.specs.Names.{LFENCE, MFENCE, SFENCE}
-use Rattle.x86_groups.specs.Choice.{reg, rm, bare, bad_operand}
+use Rattle.x86_groups.specs.Choice.{bare, bad_operand}
 use Rattle.x86_groups.specs.Choices.{NamesFence, lfence, mfence, sfence, IsFenceWithRm}
 use Rattle.x86_groups.specs.Fences.{fence, plain_0fae, plan_0fae}
 use Rattle.x86_groups.specs.Groups.{two_byte_plan, form_plan, group_plan, group_record}
@@ -28,14 +28,14 @@ tests_other a b d = by (a == b) refl
 
 -- ---- a fence alone
 
-fence_other : (m o : ℕ) (t : Bool) → (rm m == 0) ≡ t → (fence true o m ≡ fence false o m) ⊎ (rm m ≢ 0)
+fence_other : (m o : ℕ) (t : Bool) → (rm_field m == 0) ≡ t → (fence true o m ≡ fence false o m) ⊎ (rm_field m ≢ 0)
 unfolding fence
 fence_other m o true e = inl (rw e refl)
-fence_other m o false e = inr (is_other (rm m) 0 e)
+fence_other m o false e = inr (is_other (rm_field m) 0 e)
 
-fence_strict : (m o : ℕ) → rm m ≢ 0 → fence true o m ≡ bad_operand
+fence_strict : (m o : ℕ) → rm_field m ≢ 0 → fence true o m ≡ bad_operand
 unfolding fence
-fence_strict m o d = rw (tests_other (rm m) 0 d) refl
+fence_strict m o d = rw (tests_other (rm_field m) 0 d) refl
 
 fence_default : (m o : ℕ) → fence false o m ≡ bare o
 unfolding fence
@@ -44,26 +44,26 @@ fence_default m o = refl
 -- ---- 0F AE without a prefix that chooses
 
 abbrev PlainFence : ℕ → Type 0
-PlainFence m = (o : ℕ) × NamesFence m o × (is_memory m ≡ false) × (rm m ≢ 0)
+PlainFence m = (o : ℕ) × NamesFence m o × (is_memory m ≡ false) × (rm_field m ≢ 0)
 
-plain_other : (m : ℕ) (memory five six seven : Bool) → is_memory m ≡ memory → (reg m == 5) ≡ five → (reg m == 6) ≡ six → (reg m == 7) ≡ seven → (plain_0fae true m ≡ plain_0fae false m) ⊎ PlainFence m
+plain_other : (m : ℕ) (memory five six seven : Bool) → is_memory m ≡ memory → (reg_field m == 5) ≡ five → (reg_field m == 6) ≡ six → (reg_field m == 7) ≡ seven → (plain_0fae true m ≡ plain_0fae false m) ⊎ PlainFence m
 unfolding plain_0fae
 plain_other m true five six seven a b c d = inl (rw a refl)
-plain_other m false true six seven a b c d = by (fence_other m LFENCE (rm m == 0) refl)
+plain_other m false true six seven a b c d = by (fence_other m LFENCE (rm_field m == 0) refl)
   where
-    by : (fence true LFENCE m ≡ fence false LFENCE m) ⊎ (rm m ≢ 0) → (plain_0fae true m ≡ plain_0fae false m) ⊎ PlainFence m
+    by : (fence true LFENCE m ≡ fence false LFENCE m) ⊎ (rm_field m ≢ 0) → (plain_0fae true m ≡ plain_0fae false m) ⊎ PlainFence m
     by (inl e) = inl (rw (a, b) e)
-    by (inr h) = inr (LFENCE, lfence (is_equal (reg m) 5 b), a, h)
-plain_other m false false true seven a b c d = by (fence_other m MFENCE (rm m == 0) refl)
+    by (inr h) = inr (LFENCE, lfence (is_equal (reg_field m) 5 b), a, h)
+plain_other m false false true seven a b c d = by (fence_other m MFENCE (rm_field m == 0) refl)
   where
-    by : (fence true MFENCE m ≡ fence false MFENCE m) ⊎ (rm m ≢ 0) → (plain_0fae true m ≡ plain_0fae false m) ⊎ PlainFence m
+    by : (fence true MFENCE m ≡ fence false MFENCE m) ⊎ (rm_field m ≢ 0) → (plain_0fae true m ≡ plain_0fae false m) ⊎ PlainFence m
     by (inl e) = inl (rw (a, b, c) e)
-    by (inr h) = inr (MFENCE, mfence (is_equal (reg m) 6 c), a, h)
-plain_other m false false false true a b c d = by (fence_other m SFENCE (rm m == 0) refl)
+    by (inr h) = inr (MFENCE, mfence (is_equal (reg_field m) 6 c), a, h)
+plain_other m false false false true a b c d = by (fence_other m SFENCE (rm_field m == 0) refl)
   where
-    by : (fence true SFENCE m ≡ fence false SFENCE m) ⊎ (rm m ≢ 0) → (plain_0fae true m ≡ plain_0fae false m) ⊎ PlainFence m
+    by : (fence true SFENCE m ≡ fence false SFENCE m) ⊎ (rm_field m ≢ 0) → (plain_0fae true m ≡ plain_0fae false m) ⊎ PlainFence m
     by (inl e) = inl (rw (a, b, c, d) e)
-    by (inr h) = inr (SFENCE, sfence (is_equal (reg m) 7 d), a, h)
+    by (inr h) = inr (SFENCE, sfence (is_equal (reg_field m) 7 d), a, h)
 plain_other m false false false false a b c d = inl (rw (a, b, c, d) refl)
 
 plain_fence : (m o : ℕ) (strict : Bool) → is_memory m ≡ false → NamesFence m o → plain_0fae strict m ≡ fence strict o m
@@ -79,7 +79,7 @@ unfolding plan_0fae
 plan_other p m true f3 word a b c = inl (rw a refl)
 plan_other p m false true word a b c = inl (rw (a, b) refl)
 plan_other p m false false true a b c = inl (rw (a, b, c) refl)
-plan_other p m false false false a b c = by (plain_other m (is_memory m) (reg m == 5) (reg m == 6) (reg m == 7) refl refl refl refl)
+plan_other p m false false false a b c = by (plain_other m (is_memory m) (reg_field m == 5) (reg_field m == 6) (reg_field m == 7) refl refl refl refl)
   where
     by : (plain_0fae true m ≡ plain_0fae false m) ⊎ PlainFence m → (plan_0fae true p m ≡ plan_0fae false p m) ⊎ IsFenceWithRm form.ModRM_0x0fae p m
     by (inl e) = inl (rw (a, b, c) e)

@@ -4,7 +4,7 @@ use Rattle.std.proofs.lemmas.Bool.Decides.{nat_tests}
 use Rattle.x86_arch.specs.Reader.{State}
 use Rattle.x86_fields.specs.declared.DecodeError.TheVariants.{IncompleteDecoder}
 use Rattle.x86_fields.specs.declared.Prefixes.{Prefixes}
-use Rattle.x86_fields.specs.Raw.{middle_field}
+use Rattle.x86_fields.specs.ModRM.{reg_field}
 use Rattle.x86_forms.specs.declared.Form.{Form}
 use Rattle.x86_forms.specs.declared.Form.TheVariants as form
 use Rattle.x86_forms.specs.declared.TableRow.{TableRow}
@@ -19,13 +19,13 @@ use Rattle.x86_operands.specs.Asks.{immediates_width}
 use Rattle.x86_operands.specs.Signs.{record_step}
 use Rattle.x86_operands.proofs.RowLaws.{HasGap, row_left_out}
 use Rattle.x86_operands.proofs.PlanTests.{passes, narrow, without_gap, at_most_64, at_most_8}
-use Rattle.x86_groups.specs.Choice.{reg, left_out}
+use Rattle.x86_groups.specs.Choice.{left_out}
 use Rattle.x86_groups.specs.Groups.{group_fault, form_plan, two_byte_plan, three_byte_plan, group_record}
 use Rattle.x86_groups.proofs.PlanLaws.{plan_80_passes, plan_81_passes, plan_83_passes, plan_c0_passes, plan_c1_passes, plan_c6_passes, plan_c7_passes, plan_d0_passes, plan_d1_passes, plan_d2_passes, plan_d3_passes, plan_d8_passes, plan_d9_passes, plan_da_passes, plan_db_passes, plan_dc_passes, plan_dd_passes, plan_de_passes, plan_df_passes, plan_f6_passes, plan_f7_passes, plan_fe_passes, plan_ff_passes, plan_0f00_passes, plan_0f01_passes, plan_0f0d_passes, plan_0f0f_passes, plan_0f12_passes, plan_0f16_passes, plan_0f18_passes, plan_rq_cq_passes, plan_rq_dq_passes, plan_cq_rq_passes, plan_dq_rq_passes, plan_0f71_passes, plan_0f72_passes, plan_0f73_passes, plan_0fae_passes, plan_0fba_passes, plan_0fc7_passes, plan_660f78_passes, plan_f20f78_passes, plan_f30f1e_passes, plan_f30f38d8_passes, plan_f30f38dc_passes, plan_f30f38dd_passes, plan_f30f38de_passes, plan_f30f38df_passes, plan_f30f38fa_passes, plan_f30f38fb_passes, plan_f30f3af0_passes, plan_8f_passes, plan_8f_moment}
 
 -- 8F with a reg other than 0
 abbrev pub has_wait : Form → ℕ → Bool
-has_wait form.ModRM_0x8f m = not (reg m == 0)
+has_wait form.ModRM_0x8f m = not (reg_field m == 0)
 has_wait f m = false
 
 -- what may refuse as left out: that, and what is no group
@@ -138,11 +138,11 @@ gap_form strict row p m w group e = wait_form row.form m (gap_waits strict row p
 not_zero : (n : ℕ) → not (n == 0) ≡ true → n ≢ 0
 not_zero n h e = grind (arith, nat_tests)
 
-wait_reg : (f : Form) (m : ℕ) → has_wait f m ≡ true → middle_field m ≢ 0
-wait_reg form.ModRM_0x8f m h = not_zero (middle_field m) h
+wait_reg : (f : Form) (m : ℕ) → has_wait f m ≡ true → reg_field m ≢ 0
+wait_reg form.ModRM_0x8f m h = not_zero (reg_field m) h
 wait_reg _ m h = absurd (true≢false (sym h))
 
-pub gap_reg : (strict : Bool) (row : TableRow) (p : Prefixes) (m : ℕ) (w : Moment) → is_group_form row.form ≡ true → ((group_record strict row p).plan m).verdict ≡ Refuses Incomplete w → middle_field m ≢ 0
+pub gap_reg : (strict : Bool) (row : TableRow) (p : Prefixes) (m : ℕ) (w : Moment) → is_group_form row.form ≡ true → ((group_record strict row p).plan m).verdict ≡ Refuses Incomplete w → reg_field m ≢ 0
 gap_reg strict row p m w group e = wait_reg row.form m (gap_waits strict row p m w group e)
 
 wait_moment : (f : Form) (o : ℕ) (strict : Bool) (p : Prefixes) (m : ℕ) (w : Moment) → has_wait f m ≡ true → (form_plan f o strict p m).verdict ≡ Refuses Incomplete w → w ≡ AfterAddress

@@ -1,5 +1,6 @@
 -- What holds of the plans of all groups.
 use Rattle.std.proofs.Common.{◌≡◌, ℕ, nat_lt, ◌==◌, Bool, true, false, not, if◌then◌else◌, rules}
+use Rattle.x86_fields.specs.ModRM.{reg_field}
 use Rattle.x86_fields.specs.declared.Prefixes.{Prefixes}
 use Rattle.x86_fields.specs.Sizes.{v}
 use Rattle.x86_regs.specs.Class.{width_of}
@@ -14,7 +15,6 @@ use Rattle.x86_operands.specs.declared.plans.Verdict.TheVariants.{Refuses}
 use Rattle.x86_operands.specs.declared.plans.Plan.{Plan}
 use Rattle.x86_operands.specs.Plans.{reads, refuses, size_by}
 use Rattle.x86_operands.proofs.PlanTests.{narrow, both, passes, small_steps}
-use Rattle.x86_groups.specs.Choice.{reg}
 use Rattle.x86_groups.specs.Arithmetic.{plan_80, plan_81, plan_83, plan_c0, plan_c1, plan_d0, plan_d1, plan_d2, plan_d3, plan_f6, plan_f7}
 use Rattle.x86_groups.specs.Operations.{plan_8f, plan_c6, plan_c7, plan_fe, plan_ff}
 use Rattle.x86_groups.specs.System.{plan_0f00, memory_0f01, register_0f01_0, register_0f01_1, register_0f01_2, register_0f01_3, register_0f01_5, register_0f01_7, register_0f01, plan_0f01}
@@ -78,7 +78,7 @@ refusal_passes true x y h k w = h
 refusal_passes false x y h k w = both (nat_lt y.size 65) (narrow y.signs) k w
 
 -- 8F with a reg other than 0 has a gap
-pub plan_8f_passes : (p : Prefixes) (m : ℕ) → passes (not (reg m == 0)) (plan_8f p m) ≡ true
+pub plan_8f_passes : (p : Prefixes) (m : ℕ) → passes (not (reg_field m == 0)) (plan_8f p m) ≡ true
 unfolding plan_8f
 plan_8f_passes p m = search (rules, refusal_passes, small_steps)
 
@@ -88,7 +88,7 @@ refusal_moment false o s n w e = cc
 
 pub plan_8f_moment : (p : Prefixes) (m : ℕ) (w : Moment) → (plan_8f p m).verdict ≡ Refuses Incomplete w → w ≡ AfterAddress
 unfolding plan_8f
-plan_8f_moment p m w e = refusal_moment (reg m == 0) POP (One (E (v p))) (size_by m (if p.operand_size then width_of (v p) else 8) (width_of (v p))) w e
+plan_8f_moment p m w e = refusal_moment (reg_field m == 0) POP (One (E (v p))) (size_by m (if p.operand_size then width_of (v p) else 8) (width_of (v p))) w e
 
 pub plan_c6_passes : (m : ℕ) → passes false (plan_c6 m) ≡ true
 unfolding plan_c6

@@ -2,6 +2,7 @@
 use Rattle.std.specs.Prelude.{ℕ, nat_lt, pos, Bool, if◌then◌else◌, [], ◌∷◌}
 use Rattle.x86_regs.specs.declared.RegisterClass.TheVariants.{B}
 use Rattle.x86_regs.specs.Class.{width_of}
+use Rattle.x86_fields.specs.ModRM.{reg_field}
 use Rattle.x86_fields.specs.declared.Prefixes.{Prefixes}
 use Rattle.x86_fields.specs.Sizes.{v}
 use Rattle.x86_operands.specs.declared.plans.Sign.{Sign}
@@ -11,7 +12,7 @@ use Rattle.x86_operands.specs.declared.plans.Plan.{Plan}
 use Rattle.x86_operands.specs.Plans.{reads, immediate_of}
 use Rattle.x86_operands.specs.declared.plans.RegisterSlot.TheVariants as place
 use Rattle.x86_opcodes.specs.Names.{ADD, OR, ADC, SBB, AND, SUB, XOR, CMP, ROL, ROR, RCL, RCR, SHL, SHR, SAL, SAR, TEST, NOT, NEG, MUL, IMUL, DIV, IDIV}
-use Rattle.x86_groups.specs.Choice.{named_by_reg, reg}
+use Rattle.x86_groups.specs.Choice.{named_by_reg}
 
 abbrev pub arithmetic_name : ℕ → ℕ
 arithmetic_name m = named_by_reg (ADD ∷ OR ∷ ADC ∷ SBB ∷ AND ∷ SUB ∷ XOR ∷ CMP ∷ []) m
@@ -65,7 +66,7 @@ test_name m = named_by_reg (TEST ∷ TEST ∷ NOT ∷ NEG ∷ MUL ∷ IMUL ∷ D
 
 -- TEST, which is /0 and /1, has an immediate
 abbrev pub is_test : ℕ → Bool
-is_test m = nat_lt (reg m) 2
+is_test m = nat_lt (reg_field m) 2
 
 unfoldable pub plan_f6 : ℕ → Plan
 plan_f6 m = reads (test_name m) (if is_test m then Two (E B) I8 else One (E B)) 1

@@ -11,14 +11,15 @@ use Rattle.x86_operands.specs.declared.plans.Signs.TheVariants.{Two}
 use Rattle.x86_operands.specs.declared.plans.Fault.TheVariants.{BadOpcode, BadOperand}
 use Rattle.x86_operands.specs.declared.plans.Moment.TheVariants.{AfterAddress}
 use Rattle.x86_operands.specs.declared.plans.Plan.{Plan}
-use Rattle.x86_operands.specs.Plans.{is_memory, reads, refuses, memory_only, size_by}
+use Rattle.x86_fields.specs.ModRM.{reg_field, is_memory}
+use Rattle.x86_operands.specs.Plans.{reads, refuses, memory_only, size_by}
 use Rattle.x86_opcodes.specs.Names.{BT, BTS, BTR, BTC, CMPXCHG16B, CMPXCHG8B, VMCLEAR, RDRAND, RDSEED, VMXON, SENDUIPI, RDPID, XRSTORS, XRSTORS64, XSAVEC, XSAVEC64, XSAVES, XSAVES64, VMPTRLD, VMPTRST}
-use Rattle.x86_groups.specs.Choice.{bad_opcode, bad_operand, name_at, on_memory, on_register, reg}
+use Rattle.x86_groups.specs.Choice.{bad_opcode, bad_operand, name_at, on_memory, on_register}
 
 unfoldable pub plan_0fba : Prefixes → ℕ → Plan
 plan_0fba p m =
-    if nat_lt (reg m) 4 then bad_opcode
-    else reads (name_at (BT ∷ BTS ∷ BTR ∷ BTC ∷ []) (reg m - 4)) (Two (E (vq p)) I8) (size_by m (width_of (vq p)) 0)
+    if nat_lt (reg_field m) 4 then bad_opcode
+    else reads (name_at (BT ∷ BTS ∷ BTR ∷ BTC ∷ []) (reg_field m - 4)) (Two (E (vq p)) I8) (size_by m (width_of (vq p)) 0)
 
 -- one name without a live W, and one with it
 abbrev pub by_w : Prefixes → ℕ → ℕ → ℕ
@@ -30,29 +31,29 @@ compares_0fc7 p m = memory_only m (if rex_w p then on_memory CMPXCHG16B 16 else 
 
 unfoldable pub operand_size_0fc7 : ℕ → Plan
 operand_size_0fc7 m =
-    if reg m == 6 then (if is_memory m then on_memory VMCLEAR 8 else on_register RDRAND W)
-    else (if reg m == 7 then (if is_memory m then refuses BadOpcode AfterAddress else on_register RDSEED W)
+    if reg_field m == 6 then (if is_memory m then on_memory VMCLEAR 8 else on_register RDRAND W)
+    else (if reg_field m == 7 then (if is_memory m then refuses BadOpcode AfterAddress else on_register RDSEED W)
     else bad_opcode)
 
 unfoldable pub f3_0fc7 : ℕ → Plan
 f3_0fc7 m =
-    if reg m == 6 then (if is_memory m then on_memory VMXON 8 else on_register SENDUIPI Q)
-    else (if reg m == 7 then (if is_memory m then refuses BadOperand AfterAddress else on_register RDPID Q)
+    if reg_field m == 6 then (if is_memory m then on_memory VMXON 8 else on_register SENDUIPI Q)
+    else (if reg_field m == 7 then (if is_memory m then refuses BadOperand AfterAddress else on_register RDPID Q)
     else bad_opcode)
 
 unfoldable pub plain_0fc7 : Prefixes → ℕ → Plan
 plain_0fc7 p m =
-    if reg m == 3 then memory_only m (on_memory (by_w p XRSTORS XRSTORS64) 63)
-    else (if reg m == 4 then memory_only m (on_memory (by_w p XSAVEC XSAVEC64) 63)
-    else (if reg m == 5 then memory_only m (on_memory (by_w p XSAVES XSAVES64) 63)
-    else (if reg m == 6 then (if is_memory m then on_memory VMPTRLD 8 else on_register RDRAND (v p))
-    else (if reg m == 7 then (if is_memory m then on_memory VMPTRST 8 else on_register RDSEED (v p))
+    if reg_field m == 3 then memory_only m (on_memory (by_w p XRSTORS XRSTORS64) 63)
+    else (if reg_field m == 4 then memory_only m (on_memory (by_w p XSAVEC XSAVEC64) 63)
+    else (if reg_field m == 5 then memory_only m (on_memory (by_w p XSAVES XSAVES64) 63)
+    else (if reg_field m == 6 then (if is_memory m then on_memory VMPTRLD 8 else on_register RDRAND (v p))
+    else (if reg_field m == 7 then (if is_memory m then on_memory VMPTRST 8 else on_register RDSEED (v p))
     else bad_operand))))
 
 -- the first that holds
 unfoldable pub plan_0fc7 : Prefixes → ℕ → Plan
 plan_0fc7 p m =
-    if reg m == 1 then compares_0fc7 p m
+    if reg_field m == 1 then compares_0fc7 p m
     else (if has_f2 p then bad_operand
     else (if p.operand_size then operand_size_0fc7 m
     else (if has_f3 p then f3_0fc7 m

@@ -1,5 +1,6 @@
 -- Groups whose rows reg alone chooses.
 use Rattle.std.specs.Prelude.{ℕ, Bool, true, false, ◌≡◌, ◌==◌, if◌then◌else◌, IsTrue}
+use Rattle.x86_fields.specs.ModRM.{reg_field}
 use Rattle.x86_fields.specs.declared.Prefixes.{Prefixes}
 use Rattle.x86_fields.specs.Steps.{Step, ◌>>=◌}
 use Rattle.x86_operands.specs.declared.plans.ModrmUse.TheVariants.{Fields}
@@ -18,7 +19,7 @@ use Rattle.x86_operands.specs.Plans.{refuses, memory_only}
 use Rattle.x86_operands.specs.Encodings.{plan_of, is_row}
 use Rattle.x86_groups.specs.Arithmetic.{plan_80, plan_81, plan_83, plan_c0, plan_c1, plan_d0, plan_d1, plan_d2, plan_d3, plan_f6, plan_f7}
 use Rattle.x86_groups.specs.Operations.{abort_plan, begin_plan, plan_c6, plan_c7, plan_fe, plan_ff}
-use Rattle.x86_groups.specs.Choice.{on_memory, reg}
+use Rattle.x86_groups.specs.Choice.{on_memory}
 
 -- the plan of a group
 abbrev pub reg_plan : RegGroup → Prefixes → ℕ → Plan
@@ -45,8 +46,8 @@ Chooses g m o e = IsTrue (is_row e.behind) → (p : Prefixes) → plan_of e 0 o 
 -- FF with reg 3 and 5, and 7, which is none
 abbrev pub far_plan : ℕ → Plan
 far_plan m =
-    if reg m == 3 then memory_only m (on_memory CALLF 10)
-    else (if reg m == 5 then memory_only m (on_memory JMPF 10)
+    if reg_field m == 3 then memory_only m (on_memory CALLF 10)
+    else (if reg_field m == 5 then memory_only m (on_memory JMPF 10)
     else refuses BadOpcode AfterAddress)
 
 -- the plans that no row describes

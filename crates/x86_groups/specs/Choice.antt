@@ -3,22 +3,15 @@
 use Rattle.std.specs.Prelude.{ℕ, ◌==◌, Bool, not, ◌&&◌, ◌||◌, List, slice_index_or}
 use Rattle.x86_regs.specs.declared.RegisterClass.{RegisterClass}
 use Rattle.x86_fields.specs.declared.Prefixes.{Prefixes}
-use Rattle.x86_fields.specs.Raw.{middle_field, low_field}
+use Rattle.x86_fields.specs.ModRM.{reg_field, rm_field, is_memory}
 use Rattle.x86_fields.specs.Run.{has_f2, has_f3}
 use Rattle.x86_operands.specs.declared.plans.Sign.TheVariants.{M, U}
 use Rattle.x86_operands.specs.declared.plans.Signs.TheVariants.{Zero, One}
 use Rattle.x86_operands.specs.declared.plans.Fault.TheVariants.{BadOpcode, BadOperand, Incomplete}
 use Rattle.x86_operands.specs.declared.plans.Moment.TheVariants.{AtModRM}
 use Rattle.x86_operands.specs.declared.plans.Plan.{Plan}
-use Rattle.x86_operands.specs.Plans.{is_memory, reads, refuses}
+use Rattle.x86_operands.specs.Plans.{reads, refuses}
 use Rattle.x86_opcodes.specs.Names.{Invalid}
-
--- the reg field without R, and the rm field without B
-abbrev pub reg : ℕ → ℕ
-reg m = middle_field m
-
-abbrev pub rm : ℕ → ℕ
-rm m = low_field m
 
 -- the name at a place of a list, counted from 0
 abbrev pub name_at : List ℕ → ℕ → ℕ
@@ -26,11 +19,11 @@ name_at names n = slice_index_or names n Invalid
 
 -- the names of a row of eight, for /0 to /7
 abbrev pub named_by_reg : List ℕ → ℕ → ℕ
-named_by_reg names m = name_at names (reg m)
+named_by_reg names m = name_at names (reg_field m)
 
 -- a register form whose rm is 0
 abbrev pub is_register_0 : ℕ → Bool
-is_register_0 m = not (is_memory m) && (rm m == 0)
+is_register_0 m = not (is_memory m) && (rm_field m == 0)
 
 -- F2 or F3 is in force; 66 too
 abbrev pub has_f2_or_f3 : Prefixes → Bool

@@ -2,17 +2,16 @@
 use Rattle.std.specs.Prelude.{◌≡◌, ◌≢◌, ℕ, false}
 use Rattle.x86_fields.specs.declared.Prefixes.{Prefixes}
 use Rattle.x86_fields.specs.Run.{has_f2, has_f3}
-use Rattle.x86_operands.specs.Plans.{is_memory}
+use Rattle.x86_fields.specs.ModRM.{reg_field, rm_field, is_memory}
 use Rattle.x86_opcodes.specs.Names.{LFENCE, MFENCE, SFENCE}
 use Rattle.x86_forms.specs.declared.Form.{Form}
 use Rattle.x86_forms.specs.declared.Form.TheVariants as form
-use Rattle.x86_groups.specs.Choice.{reg, rm}
 
 -- The fence that reg names.
 pub data NamesFence (m : ℕ) : ℕ → Type 0 where
-  lfence : reg m ≡ 5 → NamesFence m LFENCE
-  mfence : reg m ≡ 6 → NamesFence m MFENCE
-  sfence : reg m ≡ 7 → NamesFence m SFENCE
+  lfence : reg_field m ≡ 5 → NamesFence m LFENCE
+  mfence : reg_field m ≡ 6 → NamesFence m MFENCE
+  sfence : reg_field m ≡ 7 → NamesFence m SFENCE
 
 -- LFENCE, MFENCE or SFENCE, with an rm other than 0: 0F AE without F2, F3 and 66, in the register form.
 pub record IsFenceWithRm (f : Form) (p : Prefixes) (m : ℕ) : Type 0 where
@@ -23,4 +22,4 @@ pub record IsFenceWithRm (f : Form) (p : Prefixes) (m : ℕ) : Type 0 where
   pub no_66 : p.operand_size ≡ false
   pub register : is_memory m ≡ false
   pub named : NamesFence m opcode
-  pub other_rm : rm m ≢ 0
+  pub other_rm : rm_field m ≢ 0

@@ -6,12 +6,12 @@ use Rattle.x86_operands.specs.declared.plans.Signs.TheVariants.{Three, Four}
 use Rattle.x86_operands.specs.declared.plans.Fault.TheVariants.{BadOperand}
 use Rattle.x86_operands.specs.declared.plans.Moment.TheVariants.{AtModRM}
 use Rattle.x86_operands.specs.declared.plans.Plan.{Plan}
-use Rattle.x86_operands.specs.Plans.{is_memory, reads, refused}
+use Rattle.x86_fields.specs.ModRM.{reg_field, is_memory}
+use Rattle.x86_operands.specs.Plans.{reads, refused}
 use Rattle.x86_opcodes.specs.Names.{EXTRQ, INSERTQ}
-use Rattle.x86_groups.specs.Choice.{reg}
 
 unfoldable pub plan_660f78 : ℕ → Plan
-plan_660f78 m = refused (is_memory m || not (reg m == 0)) BadOperand AtModRM (reads EXTRQ (Three (U X) U8 X8) 0)
+plan_660f78 m = refused (is_memory m || not (reg_field m == 0)) BadOperand AtModRM (reads EXTRQ (Three (U X) U8 X8) 0)
 
 unfoldable pub plan_f20f78 : ℕ → Plan
 plan_f20f78 m = refused (is_memory m) BadOperand AtModRM (reads INSERTQ (Four (G X) (U X) U8 X8) 0)

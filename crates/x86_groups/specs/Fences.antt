@@ -9,10 +9,11 @@ use Rattle.x86_operands.specs.declared.plans.Sign.TheVariants.{E, Fixed}
 use Rattle.x86_operands.specs.declared.plans.Signs.TheVariants.{One}
 use Rattle.x86_operands.specs.declared.plans.Mark.TheVariants.{ClearsOperandSize}
 use Rattle.x86_operands.specs.declared.plans.Plan.{Plan}
-use Rattle.x86_operands.specs.Plans.{is_memory, reads, size_by, rm_number}
+use Rattle.x86_fields.specs.ModRM.{reg_field, rm_field, is_memory}
+use Rattle.x86_operands.specs.Plans.{reads, size_by, rm_number}
 use Rattle.x86_operands.specs.declared.plans.RegisterSlot.TheVariants as place
 use Rattle.x86_opcodes.specs.Names.{CLWB, CLFLUSH, CLFLUSHOPT, TPAUSE, UMWAIT, PTWRITE, RDFSBASE, RDGSBASE, WRFSBASE, WRGSBASE, INCSSP, UMONITOR, CLRSSBSY, FXSAVE, XSAVE, FXRSTOR, XRSTOR, LDMXCSR, STMXCSR, XSAVEOPT, LFENCE, MFENCE, SFENCE}
-use Rattle.x86_groups.specs.Choice.{bad_opcode, bad_operand, bare, named_by_reg, on_memory, on_register, reg, rm}
+use Rattle.x86_groups.specs.Choice.{bad_opcode, bad_operand, bare, named_by_reg, on_memory, on_register}
 
 -- 66 alone: the answer's prefixes show 66 cleared
 abbrev pub clears_operand_size : Plan → Plan
@@ -21,16 +22,16 @@ clears_operand_size plan = record plan { mark = ClearsOperandSize }
 abbrev pub operand_size_0fae : ℕ → Plan
 operand_size_0fae m =
     if is_memory m then
-    (if reg m == 6 then on_memory CLWB 64
-    else (if reg m == 7 then on_memory CLFLUSHOPT 64
+    (if reg_field m == 6 then on_memory CLWB 64
+    else (if reg_field m == 7 then on_memory CLFLUSHOPT 64
     else bad_opcode))
-    else (if reg m == 6 then on_register TPAUSE D else bad_opcode)
+    else (if reg_field m == 6 then on_register TPAUSE D else bad_opcode)
 
 -- UMWAIT has its register, numbered by rm with B, in the slot of reg.
 unfoldable pub f2_0fae : Prefixes → ℕ → Plan
 f2_0fae p m =
     if is_memory m then bad_operand
-    else (if reg m == 6 then reads UMWAIT (One (Fixed place.Reg (record { num = rm_number m p; class = D }))) 0
+    else (if reg_field m == 6 then reads UMWAIT (One (Fixed place.Reg (record { num = rm_number m p; class = D }))) 0
     else bad_opcode)
 
 -- F3, /4: memory or a register
@@ -41,37 +42,37 @@ trace_0fae p m =
 
 abbrev pub f3_register_0fae : Prefixes → ℕ → Plan
 f3_register_0fae p m =
-    if reg m == 0 then on_register RDFSBASE (dq p)
-    else (if reg m == 1 then on_register RDGSBASE (dq p)
-    else (if reg m == 2 then on_register WRFSBASE (dq p)
-    else (if reg m == 3 then on_register WRGSBASE (dq p)
-    else (if reg m == 5 then on_register INCSSP (dq p)
-    else (if reg m == 6 then on_register UMONITOR Q
+    if reg_field m == 0 then on_register RDFSBASE (dq p)
+    else (if reg_field m == 1 then on_register RDGSBASE (dq p)
+    else (if reg_field m == 2 then on_register WRFSBASE (dq p)
+    else (if reg_field m == 3 then on_register WRGSBASE (dq p)
+    else (if reg_field m == 5 then on_register INCSSP (dq p)
+    else (if reg_field m == 6 then on_register UMONITOR Q
     else bad_opcode)))))
 
 unfoldable pub f3_0fae : Prefixes → ℕ → Plan
 f3_0fae p m =
-    if reg m == 4 then trace_0fae p m
-    else (if is_memory m then (if reg m == 6 then on_memory CLRSSBSY 8 else bad_operand)
+    if reg_field m == 4 then trace_0fae p m
+    else (if is_memory m then (if reg_field m == 6 then on_memory CLRSSBSY 8 else bad_operand)
     else f3_register_0fae p m)
 
 -- a fence: under the strict choice a fence whose rm isn't 0 is refused
 unfoldable pub fence : Bool → ℕ → ℕ → Plan
-fence strict opcode m = if strict && not (rm m == 0) then bad_operand else bare opcode
+fence strict opcode m = if strict && not (rm_field m == 0) then bad_operand else bare opcode
 
 -- the size of a saved state is the processor's choice, which 63 stands for
 abbrev pub state_name : ℕ → ℕ
 state_name m = named_by_reg (FXSAVE ∷ FXRSTOR ∷ LDMXCSR ∷ STMXCSR ∷ XSAVE ∷ XRSTOR ∷ XSAVEOPT ∷ CLFLUSH ∷ []) m
 
 abbrev pub state_size : ℕ → ℕ
-state_size m = slice_index_or (63 ∷ 63 ∷ 4 ∷ 4 ∷ 63 ∷ 63 ∷ 63 ∷ 64 ∷ []) (reg m) 63
+state_size m = slice_index_or (63 ∷ 63 ∷ 4 ∷ 4 ∷ 63 ∷ 63 ∷ 63 ∷ 64 ∷ []) (reg_field m) 63
 
 unfoldable pub plain_0fae : Bool → ℕ → Plan
 plain_0fae strict m =
     if is_memory m then on_memory (state_name m) (state_size m)
-    else (if reg m == 5 then fence strict LFENCE m
-    else (if reg m == 6 then fence strict MFENCE m
-    else (if reg m == 7 then fence strict SFENCE m
+    else (if reg_field m == 5 then fence strict LFENCE m
+    else (if reg_field m == 6 then fence strict MFENCE m
+    else (if reg_field m == 7 then fence strict SFENCE m
     else bad_opcode)))
 
 unfoldable pub plan_0fae : Bool → Prefixes → ℕ → Plan

@@ -5,17 +5,18 @@ use Rattle.x86_operands.specs.declared.plans.Sign.{Sign}
 use Rattle.x86_operands.specs.declared.plans.Sign.TheVariants.{M, Fixed}
 use Rattle.x86_operands.specs.declared.plans.Signs.TheVariants.{One, Two}
 use Rattle.x86_operands.specs.declared.plans.Plan.{Plan}
-use Rattle.x86_operands.specs.Plans.{is_memory, reads}
+use Rattle.x86_fields.specs.ModRM.{reg_field, rm_field, is_memory}
+use Rattle.x86_operands.specs.Plans.{reads}
 use Rattle.x86_operands.specs.declared.plans.RegisterSlot.TheVariants as place
 use Rattle.x86_opcodes.specs.Names.{FADD, FMUL, FCOM, FCOMP, FSUB, FSUBR, FDIV, FDIVR, FIADD, FIMUL, FICOM, FICOMP, FISUB, FISUBR, FIDIV, FIDIVR, FLD, FST, FSTP, FLDENV, FLDCW, FNSTENV, FNSTCW, FCHS, FABS, FTST, FXAM, FLD1, FLDL2T, FLDL2E, FLDPI, FLDLG2, FLDLN2, FLDZ, F2XM1, FYL2X, FPTAN, FPATAN, FXTRACT, FPREM, FPREM1, FDECSTP, FINCSTP, FYL2XP1, FSQRT, FSINCOS, FSIN, FRNDINT, FSCALE, FCOS, FXCH, FNOP, FSTPNCE, FCMOVB, FCMOVE, FCMOVBE, FCMOVU, FUCOM, FUCOMPP, FUCOMP, FILD, FISTTP, FIST, FISTP, FENI8087_NOP, FDISI8087_NOP, FNCLEX, FNINIT, FSETPM287_NOP, FCMOVNB, FCMOVNE, FCMOVNBE, FCMOVNU, FUCOMI, FCOMI, FRSTOR, FNSAVE, FNSTSW, FFREE, FADDP, FMULP, FCOMPP, FSUBRP, FSUBP, FDIVRP, FDIVP, FBLD, FBSTP, FFREEP, FUCOMIP, FCOMIP}
-use Rattle.x86_groups.specs.Choice.{bad_opcode, bad_operand, bare, name_at, named_by_reg, on_memory, on_register, reg, rm}
+use Rattle.x86_groups.specs.Choice.{bad_opcode, bad_operand, bare, name_at, named_by_reg, on_memory, on_register}
 
 -- st(0) in slot Reg, and st(rm) in slot Rm, which no B extends
 abbrev pub st0 : Sign
 st0 = Fixed place.Reg (record { num = 0; class = ST })
 
 abbrev pub st_rm : ℕ → Sign
-st_rm m = Fixed place.Rm (record { num = rm m; class = ST })
+st_rm m = Fixed place.Rm (record { num = rm_field m; class = ST })
 
 -- with memory of a size: into st(0), or from st(0)
 abbrev pub loads : ℕ → ℕ → Plan
@@ -51,13 +52,13 @@ plan_d8 m = if is_memory m then loads (float_name m) 4 else into_st0 (float_name
 
 unfoldable pub memory_d9 : ℕ → Plan
 memory_d9 m =
-    if reg m == 0 then loads FLD 4
-    else (if reg m == 1 then bad_opcode
-    else (if reg m == 2 then stores FST 4
-    else (if reg m == 3 then stores FSTP 4
-    else (if reg m == 4 then on_memory FLDENV 63
-    else (if reg m == 5 then on_memory FLDCW 2
-    else (if reg m == 6 then on_memory FNSTENV 63
+    if reg_field m == 0 then loads FLD 4
+    else (if reg_field m == 1 then bad_opcode
+    else (if reg_field m == 2 then stores FST 4
+    else (if reg_field m == 3 then stores FSTP 4
+    else (if reg_field m == 4 then on_memory FLDENV 63
+    else (if reg_field m == 5 then on_memory FLDCW 2
+    else (if reg_field m == 6 then on_memory FNSTENV 63
     else on_memory FNSTCW 2))))))
 
 -- E0 to EF
@@ -76,10 +77,10 @@ function_d9 m = bare (name_at (F2XM1 ∷ FYL2X ∷ FPTAN ∷ FPATAN ∷ FXTRACT 
 
 unfoldable pub register_d9 : ℕ → Plan
 register_d9 m =
-    if reg m == 0 then into_st0 FLD m
-    else (if reg m == 1 then into_st0 FXCH m
-    else (if reg m == 2 then (if m == 0xd0 then bare FNOP else bad_opcode)
-    else (if reg m == 3 then into_st_rm FSTPNCE m
+    if reg_field m == 0 then into_st0 FLD m
+    else (if reg_field m == 1 then into_st0 FXCH m
+    else (if reg_field m == 2 then (if m == 0xd0 then bare FNOP else bad_opcode)
+    else (if reg_field m == 3 then into_st_rm FSTPNCE m
     else (if nat_lt m 0xf0 then constant_d9 m
     else function_d9 m))))
 
@@ -90,10 +91,10 @@ plan_d9 m = if is_memory m then memory_d9 m else register_d9 m
 
 unfoldable pub register_da : ℕ → Plan
 register_da m =
-    if reg m == 0 then into_st0 FCMOVB m
-    else (if reg m == 1 then into_st0 FCMOVE m
-    else (if reg m == 2 then into_st0 FCMOVBE m
-    else (if reg m == 3 then into_st0 FCMOVU m
+    if reg_field m == 0 then into_st0 FCMOVB m
+    else (if reg_field m == 1 then into_st0 FCMOVE m
+    else (if reg_field m == 2 then into_st0 FCMOVBE m
+    else (if reg_field m == 3 then into_st0 FCMOVU m
     else (if m == 0xe9 then bare FUCOMPP
     else bad_opcode))))
 
@@ -104,12 +105,12 @@ plan_da m = if is_memory m then loads (integer_name m) 4 else register_da m
 
 unfoldable pub memory_db : ℕ → Plan
 memory_db m =
-    if reg m == 0 then loads FILD 4
-    else (if reg m == 1 then stores FISTTP 4
-    else (if reg m == 2 then stores FIST 4
-    else (if reg m == 3 then stores FISTP 4
-    else (if reg m == 5 then loads FLD 10
-    else (if reg m == 7 then stores FSTP 10
+    if reg_field m == 0 then loads FILD 4
+    else (if reg_field m == 1 then stores FISTTP 4
+    else (if reg_field m == 2 then stores FIST 4
+    else (if reg_field m == 3 then stores FISTP 4
+    else (if reg_field m == 5 then loads FLD 10
+    else (if reg_field m == 7 then stores FSTP 10
     else bad_opcode)))))
 
 -- E0 to E7
@@ -120,13 +121,13 @@ control_db m =
 
 unfoldable pub register_db : ℕ → Plan
 register_db m =
-    if reg m == 0 then into_st0 FCMOVNB m
-    else (if reg m == 1 then into_st0 FCMOVNE m
-    else (if reg m == 2 then into_st0 FCMOVNBE m
-    else (if reg m == 3 then into_st0 FCMOVNU m
-    else (if reg m == 4 then control_db m
-    else (if reg m == 5 then into_st0 FUCOMI m
-    else (if reg m == 6 then into_st0 FCOMI m
+    if reg_field m == 0 then into_st0 FCMOVNB m
+    else (if reg_field m == 1 then into_st0 FCMOVNE m
+    else (if reg_field m == 2 then into_st0 FCMOVNBE m
+    else (if reg_field m == 3 then into_st0 FCMOVNU m
+    else (if reg_field m == 4 then control_db m
+    else (if reg_field m == 5 then into_st0 FUCOMI m
+    else (if reg_field m == 6 then into_st0 FCOMI m
     else bad_opcode))))))
 
 unfoldable pub plan_db : ℕ → Plan
@@ -136,13 +137,13 @@ plan_db m = if is_memory m then memory_db m else register_db m
 
 unfoldable pub register_dc : ℕ → Plan
 register_dc m =
-    if reg m == 0 then into_st_rm FADD m
-    else (if reg m == 1 then into_st_rm FMUL m
-    else (if reg m == 2 then into_st0 FCOM m
-    else (if reg m == 3 then into_st0 FCOMP m
-    else (if reg m == 4 then into_st_rm FSUBR m
-    else (if reg m == 5 then into_st_rm FSUB m
-    else (if reg m == 6 then into_st_rm FDIVR m
+    if reg_field m == 0 then into_st_rm FADD m
+    else (if reg_field m == 1 then into_st_rm FMUL m
+    else (if reg_field m == 2 then into_st0 FCOM m
+    else (if reg_field m == 3 then into_st0 FCOMP m
+    else (if reg_field m == 4 then into_st_rm FSUBR m
+    else (if reg_field m == 5 then into_st_rm FSUB m
+    else (if reg_field m == 6 then into_st_rm FDIVR m
     else into_st_rm FDIV m))))))
 
 unfoldable pub plan_dc : ℕ → Plan
@@ -152,23 +153,23 @@ plan_dc m = if is_memory m then loads (float_name m) 8 else register_dc m
 
 unfoldable pub memory_dd : ℕ → Plan
 memory_dd m =
-    if reg m == 0 then loads FLD 8
-    else (if reg m == 1 then stores FISTTP 8
-    else (if reg m == 2 then stores FST 8
-    else (if reg m == 3 then stores FSTP 8
-    else (if reg m == 4 then on_memory FRSTOR 63
-    else (if reg m == 5 then bad_opcode
-    else (if reg m == 6 then on_memory FNSAVE 63
+    if reg_field m == 0 then loads FLD 8
+    else (if reg_field m == 1 then stores FISTTP 8
+    else (if reg_field m == 2 then stores FST 8
+    else (if reg_field m == 3 then stores FSTP 8
+    else (if reg_field m == 4 then on_memory FRSTOR 63
+    else (if reg_field m == 5 then bad_opcode
+    else (if reg_field m == 6 then on_memory FNSAVE 63
     else on_memory FNSTSW 2))))))
 
 unfoldable pub register_dd : ℕ → Plan
 register_dd m =
-    if reg m == 0 then of_st_rm FFREE m
-    else (if reg m == 1 then into_st0 FXCH m
-    else (if reg m == 2 then into_st_rm FST m
-    else (if reg m == 3 then into_st_rm FSTP m
-    else (if reg m == 4 then into_st0 FUCOM m
-    else (if reg m == 5 then into_st0 FUCOMP m
+    if reg_field m == 0 then of_st_rm FFREE m
+    else (if reg_field m == 1 then into_st0 FXCH m
+    else (if reg_field m == 2 then into_st_rm FST m
+    else (if reg_field m == 3 then into_st_rm FSTP m
+    else (if reg_field m == 4 then into_st0 FUCOM m
+    else (if reg_field m == 5 then into_st0 FUCOMP m
     else bad_opcode)))))
 
 unfoldable pub plan_dd : ℕ → Plan
@@ -178,13 +179,13 @@ plan_dd m = if is_memory m then memory_dd m else register_dd m
 
 unfoldable pub register_de : ℕ → Plan
 register_de m =
-    if reg m == 0 then into_st_rm FADDP m
-    else (if reg m == 1 then into_st_rm FMULP m
-    else (if reg m == 2 then into_st0 FCOMP m
-    else (if reg m == 3 then (if m == 0xd9 then bare FCOMPP else bad_operand)
-    else (if reg m == 4 then into_st_rm FSUBRP m
-    else (if reg m == 5 then into_st_rm FSUBP m
-    else (if reg m == 6 then into_st_rm FDIVRP m
+    if reg_field m == 0 then into_st_rm FADDP m
+    else (if reg_field m == 1 then into_st_rm FMULP m
+    else (if reg_field m == 2 then into_st0 FCOMP m
+    else (if reg_field m == 3 then (if m == 0xd9 then bare FCOMPP else bad_operand)
+    else (if reg_field m == 4 then into_st_rm FSUBRP m
+    else (if reg_field m == 5 then into_st_rm FSUBP m
+    else (if reg_field m == 6 then into_st_rm FDIVRP m
     else into_st_rm FDIVP m))))))
 
 unfoldable pub plan_de : ℕ → Plan
@@ -194,24 +195,24 @@ plan_de m = if is_memory m then loads (integer_name m) 2 else register_de m
 
 unfoldable pub memory_df : ℕ → Plan
 memory_df m =
-    if reg m == 0 then loads FILD 2
-    else (if reg m == 1 then stores FISTTP 2
-    else (if reg m == 2 then stores FIST 2
-    else (if reg m == 3 then stores FISTP 2
-    else (if reg m == 4 then loads FBLD 10
-    else (if reg m == 5 then loads FILD 8
-    else (if reg m == 6 then stores FBSTP 10
+    if reg_field m == 0 then loads FILD 2
+    else (if reg_field m == 1 then stores FISTTP 2
+    else (if reg_field m == 2 then stores FIST 2
+    else (if reg_field m == 3 then stores FISTP 2
+    else (if reg_field m == 4 then loads FBLD 10
+    else (if reg_field m == 5 then loads FILD 8
+    else (if reg_field m == 6 then stores FBSTP 10
     else stores FISTP 8))))))
 
 unfoldable pub register_df : ℕ → Plan
 register_df m =
-    if reg m == 0 then of_st_rm FFREEP m
-    else (if reg m == 1 then into_st0 FXCH m
-    else (if reg m == 2 then into_st_rm FSTP m
-    else (if reg m == 3 then into_st_rm FSTP m
-    else (if reg m == 4 then (if m == 0xe0 then on_register FNSTSW W else bad_opcode)
-    else (if reg m == 5 then into_st0 FUCOMIP m
-    else (if reg m == 6 then into_st0 FCOMIP m
+    if reg_field m == 0 then of_st_rm FFREEP m
+    else (if reg_field m == 1 then into_st0 FXCH m
+    else (if reg_field m == 2 then into_st_rm FSTP m
+    else (if reg_field m == 3 then into_st_rm FSTP m
+    else (if reg_field m == 4 then (if m == 0xe0 then on_register FNSTSW W else bad_opcode)
+    else (if reg_field m == 5 then into_st0 FUCOMIP m
+    else (if reg_field m == 6 then into_st0 FCOMIP m
     else bad_opcode))))))
 
 unfoldable pub plan_df : ℕ → Plan

@@ -8,12 +8,13 @@ use Rattle.x86_fields.specs.Sizes.{v}
 use Rattle.x86_operands.specs.declared.plans.Sign.TheVariants.{G, E}
 use Rattle.x86_operands.specs.declared.plans.Signs.TheVariants.{One, Two}
 use Rattle.x86_operands.specs.declared.plans.Plan.{Plan}
-use Rattle.x86_operands.specs.Plans.{is_memory, reads, memory_only, size_by}
+use Rattle.x86_fields.specs.ModRM.{reg_field, is_memory}
+use Rattle.x86_operands.specs.Plans.{reads, memory_only, size_by}
 use Rattle.x86_opcodes.specs.Names.{PREFETCHW, NOP, MOVLPS, MOVHLPS, MOVHPS, MOVLHPS, PREFETCHNTA, PREFETCH0, PREFETCH1, PREFETCH2, ENDBR64, ENDBR32}
-use Rattle.x86_groups.specs.Choice.{bare, named_by_reg, on_memory, reg}
+use Rattle.x86_groups.specs.Choice.{bare, named_by_reg, on_memory}
 
 unfoldable pub plan_0f0d : ℕ → Plan
-plan_0f0d m = memory_only m (on_memory (if reg m == 1 then PREFETCHW else NOP) 64)
+plan_0f0d m = memory_only m (on_memory (if reg_field m == 1 then PREFETCHW else NOP) 64)
 
 unfoldable pub plan_0f12 : Prefixes → ℕ → Plan
 plan_0f12 p m = reads (if is_memory m then MOVLPS else MOVHLPS) (Two (G X) (E X)) (size_by m 8 (width_of (v p)))

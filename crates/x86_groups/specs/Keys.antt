@@ -13,17 +13,18 @@ use Rattle.x86_operands.specs.declared.plans.Fault.{Fault}
 use Rattle.x86_operands.specs.declared.plans.Fault.TheVariants.{BadOpcode}
 use Rattle.x86_operands.specs.declared.plans.Moment.TheVariants.{AtModRM, AfterAddress}
 use Rattle.x86_operands.specs.declared.plans.Plan.{Plan}
-use Rattle.x86_operands.specs.Plans.{is_memory, reads, refuses, refused, memory_only, size_by}
+use Rattle.x86_fields.specs.ModRM.{reg_field, is_memory}
+use Rattle.x86_operands.specs.Plans.{reads, refuses, refused, memory_only, size_by}
 use Rattle.x86_opcodes.specs.Names.{AESENCWIDE128KL, AESDECWIDE128KL, AESENCWIDE256KL, AESDECWIDE256KL, AESENC128KL, LOADIWKEY, AESDEC128KL, AESENC256KL, AESDEC256KL, ENCODEKEY128, ENCODEKEY256, HRESET}
-use Rattle.x86_groups.specs.Choice.{bad_operand, on_memory, reg}
+use Rattle.x86_groups.specs.Choice.{bad_operand, on_memory}
 
 unfoldable pub plan_f30f38d8 : ℕ → Plan
 plan_f30f38d8 m =
     if not (is_memory m) then bad_operand
-    else (if reg m == 0 then on_memory AESENCWIDE128KL 48
-    else (if reg m == 1 then on_memory AESDECWIDE128KL 48
-    else (if reg m == 2 then on_memory AESENCWIDE256KL 64
-    else (if reg m == 3 then on_memory AESDECWIDE256KL 64
+    else (if reg_field m == 0 then on_memory AESENCWIDE128KL 48
+    else (if reg_field m == 1 then on_memory AESDECWIDE128KL 48
+    else (if reg_field m == 2 then on_memory AESENCWIDE256KL 64
+    else (if reg_field m == 3 then on_memory AESDECWIDE256KL 64
     else refuses BadOpcode AfterAddress))))
 
 unfoldable pub plan_f30f38dc : Prefixes → ℕ → Plan

@@ -9,9 +9,10 @@ use Rattle.x86_operands.specs.declared.plans.Signs.TheVariants.{Two}
 use Rattle.x86_operands.specs.declared.plans.Fault.TheVariants.{BadOpcode, BadOperand}
 use Rattle.x86_operands.specs.declared.plans.Moment.TheVariants.{AfterAddress}
 use Rattle.x86_operands.specs.declared.plans.Plan.{Plan}
-use Rattle.x86_operands.specs.Plans.{is_memory, reads, refuses}
+use Rattle.x86_fields.specs.ModRM.{reg_field, is_memory}
+use Rattle.x86_operands.specs.Plans.{reads, refuses}
 use Rattle.x86_opcodes.specs.Names.{PSRLW, PSRAW, PSLLW, PSRLD, PSRAD, PSLLD, PSRLQ, PSRLDQ, PSLLQ, PSLLDQ}
-use Rattle.x86_groups.specs.Choice.{has_f2_or_f3, reg}
+use Rattle.x86_groups.specs.Choice.{has_f2_or_f3}
 
 -- a register and the count
 abbrev pub packed_shift : Prefixes → ℕ → Plan
@@ -24,17 +25,17 @@ refuses_shift p m = has_f2_or_f3 p || is_memory m
 unfoldable pub plan_0f71 : Prefixes → ℕ → Plan
 plan_0f71 p m =
     if refuses_shift p m then refuses BadOperand AfterAddress
-    else (if reg m == 2 then packed_shift p PSRLW
-    else (if reg m == 4 then packed_shift p PSRAW
-    else (if reg m == 6 then packed_shift p PSLLW
+    else (if reg_field m == 2 then packed_shift p PSRLW
+    else (if reg_field m == 4 then packed_shift p PSRAW
+    else (if reg_field m == 6 then packed_shift p PSLLW
     else refuses BadOpcode AfterAddress)))
 
 unfoldable pub plan_0f72 : Prefixes → ℕ → Plan
 plan_0f72 p m =
     if refuses_shift p m then refuses BadOperand AfterAddress
-    else (if reg m == 2 then packed_shift p PSRLD
-    else (if reg m == 4 then packed_shift p PSRAD
-    else (if reg m == 6 then packed_shift p PSLLD
+    else (if reg_field m == 2 then packed_shift p PSRLD
+    else (if reg_field m == 4 then packed_shift p PSRAD
+    else (if reg_field m == 6 then packed_shift p PSLLD
     else refuses BadOpcode AfterAddress)))
 
 -- shifts of a whole register, which only xmm registers have
@@ -44,8 +45,8 @@ whole_shift p opcode = if p.operand_size then packed_shift p opcode else refuses
 unfoldable pub plan_0f73 : Prefixes → ℕ → Plan
 plan_0f73 p m =
     if refuses_shift p m then refuses BadOperand AfterAddress
-    else (if reg m == 2 then packed_shift p PSRLQ
-    else (if reg m == 3 then whole_shift p PSRLDQ
-    else (if reg m == 6 then packed_shift p PSLLQ
-    else (if reg m == 7 then whole_shift p PSLLDQ
+    else (if reg_field m == 2 then packed_shift p PSRLQ
+    else (if reg_field m == 3 then whole_shift p PSRLDQ
+    else (if reg_field m == 6 then packed_shift p PSLLQ
+    else (if reg_field m == 7 then whole_shift p PSLLDQ
     else refuses BadOpcode AfterAddress))))

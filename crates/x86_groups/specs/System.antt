@@ -9,27 +9,28 @@ use Rattle.x86_operands.specs.declared.plans.Sign.{Sign}
 use Rattle.x86_operands.specs.declared.plans.Sign.TheVariants.{E, U, Fixed}
 use Rattle.x86_operands.specs.declared.plans.Signs.TheVariants.{Zero, One, Two, Three}
 use Rattle.x86_operands.specs.declared.plans.Plan.{Plan}
-use Rattle.x86_operands.specs.Plans.{is_memory, reads, size_by}
+use Rattle.x86_fields.specs.ModRM.{reg_field, rm_field, is_memory}
+use Rattle.x86_operands.specs.Plans.{reads, size_by}
 use Rattle.x86_operands.specs.declared.plans.RegisterSlot.TheVariants as place
 use Rattle.x86_opcodes.specs.Names.{SLDT, STR, LLDT, LTR, VERR, VERW, SGDT, SIDT, LGDT, LIDT, SMSW, RSTORSSP, LMSW, INVLPG, ENCLV, VMCALL, VMLAUNCH, VMRESUME, VMXOFF, PCONFIG, TDCALL, SEAMRET, SEAMOPS, SEAMCALL, MONITOR, MWAIT, CLAC, STAC, ENCLS, XGETBV, XSETBV, VMFUNC, XEND, XTEST, ENCLU, VMRUN, VMMCALL, VMLOAD, VMSAVE, STGI, CLGI, SKINIT, INVLPGA, XSUSLDTRK, SETSSBSY, XRESLDTRK, SAVEPREVSSP, UIRET, TESTUI, STUI, CLUI, RDPKRU, WRPKRU, RMPADJUST, RMPUPDATE, INVLPGB, PSMASH, PVALIDATE, TLBSYNC, SWAPGS, RDTSCP, MONITORX, MWAITX, CLZERO, RDPRU}
-use Rattle.x86_groups.specs.Choice.{bad_opcode, bad_operand, bare, has_f2_f3_or_66, has_f2_or_f3, name_at, named_by_reg, on_memory, reg, rm}
+use Rattle.x86_groups.specs.Choice.{bad_opcode, bad_operand, bare, has_f2_f3_or_66, has_f2_or_f3, name_at, named_by_reg, on_memory}
 
 unfoldable pub plan_0f00 : ℕ → Plan
 plan_0f00 m =
-    if nat_lt (reg m) 6 then reads (named_by_reg (SLDT ∷ STR ∷ LLDT ∷ LTR ∷ VERR ∷ VERW ∷ []) m) (One (E W)) (size_by m 2 0)
+    if nat_lt (reg_field m) 6 then reads (named_by_reg (SLDT ∷ STR ∷ LLDT ∷ LTR ∷ VERR ∷ VERW ∷ []) m) (One (E W)) (size_by m 2 0)
     else bad_operand
 
 -- ---- 0F 01 with memory, by reg
 
 unfoldable pub memory_0f01 : Prefixes → ℕ → Plan
 memory_0f01 p m =
-    if reg m == 0 then on_memory SGDT 10
-    else (if reg m == 1 then on_memory SIDT 10
-    else (if reg m == 2 then on_memory LGDT 10
-    else (if reg m == 3 then on_memory LIDT 10
-    else (if reg m == 4 then on_memory SMSW 2
-    else (if reg m == 5 then (if has_f3 p then on_memory RSTORSSP 8 else bad_opcode)
-    else (if reg m == 6 then on_memory LMSW 2
+    if reg_field m == 0 then on_memory SGDT 10
+    else (if reg_field m == 1 then on_memory SIDT 10
+    else (if reg_field m == 2 then on_memory LGDT 10
+    else (if reg_field m == 3 then on_memory LIDT 10
+    else (if reg_field m == 4 then on_memory SMSW 2
+    else (if reg_field m == 5 then (if has_f3 p then on_memory RSTORSSP 8 else bad_opcode)
+    else (if reg_field m == 6 then on_memory LMSW 2
     else on_memory INVLPG 1))))))
 
 -- ---- 0F 01 with a register, by reg and rm
@@ -37,25 +38,25 @@ memory_0f01 p m =
 unfoldable pub register_0f01_0 : Prefixes → ℕ → Plan
 register_0f01_0 p m =
     if has_f2_f3_or_66 p then bad_operand
-    else (if nat_lt (rm m) 6 then bare (name_at (ENCLV ∷ VMCALL ∷ VMLAUNCH ∷ VMRESUME ∷ VMXOFF ∷ PCONFIG ∷ []) (rm m))
+    else (if nat_lt (rm_field m) 6 then bare (name_at (ENCLV ∷ VMCALL ∷ VMLAUNCH ∷ VMRESUME ∷ VMXOFF ∷ PCONFIG ∷ []) (rm_field m))
     else bad_opcode)
 
 -- under 66
 abbrev pub trusted_domain : ℕ → Plan
 trusted_domain m =
-    if rm m == 4 then bare TDCALL
-    else (if rm m == 5 then bare SEAMRET
-    else (if rm m == 6 then bare SEAMOPS
-    else (if rm m == 7 then bare SEAMCALL
+    if rm_field m == 4 then bare TDCALL
+    else (if rm_field m == 5 then bare SEAMRET
+    else (if rm_field m == 6 then bare SEAMOPS
+    else (if rm_field m == 7 then bare SEAMCALL
     else bad_opcode)))
 
 abbrev pub monitoring : ℕ → Plan
 monitoring m =
-    if rm m == 0 then reads MONITOR Zero 1
-    else (if rm m == 1 then bare MWAIT
-    else (if rm m == 2 then bare CLAC
-    else (if rm m == 3 then bare STAC
-    else (if rm m == 7 then bare ENCLS
+    if rm_field m == 0 then reads MONITOR Zero 1
+    else (if rm_field m == 1 then bare MWAIT
+    else (if rm_field m == 2 then bare CLAC
+    else (if rm_field m == 3 then bare STAC
+    else (if rm_field m == 7 then bare ENCLS
     else bad_opcode))))
 
 unfoldable pub register_0f01_1 : Prefixes → ℕ → Plan
@@ -67,12 +68,12 @@ register_0f01_1 p m =
 unfoldable pub register_0f01_2 : Prefixes → ℕ → Plan
 register_0f01_2 p m =
     if has_f2_f3_or_66 p then bad_operand
-    else (if rm m == 0 then bare XGETBV
-    else (if rm m == 1 then bare XSETBV
-    else (if rm m == 4 then bare VMFUNC
-    else (if rm m == 5 then bare XEND
-    else (if rm m == 6 then bare XTEST
-    else (if rm m == 7 then bare ENCLU
+    else (if rm_field m == 0 then bare XGETBV
+    else (if rm_field m == 1 then bare XSETBV
+    else (if rm_field m == 4 then bare VMFUNC
+    else (if rm_field m == 5 then bare XEND
+    else (if rm_field m == 6 then bare XTEST
+    else (if rm_field m == 7 then bare ENCLU
     else bad_opcode))))))
 
 -- registers that a name implies
@@ -90,24 +91,24 @@ edx_at slot = Fixed slot (record { num = 2; class = D })
 
 unfoldable pub register_0f01_3 : ℕ → Plan
 register_0f01_3 m =
-    if rm m == 0 then reads VMRUN (One rax) 0
-    else (if rm m == 1 then bare VMMCALL
-    else (if rm m == 2 then reads VMLOAD (One rax) 0
-    else (if rm m == 3 then reads VMSAVE (One rax) 0
-    else (if rm m == 4 then bare STGI
-    else (if rm m == 5 then bare CLGI
-    else (if rm m == 6 then reads SKINIT (One eax) 0
+    if rm_field m == 0 then reads VMRUN (One rax) 0
+    else (if rm_field m == 1 then bare VMMCALL
+    else (if rm_field m == 2 then reads VMLOAD (One rax) 0
+    else (if rm_field m == 3 then reads VMSAVE (One rax) 0
+    else (if rm_field m == 4 then bare STGI
+    else (if rm_field m == 5 then bare CLGI
+    else (if rm_field m == 6 then reads SKINIT (One eax) 0
     else reads INVLPGA (Two rax (ecx_at place.Rm)) 0))))))
 
 unfoldable pub register_0f01_5 : Prefixes → ℕ → Plan
 register_0f01_5 p m =
-    if rm m == 0 then (if has_f2 p then bare XSUSLDTRK else (if has_f3 p then bare SETSSBSY else bad_opcode))
-    else (if rm m == 1 then (if has_f2 p then bare XRESLDTRK else bad_opcode)
-    else (if rm m == 2 then (if has_f3 p then bare SAVEPREVSSP else bad_opcode)
-    else (if rm m == 4 then (if has_f3 p then bare UIRET else bad_opcode)
-    else (if rm m == 5 then (if has_f3 p then bare TESTUI else bad_opcode)
-    else (if rm m == 6 then (if has_f3 p then bare CLUI else (if has_f2_f3_or_66 p then bad_opcode else bare RDPKRU))
-    else (if rm m == 7 then (if has_f3 p then bare STUI else (if has_f2_f3_or_66 p then bad_opcode else bare WRPKRU))
+    if rm_field m == 0 then (if has_f2 p then bare XSUSLDTRK else (if has_f3 p then bare SETSSBSY else bad_opcode))
+    else (if rm_field m == 1 then (if has_f2 p then bare XRESLDTRK else bad_opcode)
+    else (if rm_field m == 2 then (if has_f3 p then bare SAVEPREVSSP else bad_opcode)
+    else (if rm_field m == 4 then (if has_f3 p then bare UIRET else bad_opcode)
+    else (if rm_field m == 5 then (if has_f3 p then bare TESTUI else bad_opcode)
+    else (if rm_field m == 6 then (if has_f3 p then bare CLUI else (if has_f2_f3_or_66 p then bad_opcode else bare RDPKRU))
+    else (if rm_field m == 7 then (if has_f3 p then bare STUI else (if has_f2_f3_or_66 p then bad_opcode else bare WRPKRU))
     else bad_opcode))))))
 
 -- rm 6 and 7 of /7 without 66
@@ -125,25 +126,25 @@ synchronizes_pages p =
 
 unfoldable pub register_0f01_7 : Prefixes → ℕ → Plan
 register_0f01_7 p m =
-    if rm m == 0 then bare SWAPGS
-    else (if rm m == 1 then bare RDTSCP
-    else (if rm m == 2 then bare MONITORX
-    else (if rm m == 3 then bare MWAITX
-    else (if rm m == 4 then bare CLZERO
-    else (if rm m == 5 then reads RDPRU (One (ecx_at place.Reg)) 0
+    if rm_field m == 0 then bare SWAPGS
+    else (if rm_field m == 1 then bare RDTSCP
+    else (if rm_field m == 2 then bare MONITORX
+    else (if rm_field m == 3 then bare MWAITX
+    else (if rm_field m == 4 then bare CLZERO
+    else (if rm_field m == 5 then reads RDPRU (One (ecx_at place.Reg)) 0
     else (if p.operand_size then bad_operand
-    else (if rm m == 6 then invalidates_pages p
+    else (if rm_field m == 6 then invalidates_pages p
     else synchronizes_pages p)))))))
 
 unfoldable pub register_0f01 : Prefixes → ℕ → Plan
 register_0f01 p m =
-    if reg m == 0 then register_0f01_0 p m
-    else (if reg m == 1 then register_0f01_1 p m
-    else (if reg m == 2 then register_0f01_2 p m
-    else (if reg m == 3 then register_0f01_3 m
-    else (if reg m == 4 then reads SMSW (One (U (v p))) 2
-    else (if reg m == 5 then register_0f01_5 p m
-    else (if reg m == 6 then reads LMSW (One (U W)) 2
+    if reg_field m == 0 then register_0f01_0 p m
+    else (if reg_field m == 1 then register_0f01_1 p m
+    else (if reg_field m == 2 then register_0f01_2 p m
+    else (if reg_field m == 3 then register_0f01_3 m
+    else (if reg_field m == 4 then reads SMSW (One (U (v p))) 2
+    else (if reg_field m == 5 then register_0f01_5 p m
+    else (if reg_field m == 6 then reads LMSW (One (U W)) 2
     else register_0f01_7 p m))))))
 
 unfoldable pub plan_0f01 : Prefixes → ℕ → Plan

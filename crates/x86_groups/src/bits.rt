@@ -4,19 +4,17 @@ ghost use Rattle.x86_operands.specs.Plans.{memory_only};
 ghost use Rattle.x86_groups.specs.Choice.{on_memory};
 ghost use Rattle.x86_groups.specs.Bits.{plan_0fba, by_w, compares_0fc7, operand_size_0fc7, f3_0fc7, plain_0fc7, plan_0fc7};
 
-use crate::choice::{bad_opcode, bad_operand, name_at, on_memory, on_register, reg};
-use x86_fields::Prefixes;
+use crate::choice::{bad_opcode, bad_operand, name_at, on_memory, on_register};
+use x86_fields::{ModRM, Prefixes};
 use x86_opcodes::Opcode;
-use x86_operands::plans::{
-    Fault, Moment, Plan, Sign, Signs, memory_form, memory_only, reads, refuses, size_by,
-};
+use x86_operands::plans::{Fault, Moment, Plan, Sign, Signs, memory_only, reads, refuses, size_by};
 use x86_regs::RegisterClass;
 
 #[tactic(auto, unfolding(crate::specs::Bits::plan_0fba))]
-pub fn plan_0fba(prefixes: &Prefixes, modrm: u8) -> Plan
+pub fn plan_0fba(prefixes: &Prefixes, modrm: ModRM) -> Plan
     ensures { result ≡ plan_0fba prefixes.now modrm }
 {
-    let reg = reg(modrm);
+    let reg = modrm.reg_field();
     if reg < 4 {
         return bad_opcode();
     }
@@ -28,7 +26,7 @@ pub fn plan_0fba(prefixes: &Prefixes, modrm: u8) -> Plan
 }
 
 /// /1, whatever the prefixes are.
-fn compares_0fc7(prefixes: &Prefixes, modrm: u8) -> Plan
+fn compares_0fc7(prefixes: &Prefixes, modrm: ModRM) -> Plan
     ensures { result ≡ compares_0fc7 prefixes.now modrm }
 {
     if prefixes.has_w() {
@@ -39,10 +37,10 @@ fn compares_0fc7(prefixes: &Prefixes, modrm: u8) -> Plan
 }
 
 #[tactic(auto, unfolding(crate::specs::Bits::operand_size_0fc7))]
-fn operand_size_0fc7(modrm: u8) -> Plan
+fn operand_size_0fc7(modrm: ModRM) -> Plan
     ensures { result ≡ operand_size_0fc7 modrm }
 {
-    match (reg(modrm), memory_form(modrm)) {
+    match (modrm.reg_field(), modrm.is_memory()) {
         (6, true) => on_memory(Opcode::VMCLEAR, 8),
         (6, false) => on_register(Opcode::RDRAND, RegisterClass::W),
         (7, true) => refuses(Fault::BadOpcode, Moment::AfterAddress),
@@ -52,10 +50,10 @@ fn operand_size_0fc7(modrm: u8) -> Plan
 }
 
 #[tactic(auto, unfolding(crate::specs::Bits::f3_0fc7))]
-fn f3_0fc7(modrm: u8) -> Plan
+fn f3_0fc7(modrm: ModRM) -> Plan
     ensures { result ≡ f3_0fc7 modrm }
 {
-    match (reg(modrm), memory_form(modrm)) {
+    match (modrm.reg_field(), modrm.is_memory()) {
         (6, true) => on_memory(Opcode::VMXON, 8),
         (6, false) => on_register(Opcode::SENDUIPI, RegisterClass::Q),
         (7, true) => refuses(Fault::BadOperand, Moment::AfterAddress),
@@ -72,17 +70,17 @@ fn by_w(prefixes: &Prefixes, without: Opcode, with: Opcode) -> Opcode
 }
 
 /// One operand in memory, of a size that the processor decides.
-fn on_state(opcode: Opcode, modrm: u8) -> Plan
+fn on_state(opcode: Opcode, modrm: ModRM) -> Plan
     ensures { result ≡ memory_only modrm (on_memory opcode 63) }
 {
     memory_only(modrm, on_memory(opcode, 63))
 }
 
 #[tactic(auto, unfolding(crate::specs::Bits::plain_0fc7))]
-fn plain_0fc7(prefixes: &Prefixes, modrm: u8) -> Plan
+fn plain_0fc7(prefixes: &Prefixes, modrm: ModRM) -> Plan
     ensures { result ≡ plain_0fc7 prefixes.now modrm }
 {
-    match (reg(modrm), memory_form(modrm)) {
+    match (modrm.reg_field(), modrm.is_memory()) {
         (3, _) => on_state(by_w(prefixes, Opcode::XRSTORS, Opcode::XRSTORS64), modrm),
         (4, _) => on_state(by_w(prefixes, Opcode::XSAVEC, Opcode::XSAVEC64), modrm),
         (5, _) => on_state(by_w(prefixes, Opcode::XSAVES, Opcode::XSAVES64), modrm),
@@ -95,10 +93,10 @@ fn plain_0fc7(prefixes: &Prefixes, modrm: u8) -> Plan
 }
 
 #[tactic(auto, unfolding(crate::specs::Bits::plan_0fc7))]
-pub fn plan_0fc7(prefixes: &Prefixes, modrm: u8) -> Plan
+pub fn plan_0fc7(prefixes: &Prefixes, modrm: ModRM) -> Plan
     ensures { result ≡ plan_0fc7 prefixes.now modrm }
 {
-    if reg(modrm) == 1 {
+    if modrm.reg_field() == 1 {
         compares_0fc7(prefixes, modrm)
     } else if prefixes.repnz() {
         bad_operand()

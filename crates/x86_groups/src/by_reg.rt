@@ -6,9 +6,8 @@ ghost use Rattle.x86_operands.specs.Encodings.{is_sound, is_row};
 ghost use Rattle.x86_groups.specs.ByReg.{Chooses, IsLeft, has_fields, reg_plan};
 ghost use Rattle.x86_groups.specs.Choice.{name_at};
 
-use crate::choice::reg;
 use crate::operations::other_plan;
-use x86_fields::Prefixes;
+use x86_fields::{ModRM, Prefixes};
 use x86_opcodes::Opcode;
 use x86_operands::Behind::Peculiar;
 use x86_operands::plans::{ModrmUse, Plan};
@@ -97,13 +96,13 @@ fn unary(reg: u8) -> Opcode
 /// What reg chooses: the operation, and the encoding of its operands.
 #[inline(always)]
 #[tactic(auto, unfolding(crate::specs::Arithmetic::plan_80, crate::specs::Arithmetic::plan_81, crate::specs::Arithmetic::plan_83, crate::specs::Arithmetic::plan_c0, crate::specs::Arithmetic::plan_c1, crate::specs::Arithmetic::plan_d0, crate::specs::Arithmetic::plan_d1, crate::specs::Arithmetic::plan_d2, crate::specs::Arithmetic::plan_d3, crate::specs::Arithmetic::plan_f6, crate::specs::Arithmetic::plan_f7, crate::specs::Operations::plan_c6, crate::specs::Operations::plan_c7, crate::specs::Operations::plan_fe, crate::specs::Operations::plan_ff))]
-pub fn chosen(group: RegGroup, modrm: u8) -> (Opcode, &'static Encoding)
+pub fn chosen(group: RegGroup, modrm: ModRM) -> (Opcode, &'static Encoding)
     ensures chooses { Chooses group modrm result.0 result.1.now }
     ensures left { IsLeft group modrm result.1.now }
     ensures sound { is_sound result.1.now ≡ true }
     ensures fields { IsTrue (is_row result.1.now.behind) → has_fields result.1.now.behind ≡ true }
 {
-    let reg = reg(modrm);
+    let reg = modrm.reg_field();
     match group {
         RegGroup::G80 => (arithmetic(reg), EB_IB),
         RegGroup::G81 => (arithmetic(reg), EV_IV),
@@ -135,7 +134,7 @@ pub fn chosen(group: RegGroup, modrm: u8) -> (Opcode, &'static Encoding)
 }
 
 /// The plan of what reg chooses.
-pub fn chosen_plan(group: RegGroup, prefixes: &Prefixes, modrm: u8) -> Plan
+pub fn chosen_plan(group: RegGroup, prefixes: &Prefixes, modrm: ModRM) -> Plan
     ensures { result ≡ reg_plan group prefixes.now modrm }
 {
     let (opcode, encoding) = chosen(group, modrm);

@@ -1,28 +1,12 @@
 //! What a field of ModRM chooses, and the shortest plans.
 ghost use Rattle.std.specs.Prelude.{◌≡◌, ◌<◌, if◌then◌else◌};
-ghost use Rattle.x86_operands.specs.Plans.{is_memory};
-ghost use Rattle.x86_groups.specs.Choice.{reg, rm, name_at, named_by_reg, is_register_0, has_f2_or_f3, has_f2_f3_or_66, bare, on_memory, on_register, bad_opcode, bad_operand, left_out};
+ghost use Rattle.x86_fields.specs.ModRM.{is_memory};
+ghost use Rattle.x86_groups.specs.Choice.{name_at, named_by_reg, is_register_0, has_f2_or_f3, has_f2_f3_or_66, bare, on_memory, on_register, bad_opcode, bad_operand, left_out};
 
-use x86_fields::Prefixes;
+use x86_fields::{ModRM, Prefixes};
 use x86_opcodes::Opcode;
-use x86_operands::plans::{Fault, Moment, Plan, Sign, Signs, memory_form, reads, refuses};
+use x86_operands::plans::{Fault, Moment, Plan, Sign, Signs, reads, refuses};
 use x86_regs::RegisterClass;
-
-/// The reg field, without R.
-pub fn reg(modrm: u8) -> u8
-    ensures value { result ≡ reg modrm }
-    ensures small { result < 8 }
-{
-    modrm / 8 % 8
-}
-
-/// The rm field, without B.
-pub fn rm(modrm: u8) -> u8
-    ensures value { result ≡ rm modrm }
-    ensures small { result < 8 }
-{
-    modrm % 8
-}
 
 /// The name at a place, counted from 0.
 pub fn name_at(names: &[Opcode], place: u8) -> Opcode
@@ -35,24 +19,24 @@ pub fn name_at(names: &[Opcode], place: u8) -> Opcode
 }
 
 /// The name for /0 to /7.
-pub fn named_by_reg(names: &[Opcode], modrm: u8) -> Opcode
+pub fn named_by_reg(names: &[Opcode], modrm: ModRM) -> Opcode
     ensures { result ≡ named_by_reg names.now modrm }
 {
-    name_at(names, reg(modrm))
+    name_at(names, modrm.reg_field())
 }
 
 /// The name in the memory form, or in the register form.
-pub fn name_by(modrm: u8, memory: Opcode, register: Opcode) -> Opcode
+pub fn name_by(modrm: ModRM, memory: Opcode, register: Opcode) -> Opcode
     ensures { result ≡ if is_memory modrm then memory else register }
 {
-    if memory_form(modrm) { memory } else { register }
+    if modrm.is_memory() { memory } else { register }
 }
 
 /// Whether ModRM is a register form with rm 0.
-pub fn is_register_0(modrm: u8) -> bool
+pub fn is_register_0(modrm: ModRM) -> bool
     ensures { result ≡ is_register_0 modrm }
 {
-    !memory_form(modrm) && rm(modrm) == 0
+    !modrm.is_memory() && modrm.rm_field() == 0
 }
 
 pub fn has_f2_or_f3(prefixes: &Prefixes) -> bool

@@ -2,27 +2,27 @@
 ghost use Rattle.std.specs.Prelude.{◌≡◌};
 ghost use Rattle.x86_groups.specs.Extract.{plan_660f78, plan_f20f78};
 
-use crate::choice::reg;
+use x86_fields::ModRM;
 use x86_opcodes::Opcode;
-use x86_operands::plans::{Fault, Moment, Plan, Sign, Signs, memory_form, reads, refused};
+use x86_operands::plans::{Fault, Moment, Plan, Sign, Signs, reads, refused};
 use x86_regs::RegisterClass;
 
 #[tactic(auto, unfolding(crate::specs::Extract::plan_660f78))]
-pub fn plan_660f78(modrm: u8) -> Plan
+pub fn plan_660f78(modrm: ModRM) -> Plan
     ensures { result ≡ plan_660f78 modrm }
 {
     let signs = Signs::Three(Sign::U(RegisterClass::X), Sign::U8, Sign::X8);
     let plan = reads(Opcode::EXTRQ, signs, 0);
-    let bad = memory_form(modrm) || reg(modrm) != 0;
+    let bad = modrm.is_memory() || modrm.reg_field() != 0;
     refused(bad, Fault::BadOperand, Moment::AtModRM, plan)
 }
 
 #[tactic(auto, unfolding(crate::specs::Extract::plan_f20f78))]
-pub fn plan_f20f78(modrm: u8) -> Plan
+pub fn plan_f20f78(modrm: ModRM) -> Plan
     ensures { result ≡ plan_f20f78 modrm }
 {
     let x = RegisterClass::X;
     let signs = Signs::Four(Sign::G(x), Sign::U(x), Sign::U8, Sign::X8);
     let plan = reads(Opcode::INSERTQ, signs, 0);
-    refused(memory_form(modrm), Fault::BadOperand, Moment::AtModRM, plan)
+    refused(modrm.is_memory(), Fault::BadOperand, Moment::AtModRM, plan)
 }

@@ -2,12 +2,10 @@
 ghost use Rattle.std.specs.Prelude.{◌≡◌};
 ghost use Rattle.x86_groups.specs.Fences.{clears_operand_size, operand_size_0fae, f2_0fae, trace_0fae, f3_register_0fae, f3_0fae, fence, state_name, state_size, plain_0fae, plan_0fae};
 
-use crate::choice::{bad_opcode, bad_operand, bare, named_by_reg, on_memory, on_register, reg, rm};
-use x86_fields::Prefixes;
+use crate::choice::{bad_opcode, bad_operand, bare, named_by_reg, on_memory, on_register};
+use x86_fields::{ModRM, Prefixes};
 use x86_opcodes::Opcode;
-use x86_operands::plans::{
-    Mark, Plan, RegisterSlot, Sign, Signs, memory_form, reads, rm_number, size_by,
-};
+use x86_operands::plans::{Mark, Plan, RegisterSlot, Sign, Signs, reads, rm_number, size_by};
 use x86_regs::{RegSpec, RegisterClass};
 
 /// The answer's prefixes show 66 cleared.
@@ -20,10 +18,10 @@ fn clears_operand_size(plan: Plan) -> Plan
     }
 }
 
-fn operand_size_0fae(modrm: u8) -> Plan
+fn operand_size_0fae(modrm: ModRM) -> Plan
     ensures { result ≡ operand_size_0fae modrm }
 {
-    match (memory_form(modrm), reg(modrm)) {
+    match (modrm.is_memory(), modrm.reg_field()) {
         (true, 6) => on_memory(Opcode::CLWB, 64),
         (true, 7) => on_memory(Opcode::CLFLUSHOPT, 64),
         (false, 6) => on_register(Opcode::TPAUSE, RegisterClass::D),
@@ -32,12 +30,12 @@ fn operand_size_0fae(modrm: u8) -> Plan
 }
 
 #[tactic(auto, unfolding(crate::specs::Fences::f2_0fae))]
-fn f2_0fae(prefixes: &Prefixes, modrm: u8) -> Plan
+fn f2_0fae(prefixes: &Prefixes, modrm: ModRM) -> Plan
     ensures { result ≡ f2_0fae prefixes.now modrm }
 {
-    if memory_form(modrm) {
+    if modrm.is_memory() {
         bad_operand()
-    } else if reg(modrm) == 6 {
+    } else if modrm.reg_field() == 6 {
         let register = RegSpec::of(rm_number(modrm, prefixes), RegisterClass::D);
         let sign = Sign::Fixed(RegisterSlot::Reg, register);
         reads(Opcode::UMWAIT, Signs::One(sign), 0)
@@ -47,7 +45,7 @@ fn f2_0fae(prefixes: &Prefixes, modrm: u8) -> Plan
 }
 
 #[tactic(auto, unfolding(crate::specs::Fences::trace_0fae))]
-fn trace_0fae(prefixes: &Prefixes, modrm: u8) -> Plan
+fn trace_0fae(prefixes: &Prefixes, modrm: ModRM) -> Plan
     ensures { result ≡ trace_0fae prefixes.now modrm }
 {
     if prefixes.operand_size() {
@@ -58,11 +56,11 @@ fn trace_0fae(prefixes: &Prefixes, modrm: u8) -> Plan
     reads(Opcode::PTWRITE, Signs::One(Sign::E(dq)), size)
 }
 
-fn f3_register_0fae(prefixes: &Prefixes, modrm: u8) -> Plan
+fn f3_register_0fae(prefixes: &Prefixes, modrm: ModRM) -> Plan
     ensures { result ≡ f3_register_0fae prefixes.now modrm }
 {
     let dq = prefixes.dq_class();
-    match reg(modrm) {
+    match modrm.reg_field() {
         0 => on_register(Opcode::RDFSBASE, dq),
         1 => on_register(Opcode::RDGSBASE, dq),
         2 => on_register(Opcode::WRFSBASE, dq),
@@ -74,10 +72,10 @@ fn f3_register_0fae(prefixes: &Prefixes, modrm: u8) -> Plan
 }
 
 #[tactic(auto, unfolding(crate::specs::Fences::f3_0fae))]
-fn f3_0fae(prefixes: &Prefixes, modrm: u8) -> Plan
+fn f3_0fae(prefixes: &Prefixes, modrm: ModRM) -> Plan
     ensures { result ≡ f3_0fae prefixes.now modrm }
 {
-    match (memory_form(modrm), reg(modrm)) {
+    match (modrm.is_memory(), modrm.reg_field()) {
         (_, 4) => trace_0fae(prefixes, modrm),
         (true, 6) => on_memory(Opcode::CLRSSBSY, 8),
         (true, _) => bad_operand(),
@@ -87,27 +85,27 @@ fn f3_0fae(prefixes: &Prefixes, modrm: u8) -> Plan
 
 /// A fence, which the strict choice refuses unless rm is 0.
 #[tactic(auto, unfolding(crate::specs::Fences::fence))]
-fn fence(strict: bool, opcode: Opcode, modrm: u8) -> Plan
+fn fence(strict: bool, opcode: Opcode, modrm: ModRM) -> Plan
     ensures { result ≡ fence strict opcode modrm }
 {
-    if strict && rm(modrm) != 0 {
+    if strict && modrm.rm_field() != 0 {
         bad_operand()
     } else {
         bare(opcode)
     }
 }
 
-fn state_name(modrm: u8) -> Opcode
+fn state_name(modrm: ModRM) -> Opcode
     ensures { result ≡ state_name modrm }
 {
     let names = names!(FXSAVE FXRSTOR LDMXCSR STMXCSR XSAVE XRSTOR XSAVEOPT CLFLUSH);
     named_by_reg(&names, modrm)
 }
 
-fn state_size(modrm: u8) -> u8
+fn state_size(modrm: ModRM) -> u8
     ensures { result ≡ state_size modrm }
 {
-    match reg(modrm) {
+    match modrm.reg_field() {
         2 | 3 => 4,
         7 => 64,
         _ => 63,
@@ -115,10 +113,10 @@ fn state_size(modrm: u8) -> u8
 }
 
 #[tactic(auto, unfolding(crate::specs::Fences::plain_0fae))]
-fn plain_0fae(strict: bool, modrm: u8) -> Plan
+fn plain_0fae(strict: bool, modrm: ModRM) -> Plan
     ensures { result ≡ plain_0fae strict modrm }
 {
-    match (memory_form(modrm), reg(modrm)) {
+    match (modrm.is_memory(), modrm.reg_field()) {
         (true, _) => on_memory(state_name(modrm), state_size(modrm)),
         (false, 5) => fence(strict, Opcode::LFENCE, modrm),
         (false, 6) => fence(strict, Opcode::MFENCE, modrm),
@@ -128,7 +126,7 @@ fn plain_0fae(strict: bool, modrm: u8) -> Plan
 }
 
 #[tactic(auto, unfolding(crate::specs::Fences::plan_0fae))]
-pub fn plan_0fae(strict: bool, prefixes: &Prefixes, modrm: u8) -> Plan
+pub fn plan_0fae(strict: bool, prefixes: &Prefixes, modrm: ModRM) -> Plan
     ensures { result ≡ plan_0fae strict prefixes.now modrm }
 {
     if prefixes.repnz() {

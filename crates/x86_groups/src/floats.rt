@@ -2,11 +2,10 @@
 ghost use Rattle.std.specs.Prelude.{◌≡◌, ◌≤◌};
 ghost use Rattle.x86_groups.specs.Floats.{control_db, st0, st_rm, loads, stores, into_st0, into_st_rm, of_st_rm, float_name, integer_name, constant_d9, function_d9, plan_d8, plan_d9, plan_da, plan_db, plan_dc, plan_dd, plan_de, plan_df};
 
-use crate::choice::{
-    bad_opcode, bad_operand, bare, name_at, named_by_reg, on_memory, on_register, reg, rm,
-};
+use crate::choice::{bad_opcode, bad_operand, bare, name_at, named_by_reg, on_memory, on_register};
+use x86_fields::ModRM;
 use x86_opcodes::Opcode;
-use x86_operands::plans::{Plan, RegisterSlot, Sign, Signs, memory_form, reads};
+use x86_operands::plans::{Plan, RegisterSlot, Sign, Signs, reads};
 use x86_regs::{RegSpec, RegisterClass};
 
 fn st0() -> Sign
@@ -16,10 +15,13 @@ fn st0() -> Sign
 }
 
 /// The register of rm, which no B extends.
-fn st_rm(modrm: u8) -> Sign
+fn st_rm(modrm: ModRM) -> Sign
     ensures { result ≡ st_rm modrm }
 {
-    Sign::Fixed(RegisterSlot::Rm, RegSpec::of(rm(modrm), RegisterClass::ST))
+    Sign::Fixed(
+        RegisterSlot::Rm,
+        RegSpec::of(modrm.rm_field(), RegisterClass::ST),
+    )
 }
 
 fn loads(opcode: Opcode, size: u8) -> Plan
@@ -34,32 +36,32 @@ fn stores(opcode: Opcode, size: u8) -> Plan
     reads(opcode, Signs::Two(Sign::M, st0()), size)
 }
 
-fn into_st0(opcode: Opcode, modrm: u8) -> Plan
+fn into_st0(opcode: Opcode, modrm: ModRM) -> Plan
     ensures { result ≡ into_st0 opcode modrm }
 {
     reads(opcode, Signs::Two(st0(), st_rm(modrm)), 0)
 }
 
-fn into_st_rm(opcode: Opcode, modrm: u8) -> Plan
+fn into_st_rm(opcode: Opcode, modrm: ModRM) -> Plan
     ensures { result ≡ into_st_rm opcode modrm }
 {
     reads(opcode, Signs::Two(st_rm(modrm), st0()), 0)
 }
 
-fn of_st_rm(opcode: Opcode, modrm: u8) -> Plan
+fn of_st_rm(opcode: Opcode, modrm: ModRM) -> Plan
     ensures { result ≡ of_st_rm opcode modrm }
 {
     reads(opcode, Signs::One(st_rm(modrm)), 0)
 }
 
-fn float_name(modrm: u8) -> Opcode
+fn float_name(modrm: ModRM) -> Opcode
     ensures { result ≡ float_name modrm }
 {
     let names = names!(FADD FMUL FCOM FCOMP FSUB FSUBR FDIV FDIVR);
     named_by_reg(&names, modrm)
 }
 
-fn integer_name(modrm: u8) -> Opcode
+fn integer_name(modrm: ModRM) -> Opcode
     ensures { result ≡ integer_name modrm }
 {
     let names = names!(FIADD FIMUL FICOM FICOMP FISUB FISUBR FIDIV FIDIVR);
@@ -67,10 +69,10 @@ fn integer_name(modrm: u8) -> Opcode
 }
 
 #[tactic(auto, unfolding(crate::specs::Floats::plan_d8))]
-pub fn plan_d8(modrm: u8) -> Plan
+pub fn plan_d8(modrm: ModRM) -> Plan
     ensures { result ≡ plan_d8 modrm }
 {
-    if memory_form(modrm) {
+    if modrm.is_memory() {
         loads(float_name(modrm), 4)
     } else {
         into_st0(float_name(modrm), modrm)
@@ -79,23 +81,23 @@ pub fn plan_d8(modrm: u8) -> Plan
 
 /// E0 to EF.
 #[tactic(auto, unfolding(crate::specs::Floats::constant_d9))]
-fn constant_d9(modrm: u8) -> Plan
+fn constant_d9(modrm: ModRM) -> Plan
     ensures { result ≡ constant_d9 modrm }
 {
     let constants = names!(FLD1 FLDL2T FLDL2E FLDPI FLDLG2 FLDLN2 FLDZ);
-    match modrm {
+    match modrm.byte() {
         0xe0 => bare(Opcode::FCHS),
         0xe1 => bare(Opcode::FABS),
         0xe4 => bare(Opcode::FTST),
         0xe5 => bare(Opcode::FXAM),
-        0xe8..=0xee => bare(name_at(&constants, modrm - 0xe8)),
+        0xe8..=0xee => bare(name_at(&constants, modrm.byte() - 0xe8)),
         _ => bad_opcode(),
     }
 }
 
 /// F0 to FF.
 #[tactic(auto, unfolding(crate::specs::Floats::function_d9))]
-fn function_d9(modrm: u8) -> Plan
+fn function_d9(modrm: ModRM) -> Plan
     requires { 0xf0 ≤ modrm }
     ensures { result ≡ function_d9 modrm }
 {
@@ -103,14 +105,14 @@ fn function_d9(modrm: u8) -> Plan
         F2XM1 FYL2X FPTAN FPATAN FXTRACT FPREM1 FDECSTP FINCSTP
         FPREM FYL2XP1 FSQRT FSINCOS FRNDINT FSCALE FSIN FCOS
     );
-    bare(name_at(&functions, modrm - 0xf0))
+    bare(name_at(&functions, modrm.byte() - 0xf0))
 }
 
 #[tactic(auto, unfolding(crate::specs::Floats::plan_d9, crate::specs::Floats::memory_d9, crate::specs::Floats::register_d9))]
-pub fn plan_d9(modrm: u8) -> Plan
+pub fn plan_d9(modrm: ModRM) -> Plan
     ensures { result ≡ plan_d9 modrm }
 {
-    match (memory_form(modrm), reg(modrm)) {
+    match (modrm.is_memory(), modrm.reg_field()) {
         (true, 0) => loads(Opcode::FLD, 4),
         (true, 1) => bad_opcode(),
         (true, 2) => stores(Opcode::FST, 4),
@@ -121,46 +123,46 @@ pub fn plan_d9(modrm: u8) -> Plan
         (true, _) => on_memory(Opcode::FNSTCW, 2),
         (false, 0) => into_st0(Opcode::FLD, modrm),
         (false, 1) => into_st0(Opcode::FXCH, modrm),
-        (false, 2) if modrm == 0xd0 => bare(Opcode::FNOP),
+        (false, 2) if modrm.byte() == 0xd0 => bare(Opcode::FNOP),
         (false, 2) => bad_opcode(),
         (false, 3) => into_st_rm(Opcode::FSTPNCE, modrm),
-        (false, _) if modrm < 0xf0 => constant_d9(modrm),
+        (false, _) if modrm.byte() < 0xf0 => constant_d9(modrm),
         (false, _) => function_d9(modrm),
     }
 }
 
 #[tactic(auto, unfolding(crate::specs::Floats::plan_da, crate::specs::Floats::register_da))]
-pub fn plan_da(modrm: u8) -> Plan
+pub fn plan_da(modrm: ModRM) -> Plan
     ensures { result ≡ plan_da modrm }
 {
-    match reg(modrm) {
-        _ if memory_form(modrm) => loads(integer_name(modrm), 4),
+    match modrm.reg_field() {
+        _ if modrm.is_memory() => loads(integer_name(modrm), 4),
         0 => into_st0(Opcode::FCMOVB, modrm),
         1 => into_st0(Opcode::FCMOVE, modrm),
         2 => into_st0(Opcode::FCMOVBE, modrm),
         3 => into_st0(Opcode::FCMOVU, modrm),
-        _ if modrm == 0xe9 => bare(Opcode::FUCOMPP),
+        _ if modrm.byte() == 0xe9 => bare(Opcode::FUCOMPP),
         _ => bad_opcode(),
     }
 }
 
 /// E0 to E4.
 #[tactic(auto, unfolding(crate::specs::Floats::control_db))]
-fn control_db(modrm: u8) -> Plan
+fn control_db(modrm: ModRM) -> Plan
     ensures { result ≡ control_db modrm }
 {
     let controls = names!(FENI8087_NOP FDISI8087_NOP FNCLEX FNINIT FSETPM287_NOP);
-    match modrm {
-        0xe0..=0xe4 => bare(name_at(&controls, modrm - 0xe0)),
+    match modrm.byte() {
+        0xe0..=0xe4 => bare(name_at(&controls, modrm.byte() - 0xe0)),
         _ => bad_opcode(),
     }
 }
 
 #[tactic(auto, unfolding(crate::specs::Floats::plan_db, crate::specs::Floats::memory_db, crate::specs::Floats::register_db))]
-pub fn plan_db(modrm: u8) -> Plan
+pub fn plan_db(modrm: ModRM) -> Plan
     ensures { result ≡ plan_db modrm }
 {
-    match (memory_form(modrm), reg(modrm)) {
+    match (modrm.is_memory(), modrm.reg_field()) {
         (true, 0) => loads(Opcode::FILD, 4),
         (true, 1) => stores(Opcode::FISTTP, 4),
         (true, 2) => stores(Opcode::FIST, 4),
@@ -180,11 +182,11 @@ pub fn plan_db(modrm: u8) -> Plan
 }
 
 #[tactic(auto, unfolding(crate::specs::Floats::plan_dc, crate::specs::Floats::register_dc))]
-pub fn plan_dc(modrm: u8) -> Plan
+pub fn plan_dc(modrm: ModRM) -> Plan
     ensures { result ≡ plan_dc modrm }
 {
-    match reg(modrm) {
-        _ if memory_form(modrm) => loads(float_name(modrm), 8),
+    match modrm.reg_field() {
+        _ if modrm.is_memory() => loads(float_name(modrm), 8),
         0 => into_st_rm(Opcode::FADD, modrm),
         1 => into_st_rm(Opcode::FMUL, modrm),
         2 => into_st0(Opcode::FCOM, modrm),
@@ -197,10 +199,10 @@ pub fn plan_dc(modrm: u8) -> Plan
 }
 
 #[tactic(auto, unfolding(crate::specs::Floats::plan_dd, crate::specs::Floats::memory_dd, crate::specs::Floats::register_dd))]
-pub fn plan_dd(modrm: u8) -> Plan
+pub fn plan_dd(modrm: ModRM) -> Plan
     ensures { result ≡ plan_dd modrm }
 {
-    match (memory_form(modrm), reg(modrm)) {
+    match (modrm.is_memory(), modrm.reg_field()) {
         (true, 0) => loads(Opcode::FLD, 8),
         (true, 1) => stores(Opcode::FISTTP, 8),
         (true, 2) => stores(Opcode::FST, 8),
@@ -220,15 +222,15 @@ pub fn plan_dd(modrm: u8) -> Plan
 }
 
 #[tactic(auto, unfolding(crate::specs::Floats::plan_de, crate::specs::Floats::register_de))]
-pub fn plan_de(modrm: u8) -> Plan
+pub fn plan_de(modrm: ModRM) -> Plan
     ensures { result ≡ plan_de modrm }
 {
-    match reg(modrm) {
-        _ if memory_form(modrm) => loads(integer_name(modrm), 2),
+    match modrm.reg_field() {
+        _ if modrm.is_memory() => loads(integer_name(modrm), 2),
         0 => into_st_rm(Opcode::FADDP, modrm),
         1 => into_st_rm(Opcode::FMULP, modrm),
         2 => into_st0(Opcode::FCOMP, modrm),
-        3 if modrm == 0xd9 => bare(Opcode::FCOMPP),
+        3 if modrm.byte() == 0xd9 => bare(Opcode::FCOMPP),
         3 => bad_operand(),
         4 => into_st_rm(Opcode::FSUBRP, modrm),
         5 => into_st_rm(Opcode::FSUBP, modrm),
@@ -238,10 +240,10 @@ pub fn plan_de(modrm: u8) -> Plan
 }
 
 #[tactic(auto, unfolding(crate::specs::Floats::plan_df, crate::specs::Floats::memory_df, crate::specs::Floats::register_df))]
-pub fn plan_df(modrm: u8) -> Plan
+pub fn plan_df(modrm: ModRM) -> Plan
     ensures { result ≡ plan_df modrm }
 {
-    match (memory_form(modrm), reg(modrm)) {
+    match (modrm.is_memory(), modrm.reg_field()) {
         (true, 0) => loads(Opcode::FILD, 2),
         (true, 1) => stores(Opcode::FISTTP, 2),
         (true, 2) => stores(Opcode::FIST, 2),
@@ -253,7 +255,7 @@ pub fn plan_df(modrm: u8) -> Plan
         (false, 0) => of_st_rm(Opcode::FFREEP, modrm),
         (false, 1) => into_st0(Opcode::FXCH, modrm),
         (false, 2) | (false, 3) => into_st_rm(Opcode::FSTP, modrm),
-        (false, 4) if modrm == 0xe0 => on_register(Opcode::FNSTSW, RegisterClass::W),
+        (false, 4) if modrm.byte() == 0xe0 => on_register(Opcode::FNSTSW, RegisterClass::W),
         (false, 4) => bad_opcode(),
         (false, 5) => into_st0(Opcode::FUCOMIP, modrm),
         (false, 6) => into_st0(Opcode::FCOMIP, modrm),

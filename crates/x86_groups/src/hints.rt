@@ -2,17 +2,17 @@
 ghost use Rattle.std.specs.Prelude.{◌≡◌};
 ghost use Rattle.x86_groups.specs.Hints.{prefetch_name, plan_0f0d, plan_0f12, plan_0f16, plan_0f18, plan_f30f1e};
 
-use crate::choice::{bare, name_by, named_by_reg, on_memory, reg};
-use x86_fields::Prefixes;
+use crate::choice::{bare, name_by, named_by_reg, on_memory};
+use x86_fields::{ModRM, Prefixes};
 use x86_opcodes::Opcode;
 use x86_operands::plans::{Plan, Sign, Signs, memory_only, reads, size_by};
 use x86_regs::RegisterClass;
 
 #[tactic(auto, unfolding(crate::specs::Hints::plan_0f0d))]
-pub fn plan_0f0d(modrm: u8) -> Plan
+pub fn plan_0f0d(modrm: ModRM) -> Plan
     ensures { result ≡ plan_0f0d modrm }
 {
-    let opcode = if reg(modrm) == 1 {
+    let opcode = if modrm.reg_field() == 1 {
         Opcode::PREFETCHW
     } else {
         Opcode::NOP
@@ -21,7 +21,7 @@ pub fn plan_0f0d(modrm: u8) -> Plan
 }
 
 #[tactic(auto, unfolding(crate::specs::Hints::plan_0f12))]
-pub fn plan_0f12(prefixes: &Prefixes, modrm: u8) -> Plan
+pub fn plan_0f12(prefixes: &Prefixes, modrm: ModRM) -> Plan
     ensures { result ≡ plan_0f12 prefixes.now modrm }
 {
     let opcode = name_by(modrm, Opcode::MOVLPS, Opcode::MOVHLPS);
@@ -30,7 +30,7 @@ pub fn plan_0f12(prefixes: &Prefixes, modrm: u8) -> Plan
 }
 
 #[tactic(auto, unfolding(crate::specs::Hints::plan_0f16))]
-pub fn plan_0f16(prefixes: &Prefixes, modrm: u8) -> Plan
+pub fn plan_0f16(prefixes: &Prefixes, modrm: ModRM) -> Plan
     ensures { result ≡ plan_0f16 prefixes.now modrm }
 {
     let opcode = name_by(modrm, Opcode::MOVHPS, Opcode::MOVLHPS);
@@ -38,7 +38,7 @@ pub fn plan_0f16(prefixes: &Prefixes, modrm: u8) -> Plan
     reads(opcode, signs, size_by(modrm, 8, prefixes.v_class().width()))
 }
 
-fn prefetch_name(modrm: u8) -> Opcode
+fn prefetch_name(modrm: ModRM) -> Opcode
     ensures { result ≡ prefetch_name modrm }
 {
     let names = names!(PREFETCHNTA PREFETCH0 PREFETCH1 PREFETCH2 NOP NOP NOP NOP);
@@ -46,7 +46,7 @@ fn prefetch_name(modrm: u8) -> Opcode
 }
 
 #[tactic(auto, unfolding(crate::specs::Hints::plan_0f18))]
-pub fn plan_0f18(prefixes: &Prefixes, modrm: u8) -> Plan
+pub fn plan_0f18(prefixes: &Prefixes, modrm: ModRM) -> Plan
     ensures { result ≡ plan_0f18 prefixes.now modrm }
 {
     let v = prefixes.v_class();
@@ -56,11 +56,11 @@ pub fn plan_0f18(prefixes: &Prefixes, modrm: u8) -> Plan
 }
 
 #[tactic(auto, unfolding(crate::specs::Hints::plan_f30f1e))]
-pub fn plan_f30f1e(prefixes: &Prefixes, modrm: u8) -> Plan
+pub fn plan_f30f1e(prefixes: &Prefixes, modrm: ModRM) -> Plan
     ensures { result ≡ plan_f30f1e prefixes.now modrm }
 {
     let v = prefixes.v_class();
-    match modrm {
+    match modrm.byte() {
         0xfa => bare(Opcode::ENDBR64),
         0xfb => bare(Opcode::ENDBR32),
         _ => reads(Opcode::NOP, Signs::Two(Sign::E(v), Sign::G(v)), v.width()),

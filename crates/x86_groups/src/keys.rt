@@ -2,22 +2,22 @@
 ghost use Rattle.std.specs.Prelude.{◌≡◌};
 ghost use Rattle.x86_groups.specs.Keys.{with_key, encodes_key, is_no_override, is_f3_alone, plan_f30f38d8, plan_f30f38dc, plan_f30f38dd, plan_f30f38de, plan_f30f38df, plan_f30f38fa, plan_f30f38fb, plan_f30f3af0, fault_f30f3af0};
 
-use crate::choice::{bad_operand, name_by, on_memory, reg};
-use x86_fields::Prefixes;
+use crate::choice::{bad_operand, name_by, on_memory};
+use x86_fields::{ModRM, Prefixes};
 use x86_opcodes::Opcode;
 use x86_operands::plans::{
-    Fault, Moment, Plan, Sign, Signs, memory_form, memory_only, reads, refused, refuses, size_by,
+    Fault, Moment, Plan, Sign, Signs, memory_only, reads, refused, refuses, size_by,
 };
 use x86_regs::{RegisterClass, Segment};
 
 #[tactic(auto, unfolding(crate::specs::Keys::plan_f30f38d8))]
-pub fn plan_f30f38d8(modrm: u8) -> Plan
+pub fn plan_f30f38d8(modrm: ModRM) -> Plan
     ensures { result ≡ plan_f30f38d8 modrm }
 {
-    if !memory_form(modrm) {
+    if !modrm.is_memory() {
         return bad_operand();
     }
-    match reg(modrm) {
+    match modrm.reg_field() {
         0 => on_memory(Opcode::AESENCWIDE128KL, 48),
         1 => on_memory(Opcode::AESDECWIDE128KL, 48),
         2 => on_memory(Opcode::AESENCWIDE256KL, 64),
@@ -27,7 +27,7 @@ pub fn plan_f30f38d8(modrm: u8) -> Plan
 }
 
 #[tactic(auto, unfolding(crate::specs::Keys::plan_f30f38dc))]
-pub fn plan_f30f38dc(prefixes: &Prefixes, modrm: u8) -> Plan
+pub fn plan_f30f38dc(prefixes: &Prefixes, modrm: ModRM) -> Plan
     ensures { result ≡ plan_f30f38dc prefixes.now modrm }
 {
     let opcode = name_by(modrm, Opcode::AESENC128KL, Opcode::LOADIWKEY);
@@ -36,7 +36,7 @@ pub fn plan_f30f38dc(prefixes: &Prefixes, modrm: u8) -> Plan
     reads(opcode, signs, size)
 }
 
-fn with_key(opcode: Opcode, size: u8, modrm: u8) -> Plan
+fn with_key(opcode: Opcode, size: u8, modrm: ModRM) -> Plan
     ensures { result ≡ with_key opcode size modrm }
 {
     let signs = Signs::Two(Sign::G(RegisterClass::X), Sign::M);
@@ -44,55 +44,55 @@ fn with_key(opcode: Opcode, size: u8, modrm: u8) -> Plan
 }
 
 #[tactic(auto, unfolding(crate::specs::Keys::plan_f30f38dd))]
-pub fn plan_f30f38dd(modrm: u8) -> Plan
+pub fn plan_f30f38dd(modrm: ModRM) -> Plan
     ensures { result ≡ plan_f30f38dd modrm }
 {
     with_key(Opcode::AESDEC128KL, 48, modrm)
 }
 
 #[tactic(auto, unfolding(crate::specs::Keys::plan_f30f38de))]
-pub fn plan_f30f38de(modrm: u8) -> Plan
+pub fn plan_f30f38de(modrm: ModRM) -> Plan
     ensures { result ≡ plan_f30f38de modrm }
 {
     with_key(Opcode::AESENC256KL, 64, modrm)
 }
 
 #[tactic(auto, unfolding(crate::specs::Keys::plan_f30f38df))]
-pub fn plan_f30f38df(modrm: u8) -> Plan
+pub fn plan_f30f38df(modrm: ModRM) -> Plan
     ensures { result ≡ plan_f30f38df modrm }
 {
     with_key(Opcode::AESDEC256KL, 64, modrm)
 }
 
-fn encodes_key(opcode: Opcode, prefixes: &Prefixes, modrm: u8) -> Plan
+fn encodes_key(opcode: Opcode, prefixes: &Prefixes, modrm: ModRM) -> Plan
     ensures { result ≡ encodes_key opcode prefixes.now modrm }
 {
     let signs = Signs::Two(Sign::G(RegisterClass::D), Sign::U(RegisterClass::D));
     let plan = reads(opcode, signs, prefixes.v_class().width());
-    let memory = memory_form(modrm);
+    let memory = modrm.is_memory();
     refused(memory, Fault::BadOpcode, Moment::AfterAddress, plan)
 }
 
 #[tactic(auto, unfolding(crate::specs::Keys::plan_f30f38fa))]
-pub fn plan_f30f38fa(prefixes: &Prefixes, modrm: u8) -> Plan
+pub fn plan_f30f38fa(prefixes: &Prefixes, modrm: ModRM) -> Plan
     ensures { result ≡ plan_f30f38fa prefixes.now modrm }
 {
     encodes_key(Opcode::ENCODEKEY128, prefixes, modrm)
 }
 
 #[tactic(auto, unfolding(crate::specs::Keys::plan_f30f38fb))]
-pub fn plan_f30f38fb(prefixes: &Prefixes, modrm: u8) -> Plan
+pub fn plan_f30f38fb(prefixes: &Prefixes, modrm: ModRM) -> Plan
     ensures { result ≡ plan_f30f38fb prefixes.now modrm }
 {
     encodes_key(Opcode::ENCODEKEY256, prefixes, modrm)
 }
 
 #[tactic(auto, unfolding(crate::specs::Keys::plan_f30f3af0))]
-pub fn plan_f30f3af0(modrm: u8) -> Plan
+pub fn plan_f30f3af0(modrm: ModRM) -> Plan
     ensures { result ≡ plan_f30f3af0 modrm }
 {
     let plan = reads(Opcode::HRESET, Signs::One(Sign::U8), 0);
-    refused(memory_form(modrm), Fault::BadOpcode, Moment::AtModRM, plan)
+    refused(modrm.is_memory(), Fault::BadOpcode, Moment::AtModRM, plan)
 }
 
 fn is_no_override(segment: Segment) -> bool

@@ -5,7 +5,7 @@ ghost use Rattle.std.specs.Prelude.{◌≡◌, ◌≢◌, ◌≤◌, ◌⊎◌, 
 ghost use Rattle.x86_arch.specs.Reader.{State};
 ghost use Rattle.x86_fields.specs.declared.DecodeError.TheVariants.{IncompleteDecoder};
 ghost use Rattle.x86_fields.specs.declared.Prefixes.{Prefixes};
-ghost use Rattle.x86_fields.specs.Raw.{middle_field};
+ghost use Rattle.x86_fields.specs.ModRM.{reg_field};
 ghost use Rattle.x86_forms.specs.declared.TableRow.{TableRow};
 ghost use Rattle.x86_forms.specs.Groups.{is_group_form};
 ghost use Rattle.x86_operands.specs.declared.plans.Fault.TheVariants.{Incomplete};
@@ -28,7 +28,7 @@ use x86_forms::Form;
 pub fn groups_are_built()
     ensures at_opcode { (strict : Bool) (row : TableRow) (p : Prefixes) → (group_record strict row p).at_opcode ≢ Some Incomplete }
     ensures form { (strict : Bool) (row : TableRow) (p : Prefixes) (m : ℕ) (w : Moment) → is_group_form row.form ≡ true → ((group_record strict row p).plan m).verdict ≡ Refuses Incomplete w → row.form ≡ Form.ModRM_0x8f }
-    ensures reg { (strict : Bool) (row : TableRow) (p : Prefixes) (m : ℕ) (w : Moment) → is_group_form row.form ≡ true → ((group_record strict row p).plan m).verdict ≡ Refuses Incomplete w → middle_field m ≢ 0 }
+    ensures reg { (strict : Bool) (row : TableRow) (p : Prefixes) (m : ℕ) (w : Moment) → is_group_form row.form ≡ true → ((group_record strict row p).plan m).verdict ≡ Refuses Incomplete w → reg_field m ≢ 0 }
     ensures moment { (strict : Bool) (row : TableRow) (p : Prefixes) (m : ℕ) (w : Moment) → is_group_form row.form ≡ true → ((group_record strict row p).plan m).verdict ≡ Refuses Incomplete w → w ≡ AfterAddress }
     ensures answer { (strict : Bool) (row : TableRow) (p : Prefixes) (s : State ℕ) → is_group_form row.form ≡ true → (record_step (group_record strict row p) p s).answer ≡ Err IncompleteDecoder → row.form ≡ Form.ModRM_0x8f }
 {}

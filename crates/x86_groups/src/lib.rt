@@ -50,7 +50,7 @@ use shifts::{plan_0f71, plan_0f72, plan_0f73};
 use system::{plan_0f00, plan_0f01};
 use three_d_now::plan_0f0f;
 use x86_arch::Reader;
-use x86_fields::{DecodeError, Prefixes};
+use x86_fields::{DecodeError, ModRM, Prefixes};
 use x86_forms::{Form, TableRow};
 use x86_opcodes::Opcode;
 use x86_operands::plans::{Fault, ModrmUse, Plan};
@@ -79,7 +79,7 @@ fn modrm_use(form: Form) -> ModrmUse
 
 /// Maps 0F38 and 0F3A.
 #[tactic(auto, unfolding(crate::specs::Groups::three_byte_plan))]
-fn three_byte_plan(form: Form, prefixes: &Prefixes, modrm: u8) -> Plan
+fn three_byte_plan(form: Form, prefixes: &Prefixes, modrm: ModRM) -> Plan
     ensures { result ≡ three_byte_plan form prefixes.now modrm }
 {
     match form {
@@ -97,7 +97,13 @@ fn three_byte_plan(form: Form, prefixes: &Prefixes, modrm: u8) -> Plan
 
 /// Map 0F.
 #[tactic(auto, unfolding(crate::specs::Groups::two_byte_plan))]
-fn two_byte_plan(form: Form, opcode: Opcode, strict: bool, prefixes: &Prefixes, modrm: u8) -> Plan
+fn two_byte_plan(
+    form: Form,
+    opcode: Opcode,
+    strict: bool,
+    prefixes: &Prefixes,
+    modrm: ModRM,
+) -> Plan
     ensures { result ≡ two_byte_plan form opcode strict prefixes.now modrm }
 {
     match form {
@@ -127,7 +133,7 @@ fn two_byte_plan(form: Form, opcode: Opcode, strict: bool, prefixes: &Prefixes, 
 
 /// The plan of a form; `opcode` is that of its row.
 #[tactic(auto, unfolding(crate::specs::Groups::form_plan))]
-fn form_plan(form: Form, opcode: Opcode, strict: bool, prefixes: &Prefixes, modrm: u8) -> Plan
+fn form_plan(form: Form, opcode: Opcode, strict: bool, prefixes: &Prefixes, modrm: ModRM) -> Plan
     ensures { result ≡ form_plan form opcode strict prefixes.now modrm }
 {
     match form {
@@ -180,7 +186,7 @@ pub fn place_group<T: Reader<u64, u8>>(
 }
 
 /// The plan of a row whose form is a group, at a ModRM byte.
-pub fn group_plan(row: TableRow, strict: bool, prefixes: &Prefixes, modrm: u8) -> Plan
+pub fn group_plan(row: TableRow, strict: bool, prefixes: &Prefixes, modrm: ModRM) -> Plan
     ensures { result ≡ group_plan row prefixes.now modrm strict }
 {
     form_plan(row.form, row.opcode, strict, prefixes, modrm)
@@ -217,7 +223,7 @@ pub fn group_ask(row: TableRow, prefixes: Prefixes, modrm: u8) -> Ask
     ensures { (strict : Bool) → result ≡ ask_of (group_record strict row prefixes) modrm }
 {
     let usage = modrm_use(row.form);
-    let modrm = used_modrm(usage, modrm);
+    let modrm = used_modrm(usage, ModRM::new(modrm));
     let plan = form_plan(row.form, row.opcode, false, &prefixes, modrm);
     plan_ask(usage, modrm, &plan)
 }

@@ -2,7 +2,7 @@
 ghost use Rattle.std.specs.Prelude.{◌≡◌};
 ghost use Rattle.x86_groups.specs.Moves.{is_control, with_control, with_debug, plan_rq_cq, plan_cq_rq, plan_rq_dq, plan_dq_rq};
 
-use x86_fields::Prefixes;
+use x86_fields::{ModRM, Prefixes};
 use x86_opcodes::Opcode;
 use x86_operands::plans::{Fault, Moment, Plan, Sign, Signs, reads, refused, reg_number};
 use x86_regs::RegisterClass;
@@ -14,14 +14,14 @@ fn is_control(num: u8) -> bool
     matches!(num, 0 | 2 | 3 | 4 | 8)
 }
 
-fn with_control(prefixes: &Prefixes, modrm: u8, plan: Plan) -> Plan
+fn with_control(prefixes: &Prefixes, modrm: ModRM, plan: Plan) -> Plan
     ensures { result ≡ with_control prefixes.now modrm plan }
 {
     let missing = !is_control(reg_number(modrm, prefixes));
     refused(missing, Fault::BadOperand, Moment::AtModRM, plan)
 }
 
-fn with_debug(prefixes: &Prefixes, modrm: u8, plan: Plan) -> Plan
+fn with_debug(prefixes: &Prefixes, modrm: ModRM, plan: Plan) -> Plan
     ensures { result ≡ with_debug prefixes.now modrm plan }
 {
     let missing = !(reg_number(modrm, prefixes) < 8);
@@ -29,7 +29,7 @@ fn with_debug(prefixes: &Prefixes, modrm: u8, plan: Plan) -> Plan
 }
 
 #[tactic(auto, unfolding(crate::specs::Moves::plan_rq_cq))]
-pub fn plan_rq_cq(opcode: Opcode, prefixes: &Prefixes, modrm: u8) -> Plan
+pub fn plan_rq_cq(opcode: Opcode, prefixes: &Prefixes, modrm: ModRM) -> Plan
     ensures { result ≡ plan_rq_cq opcode prefixes.now modrm }
 {
     let signs = Signs::Two(Sign::U(RegisterClass::Q), Sign::G(RegisterClass::CR));
@@ -37,7 +37,7 @@ pub fn plan_rq_cq(opcode: Opcode, prefixes: &Prefixes, modrm: u8) -> Plan
 }
 
 #[tactic(auto, unfolding(crate::specs::Moves::plan_cq_rq))]
-pub fn plan_cq_rq(opcode: Opcode, prefixes: &Prefixes, modrm: u8) -> Plan
+pub fn plan_cq_rq(opcode: Opcode, prefixes: &Prefixes, modrm: ModRM) -> Plan
     ensures { result ≡ plan_cq_rq opcode prefixes.now modrm }
 {
     let signs = Signs::Two(Sign::G(RegisterClass::CR), Sign::U(RegisterClass::Q));
@@ -45,7 +45,7 @@ pub fn plan_cq_rq(opcode: Opcode, prefixes: &Prefixes, modrm: u8) -> Plan
 }
 
 #[tactic(auto, unfolding(crate::specs::Moves::plan_rq_dq))]
-pub fn plan_rq_dq(opcode: Opcode, prefixes: &Prefixes, modrm: u8) -> Plan
+pub fn plan_rq_dq(opcode: Opcode, prefixes: &Prefixes, modrm: ModRM) -> Plan
     ensures { result ≡ plan_rq_dq opcode prefixes.now modrm }
 {
     let signs = Signs::Two(Sign::U(RegisterClass::Q), Sign::G(RegisterClass::DR));
@@ -53,7 +53,7 @@ pub fn plan_rq_dq(opcode: Opcode, prefixes: &Prefixes, modrm: u8) -> Plan
 }
 
 #[tactic(auto, unfolding(crate::specs::Moves::plan_dq_rq))]
-pub fn plan_dq_rq(opcode: Opcode, prefixes: &Prefixes, modrm: u8) -> Plan
+pub fn plan_dq_rq(opcode: Opcode, prefixes: &Prefixes, modrm: ModRM) -> Plan
     ensures { result ≡ plan_dq_rq opcode prefixes.now modrm }
 {
     let signs = Signs::Two(Sign::G(RegisterClass::DR), Sign::U(RegisterClass::Q));

@@ -3,18 +3,18 @@ ghost use Rattle.std.specs.Prelude.{◌≡◌};
 ghost use Rattle.x86_groups.specs.ByReg.{far_plan, other_plan};
 ghost use Rattle.x86_groups.specs.Operations.{abort_plan, begin_plan, distance_of, plan_8f};
 
-use crate::choice::{is_register_0, on_memory, reg};
-use x86_fields::Prefixes;
+use crate::choice::{is_register_0, on_memory};
+use x86_fields::{ModRM, Prefixes};
 use x86_opcodes::Opcode;
 use x86_operands::RegGroup;
 use x86_operands::plans::{Fault, Moment, Plan, Sign, Signs, memory_only, reads, refuses, size_by};
 use x86_regs::RegisterClass;
 
 #[tactic(auto, unfolding(crate::specs::Operations::plan_8f))]
-pub fn plan_8f(prefixes: &Prefixes, modrm: u8) -> Plan
+pub fn plan_8f(prefixes: &Prefixes, modrm: ModRM) -> Plan
     ensures { result ≡ plan_8f prefixes.now modrm }
 {
-    if reg(modrm) != 0 {
+    if modrm.reg_field() != 0 {
         return refuses(Fault::Incomplete, Moment::AfterAddress);
     }
     let v = prefixes.v_class();
@@ -29,7 +29,7 @@ pub fn plan_8f(prefixes: &Prefixes, modrm: u8) -> Plan
 }
 
 /// C6 with a reg other than 0.
-fn abort_plan(modrm: u8) -> Plan
+fn abort_plan(modrm: ModRM) -> Plan
     ensures { result ≡ abort_plan modrm }
 {
     if is_register_0(modrm) {
@@ -50,7 +50,7 @@ fn distance(class: RegisterClass) -> Sign
 }
 
 /// C7 with a reg other than 0.
-fn begin_plan(prefixes: &Prefixes, modrm: u8) -> Plan
+fn begin_plan(prefixes: &Prefixes, modrm: ModRM) -> Plan
     ensures { result ≡ begin_plan prefixes.now modrm }
 {
     let v = prefixes.v_class();
@@ -62,10 +62,10 @@ fn begin_plan(prefixes: &Prefixes, modrm: u8) -> Plan
 }
 
 /// FF with reg 3 and 5, and 7, which is none.
-fn far_plan(modrm: u8) -> Plan
+fn far_plan(modrm: ModRM) -> Plan
     ensures { result ≡ far_plan modrm }
 {
-    match reg(modrm) {
+    match modrm.reg_field() {
         3 => memory_only(modrm, on_memory(Opcode::CALLF, 10)),
         5 => memory_only(modrm, on_memory(Opcode::JMPF, 10)),
         _ => refuses(Fault::BadOpcode, Moment::AfterAddress),
@@ -73,7 +73,7 @@ fn far_plan(modrm: u8) -> Plan
 }
 
 /// The plan of what reg chooses where no row describes it.
-pub fn other_plan(group: RegGroup, prefixes: &Prefixes, modrm: u8) -> Plan
+pub fn other_plan(group: RegGroup, prefixes: &Prefixes, modrm: ModRM) -> Plan
     ensures { result ≡ other_plan group prefixes.now modrm }
 {
     match group {

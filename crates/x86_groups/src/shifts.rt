@@ -2,10 +2,10 @@
 ghost use Rattle.std.specs.Prelude.{◌≡◌};
 ghost use Rattle.x86_groups.specs.Shifts.{packed_shift, refuses_shift, whole_shift, plan_0f71, plan_0f72, plan_0f73};
 
-use crate::choice::{has_f2_or_f3, reg};
-use x86_fields::Prefixes;
+use crate::choice::has_f2_or_f3;
+use x86_fields::{ModRM, Prefixes};
 use x86_opcodes::Opcode;
-use x86_operands::plans::{Fault, Moment, Plan, Sign, Signs, memory_form, reads, refuses};
+use x86_operands::plans::{Fault, Moment, Plan, Sign, Signs, reads, refuses};
 use x86_regs::RegisterClass;
 
 fn packed_shift(prefixes: &Prefixes, opcode: Opcode) -> Plan
@@ -19,17 +19,17 @@ fn packed_shift(prefixes: &Prefixes, opcode: Opcode) -> Plan
     reads(opcode, signs, prefixes.v_class().width())
 }
 
-fn refuses_shift(prefixes: &Prefixes, modrm: u8) -> bool
+fn refuses_shift(prefixes: &Prefixes, modrm: ModRM) -> bool
     ensures { result ≡ refuses_shift prefixes.now modrm }
 {
-    has_f2_or_f3(prefixes) || memory_form(modrm)
+    has_f2_or_f3(prefixes) || modrm.is_memory()
 }
 
 #[tactic(auto, unfolding(crate::specs::Shifts::plan_0f71))]
-pub fn plan_0f71(prefixes: &Prefixes, modrm: u8) -> Plan
+pub fn plan_0f71(prefixes: &Prefixes, modrm: ModRM) -> Plan
     ensures { result ≡ plan_0f71 prefixes.now modrm }
 {
-    match reg(modrm) {
+    match modrm.reg_field() {
         _ if refuses_shift(prefixes, modrm) => refuses(Fault::BadOperand, Moment::AfterAddress),
         2 => packed_shift(prefixes, Opcode::PSRLW),
         4 => packed_shift(prefixes, Opcode::PSRAW),
@@ -39,10 +39,10 @@ pub fn plan_0f71(prefixes: &Prefixes, modrm: u8) -> Plan
 }
 
 #[tactic(auto, unfolding(crate::specs::Shifts::plan_0f72))]
-pub fn plan_0f72(prefixes: &Prefixes, modrm: u8) -> Plan
+pub fn plan_0f72(prefixes: &Prefixes, modrm: ModRM) -> Plan
     ensures { result ≡ plan_0f72 prefixes.now modrm }
 {
-    match reg(modrm) {
+    match modrm.reg_field() {
         _ if refuses_shift(prefixes, modrm) => refuses(Fault::BadOperand, Moment::AfterAddress),
         2 => packed_shift(prefixes, Opcode::PSRLD),
         4 => packed_shift(prefixes, Opcode::PSRAD),
@@ -63,10 +63,10 @@ fn whole_shift(prefixes: &Prefixes, opcode: Opcode) -> Plan
 }
 
 #[tactic(auto, unfolding(crate::specs::Shifts::plan_0f73))]
-pub fn plan_0f73(prefixes: &Prefixes, modrm: u8) -> Plan
+pub fn plan_0f73(prefixes: &Prefixes, modrm: ModRM) -> Plan
     ensures { result ≡ plan_0f73 prefixes.now modrm }
 {
-    match reg(modrm) {
+    match modrm.reg_field() {
         _ if refuses_shift(prefixes, modrm) => refuses(Fault::BadOperand, Moment::AfterAddress),
         2 => packed_shift(prefixes, Opcode::PSRLQ),
         3 => whole_shift(prefixes, Opcode::PSRLDQ),

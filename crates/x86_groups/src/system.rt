@@ -5,18 +5,17 @@ ghost use Rattle.x86_groups.specs.System.{rax, eax, ecx_at, edx_at, trusted_doma
 
 use crate::choice::{
     bad_opcode, bad_operand, bare, has_f2_f3_or_66, has_f2_or_f3, name_at, named_by_reg, on_memory,
-    reg, rm,
 };
-use x86_fields::Prefixes;
+use x86_fields::{ModRM, Prefixes};
 use x86_opcodes::Opcode;
-use x86_operands::plans::{Plan, RegisterSlot, Sign, Signs, memory_form, reads, size_by};
+use x86_operands::plans::{Plan, RegisterSlot, Sign, Signs, reads, size_by};
 use x86_regs::{RegSpec, RegisterClass};
 
 #[tactic(auto, unfolding(crate::specs::System::plan_0f00))]
-pub fn plan_0f00(modrm: u8) -> Plan
+pub fn plan_0f00(modrm: ModRM) -> Plan
     ensures { result ≡ plan_0f00 modrm }
 {
-    if reg(modrm) >= 6 {
+    if modrm.reg_field() >= 6 {
         return bad_operand();
     }
     let names = names!(SLDT STR LLDT LTR VERR VERW);
@@ -25,23 +24,23 @@ pub fn plan_0f00(modrm: u8) -> Plan
 }
 
 #[tactic(auto, unfolding(crate::specs::System::register_0f01_0))]
-fn register_0f01_0(prefixes: &Prefixes, modrm: u8) -> Plan
+fn register_0f01_0(prefixes: &Prefixes, modrm: ModRM) -> Plan
     ensures { result ≡ register_0f01_0 prefixes.now modrm }
 {
     if has_f2_f3_or_66(prefixes) {
         return bad_operand();
     }
-    if rm(modrm) >= 6 {
+    if modrm.rm_field() >= 6 {
         return bad_opcode();
     }
     let names = names!(ENCLV VMCALL VMLAUNCH VMRESUME VMXOFF PCONFIG);
-    bare(name_at(&names, rm(modrm)))
+    bare(name_at(&names, modrm.rm_field()))
 }
 
-fn trusted_domain(modrm: u8) -> Plan
+fn trusted_domain(modrm: ModRM) -> Plan
     ensures { result ≡ trusted_domain modrm }
 {
-    match rm(modrm) {
+    match modrm.rm_field() {
         4 => bare(Opcode::TDCALL),
         5 => bare(Opcode::SEAMRET),
         6 => bare(Opcode::SEAMOPS),
@@ -50,10 +49,10 @@ fn trusted_domain(modrm: u8) -> Plan
     }
 }
 
-fn monitoring(modrm: u8) -> Plan
+fn monitoring(modrm: ModRM) -> Plan
     ensures { result ≡ monitoring modrm }
 {
-    match rm(modrm) {
+    match modrm.rm_field() {
         0 => reads(Opcode::MONITOR, Signs::Zero, 1),
         1 => bare(Opcode::MWAIT),
         2 => bare(Opcode::CLAC),
@@ -64,7 +63,7 @@ fn monitoring(modrm: u8) -> Plan
 }
 
 #[tactic(auto, unfolding(crate::specs::System::register_0f01_1))]
-fn register_0f01_1(prefixes: &Prefixes, modrm: u8) -> Plan
+fn register_0f01_1(prefixes: &Prefixes, modrm: ModRM) -> Plan
     ensures { result ≡ register_0f01_1 prefixes.now modrm }
 {
     if has_f2_or_f3(prefixes) {
@@ -77,13 +76,13 @@ fn register_0f01_1(prefixes: &Prefixes, modrm: u8) -> Plan
 }
 
 #[tactic(auto, unfolding(crate::specs::System::register_0f01_2))]
-fn register_0f01_2(prefixes: &Prefixes, modrm: u8) -> Plan
+fn register_0f01_2(prefixes: &Prefixes, modrm: ModRM) -> Plan
     ensures { result ≡ register_0f01_2 prefixes.now modrm }
 {
     if has_f2_f3_or_66(prefixes) {
         return bad_operand();
     }
-    match rm(modrm) {
+    match modrm.rm_field() {
         0 => bare(Opcode::XGETBV),
         1 => bare(Opcode::XSETBV),
         4 => bare(Opcode::VMFUNC),
@@ -119,10 +118,10 @@ fn edx_at(slot: RegisterSlot) -> Sign
 }
 
 #[tactic(auto, unfolding(crate::specs::System::register_0f01_3))]
-fn register_0f01_3(modrm: u8) -> Plan
+fn register_0f01_3(modrm: ModRM) -> Plan
     ensures { result ≡ register_0f01_3 modrm }
 {
-    match rm(modrm) {
+    match modrm.rm_field() {
         0 => reads(Opcode::VMRUN, Signs::One(rax()), 0),
         1 => bare(Opcode::VMMCALL),
         2 => reads(Opcode::VMLOAD, Signs::One(rax()), 0),
@@ -138,10 +137,10 @@ fn register_0f01_3(modrm: u8) -> Plan
 }
 
 #[tactic(auto, unfolding(crate::specs::System::register_0f01_5))]
-fn register_0f01_5(prefixes: &Prefixes, modrm: u8) -> Plan
+fn register_0f01_5(prefixes: &Prefixes, modrm: ModRM) -> Plan
     ensures { result ≡ register_0f01_5 prefixes.now modrm }
 {
-    match rm(modrm) {
+    match modrm.rm_field() {
         0 if prefixes.repnz() => bare(Opcode::XSUSLDTRK),
         0 if prefixes.rep() => bare(Opcode::SETSSBSY),
         1 if prefixes.repnz() => bare(Opcode::XRESLDTRK),
@@ -182,10 +181,10 @@ fn synchronizes_pages(prefixes: &Prefixes) -> Plan
 }
 
 #[tactic(auto, unfolding(crate::specs::System::register_0f01_7))]
-fn register_0f01_7(prefixes: &Prefixes, modrm: u8) -> Plan
+fn register_0f01_7(prefixes: &Prefixes, modrm: ModRM) -> Plan
     ensures { result ≡ register_0f01_7 prefixes.now modrm }
 {
-    match rm(modrm) {
+    match modrm.rm_field() {
         0 => bare(Opcode::SWAPGS),
         1 => bare(Opcode::RDTSCP),
         2 => bare(Opcode::MONITORX),
@@ -199,10 +198,10 @@ fn register_0f01_7(prefixes: &Prefixes, modrm: u8) -> Plan
 }
 
 #[tactic(auto, unfolding(crate::specs::System::plan_0f01, crate::specs::System::memory_0f01, crate::specs::System::register_0f01))]
-pub fn plan_0f01(prefixes: &Prefixes, modrm: u8) -> Plan
+pub fn plan_0f01(prefixes: &Prefixes, modrm: ModRM) -> Plan
     ensures { result ≡ plan_0f01 prefixes.now modrm }
 {
-    match (memory_form(modrm), reg(modrm)) {
+    match (modrm.is_memory(), modrm.reg_field()) {
         (true, 0) => on_memory(Opcode::SGDT, 10),
         (true, 1) => on_memory(Opcode::SIDT, 10),
         (true, 2) => on_memory(Opcode::LGDT, 10),

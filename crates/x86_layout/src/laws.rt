@@ -20,7 +20,7 @@ ghost use Rattle.x86_layout.specs.Tightening.Tighten.{HasNoRelative, HasOperandF
 ghost use Rattle.x86_layout.specs.Tightening.Registers.{is_ip_relative};
 ghost use Rattle.x86_layout.specs.Tightening.Shortest.{shortest, address_length, IsOfBytes};
 ghost use Rattle.x86_fields.specs.declared.Raw.{Raw};
-ghost use Rattle.x86_fields.specs.Raw.{middle_field};
+ghost use Rattle.x86_fields.specs.ModRM.{reg_field};
 ghost use Rattle.x86_fields.specs.Linear.{raw_form, IsSameAddress};
 
 use crate::EmitError;
@@ -86,7 +86,7 @@ pub fn accepted_encodings_are_emitted_again()
 pub fn shortest_fields()
     ensures of_bytes { (raw : Raw) → IsOfBytes raw → IsOfBytes (shortest raw) }
     ensures same_address { (raw : Raw) → IsOfBytes raw → is_ip_relative raw ≡ false → IsSameAddress (raw_form (shortest raw)) (raw_form raw) }
-    ensures same_register { (raw : Raw) → middle_field (shortest raw).modrm ≡ middle_field raw.modrm }
+    ensures same_register { (raw : Raw) → reg_field (shortest raw).modrm ≡ reg_field raw.modrm }
     ensures no_new_bits { (raw : Raw) → raw.rex_b ≡ false → raw.rex_x ≡ false → ((shortest raw).rex_b ≡ false) × ((shortest raw).rex_x ≡ false) }
     ensures none_shorter { (raw other : Raw) → IsOfBytes raw → IsOfBytes other → is_ip_relative raw ≡ false → IsSameAddress (raw_form other) (raw_form raw) → address_length (shortest raw) ≤ address_length other }
 {}

@@ -17,7 +17,8 @@ use Rattle.x86_operands.specs.declared.plans.Verdict.TheVariants.{Accepts, Refus
 use Rattle.x86_operands.specs.Asks.{asks_modrm, asks_suffix, immediates_width, plan_ask, encoding_ask}
 use Rattle.x86_operands.specs.Encodings.{bytes_of, is_sound, judged, last_sign, plan_of, reg_sign, rm_sign, signs_in, size_at, somewhere, use_of}
 use Rattle.x86_operands.specs.Pieces.{immediate_width}
-use Rattle.x86_operands.specs.Plans.{is_memory, reads}
+use Rattle.x86_fields.specs.ModRM.{is_memory}
+use Rattle.x86_operands.specs.Plans.{reads}
 use Rattle.x86_operands.proofs.OrderLaws.{Named, named_of, sound_parts, no_named, i_named, r_named, r_i_named, i_r_named, e_named, e_i_named, e_g_named, g_e_named, e_g_i_named, g_e_i_named}
 
 -- the signs of reg and rm have no immediate

@@ -29,7 +29,8 @@ use Rattle.x86_operands.specs.declared.encodings.Size.{Size}
 use Rattle.x86_operands.specs.declared.reader.Reading.{Reading}
 use Rattle.x86_operands.specs.declared.placing.Operands.{Operands}
 use Rattle.x86_operands.specs.Signs.{plan_step, memory_step, given_step, signs_step, sign_step, reading_from, rm_operand}
-use Rattle.x86_operands.specs.Plans.{is_memory, list_of, reads, immediate_of}
+use Rattle.x86_fields.specs.ModRM.{is_memory, absent_modrm}
+use Rattle.x86_operands.specs.Plans.{list_of, reads, immediate_of}
 use Rattle.x86_operands.specs.FormSizes.{whole_immediate}
 use Rattle.x86_operands.specs.Shape.{shape_of}
 use Rattle.x86_operands.specs.Encodings.{last_sign, reg_sign, rm_sign, signs_in, judged, plan_of, bytes_of, fields_placed, index_of_place, sign_placed, sign_put, is_last, ends, put, rm_pair, reg_pair, fixed_pair, placed_reading, sized, last_placed, placed, somewhere, is_row, is_sound, size_at, is_order_of, is_order, has_modrm, has_register, fits, allowed}
@@ -93,7 +94,7 @@ rm_gives b w p m memory s = refl
 -- ---- the last sign, which looks at no ModRM
 
 abbrev IsPlain : Sign → Type 0
-IsPlain c = (p : Prefixes) (m : ℕ) (memory : Option Raw) (s : State ℕ) → sign_step c p m memory s ≡ sign_step c p 0xc0 None s
+IsPlain c = (p : Prefixes) (m : ℕ) (memory : Option Raw) (s : State ℕ) → sign_step c p m memory s ≡ sign_step c p absent_modrm None s
 
 immediate_plain : (c : RegisterClass) → IsPlain (immediate_of c)
 unfolding sign_step
@@ -150,7 +151,7 @@ in_order e_g_i_named (Err e) t a b c x y size opcode p m memory ha hb s hc = rw 
 in_order g_e_i_named (Ok z) t a b c x y size opcode p m memory ha hb s hc = rw (ha s, hb s, hc) refl
 in_order g_e_i_named (Err e) t a b c x y size opcode p m memory ha hb s hc = rw (ha s, hb s, hc) refl
 
-last_is : (at : Place) (l : Last) (p : Prefixes) (given : Operands) (s : State ℕ) → last_given at (sign_step (last_sign l p) p 0xc0 None s).answer (sign_step (last_sign l p) p 0xc0 None s).after given s ≡ last_placed at l p given s
+last_is : (at : Place) (l : Last) (p : Prefixes) (given : Operands) (s : State ℕ) → last_given at (sign_step (last_sign l p) p absent_modrm None s).answer (sign_step (last_sign l p) p absent_modrm None s).after given s ≡ last_placed at l p given s
 last_is First l p given s = refl
 last_is Second l p given s = refl
 last_is Third l p given s = refl
@@ -161,7 +162,7 @@ behind_memory : (b : Behind) (o : Order) (wr we : Width) (l : Last) (n size opco
     (given_step (list_of (signs_in o (reg_sign b wr n p) (rm_sign b we p) (last_sign l p))) p m memory >>= λ given. pure (reading_from (reads opcode (signs_in o (reg_sign b wr n p) (rm_sign b we p) (last_sign l p)) size) p opcode given)) s
     ≡ (last_placed o.last l p (put o.reg (reg_given b wr n p m) (put o.rm (rm_given b we p m memory) (sized o.count size))) >>= λ given. pure (placed_reading opcode p given)) s
 behind_memory b o wr we l n size opcode p m memory h s =
-    in_order h (sign_step (last_sign l p) p 0xc0 None s).answer (sign_step (last_sign l p) p 0xc0 None s).after (reg_sign b wr n p) (rm_sign b we p) (last_sign l p) (reg_given b wr n p m) (rm_given b we p m memory) size opcode p m memory (reg_gives b wr n p m memory) (rm_gives b we p m memory) s (last_plain l p p m memory s)
+    in_order h (sign_step (last_sign l p) p absent_modrm None s).answer (sign_step (last_sign l p) p absent_modrm None s).after (reg_sign b wr n p) (rm_sign b we p) (last_sign l p) (reg_given b wr n p m) (rm_given b we p m memory) size opcode p m memory (reg_gives b wr n p m memory) (rm_gives b we p m memory) s (last_plain l p p m memory s)
     ∙ ap (λ (u : Outcome Operands). then_from u.answer u.after (λ given. pure (placed_reading opcode p given))) (last_is o.last l p (put o.reg (reg_given b wr n p m) (put o.rm (rm_given b we p m memory) (sized o.count size))) s)
 
 -- ---- the verdict
@@ -308,7 +309,7 @@ allowed_row b m h = refl
 
 -- ---- in place
 
-pub sign_at_place : (at : Place) (l : Sign) (p : Prefixes) (given : Operands) (s : State ℕ) → at ≢ Nowhere → sign_put (index_of_place at) l p 0xc0 None given s ≡ sign_placed at l p given s
+pub sign_at_place : (at : Place) (l : Sign) (p : Prefixes) (given : Operands) (s : State ℕ) → at ≢ Nowhere → sign_put (index_of_place at) l p absent_modrm None given s ≡ sign_placed at l p given s
 sign_at_place First l p given s h = refl
 sign_at_place Second l p given s h = refl
 sign_at_place Third l p given s h = refl

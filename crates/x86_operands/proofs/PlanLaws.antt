@@ -21,7 +21,8 @@ use Rattle.x86_operands.specs.declared.plans.Verdict.{Verdict}
 use Rattle.x86_operands.specs.declared.plans.Verdict.TheVariants.{Accepts, NamedBySuffix, Refuses}
 use Rattle.x86_operands.specs.declared.plans.Plan.{Plan}
 use Rattle.x86_operands.specs.declared.reader.Reading.{Reading}
-use Rattle.x86_operands.specs.Plans.{is_memory, list_of}
+use Rattle.x86_fields.specs.ModRM.{is_memory}
+use Rattle.x86_operands.specs.Plans.{list_of}
 use Rattle.x86_operands.specs.Signs.{Given, signs_step, given_step, four_of, refusal_step, opcode_step, memory_step, plan_step, reading_from, error_of}
 use Rattle.x86_operands.specs.Pieces.{immediate_width, SpellsSigns, SpellsMemory, SpellsPieces, SpellsTail, RefusesTail, at_modrm, after_address, after_suffix, no_name, is_refusal, suffix_width, opcode_by, memory_widths, plan_widths, tail_widths}
 use Rattle.x86_operands.proofs.SignLaws.{ends_signs, takes_signs, stands_signs}

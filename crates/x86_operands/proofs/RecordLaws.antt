@@ -3,6 +3,7 @@ use Rattle.std.proofs.Common.{◌≡◌, ℕ, ◌+◌, ◌%◌, List, [], ◌∷
 use Rattle.x86_fields.specs.declared.DecodeError.{DecodeError}
 use Rattle.x86_fields.specs.declared.Prefixes.{Prefixes}
 use Rattle.x86_fields.specs.Steps.{Step, ◌>>=◌, byte_step, Takes}
+use Rattle.x86_fields.specs.ModRM.{absent_modrm, as_register}
 use Rattle.x86_fields.specs.Pieces.{EndsBetween}
 use Rattle.x86_fields.proofs.StepLaws.{takes_pure, takes_bind, takes_err, takes_byte}
 use Rattle.x86_fields.proofs.EndLaws.{EndsWell, IsEmpty, Only, IsByte, ends_byte, ends_pure, ends_refuse, ends_bind, ends_then, ends_map, weaken, Stands, stands_bind, stands_empty, stands_refused}
@@ -43,17 +44,17 @@ abbrev IsModrm : ModrmUse → List ℕ → ℕ → Type 0
 IsModrm u q m = (length q ≡ modrm_width u) × (m ≡ modrm_of u q)
 
 ends_modrm : (u : ModrmUse) → EndsWell (Only (IsModrm u)) IsEmpty (modrm_step u)
-ends_modrm Absent = ends_pure (Only (IsModrm Absent)) IsEmpty 0xc0 (refl, refl)
+ends_modrm Absent = ends_pure (Only (IsModrm Absent)) IsEmpty absent_modrm (refl, refl)
 ends_modrm Fields = ends_map IsByte IsEmpty (IsModrm Fields) byte_step (λ m. m) ends_byte (λ q b h. (ap length h, sym (ap (modrm_of Fields) h)))
-ends_modrm Registers = ends_map IsByte IsEmpty (IsModrm Registers) byte_step (λ m. 0xc0 + m % 0x40) ends_byte (λ q b h. (ap length h, sym (ap (modrm_of Registers) h)))
+ends_modrm Registers = ends_map IsByte IsEmpty (IsModrm Registers) byte_step as_register ends_byte (λ q b h. (ap length h, sym (ap (modrm_of Registers) h)))
 
 takes_modrm : (u : ModrmUse) (q : List ℕ) → length q ≡ modrm_width u → Takes (modrm_step u) q (Ok (modrm_of u q))
-takes_modrm Absent [] e = takes_pure (Ok 0xc0)
+takes_modrm Absent [] e = takes_pure (Ok absent_modrm)
 takes_modrm Absent (m ∷ q) e = absurd (omega arith)
 takes_modrm Fields (m ∷ []) e = takes_map byte_step (λ m. m) (m ∷ []) m (takes_byte m)
 takes_modrm Fields [] e = absurd (omega arith)
 takes_modrm Fields (m ∷ n ∷ q) e = absurd (omega arith)
-takes_modrm Registers (m ∷ []) e = takes_map byte_step (λ m. 0xc0 + m % 0x40) (m ∷ []) m (takes_byte m)
+takes_modrm Registers (m ∷ []) e = takes_map byte_step as_register (m ∷ []) m (takes_byte m)
 takes_modrm Registers [] e = absurd (omega arith)
 takes_modrm Registers (m ∷ n ∷ q) e = absurd (omega arith)
 

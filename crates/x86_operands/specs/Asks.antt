@@ -12,7 +12,8 @@ use Rattle.x86_operands.specs.declared.asks.Ask.{Ask}
 use Rattle.x86_operands.specs.declared.asks.RecordAt.{RecordAt}
 use Rattle.x86_operands.specs.declared.encodings.Encoding.{Encoding}
 use Rattle.x86_operands.specs.Encodings.{last_sign, somewhere, use_of}
-use Rattle.x86_operands.specs.Plans.{RowRecord, is_memory, list_of}
+use Rattle.x86_fields.specs.ModRM.{is_memory}
+use Rattle.x86_operands.specs.Plans.{RowRecord, list_of}
 use Rattle.x86_operands.specs.Pieces.{immediate_width, modrm_of}
 
 abbrev pub asks_modrm : ModrmUse → Bool

@@ -31,7 +31,8 @@ use Rattle.x86_operands.specs.declared.encodings.Size.{Size}
 use Rattle.x86_operands.specs.declared.encodings.Size.TheVariants as size
 use Rattle.x86_operands.specs.declared.encodings.Encoding.{Encoding}
 use Rattle.x86_fields.specs.declared.Raw.{Raw}
-use Rattle.x86_operands.specs.Plans.{is_memory, reads, refuses, memory_only, register_only, reg_number, register_at, accumulator_of, immediate_of}
+use Rattle.x86_fields.specs.ModRM.{reg_field, is_memory, absent_modrm}
+use Rattle.x86_operands.specs.Plans.{reads, refuses, memory_only, register_only, reg_number, register_at, accumulator_of, immediate_of}
 use Rattle.x86_operands.specs.FormSizes.{whole_immediate, push_immediate, nothing_size, call_size, return_size, duplicate_size, stream_size, scalar_size, extract_size, insert_size, unpack_size}
 use Rattle.x86_operands.specs.Forms.{form_plan, cl_third, size_v}
 use Rattle.std.specs.Prelude.{Result, Ok, Err, Option, None, not, pos, nat_lt, slice_index_or, ⊤, slice_set, ◌∷◌, [], ◌&&◌}
@@ -41,7 +42,6 @@ use Rattle.x86_fields.specs.declared.DecodeError.{DecodeError}
 use Rattle.x86_fields.specs.Steps.{Step, ◌>>=◌, pure}
 use Rattle.x86_operands.specs.declared.plans.ModrmUse.{ModrmUse}
 use Rattle.x86_operands.specs.declared.plans.ModrmUse.TheVariants as use_as
-use Rattle.x86_fields.specs.Raw.{middle_field}
 use Rattle.x86_fields.specs.Sizes.{register_of}
 use Rattle.x86_operands.specs.Signs.{Given, sign_step, memory_step, rm_operand, rm_mm_operand}
 use Rattle.x86_operands.specs.declared.reader.Reading.{Reading}
@@ -237,7 +237,7 @@ put Nowhere x given = given
 
 -- the operand of a sign that no ModRM names, at a place
 abbrev pub sign_placed : Place → Sign → Prefixes → Operands → Step Operands
-sign_placed at s p given = sign_step s p 0xc0 None >>= λ x. pure (put at x given)
+sign_placed at s p given = sign_step s p absent_modrm None >>= λ x. pure (put at x given)
 
 abbrev pub no_operands : Operands
 no_operands = record { slots = slots.Nothing ∷ slots.Nothing ∷ slots.Nothing ∷ slots.Nothing ∷ []; operands = operands.Nothing ∷ operands.Nothing ∷ operands.Nothing ∷ operands.Nothing ∷ []; count = 0; mem_size = 0 }
@@ -252,7 +252,7 @@ rm_pair w p m memory = rm_operand (class_of w p) p m memory
 
 -- the register of reg
 abbrev pub reg_pair : Width → Prefixes → ℕ → Slot × Operand
-reg_pair width.Mm p m = (slots.Reg, operands.Register (record { num = middle_field m; class = class.MM }))
+reg_pair width.Mm p m = (slots.Reg, operands.Register (record { num = reg_field m; class = class.MM }))
 reg_pair w p m = (slots.Reg, operands.Register (register_of (class_of w p) p (reg_number m p)))
 
 -- the register of the opcode byte, or register 0

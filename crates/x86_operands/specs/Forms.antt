@@ -25,7 +25,8 @@ use Rattle.x86_operands.specs.declared.plans.ModrmUse.{ModrmUse}
 use Rattle.x86_operands.specs.declared.plans.ModrmUse.TheVariants.{Absent, Fields}
 use Rattle.x86_operands.specs.declared.plans.Plan.{Plan}
 use Rattle.x86_fields.specs.Sizes.{v, vq, vd, dq}
-use Rattle.x86_operands.specs.Plans.{RowRecord, reads, refuses, refused, memory_only, register_only, is_memory, size_by, reg_number, register_at, accumulator_of, immediate_of}
+use Rattle.x86_fields.specs.ModRM.{is_memory}
+use Rattle.x86_operands.specs.Plans.{RowRecord, reads, refuses, refused, memory_only, register_only, size_by, reg_number, register_at, accumulator_of, immediate_of}
 use Rattle.x86_operands.specs.FormSizes.{pointer_class, whole_immediate, push_immediate, address_sign, widening, doubling, nothing_size, call_size, return_size, port_size, far_class, far_size, duplicate_size, stream_size, scalar_size, extend_size, is_half_load, extract_size, insert_size, unpack_size}
 
 -- ---- signs of these forms

@@ -6,8 +6,8 @@ ghost use Rattle.x86_operands.specs.Asks.{encoding_ask, immediates_width, used, 
 
 use crate::encodings::Encoding;
 use crate::order::Place;
-use crate::plans::{Fault, ModrmUse, Plan, Sign, Signs, Verdict, memory_form};
-use x86_fields::Prefixes;
+use crate::plans::{Fault, ModrmUse, Plan, Sign, Signs, Verdict};
+use x86_fields::{ModRM, Prefixes};
 
 /// Which parts of an encoding a row asks behind its opcode byte. Whether there is a SIB, and how long the
 /// displacement of a memory form is, ModRM and SIB tell (Intel SDM volume 2, section 2.1.5).
@@ -30,7 +30,7 @@ pub struct RecordAt {
     pub at_opcode: Option<Fault>,
     pub usage: ModrmUse,
     /// ModRM as the row uses it.
-    pub modrm: u8,
+    pub modrm: ModRM,
     pub plan: Plan,
 }
 
@@ -60,33 +60,33 @@ fn width_of_all(signs: Signs) -> u8
 }
 
 /// A ModRM byte as a row uses it.
-pub fn used_modrm(usage: ModrmUse, modrm: u8) -> u8
+pub fn used_modrm(usage: ModrmUse, modrm: ModRM) -> ModRM
     ensures { result ≡ used usage modrm }
 {
     match usage {
-        ModrmUse::Absent => 0xc0,
+        ModrmUse::Absent => ModRM::absent(),
         ModrmUse::Fields => modrm,
-        ModrmUse::Registers => 0xc0 + modrm % 0x40,
+        ModrmUse::Registers => modrm.as_register(),
     }
 }
 
 /// A ModRM byte as a row uses it, or C0 where there is none.
-pub fn used_or_none(usage: ModrmUse, modrm: Option<u8>) -> u8
+pub fn used_or_none(usage: ModrmUse, modrm: Option<u8>) -> ModRM
     ensures { result ≡ modrm_of usage (option_bytes modrm) }
 {
     match modrm {
-        Some(modrm) => used_modrm(usage, modrm),
-        None => 0xc0,
+        Some(modrm) => used_modrm(usage, ModRM::new(modrm)),
+        None => ModRM::absent(),
     }
 }
 
 /// What a plan asks at a ModRM byte that is used so.
-pub fn plan_ask(usage: ModrmUse, modrm: u8, plan: &Plan) -> Ask
+pub fn plan_ask(usage: ModrmUse, modrm: ModRM, plan: &Plan) -> Ask
     ensures { result ≡ plan_ask usage modrm plan.now }
 {
     Ask {
         modrm: !matches!(usage, ModrmUse::Absent),
-        memory: memory_form(modrm),
+        memory: modrm.is_memory(),
         immediate: width_of_all(plan.signs),
         suffix: matches!(plan.verdict, Verdict::NamedBySuffix),
     }
@@ -94,7 +94,7 @@ pub fn plan_ask(usage: ModrmUse, modrm: u8, plan: &Plan) -> Ask
 
 /// What a line of the operand encodings asks at a ModRM byte that is used so.
 #[inline(always)]
-pub fn encoding_ask(encoding: &Encoding, prefixes: &Prefixes, modrm: u8) -> Ask
+pub fn encoding_ask(encoding: &Encoding, prefixes: &Prefixes, modrm: ModRM) -> Ask
     ensures { result ≡ encoding_ask encoding.now prefixes.now modrm }
 {
     let immediate = match encoding.order.last {
@@ -103,7 +103,7 @@ pub fn encoding_ask(encoding: &Encoding, prefixes: &Prefixes, modrm: u8) -> Ask
     };
     Ask {
         modrm: !matches!(encoding.modrm_use(), ModrmUse::Absent),
-        memory: memory_form(modrm),
+        memory: modrm.is_memory(),
         immediate,
         suffix: false,
     }

@@ -9,10 +9,10 @@ use crate::form_sizes::{
 };
 use crate::order::{Order, Place};
 use crate::plans::{
-    ModrmUse, Plan, RegisterSlot, Sign, Signs, accumulator, immediate, memory_form, memory_only,
-    reads, register_at, register_only,
+    ModrmUse, Plan, RegisterSlot, Sign, Signs, accumulator, immediate, memory_only, reads,
+    register_at, register_only,
 };
-use x86_fields::Prefixes;
+use x86_fields::{ModRM, Prefixes};
 use x86_opcodes::Opcode;
 use x86_regs::{RegSpec, RegisterClass};
 
@@ -285,14 +285,14 @@ impl Behind {
 
     /// Whether a row accepts at this ModRM byte; one that isn't there reads as C0.
     #[inline(always)]
-    pub fn allows(self, modrm: u8) -> bool
+    pub fn allows(self, modrm: ModRM) -> bool
         ensures { result ≡ allowed self modrm }
     {
         match self {
             Behind::Fields => true,
-            Behind::Memory => memory_form(modrm),
+            Behind::Memory => modrm.is_memory(),
             Behind::ByReg(_) | Behind::Peculiar(_) | Behind::Group => false,
-            _ => !memory_form(modrm),
+            _ => !modrm.is_memory(),
         }
     }
 }
@@ -300,10 +300,10 @@ impl Behind {
 impl Encoding {
     /// The memory size at a ModRM byte.
     #[inline(always)]
-    pub fn size_at(&self, modrm: u8) -> Size
+    pub fn size_at(&self, modrm: ModRM) -> Size
         ensures { result ≡ size_at self.now modrm }
     {
-        if memory_form(modrm) {
+        if modrm.is_memory() {
             self.in_memory
         } else {
             self.in_register
@@ -323,7 +323,7 @@ impl Encoding {
     }
 
     /// The plan of a form with this encoding, whose opcode byte carries `num`.
-    pub fn plan(&self, opcode: Opcode, num: u8, prefixes: &Prefixes, modrm: u8) -> Plan
+    pub fn plan(&self, opcode: Opcode, num: u8, prefixes: &Prefixes, modrm: ModRM) -> Plan
         requires { num < 8 }
         ensures { result ≡ plan_of self.now num opcode prefixes.now modrm }
     {

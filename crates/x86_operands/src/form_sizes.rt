@@ -5,7 +5,7 @@ ghost use Rattle.x86_operands.specs.Forms.{size_v, or_v};
 ghost use Rattle.x86_operands.specs.FormSizes.{pointer_class, whole_immediate, push_immediate, address_sign, widening, doubling, nothing_size, call_size, return_size, port_size, is_far_load, far_class, far_size, duplicate_size, stream_size, scalar_size, extend_size, is_half_load, extract_size, insert_size, unpack_size};
 
 use crate::plans::{Sign, size_by};
-use x86_fields::Prefixes;
+use x86_fields::{ModRM, Prefixes};
 use x86_opcodes::Opcode;
 use x86_regs::RegisterClass;
 
@@ -28,7 +28,7 @@ pub fn v_size(prefixes: &Prefixes) -> u8
 }
 
 /// The size in the memory form, and that of v in the register form.
-pub fn or_v(memory: u8, prefixes: &Prefixes, modrm: u8) -> u8
+pub fn or_v(memory: u8, prefixes: &Prefixes, modrm: ModRM) -> u8
     ensures { result ≡ or_v memory prefixes.now modrm }
 {
     size_by(modrm, memory, v_size(prefixes))

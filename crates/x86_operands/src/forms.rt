@@ -16,7 +16,7 @@ use crate::placing::Operands;
 use crate::plans::{ModrmUse, Plan};
 use crate::reader::{Reading, place_plan, read_modrm, read_plan};
 use x86_arch::Reader;
-use x86_fields::{DecodeError, Prefixes};
+use x86_fields::{DecodeError, ModRM, Prefixes};
 use x86_forms::{Form, TableRow};
 use x86_opcodes::Opcode;
 
@@ -27,7 +27,7 @@ fn modrm_use(form: Form) -> ModrmUse
 }
 
 /// The plan of a form that is no group.
-pub fn form_plan(form: Form, opcode: Opcode, prefixes: &Prefixes, modrm: u8) -> Plan
+pub fn form_plan(form: Form, opcode: Opcode, prefixes: &Prefixes, modrm: ModRM) -> Plan
     requires { IsForm form }
     ensures { result ≡ form_plan form opcode prefixes.now modrm }
 {
@@ -90,7 +90,7 @@ pub fn form_ask(row: TableRow, prefixes: Prefixes, modrm: u8) -> Ask
 {
     let encoding = encoding_of(row.form);
     let usage = encoding.modrm_use();
-    let modrm = used_modrm(usage, modrm);
+    let modrm = used_modrm(usage, ModRM::new(modrm));
     if encoding.behind.is_row() {
         encoding_ask(encoding, &prefixes, modrm)
     } else {

@@ -13,10 +13,10 @@ use crate::form_sizes::{
 use crate::plans::Sign::{E, Fixed, G, I8, M, Pointer, U8, Umm, X16};
 use crate::plans::Signs::{One, Three, Two, Zero};
 use crate::plans::{
-    Fault, Mark, Moment, Plan, PointerSlot, RegisterSlot, Sign, accumulator, memory_form,
-    memory_only, reads, refused, refuses, reg_number, register_at,
+    Fault, Mark, Moment, Plan, PointerSlot, RegisterSlot, Sign, accumulator, memory_only, reads,
+    refused, refuses, reg_number, register_at,
 };
-use x86_fields::Prefixes;
+use x86_fields::{ModRM, Prefixes};
 use x86_forms::Form;
 use x86_opcodes::Opcode;
 use x86_regs::RegSpec;
@@ -149,7 +149,7 @@ fn size_by_w(prefixes: &Prefixes) -> u8
 }
 
 /// Accumulators with ports and absolute addresses, and strings.
-fn string_plan(form: Form, opcode: Opcode, prefixes: &Prefixes, modrm: u8) -> Plan
+fn string_plan(form: Form, opcode: Opcode, prefixes: &Prefixes, modrm: ModRM) -> Plan
     ensures { result ≡ string_plan form opcode prefixes.now modrm }
 {
     let v = prefixes.v_class();
@@ -184,7 +184,7 @@ fn string_plan(form: Form, opcode: Opcode, prefixes: &Prefixes, modrm: u8) -> Pl
 }
 
 /// The plan of a form that no row describes.
-pub fn peculiar_plan(form: Form, opcode: Opcode, prefixes: &Prefixes, modrm: u8) -> Plan
+pub fn peculiar_plan(form: Form, opcode: Opcode, prefixes: &Prefixes, modrm: ModRM) -> Plan
     requires { IsForm form }
     ensures { result ≡ peculiar_plan form opcode prefixes.now modrm }
 {
@@ -221,7 +221,7 @@ pub fn peculiar_plan(form: Form, opcode: Opcode, prefixes: &Prefixes, modrm: u8)
         }
         Form::PMOVX_G_E_xmm => {
             let size = or_v(extend_size(opcode), prefixes, modrm);
-            let refuses = is_half_load(opcode) && !memory_form(modrm);
+            let refuses = is_half_load(opcode) && !modrm.is_memory();
             let plan = reads(opcode, Two(G(X), E(X)), size);
             refused(refuses, Fault::BadOperand, Moment::AtModRM, plan)
         }
@@ -240,7 +240,7 @@ pub fn peculiar_plan(form: Form, opcode: Opcode, prefixes: &Prefixes, modrm: u8)
         }
         Form::Rv_Gmm_Ib => {
             let plan = reads(opcode, Three(G(D), Umm, U8), v_size(prefixes));
-            let refuses = memory_form(modrm);
+            let refuses = modrm.is_memory();
             refused(refuses, Fault::BadOperand, Moment::AfterSuffix, plan)
         }
         _ => string_plan(form, opcode, prefixes, modrm),

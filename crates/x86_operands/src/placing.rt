@@ -12,12 +12,12 @@ ghost use Rattle.x86_operands.specs.Encodings.{rm_placed, reg_pair, fixed_pair, 
 use crate::encodings::{Behind, Encoding, Last, Width};
 use crate::operands::{Operand, Slot};
 use crate::order::Place;
-use crate::plans::{
-    PointerSlot, RegisterSlot, Sign, memory_form, reg_number, register_at, rm_number,
-};
+use crate::plans::{PointerSlot, RegisterSlot, Sign, reg_number, register_at, rm_number};
 use crate::shapes::shape;
 use x86_arch::Reader;
-use x86_fields::{DecodeError, Prefixes, Raw, read_raw, read_u8, read_u16, read_u32, read_u64};
+use x86_fields::{
+    DecodeError, ModRM, Prefixes, Raw, read_raw, read_u8, read_u16, read_u32, read_u64,
+};
 use x86_opcodes::Opcode;
 use x86_regs::{RegSpec, RegisterClass};
 
@@ -145,7 +145,7 @@ impl Operands {
         words: &mut T,
         sign: Sign,
         prefixes: &Prefixes,
-        modrm: u8,
+        modrm: ModRM,
         memory: Option<Raw>,
     ) -> Result<(), DecodeError>
         requires { at < 4 }
@@ -164,8 +164,8 @@ impl Operands {
                 let reg = prefixes.register(RegisterClass::Q, rm_number(modrm, prefixes));
                 self.put_rm(at, memory, reg);
             }
-            Sign::Gmm => self.put_register(at, Slot::Reg, RegSpec::mm(modrm / 8 % 8)),
-            Sign::Emm | Sign::Umm => self.put_rm(at, memory, RegSpec::mm(modrm % 8)),
+            Sign::Gmm => self.put_register(at, Slot::Reg, RegSpec::mm(modrm.reg_field())),
+            Sign::Emm | Sign::Umm => self.put_rm(at, memory, RegSpec::mm(modrm.rm_field())),
             Sign::Fixed(slot, reg) => self.put_register(at, register_slot(slot), reg),
             Sign::Pointer(slot, base) => {
                 self.put(at, pointer_slot(slot), Operand::MemDeref { base });
@@ -216,7 +216,14 @@ impl Operands {
         requires { at ≢ Nowhere }
         ensures { outcome (held result self.new) (T.state words.new) ≡ sign_placed at (last_sign last prefixes.now) prefixes.now self.old (T.state words.old) }
     {
-        self.put_sign(at.index(), words, last.sign(prefixes), prefixes, 0xc0, None)
+        self.put_sign(
+            at.index(),
+            words,
+            last.sign(prefixes),
+            prefixes,
+            ModRM::absent(),
+            None,
+        )
     }
 
     /// The operand of rm.
@@ -228,19 +235,19 @@ impl Operands {
         words: &mut T,
         width: Width,
         prefixes: &Prefixes,
-        modrm: u8,
+        modrm: ModRM,
     ) -> Result<(), DecodeError>
         requires { at ≢ Nowhere }
         ensures { outcome (held result self.new) (T.state words.new) ≡ rm_placed at width prefixes.now modrm self.old (T.state words.old) }
     {
-        if memory_form(modrm) {
-            let raw = read_raw(words, prefixes, modrm)?;
+        if modrm.is_memory() {
+            let raw = read_raw(words, prefixes, modrm.byte())?;
             let (slot, operand) = shape(&raw);
             self.put_in(at, slot, operand);
             return Ok(());
         }
         let reg = match width {
-            Width::Mm => RegSpec::mm(modrm % 8),
+            Width::Mm => RegSpec::mm(modrm.rm_field()),
             w => prefixes.register(w.class(prefixes), rm_number(modrm, prefixes)),
         };
         self.put_in(at, Slot::Rm, Operand::Register { reg });
@@ -249,14 +256,14 @@ impl Operands {
 
     /// The register of reg, if it is an operand.
     #[inline(always)]
-    fn place_reg(&mut self, at: Place, width: Width, prefixes: &Prefixes, modrm: u8)
+    fn place_reg(&mut self, at: Place, width: Width, prefixes: &Prefixes, modrm: ModRM)
         ensures { self.new ≡ put at (reg_pair width prefixes.now modrm) self.old }
     {
         match at {
             Place::Nowhere => {}
             at => {
                 let reg = match width {
-                    Width::Mm => RegSpec::mm(modrm / 8 % 8),
+                    Width::Mm => RegSpec::mm(modrm.reg_field()),
                     w => prefixes.register(w.class(prefixes), reg_number(modrm, prefixes)),
                 };
                 self.put_in(at, Slot::Reg, Operand::Register { reg });
@@ -291,7 +298,7 @@ impl Operands {
         encoding: &Encoding,
         num: u8,
         prefixes: &Prefixes,
-        modrm: u8,
+        modrm: ModRM,
     ) -> Result<(), DecodeError>
         requires { num < 8 }
         ensures { outcome (held result self.new) (T.state words.new) ≡ front_placed encoding.now num prefixes.now modrm self.old (T.state words.old) }
@@ -329,7 +336,7 @@ impl Operands {
         opcode: Opcode,
         num: u8,
         prefixes: &Prefixes,
-        modrm: u8,
+        modrm: ModRM,
     ) -> Result<(), DecodeError>
         requires blank { self.old ≡ no_operands }
         requires small { num < 8 }

@@ -1,8 +1,8 @@
 //! What the rows' records ask: their vocabulary.
 ghost use Rattle.std.specs.Prelude.{◌≡◌, ◌<◌, ℕ};
-ghost use Rattle.x86_operands.specs.Plans.{is_memory, with_verdict, reads, named_by_suffix, refused, refuses, memory_only, register_only, size_by, reg_number, rm_number, register_at, accumulator_of, immediate_of};
+ghost use Rattle.x86_operands.specs.Plans.{with_verdict, reads, named_by_suffix, refused, refuses, memory_only, register_only, size_by, reg_number, rm_number, register_at, accumulator_of, immediate_of};
 
-use x86_fields::{Prefixes, extend};
+use x86_fields::{ModRM, Prefixes, extend};
 use x86_opcodes::Opcode;
 use x86_regs::{RegSpec, RegisterClass};
 
@@ -147,13 +147,6 @@ pub struct Plan {
     pub verdict: Verdict,
 }
 
-/// Whether the ModRM byte is a memory form.
-pub fn memory_form(modrm: u8) -> bool
-    ensures { result ≡ is_memory modrm }
-{
-    modrm < 0xc0
-}
-
 fn with_verdict(verdict: Verdict, opcode: Opcode, signs: Signs, size: u8) -> Plan
     ensures { result ≡ with_verdict verdict opcode signs size }
 {
@@ -207,42 +200,42 @@ pub fn refused(test: bool, fault: Fault, moment: Moment, plan: Plan) -> Plan
 }
 
 /// The plan, for which a register form is refused at ModRM.
-pub fn memory_only(modrm: u8, plan: Plan) -> Plan
+pub fn memory_only(modrm: ModRM, plan: Plan) -> Plan
     ensures { result ≡ memory_only modrm plan }
 {
-    let register = !memory_form(modrm);
+    let register = !modrm.is_memory();
     refused(register, Fault::BadOperand, Moment::AtModRM, plan)
 }
 
 /// The plan, for which a memory form is refused behind the address.
-pub fn register_only(modrm: u8, plan: Plan) -> Plan
+pub fn register_only(modrm: ModRM, plan: Plan) -> Plan
     ensures { result ≡ register_only modrm plan }
 {
-    let memory = memory_form(modrm);
+    let memory = modrm.is_memory();
     refused(memory, Fault::BadOperand, Moment::AfterAddress, plan)
 }
 
 /// The size in the memory form, or in the register form.
-pub fn size_by(modrm: u8, memory: u8, register: u8) -> u8
+pub fn size_by(modrm: ModRM, memory: u8, register: u8) -> u8
     ensures { result ≡ size_by modrm memory register }
 {
-    if memory_form(modrm) { memory } else { register }
+    if modrm.is_memory() { memory } else { register }
 }
 
 /// The number of reg, with R.
-pub fn reg_number(modrm: u8, prefixes: &Prefixes) -> u8
+pub fn reg_number(modrm: ModRM, prefixes: &Prefixes) -> u8
     ensures value { result ≡ reg_number modrm prefixes.now }
     ensures small { result < 16 }
 {
-    extend(prefixes.has_r(), modrm / 8 % 8)
+    extend(prefixes.has_r(), modrm.reg_field())
 }
 
 /// The number of rm, with B.
-pub fn rm_number(modrm: u8, prefixes: &Prefixes) -> u8
+pub fn rm_number(modrm: ModRM, prefixes: &Prefixes) -> u8
     ensures value { result ≡ rm_number modrm prefixes.now }
     ensures small { result < 16 }
 {
-    extend(prefixes.has_b(), modrm % 8)
+    extend(prefixes.has_b(), modrm.rm_field())
 }
 
 /// The register that an opcode byte carries, with B.

@@ -10,9 +10,9 @@ ghost use Rattle.x86_operands.specs.Signs.{given_step, error_of, refusal_step, o
 use crate::asks::used_modrm;
 use crate::operands::{Operand, Slot};
 use crate::placing::Operands;
-use crate::plans::{Fault, Mark, ModrmUse, Moment, Plan, Sign, Signs, Verdict, memory_form};
+use crate::plans::{Fault, Mark, ModrmUse, Moment, Plan, Sign, Signs, Verdict};
 use x86_arch::Reader;
-use x86_fields::{DecodeError, Prefixes, Raw, next_byte, read_raw};
+use x86_fields::{DecodeError, ModRM, Prefixes, Raw, next_byte, read_raw};
 use x86_opcodes::Opcode;
 
 /// What was read behind an opcode byte.
@@ -116,12 +116,12 @@ fn read_opcode<T: Reader<u64, u8>>(
 fn read_memory<T: Reader<u64, u8>>(
     words: &mut T,
     prefixes: &Prefixes,
-    modrm: u8,
+    modrm: ModRM,
 ) -> Result<Option<Raw>, DecodeError>
     ensures { outcome result (T.state words.new) ≡ memory_step prefixes.now modrm (T.state words.old) }
 {
-    if memory_form(modrm) {
-        let raw = read_raw(words, prefixes, modrm)?;
+    if modrm.is_memory() {
+        let raw = read_raw(words, prefixes, modrm.byte())?;
         Ok(Some(raw))
     } else {
         Ok(None)
@@ -147,7 +147,7 @@ impl Operands {
         words: &mut T,
         sign: Sign,
         prefixes: &Prefixes,
-        modrm: u8,
+        modrm: ModRM,
         memory: Option<Raw>,
     ) -> Result<(), DecodeError>
         requires { at < 4 }
@@ -163,7 +163,7 @@ impl Operands {
         words: &mut T,
         signs: Signs,
         prefixes: &Prefixes,
-        modrm: u8,
+        modrm: ModRM,
         memory: Option<Raw>,
     ) -> Result<(), DecodeError>
         requires { self.old ≡ no_operands }
@@ -202,7 +202,7 @@ impl Operands {
 pub fn place_plan<T: Reader<u64, u8>>(
     words: &mut T,
     plan: &Plan,
-    modrm: u8,
+    modrm: ModRM,
     prefixes: &mut Prefixes,
     opcode: &mut Opcode,
     given: &mut Operands,
@@ -222,14 +222,14 @@ pub fn place_plan<T: Reader<u64, u8>>(
 }
 
 /// The ModRM byte as a row uses it.
-pub fn read_modrm<T: Reader<u64, u8>>(words: &mut T, modrm: ModrmUse) -> Result<u8, DecodeError>
+pub fn read_modrm<T: Reader<u64, u8>>(words: &mut T, modrm: ModrmUse) -> Result<ModRM, DecodeError>
     ensures { outcome result (T.state words.new) ≡ modrm_step modrm (T.state words.old) }
 {
     match modrm {
-        ModrmUse::Absent => Ok(0xc0),
+        ModrmUse::Absent => Ok(ModRM::absent()),
         _ => {
             let byte = next_byte(words)?;
-            Ok(used_modrm(modrm, byte))
+            Ok(used_modrm(modrm, ModRM::new(byte)))
         }
     }
 }
@@ -239,7 +239,7 @@ pub fn read_plan<T: Reader<u64, u8>>(
     words: &mut T,
     plan: &Plan,
     prefixes: Prefixes,
-    modrm: u8,
+    modrm: ModRM,
 ) -> Result<Reading, DecodeError>
     ensures { outcome result (T.state words.new) ≡ plan_step plan.now prefixes modrm (T.state words.old) }
 {

@@ -4,11 +4,12 @@ use Rattle.std.specs.List.{prefix_len}
 use Rattle.x86_fields.specs.declared.Prefixes.{Prefixes}
 use Rattle.x86_fields.specs.declared.Raw.{Raw}
 use Rattle.x86_fields.specs.Run.{is_prefix_byte, reading_of}
-use Rattle.x86_fields.specs.Raw.{low_field, disp_width}
+use Rattle.x86_fields.specs.ModRM.{rm_field, is_memory}
+use Rattle.x86_fields.specs.Raw.{disp_width}
 use Rattle.x86_fields.specs.Pieces.{option_bytes, first_byte}
 use Rattle.x86_operands.specs.declared.asks.Ask.{Ask}
 use Rattle.x86_operands.specs.declared.reader.Reading.{Reading}
-use Rattle.x86_operands.specs.Plans.{RowRecord, is_memory}
+use Rattle.x86_operands.specs.Plans.{RowRecord}
 use Rattle.x86_operands.specs.Pieces.{modrm_of, SpellsMemory, SpellsRow}
 use Rattle.x86_operands.specs.Asks.{used, ask_of}
 use Rattle.x86_decode.specs.Head.{escape_bytes, seen}
@@ -39,7 +40,7 @@ address_parts p m address None h = record {
   sib = [];
   disp = [];
   spelled = h.1;
-  sib_long = subst (λ t. 0 ≡ one_if (t && low_field m == 4)) (sym h.0) refl;
+  sib_long = subst (λ t. 0 ≡ one_if (t && rm_field m == 4)) (sym h.0) refl;
   disp_long = subst (λ t. 0 ≡ (if t then disp_width m None else 0)) (sym h.0) refl;
 }
 address_parts p m address (Some raw) h =
@@ -48,7 +49,7 @@ address_parts p m address (Some raw) h =
       sib = option_bytes s.sib;
       disp = s.disp;
       spelled = s.spelled;
-      sib_long = option_count s.sib ∙ ap one_if s.sib_asked ∙ subst (λ t. one_if (low_field m == 4) ≡ one_if (t && low_field m == 4)) (sym h.0) refl;
+      sib_long = option_count s.sib ∙ ap one_if s.sib_asked ∙ subst (λ t. one_if (rm_field m == 4) ≡ one_if (t && rm_field m == 4)) (sym h.0) refl;
       disp_long = s.disp_asked ∙ ap (disp_width m) (sym (first_of s.sib)) ∙ subst (λ t. disp_width m (first_byte (option_bytes s.sib)) ≡ (if t then disp_width m (first_byte (option_bytes s.sib)) else 0)) (sym h.0) refl;
     }
 

@@ -1,7 +1,8 @@
 -- The parts of an accepted encoding have lengths that fields can hold.
 use Rattle.std.proofs.Common.{◌≡◌, ℕ, ◌+◌, ◌≤◌, ◌==◌, Bool, true, false, if◌then◌else◌, List, ◌∷◌, ◌++◌, length, Option, sym, ap, ◌∙◌, arith, length-append}
 use Rattle.x86_fields.specs.declared.Prefixes.{Prefixes}
-use Rattle.x86_fields.specs.Raw.{high_field, names_no_base, disp_width}
+use Rattle.x86_fields.specs.ModRM.{mod_field, is_memory}
+use Rattle.x86_fields.specs.Raw.{names_no_base, disp_width}
 use Rattle.x86_fields.specs.Run.{reading_of}
 use Rattle.x86_fields.specs.Pieces.{first_byte}
 use Rattle.x86_forms.specs.declared.Map.{Map}
@@ -13,7 +14,6 @@ use Rattle.x86_operands.specs.declared.plans.Verdict.TheVariants.{Accepts, Named
 use Rattle.x86_operands.specs.declared.plans.ModrmUse.{ModrmUse}
 use Rattle.x86_operands.specs.declared.plans.ModrmUse.TheVariants.{Absent, Fields, Registers}
 use Rattle.x86_operands.specs.declared.reader.Reading.{Reading}
-use Rattle.x86_operands.specs.Plans.{is_memory}
 use Rattle.x86_operands.specs.Pieces.{modrm_of, modrm_width, suffix_width}
 use Rattle.x86_operands.specs.Asks.{immediates_width}
 use Rattle.x86_operands.specs.Forms.{form_record}
@@ -38,8 +38,8 @@ either false m n k h g = g
 
 disp_small : (m : ℕ) (sib : Option ℕ) → disp_width m sib ≤ 4
 disp_small m sib =
-    either (high_field m == 1) 1 _ 4 (omega arith)
-    (either (high_field m == 2) 4 _ 4 (omega arith) (either (names_no_base m sib) 4 0 4 (omega arith) (omega arith)))
+    either (mod_field m == 1) 1 _ 4 (omega arith)
+    (either (mod_field m == 2) 4 _ 4 (omega arith) (either (names_no_base m sib) 4 0 4 (omega arith) (omega arith)))
 
 escape_small : (m : Map) → length (escape_bytes m) ≤ 2
 escape_small One = omega arith

@@ -5,7 +5,7 @@ use Rattle.std.specs.Int.{from_bool}
 use Rattle.std.proofs.Math.Seq.{take-append_seam, drop-append_seam}
 use Rattle.std.proofs.lemmas.Bool.Decides.{nat_tests}
 use Rattle.x86_fields.specs.Run.{is_prefix_byte}
-use Rattle.x86_fields.specs.Raw.{low_field}
+use Rattle.x86_fields.specs.ModRM.{rm_field, is_memory, as_register}
 use Rattle.x86_fields.specs.Pieces.{option_bytes, total}
 use Rattle.x86_fields.specs.declared.Prefixes.{Prefixes}
 use Rattle.x86_fields.specs.declared.Raw.{Raw}
@@ -18,7 +18,7 @@ use Rattle.x86_operands.specs.declared.plans.Verdict.{Verdict}
 use Rattle.x86_operands.specs.declared.plans.Verdict.TheVariants.{Accepts, NamedBySuffix, Refuses}
 use Rattle.x86_operands.specs.declared.plans.ModrmUse.{ModrmUse}
 use Rattle.x86_operands.specs.declared.plans.ModrmUse.TheVariants.{Absent, Fields, Registers}
-use Rattle.x86_operands.specs.Plans.{RowRecord, is_memory}
+use Rattle.x86_operands.specs.Plans.{RowRecord}
 use Rattle.x86_operands.specs.Pieces.{immediate_width, modrm_of, modrm_width, suffix_width, SpellsSigns, SpellsMemory, SpellsRow}
 use Rattle.x86_operands.specs.Asks.{asks_modrm, asks_suffix, immediates_width, used, ask_of}
 use Rattle.x86_decode.specs.Head.{is_run, escape_bytes, is_vex, is_opcode}
@@ -157,7 +157,7 @@ used_is Absent modrm more tail e h = refl
 used_is Fields [] more tail e h = absurd (omega arith)
 used_is Fields (m ∷ rest) more tail e h = sym (ap (λ l. slice_index l 0) e)
 used_is Registers [] more tail e h = absurd (omega arith)
-used_is Registers (m ∷ rest) more tail e h = sym (ap (λ l. 0xc0 + slice_index l 0 % 0x40) e)
+used_is Registers (m ∷ rest) more tail e h = sym (ap (λ l. as_register (slice_index l 0)) e)
 
 pub modrm_long : (u : ModrmUse) (modrm : List ℕ) → length modrm ≡ modrm_width u → one_if (asks_modrm u) ≡ length modrm
 modrm_long Absent modrm e = sym e
@@ -178,19 +178,19 @@ suffix_long (Refuses fault moment) suffix e = sym e
 -- ---- SIB
 
 -- in a memory form that is read as such, the byte is as it stands
-sib_by : (memory : Bool) (used raw : ℕ) → (memory ≡ true → used ≡ raw) → (memory && low_field raw == 4) ≡ (memory && low_field used == 4)
-sib_by true used raw h = ap (λ m. low_field m == 4) (sym (h refl))
+sib_by : (memory : Bool) (used raw : ℕ) → (memory ≡ true → used ≡ raw) → (memory && rm_field raw == 4) ≡ (memory && rm_field used == 4)
+sib_by true used raw h = ap (λ m. rm_field m == 4) (sym (h refl))
 sib_by false used raw h = refl
 
-large : (n : ℕ) → is_memory (0xc0 + n) ≡ false
-large n = grind (arith, nat_tests)
+large : (m : ℕ) → is_memory (as_register m) ≡ false
+large m = grind (arith, nat_tests)
 
 pub as_it_stands : (u : ModrmUse) (m : ℕ) → is_memory (used u m) ≡ true → used u m ≡ m
 as_it_stands Absent m e = absurd (let h : false ≡ true = e in cc)
 as_it_stands Fields m e = refl
-as_it_stands Registers m e = absurd (let h : false ≡ true = sym (large (m % 0x40)) ∙ e in cc)
+as_it_stands Registers m e = absurd (let h : false ≡ true = sym (large m) ∙ e in cc)
 
-pub sib_asked : (u : ModrmUse) (m : ℕ) → one_if (is_memory (used u m) && low_field m == 4) ≡ sib_width (used u m)
+pub sib_asked : (u : ModrmUse) (m : ℕ) → one_if (is_memory (used u m) && rm_field m == 4) ≡ sib_width (used u m)
 sib_asked u m = ap one_if (sib_by (is_memory (used u m)) (used u m) m (as_it_stands u m))
 
 option_long : (sib : Option ℕ) (disp : List ℕ) → one_if (is_some sib) ≤ length (option_bytes sib ++ disp)
@@ -202,11 +202,11 @@ width_by true four n h = h
 width_by false four n h = omega arith
 
 pub sib_within : (p : Prefixes) (m : ℕ) (address : List ℕ) (memory : Option Raw) → SpellsMemory p m address memory → sib_width m ≤ length address
-sib_within p m address None h = subst (λ t. one_if (t && low_field m == 4) ≤ length address) (sym h.0) (omega arith)
+sib_within p m address None h = subst (λ t. one_if (t && rm_field m == 4) ≤ length address) (sym h.0) (omega arith)
 sib_within p m address (Some raw) h =
     let s = h.1 in
     let long : one_if (is_some s.sib) ≤ length address = subst (λ l. one_if (is_some s.sib) ≤ length l) (sym s.spelled) (option_long s.sib s.disp) in
-    width_by (is_memory m) (low_field m == 4) (length address) (subst (λ t. one_if t ≤ length address) s.sib_asked long)
+    width_by (is_memory m) (rm_field m == 4) (length address) (subst (λ t. one_if t ≤ length address) s.sib_asked long)
 
 -- ---- the counts that an ask tells
 

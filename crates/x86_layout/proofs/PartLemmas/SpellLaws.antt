@@ -5,7 +5,8 @@ use Rattle.std.proofs.lemmas.Bool.{and_parts}
 use Rattle.std.proofs.lemmas.Bool.Decides.{nat_tests}
 use Rattle.x86_fields.specs.declared.Prefixes.{Prefixes}
 use Rattle.x86_fields.specs.declared.Raw.{Raw}
-use Rattle.x86_fields.specs.Raw.{low_field, disp_width, rex_b, rex_x}
+use Rattle.x86_fields.specs.ModRM.{rm_field, is_memory}
+use Rattle.x86_fields.specs.Raw.{disp_width, rex_b, rex_x}
 use Rattle.x86_fields.specs.Pieces.{option_bytes, first_byte, signed_by, total}
 use Rattle.x86_operands.specs.declared.operands.Slot.{Slot}
 use Rattle.x86_operands.specs.declared.operands.Operand.{Operand}
@@ -15,7 +16,7 @@ use Rattle.x86_operands.specs.declared.plans.Verdict.TheVariants.{Accepts, Named
 use Rattle.x86_operands.specs.declared.plans.ModrmUse.{ModrmUse}
 use Rattle.x86_operands.specs.declared.plans.ModrmUse.TheVariants.{Absent, Fields, Registers}
 use Rattle.x86_operands.specs.declared.reader.Reading.{Reading}
-use Rattle.x86_operands.specs.Plans.{RowRecord, is_memory, list_of}
+use Rattle.x86_operands.specs.Plans.{RowRecord, list_of}
 use Rattle.x86_operands.specs.Pieces.{immediate_width, sign_gives, modrm_of, modrm_width, suffix_width, opcode_by, is_refusal, SpellsSigns, SpellsMemory, SpellsRow}
 use Rattle.x86_operands.specs.Signs.{four_of, reading_from}
 use Rattle.x86_operands.specs.Suffix.{opcode_of_suffix}
@@ -90,10 +91,10 @@ none_left (Some b) disp e h = absurd (let k : 1 ≡ 0 = e in omega (arith, k))
 spell_memory : (p : Prefixes) (m : ℕ) (sib : Option ℕ) (disp : List ℕ) → one_if (is_some sib) ≡ sib_width m → length disp ≡ displacement_asked m sib → (memory : Option Raw) × SpellsMemory p m (option_bytes sib ++ disp) memory
 spell_memory p m sib disp e h = by (is_memory m) refl e h
   where
-    by : (t : Bool) → is_memory m ≡ t → one_if (is_some sib) ≡ one_if (t && low_field m == 4) → length disp ≡ (if t then disp_width m sib else 0) → (memory : Option Raw) × SpellsMemory p m (option_bytes sib ++ disp) memory
+    by : (t : Bool) → is_memory m ≡ t → one_if (is_some sib) ≡ one_if (t && rm_field m == 4) → length disp ≡ (if t then disp_width m sib else 0) → (memory : Option Raw) × SpellsMemory p m (option_bytes sib ++ disp) memory
     by true is e h = (
       Some (record { rex_b = rex_b p; rex_x = rex_x p; address_size = p.address_size; modrm = m; sib = sib; disp = signed_by (disp_width m sib) disp }),
-      (is, record { sib = sib; disp = disp; spelled = refl; sib_asked = same_bool (is_some sib) (low_field m == 4) e; disp_asked = h; fields = refl }),
+      (is, record { sib = sib; disp = disp; spelled = refl; sib_asked = same_bool (is_some sib) (rm_field m == 4) e; disp_asked = h; fields = refl }),
     )
     by false is e h = (None, (is, none_left sib disp e h))
 

@@ -8,9 +8,9 @@ use Rattle.std.proofs.lemmas.Nat.{from_le_bytes-to_le_bytes_4}
 use Rattle.x86_fields.specs.declared.Prefixes.{Prefixes}
 use Rattle.x86_fields.specs.declared.PrefixRex.{PrefixRex}
 use Rattle.x86_fields.specs.declared.Raw.{Raw}
-use Rattle.x86_fields.specs.Raw.{high_field, low_field, live_bit, disp_width, names_no_base, sib_fits, is_zero, is_byte, disp_fits, fits, rex_b, rex_x}
+use Rattle.x86_fields.specs.ModRM.{mod_field, rm_field, is_memory}
+use Rattle.x86_fields.specs.Raw.{live_bit, disp_width, names_no_base, sib_fits, is_zero, is_byte, disp_fits, fits, rex_b, rex_x}
 use Rattle.x86_fields.specs.Pieces.{option_bytes, signed_by}
-use Rattle.x86_operands.specs.Plans.{is_memory}
 use Rattle.x86_operands.specs.Pieces.{SpellsMemory}
 use Rattle.x86_decode.proofs.ByteLaws.{Bytes, bytes_behind, memory_fits}
 use Rattle.x86_layout.specs.Tightening.Registers.{IsByteOption}
@@ -43,7 +43,7 @@ spelled_disp_fits width l h = spelled_fits_by (width == 1) (width == 4) l h
 all_three : (a b c : Bool) → a ≡ true → b ≡ true → c ≡ true → (a && (b && c)) ≡ true
 all_three a b c e f g = grind arith
 
-sib_fits_by : (modrm : ℕ) (sib : Option ℕ) → is_some sib ≡ (low_field modrm == 4) → sib_fits modrm sib ≡ true
+sib_fits_by : (modrm : ℕ) (sib : Option ℕ) → is_some sib ≡ (rm_field modrm == 4) → sib_fits modrm sib ≡ true
 sib_fits_by modrm None e = ap not (sym e)
 sib_fits_by modrm (Some sib) e = sym e
 
@@ -58,7 +58,7 @@ of_bytes p m address raw h b =
     let both : Bytes (option_bytes s.sib ++ s.disp) = subst Bytes s.spelled b in
     let disp : Bytes s.disp = bytes_behind (option_bytes s.sib) s.disp both in
     record {
-      fit = ap fits s.fields ∙ all_three (nat_lt m 0xc0) (sib_fits m s.sib) _ h.0 (sib_fits_by m s.sib s.sib_asked) (spelled_disp_fits (disp_width m s.sib) s.disp disp);
+      fit = ap fits s.fields ∙ all_three (is_memory m) (sib_fits m s.sib) _ h.0 (sib_fits_by m s.sib s.sib_asked) (spelled_disp_fits (disp_width m s.sib) s.disp disp);
       sib = subst (λ r. IsByteOption r.sib) (sym s.fields) (front_byte s.sib s.disp both);
       disp = memory_fits p m address (Some raw) raw h refl b;
     }
@@ -106,7 +106,7 @@ signed_back_by false false true d e f = four_back d f
 signed_back_by false false false d e f = zero_back d e
 
 signed_back : (modrm : ℕ) (sib : Option ℕ) (d : ℤ) → disp_fits (disp_width modrm sib) d ≡ true → FitsSigned w32 d → signed_by (disp_width modrm sib) (Lowest (disp_width modrm sib) d) ≡ d
-signed_back modrm sib d e f = signed_back_by (high_field modrm == 1) (high_field modrm == 2) (names_no_base modrm sib) d e f
+signed_back modrm sib d e f = signed_back_by (mod_field modrm == 1) (mod_field modrm == 2) (names_no_base modrm sib) d e f
 
 lowest_long_by : (one two none : Bool) (d : ℤ) → length (Lowest (Width one two none) d) ≡ Width one two none
 lowest_long_by true two none d = refl
@@ -115,29 +115,29 @@ lowest_long_by false false true d = refl
 lowest_long_by false false false d = refl
 
 displacement_long : (raw : Raw) → length (displacement_bytes raw) ≡ disp_width raw.modrm raw.sib
-displacement_long raw = lowest_long_by (high_field raw.modrm == 1) (high_field raw.modrm == 2) (names_no_base raw.modrm raw.sib) raw.disp
+displacement_long raw = lowest_long_by (mod_field raw.modrm == 1) (mod_field raw.modrm == 2) (names_no_base raw.modrm raw.sib) raw.disp
 
-sib_asked : (modrm : ℕ) (sib : Option ℕ) → sib_fits modrm sib ≡ true → is_some sib ≡ (low_field modrm == 4)
-sib_asked modrm None e = turned (low_field modrm == 4) e
+sib_asked : (modrm : ℕ) (sib : Option ℕ) → sib_fits modrm sib ≡ true → is_some sib ≡ (rm_field modrm == 4)
+sib_asked modrm None e = turned (rm_field modrm == 4) e
   where
     turned : (t : Bool) → not t ≡ true → false ≡ t
     turned t h = grind arith
 sib_asked modrm (Some sib) e = sym e
 
 memory_of : (raw : Raw) → IsOfBytes raw → is_memory raw.modrm ≡ true
-memory_of raw h = first_of_three (nat_lt raw.modrm 0xc0) (sib_fits raw.modrm raw.sib) (disp_fits (disp_width raw.modrm raw.sib) raw.disp) h.fit
+memory_of raw h = first_of_three (is_memory raw.modrm) (sib_fits raw.modrm raw.sib) (disp_fits (disp_width raw.modrm raw.sib) raw.disp) h.fit
 
 -- the bytes of raw fields spell them, under prefixes with their bits
 pub respells : (q : Prefixes) (raw : Raw) → IsOfBytes raw → rex_b q ≡ raw.rex_b → rex_x q ≡ raw.rex_x → q.address_size ≡ raw.address_size → SpellsMemory q raw.modrm (address_bytes raw) (Some raw)
 respells q raw h b x short =
     let width : ℕ = disp_width raw.modrm raw.sib in
-    let value = signed_back raw.modrm raw.sib raw.disp (third_of_three (nat_lt raw.modrm 0xc0) (sib_fits raw.modrm raw.sib) (disp_fits width raw.disp) h.fit) h.disp in (
+    let value = signed_back raw.modrm raw.sib raw.disp (third_of_three (is_memory raw.modrm) (sib_fits raw.modrm raw.sib) (disp_fits width raw.disp) h.fit) h.disp in (
       memory_of raw h,
       record {
         sib = raw.sib;
         disp = displacement_bytes raw;
         spelled = refl;
-        sib_asked = sib_asked raw.modrm raw.sib (second_of_three (nat_lt raw.modrm 0xc0) (sib_fits raw.modrm raw.sib) (disp_fits width raw.disp) h.fit);
+        sib_asked = sib_asked raw.modrm raw.sib (second_of_three (is_memory raw.modrm) (sib_fits raw.modrm raw.sib) (disp_fits width raw.disp) h.fit);
         disp_asked = displacement_long raw;
         fields =
             ap (λ t. record raw { rex_b = t }) (sym b)

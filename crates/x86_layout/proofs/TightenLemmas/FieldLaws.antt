@@ -4,16 +4,17 @@ use Rattle.std.proofs.lemmas.Bool.Decides.{nat_tests}
 use Rattle.x86_regs.specs.declared.RegisterClass.{RegisterClass}
 use Rattle.x86_regs.specs.declared.RegisterClass.TheVariants.{D, Q, EIP, RIP}
 use Rattle.x86_fields.specs.declared.Raw.{Raw}
-use Rattle.x86_fields.specs.Raw.{high_field, middle_field, low_field, disp_width, sib_fits, is_zero, is_byte, disp_fits}
+use Rattle.x86_fields.specs.ModRM.{mod_field, rm_field, scale_field, index_field, base_field, is_memory}
+use Rattle.x86_fields.specs.Raw.{disp_width, sib_fits, is_zero, is_byte, disp_fits}
 use Rattle.x86_fields.specs.Address.{extended, address_class, address_register, next_pointer, base_by, index_by, scale_by}
 use Rattle.x86_fields.specs.Linear.{adds_to, adds_next, is_pointer}
 use Rattle.x86_layout.specs.Tightening.Registers.{is_ip_by, base_in, index_in, scale_in, scale_named, times, counts, IsBelow16, IsIndex, IsByteOption}
-use Rattle.x86_layout.specs.Tightening.Shortest.{behind_base, bytes_by}
+use Rattle.x86_layout.specs.Tightening.Shortest.{behind_base, bytes_by, field_bits}
 use Rattle.x86_layout.proofs.TightenLemmas.SpelledLaws.{no_fewer, low_of_extended, low_small, middle_small}
 
 -- ---- no fields that fit have fewer bytes
 
-high_small : (m : ℕ) → nat_lt m 0xc0 ≡ true → high_field m < 3
+high_small : (m : ℕ) → is_memory m ≡ true → mod_field m < 3
 high_small m h = grind (arith, nat_tests)
 
 pub first_of_three : (a b c : Bool) → (a && (b && c)) ≡ true → a ≡ true
@@ -30,10 +31,10 @@ not_true true h = absurd (let g : false ≡ true = h in cc)
 not_true false h = refl
 
 module _ (d : ℤ) (modrm : ℕ) where
-  behind_is_least : (b low : ℕ) → nat_lt modrm 0xc0 ≡ true → low_field b ≡ low → ((high_field modrm == 0) && (low == 5)) ≡ false → disp_fits (if high_field modrm == 1 then 1 else (if high_field modrm == 2 then 4 else (if low == 5 then 4 else 0))) d ≡ true → behind_base d b ≤ (if high_field modrm == 1 then 1 else (if high_field modrm == 2 then 4 else (if low == 5 then 4 else 0)))
+  behind_is_least : (b low : ℕ) → is_memory modrm ≡ true → field_bits b ≡ low → ((mod_field modrm == 0) && (low == 5)) ≡ false → disp_fits (if mod_field modrm == 1 then 1 else (if mod_field modrm == 2 then 4 else (if low == 5 then 4 else 0))) d ≡ true → behind_base d b ≤ (if mod_field modrm == 1 then 1 else (if mod_field modrm == 2 then 4 else (if low == 5 then 4 else 0)))
   behind_is_least b low h e f g =
-      subst (λ n. (if is_zero d && not (n == 5) then 0 else (if is_byte d then 1 else 4)) ≤ (if high_field modrm == 1 then 1 else (if high_field modrm == 2 then 4 else (if low == 5 then 4 else 0)))) (sym e)
-      (no_fewer (high_field modrm) (is_zero d) (low == 5) (is_byte d) (high_small modrm h) f g)
+      subst (λ n. (if is_zero d && not (n == 5) then 0 else (if is_byte d then 1 else 4)) ≤ (if mod_field modrm == 1 then 1 else (if mod_field modrm == 2 then 4 else (if low == 5 then 4 else 0)))) (sym e)
+      (no_fewer (mod_field modrm) (is_zero d) (low == 5) (is_byte d) (high_small modrm h) f g)
 
   alone_least : (t : Bool) (n w : ℕ) → t ≡ false → n ≤ w → (if t then 1 else 0) + n ≤ 0 + w
   alone_least true n w e h = absurd (let g : true ≡ false = e in cc)
@@ -41,30 +42,30 @@ module _ (d : ℤ) (modrm : ℕ) where
 
   with_sib_least : (b : ℕ) (i : Option ℕ) (w : ℕ) → behind_base d b ≤ w → bytes_by d (Some b) i ≤ 1 + w
   with_sib_least b (Some i) w h = omega (arith, h)
-  with_sib_least b None w h = by (low_field b == 4)
+  with_sib_least b None w h = by (field_bits b == 4)
     where
       by : (t : Bool) → (if t then 1 else 0) + behind_base d b ≤ 1 + w
       by true = omega (arith, h)
       by false = omega (arith, h)
 
-  no_base_least : (five : Bool) → ((high_field modrm == 0) && five) ≡ true → 5 ≤ 1 + (if high_field modrm == 1 then 1 else (if high_field modrm == 2 then 4 else (if five then 4 else 0)))
-  no_base_least five e = by (high_field modrm) five e
+  no_base_least : (five : Bool) → ((mod_field modrm == 0) && five) ≡ true → 5 ≤ 1 + (if mod_field modrm == 1 then 1 else (if mod_field modrm == 2 then 4 else (if five then 4 else 0)))
+  no_base_least five e = by (mod_field modrm) five e
     where
       by : (h : ℕ) (five : Bool) → ((h == 0) && five) ≡ true → 5 ≤ 1 + (if h == 1 then 1 else (if h == 2 then 4 else (if five then 4 else 0)))
       by zero true e = omega arith
       by zero false e = absurd (let g : false ≡ true = e in cc)
       by (suc n) five e = absurd (grind (arith, nat_tests, e))
 
-  sib_least : (t bit : Bool) (sib : ℕ) (i : Option ℕ) → ((high_field modrm == 0) && (low_field sib == 5)) ≡ t → nat_lt modrm 0xc0 ≡ true → disp_fits (disp_width modrm (Some sib)) d ≡ true → bytes_by d (if t then None else Some (extended bit (low_field sib))) i ≤ 1 + disp_width modrm (Some sib)
-  sib_least true bit sib i e h f = no_base_least (low_field sib == 5) e
-  sib_least false bit sib i e h f = with_sib_least _ i _ (behind_is_least (extended bit (low_field sib)) (low_field sib) h (low_of_extended bit (low_field sib) (low_small sib)) e f)
+  sib_least : (t bit : Bool) (sib : ℕ) (i : Option ℕ) → ((mod_field modrm == 0) && (base_field sib == 5)) ≡ t → is_memory modrm ≡ true → disp_fits (disp_width modrm (Some sib)) d ≡ true → bytes_by d (if t then None else Some (extended bit (base_field sib))) i ≤ 1 + disp_width modrm (Some sib)
+  sib_least true bit sib i e h f = no_base_least (base_field sib == 5) e
+  sib_least false bit sib i e h f = with_sib_least _ i _ (behind_is_least (extended bit (base_field sib)) (base_field sib) h (low_of_extended bit (base_field sib) (low_small sib)) e f)
 
-  pub least : (b_bit x_bit : Bool) (sib : Option ℕ) → nat_lt modrm 0xc0 ≡ true → sib_fits modrm sib ≡ true → disp_fits (disp_width modrm sib) d ≡ true → is_ip_by modrm sib ≡ false → bytes_by d (base_in b_bit modrm sib) (index_in x_bit sib) ≤ (if is_some sib then 1 else 0) + disp_width modrm sib
+  pub least : (b_bit x_bit : Bool) (sib : Option ℕ) → is_memory modrm ≡ true → sib_fits modrm sib ≡ true → disp_fits (disp_width modrm sib) d ≡ true → is_ip_by modrm sib ≡ false → bytes_by d (base_in b_bit modrm sib) (index_in x_bit sib) ≤ (if is_some sib then 1 else 0) + disp_width modrm sib
   least b_bit x_bit None h g f e =
-      let low : low_field (extended b_bit (low_field modrm)) ≡ low_field modrm = low_of_extended b_bit (low_field modrm) (low_small modrm) in
-      let four : (low_field (extended b_bit (low_field modrm)) == 4) ≡ false = ap (λ n. n == 4) low ∙ not_true _ g in
-      alone_least _ _ _ four (behind_is_least (extended b_bit (low_field modrm)) (low_field modrm) h low e f)
-  least b_bit x_bit (Some sib) h g f e = sib_least ((high_field modrm == 0) && (low_field sib == 5)) b_bit sib (index_in x_bit (Some sib)) refl h f
+      let low : field_bits (extended b_bit (rm_field modrm)) ≡ rm_field modrm = low_of_extended b_bit (rm_field modrm) (low_small modrm) in
+      let four : (field_bits (extended b_bit (rm_field modrm)) == 4) ≡ false = ap (λ n. n == 4) low ∙ not_true _ g in
+      alone_least _ _ _ four (behind_is_least (extended b_bit (rm_field modrm)) (rm_field modrm) h low e f)
+  least b_bit x_bit (Some sib) h g f e = sib_least ((mod_field modrm == 0) && (base_field sib == 5)) b_bit sib (index_in x_bit (Some sib)) refl h f
 
 -- ---- registers that may stand there
 
@@ -73,22 +74,22 @@ extended_small true n h = omega arith
 extended_small false n h = omega arith
 
 pub base_stands : (bit : Bool) (modrm : ℕ) (sib : Option ℕ) → IsBelow16 (base_in bit modrm sib)
-base_stands bit modrm None = extended_small bit (low_field modrm) (low_small modrm)
-base_stands bit modrm (Some sib) = by ((high_field modrm == 0) && (low_field sib == 5))
+base_stands bit modrm None = extended_small bit (rm_field modrm) (low_small modrm)
+base_stands bit modrm (Some sib) = by ((mod_field modrm == 0) && (base_field sib == 5))
   where
-    by : (t : Bool) → IsBelow16 (if t then None else Some (extended bit (low_field sib)))
+    by : (t : Bool) → IsBelow16 (if t then None else Some (extended bit (base_field sib)))
     by true = tt
-    by false = extended_small bit (low_field sib) (low_small sib)
+    by false = extended_small bit (base_field sib) (low_small sib)
 
 pub index_stands : (bit : Bool) (sib : Option ℕ) → IsIndex (index_in bit sib)
 index_stands bit None = tt
-index_stands bit (Some sib) = by bit (middle_field sib == 4) refl
+index_stands bit (Some sib) = by bit (index_field sib == 4) refl
   where
-    by : (bit t : Bool) → (middle_field sib == 4) ≡ t → IsIndex (if t && not bit then None else Some (extended bit (middle_field sib)))
-    by true true e = (extended_small true (middle_field sib) (middle_small sib), λ f. omega (arith, f))
-    by true false e = (extended_small true (middle_field sib) (middle_small sib), λ f. omega (arith, f))
+    by : (bit t : Bool) → (index_field sib == 4) ≡ t → IsIndex (if t && not bit then None else Some (extended bit (index_field sib)))
+    by true true e = (extended_small true (index_field sib) (middle_small sib), λ f. omega (arith, f))
+    by true false e = (extended_small true (index_field sib) (middle_small sib), λ f. omega (arith, f))
     by false true e = tt
-    by false false e = (extended_small false (middle_field sib) (middle_small sib), λ f. grind (arith, nat_tests))
+    by false false e = (extended_small false (index_field sib) (middle_small sib), λ f. grind (arith, nat_tests))
 
 -- ---- the address form
 
@@ -112,13 +113,13 @@ register_next raw bit n t = ap (λ p. if p then t else 0) (no_pointer raw.addres
 
 pub base_counts : (raw : Raw) (sib : Option ℕ) (r : ℕ) → is_ip_by raw.modrm sib ≡ false → adds_to (base_by raw sib) 1 r ≡ counts (base_in raw.rex_b raw.modrm sib) 1 r
 base_counts raw None r e =
-    ap (λ t. adds_to (Some (if t then next_pointer raw else address_register raw raw.rex_b (low_field raw.modrm))) 1 r) e
-    ∙ register_counts raw raw.rex_b (low_field raw.modrm) 1 r (low_small raw.modrm)
-base_counts raw (Some sib) r e = by ((high_field raw.modrm == 0) && (low_field sib == 5))
+    ap (λ t. adds_to (Some (if t then next_pointer raw else address_register raw raw.rex_b (rm_field raw.modrm))) 1 r) e
+    ∙ register_counts raw raw.rex_b (rm_field raw.modrm) 1 r (low_small raw.modrm)
+base_counts raw (Some sib) r e = by ((mod_field raw.modrm == 0) && (base_field sib == 5))
   where
-    by : (t : Bool) → adds_to (if t then None else Some (address_register raw raw.rex_b (low_field sib))) 1 r ≡ counts (if t then None else Some (extended raw.rex_b (low_field sib))) 1 r
+    by : (t : Bool) → adds_to (if t then None else Some (address_register raw raw.rex_b (base_field sib))) 1 r ≡ counts (if t then None else Some (extended raw.rex_b (base_field sib))) 1 r
     by true = refl
-    by false = register_counts raw raw.rex_b (low_field sib) 1 r (low_small sib)
+    by false = register_counts raw raw.rex_b (base_field sib) 1 r (low_small sib)
 
 scale_is : (high : ℕ) → high < 4 → 2 ^ high ≡ times (scale_named high)
 scale_is zero h = refl
@@ -129,28 +130,28 @@ scale_is (suc (suc (suc (suc n)))) h = absurd (omega (arith, h))
 
 pub index_counts : (raw : Raw) (sib : Option ℕ) (r : ℕ) → IsByteOption sib → adds_to (index_by raw sib) (scale_by sib) r ≡ counts (index_in raw.rex_x sib) (times (scale_in sib)) r
 index_counts raw None r h = refl
-index_counts raw (Some sib) r h = by ((middle_field sib == 4) && not raw.rex_x)
+index_counts raw (Some sib) r h = by ((index_field sib == 4) && not raw.rex_x)
   where
-    by : (t : Bool) → adds_to (if t then None else Some (address_register raw raw.rex_x (middle_field sib))) (2 ^ high_field sib) r ≡ counts (if t then None else Some (extended raw.rex_x (middle_field sib))) (times (scale_named (high_field sib))) r
+    by : (t : Bool) → adds_to (if t then None else Some (address_register raw raw.rex_x (index_field sib))) (2 ^ scale_field sib) r ≡ counts (if t then None else Some (extended raw.rex_x (index_field sib))) (times (scale_named (scale_field sib))) r
     by true = refl
-    by false = register_counts raw raw.rex_x (middle_field sib) (2 ^ high_field sib) r (middle_small sib) ∙ ap (λ n. counts (Some (extended raw.rex_x (middle_field sib))) n r) (scale_is (high_field sib) (omega (arith, h)))
+    by false = register_counts raw raw.rex_x (index_field sib) (2 ^ scale_field sib) r (middle_small sib) ∙ ap (λ n. counts (Some (extended raw.rex_x (index_field sib))) n r) (scale_is (scale_field sib) (omega (arith, h)))
 
 pub base_next : (raw : Raw) (sib : Option ℕ) → adds_next (base_by raw sib) 1 ≡ (if is_ip_by raw.modrm sib then 1 else 0)
-base_next raw None = by ((high_field raw.modrm == 0) && (low_field raw.modrm == 5))
+base_next raw None = by ((mod_field raw.modrm == 0) && (rm_field raw.modrm == 5))
   where
-    by : (t : Bool) → adds_next (Some (if t then next_pointer raw else address_register raw raw.rex_b (low_field raw.modrm))) 1 ≡ (if t then 1 else 0)
+    by : (t : Bool) → adds_next (Some (if t then next_pointer raw else address_register raw raw.rex_b (rm_field raw.modrm))) 1 ≡ (if t then 1 else 0)
     by true = ap (λ p. if p then 1 else 0) (pointer raw.address_size)
-    by false = register_next raw raw.rex_b (low_field raw.modrm) 1
-base_next raw (Some sib) = by ((high_field raw.modrm == 0) && (low_field sib == 5))
+    by false = register_next raw raw.rex_b (rm_field raw.modrm) 1
+base_next raw (Some sib) = by ((mod_field raw.modrm == 0) && (base_field sib == 5))
   where
-    by : (t : Bool) → adds_next (if t then None else Some (address_register raw raw.rex_b (low_field sib))) 1 ≡ 0
+    by : (t : Bool) → adds_next (if t then None else Some (address_register raw raw.rex_b (base_field sib))) 1 ≡ 0
     by true = refl
-    by false = register_next raw raw.rex_b (low_field sib) 1
+    by false = register_next raw raw.rex_b (base_field sib) 1
 
 pub index_next : (raw : Raw) (sib : Option ℕ) (n : ℕ) → adds_next (index_by raw sib) n ≡ 0
 index_next raw None n = refl
-index_next raw (Some sib) n = by ((middle_field sib == 4) && not raw.rex_x)
+index_next raw (Some sib) n = by ((index_field sib == 4) && not raw.rex_x)
   where
-    by : (t : Bool) → adds_next (if t then None else Some (address_register raw raw.rex_x (middle_field sib))) n ≡ 0
+    by : (t : Bool) → adds_next (if t then None else Some (address_register raw raw.rex_x (index_field sib))) n ≡ 0
     by true = refl
-    by false = register_next raw raw.rex_x (middle_field sib) n
+    by false = register_next raw raw.rex_x (index_field sib) n

@@ -2,7 +2,7 @@
 use Rattle.std.proofs.Common.{◌≡◌, ℕ, ◌+◌, ◌-◌, ◌&&◌, not, Bool, true, false, if◌then◌else◌, Some, List, [], length, take, slice_index, Ok, refl, sym, ap, subst, ◌∙◌, arith, append-nil}
 use Rattle.x86_fields.specs.declared.Raw.{Raw}
 use Rattle.x86_operands.specs.declared.reader.Reading.{Reading}
-use Rattle.x86_operands.specs.Plans.{is_memory}
+use Rattle.x86_fields.specs.ModRM.{is_memory}
 use Rattle.x86_operands.specs.Asks.{ask_of}
 use Rattle.x86_layout.specs.Parts.Front.{ask_in, parts_of}
 use Rattle.x86_decode.specs.declared.instructions.Instruction.{Instruction}

@@ -2,13 +2,13 @@
 use Rattle.std.proofs.Common.{◌≡◌, ℕ, Bool, if◌then◌else◌, true, false, Option, Some, None, refl, ◌∙◌, arith}
 use Rattle.x86_fields.specs.declared.Prefixes.{Prefixes}
 use Rattle.x86_fields.specs.declared.PrefixRex.{PrefixRex}
-use Rattle.x86_fields.specs.Raw.{middle_field}
+use Rattle.x86_fields.specs.ModRM.{reg_field, is_memory}
 use Rattle.x86_forms.specs.declared.Form.{Form}
 use Rattle.x86_operands.specs.declared.plans.ModrmUse.TheVariants.{Fields}
 use Rattle.x86_forms.specs.declared.Form.TheVariants as form
 use Rattle.x86_forms.specs.declared.TableRow.{TableRow}
 use Rattle.x86_forms.specs.Groups.{is_group_form}
-use Rattle.x86_operands.specs.Plans.{RowRecord, is_memory}
+use Rattle.x86_operands.specs.Plans.{RowRecord}
 use Rattle.x86_operands.specs.Forms.{form_plan, form_record, modrm_use}
 use Rattle.x86_decode.specs.Grammar.{record_of}
 use Rattle.x86_layout.specs.Tightening.Tighten.{bits_in}
@@ -29,7 +29,7 @@ use Rattle.x86_groups.specs.Groups as groups
 
 -- ---- mod and rm
 
-module _ (m n : ℕ) (mm : is_memory m ≡ true) (nm : is_memory n ≡ true) (same : middle_field n ≡ middle_field m) where
+module _ (m n : ℕ) (mm : is_memory m ≡ true) (nm : is_memory n ≡ true) (same : reg_field n ≡ reg_field m) where
   plain_at : (f : Form) (o : ℕ) (p : Prefixes) → modrm_use f ≡ Fields → form_plan f o p n ≡ form_plan f o p m
   plain_at f o p usage = first_of (cc (mm, nm, same), grind (arith, mm, nm, same))
 
@@ -69,7 +69,7 @@ module _ (x b : Bool) (p : Prefixes) (m : ℕ) (mm : is_memory m ≡ true) where
 
 -- ---- records
 
-module _ (strict : Bool) (row : TableRow) (p : Prefixes) (x b : Bool) (m n : ℕ) (mm : is_memory m ≡ true) (nm : is_memory n ≡ true) (same : middle_field n ≡ middle_field m) where
+module _ (strict : Bool) (row : TableRow) (p : Prefixes) (x b : Bool) (m n : ℕ) (mm : is_memory m ≡ true) (nm : is_memory n ≡ true) (same : reg_field n ≡ reg_field m) where
   abbrev pub Other : Prefixes
   Other = record p { rex = bits_in x b p.rex }
 

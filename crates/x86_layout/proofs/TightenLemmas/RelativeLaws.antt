@@ -3,14 +3,15 @@ use Rattle.std.proofs.Common.{◌≡◌, ℕ, ◌+◌, ◌%◌, ◌≤◌, Bool,
 use Rattle.std.proofs.lemmas.Bool.Decides.{nat_tests}
 use Rattle.x86_fields.specs.declared.Prefixes.{Prefixes}
 use Rattle.x86_fields.specs.declared.Raw.{Raw}
-use Rattle.x86_fields.specs.Raw.{middle_field, live_bit, rex_b, rex_x}
+use Rattle.x86_fields.specs.ModRM.{reg_field, is_memory, as_register}
+use Rattle.x86_fields.specs.Raw.{live_bit, rex_b, rex_x}
 use Rattle.x86_fields.specs.Run.{reading_of}
 use Rattle.x86_fields.specs.Linear.{raw_form, IsSameAddress}
 use Rattle.x86_forms.specs.Words.{rows_of, word_at}
 use Rattle.x86_operands.specs.declared.plans.ModrmUse.{ModrmUse}
 use Rattle.x86_operands.specs.declared.plans.ModrmUse.TheVariants.{Absent, Fields, Registers}
 use Rattle.x86_operands.specs.declared.reader.Reading.{Reading}
-use Rattle.x86_operands.specs.Plans.{RowRecord, is_memory}
+use Rattle.x86_operands.specs.Plans.{RowRecord}
 use Rattle.x86_operands.specs.Pieces.{SpellsMemory, modrm_of, modrm_width}
 use Rattle.x86_decode.specs.Head.{escape_bytes, seen}
 use Rattle.x86_decode.specs.Instruction.{instruction_of}
@@ -28,14 +29,14 @@ use Rattle.x86_layout.proofs.TightenLemmas.RespellLaws.{Rerowed, rerowed}
 
 -- ---- a memory form
 
-high_is_register : (n : ℕ) → is_memory (0xc0 + n) ≡ true → false ≡ true
-high_is_register n h = grind (arith, nat_tests)
+high_is_register : (m : ℕ) → is_memory (as_register m) ≡ true → false ≡ true
+high_is_register m h = grind (arith, nat_tests)
 
 pub uses_fields : (u : ModrmUse) (modrm : List ℕ) → is_memory (modrm_of u modrm) ≡ true → u ≡ Fields
 uses_fields Absent modrm h = absurd (let g : false ≡ true = h in cc)
 uses_fields Fields modrm h = refl
 uses_fields Registers [] h = absurd (let g : false ≡ true = h in cc)
-uses_fields Registers (m ∷ rest) h = absurd (let g : false ≡ true = high_is_register (m % 0x40) h in cc)
+uses_fields Registers (m ∷ rest) h = absurd (let g : false ≡ true = high_is_register m h in cc)
 
 one_byte : (u : ModrmUse) (modrm : List ℕ) → u ≡ Fields → length modrm ≡ modrm_width u → modrm ≡ modrm_of u modrm ∷ []
 one_byte u modrm e h = subst (λ k. modrm ≡ modrm_of k modrm ∷ []) (sym e) (alone modrm (h ∙ ap modrm_width e))
@@ -144,8 +145,8 @@ module _ (strict : Bool) (s : List ℕ) (a : Reading) (v : Encoding strict s a) 
       (x_with (Other).rex_x (Other).rex_b (Before).rex (λ e. (none e).1))
       keeps
 
-  same_register : middle_field (Other).modrm ≡ middle_field (Byte strict s a v)
-  same_register = shortest_keeps_reg raw ∙ ap middle_field (raw_modrm strict s a v raw read)
+  same_register : reg_field (Other).modrm ≡ reg_field (Byte strict s a v)
+  same_register = shortest_keeps_reg raw ∙ ap reg_field (raw_modrm strict s a v raw read)
 
   rerow_bits : Rerow (Bits)
   rerow_bits =
@@ -195,7 +196,7 @@ module _ (strict : Bool) (s : List ℕ) (a : Reading) (v : Encoding strict s a) 
         prefixes = run_cleared (Other).rex_x (Other).rex_b v.run;
         escape = refl;
         opcode = refl;
-        register = ap (map middle_field) (rerow).modrm ∙ ap (λ n. n ∷ []) (same_register) ∙ sym (ap (map middle_field) (byte strict s a v raw read));
+        register = ap (map reg_field) (rerow).modrm ∙ ap (λ n. n ∷ []) (same_register) ∙ sym (ap (map reg_field) (byte strict s a v raw read));
         immediate = (rerow).immediate;
         suffix = (rerow).last;
       };

@@ -18,7 +18,8 @@ use Rattle.x86_operands.specs.declared.plans.Plan.{Plan}
 use Rattle.x86_operands.specs.declared.reader.Reading.{Reading}
 use Rattle.x86_operands.specs.Operands.{is_memory_slot}
 use Rattle.x86_operands.specs.Shape.{shape_by, shape_of}
-use Rattle.x86_operands.specs.Plans.{RowRecord, is_memory, list_of}
+use Rattle.x86_fields.specs.ModRM.{is_memory}
+use Rattle.x86_operands.specs.Plans.{RowRecord, list_of}
 use Rattle.x86_operands.specs.Signs.{pair_at, four_of, marked, reading_from}
 use Rattle.x86_operands.specs.Pieces.{sign_gives, SpellsSigns, SpellsTail, SpellsRow, modrm_of, modrm_width}
 use Rattle.x86_decode.specs.Grammar.{lock_allowed}

@@ -5,14 +5,15 @@ use Rattle.std.specs.Int.{w32, w64, cast_signed}
 use Rattle.std.proofs.lemmas.Bool.Decides.{nat_tests}
 use Rattle.std.proofs.lemmas.Int.{to_z-of_z}
 use Rattle.x86_fields.specs.declared.Raw.{Raw}
-use Rattle.x86_fields.specs.Raw.{high_field, middle_field, low_field, disp_width, sib_fits, disp_fits, is_zero, is_byte}
+use Rattle.x86_fields.specs.ModRM.{mod_field, reg_field, rm_field, index_field, base_field, packed_byte, is_memory}
+use Rattle.x86_fields.specs.Raw.{disp_width, sib_fits, disp_fits, is_zero, is_byte}
 use Rattle.x86_fields.specs.Address.{index_by, scale_by}
 use Rattle.x86_fields.specs.Linear.{adds_to, adds_next, constant_by, modulus_by, raw_form, IsSameAddress}
 use Rattle.x86_layout.specs.declared.tightening.registers.Scale.{Scale}
 use Rattle.x86_layout.specs.declared.tightening.registers.Scale.TheVariants.{One, Two, Four, Eight}
 use Rattle.x86_layout.specs.declared.tightening.registers.AddressRegisters.{AddressRegisters}
 use Rattle.x86_layout.specs.Tightening.Registers.{is_ip_by, is_ip_relative, base_in, index_in, scale_in, registers_of, times, counts, weight, IsBelow16, IsIndex, IsByteOption}
-use Rattle.x86_layout.specs.Tightening.Shortest.{asks_displacement, exchanged, placed, shortest_registers, bytes_by, bytes_at, address_length, mod_by, mod_of, packed_byte, fourth_bit, scale_field, field_or, rm_alone, rm_by, sib_by, spelled, shortest, IsOfBytes}
+use Rattle.x86_layout.specs.Tightening.Shortest.{asks_displacement, exchanged, placed, shortest_registers, bytes_by, bytes_at, address_length, mod_by, mod_of, fourth_bit, scale_bits, field_or, rm_alone, rm_by, sib_by, spelled, shortest, IsOfBytes, field_bits}
 use Rattle.x86_layout.proofs.TightenLemmas.WeightLaws.{Weigh, fewest}
 use Rattle.x86_layout.proofs.TightenLemmas.SpelledLaws.{high_is, low_is, middle_is, middle_small, low_small, field_small, rm_small, not_bare_five, spelled_length, spelled_fits, spelled_base, spelled_index, spelled_scale}
 use Rattle.x86_layout.proofs.TightenLemmas.FieldLaws.{least, first_of_three, second_of_three, third_of_three, base_stands, index_stands, base_counts, index_counts, base_next, index_next}
@@ -27,7 +28,7 @@ index_below None h = tt
 index_below (Some i) h = h.0
 
 -- a base that asks a displacement may be an index
-asks_is_index : (b : ℕ) → b < 16 → (low_field b == 5) ≡ true → IsIndex (Some b)
+asks_is_index : (b : ℕ) → b < 16 → (field_bits b == 5) ≡ true → IsIndex (Some b)
 asks_is_index b h e = (h, λ f. grind (arith, nat_tests))
 
 exchanged_stands : (d : ℤ) (b i : ℕ) → b < 16 → IsIndex (Some i) → Stands (exchanged d b i)
@@ -88,13 +89,13 @@ same_index : (i j : Option ℕ) (s t : Scale) (r : ℕ) → i ≡ j → ((n : �
 same_index i None s t r e f = ap (λ k. counts k (times s) r) e
 same_index i (Some n) s t r e f = ap (λ k. counts k (times s) r) e ∙ ap (λ k. counts (Some n) (times k) r) (f n refl)
 
-spelled_scale_where : (d : ℤ) (m : ℕ) → m < 8 → (b i : Option ℕ) (s : Scale) (n : ℕ) → i ≡ Some n → scale_in (sib_by (rm_alone b i) (packed_byte (scale_field s) (field_or 4 i) (field_or 5 b))) ≡ s
-spelled_scale_where d m below b i s n e = subst (λ k. scale_in (sib_by (rm_alone b k) (packed_byte (scale_field s) (field_or 4 k) (field_or 5 b))) ≡ s) (sym e) (spelled_scale d m below b n s)
+spelled_scale_where : (d : ℤ) (m : ℕ) → m < 8 → (b i : Option ℕ) (s : Scale) (n : ℕ) → i ≡ Some n → scale_in (sib_by (rm_alone b i) (packed_byte (scale_bits s) (field_or 4 i) (field_or 5 b))) ≡ s
+spelled_scale_where d m below b i s n e = subst (λ k. scale_in (sib_by (rm_alone b k) (packed_byte (scale_bits s) (field_or 4 k) (field_or 5 b))) ≡ s) (sym e) (spelled_scale d m below b n s)
 
 spelled_weighs : (raw : Raw) (at : AddressRegisters) (r : ℕ) → Stands at → weight (registers_of (spelled raw at)) r ≡ weight at r
 spelled_weighs raw at r h =
     let d = raw.disp in
-    let m : ℕ = middle_field raw.modrm in
+    let m : ℕ = reg_field raw.modrm in
     let below : m < 8 = middle_small raw.modrm in
     let base = spelled_base d m below at.base at.index at.scale h.0 in
     let index = spelled_index d m below at.base at.index at.scale h.1 in
@@ -106,27 +107,27 @@ spelled_weighs raw at r h =
 spelled_ip_by : (d : ℤ) (m : ℕ) → m < 8 → (b i : Option ℕ) (sib : ℕ) → is_ip_by (packed_byte (mod_of d b) m (rm_by (rm_alone b i))) (sib_by (rm_alone b i) sib) ≡ false
 spelled_ip_by d m below None i sib = refl
 spelled_ip_by d m below (Some b) (Some i) sib = refl
-spelled_ip_by d m below (Some b) None sib = by (low_field b == 4)
+spelled_ip_by d m below (Some b) None sib = by (field_bits b == 4)
   where
-    by : (t : Bool) → (let rm = if t then None else Some (low_field b) in is_ip_by (packed_byte (mod_by d b) m (rm_by rm)) (sib_by rm sib)) ≡ false
+    by : (t : Bool) → (let rm = if t then None else Some (field_bits b) in is_ip_by (packed_byte (mod_by d b) m (rm_by rm)) (sib_by rm sib)) ≡ false
     by true = refl
     by false =
-        ap (λ n. (n == 0) && (low_field (packed_byte (mod_by d b) m (low_field b)) == 5)) (high_is (mod_by d b) m (low_field b) below (low_small b))
-        ∙ ap (λ n. (mod_by d b == 0) && (n == 5)) (low_is (mod_by d b) m (low_field b) below (low_small b))
+        ap (λ n. (n == 0) && (rm_field (packed_byte (mod_by d b) m (field_bits b)) == 5)) (high_is (mod_by d b) m (field_bits b) below (low_small b))
+        ∙ ap (λ n. (mod_by d b == 0) && (n == 5)) (low_is (mod_by d b) m (field_bits b) below (low_small b))
         ∙ not_bare_five (is_zero d) (asks_displacement b) (is_byte d)
 
 spelled_ip : (raw : Raw) (at : AddressRegisters) → is_ip_relative (spelled raw at) ≡ false
-spelled_ip raw at = spelled_ip_by raw.disp (middle_field raw.modrm) (middle_small raw.modrm) at.base at.index _
+spelled_ip raw at = spelled_ip_by raw.disp (reg_field raw.modrm) (middle_small raw.modrm) at.base at.index _
 
 -- the SIB byte is a byte
-spelled_sib : (at : AddressRegisters) (rm : Option ℕ) → IsByteOption (sib_by rm (packed_byte (scale_field at.scale) (field_or 4 at.index) (field_or 5 at.base)))
+spelled_sib : (at : AddressRegisters) (rm : Option ℕ) → IsByteOption (sib_by rm (packed_byte (scale_bits at.scale) (field_or 4 at.index) (field_or 5 at.base)))
 spelled_sib at (Some rm) = tt
-spelled_sib at None = byte (scale_field at.scale) (field_or 4 at.index) (field_or 5 at.base) (field at.scale) (field_small 4 at.index (omega arith)) (field_small 5 at.base (omega arith))
+spelled_sib at None = byte (scale_bits at.scale) (field_or 4 at.index) (field_or 5 at.base) (field at.scale) (field_small 4 at.index (omega arith)) (field_small 5 at.base (omega arith))
   where
     byte : (h m l : ℕ) → h < 4 → m < 8 → l < 8 → packed_byte h m l < 256
     byte h m l a b c = omega arith
 
-    field : (s : Scale) → scale_field s < 4
+    field : (s : Scale) → scale_bits s < 4
     field One = omega arith
     field Two = omega arith
     field Four = omega arith
@@ -135,14 +136,14 @@ spelled_sib at None = byte (scale_field at.scale) (field_or 4 at.index) (field_o
 pub shortest_is_of_bytes : (raw : Raw) → IsOfBytes raw → IsOfBytes (shortest raw)
 unfolding shortest
 shortest_is_of_bytes raw h = record {
-  fit = spelled_fits raw.disp (middle_field raw.modrm) (middle_small raw.modrm) (shortest_registers raw).base (shortest_registers raw).index (shortest_registers raw).scale;
+  fit = spelled_fits raw.disp (reg_field raw.modrm) (middle_small raw.modrm) (shortest_registers raw).base (shortest_registers raw).index (shortest_registers raw).scale;
   sib = spelled_sib (shortest_registers raw) (rm_alone (shortest_registers raw).base (shortest_registers raw).index);
   disp = h.disp;
 }
 
-pub shortest_keeps_reg : (raw : Raw) → middle_field (shortest raw).modrm ≡ middle_field raw.modrm
+pub shortest_keeps_reg : (raw : Raw) → reg_field (shortest raw).modrm ≡ reg_field raw.modrm
 unfolding shortest
-shortest_keeps_reg raw = let at = shortest_registers raw in middle_is _ (middle_field raw.modrm) (rm_by (rm_alone at.base at.index)) (middle_small raw.modrm) (rm_small raw.disp (middle_field raw.modrm) (middle_small raw.modrm) at.base at.index)
+shortest_keeps_reg raw = let at = shortest_registers raw in middle_is _ (reg_field raw.modrm) (rm_by (rm_alone at.base at.index)) (middle_small raw.modrm) (rm_small raw.disp (reg_field raw.modrm) (middle_small raw.modrm) at.base at.index)
 
 -- ---- the address form
 
@@ -194,7 +195,7 @@ ip_told false e = refl
 
 shortest_length : (raw : Raw) → address_length (shortest raw) ≡ bytes_at raw.disp (shortest_registers raw)
 unfolding shortest
-shortest_length raw = let at = shortest_registers raw in spelled_length raw.disp (middle_field raw.modrm) (middle_small raw.modrm) at.base at.index at.scale
+shortest_length raw = let at = shortest_registers raw in spelled_length raw.disp (reg_field raw.modrm) (middle_small raw.modrm) at.base at.index at.scale
 
 pub none_is_shorter : (raw other : Raw) → IsOfBytes raw → IsOfBytes other → is_ip_relative raw ≡ false → IsSameAddress (raw_form other) (raw_form raw) → address_length (shortest raw) ≤ address_length other
 none_is_shorter raw other h k e same =
@@ -204,7 +205,7 @@ none_is_shorter raw other h k e same =
     let disp : other.disp ≡ raw.disp = disp_told raw.address_size other.disp raw.disp k.disp h.disp (ap (λ s. constant_by s other.disp) (sym (short_told other.address_size raw.address_size same.modulus)) ∙ same.constant) in
     let counts_so : (r : ℕ) → r < 16 → weight from r ≡ weight to r = λ r small. sym (form_weighs raw r h.sib e) ∙ sym (same.registers r small) ∙ form_weighs other r k.sib ip in
     let fewer = fewest raw.disp from.base from.index from.scale to.base to.index to.scale (base_stands raw.rex_b raw.modrm raw.sib) (index_stands raw.rex_x raw.sib) (base_stands other.rex_b other.modrm other.sib) (index_stands other.rex_x other.sib) counts_so in
-    let all = least other.disp other.modrm other.rex_b other.rex_x other.sib (first_of_three _ (sib_fits other.modrm other.sib) (disp_fits (disp_width other.modrm other.sib) other.disp) k.fit) (second_of_three (nat_lt other.modrm 0xc0) _ (disp_fits (disp_width other.modrm other.sib) other.disp) k.fit) (third_of_three (nat_lt other.modrm 0xc0) (sib_fits other.modrm other.sib) _ k.fit) ip in
+    let all = least other.disp other.modrm other.rex_b other.rex_x other.sib (first_of_three _ (sib_fits other.modrm other.sib) (disp_fits (disp_width other.modrm other.sib) other.disp) k.fit) (second_of_three (is_memory other.modrm) _ (disp_fits (disp_width other.modrm other.sib) other.disp) k.fit) (third_of_three (is_memory other.modrm) (sib_fits other.modrm other.sib) _ k.fit) ip in
     at_most (shortest_length raw) fewer (subst (λ d. bytes_by d to.base to.index ≤ address_length other) disp all)
   where
     at_most : {a b c d : ℕ} → a ≡ b → b ≤ c → c ≤ d → a ≤ d
@@ -239,20 +240,20 @@ low_number : (n : ℕ) → n < 8 → nat_le 8 n ≡ false
 low_number n h = grind (arith, nat_tests)
 
 low_base : (modrm : ℕ) (sib : Option ℕ) → fourth_bit (base_in false modrm sib) ≡ false
-low_base modrm None = low_number (low_field modrm) (low_small modrm)
-low_base modrm (Some sib) = by ((high_field modrm == 0) && (low_field sib == 5))
+low_base modrm None = low_number (rm_field modrm) (low_small modrm)
+low_base modrm (Some sib) = by ((mod_field modrm == 0) && (base_field sib == 5))
   where
-    by : (t : Bool) → fourth_bit (if t then None else Some (low_field sib)) ≡ false
+    by : (t : Bool) → fourth_bit (if t then None else Some (base_field sib)) ≡ false
     by true = refl
-    by false = low_number (low_field sib) (low_small sib)
+    by false = low_number (base_field sib) (low_small sib)
 
 low_index : (sib : Option ℕ) → fourth_bit (index_in false sib) ≡ false
 low_index None = refl
-low_index (Some sib) = by (middle_field sib == 4)
+low_index (Some sib) = by (index_field sib == 4)
   where
-    by : (t : Bool) → fourth_bit (if t && true then None else Some (middle_field sib)) ≡ false
+    by : (t : Bool) → fourth_bit (if t && true then None else Some (index_field sib)) ≡ false
     by true = refl
-    by false = low_number (middle_field sib) (middle_small sib)
+    by false = low_number (index_field sib) (middle_small sib)
 
 pub shortest_keeps_bits : (raw : Raw) → raw.rex_b ≡ false → raw.rex_x ≡ false → ((shortest raw).rex_b ≡ false) × ((shortest raw).rex_x ≡ false)
 unfolding shortest

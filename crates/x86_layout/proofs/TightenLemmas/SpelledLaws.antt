@@ -1,38 +1,39 @@
 -- What spelled raw fields are read as.
 use Rattle.std.proofs.Common.{◌≡◌, ◌≢◌, ℕ, zero, suc, ◌+◌, ◌<◌, ◌≤◌, ◌==◌, nat_lt, nat_le, ◌&&◌, not, Bool, true, false, if◌then◌else◌, Option, Some, None, is_some, ℤ, refl, sym, ap, ◌∙◌, arith}
 use Rattle.std.proofs.lemmas.Bool.Decides.{nat_tests}
-use Rattle.x86_fields.specs.Raw.{high_field, middle_field, low_field, names_no_base, disp_width, sib_fits, is_zero, is_byte, disp_fits}
+use Rattle.x86_fields.specs.ModRM.{mod_field, reg_field, rm_field, scale_field, index_field, base_field, packed_byte, is_memory}
+use Rattle.x86_fields.specs.Raw.{names_no_base, disp_width, sib_fits, is_zero, is_byte, disp_fits}
 use Rattle.x86_fields.specs.Address.{extended}
 use Rattle.x86_layout.specs.declared.tightening.registers.Scale.{Scale}
 use Rattle.x86_layout.specs.declared.tightening.registers.Scale.TheVariants.{One, Two, Four, Eight}
 use Rattle.x86_layout.specs.Tightening.Registers.{base_in, index_in, scale_in, scale_named, IsBelow16, IsIndex}
-use Rattle.x86_layout.specs.Tightening.Shortest.{asks_displacement, behind_base, bytes_by, mod_by, mod_of, packed_byte, fourth_bit, scale_field, field_or, rm_alone, sib_by, rm_by}
+use Rattle.x86_layout.specs.Tightening.Shortest.{asks_displacement, behind_base, bytes_by, mod_by, mod_of, fourth_bit, scale_bits, field_or, rm_alone, sib_by, rm_by, field_bits}
 
 -- ---- the fields of a byte
 
-pub high_is : (h m l : ℕ) → m < 8 → l < 8 → high_field (packed_byte h m l) ≡ h
+pub high_is : (h m l : ℕ) → m < 8 → l < 8 → mod_field (packed_byte h m l) ≡ h
 high_is h m l a b = omega arith
 
-pub middle_is : (h m l : ℕ) → m < 8 → l < 8 → middle_field (packed_byte h m l) ≡ m
+pub middle_is : (h m l : ℕ) → m < 8 → l < 8 → reg_field (packed_byte h m l) ≡ m
 middle_is h m l a b = omega arith
 
-pub low_is : (h m l : ℕ) → m < 8 → l < 8 → low_field (packed_byte h m l) ≡ l
+pub low_is : (h m l : ℕ) → m < 8 → l < 8 → rm_field (packed_byte h m l) ≡ l
 low_is h m l a b = omega arith
 
-pub low_small : (n : ℕ) → low_field n < 8
+pub low_small : (n : ℕ) → field_bits n < 8
 low_small n = omega arith
 
-pub middle_small : (n : ℕ) → middle_field n < 8
+pub middle_small : (n : ℕ) → reg_field n < 8
 middle_small n = omega arith
 
-pub low_of_extended : (bit : Bool) (n : ℕ) → n < 8 → low_field (extended bit n) ≡ n
+pub low_of_extended : (bit : Bool) (n : ℕ) → n < 8 → field_bits (extended bit n) ≡ n
 low_of_extended true n h = omega arith
 low_of_extended false n h = omega arith
 
-pub extended_low : (n : ℕ) → n < 16 → extended (nat_le 8 n) (low_field n) ≡ n
+pub extended_low : (n : ℕ) → n < 16 → extended (nat_le 8 n) (field_bits n) ≡ n
 extended_low n h = by (nat_le 8 n) refl
   where
-    by : (t : Bool) → nat_le 8 n ≡ t → extended t (low_field n) ≡ n
+    by : (t : Bool) → nat_le 8 n ≡ t → extended t (field_bits n) ≡ n
     by true e = grind (arith, nat_tests)
     by false e = grind (arith, nat_tests)
 
@@ -107,7 +108,7 @@ no_fewer (suc (suc (suc n))) naught five byte h e f = absurd (omega (arith, h))
 -- ---- the bytes of spelled raw fields
 
 module _ (d : ℤ) (b : ℕ) (m l : ℕ) (below : m < 8) (low : l < 8) where
-  mod_is : high_field (packed_byte (mod_by d b) m l) ≡ mod_by d b
+  mod_is : mod_field (packed_byte (mod_by d b) m l) ≡ mod_by d b
   mod_is = high_is (mod_by d b) m l below low
 
   -- the width behind a base, where the byte that names it ends as its number does
@@ -123,29 +124,29 @@ module _ (d : ℤ) (m : ℕ) (below : m < 8) where
   Modrm b i = packed_byte (mod_of d b) m (rm_by (rm_alone b i))
 
   abbrev pub Sib : Option ℕ → Option ℕ → Scale → Option ℕ
-  Sib b i s = sib_by (rm_alone b i) (packed_byte (scale_field s) (field_or 4 i) (field_or 5 b))
+  Sib b i s = sib_by (rm_alone b i) (packed_byte (scale_bits s) (field_or 4 i) (field_or 5 b))
 
-  sib_low : (b i : Option ℕ) (s : Scale) → low_field (packed_byte (scale_field s) (field_or 4 i) (field_or 5 b)) ≡ field_or 5 b
-  sib_low b i s = low_is (scale_field s) (field_or 4 i) (field_or 5 b) (field_small 4 i (omega arith)) (field_small 5 b (omega arith))
+  sib_low : (b i : Option ℕ) (s : Scale) → base_field (packed_byte (scale_bits s) (field_or 4 i) (field_or 5 b)) ≡ field_or 5 b
+  sib_low b i s = low_is (scale_bits s) (field_or 4 i) (field_or 5 b) (field_small 4 i (omega arith)) (field_small 5 b (omega arith))
 
-  alone_width : (t : Bool) (b : ℕ) (sib : ℕ) → (low_field b == 4) ≡ t → low_field sib ≡ low_field b → (let rm = if t then None else Some (low_field b) in disp_width (packed_byte (mod_by d b) m (rm_by rm)) (sib_by rm sib)) ≡ behind_base d b
+  alone_width : (t : Bool) (b : ℕ) (sib : ℕ) → (field_bits b == 4) ≡ t → base_field sib ≡ field_bits b → (let rm = if t then None else Some (field_bits b) in disp_width (packed_byte (mod_by d b) m (rm_by rm)) (sib_by rm sib)) ≡ behind_base d b
   alone_width true b sib e f = width_is d b m 4 below (omega arith) (Some sib) (ap (λ n. n == 5) f)
-  alone_width false b sib e f = width_is d b m (low_field b) below (low_small b) None (ap (λ n. n == 5) (low_is (mod_by d b) m (low_field b) below (low_small b)))
+  alone_width false b sib e f = width_is d b m (field_bits b) below (low_small b) None (ap (λ n. n == 5) (low_is (mod_by d b) m (field_bits b) below (low_small b)))
 
   spelled_width : (b i : Option ℕ) (s : Scale) → disp_width (Modrm b i) (Sib b i s) ≡ (elim b [ None ↦ 4 | Some n ↦ behind_base d n ])
   spelled_width None i s =
-      ap (λ n. if n == 1 then 1 else (if n == 2 then 4 else (if low_field (packed_byte (scale_field s) (field_or 4 i) 5) == 5 then 4 else 0))) (high_is 0 m 4 below (omega arith))
+      ap (λ n. if n == 1 then 1 else (if n == 2 then 4 else (if base_field (packed_byte (scale_bits s) (field_or 4 i) 5) == 5 then 4 else 0))) (high_is 0 m 4 below (omega arith))
       ∙ ap (λ n. if n == 5 then 4 else 0) (sib_low None i s)
-  spelled_width (Some b) None s = alone_width (low_field b == 4) b (packed_byte (scale_field s) 4 (low_field b)) refl (sib_low (Some b) None s)
-  spelled_width (Some b) (Some i) s = width_is d b m 4 below (omega arith) (Some (packed_byte (scale_field s) (low_field i) (low_field b))) (ap (λ n. n == 5) (sib_low (Some b) (Some i) s))
+  spelled_width (Some b) None s = alone_width (field_bits b == 4) b (packed_byte (scale_bits s) 4 (field_bits b)) refl (sib_low (Some b) None s)
+  spelled_width (Some b) (Some i) s = width_is d b m 4 below (omega arith) (Some (packed_byte (scale_bits s) (field_bits i) (field_bits b))) (ap (λ n. n == 5) (sib_low (Some b) (Some i) s))
 
-  alone_length : (t : Bool) (b : ℕ) (sib : ℕ) (w : ℕ) → w ≡ behind_base d b → (low_field b == 4) ≡ t → (if is_some (sib_by (if t then None else Some (low_field b)) sib) then 1 else 0) + w ≡ (if t then 1 else 0) + behind_base d b
+  alone_length : (t : Bool) (b : ℕ) (sib : ℕ) (w : ℕ) → w ≡ behind_base d b → (field_bits b == 4) ≡ t → (if is_some (sib_by (if t then None else Some (field_bits b)) sib) then 1 else 0) + w ≡ (if t then 1 else 0) + behind_base d b
   alone_length true b sib w e f = ap (λ n. 1 + n) e
   alone_length false b sib w e f = ap (λ n. 0 + n) e
 
   pub spelled_length : (b i : Option ℕ) (s : Scale) → (if is_some (Sib b i s) then 1 else 0) + disp_width (Modrm b i) (Sib b i s) ≡ bytes_by d b i
   spelled_length None i s = ap (λ n. 1 + n) (spelled_width None i s)
-  spelled_length (Some b) None s = alone_length (low_field b == 4) b (packed_byte (scale_field s) 4 (low_field b)) _ (spelled_width (Some b) None s) refl
+  spelled_length (Some b) None s = alone_length (field_bits b == 4) b (packed_byte (scale_bits s) 4 (field_bits b)) _ (spelled_width (Some b) None s) refl
   spelled_length (Some b) (Some i) s = ap (λ n. 1 + n) (spelled_width (Some b) (Some i) s)
 
   -- ---- they fit
@@ -157,30 +158,30 @@ module _ (d : ℤ) (m : ℕ) (below : m < 8) where
   pub rm_small : (b i : Option ℕ) → rm_by (rm_alone b i) < 8
   rm_small None i = omega arith
   rm_small (Some b) (Some i) = omega arith
-  rm_small (Some b) None = by (low_field b == 4)
+  rm_small (Some b) None = by (field_bits b == 4)
     where
-      by : (t : Bool) → rm_by (if t then None else Some (low_field b)) < 8
+      by : (t : Bool) → rm_by (if t then None else Some (field_bits b)) < 8
       by true = omega arith
       by false = low_small b
 
-  byte_small : (h k l : ℕ) → h < 3 → k < 8 → l < 8 → nat_lt (packed_byte h k l) 0xc0 ≡ true
+  byte_small : (h k l : ℕ) → h < 3 → k < 8 → l < 8 → is_memory (packed_byte h k l) ≡ true
   byte_small h k l a b c = grind (arith, nat_tests)
 
-  pub low_rm : (b i : Option ℕ) → low_field (Modrm b i) ≡ rm_by (rm_alone b i)
+  pub low_rm : (b i : Option ℕ) → rm_field (Modrm b i) ≡ rm_by (rm_alone b i)
   low_rm b i = low_is (mod_of d b) m (rm_by (rm_alone b i)) below (rm_small b i)
 
-  sib_by_rm : (rm : Option ℕ) (modrm sib : ℕ) → low_field modrm ≡ rm_by rm → ((n : ℕ) → rm ≡ Some n → (n == 4) ≡ false) → sib_fits modrm (sib_by rm sib) ≡ true
+  sib_by_rm : (rm : Option ℕ) (modrm sib : ℕ) → rm_field modrm ≡ rm_by rm → ((n : ℕ) → rm ≡ Some n → (n == 4) ≡ false) → sib_fits modrm (sib_by rm sib) ≡ true
   sib_by_rm None modrm sib e f = ap (λ n. n == 4) e
   sib_by_rm (Some rm) modrm sib e f = ap (λ n. not (n == 4)) e ∙ ap not (f rm refl)
 
   not_four : (b i : Option ℕ) (n : ℕ) → rm_alone b i ≡ Some n → (n == 4) ≡ false
   not_four None i n e = absurd (let g : None ≡ Some n = e in cc)
   not_four (Some b) (Some i) n e = absurd (let g : None ≡ Some n = e in cc)
-  not_four (Some b) None n e = by (low_field b == 4) refl e
+  not_four (Some b) None n e = by (field_bits b == 4) refl e
     where
-      by : (t : Bool) → (low_field b == 4) ≡ t → (if t then None else Some (low_field b)) ≡ Some n → (n == 4) ≡ false
+      by : (t : Bool) → (field_bits b == 4) ≡ t → (if t then None else Some (field_bits b)) ≡ Some n → (n == 4) ≡ false
       by true f g = absurd (let k : None ≡ Some n = g in cc)
-      by false f g = let k : low_field b ≡ n = (let h : Some (low_field b) ≡ Some n = g in cc) in ap (λ x. x == 4) (sym k) ∙ f
+      by false f g = let k : field_bits b ≡ n = (let h : Some (field_bits b) ≡ Some n = g in cc) in ap (λ x. x == 4) (sym k) ∙ f
 
   width_fits : (b i : Option ℕ) (w : ℕ) → w ≡ (elim b [ None ↦ 4 | Some n ↦ behind_base d n ]) → disp_fits w d ≡ true
   width_fits None i w e = ap (λ n. disp_fits n d) e
@@ -189,54 +190,54 @@ module _ (d : ℤ) (m : ℕ) (below : m < 8) where
   all_three : (a b c : Bool) → a ≡ true → b ≡ true → c ≡ true → (a && (b && c)) ≡ true
   all_three a b c e f g = grind arith
 
-  pub spelled_fits : (b i : Option ℕ) (s : Scale) → (nat_lt (Modrm b i) 0xc0 && (sib_fits (Modrm b i) (Sib b i s) && disp_fits (disp_width (Modrm b i) (Sib b i s)) d)) ≡ true
+  pub spelled_fits : (b i : Option ℕ) (s : Scale) → (is_memory (Modrm b i) && (sib_fits (Modrm b i) (Sib b i s) && disp_fits (disp_width (Modrm b i) (Sib b i s)) d)) ≡ true
   spelled_fits b i s =
       all_three _ _ _
       (byte_small (mod_of d b) m (rm_by (rm_alone b i)) (mod_is_small b) below (rm_small b i))
-      (sib_by_rm (rm_alone b i) (Modrm b i) (packed_byte (scale_field s) (field_or 4 i) (field_or 5 b)) (low_rm b i) (not_four b i))
+      (sib_by_rm (rm_alone b i) (Modrm b i) (packed_byte (scale_bits s) (field_or 4 i) (field_or 5 b)) (low_rm b i) (not_four b i))
       (width_fits b i _ (spelled_width b i s))
 
   -- ---- they have the registers
 
-  pub mod_reads : (b i : Option ℕ) → high_field (Modrm b i) ≡ mod_of d b
+  pub mod_reads : (b i : Option ℕ) → mod_field (Modrm b i) ≡ mod_of d b
   mod_reads b i = high_is (mod_of d b) m (rm_by (rm_alone b i)) below (rm_small b i)
 
   -- behind a SIB whose base field is that of the number
-  base_behind : (b : ℕ) (modrm sib : ℕ) → b < 16 → high_field modrm ≡ mod_by d b → low_field sib ≡ low_field b → base_in (nat_le 8 b) modrm (Some sib) ≡ Some b
+  base_behind : (b : ℕ) (modrm sib : ℕ) → b < 16 → mod_field modrm ≡ mod_by d b → base_field sib ≡ field_bits b → base_in (nat_le 8 b) modrm (Some sib) ≡ Some b
   base_behind b modrm sib h e f =
-      ap (λ t. if t then None else Some (extended (nat_le 8 b) (low_field sib))) (ap (λ n. (n == 0) && (low_field sib == 5)) e ∙ ap (λ n. (mod_by d b == 0) && (n == 5)) f ∙ not_bare_five (is_zero d) (asks_displacement b) (is_byte d))
+      ap (λ t. if t then None else Some (extended (nat_le 8 b) (base_field sib))) (ap (λ n. (n == 0) && (base_field sib == 5)) e ∙ ap (λ n. (mod_by d b == 0) && (n == 5)) f ∙ not_bare_five (is_zero d) (asks_displacement b) (is_byte d))
       ∙ ap (λ n. Some (extended (nat_le 8 b) n)) f
       ∙ ap Some (extended_low b h)
 
-  base_alone : (t : Bool) (b : ℕ) (sib : ℕ) → b < 16 → (low_field b == 4) ≡ t → low_field sib ≡ low_field b → (let rm = if t then None else Some (low_field b) in base_in (nat_le 8 b) (packed_byte (mod_by d b) m (rm_by rm)) (sib_by rm sib)) ≡ Some b
+  base_alone : (t : Bool) (b : ℕ) (sib : ℕ) → b < 16 → (field_bits b == 4) ≡ t → base_field sib ≡ field_bits b → (let rm = if t then None else Some (field_bits b) in base_in (nat_le 8 b) (packed_byte (mod_by d b) m (rm_by rm)) (sib_by rm sib)) ≡ Some b
   base_alone true b sib h e f = base_behind b (packed_byte (mod_by d b) m 4) sib h (high_is (mod_by d b) m 4 below (omega arith)) f
-  base_alone false b sib h e f = ap (λ n. Some (extended (nat_le 8 b) n)) (low_is (mod_by d b) m (low_field b) below (low_small b)) ∙ ap Some (extended_low b h)
+  base_alone false b sib h e f = ap (λ n. Some (extended (nat_le 8 b) n)) (low_is (mod_by d b) m (field_bits b) below (low_small b)) ∙ ap Some (extended_low b h)
 
   pub spelled_base : (b i : Option ℕ) (s : Scale) → IsBelow16 b → base_in (fourth_bit b) (Modrm b i) (Sib b i s) ≡ b
-  spelled_base None i s h = ap (λ n. if (n == 0) && (low_field (packed_byte (scale_field s) (field_or 4 i) 5) == 5) then None else Some (extended false (low_field (packed_byte (scale_field s) (field_or 4 i) 5)))) (mod_reads None i) ∙ ap (λ n. if n == 5 then None else Some (extended false n)) (sib_low None i s)
-  spelled_base (Some b) None s h = base_alone (low_field b == 4) b (packed_byte (scale_field s) 4 (low_field b)) h refl (sib_low (Some b) None s)
-  spelled_base (Some b) (Some i) s h = base_behind b (Modrm (Some b) (Some i)) (packed_byte (scale_field s) (low_field i) (low_field b)) h (mod_reads (Some b) (Some i)) (sib_low (Some b) (Some i) s)
+  spelled_base None i s h = ap (λ n. if (n == 0) && (base_field (packed_byte (scale_bits s) (field_or 4 i) 5) == 5) then None else Some (extended false (base_field (packed_byte (scale_bits s) (field_or 4 i) 5)))) (mod_reads None i) ∙ ap (λ n. if n == 5 then None else Some (extended false n)) (sib_low None i s)
+  spelled_base (Some b) None s h = base_alone (field_bits b == 4) b (packed_byte (scale_bits s) 4 (field_bits b)) h refl (sib_low (Some b) None s)
+  spelled_base (Some b) (Some i) s h = base_behind b (Modrm (Some b) (Some i)) (packed_byte (scale_bits s) (field_bits i) (field_bits b)) h (mod_reads (Some b) (Some i)) (sib_low (Some b) (Some i) s)
 
   -- an index is no 4
-  index_by : (i : ℕ) (sib : ℕ) → i < 16 → i ≢ 4 → middle_field sib ≡ low_field i → index_in (nat_le 8 i) (Some sib) ≡ Some i
+  index_by : (i : ℕ) (sib : ℕ) → i < 16 → i ≢ 4 → index_field sib ≡ field_bits i → index_in (nat_le 8 i) (Some sib) ≡ Some i
   index_by i sib h e f =
-      ap (λ t. if t then None else Some (extended (nat_le 8 i) (middle_field sib))) (ap (λ n. (n == 4) && not (nat_le 8 i)) f ∙ no_four)
+      ap (λ t. if t then None else Some (extended (nat_le 8 i) (index_field sib))) (ap (λ n. (n == 4) && not (nat_le 8 i)) f ∙ no_four)
       ∙ ap (λ n. Some (extended (nat_le 8 i) n)) f
       ∙ ap Some (extended_low i h)
     where
-      no_four : ((low_field i == 4) && not (nat_le 8 i)) ≡ false
+      no_four : ((field_bits i == 4) && not (nat_le 8 i)) ≡ false
       no_four = grind (arith, nat_tests)
 
-  sib_middle : (b i : Option ℕ) (s : Scale) → middle_field (packed_byte (scale_field s) (field_or 4 i) (field_or 5 b)) ≡ field_or 4 i
-  sib_middle b i s = middle_is (scale_field s) (field_or 4 i) (field_or 5 b) (field_small 4 i (omega arith)) (field_small 5 b (omega arith))
+  sib_middle : (b i : Option ℕ) (s : Scale) → index_field (packed_byte (scale_bits s) (field_or 4 i) (field_or 5 b)) ≡ field_or 4 i
+  sib_middle b i s = middle_is (scale_bits s) (field_or 4 i) (field_or 5 b) (field_small 4 i (omega arith)) (field_small 5 b (omega arith))
 
-  sib_high : (b i : Option ℕ) (s : Scale) → high_field (packed_byte (scale_field s) (field_or 4 i) (field_or 5 b)) ≡ scale_field s
-  sib_high b i s = high_is (scale_field s) (field_or 4 i) (field_or 5 b) (field_small 4 i (omega arith)) (field_small 5 b (omega arith))
+  sib_high : (b i : Option ℕ) (s : Scale) → scale_field (packed_byte (scale_bits s) (field_or 4 i) (field_or 5 b)) ≡ scale_bits s
+  sib_high b i s = high_is (scale_bits s) (field_or 4 i) (field_or 5 b) (field_small 4 i (omega arith)) (field_small 5 b (omega arith))
 
-  no_index : (sib : ℕ) → middle_field sib ≡ 4 → index_in false (Some sib) ≡ None
+  no_index : (sib : ℕ) → index_field sib ≡ 4 → index_in false (Some sib) ≡ None
   no_index sib e = ap (λ n. if (n == 4) && true then None else Some (extended false n)) e
 
-  no_index_alone : (rm : Option ℕ) (sib : ℕ) → middle_field sib ≡ 4 → index_in false (sib_by rm sib) ≡ None
+  no_index_alone : (rm : Option ℕ) (sib : ℕ) → index_field sib ≡ 4 → index_in false (sib_by rm sib) ≡ None
   no_index_alone None sib e = no_index sib e
   no_index_alone (Some rm) sib e = refl
 
@@ -246,7 +247,7 @@ module _ (d : ℤ) (m : ℕ) (below : m < 8) where
   spelled_index None (Some i) s h = index_by i _ h.0 h.1 (sib_middle None (Some i) s)
   spelled_index (Some b) (Some i) s h = index_by i _ h.0 h.1 (sib_middle (Some b) (Some i) s)
 
-  named : (s : Scale) → scale_named (scale_field s) ≡ s
+  named : (s : Scale) → scale_named (scale_bits s) ≡ s
   named One = refl
   named Two = refl
   named Four = refl

@@ -2,11 +2,11 @@
 use Rattle.std.proofs.Common.{◌≡◌, ℕ, ◌≤◌, ◌==◌, ◌&&◌, Bool, true, false, if◌then◌else◌, Option, Some, None, List, ◌∷◌, ◌++◌, length, slice_index, refl, sym, ap, ◌∙◌, arith}
 use Rattle.x86_fields.specs.declared.Prefixes.{Prefixes}
 use Rattle.x86_fields.specs.declared.Raw.{Raw}
-use Rattle.x86_fields.specs.Raw.{low_field, rex_b, rex_x, disp_width, live_bit}
+use Rattle.x86_fields.specs.ModRM.{rm_field, is_memory}
+use Rattle.x86_fields.specs.Raw.{rex_b, rex_x, disp_width, live_bit}
 use Rattle.x86_fields.specs.Run.{reading_of}
 use Rattle.x86_fields.specs.Pieces.{option_bytes, first_byte, signed_by, SpellsRaw}
 use Rattle.x86_operands.specs.declared.reader.Reading.{Reading}
-use Rattle.x86_operands.specs.Plans.{is_memory}
 use Rattle.x86_operands.specs.Pieces.{SpellsMemory}
 use Rattle.x86_operands.specs.Asks.{ask_of}
 use Rattle.x86_decode.specs.Head.{escape_bytes}
@@ -87,7 +87,7 @@ module _ (strict : Bool) (s : List ℕ) (a : Reading) (v : Encoding strict s a) 
 
     sib_long : length parts.sib ≡ length (option_bytes (spelled).sib)
     sib_long =
-        h.sib ∙ ap (λ t. if t && low_field (Byte strict s a v) == 4 then 1 else 0) (spells strict s a v raw read).0
+        h.sib ∙ ap (λ t. if t && rm_field (Byte strict s a v) == 4 then 1 else 0) (spells strict s a v raw read).0
         ∙ ap one_if (sym (spelled).sib_asked) ∙ sym (option_count (spelled).sib)
 
     both : parts.sib ++ parts.displacement ≡ option_bytes (spelled).sib ++ (spelled).disp

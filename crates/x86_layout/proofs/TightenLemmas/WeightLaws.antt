@@ -1,11 +1,11 @@
 -- No places of the same registers need fewer bytes.
 use Rattle.std.proofs.Common.{◌≡◌, ◌≢◌, ℕ, ◌+◌, ◌<◌, ◌≤◌, ◌==◌, ◌&&◌, ◌⊎◌, inl, inr, not, Bool, true, false, if◌then◌else◌, Option, Some, None, ℤ, refl, sym, ap, subst, ◌∙◌, arith}
 use Rattle.std.proofs.lemmas.Bool.Decides.{nat_tests}
-use Rattle.x86_fields.specs.Raw.{low_field, is_zero, is_byte}
+use Rattle.x86_fields.specs.Raw.{is_zero, is_byte}
 use Rattle.x86_layout.specs.declared.tightening.registers.Scale.{Scale}
 use Rattle.x86_layout.specs.declared.tightening.registers.Scale.TheVariants.{One, Two, Four, Eight}
 use Rattle.x86_layout.specs.Tightening.Registers.{times, counts, IsBelow16, IsIndex}
-use Rattle.x86_layout.specs.Tightening.Shortest.{asks_displacement, is_bare, lone, both, exchanged, placed, behind_base, bytes_by, bytes_at}
+use Rattle.x86_layout.specs.Tightening.Shortest.{asks_displacement, is_bare, lone, both, exchanged, placed, behind_base, bytes_by, bytes_at, field_bits}
 
 -- ---- how often a register counts
 
@@ -43,7 +43,7 @@ flag_small false = omega arith
 
 pub at_most_five : (d : ℤ) (b i : Option ℕ) → bytes_by d b i ≤ 5
 at_most_five d None i = omega arith
-at_most_five d (Some b) None = omega (arith, at_most_four d b, flag_small (low_field b == 4))
+at_most_five d (Some b) None = omega (arith, at_most_four d b, flag_small (field_bits b == 4))
 at_most_five d (Some b) (Some i) = omega (arith, at_most_four d b)
 
 -- ---- what equal counts tell

@@ -1,7 +1,7 @@
 -- The map by the first two bytes behind the run, and the pieces in front of and behind it.
 use Rattle.std.specs.Prelude.{◌≡◌, ℕ, ◌==◌, ◌&&◌, Bool, if◌then◌else◌, List, [], ◌∷◌, ◌++◌, length, slice_index}
 use Rattle.x86_fields.specs.declared.Prefixes.{Prefixes}
-use Rattle.x86_fields.specs.Raw.{low_field}
+use Rattle.x86_fields.specs.ModRM.{rm_field}
 use Rattle.x86_forms.specs.declared.Map.{Map}
 use Rattle.x86_forms.specs.declared.Map.TheVariants.{One, Of, Of38, Of3a}
 use Rattle.x86_operands.specs.declared.asks.Ask.{Ask}
@@ -25,7 +25,7 @@ one_if flag = if flag then 1 else 0
 
 -- whether a SIB is asked, told from what the row asks and the byte behind the opcode
 abbrev pub asks_sib : Ask → ℕ → Bool
-asks_sib ask modrm = ask.memory && low_field modrm == 4
+asks_sib ask modrm = ask.memory && rm_field modrm == 4
 
 -- These are the pieces up to the opcode byte, what stands behind it, and what the row asks.
 pub record IsHead (strict : Bool) (s : List ℕ) (reading : Reading) (w : Encoding strict s reading) (h : Head) : Type 0 where

@@ -2,9 +2,9 @@
 use Rattle.std.specs.Prelude.{◌≡◌, ℕ, ◌==◌, ◌&&◌, Bool, if◌then◌else◌, List, [], ◌∷◌, ◌++◌, length, Ok}
 use Rattle.x86_forms.specs.Words.{rows_of, word_at}
 use Rattle.x86_fields.specs.Run.{reading_of}
-use Rattle.x86_fields.specs.Raw.{low_field}
+use Rattle.x86_fields.specs.ModRM.{rm_field, is_memory}
 use Rattle.x86_operands.specs.declared.reader.Reading.{Reading}
-use Rattle.x86_operands.specs.Plans.{RowRecord, is_memory}
+use Rattle.x86_operands.specs.Plans.{RowRecord}
 use Rattle.x86_operands.specs.Pieces.{modrm_of}
 use Rattle.x86_decode.specs.declared.instructions.Instruction.{Instruction}
 use Rattle.x86_decode.specs.Head.{escape_bytes, seen}
@@ -42,7 +42,7 @@ Encoding strict s reading = Whole (rows_of word_at) strict s reading
 
 -- SIB is there where ModRM is read as a memory form and its rm is 100 (Intel SDM volume 2, section 2.1.5)
 abbrev pub sib_width : ℕ → ℕ
-sib_width modrm = if is_memory modrm && low_field modrm == 4 then 1 else 0
+sib_width modrm = if is_memory modrm && rm_field modrm == 4 then 1 else 0
 
 module _ (strict : Bool) (s : List ℕ) (reading : Reading) (w : Encoding strict s reading) where
   -- the record of the encoding's row

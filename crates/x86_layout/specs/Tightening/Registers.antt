@@ -1,7 +1,7 @@
 -- Which registers an address adds, and where they stand. Source: Intel SDM volume 2, sections 2.1.5 and 2.2.1.
 use Rattle.std.specs.Prelude.{ℕ, ◌+◌, ◌<◌, ◌≢◌, ◌==◌, ◌&&◌, not, Bool, false, if◌then◌else◌, Option, Some, None}
 use Rattle.x86_fields.specs.declared.Raw.{Raw}
-use Rattle.x86_fields.specs.Raw.{high_field, middle_field, low_field}
+use Rattle.x86_fields.specs.ModRM.{mod_field, rm_field, scale_field, index_field, base_field}
 use Rattle.x86_fields.specs.Address.{extended}
 use Rattle.x86_layout.specs.declared.tightening.registers.Scale.{Scale}
 use Rattle.x86_layout.specs.declared.tightening.registers.Scale.TheVariants.{One, Two, Four, Eight}
@@ -9,7 +9,7 @@ use Rattle.x86_layout.specs.declared.tightening.registers.AddressRegisters.{Addr
 
 -- the base is the next instruction: mod 00 with rm 101
 abbrev pub is_ip_by : ℕ → Option ℕ → Bool
-is_ip_by modrm None = (high_field modrm == 0) && (low_field modrm == 5)
+is_ip_by modrm None = (mod_field modrm == 0) && (rm_field modrm == 5)
 is_ip_by modrm (Some sib) = false
 
 abbrev pub is_ip_relative : Raw → Bool
@@ -17,8 +17,8 @@ is_ip_relative raw = is_ip_by raw.modrm raw.sib
 
 -- the number of the base: rm without SIB, else the base field of SIB, and none at mod 00 with 101
 abbrev pub base_in : Bool → ℕ → Option ℕ → Option ℕ
-base_in bit modrm None = Some (extended bit (low_field modrm))
-base_in bit modrm (Some sib) = if (high_field modrm == 0) && (low_field sib == 5) then None else Some (extended bit (low_field sib))
+base_in bit modrm None = Some (extended bit (rm_field modrm))
+base_in bit modrm (Some sib) = if (mod_field modrm == 0) && (base_field sib == 5) then None else Some (extended bit (base_field sib))
 
 abbrev pub base_number : Raw → Option ℕ
 base_number raw = base_in raw.rex_b raw.modrm raw.sib
@@ -26,7 +26,7 @@ base_number raw = base_in raw.rex_b raw.modrm raw.sib
 -- the number of the index: the index field of SIB, and none at 100 without X
 abbrev pub index_in : Bool → Option ℕ → Option ℕ
 index_in bit None = None
-index_in bit (Some sib) = if (middle_field sib == 4) && not bit then None else Some (extended bit (middle_field sib))
+index_in bit (Some sib) = if (index_field sib == 4) && not bit then None else Some (extended bit (index_field sib))
 
 abbrev pub index_number : Raw → Option ℕ
 index_number raw = index_in raw.rex_x raw.sib
@@ -36,7 +36,7 @@ scale_named field = if field == 0 then One else (if field == 1 then Two else (if
 
 abbrev pub scale_in : Option ℕ → Scale
 scale_in None = One
-scale_in (Some sib) = scale_named (high_field sib)
+scale_in (Some sib) = scale_named (scale_field sib)
 
 abbrev pub registers_of : Raw → AddressRegisters
 registers_of raw = record { base = base_number raw; index = index_number raw; scale = scale_in raw.sib }

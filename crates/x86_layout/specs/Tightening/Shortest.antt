@@ -1,8 +1,9 @@
 -- The raw fields of an address with the fewest bytes. Source: Intel SDM volume 2, sections 2.1.5 and 2.2.1.
-use Rattle.std.specs.Prelude.{◌≡◌, ℕ, ◌+◌, ◌*◌, ◌==◌, ◌&&◌, not, nat_le, Bool, true, false, if◌then◌else◌, Option, Some, None, is_some, ℤ, FitsSigned}
+use Rattle.std.specs.Prelude.{◌≡◌, ℕ, ◌+◌, ◌*◌, ◌%◌, ◌==◌, ◌&&◌, not, nat_le, Bool, true, false, if◌then◌else◌, Option, Some, None, is_some, ℤ, FitsSigned}
 use Rattle.std.specs.Int.{w32}
 use Rattle.x86_fields.specs.declared.Raw.{Raw}
-use Rattle.x86_fields.specs.Raw.{middle_field, low_field, disp_width, is_zero, is_byte, fits}
+use Rattle.x86_fields.specs.ModRM.{reg_field, packed_byte}
+use Rattle.x86_fields.specs.Raw.{disp_width, is_zero, is_byte, fits}
 use Rattle.x86_layout.specs.declared.tightening.registers.Scale.{Scale}
 use Rattle.x86_layout.specs.declared.tightening.registers.Scale.TheVariants.{One, Two, Four, Eight}
 use Rattle.x86_layout.specs.declared.tightening.registers.AddressRegisters.{AddressRegisters}
@@ -10,9 +11,13 @@ use Rattle.x86_layout.specs.Tightening.Registers.{registers_of, IsByteOption}
 
 -- ---- where the registers stand
 
+-- the three bits of a register's number that a field holds
+abbrev pub field_bits : ℕ → ℕ
+field_bits number = number % 8
+
 -- a base whose number ends in 101 has a displacement, also of 0
 abbrev pub asks_displacement : ℕ → Bool
-asks_displacement base = low_field base == 5
+asks_displacement base = field_bits base == 5
 
 abbrev pub is_bare : ℤ → ℕ → Bool
 is_bare disp base = is_zero disp && not (asks_displacement base)
@@ -54,7 +59,7 @@ behind_base disp base = if is_bare disp base then 0 else (if is_byte disp then 1
 -- of SIB and displacement, where the registers stand so
 abbrev pub bytes_by : ℤ → Option ℕ → Option ℕ → ℕ
 bytes_by disp None index = 5
-bytes_by disp (Some b) None = (if low_field b == 4 then 1 else 0) + behind_base disp b
+bytes_by disp (Some b) None = (if field_bits b == 4 then 1 else 0) + behind_base disp b
 bytes_by disp (Some b) (Some i) = 1 + behind_base disp b
 
 abbrev pub bytes_at : ℤ → AddressRegisters → ℕ
@@ -73,31 +78,28 @@ abbrev pub mod_of : ℤ → Option ℕ → ℕ
 mod_of disp None = 0
 mod_of disp (Some b) = mod_by disp b
 
-abbrev pub packed_byte : ℕ → ℕ → ℕ → ℕ
-packed_byte high middle low = high * 64 + (middle * 8 + low)
-
 -- the fourth bit of a register's number
 abbrev pub fourth_bit : Option ℕ → Bool
 fourth_bit None = false
 fourth_bit (Some n) = nat_le 8 n
 
-abbrev pub scale_field : Scale → ℕ
-scale_field One = 0
-scale_field Two = 1
-scale_field Four = 2
-scale_field Eight = 3
+abbrev pub scale_bits : Scale → ℕ
+scale_bits One = 0
+scale_bits Two = 1
+scale_bits Four = 2
+scale_bits Eight = 3
 
 -- the three bits of a register's number, and these where there is none
 abbrev pub field_or : ℕ → Option ℕ → ℕ
 field_or none None = none
-field_or none (Some n) = low_field n
+field_or none (Some n) = field_bits n
 
 abbrev pub sib_byte : AddressRegisters → ℕ
-sib_byte at = packed_byte (scale_field at.scale) (field_or 4 at.index) (field_or 5 at.base)
+sib_byte at = packed_byte (scale_bits at.scale) (field_or 4 at.index) (field_or 5 at.base)
 
 -- SIB isn't needed where there is a base alone, whose number doesn't end in 100
 abbrev pub rm_alone : Option ℕ → Option ℕ → Option ℕ
-rm_alone (Some b) None = if low_field b == 4 then None else Some (low_field b)
+rm_alone (Some b) None = if field_bits b == 4 then None else Some (field_bits b)
 rm_alone base index = None
 
 abbrev pub sib_by : Option ℕ → ℕ → Option ℕ
@@ -113,7 +115,7 @@ abbrev pub spelled : Raw → AddressRegisters → Raw
 spelled raw at = record raw {
   rex_b = fourth_bit at.base;
   rex_x = fourth_bit at.index;
-  modrm = packed_byte (mod_of raw.disp at.base) (middle_field raw.modrm) (rm_by (rm_alone at.base at.index));
+  modrm = packed_byte (mod_of raw.disp at.base) (reg_field raw.modrm) (rm_by (rm_alone at.base at.index));
   sib = sib_by (rm_alone at.base at.index) (sib_byte at);
 }
 

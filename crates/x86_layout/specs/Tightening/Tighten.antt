@@ -5,7 +5,8 @@ use Rattle.std.specs.Int.{w32, cast_unsigned, to_le_bytes}
 use Rattle.x86_fields.specs.declared.PrefixRex.{PrefixRex}
 use Rattle.x86_fields.specs.declared.Raw.{Raw}
 use Rattle.x86_fields.specs.Run.{is_rex_byte, reading_of}
-use Rattle.x86_fields.specs.Raw.{middle_field, disp_width, rex_b, rex_x}
+use Rattle.x86_fields.specs.ModRM.{reg_field}
+use Rattle.x86_fields.specs.Raw.{disp_width, rex_b, rex_x}
 use Rattle.x86_fields.specs.Pieces.{option_bytes, first_byte, signed_by}
 use Rattle.x86_fields.specs.Linear.{raw_form, IsSameAddress}
 use Rattle.x86_forms.specs.Words.{rows_of, word_at}
@@ -77,7 +78,7 @@ module _ (strict : Bool) (s : List ℕ) (a : Reading) (v : Encoding strict s a) 
     pub prefixes : run_with false false w.run ≡ run_with false false v.run
     pub escape : escape_bytes w.map ≡ escape_bytes v.map
     pub opcode : w.opcode ≡ v.opcode
-    pub register : map middle_field w.asked.modrm ≡ map middle_field v.asked.modrm
+    pub register : map reg_field w.asked.modrm ≡ map reg_field v.asked.modrm
     pub immediate : w.asked.behind.pieces.immediates ≡ v.asked.behind.pieces.immediates
     pub suffix : w.asked.behind.pieces.suffix ≡ v.asked.behind.pieces.suffix
 

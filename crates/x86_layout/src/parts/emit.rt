@@ -18,8 +18,8 @@ use thiserror::Error;
 use x86_arch::U8Reader;
 use x86_decode::InstDecoder;
 use x86_decode::builders::{allows_lock, is_prefix, read_row};
-use x86_fields::displacement_width;
-use x86_operands::plans::{Verdict, memory_form};
+use x86_fields::{ModRM, displacement_width};
+use x86_operands::plans::Verdict;
 use x86_operands::{RecordAt, plan_ask, suffix_opcode};
 
 /// Why fields aren't written: the first condition that fails, in this order.
@@ -83,11 +83,11 @@ fn passes_record(row_record: &RecordAt, fields: &Fields) -> bool
 }
 
 /// How many bytes of displacement there are at ModRM and SIB.
-fn displacement_asked(modrm: u8, sib: Option<u8>) -> u8
+fn displacement_asked(modrm: ModRM, sib: Option<u8>) -> u8
     ensures { result ≡ displacement_asked modrm sib }
 {
-    if memory_form(modrm) {
-        displacement_width(modrm, sib)
+    if modrm.is_memory() {
+        displacement_width(modrm.byte(), sib)
     } else {
         0
     }

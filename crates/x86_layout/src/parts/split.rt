@@ -14,7 +14,7 @@ ghost use Rattle.x86_layout.specs.Parts.Fields.{HasFieldLengths};
 
 use crate::parts::heads::{Head, byte_at, front_and_rest, head_of};
 use x86_decode::{InstDecoder, Instruction, laws};
-use x86_fields::DecodeError;
+use x86_fields::{DecodeError, ModRM};
 use x86_operands::Ask;
 
 /// The parts of an encoding, in order. Their concatenation is the encoding (Intel SDM volume 2, section 2.1).
@@ -36,10 +36,10 @@ pub struct Parts<'a> {
 }
 
 /// Whether there is a SIB at a ModRM byte.
-pub fn asks_sib(ask: &Ask, modrm: u8) -> bool
+pub fn asks_sib(ask: &Ask, modrm: ModRM) -> bool
     ensures { result ≡ asks_sib ask.now modrm }
 {
-    ask.memory && modrm % 8 == 4
+    ask.memory && modrm.rm_field() == 4
 }
 
 /// The parts of an encoding that has this head.
@@ -51,7 +51,7 @@ pub fn parts_behind<'a>(head: &Head<'a>) -> Parts<'a>
 {
     let ask = head.ask;
     let immediate_length = usize::from(ask.immediate);
-    let sib_length = usize::from(asks_sib(&ask, byte_at(head.tail, 0)));
+    let sib_length = usize::from(asks_sib(&ask, ModRM::new(byte_at(head.tail, 0))));
     let (modrm, rest) = front_and_rest(head.tail, usize::from(ask.modrm));
     let before_suffix = rest.len().saturating_sub(usize::from(ask.suffix));
     let (address, rest) = front_and_rest(rest, before_suffix.saturating_sub(immediate_length));
@@ -106,7 +106,7 @@ pub fn split<'a>(decoder: &InstDecoder, bytes: &'a [u8]) -> Result<Parts<'a>, De
 mod tests {
     use crate::split;
     use x86_decode::InstDecoder;
-    use x86_fields::DecodeError;
+    use x86_fields::{DecodeError, ModRM};
 
     /// Whether the parts of the encoding at the front are these, in order.
     fn has_parts(bytes: &[u8], wanted: [&[u8]; 8]) -> bool {

@@ -3,7 +3,7 @@
 ghost use Rattle.std.specs.Prelude.{◌≡◌};
 ghost use Rattle.x86_layout.specs.Tightening.Registers.{base_number, index_number, scale_in, registers_of, is_ip_relative};
 
-use x86_fields::{Raw, extend};
+use x86_fields::{ModRM, Raw, Sib, extend};
 
 /// What an index is multiplied by.
 #[derive(Clone, Copy, PartialEq, Eq, Debug, Drop)]
@@ -25,10 +25,11 @@ pub struct AddressRegisters {
 fn base_number(raw: &Raw) -> Option<u8>
     ensures { result ≡ base_number raw.now }
 {
-    match raw.sib {
-        None => Some(extend(raw.rex_b, raw.modrm % 8)),
-        Some(sib) if raw.modrm / 64 == 0 && sib % 8 == 5 => None,
-        Some(sib) => Some(extend(raw.rex_b, sib % 8)),
+    let modrm = ModRM::new(raw.modrm);
+    match raw.sib.map(Sib::new) {
+        None => Some(extend(raw.rex_b, modrm.rm_field())),
+        Some(sib) if modrm.mod_field() == 0 && sib.base_field() == 5 => None,
+        Some(sib) => Some(extend(raw.rex_b, sib.base_field())),
     }
 }
 
@@ -46,7 +47,7 @@ fn scale_in(sib: Option<u8>) -> Scale
 {
     match sib {
         None => Scale::One,
-        Some(sib) => match sib / 64 {
+        Some(sib) => match Sib::new(sib).scale_field() {
             0 => Scale::One,
             1 => Scale::Two,
             2 => Scale::Four,
@@ -70,5 +71,6 @@ pub fn registers_of(raw: &Raw) -> AddressRegisters
 pub fn is_ip_relative(raw: &Raw) -> bool
     ensures { result ≡ is_ip_relative raw.now }
 {
-    raw.sib.is_none() && raw.modrm / 64 == 0 && raw.modrm % 8 == 5
+    let modrm = ModRM::new(raw.modrm);
+    raw.sib.is_none() && modrm.mod_field() == 0 && modrm.rm_field() == 5
 }

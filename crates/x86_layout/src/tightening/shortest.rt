@@ -1,16 +1,25 @@
 //! The raw fields of an address with the fewest bytes. Source: Intel SDM volume 2, sections 2.1.5 and 2.2.1.
 
 ghost use Rattle.std.specs.Prelude.{◌≡◌, ◌<◌};
-ghost use Rattle.x86_layout.specs.Tightening.Shortest.{asks_displacement, is_bare, lone, both, exchanged, placed, mod_by, mod_of, packed_byte, fourth_bit, scale_field, field_or, sib_byte, rm_alone, spelled, shortest};
+ghost use Rattle.x86_fields.specs.ModRM.{mod_field};
+ghost use Rattle.x86_layout.specs.Tightening.Shortest.{asks_displacement, is_bare, lone, both, exchanged, placed, mod_by, mod_of, fourth_bit, scale_bits, field_or, sib_byte, rm_alone, spelled, shortest, field_bits};
 
 use crate::tightening::registers::{AddressRegisters, Scale, registers_of};
-use x86_fields::Raw;
+use x86_fields::{ModRM, Raw, Sib};
+
+/// The three bits of a register's number that a field holds.
+fn field_bits(number: u8) -> u8
+    ensures value { result ≡ field_bits number }
+    ensures small { result < 8 }
+{
+    number % 8
+}
 
 /// Whether a base asks a displacement, also of 0: its number ends in 101.
 fn asks_displacement(base: u8) -> bool
     ensures { result ≡ asks_displacement base }
 {
-    base % 8 == 5
+    field_bits(base) == 5
 }
 
 /// Where an index stands that is alone.
@@ -97,7 +106,7 @@ fn mod_behind(disp: i32, base: u8) -> u8
     }
 }
 
-fn mod_field(disp: i32, base: Option<u8>) -> u8
+fn mod_of(disp: i32, base: Option<u8>) -> u8
     ensures value { result ≡ mod_of disp base }
     ensures small { result < 3 }
 {
@@ -107,18 +116,8 @@ fn mod_field(disp: i32, base: Option<u8>) -> u8
     }
 }
 
-/// A byte of a field of two bits and two of three.
-fn packed(high: u8, middle: u8, low: u8) -> u8
-    requires high { high < 4 }
-    requires middle { middle < 8 }
-    requires low { low < 8 }
-    ensures { result ≡ packed_byte high middle low }
-{
-    high * 64 + middle * 8 + low
-}
-
-fn scale_field(scale: Scale) -> u8
-    ensures value { result ≡ scale_field scale }
+fn scale_bits(scale: Scale) -> u8
+    ensures value { result ≡ scale_bits scale }
     ensures small { result < 4 }
 {
     match scale {
@@ -146,7 +145,7 @@ fn field_or(none: u8, number: Option<u8>) -> u8
     ensures small { result < 8 }
 {
     match number {
-        Some(number) => number % 8,
+        Some(number) => field_bits(number),
         None => none,
     }
 }
@@ -154,11 +153,12 @@ fn field_or(none: u8, number: Option<u8>) -> u8
 fn sib_byte(at: &AddressRegisters) -> u8
     ensures { result ≡ sib_byte at.now }
 {
-    packed(
-        scale_field(at.scale),
+    let sib = Sib::of_fields(
+        scale_bits(at.scale),
         field_or(4, at.index),
         field_or(5, at.base),
-    )
+    );
+    sib.byte()
 }
 
 /// The rm field where no SIB is needed: a base alone, whose number doesn't end in 100.
@@ -166,7 +166,7 @@ fn rm_alone(at: &AddressRegisters) -> Option<u8>
     ensures { result ≡ rm_alone at.now.base at.now.index }
 {
     match (at.base, at.index) {
-        (Some(base), None) if base % 8 != 4 => Some(base % 8),
+        (Some(base), None) if field_bits(base) != 4 => Some(field_bits(base)),
         _ => None,
     }
 }
@@ -175,9 +175,9 @@ fn rm_alone(at: &AddressRegisters) -> Option<u8>
 fn spelled(raw: &Raw, at: &AddressRegisters) -> Raw
     ensures { result ≡ spelled raw.now at.now }
 {
-    let high = mod_field(raw.disp, at.base);
-    let middle = raw.modrm / 8 % 8;
-    let (rm, sib) = match rm_alone(at) {
+    let mod_field = mod_of(raw.disp, at.base);
+    let reg_field = ModRM::new(raw.modrm).reg_field();
+    let (rm_field, sib) = match rm_alone(at) {
         Some(rm) => (rm, None),
         None => (4, Some(sib_byte(at))),
     };
@@ -185,7 +185,7 @@ fn spelled(raw: &Raw, at: &AddressRegisters) -> Raw
         rex_b: fourth_bit(at.base),
         rex_x: fourth_bit(at.index),
         address_size: raw.address_size,
-        modrm: packed(high, middle, rm),
+        modrm: ModRM::of_fields(mod_field, reg_field, rm_field).byte(),
         sib,
         disp: raw.disp,
     }

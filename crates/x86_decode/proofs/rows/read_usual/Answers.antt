@@ -1,5 +1,5 @@
 use Rattle.std.proofs.Common.{rules, ◌≡◌, Ok, Err, refl, ap, ◌∙◌}
-use Rattle.x86_fields.specs.Steps.{then_from}
+use Rattle.x86_fields.specs.Steps.{outcome, then_from}
 use Rattle.x86_operands.specs.declared.plans.ModrmUse.TheVariants.{Absent, Fields}
 use Rattle.x86_operands.specs.Encodings.{group_form}
 use Rattle.x86_decode.specs.Walk.{found_row_step}
@@ -58,4 +58,4 @@ returns-in-Nothing-clause-read g c = λ strict i.
     let s = g.T.Reader.state c.args.words.now in
     let b = c.encoding_of-encoding.result.now.behind in
     let plain : IsPlain Absent b c.args.row.now.form = with_none b c.args.row.now.form c.in-Nothing.is c.encoding_of-encoding.ensures.group in
-    row_asks {r = Ok 0xc0} {t = s} s strict c.args.row.now i.prefixes Absent b plain c.encoding_of-encoding.ensures.usage refl
+    row_asks {r = Ok c.absent.result} {t = s} s strict c.args.row.now i.prefixes Absent b plain c.encoding_of-encoding.ensures.usage (ap (λ m. outcome (Ok m) s) c.absent.ensures)

@@ -27,7 +27,7 @@ returns-clause-tail c = λ r p reading tail e k a.
     let m : ℕ = modrm_of r.modrm a.modrm in
     let n : ℕ = c.from-sib_length.result in
     let sib_n : n ≡ sib_width m =
-    c.from-sib_length.ensures ∙ from_is _ ∙ ap one_if (c.asks_sib.ensures ∙ ap (asks_sib ask) (c.byte_at.ensures ∙ ap (λ l. slice_index l 0) e)) ∙ sib_count r p tail reading a tail a.tail a.spelled ask k in
+    c.from-sib_length.ensures ∙ from_is _ ∙ ap one_if (c.asks_sib.ensures ∙ ap (asks_sib ask) (c.new.ensures ∙ c.byte_at.ensures ∙ ap (λ l. slice_index l 0) e)) ∙ sib_count r p tail reading a tail a.tail a.spelled ask k in
     let within : sib_width m ≤ length s.address = sib_within p m s.address s.memory s.address_asked in
     let both = c.front_and_rest-2.result.0.now in
     record {

@@ -1,0 +1,177 @@
+//! The bytes ModRM and SIB, and their fields. Source: Intel SDM volume 2, sections 2.1.3 and 2.1.5.
+
+ghost use Rattle.std.specs.Prelude.{◌≡◌, ◌<◌, ℕ};
+ghost use Rattle.x86_fields.specs.ModRM.{absent_modrm, as_register, base_field, index_field, is_memory, mod_field, packed_byte, reg_field, rm_field, scale_field};
+
+use std::marker::Model;
+
+/// A ModRM byte below this one is a memory form, and every other is a register form: mod is 11 from here on.
+pub const MEMORY_FORMS: u8 = 0xc0;
+
+/// A ModRM byte: the fields mod, reg and rm (Intel SDM volume 2, section 2.1.3). A clause sees its byte.
+#[derive(Clone, Copy, PartialEq, Eq, Debug)]
+pub struct ModRM {
+    byte: u8,
+}
+
+impl Model for ModRM {
+    ghost Value = { ℕ };
+
+    ghost view = { λ m. m.byte };
+
+    ghost invariant = { λ m. m.byte < 256 };
+
+    ghost inverse = { λ n. record { byte = n } };
+}
+
+impl ModRM {
+    #[inline(always)]
+    pub fn new(byte: u8) -> ModRM
+        ensures { result ≡ byte }
+    {
+        ModRM { byte }
+    }
+
+    /// The ModRM of these fields: mod below 4, reg and rm below 8.
+    #[inline(always)]
+    pub fn of_fields(mod_field: u8, reg_field: u8, rm_field: u8) -> ModRM
+        requires mode { mod_field < 4 }
+        requires reg { reg_field < 8 }
+        requires rm { rm_field < 8 }
+        ensures { result ≡ packed_byte mod_field reg_field rm_field }
+    {
+        ModRM {
+            byte: mod_field * 64 + reg_field * 8 + rm_field,
+        }
+    }
+
+    /// What stands for a ModRM that isn't there: C0, the register form of reg 0 and rm 0.
+    #[inline(always)]
+    pub fn absent() -> ModRM
+        ensures { result ≡ absent_modrm }
+    {
+        ModRM::of_fields(3, 0, 0)
+    }
+
+    #[inline(always)]
+    pub fn byte(self) -> u8
+        ensures { result ≡ self }
+    {
+        self.byte
+    }
+
+    /// The field mod, from 0 to 3: 3 is a register form.
+    #[inline(always)]
+    pub fn mod_field(self) -> u8
+        ensures value { result ≡ mod_field self }
+        ensures small { result < 4 }
+    {
+        self.byte / 64
+    }
+
+    /// The field reg, without R: from 0 to 7.
+    #[inline(always)]
+    pub fn reg_field(self) -> u8
+        ensures value { result ≡ reg_field self }
+        ensures small { result < 8 }
+    {
+        self.byte / 8 % 8
+    }
+
+    /// The field rm, without B: from 0 to 7.
+    #[inline(always)]
+    pub fn rm_field(self) -> u8
+        ensures value { result ≡ rm_field self }
+        ensures small { result < 8 }
+    {
+        self.byte % 8
+    }
+
+    /// Whether it is a memory form: mod isn't 11.
+    #[inline(always)]
+    pub fn is_memory(self) -> bool
+        ensures { result ≡ is_memory self }
+    {
+        self.byte < MEMORY_FORMS
+    }
+
+    /// The register form with the same reg and rm.
+    #[inline(always)]
+    pub fn as_register(self) -> ModRM
+        ensures { result ≡ as_register self }
+    {
+        ModRM::of_fields(3, self.reg_field(), self.rm_field())
+    }
+}
+
+/// A SIB byte: the fields scale, index and base (Intel SDM volume 2, section 2.1.5). A clause sees its byte.
+#[derive(Clone, Copy, PartialEq, Eq, Debug)]
+pub struct Sib {
+    byte: u8,
+}
+
+impl Model for Sib {
+    ghost Value = { ℕ };
+
+    ghost view = { λ s. s.byte };
+
+    ghost invariant = { λ s. s.byte < 256 };
+
+    ghost inverse = { λ n. record { byte = n } };
+}
+
+impl Sib {
+    #[inline(always)]
+    pub fn new(byte: u8) -> Sib
+        ensures { result ≡ byte }
+    {
+        Sib { byte }
+    }
+
+    /// The SIB of these fields: scale below 4, index and base below 8.
+    #[inline(always)]
+    pub fn of_fields(scale_field: u8, index_field: u8, base_field: u8) -> Sib
+        requires scale { scale_field < 4 }
+        requires index { index_field < 8 }
+        requires base { base_field < 8 }
+        ensures { result ≡ packed_byte scale_field index_field base_field }
+    {
+        Sib {
+            byte: scale_field * 64 + index_field * 8 + base_field,
+        }
+    }
+
+    #[inline(always)]
+    pub fn byte(self) -> u8
+        ensures { result ≡ self }
+    {
+        self.byte
+    }
+
+    /// The field scale, from 0 to 3: the index counts 2 to the power of it.
+    #[inline(always)]
+    pub fn scale_field(self) -> u8
+        ensures value { result ≡ scale_field self }
+        ensures small { result < 4 }
+    {
+        self.byte / 64
+    }
+
+    /// The field index, without X: from 0 to 7.
+    #[inline(always)]
+    pub fn index_field(self) -> u8
+        ensures value { result ≡ index_field self }
+        ensures small { result < 8 }
+    {
+        self.byte / 8 % 8
+    }
+
+    /// The field base, without B: from 0 to 7.
+    #[inline(always)]
+    pub fn base_field(self) -> u8
+        ensures value { result ≡ base_field self }
+        ensures small { result < 8 }
+    {
+        self.byte % 8
+    }
+}
