@@ -8,7 +8,7 @@ use Rattle.std.proofs.lemmas.Bool.Decides.{nat_tests}
 use Rattle.std.proofs.lemmas.List.{get_or-replicate, get_or-set_same, get_or-set_other, length-set}
 use Rattle.std.proofs.Math.Nat.{mod-eq_of_lt, add-mod_right}
 use Rattle.x86_regs.specs.declared.RegSpec.{RegSpec}
-use Rattle.x86_fields.specs.declared.Raw.{Raw}
+use Rattle.x86_fields.specs.declared.raw.Raw.{Raw}
 use Rattle.x86_fields.specs.Address.{base_of, index_of, scale_by}
 use Rattle.x86_fields.specs.Linear.{Linear, linear, raw_form, modulus_by, constant_by, adds_to, adds_next, is_pointer, value_at, IsSameAddress, IsReduced, IsRegFile, zero_file, unit_file, AgreeEverywhere, AgreeAtUnits}
 use Rattle.x86_fields.proofs.LinearLaws.{sum_none, sum_one}

@@ -3,10 +3,10 @@ use Rattle.std.proofs.Common.{◌≡◌, ℕ, ◌==◌, Bool, true, false, if◌
 use Rattle.std.proofs.lemmas.List.{append-nil}
 use Rattle.std.specs.Int.{Width, w8, w32, byte_len, from_le_bytes, cast_signed}
 use Rattle.x86_arch.specs.Reader.{State, advanced}
-use Rattle.x86_fields.specs.declared.DecodeError.{DecodeError}
-use Rattle.x86_fields.specs.declared.DecodeError.TheVariants.{ExhaustedInput}
-use Rattle.x86_fields.specs.declared.Prefixes.{Prefixes}
-use Rattle.x86_fields.specs.declared.Raw.{Raw}
+use Rattle.x86_fields.specs.declared.errors.DecodeError.{DecodeError}
+use Rattle.x86_fields.specs.declared.errors.DecodeError.TheVariants.{ExhaustedInput}
+use Rattle.x86_fields.specs.declared.prefixes.Prefixes.{Prefixes}
+use Rattle.x86_fields.specs.declared.raw.Raw.{Raw}
 use Rattle.x86_fields.specs.Steps.{Step, Outcome, outcome, then_from, pure, ◌>>=◌, byte_step, byte_of, bytes_step, number_step}
 use Rattle.x86_fields.specs.ModRM.{rm_field}
 use Rattle.x86_fields.specs.Raw.{raw_step, disp_step, disp_width, rex_b, rex_x}

@@ -1,8 +1,8 @@
 -- The bits of a REX by its low four bits.
 use Rattle.std.proofs.Common.{◌≡◌, ◌==◌, ℕ, ◌/◌, ◌%◌, map, refl, ap, ◌∙◌, arith}
 use Rattle.std.specs.List.{range_with_len}
-use Rattle.x86_fields.specs.declared.PrefixRex.{PrefixRex}
-use Rattle.x86_fields.specs.declared.prefix_run.TheConstants.{REXES}
+use Rattle.x86_fields.specs.declared.rex.PrefixRex.{PrefixRex}
+use Rattle.x86_fields.specs.declared.rex.TheConstants.{REXES}
 use Rattle.x86_fields.specs.Run.{rex_bits}
 
 pub rexes : REXES.now ≡ map rex_bits (range_with_len 0 16)

@@ -5,8 +5,8 @@ use Rattle.std.specs.Int.{w32, w64, cast_unsigned, sum_through}
 use Rattle.x86_regs.specs.declared.RegisterClass.{RegisterClass}
 use Rattle.x86_regs.specs.declared.RegisterClass.TheVariants.{EIP, RIP}
 use Rattle.x86_regs.specs.declared.RegSpec.{RegSpec}
-use Rattle.x86_fields.specs.declared.AddressParts.{AddressParts}
-use Rattle.x86_fields.specs.declared.Raw.{Raw}
+use Rattle.x86_fields.specs.declared.address_parts.AddressParts.{AddressParts}
+use Rattle.x86_fields.specs.declared.raw.Raw.{Raw}
 use Rattle.x86_fields.specs.Address.{base_of, index_of, scale_by}
 
 -- A sum of registers times coefficients, the next instruction pointer times one, and a constant, modulo a power of two.

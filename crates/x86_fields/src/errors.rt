@@ -1,11 +1,27 @@
-//! What the errors of decoding are, and say.
+//! Why no instruction is at the front of some bytes, and what such an error says.
 
 ghost use Rattle.std.specs.Prelude.{◌≡◌, Some};
 ghost use Rattle.x86_fields.specs.Errors.{is_exhausted, is_bad_opcode, is_bad_operand, description_of};
 
-use crate::DecodeError;
 use std::error::Error;
 use std::fmt;
+
+/// Why no instruction is at the front of some bytes.
+#[derive(Clone, Copy, PartialEq, Eq, Debug, Drop)]
+pub enum DecodeError {
+    /// The bytes end before an encoding is whole and before anything refuses it.
+    ExhaustedInput,
+    /// No instruction has this opcode, or none has it with this ModRM or suffix.
+    InvalidOpcode,
+    /// The instruction does not take this operand.
+    InvalidOperand,
+    /// The instruction does not stand behind these prefixes.
+    InvalidPrefixes,
+    /// The encoding would have more than 15 bytes.
+    TooLong,
+    /// The encoding is one that this decoder leaves out.
+    IncompleteDecoder,
+}
 
 impl x86_arch::DecodeError for DecodeError {
     ghost exhausted = { is_exhausted };
@@ -49,3 +65,16 @@ impl fmt::Display for DecodeError {
 }
 
 impl Error for DecodeError {}
+
+#[cfg(test)]
+mod tests {
+    use super::*;
+    use std::test::Fail;
+
+    #[test]
+    fn an_error_is_shown_by_its_description(rt: HostRuntime) -> Result<(), Fail> {
+        let shown = format!(in rt.alloc(); "{}", DecodeError::IncompleteDecoder)?;
+        assert_eq!(rt; shown.as_str(), "the decoder is incomplete");
+        Ok(())
+    }
+}

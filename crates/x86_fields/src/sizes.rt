@@ -4,7 +4,7 @@
 ghost use Rattle.std.specs.Prelude.{◌≡◌, ◌<◌, None};
 ghost use Rattle.x86_fields.specs.Sizes.{v, vq, vd, dq, byte_register, register_of};
 
-use crate::Prefixes;
+use crate::prefixes::Prefixes;
 use x86_regs::{RegSpec, RegisterClass};
 
 impl Prefixes {

@@ -4,17 +4,17 @@ use Rattle.std.proofs.lemmas.Bool.Decides.{Decides-eqb, Decides-int_eq}
 use Rattle.std.specs.Option.{option_eq}
 use Rattle.std.proofs.lemmas.Bool.{and_parts}
 use Rattle.x86_regs.specs.declared.Segment.{Segment}
-use Rattle.x86_fields.specs.declared.Prefixes.{Prefixes}
-use Rattle.x86_fields.specs.declared.PrefixRex.{PrefixRex}
-use Rattle.x86_fields.specs.declared.Raw.{Raw}
-use Rattle.x86_fields.specs.declared.Repeat.{Repeat}
-use Rattle.x86_fields.specs.contracts.PrefixesPartialEq.TheImpl as prefixes
-use Rattle.x86_fields.specs.contracts.PrefixesEq.TheImpl.Laws as prefixes_laws
-use Rattle.x86_fields.specs.contracts.RawPartialEq.TheImpl as raw
-use Rattle.x86_fields.specs.contracts.RawEq.TheImpl.Laws as raw_laws
+use Rattle.x86_fields.specs.declared.prefixes.Prefixes.{Prefixes}
+use Rattle.x86_fields.specs.declared.rex.PrefixRex.{PrefixRex}
+use Rattle.x86_fields.specs.declared.raw.Raw.{Raw}
+use Rattle.x86_fields.specs.declared.repeat.Repeat.{Repeat}
+use Rattle.x86_fields.specs.contracts.prefixes.PrefixesPartialEq.TheImpl as prefixes
+use Rattle.x86_fields.specs.contracts.prefixes.PrefixesEq.TheImpl.Laws as prefixes_laws
+use Rattle.x86_fields.specs.contracts.raw.RawPartialEq.TheImpl as raw
+use Rattle.x86_fields.specs.contracts.raw.RawEq.TheImpl.Laws as raw_laws
 use Rattle.x86_regs.specs.contracts.SegmentPartialEq.TheImpl as segment
-use Rattle.x86_fields.specs.contracts.RepeatPartialEq.TheImpl as repeat
-use Rattle.x86_fields.specs.contracts.PrefixRexPartialEq.TheImpl as rex
+use Rattle.x86_fields.specs.contracts.repeat.RepeatPartialEq.TheImpl as repeat
+use Rattle.x86_fields.specs.contracts.rex.PrefixRexPartialEq.TheImpl as rex
 use Rattle.x86_fields.proofs.RunLemmas.{cong6, same_prefixes}
 use Rattle.x86_fields.proofs.laws.values_are_equal.Goals as goal
 

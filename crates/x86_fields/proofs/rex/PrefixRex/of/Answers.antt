@@ -1,9 +1,9 @@
 use Rattle.std.proofs.Common.{List, ◌%◌, get_or, arith, ap, ◌∙◌}
 use Rattle.std.proofs.lemmas.List.FromFn.{get_or-map-range_with_len}
-use Rattle.x86_fields.specs.declared.PrefixRex.{PrefixRex}
+use Rattle.x86_fields.specs.declared.rex.PrefixRex.{PrefixRex}
 use Rattle.x86_fields.specs.Run.{rex_bits}
 use Rattle.x86_fields.proofs.RexLemmas.{rexes, low_bits}
-use Rattle.x86_fields.proofs.PrefixRex.of.Goals as goal
+use Rattle.x86_fields.proofs.rex.PrefixRex.of.Goals as goal
 
 pub returns : goal.returns
 returns c =

@@ -1,7 +1,7 @@
 use Rattle.std.proofs.Common.{Some, ◌≡◌, ap, ◌∙◌}
 use Rattle.x86_fields.specs.Run.{after_of}
 use Rattle.x86_fields.proofs.RunLemmas.{after_rex, reads_longer, rex_low, rex_high}
-use Rattle.x86_fields.proofs.Prefixes.push_rex.Goals as goal
+use Rattle.x86_fields.proofs.prefixes.Prefixes.push_rex.Goals as goal
 
 pub returns : goal.returns
 returns c =

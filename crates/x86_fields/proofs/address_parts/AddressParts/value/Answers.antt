@@ -2,7 +2,7 @@ use Rattle.std.proofs.Common.{◌≡◌, true, false, rules}
 use Rattle.std.proofs.lemmas.Int.{to_z-of_z}
 use Rattle.x86_fields.specs.Linear.{constant_by}
 use Rattle.x86_fields.proofs.LinearLaws.{parts_sum}
-use Rattle.x86_fields.proofs.AddressParts.value.Goals as goal
+use Rattle.x86_fields.proofs.address_parts.AddressParts.value.Goals as goal
 
 pub returns-then-self : goal.returns-then-self
 returns-then-self c =

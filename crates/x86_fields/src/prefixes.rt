@@ -1,0 +1,272 @@
+//! What a run of prefix bytes selects. Source: Intel SDM volume 2, sections 2.1.1 and 2.2.1.
+
+ghost use Rattle.std.specs.Prelude.{◌≡◌, ◌↔◌, ℕ, ◌∷◌, ◌++◌, List, [], IsTrue, false};
+ghost use Rattle.x86_fields.specs.Run.{has_f2, has_f3, has_repeat, reading_of, after_of, rex_bits, is_rex_byte, is_prefix_byte};
+ghost use Rattle.x86_fields.specs.Raw.{rex_w, rex_r, rex_x, rex_b};
+
+use crate::repeat::Repeat;
+use crate::rex::PrefixRex;
+use x86_regs::Segment;
+
+/// What a run of prefix bytes selects.
+#[derive(Clone, Copy, PartialEq, Eq, Debug, Drop)]
+pub struct Prefixes {
+    pub(crate) operand_size: bool,
+    pub(crate) address_size: bool,
+    pub(crate) lock: bool,
+    pub(crate) repeat: Option<Repeat>,
+    pub(crate) segment: Segment,
+    pub(crate) rex: Option<PrefixRex>,
+}
+
+impl Prefixes {
+    /// Nothing is set, and the segment is DS.
+    #[inline(always)]
+    pub fn none() -> Prefixes
+        ensures { result ≡ reading_of [] }
+    {
+        Prefixes {
+            operand_size: false,
+            address_size: false,
+            lock: false,
+            repeat: None,
+            segment: Segment::DS,
+            rex: None,
+        }
+    }
+
+    /// The effect of one more prefix byte. A REX is live only as the last byte of a run.
+    pub fn after(self, byte: u8) -> Prefixes
+        requires { IsTrue (is_prefix_byte byte) }
+        ensures effect { result ≡ after_of self byte }
+        ensures reading { (run : List ℕ) → self ≡ reading_of run → result ≡ reading_of (run ++ byte ∷ []) }
+    {
+        let without = Prefixes { rex: None, ..self };
+        match byte {
+            0x66 => Prefixes {
+                operand_size: true,
+                ..without
+            },
+            0x67 => Prefixes {
+                address_size: true,
+                ..without
+            },
+            0xf0 => Prefixes {
+                lock: true,
+                ..without
+            },
+            0xf2 => Prefixes {
+                repeat: Some(Repeat::F2),
+                ..without
+            },
+            0xf3 => Prefixes {
+                repeat: Some(Repeat::F3),
+                ..without
+            },
+            0x64 => Prefixes {
+                segment: Segment::FS,
+                ..without
+            },
+            0x65 => Prefixes {
+                segment: Segment::GS,
+                ..without
+            },
+            0x40..=0x4f => Prefixes {
+                rex: Some(PrefixRex::of(byte)),
+                ..without
+            },
+            _ => without,
+        }
+    }
+
+    /// The effect of a REX, in place.
+    #[inline(always)]
+    pub fn push_rex(&mut self, byte: u8)
+        requires { IsTrue (is_rex_byte byte) }
+        ensures effect { self.new ≡ after_of self.old byte }
+        ensures reading { (run : List ℕ) → self.old ≡ reading_of run → self.new ≡ reading_of (run ++ byte ∷ []) }
+    {
+        self.rex = Some(PrefixRex::of(byte));
+    }
+
+    /// 66 is cleared.
+    #[inline(always)]
+    pub fn without_operand_size(self) -> Prefixes
+        ensures { result ≡ record self { operand_size = false } }
+    {
+        Prefixes {
+            operand_size: false,
+            ..self
+        }
+    }
+
+    /// The segment is ES.
+    #[inline(always)]
+    pub fn with_es(self) -> Prefixes
+        ensures { result ≡ record self { segment = Segment.ES } }
+    {
+        Prefixes {
+            segment: Segment::ES,
+            ..self
+        }
+    }
+
+    /// Whether F3 is in force.
+    #[inline(always)]
+    pub fn rep(&self) -> bool
+        ensures { result ≡ has_f3 self.now }
+    {
+        matches!(self.repeat, Some(Repeat::F3))
+    }
+
+    /// Whether F2 is in force.
+    #[inline(always)]
+    pub fn repnz(&self) -> bool
+        ensures { result ≡ has_f2 self.now }
+    {
+        matches!(self.repeat, Some(Repeat::F2))
+    }
+
+    /// Whether F2 or F3 is in force.
+    pub fn rep_any(&self) -> bool
+        ensures { result ≡ has_repeat self.now }
+    {
+        self.repeat.is_some()
+    }
+
+    /// Whether 66 is in force.
+    #[inline(always)]
+    pub fn operand_size(&self) -> bool
+        ensures { result ≡ self.now.operand_size }
+    {
+        self.operand_size
+    }
+
+    /// Whether 67 is in force.
+    pub fn address_size(&self) -> bool
+        ensures { result ≡ self.now.address_size }
+    {
+        self.address_size
+    }
+
+    /// Whether F0 is in force.
+    #[inline(always)]
+    pub fn lock(&self) -> bool
+        ensures { result ≡ self.now.lock }
+    {
+        self.lock
+    }
+
+    /// The segment that 64 or 65 chose, else DS.
+    pub fn segment(&self) -> Segment
+        ensures { result ≡ self.now.segment }
+    {
+        self.segment
+    }
+
+    /// Whether the segment is CS.
+    pub fn cs(&self) -> bool
+        ensures { IsTrue result ↔ (self.now.segment ≡ Segment.CS) }
+    {
+        self.segment == Segment::CS
+    }
+
+    /// Whether the segment is DS.
+    pub fn ds(&self) -> bool
+        ensures { IsTrue result ↔ (self.now.segment ≡ Segment.DS) }
+    {
+        self.segment == Segment::DS
+    }
+
+    /// Whether the segment is ES.
+    pub fn es(&self) -> bool
+        ensures { IsTrue result ↔ (self.now.segment ≡ Segment.ES) }
+    {
+        self.segment == Segment::ES
+    }
+
+    /// Whether the segment is FS.
+    pub fn fs(&self) -> bool
+        ensures { IsTrue result ↔ (self.now.segment ≡ Segment.FS) }
+    {
+        self.segment == Segment::FS
+    }
+
+    /// Whether the segment is GS.
+    pub fn gs(&self) -> bool
+        ensures { IsTrue result ↔ (self.now.segment ≡ Segment.GS) }
+    {
+        self.segment == Segment::GS
+    }
+
+    /// Whether the segment is SS.
+    pub fn ss(&self) -> bool
+        ensures { IsTrue result ↔ (self.now.segment ≡ Segment.SS) }
+    {
+        self.segment == Segment::SS
+    }
+
+    /// The bits of the REX that is live, if one is.
+    #[inline(always)]
+    pub fn rex(&self) -> Option<PrefixRex>
+        ensures { result ≡ self.now.rex }
+    {
+        self.rex
+    }
+
+    /// Whether a live REX has W.
+    #[inline(always)]
+    pub fn has_w(&self) -> bool
+        ensures { result ≡ rex_w self.now }
+    {
+        self.rex.is_some_and(|rex| rex.w)
+    }
+
+    /// Whether a live REX has R.
+    #[inline(always)]
+    pub fn has_r(&self) -> bool
+        ensures { result ≡ rex_r self.now }
+    {
+        self.rex.is_some_and(|rex| rex.r)
+    }
+
+    /// Whether a live REX has X.
+    #[inline(always)]
+    pub fn has_x(&self) -> bool
+        ensures { result ≡ rex_x self.now }
+    {
+        self.rex.is_some_and(|rex| rex.x)
+    }
+
+    /// Whether a live REX has B.
+    #[inline(always)]
+    pub fn has_b(&self) -> bool
+        ensures { result ≡ rex_b self.now }
+    {
+        self.rex.is_some_and(|rex| rex.b)
+    }
+}
+
+#[cfg(test)]
+mod tests {
+    use super::*;
+    use crate::read_run;
+    use x86_regs::{RegSpec, RegisterClass};
+
+    #[test]
+    fn the_last_prefix_decides(rt: HostRuntime) {
+        let cases: [(&[u8], bool, RegisterClass); 4] = [
+            (&[0x48, 0x2e], false, RegisterClass::D),
+            (&[0x66, 0x48], true, RegisterClass::Q),
+            (&[0x48, 0x41], true, RegisterClass::D),
+            (&[0x41, 0x48], true, RegisterClass::Q),
+        ];
+        for (run, live, class) in cases {
+            let prefixes = read_run(run);
+            assert_eq!(rt; prefixes.rex().is_some(), live);
+            assert_eq!(rt; prefixes.v_class(), class);
+        }
+        assert_eq!(rt; read_run(&[0x40]).byte_reg(4), RegSpec::spl());
+        assert_eq!(rt; Prefixes::none().byte_reg(4), RegSpec::ah());
+    }
+}

@@ -1,0 +1,8 @@
+//! The prefixes F2 and F3, of which one is in force. Source: Intel SDM volume 2, section 2.1.1.
+
+/// Which of F2 and F3 is in force.
+#[derive(Clone, Copy, PartialEq, Eq, Debug, Drop)]
+pub enum Repeat {
+    F2,
+    F3,
+}
