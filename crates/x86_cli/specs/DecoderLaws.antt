@@ -1,7 +1,7 @@
 -- What the window needs of the decoder.
 use Rattle.std.specs.Prelude.{◌≡◌, ◌≢◌, ℕ, ◌<◌, ◌≤◌, Bool, List, [], ◌++◌, length, take, Ok, Err}
 use Rattle.x86_decode.specs.declared.instructions.Instruction.{Instruction}
-use Rattle.x86_fields.specs.declared.DecodeError.TheVariants.{ExhaustedInput}
+use Rattle.x86_fields.specs.declared.errors.DecodeError.TheVariants.{ExhaustedInput}
 use Rattle.x86_decode.specs.Answer.{answer_of}
 
 -- what the decoder promises of its answers

@@ -3,8 +3,8 @@ use Rattle.std.proofs.Common.{◌≡◌, ℕ, zero, suc, ◌%◌, ◌^◌, ◌<�
 use Rattle.std.specs.Prelude.{FitsSigned}
 use Rattle.std.specs.Int.{w8, w32, cast_signed, from_le_bytes, int_wrap}
 use Rattle.std.proofs.lemmas.Int.{SFits-int_wrap}
-use Rattle.x86_fields.specs.declared.Prefixes.{Prefixes}
-use Rattle.x86_fields.specs.declared.Raw.{Raw}
+use Rattle.x86_fields.specs.declared.prefixes.Prefixes.{Prefixes}
+use Rattle.x86_fields.specs.declared.raw.Raw.{Raw}
 use Rattle.x86_fields.specs.Raw.{disp_width}
 use Rattle.x86_fields.specs.Pieces.{signed_by, option_bytes, SpellsRaw}
 use Rattle.x86_operands.specs.Pieces.{SpellsMemory}

@@ -4,8 +4,8 @@ use Rattle.std.proofs.lemmas.Bool.{and_parts}
 use Rattle.std.proofs.lemmas.Bool.Decides.{Decides-eqb}
 use Rattle.std.proofs.lemmas.Slice.Eq.{slice_eq-Decides}
 use Rattle.x86_opcodes.specs.declared.Opcode.{Opcode}
-use Rattle.x86_fields.specs.declared.Prefixes.{Prefixes}
-use Rattle.x86_fields.specs.contracts.PrefixesPartialEq.TheImpl as prefixes
+use Rattle.x86_fields.specs.declared.prefixes.Prefixes.{Prefixes}
+use Rattle.x86_fields.specs.contracts.prefixes.PrefixesPartialEq.TheImpl as prefixes
 use Rattle.x86_operands.specs.declared.operands.Slot.{Slot}
 use Rattle.x86_operands.specs.declared.operands.Slot.TheVariants as slots
 use Rattle.x86_operands.specs.declared.operands.Operand.{Operand}

@@ -1,6 +1,6 @@
 -- An answer written in place, and the same by value.
 use Rattle.std.proofs.Common.{◌≡◌, ◌↔◌, Result, Ok, Err, IsOk, IfOk, OnOk}
-use Rattle.x86_fields.specs.declared.DecodeError.{DecodeError}
+use Rattle.x86_fields.specs.declared.errors.DecodeError.{DecodeError}
 use Rattle.x86_decode.specs.declared.instructions.Instruction.{Instruction}
 use Rattle.x86_decode.specs.Instruction.{holding}
 use Rattle.x86_decode.specs.Ties.{HasTiedOperands}

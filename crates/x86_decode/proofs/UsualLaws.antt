@@ -1,8 +1,8 @@
 -- The line of a row, and what the row asks behind ModRM.
 use Rattle.std.proofs.Common.{◌≡◌, ℕ, Bool, false, if◌then◌else◌, IsTrue, Result, Ok, Err, refl, sym, ap, ◌∙◌, subst, ◌⊎◌, inl, inr}
 use Rattle.x86_arch.specs.Reader.{State}
-use Rattle.x86_fields.specs.declared.DecodeError.{DecodeError}
-use Rattle.x86_fields.specs.declared.Prefixes.{Prefixes}
+use Rattle.x86_fields.specs.declared.errors.DecodeError.{DecodeError}
+use Rattle.x86_fields.specs.declared.prefixes.Prefixes.{Prefixes}
 use Rattle.x86_fields.specs.Steps.{Outcome, outcome, then_from}
 use Rattle.x86_forms.specs.Groups.{is_group_form}
 use Rattle.x86_forms.specs.declared.Form.{Form}

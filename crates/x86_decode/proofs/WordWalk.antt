@@ -1,8 +1,8 @@
 -- The escape, the opcode byte and the word of its row.
 use Rattle.std.proofs.Common.{◌≡◌, ℕ, true, Result, Ok, Err, Option, refl, ap, ◌∙◌}
 use Rattle.x86_arch.specs.Reader.{State}
-use Rattle.x86_fields.specs.declared.DecodeError.{DecodeError}
-use Rattle.x86_fields.specs.declared.Prefixes.{Prefixes}
+use Rattle.x86_fields.specs.declared.errors.DecodeError.{DecodeError}
+use Rattle.x86_fields.specs.declared.prefixes.Prefixes.{Prefixes}
 use Rattle.x86_fields.specs.Steps.{Outcome, outcome, then_from, pure, byte_step}
 use Rattle.x86_forms.specs.declared.Map.{Map}
 use Rattle.x86_forms.specs.declared.Map.TheVariants.{One}

@@ -1,6 +1,6 @@
 -- The ModRM memory operand of a sentence, and its raw fields.
 use Rattle.std.specs.Prelude.{ℕ, Bool, Option, List}
-use Rattle.x86_fields.specs.declared.Raw.{Raw}
+use Rattle.x86_fields.specs.declared.raw.Raw.{Raw}
 use Rattle.x86_fields.specs.Run.{reading_of}
 use Rattle.x86_operands.specs.declared.plans.Sign.{Sign}
 use Rattle.x86_operands.specs.declared.plans.Plan.{Plan}

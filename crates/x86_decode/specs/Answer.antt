@@ -1,6 +1,6 @@
 -- The answer of bytes over the printed rows, and its count, as functions of the bytes.
 use Rattle.std.specs.Prelude.{ℕ, Bool, List, Result}
-use Rattle.x86_fields.specs.declared.DecodeError.{DecodeError}
+use Rattle.x86_fields.specs.declared.errors.DecodeError.{DecodeError}
 use Rattle.x86_fields.specs.Steps.{Outcome}
 use Rattle.x86_forms.specs.Words.{rows_of, word_at}
 use Rattle.x86_decode.specs.declared.instructions.Instruction.{Instruction}

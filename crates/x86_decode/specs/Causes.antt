@@ -1,7 +1,7 @@
 -- Why an input is answered as it is: which case decides each refusal.
 use Rattle.std.specs.Prelude.{◌≡◌, ℕ, ◌≤◌, ◌⊎◌, Bool, true, false, List, ◌++◌, length}
-use Rattle.x86_fields.specs.declared.DecodeError.{DecodeError}
-use Rattle.x86_fields.specs.declared.DecodeError.TheVariants.{ExhaustedInput, InvalidOpcode, InvalidOperand, InvalidPrefixes, TooLong, IncompleteDecoder}
+use Rattle.x86_fields.specs.declared.errors.DecodeError.{DecodeError}
+use Rattle.x86_fields.specs.declared.errors.DecodeError.TheVariants.{ExhaustedInput, InvalidOpcode, InvalidOperand, InvalidPrefixes, TooLong, IncompleteDecoder}
 use Rattle.x86_fields.specs.Run.{reading_of}
 use Rattle.x86_operands.specs.declared.plans.Fault.TheVariants.{BadOpcode, BadOperand, Incomplete}
 use Rattle.x86_decode.specs.declared.instructions.Instruction.{Instruction}

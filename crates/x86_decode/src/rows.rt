@@ -1,7 +1,7 @@
 //! What a row asks behind its opcode byte, written where it stays.
 ghost use Rattle.std.specs.Prelude.{◌≡◌, Bool, IfOk, IsTrue, true, false};
 ghost use Rattle.x86_fields.specs.Steps.{outcome, then_from};
-ghost use Rattle.x86_fields.specs.declared.Prefixes.{Prefixes};
+ghost use Rattle.x86_fields.specs.declared.prefixes.Prefixes.{Prefixes};
 ghost use Rattle.x86_forms.specs.Words.{IsForm};
 ghost use Rattle.x86_operands.specs.Encodings.{carried, held, is_row, is_sound, no_operands, plan_of};
 ghost use Rattle.x86_operands.specs.Signs.{plan_step, record_step};

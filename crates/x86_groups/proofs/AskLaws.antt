@@ -1,6 +1,6 @@
 -- What a group asks is the same under both choices.
 use Rattle.std.proofs.Common.{◌≡◌, ℕ, ◌==◌, ◌&&◌, not, Bool, true, false, if◌then◌else◌, refl}
-use Rattle.x86_fields.specs.declared.Prefixes.{Prefixes}
+use Rattle.x86_fields.specs.declared.prefixes.Prefixes.{Prefixes}
 use Rattle.x86_fields.specs.Run.{has_f2, has_f3}
 use Rattle.x86_opcodes.specs.Names.{LFENCE, MFENCE, SFENCE}
 use Rattle.x86_forms.specs.declared.Form.{Form}

@@ -1,7 +1,7 @@
 -- What holds of the plans of all groups.
 use Rattle.std.proofs.Common.{◌≡◌, ℕ, nat_lt, ◌==◌, Bool, true, false, not, if◌then◌else◌, rules}
 use Rattle.x86_fields.specs.ModRM.{reg_field}
-use Rattle.x86_fields.specs.declared.Prefixes.{Prefixes}
+use Rattle.x86_fields.specs.declared.prefixes.Prefixes.{Prefixes}
 use Rattle.x86_fields.specs.Sizes.{v}
 use Rattle.x86_regs.specs.Class.{width_of}
 use Rattle.x86_opcodes.specs.Names.{POP}

@@ -2,7 +2,7 @@
 use Rattle.std.specs.Prelude.{ℕ, nat_lt, ◌==◌, ◌-◌, if◌then◌else◌, [], ◌∷◌}
 use Rattle.x86_regs.specs.declared.RegisterClass.TheVariants.{W, Q}
 use Rattle.x86_regs.specs.Class.{width_of}
-use Rattle.x86_fields.specs.declared.Prefixes.{Prefixes}
+use Rattle.x86_fields.specs.declared.prefixes.Prefixes.{Prefixes}
 use Rattle.x86_fields.specs.Raw.{rex_w}
 use Rattle.x86_fields.specs.Run.{has_f2, has_f3}
 use Rattle.x86_fields.specs.Sizes.{v, vq}

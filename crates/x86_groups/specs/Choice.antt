@@ -2,7 +2,7 @@
 -- reg chooses the operation of a group: Intel SDM volume 2, appendix A.4.
 use Rattle.std.specs.Prelude.{ℕ, ◌==◌, Bool, not, ◌&&◌, ◌||◌, List, slice_index_or}
 use Rattle.x86_regs.specs.declared.RegisterClass.{RegisterClass}
-use Rattle.x86_fields.specs.declared.Prefixes.{Prefixes}
+use Rattle.x86_fields.specs.declared.prefixes.Prefixes.{Prefixes}
 use Rattle.x86_fields.specs.ModRM.{reg_field, rm_field, is_memory}
 use Rattle.x86_fields.specs.Run.{has_f2, has_f3}
 use Rattle.x86_operands.specs.declared.plans.Sign.TheVariants.{M, U}

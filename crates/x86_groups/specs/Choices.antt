@@ -1,6 +1,6 @@
 -- Where the default and the strict choice differ. Source: Intel SDM volume 2, appendix A.4, group 15.
 use Rattle.std.specs.Prelude.{◌≡◌, ◌≢◌, ℕ, false}
-use Rattle.x86_fields.specs.declared.Prefixes.{Prefixes}
+use Rattle.x86_fields.specs.declared.prefixes.Prefixes.{Prefixes}
 use Rattle.x86_fields.specs.Run.{has_f2, has_f3}
 use Rattle.x86_fields.specs.ModRM.{reg_field, rm_field, is_memory}
 use Rattle.x86_opcodes.specs.Names.{LFENCE, MFENCE, SFENCE}

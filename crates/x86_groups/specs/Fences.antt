@@ -2,7 +2,7 @@
 use Rattle.std.specs.Prelude.{ℕ, ◌==◌, Bool, not, ◌&&◌, if◌then◌else◌, [], ◌∷◌, slice_index_or}
 use Rattle.x86_regs.specs.declared.RegisterClass.TheVariants.{D, Q}
 use Rattle.x86_regs.specs.Class.{width_of}
-use Rattle.x86_fields.specs.declared.Prefixes.{Prefixes}
+use Rattle.x86_fields.specs.declared.prefixes.Prefixes.{Prefixes}
 use Rattle.x86_fields.specs.Run.{has_f2, has_f3}
 use Rattle.x86_fields.specs.Sizes.{dq}
 use Rattle.x86_operands.specs.declared.plans.Sign.TheVariants.{E, Fixed}

@@ -3,7 +3,7 @@
 use Rattle.std.specs.Prelude.{ℕ, ◌==◌, if◌then◌else◌, [], ◌∷◌}
 use Rattle.x86_regs.specs.declared.RegisterClass.TheVariants.{X}
 use Rattle.x86_regs.specs.Class.{width_of}
-use Rattle.x86_fields.specs.declared.Prefixes.{Prefixes}
+use Rattle.x86_fields.specs.declared.prefixes.Prefixes.{Prefixes}
 use Rattle.x86_fields.specs.Sizes.{v}
 use Rattle.x86_operands.specs.declared.plans.Sign.TheVariants.{G, E}
 use Rattle.x86_operands.specs.declared.plans.Signs.TheVariants.{One, Two}

@@ -4,7 +4,7 @@ use Rattle.x86_regs.specs.declared.RegisterClass.TheVariants.{D, X}
 use Rattle.x86_regs.specs.declared.Segment.{Segment}
 use Rattle.x86_regs.specs.declared.Segment.TheVariants.{DS}
 use Rattle.x86_regs.specs.Class.{width_of}
-use Rattle.x86_fields.specs.declared.Prefixes.{Prefixes}
+use Rattle.x86_fields.specs.declared.prefixes.Prefixes.{Prefixes}
 use Rattle.x86_fields.specs.Run.{has_f3}
 use Rattle.x86_fields.specs.Sizes.{v}
 use Rattle.x86_operands.specs.declared.plans.Sign.TheVariants.{G, E, M, U, U8}

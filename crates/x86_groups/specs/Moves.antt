@@ -1,7 +1,7 @@
 -- Moves from and to control and debug registers, whose ModRM is a register form at every mod. Source: Intel SDM volume 2, MOV-Move to/from Control Registers, MOV-Move to/from Debug Registers.
 use Rattle.std.specs.Prelude.{ℕ, nat_lt, ◌==◌, Bool, not, ◌||◌}
 use Rattle.x86_regs.specs.declared.RegisterClass.TheVariants.{Q, CR, DR}
-use Rattle.x86_fields.specs.declared.Prefixes.{Prefixes}
+use Rattle.x86_fields.specs.declared.prefixes.Prefixes.{Prefixes}
 use Rattle.x86_operands.specs.declared.plans.Sign.TheVariants.{G, U}
 use Rattle.x86_operands.specs.declared.plans.Signs.TheVariants.{Two}
 use Rattle.x86_operands.specs.declared.plans.Fault.TheVariants.{BadOperand}

@@ -1,7 +1,7 @@
 -- System tables and system instructions. Source: Intel SDM volume 2, appendix A.4, groups 6 and 7, and AMD APM volume 3, appendix A.
 use Rattle.std.specs.Prelude.{ℕ, nat_lt, ◌==◌, if◌then◌else◌, [], ◌∷◌}
 use Rattle.x86_regs.specs.declared.RegisterClass.TheVariants.{W, D, Q}
-use Rattle.x86_fields.specs.declared.Prefixes.{Prefixes}
+use Rattle.x86_fields.specs.declared.prefixes.Prefixes.{Prefixes}
 use Rattle.x86_fields.specs.Run.{has_f2, has_f3}
 use Rattle.x86_fields.specs.Sizes.{v}
 use Rattle.x86_operands.specs.declared.plans.RegisterSlot.{RegisterSlot}

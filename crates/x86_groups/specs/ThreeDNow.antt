@@ -1,7 +1,7 @@
 -- 3DNow, whose last byte names the operation. Source: AMD APM volume 3, appendix A.1.2.
 use Rattle.std.specs.Prelude.{ℕ}
 use Rattle.x86_regs.specs.Class.{width_of}
-use Rattle.x86_fields.specs.declared.Prefixes.{Prefixes}
+use Rattle.x86_fields.specs.declared.prefixes.Prefixes.{Prefixes}
 use Rattle.x86_fields.specs.Sizes.{v}
 use Rattle.x86_operands.specs.declared.plans.Sign.TheVariants.{Gmm, Emm}
 use Rattle.x86_operands.specs.declared.plans.Signs.TheVariants.{Two}

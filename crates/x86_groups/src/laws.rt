@@ -3,8 +3,8 @@
 
 ghost use Rattle.std.specs.Prelude.{◌≡◌, ◌≢◌, ◌≤◌, ◌⊎◌, ℕ, Bool, true, false, Some, Err};
 ghost use Rattle.x86_arch.specs.Reader.{State};
-ghost use Rattle.x86_fields.specs.declared.DecodeError.TheVariants.{IncompleteDecoder};
-ghost use Rattle.x86_fields.specs.declared.Prefixes.{Prefixes};
+ghost use Rattle.x86_fields.specs.declared.errors.DecodeError.TheVariants.{IncompleteDecoder};
+ghost use Rattle.x86_fields.specs.declared.prefixes.Prefixes.{Prefixes};
 ghost use Rattle.x86_fields.specs.ModRM.{reg_field};
 ghost use Rattle.x86_forms.specs.declared.TableRow.{TableRow};
 ghost use Rattle.x86_forms.specs.Groups.{is_group_form};

@@ -19,7 +19,7 @@ ghost use Rattle.x86_layout.specs.declared.tightening.tighten.TightenError.{Tigh
 ghost use Rattle.x86_layout.specs.Tightening.Tighten.{HasNoRelative, HasOperandForm, IsShortest};
 ghost use Rattle.x86_layout.specs.Tightening.Registers.{is_ip_relative};
 ghost use Rattle.x86_layout.specs.Tightening.Shortest.{shortest, address_length, IsOfBytes};
-ghost use Rattle.x86_fields.specs.declared.Raw.{Raw};
+ghost use Rattle.x86_fields.specs.declared.raw.Raw.{Raw};
 ghost use Rattle.x86_fields.specs.ModRM.{reg_field};
 ghost use Rattle.x86_fields.specs.Linear.{raw_form, IsSameAddress};
 

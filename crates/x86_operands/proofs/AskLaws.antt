@@ -1,6 +1,6 @@
 -- What a line of the operand encodings asks is what its plan asks.
 use Rattle.std.proofs.Common.{◌≡◌, ℕ, Bool, true, false, not, if◌then◌else◌, refl, ap, ◌∙◌, arith}
-use Rattle.x86_fields.specs.declared.Prefixes.{Prefixes}
+use Rattle.x86_fields.specs.declared.prefixes.Prefixes.{Prefixes}
 use Rattle.x86_operands.specs.declared.asks.Ask.{Ask}
 use Rattle.x86_operands.specs.declared.encodings.Behind.{Behind}
 use Rattle.x86_operands.specs.declared.encodings.Behind.TheVariants as behind

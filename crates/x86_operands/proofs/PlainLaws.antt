@@ -1,8 +1,8 @@
 -- What holds of the plans of all plain forms.
 use Rattle.std.proofs.Common.{◌≡◌, ◌≢◌, ◌≤◌, inl, inr, ℕ, Option, Some, None, Err, true, false, rules, refl, sym, ap, ◌∙◌}
 use Rattle.x86_arch.specs.Reader.{State}
-use Rattle.x86_fields.specs.declared.DecodeError.TheVariants.{IncompleteDecoder}
-use Rattle.x86_fields.specs.declared.Prefixes.{Prefixes}
+use Rattle.x86_fields.specs.declared.errors.DecodeError.TheVariants.{IncompleteDecoder}
+use Rattle.x86_fields.specs.declared.prefixes.Prefixes.{Prefixes}
 use Rattle.x86_forms.specs.declared.Form.{Form}
 use Rattle.x86_forms.specs.declared.Form.TheVariants as form
 use Rattle.x86_forms.specs.Groups.{is_group_form}

@@ -1,8 +1,8 @@
 -- The refusal of a plan at its moment, and the opcode that a suffix names.
 use Rattle.std.proofs.Common.{◌≡◌, ◌≢◌, ℕ, Bool, true, false, if◌then◌else◌, List, [], ◌∷◌, ◌++◌, length, Option, Some, None, Result, Ok, Err, refl, sym, ap, subst, ◌∙◌, arith}
 use Rattle.std.proofs.lemmas.List.{append-nil}
-use Rattle.x86_fields.specs.declared.DecodeError.{DecodeError}
-use Rattle.x86_fields.specs.declared.DecodeError.TheVariants.{ExhaustedInput}
+use Rattle.x86_fields.specs.declared.errors.DecodeError.{DecodeError}
+use Rattle.x86_fields.specs.declared.errors.DecodeError.TheVariants.{ExhaustedInput}
 use Rattle.x86_fields.specs.Steps.{pure, refuse, byte_step, Takes}
 use Rattle.x86_fields.proofs.StepLaws.{takes_pure, takes_bind, takes_byte}
 use Rattle.x86_fields.proofs.EndLaws.{EndsWell, IsEmpty, IsByte, ends_byte, ends_pure, ends_refuse, ends_then}

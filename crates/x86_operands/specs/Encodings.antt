@@ -3,7 +3,7 @@ use Rattle.std.specs.Prelude.{ℕ, Bool, true, false, IsTrue, ◌≡◌, ◌==�
 use Rattle.x86_regs.specs.declared.RegisterClass.{RegisterClass}
 use Rattle.x86_regs.specs.declared.RegisterClass.TheVariants as class
 use Rattle.x86_regs.specs.Class.{width_of}
-use Rattle.x86_fields.specs.declared.Prefixes.{Prefixes}
+use Rattle.x86_fields.specs.declared.prefixes.Prefixes.{Prefixes}
 use Rattle.x86_fields.specs.Sizes.{v, vq, vd, dq}
 use Rattle.x86_forms.specs.Groups.{is_group_form}
 use Rattle.x86_forms.specs.declared.Form.{Form}
@@ -30,7 +30,7 @@ use Rattle.x86_operands.specs.declared.encodings.Last.TheVariants as last
 use Rattle.x86_operands.specs.declared.encodings.Size.{Size}
 use Rattle.x86_operands.specs.declared.encodings.Size.TheVariants as size
 use Rattle.x86_operands.specs.declared.encodings.Encoding.{Encoding}
-use Rattle.x86_fields.specs.declared.Raw.{Raw}
+use Rattle.x86_fields.specs.declared.raw.Raw.{Raw}
 use Rattle.x86_fields.specs.ModRM.{reg_field, is_memory, absent_modrm}
 use Rattle.x86_operands.specs.Plans.{reads, refuses, memory_only, register_only, reg_number, register_at, accumulator_of, immediate_of}
 use Rattle.x86_operands.specs.FormSizes.{whole_immediate, push_immediate, nothing_size, call_size, return_size, duplicate_size, stream_size, scalar_size, extract_size, insert_size, unpack_size}
@@ -38,7 +38,7 @@ use Rattle.x86_operands.specs.Forms.{form_plan, cl_third, size_v}
 use Rattle.std.specs.Prelude.{Result, Ok, Err, Option, None, not, pos, nat_lt, slice_index_or, ⊤, slice_set, ◌∷◌, [], ◌&&◌}
 use Rattle.x86_operands.specs.declared.operands.Slot.TheVariants as slots
 use Rattle.x86_operands.specs.declared.operands.Operand.TheVariants as operands
-use Rattle.x86_fields.specs.declared.DecodeError.{DecodeError}
+use Rattle.x86_fields.specs.declared.errors.DecodeError.{DecodeError}
 use Rattle.x86_fields.specs.Steps.{Step, ◌>>=◌, pure}
 use Rattle.x86_operands.specs.declared.plans.ModrmUse.{ModrmUse}
 use Rattle.x86_operands.specs.declared.plans.ModrmUse.TheVariants as use_as

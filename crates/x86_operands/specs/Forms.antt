@@ -5,7 +5,7 @@ use Rattle.std.specs.Prelude.{ℕ, ◌==◌, ◌&&◌, ◌||◌, nat_lt, not, if
 use Rattle.x86_regs.specs.declared.RegisterClass.{RegisterClass}
 use Rattle.x86_regs.specs.declared.RegisterClass.TheVariants.{B, W, D, Q, S, X}
 use Rattle.x86_regs.specs.Class.{width_of}
-use Rattle.x86_fields.specs.declared.Prefixes.{Prefixes}
+use Rattle.x86_fields.specs.declared.prefixes.Prefixes.{Prefixes}
 use Rattle.x86_fields.specs.Raw.{rex_w, rex_b}
 use Rattle.x86_opcodes.specs.Names.{NOP, JECXZ, IRET, IRETD, IRETQ, MOVQ, PEXTRD, PEXTRQ, PINSRD, PINSRQ}
 use Rattle.x86_forms.specs.declared.Form.{Form}

@@ -4,10 +4,10 @@
 ghost use Rattle.std.specs.Prelude.{◌≡◌, ◌≢◌, ◌↔◌, ◌≤◌, ◌⊎◌, ◌++◌, ℕ, IsTrue, List, length, Some, None, true, false, Ok, Err, FitsSigned};
 ghost use Rattle.std.specs.Int.{w32};
 ghost use Rattle.x86_arch.specs.Reader.{State, advanced};
-ghost use Rattle.x86_fields.specs.declared.DecodeError.{DecodeError};
-ghost use Rattle.x86_fields.specs.declared.DecodeError.TheVariants.{ExhaustedInput, InvalidPrefixes, TooLong, IncompleteDecoder};
-ghost use Rattle.x86_fields.specs.declared.Prefixes.{Prefixes};
-ghost use Rattle.x86_fields.specs.declared.Raw.{Raw};
+ghost use Rattle.x86_fields.specs.declared.errors.DecodeError.{DecodeError};
+ghost use Rattle.x86_fields.specs.declared.errors.DecodeError.TheVariants.{ExhaustedInput, InvalidPrefixes, TooLong, IncompleteDecoder};
+ghost use Rattle.x86_fields.specs.declared.prefixes.Prefixes.{Prefixes};
+ghost use Rattle.x86_fields.specs.declared.raw.Raw.{Raw};
 ghost use Rattle.x86_fields.specs.Linear.{raw_form, value_at};
 ghost use Rattle.x86_fields.specs.Steps.{outcome};
 ghost use Rattle.x86_forms.specs.declared.TableRow.{TableRow};

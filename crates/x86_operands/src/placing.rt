@@ -3,7 +3,7 @@
 ghost use Rattle.std.specs.Prelude.{◌≡◌, ◌<◌, ◌≢◌, true};
 ghost use Rattle.x86_arch.specs.Reader.{State};
 ghost use Rattle.x86_fields.specs.Steps.{outcome};
-ghost use Rattle.x86_fields.specs.declared.Prefixes.{Prefixes};
+ghost use Rattle.x86_fields.specs.declared.prefixes.Prefixes.{Prefixes};
 ghost use Rattle.x86_operands.specs.declared.encodings.Last.TheVariants.{Absent};
 ghost use Rattle.x86_operands.specs.declared.order.Place.TheVariants.{Nowhere};
 ghost use Rattle.x86_operands.specs.Signs.{memory_or, plan_step, pointer_at, slot_at};

@@ -10,8 +10,8 @@ use Rattle.x86_decode.specs.Instruction.{operand_at}
 use Rattle.x86_operands.specs.declared.operands.MemoryAccessSize.{MemoryAccessSize}
 use Rattle.x86_operands.specs.declared.operands.Operand.{Operand}
 use Rattle.x86_operands.specs.declared.operands.Operand.TheVariants as operand
-use Rattle.x86_fields.specs.declared.DecodeError.{DecodeError}
-use Rattle.x86_fields.specs.declared.DecodeError.TheVariants.{ExhaustedInput, InvalidOpcode, InvalidOperand, InvalidPrefixes, TooLong, IncompleteDecoder}
+use Rattle.x86_fields.specs.declared.errors.DecodeError.{DecodeError}
+use Rattle.x86_fields.specs.declared.errors.DecodeError.TheVariants.{ExhaustedInput, InvalidOpcode, InvalidOperand, InvalidPrefixes, TooLong, IncompleteDecoder}
 use Rattle.x86_fields.specs.Errors.{description_of}
 use Rattle.x86_text.specs.Operands.{operand_text, operands_text, joint_text}
 use Rattle.x86_text.specs.Lines.{shown_operands, size_text}

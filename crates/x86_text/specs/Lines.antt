@@ -2,7 +2,7 @@
 use Rattle.std.specs.Prelude.{ℕ, List, [], ◌∷◌, ◌++◌, ◌==◌, if◌then◌else◌, codes, decimal, take}
 use Rattle.x86_opcodes.specs.Mnemonics.{mnemonic_of}
 use Rattle.x86_operands.specs.declared.operands.Operand.{Operand}
-use Rattle.x86_fields.specs.declared.DecodeError.{DecodeError}
+use Rattle.x86_fields.specs.declared.errors.DecodeError.{DecodeError}
 use Rattle.x86_fields.specs.Errors.{description_of}
 use Rattle.x86_decode.specs.declared.instructions.Instruction.{Instruction}
 use Rattle.x86_decode.specs.Instruction.{operand_at}

@@ -1,7 +1,7 @@
 -- The listing by what stands at the front.
 use Rattle.std.proofs.Common.{Bool, ◌≡◌, ℕ, suc, zero, ◌+◌, ◌-◌, ◌<◌, ◌≤◌, List, [], ◌∷◌, length, take, drop, refl, arith, ap, sym, subst}
 use Rattle.x86_decode.specs.declared.instructions.Instruction.{Instruction}
-use Rattle.x86_fields.specs.declared.DecodeError.{DecodeError}
+use Rattle.x86_fields.specs.declared.errors.DecodeError.{DecodeError}
 use Rattle.x86_cli.specs.declared.text.reader.Ending.{Ending}
 use Rattle.x86_cli.specs.declared.text.window.Front.{Front}
 use Rattle.x86_cli.specs.declared.text.window.Front.TheVariants.{Whole, Refused, Ended}

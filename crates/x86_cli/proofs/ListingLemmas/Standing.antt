@@ -9,7 +9,7 @@ use Rattle.x86_cli.proofs.ListingLemmas.Stands.{Stands}
 use Rattle.x86_cli.proofs.CommandLemmas.AheadLaws.{reaches, end_one, stands_line, window_failed, window_closed, window_unclosed}
 use Rattle.std.proofs.lemmas.List.{drop-append-le, take-append-le}
 use Rattle.x86_decode.specs.declared.instructions.Instruction.{Instruction}
-use Rattle.x86_fields.specs.declared.DecodeError.{DecodeError}
+use Rattle.x86_fields.specs.declared.errors.DecodeError.{DecodeError}
 use Rattle.x86_cli.specs.declared.text.reader.Ending.{Ending}
 use Rattle.x86_cli.specs.Outside.Stop.{Stop}
 use Rattle.x86_cli.specs.Text.{Text, text_at}

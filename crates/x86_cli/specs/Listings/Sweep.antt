@@ -1,7 +1,7 @@
 -- The listing of a sweep.
 use Rattle.std.specs.Prelude.{Bool, ◌≡◌, ℕ, ◌<◌, ◌≤◌, List, [], length, map, Option, Some, Result, Ok, Err}
 use Rattle.x86_decode.specs.declared.instructions.Instruction.{Instruction}
-use Rattle.x86_fields.specs.declared.DecodeError.{DecodeError}
+use Rattle.x86_fields.specs.declared.errors.DecodeError.{DecodeError}
 use Rattle.x86_decode.specs.Answer.{answer_of}
 use Rattle.x86_decode.specs.Instruction.{holding}
 use Rattle.x86_layout.specs.declared.sweeps.cuts.Cut.{Cut as SweptCut}

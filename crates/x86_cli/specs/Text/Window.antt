@@ -3,7 +3,7 @@ use Rattle.std.specs.Prelude.{Bool, ◌≡◌, ◌≢◌, ℕ, ◌<◌, ◌≤�
 use Rattle.x86_cli.specs.declared.outside.source.Got.{Got}
 use Rattle.x86_cli.specs.Text.Reading.{Gave, Asked, MayCome}
 use Rattle.x86_decode.specs.declared.instructions.Instruction.{Instruction}
-use Rattle.x86_fields.specs.declared.DecodeError.TheVariants.{ExhaustedInput}
+use Rattle.x86_fields.specs.declared.errors.DecodeError.TheVariants.{ExhaustedInput}
 use Rattle.x86_cli.specs.declared.text.reader.Ending.{Ending}
 use Rattle.x86_cli.specs.declared.text.reader.Ending.TheVariants.{Clean}
 use Rattle.x86_cli.specs.Outside.Stop.{Stop}

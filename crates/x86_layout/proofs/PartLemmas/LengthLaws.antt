@@ -1,6 +1,6 @@
 -- The parts of an accepted encoding have lengths that fields can hold.
 use Rattle.std.proofs.Common.{◌≡◌, ℕ, ◌+◌, ◌≤◌, ◌==◌, Bool, true, false, if◌then◌else◌, List, ◌∷◌, ◌++◌, length, Option, sym, ap, ◌∙◌, arith, length-append}
-use Rattle.x86_fields.specs.declared.Prefixes.{Prefixes}
+use Rattle.x86_fields.specs.declared.prefixes.Prefixes.{Prefixes}
 use Rattle.x86_fields.specs.ModRM.{mod_field, is_memory}
 use Rattle.x86_fields.specs.Raw.{names_no_base, disp_width}
 use Rattle.x86_fields.specs.Run.{reading_of}

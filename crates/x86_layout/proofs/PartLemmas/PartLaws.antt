@@ -7,8 +7,8 @@ use Rattle.std.proofs.lemmas.Bool.Decides.{nat_tests}
 use Rattle.x86_fields.specs.Run.{is_prefix_byte}
 use Rattle.x86_fields.specs.ModRM.{rm_field, is_memory, as_register}
 use Rattle.x86_fields.specs.Pieces.{option_bytes, total}
-use Rattle.x86_fields.specs.declared.Prefixes.{Prefixes}
-use Rattle.x86_fields.specs.declared.Raw.{Raw}
+use Rattle.x86_fields.specs.declared.prefixes.Prefixes.{Prefixes}
+use Rattle.x86_fields.specs.declared.raw.Raw.{Raw}
 use Rattle.x86_forms.specs.declared.Map.{Map}
 use Rattle.x86_forms.specs.declared.Map.TheVariants.{One, Of, Of38, Of3a}
 use Rattle.x86_operands.specs.declared.operands.Slot.{Slot}

@@ -5,9 +5,9 @@ use Rattle.std.specs.Int.{w8, w32, cast_signed, cast_unsigned, from_le_bytes, to
 use Rattle.std.proofs.lemmas.Bool.Decides.{nat_tests}
 use Rattle.std.proofs.lemmas.Int.{to_z-of_z, to_z_pos}
 use Rattle.std.proofs.lemmas.Nat.{from_le_bytes-to_le_bytes_4}
-use Rattle.x86_fields.specs.declared.Prefixes.{Prefixes}
-use Rattle.x86_fields.specs.declared.PrefixRex.{PrefixRex}
-use Rattle.x86_fields.specs.declared.Raw.{Raw}
+use Rattle.x86_fields.specs.declared.prefixes.Prefixes.{Prefixes}
+use Rattle.x86_fields.specs.declared.rex.PrefixRex.{PrefixRex}
+use Rattle.x86_fields.specs.declared.raw.Raw.{Raw}
 use Rattle.x86_fields.specs.ModRM.{mod_field, rm_field, is_memory}
 use Rattle.x86_fields.specs.Raw.{live_bit, disp_width, names_no_base, sib_fits, is_zero, is_byte, disp_fits, fits, rex_b, rex_x}
 use Rattle.x86_fields.specs.Pieces.{option_bytes, signed_by}

@@ -1,6 +1,6 @@
 -- The length of a shortest relative, by the pieces of an encoding.
 use Rattle.std.proofs.Common.{◌≡◌, ℕ, ◌+◌, ◌-◌, ◌&&◌, not, Bool, true, false, if◌then◌else◌, Some, List, [], length, take, slice_index, Ok, refl, sym, ap, subst, ◌∙◌, arith, append-nil}
-use Rattle.x86_fields.specs.declared.Raw.{Raw}
+use Rattle.x86_fields.specs.declared.raw.Raw.{Raw}
 use Rattle.x86_operands.specs.declared.reader.Reading.{Reading}
 use Rattle.x86_fields.specs.ModRM.{is_memory}
 use Rattle.x86_operands.specs.Asks.{ask_of}

@@ -1,7 +1,7 @@
 -- In the memory form a plan goes by reg, and not by mod, rm, and the bits X and B.
 use Rattle.std.proofs.Common.{◌≡◌, ℕ, Bool, if◌then◌else◌, true, false, Option, Some, None, refl, ◌∙◌, arith}
-use Rattle.x86_fields.specs.declared.Prefixes.{Prefixes}
-use Rattle.x86_fields.specs.declared.PrefixRex.{PrefixRex}
+use Rattle.x86_fields.specs.declared.prefixes.Prefixes.{Prefixes}
+use Rattle.x86_fields.specs.declared.rex.PrefixRex.{PrefixRex}
 use Rattle.x86_fields.specs.ModRM.{reg_field, is_memory}
 use Rattle.x86_forms.specs.declared.Form.{Form}
 use Rattle.x86_operands.specs.declared.plans.ModrmUse.TheVariants.{Fields}

@@ -2,8 +2,8 @@
 use Rattle.std.proofs.Common.{◌≡◌, ℕ, suc, ◌+◌, ◌*◌, ◌/◌, ◌%◌, ◌<◌, ◌==◌, ◌&&◌, ◌||◌, Bool, true, false, if◌then◌else◌, Option, Some, None, List, [], ◌∷◌, ◌++◌, length, refl, sym, ap, ◌∙◌, arith}
 use Rattle.std.specs.List.{filter, list_any}
 use Rattle.std.proofs.lemmas.Bool.Decides.{nat_tests}
-use Rattle.x86_fields.specs.declared.Prefixes.{Prefixes}
-use Rattle.x86_fields.specs.declared.PrefixRex.{PrefixRex}
+use Rattle.x86_fields.specs.declared.prefixes.Prefixes.{Prefixes}
+use Rattle.x86_fields.specs.declared.rex.PrefixRex.{PrefixRex}
 use Rattle.x86_fields.specs.Run.{is_legacy_byte, is_rex_byte, is_prefix_byte, is_repeat_byte, is_segment_byte, last, repeat_named, segment_named, rex_bits, rex_named, reading_of}
 use Rattle.x86_forms.specs.declared.Map.{Map}
 use Rattle.x86_decode.specs.Head.{is_run, clears, column_of, seen}

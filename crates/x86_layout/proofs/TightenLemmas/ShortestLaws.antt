@@ -4,7 +4,7 @@ use Rattle.std.specs.Prelude.{FitsSigned}
 use Rattle.std.specs.Int.{w32, w64, cast_signed}
 use Rattle.std.proofs.lemmas.Bool.Decides.{nat_tests}
 use Rattle.std.proofs.lemmas.Int.{to_z-of_z}
-use Rattle.x86_fields.specs.declared.Raw.{Raw}
+use Rattle.x86_fields.specs.declared.raw.Raw.{Raw}
 use Rattle.x86_fields.specs.ModRM.{mod_field, reg_field, rm_field, index_field, base_field, packed_byte, is_memory}
 use Rattle.x86_fields.specs.Raw.{disp_width, sib_fits, disp_fits, is_zero, is_byte}
 use Rattle.x86_fields.specs.Address.{index_by, scale_by}

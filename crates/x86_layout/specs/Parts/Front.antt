@@ -1,7 +1,7 @@
 -- The parts of the encoding at the front of bytes, told from the bytes.
 use Rattle.std.specs.Prelude.{ℕ, Bool, false, if◌then◌else◌, Option, Some, None, List, length, take, drop, slice_index}
 use Rattle.std.specs.List.{prefix_len}
-use Rattle.x86_fields.specs.declared.Prefixes.{Prefixes}
+use Rattle.x86_fields.specs.declared.prefixes.Prefixes.{Prefixes}
 use Rattle.x86_fields.specs.Run.{is_prefix_byte, reading_of}
 use Rattle.x86_fields.specs.Raw.{disp_width}
 use Rattle.x86_fields.specs.Pieces.{first_byte}

@@ -1,6 +1,6 @@
 -- The cuts of bytes.
 use Rattle.std.specs.Prelude.{ℕ, ◌+◌, ◌-◌, zero, suc, Bool, List, [], ◌∷◌, Result, Ok, Err}
-use Rattle.x86_fields.specs.declared.DecodeError.{DecodeError}
+use Rattle.x86_fields.specs.declared.errors.DecodeError.{DecodeError}
 use Rattle.x86_decode.specs.declared.instructions.Instruction.{Instruction}
 use Rattle.x86_decode.specs.Answer.{answer_of}
 use Rattle.x86_layout.specs.declared.sweeps.cuts.Cut.{Cut}

@@ -1,6 +1,6 @@
 -- Which registers an address adds, and where they stand. Source: Intel SDM volume 2, sections 2.1.5 and 2.2.1.
 use Rattle.std.specs.Prelude.{ℕ, ◌+◌, ◌<◌, ◌≢◌, ◌==◌, ◌&&◌, not, Bool, false, if◌then◌else◌, Option, Some, None}
-use Rattle.x86_fields.specs.declared.Raw.{Raw}
+use Rattle.x86_fields.specs.declared.raw.Raw.{Raw}
 use Rattle.x86_fields.specs.ModRM.{mod_field, rm_field, scale_field, index_field, base_field}
 use Rattle.x86_fields.specs.Address.{extended}
 use Rattle.x86_layout.specs.declared.tightening.registers.Scale.{Scale}

@@ -1,7 +1,7 @@
 //! The parts of an encoding.
 
 ghost use Rattle.std.specs.Prelude.{◌≡◌, ℕ, List, slice_index, MatchResult, IfOk, Ok, Err};
-ghost use Rattle.x86_fields.specs.declared.Prefixes.{Prefixes};
+ghost use Rattle.x86_fields.specs.declared.prefixes.Prefixes.{Prefixes};
 ghost use Rattle.x86_operands.specs.declared.reader.Reading.{Reading};
 ghost use Rattle.x86_operands.specs.Plans.{RowRecord};
 ghost use Rattle.x86_operands.specs.Pieces.{SpellsRow};

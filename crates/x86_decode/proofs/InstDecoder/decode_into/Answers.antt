@@ -1,7 +1,7 @@
 use Rattle.std.proofs.Common.{rules, ◌≡◌, Ok, Err}
 use Rattle.x86_fields.specs.Steps.{outcome}
 use Rattle.x86_forms.specs.Words.{rows_of, word_at}
-use Rattle.x86_fields.specs.declared.DecodeError.TheVariants.{ExhaustedInput, InvalidOpcode, InvalidOperand, InvalidPrefixes, TooLong, IncompleteDecoder}
+use Rattle.x86_fields.specs.declared.errors.DecodeError.TheVariants.{ExhaustedInput, InvalidOpcode, InvalidOperand, InvalidPrefixes, TooLong, IncompleteDecoder}
 use Rattle.x86_decode.specs.Walk.{decode_step}
 use Rattle.x86_decode.proofs.Theorem.{answered_by}
 use Rattle.x86_decode.proofs.AnswerLaws.{at_most_fifteen}

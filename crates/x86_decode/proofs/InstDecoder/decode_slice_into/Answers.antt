@@ -1,6 +1,6 @@
 use Rattle.std.proofs.Common.{rules, ◌≡◌, Ok, Err}
 use Rattle.x86_forms.specs.Words.{rows_of, word_at}
-use Rattle.x86_fields.specs.declared.DecodeError.TheVariants.{ExhaustedInput, InvalidOpcode, InvalidOperand, InvalidPrefixes, TooLong, IncompleteDecoder}
+use Rattle.x86_fields.specs.declared.errors.DecodeError.TheVariants.{ExhaustedInput, InvalidOpcode, InvalidOperand, InvalidPrefixes, TooLong, IncompleteDecoder}
 use Rattle.x86_decode.specs.Answer.{answer_of, count_of}
 use Rattle.x86_decode.proofs.PrintedLaws.{printed_answer}
 use Rattle.x86_decode.proofs.CauseLaws.{accepted, exhausted, opcode_faulted, operand_faulted, prefixes_faulted, too_long, left_out, same_refusal}

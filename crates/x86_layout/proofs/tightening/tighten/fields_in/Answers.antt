@@ -1,6 +1,6 @@
 use Rattle.std.proofs.Common.{true, Some, ◌≡◌, ℕ, zero, suc, Bool, List, [], ◌∷◌, slice_index, sym, ap, ◌∙◌, arith, Fits, w8}
 use Rattle.std.specs.List.{list_all}
-use Rattle.x86_fields.specs.declared.Prefixes.{Prefixes}
+use Rattle.x86_fields.specs.declared.prefixes.Prefixes.{Prefixes}
 use Rattle.x86_fields.specs.Run.{is_prefix_byte}
 use Rattle.x86_operands.specs.declared.reader.Reading.{Reading}
 use Rattle.x86_operands.specs.Plans.{RowRecord}

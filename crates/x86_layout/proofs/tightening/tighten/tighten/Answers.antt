@@ -1,5 +1,5 @@
 use Rattle.std.proofs.Common.{take, ◌≡◌, ℕ, Bool, List, ◌++◌, length, Result, Ok, Err, MatchResult, refl, sym, ap, subst, ◌∙◌}
-use Rattle.x86_fields.specs.declared.DecodeError.{DecodeError}
+use Rattle.x86_fields.specs.declared.errors.DecodeError.{DecodeError}
 use Rattle.x86_forms.specs.Words.{rows_of, word_at}
 use Rattle.x86_decode.specs.declared.instructions.Instruction.{Instruction}
 use Rattle.x86_decode.specs.Grammar.{IsAccepted, IsSentence}
