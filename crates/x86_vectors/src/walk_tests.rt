@@ -5,6 +5,19 @@ use arrayvec::ArrayVec;
 use x86_decode::InstDecoder;
 use x86_fields::RegFile;
 
+/// The fields of a ModRM or SIB byte: of two bits, of three, and of three.
+fn fields(byte: u8) -> (u8, u8, u8)
+    ensures middle { result.1 < 8 }
+    ensures low { result.2 < 8 }
+{
+    (byte / 64, byte / 8 % 8, byte % 8)
+}
+
+/// Whether there is a SIB behind a ModRM of the memory form.
+fn asks_sib(modrm: u8) -> bool {
+    fields(modrm).2 == 4
+}
+
 /// One memory form of `ADD r32, m32`.
 #[derive(Clone, Copy, Drop)]
 struct MemoryForm {
@@ -18,20 +31,21 @@ struct MemoryForm {
 
 impl MemoryForm {
     fn has_sib(&self) -> bool {
-        self.modrm % 8 == 4
+        asks_sib(self.modrm)
     }
 
     /// How many bytes of displacement there are.
     fn disp_width(&self) -> u8 {
-        let low = if self.has_sib() {
-            self.sib % 8
+        let (mode, _, rm) = fields(self.modrm);
+        let base = if self.has_sib() {
+            fields(self.sib).2
         } else {
-            self.modrm % 8
+            rm
         };
-        match self.modrm / 64 {
+        match mode {
             1 => 1,
             2 => 4,
-            _ => { if low == 5 { 4 } else { 0 } }
+            _ => { if base == 5 { 4 } else { 0 } }
         }
     }
 
@@ -66,24 +80,25 @@ impl MemoryForm {
     fn full_sum(&self, regs: &[u64; 16], next: u64) -> u64 {
         let b = 8 * self.rex_b as u8;
         let x = 8 * self.rex_x as u8;
-        let at_mod_00 = self.modrm / 64 == 0;
+        let (mode, _, rm) = fields(self.modrm);
         if !self.has_sib() {
-            if at_mod_00 && self.modrm % 8 == 5 {
+            if mode == 0 && rm == 5 {
                 return next.wrapping_add(self.distance());
             }
-            return regs[(self.modrm % 8 + b) as usize].wrapping_add(self.distance());
+            return regs[(rm + b) as usize].wrapping_add(self.distance());
         }
-        let base = if at_mod_00 && self.sib % 8 == 5 {
+        let (scale, index, base) = fields(self.sib);
+        let base = if mode == 0 && base == 5 {
             0
         } else {
-            regs[(self.sib % 8 + b) as usize]
+            regs[(base + b) as usize]
         };
-        let index = if self.sib / 8 % 8 == 4 && !self.rex_x {
+        let index = if index == 4 && !self.rex_x {
             0
         } else {
-            regs[(self.sib / 8 % 8 + x) as usize]
+            regs[(index + x) as usize]
         };
-        let scale = match self.sib / 64 {
+        let scale = match scale {
             0 => 1,
             1 => 2,
             2 => 4,
@@ -150,8 +165,12 @@ fn variants_are_right(modrm: u8, sib: u8) -> bool {
 
 #[test]
 fn every_memory_form(rt: HostRuntime) {
-    for modrm in 0..0xc0u8 {
-        if modrm % 8 == 4 {
+    for modrm in 0..=255u8 {
+        let (mode, _, _) = fields(modrm);
+        if mode == 3 {
+            continue;
+        }
+        if asks_sib(modrm) {
             assert!(rt; (0..=255u8).all(|sib| variants_are_right(modrm, sib)));
         } else {
             assert!(rt; variants_are_right(modrm, 0));

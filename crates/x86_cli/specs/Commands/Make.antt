@@ -4,6 +4,8 @@ use Rattle.std.specs.Int.{w32, to_le_bytes}
 use Rattle.x86_regs.specs.declared.RegisterClass.{RegisterClass}
 use Rattle.x86_regs.specs.declared.RegisterClass.TheVariants.{RIP}
 use Rattle.x86_fields.specs.declared.errors.DecodeError.{DecodeError}
+use Rattle.x86_fields.specs.declared.modrm.TheConstants.{MEMORY_FORMS}
+use Rattle.x86_fields.specs.ModRM.{mod_field, rm_field, base_field}
 use Rattle.x86_operands.specs.declared.operands.Operand.{Operand}
 use Rattle.x86_operands.specs.declared.operands.Operand.TheVariants as operand
 use Rattle.x86_decode.specs.declared.instructions.Instruction.{Instruction}
@@ -17,26 +19,22 @@ use Rattle.x86_cli.specs.Listings.Listing.{Listing}
 
 -- ---- encoding i: opcode 03, a ModRM of the memory form, SIB where it asks one, and a displacement
 
--- how many ModRM bytes, from 0, are memory forms: those whose mod isn't 11
-abbrev pub memory_forms : ℕ
-memory_forms = 0xc0
-
 abbrev pub made_modrm : ℕ → ℕ
-made_modrm i = i % memory_forms
+made_modrm i = i % MEMORY_FORMS
 
 abbrev pub made_sib : ℕ → ℕ
-made_sib i = (i / memory_forms) % 256
+made_sib i = (i / MEMORY_FORMS) % 256
 
 -- mod 10; mod 00 with rm 101; mod 00 with rm 100 and base 101
 abbrev pub has_long_displacement : ℕ → ℕ → Bool
-has_long_displacement m s = (m / 64 == 2) || ((m / 64 == 0) && ((m % 8 == 5) || ((m % 8 == 4) && (s % 8 == 5))))
+has_long_displacement m s = (mod_field m == 2) || ((mod_field m == 0) && ((rm_field m == 5) || ((rm_field m == 4) && (base_field s == 5))))
 
 abbrev pub sib_bytes : ℕ → ℕ → List ℕ
-sib_bytes m s = if m % 8 == 4 then s ∷ [] else []
+sib_bytes m s = if rm_field m == 4 then s ∷ [] else []
 
 abbrev pub displacement_bytes : ℕ → ℕ → ℕ → List ℕ
 displacement_bytes m s i =
-    if m / 64 == 1 then (i % 256) ∷ []
+    if mod_field m == 1 then (i % 256) ∷ []
     else (if has_long_displacement m s then to_le_bytes w32 i else [])
 
 unfoldable pub made : ℕ → List ℕ

@@ -12,16 +12,13 @@ use crate::outside::sink::Sink;
 use arrayvec::ArrayVec;
 use itoa::Buffer;
 use x86_decode::{InstDecoder, Instruction};
-use x86_fields::DecodeError;
+use x86_fields::{DecodeError, MEMORY_FORMS, ModRM, Sib};
 use x86_operands::Operand;
 use x86_regs::{RegSpec, RegisterClass};
 use x86_text::{LINE_MAX, Line};
 
 /// The most encodings that `make` makes.
 pub const MAKE_MAX: u32 = 1_000_000;
-
-/// How many ModRM bytes, from 0, are memory forms: those whose mod isn't 11.
-const MEMORY_FORMS: u32 = 0xc0;
 
 /// What is counted of the encodings.
 #[derive(Clone, Copy, Drop)]
@@ -39,29 +36,29 @@ fn push(encoding: &mut ArrayVec<u8, 15>, bytes: &[u8])
     let _ = encoding.try_extend_from_slice(bytes);
 }
 
-fn has_long_displacement(modrm: u8, sib: u8) -> bool
+fn has_long_displacement(modrm: ModRM, sib: Sib) -> bool
     ensures { result ≡ has_long_displacement modrm sib }
 {
-    match modrm / 64 {
-        2 => true,
-        0 => modrm % 8 == 5 || (modrm % 8 == 4 && sib % 8 == 5),
+    match (modrm.mod_field(), modrm.rm_field()) {
+        (2, _) | (0, 5) => true,
+        (0, 4) => sib.base_field() == 5,
         _ => false,
     }
 }
 
-/// Encoding `i` of `make`: `ADD r32, m32` with ModRM `i` modulo 0xc0.
+/// Encoding `i` of `make`: `ADD r32, m32` with ModRM `i` modulo `MEMORY_FORMS`.
 #[tactic(auto, unfolding(crate::specs::Commands::Make::made))]
 pub fn generate(i: u32) -> ArrayVec<u8, 15>
     ensures { result.items ≡ made i }
 {
-    let modrm = (i % MEMORY_FORMS) as u8;
-    let sib = (i / MEMORY_FORMS % 256) as u8;
+    let modrm = ModRM::new((i % MEMORY_FORMS as u32) as u8);
+    let sib = Sib::new((i / MEMORY_FORMS as u32 % 256) as u8);
     let mut encoding = ArrayVec::new();
-    push(&mut encoding, &[0x03, modrm]);
-    if modrm % 8 == 4 {
-        push(&mut encoding, &[sib]);
+    push(&mut encoding, &[0x03, modrm.byte()]);
+    if modrm.rm_field() == 4 {
+        push(&mut encoding, &[sib.byte()]);
     }
-    if modrm / 64 == 1 {
+    if modrm.mod_field() == 1 {
         push(&mut encoding, &[(i % 256) as u8]);
     } else if has_long_displacement(modrm, sib) {
         push(&mut encoding, &i.to_le_bytes());
