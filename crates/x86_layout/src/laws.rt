@@ -16,7 +16,8 @@ ghost use Rattle.x86_forms.specs.Words.{rows_of, word_at};
 ghost use Rattle.x86_decode.specs.Grammar.{IsSentence};
 ghost use Rattle.x86_layout.specs.Tightening.Least.{least_in};
 ghost use Rattle.x86_layout.specs.declared.tightening.tighten.TightenError.{TightenError};
-ghost use Rattle.x86_layout.specs.Tightening.Tighten.{HasNoRelative, HasOperandForm, IsShortest};
+ghost use Rattle.x86_layout.specs.Tightening.Tighten.{HasNoRelative, HasOperandForm, IsRelative, IsShortest};
+ghost use Rattle.x86_layout.specs.Tightening.Same.{IsSameButInMemory};
 ghost use Rattle.x86_layout.specs.Tightening.Registers.{is_ip_relative};
 ghost use Rattle.x86_layout.specs.Tightening.Shortest.{shortest, address_length, IsOfBytes};
 ghost use Rattle.x86_fields.specs.declared.Raw.{Raw};
@@ -101,6 +102,11 @@ pub fn shortest_relatives_have_the_least_length()
 /// next instruction, keeps its length: it is the one that `least_of` tells from the bytes.
 pub fn encodings_without_a_relative_keep_their_length()
     ensures { (strict : Bool) (s : List ℕ) (a : Instruction) (is : IsSentence (rows_of word_at) strict s a) (error : TightenError) → HasNoRelative strict s is.reading is.whole error → least_in strict s ≡ length s }
+{}
+
+/// A relative is the same instruction but for its memory operand of ModRM, which has the same address.
+pub fn relatives_are_the_same_instruction()
+    ensures but_in_memory { (strict : Bool) (s : List ℕ) (a : Instruction) (is : IsSentence (rows_of word_at) strict s a) (t : List ℕ) (b : Instruction) (other : IsSentence (rows_of word_at) strict t b) (relative : IsRelative strict s is.reading is.whole t other.reading other.whole) → IsSameButInMemory relative.address.from relative.address.to a b }
 {}
 
 /// Errors of `emit` are equal exactly where they are the same.
