@@ -1,16 +1,19 @@
 -- A relative is the same instruction but for its memory operand of ModRM, which has the same address.
-use Rattle.std.proofs.Common.{◌≡◌, ℕ, zero, suc, ◌+◌, ◌*◌, ◌/◌, ◌≤◌, ◌<◌, ◌^◌, ◌&&◌, nat_le, nat_lt, Bool, true, false, if◌then◌else◌, is_some, Option, Some, None, List, [], ◌∷◌, ◌++◌, length, map, take, drop, slice_index_or, refl, sym, ap, subst, ◌∙◌, arith}
+use Rattle.std.proofs.Common.{◌≡◌, ◌↔◌, ℕ, zero, suc, ◌+◌, ◌*◌, ◌/◌, ◌≤◌, ◌<◌, ◌^◌, ◌&&◌, nat_le, nat_lt, Bool, true, false, if◌then◌else◌, is_some, Option, Some, None, List, [], ◌∷◌, ◌++◌, length, map, take, drop, slice_index_or, refl, sym, ap, subst, ◌∙◌, arith, All}
+use Rattle.std.specs.Prelude.{FitsSigned}
+use Rattle.std.specs.Int.{w32}
 use Rattle.x86_regs.specs.declared.RegisterClass.{RegisterClass}
 use Rattle.x86_regs.specs.declared.RegisterClass.TheVariants.{B, RB, MM}
 use Rattle.x86_regs.specs.declared.RegSpec.{RegSpec}
 use Rattle.x86_fields.specs.declared.Prefixes.{Prefixes}
 use Rattle.x86_fields.specs.declared.PrefixRex.{PrefixRex}
 use Rattle.x86_fields.specs.declared.Raw.{Raw}
-use Rattle.x86_fields.specs.ModRM.{reg_field, is_memory}
+use Rattle.x86_fields.specs.ModRM.{reg_field, scale_field, is_memory}
 use Rattle.x86_fields.specs.Raw.{live_bit, rex_r}
 use Rattle.x86_fields.specs.Run.{reading_of}
+use Rattle.x86_fields.specs.Address.{extended, scale_by}
 use Rattle.x86_fields.specs.Sizes.{register_of}
-use Rattle.x86_fields.specs.Linear.{raw_form, IsSameAddress}
+use Rattle.x86_fields.specs.Linear.{Linear, raw_form, value_at, IsSameAddress, IsReduced, IsRegFile, AgreeEverywhere}
 use Rattle.x86_forms.specs.declared.Map.{Map}
 use Rattle.x86_forms.specs.declared.Map.TheVariants.{One, Of, Of38, Of3a}
 use Rattle.x86_forms.specs.declared.TableRow.{TableRow}
@@ -26,21 +29,24 @@ use Rattle.x86_operands.specs.declared.plans.Mark.TheVariants.{Keeps, ClearsOper
 use Rattle.x86_operands.specs.declared.plans.Plan.{Plan}
 use Rattle.x86_operands.specs.declared.reader.Reading.{Reading}
 use Rattle.x86_operands.specs.Shape.{shape_of}
+use Rattle.x86_operands.specs.Linear.{operand_address}
 use Rattle.x86_operands.specs.Plans.{list_of, reg_number}
 use Rattle.x86_operands.specs.Signs.{pair_at, four_of, marked, reading_from}
 use Rattle.x86_operands.specs.Pieces.{sign_gives, SpellsSigns, SpellsTail, opcode_by, first_or}
-use Rattle.x86_fields.specs.Address.{extended}
 use Rattle.x86_decode.specs.declared.instructions.Instruction.{Instruction}
-use Rattle.x86_decode.specs.Instruction.{instruction_of}
+use Rattle.x86_decode.specs.Instruction.{instruction_of, operand_at}
 use Rattle.x86_decode.specs.Head.{escape_bytes, column_of, seen}
 use Rattle.x86_decode.specs.Grammar.{record_of, IsSentence}
+use Rattle.x86_decode.proofs.ByteLaws.{bytes_of}
 use Rattle.x86_layout.specs.Parts.Split.{Encoding}
+use Rattle.x86_layout.specs.Tightening.Registers.{IsByteOption}
+use Rattle.x86_layout.specs.Tightening.Shortest.{IsOfBytes}
 use Rattle.x86_layout.specs.Tightening.Tighten.{bits_in, run_with, IsRelative}
-use Rattle.x86_layout.specs.Tightening.Same.{cleared, placed_at, IsSameOrShape, unchanged, shapes, IsSameButInMemory}
+use Rattle.x86_layout.specs.Tightening.Same.{cleared, placed_at, address_at, IsSameOrShape, unchanged, shapes, IsSameButInMemory}
 use Rattle.x86_layout.proofs.PartLemmas.PartLaws.{front_is, rest_is}
 use Rattle.x86_layout.proofs.TightenLemmas.RexLaws.{reading_is, seen_with, column_stays}
 use Rattle.x86_layout.proofs.TightenLemmas.PlanAlikeLaws.{same_plan}
-use Rattle.x86_layout.proofs.TightenLemmas.RelativeLaws.{Seen, Byte, spells, fields, byte}
+use Rattle.x86_layout.proofs.TightenLemmas.RelativeLaws.{Seen, Byte, spells, fields, byte, raw_short, fields_of_bytes}
 
 -- ---- what clearing X and B leaves
 
@@ -259,3 +265,69 @@ module _ (strict : Bool) (s : List ℕ) (a : Reading) (v : Encoding strict s a) 
 -- a relative that is a sentence has the same instruction but for its memory operand
 pub relative_is_same : (strict : Bool) (s : List ℕ) (a : Instruction) (is : IsSentence (rows_of word_at) strict s a) (t : List ℕ) (b : Instruction) (other : IsSentence (rows_of word_at) strict t b) (rel : IsRelative strict s is.reading is.whole t other.reading other.whole) → IsSameButInMemory rel.address.from rel.address.to a b
 relative_is_same strict s a is t b other rel = same_moved rel.address.from rel.address.to _ _ a b is.gives other.gives (same_instruction strict s is.reading is.whole t other.reading other.whole rel (length s) (length t))
+
+-- ---- addresses, by the laws on shapes and on forms
+
+abbrev HaveTheAddress : Type 0
+HaveTheAddress = (raw : Raw) (regs : List ℕ) (next : ℕ) → FitsSigned w32 raw.disp → operand_address raw.address_size (shape_of raw).1 regs next ≡ Some (value_at (raw_form raw) regs next)
+
+abbrev AreReduced : Type 0
+AreReduced = (raw : Raw) → scale_by raw.sib ≤ 8 → FitsSigned w32 raw.disp → IsReduced (raw_form raw)
+
+abbrev AreTheirValues : Type 0
+AreTheirValues = (f g : Linear) → f.modulus ≡ g.modulus → IsReduced f → IsReduced g → (IsSameAddress f g ↔ AgreeEverywhere f g)
+
+power : (high : ℕ) → high < 4 → 2 ^ high ≤ 8
+power zero h = omega arith
+power (suc zero) h = omega arith
+power (suc (suc zero)) h = omega arith
+power (suc (suc (suc zero))) h = omega arith
+power (suc (suc (suc (suc k)))) h = absurd (omega (arith, h))
+
+scale_small : (sib : Option ℕ) → IsByteOption sib → scale_by sib ≤ 8
+scale_small None h = omega arith
+scale_small (Some sib) h = power (scale_field sib) (omega (arith, h))
+
+mark_67 : (mark : Mark) (p : Prefixes) → (marked mark p).address_size ≡ p.address_size
+mark_67 Keeps p = refl
+mark_67 ClearsOperandSize p = refl
+mark_67 SetsEs p = refl
+
+-- 67 of the raw fields is that of the instruction
+same_67 : (strict : Bool) (s : List ℕ) (a : Instruction) (is : IsSentence (rows_of word_at) strict s a) (raw : Raw) → is.whole.asked.behind.pieces.memory ≡ Some raw → a.prefixes.address_size ≡ raw.address_size
+same_67 strict s a is raw read =
+    ap (λ i. i.prefixes.address_size) is.gives
+    ∙ ap (λ r. r.prefixes.address_size) is.whole.asked.behind.gives
+    ∙ mark_67 _ (Seen strict s is.reading is.whole)
+    ∙ sym (raw_short strict s is.reading is.whole raw read)
+
+module _ (have : HaveTheAddress) (reduced : AreReduced) (values : AreTheirValues) (from to : Raw) (from_bytes : IsOfBytes from) (to_bytes : IsOfBytes to) (regs : List ℕ) (next : ℕ) (file : IsRegFile regs) (small : next < 2 ^ 64) where
+  reduced_of : (raw : Raw) → IsOfBytes raw → IsReduced (raw_form raw)
+  reduced_of raw h = reduced raw (scale_small raw.sib h.sib) h.disp
+
+  same_value : IsSameAddress (raw_form to) (raw_form from) → value_at (raw_form to) regs next ≡ value_at (raw_form from) regs next
+  same_value h = (values (raw_form to) (raw_form from) h.modulus (reduced_of to to_bytes) (reduced_of from from_bytes)).0 h regs next file small
+
+  at_shape : (i : Instruction) (k : ℕ) (raw : Raw) → IsOfBytes raw → i.prefixes.address_size ≡ raw.address_size → placed_at i k ≡ shape_of raw → address_at i k regs next ≡ Some (value_at (raw_form raw) regs next)
+  at_shape i k raw h short shape =
+      ap (λ t. operand_address t (operand_at i k) regs next) short
+      ∙ ap (λ x. operand_address raw.address_size x.1 regs next) shape
+      ∙ have raw regs next h.disp
+
+  module _ (a b : Instruction) (k : ℕ) (h : IsSameButInMemory from to a b) (old : a.prefixes.address_size ≡ from.address_size) (new : b.prefixes.address_size ≡ to.address_size) where
+    same_place : IsSameOrShape from to (placed_at a k) (placed_at b k) → address_at b k regs next ≡ address_at a k regs next
+    same_place (unchanged e) = ap (λ p. operand_address p.address_size (operand_at b k) regs next) h.prefixes ∙ ap (λ x. operand_address a.prefixes.address_size x.1 regs next) e
+    same_place (shapes e f) = at_shape b k to to_bytes new f ∙ ap Some (same_value h.address) ∙ sym (at_shape a k from from_bytes old e)
+
+pub relative_has_addresses : HaveTheAddress → AreReduced → AreTheirValues → (strict : Bool) (s : List ℕ) (a : Instruction) (is : IsSentence (rows_of word_at) strict s a) (t : List ℕ) (b : Instruction) (other : IsSentence (rows_of word_at) strict t b) → IsRelative strict s is.reading is.whole t other.reading other.whole → All (λ byte. byte < 256) s → All (λ byte. byte < 256) t → (k : ℕ) (regs : List ℕ) (next : ℕ) → IsRegFile regs → next < 2 ^ 64 → address_at b k regs next ≡ address_at a k regs next
+relative_has_addresses have reduced values strict s a is t b other rel s_bytes t_bytes k regs next file small =
+    let from = rel.address.from in
+    let to = rel.address.to in
+    let same = relative_is_same strict s a is t b other rel in
+    same_place have reduced values from to
+    (fields_of_bytes strict s is.reading is.whole from rel.address.old (bytes_of s s_bytes))
+    (fields_of_bytes strict t other.reading other.whole to rel.address.new (bytes_of t t_bytes))
+    regs next file small a b k same
+    (same_67 strict s a is from rel.address.old)
+    (same_67 strict t b other to rel.address.new)
+    (same.operands k)
