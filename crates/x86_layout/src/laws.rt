@@ -1,4 +1,4 @@
-//! What follows from the definitions of the cuts, of the parts, and of the shortest raw fields.
+//! What follows from the definitions of the cuts, of the parts, of the shortest raw fields, and of relatives.
 
 ghost use Rattle.std.specs.Prelude.{◌≡◌, ◌↔◌, ℕ, ◌+◌, ◌^◌, ◌<◌, ◌≤◌, Bool, false, IsTrue, List, [], ◌∷◌, ◌++◌, length, take, drop, Ok};
 ghost use Rattle.std.specs.List.{sum_by, All};
@@ -104,7 +104,12 @@ pub fn encodings_without_a_relative_keep_their_length()
     ensures { (strict : Bool) (s : List ℕ) (a : Instruction) (is : IsSentence (rows_of word_at) strict s a) (error : TightenError) → HasNoRelative strict s is.reading is.whole error → least_in strict s ≡ length s }
 {}
 
-/// A relative is the same instruction but for its memory operand of ModRM, which has the same address.
+/// A relative of an encoding is the same instruction, but for the bits X and B of a live REX and for memory operands of
+/// ModRM: these are the shapes of raw fields that have the same address. So each operand has the address that it has in
+/// the encoding, at every register file and next pointer.
+///
+/// This is said of every relative, and so of what `tighten` answers. Source: Intel SDM volume 2, sections 2.1.5 and
+/// 2.2.1.
 pub fn relatives_are_the_same_instruction()
     ensures but_in_memory { (strict : Bool) (s : List ℕ) (a : Instruction) (is : IsSentence (rows_of word_at) strict s a) (t : List ℕ) (b : Instruction) (other : IsSentence (rows_of word_at) strict t b) (relative : IsRelative strict s is.reading is.whole t other.reading other.whole) → IsSameButInMemory relative.address.from relative.address.to a b }
     ensures address { (strict : Bool) (s : List ℕ) (a : Instruction) (is : IsSentence (rows_of word_at) strict s a) (t : List ℕ) (b : Instruction) (other : IsSentence (rows_of word_at) strict t b) → IsRelative strict s is.reading is.whole t other.reading other.whole → All (λ byte. byte < 256) s → All (λ byte. byte < 256) t → (k : ℕ) (regs : List ℕ) (next : ℕ) → IsRegFile regs → next < 2 ^ 64 → address_at b k regs next ≡ address_at a k regs next }

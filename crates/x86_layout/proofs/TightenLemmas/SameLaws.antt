@@ -1,5 +1,5 @@
 -- A relative is the same instruction but for its memory operand of ModRM, which has the same address.
-use Rattle.std.proofs.Common.{◌≡◌, ◌↔◌, ℕ, zero, suc, ◌+◌, ◌*◌, ◌/◌, ◌≤◌, ◌<◌, ◌^◌, ◌&&◌, nat_le, nat_lt, Bool, true, false, if◌then◌else◌, is_some, Option, Some, None, List, [], ◌∷◌, ◌++◌, length, map, take, drop, slice_index_or, refl, sym, ap, subst, ◌∙◌, arith, All}
+use Rattle.std.proofs.Common.{◌≡◌, ◌↔◌, ℕ, zero, suc, ◌≤◌, ◌<◌, ◌^◌, ◌&&◌, nat_le, nat_lt, Bool, true, false, if◌then◌else◌, is_some, Option, Some, None, List, [], ◌∷◌, ◌++◌, length, map, slice_index_or, refl, sym, ap, subst, ◌∙◌, arith, All}
 use Rattle.std.specs.Prelude.{FitsSigned}
 use Rattle.std.specs.Int.{w32}
 use Rattle.x86_regs.specs.declared.RegisterClass.{RegisterClass}
@@ -43,10 +43,10 @@ use Rattle.x86_layout.specs.Tightening.Registers.{IsByteOption}
 use Rattle.x86_layout.specs.Tightening.Shortest.{IsOfBytes}
 use Rattle.x86_layout.specs.Tightening.Tighten.{bits_in, run_with, IsRelative}
 use Rattle.x86_layout.specs.Tightening.Same.{cleared, placed_at, address_at, IsSameOrShape, unchanged, shapes, IsSameButInMemory}
-use Rattle.x86_layout.proofs.PartLemmas.PartLaws.{front_is, rest_is}
-use Rattle.x86_layout.proofs.TightenLemmas.RexLaws.{reading_is, seen_with, column_stays}
+use Rattle.x86_layout.proofs.TightenLemmas.RexLaws.{seen_with, column_stays}
 use Rattle.x86_layout.proofs.TightenLemmas.PlanAlikeLaws.{same_plan}
 use Rattle.x86_layout.proofs.TightenLemmas.RelativeLaws.{Seen, Byte, spells, fields, byte, raw_short, fields_of_bytes}
+use Rattle.x86_layout.proofs.TightenLemmas.TightenLaws.{take_of, drop_of}
 
 -- ---- what clearing X and B leaves
 
@@ -85,19 +85,8 @@ number_in e = cc
 abbrev mm : ℕ → RegSpec
 mm n = record { num = n; class = MM }
 
--- the same front, by its length
-front_of : (xs ys a b : List ℕ) → xs ++ ys ≡ a ++ b → length xs ≡ length a → xs ≡ a
-front_of xs ys a b e h = sym (front_is (xs ++ ys) xs ys (length xs) refl refl) ∙ front_is (xs ++ ys) a b (length xs) e h
-
-rest_of : (xs ys a b : List ℕ) → xs ++ ys ≡ a ++ b → length xs ≡ length a → ys ≡ b
-rest_of xs ys a b e h = sym (rest_is (xs ++ ys) xs ys (length xs) refl refl) ∙ rest_is (xs ++ ys) a b (length xs) e h
-
 module _ (from to : Raw) where
-  moved : (x y v w : Slot × Operand) → v ≡ x → w ≡ y → IsSameOrShape from to x y → IsSameOrShape from to v w
-  moved x y v w e f (unchanged h) = unchanged (f ∙ h ∙ sym e)
-  moved x y v w e f (shapes h k) = shapes (e ∙ h) (f ∙ k)
-
-  -- As many pairs, each the same or both the shape of raw fields.
+  -- There are as many pairs, and at each place they are the same or the shapes of the raw fields.
   record AlikePairs (given others : List (Slot × Operand)) : Type 0 where
     count : length others ≡ length given
     each : (k : ℕ) → IsSameOrShape from to (pair_at given k) (pair_at others k)
@@ -134,8 +123,8 @@ module _ (from to : Raw) where
     pairs_alike (s ∷ rest) bytes given others h g =
         let both : h.immediate ++ h.tail ≡ g.immediate ++ g.tail = sym h.spelled ∙ g.spelled in
         let long : length h.immediate ≡ length g.immediate = h.asked ∙ sym g.asked in
-        let front : h.immediate ≡ g.immediate = front_of h.immediate h.tail g.immediate g.tail both long in
-        let back : h.tail ≡ g.tail = rest_of h.immediate h.tail g.immediate g.tail both long in
+        let front : h.immediate ≡ g.immediate = take_of h.immediate h.tail g.immediate g.tail both long in
+        let back : h.tail ≡ g.tail = drop_of h.immediate h.tail g.immediate g.tail both long in
         let first = subst (λ l. IsSameOrShape from to (sign_gives s p m (Some from) l) (sign_gives s q n (Some to) g.immediate)) (sym front) (sign_alike s g.immediate) in
         let behind = pairs_alike rest g.tail h.others g.others (subst (λ l. SpellsSigns rest p m (Some from) l h.others) back h.behind) g.behind in
         alike_moved _ _ given others h.gives g.gives (one_more _ _ _ _ first behind)
@@ -262,7 +251,7 @@ module _ (strict : Bool) (s : List ℕ) (a : Reading) (v : Encoding strict s a) 
   same_instruction : (k l : ℕ) → IsSameButInMemory From To (instruction_of a k) (instruction_of b l)
   same_instruction k l = tails From To rel.address.same Old New seen_is OldByte NewByte register_is _ _ v.asked.tail w.asked.tail a b v.asked.behind w.asked.behind k l plan_is rel.address.old rel.address.new rel.parts.immediate rel.parts.suffix
 
--- a relative that is a sentence has the same instruction but for its memory operand
+-- said of sentences
 pub relative_is_same : (strict : Bool) (s : List ℕ) (a : Instruction) (is : IsSentence (rows_of word_at) strict s a) (t : List ℕ) (b : Instruction) (other : IsSentence (rows_of word_at) strict t b) (rel : IsRelative strict s is.reading is.whole t other.reading other.whole) → IsSameButInMemory rel.address.from rel.address.to a b
 relative_is_same strict s a is t b other rel = same_moved rel.address.from rel.address.to _ _ a b is.gives other.gives (same_instruction strict s is.reading is.whole t other.reading other.whole rel (length s) (length t))
 

@@ -23,13 +23,14 @@ placed_at i k = (slot_at i k, operand_at i k)
 abbrev pub address_at : Instruction → ℕ → List ℕ → ℕ → Option ℕ
 address_at i k regs next = operand_address i.prefixes.address_size (operand_at i k) regs next
 
+-- the raw fields of the one, and of the other
 module _ (from to : Raw) where
-  -- Slot and operand are the same, or those of x are the shape of one's raw fields and those of y that of the other's.
+  -- A slot and an operand are the same in both, or are the shape of one's raw fields and the shape of the other's.
   pub data IsSameOrShape (x y : Slot × Operand) : Type 0 where
     unchanged : y ≡ x → IsSameOrShape x y
     shapes : x ≡ shape_of from → y ≡ shape_of to → IsSameOrShape x y
 
-  -- b is a, but for X and B of a live REX and for memory operands of ModRM. Those are the shapes of raw fields of the
+  -- The instruction b is a, but for X and B of a live REX and for memory operands of ModRM, whose raw fields have the
   -- same address.
   pub record IsSameButInMemory (a b : Instruction) : Type 0 where
     pub opcode : b.opcode ≡ a.opcode
