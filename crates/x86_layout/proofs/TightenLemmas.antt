@@ -11,3 +11,4 @@ pub mod WritesLaws
 pub mod RelativeLaws
 pub mod TightenLaws
 pub mod LeastLaws
+pub mod SameLaws

@@ -3,3 +3,4 @@ pub mod Registers
 pub mod Shortest
 pub mod Tighten
 pub mod Least
+pub mod Same

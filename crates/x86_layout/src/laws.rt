@@ -1,6 +1,6 @@
-//! What follows from the definitions of the cuts, of the parts, and of the shortest raw fields.
+//! What follows from the definitions of the cuts, of the parts, of the shortest raw fields, and of relatives.
 
-ghost use Rattle.std.specs.Prelude.{◌≡◌, ◌↔◌, ℕ, ◌+◌, ◌<◌, ◌≤◌, Bool, false, IsTrue, List, [], ◌∷◌, ◌++◌, length, take, drop, Ok};
+ghost use Rattle.std.specs.Prelude.{◌≡◌, ◌↔◌, ℕ, ◌+◌, ◌^◌, ◌<◌, ◌≤◌, Bool, false, IsTrue, List, [], ◌∷◌, ◌++◌, length, take, drop, Ok};
 ghost use Rattle.std.specs.List.{sum_by, All};
 ghost use Rattle.x86_decode.specs.Answer.{answer_of};
 ghost use Rattle.x86_layout.specs.Sweeps.Cuts.{cut_length, cut_at, cuts_from, cuts_of};
@@ -16,12 +16,13 @@ ghost use Rattle.x86_forms.specs.Words.{rows_of, word_at};
 ghost use Rattle.x86_decode.specs.Grammar.{IsSentence};
 ghost use Rattle.x86_layout.specs.Tightening.Least.{least_in};
 ghost use Rattle.x86_layout.specs.declared.tightening.tighten.TightenError.{TightenError};
-ghost use Rattle.x86_layout.specs.Tightening.Tighten.{HasNoRelative, HasOperandForm, IsShortest};
+ghost use Rattle.x86_layout.specs.Tightening.Tighten.{HasNoRelative, HasOperandForm, IsRelative, IsShortest};
+ghost use Rattle.x86_layout.specs.Tightening.Same.{address_at, IsSameButInMemory};
 ghost use Rattle.x86_layout.specs.Tightening.Registers.{is_ip_relative};
 ghost use Rattle.x86_layout.specs.Tightening.Shortest.{shortest, address_length, IsOfBytes};
 ghost use Rattle.x86_fields.specs.declared.raw.Raw.{Raw};
 ghost use Rattle.x86_fields.specs.ModRM.{reg_field};
-ghost use Rattle.x86_fields.specs.Linear.{raw_form, IsSameAddress};
+ghost use Rattle.x86_fields.specs.Linear.{raw_form, IsSameAddress, IsRegFile};
 
 use crate::EmitError;
 use x86_decode::laws;
@@ -102,6 +103,21 @@ pub fn shortest_relatives_have_the_least_length()
 pub fn encodings_without_a_relative_keep_their_length()
     ensures { (strict : Bool) (s : List ℕ) (a : Instruction) (is : IsSentence (rows_of word_at) strict s a) (error : TightenError) → HasNoRelative strict s is.reading is.whole error → least_in strict s ≡ length s }
 {}
+
+/// A relative of an encoding is the same instruction, but for the bits X and B of a live REX and for memory operands of
+/// ModRM: these are the shapes of raw fields that have the same address. So each operand has the address that it has in
+/// the encoding, at every register file and next pointer.
+///
+/// This is said of every relative, and so of what `tighten` answers. Source: Intel SDM volume 2, sections 2.1.5 and
+/// 2.2.1.
+pub fn relatives_are_the_same_instruction()
+    ensures but_in_memory { (strict : Bool) (s : List ℕ) (a : Instruction) (is : IsSentence (rows_of word_at) strict s a) (t : List ℕ) (b : Instruction) (other : IsSentence (rows_of word_at) strict t b) (relative : IsRelative strict s is.reading is.whole t other.reading other.whole) → IsSameButInMemory relative.address.from relative.address.to a b }
+    ensures address { (strict : Bool) (s : List ℕ) (a : Instruction) (is : IsSentence (rows_of word_at) strict s a) (t : List ℕ) (b : Instruction) (other : IsSentence (rows_of word_at) strict t b) → IsRelative strict s is.reading is.whole t other.reading other.whole → All (λ byte. byte < 256) s → All (λ byte. byte < 256) t → (k : ℕ) (regs : List ℕ) (next : ℕ) → IsRegFile regs → next < 2 ^ 64 → address_at b k regs next ≡ address_at a k regs next }
+{
+    x86_operands::laws::shapes_have_the_address();
+    x86_fields::laws::raw_forms_are_reduced();
+    x86_fields::laws::forms_are_their_values();
+}
 
 /// Errors of `emit` are equal exactly where they are the same.
 pub fn values_are_equal()

@@ -25,10 +25,10 @@ use Rattle.x86_layout.proofs.TightenLemmas.RelativeLaws.{Seen, Row, Byte, Addres
 
 -- ---- a list in two ways of two parts
 
-take_of : (xs ys a b : List ℕ) → xs ++ ys ≡ a ++ b → length xs ≡ length a → xs ≡ a
+pub take_of : (xs ys a b : List ℕ) → xs ++ ys ≡ a ++ b → length xs ≡ length a → xs ≡ a
 take_of xs ys a b e h = sym (front_is (xs ++ ys) xs ys (length xs) refl refl) ∙ front_is (xs ++ ys) a b (length xs) e h
 
-drop_of : (xs ys a b : List ℕ) → xs ++ ys ≡ a ++ b → length xs ≡ length a → ys ≡ b
+pub drop_of : (xs ys a b : List ℕ) → xs ++ ys ≡ a ++ b → length xs ≡ length a → ys ≡ b
 drop_of xs ys a b e h = sym (rest_is (xs ++ ys) xs ys (length xs) refl refl) ∙ rest_is (xs ++ ys) a b (length xs) e h
 
 module _ (strict : Bool) (s : List ℕ) (a : Reading) (v : Encoding strict s a) where
