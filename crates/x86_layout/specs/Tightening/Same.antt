@@ -1,7 +1,7 @@
 -- Instructions that are the same but for a memory operand of ModRM.
 use Rattle.std.specs.Prelude.{◌≡◌, ℕ, false, Option, List}
-use Rattle.x86_fields.specs.declared.Prefixes.{Prefixes}
-use Rattle.x86_fields.specs.declared.Raw.{Raw}
+use Rattle.x86_fields.specs.declared.prefixes.Prefixes.{Prefixes}
+use Rattle.x86_fields.specs.declared.raw.Raw.{Raw}
 use Rattle.x86_fields.specs.Linear.{raw_form, IsSameAddress}
 use Rattle.x86_operands.specs.declared.operands.Slot.{Slot}
 use Rattle.x86_operands.specs.declared.operands.Operand.{Operand}
