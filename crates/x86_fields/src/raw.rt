@@ -93,11 +93,11 @@ impl Raw {
         ensures { result ≡ base_of self.now }
     {
         let modrm = ModRM::new(self.modrm);
-        match self.sib.map(Sib::new) {
+        match self.sib {
             None if modrm.mod_field() == 0 && modrm.rm_field() == 5 => Some(self.next_pointer()),
             None => Some(self.register(extend(self.rex_b, modrm.rm_field()))),
-            Some(sib) if modrm.mod_field() == 0 && sib.base_field() == 5 => None,
-            Some(sib) => Some(self.register(extend(self.rex_b, sib.base_field()))),
+            Some(sib) if modrm.mod_field() == 0 && Sib::new(sib).base_field() == 5 => None,
+            Some(sib) => Some(self.register(extend(self.rex_b, Sib::new(sib).base_field()))),
         }
     }
 
@@ -117,10 +117,10 @@ impl Raw {
     pub fn index(&self) -> Option<RegSpec>
         ensures { result ≡ index_of self.now }
     {
-        match self.sib.map(Sib::new) {
+        match self.sib {
             None => None,
-            Some(sib) if sib.index_field() == 4 && !self.rex_x => None,
-            Some(sib) => Some(self.register(extend(self.rex_x, sib.index_field()))),
+            Some(sib) if Sib::new(sib).index_field() == 4 && !self.rex_x => None,
+            Some(sib) => Some(self.register(extend(self.rex_x, Sib::new(sib).index_field()))),
         }
     }
 

@@ -1,5 +1,5 @@
 //! What a field of ModRM chooses, and the shortest plans.
-ghost use Rattle.std.specs.Prelude.{◌≡◌, ◌<◌, if◌then◌else◌};
+ghost use Rattle.std.specs.Prelude.{◌≡◌, if◌then◌else◌};
 ghost use Rattle.x86_fields.specs.ModRM.{is_memory};
 ghost use Rattle.x86_groups.specs.Choice.{name_at, named_by_reg, is_register_0, has_f2_or_f3, has_f2_f3_or_66, bare, on_memory, on_register, bad_opcode, bad_operand, left_out};
 

@@ -1,5 +1,5 @@
 -- The shortest raw fields have the same address, and no others of that address have fewer bytes.
-use Rattle.std.proofs.Common.{◌≡◌, ℕ, ◌+◌, ◌<◌, ◌≤◌, ◌==◌, nat_lt, nat_le, ◌&&◌, not, Bool, true, false, if◌then◌else◌, Option, Some, None, ℤ, refl, sym, ap, subst, ◌∙◌, arith}
+use Rattle.std.proofs.Common.{◌≡◌, ℕ, ◌+◌, ◌<◌, ◌≤◌, ◌==◌, nat_le, ◌&&◌, not, Bool, true, false, if◌then◌else◌, Option, Some, None, ℤ, refl, sym, ap, subst, ◌∙◌, arith}
 use Rattle.std.specs.Prelude.{FitsSigned}
 use Rattle.std.specs.Int.{w32, w64, cast_signed}
 use Rattle.std.proofs.lemmas.Bool.Decides.{nat_tests}
@@ -7,12 +7,12 @@ use Rattle.std.proofs.lemmas.Int.{to_z-of_z}
 use Rattle.x86_fields.specs.declared.raw.Raw.{Raw}
 use Rattle.x86_fields.specs.ModRM.{mod_field, reg_field, rm_field, index_field, base_field, packed_byte, is_memory}
 use Rattle.x86_fields.specs.Raw.{disp_width, sib_fits, disp_fits, is_zero, is_byte}
-use Rattle.x86_fields.specs.Address.{index_by, scale_by}
+use Rattle.x86_fields.specs.Address.{address_register, next_pointer, base_by, base_of, index_by, scale_by}
 use Rattle.x86_fields.specs.Linear.{adds_to, adds_next, constant_by, modulus_by, raw_form, IsSameAddress}
 use Rattle.x86_layout.specs.declared.tightening.registers.Scale.{Scale}
 use Rattle.x86_layout.specs.declared.tightening.registers.Scale.TheVariants.{One, Two, Four, Eight}
 use Rattle.x86_layout.specs.declared.tightening.registers.AddressRegisters.{AddressRegisters}
-use Rattle.x86_layout.specs.Tightening.Registers.{is_ip_by, is_ip_relative, base_in, index_in, scale_in, registers_of, times, counts, weight, IsBelow16, IsIndex, IsByteOption}
+use Rattle.x86_layout.specs.Tightening.Registers.{is_ip_by, is_ip_relative, number_of, scale_named, registers_of, times, counts, weight, IsBelow16, IsIndex, IsByteOption}
 use Rattle.x86_layout.specs.Tightening.Shortest.{asks_displacement, exchanged, placed, shortest_registers, bytes_by, bytes_at, address_length, mod_by, mod_of, fourth_bit, scale_bits, field_or, rm_alone, rm_by, sib_by, spelled, shortest, IsOfBytes, field_bits}
 use Rattle.x86_layout.proofs.TightenLemmas.WeightLaws.{Weigh, fewest}
 use Rattle.x86_layout.proofs.TightenLemmas.SpelledLaws.{high_is, low_is, middle_is, middle_small, low_small, field_small, rm_small, not_bare_five, spelled_length, spelled_fits, spelled_base, spelled_index, spelled_scale}
@@ -89,16 +89,16 @@ same_index : (i j : Option ℕ) (s t : Scale) (r : ℕ) → i ≡ j → ((n : �
 same_index i None s t r e f = ap (λ k. counts k (times s) r) e
 same_index i (Some n) s t r e f = ap (λ k. counts k (times s) r) e ∙ ap (λ k. counts (Some n) (times k) r) (f n refl)
 
-spelled_scale_where : (d : ℤ) (m : ℕ) → m < 8 → (b i : Option ℕ) (s : Scale) (n : ℕ) → i ≡ Some n → scale_in (sib_by (rm_alone b i) (packed_byte (scale_bits s) (field_or 4 i) (field_or 5 b))) ≡ s
-spelled_scale_where d m below b i s n e = subst (λ k. scale_in (sib_by (rm_alone b k) (packed_byte (scale_bits s) (field_or 4 k) (field_or 5 b))) ≡ s) (sym e) (spelled_scale d m below b n s)
+spelled_scale_where : (d : ℤ) (m : ℕ) → m < 8 → (b i : Option ℕ) (s : Scale) (n : ℕ) → i ≡ Some n → scale_named (scale_by (sib_by (rm_alone b i) (packed_byte (scale_bits s) (field_or 4 i) (field_or 5 b)))) ≡ s
+spelled_scale_where d m below b i s n e = subst (λ k. scale_named (scale_by (sib_by (rm_alone b k) (packed_byte (scale_bits s) (field_or 4 k) (field_or 5 b)))) ≡ s) (sym e) (spelled_scale d m below b n s)
 
 spelled_weighs : (raw : Raw) (at : AddressRegisters) (r : ℕ) → Stands at → weight (registers_of (spelled raw at)) r ≡ weight at r
 spelled_weighs raw at r h =
     let d = raw.disp in
     let m : ℕ = reg_field raw.modrm in
     let below : m < 8 = middle_small raw.modrm in
-    let base = spelled_base d m below at.base at.index at.scale h.0 in
-    let index = spelled_index d m below at.base at.index at.scale h.1 in
+    let base = spelled_base d m below (spelled raw at) at.base at.index at.scale refl refl h.0 in
+    let index = spelled_index d m below (spelled raw at) at.base at.index at.scale refl h.1 in
     let to = registers_of (spelled raw at) in
     let second : counts to.index (times to.scale) r ≡ counts at.index (times at.scale) r = same_index to.index at.index to.scale at.scale r index (spelled_scale_where d m below at.base at.index at.scale) in
     ap (λ b. counts b 1 r + counts to.index (times to.scale) r) base ∙ ap (λ n. counts at.base 1 r + n) second
@@ -148,7 +148,7 @@ shortest_keeps_reg raw = let at = shortest_registers raw in middle_is _ (reg_fie
 -- ---- the address form
 
 form_weighs : (raw : Raw) (r : ℕ) → IsByteOption raw.sib → is_ip_relative raw ≡ false → (raw_form raw).registers r ≡ weight (registers_of raw) r
-form_weighs raw r h e = ap (λ n. n + adds_to (index_by raw raw.sib) (scale_by raw.sib) r) (base_counts raw raw.sib r e) ∙ ap (λ n. counts (base_in raw.rex_b raw.modrm raw.sib) 1 r + n) (index_counts raw raw.sib r h)
+form_weighs raw r h e = ap (λ n. n + adds_to (index_by raw raw.sib) (scale_by raw.sib) r) (base_counts raw raw.sib r e) ∙ ap (λ n. counts (number_of (base_of raw)) 1 r + n) (index_counts raw raw.sib r h)
 
 form_next : (raw : Raw) → (raw_form raw).next ≡ (if is_ip_relative raw then 1 else 0)
 form_next raw = ap (λ n. n + adds_next (index_by raw raw.sib) (scale_by raw.sib)) (base_next raw raw.sib) ∙ ap (λ n. (if is_ip_relative raw then 1 else 0) + n) (index_next raw raw.sib (scale_by raw.sib)) ∙ plus_zero (if is_ip_relative raw then 1 else 0)
@@ -157,7 +157,7 @@ form_next raw = ap (λ n. n + adds_next (index_by raw raw.sib) (scale_by raw.sib
     plus_zero n = omega arith
 
 stands : (raw : Raw) → Stands (shortest_registers raw)
-stands raw = placed_stands raw.disp _ _ _ (base_stands raw.rex_b raw.modrm raw.sib) (index_stands raw.rex_x raw.sib)
+stands raw = placed_stands raw.disp _ _ _ (base_stands raw raw.sib) (index_stands raw raw.sib)
 
 pub shortest_has_the_address : (raw : Raw) → IsOfBytes raw → is_ip_relative raw ≡ false → IsSameAddress (raw_form (shortest raw)) (raw_form raw)
 unfolding shortest
@@ -204,8 +204,8 @@ none_is_shorter raw other h k e same =
     let ip : is_ip_relative other ≡ false = ip_told (is_ip_relative other) (sym (form_next other) ∙ same.next ∙ form_next raw ∙ ap one_if_so e) in
     let disp : other.disp ≡ raw.disp = disp_told raw.address_size other.disp raw.disp k.disp h.disp (ap (λ s. constant_by s other.disp) (sym (short_told other.address_size raw.address_size same.modulus)) ∙ same.constant) in
     let counts_so : (r : ℕ) → r < 16 → weight from r ≡ weight to r = λ r small. sym (form_weighs raw r h.sib e) ∙ sym (same.registers r small) ∙ form_weighs other r k.sib ip in
-    let fewer = fewest raw.disp from.base from.index from.scale to.base to.index to.scale (base_stands raw.rex_b raw.modrm raw.sib) (index_stands raw.rex_x raw.sib) (base_stands other.rex_b other.modrm other.sib) (index_stands other.rex_x other.sib) counts_so in
-    let all = least other.disp other.modrm other.rex_b other.rex_x other.sib (first_of_three _ (sib_fits other.modrm other.sib) (disp_fits (disp_width other.modrm other.sib) other.disp) k.fit) (second_of_three (is_memory other.modrm) _ (disp_fits (disp_width other.modrm other.sib) other.disp) k.fit) (third_of_three (is_memory other.modrm) (sib_fits other.modrm other.sib) _ k.fit) ip in
+    let fewer = fewest raw.disp from.base from.index from.scale to.base to.index to.scale (base_stands raw raw.sib) (index_stands raw raw.sib) (base_stands other other.sib) (index_stands other other.sib) counts_so in
+    let all = least other.disp other other.sib (first_of_three _ (sib_fits other.modrm other.sib) (disp_fits (disp_width other.modrm other.sib) other.disp) k.fit) (second_of_three (is_memory other.modrm) _ (disp_fits (disp_width other.modrm other.sib) other.disp) k.fit) (third_of_three (is_memory other.modrm) (sib_fits other.modrm other.sib) _ k.fit) ip in
     at_most (shortest_length raw) fewer (subst (λ d. bytes_by d to.base to.index ≤ address_length other) disp all)
   where
     at_most : {a b c d : ℕ} → a ≡ b → b ≤ c → c ≤ d → a ≤ d
@@ -239,28 +239,34 @@ placed_low d (Some b) (Some i) One hb hi = by (is_zero d && (asks_displacement b
 low_number : (n : ℕ) → n < 8 → nat_le 8 n ≡ false
 low_number n h = grind (arith, nat_tests)
 
-low_base : (modrm : ℕ) (sib : Option ℕ) → fourth_bit (base_in false modrm sib) ≡ false
-low_base modrm None = low_number (rm_field modrm) (low_small modrm)
-low_base modrm (Some sib) = by ((mod_field modrm == 0) && (base_field sib == 5))
+low_base : (raw : Raw) (sib : Option ℕ) → raw.rex_b ≡ false → fourth_bit (number_of (base_by raw sib)) ≡ false
+low_base raw None e =
+    let ip : Bool = (mod_field raw.modrm == 0) && (rm_field raw.modrm == 5) in
+    ap (λ bit. nat_le 8 (if ip then next_pointer raw else address_register raw bit (rm_field raw.modrm)).num) e ∙ by ip
   where
-    by : (t : Bool) → fourth_bit (if t then None else Some (base_field sib)) ≡ false
+    by : (t : Bool) → nat_le 8 (if t then next_pointer raw else address_register raw false (rm_field raw.modrm)).num ≡ false
+    by true = refl
+    by false = low_number (rm_field raw.modrm) (low_small raw.modrm)
+low_base raw (Some sib) e =
+    let none : Bool = (mod_field raw.modrm == 0) && (base_field sib == 5) in
+    ap (λ bit. fourth_bit (number_of (if none then None else Some (address_register raw bit (base_field sib))))) e ∙ by none
+  where
+    by : (t : Bool) → fourth_bit (number_of (if t then None else Some (address_register raw false (base_field sib)))) ≡ false
     by true = refl
     by false = low_number (base_field sib) (low_small sib)
 
-low_index : (sib : Option ℕ) → fourth_bit (index_in false sib) ≡ false
-low_index None = refl
-low_index (Some sib) = by (index_field sib == 4)
+low_index : (raw : Raw) (sib : Option ℕ) → raw.rex_x ≡ false → fourth_bit (number_of (index_by raw sib)) ≡ false
+low_index raw None e = refl
+low_index raw (Some sib) e =
+    ap (λ bit. fourth_bit (number_of (if (index_field sib == 4) && not bit then None else Some (address_register raw bit (index_field sib))))) e ∙ by (index_field sib == 4)
   where
-    by : (t : Bool) → fourth_bit (if t && true then None else Some (index_field sib)) ≡ false
+    by : (t : Bool) → fourth_bit (number_of (if t && true then None else Some (address_register raw false (index_field sib)))) ≡ false
     by true = refl
     by false = low_number (index_field sib) (middle_small sib)
 
 pub shortest_keeps_bits : (raw : Raw) → raw.rex_b ≡ false → raw.rex_x ≡ false → ((shortest raw).rex_b ≡ false) × ((shortest raw).rex_x ≡ false)
 unfolding shortest
-shortest_keeps_bits raw e f =
-    placed_low raw.disp _ _ (scale_in raw.sib)
-    (ap (λ t. fourth_bit (base_in t raw.modrm raw.sib)) e ∙ low_base raw.modrm raw.sib)
-    (ap (λ t. fourth_bit (index_in t raw.sib)) f ∙ low_index raw.sib)
+shortest_keeps_bits raw e f = placed_low raw.disp _ _ (scale_named (scale_by raw.sib)) (low_base raw raw.sib e) (low_index raw raw.sib f)
 
 pub shortest_keeps_67 : (raw : Raw) → (shortest raw).address_size ≡ raw.address_size
 unfolding shortest

@@ -1,12 +1,13 @@
 -- What spelled raw fields are read as.
-use Rattle.std.proofs.Common.{◌≡◌, ◌≢◌, ℕ, zero, suc, ◌+◌, ◌<◌, ◌≤◌, ◌==◌, nat_lt, nat_le, ◌&&◌, not, Bool, true, false, if◌then◌else◌, Option, Some, None, is_some, ℤ, refl, sym, ap, ◌∙◌, arith}
+use Rattle.std.proofs.Common.{◌≡◌, ◌≢◌, ℕ, zero, suc, ◌+◌, ◌^◌, ◌<◌, ◌≤◌, ◌==◌, nat_le, ◌&&◌, not, Bool, true, false, if◌then◌else◌, Option, Some, None, is_some, ℤ, refl, sym, ap, ◌∙◌, arith}
 use Rattle.std.proofs.lemmas.Bool.Decides.{nat_tests}
 use Rattle.x86_fields.specs.ModRM.{mod_field, reg_field, rm_field, scale_field, index_field, base_field, packed_byte, is_memory}
 use Rattle.x86_fields.specs.Raw.{names_no_base, disp_width, sib_fits, is_zero, is_byte, disp_fits}
-use Rattle.x86_fields.specs.Address.{extended}
+use Rattle.x86_fields.specs.declared.raw.Raw.{Raw}
+use Rattle.x86_fields.specs.Address.{extended, address_register, next_pointer, base_by, index_by, scale_by}
 use Rattle.x86_layout.specs.declared.tightening.registers.Scale.{Scale}
 use Rattle.x86_layout.specs.declared.tightening.registers.Scale.TheVariants.{One, Two, Four, Eight}
-use Rattle.x86_layout.specs.Tightening.Registers.{base_in, index_in, scale_in, scale_named, IsBelow16, IsIndex}
+use Rattle.x86_layout.specs.Tightening.Registers.{number_of, scale_named, IsBelow16, IsIndex}
 use Rattle.x86_layout.specs.Tightening.Shortest.{asks_displacement, behind_base, bytes_by, mod_by, mod_of, fourth_bit, scale_bits, field_or, rm_alone, sib_by, rm_by, field_bits}
 
 -- ---- the fields of a byte
@@ -203,26 +204,36 @@ module _ (d : ℤ) (m : ℕ) (below : m < 8) where
   mod_reads b i = high_is (mod_of d b) m (rm_by (rm_alone b i)) below (rm_small b i)
 
   -- behind a SIB whose base field is that of the number
-  base_behind : (b : ℕ) (modrm sib : ℕ) → b < 16 → mod_field modrm ≡ mod_by d b → base_field sib ≡ field_bits b → base_in (nat_le 8 b) modrm (Some sib) ≡ Some b
-  base_behind b modrm sib h e f =
-      ap (λ t. if t then None else Some (extended (nat_le 8 b) (base_field sib))) (ap (λ n. (n == 0) && (base_field sib == 5)) e ∙ ap (λ n. (mod_by d b == 0) && (n == 5)) f ∙ not_bare_five (is_zero d) (asks_displacement b) (is_byte d))
-      ∙ ap (λ n. Some (extended (nat_le 8 b) n)) f
+  base_behind : (raw : Raw) (b sib : ℕ) → b < 16 → raw.rex_b ≡ nat_le 8 b → mod_field raw.modrm ≡ mod_by d b → base_field sib ≡ field_bits b → number_of (base_by raw (Some sib)) ≡ Some b
+  base_behind raw b sib h p e f =
+      ap (λ t. number_of (if t then None else Some (address_register raw raw.rex_b (base_field sib)))) (ap (λ n. (n == 0) && (base_field sib == 5)) e ∙ ap (λ n. (mod_by d b == 0) && (n == 5)) f ∙ not_bare_five (is_zero d) (asks_displacement b) (is_byte d))
+      ∙ ap (λ n. Some (extended raw.rex_b n)) f
+      ∙ ap (λ t. Some (extended t (field_bits b))) p
       ∙ ap Some (extended_low b h)
 
-  base_alone : (t : Bool) (b : ℕ) (sib : ℕ) → b < 16 → (field_bits b == 4) ≡ t → base_field sib ≡ field_bits b → (let rm = if t then None else Some (field_bits b) in base_in (nat_le 8 b) (packed_byte (mod_by d b) m (rm_by rm)) (sib_by rm sib)) ≡ Some b
-  base_alone true b sib h e f = base_behind b (packed_byte (mod_by d b) m 4) sib h (high_is (mod_by d b) m 4 below (omega arith)) f
-  base_alone false b sib h e f = ap (λ n. Some (extended (nat_le 8 b) n)) (low_is (mod_by d b) m (field_bits b) below (low_small b)) ∙ ap Some (extended_low b h)
+  base_alone : (t : Bool) (raw : Raw) (b sib : ℕ) → b < 16 → raw.rex_b ≡ nat_le 8 b → raw.modrm ≡ packed_byte (mod_by d b) m (rm_by (if t then None else Some (field_bits b))) → base_field sib ≡ field_bits b → number_of (base_by raw (sib_by (if t then None else Some (field_bits b)) sib)) ≡ Some b
+  base_alone true raw b sib h p q f = base_behind raw b sib h p (ap mod_field q ∙ high_is (mod_by d b) m 4 below (omega arith)) f
+  base_alone false raw b sib h p q f =
+      let mod_same : mod_field raw.modrm ≡ mod_by d b = ap mod_field q ∙ high_is (mod_by d b) m (field_bits b) below (low_small b) in
+      let rm_same : rm_field raw.modrm ≡ field_bits b = ap rm_field q ∙ low_is (mod_by d b) m (field_bits b) below (low_small b) in
+      ap (λ t. Some (if t then next_pointer raw else address_register raw raw.rex_b (rm_field raw.modrm)).num) (ap (λ n. (n == 0) && (rm_field raw.modrm == 5)) mod_same ∙ ap (λ n. (mod_by d b == 0) && (n == 5)) rm_same ∙ not_bare_five (is_zero d) (asks_displacement b) (is_byte d))
+      ∙ ap (λ n. Some (extended raw.rex_b n)) rm_same
+      ∙ ap (λ t. Some (extended t (field_bits b))) p
+      ∙ ap Some (extended_low b h)
 
-  pub spelled_base : (b i : Option ℕ) (s : Scale) → IsBelow16 b → base_in (fourth_bit b) (Modrm b i) (Sib b i s) ≡ b
-  spelled_base None i s h = ap (λ n. if (n == 0) && (base_field (packed_byte (scale_bits s) (field_or 4 i) 5) == 5) then None else Some (extended false (base_field (packed_byte (scale_bits s) (field_or 4 i) 5)))) (mod_reads None i) ∙ ap (λ n. if n == 5 then None else Some (extended false n)) (sib_low None i s)
-  spelled_base (Some b) None s h = base_alone (field_bits b == 4) b (packed_byte (scale_bits s) 4 (field_bits b)) h refl (sib_low (Some b) None s)
-  spelled_base (Some b) (Some i) s h = base_behind b (Modrm (Some b) (Some i)) (packed_byte (scale_bits s) (field_bits i) (field_bits b)) h (mod_reads (Some b) (Some i)) (sib_low (Some b) (Some i) s)
+  pub spelled_base : (raw : Raw) (b i : Option ℕ) (s : Scale) → raw.rex_b ≡ fourth_bit b → raw.modrm ≡ Modrm b i → IsBelow16 b → number_of (base_by raw (Sib b i s)) ≡ b
+  spelled_base raw None i s p q h =
+      ap (λ n. number_of (if (n == 0) && (base_field (packed_byte (scale_bits s) (field_or 4 i) 5) == 5) then None else Some (address_register raw raw.rex_b (base_field (packed_byte (scale_bits s) (field_or 4 i) 5))))) (ap mod_field q ∙ mod_reads None i)
+      ∙ ap (λ n. number_of (if n == 5 then None else Some (address_register raw raw.rex_b n))) (sib_low None i s)
+  spelled_base raw (Some b) None s p q h = base_alone (field_bits b == 4) raw b (packed_byte (scale_bits s) 4 (field_bits b)) h p q (sib_low (Some b) None s)
+  spelled_base raw (Some b) (Some i) s p q h = base_behind raw b (packed_byte (scale_bits s) (field_bits i) (field_bits b)) h p (ap mod_field q ∙ mod_reads (Some b) (Some i)) (sib_low (Some b) (Some i) s)
 
   -- an index is no 4
-  index_by : (i : ℕ) (sib : ℕ) → i < 16 → i ≢ 4 → index_field sib ≡ field_bits i → index_in (nat_le 8 i) (Some sib) ≡ Some i
-  index_by i sib h e f =
-      ap (λ t. if t then None else Some (extended (nat_le 8 i) (index_field sib))) (ap (λ n. (n == 4) && not (nat_le 8 i)) f ∙ no_four)
-      ∙ ap (λ n. Some (extended (nat_le 8 i) n)) f
+  index_behind : (raw : Raw) (i sib : ℕ) → i < 16 → i ≢ 4 → raw.rex_x ≡ nat_le 8 i → index_field sib ≡ field_bits i → number_of (index_by raw (Some sib)) ≡ Some i
+  index_behind raw i sib h e p f =
+      ap (λ t. number_of (if t then None else Some (address_register raw raw.rex_x (index_field sib)))) (ap (λ n. (n == 4) && not raw.rex_x) f ∙ ap (λ t. (field_bits i == 4) && not t) p ∙ no_four)
+      ∙ ap (λ n. Some (extended raw.rex_x n)) f
+      ∙ ap (λ t. Some (extended t (field_bits i))) p
       ∙ ap Some (extended_low i h)
     where
       no_four : ((field_bits i == 4) && not (nat_le 8 i)) ≡ false
@@ -234,25 +245,27 @@ module _ (d : ℤ) (m : ℕ) (below : m < 8) where
   sib_high : (b i : Option ℕ) (s : Scale) → scale_field (packed_byte (scale_bits s) (field_or 4 i) (field_or 5 b)) ≡ scale_bits s
   sib_high b i s = high_is (scale_bits s) (field_or 4 i) (field_or 5 b) (field_small 4 i (omega arith)) (field_small 5 b (omega arith))
 
-  no_index : (sib : ℕ) → index_field sib ≡ 4 → index_in false (Some sib) ≡ None
-  no_index sib e = ap (λ n. if (n == 4) && true then None else Some (extended false n)) e
+  no_index : (raw : Raw) (sib : ℕ) → raw.rex_x ≡ false → index_field sib ≡ 4 → number_of (index_by raw (Some sib)) ≡ None
+  no_index raw sib p e =
+      ap (λ n. number_of (if (n == 4) && not raw.rex_x then None else Some (address_register raw raw.rex_x n))) e
+      ∙ ap (λ t. number_of (if not t then None else Some (address_register raw t 4))) p
 
-  no_index_alone : (rm : Option ℕ) (sib : ℕ) → index_field sib ≡ 4 → index_in false (sib_by rm sib) ≡ None
-  no_index_alone None sib e = no_index sib e
-  no_index_alone (Some rm) sib e = refl
+  no_index_alone : (raw : Raw) (rm : Option ℕ) (sib : ℕ) → raw.rex_x ≡ false → index_field sib ≡ 4 → number_of (index_by raw (sib_by rm sib)) ≡ None
+  no_index_alone raw None sib p e = no_index raw sib p e
+  no_index_alone raw (Some rm) sib p e = refl
 
-  pub spelled_index : (b i : Option ℕ) (s : Scale) → IsIndex i → index_in (fourth_bit i) (Sib b i s) ≡ i
-  spelled_index None None s h = no_index _ (sib_middle None None s)
-  spelled_index (Some b) None s h = no_index_alone (rm_alone (Some b) None) _ (sib_middle (Some b) None s)
-  spelled_index None (Some i) s h = index_by i _ h.0 h.1 (sib_middle None (Some i) s)
-  spelled_index (Some b) (Some i) s h = index_by i _ h.0 h.1 (sib_middle (Some b) (Some i) s)
+  pub spelled_index : (raw : Raw) (b i : Option ℕ) (s : Scale) → raw.rex_x ≡ fourth_bit i → IsIndex i → number_of (index_by raw (Sib b i s)) ≡ i
+  spelled_index raw None None s p h = no_index raw _ p (sib_middle None None s)
+  spelled_index raw (Some b) None s p h = no_index_alone raw (rm_alone (Some b) None) _ p (sib_middle (Some b) None s)
+  spelled_index raw None (Some i) s p h = index_behind raw i _ h.0 h.1 p (sib_middle None (Some i) s)
+  spelled_index raw (Some b) (Some i) s p h = index_behind raw i _ h.0 h.1 p (sib_middle (Some b) (Some i) s)
 
-  named : (s : Scale) → scale_named (scale_bits s) ≡ s
+  named : (s : Scale) → scale_named (2 ^ scale_bits s) ≡ s
   named One = refl
   named Two = refl
   named Four = refl
   named Eight = refl
 
-  pub spelled_scale : (b : Option ℕ) (i : ℕ) (s : Scale) → scale_in (Sib b (Some i) s) ≡ s
-  spelled_scale None i s = ap scale_named (sib_high None (Some i) s) ∙ named s
-  spelled_scale (Some b) i s = ap scale_named (sib_high (Some b) (Some i) s) ∙ named s
+  pub spelled_scale : (b : Option ℕ) (i : ℕ) (s : Scale) → scale_named (scale_by (Sib b (Some i) s)) ≡ s
+  spelled_scale None i s = ap (λ n. scale_named (2 ^ n)) (sib_high None (Some i) s) ∙ named s
+  spelled_scale (Some b) i s = ap (λ n. scale_named (2 ^ n)) (sib_high (Some b) (Some i) s) ∙ named s

@@ -1,8 +1,9 @@
 -- Which registers an address adds, and where they stand. Source: Intel SDM volume 2, sections 2.1.5 and 2.2.1.
-use Rattle.std.specs.Prelude.{ℕ, ◌+◌, ◌<◌, ◌≢◌, ◌==◌, ◌&&◌, not, Bool, false, if◌then◌else◌, Option, Some, None}
+use Rattle.std.specs.Prelude.{ℕ, ◌+◌, ◌<◌, ◌≢◌, ◌==◌, ◌&&◌, Bool, false, if◌then◌else◌, Option, Some, None}
+use Rattle.x86_regs.specs.declared.RegSpec.{RegSpec}
 use Rattle.x86_fields.specs.declared.raw.Raw.{Raw}
-use Rattle.x86_fields.specs.ModRM.{mod_field, rm_field, scale_field, index_field, base_field}
-use Rattle.x86_fields.specs.Address.{extended}
+use Rattle.x86_fields.specs.ModRM.{mod_field, rm_field}
+use Rattle.x86_fields.specs.Address.{base_of, index_of, scale_by}
 use Rattle.x86_layout.specs.declared.tightening.registers.Scale.{Scale}
 use Rattle.x86_layout.specs.declared.tightening.registers.Scale.TheVariants.{One, Two, Four, Eight}
 use Rattle.x86_layout.specs.declared.tightening.registers.AddressRegisters.{AddressRegisters}
@@ -15,31 +16,18 @@ is_ip_by modrm (Some sib) = false
 abbrev pub is_ip_relative : Raw → Bool
 is_ip_relative raw = is_ip_by raw.modrm raw.sib
 
--- the number of the base: rm without SIB, else the base field of SIB, and none at mod 00 with 101
-abbrev pub base_in : Bool → ℕ → Option ℕ → Option ℕ
-base_in bit modrm None = Some (extended bit (rm_field modrm))
-base_in bit modrm (Some sib) = if (mod_field modrm == 0) && (base_field sib == 5) then None else Some (extended bit (base_field sib))
+-- the number of a register, where there is one
+abbrev pub number_of : Option RegSpec → Option ℕ
+number_of None = None
+number_of (Some register) = Some register.num
 
-abbrev pub base_number : Raw → Option ℕ
-base_number raw = base_in raw.rex_b raw.modrm raw.sib
-
--- the number of the index: the index field of SIB, and none at 100 without X
-abbrev pub index_in : Bool → Option ℕ → Option ℕ
-index_in bit None = None
-index_in bit (Some sib) = if (index_field sib == 4) && not bit then None else Some (extended bit (index_field sib))
-
-abbrev pub index_number : Raw → Option ℕ
-index_number raw = index_in raw.rex_x raw.sib
-
+-- the scale by its factor: 1, 2, 4 or 8
 abbrev pub scale_named : ℕ → Scale
-scale_named field = if field == 0 then One else (if field == 1 then Two else (if field == 2 then Four else Eight))
+scale_named factor = if factor == 1 then One else (if factor == 2 then Two else (if factor == 4 then Four else Eight))
 
-abbrev pub scale_in : Option ℕ → Scale
-scale_in None = One
-scale_in (Some sib) = scale_named (scale_field sib)
-
+-- the registers of raw fields that aren't relative to the next instruction
 abbrev pub registers_of : Raw → AddressRegisters
-registers_of raw = record { base = base_number raw; index = index_number raw; scale = scale_in raw.sib }
+registers_of raw = record { base = number_of (base_of raw); index = number_of (index_of raw); scale = scale_named (scale_by raw.sib) }
 
 -- what the index counts
 abbrev pub times : Scale → ℕ

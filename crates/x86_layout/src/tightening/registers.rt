@@ -1,9 +1,10 @@
 //! Which registers an address adds, and where they stand.
 
 ghost use Rattle.std.specs.Prelude.{◌≡◌};
-ghost use Rattle.x86_layout.specs.Tightening.Registers.{base_number, index_number, scale_in, registers_of, is_ip_relative};
+ghost use Rattle.x86_layout.specs.Tightening.Registers.{number_of, scale_named, registers_of, is_ip_relative};
 
-use x86_fields::{ModRM, Raw, Sib, extend};
+use x86_fields::{ModRM, Raw};
+use x86_regs::RegSpec;
 
 /// What an index is multiplied by.
 #[derive(Clone, Copy, PartialEq, Eq, Debug, Drop)]
@@ -22,37 +23,25 @@ pub struct AddressRegisters {
     pub scale: Scale,
 }
 
-fn base_number(raw: &Raw) -> Option<u8>
-    ensures { result ≡ base_number raw.now }
+/// The number of a register, where there is one.
+fn number_of(register: Option<RegSpec>) -> Option<u8>
+    ensures { result ≡ number_of register }
 {
-    let modrm = ModRM::new(raw.modrm);
-    match raw.sib.map(Sib::new) {
-        None => Some(extend(raw.rex_b, modrm.rm_field())),
-        Some(sib) if modrm.mod_field() == 0 && sib.base_field() == 5 => None,
-        Some(sib) => Some(extend(raw.rex_b, sib.base_field())),
-    }
-}
-
-fn index_number(raw: &Raw) -> Option<u8>
-    ensures { result ≡ index_number raw.now }
-{
-    match raw.index() {
+    match register {
         Some(register) => Some(register.num()),
         None => None,
     }
 }
 
-fn scale_in(sib: Option<u8>) -> Scale
-    ensures { result ≡ scale_in sib }
+/// The scale by its factor.
+fn scale_named(factor: u8) -> Scale
+    ensures { result ≡ scale_named factor }
 {
-    match sib {
-        None => Scale::One,
-        Some(sib) => match Sib::new(sib).scale_field() {
-            0 => Scale::One,
-            1 => Scale::Two,
-            2 => Scale::Four,
-            _ => Scale::Eight,
-        },
+    match factor {
+        1 => Scale::One,
+        2 => Scale::Two,
+        4 => Scale::Four,
+        _ => Scale::Eight,
     }
 }
 
@@ -61,9 +50,9 @@ pub fn registers_of(raw: &Raw) -> AddressRegisters
     ensures { result ≡ registers_of raw.now }
 {
     AddressRegisters {
-        base: base_number(raw),
-        index: index_number(raw),
-        scale: scale_in(raw.sib),
+        base: number_of(raw.base()),
+        index: number_of(raw.index()),
+        scale: scale_named(raw.scale()),
     }
 }
 

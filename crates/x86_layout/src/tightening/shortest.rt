@@ -1,7 +1,6 @@
 //! The raw fields of an address with the fewest bytes. Source: Intel SDM volume 2, sections 2.1.5 and 2.2.1.
 
 ghost use Rattle.std.specs.Prelude.{◌≡◌, ◌<◌};
-ghost use Rattle.x86_fields.specs.ModRM.{mod_field};
 ghost use Rattle.x86_layout.specs.Tightening.Shortest.{asks_displacement, is_bare, lone, both, exchanged, placed, mod_by, mod_of, fourth_bit, scale_bits, field_or, sib_byte, rm_alone, spelled, shortest, field_bits};
 
 use crate::tightening::registers::{AddressRegisters, Scale, registers_of};

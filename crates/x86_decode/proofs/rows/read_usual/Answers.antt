@@ -1,4 +1,4 @@
-use Rattle.std.proofs.Common.{rules, ◌≡◌, Ok, Err, refl, ap, ◌∙◌}
+use Rattle.std.proofs.Common.{rules, ◌≡◌, Ok, Err, ap, ◌∙◌}
 use Rattle.x86_fields.specs.Steps.{outcome, then_from}
 use Rattle.x86_operands.specs.declared.plans.ModrmUse.TheVariants.{Absent, Fields}
 use Rattle.x86_operands.specs.Encodings.{group_form}
