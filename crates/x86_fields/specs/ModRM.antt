@@ -1,4 +1,5 @@
--- The bytes ModRM and SIB: their fields, and the bytes that fields make. Source: Intel SDM volume 2, sections 2.1.3 and 2.1.5.
+-- The bytes ModRM and SIB: their fields, and the byte that fields make.
+-- Source: Intel SDM volume 2, sections 2.1.3 and 2.1.5.
 use Rattle.std.specs.Prelude.{ℕ, ◌+◌, ◌*◌, ◌/◌, ◌%◌, nat_lt, Bool}
 use Rattle.x86_fields.specs.declared.modrm.TheConstants.{MEMORY_FORMS}
 
