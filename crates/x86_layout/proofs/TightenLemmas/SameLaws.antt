@@ -298,9 +298,9 @@ module _ (have : HaveTheAddress) (reduced : AreReduced) (values : AreTheirValues
   same_value h = (values (raw_form to) (raw_form from) h.modulus (reduced_of to to_bytes) (reduced_of from from_bytes)).0 h regs next file small
 
   at_shape : (i : Instruction) (k : ℕ) (raw : Raw) → IsOfBytes raw → i.prefixes.address_size ≡ raw.address_size → placed_at i k ≡ shape_of raw → address_at i k regs next ≡ Some (value_at (raw_form raw) regs next)
-  at_shape i k raw h short shape =
+  at_shape i k raw h short shaped =
       ap (λ t. operand_address t (operand_at i k) regs next) short
-      ∙ ap (λ x. operand_address raw.address_size x.1 regs next) shape
+      ∙ ap (λ x. operand_address raw.address_size x.1 regs next) shaped
       ∙ have raw regs next h.disp
 
   module _ (a b : Instruction) (k : ℕ) (h : IsSameButInMemory from to a b) (old : a.prefixes.address_size ≡ from.address_size) (new : b.prefixes.address_size ≡ to.address_size) where
