@@ -13,8 +13,8 @@ use Rattle.x86_text.specs.Lines.{line_text, refusal_text}
 use Rattle.x86_cli.specs.Listings.Line.{line}
 use Rattle.x86_cli.specs.Listings.Listing.{Listing, with_lines, at_end}
 use Rattle.x86_cli.specs.Text.Window.{rest_of}
-use Rattle.x86_cli.specs.declared.listings.sweep.Cut.{Cut}
-use Rattle.x86_cli.specs.declared.listings.sweep.Cut.TheVariants.{Piece, Ended}
+use Rattle.x86_cli.specs.declared.listings.sweep.Next.{Next}
+use Rattle.x86_cli.specs.declared.listings.sweep.Next.TheVariants.{Cut, Ended}
 
 -- a cut of the sweep: a refusal is a cut of one byte
 abbrev pub cut_text : ℕ → Result Instruction DecodeError → List ℕ
@@ -35,6 +35,6 @@ ShowsAnswer strict a ended w place room =
     (0 < cut_length a) × (cut_length a ≤ length w) × ((xs : List ℕ) (stop : Stop) → answer_of strict (rest_of ended w place room xs stop).image ≡ a)
 
 -- what a window shows of its front: the next cut, whose instruction stands beside it, or the end
-abbrev pub ShowsCut : Bool → Instruction → Cut → Option Ending → List ℕ → ℕ → ℕ → Type 0
-ShowsCut strict inst (Piece answer) ended w place room = ShowsAnswer strict (holding inst answer) ended w place room
-ShowsCut strict inst (Ended e) ended w place room = (ended ≡ Some e) × (w ≡ [])
+abbrev pub ShowsNext : Bool → Instruction → Next → Option Ending → List ℕ → ℕ → ℕ → Type 0
+ShowsNext strict inst (Cut answer) ended w place room = ShowsAnswer strict (holding inst answer) ended w place room
+ShowsNext strict inst (Ended e) ended w place room = (ended ≡ Some e) × (w ≡ [])

@@ -16,7 +16,7 @@ use crate::outside::std_sink::StdSink;
 use crate::outside::std_source::StdSource;
 use std::io::{Read, Write};
 
-/// Flushes what a run gathered. Behind a failed write nothing is sent, and where the words are no command there is nothing.
+/// Flushes what a run gathered. Behind a failed write nothing is sent, and where the arguments are no command there is nothing.
 fn send_rest<W: Write + Drop>(status: Status, out: &mut Gathered<W>) -> Result<(), SinkFailed>
     ensures bytes { Keeps (append_known (W.contents (writer_behind out.old)) (held_bytes out.old)) (append_known (W.contents (writer_behind out.new)) (held_bytes out.new)) }
     ensures sent { OnOk result (status ≢ Status.Usage → status ≢ Status.WriteFault → held_bytes out.new ≡ []) }
@@ -30,7 +30,7 @@ fn send_rest<W: Write + Drop>(status: Status, out: &mut Gathered<W>) -> Result<(
 }
 
 /// How the program ends, where its run ended so and the flush behind it answered this.
-fn ending(status: Status, flushed: &Result<(), SinkFailed>) -> Status
+fn ending_of(status: Status, flushed: &Result<(), SinkFailed>) -> Status
     ensures { result ≡ ending_of status flushed.now }
 {
     match flushed {
@@ -56,5 +56,5 @@ pub fn listed<R: Read + Drop, W: Write + Drop>(
     let status = run(arguments, &mut source, &mut sink);
     let mut out = sink.into_writer();
     let flushed = send_rest(status, &mut out);
-    (ending(status, &flushed), out.into_writer())
+    (ending_of(status, &flushed), out.into_writer())
 }

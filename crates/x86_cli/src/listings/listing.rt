@@ -8,7 +8,7 @@ ghost use Rattle.x86_cli.specs.Listings.Listing.{at_end, listing_at};
 ghost use Rattle.x86_cli.specs.Commands.Run.{RanInWindow, Closes};
 
 use crate::laws::decoder_laws;
-use crate::listings::line::{Lines, text_error};
+use crate::listings::line::{Lines, bad_text};
 use crate::listings::status::Status;
 use crate::outside::sink::{Sink, SinkFailed};
 use crate::outside::source::Source;
@@ -53,7 +53,7 @@ pub fn end<K: Sink>(sink: &mut K, ending: Ending) -> Result<Status, SinkFailed>
 {
     match ending {
         Ending::Clean => Ok(Status::Done),
-        Ending::Bad(place) => match put_line(sink, &mut text_error(place)) {
+        Ending::Bad(position) => match put_line(sink, &mut bad_text(position)) {
             Ok(()) => Ok(Status::BadText),
             Err(failed) => Err(failed),
         },

@@ -5,7 +5,7 @@ ghost use Rattle.arrayvec.specs.ArrayVec.{array_vec_len};
 ghost use Rattle.x86_cli.specs.Commands.Run.{RanInWindow};
 ghost use Rattle.x86_layout.specs.Sweeps.Cuts.{cut_length};
 ghost use Rattle.x86_decode.specs.Instruction.{holding};
-ghost use Rattle.x86_cli.specs.Listings.Sweep.{cut_text, sweep_at, ShowsCut};
+ghost use Rattle.x86_cli.specs.Listings.Sweep.{cut_text, sweep_at, ShowsNext};
 
 use crate::laws::decoder_laws;
 use crate::listings::listing::{end, put_line};
@@ -18,9 +18,9 @@ use x86_decode::{InstDecoder, Instruction};
 use x86_fields::DecodeError;
 use x86_text::{LINE_MAX, Line, Place, write_instruction, write_refusal};
 
-/// The next cut of a sweep. The instruction of a piece stands beside it.
-pub enum Cut {
-    Piece(Result<(), DecodeError>),
+/// What stands next in a sweep: a cut, whose instruction stands beside it, or the end.
+pub enum Next {
+    Cut(Result<(), DecodeError>),
     Ended(Ending),
 }
 
@@ -35,7 +35,7 @@ fn write_cut(line: &mut Line, place: &Place, inst: &Instruction, answer: Result<
     }
 }
 
-fn cut_len(inst: &Instruction, answer: Result<(), DecodeError>) -> u64
+fn cut_length(inst: &Instruction, answer: Result<(), DecodeError>) -> u64
     ensures { result ≡ cut_length (holding inst.now answer) }
 {
     match answer {
@@ -44,17 +44,17 @@ fn cut_len(inst: &Instruction, answer: Result<(), DecodeError>) -> u64
     }
 }
 
-/// The next cut. Where it is an instruction, that is written to the one given.
-fn next_cut(window: &Window, decoder: &InstDecoder, inst: &mut Instruction) -> Cut
+/// The next cut, or the end. Where it is an instruction, that is written to the one given.
+fn next_cut(window: &Window, decoder: &InstDecoder, inst: &mut Instruction) -> Next
     requires { window.now.ended ≡ None → array_vec_len window.now.bytes ≡ 15 }
-    ensures { ShowsCut decoder.now.strict inst.new result window.now.ended window.now.bytes.items window.now.reader.place window.now.reader.room }
+    ensures { ShowsNext decoder.now.strict inst.new result window.now.ended window.now.bytes.items window.now.reader.position window.now.reader.room }
 {
     if !window.bytes.is_empty() {
         decoder_laws();
-        return Cut::Piece(decoder.decode_slice_into(inst, window.bytes.as_slice()));
+        return Next::Cut(decoder.decode_slice_into(inst, window.bytes.as_slice()));
     }
     match window.ended {
-        Some(ending) => Cut::Ended(ending),
+        Some(ending) => Next::Ended(ending),
         None => unreachable!(),
     }
 }
@@ -77,17 +77,17 @@ pub fn sweep<S: Source, K: Sink>(
     'cuts: loop {
         window.refill(source);
         match next_cut(&window, decoder, &mut inst) {
-            Cut::Piece(answer) => {
+            Next::Cut(answer) => {
                 write_cut(&mut line, &place, &inst, answer);
                 match put_line(sink, &mut line) {
                     Ok(()) => {}
                     Err(_) => return Status::WriteFault,
                 }
-                let length = cut_len(&inst, answer);
+                let length = cut_length(&inst, answer);
                 window.leave(length as usize);
                 place.advance(length);
             }
-            Cut::Ended(ending) => match end(sink, ending) {
+            Next::Ended(ending) => match end(sink, ending) {
                 Ok(status) => return status,
                 Err(_) => return Status::WriteFault,
             },

@@ -18,7 +18,7 @@ returns-clause-lists g c =
     ∙ ap (append_known (contents c.args.writer)) c.new.ensures.empty in
     each_command (command_of (map string_bytes c.args.arguments.now))
     (λ command says. program_ends put (contents c.args.writer) (contents c.into_writer.result) held kept command _ _ _ _ _ _ _ _ _ _ c.new-source.ensures.bytes fresh
-    (ends_same _ _ _ c.ending.ensures) (ends_flushed _ _ _ c.ending.ensures c.send_rest-flushed.ensures.sent) says)
+    (ends_same _ _ _ c.ending_of.ensures) (ends_flushed _ _ _ c.ending_of.ensures c.send_rest-flushed.ensures.sent) says)
     c.run-status.ensures.says
 
 pub returns-clause-made : goal.returns-clause-made
@@ -33,5 +33,5 @@ returns-clause-made g c n is =
     ∙ ap (λ v. append_known (contents v) c.new.result.bytes.items) c.new.ensures.writer
     ∙ ap (append_known (contents c.args.writer)) c.new.ensures.empty in
     program_made put (contents c.args.writer) (contents c.into_writer.result) held kept n _ _ _ _ _ fresh
-    (ends_same _ _ _ c.ending.ensures) (ends_flushed _ _ _ c.ending.ensures c.send_rest-flushed.ensures.sent)
+    (ends_same _ _ _ c.ending_of.ensures) (ends_flushed _ _ _ c.ending_of.ensures c.send_rest-flushed.ensures.sent)
     (wrote_says _ (λ s. append_known (contents s.writer.counted.writer) s.writer.bytes.items) (λ s. s.faults) (λ s piece r t h. h) n _ _ _ (c.run-status.ensures.made n is))

@@ -10,7 +10,7 @@ pub lines-init : goal.lines-init
 lines-init g c =
     let e = c.new-window.ensures in
     record {
-      stands = rw (e.ended, e.bytes, e.place, e.room, c.at-place.ensures) (stands_new g.S.Source.gives g.K.Sink.takes (listing_at c.args.decoder.now.strict (g.L.Lines.text c.args.lines.now c.args.decoder.now.strict)) reaches refl c.args.max _ _);
+      stands = rw (e.ended, e.bytes, e.position, e.room, c.at-place.ensures) (stands_new g.S.Source.gives g.K.Sink.takes (listing_at c.args.decoder.now.strict (g.L.Lines.text c.args.lines.now c.args.decoder.now.strict)) reaches refl c.args.max _ _);
       few = omega (arith, ap length e.bytes);
       fits = omega (arith, ap length e.bytes, e.room);
     }

@@ -11,7 +11,7 @@ pub cuts-init : goal.cuts-init
 cuts-init g c =
     let e = c.new-window.ensures in
     record {
-      stands = rw (e.ended, e.bytes, e.place, e.room, c.at-place.ensures) (stands_new g.S.Source.gives g.K.Sink.takes (sweep_at c.args.decoder.now.strict) reaches refl c.args.max _ _);
+      stands = rw (e.ended, e.bytes, e.position, e.room, c.at-place.ensures) (stands_new g.S.Source.gives g.K.Sink.takes (sweep_at c.args.decoder.now.strict) reaches refl c.args.max _ _);
       few = omega (arith, ap length e.bytes);
       fits = omega (arith, ap length e.bytes, e.room);
     }
@@ -19,20 +19,20 @@ cuts-init g c =
 pub cuts-preserved : goal.cuts-preserved
 cuts-preserved g c =
     let s = stands_refill g.S.Source.gives g.K.Sink.takes (sweep_at c.args.decoder.now.strict) reaches _ _ _ _ _ _ _ _ _ c.cuts.invariant.stands c.refill.ensures.cases in
-    let shows = c.in-Piece.ensures in
+    let shows = c.in-Cut.ensures in
     record {
-      stands = rw (c.advance.ensures, c.leave.ensures.ended, c.leave.ensures.reader, c.leave.ensures.bytes, c.cut_len-length.ensures)
-          (stands_line g.S.Source.gives g.K.Sink.takes (sweep_at c.args.decoder.now.strict) _ _ _ _ _ _ _ _ _ _ s (line (cut_text c.cuts.place (holding c.next_cut.new.inst c.in-Piece.answer))) _ shows.1 (rest_cut c.args.decoder.now.strict _ _ _ _ _ (holding c.next_cut.new.inst c.in-Piece.answer) shows) _
+      stands = rw (c.advance.ensures, c.leave.ensures.ended, c.leave.ensures.reader, c.leave.ensures.bytes, c.cut_length-length.ensures)
+          (stands_line g.S.Source.gives g.K.Sink.takes (sweep_at c.args.decoder.now.strict) _ _ _ _ _ _ _ _ _ _ s (line (cut_text c.cuts.place (holding c.next_cut.new.inst c.in-Cut.answer))) _ shows.1 (rest_cut c.args.decoder.now.strict _ _ _ _ _ (holding c.next_cut.new.inst c.in-Cut.answer) shows) _
           (rw c.write_cut.ensures.text at c.in-Ok.ensures));
       few = omega (arith, simp length-drop at (ap length c.leave.ensures.bytes), c.refill.ensures.few c.cuts.invariant.few);
-      fits = omega (arith, simp length-drop at (ap length c.leave.ensures.bytes), ap (λ r. r.room) c.leave.ensures.reader, c.refill.ensures.uses, c.cuts.invariant.fits, shows.1, c.cut_len-length.ensures);
+      fits = omega (arith, simp length-drop at (ap length c.leave.ensures.bytes), ap (λ r. r.room) c.leave.ensures.reader, c.refill.ensures.uses, c.cuts.invariant.fits, shows.1, c.cut_length-length.ensures);
     }
 
 pub returns-in-Err-clause-ran : goal.returns-in-Err-clause-ran
 returns-in-Err-clause-ran g c =
     let s = stands_refill g.S.Source.gives g.K.Sink.takes (sweep_at c.args.decoder.now.strict) reaches _ _ _ _ _ _ _ _ _ c.cuts.invariant.stands c.refill.ensures.cases in
-    window_failed g.S.Source.gives g.K.Sink.takes (sweep_at c.args.decoder.now.strict) _ _ _ _ _ _ _ _ _ _ s (c.refill.ensures.few c.cuts.invariant.few) (line (cut_text c.cuts.place (holding c.next_cut.new.inst c.in-Piece.answer)))
-    (λ xs stop. (_, rest_cut c.args.decoder.now.strict _ _ _ _ _ (holding c.next_cut.new.inst c.in-Piece.answer) c.in-Piece.ensures xs stop)) _ _ (rw c.write_cut.ensures.text at c.in-Err.ensures)
+    window_failed g.S.Source.gives g.K.Sink.takes (sweep_at c.args.decoder.now.strict) _ _ _ _ _ _ _ _ _ _ s (c.refill.ensures.few c.cuts.invariant.few) (line (cut_text c.cuts.place (holding c.next_cut.new.inst c.in-Cut.answer)))
+    (λ xs stop. (_, rest_cut c.args.decoder.now.strict _ _ _ _ _ (holding c.next_cut.new.inst c.in-Cut.answer) c.in-Cut.ensures xs stop)) _ _ (rw c.write_cut.ensures.text at c.in-Err.ensures)
 
 pub returns-in-Ok-end-clause-ran : goal.returns-in-Ok-end-clause-ran
 returns-in-Ok-end-clause-ran g c =
