@@ -11,9 +11,9 @@ use crate::commands::make::{count_from, make};
 use crate::laws::decoder_laws;
 use crate::listings::fields::FieldLines;
 use crate::listings::line::Plain;
-use crate::listings::listing::list;
+use crate::listings::listing::{UpToRefusal, list};
 use crate::listings::status::Status;
-use crate::listings::sweep::sweep;
+use crate::listings::sweep::Sweep;
 use crate::listings::targets::targets;
 use crate::listings::tightening::LeastLines;
 use crate::outside::sink::Sink;
@@ -96,10 +96,28 @@ fn obey<S: Source, K: Sink>(command: Command, source: &mut S, sink: &mut K) -> S
     ensures unrefused { IsTrue (goes_past_refusals command) → result ≢ Status.Refused }
 {
     match command {
-        Command::List { strict } => list(&decoder(strict), &Plain, TEXT_MAX, source, sink),
-        Command::Fields => list(&decoder(false), &FieldLines, TEXT_MAX, source, sink),
-        Command::Tighten => list(&decoder(false), &LeastLines, TEXT_MAX, source, sink),
-        Command::Sweep => sweep(&decoder(false), TEXT_MAX, source, sink),
+        Command::List { strict } => list(
+            &decoder(strict),
+            &UpToRefusal { lines: Plain },
+            TEXT_MAX,
+            source,
+            sink,
+        ),
+        Command::Fields => list(
+            &decoder(false),
+            &UpToRefusal { lines: FieldLines },
+            TEXT_MAX,
+            source,
+            sink,
+        ),
+        Command::Tighten => list(
+            &decoder(false),
+            &UpToRefusal { lines: LeastLines },
+            TEXT_MAX,
+            source,
+            sink,
+        ),
+        Command::Sweep => list(&decoder(false), &Sweep, TEXT_MAX, source, sink),
         Command::Targets => targets(&decoder(false), TARGETS_MAX, source, sink),
     }
 }

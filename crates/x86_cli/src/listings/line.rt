@@ -30,6 +30,7 @@ pub trait Lines {
 }
 
 /// The lines of `list`, which don't look at the bytes.
+#[derive(Clone, Copy, Drop)]
 pub struct Plain;
 
 impl Lines for Plain {
