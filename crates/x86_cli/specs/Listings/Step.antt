@@ -4,19 +4,14 @@ use Rattle.x86_fields.specs.declared.DecodeError.{DecodeError}
 use Rattle.x86_cli.specs.declared.text.reader.Ending.{Ending}
 use Rattle.x86_cli.specs.declared.listings.listing.Step.{Step}
 use Rattle.x86_cli.specs.declared.listings.listing.Step.TheVariants.{Line, Refused, Ended}
-use Rattle.x86_cli.specs.declared.listings.status.Status.TheVariants as status
 use Rattle.x86_cli.specs.Outside.Stop.{Stop}
 use Rattle.x86_cli.specs.Text.{Text}
 use Rattle.x86_cli.specs.Text.Window.{rest_of}
-use Rattle.x86_text.specs.Lines.{refusal_text}
 use Rattle.x86_cli.specs.Listings.Line.{line}
-use Rattle.x86_cli.specs.Listings.Listing.{Listing, with_lines, at_end}
+use Rattle.x86_cli.specs.Listings.Listing.{Listing, with_lines, at_end, at_refusal}
 
--- what is listed at a refusal that ends a listing
-abbrev pub at_refusal : ℕ → DecodeError → Listing
-at_refusal place error = record { lines = line (refusal_text place error) ∷ []; status = status.Refused }
-
--- What stands next at a place, whatever follows: the listing of what is left is this line and that of the bytes behind it, or a refusal's, or an end's.
+-- What stands next at a place, whatever follows: the listing of what is left is this line and that of the bytes behind
+-- it, or a refusal's, or an end's.
 abbrev pub IsStep : (ℕ → Text → Listing) → Step → ℕ → List ℕ → Option Ending → List ℕ → ℕ → ℕ → Type 0
 IsStep at (Line n) place text ended window position room = (0 < n) × (n ≤ length window) × ((xs : List ℕ) (stop : Stop) →
     at place (rest_of ended window position room xs stop) ≡ with_lines (line text ∷ []) (at (place + n) (rest_of ended (drop n window) position room xs stop)))

@@ -1,11 +1,10 @@
 //! Listings, line by line.
 
-ghost use Rattle.std.specs.Prelude.{◌≡◌, ℕ, Bool, ◌<◌, ◌≤◌, ◌^◌, [], ◌∷◌, length, None};
+ghost use Rattle.std.specs.Prelude.{◌≡◌, ℕ, Bool, ◌<◌, ◌≤◌, ◌^◌, length, None};
 ghost use Rattle.arrayvec.specs.ArrayVec.{array_vec_len};
-ghost use Rattle.x86_text.specs.Lines.{refusal_text};
 ghost use Rattle.x86_cli.specs.Listings.Line.{line};
 ghost use Rattle.x86_cli.specs.Text.{Text};
-ghost use Rattle.x86_cli.specs.Listings.Listing.{Listing, at_end, listing_at};
+ghost use Rattle.x86_cli.specs.Listings.Listing.{Listing, at_end, at_refusal, listing_at};
 ghost use Rattle.x86_cli.specs.Listings.Step.{IsStep};
 ghost use Rattle.x86_cli.specs.Commands.Run.{RanInWindow, Closes};
 
@@ -30,7 +29,7 @@ pub fn put_line<K: Sink>(sink: &mut K, text: &mut Line) -> Result<(), SinkFailed
 }
 
 fn refuse<K: Sink>(sink: &mut K, place: u64, error: DecodeError) -> Result<Status, SinkFailed>
-    ensures { Closes K.takes (record { lines = line (refusal_text place error) ∷ []; status = Status.Refused }) result sink.old sink.new }
+    ensures { Closes K.takes (at_refusal place error) result sink.old sink.new }
 {
     let mut text = refusal_of(place, error);
     match put_line(sink, &mut text) {
