@@ -1,6 +1,5 @@
 -- What stands next in a listing.
 use Rattle.std.specs.Prelude.{◌≡◌, ℕ, ◌+◌, ◌<◌, ◌≤◌, List, [], ◌∷◌, length, drop, Option}
-use Rattle.x86_fields.specs.declared.DecodeError.{DecodeError}
 use Rattle.x86_cli.specs.declared.text.reader.Ending.{Ending}
 use Rattle.x86_cli.specs.declared.listings.listing.Step.{Step}
 use Rattle.x86_cli.specs.declared.listings.listing.Step.TheVariants.{Line, Refused, Ended}

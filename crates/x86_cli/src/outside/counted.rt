@@ -27,6 +27,7 @@ impl<W: Write + Drop> Counted<W> {
 
     /// One write, which is tried again where a signal interrupts it. It takes a byte at least, or fails.
     fn write_some(&mut self, bytes: &[u8]) -> Result<usize, SinkFailed>
+        requires { 0 < length bytes.now }
         ensures bound { WritesAtMost result bytes.now }
         ensures some { IfOk result (λ n. 0 < n) }
         ensures bytes { WriteAppends (W.contents self.old.writer) (W.contents self.new.writer) result bytes.now }

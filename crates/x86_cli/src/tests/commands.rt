@@ -7,7 +7,7 @@ use crate::outside::sound_source::SoundSource;
 use crate::tests::support::{Repeated, arguments, ends_with, is_usage, runs};
 
 #[test]
-fn words_matched_whole(rt: HostRuntime) {
+fn arguments_matched_whole(rt: HostRuntime) {
     assert!(&rt; is_usage(rt.alloc(), &[]));
     assert!(&rt; is_usage(rt.alloc(), &["List"]));
     assert!(&rt; is_usage(rt.alloc(), &["list", "strict"]));
