@@ -2,6 +2,7 @@
 pub mod Line
 pub mod Status
 pub mod Listing
+pub mod Step
 pub mod Sweep
 pub mod Targets
 pub mod Tighten

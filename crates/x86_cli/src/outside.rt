@@ -1,6 +1,7 @@
 //! What is outside of a run: sources, sinks, and the buffer in front of a writer.
 
 pub mod array_sink;
+pub mod counted;
 pub mod gathered;
 pub mod null_sink;
 pub mod sink;

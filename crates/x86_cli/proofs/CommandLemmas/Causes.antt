@@ -28,12 +28,14 @@ use Rattle.x86_cli.specs.Commands.Command.{listing_for}
 use Rattle.x86_cli.specs.Text.{Text, text_at, text_of, ending_by, bad_of, ends_in_half}
 use Rattle.x86_cli.specs.Text.Reading.{MayCome}
 use Rattle.x86_cli.specs.Listings.Listing.{Listing, at_end, front_of, judged, sure_of, listed, listing_from}
+use Rattle.x86_cli.specs.Listings.Sweep.{sweep_at}
 use Rattle.x86_cli.specs.Commands.Run.{Lists, Ran}
 use Rattle.x86_cli.specs.Commands.Causes.{HaveCauses}
 use Rattle.x86_cli.specs.Commands.Complete.{IsSentence, AreSentences, CompletesTexts}
 use Rattle.x86_cli.specs.DecoderLaws.{DecoderLaws}
 use Rattle.x86_cli.proofs.TextLemmas.FrontLaws.{front-stays}
 use Rattle.x86_cli.proofs.ListingLemmas.ListingLaws.{listing-whole}
+use Rattle.x86_cli.proofs.ListingLemmas.SweepLaws.{end_unrefused}
 
 -- a status with which no listing of a text ends
 
@@ -115,15 +117,23 @@ pub some_stop : (stop : Option Stop) → (s : Stop) × MayCome stop [] s
 some_stop None = (End, tt)
 some_stop (Some given) = (given, (refl, refl))
 
-lists_used : (status : Status) (lines : List (List ℕ)) (failed : Option (List ℕ)) (l : Listing) → Lists status lines failed l → l.status ≢ Usage → status ≢ Usage
-lists_used status lines None l h ne = λ e. ne (ap (λ l. l.status) h ∙ e)
-lists_used status lines (Some failed) l h ne = λ e. let f : outcome.WriteFault ≡ Usage = sym h.0 ∙ e in cc
+lists_other : (other : Status) → outcome.WriteFault ≢ other → (status : Status) (lines : List (List ℕ)) (failed : Option (List ℕ)) (l : Listing) → Lists status lines failed l →
+    l.status ≢ other → status ≢ other
+lists_other other fault status lines None l h ne = λ e. ne (ap (λ l. l.status) h ∙ e)
+lists_other other fault status lines (Some failed) l h ne = λ e. fault (sym h.0 ∙ e)
 
 pub ran_used : {S K : Type 0} (gives : S → Got → S → Type 0) (takes : K → List ℕ → Result ⊤ SinkFailed → K → Type 0) (c : Command) (max : ℕ) (status : Status) (a b : S) (k l : K) →
     Ran gives takes (listing_for c) max status a b k l → status ≢ Usage
 ran_used gives takes c max status a b k l ran =
     let s = some_stop ran.stop in
-    lists_used status ran.lines ran.failed _ (ran.lists [] s.0 s.1) (command_used c _)
+    lists_other Usage (λ e. cc) status ran.lines ran.failed _ (ran.lists [] s.0 s.1) (command_used c _)
+
+-- no sweep is refused
+pub sweep_unrefused : {S K : Type 0} (gives : S → Got → S → Type 0) (takes : K → List ℕ → Result ⊤ SinkFailed → K → Type 0) (strict : Bool) (max : ℕ) (status : Status) (a b : S) (k l : K) →
+    Ran gives takes (sweep_at strict 0) max status a b k l → status ≢ outcome.Refused
+sweep_unrefused gives takes strict max status a b k l ran =
+    let s = some_stop ran.stop in
+    lists_other outcome.Refused (λ e. cc) status ran.lines ran.failed _ (ran.lists [] s.0 s.1) (end_unrefused strict (text_of max (ran.bytes ++ []) s.0).ending _ refl)
 
 lists_read : (lines : List (List ℕ)) (failed : Option (List ℕ)) (l : Listing) → Lists outcome.ReadFault lines failed l → l.status ≢ outcome.ReadFault → ⊥
 lists_read lines None l h ne = ne (ap (λ l. l.status) h)

@@ -1,23 +1,17 @@
--- What a run of a listing that ends at a refusal does at the front of its window.
-use Rattle.std.proofs.Common.{◌≡◌, Bool, ℕ, ◌+◌, ◌<◌, ◌≤◌, List, [], ◌∷◌, ◌++◌, length, take, drop, Option, Some, None, Result, Ok, Err, arith, ap, ◌∙◌, length-append}
-use Rattle.std.specs.Prelude.{⊤}
-use Rattle.x86_cli.specs.declared.outside.source.Got.{Got}
-use Rattle.x86_cli.specs.declared.outside.sink.SinkFailed.{SinkFailed}
-use Rattle.x86_cli.specs.declared.listings.status.Status.{Status}
-use Rattle.x86_cli.specs.Commands.Run.{Closes, RanInWindow}
-use Rattle.x86_cli.proofs.ListingLemmas.Stands.{Stands}
-use Rattle.x86_cli.proofs.CommandLemmas.AheadLaws.{reaches, end_one, stands_line, window_failed, window_closed, window_unclosed}
+-- What stands next in a listing that ends at a refusal.
+use Rattle.std.proofs.Common.{◌≡◌, Bool, ℕ, ◌+◌, ◌<◌, ◌≤◌, List, [], ◌∷◌, ◌++◌, length, take, drop, Option, Some, None, arith, ap, ◌∙◌, length-append}
 use Rattle.std.proofs.lemmas.List.{drop-append-le, take-append-le}
 use Rattle.x86_decode.specs.declared.instructions.Instruction.{Instruction}
 use Rattle.x86_fields.specs.declared.errors.DecodeError.{DecodeError}
 use Rattle.x86_cli.specs.declared.text.reader.Ending.{Ending}
 use Rattle.x86_cli.specs.Outside.Stop.{Stop}
 use Rattle.x86_cli.specs.Text.{Text, text_at}
+use Rattle.x86_cli.specs.declared.text.window.Front.{Front}
 use Rattle.x86_cli.specs.declared.text.window.Front.TheVariants.{Whole, Refused, Ended}
-use Rattle.x86_cli.specs.declared.listings.status.Status.TheVariants as outcome
-use Rattle.x86_text.specs.Lines.{refusal_text}
+use Rattle.x86_cli.specs.declared.listings.listing.Step.TheVariants as step
 use Rattle.x86_cli.specs.Listings.Line.{line}
-use Rattle.x86_cli.specs.Listings.Listing.{Listing, with_lines, at_end, front_of, listing_from, listing_at}
+use Rattle.x86_cli.specs.Listings.Listing.{Listing, with_lines, front_of, listing_from, listing_at}
+use Rattle.x86_cli.specs.Listings.Step.{IsStep}
 use Rattle.x86_cli.specs.Text.Window.{behind, rest_of}
 use Rattle.x86_cli.proofs.ListingLemmas.ListingLaws.{listing-whole, listing-refused, listing-ended}
 
@@ -41,39 +35,17 @@ module _ (strict : Bool) (text : ℕ → Instruction → List ℕ → List ℕ) 
   rest_line None n w i p r xs stop h some le = behind_line n w i (text_at p r xs stop) h some le
   rest_line (Some e) n w i p r xs stop h some le = listing-whole strict text n w e i h some le
 
-  -- between two lines
-  module _ {S K : Type 0} (gives : S → Got → S → Type 0) (takes : K → List ℕ → Result ⊤ SinkFailed → K → Type 0)
-      (max n : ℕ) (ended : Option Ending) (w : List ℕ) (p r : ℕ) (a b : S) (k l : K) (s : Stands gives takes at reaches max n ended w p r a b k l) where
-    -- what the window shows of its front
-    module _ (i : Instruction) (some : 0 < i.length) (le : i.length ≤ length w)
-        (whole : (xs : List ℕ) (stop : Stop) → front_of strict (rest_of ended w p r xs stop).image (rest_of ended w p r xs stop).ending ≡ Whole i)
-        (written : List ℕ) (is : written ≡ text n i (take i.length w)) (m : K) where
-      pub list_line : (w' : List ℕ) → w' ≡ drop i.length w → takes l (line written) (Ok tt) m → Stands gives takes at reaches max (n + i.length) ended w' p r a b k m
-      list_line w' dropped put = rw dropped (stands_line gives takes at max n ended w p r a b k l s (line written) i.length le
-          (λ xs stop. rw is (rest_line ended n w i p r xs stop (whole xs stop) some le)) m put)
+  -- what stands next, by the front
+  module _ (ended : Option Ending) (n : ℕ) (w : List ℕ) (p r : ℕ) where
+    abbrev pub FrontIs : Front Instruction → Type 0
+    FrontIs front = (xs : List ℕ) (stop : Stop) → front_of strict (rest_of ended w p r xs stop).image (rest_of ended w p r xs stop).ending ≡ front
 
-      pub list_failed : length w ≤ 15 → (e : SinkFailed) → takes l (line written) (Err e) m → RanInWindow gives takes at max outcome.WriteFault a b k m
-      list_failed few e put = window_failed gives takes at max n ended w p r a b k l s few (line written)
-          (λ xs stop. (at (n + i.length) (rest_of ended (drop i.length w) p r xs stop), rw is (rest_line ended n w i p r xs stop (whole xs stop) some le))) e m put
+    pub step_line : (i : Instruction) → FrontIs (Whole i) → 0 < i.length → i.length ≤ length w → (len : ℕ) (written : List ℕ) → len ≡ i.length → written ≡ text n i (take i.length w) →
+        IsStep at (step.Line len) n written ended w p r
+    step_line i whole some le len written long is = rw (long, is) (some, le, λ xs stop. rest_line ended n w i p r xs stop (whole xs stop) some le)
 
-    module _ (few : length w ≤ 15) (error : DecodeError)
-        (refused : (xs : List ℕ) (stop : Stop) → front_of strict (rest_of ended w p r xs stop).image (rest_of ended w p r xs stop).ending ≡ Refused error) where
-      last_refusal : (xs : List ℕ) (stop : Stop) → at n (rest_of ended w p r xs stop) ≡ record { lines = line (refusal_text n error) ∷ []; status = outcome.Refused }
-      last_refusal xs stop = listing-refused strict text n (rest_of ended w p r xs stop).image (rest_of ended w p r xs stop).ending error (refused xs stop)
+    pub step_refused : (error : DecodeError) (written : List ℕ) → FrontIs (Refused error) → IsStep at (step.Refused error) n written ended w p r
+    step_refused error written refused xs stop = listing-refused strict text n (rest_of ended w p r xs stop).image (rest_of ended w p r xs stop).ending error (refused xs stop)
 
-      pub list_refused : (status : Status) (m : K) → Closes takes (record { lines = line (refusal_text n error) ∷ []; status = outcome.Refused }) (Ok status) l m → RanInWindow gives takes at max status a b k m
-      list_refused status m closes = window_closed gives takes at max n ended w p r a b k l s few _ (omega arith) last_refusal status m closes
-
-      pub list_unrefused : (e : SinkFailed) (m : K) → Closes takes (record { lines = line (refusal_text n error) ∷ []; status = outcome.Refused }) (Err e) l m → RanInWindow gives takes at max outcome.WriteFault a b k m
-      list_unrefused e m closes = window_unclosed gives takes at max n ended w p r a b k l s few _ last_refusal e m closes
-
-    module _ (few : length w ≤ 15) (e : Ending)
-        (ends : (xs : List ℕ) (stop : Stop) → front_of strict (rest_of ended w p r xs stop).image (rest_of ended w p r xs stop).ending ≡ Ended e) where
-      last_end : (xs : List ℕ) (stop : Stop) → at n (rest_of ended w p r xs stop) ≡ at_end e
-      last_end xs stop = listing-ended strict text n (rest_of ended w p r xs stop).image (rest_of ended w p r xs stop).ending e (ends xs stop)
-
-      pub list_ended : (status : Status) (m : K) → Closes takes (at_end e) (Ok status) l m → RanInWindow gives takes at max status a b k m
-      list_ended status m closes = window_closed gives takes at max n ended w p r a b k l s few (at_end e) (end_one e) last_end status m closes
-
-      pub list_unended : (f : SinkFailed) (m : K) → Closes takes (at_end e) (Err f) l m → RanInWindow gives takes at max outcome.WriteFault a b k m
-      list_unended f m closes = window_unclosed gives takes at max n ended w p r a b k l s few (at_end e) last_end f m closes
+    pub step_ended : (e : Ending) (written : List ℕ) → FrontIs (Ended e) → IsStep at (step.Ended e) n written ended w p r
+    step_ended e written ends xs stop = listing-ended strict text n (rest_of ended w p r xs stop).image (rest_of ended w p r xs stop).ending e (ends xs stop)

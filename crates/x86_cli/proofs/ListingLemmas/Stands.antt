@@ -94,16 +94,16 @@ module _ {S K : Type 0} (gives : S → Got → S → Type 0) (takes : K → List
   }
 
   pub stands_refill : (max n : ℕ) (v w : Window) (a b d : S) (k l : K) →
-      Stands max n v.ended v.bytes.items v.reader.place v.reader.room a b k l →
+      Stands max n v.ended v.bytes.items v.reader.position v.reader.room a b k l →
       MatchOption v.ended
-      (Fills gives (rest_of None v.bytes.items v.reader.place v.reader.room) w.ended w.bytes.items w.reader.place w.reader.room b d)
+      (Fills gives (rest_of None v.bytes.items v.reader.position v.reader.room) w.ended w.bytes.items w.reader.position w.reader.room b d)
       (λ e. (w ≡ v) × (d ≡ b)) →
-      Stands max n w.ended w.bytes.items w.reader.place w.reader.room a d k l
+      Stands max n w.ended w.bytes.items w.reader.position w.reader.room a d k l
   stands_refill max n v w a b d k l stands m =
       match_case v.ended m
       (λ none fills.
-      let P : Option Ending → Type 0 = λ o. Stands max n o v.bytes.items v.reader.place v.reader.room a b k l in
-      stands_fill max n v.bytes.items v.reader.place v.reader.room a b k l (subst P none stands) w.ended w.bytes.items w.reader.place w.reader.room d fills)
+      let P : Option Ending → Type 0 = λ o. Stands max n o v.bytes.items v.reader.position v.reader.room a b k l in
+      stands_fill max n v.bytes.items v.reader.position v.reader.room a b k l (subst P none stands) w.ended w.bytes.items w.reader.position w.reader.room d fills)
       (λ same. rw (same.0, same.1) stands)
 
   module _ (max n : ℕ) (ended : Option Ending) (w : List ℕ) (p r : ℕ) (a b : S) (k l : K) (s : Stands max n ended w p r a b k l) where

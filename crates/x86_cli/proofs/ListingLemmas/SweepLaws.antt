@@ -16,8 +16,16 @@ use Rattle.x86_cli.specs.Listings.Listing.{with_lines, at_end}
 use Rattle.x86_cli.specs.Text.Window.{rest_of}
 use Rattle.x86_layout.specs.Sweeps.Cuts.{cut_length, cut_at, cuts_from}
 use Rattle.x86_layout.proofs.SweepLemmas.CutLaws.{first_and_rest, none_left}
-use Rattle.x86_cli.specs.Listings.Sweep.{cut_text, cut_line, sweep_at, ShowsAnswer}
-use Rattle.x86_cli.proofs.ListingLemmas.Stands.{with-with}
+use Rattle.x86_cli.specs.Listings.Step.{IsStep}
+use Rattle.x86_cli.specs.declared.listings.listing.Step.TheVariants as step
+use Rattle.x86_cli.specs.Listings.Sweep.{cut_text, cut_line, sweep_at}
+use Rattle.x86_cli.proofs.ListingLemmas.Stands.{with-with, rest_is}
+
+-- what a window shows of its front, where a cut stands there: whatever follows, that the next cut has this answer
+record ShowsAnswer (strict : Bool) (a : Result Instruction DecodeError) (ended : Option Ending) (w : List ℕ) (p r : ℕ) : Type 0 where
+  some : 0 < cut_length a
+  fits : cut_length a ≤ length w
+  answers : (xs : List ℕ) (stop : Stop) → answer_of strict (rest_of ended w p r xs stop).image ≡ a
 
 module _ (strict : Bool) where
   sweep-cut : (n len : ℕ) (xs : List ℕ) (e : Ending) (a : Result Instruction DecodeError) → answer_of strict xs ≡ a → cut_length a ≡ len → 0 < len → len ≤ length xs →
@@ -29,17 +37,20 @@ module _ (strict : Bool) where
       ∙ ap (λ a. with_lines (line (cut_text n a) ∷ []) (with_lines behind (at_end e))) h
 
   -- one cut of the rest
-  pub rest_cut : (ended : Option Ending) (n : ℕ) (w : List ℕ) (p r : ℕ) (a : Result Instruction DecodeError) → ShowsAnswer strict a ended w p r → (xs : List ℕ) (stop : Stop) →
+  rest_cut : (ended : Option Ending) (n : ℕ) (w : List ℕ) (p r : ℕ) (a : Result Instruction DecodeError) → ShowsAnswer strict a ended w p r → (xs : List ℕ) (stop : Stop) →
       sweep_at strict n (rest_of ended w p r xs stop) ≡ with_lines (line (cut_text n a) ∷ []) (sweep_at strict (n + cut_length a) (rest_of ended (drop (cut_length a) w) p r xs stop))
   rest_cut None n w p r a shows xs stop =
       let t : Text = text_at p r xs stop in
-      let fits : cut_length a ≤ length (w ++ t.image) = simp length-append (omega (arith, shows.1)) in
-      sweep-cut n (cut_length a) (w ++ t.image) t.ending a (shows.2 xs stop) refl shows.0 fits
-      ∙ ap (λ ys. with_lines (line (cut_text n a) ∷ []) (sweep_at strict (n + cut_length a) (record { image = ys; ending = t.ending }))) (drop-append-le (cut_length a) w t.image shows.1)
-  rest_cut (Some e) n w p r a shows xs stop = sweep-cut n (cut_length a) w e a (shows.2 xs stop) refl shows.0 shows.1
+      let fits : cut_length a ≤ length (w ++ t.image) = simp length-append (omega (arith, shows.fits)) in
+      sweep-cut n (cut_length a) (w ++ t.image) t.ending a (shows.answers xs stop) refl shows.some fits
+      ∙ ap (λ ys. with_lines (line (cut_text n a) ∷ []) (sweep_at strict (n + cut_length a) (record { image = ys; ending = t.ending }))) (drop-append-le (cut_length a) w t.image shows.fits)
+  rest_cut (Some e) n w p r a shows xs stop = sweep-cut n (cut_length a) w e a (shows.answers xs stop) refl shows.some shows.fits
 
-  pub rest_end : (n : ℕ) (w : List ℕ) (e : Ending) → w ≡ [] → sweep_at strict n (record { image = w; ending = e }) ≡ at_end e
-  rest_end n w e none = ap (λ xs. sweep_at strict n (record { image = xs; ending = e })) none ∙ ap (λ cs. with_lines (map cut_line cs) (at_end e)) (none_left strict n [] refl)
+  rest_end : (n : ℕ) (w : List ℕ) (e : Ending) → length w ≡ 0 → sweep_at strict n (record { image = w; ending = e }) ≡ at_end e
+  rest_end n w e none = ap (λ cs. with_lines (map cut_line cs) (at_end e)) (none_left strict n w none)
+
+  pub sweep_end : (ended : Option Ending) (n : ℕ) (text w : List ℕ) (p r : ℕ) (e : Ending) → ended ≡ Some e → length w ≡ 0 → IsStep (sweep_at strict) (step.Ended e) n text ended w p r
+  sweep_end ended n text w p r e is none = rest_is (sweep_at strict) n ended w p r e (at_end e) is (rest_end n w e none)
 
   -- no sweep refuses
   pub end_unrefused : (e : Ending) (status : Status) → status ≡ (at_end e).status → status ≢ outcome.Refused
@@ -59,9 +70,10 @@ module _ (strict : Bool) (laws : DecoderLaws strict) where
   same_answer None w p r full xs stop = laws.stay w (text_at p r xs stop).image (laws.enough w (omega (arith, full refl)))
   same_answer (Some e) w p r full xs stop = refl
 
-  pub shows_cut : (ended : Option Ending) (w s : List ℕ) (p r : ℕ) (a : Result Instruction DecodeError) → (ended ≡ None → length w ≡ 15) → 0 < length w →
-      a ≡ answer_of strict s → s ≡ w → ShowsAnswer strict a ended w p r
-  shows_cut ended w s p r a full some answer same =
+  pub sweep_line : (ended : Option Ending) (n : ℕ) (w s : List ℕ) (p r : ℕ) (a : Result Instruction DecodeError) → (ended ≡ None → length w ≡ 15) → 0 < length w →
+      a ≡ answer_of strict s → s ≡ w → (len : ℕ) (text : List ℕ) → len ≡ cut_length a → text ≡ cut_text n a → IsStep (sweep_at strict) (step.Line len) n text ended w p r
+  sweep_line ended n w s p r a full some answer same len text long is =
       let here : answer_of strict w ≡ a = sym (answer ∙ ap (answer_of strict) same) in
       let h = answer_shows a w here some in
-      (h.0, h.1, λ xs stop. same_answer ended w p r full xs stop ∙ here)
+      let shows : ShowsAnswer strict a ended w p r = record { some = h.0; fits = h.1; answers = λ xs stop. same_answer ended w p r full xs stop ∙ here } in
+      rw (long, is) (h.0, h.1, λ xs stop. rest_cut strict ended n w p r a shows xs stop)

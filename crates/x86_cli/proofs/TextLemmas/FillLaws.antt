@@ -11,11 +11,11 @@ use Rattle.x86_cli.proofs.TextLemmas.ReadLaws.{gave-gave, asked-asked, asked-sam
 
 module _ {S : Type 0} (gives : S → Got → S → Type 0) where
   -- so far, with the text not ended
-  pub record Filling (old : List ℕ → Stop → Text) (window : List ℕ) (place room : ℕ) (before after : S) : Type 0 where
+  pub record Filling (old : List ℕ → Stop → Text) (window : List ℕ) (position room : ℕ) (before after : S) : Type 0 where
     pub bytes : List ℕ
     pub gave : Gave gives bytes None before after
     pub asked : Asked old bytes None
-    pub rest : (xs : List ℕ) (stop : Stop) → old (bytes ++ xs) stop ≡ behind window (text_at place room xs stop)
+    pub rest : (xs : List ℕ) (stop : Stop) → old (bytes ++ xs) stop ≡ behind window (text_at position room xs stop)
 
   pub filling_none : (w : List ℕ) (p r : ℕ) (a : S) → Filling (rest_of None w p r) w p r a a
   filling_none w p r a = record { bytes = []; gave = refl; asked = tt; rest = λ xs stop. refl }

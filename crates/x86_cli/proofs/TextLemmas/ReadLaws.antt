@@ -36,11 +36,11 @@ module _ {S : Type 0} (gives : S → Got → S → Type 0) where
   gave-gave (x ∷ u) t stop a b d e f = (e.0, e.1, gave-gave u t stop e.0 b d e.2 f)
 
   -- Whatever comes, the text that begins with the bytes given is that which is left.
-  pub record Skips (place room place' room' : ℕ) (old new : S) : Type 0 where
+  pub record Skips (position room position' room' : ℕ) (old new : S) : Type 0 where
     pub bytes : List ℕ
     pub gave : Gave gives bytes None old new
-    pub asked : Asked (text_at place room) bytes None
-    pub same : (xs : List ℕ) (stop : Stop) → text_at place room (bytes ++ xs) stop ≡ text_at place' room' xs stop
+    pub asked : Asked (text_at position room) bytes None
+    pub same : (xs : List ℕ) (stop : Stop) → text_at position room (bytes ++ xs) stop ≡ text_at position' room' xs stop
 
   pub skips_none : (p r : ℕ) (a : S) → Skips p r p r a a
   skips_none p r a = record { bytes = []; gave = refl; asked = tt; same = λ xs stop. refl }
@@ -101,7 +101,7 @@ module _ {S : Type 0} (gives : S → Got → S → Type 0) where
   -- the ends at its second byte, behind the digit x
 
   pub record Behind (p r q s x v : ℕ) (a b : S) : Type 0 where
-    pub place : q ≡ p + 1
+    pub position : q ≡ p + 1
     pub room : r ≡ s + 1
     pub blank : is_blank x ≡ false
     pub digit : value_of x ≡ Some v
@@ -115,7 +115,7 @@ module _ {S : Type 0} (gives : S → Got → S → Type 0) where
     asked = (open_new p r, let room : r ≡ suc s = omega (arith, behind.room) in rw room (open_half p s x v behind.blank behind.digit));
     goes_on = tt;
     tells = λ xs stop may.
-        let room : r ≡ suc s = omega (arith, behind.room) in rw (may.0, may.1, room, behind.place) (text-half p s x v behind.blank behind.digit);
+        let room : r ≡ suc s = omega (arith, behind.room) in rw (may.0, may.1, room, behind.position) (text-half p s x v behind.blank behind.digit);
   }
 
   pub half_failed : (p r q s x v : ℕ) (a b d : S) → Behind p r q s x v a b → gives b got.Failed d → Reads gives (Stopped Fault) p r q s a d
@@ -148,7 +148,7 @@ module _ {S : Type 0} (gives : S → Got → S → Type 0) where
     asked = (open_new p (r), (let room : r ≡ suc (suc s) = omega (arith, behind.room) in rw room (open_half p (suc s) x v behind.blank behind.digit), tt));
     goes_on = tt;
     tells = λ xs stop may.
-        let room : r ≡ suc (suc s) = omega (arith, behind.room) in rw (room, behind.place) (text-half_bad p s x y v xs stop behind.blank behind.digit digit);
+        let room : r ≡ suc (suc s) = omega (arith, behind.room) in rw (room, behind.position) (text-half_bad p s x y v xs stop behind.blank behind.digit digit);
   }
 
   pub half_pair : (p r q s q' s' x v y w : ℕ) (a b d : S) → Behind p r q s x v a b → gives b (got.Byte y) d → value_of y ≡ Some w →
@@ -161,6 +161,6 @@ module _ {S : Type 0} (gives : S → Got → S → Type 0) where
     goes_on = refl;
     tells = λ xs stop may.
         let room : r ≡ suc (suc s') = omega (arith, behind.room) in
-        let place : q' ≡ p + 2 = omega (arith, behind.place) in
-        rw (room, place) (text-pair p s' x y v w xs stop behind.blank behind.digit digit);
+        let position : q' ≡ p + 2 = omega (arith, behind.position) in
+        rw (room, position) (text-pair p s' x y v w xs stop behind.blank behind.digit digit);
   }

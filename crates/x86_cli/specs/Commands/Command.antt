@@ -1,4 +1,4 @@
--- Commands: their words, listings and limits.
+-- Commands: their arguments, listings and limits.
 use Rattle.std.specs.Prelude.{ℕ, Bool, true, false, List, [], ◌∷◌, Option, Some, None, ◌&&◌, if◌then◌else◌, IfSome, IsTrue, Result, ⊤, map, codes, bytes_eq, String, string_bytes}
 use Rattle.std.specs.declared.alloc.Global.{Global}
 use Rattle.x86_cli.specs.declared.commands.command.Command.{Command}
@@ -19,23 +19,23 @@ use Rattle.x86_cli.specs.Listings.Targets.{targets_at}
 
 -- the command that is one word
 abbrev pub command_by : List ℕ → Option Command
-command_by word =
-    if bytes_eq word (codes "list") then Some (Listed false)
-    else (if bytes_eq word (codes "fields") then Some Fielded
-    else (if bytes_eq word (codes "tighten") then Some Tightened
-    else (if bytes_eq word (codes "sweep") then Some Swept
-    else (if bytes_eq word (codes "targets") then Some Targeted else None))))
+command_by argument =
+    if bytes_eq argument (codes "list") then Some (Listed false)
+    else (if bytes_eq argument (codes "fields") then Some Fielded
+    else (if bytes_eq argument (codes "tighten") then Some Tightened
+    else (if bytes_eq argument (codes "sweep") then Some Swept
+    else (if bytes_eq argument (codes "targets") then Some Targeted else None))))
 
--- the command that the words are, matched whole
+-- the command that the arguments are, matched whole
 abbrev pub command_of : List (List ℕ) → Option Command
 command_of [] = None
 command_of (a ∷ []) = command_by a
 command_of (a ∷ b ∷ []) = if bytes_eq a (codes "list") && bytes_eq b (codes "--strict") then Some (Listed true) else None
-command_of (a ∷ b ∷ c ∷ words) = None
+command_of (a ∷ b ∷ c ∷ arguments) = None
 
--- Where the words are a command that reads, this is so of it.
+-- Where the arguments are a command that reads, this is so of it.
 abbrev pub IfCommand : List (String Global) → (Command → Type 0) → Type 0
-IfCommand words says = IfSome (command_of (map string_bytes words)) says
+IfCommand arguments says = IfSome (command_of (map string_bytes arguments)) says
 
 -- what a command lists of a text that stands from a place on, and of a whole text
 abbrev pub listed_at : Command → ℕ → Text → Listing

@@ -90,15 +90,15 @@ tally_text n t =
 abbrev pub make_max : ℕ
 make_max = 1000000
 
--- the words `make` and a decimal from 1 to that number, without a sign or a zero in front
-pub record IsMake (words : List (List ℕ)) (n : ℕ) : Type 0 where
-  pub matched : words ≡ codes "make" ∷ decimal n ∷ []
+-- the arguments `make` and a decimal from 1 to that number, without a sign or a zero in front
+pub record IsMake (arguments : List (List ℕ)) (n : ℕ) : Type 0 where
+  pub matched : arguments ≡ codes "make" ∷ decimal n ∷ []
   pub least : 1 ≤ n
   pub most : n ≤ make_max
 
--- the words are neither a command that reads nor `make`
+-- the arguments are neither a command that reads nor `make`
 abbrev pub IsNoCommand : List (List ℕ) → Type 0
-IsNoCommand words = (command_of words ≡ None) × ((n : ℕ) → IsMake words n → ⊥)
+IsNoCommand arguments = (command_of arguments ≡ None) × ((n : ℕ) → IsMake arguments n → ⊥)
 
 abbrev pub made_listing : ℕ → Listing
 made_listing n = record { lines = line (tally_text n (tally_of n)) ∷ []; status = Done }

@@ -22,10 +22,10 @@ pub record World : Type 0 where
   pub written : Option (List ℕ)
   pub sink_faults : ℕ
 
--- Where the words are a command that reads, this is so of what is seen before the run and behind it.
+-- Where the arguments are a command that reads, this is so of what is seen before the run and behind it.
 abbrev pub Sees : List (String Global) → (Command → World → World → Type 0) →
     {S K : Type 0} → (S → Option (List ℕ)) → (S → ℕ) → (K → Option (List ℕ)) → (K → ℕ) → S → S → K → K → Type 0
-Sees words says left faults written others source source' sink sink' = IfCommand words (λ c. says c
+Sees arguments says left faults written others source source' sink sink' = IfCommand arguments (λ c. says c
     (record { left = left source; source_faults = faults source; written = written sink; sink_faults = others sink })
     (record { left = left source'; source_faults = faults source'; written = written sink'; sink_faults = others sink' }))
 

@@ -5,6 +5,6 @@ use Rattle.std.specs.Prelude.{ℕ, List, ◌++◌, codes, decimal}
 abbrev pub line : List ℕ → List ℕ
 line text = text ++ codes "\n"
 
--- text error at PLACE
+-- text error at POSITION
 unfoldable pub bad_text : ℕ → List ℕ
-bad_text place = codes "text error at " ++ decimal place
+bad_text position = codes "text error at " ++ decimal position

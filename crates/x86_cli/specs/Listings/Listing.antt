@@ -29,6 +29,10 @@ at_end (Bad n) = record { lines = line (bad_text n) ∷ []; status = BadText }
 at_end Large = record { lines = line (codes "text too long") ∷ []; status = TooLarge }
 at_end Fault = record { lines = line (codes "read fault") ∷ []; status = ReadFault }
 
+-- a refusal that ends a listing
+abbrev pub at_refusal : ℕ → DecodeError → Listing
+at_refusal place error = record { lines = line (refusal_text place error) ∷ []; status = status.Refused }
+
 -- An end that isn't clean overrules a refusal that more bytes could lift.
 abbrev pub judged : Result Instruction DecodeError → Ending → Front Instruction
 judged (Ok i) e = Whole i
@@ -51,7 +55,7 @@ front_of strict (x ∷ xs) e = judged (answer_of strict (x ∷ xs)) e
 module _ (strict : Bool) (text : ℕ → Instruction → List ℕ → List ℕ) where
   abbrev pub listed : Front Instruction → ℕ → List ℕ → (ℕ → Listing) → Listing
   listed (Whole i) place bytes after = with_lines (line (text place i (take i.length bytes)) ∷ []) (after (i.length - 1))
-  listed (Refused error) place bytes after = record { lines = line (refusal_text place error) ∷ []; status = status.Refused }
+  listed (Refused error) place bytes after = at_refusal place error
   listed (Ended e) place bytes after = at_end e
 
   -- the listing of an image that stands from a place on, without its first bytes that belong to an instruction before

@@ -4,11 +4,11 @@ use Rattle.x86_cli.specs.declared.listings.status.Status.{Status}
 use Rattle.x86_cli.specs.declared.listings.status.Status.TheVariants.{Done, Usage, Refused, BadText, ReadFault, WriteFault, TooLarge}
 
 -- the number that a program ends with
-abbrev pub code_of : Status → ℕ
-code_of Done = 0
-code_of Usage = 2
-code_of Refused = 3
-code_of BadText = 4
-code_of ReadFault = 5
-code_of WriteFault = 6
-code_of TooLarge = 7
+abbrev pub code : Status → ℕ
+code Done = 0
+code Usage = 2
+code Refused = 3
+code BadText = 4
+code ReadFault = 5
+code WriteFault = 6
+code TooLarge = 7

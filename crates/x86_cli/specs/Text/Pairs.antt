@@ -47,7 +47,7 @@ SequencesAreSound =
     ((bytes : List ℕ) → bad_of bytes ≡ None → (half : List ℕ) × IsSequence bytes (image_of bytes) half × (ends_in_half bytes ≡ is_half half))
     × ((bytes image half : List ℕ) → IsSequence bytes image half → (bad_of bytes ≡ None) × (image_of bytes ≡ image) × (ends_in_half bytes ≡ is_half half))
 
--- A bad place is the first byte that ends no front that is a sequence: each front up to it has no bad byte, and the one with it has. The image
+-- A bad position is the first byte that ends no front that is a sequence: each front up to it has no bad byte, and the one with it has. The image
 -- is that of the bytes before.
 abbrev pub BadIsFirst : Type 0
 BadIsFirst = (bytes : List ℕ) (n : ℕ) → bad_of bytes ≡ Some n →

@@ -3,5 +3,5 @@ use Rattle.std.specs.Prelude.{ℕ}
 
 -- where a reader of a text stands, and how many bytes it may still take
 pub record Reader : Type 0 where
-  pub place : ℕ
+  pub position : ℕ
   pub room : ℕ

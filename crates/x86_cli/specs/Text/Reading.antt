@@ -60,10 +60,10 @@ module _ {S : Type 0} (gives : S → Got → S → Type 0) where
   Gave (b ∷ bs) stop s t = (u : S) × gives s (got.Byte b) u × Gave bs stop u t
 
   -- what was given for a piece, and what that says of every text that begins so
-  pub record Reads (result : Piece) (place room place' room' : ℕ) (old new : S) : Type 0 where
+  pub record Reads (result : Piece) (position room position' room' : ℕ) (old new : S) : Type 0 where
     pub bytes : List ℕ
     pub stop : Option Stop
     pub gave : Gave bytes stop old new
-    pub asked : Asked (text_at place room) bytes stop
+    pub asked : Asked (text_at position room) bytes stop
     pub goes_on : GoesOn result stop
-    pub tells : (xs : List ℕ) (s : Stop) → MayCome stop xs s → text_at place room (bytes ++ xs) s ≡ in_front result (text_at place' room' xs s)
+    pub tells : (xs : List ℕ) (s : Stop) → MayCome stop xs s → text_at position room (bytes ++ xs) s ≡ in_front result (text_at position' room' xs s)

@@ -18,8 +18,8 @@ behind front t = record { image = front ++ t.image; ending = t.ending }
 
 -- The text that is left, where these bytes come and then stop: the window's, and what the reader gives of them.
 abbrev pub rest_of : Option Ending → List ℕ → ℕ → ℕ → List ℕ → Stop → Text
-rest_of None window place room xs stop = behind window (text_at place room xs stop)
-rest_of (Some e) window place room xs stop = record { image = window; ending = e }
+rest_of None window position room xs stop = behind window (text_at position room xs stop)
+rest_of (Some e) window position room xs stop = record { image = window; ending = e }
 
 -- Where the text has not ended, the source was not asked for a stop.
 abbrev pub Open : Option Ending → Option Stop → Type 0
@@ -27,13 +27,13 @@ Open None stop = stop ≡ None
 Open (Some e) stop = ⊤
 
 -- What taking bytes into the window keeps: the text that is left, for all that may come.
-pub record Fills {S : Type 0} (gives : S → Got → S → Type 0) (old : List ℕ → Stop → Text) (ended : Option Ending) (window : List ℕ) (place room : ℕ) (before after : S) : Type 0 where
+pub record Fills {S : Type 0} (gives : S → Got → S → Type 0) (old : List ℕ → Stop → Text) (ended : Option Ending) (window : List ℕ) (position room : ℕ) (before after : S) : Type 0 where
   pub bytes : List ℕ
   pub stop : Option Stop
   pub gave : Gave gives bytes stop before after
   pub asked : Asked old bytes stop
   pub goes_on : Open ended stop
-  pub rest : (xs : List ℕ) (s : Stop) → MayCome stop xs s → old (bytes ++ xs) s ≡ rest_of ended window place room xs s
+  pub rest : (xs : List ℕ) (s : Stop) → MayCome stop xs s → old (bytes ++ xs) s ≡ rest_of ended window position room xs s
 
 -- a front, where Whole holds this instruction
 abbrev pub front_with : Instruction → Front (Unit {0}) → Front Instruction

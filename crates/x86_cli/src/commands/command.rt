@@ -11,9 +11,9 @@ use crate::commands::make::{count_from, make};
 use crate::laws::decoder_laws;
 use crate::listings::fields::FieldLines;
 use crate::listings::line::Plain;
-use crate::listings::listing::list;
+use crate::listings::listing::{UpToRefusal, list};
 use crate::listings::status::Status;
-use crate::listings::sweep::sweep;
+use crate::listings::sweep::Sweep;
 use crate::listings::targets::targets;
 use crate::listings::tightening::LeastLines;
 use crate::outside::sink::Sink;
@@ -26,7 +26,7 @@ pub const TEXT_MAX: u64 = 67_108_864;
 /// The most bytes of a text whose image is held whole, as `targets` does.
 pub const TARGETS_MAX: u64 = 16_384;
 
-/// What is printed where the words are no command.
+/// What is printed where the arguments are no command.
 pub const USAGE: &str = "usage: list [--strict] | make N | fields | tighten | sweep | targets";
 
 /// What the program does.
@@ -45,10 +45,10 @@ pub enum Command {
 }
 
 /// The command that is one word.
-fn command_by(word: &str) -> Option<Command>
-    ensures { result ≡ command_by word.now }
+fn command_by(argument: &str) -> Option<Command>
+    ensures { result ≡ command_by argument.now }
 {
-    match word {
+    match argument {
         "list" => Some(Command::List { strict: false }),
         "fields" => Some(Command::Fields),
         "tighten" => Some(Command::Tighten),
@@ -58,11 +58,11 @@ fn command_by(word: &str) -> Option<Command>
     }
 }
 
-fn command_from(words: &[String]) -> Option<Command>
-    ensures { result ≡ command_of (map string_bytes words.now) }
+fn command_of(arguments: &[String]) -> Option<Command>
+    ensures { result ≡ command_of (map string_bytes arguments.now) }
 {
-    match words {
-        [word] => command_by(word.as_str()),
+    match arguments {
+        [argument] => command_by(argument.as_str()),
         [list, strict] if list.as_str() == "list" && strict.as_str() == "--strict" => {
             Some(Command::List { strict: true })
         }
@@ -70,12 +70,12 @@ fn command_from(words: &[String]) -> Option<Command>
     }
 }
 
-/// How many encodings the words ask to be made.
-fn made_from(words: &[String]) -> Option<u32>
-    ensures found { IfSome result (λ n. IsMake (map string_bytes words.now) n) }
-    ensures every { (n : ℕ) → IsMake (map string_bytes words.now) n → result ≡ Some n }
+/// How many encodings the arguments ask to be made.
+fn made_from(arguments: &[String]) -> Option<u32>
+    ensures found { IfSome result (λ n. IsMake (map string_bytes arguments.now) n) }
+    ensures every { (n : ℕ) → IsMake (map string_bytes arguments.now) n → result ≡ Some n }
 {
-    match words {
+    match arguments {
         [make, count] if make.as_str() == "make" => count_from(count.as_str()),
         _ => None,
     }
@@ -96,16 +96,34 @@ fn obey<S: Source, K: Sink>(command: Command, source: &mut S, sink: &mut K) -> S
     ensures unrefused { IsTrue (goes_past_refusals command) → result ≢ Status.Refused }
 {
     match command {
-        Command::List { strict } => list(&decoder(strict), &Plain, TEXT_MAX, source, sink),
-        Command::Fields => list(&decoder(false), &FieldLines, TEXT_MAX, source, sink),
-        Command::Tighten => list(&decoder(false), &LeastLines, TEXT_MAX, source, sink),
-        Command::Sweep => sweep(&decoder(false), TEXT_MAX, source, sink),
+        Command::List { strict } => list(
+            &decoder(strict),
+            &UpToRefusal { lines: Plain },
+            TEXT_MAX,
+            source,
+            sink,
+        ),
+        Command::Fields => list(
+            &decoder(false),
+            &UpToRefusal { lines: FieldLines },
+            TEXT_MAX,
+            source,
+            sink,
+        ),
+        Command::Tighten => list(
+            &decoder(false),
+            &UpToRefusal { lines: LeastLines },
+            TEXT_MAX,
+            source,
+            sink,
+        ),
+        Command::Sweep => list(&decoder(false), &Sweep, TEXT_MAX, source, sink),
         Command::Targets => targets(&decoder(false), TARGETS_MAX, source, sink),
     }
 }
 
-/// Does what the words say. `list`, `list --strict`, `fields`, `tighten`, `sweep` and `targets` read a hex text from
-/// the source, at most `TEXT_MAX` bytes of it (`TARGETS_MAX` for `targets`), and write its listing to the sink, a
+/// Does what the arguments say. `list`, `list --strict`, `fields`, `tighten`, `sweep` and `targets` read a hex text
+/// from the source, at most `TEXT_MAX` bytes of it (`TARGETS_MAX` for `targets`), and write its listing to the sink, a
 /// call of `put` for each line.
 pub fn run<S: Source, K: Sink>(words: &[String], source: &mut S, sink: &mut K) -> Status
     ensures ran { IfCommand words.now (λ c. Runs S.gives K.takes c result source.old source.new sink.old sink.new) }
@@ -121,7 +139,7 @@ pub fn run<S: Source, K: Sink>(words: &[String], source: &mut S, sink: &mut K) -
     ensures complete { Sees words.now (Completes result) S.left S.faults K.written K.faults source.old source.new sink.old sink.new }
 {
     decoder_laws();
-    match command_from(words) {
+    match command_of(words) {
         Some(command) => obey(command, source, sink),
         None => match made_from(words) {
             Some(count) => make(count, sink),

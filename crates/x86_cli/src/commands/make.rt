@@ -1,6 +1,6 @@
 //! Encodings that the program makes by itself, decodes and counts.
 
-ghost use Rattle.std.specs.Prelude.{◌≡◌, ◌+◌, ◌≤◌, ◌++◌, ℕ, IfSome, Some, None, length, decimal};
+ghost use Rattle.std.specs.Prelude.{◌≡◌, ◌↔◌, IsTrue, ◌+◌, ◌≤◌, ◌++◌, ℕ, IfSome, Some, None, length, decimal};
 ghost use Rattle.arrayvec.specs.ArrayVec.{array_vec_len};
 ghost use Rattle.x86_decode.specs.Instruction.{holding};
 ghost use Rattle.x86_cli.specs.Commands.Run.{Wrote};
@@ -48,7 +48,7 @@ fn has_long_displacement(modrm: ModRM, sib: Sib) -> bool
 
 /// Encoding `i` of `make`: `ADD r32, m32` with ModRM `i` modulo `MEMORY_FORMS`.
 #[tactic(auto, unfolding(crate::specs::Commands::Make::made))]
-pub fn generate(i: u32) -> ArrayVec<u8, 15>
+pub fn made(i: u32) -> ArrayVec<u8, 15>
     ensures { result.items ≡ made i }
 {
     let modrm = ModRM::new((i % MEMORY_FORMS as u32) as u8);
@@ -138,7 +138,7 @@ fn tally_of(count: u32) -> Tally
     let mut at_rip = 0u64;
     let mut absolute = 0u64;
     for i in 0..count {
-        let encoding = generate(i);
+        let encoding = made(i);
         let answer = decoder.decode_slice_into(&mut inst, encoding.as_slice());
         bytes += encoding.len() as u64;
         at_rip += one_at_rip(&inst, answer);
@@ -168,17 +168,24 @@ fn tally_line(count: u32, tally: &Tally) -> Line
     line
 }
 
-/// The count that a word spells: a decimal from 1 to `MAKE_MAX`, without a sign or a zero in front.
-pub fn count_from(word: &str) -> Option<u32>
-    ensures found { IfSome result (λ n. (1 ≤ n) × (n ≤ make_max) × (word.now ≡ decimal n)) }
-    ensures every { (n : ℕ) → 1 ≤ n → n ≤ make_max → word.now ≡ decimal n → result ≡ Some n }
+/// Whether an argument is the decimal of a count, without a sign or a zero in front.
+fn is_decimal(argument: &str, count: u32) -> bool
+    ensures { IsTrue result ↔ (argument.now ≡ decimal count) }
 {
-    let count = word.parse::<u32>().ok()?;
+    let mut buffer = Buffer::new();
+    buffer.format(count) == argument
+}
+
+/// The count that an argument spells: a decimal from 1 to `MAKE_MAX`, without a sign or a zero in front.
+pub fn count_from(argument: &str) -> Option<u32>
+    ensures found { IfSome result (λ n. (1 ≤ n) × (n ≤ make_max) × (argument.now ≡ decimal n)) }
+    ensures every { (n : ℕ) → 1 ≤ n → n ≤ make_max → argument.now ≡ decimal n → result ≡ Some n }
+{
+    let count = argument.parse::<u32>().ok()?;
     if count == 0 || count > MAKE_MAX {
         return None;
     }
-    let mut buffer = Buffer::new();
-    if buffer.format(count) == word {
+    if is_decimal(argument, count) {
         Some(count)
     } else {
         None

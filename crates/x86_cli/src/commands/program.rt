@@ -5,31 +5,33 @@ ghost use Rattle.std.specs.Io.KnownBytes.{Keeps, append_known};
 ghost use Rattle.x86_cli.specs.Commands.Command.{IfCommand};
 ghost use Rattle.x86_cli.specs.Commands.Make.{IsMake, IsNoCommand};
 ghost use Rattle.x86_cli.specs.Commands.Program.{ending_of, Ends, EndsMade};
-ghost use Rattle.x86_cli.specs.Outside.Seen.{writer_behind, held_bytes};
+ghost use Rattle.x86_cli.specs.Outside.FaultCounts.{CountsFault};
+ghost use Rattle.x86_cli.specs.Outside.Seen.{writer_behind, writer_faults, held_bytes};
 
 use crate::commands::command::run;
 use crate::listings::status::Status;
 use crate::outside::gathered::Gathered;
+use crate::outside::sink::SinkFailed;
 use crate::outside::std_sink::StdSink;
 use crate::outside::std_source::StdSource;
-use std::io;
 use std::io::{Read, Write};
 
-/// Flushes what a run gathered. Behind a failed write nothing is sent, and where the words are no command there is
+/// Flushes what a run gathered. Behind a failed write nothing is sent, and where the arguments are no command there is
 /// nothing.
-fn send_rest<W: Write + Drop>(status: Status, out: &mut Gathered<W>) -> io::Result<()>
+fn send_rest<W: Write + Drop>(status: Status, out: &mut Gathered<W>) -> Result<(), SinkFailed>
     ensures bytes { Keeps (append_known (W.contents (writer_behind out.old)) (held_bytes out.old)) (append_known (W.contents (writer_behind out.new)) (held_bytes out.new)) }
     ensures sent { OnOk result (status ≢ Status.Usage → status ≢ Status.WriteFault → held_bytes out.new ≡ []) }
     ensures usage { status ≡ Status.Usage → IsOk result × (out.new ≡ out.old) }
+    ensures counts { CountsFault result (writer_faults out.old) (writer_faults out.new) }
 {
     match status {
         Status::Usage | Status::WriteFault => Ok(()),
-        _ => out.flush(),
+        _ => out.send_all(),
     }
 }
 
 /// How the program ends, where its run ended so and the flush behind it answered this.
-fn ending(status: Status, flushed: &io::Result<()>) -> Status
+fn ending_of(status: Status, flushed: &Result<(), SinkFailed>) -> Status
     ensures { result ≡ ending_of status flushed.now }
 {
     match flushed {
@@ -55,5 +57,5 @@ pub fn listed<R: Read + Drop, W: Write + Drop>(
     let status = run(arguments, &mut source, &mut sink);
     let mut out = sink.into_writer();
     let flushed = send_rest(status, &mut out);
-    (ending(status, &flushed), out.into_writer())
+    (ending_of(status, &flushed), out.into_writer())
 }

@@ -9,6 +9,7 @@ use x86_layout::split_decoded;
 use x86_text::{Line, Place, write_fields};
 
 /// The lines of `fields`, which show the parts of each encoding.
+#[derive(Clone, Copy, Drop)]
 pub struct FieldLines;
 
 impl Lines for FieldLines {

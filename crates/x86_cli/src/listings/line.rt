@@ -10,7 +10,7 @@ ghost use Rattle.x86_cli.specs.Listings.Line.{bad_text};
 use x86_decode::{InstDecoder, Instruction};
 use x86_text::{LINE_MAX, Line, Place, write_instruction};
 
-/// What a command writes for an accepted cut.
+/// What a command writes for an instruction.
 pub trait Lines {
     /// The line of an instruction at a place, under a choice and given its bytes.
     ghost text: { Self → Bool → ℕ → Instruction → List ℕ → List ℕ };
@@ -30,6 +30,7 @@ pub trait Lines {
 }
 
 /// The lines of `list`, which don't look at the bytes.
+#[derive(Clone, Copy, Drop)]
 pub struct Plain;
 
 impl Lines for Plain {
@@ -47,14 +48,14 @@ impl Lines for Plain {
     }
 }
 
-/// The line of a text whose byte at a place can't stand there, without its end.
+/// The line of a text whose byte at a position can't stand there, without its end.
 #[tactic(auto, unfolding(crate::specs::Listings::Line::bad_text))]
-pub fn text_error(place: u64) -> Line
-    ensures text { result.items ≡ bad_text place }
+pub fn bad_text(position: u64) -> Line
+    ensures text { result.items ≡ bad_text position }
     ensures short { array_vec_len result ≤ LINE_MAX }
 {
     let mut line = Line::new();
     line.extend(b"text error at ");
-    line.push_u64(place);
+    line.push_u64(position);
     line
 }

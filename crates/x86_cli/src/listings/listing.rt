@@ -1,14 +1,15 @@
 //! Listings, line by line.
 
-ghost use Rattle.std.specs.Prelude.{◌≡◌, ◌<◌, ◌≤◌, ◌^◌, [], ◌∷◌, length};
+ghost use Rattle.std.specs.Prelude.{◌≡◌, ℕ, Bool, ◌<◌, ◌≤◌, ◌^◌, length, None};
 ghost use Rattle.arrayvec.specs.ArrayVec.{array_vec_len};
-ghost use Rattle.x86_text.specs.Lines.{refusal_text};
 ghost use Rattle.x86_cli.specs.Listings.Line.{line};
-ghost use Rattle.x86_cli.specs.Listings.Listing.{at_end, listing_at};
+ghost use Rattle.x86_cli.specs.Text.{Text};
+ghost use Rattle.x86_cli.specs.Listings.Listing.{Listing, at_end, at_refusal, listing_at};
+ghost use Rattle.x86_cli.specs.Listings.Step.{IsStep};
 ghost use Rattle.x86_cli.specs.Commands.Run.{RanInWindow, Closes};
 
 use crate::laws::decoder_laws;
-use crate::listings::line::{Lines, text_error};
+use crate::listings::line::{Lines, bad_text};
 use crate::listings::status::Status;
 use crate::outside::sink::{Sink, SinkFailed};
 use crate::outside::source::Source;
@@ -28,7 +29,7 @@ pub fn put_line<K: Sink>(sink: &mut K, text: &mut Line) -> Result<(), SinkFailed
 }
 
 fn refuse<K: Sink>(sink: &mut K, place: u64, error: DecodeError) -> Result<Status, SinkFailed>
-    ensures { Closes K.takes (record { lines = line (refusal_text place error) ∷ []; status = Status.Refused }) result sink.old sink.new }
+    ensures { Closes K.takes (at_refusal place error) result sink.old sink.new }
 {
     let mut text = refusal_of(place, error);
     match put_line(sink, &mut text) {
@@ -53,7 +54,7 @@ pub fn end<K: Sink>(sink: &mut K, ending: Ending) -> Result<Status, SinkFailed>
 {
     match ending {
         Ending::Clean => Ok(Status::Done),
-        Ending::Bad(place) => match put_line(sink, &mut text_error(place)) {
+        Ending::Bad(position) => match put_line(sink, &mut bad_text(position)) {
             Ok(()) => Ok(Status::BadText),
             Err(failed) => Err(failed),
         },
@@ -74,41 +75,98 @@ fn length_of(instruction: &Instruction) -> u64
     instruction.len().to_const()
 }
 
+/// What stands next in a listing: a line, or its end.
+pub enum Step {
+    /// A line, and how many bytes of the image it is of.
+    Line(u64),
+    /// A refusal, which ends the listing.
+    Refused(DecodeError),
+    /// The end of the text.
+    Ended(Ending),
+}
+
+/// How a listing goes through an image.
+pub trait Walk {
+    /// The listing of a text that stands from a place on.
+    ghost lists: { Self → Bool → ℕ → Text → Listing };
+
+    /// What stands next, at a place. A line is written over the one given, without its end.
+    fn next(
+        &self,
+        decoder: &InstDecoder,
+        window: &Window,
+        place: &Place,
+        inst: &mut Instruction,
+        line: &mut Line,
+    ) -> Step
+        requires { window.now.ended ≡ None → array_vec_len window.now.bytes ≡ 15 }
+        ensures next { IsStep (lists self.now decoder.now.strict) result place.now line.new.items window.now.ended window.now.bytes.items window.now.reader.position window.now.reader.room }
+        ensures short { (n : ℕ) → result ≡ Step.Line n → array_vec_len line.new ≤ LINE_MAX };
+}
+
+/// The listing that ends at a refusal, with these lines.
+#[derive(Drop)]
+pub struct UpToRefusal<L: Lines + Drop> {
+    pub lines: L,
+}
+
+impl<L: Lines + Drop> Walk for UpToRefusal<L> {
+    ghost lists = { λ s strict place text. listing_at strict (L.text s.lines strict) place text };
+
+    #[inline(always)]
+    fn next(
+        &self,
+        decoder: &InstDecoder,
+        window: &Window,
+        place: &Place,
+        inst: &mut Instruction,
+        line: &mut Line,
+    ) -> Step {
+        decoder_laws();
+        match window.front(decoder, inst) {
+            Front::Whole(()) => {
+                let length = length_of(inst);
+                let bytes = window.first(length as usize);
+                self.lines.write(decoder, place, inst, bytes, line);
+                Step::Line(length)
+            }
+            Front::Refused(error) => Step::Refused(error),
+            Front::Ended(ending) => Step::Ended(ending),
+        }
+    }
+}
+
 /// Writes the listing of the text that the source gives.
-pub fn list<L: Lines, S: Source, K: Sink>(
+pub fn list<W: Walk, S: Source, K: Sink>(
     decoder: &InstDecoder,
-    lines: &L,
+    walk: &W,
     max: u64,
     source: &mut S,
     sink: &mut K,
 ) -> Status
     requires { max < 2 ^ 62 }
-    ensures { RanInWindow S.gives K.takes (listing_at decoder.now.strict (L.text lines.now decoder.now.strict)) max result source.old source.new sink.old sink.new }
+    ensures { RanInWindow S.gives K.takes (W.lists walk.now decoder.now.strict) max result source.old source.new sink.old sink.new }
 {
-    decoder_laws();
     let mut window = Window::new(max);
     let mut inst = Instruction::invalid();
-    let mut text = Line::new();
+    let mut line = Line::new();
     let mut place = Place::at(0);
     'lines: loop {
         window.refill(source);
-        match window.front(decoder, &mut inst) {
-            Front::Whole(()) => {
-                let length = length_of(&inst);
-                let bytes = window.first(length as usize);
-                lines.write(decoder, &place, &inst, bytes, &mut text);
-                match put_line(sink, &mut text) {
+        match walk.next(decoder, &window, &place, &mut inst, &mut line) {
+            Step::Line(length) => {
+                match put_line(sink, &mut line) {
                     Ok(()) => {}
                     Err(_) => return Status::WriteFault,
                 }
                 window.leave(length as usize);
                 place.advance(length);
             }
-            Front::Refused(error) => match refuse(sink, place.number(), error) {
+            Step::Refused(error) => match refuse(sink, place.number(), error) {
                 Ok(status) => return status,
                 Err(_) => return Status::WriteFault,
             },
-            Front::Ended(ending) => match end(sink, ending) {
+            Step::Ended(ending) => match end(sink, ending) {
                 Ok(status) => return status,
                 Err(_) => return Status::WriteFault,
             },

@@ -1,14 +1,14 @@
 //! How a run ends.
 
 ghost use Rattle.std.specs.Prelude.{◌≡◌};
-ghost use Rattle.x86_cli.specs.Listings.Status.{code_of};
+ghost use Rattle.x86_cli.specs.Listings.Status.{code};
 
 /// How a run ended.
 #[derive(Clone, Copy, PartialEq, Eq, Debug, Drop)]
 pub enum Status {
     /// The text was read to its end, and all that its listing says was written.
     Done,
-    /// The words are no command. Nothing was read or written.
+    /// The arguments are no command. Nothing was read or written.
     Usage,
     /// The listing ended in a refusal.
     Refused,
@@ -25,7 +25,7 @@ pub enum Status {
 impl Status {
     /// The status that the program ends with: 0, 2, 3, 4, 5, 6 and 7 in the order of the variants.
     pub fn code(&self) -> u8
-        ensures { result ≡ code_of self.now }
+        ensures { result ≡ code self.now }
     {
         match self {
             Status::Done => 0,

@@ -1,30 +1,22 @@
-//! Sweeps: listings that go on behind a refusal.
+//! The sweep: a listing that goes on behind a refusal.
 
-ghost use Rattle.std.specs.Prelude.{◌≡◌, ◌≢◌, ◌<◌, ◌≤◌, ◌^◌, None};
+ghost use Rattle.std.specs.Prelude.{◌≡◌, ◌≤◌};
 ghost use Rattle.arrayvec.specs.ArrayVec.{array_vec_len};
-ghost use Rattle.x86_cli.specs.Commands.Run.{RanInWindow};
 ghost use Rattle.x86_layout.specs.Sweeps.Cuts.{cut_length};
 ghost use Rattle.x86_decode.specs.Instruction.{holding};
-ghost use Rattle.x86_cli.specs.Listings.Sweep.{cut_text, sweep_at, ShowsCut};
+ghost use Rattle.x86_cli.specs.Listings.Sweep.{cut_text, sweep_at};
 
 use crate::laws::decoder_laws;
-use crate::listings::listing::{end, put_line};
-use crate::listings::status::Status;
-use crate::outside::sink::Sink;
-use crate::outside::source::Source;
-use crate::text::reader::Ending;
+use crate::listings::listing::{Step, Walk};
 use crate::text::window::Window;
 use x86_decode::{InstDecoder, Instruction};
 use x86_fields::DecodeError;
 use x86_text::{LINE_MAX, Line, Place, write_instruction, write_refusal};
 
-/// The next cut of a sweep. The instruction of a piece stands beside it.
-pub enum Cut {
-    Piece(Result<(), DecodeError>),
-    Ended(Ending),
-}
+/// The listing of `sweep`: a line for each cut.
+pub struct Sweep;
 
-/// Writes the line of a cut at a place over another, without its end.
+/// Writes the line of a cut at a place over another, without its end. The instruction of a cut stands beside its answer.
 fn write_cut(line: &mut Line, place: &Place, inst: &Instruction, answer: Result<(), DecodeError>)
     ensures text { line.new.items ≡ cut_text place.now (holding inst.now answer) }
     ensures short { array_vec_len line.new ≤ LINE_MAX }
@@ -35,7 +27,7 @@ fn write_cut(line: &mut Line, place: &Place, inst: &Instruction, answer: Result<
     }
 }
 
-fn cut_len(inst: &Instruction, answer: Result<(), DecodeError>) -> u64
+fn cut_length(inst: &Instruction, answer: Result<(), DecodeError>) -> u64
     ensures { result ≡ cut_length (holding inst.now answer) }
 {
     match answer {
@@ -44,53 +36,27 @@ fn cut_len(inst: &Instruction, answer: Result<(), DecodeError>) -> u64
     }
 }
 
-/// The next cut. Where it is an instruction, that is written to the one given.
-fn next_cut(window: &Window, decoder: &InstDecoder, inst: &mut Instruction) -> Cut
-    requires { window.now.ended ≡ None → array_vec_len window.now.bytes ≡ 15 }
-    ensures { ShowsCut decoder.now.strict inst.new result window.now.ended window.now.bytes.items window.now.reader.place window.now.reader.room }
-{
-    if !window.bytes.is_empty() {
-        decoder_laws();
-        return Cut::Piece(decoder.decode_slice_into(inst, window.bytes.as_slice()));
-    }
-    match window.ended {
-        Some(ending) => Cut::Ended(ending),
-        None => unreachable!(),
-    }
-}
+impl Walk for Sweep {
+    ghost lists = { λ s strict place text. sweep_at strict place text };
 
-/// Writes the sweep of the text that the source gives.
-pub fn sweep<S: Source, K: Sink>(
-    decoder: &InstDecoder,
-    max: u64,
-    source: &mut S,
-    sink: &mut K,
-) -> Status
-    requires { max < 2 ^ 62 }
-    ensures ran { RanInWindow S.gives K.takes (sweep_at decoder.now.strict) max result source.old source.new sink.old sink.new }
-    ensures unrefused { result ≢ Status.Refused }
-{
-    let mut window = Window::new(max);
-    let mut inst = Instruction::invalid();
-    let mut line = Line::new();
-    let mut place = Place::at(0);
-    'cuts: loop {
-        window.refill(source);
-        match next_cut(&window, decoder, &mut inst) {
-            Cut::Piece(answer) => {
-                write_cut(&mut line, &place, &inst, answer);
-                match put_line(sink, &mut line) {
-                    Ok(()) => {}
-                    Err(_) => return Status::WriteFault,
-                }
-                let length = cut_len(&inst, answer);
-                window.leave(length as usize);
-                place.advance(length);
-            }
-            Cut::Ended(ending) => match end(sink, ending) {
-                Ok(status) => return status,
-                Err(_) => return Status::WriteFault,
-            },
+    #[inline(always)]
+    fn next(
+        &self,
+        decoder: &InstDecoder,
+        window: &Window,
+        place: &Place,
+        inst: &mut Instruction,
+        line: &mut Line,
+    ) -> Step {
+        if !window.bytes.is_empty() {
+            decoder_laws();
+            let answer = decoder.decode_slice_into(inst, window.bytes.as_slice());
+            write_cut(line, place, inst, answer);
+            return Step::Line(cut_length(inst, answer));
+        }
+        match window.ended {
+            Some(ending) => Step::Ended(ending),
+            None => unreachable!(),
         }
     }
 }

@@ -51,7 +51,7 @@ fn mark(decoder: &InstDecoder, image: &[u8], marks: &mut [bool; IMAGE_MAX])
     mark_targets(decoder, image, &mut marks[..image.len()]);
 }
 
-fn place_line(place: u64) -> Line
+fn decimal(place: u64) -> Line
     ensures text { result.items ≡ decimal place }
     ensures short { array_vec_len result ≤ LINE_MAX }
 {
@@ -66,7 +66,7 @@ fn put_if_marked<K: Sink>(sink: &mut K, marked: bool, place: u64) -> Result<(), 
     ensures failed { IfErr result (λ e. (marked ≡ true) × K.takes sink.old (place_line place) (Err e) sink.new) }
 {
     if marked {
-        let mut line = place_line(place);
+        let mut line = decimal(place);
         put_line(sink, &mut line)
     } else {
         Ok(())

@@ -11,6 +11,7 @@ use x86_layout::shortest_length;
 use x86_text::{LINE_MAX, Line, Place};
 
 /// The lines of `tighten`, which show how short each encoding could be.
+#[derive(Clone, Copy, Drop)]
 pub struct LeastLines;
 
 impl Lines for LeastLines {

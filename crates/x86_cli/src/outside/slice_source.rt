@@ -12,10 +12,10 @@ use crate::outside::source::{Got, Source};
 pub struct SliceSource<'a> {
     bytes: &'a [u8],
     fails: &'a [u64],
-    place: usize,
+    position: usize,
     call: u64,
     faults: u64,
-    ghost in_range: { place ≤ length bytes.now },
+    ghost in_range: { position ≤ length bytes.now },
 }
 
 impl<'a> SliceSource<'a> {
@@ -31,7 +31,7 @@ impl<'a> SliceSource<'a> {
         SliceSource {
             bytes,
             fails,
-            place: 0,
+            position: 0,
             call: 0,
             faults: 0,
         }
@@ -55,12 +55,12 @@ impl<'a> SliceSource<'a> {
 impl<'a> Source for SliceSource<'a> {
     ghost use Rattle.x86_cli.specs.Outside.Seen.{slice_call, slice_fails};
 
-    ghost left = { λ s. Some (drop s.place s.bytes.now) };
+    ghost left = { λ s. Some (drop s.position s.bytes.now) };
 
     ghost faults = { λ s. s.faults };
 
-    ghost gives = { λ s g t. TellsGot g (Some (drop s.place s.bytes.now)) (Some (drop t.place t.bytes.now)) s.faults t.faults
-        × ByNumber g (drop s.place s.bytes.now) (slice_call s) (slice_call t) (slice_fails s) (slice_fails t) };
+    ghost gives = { λ s g t. TellsGot g (Some (drop s.position s.bytes.now)) (Some (drop t.position t.bytes.now)) s.faults t.faults
+        × ByNumber g (drop s.position s.bytes.now) (slice_call s) (slice_call t) (slice_fails s) (slice_fails t) };
 
     ghost tells = { λ s g t h. h.0 };
 
@@ -71,9 +71,9 @@ impl<'a> Source for SliceSource<'a> {
             self.faults = self.faults.saturating_add(1);
             return Got::Failed;
         }
-        if self.place < self.bytes.len() {
-            let byte = self.bytes[self.place];
-            self.place += 1;
+        if self.position < self.bytes.len() {
+            let byte = self.bytes[self.position];
+            self.position += 1;
             Got::Byte(byte)
         } else {
             Got::End

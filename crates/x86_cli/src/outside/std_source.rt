@@ -17,11 +17,11 @@ const BUFFER: usize = 65536;
 pub struct StdSource<R: Read + Drop> {
     reader: R,
     buffer: [u8; BUFFER],
-    place: usize,
+    position: usize,
     filled: usize,
     faults: u64,
     ghost in_range: { filled ≤ 65536 },
-    ghost in_order: { place ≤ filled },
+    ghost in_order: { position ≤ filled },
 }
 
 impl<R: Read + Drop> StdSource<R> {
@@ -33,7 +33,7 @@ impl<R: Read + Drop> StdSource<R> {
         StdSource {
             reader,
             buffer: [0; BUFFER],
-            place: 0,
+            position: 0,
             filled: 0,
             faults: 0,
         }
@@ -60,15 +60,15 @@ impl<R: Read + Drop> StdSource<R> {
     #[cold]
     #[inline(never)]
     fn refill(&mut self) -> Refill
-        requires { self.old.place ≡ self.old.filled }
-        ensures told { TellsRefill result (prepend_known (slice_range self.old.buffer self.old.place self.old.filled) (R.remaining self.old.reader))
-            (prepend_known (slice_range self.new.buffer self.new.place self.new.filled) (R.remaining self.new.reader)) self.old.faults self.new.faults }
-        ensures some { result ≡ Refill.Bytes → self.new.place < self.new.filled }
+        requires { self.old.position ≡ self.old.filled }
+        ensures told { TellsRefill result (prepend_known (slice_range self.old.buffer self.old.position self.old.filled) (R.remaining self.old.reader))
+            (prepend_known (slice_range self.new.buffer self.new.position self.new.filled) (R.remaining self.new.reader)) self.old.faults self.new.faults }
+        ensures some { result ≡ Refill.Bytes → self.new.position < self.new.filled }
     {
         match self.reader.read(&mut self.buffer) {
             Ok(0) => Refill::Nothing,
             Ok(count) => {
-                self.place = 0;
+                self.position = 0;
                 self.filled = count;
                 Refill::Bytes
             }
@@ -82,28 +82,28 @@ impl<R: Read + Drop> StdSource<R> {
     /// Takes the first byte that is buffered.
     #[inline(always)]
     fn take(&mut self) -> u8
-        requires { self.old.place < self.old.filled }
-        ensures { TellsGot (Got.Byte result) (prepend_known (slice_range self.old.buffer self.old.place self.old.filled) (R.remaining self.old.reader))
-            (prepend_known (slice_range self.new.buffer self.new.place self.new.filled) (R.remaining self.new.reader)) self.old.faults self.new.faults }
+        requires { self.old.position < self.old.filled }
+        ensures { TellsGot (Got.Byte result) (prepend_known (slice_range self.old.buffer self.old.position self.old.filled) (R.remaining self.old.reader))
+            (prepend_known (slice_range self.new.buffer self.new.position self.new.filled) (R.remaining self.new.reader)) self.old.faults self.new.faults }
     {
-        let byte = self.buffer[self.place];
-        self.place += 1;
+        let byte = self.buffer[self.position];
+        self.position += 1;
         byte
     }
 }
 
 impl<R: Read + Drop> Source for StdSource<R> {
-    ghost left = { λ s. prepend_known (slice_range s.buffer s.place s.filled) (R.remaining s.reader) };
+    ghost left = { λ s. prepend_known (slice_range s.buffer s.position s.filled) (R.remaining s.reader) };
 
     ghost faults = { λ s. s.faults };
 
-    ghost gives = { λ s g t. TellsGot g (prepend_known (slice_range s.buffer s.place s.filled) (R.remaining s.reader)) (prepend_known (slice_range t.buffer t.place t.filled) (R.remaining t.reader)) s.faults t.faults };
+    ghost gives = { λ s g t. TellsGot g (prepend_known (slice_range s.buffer s.position s.filled) (R.remaining s.reader)) (prepend_known (slice_range t.buffer t.position t.filled) (R.remaining t.reader)) s.faults t.faults };
 
     ghost tells = { λ s g t h. h };
 
     #[inline(always)]
     fn next(&mut self) -> Got {
-        if self.place == self.filled {
+        if self.position == self.filled {
             match self.refill() {
                 Refill::Bytes => {}
                 Refill::Nothing => return Got::End,

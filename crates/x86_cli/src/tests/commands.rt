@@ -4,10 +4,10 @@ use crate::commands::command::{TARGETS_MAX, USAGE, run};
 use crate::listings::status::Status;
 use crate::outside::array_sink::ArraySink;
 use crate::outside::sound_source::SoundSource;
-use crate::tests::support::{Repeated, ends_with, is_usage, runs, words};
+use crate::tests::support::{Repeated, arguments, ends_with, is_usage, runs};
 
 #[test]
-fn words_matched_whole(rt: HostRuntime) {
+fn arguments_matched_whole(rt: HostRuntime) {
     assert!(&rt; is_usage(rt.alloc(), &[]));
     assert!(&rt; is_usage(rt.alloc(), &["List"]));
     assert!(&rt; is_usage(rt.alloc(), &["list", "strict"]));
@@ -143,11 +143,11 @@ fn failing_targets(rt: HostRuntime) {
             Status::ReadFault
         )
     );
-    let Ok(words) = words(rt.alloc(), &["targets"]) else {
+    let Ok(arguments) = arguments(rt.alloc(), &["targets"]) else {
         return;
     };
     let mut sink = ArraySink::<64>::new(1);
     let mut source = SoundSource::new(b"74 01 06 eb fb 90");
-    assert!(&rt; run(words.as_slice(), &mut source, &mut sink) == Status::WriteFault);
+    assert!(&rt; run(arguments.as_slice(), &mut source, &mut sink) == Status::WriteFault);
     assert!(&rt; sink.written() == b"0\n".as_slice());
 }

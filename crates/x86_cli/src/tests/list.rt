@@ -65,8 +65,8 @@ fn choices(rt: HostRuntime) {
     let fence: &[u8] = b"0f ae e9";
     assert!(&rt; lists(rt.alloc(), fence, b"0 3 LFENCE m0\n", Status::Done));
     let refused: &[u8] = b"0 error: invalid operand\n";
-    let words: &[&str] = &["list", "--strict"];
-    assert!(&rt; runs(rt.alloc(), words, fence, &[], refused, Status::Refused));
+    let arguments: &[&str] = &["list", "--strict"];
+    assert!(&rt; runs(rt.alloc(), arguments, fence, &[], refused, Status::Refused));
 }
 
 #[test]

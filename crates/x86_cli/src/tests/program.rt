@@ -2,7 +2,7 @@
 
 use crate::commands::program::listed;
 use crate::listings::status::Status;
-use crate::tests::support::words;
+use crate::tests::support::arguments;
 use std::alloc::{AllocError, Global};
 use std::io;
 use std::io::{ErrorKind, Read, Write};
@@ -82,8 +82,8 @@ fn long_text(alloc: Global, pairs: u64, singles: u64) -> Result<(Vec<u8>, String
 
 /// Whether a long text is listed whole, byte for byte, in writes of at most so many bytes.
 fn lists_whole(alloc: Global, pairs: u64, singles: u64, most: usize) -> bool {
-    let (Ok(words), Ok((text, listing))) = (
-        words(alloc, &["list"]),
+    let (Ok(arguments), Ok((text, listing))) = (
+        arguments(alloc, &["list"]),
         long_text(alloc, pairs, singles),
     ) else {
         return true;
@@ -94,7 +94,7 @@ fn lists_whole(alloc: Global, pairs: u64, singles: u64, most: usize) -> bool {
         write: 0,
         flushes: true,
     };
-    let (status, writer) = listed(words.as_slice(), text.as_slice(), writer);
+    let (status, writer) = listed(arguments.as_slice(), text.as_slice(), writer);
     status == Status::Done && writer.kept.as_slice() == listing.as_bytes()
 }
 
@@ -109,7 +109,7 @@ fn long_outputs(rt: HostRuntime) {
 
 /// Whether the listing of a text, whose read with a number fails, is written and ends so.
 fn fails_at(alloc: Global, fails: u64, error: ErrorKind, written: &[u8], status: Status) -> bool {
-    let Ok(words) = words(alloc, &["list"]) else {
+    let Ok(arguments) = arguments(alloc, &["list"]) else {
         return true;
     };
     let reader = OneByOne {
@@ -118,7 +118,7 @@ fn fails_at(alloc: Global, fails: u64, error: ErrorKind, written: &[u8], status:
         fails,
         error,
     };
-    let (ended, writer) = listed(words.as_slice(), reader, Vec::new(alloc));
+    let (ended, writer) = listed(arguments.as_slice(), reader, Vec::new(alloc));
     ended == status && writer.as_slice() == written
 }
 
@@ -167,7 +167,7 @@ fn readers_that_fail(rt: HostRuntime) {
 
 #[test]
 fn flushes_that_fail(rt: HostRuntime) {
-    let Ok(words) = words(rt.alloc(), &["list"]) else {
+    let Ok(arguments) = arguments(rt.alloc(), &["list"]) else {
         return;
     };
     let writer = Short {
@@ -177,17 +177,17 @@ fn flushes_that_fail(rt: HostRuntime) {
         flushes: false,
     };
     let text: &[u8] = b"90";
-    let (status, writer) = listed(words.as_slice(), text, writer);
+    let (status, writer) = listed(arguments.as_slice(), text, writer);
     assert!(&rt; status == Status::WriteFault && status.code() == 6);
     assert!(&rt; writer.kept.as_slice() == b"0 1 NOP m0\n".as_slice());
 }
 
-/// Whether the words over a text write this and end with this code.
+/// Whether the arguments over a text write this and end with this code.
 fn ends(alloc: Global, texts: &[&str], text: &[u8], written: &[u8], code: u8) -> bool {
-    let Ok(words) = words(alloc, texts) else {
+    let Ok(arguments) = arguments(alloc, texts) else {
         return true;
     };
-    let (status, writer) = listed(words.as_slice(), text, Vec::new(alloc));
+    let (status, writer) = listed(arguments.as_slice(), text, Vec::new(alloc));
     status.code() == code && writer.as_slice() == written
 }
 

@@ -9,7 +9,7 @@ use crate::outside::sink::Sink;
 use crate::outside::sound_source::SoundSource;
 use crate::outside::std_sink::StdSink;
 use crate::outside::std_source::StdSource;
-use crate::tests::support::{runs, words};
+use crate::tests::support::{arguments, runs};
 use std::alloc::Global;
 use std::io;
 use std::io::{ErrorKind, Read, Write};
@@ -130,34 +130,46 @@ fn sources_that_fail_between_instructions_of_one_byte(rt: HostRuntime) {
 }
 
 /// Whether a run whose put with a number fails writes this and ends so.
-fn stops_at(words: &[String], fails: u64, written: &[u8], status: Status) -> bool {
+fn stops_at(arguments: &[String], fails: u64, written: &[u8], status: Status) -> bool {
     let mut sink = ArraySink::<64>::new(fails);
-    run(words, &mut SoundSource::new(b"01 d8 01 d8"), &mut sink) == status
+    run(arguments, &mut SoundSource::new(b"01 d8 01 d8"), &mut sink) == status
         && sink.written() == written
 }
 
 #[test]
 fn failing_sinks(rt: HostRuntime) {
-    let Ok(words) = words(rt.alloc(), &["list"]) else {
+    let Ok(arguments) = arguments(rt.alloc(), &["list"]) else {
         return;
     };
-    let words = words.as_slice();
+    let arguments = arguments.as_slice();
     let mut small = ArraySink::<5>::new(u64::MAX);
-    assert!(&rt; run(words, &mut SoundSource::new(b"01 d8"), &mut small) == Status::WriteFault);
+    assert!(&rt; run(arguments, &mut SoundSource::new(b"01 d8"), &mut small) == Status::WriteFault);
     assert!(&rt; small.written() == b"0 2 A".as_slice());
     let mut between = ArraySink::<24>::new(u64::MAX);
     assert!(&rt;
-        run(words, &mut SoundSource::new(b"01 d8 01 d8"), &mut between) == Status::WriteFault
+        run(
+            arguments,
+            &mut SoundSource::new(b"01 d8 01 d8"),
+            &mut between
+        ) == Status::WriteFault
     );
     assert!(&rt; between.written() == b"0 2 ADD eax, ebx m4\n2 2 ".as_slice());
     let mut narrow = ArraySink::<15>::new(u64::MAX);
-    assert!(&rt; run(words, &mut SoundSource::new(b"90 90"), &mut narrow) == Status::WriteFault);
+    assert!(&rt;
+        run(arguments, &mut SoundSource::new(b"90 90"), &mut narrow) == Status::WriteFault
+    );
     assert!(&rt; narrow.written() == b"0 1 NOP m0\n1 1 ".as_slice());
-    assert!(&rt; stops_at(words, 0, b"", Status::WriteFault));
-    assert!(&rt; stops_at(words, 1, b"0 2 ADD eax, ebx m4\n", Status::WriteFault));
+    assert!(&rt; stops_at(arguments, 0, b"", Status::WriteFault));
+    assert!(&rt; stops_at(arguments, 1, b"0 2 ADD eax, ebx m4\n", Status::WriteFault));
     let both: &[u8] = b"0 2 ADD eax, ebx m4\n2 2 ADD eax, ebx m4\n";
-    assert!(&rt; stops_at(words, 2, both, Status::Done));
-    assert!(&rt; run(words, &mut SoundSource::new(b"01 d8"), &mut NullSink::new()) == Status::Done);
+    assert!(&rt; stops_at(arguments, 2, both, Status::Done));
+    assert!(&rt;
+        run(
+            arguments,
+            &mut SoundSource::new(b"01 d8"),
+            &mut NullSink::new()
+        ) == Status::Done
+    );
 }
 
 /// Gives its bytes in two reads, and fails at the third.
@@ -200,16 +212,16 @@ impl Write for NarrowWriter {
 
 #[test]
 fn real_streams(rt: HostRuntime) {
-    let Ok(words) = words(rt.alloc(), &["list"]) else {
+    let Ok(arguments) = arguments(rt.alloc(), &["list"]) else {
         return;
     };
-    let words = words.as_slice();
+    let arguments = arguments.as_slice();
     let text: &[u8] = b"01 d8 01 d8";
     let mut written = [0; 40];
     {
         let mut room: &mut [u8] = &mut written;
         let mut sink = StdSink::new(&mut room);
-        assert!(&rt; run(words, &mut StdSource::new(text), &mut sink) == Status::Done);
+        assert!(&rt; run(arguments, &mut StdSource::new(text), &mut sink) == Status::Done);
         assert!(&rt; sink.faults() == 0);
     }
     assert!(&rt; written.as_slice() == b"0 2 ADD eax, ebx m4\n2 2 ADD eax, ebx m4\n".as_slice());
@@ -217,14 +229,14 @@ fn real_streams(rt: HostRuntime) {
         bytes: text,
         reads: 0,
     });
-    assert!(&rt; run(words, &mut source, &mut NullSink::new()) == Status::ReadFault);
+    assert!(&rt; run(arguments, &mut source, &mut NullSink::new()) == Status::ReadFault);
     assert!(&rt; source.faults() == 1);
     let mut narrow = StdSink::new(NarrowWriter { room: 30 });
-    assert!(&rt; run(words, &mut StdSource::new(text), &mut narrow) == Status::WriteFault);
+    assert!(&rt; run(arguments, &mut StdSource::new(text), &mut narrow) == Status::WriteFault);
     assert!(&rt; narrow.faults() == 1);
     let mut gathered = Gathered::new(NarrowWriter { room: 30 });
     let status = run(
-        words,
+        arguments,
         &mut StdSource::new(text),
         &mut StdSink::new(&mut gathered),
     );

@@ -12,15 +12,15 @@ use crate::outside::slice_source::SliceSource;
 use crate::outside::source::{Got, Source};
 use std::alloc::{AllocError, Global};
 
-pub fn words(alloc: Global, texts: &[&str]) -> Result<Vec<String>, AllocError> {
-    let mut words = Vec::new(alloc);
+pub fn arguments(alloc: Global, texts: &[&str]) -> Result<Vec<String>, AllocError> {
+    let mut arguments = Vec::new(alloc);
     for text in texts {
-        words.push(String::from_str(alloc, text)?)?;
+        arguments.push(String::from_str(alloc, text)?)?;
     }
-    Ok(words)
+    Ok(arguments)
 }
 
-/// Whether a run over the text, some of whose calls fail, writes this and ends so. The words are collected before the
+/// Whether a run over the text, some of whose calls fail, writes this and ends so. The arguments are collected before the
 /// run, so a refused allocation is told here, and never changes an answer.
 pub fn runs(
     alloc: Global,
@@ -30,12 +30,12 @@ pub fn runs(
     written: &[u8],
     status: Status,
 ) -> bool {
-    let Ok(words) = words(alloc, texts) else {
+    let Ok(arguments) = arguments(alloc, texts) else {
         return true;
     };
     let mut source = SliceSource::new(text, fails);
     let mut sink = ArraySink::<256>::new(u64::MAX);
-    run(words.as_slice(), &mut source, &mut sink) == status && sink.written() == written
+    run(arguments.as_slice(), &mut source, &mut sink) == status && sink.written() == written
 }
 
 pub fn lists(alloc: Global, text: &[u8], written: &[u8], status: Status) -> bool {
@@ -128,7 +128,7 @@ pub fn ends_with(
     last: &[u8],
     status: Status,
 ) -> bool {
-    let Ok(words) = words(alloc, &[command]) else {
+    let Ok(arguments) = arguments(alloc, &[command]) else {
         return true;
     };
     let mut sink = LastPiece {
@@ -136,7 +136,7 @@ pub fn ends_with(
         is_wanted: pieces == 0,
         pieces: 0,
     };
-    run(words.as_slice(), &mut source, &mut sink) == status
+    run(arguments.as_slice(), &mut source, &mut sink) == status
         && sink.pieces == pieces
         && sink.is_wanted
 }

@@ -24,11 +24,11 @@ pub enum Piece {
     Stopped(Ending),
 }
 
-/// Where in a text the reader stands, and the place up to which it may take bytes. What contracts see of it is its
-/// place and how many bytes it may still take.
+/// Where in a text the reader stands, and the position up to which it may take bytes. What contracts see of it is its
+/// position and how many bytes it may still take.
 #[derive(Clone, Copy, Drop)]
 pub struct TextReader {
-    place: u64,
+    position: u64,
     end: u64,
 }
 
@@ -39,31 +39,34 @@ impl Model for TextReader {
 
     ghost Value = { Reader };
 
-    ghost view = { λ r. record { place = r.place; room = r.end - r.place } };
+    ghost view = { λ r. record { position = r.position; room = r.end - r.position } };
 
-    ghost invariant = { λ r. r.place ≤ r.end };
+    ghost invariant = { λ r. r.position ≤ r.end };
 
-    ghost inverse = { λ s. record { place = s.place; end = s.place + s.room } };
+    ghost inverse = { λ s. record { position = s.position; end = s.position + s.room } };
 
-    ghost inverse_ok = { λ r h. ap (λ (e : ℕ). record { place = r.place; end = e }) (omega (arith, h)) };
+    ghost inverse_ok = { λ r h. ap (λ (e : ℕ). record { position = r.position; end = e }) (omega (arith, h)) };
 }
 
 impl TextReader {
     /// A reader of a text of at most `max` bytes.
     pub fn new(max: u64) -> TextReader
-        ensures place { result.place ≡ 0 }
+        ensures position { result.position ≡ 0 }
         ensures room { result.room ≡ max }
     {
-        TextReader { place: 0, end: max }
+        TextReader {
+            position: 0,
+            end: max,
+        }
     }
 
     #[inline(always)]
     fn advance(&mut self)
         requires { 0 < self.old.room }
-        ensures place { self.new.place ≡ self.old.place + 1 }
+        ensures position { self.new.position ≡ self.old.position + 1 }
         ensures room { self.new.room + 1 ≡ self.old.room }
     {
-        self.place += 1;
+        self.position += 1;
     }
 
     /// Whether no further byte may be taken.
@@ -72,28 +75,28 @@ impl TextReader {
         ensures at_end { result ≡ true → self.now.room ≡ 0 }
         ensures before { result ≡ false → 0 < self.now.room }
     {
-        self.place == self.end
+        self.position == self.end
     }
 
     #[inline(always)]
-    fn place(&self) -> u64
-        ensures { result ≡ self.now.place }
+    fn position(&self) -> u64
+        ensures { result ≡ self.now.position }
     {
-        self.place
+        self.position
     }
 
     /// Reads on behind the first digit of a pair.
     #[inline(always)]
     fn second<S: Source>(&mut self, source: &mut S, high: u8) -> Piece
         requires { high < 16 }
-        // Behind a digit x at the place before, it tells the text of x and what follows.
-        ensures reads { (place room x : ℕ) (before : S) → self.old.place ≡ place + 1 → room ≡ self.old.room + 1
+        // Behind a digit x at the position before, it tells the text of x and what follows.
+        ensures reads { (position room x : ℕ) (before : S) → self.old.position ≡ position + 1 → room ≡ self.old.room + 1
             → is_blank x ≡ false → value_of x ≡ Some high → S.gives before (Got.Byte x) source.old
-            → Reads S.gives result place room self.new.place self.new.room before source.new }
+            → Reads S.gives result position room self.new.position self.new.room before source.new }
         ensures uses { UsesRoom result (self.old.room + 1) self.new.room }
     {
         match source.next() {
-            Got::End => Piece::Stopped(Ending::Bad(self.place())),
+            Got::End => Piece::Stopped(Ending::Bad(self.position())),
             Got::Failed => Piece::Stopped(Ending::Fault),
             Got::Byte(byte) => {
                 if self.is_at_end() {
@@ -104,7 +107,7 @@ impl TextReader {
                         self.advance();
                         Piece::Byte(16 * high + low)
                     }
-                    Kind::Blank | Kind::Other => Piece::Stopped(Ending::Bad(self.place())),
+                    Kind::Blank | Kind::Other => Piece::Stopped(Ending::Bad(self.position())),
                 }
             }
         }
@@ -113,7 +116,7 @@ impl TextReader {
     /// Takes bytes up to the next pair, or the end of the text.
     #[inline(always)]
     pub fn next<S: Source>(&mut self, source: &mut S) -> Piece
-        ensures reads { Reads S.gives result self.old.place self.old.room self.new.place self.new.room source.old source.new }
+        ensures reads { Reads S.gives result self.old.position self.old.room self.new.position self.new.room source.old source.new }
         ensures uses { UsesRoom result self.old.room self.new.room }
     {
         loop {
@@ -130,7 +133,7 @@ impl TextReader {
                             return self.second(source, high);
                         }
                         Kind::Blank => self.advance(),
-                        Kind::Other => return Piece::Stopped(Ending::Bad(self.place())),
+                        Kind::Other => return Piece::Stopped(Ending::Bad(self.position())),
                     }
                 }
             }

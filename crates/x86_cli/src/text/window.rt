@@ -24,7 +24,7 @@ pub enum Front<I> {
     Ended(Ending),
 }
 
-fn sure(answer: Result<(), DecodeError>) -> Front<()>
+fn sure_of(answer: Result<(), DecodeError>) -> Front<()>
     ensures { (i : Instruction) → front_with i result ≡ sure_of (holding i answer) }
 {
     match answer {
@@ -33,14 +33,14 @@ fn sure(answer: Result<(), DecodeError>) -> Front<()>
     }
 }
 
-fn judge(answer: Result<(), DecodeError>, ending: Ending) -> Front<()>
+fn judged(answer: Result<(), DecodeError>, ending: Ending) -> Front<()>
     ensures { (i : Instruction) → front_with i result ≡ judged (holding i answer) ending }
 {
     match answer {
         Ok(()) => Front::Whole(()),
         Err(DecodeError::ExhaustedInput) => match ending {
             Ending::Clean => Front::Refused(DecodeError::ExhaustedInput),
-            Ending::Bad(place) => Front::Ended(Ending::Bad(place)),
+            Ending::Bad(position) => Front::Ended(Ending::Bad(position)),
             Ending::Large => Front::Ended(Ending::Large),
             Ending::Fault => Front::Ended(Ending::Fault),
         },
@@ -59,7 +59,7 @@ pub struct Window {
 impl Window {
     pub fn new(max: u64) -> Window
         ensures bytes { result.bytes.items ≡ [] }
-        ensures place { result.reader.place ≡ 0 }
+        ensures position { result.reader.position ≡ 0 }
         ensures room { result.reader.room ≡ max }
         ensures ended { result.ended ≡ None }
     {
@@ -73,13 +73,13 @@ impl Window {
     /// Takes bytes of the image until the window is full or the text has ended.
     pub fn fill<S: Source>(&mut self, source: &mut S)
         requires { self.old.ended ≡ None }
-        ensures fills { Fills S.gives (rest_of None self.old.bytes.items self.old.reader.place self.old.reader.room)
-            self.new.ended self.new.bytes.items self.new.reader.place self.new.reader.room source.old source.new }
+        ensures fills { Fills S.gives (rest_of None self.old.bytes.items self.old.reader.position self.old.reader.room)
+            self.new.ended self.new.bytes.items self.new.reader.position self.new.reader.room source.old source.new }
         ensures few { array_vec_len self.new.bytes ≤ 15 }
         ensures full { self.new.ended ≡ None → array_vec_len self.new.bytes ≡ 15 }
         ensures uses { array_vec_len self.new.bytes + self.new.reader.room ≤ array_vec_len self.old.bytes + self.old.reader.room }
     {
-        // The reader is a local value meanwhile, so that its place need not go to memory at each byte.
+        // The reader is a local value meanwhile, so that its position need not go to memory at each byte.
         let mut reader = self.reader;
         while !self.bytes.is_full() {
             match reader.next(source) {
@@ -97,8 +97,8 @@ impl Window {
     /// The same, where the text may have ended.
     pub fn refill<S: Source>(&mut self, source: &mut S)
         ensures cases { MatchOption self.old.ended
-            (Fills S.gives (rest_of None self.old.bytes.items self.old.reader.place self.old.reader.room)
-            self.new.ended self.new.bytes.items self.new.reader.place self.new.reader.room source.old source.new)
+            (Fills S.gives (rest_of None self.old.bytes.items self.old.reader.position self.old.reader.room)
+            self.new.ended self.new.bytes.items self.new.reader.position self.new.reader.room source.old source.new)
             (λ e. (self.new ≡ self.old) × (source.new ≡ source.old)) }
         ensures full { self.new.ended ≡ None → array_vec_len self.new.bytes ≡ 15 }
         ensures few { array_vec_len self.old.bytes ≤ 15 → array_vec_len self.new.bytes ≤ 15 }
@@ -114,19 +114,19 @@ impl Window {
     pub fn front(&self, decoder: &InstDecoder, inst: &mut Instruction) -> Front<()>
         requires { self.now.ended ≡ None → array_vec_len self.now.bytes ≡ 15 }
         ensures rest { (xs : List ℕ) (stop : Stop) →
-            let rest = rest_of self.now.ended self.now.bytes.items self.now.reader.place self.now.reader.room xs stop in
+            let rest = rest_of self.now.ended self.now.bytes.items self.now.reader.position self.now.reader.room xs stop in
             front_of decoder.now.strict rest.image rest.ending ≡ front_with inst.new result }
         ensures shows { Shows decoder.now.strict (front_with inst.new result) self.now.ended self.now.bytes.items }
     {
         decoder_laws();
         let answer = decoder.decode_slice_into(inst, self.bytes.as_slice());
         match self.ended {
-            None => sure(answer),
+            None => sure_of(answer),
             Some(ending) => {
                 if self.bytes.is_empty() {
                     Front::Ended(ending)
                 } else {
-                    judge(answer, ending)
+                    judged(answer, ending)
                 }
             }
         }

@@ -12,15 +12,15 @@ two (x ∷ []) a b l m e f = absurd (omega arith)
 two (x ∷ y ∷ z ∷ xs) a b l m e f = absurd (omega arith)
 
 -- the second word is the count
-found : (words : List (List ℕ)) (first word : List ℕ) (r : Option ℕ) → words ≡ first ∷ word ∷ [] → first ≡ codes "make" → IfSome r (λ n. (1 ≤ n) × (n ≤ make_max) × (word ≡ decimal n)) → IfSome r (IsMake words)
-found words first word None e m h = tt
-found words first word (Some n) e m h = record { matched = e ∙ ap (λ w. w ∷ word ∷ []) m ∙ ap (λ w. codes "make" ∷ w ∷ []) h.2; least = h.0; most = h.1 }
+found : (arguments : List (List ℕ)) (first word : List ℕ) (r : Option ℕ) → arguments ≡ first ∷ word ∷ [] → first ≡ codes "make" → IfSome r (λ n. (1 ≤ n) × (n ≤ make_max) × (word ≡ decimal n)) → IfSome r (IsMake arguments)
+found arguments first word None e m h = tt
+found arguments first word (Some n) e m h = record { matched = e ∙ ap (λ w. w ∷ word ∷ []) m ∙ ap (λ w. codes "make" ∷ w ∷ []) h.2; least = h.0; most = h.1 }
 
 pub returns-in-len2-clause-found : goal.returns-in-len2-clause-found
 returns-in-len2-clause-found c =
-    let words : List (List ℕ) = map string_bytes c.args.words.now in
-    let two : words ≡ string_bytes c.make-item.result ∷ string_bytes c.count-item.result ∷ [] = ap (map string_bytes) (two c.args.words.now c.make-item.result c.count-item.result (omega arith) (omega arith) c.make-item.is c.count-item.is) in
+    let arguments : List (List ℕ) = map string_bytes c.args.arguments.now in
+    let two : arguments ≡ string_bytes c.make-item.result ∷ string_bytes c.count-item.result ∷ [] = ap (map string_bytes) (two c.args.arguments.now c.make-item.result c.count-item.result (omega arith) (omega arith) c.make-item.is c.count-item.is) in
     let make : string_bytes c.make-item.result ≡ codes "make" = sym c.as_str.ensures.value ∙ same_text c.as_str.result.now (codes "make") c.if-eq.ensures in
-    found words (string_bytes c.make-item.result) (string_bytes c.count-item.result) c.count_from.result two make
+    found arguments (string_bytes c.make-item.result) (string_bytes c.count-item.result) c.count_from.result two make
     (let given : IfSome c.count_from.result (λ n. (1 ≤ n) × (n ≤ make_max) × (c.as_str-in-len2.result.now ≡ decimal n)) = c.count_from.ensures.found in
     subst (λ w. IfSome c.count_from.result (λ n. (1 ≤ n) × (n ≤ make_max) × (w ≡ decimal n))) c.as_str-in-len2.ensures.value given)

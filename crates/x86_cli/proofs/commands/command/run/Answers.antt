@@ -11,29 +11,29 @@ no_command a b c same is none = let e : Some c ≡ None = sym is ∙ same ∙ no
 pub returns-in-Some-clause-usage : goal.returns-in-Some-clause-usage
 returns-in-Some-clause-usage g c =
     let used : c.obey.result ≢ Usage = ran_used g.S.Source.gives g.K.Sink.takes c.in-Some.command _ _ _ _ _ _ c.obey.ensures.ran.0 in
-    (λ e. absurd (used e), λ no. absurd (no_command _ _ _ c.command_from.ensures c.in-Some.is no.0))
+    (λ e. absurd (used e), λ no. absurd (no_command _ _ _ c.command_of.ensures c.in-Some.is no.0))
 
 pub returns-in-Some-clause-reads_nothing : goal.returns-in-Some-clause-reads_nothing
-returns-in-Some-clause-reads_nothing g c none = absurd (no_command _ _ _ c.command_from.ensures c.in-Some.is none)
+returns-in-Some-clause-reads_nothing g c none = absurd (no_command _ _ _ c.command_of.ensures c.in-Some.is none)
 
 pub returns-in-Some-clause-writes_nothing : goal.returns-in-Some-clause-writes_nothing
 returns-in-Some-clause-writes_nothing g c e = absurd (ran_used g.S.Source.gives g.K.Sink.takes c.in-Some.command _ _ _ _ _ _ c.obey.ensures.ran.0 e)
 
 pub returns-in-Some-clause-says : goal.returns-in-Some-clause-says
 returns-in-Some-clause-says g c =
-    rw (sym c.command_from.ensures ∙ c.in-Some.is)
+    rw (sym c.command_of.ensures ∙ c.in-Some.is)
     (ran_says g.S.Source.gives g.K.Sink.takes g.S.Source.left g.S.Source.faults g.K.Sink.written g.K.Sink.faults g.met.S.Source.tells g.met.K.Sink.tells
     c.decoder_laws.ensures c.in-Some.command _ _ _ _ _ c.obey.ensures.ran.0)
 
 pub returns-in-Some-clause-exact : goal.returns-in-Some-clause-exact
 returns-in-Some-clause-exact g c =
-    rw (sym c.command_from.ensures ∙ c.in-Some.is) (exact c.in-Some.command _ _ _
+    rw (sym c.command_of.ensures ∙ c.in-Some.is) (exact c.in-Some.command _ _ _
     (ran_says g.S.Source.gives g.K.Sink.takes g.S.Source.left g.S.Source.faults g.K.Sink.written g.K.Sink.faults g.met.S.Source.tells g.met.K.Sink.tells
     c.decoder_laws.ensures c.in-Some.command _ _ _ _ _ c.obey.ensures.ran.0))
 
 pub returns-in-Some-clause-read_fault : goal.returns-in-Some-clause-read_fault
 returns-in-Some-clause-read_fault g c =
-    rw (sym c.command_from.ensures ∙ c.in-Some.is) (has_read_fault c.in-Some.command _ _ _
+    rw (sym c.command_of.ensures ∙ c.in-Some.is) (has_read_fault c.in-Some.command _ _ _
     (ran_says g.S.Source.gives g.K.Sink.takes g.S.Source.left g.S.Source.faults g.K.Sink.written g.K.Sink.faults g.met.S.Source.tells g.met.K.Sink.tells
     c.decoder_laws.ensures c.in-Some.command _ _ _ _ _ c.obey.ensures.ran.0))
 
@@ -45,7 +45,7 @@ returns-in-Some-clause-write_fault g c =
 
 pub returns-in-Some-clause-complete : goal.returns-in-Some-clause-complete
 returns-in-Some-clause-complete g c =
-    rw (sym c.command_from.ensures ∙ c.in-Some.is) (completes c.in-Some.command _ _ c.decoder_laws.ensures _
+    rw (sym c.command_of.ensures ∙ c.in-Some.is) (completes c.in-Some.command _ _ c.decoder_laws.ensures _
     (ran_says g.S.Source.gives g.K.Sink.takes g.S.Source.left g.S.Source.faults g.K.Sink.written g.K.Sink.faults g.met.S.Source.tells g.met.K.Sink.tells
     c.decoder_laws.ensures c.in-Some.command _ _ _ _ _ c.obey.ensures.ran.0))
 

@@ -1,7 +1,7 @@
-use Rattle.std.proofs.Common.{◌≡◌, ◌≤◌, ◌<◌, ◌⊎◌, inl, inr, ℕ, List, Option, Some, Result, decimal, ap, sym, ◌∙◌, arith}
+use Rattle.std.proofs.Common.{Bool, true, false, ◌≡◌, ◌≤◌, ◌<◌, ◌⊎◌, inl, inr, ℕ, List, Option, Some, Result, decimal, ap, sym, ◌∙◌, arith}
 use Rattle.std.proofs.lemmas.Fmt.{parse-decimal}
 use Rattle.std.specs.Str.Parse.{ParsesUnsigned}
-use Rattle.std.specs.Cmp.Lexicographic.{other_text}
+use Rattle.std.specs.Prelude.{IsTrue}
 use Rattle.std.specs.Result.{result_ok}
 use Rattle.x86_cli.specs.Commands.Make.{make_max}
 use Rattle.x86_cli.proofs.commands.make.count_from.Goals as goal
@@ -15,12 +15,12 @@ same a b e = cc
 
 pub returns-in_err-count-clause-every : goal.returns-in_err-count-clause-every
 returns-in_err-count-clause-every c n least most e =
-    let p = parsed c.args.word.now c.parse.result n most e c.parse.ensures.value.0 in
+    let p = parsed c.args.argument.now c.parse.result n most e c.parse.ensures.value.0 in
     c.from_residual.ensures ∙ sym c.in_err-count.was ∙ c.ok.ensures.value ∙ p
 
 pub returns-then-count-eq0-clause-every : goal.returns-then-count-eq0-clause-every
 returns-then-count-eq0-clause-every c n least most e =
-    let p = parsed c.args.word.now c.parse.result n most e c.parse.ensures.value.0 in
+    let p = parsed c.args.argument.now c.parse.result n most e c.parse.ensures.value.0 in
     let k : c.in_ok-count.count ≡ n = same c.in_ok-count.count n (sym c.in_ok-count.was ∙ c.ok.ensures.value ∙ p) in
     absurd (out c.in_ok-count.count c.then-count-eq0.either (omega arith) (omega arith))
   where
@@ -28,13 +28,16 @@ returns-then-count-eq0-clause-every c n least most e =
     out k (inl zero_is) a b = omega arith
     out k (inr w) a b = let more : make_max < k = w.1 in omega arith
 
-pub returns-then-eq-clause-every : goal.returns-then-eq-clause-every
-returns-then-eq-clause-every c n least most e =
-    let p = parsed c.args.word.now c.parse.result n most e c.parse.ensures.value.0 in
+pub returns-then-is_decimal-clause-every : goal.returns-then-is_decimal-clause-every
+returns-then-is_decimal-clause-every c n least most e =
+    let p = parsed c.args.argument.now c.parse.result n most e c.parse.ensures.value.0 in
     sym c.in_ok-count.was ∙ c.ok.ensures.value ∙ p
 
-pub returns-else-eq-clause-every : goal.returns-else-eq-clause-every
-returns-else-eq-clause-every c n least most e =
-    let p = parsed c.args.word.now c.parse.result n most e c.parse.ensures.value.0 in
+pub returns-else-is_decimal-clause-every : goal.returns-else-is_decimal-clause-every
+returns-else-is_decimal-clause-every c n least most e =
+    let p = parsed c.args.argument.now c.parse.result n most e c.parse.ensures.value.0 in
     let k : c.in_ok-count.count ≡ n = same c.in_ok-count.count n (sym c.in_ok-count.was ∙ c.ok.ensures.value ∙ p) in
-    absurd (other_text c.format.result.now c.args.word.now c.if-eq.ensures (c.format.ensures.text ∙ ap decimal k ∙ sym e))
+    absurd (refused c.is_decimal.result c.if-is_decimal.false (c.is_decimal.ensures.1 (e ∙ ap decimal (sym k))))
+  where
+    refused : (b : Bool) → b ≡ false → IsTrue b → ⊥
+    refused b e t = let is : false ≡ true = sym e ∙ t in cc

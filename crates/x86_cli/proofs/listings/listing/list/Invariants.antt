@@ -1,14 +1,12 @@
 use Rattle.std.proofs.Common.{◌≤◌, ◌+◌}
 use Rattle.arrayvec.specs.ArrayVec.{array_vec_len}
-use Rattle.x86_cli.specs.Listings.Listing.{listing_at}
 use Rattle.x86_cli.proofs.ListingLemmas.Stands.{Stands}
 use Rattle.x86_cli.proofs.CommandLemmas.AheadLaws.{reaches}
 use Rattle.x86_cli.proofs.listings.listing.list.Given as goal
 
 abbrev pub invariant-lines : goal.invariant-lines
 invariant-lines g l = record {
-  stands : Stands g.S.Source.gives g.K.Sink.takes (listing_at l.decoder.strict (g.L.Lines.text l.lines l.decoder.strict)) reaches l.fn.max l.place l.window.ended l.window.bytes.items l.window.reader.place l.window.reader.room
-      l.fn.source l.source l.fn.sink l.sink;
+  stands : Stands g.S.Source.gives g.K.Sink.takes (g.W.Walk.lists l.walk l.decoder.strict) reaches l.fn.max l.place l.window.ended l.window.bytes.items l.window.reader.position l.window.reader.room l.fn.source l.source l.fn.sink l.sink;
   few : array_vec_len l.window.bytes ≤ 15;
   fits : l.place + array_vec_len l.window.bytes + l.window.reader.room ≤ l.fn.max;
 }

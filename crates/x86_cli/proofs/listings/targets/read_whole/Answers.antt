@@ -4,7 +4,7 @@ use Rattle.x86_cli.proofs.listings.targets.read_whole.Goals as goal
 
 pub pairs-init : goal.pairs-init
 pairs-init g c = record {
-  filling = rw (c.new-image.ensures, c.new-reader.ensures.place, c.new-reader.ensures.room) (filling_none g.S.Source.gives [] 0 c.args.max _);
+  filling = rw (c.new-image.ensures, c.new-reader.ensures.position, c.new-reader.ensures.room) (filling_none g.S.Source.gives [] 0 c.args.max _);
   fits = omega (arith, ap length c.new-image.ensures, c.new-reader.ensures.room);
 }
 

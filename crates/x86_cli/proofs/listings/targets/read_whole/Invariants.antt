@@ -6,7 +6,7 @@ use Rattle.x86_cli.proofs.listings.targets.read_whole.Given as goal
 
 abbrev pub invariant-pairs : goal.invariant-pairs
 invariant-pairs g l = record {
-  filling : Filling g.S.Source.gives (text_of l.fn.max) l.image.items l.reader.place l.reader.room l.fn.source l.source;
+  filling : Filling g.S.Source.gives (text_of l.fn.max) l.image.items l.reader.position l.reader.room l.fn.source l.source;
   fits : 2 * array_vec_len l.image + l.reader.room ≤ l.fn.max;
 }
 

@@ -20,17 +20,17 @@ returns-then-is_at_end-clause-reads g c =
 pub returns-in-Other-clause-reads : goal.returns-in-Other-clause-reads
 returns-in-Other-clause-reads g c =
     let some : 0 < c.loop-byte.self.room = omega arith in
-    rw c.place.ensures (reads_after g.S.Source.gives _ _ _ _ _ _ _ _ _ _ c.loop-byte.invariant.skips
+    rw c.position.ensures (reads_after g.S.Source.gives _ _ _ _ _ _ _ _ _ _ c.loop-byte.invariant.skips
     (reads_bad g.S.Source.gives _ _ _ _ _ some c.in-Other.ensures.0 c.in-Other.ensures.1 c.in-Byte.ensures))
 
 pub returns-in-Digit-clause-reads : goal.returns-in-Digit-clause-reads
 returns-in-Digit-clause-reads g c =
     reads_after g.S.Source.gives _ _ _ _ _ _ _ _ _ _ c.loop-byte.invariant.skips
-    (c.second.ensures.reads _ _ _ _ c.advance.ensures.place (sym c.advance.ensures.room) c.in-Digit.ensures.0 c.in-Digit.ensures.1 c.in-Byte.ensures)
+    (c.second.ensures.reads _ _ _ _ c.advance.ensures.position (sym c.advance.ensures.room) c.in-Digit.ensures.0 c.in-Digit.ensures.1 c.in-Byte.ensures)
 
 pub loop-byte-preserved : goal.loop-byte-preserved
 loop-byte-preserved g c = record {
   skips = skips_blank g.S.Source.gives _ _ _ _ _ _ _ _ _ _ c.loop-byte.invariant.skips c.in-Byte.ensures c.in-Blank.ensures.0
-      c.advance-in-Blank.ensures.place c.advance-in-Blank.ensures.room;
+      c.advance-in-Blank.ensures.position c.advance-in-Blank.ensures.room;
   less = omega (arith, c.loop-byte.invariant.less, c.advance-in-Blank.ensures.room);
 }

@@ -4,7 +4,7 @@ use Rattle.x86_cli.proofs.text.reader.TextReader.next.Given as goal
 
 abbrev pub invariant-loop-byte : goal.invariant-loop-byte
 invariant-loop-byte g l = record {
-  skips : Skips g.S.Source.gives l.fn.self.place l.fn.self.room l.self.place l.self.room l.fn.source l.source;
+  skips : Skips g.S.Source.gives l.fn.self.position l.fn.self.room l.self.position l.self.room l.fn.source l.source;
   less : l.self.room ≤ l.fn.self.room;
 }
 

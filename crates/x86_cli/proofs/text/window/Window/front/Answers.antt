@@ -4,10 +4,10 @@ use Rattle.x86_cli.proofs.TextLemmas.FrontLaws.{front_open, shows_open, front_cl
 use Rattle.x86_cli.proofs.text.window.Window.front.Goals as goal
 
 pub returns-in-None-clause-rest : goal.returns-in-None-clause-rest
-returns-in-None-clause-rest c = front_open c.args.decoder.now.strict (c.decoder_laws.ensures _) _ _ _ _ _ c.decode_slice_into-answer.ensures.value c.as_slice.ensures.value c.requires c.in-None.is (c.sure.ensures c.decode_slice_into-answer.new.inst) _ _
+returns-in-None-clause-rest c = front_open c.args.decoder.now.strict (c.decoder_laws.ensures _) _ _ _ _ _ c.decode_slice_into-answer.ensures.value c.as_slice.ensures.value c.requires c.in-None.is (c.sure_of.ensures c.decode_slice_into-answer.new.inst) _ _
 
 pub returns-in-None-clause-shows : goal.returns-in-None-clause-shows
-returns-in-None-clause-shows c = shows_open c.args.decoder.now.strict (c.decoder_laws.ensures _) _ _ _ _ _ c.decode_slice_into-answer.ensures.value c.as_slice.ensures.value c.requires c.in-None.is (c.sure.ensures c.decode_slice_into-answer.new.inst)
+returns-in-None-clause-shows c = shows_open c.args.decoder.now.strict (c.decoder_laws.ensures _) _ _ _ _ _ c.decode_slice_into-answer.ensures.value c.as_slice.ensures.value c.requires c.in-None.is (c.sure_of.ensures c.decode_slice_into-answer.new.inst)
 
 pub returns-then-is_empty-clause-rest : goal.returns-then-is_empty-clause-rest
 returns-then-is_empty-clause-rest c =
@@ -17,7 +17,7 @@ returns-then-is_empty-clause-rest c =
 pub returns-else-is_empty-clause-rest : goal.returns-else-is_empty-clause-rest
 returns-else-is_empty-clause-rest c =
     let some : 0 < length c.args.self.now.bytes.items = grind (arith, nat_tests) in
-    front_closed c.args.decoder.now.strict (c.decoder_laws.ensures _) _ _ _ _ _ c.decode_slice_into-answer.ensures.value c.as_slice.ensures.value _ c.in-Some.is some (c.judge.ensures c.decode_slice_into-answer.new.inst) _ _
+    front_closed c.args.decoder.now.strict (c.decoder_laws.ensures _) _ _ _ _ _ c.decode_slice_into-answer.ensures.value c.as_slice.ensures.value _ c.in-Some.is some (c.judged.ensures c.decode_slice_into-answer.new.inst) _ _
 
 pub returns-else-is_empty-clause-shows : goal.returns-else-is_empty-clause-shows
-returns-else-is_empty-clause-shows c = shows_closed c.args.decoder.now.strict (c.decoder_laws.ensures _) _ _ _ _ _ c.decode_slice_into-answer.ensures.value c.as_slice.ensures.value _ c.in-Some.is (c.judge.ensures c.decode_slice_into-answer.new.inst)
+returns-else-is_empty-clause-shows c = shows_closed c.args.decoder.now.strict (c.decoder_laws.ensures _) _ _ _ _ _ c.decode_slice_into-answer.ensures.value c.as_slice.ensures.value _ c.in-Some.is (c.judged.ensures c.decode_slice_into-answer.new.inst)

@@ -2,7 +2,7 @@ use Rattle.std.proofs.Common.{◌-◌, ◌++◌, length, take, drop, sym, ap, su
 use Rattle.std.specs.Io.KnownBytes.{Appends}
 use Rattle.std.proofs.KnownBytes.{Appends-trans}
 use lib.Seq.{take-add, take-take}
-use Rattle.x86_cli.proofs.outside.gathered.send_out.Goals as goal
+use Rattle.x86_cli.proofs.outside.counted.Counted.send_out.Goals as goal
 
 pub loop-sent-preserved : goal.loop-sent-preserved
 loop-sent-preserved g c =
@@ -15,5 +15,6 @@ loop-sent-preserved g c =
     let joined = ap (λ l. take sent xs ++ l) (take-take n (length xs - sent) (drop sent xs) (omega arith)) ∙ sym (take-add sent n xs) in
     record {
       within = omega arith;
+      still = grind (arith, before.still);
       bytes = subst (Appends _ _) joined (Appends-trans _ _ _ _ _ before.bytes c.in-Ok.ensures.bytes);
     }
