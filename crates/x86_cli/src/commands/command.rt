@@ -13,7 +13,7 @@ use crate::listings::fields::FieldLines;
 use crate::listings::line::Plain;
 use crate::listings::listing::{UpToRefusal, list};
 use crate::listings::status::Status;
-use crate::listings::sweep::Sweep;
+use crate::listings::sweep::PastRefusals;
 use crate::listings::targets::targets;
 use crate::listings::tightening::LeastLines;
 use crate::outside::sink::Sink;
@@ -117,7 +117,7 @@ fn obey<S: Source, K: Sink>(command: Command, source: &mut S, sink: &mut K) -> S
             source,
             sink,
         ),
-        Command::Sweep => list(&decoder(false), &Sweep, TEXT_MAX, source, sink),
+        Command::Sweep => list(&decoder(false), &PastRefusals, TEXT_MAX, source, sink),
         Command::Targets => targets(&decoder(false), TARGETS_MAX, source, sink),
     }
 }

@@ -86,7 +86,7 @@ pub enum Step {
 }
 
 /// How a listing goes through an image.
-pub trait Walk {
+pub trait Course {
     /// The listing of a text that stands from a place on.
     ghost lists: { Self → Bool → ℕ → Text → Listing };
 
@@ -110,7 +110,7 @@ pub struct UpToRefusal<L: Lines + Drop> {
     pub lines: L,
 }
 
-impl<L: Lines + Drop> Walk for UpToRefusal<L> {
+impl<L: Lines + Drop> Course for UpToRefusal<L> {
     ghost lists = { λ s strict place text. listing_at strict (L.text s.lines strict) place text };
 
     #[inline(always)]
@@ -137,15 +137,15 @@ impl<L: Lines + Drop> Walk for UpToRefusal<L> {
 }
 
 /// Writes the listing of the text that the source gives.
-pub fn list<W: Walk, S: Source, K: Sink>(
+pub fn list<W: Course, S: Source, K: Sink>(
     decoder: &InstDecoder,
-    walk: &W,
+    course: &W,
     max: u64,
     source: &mut S,
     sink: &mut K,
 ) -> Status
     requires { max < 2 ^ 62 }
-    ensures { RanInWindow S.gives K.takes (W.lists walk.now decoder.now.strict) max result source.old source.new sink.old sink.new }
+    ensures { RanInWindow S.gives K.takes (W.lists course.now decoder.now.strict) max result source.old source.new sink.old sink.new }
 {
     let mut window = Window::new(max);
     let mut inst = Instruction::invalid();
@@ -153,7 +153,7 @@ pub fn list<W: Walk, S: Source, K: Sink>(
     let mut place = Place::at(0);
     'lines: loop {
         window.refill(source);
-        match walk.next(decoder, &window, &place, &mut inst, &mut line) {
+        match course.next(decoder, &window, &place, &mut inst, &mut line) {
             Step::Line(length) => {
                 match put_line(sink, &mut line) {
                     Ok(()) => {}

@@ -7,16 +7,17 @@ ghost use Rattle.x86_decode.specs.Instruction.{holding};
 ghost use Rattle.x86_cli.specs.Listings.Sweep.{cut_text, sweep_at};
 
 use crate::laws::decoder_laws;
-use crate::listings::listing::{Step, Walk};
+use crate::listings::listing::{Step, Course};
 use crate::text::window::Window;
 use x86_decode::{InstDecoder, Instruction};
 use x86_fields::DecodeError;
 use x86_text::{LINE_MAX, Line, Place, write_instruction, write_refusal};
 
 /// The listing of `sweep`: a line for each cut.
-pub struct Sweep;
+pub struct PastRefusals;
 
-/// Writes the line of a cut at a place over another, without its end. The instruction of a cut stands beside its answer.
+/// Writes the line of a cut at a place over another, without its end. The instruction of a cut stands beside its
+/// answer.
 fn write_cut(line: &mut Line, place: &Place, inst: &Instruction, answer: Result<(), DecodeError>)
     ensures text { line.new.items ≡ cut_text place.now (holding inst.now answer) }
     ensures short { array_vec_len line.new ≤ LINE_MAX }
@@ -36,7 +37,7 @@ fn cut_length(inst: &Instruction, answer: Result<(), DecodeError>) -> u64
     }
 }
 
-impl Walk for Sweep {
+impl Course for PastRefusals {
     ghost lists = { λ s strict place text. sweep_at strict place text };
 
     #[inline(always)]

@@ -15,8 +15,8 @@ use x86_text::Room;
 const SIZE: usize = 65536;
 
 /// A writer that gathers what it is given in a buffer of fixed size, and hands it on when that is full or at a flush.
-/// What a failed write leaves unsent stays in the buffer, so no byte is sent twice. An error says that the writer failed,
-/// and not how, since no sink asks that.
+/// What a failed write leaves unsent stays in the buffer, so no byte is sent twice. An error says that the writer
+/// failed, and not how, since no sink asks that.
 #[derive(Drop)]
 pub struct Gathered<W: Write + Drop> {
     counted: Counted<W>,

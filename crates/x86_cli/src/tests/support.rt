@@ -20,8 +20,8 @@ pub fn arguments(alloc: Global, texts: &[&str]) -> Result<Vec<String>, AllocErro
     Ok(arguments)
 }
 
-/// Whether a run over the text, some of whose calls fail, writes this and ends so. The arguments are collected before the
-/// run, so a refused allocation is told here, and never changes an answer.
+/// Whether a run over the text, some of whose calls fail, writes this and ends so. The arguments are collected before
+/// the run, so a refused allocation is told here, and never changes an answer.
 pub fn runs(
     alloc: Global,
     texts: &[&str],

@@ -1,7 +1,7 @@
 use Rattle.std.proofs.Common.{None, ap, ◌∙◌}
 use Rattle.x86_cli.proofs.TextLemmas.FrontLaws.{shown_answer}
 use Rattle.x86_cli.proofs.ListingLemmas.Standing.{step_line, step_refused, step_ended}
-use Rattle.x86_cli.proofs.listings.listing.UpToRefusalWalk.next.Goals as goal
+use Rattle.x86_cli.proofs.listings.listing.UpToRefusalCourse.next.Goals as goal
 
 pub returns-in-Whole-clause-next : goal.returns-in-Whole-clause-next
 returns-in-Whole-clause-next g c =
