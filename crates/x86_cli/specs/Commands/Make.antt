@@ -37,8 +37,8 @@ displacement_bytes m s i =
     if mod_field m == 1 then (i % 256) ∷ []
     else (if has_long_displacement m s then to_le_bytes w32 i else [])
 
-unfoldable pub made : ℕ → List ℕ
-made i = (0x03 ∷ made_modrm i ∷ []) ++ sib_bytes (made_modrm i) (made_sib i) ++ displacement_bytes (made_modrm i) (made_sib i) i
+unfoldable pub generate : ℕ → List ℕ
+generate i = (0x03 ∷ made_modrm i ∷ []) ++ sib_bytes (made_modrm i) (made_sib i) ++ displacement_bytes (made_modrm i) (made_sib i) i
 
 -- ---- counting
 
@@ -78,7 +78,7 @@ counted t bytes answer = record {
 -- the bytes of the first n encodings, and how many of their answers have an operand at rip, and an absolute one
 unfoldable pub tally_of : ℕ → Tally
 tally_of zero = record { bytes = 0; at_rip = 0; absolute = 0 }
-tally_of (suc n) = counted (tally_of n) (made n) (answer_of false (made n))
+tally_of (suc n) = counted (tally_of n) (generate n) (answer_of false (generate n))
 
 unfoldable pub tally_text : ℕ → Tally → List ℕ
 tally_text n t =

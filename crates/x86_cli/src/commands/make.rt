@@ -4,7 +4,7 @@ ghost use Rattle.std.specs.Prelude.{◌≡◌, ◌↔◌, IsTrue, ◌+◌, ◌�
 ghost use Rattle.arrayvec.specs.ArrayVec.{array_vec_len};
 ghost use Rattle.x86_decode.specs.Instruction.{holding};
 ghost use Rattle.x86_cli.specs.Commands.Run.{Wrote};
-ghost use Rattle.x86_cli.specs.Commands.Make.{made, has_long_displacement, is_rip, is_at_rip, is_absolute, has_operand, answer_has, one_if, tally_of, tally_text, make_max, made_listing};
+ghost use Rattle.x86_cli.specs.Commands.Make.{generate, has_long_displacement, is_rip, is_at_rip, is_absolute, has_operand, answer_has, one_if, tally_of, tally_text, make_max, made_listing};
 
 use crate::listings::listing::put_line;
 use crate::listings::status::Status;
@@ -47,9 +47,9 @@ fn has_long_displacement(modrm: ModRM, sib: Sib) -> bool
 }
 
 /// Encoding `i` of `make`: `ADD r32, m32` with ModRM `i` modulo `MEMORY_FORMS`.
-#[tactic(auto, unfolding(crate::specs::Commands::Make::made))]
-pub fn made(i: u32) -> ArrayVec<u8, 15>
-    ensures { result.items ≡ made i }
+#[tactic(auto, unfolding(crate::specs::Commands::Make::generate))]
+pub fn generate(i: u32) -> ArrayVec<u8, 15>
+    ensures { result.items ≡ generate i }
 {
     let modrm = ModRM::new((i % MEMORY_FORMS as u32) as u8);
     let sib = Sib::new((i / MEMORY_FORMS as u32 % 256) as u8);
@@ -138,7 +138,7 @@ fn tally_of(count: u32) -> Tally
     let mut at_rip = 0u64;
     let mut absolute = 0u64;
     for i in 0..count {
-        let encoding = made(i);
+        let encoding = generate(i);
         let answer = decoder.decode_slice_into(&mut inst, encoding.as_slice());
         bytes += encoding.len() as u64;
         at_rip += one_at_rip(&inst, answer);

@@ -2,23 +2,23 @@ use Rattle.std.proofs.Common.{◌≡◌, ◌+◌, ℕ, suc, length, false, refl,
 use Rattle.x86_decode.specs.Answer.{answer_of}
 use Rattle.x86_decode.specs.Instruction.{holding}
 use Rattle.x86_cli.specs.declared.commands.make.Tally.{Tally}
-use Rattle.x86_cli.specs.Commands.Make.{made, tally_of, one_if, answer_has, is_at_rip, is_absolute}
+use Rattle.x86_cli.specs.Commands.Make.{generate, tally_of, one_if, answer_has, is_at_rip, is_absolute}
 use Rattle.x86_cli.proofs.commands.make.tally_of.Goals as goal
 
 abbrev of_three : ℕ → ℕ → ℕ → Tally
 of_three b r a = record { bytes = b; at_rip = r; absolute = a }
 
 -- one more encoding is counted
-next : (i b r a l x y : ℕ) → of_three b r a ≡ tally_of i → l ≡ length (made i) → x ≡ one_if (answer_has is_at_rip (answer_of false (made i))) → y ≡ one_if (answer_has is_absolute (answer_of false (made i))) → of_three (b + l) (r + x) (a + y) ≡ tally_of (i + 1)
+next : (i b r a l x y : ℕ) → of_three b r a ≡ tally_of i → l ≡ length (generate i) → x ≡ one_if (answer_has is_at_rip (answer_of false (generate i))) → y ≡ one_if (answer_has is_absolute (answer_of false (generate i))) → of_three (b + l) (r + x) (a + y) ≡ tally_of (i + 1)
 unfolding tally_of
 next i b r a l x y e long at_rip absolute =
     let t : Tally = tally_of i in
-    let rips : ℕ = one_if (answer_has is_at_rip (answer_of false (made i))) in
+    let rips : ℕ = one_if (answer_has is_at_rip (answer_of false (generate i))) in
     let here : of_three (b + l) (r + x) (a + y) ≡ tally_of (suc i) =
     ap (λ (s : Tally). of_three (s.bytes + l) (s.at_rip + x) (s.absolute + y)) e
     ∙ ap (λ n. of_three (t.bytes + n) (t.at_rip + x) (t.absolute + y)) long
-    ∙ ap (λ n. of_three (t.bytes + length (made i)) (t.at_rip + n) (t.absolute + y)) at_rip
-    ∙ ap (λ n. of_three (t.bytes + length (made i)) (t.at_rip + rips) (t.absolute + n)) absolute in
+    ∙ ap (λ n. of_three (t.bytes + length (generate i)) (t.at_rip + n) (t.absolute + y)) at_rip
+    ∙ ap (λ n. of_three (t.bytes + length (generate i)) (t.at_rip + rips) (t.absolute + n)) absolute in
     subst (λ k. of_three (b + l) (r + x) (a + y) ≡ tally_of k) (sym (add-one i)) here
 
 pub loop-i-init : goal.loop-i-init
@@ -28,12 +28,12 @@ loop-i-init c = record { counted = refl; few_bytes = omega arith; few_at_rip = o
 pub loop-i-preserved : goal.loop-i-preserved
 loop-i-preserved c =
     let i : ℕ = c.loop-i.i in
-    let bytes : c.as_slice.result.now ≡ made i = c.as_slice.ensures.value ∙ c.made-encoding.ensures in
-    let answer : holding c.decode_slice_into-answer.new.inst c.decode_slice_into-answer.result ≡ answer_of false (made i) =
+    let bytes : c.as_slice.result.now ≡ generate i = c.as_slice.ensures.value ∙ c.generate-encoding.ensures in
+    let answer : holding c.decode_slice_into-answer.new.inst c.decode_slice_into-answer.result ≡ answer_of false (generate i) =
     c.decode_slice_into-answer.ensures.value ∙ ap (λ s. answer_of s c.as_slice.result.now) c.default-decoder.ensures ∙ ap (answer_of false) bytes in
     record {
       counted = next i c.loop-i.bytes c.loop-i.at_rip c.loop-i.absolute c.len.result c.one_at_rip-at_rip.result c.one_absolute-absolute.result c.loop-i.invariant.counted
-          (c.len.ensures.value ∙ ap length c.made-encoding.ensures)
+          (c.len.ensures.value ∙ ap length c.generate-encoding.ensures)
           (c.one_at_rip-at_rip.ensures.value ∙ ap (λ a. one_if (answer_has is_at_rip a)) answer)
           (c.one_absolute-absolute.ensures.value ∙ ap (λ a. one_if (answer_has is_absolute a)) answer);
       few_bytes = omega (arith, c.as_slice.ensures.fits);
