@@ -7,51 +7,51 @@ use crate::{Address, Reader};
 
 /// Why no instruction is at the front.
 pub trait DecodeError {
-    ghost exhausted: { Self → Bool };
+    ghost data_exhausted: { Self → Bool };
 
-    ghost opcode_is_bad: { Self → Bool };
+    ghost bad_opcode: { Self → Bool };
 
-    ghost operand_is_bad: { Self → Bool };
+    ghost bad_operand: { Self → Bool };
 
-    ghost text: { Self → List ℕ };
+    ghost description: { Self → List ℕ };
 
     /// Whether the bytes end before anything is decided.
     fn data_exhausted(&self) -> bool
-        ensures { result ≡ exhausted self.now };
+        ensures { result ≡ data_exhausted self.now };
 
     fn bad_opcode(&self) -> bool
-        ensures { result ≡ opcode_is_bad self.now };
+        ensures { result ≡ bad_opcode self.now };
 
     fn bad_operand(&self) -> bool
-        ensures { result ≡ operand_is_bad self.now };
+        ensures { result ≡ bad_operand self.now };
 
     /// What to tell a reader of a listing.
     fn description(&self) -> &'static str
-        ensures { result.now ≡ text self.now };
+        ensures { result.now ≡ description self.now };
 }
 
 /// An instruction, as far as every instruction set has one.
 pub trait Instruction {
-    ghost defined: { Self → Bool };
+    ghost well_defined: { Self → Bool };
 
     fn well_defined(&self) -> bool
-        ensures { result ≡ defined self.now };
+        ensures { result ≡ well_defined self.now };
 }
 
 /// An instruction that knows the length of its encoding.
 pub trait LengthedInstruction {
     type Unit;
 
-    ghost length_of: { Self → Self.Unit };
+    ghost len: { Self → Self.Unit };
 
-    ghost least: { Self.Unit };
+    ghost min_size: { Self.Unit };
 
     fn len(&self) -> Self::Unit
-        ensures { result ≡ length_of self.now };
+        ensures { result ≡ len self.now };
 
     /// The least length that an instruction may have.
     fn min_size() -> Self::Unit
-        ensures { result ≡ least };
+        ensures { result ≡ min_size };
 }
 
 /// The types of an instruction set.

@@ -5,7 +5,7 @@ use Rattle.std.specs.Int.{w8, w32, cast_signed, from_le_bytes, int_wrap}
 use Rattle.std.proofs.lemmas.Int.{SFits-int_wrap}
 use Rattle.x86_fields.specs.declared.prefixes.Prefixes.{Prefixes}
 use Rattle.x86_fields.specs.declared.raw.Raw.{Raw}
-use Rattle.x86_fields.specs.Raw.{disp_width}
+use Rattle.x86_fields.specs.Raw.{displacement_width}
 use Rattle.x86_fields.specs.Pieces.{signed_by, option_bytes, SpellsRaw}
 use Rattle.x86_operands.specs.Pieces.{SpellsMemory}
 
@@ -60,7 +60,7 @@ disp_fits width l h = by (width == 1) (width == 4)
 raw_fits : (p : Prefixes) (m : ℕ) (bytes : List ℕ) (raw : Raw) → SpellsRaw p m bytes raw → Bytes bytes → FitsSigned w32 raw.disp
 raw_fits p m bytes raw r h =
     let d : Bytes r.disp = bytes_behind (option_bytes r.sib) r.disp (subst Bytes r.spelled h) in
-    subst (λ x. FitsSigned w32 x) (sym (ap (λ x. x.disp) r.fields)) (disp_fits (disp_width m r.sib) r.disp d)
+    subst (λ x. FitsSigned w32 x) (sym (ap (λ x. x.disp) r.fields)) (disp_fits (displacement_width m r.sib) r.disp d)
 
 pub memory_fits : (p : Prefixes) (m : ℕ) (bytes : List ℕ) (memory : Option Raw) (raw : Raw) → SpellsMemory p m bytes memory → memory ≡ Some raw → Bytes bytes → FitsSigned w32 raw.disp
 memory_fits p m bytes None raw h e b = absurd cc

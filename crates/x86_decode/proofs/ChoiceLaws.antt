@@ -11,25 +11,25 @@ use Rattle.x86_fields.proofs.StepLaws.{fresh}
 use Rattle.x86_fields.proofs.EndLaws.{Ends, settles, runs_out}
 use Rattle.x86_forms.specs.declared.Map.{Map}
 use Rattle.x86_forms.specs.declared.TableRow.{TableRow}
-use Rattle.x86_forms.specs.Groups.{is_group_form}
-use Rattle.x86_forms.specs.Words.{rows_of, word_at}
+use Rattle.x86_forms.specs.Groups.{is_group}
+use Rattle.x86_forms.specs.Words.{rows_of, packed}
 use Rattle.x86_operands.specs.declared.plans.Fault.TheVariants.{BadOperand}
 use Rattle.x86_operands.specs.declared.plans.ModrmUse.{ModrmUse}
 use Rattle.x86_operands.specs.declared.plans.ModrmUse.TheVariants.{Fields}
 use Rattle.x86_operands.specs.declared.reader.Reading.{Reading}
 use Rattle.x86_fields.specs.ModRM.{is_memory}
-use Rattle.x86_operands.specs.Signs.{plan_step, record_step, given_step, signs_step, modrm_step, fault_step, four_of, reading_from}
+use Rattle.x86_operands.specs.Signs.{read_plan, record_step, given_step, signs_step, read_modrm, refuse_fault, four_of, reading_from}
 use Rattle.x86_operands.specs.Forms.{form_record}
 use Rattle.x86_operands.specs.Pieces.{SpellsTail, RefusesTail, at_modrm, SpellsRow, RefusesRow, behind_modrm, modrm_of, modrm_width}
 use Rattle.x86_groups.specs.Choice.{bare, bad_operand}
 use Rattle.x86_groups.specs.Choices.{NamesFence, lfence, mfence, sfence, IsFenceWithRm}
 use Rattle.x86_groups.specs.Groups.{group_fault, group_modrm, group_plan, group_record}
 use Rattle.x86_decode.specs.declared.instructions.Instruction.{Instruction}
-use Rattle.x86_decode.specs.Head.{Rows, column_of, escape_bytes, clears, seen}
+use Rattle.x86_decode.specs.Head.{Rows, column_of, escape_bytes, clears, seen_by}
 use Rattle.x86_decode.specs.Instruction.{instruction_of}
 use Rattle.x86_decode.specs.Bound.{bounded}
-use Rattle.x86_decode.specs.Grammar.{record_of, lock_allowed, Whole, IsRefusedByRecord, case_3, IsAnswer}
-use Rattle.x86_decode.specs.Walk.{head_step, opcode_step, some_row, row_step, body_step, closed, decode_step}
+use Rattle.x86_decode.specs.Grammar.{record_of, allows_lock, Whole, IsRefusedByRecord, case_3, IsAnswer}
+use Rattle.x86_decode.specs.Walk.{head_step, opcode_step, some_row, row_step, walk_within, closed, decode_step}
 use Rattle.x86_decode.specs.Answer.{answer_of, count_of}
 use Rattle.x86_decode.specs.Choices.{IsFence, BeginsWithFence}
 use Rattle.x86_decode.proofs.BodyLaws.{BodyGives, BodyBetween, ends_body, takes_whole, verdict, Settled, early}
@@ -52,12 +52,12 @@ compared_from (Err e) s f g each = same refl
 fence_reading : ℕ → Prefixes → Reading
 fence_reading o p = reading_from (bare o) p o (four_of [])
 
-bare_step : (o : ℕ) (p : Prefixes) (m : ℕ) (s : State ℕ) → is_memory m ≡ false → plan_step (bare o) p m s ≡ outcome (Ok (fence_reading o p)) s
-unfolding plan_step given_step signs_step fence_reading
+bare_step : (o : ℕ) (p : Prefixes) (m : ℕ) (s : State ℕ) → is_memory m ≡ false → read_plan (bare o) p m s ≡ outcome (Ok (fence_reading o p)) s
+unfolding read_plan given_step signs_step fence_reading
 bare_step o p m s e = rw e refl
 
-bad_step : (p : Prefixes) (m : ℕ) (s : State ℕ) → plan_step bad_operand p m s ≡ outcome (Err InvalidOperand) s
-unfolding plan_step
+bad_step : (p : Prefixes) (m : ℕ) (s : State ℕ) → read_plan bad_operand p m s ≡ outcome (Err InvalidOperand) s
+unfolding read_plan
 bad_step p m s = refl
 
 -- the law of x86_groups on its two choices
@@ -71,11 +71,11 @@ abbrev RefusedStrictly : Type 0
 RefusedStrictly = (row : TableRow) (p : Prefixes) (m : ℕ) → IsFenceWithRm row.form p m → group_plan row p m true ≡ bad_operand
 
 module _ (same_elsewhere : SameElsewhere) (fence_by_default : ReadByDefault) (fence_strictly : RefusedStrictly) where
-  compared_plan : (row : TableRow) (p : Prefixes) (m : ℕ) (s : State ℕ) → (group_plan row p m true ≡ group_plan row p m false) ⊎ IsFenceWithRm row.form p m → Compared (plan_step (group_plan row p m true) p m s) (plan_step (group_plan row p m false) p m s)
-  compared_plan row p m s (inl e) = same (ap (λ plan. plan_step plan p m s) e)
+  compared_plan : (row : TableRow) (p : Prefixes) (m : ℕ) (s : State ℕ) → (group_plan row p m true ≡ group_plan row p m false) ⊎ IsFenceWithRm row.form p m → Compared (read_plan (group_plan row p m true) p m s) (read_plan (group_plan row p m false) p m s)
+  compared_plan row p m s (inl e) = same (ap (λ plan. read_plan plan p m s) e)
   compared_plan row p m s (inr h) = differ (fence_reading h.opcode p)
-      (ap (λ plan. (plan_step plan p m s).answer) (fence_by_default row p m h) ∙ ap (λ o. o.answer) (bare_step h.opcode p m s h.register))
-      (ap (λ plan. (plan_step plan p m s).answer) (fence_strictly row p m h) ∙ ap (λ o. o.answer) (bad_step p m s))
+      (ap (λ plan. (read_plan plan p m s).answer) (fence_by_default row p m h) ∙ ap (λ o. o.answer) (bare_step h.opcode p m s h.register))
+      (ap (λ plan. (read_plan plan p m s).answer) (fence_strictly row p m h) ∙ ap (λ o. o.answer) (bad_step p m s))
 
   -- ---- rows
 
@@ -83,14 +83,14 @@ module _ (same_elsewhere : SameElsewhere) (fence_by_default : ReadByDefault) (fe
   unfolding record_step group_record
   compared_group row p s =
       let u : ModrmUse = group_modrm row.form in
-      let strictly : ℕ → Step Reading = λ m. plan_step (group_plan row p m true) p m in
-      let default : ℕ → Step Reading = λ m. plan_step (group_plan row p m false) p m in
-      let fault : Outcome (Unit {0}) = fault_step (group_fault row.form p) s in
-      compared_from fault.answer fault.after (λ _ t. then_from (modrm_step u t).answer (modrm_step u t).after strictly) (λ _ t. then_from (modrm_step u t).answer (modrm_step u t).after default)
-      (λ _ t. compared_from (modrm_step u t).answer (modrm_step u t).after strictly default (λ m z. compared_plan row p m z (same_elsewhere row p m)))
+      let strictly : ℕ → Step Reading = λ m. read_plan (group_plan row p m true) p m in
+      let default : ℕ → Step Reading = λ m. read_plan (group_plan row p m false) p m in
+      let fault : Outcome (Unit {0}) = refuse_fault (group_fault row.form p) s in
+      compared_from fault.answer fault.after (λ _ t. then_from (read_modrm u t).answer (read_modrm u t).after strictly) (λ _ t. then_from (read_modrm u t).answer (read_modrm u t).after default)
+      (λ _ t. compared_from (read_modrm u t).answer (read_modrm u t).after strictly default (λ m z. compared_plan row p m z (same_elsewhere row p m)))
 
   compared_row : (row : TableRow) (p : Prefixes) (s : State ℕ) → Compared (row_step true row p s) (row_step false row p s)
-  compared_row row p s = by (is_group_form row.form)
+  compared_row row p s = by (is_group row.form)
     where
       by : (group : Bool) → Compared (record_step (if group then group_record true row p else form_record row p) p s) (record_step (if group then group_record false row p else form_record row p) p s)
       by true = compared_group row p s
@@ -98,8 +98,8 @@ module _ (same_elsewhere : SameElsewhere) (fence_by_default : ReadByDefault) (fe
 
   -- ---- a fence in the grammar
 
-  pub fence_group : (row : TableRow) (p : Prefixes) (m : ℕ) → IsFenceWithRm row.form p m → is_group_form row.form ≡ true
-  fence_group row p m h = ap is_group_form h.group
+  pub fence_group : (row : TableRow) (p : Prefixes) (m : ℕ) → IsFenceWithRm row.form p m → is_group row.form ≡ true
+  fence_group row p m h = ap is_group h.group
 
   bare_tail : (o : ℕ) (p : Prefixes) (m : ℕ) → is_memory m ≡ false → SpellsTail (bare o) p m [] (fence_reading o p)
   unfolding fence_reading
@@ -141,7 +141,7 @@ module _ (same_elsewhere : SameElsewhere) (fence_by_default : ReadByDefault) (fe
 
   -- ---- F0 in front of a fence
 
-  seen_lock : (map : Map) (b : ℕ) (p : Prefixes) → (seen map b p).lock ≡ p.lock
+  seen_lock : (map : Map) (b : ℕ) (p : Prefixes) → (seen_by map b p).lock ≡ p.lock
   seen_lock map b p = by (clears map (column_of p) b)
     where
       by : (t : Bool) → (if t then record p { operand_size = false } else p).lock ≡ p.lock
@@ -152,7 +152,7 @@ module _ (same_elsewhere : SameElsewhere) (fence_by_default : ReadByDefault) (fe
   or_false true = refl
   or_false false = refl
 
-  fence_lock : (m o : ℕ) (p : Prefixes) → NamesFence m o → lock_allowed (fence_reading o p) ≡ not p.lock
+  fence_lock : (m o : ℕ) (p : Prefixes) → NamesFence m o → allows_lock (fence_reading o p) ≡ not p.lock
   unfolding fence_reading
   fence_lock m o p (lfence e) = or_false (not p.lock)
   fence_lock m o p (mfence e) = or_false (not p.lock)
@@ -189,7 +189,7 @@ module _ (same_elsewhere : SameElsewhere) (fence_by_default : ReadByDefault) (fe
       by m is (inr h) = inr (m, s.tail, s.spelled ∙ ap (λ l. l ++ s.tail) (one_byte (group_modrm row.form) s.modrm (ap group_modrm h.group) s.modrm_asked ∙ ap (λ k. k ∷ []) is), h)
 
   strict_row : (row : TableRow) (p : Prefixes) (bytes : List ℕ) (reading : Reading) → SpellsRow (record_of false row p) p bytes reading → SpellsRow (record_of true row p) p bytes reading ⊎ FenceFirst row p bytes
-  strict_row row p bytes reading = by (is_group_form row.form)
+  strict_row row p bytes reading = by (is_group row.form)
     where
       by : (t : Bool) → SpellsRow (if t then group_record false row p else form_record row p) p bytes reading → SpellsRow (if t then group_record true row p else form_record row p) p bytes reading ⊎ FenceFirst row p bytes
       by true s = strict_group row p bytes reading s
@@ -212,7 +212,7 @@ module _ (same_elsewhere : SameElsewhere) (fence_by_default : ReadByDefault) (fe
 
   -- InvalidOperand is never due to LOCK
   refused_by : (r : Result Reading DecodeError) → verdict r ≡ Err InvalidOperand → r ≡ Err InvalidOperand
-  refused_by (Ok reading) e = absurd (operand_alone reading (lock_allowed reading) e)
+  refused_by (Ok reading) e = absurd (operand_alone reading (allows_lock reading) e)
   refused_by (Err x) e = e
 
   module _ (rows : Rows) where
@@ -220,22 +220,22 @@ module _ (same_elsewhere : SameElsewhere) (fence_by_default : ReadByDefault) (fe
     compared_with_row o p s = compared_from (some_row o s).answer (some_row o s).after (λ row. row_step true row p) (λ row. row_step false row p) (λ row t. compared_row row p t)
 
     abbrev after_opcode : Bool → Prefixes → Map × ℕ → Step Reading
-    after_opcode strict p o s = then_from (some_row (rows o.0 (column_of p) o.1) s).answer (some_row (rows o.0 (column_of p) o.1) s).after (λ row. row_step strict row (seen o.0 o.1 p))
+    after_opcode strict p o s = then_from (some_row (rows o.0 (column_of p) o.1) s).answer (some_row (rows o.0 (column_of p) o.1) s).after (λ row. row_step strict row (seen_by o.0 o.1 p))
 
     abbrev after_head : Bool → Prefixes × ℕ → Step Reading
     after_head strict h s = then_from (opcode_step h.0 h.1 s).answer (opcode_step h.0 h.1 s).after (after_opcode strict h.0)
 
-    compared_body : (s : State ℕ) → Compared (body_step rows true s) (body_step rows false s)
-    unfolding body_step
+    compared_body : (s : State ℕ) → Compared (walk_within rows true s) (walk_within rows false s)
+    unfolding walk_within
     compared_body s = compared_from (head_step s).answer (head_step s).after (after_head true) (after_head false) (λ h t.
-        compared_from (opcode_step h.0 h.1 t).answer (opcode_step h.0 h.1 t).after (after_opcode true h.0) (after_opcode false h.0) (λ o z. compared_with_row (rows o.0 (column_of h.0) o.1) (seen o.0 o.1 h.0) z))
+        compared_from (opcode_step h.0 h.1 t).answer (opcode_step h.0 h.1 t).after (after_opcode true h.0) (after_opcode false h.0) (λ o z. compared_with_row (rows o.0 (column_of h.0) o.1) (seen_by o.0 o.1 h.0) z))
 
     -- ---- an input that is read by default
 
     strict_whole : (input q rest : List ℕ) (reading : Reading) → input ≡ q ++ rest → length q ≤ 15 → Whole rows false q reading → Whole rows true q reading ⊎ BeginsWithFence rows input
-    strict_whole input q rest reading h short w = by (strict_row w.row (seen w.map w.opcode (reading_of w.run)) w.tail reading w.asked)
+    strict_whole input q rest reading h short w = by (strict_row w.row (seen_by w.map w.opcode (reading_of w.run)) w.tail reading w.asked)
       where
-        by : SpellsRow (record_of true w.row (seen w.map w.opcode (reading_of w.run))) (seen w.map w.opcode (reading_of w.run)) w.tail reading ⊎ FenceFirst w.row (seen w.map w.opcode (reading_of w.run)) w.tail → Whole rows true q reading ⊎ BeginsWithFence rows input
+        by : SpellsRow (record_of true w.row (seen_by w.map w.opcode (reading_of w.run))) (seen_by w.map w.opcode (reading_of w.run)) w.tail reading ⊎ FenceFirst w.row (seen_by w.map w.opcode (reading_of w.run)) w.tail → Whole rows true q reading ⊎ BeginsWithFence rows input
         by (inl s) = inl (record { run = w.run; map = w.map; opcode = w.opcode; row = w.row; tail = w.tail; spelled = w.spelled; prefixes = w.prefixes; meant = w.meant; has_row = w.has_row; asked = s })
         by (inr k) =
             let fence : List ℕ = w.run ++ (escape_bytes w.map ++ w.opcode ∷ k.0 ∷ []) in
@@ -256,7 +256,7 @@ module _ (same_elsewhere : SameElsewhere) (fence_by_default : ReadByDefault) (fe
       abbrev first : State ℕ
       first = bounded 15 start
 
-      differs : (reading : Reading) → (body_step rows false first).answer ≡ Ok reading → (body_step rows true first).answer ≡ Err InvalidOperand → Ends (BodyGives rows false) (BodyBetween rows false) (body_step rows false) first → BeginsWithFence rows input
+      differs : (reading : Reading) → (walk_within rows false first).answer ≡ Ok reading → (walk_within rows true first).answer ≡ Err InvalidOperand → Ends (BodyGives rows false) (BodyBetween rows false) (walk_within rows false) first → BeginsWithFence rows input
       differs reading d e (settles q rest (Ok r) h t f a) = by (strict_whole input q (rest ++ drop 15 input) r begins (front_at_most 15 input q rest h) a)
         where
           begins : input ≡ q ++ (rest ++ drop 15 input)
@@ -277,20 +277,20 @@ module _ (same_elsewhere : SameElsewhere) (fence_by_default : ReadByDefault) (fe
           subst (λ x. IsAnswer rows b input x n) (sym (k.0 ∙ ap (λ o. o.answer) e))
           (subst (λ x. IsAnswer rows b input (walked b).answer x) (sym (k.1 ∙ ap (λ o. o.after.since_mark) e)) (walk_answers rows b input))
 
-      same_walk : body_step rows true first ≡ body_step rows false first → walked true ≡ walked false
+      same_walk : walk_within rows true first ≡ walk_within rows false first → walked true ≡ walked false
       unfolding decode_step
       same_walk e = ap (λ o. closed o.answer o.after.since_mark start) e
 
       pub same_elsewhere_on : ((r : Result Instruction DecodeError) (n : ℕ) → IsAnswer rows true input r n ↔ IsAnswer rows false input r n) ⊎ BeginsWithFence rows input
       same_elsewhere_on = by (compared_body first)
         where
-          by : Compared (body_step rows true first) (body_step rows false first) → ((r : Result Instruction DecodeError) (n : ℕ) → IsAnswer rows true input r n ↔ IsAnswer rows false input r n) ⊎ BeginsWithFence rows input
+          by : Compared (walk_within rows true first) (walk_within rows false first) → ((r : Result Instruction DecodeError) (n : ℕ) → IsAnswer rows true input r n ↔ IsAnswer rows false input r n) ⊎ BeginsWithFence rows input
           by (same e) = inl (λ r n. (answer_as true false r n (same_walk e), answer_as false true r n (sym (same_walk e))))
           by (differ reading d e) = inr (differs reading d e (ends_body rows false first))
 
       -- ---- an input that begins with a fence
 
-      walked_as : (strict : Bool) (q rest : List ℕ) (r : Result Reading DecodeError) → input ≡ q ++ rest → length q ≤ 15 → Takes (body_step rows strict) q r → walked strict ≡ closed r (length q) start
+      walked_as : (strict : Bool) (q rest : List ℕ) (r : Result Reading DecodeError) → input ≡ q ++ rest → length q ≤ 15 → Takes (walk_within rows strict) q r → walked strict ≡ closed r (length q) start
       unfolding decode_step
       walked_as strict q rest r h short t =
           ap (λ o. closed o.answer o.after.since_mark start) (t.takes (take (15 - length q) rest) first (within input q rest h short))
@@ -306,7 +306,7 @@ module _ (same_elsewhere : SameElsewhere) (fence_by_default : ReadByDefault) (fe
         is = f.is
 
         abbrev p : Prefixes
-        p = seen is.map is.opcode (reading_of is.run)
+        p = seen_by is.map is.opcode (reading_of is.run)
 
         refused : IsRefusedByRecord rows true f.fence BadOperand
         refused = record { run = is.run; map = is.map; opcode = is.opcode; row = is.row; tail = is.modrm ∷ []; spelled = is.spelled; prefixes = is.prefixes; meant = is.meant; has_row = is.has_row; refuses = fence_refused is.row p is.modrm is.names }
@@ -315,12 +315,12 @@ module _ (same_elsewhere : SameElsewhere) (fence_by_default : ReadByDefault) (fe
         taken = early rows true f.fence InvalidOperand (case_3 BadOperand refused)
 
         pub fence_strict_answer : IsAnswer rows true input (Err InvalidOperand) (length f.fence)
-        fence_strict_answer = answer_at true (Err InvalidOperand) (length f.fence) (walked_as true f.fence f.rest (Err InvalidOperand) f.begins f.short (subst (Takes (body_step rows true) f.fence) (refused_by taken.0 taken.2) taken.1.takes))
+        fence_strict_answer = answer_at true (Err InvalidOperand) (length f.fence) (walked_as true f.fence f.rest (Err InvalidOperand) f.begins f.short (subst (Takes (walk_within rows true) f.fence) (refused_by taken.0 taken.2) taken.1.takes))
 
         read_whole : Whole rows false f.fence (fence_reading is.names.opcode p)
         read_whole = record { run = is.run; map = is.map; opcode = is.opcode; row = is.row; tail = is.modrm ∷ []; spelled = is.spelled; prefixes = is.prefixes; meant = is.meant; has_row = is.has_row; asked = fence_spelled is.row p is.modrm is.names }
 
-        read_lock : lock_allowed (fence_reading is.names.opcode p) ≡ not (reading_of is.run).lock
+        read_lock : allows_lock (fence_reading is.names.opcode p) ≡ not (reading_of is.run).lock
         read_lock = fence_lock is.modrm is.names.opcode p is.names.named ∙ ap not (seen_lock is.map is.opcode (reading_of is.run))
 
         abbrev fence_instruction : Instruction
@@ -329,7 +329,7 @@ module _ (same_elsewhere : SameElsewhere) (fence_by_default : ReadByDefault) (fe
         read_walk : walked false ≡ closed (Ok (fence_reading is.names.opcode p)) (length f.fence) start
         read_walk = walked_as false f.fence f.rest (Ok (fence_reading is.names.opcode p)) f.begins f.short (takes_whole rows false f.fence (fence_reading is.names.opcode p) read_whole)
 
-        closed_as : (t : Bool) → lock_allowed (fence_reading is.names.opcode p) ≡ t → walked false ≡ (if t then outcome (Ok fence_instruction) (advanced (length f.fence) start) else outcome (Err InvalidPrefixes) (advanced (length f.fence) start))
+        closed_as : (t : Bool) → allows_lock (fence_reading is.names.opcode p) ≡ t → walked false ≡ (if t then outcome (Ok fence_instruction) (advanced (length f.fence) start) else outcome (Err InvalidPrefixes) (advanced (length f.fence) start))
         closed_as t e = read_walk ∙ ap (λ b. if b then outcome (Ok fence_instruction) (advanced (length f.fence) start) else outcome (Err InvalidPrefixes) (advanced (length f.fence) start)) e
 
         pub fence_read : (reading_of is.run).lock ≡ false → (i : Instruction) × IsAnswer rows false input (Ok i) (length f.fence) × (i.opcode ≡ is.names.opcode) × (i.given.count ≡ 0)
@@ -341,9 +341,9 @@ module _ (same_elsewhere : SameElsewhere) (fence_by_default : ReadByDefault) (fe
 
   -- ---- the printed rows
 
-  pub printed_elsewhere : (xs : List ℕ) → ((answer_of true xs ≡ answer_of false xs) × (count_of true xs ≡ count_of false xs)) ⊎ BeginsWithFence (rows_of word_at) xs
-  printed_elsewhere xs = by (same_elsewhere_on (rows_of word_at) xs)
+  pub printed_elsewhere : (xs : List ℕ) → ((answer_of true xs ≡ answer_of false xs) × (count_of true xs ≡ count_of false xs)) ⊎ BeginsWithFence (rows_of packed) xs
+  printed_elsewhere xs = by (same_elsewhere_on (rows_of packed) xs)
     where
-      by : ((r : Result Instruction DecodeError) (n : ℕ) → IsAnswer (rows_of word_at) true xs r n ↔ IsAnswer (rows_of word_at) false xs r n) ⊎ BeginsWithFence (rows_of word_at) xs → ((answer_of true xs ≡ answer_of false xs) × (count_of true xs ≡ count_of false xs)) ⊎ BeginsWithFence (rows_of word_at) xs
+      by : ((r : Result Instruction DecodeError) (n : ℕ) → IsAnswer (rows_of packed) true xs r n ↔ IsAnswer (rows_of packed) false xs r n) ⊎ BeginsWithFence (rows_of packed) xs → ((answer_of true xs ≡ answer_of false xs) × (count_of true xs ≡ count_of false xs)) ⊎ BeginsWithFence (rows_of packed) xs
       by (inl e) = inl (only_answer false xs (answer_of true xs) (count_of true xs) ((e (answer_of true xs) (count_of true xs)).0 (is_answer true xs)))
       by (inr f) = inr f

@@ -1,12 +1,12 @@
 -- What the table of leads says of a byte.
 use Rattle.std.proofs.Common.{◌≡◌, ◌==◌, ◌||◌, ℕ, Bool, true, false, if◌then◌else◌, IsTrue, refl}
 use Rattle.std.proofs.lemmas.Bool.{eqb-true}
-use Rattle.x86_fields.specs.Run.{is_legacy_byte, is_rex_byte, is_prefix_byte}
+use Rattle.x86_fields.specs.Run.{is_legacy, is_rex, is_prefix}
 use Rattle.x86_decode.specs.declared.leads.TheConstants.{LEADS}
 use Rattle.x86_decode.specs.declared.leads.Lead.{Lead}
 use Rattle.x86_decode.specs.declared.leads.Lead.TheVariants.{Opcode, Legacy, Rex, Escape, Vex}
 use Rattle.x86_decode.specs.Head.{is_vex}
-use Rattle.x86_decode.specs.Lead.{lead, leads}
+use Rattle.x86_decode.specs.Lead.{lead_of, leads}
 
 pub table : LEADS.now ≡ leads
 unfolding leads
@@ -21,20 +21,20 @@ of_prefix Rex = true
 of_prefix x = false
 
 -- C4, C5, 62 and 0F are no prefixes
-vex_free : (b : ℕ) → is_vex b ≡ true → is_prefix_byte b ≡ false
+vex_free : (b : ℕ) → is_vex b ≡ true → is_prefix b ≡ false
 vex_free b h = by (b == 0xc4) (b == 0xc5) (b == 0x62) refl refl refl h
   where
-    by : (x y z : Bool) → (b == 0xc4) ≡ x → (b == 0xc5) ≡ y → (b == 0x62) ≡ z → (x || (y || z)) ≡ true → is_prefix_byte b ≡ false
+    by : (x y z : Bool) → (b == 0xc4) ≡ x → (b == 0xc5) ≡ y → (b == 0x62) ≡ z → (x || (y || z)) ≡ true → is_prefix b ≡ false
     by true y z e f g k = rw (eqb-true b 0xc4 e) refl
     by false true z e f g k = rw (eqb-true b 0xc5 f) refl
     by false false true e f g k = rw (eqb-true b 0x62 g) refl
     by false false false e f g k = cc
 
-escape_free : (b : ℕ) → (b == 0x0f) ≡ true → is_prefix_byte b ≡ false
+escape_free : (b : ℕ) → (b == 0x0f) ≡ true → is_prefix b ≡ false
 escape_free b h = rw (eqb-true b 0x0f h) refl
 
-pub prefix_lead : (b : ℕ) → is_prefix_byte b ≡ of_prefix (lead b)
-prefix_lead b = by (is_vex b) (b == 0x0f) (is_legacy_byte b) (is_rex_byte b) (vex_free b) (escape_free b)
+pub prefix_lead : (b : ℕ) → is_prefix b ≡ of_prefix (lead_of b)
+prefix_lead b = by (is_vex b) (b == 0x0f) (is_legacy b) (is_rex b) (vex_free b) (escape_free b)
   where
     by : (v e l r : Bool) → (v ≡ true → (l || r) ≡ false) → (e ≡ true → (l || r) ≡ false) → (l || r) ≡ of_prefix (lead_by v e l r)
     by true e l r f g = f refl
@@ -43,8 +43,8 @@ prefix_lead b = by (is_vex b) (b == 0x0f) (is_legacy_byte b) (is_rex_byte b) (ve
     by false false false true f g = refl
     by false false false false f g = refl
 
-pub rex_lead : (b : ℕ) → lead b ≡ Rex → IsTrue (is_rex_byte b)
-rex_lead b h = by (is_vex b) (b == 0x0f) (is_legacy_byte b) (is_rex_byte b) h
+pub rex_lead : (b : ℕ) → lead_of b ≡ Rex → IsTrue (is_rex b)
+rex_lead b h = by (is_vex b) (b == 0x0f) (is_legacy b) (is_rex b) h
   where
     by : (v e l r : Bool) → lead_by v e l r ≡ Rex → IsTrue r
     by true e l r h = cc
@@ -53,8 +53,8 @@ rex_lead b h = by (is_vex b) (b == 0x0f) (is_legacy_byte b) (is_rex_byte b) h
     by false false false true h = refl
     by false false false false h = cc
 
-pub vex_lead : (b : ℕ) → lead b ≡ Vex → is_vex b ≡ true
-vex_lead b h = by (is_vex b) (b == 0x0f) (is_legacy_byte b) (is_rex_byte b) h
+pub vex_lead : (b : ℕ) → lead_of b ≡ Vex → is_vex b ≡ true
+vex_lead b h = by (is_vex b) (b == 0x0f) (is_legacy b) (is_rex b) h
   where
     by : (v e l r : Bool) → lead_by v e l r ≡ Vex → v ≡ true
     by true e l r h = refl
@@ -64,8 +64,8 @@ vex_lead b h = by (is_vex b) (b == 0x0f) (is_legacy_byte b) (is_rex_byte b) h
     by false false false false h = cc
 
 -- an escape is 0F
-pub escape_lead : (b : ℕ) → lead b ≡ Escape → b ≡ 0x0f
-escape_lead b h = eqb-true b 0x0f (by (is_vex b) (b == 0x0f) (is_legacy_byte b) (is_rex_byte b) h)
+pub escape_lead : (b : ℕ) → lead_of b ≡ Escape → b ≡ 0x0f
+escape_lead b h = eqb-true b 0x0f (by (is_vex b) (b == 0x0f) (is_legacy b) (is_rex b) h)
   where
     by : (v e l r : Bool) → lead_by v e l r ≡ Escape → e ≡ true
     by true e l r h = cc
@@ -79,8 +79,8 @@ is_plain Vex = false
 is_plain Escape = false
 is_plain x = true
 
-pub plain_lead : (b : ℕ) → is_plain (lead b) ≡ true → (is_vex b ≡ false) × ((b == 0x0f) ≡ false)
-plain_lead b h = by (is_vex b) (b == 0x0f) (is_legacy_byte b) (is_rex_byte b) h
+pub plain_lead : (b : ℕ) → is_plain (lead_of b) ≡ true → (is_vex b ≡ false) × ((b == 0x0f) ≡ false)
+plain_lead b h = by (is_vex b) (b == 0x0f) (is_legacy b) (is_rex b) h
   where
     by : (v e l r : Bool) → is_plain (lead_by v e l r) ≡ true → (v ≡ false) × (e ≡ false)
     by true e l r h = cc

@@ -10,8 +10,8 @@ use Rattle.x86_forms.specs.declared.Form.{Form}
 use Rattle.x86_forms.specs.declared.Form.TheVariants as form
 use Rattle.x86_forms.specs.Rows.{Row, printed_rows, row_in, stands_in, printed_row}
 use Rattle.x86_forms.specs.declared.TableRow.{TableRow}
-use Rattle.x86_forms.specs.Groups.{is_group_form}
-use Rattle.x86_forms.specs.Words.{rows_of, word_at}
+use Rattle.x86_forms.specs.Groups.{is_group}
+use Rattle.x86_forms.specs.Words.{rows_of, packed}
 use Rattle.x86_operands.specs.declared.plans.Fault.TheVariants.{Incomplete}
 use Rattle.x86_operands.specs.declared.plans.Moment.{Moment}
 use Rattle.x86_operands.specs.declared.plans.Verdict.TheVariants.{Refuses}
@@ -20,7 +20,7 @@ use Rattle.x86_operands.specs.Forms.{form_record}
 use Rattle.x86_operands.specs.Pieces.{modrm_of, RefusesTail, at_modrm, after_address, after_suffix, no_name, RefusesRow, at_opcode, behind_modrm}
 use Rattle.x86_groups.specs.Groups.{group_record}
 use Rattle.x86_decode.specs.declared.instructions.Instruction.{Instruction}
-use Rattle.x86_decode.specs.Head.{Rows, column_of, seen}
+use Rattle.x86_decode.specs.Head.{Rows, column_of, seen_by}
 use Rattle.x86_decode.specs.Grammar.{record_of, IsSentence, IsRefusedByRecord, IsAnswer}
 use Rattle.x86_decode.specs.Answer.{answer_of, count_of}
 use Rattle.x86_decode.specs.Choices.{IsFence}
@@ -36,7 +36,7 @@ GroupIsSmall = (strict : Bool) (row : TableRow) (p : Prefixes) (m : ℕ) → ((g
 
 module _ (plain : PlainIsSmall) (group : GroupIsSmall) where
   record_small : (strict : Bool) (row : TableRow) (p : Prefixes) (m : ℕ) → ((record_of strict row p).plan m).size ≤ 64
-  record_small strict row p m = by (is_group_form row.form)
+  record_small strict row p m = by (is_group row.form)
     where
       by : (t : Bool) → ((if t then group_record strict row p else form_record row p).plan m).size ≤ 64
       by true = group strict row p m
@@ -45,7 +45,7 @@ module _ (plain : PlainIsSmall) (group : GroupIsSmall) where
   -- an instruction has the size of its plan
   sentence_small : (rows : Rows) (strict : Bool) (s : List ℕ) (a : Instruction) → IsSentence rows strict s a → a.given.mem_size < 65
   sentence_small rows strict s a is =
-      let p : Prefixes = seen is.whole.map is.whole.opcode (reading_of is.whole.run) in
+      let p : Prefixes = seen_by is.whole.map is.whole.opcode (reading_of is.whole.run) in
       let r : RowRecord = record_of strict is.whole.row p in
       let m : ℕ = modrm_of r.modrm is.whole.asked.modrm in
       let size : a.given.mem_size ≡ (r.plan m).size = ap (λ i. i.given.mem_size) is.gives ∙ ap (λ x. x.mem_size) is.whole.asked.behind.gives in
@@ -56,12 +56,12 @@ module _ (plain : PlainIsSmall) (group : GroupIsSmall) where
   answer_small rows strict input a n h = sentence_small rows strict h.sentence a h.is
 
   pub printed_small : (strict : Bool) (xs : List ℕ) (i : Instruction) → answer_of strict xs ≡ Ok i → i.given.mem_size < 65
-  printed_small strict xs i e = answer_small (rows_of word_at) strict xs i (count_of strict xs) (printed_answer strict xs (Ok i) (sym e))
+  printed_small strict xs i e = answer_small (rows_of packed) strict xs i (count_of strict xs) (printed_answer strict xs (Ok i) (sym e))
 
 -- ---- records that are left out, by the laws on what is built
 
 abbrev PlainIsBuilt : Type 0
-PlainIsBuilt = (row : TableRow) (p : Prefixes) (m : ℕ) (w : Moment) → is_group_form row.form ≡ false → ((form_record row p).plan m).verdict ≢ Refuses Incomplete w
+PlainIsBuilt = (row : TableRow) (p : Prefixes) (m : ℕ) (w : Moment) → is_group row.form ≡ false → ((form_record row p).plan m).verdict ≢ Refuses Incomplete w
 
 abbrev PlainPasses : Type 0
 PlainPasses = (row : TableRow) (p : Prefixes) → (form_record row p).at_opcode ≡ None
@@ -70,20 +70,20 @@ abbrev GroupPasses : Type 0
 GroupPasses = (strict : Bool) (row : TableRow) (p : Prefixes) → (group_record strict row p).at_opcode ≢ Some Incomplete
 
 abbrev GroupIsBuilt : Type 0
-GroupIsBuilt = (strict : Bool) (row : TableRow) (p : Prefixes) (m : ℕ) (w : Moment) → is_group_form row.form ≡ true → ((group_record strict row p).plan m).verdict ≡ Refuses Incomplete w → row.form ≡ form.ModRM_0x8f
+GroupIsBuilt = (strict : Bool) (row : TableRow) (p : Prefixes) (m : ℕ) (w : Moment) → is_group row.form ≡ true → ((group_record strict row p).plan m).verdict ≡ Refuses Incomplete w → row.form ≡ form.ModRM_0x8f
 
 module _ (plain : PlainIsBuilt) (passes : PlainPasses) (group_passes : GroupPasses) (group : GroupIsBuilt) where
   no_gap_at_opcode : (strict : Bool) (row : TableRow) (p : Prefixes) → (record_of strict row p).at_opcode ≢ Some Incomplete
-  no_gap_at_opcode strict row p = by (is_group_form row.form)
+  no_gap_at_opcode strict row p = by (is_group row.form)
     where
       by : (t : Bool) → (if t then group_record strict row p else form_record row p).at_opcode ≢ Some Incomplete
       by true e = group_passes strict row p e
       by false e = let none = passes row p in absurd cc
 
   gap_of_8f : (strict : Bool) (row : TableRow) (p : Prefixes) (m : ℕ) (w : Moment) → ((record_of strict row p).plan m).verdict ≡ Refuses Incomplete w → row.form ≡ form.ModRM_0x8f
-  gap_of_8f strict row p m w = by (is_group_form row.form) refl
+  gap_of_8f strict row p m w = by (is_group row.form) refl
     where
-      by : (t : Bool) → is_group_form row.form ≡ t → ((if t then group_record strict row p else form_record row p).plan m).verdict ≡ Refuses Incomplete w → row.form ≡ form.ModRM_0x8f
+      by : (t : Bool) → is_group row.form ≡ t → ((if t then group_record strict row p else form_record row p).plan m).verdict ≡ Refuses Incomplete w → row.form ≡ form.ModRM_0x8f
       by true is e = group strict row p m w is e
       by false is e = absurd (plain row p m w is e)
 
@@ -98,7 +98,7 @@ module _ (plain : PlainIsBuilt) (passes : PlainPasses) (group_passes : GroupPass
   row_of_8f strict row p bytes (behind_modrm modrm tail _ _ _ t) = tail_of_8f strict row p (modrm_of (record_of strict row p).modrm modrm) tail t
 
   pub left_out_is_8f : (rows : Rows) (strict : Bool) (q : List ℕ) (c : IsRefusedByRecord rows strict q Incomplete) → c.row.form ≡ form.ModRM_0x8f
-  left_out_is_8f rows strict q c = row_of_8f strict c.row (seen c.map c.opcode (reading_of c.run)) c.tail c.refuses
+  left_out_is_8f rows strict q c = row_of_8f strict c.row (seen_by c.map c.opcode (reading_of c.run)) c.tail c.refuses
 
 -- ---- where a form is printed
 
@@ -109,7 +109,7 @@ all_at is at m (r ∷ rs) = (not (is r.row.form) || at m r.byte) && all_at is at
 
 -- the law that the printed words have the printed rows
 abbrev PrintedRows : Type 0
-PrintedRows = (m : Map) (column : Column) (byte : ℕ) → rows_of word_at m column byte ≡ printed_row m column byte
+PrintedRows = (m : Map) (column : Column) (byte : ℕ) → rows_of packed m column byte ≡ printed_row m column byte
 
 module _ (printed : PrintedRows) (is : Form → Bool) (f : Form) (named : is f ≡ true) (at : Map → ℕ → Bool) where
   stands : (m : Map) (r : Row) → (not (is r.row.form) || at m r.byte) ≡ true → r.row.form ≡ f → at m r.byte ≡ true
@@ -128,7 +128,7 @@ module _ (printed : PrintedRows) (is : Form → Bool) (f : Form) (named : is f �
       (λ _. found m rs column byte parts.1)
 
   -- the form stands at such a place of the printed table alone
-  printed_at : (m : Map) (column : Column) (byte : ℕ) (row : TableRow) → all_at is at m (printed_rows m) ≡ true → rows_of word_at m column byte ≡ Some row → row.form ≡ f → at m byte ≡ true
+  printed_at : (m : Map) (column : Column) (byte : ℕ) (row : TableRow) → all_at is at m (printed_rows m) ≡ true → rows_of packed m column byte ≡ Some row → row.form ≡ f → at m byte ≡ true
   unfolding printed_row
   printed_at m column byte row h e =
       let there = subst (λ o. IfSome o (λ row. row.form ≡ f → at m byte ≡ true)) (sym (printed m column byte)) (found m (printed_rows m) column byte h) in
@@ -152,9 +152,9 @@ is_place_8f : (m : Map) (byte : ℕ) → stands_at_8f m byte ≡ true → (m ≡
 is_place_8f One byte h = (refl, eqb-true byte 0x8f h)
 is_place_8f _ byte h = absurd cc
 
-pub left_out_at_8f : PlainIsBuilt → PlainPasses → GroupPasses → GroupIsBuilt → PrintedRows → (strict : Bool) (q : List ℕ) (c : IsRefusedByRecord (rows_of word_at) strict q Incomplete) → (c.map ≡ One) × (c.opcode ≡ 0x8f)
+pub left_out_at_8f : PlainIsBuilt → PlainPasses → GroupPasses → GroupIsBuilt → PrintedRows → (strict : Bool) (q : List ℕ) (c : IsRefusedByRecord (rows_of packed) strict q Incomplete) → (c.map ≡ One) × (c.opcode ≡ 0x8f)
 left_out_at_8f plain passes group_passes group printed strict q c =
-    is_place_8f c.map c.opcode (printed_at printed is_8f form.ModRM_0x8f refl stands_at_8f c.map (column_of (reading_of c.run)) c.opcode c.row (all_at_8f c.map) c.has_row (left_out_is_8f plain passes group_passes group (rows_of word_at) strict q c))
+    is_place_8f c.map c.opcode (printed_at printed is_8f form.ModRM_0x8f refl stands_at_8f c.map (column_of (reading_of c.run)) c.opcode c.row (all_at_8f c.map) c.has_row (left_out_is_8f plain passes group_passes group (rows_of packed) strict q c))
 
 abbrev is_0fae : Form → Bool
 is_0fae form.ModRM_0x0fae = true
@@ -174,6 +174,6 @@ is_place_0fae : (m : Map) (byte : ℕ) → stands_at_0fae m byte ≡ true → (m
 is_place_0fae Of byte h = (refl, eqb-true byte 0xae h)
 is_place_0fae _ byte h = absurd cc
 
-pub fence_at_0fae : PrintedRows → (q : List ℕ) (c : IsFence (rows_of word_at) q) → (c.map ≡ Of) × (c.opcode ≡ 0xae)
+pub fence_at_0fae : PrintedRows → (q : List ℕ) (c : IsFence (rows_of packed) q) → (c.map ≡ Of) × (c.opcode ≡ 0xae)
 fence_at_0fae printed q c =
     is_place_0fae c.map c.opcode (printed_at printed is_0fae form.ModRM_0x0fae refl stands_at_0fae c.map (column_of (reading_of c.run)) c.opcode c.row (all_at_0fae c.map) c.has_row c.names.group)

@@ -8,12 +8,12 @@ use Rattle.x86_fields.specs.declared.raw.Raw.{Raw}
 use Rattle.x86_fields.specs.Run.{reading_of}
 use Rattle.x86_fields.specs.Linear.{raw_form}
 use Rattle.x86_forms.specs.declared.Map.{Map}
-use Rattle.x86_forms.specs.Words.{rows_of, word_at}
-use Rattle.x86_operands.specs.Shape.{shape_of}
+use Rattle.x86_forms.specs.Words.{rows_of, packed}
+use Rattle.x86_operands.specs.Shape.{shape}
 use Rattle.x86_operands.specs.Linear.{operand_form}
 use Rattle.x86_operands.specs.Plans.{RowRecord}
 use Rattle.x86_decode.specs.declared.instructions.Instruction.{Instruction}
-use Rattle.x86_decode.specs.Head.{Rows, escape_bytes, clears, column_of, seen}
+use Rattle.x86_decode.specs.Head.{Rows, escape_bytes, clears, column_of, seen_by}
 use Rattle.x86_decode.specs.Instruction.{slot_at, operand_at}
 use Rattle.x86_decode.specs.Ties.{HasTiedOperands}
 use Rattle.x86_decode.specs.Addresses.{signs_within, fields_within}
@@ -28,7 +28,7 @@ use Rattle.x86_decode.proofs.TieLaws.{tied_operands, is_shape}
 use Rattle.x86_decode.proofs.PrintedLaws.{printed_answer}
 
 -- clearing 66 leaves 67
-seen_address_size : (map : Map) (b : ℕ) (p : Prefixes) → (seen map b p).address_size ≡ p.address_size
+seen_address_size : (map : Map) (b : ℕ) (p : Prefixes) → (seen_by map b p).address_size ≡ p.address_size
 seen_address_size map b p = by (clears map (column_of p) b)
   where
     by : (t : Bool) → (if t then record p { operand_size = false } else p).address_size ≡ p.address_size
@@ -37,7 +37,7 @@ seen_address_size map b p = by (clears map (column_of p) b)
 
 module _ (rows : Rows) (strict : Bool) (s : List ℕ) (a : Instruction) (is : IsSentence rows strict s a) where
   abbrev row_prefixes : Prefixes
-  row_prefixes = seen is.whole.map is.whole.opcode (reading_of is.whole.run)
+  row_prefixes = seen_by is.whole.map is.whole.opcode (reading_of is.whole.run)
 
   abbrev row_record : RowRecord
   row_record = record_of strict is.whole.row row_prefixes
@@ -54,19 +54,19 @@ abbrev HaveTheirSize : Type 0
 HaveTheirSize = (r : RowRecord) (p : Prefixes) (bytes : List ℕ) (reading : Reading) (asked : SpellsRow r p bytes reading) (raw : Raw) → asked.behind.pieces.memory ≡ Some raw → raw.address_size ≡ p.address_size
 
 abbrev HaveTheForm : Type 0
-HaveTheForm = (raw : Raw) → FitsSigned w32 raw.disp → operand_form raw.address_size (shape_of raw).1 ≡ Some (raw_form raw)
+HaveTheForm = (raw : Raw) → FitsSigned w32 raw.disp → operand_form raw.address_size (shape raw).1 ≡ Some (raw_form raw)
 
 module _ (stand : StandAsShapes) (rows : Rows) (strict : Bool) (s : List ℕ) (a : Instruction) (is : IsSentence rows strict s a) (raw : Raw) (k : ℕ) (memory : fields_within rows strict s is.reading is.whole ≡ Some raw) (named : names_modrm (signs_within rows strict s is.reading is.whole) k ≡ true) where
-  shape_here : (slot_at a k ≡ (shape_of raw).0) × (operand_at a k ≡ (shape_of raw).1)
+  shape_here : (slot_at a k ≡ (shape raw).0) × (operand_at a k ≡ (shape raw).1)
   shape_here =
       let at : HasShapeAt is.reading k raw = stand (row_record rows strict s a is) (row_prefixes rows strict s a is) is.whole.tail is.reading is.whole.asked raw memory k named in
       let here = is_shape is.reading (length s) k raw at in
       (ap (λ i. slot_at i k) is.gives ∙ here.0, ap (λ i. operand_at i k) is.gives ∙ here.1)
 
-  pub sentence_slot : slot_at a k ≡ (shape_of raw).0
+  pub sentence_slot : slot_at a k ≡ (shape raw).0
   sentence_slot = shape_here.0
 
-  pub sentence_operand : operand_at a k ≡ (shape_of raw).1
+  pub sentence_operand : operand_at a k ≡ (shape raw).1
   sentence_operand = shape_here.1
 
   -- the bytes of SIB and displacement
@@ -98,4 +98,4 @@ pub accepted_tied : (rows : Rows) (strict : Bool) (input : List ℕ) (a : Instru
 accepted_tied rows strict input a n h = sentence_tied rows strict h.sentence a h.is
 
 pub printed_tied : (strict : Bool) (xs : List ℕ) (i : Instruction) → answer_of strict xs ≡ Ok i → HasTiedOperands i
-printed_tied strict xs i e = answer_tied (rows_of word_at) strict xs (Ok i) (count_of strict xs) (printed_answer strict xs (Ok i) (sym e))
+printed_tied strict xs i e = answer_tied (rows_of packed) strict xs (Ok i) (count_of strict xs) (printed_answer strict xs (Ok i) (sym e))

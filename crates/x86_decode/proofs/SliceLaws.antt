@@ -5,28 +5,28 @@ use Rattle.x86_arch.specs.Reader.{State}
 use Rattle.x86_fields.specs.declared.errors.DecodeError.{DecodeError}
 use Rattle.x86_fields.specs.declared.errors.DecodeError.TheVariants.{ExhaustedInput}
 use Rattle.x86_fields.specs.Steps.{outcome}
-use Rattle.x86_forms.specs.Words.{rows_of, word_at}
+use Rattle.x86_forms.specs.Words.{rows_of, packed}
 use Rattle.x86_operands.specs.declared.reader.Reading.{Reading}
 use Rattle.x86_decode.specs.declared.instructions.Instruction.{Instruction}
 use Rattle.x86_decode.specs.Answer.{answer_of, outcome_of}
-use Rattle.x86_decode.specs.Grammar.{lock_allowed}
+use Rattle.x86_decode.specs.Grammar.{allows_lock}
 use Rattle.x86_decode.specs.Instruction.{holding, reading_in}
-use Rattle.x86_decode.specs.Walk.{body_step, closed, decode_step, judgement, limited}
+use Rattle.x86_decode.specs.Walk.{walk_within, closed, decode_step, judgement, limited}
 
 abbrev pub at_start : List ℕ → State ℕ
 at_start bytes = record { left = bytes; since_mark = 0; since_made = 0 }
 
-slice_is : (strict : Bool) (bytes : List ℕ) (r : Result Reading DecodeError) (t u : State ℕ) → u ≡ at_start (take 15 bytes) → outcome r t ≡ body_step (rows_of word_at) strict u → (closed r t.since_mark (at_start bytes)).answer ≡ answer_of strict bytes
+slice_is : (strict : Bool) (bytes : List ℕ) (r : Result Reading DecodeError) (t u : State ℕ) → u ≡ at_start (take 15 bytes) → outcome r t ≡ walk_within (rows_of packed) strict u → (closed r t.since_mark (at_start bytes)).answer ≡ answer_of strict bytes
 unfolding answer_of outcome_of decode_step
-slice_is strict bytes r t u e h = ap (λ o. (closed o.answer o.after.since_mark (at_start bytes)).answer) (h ∙ ap (body_step (rows_of word_at) strict) e)
+slice_is strict bytes r t u e h = ap (λ o. (closed o.answer o.after.since_mark (at_start bytes)).answer) (h ∙ ap (walk_within (rows_of packed) strict) e)
 
-pub slice_ok : (strict : Bool) (bytes : List ℕ) (i : Instruction) (n : ℕ) (j : Result (Unit {0}) DecodeError) (t u : State ℕ) → u ≡ at_start (take 15 bytes) → outcome (Ok (reading_in i)) t ≡ body_step (rows_of word_at) strict u → n ≡ t.since_mark → j ≡ judgement (reading_in i) →
+pub slice_ok : (strict : Bool) (bytes : List ℕ) (i : Instruction) (n : ℕ) (j : Result (Unit {0}) DecodeError) (t u : State ℕ) → u ≡ at_start (take 15 bytes) → outcome (Ok (reading_in i)) t ≡ walk_within (rows_of packed) strict u → n ≡ t.since_mark → j ≡ judgement (reading_in i) →
     holding (record i { length = n }) j ≡ answer_of strict bytes
 slice_ok strict bytes i n j t u e h k l =
-    ap (holding (record i { length = n })) l ∙ by (lock_allowed (reading_in i)) refl
+    ap (holding (record i { length = n })) l ∙ by (allows_lock (reading_in i)) refl
     ∙ ap (λ m. (closed (Ok (reading_in i)) m (at_start bytes)).answer) k ∙ slice_is strict bytes (Ok (reading_in i)) t u e h
   where
-    by : (b : Bool) → lock_allowed (reading_in i) ≡ b → holding (record i { length = n }) (judgement (reading_in i)) ≡ (closed (Ok (reading_in i)) n (at_start bytes)).answer
+    by : (b : Bool) → allows_lock (reading_in i) ≡ b → holding (record i { length = n }) (judgement (reading_in i)) ≡ (closed (Ok (reading_in i)) n (at_start bytes)).answer
     by true q = rw q refl
     by false q = rw q refl
 
@@ -41,7 +41,7 @@ closed_limited ExhaustedInput n bytes true h = rw h refl
 closed_limited ExhaustedInput n bytes false h = rw h refl
 closed_limited e n bytes b h = refl
 
-pub slice_err : (strict : Bool) (bytes within : List ℕ) (e f : DecodeError) (t u : State ℕ) → within ≡ take 15 bytes → u ≡ at_start (take 15 bytes) → outcome (Err e) t ≡ body_step (rows_of word_at) strict u → f ≡ limited e (length within == 15) →
+pub slice_err : (strict : Bool) (bytes within : List ℕ) (e f : DecodeError) (t u : State ℕ) → within ≡ take 15 bytes → u ≡ at_start (take 15 bytes) → outcome (Err e) t ≡ walk_within (rows_of packed) strict u → f ≡ limited e (length within == 15) →
     ◌≡◌ {A = Result Instruction DecodeError} (Err f) (answer_of strict bytes)
 slice_err strict bytes within e f t u w s h k =
     ap (λ x. Err x) (k ∙ ap (λ l. limited e (length l == 15)) w ∙ ap (limited e) (full_test bytes))

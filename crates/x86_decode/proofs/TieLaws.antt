@@ -5,7 +5,7 @@ use Rattle.x86_fields.specs.declared.raw.Raw.{Raw}
 use Rattle.x86_operands.specs.declared.operands.Slot.TheVariants as slots
 use Rattle.x86_operands.specs.declared.operands.Operand.TheVariants as operands
 use Rattle.x86_operands.specs.declared.reader.Reading.{Reading}
-use Rattle.x86_operands.specs.Shape.{shape_of}
+use Rattle.x86_operands.specs.Shape.{shape}
 use Rattle.x86_operands.specs.Ties.{is_decoded, suits, slot_read, operand_read, HasTiedPlaces, HasShapeAt}
 use Rattle.x86_decode.specs.declared.instructions.Instruction.{Instruction}
 use Rattle.x86_decode.specs.Instruction.{instruction_of, slot_at, operand_at}
@@ -32,5 +32,5 @@ module _ (reading : Reading) (n : ℕ) where
   }
 
   -- the slot and the operand are the shape of the raw fields
-  pub is_shape : (k : ℕ) (raw : Raw) → HasShapeAt reading k raw → (slot_at made k ≡ (shape_of raw).0) × (operand_at made k ≡ (shape_of raw).1)
+  pub is_shape : (k : ℕ) (raw : Raw) → HasShapeAt reading k raw → (slot_at made k ≡ (shape raw).0) × (operand_at made k ≡ (shape raw).1)
   is_shape k raw stands = (slot_here k stands.below ∙ stands.slot, operand_here k stands.below ∙ stands.operand)

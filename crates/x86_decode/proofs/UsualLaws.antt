@@ -4,7 +4,7 @@ use Rattle.x86_arch.specs.Reader.{State}
 use Rattle.x86_fields.specs.declared.errors.DecodeError.{DecodeError}
 use Rattle.x86_fields.specs.declared.prefixes.Prefixes.{Prefixes}
 use Rattle.x86_fields.specs.Steps.{Outcome, outcome, then_from}
-use Rattle.x86_forms.specs.Groups.{is_group_form}
+use Rattle.x86_forms.specs.Groups.{is_group}
 use Rattle.x86_forms.specs.declared.Form.{Form}
 use Rattle.x86_forms.specs.declared.TableRow.{TableRow}
 use Rattle.x86_operands.specs.declared.encodings.Behind.{Behind}
@@ -16,7 +16,7 @@ use Rattle.x86_operands.specs.declared.plans.ModrmUse.TheVariants.{Absent, Field
 use Rattle.x86_operands.specs.declared.reader.Reading.{Reading}
 use Rattle.x86_operands.specs.Encodings.{Belongs, carried, group_form, is_row, plan_of, use_of}
 use Rattle.x86_operands.specs.Forms.{form_plan, form_record, modrm_use}
-use Rattle.x86_operands.specs.Signs.{modrm_step, plan_step, record_step}
+use Rattle.x86_operands.specs.Signs.{read_modrm, read_plan, record_step}
 use Rattle.x86_groups.specs.ByReg.{Chooses, reg_plan}
 use Rattle.x86_groups.specs.Groups.{group_plan, group_record}
 use Rattle.x86_groups.proofs.RegLaws.{reg_record, reg_chosen, reg_group, reg_carries}
@@ -24,7 +24,7 @@ use Rattle.x86_decode.specs.Walk.{row_step, plan_at}
 
 -- what stands behind a ModRM byte that was read
 abbrev asks : Bool → TableRow → Prefixes → Result ℕ DecodeError → State ℕ → Outcome Reading
-asks strict row p r s = then_from r s (λ m. plan_step (plan_at strict row p m) p m)
+asks strict row p r s = then_from r s (λ m. read_plan (plan_at strict row p m) p m)
 
 same_asks : {r : Result ℕ DecodeError} {t : State ℕ} {o : Outcome ℕ} (strict : Bool) (row : TableRow) (p : Prefixes) → outcome r t ≡ o → asks strict row p r t ≡ asks strict row p o.answer o.after
 same_asks strict row p e = ap (λ o. asks strict row p o.answer o.after) e
@@ -32,7 +32,7 @@ same_asks strict row p e = ap (λ o. asks strict row p o.answer o.after) e
 -- ---- rows of the table
 
 abbrev pub IsPlain : ModrmUse → Behind → Form → Type 0
-IsPlain u b f = (use_of b ≡ u) × (is_group_form f ≡ false)
+IsPlain u b f = (use_of b ≡ u) × (is_group f ≡ false)
 
 pub with_fields : (b : Behind) (f : Form) → b ≡ behind.Fields → Belongs b f → IsPlain Fields b f
 with_fields b f e h = (ap use_of e, subst (λ k. Belongs k f) e h)
@@ -46,28 +46,28 @@ with_none b f (inl e) h = (ap use_of e, subst (λ k. Belongs k f) e h)
 with_none b f (inr (inl e)) h = (ap use_of e, subst (λ k. Belongs k f) e h)
 with_none b f (inr (inr e)) h = (ap use_of e, subst (λ k. Belongs k f) e h)
 
-plain_asks : (strict : Bool) (row : TableRow) (p : Prefixes) (s : State ℕ) → is_group_form row.form ≡ false → row_step strict row p s ≡ asks strict row p (modrm_step (modrm_use row.form) s).answer (modrm_step (modrm_use row.form) s).after
+plain_asks : (strict : Bool) (row : TableRow) (p : Prefixes) (s : State ℕ) → is_group row.form ≡ false → row_step strict row p s ≡ asks strict row p (read_modrm (modrm_use row.form) s).answer (read_modrm (modrm_use row.form) s).after
 unfolding record_step form_record
 plain_asks strict row p s e = rw e refl
 
-pub row_asks : {r : Result ℕ DecodeError} {t : State ℕ} (s : State ℕ) (strict : Bool) (row : TableRow) (p : Prefixes) (u : ModrmUse) (b : Behind) → IsPlain u b row.form → modrm_use row.form ≡ use_of b → outcome r t ≡ modrm_step u s → asks strict row p r t ≡ row_step strict row p s
-row_asks {r} {t} s strict row p u b plain usage e = same_asks strict row p (e ∙ ap (λ k. modrm_step k s) (sym (usage ∙ plain.0))) ∙ sym (plain_asks strict row p s plain.1)
+pub row_asks : {r : Result ℕ DecodeError} {t : State ℕ} (s : State ℕ) (strict : Bool) (row : TableRow) (p : Prefixes) (u : ModrmUse) (b : Behind) → IsPlain u b row.form → modrm_use row.form ≡ use_of b → outcome r t ≡ read_modrm u s → asks strict row p r t ≡ row_step strict row p s
+row_asks {r} {t} s strict row p u b plain usage e = same_asks strict row p (e ∙ ap (λ k. read_modrm k s) (sym (usage ∙ plain.0))) ∙ sym (plain_asks strict row p s plain.1)
 
 -- ---- groups by reg
 
 chosen_plan : (g : RegGroup) (strict : Bool) (row : TableRow) (p : Prefixes) (m : ℕ) → row.form ≡ group_form g → plan_at strict row p m ≡ reg_plan g p m
 chosen_plan g strict row p m e = ap (λ t. if t then group_plan row p m strict else form_plan row.form row.opcode p m) (reg_group g row.form e) ∙ reg_chosen g strict row p m e
 
-reg_behind : (g : RegGroup) (strict : Bool) (row : TableRow) (p : Prefixes) (r : Result ℕ DecodeError) (t : State ℕ) → row.form ≡ group_form g → then_from r t (λ m. plan_step (reg_plan g p m) p m) ≡ asks strict row p r t
-reg_behind g strict row p (Ok m) t e = ap (λ plan. plan_step plan p m t) (sym (chosen_plan g strict row p m e))
+reg_behind : (g : RegGroup) (strict : Bool) (row : TableRow) (p : Prefixes) (r : Result ℕ DecodeError) (t : State ℕ) → row.form ≡ group_form g → then_from r t (λ m. read_plan (reg_plan g p m) p m) ≡ asks strict row p r t
+reg_behind g strict row p (Ok m) t e = ap (λ plan. read_plan plan p m t) (sym (chosen_plan g strict row p m e))
 reg_behind g strict row p (Err x) t e = refl
 
-group_row : (g : RegGroup) (strict : Bool) (row : TableRow) (p : Prefixes) (s : State ℕ) → row.form ≡ group_form g → row_step strict row p s ≡ asks strict row p (modrm_step Fields s).answer (modrm_step Fields s).after
+group_row : (g : RegGroup) (strict : Bool) (row : TableRow) (p : Prefixes) (s : State ℕ) → row.form ≡ group_form g → row_step strict row p s ≡ asks strict row p (read_modrm Fields s).answer (read_modrm Fields s).after
 group_row g strict row p s e =
     ap (λ t. record_step (if t then group_record strict row p else form_record row p) p s) (reg_group g row.form e)
-    ∙ reg_record g strict row p s e ∙ reg_behind g strict row p (modrm_step Fields s).answer (modrm_step Fields s).after e
+    ∙ reg_record g strict row p s e ∙ reg_behind g strict row p (read_modrm Fields s).answer (read_modrm Fields s).after e
 
-pub group_asks : {r : Result ℕ DecodeError} {t : State ℕ} (s : State ℕ) (strict : Bool) (row : TableRow) (p : Prefixes) (g : RegGroup) → row.form ≡ group_form g → outcome r t ≡ modrm_step Fields s → asks strict row p r t ≡ row_step strict row p s
+pub group_asks : {r : Result ℕ DecodeError} {t : State ℕ} (s : State ℕ) (strict : Bool) (row : TableRow) (p : Prefixes) (g : RegGroup) → row.form ≡ group_form g → outcome r t ≡ read_modrm Fields s → asks strict row p r t ≡ row_step strict row p s
 group_asks {r} {t} s strict row p g e b = same_asks strict row p b ∙ sym (group_row g strict row p s e)
 
 pub group_described : (strict : Bool) (row : TableRow) (p : Prefixes) (m o : ℕ) (g : RegGroup) (e : Encoding) → row.form ≡ group_form g → Chooses g m o e → IsTrue (is_row e.behind) → plan_of e (carried row.form) o p m ≡ plan_at strict row p m

@@ -3,32 +3,32 @@ use Rattle.std.proofs.Common.{◌≡◌, ℕ, true, Result, Ok, Err, Option, ref
 use Rattle.x86_arch.specs.Reader.{State}
 use Rattle.x86_fields.specs.declared.errors.DecodeError.{DecodeError}
 use Rattle.x86_fields.specs.declared.prefixes.Prefixes.{Prefixes}
-use Rattle.x86_fields.specs.Steps.{Outcome, outcome, then_from, pure, byte_step}
+use Rattle.x86_fields.specs.Steps.{Outcome, outcome, then_from, pure, next_byte}
 use Rattle.x86_forms.specs.declared.Map.{Map}
 use Rattle.x86_forms.specs.declared.Map.TheVariants.{One}
 use Rattle.x86_forms.specs.declared.TableRow.{TableRow}
 use Rattle.x86_decode.specs.declared.leads.Lead.TheVariants.{Vex, Escape}
-use Rattle.x86_decode.specs.Head.{Rows, column_of, vex_error, seen}
-use Rattle.x86_decode.specs.Lead.{lead}
-use Rattle.x86_decode.specs.Walk.{escaped_step, opcode_step, found_step}
+use Rattle.x86_decode.specs.Head.{Rows, column_of, vex_refusal, seen_by}
+use Rattle.x86_decode.specs.Lead.{lead_of}
+use Rattle.x86_decode.specs.Walk.{read_escaped, opcode_step, read_word}
 use Rattle.x86_decode.proofs.LeadLemmas.{vex_lead, escape_lead, plain_lead, is_plain}
 
-pub found_vex : (rows : Rows) (p : Prefixes) (b : ℕ) (s : State ℕ) → lead b ≡ Vex → outcome (Err (vex_error p)) s ≡ found_step rows p b s
+pub found_vex : (rows : Rows) (p : Prefixes) (b : ℕ) (s : State ℕ) → lead_of b ≡ Vex → outcome (Err (vex_refusal p)) s ≡ read_word rows p b s
 unfolding opcode_step
 found_vex rows p b s h = rw (vex_lead b h) refl
 
-pub found_plain : (rows : Rows) (p : Prefixes) (b : ℕ) (s : State ℕ) → is_plain (lead b) ≡ true → outcome (Ok (rows One (column_of p) b, p)) s ≡ found_step rows p b s
+pub found_plain : (rows : Rows) (p : Prefixes) (b : ℕ) (s : State ℕ) → is_plain (lead_of b) ≡ true → outcome (Ok (rows One (column_of p) b, p)) s ≡ read_word rows p b s
 unfolding opcode_step
 found_plain rows p b s h = rw ((plain_lead b h).0, (plain_lead b h).1) refl
 
 abbrev behind : Rows → Prefixes → Result ℕ DecodeError → State ℕ → Outcome (Option TableRow × Prefixes)
-behind rows p r s = then_from (then_from r s (λ d. escaped_step d)).answer (then_from r s (λ d. escaped_step d)).after (λ o. pure (rows o.0 (column_of p) o.1, seen o.0 o.1 p))
+behind rows p r s = then_from (then_from r s (λ d. read_escaped d)).answer (then_from r s (λ d. read_escaped d)).after (λ o. pure (rows o.0 (column_of p) o.1, seen_by o.0 o.1 p))
 
-pub found_escape : (rows : Rows) (p : Prefixes) (b : ℕ) (r : Result ℕ DecodeError) (s t : State ℕ) → lead b ≡ Escape → outcome r t ≡ byte_step s → behind rows p r t ≡ found_step rows p b s
+pub found_escape : (rows : Rows) (p : Prefixes) (b : ℕ) (r : Result ℕ DecodeError) (s t : State ℕ) → lead_of b ≡ Escape → outcome r t ≡ next_byte s → behind rows p r t ≡ read_word rows p b s
 unfolding opcode_step
 found_escape rows p b r s t h e = ap (λ o. behind rows p o.answer o.after) e ∙ rw (escape_lead b h) refl
 
-pub found_escaped : (rows : Rows) (p : Prefixes) (b d : ℕ) (r : Result (Map × ℕ) DecodeError) (s t u : State ℕ) → lead b ≡ Escape → outcome (Ok d) t ≡ byte_step s → outcome r u ≡ escaped_step d t →
-    then_from r u (λ o. pure (rows o.0 (column_of p) o.1, seen o.0 o.1 p)) ≡ found_step rows p b s
+pub found_escaped : (rows : Rows) (p : Prefixes) (b d : ℕ) (r : Result (Map × ℕ) DecodeError) (s t u : State ℕ) → lead_of b ≡ Escape → outcome (Ok d) t ≡ next_byte s → outcome r u ≡ read_escaped d t →
+    then_from r u (λ o. pure (rows o.0 (column_of p) o.1, seen_by o.0 o.1 p)) ≡ read_word rows p b s
 found_escaped rows p b d r s t u h e f =
-    ap (λ q. then_from q.answer q.after (λ o. pure (rows o.0 (column_of p) o.1, seen o.0 o.1 p))) f ∙ found_escape rows p b (Ok d) s t h e
+    ap (λ q. then_from q.answer q.after (λ o. pure (rows o.0 (column_of p) o.1, seen_by o.0 o.1 p))) f ∙ found_escape rows p b (Ok d) s t h e

@@ -7,14 +7,14 @@ use Rattle.x86_operands.specs.declared.plans.Plan.{Plan}
 use Rattle.x86_operands.specs.declared.reader.Reading.{Reading}
 use Rattle.x86_operands.specs.Plans.{list_of}
 use Rattle.x86_operands.specs.Pieces.{modrm_of}
-use Rattle.x86_decode.specs.Head.{Rows, seen}
+use Rattle.x86_decode.specs.Head.{Rows, seen_by}
 use Rattle.x86_decode.specs.Grammar.{record_of, Whole}
 pub use Rattle.x86_operands.specs.Ties.{is_modrm_sign, names_modrm}
 
 module _ (rows : Rows) (strict : Bool) (s : List ℕ) (reading : Reading) (w : Whole rows strict s reading) where
   -- the plan that the record of the encoding's row has at its ModRM
   abbrev pub plan_within : Plan
-  plan_within = let r = record_of strict w.row (seen w.map w.opcode (reading_of w.run)) in r.plan (modrm_of r.modrm w.asked.modrm)
+  plan_within = let r = record_of strict w.row (seen_by w.map w.opcode (reading_of w.run)) in r.plan (modrm_of r.modrm w.asked.modrm)
 
   -- the signs of its operands
   abbrev pub signs_within : List Sign

@@ -2,13 +2,13 @@
 use Rattle.std.specs.Prelude.{ℕ, Bool, List, Result}
 use Rattle.x86_fields.specs.declared.errors.DecodeError.{DecodeError}
 use Rattle.x86_fields.specs.Steps.{Outcome}
-use Rattle.x86_forms.specs.Words.{rows_of, word_at}
+use Rattle.x86_forms.specs.Words.{rows_of, packed}
 use Rattle.x86_decode.specs.declared.instructions.Instruction.{Instruction}
 use Rattle.x86_decode.specs.Walk.{decode_step}
 
 -- the walk over these bytes alone
 unfoldable pub outcome_of : Bool → List ℕ → Outcome Instruction
-outcome_of strict bytes = decode_step (rows_of word_at) strict (record { left = bytes; since_mark = 0; since_made = 0 })
+outcome_of strict bytes = decode_step (rows_of packed) strict (record { left = bytes; since_mark = 0; since_made = 0 })
 
 unfoldable pub answer_of : Bool → List ℕ → Result Instruction DecodeError
 answer_of strict bytes = (outcome_of strict bytes).answer

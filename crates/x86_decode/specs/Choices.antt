@@ -4,7 +4,7 @@ use Rattle.x86_fields.specs.Run.{reading_of}
 use Rattle.x86_forms.specs.declared.Map.{Map}
 use Rattle.x86_forms.specs.declared.TableRow.{TableRow}
 use Rattle.x86_groups.specs.Choices.{IsFenceWithRm}
-use Rattle.x86_decode.specs.Head.{Rows, is_run, column_of, escape_bytes, is_opcode, seen}
+use Rattle.x86_decode.specs.Head.{Rows, is_run, column_of, escape_bytes, is_opcode, seen_by}
 
 module _ (rows : Rows) where
   -- A run, an escape, the opcode byte of a row, and ModRM: LFENCE, MFENCE or SFENCE, with an rm other than 0.
@@ -18,7 +18,7 @@ module _ (rows : Rows) where
     pub prefixes : is_run run ≡ true
     pub meant : is_opcode map opcode ≡ true
     pub has_row : rows map (column_of (reading_of run)) opcode ≡ Some row
-    pub names : IsFenceWithRm row.form (seen map opcode (reading_of run)) modrm
+    pub names : IsFenceWithRm row.form (seen_by map opcode (reading_of run)) modrm
 
   -- The input begins with such a fence, of at most 15 bytes.
   pub record BeginsWithFence (input : List ℕ) : Type 0 where

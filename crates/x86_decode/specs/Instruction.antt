@@ -4,7 +4,7 @@ use Rattle.x86_regs.specs.declared.Segment.{Segment}
 use Rattle.x86_regs.specs.declared.Segment.TheVariants.{DS, ES}
 use Rattle.x86_opcodes.specs.Names.{Invalid, MOVS, CMPS, XCHG, MOV}
 use Rattle.x86_fields.specs.declared.errors.DecodeError.{DecodeError}
-use Rattle.x86_fields.specs.Run.{reading_of, has_f2, has_f3}
+use Rattle.x86_fields.specs.Run.{reading_of, repnz, rep}
 use Rattle.x86_operands.specs.declared.reader.Reading.{Reading}
 use Rattle.x86_operands.specs.declared.operands.Slot.{Slot}
 use Rattle.x86_operands.specs.declared.operands.Slot.TheVariants as slots
@@ -66,15 +66,15 @@ unless_ds DS = None
 unless_ds s = Some s
 
 -- the segment of the operand at a place, where it isn't the default one
-abbrev pub override_at : Instruction → ℕ → Option Segment
-override_at i k =
+abbrev pub segment_override_for_op : Instruction → ℕ → Option Segment
+segment_override_for_op i k =
     if i.opcode == MOVS then (if k == 0 then Some ES else (if k == 1 then Some i.prefixes.segment else None))
     else (if i.opcode == CMPS then (if k == 0 then Some i.prefixes.segment else (if k == 1 then Some ES else None))
     else (if is_memory_slot (slot_at i k) then unless_ds i.prefixes.segment else None))
 
 -- XCHG with neither slot 0 nor slot 1 a register of rm
-abbrev pub exchanges : Instruction → Bool
-exchanges i = (i.opcode == XCHG) && (not (is_rm_slot (slot_at i 0)) && not (is_rm_slot (slot_at i 1)))
+abbrev pub exchanges_memory : Instruction → Bool
+exchanges_memory i = (i.opcode == XCHG) && (not (is_rm_slot (slot_at i 0)) && not (is_rm_slot (slot_at i 1)))
 
 -- the slots of what MOV may store with a release: a register of reg, or a signed immediate
 abbrev pub is_release_slot : Slot → Bool
@@ -86,11 +86,11 @@ is_release_slot slots.ImmI64 = true
 is_release_slot s = false
 
 -- Source: Intel SDM volume 2, XACQUIRE/XRELEASE.
-abbrev pub acquires : Instruction → Bool
-acquires i = has_f2 i.prefixes && (i.prefixes.lock || exchanges i)
+abbrev pub xacquire : Instruction → Bool
+xacquire i = repnz i.prefixes && (i.prefixes.lock || exchanges_memory i)
 
-abbrev pub releases : Instruction → Bool
-releases i = has_f3 i.prefixes && (i.prefixes.lock || (exchanges i || ((i.opcode == MOV) && (not (is_rm_slot (slot_at i 0)) && is_release_slot (slot_at i 1)))))
+abbrev pub xrelease : Instruction → Bool
+xrelease i = rep i.prefixes && (i.prefixes.lock || (exchanges_memory i || ((i.opcode == MOV) && (not (is_rm_slot (slot_at i 0)) && is_release_slot (slot_at i 1)))))
 
 -- what equality looks at: all but the length, and of slots and operands those below the count
 abbrev pub shown_of : Instruction → Shown

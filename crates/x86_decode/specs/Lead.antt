@@ -1,19 +1,19 @@
 -- What a byte is at the front of an encoding.
 use Rattle.std.specs.Prelude.{ℕ, ◌==◌, if◌then◌else◌, List, map}
 use Rattle.std.specs.List.{range_with_len}
-use Rattle.x86_fields.specs.Run.{is_legacy_byte, is_rex_byte}
+use Rattle.x86_fields.specs.Run.{is_legacy, is_rex}
 use Rattle.x86_decode.specs.declared.leads.Lead.{Lead}
 use Rattle.x86_decode.specs.declared.leads.Lead.TheVariants.{Opcode, Legacy, Rex, Escape, Vex}
 use Rattle.x86_decode.specs.Head.{is_vex}
 
-abbrev pub lead : ℕ → Lead
-lead b =
+abbrev pub lead_of : ℕ → Lead
+lead_of b =
     if is_vex b then Vex
     else (if b == 0x0f then Escape
-    else (if is_legacy_byte b then Legacy
-    else (if is_rex_byte b then Rex
+    else (if is_legacy b then Legacy
+    else (if is_rex b then Rex
     else Opcode)))
 
 -- that of each byte
 unfoldable pub leads : List Lead
-leads = map lead (range_with_len 0 256)
+leads = map lead_of (range_with_len 0 256)

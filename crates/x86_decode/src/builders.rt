@@ -2,12 +2,12 @@
 //! needs none of them.
 //!
 //! An encoding is a run of bytes for which `is_prefix` holds, an escape, an opcode byte, which `is_vex` doesn't name,
-//! and what its row asks (`read_row`). The row stands in the column that `selected` gives, and its record sees the
+//! and what its row asks (`read_row`). The row stands in the column that `column_of` gives, and its record sees the
 //! prefixes as `seen_by` gives them. F0 stands only where `allows_lock` holds. Of `66 0f 38 00 c1`, which is PSHUFB,
-//! `selected` gives the column of 66, and `seen_by` clears 66.
+//! `column_of` gives the column of 66, and `seen_by` clears 66.
 //!
 //! Source: Intel SDM volume 2, sections 2.1 and 2.2.1, and appendix A.
 
-pub use crate::head::{is_prefix, is_vex, seen_by, selected};
+pub use crate::head::{column_of, is_prefix, is_vex, seen_by};
 pub use crate::rows::read_row;
 pub use crate::walk::allows_lock;

@@ -1,10 +1,10 @@
 //! The front of an encoding: the run of prefixes, the escape and the opcode byte.
 ghost use Rattle.std.specs.Prelude.{◌≡◌, ℕ, List, []};
 ghost use Rattle.x86_fields.specs.Steps.{outcome, then_from};
-ghost use Rattle.x86_fields.specs.Run.{is_prefix_byte, reading_of};
+ghost use Rattle.x86_fields.specs.Run.{is_prefix, reading_of};
 ghost use Rattle.x86_forms.specs.Words.{rows_of};
-ghost use Rattle.x86_decode.specs.Head.{column_of, is_vex, vex_error, seen};
-ghost use Rattle.x86_decode.specs.Walk.{Headed, head_from, head_at, head_step, escaped_step, found_word, found_step};
+ghost use Rattle.x86_decode.specs.Head.{column_of, is_vex, vex_refusal, seen_by};
+ghost use Rattle.x86_decode.specs.Walk.{Headed, head_from, head_at, head_step, read_escaped, found_word, read_word};
 
 use crate::leads::{Lead, lead_of};
 use x86_arch::Reader;
@@ -15,7 +15,7 @@ use x86_forms::{Column, Map, Words};
 #[inline(always)]
 #[tactic(auto, using(crate::proofs::LeadLemmas::prefix_lead))]
 pub fn is_prefix(byte: u8) -> bool
-    ensures { result ≡ is_prefix_byte byte }
+    ensures { result ≡ is_prefix byte }
 {
     matches!(lead_of(byte), Lead::Legacy | Lead::Rex)
 }
@@ -83,7 +83,7 @@ pub fn is_vex(byte: u8) -> bool
 }
 
 fn vex_refusal(prefixes: &Prefixes) -> DecodeError
-    ensures { result ≡ vex_error prefixes.now }
+    ensures { result ≡ vex_refusal prefixes.now }
 {
     if prefixes.operand_size() || prefixes.lock() || prefixes.rex().is_some() {
         DecodeError::InvalidPrefixes
@@ -94,7 +94,7 @@ fn vex_refusal(prefixes: &Prefixes) -> DecodeError
 
 #[inline(always)]
 fn read_escaped<T: Reader<u64, u8>>(words: &mut T, byte: u8) -> Result<(Map, u8), DecodeError>
-    ensures { outcome result (T.state words.new) ≡ escaped_step byte (T.state words.old) }
+    ensures { outcome result (T.state words.new) ≡ read_escaped byte (T.state words.old) }
 {
     match byte {
         0x38 => Ok((Map::Of38, next_byte(words)?)),
@@ -105,7 +105,7 @@ fn read_escaped<T: Reader<u64, u8>>(words: &mut T, byte: u8) -> Result<(Map, u8)
 
 /// The column of the opcode tables behind a run that reads so.
 #[inline(always)]
-pub fn selected(prefixes: &Prefixes) -> Column
+pub fn column_of(prefixes: &Prefixes) -> Column
     ensures { result ≡ column_of prefixes.now }
 {
     if prefixes.repnz() {
@@ -122,9 +122,9 @@ pub fn selected(prefixes: &Prefixes) -> Column
 /// The prefixes as a record sees them: 66 that chooses the operation is cleared.
 #[inline(always)]
 pub fn seen_by(map: Map, byte: u8, prefixes: Prefixes) -> Prefixes
-    ensures { result ≡ seen map byte prefixes }
+    ensures { result ≡ seen_by map byte prefixes }
 {
-    match (map, selected(&prefixes)) {
+    match (map, column_of(&prefixes)) {
         (Map::Of38, Column::P66) if byte != 0xf0 && byte != 0xf1 => prefixes.without_operand_size(),
         _ => prefixes,
     }
@@ -139,17 +139,17 @@ pub fn read_word<W: Words, T: Reader<u64, u8>>(
     prefixes: &mut Prefixes,
     byte: u8,
 ) -> Result<u64, DecodeError>
-    ensures { then_from result (T.state words.new) (found_word prefixes.new) ≡ found_step (rows_of (W.word_in rows.now)) prefixes.old byte (T.state words.old) }
+    ensures { then_from result (T.state words.new) (found_word prefixes.new) ≡ read_word (rows_of (W.word rows.now)) prefixes.old byte (T.state words.old) }
 {
     match lead_of(byte) {
         Lead::Escape => {
             let second = next_byte(words)?;
             let (map, opcode) = read_escaped(words, second)?;
-            let word = rows.word(map, selected(prefixes), opcode);
+            let word = rows.word(map, column_of(prefixes), opcode);
             *prefixes = seen_by(map, opcode, *prefixes);
             Ok(word)
         }
         Lead::Vex => Err(vex_refusal(prefixes)),
-        _ => Ok(rows.word(Map::One, selected(prefixes), byte)),
+        _ => Ok(rows.word(Map::One, column_of(prefixes), byte)),
     }
 }

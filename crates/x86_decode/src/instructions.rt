@@ -5,7 +5,7 @@ ghost use Rattle.std.specs.Ordering.{on};
 ghost use Rattle.x86_decode.specs.contracts.instructions.ShownPartialEq.TheImpl.Laws as shown_eq;
 ghost use Rattle.x86_decode.specs.contracts.instructions.ShownEq.TheImpl.Laws as shown_equivalence;
 ghost use Rattle.x86_operands.specs.Visitor.{visit_of};
-ghost use Rattle.x86_decode.specs.Instruction.{invalid_instruction, slot_at, operand_at, shown_of, override_at, unless_ds, mem_size_of, acquires, releases, exchanges, is_release_slot, is_rm_slot};
+ghost use Rattle.x86_decode.specs.Instruction.{invalid_instruction, slot_at, operand_at, shown_of, segment_override_for_op, unless_ds, mem_size_of, xacquire, xrelease, exchanges_memory, is_release_slot, is_rm_slot};
 
 use x86_arch::{AddressDiff, LengthedInstruction};
 use x86_fields::Prefixes;
@@ -39,13 +39,13 @@ struct Shown {
     operands: [Operand; 4],
 }
 
-fn is_rm(slot: Slot) -> bool
+fn is_rm_slot(slot: Slot) -> bool
     ensures { result ≡ is_rm_slot slot }
 {
     matches!(slot, Slot::Rm)
 }
 
-fn is_release(slot: Slot) -> bool
+fn is_release_slot(slot: Slot) -> bool
     ensures { result ≡ is_release_slot slot }
 {
     matches!(
@@ -54,7 +54,7 @@ fn is_release(slot: Slot) -> bool
     )
 }
 
-fn other_than_ds(segment: Segment) -> Option<Segment>
+fn unless_ds(segment: Segment) -> Option<Segment>
     ensures { result ≡ unless_ds segment }
 {
     match segment {
@@ -146,7 +146,7 @@ impl Instruction {
     /// of the prefixes, and `None` stands for DS.
     pub fn segment_override_for_op(&self, op: u8) -> Option<Segment>
         requires { op < 4 }
-        ensures { result ≡ override_at self.now op }
+        ensures { result ≡ segment_override_for_op self.now op }
     {
         let segment = self.prefixes.segment();
         if self.opcode == Opcode::MOVS {
@@ -162,7 +162,7 @@ impl Instruction {
                 _ => None,
             }
         } else if self.slot(op).is_memory() {
-            other_than_ds(segment)
+            unless_ds(segment)
         } else {
             None
         }
@@ -170,23 +170,25 @@ impl Instruction {
 
     /// XCHG with a memory operand.
     fn exchanges_memory(&self) -> bool
-        ensures { result ≡ exchanges self.now }
+        ensures { result ≡ exchanges_memory self.now }
     {
-        self.opcode == Opcode::XCHG && !is_rm(self.slot(0)) && !is_rm(self.slot(1))
+        self.opcode == Opcode::XCHG && !is_rm_slot(self.slot(0)) && !is_rm_slot(self.slot(1))
     }
 
     /// Whether F2 is a hint that the operation begins a critical section (Intel SDM volume 2, XACQUIRE/XRELEASE).
     pub fn xacquire(&self) -> bool
-        ensures { result ≡ acquires self.now }
+        ensures { result ≡ xacquire self.now }
     {
         self.prefixes.repnz() && (self.prefixes.lock() || self.exchanges_memory())
     }
 
     /// Whether F3 is a hint that the operation ends a critical section (Intel SDM volume 2, XACQUIRE/XRELEASE).
     pub fn xrelease(&self) -> bool
-        ensures { result ≡ releases self.now }
+        ensures { result ≡ xrelease self.now }
     {
-        let stores = self.opcode == Opcode::MOV && !is_rm(self.slot(0)) && is_release(self.slot(1));
+        let stores = self.opcode == Opcode::MOV
+            && !is_rm_slot(self.slot(0))
+            && is_release_slot(self.slot(1));
         self.prefixes.rep() && (self.prefixes.lock() || self.exchanges_memory() || stores)
     }
 
@@ -254,7 +256,7 @@ impl Eq for Instruction {
 }
 
 impl x86_arch::Instruction for Instruction {
-    ghost defined = { λ _. true };
+    ghost well_defined = { λ _. true };
 
     fn well_defined(&self) -> bool {
         Instruction::well_defined(self)
@@ -264,9 +266,9 @@ impl x86_arch::Instruction for Instruction {
 impl LengthedInstruction for Instruction {
     type Unit = AddressDiff<u64>;
 
-    ghost length_of = { λ i. record { amount = i.length } };
+    ghost len = { λ i. record { amount = i.length } };
 
-    ghost least = { record { amount = 1 } };
+    ghost min_size = { record { amount = 1 } };
 
     fn len(&self) -> AddressDiff<u64> {
         Instruction::len(self)

@@ -1,6 +1,6 @@
 //! What a byte is at the front of an encoding.
 ghost use Rattle.std.specs.Prelude.{◌≡◌};
-ghost use Rattle.x86_decode.specs.Lead.{lead};
+ghost use Rattle.x86_decode.specs.Lead.{lead_of};
 
 /// What a byte is at the front of an encoding.
 #[derive(Clone, Copy, PartialEq, Eq, Debug, Drop)]
@@ -48,7 +48,7 @@ const LEADS: &[Lead; 256] = &[
 /// What a byte is.
 #[inline(always)]
 pub fn lead_of(byte: u8) -> Lead
-    ensures { result ≡ lead byte }
+    ensures { result ≡ lead_of byte }
 {
     LEADS[byte as usize]
 }

@@ -4,7 +4,7 @@ ghost use Rattle.x86_fields.specs.Steps.{outcome, then_from};
 ghost use Rattle.x86_fields.specs.declared.prefixes.Prefixes.{Prefixes};
 ghost use Rattle.x86_forms.specs.Words.{IsForm};
 ghost use Rattle.x86_operands.specs.Encodings.{carried, held, is_row, is_sound, no_operands, plan_of};
-ghost use Rattle.x86_operands.specs.Signs.{plan_step, record_step};
+ghost use Rattle.x86_operands.specs.Signs.{read_plan, record_step};
 ghost use Rattle.x86_decode.specs.declared.instructions.Instruction.{Instruction};
 ghost use Rattle.x86_decode.specs.Grammar.{record_of};
 ghost use Rattle.x86_decode.specs.Instruction.{reading_in};
@@ -110,7 +110,7 @@ fn line_at<'a>(row: &TableRow, encoding: &'a Encoding, opcode: Opcode, modrm: Mo
     requires sound { is_sound encoding.now ≡ true }
     requires describes { (strict : Bool) (p : Prefixes) → IsTrue (is_row encoding.now.behind) → plan_of encoding.now (carried row.now.form) opcode p modrm ≡ plan_at strict row.now p modrm }
     ensures found { IsFound row.now result }
-    ensures modrm { (strict : Bool) (i : Instruction) → found_row_step strict row.now i result ≡ plan_step (plan_at strict row.now i.prefixes modrm) i.prefixes modrm }
+    ensures modrm { (strict : Bool) (i : Instruction) → found_row_step strict row.now i result ≡ read_plan (plan_at strict row.now i.prefixes modrm) i.prefixes modrm }
 {
     if encoding.behind.allows(modrm) {
         Found::Line(Usual {

@@ -2,13 +2,13 @@
 ghost use Rattle.std.specs.Prelude.{◌≡◌, ℕ, List, Bool, IfOk, true, false, take};
 ghost use Rattle.x86_arch.specs.Reader.{marked};
 ghost use Rattle.x86_fields.specs.Steps.{outcome, then_from};
-ghost use Rattle.x86_fields.specs.Run.{is_prefix_byte, reading_of};
+ghost use Rattle.x86_fields.specs.Run.{is_prefix, reading_of};
 ghost use Rattle.x86_forms.specs.Words.{rows_of};
 ghost use Rattle.x86_operands.specs.Encodings.{held, no_operands};
 ghost use Rattle.x86_decode.specs.Answer.{answer_of};
-ghost use Rattle.x86_decode.specs.Grammar.{first_slot, lock_allowed};
+ghost use Rattle.x86_decode.specs.Grammar.{first_slot, allows_lock};
 ghost use Rattle.x86_decode.specs.Instruction.{holding, invalid_instruction, reading_in};
-ghost use Rattle.x86_decode.specs.Walk.{HasForm, rest_step, behind_step, long_step, walk_step, body_step, decode_step, is_exhausted, is_nothing, lock_taken, judgement, limited};
+ghost use Rattle.x86_decode.specs.Walk.{HasForm, rest_step, behind_step, long_step, walk_bounded, walk_within, decode_step, is_exhausted, is_nothing, takes_lock, judgement, limited};
 
 use crate::bounded::{Bounded, Start, takes_rest};
 use crate::head::{is_prefix, read_head, read_on, read_word};
@@ -29,7 +29,7 @@ fn first_slot(slots: &[Slot; 4]) -> Slot
 
 /// Whether F0 is absent, or stands in front of an operation that takes it, with memory as its first operand.
 pub fn allows_lock(reading: &Reading) -> bool
-    ensures { result ≡ lock_allowed reading.now }
+    ensures { result ≡ allows_lock reading.now }
 {
     takes_lock(
         &reading.prefixes,
@@ -41,7 +41,7 @@ pub fn allows_lock(reading: &Reading) -> bool
 /// The same of the parts of a reading.
 #[inline(always)]
 fn takes_lock(prefixes: &Prefixes, opcode: Opcode, first: Slot) -> bool
-    ensures { result ≡ lock_taken prefixes.now opcode first }
+    ensures { result ≡ takes_lock prefixes.now opcode first }
 {
     !prefixes.lock() || (opcode.can_lock() && first.is_memory())
 }
@@ -55,7 +55,7 @@ fn place_behind<W: Words, T: Reader<u64, u8>>(
     byte: u8,
 ) -> Result<Rest, DecodeError>
     requires { inst.old.given ≡ no_operands }
-    ensures read { (strict : Bool) → then_from result (T.state words.new) (rest_step strict inst.new) ≡ behind_step (rows_of (W.word_in rows.now)) strict inst.old.prefixes byte (T.state words.old) }
+    ensures read { (strict : Bool) → then_from result (T.state words.new) (rest_step strict inst.new) ≡ behind_step (rows_of (W.word rows.now)) strict inst.old.prefixes byte (T.state words.old) }
     ensures blank { IfOk result (λ rest. is_nothing rest ≡ false → inst.new.given ≡ no_operands) }
     ensures form { IfOk result HasForm }
 {
@@ -76,7 +76,7 @@ fn place_by_plan<W: Words, T: Reader<u64, u8>>(
     byte: u8,
 ) -> Result<(), DecodeError>
     requires { inst.old.given ≡ no_operands }
-    ensures { outcome (held result (reading_in inst.new)) (T.state words.new) ≡ behind_step (rows_of (W.word_in rows.now)) strict inst.old.prefixes byte (T.state words.old) }
+    ensures { outcome (held result (reading_in inst.new)) (T.state words.new) ≡ behind_step (rows_of (W.word rows.now)) strict inst.old.prefixes byte (T.state words.old) }
 {
     let word = read_word(rows, words, &mut inst.prefixes, byte)?;
     match unpack(word) {
@@ -94,9 +94,9 @@ fn place_long<W: Words, T: Reader<u64, u8>>(
     words: &mut T,
     inst: &mut Instruction,
 ) -> Result<(), DecodeError>
-    requires prefix { is_prefix_byte first ≡ true }
+    requires prefix { is_prefix first ≡ true }
     requires blank { inst.old.given ≡ no_operands }
-    ensures { (front : List ℕ) → inst.old.prefixes ≡ reading_of front → outcome (held result (reading_in inst.new)) (T.state words.new) ≡ long_step (rows_of (W.word_in rows.now)) strict front first (T.state words.old) }
+    ensures { (front : List ℕ) → inst.old.prefixes ≡ reading_of front → outcome (held result (reading_in inst.new)) (T.state words.new) ≡ long_step (rows_of (W.word rows.now)) strict front first (T.state words.old) }
 {
     let (prefixes, byte) = read_on(words, inst.prefixes.after(first))?;
     inst.prefixes = prefixes;
@@ -113,7 +113,7 @@ fn walk_behind<W: Words, T: Reader<u64, u8>>(
     byte: u8,
 ) -> (Result<(), DecodeError>, T)
     requires { inst.old.given ≡ no_operands }
-    ensures { outcome (held result.0 (reading_in inst.new)) (T.state result.1) ≡ behind_step (rows_of (W.word_in rows.now)) strict inst.old.prefixes byte (T.state words) }
+    ensures { outcome (held result.0 (reading_in inst.new)) (T.state result.1) ≡ behind_step (rows_of (W.word rows.now)) strict inst.old.prefixes byte (T.state words) }
 {
     let mut words = words;
     match place_behind(rows, &mut words, inst, byte) {
@@ -137,7 +137,7 @@ fn walk_within<W: Words, T: Reader<u64, u8>>(
     inst: &mut Instruction,
 ) -> (Result<(), DecodeError>, T)
     requires { inst.old ≡ invalid_instruction }
-    ensures { outcome (held result.0 (reading_in inst.new)) (T.state result.1) ≡ body_step (rows_of (W.word_in rows.now)) strict (T.state words) }
+    ensures { outcome (held result.0 (reading_in inst.new)) (T.state result.1) ≡ walk_within (rows_of (W.word rows.now)) strict (T.state words) }
 {
     let mut words = words;
     match read_head(&mut words, &mut inst.prefixes) {
@@ -154,7 +154,7 @@ fn walk_within<W: Words, T: Reader<u64, u8>>(
     }
 }
 
-fn exhausted(error: DecodeError) -> bool
+fn is_exhausted(error: DecodeError) -> bool
     ensures { result ≡ is_exhausted error }
 {
     matches!(error, DecodeError::ExhaustedInput)
@@ -162,7 +162,7 @@ fn exhausted(error: DecodeError) -> bool
 
 /// The refusal of F0 where it isn't allowed.
 #[inline(always)]
-fn judged(inst: &Instruction) -> Result<(), DecodeError>
+fn judgement(inst: &Instruction) -> Result<(), DecodeError>
     ensures { result ≡ judgement (reading_in inst.now) }
 {
     if takes_lock(&inst.prefixes, inst.opcode, first_slot(&inst.given.slots)) {
@@ -184,7 +184,7 @@ fn walk_bounded<'a, W: Words, T: Reader<u64, u8>, K: Start>(
     requires marked { (T.state words.old).since_mark ≡ 0 }
     requires blank { inst.old ≡ invalid_instruction }
     ensures same_reference { result.1.ghost_name ≡ words.entry.ghost_name }
-    ensures walked { outcome (holding inst.new result.0) (T.state result.1.now) ≡ walk_step (rows_of (W.word_in rows.now)) strict (T.state words.old) }
+    ensures walked { outcome (holding inst.new result.0) (T.state result.1.now) ≡ walk_bounded (rows_of (W.word rows.now)) strict (T.state words.old) }
 {
     let bounded: Bounded<'a, T, K> = Bounded {
         words,
@@ -200,9 +200,9 @@ fn walk_bounded<'a, W: Words, T: Reader<u64, u8>, K: Start>(
         start: _,
     } = back;
     match result {
-        Ok(()) => (judged(inst), words),
+        Ok(()) => (judgement(inst), words),
         Err(error) => {
-            if !exhausted(error) {
+            if !is_exhausted(error) {
                 (Err(error), words)
             } else if takes_rest(words, allowed) {
                 (Err(DecodeError::TooLong), words)
@@ -246,7 +246,7 @@ pub fn walk_slice(strict: bool, bytes: &[u8], inst: &mut Instruction) -> Result<
     let mut back = back;
     inst.length = back.offset();
     match result {
-        Ok(()) => judged(inst),
+        Ok(()) => judgement(inst),
         Err(error) => Err(limited(error, within.len() == 15)),
     }
 }
@@ -261,7 +261,7 @@ pub fn walk_into<W: Words, T: Reader<u64, u8>>(
     inst: &mut Instruction,
 ) -> Result<(), DecodeError>
     requires { inst.old ≡ invalid_instruction }
-    ensures { outcome (holding inst.new result) (T.state words.new) ≡ decode_step (rows_of (W.word_in rows.now)) strict (T.state words.old) }
+    ensures { outcome (holding inst.new result) (T.state words.new) ≡ decode_step (rows_of (W.word rows.now)) strict (T.state words.old) }
 {
     words.mark();
     let (result, _back) = walk_bounded::<W, T, Brand>(strict, rows, words, inst);
@@ -274,7 +274,7 @@ pub fn walk<W: Words, T: Reader<u64, u8>>(
     rows: &W,
     words: &mut T,
 ) -> Result<Instruction, DecodeError>
-    ensures { outcome result (T.state words.new) ≡ decode_step (rows_of (W.word_in rows.now)) strict (T.state words.old) }
+    ensures { outcome result (T.state words.new) ≡ decode_step (rows_of (W.word rows.now)) strict (T.state words.old) }
 {
     let mut inst = Instruction::invalid();
     walk_into(strict, rows, words, &mut inst)?;

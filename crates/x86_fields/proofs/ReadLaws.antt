@@ -7,9 +7,9 @@ use Rattle.x86_fields.specs.declared.errors.DecodeError.{DecodeError}
 use Rattle.x86_fields.specs.declared.errors.DecodeError.TheVariants.{ExhaustedInput}
 use Rattle.x86_fields.specs.declared.prefixes.Prefixes.{Prefixes}
 use Rattle.x86_fields.specs.declared.raw.Raw.{Raw}
-use Rattle.x86_fields.specs.Steps.{Step, Outcome, outcome, then_from, pure, ◌>>=◌, byte_step, byte_of, bytes_step, number_step}
+use Rattle.x86_fields.specs.Steps.{Step, Outcome, outcome, then_from, pure, ◌>>=◌, next_byte, byte_of, next_bytes, number_step}
 use Rattle.x86_fields.specs.ModRM.{rm_field}
-use Rattle.x86_fields.specs.Raw.{raw_step, disp_step, disp_width, rex_b, rex_x}
+use Rattle.x86_fields.specs.Raw.{read_raw, read_displacement, displacement_width, has_b, has_x}
 use Rattle.x86_fields.specs.Pieces.{SpellsRaw, IsReadRaw, sib_taken}
 use Rattle.x86_fields.proofs.StepLaws.{advanced_zero}
 use Rattle.x86_fields.proofs.EndLaws.{Ends, settles, runs_out, Only}
@@ -31,8 +31,8 @@ never {X} x s t e h = absurd (apart h)
     apart : ◌≡◌ {A = Result X DecodeError} (Ok x) (Err e) → ⊥
     apart h = cc
 
-bytes_short : (n : ℕ) (s : State ℕ) → ShortAt (bytes_step n s) s
-unfolding bytes_step
+bytes_short : (n : ℕ) (s : State ℕ) → ShortAt (next_bytes n s) s
+unfolding next_bytes
 bytes_short n s = by_test (nat_lt (length s.left) n)
   where
     by_test : (b : Bool) → ShortAt (if b then outcome (Err ExhaustedInput) s else outcome (Ok (take n s.left)) (advanced n s)) s
@@ -51,9 +51,9 @@ map_short {X} {Y} m g s short = from (m s).answer (m s).after short
 
 number_short : (w : Width) (s : State ℕ) → ShortAt (number_step w s) s
 unfolding number_step
-number_short w s = map_short (bytes_step (byte_len w)) (from_le_bytes w) s (bytes_short (byte_len w) s)
+number_short w s = map_short (next_bytes (byte_len w)) (from_le_bytes w) s (bytes_short (byte_len w) s)
 
-disp_short : (width : ℕ) (s : State ℕ) → ShortAt (disp_step width s) s
+disp_short : (width : ℕ) (s : State ℕ) → ShortAt (read_displacement width s) s
 disp_short width s = by_width (width == 1) (width == 4)
   where
     by_width : (a b : Bool) → ShortAt ((if a then (number_step w8 >>= λ n. pure (cast_signed w8 n)) else (if b then (number_step w32 >>= λ n. pure (cast_signed w32 n)) else pure (pos 0))) s) s
@@ -62,29 +62,29 @@ disp_short width s = by_width (width == 1) (width == 4)
     by_width false false = never (pos 0) s s
 
 abbrev made : Prefixes → ℕ → Option ℕ → ℤ → Raw
-made p modrm sib disp = record { rex_b = rex_b p; rex_x = rex_x p; address_size = p.address_size; modrm = modrm; sib = sib; disp = disp }
+made p modrm sib disp = record { rex_b = has_b p; rex_x = has_x p; address_size = p.address_size; modrm = modrm; sib = sib; disp = disp }
 
 abbrev behind_sib : Prefixes → ℕ → Option ℕ → Step Raw
-behind_sib p modrm sib = disp_step (disp_width modrm sib) >>= λ disp. pure (made p modrm sib disp)
+behind_sib p modrm sib = read_displacement (displacement_width modrm sib) >>= λ disp. pure (made p modrm sib disp)
 
-pub raw_short : (p : Prefixes) (modrm : ℕ) (s : State ℕ) → ShortAt (raw_step p modrm s) (advanced (sib_taken modrm s.left) s)
-unfolding raw_step byte_step
+pub raw_short : (p : Prefixes) (modrm : ℕ) (s : State ℕ) → ShortAt (read_raw p modrm s) (advanced (sib_taken modrm s.left) s)
+unfolding read_raw next_byte
 raw_short p modrm s = go (rm_field modrm == 4)
   where
     with_sib : (l : List ℕ) → ShortAt ((((λ t. byte_of l t) >>= λ sib. pure (Some sib)) >>= behind_sib p modrm) s) (advanced (length (take 1 l)) s)
     with_sib [] = λ e h. let short = out {X = Raw} s e h in (short.0, short.1 ∙ sym (advanced_zero s))
-    with_sib (x ∷ l) = map_short (disp_step (disp_width modrm (Some x))) (made p modrm (Some x)) (advanced 1 s) (disp_short (disp_width modrm (Some x)) (advanced 1 s))
+    with_sib (x ∷ l) = map_short (read_displacement (displacement_width modrm (Some x))) (made p modrm (Some x)) (advanced 1 s) (disp_short (displacement_width modrm (Some x)) (advanced 1 s))
 
-    go : (b : Bool) → ShortAt (((if b then (byte_step >>= λ sib. pure (Some sib)) else pure None) >>= behind_sib p modrm) s) (advanced (if b then length (take 1 s.left) else 0) s)
-    go false = λ e h. let short = map_short (disp_step (disp_width modrm None)) (made p modrm None) s (disp_short (disp_width modrm None) s) e h in (short.0, short.1 ∙ sym (advanced_zero s))
+    go : (b : Bool) → ShortAt (((if b then (next_byte >>= λ sib. pure (Some sib)) else pure None) >>= behind_sib p modrm) s) (advanced (if b then length (take 1 s.left) else 0) s)
+    go false = λ e h. let short = map_short (read_displacement (displacement_width modrm None)) (made p modrm None) s (disp_short (displacement_width modrm None) s) e h in (short.0, short.1 ∙ sym (advanced_zero s))
     go true = with_sib s.left
 
-pub raw_exactly : (p : Prefixes) (modrm : ℕ) (s : State ℕ) (bytes rest : List ℕ) (raw : Raw) → s.left ≡ bytes ++ rest → SpellsRaw p modrm bytes raw → raw_step p modrm s ≡ outcome (Ok raw) (advanced (length bytes) s)
+pub raw_exactly : (p : Prefixes) (modrm : ℕ) (s : State ℕ) (bytes rest : List ℕ) (raw : Raw) → s.left ≡ bytes ++ rest → SpellsRaw p modrm bytes raw → read_raw p modrm s ≡ outcome (Ok raw) (advanced (length bytes) s)
 raw_exactly p modrm s bytes rest raw front spelled = (takes_raw p modrm bytes raw spelled).takes rest s front
 
-raw_read : {B : List ℕ → Type 0} (p : Prefixes) (modrm : ℕ) (s : State ℕ) (raw : Raw) → (raw_step p modrm s).answer ≡ Ok raw → Ends (Only (SpellsRaw p modrm)) B (raw_step p modrm) s → IsReadRaw p modrm raw s (raw_step p modrm s).after
+raw_read : {B : List ℕ → Type 0} (p : Prefixes) (modrm : ℕ) (s : State ℕ) (raw : Raw) → (read_raw p modrm s).answer ≡ Ok raw → Ends (Only (SpellsRaw p modrm)) B (read_raw p modrm) s → IsReadRaw p modrm raw s (read_raw p modrm s).after
 raw_read p modrm s raw h (settles bytes rest r front takes final only) =
-    let took : raw_step p modrm s ≡ outcome r (advanced (length bytes) s) = takes.takes rest s front in
+    let took : read_raw p modrm s ≡ outcome r (advanced (length bytes) s) = takes.takes rest s front in
     let answer : r ≡ Ok raw = sym (ap (λ o. o.answer) took) ∙ h in
     record {
       bytes = bytes;
@@ -94,11 +94,11 @@ raw_read p modrm s raw h (settles bytes rest r front takes final only) =
       taken = ap (λ o. o.after) took;
     }
 raw_read p modrm s raw h (runs_out bytes rest front between ends) =
-    let took : raw_step p modrm s ≡ outcome (Err ExhaustedInput) (advanced (length bytes) s) = ends rest [] (sym (append-nil rest)) s front in
+    let took : read_raw p modrm s ≡ outcome (Err ExhaustedInput) (advanced (length bytes) s) = ends rest [] (sym (append-nil rest)) s front in
     absurd (apart (sym (ap (λ o. o.answer) took) ∙ h))
   where
     apart : ◌≡◌ {A = Result Raw DecodeError} (Err ExhaustedInput) (Ok raw) → ⊥
     apart h = cc
 
-pub raw_whole : (p : Prefixes) (modrm : ℕ) (s : State ℕ) (raw : Raw) → (raw_step p modrm s).answer ≡ Ok raw → IsReadRaw p modrm raw s (raw_step p modrm s).after
+pub raw_whole : (p : Prefixes) (modrm : ℕ) (s : State ℕ) (raw : Raw) → (read_raw p modrm s).answer ≡ Ok raw → IsReadRaw p modrm raw s (read_raw p modrm s).after
 raw_whole p modrm s raw h = raw_read p modrm s raw h (ends_raw p modrm s)

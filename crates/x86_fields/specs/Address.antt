@@ -11,11 +11,11 @@ abbrev pub address_class : Raw → RegisterClass
 address_class raw = if raw.address_size then D else Q
 
 -- a field of three bits under its fourth
-abbrev pub extended : Bool → ℕ → ℕ
-extended bit n = if bit then n + 8 else n
+abbrev pub extend : Bool → ℕ → ℕ
+extend bit n = if bit then n + 8 else n
 
 abbrev pub address_register : Raw → Bool → ℕ → RegSpec
-address_register raw bit n = record { num = extended bit n; class = address_class raw }
+address_register raw bit n = record { num = extend bit n; class = address_class raw }
 
 -- rip, or eip under 67
 abbrev pub next_pointer : Raw → RegSpec

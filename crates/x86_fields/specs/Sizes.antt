@@ -4,30 +4,30 @@ use Rattle.x86_regs.specs.declared.RegisterClass.{RegisterClass}
 use Rattle.x86_regs.specs.declared.RegisterClass.TheVariants.{B, W, D, RB, Q}
 use Rattle.x86_regs.specs.declared.RegSpec.{RegSpec}
 use Rattle.x86_fields.specs.declared.prefixes.Prefixes.{Prefixes}
-use Rattle.x86_fields.specs.Raw.{rex_w}
+use Rattle.x86_fields.specs.Raw.{has_w}
 pub use Rattle.x86_regs.specs.Class.{width_of}
 
 -- Q under live W, else W under 66, else D
-abbrev pub v : Prefixes → RegisterClass
-v p = if rex_w p then Q else (if p.operand_size then W else D)
+abbrev pub v_class : Prefixes → RegisterClass
+v_class p = if has_w p then Q else (if p.operand_size then W else D)
 
 -- W under 66, else Q
-abbrev pub vq : Prefixes → RegisterClass
-vq p = if p.operand_size then W else Q
+abbrev pub vq_class : Prefixes → RegisterClass
+vq_class p = if p.operand_size then W else Q
 
 -- D under live W or without 66, else W
-abbrev pub vd : Prefixes → RegisterClass
-vd p = if rex_w p || not p.operand_size then D else W
+abbrev pub vd_class : Prefixes → RegisterClass
+vd_class p = if has_w p || not p.operand_size then D else W
 
 -- Q under live W, else D
-abbrev pub dq : Prefixes → RegisterClass
-dq p = if rex_w p then Q else D
+abbrev pub dq_class : Prefixes → RegisterClass
+dq_class p = if has_w p then Q else D
 
 -- A byte register below 4 has class B; from 4 on it has class rB with a live REX, else class B.
-abbrev pub byte_register : Prefixes → ℕ → RegSpec
-byte_register p n = if is_some p.rex && nat_le 4 n then record { num = n; class = RB } else record { num = n; class = B }
+abbrev pub byte_reg : Prefixes → ℕ → RegSpec
+byte_reg p n = if is_some p.rex && nat_le 4 n then record { num = n; class = RB } else record { num = n; class = B }
 
 -- a register of a class, where class B stands for the byte registers
 abbrev pub register_of : RegisterClass → Prefixes → ℕ → RegSpec
-register_of B p n = byte_register p n
+register_of B p n = byte_reg p n
 register_of c p n = record { num = n; class = c }

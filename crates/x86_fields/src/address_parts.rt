@@ -22,7 +22,7 @@ pub struct AddressParts {
 }
 
 /// What a register adds to an address.
-fn part(reg: Option<RegSpec>, times: u8, regs: &RegFile, next: u64) -> u128
+fn part_value(reg: Option<RegSpec>, times: u8, regs: &RegFile, next: u64) -> u128
     ensures value { result ≡ part_value reg times regs.now.regs next }
     ensures small { result < 2 ^ 72 }
 {
@@ -43,8 +43,8 @@ impl AddressParts {
     pub fn value(&self, regs: &RegFile, next: u64) -> u64
         ensures { result ≡ value_at (parts_form self.now) regs.now.regs next }
     {
-        let base = part(self.base, 1, regs, next);
-        let index = part(self.index, self.scale, regs, next);
+        let base = part_value(self.base, 1, regs, next);
+        let index = part_value(self.index, self.scale, regs, next);
         if self.address_size {
             let sum = base + index + self.disp.cast_unsigned() as u128;
             (sum % 0x1_0000_0000) as u64

@@ -21,7 +21,7 @@ pub fn address_of(raw: &Raw, regs: &RegFile, next: u64) -> u64
 #[cfg(test)]
 mod tests {
     use super::*;
-    use crate::{ModRM, Prefixes, read_raw, read_run};
+    use crate::{ModRM, Prefixes, read_raw, reading_of};
     use x86_arch::U8Reader;
 
     fn address(prefixes: &Prefixes, modrm: u8, bytes: &[u8], regs: &RegFile) -> Option<u64> {
@@ -57,7 +57,7 @@ mod tests {
             (&[0x41], 0x04, &[0x24], 0x0fff_ffff_ffff_ffff),
         ];
         for (run, modrm, bytes, sum) in cases {
-            assert_eq!(rt; address(&read_run(run), modrm, bytes, &regs), Some(sum));
+            assert_eq!(rt; address(&reading_of(run), modrm, bytes, &regs), Some(sum));
         }
     }
 }

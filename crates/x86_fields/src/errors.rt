@@ -24,13 +24,13 @@ pub enum DecodeError {
 }
 
 impl x86_arch::DecodeError for DecodeError {
-    ghost exhausted = { is_exhausted };
+    ghost data_exhausted = { is_exhausted };
 
-    ghost opcode_is_bad = { is_bad_opcode };
+    ghost bad_opcode = { is_bad_opcode };
 
-    ghost operand_is_bad = { is_bad_operand };
+    ghost bad_operand = { is_bad_operand };
 
-    ghost text = { description_of };
+    ghost description = { description_of };
 
     fn data_exhausted(&self) -> bool {
         matches!(self, DecodeError::ExhaustedInput)

@@ -7,9 +7,9 @@ ghost use Rattle.x86_arch.specs.Reader.{State, advanced};
 ghost use Rattle.x86_fields.specs.Address.{scale_by};
 ghost use Rattle.x86_fields.specs.Linear.{Linear, raw_form, IsSameAddress, IsReduced, AgreeEverywhere, AgreeAtUnits};
 ghost use Rattle.x86_fields.specs.Pieces.{SpellsRaw, IsReadRaw, sib_taken};
-ghost use Rattle.x86_fields.specs.Raw.{raw_step};
+ghost use Rattle.x86_fields.specs.Raw.{read_raw};
 ghost use Rattle.x86_fields.specs.Steps.{outcome};
-ghost use Rattle.x86_fields.specs.Run.{has_f2, has_f3, has_repeat, reading_of, after_of};
+ghost use Rattle.x86_fields.specs.Run.{repnz, rep, rep_any, reading_of, after_of};
 
 use crate::{DecodeError, PrefixRex, Prefixes, Raw};
 
@@ -21,8 +21,8 @@ pub fn runs_are_folded()
 
 /// F2 and F3 are never in force together, and one of them is exactly where `rep_any` holds.
 pub fn repeats_exclude()
-    ensures never_both { (p : Prefixes) → IsTrue (has_f3 p) → has_f2 p ≡ false }
-    ensures one_of_them { (p : Prefixes) → has_repeat p ≡ (has_f3 p || has_f2 p) }
+    ensures never_both { (p : Prefixes) → IsTrue (rep p) → repnz p ≡ false }
+    ensures one_of_them { (p : Prefixes) → rep_any p ≡ (rep p || repnz p) }
 {}
 
 /// Two reduced address forms of one modulus are the same address exactly where their values agree at every register
@@ -36,9 +36,9 @@ pub fn forms_are_their_values()
 /// bytes. It refuses for want of bytes alone, and has then taken a SIB that is asked and there, and nothing of a
 /// displacement.
 pub fn raw_fields_are_read()
-    ensures whole { (p : Prefixes) (modrm : ℕ) (s : State ℕ) (raw : Raw) → (raw_step p modrm s).answer ≡ Ok raw → IsReadRaw p modrm raw s (raw_step p modrm s).after }
-    ensures wherever { (p : Prefixes) (modrm : ℕ) (s : State ℕ) (bytes rest : List ℕ) (raw : Raw) → s.left ≡ bytes ++ rest → SpellsRaw p modrm bytes raw → raw_step p modrm s ≡ outcome (Ok raw) (advanced (length bytes) s) }
-    ensures short { (p : Prefixes) (modrm : ℕ) (s : State ℕ) (e : DecodeError) → (raw_step p modrm s).answer ≡ Err e → (e ≡ DecodeError.ExhaustedInput) × ((raw_step p modrm s).after ≡ advanced (sib_taken modrm s.left) s) }
+    ensures whole { (p : Prefixes) (modrm : ℕ) (s : State ℕ) (raw : Raw) → (read_raw p modrm s).answer ≡ Ok raw → IsReadRaw p modrm raw s (read_raw p modrm s).after }
+    ensures wherever { (p : Prefixes) (modrm : ℕ) (s : State ℕ) (bytes rest : List ℕ) (raw : Raw) → s.left ≡ bytes ++ rest → SpellsRaw p modrm bytes raw → read_raw p modrm s ≡ outcome (Ok raw) (advanced (length bytes) s) }
+    ensures short { (p : Prefixes) (modrm : ℕ) (s : State ℕ) (e : DecodeError) → (read_raw p modrm s).answer ≡ Err e → (e ≡ DecodeError.ExhaustedInput) × ((read_raw p modrm s).after ≡ advanced (sib_taken modrm s.left) s) }
 {}
 
 /// The address forms of raw fields are reduced, so that the law on forms speaks of any two of one modulus.

@@ -3,16 +3,16 @@
 ghost use Rattle.std.specs.Prelude.{◌≡◌, IsTrue};
 ghost use Rattle.std.specs.Int.{w8, w16, w32, w64};
 ghost use Rattle.x86_arch.specs.Reader.{State};
-ghost use Rattle.x86_fields.specs.Steps.{outcome, bytes_step, byte_step, number_step, num_step, signed_step, is_number_width, is_signed_width};
+ghost use Rattle.x86_fields.specs.Steps.{outcome, next_bytes, next_byte, number_step, read_num, read_imm_signed, is_number_width, is_signed_width};
 
 use crate::DecodeError;
 use x86_arch::Reader;
 
 /// One byte.
-#[tactic(auto, unfolding(crate::specs::Steps::byte_step))]
+#[tactic(auto, unfolding(crate::specs::Steps::next_byte))]
 #[inline(always)]
 pub fn next_byte<T: Reader<u64, u8>>(words: &mut T) -> Result<u8, DecodeError>
-    ensures { outcome result (T.state words.new) ≡ byte_step (T.state words.old) }
+    ensures { outcome result (T.state words.new) ≡ next_byte (T.state words.old) }
 {
     match words.next() {
         Ok(byte) => Ok(byte),
@@ -21,10 +21,10 @@ pub fn next_byte<T: Reader<u64, u8>>(words: &mut T) -> Result<u8, DecodeError>
 }
 
 /// As many bytes as the array has.
-#[tactic(auto, unfolding(crate::specs::Steps::bytes_step))]
+#[tactic(auto, unfolding(crate::specs::Steps::next_bytes))]
 #[inline(always)]
 pub fn next_bytes<const N: usize, T: Reader<u64, u8>>(words: &mut T) -> Result<[u8; N], DecodeError>
-    ensures { outcome result (T.state words.new) ≡ bytes_step N (T.state words.old) }
+    ensures { outcome result (T.state words.new) ≡ next_bytes N (T.state words.old) }
 {
     let mut bytes = [0; N];
     match words.next_n(&mut bytes) {
@@ -74,10 +74,10 @@ pub fn read_u64<T: Reader<u64, u8>>(words: &mut T) -> Result<u64, DecodeError>
 }
 
 /// A number of 1, 2, 4 or 8 bytes. Where fewer are left, none is taken.
-#[tactic(auto, unfolding(crate::specs::Steps::num_step))]
+#[tactic(auto, unfolding(crate::specs::Steps::read_num))]
 pub fn read_num<T: Reader<u64, u8>>(words: &mut T, width: u8) -> Result<u64, DecodeError>
     requires { IsTrue (is_number_width width) }
-    ensures { outcome result (T.state words.new) ≡ num_step width (T.state words.old) }
+    ensures { outcome result (T.state words.new) ≡ read_num width (T.state words.old) }
 {
     let number = match width {
         1 => read_u8(words)? as u64,
@@ -89,10 +89,10 @@ pub fn read_num<T: Reader<u64, u8>>(words: &mut T, width: u8) -> Result<u64, Dec
 }
 
 /// A signed number of 1, 2 or 4 bytes. Where fewer are left, none is taken.
-#[tactic(auto, unfolding(crate::specs::Steps::signed_step))]
+#[tactic(auto, unfolding(crate::specs::Steps::read_imm_signed))]
 pub fn read_imm_signed<T: Reader<u64, u8>>(words: &mut T, width: u8) -> Result<i64, DecodeError>
     requires { IsTrue (is_signed_width width) }
-    ensures { outcome result (T.state words.new) ≡ signed_step width (T.state words.old) }
+    ensures { outcome result (T.state words.new) ≡ read_imm_signed width (T.state words.old) }
 {
     let number = match width {
         1 => read_u8(words)?.cast_signed() as i64,

@@ -2,13 +2,13 @@
 
 ghost use Rattle.std.specs.Prelude.{◌≡◌, IsTrue};
 ghost use Rattle.std.specs.List.{list_all};
-ghost use Rattle.x86_fields.specs.Run.{reading_of, is_legacy_byte, is_rex_byte, is_prefix_byte};
+ghost use Rattle.x86_fields.specs.Run.{reading_of, is_legacy, is_rex, is_prefix};
 
 use crate::prefixes::Prefixes;
 
 /// Whether the byte is a legacy prefix.
 pub fn is_legacy(byte: u8) -> bool
-    ensures { result ≡ is_legacy_byte byte }
+    ensures { result ≡ is_legacy byte }
 {
     matches!(
         byte,
@@ -18,14 +18,14 @@ pub fn is_legacy(byte: u8) -> bool
 
 /// Whether the byte is a REX.
 pub fn is_rex(byte: u8) -> bool
-    ensures { result ≡ is_rex_byte byte }
+    ensures { result ≡ is_rex byte }
 {
     0x40 <= byte && byte < 0x50
 }
 
 /// The reading of a whole run.
-pub fn read_run(run: &[u8]) -> Prefixes
-    requires { IsTrue (list_all is_prefix_byte run.now) }
+pub fn reading_of(run: &[u8]) -> Prefixes
+    requires { IsTrue (list_all is_prefix run.now) }
     ensures { result ≡ reading_of run.now }
 {
     let mut prefixes = Prefixes::none();

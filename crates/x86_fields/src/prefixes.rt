@@ -1,8 +1,8 @@
 //! What a run of prefix bytes selects. Source: Intel SDM volume 2, sections 2.1.1 and 2.2.1.
 
 ghost use Rattle.std.specs.Prelude.{◌≡◌, ◌↔◌, ℕ, ◌∷◌, ◌++◌, List, [], IsTrue, false};
-ghost use Rattle.x86_fields.specs.Run.{has_f2, has_f3, has_repeat, reading_of, after_of, rex_bits, is_rex_byte, is_prefix_byte};
-ghost use Rattle.x86_fields.specs.Raw.{rex_w, rex_r, rex_x, rex_b};
+ghost use Rattle.x86_fields.specs.Run.{repnz, rep, rep_any, reading_of, after_of, rex_bits, is_rex, is_prefix};
+ghost use Rattle.x86_fields.specs.Raw.{has_w, has_r, has_x, has_b};
 
 use crate::repeat::Repeat;
 use crate::rex::PrefixRex;
@@ -37,7 +37,7 @@ impl Prefixes {
 
     /// The effect of one more prefix byte. A REX is live only as the last byte of a run.
     pub fn after(self, byte: u8) -> Prefixes
-        requires { IsTrue (is_prefix_byte byte) }
+        requires { IsTrue (is_prefix byte) }
         ensures effect { result ≡ after_of self byte }
         ensures reading { (run : List ℕ) → self ≡ reading_of run → result ≡ reading_of (run ++ byte ∷ []) }
     {
@@ -82,7 +82,7 @@ impl Prefixes {
     /// The effect of a REX, in place.
     #[inline(always)]
     pub fn push_rex(&mut self, byte: u8)
-        requires { IsTrue (is_rex_byte byte) }
+        requires { IsTrue (is_rex byte) }
         ensures effect { self.new ≡ after_of self.old byte }
         ensures reading { (run : List ℕ) → self.old ≡ reading_of run → self.new ≡ reading_of (run ++ byte ∷ []) }
     {
@@ -114,7 +114,7 @@ impl Prefixes {
     /// Whether F3 is in force.
     #[inline(always)]
     pub fn rep(&self) -> bool
-        ensures { result ≡ has_f3 self.now }
+        ensures { result ≡ rep self.now }
     {
         matches!(self.repeat, Some(Repeat::F3))
     }
@@ -122,14 +122,14 @@ impl Prefixes {
     /// Whether F2 is in force.
     #[inline(always)]
     pub fn repnz(&self) -> bool
-        ensures { result ≡ has_f2 self.now }
+        ensures { result ≡ repnz self.now }
     {
         matches!(self.repeat, Some(Repeat::F2))
     }
 
     /// Whether F2 or F3 is in force.
     pub fn rep_any(&self) -> bool
-        ensures { result ≡ has_repeat self.now }
+        ensures { result ≡ rep_any self.now }
     {
         self.repeat.is_some()
     }
@@ -217,7 +217,7 @@ impl Prefixes {
     /// Whether a live REX has W.
     #[inline(always)]
     pub fn has_w(&self) -> bool
-        ensures { result ≡ rex_w self.now }
+        ensures { result ≡ has_w self.now }
     {
         self.rex.is_some_and(|rex| rex.w)
     }
@@ -225,7 +225,7 @@ impl Prefixes {
     /// Whether a live REX has R.
     #[inline(always)]
     pub fn has_r(&self) -> bool
-        ensures { result ≡ rex_r self.now }
+        ensures { result ≡ has_r self.now }
     {
         self.rex.is_some_and(|rex| rex.r)
     }
@@ -233,7 +233,7 @@ impl Prefixes {
     /// Whether a live REX has X.
     #[inline(always)]
     pub fn has_x(&self) -> bool
-        ensures { result ≡ rex_x self.now }
+        ensures { result ≡ has_x self.now }
     {
         self.rex.is_some_and(|rex| rex.x)
     }
@@ -241,7 +241,7 @@ impl Prefixes {
     /// Whether a live REX has B.
     #[inline(always)]
     pub fn has_b(&self) -> bool
-        ensures { result ≡ rex_b self.now }
+        ensures { result ≡ has_b self.now }
     {
         self.rex.is_some_and(|rex| rex.b)
     }
@@ -250,7 +250,7 @@ impl Prefixes {
 #[cfg(test)]
 mod tests {
     use super::*;
-    use crate::read_run;
+    use crate::reading_of;
     use x86_regs::{RegSpec, RegisterClass};
 
     #[test]
@@ -262,11 +262,11 @@ mod tests {
             (&[0x41, 0x48], true, RegisterClass::Q),
         ];
         for (run, live, class) in cases {
-            let prefixes = read_run(run);
+            let prefixes = reading_of(run);
             assert_eq!(rt; prefixes.rex().is_some(), live);
             assert_eq!(rt; prefixes.v_class(), class);
         }
-        assert_eq!(rt; read_run(&[0x40]).byte_reg(4), RegSpec::spl());
+        assert_eq!(rt; reading_of(&[0x40]).byte_reg(4), RegSpec::spl());
         assert_eq!(rt; Prefixes::none().byte_reg(4), RegSpec::ah());
     }
 }

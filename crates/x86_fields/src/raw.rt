@@ -3,9 +3,9 @@
 ghost use Rattle.std.specs.Prelude.{◌≡◌, ◌<◌, IsTrue, IfOk};
 ghost use Rattle.x86_arch.specs.Reader.{State};
 ghost use Rattle.x86_fields.specs.Steps.{outcome};
-ghost use Rattle.x86_fields.specs.Address.{base_of, index_of, scale_by, extended, address_class, next_pointer};
+ghost use Rattle.x86_fields.specs.Address.{base_of, index_of, scale_by, extend, address_class, next_pointer};
 ghost use Rattle.x86_fields.specs.Linear.{raw_form, parts_form};
-ghost use Rattle.x86_fields.specs.Raw.{raw_step, disp_step, sib_step, disp_width, fits, sib_fits, disp_fits};
+ghost use Rattle.x86_fields.specs.Raw.{read_raw, read_displacement, read_sib, displacement_width, fits, sib_fits, disp_fits};
 
 use crate::address_parts::AddressParts;
 use crate::errors::DecodeError;
@@ -40,7 +40,7 @@ pub struct Raw {
 #[inline(always)]
 pub fn extend(bit: bool, num: u8) -> u8
     requires { num < 8 }
-    ensures { result ≡ extended bit num }
+    ensures { result ≡ extend bit num }
 {
     if bit { num + 8 } else { num }
 }
@@ -48,7 +48,7 @@ pub fn extend(bit: bool, num: u8) -> u8
 /// How many bytes of displacement a memory form has, by ModRM and SIB (Intel SDM volume 2, section 2.1.5).
 #[inline(always)]
 pub fn displacement_width(modrm: u8, sib: Option<u8>) -> u8
-    ensures { result ≡ disp_width modrm sib }
+    ensures { result ≡ displacement_width modrm sib }
 {
     let modrm = ModRM::new(modrm);
     let base = match sib {
@@ -156,7 +156,7 @@ impl Raw {
 
 #[inline(always)]
 fn read_sib<T: Reader<u64, u8>>(words: &mut T, modrm: ModRM) -> Result<Option<u8>, DecodeError>
-    ensures read { outcome result (T.state words.new) ≡ sib_step modrm (T.state words.old) }
+    ensures read { outcome result (T.state words.new) ≡ read_sib modrm (T.state words.old) }
     ensures fits { IfOk result (λ sib. IsTrue (sib_fits modrm sib)) }
 {
     if modrm.rm_field() == 4 {
@@ -169,7 +169,7 @@ fn read_sib<T: Reader<u64, u8>>(words: &mut T, modrm: ModRM) -> Result<Option<u8
 
 #[inline(always)]
 fn read_displacement<T: Reader<u64, u8>>(words: &mut T, width: u8) -> Result<i32, DecodeError>
-    ensures read { outcome result (T.state words.new) ≡ disp_step width (T.state words.old) }
+    ensures read { outcome result (T.state words.new) ≡ read_displacement width (T.state words.old) }
     ensures fits { IfOk result (λ disp. IsTrue (disp_fits width disp)) }
 {
     match width {
@@ -188,7 +188,7 @@ fn read_displacement<T: Reader<u64, u8>>(words: &mut T, width: u8) -> Result<i32
 /// SIB and displacement behind a ModRM of the memory form.
 ///
 /// Where the bytes end before both are whole, a SIB that is asked and there is taken, and of the displacement nothing.
-#[tactic(auto, unfolding(crate::specs::Raw::raw_step))]
+#[tactic(auto, unfolding(crate::specs::Raw::read_raw))]
 #[inline(always)]
 pub fn read_raw<T: Reader<u64, u8>>(
     words: &mut T,
@@ -196,7 +196,7 @@ pub fn read_raw<T: Reader<u64, u8>>(
     modrm: u8,
 ) -> Result<Raw, DecodeError>
     requires { modrm < MEMORY_FORMS }
-    ensures read { outcome result (T.state words.new) ≡ raw_step prefixes.now modrm (T.state words.old) }
+    ensures read { outcome result (T.state words.new) ≡ read_raw prefixes.now modrm (T.state words.old) }
     ensures fits { IfOk result (λ raw. IsTrue (fits raw)) }
 {
     let sib = read_sib(words, ModRM::new(modrm))?;

@@ -2,7 +2,7 @@
 //! 3.6.1.
 
 ghost use Rattle.std.specs.Prelude.{◌≡◌, ◌<◌, None};
-ghost use Rattle.x86_fields.specs.Sizes.{v, vq, vd, dq, byte_register, register_of};
+ghost use Rattle.x86_fields.specs.Sizes.{v_class, vq_class, vd_class, dq_class, byte_reg, register_of};
 
 use crate::prefixes::Prefixes;
 use x86_regs::{RegSpec, RegisterClass};
@@ -11,7 +11,7 @@ impl Prefixes {
     /// Q under a live W, else W under 66, else D.
     #[inline(always)]
     pub fn v_class(&self) -> RegisterClass
-        ensures { result ≡ v self.now }
+        ensures { result ≡ v_class self.now }
     {
         if self.has_w() {
             RegisterClass::Q
@@ -25,7 +25,7 @@ impl Prefixes {
     /// W under 66, else Q.
     #[inline(always)]
     pub fn vq_class(&self) -> RegisterClass
-        ensures { result ≡ vq self.now }
+        ensures { result ≡ vq_class self.now }
     {
         if self.operand_size {
             RegisterClass::W
@@ -37,7 +37,7 @@ impl Prefixes {
     /// D under a live W or without 66, else W.
     #[inline(always)]
     pub fn vd_class(&self) -> RegisterClass
-        ensures { result ≡ vd self.now }
+        ensures { result ≡ vd_class self.now }
     {
         if self.has_w() || !self.operand_size {
             RegisterClass::D
@@ -49,7 +49,7 @@ impl Prefixes {
     /// Q under a live W, else D.
     #[inline(always)]
     pub fn dq_class(&self) -> RegisterClass
-        ensures { result ≡ dq self.now }
+        ensures { result ≡ dq_class self.now }
     {
         if self.has_w() {
             RegisterClass::Q
@@ -62,7 +62,7 @@ impl Prefixes {
     pub fn byte_reg(&self, num: u8) -> RegSpec
         requires number { num < 16 }
         requires without_rex { self.now.rex ≡ None → num < 8 }
-        ensures { result ≡ byte_register self.now num }
+        ensures { result ≡ byte_reg self.now num }
     {
         self.register(RegisterClass::B, num)
     }

@@ -1,7 +1,7 @@
 -- What a group asks is the same under both choices.
 use Rattle.std.proofs.Common.{◌≡◌, ℕ, ◌==◌, ◌&&◌, not, Bool, true, false, if◌then◌else◌, refl}
 use Rattle.x86_fields.specs.declared.prefixes.Prefixes.{Prefixes}
-use Rattle.x86_fields.specs.Run.{has_f2, has_f3}
+use Rattle.x86_fields.specs.Run.{repnz, rep}
 use Rattle.x86_opcodes.specs.Names.{LFENCE, MFENCE, SFENCE}
 use Rattle.x86_forms.specs.declared.Form.{Form}
 use Rattle.x86_forms.specs.declared.Form.TheVariants as form
@@ -12,7 +12,7 @@ use Rattle.x86_fields.specs.ModRM.{reg_field, rm_field, is_memory}
 use Rattle.x86_operands.specs.Asks.{plan_ask}
 use Rattle.x86_groups.specs.Choice.{bare, bad_operand}
 use Rattle.x86_groups.specs.Fences.{fence, plain_0fae, plan_0fae}
-use Rattle.x86_groups.specs.Groups.{two_byte_plan, form_plan}
+use Rattle.x86_groups.specs.Groups.{two_byte_plan, group_form_plan}
 
 module _ (usage : ModrmUse) (at : ℕ) where
   abbrev asked : Plan → Ask
@@ -41,11 +41,11 @@ module _ (usage : ModrmUse) (at : ℕ) where
   group_0fae : (strict : Bool) (p : Prefixes) (m : ℕ) → asked (plan_0fae strict p m) ≡ asked (plan_0fae false p m)
   unfolding plan_0fae
   group_0fae strict p m =
-      by_test (has_f2 p) _ _ _ _ refl
-      (by_test (has_f3 p) _ _ _ _ refl
+      by_test (repnz p) _ _ _ _ refl
+      (by_test (rep p) _ _ _ _ refl
       (by_test p.operand_size _ _ _ _ refl (plain strict m)))
 
-  pub same_ask : (f : Form) (opcode : ℕ) (strict : Bool) (p : Prefixes) (m : ℕ) → asked (form_plan f opcode strict p m) ≡ asked (form_plan f opcode false p m)
-  unfolding form_plan two_byte_plan
+  pub same_ask : (f : Form) (opcode : ℕ) (strict : Bool) (p : Prefixes) (m : ℕ) → asked (group_form_plan f opcode strict p m) ≡ asked (group_form_plan f opcode false p m)
+  unfolding group_form_plan two_byte_plan
   same_ask form.ModRM_0x0fae opcode strict p m = group_0fae strict p m
   same_ask f opcode strict p m = refl

@@ -2,7 +2,7 @@
 use Rattle.std.proofs.Common.{◌≡◌, ◌≢◌, ℕ, ◌==◌, ◌⊎◌, inl, inr, Bool, true, false, refl, ap, ◌∙◌, arith}
 use Rattle.std.proofs.lemmas.Bool.Decides.{nat_tests}
 use Rattle.x86_fields.specs.declared.prefixes.Prefixes.{Prefixes}
-use Rattle.x86_fields.specs.Run.{has_f2, has_f3}
+use Rattle.x86_fields.specs.Run.{repnz, rep}
 use Rattle.x86_forms.specs.declared.TableRow.{TableRow}
 use Rattle.x86_forms.specs.declared.Form.{Form}
 use Rattle.x86_forms.specs.declared.Form.TheVariants as form
@@ -11,7 +11,7 @@ use Rattle.x86_opcodes.specs.Names.{LFENCE, MFENCE, SFENCE}
 use Rattle.x86_groups.specs.Choice.{bare, bad_operand}
 use Rattle.x86_groups.specs.Choices.{NamesFence, lfence, mfence, sfence, IsFenceWithRm}
 use Rattle.x86_groups.specs.Fences.{fence, plain_0fae, plan_0fae}
-use Rattle.x86_groups.specs.Groups.{two_byte_plan, form_plan, group_plan, group_record}
+use Rattle.x86_groups.specs.Groups.{two_byte_plan, group_form_plan, group_plan, group_record}
 
 is_equal : (a b : ℕ) → (a == b) ≡ true → a ≡ b
 is_equal a b e = grind (arith, nat_tests)
@@ -74,7 +74,7 @@ plain_fence m o strict a (sfence e) = rw (a, e) refl
 
 -- ---- 0F AE
 
-plan_other : (p : Prefixes) (m : ℕ) (f2 f3 word : Bool) → has_f2 p ≡ f2 → has_f3 p ≡ f3 → p.operand_size ≡ word → (plan_0fae true p m ≡ plan_0fae false p m) ⊎ IsFenceWithRm form.ModRM_0x0fae p m
+plan_other : (p : Prefixes) (m : ℕ) (f2 f3 word : Bool) → repnz p ≡ f2 → rep p ≡ f3 → p.operand_size ≡ word → (plan_0fae true p m ≡ plan_0fae false p m) ⊎ IsFenceWithRm form.ModRM_0x0fae p m
 unfolding plan_0fae
 plan_other p m true f3 word a b c = inl (rw a refl)
 plan_other p m false true word a b c = inl (rw (a, b) refl)
@@ -91,15 +91,15 @@ plan_fence strict p m h = rw (h.no_f2, h.no_f3, h.no_66) (plain_fence m h.opcode
 
 -- ---- any form
 
-form_other : (f : Form) (o : ℕ) (p : Prefixes) (m : ℕ) → (form_plan f o true p m ≡ form_plan f o false p m) ⊎ IsFenceWithRm f p m
-unfolding form_plan two_byte_plan
-form_other form.ModRM_0x0fae o p m = plan_other p m (has_f2 p) (has_f3 p) p.operand_size refl refl refl
+form_other : (f : Form) (o : ℕ) (p : Prefixes) (m : ℕ) → (group_form_plan f o true p m ≡ group_form_plan f o false p m) ⊎ IsFenceWithRm f p m
+unfolding group_form_plan two_byte_plan
+form_other form.ModRM_0x0fae o p m = plan_other p m (repnz p) (rep p) p.operand_size refl refl refl
 form_other f o p m = inl refl
 
-form_fence : (strict : Bool) (f : Form) (o : ℕ) (p : Prefixes) (m : ℕ) (h : IsFenceWithRm f p m) → form_plan f o strict p m ≡ fence strict h.opcode m
-unfolding form_plan two_byte_plan
+form_fence : (strict : Bool) (f : Form) (o : ℕ) (p : Prefixes) (m : ℕ) (h : IsFenceWithRm f p m) → group_form_plan f o strict p m ≡ fence strict h.opcode m
+unfolding group_form_plan two_byte_plan
 form_fence strict f o p m h =
-    ap (λ g. form_plan g o strict p m) h.group ∙ plan_fence strict p m (record { opcode = h.opcode; group = refl; no_f2 = h.no_f2; no_f3 = h.no_f3; no_66 = h.no_66; register = h.register; named = h.named; other_rm = h.other_rm })
+    ap (λ g. group_form_plan g o strict p m) h.group ∙ plan_fence strict p m (record { opcode = h.opcode; group = refl; no_f2 = h.no_f2; no_f3 = h.no_f3; no_66 = h.no_66; register = h.register; named = h.named; other_rm = h.other_rm })
 
 -- ---- rows
 

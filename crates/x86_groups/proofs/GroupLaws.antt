@@ -8,7 +8,7 @@ use Rattle.x86_fields.specs.ModRM.{reg_field}
 use Rattle.x86_forms.specs.declared.Form.{Form}
 use Rattle.x86_forms.specs.declared.Form.TheVariants as form
 use Rattle.x86_forms.specs.declared.TableRow.{TableRow}
-use Rattle.x86_forms.specs.Groups.{is_group_form}
+use Rattle.x86_forms.specs.Groups.{is_group}
 use Rattle.x86_operands.specs.declared.plans.Fault.TheVariants.{BadOpcode, Incomplete}
 use Rattle.x86_operands.specs.declared.plans.Plan.{Plan}
 use Rattle.x86_groups.specs.Keys.{is_f3_alone, fault_f30f3af0}
@@ -20,7 +20,7 @@ use Rattle.x86_operands.specs.Signs.{record_step}
 use Rattle.x86_operands.proofs.RowLaws.{HasGap, row_left_out}
 use Rattle.x86_operands.proofs.PlanTests.{passes, narrow, without_gap, at_most_64, at_most_8}
 use Rattle.x86_groups.specs.Choice.{left_out}
-use Rattle.x86_groups.specs.Groups.{group_fault, form_plan, two_byte_plan, three_byte_plan, group_record}
+use Rattle.x86_groups.specs.Groups.{group_fault, group_form_plan, two_byte_plan, three_byte_plan, group_record}
 use Rattle.x86_groups.proofs.PlanLaws.{plan_80_passes, plan_81_passes, plan_83_passes, plan_c0_passes, plan_c1_passes, plan_c6_passes, plan_c7_passes, plan_d0_passes, plan_d1_passes, plan_d2_passes, plan_d3_passes, plan_d8_passes, plan_d9_passes, plan_da_passes, plan_db_passes, plan_dc_passes, plan_dd_passes, plan_de_passes, plan_df_passes, plan_f6_passes, plan_f7_passes, plan_fe_passes, plan_ff_passes, plan_0f00_passes, plan_0f01_passes, plan_0f0d_passes, plan_0f0f_passes, plan_0f12_passes, plan_0f16_passes, plan_0f18_passes, plan_rq_cq_passes, plan_rq_dq_passes, plan_cq_rq_passes, plan_dq_rq_passes, plan_0f71_passes, plan_0f72_passes, plan_0f73_passes, plan_0fae_passes, plan_0fba_passes, plan_0fc7_passes, plan_660f78_passes, plan_f20f78_passes, plan_f30f1e_passes, plan_f30f38d8_passes, plan_f30f38dc_passes, plan_f30f38dd_passes, plan_f30f38de_passes, plan_f30f38df_passes, plan_f30f38fa_passes, plan_f30f38fb_passes, plan_f30f3af0_passes, plan_8f_passes, plan_8f_moment}
 
 -- 8F with a reg other than 0
@@ -30,15 +30,15 @@ has_wait f m = false
 
 -- what may refuse as left out: that, and what is no group
 abbrev may_wait : Form → ℕ → Bool
-may_wait f m = not (is_group_form f) || has_wait f m
+may_wait f m = not (is_group f) || has_wait f m
 
 none_passes : passes true left_out ≡ true
 unfolding passes narrow
 none_passes = refl
 
 -- a line for each group; what the last one covers is no group
-group_passes : (f : Form) (o : ℕ) (strict : Bool) (p : Prefixes) (m : ℕ) → passes (may_wait f m) (form_plan f o strict p m) ≡ true
-unfolding form_plan two_byte_plan three_byte_plan
+group_passes : (f : Form) (o : ℕ) (strict : Bool) (p : Prefixes) (m : ℕ) → passes (may_wait f m) (group_form_plan f o strict p m) ≡ true
+unfolding group_form_plan two_byte_plan three_byte_plan
 group_passes form.ModRM_0x80 o strict p m = plan_80_passes m
 group_passes form.ModRM_0x81 o strict p m = plan_81_passes p m
 group_passes form.ModRM_0x83 o strict p m = plan_83_passes p m
@@ -95,11 +95,11 @@ group_passes _ o strict p m = none_passes
 
 pub group_small : (strict : Bool) (row : TableRow) (p : Prefixes) (m : ℕ) → ((group_record strict row p).plan m).size ≤ 64
 unfolding group_record
-group_small strict row p m = at_most_64 (may_wait row.form m) (form_plan row.form row.opcode strict p m) (group_passes row.form row.opcode strict p m)
+group_small strict row p m = at_most_64 (may_wait row.form m) (group_form_plan row.form row.opcode strict p m) (group_passes row.form row.opcode strict p m)
 
 pub group_narrow : (strict : Bool) (row : TableRow) (p : Prefixes) (m : ℕ) → immediates_width ((group_record strict row p).plan m).signs ≤ 8
 unfolding group_record
-group_narrow strict row p m = at_most_8 (may_wait row.form m) (form_plan row.form row.opcode strict p m) (group_passes row.form row.opcode strict p m)
+group_narrow strict row p m = at_most_8 (may_wait row.form m) (group_form_plan row.form row.opcode strict p m) (group_passes row.form row.opcode strict p m)
 
 opcode_fault : (b : Bool) → (if b then None else Some BadOpcode) ≢ Some Incomplete
 opcode_fault true e = absurd cc
@@ -122,17 +122,17 @@ group_waits : (group wait : Bool) → group ≡ true → (not group || wait) ≡
 group_waits true wait is h = h
 group_waits false wait is h = absurd (true≢false (sym is))
 
-gap_waits : (strict : Bool) (row : TableRow) (p : Prefixes) (m : ℕ) (w : Moment) → is_group_form row.form ≡ true → ((group_record strict row p).plan m).verdict ≡ Refuses Incomplete w → has_wait row.form m ≡ true
+gap_waits : (strict : Bool) (row : TableRow) (p : Prefixes) (m : ℕ) (w : Moment) → is_group row.form ≡ true → ((group_record strict row p).plan m).verdict ≡ Refuses Incomplete w → has_wait row.form m ≡ true
 unfolding group_record
 gap_waits strict row p m w group e =
-    group_waits (is_group_form row.form) (has_wait row.form m) group
-    (waits (may_wait row.form m) (form_plan row.form row.opcode strict p m) w (group_passes row.form row.opcode strict p m) e)
+    group_waits (is_group row.form) (has_wait row.form m) group
+    (waits (may_wait row.form m) (group_form_plan row.form row.opcode strict p m) w (group_passes row.form row.opcode strict p m) e)
 
 wait_form : (f : Form) (m : ℕ) → has_wait f m ≡ true → f ≡ form.ModRM_0x8f
 wait_form form.ModRM_0x8f m h = refl
 wait_form _ m h = absurd (true≢false (sym h))
 
-pub gap_form : (strict : Bool) (row : TableRow) (p : Prefixes) (m : ℕ) (w : Moment) → is_group_form row.form ≡ true → ((group_record strict row p).plan m).verdict ≡ Refuses Incomplete w → row.form ≡ form.ModRM_0x8f
+pub gap_form : (strict : Bool) (row : TableRow) (p : Prefixes) (m : ℕ) (w : Moment) → is_group row.form ≡ true → ((group_record strict row p).plan m).verdict ≡ Refuses Incomplete w → row.form ≡ form.ModRM_0x8f
 gap_form strict row p m w group e = wait_form row.form m (gap_waits strict row p m w group e)
 
 not_zero : (n : ℕ) → not (n == 0) ≡ true → n ≢ 0
@@ -142,20 +142,20 @@ wait_reg : (f : Form) (m : ℕ) → has_wait f m ≡ true → reg_field m ≢ 0
 wait_reg form.ModRM_0x8f m h = not_zero (reg_field m) h
 wait_reg _ m h = absurd (true≢false (sym h))
 
-pub gap_reg : (strict : Bool) (row : TableRow) (p : Prefixes) (m : ℕ) (w : Moment) → is_group_form row.form ≡ true → ((group_record strict row p).plan m).verdict ≡ Refuses Incomplete w → reg_field m ≢ 0
+pub gap_reg : (strict : Bool) (row : TableRow) (p : Prefixes) (m : ℕ) (w : Moment) → is_group row.form ≡ true → ((group_record strict row p).plan m).verdict ≡ Refuses Incomplete w → reg_field m ≢ 0
 gap_reg strict row p m w group e = wait_reg row.form m (gap_waits strict row p m w group e)
 
-wait_moment : (f : Form) (o : ℕ) (strict : Bool) (p : Prefixes) (m : ℕ) (w : Moment) → has_wait f m ≡ true → (form_plan f o strict p m).verdict ≡ Refuses Incomplete w → w ≡ AfterAddress
-unfolding form_plan
+wait_moment : (f : Form) (o : ℕ) (strict : Bool) (p : Prefixes) (m : ℕ) (w : Moment) → has_wait f m ≡ true → (group_form_plan f o strict p m).verdict ≡ Refuses Incomplete w → w ≡ AfterAddress
+unfolding group_form_plan
 wait_moment form.ModRM_0x8f o strict p m w h e = plan_8f_moment p m w e
 wait_moment _ o strict p m w h e = absurd (true≢false (sym h))
 
-pub gap_moment : (strict : Bool) (row : TableRow) (p : Prefixes) (m : ℕ) (w : Moment) → is_group_form row.form ≡ true → ((group_record strict row p).plan m).verdict ≡ Refuses Incomplete w → w ≡ AfterAddress
+pub gap_moment : (strict : Bool) (row : TableRow) (p : Prefixes) (m : ℕ) (w : Moment) → is_group row.form ≡ true → ((group_record strict row p).plan m).verdict ≡ Refuses Incomplete w → w ≡ AfterAddress
 unfolding group_record
 gap_moment strict row p m w group e = wait_moment row.form row.opcode strict p m w (gap_waits strict row p m w group e) e
 
 -- a row of a group is left out where it is 8F alone
-pub group_left_out : (strict : Bool) (row : TableRow) (p : Prefixes) (s : State ℕ) → is_group_form row.form ≡ true → (record_step (group_record strict row p) p s).answer ≡ Err IncompleteDecoder → row.form ≡ form.ModRM_0x8f
+pub group_left_out : (strict : Bool) (row : TableRow) (p : Prefixes) (s : State ℕ) → is_group row.form ≡ true → (record_step (group_record strict row p) p s).answer ≡ Err IncompleteDecoder → row.form ≡ form.ModRM_0x8f
 group_left_out strict row p s group h = by (row_left_out (group_record strict row p) p s h)
   where
     by : HasGap (group_record strict row p) p → row.form ≡ form.ModRM_0x8f

@@ -2,7 +2,7 @@
 use Rattle.std.proofs.Common.{◌≡◌, ℕ, nat_lt, ◌==◌, Bool, true, false, not, if◌then◌else◌, rules}
 use Rattle.x86_fields.specs.ModRM.{reg_field}
 use Rattle.x86_fields.specs.declared.prefixes.Prefixes.{Prefixes}
-use Rattle.x86_fields.specs.Sizes.{v}
+use Rattle.x86_fields.specs.Sizes.{v_class}
 use Rattle.x86_regs.specs.Class.{width_of}
 use Rattle.x86_opcodes.specs.Names.{POP}
 use Rattle.x86_operands.specs.declared.plans.Sign.TheVariants.{E}
@@ -88,7 +88,7 @@ refusal_moment false o s n w e = cc
 
 pub plan_8f_moment : (p : Prefixes) (m : ℕ) (w : Moment) → (plan_8f p m).verdict ≡ Refuses Incomplete w → w ≡ AfterAddress
 unfolding plan_8f
-plan_8f_moment p m w e = refusal_moment (reg_field m == 0) POP (One (E (v p))) (size_by m (if p.operand_size then width_of (v p) else 8) (width_of (v p))) w e
+plan_8f_moment p m w e = refusal_moment (reg_field m == 0) POP (One (E (v_class p))) (size_by m (if p.operand_size then width_of (v_class p) else 8) (width_of (v_class p))) w e
 
 pub plan_c6_passes : (m : ℕ) → passes false (plan_c6 m) ≡ true
 unfolding plan_c6

@@ -4,7 +4,7 @@ use Rattle.x86_regs.specs.declared.RegisterClass.TheVariants.{B}
 use Rattle.x86_regs.specs.Class.{width_of}
 use Rattle.x86_fields.specs.ModRM.{reg_field}
 use Rattle.x86_fields.specs.declared.prefixes.Prefixes.{Prefixes}
-use Rattle.x86_fields.specs.Sizes.{v}
+use Rattle.x86_fields.specs.Sizes.{v_class}
 use Rattle.x86_operands.specs.declared.plans.Sign.{Sign}
 use Rattle.x86_operands.specs.declared.plans.Sign.TheVariants.{E, I8, Fixed, ConstantI8}
 use Rattle.x86_operands.specs.declared.plans.Signs.TheVariants.{One, Two}
@@ -21,10 +21,10 @@ unfoldable pub plan_80 : ℕ → Plan
 plan_80 m = reads (arithmetic_name m) (Two (E B) I8) 1
 
 unfoldable pub plan_81 : Prefixes → ℕ → Plan
-plan_81 p m = reads (arithmetic_name m) (Two (E (v p)) (immediate_of (v p))) (width_of (v p))
+plan_81 p m = reads (arithmetic_name m) (Two (E (v_class p)) (immediate_of (v_class p))) (width_of (v_class p))
 
 unfoldable pub plan_83 : Prefixes → ℕ → Plan
-plan_83 p m = reads (arithmetic_name m) (Two (E (v p)) I8) (width_of (v p))
+plan_83 p m = reads (arithmetic_name m) (Two (E (v_class p)) I8) (width_of (v_class p))
 
 abbrev pub rotation_name : ℕ → ℕ
 rotation_name m = named_by_reg (ROL ∷ ROR ∷ RCL ∷ RCR ∷ SHL ∷ SHR ∷ SAL ∷ SAR ∷ []) m
@@ -41,7 +41,7 @@ abbrev pub rotates_byte : Sign → ℕ → Plan
 rotates_byte count m = reads (rotation_name m) (Two (E B) count) 1
 
 abbrev pub rotates_word : Sign → Prefixes → ℕ → Plan
-rotates_word count p m = reads (rotation_name m) (Two (E (v p)) count) (width_of (v p))
+rotates_word count p m = reads (rotation_name m) (Two (E (v_class p)) count) (width_of (v_class p))
 
 unfoldable pub plan_c0 : ℕ → Plan
 plan_c0 m = rotates_byte I8 m
@@ -72,4 +72,4 @@ unfoldable pub plan_f6 : ℕ → Plan
 plan_f6 m = reads (test_name m) (if is_test m then Two (E B) I8 else One (E B)) 1
 
 unfoldable pub plan_f7 : Prefixes → ℕ → Plan
-plan_f7 p m = reads (test_name m) (if is_test m then Two (E (v p)) (immediate_of (v p)) else One (E (v p))) (width_of (v p))
+plan_f7 p m = reads (test_name m) (if is_test m then Two (E (v_class p)) (immediate_of (v_class p)) else One (E (v_class p))) (width_of (v_class p))

@@ -3,9 +3,9 @@ use Rattle.std.specs.Prelude.{ℕ, nat_lt, ◌==◌, ◌-◌, if◌then◌else�
 use Rattle.x86_regs.specs.declared.RegisterClass.TheVariants.{W, Q}
 use Rattle.x86_regs.specs.Class.{width_of}
 use Rattle.x86_fields.specs.declared.prefixes.Prefixes.{Prefixes}
-use Rattle.x86_fields.specs.Raw.{rex_w}
-use Rattle.x86_fields.specs.Run.{has_f2, has_f3}
-use Rattle.x86_fields.specs.Sizes.{v, vq}
+use Rattle.x86_fields.specs.Raw.{has_w}
+use Rattle.x86_fields.specs.Run.{repnz, rep}
+use Rattle.x86_fields.specs.Sizes.{v_class, vq_class}
 use Rattle.x86_operands.specs.declared.plans.Sign.TheVariants.{E, I8}
 use Rattle.x86_operands.specs.declared.plans.Signs.TheVariants.{Two}
 use Rattle.x86_operands.specs.declared.plans.Fault.TheVariants.{BadOpcode, BadOperand}
@@ -19,15 +19,15 @@ use Rattle.x86_groups.specs.Choice.{bad_opcode, bad_operand, name_at, on_memory,
 unfoldable pub plan_0fba : Prefixes → ℕ → Plan
 plan_0fba p m =
     if nat_lt (reg_field m) 4 then bad_opcode
-    else reads (name_at (BT ∷ BTS ∷ BTR ∷ BTC ∷ []) (reg_field m - 4)) (Two (E (vq p)) I8) (size_by m (width_of (vq p)) 0)
+    else reads (name_at (BT ∷ BTS ∷ BTR ∷ BTC ∷ []) (reg_field m - 4)) (Two (E (vq_class p)) I8) (size_by m (width_of (vq_class p)) 0)
 
 -- one name without a live W, and one with it
 abbrev pub by_w : Prefixes → ℕ → ℕ → ℕ
-by_w p without with_w = if rex_w p then with_w else without
+by_w p without with_w = if has_w p then with_w else without
 
 -- /1, whatever the prefixes are
 abbrev pub compares_0fc7 : Prefixes → ℕ → Plan
-compares_0fc7 p m = memory_only m (if rex_w p then on_memory CMPXCHG16B 16 else on_memory CMPXCHG8B 8)
+compares_0fc7 p m = memory_only m (if has_w p then on_memory CMPXCHG16B 16 else on_memory CMPXCHG8B 8)
 
 unfoldable pub operand_size_0fc7 : ℕ → Plan
 operand_size_0fc7 m =
@@ -46,15 +46,15 @@ plain_0fc7 p m =
     if reg_field m == 3 then memory_only m (on_memory (by_w p XRSTORS XRSTORS64) 63)
     else (if reg_field m == 4 then memory_only m (on_memory (by_w p XSAVEC XSAVEC64) 63)
     else (if reg_field m == 5 then memory_only m (on_memory (by_w p XSAVES XSAVES64) 63)
-    else (if reg_field m == 6 then (if is_memory m then on_memory VMPTRLD 8 else on_register RDRAND (v p))
-    else (if reg_field m == 7 then (if is_memory m then on_memory VMPTRST 8 else on_register RDSEED (v p))
+    else (if reg_field m == 6 then (if is_memory m then on_memory VMPTRLD 8 else on_register RDRAND (v_class p))
+    else (if reg_field m == 7 then (if is_memory m then on_memory VMPTRST 8 else on_register RDSEED (v_class p))
     else bad_operand))))
 
 -- the first that holds
 unfoldable pub plan_0fc7 : Prefixes → ℕ → Plan
 plan_0fc7 p m =
     if reg_field m == 1 then compares_0fc7 p m
-    else (if has_f2 p then bad_operand
+    else (if repnz p then bad_operand
     else (if p.operand_size then operand_size_0fc7 m
-    else (if has_f3 p then f3_0fc7 m
+    else (if rep p then f3_0fc7 m
     else plain_0fc7 p m)))

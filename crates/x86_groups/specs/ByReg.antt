@@ -5,7 +5,7 @@ use Rattle.x86_fields.specs.declared.prefixes.Prefixes.{Prefixes}
 use Rattle.x86_fields.specs.Steps.{Step, ◌>>=◌}
 use Rattle.x86_operands.specs.declared.plans.ModrmUse.TheVariants.{Fields}
 use Rattle.x86_operands.specs.declared.reader.Reading.{Reading}
-use Rattle.x86_operands.specs.Signs.{modrm_step, plan_step}
+use Rattle.x86_operands.specs.Signs.{read_modrm, read_plan}
 use Rattle.x86_operands.specs.declared.plans.Plan.{Plan}
 use Rattle.x86_operands.specs.declared.encodings.RegGroup.{RegGroup}
 use Rattle.x86_operands.specs.declared.encodings.RegGroup.TheVariants as group
@@ -58,8 +58,8 @@ other_plan group.FF p m = far_plan m
 other_plan g p m = refuses BadOpcode AfterAddress
 
 -- where no row describes what reg chooses, the group has one of these plans
-abbrev pub IsLeft : RegGroup → ℕ → Encoding → Type 0
-IsLeft g m e = is_row e.behind ≡ false → (p : Prefixes) → reg_plan g p m ≡ other_plan g p m
+abbrev pub LeavesOther : RegGroup → ℕ → Encoding → Type 0
+LeavesOther g m e = is_row e.behind ≡ false → (p : Prefixes) → reg_plan g p m ≡ other_plan g p m
 
 -- a row of a group has a ModRM byte of any mod
 abbrev pub has_fields : Behind → Bool
@@ -68,4 +68,4 @@ has_fields b = false
 
 -- what a group reads behind its opcode byte: ModRM, and what its line asks there
 abbrev pub reg_step : RegGroup → Prefixes → Step Reading
-reg_step g p = modrm_step Fields >>= λ m. plan_step (reg_plan g p m) p m
+reg_step g p = read_modrm Fields >>= λ m. read_plan (reg_plan g p m) p m

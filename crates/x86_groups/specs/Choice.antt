@@ -4,7 +4,7 @@ use Rattle.std.specs.Prelude.{ℕ, ◌==◌, Bool, not, ◌&&◌, ◌||◌, List
 use Rattle.x86_regs.specs.declared.RegisterClass.{RegisterClass}
 use Rattle.x86_fields.specs.declared.prefixes.Prefixes.{Prefixes}
 use Rattle.x86_fields.specs.ModRM.{reg_field, rm_field, is_memory}
-use Rattle.x86_fields.specs.Run.{has_f2, has_f3}
+use Rattle.x86_fields.specs.Run.{repnz, rep}
 use Rattle.x86_operands.specs.declared.plans.Sign.TheVariants.{M, U}
 use Rattle.x86_operands.specs.declared.plans.Signs.TheVariants.{Zero, One}
 use Rattle.x86_operands.specs.declared.plans.Fault.TheVariants.{BadOpcode, BadOperand, Incomplete}
@@ -27,10 +27,10 @@ is_register_0 m = not (is_memory m) && (rm_field m == 0)
 
 -- F2 or F3 is in force; 66 too
 abbrev pub has_f2_or_f3 : Prefixes → Bool
-has_f2_or_f3 p = has_f2 p || has_f3 p
+has_f2_or_f3 p = repnz p || rep p
 
 abbrev pub has_f2_f3_or_66 : Prefixes → Bool
-has_f2_f3_or_66 p = has_f2 p || has_f3 p || p.operand_size
+has_f2_f3_or_66 p = repnz p || rep p || p.operand_size
 
 -- no operand, and no memory
 abbrev pub bare : ℕ → Plan

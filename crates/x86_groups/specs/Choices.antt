@@ -1,7 +1,7 @@
 -- Where the default and the strict choice differ. Source: Intel SDM volume 2, appendix A.4, group 15.
 use Rattle.std.specs.Prelude.{◌≡◌, ◌≢◌, ℕ, false}
 use Rattle.x86_fields.specs.declared.prefixes.Prefixes.{Prefixes}
-use Rattle.x86_fields.specs.Run.{has_f2, has_f3}
+use Rattle.x86_fields.specs.Run.{repnz, rep}
 use Rattle.x86_fields.specs.ModRM.{reg_field, rm_field, is_memory}
 use Rattle.x86_opcodes.specs.Names.{LFENCE, MFENCE, SFENCE}
 use Rattle.x86_forms.specs.declared.Form.{Form}
@@ -17,8 +17,8 @@ pub data NamesFence (m : ℕ) : ℕ → Type 0 where
 pub record IsFenceWithRm (f : Form) (p : Prefixes) (m : ℕ) : Type 0 where
   pub opcode : ℕ
   pub group : f ≡ form.ModRM_0x0fae
-  pub no_f2 : has_f2 p ≡ false
-  pub no_f3 : has_f3 p ≡ false
+  pub no_f2 : repnz p ≡ false
+  pub no_f3 : rep p ≡ false
   pub no_66 : p.operand_size ≡ false
   pub register : is_memory m ≡ false
   pub named : NamesFence m opcode

@@ -3,8 +3,8 @@ use Rattle.std.specs.Prelude.{ℕ, ◌==◌, Bool, not, ◌&&◌, if◌then◌el
 use Rattle.x86_regs.specs.declared.RegisterClass.TheVariants.{D, Q}
 use Rattle.x86_regs.specs.Class.{width_of}
 use Rattle.x86_fields.specs.declared.prefixes.Prefixes.{Prefixes}
-use Rattle.x86_fields.specs.Run.{has_f2, has_f3}
-use Rattle.x86_fields.specs.Sizes.{dq}
+use Rattle.x86_fields.specs.Run.{repnz, rep}
+use Rattle.x86_fields.specs.Sizes.{dq_class}
 use Rattle.x86_operands.specs.declared.plans.Sign.TheVariants.{E, Fixed}
 use Rattle.x86_operands.specs.declared.plans.Signs.TheVariants.{One}
 use Rattle.x86_operands.specs.declared.plans.Mark.TheVariants.{ClearsOperandSize}
@@ -38,15 +38,15 @@ f2_0fae p m =
 unfoldable pub trace_0fae : Prefixes → ℕ → Plan
 trace_0fae p m =
     if p.operand_size then bad_opcode
-    else reads PTWRITE (One (E (dq p))) (size_by m (width_of (dq p)) 0)
+    else reads PTWRITE (One (E (dq_class p))) (size_by m (width_of (dq_class p)) 0)
 
 abbrev pub f3_register_0fae : Prefixes → ℕ → Plan
 f3_register_0fae p m =
-    if reg_field m == 0 then on_register RDFSBASE (dq p)
-    else (if reg_field m == 1 then on_register RDGSBASE (dq p)
-    else (if reg_field m == 2 then on_register WRFSBASE (dq p)
-    else (if reg_field m == 3 then on_register WRGSBASE (dq p)
-    else (if reg_field m == 5 then on_register INCSSP (dq p)
+    if reg_field m == 0 then on_register RDFSBASE (dq_class p)
+    else (if reg_field m == 1 then on_register RDGSBASE (dq_class p)
+    else (if reg_field m == 2 then on_register WRFSBASE (dq_class p)
+    else (if reg_field m == 3 then on_register WRGSBASE (dq_class p)
+    else (if reg_field m == 5 then on_register INCSSP (dq_class p)
     else (if reg_field m == 6 then on_register UMONITOR Q
     else bad_opcode)))))
 
@@ -77,7 +77,7 @@ plain_0fae strict m =
 
 unfoldable pub plan_0fae : Bool → Prefixes → ℕ → Plan
 plan_0fae strict p m =
-    if has_f2 p then f2_0fae p m
-    else (if has_f3 p then f3_0fae p m
+    if repnz p then f2_0fae p m
+    else (if rep p then f3_0fae p m
     else (if p.operand_size then clears_operand_size (operand_size_0fae m)
     else plain_0fae strict m))

@@ -75,35 +75,35 @@ two_byte_plan form.ModRM_0xf30f1e o strict p m = plan_f30f1e p m
 two_byte_plan f o strict p m = three_byte_plan f p m
 
 -- the one-byte map
-unfoldable pub form_plan : Form → ℕ → Bool → Prefixes → ℕ → Plan
-form_plan form.ModRM_0x80 o strict p m = plan_80 m
-form_plan form.ModRM_0x81 o strict p m = plan_81 p m
-form_plan form.ModRM_0x83 o strict p m = plan_83 p m
-form_plan form.ModRM_0x8f o strict p m = plan_8f p m
-form_plan form.ModRM_0xc0 o strict p m = plan_c0 m
-form_plan form.ModRM_0xc1 o strict p m = plan_c1 p m
-form_plan form.ModRM_0xc6 o strict p m = plan_c6 m
-form_plan form.ModRM_0xc7 o strict p m = plan_c7 p m
-form_plan form.ModRM_0xd0 o strict p m = plan_d0 m
-form_plan form.ModRM_0xd1 o strict p m = plan_d1 p m
-form_plan form.ModRM_0xd2 o strict p m = plan_d2 m
-form_plan form.ModRM_0xd3 o strict p m = plan_d3 p m
-form_plan form.x87_d8 o strict p m = plan_d8 m
-form_plan form.x87_d9 o strict p m = plan_d9 m
-form_plan form.x87_da o strict p m = plan_da m
-form_plan form.x87_db o strict p m = plan_db m
-form_plan form.x87_dc o strict p m = plan_dc m
-form_plan form.x87_dd o strict p m = plan_dd m
-form_plan form.x87_de o strict p m = plan_de m
-form_plan form.x87_df o strict p m = plan_df m
-form_plan form.ModRM_0xf6 o strict p m = plan_f6 m
-form_plan form.ModRM_0xf7 o strict p m = plan_f7 p m
-form_plan form.ModRM_0xfe o strict p m = plan_fe m
-form_plan form.ModRM_0xff o strict p m = plan_ff p m
-form_plan f o strict p m = two_byte_plan f o strict p m
+unfoldable pub group_form_plan : Form → ℕ → Bool → Prefixes → ℕ → Plan
+group_form_plan form.ModRM_0x80 o strict p m = plan_80 m
+group_form_plan form.ModRM_0x81 o strict p m = plan_81 p m
+group_form_plan form.ModRM_0x83 o strict p m = plan_83 p m
+group_form_plan form.ModRM_0x8f o strict p m = plan_8f p m
+group_form_plan form.ModRM_0xc0 o strict p m = plan_c0 m
+group_form_plan form.ModRM_0xc1 o strict p m = plan_c1 p m
+group_form_plan form.ModRM_0xc6 o strict p m = plan_c6 m
+group_form_plan form.ModRM_0xc7 o strict p m = plan_c7 p m
+group_form_plan form.ModRM_0xd0 o strict p m = plan_d0 m
+group_form_plan form.ModRM_0xd1 o strict p m = plan_d1 p m
+group_form_plan form.ModRM_0xd2 o strict p m = plan_d2 m
+group_form_plan form.ModRM_0xd3 o strict p m = plan_d3 p m
+group_form_plan form.x87_d8 o strict p m = plan_d8 m
+group_form_plan form.x87_d9 o strict p m = plan_d9 m
+group_form_plan form.x87_da o strict p m = plan_da m
+group_form_plan form.x87_db o strict p m = plan_db m
+group_form_plan form.x87_dc o strict p m = plan_dc m
+group_form_plan form.x87_dd o strict p m = plan_dd m
+group_form_plan form.x87_de o strict p m = plan_de m
+group_form_plan form.x87_df o strict p m = plan_df m
+group_form_plan form.ModRM_0xf6 o strict p m = plan_f6 m
+group_form_plan form.ModRM_0xf7 o strict p m = plan_f7 p m
+group_form_plan form.ModRM_0xfe o strict p m = plan_fe m
+group_form_plan form.ModRM_0xff o strict p m = plan_ff p m
+group_form_plan f o strict p m = two_byte_plan f o strict p m
 
 abbrev pub group_plan : TableRow → Prefixes → ℕ → Bool → Plan
-group_plan row p m strict = form_plan row.form row.opcode strict p m
+group_plan row p m strict = group_form_plan row.form row.opcode strict p m
 
 -- the record of a row whose form is a group, under the choice
 unfoldable pub group_record : Bool → TableRow → Prefixes → RowRecord

@@ -5,8 +5,8 @@ use Rattle.x86_regs.specs.declared.Segment.{Segment}
 use Rattle.x86_regs.specs.declared.Segment.TheVariants.{DS}
 use Rattle.x86_regs.specs.Class.{width_of}
 use Rattle.x86_fields.specs.declared.prefixes.Prefixes.{Prefixes}
-use Rattle.x86_fields.specs.Run.{has_f3}
-use Rattle.x86_fields.specs.Sizes.{v}
+use Rattle.x86_fields.specs.Run.{rep}
+use Rattle.x86_fields.specs.Sizes.{v_class}
 use Rattle.x86_operands.specs.declared.plans.Sign.TheVariants.{G, E, M, U, U8}
 use Rattle.x86_operands.specs.declared.plans.Signs.TheVariants.{One, Two}
 use Rattle.x86_operands.specs.declared.plans.Fault.{Fault}
@@ -28,7 +28,7 @@ plan_f30f38d8 m =
     else refuses BadOpcode AfterAddress))))
 
 unfoldable pub plan_f30f38dc : Prefixes → ℕ → Plan
-plan_f30f38dc p m = reads (if is_memory m then AESENC128KL else LOADIWKEY) (Two (G X) (E X)) (size_by m 48 (width_of (v p)))
+plan_f30f38dc p m = reads (if is_memory m then AESENC128KL else LOADIWKEY) (Two (G X) (E X)) (size_by m 48 (width_of (v_class p)))
 
 abbrev pub with_key : ℕ → ℕ → ℕ → Plan
 with_key opcode size m = memory_only m (reads opcode (Two (G X) M) size)
@@ -43,7 +43,7 @@ unfoldable pub plan_f30f38df : ℕ → Plan
 plan_f30f38df m = with_key AESDEC256KL 64 m
 
 abbrev pub encodes_key : ℕ → Prefixes → ℕ → Plan
-encodes_key opcode p m = refused (is_memory m) BadOpcode AfterAddress (reads opcode (Two (G D) (U D)) (width_of (v p)))
+encodes_key opcode p m = refused (is_memory m) BadOpcode AfterAddress (reads opcode (Two (G D) (U D)) (width_of (v_class p)))
 
 unfoldable pub plan_f30f38fa : Prefixes → ℕ → Plan
 plan_f30f38fa p m = encodes_key ENCODEKEY128 p m
@@ -62,7 +62,7 @@ is_no_override s = false
 -- F3 is in force, and nothing else: no 66, 67, LOCK, FS, GS or live REX
 abbrev pub is_f3_alone : Prefixes → Bool
 is_f3_alone p =
-    has_f3 p && not p.operand_size && not p.address_size && not p.lock && is_no_override p.segment && not (is_some p.rex)
+    rep p && not p.operand_size && not p.address_size && not p.lock && is_no_override p.segment && not (is_some p.rex)
 
 unfoldable pub fault_f30f3af0 : Prefixes → Option Fault
 fault_f30f3af0 p = if is_f3_alone p then None else Some BadOpcode

@@ -5,7 +5,7 @@ use Rattle.x86_regs.specs.declared.RegisterClass.TheVariants.{B, W, Q}
 use Rattle.x86_regs.specs.Class.{width_of}
 use Rattle.x86_fields.specs.ModRM.{reg_field}
 use Rattle.x86_fields.specs.declared.prefixes.Prefixes.{Prefixes}
-use Rattle.x86_fields.specs.Sizes.{v}
+use Rattle.x86_fields.specs.Sizes.{v_class}
 use Rattle.x86_operands.specs.declared.plans.Sign.{Sign}
 use Rattle.x86_operands.specs.declared.plans.Sign.TheVariants.{E, I8, I32, I32From16}
 use Rattle.x86_operands.specs.declared.plans.Signs.TheVariants.{One, Two}
@@ -19,7 +19,7 @@ use Rattle.x86_groups.specs.Choice.{is_register_0, on_memory}
 -- of a memory form 8 bytes without 66, else the width of v
 unfoldable pub plan_8f : Prefixes → ℕ → Plan
 plan_8f p m =
-    if reg_field m == 0 then reads POP (One (E (v p))) (size_by m (if p.operand_size then width_of (v p) else 8) (width_of (v p)))
+    if reg_field m == 0 then reads POP (One (E (v_class p))) (size_by m (if p.operand_size then width_of (v_class p) else 8) (width_of (v_class p)))
     else refuses Incomplete AfterAddress
 
 -- C6 with a reg other than 0
@@ -36,10 +36,10 @@ distance_of c = I32
 
 -- C7 with a reg other than 0
 abbrev pub begin_plan : Prefixes → ℕ → Plan
-begin_plan p m = if is_register_0 m then reads XBEGIN (One (distance_of (v p))) (width_of (v p)) else refuses BadOperand AfterAddress
+begin_plan p m = if is_register_0 m then reads XBEGIN (One (distance_of (v_class p))) (width_of (v_class p)) else refuses BadOperand AfterAddress
 
 unfoldable pub plan_c7 : Prefixes → ℕ → Plan
-plan_c7 p m = if reg_field m == 0 then reads MOV (Two (E (v p)) (immediate_of (v p))) (width_of (v p)) else begin_plan p m
+plan_c7 p m = if reg_field m == 0 then reads MOV (Two (E (v_class p)) (immediate_of (v_class p))) (width_of (v_class p)) else begin_plan p m
 
 unfoldable pub plan_fe : ℕ → Plan
 plan_fe m =
@@ -49,11 +49,11 @@ plan_fe m =
 
 unfoldable pub plan_ff : Prefixes → ℕ → Plan
 plan_ff p m =
-    if reg_field m == 0 then reads INC (One (E (v p))) (width_of (v p))
-    else (if reg_field m == 1 then reads DEC (One (E (v p))) (width_of (v p))
+    if reg_field m == 0 then reads INC (One (E (v_class p))) (width_of (v_class p))
+    else (if reg_field m == 1 then reads DEC (One (E (v_class p))) (width_of (v_class p))
     else (if reg_field m == 2 then reads CALL (One (E Q)) 8
     else (if reg_field m == 3 then memory_only m (on_memory CALLF 10)
-    else (if reg_field m == 4 then reads JMP (One (E Q)) (size_by m 8 (width_of (v p)))
+    else (if reg_field m == 4 then reads JMP (One (E Q)) (size_by m 8 (width_of (v_class p)))
     else (if reg_field m == 5 then memory_only m (on_memory JMPF 10)
-    else (if reg_field m == 6 then reads PUSH (One (E (v p))) (if p.operand_size then 2 else 8)
+    else (if reg_field m == 6 then reads PUSH (One (E (v_class p))) (if p.operand_size then 2 else 8)
     else refuses BadOpcode AfterAddress))))))

@@ -3,7 +3,7 @@ use Rattle.std.specs.Prelude.{ℕ, ◌==◌, Bool, ◌||◌, if◌then◌else◌
 use Rattle.x86_regs.specs.declared.RegisterClass.TheVariants.{X}
 use Rattle.x86_regs.specs.Class.{width_of}
 use Rattle.x86_fields.specs.declared.prefixes.Prefixes.{Prefixes}
-use Rattle.x86_fields.specs.Sizes.{v}
+use Rattle.x86_fields.specs.Sizes.{v_class}
 use Rattle.x86_operands.specs.declared.plans.Sign.TheVariants.{U, Umm, U8}
 use Rattle.x86_operands.specs.declared.plans.Signs.TheVariants.{Two}
 use Rattle.x86_operands.specs.declared.plans.Fault.TheVariants.{BadOpcode, BadOperand}
@@ -16,7 +16,7 @@ use Rattle.x86_groups.specs.Choice.{has_f2_or_f3}
 
 -- a register and the count
 abbrev pub packed_shift : Prefixes → ℕ → Plan
-packed_shift p opcode = reads opcode (if p.operand_size then Two (U X) U8 else Two Umm U8) (width_of (v p))
+packed_shift p opcode = reads opcode (if p.operand_size then Two (U X) U8 else Two Umm U8) (width_of (v_class p))
 
 -- F2, F3 and memory are refused before reg is looked at
 abbrev pub refuses_shift : Prefixes → ℕ → Bool

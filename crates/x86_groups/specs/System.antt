@@ -2,8 +2,8 @@
 use Rattle.std.specs.Prelude.{ℕ, nat_lt, ◌==◌, if◌then◌else◌, [], ◌∷◌}
 use Rattle.x86_regs.specs.declared.RegisterClass.TheVariants.{W, D, Q}
 use Rattle.x86_fields.specs.declared.prefixes.Prefixes.{Prefixes}
-use Rattle.x86_fields.specs.Run.{has_f2, has_f3}
-use Rattle.x86_fields.specs.Sizes.{v}
+use Rattle.x86_fields.specs.Run.{repnz, rep}
+use Rattle.x86_fields.specs.Sizes.{v_class}
 use Rattle.x86_operands.specs.declared.plans.RegisterSlot.{RegisterSlot}
 use Rattle.x86_operands.specs.declared.plans.Sign.{Sign}
 use Rattle.x86_operands.specs.declared.plans.Sign.TheVariants.{E, U, Fixed}
@@ -29,7 +29,7 @@ memory_0f01 p m =
     else (if reg_field m == 2 then on_memory LGDT 10
     else (if reg_field m == 3 then on_memory LIDT 10
     else (if reg_field m == 4 then on_memory SMSW 2
-    else (if reg_field m == 5 then (if has_f3 p then on_memory RSTORSSP 8 else bad_opcode)
+    else (if reg_field m == 5 then (if rep p then on_memory RSTORSSP 8 else bad_opcode)
     else (if reg_field m == 6 then on_memory LMSW 2
     else on_memory INVLPG 1))))))
 
@@ -102,26 +102,26 @@ register_0f01_3 m =
 
 unfoldable pub register_0f01_5 : Prefixes → ℕ → Plan
 register_0f01_5 p m =
-    if rm_field m == 0 then (if has_f2 p then bare XSUSLDTRK else (if has_f3 p then bare SETSSBSY else bad_opcode))
-    else (if rm_field m == 1 then (if has_f2 p then bare XRESLDTRK else bad_opcode)
-    else (if rm_field m == 2 then (if has_f3 p then bare SAVEPREVSSP else bad_opcode)
-    else (if rm_field m == 4 then (if has_f3 p then bare UIRET else bad_opcode)
-    else (if rm_field m == 5 then (if has_f3 p then bare TESTUI else bad_opcode)
-    else (if rm_field m == 6 then (if has_f3 p then bare CLUI else (if has_f2_f3_or_66 p then bad_opcode else bare RDPKRU))
-    else (if rm_field m == 7 then (if has_f3 p then bare STUI else (if has_f2_f3_or_66 p then bad_opcode else bare WRPKRU))
+    if rm_field m == 0 then (if repnz p then bare XSUSLDTRK else (if rep p then bare SETSSBSY else bad_opcode))
+    else (if rm_field m == 1 then (if repnz p then bare XRESLDTRK else bad_opcode)
+    else (if rm_field m == 2 then (if rep p then bare SAVEPREVSSP else bad_opcode)
+    else (if rm_field m == 4 then (if rep p then bare UIRET else bad_opcode)
+    else (if rm_field m == 5 then (if rep p then bare TESTUI else bad_opcode)
+    else (if rm_field m == 6 then (if rep p then bare CLUI else (if has_f2_f3_or_66 p then bad_opcode else bare RDPKRU))
+    else (if rm_field m == 7 then (if rep p then bare STUI else (if has_f2_f3_or_66 p then bad_opcode else bare WRPKRU))
     else bad_opcode))))))
 
 -- rm 6 and 7 of /7 without 66
 abbrev pub invalidates_pages : Prefixes → Plan
 invalidates_pages p =
-    if has_f3 p then bare RMPADJUST
-    else (if has_f2 p then bare RMPUPDATE
+    if rep p then bare RMPADJUST
+    else (if repnz p then bare RMPUPDATE
     else reads INVLPGB (Three rax (edx_at place.Rm) (ecx_at place.Third)) 0)
 
 abbrev pub synchronizes_pages : Prefixes → Plan
 synchronizes_pages p =
-    if has_f3 p then bare PSMASH
-    else (if has_f2 p then bare PVALIDATE
+    if rep p then bare PSMASH
+    else (if repnz p then bare PVALIDATE
     else bare TLBSYNC)
 
 unfoldable pub register_0f01_7 : Prefixes → ℕ → Plan
@@ -142,7 +142,7 @@ register_0f01 p m =
     else (if reg_field m == 1 then register_0f01_1 p m
     else (if reg_field m == 2 then register_0f01_2 p m
     else (if reg_field m == 3 then register_0f01_3 m
-    else (if reg_field m == 4 then reads SMSW (One (U (v p))) 2
+    else (if reg_field m == 4 then reads SMSW (One (U (v_class p))) 2
     else (if reg_field m == 5 then register_0f01_5 p m
     else (if reg_field m == 6 then reads LMSW (One (U W)) 2
     else register_0f01_7 p m))))))

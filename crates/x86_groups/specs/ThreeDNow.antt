@@ -2,11 +2,11 @@
 use Rattle.std.specs.Prelude.{ℕ}
 use Rattle.x86_regs.specs.Class.{width_of}
 use Rattle.x86_fields.specs.declared.prefixes.Prefixes.{Prefixes}
-use Rattle.x86_fields.specs.Sizes.{v}
+use Rattle.x86_fields.specs.Sizes.{v_class}
 use Rattle.x86_operands.specs.declared.plans.Sign.TheVariants.{Gmm, Emm}
 use Rattle.x86_operands.specs.declared.plans.Signs.TheVariants.{Two}
 use Rattle.x86_operands.specs.declared.plans.Plan.{Plan}
 use Rattle.x86_operands.specs.Plans.{named_by_suffix, size_by}
 
 unfoldable pub plan_0f0f : Prefixes → ℕ → Plan
-plan_0f0f p m = named_by_suffix (Two Gmm Emm) (size_by m 8 (width_of (v p)))
+plan_0f0f p m = named_by_suffix (Two Gmm Emm) (size_by m 8 (width_of (v_class p)))

@@ -3,7 +3,7 @@
 ghost use Rattle.std.specs.Prelude.{◌≡◌, ◌<◌, IsTrue, true, ◌∷◌, []};
 ghost use Rattle.x86_opcodes.specs.Names.{ADD, OR, ADC, SBB, AND, SUB, XOR, CMP, ROL, ROR, RCL, RCR, SHL, SHR, SAL, SAR, TEST, NOT, NEG, MUL, IMUL, DIV, IDIV};
 ghost use Rattle.x86_operands.specs.Encodings.{is_sound, is_row};
-ghost use Rattle.x86_groups.specs.ByReg.{Chooses, IsLeft, has_fields, reg_plan};
+ghost use Rattle.x86_groups.specs.ByReg.{Chooses, LeavesOther, has_fields, reg_plan};
 ghost use Rattle.x86_groups.specs.Choice.{name_at};
 
 use crate::operations::other_plan;
@@ -98,7 +98,7 @@ fn unary(reg: u8) -> Opcode
 #[tactic(auto, unfolding(crate::specs::Arithmetic::plan_80, crate::specs::Arithmetic::plan_81, crate::specs::Arithmetic::plan_83, crate::specs::Arithmetic::plan_c0, crate::specs::Arithmetic::plan_c1, crate::specs::Arithmetic::plan_d0, crate::specs::Arithmetic::plan_d1, crate::specs::Arithmetic::plan_d2, crate::specs::Arithmetic::plan_d3, crate::specs::Arithmetic::plan_f6, crate::specs::Arithmetic::plan_f7, crate::specs::Operations::plan_c6, crate::specs::Operations::plan_c7, crate::specs::Operations::plan_fe, crate::specs::Operations::plan_ff))]
 pub fn chosen(group: RegGroup, modrm: ModRM) -> (Opcode, &'static Encoding)
     ensures chooses { Chooses group modrm result.0 result.1.now }
-    ensures left { IsLeft group modrm result.1.now }
+    ensures left { LeavesOther group modrm result.1.now }
     ensures sound { is_sound result.1.now ≡ true }
     ensures fields { IsTrue (is_row result.1.now.behind) → has_fields result.1.now.behind ≡ true }
 {
@@ -134,7 +134,7 @@ pub fn chosen(group: RegGroup, modrm: ModRM) -> (Opcode, &'static Encoding)
 }
 
 /// The plan of what reg chooses.
-pub fn chosen_plan(group: RegGroup, prefixes: &Prefixes, modrm: ModRM) -> Plan
+pub fn reg_plan(group: RegGroup, prefixes: &Prefixes, modrm: ModRM) -> Plan
     ensures { result ≡ reg_plan group prefixes.now modrm }
 {
     let (opcode, encoding) = chosen(group, modrm);

@@ -7,7 +7,7 @@ ghost use Rattle.x86_fields.specs.declared.errors.DecodeError.TheVariants.{Incom
 ghost use Rattle.x86_fields.specs.declared.prefixes.Prefixes.{Prefixes};
 ghost use Rattle.x86_fields.specs.ModRM.{reg_field};
 ghost use Rattle.x86_forms.specs.declared.TableRow.{TableRow};
-ghost use Rattle.x86_forms.specs.Groups.{is_group_form};
+ghost use Rattle.x86_forms.specs.Groups.{is_group};
 ghost use Rattle.x86_operands.specs.declared.plans.Fault.TheVariants.{Incomplete};
 ghost use Rattle.x86_operands.specs.declared.plans.Moment.{Moment};
 ghost use Rattle.x86_operands.specs.declared.plans.Moment.TheVariants.{AfterAddress};
@@ -27,10 +27,10 @@ use x86_forms::Form;
 /// 8F alone. Source: Intel SDM volume 2, appendix A.4, group 1A.
 pub fn groups_are_built()
     ensures at_opcode { (strict : Bool) (row : TableRow) (p : Prefixes) → (group_record strict row p).at_opcode ≢ Some Incomplete }
-    ensures form { (strict : Bool) (row : TableRow) (p : Prefixes) (m : ℕ) (w : Moment) → is_group_form row.form ≡ true → ((group_record strict row p).plan m).verdict ≡ Refuses Incomplete w → row.form ≡ Form.ModRM_0x8f }
-    ensures reg { (strict : Bool) (row : TableRow) (p : Prefixes) (m : ℕ) (w : Moment) → is_group_form row.form ≡ true → ((group_record strict row p).plan m).verdict ≡ Refuses Incomplete w → reg_field m ≢ 0 }
-    ensures moment { (strict : Bool) (row : TableRow) (p : Prefixes) (m : ℕ) (w : Moment) → is_group_form row.form ≡ true → ((group_record strict row p).plan m).verdict ≡ Refuses Incomplete w → w ≡ AfterAddress }
-    ensures answer { (strict : Bool) (row : TableRow) (p : Prefixes) (s : State ℕ) → is_group_form row.form ≡ true → (record_step (group_record strict row p) p s).answer ≡ Err IncompleteDecoder → row.form ≡ Form.ModRM_0x8f }
+    ensures form { (strict : Bool) (row : TableRow) (p : Prefixes) (m : ℕ) (w : Moment) → is_group row.form ≡ true → ((group_record strict row p).plan m).verdict ≡ Refuses Incomplete w → row.form ≡ Form.ModRM_0x8f }
+    ensures reg { (strict : Bool) (row : TableRow) (p : Prefixes) (m : ℕ) (w : Moment) → is_group row.form ≡ true → ((group_record strict row p).plan m).verdict ≡ Refuses Incomplete w → reg_field m ≢ 0 }
+    ensures moment { (strict : Bool) (row : TableRow) (p : Prefixes) (m : ℕ) (w : Moment) → is_group row.form ≡ true → ((group_record strict row p).plan m).verdict ≡ Refuses Incomplete w → w ≡ AfterAddress }
+    ensures answer { (strict : Bool) (row : TableRow) (p : Prefixes) (s : State ℕ) → is_group row.form ≡ true → (record_step (group_record strict row p) p s).answer ≡ Err IncompleteDecoder → row.form ≡ Form.ModRM_0x8f }
 {}
 
 /// The memory size of each plan is at most 64 bytes.
@@ -51,7 +51,7 @@ pub fn choices_differ_on_fences()
 /// A group that reg alone chooses is read by its ModRM byte and the plan of its line there, under both choices. Its
 /// form carries no number.
 pub fn reg_groups_are_chosen()
-    ensures group { (g : RegGroup) (f : Form) → f ≡ group_form g → is_group_form f ≡ true }
+    ensures group { (g : RegGroup) (f : Form) → f ≡ group_form g → is_group f ≡ true }
     ensures carries { (g : RegGroup) (f : Form) → f ≡ group_form g → carried f ≡ 0 }
     ensures plan { (g : RegGroup) (strict : Bool) (row : TableRow) (p : Prefixes) (m : ℕ) → row.form ≡ group_form g → group_plan row p m strict ≡ reg_plan g p m }
     ensures read { (g : RegGroup) (strict : Bool) (row : TableRow) (p : Prefixes) (s : State ℕ) → row.form ≡ group_form g → record_step (group_record strict row p) p s ≡ reg_step g p s }

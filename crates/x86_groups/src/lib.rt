@@ -4,11 +4,11 @@
 ghost use Rattle.std.specs.Prelude.{◌≡◌, Bool, true};
 ghost use Rattle.x86_arch.specs.Reader.{State};
 ghost use Rattle.x86_fields.specs.Steps.{outcome};
-ghost use Rattle.x86_forms.specs.Groups.{is_group_form};
+ghost use Rattle.x86_forms.specs.Groups.{is_group};
 ghost use Rattle.x86_operands.specs.Asks.{ask_of, record_at};
 ghost use Rattle.x86_operands.specs.Signs.{record_step};
 ghost use Rattle.x86_operands.specs.Encodings.{held, no_operands, placed_reading};
-ghost use Rattle.x86_groups.specs.Groups.{form_plan, three_byte_plan, two_byte_plan, group_fault, group_modrm, group_plan, group_record};
+ghost use Rattle.x86_groups.specs.Groups.{group_form_plan, three_byte_plan, two_byte_plan, group_fault, group_modrm, group_plan, group_record};
 
 /// Operations in their order: `names!(ADD OR)`.
 macro_rules! names {
@@ -34,7 +34,7 @@ mod three_d_now;
 
 use bits::{plan_0fba, plan_0fc7};
 pub use by_reg::chosen;
-use by_reg::chosen_plan;
+use by_reg::reg_plan;
 use choice::left_out;
 use extract::{plan_660f78, plan_f20f78};
 use fences::plan_0fae;
@@ -56,10 +56,10 @@ use x86_opcodes::Opcode;
 use x86_operands::plans::{Fault, ModrmUse, Plan};
 use x86_operands::{
     Ask, Operands, Reading, RecordAt, RegGroup, place_plan, plan_ask, read_modrm, read_plan,
-    refuse, used_modrm, used_or_none,
+    refuse_fault, used_modrm, used_or_none,
 };
 
-fn fault(form: Form, prefixes: &Prefixes) -> Option<Fault>
+fn group_fault(form: Form, prefixes: &Prefixes) -> Option<Fault>
     ensures { result ≡ group_fault form prefixes.now }
 {
     match form {
@@ -68,7 +68,7 @@ fn fault(form: Form, prefixes: &Prefixes) -> Option<Fault>
     }
 }
 
-fn modrm_use(form: Form) -> ModrmUse
+fn group_modrm(form: Form) -> ModrmUse
     ensures { result ≡ group_modrm form }
 {
     match form {
@@ -132,23 +132,29 @@ fn two_byte_plan(
 }
 
 /// The plan of a form; `opcode` is that of its row.
-#[tactic(auto, unfolding(crate::specs::Groups::form_plan))]
-fn form_plan(form: Form, opcode: Opcode, strict: bool, prefixes: &Prefixes, modrm: ModRM) -> Plan
-    ensures { result ≡ form_plan form opcode strict prefixes.now modrm }
+#[tactic(auto, unfolding(crate::specs::Groups::group_form_plan))]
+fn group_form_plan(
+    form: Form,
+    opcode: Opcode,
+    strict: bool,
+    prefixes: &Prefixes,
+    modrm: ModRM,
+) -> Plan
+    ensures { result ≡ group_form_plan form opcode strict prefixes.now modrm }
 {
     match form {
-        Form::ModRM_0x80 => chosen_plan(RegGroup::G80, prefixes, modrm),
-        Form::ModRM_0x81 => chosen_plan(RegGroup::G81, prefixes, modrm),
-        Form::ModRM_0x83 => chosen_plan(RegGroup::G83, prefixes, modrm),
+        Form::ModRM_0x80 => reg_plan(RegGroup::G80, prefixes, modrm),
+        Form::ModRM_0x81 => reg_plan(RegGroup::G81, prefixes, modrm),
+        Form::ModRM_0x83 => reg_plan(RegGroup::G83, prefixes, modrm),
         Form::ModRM_0x8f => plan_8f(prefixes, modrm),
-        Form::ModRM_0xc0 => chosen_plan(RegGroup::C0, prefixes, modrm),
-        Form::ModRM_0xc1 => chosen_plan(RegGroup::C1, prefixes, modrm),
-        Form::ModRM_0xc6 => chosen_plan(RegGroup::C6, prefixes, modrm),
-        Form::ModRM_0xc7 => chosen_plan(RegGroup::C7, prefixes, modrm),
-        Form::ModRM_0xd0 => chosen_plan(RegGroup::D0, prefixes, modrm),
-        Form::ModRM_0xd1 => chosen_plan(RegGroup::D1, prefixes, modrm),
-        Form::ModRM_0xd2 => chosen_plan(RegGroup::D2, prefixes, modrm),
-        Form::ModRM_0xd3 => chosen_plan(RegGroup::D3, prefixes, modrm),
+        Form::ModRM_0xc0 => reg_plan(RegGroup::C0, prefixes, modrm),
+        Form::ModRM_0xc1 => reg_plan(RegGroup::C1, prefixes, modrm),
+        Form::ModRM_0xc6 => reg_plan(RegGroup::C6, prefixes, modrm),
+        Form::ModRM_0xc7 => reg_plan(RegGroup::C7, prefixes, modrm),
+        Form::ModRM_0xd0 => reg_plan(RegGroup::D0, prefixes, modrm),
+        Form::ModRM_0xd1 => reg_plan(RegGroup::D1, prefixes, modrm),
+        Form::ModRM_0xd2 => reg_plan(RegGroup::D2, prefixes, modrm),
+        Form::ModRM_0xd3 => reg_plan(RegGroup::D3, prefixes, modrm),
         Form::x87_d8 => plan_d8(modrm),
         Form::x87_d9 => plan_d9(modrm),
         Form::x87_da => plan_da(modrm),
@@ -157,10 +163,10 @@ fn form_plan(form: Form, opcode: Opcode, strict: bool, prefixes: &Prefixes, modr
         Form::x87_dd => plan_dd(modrm),
         Form::x87_de => plan_de(modrm),
         Form::x87_df => plan_df(modrm),
-        Form::ModRM_0xf6 => chosen_plan(RegGroup::F6, prefixes, modrm),
-        Form::ModRM_0xf7 => chosen_plan(RegGroup::F7, prefixes, modrm),
-        Form::ModRM_0xfe => chosen_plan(RegGroup::FE, prefixes, modrm),
-        Form::ModRM_0xff => chosen_plan(RegGroup::FF, prefixes, modrm),
+        Form::ModRM_0xf6 => reg_plan(RegGroup::F6, prefixes, modrm),
+        Form::ModRM_0xf7 => reg_plan(RegGroup::F7, prefixes, modrm),
+        Form::ModRM_0xfe => reg_plan(RegGroup::FE, prefixes, modrm),
+        Form::ModRM_0xff => reg_plan(RegGroup::FF, prefixes, modrm),
         _ => two_byte_plan(form, opcode, strict, prefixes, modrm),
     }
 }
@@ -179,9 +185,9 @@ pub fn place_group<T: Reader<u64, u8>>(
     requires { given.old ≡ no_operands }
     ensures { outcome (held result (placed_reading opcode.new prefixes.new given.new)) (T.state words.new) ≡ record_step (group_record strict row prefixes.old) prefixes.old (T.state words.old) }
 {
-    refuse(fault(row.form, prefixes))?;
-    let modrm = read_modrm(words, modrm_use(row.form))?;
-    let plan = form_plan(row.form, row.opcode, strict, prefixes, modrm);
+    refuse_fault(group_fault(row.form, prefixes))?;
+    let modrm = read_modrm(words, group_modrm(row.form))?;
+    let plan = group_form_plan(row.form, row.opcode, strict, prefixes, modrm);
     place_plan(words, &plan, modrm, prefixes, opcode, given)
 }
 
@@ -189,7 +195,7 @@ pub fn place_group<T: Reader<u64, u8>>(
 pub fn group_plan(row: TableRow, strict: bool, prefixes: &Prefixes, modrm: ModRM) -> Plan
     ensures { result ≡ group_plan row prefixes.now modrm strict }
 {
-    form_plan(row.form, row.opcode, strict, prefixes, modrm)
+    group_form_plan(row.form, row.opcode, strict, prefixes, modrm)
 }
 
 /// Reads what a row asks behind its opcode byte, where its form is a group.
@@ -205,12 +211,12 @@ pub fn read_group<T: Reader<u64, u8>>(
     prefixes: Prefixes,
     strict: bool,
 ) -> Result<Reading, DecodeError>
-    requires group { is_group_form row.form ≡ true }
+    requires group { is_group row.form ≡ true }
     ensures { outcome result (T.state words.new) ≡ record_step (group_record strict row prefixes) prefixes (T.state words.old) }
 {
-    refuse(fault(row.form, &prefixes))?;
-    let modrm = read_modrm(words, modrm_use(row.form))?;
-    let plan = form_plan(row.form, row.opcode, strict, &prefixes, modrm);
+    refuse_fault(group_fault(row.form, &prefixes))?;
+    let modrm = read_modrm(words, group_modrm(row.form))?;
+    let plan = group_form_plan(row.form, row.opcode, strict, &prefixes, modrm);
     read_plan(words, &plan, prefixes, modrm)
 }
 
@@ -219,28 +225,28 @@ pub fn read_group<T: Reader<u64, u8>>(
 ///
 /// For the row of F7 at ModRM C0, which is TEST, this is a ModRM, and an immediate of 4 bytes without 66.
 pub fn group_ask(row: TableRow, prefixes: Prefixes, modrm: u8) -> Ask
-    requires { is_group_form row.form ≡ true }
+    requires { is_group row.form ≡ true }
     ensures { (strict : Bool) → result ≡ ask_of (group_record strict row prefixes) modrm }
 {
-    let usage = modrm_use(row.form);
+    let usage = group_modrm(row.form);
     let modrm = used_modrm(usage, ModRM::new(modrm));
-    let plan = form_plan(row.form, row.opcode, false, &prefixes, modrm);
+    let plan = group_form_plan(row.form, row.opcode, false, &prefixes, modrm);
     plan_ask(usage, modrm, &plan)
 }
 
 /// The record of a row whose form is a group, at a ModRM byte.
 #[tactic(auto, unfolding(crate::specs::Groups::group_record, x86_operands::specs::Asks::record_at))]
 pub fn group_at(row: TableRow, prefixes: Prefixes, modrm: Option<u8>, strict: bool) -> RecordAt
-    requires { is_group_form row.form ≡ true }
+    requires { is_group row.form ≡ true }
     ensures { result ≡ record_at (group_record strict row prefixes) modrm }
 {
-    let usage = modrm_use(row.form);
+    let usage = group_modrm(row.form);
     let modrm = used_or_none(usage, modrm);
     RecordAt {
-        at_opcode: fault(row.form, &prefixes),
+        at_opcode: group_fault(row.form, &prefixes),
         usage,
         modrm,
-        plan: form_plan(row.form, row.opcode, strict, &prefixes, modrm),
+        plan: group_form_plan(row.form, row.opcode, strict, &prefixes, modrm),
     }
 }
 
@@ -258,7 +264,7 @@ mod tests {
         bytes: &[u8],
         strict: bool,
     ) -> (Result<Reading, DecodeError>, u64)
-        requires { is_group_form form ≡ true }
+        requires { is_group form ≡ true }
     {
         let row = TableRow {
             opcode: Opcode::Invalid,
@@ -270,7 +276,7 @@ mod tests {
     }
 
     fn refusal(form: Form, bytes: &[u8]) -> (Option<DecodeError>, u64)
-        requires { is_group_form form ≡ true }
+        requires { is_group form ≡ true }
     {
         let (answer, taken) = read(form, Prefixes::none(), bytes, false);
         (answer.err(), taken)

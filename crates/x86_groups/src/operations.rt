@@ -40,7 +40,7 @@ fn abort_plan(modrm: ModRM) -> Plan
 }
 
 /// The distance of XBEGIN.
-fn distance(class: RegisterClass) -> Sign
+fn distance_of(class: RegisterClass) -> Sign
     ensures { result ≡ distance_of class }
 {
     match class {
@@ -55,7 +55,7 @@ fn begin_plan(prefixes: &Prefixes, modrm: ModRM) -> Plan
 {
     let v = prefixes.v_class();
     if is_register_0(modrm) {
-        reads(Opcode::XBEGIN, Signs::One(distance(v)), v.width())
+        reads(Opcode::XBEGIN, Signs::One(distance_of(v)), v.width())
     } else {
         refuses(Fault::BadOperand, Moment::AfterAddress)
     }

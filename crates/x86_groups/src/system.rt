@@ -1,6 +1,6 @@
 //! System tables and system instructions.
 ghost use Rattle.std.specs.Prelude.{◌≡◌};
-ghost use Rattle.x86_operands.specs.Signs.{slot_at};
+ghost use Rattle.x86_operands.specs.Signs.{register_slot};
 ghost use Rattle.x86_groups.specs.System.{rax, eax, ecx_at, edx_at, trusted_domain, monitoring, invalidates_pages, synchronizes_pages, register_0f01_0, register_0f01_1, register_0f01_2, register_0f01_3, register_0f01_5, register_0f01_7, plan_0f00, plan_0f01};
 
 use crate::choice::{

@@ -12,9 +12,9 @@ ghost use Rattle.x86_layout.specs.declared.parts.fields.Fields.{Fields};
 ghost use Rattle.x86_layout.specs.Parts.Front.{parts_of};
 ghost use Rattle.x86_layout.specs.Parts.Fields.{lists_in, HasFieldLengths};
 ghost use Rattle.x86_layout.specs.Parts.Permitted.{IsPermitted, ArePartsOfSentence};
-ghost use Rattle.x86_forms.specs.Words.{rows_of, word_at};
+ghost use Rattle.x86_forms.specs.Words.{rows_of, packed};
 ghost use Rattle.x86_decode.specs.Grammar.{IsSentence};
-ghost use Rattle.x86_layout.specs.Tightening.Least.{least_in};
+ghost use Rattle.x86_layout.specs.Tightening.Least.{least_length};
 ghost use Rattle.x86_layout.specs.declared.tightening.tighten.TightenError.{TightenError};
 ghost use Rattle.x86_layout.specs.Tightening.Tighten.{HasNoRelative, HasOperandForm, IsRelative, IsShortest};
 ghost use Rattle.x86_layout.specs.Tightening.Same.{address_at, IsSameButInMemory};
@@ -93,15 +93,15 @@ pub fn shortest_fields()
 {}
 
 /// An encoding with a memory operand of ModRM that isn't relative to the next instruction has a shortest relative,
-/// and the length of that is the one that `least_of` tells from the bytes.
+/// and the length of that is the one that `shortest_length` tells from the bytes.
 pub fn shortest_relatives_have_the_least_length()
-    ensures { (strict : Bool) (s : List ℕ) (a : Instruction) (is : IsSentence (rows_of word_at) strict s a) → All (λ byte. byte < 256) s → HasOperandForm strict s is.reading is.whole false → (t : List ℕ) × IsShortest strict s is.reading is.whole t × (length t ≡ least_in strict s) }
+    ensures { (strict : Bool) (s : List ℕ) (a : Instruction) (is : IsSentence (rows_of packed) strict s a) → All (λ byte. byte < 256) s → HasOperandForm strict s is.reading is.whole false → (t : List ℕ) × IsShortest strict s is.reading is.whole t × (length t ≡ least_length strict s) }
 {}
 
 /// An encoding that has no relative to seek, for want of a memory operand of ModRM or since that is relative to the
-/// next instruction, keeps its length: it is the one that `least_of` tells from the bytes.
+/// next instruction, keeps its length: it is the one that `shortest_length` tells from the bytes.
 pub fn encodings_without_a_relative_keep_their_length()
-    ensures { (strict : Bool) (s : List ℕ) (a : Instruction) (is : IsSentence (rows_of word_at) strict s a) (error : TightenError) → HasNoRelative strict s is.reading is.whole error → least_in strict s ≡ length s }
+    ensures { (strict : Bool) (s : List ℕ) (a : Instruction) (is : IsSentence (rows_of packed) strict s a) (error : TightenError) → HasNoRelative strict s is.reading is.whole error → least_length strict s ≡ length s }
 {}
 
 /// A relative of an encoding is the same instruction, but for the bits X and B of a live REX and for memory operands of
@@ -111,8 +111,8 @@ pub fn encodings_without_a_relative_keep_their_length()
 /// This is said of every relative, and so of what `tighten` answers. Source: Intel SDM volume 2, sections 2.1.5 and
 /// 2.2.1.
 pub fn relatives_are_the_same_instruction()
-    ensures but_in_memory { (strict : Bool) (s : List ℕ) (a : Instruction) (is : IsSentence (rows_of word_at) strict s a) (t : List ℕ) (b : Instruction) (other : IsSentence (rows_of word_at) strict t b) (relative : IsRelative strict s is.reading is.whole t other.reading other.whole) → IsSameButInMemory relative.address.from relative.address.to a b }
-    ensures address { (strict : Bool) (s : List ℕ) (a : Instruction) (is : IsSentence (rows_of word_at) strict s a) (t : List ℕ) (b : Instruction) (other : IsSentence (rows_of word_at) strict t b) → IsRelative strict s is.reading is.whole t other.reading other.whole → All (λ byte. byte < 256) s → All (λ byte. byte < 256) t → (k : ℕ) (regs : List ℕ) (next : ℕ) → IsRegFile regs → next < 2 ^ 64 → address_at b k regs next ≡ address_at a k regs next }
+    ensures but_in_memory { (strict : Bool) (s : List ℕ) (a : Instruction) (is : IsSentence (rows_of packed) strict s a) (t : List ℕ) (b : Instruction) (other : IsSentence (rows_of packed) strict t b) (relative : IsRelative strict s is.reading is.whole t other.reading other.whole) → IsSameButInMemory relative.address.from relative.address.to a b }
+    ensures address { (strict : Bool) (s : List ℕ) (a : Instruction) (is : IsSentence (rows_of packed) strict s a) (t : List ℕ) (b : Instruction) (other : IsSentence (rows_of packed) strict t b) → IsRelative strict s is.reading is.whole t other.reading other.whole → All (λ byte. byte < 256) s → All (λ byte. byte < 256) t → (k : ℕ) (regs : List ℕ) (next : ℕ) → IsRegFile regs → next < 2 ^ 64 → address_at b k regs next ≡ address_at a k regs next }
 {
     x86_operands::laws::shapes_have_the_address();
     x86_fields::laws::raw_forms_are_reduced();

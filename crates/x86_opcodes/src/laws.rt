@@ -3,11 +3,11 @@
 ghost use Rattle.std.specs.Prelude.{◌≡◌, ◌&&◌, ◌↔◌, ℕ, IsTrue, false, is_some};
 ghost use Rattle.x86_opcodes.specs.declared.ConditionCode.{ConditionCode};
 ghost use Rattle.x86_opcodes.specs.Equality.{equal_codes, equal_opcodes};
-ghost use Rattle.x86_opcodes.specs.Kinds.{condition_of, is_among, is_conditional, jumps, moves, settings};
+ghost use Rattle.x86_opcodes.specs.Kinds.{condition, is_among, is_conditional, jumps, moves, settings};
 
 /// An operation has a condition exactly where it is a conditional jump, move or setting.
 pub fn condition_is_of_the_three_kinds()
-    ensures { (o : ℕ) → is_some (condition_of o) ≡ is_conditional o }
+    ensures { (o : ℕ) → is_some (condition o) ≡ is_conditional o }
 {}
 
 /// An operation is of one of the three kinds at most.

@@ -15,7 +15,7 @@ use Rattle.x86_operands.specs.declared.plans.Sign.{Sign}
 use Rattle.x86_operands.specs.declared.plans.Signs.{Signs}
 use Rattle.x86_operands.specs.declared.plans.Verdict.TheVariants.{Accepts, Refuses}
 use Rattle.x86_operands.specs.Asks.{asks_modrm, asks_suffix, immediates_width, plan_ask, encoding_ask}
-use Rattle.x86_operands.specs.Encodings.{bytes_of, is_sound, judged, last_sign, plan_of, reg_sign, rm_sign, signs_in, size_at, somewhere, use_of}
+use Rattle.x86_operands.specs.Encodings.{size_bytes, is_sound, judged_plan, last_sign, plan_of, reg_sign, rm_sign, signs_in, size_at, somewhere, use_of}
 use Rattle.x86_operands.specs.Pieces.{immediate_width}
 use Rattle.x86_fields.specs.ModRM.{is_memory}
 use Rattle.x86_operands.specs.Plans.{reads}
@@ -57,12 +57,12 @@ no_suffix : (test : Bool) (fault : Fault) (moment : Moment) → asks_suffix (if 
 no_suffix true fault moment = refl
 no_suffix false fault moment = refl
 
-judged_asks : (b : Behind) (usage : ModrmUse) (m opcode size : ℕ) (signs : Signs) → plan_ask usage m (judged b m (reads opcode signs size)) ≡ Asked usage m (immediates_width signs)
+judged_asks : (b : Behind) (usage : ModrmUse) (m opcode size : ℕ) (signs : Signs) → plan_ask usage m (judged_plan b m (reads opcode signs size)) ≡ Asked usage m (immediates_width signs)
 judged_asks behind.Memory usage m opcode size signs = ap (λ s. record { modrm = asks_modrm usage; memory = is_memory m; immediate = immediates_width signs; suffix = s }) (no_suffix (not (is_memory m)) _ _)
 judged_asks behind.Registers usage m opcode size signs = ap (λ s. record { modrm = asks_modrm usage; memory = is_memory m; immediate = immediates_width signs; suffix = s }) (no_suffix (is_memory m) _ _)
 judged_asks b usage m opcode size signs = refl
 
 pub encoding_asks : (e : Encoding) (n opcode : ℕ) (p : Prefixes) (m : ℕ) → is_sound e ≡ true → plan_ask (use_of e.behind) m (plan_of e n opcode p m) ≡ encoding_ask e p m
 encoding_asks e n opcode p m h =
-    judged_asks e.behind (use_of e.behind) m opcode (bytes_of (size_at e m) opcode p) (signs_in e.order (reg_sign e.behind e.reg n p) (rm_sign e.behind e.rm p) (last_sign e.last p))
+    judged_asks e.behind (use_of e.behind) m opcode (size_bytes (size_at e m) opcode p) (signs_in e.order (reg_sign e.behind e.reg n p) (rm_sign e.behind e.rm p) (last_sign e.last p))
     ∙ ap (Asked (use_of e.behind) m) (width_in (named_of e.order.reg e.order.rm e.order.last e.order.count (sound_parts e h).0) (reg_sign e.behind e.reg n p) (rm_sign e.behind e.rm p) (last_sign e.last p) (reg_width e.behind e.reg n p) (rm_width e.behind e.rm p))

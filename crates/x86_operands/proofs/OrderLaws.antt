@@ -7,8 +7,8 @@ use Rattle.x86_regs.specs.declared.RegisterClass.TheVariants as class
 use Rattle.x86_fields.specs.declared.errors.DecodeError.{DecodeError}
 use Rattle.x86_fields.specs.declared.prefixes.Prefixes.{Prefixes}
 use Rattle.x86_fields.specs.declared.raw.Raw.{Raw}
-use Rattle.x86_fields.specs.Raw.{raw_step, rex_w}
-use Rattle.x86_fields.specs.Sizes.{v}
+use Rattle.x86_fields.specs.Raw.{read_raw, has_w}
+use Rattle.x86_fields.specs.Sizes.{v_class}
 use Rattle.x86_fields.specs.Steps.{Step, Outcome, outcome, then_from, pure, ◌>>=◌}
 use Rattle.x86_operands.specs.declared.operands.Slot.{Slot}
 use Rattle.x86_operands.specs.declared.operands.Operand.{Operand}
@@ -28,12 +28,12 @@ use Rattle.x86_operands.specs.declared.encodings.Encoding.{Encoding}
 use Rattle.x86_operands.specs.declared.encodings.Size.{Size}
 use Rattle.x86_operands.specs.declared.reader.Reading.{Reading}
 use Rattle.x86_operands.specs.declared.placing.Operands.{Operands}
-use Rattle.x86_operands.specs.Signs.{plan_step, memory_step, given_step, signs_step, sign_step, reading_from, rm_operand}
+use Rattle.x86_operands.specs.Signs.{read_plan, read_memory, given_step, signs_step, sign_step, reading_from, rm_operand}
 use Rattle.x86_fields.specs.ModRM.{is_memory, absent_modrm}
 use Rattle.x86_operands.specs.Plans.{list_of, reads, immediate_of}
 use Rattle.x86_operands.specs.FormSizes.{whole_immediate}
-use Rattle.x86_operands.specs.Shape.{shape_of}
-use Rattle.x86_operands.specs.Encodings.{last_sign, reg_sign, rm_sign, signs_in, judged, plan_of, bytes_of, fields_placed, index_of_place, sign_placed, sign_put, is_last, ends, put, rm_pair, reg_pair, fixed_pair, placed_reading, sized, last_placed, placed, somewhere, is_row, is_sound, size_at, is_order_of, is_order, has_modrm, has_register, fits, allowed}
+use Rattle.x86_operands.specs.Shape.{shape}
+use Rattle.x86_operands.specs.Encodings.{last_sign, reg_sign, rm_sign, signs_in, judged_plan, plan_of, size_bytes, fields_placed, index_of_place, sign_placed, sign_put, is_last, ends, put_in, rm_pair, reg_pair, fixed_pair, placed_reading, sized, last_placed, placed, somewhere, is_row, is_sound, size_at, is_order_of, is_order, has_modrm, has_register, order_fits, allows}
 
 abbrev Pair : Type 0
 Pair = Slot × Operand
@@ -115,23 +115,23 @@ push_plain false p m memory s = refl
 
 last_plain : (l : Last) (p : Prefixes) → IsPlain (last_sign l p)
 unfolding sign_step
-last_plain last.Iv p q m memory s = immediate_plain (v p) q m memory s
-last_plain last.Ivq p q m memory s = whole_plain (v p) q m memory s
-last_plain last.Ip p q m memory s = push_plain (p.operand_size && not (rex_w p)) q m memory s
+last_plain last.Iv p q m memory s = immediate_plain (v_class p) q m memory s
+last_plain last.Ivq p q m memory s = whole_plain (v_class p) q m memory s
+last_plain last.Ip p q m memory s = push_plain (p.operand_size && not (has_w p)) q m memory s
 last_plain l p q m memory s = refl
 
 -- ---- the operands in their order
 
 abbrev last_given : Place → Result Pair DecodeError → State ℕ → Operands → Step Operands
 last_given Nowhere r t given = pure given
-last_given at r t given = λ s. then_from r t (λ z. pure (put at z given))
+last_given at r t given = λ s. then_from r t (λ z. pure (put_in at z given))
 
 in_order : {o : Order} → Named o → (r : Result Pair DecodeError) (t : State ℕ) (a b c : Sign) (x y : Pair) (size opcode : ℕ) (p : Prefixes) (m : ℕ) (memory : Option Raw) →
     ((s : State ℕ) → sign_step a p m memory s ≡ outcome (Ok x) s) →
     ((s : State ℕ) → sign_step b p m memory s ≡ outcome (Ok y) s) →
     (s : State ℕ) → sign_step c p m memory s ≡ outcome r t →
     (given_step (list_of (signs_in o a b c)) p m memory >>= λ given. pure (reading_from (reads opcode (signs_in o a b c) size) p opcode given)) s
-    ≡ (last_given o.last r t (put o.reg x (put o.rm y (sized o.count size))) >>= λ given. pure (placed_reading opcode p given)) s
+    ≡ (last_given o.last r t (put_in o.reg x (put_in o.rm y (sized o.count size))) >>= λ given. pure (placed_reading opcode p given)) s
 unfolding given_step signs_step
 in_order no_named r t a b c x y size opcode p m memory ha hb s hc = refl
 in_order r_named r t a b c x y size opcode p m memory ha hb s hc = rw (ha s) refl
@@ -160,10 +160,10 @@ last_is Nowhere l p given s = refl
 -- the operands behind memory, at any encoding
 behind_memory : (b : Behind) (o : Order) (wr we : Width) (l : Last) (n size opcode : ℕ) (p : Prefixes) (m : ℕ) (memory : Option Raw) → Named o → (s : State ℕ) →
     (given_step (list_of (signs_in o (reg_sign b wr n p) (rm_sign b we p) (last_sign l p))) p m memory >>= λ given. pure (reading_from (reads opcode (signs_in o (reg_sign b wr n p) (rm_sign b we p) (last_sign l p)) size) p opcode given)) s
-    ≡ (last_placed o.last l p (put o.reg (reg_given b wr n p m) (put o.rm (rm_given b we p m memory) (sized o.count size))) >>= λ given. pure (placed_reading opcode p given)) s
+    ≡ (last_placed o.last l p (put_in o.reg (reg_given b wr n p m) (put_in o.rm (rm_given b we p m memory) (sized o.count size))) >>= λ given. pure (placed_reading opcode p given)) s
 behind_memory b o wr we l n size opcode p m memory h s =
     in_order h (sign_step (last_sign l p) p absent_modrm None s).answer (sign_step (last_sign l p) p absent_modrm None s).after (reg_sign b wr n p) (rm_sign b we p) (last_sign l p) (reg_given b wr n p m) (rm_given b we p m memory) size opcode p m memory (reg_gives b wr n p m memory) (rm_gives b we p m memory) s (last_plain l p p m memory s)
-    ∙ ap (λ (u : Outcome Operands). then_from u.answer u.after (λ given. pure (placed_reading opcode p given))) (last_is o.last l p (put o.reg (reg_given b wr n p m) (put o.rm (rm_given b we p m memory) (sized o.count size))) s)
+    ∙ ap (λ (u : Outcome Operands). then_from u.answer u.after (λ given. pure (placed_reading opcode p given))) (last_is o.last l p (put_in o.reg (reg_given b wr n p m) (put_in o.rm (rm_given b we p m memory) (sized o.count size))) s)
 
 -- ---- the verdict
 
@@ -171,7 +171,7 @@ not_true : (b : Bool) → not b ≡ true → b ≡ false
 not_true true h = cc
 not_true false h = refl
 
-accepted : (b : Behind) (m o size : ℕ) (signs : Signs) → allowed b m ≡ true → judged b m (reads o signs size) ≡ reads o signs size
+accepted : (b : Behind) (m o size : ℕ) (signs : Signs) → allows b m ≡ true → judged_plan b m (reads o signs size) ≡ reads o signs size
 accepted behind.Memory m o size signs h = rw h refl
 accepted behind.Registers m o size signs h = rw (not_true (is_memory m) h) refl
 accepted b m o size signs h = refl
@@ -184,8 +184,8 @@ Suits memory test = is_some memory ≡ test
 
 by_memory : (test : Bool) (p : Prefixes) (m : ℕ) (K L : Result (Option Raw) DecodeError → State ℕ → Outcome Reading) →
     ((memory : Option Raw) (s : State ℕ) → Suits memory test → K (Ok memory) s ≡ L (Ok memory) s) → ((e : DecodeError) (s : State ℕ) → K (Err e) s ≡ L (Err e) s) → (s : State ℕ) →
-    (u : Outcome (Option Raw)) → u ≡ (if test then (raw_step p m >>= λ raw. pure (Some raw)) else pure None) s → K u.answer u.after ≡ L u.answer u.after
-by_memory true p m K L ok err s u e = rw e (from_raw (raw_step p m s).answer (raw_step p m s).after)
+    (u : Outcome (Option Raw)) → u ≡ (if test then (read_raw p m >>= λ raw. pure (Some raw)) else pure None) s → K u.answer u.after ≡ L u.answer u.after
+by_memory true p m K L ok err s u e = rw e (from_raw (read_raw p m s).answer (read_raw p m s).after)
   where
     from_raw : (r : Result Raw DecodeError) (t : State ℕ) → K (then_from r t (λ raw. pure (Some raw))).answer (then_from r t (λ raw. pure (Some raw))).after ≡ L (then_from r t (λ raw. pure (Some raw))).answer (then_from r t (λ raw. pure (Some raw))).after
     from_raw (Ok raw) t = ok (Some raw) t refl
@@ -200,7 +200,7 @@ same_reg behind.Memory w n p m h = refl
 same_reg behind.Registers w n p m h = refl
 same_reg b w n p m h = cc
 
-same_rm : (b : Behind) (w : Width) (p : Prefixes) (m : ℕ) (memory : Option Raw) → has_modrm b ≡ true → allowed b m ≡ true → Suits memory (is_memory m) → rm_pair w p m memory ≡ rm_given b w p m memory
+same_rm : (b : Behind) (w : Width) (p : Prefixes) (m : ℕ) (memory : Option Raw) → has_modrm b ≡ true → allows b m ≡ true → Suits memory (is_memory m) → rm_pair w p m memory ≡ rm_given b w p m memory
 same_rm behind.Memory w p m None h a e = cc
 same_rm behind.Memory width.Mm p m (Some raw) h a e = refl
 same_rm behind.Memory w p m (Some raw) h a e = refl
@@ -208,22 +208,22 @@ same_rm b w p m memory h a e = refl
 
 module _ (b : Behind) (o : Order) (wr we : Width) (l : Last) (n size opcode : ℕ) (p : Prefixes) (m : ℕ) where
   abbrev placing : Result (Option Raw) DecodeError → State ℕ → Outcome Reading
-  placing r t = ((((λ _. outcome r t) >>= λ memory. pure (put o.reg (reg_pair wr p m) (put o.rm (rm_pair we p m memory) (sized o.count size)))) >>= last_placed o.last l p) >>= λ given. pure (placed_reading opcode p given)) t
+  placing r t = ((((λ _. outcome r t) >>= λ memory. pure (put_in o.reg (reg_pair wr p m) (put_in o.rm (rm_pair we p m memory) (sized o.count size)))) >>= last_placed o.last l p) >>= λ given. pure (placed_reading opcode p given)) t
 
   abbrev planned : Result (Option Raw) DecodeError → State ℕ → Outcome Reading
   planned r t = ((λ _. outcome r t) >>= λ memory. given_step (list_of (signs_in o (reg_sign b wr n p) (rm_sign b we p) (last_sign l p))) p m memory >>= λ given. pure (reading_from (reads opcode (signs_in o (reg_sign b wr n p) (rm_sign b we p) (last_sign l p)) size) p opcode given)) t
 
-  there : Named o → has_modrm b ≡ true → allowed b m ≡ true → (memory : Option Raw) (t : State ℕ) → Suits memory (is_memory m) → placing (Ok memory) t ≡ planned (Ok memory) t
+  there : Named o → has_modrm b ≡ true → allows b m ≡ true → (memory : Option Raw) (t : State ℕ) → Suits memory (is_memory m) → placing (Ok memory) t ≡ planned (Ok memory) t
   there h modrm may memory t e =
-      ap (λ x. (last_placed o.last l p (put o.reg x (put o.rm (rm_pair we p m memory) (sized o.count size))) >>= λ given. pure (placed_reading opcode p given)) t) (same_reg b wr n p m modrm)
-      ∙ ap (λ y. (last_placed o.last l p (put o.reg (reg_given b wr n p m) (put o.rm y (sized o.count size))) >>= λ given. pure (placed_reading opcode p given)) t) (same_rm b we p m memory modrm may e)
+      ap (λ x. (last_placed o.last l p (put_in o.reg x (put_in o.rm (rm_pair we p m memory) (sized o.count size))) >>= λ given. pure (placed_reading opcode p given)) t) (same_reg b wr n p m modrm)
+      ∙ ap (λ y. (last_placed o.last l p (put_in o.reg (reg_given b wr n p m) (put_in o.rm y (sized o.count size))) >>= λ given. pure (placed_reading opcode p given)) t) (same_rm b we p m memory modrm may e)
       ∙ sym (behind_memory b o wr we l n size opcode p m memory h t)
 
-  fields_plan : (s : State ℕ) → Named o → has_modrm b ≡ true → allowed b m ≡ true →
+  fields_plan : (s : State ℕ) → Named o → has_modrm b ≡ true → allows b m ≡ true →
       ((fields_placed o.reg wr o.rm we p m (sized o.count size) >>= last_placed o.last l p) >>= λ given. pure (placed_reading opcode p given)) s
-      ≡ plan_step (reads opcode (signs_in o (reg_sign b wr n p) (rm_sign b we p) (last_sign l p)) size) p m s
-  unfolding plan_step
-  fields_plan s h modrm may = by_memory (is_memory m) p m placing planned (there h modrm may) (λ e t. refl) s (memory_step p m s) refl
+      ≡ read_plan (reads opcode (signs_in o (reg_sign b wr n p) (rm_sign b we p) (last_sign l p)) size) p m s
+  unfolding read_plan
+  fields_plan s h modrm may = by_memory (is_memory m) p m placing planned (there h modrm may) (λ e t. refl) s (read_memory p m s) refl
 
 -- ---- operands with no ModRM
 
@@ -232,7 +232,7 @@ same_fixed behind.Opcode w n p m h = refl
 same_fixed behind.Accumulator w n p m h = refl
 same_fixed b w n p m h = cc
 
-no_memory : (b : Behind) (m : ℕ) → has_modrm b ≡ false → allowed b m ≡ true → is_memory m ≡ false
+no_memory : (b : Behind) (m : ℕ) → has_modrm b ≡ false → allows b m ≡ true → is_memory m ≡ false
 no_memory behind.Fields m h a = cc
 no_memory behind.Memory m h a = cc
 no_memory (behind.ByReg g) m h a = cc
@@ -245,11 +245,11 @@ no_modrm behind.Opcode h = refl
 no_modrm behind.Accumulator h = refl
 no_modrm b h = cc
 
-fixed_plan : (b : Behind) (o : Order) (wr we : Width) (l : Last) (n size opcode : ℕ) (p : Prefixes) (m : ℕ) (s : State ℕ) (given : Operands) → Named o → has_modrm b ≡ false → allowed b m ≡ true →
-    given ≡ put o.reg (reg_given b wr n p m) (put o.rm (rm_given b we p m None) (sized o.count size)) →
+fixed_plan : (b : Behind) (o : Order) (wr we : Width) (l : Last) (n size opcode : ℕ) (p : Prefixes) (m : ℕ) (s : State ℕ) (given : Operands) → Named o → has_modrm b ≡ false → allows b m ≡ true →
+    given ≡ put_in o.reg (reg_given b wr n p m) (put_in o.rm (rm_given b we p m None) (sized o.count size)) →
     (last_placed o.last l p given >>= λ x. pure (placed_reading opcode p x)) s
-    ≡ plan_step (reads opcode (signs_in o (reg_sign b wr n p) (rm_sign b we p) (last_sign l p)) size) p m s
-unfolding plan_step
+    ≡ read_plan (reads opcode (signs_in o (reg_sign b wr n p) (rm_sign b we p) (last_sign l p)) size) p m s
+unfolding read_plan
 fixed_plan b o wr we l n size opcode p m s given h none may e =
     ap (λ g. (last_placed o.last l p g >>= λ x. pure (placed_reading opcode p x)) s) e ∙ sym (behind_memory b o wr we l n size opcode p m None h s) ∙ (rw (no_memory b m none may) refl)
 
@@ -259,14 +259,14 @@ abbrev Written : Order → Behind → Width → Width → Last → Size → Size
 Written o b wr we l x y size n opcode p m s =
     let e : Encoding = record { behind = b; order = o; reg = wr; rm = we; last = l; in_memory = x; in_register = y } in
     (placed e n p m (sized o.count size) >>= λ given. pure (placed_reading opcode p given)) s
-    ≡ plan_step (reads opcode (signs_in o (reg_sign b wr n p) (rm_sign b we p) (last_sign l p)) size) p m s
+    ≡ read_plan (reads opcode (signs_in o (reg_sign b wr n p) (rm_sign b we p) (last_sign l p)) size) p m s
 
-written : {o : Order} → Named o → (b : Behind) (wr we : Width) (l : Last) (x y : Size) (size n opcode : ℕ) (p : Prefixes) (m : ℕ) (s : State ℕ) → fits b o ≡ true → allowed b m ≡ true → Written o b wr we l x y size n opcode p m s
+written : {o : Order} → Named o → (b : Behind) (wr we : Width) (l : Last) (x y : Size) (size n opcode : ℕ) (p : Prefixes) (m : ℕ) (s : State ℕ) → order_fits b o ≡ true → allows b m ≡ true → Written o b wr we l x y size n opcode p m s
 written no_named b wr we l x y size n opcode p m s f a = fixed_plan b _ wr we l n size opcode p m s (sized 0 size) no_named (not_true (has_modrm b) f) a refl
 written i_named b wr we l x y size n opcode p m s f a = fixed_plan b _ wr we l n size opcode p m s (sized 1 size) i_named (not_true (has_modrm b) f) a refl
-written r_named b wr we l x y size n opcode p m s f a = fixed_plan b _ wr we l n size opcode p m s (put First (fixed_pair b wr n p) (sized 1 size)) r_named (no_modrm b f) a (ap (λ r. put First r (sized 1 size)) (same_fixed b wr n p m f))
-written r_i_named b wr we l x y size n opcode p m s f a = fixed_plan b _ wr we l n size opcode p m s (put First (fixed_pair b wr n p) (sized 2 size)) r_i_named (no_modrm b f) a (ap (λ r. put First r (sized 2 size)) (same_fixed b wr n p m f))
-written i_r_named b wr we l x y size n opcode p m s f a = fixed_plan b _ wr we l n size opcode p m s (put Second (fixed_pair b wr n p) (sized 2 size)) i_r_named (no_modrm b f) a (ap (λ r. put Second r (sized 2 size)) (same_fixed b wr n p m f))
+written r_named b wr we l x y size n opcode p m s f a = fixed_plan b _ wr we l n size opcode p m s (put_in First (fixed_pair b wr n p) (sized 1 size)) r_named (no_modrm b f) a (ap (λ r. put_in First r (sized 1 size)) (same_fixed b wr n p m f))
+written r_i_named b wr we l x y size n opcode p m s f a = fixed_plan b _ wr we l n size opcode p m s (put_in First (fixed_pair b wr n p) (sized 2 size)) r_i_named (no_modrm b f) a (ap (λ r. put_in First r (sized 2 size)) (same_fixed b wr n p m f))
+written i_r_named b wr we l x y size n opcode p m s f a = fixed_plan b _ wr we l n size opcode p m s (put_in Second (fixed_pair b wr n p) (sized 2 size)) i_r_named (no_modrm b f) a (ap (λ r. put_in Second r (sized 2 size)) (same_fixed b wr n p m f))
 written e_named b wr we l x y size n opcode p m s f a = fields_plan b _ wr we l n size opcode p m s e_named f a
 written e_i_named b wr we l x y size n opcode p m s f a = fields_plan b _ wr we l n size opcode p m s e_i_named f a
 written e_g_named b wr we l x y size n opcode p m s f a = fields_plan b _ wr we l n size opcode p m s e_g_named f a
@@ -274,12 +274,12 @@ written g_e_named b wr we l x y size n opcode p m s f a = fields_plan b _ wr we 
 written e_g_i_named b wr we l x y size n opcode p m s f a = fields_plan b _ wr we l n size opcode p m s e_g_i_named f a
 written g_e_i_named b wr we l x y size n opcode p m s f a = fields_plan b _ wr we l n size opcode p m s g_e_i_named f a
 
-pub placed_plan : (e : Encoding) (n opcode : ℕ) (p : Prefixes) (m : ℕ) (s : State ℕ) → is_order e.order ≡ true → fits e.behind e.order ≡ true → allowed e.behind m ≡ true →
-    plan_step (plan_of e n opcode p m) p m s
-    ≡ (placed e n p m (sized e.order.count (bytes_of (size_at e m) opcode p)) >>= λ given. pure (placed_reading opcode p given)) s
+pub placed_plan : (e : Encoding) (n opcode : ℕ) (p : Prefixes) (m : ℕ) (s : State ℕ) → is_order e.order ≡ true → order_fits e.behind e.order ≡ true → allows e.behind m ≡ true →
+    read_plan (plan_of e n opcode p m) p m s
+    ≡ (placed e n p m (sized e.order.count (size_bytes (size_at e m) opcode p)) >>= λ given. pure (placed_reading opcode p given)) s
 placed_plan e n opcode p m s h f a =
-    ap (λ plan. plan_step plan p m s) (accepted e.behind m opcode (bytes_of (size_at e m) opcode p) (signs_in e.order (reg_sign e.behind e.reg n p) (rm_sign e.behind e.rm p) (last_sign e.last p)) a)
-    ∙ sym (written (named_of e.order.reg e.order.rm e.order.last e.order.count h) e.behind e.reg e.rm e.last e.in_memory e.in_register (bytes_of (size_at e m) opcode p) n opcode p m s f a)
+    ap (λ plan. read_plan plan p m s) (accepted e.behind m opcode (size_bytes (size_at e m) opcode p) (signs_in e.order (reg_sign e.behind e.reg n p) (rm_sign e.behind e.rm p) (last_sign e.last p)) a)
+    ∙ sym (written (named_of e.order.reg e.order.rm e.order.last e.order.count h) e.behind e.reg e.rm e.last e.in_memory e.in_register (size_bytes (size_at e m) opcode p) n opcode p m s f a)
 
 pub last_there : (e : Encoding) → ends e.order e.last ≡ true → e.order.last ≢ Nowhere → e.last ≢ last.Absent
 last_there e h k = ends_at e.order.last e.last h k
@@ -295,13 +295,13 @@ both : (a b : Bool) → (a && b) ≡ true → (a ≡ true) × (b ≡ true)
 both true b h = (refl, h)
 both false b h = cc
 
-pub sound_parts : (e : Encoding) → is_sound e ≡ true → (is_order e.order ≡ true) × (fits e.behind e.order ≡ true) × (ends e.order e.last ≡ true)
+pub sound_parts : (e : Encoding) → is_sound e ≡ true → (is_order e.order ≡ true) × (order_fits e.behind e.order ≡ true) × (ends e.order e.last ≡ true)
 sound_parts e h =
-    let parts : (is_order e.order ≡ true) × ((fits e.behind e.order && ends e.order e.last) ≡ true) = both (is_order e.order) (fits e.behind e.order && ends e.order e.last) h in
-    let rest : (fits e.behind e.order ≡ true) × (ends e.order e.last ≡ true) = both (fits e.behind e.order) (ends e.order e.last) parts.1 in
+    let parts : (is_order e.order ≡ true) × ((order_fits e.behind e.order && ends e.order e.last) ≡ true) = both (is_order e.order) (order_fits e.behind e.order && ends e.order e.last) h in
+    let rest : (order_fits e.behind e.order ≡ true) × (ends e.order e.last ≡ true) = both (order_fits e.behind e.order) (ends e.order e.last) parts.1 in
     (parts.0, rest.0, rest.1)
 
-pub allowed_row : (b : Behind) (m : ℕ) → allowed b m ≡ true → IsTrue (is_row b)
+pub allowed_row : (b : Behind) (m : ℕ) → allows b m ≡ true → IsTrue (is_row b)
 allowed_row (behind.ByReg g) m h = cc
 allowed_row (behind.Peculiar u) m h = cc
 allowed_row behind.Group m h = cc
@@ -315,6 +315,6 @@ sign_at_place Second l p given s h = refl
 sign_at_place Third l p given s h = refl
 sign_at_place Nowhere l p given s h = absurd (h refl)
 
-pub rm_in_memory : (w : Width) (p : Prefixes) (m : ℕ) (raw : Raw) → rm_pair w p m (Some raw) ≡ shape_of raw
+pub rm_in_memory : (w : Width) (p : Prefixes) (m : ℕ) (raw : Raw) → rm_pair w p m (Some raw) ≡ shape raw
 rm_in_memory width.Mm p m raw = refl
 rm_in_memory w p m raw = refl

@@ -5,7 +5,7 @@ use Rattle.x86_fields.specs.declared.errors.DecodeError.TheVariants.{IncompleteD
 use Rattle.x86_fields.specs.declared.prefixes.Prefixes.{Prefixes}
 use Rattle.x86_forms.specs.declared.Form.{Form}
 use Rattle.x86_forms.specs.declared.Form.TheVariants as form
-use Rattle.x86_forms.specs.Groups.{is_group_form}
+use Rattle.x86_forms.specs.Groups.{is_group}
 use Rattle.x86_operands.specs.declared.plans.Fault.{Fault}
 use Rattle.x86_operands.specs.declared.plans.Fault.TheVariants.{Incomplete}
 use Rattle.x86_operands.specs.declared.plans.Moment.{Moment}
@@ -18,7 +18,7 @@ use Rattle.x86_operands.proofs.RowLaws.{HasGap, row_left_out}
 use Rattle.x86_operands.proofs.PlanTests.{passes, small_steps, without_gap, at_most_64, at_most_8}
 
 -- by the form, of which the last clause covers all that carry no number
-plain_passes : (f : Form) (o : ℕ) (p : Prefixes) (m : ℕ) → passes (is_group_form f) (form_plan f o p m) ≡ true
+plain_passes : (f : Form) (o : ℕ) (p : Prefixes) (m : ℕ) → passes (is_group f) (form_plan f o p m) ≡ true
 unfolding passes
 plain_passes (form.Zv_R n) o p m = search (rules, small_steps)
 plain_passes (form.Zv_AX_R n) o p m = search (rules, small_steps)
@@ -27,25 +27,25 @@ plain_passes (form.Zv_Ivq_R n) o p m = search (rules, small_steps)
 plain_passes (form.Zv_B n) o p m = search (rules, small_steps)
 plain_passes _ o p m = search (rules, small_steps)
 
-pub plain_built : (row : TableRow) (p : Prefixes) (m : ℕ) (w : Moment) → is_group_form row.form ≡ false → ((form_record row p).plan m).verdict ≢ Refuses Incomplete w
+pub plain_built : (row : TableRow) (p : Prefixes) (m : ℕ) (w : Moment) → is_group row.form ≡ false → ((form_record row p).plan m).verdict ≢ Refuses Incomplete w
 unfolding form_record
 plain_built row p m w plain e =
     without_gap (form_plan row.form row.opcode p m) w (ap (λ g. passes g (form_plan row.form row.opcode p m)) (sym plain) ∙ plain_passes row.form row.opcode p m) e
 
 pub plain_small : (row : TableRow) (p : Prefixes) (m : ℕ) → ((form_record row p).plan m).size ≤ 64
 unfolding form_record
-plain_small row p m = at_most_64 (is_group_form row.form) (form_plan row.form row.opcode p m) (plain_passes row.form row.opcode p m)
+plain_small row p m = at_most_64 (is_group row.form) (form_plan row.form row.opcode p m) (plain_passes row.form row.opcode p m)
 
 pub plain_narrow : (row : TableRow) (p : Prefixes) (m : ℕ) → immediates_width ((form_record row p).plan m).signs ≤ 8
 unfolding form_record
-plain_narrow row p m = at_most_8 (is_group_form row.form) (form_plan row.form row.opcode p m) (plain_passes row.form row.opcode p m)
+plain_narrow row p m = at_most_8 (is_group row.form) (form_plan row.form row.opcode p m) (plain_passes row.form row.opcode p m)
 
 pub plain_passed : (row : TableRow) (p : Prefixes) → (form_record row p).at_opcode ≡ None
 unfolding form_record
 plain_passed row p = refl
 
 -- a row of a plain form is never left out
-pub plain_read : (row : TableRow) (p : Prefixes) (s : State ℕ) → is_group_form row.form ≡ false → (record_step (form_record row p) p s).answer ≢ Err IncompleteDecoder
+pub plain_read : (row : TableRow) (p : Prefixes) (s : State ℕ) → is_group row.form ≡ false → (record_step (form_record row p) p s).answer ≢ Err IncompleteDecoder
 plain_read row p s plain h = by (row_left_out (form_record row p) p s h)
   where
     by : HasGap (form_record row p) p → ⊥

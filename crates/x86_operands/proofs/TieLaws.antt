@@ -18,7 +18,7 @@ use Rattle.x86_operands.specs.declared.plans.Signs.TheVariants.{Zero, One, Two, 
 use Rattle.x86_operands.specs.declared.plans.Plan.{Plan}
 use Rattle.x86_operands.specs.declared.reader.Reading.{Reading}
 use Rattle.x86_fields.specs.Raw.{is_zero}
-use Rattle.x86_operands.specs.Shape.{shape_by, shape_of}
+use Rattle.x86_operands.specs.Shape.{shape_by, shape}
 use Rattle.x86_operands.specs.Plans.{RowRecord, list_of}
 use Rattle.x86_operands.specs.Signs.{pair_at, four_of, record_step}
 use Rattle.x86_operands.specs.Ties.{is_decoded, suits, slot_read, operand_read, HasTiedPlaces, is_modrm_sign, names_modrm, signs_of, HasShapeAt}
@@ -40,8 +40,8 @@ shape_by_tied (Some b) None s d = by_zero (is_zero d) _ _ (refl, refl) (refl, re
 shape_by_tied None (Some i) s d = by_zero (is_zero d) _ _ (refl, refl) (refl, refl)
 shape_by_tied None None s d = (refl, refl)
 
-shape_tied : (raw : Raw) → IsTied (shape_of raw)
-unfolding shape_of
+shape_tied : (raw : Raw) → IsTied (shape raw)
+unfolding shape
 shape_tied raw = shape_by_tied (base_of raw) (index_of raw) (scale_by raw.sib) raw.disp
 
 sign_tied : (s : Sign) (p : Prefixes) (m : ℕ) (memory : Option Raw) (bytes : List ℕ) → IsTied (sign_gives s p m memory bytes)
@@ -105,7 +105,7 @@ at_most_four (Four a b c d) = omega arith
 
 -- ---- ModRM's memory operand
 
-modrm_gives : (s : Sign) (p : Prefixes) (m : ℕ) (raw : Raw) (bytes : List ℕ) → is_modrm_sign s ≡ true → sign_gives s p m (Some raw) bytes ≡ shape_of raw
+modrm_gives : (s : Sign) (p : Prefixes) (m : ℕ) (raw : Raw) (bytes : List ℕ) → is_modrm_sign s ≡ true → sign_gives s p m (Some raw) bytes ≡ shape raw
 modrm_gives (E c) p m raw bytes e = refl
 modrm_gives Emm p m raw bytes e = refl
 modrm_gives M p m raw bytes e = refl
@@ -131,7 +131,7 @@ modrm_gives Address32 p m raw bytes e = absurd cc
 modrm_gives Address64 p m raw bytes e = absurd cc
 
 abbrev StandsAt : List (Slot × Operand) → ℕ → Raw → Type 0
-StandsAt xs k raw = (k < length xs) × (pair_at xs k ≡ shape_of raw)
+StandsAt xs k raw = (k < length xs) × (pair_at xs k ≡ shape raw)
 
 memory_at : (ss : List Sign) (p : Prefixes) (m : ℕ) (raw : Raw) (bytes : List ℕ) (given : List (Slot × Operand)) (k : ℕ) → SpellsSigns ss p m (Some raw) bytes given → names_modrm ss k ≡ true → StandsAt given k raw
 memory_at [] p m raw bytes given k h e = absurd cc

@@ -29,8 +29,8 @@ abbrev pub immediates_width : Signs → ℕ
 immediates_width signs = total (map immediate_width (list_of signs))
 
 -- a ModRM byte as the row uses it
-abbrev pub used : ModrmUse → ℕ → ℕ
-used usage m = modrm_of usage (m ∷ [])
+abbrev pub used_modrm : ModrmUse → ℕ → ℕ
+used_modrm usage m = modrm_of usage (m ∷ [])
 
 -- what a plan asks at a ModRM byte that is used so
 abbrev pub plan_ask : ModrmUse → ℕ → Plan → Ask
@@ -52,7 +52,7 @@ encoding_ask e p m = record {
 
 -- what a row asks at a ModRM byte
 unfoldable pub ask_of : RowRecord → ℕ → Ask
-ask_of r m = plan_ask r.modrm (used r.modrm m) (r.plan (used r.modrm m))
+ask_of r m = plan_ask r.modrm (used_modrm r.modrm m) (r.plan (used_modrm r.modrm m))
 
 -- a record at a ModRM byte; one that isn't there reads as C0
 unfoldable pub record_at : RowRecord → Option ℕ → RecordAt

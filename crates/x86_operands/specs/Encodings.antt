@@ -4,8 +4,8 @@ use Rattle.x86_regs.specs.declared.RegisterClass.{RegisterClass}
 use Rattle.x86_regs.specs.declared.RegisterClass.TheVariants as class
 use Rattle.x86_regs.specs.Class.{width_of}
 use Rattle.x86_fields.specs.declared.prefixes.Prefixes.{Prefixes}
-use Rattle.x86_fields.specs.Sizes.{v, vq, vd, dq}
-use Rattle.x86_forms.specs.Groups.{is_group_form}
+use Rattle.x86_fields.specs.Sizes.{v_class, vq_class, vd_class, dq_class}
+use Rattle.x86_forms.specs.Groups.{is_group}
 use Rattle.x86_forms.specs.declared.Form.{Form}
 use Rattle.x86_forms.specs.declared.Form.TheVariants as form
 use Rattle.x86_operands.specs.declared.plans.Sign.{Sign}
@@ -34,7 +34,7 @@ use Rattle.x86_fields.specs.declared.raw.Raw.{Raw}
 use Rattle.x86_fields.specs.ModRM.{reg_field, is_memory, absent_modrm}
 use Rattle.x86_operands.specs.Plans.{reads, refuses, memory_only, register_only, reg_number, register_at, accumulator_of, immediate_of}
 use Rattle.x86_operands.specs.FormSizes.{whole_immediate, push_immediate, nothing_size, call_size, return_size, duplicate_size, stream_size, scalar_size, extract_size, insert_size, unpack_size}
-use Rattle.x86_operands.specs.Forms.{form_plan, cl_third, size_v}
+use Rattle.x86_operands.specs.Forms.{form_plan, cl_third, v_size}
 use Rattle.std.specs.Prelude.{Result, Ok, Err, Option, None, not, pos, nat_lt, slice_index_or, ⊤, slice_set, ◌∷◌, [], ◌&&◌}
 use Rattle.x86_operands.specs.declared.operands.Slot.TheVariants as slots
 use Rattle.x86_operands.specs.declared.operands.Operand.TheVariants as operands
@@ -43,7 +43,7 @@ use Rattle.x86_fields.specs.Steps.{Step, ◌>>=◌, pure}
 use Rattle.x86_operands.specs.declared.plans.ModrmUse.{ModrmUse}
 use Rattle.x86_operands.specs.declared.plans.ModrmUse.TheVariants as use_as
 use Rattle.x86_fields.specs.Sizes.{register_of}
-use Rattle.x86_operands.specs.Signs.{Given, sign_step, memory_step, rm_operand, rm_mm_operand}
+use Rattle.x86_operands.specs.Signs.{Given, sign_step, read_memory, rm_operand, rm_mm_operand}
 use Rattle.x86_operands.specs.declared.reader.Reading.{Reading}
 use Rattle.x86_operands.specs.declared.operands.Slot.{Slot}
 use Rattle.x86_operands.specs.declared.operands.Operand.{Operand}
@@ -58,31 +58,31 @@ class_of width.W p = class.W
 class_of width.D p = class.D
 class_of width.Q p = class.Q
 class_of width.X p = class.X
-class_of width.V p = v p
-class_of width.Vq p = vq p
-class_of width.Vd p = vd p
-class_of width.Dq p = dq p
+class_of width.V p = v_class p
+class_of width.Vq p = vq_class p
+class_of width.Vd p = vd_class p
+class_of width.Dq p = dq_class p
 
 -- the bytes of a size
-abbrev pub bytes_of : Size → ℕ → Prefixes → ℕ
-bytes_of size.Zero o p = 0
-bytes_of size.One o p = 1
-bytes_of size.Two o p = 2
-bytes_of size.Four o p = 4
-bytes_of size.Eight o p = 8
-bytes_of size.Sixteen o p = 16
-bytes_of size.V o p = size_v p
-bytes_of size.Dq o p = width_of (dq p)
-bytes_of size.Push o p = if p.operand_size then 2 else 8
-bytes_of size.Call o p = call_size o
-bytes_of size.Bare o p = nothing_size o
-bytes_of size.Return o p = return_size o
-bytes_of size.Duplicate o p = duplicate_size o
-bytes_of size.Stream o p = stream_size o
-bytes_of size.Scalar o p = scalar_size o
-bytes_of size.Extract o p = extract_size o
-bytes_of size.Insert o p = insert_size o
-bytes_of size.Unpack o p = unpack_size o
+abbrev pub size_bytes : Size → ℕ → Prefixes → ℕ
+size_bytes size.Zero o p = 0
+size_bytes size.One o p = 1
+size_bytes size.Two o p = 2
+size_bytes size.Four o p = 4
+size_bytes size.Eight o p = 8
+size_bytes size.Sixteen o p = 16
+size_bytes size.V o p = v_size p
+size_bytes size.Dq o p = width_of (dq_class p)
+size_bytes size.Push o p = if p.operand_size then 2 else 8
+size_bytes size.Call o p = call_size o
+size_bytes size.Bare o p = nothing_size o
+size_bytes size.Return o p = return_size o
+size_bytes size.Duplicate o p = duplicate_size o
+size_bytes size.Stream o p = stream_size o
+size_bytes size.Scalar o p = scalar_size o
+size_bytes size.Extract o p = extract_size o
+size_bytes size.Insert o p = insert_size o
+size_bytes size.Unpack o p = unpack_size o
 
 abbrev pub last_sign : Last → Prefixes → Sign
 last_sign last.Absent p = sign.ConstantU8 0
@@ -90,8 +90,8 @@ last_sign last.I8 p = sign.I8
 last_sign last.U8 p = sign.U8
 last_sign last.U16 p = sign.U16
 last_sign last.I32 p = sign.I32
-last_sign last.Iv p = immediate_of (v p)
-last_sign last.Ivq p = whole_immediate (v p)
+last_sign last.Iv p = immediate_of (v_class p)
+last_sign last.Ivq p = whole_immediate (v_class p)
 last_sign last.Ip p = push_immediate p
 last_sign last.One p = sign.ConstantI8 (pos 1)
 last_sign last.Once p = sign.ConstantU8 1
@@ -133,14 +133,14 @@ signs_in o reg rm last =
 abbrev pub size_at : Encoding → ℕ → Size
 size_at e m = if is_memory m then e.in_memory else e.in_register
 
-abbrev pub judged : Behind → ℕ → Plan → Plan
-judged behind.Memory m plan = memory_only m plan
-judged behind.Registers m plan = register_only m plan
-judged b m plan = plan
+abbrev pub judged_plan : Behind → ℕ → Plan → Plan
+judged_plan behind.Memory m plan = memory_only m plan
+judged_plan behind.Registers m plan = register_only m plan
+judged_plan b m plan = plan
 
 -- the plan of a form with this encoding, whose opcode byte carries n
 abbrev pub plan_of : Encoding → ℕ → ℕ → Prefixes → ℕ → Plan
-plan_of e n o p m = judged e.behind m (reads o (signs_in e.order (reg_sign e.behind e.reg n p) (rm_sign e.behind e.rm p) (last_sign e.last p)) (bytes_of (size_at e m) o p))
+plan_of e n o p m = judged_plan e.behind m (reads o (signs_in e.order (reg_sign e.behind e.reg n p) (rm_sign e.behind e.rm p) (last_sign e.last p)) (size_bytes (size_at e m) o p))
 
 abbrev pub is_row : Behind → Bool
 is_row (behind.ByReg g) = false
@@ -207,8 +207,8 @@ peculiar_plan form.Rv_Gmm_Ib o p m = form_plan form.Rv_Gmm_Ib o p m
 peculiar_plan f o p m = string_plan f o p m
 
 -- a form that no row describes has one of these plans
-abbrev pub IsLeft : Encoding → Form → Type 0
-IsLeft e f = is_row e.behind ≡ false → (o m : ℕ) (p : Prefixes) → form_plan f o p m ≡ peculiar_plan f o p m
+abbrev pub LeavesPeculiar : Encoding → Form → Type 0
+LeavesPeculiar e f = is_row e.behind ≡ false → (o m : ℕ) (p : Prefixes) → form_plan f o p m ≡ peculiar_plan f o p m
 
 -- what was written, where the reading is Ok
 abbrev pub held : {X : Type 0} → Result (Unit {0}) DecodeError → X → Result X DecodeError
@@ -229,15 +229,15 @@ abbrev pub put_at : ℕ → Slot × Operand → Operands → Operands
 put_at k x given = record given { slots = slice_set given.slots k x.0; operands = slice_set given.operands k x.1 }
 
 -- a pair at a place; Nowhere is no place
-abbrev pub put : Place → Slot × Operand → Operands → Operands
-put First x given = put_at 0 x given
-put Second x given = put_at 1 x given
-put Third x given = put_at 2 x given
-put Nowhere x given = given
+abbrev pub put_in : Place → Slot × Operand → Operands → Operands
+put_in First x given = put_at 0 x given
+put_in Second x given = put_at 1 x given
+put_in Third x given = put_at 2 x given
+put_in Nowhere x given = given
 
 -- the operand of a sign that no ModRM names, at a place
 abbrev pub sign_placed : Place → Sign → Prefixes → Operands → Step Operands
-sign_placed at s p given = sign_step s p absent_modrm None >>= λ x. pure (put at x given)
+sign_placed at s p given = sign_step s p absent_modrm None >>= λ x. pure (put_in at x given)
 
 abbrev pub no_operands : Operands
 no_operands = record { slots = slots.Nothing ∷ slots.Nothing ∷ slots.Nothing ∷ slots.Nothing ∷ []; operands = operands.Nothing ∷ operands.Nothing ∷ operands.Nothing ∷ operands.Nothing ∷ []; count = 0; mem_size = 0 }
@@ -262,7 +262,7 @@ fixed_pair b w n p = (slots.Reg, operands.Register (register_of (class_of w p) p
 
 -- the operand of rm, at a place
 abbrev pub rm_placed : Place → Width → Prefixes → ℕ → Operands → Step Operands
-rm_placed at w p m given = memory_step p m >>= λ memory. pure (put at (rm_pair w p m memory) given)
+rm_placed at w p m given = read_memory p m >>= λ memory. pure (put_in at (rm_pair w p m memory) given)
 
 -- the last operand
 abbrev pub last_placed : Place → Last → Prefixes → Operands → Step Operands
@@ -271,11 +271,11 @@ last_placed at l p given = sign_placed at (last_sign l p) p given
 
 -- the operands of ModRM
 abbrev pub fields_placed : Place → Width → Place → Width → Prefixes → ℕ → Operands → Step Operands
-fields_placed at_reg wr at_rm we p m given = memory_step p m >>= λ memory. pure (put at_reg (reg_pair wr p m) (put at_rm (rm_pair we p m memory) given))
+fields_placed at_reg wr at_rm we p m given = read_memory p m >>= λ memory. pure (put_in at_reg (reg_pair wr p m) (put_in at_rm (rm_pair we p m memory) given))
 
 -- the operands of ModRM, or a register that no ModRM names
 abbrev pub front_placed : Encoding → ℕ → Prefixes → ℕ → Operands → Step Operands
-front_placed e n p m given = if somewhere e.order.rm then fields_placed e.order.reg e.reg e.order.rm e.rm p m given else pure (put e.order.reg (fixed_pair e.behind e.reg n p) given)
+front_placed e n p m given = if somewhere e.order.rm then fields_placed e.order.reg e.reg e.order.rm e.rm p m given else pure (put_in e.order.reg (fixed_pair e.behind e.reg n p) given)
 
 -- what an encoding writes
 abbrev pub placed : Encoding → ℕ → Prefixes → ℕ → Operands → Step Operands
@@ -323,8 +323,8 @@ has_register behind.Accumulator = true
 has_register b = false
 
 -- reg and rm come from what stands behind the opcode byte
-abbrev pub fits : Behind → Order → Bool
-fits b o = if somewhere o.rm then has_modrm b else (if somewhere o.reg then has_register b else not (has_modrm b))
+abbrev pub order_fits : Behind → Order → Bool
+order_fits b o = if somewhere o.rm then has_modrm b else (if somewhere o.reg then has_register b else not (has_modrm b))
 
 abbrev pub is_last : Last → Bool
 is_last last.Absent = false
@@ -334,16 +334,16 @@ abbrev pub ends : Order → Last → Bool
 ends o l = if somewhere o.last then is_last l else true
 
 -- the ModRM bytes at which a row accepts; one that isn't there reads as C0
-abbrev pub allowed : Behind → ℕ → Bool
-allowed behind.Fields m = true
-allowed behind.Memory m = is_memory m
-allowed (behind.ByReg g) m = false
-allowed (behind.Peculiar u) m = false
-allowed behind.Group m = false
-allowed b m = not (is_memory m)
+abbrev pub allows : Behind → ℕ → Bool
+allows behind.Fields m = true
+allows behind.Memory m = is_memory m
+allows (behind.ByReg g) m = false
+allows (behind.Peculiar u) m = false
+allows behind.Group m = false
+allows b m = not (is_memory m)
 
 abbrev pub is_sound : Encoding → Bool
-is_sound e = is_order e.order && (fits e.behind e.order && ends e.order e.last)
+is_sound e = is_order e.order && (order_fits e.behind e.order && ends e.order e.last)
 
 -- ---- a whole row
 
@@ -388,4 +388,4 @@ group_form group.FF = form.ModRM_0xff
 abbrev pub Belongs : Behind → Form → Type 0
 Belongs (behind.ByReg g) f = f ≡ group_form g
 Belongs behind.Group f = ⊤
-Belongs b f = is_group_form f ≡ false
+Belongs b f = is_group f ≡ false

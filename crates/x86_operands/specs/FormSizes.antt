@@ -4,12 +4,12 @@ use Rattle.std.specs.Prelude.{ℕ, ◌&&◌, ◌==◌, not, Bool, if◌then◌el
 use Rattle.x86_regs.specs.declared.RegisterClass.{RegisterClass}
 use Rattle.x86_regs.specs.declared.RegisterClass.TheVariants.{W, D, Q}
 use Rattle.x86_fields.specs.declared.prefixes.Prefixes.{Prefixes}
-use Rattle.x86_fields.specs.Raw.{rex_w}
+use Rattle.x86_fields.specs.Raw.{has_w}
 use Rattle.x86_opcodes.specs.Kinds.{is_among}
 use Rattle.x86_opcodes.specs.Names.{CALL, CMPSD, CMPSS, ROUNDSS, ROUNDSD, LFS, LGS, LSS, ENQCMD, ENQCMDS, MOVDDUP, MOVNTSS, MOVNTPS, MOVNTPD, MOVNTDQ, PEXTRB, PEXTRW, EXTRACTPS, PINSRB, INSERTPS, PMOVSXBQ, PMOVZXBQ, PMOVSXBD, PMOVZXBD, PMOVSXWQ, PMOVZXWQ, UCOMISS, COMISS, CVTSS2SD, MOVLPD, MOVHPD, PUNPCKLBW, PUNPCKLWD, PUNPCKLDQ, RETURN, RETF, PUSHF, POPF, LEAVE, XLAT, CBW, CWDE, CDQE, CWD, CDQ, CQO}
 use Rattle.x86_operands.specs.declared.plans.Sign.{Sign}
 use Rattle.x86_operands.specs.declared.plans.Sign.TheVariants.{I16, I32, I64Whole, Address32, Address64}
-use Rattle.x86_fields.specs.Sizes.{v}
+use Rattle.x86_fields.specs.Sizes.{v_class}
 
 -- the class of an address register
 abbrev pub pointer_class : Prefixes → RegisterClass
@@ -23,7 +23,7 @@ whole_immediate c = I32
 
 -- the immediate of PUSH
 abbrev pub push_immediate : Prefixes → Sign
-push_immediate p = if p.operand_size && not (rex_w p) then I16 else I32
+push_immediate p = if p.operand_size && not (has_w p) then I16 else I32
 
 -- an absolute address
 abbrev pub address_sign : Prefixes → Sign
@@ -56,11 +56,11 @@ abbrev pub is_far_load : ℕ → Bool
 is_far_load o = is_among (LFS ∷ LGS ∷ LSS ∷ []) o
 
 abbrev pub far_class : ℕ → Prefixes → RegisterClass
-far_class o p = if is_far_load o then v p else Q
+far_class o p = if is_far_load o then v_class p else Q
 
 abbrev pub far_size : ℕ → Prefixes → ℕ
 far_size o p =
-    if is_far_load o then (if rex_w p then 10 else (if p.operand_size then 4 else 6))
+    if is_far_load o then (if has_w p then 10 else (if p.operand_size then 4 else 6))
     else (if is_among (ENQCMD ∷ ENQCMDS ∷ []) o then 64 else 16)
 
 abbrev pub duplicate_size : ℕ → ℕ

@@ -6,7 +6,7 @@ use Rattle.x86_regs.specs.declared.RegisterClass.{RegisterClass}
 use Rattle.x86_regs.specs.declared.RegisterClass.TheVariants.{B, W, D, Q, S, X}
 use Rattle.x86_regs.specs.Class.{width_of}
 use Rattle.x86_fields.specs.declared.prefixes.Prefixes.{Prefixes}
-use Rattle.x86_fields.specs.Raw.{rex_w, rex_b}
+use Rattle.x86_fields.specs.Raw.{has_w, has_b}
 use Rattle.x86_opcodes.specs.Names.{NOP, JECXZ, IRET, IRETD, IRETQ, MOVQ, PEXTRD, PEXTRQ, PINSRD, PINSRQ}
 use Rattle.x86_forms.specs.declared.Form.{Form}
 use Rattle.x86_forms.specs.declared.Form.TheVariants as form
@@ -24,7 +24,7 @@ use Rattle.x86_operands.specs.declared.plans.Mark.TheVariants.{SetsEs}
 use Rattle.x86_operands.specs.declared.plans.ModrmUse.{ModrmUse}
 use Rattle.x86_operands.specs.declared.plans.ModrmUse.TheVariants.{Absent, Fields}
 use Rattle.x86_operands.specs.declared.plans.Plan.{Plan}
-use Rattle.x86_fields.specs.Sizes.{v, vq, vd, dq}
+use Rattle.x86_fields.specs.Sizes.{v_class, vq_class, vd_class, dq_class}
 use Rattle.x86_fields.specs.ModRM.{is_memory}
 use Rattle.x86_operands.specs.Plans.{RowRecord, reads, refuses, refused, memory_only, register_only, size_by, reg_number, register_at, accumulator_of, immediate_of}
 use Rattle.x86_operands.specs.FormSizes.{pointer_class, whole_immediate, push_immediate, address_sign, widening, doubling, nothing_size, call_size, return_size, port_size, far_class, far_size, duplicate_size, stream_size, scalar_size, extend_size, is_half_load, extract_size, insert_size, unpack_size}
@@ -75,29 +75,29 @@ abbrev pub sets_es : Plan → Plan
 sets_es plan = record plan { mark = SetsEs }
 
 -- the size of v
-abbrev pub size_v : Prefixes → ℕ
-size_v p = width_of (v p)
+abbrev pub v_size : Prefixes → ℕ
+v_size p = width_of (v_class p)
 
 -- this size in the memory form, and that of v in the register form
 abbrev pub or_v : ℕ → Prefixes → ℕ → ℕ
-or_v memory p m = size_by m memory (size_v p)
+or_v memory p m = size_by m memory (v_size p)
 
 -- ---- mm registers
 abbrev pub mm_plan : Form → ℕ → Prefixes → ℕ → Plan
 mm_plan form.G_xmm_E_mm o p m = reads o (Two (G X) Emm) (or_v 8 p m)
 mm_plan form.G_mm_E_xmm o p m = reads o (Two Gmm (E X)) (or_v 16 p m)
-mm_plan form.G_xmm_U_mm o p m = register_only m (reads o (Two (G X) Umm) (size_v p))
-mm_plan form.G_mm_U_xmm o p m = register_only m (reads o (Two Gmm (U X)) (size_v p))
-mm_plan form.G_U_mm o p m = register_only m (reads o (Two (G D) Umm) (size_v p))
+mm_plan form.G_xmm_U_mm o p m = register_only m (reads o (Two (G X) Umm) (v_size p))
+mm_plan form.G_mm_U_xmm o p m = register_only m (reads o (Two Gmm (U X)) (v_size p))
+mm_plan form.G_U_mm o p m = register_only m (reads o (Two (G D) Umm) (v_size p))
 mm_plan form.G_E_mm o p m = reads o (Two Gmm Emm) (or_v (unpack_size o) p m)
 mm_plan form.G_mm_E o p m = reads o (Two Gmm Emm) (or_v 8 p m)
 mm_plan form.E_G_mm o p m = reads o (Two Emm Gmm) (or_v 8 p m)
 mm_plan form.G_E_mm_Ib o p m = reads o (Three Gmm Emm I8) (size_by m 8 0)
-mm_plan form.G_mm_Edq o p m = reads o (Two Gmm (E (dq p))) (size_v p)
-mm_plan form.Edq_G_mm o p m = reads o (Two (E (dq p)) Gmm) (or_v (width_of (dq p)) p m)
+mm_plan form.G_mm_Edq o p m = reads o (Two Gmm (E (dq_class p))) (v_size p)
+mm_plan form.Edq_G_mm o p m = reads o (Two (E (dq_class p)) Gmm) (or_v (width_of (dq_class p)) p m)
 mm_plan form.G_Mq_mm o p m = memory_only m (reads o (Two M Gmm) 8)
 mm_plan form.G_mm_U_mm o p m = register_only m (reads o (Two Gmm Umm) 8)
-mm_plan form.Rv_Gmm_Ib o p m = refused (is_memory m) BadOperand AfterSuffix (reads o (Three (G D) Umm U8) (size_v p))
+mm_plan form.Rv_Gmm_Ib o p m = refused (is_memory m) BadOperand AfterSuffix (reads o (Three (G D) Umm U8) (v_size p))
 mm_plan form.G_mm_Ew_Ib o p m = reads o (Three Gmm (E D) I8) (or_v 2 p m)
 mm_plan f o p m = refuses Incomplete AtModRM
 
@@ -114,47 +114,47 @@ xmm_plan form.G_E_xmm_Ub o p m = reads o (Three (G X) (E X) U8) (or_v 16 p m)
 xmm_plan form.PMOVX_G_E_xmm o p m = refused (is_half_load o && not (is_memory m)) BadOperand AtModRM (reads o (Two (G X) (E X)) (or_v (extend_size o) p m))
 xmm_plan form.PMOVX_E_G_xmm o p m = reads o (Two (E X) (G X)) (or_v 8 p m)
 xmm_plan form.MOVQ_f30f o p m = reads o (Two (G X) (E X)) (or_v 8 p m)
-xmm_plan form.Gdq_Eq_xmm o p m = reads o (Two (G (v p)) (E X)) (or_v 8 p m)
-xmm_plan form.Gv_E_xmm o p m = reads o (Two (G (v p)) (E X)) (or_v 4 p m)
-xmm_plan form.Gd_U_xmm o p m = register_only m (reads o (Two (G D) (U X)) (size_v p))
-xmm_plan form.G_U_xmm o p m = register_only m (reads o (Two (G X) (U X)) (size_v p))
+xmm_plan form.Gdq_Eq_xmm o p m = reads o (Two (G (v_class p)) (E X)) (or_v 8 p m)
+xmm_plan form.Gv_E_xmm o p m = reads o (Two (G (v_class p)) (E X)) (or_v 4 p m)
+xmm_plan form.Gd_U_xmm o p m = register_only m (reads o (Two (G D) (U X)) (v_size p))
+xmm_plan form.G_U_xmm o p m = register_only m (reads o (Two (G X) (U X)) (v_size p))
 xmm_plan form.MASKMOVDQU o p m = register_only m (reads o (Two (G X) (U X)) 16)
-xmm_plan form.G_U_xmm_Ub o p m = register_only m (reads o (Three (G D) (U X) U8) (size_v p))
-xmm_plan form.Ev_G_xmm_Ib o p m = reads o (Three (E (v p)) (G X) U8) (extract_size o)
-xmm_plan form.Pextr_dq o p m = reads (if rex_w p then PEXTRQ else PEXTRD) (Three (E (v p)) (G X) U8) (if rex_w p then 8 else 4)
+xmm_plan form.G_U_xmm_Ub o p m = register_only m (reads o (Three (G D) (U X) U8) (v_size p))
+xmm_plan form.Ev_G_xmm_Ib o p m = reads o (Three (E (v_class p)) (G X) U8) (extract_size o)
+xmm_plan form.Pextr_dq o p m = reads (if has_w p then PEXTRQ else PEXTRD) (Three (E (v_class p)) (G X) U8) (if has_w p then 8 else 4)
 xmm_plan form.G_Ev_xmm_Ib o p m = reads o (Three (G X) (E X) U8) (or_v (insert_size o) p m)
-xmm_plan form.Pinsr_dq o p m = reads (if rex_w p then PINSRQ else PINSRD) (Three (G X) (E X) U8) (or_v (if rex_w p then 8 else 4) p m)
+xmm_plan form.Pinsr_dq o p m = reads (if has_w p then PINSRQ else PINSRD) (Three (G X) (E X) U8) (or_v (if has_w p then 8 else 4) p m)
 xmm_plan form.G_xmm_Ew_Ib o p m = reads o (Three (G X) (E D) U8) (or_v 2 p m)
-xmm_plan form.G_xmm_Edq o p m = reads o (Two (G X) (E (dq p))) (size_v p)
-xmm_plan form.Edq_G_xmm o p m = reads (if rex_w p then MOVQ else o) (Two (E (dq p)) (G X)) (or_v (width_of (dq p)) p m)
+xmm_plan form.G_xmm_Edq o p m = reads o (Two (G X) (E (dq_class p))) (v_size p)
+xmm_plan form.Edq_G_xmm o p m = reads (if has_w p then MOVQ else o) (Two (E (dq_class p)) (G X)) (or_v (width_of (dq_class p)) p m)
 xmm_plan f o p m = mm_plan f o p m
 
 -- ---- general registers
 abbrev pub general_plan : Form → ℕ → Prefixes → ℕ → Plan
 general_plan form.Eb_Gb o p m = reads o (Two (E B) (G B)) 1
 general_plan form.Gb_Eb o p m = reads o (Two (G B) (E B)) 1
-general_plan form.Ev_Gv o p m = reads o (Two (E (v p)) (G (v p))) (size_v p)
-general_plan form.Gv_Ev o p m = reads o (Two (G (v p)) (E (v p))) (size_v p)
-general_plan form.Gv_M o p m = memory_only m (reads o (Two (G (v p)) M) (size_v p))
-general_plan form.M_Gv o p m = memory_only m (reads o (Two M (G (v p))) (size_v p))
+general_plan form.Ev_Gv o p m = reads o (Two (E (v_class p)) (G (v_class p))) (v_size p)
+general_plan form.Gv_Ev o p m = reads o (Two (G (v_class p)) (E (v_class p))) (v_size p)
+general_plan form.Gv_M o p m = memory_only m (reads o (Two (G (v_class p)) M) (v_size p))
+general_plan form.M_Gv o p m = memory_only m (reads o (Two M (G (v_class p))) (v_size p))
 general_plan form.Eb_R0 o p m = reads o (One (E B)) 1
-general_plan form.Ev o p m = reads o (One (E (v p))) (size_v p)
-general_plan form.Gv_Eb o p m = reads o (Two (G (v p)) (E B)) (size_by m 1 0)
-general_plan form.Gv_Ew o p m = reads o (Two (G (v p)) (E W)) (size_by m 2 0)
+general_plan form.Ev o p m = reads o (One (E (v_class p))) (v_size p)
+general_plan form.Gv_Eb o p m = reads o (Two (G (v_class p)) (E B)) (size_by m 1 0)
+general_plan form.Gv_Ew o p m = reads o (Two (G (v_class p)) (E W)) (size_by m 2 0)
 general_plan form.Gdq_Ed o p m = reads o (Two (G Q) (E D)) (or_v 4 p m)
 general_plan form.Gd_Ed o p m = reads o (Two (G D) (E D)) (or_v 4 p m)
-general_plan form.Gdq_Ev o p m = reads o (Two (G (dq p)) (E (v p))) (or_v 4 p m)
-general_plan form.Gv_Ev_Ib o p m = reads o (Three (G (v p)) (E (v p)) I8) (size_v p)
-general_plan form.Gv_Ev_Iv o p m = reads o (Three (G (v p)) (E (v p)) (immediate_of (v p))) (size_v p)
-general_plan form.Ev_Gv_Ib o p m = reads o (Three (E (v p)) (G (v p)) I8) (size_v p)
-general_plan form.Ev_Gv_CL o p m = reads o (Three (E (v p)) (G (v p)) cl_third) (size_v p)
-general_plan form.Gv_Ew_LAR o p m = reads o (Two (G (v p)) (E (v p))) (or_v 2 p m)
-general_plan form.Gv_Ew_LSL o p m = reads o (Two (G (v p)) (E (vd p))) (or_v 2 p m)
+general_plan form.Gdq_Ev o p m = reads o (Two (G (dq_class p)) (E (v_class p))) (or_v 4 p m)
+general_plan form.Gv_Ev_Ib o p m = reads o (Three (G (v_class p)) (E (v_class p)) I8) (v_size p)
+general_plan form.Gv_Ev_Iv o p m = reads o (Three (G (v_class p)) (E (v_class p)) (immediate_of (v_class p))) (v_size p)
+general_plan form.Ev_Gv_Ib o p m = reads o (Three (E (v_class p)) (G (v_class p)) I8) (v_size p)
+general_plan form.Ev_Gv_CL o p m = reads o (Three (E (v_class p)) (G (v_class p)) cl_third) (v_size p)
+general_plan form.Gv_Ew_LAR o p m = reads o (Two (G (v_class p)) (E (v_class p))) (or_v 2 p m)
+general_plan form.Gv_Ew_LSL o p m = reads o (Two (G (v_class p)) (E (vd_class p))) (or_v 2 p m)
 general_plan form.Ew_Sw o p m = refused (nat_lt 5 (reg_number m p)) BadOperand AfterAddress (reads o (Two (E D) (G S)) (or_v 2 p m))
 general_plan form.Sw_Ew o p m = refused (nat_lt 5 (reg_number m p) || (reg_number m p == 1)) BadOperand AfterAddress (reads o (Two (G S) (E W)) (or_v 2 p m))
 general_plan form.INV_Gv_M o p m = memory_only m (reads o (Two (G (far_class o p)) M) (far_size o p))
 general_plan form.MOVDIR64B o p m = memory_only m (reads o (Two (G (pointer_class p)) M) 64)
-general_plan form.Mdq_Gdq o p m = memory_only m (reads o (Two M (G (dq p))) (width_of (dq p)))
+general_plan form.Mdq_Gdq o p m = memory_only m (reads o (Two M (G (dq_class p))) (width_of (dq_class p)))
 general_plan form.G_E_q o p m = reads o (Two (G Q) (E Q)) (or_v 8 p m)
 general_plan form.E_G_q o p m = reads o (Two (E Q) (G Q)) (or_v 8 p m)
 general_plan f o p m = xmm_plan f o p m
@@ -162,25 +162,25 @@ general_plan f o p m = xmm_plan f o p m
 -- ---- no ModRM: accumulators, addresses and strings
 abbrev pub accumulator_plan : Form → ℕ → Prefixes → ℕ → Plan
 accumulator_plan form.AL_Ibs o p m = reads o (Two (accumulator_of B p) I8) 0
-accumulator_plan form.AX_Ivd o p m = reads o (Two (accumulator_of (v p) p) (immediate_of (v p))) 0
+accumulator_plan form.AX_Ivd o p m = reads o (Two (accumulator_of (v_class p) p) (immediate_of (v_class p))) 0
 accumulator_plan form.AL_Ib o p m = reads o (Two (accumulator_of B p) U8) 0
-accumulator_plan form.AX_Ib o p m = reads o (Two (accumulator_of (vd p) p) U8) 0
+accumulator_plan form.AX_Ib o p m = reads o (Two (accumulator_of (vd_class p) p) U8) 0
 accumulator_plan form.Ib_AL o p m = reads o (Two U8 (accumulator_of B p)) 0
-accumulator_plan form.Ib_AX o p m = reads o (Two U8 (accumulator_of (vd p) p)) 0
+accumulator_plan form.Ib_AX o p m = reads o (Two U8 (accumulator_of (vd_class p) p)) 0
 accumulator_plan form.AL_DX o p m = reads o (Two (accumulator_of B p) dx_port) 0
-accumulator_plan form.AX_DX o p m = reads o (Two (accumulator_of (vd p) p) dx_port) 0
+accumulator_plan form.AX_DX o p m = reads o (Two (accumulator_of (vd_class p) p) dx_port) 0
 accumulator_plan form.DX_AL o p m = reads o (Two dx_port (accumulator_of B p)) 0
-accumulator_plan form.DX_AX o p m = reads o (Two dx_port (accumulator_of (vd p) p)) 0
+accumulator_plan form.DX_AX o p m = reads o (Two dx_port (accumulator_of (vd_class p) p)) 0
 accumulator_plan form.AL_Ob o p m = reads o (Two (accumulator_of B p) (address_sign p)) 1
-accumulator_plan form.AX_Ov o p m = reads o (Two (accumulator_of (v p) p) (address_sign p)) (size_v p)
+accumulator_plan form.AX_Ov o p m = reads o (Two (accumulator_of (v_class p) p) (address_sign p)) (v_size p)
 accumulator_plan form.Ob_AL o p m = reads o (Two (address_sign p) (accumulator_of B p)) 1
-accumulator_plan form.Ov_AX o p m = reads o (Two (address_sign p) (accumulator_of (v p) p)) (size_v p)
+accumulator_plan form.Ov_AX o p m = reads o (Two (address_sign p) (accumulator_of (v_class p) p)) (v_size p)
 accumulator_plan form.AL_Xb o p m = reads o (Two (accumulator_of B p) (at_rsi Deref p)) 1
-accumulator_plan form.AX_Xv o p m = reads o (Two (accumulator_of (v p) p) (at_rsi Deref p)) (size_v p)
+accumulator_plan form.AX_Xv o p m = reads o (Two (accumulator_of (v_class p) p) (at_rsi Deref p)) (v_size p)
 accumulator_plan form.Yb_AL o p m = sets_es (reads o (Two (at_rdi Deref p) (accumulator_of B p)) 1)
-accumulator_plan form.Yv_AX o p m = sets_es (reads o (Two (at_rdi Deref p) (accumulator_of (v p) p)) (size_v p))
+accumulator_plan form.Yv_AX o p m = sets_es (reads o (Two (at_rdi Deref p) (accumulator_of (v_class p) p)) (v_size p))
 accumulator_plan form.Yb_Xb o p m = reads o (Two (target_string p) (source_string p)) 1
-accumulator_plan form.Yv_Xv o p m = reads o (Two (target_string p) (source_string p)) (size_v p)
+accumulator_plan form.Yv_Xv o p m = reads o (Two (target_string p) (source_string p)) (v_size p)
 accumulator_plan form.Yb_DX o p m = reads o (Two wide_rdi dl_in_reg) 1
 accumulator_plan form.Yv_DX o p m = reads o (Two wide_rdi dx_in_reg) (port_size p)
 accumulator_plan form.DX_Xb o p m = reads o (Two dl_in_reg wide_rsi) 1
@@ -191,14 +191,14 @@ accumulator_plan f o p m = general_plan f o p m
 
 -- XCHG with the accumulator; field 0 without B is NOP
 abbrev pub exchange_plan : ℕ → ℕ → Prefixes → Plan
-exchange_plan n o p = if (n == 0) && not (rex_b p) then reads NOP Zero 0 else reads o (Two (accumulator_of (v p) p) (z_in Rm n (v p) p)) 0
+exchange_plan n o p = if (n == 0) && not (has_b p) then reads NOP Zero 0 else reads o (Two (accumulator_of (v_class p) p) (z_in Rm n (v_class p) p)) 0
 
 abbrev pub form_plan : Form → ℕ → Prefixes → ℕ → Plan
-form_plan (form.Zv_R n) o p m = reads o (One (z_in Reg n (vq p) p)) 8
+form_plan (form.Zv_R n) o p m = reads o (One (z_in Reg n (vq_class p) p)) 8
 form_plan (form.Zv_AX_R n) o p m = exchange_plan n o p
 form_plan (form.Zb_Ib_R n) o p m = reads o (Two (z_in Reg n B p) U8) 0
-form_plan (form.Zv_Ivq_R n) o p m = reads o (Two (z_in Reg n (v p) p) (whole_immediate (v p))) 0
-form_plan (form.Zv_B n) o p m = reads o (One (z_in Reg n (v p) p)) 0
+form_plan (form.Zv_Ivq_R n) o p m = reads o (Two (z_in Reg n (v_class p) p) (whole_immediate (v_class p))) 0
+form_plan (form.Zv_B n) o p m = reads o (One (z_in Reg n (v_class p) p)) 0
 form_plan form.Nothing o p m = reads o Zero (nothing_size o)
 form_plan form.Ibs o p m = reads o (One I8) 0
 form_plan form.Jvds o p m = reads o (One I32) (call_size o)
@@ -210,9 +210,9 @@ form_plan form.I_1 o p m = reads o (One (ConstantU8 1)) 0
 form_plan form.Iw o p m = reads o (One U16) (return_size o)
 form_plan form.Iw_Ib o p m = reads o (Two X16 U8) 8
 form_plan form.CXZ o p m = reads (if p.address_size then JECXZ else o) (One I8) 0
-form_plan form.CVT_AA o p m = reads (widening (v p)) Zero 0
-form_plan form.CVT_DA o p m = reads (doubling (v p)) Zero 0
-form_plan form.Fw o p m = reads (if rex_w p then IRETQ else (if p.operand_size then IRET else IRETD)) Zero 0
+form_plan form.CVT_AA o p m = reads (widening (v_class p)) Zero 0
+form_plan form.CVT_DA o p m = reads (doubling (v_class p)) Zero 0
+form_plan form.Fw o p m = reads (if has_w p then IRETQ else (if p.operand_size then IRET else IRETD)) Zero 0
 form_plan form.FS o p m = reads o (One (segment_register 4)) 8
 form_plan form.GS o p m = reads o (One (segment_register 5)) 8
 form_plan form.AH o p m = reads o Zero 0

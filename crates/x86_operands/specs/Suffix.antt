@@ -25,5 +25,5 @@ named_in [] byte = None
 named_in (s ∷ rest) byte = if s.byte == byte then Some s.opcode else named_in rest byte
 
 -- the opcode that a suffix byte names
-unfoldable pub opcode_of_suffix : ℕ → Option ℕ
-opcode_of_suffix byte = named_in suffixes byte
+unfoldable pub suffix_opcode : ℕ → Option ℕ
+suffix_opcode byte = named_in suffixes byte

@@ -9,7 +9,7 @@ use Rattle.x86_operands.specs.declared.operands.Operand.TheVariants as operands
 use Rattle.x86_operands.specs.declared.plans.Sign.{Sign}
 use Rattle.x86_operands.specs.declared.plans.Sign.TheVariants.{E, Emm, M}
 use Rattle.x86_operands.specs.declared.reader.Reading.{Reading}
-use Rattle.x86_operands.specs.Shape.{shape_of}
+use Rattle.x86_operands.specs.Shape.{shape}
 use Rattle.x86_operands.specs.Plans.{RowRecord, list_of}
 use Rattle.x86_operands.specs.Pieces.{SpellsRow, modrm_of}
 
@@ -83,5 +83,5 @@ signs_of r p bytes reading asked = list_of (r.plan (modrm_of r.modrm asked.modrm
 -- At a place below the count stands the shape of raw fields.
 pub record HasShapeAt (reading : Reading) (k : ℕ) (raw : Raw) : Type 0 where
   pub below : k < reading.count
-  pub slot : slot_read reading k ≡ (shape_of raw).0
-  pub operand : operand_read reading k ≡ (shape_of raw).1
+  pub slot : slot_read reading k ≡ (shape raw).0
+  pub operand : operand_read reading k ≡ (shape raw).1

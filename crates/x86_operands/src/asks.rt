@@ -2,7 +2,7 @@
 ghost use Rattle.std.specs.Prelude.{◌≡◌, ◌≤◌};
 ghost use Rattle.x86_fields.specs.Pieces.{option_bytes};
 ghost use Rattle.x86_operands.specs.Pieces.{immediate_width, modrm_of};
-ghost use Rattle.x86_operands.specs.Asks.{encoding_ask, immediates_width, used, plan_ask};
+ghost use Rattle.x86_operands.specs.Asks.{encoding_ask, immediates_width, used_modrm, plan_ask};
 
 use crate::encodings::Encoding;
 use crate::order::Place;
@@ -34,7 +34,7 @@ pub struct RecordAt {
     pub plan: Plan,
 }
 
-fn width(sign: Sign) -> u8
+fn immediate_width(sign: Sign) -> u8
     ensures value { result ≡ immediate_width sign }
     ensures small { result ≤ 8 }
 {
@@ -47,21 +47,24 @@ fn width(sign: Sign) -> u8
     }
 }
 
-fn width_of_all(signs: Signs) -> u8
+fn immediates_width(signs: Signs) -> u8
     ensures { result ≡ immediates_width signs }
 {
     match signs {
         Signs::Zero => 0,
-        Signs::One(a) => width(a),
-        Signs::Two(a, b) => width(a) + width(b),
-        Signs::Three(a, b, c) => width(a) + width(b) + width(c),
-        Signs::Four(a, b, c, d) => width(a) + width(b) + width(c) + width(d),
+        Signs::One(a) => immediate_width(a),
+        Signs::Two(a, b) => immediate_width(a) + immediate_width(b),
+        Signs::Three(a, b, c) => immediate_width(a) + immediate_width(b) + immediate_width(c),
+        Signs::Four(a, b, c, d) => immediate_width(a)
+            + immediate_width(b)
+            + immediate_width(c)
+            + immediate_width(d),
     }
 }
 
 /// A ModRM byte as a row uses it.
 pub fn used_modrm(usage: ModrmUse, modrm: ModRM) -> ModRM
-    ensures { result ≡ used usage modrm }
+    ensures { result ≡ used_modrm usage modrm }
 {
     match usage {
         ModrmUse::Absent => ModRM::absent(),
@@ -87,7 +90,7 @@ pub fn plan_ask(usage: ModrmUse, modrm: ModRM, plan: &Plan) -> Ask
     Ask {
         modrm: !matches!(usage, ModrmUse::Absent),
         memory: modrm.is_memory(),
-        immediate: width_of_all(plan.signs),
+        immediate: immediates_width(plan.signs),
         suffix: matches!(plan.verdict, Verdict::NamedBySuffix),
     }
 }
@@ -99,7 +102,7 @@ pub fn encoding_ask(encoding: &Encoding, prefixes: &Prefixes, modrm: ModRM) -> A
 {
     let immediate = match encoding.order.last {
         Place::Nowhere => 0,
-        _ => width(encoding.last.sign(prefixes)),
+        _ => immediate_width(encoding.last.sign(prefixes)),
     };
     Ask {
         modrm: !matches!(encoding.modrm_use(), ModrmUse::Absent),

@@ -1,7 +1,7 @@
 //! What a row of the operand encodings says.
 
 ghost use Rattle.std.specs.Prelude.{◌≡◌, ◌<◌};
-ghost use Rattle.x86_operands.specs.Encodings.{class_of, bytes_of, last_sign, reg_sign, rm_sign, sign_at, signs_in, plan_of, use_of, is_row, allowed, size_at};
+ghost use Rattle.x86_operands.specs.Encodings.{class_of, size_bytes, last_sign, reg_sign, rm_sign, sign_at, signs_in, plan_of, use_of, is_row, allows, size_at};
 
 use crate::form_sizes::{
     call_size, duplicate_size, extract_size, insert_size, nothing_size, push_immediate,
@@ -9,7 +9,7 @@ use crate::form_sizes::{
 };
 use crate::order::{Order, Place};
 use crate::plans::{
-    ModrmUse, Plan, RegisterSlot, Sign, Signs, accumulator, immediate, memory_only, reads,
+    ModrmUse, Plan, RegisterSlot, Sign, Signs, accumulator_of, immediate_of, memory_only, reads,
     register_at, register_only,
 };
 use x86_fields::{ModRM, Prefixes};
@@ -171,7 +171,7 @@ impl Width {
 impl Size {
     #[inline(always)]
     pub fn bytes(self, opcode: Opcode, prefixes: &Prefixes) -> u8
-        ensures { result ≡ bytes_of self opcode prefixes.now }
+        ensures { result ≡ size_bytes self opcode prefixes.now }
     {
         match self {
             Size::Zero => 0,
@@ -208,7 +208,7 @@ impl Last {
             Last::U8 => Sign::U8,
             Last::U16 => Sign::U16,
             Last::I32 => Sign::I32,
-            Last::Iv => immediate(prefixes.v_class()),
+            Last::Iv => immediate_of(prefixes.v_class()),
             Last::Ivq => whole_immediate(prefixes.v_class()),
             Last::Ip => push_immediate(prefixes),
             Last::One => Sign::ConstantI8(1),
@@ -227,7 +227,7 @@ fn reg_sign(behind: Behind, width: Width, num: u8, prefixes: &Prefixes) -> Sign
     let class = width.class(prefixes);
     match (behind, width) {
         (Behind::Opcode, _) => Sign::Fixed(RegisterSlot::Reg, register_at(num, class, prefixes)),
-        (Behind::Accumulator, _) => accumulator(class, prefixes),
+        (Behind::Accumulator, _) => accumulator_of(class, prefixes),
         (_, Width::Mm) => Sign::Gmm,
         _ => Sign::G(class),
     }
@@ -286,7 +286,7 @@ impl Behind {
     /// Whether a row accepts at this ModRM byte; one that isn't there reads as C0.
     #[inline(always)]
     pub fn allows(self, modrm: ModRM) -> bool
-        ensures { result ≡ allowed self modrm }
+        ensures { result ≡ allows self modrm }
     {
         match self {
             Behind::Fields => true,

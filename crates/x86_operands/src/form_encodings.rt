@@ -7,7 +7,7 @@
 ghost use Rattle.std.specs.Prelude.{◌≡◌, ◌<◌, true};
 ghost use Rattle.x86_forms.specs.Words.{IsForm};
 ghost use Rattle.x86_operands.specs.Forms.{modrm_use};
-ghost use Rattle.x86_operands.specs.Encodings.{Belongs, Describes, IsLeft, carried, is_sound, use_of};
+ghost use Rattle.x86_operands.specs.Encodings.{Belongs, Describes, LeavesPeculiar, carried, is_sound, use_of};
 
 use crate::encodings::Behind::{ByReg, Group, Peculiar};
 use crate::encodings::{Encoding, RegGroup};
@@ -19,7 +19,7 @@ use x86_forms::Form;
 #[inline(always)]
 pub fn encoding_of(form: Form) -> &'static Encoding
     ensures describes { Describes result.now form }
-    ensures peculiar { IsLeft result.now form }
+    ensures peculiar { LeavesPeculiar result.now form }
     ensures group { Belongs result.now.behind form }
     ensures sound { is_sound result.now ≡ true }
     ensures usage { modrm_use form ≡ use_of result.now.behind }

@@ -2,7 +2,7 @@
 ghost use Rattle.std.specs.Prelude.{◌≡◌, false};
 ghost use Rattle.x86_arch.specs.Reader.{State};
 ghost use Rattle.x86_fields.specs.Steps.{outcome};
-ghost use Rattle.x86_forms.specs.Groups.{is_group_form};
+ghost use Rattle.x86_forms.specs.Groups.{is_group};
 ghost use Rattle.x86_forms.specs.Words.{IsForm};
 ghost use Rattle.x86_operands.specs.Asks.{ask_of, record_at};
 ghost use Rattle.x86_operands.specs.Encodings.{held, no_operands, placed_reading};
@@ -69,7 +69,7 @@ pub fn read_form<T: Reader<u64, u8>>(
     row: TableRow,
     prefixes: Prefixes,
 ) -> Result<Reading, DecodeError>
-    requires plain { is_group_form row.form ≡ false }
+    requires plain { is_group row.form ≡ false }
     requires carried { IsForm row.form }
     ensures { outcome result (T.state words.new) ≡ record_step (form_record row prefixes) prefixes (T.state words.old) }
 {
@@ -84,7 +84,7 @@ pub fn read_form<T: Reader<u64, u8>>(
 /// For the row of 03, which is ADD, at ModRM 44 this is a ModRM of the memory form, and nothing else.
 #[tactic(auto, using(crate::proofs::AskLaws::encoding_asks), unfolding(crate::specs::Forms::form_record, crate::specs::Asks::ask_of))]
 pub fn form_ask(row: TableRow, prefixes: Prefixes, modrm: u8) -> Ask
-    requires plain { is_group_form row.form ≡ false }
+    requires plain { is_group row.form ≡ false }
     requires carried { IsForm row.form }
     ensures { result ≡ ask_of (form_record row prefixes) modrm }
 {
@@ -102,7 +102,7 @@ pub fn form_ask(row: TableRow, prefixes: Prefixes, modrm: u8) -> Ask
 /// The record of a row whose form is no group, at a ModRM byte.
 #[tactic(auto, unfolding(crate::specs::Forms::form_record, crate::specs::Asks::record_at))]
 pub fn form_at(row: TableRow, prefixes: Prefixes, modrm: Option<u8>) -> RecordAt
-    requires plain { is_group_form row.form ≡ false }
+    requires plain { is_group row.form ≡ false }
     requires carried { IsForm row.form }
     ensures { result ≡ record_at (form_record row prefixes) modrm }
 {

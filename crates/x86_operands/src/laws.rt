@@ -11,7 +11,7 @@ ghost use Rattle.x86_fields.specs.declared.raw.Raw.{Raw};
 ghost use Rattle.x86_fields.specs.Linear.{raw_form, value_at};
 ghost use Rattle.x86_fields.specs.Steps.{outcome};
 ghost use Rattle.x86_forms.specs.declared.TableRow.{TableRow};
-ghost use Rattle.x86_forms.specs.Groups.{is_group_form};
+ghost use Rattle.x86_forms.specs.Groups.{is_group};
 ghost use Rattle.x86_operands.specs.declared.plans.Fault.{Fault};
 ghost use Rattle.x86_operands.specs.declared.plans.Fault.TheVariants.{Incomplete};
 ghost use Rattle.x86_operands.specs.declared.plans.Moment.{Moment};
@@ -21,7 +21,7 @@ ghost use Rattle.x86_operands.specs.Forms.{form_record};
 ghost use Rattle.x86_operands.specs.Linear.{operand_form, operand_address};
 ghost use Rattle.x86_operands.specs.Pieces.{SpellsRow, RefusesRow, IsReadRow, IsRefusedRow, IsOpenRow};
 ghost use Rattle.x86_operands.specs.Plans.{RowRecord};
-ghost use Rattle.x86_operands.specs.Shape.{shape_of};
+ghost use Rattle.x86_operands.specs.Shape.{shape};
 ghost use Rattle.x86_operands.specs.Signs.{record_step, error_of};
 ghost use Rattle.x86_operands.specs.Ties.{HasTiedPlaces, names_modrm, signs_of, HasShapeAt};
 
@@ -43,8 +43,8 @@ pub fn plain_forms_pass_the_opcode()
 /// Each plain form is built: no plan of its record refuses as `Incomplete`, so `read_form` never answers
 /// `IncompleteDecoder`.
 pub fn plain_forms_are_built()
-    ensures plan { (row : TableRow) (p : Prefixes) (m : ℕ) (w : Moment) → is_group_form row.form ≡ false → ((form_record row p).plan m).verdict ≢ Refuses Incomplete w }
-    ensures answer { (row : TableRow) (p : Prefixes) (s : State ℕ) → is_group_form row.form ≡ false → (record_step (form_record row p) p s).answer ≢ Err IncompleteDecoder }
+    ensures plan { (row : TableRow) (p : Prefixes) (m : ℕ) (w : Moment) → is_group row.form ≡ false → ((form_record row p).plan m).verdict ≢ Refuses Incomplete w }
+    ensures answer { (row : TableRow) (p : Prefixes) (s : State ℕ) → is_group row.form ≡ false → (record_step (form_record row p) p s).answer ≢ Err IncompleteDecoder }
 {}
 
 /// The memory size of each plan is at most 64 bytes.
@@ -55,8 +55,8 @@ pub fn plain_sizes_are_small()
 /// The shape of raw fields has their address form, so `address_of` and `Operand::address` of the shape agree at every
 /// register file and next pointer. Source: Intel SDM volume 2, section 2.1.5.
 pub fn shapes_have_the_address()
-    ensures form { (raw : Raw) → FitsSigned w32 raw.disp → operand_form raw.address_size (shape_of raw).1 ≡ Some (raw_form raw) }
-    ensures address { (raw : Raw) (regs : List ℕ) (next : ℕ) → FitsSigned w32 raw.disp → operand_address raw.address_size (shape_of raw).1 regs next ≡ Some (value_at (raw_form raw) regs next) }
+    ensures form { (raw : Raw) → FitsSigned w32 raw.disp → operand_form raw.address_size (shape raw).1 ≡ Some (raw_form raw) }
+    ensures address { (raw : Raw) (regs : List ℕ) (next : ℕ) → FitsSigned w32 raw.disp → operand_address raw.address_size (shape raw).1 regs next ≡ Some (value_at (raw_form raw) regs next) }
 {}
 
 /// What `read_form` and `read_group` take, and any reader of a record. On Ok these are the pieces that the record

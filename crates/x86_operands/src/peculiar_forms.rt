@@ -1,6 +1,6 @@
 //! Plans of the forms that no row describes: their operation, their class or their refusal goes by more than W and 66.
 ghost use Rattle.std.specs.Prelude.{◌≡◌, ◌<◌, if◌then◌else◌};
-ghost use Rattle.x86_fields.specs.Raw.{rex_w};
+ghost use Rattle.x86_fields.specs.Raw.{has_w};
 ghost use Rattle.x86_forms.specs.Words.{IsForm};
 ghost use Rattle.x86_opcodes.specs.Names.{JECXZ, IRET, IRETD, IRETQ};
 ghost use Rattle.x86_operands.specs.Forms.{exchange_plan, z_in, dx_port, dl_in_reg, dx_in_reg, segment_register, at_rsi, at_rdi, source_string, target_string, wide_rsi, wide_rdi, sets_es};
@@ -13,7 +13,7 @@ use crate::form_sizes::{
 use crate::plans::Sign::{E, Fixed, G, I8, M, Pointer, U8, Umm, X16};
 use crate::plans::Signs::{One, Three, Two, Zero};
 use crate::plans::{
-    Fault, Mark, Moment, Plan, PointerSlot, RegisterSlot, Sign, accumulator, memory_only, reads,
+    Fault, Mark, Moment, Plan, PointerSlot, RegisterSlot, Sign, accumulator_of, memory_only, reads,
     refused, refuses, reg_number, register_at,
 };
 use x86_fields::{ModRM, Prefixes};
@@ -110,7 +110,7 @@ fn exchange_plan(opcode: Opcode, num: u8, prefixes: &Prefixes) -> Plan
     }
     let v = prefixes.v_class();
     let register = Fixed(RegisterSlot::Rm, register_at(num, v, prefixes));
-    reads(opcode, Two(accumulator(v, prefixes), register), 0)
+    reads(opcode, Two(accumulator_of(v, prefixes), register), 0)
 }
 
 fn loop_opcode(opcode: Opcode, prefixes: &Prefixes) -> Opcode
@@ -124,7 +124,7 @@ fn loop_opcode(opcode: Opcode, prefixes: &Prefixes) -> Opcode
 }
 
 fn return_opcode(prefixes: &Prefixes) -> Opcode
-    ensures { result ≡ if rex_w prefixes.now then IRETQ else (if prefixes.now.operand_size then IRET else IRETD) }
+    ensures { result ≡ if has_w prefixes.now then IRETQ else (if prefixes.now.operand_size then IRET else IRETD) }
 {
     if prefixes.has_w() {
         Opcode::IRETQ
@@ -136,14 +136,14 @@ fn return_opcode(prefixes: &Prefixes) -> Opcode
 }
 
 /// The first under a live W, else the second.
-fn by_w(prefixes: &Prefixes, wide: Opcode, narrow: Opcode) -> Opcode
-    ensures { result ≡ if rex_w prefixes.now then wide else narrow }
+fn opcode_by_w(prefixes: &Prefixes, wide: Opcode, narrow: Opcode) -> Opcode
+    ensures { result ≡ if has_w prefixes.now then wide else narrow }
 {
     if prefixes.has_w() { wide } else { narrow }
 }
 
 fn size_by_w(prefixes: &Prefixes) -> u8
-    ensures { result ≡ if rex_w prefixes.now then 8 else 4 }
+    ensures { result ≡ if has_w prefixes.now then 8 else 4 }
 {
     if prefixes.has_w() { 8 } else { 4 }
 }
@@ -154,9 +154,9 @@ fn string_plan(form: Form, opcode: Opcode, prefixes: &Prefixes, modrm: ModRM) ->
 {
     let v = prefixes.v_class();
     let v_size = v_size(prefixes);
-    let al = accumulator(B, prefixes);
-    let ax = accumulator(v, prefixes);
-    let ax_port = accumulator(prefixes.vd_class(), prefixes);
+    let al = accumulator_of(B, prefixes);
+    let ax = accumulator_of(v, prefixes);
+    let ax_port = accumulator_of(prefixes.vd_class(), prefixes);
     let si = at_rsi(PointerSlot::Deref, prefixes);
     let di = at_rdi(PointerSlot::Deref, prefixes);
     let strings = Two(target_string(prefixes), source_string(prefixes));
@@ -226,16 +226,16 @@ pub fn peculiar_plan(form: Form, opcode: Opcode, prefixes: &Prefixes, modrm: Mod
             refused(refuses, Fault::BadOperand, Moment::AtModRM, plan)
         }
         Form::Pextr_dq => {
-            let opcode = by_w(prefixes, Opcode::PEXTRQ, Opcode::PEXTRD);
+            let opcode = opcode_by_w(prefixes, Opcode::PEXTRQ, Opcode::PEXTRD);
             reads(opcode, Three(E(v), G(X), U8), size_by_w(prefixes))
         }
         Form::Pinsr_dq => {
-            let opcode = by_w(prefixes, Opcode::PINSRQ, Opcode::PINSRD);
+            let opcode = opcode_by_w(prefixes, Opcode::PINSRQ, Opcode::PINSRD);
             let size = or_v(size_by_w(prefixes), prefixes, modrm);
             reads(opcode, Three(G(X), E(X), U8), size)
         }
         Form::Edq_G_xmm => {
-            let opcode = by_w(prefixes, Opcode::MOVQ, opcode);
+            let opcode = opcode_by_w(prefixes, Opcode::MOVQ, opcode);
             reads(opcode, Two(E(dq), G(X)), or_v(dq.width(), prefixes, modrm))
         }
         Form::Rv_Gmm_Ib => {

@@ -6,8 +6,8 @@ ghost use Rattle.x86_fields.specs.Steps.{outcome};
 ghost use Rattle.x86_fields.specs.declared.prefixes.Prefixes.{Prefixes};
 ghost use Rattle.x86_operands.specs.declared.encodings.Last.TheVariants.{Absent};
 ghost use Rattle.x86_operands.specs.declared.order.Place.TheVariants.{Nowhere};
-ghost use Rattle.x86_operands.specs.Signs.{memory_or, plan_step, pointer_at, slot_at};
-ghost use Rattle.x86_operands.specs.Encodings.{rm_placed, reg_pair, fixed_pair, no_operands, placed_reading, plan_of, held, put, put_at, sign_put, last_sign, sign_placed, front_placed, allowed, is_sound, slot_in, operand_in};
+ghost use Rattle.x86_operands.specs.Signs.{memory_or, read_plan, pointer_slot, register_slot};
+ghost use Rattle.x86_operands.specs.Encodings.{rm_placed, reg_pair, fixed_pair, no_operands, placed_reading, plan_of, held, put_in, put_at, sign_put, last_sign, sign_placed, front_placed, allows, is_sound, slot_in, operand_in};
 
 use crate::encodings::{Behind, Encoding, Last, Width};
 use crate::operands::{Operand, Slot};
@@ -34,7 +34,7 @@ pub struct Operands {
 }
 
 fn register_slot(slot: RegisterSlot) -> Slot
-    ensures { result ≡ slot_at slot }
+    ensures { result ≡ register_slot slot }
 {
     match slot {
         RegisterSlot::Reg => Slot::Reg,
@@ -44,7 +44,7 @@ fn register_slot(slot: RegisterSlot) -> Slot
 }
 
 fn pointer_slot(slot: PointerSlot) -> Slot
-    ensures { result ≡ pointer_at slot }
+    ensures { result ≡ pointer_slot slot }
 {
     match slot {
         PointerSlot::Deref => Slot::Deref,
@@ -58,7 +58,7 @@ fn pointer_slot(slot: PointerSlot) -> Slot
 impl Operands {
     /// Writes a slot and its operand at an index.
     #[inline(always)]
-    fn put(&mut self, at: usize, slot: Slot, operand: Operand)
+    fn put_at(&mut self, at: usize, slot: Slot, operand: Operand)
         requires { at < 4 }
         ensures { self.new ≡ put_at at (slot, operand) self.old }
     {
@@ -71,7 +71,7 @@ impl Operands {
         requires { at < 4 }
         ensures { self.new ≡ put_at at (slot, Operand.Register reg) self.old }
     {
-        self.put(at, slot, Operand::Register { reg });
+        self.put_at(at, slot, Operand::Register { reg });
     }
 
     /// The operand of rm: memory where it was read, else the register.
@@ -83,7 +83,7 @@ impl Operands {
             None => self.put_register(at, Slot::Rm, reg),
             Some(raw) => {
                 let (slot, operand) = shape(&raw);
-                self.put(at, slot, operand);
+                self.put_at(at, slot, operand);
             }
         }
     }
@@ -93,7 +93,7 @@ impl Operands {
         requires { at < 4 }
         ensures { self.new ≡ put_at at (Slot.ImmI8, Operand.ImmediateI8 imm) self.old }
     {
-        self.put(at, Slot::ImmI8, Operand::ImmediateI8 { imm });
+        self.put_at(at, Slot::ImmI8, Operand::ImmediateI8 { imm });
     }
 
     #[inline(always)]
@@ -101,7 +101,7 @@ impl Operands {
         requires { at < 4 }
         ensures { self.new ≡ put_at at (Slot.ImmU8, Operand.ImmediateU8 imm) self.old }
     {
-        self.put(at, Slot::ImmU8, Operand::ImmediateU8 { imm });
+        self.put_at(at, Slot::ImmU8, Operand::ImmediateU8 { imm });
     }
 
     #[inline(always)]
@@ -109,7 +109,7 @@ impl Operands {
         requires { at < 4 }
         ensures { self.new ≡ put_at at (Slot.ImmI16, Operand.ImmediateI16 imm) self.old }
     {
-        self.put(at, Slot::ImmI16, Operand::ImmediateI16 { imm });
+        self.put_at(at, Slot::ImmI16, Operand::ImmediateI16 { imm });
     }
 
     #[inline(always)]
@@ -117,7 +117,7 @@ impl Operands {
         requires { at < 4 }
         ensures { self.new ≡ put_at at (slot, Operand.ImmediateU16 imm) self.old }
     {
-        self.put(at, slot, Operand::ImmediateU16 { imm });
+        self.put_at(at, slot, Operand::ImmediateU16 { imm });
     }
 
     #[inline(always)]
@@ -125,7 +125,7 @@ impl Operands {
         requires { at < 4 }
         ensures { self.new ≡ put_at at (Slot.ImmI32, Operand.ImmediateI32 imm) self.old }
     {
-        self.put(at, Slot::ImmI32, Operand::ImmediateI32 { imm });
+        self.put_at(at, Slot::ImmI32, Operand::ImmediateI32 { imm });
     }
 
     #[inline(always)]
@@ -133,7 +133,7 @@ impl Operands {
         requires { at < 4 }
         ensures { self.new ≡ put_at at (Slot.ImmI64, Operand.ImmediateI64 imm) self.old }
     {
-        self.put(at, Slot::ImmI64, Operand::ImmediateI64 { imm });
+        self.put_at(at, Slot::ImmI64, Operand::ImmediateI64 { imm });
     }
 
     /// What a sign gives, at an index.
@@ -168,7 +168,7 @@ impl Operands {
             Sign::Emm | Sign::Umm => self.put_rm(at, memory, RegSpec::mm(modrm.rm_field())),
             Sign::Fixed(slot, reg) => self.put_register(at, register_slot(slot), reg),
             Sign::Pointer(slot, base) => {
-                self.put(at, pointer_slot(slot), Operand::MemDeref { base });
+                self.put_at(at, pointer_slot(slot), Operand::MemDeref { base });
             }
             Sign::I8 => self.put_i8(at, read_u8(words)?.cast_signed()),
             Sign::I16 => self.put_i16(at, read_u16(words)?.cast_signed()),
@@ -184,11 +184,11 @@ impl Operands {
             Sign::ConstantU8(imm) => self.put_u8(at, imm),
             Sign::Address32 => {
                 let addr = read_u32(words)?;
-                self.put(at, Slot::DispU32, Operand::AbsoluteU32 { addr });
+                self.put_at(at, Slot::DispU32, Operand::AbsoluteU32 { addr });
             }
             Sign::Address64 => {
                 let addr = read_u64(words)?;
-                self.put(at, Slot::DispU64, Operand::AbsoluteU64 { addr });
+                self.put_at(at, Slot::DispU64, Operand::AbsoluteU64 { addr });
             }
         }
         Ok(())
@@ -198,9 +198,9 @@ impl Operands {
     #[inline(always)]
     fn put_in(&mut self, at: Place, slot: Slot, operand: Operand)
         requires { at ≢ Nowhere }
-        ensures { self.new ≡ put at (slot, operand) self.old }
+        ensures { self.new ≡ put_in at (slot, operand) self.old }
     {
-        self.put(at.index(), slot, operand);
+        self.put_at(at.index(), slot, operand);
     }
 
     /// The last operand, as its sign gives it.
@@ -257,7 +257,7 @@ impl Operands {
     /// The register of reg, if it is an operand.
     #[inline(always)]
     fn place_reg(&mut self, at: Place, width: Width, prefixes: &Prefixes, modrm: ModRM)
-        ensures { self.new ≡ put at (reg_pair width prefixes.now modrm) self.old }
+        ensures { self.new ≡ put_in at (reg_pair width prefixes.now modrm) self.old }
     {
         match at {
             Place::Nowhere => {}
@@ -275,7 +275,7 @@ impl Operands {
     #[inline(always)]
     fn place_fixed(&mut self, encoding: &Encoding, num: u8, prefixes: &Prefixes)
         requires { num < 8 }
-        ensures { self.new ≡ put encoding.now.order.reg (fixed_pair encoding.now.behind encoding.now.reg num prefixes.now) self.old }
+        ensures { self.new ≡ put_in encoding.now.order.reg (fixed_pair encoding.now.behind encoding.now.reg num prefixes.now) self.old }
     {
         match encoding.order.reg {
             Place::Nowhere => {}
@@ -341,8 +341,8 @@ impl Operands {
         requires blank { self.old ≡ no_operands }
         requires small { num < 8 }
         requires sound { is_sound encoding.now ≡ true }
-        requires allowed { allowed encoding.now.behind modrm ≡ true }
-        ensures { outcome (held result (placed_reading opcode prefixes.now self.new)) (T.state words.new) ≡ plan_step (plan_of encoding.now num opcode prefixes.now modrm) prefixes.now modrm (T.state words.old) }
+        requires allowed { allows encoding.now.behind modrm ≡ true }
+        ensures { outcome (held result (placed_reading opcode prefixes.now self.new)) (T.state words.new) ≡ read_plan (plan_of encoding.now num opcode prefixes.now modrm) prefixes.now modrm (T.state words.old) }
     {
         self.count = encoding.order.count;
         self.mem_size = encoding.size_at(modrm).bytes(opcode, prefixes);

@@ -247,7 +247,7 @@ pub fn register_at(num: u8, class: RegisterClass, prefixes: &Prefixes) -> RegSpe
 }
 
 /// Register 0 of a class.
-pub fn accumulator(class: RegisterClass, prefixes: &Prefixes) -> Sign
+pub fn accumulator_of(class: RegisterClass, prefixes: &Prefixes) -> Sign
     ensures { result ≡ accumulator_of class prefixes.now }
 {
     Sign::Fixed(RegisterSlot::Reg, prefixes.register(class, 0))
@@ -255,7 +255,7 @@ pub fn accumulator(class: RegisterClass, prefixes: &Prefixes) -> Sign
 
 /// The immediate of a class v.
 #[inline(always)]
-pub fn immediate(class: RegisterClass) -> Sign
+pub fn immediate_of(class: RegisterClass) -> Sign
     ensures { result ≡ immediate_of class }
 {
     match class {

@@ -4,8 +4,8 @@ ghost use Rattle.std.specs.Prelude.{◌≡◌, ℕ, ◌<◌, ◌∷◌, []};
 ghost use Rattle.x86_arch.specs.Reader.{State};
 ghost use Rattle.x86_fields.specs.Steps.{outcome};
 ghost use Rattle.x86_operands.specs.Plans.{list_of};
-ghost use Rattle.x86_operands.specs.Suffix.{opcode_of_suffix};
-ghost use Rattle.x86_operands.specs.Signs.{given_step, error_of, refusal_step, opcode_step, memory_step, marked, plan_step, modrm_step, fault_step};
+ghost use Rattle.x86_operands.specs.Suffix.{suffix_opcode};
+ghost use Rattle.x86_operands.specs.Signs.{given_step, error_of, refuse_at, read_opcode, read_memory, apply, read_plan, read_modrm, refuse_fault};
 
 use crate::asks::used_modrm;
 use crate::operands::{Operand, Slot};
@@ -31,7 +31,7 @@ pub struct Reading {
     pub prefixes: Prefixes,
 }
 
-fn error(fault: Fault) -> DecodeError
+fn error_of(fault: Fault) -> DecodeError
     ensures { result ≡ error_of fault }
 {
     match fault {
@@ -43,28 +43,28 @@ fn error(fault: Fault) -> DecodeError
 
 /// The refusal of a plan, at its moment.
 fn refuse_at(verdict: Verdict, at: Moment) -> Result<(), DecodeError>
-    ensures { (s : State ℕ) → outcome result s ≡ refusal_step verdict at s }
+    ensures { (s : State ℕ) → outcome result s ≡ refuse_at verdict at s }
 {
     match verdict {
-        Verdict::Refuses(fault, moment) if moment == at => Err(error(fault)),
+        Verdict::Refuses(fault, moment) if moment == at => Err(error_of(fault)),
         _ => Ok(()),
     }
 }
 
 /// The refusal of a row at its opcode byte.
-pub fn refuse(fault: Option<Fault>) -> Result<(), DecodeError>
-    ensures { (s : State ℕ) → outcome result s ≡ fault_step fault s }
+pub fn refuse_fault(fault: Option<Fault>) -> Result<(), DecodeError>
+    ensures { (s : State ℕ) → outcome result s ≡ refuse_fault fault s }
 {
     match fault {
         None => Ok(()),
-        Some(fault) => Err(error(fault)),
+        Some(fault) => Err(error_of(fault)),
     }
 }
 
 /// The opcode that a suffix byte names (AMD APM volume 3, appendix A.1.2).
-#[tactic(auto, unfolding(crate::specs::Suffix::opcode_of_suffix))]
+#[tactic(auto, unfolding(crate::specs::Suffix::suffix_opcode))]
 pub fn suffix_opcode(byte: u8) -> Option<Opcode>
-    ensures { result ≡ opcode_of_suffix byte }
+    ensures { result ≡ suffix_opcode byte }
 {
     match byte {
         0x0c => Some(Opcode::PI2FW),
@@ -101,7 +101,7 @@ fn read_opcode<T: Reader<u64, u8>>(
     verdict: Verdict,
     opcode: Opcode,
 ) -> Result<Opcode, DecodeError>
-    ensures { outcome result (T.state words.new) ≡ opcode_step verdict opcode (T.state words.old) }
+    ensures { outcome result (T.state words.new) ≡ read_opcode verdict opcode (T.state words.old) }
 {
     match verdict {
         Verdict::NamedBySuffix => {
@@ -118,7 +118,7 @@ fn read_memory<T: Reader<u64, u8>>(
     prefixes: &Prefixes,
     modrm: ModRM,
 ) -> Result<Option<Raw>, DecodeError>
-    ensures { outcome result (T.state words.new) ≡ memory_step prefixes.now modrm (T.state words.old) }
+    ensures { outcome result (T.state words.new) ≡ read_memory prefixes.now modrm (T.state words.old) }
 {
     if modrm.is_memory() {
         let raw = read_raw(words, prefixes, modrm.byte())?;
@@ -129,7 +129,7 @@ fn read_memory<T: Reader<u64, u8>>(
 }
 
 fn apply(mark: Mark, prefixes: Prefixes) -> Prefixes
-    ensures { result ≡ marked mark prefixes }
+    ensures { result ≡ apply mark prefixes }
 {
     match mark {
         Mark::Keeps => prefixes,
@@ -198,7 +198,7 @@ impl Operands {
 }
 
 /// What a record asks behind its ModRM, written to what was blank.
-#[tactic(auto, unfolding(crate::specs::Signs::plan_step))]
+#[tactic(auto, unfolding(crate::specs::Signs::read_plan))]
 pub fn place_plan<T: Reader<u64, u8>>(
     words: &mut T,
     plan: &Plan,
@@ -208,7 +208,7 @@ pub fn place_plan<T: Reader<u64, u8>>(
     given: &mut Operands,
 ) -> Result<(), DecodeError>
     requires { given.old ≡ no_operands }
-    ensures { outcome (held result (placed_reading opcode.new prefixes.new given.new)) (T.state words.new) ≡ plan_step plan.now prefixes.old modrm (T.state words.old) }
+    ensures { outcome (held result (placed_reading opcode.new prefixes.new given.new)) (T.state words.new) ≡ read_plan plan.now prefixes.old modrm (T.state words.old) }
 {
     refuse_at(plan.verdict, Moment::AtModRM)?;
     let memory = read_memory(words, prefixes, modrm)?;
@@ -223,7 +223,7 @@ pub fn place_plan<T: Reader<u64, u8>>(
 
 /// The ModRM byte as a row uses it.
 pub fn read_modrm<T: Reader<u64, u8>>(words: &mut T, modrm: ModrmUse) -> Result<ModRM, DecodeError>
-    ensures { outcome result (T.state words.new) ≡ modrm_step modrm (T.state words.old) }
+    ensures { outcome result (T.state words.new) ≡ read_modrm modrm (T.state words.old) }
 {
     match modrm {
         ModrmUse::Absent => Ok(ModRM::absent()),
@@ -241,7 +241,7 @@ pub fn read_plan<T: Reader<u64, u8>>(
     prefixes: Prefixes,
     modrm: ModRM,
 ) -> Result<Reading, DecodeError>
-    ensures { outcome result (T.state words.new) ≡ plan_step plan.now prefixes modrm (T.state words.old) }
+    ensures { outcome result (T.state words.new) ≡ read_plan plan.now prefixes modrm (T.state words.old) }
 {
     let mut prefixes = prefixes;
     let mut opcode = plan.opcode;

@@ -1,15 +1,15 @@
 //! The memory operand of raw fields.
 ghost use Rattle.std.specs.Prelude.{◌≡◌};
-ghost use Rattle.x86_operands.specs.Shape.{shape_of};
+ghost use Rattle.x86_operands.specs.Shape.{shape};
 
 use crate::operands::{Operand, Slot};
 use x86_fields::Raw;
 
 /// The memory operand of raw fields, with the parts that are present.
 #[inline(always)]
-#[tactic(auto, unfolding(crate::specs::Shape::shape_of))]
+#[tactic(auto, unfolding(crate::specs::Shape::shape))]
 pub fn shape(raw: &Raw) -> (Slot, Operand)
-    ensures { result ≡ shape_of raw.now }
+    ensures { result ≡ shape raw.now }
 {
     let scale = raw.scale();
     let disp = raw.disp;

@@ -37,29 +37,29 @@ abbrev pub IsWordClass : RegisterClass → Type 0
 IsWordClass c = IsTrue (is_word_class c)
 
 -- The numbers that order the classes.
-abbrev pub code_of : RegisterClass → ℕ
-code_of B = 1
-code_of W = 2
-code_of D = 4
-code_of RB = 6
-code_of Q = 8
-code_of CR = 10
-code_of DR = 12
-code_of S = 14
-code_of X = 15
-code_of Y = 19
-code_of Z = 23
-code_of ST = 27
-code_of MM = 28
-code_of K = 29
-code_of EIP = 30
-code_of RIP = 31
-code_of EFlags = 32
-code_of RFlags = 33
+abbrev pub class_code : RegisterClass → ℕ
+class_code B = 1
+class_code W = 2
+class_code D = 4
+class_code RB = 6
+class_code Q = 8
+class_code CR = 10
+class_code DR = 12
+class_code S = 14
+class_code X = 15
+class_code Y = 19
+class_code Z = 23
+class_code ST = 27
+class_code MM = 28
+class_code K = 29
+class_code EIP = 30
+class_code RIP = 31
+class_code EFlags = 32
+class_code RFlags = 33
 
 -- how a listing writes a rounding
-abbrev pub label_of : SaeMode → List ℕ
-label_of RoundNearest = codes "{rn-sae}"
-label_of RoundDown = codes "{rd-sae}"
-label_of RoundUp = codes "{ru-sae}"
-label_of RoundZero = codes "{rz-sae}"
+abbrev pub label : SaeMode → List ℕ
+label RoundNearest = codes "{rn-sae}"
+label RoundDown = codes "{rd-sae}"
+label RoundUp = codes "{ru-sae}"
+label RoundZero = codes "{rz-sae}"

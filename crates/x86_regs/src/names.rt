@@ -77,7 +77,7 @@ const EFLAGS: &[&str] = &["eflags"];
 const RFLAGS: &[&str] = &["rflags"];
 
 /// The names of a class by number.
-fn names(class: RegisterClass) -> &'static [&'static str]
+fn names_of(class: RegisterClass) -> &'static [&'static str]
     ensures { map (λ name. name.now) result.now ≡ names_of class }
 {
     match class {
@@ -118,7 +118,7 @@ impl RegSpec {
         ensures printed { result.now ≡ name_of self.now }
         ensures short { length result.now ≤ 6 }
     {
-        text_at(names(self.class), self.num)
+        text_at(names_of(self.class), self.num)
     }
 }
 

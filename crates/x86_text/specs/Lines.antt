@@ -1,6 +1,6 @@
 -- The text of instructions, and the lines of instructions and refusals.
 use Rattle.std.specs.Prelude.{ℕ, List, [], ◌∷◌, ◌++◌, ◌==◌, if◌then◌else◌, codes, decimal, take}
-use Rattle.x86_opcodes.specs.Mnemonics.{mnemonic_of}
+use Rattle.x86_opcodes.specs.Mnemonics.{mnemonic}
 use Rattle.x86_operands.specs.declared.operands.Operand.{Operand}
 use Rattle.x86_fields.specs.declared.errors.DecodeError.{DecodeError}
 use Rattle.x86_fields.specs.Errors.{description_of}
@@ -22,12 +22,12 @@ shown_operands i = take i.given.count (operand_at i 0 ∷ operand_at i 1 ∷ ope
 
 -- MNEMONIC, the operands, and the size
 unfoldable pub instruction_text : Instruction → List ℕ
-instruction_text i = mnemonic_of i.opcode ++ operands_text (shown_operands i) ++ codes " m" ++ size_text i.given.mem_size
+instruction_text i = mnemonic i.opcode ++ operands_text (shown_operands i) ++ codes " m" ++ size_text i.given.mem_size
 
 -- PLACE LENGTH, and the instruction
-unfoldable pub line_text : ℕ → Instruction → List ℕ
-line_text place i = decimal place ++ codes " " ++ decimal i.length ++ codes " " ++ instruction_text i
+unfoldable pub line_of : ℕ → Instruction → List ℕ
+line_of place i = decimal place ++ codes " " ++ decimal i.length ++ codes " " ++ instruction_text i
 
 -- PLACE error: DESCRIPTION
-unfoldable pub refusal_text : ℕ → DecodeError → List ℕ
-refusal_text place error = decimal place ++ codes " error: " ++ description_of error
+unfoldable pub refusal_of : ℕ → DecodeError → List ℕ
+refusal_of place error = decimal place ++ codes " error: " ++ description_of error

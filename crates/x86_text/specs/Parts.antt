@@ -17,6 +17,6 @@ abbrev pub spaced : List ℕ → List ℕ
 spaced part = codes " " ++ part_text part
 
 -- PLACE LENGTH, and each part behind a space
-unfoldable pub fields_text : ℕ → PartLists → List ℕ
-fields_text place p =
+unfoldable pub fields_line : ℕ → PartLists → List ℕ
+fields_line place p =
     decimal place ++ codes " " ++ decimal (sum_by length (in_order p)) ++ flat_map spaced (in_order p)

@@ -2,9 +2,9 @@
 
 ghost use Rattle.std.specs.Prelude.{◌≡◌, ◌+◌, ◌++◌, ◌≤◌};
 ghost use Rattle.arrayvec.specs.ArrayVec.{array_vec_len};
-ghost use Rattle.x86_opcodes.specs.Mnemonics.{mnemonic_of};
+ghost use Rattle.x86_opcodes.specs.Mnemonics.{mnemonic};
 ghost use Rattle.x86_text.specs.Operands.{joint_text, operands_text};
-ghost use Rattle.x86_text.specs.Lines.{shown_operands, size_text, instruction_text, line_text};
+ghost use Rattle.x86_text.specs.Lines.{shown_operands, size_text, instruction_text, line_of};
 
 use crate::operands::push_operand;
 use crate::place::Place;
@@ -54,7 +54,7 @@ fn push_size(line: &mut Line, instruction: &Instruction)
 
 fn push_mnemonic(line: &mut Line, opcode: Opcode)
     requires { array_vec_len line.old + 16 ≤ LINE_ROOM }
-    ensures text { line.new.items ≡ line.old.items ++ mnemonic_of opcode }
+    ensures text { line.new.items ≡ line.old.items ++ mnemonic opcode }
     ensures short { array_vec_len line.new ≤ array_vec_len line.old + 16 }
 {
     line.extend(opcode.mnemonic().as_bytes());
@@ -88,9 +88,9 @@ pub fn instruction_text(instruction: &Instruction) -> Line
 }
 
 /// Writes the line of an instruction at a place over another, without its end, as `4 3 ADD rax, rbx m8`.
-#[tactic(auto, unfolding(crate::specs::Lines::line_text))]
+#[tactic(auto, unfolding(crate::specs::Lines::line_of))]
 pub fn write_instruction(line: &mut Line, place: &Place, instruction: &Instruction)
-    ensures text { line.new.items ≡ line_text place.now instruction.now }
+    ensures text { line.new.items ≡ line_of place.now instruction.now }
     ensures short { array_vec_len line.new ≤ LINE_MAX }
 {
     line.set(place.digits());
@@ -105,7 +105,7 @@ pub fn write_instruction(line: &mut Line, place: &Place, instruction: &Instructi
 ///
 /// For `48 01 d8` at place 4 this is `4 3 ADD rax, rbx m8`.
 pub fn line_of(place: u64, instruction: &Instruction) -> Line
-    ensures text { result.items ≡ line_text place instruction.now }
+    ensures text { result.items ≡ line_of place instruction.now }
     ensures short { array_vec_len result ≤ LINE_MAX }
 {
     let mut line = Line::new();

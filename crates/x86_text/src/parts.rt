@@ -5,14 +5,14 @@ ghost use Rattle.std.specs.List.{sum_by};
 ghost use Rattle.arrayvec.specs.ArrayVec.{array_vec_len};
 ghost use Rattle.x86_layout.specs.Parts.Split.{lists_of};
 ghost use Rattle.x86_layout.specs.Parts.Fields.{HasFieldLengths};
-ghost use Rattle.x86_text.specs.Parts.{in_order, spaced, fields_text};
+ghost use Rattle.x86_text.specs.Parts.{in_order, spaced, fields_line};
 
 use crate::place::Place;
 use crate::room::{LINE_MAX, LINE_ROOM, Line};
 use x86_layout::Parts;
 
 /// How many bytes the parts have together.
-fn length_of(parts: &Parts) -> usize
+fn parts_length(parts: &Parts) -> usize
     requires { HasFieldLengths (lists_of parts.now) }
     ensures { result ≡ sum_by length (in_order (lists_of parts.now)) }
 {
@@ -41,15 +41,15 @@ fn push_part(line: &mut Line, part: &[u8])
 }
 
 /// Writes the line of the parts of an encoding at a place over another, without its end, as `fields_line` gives it.
-#[tactic(auto, unfolding(crate::specs::Parts::fields_text))]
+#[tactic(auto, unfolding(crate::specs::Parts::fields_line))]
 pub fn write_fields(line: &mut Line, place: &Place, parts: &Parts)
     requires { HasFieldLengths (lists_of parts.now) }
-    ensures text { line.new.items ≡ fields_text place.now (lists_of parts.now) }
+    ensures text { line.new.items ≡ fields_line place.now (lists_of parts.now) }
     ensures short { array_vec_len line.new ≤ LINE_MAX }
 {
     line.set(place.digits());
     line.push(b' ');
-    line.push_u64(length_of(parts) as u64);
+    line.push_u64(parts_length(parts) as u64);
     push_part(line, parts.prefixes);
     push_part(line, parts.escape);
     push_part(line, parts.opcode);
@@ -67,7 +67,7 @@ pub fn write_fields(line: &mut Line, place: &Place, parts: &Parts)
 /// For `48 03 44 25 00` at place 0 this is `0 5 48 - 03 44 25 00 - -`.
 pub fn fields_line(place: u64, parts: &Parts) -> Line
     requires { HasFieldLengths (lists_of parts.now) }
-    ensures text { result.items ≡ fields_text place (lists_of parts.now) }
+    ensures text { result.items ≡ fields_line place (lists_of parts.now) }
     ensures short { array_vec_len result ≤ LINE_MAX }
 {
     let mut line = Line::new();

@@ -3,7 +3,7 @@
 ghost use Rattle.std.specs.Prelude.{◌≡◌, ◌+◌, ◌++◌, ◌≤◌};
 ghost use Rattle.arrayvec.specs.ArrayVec.{array_vec_len};
 ghost use Rattle.x86_fields.specs.Errors.{description_of};
-ghost use Rattle.x86_text.specs.Lines.{refusal_text};
+ghost use Rattle.x86_text.specs.Lines.{refusal_of};
 
 use crate::place::Place;
 use crate::room::{LINE_MAX, LINE_ROOM, Line};
@@ -18,9 +18,9 @@ fn push_description(line: &mut Line, error: DecodeError)
 }
 
 /// Writes the line of a refusal at a place over another, without its end, as `2 error: invalid opcode`.
-#[tactic(auto, unfolding(crate::specs::Lines::refusal_text))]
+#[tactic(auto, unfolding(crate::specs::Lines::refusal_of))]
 pub fn write_refusal(line: &mut Line, place: &Place, error: DecodeError)
-    ensures text { line.new.items ≡ refusal_text place.now error }
+    ensures text { line.new.items ≡ refusal_of place.now error }
     ensures short { array_vec_len line.new ≤ LINE_MAX }
 {
     line.set(place.digits());
@@ -32,7 +32,7 @@ pub fn write_refusal(line: &mut Line, place: &Place, error: DecodeError)
 ///
 /// For `InvalidOpcode` at place 2 this is `2 error: invalid opcode`.
 pub fn refusal_of(place: u64, error: DecodeError) -> Line
-    ensures text { result.items ≡ refusal_text place error }
+    ensures text { result.items ≡ refusal_of place error }
     ensures short { array_vec_len result ≤ LINE_MAX }
 {
     let mut line = Line::new();

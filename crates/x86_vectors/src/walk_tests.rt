@@ -35,7 +35,7 @@ impl MemoryForm {
     }
 
     /// How many bytes of displacement there are.
-    fn disp_width(&self) -> u8 {
+    fn displacement_width(&self) -> u8 {
         let (mode, _, rm) = fields(self.modrm);
         let base = if self.has_sib() {
             fields(self.sib).2
@@ -60,7 +60,7 @@ impl MemoryForm {
             let _ = bytes.try_push(self.sib);
         }
         let disp = self.disp.to_le_bytes();
-        let _ = match self.disp_width() {
+        let _ = match self.displacement_width() {
             1 => bytes.try_extend_from_slice(&disp[..1]),
             4 => bytes.try_extend_from_slice(&disp),
             _ => Ok(()),
@@ -70,7 +70,7 @@ impl MemoryForm {
 
     /// The displacement, where there is one.
     fn distance(&self) -> u64 {
-        if self.disp_width() == 0 {
+        if self.displacement_width() == 0 {
             0
         } else {
             (self.disp as i64).cast_unsigned()

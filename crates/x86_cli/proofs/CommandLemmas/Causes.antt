@@ -20,10 +20,10 @@ use Rattle.x86_cli.specs.declared.listings.status.Status.TheVariants.{Done, Usag
 use Rattle.x86_cli.specs.declared.commands.command.Command.{Command}
 use Rattle.x86_cli.specs.declared.commands.command.Command.TheVariants.{List as Listed, Sweep as Swept, Targets as Targeted, Fields as Fielded, Tighten as Tightened}
 use Rattle.x86_layout.specs.Parts.Front.{parts_of}
-use Rattle.x86_text.specs.Lines.{line_text}
-use Rattle.x86_text.specs.Parts.{fields_text}
+use Rattle.x86_text.specs.Lines.{line_of}
+use Rattle.x86_text.specs.Parts.{fields_line}
 use Rattle.x86_cli.specs.Listings.Tighten.{least_text}
-use Rattle.x86_layout.specs.Tightening.Least.{least_of}
+use Rattle.x86_layout.specs.Tightening.Least.{shortest_length}
 use Rattle.x86_cli.specs.Commands.Command.{listing_for}
 use Rattle.x86_cli.specs.Text.{Text, text_at, text_of, ending_by, bad_of, ends_in_half}
 use Rattle.x86_cli.specs.Text.Reading.{MayCome}
@@ -31,7 +31,7 @@ use Rattle.x86_cli.specs.Listings.Listing.{Listing, at_end, front_of, judged, su
 use Rattle.x86_cli.specs.Listings.Sweep.{sweep_at}
 use Rattle.x86_cli.specs.Commands.Run.{Lists, Ran}
 use Rattle.x86_cli.specs.Commands.Causes.{HaveCauses}
-use Rattle.x86_cli.specs.Commands.Complete.{IsSentence, AreSentences, CompletesTexts}
+use Rattle.x86_cli.specs.Commands.Complete.{IsOneInstruction, AreSentences, CompletesTexts}
 use Rattle.x86_cli.specs.DecoderLaws.{DecoderLaws}
 use Rattle.x86_cli.proofs.TextLemmas.FrontLaws.{front-stays}
 use Rattle.x86_cli.proofs.ListingLemmas.ListingLaws.{listing-whole}
@@ -66,9 +66,9 @@ module _ (other : Status) (refusal : outcome.Refused ≢ other) (e : Ending) (en
     listing_never n (suc k) (x ∷ xs) = listing_never (n + 1) k xs
 
   pub command_never : (c : Command) (image : List ℕ) → (listing_for c (record { image = image; ending = e })).status ≢ other
-  command_never (Listed strict) image = listing_never strict (λ place instruction bytes. line_text place instruction) 0 0 image
-  command_never Fielded image = listing_never false (λ place instruction bytes. fields_text place (parts_of false bytes)) 0 0 image
-  command_never Tightened image = listing_never false (λ place instruction bytes. least_text place instruction.length (least_of false bytes)) 0 0 image
+  command_never (Listed strict) image = listing_never strict (λ place instruction bytes. line_of place instruction) 0 0 image
+  command_never Fielded image = listing_never false (λ place instruction bytes. fields_line place (parts_of false bytes)) 0 0 image
+  command_never Tightened image = listing_never false (λ place instruction bytes. least_text place instruction.length (shortest_length false bytes)) 0 0 image
   command_never Swept image = end
   command_never Targeted image = end
 
@@ -159,7 +159,7 @@ causes gives takes c max a b k l = (
 -- sequences of sentences
 
 module _ (strict : Bool) (laws : DecoderLaws strict) (text : ℕ → Instruction → List ℕ → List ℕ) where
-  sentence_front : (s rest : List ℕ) → IsSentence strict s → (i : Instruction) × (front_of strict (s ++ rest) Clean ≡ Whole i) × (0 < i.length) × (i.length ≡ length s)
+  sentence_front : (s rest : List ℕ) → IsOneInstruction strict s → (i : Instruction) × (front_of strict (s ++ rest) Clean ≡ Whole i) × (0 < i.length) × (i.length ≡ length s)
   sentence_front s rest is =
       let i = is.instruction in
       let ok : answer_of strict s ≢ Err ExhaustedInput = λ e. let f : Ok i ≡ Err ExhaustedInput = sym is.answer ∙ e in cc in
@@ -180,10 +180,10 @@ module _ (strict : Bool) (laws : DecoderLaws strict) (text : ℕ → Instruction
 -- the listing of a clean text whose image a command goes through
 pub text_done : ((strict : Bool) → DecoderLaws strict) → CompletesTexts
 text_done laws (Listed strict) t clean sequence =
-    rw (clean, sequence.whole) (sentences_done strict (laws strict) (λ place instruction bytes. line_text place instruction) 0 sequence.sentences sequence.each)
+    rw (clean, sequence.whole) (sentences_done strict (laws strict) (λ place instruction bytes. line_of place instruction) 0 sequence.sentences sequence.each)
 text_done laws Fielded t clean sequence =
-    rw (clean, sequence.whole) (sentences_done false (laws false) (λ place instruction bytes. fields_text place (parts_of false bytes)) 0 sequence.sentences sequence.each)
+    rw (clean, sequence.whole) (sentences_done false (laws false) (λ place instruction bytes. fields_line place (parts_of false bytes)) 0 sequence.sentences sequence.each)
 text_done laws Tightened t clean sequence =
-    rw (clean, sequence.whole) (sentences_done false (laws false) (λ place instruction bytes. least_text place instruction.length (least_of false bytes)) 0 sequence.sentences sequence.each)
+    rw (clean, sequence.whole) (sentences_done false (laws false) (λ place instruction bytes. least_text place instruction.length (shortest_length false bytes)) 0 sequence.sentences sequence.each)
 text_done laws Swept t clean any = rw clean refl
 text_done laws Targeted t clean any = rw clean refl

@@ -12,9 +12,9 @@ use Rattle.x86_cli.specs.declared.listings.status.Status.TheVariants as outcome
 use Rattle.x86_cli.specs.declared.commands.command.Command.{Command}
 use Rattle.x86_cli.specs.declared.commands.command.Command.TheVariants.{List as Listed, Sweep as Swept, Targets as Targeted, Fields as Fielded, Tighten as Tightened}
 use Rattle.x86_layout.specs.Parts.Front.{parts_of}
-use Rattle.x86_layout.specs.Tightening.Least.{least_of}
-use Rattle.x86_text.specs.Lines.{line_text}
-use Rattle.x86_text.specs.Parts.{fields_text}
+use Rattle.x86_layout.specs.Tightening.Least.{shortest_length}
+use Rattle.x86_text.specs.Lines.{line_of}
+use Rattle.x86_text.specs.Parts.{fields_line}
 use Rattle.x86_cli.specs.Listings.Line.{line}
 use Rattle.x86_cli.specs.Listings.Tighten.{least_text}
 use Rattle.x86_cli.specs.Commands.Command.{listing_for}
@@ -94,10 +94,10 @@ unrefused t fault refused = let e : outcome.ReadFault ≡ outcome.Refused = ap (
 
 module _ (laws : (strict : Bool) → DecoderLaws strict) where
   command_stays : (c : Command) (t t' : Text) → IsFront t.image t'.image → t.ending ≡ Fault → (listing_for c t).status ≡ outcome.Refused → listing_for c t' ≡ listing_for c t
-  command_stays (Listed strict) t t' front fault refused = list_stays strict (laws strict) (λ place instruction bytes. line_text place instruction) t t' front fault refused
-  command_stays Fielded t t' front fault refused = list_stays false (laws false) (λ place instruction bytes. fields_text place (parts_of false bytes)) t t' front fault refused
+  command_stays (Listed strict) t t' front fault refused = list_stays strict (laws strict) (λ place instruction bytes. line_of place instruction) t t' front fault refused
+  command_stays Fielded t t' front fault refused = list_stays false (laws false) (λ place instruction bytes. fields_line place (parts_of false bytes)) t t' front fault refused
   command_stays Tightened t t' front fault refused =
-      list_stays false (laws false) (λ place instruction bytes. least_text place instruction.length (least_of false bytes)) t t' front fault refused
+      list_stays false (laws false) (λ place instruction bytes. least_text place instruction.length (shortest_length false bytes)) t t' front fault refused
   command_stays Swept t t' front fault refused = absurd (unrefused t fault refused)
   command_stays Targeted t t' front fault refused = absurd (unrefused t fault refused)
 

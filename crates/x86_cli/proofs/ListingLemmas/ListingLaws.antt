@@ -6,7 +6,7 @@ use Rattle.x86_cli.specs.declared.text.reader.Ending.{Ending}
 use Rattle.x86_cli.specs.declared.text.window.Front.{Front}
 use Rattle.x86_cli.specs.declared.text.window.Front.TheVariants.{Whole, Refused, Ended}
 use Rattle.x86_cli.specs.declared.listings.status.Status.TheVariants as status
-use Rattle.x86_text.specs.Lines.{refusal_text}
+use Rattle.x86_text.specs.Lines.{refusal_of}
 use Rattle.x86_cli.specs.Listings.Line.{line}
 use Rattle.x86_cli.specs.Listings.Listing.{Listing, with_lines, at_end, front_of, listed, listing_from, LinesLeaveStatus}
 
@@ -40,7 +40,7 @@ module _ (strict : Bool) (text : ℕ → Instruction → List ℕ → List ℕ) 
       subst P (sym len) (whole-at n (i.length - 1) xs e i h len (omega arith))
 
   pub listing-refused : (n : ℕ) (xs : List ℕ) (e : Ending) (error : DecodeError) → front_of strict xs e ≡ Refused error →
-      listing_from strict text n 0 xs e ≡ record { lines = line (refusal_text n error) ∷ []; status = status.Refused }
+      listing_from strict text n 0 xs e ≡ record { lines = line (refusal_of n error) ∷ []; status = status.Refused }
   unfolding listing_from front_of
   listing-refused n [] e error h = cc
   listing-refused n (x ∷ xs) e error h = rw h refl

@@ -7,7 +7,7 @@ use Rattle.x86_cli.specs.Outside.Stop.{Stop, End, Failed}
 use Rattle.x86_cli.specs.declared.text.reader.Piece.{Piece}
 use Rattle.x86_cli.specs.declared.text.reader.Piece.TheVariants.{Byte, Stopped}
 use Rattle.x86_cli.specs.Text.{Text, is_blank, value_of, text_at}
-use Rattle.x86_cli.specs.Text.Reading.{IsOpen, Asked, Gave, Reads}
+use Rattle.x86_cli.specs.Text.Reading.{HasNotEnded, Asked, Gave, Reads}
 use Rattle.x86_cli.proofs.TextLemmas.TextLaws.{text-end, text-failed, text-large, text-blank, text-bad, text-half, text-half_failed, text-half_large, text-half_bad, text-pair}
 
 -- what was asked, one after the other
@@ -23,10 +23,10 @@ asked-same text other [] (Some s) e a = e [] ∙ a
 asked-same text other (x ∷ t) stop e a = (e [] ∙ a.0, asked-same (λ xs s. text (x ∷ xs) s) (λ xs s. other (x ∷ xs) s) t stop (λ xs. e (x ∷ xs)) a.1)
 
 -- a text that is just begun, and one of which half a pair came, are open
-open_new : (p r : ℕ) → IsOpen (text_at p r)
+open_new : (p r : ℕ) → HasNotEnded (text_at p r)
 open_new p r = ap (λ t. t.ending) (text-failed p r)
 
-open_half : (p r x v : ℕ) → is_blank x ≡ false → value_of x ≡ Some v → IsOpen (λ xs s. text_at p (suc r) (x ∷ xs) s)
+open_half : (p r x v : ℕ) → is_blank x ≡ false → value_of x ≡ Some v → HasNotEnded (λ xs s. text_at p (suc r) (x ∷ xs) s)
 open_half p r x v blank digit = ap (λ t. t.ending) (text-half_failed p r x v blank digit)
 
 module _ {S : Type 0} (gives : S → Got → S → Type 0) where

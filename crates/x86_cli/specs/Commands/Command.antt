@@ -9,9 +9,9 @@ use Rattle.x86_cli.specs.declared.listings.status.Status.{Status}
 use Rattle.x86_cli.specs.Text.{Text, text_of}
 use Rattle.x86_cli.specs.Commands.Run.{Ran, Ahead}
 use Rattle.x86_layout.specs.Parts.Front.{parts_of}
-use Rattle.x86_layout.specs.Tightening.Least.{least_of}
-use Rattle.x86_text.specs.Lines.{line_text}
-use Rattle.x86_text.specs.Parts.{fields_text}
+use Rattle.x86_layout.specs.Tightening.Least.{shortest_length}
+use Rattle.x86_text.specs.Lines.{line_of}
+use Rattle.x86_text.specs.Parts.{fields_line}
 use Rattle.x86_cli.specs.Listings.Tighten.{least_text}
 use Rattle.x86_cli.specs.Listings.Listing.{Listing, listing_at}
 use Rattle.x86_cli.specs.Listings.Sweep.{sweep_at}
@@ -39,9 +39,9 @@ IfCommand arguments says = IfSome (command_of (map string_bytes arguments)) says
 
 -- what a command lists of a text that stands from a place on, and of a whole text
 abbrev pub listed_at : Command → ℕ → Text → Listing
-listed_at (Listed strict) place t = listing_at strict (λ place instruction bytes. line_text place instruction) place t
-listed_at Fielded place t = listing_at false (λ place instruction bytes. fields_text place (parts_of false bytes)) place t
-listed_at Tightened place t = listing_at false (λ place instruction bytes. least_text place instruction.length (least_of false bytes)) place t
+listed_at (Listed strict) place t = listing_at strict (λ place instruction bytes. line_of place instruction) place t
+listed_at Fielded place t = listing_at false (λ place instruction bytes. fields_line place (parts_of false bytes)) place t
+listed_at Tightened place t = listing_at false (λ place instruction bytes. least_text place instruction.length (shortest_length false bytes)) place t
 listed_at Swept place t = sweep_at false place t
 listed_at Targeted place t = targets_at false place t
 

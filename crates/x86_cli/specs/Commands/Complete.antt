@@ -11,14 +11,14 @@ use Rattle.x86_cli.specs.declared.commands.command.Command.{Command}
 use Rattle.x86_cli.specs.declared.commands.command.Command.TheVariants.{List as Listed, Sweep as Swept, Targets as Targeted, Fields as Fielded, Tighten as Tightened}
 
 -- the bytes are one instruction, whole
-pub record IsSentence (strict : Bool) (bytes : List ℕ) : Type 0 where
+pub record IsOneInstruction (strict : Bool) (bytes : List ℕ) : Type 0 where
   pub instruction : Instruction
   pub answer : answer_of strict bytes ≡ Ok instruction
   pub whole : instruction.length ≡ length bytes
 
 abbrev pub AreSentences : Bool → List (List ℕ) → Type 0
 AreSentences strict [] = ⊤
-AreSentences strict (s ∷ ss) = IsSentence strict s × AreSentences strict ss
+AreSentences strict (s ∷ ss) = IsOneInstruction strict s × AreSentences strict ss
 
 -- An image that is a sequence of sentences
 pub record IsSequenceOfSentences (strict : Bool) (image : List ℕ) : Type 0 where

@@ -7,7 +7,7 @@ use Rattle.x86_decode.specs.Answer.{answer_of}
 use Rattle.x86_cli.specs.declared.text.reader.Ending.{Ending}
 use Rattle.x86_cli.specs.declared.text.reader.Ending.TheVariants.{Clean, Bad, Large, Fault}
 use Rattle.x86_cli.specs.Text.{Text}
-use Rattle.x86_text.specs.Lines.{refusal_text}
+use Rattle.x86_text.specs.Lines.{refusal_of}
 use Rattle.x86_cli.specs.Listings.Line.{line, bad_text}
 use Rattle.x86_cli.specs.declared.listings.status.Status.{Status}
 use Rattle.x86_cli.specs.declared.listings.status.Status.TheVariants.{Done, BadText, TooLarge, ReadFault}
@@ -31,7 +31,7 @@ at_end Fault = record { lines = line (codes "read fault") ∷ []; status = ReadF
 
 -- a refusal that ends a listing
 abbrev pub at_refusal : ℕ → DecodeError → Listing
-at_refusal place error = record { lines = line (refusal_text place error) ∷ []; status = status.Refused }
+at_refusal place error = record { lines = line (refusal_of place error) ∷ []; status = status.Refused }
 
 -- An end that isn't clean overrules a refusal that more bytes could lift.
 abbrev pub judged : Result Instruction DecodeError → Ending → Front Instruction

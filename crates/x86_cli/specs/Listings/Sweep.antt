@@ -5,14 +5,14 @@ use Rattle.x86_fields.specs.declared.errors.DecodeError.{DecodeError}
 use Rattle.x86_layout.specs.declared.sweeps.cuts.Cut.{Cut}
 use Rattle.x86_layout.specs.Sweeps.Cuts.{cuts_from}
 use Rattle.x86_cli.specs.Text.{Text}
-use Rattle.x86_text.specs.Lines.{line_text, refusal_text}
+use Rattle.x86_text.specs.Lines.{line_of, refusal_of}
 use Rattle.x86_cli.specs.Listings.Line.{line}
 use Rattle.x86_cli.specs.Listings.Listing.{Listing, with_lines, at_end}
 
 -- a cut of the sweep: a refusal is a cut of one byte
 abbrev pub cut_text : ℕ → Result Instruction DecodeError → List ℕ
-cut_text place (Ok i) = line_text place i
-cut_text place (Err e) = refusal_text place e
+cut_text place (Ok i) = line_of place i
+cut_text place (Err e) = refusal_of place e
 
 -- the line of a cut of the image
 abbrev pub cut_line : Cut → List ℕ

@@ -42,14 +42,14 @@ UsesRoom (Byte v) old new = new + 2 ≤ old
 UsesRoom (Stopped e) old new = new ≤ old
 
 -- The bytes given so far had not ended their text: a failure in place of the next would be a fault.
-abbrev pub IsOpen : (List ℕ → Stop → Text) → Type 0
-IsOpen text = (text [] Failed).ending ≡ Fault
+abbrev pub HasNotEnded : (List ℕ → Stop → Text) → Type 0
+HasNotEnded text = (text [] Failed).ending ≡ Fault
 
 -- Each of these bytes, and the stop where there is one, was asked of an open text.
 abbrev pub Asked : (List ℕ → Stop → Text) → List ℕ → Option Stop → Type 0
 Asked text [] None = ⊤
-Asked text [] (Some stop) = IsOpen text
-Asked text (b ∷ bs) stop = IsOpen text × Asked (λ xs s. text (b ∷ xs) s) bs stop
+Asked text [] (Some stop) = HasNotEnded text
+Asked text (b ∷ bs) stop = HasNotEnded text × Asked (λ xs s. text (b ∷ xs) s) bs stop
 
 -- gives s g t: a call at s may answer g, and leave t
 module _ {S : Type 0} (gives : S → Got → S → Type 0) where

@@ -1,7 +1,7 @@
 //! The lines of the parts of encodings.
 
 ghost use Rattle.x86_layout.specs.Parts.Front.{parts_of};
-ghost use Rattle.x86_text.specs.Parts.{fields_text};
+ghost use Rattle.x86_text.specs.Parts.{fields_line};
 
 use crate::listings::line::Lines;
 use x86_decode::{InstDecoder, Instruction};
@@ -13,7 +13,7 @@ use x86_text::{Line, Place, write_fields};
 pub struct FieldLines;
 
 impl Lines for FieldLines {
-    ghost text = { λ s strict place instruction bytes. fields_text place (parts_of strict bytes) };
+    ghost text = { λ s strict place instruction bytes. fields_line place (parts_of strict bytes) };
 
     fn write(
         &self,

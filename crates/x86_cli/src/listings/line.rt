@@ -4,7 +4,7 @@ ghost use Rattle.std.specs.Prelude.{Bool, ℕ, List, Ok, ◌≡◌, ◌≤◌};
 ghost use Rattle.arrayvec.specs.ArrayVec.{array_vec_len};
 ghost use Rattle.x86_decode.specs.declared.instructions.Instruction.{Instruction};
 ghost use Rattle.x86_decode.specs.Answer.{answer_of};
-ghost use Rattle.x86_text.specs.Lines.{line_text};
+ghost use Rattle.x86_text.specs.Lines.{line_of};
 ghost use Rattle.x86_cli.specs.Listings.Line.{bad_text};
 
 use x86_decode::{InstDecoder, Instruction};
@@ -34,7 +34,7 @@ pub trait Lines {
 pub struct Plain;
 
 impl Lines for Plain {
-    ghost text = { λ s strict place instruction bytes. line_text place instruction };
+    ghost text = { λ s strict place instruction bytes. line_of place instruction };
 
     fn write(
         &self,

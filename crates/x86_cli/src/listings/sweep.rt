@@ -7,7 +7,7 @@ ghost use Rattle.x86_decode.specs.Instruction.{holding};
 ghost use Rattle.x86_cli.specs.Listings.Sweep.{cut_text, sweep_at};
 
 use crate::laws::decoder_laws;
-use crate::listings::listing::{Step, Course};
+use crate::listings::listing::{Course, Step};
 use crate::text::window::Window;
 use x86_decode::{InstDecoder, Instruction};
 use x86_fields::DecodeError;

@@ -1,4 +1,4 @@
-use Rattle.x86_operands.specs.Asks.{ask_of, used}
+use Rattle.x86_operands.specs.Asks.{ask_of, used_modrm}
 use Rattle.x86_groups.specs.Groups.{group_record, group_modrm}
 use Rattle.x86_groups.proofs.AskLaws.{same_ask}
 use Rattle.x86_groups.proofs.group_ask.Goals as goal
@@ -8,6 +8,6 @@ unfolding ask_of group_record
 returns c = λ strict.
     let row = c.args.row in
     let usage = group_modrm row.form in
-    let m = used usage c.args.modrm in
+    let m = used_modrm usage c.args.modrm in
     let e = same_ask usage m row.form row.opcode strict c.args.prefixes m in
-    cc (e, c.plan_ask.ensures, c.form_plan-plan.ensures, c.used_modrm-modrm.ensures, c.modrm_use-usage.ensures)
+    cc (e, c.plan_ask.ensures, c.group_form_plan-plan.ensures, c.used_modrm-modrm.ensures, c.group_modrm-usage.ensures)

@@ -9,15 +9,15 @@ use Rattle.x86_fields.specs.Run.{reading_of}
 use Rattle.x86_forms.specs.declared.Map.{Map}
 use Rattle.x86_forms.specs.declared.Map.TheVariants.{One, Of, Of38, Of3a}
 use Rattle.x86_forms.specs.declared.TableRow.{TableRow}
-use Rattle.x86_forms.specs.Words.{rows_of, word_at}
+use Rattle.x86_forms.specs.Words.{rows_of, packed}
 use Rattle.x86_operands.specs.declared.reader.Reading.{Reading}
 use Rattle.x86_operands.specs.Plans.{RowRecord}
 use Rattle.x86_operands.specs.Pieces.{SpellsRow}
 use Rattle.x86_operands.specs.Signs.{record_step}
 use Rattle.x86_operands.proofs.RecordLaws.{takes_row}
 use Rattle.x86_decode.specs.declared.instructions.Instruction.{Instruction}
-use Rattle.x86_decode.specs.Head.{is_run, column_of, escape_bytes, is_opcode, seen}
-use Rattle.x86_decode.specs.Grammar.{record_of, lock_allowed, IsAccepted, IsAnswer}
+use Rattle.x86_decode.specs.Head.{is_run, column_of, escape_bytes, is_opcode, seen_by}
+use Rattle.x86_decode.specs.Grammar.{record_of, allows_lock, IsAccepted, IsAnswer}
 use Rattle.x86_decode.specs.Instruction.{instruction_of}
 use Rattle.x86_decode.specs.Answer.{answer_of, count_of}
 use Rattle.x86_layout.specs.declared.parts.fields.Fields as fields
@@ -27,7 +27,7 @@ use Rattle.x86_layout.specs.declared.parts.emit.EmitError.TheVariants as error
 use Rattle.x86_layout.specs.Parts.Split.{Encoding, record_in, HasParts, joined}
 use Rattle.x86_layout.specs.Parts.Front.{parts_of}
 use Rattle.x86_layout.specs.Parts.Fields.{lists_in, HasFieldLengths}
-use Rattle.x86_layout.specs.Parts.Permitted.{map_named, entry_by, entry_at, entry_of, record_by, has_legal_run, passes_record, has_asked_parts, tail_of, allows_lock, has_lawful_lock, is_short, unless, failing_at, first_failing, IsPermitted, ArePartsOfSentence}
+use Rattle.x86_layout.specs.Parts.Permitted.{map_named, entry_by, entry_at, entry_of, record_by, has_legal_run, passes_record, has_asked_parts, tail_of, answer_allows_lock, has_lawful_lock, is_short, unless, failing_at, first_failing, IsPermitted, ArePartsOfSentence}
 use Rattle.x86_layout.proofs.PartLemmas.PartLaws.{front_is}
 use Rattle.x86_layout.proofs.PartLemmas.FrontLaws.{parts_are, parts_once}
 use Rattle.x86_layout.proofs.PartLemmas.SplitLaws.{joined_is}
@@ -89,8 +89,8 @@ record Names (f : fields.Fields) (e : Entry) : Type 0 where
   pub row : TableRow
   pub escape : f.escape.items ≡ escape_bytes map
   pub meant : is_opcode map f.opcode ≡ true
-  pub has_row : rows_of word_at map (column_of (reading_of f.prefixes.items)) f.opcode ≡ Some row
-  pub is : e ≡ record { row = row; prefixes = seen map f.opcode (reading_of f.prefixes.items) }
+  pub has_row : rows_of packed map (column_of (reading_of f.prefixes.items)) f.opcode ≡ Some row
+  pub is : e ≡ record { row = row; prefixes = seen_by map f.opcode (reading_of f.prefixes.items) }
 
 no_map : {A : Type 0} (map : Map) → None ≡ Some map → A
 no_map map h = absurd cc
@@ -129,8 +129,8 @@ names_by : (f : fields.Fields) (e : Entry) (o : Option Map) → map_named f.esca
 names_by f e None k h = no_entry e h
 names_by f e (Some map) k h =
     let p : Prefixes = reading_of f.prefixes.items in
-    let x = meant_is (is_opcode map f.opcode) (entry_by (rows_of word_at map (column_of p) f.opcode) (seen map f.opcode p)) e h in
-    let y = row_is (rows_of word_at map (column_of p) f.opcode) (seen map f.opcode p) e x.1 in
+    let x = meant_is (is_opcode map f.opcode) (entry_by (rows_of packed map (column_of p) f.opcode) (seen_by map f.opcode p)) e h in
+    let y = row_is (rows_of packed map (column_of p) f.opcode) (seen_by map f.opcode p) e x.1 in
     record { map = map; row = y.0; escape = escape_is f.escape.items map k; meant = x.0; has_row = y.1; is = y.2 }
 
 names : (f : fields.Fields) (e : Entry) → entry_of f ≡ Some e → Names f e
@@ -139,24 +139,24 @@ names f e h = names_by f e (map_named f.escape.items) refl h
 -- ---- permitted fields spell a sentence
 
 -- the reading of a row's pieces is the one that they spell
-reading_is : (r : RowRecord) (p : Prefixes) (tail : List ℕ) (reading : Reading) → SpellsRow r p tail reading → allows_lock (record_step r p (record { left = tail; since_mark = 0; since_made = 0 })).answer ≡ lock_allowed reading
+reading_is : (r : RowRecord) (p : Prefixes) (tail : List ℕ) (reading : Reading) → SpellsRow r p tail reading → answer_allows_lock (record_step r p (record { left = tail; since_mark = 0; since_made = 0 })).answer ≡ allows_lock reading
 reading_is r p tail reading a =
     let start : State ℕ = record { left = tail; since_mark = 0; since_made = 0 } in
-    ap (λ o. allows_lock o.answer) ((takes_row r p tail reading a).takes [] start (sym (append-nil tail)))
+    ap (λ o. answer_allows_lock o.answer) ((takes_row r p tail reading a).takes [] start (sym (append-nil tail)))
 
 record Emitted (strict : Bool) (f : fields.Fields) : Type 0 where
   pub reading : Reading
   pub whole : Encoding strict (joined (lists_in f)) reading
   pub parts : HasParts strict (joined (lists_in f)) reading whole (lists_in f)
-  pub lock : lock_allowed reading ≡ true
+  pub lock : allows_lock reading ≡ true
   pub short : length (joined (lists_in f)) ≤ 15
 
 at_most_15 : (n : ℕ) → nat_le n 15 ≡ true → n ≤ 15
 at_most_15 n h = grind (arith, nat_tests)
 
-emitted_by : (strict : Bool) (f : fields.Fields) (e : Entry) (n : Names f e) → has_legal_run f ≡ true → Holds strict f (record { row = n.row; prefixes = seen n.map f.opcode (reading_of f.prefixes.items) }) → Emitted strict f
+emitted_by : (strict : Bool) (f : fields.Fields) (e : Entry) (n : Names f e) → has_legal_run f ≡ true → Holds strict f (record { row = n.row; prefixes = seen_by n.map f.opcode (reading_of f.prefixes.items) }) → Emitted strict f
 emitted_by strict f e n legal h =
-    let q : Prefixes = seen n.map f.opcode (reading_of f.prefixes.items) in
+    let q : Prefixes = seen_by n.map f.opcode (reading_of f.prefixes.items) in
     let r = record_of strict n.row q in
     let s = spelled r q f h.record_passes h.parts in
     let t = s.parts in
@@ -197,7 +197,7 @@ emitted strict f h =
     emitted_by strict f x.0 n legal (subst (Holds strict f) n.is x.2)
 
 abbrev pub Only : Bool → Type 0
-Only strict = (xs : List ℕ) (r : Result Instruction DecodeError) (n : ℕ) → IsAnswer (rows_of word_at) strict xs r n → (r ≡ answer_of strict xs) × (n ≡ count_of strict xs)
+Only strict = (xs : List ℕ) (r : Result Instruction DecodeError) (n : ℕ) → IsAnswer (rows_of packed) strict xs r n → (r ≡ answer_of strict xs) × (n ≡ count_of strict xs)
 
 -- What emit wrote is accepted, whatever stands behind it, and its parts are the fields.
 pub split_again : (strict : Bool) (f : fields.Fields) (rest : List ℕ) → Only strict → IsPermitted strict f → (i : Instruction) × (answer_of strict (joined (lists_in f) ++ rest) ≡ Ok i) × (parts_of strict (joined (lists_in f) ++ rest) ≡ lists_in f)
@@ -205,7 +205,7 @@ split_again strict f rest only h =
     let x = emitted strict f h in
     let s : List ℕ = joined (lists_in f) in
     let i : Instruction = instruction_of x.reading (length s) in
-    let accepted : IsAccepted (rows_of word_at) strict (s ++ rest) i (length s) = record {
+    let accepted : IsAccepted (rows_of packed) strict (s ++ rest) i (length s) = record {
       sentence = s;
       rest = rest;
       begins = refl;
@@ -227,7 +227,7 @@ short_test n h = grind (arith, nat_tests)
 
 module _ (strict : Bool) (s : List ℕ) (reading : Reading) (w : Encoding strict s reading) (f : fields.Fields) (h : HasParts strict s reading w (lists_in f)) where
   abbrev q : Prefixes
-  q = seen w.map w.opcode (reading_of w.run)
+  q = seen_by w.map w.opcode (reading_of w.run)
 
   abbrev entry : Entry
   entry = record { row = w.row; prefixes = q }
@@ -238,7 +238,7 @@ module _ (strict : Bool) (s : List ℕ) (reading : Reading) (w : Encoding strict
       ∙ ap (λ o. entry_at o (reading_of f.prefixes.items) f.opcode) (map_back w.map)
       ∙ ap (λ l. entry_at (Some w.map) (reading_of l) f.opcode) h.prefixes
       ∙ ap (λ l. entry_at (Some w.map) (reading_of w.run) (slice_index l 0)) h.opcode
-      ∙ ap (λ t. if t then entry_by (rows_of word_at w.map (column_of (reading_of w.run)) w.opcode) q else None) w.meant
+      ∙ ap (λ t. if t then entry_by (rows_of packed w.map (column_of (reading_of w.run)) w.opcode) q else None) w.meant
       ∙ ap (λ o. entry_by o q) w.has_row
 
   tail_is : tail_of f ≡ w.tail
@@ -247,13 +247,13 @@ module _ (strict : Bool) (s : List ℕ) (reading : Reading) (w : Encoding strict
       let t = a.behind.pieces in
       cc (h.modrm, h.address, h.immediate, h.suffix, a.spelled, t.spelled)
 
-  lock_is : lock_allowed reading ≡ true → has_lawful_lock strict entry f ≡ true
-  lock_is k = ap (λ l. allows_lock (record_step (record_in strict s reading w) q (record { left = l; since_mark = 0; since_made = 0 })).answer) tail_is ∙ reading_is (record_in strict s reading w) q w.tail reading w.asked ∙ k
+  lock_is : allows_lock reading ≡ true → has_lawful_lock strict entry f ≡ true
+  lock_is k = ap (λ l. answer_allows_lock (record_step (record_in strict s reading w) q (record { left = l; since_mark = 0; since_made = 0 })).answer) tail_is ∙ reading_is (record_in strict s reading w) q w.tail reading w.asked ∙ k
 
   pieces : HoldsPieces (record_in strict s reading w) q w.tail reading f w.asked
   pieces = record { modrm = h.modrm; sib = h.sib; address = h.address; immediate = h.immediate; suffix = h.suffix }
 
-  pub permitted : lock_allowed reading ≡ true → length s ≤ 15 → IsPermitted strict f
+  pub permitted : allows_lock reading ≡ true → length s ≤ 15 → IsPermitted strict f
   unfolding first_failing
   permitted lock short =
       let r = record_in strict s reading w in
@@ -266,7 +266,7 @@ module _ (strict : Bool) (s : List ℕ) (reading : Reading) (w : Encoding strict
       go_on (has_legal_run f) error.Prefixes (failing_at strict (entry_of f) f) legal (ap (λ o. failing_at strict o f) entry_is ∙ at)
 
 -- Emitting the fields of a split gives the encoding's very bytes.
-pub emitted_again : (strict : Bool) (bytes : List ℕ) (i : Instruction) (f : fields.Fields) → IsAccepted (rows_of word_at) strict bytes i (count_of strict bytes) → i.length ≡ count_of strict bytes → lists_in f ≡ parts_of strict bytes → IsPermitted strict f × (joined (lists_in f) ≡ take i.length bytes)
+pub emitted_again : (strict : Bool) (bytes : List ℕ) (i : Instruction) (f : fields.Fields) → IsAccepted (rows_of packed) strict bytes i (count_of strict bytes) → i.length ≡ count_of strict bytes → lists_in f ≡ parts_of strict bytes → IsPermitted strict f × (joined (lists_in f) ≡ take i.length bytes)
 emitted_again strict bytes i f a counted e =
     let x = a.is in
     let s = a.sentence in
@@ -291,7 +291,7 @@ permitted_are_parts strict f = (there, back)
     back k = permitted strict (joined (lists_in f)) k.sentence.reading k.sentence.whole f k.parts k.sentence.lock k.sentence.short
 
 -- The parts of an accepted encoding have lengths that fields can hold.
-pub parts_fit : (strict : Bool) (bytes : List ℕ) (i : Instruction) → IsAccepted (rows_of word_at) strict bytes i (count_of strict bytes) → HasFieldLengths (parts_of strict bytes)
+pub parts_fit : (strict : Bool) (bytes : List ℕ) (i : Instruction) → IsAccepted (rows_of packed) strict bytes i (count_of strict bytes) → HasFieldLengths (parts_of strict bytes)
 parts_fit strict bytes i a =
     let x = a.is in
     let h : HasParts strict a.sentence x.reading x.whole (parts_of strict bytes) =

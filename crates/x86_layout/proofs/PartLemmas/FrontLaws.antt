@@ -3,19 +3,19 @@ use Rattle.std.proofs.Common.{◌≡◌, ℕ, ◌==◌, ◌&&◌, Bool, true, fa
 use Rattle.std.specs.List.{prefix_len}
 use Rattle.x86_fields.specs.declared.prefixes.Prefixes.{Prefixes}
 use Rattle.x86_fields.specs.declared.raw.Raw.{Raw}
-use Rattle.x86_fields.specs.Run.{is_prefix_byte, reading_of}
+use Rattle.x86_fields.specs.Run.{is_prefix, reading_of}
 use Rattle.x86_fields.specs.ModRM.{rm_field, is_memory}
-use Rattle.x86_fields.specs.Raw.{disp_width}
+use Rattle.x86_fields.specs.Raw.{displacement_width}
 use Rattle.x86_fields.specs.Pieces.{option_bytes, first_byte}
 use Rattle.x86_operands.specs.declared.asks.Ask.{Ask}
 use Rattle.x86_operands.specs.declared.reader.Reading.{Reading}
 use Rattle.x86_operands.specs.Plans.{RowRecord}
 use Rattle.x86_operands.specs.Pieces.{modrm_of, SpellsMemory, SpellsRow}
-use Rattle.x86_operands.specs.Asks.{used, ask_of}
-use Rattle.x86_decode.specs.Head.{escape_bytes, seen}
-use Rattle.x86_layout.specs.Parts.Heads.{map_by, one_if, asks_sib}
+use Rattle.x86_operands.specs.Asks.{used_modrm, ask_of}
+use Rattle.x86_decode.specs.Head.{escape_bytes, seen_by}
+use Rattle.x86_layout.specs.Parts.Heads.{map_of, one_if, asks_sib}
 use Rattle.x86_layout.specs.Parts.Split.{PartLists, Encoding, record_in, sib_width, HasParts}
-use Rattle.x86_layout.specs.Parts.Front.{ask_by, ask_behind, displacement_width, run_in, behind_run, map_in, behind_escape, opcode_in, tail_in, ask_in, modrm_in, behind_modrm, sib_in, behind_sib, displacement_in, behind_address, immediate_in, suffix_in, parts_of}
+use Rattle.x86_layout.specs.Parts.Front.{ask_by, ask_behind, asked_displacement_width, run_in, behind_run, map_in, behind_escape, opcode_in, tail_in, ask_in, modrm_in, behind_modrm, sib_in, behind_sib, displacement_in, behind_address, immediate_in, suffix_in, parts_of}
 use Rattle.x86_layout.proofs.PartLemmas.PartLaws.{front_is, rest_is, run_length_is, map_is, enters, as_it_stands, read_as, modrm_count, sib_count, immediate_count, suffix_count}
 
 -- ---- SIB and displacement
@@ -25,7 +25,7 @@ pub record AddressParts (m : ℕ) (address : List ℕ) : Type 0 where
   pub disp : List ℕ
   pub spelled : address ≡ sib ++ disp
   pub sib_long : length sib ≡ sib_width m
-  pub disp_long : length disp ≡ (if is_memory m then disp_width m (first_byte sib) else 0)
+  pub disp_long : length disp ≡ (if is_memory m then displacement_width m (first_byte sib) else 0)
 
 pub option_count : (o : Option ℕ) → length (option_bytes o) ≡ one_if (is_some o)
 option_count None = refl
@@ -41,7 +41,7 @@ address_parts p m address None h = record {
   disp = [];
   spelled = h.1;
   sib_long = subst (λ t. 0 ≡ one_if (t && rm_field m == 4)) (sym h.0) refl;
-  disp_long = subst (λ t. 0 ≡ (if t then disp_width m None else 0)) (sym h.0) refl;
+  disp_long = subst (λ t. 0 ≡ (if t then displacement_width m None else 0)) (sym h.0) refl;
 }
 address_parts p m address (Some raw) h =
     let s = h.1 in
@@ -50,13 +50,13 @@ address_parts p m address (Some raw) h =
       disp = s.disp;
       spelled = s.spelled;
       sib_long = option_count s.sib ∙ ap one_if s.sib_asked ∙ subst (λ t. one_if (rm_field m == 4) ≡ one_if (t && rm_field m == 4)) (sym h.0) refl;
-      disp_long = s.disp_asked ∙ ap (disp_width m) (sym (first_of s.sib)) ∙ subst (λ t. disp_width m (first_byte (option_bytes s.sib)) ≡ (if t then disp_width m (first_byte (option_bytes s.sib)) else 0)) (sym h.0) refl;
+      disp_long = s.disp_asked ∙ ap (displacement_width m) (sym (first_of s.sib)) ∙ subst (λ t. displacement_width m (first_byte (option_bytes s.sib)) ≡ (if t then displacement_width m (first_byte (option_bytes s.sib)) else 0)) (sym h.0) refl;
     }
 
 -- in a memory form that is read as such, the byte is as it stands
-disp_by : (memory : Bool) (raw used : ℕ) (sib : Option ℕ) → (memory ≡ true → used ≡ raw) → (if memory then disp_width raw sib else 0) ≡ (if memory then disp_width used sib else 0)
-disp_by true raw used sib h = ap (λ m. disp_width m sib) (sym (h refl))
-disp_by false raw used sib h = refl
+disp_by : (memory : Bool) (raw used_modrm : ℕ) (sib : Option ℕ) → (memory ≡ true → used_modrm ≡ raw) → (if memory then displacement_width raw sib else 0) ≡ (if memory then displacement_width used_modrm sib else 0)
+disp_by true raw used_modrm sib h = ap (λ m. displacement_width m sib) (sym (h refl))
+disp_by false raw used_modrm sib h = refl
 
 -- ---- behind the opcode byte
 
@@ -77,13 +77,13 @@ module _ (r : RowRecord) (p : Prefixes) (tail : List ℕ) (reading : Reading) (a
   begins : all ≡ a.modrm ++ (a.tail ++ rest)
   begins = e ∙ ap (λ l. l ++ rest) a.spelled ∙ append_assoc a.modrm a.tail rest
 
-  width_is : (sib : List ℕ) → displacement_width ask first sib ≡ (if is_memory m then disp_width m (first_byte sib) else 0)
+  width_is : (sib : List ℕ) → asked_displacement_width ask first sib ≡ (if is_memory m then displacement_width m (first_byte sib) else 0)
   unfolding ask_of
   width_is sib =
       let u = r.modrm in
-      ap (λ x. displacement_width x first sib) k
-      ∙ disp_by (is_memory (used u first)) first (used u first) (first_byte sib) (as_it_stands u first)
-      ∙ ap (λ n. if is_memory n then disp_width n (first_byte sib) else 0) (sym (read_as r p tail reading a all (a.tail ++ rest) begins ask k))
+      ap (λ x. asked_displacement_width x first sib) k
+      ∙ disp_by (is_memory (used_modrm u first)) first (used_modrm u first) (first_byte sib) (as_it_stands u first)
+      ∙ ap (λ n. if is_memory n then displacement_width n (first_byte sib) else 0) (sym (read_as r p tail reading a all (a.tail ++ rest) begins ask k))
 
   pub has_tail : HasTail r p tail reading a ask all
   has_tail =
@@ -100,7 +100,7 @@ module _ (r : RowRecord) (p : Prefixes) (tail : List ℕ) (reading : Reading) (a
       let sib_n : one_if (asks_sib ask first) ≡ length x.sib = sib_count r p tail reading a all more begins ask k ∙ sym x.sib_long in
       let sib : sib_in ask all ≡ x.sib = front_is _ x.sib (x.disp ++ last) _ row_rest sib_n in
       let sib_rest : behind_sib ask all ≡ x.disp ++ last = rest_is _ x.sib (x.disp ++ last) _ row_rest sib_n in
-      let disp_n : displacement_width ask first (sib_in ask all) ≡ length x.disp = ap (displacement_width ask first) sib ∙ width_is x.sib ∙ sym x.disp_long in
+      let disp_n : asked_displacement_width ask first (sib_in ask all) ≡ length x.disp = ap (asked_displacement_width ask first) sib ∙ width_is x.sib ∙ sym x.disp_long in
       let disp : displacement_in ask all ≡ x.disp = front_is _ x.disp last _ sib_rest disp_n in
       let address_rest : behind_address ask all ≡ last = rest_is _ x.disp last _ sib_rest disp_n in
       let immediate_n = immediate_count r p tail reading a all more begins ask k in
@@ -131,11 +131,11 @@ has_head strict s rest reading w =
     ap (λ l. l ++ rest) w.spelled ∙ append_assoc w.run (escape_bytes w.map ++ w.opcode ∷ w.tail) rest
     ∙ ap (λ l. w.run ++ l) (append_assoc (escape_bytes w.map) (w.opcode ∷ w.tail) rest) in
     let in' = enters w.map w.opcode tail' w.meant in
-    let run_n : prefix_len is_prefix_byte bytes ≡ length w.run =
-    ap (prefix_len is_prefix_byte) (spelled ∙ ap (λ l. w.run ++ l) in'.spelled) ∙ run_length_is w.run in'.first in'.rest w.prefixes in'.plain in
+    let run_n : prefix_len is_prefix bytes ≡ length w.run =
+    ap (prefix_len is_prefix) (spelled ∙ ap (λ l. w.run ++ l) in'.spelled) ∙ run_length_is w.run in'.first in'.rest w.prefixes in'.plain in
     let prefixes : run_in bytes ≡ w.run = front_is bytes w.run behind _ spelled run_n in
     let run_rest : behind_run bytes ≡ behind = rest_is bytes w.run behind _ spelled run_n in
-    let map : map_in bytes ≡ w.map = ap (λ l. map_by (slice_index l 0) (slice_index l 1)) run_rest ∙ map_is w.map w.opcode tail' w.meant in
+    let map : map_in bytes ≡ w.map = ap (λ l. map_of (slice_index l 0) (slice_index l 1)) run_rest ∙ map_is w.map w.opcode tail' w.meant in
     let escape_rest : behind_escape bytes ≡ w.opcode ∷ tail' = rest_is _ (escape_bytes w.map) (w.opcode ∷ tail') _ run_rest (ap (λ x. length (escape_bytes x)) map) in
     let opcode : opcode_in bytes ≡ w.opcode ∷ [] = front_is _ (w.opcode ∷ []) tail' 1 escape_rest refl in
     let first : ℕ = slice_index (tail_in bytes) 0 in
@@ -148,7 +148,7 @@ has_head strict s rest reading w =
           ap (λ q. ask_behind strict q (map_in bytes) (slice_index (opcode_in bytes) 0) first) prefixes
           ∙ ap (λ q. ask_behind strict w.run q (slice_index (opcode_in bytes) 0) first) map
           ∙ ap (λ l. ask_behind strict w.run w.map (slice_index l 0) first) opcode
-          ∙ ap (λ o. ask_by strict o (seen w.map w.opcode (reading_of w.run)) first) w.has_row;
+          ∙ ap (λ o. ask_by strict o (seen_by w.map w.opcode (reading_of w.run)) first) w.has_row;
     }
 
 -- The parts of bytes that begin with a whole encoding are its pieces.
@@ -157,7 +157,7 @@ unfolding parts_of
 parts_are strict s rest reading w =
     let h = has_head strict s rest reading w in
     let bytes : List ℕ = s ++ rest in
-    let t = has_tail (record_in strict s reading w) (seen w.map w.opcode (reading_of w.run)) w.tail reading w.asked (tail_in bytes) rest h.tail (ask_in bytes strict) h.ask in
+    let t = has_tail (record_in strict s reading w) (seen_by w.map w.opcode (reading_of w.run)) w.tail reading w.asked (tail_in bytes) rest h.tail (ask_in bytes strict) h.ask in
     record {
       prefixes = h.prefixes;
       escape = ap escape_bytes h.map;

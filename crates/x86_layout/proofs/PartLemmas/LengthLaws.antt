@@ -2,13 +2,13 @@
 use Rattle.std.proofs.Common.{◌≡◌, ℕ, ◌+◌, ◌≤◌, ◌==◌, Bool, true, false, if◌then◌else◌, List, ◌∷◌, ◌++◌, length, Option, sym, ap, ◌∙◌, arith, length-append}
 use Rattle.x86_fields.specs.declared.prefixes.Prefixes.{Prefixes}
 use Rattle.x86_fields.specs.ModRM.{mod_field, is_memory}
-use Rattle.x86_fields.specs.Raw.{names_no_base, disp_width}
+use Rattle.x86_fields.specs.Raw.{names_no_base, displacement_width}
 use Rattle.x86_fields.specs.Run.{reading_of}
 use Rattle.x86_fields.specs.Pieces.{first_byte}
 use Rattle.x86_forms.specs.declared.Map.{Map}
 use Rattle.x86_forms.specs.declared.Map.TheVariants.{One, Of, Of38, Of3a}
 use Rattle.x86_forms.specs.declared.TableRow.{TableRow}
-use Rattle.x86_forms.specs.Groups.{is_group_form}
+use Rattle.x86_forms.specs.Groups.{is_group}
 use Rattle.x86_operands.specs.declared.plans.Verdict.{Verdict}
 use Rattle.x86_operands.specs.declared.plans.Verdict.TheVariants.{Accepts, NamedBySuffix, Refuses}
 use Rattle.x86_operands.specs.declared.plans.ModrmUse.{ModrmUse}
@@ -20,7 +20,7 @@ use Rattle.x86_operands.specs.Forms.{form_record}
 use Rattle.x86_operands.proofs.PlainLaws.{plain_narrow}
 use Rattle.x86_groups.specs.Groups.{group_record}
 use Rattle.x86_groups.proofs.GroupLaws.{group_narrow}
-use Rattle.x86_decode.specs.Head.{escape_bytes, seen}
+use Rattle.x86_decode.specs.Head.{escape_bytes, seen_by}
 use Rattle.x86_decode.specs.Grammar.{record_of}
 use Rattle.x86_layout.specs.Parts.Heads.{one_if}
 use Rattle.x86_layout.specs.Parts.Split.{PartLists, Encoding, record_in, sib_width, HasParts}
@@ -36,7 +36,7 @@ either : (b : Bool) (m n k : ℕ) → m ≤ k → n ≤ k → (if b then m else 
 either true m n k h g = h
 either false m n k h g = g
 
-disp_small : (m : ℕ) (sib : Option ℕ) → disp_width m sib ≤ 4
+disp_small : (m : ℕ) (sib : Option ℕ) → displacement_width m sib ≤ 4
 disp_small m sib =
     either (mod_field m == 1) 1 _ 4 (omega arith)
     (either (mod_field m == 2) 4 _ 4 (omega arith) (either (names_no_base m sib) 4 0 4 (omega arith) (omega arith)))
@@ -58,7 +58,7 @@ suffix_small NamedBySuffix = omega arith
 suffix_small (Refuses fault moment) = omega arith
 
 immediate_small : (strict : Bool) (row : TableRow) (p : Prefixes) (m : ℕ) → immediates_width ((record_of strict row p).plan m).signs ≤ 8
-immediate_small strict row p m = by (is_group_form row.form)
+immediate_small strict row p m = by (is_group row.form)
   where
     by : (t : Bool) → immediates_width ((if t then group_record strict row p else form_record row p).plan m).signs ≤ 8
     by true = group_narrow strict row p m
@@ -70,7 +70,7 @@ at_most n m k e h = omega (arith, e, h)
 pub lengths_of : (strict : Bool) (s : List ℕ) (reading : Reading) (w : Encoding strict s reading) (p : PartLists) → HasParts strict s reading w p → length s ≤ 15 → HasFieldLengths p
 lengths_of strict s reading w p h short =
     let r = record_in strict s reading w in
-    let q = seen w.map w.opcode (reading_of w.run) in
+    let q = seen_by w.map w.opcode (reading_of w.run) in
     let a = w.asked in
     let t = a.behind.pieces in
     let m : ℕ = modrm_of r.modrm a.modrm in

@@ -4,7 +4,7 @@ use Rattle.std.specs.List.{list_all, prefix_len}
 use Rattle.std.specs.Int.{from_bool}
 use Rattle.std.proofs.Math.Seq.{take-append_seam, drop-append_seam}
 use Rattle.std.proofs.lemmas.Bool.Decides.{nat_tests}
-use Rattle.x86_fields.specs.Run.{is_prefix_byte}
+use Rattle.x86_fields.specs.Run.{is_prefix}
 use Rattle.x86_fields.specs.ModRM.{rm_field, is_memory, as_register}
 use Rattle.x86_fields.specs.Pieces.{option_bytes, total}
 use Rattle.x86_fields.specs.declared.prefixes.Prefixes.{Prefixes}
@@ -20,11 +20,11 @@ use Rattle.x86_operands.specs.declared.plans.ModrmUse.{ModrmUse}
 use Rattle.x86_operands.specs.declared.plans.ModrmUse.TheVariants.{Absent, Fields, Registers}
 use Rattle.x86_operands.specs.Plans.{RowRecord}
 use Rattle.x86_operands.specs.Pieces.{immediate_width, modrm_of, modrm_width, suffix_width, SpellsSigns, SpellsMemory, SpellsRow}
-use Rattle.x86_operands.specs.Asks.{asks_modrm, asks_suffix, immediates_width, used, ask_of}
+use Rattle.x86_operands.specs.Asks.{asks_modrm, asks_suffix, immediates_width, used_modrm, ask_of}
 use Rattle.x86_decode.specs.Head.{is_run, escape_bytes, is_vex, is_opcode}
 use Rattle.x86_operands.specs.declared.asks.Ask.{Ask}
 use Rattle.x86_operands.specs.declared.reader.Reading.{Reading}
-use Rattle.x86_layout.specs.Parts.Heads.{map_by, one_if, asks_sib}
+use Rattle.x86_layout.specs.Parts.Heads.{map_of, one_if, asks_sib}
 use Rattle.x86_layout.specs.Parts.Split.{sib_width}
 use Rattle.x86_layout.specs.Parts.Permitted.{map_named}
 
@@ -64,22 +64,22 @@ none_by : (n : ℕ) (t : Bool) → t ≡ false → (if t then 1 + n else 0) ≡ 
 none_by n true e = absurd (let h : true ≡ false = e in cc)
 none_by n false e = refl
 
-pub run_length_is : (run : List ℕ) (c : ℕ) (rest : List ℕ) → is_run run ≡ true → is_prefix_byte c ≡ false → prefix_len is_prefix_byte (run ++ c ∷ rest) ≡ length run
-run_length_is [] c rest h e = none_by (prefix_len is_prefix_byte rest) (is_prefix_byte c) e
+pub run_length_is : (run : List ℕ) (c : ℕ) (rest : List ℕ) → is_run run ≡ true → is_prefix c ≡ false → prefix_len is_prefix (run ++ c ∷ rest) ≡ length run
+run_length_is [] c rest h e = none_by (prefix_len is_prefix rest) (is_prefix c) e
 run_length_is (b ∷ run) c rest h e =
-    let first : is_prefix_byte b ≡ true = and_left (is_prefix_byte b) (is_run run) h in
-    run_by b c (prefix_len is_prefix_byte (run ++ c ∷ rest)) (is_prefix_byte b) first ∙ ap suc (run_length_is run c rest (and_right (is_prefix_byte b) (is_run run) h) e)
+    let first : is_prefix b ≡ true = and_left (is_prefix b) (is_run run) h in
+    run_by b c (prefix_len is_prefix (run ++ c ∷ rest)) (is_prefix b) first ∙ ap suc (run_length_is run c rest (and_right (is_prefix b) (is_run run) h) e)
 
 one_more_of : (n : ℕ) → 1 + n ≡ suc n
 one_more_of n = omega arith
 
-all_by : (t : Bool) (x : ℕ) (xs : List ℕ) (n : ℕ) → is_prefix_byte x ≡ t → list_all is_prefix_byte (take n xs) ≡ true → list_all is_prefix_byte (take (if t then 1 + n else 0) (x ∷ xs)) ≡ true
+all_by : (t : Bool) (x : ℕ) (xs : List ℕ) (n : ℕ) → is_prefix x ≡ t → list_all is_prefix (take n xs) ≡ true → list_all is_prefix (take (if t then 1 + n else 0) (x ∷ xs)) ≡ true
 all_by true x xs n e h = rw (one_more_of n) (rw e h)
 all_by false x xs n e h = refl
 
-pub all_prefixes : (xs : List ℕ) → list_all is_prefix_byte (take (prefix_len is_prefix_byte xs) xs) ≡ true
+pub all_prefixes : (xs : List ℕ) → list_all is_prefix (take (prefix_len is_prefix xs) xs) ≡ true
 all_prefixes [] = refl
-all_prefixes (x ∷ xs) = all_by (is_prefix_byte x) x xs (prefix_len is_prefix_byte xs) refl (all_prefixes xs)
+all_prefixes (x ∷ xs) = all_by (is_prefix x) x xs (prefix_len is_prefix xs) refl (all_prefixes xs)
 
 -- ---- the escape
 
@@ -101,8 +101,8 @@ left_of a b h = grind arith
 right_of : (a b : Bool) → not (a || b) ≡ true → b ≡ false
 right_of a b h = grind arith
 
-pub map_is : (m : Map) (b : ℕ) (tail : List ℕ) → is_opcode m b ≡ true → map_by (slice_index (escape_bytes m ++ b ∷ tail) 0) (slice_index (escape_bytes m ++ b ∷ tail) 1) ≡ m
-map_is One b tail h = by_first true (b == 0x0f) _ (second_of (is_prefix_byte b) (b == 0x0f) (is_vex b) h)
+pub map_is : (m : Map) (b : ℕ) (tail : List ℕ) → is_opcode m b ≡ true → map_of (slice_index (escape_bytes m ++ b ∷ tail) 0) (slice_index (escape_bytes m ++ b ∷ tail) 1) ≡ m
+map_is One b tail h = by_first true (b == 0x0f) _ (second_of (is_prefix b) (b == 0x0f) (is_vex b) h)
 map_is Of b tail h = by_second (b == 0x38) (b == 0x3a) (left_of (b == 0x38) (b == 0x3a) h) (right_of (b == 0x38) (b == 0x3a) h)
 map_is Of38 b tail h = refl
 map_is Of3a b tail h = refl
@@ -131,28 +131,28 @@ more_bytes : (m : Map) (n : ℕ) → None ≡ (if length (escape_bytes m) == suc
 more_bytes m n = none_named _ m (longer_than m n)
 
 -- the escape of a map is the map by the first two bytes, where these have its length
-pub map_named_is : (l : List ℕ) → map_named l ≡ (let m : Map = map_by (slice_index l 0) (slice_index l 1) in if length (escape_bytes m) == length l then Some m else None)
+pub map_named_is : (l : List ℕ) → map_named l ≡ (let m : Map = map_of (slice_index l 0) (slice_index l 1) in if length (escape_bytes m) == length l then Some m else None)
 map_named_is [] = refl
 map_named_is (a ∷ []) = one_byte (a == 0x0f)
 map_named_is (a ∷ b ∷ []) = two_bytes (a == 0x0f) (b == 0x38) (b == 0x3a)
-map_named_is (a ∷ b ∷ c ∷ rest) = more_bytes (map_by a b) (length rest)
+map_named_is (a ∷ b ∷ c ∷ rest) = more_bytes (map_of a b) (length rest)
 
 -- the byte behind the run is no prefix
 pub record Enters (m : Map) (b : ℕ) (tail : List ℕ) : Type 0 where
   pub first : ℕ
   pub rest : List ℕ
   pub spelled : escape_bytes m ++ b ∷ tail ≡ first ∷ rest
-  pub plain : is_prefix_byte first ≡ false
+  pub plain : is_prefix first ≡ false
 
 pub enters : (m : Map) (b : ℕ) (tail : List ℕ) → is_opcode m b ≡ true → Enters m b tail
-enters One b tail h = record { first = b; rest = tail; spelled = refl; plain = left_of (is_prefix_byte b) ((b == 0x0f) || is_vex b) h }
+enters One b tail h = record { first = b; rest = tail; spelled = refl; plain = left_of (is_prefix b) ((b == 0x0f) || is_vex b) h }
 enters Of b tail h = record { first = 0x0f; rest = b ∷ tail; spelled = refl; plain = refl }
 enters Of38 b tail h = record { first = 0x0f; rest = 0x38 ∷ b ∷ tail; spelled = refl; plain = refl }
 enters Of3a b tail h = record { first = 0x0f; rest = 0x3a ∷ b ∷ tail; spelled = refl; plain = refl }
 
 -- ---- what a row asks
 
-pub used_is : (u : ModrmUse) (modrm more tail : List ℕ) → tail ≡ modrm ++ more → length modrm ≡ modrm_width u → modrm_of u modrm ≡ used u (slice_index tail 0)
+pub used_is : (u : ModrmUse) (modrm more tail : List ℕ) → tail ≡ modrm ++ more → length modrm ≡ modrm_width u → modrm_of u modrm ≡ used_modrm u (slice_index tail 0)
 used_is Absent modrm more tail e h = refl
 used_is Fields [] more tail e h = absurd (omega arith)
 used_is Fields (m ∷ rest) more tail e h = sym (ap (λ l. slice_index l 0) e)
@@ -178,20 +178,20 @@ suffix_long (Refuses fault moment) suffix e = sym e
 -- ---- SIB
 
 -- in a memory form that is read as such, the byte is as it stands
-sib_by : (memory : Bool) (used raw : ℕ) → (memory ≡ true → used ≡ raw) → (memory && rm_field raw == 4) ≡ (memory && rm_field used == 4)
-sib_by true used raw h = ap (λ m. rm_field m == 4) (sym (h refl))
-sib_by false used raw h = refl
+sib_by : (memory : Bool) (used_modrm raw : ℕ) → (memory ≡ true → used_modrm ≡ raw) → (memory && rm_field raw == 4) ≡ (memory && rm_field used_modrm == 4)
+sib_by true used_modrm raw h = ap (λ m. rm_field m == 4) (sym (h refl))
+sib_by false used_modrm raw h = refl
 
 large : (m : ℕ) → is_memory (as_register m) ≡ false
 large m = grind (arith, nat_tests)
 
-pub as_it_stands : (u : ModrmUse) (m : ℕ) → is_memory (used u m) ≡ true → used u m ≡ m
+pub as_it_stands : (u : ModrmUse) (m : ℕ) → is_memory (used_modrm u m) ≡ true → used_modrm u m ≡ m
 as_it_stands Absent m e = absurd (let h : false ≡ true = e in cc)
 as_it_stands Fields m e = refl
 as_it_stands Registers m e = absurd (let h : false ≡ true = sym (large m) ∙ e in cc)
 
-pub sib_asked : (u : ModrmUse) (m : ℕ) → one_if (is_memory (used u m) && rm_field m == 4) ≡ sib_width (used u m)
-sib_asked u m = ap one_if (sib_by (is_memory (used u m)) (used u m) m (as_it_stands u m))
+pub sib_asked : (u : ModrmUse) (m : ℕ) → one_if (is_memory (used_modrm u m) && rm_field m == 4) ≡ sib_width (used_modrm u m)
+sib_asked u m = ap one_if (sib_by (is_memory (used_modrm u m)) (used_modrm u m) m (as_it_stands u m))
 
 option_long : (sib : Option ℕ) (disp : List ℕ) → one_if (is_some sib) ≤ length (option_bytes sib ++ disp)
 option_long None disp = omega arith
@@ -212,7 +212,7 @@ sib_within p m address (Some raw) h =
 
 -- behind the pieces of a row stand further bytes
 module _ (r : RowRecord) (p : Prefixes) (tail : List ℕ) (reading : Reading) (a : SpellsRow r p tail reading) (all more : List ℕ) (e : all ≡ a.modrm ++ more) (ask : Ask) (k : ask ≡ ask_of r (slice_index all 0)) where
-  pub read_as : modrm_of r.modrm a.modrm ≡ used r.modrm (slice_index all 0)
+  pub read_as : modrm_of r.modrm a.modrm ≡ used_modrm r.modrm (slice_index all 0)
   read_as = used_is r.modrm a.modrm more all e a.modrm_asked
 
   pub modrm_count : one_if ask.modrm ≡ length a.modrm

@@ -6,7 +6,7 @@ use Rattle.std.proofs.lemmas.Bool.Decides.{nat_tests}
 use Rattle.x86_fields.specs.declared.prefixes.Prefixes.{Prefixes}
 use Rattle.x86_fields.specs.declared.raw.Raw.{Raw}
 use Rattle.x86_fields.specs.ModRM.{rm_field, is_memory}
-use Rattle.x86_fields.specs.Raw.{disp_width, rex_b, rex_x}
+use Rattle.x86_fields.specs.Raw.{displacement_width, has_b, has_x}
 use Rattle.x86_fields.specs.Pieces.{option_bytes, first_byte, signed_by, total}
 use Rattle.x86_operands.specs.declared.operands.Slot.{Slot}
 use Rattle.x86_operands.specs.declared.operands.Operand.{Operand}
@@ -19,7 +19,7 @@ use Rattle.x86_operands.specs.declared.reader.Reading.{Reading}
 use Rattle.x86_operands.specs.Plans.{RowRecord, list_of}
 use Rattle.x86_operands.specs.Pieces.{immediate_width, sign_gives, modrm_of, modrm_width, suffix_width, opcode_by, is_refusal, SpellsSigns, SpellsMemory, SpellsRow}
 use Rattle.x86_operands.specs.Signs.{four_of, reading_from}
-use Rattle.x86_operands.specs.Suffix.{opcode_of_suffix}
+use Rattle.x86_operands.specs.Suffix.{suffix_opcode}
 use Rattle.x86_operands.specs.Asks.{asks_modrm, asks_suffix, immediates_width, record_at}
 use Rattle.x86_layout.specs.declared.parts.fields.Fields as fields
 use Rattle.x86_layout.specs.Parts.Heads.{one_if}
@@ -91,9 +91,9 @@ none_left (Some b) disp e h = absurd (let k : 1 ≡ 0 = e in omega (arith, k))
 spell_memory : (p : Prefixes) (m : ℕ) (sib : Option ℕ) (disp : List ℕ) → one_if (is_some sib) ≡ sib_width m → length disp ≡ displacement_asked m sib → (memory : Option Raw) × SpellsMemory p m (option_bytes sib ++ disp) memory
 spell_memory p m sib disp e h = by (is_memory m) refl e h
   where
-    by : (t : Bool) → is_memory m ≡ t → one_if (is_some sib) ≡ one_if (t && rm_field m == 4) → length disp ≡ (if t then disp_width m sib else 0) → (memory : Option Raw) × SpellsMemory p m (option_bytes sib ++ disp) memory
+    by : (t : Bool) → is_memory m ≡ t → one_if (is_some sib) ≡ one_if (t && rm_field m == 4) → length disp ≡ (if t then displacement_width m sib else 0) → (memory : Option Raw) × SpellsMemory p m (option_bytes sib ++ disp) memory
     by true is e h = (
-      Some (record { rex_b = rex_b p; rex_x = rex_x p; address_size = p.address_size; modrm = m; sib = sib; disp = signed_by (disp_width m sib) disp }),
+      Some (record { rex_b = has_b p; rex_x = has_x p; address_size = p.address_size; modrm = m; sib = sib; disp = signed_by (displacement_width m sib) disp }),
       (is, record { sib = sib; disp = disp; spelled = refl; sib_asked = same_bool (is_some sib) (rm_field m == 4) e; disp_asked = h; fields = refl }),
     )
     by false is e h = (None, (is, none_left sib disp e h))
@@ -116,7 +116,7 @@ accepted_by true true None h e = absurd (let k : 0 ≡ 1 = e in omega (arith, k)
 
 named_by : (v : Verdict) (opcode : ℕ) (suffix : Option ℕ) → is_refusal v ≡ false → not (refuses_suffix v suffix) ≡ true → one_if (is_some suffix) ≡ one_if (asks_suffix v) → (o : ℕ) × (opcode_by v opcode (option_bytes suffix) ≡ Some o)
 named_by Accepts opcode suffix a h e = (opcode, refl)
-named_by NamedBySuffix opcode (Some b) a h e = some_is (opcode_of_suffix b) h
+named_by NamedBySuffix opcode (Some b) a h e = some_is (suffix_opcode b) h
 named_by NamedBySuffix opcode None a h e = absurd (let k : 0 ≡ 1 = e in omega (arith, k))
 named_by (Refuses fault moment) opcode suffix a h e = absurd (let k : true ≡ false = a in cc)
 
@@ -246,8 +246,8 @@ module _ (r : RowRecord) (p : Prefixes) (tail : List ℕ) (reading : Reading) (f
       let back : f.displacement.items ≡ x.disp =
       sym (rest_is t.address (option_bytes f.sib) f.displacement.items (sib_width n) (sym h.address) (sym h.sib)) ∙ rest_is t.address x.sib x.disp (sib_width n) x.spelled (sym x.sib_long) in
       ap length back ∙ x.disp_long
-      ∙ ap (λ l. if is_memory n then disp_width n (first_byte l) else 0) front
-      ∙ ap (λ o. if is_memory n then disp_width n o else 0) (first_of f.sib)
+      ∙ ap (λ l. if is_memory n then displacement_width n (first_byte l) else 0) front
+      ∙ ap (λ o. if is_memory n then displacement_width n o else 0) (first_of f.sib)
       ∙ ap (λ k. displacement_asked k f.sib) same_at
 
   pub asked : has_asked_parts (record_at r f.modrm) f ≡ true

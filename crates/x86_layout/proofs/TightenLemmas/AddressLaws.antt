@@ -9,13 +9,13 @@ use Rattle.x86_fields.specs.declared.prefixes.Prefixes.{Prefixes}
 use Rattle.x86_fields.specs.declared.rex.PrefixRex.{PrefixRex}
 use Rattle.x86_fields.specs.declared.raw.Raw.{Raw}
 use Rattle.x86_fields.specs.ModRM.{mod_field, rm_field, is_memory}
-use Rattle.x86_fields.specs.Raw.{live_bit, disp_width, names_no_base, sib_fits, is_zero, is_byte, disp_fits, fits, rex_b, rex_x}
+use Rattle.x86_fields.specs.Raw.{live_bit, displacement_width, names_no_base, sib_fits, is_zero, is_byte, disp_fits, fits, has_b, has_x}
 use Rattle.x86_fields.specs.Pieces.{option_bytes, signed_by}
 use Rattle.x86_operands.specs.Pieces.{SpellsMemory}
 use Rattle.x86_decode.proofs.ByteLaws.{Bytes, bytes_behind, memory_fits}
 use Rattle.x86_layout.specs.Tightening.Registers.{IsByteOption}
 use Rattle.x86_layout.specs.Tightening.Shortest.{address_length, IsOfBytes}
-use Rattle.x86_layout.specs.Tightening.Tighten.{bits_in, displacement_bytes, address_bytes}
+use Rattle.x86_layout.specs.Tightening.Tighten.{bits_in, spelled_displacement, address_bytes}
 use Rattle.x86_layout.proofs.TightenLemmas.FieldLaws.{first_of_three, second_of_three, third_of_three}
 use Rattle.x86_layout.proofs.PartLemmas.FrontLaws.{option_count}
 
@@ -58,7 +58,7 @@ of_bytes p m address raw h b =
     let both : Bytes (option_bytes s.sib ++ s.disp) = subst Bytes s.spelled b in
     let disp : Bytes s.disp = bytes_behind (option_bytes s.sib) s.disp both in
     record {
-      fit = ap fits s.fields ∙ all_three (is_memory m) (sib_fits m s.sib) _ h.0 (sib_fits_by m s.sib s.sib_asked) (spelled_disp_fits (disp_width m s.sib) s.disp disp);
+      fit = ap fits s.fields ∙ all_three (is_memory m) (sib_fits m s.sib) _ h.0 (sib_fits_by m s.sib s.sib_asked) (spelled_disp_fits (displacement_width m s.sib) s.disp disp);
       sib = subst (λ r. IsByteOption r.sib) (sym s.fields) (front_byte s.sib s.disp both);
       disp = memory_fits p m address (Some raw) raw h refl b;
     }
@@ -105,7 +105,7 @@ signed_back_by false true none d e f = four_back d f
 signed_back_by false false true d e f = four_back d f
 signed_back_by false false false d e f = zero_back d e
 
-signed_back : (modrm : ℕ) (sib : Option ℕ) (d : ℤ) → disp_fits (disp_width modrm sib) d ≡ true → FitsSigned w32 d → signed_by (disp_width modrm sib) (Lowest (disp_width modrm sib) d) ≡ d
+signed_back : (modrm : ℕ) (sib : Option ℕ) (d : ℤ) → disp_fits (displacement_width modrm sib) d ≡ true → FitsSigned w32 d → signed_by (displacement_width modrm sib) (Lowest (displacement_width modrm sib) d) ≡ d
 signed_back modrm sib d e f = signed_back_by (mod_field modrm == 1) (mod_field modrm == 2) (names_no_base modrm sib) d e f
 
 lowest_long_by : (one two none : Bool) (d : ℤ) → length (Lowest (Width one two none) d) ≡ Width one two none
@@ -114,7 +114,7 @@ lowest_long_by false true none d = refl
 lowest_long_by false false true d = refl
 lowest_long_by false false false d = refl
 
-displacement_long : (raw : Raw) → length (displacement_bytes raw) ≡ disp_width raw.modrm raw.sib
+displacement_long : (raw : Raw) → length (spelled_displacement raw) ≡ displacement_width raw.modrm raw.sib
 displacement_long raw = lowest_long_by (mod_field raw.modrm == 1) (mod_field raw.modrm == 2) (names_no_base raw.modrm raw.sib) raw.disp
 
 sib_asked : (modrm : ℕ) (sib : Option ℕ) → sib_fits modrm sib ≡ true → is_some sib ≡ (rm_field modrm == 4)
@@ -125,30 +125,30 @@ sib_asked modrm None e = turned (rm_field modrm == 4) e
 sib_asked modrm (Some sib) e = sym e
 
 memory_of : (raw : Raw) → IsOfBytes raw → is_memory raw.modrm ≡ true
-memory_of raw h = first_of_three (is_memory raw.modrm) (sib_fits raw.modrm raw.sib) (disp_fits (disp_width raw.modrm raw.sib) raw.disp) h.fit
+memory_of raw h = first_of_three (is_memory raw.modrm) (sib_fits raw.modrm raw.sib) (disp_fits (displacement_width raw.modrm raw.sib) raw.disp) h.fit
 
 -- the bytes of raw fields spell them, under prefixes with their bits
-pub respells : (q : Prefixes) (raw : Raw) → IsOfBytes raw → rex_b q ≡ raw.rex_b → rex_x q ≡ raw.rex_x → q.address_size ≡ raw.address_size → SpellsMemory q raw.modrm (address_bytes raw) (Some raw)
+pub respells : (q : Prefixes) (raw : Raw) → IsOfBytes raw → has_b q ≡ raw.rex_b → has_x q ≡ raw.rex_x → q.address_size ≡ raw.address_size → SpellsMemory q raw.modrm (address_bytes raw) (Some raw)
 respells q raw h b x short =
-    let width : ℕ = disp_width raw.modrm raw.sib in
+    let width : ℕ = displacement_width raw.modrm raw.sib in
     let value = signed_back raw.modrm raw.sib raw.disp (third_of_three (is_memory raw.modrm) (sib_fits raw.modrm raw.sib) (disp_fits width raw.disp) h.fit) h.disp in (
       memory_of raw h,
       record {
         sib = raw.sib;
-        disp = displacement_bytes raw;
+        disp = spelled_displacement raw;
         spelled = refl;
         sib_asked = sib_asked raw.modrm raw.sib (second_of_three (is_memory raw.modrm) (sib_fits raw.modrm raw.sib) (disp_fits width raw.disp) h.fit);
         disp_asked = displacement_long raw;
         fields =
             ap (λ t. record raw { rex_b = t }) (sym b)
-            ∙ ap (λ t. record raw { rex_b = rex_b q; rex_x = t }) (sym x)
-            ∙ ap (λ t. record raw { rex_b = rex_b q; rex_x = rex_x q; address_size = t }) (sym short)
-            ∙ ap (λ d. record raw { rex_b = rex_b q; rex_x = rex_x q; address_size = q.address_size; disp = d }) (sym value);
+            ∙ ap (λ t. record raw { rex_b = has_b q; rex_x = t }) (sym x)
+            ∙ ap (λ t. record raw { rex_b = has_b q; rex_x = has_x q; address_size = t }) (sym short)
+            ∙ ap (λ d. record raw { rex_b = has_b q; rex_x = has_x q; address_size = q.address_size; disp = d }) (sym value);
       },
     )
 
 pub address_bytes_long : (raw : Raw) → length (address_bytes raw) ≡ address_length raw
-address_bytes_long raw = length-append (option_bytes raw.sib) (displacement_bytes raw) ∙ ap (λ n. n + length (displacement_bytes raw)) (option_count raw.sib) ∙ ap (λ n. (if is_some raw.sib then 1 else 0) + n) (displacement_long raw)
+address_bytes_long raw = length-append (option_bytes raw.sib) (spelled_displacement raw) ∙ ap (λ n. n + length (spelled_displacement raw)) (option_count raw.sib) ∙ ap (λ n. (if is_some raw.sib then 1 else 0) + n) (displacement_long raw)
 
 -- ---- the bits of a REX
 

@@ -5,10 +5,10 @@ use Rattle.x86_regs.specs.declared.RegisterClass.{RegisterClass}
 use Rattle.x86_regs.specs.declared.RegisterClass.TheVariants.{D, Q, EIP, RIP}
 use Rattle.x86_fields.specs.declared.raw.Raw.{Raw}
 use Rattle.x86_fields.specs.ModRM.{mod_field, rm_field, scale_field, index_field, base_field, is_memory}
-use Rattle.x86_fields.specs.Raw.{disp_width, sib_fits, is_zero, is_byte, disp_fits}
-use Rattle.x86_fields.specs.Address.{extended, address_class, address_register, next_pointer, base_by, index_by, scale_by}
+use Rattle.x86_fields.specs.Raw.{displacement_width, sib_fits, is_zero, is_byte, disp_fits}
+use Rattle.x86_fields.specs.Address.{extend, address_class, address_register, next_pointer, base_by, index_by, scale_by}
 use Rattle.x86_fields.specs.Linear.{adds_to, adds_next, is_pointer}
-use Rattle.x86_layout.specs.Tightening.Registers.{is_ip_by, number_of, scale_named, times, counts, IsBelow16, IsIndex, IsByteOption}
+use Rattle.x86_layout.specs.Tightening.Registers.{is_ip_by, number_of, scale_named, times, part_weight, IsBelow16, IsIndex, IsByteOption}
 use Rattle.x86_layout.specs.Tightening.Shortest.{behind_base, bytes_by, field_bits}
 use Rattle.x86_layout.proofs.TightenLemmas.SpelledLaws.{no_fewer, low_of_extended, low_small, middle_small}
 
@@ -56,21 +56,21 @@ module _ (d : ℤ) (raw : Raw) where
       by zero false e = absurd (let g : false ≡ true = e in cc)
       by (suc n) five e = absurd (grind (arith, nat_tests, e))
 
-  sib_least : (t : Bool) (sib : ℕ) (i : Option ℕ) → ((mod_field raw.modrm == 0) && (base_field sib == 5)) ≡ t → is_memory raw.modrm ≡ true → disp_fits (disp_width raw.modrm (Some sib)) d ≡ true → bytes_by d (number_of (if t then None else Some (address_register raw raw.rex_b (base_field sib)))) i ≤ 1 + disp_width raw.modrm (Some sib)
+  sib_least : (t : Bool) (sib : ℕ) (i : Option ℕ) → ((mod_field raw.modrm == 0) && (base_field sib == 5)) ≡ t → is_memory raw.modrm ≡ true → disp_fits (displacement_width raw.modrm (Some sib)) d ≡ true → bytes_by d (number_of (if t then None else Some (address_register raw raw.rex_b (base_field sib)))) i ≤ 1 + displacement_width raw.modrm (Some sib)
   sib_least true sib i e h f = no_base_least (base_field sib == 5) e
-  sib_least false sib i e h f = with_sib_least _ i _ (behind_is_least (extended raw.rex_b (base_field sib)) (base_field sib) h (low_of_extended raw.rex_b (base_field sib) (low_small sib)) e f)
+  sib_least false sib i e h f = with_sib_least _ i _ (behind_is_least (extend raw.rex_b (base_field sib)) (base_field sib) h (low_of_extended raw.rex_b (base_field sib) (low_small sib)) e f)
 
-  pub least : (sib : Option ℕ) → is_memory raw.modrm ≡ true → sib_fits raw.modrm sib ≡ true → disp_fits (disp_width raw.modrm sib) d ≡ true → is_ip_by raw.modrm sib ≡ false → bytes_by d (number_of (base_by raw sib)) (number_of (index_by raw sib)) ≤ (if is_some sib then 1 else 0) + disp_width raw.modrm sib
+  pub least : (sib : Option ℕ) → is_memory raw.modrm ≡ true → sib_fits raw.modrm sib ≡ true → disp_fits (displacement_width raw.modrm sib) d ≡ true → is_ip_by raw.modrm sib ≡ false → bytes_by d (number_of (base_by raw sib)) (number_of (index_by raw sib)) ≤ (if is_some sib then 1 else 0) + displacement_width raw.modrm sib
   least None h g f e =
-      let low : field_bits (extended raw.rex_b (rm_field raw.modrm)) ≡ rm_field raw.modrm = low_of_extended raw.rex_b (rm_field raw.modrm) (low_small raw.modrm) in
-      let four : (field_bits (extended raw.rex_b (rm_field raw.modrm)) == 4) ≡ false = ap (λ n. n == 4) low ∙ not_true _ g in
-      subst (λ t. bytes_by d (Some (if t then next_pointer raw else address_register raw raw.rex_b (rm_field raw.modrm)).num) None ≤ 0 + disp_width raw.modrm None) (sym e)
-      (alone_least _ _ _ four (behind_is_least (extended raw.rex_b (rm_field raw.modrm)) (rm_field raw.modrm) h low e f))
+      let low : field_bits (extend raw.rex_b (rm_field raw.modrm)) ≡ rm_field raw.modrm = low_of_extended raw.rex_b (rm_field raw.modrm) (low_small raw.modrm) in
+      let four : (field_bits (extend raw.rex_b (rm_field raw.modrm)) == 4) ≡ false = ap (λ n. n == 4) low ∙ not_true _ g in
+      subst (λ t. bytes_by d (Some (if t then next_pointer raw else address_register raw raw.rex_b (rm_field raw.modrm)).num) None ≤ 0 + displacement_width raw.modrm None) (sym e)
+      (alone_least _ _ _ four (behind_is_least (extend raw.rex_b (rm_field raw.modrm)) (rm_field raw.modrm) h low e f))
   least (Some sib) h g f e = sib_least ((mod_field raw.modrm == 0) && (base_field sib == 5)) sib (number_of (index_by raw (Some sib))) refl h f
 
 -- ---- registers that may stand there
 
-extended_small : (bit : Bool) (n : ℕ) → n < 8 → extended bit n < 16
+extended_small : (bit : Bool) (n : ℕ) → n < 8 → extend bit n < 16
 extended_small true n h = omega arith
 extended_small false n h = omega arith
 
@@ -106,24 +106,24 @@ pointer : (short : Bool) → is_pointer (if short then EIP else RIP) ≡ true
 pointer true = refl
 pointer false = refl
 
-plain_counts : (c : RegisterClass) (n t r : ℕ) → is_pointer c ≡ false → n < 16 → adds_to (Some (record { num = n; class = c })) t r ≡ counts (Some n) t r
+plain_counts : (c : RegisterClass) (n t r : ℕ) → is_pointer c ≡ false → n < 16 → adds_to (Some (record { num = n; class = c })) t r ≡ part_weight (Some n) t r
 plain_counts c n t r e h =
     ap (λ p. if p then 0 else (if n % 16 == r then t else 0)) e ∙ ap (λ k. if k == r then t else 0) (let f : n % 16 ≡ n = omega arith in f)
 
-register_counts : (raw : Raw) (bit : Bool) (n t r : ℕ) → n < 8 → adds_to (Some (address_register raw bit n)) t r ≡ counts (Some (extended bit n)) t r
-register_counts raw bit n t r h = plain_counts (address_class raw) (extended bit n) t r (no_pointer raw.address_size) (extended_small bit n h)
+register_counts : (raw : Raw) (bit : Bool) (n t r : ℕ) → n < 8 → adds_to (Some (address_register raw bit n)) t r ≡ part_weight (Some (extend bit n)) t r
+register_counts raw bit n t r h = plain_counts (address_class raw) (extend bit n) t r (no_pointer raw.address_size) (extended_small bit n h)
 
 register_next : (raw : Raw) (bit : Bool) (n t : ℕ) → adds_next (Some (address_register raw bit n)) t ≡ 0
 register_next raw bit n t = ap (λ p. if p then t else 0) (no_pointer raw.address_size)
 
-pub base_counts : (raw : Raw) (sib : Option ℕ) (r : ℕ) → is_ip_by raw.modrm sib ≡ false → adds_to (base_by raw sib) 1 r ≡ counts (number_of (base_by raw sib)) 1 r
+pub base_counts : (raw : Raw) (sib : Option ℕ) (r : ℕ) → is_ip_by raw.modrm sib ≡ false → adds_to (base_by raw sib) 1 r ≡ part_weight (number_of (base_by raw sib)) 1 r
 base_counts raw None r e =
     ap (λ t. adds_to (Some (if t then next_pointer raw else address_register raw raw.rex_b (rm_field raw.modrm))) 1 r) e
     ∙ register_counts raw raw.rex_b (rm_field raw.modrm) 1 r (low_small raw.modrm)
-    ∙ sym (ap (λ t. counts (Some (if t then next_pointer raw else address_register raw raw.rex_b (rm_field raw.modrm)).num) 1 r) e)
+    ∙ sym (ap (λ t. part_weight (Some (if t then next_pointer raw else address_register raw raw.rex_b (rm_field raw.modrm)).num) 1 r) e)
 base_counts raw (Some sib) r e = by ((mod_field raw.modrm == 0) && (base_field sib == 5))
   where
-    by : (t : Bool) → adds_to (if t then None else Some (address_register raw raw.rex_b (base_field sib))) 1 r ≡ counts (number_of (if t then None else Some (address_register raw raw.rex_b (base_field sib)))) 1 r
+    by : (t : Bool) → adds_to (if t then None else Some (address_register raw raw.rex_b (base_field sib))) 1 r ≡ part_weight (number_of (if t then None else Some (address_register raw raw.rex_b (base_field sib)))) 1 r
     by true = refl
     by false = register_counts raw raw.rex_b (base_field sib) 1 r (low_small sib)
 
@@ -134,13 +134,13 @@ scale_is (suc (suc zero)) h = refl
 scale_is (suc (suc (suc zero))) h = refl
 scale_is (suc (suc (suc (suc n)))) h = absurd (omega (arith, h))
 
-pub index_counts : (raw : Raw) (sib : Option ℕ) (r : ℕ) → IsByteOption sib → adds_to (index_by raw sib) (scale_by sib) r ≡ counts (number_of (index_by raw sib)) (times (scale_named (scale_by sib))) r
+pub index_counts : (raw : Raw) (sib : Option ℕ) (r : ℕ) → IsByteOption sib → adds_to (index_by raw sib) (scale_by sib) r ≡ part_weight (number_of (index_by raw sib)) (times (scale_named (scale_by sib))) r
 index_counts raw None r h = refl
 index_counts raw (Some sib) r h = by ((index_field sib == 4) && not raw.rex_x)
   where
-    by : (t : Bool) → adds_to (if t then None else Some (address_register raw raw.rex_x (index_field sib))) (2 ^ scale_field sib) r ≡ counts (number_of (if t then None else Some (address_register raw raw.rex_x (index_field sib)))) (times (scale_named (2 ^ scale_field sib))) r
+    by : (t : Bool) → adds_to (if t then None else Some (address_register raw raw.rex_x (index_field sib))) (2 ^ scale_field sib) r ≡ part_weight (number_of (if t then None else Some (address_register raw raw.rex_x (index_field sib)))) (times (scale_named (2 ^ scale_field sib))) r
     by true = refl
-    by false = register_counts raw raw.rex_x (index_field sib) (2 ^ scale_field sib) r (middle_small sib) ∙ ap (λ n. counts (Some (extended raw.rex_x (index_field sib))) n r) (scale_is (scale_field sib) (omega (arith, h)))
+    by false = register_counts raw raw.rex_x (index_field sib) (2 ^ scale_field sib) r (middle_small sib) ∙ ap (λ n. part_weight (Some (extend raw.rex_x (index_field sib))) n r) (scale_is (scale_field sib) (omega (arith, h)))
 
 pub base_next : (raw : Raw) (sib : Option ℕ) → adds_next (base_by raw sib) 1 ≡ (if is_ip_by raw.modrm sib then 1 else 0)
 base_next raw None = by ((mod_field raw.modrm == 0) && (rm_field raw.modrm == 5))

@@ -7,7 +7,7 @@ use Rattle.x86_operands.specs.Asks.{ask_of}
 use Rattle.x86_layout.specs.Parts.Front.{ask_in, parts_of}
 use Rattle.x86_decode.specs.declared.instructions.Instruction.{Instruction}
 use Rattle.x86_decode.specs.Answer.{answer_of}
-use Rattle.x86_layout.specs.Tightening.Least.{least_by, least_for, least_in, least_of}
+use Rattle.x86_layout.specs.Tightening.Least.{least_by, least_for, least_length, shortest_length}
 use Rattle.x86_layout.specs.Parts.Split.{Encoding, HasParts}
 use Rattle.x86_layout.specs.Tightening.Registers.{is_ip_relative}
 use Rattle.x86_layout.specs.Tightening.Shortest.{shortest, address_length, IsOfBytes}
@@ -31,28 +31,28 @@ module _ (strict : Bool) (s : List ℕ) (a : Reading) (v : Encoding strict s a) 
   has_parts : HasParts strict s a v (parts_of strict s)
   has_parts = subst (λ l. HasParts strict s a v (parts_of strict l)) (append-nil s) (parts_are strict s [] a v)
 
-  least_is : (memory : Bool) (raw : Raw) → is_memory (Byte strict s a v) ≡ memory → raw_of (parts_of strict s) ≡ raw → least_in strict s ≡ least_by memory raw (length s)
-  unfolding least_in
+  least_is : (memory : Bool) (raw : Raw) → is_memory (Byte strict s a v) ≡ memory → raw_of (parts_of strict s) ≡ raw → least_length strict s ≡ least_by memory raw (length s)
+  unfolding least_length
   least_is memory raw e f =
       ap (λ t. least_by t (raw_of (parts_of strict s)) (length s)) (reads ∙ e)
       ∙ ap (λ r. least_by memory r (length s)) f
 
-  pub least_without : is_memory (Byte strict s a v) ≡ false → least_in strict s ≡ length s
+  pub least_without : is_memory (Byte strict s a v) ≡ false → least_length strict s ≡ length s
   least_without e = least_is false (raw_of (parts_of strict s)) e refl
 
   module _ (raw : Raw) (read : v.asked.behind.pieces.memory ≡ Some raw) where
-    least_with : (ip : Bool) → is_ip_relative raw ≡ ip → least_in strict s ≡ (if true && not ip then (length s - address_length raw) + address_length (shortest raw) else length s)
+    least_with : (ip : Bool) → is_ip_relative raw ≡ ip → least_length strict s ≡ (if true && not ip then (length s - address_length raw) + address_length (shortest raw) else length s)
     least_with ip e =
         least_is true raw (spells strict s a v raw read).0 (fields_are strict s a v raw read (parts_of strict s) (has_parts))
         ∙ ap (λ t. if true && not t then (length s - address_length raw) + address_length (shortest raw) else length s) e
 
-    pub least_at_ip : is_ip_relative raw ≡ true → least_in strict s ≡ length s
+    pub least_at_ip : is_ip_relative raw ≡ true → least_length strict s ≡ length s
     least_at_ip e = least_with true e
 
-    pub least_of_fields : is_ip_relative raw ≡ false → least_in strict s ≡ (length s - address_length raw) + address_length (shortest raw)
+    pub least_of_fields : is_ip_relative raw ≡ false → least_length strict s ≡ (length s - address_length raw) + address_length (shortest raw)
     least_of_fields e = least_with false e
 
-    pub least_of_shortest : (fit : IsOfBytes raw) (t : List ℕ) → t ≡ Bytes' strict s a v raw read fit → is_ip_relative raw ≡ false → length t ≡ least_in strict s
+    pub least_of_shortest : (fit : IsOfBytes raw) (t : List ℕ) → t ≡ Bytes' strict s a v raw read fit → is_ip_relative raw ≡ false → length t ≡ least_length strict s
     least_of_shortest fit t spelled e =
         let h = least_with false e in
         let old = length_is strict s a v raw read in
@@ -60,6 +60,6 @@ module _ (strict : Bool) (s : List ℕ) (a : Reading) (v : Encoding strict s a) 
         omega (arith, h, old, new)
 
 -- at the front of bytes
-pub least_front : (strict : Bool) (bytes encoding : List ℕ) (instruction : Instruction) (n : ℕ) → answer_of strict bytes ≡ Ok instruction → encoding ≡ take n bytes → n ≡ instruction.length → least_of strict bytes ≡ least_in strict encoding
-unfolding least_of
-least_front strict bytes encoding instruction n accepted front counted = ap (least_for strict bytes) accepted ∙ ap (λ k. least_in strict (take k bytes)) (sym counted) ∙ ap (least_in strict) (sym front)
+pub least_front : (strict : Bool) (bytes encoding : List ℕ) (instruction : Instruction) (n : ℕ) → answer_of strict bytes ≡ Ok instruction → encoding ≡ take n bytes → n ≡ instruction.length → shortest_length strict bytes ≡ least_length strict encoding
+unfolding shortest_length
+least_front strict bytes encoding instruction n accepted front counted = ap (least_for strict bytes) accepted ∙ ap (λ k. least_length strict (take k bytes)) (sym counted) ∙ ap (least_length strict) (sym front)

@@ -4,18 +4,18 @@ use Rattle.std.proofs.lemmas.Bool.Decides.{nat_tests}
 use Rattle.x86_fields.specs.declared.prefixes.Prefixes.{Prefixes}
 use Rattle.x86_fields.specs.declared.raw.Raw.{Raw}
 use Rattle.x86_fields.specs.ModRM.{reg_field, is_memory, as_register}
-use Rattle.x86_fields.specs.Raw.{live_bit, rex_b, rex_x}
+use Rattle.x86_fields.specs.Raw.{live_bit, has_b, has_x}
 use Rattle.x86_fields.specs.Run.{reading_of}
 use Rattle.x86_fields.specs.Linear.{raw_form, IsSameAddress}
-use Rattle.x86_forms.specs.Words.{rows_of, word_at}
+use Rattle.x86_forms.specs.Words.{rows_of, packed}
 use Rattle.x86_operands.specs.declared.plans.ModrmUse.{ModrmUse}
 use Rattle.x86_operands.specs.declared.plans.ModrmUse.TheVariants.{Absent, Fields, Registers}
 use Rattle.x86_operands.specs.declared.reader.Reading.{Reading}
 use Rattle.x86_operands.specs.Plans.{RowRecord}
 use Rattle.x86_operands.specs.Pieces.{SpellsMemory, modrm_of, modrm_width}
-use Rattle.x86_decode.specs.Head.{escape_bytes, seen}
+use Rattle.x86_decode.specs.Head.{escape_bytes, seen_by}
 use Rattle.x86_decode.specs.Instruction.{instruction_of}
-use Rattle.x86_decode.specs.Grammar.{record_of, lock_allowed, IsSentence}
+use Rattle.x86_decode.specs.Grammar.{record_of, allows_lock, IsSentence}
 use Rattle.x86_decode.proofs.ByteLaws.{Bytes, bytes_of, bytes_behind, bytes_before}
 use Rattle.x86_layout.specs.Parts.Split.{Encoding, record_in}
 use Rattle.x86_layout.specs.Tightening.Registers.{is_ip_relative}
@@ -52,7 +52,7 @@ same_some e = cc
 -- what a memory form is
 module _ (strict : Bool) (s : List ℕ) (a : Reading) (v : Encoding strict s a) where
   abbrev pub Seen : Prefixes
-  Seen = seen v.map v.opcode (reading_of v.run)
+  Seen = seen_by v.map v.opcode (reading_of v.run)
 
   abbrev pub Row : RowRecord
   Row = record_in strict s a v
@@ -76,10 +76,10 @@ module _ (strict : Bool) (s : List ℕ) (a : Reading) (v : Encoding strict s a) 
     pub raw_modrm : raw.modrm ≡ Byte
     raw_modrm = ap (λ r. r.modrm) (spells).1.fields
 
-    pub raw_b : raw.rex_b ≡ rex_b (Seen)
+    pub raw_b : raw.rex_b ≡ has_b (Seen)
     raw_b = ap (λ r. r.rex_b) (spells).1.fields
 
-    pub raw_x : raw.rex_x ≡ rex_x (Seen)
+    pub raw_x : raw.rex_x ≡ has_x (Seen)
     raw_x = ap (λ r. r.rex_x) (spells).1.fields
 
     pub raw_short : raw.address_size ≡ (Seen).address_size
@@ -114,7 +114,7 @@ module _ (strict : Bool) (s : List ℕ) (a : Reading) (v : Encoding strict s a) 
 
 -- ---- the relative
 
-no_bits : (raw : Raw) (p : Prefixes) → raw.rex_b ≡ rex_b p → raw.rex_x ≡ rex_x p → p.rex ≡ None → ((shortest raw).rex_b ≡ false) × ((shortest raw).rex_x ≡ false)
+no_bits : (raw : Raw) (p : Prefixes) → raw.rex_b ≡ has_b p → raw.rex_x ≡ has_x p → p.rex ≡ None → ((shortest raw).rex_b ≡ false) × ((shortest raw).rex_x ≡ false)
 no_bits raw p b x none = shortest_keeps_bits raw (b ∙ ap (live_bit (λ r. r.b)) none) (x ∙ ap (live_bit (λ r. r.x)) none)
 
 module _ (strict : Bool) (s : List ℕ) (a : Reading) (v : Encoding strict s a) (raw : Raw) (read : v.asked.behind.pieces.memory ≡ Some raw) (fit : IsOfBytes raw) where
@@ -131,7 +131,7 @@ module _ (strict : Bool) (s : List ℕ) (a : Reading) (v : Encoding strict s a) 
   Bits = record (Before) { rex = bits_in (Other).rex_x (Other).rex_b (Before).rex }
 
   abbrev After : Prefixes
-  After = seen v.map v.opcode (reading_of (Run))
+  After = seen_by v.map v.opcode (reading_of (Run))
 
   abbrev Rerow : Prefixes → Type 0
   Rerow q = Rerowed (Before) q (Byte strict s a v) (Other).modrm raw (Other) (record_of strict v.row q) (address_bytes (Other)) v.asked.behind.pieces.immediates v.asked.behind.pieces.suffix a
@@ -182,11 +182,11 @@ module _ (strict : Bool) (s : List ℕ) (a : Reading) (v : Encoding strict s a) 
       spelled = spelled;
       prefixes = run_stays (Other).rex_x (Other).rex_b v.run ∙ v.prefixes;
       meant = v.meant;
-      has_row = ap (λ c. rows_of word_at v.map c v.opcode) (column_stays (Other).rex_x (Other).rex_b v.run) ∙ v.has_row;
+      has_row = ap (λ c. rows_of packed v.map c v.opcode) (column_stays (Other).rex_x (Other).rex_b v.run) ∙ v.has_row;
       asked = (rerow).row;
     }
 
-    sentence : lock_allowed a ≡ true → length t ≤ 15 → IsSentence (rows_of word_at) strict t (instruction_of (rerow).again (length t))
+    sentence : allows_lock a ≡ true → length t ≤ 15 → IsSentence (rows_of packed) strict t (instruction_of (rerow).again (length t))
     sentence lock short = record { reading = (rerow).again; whole = whole; lock = (rerow).lock ∙ lock; short = short; gives = refl }
 
     relative : is_ip_relative raw ≡ false → IsRelative strict s a v t (rerow).again whole
@@ -233,7 +233,7 @@ module _ (strict : Bool) (s : List ℕ) (a : Reading) (v : Encoding strict s a) 
         let e8 = ap length rel.parts.suffix in
         omega (arith, fewer, e1, e2, e3, e4, e5, e6, e7, e8)
 
-    pub shortest_relative : lock_allowed a ≡ true → length s ≤ 15 → is_ip_relative raw ≡ false → IsShortest strict s a v t
+    pub shortest_relative : allows_lock a ≡ true → length s ≤ 15 → is_ip_relative raw ≡ false → IsShortest strict s a v t
     unfolding sentence
     shortest_relative lock short ip =
         let fewer = no_longer ip in

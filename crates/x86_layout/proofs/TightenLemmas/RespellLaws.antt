@@ -17,12 +17,12 @@ use Rattle.x86_operands.specs.declared.plans.ModrmUse.TheVariants.{Fields}
 use Rattle.x86_operands.specs.declared.plans.Plan.{Plan}
 use Rattle.x86_operands.specs.declared.reader.Reading.{Reading}
 use Rattle.x86_operands.specs.Operands.{is_memory_slot}
-use Rattle.x86_operands.specs.Shape.{shape_by, shape_of}
+use Rattle.x86_operands.specs.Shape.{shape_by, shape}
 use Rattle.x86_fields.specs.ModRM.{is_memory}
 use Rattle.x86_operands.specs.Plans.{RowRecord, list_of}
-use Rattle.x86_operands.specs.Signs.{pair_at, four_of, marked, reading_from}
+use Rattle.x86_operands.specs.Signs.{pair_at, four_of, apply, reading_from}
 use Rattle.x86_operands.specs.Pieces.{sign_gives, SpellsSigns, SpellsTail, SpellsRow, modrm_of, modrm_width}
-use Rattle.x86_decode.specs.Grammar.{lock_allowed}
+use Rattle.x86_decode.specs.Grammar.{allows_lock}
 
 -- ---- the operands
 
@@ -36,8 +36,8 @@ shape_by_memory (Some b) None s d = either (is_zero d) _ _ refl refl
 shape_by_memory None (Some i) s d = either (is_zero d) _ _ refl refl
 shape_by_memory (Some b) (Some i) s d = either (is_zero d) _ _ refl refl
 
-is_shape : (raw : Raw) → is_memory_slot (shape_of raw).0 ≡ true
-unfolding shape_of
+is_shape : (raw : Raw) → is_memory_slot (shape raw).0 ≡ true
+unfolding shape
 is_shape raw = shape_by_memory (base_of raw) (index_of raw) (scale_by raw.sib) raw.disp
 
 module _ (p q : Prefixes) (m n : ℕ) (raw other : Raw) where
@@ -74,9 +74,9 @@ module _ (p q : Prefixes) (m n : ℕ) (raw other : Raw) where
     pub memory : tail.pieces.memory ≡ Some other
     pub immediate : tail.pieces.immediates ≡ immediates
     pub last : tail.pieces.suffix ≡ suffix
-    pub lock : lock_allowed again ≡ lock_allowed reading
+    pub lock : allows_lock again ≡ allows_lock reading
 
-  lock_of_mark : (mark : Mark) → p.lock ≡ q.lock → (marked mark q).lock ≡ (marked mark p).lock
+  lock_of_mark : (mark : Mark) → p.lock ≡ q.lock → (apply mark q).lock ≡ (apply mark p).lock
   lock_of_mark Keeps e = sym e
   lock_of_mark ClearsOperandSize e = sym e
   lock_of_mark SetsEs e = sym e
@@ -87,9 +87,9 @@ module _ (p q : Prefixes) (m n : ℕ) (raw other : Raw) where
       let signs : SpellsSigns (list_of plan.signs) p m (Some raw) s.immediates s.given = subst (λ x. SpellsSigns (list_of plan.signs) p m x s.immediates s.given) read s.immediates_asked in
       let new = regiven (list_of plan.signs) s.immediates s.given signs in
       let again : Reading = reading_from plan q h.opcode (four_of new.pairs) in
-      let lock : lock_allowed again ≡ lock_allowed (reading_from plan p h.opcode (four_of s.given)) =
+      let lock : allows_lock again ≡ allows_lock (reading_from plan p h.opcode (four_of s.given)) =
       ap (λ t. not t || (is_among lockable h.opcode && is_memory_slot (pair_at new.pairs 0).0)) (lock_of_mark plan.mark same)
-      ∙ ap (λ t. not (marked plan.mark p).lock || (is_among lockable h.opcode && t)) new.first in
+      ∙ ap (λ t. not (apply plan.mark p).lock || (is_among lockable h.opcode && t)) new.first in
       record {
         again = again;
         tail = record {
@@ -112,7 +112,7 @@ module _ (p q : Prefixes) (m n : ℕ) (raw other : Raw) where
         memory = refl;
         immediate = refl;
         last = refl;
-        lock = lock ∙ ap lock_allowed (sym h.gives);
+        lock = lock ∙ ap allows_lock (sym h.gives);
       }
 
   -- ---- behind the opcode
@@ -125,7 +125,7 @@ module _ (p q : Prefixes) (m n : ℕ) (raw other : Raw) where
     pub memory : row.behind.pieces.memory ≡ Some other
     pub immediate : row.behind.pieces.immediates ≡ immediates
     pub last : row.behind.pieces.suffix ≡ suffix
-    pub lock : lock_allowed again ≡ lock_allowed reading
+    pub lock : allows_lock again ≡ allows_lock reading
 
   pub rerowed : (r : RowRecord) (plan : Plan) (tail address : List ℕ) (reading : Reading) (h : SpellsTail plan p m tail reading) → p.lock ≡ q.lock → h.pieces.memory ≡ Some raw → is_memory n ≡ true → SpellsRaw q n address other → r.at_opcode ≡ None → r.modrm ≡ Fields → r.plan n ≡ plan → Rerowed r address h.pieces.immediates h.pieces.suffix reading
   rerowed r plan tail address reading h same read memory spells passed usage planned =

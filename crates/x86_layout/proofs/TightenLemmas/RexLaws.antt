@@ -4,14 +4,14 @@ use Rattle.std.specs.List.{filter, list_any}
 use Rattle.std.proofs.lemmas.Bool.Decides.{nat_tests}
 use Rattle.x86_fields.specs.declared.prefixes.Prefixes.{Prefixes}
 use Rattle.x86_fields.specs.declared.rex.PrefixRex.{PrefixRex}
-use Rattle.x86_fields.specs.Run.{is_legacy_byte, is_rex_byte, is_prefix_byte, is_repeat_byte, is_segment_byte, last, repeat_named, segment_named, rex_bits, rex_named, reading_of}
+use Rattle.x86_fields.specs.Run.{is_legacy, is_rex, is_prefix, is_repeat_byte, is_segment_byte, last, repeat_named, segment_named, rex_bits, rex_named, reading_of}
 use Rattle.x86_forms.specs.declared.Map.{Map}
-use Rattle.x86_decode.specs.Head.{is_run, clears, column_of, seen}
+use Rattle.x86_decode.specs.Head.{is_run, clears, column_of, seen_by}
 use Rattle.x86_layout.specs.Tightening.Tighten.{bits_in, byte_with, run_with}
 
 -- ---- the byte
 
-rex_by : (t : Bool) (byte k : ℕ) → is_rex_byte byte ≡ t → k < 4 → is_rex_byte (if t then (byte / 4) * 4 + k else byte) ≡ t
+rex_by : (t : Bool) (byte k : ℕ) → is_rex byte ≡ t → k < 4 → is_rex (if t then (byte / 4) * 4 + k else byte) ≡ t
 rex_by true byte k e h = grind (arith, nat_tests)
 rex_by false byte k e h = e
 
@@ -21,8 +21,8 @@ bits_small true false = omega arith
 bits_small false true = omega arith
 bits_small false false = omega arith
 
-stays_rex : (x b : Bool) (byte : ℕ) → is_rex_byte (byte_with x b byte) ≡ is_rex_byte byte
-stays_rex x b byte = rex_by (is_rex_byte byte) byte _ refl (bits_small x b)
+stays_rex : (x b : Bool) (byte : ℕ) → is_rex (byte_with x b byte) ≡ is_rex byte
+stays_rex x b byte = rex_by (is_rex byte) byte _ refl (bits_small x b)
 
 cleared_by : (s t : Bool) (byte k : ℕ) → s ≡ t → k < 4 → (if s then ((if t then (byte / 4) * 4 + k else byte) / 4) * 4 + 0 else (if t then (byte / 4) * 4 + k else byte)) ≡ (if t then (byte / 4) * 4 + 0 else byte)
 cleared_by true true byte k e h = omega (arith, h)
@@ -31,11 +31,11 @@ cleared_by false true byte k e h = absurd (let f : false ≡ true = e in cc)
 cleared_by false false byte k e h = refl
 
 cleared : (x b : Bool) (byte : ℕ) → byte_with false false (byte_with x b byte) ≡ byte_with false false byte
-cleared x b byte = cleared_by (is_rex_byte (byte_with x b byte)) (is_rex_byte byte) byte _ (stays_rex x b byte) (bits_small x b)
+cleared x b byte = cleared_by (is_rex (byte_with x b byte)) (is_rex byte) byte _ (stays_rex x b byte) (bits_small x b)
 
 -- what no REX is, it is not with other bits
-module _ (kind : ℕ → Bool) (no_rex : (n : ℕ) → is_rex_byte n ≡ true → kind n ≡ false) where
-  kind_by : (t : Bool) (byte other : ℕ) → is_rex_byte byte ≡ t → is_rex_byte other ≡ t → (t ≡ false → other ≡ byte) → kind other ≡ kind byte
+module _ (kind : ℕ → Bool) (no_rex : (n : ℕ) → is_rex n ≡ true → kind n ≡ false) where
+  kind_by : (t : Bool) (byte other : ℕ) → is_rex byte ≡ t → is_rex other ≡ t → (t ≡ false → other ≡ byte) → kind other ≡ kind byte
   kind_by true byte other e f h = no_rex other f ∙ sym (no_rex byte e)
   kind_by false byte other e f h = ap kind (h refl)
 
@@ -44,7 +44,7 @@ module _ (kind : ℕ → Bool) (no_rex : (n : ℕ) → is_rex_byte n ≡ true �
   stays_by false byte k e = refl
 
   kind_stays : (x b : Bool) (byte : ℕ) → kind (byte_with x b byte) ≡ kind byte
-  kind_stays x b byte = kind_by (is_rex_byte byte) byte (byte_with x b byte) refl (stays_rex x b byte) (stays_by (is_rex_byte byte) byte _)
+  kind_stays x b byte = kind_by (is_rex byte) byte (byte_with x b byte) refl (stays_rex x b byte) (stays_by (is_rex byte) byte _)
 
   any_stays : (x b : Bool) (run : List ℕ) → list_any kind (run_with x b run) ≡ list_any kind run
   unfolding run_with
@@ -52,33 +52,33 @@ module _ (kind : ℕ → Bool) (no_rex : (n : ℕ) → is_rex_byte n ≡ true �
   any_stays x b (byte ∷ []) = ap (λ t. t || false) (kind_stays x b byte)
   any_stays x b (byte ∷ next ∷ rest) = ap (λ t. kind byte || t) (any_stays x b (next ∷ rest))
 
-  same_by : (t : Bool) (byte other : ℕ) → kind byte ≡ t → kind other ≡ t → (is_rex_byte byte ≡ false → other ≡ byte) → (if kind other then other ∷ [] else []) ≡ (if kind byte then byte ∷ [] else [])
+  same_by : (t : Bool) (byte other : ℕ) → kind byte ≡ t → kind other ≡ t → (is_rex byte ≡ false → other ≡ byte) → (if kind other then other ∷ [] else []) ≡ (if kind byte then byte ∷ [] else [])
   same_by false byte other e f h = ap (λ t. if t then other ∷ [] else []) f ∙ sym (ap (λ t. if t then byte ∷ [] else []) e)
-  same_by true byte other e f h = by (is_rex_byte byte) refl
+  same_by true byte other e f h = by (is_rex byte) refl
     where
-      by : (t : Bool) → is_rex_byte byte ≡ t → (if kind other then other ∷ [] else []) ≡ (if kind byte then byte ∷ [] else [])
+      by : (t : Bool) → is_rex byte ≡ t → (if kind other then other ∷ [] else []) ≡ (if kind byte then byte ∷ [] else [])
       by true g = absurd (let k : true ≡ false = sym e ∙ no_rex byte g in cc)
       by false g = ap (λ n. if kind n then n ∷ [] else []) (h g)
 
   filter_stays : (x b : Bool) (run : List ℕ) → filter kind (run_with x b run) ≡ filter kind run
   unfolding run_with
   filter_stays x b [] = refl
-  filter_stays x b (byte ∷ []) = same_by (kind byte) byte (byte_with x b byte) refl (kind_stays x b byte) (stays_by (is_rex_byte byte) byte _)
+  filter_stays x b (byte ∷ []) = same_by (kind byte) byte (byte_with x b byte) refl (kind_stays x b byte) (stays_by (is_rex byte) byte _)
   filter_stays x b (byte ∷ next ∷ rest) = ap (λ l. if kind byte then byte ∷ l else l) (filter_stays x b (next ∷ rest))
 
-no_66 : (n : ℕ) → is_rex_byte n ≡ true → (n == 0x66) ≡ false
+no_66 : (n : ℕ) → is_rex n ≡ true → (n == 0x66) ≡ false
 no_66 n h = grind (arith, nat_tests)
 
-no_67 : (n : ℕ) → is_rex_byte n ≡ true → (n == 0x67) ≡ false
+no_67 : (n : ℕ) → is_rex n ≡ true → (n == 0x67) ≡ false
 no_67 n h = grind (arith, nat_tests)
 
-no_f0 : (n : ℕ) → is_rex_byte n ≡ true → (n == 0xf0) ≡ false
+no_f0 : (n : ℕ) → is_rex n ≡ true → (n == 0xf0) ≡ false
 no_f0 n h = grind (arith, nat_tests)
 
-no_repeat : (n : ℕ) → is_rex_byte n ≡ true → is_repeat_byte n ≡ false
+no_repeat : (n : ℕ) → is_rex n ≡ true → is_repeat_byte n ≡ false
 no_repeat n h = grind (arith, nat_tests)
 
-no_segment : (n : ℕ) → is_rex_byte n ≡ true → is_segment_byte n ≡ false
+no_segment : (n : ℕ) → is_rex n ≡ true → is_segment_byte n ≡ false
 no_segment n h = grind (arith, nat_tests)
 
 -- ---- the bits
@@ -118,7 +118,7 @@ last_behind x b byte next (other ∷ rest) = refl
 rex_stays : (x b : Bool) (run : List ℕ) → rex_named (last (run_with x b run)) ≡ bits_in x b (rex_named (last run))
 unfolding run_with
 rex_stays x b [] = refl
-rex_stays x b (byte ∷ []) = named_by x b (is_rex_byte (byte_with x b byte)) (is_rex_byte byte) byte (stays_rex x b byte)
+rex_stays x b (byte ∷ []) = named_by x b (is_rex (byte_with x b byte)) (is_rex byte) byte (stays_rex x b byte)
 rex_stays x b (byte ∷ next ∷ rest) = ap rex_named (last_behind x b byte next rest) ∙ rex_stays x b (next ∷ rest)
 
 -- ---- the run
@@ -141,15 +141,15 @@ reading_is x b run =
     ∙ ap (λ t. record a { operand_size = c.operand_size; address_size = c.address_size; lock = c.lock; repeat = c.repeat; segment = t }) fifth
     ∙ ap (λ t. record c { rex = t }) sixth
 
-prefix_stays_by : (t : Bool) (byte other : ℕ) → is_rex_byte byte ≡ t → is_rex_byte other ≡ t → (t ≡ false → other ≡ byte) → is_prefix_byte other ≡ is_prefix_byte byte
-prefix_stays_by true byte other e f h = either (is_legacy_byte other) (is_rex_byte other) f ∙ sym (either (is_legacy_byte byte) (is_rex_byte byte) e)
+prefix_stays_by : (t : Bool) (byte other : ℕ) → is_rex byte ≡ t → is_rex other ≡ t → (t ≡ false → other ≡ byte) → is_prefix other ≡ is_prefix byte
+prefix_stays_by true byte other e f h = either (is_legacy other) (is_rex other) f ∙ sym (either (is_legacy byte) (is_rex byte) e)
   where
     either : (a b : Bool) → b ≡ true → (a || b) ≡ true
     either a b g = grind arith
-prefix_stays_by false byte other e f h = ap is_prefix_byte (h refl)
+prefix_stays_by false byte other e f h = ap is_prefix (h refl)
 
-prefix_stays : (x b : Bool) (byte : ℕ) → is_prefix_byte (byte_with x b byte) ≡ is_prefix_byte byte
-prefix_stays x b byte = prefix_stays_by (is_rex_byte byte) byte (byte_with x b byte) refl (stays_rex x b byte) (by (is_rex_byte byte))
+prefix_stays : (x b : Bool) (byte : ℕ) → is_prefix (byte_with x b byte) ≡ is_prefix byte
+prefix_stays x b byte = prefix_stays_by (is_rex byte) byte (byte_with x b byte) refl (stays_rex x b byte) (by (is_rex byte))
   where
     by : (t : Bool) → t ≡ false → (if t then (byte / 4) * 4 + ((if x then 2 else 0) + (if b then 1 else 0)) else byte) ≡ byte
     by true e = absurd (let f : true ≡ false = e in cc)
@@ -159,7 +159,7 @@ pub run_stays : (x b : Bool) (run : List ℕ) → is_run (run_with x b run) ≡ 
 unfolding run_with
 run_stays x b [] = refl
 run_stays x b (byte ∷ []) = ap (λ t. t && true) (prefix_stays x b byte)
-run_stays x b (byte ∷ next ∷ rest) = ap (λ t. is_prefix_byte byte && t) (run_stays x b (next ∷ rest))
+run_stays x b (byte ∷ next ∷ rest) = ap (λ t. is_prefix byte && t) (run_stays x b (next ∷ rest))
 
 pub length_stays : (x b : Bool) (run : List ℕ) → length (run_with x b run) ≡ length run
 unfolding run_with
@@ -192,30 +192,30 @@ run_at_end x b (first ∷ next ∷ front) byte = ap (λ l. first ∷ l) (run_at_
 
 -- ---- what a record sees
 
-seen_by : (t : Bool) (p : Prefixes) (rex : Option PrefixRex) → (if t then record (record p { rex = rex }) { operand_size = false } else record p { rex = rex }) ≡ record (if t then record p { operand_size = false } else p) { rex = rex }
-seen_by true p rex = refl
-seen_by false p rex = refl
+seen_if : (t : Bool) (p : Prefixes) (rex : Option PrefixRex) → (if t then record (record p { rex = rex }) { operand_size = false } else record p { rex = rex }) ≡ record (if t then record p { operand_size = false } else p) { rex = rex }
+seen_if true p rex = refl
+seen_if false p rex = refl
 
-pub seen_rex : (m : Map) (opcode : ℕ) (p : Prefixes) → (seen m opcode p).rex ≡ p.rex
+pub seen_rex : (m : Map) (opcode : ℕ) (p : Prefixes) → (seen_by m opcode p).rex ≡ p.rex
 seen_rex m opcode p = by (clears m (column_of p) opcode)
   where
     by : (t : Bool) → (if t then record p { operand_size = false } else p).rex ≡ p.rex
     by true = refl
     by false = refl
 
-pub seen_67 : (m : Map) (opcode : ℕ) (p : Prefixes) → (seen m opcode p).address_size ≡ p.address_size
+pub seen_67 : (m : Map) (opcode : ℕ) (p : Prefixes) → (seen_by m opcode p).address_size ≡ p.address_size
 seen_67 m opcode p = by (clears m (column_of p) opcode)
   where
     by : (t : Bool) → (if t then record p { operand_size = false } else p).address_size ≡ p.address_size
     by true = refl
     by false = refl
 
-pub seen_with : (m : Map) (opcode : ℕ) (x b : Bool) (run : List ℕ) → seen m opcode (reading_of (run_with x b run)) ≡ record (seen m opcode (reading_of run)) { rex = bits_in x b (seen m opcode (reading_of run)).rex }
+pub seen_with : (m : Map) (opcode : ℕ) (x b : Bool) (run : List ℕ) → seen_by m opcode (reading_of (run_with x b run)) ≡ record (seen_by m opcode (reading_of run)) { rex = bits_in x b (seen_by m opcode (reading_of run)).rex }
 seen_with m opcode x b run =
     let p = reading_of run in
-    ap (seen m opcode) (reading_is x b run)
-    ∙ seen_by (clears m (column_of p) opcode) p (bits_in x b p.rex)
-    ∙ ap (λ r. record (seen m opcode p) { rex = bits_in x b r }) (sym (seen_rex m opcode p))
+    ap (seen_by m opcode) (reading_is x b run)
+    ∙ seen_if (clears m (column_of p) opcode) p (bits_in x b p.rex)
+    ∙ ap (λ r. record (seen_by m opcode p) { rex = bits_in x b r }) (sym (seen_rex m opcode p))
 
 pub column_stays : (x b : Bool) (run : List ℕ) → column_of (reading_of (run_with x b run)) ≡ column_of (reading_of run)
 column_stays x b run = ap column_of (reading_is x b run)

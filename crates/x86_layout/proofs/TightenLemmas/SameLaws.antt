@@ -9,15 +9,15 @@ use Rattle.x86_fields.specs.declared.prefixes.Prefixes.{Prefixes}
 use Rattle.x86_fields.specs.declared.rex.PrefixRex.{PrefixRex}
 use Rattle.x86_fields.specs.declared.raw.Raw.{Raw}
 use Rattle.x86_fields.specs.ModRM.{reg_field, scale_field, is_memory}
-use Rattle.x86_fields.specs.Raw.{live_bit, rex_r}
+use Rattle.x86_fields.specs.Raw.{live_bit, has_r}
 use Rattle.x86_fields.specs.Run.{reading_of}
-use Rattle.x86_fields.specs.Address.{extended, scale_by}
+use Rattle.x86_fields.specs.Address.{extend, scale_by}
 use Rattle.x86_fields.specs.Sizes.{register_of}
 use Rattle.x86_fields.specs.Linear.{Linear, raw_form, value_at, IsSameAddress, IsReduced, IsRegFile, AgreeEverywhere}
 use Rattle.x86_forms.specs.declared.Map.{Map}
 use Rattle.x86_forms.specs.declared.Map.TheVariants.{One, Of, Of38, Of3a}
 use Rattle.x86_forms.specs.declared.TableRow.{TableRow}
-use Rattle.x86_forms.specs.Words.{rows_of, word_at}
+use Rattle.x86_forms.specs.Words.{rows_of, packed}
 use Rattle.x86_operands.specs.declared.operands.Slot.{Slot}
 use Rattle.x86_operands.specs.declared.operands.Slot.TheVariants as slots
 use Rattle.x86_operands.specs.declared.operands.Operand.{Operand}
@@ -28,14 +28,14 @@ use Rattle.x86_operands.specs.declared.plans.Mark.{Mark}
 use Rattle.x86_operands.specs.declared.plans.Mark.TheVariants.{Keeps, ClearsOperandSize, SetsEs}
 use Rattle.x86_operands.specs.declared.plans.Plan.{Plan}
 use Rattle.x86_operands.specs.declared.reader.Reading.{Reading}
-use Rattle.x86_operands.specs.Shape.{shape_of}
+use Rattle.x86_operands.specs.Shape.{shape}
 use Rattle.x86_operands.specs.Linear.{operand_address}
 use Rattle.x86_operands.specs.Plans.{list_of, reg_number}
-use Rattle.x86_operands.specs.Signs.{pair_at, four_of, marked, reading_from}
+use Rattle.x86_operands.specs.Signs.{pair_at, four_of, apply, reading_from}
 use Rattle.x86_operands.specs.Pieces.{sign_gives, SpellsSigns, SpellsTail, opcode_by, first_or}
 use Rattle.x86_decode.specs.declared.instructions.Instruction.{Instruction}
 use Rattle.x86_decode.specs.Instruction.{instruction_of, operand_at}
-use Rattle.x86_decode.specs.Head.{escape_bytes, column_of, seen}
+use Rattle.x86_decode.specs.Head.{escape_bytes, column_of, seen_by}
 use Rattle.x86_decode.specs.Grammar.{record_of, IsSentence}
 use Rattle.x86_decode.proofs.ByteLaws.{bytes_of}
 use Rattle.x86_layout.specs.Parts.Split.{Encoding}
@@ -62,20 +62,20 @@ register_by : (c : RegisterClass) (p : Prefixes) (n : ℕ) → register_of c (cl
 register_by B p n = ap (λ t. if t && nat_le 4 n then (let r : RegSpec = record { num = n; class = RB } in r) else record { num = n; class = B }) (live_by p.rex)
 register_by c p n = refl
 
-mark_by : (mark : Mark) (p : Prefixes) → cleared (marked mark p) ≡ marked mark (cleared p)
+mark_by : (mark : Mark) (p : Prefixes) → cleared (apply mark p) ≡ apply mark (cleared p)
 mark_by Keeps p = refl
 mark_by ClearsOperandSize p = refl
 mark_by SetsEs p = refl
 
 module _ (p q : Prefixes) (alike : cleared q ≡ cleared p) where
-  same_r : rex_r q ≡ rex_r p
-  same_r = sym (r_by q.rex) ∙ ap rex_r alike ∙ r_by p.rex
+  same_r : has_r q ≡ has_r p
+  same_r = sym (r_by q.rex) ∙ ap has_r alike ∙ r_by p.rex
 
   same_register : (c : RegisterClass) (n : ℕ) → register_of c q n ≡ register_of c p n
   same_register c n = sym (register_by c q n) ∙ ap (λ x. register_of c x n) alike ∙ register_by c p n
 
-  same_mark : (mark : Mark) → cleared (marked mark q) ≡ cleared (marked mark p)
-  same_mark mark = mark_by mark q ∙ ap (marked mark) alike ∙ sym (mark_by mark p)
+  same_mark : (mark : Mark) → cleared (apply mark q) ≡ cleared (apply mark p)
+  same_mark mark = mark_by mark q ∙ ap (apply mark) alike ∙ sym (mark_by mark p)
 
 -- ---- the operands
 
@@ -106,7 +106,7 @@ module _ (from to : Raw) where
 
   module _ (p q : Prefixes) (m n : ℕ) (alike : cleared q ≡ cleared p) (register : reg_field n ≡ reg_field m) where
     same_number : reg_number n q ≡ reg_number m p
-    same_number = ap (λ t. extended t (reg_field n)) (same_r p q alike) ∙ ap (extended (rex_r p)) register
+    same_number = ap (λ t. extend t (reg_field n)) (same_r p q alike) ∙ ap (extend (has_r p)) register
 
     sign_alike : (s : Sign) (bytes : List ℕ) → IsSameOrShape from to (sign_gives s p m (Some from) bytes) (sign_gives s q n (Some to) bytes)
     sign_alike (G c) bytes = unchanged (ap (λ r. (slots.Reg, operands.Register r)) (same_register p q alike c (reg_number n q) ∙ ap (register_of c p) same_number))
@@ -222,17 +222,17 @@ module _ (strict : Bool) (s : List ℕ) (a : Reading) (v : Encoding strict s a) 
       let column = column_of (reading_of v.run) in
       same_row (
       sym w.has_row
-      ∙ ap (λ c. rows_of word_at w.map c w.opcode) column_is
-      ∙ ap (λ f. rows_of word_at f column w.opcode) map_is
-      ∙ ap (rows_of word_at v.map column) rel.parts.opcode
+      ∙ ap (λ c. rows_of packed w.map c w.opcode) column_is
+      ∙ ap (λ f. rows_of packed f column w.opcode) map_is
+      ∙ ap (rows_of packed v.map column) rel.parts.opcode
       ∙ v.has_row)
 
   seen_is : cleared New ≡ cleared Old
   seen_is =
       sym (seen_with w.map w.opcode false false w.run)
-      ∙ ap (λ l. seen w.map w.opcode (reading_of l)) rel.parts.prefixes
-      ∙ ap (λ f. seen f w.opcode (reading_of (run_with false false v.run))) map_is
-      ∙ ap (λ o. seen v.map o (reading_of (run_with false false v.run))) rel.parts.opcode
+      ∙ ap (λ l. seen_by w.map w.opcode (reading_of l)) rel.parts.prefixes
+      ∙ ap (λ f. seen_by f w.opcode (reading_of (run_with false false v.run))) map_is
+      ∙ ap (λ o. seen_by v.map o (reading_of (run_with false false v.run))) rel.parts.opcode
       ∙ seen_with v.map v.opcode false false v.run
 
   register_is : reg_field NewByte ≡ reg_field OldByte
@@ -252,13 +252,13 @@ module _ (strict : Bool) (s : List ℕ) (a : Reading) (v : Encoding strict s a) 
   same_instruction k l = tails From To rel.address.same Old New seen_is OldByte NewByte register_is _ _ v.asked.tail w.asked.tail a b v.asked.behind w.asked.behind k l plan_is rel.address.old rel.address.new rel.parts.immediate rel.parts.suffix
 
 -- said of sentences
-pub relative_is_same : (strict : Bool) (s : List ℕ) (a : Instruction) (is : IsSentence (rows_of word_at) strict s a) (t : List ℕ) (b : Instruction) (other : IsSentence (rows_of word_at) strict t b) (rel : IsRelative strict s is.reading is.whole t other.reading other.whole) → IsSameButInMemory rel.address.from rel.address.to a b
+pub relative_is_same : (strict : Bool) (s : List ℕ) (a : Instruction) (is : IsSentence (rows_of packed) strict s a) (t : List ℕ) (b : Instruction) (other : IsSentence (rows_of packed) strict t b) (rel : IsRelative strict s is.reading is.whole t other.reading other.whole) → IsSameButInMemory rel.address.from rel.address.to a b
 relative_is_same strict s a is t b other rel = same_moved rel.address.from rel.address.to _ _ a b is.gives other.gives (same_instruction strict s is.reading is.whole t other.reading other.whole rel (length s) (length t))
 
 -- ---- addresses, by the laws on shapes and on forms
 
 abbrev HaveTheAddress : Type 0
-HaveTheAddress = (raw : Raw) (regs : List ℕ) (next : ℕ) → FitsSigned w32 raw.disp → operand_address raw.address_size (shape_of raw).1 regs next ≡ Some (value_at (raw_form raw) regs next)
+HaveTheAddress = (raw : Raw) (regs : List ℕ) (next : ℕ) → FitsSigned w32 raw.disp → operand_address raw.address_size (shape raw).1 regs next ≡ Some (value_at (raw_form raw) regs next)
 
 abbrev AreReduced : Type 0
 AreReduced = (raw : Raw) → scale_by raw.sib ≤ 8 → FitsSigned w32 raw.disp → IsReduced (raw_form raw)
@@ -277,13 +277,13 @@ scale_small : (sib : Option ℕ) → IsByteOption sib → scale_by sib ≤ 8
 scale_small None h = omega arith
 scale_small (Some sib) h = power (scale_field sib) (omega (arith, h))
 
-mark_67 : (mark : Mark) (p : Prefixes) → (marked mark p).address_size ≡ p.address_size
+mark_67 : (mark : Mark) (p : Prefixes) → (apply mark p).address_size ≡ p.address_size
 mark_67 Keeps p = refl
 mark_67 ClearsOperandSize p = refl
 mark_67 SetsEs p = refl
 
 -- 67 of the raw fields is that of the instruction
-same_67 : (strict : Bool) (s : List ℕ) (a : Instruction) (is : IsSentence (rows_of word_at) strict s a) (raw : Raw) → is.whole.asked.behind.pieces.memory ≡ Some raw → a.prefixes.address_size ≡ raw.address_size
+same_67 : (strict : Bool) (s : List ℕ) (a : Instruction) (is : IsSentence (rows_of packed) strict s a) (raw : Raw) → is.whole.asked.behind.pieces.memory ≡ Some raw → a.prefixes.address_size ≡ raw.address_size
 same_67 strict s a is raw read =
     ap (λ i. i.prefixes.address_size) is.gives
     ∙ ap (λ r. r.prefixes.address_size) is.whole.asked.behind.gives
@@ -297,7 +297,7 @@ module _ (have : HaveTheAddress) (reduced : AreReduced) (values : AreTheirValues
   same_value : IsSameAddress (raw_form to) (raw_form from) → value_at (raw_form to) regs next ≡ value_at (raw_form from) regs next
   same_value h = (values (raw_form to) (raw_form from) h.modulus (reduced_of to to_bytes) (reduced_of from from_bytes)).0 h regs next file small
 
-  at_shape : (i : Instruction) (k : ℕ) (raw : Raw) → IsOfBytes raw → i.prefixes.address_size ≡ raw.address_size → placed_at i k ≡ shape_of raw → address_at i k regs next ≡ Some (value_at (raw_form raw) regs next)
+  at_shape : (i : Instruction) (k : ℕ) (raw : Raw) → IsOfBytes raw → i.prefixes.address_size ≡ raw.address_size → placed_at i k ≡ shape raw → address_at i k regs next ≡ Some (value_at (raw_form raw) regs next)
   at_shape i k raw h short shaped =
       ap (λ t. operand_address t (operand_at i k) regs next) short
       ∙ ap (λ x. operand_address raw.address_size x.1 regs next) shaped
@@ -308,7 +308,7 @@ module _ (have : HaveTheAddress) (reduced : AreReduced) (values : AreTheirValues
     same_place (unchanged e) = ap (λ p. operand_address p.address_size (operand_at b k) regs next) h.prefixes ∙ ap (λ x. operand_address a.prefixes.address_size x.1 regs next) e
     same_place (shapes e f) = at_shape b k to to_bytes new f ∙ ap Some (same_value h.address) ∙ sym (at_shape a k from from_bytes old e)
 
-pub relative_has_addresses : HaveTheAddress → AreReduced → AreTheirValues → (strict : Bool) (s : List ℕ) (a : Instruction) (is : IsSentence (rows_of word_at) strict s a) (t : List ℕ) (b : Instruction) (other : IsSentence (rows_of word_at) strict t b) → IsRelative strict s is.reading is.whole t other.reading other.whole → All (λ byte. byte < 256) s → All (λ byte. byte < 256) t → (k : ℕ) (regs : List ℕ) (next : ℕ) → IsRegFile regs → next < 2 ^ 64 → address_at b k regs next ≡ address_at a k regs next
+pub relative_has_addresses : HaveTheAddress → AreReduced → AreTheirValues → (strict : Bool) (s : List ℕ) (a : Instruction) (is : IsSentence (rows_of packed) strict s a) (t : List ℕ) (b : Instruction) (other : IsSentence (rows_of packed) strict t b) → IsRelative strict s is.reading is.whole t other.reading other.whole → All (λ byte. byte < 256) s → All (λ byte. byte < 256) t → (k : ℕ) (regs : List ℕ) (next : ℕ) → IsRegFile regs → next < 2 ^ 64 → address_at b k regs next ≡ address_at a k regs next
 relative_has_addresses have reduced values strict s a is t b other rel s_bytes t_bytes k regs next file small =
     let from = rel.address.from in
     let to = rel.address.to in

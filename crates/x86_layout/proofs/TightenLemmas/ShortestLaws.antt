@@ -6,14 +6,14 @@ use Rattle.std.proofs.lemmas.Bool.Decides.{nat_tests}
 use Rattle.std.proofs.lemmas.Int.{to_z-of_z}
 use Rattle.x86_fields.specs.declared.raw.Raw.{Raw}
 use Rattle.x86_fields.specs.ModRM.{mod_field, reg_field, rm_field, index_field, base_field, packed_byte, is_memory}
-use Rattle.x86_fields.specs.Raw.{disp_width, sib_fits, disp_fits, is_zero, is_byte}
+use Rattle.x86_fields.specs.Raw.{displacement_width, sib_fits, disp_fits, is_zero, is_byte}
 use Rattle.x86_fields.specs.Address.{address_register, next_pointer, base_by, base_of, index_by, scale_by}
 use Rattle.x86_fields.specs.Linear.{adds_to, adds_next, constant_by, modulus_by, raw_form, IsSameAddress}
 use Rattle.x86_layout.specs.declared.tightening.registers.Scale.{Scale}
 use Rattle.x86_layout.specs.declared.tightening.registers.Scale.TheVariants.{One, Two, Four, Eight}
 use Rattle.x86_layout.specs.declared.tightening.registers.AddressRegisters.{AddressRegisters}
-use Rattle.x86_layout.specs.Tightening.Registers.{is_ip_by, is_ip_relative, number_of, scale_named, registers_of, times, counts, weight, IsBelow16, IsIndex, IsByteOption}
-use Rattle.x86_layout.specs.Tightening.Shortest.{asks_displacement, exchanged, placed, shortest_registers, bytes_by, bytes_at, address_length, mod_by, mod_of, fourth_bit, scale_bits, field_or, rm_alone, rm_by, sib_by, spelled, shortest, IsOfBytes, field_bits}
+use Rattle.x86_layout.specs.Tightening.Registers.{is_ip_by, is_ip_relative, number_of, scale_named, registers_of, times, part_weight, weight, IsBelow16, IsIndex, IsByteOption}
+use Rattle.x86_layout.specs.Tightening.Shortest.{asks_displacement, exchanged, arranged, shortest_registers, bytes_by, bytes_at, address_length, mod_behind, mod_of, fourth_bit, scale_bits, field_or, rm_alone, rm_by, sib_by, spelled, shortest, IsOfBytes, field_bits}
 use Rattle.x86_layout.proofs.TightenLemmas.WeightLaws.{Weigh, fewest}
 use Rattle.x86_layout.proofs.TightenLemmas.SpelledLaws.{high_is, low_is, middle_is, middle_small, low_small, field_small, rm_small, not_bare_five, spelled_length, spelled_fits, spelled_base, spelled_index, spelled_scale}
 use Rattle.x86_layout.proofs.TightenLemmas.FieldLaws.{least, first_of_three, second_of_three, third_of_three, base_stands, index_stands, base_counts, index_counts, base_next, index_next}
@@ -40,7 +40,7 @@ exchanged_stands d b i hb hi = by (is_zero d) (asks_displacement b) (asks_displa
     by true false other e = (hb, hi)
     by false five other e = (hb, hi)
 
-placed_stands : (d : ℤ) (b i : Option ℕ) (s : Scale) → IsBelow16 b → IsIndex i → Stands (placed d b i s)
+placed_stands : (d : ℤ) (b i : Option ℕ) (s : Scale) → IsBelow16 b → IsIndex i → Stands (arranged d b i s)
 placed_stands d None None s hb hi = (tt, tt)
 placed_stands d (Some b) None s hb hi = (hb, tt)
 placed_stands d None (Some i) One hb hi = (hi.0, tt)
@@ -67,13 +67,13 @@ exchanged_weighs : (d : ℤ) (b i r : ℕ) → weight (exchanged d b i) r ≡ We
 exchanged_weighs d b i r = by (is_zero d && (asks_displacement b && not (asks_displacement i)))
   where
     by : (t : Bool) → weight (if t then record { base = Some i; index = Some b; scale = One } else record { base = Some b; index = Some i; scale = One }) r ≡ Weigh (Some b) (Some i) One r
-    by true = turned (counts (Some i) 1 r) (counts (Some b) 1 r)
+    by true = turned (part_weight (Some i) 1 r) (part_weight (Some b) 1 r)
     by false = refl
 
-placed_weighs : (d : ℤ) (b i : Option ℕ) (s : Scale) (r : ℕ) → weight (placed d b i s) r ≡ Weigh b i s r
+placed_weighs : (d : ℤ) (b i : Option ℕ) (s : Scale) (r : ℕ) → weight (arranged d b i s) r ≡ Weigh b i s r
 placed_weighs d None None s r = refl
 placed_weighs d (Some b) None s r = refl
-placed_weighs d None (Some i) One r = nothing_behind (counts (Some i) 1 r)
+placed_weighs d None (Some i) One r = nothing_behind (part_weight (Some i) 1 r)
 placed_weighs d None (Some i) Two r = double (i == r)
 placed_weighs d None (Some i) Four r = refl
 placed_weighs d None (Some i) Eight r = refl
@@ -85,9 +85,9 @@ placed_weighs d (Some b) (Some i) Eight r = refl
 -- ---- spelled fields
 
 -- how often an index counts goes by its scale
-same_index : (i j : Option ℕ) (s t : Scale) (r : ℕ) → i ≡ j → ((n : ℕ) → j ≡ Some n → s ≡ t) → counts i (times s) r ≡ counts j (times t) r
-same_index i None s t r e f = ap (λ k. counts k (times s) r) e
-same_index i (Some n) s t r e f = ap (λ k. counts k (times s) r) e ∙ ap (λ k. counts (Some n) (times k) r) (f n refl)
+same_index : (i j : Option ℕ) (s t : Scale) (r : ℕ) → i ≡ j → ((n : ℕ) → j ≡ Some n → s ≡ t) → part_weight i (times s) r ≡ part_weight j (times t) r
+same_index i None s t r e f = ap (λ k. part_weight k (times s) r) e
+same_index i (Some n) s t r e f = ap (λ k. part_weight k (times s) r) e ∙ ap (λ k. part_weight (Some n) (times k) r) (f n refl)
 
 spelled_scale_where : (d : ℤ) (m : ℕ) → m < 8 → (b i : Option ℕ) (s : Scale) (n : ℕ) → i ≡ Some n → scale_named (scale_by (sib_by (rm_alone b i) (packed_byte (scale_bits s) (field_or 4 i) (field_or 5 b)))) ≡ s
 spelled_scale_where d m below b i s n e = subst (λ k. scale_named (scale_by (sib_by (rm_alone b k) (packed_byte (scale_bits s) (field_or 4 k) (field_or 5 b)))) ≡ s) (sym e) (spelled_scale d m below b n s)
@@ -100,8 +100,8 @@ spelled_weighs raw at r h =
     let base = spelled_base d m below (spelled raw at) at.base at.index at.scale refl refl h.0 in
     let index = spelled_index d m below (spelled raw at) at.base at.index at.scale refl h.1 in
     let to = registers_of (spelled raw at) in
-    let second : counts to.index (times to.scale) r ≡ counts at.index (times at.scale) r = same_index to.index at.index to.scale at.scale r index (spelled_scale_where d m below at.base at.index at.scale) in
-    ap (λ b. counts b 1 r + counts to.index (times to.scale) r) base ∙ ap (λ n. counts at.base 1 r + n) second
+    let second : part_weight to.index (times to.scale) r ≡ part_weight at.index (times at.scale) r = same_index to.index at.index to.scale at.scale r index (spelled_scale_where d m below at.base at.index at.scale) in
+    ap (λ b. part_weight b 1 r + part_weight to.index (times to.scale) r) base ∙ ap (λ n. part_weight at.base 1 r + n) second
 
 -- a spelled form is never relative to the next instruction
 spelled_ip_by : (d : ℤ) (m : ℕ) → m < 8 → (b i : Option ℕ) (sib : ℕ) → is_ip_by (packed_byte (mod_of d b) m (rm_by (rm_alone b i))) (sib_by (rm_alone b i) sib) ≡ false
@@ -109,11 +109,11 @@ spelled_ip_by d m below None i sib = refl
 spelled_ip_by d m below (Some b) (Some i) sib = refl
 spelled_ip_by d m below (Some b) None sib = by (field_bits b == 4)
   where
-    by : (t : Bool) → (let rm = if t then None else Some (field_bits b) in is_ip_by (packed_byte (mod_by d b) m (rm_by rm)) (sib_by rm sib)) ≡ false
+    by : (t : Bool) → (let rm = if t then None else Some (field_bits b) in is_ip_by (packed_byte (mod_behind d b) m (rm_by rm)) (sib_by rm sib)) ≡ false
     by true = refl
     by false =
-        ap (λ n. (n == 0) && (rm_field (packed_byte (mod_by d b) m (field_bits b)) == 5)) (high_is (mod_by d b) m (field_bits b) below (low_small b))
-        ∙ ap (λ n. (mod_by d b == 0) && (n == 5)) (low_is (mod_by d b) m (field_bits b) below (low_small b))
+        ap (λ n. (n == 0) && (rm_field (packed_byte (mod_behind d b) m (field_bits b)) == 5)) (high_is (mod_behind d b) m (field_bits b) below (low_small b))
+        ∙ ap (λ n. (mod_behind d b == 0) && (n == 5)) (low_is (mod_behind d b) m (field_bits b) below (low_small b))
         ∙ not_bare_five (is_zero d) (asks_displacement b) (is_byte d)
 
 spelled_ip : (raw : Raw) (at : AddressRegisters) → is_ip_relative (spelled raw at) ≡ false
@@ -148,7 +148,7 @@ shortest_keeps_reg raw = let at = shortest_registers raw in middle_is _ (reg_fie
 -- ---- the address form
 
 form_weighs : (raw : Raw) (r : ℕ) → IsByteOption raw.sib → is_ip_relative raw ≡ false → (raw_form raw).registers r ≡ weight (registers_of raw) r
-form_weighs raw r h e = ap (λ n. n + adds_to (index_by raw raw.sib) (scale_by raw.sib) r) (base_counts raw raw.sib r e) ∙ ap (λ n. counts (number_of (base_of raw)) 1 r + n) (index_counts raw raw.sib r h)
+form_weighs raw r h e = ap (λ n. n + adds_to (index_by raw raw.sib) (scale_by raw.sib) r) (base_counts raw raw.sib r e) ∙ ap (λ n. part_weight (number_of (base_of raw)) 1 r + n) (index_counts raw raw.sib r h)
 
 form_next : (raw : Raw) → (raw_form raw).next ≡ (if is_ip_relative raw then 1 else 0)
 form_next raw = ap (λ n. n + adds_next (index_by raw raw.sib) (scale_by raw.sib)) (base_next raw raw.sib) ∙ ap (λ n. (if is_ip_relative raw then 1 else 0) + n) (index_next raw raw.sib (scale_by raw.sib)) ∙ plus_zero (if is_ip_relative raw then 1 else 0)
@@ -205,7 +205,7 @@ none_is_shorter raw other h k e same =
     let disp : other.disp ≡ raw.disp = disp_told raw.address_size other.disp raw.disp k.disp h.disp (ap (λ s. constant_by s other.disp) (sym (short_told other.address_size raw.address_size same.modulus)) ∙ same.constant) in
     let counts_so : (r : ℕ) → r < 16 → weight from r ≡ weight to r = λ r small. sym (form_weighs raw r h.sib e) ∙ sym (same.registers r small) ∙ form_weighs other r k.sib ip in
     let fewer = fewest raw.disp from.base from.index from.scale to.base to.index to.scale (base_stands raw raw.sib) (index_stands raw raw.sib) (base_stands other other.sib) (index_stands other other.sib) counts_so in
-    let all = least other.disp other other.sib (first_of_three _ (sib_fits other.modrm other.sib) (disp_fits (disp_width other.modrm other.sib) other.disp) k.fit) (second_of_three (is_memory other.modrm) _ (disp_fits (disp_width other.modrm other.sib) other.disp) k.fit) (third_of_three (is_memory other.modrm) (sib_fits other.modrm other.sib) _ k.fit) ip in
+    let all = least other.disp other other.sib (first_of_three _ (sib_fits other.modrm other.sib) (disp_fits (displacement_width other.modrm other.sib) other.disp) k.fit) (second_of_three (is_memory other.modrm) _ (disp_fits (displacement_width other.modrm other.sib) other.disp) k.fit) (third_of_three (is_memory other.modrm) (sib_fits other.modrm other.sib) _ k.fit) ip in
     at_most (shortest_length raw) fewer (subst (λ d. bytes_by d to.base to.index ≤ address_length other) disp all)
   where
     at_most : {a b c d : ℕ} → a ≡ b → b ≤ c → c ≤ d → a ≤ d
@@ -220,7 +220,7 @@ none_is_shorter raw other h k e same =
 -- ---- without a live REX
 
 -- no bit is named by registers below 8
-placed_low : (d : ℤ) (b i : Option ℕ) (s : Scale) → fourth_bit b ≡ false → fourth_bit i ≡ false → (fourth_bit (placed d b i s).base ≡ false) × (fourth_bit (placed d b i s).index ≡ false)
+placed_low : (d : ℤ) (b i : Option ℕ) (s : Scale) → fourth_bit b ≡ false → fourth_bit i ≡ false → (fourth_bit (arranged d b i s).base ≡ false) × (fourth_bit (arranged d b i s).index ≡ false)
 placed_low d None None s hb hi = (refl, refl)
 placed_low d (Some b) None s hb hi = (hb, refl)
 placed_low d None (Some i) One hb hi = (hi, refl)

@@ -2,13 +2,13 @@
 use Rattle.std.proofs.Common.{◌≡◌, ◌≢◌, ℕ, zero, suc, ◌+◌, ◌^◌, ◌<◌, ◌≤◌, ◌==◌, nat_le, ◌&&◌, not, Bool, true, false, if◌then◌else◌, Option, Some, None, is_some, ℤ, refl, sym, ap, ◌∙◌, arith}
 use Rattle.std.proofs.lemmas.Bool.Decides.{nat_tests}
 use Rattle.x86_fields.specs.ModRM.{mod_field, reg_field, rm_field, scale_field, index_field, base_field, packed_byte, is_memory}
-use Rattle.x86_fields.specs.Raw.{names_no_base, disp_width, sib_fits, is_zero, is_byte, disp_fits}
+use Rattle.x86_fields.specs.Raw.{names_no_base, displacement_width, sib_fits, is_zero, is_byte, disp_fits}
 use Rattle.x86_fields.specs.declared.raw.Raw.{Raw}
-use Rattle.x86_fields.specs.Address.{extended, address_register, next_pointer, base_by, index_by, scale_by}
+use Rattle.x86_fields.specs.Address.{extend, address_register, next_pointer, base_by, index_by, scale_by}
 use Rattle.x86_layout.specs.declared.tightening.registers.Scale.{Scale}
 use Rattle.x86_layout.specs.declared.tightening.registers.Scale.TheVariants.{One, Two, Four, Eight}
 use Rattle.x86_layout.specs.Tightening.Registers.{number_of, scale_named, IsBelow16, IsIndex}
-use Rattle.x86_layout.specs.Tightening.Shortest.{asks_displacement, behind_base, bytes_by, mod_by, mod_of, fourth_bit, scale_bits, field_or, rm_alone, sib_by, rm_by, field_bits}
+use Rattle.x86_layout.specs.Tightening.Shortest.{asks_displacement, behind_base, bytes_by, mod_behind, mod_of, fourth_bit, scale_bits, field_or, rm_alone, sib_by, rm_by, field_bits}
 
 -- ---- the fields of a byte
 
@@ -27,14 +27,14 @@ low_small n = omega arith
 pub middle_small : (n : ℕ) → reg_field n < 8
 middle_small n = omega arith
 
-pub low_of_extended : (bit : Bool) (n : ℕ) → n < 8 → field_bits (extended bit n) ≡ n
+pub low_of_extended : (bit : Bool) (n : ℕ) → n < 8 → field_bits (extend bit n) ≡ n
 low_of_extended true n h = omega arith
 low_of_extended false n h = omega arith
 
-pub extended_low : (n : ℕ) → n < 16 → extended (nat_le 8 n) (field_bits n) ≡ n
+pub extended_low : (n : ℕ) → n < 16 → extend (nat_le 8 n) (field_bits n) ≡ n
 extended_low n h = by (nat_le 8 n) refl
   where
-    by : (t : Bool) → nat_le 8 n ≡ t → extended t (field_bits n) ≡ n
+    by : (t : Bool) → nat_le 8 n ≡ t → extend t (field_bits n) ≡ n
     by true e = grind (arith, nat_tests)
     by false e = grind (arith, nat_tests)
 
@@ -109,14 +109,14 @@ no_fewer (suc (suc (suc n))) naught five byte h e f = absurd (omega (arith, h))
 -- ---- the bytes of spelled raw fields
 
 module _ (d : ℤ) (b : ℕ) (m l : ℕ) (below : m < 8) (low : l < 8) where
-  mod_is : mod_field (packed_byte (mod_by d b) m l) ≡ mod_by d b
-  mod_is = high_is (mod_by d b) m l below low
+  mod_is : mod_field (packed_byte (mod_behind d b) m l) ≡ mod_behind d b
+  mod_is = high_is (mod_behind d b) m l below low
 
   -- the width behind a base, where the byte that names it ends as its number does
-  width_is : (sib : Option ℕ) → names_no_base (packed_byte (mod_by d b) m l) sib ≡ asks_displacement b → disp_width (packed_byte (mod_by d b) m l) sib ≡ behind_base d b
+  width_is : (sib : Option ℕ) → names_no_base (packed_byte (mod_behind d b) m l) sib ≡ asks_displacement b → displacement_width (packed_byte (mod_behind d b) m l) sib ≡ behind_base d b
   width_is sib e =
-      ap (λ n. if n == 1 then 1 else (if n == 2 then 4 else (if names_no_base (packed_byte (mod_by d b) m l) sib then 4 else 0))) mod_is
-      ∙ ap (λ t. if mod_by d b == 1 then 1 else (if mod_by d b == 2 then 4 else (if t then 4 else 0))) e
+      ap (λ n. if n == 1 then 1 else (if n == 2 then 4 else (if names_no_base (packed_byte (mod_behind d b) m l) sib then 4 else 0))) mod_is
+      ∙ ap (λ t. if mod_behind d b == 1 then 1 else (if mod_behind d b == 2 then 4 else (if t then 4 else 0))) e
       ∙ width_of_mod (is_zero d) (asks_displacement b) (is_byte d)
 
 module _ (d : ℤ) (m : ℕ) (below : m < 8) where
@@ -130,11 +130,11 @@ module _ (d : ℤ) (m : ℕ) (below : m < 8) where
   sib_low : (b i : Option ℕ) (s : Scale) → base_field (packed_byte (scale_bits s) (field_or 4 i) (field_or 5 b)) ≡ field_or 5 b
   sib_low b i s = low_is (scale_bits s) (field_or 4 i) (field_or 5 b) (field_small 4 i (omega arith)) (field_small 5 b (omega arith))
 
-  alone_width : (t : Bool) (b : ℕ) (sib : ℕ) → (field_bits b == 4) ≡ t → base_field sib ≡ field_bits b → (let rm = if t then None else Some (field_bits b) in disp_width (packed_byte (mod_by d b) m (rm_by rm)) (sib_by rm sib)) ≡ behind_base d b
+  alone_width : (t : Bool) (b : ℕ) (sib : ℕ) → (field_bits b == 4) ≡ t → base_field sib ≡ field_bits b → (let rm = if t then None else Some (field_bits b) in displacement_width (packed_byte (mod_behind d b) m (rm_by rm)) (sib_by rm sib)) ≡ behind_base d b
   alone_width true b sib e f = width_is d b m 4 below (omega arith) (Some sib) (ap (λ n. n == 5) f)
-  alone_width false b sib e f = width_is d b m (field_bits b) below (low_small b) None (ap (λ n. n == 5) (low_is (mod_by d b) m (field_bits b) below (low_small b)))
+  alone_width false b sib e f = width_is d b m (field_bits b) below (low_small b) None (ap (λ n. n == 5) (low_is (mod_behind d b) m (field_bits b) below (low_small b)))
 
-  spelled_width : (b i : Option ℕ) (s : Scale) → disp_width (Modrm b i) (Sib b i s) ≡ (elim b [ None ↦ 4 | Some n ↦ behind_base d n ])
+  spelled_width : (b i : Option ℕ) (s : Scale) → displacement_width (Modrm b i) (Sib b i s) ≡ (elim b [ None ↦ 4 | Some n ↦ behind_base d n ])
   spelled_width None i s =
       ap (λ n. if n == 1 then 1 else (if n == 2 then 4 else (if base_field (packed_byte (scale_bits s) (field_or 4 i) 5) == 5 then 4 else 0))) (high_is 0 m 4 below (omega arith))
       ∙ ap (λ n. if n == 5 then 4 else 0) (sib_low None i s)
@@ -145,7 +145,7 @@ module _ (d : ℤ) (m : ℕ) (below : m < 8) where
   alone_length true b sib w e f = ap (λ n. 1 + n) e
   alone_length false b sib w e f = ap (λ n. 0 + n) e
 
-  pub spelled_length : (b i : Option ℕ) (s : Scale) → (if is_some (Sib b i s) then 1 else 0) + disp_width (Modrm b i) (Sib b i s) ≡ bytes_by d b i
+  pub spelled_length : (b i : Option ℕ) (s : Scale) → (if is_some (Sib b i s) then 1 else 0) + displacement_width (Modrm b i) (Sib b i s) ≡ bytes_by d b i
   spelled_length None i s = ap (λ n. 1 + n) (spelled_width None i s)
   spelled_length (Some b) None s = alone_length (field_bits b == 4) b (packed_byte (scale_bits s) 4 (field_bits b)) _ (spelled_width (Some b) None s) refl
   spelled_length (Some b) (Some i) s = ap (λ n. 1 + n) (spelled_width (Some b) (Some i) s)
@@ -191,7 +191,7 @@ module _ (d : ℤ) (m : ℕ) (below : m < 8) where
   all_three : (a b c : Bool) → a ≡ true → b ≡ true → c ≡ true → (a && (b && c)) ≡ true
   all_three a b c e f g = grind arith
 
-  pub spelled_fits : (b i : Option ℕ) (s : Scale) → (is_memory (Modrm b i) && (sib_fits (Modrm b i) (Sib b i s) && disp_fits (disp_width (Modrm b i) (Sib b i s)) d)) ≡ true
+  pub spelled_fits : (b i : Option ℕ) (s : Scale) → (is_memory (Modrm b i) && (sib_fits (Modrm b i) (Sib b i s) && disp_fits (displacement_width (Modrm b i) (Sib b i s)) d)) ≡ true
   spelled_fits b i s =
       all_three _ _ _
       (byte_small (mod_of d b) m (rm_by (rm_alone b i)) (mod_is_small b) below (rm_small b i))
@@ -204,21 +204,21 @@ module _ (d : ℤ) (m : ℕ) (below : m < 8) where
   mod_reads b i = high_is (mod_of d b) m (rm_by (rm_alone b i)) below (rm_small b i)
 
   -- behind a SIB whose base field is that of the number
-  base_behind : (raw : Raw) (b sib : ℕ) → b < 16 → raw.rex_b ≡ nat_le 8 b → mod_field raw.modrm ≡ mod_by d b → base_field sib ≡ field_bits b → number_of (base_by raw (Some sib)) ≡ Some b
+  base_behind : (raw : Raw) (b sib : ℕ) → b < 16 → raw.rex_b ≡ nat_le 8 b → mod_field raw.modrm ≡ mod_behind d b → base_field sib ≡ field_bits b → number_of (base_by raw (Some sib)) ≡ Some b
   base_behind raw b sib h p e f =
-      ap (λ t. number_of (if t then None else Some (address_register raw raw.rex_b (base_field sib)))) (ap (λ n. (n == 0) && (base_field sib == 5)) e ∙ ap (λ n. (mod_by d b == 0) && (n == 5)) f ∙ not_bare_five (is_zero d) (asks_displacement b) (is_byte d))
-      ∙ ap (λ n. Some (extended raw.rex_b n)) f
-      ∙ ap (λ t. Some (extended t (field_bits b))) p
+      ap (λ t. number_of (if t then None else Some (address_register raw raw.rex_b (base_field sib)))) (ap (λ n. (n == 0) && (base_field sib == 5)) e ∙ ap (λ n. (mod_behind d b == 0) && (n == 5)) f ∙ not_bare_five (is_zero d) (asks_displacement b) (is_byte d))
+      ∙ ap (λ n. Some (extend raw.rex_b n)) f
+      ∙ ap (λ t. Some (extend t (field_bits b))) p
       ∙ ap Some (extended_low b h)
 
-  base_alone : (t : Bool) (raw : Raw) (b sib : ℕ) → b < 16 → raw.rex_b ≡ nat_le 8 b → raw.modrm ≡ packed_byte (mod_by d b) m (rm_by (if t then None else Some (field_bits b))) → base_field sib ≡ field_bits b → number_of (base_by raw (sib_by (if t then None else Some (field_bits b)) sib)) ≡ Some b
-  base_alone true raw b sib h p q f = base_behind raw b sib h p (ap mod_field q ∙ high_is (mod_by d b) m 4 below (omega arith)) f
+  base_alone : (t : Bool) (raw : Raw) (b sib : ℕ) → b < 16 → raw.rex_b ≡ nat_le 8 b → raw.modrm ≡ packed_byte (mod_behind d b) m (rm_by (if t then None else Some (field_bits b))) → base_field sib ≡ field_bits b → number_of (base_by raw (sib_by (if t then None else Some (field_bits b)) sib)) ≡ Some b
+  base_alone true raw b sib h p q f = base_behind raw b sib h p (ap mod_field q ∙ high_is (mod_behind d b) m 4 below (omega arith)) f
   base_alone false raw b sib h p q f =
-      let mod_same : mod_field raw.modrm ≡ mod_by d b = ap mod_field q ∙ high_is (mod_by d b) m (field_bits b) below (low_small b) in
-      let rm_same : rm_field raw.modrm ≡ field_bits b = ap rm_field q ∙ low_is (mod_by d b) m (field_bits b) below (low_small b) in
-      ap (λ t. Some (if t then next_pointer raw else address_register raw raw.rex_b (rm_field raw.modrm)).num) (ap (λ n. (n == 0) && (rm_field raw.modrm == 5)) mod_same ∙ ap (λ n. (mod_by d b == 0) && (n == 5)) rm_same ∙ not_bare_five (is_zero d) (asks_displacement b) (is_byte d))
-      ∙ ap (λ n. Some (extended raw.rex_b n)) rm_same
-      ∙ ap (λ t. Some (extended t (field_bits b))) p
+      let mod_same : mod_field raw.modrm ≡ mod_behind d b = ap mod_field q ∙ high_is (mod_behind d b) m (field_bits b) below (low_small b) in
+      let rm_same : rm_field raw.modrm ≡ field_bits b = ap rm_field q ∙ low_is (mod_behind d b) m (field_bits b) below (low_small b) in
+      ap (λ t. Some (if t then next_pointer raw else address_register raw raw.rex_b (rm_field raw.modrm)).num) (ap (λ n. (n == 0) && (rm_field raw.modrm == 5)) mod_same ∙ ap (λ n. (mod_behind d b == 0) && (n == 5)) rm_same ∙ not_bare_five (is_zero d) (asks_displacement b) (is_byte d))
+      ∙ ap (λ n. Some (extend raw.rex_b n)) rm_same
+      ∙ ap (λ t. Some (extend t (field_bits b))) p
       ∙ ap Some (extended_low b h)
 
   pub spelled_base : (raw : Raw) (b i : Option ℕ) (s : Scale) → raw.rex_b ≡ fourth_bit b → raw.modrm ≡ Modrm b i → IsBelow16 b → number_of (base_by raw (Sib b i s)) ≡ b
@@ -232,8 +232,8 @@ module _ (d : ℤ) (m : ℕ) (below : m < 8) where
   index_behind : (raw : Raw) (i sib : ℕ) → i < 16 → i ≢ 4 → raw.rex_x ≡ nat_le 8 i → index_field sib ≡ field_bits i → number_of (index_by raw (Some sib)) ≡ Some i
   index_behind raw i sib h e p f =
       ap (λ t. number_of (if t then None else Some (address_register raw raw.rex_x (index_field sib)))) (ap (λ n. (n == 4) && not raw.rex_x) f ∙ ap (λ t. (field_bits i == 4) && not t) p ∙ no_four)
-      ∙ ap (λ n. Some (extended raw.rex_x n)) f
-      ∙ ap (λ t. Some (extended t (field_bits i))) p
+      ∙ ap (λ n. Some (extend raw.rex_x n)) f
+      ∙ ap (λ t. Some (extend t (field_bits i))) p
       ∙ ap Some (extended_low i h)
     where
       no_four : ((field_bits i == 4) && not (nat_le 8 i)) ≡ false

@@ -3,7 +3,7 @@ use Rattle.std.proofs.Common.{◌≡◌, ℕ, ◌≤◌, ◌==◌, ◌&&◌, Boo
 use Rattle.x86_fields.specs.declared.prefixes.Prefixes.{Prefixes}
 use Rattle.x86_fields.specs.declared.raw.Raw.{Raw}
 use Rattle.x86_fields.specs.ModRM.{rm_field, is_memory}
-use Rattle.x86_fields.specs.Raw.{rex_b, rex_x, disp_width, live_bit}
+use Rattle.x86_fields.specs.Raw.{has_b, has_x, displacement_width, live_bit}
 use Rattle.x86_fields.specs.Run.{reading_of}
 use Rattle.x86_fields.specs.Pieces.{option_bytes, first_byte, signed_by, SpellsRaw}
 use Rattle.x86_operands.specs.declared.reader.Reading.{Reading}
@@ -99,7 +99,7 @@ module _ (strict : Bool) (s : List ℕ) (a : Reading) (v : Encoding strict s a) 
     displacement_is : parts.displacement ≡ (spelled).disp
     displacement_is = drop_of parts.sib parts.displacement (option_bytes (spelled).sib) (spelled).disp both sib_long
 
-    disp_is : signed_by (length parts.displacement) parts.displacement ≡ signed_by (disp_width (Byte strict s a v) (spelled).sib) (spelled).disp
+    disp_is : signed_by (length parts.displacement) parts.displacement ≡ signed_by (displacement_width (Byte strict s a v) (spelled).sib) (spelled).disp
     disp_is = ap (λ l. signed_by (length l) l) displacement_is ∙ ap (λ n. signed_by n (spelled).disp) (spelled).disp_asked
 
     prefixes_is : reading_of parts.prefixes ≡ reading_of v.run
@@ -110,16 +110,16 @@ module _ (strict : Bool) (s : List ℕ) (a : Reading) (v : Encoding strict s a) 
     fields_are =
         let in' = raw_of parts in
         let p = Seen strict s a v in
-        let b : in'.rex_b ≡ rex_b p = ap rex_b prefixes_is ∙ ap (live_bit (λ r. r.b)) (sym (seen_rex v.map v.opcode (reading_of v.run))) in
-        let x : in'.rex_x ≡ rex_x p = ap rex_x prefixes_is ∙ ap (live_bit (λ r. r.x)) (sym (seen_rex v.map v.opcode (reading_of v.run))) in
+        let b : in'.rex_b ≡ has_b p = ap has_b prefixes_is ∙ ap (live_bit (λ r. r.b)) (sym (seen_rex v.map v.opcode (reading_of v.run))) in
+        let x : in'.rex_x ≡ has_x p = ap has_x prefixes_is ∙ ap (live_bit (λ r. r.x)) (sym (seen_rex v.map v.opcode (reading_of v.run))) in
         let short : in'.address_size ≡ p.address_size = ap (λ q. q.address_size) prefixes_is ∙ sym (seen_67 v.map v.opcode (reading_of v.run)) in
         let m : in'.modrm ≡ Byte strict s a v = ap (λ l. slice_index l 0) (h.modrm ∙ byte strict s a v raw read) in
         ap (λ t. record in' { rex_b = t }) b
-        ∙ ap (λ t. record in' { rex_b = rex_b p; rex_x = t }) x
-        ∙ ap (λ t. record in' { rex_b = rex_b p; rex_x = rex_x p; address_size = t }) short
-        ∙ ap (λ n. record in' { rex_b = rex_b p; rex_x = rex_x p; address_size = p.address_size; modrm = n }) m
-        ∙ ap (λ o. record in' { rex_b = rex_b p; rex_x = rex_x p; address_size = p.address_size; modrm = Byte strict s a v; sib = o }) sib_is
-        ∙ ap (λ d. record in' { rex_b = rex_b p; rex_x = rex_x p; address_size = p.address_size; modrm = Byte strict s a v; sib = (spelled).sib; disp = d }) disp_is
+        ∙ ap (λ t. record in' { rex_b = has_b p; rex_x = t }) x
+        ∙ ap (λ t. record in' { rex_b = has_b p; rex_x = has_x p; address_size = t }) short
+        ∙ ap (λ n. record in' { rex_b = has_b p; rex_x = has_x p; address_size = p.address_size; modrm = n }) m
+        ∙ ap (λ o. record in' { rex_b = has_b p; rex_x = has_x p; address_size = p.address_size; modrm = Byte strict s a v; sib = o }) sib_is
+        ∙ ap (λ d. record in' { rex_b = has_b p; rex_x = has_x p; address_size = p.address_size; modrm = Byte strict s a v; sib = (spelled).sib; disp = d }) disp_is
         ∙ sym (spelled).fields
 
   module _ (raw : Raw) (read : v.asked.behind.pieces.memory ≡ Some raw) (parts : Parts) (h : HasParts strict s a v (lists_of parts)) where

@@ -4,21 +4,21 @@ use Rattle.std.proofs.lemmas.Bool.Decides.{nat_tests}
 use Rattle.x86_fields.specs.Raw.{is_zero, is_byte}
 use Rattle.x86_layout.specs.declared.tightening.registers.Scale.{Scale}
 use Rattle.x86_layout.specs.declared.tightening.registers.Scale.TheVariants.{One, Two, Four, Eight}
-use Rattle.x86_layout.specs.Tightening.Registers.{times, counts, IsBelow16, IsIndex}
-use Rattle.x86_layout.specs.Tightening.Shortest.{asks_displacement, is_bare, lone, both, exchanged, placed, behind_base, bytes_by, bytes_at, field_bits}
+use Rattle.x86_layout.specs.Tightening.Registers.{times, part_weight, IsBelow16, IsIndex}
+use Rattle.x86_layout.specs.Tightening.Shortest.{asks_displacement, is_bare, lone, both, exchanged, arranged, behind_base, bytes_by, bytes_at, field_bits}
 
 -- ---- how often a register counts
 
-pub once : (b n : ℕ) → counts (Some b) n b ≡ n
+pub once : (b n : ℕ) → part_weight (Some b) n b ≡ n
 once b n = grind (arith, nat_tests)
 
-only_there : (b n r : ℕ) → b ≢ r → counts (Some b) n r ≡ 0
+only_there : (b n r : ℕ) → b ≢ r → part_weight (Some b) n r ≡ 0
 only_there b n r e = grind (arith, nat_tests)
 
-there : (b n r : ℕ) → 0 < counts (Some b) n r → b ≡ r
+there : (b n r : ℕ) → 0 < part_weight (Some b) n r → b ≡ r
 there b n r h = grind (arith, nat_tests)
 
-none_of : (n r : ℕ) → counts None n r ≡ 0
+none_of : (n r : ℕ) → part_weight None n r ≡ 0
 none_of n r = refl
 
 some_times : (s : Scale) → 0 < times s
@@ -49,23 +49,23 @@ at_most_five d (Some b) (Some i) = omega (arith, at_most_four d b)
 -- ---- what equal counts tell
 
 -- one register that counts once is no base with an index
-alone : (r b' i' : ℕ) (s' : Scale) → counts (Some r) 1 b' ≡ counts (Some b') 1 b' + counts (Some i') (times s') b' → counts (Some r) 1 i' ≡ counts (Some b') 1 i' + counts (Some i') (times s') i' → ⊥
+alone : (r b' i' : ℕ) (s' : Scale) → part_weight (Some r) 1 b' ≡ part_weight (Some b') 1 b' + part_weight (Some i') (times s') b' → part_weight (Some r) 1 i' ≡ part_weight (Some b') 1 i' + part_weight (Some i') (times s') i' → ⊥
 alone r b' i' s' e f =
     let one = once b' 1 in
     let all = once i' (times s') in
     let some = some_times s' in
     let same : r ≡ b' = there r 1 b' (omega (arith, e, one)) in
-    let f' : counts (Some b') 1 i' ≡ counts (Some b') 1 i' + counts (Some i') (times s') i' = subst (λ k. counts (Some k) 1 i' ≡ counts (Some b') 1 i' + counts (Some i') (times s') i') same f in
+    let f' : part_weight (Some b') 1 i' ≡ part_weight (Some b') 1 i' + part_weight (Some i') (times s') i' = subst (λ k. part_weight (Some k) 1 i' ≡ part_weight (Some b') 1 i' + part_weight (Some i') (times s') i') same f in
     omega (arith, f', all, some)
 
 abbrev pub Weigh : Option ℕ → Option ℕ → Scale → ℕ → ℕ
-Weigh b i s r = counts b 1 r + counts i (times s) r
+Weigh b i s r = part_weight b 1 r + part_weight i (times s) r
 
 fewer : (d : ℤ) (b : ℕ) (b' : ℕ) → b ≡ b' → 1 + behind_base d b ≤ 1 + behind_base d b'
 fewer d b b' e = subst (λ k. 1 + behind_base d b ≤ 1 + behind_base d k) e (omega arith)
 
 -- a base alone
-one_base : (d : ℤ) (r b' : ℕ) (i' : Option ℕ) (s' : Scale) → r < 16 → b' < 16 → IsIndex i' → ((k : ℕ) → k < 16 → counts (Some r) 1 k + 0 ≡ Weigh (Some b') i' s' k) → bytes_by d (Some r) None ≤ bytes_by d (Some b') i'
+one_base : (d : ℤ) (r b' : ℕ) (i' : Option ℕ) (s' : Scale) → r < 16 → b' < 16 → IsIndex i' → ((k : ℕ) → k < 16 → part_weight (Some r) 1 k + 0 ≡ Weigh (Some b') i' s' k) → bytes_by d (Some r) None ≤ bytes_by d (Some b') i'
 one_base d r b' None s' hr hb hi e =
     let one = once b' 1 in
     let f = e b' hb in
@@ -77,17 +77,17 @@ one_base d r b' (Some i') s' hr hb hi e =
     absurd (alone r b' i' s' (omega (arith, f)) (omega (arith, g)))
 
 -- an index that counts more than once is no base alone
-many : (r b' : ℕ) (s : Scale) → r < 16 → counts (Some r) (times s) b' ≡ counts (Some b') 1 b' → times s ≡ 1
+many : (r b' : ℕ) (s : Scale) → r < 16 → part_weight (Some r) (times s) b' ≡ part_weight (Some b') 1 b' → times s ≡ 1
 many r b' s h e =
     let one = once b' 1 in
     let some = some_times s in
     let same : r ≡ b' = there r (times s) b' (omega (arith, e, one)) in
     let all = once r (times s) in
-    let e' : counts (Some r) (times s) r ≡ 1 = ap (counts (Some r) (times s)) same ∙ e ∙ one in
+    let e' : part_weight (Some r) (times s) r ≡ 1 = ap (part_weight (Some r) (times s)) same ∙ e ∙ one in
     omega (arith, e', all)
 
 -- an index that counts as base and index together: both are it, and it counts as often as both
-twice : (r b' i' : ℕ) (s s' : Scale) → counts (Some r) (times s) b' ≡ counts (Some b') 1 b' + counts (Some i') (times s') b' → counts (Some r) (times s) i' ≡ counts (Some b') 1 i' + counts (Some i') (times s') i' → (r ≡ b') × (times s ≡ 1 + times s')
+twice : (r b' i' : ℕ) (s s' : Scale) → part_weight (Some r) (times s) b' ≡ part_weight (Some b') 1 b' + part_weight (Some i') (times s') b' → part_weight (Some r) (times s) i' ≡ part_weight (Some b') 1 i' + part_weight (Some i') (times s') i' → (r ≡ b') × (times s ≡ 1 + times s')
 twice r b' i' s s' e f =
     let one = once b' 1 in
     let all = once i' (times s') in
@@ -95,11 +95,11 @@ twice r b' i' s s' e f =
     let same : r ≡ b' = there r (times s) b' (omega (arith, e, one)) in
     let other : r ≡ i' = there r (times s) i' (omega (arith, f, all, some)) in
     let whole = once r (times s) in
-    let base : counts (Some b') 1 i' ≡ 1 = ap (counts (Some b') 1) (sym other ∙ same) ∙ one in
-    let index : counts (Some r) (times s) i' ≡ times s = ap (counts (Some r) (times s)) (sym other) ∙ whole in
+    let base : part_weight (Some b') 1 i' ≡ 1 = ap (part_weight (Some b') 1) (sym other ∙ same) ∙ one in
+    let index : part_weight (Some r) (times s) i' ≡ times s = ap (part_weight (Some r) (times s)) (sym other) ∙ whole in
     (same, omega (arith, f, base, index, all))
 
-one_index : (d : ℤ) (r b' : ℕ) (i' : Option ℕ) (s s' : Scale) → r < 16 → b' < 16 → IsIndex i' → ((k : ℕ) → k < 16 → 0 + counts (Some r) (times s) k ≡ Weigh (Some b') i' s' k) → bytes_at d (lone r s) ≤ bytes_by d (Some b') i'
+one_index : (d : ℤ) (r b' : ℕ) (i' : Option ℕ) (s s' : Scale) → r < 16 → b' < 16 → IsIndex i' → ((k : ℕ) → k < 16 → 0 + part_weight (Some r) (times s) k ≡ Weigh (Some b') i' s' k) → bytes_at d (lone r s) ≤ bytes_by d (Some b') i'
 one_index d r b' i' One s' hr hb hi e = one_base d r b' i' s' hr hb hi (λ k h. let f = e k h in omega (arith, f))
 one_index d r b' None Two s' hr hb hi e = let f = e b' hb in absurd (let m = many r b' Two hr (omega (arith, f)) in omega (arith, m))
 one_index d r b' None Four s' hr hb hi e = let f = e b' hb in absurd (let m = many r b' Four hr (omega (arith, f)) in omega (arith, m))
@@ -130,15 +130,15 @@ one_index d r b' (Some i') Eight s' hr hb hi e =
     not_eight Eight h = omega arith
 
 -- two registers are no base alone
-two_are_two : (b i b' : ℕ) (s : Scale) → Weigh (Some b) (Some i) s b ≡ counts (Some b') 1 b + 0 → Weigh (Some b) (Some i) s i ≡ counts (Some b') 1 i + 0 → ⊥
+two_are_two : (b i b' : ℕ) (s : Scale) → Weigh (Some b) (Some i) s b ≡ part_weight (Some b') 1 b + 0 → Weigh (Some b) (Some i) s i ≡ part_weight (Some b') 1 i + 0 → ⊥
 two_are_two b i b' s e f =
     let one = once b 1 in
     let all = once i (times s) in
     let some = some_times s in
     let first : b' ≡ b = there b' 1 b (omega (arith, e, one)) in
     let second : b' ≡ i = there b' 1 i (omega (arith, f, all, some)) in
-    let base : counts (Some b) 1 i ≡ 1 = ap (counts (Some b) 1) (sym second ∙ first) ∙ one in
-    let right : counts (Some b') 1 i ≡ 1 = ap (counts (Some b') 1) (sym second) ∙ once b' 1 in
+    let base : part_weight (Some b) 1 i ≡ 1 = ap (part_weight (Some b) 1) (sym second ∙ first) ∙ one in
+    let right : part_weight (Some b') 1 i ≡ 1 = ap (part_weight (Some b') 1) (sym second) ∙ once b' 1 in
     omega (arith, f, all, some, base, right)
 
 times_one : (s : Scale) → times s ≡ 1 → s ≡ One
@@ -164,7 +164,7 @@ which_by false b i s b' i' s' h e f g =
     let lost = only_there i' (times s') i away in
     let all = once i (times s) in
     let nothing = only_there b 1 i (λ k. apart (sym k)) in
-    let whole : counts (Some b') 1 i ≡ 1 = ap (counts (Some b') 1) base ∙ one' in
+    let whole : part_weight (Some b') 1 i ≡ 1 = ap (part_weight (Some b') 1) base ∙ one' in
     inr (base, times_one s (omega (arith, f, all, nothing, whole, lost)))
 
 which : (b i : ℕ) (s : Scale) (b' i' : ℕ) (s' : Scale) → Weigh (Some b) (Some i) s b ≡ Weigh (Some b') (Some i') s' b → Weigh (Some b) (Some i) s i ≡ Weigh (Some b') (Some i') s' i → Weigh (Some b) (Some i) s b' ≡ Weigh (Some b') (Some i') s' b' → (b ≡ b') ⊎ ((i ≡ b') × (s ≡ One))
@@ -211,8 +211,8 @@ by_base : (d : ℤ) (b i : ℕ) (s : Scale) (b' : ℕ) → (b ≡ b') ⊎ ((i �
 by_base d b i s b' (inl e) = subst (λ k. bytes_at d (both d b i s) ≤ 1 + behind_base d k) e (kept_base d b i s)
 by_base d b i s b' (inr e) = subst (λ k. bytes_at d (both d b i k) ≤ 1 + behind_base d b') (sym e.1) (subst (λ k. bytes_at d (exchanged d b i) ≤ 1 + behind_base d k) e.0 (spares_index d b i))
 
-pub fewest : (d : ℤ) (b i : Option ℕ) (s : Scale) (b' i' : Option ℕ) (s' : Scale) → IsBelow16 b → IsIndex i → IsBelow16 b' → IsIndex i' → ((k : ℕ) → k < 16 → Weigh b i s k ≡ Weigh b' i' s' k) → bytes_at d (placed d b i s) ≤ bytes_by d b' i'
-fewest d b i s None i' s' hb hi hb' hi' e = let at = placed d b i s in at_most_five d at.base at.index
+pub fewest : (d : ℤ) (b i : Option ℕ) (s : Scale) (b' i' : Option ℕ) (s' : Scale) → IsBelow16 b → IsIndex i → IsBelow16 b' → IsIndex i' → ((k : ℕ) → k < 16 → Weigh b i s k ≡ Weigh b' i' s' k) → bytes_at d (arranged d b i s) ≤ bytes_by d b' i'
+fewest d b i s None i' s' hb hi hb' hi' e = let at = arranged d b i s in at_most_five d at.base at.index
 fewest d None None s (Some b') i' s' hb hi hb' hi' e = let one = once b' 1 in let f = e b' hb' in absurd (omega (arith, f, one))
 fewest d (Some r) None s (Some b') i' s' hb hi hb' hi' e = one_base d r b' i' s' hb hb' hi' e
 fewest d None (Some r) s (Some b') i' s' hb hi hb' hi' e = one_index d r b' i' s s' hi.0 hb' hi' e

@@ -4,7 +4,7 @@ use Rattle.std.specs.List.{list_any}
 use Rattle.x86_fields.specs.declared.prefixes.Prefixes.{Prefixes}
 use Rattle.x86_forms.specs.declared.Form.{Form}
 use Rattle.x86_forms.specs.declared.TableRow.{TableRow}
-use Rattle.x86_forms.specs.Groups.{is_group_form}
+use Rattle.x86_forms.specs.Groups.{is_group}
 use Rattle.x86_operands.specs.declared.plans.ModrmUse.TheVariants.{Fields}
 use Rattle.x86_operands.specs.declared.plans.Plan.{Plan}
 use Rattle.x86_fields.specs.ModRM.{is_memory}
@@ -44,8 +44,8 @@ module _ (p : Prefixes) (m : ℕ) (mm : is_memory m ≡ true) where
   plain_writes : (f : Form) (o : ℕ) → modrm_use f ≡ Fields → writes (form_plan f o p m) ≡ true
   plain_writes f o usage = first_of (cc (mm), search (in_memory, either, mm), grind (arith, mm))
 
-  group_writes : (f : Form) (o : ℕ) (strict : Bool) → group_modrm f ≡ Fields → writes (groups.form_plan f o strict p m) ≡ true
-  unfolding groups.form_plan two_byte_plan three_byte_plan plan_80 plan_81 plan_83 plan_c0 plan_c1 plan_d0 plan_d1 plan_d2 plan_d3 plan_f6 plan_f7 plan_0fba operand_size_0fc7 f3_0fc7 plain_0fc7 plan_0fc7 plan_660f78 plan_f20f78 f2_0fae trace_0fae f3_0fae fence plain_0fae plan_0fae plan_d8 memory_d9 constant_d9 function_d9 register_d9 plan_d9 register_da plan_da memory_db control_db register_db plan_db register_dc plan_dc memory_dd register_dd plan_dd register_de plan_de memory_df register_df plan_df plan_0f0d plan_0f12 plan_0f16 plan_0f18 plan_f30f1e plan_f30f38d8 plan_f30f38dc plan_f30f38dd plan_f30f38de plan_f30f38df plan_f30f38fa plan_f30f38fb plan_f30f3af0 fault_f30f3af0 plan_rq_cq plan_cq_rq plan_rq_dq plan_dq_rq plan_8f plan_c6 plan_c7 plan_fe plan_ff plan_0f71 plan_0f72 plan_0f73 plan_0f00 memory_0f01 register_0f01_0 register_0f01_1 register_0f01_2 register_0f01_3 register_0f01_5 register_0f01_7 register_0f01 plan_0f01 plan_0f0f
+  group_writes : (f : Form) (o : ℕ) (strict : Bool) → group_modrm f ≡ Fields → writes (groups.group_form_plan f o strict p m) ≡ true
+  unfolding groups.group_form_plan two_byte_plan three_byte_plan plan_80 plan_81 plan_83 plan_c0 plan_c1 plan_d0 plan_d1 plan_d2 plan_d3 plan_f6 plan_f7 plan_0fba operand_size_0fc7 f3_0fc7 plain_0fc7 plan_0fc7 plan_660f78 plan_f20f78 f2_0fae trace_0fae f3_0fae fence plain_0fae plan_0fae plan_d8 memory_d9 constant_d9 function_d9 register_d9 plan_d9 register_da plan_da memory_db control_db register_db plan_db register_dc plan_dc memory_dd register_dd plan_dd register_de plan_de memory_df register_df plan_df plan_0f0d plan_0f12 plan_0f16 plan_0f18 plan_f30f1e plan_f30f38d8 plan_f30f38dc plan_f30f38dd plan_f30f38de plan_f30f38df plan_f30f38fa plan_f30f38fb plan_f30f3af0 fault_f30f3af0 plan_rq_cq plan_cq_rq plan_rq_dq plan_dq_rq plan_8f plan_c6 plan_c7 plan_fe plan_ff plan_0f71 plan_0f72 plan_0f73 plan_0f00 memory_0f01 register_0f01_0 register_0f01_1 register_0f01_2 register_0f01_3 register_0f01_5 register_0f01_7 register_0f01 plan_0f01 plan_0f0f
   group_writes f o strict usage = first_of (cc (mm), search (in_memory, either, mm), grind (arith, mm))
 
 module _ (strict : Bool) (row : TableRow) (p : Prefixes) (m : ℕ) (mm : is_memory m ≡ true) where
@@ -61,4 +61,4 @@ module _ (strict : Bool) (row : TableRow) (p : Prefixes) (m : ℕ) (mm : is_memo
   second a b e f = grind arith
 
   pub row_writes : (record_of strict row p).modrm ≡ Fields → is_refusal ((record_of strict row p).plan m).verdict ≡ false → list_any is_modrm_sign (list_of ((record_of strict row p).plan m).signs) ≡ true
-  row_writes usage accepted = second _ _ (by_kind (is_group_form row.form) usage) accepted
+  row_writes usage accepted = second _ _ (by_kind (is_group row.form) usage) accepted

@@ -2,17 +2,17 @@
 use Rattle.std.specs.Prelude.{ℕ, Bool, false, if◌then◌else◌, Option, Some, None, List, length, take, drop, slice_index}
 use Rattle.std.specs.List.{prefix_len}
 use Rattle.x86_fields.specs.declared.prefixes.Prefixes.{Prefixes}
-use Rattle.x86_fields.specs.Run.{is_prefix_byte, reading_of}
-use Rattle.x86_fields.specs.Raw.{disp_width}
+use Rattle.x86_fields.specs.Run.{is_prefix, reading_of}
+use Rattle.x86_fields.specs.Raw.{displacement_width}
 use Rattle.x86_fields.specs.Pieces.{first_byte}
 use Rattle.x86_forms.specs.declared.Map.{Map}
 use Rattle.x86_forms.specs.declared.TableRow.{TableRow}
-use Rattle.x86_forms.specs.Words.{rows_of, word_at}
+use Rattle.x86_forms.specs.Words.{rows_of, packed}
 use Rattle.x86_operands.specs.declared.asks.Ask.{Ask}
 use Rattle.x86_operands.specs.Asks.{ask_of}
-use Rattle.x86_decode.specs.Head.{column_of, escape_bytes, seen}
+use Rattle.x86_decode.specs.Head.{column_of, escape_bytes, seen_by}
 use Rattle.x86_decode.specs.Grammar.{record_of}
-use Rattle.x86_layout.specs.Parts.Heads.{map_by, one_if, asks_sib}
+use Rattle.x86_layout.specs.Parts.Heads.{map_of, one_if, asks_sib}
 use Rattle.x86_layout.specs.Parts.Split.{PartLists}
 
 -- what a row asks at a ModRM byte; nothing where there is no row
@@ -22,23 +22,23 @@ ask_by strict (Some row) p m = ask_of (record_of strict row p) m
 
 -- what the row of an opcode byte behind a run asks at a ModRM byte
 abbrev pub ask_behind : Bool → List ℕ → Map → ℕ → ℕ → Ask
-ask_behind strict run map opcode m = ask_by strict (rows_of word_at map (column_of (reading_of run)) opcode) (seen map opcode (reading_of run)) m
+ask_behind strict run map opcode m = ask_by strict (rows_of packed map (column_of (reading_of run)) opcode) (seen_by map opcode (reading_of run)) m
 
 -- how many bytes of displacement there are at ModRM and SIB
-abbrev pub displacement_width : Ask → ℕ → List ℕ → ℕ
-displacement_width ask m sib = if ask.memory then disp_width m (first_byte sib) else 0
+abbrev pub asked_displacement_width : Ask → ℕ → List ℕ → ℕ
+asked_displacement_width ask m sib = if ask.memory then displacement_width m (first_byte sib) else 0
 
 -- ---- up to the opcode byte
 
 module _ (bytes : List ℕ) where
   abbrev pub run_in : List ℕ
-  run_in = take (prefix_len is_prefix_byte bytes) bytes
+  run_in = take (prefix_len is_prefix bytes) bytes
 
   abbrev pub behind_run : List ℕ
-  behind_run = drop (prefix_len is_prefix_byte bytes) bytes
+  behind_run = drop (prefix_len is_prefix bytes) bytes
 
   abbrev pub map_in : Map
-  map_in = map_by (slice_index behind_run 0) (slice_index behind_run 1)
+  map_in = map_of (slice_index behind_run 0) (slice_index behind_run 1)
 
   abbrev pub behind_escape : List ℕ
   behind_escape = drop (length (escape_bytes map_in)) behind_run
@@ -68,10 +68,10 @@ module _ (ask : Ask) (tail : List ℕ) where
   behind_sib = drop (one_if (asks_sib ask (slice_index tail 0))) behind_modrm
 
   abbrev pub displacement_in : List ℕ
-  displacement_in = take (displacement_width ask (slice_index tail 0) sib_in) behind_sib
+  displacement_in = take (asked_displacement_width ask (slice_index tail 0) sib_in) behind_sib
 
   abbrev pub behind_address : List ℕ
-  behind_address = drop (displacement_width ask (slice_index tail 0) sib_in) behind_sib
+  behind_address = drop (asked_displacement_width ask (slice_index tail 0) sib_in) behind_sib
 
   abbrev pub immediate_in : List ℕ
   immediate_in = take ask.immediate behind_address

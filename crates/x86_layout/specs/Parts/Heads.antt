@@ -14,8 +14,8 @@ use Rattle.x86_layout.specs.declared.parts.heads.Head.{Head}
 use Rattle.x86_layout.specs.declared.parts.split.Parts.{Parts}
 use Rattle.x86_layout.specs.Parts.Split.{Encoding, record_in, sib_width}
 
-abbrev pub map_by : ℕ → ℕ → Map
-map_by first second =
+abbrev pub map_of : ℕ → ℕ → Map
+map_of first second =
     if first == 0x0f
     then (if second == 0x38 then Of38 else (if second == 0x3a then Of3a else Of))
     else One

@@ -3,24 +3,24 @@ use Rattle.std.specs.Prelude.{◌≡◌, ℕ, ◌==◌, ◌&&◌, ◌||◌, nat_
 use Rattle.x86_fields.specs.declared.errors.DecodeError.{DecodeError}
 use Rattle.x86_fields.specs.declared.prefixes.Prefixes.{Prefixes}
 use Rattle.x86_fields.specs.Run.{reading_of}
-use Rattle.x86_fields.specs.Raw.{disp_width}
+use Rattle.x86_fields.specs.Raw.{displacement_width}
 use Rattle.x86_fields.specs.Pieces.{option_bytes}
 use Rattle.x86_forms.specs.declared.Map.{Map}
 use Rattle.x86_forms.specs.declared.Map.TheVariants.{One, Of, Of38, Of3a}
 use Rattle.x86_forms.specs.declared.TableRow.{TableRow}
-use Rattle.x86_forms.specs.Words.{rows_of, word_at}
+use Rattle.x86_forms.specs.Words.{rows_of, packed}
 use Rattle.x86_operands.specs.declared.plans.Verdict.{Verdict}
 use Rattle.x86_operands.specs.declared.plans.Verdict.TheVariants.{NamedBySuffix}
 use Rattle.x86_operands.specs.declared.asks.RecordAt.{RecordAt}
 use Rattle.x86_operands.specs.declared.reader.Reading.{Reading}
 use Rattle.x86_fields.specs.ModRM.{is_memory}
 use Rattle.x86_operands.specs.Pieces.{is_refusal}
-use Rattle.x86_operands.specs.Suffix.{opcode_of_suffix}
+use Rattle.x86_operands.specs.Suffix.{suffix_opcode}
 use Rattle.x86_operands.specs.Asks.{asks_modrm, asks_suffix, immediates_width, record_at}
 use Rattle.x86_operands.specs.Signs.{record_step}
-use Rattle.x86_decode.specs.Head.{is_run, column_of, is_opcode, seen}
+use Rattle.x86_decode.specs.Head.{is_run, column_of, is_opcode, seen_by}
 use Rattle.x86_decode.specs.declared.instructions.Instruction.{Instruction}
-use Rattle.x86_decode.specs.Grammar.{record_of, lock_allowed, IsSentence}
+use Rattle.x86_decode.specs.Grammar.{record_of, allows_lock, IsSentence}
 use Rattle.x86_layout.specs.declared.parts.fields.Fields.{Fields}
 use Rattle.x86_layout.specs.declared.parts.entries.Entry.{Entry}
 use Rattle.x86_layout.specs.declared.parts.emit.EmitError.{EmitError}
@@ -44,7 +44,7 @@ entry_by (Some row) p = Some (record { row = row; prefixes = p })
 
 abbrev pub entry_at : Option Map → Prefixes → ℕ → Option Entry
 entry_at None p opcode = None
-entry_at (Some map) p opcode = if is_opcode map opcode then entry_by (rows_of word_at map (column_of p) opcode) (seen map opcode p) else None
+entry_at (Some map) p opcode = if is_opcode map opcode then entry_by (rows_of packed map (column_of p) opcode) (seen_by map opcode p) else None
 
 -- the row of the opcode byte in the map of the escape and the column of the run, and the prefixes as its record sees
 -- them
@@ -67,7 +67,7 @@ lacks_modrm at f = asks_modrm at.usage && is_none f.modrm
 
 -- the suffix that is there names no operation, where the row asks one
 abbrev pub refuses_suffix : Verdict → Option ℕ → Bool
-refuses_suffix NamedBySuffix (Some b) = is_none (opcode_of_suffix b)
+refuses_suffix NamedBySuffix (Some b) = is_none (suffix_opcode b)
 refuses_suffix verdict suffix = false
 
 -- 2: the record refuses neither at the opcode, nor for the ModRM that is there, nor for the suffix that is there
@@ -76,7 +76,7 @@ passes_record at f = is_none at.at_opcode && (not (is_refusal at.plan.verdict) |
 
 -- how many bytes of displacement there are at ModRM and SIB
 abbrev pub displacement_asked : ℕ → Option ℕ → ℕ
-displacement_asked m sib = if is_memory m then disp_width m sib else 0
+displacement_asked m sib = if is_memory m then displacement_width m sib else 0
 
 -- 3: each part that the row asks is there with its length, and no other part is
 abbrev pub has_asked_parts : RecordAt → Fields → Bool
@@ -91,13 +91,13 @@ has_asked_parts at f =
 abbrev pub tail_of : Fields → List ℕ
 tail_of f = option_bytes f.modrm ++ ((option_bytes f.sib ++ f.displacement.items) ++ (f.immediate.items ++ option_bytes f.suffix))
 
-abbrev pub allows_lock : Result Reading DecodeError → Bool
-allows_lock (Ok reading) = lock_allowed reading
-allows_lock (Err e) = false
+abbrev pub answer_allows_lock : Result Reading DecodeError → Bool
+answer_allows_lock (Ok reading) = allows_lock reading
+answer_allows_lock (Err e) = false
 
 -- 4: F0 is absent, or allowed for the reading of what stands behind the opcode byte
 abbrev pub has_lawful_lock : Bool → Entry → Fields → Bool
-has_lawful_lock strict e f = allows_lock (record_step (record_of strict e.row e.prefixes) e.prefixes (record { left = tail_of f; since_mark = 0; since_made = 0 })).answer
+has_lawful_lock strict e f = answer_allows_lock (record_step (record_of strict e.row e.prefixes) e.prefixes (record { left = tail_of f; since_mark = 0; since_made = 0 })).answer
 
 -- 5: the parts have at most 15 bytes in all
 abbrev pub is_short : Fields → Bool
@@ -127,5 +127,5 @@ IsPermitted strict f = first_failing strict f ≡ None
 -- The fields are the parts of a sentence.
 pub record ArePartsOfSentence (strict : Bool) (f : Fields) : Type 0 where
   pub answer : Instruction
-  pub sentence : IsSentence (rows_of word_at) strict (joined (lists_in f)) answer
+  pub sentence : IsSentence (rows_of packed) strict (joined (lists_in f)) answer
   pub parts : HasParts strict (joined (lists_in f)) sentence.reading sentence.whole (lists_in f)

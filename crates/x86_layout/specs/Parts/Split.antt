@@ -1,13 +1,13 @@
 -- The parts of an encoding.
 use Rattle.std.specs.Prelude.{◌≡◌, ℕ, ◌==◌, ◌&&◌, Bool, if◌then◌else◌, List, [], ◌∷◌, ◌++◌, length, Ok}
-use Rattle.x86_forms.specs.Words.{rows_of, word_at}
+use Rattle.x86_forms.specs.Words.{rows_of, packed}
 use Rattle.x86_fields.specs.Run.{reading_of}
 use Rattle.x86_fields.specs.ModRM.{rm_field, is_memory}
 use Rattle.x86_operands.specs.declared.reader.Reading.{Reading}
 use Rattle.x86_operands.specs.Plans.{RowRecord}
 use Rattle.x86_operands.specs.Pieces.{modrm_of}
 use Rattle.x86_decode.specs.declared.instructions.Instruction.{Instruction}
-use Rattle.x86_decode.specs.Head.{escape_bytes, seen}
+use Rattle.x86_decode.specs.Head.{escape_bytes, seen_by}
 use Rattle.x86_decode.specs.Grammar.{Whole, record_of}
 use Rattle.x86_decode.specs.Answer.{answer_of}
 use Rattle.x86_layout.specs.declared.parts.split.Parts.{Parts}
@@ -38,7 +38,7 @@ lists_of p = record {
 
 -- whole encodings by the printed rows
 abbrev pub Encoding : Bool → List ℕ → Reading → Type 0
-Encoding strict s reading = Whole (rows_of word_at) strict s reading
+Encoding strict s reading = Whole (rows_of packed) strict s reading
 
 -- SIB is there where ModRM is read as a memory form and its rm is 100 (Intel SDM volume 2, section 2.1.5)
 abbrev pub sib_width : ℕ → ℕ
@@ -47,7 +47,7 @@ sib_width modrm = if is_memory modrm && rm_field modrm == 4 then 1 else 0
 module _ (strict : Bool) (s : List ℕ) (reading : Reading) (w : Encoding strict s reading) where
   -- the record of the encoding's row
   abbrev pub record_in : RowRecord
-  record_in = record_of strict w.row (seen w.map w.opcode (reading_of w.run))
+  record_in = record_of strict w.row (seen_by w.map w.opcode (reading_of w.run))
 
   -- These are the pieces of a whole encoding: SIB and displacement together are the bytes of its address.
   pub record HasParts (parts : PartLists) : Type 0 where

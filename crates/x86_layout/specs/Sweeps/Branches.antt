@@ -29,8 +29,8 @@ offset_of (ImmediateI32 imm) = imm
 offset_of o = pos 0
 
 -- the address behind the instruction, plus the sign-extended immediate, modulo 2^64
-abbrev pub target_of : Instruction → ℕ → Option ℕ
-target_of i next =
+abbrev pub branch_target : Instruction → ℕ → Option ℕ
+branch_target i next =
     if is_branch i.opcode && is_offset_slot (slot_at i 0)
     then Some ((next + cast_unsigned w64 (offset_of (operand_at i 0))) % 2 ^ 64)
     else None

@@ -5,11 +5,11 @@ use Rattle.x86_fields.specs.declared.errors.DecodeError.{DecodeError}
 use Rattle.x86_decode.specs.declared.instructions.Instruction.{Instruction}
 use Rattle.x86_layout.specs.declared.sweeps.cuts.Cut.{Cut}
 use Rattle.x86_layout.specs.Sweeps.Cuts.{cuts_of}
-use Rattle.x86_layout.specs.Sweeps.Branches.{target_of}
+use Rattle.x86_layout.specs.Sweeps.Branches.{branch_target}
 
 -- the target of an accepted cut; a refused one has none
 abbrev pub target_by : Result Instruction DecodeError → ℕ → Option ℕ
-target_by (Ok i) next = target_of i next
+target_by (Ok i) next = branch_target i next
 target_by (Err e) next = None
 
 abbrev pub target_of_cut : Cut → Option ℕ

@@ -14,18 +14,18 @@ abbrev pub least_by : Bool → Raw → ℕ → ℕ
 least_by memory raw n = if memory && not (is_ip_relative raw) then (n - address_length raw) + address_length (shortest raw) else n
 
 -- of an encoding
-unfoldable pub least_in : Bool → List ℕ → ℕ
-least_in strict s = least_by (ask_in s strict).memory (raw_of (parts_of strict s)) (length s)
+unfoldable pub least_length : Bool → List ℕ → ℕ
+least_length strict s = least_by (ask_in s strict).memory (raw_of (parts_of strict s)) (length s)
 
 abbrev pub least_for : Bool → List ℕ → Result Instruction DecodeError → ℕ
-least_for strict bytes (Ok i) = least_in strict (take i.length bytes)
+least_for strict bytes (Ok i) = least_length strict (take i.length bytes)
 least_for strict bytes (Err e) = 0
 
 -- how long a shortest relative of the encoding at the front is: as long as the encoding where it has none to seek,
 -- and 0 where the bytes are refused
-unfoldable pub least_of : Bool → List ℕ → ℕ
-least_of strict bytes = least_for strict bytes (answer_of strict bytes)
+unfoldable pub shortest_length : Bool → List ℕ → ℕ
+shortest_length strict bytes = least_for strict bytes (answer_of strict bytes)
 
 -- An encoding that is accepted at the front has no shorter relative by this function.
 abbrev pub HasLengthOfFront : Bool → List ℕ → Type 0
-HasLengthOfFront strict bytes = (i : Instruction) → answer_of strict bytes ≡ Ok i → least_of strict bytes ≡ i.length
+HasLengthOfFront strict bytes = (i : Instruction) → answer_of strict bytes ≡ Ok i → shortest_length strict bytes ≡ i.length

@@ -37,13 +37,13 @@ times Four = 4
 times Eight = 8
 
 -- how often a register counts that stands here
-abbrev pub counts : Option ℕ → ℕ → ℕ → ℕ
-counts None n r = 0
-counts (Some b) n r = if b == r then n else 0
+abbrev pub part_weight : Option ℕ → ℕ → ℕ → ℕ
+part_weight None n r = 0
+part_weight (Some b) n r = if b == r then n else 0
 
 -- how often a register counts in an address
 abbrev pub weight : AddressRegisters → ℕ → ℕ
-weight at r = counts at.base 1 r + counts at.index (times at.scale) r
+weight at r = part_weight at.base 1 r + part_weight at.index (times at.scale) r
 
 -- a number from 0 to 15
 abbrev pub IsBelow16 : Option ℕ → Type 0

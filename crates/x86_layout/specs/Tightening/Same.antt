@@ -5,7 +5,7 @@ use Rattle.x86_fields.specs.declared.raw.Raw.{Raw}
 use Rattle.x86_fields.specs.Linear.{raw_form, IsSameAddress}
 use Rattle.x86_operands.specs.declared.operands.Slot.{Slot}
 use Rattle.x86_operands.specs.declared.operands.Operand.{Operand}
-use Rattle.x86_operands.specs.Shape.{shape_of}
+use Rattle.x86_operands.specs.Shape.{shape}
 use Rattle.x86_operands.specs.Linear.{operand_address}
 use Rattle.x86_decode.specs.declared.instructions.Instruction.{Instruction}
 use Rattle.x86_decode.specs.Instruction.{slot_at, operand_at}
@@ -28,7 +28,7 @@ module _ (from to : Raw) where
   -- A slot and an operand are the same in both, or are the shape of one's raw fields and the shape of the other's.
   pub data IsSameOrShape (x y : Slot × Operand) : Type 0 where
     unchanged : y ≡ x → IsSameOrShape x y
-    shapes : x ≡ shape_of from → y ≡ shape_of to → IsSameOrShape x y
+    shapes : x ≡ shape from → y ≡ shape to → IsSameOrShape x y
 
   -- The instruction b is a, but for X and B of a live REX and for memory operands of ModRM, whose raw fields have the
   -- same address.

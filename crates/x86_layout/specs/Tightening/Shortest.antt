@@ -3,7 +3,7 @@ use Rattle.std.specs.Prelude.{◌≡◌, ℕ, ◌+◌, ◌%◌, ◌==◌, ◌&&�
 use Rattle.std.specs.Int.{w32}
 use Rattle.x86_fields.specs.declared.raw.Raw.{Raw}
 use Rattle.x86_fields.specs.ModRM.{reg_field, packed_byte}
-use Rattle.x86_fields.specs.Raw.{disp_width, is_zero, is_byte, fits}
+use Rattle.x86_fields.specs.Raw.{displacement_width, is_zero, is_byte, fits}
 use Rattle.x86_layout.specs.declared.tightening.registers.Scale.{Scale}
 use Rattle.x86_layout.specs.declared.tightening.registers.Scale.TheVariants.{One, Two, Four, Eight}
 use Rattle.x86_layout.specs.declared.tightening.registers.AddressRegisters.{AddressRegisters}
@@ -40,15 +40,15 @@ abbrev pub both : ℤ → ℕ → ℕ → Scale → AddressRegisters
 both disp base index One = exchanged disp base index
 both disp base index scale = record { base = Some base; index = Some index; scale = scale }
 
-abbrev pub placed : ℤ → Option ℕ → Option ℕ → Scale → AddressRegisters
-placed disp None None scale = record { base = None; index = None; scale = One }
-placed disp (Some b) None scale = record { base = Some b; index = None; scale = One }
-placed disp None (Some i) scale = lone i scale
-placed disp (Some b) (Some i) scale = both disp b i scale
+abbrev pub arranged : ℤ → Option ℕ → Option ℕ → Scale → AddressRegisters
+arranged disp None None scale = record { base = None; index = None; scale = One }
+arranged disp (Some b) None scale = record { base = Some b; index = None; scale = One }
+arranged disp None (Some i) scale = lone i scale
+arranged disp (Some b) (Some i) scale = both disp b i scale
 
 -- where the registers stand in the shortest form
 abbrev pub shortest_registers : Raw → AddressRegisters
-shortest_registers raw = let at = registers_of raw in placed raw.disp at.base at.index at.scale
+shortest_registers raw = let at = registers_of raw in arranged raw.disp at.base at.index at.scale
 
 -- ---- how many bytes
 
@@ -67,16 +67,16 @@ bytes_at disp at = bytes_by disp at.base at.index
 
 -- how many bytes SIB and displacement of raw fields have
 abbrev pub address_length : Raw → ℕ
-address_length raw = (if is_some raw.sib then 1 else 0) + disp_width raw.modrm raw.sib
+address_length raw = (if is_some raw.sib then 1 else 0) + displacement_width raw.modrm raw.sib
 
 -- ---- the raw fields
 
-abbrev pub mod_by : ℤ → ℕ → ℕ
-mod_by disp base = if is_bare disp base then 0 else (if is_byte disp then 1 else 2)
+abbrev pub mod_behind : ℤ → ℕ → ℕ
+mod_behind disp base = if is_bare disp base then 0 else (if is_byte disp then 1 else 2)
 
 abbrev pub mod_of : ℤ → Option ℕ → ℕ
 mod_of disp None = 0
-mod_of disp (Some b) = mod_by disp b
+mod_of disp (Some b) = mod_behind disp b
 
 -- the fourth bit of a register's number
 abbrev pub fourth_bit : Option ℕ → Bool

@@ -4,12 +4,12 @@ use Rattle.std.specs.List.{list_any}
 use Rattle.std.specs.Int.{w32, cast_unsigned, to_le_bytes}
 use Rattle.x86_fields.specs.declared.rex.PrefixRex.{PrefixRex}
 use Rattle.x86_fields.specs.declared.raw.Raw.{Raw}
-use Rattle.x86_fields.specs.Run.{is_rex_byte, reading_of}
+use Rattle.x86_fields.specs.Run.{is_rex, reading_of}
 use Rattle.x86_fields.specs.ModRM.{reg_field}
-use Rattle.x86_fields.specs.Raw.{disp_width, rex_b, rex_x}
+use Rattle.x86_fields.specs.Raw.{displacement_width, has_b, has_x}
 use Rattle.x86_fields.specs.Pieces.{option_bytes, first_byte, signed_by}
 use Rattle.x86_fields.specs.Linear.{raw_form, IsSameAddress}
-use Rattle.x86_forms.specs.Words.{rows_of, word_at}
+use Rattle.x86_forms.specs.Words.{rows_of, packed}
 use Rattle.x86_operands.specs.declared.reader.Reading.{Reading}
 use Rattle.x86_decode.specs.declared.instructions.Instruction.{Instruction}
 use Rattle.x86_decode.specs.Head.{escape_bytes}
@@ -31,7 +31,7 @@ bits_in x b (Some r) = Some (record r { x = x; b = b })
 
 -- a REX byte with these bits X and B; another byte stays
 abbrev pub byte_with : Bool → Bool → ℕ → ℕ
-byte_with x b byte = if is_rex_byte byte then (byte / 4) * 4 + ((if x then 2 else 0) + (if b then 1 else 0)) else byte
+byte_with x b byte = if is_rex byte then (byte / 4) * 4 + ((if x then 2 else 0) + (if b then 1 else 0)) else byte
 
 -- a run whose live REX, which is its last byte, has these bits X and B
 unfoldable pub run_with : Bool → Bool → List ℕ → List ℕ
@@ -44,8 +44,8 @@ run_with x b (byte ∷ next ∷ rest) = byte ∷ run_with x b (next ∷ rest)
 -- the raw fields of parts
 abbrev pub raw_of : PartLists → Raw
 raw_of parts = let p = reading_of parts.prefixes in record {
-  rex_b = rex_b p;
-  rex_x = rex_x p;
+  rex_b = has_b p;
+  rex_x = has_x p;
   address_size = p.address_size;
   modrm = slice_index parts.modrm 0;
   sib = first_byte parts.sib;
@@ -56,11 +56,11 @@ abbrev pub raw_in : Parts → Raw
 raw_in parts = raw_of (lists_of parts)
 
 -- the displacement, in as many bytes as its fields have
-abbrev pub displacement_bytes : Raw → List ℕ
-displacement_bytes raw = take (disp_width raw.modrm raw.sib) (to_le_bytes w32 (cast_unsigned w32 raw.disp))
+abbrev pub spelled_displacement : Raw → List ℕ
+spelled_displacement raw = take (displacement_width raw.modrm raw.sib) (to_le_bytes w32 (cast_unsigned w32 raw.disp))
 
 abbrev pub address_bytes : Raw → List ℕ
-address_bytes raw = option_bytes raw.sib ++ displacement_bytes raw
+address_bytes raw = option_bytes raw.sib ++ spelled_displacement raw
 
 -- parts with other raw fields, in order
 abbrev pub respelled : Parts → Raw → List ℕ
@@ -97,12 +97,12 @@ module _ (strict : Bool) (s : List ℕ) (a : Reading) (v : Encoding strict s a) 
 module _ (strict : Bool) (s : List ℕ) (a : Reading) (v : Encoding strict s a) where
   -- No relative of s is shorter.
   abbrev pub IsLeast : List ℕ → Type 0
-  IsLeast t = (u : List ℕ) (c : Instruction) (is : IsSentence (rows_of word_at) strict u c) → All (λ byte. byte < 256) u → IsRelative strict s a v u is.reading is.whole → length t ≤ length u
+  IsLeast t = (u : List ℕ) (c : Instruction) (is : IsSentence (rows_of packed) strict u c) → All (λ byte. byte < 256) u → IsRelative strict s a v u is.reading is.whole → length t ≤ length u
 
   -- t is a sentence that is a relative of s, and no relative of s is shorter.
   pub record IsShortest (t : List ℕ) : Type 0 where
     pub answer : Instruction
-    pub sentence : IsSentence (rows_of word_at) strict t answer
+    pub sentence : IsSentence (rows_of packed) strict t answer
     pub relative : IsRelative strict s a v t sentence.reading sentence.whole
     pub least : IsLeast t
 
@@ -110,7 +110,7 @@ module _ (strict : Bool) (s : List ℕ) (a : Reading) (v : Encoding strict s a) 
   pub record HasMemoryOperand : Type 0 where
     pub raw : Raw
     pub read : v.asked.behind.pieces.memory ≡ Some raw
-    pub written : list_any is_modrm_sign (signs_within (rows_of word_at) strict s a v) ≡ true
+    pub written : list_any is_modrm_sign (signs_within (rows_of packed) strict s a v) ≡ true
 
   -- There is such an operand, and its base is the next instruction or isn't.
   pub record HasOperandForm (ip_relative : Bool) : Type 0 where
@@ -146,7 +146,7 @@ Statement = (strict : Bool) (s : List ℕ) (a : Reading) → Encoding strict s a
 pub record OfFront (strict : Bool) (bytes : List ℕ) (Holds : Statement) : Type 0 where
   pub instruction : Instruction
   pub accepted : answer_of strict bytes ≡ Ok instruction
-  pub of_it : (s rest : List ℕ) (a : Instruction) (is : IsSentence (rows_of word_at) strict s a) → bytes ≡ s ++ rest → Holds strict s is.reading is.whole
+  pub of_it : (s rest : List ℕ) (a : Instruction) (is : IsSentence (rows_of packed) strict s a) → bytes ≡ s ++ rest → Holds strict s is.reading is.whole
 
 -- The bytes are refused, or their sentence has no relative to seek.
 abbrev pub IsNotTightened : Bool → List ℕ → TightenError → Type 0
@@ -155,7 +155,7 @@ IsNotTightened strict bytes NoMemoryForm = OfFront strict bytes (λ strict s a v
 IsNotTightened strict bytes IpRelative = OfFront strict bytes (λ strict s a v. HasNoRelative strict s a v IpRelative)
 
 -- The bytes are a sentence under some choice.
-pub record HasSentence (s : List ℕ) : Type 0 where
+pub record IsSentenceOfSomeChoice (s : List ℕ) : Type 0 where
   pub strict : Bool
   pub answer : Instruction
-  pub is : IsSentence (rows_of word_at) strict s answer
+  pub is : IsSentence (rows_of packed) strict s answer

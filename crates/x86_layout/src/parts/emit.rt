@@ -43,7 +43,7 @@ pub enum EmitError {
     Length,
 }
 
-fn is_legal_run(prefixes: &[u8]) -> bool
+fn is_run(prefixes: &[u8]) -> bool
     ensures { result ≡ is_run prefixes.now }
 {
     prefixes.iter().all(|byte| is_prefix(*byte))
@@ -211,7 +211,7 @@ pub fn emit(decoder: &InstDecoder, fields: &Fields) -> Result<ArrayVec<u8, 15>, 
     ensures bytes { IfOk result (λ bytes. bytes.items ≡ joined (lists_in fields.now)) }
     ensures first { IfErr result (λ error. first_failing decoder.now.strict fields.now ≡ Some error) }
 {
-    if !is_legal_run(fields.prefixes.as_slice()) {
+    if !is_run(fields.prefixes.as_slice()) {
         return Err(EmitError::Prefixes);
     }
     match entry_of(fields) {

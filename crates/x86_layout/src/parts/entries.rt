@@ -9,8 +9,8 @@ ghost use Rattle.x86_layout.specs.Parts.Permitted.{map_named, entry_at, entry_of
 
 use crate::parts::fields::Fields;
 use crate::parts::heads::{byte_at, escape_length, map_of};
-use x86_decode::builders::{is_prefix, is_vex, seen_by, selected};
-use x86_fields::{Prefixes, read_run};
+use x86_decode::builders::{column_of, is_prefix, is_vex, seen_by};
+use x86_fields::{Prefixes, reading_of};
 use x86_forms::{Map, TableRow, packed, unpack};
 use x86_groups::group_at;
 use x86_operands::{RecordAt, form_at};
@@ -54,7 +54,7 @@ fn entry_in(map: Map, prefixes: Prefixes, opcode: u8) -> Option<Entry>
     if !is_opcode(map, opcode) {
         return None;
     }
-    match unpack(packed(map, selected(&prefixes), opcode)) {
+    match unpack(packed(map, column_of(&prefixes), opcode)) {
         Some(row) => Some(Entry {
             row,
             prefixes: seen_by(map, opcode, prefixes),
@@ -71,7 +71,7 @@ pub fn entry_of(fields: &Fields) -> Option<Entry>
     ensures carried { IfSome result (λ entry. IsForm entry.row.form) }
 {
     match map_named(&fields.escape) {
-        Some(map) => entry_in(map, read_run(&fields.prefixes), fields.opcode),
+        Some(map) => entry_in(map, reading_of(&fields.prefixes), fields.opcode),
         None => None,
     }
 }

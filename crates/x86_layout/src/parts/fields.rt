@@ -27,7 +27,7 @@ pub struct Fields {
 }
 
 /// The bytes of a part, held in place.
-fn held<const N: usize>(bytes: &[u8]) -> ArrayVec<u8, N>
+fn array_of<const N: usize>(bytes: &[u8]) -> ArrayVec<u8, N>
     requires { length bytes.now ≤ N }
     ensures { result.items ≡ bytes.now }
 {
@@ -56,13 +56,13 @@ impl Fields {
         ensures { lists_in result ≡ lists_of parts.now }
     {
         Fields {
-            prefixes: held(parts.prefixes),
-            escape: held(parts.escape),
+            prefixes: array_of(parts.prefixes),
+            escape: array_of(parts.escape),
             opcode: byte_at(parts.opcode, 0),
             modrm: single(parts.modrm),
             sib: single(parts.sib),
-            displacement: held(parts.displacement),
-            immediate: held(parts.immediate),
+            displacement: array_of(parts.displacement),
+            immediate: array_of(parts.immediate),
             suffix: single(parts.suffix),
         }
     }

@@ -2,17 +2,17 @@
 
 ghost use Rattle.std.specs.Prelude.{◌≡◌, Bool, true, length, take, drop, slice_index, IfSome};
 ghost use Rattle.std.specs.List.{list_all, prefix_len};
-ghost use Rattle.x86_fields.specs.Run.{is_prefix_byte};
-ghost use Rattle.x86_forms.specs.Words.{IsForm, rows_of, word_at};
+ghost use Rattle.x86_fields.specs.Run.{is_prefix};
+ghost use Rattle.x86_forms.specs.Words.{IsForm, rows_of, packed};
 ghost use Rattle.x86_operands.specs.Asks.{ask_of};
-ghost use Rattle.x86_decode.specs.Head.{column_of, escape_bytes, seen};
+ghost use Rattle.x86_decode.specs.Head.{column_of, escape_bytes, seen_by};
 ghost use Rattle.x86_decode.specs.Grammar.{record_of};
-ghost use Rattle.x86_layout.specs.Parts.Heads.{map_by, IsHead};
+ghost use Rattle.x86_layout.specs.Parts.Heads.{map_of, IsHead};
 ghost use Rattle.x86_layout.specs.Parts.Split.{Encoding};
 ghost use Rattle.x86_operands.specs.declared.reader.Reading.{Reading};
 
-use x86_decode::builders::{is_prefix, seen_by, selected};
-use x86_fields::{Prefixes, read_run};
+use x86_decode::builders::{column_of, is_prefix, seen_by};
+use x86_fields::{Prefixes, reading_of};
 use x86_forms::{Map, TableRow, packed, unpack};
 use x86_groups::group_ask;
 use x86_operands::{Ask, form_ask};
@@ -51,7 +51,7 @@ pub fn byte_at(bytes: &[u8], place: usize) -> u8
 
 /// How many prefix bytes stand in front.
 fn run_length(bytes: &[u8]) -> usize
-    ensures { result ≡ prefix_len is_prefix_byte bytes.now }
+    ensures { result ≡ prefix_len is_prefix bytes.now }
 {
     let mut length = 0;
     for byte in bytes {
@@ -65,7 +65,7 @@ fn run_length(bytes: &[u8]) -> usize
 
 /// The map by the first two bytes behind the run.
 pub fn map_of(first: u8, second: u8) -> Map
-    ensures { result ≡ map_by first second }
+    ensures { result ≡ map_of first second }
 {
     if first != 0x0f {
         Map::One
@@ -103,9 +103,9 @@ fn ask_of_row(row: TableRow, prefixes: Prefixes, modrm: u8) -> Ask
 
 /// What the row of an opcode byte asks, and nothing where it has no row.
 fn ask_at(map: Map, prefixes: Prefixes, opcode: u8, modrm: u8) -> Ask
-    ensures { (strict : Bool) → IfSome (rows_of word_at map (column_of prefixes) opcode) (λ row. result ≡ ask_of (record_of strict row (seen map opcode prefixes)) modrm) }
+    ensures { (strict : Bool) → IfSome (rows_of packed map (column_of prefixes) opcode) (λ row. result ≡ ask_of (record_of strict row (seen_by map opcode prefixes)) modrm) }
 {
-    match unpack(packed(map, selected(&prefixes), opcode)) {
+    match unpack(packed(map, column_of(&prefixes), opcode)) {
         Some(row) => ask_of_row(row, seen_by(map, opcode, prefixes), modrm),
         None => Ask {
             modrm: false,
@@ -118,9 +118,9 @@ fn ask_at(map: Map, prefixes: Prefixes, opcode: u8, modrm: u8) -> Ask
 
 /// The run of prefixes in front.
 fn run_of(bytes: &[u8]) -> (&[u8], &[u8])
-    ensures prefixes { list_all is_prefix_byte result.0.now ≡ true }
-    ensures front { result.0.now ≡ take (prefix_len is_prefix_byte bytes.now) bytes.now }
-    ensures behind { result.1.now ≡ drop (prefix_len is_prefix_byte bytes.now) bytes.now }
+    ensures prefixes { list_all is_prefix result.0.now ≡ true }
+    ensures front { result.0.now ≡ take (prefix_len is_prefix bytes.now) bytes.now }
+    ensures behind { result.1.now ≡ drop (prefix_len is_prefix bytes.now) bytes.now }
 {
     front_and_rest(bytes, run_length(bytes))
 }
@@ -135,7 +135,7 @@ pub fn head_of(encoding: &[u8]) -> Head<'_>
     let (opcode, tail) = front_and_rest(rest, 1);
     let ask = ask_at(
         map,
-        read_run(prefixes),
+        reading_of(prefixes),
         byte_at(opcode, 0),
         byte_at(tail, 0),
     );

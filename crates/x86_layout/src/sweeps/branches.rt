@@ -1,14 +1,14 @@
 //! Where the instructions of a sweep branch to.
 
 ghost use Rattle.std.specs.Prelude.{◌≡◌};
-ghost use Rattle.x86_layout.specs.Sweeps.Branches.{is_branch, is_offset_slot, offset_of, target_of};
+ghost use Rattle.x86_layout.specs.Sweeps.Branches.{is_branch, is_offset_slot, offset_of, branch_target};
 
 use x86_decode::Instruction;
 use x86_opcodes::Opcode;
 use x86_operands::{Operand, Slot};
 
 /// Whether the operation may have a target relative to the next instruction.
-fn may_branch(opcode: Opcode) -> bool
+fn is_branch(opcode: Opcode) -> bool
     ensures { result ≡ is_branch opcode }
 {
     opcode.is_jcc()
@@ -25,14 +25,14 @@ fn may_branch(opcode: Opcode) -> bool
 }
 
 /// Whether a relative target comes from this slot.
-fn is_offset(slot: Slot) -> bool
+fn is_offset_slot(slot: Slot) -> bool
     ensures { result ≡ is_offset_slot slot }
 {
     matches!(slot, Slot::ImmI8 | Slot::ImmI32)
 }
 
 /// The number that is added to the address of the next instruction.
-fn offset(operand: Operand) -> i64
+fn offset_of(operand: Operand) -> i64
     ensures { result ≡ offset_of operand }
 {
     match operand {
@@ -48,10 +48,10 @@ fn offset(operand: Operand) -> i64
 ///
 /// For `eb fe` at address 0, with `next` 2, this is `Some(0)`; for `ff e0`, which is JMP rax, it is `None`.
 pub fn branch_target(inst: &Instruction, next: u64) -> Option<u64>
-    ensures { result ≡ target_of inst.now next }
+    ensures { result ≡ branch_target inst.now next }
 {
-    if may_branch(inst.opcode()) && is_offset(inst.slot(0)) {
-        Some(next.wrapping_add_signed(offset(inst.operand(0))))
+    if is_branch(inst.opcode()) && is_offset_slot(inst.slot(0)) {
+        Some(next.wrapping_add_signed(offset_of(inst.operand(0))))
     } else {
         None
     }

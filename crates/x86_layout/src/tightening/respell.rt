@@ -2,18 +2,18 @@
 
 ghost use Rattle.std.specs.Prelude.{◌≡◌, true, ◌+◌, ◌≤◌, ◌++◌, [], ◌∷◌, length};
 ghost use Rattle.std.specs.List.{list_all};
-ghost use Rattle.x86_fields.specs.Run.{is_prefix_byte};
+ghost use Rattle.x86_fields.specs.Run.{is_prefix};
 ghost use Rattle.arrayvec.specs.ArrayVec.{array_vec_len};
-ghost use Rattle.x86_fields.specs.Raw.{disp_width};
+ghost use Rattle.x86_fields.specs.Raw.{displacement_width};
 ghost use Rattle.x86_fields.specs.Pieces.{signed_by};
 ghost use Rattle.x86_layout.specs.Tightening.Shortest.{address_length};
-ghost use Rattle.x86_layout.specs.Tightening.Tighten.{byte_with, run_with, raw_in, displacement_bytes, respelled, respelled_length};
+ghost use Rattle.x86_layout.specs.Tightening.Tighten.{byte_with, run_with, raw_in, spelled_displacement, respelled, respelled_length};
 
 use crate::parts::emit::{push, push_byte};
 use crate::parts::heads::byte_at;
 use crate::parts::split::Parts;
 use arrayvec::ArrayVec;
-use x86_fields::{Raw, displacement_width, is_rex, read_run};
+use x86_fields::{Raw, displacement_width, is_rex, reading_of};
 
 /// The number of a displacement of one or four bytes, and 0 where there is none.
 fn signed(displacement: &[u8]) -> i32
@@ -28,10 +28,10 @@ fn signed(displacement: &[u8]) -> i32
 
 /// The raw fields of parts that have a ModRM of the memory form.
 pub fn raw_in(parts: &Parts) -> Raw
-    requires { list_all is_prefix_byte parts.now.prefixes.now ≡ true }
+    requires { list_all is_prefix parts.now.prefixes.now ≡ true }
     ensures { result ≡ raw_in parts.now }
 {
-    let prefixes = read_run(parts.prefixes);
+    let prefixes = reading_of(parts.prefixes);
     Raw {
         rex_b: prefixes.has_b(),
         rex_x: prefixes.has_x(),
@@ -44,7 +44,7 @@ pub fn raw_in(parts: &Parts) -> Raw
 
 /// How many bytes of displacement raw fields have.
 fn width(raw: &Raw) -> usize
-    ensures value { result ≡ disp_width raw.now.modrm raw.now.sib }
+    ensures value { result ≡ displacement_width raw.now.modrm raw.now.sib }
     ensures small { result ≤ 4 }
 {
     usize::from(displacement_width(raw.modrm, raw.sib))
@@ -82,10 +82,10 @@ fn push_run(encoding: &mut ArrayVec<u8, 15>, run: &[u8], x: bool, b: bool)
 }
 
 /// Appends the displacement of raw fields.
-fn push_displacement(encoding: &mut ArrayVec<u8, 15>, raw: &Raw)
-    requires { array_vec_len encoding.old + disp_width raw.now.modrm raw.now.sib ≤ 15 }
-    ensures text { encoding.new.items ≡ encoding.old.items ++ displacement_bytes raw.now }
-    ensures len { array_vec_len encoding.new ≡ array_vec_len encoding.old + disp_width raw.now.modrm raw.now.sib }
+fn push_spelled_displacement(encoding: &mut ArrayVec<u8, 15>, raw: &Raw)
+    requires { array_vec_len encoding.old + displacement_width raw.now.modrm raw.now.sib ≤ 15 }
+    ensures text { encoding.new.items ≡ encoding.old.items ++ spelled_displacement raw.now }
+    ensures len { array_vec_len encoding.new ≡ array_vec_len encoding.old + displacement_width raw.now.modrm raw.now.sib }
 {
     let bytes = raw.disp.to_le_bytes();
     push(encoding, &bytes[..width(raw)]);
@@ -102,7 +102,7 @@ pub fn respelled(parts: &Parts, raw: &Raw) -> ArrayVec<u8, 15>
     push(&mut encoding, parts.opcode);
     encoding.push(raw.modrm);
     push_byte(&mut encoding, raw.sib);
-    push_displacement(&mut encoding, raw);
+    push_spelled_displacement(&mut encoding, raw);
     push(&mut encoding, parts.immediate);
     push(&mut encoding, parts.suffix);
     encoding

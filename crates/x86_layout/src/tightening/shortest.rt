@@ -1,7 +1,7 @@
 //! The raw fields of an address with the fewest bytes. Source: Intel SDM volume 2, sections 2.1.5 and 2.2.1.
 
 ghost use Rattle.std.specs.Prelude.{◌≡◌, ◌<◌};
-ghost use Rattle.x86_layout.specs.Tightening.Shortest.{asks_displacement, is_bare, lone, both, exchanged, placed, mod_by, mod_of, fourth_bit, scale_bits, field_or, sib_byte, rm_alone, spelled, shortest, field_bits};
+ghost use Rattle.x86_layout.specs.Tightening.Shortest.{asks_displacement, is_bare, lone, both, exchanged, arranged, mod_behind, mod_of, fourth_bit, scale_bits, field_or, sib_byte, rm_alone, spelled, shortest, field_bits};
 
 use crate::tightening::registers::{AddressRegisters, Scale, registers_of};
 use x86_fields::{ModRM, Raw, Sib};
@@ -77,8 +77,8 @@ fn both(disp: i32, base: u8, index: u8, scale: Scale) -> AddressRegisters
 }
 
 /// Where the registers stand in the shortest form.
-fn placed(disp: i32, at: AddressRegisters) -> AddressRegisters
-    ensures { result ≡ placed disp at.base at.index at.scale }
+fn arranged(disp: i32, at: AddressRegisters) -> AddressRegisters
+    ensures { result ≡ arranged disp at.base at.index at.scale }
 {
     match (at.base, at.index) {
         (Some(base), Some(index)) => both(disp, base, index, at.scale),
@@ -93,7 +93,7 @@ fn placed(disp: i32, at: AddressRegisters) -> AddressRegisters
 
 /// The mod field: no displacement, one of a byte, or one of four bytes.
 fn mod_behind(disp: i32, base: u8) -> u8
-    ensures value { result ≡ mod_by disp base }
+    ensures value { result ≡ mod_behind disp base }
     ensures small { result < 3 }
 {
     if disp == 0 && !asks_displacement(base) {
@@ -195,5 +195,5 @@ fn spelled(raw: &Raw, at: &AddressRegisters) -> Raw
 pub fn shortest(raw: &Raw) -> Raw
     ensures { result ≡ shortest raw.now }
 {
-    spelled(raw, &placed(raw.disp, registers_of(raw)))
+    spelled(raw, &arranged(raw.disp, registers_of(raw)))
 }

@@ -2,19 +2,19 @@ use Rattle.std.proofs.Common.{◌≡◌, ◌∙◌, ℕ, Bool, List, [], length,
 use Rattle.std.proofs.Math.Seq.{take-append_seam}
 use Rattle.x86_decode.specs.declared.instructions.Instruction.{Instruction}
 use Rattle.x86_fields.specs.declared.errors.DecodeError.{DecodeError}
-use Rattle.x86_forms.specs.Words.{rows_of, word_at}
+use Rattle.x86_forms.specs.Words.{rows_of, packed}
 use Rattle.x86_decode.specs.Answer.{answer_of, count_of}
 use Rattle.x86_decode.specs.Grammar.{IsAnswer, IsAccepted}
 use Rattle.x86_cli.proofs.laws.decoder_laws.Goals as goal
 
 -- the sentence at the front, without what stands behind it
-sentence_alone : (strict : Bool) (xs : List ℕ) (i : Instruction) (n : ℕ) → i.length ≡ n → IsAccepted (rows_of word_at) strict xs i n →
-    ((ys : List ℕ) (r : Result Instruction DecodeError) (k : ℕ) → IsAnswer (rows_of word_at) strict ys r k → r ≡ answer_of strict ys) →
+sentence_alone : (strict : Bool) (xs : List ℕ) (i : Instruction) (n : ℕ) → i.length ≡ n → IsAccepted (rows_of packed) strict xs i n →
+    ((ys : List ℕ) (r : Result Instruction DecodeError) (k : ℕ) → IsAnswer (rows_of packed) strict ys r k → r ≡ answer_of strict ys) →
     answer_of strict (take i.length xs) ≡ Ok i
 sentence_alone strict xs i n len a only =
     let s = a.sentence in
     let front : take i.length xs ≡ s = ap (λ m. take m xs) (len ∙ sym a.long) ∙ ap (take (length s)) a.begins ∙ take-append_seam s a.rest in
-    let alone : IsAccepted (rows_of word_at) strict s i n = record { sentence = s; rest = []; begins = sym (append-nil s); long = a.long; is = a.is } in
+    let alone : IsAccepted (rows_of packed) strict s i n = record { sentence = s; rest = []; begins = sym (append-nil s); long = a.long; is = a.is } in
     ap (answer_of strict) front ∙ sym (only s (Ok i) n alone)
 
 pub returns : goal.returns
@@ -23,7 +23,7 @@ returns c strict = record {
   stay = c.answers_of_more.ensures.answer strict;
   enough = c.fifteen_are_enough.ensures strict;
   alone = λ xs i e.
-      let A : Result Instruction DecodeError → Type 0 = λ r. IsAnswer (rows_of word_at) strict xs r (count_of strict xs) in
+      let A : Result Instruction DecodeError → Type 0 = λ r. IsAnswer (rows_of packed) strict xs r (count_of strict xs) in
       sentence_alone strict xs i (count_of strict xs) (c.lengths.ensures.counted strict xs i e) (subst A e (c.answer_is.ensures.there strict xs))
       (λ ys r k h. (c.answer_is.ensures.only strict ys r k h).0);
   empty = c.empty_input.ensures strict;

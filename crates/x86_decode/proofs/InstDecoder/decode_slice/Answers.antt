@@ -1,5 +1,5 @@
 use Rattle.std.proofs.Common.{rules, ◌≡◌, Ok, Err}
-use Rattle.x86_forms.specs.Words.{rows_of, word_at}
+use Rattle.x86_forms.specs.Words.{rows_of, packed}
 use Rattle.x86_decode.specs.Answer.{answer_of, count_of}
 use Rattle.x86_decode.proofs.PrintedLaws.{printed_answer}
 use Rattle.x86_decode.proofs.CauseLaws.{accepted, exhausted, opcode_faulted, operand_faulted, prefixes_faulted, too_long, left_out}
@@ -16,49 +16,49 @@ pub returns-in-Ok-clause-accepted : goal.returns-in-Ok-clause-accepted
 returns-in-Ok-clause-accepted c =
     let v : (Ok c.walk_slice.new.inst) ≡ answer_of c.args.self.now.strict c.args.bytes.now = search rules in
     let a = printed_answer c.args.self.now.strict c.args.bytes.now (Ok c.walk_slice.new.inst) v in
-    accepted (rows_of word_at) c.args.self.now.strict c.args.bytes.now (Ok c.walk_slice.new.inst) (count_of c.args.self.now.strict c.args.bytes.now) a
+    accepted (rows_of packed) c.args.self.now.strict c.args.bytes.now (Ok c.walk_slice.new.inst) (count_of c.args.self.now.strict c.args.bytes.now) a
 
 pub returns-in-Ok-clause-exhausted : goal.returns-in-Ok-clause-exhausted
 returns-in-Ok-clause-exhausted c =
     let v : (Ok c.walk_slice.new.inst) ≡ answer_of c.args.self.now.strict c.args.bytes.now = search rules in
     let a = printed_answer c.args.self.now.strict c.args.bytes.now (Ok c.walk_slice.new.inst) v in
-    exhausted (rows_of word_at) c.args.self.now.strict c.args.bytes.now (Ok c.walk_slice.new.inst) (count_of c.args.self.now.strict c.args.bytes.now) a
+    exhausted (rows_of packed) c.args.self.now.strict c.args.bytes.now (Ok c.walk_slice.new.inst) (count_of c.args.self.now.strict c.args.bytes.now) a
 
 pub returns-in-Ok-clause-invalid_opcode : goal.returns-in-Ok-clause-invalid_opcode
 returns-in-Ok-clause-invalid_opcode c =
     let v : (Ok c.walk_slice.new.inst) ≡ answer_of c.args.self.now.strict c.args.bytes.now = search rules in
     let a = printed_answer c.args.self.now.strict c.args.bytes.now (Ok c.walk_slice.new.inst) v in
-    opcode_faulted (rows_of word_at) c.args.self.now.strict c.args.bytes.now (Ok c.walk_slice.new.inst) (count_of c.args.self.now.strict c.args.bytes.now) a
+    opcode_faulted (rows_of packed) c.args.self.now.strict c.args.bytes.now (Ok c.walk_slice.new.inst) (count_of c.args.self.now.strict c.args.bytes.now) a
 
 pub returns-in-Ok-clause-invalid_operand : goal.returns-in-Ok-clause-invalid_operand
 returns-in-Ok-clause-invalid_operand c =
     let v : (Ok c.walk_slice.new.inst) ≡ answer_of c.args.self.now.strict c.args.bytes.now = search rules in
     let a = printed_answer c.args.self.now.strict c.args.bytes.now (Ok c.walk_slice.new.inst) v in
-    operand_faulted (rows_of word_at) c.args.self.now.strict c.args.bytes.now (Ok c.walk_slice.new.inst) (count_of c.args.self.now.strict c.args.bytes.now) a
+    operand_faulted (rows_of packed) c.args.self.now.strict c.args.bytes.now (Ok c.walk_slice.new.inst) (count_of c.args.self.now.strict c.args.bytes.now) a
 
 pub returns-in-Ok-clause-invalid_prefixes : goal.returns-in-Ok-clause-invalid_prefixes
 returns-in-Ok-clause-invalid_prefixes c =
     let v : (Ok c.walk_slice.new.inst) ≡ answer_of c.args.self.now.strict c.args.bytes.now = search rules in
     let a = printed_answer c.args.self.now.strict c.args.bytes.now (Ok c.walk_slice.new.inst) v in
-    prefixes_faulted (rows_of word_at) c.args.self.now.strict c.args.bytes.now (Ok c.walk_slice.new.inst) (count_of c.args.self.now.strict c.args.bytes.now) a
+    prefixes_faulted (rows_of packed) c.args.self.now.strict c.args.bytes.now (Ok c.walk_slice.new.inst) (count_of c.args.self.now.strict c.args.bytes.now) a
 
 pub returns-in-Ok-clause-too_long : goal.returns-in-Ok-clause-too_long
 returns-in-Ok-clause-too_long c =
     let v : (Ok c.walk_slice.new.inst) ≡ answer_of c.args.self.now.strict c.args.bytes.now = search rules in
     let a = printed_answer c.args.self.now.strict c.args.bytes.now (Ok c.walk_slice.new.inst) v in
-    too_long (rows_of word_at) c.args.self.now.strict c.args.bytes.now (Ok c.walk_slice.new.inst) (count_of c.args.self.now.strict c.args.bytes.now) a
+    too_long (rows_of packed) c.args.self.now.strict c.args.bytes.now (Ok c.walk_slice.new.inst) (count_of c.args.self.now.strict c.args.bytes.now) a
 
 pub returns-in-Ok-clause-incomplete : goal.returns-in-Ok-clause-incomplete
 returns-in-Ok-clause-incomplete c =
     let v : (Ok c.walk_slice.new.inst) ≡ answer_of c.args.self.now.strict c.args.bytes.now = search rules in
     let a = printed_answer c.args.self.now.strict c.args.bytes.now (Ok c.walk_slice.new.inst) v in
-    left_out (rows_of word_at) c.args.self.now.strict c.args.bytes.now (Ok c.walk_slice.new.inst) (count_of c.args.self.now.strict c.args.bytes.now) a
+    left_out (rows_of packed) c.args.self.now.strict c.args.bytes.now (Ok c.walk_slice.new.inst) (count_of c.args.self.now.strict c.args.bytes.now) a
 
 pub returns-in-Ok-clause-tied : goal.returns-in-Ok-clause-tied
 returns-in-Ok-clause-tied c =
     let v : (Ok c.walk_slice.new.inst) ≡ answer_of c.args.self.now.strict c.args.bytes.now = search rules in
     let a = printed_answer c.args.self.now.strict c.args.bytes.now (Ok c.walk_slice.new.inst) v in
-    answer_tied (rows_of word_at) c.args.self.now.strict c.args.bytes.now (Ok c.walk_slice.new.inst) (count_of c.args.self.now.strict c.args.bytes.now) a
+    answer_tied (rows_of packed) c.args.self.now.strict c.args.bytes.now (Ok c.walk_slice.new.inst) (count_of c.args.self.now.strict c.args.bytes.now) a
 
 pub returns-in-Err-clause-answer : goal.returns-in-Err-clause-answer
 returns-in-Err-clause-answer c =
@@ -70,40 +70,40 @@ pub returns-in-Err-clause-accepted : goal.returns-in-Err-clause-accepted
 returns-in-Err-clause-accepted c =
     let v : (Err c.in-Err.error) ≡ answer_of c.args.self.now.strict c.args.bytes.now = search rules in
     let a = printed_answer c.args.self.now.strict c.args.bytes.now (Err c.in-Err.error) v in
-    accepted (rows_of word_at) c.args.self.now.strict c.args.bytes.now (Err c.in-Err.error) (count_of c.args.self.now.strict c.args.bytes.now) a
+    accepted (rows_of packed) c.args.self.now.strict c.args.bytes.now (Err c.in-Err.error) (count_of c.args.self.now.strict c.args.bytes.now) a
 
 pub returns-in-Err-clause-exhausted : goal.returns-in-Err-clause-exhausted
 returns-in-Err-clause-exhausted c =
     let v : (Err c.in-Err.error) ≡ answer_of c.args.self.now.strict c.args.bytes.now = search rules in
     let a = printed_answer c.args.self.now.strict c.args.bytes.now (Err c.in-Err.error) v in
-    exhausted (rows_of word_at) c.args.self.now.strict c.args.bytes.now (Err c.in-Err.error) (count_of c.args.self.now.strict c.args.bytes.now) a
+    exhausted (rows_of packed) c.args.self.now.strict c.args.bytes.now (Err c.in-Err.error) (count_of c.args.self.now.strict c.args.bytes.now) a
 
 pub returns-in-Err-clause-invalid_opcode : goal.returns-in-Err-clause-invalid_opcode
 returns-in-Err-clause-invalid_opcode c =
     let v : (Err c.in-Err.error) ≡ answer_of c.args.self.now.strict c.args.bytes.now = search rules in
     let a = printed_answer c.args.self.now.strict c.args.bytes.now (Err c.in-Err.error) v in
-    opcode_faulted (rows_of word_at) c.args.self.now.strict c.args.bytes.now (Err c.in-Err.error) (count_of c.args.self.now.strict c.args.bytes.now) a
+    opcode_faulted (rows_of packed) c.args.self.now.strict c.args.bytes.now (Err c.in-Err.error) (count_of c.args.self.now.strict c.args.bytes.now) a
 
 pub returns-in-Err-clause-invalid_operand : goal.returns-in-Err-clause-invalid_operand
 returns-in-Err-clause-invalid_operand c =
     let v : (Err c.in-Err.error) ≡ answer_of c.args.self.now.strict c.args.bytes.now = search rules in
     let a = printed_answer c.args.self.now.strict c.args.bytes.now (Err c.in-Err.error) v in
-    operand_faulted (rows_of word_at) c.args.self.now.strict c.args.bytes.now (Err c.in-Err.error) (count_of c.args.self.now.strict c.args.bytes.now) a
+    operand_faulted (rows_of packed) c.args.self.now.strict c.args.bytes.now (Err c.in-Err.error) (count_of c.args.self.now.strict c.args.bytes.now) a
 
 pub returns-in-Err-clause-invalid_prefixes : goal.returns-in-Err-clause-invalid_prefixes
 returns-in-Err-clause-invalid_prefixes c =
     let v : (Err c.in-Err.error) ≡ answer_of c.args.self.now.strict c.args.bytes.now = search rules in
     let a = printed_answer c.args.self.now.strict c.args.bytes.now (Err c.in-Err.error) v in
-    prefixes_faulted (rows_of word_at) c.args.self.now.strict c.args.bytes.now (Err c.in-Err.error) (count_of c.args.self.now.strict c.args.bytes.now) a
+    prefixes_faulted (rows_of packed) c.args.self.now.strict c.args.bytes.now (Err c.in-Err.error) (count_of c.args.self.now.strict c.args.bytes.now) a
 
 pub returns-in-Err-clause-too_long : goal.returns-in-Err-clause-too_long
 returns-in-Err-clause-too_long c =
     let v : (Err c.in-Err.error) ≡ answer_of c.args.self.now.strict c.args.bytes.now = search rules in
     let a = printed_answer c.args.self.now.strict c.args.bytes.now (Err c.in-Err.error) v in
-    too_long (rows_of word_at) c.args.self.now.strict c.args.bytes.now (Err c.in-Err.error) (count_of c.args.self.now.strict c.args.bytes.now) a
+    too_long (rows_of packed) c.args.self.now.strict c.args.bytes.now (Err c.in-Err.error) (count_of c.args.self.now.strict c.args.bytes.now) a
 
 pub returns-in-Err-clause-incomplete : goal.returns-in-Err-clause-incomplete
 returns-in-Err-clause-incomplete c =
     let v : (Err c.in-Err.error) ≡ answer_of c.args.self.now.strict c.args.bytes.now = search rules in
     let a = printed_answer c.args.self.now.strict c.args.bytes.now (Err c.in-Err.error) v in
-    left_out (rows_of word_at) c.args.self.now.strict c.args.bytes.now (Err c.in-Err.error) (count_of c.args.self.now.strict c.args.bytes.now) a
+    left_out (rows_of packed) c.args.self.now.strict c.args.bytes.now (Err c.in-Err.error) (count_of c.args.self.now.strict c.args.bytes.now) a

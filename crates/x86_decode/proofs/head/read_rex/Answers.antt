@@ -1,6 +1,6 @@
 use Rattle.std.proofs.Common.{rules, ◌≡◌, [], ◌∷◌, ◌++◌, refl, ap, ◌∙◌}
 use Rattle.x86_decode.specs.declared.leads.Lead.TheVariants.{Rex}
-use Rattle.x86_decode.specs.Lead.{lead}
+use Rattle.x86_decode.specs.Lead.{lead_of}
 use Rattle.x86_decode.specs.Walk.{head_at, head_from}
 use Rattle.x86_decode.proofs.HeadWalk.{at_prefix, headed_next, headed_as}
 use Rattle.x86_decode.proofs.LeadLemmas.{of_prefix, prefix_lead}
@@ -8,7 +8,7 @@ use Rattle.x86_decode.proofs.head.read_rex.Goals as goal
 
 pub returns-in-Rex : goal.returns-in-Rex
 returns-in-Rex g c = λ front e.
-    let is : lead c.args.byte ≡ Rex = search rules in
+    let is : lead_of c.args.byte ≡ Rex = search rules in
     headed_as c.next_byte.result c.push_rex.new.self (g.T.Reader.state c.next_byte.new.words) (head_from (front ++ c.args.byte ∷ []) (g.T.Reader.state c.args.words.now)) (head_at front c.args.byte (g.T.Reader.state c.args.words.now))
     (at_prefix front c.args.byte (g.T.Reader.state c.args.words.now) (prefix_lead c.args.byte ∙ ap of_prefix is))
     (headed_next (front ++ c.args.byte ∷ []) (g.T.Reader.state c.args.words.now) (g.T.Reader.state c.next_byte.new.words) c.next_byte.result c.push_rex.new.self (c.push_rex.ensures.reading front e) c.next_byte.ensures)

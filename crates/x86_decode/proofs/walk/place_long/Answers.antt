@@ -7,4 +7,4 @@ use Rattle.x86_decode.proofs.walk.place_long.Goals as goal
 pub returns : goal.returns
 returns g c = λ front e.
     c.place_by_plan.ensures
-    ∙ ap (λ o. then_from o.answer o.after (λ h. behind_step (rows_of (g.W.Words.word_in c.args.rows.now)) c.args.strict h.0 h.1)) (c.in_ok-prefixes.ensures (front ++ c.args.first ∷ []) (c.after.ensures.reading front e))
+    ∙ ap (λ o. then_from o.answer o.after (λ h. behind_step (rows_of (g.W.Words.word c.args.rows.now)) c.args.strict h.0 h.1)) (c.in_ok-prefixes.ensures (front ++ c.args.first ∷ []) (c.after.ensures.reading front e))

@@ -7,8 +7,8 @@ use Rattle.x86_decode.proofs.walk.walk_slice.Goals as goal
 pub returns-in-Ok : goal.returns-in-Ok
 returns-in-Ok c =
     let i = c.walk_within-result.new.inst in
-    slice_ok c.args.strict c.args.bytes.now i c.offset-inst.result c.judged.result _ _ (c.new.ensures ∙ ap at_start c.first_fifteen-within.ensures)
-    (held_ok c.walk_within-result.result.0 (reading_in i) _ _ c.in-Ok.is c.walk_within-result.ensures) c.offset-inst.ensures.count c.judged.ensures
+    slice_ok c.args.strict c.args.bytes.now i c.offset-inst.result c.judgement.result _ _ (c.new.ensures ∙ ap at_start c.first_fifteen-within.ensures)
+    (held_ok c.walk_within-result.result.0 (reading_in i) _ _ c.in-Ok.is c.walk_within-result.ensures) c.offset-inst.ensures.count c.judgement.ensures
 
 pub returns-in-Err : goal.returns-in-Err
 returns-in-Err c =

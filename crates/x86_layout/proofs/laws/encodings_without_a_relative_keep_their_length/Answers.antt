@@ -3,7 +3,7 @@ use Rattle.x86_operands.specs.declared.reader.Reading.{Reading}
 use Rattle.x86_fields.specs.ModRM.{is_memory}
 use Rattle.x86_layout.specs.declared.tightening.tighten.TightenError.{TightenError}
 use Rattle.x86_layout.specs.declared.tightening.tighten.TightenError.TheVariants.{Refused, NoMemoryForm, IpRelative}
-use Rattle.x86_layout.specs.Tightening.Least.{least_in}
+use Rattle.x86_layout.specs.Tightening.Least.{least_length}
 use Rattle.x86_layout.specs.Parts.Split.{Encoding}
 use Rattle.x86_layout.specs.Tightening.Registers.{is_ip_relative}
 use Rattle.x86_layout.specs.Tightening.Tighten.{HasMemoryOperand, HasNoRelative}
@@ -14,11 +14,11 @@ use Rattle.x86_layout.proofs.laws.encodings_without_a_relative_keep_their_length
 
 module _ (strict : Bool) (s : List ℕ) (a : Reading) (v : Encoding strict s a) where
   -- a memory form of ModRM is an operand, so where there is no such operand ModRM is none
-  by_form : (memory : Bool) → is_memory (Byte strict s a v) ≡ memory → (HasMemoryOperand strict s a v → ⊥) → least_in strict s ≡ length s
+  by_form : (memory : Bool) → is_memory (Byte strict s a v) ≡ memory → (HasMemoryOperand strict s a v → ⊥) → least_length strict s ≡ length s
   by_form true e none = absurd (let read = some_memory strict s a v e in none (operand_form strict s a v read.0 read.1 (is_ip_relative read.0) refl).operand)
   by_form false e none = least_without strict s a v e
 
-  keeps : (error : TightenError) → HasNoRelative strict s a v error → least_in strict s ≡ length s
+  keeps : (error : TightenError) → HasNoRelative strict s a v error → least_length strict s ≡ length s
   keeps (Refused error) h = absurd h
   keeps NoMemoryForm h = by_form (is_memory (Byte strict s a v)) refl h
   keeps IpRelative h = least_at_ip strict s a v h.operand.raw h.operand.read h.form

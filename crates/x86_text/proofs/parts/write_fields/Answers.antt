@@ -1,7 +1,7 @@
 use Rattle.std.proofs.Common.{◌≡◌, ℕ, List, ◌++◌, length, codes, decimal, ap, ◌∙◌, append_assoc, append-nil}
 use Rattle.std.specs.List.{flat_map, sum_by}
 use Rattle.x86_layout.specs.Parts.Split.{PartLists, lists_of}
-use Rattle.x86_text.specs.Parts.{in_order, spaced, fields_text}
+use Rattle.x86_text.specs.Parts.{in_order, spaced, fields_line}
 use Rattle.x86_text.proofs.parts.write_fields.Goals as goal
 
 -- eight parts, one behind the other
@@ -12,7 +12,7 @@ all_parts : (f : List ℕ → List ℕ) (p : PartLists) (l0 l1 l2 l3 l4 l5 l6 l7
 all_parts f p l0 l1 l2 l3 l4 l5 l6 l7 l8 e1 e2 e3 e4 e5 e6 e7 e8 = rw (e8, e7, e6, e5, e4, e3, e2, e1) (simp (append_assoc, append-nil))
 
 pub returns-clause-text : goal.returns-clause-text
-unfolding fields_text
+unfolding fields_line
 returns-clause-text c =
     let p : PartLists = lists_of c.args.parts.now in
     let start : c.push.new.self.items ≡ decimal c.args.place.now ++ codes " " =
@@ -20,4 +20,4 @@ returns-clause-text c =
     all_parts spaced p _ _ _ _ _ _ _ _ _ c.push_part.ensures.text c.push_part-2.ensures.text c.push_part-3.ensures.text c.push_part-4.ensures.text
     c.push_part-5.ensures.text c.push_part-6.ensures.text c.push_part-7.ensures.text c.push_part-8.ensures.text
     ∙ ap (λ l. l ++ flat_map spaced (in_order p))
-    (c.push_u64.ensures.text ∙ ap (λ n. c.push.new.self.items ++ decimal n) c.length_of.ensures ∙ ap (λ l. l ++ decimal (sum_by length (in_order p))) start)
+    (c.push_u64.ensures.text ∙ ap (λ n. c.push.new.self.items ++ decimal n) c.parts_length.ensures ∙ ap (λ l. l ++ decimal (sum_by length (in_order p))) start)

@@ -1,24 +1,24 @@
 use Rattle.std.proofs.Common.{◌≡◌, ℕ, Bool, List, [], ◌∷◌, ◌++◌, length, slice_index, Some, IfSome, refl, ap, subst, ◌∙◌}
 use Rattle.std.specs.List.{prefix_len}
 use Rattle.x86_fields.specs.declared.prefixes.Prefixes.{Prefixes}
-use Rattle.x86_fields.specs.Run.{is_prefix_byte, reading_of}
+use Rattle.x86_fields.specs.Run.{is_prefix, reading_of}
 use Rattle.x86_forms.specs.declared.Map.{Map}
 use Rattle.x86_forms.specs.declared.TableRow.{TableRow}
-use Rattle.x86_forms.specs.Words.{rows_of, word_at}
+use Rattle.x86_forms.specs.Words.{rows_of, packed}
 use Rattle.x86_operands.specs.declared.asks.Ask.{Ask}
 use Rattle.x86_operands.specs.Asks.{ask_of}
-use Rattle.x86_decode.specs.Head.{column_of, escape_bytes, seen}
+use Rattle.x86_decode.specs.Head.{column_of, escape_bytes, seen_by}
 use Rattle.x86_decode.specs.Grammar.{record_of}
-use Rattle.x86_layout.specs.Parts.Heads.{map_by}
+use Rattle.x86_layout.specs.Parts.Heads.{map_of}
 use Rattle.x86_layout.proofs.PartLemmas.PartLaws.{front_is, rest_is, run_length_is, map_is, enters}
 use Rattle.x86_layout.proofs.parts.heads.head_of.Goals as goal
 
 abbrev Tells : Bool → Ask → Map → Prefixes → ℕ → ℕ → Type 0
-Tells strict ask map p opcode m = IfSome (rows_of word_at map (column_of p) opcode) (λ row. ask ≡ ask_of (record_of strict row (seen map opcode p)) m)
+Tells strict ask map p opcode m = IfSome (rows_of packed map (column_of p) opcode) (λ row. ask ≡ ask_of (record_of strict row (seen_by map opcode p)) m)
 
-tells : (strict : Bool) (ask : Ask) (map map' : Map) (p p' : Prefixes) (opcode opcode' m m' : ℕ) (row : TableRow) → map ≡ map' → p ≡ p' → opcode ≡ opcode' → m ≡ m' → rows_of word_at map' (column_of p') opcode' ≡ Some row → Tells strict ask map p opcode m → ask ≡ ask_of (record_of strict row (seen map' opcode' p')) m'
+tells : (strict : Bool) (ask : Ask) (map map' : Map) (p p' : Prefixes) (opcode opcode' m m' : ℕ) (row : TableRow) → map ≡ map' → p ≡ p' → opcode ≡ opcode' → m ≡ m' → rows_of packed map' (column_of p') opcode' ≡ Some row → Tells strict ask map p opcode m → ask ≡ ask_of (record_of strict row (seen_by map' opcode' p')) m'
 tells strict ask map map' p p' opcode opcode' m m' row e f g h has t =
-    subst (λ o. IfSome o (λ row. ask ≡ ask_of (record_of strict row (seen map' opcode' p')) m')) has
+    subst (λ o. IfSome o (λ row. ask ≡ ask_of (record_of strict row (seen_by map' opcode' p')) m')) has
     (subst (λ x. Tells strict ask map' p' opcode' x) h
     (subst (λ x. Tells strict ask map' p' x m) g
     (subst (λ x. Tells strict ask map' x opcode m) f
@@ -29,19 +29,19 @@ returns c = λ strict reading w.
     let s = c.args.encoding.now in
     let behind : List ℕ = escape_bytes w.map ++ w.opcode ∷ w.tail in
     let in' = enters w.map w.opcode w.tail w.meant in
-    let run_n : prefix_len is_prefix_byte s ≡ length w.run =
-    ap (prefix_len is_prefix_byte) (w.spelled ∙ ap (λ l. w.run ++ l) in'.spelled) ∙ run_length_is w.run in'.first in'.rest w.prefixes in'.plain in
+    let run_n : prefix_len is_prefix s ≡ length w.run =
+    ap (prefix_len is_prefix) (w.spelled ∙ ap (λ l. w.run ++ l) in'.spelled) ∙ run_length_is w.run in'.first in'.rest w.prefixes in'.plain in
     let prefixes = c.run_of.ensures.front ∙ front_is s w.run behind _ w.spelled run_n in
     let rest = c.run_of.ensures.behind ∙ rest_is s w.run behind _ w.spelled run_n in
     let map : c.map_of-map.result ≡ w.map =
-    c.map_of-map.ensures ∙ ap (λ b. map_by b c.byte_at-2.result) c.byte_at.ensures ∙ ap (map_by (slice_index c.run_of.result.1.now 0)) c.byte_at-2.ensures
-    ∙ ap (λ l. map_by (slice_index l 0) (slice_index l 1)) rest ∙ map_is w.map w.opcode w.tail w.meant in
+    c.map_of-map.ensures ∙ ap (λ b. map_of b c.byte_at-2.result) c.byte_at.ensures ∙ ap (map_of (slice_index c.run_of.result.1.now 0)) c.byte_at-2.ensures
+    ∙ ap (λ l. map_of (slice_index l 0) (slice_index l 1)) rest ∙ map_is w.map w.opcode w.tail w.meant in
     let escape_n : c.escape_length.result ≡ length (escape_bytes w.map) = c.escape_length.ensures ∙ ap (λ m. length (escape_bytes m)) map in
     let escape = c.front_and_rest.ensures.front ∙ front_is _ (escape_bytes w.map) (w.opcode ∷ w.tail) _ rest escape_n in
     let rest' = c.front_and_rest.ensures.behind ∙ rest_is _ (escape_bytes w.map) (w.opcode ∷ w.tail) _ rest escape_n in
     let opcode = c.front_and_rest-2.ensures.front ∙ front_is _ (w.opcode ∷ []) w.tail 1 rest' refl in
     let tail = c.front_and_rest-2.ensures.behind ∙ rest_is _ (w.opcode ∷ []) w.tail 1 rest' refl in
-    let p : c.read_run.result ≡ reading_of w.run = c.read_run.ensures ∙ ap reading_of prefixes in
+    let p : c.reading_of.result ≡ reading_of w.run = c.reading_of.ensures ∙ ap reading_of prefixes in
     let o : c.byte_at-3.result ≡ w.opcode = c.byte_at-3.ensures ∙ ap (λ l. slice_index l 0) opcode in
     let m : c.byte_at-4.result ≡ slice_index w.tail 0 = c.byte_at-4.ensures ∙ ap (λ l. slice_index l 0) tail in
     record {

@@ -1,9 +1,9 @@
 use Rattle.std.proofs.Common.{◌≡◌, ◌+◌, drop}
 use Rattle.std.specs.List.{prefix_len}
-use Rattle.x86_fields.specs.Run.{is_prefix_byte}
+use Rattle.x86_fields.specs.Run.{is_prefix}
 use Rattle.x86_layout.proofs.parts.heads.run_length.Given as goal
 
 abbrev pub invariant-loop-byte : goal.invariant-loop-byte
 invariant-loop-byte l =
     (l.length ≡ l.byte-index) ×
-    (prefix_len is_prefix_byte l.bytes ≡ l.byte-index + prefix_len is_prefix_byte (drop l.byte-index l.bytes))
+    (prefix_len is_prefix l.bytes ≡ l.byte-index + prefix_len is_prefix (drop l.byte-index l.bytes))

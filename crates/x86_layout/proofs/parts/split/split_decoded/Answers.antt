@@ -1,7 +1,7 @@
 use Rattle.std.proofs.Common.{◌≡◌, ◌≤◌, arith, ◌++◌, length, Ok, sym, ap, subst, ◌∙◌}
 use Rattle.x86_fields.specs.Run.{reading_of}
-use Rattle.x86_forms.specs.Words.{rows_of, word_at}
-use Rattle.x86_decode.specs.Head.{seen}
+use Rattle.x86_forms.specs.Words.{rows_of, packed}
+use Rattle.x86_decode.specs.Head.{seen_by}
 use Rattle.x86_decode.specs.Grammar.{IsAccepted, IsAnswer}
 use Rattle.x86_decode.specs.Answer.{answer_of, count_of}
 use Rattle.x86_layout.specs.Parts.Split.{lists_of, Encoding, record_in, HasParts}
@@ -18,7 +18,7 @@ returns-clause-pieces c =
     let bytes = c.args.bytes.now in
     let instruction = c.args.instruction.now in
     let value : answer_of strict bytes ≡ Ok instruction = c.requires.decoded in
-    let accepted : IsAccepted (rows_of word_at) strict bytes instruction (count_of strict bytes) = subst (λ r. IsAnswer (rows_of word_at) strict bytes r (count_of strict bytes)) value (c.answer_is.ensures.there strict bytes) in
+    let accepted : IsAccepted (rows_of packed) strict bytes instruction (count_of strict bytes) = subst (λ r. IsAnswer (rows_of packed) strict bytes r (count_of strict bytes)) value (c.answer_is.ensures.there strict bytes) in
     let counted : instruction.length ≡ count_of strict bytes = c.lengths.ensures.counted strict bytes instruction value in
     let n : c.to_const.result ≡ length accepted.sentence = c.to_const.ensures ∙ ap (λ d. d.amount) c.len.ensures ∙ counted ∙ sym accepted.long in
     let front : c.front_and_rest.result.0.now ≡ accepted.sentence = c.front_and_rest.ensures.front ∙ front_is bytes accepted.sentence accepted.rest c.to_const.result accepted.begins n in
@@ -28,7 +28,7 @@ returns-clause-pieces c =
     let head = c.head_of.ensures strict reading whole in
     let behind = c.parts_behind.ensures in
     let row = record_in strict encoding reading whole in
-    let tail = behind.tail row (seen whole.map whole.opcode (reading_of whole.run)) reading whole.tail head.tail head.ask whole.asked in
+    let tail = behind.tail row (seen_by whole.map whole.opcode (reading_of whole.run)) reading whole.tail head.tail head.ask whole.asked in
     let parts : HasParts strict encoding reading whole (lists_of c.parts_behind.result) = record {
       prefixes = behind.prefixes ∙ head.prefixes;
       escape = behind.escape ∙ head.escape;

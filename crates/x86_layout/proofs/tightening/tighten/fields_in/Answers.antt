@@ -1,7 +1,7 @@
 use Rattle.std.proofs.Common.{true, Some, ◌≡◌, ℕ, zero, suc, Bool, List, [], ◌∷◌, slice_index, sym, ap, ◌∙◌, arith, Fits, w8}
 use Rattle.std.specs.List.{list_all}
 use Rattle.x86_fields.specs.declared.prefixes.Prefixes.{Prefixes}
-use Rattle.x86_fields.specs.Run.{is_prefix_byte}
+use Rattle.x86_fields.specs.Run.{is_prefix}
 use Rattle.x86_operands.specs.declared.reader.Reading.{Reading}
 use Rattle.x86_operands.specs.Plans.{RowRecord}
 use Rattle.x86_operands.specs.Pieces.{SpellsRow}
@@ -43,7 +43,7 @@ pub raw_in-raw-requires : goal.raw_in-raw-requires
 raw_in-raw-requires c =
     let is = c.requires.is in
     let h = c.head_of-head.ensures c.requires.strict is.reading is.whole in
-    ap (list_all is_prefix_byte) (c.parts_behind-parts.ensures.prefixes ∙ h.prefixes) ∙ is.whole.prefixes
+    ap (list_all is_prefix) (c.parts_behind-parts.ensures.prefixes ∙ h.prefixes) ∙ is.whole.prefixes
 
 pub returns-then-is_ip_relative-clause-fields : goal.returns-then-is_ip_relative-clause-fields
 returns-then-is_ip_relative-clause-fields c = λ strict a is.

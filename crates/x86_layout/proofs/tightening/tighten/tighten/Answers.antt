@@ -1,22 +1,22 @@
 use Rattle.std.proofs.Common.{take, ◌≡◌, ℕ, Bool, List, ◌++◌, length, Result, Ok, Err, MatchResult, refl, sym, ap, subst, ◌∙◌}
 use Rattle.x86_fields.specs.declared.errors.DecodeError.{DecodeError}
-use Rattle.x86_forms.specs.Words.{rows_of, word_at}
+use Rattle.x86_forms.specs.Words.{rows_of, packed}
 use Rattle.x86_decode.specs.declared.instructions.Instruction.{Instruction}
 use Rattle.x86_decode.specs.Grammar.{IsAccepted, IsSentence}
 use Rattle.x86_decode.specs.Answer.{answer_of, count_of}
 use Rattle.x86_layout.specs.declared.tightening.tighten.TightenError.{TightenError}
 use Rattle.x86_layout.specs.declared.tightening.tighten.TightenError.TheVariants.{Refused, NoMemoryForm, IpRelative}
-use Rattle.x86_layout.specs.Tightening.Least.{least_in, least_of, HasLengthOfFront}
+use Rattle.x86_layout.specs.Tightening.Least.{least_length, shortest_length, HasLengthOfFront}
 use Rattle.x86_layout.proofs.TightenLemmas.LeastLaws.{least_front}
-use Rattle.x86_layout.specs.Tightening.Tighten.{HasSentence, OfFront, Statement, IsTightened, HasNoRelative, IsNotTightened}
+use Rattle.x86_layout.specs.Tightening.Tighten.{IsSentenceOfSomeChoice, OfFront, Statement, IsTightened, HasNoRelative, IsNotTightened}
 use Rattle.x86_layout.proofs.PartLemmas.PartLaws.{front_is}
 use Rattle.x86_layout.proofs.tightening.tighten.tighten.Goals as goal
 
 abbrev Sentence : Bool → List ℕ → Instruction → Type 0
-Sentence strict s a = IsSentence (rows_of word_at) strict s a
+Sentence strict s a = IsSentence (rows_of packed) strict s a
 
 -- what holds of an encoding at the front holds of each sentence there
-module _ (strict : Bool) (bytes encoding : List ℕ) (instruction : Instruction) (accepted : answer_of strict bytes ≡ Ok instruction) (same : (s rest : List ℕ) (a : Instruction) → Sentence strict s a → bytes ≡ s ++ rest → s ≡ encoding) (has : HasSentence encoding) where
+module _ (strict : Bool) (bytes encoding : List ℕ) (instruction : Instruction) (accepted : answer_of strict bytes ≡ Ok instruction) (same : (s rest : List ℕ) (a : Instruction) → Sentence strict s a → bytes ≡ s ++ rest → s ≡ encoding) (has : IsSentenceOfSomeChoice encoding) where
   of_front : (Holds : Statement) → ((strict : Bool) (a : Instruction) (is : Sentence strict encoding a) → Holds strict encoding is.reading is.whole) → OfFront strict bytes Holds
   of_front Holds each = record {
     instruction = instruction;
@@ -36,7 +36,7 @@ module _ (strict : Bool) (bytes encoding : List ℕ) (instruction : Instruction)
     answered (Err IpRelative) each = of_front (λ strict s a v. HasNoRelative strict s a v IpRelative) each
     answered (Err (Refused error)) each = absurd (each has.strict has.answer has.is)
 
-taken : (strict : Bool) (bytes : List ℕ) (instruction : Instruction) (encoding : List ℕ) (accepted : IsAccepted (rows_of word_at) strict bytes instruction (count_of strict bytes)) → encoding ≡ accepted.sentence → HasSentence encoding
+taken : (strict : Bool) (bytes : List ℕ) (instruction : Instruction) (encoding : List ℕ) (accepted : IsAccepted (rows_of packed) strict bytes instruction (count_of strict bytes)) → encoding ≡ accepted.sentence → IsSentenceOfSomeChoice encoding
 taken strict bytes instruction encoding accepted front = record { strict = strict; answer = instruction; is = subst (λ l. Sentence strict l instruction) (sym front) accepted.is }
 
 pub tightened-requires : goal.tightened-requires
@@ -45,7 +45,7 @@ tightened-requires c =
     let bytes = c.args.bytes.now in
     let instruction = c.in-Ok.instruction in
     let value : answer_of strict bytes ≡ Ok instruction = sym c.in-Ok.ensures.value in
-    let accepted : IsAccepted (rows_of word_at) strict bytes instruction (count_of strict bytes) = c.in-Ok.ensures.answer in
+    let accepted : IsAccepted (rows_of packed) strict bytes instruction (count_of strict bytes) = c.in-Ok.ensures.answer in
     let counted : instruction.length ≡ count_of strict bytes = c.lengths.ensures.counted strict bytes instruction value in
     let n : c.to_const.result ≡ length accepted.sentence = c.to_const.ensures ∙ ap (λ d. d.amount) c.len.ensures ∙ counted ∙ sym accepted.long in
     let front : c.front_and_rest.result.0.now ≡ accepted.sentence = c.front_and_rest.ensures.front ∙ front_is bytes accepted.sentence accepted.rest c.to_const.result accepted.begins n in
@@ -59,26 +59,26 @@ returns-clause-shortest c =
     let value : answer_of strict bytes ≡ Ok instruction = sym c.in-Ok.ensures.value in
     let counted : instruction.length ≡ count_of strict bytes = c.lengths.ensures.counted strict bytes instruction value in
     let n : c.to_const.result ≡ count_of strict bytes = c.to_const.ensures ∙ ap (λ d. d.amount) c.len.ensures ∙ counted in
-    let accepted : IsAccepted (rows_of word_at) strict bytes instruction (count_of strict bytes) = c.in-Ok.ensures.answer in
+    let accepted : IsAccepted (rows_of packed) strict bytes instruction (count_of strict bytes) = c.in-Ok.ensures.answer in
     let encoding = c.front_and_rest.result.0.now in
     let front' : encoding ≡ accepted.sentence = c.front_and_rest.ensures.front ∙ front_is bytes accepted.sentence accepted.rest c.to_const.result accepted.begins (n ∙ sym accepted.long) in
     let same : (s rest : List ℕ) (a : Instruction) → Sentence strict s a → bytes ≡ s ++ rest → s ≡ encoding =
     λ s rest a is begins.
-    let front : IsAccepted (rows_of word_at) strict bytes a (length s) = record { sentence = s; rest = rest; begins = begins; long = refl; is = is } in
+    let front : IsAccepted (rows_of packed) strict bytes a (length s) = record { sentence = s; rest = rest; begins = begins; long = refl; is = is } in
     let long : length s ≡ count_of strict bytes = (c.answer_is.ensures.only strict bytes (Ok a) (length s) front).1 in
     sym (c.front_and_rest.ensures.front ∙ front_is bytes s rest c.to_const.result begins (n ∙ sym long)) in
     answered strict bytes encoding instruction value same (taken strict bytes instruction encoding accepted front') (λ t. t.items) c.tightened.result c.tightened.ensures.shortest
 
 -- the least length of an encoding at the front is that of the bytes
 module _ (strict : Bool) (bytes encoding : List ℕ) (instruction : Instruction) (n : ℕ) (accepted : answer_of strict bytes ≡ Ok instruction) (front : encoding ≡ take n bytes) (counted : n ≡ instruction.length) (long : length encoding ≡ n) where
-  front_least : least_of strict bytes ≡ least_in strict encoding
+  front_least : shortest_length strict bytes ≡ least_length strict encoding
   front_least = least_front strict bytes encoding instruction n accepted front counted
 
   same_instruction : (x y : Instruction) (r : Result Instruction DecodeError) → r ≡ Ok x → r ≡ Ok y → x ≡ y
   same_instruction x y r e f = cc
 
   module _ {A : Type 0} (items : A → List ℕ) (is : Sentence strict encoding instruction) where
-    measured : (result : Result A TightenError) → ((strict : Bool) (a : Instruction) → Sentence strict encoding a → MatchResult result (λ t. length (items t) ≡ least_in strict encoding) (λ _. least_in strict encoding ≡ length encoding)) → MatchResult result (λ t. length (items t) ≡ least_of strict bytes) (λ _. HasLengthOfFront strict bytes)
+    measured : (result : Result A TightenError) → ((strict : Bool) (a : Instruction) → Sentence strict encoding a → MatchResult result (λ t. length (items t) ≡ least_length strict encoding) (λ _. least_length strict encoding ≡ length encoding)) → MatchResult result (λ t. length (items t) ≡ shortest_length strict bytes) (λ _. HasLengthOfFront strict bytes)
     measured (Ok t) each = each strict instruction is ∙ sym front_least
     measured (Err error) each = λ i e. front_least ∙ each strict instruction is ∙ long ∙ counted ∙ ap (λ k. k.length) (same_instruction instruction i (answer_of strict bytes) accepted e)
 
@@ -88,7 +88,7 @@ returns-clause-least c =
     let bytes = c.args.bytes.now in
     let instruction = c.in-Ok.instruction in
     let value : answer_of strict bytes ≡ Ok instruction = sym c.in-Ok.ensures.value in
-    let accepted : IsAccepted (rows_of word_at) strict bytes instruction (count_of strict bytes) = c.in-Ok.ensures.answer in
+    let accepted : IsAccepted (rows_of packed) strict bytes instruction (count_of strict bytes) = c.in-Ok.ensures.answer in
     let counted : c.to_const.result ≡ instruction.length = c.to_const.ensures ∙ ap (λ d. d.amount) c.len.ensures in
     let n : c.to_const.result ≡ length accepted.sentence = counted ∙ c.lengths.ensures.counted strict bytes instruction value ∙ sym accepted.long in
     let front : c.front_and_rest.result.0.now ≡ accepted.sentence = c.front_and_rest.ensures.front ∙ front_is bytes accepted.sentence accepted.rest c.to_const.result accepted.begins n in
