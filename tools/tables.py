@@ -11,7 +11,7 @@ The lists, which people edit:
     crates/x86_forms/specs/Rows.antt           the rows of each map, a line for each row
 
 Nothing rests on this script. What it writes is checked like all other code: that the constants have the numbers of the
-names, that each form stands at its place, and that each table has the words of the rows, is proved, and a wrong entry is
+names, that each form stands at its ordinal, and that each table has the words of the rows, is proved, and a wrong entry is
 refused, whether the script or a hand wrote it.
 """
 
@@ -57,17 +57,17 @@ def names():
 
 
 def forms():
-    """The forms in the order of their places, each with whether it carries a number."""
+    """The forms in the order of their ordinals, each with whether it carries a number."""
     text = (FORMS / "src" / "lib.rt").read_text()
     return [(form, bool(field)) for form, field in lines_of(text, r"pub enum Form \{", r"\}", r"    (\w+)(\(u8\))?,")]
 
 
-def places():
-    """The place of each form among all forms with all numbers."""
-    place, answer = 0, {}
+def ordinals():
+    """How many forms, with all their numbers, stand before each form."""
+    ordinal, answer = 0, {}
     for form, carries in forms():
-        answer[form] = place
-        place += CARRIED if carries else 1
+        answer[form] = ordinal
+        ordinal += CARRIED if carries else 1
     return answer
 
 
@@ -91,11 +91,11 @@ def stands_in(columns, column):
 def words(map_rows, column):
     """The words of a column by the byte, where the first of several rows counts."""
     numbers = {name: number for number, name in enumerate(names())}
-    place = places()
+    ordinal = ordinals()
     answer = [0] * 256
     for columns, byte, opcode, form, number in reversed(map_rows):
         if stands_in(columns, column):
-            answer[byte] = 256 * numbers[opcode] + 1 + place[form] + number
+            answer[byte] = 256 * numbers[opcode] + 1 + ordinal[form] + number
     return answer
 
 
@@ -124,23 +124,23 @@ def names_rt():
     return lines + [f'    "{spelling}",' for _, spelling in spellings()] + ["];"]
 
 
-def places_antt():
-    lines = ["-- The places of the forms."] + note("--", "the variants of Form in src/lib.rt")
+def ordinals_antt():
+    lines = ["-- The ordinals of the forms."] + note("--", "the variants of Form in src/lib.rt")
     lines += ["use Rattle.std.specs.Prelude.{ℕ, ◌+◌}", "use Rattle.x86_forms.specs.declared.Form.{Form}"]
     lines += ["use Rattle.x86_forms.specs.declared.Form.TheVariants as form", ""]
-    lines += ["-- the place of a form among the forms, each of which stands there with every number that it may carry"]
-    lines += ["unfoldable pub place_of : Form → ℕ"]
-    place = places()
+    lines += ["-- how many forms stand before a form, each with every number that it may carry"]
+    lines += ["unfoldable pub ordinal_of : Form → ℕ"]
+    ordinal = ordinals()
     for form, carries in forms():
-        lines.append(f"place_of (form.{form} n) = {place[form]} + n" if carries else f"place_of form.{form} = {place[form]}")
+        lines.append(f"ordinal_of (form.{form} n) = {ordinal[form]} + n" if carries else f"ordinal_of form.{form} = {ordinal[form]}")
     return lines
 
 
-def places_rt():
+def ordinals_rt():
     every = []
     for form, carries in forms():
         every += [f"Form::{form}({number})" for number in range(CARRIED)] if carries else [f"Form::{form}"]
-    lines = ["//! The forms in the order of their places, each with every number that it may carry.", "//!"]
+    lines = ["//! The forms in the order of their ordinals, each with every number that it may carry.", "//!"]
     lines += note("//!", "the variants of `Form`") + ["use crate::Form;", ""]
     lines += [f"pub(crate) const FORMS: &[Form; {len(every)}] = &["]
     return lines + [f"    {form}," for form in every] + ["];"]
@@ -155,7 +155,7 @@ def table(name, entries):
 
 def tables_rt():
     lines = ["//! The words of the rows, by the opcode byte: eight on a line, behind which the byte of the first stands.", "//!"]
-    lines += ["//! The last two digits of a word are the form's place and 1, the digits before them the opcode's number.", "//!"]
+    lines += ["//! The last two digits of a word are the form's ordinal and 1, the digits before them the opcode's number.", "//!"]
     lines += note("//!", "specs/Rows.antt")
     for of, map_rows in rows().items():
         if of == "One":
@@ -171,8 +171,8 @@ def written():
     return {
         OPCODES / "specs" / "Names.antt": names_antt(),
         OPCODES / "src" / "names.rt": names_rt(),
-        FORMS / "specs" / "Places.antt": places_antt(),
-        FORMS / "src" / "places.rt": places_rt(),
+        FORMS / "specs" / "Ordinals.antt": ordinals_antt(),
+        FORMS / "src" / "ordinals.rt": ordinals_rt(),
         FORMS / "src" / "tables.rt": tables_rt(),
     }
 

@@ -1,2 +1,2 @@
 -- The lemmas on reader states.
-mod StateLaws
+mod StateLemmas

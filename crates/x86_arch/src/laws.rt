@@ -6,17 +6,17 @@ use crate::{AddressDiff, ReadError, Reader, U8Reader};
 
 /// Over any reader `next` gives what it gives over a slice with the same bytes left: the answer, and the count taken.
 pub fn next_is_that_of_a_slice<T: Reader<u64, u8>>(
-    words: &mut T,
+    reader: &mut T,
     bytes: &[u8],
 ) -> (Result<u8, ReadError>, Result<u8, ReadError>, u64)
-    requires { (T.state words.old).left ≡ bytes.now }
-    ensures taken { IfOk result.0 (λ item. bytes.now ≡ item ∷ (T.state words.new).left) }
+    requires { (T.state reader.old).left ≡ bytes.now }
+    ensures taken { IfOk result.0 (λ item. bytes.now ≡ item ∷ (T.state reader.new).left) }
     ensures none_left { OnErr result.0 (bytes.now ≡ []) }
     ensures same_answer { result.0 ≡ result.1 }
-    ensures same_count { (T.state words.new).since_made ≡ (T.state words.old).since_made + result.2 }
+    ensures same_count { (T.state reader.new).since_made ≡ (T.state reader.old).since_made + result.2 }
 {
     let mut slice = U8Reader::new(bytes);
-    let given = words.next();
+    let given = reader.next();
     let over_slice = slice.next();
     (given, over_slice, slice.total_offset())
 }
@@ -24,21 +24,21 @@ pub fn next_is_that_of_a_slice<T: Reader<u64, u8>>(
 /// Over any reader `next_n` gives what it gives over a slice with the same bytes left: the answer, the bytes, and the
 /// count taken.
 pub fn next_n_is_that_of_a_slice<T: Reader<u64, u8>>(
-    words: &mut T,
+    reader: &mut T,
     bytes: &[u8],
     given: &mut [u8],
     over_slice: &mut [u8],
 ) -> (Result<(), ReadError>, Result<(), ReadError>, u64)
-    requires same_left { (T.state words.old).left ≡ bytes.now }
+    requires same_left { (T.state reader.old).left ≡ bytes.now }
     requires same_room { length given.old ≡ length over_slice.old }
     ensures filled { OnOk result.0 (given.new ≡ take (length given.old) bytes.now) }
     ensures too_few { OnErr result.0 (length bytes.now < length given.old) }
     ensures same_answer { result.0 ≡ result.1 }
     ensures same_bytes { OnOk result.0 (given.new ≡ over_slice.new) }
-    ensures same_count { (T.state words.new).since_made ≡ (T.state words.old).since_made + result.2 }
+    ensures same_count { (T.state reader.new).since_made ≡ (T.state reader.old).since_made + result.2 }
 {
     let mut slice = U8Reader::new(bytes);
-    let answer = words.next_n(given);
+    let answer = reader.next_n(given);
     let answer_over_slice = slice.next_n(over_slice);
     (answer, answer_over_slice, slice.total_offset())
 }

@@ -1,6 +1,6 @@
 -- Lemmas on runs of commands.
 pub mod Causes
-pub mod StayLaws
-pub mod SaysLaws
-pub mod ProgramLaws
-pub mod AheadLaws
+pub mod Stay
+pub mod Says
+pub mod Program
+pub mod Ahead

@@ -1,6 +1,6 @@
 -- Lemmas on listings.
-pub mod ListingLaws
+pub mod Listing
 pub mod Stands
 pub mod Standing
-pub mod SweepLaws
-pub mod TargetLaws
+pub mod Sweep
+pub mod Target

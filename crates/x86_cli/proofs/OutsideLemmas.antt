@@ -1,3 +1,3 @@
 -- Lemmas on sources and sinks.
-pub mod SinkLaws
+pub mod Sink
 pub mod Tells

@@ -1,7 +1,7 @@
 -- Lemmas on texts, their reader and its window.
-pub mod TextLaws
-pub mod KindLaws
-pub mod ReadLaws
-pub mod PairLaws
-pub mod FillLaws
-pub mod FrontLaws
+pub mod Text
+pub mod Kind
+pub mod Read
+pub mod Pair
+pub mod Fill
+pub mod Front

@@ -6,15 +6,15 @@ use Rattle.x86_fields.specs.declared.errors.DecodeError.{DecodeError}
 use Rattle.x86_fields.specs.declared.errors.DecodeError.TheVariants.{ExhaustedInput, InvalidOpcode, InvalidOperand, InvalidPrefixes, TooLong, IncompleteDecoder}
 use Rattle.x86_fields.specs.declared.prefixes.Prefixes.{Prefixes}
 use Rattle.x86_fields.specs.Steps.{Step, outcome, Takes}
-use Rattle.x86_fields.proofs.StepLaws.{fresh}
-use Rattle.x86_fields.proofs.EndLaws.{EndsWell, Ends, settles, runs_out, OutOn, final_ok, final_err, Stands, out, over}
+use Rattle.x86_fields.proofs.StepLemmas.{fresh}
+use Rattle.x86_fields.proofs.EndLemmas.{EndsWell, Ends, settles, runs_out, OutOn, final_ok, final_err, Stands, out, over}
 use Rattle.x86_operands.specs.declared.plans.Fault.{Fault}
 use Rattle.x86_operands.specs.declared.plans.Fault.TheVariants.{BadOpcode, BadOperand, Incomplete}
 use Rattle.x86_operands.specs.declared.reader.Reading.{Reading}
 use Rattle.x86_operands.specs.Plans.{RowRecord}
-use Rattle.x86_operands.specs.Signs.{record_step, error_of}
+use Rattle.x86_operands.specs.PlanSteps.{record_step, error_of}
 use Rattle.x86_operands.specs.Pieces.{SpellsRow, RefusesRow, BetweenRow, IsOpenRow}
-use Rattle.x86_operands.proofs.RowLaws.{row_read, row_refused, row_open, row_wherever, row_refuses}
+use Rattle.x86_operands.proofs.RowLemmas.{row_read, row_refused, row_open, row_wherever, row_refuses}
 
 pub exhausted_or_not : (e : DecodeError) → (e ≡ ExhaustedInput) ⊎ (e ≢ ExhaustedInput)
 exhausted_or_not ExhaustedInput = inl refl
@@ -87,8 +87,8 @@ module _ (r : RowRecord) (p : Prefixes) where
         ap (λ a. outcome a (step t).after) h ∙ ap (outcome (Err ExhaustedInput)) (there.taken ∙ ap (λ n. advanced n t) same)
 
   open_on : (s : State ℕ) → (step s).answer ≡ Err ExhaustedInput → (is : IsOpenRow r p s (step s).after) → OutOn step is.bytes is.rest
-  open_on s opened is front back cut t left =
-      same_place s opened is t back (is.front ∙ ap (λ l. is.bytes ++ l) cut ∙ sym (append_assoc is.bytes front back) ∙ ap (λ l. l ++ back) (sym left)) front left
+  open_on s opened is front back split t left =
+      same_place s opened is t back (is.front ∙ ap (λ l. is.bytes ++ l) split ∙ sym (append_assoc is.bytes front back) ∙ ap (λ l. l ++ back) (sym left)) front left
 
   -- ---- what a row takes has the pieces of the row, or ends between them
 

@@ -2,24 +2,24 @@
 use Rattle.std.specs.Prelude.{ℕ, Bool, Option, List}
 use Rattle.x86_fields.specs.declared.raw.Raw.{Raw}
 use Rattle.x86_fields.specs.Run.{reading_of}
-use Rattle.x86_operands.specs.declared.plans.Sign.{Sign}
+use Rattle.x86_operands.specs.declared.plans.OperandEncoding.{OperandEncoding}
 use Rattle.x86_operands.specs.declared.plans.Plan.{Plan}
 use Rattle.x86_operands.specs.declared.reader.Reading.{Reading}
 use Rattle.x86_operands.specs.Plans.{list_of}
 use Rattle.x86_operands.specs.Pieces.{modrm_of}
 use Rattle.x86_decode.specs.Head.{Rows, seen_by}
 use Rattle.x86_decode.specs.Grammar.{record_of, Whole}
-pub use Rattle.x86_operands.specs.Ties.{is_modrm_sign, names_modrm}
+pub use Rattle.x86_operands.specs.Ties.{is_modrm_encoding, names_modrm}
 
 module _ (rows : Rows) (strict : Bool) (s : List ℕ) (reading : Reading) (w : Whole rows strict s reading) where
   -- the plan that the record of the encoding's row has at its ModRM
   abbrev pub plan_within : Plan
   plan_within = let r = record_of strict w.row (seen_by w.map w.opcode (reading_of w.run)) in r.plan (modrm_of r.modrm w.asked.modrm)
 
-  -- the signs of its operands
-  abbrev pub signs_within : List Sign
-  signs_within = list_of (plan_within).signs
+  -- the encodings of its operands
+  abbrev pub encodings_within : List OperandEncoding
+  encodings_within = list_of (plan_within).encodings
 
   -- the raw fields, in the memory form
-  abbrev pub fields_within : Option Raw
-  fields_within = w.asked.behind.pieces.memory
+  abbrev pub raw_within : Option Raw
+  raw_within = w.asked.behind.pieces.memory

@@ -12,7 +12,7 @@ use Rattle.x86_operands.specs.declared.operands.Operand.{Operand}
 use Rattle.x86_operands.specs.declared.operands.MemoryAccessSize.{MemoryAccessSize}
 use Rattle.x86_operands.specs.declared.operands.Operand.TheVariants as operands
 use Rattle.x86_operands.specs.Operands.{is_memory_slot}
-use Rattle.x86_operands.specs.Encodings.{no_operands, placed_reading}
+use Rattle.x86_operands.specs.Encodings.{no_operands, reading_with}
 use Rattle.x86_decode.specs.declared.instructions.Instruction.{Instruction}
 use Rattle.x86_decode.specs.declared.instructions.Shown.{Shown}
 
@@ -27,7 +27,7 @@ instruction_of r length = record {
 
 -- what an instruction has of a reading
 abbrev pub reading_in : Instruction → Reading
-reading_in i = placed_reading i.opcode i.prefixes i.given
+reading_in i = reading_with i.opcode i.prefixes i.given
 
 -- the instruction that stands for none
 abbrev pub invalid_instruction : Instruction
@@ -45,7 +45,7 @@ holding inst (Err e) = Err e
 
 -- ---- what an instruction is asked
 
--- the slot and the operand at a place: nothing at the count and above
+-- the slot and the operand at an index: nothing at the count and above
 abbrev pub slot_at : Instruction → ℕ → Slot
 slot_at i k = if nat_lt k i.given.count then slice_index_or i.given.slots k slots.Nothing else slots.Nothing
 
@@ -65,7 +65,7 @@ abbrev pub unless_ds : Segment → Option Segment
 unless_ds DS = None
 unless_ds s = Some s
 
--- the segment of the operand at a place, where it isn't the default one
+-- the segment of the operand at an index, where it isn't the default one
 abbrev pub segment_override_for_op : Instruction → ℕ → Option Segment
 segment_override_for_op i k =
     if i.opcode == MOVS then (if k == 0 then Some ES else (if k == 1 then Some i.prefixes.segment else None))

@@ -21,22 +21,22 @@ impl Start for Brand {
 
 /// A reader of at most `allowed` items.
 pub struct Bounded<'a, T: Reader<u64, u8>, K: Start> {
-    pub words: &'a mut T,
+    pub reader: &'a mut T,
     pub allowed: u8,
     pub start: PhantomData<K>,
     ghost few: { allowed ≤ 15 },
-    ghost same_reference: { words.ghost_name ≡ K.name },
-    ghost behind: { IsBehind (15 - allowed) K.state (T.state words.now) },
+    ghost same_reference: { reader.ghost_name ≡ K.name },
+    ghost behind: { IsBehind (15 - allowed) K.state (T.state reader.now) },
 }
 
 impl<T: Reader<u64, u8>, K: Start> Reader<u64, u8> for Bounded<'_, T, K> {
-    ghost state = { λ r. bounded r.allowed (T.state r.words.now) };
+    ghost state = { λ r. bounded r.allowed (T.state r.reader.now) };
 
     fn next(&mut self) -> Result<u8, ReadError> {
         if self.allowed == 0 {
             return Err(ReadError::ExhaustedInput);
         }
-        let item = self.words.next()?;
+        let item = self.reader.next()?;
         self.allowed -= 1;
         Ok(item)
     }
@@ -45,31 +45,31 @@ impl<T: Reader<u64, u8>, K: Start> Reader<u64, u8> for Bounded<'_, T, K> {
         if buf.len() > self.allowed as usize {
             return Err(ReadError::ExhaustedInput);
         }
-        self.words.next_n(buf)?;
+        self.reader.next_n(buf)?;
         self.allowed -= buf.len() as u8;
         Ok(())
     }
 
     fn mark(&mut self) {
-        self.words.mark();
+        self.reader.mark();
     }
 
     fn offset(&mut self) -> u64 {
-        self.words.offset()
+        self.reader.offset()
     }
 
     fn total_offset(&mut self) -> u64 {
-        self.words.total_offset()
+        self.reader.total_offset()
     }
 }
 
 /// Whether the items still allowed are there; then they are taken.
-pub fn takes_rest<T: Reader<u64, u8>>(words: &mut T, allowed: u8) -> bool
+pub fn takes_rest<T: Reader<u64, u8>>(reader: &mut T, allowed: u8) -> bool
     requires { allowed ≤ 15 }
-    ensures there { result ≡ nat_le allowed (length (T.state words.old).left) }
-    ensures taken { IsTrue result → T.state words.new ≡ advanced allowed (T.state words.old) }
-    ensures unmoved { result ≡ false → T.state words.new ≡ T.state words.old }
+    ensures there { result ≡ nat_le allowed (length (T.state reader.old).left) }
+    ensures taken { IsTrue result → T.state reader.new ≡ advanced allowed (T.state reader.old) }
+    ensures unmoved { result ≡ false → T.state reader.new ≡ T.state reader.old }
 {
     let mut buffer = [0; 15];
-    words.next_n(&mut buffer[..allowed as usize]).is_ok()
+    reader.next_n(&mut buffer[..allowed as usize]).is_ok()
 }

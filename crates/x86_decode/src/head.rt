@@ -22,14 +22,14 @@ pub fn is_prefix(byte: u8) -> bool
 
 /// The rest of a run of which some bytes were read, and the byte behind it.
 pub fn read_on<T: Reader<u64, u8>>(
-    words: &mut T,
+    reader: &mut T,
     begin: Prefixes,
 ) -> Result<(Prefixes, u8), DecodeError>
-    ensures { (front : List ℕ) → begin ≡ reading_of front → outcome result (T.state words.new) ≡ head_from front (T.state words.old) }
+    ensures { (front : List ℕ) → begin ≡ reading_of front → outcome result (T.state reader.new) ≡ head_from front (T.state reader.old) }
 {
     let mut prefixes = begin;
     'run: loop {
-        let byte = next_byte(words)?;
+        let byte = next_byte(reader)?;
         if !is_prefix(byte) {
             return Ok((prefixes, byte));
         }
@@ -40,16 +40,16 @@ pub fn read_on<T: Reader<u64, u8>>(
 /// The byte behind a run so far, or behind that and a REX.
 #[inline(always)]
 fn read_rex<T: Reader<u64, u8>>(
-    words: &mut T,
+    reader: &mut T,
     prefixes: &mut Prefixes,
     byte: u8,
 ) -> Result<u8, DecodeError>
-    ensures { (front : List ℕ) → prefixes.old ≡ reading_of front → Headed result prefixes.new (T.state words.new) (head_at front byte (T.state words.old)) }
+    ensures { (front : List ℕ) → prefixes.old ≡ reading_of front → Headed result prefixes.new (T.state reader.new) (head_at front byte (T.state reader.old)) }
 {
     match lead_of(byte) {
         Lead::Rex => {
             prefixes.push_rex(byte);
-            next_byte(words)
+            next_byte(reader)
         }
         _ => Ok(byte),
     }
@@ -58,20 +58,20 @@ fn read_rex<T: Reader<u64, u8>>(
 /// A run of at most one legacy prefix and a REX, as most are, and the byte behind that.
 #[inline(always)]
 pub fn read_head<T: Reader<u64, u8>>(
-    words: &mut T,
+    reader: &mut T,
     prefixes: &mut Prefixes,
 ) -> Result<u8, DecodeError>
     requires { prefixes.old ≡ reading_of [] }
-    ensures { Headed result prefixes.new (T.state words.new) (head_step (T.state words.old)) }
+    ensures { Headed result prefixes.new (T.state reader.new) (head_step (T.state reader.old)) }
 {
-    let first = next_byte(words)?;
+    let first = next_byte(reader)?;
     match lead_of(first) {
         Lead::Legacy => {
             *prefixes = prefixes.after(first);
-            let second = next_byte(words)?;
-            read_rex(words, prefixes, second)
+            let second = next_byte(reader)?;
+            read_rex(reader, prefixes, second)
         }
-        _ => read_rex(words, prefixes, first),
+        _ => read_rex(reader, prefixes, first),
     }
 }
 
@@ -93,12 +93,12 @@ fn vex_refusal(prefixes: &Prefixes) -> DecodeError
 }
 
 #[inline(always)]
-fn read_escaped<T: Reader<u64, u8>>(words: &mut T, byte: u8) -> Result<(Map, u8), DecodeError>
-    ensures { outcome result (T.state words.new) ≡ read_escaped byte (T.state words.old) }
+fn read_escaped<T: Reader<u64, u8>>(reader: &mut T, byte: u8) -> Result<(Map, u8), DecodeError>
+    ensures { outcome result (T.state reader.new) ≡ read_escaped byte (T.state reader.old) }
 {
     match byte {
-        0x38 => Ok((Map::Of38, next_byte(words)?)),
-        0x3a => Ok((Map::Of3a, next_byte(words)?)),
+        0x38 => Ok((Map::Of38, next_byte(reader)?)),
+        0x3a => Ok((Map::Of3a, next_byte(reader)?)),
         _ => Ok((Map::Of, byte)),
     }
 }
@@ -135,16 +135,16 @@ pub fn seen_by(map: Map, byte: u8, prefixes: Prefixes) -> Prefixes
 #[inline(always)]
 pub fn read_word<W: Words, T: Reader<u64, u8>>(
     rows: &W,
-    words: &mut T,
+    reader: &mut T,
     prefixes: &mut Prefixes,
     byte: u8,
 ) -> Result<u64, DecodeError>
-    ensures { then_from result (T.state words.new) (found_word prefixes.new) ≡ read_word (rows_of (W.word rows.now)) prefixes.old byte (T.state words.old) }
+    ensures { then_from result (T.state reader.new) (found_word prefixes.new) ≡ read_word (rows_of (W.word rows.now)) prefixes.old byte (T.state reader.old) }
 {
     match lead_of(byte) {
         Lead::Escape => {
-            let second = next_byte(words)?;
-            let (map, opcode) = read_escaped(words, second)?;
+            let second = next_byte(reader)?;
+            let (map, opcode) = read_escaped(reader, second)?;
             let word = rows.word(map, column_of(prefixes), opcode);
             *prefixes = seen_by(map, opcode, *prefixes);
             Ok(word)

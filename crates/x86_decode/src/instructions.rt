@@ -90,7 +90,7 @@ impl Instruction {
         self.given.count
     }
 
-    /// Whether there is an operand at a place, counted from 0.
+    /// Whether there is an operand at an index, counted from 0.
     pub fn operand_present(&self, i: u8) -> bool
         requires { i < 4 }
         ensures { result ≡ nat_lt i self.now.given.count }
@@ -98,7 +98,7 @@ impl Instruction {
         i < self.given.count
     }
 
-    /// The operand at a place, counted from 0; at the count and above it `Operand::Nothing`.
+    /// The operand at an index, counted from 0; at the count and above it `Operand::Nothing`.
     pub fn operand(&self, i: u8) -> Operand
         requires { i < 4 }
         ensures { result ≡ operand_at self.now i }
@@ -106,7 +106,7 @@ impl Instruction {
         self.given.operand(i)
     }
 
-    /// Where in the encoding the operand at a place comes from; at the count and above it `Slot::Nothing`.
+    /// Where in the encoding the operand at an index comes from; at the count and above it `Slot::Nothing`.
     pub fn slot(&self, i: u8) -> Slot
         requires { i < 4 }
         ensures { result ≡ slot_at self.now i }
@@ -114,7 +114,7 @@ impl Instruction {
         self.given.slot(i)
     }
 
-    /// Makes the one call of the visitor that names the operand at a place, and answers what that answers; at the
+    /// Makes the one call of the visitor that names the operand at an index, and answers what that answers; at the
     /// count and above it that is `visit_other`.
     pub fn visit_operand<T: OperandVisitor>(
         &self,
@@ -138,7 +138,7 @@ impl Instruction {
         }
     }
 
-    /// The segment that the operand at a place is in, where it isn't the default one (Intel SDM volume 1, section
+    /// The segment that the operand at an index is in, where it isn't the default one (Intel SDM volume 1, section
     /// 3.7.4).
     ///
     /// MOVS writes to ES and reads from the segment of the prefixes. CMPS names rdi first, which here takes the

@@ -3,8 +3,8 @@ ghost use Rattle.std.specs.Prelude.{◌≡◌, Bool, IfOk, IsTrue, true, false};
 ghost use Rattle.x86_fields.specs.Steps.{outcome, then_from};
 ghost use Rattle.x86_fields.specs.declared.prefixes.Prefixes.{Prefixes};
 ghost use Rattle.x86_forms.specs.Words.{IsForm};
-ghost use Rattle.x86_operands.specs.Encodings.{carried, held, is_row, is_sound, no_operands, plan_of};
-ghost use Rattle.x86_operands.specs.Signs.{read_plan, record_step};
+ghost use Rattle.x86_operands.specs.Encodings.{carried, held, is_described, is_sound, no_operands, plan_of};
+ghost use Rattle.x86_operands.specs.PlanSteps.{read_plan, record_step};
 ghost use Rattle.x86_decode.specs.declared.instructions.Instruction.{Instruction};
 ghost use Rattle.x86_decode.specs.Grammar.{record_of};
 ghost use Rattle.x86_decode.specs.Instruction.{reading_in};
@@ -14,12 +14,12 @@ use crate::instructions::Instruction;
 use x86_arch::Reader;
 use x86_fields::{DecodeError, ModRM, Prefixes};
 use x86_forms::TableRow;
-use x86_groups::{chosen, group_plan, place_group, read_group};
+use x86_groups::{chosen, group_plan, read_group, read_group_into};
 use x86_opcodes::Opcode;
 use x86_operands::plans::{ModrmUse, Plan};
 use x86_operands::{
-    Behind, Encoding, Reading, carried, encoding_of, form_plan, place_form, place_plan, read_form,
-    read_modrm,
+    Behind, FormEncoding, Reading, carried, form_encoding, form_plan, read_form, read_form_into,
+    read_modrm, read_plan_into,
 };
 
 /// What is left of a row that wasn't read at once.
@@ -35,7 +35,7 @@ pub enum Rest {
 /// The line of the operand encodings for a row, with the operation, and the ModRM byte; one that isn't there is C0.
 #[derive(Clone, Copy, Drop)]
 struct Usual<'a> {
-    encoding: &'a Encoding,
+    encoding: &'a FormEncoding,
     opcode: Opcode,
     modrm: ModRM,
 }
@@ -52,15 +52,15 @@ pub fn read_row<T: Reader<u64, u8>>(
     strict: bool,
     row: TableRow,
     prefixes: Prefixes,
-    words: &mut T,
+    reader: &mut T,
 ) -> Result<Reading, DecodeError>
     requires { IsForm row.form }
-    ensures { outcome result (T.state words.new) ≡ record_step (record_of strict row prefixes) prefixes (T.state words.old) }
+    ensures { outcome result (T.state reader.new) ≡ record_step (record_of strict row prefixes) prefixes (T.state reader.old) }
 {
     if row.form.is_group() {
-        read_group(words, row, prefixes, strict)
+        read_group(reader, row, prefixes, strict)
     } else {
-        read_form(words, row, prefixes)
+        read_form(reader, row, prefixes)
     }
 }
 
@@ -68,23 +68,23 @@ pub fn read_row<T: Reader<u64, u8>>(
 #[inline(always)]
 fn read_usual<'a, T: Reader<u64, u8>>(
     row: &TableRow,
-    words: &mut T,
+    reader: &mut T,
 ) -> Result<Found<'a>, DecodeError>
     requires { IsForm row.now.form }
-    ensures read { (strict : Bool) (i : Instruction) → then_from result (T.state words.new) (found_row_step strict row.now i) ≡ row_step strict row.now i.prefixes (T.state words.old) }
+    ensures read { (strict : Bool) (i : Instruction) → then_from result (T.state reader.new) (found_row_step strict row.now i) ≡ row_step strict row.now i.prefixes (T.state reader.old) }
     ensures found { IfOk result (IsFound row.now) }
 {
-    let encoding = encoding_of(row.form);
+    let encoding = form_encoding(row.form);
     let opcode = row.opcode;
     match encoding.behind {
         Behind::Peculiar(_) | Behind::Group => Ok(Found::Left(Rest::Row(*row))),
         Behind::ByReg(group) => {
-            let modrm = read_modrm(words, ModrmUse::Fields)?;
+            let modrm = read_modrm(reader, ModrmUse::EitherForm)?;
             let (opcode, encoding) = chosen(group, modrm);
             Ok(line_at(row, encoding, opcode, modrm))
         }
-        Behind::Fields => {
-            let modrm = read_modrm(words, ModrmUse::Fields)?;
+        Behind::EitherForm => {
+            let modrm = read_modrm(reader, ModrmUse::EitherForm)?;
             Ok(Found::Line(Usual {
                 encoding,
                 opcode,
@@ -92,7 +92,7 @@ fn read_usual<'a, T: Reader<u64, u8>>(
             }))
         }
         Behind::Memory | Behind::Registers => {
-            let modrm = read_modrm(words, ModrmUse::Fields)?;
+            let modrm = read_modrm(reader, ModrmUse::EitherForm)?;
             Ok(line_at(row, encoding, opcode, modrm))
         }
         Behind::Nothing | Behind::Opcode | Behind::Accumulator => Ok(Found::Line(Usual {
@@ -105,10 +105,15 @@ fn read_usual<'a, T: Reader<u64, u8>>(
 
 /// The line, if it accepts at this ModRM byte.
 #[inline(always)]
-fn line_at<'a>(row: &TableRow, encoding: &'a Encoding, opcode: Opcode, modrm: ModRM) -> Found<'a>
+fn line_at<'a>(
+    row: &TableRow,
+    encoding: &'a FormEncoding,
+    opcode: Opcode,
+    modrm: ModRM,
+) -> Found<'a>
     requires form { IsForm row.now.form }
     requires sound { is_sound encoding.now ≡ true }
-    requires describes { (strict : Bool) (p : Prefixes) → IsTrue (is_row encoding.now.behind) → plan_of encoding.now (carried row.now.form) opcode p modrm ≡ plan_at strict row.now p modrm }
+    requires describes { (strict : Bool) (p : Prefixes) → IsTrue (is_described encoding.now.behind) → plan_of encoding.now (carried row.now.form) opcode p modrm ≡ plan_at strict row.now p modrm }
     ensures found { IsFound row.now result }
     ensures modrm { (strict : Bool) (i : Instruction) → found_row_step strict row.now i result ≡ read_plan (plan_at strict row.now i.prefixes modrm) i.prefixes modrm }
 {
@@ -125,25 +130,25 @@ fn line_at<'a>(row: &TableRow, encoding: &'a Encoding, opcode: Opcode, modrm: Mo
 
 /// What a row asks behind its opcode byte, if a line of the operand encodings describes it.
 #[inline(always)]
-pub fn place_usual<T: Reader<u64, u8>>(
+pub fn read_by_line<T: Reader<u64, u8>>(
     row: TableRow,
-    words: &mut T,
+    reader: &mut T,
     inst: &mut Instruction,
 ) -> Result<Rest, DecodeError>
     requires form { IsForm row.form }
     requires blank { inst.old.given ≡ no_operands }
-    ensures read { (strict : Bool) → then_from result (T.state words.new) (rest_step strict inst.new) ≡ row_step strict row inst.old.prefixes (T.state words.old) }
+    ensures read { (strict : Bool) → then_from result (T.state reader.new) (rest_step strict inst.new) ≡ row_step strict row inst.old.prefixes (T.state reader.old) }
     ensures blank { IfOk result (λ rest. is_nothing rest ≡ false → inst.new.given ≡ no_operands) }
     ensures form { IfOk result HasForm }
 {
-    match read_usual(&row, words) {
+    match read_usual(&row, reader) {
         Err(error) => Err(error),
         Ok(Found::Left(rest)) => Ok(rest),
         Ok(Found::Line(usual)) => {
             inst.opcode = usual.opcode;
             let num = carried(row.form);
-            inst.given.place(
-                words,
+            inst.given.read(
+                reader,
                 usual.encoding,
                 usual.opcode,
                 num,
@@ -167,15 +172,15 @@ fn plan_at(strict: bool, row: TableRow, prefixes: &Prefixes, modrm: ModRM) -> Pl
 }
 
 /// All of a row, by its plan.
-pub fn place_row<T: Reader<u64, u8>>(
+pub fn read_row_into<T: Reader<u64, u8>>(
     strict: bool,
     row: TableRow,
-    words: &mut T,
+    reader: &mut T,
     inst: &mut Instruction,
 ) -> Result<(), DecodeError>
     requires form { IsForm row.form }
     requires blank { inst.old.given ≡ no_operands }
-    ensures { outcome (held result (reading_in inst.new)) (T.state words.new) ≡ row_step strict row inst.old.prefixes (T.state words.old) }
+    ensures { outcome (held result (reading_in inst.new)) (T.state reader.new) ≡ row_step strict row inst.old.prefixes (T.state reader.old) }
 {
     let Instruction {
         prefixes,
@@ -184,27 +189,27 @@ pub fn place_row<T: Reader<u64, u8>>(
         ..
     } = inst;
     if row.form.is_group() {
-        place_group(words, row, strict, prefixes, opcode, given)
+        read_group_into(reader, row, strict, prefixes, opcode, given)
     } else {
-        place_form(words, row, prefixes, opcode, given)
+        read_form_into(reader, row, prefixes, opcode, given)
     }
 }
 
 /// What is left of a row.
 #[inline(never)]
-pub fn place_rest<T: Reader<u64, u8>>(
+pub fn read_rest<T: Reader<u64, u8>>(
     strict: bool,
     rest: Rest,
-    words: &mut T,
+    reader: &mut T,
     inst: &mut Instruction,
 ) -> Result<(), DecodeError>
     requires form { HasForm rest }
     requires blank { is_nothing rest ≡ false → inst.old.given ≡ no_operands }
-    ensures { outcome (held result (reading_in inst.new)) (T.state words.new) ≡ rest_step strict inst.old rest (T.state words.old) }
+    ensures { outcome (held result (reading_in inst.new)) (T.state reader.new) ≡ rest_step strict inst.old rest (T.state reader.old) }
 {
     match rest {
         Rest::Nothing => Ok(()),
-        Rest::Row(row) => place_row(strict, row, words, inst),
+        Rest::Row(row) => read_row_into(strict, row, reader, inst),
         Rest::Behind(row, modrm) => {
             let plan = plan_at(strict, row, &inst.prefixes, modrm);
             let Instruction {
@@ -213,7 +218,7 @@ pub fn place_rest<T: Reader<u64, u8>>(
                 given,
                 ..
             } = inst;
-            place_plan(words, &plan, modrm, prefixes, opcode, given)
+            read_plan_into(reader, &plan, modrm, prefixes, opcode, given)
         }
     }
 }

@@ -15,13 +15,13 @@ fn slice(bytes: &[u8]) -> Result<(Opcode, u64), DecodeError> {
 }
 
 fn taken(bytes: &[u8]) -> u64 {
-    let mut words = U8Reader::new(bytes);
+    let mut reader = U8Reader::new(bytes);
     let decoder = InstDecoder::default();
-    let _ = decoder.decode(&mut words);
-    words.offset()
+    let _ = decoder.decode(&mut reader);
+    reader.offset()
 }
 
-/// The answer over a table with another word at one place of the map without escape, in the column Plain.
+/// The answer over a table with another word in one cell of the map without escape, in the column Plain.
 fn patched(byte: u8, word: u64, bytes: &[u8]) -> Result<(Opcode, u64), DecodeError> {
     let rows = Patched {
         map: Map::One,

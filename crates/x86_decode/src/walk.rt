@@ -13,7 +13,7 @@ ghost use Rattle.x86_decode.specs.Walk.{HasForm, rest_step, behind_step, long_st
 use crate::bounded::{Bounded, Start, takes_rest};
 use crate::head::{is_prefix, read_head, read_on, read_word};
 use crate::instructions::Instruction;
-use crate::rows::{Rest, place_rest, place_row, place_usual};
+use crate::rows::{Rest, read_by_line, read_rest, read_row_into};
 use std::marker::{Brand, PhantomData};
 use x86_arch::{Reader, U8Reader};
 use x86_fields::{DecodeError, Prefixes};
@@ -48,59 +48,59 @@ fn takes_lock(prefixes: &Prefixes, opcode: Opcode, first: Slot) -> bool
 
 /// What stands behind the run, where this byte is the first of it.
 #[inline(always)]
-fn place_behind<W: Words, T: Reader<u64, u8>>(
+fn read_behind<W: Words, T: Reader<u64, u8>>(
     rows: &W,
-    words: &mut T,
+    reader: &mut T,
     inst: &mut Instruction,
     byte: u8,
 ) -> Result<Rest, DecodeError>
     requires { inst.old.given ≡ no_operands }
-    ensures read { (strict : Bool) → then_from result (T.state words.new) (rest_step strict inst.new) ≡ behind_step (rows_of (W.word rows.now)) strict inst.old.prefixes byte (T.state words.old) }
+    ensures read { (strict : Bool) → then_from result (T.state reader.new) (rest_step strict inst.new) ≡ behind_step (rows_of (W.word rows.now)) strict inst.old.prefixes byte (T.state reader.old) }
     ensures blank { IfOk result (λ rest. is_nothing rest ≡ false → inst.new.given ≡ no_operands) }
     ensures form { IfOk result HasForm }
 {
-    let word = read_word(rows, words, &mut inst.prefixes, byte)?;
+    let word = read_word(rows, reader, &mut inst.prefixes, byte)?;
     match unpack(word) {
         None => Err(DecodeError::InvalidOpcode),
-        Some(row) => place_usual(row, words, inst),
+        Some(row) => read_by_line(row, reader, inst),
     }
 }
 
 /// What stands behind the run, where this byte is the first of it, by the plan of its row. So the quick walk stands
 /// in the code once for each reader.
-fn place_by_plan<W: Words, T: Reader<u64, u8>>(
+fn read_by_plan<W: Words, T: Reader<u64, u8>>(
     strict: bool,
     rows: &W,
-    words: &mut T,
+    reader: &mut T,
     inst: &mut Instruction,
     byte: u8,
 ) -> Result<(), DecodeError>
     requires { inst.old.given ≡ no_operands }
-    ensures { outcome (held result (reading_in inst.new)) (T.state words.new) ≡ behind_step (rows_of (W.word rows.now)) strict inst.old.prefixes byte (T.state words.old) }
+    ensures { outcome (held result (reading_in inst.new)) (T.state reader.new) ≡ behind_step (rows_of (W.word rows.now)) strict inst.old.prefixes byte (T.state reader.old) }
 {
-    let word = read_word(rows, words, &mut inst.prefixes, byte)?;
+    let word = read_word(rows, reader, &mut inst.prefixes, byte)?;
     match unpack(word) {
         None => Err(DecodeError::InvalidOpcode),
-        Some(row) => place_row(strict, row, words, inst),
+        Some(row) => read_row_into(strict, row, reader, inst),
     }
 }
 
 /// An encoding with a longer run, of which this is the next byte.
 #[inline(never)]
-fn place_long<W: Words, T: Reader<u64, u8>>(
+fn read_long<W: Words, T: Reader<u64, u8>>(
     strict: bool,
     rows: &W,
     first: u8,
-    words: &mut T,
+    reader: &mut T,
     inst: &mut Instruction,
 ) -> Result<(), DecodeError>
     requires prefix { is_prefix first ≡ true }
     requires blank { inst.old.given ≡ no_operands }
-    ensures { (front : List ℕ) → inst.old.prefixes ≡ reading_of front → outcome (held result (reading_in inst.new)) (T.state words.new) ≡ long_step (rows_of (W.word rows.now)) strict front first (T.state words.old) }
+    ensures { (front : List ℕ) → inst.old.prefixes ≡ reading_of front → outcome (held result (reading_in inst.new)) (T.state reader.new) ≡ long_step (rows_of (W.word rows.now)) strict front first (T.state reader.old) }
 {
-    let (prefixes, byte) = read_on(words, inst.prefixes.after(first))?;
+    let (prefixes, byte) = read_on(reader, inst.prefixes.after(first))?;
     inst.prefixes = prefixes;
-    place_by_plan(strict, rows, words, inst, byte)
+    read_by_plan(strict, rows, reader, inst, byte)
 }
 
 /// What stands behind the run, where this byte is the first of it. The reader comes back.
@@ -108,20 +108,20 @@ fn place_long<W: Words, T: Reader<u64, u8>>(
 fn walk_behind<W: Words, T: Reader<u64, u8>>(
     strict: bool,
     rows: &W,
-    words: T,
+    reader: T,
     inst: &mut Instruction,
     byte: u8,
 ) -> (Result<(), DecodeError>, T)
     requires { inst.old.given ≡ no_operands }
-    ensures { outcome (held result.0 (reading_in inst.new)) (T.state result.1) ≡ behind_step (rows_of (W.word rows.now)) strict inst.old.prefixes byte (T.state words) }
+    ensures { outcome (held result.0 (reading_in inst.new)) (T.state result.1) ≡ behind_step (rows_of (W.word rows.now)) strict inst.old.prefixes byte (T.state reader) }
 {
-    let mut words = words;
-    match place_behind(rows, &mut words, inst, byte) {
-        Err(error) => (Err(error), words),
-        Ok(Rest::Nothing) => (Ok(()), words),
+    let mut reader = reader;
+    match read_behind(rows, &mut reader, inst, byte) {
+        Err(error) => (Err(error), reader),
+        Ok(Rest::Nothing) => (Ok(()), reader),
         Ok(rest) => {
-            let mut moved = words;
-            let read = place_rest(strict, rest, &mut moved, inst);
+            let mut moved = reader;
+            let read = read_rest(strict, rest, &mut moved, inst);
             (read, moved)
         }
     }
@@ -133,22 +133,22 @@ fn walk_behind<W: Words, T: Reader<u64, u8>>(
 fn walk_within<W: Words, T: Reader<u64, u8>>(
     strict: bool,
     rows: &W,
-    words: T,
+    reader: T,
     inst: &mut Instruction,
 ) -> (Result<(), DecodeError>, T)
     requires { inst.old ≡ invalid_instruction }
-    ensures { outcome (held result.0 (reading_in inst.new)) (T.state result.1) ≡ walk_within (rows_of (W.word rows.now)) strict (T.state words) }
+    ensures { outcome (held result.0 (reading_in inst.new)) (T.state result.1) ≡ walk_within (rows_of (W.word rows.now)) strict (T.state reader) }
 {
-    let mut words = words;
-    match read_head(&mut words, &mut inst.prefixes) {
-        Err(error) => (Err(error), words),
+    let mut reader = reader;
+    match read_head(&mut reader, &mut inst.prefixes) {
+        Err(error) => (Err(error), reader),
         Ok(byte) => {
             if is_prefix(byte) {
-                let mut moved = words;
-                let read = place_long(strict, rows, byte, &mut moved, inst);
+                let mut moved = reader;
+                let read = read_long(strict, rows, byte, &mut moved, inst);
                 (read, moved)
             } else {
-                walk_behind(strict, rows, words, inst, byte)
+                walk_behind(strict, rows, reader, inst, byte)
             }
         }
     }
@@ -176,18 +176,18 @@ fn judgement(inst: &Instruction) -> Result<(), DecodeError>
 fn walk_bounded<'a, W: Words, T: Reader<u64, u8>, K: Start>(
     strict: bool,
     rows: &W,
-    words: &'a mut T,
+    reader: &'a mut T,
     inst: &mut Instruction,
 ) -> (Result<(), DecodeError>, &'a mut T)
-    requires same_reference { words.ghost_name ≡ K.name }
-    requires here { T.state words.old ≡ K.state }
-    requires marked { (T.state words.old).since_mark ≡ 0 }
+    requires same_reference { reader.ghost_name ≡ K.name }
+    requires here { T.state reader.old ≡ K.state }
+    requires marked { (T.state reader.old).since_mark ≡ 0 }
     requires blank { inst.old ≡ invalid_instruction }
-    ensures same_reference { result.1.ghost_name ≡ words.entry.ghost_name }
-    ensures walked { outcome (holding inst.new result.0) (T.state result.1.now) ≡ walk_bounded (rows_of (W.word rows.now)) strict (T.state words.old) }
+    ensures same_reference { result.1.ghost_name ≡ reader.entry.ghost_name }
+    ensures walked { outcome (holding inst.new result.0) (T.state result.1.now) ≡ walk_bounded (rows_of (W.word rows.now)) strict (T.state reader.old) }
 {
     let bounded: Bounded<'a, T, K> = Bounded {
-        words,
+        reader,
         allowed: 15,
         start: PhantomData,
     };
@@ -195,19 +195,19 @@ fn walk_bounded<'a, W: Words, T: Reader<u64, u8>, K: Start>(
     let mut back = back;
     inst.length = back.offset();
     let Bounded {
-        words,
+        reader,
         allowed,
         start: _,
     } = back;
     match result {
-        Ok(()) => (judgement(inst), words),
+        Ok(()) => (judgement(inst), reader),
         Err(error) => {
             if !is_exhausted(error) {
-                (Err(error), words)
-            } else if takes_rest(words, allowed) {
-                (Err(DecodeError::TooLong), words)
+                (Err(error), reader)
+            } else if takes_rest(reader, allowed) {
+                (Err(DecodeError::TooLong), reader)
             } else {
-                (Err(DecodeError::ExhaustedInput), words)
+                (Err(DecodeError::ExhaustedInput), reader)
             }
         }
     }
@@ -257,14 +257,14 @@ pub fn walk_slice(strict: bool, bytes: &[u8], inst: &mut Instruction) -> Result<
 pub fn walk_into<W: Words, T: Reader<u64, u8>>(
     strict: bool,
     rows: &W,
-    words: &mut T,
+    reader: &mut T,
     inst: &mut Instruction,
 ) -> Result<(), DecodeError>
     requires { inst.old ≡ invalid_instruction }
-    ensures { outcome (holding inst.new result) (T.state words.new) ≡ decode_step (rows_of (W.word rows.now)) strict (T.state words.old) }
+    ensures { outcome (holding inst.new result) (T.state reader.new) ≡ decode_step (rows_of (W.word rows.now)) strict (T.state reader.old) }
 {
-    words.mark();
-    let (result, _back) = walk_bounded::<W, T, Brand>(strict, rows, words, inst);
+    reader.mark();
+    let (result, _back) = walk_bounded::<W, T, Brand>(strict, rows, reader, inst);
     result
 }
 
@@ -272,11 +272,11 @@ pub fn walk_into<W: Words, T: Reader<u64, u8>>(
 pub fn walk<W: Words, T: Reader<u64, u8>>(
     strict: bool,
     rows: &W,
-    words: &mut T,
+    reader: &mut T,
 ) -> Result<Instruction, DecodeError>
-    ensures { outcome result (T.state words.new) ≡ decode_step (rows_of (W.word rows.now)) strict (T.state words.old) }
+    ensures { outcome result (T.state reader.new) ≡ decode_step (rows_of (W.word rows.now)) strict (T.state reader.old) }
 {
     let mut inst = Instruction::invalid();
-    walk_into(strict, rows, words, &mut inst)?;
+    walk_into(strict, rows, reader, &mut inst)?;
     Ok(inst)
 }

@@ -11,10 +11,10 @@ use x86_arch::Reader;
 /// One byte.
 #[tactic(auto, unfolding(crate::specs::Steps::next_byte))]
 #[inline(always)]
-pub fn next_byte<T: Reader<u64, u8>>(words: &mut T) -> Result<u8, DecodeError>
-    ensures { outcome result (T.state words.new) ≡ next_byte (T.state words.old) }
+pub fn next_byte<T: Reader<u64, u8>>(reader: &mut T) -> Result<u8, DecodeError>
+    ensures { outcome result (T.state reader.new) ≡ next_byte (T.state reader.old) }
 {
-    match words.next() {
+    match reader.next() {
         Ok(byte) => Ok(byte),
         Err(_) => Err(DecodeError::ExhaustedInput),
     }
@@ -23,11 +23,13 @@ pub fn next_byte<T: Reader<u64, u8>>(words: &mut T) -> Result<u8, DecodeError>
 /// As many bytes as the array has.
 #[tactic(auto, unfolding(crate::specs::Steps::next_bytes))]
 #[inline(always)]
-pub fn next_bytes<const N: usize, T: Reader<u64, u8>>(words: &mut T) -> Result<[u8; N], DecodeError>
-    ensures { outcome result (T.state words.new) ≡ next_bytes N (T.state words.old) }
+pub fn next_bytes<const N: usize, T: Reader<u64, u8>>(
+    reader: &mut T,
+) -> Result<[u8; N], DecodeError>
+    ensures { outcome result (T.state reader.new) ≡ next_bytes N (T.state reader.old) }
 {
     let mut bytes = [0; N];
-    match words.next_n(&mut bytes) {
+    match reader.next_n(&mut bytes) {
         Ok(()) => Ok(bytes),
         Err(_) => Err(DecodeError::ExhaustedInput),
     }
@@ -36,40 +38,40 @@ pub fn next_bytes<const N: usize, T: Reader<u64, u8>>(words: &mut T) -> Result<[
 /// A number of one byte.
 #[tactic(auto, unfolding(crate::specs::Steps::number_step))]
 #[inline(always)]
-pub fn read_u8<T: Reader<u64, u8>>(words: &mut T) -> Result<u8, DecodeError>
-    ensures { outcome result (T.state words.new) ≡ number_step w8 (T.state words.old) }
+pub fn read_u8<T: Reader<u64, u8>>(reader: &mut T) -> Result<u8, DecodeError>
+    ensures { outcome result (T.state reader.new) ≡ number_step w8 (T.state reader.old) }
 {
-    let bytes = next_bytes::<1, T>(words)?;
+    let bytes = next_bytes::<1, T>(reader)?;
     Ok(u8::from_le_bytes(bytes))
 }
 
 /// A number of two bytes.
 #[tactic(auto, unfolding(crate::specs::Steps::number_step))]
 #[inline(always)]
-pub fn read_u16<T: Reader<u64, u8>>(words: &mut T) -> Result<u16, DecodeError>
-    ensures { outcome result (T.state words.new) ≡ number_step w16 (T.state words.old) }
+pub fn read_u16<T: Reader<u64, u8>>(reader: &mut T) -> Result<u16, DecodeError>
+    ensures { outcome result (T.state reader.new) ≡ number_step w16 (T.state reader.old) }
 {
-    let bytes = next_bytes::<2, T>(words)?;
+    let bytes = next_bytes::<2, T>(reader)?;
     Ok(u16::from_le_bytes(bytes))
 }
 
 /// A number of four bytes.
 #[tactic(auto, unfolding(crate::specs::Steps::number_step))]
 #[inline(always)]
-pub fn read_u32<T: Reader<u64, u8>>(words: &mut T) -> Result<u32, DecodeError>
-    ensures { outcome result (T.state words.new) ≡ number_step w32 (T.state words.old) }
+pub fn read_u32<T: Reader<u64, u8>>(reader: &mut T) -> Result<u32, DecodeError>
+    ensures { outcome result (T.state reader.new) ≡ number_step w32 (T.state reader.old) }
 {
-    let bytes = next_bytes::<4, T>(words)?;
+    let bytes = next_bytes::<4, T>(reader)?;
     Ok(u32::from_le_bytes(bytes))
 }
 
 /// A number of eight bytes.
 #[tactic(auto, unfolding(crate::specs::Steps::number_step))]
 #[inline(always)]
-pub fn read_u64<T: Reader<u64, u8>>(words: &mut T) -> Result<u64, DecodeError>
-    ensures { outcome result (T.state words.new) ≡ number_step w64 (T.state words.old) }
+pub fn read_u64<T: Reader<u64, u8>>(reader: &mut T) -> Result<u64, DecodeError>
+    ensures { outcome result (T.state reader.new) ≡ number_step w64 (T.state reader.old) }
 {
-    let bytes = next_bytes::<8, T>(words)?;
+    let bytes = next_bytes::<8, T>(reader)?;
     Ok(u64::from_le_bytes(bytes))
 }
 

@@ -155,12 +155,12 @@ impl Raw {
 }
 
 #[inline(always)]
-fn read_sib<T: Reader<u64, u8>>(words: &mut T, modrm: ModRM) -> Result<Option<u8>, DecodeError>
-    ensures read { outcome result (T.state words.new) ≡ read_sib modrm (T.state words.old) }
+fn read_sib<T: Reader<u64, u8>>(reader: &mut T, modrm: ModRM) -> Result<Option<u8>, DecodeError>
+    ensures read { outcome result (T.state reader.new) ≡ read_sib modrm (T.state reader.old) }
     ensures fits { IfOk result (λ sib. IsTrue (sib_fits modrm sib)) }
 {
     if modrm.rm_field() == 4 {
-        let sib = next_byte(words)?;
+        let sib = next_byte(reader)?;
         Ok(Some(sib))
     } else {
         Ok(None)
@@ -168,17 +168,17 @@ fn read_sib<T: Reader<u64, u8>>(words: &mut T, modrm: ModRM) -> Result<Option<u8
 }
 
 #[inline(always)]
-fn read_displacement<T: Reader<u64, u8>>(words: &mut T, width: u8) -> Result<i32, DecodeError>
-    ensures read { outcome result (T.state words.new) ≡ read_displacement width (T.state words.old) }
+fn read_displacement<T: Reader<u64, u8>>(reader: &mut T, width: u8) -> Result<i32, DecodeError>
+    ensures read { outcome result (T.state reader.new) ≡ read_displacement width (T.state reader.old) }
     ensures fits { IfOk result (λ disp. IsTrue (disp_fits width disp)) }
 {
     match width {
         1 => {
-            let byte = read_u8(words)?;
+            let byte = read_u8(reader)?;
             Ok(byte.cast_signed() as i32)
         }
         4 => {
-            let number = read_u32(words)?;
+            let number = read_u32(reader)?;
             Ok(number.cast_signed())
         }
         _ => Ok(0),
@@ -219,12 +219,12 @@ mod tests {
 
     #[test]
     fn a_number_that_does_not_fit_is_not_taken(rt: HostRuntime) {
-        let mut words = U8Reader::new(&[0x25, 1, 2, 3]);
-        let raw = read_raw(&mut words, &Prefixes::none(), 0x04);
+        let mut reader = U8Reader::new(&[0x25, 1, 2, 3]);
+        let raw = read_raw(&mut reader, &Prefixes::none(), 0x04);
         assert_eq!(rt; raw, Err(DecodeError::ExhaustedInput));
-        assert_eq!(rt; words.total_offset(), 1);
-        assert_eq!(rt; read_num(&mut words, 4), Err(DecodeError::ExhaustedInput));
-        assert_eq!(rt; read_imm_signed(&mut words, 2), Ok(0x0201));
-        assert_eq!(rt; read_num(&mut words, 1), Ok(3));
+        assert_eq!(rt; reader.total_offset(), 1);
+        assert_eq!(rt; read_num(&mut reader, 4), Err(DecodeError::ExhaustedInput));
+        assert_eq!(rt; read_imm_signed(&mut reader, 2), Ok(0x0201));
+        assert_eq!(rt; read_num(&mut reader, 1), Ok(3));
     }
 }

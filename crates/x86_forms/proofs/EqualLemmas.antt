@@ -9,11 +9,11 @@ use Rattle.x86_forms.specs.declared.Map.TheVariants.{One, Of, Of38, Of3a}
 use Rattle.x86_forms.specs.declared.Column.{Column}
 use Rattle.x86_forms.specs.declared.Column.TheVariants.{Plain, P66, F3, F2}
 use Rattle.x86_forms.specs.contracts.FormPartialEq.TheImpl.Laws as laws
-use Rattle.x86_forms.specs.declared.places.TheConstants.{FORMS}
+use Rattle.x86_forms.specs.declared.ordinals.TheConstants.{FORMS}
 use Rattle.x86_forms.specs.Equality.{equal_columns, equal_forms, equal_maps, equal_rows}
-use Rattle.x86_forms.specs.Places.{place_of}
+use Rattle.x86_forms.specs.Ordinals.{ordinal_of}
 use Rattle.x86_forms.specs.Words.{IsForm}
-use Rattle.x86_forms.proofs.FormLemmas.{at_place}
+use Rattle.x86_forms.proofs.FormLemmas.{at_ordinal}
 
 both_true : (a b : Bool) → a ≡ true → b ≡ true → (a && b) ≡ true
 both_true a b p q = cc
@@ -62,9 +62,9 @@ apart_at (h ∷ fs) (suc i) (suc j) f g e at_i at_j below =
 different : false ≡ true → ⊥
 different e = absurd cc
 
-not_below : (f g : Form) → IsForm f → IsForm g → equal_forms f g ≡ true → place_of f < place_of g → ⊥
+not_below : (f g : Form) → IsForm f → IsForm g → equal_forms f g ≡ true → ordinal_of f < ordinal_of g → ⊥
 not_below f g fits_f fits_g e below =
-    different (sym (apart_at FORMS.now (place_of f) (place_of g) f g forms_apart (at_place f fits_f) (at_place g fits_g) below) ∙ e)
+    different (sym (apart_at FORMS.now (ordinal_of f) (ordinal_of g) f g forms_apart (at_ordinal f fits_f) (at_ordinal g fits_g) below) ∙ e)
 
 symmetric : (f g : Form) → equal_forms f g ≡ equal_forms g f
 unfolding equal_forms
@@ -72,10 +72,10 @@ symmetric f g = (laws.laws-law).symm f g
 
 same_form : (f g : Form) → IsForm f → IsForm g → equal_forms f g ≡ true → f ≡ g
 same_form f g fits_f fits_g e =
-    let not_less : place_of f < place_of g → ⊥ = not_below f g fits_f fits_g e in
-    let not_more : place_of g < place_of f → ⊥ = not_below g f fits_g fits_f (symmetric g f ∙ e) in
-    let place : place_of f ≡ place_of g = omega arith in
-    let both : Some f ≡ Some g = sym (at_place f fits_f) ∙ (ap (slice_get FORMS.now) place ∙ at_place g fits_g) in
+    let not_less : ordinal_of f < ordinal_of g → ⊥ = not_below f g fits_f fits_g e in
+    let not_more : ordinal_of g < ordinal_of f → ⊥ = not_below g f fits_g fits_f (symmetric g f ∙ e) in
+    let ordinal : ordinal_of f ≡ ordinal_of g = omega arith in
+    let both : Some f ≡ Some g = sym (at_ordinal f fits_f) ∙ (ap (slice_get FORMS.now) ordinal ∙ at_ordinal g fits_g) in
     cc
 
 -- a form that carries a number, of whatever size

@@ -1,6 +1,6 @@
 -- The lemmas on the plans of the groups, on what they ask, and on the two choices.
-pub mod ChoiceLaws
-mod PlanLaws
-pub mod GroupLaws
-mod AskLaws
-pub mod RegLaws
+pub mod ChoiceLemmas
+mod PlanLemmas
+pub mod GroupLemmas
+mod AskLemmas
+pub mod RegLemmas

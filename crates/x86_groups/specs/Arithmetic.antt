@@ -5,14 +5,14 @@ use Rattle.x86_regs.specs.Class.{width_of}
 use Rattle.x86_fields.specs.ModRM.{reg_field}
 use Rattle.x86_fields.specs.declared.prefixes.Prefixes.{Prefixes}
 use Rattle.x86_fields.specs.Sizes.{v_class}
-use Rattle.x86_operands.specs.declared.plans.Sign.{Sign}
-use Rattle.x86_operands.specs.declared.plans.Sign.TheVariants.{E, I8, Fixed, ConstantI8}
-use Rattle.x86_operands.specs.declared.plans.Signs.TheVariants.{One, Two}
+use Rattle.x86_operands.specs.declared.plans.OperandEncoding.{OperandEncoding}
+use Rattle.x86_operands.specs.declared.plans.OperandEncoding.TheVariants.{E, I8, Fixed, ConstantI8}
+use Rattle.x86_operands.specs.declared.plans.OperandEncodings.TheVariants.{One, Two}
 use Rattle.x86_operands.specs.declared.plans.Plan.{Plan}
 use Rattle.x86_operands.specs.Plans.{reads, immediate_of}
-use Rattle.x86_operands.specs.declared.plans.RegisterSlot.TheVariants as place
+use Rattle.x86_operands.specs.declared.plans.RegisterSlot.TheVariants as reg_slot
 use Rattle.x86_opcodes.specs.Names.{ADD, OR, ADC, SBB, AND, SUB, XOR, CMP, ROL, ROR, RCL, RCR, SHL, SHR, SAL, SAR, TEST, NOT, NEG, MUL, IMUL, DIV, IDIV}
-use Rattle.x86_groups.specs.Choice.{named_by_reg}
+use Rattle.x86_groups.specs.Vocabulary.{named_by_reg}
 
 abbrev pub arithmetic_name : ℕ → ℕ
 arithmetic_name m = named_by_reg (ADD ∷ OR ∷ ADC ∷ SBB ∷ AND ∷ SUB ∷ XOR ∷ CMP ∷ []) m
@@ -30,17 +30,17 @@ abbrev pub rotation_name : ℕ → ℕ
 rotation_name m = named_by_reg (ROL ∷ ROR ∷ RCL ∷ RCR ∷ SHL ∷ SHR ∷ SAL ∷ SAR ∷ []) m
 
 -- the count is an immediate, 1 without a byte, or cl
-abbrev pub one : Sign
+abbrev pub one : OperandEncoding
 one = ConstantI8 (pos 1)
 
-abbrev pub cl : Sign
-cl = Fixed place.Reg (record { num = 1; class = B })
+abbrev pub cl : OperandEncoding
+cl = Fixed reg_slot.Reg (record { num = 1; class = B })
 
 -- the first operand is a byte, or of class v
-abbrev pub rotates_byte : Sign → ℕ → Plan
+abbrev pub rotates_byte : OperandEncoding → ℕ → Plan
 rotates_byte count m = reads (rotation_name m) (Two (E B) count) 1
 
-abbrev pub rotates_word : Sign → Prefixes → ℕ → Plan
+abbrev pub rotates_word : OperandEncoding → Prefixes → ℕ → Plan
 rotates_word count p m = reads (rotation_name m) (Two (E (v_class p)) count) (width_of (v_class p))
 
 unfoldable pub plan_c0 : ℕ → Plan

@@ -6,15 +6,15 @@ use Rattle.x86_fields.specs.declared.prefixes.Prefixes.{Prefixes}
 use Rattle.x86_fields.specs.Raw.{has_w}
 use Rattle.x86_fields.specs.Run.{repnz, rep}
 use Rattle.x86_fields.specs.Sizes.{v_class, vq_class}
-use Rattle.x86_operands.specs.declared.plans.Sign.TheVariants.{E, I8}
-use Rattle.x86_operands.specs.declared.plans.Signs.TheVariants.{Two}
+use Rattle.x86_operands.specs.declared.plans.OperandEncoding.TheVariants.{E, I8}
+use Rattle.x86_operands.specs.declared.plans.OperandEncodings.TheVariants.{Two}
 use Rattle.x86_operands.specs.declared.plans.Fault.TheVariants.{BadOpcode, BadOperand}
 use Rattle.x86_operands.specs.declared.plans.Moment.TheVariants.{AfterAddress}
 use Rattle.x86_operands.specs.declared.plans.Plan.{Plan}
 use Rattle.x86_fields.specs.ModRM.{reg_field, is_memory}
 use Rattle.x86_operands.specs.Plans.{reads, refuses, memory_only, size_by}
 use Rattle.x86_opcodes.specs.Names.{BT, BTS, BTR, BTC, CMPXCHG16B, CMPXCHG8B, VMCLEAR, RDRAND, RDSEED, VMXON, SENDUIPI, RDPID, XRSTORS, XRSTORS64, XSAVEC, XSAVEC64, XSAVES, XSAVES64, VMPTRLD, VMPTRST}
-use Rattle.x86_groups.specs.Choice.{bad_opcode, bad_operand, name_at, on_memory, on_register}
+use Rattle.x86_groups.specs.Vocabulary.{bad_opcode, bad_operand, name_at, on_memory, on_register}
 
 unfoldable pub plan_0fba : Prefixes → ℕ → Plan
 plan_0fba p m =

@@ -1,25 +1,25 @@
--- Groups whose rows reg alone chooses.
+-- Groups whose lines reg alone chooses.
 use Rattle.std.specs.Prelude.{ℕ, Bool, true, false, ◌≡◌, ◌==◌, if◌then◌else◌, IsTrue}
 use Rattle.x86_fields.specs.ModRM.{reg_field}
 use Rattle.x86_fields.specs.declared.prefixes.Prefixes.{Prefixes}
 use Rattle.x86_fields.specs.Steps.{Step, ◌>>=◌}
-use Rattle.x86_operands.specs.declared.plans.ModrmUse.TheVariants.{Fields}
+use Rattle.x86_operands.specs.declared.plans.ModrmUse.TheVariants.{EitherForm}
 use Rattle.x86_operands.specs.declared.reader.Reading.{Reading}
-use Rattle.x86_operands.specs.Signs.{read_modrm, read_plan}
+use Rattle.x86_operands.specs.PlanSteps.{read_modrm, read_plan}
 use Rattle.x86_operands.specs.declared.plans.Plan.{Plan}
 use Rattle.x86_operands.specs.declared.encodings.RegGroup.{RegGroup}
 use Rattle.x86_operands.specs.declared.encodings.RegGroup.TheVariants as group
-use Rattle.x86_operands.specs.declared.encodings.Encoding.{Encoding}
+use Rattle.x86_operands.specs.declared.encodings.FormEncoding.{FormEncoding}
 use Rattle.x86_opcodes.specs.Names.{CALLF, JMPF}
 use Rattle.x86_operands.specs.declared.encodings.Behind.{Behind}
 use Rattle.x86_operands.specs.declared.encodings.Behind.TheVariants as behind
 use Rattle.x86_operands.specs.declared.plans.Fault.TheVariants.{BadOpcode}
 use Rattle.x86_operands.specs.declared.plans.Moment.TheVariants.{AfterAddress}
 use Rattle.x86_operands.specs.Plans.{refuses, memory_only}
-use Rattle.x86_operands.specs.Encodings.{plan_of, is_row}
+use Rattle.x86_operands.specs.Encodings.{plan_of, is_described}
 use Rattle.x86_groups.specs.Arithmetic.{plan_80, plan_81, plan_83, plan_c0, plan_c1, plan_d0, plan_d1, plan_d2, plan_d3, plan_f6, plan_f7}
 use Rattle.x86_groups.specs.Operations.{abort_plan, begin_plan, plan_c6, plan_c7, plan_fe, plan_ff}
-use Rattle.x86_groups.specs.Choice.{on_memory}
+use Rattle.x86_groups.specs.Vocabulary.{on_memory}
 
 -- the plan of a group
 abbrev pub reg_plan : RegGroup → Prefixes → ℕ → Plan
@@ -39,9 +39,9 @@ reg_plan group.F7 p m = plan_f7 p m
 reg_plan group.FE p m = plan_fe m
 reg_plan group.FF p m = plan_ff p m
 
--- a row of the table is the plan of the group, unless it leaves it to a plan of its own
-abbrev pub Chooses : RegGroup → ℕ → ℕ → Encoding → Type 0
-Chooses g m o e = IsTrue (is_row e.behind) → (p : Prefixes) → plan_of e 0 o p m ≡ reg_plan g p m
+-- a line of the table is the plan of the group, unless it leaves it to a plan of its own
+abbrev pub Chooses : RegGroup → ℕ → ℕ → FormEncoding → Type 0
+Chooses g m o e = IsTrue (is_described e.behind) → (p : Prefixes) → plan_of e 0 o p m ≡ reg_plan g p m
 
 -- FF with reg 3 and 5, and 7, which is none
 abbrev pub far_plan : ℕ → Plan
@@ -50,22 +50,22 @@ far_plan m =
     else (if reg_field m == 5 then memory_only m (on_memory JMPF 10)
     else refuses BadOpcode AfterAddress)
 
--- the plans that no row describes
+-- the plans that no line describes
 abbrev pub other_plan : RegGroup → Prefixes → ℕ → Plan
 other_plan group.C6 p m = abort_plan m
 other_plan group.C7 p m = begin_plan p m
 other_plan group.FF p m = far_plan m
 other_plan g p m = refuses BadOpcode AfterAddress
 
--- where no row describes what reg chooses, the group has one of these plans
-abbrev pub LeavesOther : RegGroup → ℕ → Encoding → Type 0
-LeavesOther g m e = is_row e.behind ≡ false → (p : Prefixes) → reg_plan g p m ≡ other_plan g p m
+-- where no line describes what reg chooses, the group has one of these plans
+abbrev pub LeavesOther : RegGroup → ℕ → FormEncoding → Type 0
+LeavesOther g m e = is_described e.behind ≡ false → (p : Prefixes) → reg_plan g p m ≡ other_plan g p m
 
--- a row of a group has a ModRM byte of any mod
-abbrev pub has_fields : Behind → Bool
-has_fields behind.Fields = true
-has_fields b = false
+-- a line of a group has a ModRM byte of either form
+abbrev pub has_either_form : Behind → Bool
+has_either_form behind.EitherForm = true
+has_either_form b = false
 
 -- what a group reads behind its opcode byte: ModRM, and what its line asks there
 abbrev pub reg_step : RegGroup → Prefixes → Step Reading
-reg_step g p = read_modrm Fields >>= λ m. read_plan (reg_plan g p m) p m
+reg_step g p = read_modrm EitherForm >>= λ m. read_plan (reg_plan g p m) p m

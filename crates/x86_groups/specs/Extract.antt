@@ -1,8 +1,8 @@
 -- EXTRQ and INSERTQ with two immediates. Source: AMD APM volume 4, EXTRQ and INSERTQ.
 use Rattle.std.specs.Prelude.{ℕ, ◌==◌, not, ◌||◌}
 use Rattle.x86_regs.specs.declared.RegisterClass.TheVariants.{X}
-use Rattle.x86_operands.specs.declared.plans.Sign.TheVariants.{G, U, U8, X8}
-use Rattle.x86_operands.specs.declared.plans.Signs.TheVariants.{Three, Four}
+use Rattle.x86_operands.specs.declared.plans.OperandEncoding.TheVariants.{G, U, U8, X8}
+use Rattle.x86_operands.specs.declared.plans.OperandEncodings.TheVariants.{Three, Four}
 use Rattle.x86_operands.specs.declared.plans.Fault.TheVariants.{BadOperand}
 use Rattle.x86_operands.specs.declared.plans.Moment.TheVariants.{AtModRM}
 use Rattle.x86_operands.specs.declared.plans.Plan.{Plan}

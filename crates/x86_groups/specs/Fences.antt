@@ -5,19 +5,19 @@ use Rattle.x86_regs.specs.Class.{width_of}
 use Rattle.x86_fields.specs.declared.prefixes.Prefixes.{Prefixes}
 use Rattle.x86_fields.specs.Run.{repnz, rep}
 use Rattle.x86_fields.specs.Sizes.{dq_class}
-use Rattle.x86_operands.specs.declared.plans.Sign.TheVariants.{E, Fixed}
-use Rattle.x86_operands.specs.declared.plans.Signs.TheVariants.{One}
-use Rattle.x86_operands.specs.declared.plans.Mark.TheVariants.{ClearsOperandSize}
+use Rattle.x86_operands.specs.declared.plans.OperandEncoding.TheVariants.{E, Fixed}
+use Rattle.x86_operands.specs.declared.plans.OperandEncodings.TheVariants.{One}
+use Rattle.x86_operands.specs.declared.plans.PrefixChange.TheVariants.{ClearsOperandSize}
 use Rattle.x86_operands.specs.declared.plans.Plan.{Plan}
 use Rattle.x86_fields.specs.ModRM.{reg_field, rm_field, is_memory}
 use Rattle.x86_operands.specs.Plans.{reads, size_by, rm_number}
-use Rattle.x86_operands.specs.declared.plans.RegisterSlot.TheVariants as place
+use Rattle.x86_operands.specs.declared.plans.RegisterSlot.TheVariants as reg_slot
 use Rattle.x86_opcodes.specs.Names.{CLWB, CLFLUSH, CLFLUSHOPT, TPAUSE, UMWAIT, PTWRITE, RDFSBASE, RDGSBASE, WRFSBASE, WRGSBASE, INCSSP, UMONITOR, CLRSSBSY, FXSAVE, XSAVE, FXRSTOR, XRSTOR, LDMXCSR, STMXCSR, XSAVEOPT, LFENCE, MFENCE, SFENCE}
-use Rattle.x86_groups.specs.Choice.{bad_opcode, bad_operand, bare, named_by_reg, on_memory, on_register}
+use Rattle.x86_groups.specs.Vocabulary.{bad_opcode, bad_operand, bare, named_by_reg, on_memory, on_register}
 
 -- 66 alone: the answer's prefixes show 66 cleared
 abbrev pub clears_operand_size : Plan → Plan
-clears_operand_size plan = record plan { mark = ClearsOperandSize }
+clears_operand_size plan = record plan { change = ClearsOperandSize }
 
 abbrev pub operand_size_0fae : ℕ → Plan
 operand_size_0fae m =
@@ -31,7 +31,7 @@ operand_size_0fae m =
 unfoldable pub f2_0fae : Prefixes → ℕ → Plan
 f2_0fae p m =
     if is_memory m then bad_operand
-    else (if reg_field m == 6 then reads UMWAIT (One (Fixed place.Reg (record { num = rm_number m p; class = D }))) 0
+    else (if reg_field m == 6 then reads UMWAIT (One (Fixed reg_slot.Reg (record { num = rm_number m p; class = D }))) 0
     else bad_opcode)
 
 -- F3, /4: memory or a register

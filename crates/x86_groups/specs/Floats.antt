@@ -1,22 +1,22 @@
 -- x87: D8 to DF, with memory by reg, and with a register by reg or by the whole ModRM byte. Source: Intel SDM volume 2, appendix A.5.
 use Rattle.std.specs.Prelude.{ℕ, nat_lt, nat_le, ◌==◌, ◌-◌, ◌&&◌, if◌then◌else◌, [], ◌∷◌}
 use Rattle.x86_regs.specs.declared.RegisterClass.TheVariants.{W, ST}
-use Rattle.x86_operands.specs.declared.plans.Sign.{Sign}
-use Rattle.x86_operands.specs.declared.plans.Sign.TheVariants.{M, Fixed}
-use Rattle.x86_operands.specs.declared.plans.Signs.TheVariants.{One, Two}
+use Rattle.x86_operands.specs.declared.plans.OperandEncoding.{OperandEncoding}
+use Rattle.x86_operands.specs.declared.plans.OperandEncoding.TheVariants.{M, Fixed}
+use Rattle.x86_operands.specs.declared.plans.OperandEncodings.TheVariants.{One, Two}
 use Rattle.x86_operands.specs.declared.plans.Plan.{Plan}
 use Rattle.x86_fields.specs.ModRM.{reg_field, rm_field, is_memory}
 use Rattle.x86_operands.specs.Plans.{reads}
-use Rattle.x86_operands.specs.declared.plans.RegisterSlot.TheVariants as place
+use Rattle.x86_operands.specs.declared.plans.RegisterSlot.TheVariants as reg_slot
 use Rattle.x86_opcodes.specs.Names.{FADD, FMUL, FCOM, FCOMP, FSUB, FSUBR, FDIV, FDIVR, FIADD, FIMUL, FICOM, FICOMP, FISUB, FISUBR, FIDIV, FIDIVR, FLD, FST, FSTP, FLDENV, FLDCW, FNSTENV, FNSTCW, FCHS, FABS, FTST, FXAM, FLD1, FLDL2T, FLDL2E, FLDPI, FLDLG2, FLDLN2, FLDZ, F2XM1, FYL2X, FPTAN, FPATAN, FXTRACT, FPREM, FPREM1, FDECSTP, FINCSTP, FYL2XP1, FSQRT, FSINCOS, FSIN, FRNDINT, FSCALE, FCOS, FXCH, FNOP, FSTPNCE, FCMOVB, FCMOVE, FCMOVBE, FCMOVU, FUCOM, FUCOMPP, FUCOMP, FILD, FISTTP, FIST, FISTP, FENI8087_NOP, FDISI8087_NOP, FNCLEX, FNINIT, FSETPM287_NOP, FCMOVNB, FCMOVNE, FCMOVNBE, FCMOVNU, FUCOMI, FCOMI, FRSTOR, FNSAVE, FNSTSW, FFREE, FADDP, FMULP, FCOMPP, FSUBRP, FSUBP, FDIVRP, FDIVP, FBLD, FBSTP, FFREEP, FUCOMIP, FCOMIP}
-use Rattle.x86_groups.specs.Choice.{bad_opcode, bad_operand, bare, name_at, named_by_reg, on_memory, on_register}
+use Rattle.x86_groups.specs.Vocabulary.{bad_opcode, bad_operand, bare, name_at, named_by_reg, on_memory, on_register}
 
 -- st(0) in slot Reg, and st(rm) in slot Rm, which no B extends
-abbrev pub st0 : Sign
-st0 = Fixed place.Reg (record { num = 0; class = ST })
+abbrev pub st0 : OperandEncoding
+st0 = Fixed reg_slot.Reg (record { num = 0; class = ST })
 
-abbrev pub st_rm : ℕ → Sign
-st_rm m = Fixed place.Rm (record { num = rm_field m; class = ST })
+abbrev pub st_rm : ℕ → OperandEncoding
+st_rm m = Fixed reg_slot.Rm (record { num = rm_field m; class = ST })
 
 -- with memory of a size: into st(0), or from st(0)
 abbrev pub loads : ℕ → ℕ → Plan
@@ -35,7 +35,7 @@ into_st_rm opcode m = reads opcode (Two (st_rm m) st0) 0
 abbrev pub of_st_rm : ℕ → ℕ → Plan
 of_st_rm opcode m = reads opcode (One (st_rm m)) 0
 
--- ---- the rows of eight
+-- ---- the lists of eight
 
 abbrev pub float_name : ℕ → ℕ
 float_name m = named_by_reg (FADD ∷ FMUL ∷ FCOM ∷ FCOMP ∷ FSUB ∷ FSUBR ∷ FDIV ∷ FDIVR ∷ []) m

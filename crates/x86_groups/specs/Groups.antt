@@ -3,11 +3,11 @@ use Rattle.std.specs.Prelude.{ℕ, Bool, Option, None}
 use Rattle.x86_fields.specs.declared.prefixes.Prefixes.{Prefixes}
 use Rattle.x86_operands.specs.declared.plans.Fault.{Fault}
 use Rattle.x86_operands.specs.declared.plans.ModrmUse.{ModrmUse}
-use Rattle.x86_operands.specs.declared.plans.ModrmUse.TheVariants.{Fields, Registers}
+use Rattle.x86_operands.specs.declared.plans.ModrmUse.TheVariants.{EitherForm, Registers}
 use Rattle.x86_operands.specs.declared.plans.Plan.{Plan}
 use Rattle.x86_operands.specs.Plans.{RowRecord}
 use Rattle.x86_forms.specs.declared.Form.TheVariants as form
-use Rattle.x86_groups.specs.Choice.{left_out}
+use Rattle.x86_groups.specs.Vocabulary.{left_out}
 use Rattle.x86_groups.specs.Arithmetic.{plan_80, plan_81, plan_83, plan_c0, plan_c1, plan_d0, plan_d1, plan_d2, plan_d3, plan_f6, plan_f7}
 use Rattle.x86_groups.specs.Operations.{plan_8f, plan_c6, plan_c7, plan_fe, plan_ff}
 use Rattle.x86_groups.specs.System.{plan_0f00, plan_0f01}
@@ -34,7 +34,7 @@ group_modrm form.Rq_Cq_0 = Registers
 group_modrm form.Rq_Dq_0 = Registers
 group_modrm form.Cq_Rq_0 = Registers
 group_modrm form.Dq_Rq_0 = Registers
-group_modrm f = Fields
+group_modrm f = EitherForm
 
 -- ---- the plan of a form under the prefixes, at a ModRM byte
 

@@ -5,13 +5,13 @@ use Rattle.x86_regs.specs.declared.RegisterClass.TheVariants.{X}
 use Rattle.x86_regs.specs.Class.{width_of}
 use Rattle.x86_fields.specs.declared.prefixes.Prefixes.{Prefixes}
 use Rattle.x86_fields.specs.Sizes.{v_class}
-use Rattle.x86_operands.specs.declared.plans.Sign.TheVariants.{G, E}
-use Rattle.x86_operands.specs.declared.plans.Signs.TheVariants.{One, Two}
+use Rattle.x86_operands.specs.declared.plans.OperandEncoding.TheVariants.{G, E}
+use Rattle.x86_operands.specs.declared.plans.OperandEncodings.TheVariants.{One, Two}
 use Rattle.x86_operands.specs.declared.plans.Plan.{Plan}
 use Rattle.x86_fields.specs.ModRM.{reg_field, is_memory}
 use Rattle.x86_operands.specs.Plans.{reads, memory_only, size_by}
 use Rattle.x86_opcodes.specs.Names.{PREFETCHW, NOP, MOVLPS, MOVHLPS, MOVHPS, MOVLHPS, PREFETCHNTA, PREFETCH0, PREFETCH1, PREFETCH2, ENDBR64, ENDBR32}
-use Rattle.x86_groups.specs.Choice.{bare, named_by_reg, on_memory}
+use Rattle.x86_groups.specs.Vocabulary.{bare, named_by_reg, on_memory}
 
 unfoldable pub plan_0f0d : ℕ → Plan
 plan_0f0d m = memory_only m (on_memory (if reg_field m == 1 then PREFETCHW else NOP) 64)

@@ -7,8 +7,8 @@ use Rattle.x86_regs.specs.Class.{width_of}
 use Rattle.x86_fields.specs.declared.prefixes.Prefixes.{Prefixes}
 use Rattle.x86_fields.specs.Run.{rep}
 use Rattle.x86_fields.specs.Sizes.{v_class}
-use Rattle.x86_operands.specs.declared.plans.Sign.TheVariants.{G, E, M, U, U8}
-use Rattle.x86_operands.specs.declared.plans.Signs.TheVariants.{One, Two}
+use Rattle.x86_operands.specs.declared.plans.OperandEncoding.TheVariants.{G, E, M, U, U8}
+use Rattle.x86_operands.specs.declared.plans.OperandEncodings.TheVariants.{One, Two}
 use Rattle.x86_operands.specs.declared.plans.Fault.{Fault}
 use Rattle.x86_operands.specs.declared.plans.Fault.TheVariants.{BadOpcode}
 use Rattle.x86_operands.specs.declared.plans.Moment.TheVariants.{AtModRM, AfterAddress}
@@ -16,7 +16,7 @@ use Rattle.x86_operands.specs.declared.plans.Plan.{Plan}
 use Rattle.x86_fields.specs.ModRM.{reg_field, is_memory}
 use Rattle.x86_operands.specs.Plans.{reads, refuses, refused, memory_only, size_by}
 use Rattle.x86_opcodes.specs.Names.{AESENCWIDE128KL, AESDECWIDE128KL, AESENCWIDE256KL, AESDECWIDE256KL, AESENC128KL, LOADIWKEY, AESDEC128KL, AESENC256KL, AESDEC256KL, ENCODEKEY128, ENCODEKEY256, HRESET}
-use Rattle.x86_groups.specs.Choice.{bad_operand, on_memory}
+use Rattle.x86_groups.specs.Vocabulary.{bad_operand, on_memory}
 
 unfoldable pub plan_f30f38d8 : ℕ → Plan
 plan_f30f38d8 m =

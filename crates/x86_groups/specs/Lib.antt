@@ -1,5 +1,5 @@
 -- The definitions that the contracts cite: the plans of the groups, by families, and their records.
-pub mod Choice
+pub mod Vocabulary
 pub mod Arithmetic
 pub mod Operations
 pub mod System

@@ -2,8 +2,8 @@
 use Rattle.std.specs.Prelude.{ℕ, nat_lt, ◌==◌, Bool, not, ◌||◌}
 use Rattle.x86_regs.specs.declared.RegisterClass.TheVariants.{Q, CR, DR}
 use Rattle.x86_fields.specs.declared.prefixes.Prefixes.{Prefixes}
-use Rattle.x86_operands.specs.declared.plans.Sign.TheVariants.{G, U}
-use Rattle.x86_operands.specs.declared.plans.Signs.TheVariants.{Two}
+use Rattle.x86_operands.specs.declared.plans.OperandEncoding.TheVariants.{G, U}
+use Rattle.x86_operands.specs.declared.plans.OperandEncodings.TheVariants.{Two}
 use Rattle.x86_operands.specs.declared.plans.Fault.TheVariants.{BadOperand}
 use Rattle.x86_operands.specs.declared.plans.Moment.TheVariants.{AtModRM}
 use Rattle.x86_operands.specs.declared.plans.Plan.{Plan}

@@ -6,15 +6,15 @@ use Rattle.x86_regs.specs.Class.{width_of}
 use Rattle.x86_fields.specs.ModRM.{reg_field}
 use Rattle.x86_fields.specs.declared.prefixes.Prefixes.{Prefixes}
 use Rattle.x86_fields.specs.Sizes.{v_class}
-use Rattle.x86_operands.specs.declared.plans.Sign.{Sign}
-use Rattle.x86_operands.specs.declared.plans.Sign.TheVariants.{E, I8, I32, I32From16}
-use Rattle.x86_operands.specs.declared.plans.Signs.TheVariants.{One, Two}
+use Rattle.x86_operands.specs.declared.plans.OperandEncoding.{OperandEncoding}
+use Rattle.x86_operands.specs.declared.plans.OperandEncoding.TheVariants.{E, I8, I32, I32From16}
+use Rattle.x86_operands.specs.declared.plans.OperandEncodings.TheVariants.{One, Two}
 use Rattle.x86_operands.specs.declared.plans.Fault.TheVariants.{BadOpcode, BadOperand, Incomplete}
 use Rattle.x86_operands.specs.declared.plans.Moment.TheVariants.{AfterAddress}
 use Rattle.x86_operands.specs.declared.plans.Plan.{Plan}
 use Rattle.x86_operands.specs.Plans.{reads, refuses, memory_only, size_by, immediate_of}
 use Rattle.x86_opcodes.specs.Names.{POP, MOV, XABORT, XBEGIN, INC, DEC, CALL, CALLF, JMP, JMPF, PUSH}
-use Rattle.x86_groups.specs.Choice.{is_register_0, on_memory}
+use Rattle.x86_groups.specs.Vocabulary.{is_register_0, on_memory}
 
 -- of a memory form 8 bytes without 66, else the width of v
 unfoldable pub plan_8f : Prefixes → ℕ → Plan
@@ -30,7 +30,7 @@ unfoldable pub plan_c6 : ℕ → Plan
 plan_c6 m = if reg_field m == 0 then reads MOV (Two (E B) I8) 1 else abort_plan m
 
 -- the distance of XBEGIN: 2 bytes where v is W, else 4
-abbrev pub distance_of : RegisterClass → Sign
+abbrev pub distance_of : RegisterClass → OperandEncoding
 distance_of W = I32From16
 distance_of c = I32
 

@@ -4,15 +4,15 @@ use Rattle.x86_regs.specs.declared.RegisterClass.TheVariants.{X}
 use Rattle.x86_regs.specs.Class.{width_of}
 use Rattle.x86_fields.specs.declared.prefixes.Prefixes.{Prefixes}
 use Rattle.x86_fields.specs.Sizes.{v_class}
-use Rattle.x86_operands.specs.declared.plans.Sign.TheVariants.{U, Umm, U8}
-use Rattle.x86_operands.specs.declared.plans.Signs.TheVariants.{Two}
+use Rattle.x86_operands.specs.declared.plans.OperandEncoding.TheVariants.{U, Umm, U8}
+use Rattle.x86_operands.specs.declared.plans.OperandEncodings.TheVariants.{Two}
 use Rattle.x86_operands.specs.declared.plans.Fault.TheVariants.{BadOpcode, BadOperand}
 use Rattle.x86_operands.specs.declared.plans.Moment.TheVariants.{AfterAddress}
 use Rattle.x86_operands.specs.declared.plans.Plan.{Plan}
 use Rattle.x86_fields.specs.ModRM.{reg_field, is_memory}
 use Rattle.x86_operands.specs.Plans.{reads, refuses}
 use Rattle.x86_opcodes.specs.Names.{PSRLW, PSRAW, PSLLW, PSRLD, PSRAD, PSLLD, PSRLQ, PSRLDQ, PSLLQ, PSLLDQ}
-use Rattle.x86_groups.specs.Choice.{has_f2_or_f3}
+use Rattle.x86_groups.specs.Vocabulary.{has_f2_or_f3}
 
 -- a register and the count
 abbrev pub packed_shift : Prefixes → ℕ → Plan

@@ -5,15 +5,15 @@ use Rattle.x86_fields.specs.declared.prefixes.Prefixes.{Prefixes}
 use Rattle.x86_fields.specs.Run.{repnz, rep}
 use Rattle.x86_fields.specs.Sizes.{v_class}
 use Rattle.x86_operands.specs.declared.plans.RegisterSlot.{RegisterSlot}
-use Rattle.x86_operands.specs.declared.plans.Sign.{Sign}
-use Rattle.x86_operands.specs.declared.plans.Sign.TheVariants.{E, U, Fixed}
-use Rattle.x86_operands.specs.declared.plans.Signs.TheVariants.{Zero, One, Two, Three}
+use Rattle.x86_operands.specs.declared.plans.OperandEncoding.{OperandEncoding}
+use Rattle.x86_operands.specs.declared.plans.OperandEncoding.TheVariants.{E, U, Fixed}
+use Rattle.x86_operands.specs.declared.plans.OperandEncodings.TheVariants.{Zero, One, Two, Three}
 use Rattle.x86_operands.specs.declared.plans.Plan.{Plan}
 use Rattle.x86_fields.specs.ModRM.{reg_field, rm_field, is_memory}
 use Rattle.x86_operands.specs.Plans.{reads, size_by}
-use Rattle.x86_operands.specs.declared.plans.RegisterSlot.TheVariants as place
+use Rattle.x86_operands.specs.declared.plans.RegisterSlot.TheVariants as reg_slot
 use Rattle.x86_opcodes.specs.Names.{SLDT, STR, LLDT, LTR, VERR, VERW, SGDT, SIDT, LGDT, LIDT, SMSW, RSTORSSP, LMSW, INVLPG, ENCLV, VMCALL, VMLAUNCH, VMRESUME, VMXOFF, PCONFIG, TDCALL, SEAMRET, SEAMOPS, SEAMCALL, MONITOR, MWAIT, CLAC, STAC, ENCLS, XGETBV, XSETBV, VMFUNC, XEND, XTEST, ENCLU, VMRUN, VMMCALL, VMLOAD, VMSAVE, STGI, CLGI, SKINIT, INVLPGA, XSUSLDTRK, SETSSBSY, XRESLDTRK, SAVEPREVSSP, UIRET, TESTUI, STUI, CLUI, RDPKRU, WRPKRU, RMPADJUST, RMPUPDATE, INVLPGB, PSMASH, PVALIDATE, TLBSYNC, SWAPGS, RDTSCP, MONITORX, MWAITX, CLZERO, RDPRU}
-use Rattle.x86_groups.specs.Choice.{bad_opcode, bad_operand, bare, has_f2_f3_or_66, has_f2_or_f3, name_at, named_by_reg, on_memory}
+use Rattle.x86_groups.specs.Vocabulary.{bad_opcode, bad_operand, bare, has_f2_f3_or_66, has_f2_or_f3, name_at, named_by_reg, on_memory}
 
 unfoldable pub plan_0f00 : ℕ → Plan
 plan_0f00 m =
@@ -77,16 +77,16 @@ register_0f01_2 p m =
     else bad_opcode))))))
 
 -- registers that a name implies
-abbrev pub rax : Sign
-rax = Fixed place.Reg (record { num = 0; class = Q })
+abbrev pub rax : OperandEncoding
+rax = Fixed reg_slot.Reg (record { num = 0; class = Q })
 
-abbrev pub eax : Sign
-eax = Fixed place.Reg (record { num = 0; class = D })
+abbrev pub eax : OperandEncoding
+eax = Fixed reg_slot.Reg (record { num = 0; class = D })
 
-abbrev pub ecx_at : RegisterSlot → Sign
+abbrev pub ecx_at : RegisterSlot → OperandEncoding
 ecx_at slot = Fixed slot (record { num = 1; class = D })
 
-abbrev pub edx_at : RegisterSlot → Sign
+abbrev pub edx_at : RegisterSlot → OperandEncoding
 edx_at slot = Fixed slot (record { num = 2; class = D })
 
 unfoldable pub register_0f01_3 : ℕ → Plan
@@ -98,7 +98,7 @@ register_0f01_3 m =
     else (if rm_field m == 4 then bare STGI
     else (if rm_field m == 5 then bare CLGI
     else (if rm_field m == 6 then reads SKINIT (One eax) 0
-    else reads INVLPGA (Two rax (ecx_at place.Rm)) 0))))))
+    else reads INVLPGA (Two rax (ecx_at reg_slot.Rm)) 0))))))
 
 unfoldable pub register_0f01_5 : Prefixes → ℕ → Plan
 register_0f01_5 p m =
@@ -116,7 +116,7 @@ abbrev pub invalidates_pages : Prefixes → Plan
 invalidates_pages p =
     if rep p then bare RMPADJUST
     else (if repnz p then bare RMPUPDATE
-    else reads INVLPGB (Three rax (edx_at place.Rm) (ecx_at place.Third)) 0)
+    else reads INVLPGB (Three rax (edx_at reg_slot.Rm) (ecx_at reg_slot.Third)) 0)
 
 abbrev pub synchronizes_pages : Prefixes → Plan
 synchronizes_pages p =
@@ -131,7 +131,7 @@ register_0f01_7 p m =
     else (if rm_field m == 2 then bare MONITORX
     else (if rm_field m == 3 then bare MWAITX
     else (if rm_field m == 4 then bare CLZERO
-    else (if rm_field m == 5 then reads RDPRU (One (ecx_at place.Reg)) 0
+    else (if rm_field m == 5 then reads RDPRU (One (ecx_at reg_slot.Reg)) 0
     else (if p.operand_size then bad_operand
     else (if rm_field m == 6 then invalidates_pages p
     else synchronizes_pages p)))))))

@@ -3,8 +3,8 @@ use Rattle.std.specs.Prelude.{ℕ}
 use Rattle.x86_regs.specs.Class.{width_of}
 use Rattle.x86_fields.specs.declared.prefixes.Prefixes.{Prefixes}
 use Rattle.x86_fields.specs.Sizes.{v_class}
-use Rattle.x86_operands.specs.declared.plans.Sign.TheVariants.{Gmm, Emm}
-use Rattle.x86_operands.specs.declared.plans.Signs.TheVariants.{Two}
+use Rattle.x86_operands.specs.declared.plans.OperandEncoding.TheVariants.{Gmm, Emm}
+use Rattle.x86_operands.specs.declared.plans.OperandEncodings.TheVariants.{Two}
 use Rattle.x86_operands.specs.declared.plans.Plan.{Plan}
 use Rattle.x86_operands.specs.Plans.{named_by_suffix, size_by}
 

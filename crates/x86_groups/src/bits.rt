@@ -1,13 +1,15 @@
 //! Bit tests with an immediate, and 0F C7.
 ghost use Rattle.std.specs.Prelude.{◌≡◌};
 ghost use Rattle.x86_operands.specs.Plans.{memory_only};
-ghost use Rattle.x86_groups.specs.Choice.{on_memory};
+ghost use Rattle.x86_groups.specs.Vocabulary.{on_memory};
 ghost use Rattle.x86_groups.specs.Bits.{plan_0fba, by_w, compares_0fc7, operand_size_0fc7, f3_0fc7, plain_0fc7, plan_0fc7};
 
-use crate::choice::{bad_opcode, bad_operand, name_at, on_memory, on_register};
+use crate::vocabulary::{bad_opcode, bad_operand, name_at, on_memory, on_register};
 use x86_fields::{ModRM, Prefixes};
 use x86_opcodes::Opcode;
-use x86_operands::plans::{Fault, Moment, Plan, Sign, Signs, memory_only, reads, refuses, size_by};
+use x86_operands::plans::OperandEncoding::{E, I8};
+use x86_operands::plans::OperandEncodings::Two;
+use x86_operands::plans::{Fault, Moment, Plan, memory_only, reads, refuses, size_by};
 use x86_regs::RegisterClass;
 
 #[tactic(auto, unfolding(crate::specs::Bits::plan_0fba))]
@@ -20,9 +22,9 @@ pub fn plan_0fba(prefixes: &Prefixes, modrm: ModRM) -> Plan
     }
     let names = names!(BT BTS BTR BTC);
     let vq = prefixes.vq_class();
-    let signs = Signs::Two(Sign::E(vq), Sign::I8);
+    let encodings = Two(E(vq), I8);
     let size = size_by(modrm, vq.width(), 0);
-    reads(name_at(&names, reg - 4), signs, size)
+    reads(name_at(&names, reg - 4), encodings, size)
 }
 
 /// /1, whatever the prefixes are.

@@ -2,42 +2,42 @@
 
 ghost use Rattle.std.specs.Prelude.{◌≡◌, ◌<◌, IsTrue, true, ◌∷◌, []};
 ghost use Rattle.x86_opcodes.specs.Names.{ADD, OR, ADC, SBB, AND, SUB, XOR, CMP, ROL, ROR, RCL, RCR, SHL, SHR, SAL, SAR, TEST, NOT, NEG, MUL, IMUL, DIV, IDIV};
-ghost use Rattle.x86_operands.specs.Encodings.{is_sound, is_row};
-ghost use Rattle.x86_groups.specs.ByReg.{Chooses, LeavesOther, has_fields, reg_plan};
-ghost use Rattle.x86_groups.specs.Choice.{name_at};
+ghost use Rattle.x86_operands.specs.Encodings.{is_sound, is_described};
+ghost use Rattle.x86_groups.specs.ByReg.{Chooses, LeavesOther, has_either_form, reg_plan};
+ghost use Rattle.x86_groups.specs.Vocabulary.{name_at};
 
 use crate::operations::other_plan;
 use x86_fields::{ModRM, Prefixes};
 use x86_opcodes::Opcode;
 use x86_operands::Behind::Peculiar;
 use x86_operands::plans::{ModrmUse, Plan};
-use x86_operands::{Encoding, RegGroup, other, row};
+use x86_operands::{FormEncoding, RegGroup, encoded, other};
 
-const EB_IB: &Encoding = row!(Fields E_I B B I8 One One);
+const EB_IB: &FormEncoding = encoded!(EitherForm E_I B B I8 One One);
 
-const EV_IB: &Encoding = row!(Fields E_I B V I8 V V);
+const EV_IB: &FormEncoding = encoded!(EitherForm E_I B V I8 V V);
 
-const EV_IV: &Encoding = row!(Fields E_I B V Iv V V);
+const EV_IV: &FormEncoding = encoded!(EitherForm E_I B V Iv V V);
 
-const EB_1: &Encoding = row!(Fields E_I B B One One One);
+const EB_1: &FormEncoding = encoded!(EitherForm E_I B B One One One);
 
-const EV_1: &Encoding = row!(Fields E_I B V One V V);
+const EV_1: &FormEncoding = encoded!(EitherForm E_I B V One V V);
 
-const EB_CL: &Encoding = row!(Fields E_I B B Cl One One);
+const EB_CL: &FormEncoding = encoded!(EitherForm E_I B B Cl One One);
 
-const EV_CL: &Encoding = row!(Fields E_I B V Cl V V);
+const EV_CL: &FormEncoding = encoded!(EitherForm E_I B V Cl V V);
 
-const EB: &Encoding = row!(Fields E B B Absent One One);
+const EB: &FormEncoding = encoded!(EitherForm E B B Absent One One);
 
-const EV: &Encoding = row!(Fields E B V Absent V V);
+const EV: &FormEncoding = encoded!(EitherForm E B V Absent V V);
 
-const CALL: &Encoding = row!(Fields E B Q Absent Eight Eight);
+const CALL: &FormEncoding = encoded!(EitherForm E B Q Absent Eight Eight);
 
-const JUMP: &Encoding = row!(Fields E B Q Absent Eight V);
+const JUMP: &FormEncoding = encoded!(EitherForm E B Q Absent Eight V);
 
-const PUSH: &Encoding = row!(Fields E B V Absent Push Push);
+const PUSH: &FormEncoding = encoded!(EitherForm E B V Absent Push Push);
 
-const ELSE: &Encoding = other!(Peculiar(ModrmUse::Fields));
+const ELSE: &FormEncoding = other!(Peculiar(ModrmUse::EitherForm));
 
 /// The operations of 80, 81 and 83.
 #[inline(always)]
@@ -96,11 +96,11 @@ fn unary(reg: u8) -> Opcode
 /// What reg chooses: the operation, and the encoding of its operands.
 #[inline(always)]
 #[tactic(auto, unfolding(crate::specs::Arithmetic::plan_80, crate::specs::Arithmetic::plan_81, crate::specs::Arithmetic::plan_83, crate::specs::Arithmetic::plan_c0, crate::specs::Arithmetic::plan_c1, crate::specs::Arithmetic::plan_d0, crate::specs::Arithmetic::plan_d1, crate::specs::Arithmetic::plan_d2, crate::specs::Arithmetic::plan_d3, crate::specs::Arithmetic::plan_f6, crate::specs::Arithmetic::plan_f7, crate::specs::Operations::plan_c6, crate::specs::Operations::plan_c7, crate::specs::Operations::plan_fe, crate::specs::Operations::plan_ff))]
-pub fn chosen(group: RegGroup, modrm: ModRM) -> (Opcode, &'static Encoding)
+pub fn chosen(group: RegGroup, modrm: ModRM) -> (Opcode, &'static FormEncoding)
     ensures chooses { Chooses group modrm result.0 result.1.now }
     ensures left { LeavesOther group modrm result.1.now }
     ensures sound { is_sound result.1.now ≡ true }
-    ensures fields { IsTrue (is_row result.1.now.behind) → has_fields result.1.now.behind ≡ true }
+    ensures fields { IsTrue (is_described result.1.now.behind) → has_either_form result.1.now.behind ≡ true }
 {
     let reg = modrm.reg_field();
     match group {
@@ -138,7 +138,7 @@ pub fn reg_plan(group: RegGroup, prefixes: &Prefixes, modrm: ModRM) -> Plan
     ensures { result ≡ reg_plan group prefixes.now modrm }
 {
     let (opcode, encoding) = chosen(group, modrm);
-    if encoding.behind.is_row() {
+    if encoding.behind.is_described() {
         encoding.plan(opcode, 0, prefixes, modrm)
     } else {
         other_plan(group, prefixes, modrm)

@@ -4,15 +4,17 @@ ghost use Rattle.x86_groups.specs.Extract.{plan_660f78, plan_f20f78};
 
 use x86_fields::ModRM;
 use x86_opcodes::Opcode;
-use x86_operands::plans::{Fault, Moment, Plan, Sign, Signs, reads, refused};
+use x86_operands::plans::OperandEncoding::{G, U, U8, X8};
+use x86_operands::plans::OperandEncodings::{Four, Three};
+use x86_operands::plans::{Fault, Moment, Plan, reads, refused};
 use x86_regs::RegisterClass;
 
 #[tactic(auto, unfolding(crate::specs::Extract::plan_660f78))]
 pub fn plan_660f78(modrm: ModRM) -> Plan
     ensures { result ≡ plan_660f78 modrm }
 {
-    let signs = Signs::Three(Sign::U(RegisterClass::X), Sign::U8, Sign::X8);
-    let plan = reads(Opcode::EXTRQ, signs, 0);
+    let encodings = Three(U(RegisterClass::X), U8, X8);
+    let plan = reads(Opcode::EXTRQ, encodings, 0);
     let bad = modrm.is_memory() || modrm.reg_field() != 0;
     refused(bad, Fault::BadOperand, Moment::AtModRM, plan)
 }
@@ -22,7 +24,7 @@ pub fn plan_f20f78(modrm: ModRM) -> Plan
     ensures { result ≡ plan_f20f78 modrm }
 {
     let x = RegisterClass::X;
-    let signs = Signs::Four(Sign::G(x), Sign::U(x), Sign::U8, Sign::X8);
-    let plan = reads(Opcode::INSERTQ, signs, 0);
+    let encodings = Four(G(x), U(x), U8, X8);
+    let plan = reads(Opcode::INSERTQ, encodings, 0);
     refused(modrm.is_memory(), Fault::BadOperand, Moment::AtModRM, plan)
 }

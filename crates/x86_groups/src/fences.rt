@@ -2,10 +2,12 @@
 ghost use Rattle.std.specs.Prelude.{◌≡◌};
 ghost use Rattle.x86_groups.specs.Fences.{clears_operand_size, operand_size_0fae, f2_0fae, trace_0fae, f3_register_0fae, f3_0fae, fence, state_name, state_size, plain_0fae, plan_0fae};
 
-use crate::choice::{bad_opcode, bad_operand, bare, named_by_reg, on_memory, on_register};
+use crate::vocabulary::{bad_opcode, bad_operand, bare, named_by_reg, on_memory, on_register};
 use x86_fields::{ModRM, Prefixes};
 use x86_opcodes::Opcode;
-use x86_operands::plans::{Mark, Plan, RegisterSlot, Sign, Signs, reads, rm_number, size_by};
+use x86_operands::plans::OperandEncoding::{E, Fixed};
+use x86_operands::plans::OperandEncodings::One;
+use x86_operands::plans::{Plan, PrefixChange, RegisterSlot, reads, rm_number, size_by};
 use x86_regs::{RegSpec, RegisterClass};
 
 /// The answer's prefixes show 66 cleared.
@@ -13,7 +15,7 @@ fn clears_operand_size(plan: Plan) -> Plan
     ensures { result ≡ clears_operand_size plan }
 {
     Plan {
-        mark: Mark::ClearsOperandSize,
+        change: PrefixChange::ClearsOperandSize,
         ..plan
     }
 }
@@ -37,8 +39,8 @@ fn f2_0fae(prefixes: &Prefixes, modrm: ModRM) -> Plan
         bad_operand()
     } else if modrm.reg_field() == 6 {
         let register = RegSpec::of(rm_number(modrm, prefixes), RegisterClass::D);
-        let sign = Sign::Fixed(RegisterSlot::Reg, register);
-        reads(Opcode::UMWAIT, Signs::One(sign), 0)
+        let encoding = Fixed(RegisterSlot::Reg, register);
+        reads(Opcode::UMWAIT, One(encoding), 0)
     } else {
         bad_opcode()
     }
@@ -53,7 +55,7 @@ fn trace_0fae(prefixes: &Prefixes, modrm: ModRM) -> Plan
     }
     let dq = prefixes.dq_class();
     let size = size_by(modrm, dq.width(), 0);
-    reads(Opcode::PTWRITE, Signs::One(Sign::E(dq)), size)
+    reads(Opcode::PTWRITE, One(E(dq)), size)
 }
 
 fn f3_register_0fae(prefixes: &Prefixes, modrm: ModRM) -> Plan

@@ -2,23 +2,27 @@
 ghost use Rattle.std.specs.Prelude.{◌≡◌, ◌≤◌};
 ghost use Rattle.x86_groups.specs.Floats.{control_db, st0, st_rm, loads, stores, into_st0, into_st_rm, of_st_rm, float_name, integer_name, constant_d9, function_d9, plan_d8, plan_d9, plan_da, plan_db, plan_dc, plan_dd, plan_de, plan_df};
 
-use crate::choice::{bad_opcode, bad_operand, bare, name_at, named_by_reg, on_memory, on_register};
+use crate::vocabulary::{
+    bad_opcode, bad_operand, bare, name_at, named_by_reg, on_memory, on_register,
+};
 use x86_fields::ModRM;
 use x86_opcodes::Opcode;
-use x86_operands::plans::{Plan, RegisterSlot, Sign, Signs, reads};
+use x86_operands::plans::OperandEncoding::{Fixed, M};
+use x86_operands::plans::OperandEncodings::{One, Two};
+use x86_operands::plans::{OperandEncoding, Plan, RegisterSlot, reads};
 use x86_regs::{RegSpec, RegisterClass};
 
-fn st0() -> Sign
+fn st0() -> OperandEncoding
     ensures { result ≡ st0 }
 {
-    Sign::Fixed(RegisterSlot::Reg, RegSpec::of(0, RegisterClass::ST))
+    Fixed(RegisterSlot::Reg, RegSpec::of(0, RegisterClass::ST))
 }
 
 /// The register of rm, which no B extends.
-fn st_rm(modrm: ModRM) -> Sign
+fn st_rm(modrm: ModRM) -> OperandEncoding
     ensures { result ≡ st_rm modrm }
 {
-    Sign::Fixed(
+    Fixed(
         RegisterSlot::Rm,
         RegSpec::of(modrm.rm_field(), RegisterClass::ST),
     )
@@ -27,31 +31,31 @@ fn st_rm(modrm: ModRM) -> Sign
 fn loads(opcode: Opcode, size: u8) -> Plan
     ensures { result ≡ loads opcode size }
 {
-    reads(opcode, Signs::Two(st0(), Sign::M), size)
+    reads(opcode, Two(st0(), M), size)
 }
 
 fn stores(opcode: Opcode, size: u8) -> Plan
     ensures { result ≡ stores opcode size }
 {
-    reads(opcode, Signs::Two(Sign::M, st0()), size)
+    reads(opcode, Two(M, st0()), size)
 }
 
 fn into_st0(opcode: Opcode, modrm: ModRM) -> Plan
     ensures { result ≡ into_st0 opcode modrm }
 {
-    reads(opcode, Signs::Two(st0(), st_rm(modrm)), 0)
+    reads(opcode, Two(st0(), st_rm(modrm)), 0)
 }
 
 fn into_st_rm(opcode: Opcode, modrm: ModRM) -> Plan
     ensures { result ≡ into_st_rm opcode modrm }
 {
-    reads(opcode, Signs::Two(st_rm(modrm), st0()), 0)
+    reads(opcode, Two(st_rm(modrm), st0()), 0)
 }
 
 fn of_st_rm(opcode: Opcode, modrm: ModRM) -> Plan
     ensures { result ≡ of_st_rm opcode modrm }
 {
-    reads(opcode, Signs::One(st_rm(modrm)), 0)
+    reads(opcode, One(st_rm(modrm)), 0)
 }
 
 fn float_name(modrm: ModRM) -> Opcode

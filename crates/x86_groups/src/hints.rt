@@ -2,10 +2,12 @@
 ghost use Rattle.std.specs.Prelude.{◌≡◌};
 ghost use Rattle.x86_groups.specs.Hints.{prefetch_name, plan_0f0d, plan_0f12, plan_0f16, plan_0f18, plan_f30f1e};
 
-use crate::choice::{bare, name_by, named_by_reg, on_memory};
+use crate::vocabulary::{bare, name_by, named_by_reg, on_memory};
 use x86_fields::{ModRM, Prefixes};
 use x86_opcodes::Opcode;
-use x86_operands::plans::{Plan, Sign, Signs, memory_only, reads, size_by};
+use x86_operands::plans::OperandEncoding::{E, G};
+use x86_operands::plans::OperandEncodings::{One, Two};
+use x86_operands::plans::{Plan, memory_only, reads, size_by};
 use x86_regs::RegisterClass;
 
 #[tactic(auto, unfolding(crate::specs::Hints::plan_0f0d))]
@@ -25,8 +27,12 @@ pub fn plan_0f12(prefixes: &Prefixes, modrm: ModRM) -> Plan
     ensures { result ≡ plan_0f12 prefixes.now modrm }
 {
     let opcode = name_by(modrm, Opcode::MOVLPS, Opcode::MOVHLPS);
-    let signs = Signs::Two(Sign::G(RegisterClass::X), Sign::E(RegisterClass::X));
-    reads(opcode, signs, size_by(modrm, 8, prefixes.v_class().width()))
+    let encodings = Two(G(RegisterClass::X), E(RegisterClass::X));
+    reads(
+        opcode,
+        encodings,
+        size_by(modrm, 8, prefixes.v_class().width()),
+    )
 }
 
 #[tactic(auto, unfolding(crate::specs::Hints::plan_0f16))]
@@ -34,8 +40,12 @@ pub fn plan_0f16(prefixes: &Prefixes, modrm: ModRM) -> Plan
     ensures { result ≡ plan_0f16 prefixes.now modrm }
 {
     let opcode = name_by(modrm, Opcode::MOVHPS, Opcode::MOVLHPS);
-    let signs = Signs::Two(Sign::G(RegisterClass::X), Sign::E(RegisterClass::X));
-    reads(opcode, signs, size_by(modrm, 8, prefixes.v_class().width()))
+    let encodings = Two(G(RegisterClass::X), E(RegisterClass::X));
+    reads(
+        opcode,
+        encodings,
+        size_by(modrm, 8, prefixes.v_class().width()),
+    )
 }
 
 fn prefetch_name(modrm: ModRM) -> Opcode
@@ -51,8 +61,8 @@ pub fn plan_0f18(prefixes: &Prefixes, modrm: ModRM) -> Plan
 {
     let v = prefixes.v_class();
     let opcode = name_by(modrm, prefetch_name(modrm), Opcode::NOP);
-    let signs = Signs::One(Sign::E(v));
-    reads(opcode, signs, size_by(modrm, 64, v.width()))
+    let encodings = One(E(v));
+    reads(opcode, encodings, size_by(modrm, 64, v.width()))
 }
 
 #[tactic(auto, unfolding(crate::specs::Hints::plan_f30f1e))]
@@ -63,6 +73,6 @@ pub fn plan_f30f1e(prefixes: &Prefixes, modrm: ModRM) -> Plan
     match modrm.byte() {
         0xfa => bare(Opcode::ENDBR64),
         0xfb => bare(Opcode::ENDBR32),
-        _ => reads(Opcode::NOP, Signs::Two(Sign::E(v), Sign::G(v)), v.width()),
+        _ => reads(Opcode::NOP, Two(E(v), G(v)), v.width()),
     }
 }

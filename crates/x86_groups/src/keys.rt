@@ -2,12 +2,12 @@
 ghost use Rattle.std.specs.Prelude.{◌≡◌};
 ghost use Rattle.x86_groups.specs.Keys.{with_key, encodes_key, is_no_override, is_f3_alone, plan_f30f38d8, plan_f30f38dc, plan_f30f38dd, plan_f30f38de, plan_f30f38df, plan_f30f38fa, plan_f30f38fb, plan_f30f3af0, fault_f30f3af0};
 
-use crate::choice::{bad_operand, name_by, on_memory};
+use crate::vocabulary::{bad_operand, name_by, on_memory};
 use x86_fields::{ModRM, Prefixes};
 use x86_opcodes::Opcode;
-use x86_operands::plans::{
-    Fault, Moment, Plan, Sign, Signs, memory_only, reads, refused, refuses, size_by,
-};
+use x86_operands::plans::OperandEncoding::{E, G, M, U, U8};
+use x86_operands::plans::OperandEncodings::{One, Two};
+use x86_operands::plans::{Fault, Moment, Plan, memory_only, reads, refused, refuses, size_by};
 use x86_regs::{RegisterClass, Segment};
 
 #[tactic(auto, unfolding(crate::specs::Keys::plan_f30f38d8))]
@@ -31,16 +31,16 @@ pub fn plan_f30f38dc(prefixes: &Prefixes, modrm: ModRM) -> Plan
     ensures { result ≡ plan_f30f38dc prefixes.now modrm }
 {
     let opcode = name_by(modrm, Opcode::AESENC128KL, Opcode::LOADIWKEY);
-    let signs = Signs::Two(Sign::G(RegisterClass::X), Sign::E(RegisterClass::X));
+    let encodings = Two(G(RegisterClass::X), E(RegisterClass::X));
     let size = size_by(modrm, 48, prefixes.v_class().width());
-    reads(opcode, signs, size)
+    reads(opcode, encodings, size)
 }
 
 fn with_key(opcode: Opcode, size: u8, modrm: ModRM) -> Plan
     ensures { result ≡ with_key opcode size modrm }
 {
-    let signs = Signs::Two(Sign::G(RegisterClass::X), Sign::M);
-    memory_only(modrm, reads(opcode, signs, size))
+    let encodings = Two(G(RegisterClass::X), M);
+    memory_only(modrm, reads(opcode, encodings, size))
 }
 
 #[tactic(auto, unfolding(crate::specs::Keys::plan_f30f38dd))]
@@ -67,8 +67,8 @@ pub fn plan_f30f38df(modrm: ModRM) -> Plan
 fn encodes_key(opcode: Opcode, prefixes: &Prefixes, modrm: ModRM) -> Plan
     ensures { result ≡ encodes_key opcode prefixes.now modrm }
 {
-    let signs = Signs::Two(Sign::G(RegisterClass::D), Sign::U(RegisterClass::D));
-    let plan = reads(opcode, signs, prefixes.v_class().width());
+    let encodings = Two(G(RegisterClass::D), U(RegisterClass::D));
+    let plan = reads(opcode, encodings, prefixes.v_class().width());
     let memory = modrm.is_memory();
     refused(memory, Fault::BadOpcode, Moment::AfterAddress, plan)
 }
@@ -91,7 +91,7 @@ pub fn plan_f30f38fb(prefixes: &Prefixes, modrm: ModRM) -> Plan
 pub fn plan_f30f3af0(modrm: ModRM) -> Plan
     ensures { result ≡ plan_f30f3af0 modrm }
 {
-    let plan = reads(Opcode::HRESET, Signs::One(Sign::U8), 0);
+    let plan = reads(Opcode::HRESET, One(U8), 0);
     refused(modrm.is_memory(), Fault::BadOpcode, Moment::AtModRM, plan)
 }
 

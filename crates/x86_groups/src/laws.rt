@@ -13,10 +13,10 @@ ghost use Rattle.x86_operands.specs.declared.plans.Moment.{Moment};
 ghost use Rattle.x86_operands.specs.declared.plans.Moment.TheVariants.{AfterAddress};
 ghost use Rattle.x86_operands.specs.declared.plans.Verdict.TheVariants.{Refuses};
 ghost use Rattle.x86_operands.specs.Encodings.{carried, group_form};
-ghost use Rattle.x86_operands.specs.Signs.{record_step};
+ghost use Rattle.x86_operands.specs.PlanSteps.{record_step};
 ghost use Rattle.x86_operands.specs.declared.encodings.RegGroup.{RegGroup};
 ghost use Rattle.x86_groups.specs.ByReg.{reg_plan, reg_step};
-ghost use Rattle.x86_groups.specs.Choice.{bare, bad_operand};
+ghost use Rattle.x86_groups.specs.Vocabulary.{bare, bad_operand};
 ghost use Rattle.x86_groups.specs.Choices.{IsFenceWithRm};
 ghost use Rattle.x86_groups.specs.Groups.{group_record, group_plan};
 

@@ -6,8 +6,8 @@ ghost use Rattle.x86_arch.specs.Reader.{State};
 ghost use Rattle.x86_fields.specs.Steps.{outcome};
 ghost use Rattle.x86_forms.specs.Groups.{is_group};
 ghost use Rattle.x86_operands.specs.Asks.{ask_of, record_at};
-ghost use Rattle.x86_operands.specs.Signs.{record_step};
-ghost use Rattle.x86_operands.specs.Encodings.{held, no_operands, placed_reading};
+ghost use Rattle.x86_operands.specs.PlanSteps.{record_step};
+ghost use Rattle.x86_operands.specs.Encodings.{held, no_operands, reading_with};
 ghost use Rattle.x86_groups.specs.Groups.{group_form_plan, three_byte_plan, two_byte_plan, group_fault, group_modrm, group_plan, group_record};
 
 /// Operations in their order: `names!(ADD OR)`.
@@ -19,7 +19,6 @@ macro_rules! names {
 
 mod bits;
 mod by_reg;
-mod choice;
 mod extract;
 mod fences;
 mod floats;
@@ -31,11 +30,11 @@ mod operations;
 mod shifts;
 mod system;
 mod three_d_now;
+mod vocabulary;
 
 use bits::{plan_0fba, plan_0fc7};
 pub use by_reg::chosen;
 use by_reg::reg_plan;
-use choice::left_out;
 use extract::{plan_660f78, plan_f20f78};
 use fences::plan_0fae;
 use floats::{plan_d8, plan_d9, plan_da, plan_db, plan_dc, plan_dd, plan_de, plan_df};
@@ -49,13 +48,14 @@ use operations::plan_8f;
 use shifts::{plan_0f71, plan_0f72, plan_0f73};
 use system::{plan_0f00, plan_0f01};
 use three_d_now::plan_0f0f;
+use vocabulary::left_out;
 use x86_arch::Reader;
 use x86_fields::{DecodeError, ModRM, Prefixes};
 use x86_forms::{Form, TableRow};
 use x86_opcodes::Opcode;
 use x86_operands::plans::{Fault, ModrmUse, Plan};
 use x86_operands::{
-    Ask, Operands, Reading, RecordAt, RegGroup, place_plan, plan_ask, read_modrm, read_plan,
+    Ask, Operands, Reading, RecordAt, RegGroup, plan_ask, read_modrm, read_plan, read_plan_into,
     refuse_fault, used_modrm, used_or_none,
 };
 
@@ -73,7 +73,7 @@ fn group_modrm(form: Form) -> ModrmUse
 {
     match form {
         Form::Rq_Cq_0 | Form::Rq_Dq_0 | Form::Cq_Rq_0 | Form::Dq_Rq_0 => ModrmUse::Registers,
-        _ => ModrmUse::Fields,
+        _ => ModrmUse::EitherForm,
     }
 }
 
@@ -173,9 +173,9 @@ fn group_form_plan(
 
 /// What a row asks whose form is a group, written to what was blank.
 #[inline(never)]
-#[tactic(auto, unfolding(crate::specs::Groups::group_record, x86_operands::specs::Signs::record_step))]
-pub fn place_group<T: Reader<u64, u8>>(
-    words: &mut T,
+#[tactic(auto, unfolding(crate::specs::Groups::group_record, x86_operands::specs::PlanSteps::record_step))]
+pub fn read_group_into<T: Reader<u64, u8>>(
+    reader: &mut T,
     row: TableRow,
     strict: bool,
     prefixes: &mut Prefixes,
@@ -183,12 +183,12 @@ pub fn place_group<T: Reader<u64, u8>>(
     given: &mut Operands,
 ) -> Result<(), DecodeError>
     requires { given.old ≡ no_operands }
-    ensures { outcome (held result (placed_reading opcode.new prefixes.new given.new)) (T.state words.new) ≡ record_step (group_record strict row prefixes.old) prefixes.old (T.state words.old) }
+    ensures { outcome (held result (reading_with opcode.new prefixes.new given.new)) (T.state reader.new) ≡ record_step (group_record strict row prefixes.old) prefixes.old (T.state reader.old) }
 {
     refuse_fault(group_fault(row.form, prefixes))?;
-    let modrm = read_modrm(words, group_modrm(row.form))?;
+    let modrm = read_modrm(reader, group_modrm(row.form))?;
     let plan = group_form_plan(row.form, row.opcode, strict, prefixes, modrm);
-    place_plan(words, &plan, modrm, prefixes, opcode, given)
+    read_plan_into(reader, &plan, modrm, prefixes, opcode, given)
 }
 
 /// The plan of a row whose form is a group, at a ModRM byte.
@@ -204,7 +204,7 @@ pub fn group_plan(row: TableRow, strict: bool, prefixes: &Prefixes, modrm: ModRM
 /// the errors come `InvalidOpcode` and `InvalidOperand` where the row's record refuses, `IncompleteDecoder` for 8F
 /// with a reg other than 0, and `ExhaustedInput`. After a refusal the bytes up to its moment are taken: none, ModRM,
 /// the address, or all.
-#[tactic(auto, unfolding(crate::specs::Groups::group_record, x86_operands::specs::Signs::record_step))]
+#[tactic(auto, unfolding(crate::specs::Groups::group_record, x86_operands::specs::PlanSteps::record_step))]
 pub fn read_group<T: Reader<u64, u8>>(
     words: &mut T,
     row: TableRow,
@@ -270,9 +270,9 @@ mod tests {
             opcode: Opcode::Invalid,
             form,
         };
-        let mut words = U8Reader::new(bytes);
-        let answer = read_group(&mut words, row, run, strict);
-        (answer, words.offset())
+        let mut reader = U8Reader::new(bytes);
+        let answer = read_group(&mut reader, row, run, strict);
+        (answer, reader.offset())
     }
 
     fn refusal(form: Form, bytes: &[u8]) -> (Option<DecodeError>, u64)

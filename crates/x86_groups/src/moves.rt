@@ -4,7 +4,9 @@ ghost use Rattle.x86_groups.specs.Moves.{is_control, with_control, with_debug, p
 
 use x86_fields::{ModRM, Prefixes};
 use x86_opcodes::Opcode;
-use x86_operands::plans::{Fault, Moment, Plan, Sign, Signs, reads, refused, reg_number};
+use x86_operands::plans::OperandEncoding::{G, U};
+use x86_operands::plans::OperandEncodings::Two;
+use x86_operands::plans::{Fault, Moment, Plan, reads, refused, reg_number};
 use x86_regs::RegisterClass;
 
 /// Whether a control register has the number.
@@ -32,30 +34,30 @@ fn with_debug(prefixes: &Prefixes, modrm: ModRM, plan: Plan) -> Plan
 pub fn plan_rq_cq(opcode: Opcode, prefixes: &Prefixes, modrm: ModRM) -> Plan
     ensures { result ≡ plan_rq_cq opcode prefixes.now modrm }
 {
-    let signs = Signs::Two(Sign::U(RegisterClass::Q), Sign::G(RegisterClass::CR));
-    with_control(prefixes, modrm, reads(opcode, signs, 0))
+    let encodings = Two(U(RegisterClass::Q), G(RegisterClass::CR));
+    with_control(prefixes, modrm, reads(opcode, encodings, 0))
 }
 
 #[tactic(auto, unfolding(crate::specs::Moves::plan_cq_rq))]
 pub fn plan_cq_rq(opcode: Opcode, prefixes: &Prefixes, modrm: ModRM) -> Plan
     ensures { result ≡ plan_cq_rq opcode prefixes.now modrm }
 {
-    let signs = Signs::Two(Sign::G(RegisterClass::CR), Sign::U(RegisterClass::Q));
-    with_control(prefixes, modrm, reads(opcode, signs, 0))
+    let encodings = Two(G(RegisterClass::CR), U(RegisterClass::Q));
+    with_control(prefixes, modrm, reads(opcode, encodings, 0))
 }
 
 #[tactic(auto, unfolding(crate::specs::Moves::plan_rq_dq))]
 pub fn plan_rq_dq(opcode: Opcode, prefixes: &Prefixes, modrm: ModRM) -> Plan
     ensures { result ≡ plan_rq_dq opcode prefixes.now modrm }
 {
-    let signs = Signs::Two(Sign::U(RegisterClass::Q), Sign::G(RegisterClass::DR));
-    with_debug(prefixes, modrm, reads(opcode, signs, 0))
+    let encodings = Two(U(RegisterClass::Q), G(RegisterClass::DR));
+    with_debug(prefixes, modrm, reads(opcode, encodings, 0))
 }
 
 #[tactic(auto, unfolding(crate::specs::Moves::plan_dq_rq))]
 pub fn plan_dq_rq(opcode: Opcode, prefixes: &Prefixes, modrm: ModRM) -> Plan
     ensures { result ≡ plan_dq_rq opcode prefixes.now modrm }
 {
-    let signs = Signs::Two(Sign::G(RegisterClass::DR), Sign::U(RegisterClass::Q));
-    with_debug(prefixes, modrm, reads(opcode, signs, 0))
+    let encodings = Two(G(RegisterClass::DR), U(RegisterClass::Q));
+    with_debug(prefixes, modrm, reads(opcode, encodings, 0))
 }

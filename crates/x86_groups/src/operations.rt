@@ -3,11 +3,15 @@ ghost use Rattle.std.specs.Prelude.{◌≡◌};
 ghost use Rattle.x86_groups.specs.ByReg.{far_plan, other_plan};
 ghost use Rattle.x86_groups.specs.Operations.{abort_plan, begin_plan, distance_of, plan_8f};
 
-use crate::choice::{is_register_0, on_memory};
+use crate::vocabulary::{is_register_0, on_memory};
 use x86_fields::{ModRM, Prefixes};
 use x86_opcodes::Opcode;
 use x86_operands::RegGroup;
-use x86_operands::plans::{Fault, Moment, Plan, Sign, Signs, memory_only, reads, refuses, size_by};
+use x86_operands::plans::OperandEncoding::{E, I8, I32, I32From16};
+use x86_operands::plans::OperandEncodings::One;
+use x86_operands::plans::{
+    Fault, Moment, OperandEncoding, Plan, memory_only, reads, refuses, size_by,
+};
 use x86_regs::RegisterClass;
 
 #[tactic(auto, unfolding(crate::specs::Operations::plan_8f))]
@@ -25,7 +29,7 @@ pub fn plan_8f(prefixes: &Prefixes, modrm: ModRM) -> Plan
         8
     };
     let size = size_by(modrm, in_memory, in_register);
-    reads(Opcode::POP, Signs::One(Sign::E(v)), size)
+    reads(Opcode::POP, One(E(v)), size)
 }
 
 /// C6 with a reg other than 0.
@@ -33,19 +37,19 @@ fn abort_plan(modrm: ModRM) -> Plan
     ensures { result ≡ abort_plan modrm }
 {
     if is_register_0(modrm) {
-        reads(Opcode::XABORT, Signs::One(Sign::I8), 1)
+        reads(Opcode::XABORT, One(I8), 1)
     } else {
         refuses(Fault::BadOperand, Moment::AfterAddress)
     }
 }
 
 /// The distance of XBEGIN.
-fn distance_of(class: RegisterClass) -> Sign
+fn distance_of(class: RegisterClass) -> OperandEncoding
     ensures { result ≡ distance_of class }
 {
     match class {
-        RegisterClass::W => Sign::I32From16,
-        _ => Sign::I32,
+        RegisterClass::W => I32From16,
+        _ => I32,
     }
 }
 
@@ -55,7 +59,7 @@ fn begin_plan(prefixes: &Prefixes, modrm: ModRM) -> Plan
 {
     let v = prefixes.v_class();
     if is_register_0(modrm) {
-        reads(Opcode::XBEGIN, Signs::One(distance_of(v)), v.width())
+        reads(Opcode::XBEGIN, One(distance_of(v)), v.width())
     } else {
         refuses(Fault::BadOperand, Moment::AfterAddress)
     }
@@ -72,7 +76,7 @@ fn far_plan(modrm: ModRM) -> Plan
     }
 }
 
-/// The plan of what reg chooses where no row describes it.
+/// The plan of what reg chooses where no line describes it.
 pub fn other_plan(group: RegGroup, prefixes: &Prefixes, modrm: ModRM) -> Plan
     ensures { result ≡ other_plan group prefixes.now modrm }
 {

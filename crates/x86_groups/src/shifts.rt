@@ -2,21 +2,23 @@
 ghost use Rattle.std.specs.Prelude.{◌≡◌};
 ghost use Rattle.x86_groups.specs.Shifts.{packed_shift, refuses_shift, whole_shift, plan_0f71, plan_0f72, plan_0f73};
 
-use crate::choice::has_f2_or_f3;
+use crate::vocabulary::has_f2_or_f3;
 use x86_fields::{ModRM, Prefixes};
 use x86_opcodes::Opcode;
-use x86_operands::plans::{Fault, Moment, Plan, Sign, Signs, reads, refuses};
+use x86_operands::plans::OperandEncoding::{U, U8, Umm};
+use x86_operands::plans::OperandEncodings::Two;
+use x86_operands::plans::{Fault, Moment, Plan, reads, refuses};
 use x86_regs::RegisterClass;
 
 fn packed_shift(prefixes: &Prefixes, opcode: Opcode) -> Plan
     ensures { result ≡ packed_shift prefixes.now opcode }
 {
-    let signs = if prefixes.operand_size() {
-        Signs::Two(Sign::U(RegisterClass::X), Sign::U8)
+    let encodings = if prefixes.operand_size() {
+        Two(U(RegisterClass::X), U8)
     } else {
-        Signs::Two(Sign::Umm, Sign::U8)
+        Two(Umm, U8)
     };
-    reads(opcode, signs, prefixes.v_class().width())
+    reads(opcode, encodings, prefixes.v_class().width())
 }
 
 fn refuses_shift(prefixes: &Prefixes, modrm: ModRM) -> bool

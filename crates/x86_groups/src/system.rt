@@ -1,14 +1,16 @@
 //! System tables and system instructions.
 ghost use Rattle.std.specs.Prelude.{◌≡◌};
-ghost use Rattle.x86_operands.specs.Signs.{register_slot};
+ghost use Rattle.x86_operands.specs.PlanSteps.{register_slot};
 ghost use Rattle.x86_groups.specs.System.{rax, eax, ecx_at, edx_at, trusted_domain, monitoring, invalidates_pages, synchronizes_pages, register_0f01_0, register_0f01_1, register_0f01_2, register_0f01_3, register_0f01_5, register_0f01_7, plan_0f00, plan_0f01};
 
-use crate::choice::{
+use crate::vocabulary::{
     bad_opcode, bad_operand, bare, has_f2_f3_or_66, has_f2_or_f3, name_at, named_by_reg, on_memory,
 };
 use x86_fields::{ModRM, Prefixes};
 use x86_opcodes::Opcode;
-use x86_operands::plans::{Plan, RegisterSlot, Sign, Signs, reads, size_by};
+use x86_operands::plans::OperandEncoding::{E, Fixed, U};
+use x86_operands::plans::OperandEncodings::{One, Three, Two, Zero};
+use x86_operands::plans::{OperandEncoding, Plan, RegisterSlot, reads, size_by};
 use x86_regs::{RegSpec, RegisterClass};
 
 #[tactic(auto, unfolding(crate::specs::System::plan_0f00))]
@@ -19,8 +21,8 @@ pub fn plan_0f00(modrm: ModRM) -> Plan
         return bad_operand();
     }
     let names = names!(SLDT STR LLDT LTR VERR VERW);
-    let signs = Signs::One(Sign::E(RegisterClass::W));
-    reads(named_by_reg(&names, modrm), signs, size_by(modrm, 2, 0))
+    let encodings = One(E(RegisterClass::W));
+    reads(named_by_reg(&names, modrm), encodings, size_by(modrm, 2, 0))
 }
 
 #[tactic(auto, unfolding(crate::specs::System::register_0f01_0))]
@@ -53,7 +55,7 @@ fn monitoring(modrm: ModRM) -> Plan
     ensures { result ≡ monitoring modrm }
 {
     match modrm.rm_field() {
-        0 => reads(Opcode::MONITOR, Signs::Zero, 1),
+        0 => reads(Opcode::MONITOR, Zero, 1),
         1 => bare(Opcode::MWAIT),
         2 => bare(Opcode::CLAC),
         3 => bare(Opcode::STAC),
@@ -93,28 +95,28 @@ fn register_0f01_2(prefixes: &Prefixes, modrm: ModRM) -> Plan
     }
 }
 
-fn rax() -> Sign
+fn rax() -> OperandEncoding
     ensures { result ≡ rax }
 {
-    Sign::Fixed(RegisterSlot::Reg, RegSpec::of(0, RegisterClass::Q))
+    Fixed(RegisterSlot::Reg, RegSpec::of(0, RegisterClass::Q))
 }
 
-fn eax() -> Sign
+fn eax() -> OperandEncoding
     ensures { result ≡ eax }
 {
-    Sign::Fixed(RegisterSlot::Reg, RegSpec::of(0, RegisterClass::D))
+    Fixed(RegisterSlot::Reg, RegSpec::of(0, RegisterClass::D))
 }
 
-fn ecx_at(slot: RegisterSlot) -> Sign
+fn ecx_at(slot: RegisterSlot) -> OperandEncoding
     ensures { result ≡ ecx_at slot }
 {
-    Sign::Fixed(slot, RegSpec::of(1, RegisterClass::D))
+    Fixed(slot, RegSpec::of(1, RegisterClass::D))
 }
 
-fn edx_at(slot: RegisterSlot) -> Sign
+fn edx_at(slot: RegisterSlot) -> OperandEncoding
     ensures { result ≡ edx_at slot }
 {
-    Sign::Fixed(slot, RegSpec::of(2, RegisterClass::D))
+    Fixed(slot, RegSpec::of(2, RegisterClass::D))
 }
 
 #[tactic(auto, unfolding(crate::specs::System::register_0f01_3))]
@@ -122,16 +124,16 @@ fn register_0f01_3(modrm: ModRM) -> Plan
     ensures { result ≡ register_0f01_3 modrm }
 {
     match modrm.rm_field() {
-        0 => reads(Opcode::VMRUN, Signs::One(rax()), 0),
+        0 => reads(Opcode::VMRUN, One(rax()), 0),
         1 => bare(Opcode::VMMCALL),
-        2 => reads(Opcode::VMLOAD, Signs::One(rax()), 0),
-        3 => reads(Opcode::VMSAVE, Signs::One(rax()), 0),
+        2 => reads(Opcode::VMLOAD, One(rax()), 0),
+        3 => reads(Opcode::VMSAVE, One(rax()), 0),
         4 => bare(Opcode::STGI),
         5 => bare(Opcode::CLGI),
-        6 => reads(Opcode::SKINIT, Signs::One(eax()), 0),
+        6 => reads(Opcode::SKINIT, One(eax()), 0),
         _ => {
-            let signs = Signs::Two(rax(), ecx_at(RegisterSlot::Rm));
-            reads(Opcode::INVLPGA, signs, 0)
+            let encodings = Two(rax(), ecx_at(RegisterSlot::Rm));
+            reads(Opcode::INVLPGA, encodings, 0)
         }
     }
 }
@@ -163,8 +165,8 @@ fn invalidates_pages(prefixes: &Prefixes) -> Plan
     } else if prefixes.repnz() {
         bare(Opcode::RMPUPDATE)
     } else {
-        let signs = Signs::Three(rax(), edx_at(RegisterSlot::Rm), ecx_at(RegisterSlot::Third));
-        reads(Opcode::INVLPGB, signs, 0)
+        let encodings = Three(rax(), edx_at(RegisterSlot::Rm), ecx_at(RegisterSlot::Third));
+        reads(Opcode::INVLPGB, encodings, 0)
     }
 }
 
@@ -190,7 +192,7 @@ fn register_0f01_7(prefixes: &Prefixes, modrm: ModRM) -> Plan
         2 => bare(Opcode::MONITORX),
         3 => bare(Opcode::MWAITX),
         4 => bare(Opcode::CLZERO),
-        5 => reads(Opcode::RDPRU, Signs::One(ecx_at(RegisterSlot::Reg)), 0),
+        5 => reads(Opcode::RDPRU, One(ecx_at(RegisterSlot::Reg)), 0),
         _ if prefixes.operand_size() => bad_operand(),
         6 => invalidates_pages(prefixes),
         _ => synchronizes_pages(prefixes),
@@ -215,9 +217,9 @@ pub fn plan_0f01(prefixes: &Prefixes, modrm: ModRM) -> Plan
         (false, 1) => register_0f01_1(prefixes, modrm),
         (false, 2) => register_0f01_2(prefixes, modrm),
         (false, 3) => register_0f01_3(modrm),
-        (false, 4) => reads(Opcode::SMSW, Signs::One(Sign::U(prefixes.v_class())), 2),
+        (false, 4) => reads(Opcode::SMSW, One(U(prefixes.v_class())), 2),
         (false, 5) => register_0f01_5(prefixes, modrm),
-        (false, 6) => reads(Opcode::LMSW, Signs::One(Sign::U(RegisterClass::W)), 2),
+        (false, 6) => reads(Opcode::LMSW, One(U(RegisterClass::W)), 2),
         (false, _) => register_0f01_7(prefixes, modrm),
     }
 }

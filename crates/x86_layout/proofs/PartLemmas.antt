@@ -1,7 +1,7 @@
 -- Lemmas on the parts of an encoding.
-pub mod PartLaws
-pub mod FrontLaws
-pub mod LengthLaws
-pub mod SplitLaws
-pub mod SpellLaws
-pub mod EmitLaws
+pub mod Part
+pub mod Front
+pub mod Length
+pub mod Split
+pub mod Spell
+pub mod Emit

@@ -1,4 +1,4 @@
 -- Lemmas on the cuts of a sweep and their marks.
-pub mod CutLaws
-pub mod PlaceLaws
-pub mod MarkLaws
+pub mod Cut
+pub mod Place
+pub mod Mark

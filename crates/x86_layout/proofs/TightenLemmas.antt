@@ -1,14 +1,14 @@
 -- Lemmas on the shortest encoding of an address.
-pub mod SpelledLaws
-pub mod FieldLaws
-pub mod WeightLaws
-pub mod ShortestLaws
-pub mod AddressLaws
-pub mod RexLaws
-pub mod RespellLaws
-pub mod PlanAlikeLaws
-pub mod WritesLaws
-pub mod RelativeLaws
-pub mod TightenLaws
-pub mod LeastLaws
-pub mod SameLaws
+pub mod Spelled
+pub mod Raw
+pub mod Weight
+pub mod Shortest
+pub mod Address
+pub mod Rex
+pub mod Respell
+pub mod PlanAlike
+pub mod Writes
+pub mod Relative
+pub mod Tighten
+pub mod Least
+pub mod Same

@@ -84,7 +84,7 @@ pub fn accepted_encodings_are_emitted_again()
 ///
 /// This is said of raw fields that aren't relative to the next instruction. Source: Intel SDM volume 2, sections
 /// 2.1.5 and 2.2.1.
-pub fn shortest_fields()
+pub fn shortest_raw_fields()
     ensures of_bytes { (raw : Raw) → IsOfBytes raw → IsOfBytes (shortest raw) }
     ensures same_address { (raw : Raw) → IsOfBytes raw → is_ip_relative raw ≡ false → IsSameAddress (raw_form (shortest raw)) (raw_form raw) }
     ensures same_register { (raw : Raw) → reg_field (shortest raw).modrm ≡ reg_field raw.modrm }

@@ -10,11 +10,11 @@ use Rattle.x86_operands.specs.declared.plans.Moment.{Moment}
 use Rattle.x86_operands.specs.declared.plans.Verdict.{Verdict}
 use Rattle.x86_operands.specs.declared.plans.Verdict.TheVariants.{Refuses}
 use Rattle.x86_operands.specs.declared.plans.Plan.{Plan}
-use Rattle.x86_operands.specs.declared.plans.Mark.{Mark}
-use Rattle.x86_operands.specs.declared.plans.Sign.{Sign}
-use Rattle.x86_operands.specs.declared.plans.Sign.TheVariants.{G, Gmm, E, Emm, M, U, Umm, Fixed, Pointer, I8, I16, I32, I64, I32From16, I64Whole, U8, U16, X8, X16, ConstantI8, ConstantU8, Address32, Address64}
-use Rattle.x86_operands.specs.declared.plans.Signs.{Signs}
-use Rattle.x86_operands.specs.declared.plans.Signs.TheVariants.{One, Two, Three}
+use Rattle.x86_operands.specs.declared.plans.PrefixChange.{PrefixChange}
+use Rattle.x86_operands.specs.declared.plans.OperandEncoding.{OperandEncoding}
+use Rattle.x86_operands.specs.declared.plans.OperandEncoding.TheVariants.{G, Gmm, E, Emm, M, U, Umm, Fixed, Pointer, I8, I16, I32, I64, I32From16, I64Whole, U8, U16, X8, X16, ConstantI8, ConstantU8, Address32, Address64}
+use Rattle.x86_operands.specs.declared.plans.OperandEncodings.{OperandEncodings}
+use Rattle.x86_operands.specs.declared.plans.OperandEncodings.TheVariants.{One, Two, Three}
 use Rattle.x86_operands.specs.Pieces.{immediate_width}
 use Rattle.x86_operands.specs.Asks.{immediates_width}
 use Rattle.x86_opcodes.specs.declared.Opcode.{Opcode}
@@ -29,14 +29,14 @@ has_gap (Refuses fault moment) = is_gap fault
 has_gap verdict = false
 
 -- the immediates have at most 8 bytes together
-unfoldable pub narrow : Signs → Bool
-narrow signs = nat_lt (immediates_width signs) 9
+unfoldable pub narrow : OperandEncodings → Bool
+narrow encodings = nat_lt (immediates_width encodings) 9
 
 -- A plan has no gap, unless gaps are passed, its size is at most 64, and its immediates have at most 8 bytes.
 unfoldable pub passes : Bool → Plan → Bool
-passes gaps plan = ((gaps || not (has_gap plan.verdict)) && nat_lt plan.size 65) && narrow plan.signs
+passes gaps plan = ((gaps || not (has_gap plan.verdict)) && nat_lt plan.size 65) && narrow plan.encodings
 
-width_small : (s : Sign) → nat_lt (immediate_width s) 9 ≡ true
+width_small : (s : OperandEncoding) → nat_lt (immediate_width s) 9 ≡ true
 width_small (G c) = refl
 width_small Gmm = refl
 width_small (E c) = refl
@@ -70,27 +70,27 @@ behind_none x w e h = grind (arith, nat_tests)
 before_none : (w x : ℕ) → x ≡ 0 → nat_lt w 9 ≡ true → nat_lt (w + (x + 0)) 9 ≡ true
 before_none w x e h = grind (arith, nat_tests)
 
-pub narrow_by : (signs : Signs) → nat_lt (immediates_width signs) 9 ≡ true → narrow signs ≡ true
+pub narrow_by : (encodings : OperandEncodings) → nat_lt (immediates_width encodings) 9 ≡ true → narrow encodings ≡ true
 unfolding narrow
-narrow_by signs h = h
+narrow_by encodings h = h
 
-pub narrow_one : (a : Sign) → narrow (One a) ≡ true
+pub narrow_one : (a : OperandEncoding) → narrow (One a) ≡ true
 unfolding narrow
 narrow_one a = alone (immediate_width a) (width_small a)
 
-pub narrow_second : (a b : Sign) → immediate_width a ≡ 0 → narrow (Two a b) ≡ true
+pub narrow_second : (a b : OperandEncoding) → immediate_width a ≡ 0 → narrow (Two a b) ≡ true
 unfolding narrow
 narrow_second a b e = behind_none (immediate_width a) (immediate_width b + 0) e (alone (immediate_width b) (width_small b))
 
-pub narrow_first : (a b : Sign) → immediate_width b ≡ 0 → narrow (Two a b) ≡ true
+pub narrow_first : (a b : OperandEncoding) → immediate_width b ≡ 0 → narrow (Two a b) ≡ true
 unfolding narrow
 narrow_first a b e = before_none (immediate_width a) (immediate_width b) e (width_small a)
 
-pub narrow_third : (a b c : Sign) → immediate_width a ≡ 0 → immediate_width b ≡ 0 → narrow (Three a b c) ≡ true
+pub narrow_third : (a b c : OperandEncoding) → immediate_width a ≡ 0 → immediate_width b ≡ 0 → narrow (Three a b c) ≡ true
 unfolding narrow
 narrow_third a b c e h = behind_none (immediate_width a) (immediate_width b + (immediate_width c + 0)) e (behind_none (immediate_width b) (immediate_width c + 0) h (alone (immediate_width c) (width_small c)))
 
-pub narrow_if : (b : Bool) (x y : Signs) → narrow x ≡ true → narrow y ≡ true → narrow (if b then x else y) ≡ true
+pub narrow_if : (b : Bool) (x y : OperandEncodings) → narrow x ≡ true → narrow y ≡ true → narrow (if b then x else y) ≡ true
 narrow_if true x y h k = h
 narrow_if false x y h k = k
 
@@ -116,10 +116,10 @@ pub either_passes : (gaps b : Bool) (x y : Plan) → passes gaps x ≡ true → 
 either_passes gaps true x y h k = h
 either_passes gaps false x y h k = k
 
-pub plan_passes : (gaps : Bool) (opcode : Opcode) (signs : Signs) (n : ℕ) (mark : Mark) (verdict : Verdict) → not (has_gap verdict) ≡ true → nat_lt n 65 ≡ true → narrow signs ≡ true → passes gaps (record { opcode = opcode; signs = signs; size = n; mark = mark; verdict = verdict }) ≡ true
+pub plan_passes : (gaps : Bool) (opcode : Opcode) (encodings : OperandEncodings) (n : ℕ) (change : PrefixChange) (verdict : Verdict) → not (has_gap verdict) ≡ true → nat_lt n 65 ≡ true → narrow encodings ≡ true → passes gaps (record { opcode = opcode; encodings = encodings; size = n; change = change; verdict = verdict }) ≡ true
 unfolding passes
-plan_passes gaps opcode signs n mark verdict v k w =
-    both ((gaps || not (has_gap verdict)) && nat_lt n 65) (narrow signs) (both (gaps || not (has_gap verdict)) (nat_lt n 65) (or_true gaps _ v) k) w
+plan_passes gaps opcode encodings n change verdict v k w =
+    both ((gaps || not (has_gap verdict)) && nat_lt n 65) (narrow encodings) (both (gaps || not (has_gap verdict)) (nat_lt n 65) (or_true gaps _ v) k) w
 
 pub ruleset small_steps = (either_passes, plan_passes, small_if, small_width, no_gap_if, narrow_by, narrow_one, narrow_second, narrow_first, narrow_third, narrow_if)
 
@@ -127,7 +127,7 @@ pub ruleset small_steps = (either_passes, plan_passes, small_if, small_width, no
 module _ (gaps : Bool) (plan : Plan) (h : passes gaps plan ≡ true) where
   first_two : ((gaps || not (has_gap plan.verdict)) && nat_lt plan.size 65) ≡ true
   unfolding passes
-  first_two = (and_parts ((gaps || not (has_gap plan.verdict)) && nat_lt plan.size 65) (narrow plan.signs) h).0
+  first_two = (and_parts ((gaps || not (has_gap plan.verdict)) && nat_lt plan.size 65) (narrow plan.encodings) h).0
 
   closed_gap : (gaps || not (has_gap plan.verdict)) ≡ true
   closed_gap = (and_parts (gaps || not (has_gap plan.verdict)) (nat_lt plan.size 65) first_two).0
@@ -137,10 +137,10 @@ module _ (gaps : Bool) (plan : Plan) (h : passes gaps plan ≡ true) where
       let small : nat_lt plan.size 65 ≡ true = (and_parts (gaps || not (has_gap plan.verdict)) (nat_lt plan.size 65) first_two).1 in
       grind (arith, nat_tests)
 
-  pub at_most_8 : immediates_width plan.signs ≤ 8
+  pub at_most_8 : immediates_width plan.encodings ≤ 8
   unfolding passes narrow
   at_most_8 =
-      let small : nat_lt (immediates_width plan.signs) 9 ≡ true = (and_parts ((gaps || not (has_gap plan.verdict)) && nat_lt plan.size 65) (narrow plan.signs) h).1 in
+      let small : nat_lt (immediates_width plan.encodings) 9 ≡ true = (and_parts ((gaps || not (has_gap plan.verdict)) && nat_lt plan.size 65) (narrow plan.encodings) h).1 in
       grind (arith, nat_tests)
 
 pub without_gap : (plan : Plan) (w : Moment) → passes false plan ≡ true → plan.verdict ≢ Refuses Incomplete w

@@ -4,14 +4,14 @@ use Rattle.x86_fields.specs.declared.prefixes.Prefixes.{Prefixes}
 use Rattle.x86_fields.specs.Pieces.{total, option_bytes}
 use Rattle.x86_operands.specs.declared.plans.Verdict.{Verdict}
 use Rattle.x86_operands.specs.declared.plans.Verdict.TheVariants.{NamedBySuffix}
-use Rattle.x86_operands.specs.declared.plans.Signs.{Signs}
+use Rattle.x86_operands.specs.declared.plans.OperandEncodings.{OperandEncodings}
 use Rattle.x86_operands.specs.declared.plans.ModrmUse.{ModrmUse}
 use Rattle.x86_operands.specs.declared.plans.ModrmUse.TheVariants.{Absent}
 use Rattle.x86_operands.specs.declared.plans.Plan.{Plan}
 use Rattle.x86_operands.specs.declared.asks.Ask.{Ask}
 use Rattle.x86_operands.specs.declared.asks.RecordAt.{RecordAt}
-use Rattle.x86_operands.specs.declared.encodings.Encoding.{Encoding}
-use Rattle.x86_operands.specs.Encodings.{last_sign, somewhere, use_of}
+use Rattle.x86_operands.specs.declared.encodings.FormEncoding.{FormEncoding}
+use Rattle.x86_operands.specs.Encodings.{last_encoding, somewhere, use_of}
 use Rattle.x86_fields.specs.ModRM.{is_memory}
 use Rattle.x86_operands.specs.Plans.{RowRecord, list_of}
 use Rattle.x86_operands.specs.Pieces.{immediate_width, modrm_of}
@@ -25,8 +25,8 @@ asks_suffix NamedBySuffix = true
 asks_suffix verdict = false
 
 -- how many bytes the immediates have together; those of an absolute address count
-abbrev pub immediates_width : Signs → ℕ
-immediates_width signs = total (map immediate_width (list_of signs))
+abbrev pub immediates_width : OperandEncodings → ℕ
+immediates_width encodings = total (map immediate_width (list_of encodings))
 
 -- a ModRM byte as the row uses it
 abbrev pub used_modrm : ModrmUse → ℕ → ℕ
@@ -37,16 +37,16 @@ abbrev pub plan_ask : ModrmUse → ℕ → Plan → Ask
 plan_ask usage m plan = record {
   modrm = asks_modrm usage;
   memory = is_memory m;
-  immediate = immediates_width plan.signs;
+  immediate = immediates_width plan.encodings;
   suffix = asks_suffix plan.verdict;
 }
 
 -- what a line of the operand encodings asks at a ModRM byte that is used so: its last operand alone can be an immediate
-abbrev pub encoding_ask : Encoding → Prefixes → ℕ → Ask
+abbrev pub encoding_ask : FormEncoding → Prefixes → ℕ → Ask
 encoding_ask e p m = record {
   modrm = asks_modrm (use_of e.behind);
   memory = is_memory m;
-  immediate = if somewhere e.order.last then immediate_width (last_sign e.last p) else 0;
+  immediate = if somewhere e.order.last then immediate_width (last_encoding e.last p) else 0;
   suffix = false;
 }
 

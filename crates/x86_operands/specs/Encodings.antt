@@ -1,4 +1,4 @@
--- What a row of the operand encodings stands for.
+-- What a line of the operand encodings stands for.
 use Rattle.std.specs.Prelude.{ℕ, Bool, true, false, IsTrue, ◌≡◌, ◌==◌, if◌then◌else◌}
 use Rattle.x86_regs.specs.declared.RegisterClass.{RegisterClass}
 use Rattle.x86_regs.specs.declared.RegisterClass.TheVariants as class
@@ -8,16 +8,16 @@ use Rattle.x86_fields.specs.Sizes.{v_class, vq_class, vd_class, dq_class}
 use Rattle.x86_forms.specs.Groups.{is_group}
 use Rattle.x86_forms.specs.declared.Form.{Form}
 use Rattle.x86_forms.specs.declared.Form.TheVariants as form
-use Rattle.x86_operands.specs.declared.plans.Sign.{Sign}
-use Rattle.x86_operands.specs.declared.plans.Sign.TheVariants as sign
-use Rattle.x86_operands.specs.declared.plans.Signs.{Signs}
-use Rattle.x86_operands.specs.declared.plans.Signs.TheVariants.{Zero, One, Two, Three}
+use Rattle.x86_operands.specs.declared.plans.OperandEncoding.{OperandEncoding}
+use Rattle.x86_operands.specs.declared.plans.OperandEncoding.TheVariants as encoding
+use Rattle.x86_operands.specs.declared.plans.OperandEncodings.{OperandEncodings}
+use Rattle.x86_operands.specs.declared.plans.OperandEncodings.TheVariants.{Zero, One, Two, Three}
 use Rattle.x86_operands.specs.declared.plans.RegisterSlot.TheVariants as slot
 use Rattle.x86_operands.specs.declared.plans.Plan.{Plan}
 use Rattle.x86_operands.specs.declared.plans.Fault.TheVariants.{Incomplete}
 use Rattle.x86_operands.specs.declared.plans.Moment.TheVariants.{AtModRM}
-use Rattle.x86_operands.specs.declared.order.Place.{Place}
-use Rattle.x86_operands.specs.declared.order.Place.TheVariants.{First, Second, Third}
+use Rattle.x86_operands.specs.declared.order.Position.{Position}
+use Rattle.x86_operands.specs.declared.order.Position.TheVariants.{First, Second, Third}
 use Rattle.x86_operands.specs.declared.order.Order.{Order}
 use Rattle.x86_operands.specs.declared.encodings.Behind.{Behind}
 use Rattle.x86_operands.specs.declared.encodings.Behind.TheVariants as behind
@@ -29,7 +29,7 @@ use Rattle.x86_operands.specs.declared.encodings.Last.{Last}
 use Rattle.x86_operands.specs.declared.encodings.Last.TheVariants as last
 use Rattle.x86_operands.specs.declared.encodings.Size.{Size}
 use Rattle.x86_operands.specs.declared.encodings.Size.TheVariants as size
-use Rattle.x86_operands.specs.declared.encodings.Encoding.{Encoding}
+use Rattle.x86_operands.specs.declared.encodings.FormEncoding.{FormEncoding}
 use Rattle.x86_fields.specs.declared.raw.Raw.{Raw}
 use Rattle.x86_fields.specs.ModRM.{reg_field, is_memory, absent_modrm}
 use Rattle.x86_operands.specs.Plans.{reads, refuses, memory_only, register_only, reg_number, register_at, accumulator_of, immediate_of}
@@ -43,12 +43,12 @@ use Rattle.x86_fields.specs.Steps.{Step, ◌>>=◌, pure}
 use Rattle.x86_operands.specs.declared.plans.ModrmUse.{ModrmUse}
 use Rattle.x86_operands.specs.declared.plans.ModrmUse.TheVariants as use_as
 use Rattle.x86_fields.specs.Sizes.{register_of}
-use Rattle.x86_operands.specs.Signs.{Given, sign_step, read_memory, rm_operand, rm_mm_operand}
+use Rattle.x86_operands.specs.PlanSteps.{Given, operand_step, read_memory, rm_operand, rm_mm_operand}
 use Rattle.x86_operands.specs.declared.reader.Reading.{Reading}
 use Rattle.x86_operands.specs.declared.operands.Slot.{Slot}
 use Rattle.x86_operands.specs.declared.operands.Operand.{Operand}
-use Rattle.x86_operands.specs.declared.placing.Operands.{Operands}
-use Rattle.x86_operands.specs.declared.order.Place.TheVariants.{Nowhere}
+use Rattle.x86_operands.specs.declared.operand_list.Operands.{Operands}
+use Rattle.x86_operands.specs.declared.order.Position.TheVariants.{Nowhere}
 
 -- the class of a width
 abbrev pub class_of : Width → Prefixes → RegisterClass
@@ -84,53 +84,53 @@ size_bytes size.Extract o p = extract_size o
 size_bytes size.Insert o p = insert_size o
 size_bytes size.Unpack o p = unpack_size o
 
-abbrev pub last_sign : Last → Prefixes → Sign
-last_sign last.Absent p = sign.ConstantU8 0
-last_sign last.I8 p = sign.I8
-last_sign last.U8 p = sign.U8
-last_sign last.U16 p = sign.U16
-last_sign last.I32 p = sign.I32
-last_sign last.Iv p = immediate_of (v_class p)
-last_sign last.Ivq p = whole_immediate (v_class p)
-last_sign last.Ip p = push_immediate p
-last_sign last.One p = sign.ConstantI8 (pos 1)
-last_sign last.Once p = sign.ConstantU8 1
-last_sign last.Three p = sign.ConstantU8 3
-last_sign last.Cl p = sign.Fixed slot.Reg (record { num = 1; class = class.B })
-last_sign last.ClThird p = cl_third
+abbrev pub last_encoding : Last → Prefixes → OperandEncoding
+last_encoding last.Absent p = encoding.ConstantU8 0
+last_encoding last.I8 p = encoding.I8
+last_encoding last.U8 p = encoding.U8
+last_encoding last.U16 p = encoding.U16
+last_encoding last.I32 p = encoding.I32
+last_encoding last.Iv p = immediate_of (v_class p)
+last_encoding last.Ivq p = whole_immediate (v_class p)
+last_encoding last.Ip p = push_immediate p
+last_encoding last.One p = encoding.ConstantI8 (pos 1)
+last_encoding last.Once p = encoding.ConstantU8 1
+last_encoding last.Three p = encoding.ConstantU8 3
+last_encoding last.Cl p = encoding.Fixed slot.Reg (record { num = 1; class = class.B })
+last_encoding last.ClThird p = cl_third
 
-abbrev pub reg_sign : Behind → Width → ℕ → Prefixes → Sign
-reg_sign behind.Opcode w n p = sign.Fixed slot.Reg (register_at n (class_of w p) p)
-reg_sign behind.Accumulator w n p = accumulator_of (class_of w p) p
-reg_sign b width.Mm n p = sign.Gmm
-reg_sign b w n p = sign.G (class_of w p)
+abbrev pub reg_encoding : Behind → Width → ℕ → Prefixes → OperandEncoding
+reg_encoding behind.Opcode w n p = encoding.Fixed slot.Reg (register_at n (class_of w p) p)
+reg_encoding behind.Accumulator w n p = accumulator_of (class_of w p) p
+reg_encoding b width.Mm n p = encoding.Gmm
+reg_encoding b w n p = encoding.G (class_of w p)
 
-abbrev pub rm_sign : Behind → Width → Prefixes → Sign
-rm_sign behind.Memory w p = sign.M
-rm_sign behind.Registers width.Mm p = sign.Umm
-rm_sign behind.Registers w p = sign.U (class_of w p)
-rm_sign b width.Mm p = sign.Emm
-rm_sign b w p = sign.E (class_of w p)
+abbrev pub rm_encoding : Behind → Width → Prefixes → OperandEncoding
+rm_encoding behind.Memory w p = encoding.M
+rm_encoding behind.Registers width.Mm p = encoding.Umm
+rm_encoding behind.Registers w p = encoding.U (class_of w p)
+rm_encoding b width.Mm p = encoding.Emm
+rm_encoding b w p = encoding.E (class_of w p)
 
-abbrev pub same_place : Place → Place → Bool
-same_place First First = true
-same_place Second Second = true
-same_place Third Third = true
-same_place Nowhere Nowhere = true
-same_place a b = false
+abbrev pub same_position : Position → Position → Bool
+same_position First First = true
+same_position Second Second = true
+same_position Third Third = true
+same_position Nowhere Nowhere = true
+same_position a b = false
 
-abbrev pub sign_at : Order → Place → Sign → Sign → Sign → Sign
-sign_at o k reg rm last = if same_place o.reg k then reg else (if same_place o.rm k then rm else last)
+abbrev pub encoding_at : Order → Position → OperandEncoding → OperandEncoding → OperandEncoding → OperandEncoding
+encoding_at o k reg rm last = if same_position o.reg k then reg else (if same_position o.rm k then rm else last)
 
-abbrev pub signs_in : Order → Sign → Sign → Sign → Signs
-signs_in o reg rm last =
+abbrev pub encodings_in : Order → OperandEncoding → OperandEncoding → OperandEncoding → OperandEncodings
+encodings_in o reg rm last =
     if o.count == 0 then Zero
-    else (if o.count == 1 then One (sign_at o First reg rm last)
-    else (if o.count == 2 then Two (sign_at o First reg rm last) (sign_at o Second reg rm last)
-    else Three (sign_at o First reg rm last) (sign_at o Second reg rm last) (sign_at o Third reg rm last)))
+    else (if o.count == 1 then One (encoding_at o First reg rm last)
+    else (if o.count == 2 then Two (encoding_at o First reg rm last) (encoding_at o Second reg rm last)
+    else Three (encoding_at o First reg rm last) (encoding_at o Second reg rm last) (encoding_at o Third reg rm last)))
 
 -- the memory size at a ModRM byte
-abbrev pub size_at : Encoding → ℕ → Size
+abbrev pub size_at : FormEncoding → ℕ → Size
 size_at e m = if is_memory m then e.in_memory else e.in_register
 
 abbrev pub judged_plan : Behind → ℕ → Plan → Plan
@@ -139,14 +139,14 @@ judged_plan behind.Registers m plan = register_only m plan
 judged_plan b m plan = plan
 
 -- the plan of a form with this encoding, whose opcode byte carries n
-abbrev pub plan_of : Encoding → ℕ → ℕ → Prefixes → ℕ → Plan
-plan_of e n o p m = judged_plan e.behind m (reads o (signs_in e.order (reg_sign e.behind e.reg n p) (rm_sign e.behind e.rm p) (last_sign e.last p)) (size_bytes (size_at e m) o p))
+abbrev pub plan_of : FormEncoding → ℕ → ℕ → Prefixes → ℕ → Plan
+plan_of e n o p m = judged_plan e.behind m (reads o (encodings_in e.order (reg_encoding e.behind e.reg n p) (rm_encoding e.behind e.rm p) (last_encoding e.last p)) (size_bytes (size_at e m) o p))
 
-abbrev pub is_row : Behind → Bool
-is_row (behind.ByReg g) = false
-is_row (behind.Peculiar u) = false
-is_row behind.Group = false
-is_row b = true
+abbrev pub is_described : Behind → Bool
+is_described (behind.ByReg g) = false
+is_described (behind.Peculiar u) = false
+is_described behind.Group = false
+is_described b = true
 
 -- the number that a form carries
 abbrev pub carried : Form → ℕ
@@ -158,10 +158,10 @@ carried (form.Zv_B n) = n
 carried f = 0
 
 -- the encoding says what the form's definition says, unless it leaves the form to a plan of its own
-abbrev pub Describes : Encoding → Form → Type 0
-Describes e f = IsTrue (is_row e.behind) → (o m : ℕ) (p : Prefixes) → plan_of e (carried f) o p m ≡ form_plan f o p m
+abbrev pub Describes : FormEncoding → Form → Type 0
+Describes e f = IsTrue (is_described e.behind) → (o m : ℕ) (p : Prefixes) → plan_of e (carried f) o p m ≡ form_plan f o p m
 
--- ---- forms that no row describes
+-- ---- forms that no line describes
 
 -- ports, absolute addresses and strings
 abbrev pub string_plan : Form → ℕ → Prefixes → ℕ → Plan
@@ -185,7 +185,7 @@ string_plan form.DX_Xb o p m = form_plan form.DX_Xb o p m
 string_plan form.DX_Xv o p m = form_plan form.DX_Xv o p m
 string_plan f o p m = refuses Incomplete AtModRM
 
--- the plans of the forms that no row describes: for those of the definitions the same, for groups none
+-- the plans of the forms that no line describes: for those of the definitions the same, for groups none
 abbrev pub peculiar_plan : Form → ℕ → Prefixes → ℕ → Plan
 peculiar_plan (form.Zv_AX_R n) o p m = form_plan (form.Zv_AX_R n) o p m
 peculiar_plan form.CVT_AA o p m = form_plan form.CVT_AA o p m
@@ -206,44 +206,44 @@ peculiar_plan form.Edq_G_xmm o p m = form_plan form.Edq_G_xmm o p m
 peculiar_plan form.Rv_Gmm_Ib o p m = form_plan form.Rv_Gmm_Ib o p m
 peculiar_plan f o p m = string_plan f o p m
 
--- a form that no row describes has one of these plans
-abbrev pub LeavesPeculiar : Encoding → Form → Type 0
-LeavesPeculiar e f = is_row e.behind ≡ false → (o m : ℕ) (p : Prefixes) → form_plan f o p m ≡ peculiar_plan f o p m
+-- a form that no line describes has one of these plans
+abbrev pub LeavesPeculiar : FormEncoding → Form → Type 0
+LeavesPeculiar e f = is_described e.behind ≡ false → (o m : ℕ) (p : Prefixes) → form_plan f o p m ≡ peculiar_plan f o p m
 
 -- what was written, where the reading is Ok
 abbrev pub held : {X : Type 0} → Result (Unit {0}) DecodeError → X → Result X DecodeError
 held (Ok u) x = Ok x
 held (Err e) x = Err e
 
-abbrev pub somewhere : Place → Bool
+abbrev pub somewhere : Position → Bool
 somewhere Nowhere = false
 somewhere at = true
 
-abbrev pub index_of_place : Place → ℕ
-index_of_place First = 0
-index_of_place Second = 1
-index_of_place Third = 2
-index_of_place Nowhere = 3
+abbrev pub index_of_position : Position → ℕ
+index_of_position First = 0
+index_of_position Second = 1
+index_of_position Third = 2
+index_of_position Nowhere = 3
 
 abbrev pub put_at : ℕ → Slot × Operand → Operands → Operands
 put_at k x given = record given { slots = slice_set given.slots k x.0; operands = slice_set given.operands k x.1 }
 
--- a pair at a place; Nowhere is no place
-abbrev pub put_in : Place → Slot × Operand → Operands → Operands
+-- a pair at a position; Nowhere is none
+abbrev pub put_in : Position → Slot × Operand → Operands → Operands
 put_in First x given = put_at 0 x given
 put_in Second x given = put_at 1 x given
 put_in Third x given = put_at 2 x given
 put_in Nowhere x given = given
 
--- the operand of a sign that no ModRM names, at a place
-abbrev pub sign_placed : Place → Sign → Prefixes → Operands → Step Operands
-sign_placed at s p given = sign_step s p absent_modrm None >>= λ x. pure (put_in at x given)
+-- the operand of an encoding that looks at no ModRM, at a position
+abbrev pub encoded_read : Position → OperandEncoding → Prefixes → Operands → Step Operands
+encoded_read at s p given = operand_step s p absent_modrm None >>= λ x. pure (put_in at x given)
 
 abbrev pub no_operands : Operands
 no_operands = record { slots = slots.Nothing ∷ slots.Nothing ∷ slots.Nothing ∷ slots.Nothing ∷ []; operands = operands.Nothing ∷ operands.Nothing ∷ operands.Nothing ∷ operands.Nothing ∷ []; count = 0; mem_size = 0 }
 
-abbrev pub placed_reading : ℕ → Prefixes → Operands → Reading
-placed_reading o p given = record { opcode = o; count = given.count; slots = given.slots; operands = given.operands; mem_size = given.mem_size; prefixes = p }
+abbrev pub reading_with : ℕ → Prefixes → Operands → Reading
+reading_with o p given = record { opcode = o; count = given.count; slots = given.slots; operands = given.operands; mem_size = given.mem_size; prefixes = p }
 
 -- the operand of rm
 abbrev pub rm_pair : Width → Prefixes → ℕ → Option Raw → Slot × Operand
@@ -260,28 +260,28 @@ abbrev pub fixed_pair : Behind → Width → ℕ → Prefixes → Slot × Operan
 fixed_pair behind.Opcode w n p = (slots.Reg, operands.Register (register_at n (class_of w p) p))
 fixed_pair b w n p = (slots.Reg, operands.Register (register_of (class_of w p) p 0))
 
--- the operand of rm, at a place
-abbrev pub rm_placed : Place → Width → Prefixes → ℕ → Operands → Step Operands
-rm_placed at w p m given = read_memory p m >>= λ memory. pure (put_in at (rm_pair w p m memory) given)
+-- the operand of rm, at a position
+abbrev pub rm_read : Position → Width → Prefixes → ℕ → Operands → Step Operands
+rm_read at w p m given = read_memory p m >>= λ memory. pure (put_in at (rm_pair w p m memory) given)
 
 -- the last operand
-abbrev pub last_placed : Place → Last → Prefixes → Operands → Step Operands
-last_placed Nowhere l p given = pure given
-last_placed at l p given = sign_placed at (last_sign l p) p given
+abbrev pub last_read : Position → Last → Prefixes → Operands → Step Operands
+last_read Nowhere l p given = pure given
+last_read at l p given = encoded_read at (last_encoding l p) p given
 
 -- the operands of ModRM
-abbrev pub fields_placed : Place → Width → Place → Width → Prefixes → ℕ → Operands → Step Operands
-fields_placed at_reg wr at_rm we p m given = read_memory p m >>= λ memory. pure (put_in at_reg (reg_pair wr p m) (put_in at_rm (rm_pair we p m memory) given))
+abbrev pub modrm_read : Position → Width → Position → Width → Prefixes → ℕ → Operands → Step Operands
+modrm_read at_reg wr at_rm we p m given = read_memory p m >>= λ memory. pure (put_in at_reg (reg_pair wr p m) (put_in at_rm (rm_pair we p m memory) given))
 
 -- the operands of ModRM, or a register that no ModRM names
-abbrev pub front_placed : Encoding → ℕ → Prefixes → ℕ → Operands → Step Operands
-front_placed e n p m given = if somewhere e.order.rm then fields_placed e.order.reg e.reg e.order.rm e.rm p m given else pure (put_in e.order.reg (fixed_pair e.behind e.reg n p) given)
+abbrev pub front_read : FormEncoding → ℕ → Prefixes → ℕ → Operands → Step Operands
+front_read e n p m given = if somewhere e.order.rm then modrm_read e.order.reg e.reg e.order.rm e.rm p m given else pure (put_in e.order.reg (fixed_pair e.behind e.reg n p) given)
 
 -- what an encoding writes
-abbrev pub placed : Encoding → ℕ → Prefixes → ℕ → Operands → Step Operands
-placed e n p m given = front_placed e n p m given >>= last_placed e.order.last e.last p
+abbrev pub operands_read : FormEncoding → ℕ → Prefixes → ℕ → Operands → Step Operands
+operands_read e n p m given = front_read e n p m given >>= last_read e.order.last e.last p
 
--- the slot and the operand at a place: nothing at the count and above
+-- the slot and the operand at an index: nothing at the count and above
 abbrev pub slot_in : Operands → ℕ → Slot
 slot_in given k = if nat_lt k given.count then slice_index_or given.slots k slots.Nothing else slots.Nothing
 
@@ -292,9 +292,9 @@ operand_in given k = if nat_lt k given.count then slice_index_or given.operands 
 abbrev pub sized : ℕ → ℕ → Operands
 sized count size = record no_operands { count = count; mem_size = size }
 
--- ---- rows that are sound
+-- ---- lines that are sound
 
-abbrev pub is_order_of : Place → Place → Place → ℕ → Bool
+abbrev pub is_order_of : Position → Position → Position → ℕ → Bool
 is_order_of Nowhere Nowhere Nowhere n = n == 0
 is_order_of Nowhere Nowhere First n = n == 1
 is_order_of First Nowhere Nowhere n = n == 1
@@ -312,7 +312,7 @@ abbrev pub is_order : Order → Bool
 is_order o = is_order_of o.reg o.rm o.last o.count
 
 abbrev pub has_modrm : Behind → Bool
-has_modrm behind.Fields = true
+has_modrm behind.EitherForm = true
 has_modrm behind.Memory = true
 has_modrm behind.Registers = true
 has_modrm b = false
@@ -333,32 +333,32 @@ is_last l = true
 abbrev pub ends : Order → Last → Bool
 ends o l = if somewhere o.last then is_last l else true
 
--- the ModRM bytes at which a row accepts; one that isn't there reads as C0
+-- the ModRM bytes at which a line accepts; one that isn't there reads as C0
 abbrev pub allows : Behind → ℕ → Bool
-allows behind.Fields m = true
+allows behind.EitherForm m = true
 allows behind.Memory m = is_memory m
 allows (behind.ByReg g) m = false
 allows (behind.Peculiar u) m = false
 allows behind.Group m = false
 allows b m = not (is_memory m)
 
-abbrev pub is_sound : Encoding → Bool
+abbrev pub is_sound : FormEncoding → Bool
 is_sound e = is_order e.order && (order_fits e.behind e.order && ends e.order e.last)
 
--- ---- a whole row
+-- ---- a whole line
 
 abbrev pub use_of : Behind → ModrmUse
 use_of behind.Nothing = use_as.Absent
 use_of behind.Opcode = use_as.Absent
 use_of behind.Accumulator = use_as.Absent
 use_of (behind.Peculiar u) = u
-use_of b = use_as.Fields
+use_of b = use_as.EitherForm
 
 -- ---- plans, in place
 
--- what a sign gives, at an index
-abbrev pub sign_put : ℕ → Sign → Prefixes → ℕ → Option Raw → Operands → Step Operands
-sign_put k s p m memory given = sign_step s p m memory >>= λ x. pure (put_at k x given)
+-- what an operand encoding gives, at an index
+abbrev pub put_encoded : ℕ → OperandEncoding → Prefixes → ℕ → Option Raw → Operands → Step Operands
+put_encoded k s p m memory given = operand_step s p m memory >>= λ x. pure (put_at k x given)
 
 -- the operands without their memory size
 abbrev pub given_from : Operands → Given
@@ -384,7 +384,7 @@ group_form group.F7 = form.ModRM_0xf7
 group_form group.FE = form.ModRM_0xfe
 group_form group.FF = form.ModRM_0xff
 
--- a row of a group names the group of its form
+-- a line of a group names the group of its form
 abbrev pub Belongs : Behind → Form → Type 0
 Belongs (behind.ByReg g) f = f ≡ group_form g
 Belongs behind.Group f = ⊤

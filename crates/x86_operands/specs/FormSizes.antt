@@ -7,8 +7,8 @@ use Rattle.x86_fields.specs.declared.prefixes.Prefixes.{Prefixes}
 use Rattle.x86_fields.specs.Raw.{has_w}
 use Rattle.x86_opcodes.specs.Kinds.{is_among}
 use Rattle.x86_opcodes.specs.Names.{CALL, CMPSD, CMPSS, ROUNDSS, ROUNDSD, LFS, LGS, LSS, ENQCMD, ENQCMDS, MOVDDUP, MOVNTSS, MOVNTPS, MOVNTPD, MOVNTDQ, PEXTRB, PEXTRW, EXTRACTPS, PINSRB, INSERTPS, PMOVSXBQ, PMOVZXBQ, PMOVSXBD, PMOVZXBD, PMOVSXWQ, PMOVZXWQ, UCOMISS, COMISS, CVTSS2SD, MOVLPD, MOVHPD, PUNPCKLBW, PUNPCKLWD, PUNPCKLDQ, RETURN, RETF, PUSHF, POPF, LEAVE, XLAT, CBW, CWDE, CDQE, CWD, CDQ, CQO}
-use Rattle.x86_operands.specs.declared.plans.Sign.{Sign}
-use Rattle.x86_operands.specs.declared.plans.Sign.TheVariants.{I16, I32, I64Whole, Address32, Address64}
+use Rattle.x86_operands.specs.declared.plans.OperandEncoding.{OperandEncoding}
+use Rattle.x86_operands.specs.declared.plans.OperandEncoding.TheVariants.{I16, I32, I64Whole, Address32, Address64}
 use Rattle.x86_fields.specs.Sizes.{v_class}
 
 -- the class of an address register
@@ -16,18 +16,18 @@ abbrev pub pointer_class : Prefixes → RegisterClass
 pointer_class p = if p.address_size then D else Q
 
 -- the immediate of a class v that has its whole width
-abbrev pub whole_immediate : RegisterClass → Sign
+abbrev pub whole_immediate : RegisterClass → OperandEncoding
 whole_immediate W = I16
 whole_immediate Q = I64Whole
 whole_immediate c = I32
 
 -- the immediate of PUSH
-abbrev pub push_immediate : Prefixes → Sign
+abbrev pub push_immediate : Prefixes → OperandEncoding
 push_immediate p = if p.operand_size && not (has_w p) then I16 else I32
 
 -- an absolute address
-abbrev pub address_sign : Prefixes → Sign
-address_sign p = if p.address_size then Address32 else Address64
+abbrev pub address_encoding : Prefixes → OperandEncoding
+address_encoding p = if p.address_size then Address32 else Address64
 
 -- the opcode of 98 and of 99, by the class v
 abbrev pub widening : RegisterClass → ℕ

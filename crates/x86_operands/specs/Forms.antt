@@ -15,64 +15,64 @@ use Rattle.x86_operands.specs.declared.plans.RegisterSlot.{RegisterSlot}
 use Rattle.x86_operands.specs.declared.plans.RegisterSlot.TheVariants.{Reg, Rm, Third}
 use Rattle.x86_operands.specs.declared.plans.PointerSlot.{PointerSlot}
 use Rattle.x86_operands.specs.declared.plans.PointerSlot.TheVariants.{Deref, DerefEsi, DerefEdi, DerefRsi, DerefRdi}
-use Rattle.x86_operands.specs.declared.plans.Sign.{Sign}
-use Rattle.x86_operands.specs.declared.plans.Sign.TheVariants.{G, Gmm, E, Emm, M, U, Umm, Fixed, Pointer, I8, I32, U8, U16, X16, ConstantU8}
-use Rattle.x86_operands.specs.declared.plans.Signs.TheVariants.{Zero, One, Two, Three}
+use Rattle.x86_operands.specs.declared.plans.OperandEncoding.{OperandEncoding}
+use Rattle.x86_operands.specs.declared.plans.OperandEncoding.TheVariants.{G, Gmm, E, Emm, M, U, Umm, Fixed, Pointer, I8, I32, U8, U16, X16, ConstantU8}
+use Rattle.x86_operands.specs.declared.plans.OperandEncodings.TheVariants.{Zero, One, Two, Three}
 use Rattle.x86_operands.specs.declared.plans.Fault.TheVariants.{BadOperand, Incomplete}
 use Rattle.x86_operands.specs.declared.plans.Moment.TheVariants.{AtModRM, AfterAddress, AfterSuffix}
-use Rattle.x86_operands.specs.declared.plans.Mark.TheVariants.{SetsEs}
+use Rattle.x86_operands.specs.declared.plans.PrefixChange.TheVariants.{SetsEs}
 use Rattle.x86_operands.specs.declared.plans.ModrmUse.{ModrmUse}
-use Rattle.x86_operands.specs.declared.plans.ModrmUse.TheVariants.{Absent, Fields}
+use Rattle.x86_operands.specs.declared.plans.ModrmUse.TheVariants.{Absent, EitherForm}
 use Rattle.x86_operands.specs.declared.plans.Plan.{Plan}
 use Rattle.x86_fields.specs.Sizes.{v_class, vq_class, vd_class, dq_class}
 use Rattle.x86_fields.specs.ModRM.{is_memory}
 use Rattle.x86_operands.specs.Plans.{RowRecord, reads, refuses, refused, memory_only, register_only, size_by, reg_number, register_at, accumulator_of, immediate_of}
-use Rattle.x86_operands.specs.FormSizes.{pointer_class, whole_immediate, push_immediate, address_sign, widening, doubling, nothing_size, call_size, return_size, port_size, far_class, far_size, duplicate_size, stream_size, scalar_size, extend_size, is_half_load, extract_size, insert_size, unpack_size}
+use Rattle.x86_operands.specs.FormSizes.{pointer_class, whole_immediate, push_immediate, address_encoding, widening, doubling, nothing_size, call_size, return_size, port_size, far_class, far_size, duplicate_size, stream_size, scalar_size, extend_size, is_half_load, extract_size, insert_size, unpack_size}
 
--- ---- signs of these forms
+-- ---- operand encodings of these forms
 
 -- the register of the opcode byte, in a slot
-abbrev pub z_in : RegisterSlot → ℕ → RegisterClass → Prefixes → Sign
+abbrev pub z_in : RegisterSlot → ℕ → RegisterClass → Prefixes → OperandEncoding
 z_in slot n c p = Fixed slot (register_at n c p)
 
-abbrev pub dx_port : Sign
+abbrev pub dx_port : OperandEncoding
 dx_port = Fixed Rm (record { num = 2; class = W })
 
-abbrev pub dl_in_reg : Sign
+abbrev pub dl_in_reg : OperandEncoding
 dl_in_reg = Fixed Reg (record { num = 2; class = B })
 
-abbrev pub dx_in_reg : Sign
+abbrev pub dx_in_reg : OperandEncoding
 dx_in_reg = Fixed Reg (record { num = 2; class = W })
 
-abbrev pub cl_third : Sign
+abbrev pub cl_third : OperandEncoding
 cl_third = Fixed Third (record { num = 1; class = B })
 
-abbrev pub segment_register : ℕ → Sign
+abbrev pub segment_register : ℕ → OperandEncoding
 segment_register n = Fixed Reg (record { num = n; class = S })
 
 -- memory at rsi or esi, and at rdi or edi
-abbrev pub at_rsi : PointerSlot → Prefixes → Sign
+abbrev pub at_rsi : PointerSlot → Prefixes → OperandEncoding
 at_rsi slot p = Pointer slot (record { num = 6; class = pointer_class p })
 
-abbrev pub at_rdi : PointerSlot → Prefixes → Sign
+abbrev pub at_rdi : PointerSlot → Prefixes → OperandEncoding
 at_rdi slot p = Pointer slot (record { num = 7; class = pointer_class p })
 
 -- the same in a slot of its own
-abbrev pub source_string : Prefixes → Sign
+abbrev pub source_string : Prefixes → OperandEncoding
 source_string p = at_rsi (if p.address_size then DerefEsi else DerefRsi) p
 
-abbrev pub target_string : Prefixes → Sign
+abbrev pub target_string : Prefixes → OperandEncoding
 target_string p = at_rdi (if p.address_size then DerefEdi else DerefRdi) p
 
 -- the strings of INS and OUTS, which 67 doesn't shorten
-abbrev pub wide_rsi : Sign
+abbrev pub wide_rsi : OperandEncoding
 wide_rsi = Pointer Deref (record { num = 6; class = Q })
 
-abbrev pub wide_rdi : Sign
+abbrev pub wide_rdi : OperandEncoding
 wide_rdi = Pointer Deref (record { num = 7; class = Q })
 
 abbrev pub sets_es : Plan → Plan
-sets_es plan = record plan { mark = SetsEs }
+sets_es plan = record plan { change = SetsEs }
 
 -- the size of v
 abbrev pub v_size : Prefixes → ℕ
@@ -171,10 +171,10 @@ accumulator_plan form.AL_DX o p m = reads o (Two (accumulator_of B p) dx_port) 0
 accumulator_plan form.AX_DX o p m = reads o (Two (accumulator_of (vd_class p) p) dx_port) 0
 accumulator_plan form.DX_AL o p m = reads o (Two dx_port (accumulator_of B p)) 0
 accumulator_plan form.DX_AX o p m = reads o (Two dx_port (accumulator_of (vd_class p) p)) 0
-accumulator_plan form.AL_Ob o p m = reads o (Two (accumulator_of B p) (address_sign p)) 1
-accumulator_plan form.AX_Ov o p m = reads o (Two (accumulator_of (v_class p) p) (address_sign p)) (v_size p)
-accumulator_plan form.Ob_AL o p m = reads o (Two (address_sign p) (accumulator_of B p)) 1
-accumulator_plan form.Ov_AX o p m = reads o (Two (address_sign p) (accumulator_of (v_class p) p)) (v_size p)
+accumulator_plan form.AL_Ob o p m = reads o (Two (accumulator_of B p) (address_encoding p)) 1
+accumulator_plan form.AX_Ov o p m = reads o (Two (accumulator_of (v_class p) p) (address_encoding p)) (v_size p)
+accumulator_plan form.Ob_AL o p m = reads o (Two (address_encoding p) (accumulator_of B p)) 1
+accumulator_plan form.Ov_AX o p m = reads o (Two (address_encoding p) (accumulator_of (v_class p) p)) (v_size p)
 accumulator_plan form.AL_Xb o p m = reads o (Two (accumulator_of B p) (at_rsi Deref p)) 1
 accumulator_plan form.AX_Xv o p m = reads o (Two (accumulator_of (v_class p) p) (at_rsi Deref p)) (v_size p)
 accumulator_plan form.Yb_AL o p m = sets_es (reads o (Two (at_rdi Deref p) (accumulator_of B p)) 1)
@@ -266,7 +266,7 @@ modrm_use form.Fw = Absent
 modrm_use form.FS = Absent
 modrm_use form.GS = Absent
 modrm_use form.AH = Absent
-modrm_use f = Fields
+modrm_use f = EitherForm
 
 -- The record of a row whose form is no group. No plain form refuses at the opcode.
 unfoldable pub form_record : TableRow → Prefixes → RowRecord

@@ -6,8 +6,8 @@ use Rattle.x86_operands.specs.declared.operands.Slot.{Slot}
 use Rattle.x86_operands.specs.declared.operands.Slot.TheVariants as slots
 use Rattle.x86_operands.specs.declared.operands.Operand.{Operand}
 use Rattle.x86_operands.specs.declared.operands.Operand.TheVariants as operands
-use Rattle.x86_operands.specs.declared.plans.Sign.{Sign}
-use Rattle.x86_operands.specs.declared.plans.Sign.TheVariants.{E, Emm, M}
+use Rattle.x86_operands.specs.declared.plans.OperandEncoding.{OperandEncoding}
+use Rattle.x86_operands.specs.declared.plans.OperandEncoding.TheVariants.{E, Emm, M}
 use Rattle.x86_operands.specs.declared.reader.Reading.{Reading}
 use Rattle.x86_operands.specs.Shape.{shape}
 use Rattle.x86_operands.specs.Plans.{RowRecord, list_of}
@@ -48,39 +48,39 @@ suits slots.ImmI64 (operands.ImmediateI64 z) = true
 suits slots.ImmI64 op = false
 suits slot op = true
 
--- the slot and the operand that a reading has at a place
+-- the slot and the operand that a reading has at an index
 abbrev pub slot_read : Reading → ℕ → Slot
 slot_read reading k = slice_index_or reading.slots k slots.Nothing
 
 abbrev pub operand_read : Reading → ℕ → Operand
 operand_read reading k = slice_index_or reading.operands k operands.Nothing
 
--- At most four operands, each of them decoded and suited to its slot, and nothing in the places behind them.
-pub record HasTiedPlaces (reading : Reading) : Type 0 where
+-- At most four operands, each of them decoded and suited to its slot, and nothing behind them.
+pub record AreTied (reading : Reading) : Type 0 where
   pub few : reading.count ≤ 4
   pub decoded : (k : ℕ) → k < reading.count → is_decoded (operand_read reading k) ≡ true
   pub suited : (k : ℕ) → k < reading.count → suits (slot_read reading k) (operand_read reading k) ≡ true
   pub empty_slots : (k : ℕ) → reading.count ≤ k → slot_read reading k ≡ slots.Nothing
   pub empty_operands : (k : ℕ) → reading.count ≤ k → operand_read reading k ≡ operands.Nothing
 
--- the signs that a memory operand of ModRM is written as
-abbrev pub is_modrm_sign : Sign → Bool
-is_modrm_sign (E c) = true
-is_modrm_sign Emm = true
-is_modrm_sign M = true
-is_modrm_sign s = false
+-- the operand encodings that a memory operand of ModRM is written as
+abbrev pub is_modrm_encoding : OperandEncoding → Bool
+is_modrm_encoding (E c) = true
+is_modrm_encoding Emm = true
+is_modrm_encoding M = true
+is_modrm_encoding s = false
 
--- whether the sign at a place is one of these
-abbrev pub names_modrm : List Sign → ℕ → Bool
+-- whether the operand encoding at an index is one of these
+abbrev pub names_modrm : List OperandEncoding → ℕ → Bool
 names_modrm [] k = false
-names_modrm (s ∷ rest) zero = is_modrm_sign s
+names_modrm (s ∷ rest) zero = is_modrm_encoding s
 names_modrm (s ∷ rest) (suc k) = names_modrm rest k
 
--- the signs of the row's operands at its ModRM
-abbrev pub signs_of : (r : RowRecord) (p : Prefixes) (bytes : List ℕ) (reading : Reading) → SpellsRow r p bytes reading → List Sign
-signs_of r p bytes reading asked = list_of (r.plan (modrm_of r.modrm asked.modrm)).signs
+-- the operand encodings of the row at its ModRM
+abbrev pub encodings_of : (r : RowRecord) (p : Prefixes) (bytes : List ℕ) (reading : Reading) → SpellsRow r p bytes reading → List OperandEncoding
+encodings_of r p bytes reading asked = list_of (r.plan (modrm_of r.modrm asked.modrm)).encodings
 
--- At a place below the count stands the shape of raw fields.
+-- At an index below the count stands the shape of raw fields.
 pub record HasShapeAt (reading : Reading) (k : ℕ) (raw : Raw) : Type 0 where
   pub below : k < reading.count
   pub slot : slot_read reading k ≡ (shape raw).0

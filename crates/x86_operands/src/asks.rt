@@ -4,9 +4,9 @@ ghost use Rattle.x86_fields.specs.Pieces.{option_bytes};
 ghost use Rattle.x86_operands.specs.Pieces.{immediate_width, modrm_of};
 ghost use Rattle.x86_operands.specs.Asks.{encoding_ask, immediates_width, used_modrm, plan_ask};
 
-use crate::encodings::Encoding;
-use crate::order::Place;
-use crate::plans::{Fault, ModrmUse, Plan, Sign, Signs, Verdict};
+use crate::encodings::FormEncoding;
+use crate::order::Position;
+use crate::plans::{Fault, ModrmUse, OperandEncoding, OperandEncodings, Plan, Verdict};
 use x86_fields::{ModRM, Prefixes};
 
 /// Which parts of an encoding a row asks behind its opcode byte. Whether there is a SIB, and how long the
@@ -34,28 +34,33 @@ pub struct RecordAt {
     pub plan: Plan,
 }
 
-fn immediate_width(sign: Sign) -> u8
-    ensures value { result ≡ immediate_width sign }
+fn immediate_width(encoding: OperandEncoding) -> u8
+    ensures value { result ≡ immediate_width encoding }
     ensures small { result ≤ 8 }
 {
-    match sign {
-        Sign::I8 | Sign::U8 | Sign::X8 => 1,
-        Sign::I16 | Sign::I32From16 | Sign::U16 | Sign::X16 => 2,
-        Sign::I32 | Sign::I64 | Sign::Address32 => 4,
-        Sign::I64Whole | Sign::Address64 => 8,
+    match encoding {
+        OperandEncoding::I8 | OperandEncoding::U8 | OperandEncoding::X8 => 1,
+        OperandEncoding::I16
+        | OperandEncoding::I32From16
+        | OperandEncoding::U16
+        | OperandEncoding::X16 => 2,
+        OperandEncoding::I32 | OperandEncoding::I64 | OperandEncoding::Address32 => 4,
+        OperandEncoding::I64Whole | OperandEncoding::Address64 => 8,
         _ => 0,
     }
 }
 
-fn immediates_width(signs: Signs) -> u8
-    ensures { result ≡ immediates_width signs }
+fn immediates_width(encodings: OperandEncodings) -> u8
+    ensures { result ≡ immediates_width encodings }
 {
-    match signs {
-        Signs::Zero => 0,
-        Signs::One(a) => immediate_width(a),
-        Signs::Two(a, b) => immediate_width(a) + immediate_width(b),
-        Signs::Three(a, b, c) => immediate_width(a) + immediate_width(b) + immediate_width(c),
-        Signs::Four(a, b, c, d) => immediate_width(a)
+    match encodings {
+        OperandEncodings::Zero => 0,
+        OperandEncodings::One(a) => immediate_width(a),
+        OperandEncodings::Two(a, b) => immediate_width(a) + immediate_width(b),
+        OperandEncodings::Three(a, b, c) => immediate_width(a)
+            + immediate_width(b)
+            + immediate_width(c),
+        OperandEncodings::Four(a, b, c, d) => immediate_width(a)
             + immediate_width(b)
             + immediate_width(c)
             + immediate_width(d),
@@ -68,7 +73,7 @@ pub fn used_modrm(usage: ModrmUse, modrm: ModRM) -> ModRM
 {
     match usage {
         ModrmUse::Absent => ModRM::absent(),
-        ModrmUse::Fields => modrm,
+        ModrmUse::EitherForm => modrm,
         ModrmUse::Registers => modrm.as_register(),
     }
 }
@@ -90,19 +95,19 @@ pub fn plan_ask(usage: ModrmUse, modrm: ModRM, plan: &Plan) -> Ask
     Ask {
         modrm: !matches!(usage, ModrmUse::Absent),
         memory: modrm.is_memory(),
-        immediate: immediates_width(plan.signs),
+        immediate: immediates_width(plan.encodings),
         suffix: matches!(plan.verdict, Verdict::NamedBySuffix),
     }
 }
 
 /// What a line of the operand encodings asks at a ModRM byte that is used so.
 #[inline(always)]
-pub fn encoding_ask(encoding: &Encoding, prefixes: &Prefixes, modrm: ModRM) -> Ask
+pub fn encoding_ask(encoding: &FormEncoding, prefixes: &Prefixes, modrm: ModRM) -> Ask
     ensures { result ≡ encoding_ask encoding.now prefixes.now modrm }
 {
     let immediate = match encoding.order.last {
-        Place::Nowhere => 0,
-        _ => immediate_width(encoding.last.sign(prefixes)),
+        Position::Nowhere => 0,
+        _ => immediate_width(encoding.last.encoding(prefixes)),
     };
     Ask {
         modrm: !matches!(encoding.modrm_use(), ModrmUse::Absent),

@@ -1,22 +1,22 @@
-//! What a row of the operand encodings says.
+//! What a line of the operand encodings says.
 
 ghost use Rattle.std.specs.Prelude.{◌≡◌, ◌<◌};
-ghost use Rattle.x86_operands.specs.Encodings.{class_of, size_bytes, last_sign, reg_sign, rm_sign, sign_at, signs_in, plan_of, use_of, is_row, allows, size_at};
+ghost use Rattle.x86_operands.specs.Encodings.{class_of, size_bytes, last_encoding, reg_encoding, rm_encoding, encoding_at, encodings_in, plan_of, use_of, is_described, allows, size_at};
 
 use crate::form_sizes::{
     call_size, duplicate_size, extract_size, insert_size, nothing_size, push_immediate,
     return_size, scalar_size, stream_size, unpack_size, v_size, whole_immediate,
 };
-use crate::order::{Order, Place};
+use crate::order::{Order, Position};
 use crate::plans::{
-    ModrmUse, Plan, RegisterSlot, Sign, Signs, accumulator_of, immediate_of, memory_only, reads,
-    register_at, register_only,
+    ModrmUse, OperandEncoding, OperandEncodings, Plan, RegisterSlot, accumulator_of, immediate_of,
+    memory_only, reads, register_at, register_only,
 };
 use x86_fields::{ModRM, Prefixes};
 use x86_opcodes::Opcode;
 use x86_regs::{RegSpec, RegisterClass};
 
-/// The groups whose rows reg alone chooses, by their opcode byte.
+/// The groups whose lines reg alone chooses, by their opcode byte.
 #[derive(Clone, Copy, PartialEq, Eq, Debug, Drop)]
 pub enum RegGroup {
     G80,
@@ -46,12 +46,12 @@ pub enum Behind {
     /// No ModRM: register 0 is an operand.
     Accumulator,
     /// A ModRM of either form.
-    Fields,
+    EitherForm,
     /// A ModRM of the memory form; the register form is refused.
     Memory,
     /// A ModRM of the register form; the memory form is refused.
     Registers,
-    /// A ModRM whose reg chooses the row.
+    /// A ModRM whose reg chooses the line.
     ByReg(RegGroup),
     /// A form with a plan of its own.
     Peculiar(ModrmUse),
@@ -131,7 +131,7 @@ pub enum Size {
 
 /// How the operands of a form are encoded.
 #[derive(Clone, Copy, PartialEq, Eq, Debug, Drop)]
-pub struct Encoding {
+pub struct FormEncoding {
     /// What stands behind the opcode byte.
     pub behind: Behind,
     /// In which order reg, rm and the last operand stand.
@@ -197,56 +197,65 @@ impl Size {
 }
 
 impl Last {
-    /// The sign of the last operand.
+    /// The encoding of the last operand.
     #[inline(always)]
-    pub(crate) fn sign(self, prefixes: &Prefixes) -> Sign
-        ensures { result ≡ last_sign self prefixes.now }
+    pub(crate) fn encoding(self, prefixes: &Prefixes) -> OperandEncoding
+        ensures { result ≡ last_encoding self prefixes.now }
     {
         match self {
-            Last::Absent => Sign::ConstantU8(0),
-            Last::I8 => Sign::I8,
-            Last::U8 => Sign::U8,
-            Last::U16 => Sign::U16,
-            Last::I32 => Sign::I32,
+            Last::Absent => OperandEncoding::ConstantU8(0),
+            Last::I8 => OperandEncoding::I8,
+            Last::U8 => OperandEncoding::U8,
+            Last::U16 => OperandEncoding::U16,
+            Last::I32 => OperandEncoding::I32,
             Last::Iv => immediate_of(prefixes.v_class()),
             Last::Ivq => whole_immediate(prefixes.v_class()),
             Last::Ip => push_immediate(prefixes),
-            Last::One => Sign::ConstantI8(1),
-            Last::Once => Sign::ConstantU8(1),
-            Last::Three => Sign::ConstantU8(3),
-            Last::Cl => Sign::Fixed(RegisterSlot::Reg, RegSpec::b(1)),
-            Last::ClThird => Sign::Fixed(RegisterSlot::Third, RegSpec::b(1)),
+            Last::One => OperandEncoding::ConstantI8(1),
+            Last::Once => OperandEncoding::ConstantU8(1),
+            Last::Three => OperandEncoding::ConstantU8(3),
+            Last::Cl => OperandEncoding::Fixed(RegisterSlot::Reg, RegSpec::b(1)),
+            Last::ClThird => OperandEncoding::Fixed(RegisterSlot::Third, RegSpec::b(1)),
         }
     }
 }
 
-fn reg_sign(behind: Behind, width: Width, num: u8, prefixes: &Prefixes) -> Sign
+fn reg_encoding(behind: Behind, width: Width, num: u8, prefixes: &Prefixes) -> OperandEncoding
     requires { num < 8 }
-    ensures { result ≡ reg_sign behind width num prefixes.now }
+    ensures { result ≡ reg_encoding behind width num prefixes.now }
 {
     let class = width.class(prefixes);
     match (behind, width) {
-        (Behind::Opcode, _) => Sign::Fixed(RegisterSlot::Reg, register_at(num, class, prefixes)),
+        (Behind::Opcode, _) => OperandEncoding::Fixed(
+            RegisterSlot::Reg,
+            register_at(num, class, prefixes),
+        ),
         (Behind::Accumulator, _) => accumulator_of(class, prefixes),
-        (_, Width::Mm) => Sign::Gmm,
-        _ => Sign::G(class),
+        (_, Width::Mm) => OperandEncoding::Gmm,
+        _ => OperandEncoding::G(class),
     }
 }
 
-fn rm_sign(behind: Behind, width: Width, prefixes: &Prefixes) -> Sign
-    ensures { result ≡ rm_sign behind width prefixes.now }
+fn rm_encoding(behind: Behind, width: Width, prefixes: &Prefixes) -> OperandEncoding
+    ensures { result ≡ rm_encoding behind width prefixes.now }
 {
     match (behind, width) {
-        (Behind::Memory, _) => Sign::M,
-        (Behind::Registers, Width::Mm) => Sign::Umm,
-        (Behind::Registers, w) => Sign::U(w.class(prefixes)),
-        (_, Width::Mm) => Sign::Emm,
-        (_, w) => Sign::E(w.class(prefixes)),
+        (Behind::Memory, _) => OperandEncoding::M,
+        (Behind::Registers, Width::Mm) => OperandEncoding::Umm,
+        (Behind::Registers, w) => OperandEncoding::U(w.class(prefixes)),
+        (_, Width::Mm) => OperandEncoding::Emm,
+        (_, w) => OperandEncoding::E(w.class(prefixes)),
     }
 }
 
-fn sign_at(order: &Order, k: Place, reg: Sign, rm: Sign, last: Sign) -> Sign
-    ensures { result ≡ sign_at order.now k reg rm last }
+fn encoding_at(
+    order: &Order,
+    k: Position,
+    reg: OperandEncoding,
+    rm: OperandEncoding,
+    last: OperandEncoding,
+) -> OperandEncoding
+    ensures { result ≡ encoding_at order.now k reg rm last }
 {
     if order.reg == k {
         reg
@@ -257,25 +266,30 @@ fn sign_at(order: &Order, k: Place, reg: Sign, rm: Sign, last: Sign) -> Sign
     }
 }
 
-fn signs_in(order: &Order, reg: Sign, rm: Sign, last: Sign) -> Signs
-    ensures { result ≡ signs_in order.now reg rm last }
+fn encodings_in(
+    order: &Order,
+    reg: OperandEncoding,
+    rm: OperandEncoding,
+    last: OperandEncoding,
+) -> OperandEncodings
+    ensures { result ≡ encodings_in order.now reg rm last }
 {
-    let first = sign_at(order, Place::First, reg, rm, last);
-    let second = sign_at(order, Place::Second, reg, rm, last);
-    let third = sign_at(order, Place::Third, reg, rm, last);
+    let first = encoding_at(order, Position::First, reg, rm, last);
+    let second = encoding_at(order, Position::Second, reg, rm, last);
+    let third = encoding_at(order, Position::Third, reg, rm, last);
     match order.count {
-        0 => Signs::Zero,
-        1 => Signs::One(first),
-        2 => Signs::Two(first, second),
-        _ => Signs::Three(first, second, third),
+        0 => OperandEncodings::Zero,
+        1 => OperandEncodings::One(first),
+        2 => OperandEncodings::Two(first, second),
+        _ => OperandEncodings::Three(first, second, third),
     }
 }
 
 impl Behind {
-    /// Whether a row describes the form.
+    /// Whether a line describes the form.
     #[inline(always)]
-    pub fn is_row(self) -> bool
-        ensures { result ≡ is_row self }
+    pub fn is_described(self) -> bool
+        ensures { result ≡ is_described self }
     {
         match self {
             Behind::ByReg(_) | Behind::Peculiar(_) | Behind::Group => false,
@@ -283,13 +297,13 @@ impl Behind {
         }
     }
 
-    /// Whether a row accepts at this ModRM byte; one that isn't there reads as C0.
+    /// Whether a line accepts at this ModRM byte; one that isn't there reads as C0.
     #[inline(always)]
     pub fn allows(self, modrm: ModRM) -> bool
         ensures { result ≡ allows self modrm }
     {
         match self {
-            Behind::Fields => true,
+            Behind::EitherForm => true,
             Behind::Memory => modrm.is_memory(),
             Behind::ByReg(_) | Behind::Peculiar(_) | Behind::Group => false,
             _ => !modrm.is_memory(),
@@ -297,7 +311,7 @@ impl Behind {
     }
 }
 
-impl Encoding {
+impl FormEncoding {
     /// The memory size at a ModRM byte.
     #[inline(always)]
     pub fn size_at(&self, modrm: ModRM) -> Size
@@ -318,7 +332,7 @@ impl Encoding {
         match self.behind {
             Behind::Nothing | Behind::Opcode | Behind::Accumulator => ModrmUse::Absent,
             Behind::Peculiar(usage) => usage,
-            _ => ModrmUse::Fields,
+            _ => ModrmUse::EitherForm,
         }
     }
 
@@ -327,10 +341,14 @@ impl Encoding {
         requires { num < 8 }
         ensures { result ≡ plan_of self.now num opcode prefixes.now modrm }
     {
-        let reg = reg_sign(self.behind, self.reg, num, prefixes);
-        let rm = rm_sign(self.behind, self.rm, prefixes);
-        let signs = signs_in(&self.order, reg, rm, self.last.sign(prefixes));
-        let plan = reads(opcode, signs, self.size_at(modrm).bytes(opcode, prefixes));
+        let reg = reg_encoding(self.behind, self.reg, num, prefixes);
+        let rm = rm_encoding(self.behind, self.rm, prefixes);
+        let encodings = encodings_in(&self.order, reg, rm, self.last.encoding(prefixes));
+        let plan = reads(
+            opcode,
+            encodings,
+            self.size_at(modrm).bytes(opcode, prefixes),
+        );
         match self.behind {
             Behind::Memory => memory_only(modrm, plan),
             Behind::Registers => register_only(modrm, plan),
@@ -339,12 +357,12 @@ impl Encoding {
     }
 }
 
-/// A row: what stands behind the opcode byte, the order of operands, the widths of reg and rm, the last operand, and
+/// A line: what stands behind the opcode byte, the order of operands, the widths of reg and rm, the last operand, and
 /// the memory size in the memory form and in the register form.
 #[macro_export]
-macro_rules! row {
+macro_rules! encoded {
     ($behind:ident $order:ident $reg:ident $rm:ident $last:ident $memory:ident $register:ident) => {
-        &$crate::Encoding {
+        &$crate::FormEncoding {
             behind: $crate::Behind::$behind,
             order: $crate::order::$order,
             reg: $crate::Width::$reg,
@@ -356,11 +374,11 @@ macro_rules! row {
     };
 }
 
-/// A form that no row describes.
+/// A form that no line describes.
 #[macro_export]
 macro_rules! other {
     ($behind:expr) => {
-        &$crate::Encoding {
+        &$crate::FormEncoding {
             behind: $behind,
             order: $crate::order::NO,
             reg: $crate::Width::B,

@@ -1,6 +1,6 @@
 //! The operand encodings of the forms: a line a form.
 //!
-//! A row reads: what stands behind the opcode byte, the order of operands, the widths of reg and rm, the last
+//! A line reads: what stands behind the opcode byte, the order of operands, the widths of reg and rm, the last
 //! operand, and the memory size in the memory form and in the register form. A width or a size that no operand has is
 //! B or Zero.
 
@@ -10,14 +10,14 @@ ghost use Rattle.x86_operands.specs.Forms.{modrm_use};
 ghost use Rattle.x86_operands.specs.Encodings.{Belongs, Describes, LeavesPeculiar, carried, is_sound, use_of};
 
 use crate::encodings::Behind::{ByReg, Group, Peculiar};
-use crate::encodings::{Encoding, RegGroup};
+use crate::encodings::{FormEncoding, RegGroup};
 use crate::plans::ModrmUse;
-use crate::{other, row};
+use crate::{encoded, other};
 use x86_forms::Form;
 
 /// The operand encoding of a form.
 #[inline(always)]
-pub fn encoding_of(form: Form) -> &'static Encoding
+pub fn form_encoding(form: Form) -> &'static FormEncoding
     ensures describes { Describes result.now form }
     ensures peculiar { LeavesPeculiar result.now form }
     ensures group { Belongs result.now.behind form }
@@ -26,87 +26,87 @@ pub fn encoding_of(form: Form) -> &'static Encoding
 {
     match form {
         // the register of the opcode byte
-        Form::Zv_R(_) => row!(Opcode R Vq B Absent Eight Eight),
-        Form::Zv_B(_) => row!(Opcode R V B Absent Zero Zero),
-        Form::Zb_Ib_R(_) => row!(Opcode R_I B B U8 Zero Zero),
-        Form::Zv_Ivq_R(_) => row!(Opcode R_I V B Ivq Zero Zero),
+        Form::Zv_R(_) => encoded!(Opcode R Vq B Absent Eight Eight),
+        Form::Zv_B(_) => encoded!(Opcode R V B Absent Zero Zero),
+        Form::Zb_Ib_R(_) => encoded!(Opcode R_I B B U8 Zero Zero),
+        Form::Zv_Ivq_R(_) => encoded!(Opcode R_I V B Ivq Zero Zero),
         // the accumulator
-        Form::AL_Ibs => row!(Accumulator R_I B B I8 Zero Zero),
-        Form::AX_Ivd => row!(Accumulator R_I V B Iv Zero Zero),
-        Form::AL_Ib => row!(Accumulator R_I B B U8 Zero Zero),
-        Form::AX_Ib => row!(Accumulator R_I Vd B U8 Zero Zero),
-        Form::Ib_AL => row!(Accumulator I_R B B U8 Zero Zero),
-        Form::Ib_AX => row!(Accumulator I_R Vd B U8 Zero Zero),
+        Form::AL_Ibs => encoded!(Accumulator R_I B B I8 Zero Zero),
+        Form::AX_Ivd => encoded!(Accumulator R_I V B Iv Zero Zero),
+        Form::AL_Ib => encoded!(Accumulator R_I B B U8 Zero Zero),
+        Form::AX_Ib => encoded!(Accumulator R_I Vd B U8 Zero Zero),
+        Form::Ib_AL => encoded!(Accumulator I_R B B U8 Zero Zero),
+        Form::Ib_AX => encoded!(Accumulator I_R Vd B U8 Zero Zero),
         // nothing, or an immediate
-        Form::Nothing => row!(Nothing NO B B Absent Bare Bare),
-        Form::AH => row!(Nothing NO B B Absent Zero Zero),
-        Form::Ibs => row!(Nothing I B B I8 Zero Zero),
-        Form::Ib => row!(Nothing I B B U8 Zero Zero),
-        Form::Iw => row!(Nothing I B B U16 Return Return),
-        Form::I_1 => row!(Nothing I B B Once Zero Zero),
-        Form::I_3 => row!(Nothing I B B Three Zero Zero),
-        Form::Jvds => row!(Nothing I B B I32 Call Call),
-        Form::PushIbs => row!(Nothing I B B I8 Eight Eight),
-        Form::PushIvs => row!(Nothing I B B Ip Eight Eight),
+        Form::Nothing => encoded!(Nothing NO B B Absent Bare Bare),
+        Form::AH => encoded!(Nothing NO B B Absent Zero Zero),
+        Form::Ibs => encoded!(Nothing I B B I8 Zero Zero),
+        Form::Ib => encoded!(Nothing I B B U8 Zero Zero),
+        Form::Iw => encoded!(Nothing I B B U16 Return Return),
+        Form::I_1 => encoded!(Nothing I B B Once Zero Zero),
+        Form::I_3 => encoded!(Nothing I B B Three Zero Zero),
+        Form::Jvds => encoded!(Nothing I B B I32 Call Call),
+        Form::PushIbs => encoded!(Nothing I B B I8 Eight Eight),
+        Form::PushIvs => encoded!(Nothing I B B Ip Eight Eight),
         // general registers
-        Form::Eb_Gb => row!(Fields E_G B B Absent One One),
-        Form::Ev_Gv => row!(Fields E_G V V Absent V V),
-        Form::Gb_Eb => row!(Fields G_E B B Absent One One),
-        Form::Gv_Ev => row!(Fields G_E V V Absent V V),
-        Form::Gv_M => row!(Memory G_E V V Absent V V),
-        Form::M_Gv => row!(Memory E_G V V Absent V V),
-        Form::Eb_R0 => row!(Fields E B B Absent One One),
-        Form::Ev => row!(Fields E B V Absent V V),
-        Form::Gv_Eb => row!(Fields G_E V B Absent One Zero),
-        Form::Gv_Ew => row!(Fields G_E V W Absent Two Zero),
-        Form::Gdq_Ed => row!(Fields G_E Q D Absent Four V),
-        Form::Gd_Ed => row!(Fields G_E D D Absent Four V),
-        Form::Gdq_Ev => row!(Fields G_E Dq V Absent Four V),
-        Form::Gv_Ev_Ib => row!(Fields G_E_I V V I8 V V),
-        Form::Gv_Ev_Iv => row!(Fields G_E_I V V Iv V V),
-        Form::Ev_Gv_Ib => row!(Fields E_G_I V V I8 V V),
-        Form::Ev_Gv_CL => row!(Fields E_G_I V V ClThird V V),
-        Form::Gv_Ew_LAR => row!(Fields G_E V V Absent Two V),
-        Form::Gv_Ew_LSL => row!(Fields G_E V Vd Absent Two V),
-        Form::Mdq_Gdq => row!(Memory E_G Dq Q Absent Dq Dq),
-        Form::G_E_q => row!(Fields G_E Q Q Absent Eight V),
-        Form::E_G_q => row!(Fields E_G Q Q Absent Eight V),
+        Form::Eb_Gb => encoded!(EitherForm E_G B B Absent One One),
+        Form::Ev_Gv => encoded!(EitherForm E_G V V Absent V V),
+        Form::Gb_Eb => encoded!(EitherForm G_E B B Absent One One),
+        Form::Gv_Ev => encoded!(EitherForm G_E V V Absent V V),
+        Form::Gv_M => encoded!(Memory G_E V V Absent V V),
+        Form::M_Gv => encoded!(Memory E_G V V Absent V V),
+        Form::Eb_R0 => encoded!(EitherForm E B B Absent One One),
+        Form::Ev => encoded!(EitherForm E B V Absent V V),
+        Form::Gv_Eb => encoded!(EitherForm G_E V B Absent One Zero),
+        Form::Gv_Ew => encoded!(EitherForm G_E V W Absent Two Zero),
+        Form::Gdq_Ed => encoded!(EitherForm G_E Q D Absent Four V),
+        Form::Gd_Ed => encoded!(EitherForm G_E D D Absent Four V),
+        Form::Gdq_Ev => encoded!(EitherForm G_E Dq V Absent Four V),
+        Form::Gv_Ev_Ib => encoded!(EitherForm G_E_I V V I8 V V),
+        Form::Gv_Ev_Iv => encoded!(EitherForm G_E_I V V Iv V V),
+        Form::Ev_Gv_Ib => encoded!(EitherForm E_G_I V V I8 V V),
+        Form::Ev_Gv_CL => encoded!(EitherForm E_G_I V V ClThird V V),
+        Form::Gv_Ew_LAR => encoded!(EitherForm G_E V V Absent Two V),
+        Form::Gv_Ew_LSL => encoded!(EitherForm G_E V Vd Absent Two V),
+        Form::Mdq_Gdq => encoded!(Memory E_G Dq Q Absent Dq Dq),
+        Form::G_E_q => encoded!(EitherForm G_E Q Q Absent Eight V),
+        Form::E_G_q => encoded!(EitherForm E_G Q Q Absent Eight V),
         // xmm registers
-        Form::G_E_xmm => row!(Fields G_E X X Absent Duplicate V),
-        Form::E_G_xmm => row!(Fields E_G X X Absent Sixteen V),
-        Form::G_Ed_xmm => row!(Fields G_E X X Absent Four V),
-        Form::Ed_G_xmm => row!(Fields E_G X X Absent Four V),
-        Form::G_M_xmm => row!(Memory G_E X X Absent Sixteen Sixteen),
-        Form::M_G_xmm => row!(Memory E_G X X Absent Stream Stream),
-        Form::G_E_xmm_Ib => row!(Fields G_E_I X X I8 Scalar V),
-        Form::G_E_xmm_Ub => row!(Fields G_E_I X X U8 Sixteen V),
-        Form::PMOVX_E_G_xmm => row!(Fields E_G X X Absent Eight V),
-        Form::MOVQ_f30f => row!(Fields G_E X X Absent Eight V),
-        Form::Gdq_Eq_xmm => row!(Fields G_E V X Absent Eight V),
-        Form::Gv_E_xmm => row!(Fields G_E V X Absent Four V),
-        Form::Gd_U_xmm => row!(Registers G_E D X Absent V V),
-        Form::G_U_xmm => row!(Registers G_E X X Absent V V),
-        Form::MASKMOVDQU => row!(Registers G_E X X Absent Sixteen Sixteen),
-        Form::G_U_xmm_Ub => row!(Registers G_E_I D X U8 V V),
-        Form::Ev_G_xmm_Ib => row!(Fields E_G_I X V U8 Extract Extract),
-        Form::G_Ev_xmm_Ib => row!(Fields G_E_I X X U8 Insert V),
-        Form::G_xmm_Ew_Ib => row!(Fields G_E_I X D U8 Two V),
-        Form::G_xmm_Edq => row!(Fields G_E X Dq Absent V V),
+        Form::G_E_xmm => encoded!(EitherForm G_E X X Absent Duplicate V),
+        Form::E_G_xmm => encoded!(EitherForm E_G X X Absent Sixteen V),
+        Form::G_Ed_xmm => encoded!(EitherForm G_E X X Absent Four V),
+        Form::Ed_G_xmm => encoded!(EitherForm E_G X X Absent Four V),
+        Form::G_M_xmm => encoded!(Memory G_E X X Absent Sixteen Sixteen),
+        Form::M_G_xmm => encoded!(Memory E_G X X Absent Stream Stream),
+        Form::G_E_xmm_Ib => encoded!(EitherForm G_E_I X X I8 Scalar V),
+        Form::G_E_xmm_Ub => encoded!(EitherForm G_E_I X X U8 Sixteen V),
+        Form::PMOVX_E_G_xmm => encoded!(EitherForm E_G X X Absent Eight V),
+        Form::MOVQ_f30f => encoded!(EitherForm G_E X X Absent Eight V),
+        Form::Gdq_Eq_xmm => encoded!(EitherForm G_E V X Absent Eight V),
+        Form::Gv_E_xmm => encoded!(EitherForm G_E V X Absent Four V),
+        Form::Gd_U_xmm => encoded!(Registers G_E D X Absent V V),
+        Form::G_U_xmm => encoded!(Registers G_E X X Absent V V),
+        Form::MASKMOVDQU => encoded!(Registers G_E X X Absent Sixteen Sixteen),
+        Form::G_U_xmm_Ub => encoded!(Registers G_E_I D X U8 V V),
+        Form::Ev_G_xmm_Ib => encoded!(EitherForm E_G_I X V U8 Extract Extract),
+        Form::G_Ev_xmm_Ib => encoded!(EitherForm G_E_I X X U8 Insert V),
+        Form::G_xmm_Ew_Ib => encoded!(EitherForm G_E_I X D U8 Two V),
+        Form::G_xmm_Edq => encoded!(EitherForm G_E X Dq Absent V V),
         // mm registers
-        Form::G_xmm_E_mm => row!(Fields G_E X Mm Absent Eight V),
-        Form::G_mm_E_xmm => row!(Fields G_E Mm X Absent Sixteen V),
-        Form::G_xmm_U_mm => row!(Registers G_E X Mm Absent V V),
-        Form::G_mm_U_xmm => row!(Registers G_E Mm X Absent V V),
-        Form::G_U_mm => row!(Registers G_E D Mm Absent V V),
-        Form::G_E_mm => row!(Fields G_E Mm Mm Absent Unpack V),
-        Form::G_mm_E => row!(Fields G_E Mm Mm Absent Eight V),
-        Form::E_G_mm => row!(Fields E_G Mm Mm Absent Eight V),
-        Form::G_E_mm_Ib => row!(Fields G_E_I Mm Mm I8 Eight Zero),
-        Form::G_mm_Edq => row!(Fields G_E Mm Dq Absent V V),
-        Form::Edq_G_mm => row!(Fields E_G Mm Dq Absent Dq V),
-        Form::G_Mq_mm => row!(Memory E_G Mm Q Absent Eight Eight),
-        Form::G_mm_U_mm => row!(Registers G_E Mm Mm Absent Eight Eight),
-        Form::G_mm_Ew_Ib => row!(Fields G_E_I Mm D I8 Two V),
+        Form::G_xmm_E_mm => encoded!(EitherForm G_E X Mm Absent Eight V),
+        Form::G_mm_E_xmm => encoded!(EitherForm G_E Mm X Absent Sixteen V),
+        Form::G_xmm_U_mm => encoded!(Registers G_E X Mm Absent V V),
+        Form::G_mm_U_xmm => encoded!(Registers G_E Mm X Absent V V),
+        Form::G_U_mm => encoded!(Registers G_E D Mm Absent V V),
+        Form::G_E_mm => encoded!(EitherForm G_E Mm Mm Absent Unpack V),
+        Form::G_mm_E => encoded!(EitherForm G_E Mm Mm Absent Eight V),
+        Form::E_G_mm => encoded!(EitherForm E_G Mm Mm Absent Eight V),
+        Form::G_E_mm_Ib => encoded!(EitherForm G_E_I Mm Mm I8 Eight Zero),
+        Form::G_mm_Edq => encoded!(EitherForm G_E Mm Dq Absent V V),
+        Form::Edq_G_mm => encoded!(EitherForm E_G Mm Dq Absent Dq V),
+        Form::G_Mq_mm => encoded!(Memory E_G Mm Q Absent Eight Eight),
+        Form::G_mm_U_mm => encoded!(Registers G_E Mm Mm Absent Eight Eight),
+        Form::G_mm_Ew_Ib => encoded!(EitherForm G_E_I Mm D I8 Two V),
         // plans of their own, with ModRM and without
         Form::Ew_Sw
         | Form::Sw_Ew
@@ -116,7 +116,7 @@ pub fn encoding_of(form: Form) -> &'static Encoding
         | Form::Pextr_dq
         | Form::Pinsr_dq
         | Form::Edq_G_xmm
-        | Form::Rv_Gmm_Ib => other!(Peculiar(ModrmUse::Fields)),
+        | Form::Rv_Gmm_Ib => other!(Peculiar(ModrmUse::EitherForm)),
         Form::Zv_AX_R(_) | Form::CVT_AA | Form::CVT_DA | Form::Fw | Form::FS | Form::GS => other!(
             Peculiar(ModrmUse::Absent)
         ),

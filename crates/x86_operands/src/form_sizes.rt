@@ -2,9 +2,9 @@
 ghost use Rattle.std.specs.Prelude.{◌≡◌, if◌then◌else◌};
 ghost use Rattle.x86_fields.specs.Raw.{has_w};
 ghost use Rattle.x86_operands.specs.Forms.{v_size, or_v};
-ghost use Rattle.x86_operands.specs.FormSizes.{pointer_class, whole_immediate, push_immediate, address_sign, widening, doubling, nothing_size, call_size, return_size, port_size, is_far_load, far_class, far_size, duplicate_size, stream_size, scalar_size, extend_size, is_half_load, extract_size, insert_size, unpack_size};
+ghost use Rattle.x86_operands.specs.FormSizes.{pointer_class, whole_immediate, push_immediate, address_encoding, widening, doubling, nothing_size, call_size, return_size, port_size, is_far_load, far_class, far_size, duplicate_size, stream_size, scalar_size, extend_size, is_half_load, extract_size, insert_size, unpack_size};
 
-use crate::plans::{Sign, size_by};
+use crate::plans::{OperandEncoding, size_by};
 use x86_fields::{ModRM, Prefixes};
 use x86_opcodes::Opcode;
 use x86_regs::RegisterClass;
@@ -36,36 +36,36 @@ pub fn or_v(memory: u8, prefixes: &Prefixes, modrm: ModRM) -> u8
 
 /// The immediate of a class v that has its whole width.
 #[inline(always)]
-pub fn whole_immediate(class: RegisterClass) -> Sign
+pub fn whole_immediate(class: RegisterClass) -> OperandEncoding
     ensures { result ≡ whole_immediate class }
 {
     match class {
-        RegisterClass::W => Sign::I16,
-        RegisterClass::Q => Sign::I64Whole,
-        _ => Sign::I32,
+        RegisterClass::W => OperandEncoding::I16,
+        RegisterClass::Q => OperandEncoding::I64Whole,
+        _ => OperandEncoding::I32,
     }
 }
 
 /// The immediate of PUSH.
 #[inline(always)]
-pub fn push_immediate(prefixes: &Prefixes) -> Sign
+pub fn push_immediate(prefixes: &Prefixes) -> OperandEncoding
     ensures { result ≡ push_immediate prefixes.now }
 {
     if prefixes.operand_size() && !prefixes.has_w() {
-        Sign::I16
+        OperandEncoding::I16
     } else {
-        Sign::I32
+        OperandEncoding::I32
     }
 }
 
 /// An absolute address.
-pub fn address(prefixes: &Prefixes) -> Sign
-    ensures { result ≡ address_sign prefixes.now }
+pub fn address(prefixes: &Prefixes) -> OperandEncoding
+    ensures { result ≡ address_encoding prefixes.now }
 {
     if prefixes.address_size() {
-        Sign::Address32
+        OperandEncoding::Address32
     } else {
-        Sign::Address64
+        OperandEncoding::Address64
     }
 }
 

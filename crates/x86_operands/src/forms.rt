@@ -5,16 +5,16 @@ ghost use Rattle.x86_fields.specs.Steps.{outcome};
 ghost use Rattle.x86_forms.specs.Groups.{is_group};
 ghost use Rattle.x86_forms.specs.Words.{IsForm};
 ghost use Rattle.x86_operands.specs.Asks.{ask_of, record_at};
-ghost use Rattle.x86_operands.specs.Encodings.{held, no_operands, placed_reading};
+ghost use Rattle.x86_operands.specs.Encodings.{held, no_operands, reading_with};
 ghost use Rattle.x86_operands.specs.Forms.{form_plan, form_record, modrm_use};
-ghost use Rattle.x86_operands.specs.Signs.{record_step};
+ghost use Rattle.x86_operands.specs.PlanSteps.{record_step};
 
 use crate::asks::{Ask, RecordAt, encoding_ask, plan_ask, used_modrm, used_or_none};
-use crate::form_encodings::{carried, encoding_of};
+use crate::form_encodings::{carried, form_encoding};
+use crate::operand_list::Operands;
 use crate::peculiar_forms::peculiar_plan;
-use crate::placing::Operands;
 use crate::plans::{ModrmUse, Plan};
-use crate::reader::{Reading, place_plan, read_modrm, read_plan};
+use crate::reader::{Reading, read_modrm, read_plan, read_plan_into};
 use x86_arch::Reader;
 use x86_fields::{DecodeError, ModRM, Prefixes};
 use x86_forms::{Form, TableRow};
@@ -23,7 +23,7 @@ use x86_opcodes::Opcode;
 fn modrm_use(form: Form) -> ModrmUse
     ensures { result ≡ modrm_use form }
 {
-    encoding_of(form).modrm_use()
+    form_encoding(form).modrm_use()
 }
 
 /// The plan of a form that is no group.
@@ -31,8 +31,8 @@ pub fn form_plan(form: Form, opcode: Opcode, prefixes: &Prefixes, modrm: ModRM) 
     requires { IsForm form }
     ensures { result ≡ form_plan form opcode prefixes.now modrm }
 {
-    let encoding = encoding_of(form);
-    if encoding.behind.is_row() {
+    let encoding = form_encoding(form);
+    if encoding.behind.is_described() {
         encoding.plan(opcode, carried(form), prefixes, modrm)
     } else {
         peculiar_plan(form, opcode, prefixes, modrm)
@@ -41,9 +41,9 @@ pub fn form_plan(form: Form, opcode: Opcode, prefixes: &Prefixes, modrm: ModRM) 
 
 /// What a row asks whose form is no group, written to what was blank.
 #[inline(never)]
-#[tactic(auto, unfolding(crate::specs::Forms::form_record, crate::specs::Signs::record_step))]
-pub fn place_form<T: Reader<u64, u8>>(
-    words: &mut T,
+#[tactic(auto, unfolding(crate::specs::Forms::form_record, crate::specs::PlanSteps::record_step))]
+pub fn read_form_into<T: Reader<u64, u8>>(
+    reader: &mut T,
     row: TableRow,
     prefixes: &mut Prefixes,
     opcode: &mut Opcode,
@@ -51,11 +51,11 @@ pub fn place_form<T: Reader<u64, u8>>(
 ) -> Result<(), DecodeError>
     requires carried { IsForm row.form }
     requires blank { given.old ≡ no_operands }
-    ensures { outcome (held result (placed_reading opcode.new prefixes.new given.new)) (T.state words.new) ≡ record_step (form_record row prefixes.old) prefixes.old (T.state words.old) }
+    ensures { outcome (held result (reading_with opcode.new prefixes.new given.new)) (T.state reader.new) ≡ record_step (form_record row prefixes.old) prefixes.old (T.state reader.old) }
 {
-    let modrm = read_modrm(words, modrm_use(row.form))?;
+    let modrm = read_modrm(reader, modrm_use(row.form))?;
     let plan = form_plan(row.form, row.opcode, prefixes, modrm);
-    place_plan(words, &plan, modrm, prefixes, opcode, given)
+    read_plan_into(reader, &plan, modrm, prefixes, opcode, given)
 }
 
 /// Reads what a row asks behind its opcode byte, where its form is no group: ModRM, the memory operand, the
@@ -63,7 +63,7 @@ pub fn place_form<T: Reader<u64, u8>>(
 ///
 /// The bytes taken are exactly those that the record asks; after a refusal, those up to its moment; at
 /// `ExhaustedInput`, the pieces before the first that isn't whole.
-#[tactic(auto, unfolding(crate::specs::Forms::form_record, crate::specs::Signs::record_step))]
+#[tactic(auto, unfolding(crate::specs::Forms::form_record, crate::specs::PlanSteps::record_step))]
 pub fn read_form<T: Reader<u64, u8>>(
     words: &mut T,
     row: TableRow,
@@ -82,16 +82,16 @@ pub fn read_form<T: Reader<u64, u8>>(
 /// ModRM. Where the row refuses with every suffix, the answer is open.
 ///
 /// For the row of 03, which is ADD, at ModRM 44 this is a ModRM of the memory form, and nothing else.
-#[tactic(auto, using(crate::proofs::AskLaws::encoding_asks), unfolding(crate::specs::Forms::form_record, crate::specs::Asks::ask_of))]
+#[tactic(auto, using(crate::proofs::AskLemmas::encoding_asks), unfolding(crate::specs::Forms::form_record, crate::specs::Asks::ask_of))]
 pub fn form_ask(row: TableRow, prefixes: Prefixes, modrm: u8) -> Ask
     requires plain { is_group row.form ≡ false }
     requires carried { IsForm row.form }
     ensures { result ≡ ask_of (form_record row prefixes) modrm }
 {
-    let encoding = encoding_of(row.form);
+    let encoding = form_encoding(row.form);
     let usage = encoding.modrm_use();
     let modrm = used_modrm(usage, ModRM::new(modrm));
-    if encoding.behind.is_row() {
+    if encoding.behind.is_described() {
         encoding_ask(encoding, &prefixes, modrm)
     } else {
         let plan = peculiar_plan(row.form, row.opcode, &prefixes, modrm);

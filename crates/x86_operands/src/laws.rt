@@ -22,8 +22,8 @@ ghost use Rattle.x86_operands.specs.Linear.{operand_form, operand_address};
 ghost use Rattle.x86_operands.specs.Pieces.{SpellsRow, RefusesRow, IsReadRow, IsRefusedRow, IsOpenRow};
 ghost use Rattle.x86_operands.specs.Plans.{RowRecord};
 ghost use Rattle.x86_operands.specs.Shape.{shape};
-ghost use Rattle.x86_operands.specs.Signs.{record_step, error_of};
-ghost use Rattle.x86_operands.specs.Ties.{HasTiedPlaces, names_modrm, signs_of, HasShapeAt};
+ghost use Rattle.x86_operands.specs.PlanSteps.{record_step, error_of};
+ghost use Rattle.x86_operands.specs.Ties.{AreTied, names_modrm, encodings_of, HasShapeAt};
 
 use crate::{Ask, MemoryAccessSize, Operand, Slot};
 
@@ -81,12 +81,12 @@ pub fn rows_refuse_by_faults()
 /// A reading has at most four operands. None of them is `Nothing`, masked, rounded or an unsigned immediate of 32 or
 /// 64 bits, in the slot of an immediate stands that immediate, and behind the last operand stands `Nothing`.
 pub fn readings_are_tied()
-    ensures read { (r : RowRecord) (p : Prefixes) (s : State ℕ) (reading : Reading) → (record_step r p s).answer ≡ Ok reading → HasTiedPlaces reading }
-    ensures spelled { (r : RowRecord) (p : Prefixes) (bytes : List ℕ) (reading : Reading) → SpellsRow r p bytes reading → HasTiedPlaces reading }
+    ensures read { (r : RowRecord) (p : Prefixes) (s : State ℕ) (reading : Reading) → (record_step r p s).answer ≡ Ok reading → AreTied reading }
+    ensures spelled { (r : RowRecord) (p : Prefixes) (bytes : List ℕ) (reading : Reading) → SpellsRow r p bytes reading → AreTied reading }
 {}
 
 /// Where a record writes ModRM's memory operand stands the shape of the raw fields. Their 67 is that of the prefixes.
 pub fn memory_operands_are_shapes()
-    ensures stands { (r : RowRecord) (p : Prefixes) (bytes : List ℕ) (reading : Reading) (asked : SpellsRow r p bytes reading) (raw : Raw) → asked.behind.pieces.memory ≡ Some raw → (k : ℕ) → names_modrm (signs_of r p bytes reading asked) k ≡ true → HasShapeAt reading k raw }
+    ensures stands { (r : RowRecord) (p : Prefixes) (bytes : List ℕ) (reading : Reading) (asked : SpellsRow r p bytes reading) (raw : Raw) → asked.behind.pieces.memory ≡ Some raw → (k : ℕ) → names_modrm (encodings_of r p bytes reading asked) k ≡ true → HasShapeAt reading k raw }
     ensures address_size { (r : RowRecord) (p : Prefixes) (bytes : List ℕ) (reading : Reading) (asked : SpellsRow r p bytes reading) (raw : Raw) → asked.behind.pieces.memory ≡ Some raw → raw.address_size ≡ p.address_size }
 {}

@@ -121,7 +121,7 @@ pub enum Operand {
         disp: i32,
         mask: RegSpec,
     },
-    /// No operand stands at this place.
+    /// There is no operand.
     Nothing,
 }
 
@@ -300,7 +300,7 @@ impl Operand {
     /// address behind the instruction. `None` where the operand isn't memory or is masked.
     ///
     /// Segment bases are not added. Source: Intel SDM volume 1, section 3.7.5.
-    #[tactic(auto, using(crate::proofs::AddressLaws::absolute_value))]
+    #[tactic(auto, using(crate::proofs::AddressLemmas::absolute_value))]
     pub fn address(&self, address_size: bool, regs: &RegFile, next: u64) -> Option<u64>
         ensures { result ≡ operand_address address_size self.now regs.now.regs next }
     {

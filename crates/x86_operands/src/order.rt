@@ -1,29 +1,29 @@
 //! In which order the operands of a form stand.
 
 ghost use Rattle.std.specs.Prelude.{◌≡◌, ◌<◌};
-ghost use Rattle.x86_operands.specs.Encodings.{index_of_place};
+ghost use Rattle.x86_operands.specs.Encodings.{index_of_position};
 
 /// Which operand something is.
 #[derive(Clone, Copy, PartialEq, Eq, Debug, Drop)]
-pub enum Place {
+pub enum Position {
     First,
     Second,
     Third,
     Nowhere,
 }
 
-impl Place {
-    /// The place, counted from 0. `Nowhere` has one behind the others.
+impl Position {
+    /// The position, counted from 0. `Nowhere` has one behind the others.
     #[inline(always)]
     pub fn index(self) -> usize
-        ensures value { result ≡ index_of_place self }
+        ensures value { result ≡ index_of_position self }
         ensures small { result < 4 }
     {
         match self {
-            Place::First => 0,
-            Place::Second => 1,
-            Place::Third => 2,
-            Place::Nowhere => 3,
+            Position::First => 0,
+            Position::Second => 1,
+            Position::Third => 2,
+            Position::Nowhere => 3,
         }
     }
 }
@@ -32,85 +32,85 @@ impl Place {
 #[derive(Clone, Copy, PartialEq, Eq, Debug, Drop)]
 pub struct Order {
     pub count: u8,
-    pub reg: Place,
-    pub rm: Place,
-    pub last: Place,
+    pub reg: Position,
+    pub rm: Position,
+    pub last: Position,
 }
 
 /// No operand.
 pub const NO: Order = Order {
     count: 0,
-    reg: Place::Nowhere,
-    rm: Place::Nowhere,
-    last: Place::Nowhere,
+    reg: Position::Nowhere,
+    rm: Position::Nowhere,
+    last: Position::Nowhere,
 };
 /// The last one alone.
 pub const I: Order = Order {
     count: 1,
-    reg: Place::Nowhere,
-    rm: Place::Nowhere,
-    last: Place::First,
+    reg: Position::Nowhere,
+    rm: Position::Nowhere,
+    last: Position::First,
 };
 /// The register of reg, of the opcode byte, or 0.
 pub const R: Order = Order {
     count: 1,
-    reg: Place::First,
-    rm: Place::Nowhere,
-    last: Place::Nowhere,
+    reg: Position::First,
+    rm: Position::Nowhere,
+    last: Position::Nowhere,
 };
 
 pub const R_I: Order = Order {
     count: 2,
-    reg: Place::First,
-    rm: Place::Nowhere,
-    last: Place::Second,
+    reg: Position::First,
+    rm: Position::Nowhere,
+    last: Position::Second,
 };
 
 pub const I_R: Order = Order {
     count: 2,
-    reg: Place::Second,
-    rm: Place::Nowhere,
-    last: Place::First,
+    reg: Position::Second,
+    rm: Position::Nowhere,
+    last: Position::First,
 };
 /// The operand of rm.
 pub const E: Order = Order {
     count: 1,
-    reg: Place::Nowhere,
-    rm: Place::First,
-    last: Place::Nowhere,
+    reg: Position::Nowhere,
+    rm: Position::First,
+    last: Position::Nowhere,
 };
 
 pub const E_I: Order = Order {
     count: 2,
-    reg: Place::Nowhere,
-    rm: Place::First,
-    last: Place::Second,
+    reg: Position::Nowhere,
+    rm: Position::First,
+    last: Position::Second,
 };
 
 pub const E_G: Order = Order {
     count: 2,
-    reg: Place::Second,
-    rm: Place::First,
-    last: Place::Nowhere,
+    reg: Position::Second,
+    rm: Position::First,
+    last: Position::Nowhere,
 };
 
 pub const G_E: Order = Order {
     count: 2,
-    reg: Place::First,
-    rm: Place::Second,
-    last: Place::Nowhere,
+    reg: Position::First,
+    rm: Position::Second,
+    last: Position::Nowhere,
 };
 
 pub const E_G_I: Order = Order {
     count: 3,
-    reg: Place::Second,
-    rm: Place::First,
-    last: Place::Third,
+    reg: Position::Second,
+    rm: Position::First,
+    last: Position::Third,
 };
 
 pub const G_E_I: Order = Order {
     count: 3,
-    reg: Place::First,
-    rm: Place::Second,
-    last: Place::Third,
+    reg: Position::First,
+    rm: Position::Second,
+    last: Position::Third,
 };

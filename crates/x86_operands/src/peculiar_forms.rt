@@ -1,4 +1,4 @@
-//! Plans of the forms that no row describes: their operation, their class or their refusal goes by more than W and 66.
+//! Plans of the forms that no line describes: their operation, their class or their refusal goes by more than W and 66.
 ghost use Rattle.std.specs.Prelude.{◌≡◌, ◌<◌, if◌then◌else◌};
 ghost use Rattle.x86_fields.specs.Raw.{has_w};
 ghost use Rattle.x86_forms.specs.Words.{IsForm};
@@ -10,11 +10,11 @@ use crate::form_sizes::{
     address, doubling, extend_size, far_class, far_size, is_half_load, or_v, pointer_class,
     port_size, v_size, widening,
 };
-use crate::plans::Sign::{E, Fixed, G, I8, M, Pointer, U8, Umm, X16};
-use crate::plans::Signs::{One, Three, Two, Zero};
+use crate::plans::OperandEncoding::{E, Fixed, G, I8, M, Pointer, U8, Umm, X16};
+use crate::plans::OperandEncodings::{One, Three, Two, Zero};
 use crate::plans::{
-    Fault, Mark, Moment, Plan, PointerSlot, RegisterSlot, Sign, accumulator_of, memory_only, reads,
-    refused, refuses, reg_number, register_at,
+    Fault, Moment, OperandEncoding, Plan, PointerSlot, PrefixChange, RegisterSlot, accumulator_of,
+    memory_only, reads, refused, refuses, reg_number, register_at,
 };
 use x86_fields::{ModRM, Prefixes};
 use x86_forms::Form;
@@ -22,44 +22,44 @@ use x86_opcodes::Opcode;
 use x86_regs::RegSpec;
 use x86_regs::RegisterClass::{B, D, Q, S, W, X};
 
-fn dx_port() -> Sign
+fn dx_port() -> OperandEncoding
     ensures { result ≡ dx_port }
 {
     Fixed(RegisterSlot::Rm, RegSpec::w(2))
 }
 
-fn dl_in_reg() -> Sign
+fn dl_in_reg() -> OperandEncoding
     ensures { result ≡ dl_in_reg }
 {
     Fixed(RegisterSlot::Reg, RegSpec::b(2))
 }
 
-fn dx_in_reg() -> Sign
+fn dx_in_reg() -> OperandEncoding
     ensures { result ≡ dx_in_reg }
 {
     Fixed(RegisterSlot::Reg, RegSpec::w(2))
 }
 
-fn segment_register(num: u8) -> Sign
+fn segment_register(num: u8) -> OperandEncoding
     requires { num < 6 }
     ensures { result ≡ segment_register num }
 {
     Fixed(RegisterSlot::Reg, RegSpec::seg(num))
 }
 
-fn at_rsi(slot: PointerSlot, prefixes: &Prefixes) -> Sign
+fn at_rsi(slot: PointerSlot, prefixes: &Prefixes) -> OperandEncoding
     ensures { result ≡ at_rsi slot prefixes.now }
 {
     Pointer(slot, RegSpec::of(6, pointer_class(prefixes)))
 }
 
-fn at_rdi(slot: PointerSlot, prefixes: &Prefixes) -> Sign
+fn at_rdi(slot: PointerSlot, prefixes: &Prefixes) -> OperandEncoding
     ensures { result ≡ at_rdi slot prefixes.now }
 {
     Pointer(slot, RegSpec::of(7, pointer_class(prefixes)))
 }
 
-fn source_string(prefixes: &Prefixes) -> Sign
+fn source_string(prefixes: &Prefixes) -> OperandEncoding
     ensures { result ≡ source_string prefixes.now }
 {
     if prefixes.address_size() {
@@ -69,7 +69,7 @@ fn source_string(prefixes: &Prefixes) -> Sign
     }
 }
 
-fn target_string(prefixes: &Prefixes) -> Sign
+fn target_string(prefixes: &Prefixes) -> OperandEncoding
     ensures { result ≡ target_string prefixes.now }
 {
     if prefixes.address_size() {
@@ -79,13 +79,13 @@ fn target_string(prefixes: &Prefixes) -> Sign
     }
 }
 
-fn wide_rsi() -> Sign
+fn wide_rsi() -> OperandEncoding
     ensures { result ≡ wide_rsi }
 {
     Pointer(PointerSlot::Deref, RegSpec::q(6))
 }
 
-fn wide_rdi() -> Sign
+fn wide_rdi() -> OperandEncoding
     ensures { result ≡ wide_rdi }
 {
     Pointer(PointerSlot::Deref, RegSpec::q(7))
@@ -95,7 +95,7 @@ fn sets_es(plan: Plan) -> Plan
     ensures { result ≡ sets_es plan }
 {
     Plan {
-        mark: Mark::SetsEs,
+        change: PrefixChange::SetsEs,
         ..plan
     }
 }
@@ -183,7 +183,7 @@ fn string_plan(form: Form, opcode: Opcode, prefixes: &Prefixes, modrm: ModRM) ->
     }
 }
 
-/// The plan of a form that no row describes.
+/// The plan of a form that no line describes.
 pub fn peculiar_plan(form: Form, opcode: Opcode, prefixes: &Prefixes, modrm: ModRM) -> Plan
     requires { IsForm form }
     ensures { result ≡ peculiar_plan form opcode prefixes.now modrm }

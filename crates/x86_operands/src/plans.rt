@@ -6,7 +6,7 @@ use x86_fields::{ModRM, Prefixes, extend};
 use x86_opcodes::Opcode;
 use x86_regs::{RegSpec, RegisterClass};
 
-/// The slot of a register that isn't one of ModRM's by its sign.
+/// The slot of a register that the encoding of its operand doesn't tell.
 #[derive(Clone, Copy, PartialEq, Eq, Debug, Drop)]
 pub enum RegisterSlot {
     Reg,
@@ -26,7 +26,7 @@ pub enum PointerSlot {
 
 /// What a record asks for one operand, in the letters of the Intel SDM, volume 2, appendix A.2.
 #[derive(Clone, Copy, PartialEq, Eq, Debug, Drop)]
-pub enum Sign {
+pub enum OperandEncoding {
     /// The register of reg, with R.
     G(RegisterClass),
     /// The mm register of reg, without R.
@@ -75,14 +75,14 @@ pub enum Sign {
     Address64,
 }
 
-/// The signs of a record, at most four.
+/// The operand encodings of a record, at most four.
 #[derive(Clone, Copy, PartialEq, Eq, Debug, Drop)]
-pub enum Signs {
+pub enum OperandEncodings {
     Zero,
-    One(Sign),
-    Two(Sign, Sign),
-    Three(Sign, Sign, Sign),
-    Four(Sign, Sign, Sign, Sign),
+    One(OperandEncoding),
+    Two(OperandEncoding, OperandEncoding),
+    Three(OperandEncoding, OperandEncoding, OperandEncoding),
+    Four(OperandEncoding, OperandEncoding, OperandEncoding, OperandEncoding),
 }
 
 /// Behind which byte a record refuses.
@@ -115,7 +115,7 @@ pub enum Verdict {
 
 /// What a record changes in the prefixes of its answer.
 #[derive(Clone, Copy, PartialEq, Eq, Debug, Drop)]
-pub enum Mark {
+pub enum PrefixChange {
     Keeps,
     ClearsOperandSize,
     SetsEs,
@@ -127,7 +127,7 @@ pub enum ModrmUse {
     /// No ModRM byte.
     Absent,
     /// A ModRM byte, whose memory forms have SIB and displacement.
-    Fields,
+    EitherForm,
     /// A ModRM byte of which every mod is a register form.
     Registers,
 }
@@ -138,39 +138,39 @@ pub struct Plan {
     /// The operation, unless a suffix names it.
     pub opcode: Opcode,
     /// What each operand is, in their order, which is that of their immediates too.
-    pub signs: Signs,
+    pub encodings: OperandEncodings,
     /// The size in bytes of what is read or written in memory: 0 for none, and 63 where the processor decides.
     pub size: u8,
     /// What changes in the prefixes of the answer.
-    pub mark: Mark,
+    pub change: PrefixChange,
     /// Whether there is an answer.
     pub verdict: Verdict,
 }
 
-fn with_verdict(verdict: Verdict, opcode: Opcode, signs: Signs, size: u8) -> Plan
-    ensures { result ≡ with_verdict verdict opcode signs size }
+fn with_verdict(verdict: Verdict, opcode: Opcode, encodings: OperandEncodings, size: u8) -> Plan
+    ensures { result ≡ with_verdict verdict opcode encodings size }
 {
     Plan {
         opcode,
-        signs,
+        encodings,
         size,
-        mark: Mark::Keeps,
+        change: PrefixChange::Keeps,
         verdict,
     }
 }
 
 /// The plan that accepts.
-pub fn reads(opcode: Opcode, signs: Signs, size: u8) -> Plan
-    ensures { result ≡ reads opcode signs size }
+pub fn reads(opcode: Opcode, encodings: OperandEncodings, size: u8) -> Plan
+    ensures { result ≡ reads opcode encodings size }
 {
-    with_verdict(Verdict::Accepts, opcode, signs, size)
+    with_verdict(Verdict::Accepts, opcode, encodings, size)
 }
 
 /// The plan whose opcode is named by a last byte.
-pub fn named_by_suffix(signs: Signs, size: u8) -> Plan
-    ensures { result ≡ named_by_suffix signs size }
+pub fn named_by_suffix(encodings: OperandEncodings, size: u8) -> Plan
+    ensures { result ≡ named_by_suffix encodings size }
 {
-    with_verdict(Verdict::NamedBySuffix, Opcode::Invalid, signs, size)
+    with_verdict(Verdict::NamedBySuffix, Opcode::Invalid, encodings, size)
 }
 
 /// The plan that refuses.
@@ -180,7 +180,7 @@ pub fn refuses(fault: Fault, moment: Moment) -> Plan
     with_verdict(
         Verdict::Refuses(fault, moment),
         Opcode::Invalid,
-        Signs::Zero,
+        OperandEncodings::Zero,
         0,
     )
 }
@@ -247,20 +247,20 @@ pub fn register_at(num: u8, class: RegisterClass, prefixes: &Prefixes) -> RegSpe
 }
 
 /// Register 0 of a class.
-pub fn accumulator_of(class: RegisterClass, prefixes: &Prefixes) -> Sign
+pub fn accumulator_of(class: RegisterClass, prefixes: &Prefixes) -> OperandEncoding
     ensures { result ≡ accumulator_of class prefixes.now }
 {
-    Sign::Fixed(RegisterSlot::Reg, prefixes.register(class, 0))
+    OperandEncoding::Fixed(RegisterSlot::Reg, prefixes.register(class, 0))
 }
 
 /// The immediate of a class v.
 #[inline(always)]
-pub fn immediate_of(class: RegisterClass) -> Sign
+pub fn immediate_of(class: RegisterClass) -> OperandEncoding
     ensures { result ≡ immediate_of class }
 {
     match class {
-        RegisterClass::W => Sign::I16,
-        RegisterClass::Q => Sign::I64,
-        _ => Sign::I32,
+        RegisterClass::W => OperandEncoding::I16,
+        RegisterClass::Q => OperandEncoding::I64,
+        _ => OperandEncoding::I32,
     }
 }

@@ -1,16 +1,18 @@
 //! The one reader of plans: what a record asks behind its opcode byte.
-ghost use Rattle.x86_operands.specs.Encodings.{held, no_operands, placed_reading, given_from, sign_put};
+ghost use Rattle.x86_operands.specs.Encodings.{held, no_operands, reading_with, given_from, put_encoded};
 ghost use Rattle.std.specs.Prelude.{◌≡◌, ℕ, ◌<◌, ◌∷◌, []};
 ghost use Rattle.x86_arch.specs.Reader.{State};
 ghost use Rattle.x86_fields.specs.Steps.{outcome};
 ghost use Rattle.x86_operands.specs.Plans.{list_of};
 ghost use Rattle.x86_operands.specs.Suffix.{suffix_opcode};
-ghost use Rattle.x86_operands.specs.Signs.{given_step, error_of, refuse_at, read_opcode, read_memory, apply, read_plan, read_modrm, refuse_fault};
+ghost use Rattle.x86_operands.specs.PlanSteps.{given_step, error_of, refuse_at, read_opcode, read_memory, changed, read_plan, read_modrm, refuse_fault};
 
 use crate::asks::used_modrm;
+use crate::operand_list::Operands;
 use crate::operands::{Operand, Slot};
-use crate::placing::Operands;
-use crate::plans::{Fault, Mark, ModrmUse, Moment, Plan, Sign, Signs, Verdict};
+use crate::plans::{
+    Fault, ModrmUse, Moment, OperandEncoding, OperandEncodings, Plan, PrefixChange, Verdict,
+};
 use x86_arch::Reader;
 use x86_fields::{DecodeError, ModRM, Prefixes, Raw, next_byte, read_raw};
 use x86_opcodes::Opcode;
@@ -20,7 +22,7 @@ use x86_opcodes::Opcode;
 pub struct Reading {
     /// The operation: that of the row, or the one that ModRM or a suffix chose.
     pub opcode: Opcode,
-    /// How many operands there are, at most 4. At this place and above it slots and operands are `Nothing`.
+    /// How many operands there are, at most 4. At this index and above it slots and operands are `Nothing`.
     pub count: u8,
     /// Where each operand comes from.
     pub slots: [Slot; 4],
@@ -97,15 +99,15 @@ pub fn suffix_opcode(byte: u8) -> Option<Opcode>
 
 /// The plan's opcode, or the one that the suffix names.
 fn read_opcode<T: Reader<u64, u8>>(
-    words: &mut T,
+    reader: &mut T,
     verdict: Verdict,
     opcode: Opcode,
 ) -> Result<Opcode, DecodeError>
-    ensures { outcome result (T.state words.new) ≡ read_opcode verdict opcode (T.state words.old) }
+    ensures { outcome result (T.state reader.new) ≡ read_opcode verdict opcode (T.state reader.old) }
 {
     match verdict {
         Verdict::NamedBySuffix => {
-            let byte = next_byte(words)?;
+            let byte = next_byte(reader)?;
             suffix_opcode(byte).ok_or(DecodeError::InvalidOpcode)
         }
         Verdict::Accepts | Verdict::Refuses(_, _) => Ok(opcode),
@@ -114,93 +116,93 @@ fn read_opcode<T: Reader<u64, u8>>(
 
 /// The memory operand's bytes, in the memory form.
 fn read_memory<T: Reader<u64, u8>>(
-    words: &mut T,
+    reader: &mut T,
     prefixes: &Prefixes,
     modrm: ModRM,
 ) -> Result<Option<Raw>, DecodeError>
-    ensures { outcome result (T.state words.new) ≡ read_memory prefixes.now modrm (T.state words.old) }
+    ensures { outcome result (T.state reader.new) ≡ read_memory prefixes.now modrm (T.state reader.old) }
 {
     if modrm.is_memory() {
-        let raw = read_raw(words, prefixes, modrm.byte())?;
+        let raw = read_raw(reader, prefixes, modrm.byte())?;
         Ok(Some(raw))
     } else {
         Ok(None)
     }
 }
 
-fn apply(mark: Mark, prefixes: Prefixes) -> Prefixes
-    ensures { result ≡ apply mark prefixes }
+fn changed(change: PrefixChange, prefixes: Prefixes) -> Prefixes
+    ensures { result ≡ changed change prefixes }
 {
-    match mark {
-        Mark::Keeps => prefixes,
-        Mark::ClearsOperandSize => prefixes.without_operand_size(),
-        Mark::SetsEs => prefixes.with_es(),
+    match change {
+        PrefixChange::Keeps => prefixes,
+        PrefixChange::ClearsOperandSize => prefixes.without_operand_size(),
+        PrefixChange::SetsEs => prefixes.with_es(),
     }
 }
 
 impl Operands {
-    /// What a sign gives, at an index: `put_sign` behind one call, since it is large.
+    /// What an operand encoding gives, at an index: `put_encoded` behind one call, since it is large.
     #[inline(never)]
     fn put_operand<T: Reader<u64, u8>>(
         &mut self,
         at: usize,
-        words: &mut T,
-        sign: Sign,
+        reader: &mut T,
+        encoding: OperandEncoding,
         prefixes: &Prefixes,
         modrm: ModRM,
         memory: Option<Raw>,
     ) -> Result<(), DecodeError>
         requires { at < 4 }
-        ensures { outcome (held result self.new) (T.state words.new) ≡ sign_put at sign prefixes.now modrm memory self.old (T.state words.old) }
+        ensures { outcome (held result self.new) (T.state reader.new) ≡ put_encoded at encoding prefixes.now modrm memory self.old (T.state reader.old) }
     {
-        self.put_sign(at, words, sign, prefixes, modrm, memory)
+        self.put_encoded(at, reader, encoding, prefixes, modrm, memory)
     }
 
     /// The operands in order, each with its immediate.
-    #[tactic(auto, unfolding(crate::specs::Signs::given_step, crate::specs::Signs::signs_step))]
-    fn put_signs<T: Reader<u64, u8>>(
+    #[tactic(auto, unfolding(crate::specs::PlanSteps::given_step, crate::specs::PlanSteps::operands_step))]
+    fn put_operands<T: Reader<u64, u8>>(
         &mut self,
-        words: &mut T,
-        signs: Signs,
+        reader: &mut T,
+        encodings: OperandEncodings,
         prefixes: &Prefixes,
         modrm: ModRM,
         memory: Option<Raw>,
     ) -> Result<(), DecodeError>
         requires { self.old ≡ no_operands }
-        ensures { outcome (held result (given_from self.new)) (T.state words.new) ≡ given_step (list_of signs) prefixes.now modrm memory (T.state words.old) }
+        ensures { outcome (held result (given_from self.new)) (T.state reader.new) ≡ given_step (list_of encodings) prefixes.now modrm memory (T.state reader.old) }
     {
-        match signs {
-            Signs::Zero => Ok(()),
-            Signs::One(a) => {
+        match encodings {
+            OperandEncodings::Zero => Ok(()),
+            OperandEncodings::One(a) => {
                 self.count = 1;
-                self.put_operand(0, words, a, prefixes, modrm, memory)
+                self.put_operand(0, reader, a, prefixes, modrm, memory)
             }
-            Signs::Two(a, b) => {
+            OperandEncodings::Two(a, b) => {
                 self.count = 2;
-                self.put_operand(0, words, a, prefixes, modrm, memory)?;
-                self.put_operand(1, words, b, prefixes, modrm, memory)
+                self.put_operand(0, reader, a, prefixes, modrm, memory)?;
+                self.put_operand(1, reader, b, prefixes, modrm, memory)
             }
-            Signs::Three(a, b, c) => {
+            OperandEncodings::Three(a, b, c) => {
                 self.count = 3;
-                self.put_operand(0, words, a, prefixes, modrm, memory)?;
-                self.put_operand(1, words, b, prefixes, modrm, memory)?;
-                self.put_operand(2, words, c, prefixes, modrm, memory)
+                self.put_operand(0, reader, a, prefixes, modrm, memory)?;
+                self.put_operand(1, reader, b, prefixes, modrm, memory)?;
+                self.put_operand(2, reader, c, prefixes, modrm, memory)
             }
-            Signs::Four(a, b, c, d) => {
+            OperandEncodings::Four(a, b, c, d) => {
                 self.count = 4;
-                self.put_operand(0, words, a, prefixes, modrm, memory)?;
-                self.put_operand(1, words, b, prefixes, modrm, memory)?;
-                self.put_operand(2, words, c, prefixes, modrm, memory)?;
-                self.put_operand(3, words, d, prefixes, modrm, memory)
+                self.put_operand(0, reader, a, prefixes, modrm, memory)?;
+                self.put_operand(1, reader, b, prefixes, modrm, memory)?;
+                self.put_operand(2, reader, c, prefixes, modrm, memory)?;
+                self.put_operand(3, reader, d, prefixes, modrm, memory)
             }
         }
     }
 }
 
 /// What a record asks behind its ModRM, written to what was blank.
-#[tactic(auto, unfolding(crate::specs::Signs::read_plan))]
-pub fn place_plan<T: Reader<u64, u8>>(
-    words: &mut T,
+#[tactic(auto, unfolding(crate::specs::PlanSteps::read_plan))]
+pub fn read_plan_into<T: Reader<u64, u8>>(
+    reader: &mut T,
     plan: &Plan,
     modrm: ModRM,
     prefixes: &mut Prefixes,
@@ -208,27 +210,27 @@ pub fn place_plan<T: Reader<u64, u8>>(
     given: &mut Operands,
 ) -> Result<(), DecodeError>
     requires { given.old ≡ no_operands }
-    ensures { outcome (held result (placed_reading opcode.new prefixes.new given.new)) (T.state words.new) ≡ read_plan plan.now prefixes.old modrm (T.state words.old) }
+    ensures { outcome (held result (reading_with opcode.new prefixes.new given.new)) (T.state reader.new) ≡ read_plan plan.now prefixes.old modrm (T.state reader.old) }
 {
     refuse_at(plan.verdict, Moment::AtModRM)?;
-    let memory = read_memory(words, prefixes, modrm)?;
+    let memory = read_memory(reader, prefixes, modrm)?;
     refuse_at(plan.verdict, Moment::AfterAddress)?;
-    given.put_signs(words, plan.signs, prefixes, modrm, memory)?;
-    *opcode = read_opcode(words, plan.verdict, plan.opcode)?;
+    given.put_operands(reader, plan.encodings, prefixes, modrm, memory)?;
+    *opcode = read_opcode(reader, plan.verdict, plan.opcode)?;
     refuse_at(plan.verdict, Moment::AfterSuffix)?;
     given.mem_size = plan.size;
-    *prefixes = apply(plan.mark, *prefixes);
+    *prefixes = changed(plan.change, *prefixes);
     Ok(())
 }
 
 /// The ModRM byte as a row uses it.
-pub fn read_modrm<T: Reader<u64, u8>>(words: &mut T, modrm: ModrmUse) -> Result<ModRM, DecodeError>
-    ensures { outcome result (T.state words.new) ≡ read_modrm modrm (T.state words.old) }
+pub fn read_modrm<T: Reader<u64, u8>>(reader: &mut T, modrm: ModrmUse) -> Result<ModRM, DecodeError>
+    ensures { outcome result (T.state reader.new) ≡ read_modrm modrm (T.state reader.old) }
 {
     match modrm {
         ModrmUse::Absent => Ok(ModRM::absent()),
         _ => {
-            let byte = next_byte(words)?;
+            let byte = next_byte(reader)?;
             Ok(used_modrm(modrm, ModRM::new(byte)))
         }
     }
@@ -236,17 +238,17 @@ pub fn read_modrm<T: Reader<u64, u8>>(words: &mut T, modrm: ModrmUse) -> Result<
 
 /// What a record asks behind its ModRM.
 pub fn read_plan<T: Reader<u64, u8>>(
-    words: &mut T,
+    reader: &mut T,
     plan: &Plan,
     prefixes: Prefixes,
     modrm: ModRM,
 ) -> Result<Reading, DecodeError>
-    ensures { outcome result (T.state words.new) ≡ read_plan plan.now prefixes modrm (T.state words.old) }
+    ensures { outcome result (T.state reader.new) ≡ read_plan plan.now prefixes modrm (T.state reader.old) }
 {
     let mut prefixes = prefixes;
     let mut opcode = plan.opcode;
     let mut given = Operands::none();
-    place_plan(words, plan, modrm, &mut prefixes, &mut opcode, &mut given)?;
+    read_plan_into(reader, plan, modrm, &mut prefixes, &mut opcode, &mut given)?;
     Ok(Reading {
         opcode,
         count: given.count,

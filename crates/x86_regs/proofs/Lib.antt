@@ -1,2 +1,2 @@
 -- The lemmas on names of registers.
-mod NameLaws
+mod NameLemmas

@@ -102,11 +102,11 @@ fn names_of(class: RegisterClass) -> &'static [&'static str]
     }
 }
 
-/// The text at a place, or none behind the last.
-fn text_at(texts: &[&'static str], place: u8) -> &'static str
-    ensures { result.now ≡ unwrap_or (slice_get (map (λ text. text.now) texts.now) place) [] }
+/// The text with a number, or none behind the last.
+fn text_at(texts: &[&'static str], number: u8) -> &'static str
+    ensures { result.now ≡ unwrap_or (slice_get (map (λ text. text.now) texts.now) number) [] }
 {
-    match texts.get(place as usize) {
+    match texts.get(number as usize) {
         Some(text) => text,
         None => "",
     }

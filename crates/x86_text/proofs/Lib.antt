@@ -1,3 +1,3 @@
 -- The lemmas on texts of operands and on places.
-pub mod OperandLaws
-pub mod PlaceLaws
+pub mod OperandLemmas
+pub mod PlaceLemmas

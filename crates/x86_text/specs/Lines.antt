@@ -16,7 +16,7 @@ undecided_size = 63
 abbrev pub size_text : ℕ → List ℕ
 size_text size = if size == undecided_size then codes "?" else decimal size
 
--- the operands that an instruction has, of its four places
+-- the operands that an instruction has, of the four for which it has room
 abbrev pub shown_operands : Instruction → List Operand
 shown_operands i = take i.given.count (operand_at i 0 ∷ operand_at i 1 ∷ operand_at i 2 ∷ operand_at i 3 ∷ [])
 

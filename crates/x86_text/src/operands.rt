@@ -9,21 +9,21 @@ use crate::room::{LINE_ROOM, Line};
 use x86_operands::Operand;
 use x86_regs::RegSpec;
 
-fn push_signed(line: &mut Line, mark: &[u8], n: i64)
-    requires { array_vec_len line.old + length mark.now + 20 ≤ LINE_ROOM }
-    ensures text { line.new.items ≡ line.old.items ++ mark.now ++ signed_decimal n }
-    ensures short { array_vec_len line.new ≤ array_vec_len line.old + length mark.now + 20 }
+fn push_signed(line: &mut Line, label: &[u8], n: i64)
+    requires { array_vec_len line.old + length label.now + 20 ≤ LINE_ROOM }
+    ensures text { line.new.items ≡ line.old.items ++ label.now ++ signed_decimal n }
+    ensures short { array_vec_len line.new ≤ array_vec_len line.old + length label.now + 20 }
 {
-    line.extend(mark);
+    line.extend(label);
     line.push_i64(n);
 }
 
-fn push_unsigned(line: &mut Line, mark: &[u8], n: u64)
-    requires { array_vec_len line.old + length mark.now + 20 ≤ LINE_ROOM }
-    ensures text { line.new.items ≡ line.old.items ++ mark.now ++ decimal n }
-    ensures short { array_vec_len line.new ≤ array_vec_len line.old + length mark.now + 20 }
+fn push_unsigned(line: &mut Line, label: &[u8], n: u64)
+    requires { array_vec_len line.old + length label.now + 20 ≤ LINE_ROOM }
+    ensures text { line.new.items ≡ line.old.items ++ label.now ++ decimal n }
+    ensures short { array_vec_len line.new ≤ array_vec_len line.old + length label.now + 20 }
 {
-    line.extend(mark);
+    line.extend(label);
     line.push_u64(n);
 }
 
@@ -105,12 +105,12 @@ fn push_moved_index(line: &mut Line, base: Option<RegSpec>, index: &RegSpec, sca
     line.push(b']');
 }
 
-fn push_absolute(line: &mut Line, mark: &[u8], addr: u64)
-    requires { array_vec_len line.old + length mark.now + 21 ≤ LINE_ROOM }
-    ensures text { line.new.items ≡ line.old.items ++ mark.now ++ decimal addr ++ codes "]" }
-    ensures short { array_vec_len line.new ≤ array_vec_len line.old + length mark.now + 21 }
+fn push_absolute(line: &mut Line, label: &[u8], addr: u64)
+    requires { array_vec_len line.old + length label.now + 21 ≤ LINE_ROOM }
+    ensures text { line.new.items ≡ line.old.items ++ label.now ++ decimal addr ++ codes "]" }
+    ensures short { array_vec_len line.new ≤ array_vec_len line.old + length label.now + 21 }
 {
-    push_unsigned(line, mark, addr);
+    push_unsigned(line, label, addr);
     line.push(b']');
 }
 

@@ -23,18 +23,18 @@ fn column(prefixes: &Prefixes) -> Column {
 }
 
 /// The map and the opcode byte, where `byte` is the first behind the prefixes.
-fn opcode<T: Reader<u64, u8>>(words: &mut T, byte: u8) -> Result<(Map, u8), DecodeError> {
+fn opcode<T: Reader<u64, u8>>(reader: &mut T, byte: u8) -> Result<(Map, u8), DecodeError> {
     if byte != 0x0f {
         return Ok((Map::One, byte));
     }
-    let second = next_byte(words)?;
+    let second = next_byte(reader)?;
     match second {
         0x38 => {
-            let third = next_byte(words)?;
+            let third = next_byte(reader)?;
             Ok((Map::Of38, third))
         }
         0x3a => {
-            let third = next_byte(words)?;
+            let third = next_byte(reader)?;
             Ok((Map::Of3a, third))
         }
         _ => Ok((Map::Of, second)),
@@ -52,12 +52,12 @@ fn refuse_vex(prefixes: &Prefixes, byte: u8) -> Result<(), DecodeError> {
 }
 
 fn read_row<T: Reader<u64, u8>>(
-    words: &mut T,
+    reader: &mut T,
     prefixes: Prefixes,
     byte: u8,
     strict: bool,
 ) -> Result<Reading, DecodeError> {
-    let (map, byte) = opcode(words, byte)?;
+    let (map, byte) = opcode(reader, byte)?;
     let column = column(&prefixes);
     let Some(found) = row(map, column, byte) else {
         return Err(DecodeError::InvalidOpcode);
@@ -69,21 +69,21 @@ fn read_row<T: Reader<u64, u8>>(
         prefixes
     };
     if found.form.is_group() {
-        read_group(words, found, seen, strict)
+        read_group(reader, found, seen, strict)
     } else {
-        read_form(words, found, seen)
+        read_form(reader, found, seen)
     }
 }
 
-fn read_all<T: Reader<u64, u8>>(words: &mut T, strict: bool) -> Result<Reading, DecodeError> {
+fn read_all<T: Reader<u64, u8>>(reader: &mut T, strict: bool) -> Result<Reading, DecodeError> {
     let mut prefixes = Prefixes::none();
     for _ in 0..16u8 {
-        let byte = next_byte(words)?;
+        let byte = next_byte(reader)?;
         if is_legacy(byte) || is_rex(byte) {
             prefixes = prefixes.after(byte);
         } else {
             refuse_vex(&prefixes, byte)?;
-            return read_row(words, prefixes, byte, strict);
+            return read_row(reader, prefixes, byte, strict);
         }
     }
     Err(DecodeError::TooLong)
@@ -92,9 +92,9 @@ fn read_all<T: Reader<u64, u8>>(words: &mut T, strict: bool) -> Result<Reading, 
 /// The answer of the loop, and the bytes that it takes.
 fn plain(bytes: &[u8], strict: bool) -> (Result<Reading, DecodeError>, u64) {
     let room = if bytes.len() < 15 { bytes.len() } else { 15 };
-    let mut words = U8Reader::new(&bytes[..room]);
-    let answer = read_all(&mut words, strict);
-    let taken = words.offset();
+    let mut reader = U8Reader::new(&bytes[..room]);
+    let answer = read_all(&mut reader, strict);
+    let taken = reader.offset();
     match answer {
         Err(DecodeError::ExhaustedInput) if room == 15 => (Err(DecodeError::TooLong), 15),
         Ok(reading) if reading.prefixes.lock() => {
@@ -128,15 +128,15 @@ fn agree(bytes: &[u8], strict: bool) -> bool {
     } else {
         InstDecoder::default()
     };
-    let mut words = U8Reader::new(bytes);
-    let answer = decoder.decode(&mut words);
+    let mut reader = U8Reader::new(bytes);
+    let answer = decoder.decode(&mut reader);
     let (expected, taken) = plain(bytes, strict);
     let same = match (&answer, &expected) {
         (Ok(instruction), Ok(reading)) => is_same(instruction, reading, taken),
         (Err(left), Err(right)) => left == right,
         _ => false,
     };
-    same && words.offset() == taken
+    same && reader.offset() == taken
 }
 
 fn agree_on(bytes: &[u8]) -> bool {

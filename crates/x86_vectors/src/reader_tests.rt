@@ -6,16 +6,16 @@ use x86_forms::{Column, Map, Packed, Patched, Words, packed};
 
 #[test]
 fn numbers_and_offsets(rt: HostRuntime) {
-    let mut words = U8Reader::new(&[1, 2, 3]);
+    let mut reader = U8Reader::new(&[1, 2, 3]);
     let mut four = [0; 4];
-    assert!(rt; words.next_n(&mut four).is_err());
-    assert!(rt; words.offset() == 0);
-    assert!(rt; words.next() == Ok(1));
+    assert!(rt; reader.next_n(&mut four).is_err());
+    assert!(rt; reader.offset() == 0);
+    assert!(rt; reader.next() == Ok(1));
 
-    let mut words = U8Reader::new(&[0x03, 0x05, 0x00, 0x00]);
-    let answer = InstDecoder::default().decode(&mut words);
+    let mut reader = U8Reader::new(&[0x03, 0x05, 0x00, 0x00]);
+    let answer = InstDecoder::default().decode(&mut reader);
     assert!(rt; answer == Err(DecodeError::ExhaustedInput));
-    assert!(rt; words.offset() == 2);
+    assert!(rt; reader.offset() == 2);
 }
 
 #[test]
@@ -24,14 +24,14 @@ fn split_input(rt: HostRuntime) {
     let whole = InstDecoder::default().decode_slice(&bytes);
     assert!(rt; whole.is_ok());
     for cut in 0..=6usize {
-        let mut words = ChunkReader::new(&bytes[..cut], &bytes[cut..]);
-        assert!(rt; InstDecoder::default().decode(&mut words) == whole);
+        let mut reader = ChunkReader::new(&bytes[..cut], &bytes[cut..]);
+        assert!(rt; InstDecoder::default().decode(&mut reader) == whole);
     }
 }
 
 fn answer_by<W: Words>(rows: &W, bytes: &[u8]) -> Result<(&'static str, u64), DecodeError> {
-    let mut words = U8Reader::new(bytes);
-    let instruction = InstDecoder::default().decode_by(rows, &mut words)?;
+    let mut reader = U8Reader::new(bytes);
+    let instruction = InstDecoder::default().decode_by(rows, &mut reader)?;
     Ok((
         instruction.opcode().mnemonic(),
         instruction.len().to_const(),
@@ -73,12 +73,12 @@ fn patched_tables(rt: HostRuntime) {
 fn one_instruction_used_again(rt: HostRuntime) {
     let decoder = InstDecoder::default();
     let mut instruction = Instruction::default();
-    let mut words = U8Reader::new(&[0xf0, 0x01, 0x18, 0x06, 0x90]);
-    assert!(rt; decoder.decode_into(&mut instruction, &mut words).is_ok());
-    let refused = decoder.decode_into(&mut instruction, &mut words);
+    let mut reader = U8Reader::new(&[0xf0, 0x01, 0x18, 0x06, 0x90]);
+    assert!(rt; decoder.decode_into(&mut instruction, &mut reader).is_ok());
+    let refused = decoder.decode_into(&mut instruction, &mut reader);
     assert!(rt; refused == Err(DecodeError::InvalidOpcode));
     assert!(rt; instruction == Instruction::invalid());
-    assert!(rt; decoder.decode_into(&mut instruction, &mut words).is_ok());
+    assert!(rt; decoder.decode_into(&mut instruction, &mut reader).is_ok());
     assert!(rt; decoder.decode_slice(&[0x90]) == Ok(instruction));
 }
 

@@ -33,9 +33,9 @@ use Rattle.x86_cli.specs.Commands.Run.{Lists, Ran}
 use Rattle.x86_cli.specs.Commands.Causes.{HaveCauses}
 use Rattle.x86_cli.specs.Commands.Complete.{IsOneInstruction, AreSentences, CompletesTexts}
 use Rattle.x86_cli.specs.DecoderLaws.{DecoderLaws}
-use Rattle.x86_cli.proofs.TextLemmas.FrontLaws.{front-stays}
-use Rattle.x86_cli.proofs.ListingLemmas.ListingLaws.{listing-whole}
-use Rattle.x86_cli.proofs.ListingLemmas.SweepLaws.{end_unrefused}
+use Rattle.x86_cli.proofs.TextLemmas.Front.{front-stays}
+use Rattle.x86_cli.proofs.ListingLemmas.Listing.{listing-whole}
+use Rattle.x86_cli.proofs.ListingLemmas.Sweep.{end_unrefused}
 
 -- a status with which no listing of a text ends
 

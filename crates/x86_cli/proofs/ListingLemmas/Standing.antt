@@ -13,7 +13,7 @@ use Rattle.x86_cli.specs.Listings.Line.{line}
 use Rattle.x86_cli.specs.Listings.Listing.{Listing, with_lines, front_of, listing_from, listing_at}
 use Rattle.x86_cli.specs.Listings.Step.{IsStep}
 use Rattle.x86_cli.specs.Text.Window.{behind, rest_of}
-use Rattle.x86_cli.proofs.ListingLemmas.ListingLaws.{listing-whole, listing-refused, listing-ended}
+use Rattle.x86_cli.proofs.ListingLemmas.Listing.{listing-whole, listing-refused, listing-ended}
 
 module _ (strict : Bool) (text : ℕ → Instruction → List ℕ → List ℕ) where
   abbrev at : ℕ → Text → Listing

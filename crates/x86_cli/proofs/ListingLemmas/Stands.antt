@@ -13,7 +13,7 @@ use Rattle.x86_cli.specs.Text.Reading.{Asked, Gave, MayCome}
 use Rattle.x86_cli.specs.Listings.Listing.{Listing, with_lines}
 use Rattle.x86_cli.specs.Text.Window.{behind, rest_of, Open, Fills}
 use Rattle.x86_cli.specs.Commands.Run.{Took, Closes, Ran}
-use Rattle.x86_cli.proofs.TextLemmas.ReadLaws.{gave-gave, asked-asked, asked-same}
+use Rattle.x86_cli.proofs.TextLemmas.Read.{gave-gave, asked-asked, asked-same}
 
 pub with-with : (a b : List (List ℕ)) (l : Listing) → with_lines a (with_lines b l) ≡ with_lines (a ++ b) l
 with-with a b l = ap (λ ls. record { lines = ls; status = l.status }) (sym (append_assoc a b l.lines))

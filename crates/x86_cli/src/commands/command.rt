@@ -1,5 +1,6 @@
 //! Commands, and what each of them writes.
 
+ghost use Rattle.x86_decode.specs.Decoder.{is_strict};
 ghost use Rattle.std.specs.Prelude.{◌≡◌, ◌≢◌, ◌↔◌, ℕ, IsTrue, IfSome, Some, None, map, string_bytes};
 ghost use Rattle.x86_cli.specs.Outside.FaultCounts.{Rose};
 ghost use Rattle.x86_cli.specs.Commands.Command.{command_by, command_of, IfCommand, Runs, goes_past_refusals};
@@ -82,7 +83,7 @@ fn made_from(arguments: &[String]) -> Option<u32>
 }
 
 fn decoder(strict: bool) -> InstDecoder
-    ensures { result.strict ≡ strict }
+    ensures { is_strict result ≡ strict }
 {
     if strict {
         InstDecoder::strict()

@@ -2,6 +2,7 @@
 
 ghost use Rattle.std.specs.Prelude.{Bool, ℕ, List, Ok, ◌≡◌, ◌≤◌};
 ghost use Rattle.arrayvec.specs.ArrayVec.{array_vec_len};
+ghost use Rattle.x86_decode.specs.Decoder.{is_strict};
 ghost use Rattle.x86_decode.specs.declared.instructions.Instruction.{Instruction};
 ghost use Rattle.x86_decode.specs.Answer.{answer_of};
 ghost use Rattle.x86_text.specs.Lines.{line_of};
@@ -24,8 +25,8 @@ pub trait Lines {
         bytes: &[u8],
         line: &mut Line,
     )
-        requires { answer_of decoder.now.strict bytes.now ≡ Ok instruction.now }
-        ensures text { line.new.items ≡ text self.now decoder.now.strict place.now instruction.now bytes.now }
+        requires { answer_of (is_strict decoder.now) bytes.now ≡ Ok instruction.now }
+        ensures text { line.new.items ≡ text self.now (is_strict decoder.now) place.now instruction.now bytes.now }
         ensures short { array_vec_len line.new ≤ LINE_MAX };
 }
 

@@ -1,5 +1,6 @@
 //! The places that the instructions of a sweep branch to.
 
+ghost use Rattle.x86_decode.specs.Decoder.{is_strict};
 ghost use Rattle.std.specs.Prelude.{◌≡◌, ◌≢◌, ℕ, ◌*◌, ◌<◌, ◌≤◌, length, slice_index_or, true, false, decimal, None, Some, Err, OnOk, IfErr};
 ghost use Rattle.x86_cli.specs.Text.{text_of};
 ghost use Rattle.arrayvec.specs.ArrayVec.{array_vec_len};
@@ -46,7 +47,7 @@ fn read_whole<S: Source>(max: u64, source: &mut S) -> HeldText
 /// Marks the places of an image that the instructions of its sweep branch to.
 fn mark(decoder: &InstDecoder, image: &[u8], marks: &mut [bool; IMAGE_MAX])
     requires { length image.now ≤ IMAGE_MAX }
-    ensures { (p : ℕ) → p < length image.now → slice_index_or marks.new p false ≡ is_marked decoder.now.strict image.now p }
+    ensures { (p : ℕ) → p < length image.now → slice_index_or marks.new p false ≡ is_marked (is_strict decoder.now) image.now p }
 {
     mark_targets(decoder, image, &mut marks[..image.len()]);
 }
@@ -81,7 +82,7 @@ pub fn targets<S: Source, K: Sink>(
     sink: &mut K,
 ) -> Status
     requires { max ≤ 2 * IMAGE_MAX }
-    ensures ran { Ran S.gives K.takes (targets_at decoder.now.strict 0) max result source.old source.new sink.old sink.new }
+    ensures ran { Ran S.gives K.takes (targets_at (is_strict decoder.now) 0) max result source.old source.new sink.old sink.new }
     ensures unrefused { result ≢ Status.Refused }
 {
     let text = read_whole(max, source);

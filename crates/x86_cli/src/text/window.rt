@@ -3,6 +3,7 @@
 ghost use Rattle.std.specs.Prelude.{◌≡◌, ℕ, ◌+◌, ◌<◌, ◌≤◌, List, [], take, drop, None, Some, MatchOption};
 ghost use Rattle.arrayvec.specs.ArrayVec.{array_vec_len};
 ghost use Rattle.x86_cli.specs.Outside.Stop.{Stop};
+ghost use Rattle.x86_decode.specs.Decoder.{is_strict};
 ghost use Rattle.x86_decode.specs.declared.instructions.Instruction.{Instruction};
 ghost use Rattle.x86_decode.specs.Instruction.{holding};
 ghost use Rattle.x86_cli.specs.Listings.Listing.{front_of, judged, sure_of};
@@ -115,8 +116,8 @@ impl Window {
         requires { self.now.ended ≡ None → array_vec_len self.now.bytes ≡ 15 }
         ensures rest { (xs : List ℕ) (stop : Stop) →
             let rest = rest_of self.now.ended self.now.bytes.items self.now.reader.position self.now.reader.room xs stop in
-            front_of decoder.now.strict rest.image rest.ending ≡ front_with inst.new result }
-        ensures shows { Shows decoder.now.strict (front_with inst.new result) self.now.ended self.now.bytes.items }
+            front_of (is_strict decoder.now) rest.image rest.ending ≡ front_with inst.new result }
+        ensures shows { Shows (is_strict decoder.now) (front_with inst.new result) self.now.ended self.now.bytes.items }
     {
         decoder_laws();
         let answer = decoder.decode_slice_into(inst, self.bytes.as_slice());

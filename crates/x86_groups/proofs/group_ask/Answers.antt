@@ -1,6 +1,6 @@
 use Rattle.x86_operands.specs.Asks.{ask_of, used_modrm}
 use Rattle.x86_groups.specs.Groups.{group_record, group_modrm}
-use Rattle.x86_groups.proofs.AskLaws.{same_ask}
+use Rattle.x86_groups.proofs.AskLemmas.{same_ask}
 use Rattle.x86_groups.proofs.group_ask.Goals as goal
 
 pub returns : goal.returns

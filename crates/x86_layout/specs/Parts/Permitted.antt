@@ -17,7 +17,7 @@ use Rattle.x86_fields.specs.ModRM.{is_memory}
 use Rattle.x86_operands.specs.Pieces.{is_refusal}
 use Rattle.x86_operands.specs.Suffix.{suffix_opcode}
 use Rattle.x86_operands.specs.Asks.{asks_modrm, asks_suffix, immediates_width, record_at}
-use Rattle.x86_operands.specs.Signs.{record_step}
+use Rattle.x86_operands.specs.PlanSteps.{record_step}
 use Rattle.x86_decode.specs.Head.{is_run, column_of, is_opcode, seen_by}
 use Rattle.x86_decode.specs.declared.instructions.Instruction.{Instruction}
 use Rattle.x86_decode.specs.Grammar.{record_of, allows_lock, IsSentence}
@@ -84,7 +84,7 @@ has_asked_parts at f =
     (one_if (is_some f.modrm) == one_if (asks_modrm at.usage))
     && (one_if (is_some f.sib) == sib_width at.modrm)
     && (length f.displacement.items == displacement_asked at.modrm f.sib)
-    && (length f.immediate.items == immediates_width at.plan.signs)
+    && (length f.immediate.items == immediates_width at.plan.encodings)
     && (one_if (is_some f.suffix) == one_if (asks_suffix at.plan.verdict))
 
 -- what stands behind the opcode byte

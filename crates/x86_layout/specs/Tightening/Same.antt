@@ -15,7 +15,7 @@ use Rattle.x86_layout.specs.Tightening.Tighten.{bits_in}
 abbrev pub cleared : Prefixes → Prefixes
 cleared p = record p { rex = bits_in false false p.rex }
 
--- the slot and the operand at a place: nothing at the count and above
+-- the slot and the operand at an index: nothing at the count and above
 abbrev pub placed_at : Instruction → ℕ → Slot × Operand
 placed_at i k = (slot_at i k, operand_at i k)
 

@@ -15,7 +15,7 @@ use Rattle.x86_decode.specs.declared.instructions.Instruction.{Instruction}
 use Rattle.x86_decode.specs.Head.{escape_bytes}
 use Rattle.x86_decode.specs.Grammar.{IsSentence}
 use Rattle.x86_decode.specs.Answer.{answer_of}
-use Rattle.x86_decode.specs.Addresses.{is_modrm_sign, signs_within}
+use Rattle.x86_decode.specs.Addresses.{is_modrm_encoding, encodings_within}
 use Rattle.x86_layout.specs.declared.parts.split.Parts.{Parts}
 use Rattle.x86_layout.specs.declared.tightening.tighten.Addressed.{Addressed}
 use Rattle.x86_layout.specs.declared.tightening.tighten.TightenError.{TightenError}
@@ -110,7 +110,7 @@ module _ (strict : Bool) (s : List ℕ) (a : Reading) (v : Encoding strict s a) 
   pub record HasMemoryOperand : Type 0 where
     pub raw : Raw
     pub read : v.asked.behind.pieces.memory ≡ Some raw
-    pub written : list_any is_modrm_sign (signs_within (rows_of packed) strict s a v) ≡ true
+    pub written : list_any is_modrm_encoding (encodings_within (rows_of packed) strict s a v) ≡ true
 
   -- There is such an operand, and its base is the next instruction or isn't.
   pub record HasOperandForm (ip_relative : Bool) : Type 0 where
@@ -119,7 +119,7 @@ module _ (strict : Bool) (s : List ℕ) (a : Reading) (v : Encoding strict s a) 
 
   -- These are the parts of the encoding, and the raw fields of its memory operand, which isn't relative to the next
   -- instruction.
-  pub record HasFields (found : Addressed) : Type 0 where
+  pub record IsAddressed (found : Addressed) : Type 0 where
     pub parts : HasParts strict s a v (lists_of found.parts)
     pub read : v.asked.behind.pieces.memory ≡ Some found.raw
     pub form : is_ip_relative found.raw ≡ false

@@ -5,6 +5,7 @@ ghost use Rattle.arrayvec.specs.ArrayVec.{array_vec_len};
 ghost use Rattle.x86_fields.specs.Pieces.{option_bytes};
 ghost use Rattle.x86_forms.specs.Words.{IsForm};
 ghost use Rattle.x86_operands.specs.Pieces.{is_refusal};
+ghost use Rattle.x86_decode.specs.Decoder.{is_strict};
 ghost use Rattle.x86_decode.specs.Head.{is_run};
 ghost use Rattle.x86_layout.specs.Parts.Split.{joined};
 ghost use Rattle.x86_layout.specs.Parts.Fields.{lists_in};
@@ -130,7 +131,7 @@ pub fn push_byte(bytes: &mut ArrayVec<u8, 15>, part: Option<u8>)
 }
 
 /// What stands behind the opcode byte, at most 15 bytes.
-#[tactic(auto, using(crate::proofs::PartLemmas::PartLaws::option_short))]
+#[tactic(auto, using(crate::proofs::PartLemmas::Part::option_short))]
 fn tail_of(fields: &Fields) -> ArrayVec<u8, 15>
     ensures { result.items ≡ tail_of fields.now }
 {
@@ -207,9 +208,9 @@ fn emit_row(strict: bool, entry: &Entry, fields: &Fields) -> Result<ArrayVec<u8,
 /// The fields of the split of `48 03 44 25 00` give these bytes again, and `Shape` where their SIB is taken away.
 #[tactic(auto, unfolding(crate::specs::Parts::Permitted::first_failing))]
 pub fn emit(decoder: &InstDecoder, fields: &Fields) -> Result<ArrayVec<u8, 15>, EmitError>
-    ensures permitted { IsOk result ↔ IsPermitted decoder.now.strict fields.now }
+    ensures permitted { IsOk result ↔ IsPermitted (is_strict decoder.now) fields.now }
     ensures bytes { IfOk result (λ bytes. bytes.items ≡ joined (lists_in fields.now)) }
-    ensures first { IfErr result (λ error. first_failing decoder.now.strict fields.now ≡ Some error) }
+    ensures first { IfErr result (λ error. first_failing (is_strict decoder.now) fields.now ≡ Some error) }
 {
     if !is_run(fields.prefixes.as_slice()) {
         return Err(EmitError::Prefixes);

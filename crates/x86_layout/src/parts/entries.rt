@@ -23,7 +23,7 @@ pub struct Entry {
 }
 
 /// The map of an escape, where it is one of the four.
-#[tactic(auto, using(crate::proofs::PartLemmas::PartLaws::map_named_is))]
+#[tactic(auto, using(crate::proofs::PartLemmas::Part::map_named_is))]
 fn map_named(escape: &[u8]) -> Option<Map>
     ensures { result ≡ map_named escape.now }
 {

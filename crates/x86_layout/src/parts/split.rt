@@ -6,6 +6,7 @@ ghost use Rattle.x86_operands.specs.declared.reader.Reading.{Reading};
 ghost use Rattle.x86_operands.specs.Plans.{RowRecord};
 ghost use Rattle.x86_operands.specs.Pieces.{SpellsRow};
 ghost use Rattle.x86_operands.specs.Asks.{ask_of};
+ghost use Rattle.x86_decode.specs.Decoder.{is_strict};
 ghost use Rattle.x86_decode.specs.Answer.{answer_of};
 ghost use Rattle.x86_layout.specs.Parts.Heads.{asks_sib, IsTail};
 ghost use Rattle.x86_layout.specs.Parts.Split.{lists_of, IsSplit};
@@ -78,9 +79,9 @@ pub fn split_decoded<'a>(
     instruction: &Instruction,
     bytes: &'a [u8],
 ) -> Parts<'a>
-    requires decoded { answer_of decoder.now.strict bytes.now ≡ Ok instruction.now }
-    ensures pieces { IsSplit decoder.now.strict bytes.now result }
-    ensures value { lists_of result ≡ parts_of decoder.now.strict bytes.now }
+    requires decoded { answer_of (is_strict decoder.now) bytes.now ≡ Ok instruction.now }
+    ensures pieces { IsSplit (is_strict decoder.now) bytes.now result }
+    ensures value { lists_of result ≡ parts_of (is_strict decoder.now) bytes.now }
     ensures lengths { HasFieldLengths (lists_of result) }
 {
     laws::lengths();
@@ -94,8 +95,8 @@ pub fn split_decoded<'a>(
 ///
 /// For `48 03 44 25 00 90` the prefixes are 48, the opcode is 03, ModRM is 44, SIB is 25 and the displacement is 00.
 pub fn split<'a>(decoder: &InstDecoder, bytes: &'a [u8]) -> Result<Parts<'a>, DecodeError>
-    ensures pieces { MatchResult result (λ parts. IsSplit decoder.now.strict bytes.now parts) (λ error. answer_of decoder.now.strict bytes.now ≡ Err error) }
-    ensures value { IfOk result (λ parts. lists_of parts ≡ parts_of decoder.now.strict bytes.now) }
+    ensures pieces { MatchResult result (λ parts. IsSplit (is_strict decoder.now) bytes.now parts) (λ error. answer_of (is_strict decoder.now) bytes.now ≡ Err error) }
+    ensures value { IfOk result (λ parts. lists_of parts ≡ parts_of (is_strict decoder.now) bytes.now) }
     ensures lengths { IfOk result (λ parts. HasFieldLengths (lists_of parts)) }
 {
     let instruction = decoder.decode_slice(bytes)?;

@@ -1,5 +1,6 @@
 //! One piece of a sweep.
 
+ghost use Rattle.x86_decode.specs.Decoder.{is_strict};
 ghost use Rattle.std.specs.Prelude.{◌≡◌, ◌+◌, ◌<◌, ◌≤◌, length};
 ghost use Rattle.x86_layout.specs.Sweeps.Cuts.{cut_at, cut_length};
 
@@ -30,7 +31,7 @@ fn length_by(answer: &Result<Instruction, DecodeError>) -> u64
 /// The cut at the front of the bytes, which stand from a place on.
 pub fn first_cut(decoder: &InstDecoder, place: usize, rest: &[u8]) -> Cut
     requires { 0 < length rest.now }
-    ensures cut { result ≡ cut_at decoder.now.strict place rest.now }
+    ensures cut { result ≡ cut_at (is_strict decoder.now) place rest.now }
     ensures some { 0 < result.length }
     ensures within { result.length ≤ length rest.now }
 {

@@ -1,5 +1,6 @@
 //! The places of bytes that the instructions of a sweep branch to.
 
+ghost use Rattle.x86_decode.specs.Decoder.{is_strict};
 ghost use Rattle.std.specs.Prelude.{◌≡◌, ◌+◌, ◌^◌, ◌<◌, ◌≤◌, ◌&&◌, ◌||◌, ℕ, Bool, not, false, length, slice_index_or};
 ghost use Rattle.std.specs.List.{list_any};
 ghost use Rattle.x86_layout.specs.Sweeps.Cuts.{cuts_of};
@@ -56,7 +57,7 @@ fn clear(marks: &mut [bool])
 /// Marks the target of each cut.
 fn mark_targets_of(decoder: &InstDecoder, bytes: &[u8], marks: &mut [bool])
     requires { length bytes.now ≡ length marks.old }
-    ensures { (p : ℕ) → p < length marks.old → slice_index_or marks.new p false ≡ (slice_index_or marks.old p false || list_any (targets p) (cuts_of decoder.now.strict bytes.now)) }
+    ensures { (p : ℕ) → p < length marks.old → slice_index_or marks.new p false ≡ (slice_index_or marks.old p false || list_any (targets p) (cuts_of (is_strict decoder.now) bytes.now)) }
 {
     laws::lengths();
     for cut in Sweep::new(*decoder, bytes) {
@@ -67,7 +68,7 @@ fn mark_targets_of(decoder: &InstDecoder, bytes: &[u8], marks: &mut [bool])
 /// Takes the marks inside the cuts away, so that marks are left at their places alone.
 fn clear_inside_all(decoder: &InstDecoder, bytes: &[u8], marks: &mut [bool])
     requires { length bytes.now ≡ length marks.old }
-    ensures { (p : ℕ) → p < length marks.old → slice_index_or marks.new p false ≡ (slice_index_or marks.old p false && list_any (begins_at p) (cuts_of decoder.now.strict bytes.now)) }
+    ensures { (p : ℕ) → p < length marks.old → slice_index_or marks.new p false ≡ (slice_index_or marks.old p false && list_any (begins_at p) (cuts_of (is_strict decoder.now) bytes.now)) }
 {
     laws::lengths();
     for cut in Sweep::new(*decoder, bytes) {
@@ -82,7 +83,7 @@ fn clear_inside_all(decoder: &InstDecoder, bytes: &[u8], marks: &mut [bool])
 /// Over `eb fe` the marks are true and false.
 pub fn mark_targets(decoder: &InstDecoder, bytes: &[u8], marks: &mut [bool])
     requires { length bytes.now ≡ length marks.old }
-    ensures { (p : ℕ) → p < length marks.old → slice_index_or marks.new p false ≡ is_marked decoder.now.strict bytes.now p }
+    ensures { (p : ℕ) → p < length marks.old → slice_index_or marks.new p false ≡ is_marked (is_strict decoder.now) bytes.now p }
 {
     clear(marks);
     mark_targets_of(decoder, bytes, marks);

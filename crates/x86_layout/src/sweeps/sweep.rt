@@ -1,5 +1,6 @@
 //! Sweeps: bytes cut into pieces from the first to the last, past every refusal.
 
+ghost use Rattle.x86_decode.specs.Decoder.{is_strict};
 ghost use Rattle.std.specs.Prelude.{◌≡◌, ◌+◌, ◌^◌, ◌<◌, ◌≤◌, ◌∷◌, length, drop};
 
 use crate::sweeps::cuts::{Cut, first_cut};
@@ -28,7 +29,7 @@ impl<'a> Sweep<'a> {
 
     /// The cuts of the bytes, from place 0 on.
     pub fn new(decoder: InstDecoder, bytes: &'a [u8]) -> Sweep<'a>
-        ensures { cuts_left result ≡ cuts_of decoder.strict bytes.now }
+        ensures { cuts_left result ≡ cuts_of (is_strict decoder) bytes.now }
     {
         Sweep {
             decoder,

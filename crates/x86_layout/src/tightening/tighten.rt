@@ -2,11 +2,12 @@
 
 ghost use Rattle.std.specs.Prelude.{◌≡◌, ◌≤◌, Bool, length, MatchResult, IfErr, Ok};
 ghost use Rattle.x86_forms.specs.Words.{rows_of, packed};
+ghost use Rattle.x86_decode.specs.Decoder.{is_strict};
 ghost use Rattle.x86_decode.specs.declared.instructions.Instruction.{Instruction};
 ghost use Rattle.x86_decode.specs.Grammar.{IsSentence};
 ghost use Rattle.x86_layout.specs.Tightening.Least.{least_length, shortest_length, HasLengthOfFront};
 ghost use Rattle.x86_decode.specs.Answer.{answer_of};
-ghost use Rattle.x86_layout.specs.Tightening.Tighten.{IsTightened, HasFields, HasNoRelative, IsSentenceOfSomeChoice, OfFront, IsNotTightened};
+ghost use Rattle.x86_layout.specs.Tightening.Tighten.{IsTightened, IsAddressed, HasNoRelative, IsSentenceOfSomeChoice, OfFront, IsNotTightened};
 
 use crate::parts::heads::{front_and_rest, head_of};
 use crate::parts::split::{Parts, parts_behind};
@@ -41,9 +42,9 @@ struct Addressed<'a> {
 
 /// What an encoding has that may have a shorter relative; else why there is none to seek.
 #[inline(always)]
-fn fields_in(encoding: &[u8]) -> Result<Addressed<'_>, TightenError>
+fn addressed_in(encoding: &[u8]) -> Result<Addressed<'_>, TightenError>
     requires { IsSentenceOfSomeChoice encoding.now }
-    ensures fields { (strict : Bool) (a : Instruction) (is : IsSentence (rows_of packed) strict encoding.now a) → MatchResult result (λ found. HasFields strict encoding.now is.reading is.whole found) (λ error. HasNoRelative strict encoding.now is.reading is.whole error) }
+    ensures raw { (strict : Bool) (a : Instruction) (is : IsSentence (rows_of packed) strict encoding.now a) → MatchResult result (λ found. IsAddressed strict encoding.now is.reading is.whole found) (λ error. HasNoRelative strict encoding.now is.reading is.whole error) }
     ensures least { (strict : Bool) (a : Instruction) → IsSentence (rows_of packed) strict encoding.now a → IfErr result (λ _. least_length strict encoding.now ≡ length encoding.now) }
 {
     let head = head_of(encoding);
@@ -64,7 +65,7 @@ fn tightened(encoding: &[u8]) -> Result<ArrayVec<u8, 15>, TightenError>
     ensures shortest { (strict : Bool) (a : Instruction) (is : IsSentence (rows_of packed) strict encoding.now a) → MatchResult result (λ t. IsTightened strict encoding.now is.reading is.whole t.items) (λ error. HasNoRelative strict encoding.now is.reading is.whole error) }
     ensures least { (strict : Bool) (a : Instruction) → IsSentence (rows_of packed) strict encoding.now a → MatchResult result (λ t. length t.items ≡ least_length strict encoding.now) (λ _. least_length strict encoding.now ≡ length encoding.now) }
 {
-    match fields_in(encoding) {
+    match addressed_in(encoding) {
         Ok(found) => Ok(respelled(&found.parts, &shortest(&found.raw))),
         Err(error) => Err(error),
     }
@@ -75,7 +76,7 @@ fn least_length(encoding: &[u8]) -> usize
     requires { IsSentenceOfSomeChoice encoding.now }
     ensures { (strict : Bool) (a : Instruction) → IsSentence (rows_of packed) strict encoding.now a → result ≡ least_length strict encoding.now }
 {
-    match fields_in(encoding) {
+    match addressed_in(encoding) {
         Ok(found) => {
             encoding.len() - address_length(&found.raw) + address_length(&shortest(&found.raw))
         }
@@ -89,8 +90,8 @@ fn least_length(encoding: &[u8]) -> usize
 ///
 /// For `48 8b 84 25 00 00 00 00` and its instruction this is 4 (Intel SDM volume 2, section 2.1.5).
 pub fn shortest_length(decoder: &InstDecoder, instruction: &Instruction, bytes: &[u8]) -> u64
-    requires decoded { answer_of decoder.now.strict bytes.now ≡ Ok instruction.now }
-    ensures { result ≡ shortest_length decoder.now.strict bytes.now }
+    requires decoded { answer_of (is_strict decoder.now) bytes.now ≡ Ok instruction.now }
+    ensures { result ≡ shortest_length (is_strict decoder.now) bytes.now }
 {
     laws::lengths();
     laws::answer_is();
@@ -107,8 +108,8 @@ pub fn shortest_length(decoder: &InstDecoder, instruction: &Instruction, bytes: 
 ///
 /// For `48 8b 84 25 00 00 00 00`, which is MOV rax, [rbp], this is `48 8b 45 00` (Intel SDM volume 2, section 2.1.5).
 pub fn tighten(decoder: &InstDecoder, bytes: &[u8]) -> Result<ArrayVec<u8, 15>, TightenError>
-    ensures shortest { MatchResult result (λ t. OfFront decoder.now.strict bytes.now (λ strict s a v. IsTightened strict s a v t.items)) (λ error. IsNotTightened decoder.now.strict bytes.now error) }
-    ensures least { MatchResult result (λ t. length t.items ≡ shortest_length decoder.now.strict bytes.now) (λ _. HasLengthOfFront decoder.now.strict bytes.now) }
+    ensures shortest { MatchResult result (λ t. OfFront (is_strict decoder.now) bytes.now (λ strict s a v. IsTightened strict s a v t.items)) (λ error. IsNotTightened (is_strict decoder.now) bytes.now error) }
+    ensures least { MatchResult result (λ t. length t.items ≡ shortest_length (is_strict decoder.now) bytes.now) (λ _. HasLengthOfFront (is_strict decoder.now) bytes.now) }
 {
     laws::lengths();
     laws::answer_is();

@@ -1,4 +1,4 @@
-use Rattle.x86_cli.proofs.TextLemmas.PairLaws.{bad_is_first}
+use Rattle.x86_cli.proofs.TextLemmas.Pair.{bad_is_first}
 use Rattle.x86_cli.proofs.laws.first.Goals as goal
 
 pub returns : goal.returns

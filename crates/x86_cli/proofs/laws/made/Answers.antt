@@ -1,4 +1,4 @@
-use Rattle.x86_cli.proofs.CommandLemmas.SaysLaws.{wrote_says}
+use Rattle.x86_cli.proofs.CommandLemmas.Says.{wrote_says}
 use Rattle.x86_cli.proofs.laws.made.Goals as goal
 
 pub returns : goal.returns

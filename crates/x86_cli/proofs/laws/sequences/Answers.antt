@@ -1,4 +1,4 @@
-use Rattle.x86_cli.proofs.TextLemmas.PairLaws.{sequences_sound}
+use Rattle.x86_cli.proofs.TextLemmas.Pair.{sequences_sound}
 use Rattle.x86_cli.proofs.laws.sequences.Goals as goal
 
 pub returns : goal.returns

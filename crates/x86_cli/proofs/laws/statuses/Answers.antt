@@ -1,4 +1,4 @@
-use Rattle.x86_cli.proofs.ListingLemmas.ListingLaws.{lines_leave_status}
+use Rattle.x86_cli.proofs.ListingLemmas.Listing.{lines_leave_status}
 use Rattle.x86_cli.proofs.laws.statuses.Goals as goal
 
 pub returns : goal.returns

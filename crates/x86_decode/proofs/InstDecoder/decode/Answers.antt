@@ -1,4 +1,4 @@
-use Rattle.x86_decode.proofs.PrintedLaws.{only_answer}
+use Rattle.x86_decode.proofs.PrintedLemmas.{only_answer}
 use Rattle.x86_decode.proofs.InstDecoder.decode.Goals as goal
 
 pub returns-clause-value : goal.returns-clause-value

@@ -1,9 +1,9 @@
 use Rattle.std.proofs.Common.{rules, ◌≡◌, Ok, Err}
 use Rattle.x86_forms.specs.Words.{rows_of, packed}
 use Rattle.x86_decode.specs.Answer.{answer_of, count_of}
-use Rattle.x86_decode.proofs.PrintedLaws.{printed_answer}
-use Rattle.x86_decode.proofs.CauseLaws.{accepted, exhausted, opcode_faulted, operand_faulted, prefixes_faulted, too_long, left_out}
-use Rattle.x86_decode.proofs.SentenceLaws.{answer_tied}
+use Rattle.x86_decode.proofs.PrintedLemmas.{printed_answer}
+use Rattle.x86_decode.proofs.CauseLemmas.{accepted, exhausted, opcode_faulted, operand_faulted, prefixes_faulted, too_long, left_out}
+use Rattle.x86_decode.proofs.SentenceLemmas.{answer_tied}
 use Rattle.x86_decode.proofs.InstDecoder.decode_slice.Goals as goal
 
 pub returns-in-Ok-clause-answer : goal.returns-in-Ok-clause-answer

@@ -14,33 +14,33 @@ pub returns-in_err-second-in-Escape : goal.returns-in_err-second-in-Escape
 returns-in_err-second-in-Escape g c =
     let r : c.from_residual.result ≡ Err c.in_err-second-in-Escape.field-0.0 = search rules in
     let is : lead_of c.args.byte ≡ Escape = search rules in
-    ap (λ x. then_from x (g.T.Reader.state c.next_byte.new.words) (found_word c.args.prefixes.now)) r
-    ∙ found_escape (rows_of (g.W.Words.word c.args.rows.now)) c.args.prefixes.now c.args.byte (Err c.in_err-second-in-Escape.field-0.0) (g.T.Reader.state c.args.words.now) (g.T.Reader.state c.next_byte.new.words) is c.in_err-second-in-Escape.ensures
+    ap (λ x. then_from x (g.T.Reader.state c.next_byte.new.reader) (found_word c.args.prefixes.now)) r
+    ∙ found_escape (rows_of (g.W.Words.word c.args.rows.now)) c.args.prefixes.now c.args.byte (Err c.in_err-second-in-Escape.field-0.0) (g.T.Reader.state c.args.reader.now) (g.T.Reader.state c.next_byte.new.reader) is c.in_err-second-in-Escape.ensures
 
 pub returns-in_err-map-in-Escape : goal.returns-in_err-map-in-Escape
 returns-in_err-map-in-Escape g c =
     let r : c.from_residual-in_err-map-in-Escape.result ≡ Err c.in_err-map-in-Escape.field-0.0 = search rules in
     let is : lead_of c.args.byte ≡ Escape = search rules in
-    ap (λ x. then_from x (g.T.Reader.state c.read_escaped.new.words) (found_word c.args.prefixes.now)) r
-    ∙ found_escaped (rows_of (g.W.Words.word c.args.rows.now)) c.args.prefixes.now c.args.byte c.in_ok-second-in-Escape.second (Err c.in_err-map-in-Escape.field-0.0) (g.T.Reader.state c.args.words.now) (g.T.Reader.state c.next_byte.new.words) (g.T.Reader.state c.read_escaped.new.words) is c.in_ok-second-in-Escape.ensures c.in_err-map-in-Escape.ensures
+    ap (λ x. then_from x (g.T.Reader.state c.read_escaped.new.reader) (found_word c.args.prefixes.now)) r
+    ∙ found_escaped (rows_of (g.W.Words.word c.args.rows.now)) c.args.prefixes.now c.args.byte c.in_ok-second-in-Escape.second (Err c.in_err-map-in-Escape.field-0.0) (g.T.Reader.state c.args.reader.now) (g.T.Reader.state c.next_byte.new.reader) (g.T.Reader.state c.read_escaped.new.reader) is c.in_ok-second-in-Escape.ensures c.in_err-map-in-Escape.ensures
 
 pub returns-in_ok-map-in-Escape : goal.returns-in_ok-map-in-Escape
 returns-in_ok-map-in-Escape g c =
     let is : lead_of c.args.byte ≡ Escape = search rules in
     let m = c.in_ok-map-in-Escape.map in
     let o = c.in_ok-map-in-Escape.opcode in
-    ap (λ q. found_word q c.word-word.result (g.T.Reader.state c.read_escaped.new.words)) c.seen_by.ensures
-    ∙ ap (λ w. found_word (seen_by m o c.args.prefixes.now) w (g.T.Reader.state c.read_escaped.new.words)) (c.word-word.ensures ∙ ap (λ k. g.W.Words.word c.args.rows.now m k o) c.column_of.ensures)
-    ∙ found_escaped (rows_of (g.W.Words.word c.args.rows.now)) c.args.prefixes.now c.args.byte c.in_ok-second-in-Escape.second _ (g.T.Reader.state c.args.words.now) (g.T.Reader.state c.next_byte.new.words) (g.T.Reader.state c.read_escaped.new.words) is c.in_ok-second-in-Escape.ensures c.in_ok-map-in-Escape.ensures
+    ap (λ q. found_word q c.word-word.result (g.T.Reader.state c.read_escaped.new.reader)) c.seen_by.ensures
+    ∙ ap (λ w. found_word (seen_by m o c.args.prefixes.now) w (g.T.Reader.state c.read_escaped.new.reader)) (c.word-word.ensures ∙ ap (λ k. g.W.Words.word c.args.rows.now m k o) c.column_of.ensures)
+    ∙ found_escaped (rows_of (g.W.Words.word c.args.rows.now)) c.args.prefixes.now c.args.byte c.in_ok-second-in-Escape.second _ (g.T.Reader.state c.args.reader.now) (g.T.Reader.state c.next_byte.new.reader) (g.T.Reader.state c.read_escaped.new.reader) is c.in_ok-second-in-Escape.ensures c.in_ok-map-in-Escape.ensures
 
 pub returns-in-Vex : goal.returns-in-Vex
 returns-in-Vex g c =
     let is : lead_of c.args.byte ≡ Vex = search rules in
-    ap (λ e. outcome (Err e) (g.T.Reader.state c.args.words.now)) c.vex_refusal.ensures
-    ∙ found_vex (rows_of (g.W.Words.word c.args.rows.now)) c.args.prefixes.now c.args.byte (g.T.Reader.state c.args.words.now) is
+    ap (λ e. outcome (Err e) (g.T.Reader.state c.args.reader.now)) c.vex_refusal.ensures
+    ∙ found_vex (rows_of (g.W.Words.word c.args.rows.now)) c.args.prefixes.now c.args.byte (g.T.Reader.state c.args.reader.now) is
 
 pub returns-in_default : goal.returns-in_default
 returns-in_default g c =
     let plain : is_plain (lead_of c.args.byte) ≡ true = ap is_plain (sym c.lead_of.ensures) ∙ plain_not c.lead_of.result c.in_default.not-Escape c.in_default.not-Vex in
-    ap (λ w. found_word c.args.prefixes.now w (g.T.Reader.state c.args.words.now)) (c.word.ensures ∙ ap (λ k. g.W.Words.word c.args.rows.now One k c.args.byte) c.column_of-in_default.ensures)
-    ∙ found_plain (rows_of (g.W.Words.word c.args.rows.now)) c.args.prefixes.now c.args.byte (g.T.Reader.state c.args.words.now) plain
+    ap (λ w. found_word c.args.prefixes.now w (g.T.Reader.state c.args.reader.now)) (c.word.ensures ∙ ap (λ k. g.W.Words.word c.args.rows.now One k c.args.byte) c.column_of-in_default.ensures)
+    ∙ found_plain (rows_of (g.W.Words.word c.args.rows.now)) c.args.prefixes.now c.args.byte (g.T.Reader.state c.args.reader.now) plain

@@ -1,4 +1,4 @@
-use Rattle.x86_decode.proofs.PrintedLaws.{is_answer, only_answer}
+use Rattle.x86_decode.proofs.PrintedLemmas.{is_answer, only_answer}
 use Rattle.x86_decode.proofs.laws.answer_is.Goals as goal
 
 pub returns-clause-there : goal.returns-clause-there

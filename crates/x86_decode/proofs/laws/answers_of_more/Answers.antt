@@ -1,4 +1,4 @@
-use Rattle.x86_decode.proofs.PrintedLaws.{answers_of_more, counts_of_more}
+use Rattle.x86_decode.proofs.PrintedLemmas.{answers_of_more, counts_of_more}
 use Rattle.x86_decode.proofs.laws.answers_of_more.Goals as goal
 
 pub returns-clause-answer : goal.returns-clause-answer

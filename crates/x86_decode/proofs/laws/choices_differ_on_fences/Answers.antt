@@ -1,5 +1,5 @@
-use Rattle.x86_decode.proofs.ChoiceLaws.{same_elsewhere_on, fence_read, fence_locked, fence_strict_answer, printed_elsewhere}
-use Rattle.x86_decode.proofs.RecordLaws.{fence_at_0fae}
+use Rattle.x86_decode.proofs.ChoiceLemmas.{same_elsewhere_on, fence_read, fence_locked, fence_strict_answer, printed_elsewhere}
+use Rattle.x86_decode.proofs.RecordLemmas.{fence_at_0fae}
 use Rattle.x86_decode.proofs.laws.choices_differ_on_fences.Goals as goal
 
 pub returns-clause-elsewhere : goal.returns-clause-elsewhere

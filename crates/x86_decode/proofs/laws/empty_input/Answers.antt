@@ -1,4 +1,4 @@
-use Rattle.x86_decode.proofs.PrintedLaws.{empty_input}
+use Rattle.x86_decode.proofs.PrintedLemmas.{empty_input}
 use Rattle.x86_decode.proofs.laws.empty_input.Goals as goal
 
 pub returns : goal.returns

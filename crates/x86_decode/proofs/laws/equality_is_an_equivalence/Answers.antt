@@ -1,7 +1,7 @@
 use Rattle.std.proofs.Common.{sym, ◌∙◌}
 use Rattle.x86_decode.specs.contracts.instructions.InstructionEq.TheImpl.Laws as whole
 use Rattle.x86_decode.specs.contracts.instructions.InstructionPartialEq.TheImpl.Laws as part
-use Rattle.x86_decode.proofs.EqualLaws.{equal_exactly}
+use Rattle.x86_decode.proofs.EqualLemmas.{equal_exactly}
 use Rattle.x86_decode.proofs.laws.equality_is_an_equivalence.Goals as goal
 
 pub returns-clause-reflexive : goal.returns-clause-reflexive

@@ -1,4 +1,4 @@
-use Rattle.x86_decode.proofs.PrintedLaws.{fifteen_are_enough}
+use Rattle.x86_decode.proofs.PrintedLemmas.{fifteen_are_enough}
 use Rattle.x86_decode.proofs.laws.fifteen_are_enough.Goals as goal
 
 pub returns : goal.returns

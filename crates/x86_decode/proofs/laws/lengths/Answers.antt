@@ -1,4 +1,4 @@
-use Rattle.x86_decode.proofs.PrintedLaws.{lengths, short_lengths, lengths_are_counts}
+use Rattle.x86_decode.proofs.PrintedLemmas.{lengths, short_lengths, lengths_are_counts}
 use Rattle.x86_decode.proofs.laws.lengths.Goals as goal
 
 pub returns-clause-within : goal.returns-clause-within

@@ -1,4 +1,4 @@
-use Rattle.x86_decode.proofs.RecordLaws.{answer_small, printed_small}
+use Rattle.x86_decode.proofs.RecordLemmas.{answer_small, printed_small}
 use Rattle.x86_decode.proofs.laws.memory_sizes_are_small.Goals as goal
 
 pub returns-clause-any_table : goal.returns-clause-any_table

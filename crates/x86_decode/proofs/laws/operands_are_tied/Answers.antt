@@ -1,4 +1,4 @@
-use Rattle.x86_decode.proofs.SentenceLaws.{accepted_tied, printed_tied}
+use Rattle.x86_decode.proofs.SentenceLemmas.{accepted_tied, printed_tied}
 use Rattle.x86_decode.proofs.laws.operands_are_tied.Goals as goal
 
 pub returns-clause-any_table : goal.returns-clause-any_table

@@ -1,7 +1,7 @@
 use Rattle.std.proofs.Common.{ap, ◌∙◌}
 use Rattle.x86_decode.specs.Instruction.{reading_in}
-use Rattle.x86_decode.proofs.WalkLaws.{held_ok, held_err}
-use Rattle.x86_decode.proofs.SliceLaws.{at_start, slice_ok, slice_err}
+use Rattle.x86_decode.proofs.WalkLemmas.{held_ok, held_err}
+use Rattle.x86_decode.proofs.SliceLemmas.{at_start, slice_ok, slice_err}
 use Rattle.x86_decode.proofs.walk.walk_slice.Goals as goal
 
 pub returns-in-Ok : goal.returns-in-Ok

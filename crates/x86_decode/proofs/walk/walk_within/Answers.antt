@@ -13,16 +13,16 @@ returns-in-Err g c = ap (λ o. then_from o.answer o.after (λ h. behind_step (ro
 pub returns-then-is_prefix : goal.returns-then-is_prefix
 unfolding walk_within
 returns-then-is_prefix g c =
-    let s = g.T.Reader.state c.read_head.new.words in
+    let s = g.T.Reader.state c.read_head.new.reader in
     let is : is_prefix c.in-Ok.byte ≡ true = search rules in
     let front = c.in-Ok.ensures.0 in
-    c.place_long-read.ensures front c.in-Ok.ensures.1
+    c.read_long-read.ensures front c.in-Ok.ensures.1
     ∙ ap (λ o. then_from o.answer o.after (λ h. behind_step (rows_of (g.W.Words.word c.args.rows.now)) c.args.strict h.0 h.1)) (at_prefix front c.in-Ok.byte s is ∙ c.in-Ok.ensures.2)
 
 pub returns-else-is_prefix : goal.returns-else-is_prefix
 unfolding walk_within
 returns-else-is_prefix g c =
-    let s = g.T.Reader.state c.read_head.new.words in
+    let s = g.T.Reader.state c.read_head.new.reader in
     let is : is_prefix c.in-Ok.byte ≡ false = search rules in
     let front = c.in-Ok.ensures.0 in
     c.walk_behind.ensures

@@ -1,4 +1,4 @@
-use Rattle.x86_fields.proofs.FormLaws.{units_show, forms_exactly}
+use Rattle.x86_fields.proofs.FormLemmas.{units_show, forms_exactly}
 use Rattle.x86_fields.proofs.laws.forms_are_their_values.Goals as goal
 
 pub returns-clause-exactly : goal.returns-clause-exactly

@@ -1,4 +1,4 @@
-use Rattle.x86_fields.proofs.ReadLaws.{raw_whole, raw_exactly, raw_short}
+use Rattle.x86_fields.proofs.ReadLemmas.{raw_whole, raw_exactly, raw_short}
 use Rattle.x86_fields.proofs.laws.raw_fields_are_read.Goals as goal
 
 pub returns-clause-whole : goal.returns-clause-whole

@@ -1,4 +1,4 @@
-use Rattle.x86_fields.proofs.FormLaws.{raw_reduced}
+use Rattle.x86_fields.proofs.FormLemmas.{raw_reduced}
 use Rattle.x86_fields.proofs.laws.raw_forms_are_reduced.Goals as goal
 
 pub returns : goal.returns

@@ -1,4 +1,4 @@
-use Rattle.x86_groups.proofs.ChoiceLaws.{same_at_opcode, same_modrm, same_elsewhere, fence_by_default, fence_strictly}
+use Rattle.x86_groups.proofs.ChoiceLemmas.{same_at_opcode, same_modrm, same_elsewhere, fence_by_default, fence_strictly}
 use Rattle.x86_groups.proofs.laws.choices_differ_on_fences.Goals as goal
 
 pub returns-clause-at_opcode : goal.returns-clause-at_opcode

@@ -1,4 +1,4 @@
-use Rattle.x86_groups.proofs.GroupLaws.{no_fault, gap_form, gap_reg, gap_moment, group_left_out}
+use Rattle.x86_groups.proofs.GroupLemmas.{no_fault, gap_form, gap_reg, gap_moment, group_left_out}
 use Rattle.x86_groups.proofs.laws.groups_are_built.Goals as goal
 
 pub returns-clause-at_opcode : goal.returns-clause-at_opcode

@@ -1,4 +1,4 @@
-use Rattle.x86_groups.proofs.RegLaws.{reg_record, reg_chosen, reg_group, reg_carries}
+use Rattle.x86_groups.proofs.RegLemmas.{reg_record, reg_chosen, reg_group, reg_carries}
 use Rattle.x86_groups.proofs.laws.reg_groups_are_chosen.Goals as goal
 
 pub returns-clause-group : goal.returns-clause-group

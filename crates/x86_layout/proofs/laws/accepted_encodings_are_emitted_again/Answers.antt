@@ -2,7 +2,7 @@ use Rattle.std.proofs.Common.{subst}
 use Rattle.x86_forms.specs.Words.{rows_of, packed}
 use Rattle.x86_decode.specs.Grammar.{IsAnswer}
 use Rattle.x86_decode.specs.Answer.{count_of}
-use Rattle.x86_layout.proofs.PartLemmas.EmitLaws.{emitted_again}
+use Rattle.x86_layout.proofs.PartLemmas.Emit.{emitted_again}
 use Rattle.x86_layout.proofs.laws.accepted_encodings_are_emitted_again.Goals as goal
 
 pub returns : goal.returns

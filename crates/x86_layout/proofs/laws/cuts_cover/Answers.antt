@@ -1,5 +1,5 @@
-use Rattle.x86_layout.proofs.SweepLemmas.CutLaws as cuts
-use Rattle.x86_layout.proofs.SweepLemmas.PlaceLaws.{all_within, sum_all}
+use Rattle.x86_layout.proofs.SweepLemmas.Cut as cuts
+use Rattle.x86_layout.proofs.SweepLemmas.Place.{all_within, sum_all}
 use Rattle.x86_layout.proofs.laws.cuts_cover.Goals as goal
 
 pub returns-clause-within : goal.returns-clause-within

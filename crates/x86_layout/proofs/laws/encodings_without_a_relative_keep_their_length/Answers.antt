@@ -7,9 +7,9 @@ use Rattle.x86_layout.specs.Tightening.Least.{least_length}
 use Rattle.x86_layout.specs.Parts.Split.{Encoding}
 use Rattle.x86_layout.specs.Tightening.Registers.{is_ip_relative}
 use Rattle.x86_layout.specs.Tightening.Tighten.{HasMemoryOperand, HasNoRelative}
-use Rattle.x86_layout.proofs.TightenLemmas.LeastLaws.{least_without, least_at_ip}
-use Rattle.x86_layout.proofs.TightenLemmas.RelativeLaws.{Byte}
-use Rattle.x86_layout.proofs.TightenLemmas.TightenLaws.{operand_form, some_memory}
+use Rattle.x86_layout.proofs.TightenLemmas.Least.{least_without, least_at_ip}
+use Rattle.x86_layout.proofs.TightenLemmas.Relative.{Byte}
+use Rattle.x86_layout.proofs.TightenLemmas.Tighten.{operand_form, some_memory}
 use Rattle.x86_layout.proofs.laws.encodings_without_a_relative_keep_their_length.Goals as goal
 
 module _ (strict : Bool) (s : List ℕ) (a : Reading) (v : Encoding strict s a) where

@@ -1,4 +1,4 @@
-use Rattle.x86_layout.proofs.PartLemmas.FrontLaws.{parts_are}
+use Rattle.x86_layout.proofs.PartLemmas.Front.{parts_are}
 use Rattle.x86_layout.proofs.laws.parts_are_those_of_the_bytes.Goals as goal
 
 pub returns : goal.returns

@@ -2,7 +2,7 @@ use Rattle.std.proofs.Common.{subst}
 use Rattle.x86_forms.specs.Words.{rows_of, packed}
 use Rattle.x86_decode.specs.Grammar.{IsAnswer}
 use Rattle.x86_decode.specs.Answer.{count_of}
-use Rattle.x86_layout.proofs.PartLemmas.EmitLaws.{parts_fit}
+use Rattle.x86_layout.proofs.PartLemmas.Emit.{parts_fit}
 use Rattle.x86_layout.proofs.laws.parts_fit_fields.Goals as goal
 
 pub returns : goal.returns

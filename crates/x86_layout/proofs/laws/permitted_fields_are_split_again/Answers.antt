@@ -1,4 +1,4 @@
-use Rattle.x86_layout.proofs.PartLemmas.EmitLaws.{split_again}
+use Rattle.x86_layout.proofs.PartLemmas.Emit.{split_again}
 use Rattle.x86_layout.proofs.laws.permitted_fields_are_split_again.Goals as goal
 
 pub returns : goal.returns

@@ -1,4 +1,4 @@
-use Rattle.x86_layout.proofs.PartLemmas.EmitLaws.{permitted_are_parts}
+use Rattle.x86_layout.proofs.PartLemmas.Emit.{permitted_are_parts}
 use Rattle.x86_layout.proofs.laws.permitted_fields_are_the_parts_of_sentences.Goals as goal
 
 pub returns : goal.returns

@@ -1,4 +1,4 @@
-use Rattle.x86_layout.proofs.TightenLemmas.SameLaws.{relative_is_same, relative_has_addresses}
+use Rattle.x86_layout.proofs.TightenLemmas.Same.{relative_is_same, relative_has_addresses}
 use Rattle.x86_layout.proofs.laws.relatives_are_the_same_instruction.Goals as goal
 
 pub returns-clause-but_in_memory : goal.returns-clause-but_in_memory

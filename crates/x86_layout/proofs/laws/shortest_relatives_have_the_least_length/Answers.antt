@@ -1,12 +1,12 @@
 use Rattle.std.proofs.Common.{List, ℕ, refl}
-use Rattle.x86_decode.proofs.ByteLaws.{bytes_of}
+use Rattle.x86_decode.proofs.ByteLemmas.{bytes_of}
 use Rattle.x86_layout.specs.Tightening.Shortest.{IsOfBytes}
-use Rattle.x86_layout.proofs.TightenLemmas.RelativeLaws.{Bytes', fields_of_bytes, shortest_relative}
-use Rattle.x86_layout.proofs.TightenLemmas.LeastLaws.{least_of_shortest}
+use Rattle.x86_layout.proofs.TightenLemmas.Relative.{Bytes', raw_of_bytes, shortest_relative}
+use Rattle.x86_layout.proofs.TightenLemmas.Least.{least_of_shortest}
 use Rattle.x86_layout.proofs.laws.shortest_relatives_have_the_least_length.Goals as goal
 
 pub returns : goal.returns
 returns c = λ strict s a is bytes h.
-    let fit : IsOfBytes h.operand.raw = fields_of_bytes strict s is.reading is.whole h.operand.raw h.operand.read (bytes_of s bytes) in
+    let fit : IsOfBytes h.operand.raw = raw_of_bytes strict s is.reading is.whole h.operand.raw h.operand.read (bytes_of s bytes) in
     let t : List ℕ = Bytes' strict s is.reading is.whole h.operand.raw h.operand.read fit in
     (t, shortest_relative strict s is.reading is.whole h.operand.raw h.operand.read fit t refl is.lock is.short h.form, least_of_shortest strict s is.reading is.whole h.operand.raw h.operand.read fit t refl h.form)

@@ -1,4 +1,4 @@
-use Rattle.x86_operands.proofs.TieLaws.{memory_stands, memory_size_is}
+use Rattle.x86_operands.proofs.TieLemmas.{memory_stands, memory_size_is}
 use Rattle.x86_operands.proofs.laws.memory_operands_are_shapes.Goals as goal
 
 pub returns-clause-stands : goal.returns-clause-stands

@@ -1,4 +1,4 @@
-use Rattle.x86_operands.proofs.PlainLaws.{plain_built, plain_read}
+use Rattle.x86_operands.proofs.PlainLemmas.{plain_built, plain_read}
 use Rattle.x86_operands.proofs.laws.plain_forms_are_built.Goals as goal
 
 pub returns-clause-plan : goal.returns-clause-plan

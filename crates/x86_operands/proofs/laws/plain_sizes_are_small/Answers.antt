@@ -1,4 +1,4 @@
-use Rattle.x86_operands.proofs.PlainLaws.{plain_small}
+use Rattle.x86_operands.proofs.PlainLemmas.{plain_small}
 use Rattle.x86_operands.proofs.laws.plain_sizes_are_small.Goals as goal
 
 pub returns : goal.returns

@@ -1,4 +1,4 @@
-use Rattle.x86_operands.proofs.TieLaws.{read_tied, spelled_tied}
+use Rattle.x86_operands.proofs.TieLemmas.{read_tied, spelled_tied}
 use Rattle.x86_operands.proofs.laws.readings_are_tied.Goals as goal
 
 pub returns-clause-read : goal.returns-clause-read

@@ -1,4 +1,4 @@
-use Rattle.x86_operands.proofs.RowLaws.{row_read, row_refused, row_open, row_wherever, row_refuses}
+use Rattle.x86_operands.proofs.RowLemmas.{row_read, row_refused, row_open, row_wherever, row_refuses}
 use Rattle.x86_operands.proofs.laws.rows_are_read.Goals as goal
 
 pub returns-clause-whole : goal.returns-clause-whole

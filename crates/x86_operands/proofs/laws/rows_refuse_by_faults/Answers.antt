@@ -1,4 +1,4 @@
-use Rattle.x86_operands.proofs.RowLaws.{row_has_no_prefixes, row_has_no_length, row_left_out}
+use Rattle.x86_operands.proofs.RowLemmas.{row_has_no_prefixes, row_has_no_length, row_left_out}
 use Rattle.x86_operands.proofs.laws.rows_refuse_by_faults.Goals as goal
 
 pub returns-clause-no_prefixes : goal.returns-clause-no_prefixes

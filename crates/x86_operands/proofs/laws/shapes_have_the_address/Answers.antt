@@ -1,4 +1,4 @@
-use Rattle.x86_operands.proofs.ShapeLaws.{shape_has_form, shape_has_address}
+use Rattle.x86_operands.proofs.ShapeLemmas.{shape_has_form, shape_has_address}
 use Rattle.x86_operands.proofs.laws.shapes_have_the_address.Goals as goal
 
 pub returns-clause-form : goal.returns-clause-form

@@ -1,5 +1,5 @@
 use Rattle.std.proofs.Common.{rules}
-use Rattle.x86_regs.proofs.NameLaws.{name_short}
+use Rattle.x86_regs.proofs.NameLemmas.{name_short}
 use Rattle.x86_regs.proofs.RegSpec.name.Goals as goal
 
 pub returns-clause-short : goal.returns-clause-short

@@ -1,7 +1,7 @@
 use Rattle.std.proofs.Common.{◌≡◌, ◌≤◌, ◌+◌, ◌*◌, ◌++◌, take}
 use Rattle.arrayvec.specs.ArrayVec.{array_vec_len}
 use Rattle.x86_text.specs.Operands.{operands_text}
-use Rattle.x86_text.proofs.OperandLaws.{four}
+use Rattle.x86_text.proofs.OperandLemmas.{four}
 use Rattle.x86_text.proofs.instructions.push_operands.Given as goal
 
 abbrev pub invariant-loop-i : goal.invariant-loop-i

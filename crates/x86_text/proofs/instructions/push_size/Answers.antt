@@ -1,5 +1,5 @@
 use Rattle.std.proofs.Common.{◌∙◌, ap, ◌++◌, sym}
-use Rattle.x86_text.proofs.OperandLaws.{no_size}
+use Rattle.x86_text.proofs.OperandLemmas.{no_size}
 use Rattle.x86_text.proofs.instructions.push_size.Goals as goal
 
 pub returns-in-None-clause-text : goal.returns-in-None-clause-text

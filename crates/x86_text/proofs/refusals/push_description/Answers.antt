@@ -1,5 +1,5 @@
 use Rattle.std.proofs.Common.{◌∙◌, ap, length, arith}
-use Rattle.x86_text.proofs.OperandLaws.{description_short}
+use Rattle.x86_text.proofs.OperandLemmas.{description_short}
 use Rattle.x86_text.proofs.refusals.push_description.Goals as goal
 
 pub extend-requires : goal.extend-requires

@@ -1,5 +1,5 @@
 use Rattle.std.proofs.Common.{◌++◌}
-use Rattle.x86_arch.proofs.StateLaws.{at_moved}
+use Rattle.x86_arch.proofs.StateLemmas.{at_moved}
 use Rattle.x86_arch.proofs.chunks.ChunkReaderReaderU64U8.next.Goals as goal
 
 pub returns-then-self-seam-2-clause-moved : goal.returns-then-self-seam-2-clause-moved

@@ -2,7 +2,7 @@ use Rattle.std.proofs.Common.{◌≡◌, ◌≢◌, ◌∙◌, sym, Option, Some
 use Rattle.x86_cli.specs.declared.commands.command.Command.{Command}
 use Rattle.x86_cli.specs.declared.listings.status.Status.TheVariants.{Usage}
 use Rattle.x86_cli.proofs.CommandLemmas.Causes.{ran_used}
-use Rattle.x86_cli.proofs.CommandLemmas.SaysLaws.{ran_says, wrote_says, make_rose, exact, has_read_fault, sink_rose, completes}
+use Rattle.x86_cli.proofs.CommandLemmas.Says.{ran_says, wrote_says, make_rose, exact, has_read_fault, sink_rose, completes}
 use Rattle.x86_cli.proofs.commands.command.run.Goals as goal
 
 no_command : (a b : Option Command) (c : Command) → a ≡ b → a ≡ Some c → b ≡ None → ⊥

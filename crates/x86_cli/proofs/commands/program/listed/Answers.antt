@@ -1,8 +1,8 @@
 use Rattle.std.proofs.Common.{◌≡◌, ◌∙◌, List, ℕ, [], Option, ap, sym, map, string_bytes}
 use Rattle.std.specs.Io.KnownBytes.{Keeps, append_known}
 use Rattle.x86_cli.specs.Commands.Command.{command_of}
-use Rattle.x86_cli.proofs.CommandLemmas.ProgramLaws.{each_command, ends_same, ends_flushed, program_ends, program_made}
-use Rattle.x86_cli.proofs.CommandLemmas.SaysLaws.{wrote_says}
+use Rattle.x86_cli.proofs.CommandLemmas.Program.{each_command, ends_same, ends_flushed, program_ends, program_made}
+use Rattle.x86_cli.proofs.CommandLemmas.Says.{wrote_says}
 use Rattle.x86_cli.proofs.commands.program.listed.Goals as goal
 
 pub returns-clause-lists : goal.returns-clause-lists

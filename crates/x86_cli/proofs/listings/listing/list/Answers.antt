@@ -1,7 +1,7 @@
 use Rattle.std.proofs.Common.{refl, arith, length, ap, length-drop}
 use Rattle.x86_cli.specs.Listings.Line.{line}
 use Rattle.x86_cli.proofs.ListingLemmas.Stands.{stands_new, stands_refill}
-use Rattle.x86_cli.proofs.CommandLemmas.AheadLaws.{reaches, end_one, stands_line, window_failed, window_closed, window_unclosed}
+use Rattle.x86_cli.proofs.CommandLemmas.Ahead.{reaches, end_one, stands_line, window_failed, window_closed, window_unclosed}
 use Rattle.x86_cli.proofs.listings.listing.list.Goals as goal
 
 pub lines-init : goal.lines-init

@@ -1,7 +1,7 @@
 use Rattle.std.proofs.Common.{◌≤◌, ◌+◌}
 use Rattle.arrayvec.specs.ArrayVec.{array_vec_len}
 use Rattle.x86_cli.proofs.ListingLemmas.Stands.{Stands}
-use Rattle.x86_cli.proofs.CommandLemmas.AheadLaws.{reaches}
+use Rattle.x86_cli.proofs.CommandLemmas.Ahead.{reaches}
 use Rattle.x86_cli.proofs.listings.listing.list.Given as goal
 
 abbrev pub invariant-lines : goal.invariant-lines

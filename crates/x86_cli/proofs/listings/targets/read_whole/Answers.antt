@@ -1,5 +1,5 @@
 use Rattle.std.proofs.Common.{[], arith, ap, length}
-use Rattle.x86_cli.proofs.TextLemmas.FillLaws.{filling_none, filling_byte, stopped}
+use Rattle.x86_cli.proofs.TextLemmas.Fill.{filling_none, filling_byte, stopped}
 use Rattle.x86_cli.proofs.listings.targets.read_whole.Goals as goal
 
 pub pairs-init : goal.pairs-init

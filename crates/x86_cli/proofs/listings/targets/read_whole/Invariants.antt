@@ -1,7 +1,7 @@
 use Rattle.std.proofs.Common.{◌≤◌, ◌+◌, ◌*◌}
 use Rattle.arrayvec.specs.ArrayVec.{array_vec_len}
 use Rattle.x86_cli.specs.Text.{text_of}
-use Rattle.x86_cli.proofs.TextLemmas.FillLaws.{Filling}
+use Rattle.x86_cli.proofs.TextLemmas.Fill.{Filling}
 use Rattle.x86_cli.proofs.listings.targets.read_whole.Given as goal
 
 abbrev pub invariant-pairs : goal.invariant-pairs

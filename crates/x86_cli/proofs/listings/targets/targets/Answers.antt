@@ -5,8 +5,8 @@ use Rattle.x86_cli.specs.Text.{Text}
 use Rattle.x86_cli.specs.Listings.Listing.{with_lines}
 use Rattle.x86_cli.specs.Listings.Targets.{lines_if, place_line, targets_at}
 use Rattle.x86_cli.proofs.ListingLemmas.Stands.{stands_whole, stands_step, ran_failed, ran_closed, ran_unclosed}
-use Rattle.x86_cli.proofs.ListingLemmas.SweepLaws.{end_unrefused}
-use Rattle.x86_cli.proofs.ListingLemmas.TargetLaws.{targets-step, targets-end}
+use Rattle.x86_cli.proofs.ListingLemmas.Sweep.{end_unrefused}
+use Rattle.x86_cli.proofs.ListingLemmas.Target.{targets-step, targets-end}
 use Rattle.x86_cli.proofs.listings.targets.targets.Goals as goal
 
 -- the mark of a place of the image

@@ -4,7 +4,7 @@ use Rattle.x86_cli.specs.declared.text.kinds.TheConstants.{KINDS}
 use Rattle.x86_cli.specs.declared.text.kinds.Kind.{Kind}
 use Rattle.x86_cli.specs.declared.text.kinds.Kind.TheVariants.{Digit}
 use Rattle.x86_cli.specs.Text.Kinds.{IsKind}
-use Rattle.x86_cli.proofs.TextLemmas.KindLaws.{kind, kinds, table, is_kind}
+use Rattle.x86_cli.proofs.TextLemmas.Kind.{kind, kinds, table, is_kind}
 use Rattle.x86_cli.proofs.text.kinds.kind_of.Goals as goal
 
 pub returns : goal.returns

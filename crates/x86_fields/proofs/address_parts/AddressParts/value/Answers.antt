@@ -1,7 +1,7 @@
 use Rattle.std.proofs.Common.{◌≡◌, true, false, rules}
 use Rattle.std.proofs.lemmas.Int.{to_z-of_z}
 use Rattle.x86_fields.specs.Linear.{constant_by}
-use Rattle.x86_fields.proofs.LinearLaws.{parts_sum}
+use Rattle.x86_fields.proofs.LinearLemmas.{parts_sum}
 use Rattle.x86_fields.proofs.address_parts.AddressParts.value.Goals as goal
 
 pub returns-then-self : goal.returns-then-self

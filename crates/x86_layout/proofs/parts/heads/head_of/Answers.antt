@@ -10,7 +10,7 @@ use Rattle.x86_operands.specs.Asks.{ask_of}
 use Rattle.x86_decode.specs.Head.{column_of, escape_bytes, seen_by}
 use Rattle.x86_decode.specs.Grammar.{record_of}
 use Rattle.x86_layout.specs.Parts.Heads.{map_of}
-use Rattle.x86_layout.proofs.PartLemmas.PartLaws.{front_is, rest_is, run_length_is, map_is, enters}
+use Rattle.x86_layout.proofs.PartLemmas.Part.{front_is, rest_is, run_length_is, map_is, enters}
 use Rattle.x86_layout.proofs.parts.heads.head_of.Goals as goal
 
 abbrev Tells : Bool → Ask → Map → Prefixes → ℕ → ℕ → Type 0

@@ -1,7 +1,7 @@
 use Rattle.std.proofs.Common.{take, ap, ◌∙◌}
 use Rattle.std.specs.List.{list_all}
 use Rattle.x86_fields.specs.Run.{is_prefix}
-use Rattle.x86_layout.proofs.PartLemmas.PartLaws.{all_prefixes}
+use Rattle.x86_layout.proofs.PartLemmas.Part.{all_prefixes}
 use Rattle.x86_layout.proofs.parts.heads.run_of.Goals as goal
 
 pub returns-clause-prefixes : goal.returns-clause-prefixes

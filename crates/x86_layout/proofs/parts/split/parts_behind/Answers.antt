@@ -3,7 +3,7 @@ use Rattle.std.proofs.lemmas.List.{take-append-drop}
 use Rattle.x86_operands.specs.Pieces.{modrm_of}
 use Rattle.x86_layout.specs.Parts.Heads.{one_if, asks_sib}
 use Rattle.x86_layout.specs.Parts.Split.{sib_width}
-use Rattle.x86_layout.proofs.PartLemmas.PartLaws.{from_is, front_is, rest_is, modrm_count, sib_count, immediate_count, address_count, sib_within}
+use Rattle.x86_layout.proofs.PartLemmas.Part.{from_is, front_is, rest_is, modrm_count, sib_count, immediate_count, address_count, sib_within}
 use Rattle.x86_layout.proofs.parts.split.parts_behind.Goals as goal
 
 pub returns-clause-tail : goal.returns-clause-tail

@@ -5,11 +5,11 @@ use Rattle.x86_decode.specs.Head.{seen_by}
 use Rattle.x86_decode.specs.Grammar.{IsAccepted, IsAnswer}
 use Rattle.x86_decode.specs.Answer.{answer_of, count_of}
 use Rattle.x86_layout.specs.Parts.Split.{lists_of, Encoding, record_in, HasParts}
-use Rattle.x86_layout.proofs.PartLemmas.PartLaws.{front_is}
+use Rattle.x86_layout.proofs.PartLemmas.Part.{front_is}
 use Rattle.x86_layout.specs.Parts.Front.{parts_of}
-use Rattle.x86_layout.proofs.PartLemmas.LengthLaws.{lengths_of}
-use Rattle.x86_layout.proofs.PartLemmas.FrontLaws.{parts_are, parts_once}
-use Rattle.x86_layout.proofs.PartLemmas.SplitLaws.{joined_is}
+use Rattle.x86_layout.proofs.PartLemmas.Length.{lengths_of}
+use Rattle.x86_layout.proofs.PartLemmas.Front.{parts_are, parts_once}
+use Rattle.x86_layout.proofs.PartLemmas.Split.{joined_is}
 use Rattle.x86_layout.proofs.parts.split.split_decoded.Goals as goal
 
 pub returns-clause-pieces : goal.returns-clause-pieces

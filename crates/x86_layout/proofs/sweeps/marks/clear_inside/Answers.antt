@@ -1,5 +1,5 @@
 use Rattle.std.proofs.Common.{◌+◌, ◌≡◌, arith}
-use Rattle.x86_layout.proofs.SweepLemmas.MarkLaws.{cleared}
+use Rattle.x86_layout.proofs.SweepLemmas.Mark.{cleared}
 use Rattle.x86_layout.proofs.sweeps.marks.clear_inside.Goals as goal
 
 pub returns : goal.returns

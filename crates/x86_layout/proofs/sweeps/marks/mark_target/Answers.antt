@@ -1,6 +1,6 @@
 use Rattle.std.proofs.Common.{◌||◌, false, slice_index_or, ap, ◌∙◌}
 use Rattle.x86_layout.specs.Sweeps.Marks.{is_target}
-use Rattle.x86_layout.proofs.SweepLemmas.MarkLaws.{marked}
+use Rattle.x86_layout.proofs.SweepLemmas.Mark.{marked}
 use Rattle.x86_layout.proofs.sweeps.marks.mark_target.Goals as goal
 
 pub returns-then-place-marks : goal.returns-then-place-marks

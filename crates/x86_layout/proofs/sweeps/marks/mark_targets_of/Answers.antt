@@ -5,8 +5,8 @@ use Rattle.x86_layout.specs.Sweeps.Cuts.{cuts_of}
 use Rattle.x86_layout.specs.Sweeps.Sweep.{cuts_left}
 use Rattle.x86_layout.specs.Sweeps.Lengths.{IsWithin}
 use Rattle.x86_layout.specs.Sweeps.Marks.{targets}
-use Rattle.x86_layout.proofs.SweepLemmas.PlaceLaws.{all_within}
-use Rattle.x86_layout.proofs.SweepLemmas.MarkLaws.{one_more_marked}
+use Rattle.x86_layout.proofs.SweepLemmas.Place.{all_within}
+use Rattle.x86_layout.proofs.SweepLemmas.Mark.{one_more_marked}
 use Rattle.x86_layout.proofs.sweeps.marks.mark_targets_of.Goals as goal
 
 pub loop-cut-init : goal.loop-cut-init

@@ -1,6 +1,6 @@
 use Rattle.std.proofs.Common.{◌≡◌, ℕ, Bool, List, [], ◌∷◌, ◌++◌, length, sym, ap, ◌∙◌, append_assoc, arith, refl}
 use Rattle.x86_layout.specs.Tightening.Tighten.{run_with}
-use Rattle.x86_layout.proofs.TightenLemmas.RexLaws.{run_at_end}
+use Rattle.x86_layout.proofs.TightenLemmas.Rex.{run_at_end}
 use Rattle.x86_layout.proofs.tightening.respell.push_run.Goals as goal
 
 none_to_change : (x b : Bool) (old run : List ℕ) → length run ≡ 0 → old ≡ old ++ run_with x b run

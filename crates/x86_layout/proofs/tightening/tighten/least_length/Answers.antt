@@ -1,7 +1,7 @@
 use Rattle.std.proofs.Common.{◌+◌, ◌-◌, length, arith, ap, sym, ◌∙◌}
 use Rattle.x86_layout.specs.Tightening.Shortest.{address_length}
-use Rattle.x86_layout.proofs.TightenLemmas.LeastLaws.{least_of_fields}
-use Rattle.x86_layout.proofs.TightenLemmas.RelativeLaws.{length_is}
+use Rattle.x86_layout.proofs.TightenLemmas.Least.{least_of_raw}
+use Rattle.x86_layout.proofs.TightenLemmas.Relative.{length_is}
 use Rattle.x86_layout.proofs.tightening.tighten.least_length.Goals as goal
 
 pub overflow_sub-result : goal.overflow_sub-result
@@ -9,7 +9,7 @@ overflow_sub-result c =
     let s = c.args.encoding.now in
     let strict = c.requires.strict in
     let is = c.requires.is in
-    let h = c.in-Ok.ensures.fields strict c.requires.answer is in
+    let h = c.in-Ok.ensures.raw strict c.requires.answer is in
     let long = length_is strict s is.reading is.whole c.in-Ok.found.raw h.read in
     omega (arith, long, c.address_length.ensures.value)
 
@@ -17,10 +17,10 @@ pub returns-in-Ok : goal.returns-in-Ok
 returns-in-Ok c = λ strict a is.
     let s = c.args.encoding.now in
     let raw = c.in-Ok.found.raw in
-    let h = c.in-Ok.ensures.fields strict a is in
+    let h = c.in-Ok.ensures.raw strict a is in
     let old = c.address_length.ensures.value in
     let new = c.address_length-in-Ok.ensures.value ∙ ap address_length c.shortest.ensures in
-    ap (λ n. (length s - n) + c.address_length-in-Ok.result) old ∙ ap (λ n. (length s - address_length raw) + n) new ∙ sym (least_of_fields strict s is.reading is.whole raw h.read h.form)
+    ap (λ n. (length s - n) + c.address_length-in-Ok.result) old ∙ ap (λ n. (length s - address_length raw) + n) new ∙ sym (least_of_raw strict s is.reading is.whole raw h.read h.form)
 
 pub returns-in-Err : goal.returns-in-Err
 returns-in-Err c = λ strict a is. sym (c.in-Err.ensures.least strict a is)

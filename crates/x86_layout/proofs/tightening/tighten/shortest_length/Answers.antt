@@ -2,8 +2,8 @@ use Rattle.std.proofs.Common.{◌≡◌, length, Ok, sym, ap, subst, ◌∙◌}
 use Rattle.x86_forms.specs.Words.{rows_of, packed}
 use Rattle.x86_decode.specs.Grammar.{IsAccepted, IsAnswer, IsSentence}
 use Rattle.x86_decode.specs.Answer.{answer_of, count_of}
-use Rattle.x86_layout.proofs.TightenLemmas.LeastLaws.{least_front}
-use Rattle.x86_layout.proofs.PartLemmas.PartLaws.{front_is}
+use Rattle.x86_layout.proofs.TightenLemmas.Least.{least_front}
+use Rattle.x86_layout.proofs.PartLemmas.Part.{front_is}
 use Rattle.x86_layout.proofs.tightening.tighten.shortest_length.Goals as goal
 
 pub returns : goal.returns

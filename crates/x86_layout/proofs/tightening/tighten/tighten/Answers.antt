@@ -7,9 +7,9 @@ use Rattle.x86_decode.specs.Answer.{answer_of, count_of}
 use Rattle.x86_layout.specs.declared.tightening.tighten.TightenError.{TightenError}
 use Rattle.x86_layout.specs.declared.tightening.tighten.TightenError.TheVariants.{Refused, NoMemoryForm, IpRelative}
 use Rattle.x86_layout.specs.Tightening.Least.{least_length, shortest_length, HasLengthOfFront}
-use Rattle.x86_layout.proofs.TightenLemmas.LeastLaws.{least_front}
+use Rattle.x86_layout.proofs.TightenLemmas.Least.{least_front}
 use Rattle.x86_layout.specs.Tightening.Tighten.{IsSentenceOfSomeChoice, OfFront, Statement, IsTightened, HasNoRelative, IsNotTightened}
-use Rattle.x86_layout.proofs.PartLemmas.PartLaws.{front_is}
+use Rattle.x86_layout.proofs.PartLemmas.Part.{front_is}
 use Rattle.x86_layout.proofs.tightening.tighten.tighten.Goals as goal
 
 abbrev Sentence : Bool → List ℕ → Instruction → Type 0

@@ -1,6 +1,6 @@
 use Rattle.std.proofs.Common.{◌≡◌, ◌+◌, ◌-◌, ◌<◌, ◌^◌, ◌%◌, ◌++◌, arith, length, take, decimal, ap, ◌∙◌}
 use Rattle.itoa.proofs.Decimal.{pair}
-use Rattle.x86_text.proofs.PlaceLaws.{two_digits, goes_on, last_two}
+use Rattle.x86_text.proofs.PlaceLemmas.{two_digits, goes_on, last_two}
 use Rattle.x86_text.proofs.place.Place.advance.Goals as goal
 
 pub set_last_digits-requires : goal.set_last_digits-requires

@@ -1,5 +1,5 @@
 use Rattle.std.proofs.Common.{None, ap, ◌∙◌}
-use Rattle.x86_cli.proofs.TextLemmas.FrontLaws.{shown_answer}
+use Rattle.x86_cli.proofs.TextLemmas.Front.{shown_answer}
 use Rattle.x86_cli.proofs.ListingLemmas.Standing.{step_line, step_refused, step_ended}
 use Rattle.x86_cli.proofs.listings.listing.UpToRefusalCourse.next.Goals as goal
 

@@ -1,6 +1,6 @@
 use Rattle.std.proofs.Common.{◌≡◌, rules, refl, arith, length}
 use Rattle.std.proofs.lemmas.Bool.Decides.{nat_tests}
-use Rattle.x86_cli.proofs.OutsideLemmas.SinkLaws.{puts_none, puts_more, puts_all, puts_part}
+use Rattle.x86_cli.proofs.OutsideLemmas.Sink.{puts_none, puts_more, puts_all, puts_part}
 use Rattle.x86_cli.proofs.outside.std_sink.StdSinkSink.put.Goals as goal
 
 pub loop-rest-init : goal.loop-rest-init

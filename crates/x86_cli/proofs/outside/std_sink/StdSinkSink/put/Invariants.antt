@@ -1,5 +1,5 @@
 use Rattle.std.proofs.Common.{◌≡◌, length}
-use Rattle.x86_cli.proofs.OutsideLemmas.SinkLaws.{Puts}
+use Rattle.x86_cli.proofs.OutsideLemmas.Sink.{Puts}
 use Rattle.x86_cli.proofs.outside.std_sink.StdSinkSink.put.Given as goal
 
 abbrev pub invariant-loop-rest : goal.invariant-loop-rest

@@ -1,5 +1,5 @@
 use Rattle.std.proofs.Common.{◌≤◌}
-use Rattle.x86_cli.proofs.TextLemmas.ReadLaws.{Skips}
+use Rattle.x86_cli.proofs.TextLemmas.Read.{Skips}
 use Rattle.x86_cli.proofs.text.reader.TextReader.next.Given as goal
 
 abbrev pub invariant-loop-byte : goal.invariant-loop-byte

@@ -1,5 +1,5 @@
-use Rattle.x86_cli.proofs.TextLemmas.KindLaws.{no_digit}
-use Rattle.x86_cli.proofs.TextLemmas.ReadLaws.{half_end, half_failed, half_large, half_bad, half_pair}
+use Rattle.x86_cli.proofs.TextLemmas.Kind.{no_digit}
+use Rattle.x86_cli.proofs.TextLemmas.Read.{half_end, half_failed, half_large, half_bad, half_pair}
 use Rattle.std.proofs.Common.{arith, refl}
 use Rattle.x86_cli.proofs.text.reader.TextReader.second.Goals as goal
 

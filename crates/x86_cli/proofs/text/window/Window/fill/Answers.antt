@@ -1,5 +1,5 @@
 use Rattle.std.proofs.Common.{arith}
-use Rattle.x86_cli.proofs.TextLemmas.FillLaws.{filling_byte, stopped, filled}
+use Rattle.x86_cli.proofs.TextLemmas.Fill.{filling_byte, stopped, filled}
 use Rattle.x86_cli.proofs.text.window.Window.fill.Goals as goal
 
 pub loop-reader-preserved : goal.loop-reader-preserved

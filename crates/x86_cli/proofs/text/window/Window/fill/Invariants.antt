@@ -1,7 +1,7 @@
 use Rattle.std.proofs.Common.{◌≡◌, ◌≤◌, ◌+◌, ◌-◌, None}
 use Rattle.arrayvec.specs.ArrayVec.{array_vec_len}
 use Rattle.x86_cli.specs.Text.Window.{rest_of}
-use Rattle.x86_cli.proofs.TextLemmas.FillLaws.{Filling}
+use Rattle.x86_cli.proofs.TextLemmas.Fill.{Filling}
 use Rattle.x86_cli.proofs.text.window.Window.fill.Given as goal
 
 abbrev pub invariant-loop-reader : goal.invariant-loop-reader

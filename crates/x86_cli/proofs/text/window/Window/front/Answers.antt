@@ -1,6 +1,6 @@
 use Rattle.std.proofs.Common.{◌≡◌, ◌<◌, arith, length}
 use Rattle.std.proofs.lemmas.Bool.Decides.{nat_tests}
-use Rattle.x86_cli.proofs.TextLemmas.FrontLaws.{front_open, shows_open, front_closed, shows_closed, front_empty}
+use Rattle.x86_cli.proofs.TextLemmas.Front.{front_open, shows_open, front_closed, shows_closed, front_empty}
 use Rattle.x86_cli.proofs.text.window.Window.front.Goals as goal
 
 pub returns-in-None-clause-rest : goal.returns-in-None-clause-rest

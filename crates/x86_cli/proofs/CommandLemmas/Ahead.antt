@@ -1,0 +1,97 @@
+-- How far ahead of its lines a run reads that holds a window.
+use Rattle.std.proofs.Common.{◌≡◌, ℕ, ◌+◌, ◌≤◌, List, [], ◌∷◌, ◌++◌, length, take, drop, Option, Some, None, Result, Ok, Err, refl, arith, ap, ◌∙◌, sym, subst, append_assoc, append-nil, length-append, length-take-le}
+use Rattle.std.proofs.lemmas.List.{take-append-drop}
+use Rattle.std.specs.Prelude.{⊤}
+use Rattle.x86_cli.specs.declared.outside.source.Got.{Got}
+use Rattle.x86_cli.specs.declared.outside.sink.SinkFailed.{SinkFailed}
+use Rattle.x86_cli.specs.declared.text.reader.Ending.{Ending}
+use Rattle.x86_cli.specs.declared.text.reader.Ending.TheVariants.{Clean, Bad, Large, Fault}
+use Rattle.x86_cli.specs.Outside.Stop.{Stop, Failed}
+use Rattle.x86_cli.specs.declared.listings.status.Status.{Status}
+use Rattle.x86_cli.specs.declared.listings.status.Status.TheVariants as outcome
+use Rattle.x86_cli.specs.Text.{Text, text_at, text_of}
+use Rattle.x86_cli.specs.Text.Reading.{MayCome}
+use Rattle.x86_cli.specs.Listings.Listing.{Listing, with_lines, at_end}
+use Rattle.x86_cli.specs.Text.Window.{behind, rest_of, Open}
+use Rattle.x86_cli.specs.Commands.Run.{Closes, Ahead, RanInWindow}
+use Rattle.x86_cli.proofs.TextLemmas.Text.{text-failed}
+use Rattle.x86_cli.proofs.CommandLemmas.Causes.{some_stop}
+use Rattle.x86_cli.proofs.ListingLemmas.Stands.{Stands, stands_step, ran_failed, ran_closed, ran_unclosed}
+
+-- The bytes in front of what is left are those up to this place.
+abbrev pub reaches : ℕ → List ℕ → Type 0
+reaches place walked = length walked ≡ place
+
+-- The image of a text is the same whatever stops it.
+image_same : (max : ℕ) (bytes : List ℕ) (s t : Stop) → (text_of max bytes s).image ≡ (text_of max bytes t).image
+unfolding text_at
+image_same max bytes s t = refl
+
+rest_split : (ended : Option Ending) (w : List ℕ) (len p r : ℕ) (xs : List ℕ) (stop : Stop) → rest_of ended w p r xs stop ≡ behind (take len w) (rest_of ended (drop len w) p r xs stop)
+rest_split None w len p r xs stop =
+    let t = text_at p r xs stop in
+    let split : w ++ t.image ≡ take len w ++ (drop len w ++ t.image) =
+    ap (λ v. v ++ t.image) (sym (take-append-drop len w)) ∙ append_assoc (take len w) (drop len w) t.image in
+    ap (λ i. record { image = i; ending = t.ending }) split
+rest_split (Some e) w len p r xs stop = ap (λ i. record { image = i; ending = e }) (sym (take-append-drop len w))
+
+longer : (n len : ℕ) (w : List ℕ) → len ≤ length w → (walked : List ℕ) → length walked ≡ n → length (walked ++ take len w) ≡ n + len
+longer n len w le walked is = simp length-append (omega (arith, length-take-le len w le, is))
+
+pub end_one : (e : Ending) → length (at_end e).lines ≤ 1
+end_one Clean = omega arith
+end_one (Bad n) = omega arith
+end_one Large = omega arith
+end_one Fault = omega arith
+
+module _ {S K : Type 0} (gives : S → Got → S → Type 0) (takes : K → List ℕ → Result ⊤ SinkFailed → K → Type 0) (at : ℕ → Text → Listing)
+    (max n : ℕ) (ended : Option Ending) (w : List ℕ) (p r : ℕ) (a b : S) (k l : K) (s : Stands gives takes at reaches max n ended w p r a b k l) where
+  pub stands_line : (x : List ℕ) (len : ℕ) → len ≤ length w →
+      ((xs : List ℕ) (stop : Stop) → at n (rest_of ended w p r xs stop) ≡ with_lines (x ∷ []) (at (n + len) (rest_of ended (drop len w) p r xs stop))) →
+      (m : K) → takes l x (Ok tt) m → Stands gives takes at reaches max (n + len) ended (drop len w) p r a b k m
+  stands_line x len le step m put =
+      stands_step gives takes at reaches max n ended w p r a b k l s (x ∷ []) (n + len) (drop len w) step (take len w) (rest_split ended w len p r) (longer n len w le) m (m, put, refl)
+
+  image_given : (o : Option Ending) → ended ≡ o → (text_of max s.bytes Failed).image ≡ s.walked ++ w
+  image_given None is =
+      let P : Option Ending → Type 0 = λ o. Open o s.stop in
+      let open_yet : s.stop ≡ None = subst P is s.goes_on in
+      let may : MayCome s.stop [] Failed = rw open_yet tt in
+      let whole : text_of max (s.bytes ++ []) Failed ≡ behind s.walked (rest_of None w p r [] Failed) = rw is at (s.front [] Failed may) in
+      let image : (text_of max s.bytes Failed).image ≡ s.walked ++ (w ++ (text_at p r [] Failed).image) = rw append-nil at (ap (λ t. t.image) whole) in
+      image ∙ ap (λ t. s.walked ++ (w ++ t.image)) (text-failed p r) ∙ ap (λ v. s.walked ++ v) (append-nil w)
+  image_given (Some e) is =
+      let stop = some_stop s.stop in
+      let whole : text_of max (s.bytes ++ []) stop.0 ≡ behind s.walked (rest_of (Some e) w p r [] stop.0) = rw is at (s.front [] stop.0 stop.1) in
+      let image : (text_of max s.bytes stop.0).image ≡ s.walked ++ w = rw append-nil at (ap (λ t. t.image) whole) in
+      image_same max s.bytes Failed stop.0 ∙ image
+
+  module _ (few : length w ≤ 15) where
+    ahead : (lines last : List (List ℕ)) → lines ≡ s.lines ++ last → length last ≤ 1 → Ahead at (text_of max) s.bytes s.stop lines
+    ahead lines last split one = record {
+      walked = s.walked;
+      held = w;
+      taken = image_given ended refl;
+      few = few;
+      shown = s.lines;
+      last = last;
+      split = split;
+      one = one;
+      lists = λ xs stop may. (rest_of ended w p r xs stop, s.front xs stop may, rw s.walks (s.lists xs stop may));
+    }
+
+    none_more : Ahead at (text_of max) s.bytes s.stop s.lines
+    none_more = ahead s.lines [] (sym (append-nil s.lines)) (omega arith)
+
+    pub window_failed : (x : List ℕ) → ((xs : List ℕ) (stop : Stop) → (after : Listing) × (at n (rest_of ended w p r xs stop) ≡ with_lines (x ∷ []) after)) →
+        (e : SinkFailed) (m : K) → takes l x (Err e) m → RanInWindow gives takes at max outcome.WriteFault a b k m
+    window_failed x front e m failed = (ran_failed gives takes at reaches max n ended w p r a b k l s x front e m failed, none_more)
+
+    pub window_closed : (last : Listing) → length last.lines ≤ 1 → ((xs : List ℕ) (stop : Stop) → at n (rest_of ended w p r xs stop) ≡ last) →
+        (status : Status) (m : K) → Closes takes last (Ok status) l m → RanInWindow gives takes at max status a b k m
+    window_closed last one is status m closes =
+        (ran_closed gives takes at reaches max n ended w p r a b k l s last is status m closes, ahead (s.lines ++ last.lines) last.lines refl one)
+
+    pub window_unclosed : (last : Listing) → ((xs : List ℕ) (stop : Stop) → at n (rest_of ended w p r xs stop) ≡ last) →
+        (e : SinkFailed) (m : K) → Closes takes last (Err e) l m → RanInWindow gives takes at max outcome.WriteFault a b k m
+    window_unclosed last is e m closes = (ran_unclosed gives takes at reaches max n ended w p r a b k l s last is e m closes, none_more)

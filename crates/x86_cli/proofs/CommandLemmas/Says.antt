@@ -1,0 +1,290 @@
+-- What a run says of what is seen, from its calls.
+use Rattle.std.proofs.Common.{◌≡◌, ◌≢◌, ◌⊎◌, inl, inr, ℕ, Bool, List, [], ◌∷◌, ◌++◌, length, take, drop, Option, Some, None, refl, ap, ◌∙◌, sym, subst, append_assoc, append-nil}
+use Rattle.std.proofs.lemmas.List.{take-append-drop, append_cancel_left}
+use Rattle.std.proofs.lemmas.List.Folds.{concat-append}
+use Rattle.std.specs.Prelude.{IfSome, Result, ⊤}
+use Rattle.std.specs.List.{concat}
+use Rattle.std.specs.Io.KnownBytes.{Consumes, Appends}
+use Rattle.x86_cli.specs.declared.outside.source.Got.{Got}
+use Rattle.x86_cli.specs.declared.outside.sink.SinkFailed.{SinkFailed}
+use Rattle.x86_cli.specs.declared.text.reader.Ending.{Ending}
+use Rattle.x86_cli.specs.declared.text.reader.Ending.TheVariants.{Clean, Bad, Large, Fault}
+use Rattle.x86_cli.specs.Outside.Stop.{Stop, End, Failed}
+use Rattle.x86_cli.specs.declared.commands.command.Command.{Command}
+use Rattle.x86_cli.specs.declared.listings.status.Status.{Status}
+use Rattle.x86_cli.specs.declared.listings.status.Status.TheVariants.{Done, Usage, Refused, BadText, ReadFault, WriteFault, TooLarge}
+use Rattle.x86_cli.specs.Outside.FaultCounts.{Rose}
+use Rattle.x86_cli.specs.Text.{Text, text_at, text_of, ending_by, bad_of, ends_in_half}
+use Rattle.x86_cli.specs.Listings.Listing.{Listing, at_end}
+use Rattle.x86_cli.specs.Commands.Command.{listing_for, max_of}
+use Rattle.x86_cli.specs.Outside.Source.{TellsGot}
+use Rattle.x86_cli.specs.Outside.Sink.{TellsPut}
+use Rattle.x86_cli.specs.Text.Reading.{Asked, MayCome}
+use Rattle.x86_cli.specs.Commands.Run.{Lists, Wrote, Ran}
+use Rattle.x86_cli.specs.Outside.Told.{TellsGave, TellsTook}
+use Rattle.x86_cli.specs.Commands.Make.{made_listing}
+use Rattle.x86_cli.specs.DecoderLaws.{DecoderLaws}
+use Rattle.x86_cli.specs.Commands.Says.{World, full_listing, taken_listing, Writes, WritesFront, FrontOfTaken, Makes, IsSound, Says, IsExact, HasReadFault, Completes}
+use Rattle.x86_cli.proofs.CommandLemmas.Causes.{command_never, some_stop, fault_stop, command_used, command_read, command_written, text_done}
+use Rattle.x86_cli.proofs.OutsideLemmas.Tells.{gave_tells, took_tells}
+use Rattle.x86_cli.proofs.CommandLemmas.Stay.{refused_stays}
+
+-- options that are known
+
+some_left : (a b : Option (List ℕ)) (bytes : List ℕ) (P : List ℕ → Type 0) → Consumes a b bytes → ((xs : List ℕ) → P (bytes ++ xs)) → IfSome a P
+some_left None b bytes P c h = tt
+some_left (Some xs) None bytes P c h = absurd c
+some_left (Some xs) (Some ys) bytes P c h = subst P (sym c) (h ys)
+
+all_given : (a : Option (List ℕ)) (bytes : List ℕ) (P : List ℕ → Type 0) → IfSome a (λ xs. xs ≡ bytes) → P (bytes ++ []) → IfSome a P
+all_given None bytes P e h = tt
+all_given (Some xs) bytes P e h = let same : bytes ++ [] ≡ xs = append-nil bytes ∙ sym e in subst P same h
+
+none_left : (a b : Option (List ℕ)) (bytes : List ℕ) → Consumes a b bytes → IfSome a (λ xs. xs ≡ bytes) → IfSome a (λ xs. b ≡ Some [])
+none_left None b bytes c e = tt
+none_left (Some xs) None bytes c e = absurd c
+none_left (Some xs) (Some ys) bytes c e = ap Some (append_cancel_left bytes ys [] (sym c ∙ e ∙ sym (append-nil bytes)))
+
+-- of all that the source tells, where what it gave is a front of that
+given_of : (stop : Option Stop) (a b : Option (List ℕ)) (bytes : List ℕ) (faults faults' : ℕ) (P : List ℕ → Type 0) → TellsGave bytes stop a b faults faults' →
+    ((xs : List ℕ) → MayCome stop xs End → P (bytes ++ xs)) → (stop ≡ Some Failed → (xs : List ℕ) → P (bytes ++ xs)) → IfSome a P
+given_of None a b bytes faults faults' P t h f = some_left a b bytes P t.0 (λ xs. h xs tt)
+given_of (Some End) a b bytes faults faults' P t h f = all_given a bytes P t.1.0 (h [] (refl, refl))
+given_of (Some Failed) a b bytes faults faults' P t h f = some_left a b bytes P t.0 (f refl)
+
+still_given : (stop : Option Stop) (a b : Option (List ℕ)) (bytes : List ℕ) (faults faults' : ℕ) → TellsGave bytes stop a b faults faults' → stop ≢ Some Failed → faults' ≡ faults
+still_given None a b bytes faults faults' t unfailed = t.1
+still_given (Some End) a b bytes faults faults' t unfailed = t.1.1
+still_given (Some Failed) a b bytes faults faults' t unfailed = absurd (unfailed refl)
+
+-- texts and listings
+
+unclean : (p : ℕ) (o : Option ℕ) (more : List ℕ) (half : Bool) (len : ℕ) → ending_by p o more half len Failed ≢ Clean
+unclean p (Some n) more half len = λ f. cc
+unclean p None (x ∷ more) half len = λ f. cc
+unclean p None [] half len = λ f. cc
+
+failed_unclean : (max : ℕ) (bytes : List ℕ) → (text_of max bytes Failed).ending ≢ Clean
+unfolding text_at
+failed_unclean max bytes = unclean 0 (bad_of (take max bytes)) (drop max bytes) (ends_in_half (take max bytes)) (length bytes)
+
+done_clean : (c : Command) (image : List ℕ) (e : Ending) → (listing_for c (record { image = image; ending = e })).status ≡ Done → e ≡ Clean
+done_clean c image Clean done = refl
+done_clean c image (Bad n) done = absurd (command_never Done (λ f. cc) (Bad n) (λ f. cc) c image done)
+done_clean c image Large done = absurd (command_never Done (λ f. cc) Large (λ f. cc) c image done)
+done_clean c image Fault done = absurd (command_never Done (λ f. cc) Fault (λ f. cc) c image done)
+
+-- Behind a fault a listing ends as that, or in a refusal.
+fault_status : (c : Command) (t : Text) (status : Status) → t.ending ≡ Fault → status ≢ Refused → status ≢ ReadFault → (listing_for c t).status ≢ status
+fault_status c t status fault unrefused unread =
+    let ends : (at_end t.ending).status ≡ ReadFault = ap (λ e. (at_end e).status) fault in
+    command_never status (λ e. unrefused (sym e)) t.ending (λ e. unread (sym e ∙ ends)) c t.image
+
+end_stop : (c : Command) (max : ℕ) (bytes : List ℕ) (stop : Option Stop) →
+    ((xs : List ℕ) (s : Stop) → MayCome stop xs s → (listing_for c (text_of max (bytes ++ xs) s)).status ≡ Done) → stop ≡ Some End
+end_stop c max bytes None done = absurd (failed_unclean max (bytes ++ []) (done_clean c _ _ (done [] Failed tt)))
+end_stop c max bytes (Some Failed) done = absurd (failed_unclean max (bytes ++ []) (done_clean c _ _ (done [] Failed (refl, refl))))
+end_stop c max bytes (Some End) done = refl
+
+-- the text whose last call failed was open
+asked_open : (text : List ℕ → Stop → Text) (bytes : List ℕ) (stop : Stop) → Asked text bytes (Some stop) → (text bytes Failed).ending ≡ Fault
+asked_open text [] stop a = a
+asked_open text (x ∷ bytes) stop a = asked_open (λ xs s. text (x ∷ xs) s) bytes stop a.1
+
+pub asked_failed : (max : ℕ) (bytes : List ℕ) (stop : Option Stop) → Asked (text_of max) bytes stop → stop ≡ Some Failed → (text_of max bytes Failed).ending ≡ Fault
+asked_failed max bytes stop asked failed =
+    let P : Option Stop → Type 0 = λ s. Asked (text_of max) bytes s in
+    let a : Asked (text_of max) bytes (Some Failed) = subst P failed asked in
+    asked_open (text_of max) bytes Failed a
+
+-- lines and what was written of one more are a front of a listing that has these lines
+front_written : (written written' : Option (List ℕ)) (l : Listing) (lines : List (List ℕ)) (failed : List ℕ) (more : List (List ℕ)) (n : ℕ) → l.lines ≡ lines ++ failed ∷ more →
+    Appends written written' (concat lines ++ take n failed) → WritesFront written written' l
+front_written written written' l lines failed more n is wrote =
+    let joined : concat l.lines ≡ concat lines ++ (failed ++ concat more) = ap concat is ∙ concat-append lines (failed ∷ more) in
+    let divided : failed ++ concat more ≡ take n failed ++ (drop n failed ++ concat more) =
+    ap (λ f. f ++ concat more) (sym (take-append-drop n failed)) ∙ append_assoc (take n failed) (drop n failed) (concat more) in
+    record {
+      part = concat lines ++ take n failed;
+      more = drop n failed ++ concat more;
+      whole = joined ∙ ap (λ f. concat lines ++ f) divided ∙ sym (append_assoc (concat lines) (take n failed) (drop n failed ++ concat more));
+      wrote = wrote;
+    }
+
+module _ (laws : (strict : Bool) → DecoderLaws strict) (c : Command) (old new : World) (bytes : List ℕ) (stop : Option Stop)
+    (gave : TellsGave bytes stop old.left new.left old.source_faults new.source_faults)
+    (fault : stop ≡ Some Failed → (text_of (max_of c) bytes Failed).ending ≡ Fault) where
+  -- a run at which no put failed
+  module _ (lines : List (List ℕ)) (wrote : TellsTook lines None old.written new.written old.sink_faults new.sink_faults) where
+    abbrev AllListed : Status → Type 0
+    AllListed status = (xs : List ℕ) (s : Stop) → MayCome stop xs s → listing_for c (text_of (max_of c) (bytes ++ xs) s) ≡ record { lines = lines; status = status }
+
+    writes : (status : Status) (l : Listing) → l ≡ record { lines = lines; status = status } → Writes status old new l
+    writes status l is = rw is (refl, wrote.0)
+
+    all_full : (status : Status) → AllListed status → (stop ≡ Some Failed → (xs : List ℕ) → Writes status old new (full_listing c (bytes ++ xs))) →
+        IfSome old.left (λ b. Writes status old new (full_listing c b))
+    all_full status lists failed = given_of stop old.left new.left bytes old.source_faults new.source_faults (λ b. Writes status old new (full_listing c b)) gave
+        (λ xs may. writes status (full_listing c (bytes ++ xs)) (lists xs End may)) failed
+
+    -- what was listed of the bytes given, where the source failed behind them
+    failed_listed : (status : Status) → AllListed status → stop ≡ Some Failed → listing_for c (text_of (max_of c) bytes Failed) ≡ record { lines = lines; status = status }
+    failed_listed status lists failed =
+        let may : MayCome stop [] Failed = rw failed (refl, refl) in
+        rw append-nil at (lists [] Failed may)
+
+    says_done : AllListed Done → Says Done c old new
+    says_done lists =
+        let end : stop ≡ Some End = end_stop c (max_of c) bytes stop (λ xs s may. ap (λ l. l.status) (lists xs s may)) in
+        let unfailed : stop ≢ Some Failed = λ f. let g : Some End ≡ Some Failed = sym end ∙ f in cc in
+        let P : Option Stop → Type 0 = λ s. TellsGave bytes s old.left new.left old.source_faults new.source_faults in
+        let ended : TellsGave bytes (Some End) old.left new.left old.source_faults new.source_faults = subst P end gave in
+        (all_full Done lists (λ f. absurd (unfailed f)), ended.1.1, wrote.1, none_left old.left new.left bytes ended.0 ended.1.0)
+
+    -- a text that ends by itself
+    says_ended : (status : Status) → status ≢ Refused → status ≢ ReadFault → AllListed status →
+        IfSome old.left (λ b. Writes status old new (full_listing c b)) × (new.source_faults ≡ old.source_faults) × (new.sink_faults ≡ old.sink_faults)
+    says_ended status unrefused unread lists =
+        let unfailed : stop ≢ Some Failed = λ f.
+        fault_status c (text_of (max_of c) bytes Failed) status (fault f) unrefused unread (ap (λ l. l.status) (failed_listed status lists f)) in
+        (all_full status lists (λ f. absurd (unfailed f)), still_given stop old.left new.left bytes old.source_faults new.source_faults gave unfailed, wrote.1)
+
+    says_refused : AllListed Refused → Says Refused c old new
+    says_refused lists = (
+      all_full Refused lists (λ f xs.
+          let divided = failed_listed Refused lists f in
+          writes Refused (full_listing c (bytes ++ xs)) (refused_stays laws c (max_of c) bytes xs End (fault f) (ap (λ l. l.status) divided) ∙ divided)),
+      wrote.1,
+    )
+
+    says_read : AllListed ReadFault → Says ReadFault c old new
+    says_read lists =
+        let failed : stop ≡ Some Failed = fault_stop stop (λ may. command_read c (max_of c) (bytes ++ []) (ap (λ l. l.status) (lists [] End may))) in
+        let P : Option Stop → Type 0 = λ s. TellsGave bytes s old.left new.left old.source_faults new.source_faults in
+        let told : TellsGave bytes (Some Failed) old.left new.left old.source_faults new.source_faults = subst P failed gave in
+        (record { taken = bytes; takes = told.0; writes = writes ReadFault (taken_listing c bytes) (failed_listed ReadFault lists failed); cause = told.1 }, wrote.1)
+
+    says_all : (status : Status) → status ≢ Usage → status ≢ WriteFault → AllListed status → Says status c old new
+    says_all Done used written lists = says_done lists
+    says_all Usage used written lists = absurd (used refl)
+    says_all Refused used written lists = says_refused lists
+    says_all BadText used written lists = says_ended BadText (λ f. cc) (λ f. cc) lists
+    says_all ReadFault used written lists = says_read lists
+    says_all WriteFault used written lists = absurd (written refl)
+    says_all TooLarge used written lists = says_ended TooLarge (λ f. cc) (λ f. cc) lists
+
+  -- a run at which a put failed
+  module _ (lines : List (List ℕ)) (failed : List ℕ) (wrote : TellsTook lines (Some failed) old.written new.written old.sink_faults new.sink_faults)
+      (lists : (xs : List ℕ) (s : Stop) → MayCome stop xs s → Lists WriteFault lines (Some failed) (listing_for c (text_of (max_of c) (bytes ++ xs) s))) where
+    fronts : (xs : List ℕ) (s : Stop) → MayCome stop xs s → WritesFront old.written new.written (listing_for c (text_of (max_of c) (bytes ++ xs) s))
+    fronts xs s may =
+        let l = lists xs s may in
+        front_written old.written new.written (listing_for c (text_of (max_of c) (bytes ++ xs) s)) lines failed l.1.0 wrote.0.0 l.1.1 wrote.0.1
+
+    full_or_taken : (p : Option Stop) → p ≡ stop → IfSome old.left (λ b. WritesFront old.written new.written (full_listing c b)) ⊎ FrontOfTaken c old new
+    full_or_taken None is =
+        inl (given_of stop old.left new.left bytes old.source_faults new.source_faults (λ b. WritesFront old.written new.written (full_listing c b)) gave (λ xs may. fronts xs End may)
+        (λ f. let g : None ≡ Some Failed = is ∙ f in cc))
+    full_or_taken (Some End) is =
+        inl (given_of stop old.left new.left bytes old.source_faults new.source_faults (λ b. WritesFront old.written new.written (full_listing c b)) gave (λ xs may. fronts xs End may)
+        (λ f. let g : Some End ≡ Some Failed = is ∙ f in cc))
+    full_or_taken (Some Failed) is =
+        let P : Option Stop → Type 0 = λ s. TellsGave bytes s old.left new.left old.source_faults new.source_faults in
+        let told : TellsGave bytes (Some Failed) old.left new.left old.source_faults new.source_faults = subst P (sym is) gave in
+        let may : MayCome stop [] Failed = rw (sym is) (refl, refl) in
+        let front : WritesFront old.written new.written (taken_listing c bytes) = rw append-nil at (fronts [] Failed may) in
+        inr (record { taken = bytes; takes = told.0; writes = front; cause = told.1 })
+
+    says_written : Says WriteFault c old new
+    says_written = (wrote.1, full_or_taken stop refl)
+
+  says_by : (status : Status) (lines : List (List ℕ)) (failed : Option (List ℕ)) → TellsTook lines failed old.written new.written old.sink_faults new.sink_faults →
+      ((xs : List ℕ) (s : Stop) → MayCome stop xs s → Lists status lines failed (listing_for c (text_of (max_of c) (bytes ++ xs) s))) → Says status c old new
+  says_by status lines None wrote lists =
+      let s = some_stop stop in
+      let t = text_of (max_of c) (bytes ++ []) s.0 in
+      let ends : (listing_for c t).status ≡ status = ap (λ l. l.status) (lists [] s.0 s.1) in
+      says_all lines wrote status (λ f. command_used c t (ends ∙ f)) (λ f. command_written c t (ends ∙ f)) lists
+  says_by status lines (Some failed) wrote lists =
+      let s = some_stop stop in
+      let is : status ≡ WriteFault = (lists [] s.0 s.1).0 in
+      let P : Status → Type 0 = λ st. Says st c old new in
+      subst P (sym is) (says_written lines failed wrote (λ xs s may. (refl, (lists xs s may).1)))
+
+-- of every source and sink
+pub ran_says : {S K : Type 0} (gives : S → Got → S → Type 0) (takes : K → List ℕ → Result ⊤ SinkFailed → K → Type 0)
+    (left : S → Option (List ℕ)) (faults : S → ℕ) (written : K → Option (List ℕ)) (others : K → ℕ) →
+    ((s : S) (g : Got) (t : S) → gives s g t → TellsGot g (left s) (left t) (faults s) (faults t)) →
+    ((s : K) (piece : List ℕ) (r : Result ⊤ SinkFailed) (t : K) → takes s piece r t → TellsPut r piece (written s) (written t) (others s) (others t)) →
+    ((strict : Bool) → DecoderLaws strict) → (c : Command) (status : Status) (a b : S) (k l : K) → Ran gives takes (listing_for c) (max_of c) status a b k l →
+    Says status c (record { left = left a; source_faults = faults a; written = written k; sink_faults = others k })
+    (record { left = left b; source_faults = faults b; written = written l; sink_faults = others l })
+ran_says gives takes left faults written others source sink laws c status a b k l ran =
+    let gave = gave_tells gives left faults source ran.bytes ran.stop a b ran.gave in
+    let took = took_tells takes written others sink ran.lines ran.failed k l ran.took in
+    says_by laws c (record { left = left a; source_faults = faults a; written = written k; sink_faults = others k })
+    (record { left = left b; source_faults = faults b; written = written l; sink_faults = others l }) ran.bytes ran.stop gave
+    (asked_failed (max_of c) ran.bytes ran.stop ran.asked) status ran.lines ran.failed took ran.lists
+
+-- `make`
+
+made_says : (n : ℕ) (status : Status) (lines : List (List ℕ)) (failed : Option (List ℕ)) (w w' : Option (List ℕ)) (faults faults' : ℕ) →
+    Lists status lines failed (made_listing n) → TellsTook lines failed w w' faults faults' → Makes n status w w' faults faults'
+made_says n status lines None w w' faults faults' lists told =
+    let P : Status → Type 0 = λ s. Makes n s w w' faults faults' in
+    let Q : List (List ℕ) → Type 0 = λ ls. Appends w w' (concat ls) × (faults' ≡ faults) in
+    subst P (ap (λ l. l.status) lists) (subst Q (sym (ap (λ l. l.lines) lists)) told)
+made_says n status lines (Some failed) w w' faults faults' lists told =
+    let P : Status → Type 0 = λ s. Makes n s w w' faults faults' in
+    subst P (sym lists.0) (told.1, front_written w w' (made_listing n) lines failed lists.1.0 told.0.0 lists.1.1 told.0.1)
+
+pub wrote_says : {K : Type 0} (takes : K → List ℕ → Result ⊤ SinkFailed → K → Type 0) (written : K → Option (List ℕ)) (others : K → ℕ) →
+    ((s : K) (piece : List ℕ) (r : Result ⊤ SinkFailed) (t : K) → takes s piece r t → TellsPut r piece (written s) (written t) (others s) (others t)) →
+    (n : ℕ) (status : Status) (k l : K) → Wrote takes (made_listing n) status k l → Makes n status (written k) (written l) (others k) (others l)
+wrote_says takes written others sink n status k l wrote =
+    made_says n status wrote.lines wrote.failed (written k) (written l) (others k) (others l) wrote.lists (took_tells takes written others sink wrote.lines wrote.failed k l wrote.took)
+
+pub make_rose : (n : ℕ) (status : Status) (w w' : Option (List ℕ)) (faults faults' : ℕ) → Makes n status w w' faults faults' → status ≡ WriteFault → Rose faults faults'
+make_rose n status w w' faults faults' makes is =
+    let P : Status → Type 0 = λ s. Makes n s w w' faults faults' in
+    let fault : Makes n WriteFault w w' faults faults' = subst P is makes in
+    fault.0
+
+-- what follows
+
+pub each_known : {P Q : List ℕ → Type 0} (o : Option (List ℕ)) → ((b : List ℕ) → P b → Q b) → IfSome o P → IfSome o Q
+each_known None f h = tt
+each_known (Some b) f h = f b h
+
+any_known : {Q : List ℕ → Type 0} (o : Option (List ℕ)) → ((b : List ℕ) → Q b) → IfSome o Q
+any_known None f = tt
+any_known (Some b) f = f b
+
+module _ (c : Command) (old new : World) where
+  -- the whole listing, where neither count rose
+  writes_all : (result : Status) → Says result c old new → IfSome old.left (λ b. IsSound old new → Writes result old new (full_listing c b))
+  writes_all Done says = each_known old.left (λ b w _. w) says.0
+  writes_all Usage says = absurd says
+  writes_all Refused says = each_known old.left (λ b w _. w) says.0
+  writes_all BadText says = each_known old.left (λ b w _. w) says.0
+  writes_all TooLarge says = each_known old.left (λ b w _. w) says.0
+  writes_all ReadFault says = any_known old.left (λ b sound. absurd (sound.0 says.0.cause))
+  writes_all WriteFault says = any_known old.left (λ b sound. absurd (sound.1 says.0))
+
+  pub exact : (result : Status) → Says result c old new → IsExact result c old new
+  exact result says = each_known old.left (λ b w sound status. let e = (w sound).0 in (λ h. sym e ∙ h, λ h. e ∙ h)) (writes_all result says)
+
+  pub has_read_fault : (result : Status) → Says result c old new → HasReadFault result c old new
+  has_read_fault result says e =
+      let P : Status → Type 0 = λ s. Says s c old new in
+      let h : Says ReadFault c old new = subst P e says in
+      (h.0.cause, (h.0.taken, h.0.takes, sym h.0.writes.0))
+
+  pub sink_rose : (result : Status) → Says result c old new → result ≡ WriteFault → Rose old.sink_faults new.sink_faults
+  sink_rose result says e = let P : Status → Type 0 = λ s. Says s c old new in let h : Says WriteFault c old new = subst P e says in h.0
+
+  pub completes : ((strict : Bool) → DecoderLaws strict) → (result : Status) → Says result c old new → Completes result c old new
+  completes laws result says =
+      each_known old.left
+      (λ b w clean through sound. let h = w sound in (h.0 ∙ text_done laws c (text_of (max_of c) b End) clean through, h.1))
+      (writes_all result says)

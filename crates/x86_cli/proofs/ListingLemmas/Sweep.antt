@@ -1,0 +1,79 @@
+-- The sweep by its cuts.
+use Rattle.std.proofs.Common.{Bool, ◌≡◌, ◌≢◌, ℕ, ◌+◌, ◌<◌, ◌≤◌, List, [], ◌∷◌, ◌++◌, map, length, drop, Option, Some, None, Result, Ok, Err, refl, arith, ap, ◌∙◌, sym, length-append}
+use Rattle.std.proofs.lemmas.List.{drop-append-le}
+use Rattle.x86_decode.specs.declared.instructions.Instruction.{Instruction}
+use Rattle.x86_fields.specs.declared.errors.DecodeError.{DecodeError}
+use Rattle.x86_decode.specs.Answer.{answer_of}
+use Rattle.x86_cli.specs.DecoderLaws.{DecoderLaws}
+use Rattle.x86_cli.specs.declared.text.reader.Ending.{Ending}
+use Rattle.x86_cli.specs.declared.text.reader.Ending.TheVariants.{Clean, Bad, Large, Fault}
+use Rattle.x86_cli.specs.declared.listings.status.Status.{Status}
+use Rattle.x86_cli.specs.declared.listings.status.Status.TheVariants as outcome
+use Rattle.x86_cli.specs.Outside.Stop.{Stop}
+use Rattle.x86_cli.specs.Text.{Text, text_at}
+use Rattle.x86_cli.specs.Listings.Line.{line}
+use Rattle.x86_cli.specs.Listings.Listing.{with_lines, at_end}
+use Rattle.x86_cli.specs.Text.Window.{rest_of}
+use Rattle.x86_layout.specs.Sweeps.Cuts.{cut_length, cut_at, cuts_from}
+use Rattle.x86_layout.proofs.SweepLemmas.Cut.{first_and_rest, none_left}
+use Rattle.x86_cli.specs.Listings.Step.{IsStep}
+use Rattle.x86_cli.specs.declared.listings.listing.Step.TheVariants as step
+use Rattle.x86_cli.specs.Listings.Sweep.{cut_text, cut_line, sweep_at}
+use Rattle.x86_cli.proofs.ListingLemmas.Stands.{with-with, rest_is}
+
+-- what a window shows of its front, where a cut stands there: whatever follows, that the next cut has this answer
+record ShowsAnswer (strict : Bool) (a : Result Instruction DecodeError) (ended : Option Ending) (w : List ℕ) (p r : ℕ) : Type 0 where
+  some : 0 < cut_length a
+  fits : cut_length a ≤ length w
+  answers : (xs : List ℕ) (stop : Stop) → answer_of strict (rest_of ended w p r xs stop).image ≡ a
+
+module _ (strict : Bool) where
+  sweep-cut : (n len : ℕ) (xs : List ℕ) (e : Ending) (a : Result Instruction DecodeError) → answer_of strict xs ≡ a → cut_length a ≡ len → 0 < len → len ≤ length xs →
+      sweep_at strict n (record { image = xs; ending = e }) ≡ with_lines (line (cut_text n a) ∷ []) (sweep_at strict (n + len) (record { image = drop len xs; ending = e }))
+  sweep-cut n len xs e a h same some le =
+      let behind : List (List ℕ) = map cut_line (cuts_from strict (n + len) (drop len xs)) in
+      ap (λ cs. with_lines (map cut_line cs) (at_end e)) (first_and_rest strict len n xs (ap cut_length h ∙ same) some (omega arith))
+      ∙ sym (with-with (cut_line (cut_at strict n xs) ∷ []) behind (at_end e))
+      ∙ ap (λ a. with_lines (line (cut_text n a) ∷ []) (with_lines behind (at_end e))) h
+
+  -- one cut of the rest
+  rest_cut : (ended : Option Ending) (n : ℕ) (w : List ℕ) (p r : ℕ) (a : Result Instruction DecodeError) → ShowsAnswer strict a ended w p r → (xs : List ℕ) (stop : Stop) →
+      sweep_at strict n (rest_of ended w p r xs stop) ≡ with_lines (line (cut_text n a) ∷ []) (sweep_at strict (n + cut_length a) (rest_of ended (drop (cut_length a) w) p r xs stop))
+  rest_cut None n w p r a shows xs stop =
+      let t : Text = text_at p r xs stop in
+      let fits : cut_length a ≤ length (w ++ t.image) = simp length-append (omega (arith, shows.fits)) in
+      sweep-cut n (cut_length a) (w ++ t.image) t.ending a (shows.answers xs stop) refl shows.some fits
+      ∙ ap (λ ys. with_lines (line (cut_text n a) ∷ []) (sweep_at strict (n + cut_length a) (record { image = ys; ending = t.ending }))) (drop-append-le (cut_length a) w t.image shows.fits)
+  rest_cut (Some e) n w p r a shows xs stop = sweep-cut n (cut_length a) w e a (shows.answers xs stop) refl shows.some shows.fits
+
+  rest_end : (n : ℕ) (w : List ℕ) (e : Ending) → length w ≡ 0 → sweep_at strict n (record { image = w; ending = e }) ≡ at_end e
+  rest_end n w e none = ap (λ cs. with_lines (map cut_line cs) (at_end e)) (none_left strict n w none)
+
+  pub sweep_end : (ended : Option Ending) (n : ℕ) (text w : List ℕ) (p r : ℕ) (e : Ending) → ended ≡ Some e → length w ≡ 0 → IsStep (sweep_at strict) (step.Ended e) n text ended w p r
+  sweep_end ended n text w p r e is none = rest_is (sweep_at strict) n ended w p r e (at_end e) is (rest_end n w e none)
+
+  -- no sweep refuses
+  pub end_unrefused : (e : Ending) (status : Status) → status ≡ (at_end e).status → status ≢ outcome.Refused
+  end_unrefused Clean status is = λ f. let g : outcome.Done ≡ outcome.Refused = sym is ∙ f in cc
+  end_unrefused (Bad n) status is = λ f. let g : outcome.BadText ≡ outcome.Refused = sym is ∙ f in cc
+  end_unrefused Large status is = λ f. let g : outcome.TooLarge ≡ outcome.Refused = sym is ∙ f in cc
+  end_unrefused Fault status is = λ f. let g : outcome.ReadFault ≡ outcome.Refused = sym is ∙ f in cc
+
+-- what a window that isn't empty shows
+module _ (strict : Bool) (laws : DecoderLaws strict) where
+  answer_shows : (a : Result Instruction DecodeError) (w : List ℕ) → answer_of strict w ≡ a → 0 < length w → (0 < cut_length a) × (cut_length a ≤ length w)
+  answer_shows (Ok i) w h some = laws.lengths w i h
+  answer_shows (Err e) w h some = (omega arith, omega arith)
+
+  same_answer : (ended : Option Ending) (w : List ℕ) (p r : ℕ) → (ended ≡ None → length w ≡ 15) → (xs : List ℕ) (stop : Stop) →
+      answer_of strict (rest_of ended w p r xs stop).image ≡ answer_of strict w
+  same_answer None w p r full xs stop = laws.stay w (text_at p r xs stop).image (laws.enough w (omega (arith, full refl)))
+  same_answer (Some e) w p r full xs stop = refl
+
+  pub sweep_line : (ended : Option Ending) (n : ℕ) (w s : List ℕ) (p r : ℕ) (a : Result Instruction DecodeError) → (ended ≡ None → length w ≡ 15) → 0 < length w →
+      a ≡ answer_of strict s → s ≡ w → (len : ℕ) (text : List ℕ) → len ≡ cut_length a → text ≡ cut_text n a → IsStep (sweep_at strict) (step.Line len) n text ended w p r
+  sweep_line ended n w s p r a full some answer same len text long is =
+      let here : answer_of strict w ≡ a = sym (answer ∙ ap (answer_of strict) same) in
+      let h = answer_shows a w here some in
+      let shows : ShowsAnswer strict a ended w p r = record { some = h.0; fits = h.1; answers = λ xs stop. same_answer ended w p r full xs stop ∙ here } in
+      rw (long, is) (h.0, h.1, λ xs stop. rest_cut strict ended n w p r a shows xs stop)

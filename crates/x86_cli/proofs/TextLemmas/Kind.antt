@@ -1,0 +1,47 @@
+-- What the table of kinds says of a byte.
+use Rattle.std.proofs.Common.{◌≡◌, ◌<◌, ◌⊎◌, inl, inr, ℕ, List, map, Bool, true, false, Option, Some, None, IfSome, refl, arith}
+use Rattle.std.specs.List.{range_with_len}
+use Rattle.std.proofs.lemmas.Grind.{common_steps}
+use Rattle.x86_cli.specs.declared.text.kinds.TheConstants.{KINDS}
+use Rattle.x86_cli.specs.declared.text.kinds.Kind.{Kind}
+use Rattle.x86_cli.specs.declared.text.kinds.Kind.TheVariants.{Digit, Blank, Other}
+use Rattle.x86_cli.specs.Text.Kinds.{IsKind}
+use Rattle.x86_cli.specs.Text.{is_blank, value_of}
+use Rattle.x86_cli.proofs.TextLemmas.Text.{value-blank}
+
+abbrev kind_by : Bool → Option ℕ → Kind
+kind_by true value = Blank
+kind_by false (Some v) = Digit v
+kind_by false None = Other
+
+-- the kind of a byte
+abbrev pub kind : ℕ → Kind
+kind b = kind_by (is_blank b) (value_of b)
+
+-- that of each byte
+unfoldable pub kinds : List Kind
+kinds = map kind (range_with_len 0 256)
+
+pub table : KINDS.now ≡ kinds
+unfolding kinds value_of
+table = refl
+
+-- the value of a digit
+small : (b : ℕ) → IfSome (value_of b) (λ v. v < 16)
+unfolding value_of
+small b = grind (arith, common_steps)
+
+pub is_kind : (b : ℕ) → IsKind (kind b) b
+is_kind b = by (is_blank b) (value_of b) refl refl (small b) (value-blank b)
+  where
+    by : (blank : Bool) (value : Option ℕ) → is_blank b ≡ blank → value_of b ≡ value → IfSome value (λ v. v < 16) → (is_blank b ≡ true → value_of b ≡ None) →
+        IsKind (kind_by blank value) b
+    by true value e f s none = (e, none e)
+    by false (Some v) e f s none = (e, f, s)
+    by false None e f s none = (e, f)
+
+pub no_digit : (k : Kind) (b : ℕ) → IsKind k b → (k ≡ Blank) ⊎ (k ≡ Other) → value_of b ≡ None
+no_digit Blank b h e = h.1
+no_digit Other b h e = h.1
+no_digit (Digit v) b h (inl e) = cc
+no_digit (Digit v) b h (inr e) = cc

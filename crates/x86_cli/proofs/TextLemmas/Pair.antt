@@ -1,0 +1,210 @@
+-- Sequences of blanks and pairs.
+use Rattle.std.proofs.Common.{◌≡◌, ℕ, zero, suc, ◌+◌, ◌*◌, ◌<◌, List, [], ◌∷◌, ◌++◌, length, take, refl, arith, Option, Some, None, Bool, true, false, ap, ◌∙◌, sym}
+use Rattle.std.specs.List.{flat_map}
+use Rattle.std.specs.Option.{option_map}
+use lib.Seq.{take-take}
+use Rattle.x86_cli.specs.Text.{is_blank, value_of, bad_of, image_of, ends_in_half}
+use Rattle.x86_cli.specs.Text.Pairs.{Item, blank, pair, bytes_of, values_of, AreItems, IsHalf, IsSequence, is_half, SequencesAreSound, BadIsFirst}
+use Rattle.x86_cli.proofs.TextLemmas.Text.{value-blank, image-blank, bad-blank, half-blank}
+
+by_bool : {G : Type 0} (b : Bool) → (b ≡ true → G) → (b ≡ false → G) → G
+by_bool true f g = f refl
+by_bool false f g = g refl
+
+by_option : {G : Type 0} (o : Option ℕ) → (o ≡ None → G) → ((v : ℕ) → o ≡ Some v → G) → G
+by_option None f g = f refl
+by_option (Some v) f g = g v refl
+
+unmapped : (f : ℕ → ℕ) (o : Option ℕ) → option_map f o ≡ None → o ≡ None
+unmapped f None e = refl
+unmapped f (Some v) e = cc
+
+digit_not_blank : (b v : ℕ) → value_of b ≡ Some v → is_blank b ≡ false
+digit_not_blank b v e = by_bool (is_blank b) (λ h. let n = value-blank b h in cc) (λ h. h)
+
+bad-pair : (a b v w : ℕ) (s : List ℕ) → value_of a ≡ Some v → value_of b ≡ Some w → bad_of (a ∷ b ∷ s) ≡ option_map (λ n. 2 + n) (bad_of s)
+unfolding bad_of
+bad-pair a b v w s d e = let f = digit_not_blank a v d in rw (f, d, e) refl
+
+image-pair : (a b v w : ℕ) (s : List ℕ) → value_of a ≡ Some v → value_of b ≡ Some w → image_of (a ∷ b ∷ s) ≡ (16 * v + w) ∷ image_of s
+unfolding image_of
+image-pair a b v w s d e = let f = digit_not_blank a v d in rw (f, d, e) refl
+
+half-pair : (a b v : ℕ) (s : List ℕ) → value_of a ≡ Some v → ends_in_half (a ∷ b ∷ s) ≡ ends_in_half s
+unfolding ends_in_half
+half-pair a b v s d = let f = digit_not_blank a v d in rw f refl
+
+bad-half : (a v : ℕ) → value_of a ≡ Some v → bad_of (a ∷ []) ≡ None
+unfolding bad_of
+bad-half a v d = let f = digit_not_blank a v d in rw (f, d) refl
+
+-- from a sequence
+
+items_bad : (items : List Item) (half : List ℕ) → AreItems items → IsHalf half →
+    (bad_of (flat_map bytes_of items ++ half) ≡ None) × (image_of (flat_map bytes_of items ++ half) ≡ flat_map values_of items)
+    × (ends_in_half (flat_map bytes_of items ++ half) ≡ is_half half)
+unfolding image_of ends_in_half bad_of
+items_bad [] [] each ok = (refl, refl, refl)
+items_bad [] (d ∷ []) each ok = (bad-half d ok.0 ok.1, refl, rw ok.1 refl)
+items_bad [] (d ∷ e ∷ ds) each ok = absurd ok
+items_bad (blank b ∷ items) half each ok =
+    let s = flat_map bytes_of items ++ half in
+    let h = items_bad items half each.1 ok in
+    (bad-blank b s each.0 ∙ ap (option_map (λ n. 1 + n)) h.0, image-blank b s each.0 ∙ h.1, half-blank b s each.0 (value-blank b each.0) ∙ h.2)
+items_bad (pair a b ∷ items) half each ok =
+    let s = flat_map bytes_of items ++ half in
+    let h = items_bad items half each.2 ok in
+    let d = each.0.1 in
+    let e = each.1.1 in (
+      bad-pair a b each.0.0 each.1.0 s d e ∙ ap (option_map (λ n. 2 + n)) h.0,
+      image-pair a b each.0.0 each.1.0 s d e ∙ rw (d, e, h.1) refl,
+      half-pair a b each.0.0 s d ∙ h.2,
+    )
+
+sequence_bad : (bytes image half : List ℕ) → IsSequence bytes image half → (bad_of bytes ≡ None) × (image_of bytes ≡ image) × (ends_in_half bytes ≡ is_half half)
+sequence_bad bytes image half sequence =
+    let h = items_bad sequence.items half sequence.each sequence.half_pair in
+    rw (sequence.whole, sequence.values) h
+
+-- to a sequence
+
+Found : List ℕ → Type 0
+Found bytes = (half : List ℕ) × IsSequence bytes (image_of bytes) half × (ends_in_half bytes ≡ is_half half)
+
+from_blank : (b : ℕ) (s : List ℕ) → is_blank b ≡ true → Found s → Found (b ∷ s)
+unfolding Found
+from_blank b s e found =
+    let sequence = found.1 in (
+      found.0,
+      record {
+        items = blank b ∷ sequence.items;
+        each = (e, sequence.each);
+        half_pair = sequence.half_pair;
+        whole = ap (λ xs. b ∷ xs) sequence.whole;
+        values = image-blank b s e ∙ sequence.values;
+      },
+      half-blank b s e (value-blank b e) ∙ found.2,
+    )
+
+from_pair : (a b v w : ℕ) (s : List ℕ) → value_of a ≡ Some v → value_of b ≡ Some w → Found s → Found (a ∷ b ∷ s)
+unfolding Found
+from_pair a b v w s d e found =
+    let sequence = found.1 in (
+      found.0,
+      record {
+        items = pair a b ∷ sequence.items;
+        each = ((v, d), (w, e), sequence.each);
+        half_pair = sequence.half_pair;
+        whole = ap (λ xs. a ∷ b ∷ xs) sequence.whole;
+        values = image-pair a b v w s d e ∙ rw (d, e) (ap (λ xs. (16 * v + w) ∷ xs) sequence.values);
+      },
+      half-pair a b v s d ∙ found.2,
+    )
+
+from_none : Found []
+unfolding Found image_of ends_in_half
+from_none = ([], record { items = []; each = tt; half_pair = tt; whole = refl; values = refl }, refl)
+
+from_half : (a v : ℕ) → value_of a ≡ Some v → Found (a ∷ [])
+unfolding Found image_of ends_in_half
+from_half a v d = (a ∷ [], record { items = []; each = tt; half_pair = (v, d); whole = refl; values = refl }, rw d refl)
+
+sequence_of : (bytes : List ℕ) → bad_of bytes ≡ None → Found bytes
+unfolding bad_of
+sequence_of [] e = from_none
+sequence_of (a ∷ []) e =
+    by_bool (is_blank a) (λ h. from_blank a [] h from_none)
+    (λ h. by_option (value_of a) (λ n. let f = rw (h, n) at e in cc) (λ v d. from_half a v d))
+sequence_of (a ∷ b ∷ s) e =
+    by_bool (is_blank a) (λ h. from_blank a (b ∷ s) h (sequence_of (b ∷ s) (unmapped (λ n. 1 + n) (bad_of (b ∷ s)) (rw h at e))))
+    (λ h. by_option (value_of a) (λ n. let f = rw (h, n) at e in cc)
+    (λ v d. by_option (value_of b) (λ n. let f = rw (h, d, n) at e in cc)
+    (λ w f. from_pair a b v w s d f (sequence_of s (unmapped (λ n. 2 + n) (bad_of s) (rw (h, d, f) at e))))))
+
+pub sequences_sound : SequencesAreSound
+unfolding Found
+sequences_sound = (sequence_of, sequence_bad)
+
+-- the first bad byte
+
+mapped : (k : ℕ) (o : Option ℕ) (n : ℕ) → option_map (λ m. k + m) o ≡ Some n → (m : ℕ) × (o ≡ Some m) × (n ≡ k + m)
+mapped k None n e = cc
+mapped k (Some m) n e = (m, refl, cc)
+
+record First (bytes : List ℕ) (n : ℕ) : Type 0 where
+  inside : n < length bytes
+  before : bad_of (take n bytes) ≡ None
+  here : bad_of (take (suc n) bytes) ≡ Some n
+  image : image_of (take n bytes) ≡ image_of bytes
+
+first_blank : (a : ℕ) (s : List ℕ) (m : ℕ) → is_blank a ≡ true → First s m → First (a ∷ s) (suc m)
+first_blank a s m e f = record {
+  inside = omega (arith, f.inside);
+  before = bad-blank a (take m s) e ∙ ap (option_map (λ n. 1 + n)) f.before;
+  here = bad-blank a (take (suc m) s) e ∙ ap (option_map (λ n. 1 + n)) f.here ∙ ap Some (omega arith);
+  image = image-blank a (take m s) e ∙ f.image ∙ sym (image-blank a s e);
+}
+
+first_pair : (a b v w : ℕ) (s : List ℕ) (m : ℕ) → value_of a ≡ Some v → value_of b ≡ Some w → First s m → First (a ∷ b ∷ s) (suc (suc m))
+first_pair a b v w s m d e f = record {
+  inside = omega (arith, f.inside);
+  before = bad-pair a b v w (take m s) d e ∙ ap (option_map (λ n. 2 + n)) f.before;
+  here = bad-pair a b v w (take (suc m) s) d e ∙ ap (option_map (λ n. 2 + n)) f.here ∙ ap Some (omega arith);
+  image = image-pair a b v w (take m s) d e ∙ ap (λ xs. (16 * v + w) ∷ xs) f.image ∙ sym (image-pair a b v w s d e);
+}
+
+first_other : (a : ℕ) (s : List ℕ) → is_blank a ≡ false → value_of a ≡ None → First (a ∷ s) 0
+unfolding bad_of image_of
+first_other a [] e n = record { inside = omega arith; before = refl; here = rw (e, n) refl; image = refl }
+first_other a (b ∷ s) e n = record { inside = omega arith; before = refl; here = rw (e, n) refl; image = rw (e, n) refl }
+
+first_half : (a b v : ℕ) (s : List ℕ) → value_of a ≡ Some v → value_of b ≡ None → First (a ∷ b ∷ s) 1
+unfolding bad_of image_of
+first_half a b v s d n =
+    let f = digit_not_blank a v d in
+    record { inside = omega arith; before = rw (f, d) refl; here = rw (f, d, n) refl; image = rw (f, d, n) refl }
+
+moved_to : (bytes : List ℕ) (n m : ℕ) → n ≡ m → First bytes m → First bytes n
+moved_to bytes n m e f = rw e f
+
+first_bad : (bytes : List ℕ) (n : ℕ) → bad_of bytes ≡ Some n → First bytes n
+unfolding bad_of
+first_bad [] n e = cc
+first_bad (a ∷ []) n e =
+    by_bool (is_blank a) (λ h. let f = rw h at e in cc)
+    (λ h. by_option (value_of a) (λ d. let f = rw (h, d) at e in let z : n ≡ 0 = cc in moved_to (a ∷ []) n 0 z (first_other a [] h d)) (λ v d. let f = rw (h, d) at e in cc))
+first_bad (a ∷ b ∷ s) n e =
+    by_bool (is_blank a)
+    (λ h.
+    let m = mapped 1 (bad_of (b ∷ s)) n (rw h at e) in
+    moved_to (a ∷ b ∷ s) n (suc m.0) (omega (arith, m.2)) (first_blank a (b ∷ s) m.0 h (first_bad (b ∷ s) m.0 m.1)))
+    (λ h. by_option (value_of a)
+    (λ d. let f = rw (h, d) at e in let z : n ≡ 0 = cc in moved_to (a ∷ b ∷ s) n 0 z (first_other a (b ∷ s) h d))
+    (λ v d. by_option (value_of b)
+    (λ g. let f = rw (h, d, g) at e in let z : n ≡ 1 = cc in moved_to (a ∷ b ∷ s) n 1 z (first_half a b v s d g))
+    (λ w g.
+    let m = mapped 2 (bad_of s) n (rw (h, d, g) at e) in
+    moved_to (a ∷ b ∷ s) n (suc (suc m.0)) (omega (arith, m.2)) (first_pair a b v w s m.0 d g (first_bad s m.0 m.1)))))
+
+-- What stands in front of no bad byte has none.
+fronts_good : (m : ℕ) (bytes : List ℕ) → bad_of bytes ≡ None → bad_of (take m bytes) ≡ None
+unfolding bad_of
+fronts_good zero bytes e = refl
+fronts_good (suc m) [] e = refl
+fronts_good (suc zero) (a ∷ []) e = e
+fronts_good (suc (suc m)) (a ∷ []) e = e
+fronts_good (suc zero) (a ∷ b ∷ s) e =
+    by_bool (is_blank a) (λ h. rw h refl)
+    (λ h. by_option (value_of a) (λ n. let f = rw (h, n) at e in cc) (λ v d. rw (h, d) refl))
+fronts_good (suc (suc m)) (a ∷ b ∷ s) e =
+    by_bool (is_blank a)
+    (λ h. bad-blank a (take (suc m) (b ∷ s)) h ∙ ap (option_map (λ n. 1 + n)) (fronts_good (suc m) (b ∷ s) (unmapped (λ n. 1 + n) (bad_of (b ∷ s)) (rw h at e))))
+    (λ h. by_option (value_of a) (λ n. let f = rw (h, n) at e in cc)
+    (λ v d. by_option (value_of b) (λ n. let f = rw (h, d, n) at e in cc)
+    (λ w f. bad-pair a b v w (take m s) d f ∙ ap (option_map (λ n. 2 + n)) (fronts_good m s (unmapped (λ n. 2 + n) (bad_of s) (rw (h, d, f) at e))))))
+
+pub bad_is_first : BadIsFirst
+bad_is_first bytes n e =
+    let f = first_bad bytes n e in
+    let next : n + 1 ≡ suc n = omega arith in
+    (f.inside, (λ m le. ap bad_of (sym (take-take m n bytes le)) ∙ fronts_good m (take n bytes) f.before), rw next f.here, f.image)

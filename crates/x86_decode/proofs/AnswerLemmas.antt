@@ -1,0 +1,242 @@
+-- What follows from the definition of the answer.
+use Rattle.std.proofs.Common.{◌≡◌, ◌≢◌, ℕ, suc, ◌+◌, ◌<◌, ◌≤◌, ◌⊎◌, inl, inr, Bool, List, [], ◌∷◌, ◌++◌, length, drop, take, Result, Ok, Err, refl, sym, ap, subst, ◌∙◌, arith, length-append, append_assoc, length-take}
+use Rattle.std.proofs.lemmas.Bool.{cases_lt}
+use Rattle.std.proofs.lemmas.List.{append-nil, take-append-drop, take-append-le}
+use Rattle.std.proofs.Math.Seq.{take-append_seam}
+use Rattle.x86_arch.specs.Reader.{State}
+use Rattle.x86_fields.specs.declared.errors.DecodeError.{DecodeError}
+use Rattle.x86_fields.specs.declared.errors.DecodeError.TheVariants.{ExhaustedInput, InvalidOpcode, InvalidOperand, TooLong, InvalidPrefixes, IncompleteDecoder}
+use Rattle.x86_fields.proofs.EndLemmas.{no_front}
+use Rattle.x86_operands.specs.declared.reader.Reading.{Reading}
+use Rattle.x86_decode.specs.declared.instructions.Instruction.{Instruction}
+use Rattle.x86_forms.specs.declared.Map.TheVariants.{One}
+use Rattle.x86_decode.specs.Head.{Rows}
+use Rattle.x86_decode.specs.Instruction.{instruction_of}
+use Rattle.x86_decode.specs.Grammar.{IsSentence, Decides, by_bytes, case_5, HasNoSentence, in_head, IsRefusal, IsOpen, IsAccepted, IsAnswer}
+use Rattle.x86_decode.proofs.RowSteps.{exhausted_or_not}
+use Rattle.x86_decode.proofs.BodyLemmas.{verdict, early, sentence_settles, out_nothing}
+use Rattle.x86_decode.proofs.Theorem.{ok_apart, same_error, agree, not_both, refusal_answer, some_answer, none_settles, open_answer}
+
+-- a front of a longer list that is short enough is a front of the list
+pub front_of : (input more q rest : List ℕ) → input ++ more ≡ q ++ rest → length q ≤ length input → input ≡ q ++ drop (length q) input
+front_of input more q rest h le =
+    let begins : take (length q) input ≡ q = sym (take-append-le (length q) input more le) ∙ ap (take (length q)) h ∙ take-append_seam q rest in
+    sym (take-append-drop (length q) input) ∙ ap (λ l. l ++ drop (length q) input) begins
+
+front_le : (q rest l : List ℕ) → l ≡ q ++ rest → length q ≤ length l
+front_le q rest l e = let h : length l ≡ length q + length rest = ap length e ∙ length-append q rest in omega arith
+
+same_instruction : (a b : Instruction) (r s : Reading) (n k : ℕ) → a ≡ instruction_of r n → b ≡ instruction_of s k → r ≡ s → n ≡ k → a ≡ b
+same_instruction a b r s n k x y e f = x ∙ ap (λ r. instruction_of r n) e ∙ ap (instruction_of s) f ∙ sym y
+
+same_ok : (a b : Reading) → ◌≡◌ {A = Result Reading DecodeError} (Ok a) (Ok b) → a ≡ b
+same_ok a b e = cc
+
+module _ (rows : Rows) (strict : Bool) where
+  abbrev Answer : List ℕ → Result Instruction DecodeError → ℕ → Type 0
+  Answer input r n = IsAnswer rows strict input r n
+
+  pub answer_refusal : (input : List ℕ) (n : ℕ) (e : DecodeError) → e ≢ ExhaustedInput → Answer input (Err e) n → IsRefusal rows strict input e n
+  answer_refusal input n ExhaustedInput d r = absurd (d refl)
+  answer_refusal input n InvalidOpcode d r = r
+  answer_refusal input n InvalidOperand d r = r
+  answer_refusal input n InvalidPrefixes d r = r
+  answer_refusal input n TooLong d r = r
+  answer_refusal input n IncompleteDecoder d r = r
+
+  -- the three kinds of answers
+  data View (input : List ℕ) (r : Result Instruction DecodeError) (n : ℕ) : Type 0 where
+    accepted : (a : Instruction) → r ≡ Ok a → IsAccepted rows strict input a n → View input r n
+    refused : (e : DecodeError) → r ≡ Err e → e ≢ ExhaustedInput → IsRefusal rows strict input e n → View input r n
+    left_open : r ≡ Err ExhaustedInput → IsOpen rows strict input n → View input r n
+
+  view_error : (input : List ℕ) (n : ℕ) (e : DecodeError) → (e ≡ ExhaustedInput) ⊎ (e ≢ ExhaustedInput) → Answer input (Err e) n → View input (Err e) n
+  view_error input n e (inl is) a = left_open (ap (λ f. Err f) is) (subst (λ f. Answer input (Err f) n) is a)
+  view_error input n e (inr not) a = refused e refl not (answer_refusal input n e not a)
+
+  view : (input : List ℕ) (n : ℕ) (r : Result Instruction DecodeError) → Answer input r n → View input r n
+  view input n (Ok a) h = accepted a refl h
+  view input n (Err e) h = view_error input n e (exhausted_or_not e) h
+
+  -- ---- appended bytes
+
+  no_sentence_more : (q rest more : List ℕ) (e : DecodeError) → Decides rows strict q e → HasNoSentence rows strict ((q ++ rest) ++ more)
+  no_sentence_more q rest more e (by_bytes d) s k a h is =
+      let o = early rows strict q e d in
+      not_both rows strict q s (rest ++ more) k e a o.0 o.1 o.2 is (sym (append_assoc q rest more) ∙ h)
+  no_sentence_more q rest more e (case_5 t) s k a h is =
+      let long : length q ≡ 15 = t.long in
+      let short : length s ≤ length q = let l = is.short in omega arith in
+      t.no_sentence s (drop (length s) q) a (front_of q (rest ++ more) s k (sym (append_assoc q rest more) ∙ h) short) is
+
+  refusal_stays : (input more : List ℕ) (e : DecodeError) (n : ℕ) → IsRefusal rows strict input e n → IsRefusal rows strict (input ++ more) e n
+  refusal_stays input more e n r = record {
+    front = r.front;
+    rest = r.rest ++ more;
+    begins = ap (λ l. l ++ more) r.begins ∙ append_assoc r.front r.rest more;
+    decides = r.decides;
+    long = r.long;
+    shortest = λ p k f h d. by p k f h d (cases_lt (length p) n);
+    no_sentence = λ s k a h is. no_sentence_more r.front r.rest more e r.decides s k a (ap (λ l. l ++ more) (sym r.begins) ∙ h) is;
+  }
+    where
+      by : (p k : List ℕ) (f : DecodeError) → input ++ more ≡ p ++ k → Decides rows strict p f → (length p < n) ⊎ (n ≤ length p) → n ≤ length p
+      by p k f h d (inl less) =
+          let l : length r.front ≤ length input = front_le r.front r.rest input r.begins in
+          let e : length r.front ≡ n = r.long in
+          r.shortest p (drop (length p) input) f (front_of input more p k h (omega arith)) d
+      by p k f h d (inr le) = le
+
+  stays_by : (input more : List ℕ) (r : Result Instruction DecodeError) (n : ℕ) → r ≢ Err ExhaustedInput → View input r n → Answer (input ++ more) r n
+  stays_by input more r n d (accepted a e h) = subst (λ x. Answer (input ++ more) x n) (sym e)
+      (record { sentence = h.sentence; rest = h.rest ++ more; begins = ap (λ l. l ++ more) h.begins ∙ append_assoc h.sentence h.rest more; long = h.long; is = h.is })
+  stays_by input more r n d (refused e is apart h) = subst (λ x. Answer (input ++ more) x n) (sym is) (refusal_answer rows strict (input ++ more) n e apart (refusal_stays input more e n h))
+  stays_by input more r n d (left_open is h) = absurd (d is)
+
+  pub stays : (input more : List ℕ) (r : Result Instruction DecodeError) (n : ℕ) → r ≢ Err ExhaustedInput → Answer input r n → Answer (input ++ more) r n
+  stays input more r n d a = stays_by input more r n d (view input n r a)
+
+  -- ---- one answer
+
+  sentences_agree : (input s t x y : List ℕ) (a b : Instruction) → input ≡ s ++ x → input ≡ t ++ y → IsSentence rows strict s a → IsSentence rows strict t b → (a ≡ b) × (s ≡ t)
+  sentences_agree input s t x y a b h k is js =
+      let same = agree rows strict s t x y (Ok is.reading) (Ok js.reading) (sentence_settles rows strict s a is) (sentence_settles rows strict t b js) (sym h ∙ k) in
+      (same_instruction a b is.reading js.reading (length s) (length t) is.gives js.gives (same_ok is.reading js.reading same.0) (ap length same.1), same.1)
+
+  refusals_agree : (q : List ℕ) (e f : DecodeError) → Decides rows strict q e → Decides rows strict q f → e ≡ f
+  refusals_agree q e f (by_bytes d) (by_bytes k) =
+      let o = early rows strict q e d in
+      let p = early rows strict q f k in
+      let same = (agree rows strict q q [] [] o.0 p.0 o.1 p.1 refl).0 in
+      same_error {X = Reading} e f (sym o.2 ∙ ap verdict same ∙ p.2)
+  refusals_agree q e f (by_bytes d) (case_5 t) = absurd (t.undecided q [] e (sym (append-nil q)) d)
+  refusals_agree q e f (case_5 t) (by_bytes d) = absurd (t.undecided q [] f (sym (append-nil q)) d)
+  refusals_agree q e f (case_5 t) (case_5 u) = refl
+
+  same_front : (a b x y : List ℕ) → a ++ x ≡ b ++ y → length a ≡ length b → a ≡ b
+  same_front a b x y e l = sym (take-append_seam a x) ∙ ap (λ n. take n (a ++ x)) l ∙ ap (take (length b)) e ∙ take-append_seam b y
+
+  once_refused : (input : List ℕ) (e f : DecodeError) (n k : ℕ) → IsRefusal rows strict input e n → IsRefusal rows strict input f k → (e ≡ f) × (n ≡ k)
+  once_refused input e f n k r s =
+      let one : n ≤ length s.front = r.shortest s.front s.rest f s.begins s.decides in
+      let two : k ≤ length r.front = s.shortest r.front r.rest e r.begins r.decides in
+      let here : length r.front ≡ n = r.long in
+      let there : length s.front ≡ k = s.long in
+      let counts : n ≡ k = omega arith in
+      let fronts : r.front ≡ s.front = same_front r.front s.front r.rest s.rest (sym r.begins ∙ s.begins) (here ∙ counts ∙ sym there) in
+      (refusals_agree s.front e f (subst (λ q. Decides rows strict q e) fronts r.decides) s.decides, counts)
+
+  once_by : (input : List ℕ) (r s : Result Instruction DecodeError) (n k : ℕ) → View input r n → View input s k → (r ≡ s) × (n ≡ k)
+  once_by input r s n k (accepted a e h) (accepted b f g) =
+      let same = sentences_agree input h.sentence g.sentence h.rest g.rest a b h.begins g.begins h.is g.is in
+      (e ∙ ap (λ x. Ok x) same.0 ∙ sym f, sym h.long ∙ ap length same.1 ∙ g.long)
+  once_by input r s n k (accepted a e h) (refused f is d g) = absurd (g.no_sentence h.sentence h.rest a h.begins h.is)
+  once_by input r s n k (accepted a e h) (left_open is g) = absurd (g.no_sentence h.sentence h.rest a h.begins h.is)
+  once_by input r s n k (refused f is d g) (accepted a e h) = absurd (g.no_sentence h.sentence h.rest a h.begins h.is)
+  once_by input r s n k (left_open is g) (accepted a e h) = absurd (g.no_sentence h.sentence h.rest a h.begins h.is)
+  once_by input r s n k (refused e is d h) (refused f js c g) =
+      let same = once_refused input e f n k h g in (is ∙ ap (λ x. Err x) same.0 ∙ sym js, same.1)
+  once_by input r s n k (refused e is d h) (left_open js g) = absurd (g.undecided h.front h.rest e h.begins h.decides)
+  once_by input r s n k (left_open js g) (refused e is d h) = absurd (g.undecided h.front h.rest e h.begins h.decides)
+  once_by input r s n k (left_open is h) (left_open js g) =
+      let a = h.taken in
+      let b = g.taken in
+      let one : length b.front ≤ n = a.longest b.front b.rest b.begins b.between in
+      let two : length a.front ≤ k = b.longest a.front a.rest a.begins a.between in
+      let here : length a.front ≡ n = a.long in
+      let there : length b.front ≡ k = b.long in
+      (is ∙ sym js, omega arith)
+
+  pub once : (input : List ℕ) (r s : Result Instruction DecodeError) (n k : ℕ) → Answer input r n → Answer input s k → (r ≡ s) × (n ≡ k)
+  once input r s n k a b = once_by input r s n k (view input n r a) (view input k s b)
+
+  -- ---- sentences and their fronts
+
+  pub no_proper_front : (s : List ℕ) (c : ℕ) (rest : List ℕ) (a b : Instruction) → IsSentence rows strict s a → IsSentence rows strict (s ++ c ∷ rest) b → ⊥
+  no_proper_front s c rest a b is js =
+      let same = (sentences_agree (s ++ c ∷ rest) s (s ++ c ∷ rest) (c ∷ rest) [] a b refl (sym (append-nil (s ++ c ∷ rest))) is js).1 in
+      absurd (let h : length s ≡ length s + suc (length rest) = ap length same ∙ length-append s (c ∷ rest) in omega arith)
+
+  sentence_answer : (s : List ℕ) (a : Instruction) → IsSentence rows strict s a → Answer s (Ok a) (length s)
+  sentence_answer s a is = record { sentence = s; rest = []; begins = sym (append-nil s); long = refl; is = is }
+
+  count_within : (input : List ℕ) (r : Result Instruction DecodeError) (n : ℕ) → View input r n → n ≤ length input
+  count_within input r n (accepted a e h) = let k = front_le h.sentence h.rest input h.begins in let l = h.long in omega arith
+  count_within input r n (refused f is d h) = let k = front_le h.front h.rest input h.begins in let l = h.long in omega arith
+  count_within input r n (left_open is h) = let t = h.taken in let k = front_le t.front t.rest input t.begins in let l = t.long in omega arith
+
+  too_late : (q : List ℕ) (c : ℕ) (rest : List ℕ) (a : Instruction) (r : Result Instruction DecodeError) (n : ℕ) → IsSentence rows strict (q ++ c ∷ rest) a → r ≢ Err ExhaustedInput → Answer q r n → View q r n → ⊥
+  too_late q c rest a r n is d h v =
+      let counts : n ≡ length (q ++ c ∷ rest) = (once (q ++ c ∷ rest) r (Ok a) n (length (q ++ c ∷ rest)) (stays q (c ∷ rest) r n d h) (sentence_answer (q ++ c ∷ rest) a is)).1 in
+      let within : n ≤ length q = count_within q r n v in
+      let long : length (q ++ c ∷ rest) ≡ length q + suc (length rest) = length-append q (c ∷ rest) in
+      absurd (omega arith)
+
+  front_by : (q : List ℕ) (c : ℕ) (rest : List ℕ) (a : Instruction) (r : Result Instruction DecodeError) (n : ℕ) → IsSentence rows strict (q ++ c ∷ rest) a → Answer q r n → View q r n → (k : ℕ) × Answer q (Err ExhaustedInput) k
+  front_by q c rest a r n is h (left_open e g) = (n, g)
+  front_by q c rest a r n is h (accepted b e g) = absurd (too_late q c rest a r n is (λ k. ok_apart b ExhaustedInput (sym e ∙ k)) h (accepted b e g))
+  front_by q c rest a r n is h (refused f e d g) = absurd (too_late q c rest a r n is (λ k. d (same_error {X = Instruction} f ExhaustedInput (sym e ∙ k))) h (refused f e d g))
+
+  pub proper_front_open : (q : List ℕ) (c : ℕ) (rest : List ℕ) (a : Instruction) → IsSentence rows strict (q ++ c ∷ rest) a → (k : ℕ) × Answer q (Err ExhaustedInput) k
+  proper_front_open q c rest a is =
+      let o = some_answer rows strict q in
+      front_by q c rest a o.0 o.1 is o.2 (view q o.1 o.0 o.2)
+
+  -- ---- the empty input
+
+  pub nothing_open : Answer [] (Err ExhaustedInput) 0
+  nothing_open =
+      let b : State ℕ = record { left = []; since_mark = 0; since_made = 0 } in
+      open_answer rows strict [] [] [] b (omega arith) refl refl (in_head [] One [] [] refl refl refl)
+      (λ front back e t left. out_nothing rows strict t (left ∙ no_front front back e))
+      (none_settles rows strict [] [] b [] refl (out_nothing rows strict b refl))
+
+  -- ---- the first fifteen bytes
+
+  pub never_open : (input : List ℕ) (n : ℕ) → 15 ≤ length input → Answer input (Err ExhaustedInput) n → ⊥
+  never_open input n enough o =
+      let w : List ℕ = take 15 input in
+      let begins : input ≡ w ++ drop 15 input = sym (take-append-drop 15 input) in
+      let behind : (p k : List ℕ) → w ≡ p ++ k → input ≡ p ++ (k ++ drop 15 input) = λ p k h. begins ∙ ap (λ l. l ++ drop 15 input) h ∙ append_assoc p k (drop 15 input) in
+      o.undecided w (drop 15 input) TooLong begins (case_5 (record {
+        long = length-take 15 input ∙ omega arith;
+        no_sentence = λ p k a h is. o.no_sentence p (k ++ drop 15 input) a (behind p k h) is;
+        undecided = λ p k e h d. o.undecided p (k ++ drop 15 input) e (behind p k h) (by_bytes d);
+      }))
+
+  pub first_fifteen : (input : List ℕ) (r : Result Instruction DecodeError) (n : ℕ) → 15 ≤ length input → Answer (take 15 input) r n → Answer input r n
+  first_fifteen input r n enough a =
+      let long : 15 ≤ length (take 15 input) = let h = length-take 15 input in omega arith in
+      subst (λ l. Answer l r n) (take-append-drop 15 input)
+      (stays (take 15 input) (drop 15 input) r n (λ e. never_open (take 15 input) n long (subst (λ x. Answer (take 15 input) x n) e a)) a)
+
+  by_fifteen : (input : List ℕ) (r : Result Instruction DecodeError) (n : ℕ) → Answer input r n → (length input < 15) ⊎ (15 ≤ length input) → n ≤ 15
+  by_fifteen input r n a (inl less) = let h = count_within input r n (view input n r a) in omega arith
+  by_fifteen input r n a (inr enough) =
+      let o = some_answer rows strict (take 15 input) in
+      let within : o.1 ≤ length (take 15 input) = count_within (take 15 input) o.0 o.1 (view (take 15 input) o.1 o.0 o.2) in
+      let same : n ≡ o.1 = (once input r o.0 n o.1 a (first_fifteen input o.0 o.1 enough o.2)).1 in
+      let long : length (take 15 input) ≤ 15 = let h = length-take 15 input in omega arith in
+      omega arith
+
+  pub at_most_fifteen : (input : List ℕ) (r : Result Instruction DecodeError) (n : ℕ) → Answer input r n → n ≤ 15
+  at_most_fifteen input r n a = by_fifteen input r n a (cases_lt (length input) 15)
+
+  -- ---- lengths
+
+  sentence_counts : (s : List ℕ) (a : Instruction) → IsSentence rows strict s a → a.length ≡ length s
+  sentence_counts s a is = ap (λ i. i.length) is.gives
+
+  sentence_is_some : (s : List ℕ) (a : Instruction) → IsSentence rows strict s a → 0 < length s
+  sentence_is_some [] a is = absurd (none_settles rows strict [] [] (record { left = []; since_mark = 0; since_made = 0 }) [] refl (out_nothing rows strict (record { left = []; since_mark = 0; since_made = 0 }) refl) [] [] (Ok is.reading) refl (sentence_settles rows strict [] a is))
+  sentence_is_some (c ∷ s) a is = omega arith
+
+  pub accepted_within : (input : List ℕ) (a : Instruction) (n : ℕ) → Answer input (Ok a) n → (0 < a.length) × (a.length ≤ 15) × (a.length ≤ length input) × (a.length ≡ n)
+  accepted_within input a n h =
+      let is = h.is in
+      let counts : a.length ≡ length h.sentence = sentence_counts h.sentence a is in
+      let some : 0 < length h.sentence = sentence_is_some h.sentence a is in
+      let short : length h.sentence ≤ 15 = is.short in
+      let within : length h.sentence ≤ length input = front_le h.sentence h.rest input h.begins in
+      let long : length h.sentence ≡ n = h.long in
+      (omega (arith, counts), omega (arith, counts), omega (arith, counts), counts ∙ long)

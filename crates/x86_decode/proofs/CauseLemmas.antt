@@ -1,0 +1,119 @@
+-- Each answer comes exactly where its case decides.
+use Rattle.std.proofs.Common.{◌≡◌, ◌≢◌, ◌↔◌, ℕ, inl, inr, Bool, true, false, if◌then◌else◌, List, length, Result, Ok, Err, IsOk, refl, ap, subst, arith}
+use Rattle.x86_fields.specs.declared.errors.DecodeError.{DecodeError}
+use Rattle.x86_fields.specs.declared.errors.DecodeError.TheVariants.{ExhaustedInput, InvalidOpcode, InvalidOperand, InvalidPrefixes, TooLong, IncompleteDecoder}
+use Rattle.x86_fields.specs.Run.{reading_of}
+use Rattle.x86_operands.specs.declared.plans.Fault.{Fault}
+use Rattle.x86_operands.specs.declared.plans.Fault.TheVariants.{BadOpcode, BadOperand, Incomplete}
+use Rattle.x86_operands.specs.PlanSteps.{error_of}
+use Rattle.x86_decode.specs.declared.instructions.Instruction.{Instruction}
+use Rattle.x86_decode.specs.Head.{Rows, bars_vex}
+use Rattle.x86_decode.specs.Grammar.{IsVexBehindRun, IsRefusedByRecord, case_1, case_2, case_3, case_4, Decides, by_bytes, case_5, IsRefusal, IsOpen, IsAnswer}
+use Rattle.x86_decode.specs.Causes.{Faults, IsDecidedBy, IsUndecided, HasSentence, HasFaultyOpcode, HasFaultyOperand, HasFaultyPrefixes, HasNoRoom, IsLeftOut}
+use Rattle.x86_decode.proofs.Theorem.{refusal_answer, same_error}
+use Rattle.x86_decode.proofs.AnswerLemmas.{once, answer_refusal}
+
+module _ (rows : Rows) (strict : Bool) where
+  by_vex : (q : List ℕ) (c : IsVexBehindRun rows strict q) (t : Bool) → bars_vex (reading_of c.run) ≡ t → Faults rows strict (if t then InvalidPrefixes else IncompleteDecoder) q
+  by_vex q c true e = inl (c, e)
+  by_vex q c false e = inl (c, e)
+
+  by_record : (q : List ℕ) (f : Fault) → IsRefusedByRecord rows strict q f → Faults rows strict (error_of f) q
+  by_record q BadOpcode c = inr c
+  by_record q BadOperand c = c
+  by_record q Incomplete c = inr c
+
+  -- what decides an error is one of its causes
+  cause_of : (q : List ℕ) (e : DecodeError) → Decides rows strict q e → Faults rows strict e q
+  cause_of q e (by_bytes (case_1 c)) = by_vex q c (bars_vex (reading_of c.run)) refl
+  cause_of q e (by_bytes (case_2 c)) = inl c
+  cause_of q e (by_bytes (case_3 f c)) = by_record q f c
+  cause_of q e (by_bytes (case_4 c)) = inr c
+  cause_of q e (case_5 c) = c
+
+  vex_decides : (q : List ℕ) (c : IsVexBehindRun rows strict q) (t : Bool) → bars_vex (reading_of c.run) ≡ t → Decides rows strict q (if t then InvalidPrefixes else IncompleteDecoder)
+  vex_decides q c t e = subst (λ b. Decides rows strict q (if b then InvalidPrefixes else IncompleteDecoder)) e (by_bytes (case_1 c))
+
+  -- and each of its causes decides it
+  decided : (q : List ℕ) (e : DecodeError) → Faults rows strict e q → Decides rows strict q e
+  decided q ExhaustedInput f = absurd f
+  decided q InvalidOpcode (inl c) = by_bytes (case_2 c)
+  decided q InvalidOpcode (inr c) = by_bytes (case_3 BadOpcode c)
+  decided q InvalidOperand c = by_bytes (case_3 BadOperand c)
+  decided q InvalidPrefixes (inl c) = vex_decides q c.0 true c.1
+  decided q InvalidPrefixes (inr c) = by_bytes (case_4 c)
+  decided q TooLong c = case_5 c
+  decided q IncompleteDecoder (inl c) = vex_decides q c.0 false c.1
+  decided q IncompleteDecoder (inr c) = by_bytes (case_3 Incomplete c)
+
+  module _ (input : List ℕ) (r : Result Instruction DecodeError) (n : ℕ) (a : IsAnswer rows strict input r n) where
+    refusal : (e : DecodeError) → e ≢ ExhaustedInput → r ≡ Err e → IsDecidedBy rows strict (Faults rows strict e) input
+    refusal e d same =
+        let k : IsRefusal rows strict input e n = answer_refusal rows strict input n e d (subst (λ x. IsAnswer rows strict input x n) same a) in
+        record {
+          front = k.front;
+          rest = k.rest;
+          begins = k.begins;
+          is = cause_of k.front e k.decides;
+          shortest = λ q more f h g. let least = k.shortest q more f h g in let long : length k.front ≡ n = k.long in omega arith;
+          no_sentence = k.no_sentence;
+        }
+
+    refused : (e : DecodeError) → e ≢ ExhaustedInput → IsDecidedBy rows strict (Faults rows strict e) input → r ≡ Err e
+    refused e d k =
+        (once rows strict input r (Err e) n (length k.front) a (refusal_answer rows strict input (length k.front) e d
+        (record { front = k.front; rest = k.rest; begins = k.begins; decides = decided k.front e k.is; long = refl; shortest = k.shortest; no_sentence = k.no_sentence }))).0
+
+    refused_for : (e : DecodeError) → e ≢ ExhaustedInput → (r ≡ Err e) ↔ IsDecidedBy rows strict (Faults rows strict e) input
+    refused_for e d = (refusal e d, refused e d)
+
+    pub opcode_faulted : (r ≡ Err InvalidOpcode) ↔ HasFaultyOpcode rows strict input
+    opcode_faulted = refused_for InvalidOpcode (λ e. cc)
+
+    pub operand_faulted : (r ≡ Err InvalidOperand) ↔ HasFaultyOperand rows strict input
+    operand_faulted = refused_for InvalidOperand (λ e. cc)
+
+    pub prefixes_faulted : (r ≡ Err InvalidPrefixes) ↔ HasFaultyPrefixes rows strict input
+    prefixes_faulted = refused_for InvalidPrefixes (λ e. cc)
+
+    pub too_long : (r ≡ Err TooLong) ↔ HasNoRoom rows strict input
+    too_long = refused_for TooLong (λ e. cc)
+
+    pub left_out : (r ≡ Err IncompleteDecoder) ↔ IsLeftOut rows strict input
+    left_out = refused_for IncompleteDecoder (λ e. cc)
+
+  left_open : (input : List ℕ) (r : Result Instruction DecodeError) (n : ℕ) → IsAnswer rows strict input r n → r ≡ Err ExhaustedInput → IsUndecided rows strict input
+  left_open input r n a e = let o : IsOpen rows strict input n = subst (λ x. IsAnswer rows strict input x n) e a in record { no_sentence = o.no_sentence; undecided = o.undecided }
+
+  open_only : (input : List ℕ) (r : Result Instruction DecodeError) (n : ℕ) → IsAnswer rows strict input r n → IsUndecided rows strict input → r ≡ Err ExhaustedInput
+  open_only input (Ok i) n a u = absurd (u.no_sentence a.sentence a.rest i a.begins a.is)
+  open_only input (Err ExhaustedInput) n a u = refl
+  open_only input (Err InvalidOpcode) n a u = absurd (u.undecided a.front a.rest InvalidOpcode a.begins a.decides)
+  open_only input (Err InvalidOperand) n a u = absurd (u.undecided a.front a.rest InvalidOperand a.begins a.decides)
+  open_only input (Err InvalidPrefixes) n a u = absurd (u.undecided a.front a.rest InvalidPrefixes a.begins a.decides)
+  open_only input (Err TooLong) n a u = absurd (u.undecided a.front a.rest TooLong a.begins a.decides)
+  open_only input (Err IncompleteDecoder) n a u = absurd (u.undecided a.front a.rest IncompleteDecoder a.begins a.decides)
+
+  pub exhausted : (input : List ℕ) (r : Result Instruction DecodeError) (n : ℕ) → IsAnswer rows strict input r n → (r ≡ Err ExhaustedInput) ↔ IsUndecided rows strict input
+  exhausted input r n a = (left_open input r n a, open_only input r n a)
+
+  -- a front is a sentence exactly where the answer is Ok
+  pub accepted : (input : List ℕ) (r : Result Instruction DecodeError) (n : ℕ) → IsAnswer rows strict input r n → IsOk r ↔ HasSentence rows strict input
+  accepted input r n a = (there input r n a, only input r n a)
+    where
+      there : (input : List ℕ) (r : Result Instruction DecodeError) (n : ℕ) → IsAnswer rows strict input r n → IsOk r → HasSentence rows strict input
+      there input (Ok i) n a ok = record { sentence = a.sentence; rest = a.rest; answer = i; begins = a.begins; is = a.is }
+      there input (Err e) n a ok = absurd cc
+
+      only : (input : List ℕ) (r : Result Instruction DecodeError) (n : ℕ) → IsAnswer rows strict input r n → HasSentence rows strict input → IsOk r
+      only input (Ok i) n a h = refl
+      only input (Err ExhaustedInput) n a h = absurd (a.no_sentence h.sentence h.rest h.answer h.begins h.is)
+      only input (Err InvalidOpcode) n a h = absurd (a.no_sentence h.sentence h.rest h.answer h.begins h.is)
+      only input (Err InvalidOperand) n a h = absurd (a.no_sentence h.sentence h.rest h.answer h.begins h.is)
+      only input (Err InvalidPrefixes) n a h = absurd (a.no_sentence h.sentence h.rest h.answer h.begins h.is)
+      only input (Err TooLong) n a h = absurd (a.no_sentence h.sentence h.rest h.answer h.begins h.is)
+      only input (Err IncompleteDecoder) n a h = absurd (a.no_sentence h.sentence h.rest h.answer h.begins h.is)
+
+-- a refusal is the same whatever stands beside it
+pub same_refusal : {A B : Type 0} {P : Type 0} (e f : DecodeError) → (◌≡◌ {A = Result A DecodeError} (Err e) (Err f)) ↔ P → (◌≡◌ {A = Result B DecodeError} (Err e) (Err f)) ↔ P
+same_refusal {A} {B} e f h = ((λ k. h.0 (ap (λ x. Err x) (same_error {X = B} e f k))), (λ p. ap (λ x. Err x) (same_error {X = A} e f (h.1 p))))

@@ -1,0 +1,349 @@
+-- The default and the strict decoder differ on fences whose rm isn't 0, and on nothing else.
+use Rattle.std.proofs.Common.{◌≡◌, ◌↔◌, ℕ, ◌+◌, ◌-◌, ◌≤◌, ◌⊎◌, inl, inr, Bool, true, false, if◌then◌else◌, not, ◌||◌, List, [], ◌∷◌, ◌++◌, length, take, drop, Option, None, Result, Ok, Err, refl, sym, ap, subst, ◌∙◌, arith, length-append, append_assoc}
+use Rattle.std.proofs.lemmas.List.{append-nil, take-append-drop}
+use Rattle.x86_arch.specs.Reader.{State, advanced}
+use Rattle.x86_fields.specs.declared.errors.DecodeError.{DecodeError}
+use Rattle.x86_fields.specs.declared.errors.DecodeError.TheVariants.{ExhaustedInput, InvalidOperand, InvalidPrefixes}
+use Rattle.x86_fields.specs.declared.prefixes.Prefixes.{Prefixes}
+use Rattle.x86_fields.specs.Run.{reading_of}
+use Rattle.x86_fields.specs.Steps.{Step, Outcome, outcome, then_from, Takes}
+use Rattle.x86_fields.proofs.StepLemmas.{fresh}
+use Rattle.x86_fields.proofs.EndLemmas.{Ends, settles, runs_out}
+use Rattle.x86_forms.specs.declared.Map.{Map}
+use Rattle.x86_forms.specs.declared.TableRow.{TableRow}
+use Rattle.x86_forms.specs.Groups.{is_group}
+use Rattle.x86_forms.specs.Words.{rows_of, packed}
+use Rattle.x86_operands.specs.declared.plans.Fault.TheVariants.{BadOperand}
+use Rattle.x86_operands.specs.declared.plans.ModrmUse.{ModrmUse}
+use Rattle.x86_operands.specs.declared.plans.ModrmUse.TheVariants.{EitherForm}
+use Rattle.x86_operands.specs.declared.reader.Reading.{Reading}
+use Rattle.x86_fields.specs.ModRM.{is_memory}
+use Rattle.x86_operands.specs.PlanSteps.{read_plan, record_step, given_step, operands_step, read_modrm, refuse_fault, four_of, reading_from}
+use Rattle.x86_operands.specs.Forms.{form_record}
+use Rattle.x86_operands.specs.Pieces.{SpellsTail, RefusesTail, at_modrm, SpellsRow, RefusesRow, behind_modrm, modrm_of, modrm_width}
+use Rattle.x86_groups.specs.Vocabulary.{bare, bad_operand}
+use Rattle.x86_groups.specs.Choices.{NamesFence, lfence, mfence, sfence, IsFenceWithRm}
+use Rattle.x86_groups.specs.Groups.{group_fault, group_modrm, group_plan, group_record}
+use Rattle.x86_decode.specs.declared.instructions.Instruction.{Instruction}
+use Rattle.x86_decode.specs.Head.{Rows, column_of, escape_bytes, clears, seen_by}
+use Rattle.x86_decode.specs.Instruction.{instruction_of}
+use Rattle.x86_decode.specs.Bound.{bounded}
+use Rattle.x86_decode.specs.Grammar.{record_of, allows_lock, Whole, IsRefusedByRecord, case_3, IsAnswer}
+use Rattle.x86_decode.specs.Walk.{head_step, opcode_step, some_row, row_step, walk_within, closed, decode_step}
+use Rattle.x86_decode.specs.Answer.{answer_of, count_of}
+use Rattle.x86_decode.specs.Choices.{IsFence, BeginsWithFence}
+use Rattle.x86_decode.proofs.BodyLemmas.{BodyGives, BodyBetween, ends_body, takes_whole, verdict, Settled, early}
+use Rattle.x86_decode.proofs.Theorem.{ok_apart, same_error, within, front_at_most, walk_answers}
+use Rattle.x86_decode.proofs.AnswerLemmas.{once}
+use Rattle.x86_decode.proofs.PrintedLemmas.{is_answer, only_answer}
+
+-- ---- what a step comes to under the strict choice, and by default
+
+data Compared (strictly default : Outcome Reading) : Type 0 where
+  same : strictly ≡ default → Compared strictly default
+  differ : (reading : Reading) → default.answer ≡ Ok reading → strictly.answer ≡ Err InvalidOperand → Compared strictly default
+
+compared_from : {X : Type 0} (a : Result X DecodeError) (s : State ℕ) (f g : X → Step Reading) → ((x : X) (t : State ℕ) → Compared (f x t) (g x t)) → Compared (then_from a s f) (then_from a s g)
+compared_from (Ok x) s f g each = each x s
+compared_from (Err e) s f g each = same refl
+
+-- ---- plans
+
+fence_reading : ℕ → Prefixes → Reading
+fence_reading o p = reading_from (bare o) p o (four_of [])
+
+bare_step : (o : ℕ) (p : Prefixes) (m : ℕ) (s : State ℕ) → is_memory m ≡ false → read_plan (bare o) p m s ≡ outcome (Ok (fence_reading o p)) s
+unfolding read_plan given_step operands_step fence_reading
+bare_step o p m s e = rw e refl
+
+bad_step : (p : Prefixes) (m : ℕ) (s : State ℕ) → read_plan bad_operand p m s ≡ outcome (Err InvalidOperand) s
+unfolding read_plan
+bad_step p m s = refl
+
+-- the law of x86_groups on its two choices
+abbrev SameElsewhere : Type 0
+SameElsewhere = (row : TableRow) (p : Prefixes) (m : ℕ) → (group_plan row p m true ≡ group_plan row p m false) ⊎ IsFenceWithRm row.form p m
+
+abbrev ReadByDefault : Type 0
+ReadByDefault = (row : TableRow) (p : Prefixes) (m : ℕ) (fence : IsFenceWithRm row.form p m) → group_plan row p m false ≡ bare fence.opcode
+
+abbrev RefusedStrictly : Type 0
+RefusedStrictly = (row : TableRow) (p : Prefixes) (m : ℕ) → IsFenceWithRm row.form p m → group_plan row p m true ≡ bad_operand
+
+module _ (same_elsewhere : SameElsewhere) (fence_by_default : ReadByDefault) (fence_strictly : RefusedStrictly) where
+  compared_plan : (row : TableRow) (p : Prefixes) (m : ℕ) (s : State ℕ) → (group_plan row p m true ≡ group_plan row p m false) ⊎ IsFenceWithRm row.form p m → Compared (read_plan (group_plan row p m true) p m s) (read_plan (group_plan row p m false) p m s)
+  compared_plan row p m s (inl e) = same (ap (λ plan. read_plan plan p m s) e)
+  compared_plan row p m s (inr h) = differ (fence_reading h.opcode p)
+      (ap (λ plan. (read_plan plan p m s).answer) (fence_by_default row p m h) ∙ ap (λ o. o.answer) (bare_step h.opcode p m s h.register))
+      (ap (λ plan. (read_plan plan p m s).answer) (fence_strictly row p m h) ∙ ap (λ o. o.answer) (bad_step p m s))
+
+  -- ---- rows
+
+  compared_group : (row : TableRow) (p : Prefixes) (s : State ℕ) → Compared (record_step (group_record true row p) p s) (record_step (group_record false row p) p s)
+  unfolding record_step group_record
+  compared_group row p s =
+      let u : ModrmUse = group_modrm row.form in
+      let strictly : ℕ → Step Reading = λ m. read_plan (group_plan row p m true) p m in
+      let default : ℕ → Step Reading = λ m. read_plan (group_plan row p m false) p m in
+      let fault : Outcome (Unit {0}) = refuse_fault (group_fault row.form p) s in
+      compared_from fault.answer fault.after (λ _ t. then_from (read_modrm u t).answer (read_modrm u t).after strictly) (λ _ t. then_from (read_modrm u t).answer (read_modrm u t).after default)
+      (λ _ t. compared_from (read_modrm u t).answer (read_modrm u t).after strictly default (λ m z. compared_plan row p m z (same_elsewhere row p m)))
+
+  compared_row : (row : TableRow) (p : Prefixes) (s : State ℕ) → Compared (row_step true row p s) (row_step false row p s)
+  compared_row row p s = by (is_group row.form)
+    where
+      by : (group : Bool) → Compared (record_step (if group then group_record true row p else form_record row p) p s) (record_step (if group then group_record false row p else form_record row p) p s)
+      by true = compared_group row p s
+      by false = same refl
+
+  -- ---- a fence in the grammar
+
+  pub fence_group : (row : TableRow) (p : Prefixes) (m : ℕ) → IsFenceWithRm row.form p m → is_group row.form ≡ true
+  fence_group row p m h = ap is_group h.group
+
+  bare_tail : (o : ℕ) (p : Prefixes) (m : ℕ) → is_memory m ≡ false → SpellsTail (bare o) p m [] (fence_reading o p)
+  unfolding fence_reading
+  bare_tail o p m register = record {
+    pieces = record { memory = None; address = []; immediates = []; suffix = []; given = []; spelled = refl; address_asked = (register, refl); immediates_asked = (refl, refl); suffix_asked = refl };
+    opcode = o;
+    named = refl;
+    accepted = refl;
+    gives = refl;
+  }
+
+  module _ (row : TableRow) (p : Prefixes) (m : ℕ) (h : IsFenceWithRm row.form p m) where
+    passed : group_fault row.form p ≡ None
+    passed = ap (λ f. group_fault f p) h.group
+
+    asked : 1 ≡ modrm_width (group_modrm row.form)
+    asked = ap (λ f. modrm_width (group_modrm f)) (sym h.group)
+
+    read : m ≡ modrm_of (group_modrm row.form) (m ∷ [])
+    read = ap (λ f. modrm_of (group_modrm f) (m ∷ [])) (sym h.group)
+
+    fence_spelled : SpellsRow (record_of false row p) p (m ∷ []) (fence_reading h.opcode p)
+    unfolding group_record
+    fence_spelled = subst (λ t. SpellsRow (if t then group_record false row p else form_record row p) p (m ∷ []) (fence_reading h.opcode p)) (sym (fence_group row p m h)) (record {
+      modrm = m ∷ [];
+      tail = [];
+      passed = passed;
+      spelled = refl;
+      modrm_asked = asked;
+      behind = subst (λ k. SpellsTail (group_plan row p k false) p k [] (fence_reading h.opcode p)) read
+          (subst (λ plan. SpellsTail plan p m [] (fence_reading h.opcode p)) (sym (fence_by_default row p m h)) (bare_tail h.opcode p m h.register));
+    })
+
+    fence_refused : RefusesRow (record_of true row p) p (m ∷ []) BadOperand
+    unfolding group_record
+    fence_refused = subst (λ t. RefusesRow (if t then group_record true row p else form_record row p) p (m ∷ []) BadOperand) (sym (fence_group row p m h))
+        (behind_modrm (m ∷ []) [] passed refl asked (subst (λ k. RefusesTail (group_plan row p k true) p k [] BadOperand) read
+        (subst (λ plan. RefusesTail plan p m [] BadOperand) (sym (fence_strictly row p m h)) (at_modrm refl refl))))
+
+  -- ---- F0 in front of a fence
+
+  seen_lock : (map : Map) (b : ℕ) (p : Prefixes) → (seen_by map b p).lock ≡ p.lock
+  seen_lock map b p = by (clears map (column_of p) b)
+    where
+      by : (t : Bool) → (if t then record p { operand_size = false } else p).lock ≡ p.lock
+      by true = refl
+      by false = refl
+
+  or_false : (b : Bool) → (b || false) ≡ b
+  or_false true = refl
+  or_false false = refl
+
+  fence_lock : (m o : ℕ) (p : Prefixes) → NamesFence m o → allows_lock (fence_reading o p) ≡ not p.lock
+  unfolding fence_reading
+  fence_lock m o p (lfence e) = or_false (not p.lock)
+  fence_lock m o p (mfence e) = or_false (not p.lock)
+  fence_lock m o p (sfence e) = or_false (not p.lock)
+
+  -- ---- a row that is read by default
+
+  only_byte : (bytes : List ℕ) → length bytes ≡ 1 → bytes ≡ modrm_of EitherForm bytes ∷ []
+  only_byte (m ∷ []) e = refl
+  only_byte [] e = absurd (omega arith)
+  only_byte (m ∷ n ∷ rest) e = absurd (omega arith)
+
+  one_byte : (u : ModrmUse) (bytes : List ℕ) → u ≡ EitherForm → length bytes ≡ modrm_width u → bytes ≡ modrm_of u bytes ∷ []
+  one_byte u bytes e l = only_byte bytes (l ∙ ap modrm_width e) ∙ ap (λ x. modrm_of x bytes ∷ []) (sym e)
+
+  -- the row's bytes begin with a ModRM that names a fence
+  abbrev FenceFirst : TableRow → Prefixes → List ℕ → Type 0
+  FenceFirst row p bytes = (m : ℕ) × (more : List ℕ) × (bytes ≡ m ∷ more) × IsFenceWithRm row.form p m
+
+  strict_group : (row : TableRow) (p : Prefixes) (bytes : List ℕ) (reading : Reading) → SpellsRow (group_record false row p) p bytes reading → SpellsRow (group_record true row p) p bytes reading ⊎ FenceFirst row p bytes
+  unfolding group_record
+  strict_group row p bytes reading s = by (modrm_of (group_modrm row.form) s.modrm) refl (same_elsewhere row p (modrm_of (group_modrm row.form) s.modrm))
+    where
+      by : (m : ℕ) → modrm_of (group_modrm row.form) s.modrm ≡ m → (group_plan row p m true ≡ group_plan row p m false) ⊎ IsFenceWithRm row.form p m → SpellsRow (group_record true row p) p bytes reading ⊎ FenceFirst row p bytes
+      by m is (inl e) = inl (record {
+        modrm = s.modrm;
+        tail = s.tail;
+        passed = s.passed;
+        spelled = s.spelled;
+        modrm_asked = s.modrm_asked;
+        behind = subst (λ k. SpellsTail (group_plan row p k true) p k s.tail reading) (sym is)
+            (subst (λ plan. SpellsTail plan p m s.tail reading) (sym e) (subst (λ k. SpellsTail (group_plan row p k false) p k s.tail reading) is s.behind));
+      })
+      by m is (inr h) = inr (m, s.tail, s.spelled ∙ ap (λ l. l ++ s.tail) (one_byte (group_modrm row.form) s.modrm (ap group_modrm h.group) s.modrm_asked ∙ ap (λ k. k ∷ []) is), h)
+
+  strict_row : (row : TableRow) (p : Prefixes) (bytes : List ℕ) (reading : Reading) → SpellsRow (record_of false row p) p bytes reading → SpellsRow (record_of true row p) p bytes reading ⊎ FenceFirst row p bytes
+  strict_row row p bytes reading = by (is_group row.form)
+    where
+      by : (t : Bool) → SpellsRow (if t then group_record false row p else form_record row p) p bytes reading → SpellsRow (if t then group_record true row p else form_record row p) p bytes reading ⊎ FenceFirst row p bytes
+      by true s = strict_group row p bytes reading s
+      by false s = inl s
+
+  -- ---- any input
+
+  zero_plus : (n : ℕ) → 0 + n ≡ n
+  zero_plus n = omega arith
+
+  fence_front : (run escape : List ℕ) (b m : ℕ) (more : List ℕ) → (run ++ (escape ++ b ∷ m ∷ [])) ++ more ≡ run ++ (escape ++ b ∷ m ∷ more)
+  fence_front run escape b m more = append_assoc run (escape ++ b ∷ m ∷ []) more ∙ ap (λ l. run ++ l) (append_assoc escape (b ∷ m ∷ []) more)
+
+  operand_alone : (reading : Reading) (t : Bool) → (if t then Ok reading else Err InvalidPrefixes) ≡ Err InvalidOperand → ⊥
+  operand_alone reading true e = ok_apart reading InvalidOperand e
+  operand_alone reading false e = prefixes_apart (same_error {X = Reading} InvalidPrefixes InvalidOperand e)
+    where
+      prefixes_apart : InvalidPrefixes ≡ InvalidOperand → ⊥
+      prefixes_apart h = cc
+
+  -- InvalidOperand is never due to LOCK
+  refused_by : (r : Result Reading DecodeError) → verdict r ≡ Err InvalidOperand → r ≡ Err InvalidOperand
+  refused_by (Ok reading) e = absurd (operand_alone reading (allows_lock reading) e)
+  refused_by (Err x) e = e
+
+  module _ (rows : Rows) where
+    compared_with_row : (o : Option TableRow) (p : Prefixes) (s : State ℕ) → Compared (then_from (some_row o s).answer (some_row o s).after (λ row. row_step true row p)) (then_from (some_row o s).answer (some_row o s).after (λ row. row_step false row p))
+    compared_with_row o p s = compared_from (some_row o s).answer (some_row o s).after (λ row. row_step true row p) (λ row. row_step false row p) (λ row t. compared_row row p t)
+
+    abbrev after_opcode : Bool → Prefixes → Map × ℕ → Step Reading
+    after_opcode strict p o s = then_from (some_row (rows o.0 (column_of p) o.1) s).answer (some_row (rows o.0 (column_of p) o.1) s).after (λ row. row_step strict row (seen_by o.0 o.1 p))
+
+    abbrev after_head : Bool → Prefixes × ℕ → Step Reading
+    after_head strict h s = then_from (opcode_step h.0 h.1 s).answer (opcode_step h.0 h.1 s).after (after_opcode strict h.0)
+
+    compared_body : (s : State ℕ) → Compared (walk_within rows true s) (walk_within rows false s)
+    unfolding walk_within
+    compared_body s = compared_from (head_step s).answer (head_step s).after (after_head true) (after_head false) (λ h t.
+        compared_from (opcode_step h.0 h.1 t).answer (opcode_step h.0 h.1 t).after (after_opcode true h.0) (after_opcode false h.0) (λ o z. compared_with_row (rows o.0 (column_of h.0) o.1) (seen_by o.0 o.1 h.0) z))
+
+    -- ---- an input that is read by default
+
+    strict_whole : (input q rest : List ℕ) (reading : Reading) → input ≡ q ++ rest → length q ≤ 15 → Whole rows false q reading → Whole rows true q reading ⊎ BeginsWithFence rows input
+    strict_whole input q rest reading h short w = by (strict_row w.row (seen_by w.map w.opcode (reading_of w.run)) w.tail reading w.asked)
+      where
+        by : SpellsRow (record_of true w.row (seen_by w.map w.opcode (reading_of w.run))) (seen_by w.map w.opcode (reading_of w.run)) w.tail reading ⊎ FenceFirst w.row (seen_by w.map w.opcode (reading_of w.run)) w.tail → Whole rows true q reading ⊎ BeginsWithFence rows input
+        by (inl s) = inl (record { run = w.run; map = w.map; opcode = w.opcode; row = w.row; tail = w.tail; spelled = w.spelled; prefixes = w.prefixes; meant = w.meant; has_row = w.has_row; asked = s })
+        by (inr k) =
+            let fence : List ℕ = w.run ++ (escape_bytes w.map ++ w.opcode ∷ k.0 ∷ []) in
+            let whole : q ≡ fence ++ k.1 = w.spelled ∙ ap (λ l. w.run ++ (escape_bytes w.map ++ w.opcode ∷ l)) k.2 ∙ sym (fence_front w.run (escape_bytes w.map) w.opcode k.0 k.1) in
+            let long : length q ≡ length fence + length k.1 = ap length whole ∙ length-append fence k.1 in
+            inr (record {
+              fence = fence;
+              rest = k.1 ++ rest;
+              begins = h ∙ ap (λ l. l ++ rest) whole ∙ append_assoc fence k.1 rest;
+              is = record { run = w.run; map = w.map; opcode = w.opcode; row = w.row; modrm = k.0; spelled = refl; prefixes = w.prefixes; meant = w.meant; has_row = w.has_row; names = k.3 };
+              short = omega arith;
+            })
+
+    module _ (input : List ℕ) where
+      abbrev start : State ℕ
+      start = fresh input
+
+      abbrev first : State ℕ
+      first = bounded 15 start
+
+      differs : (reading : Reading) → (walk_within rows false first).answer ≡ Ok reading → (walk_within rows true first).answer ≡ Err InvalidOperand → Ends (BodyGives rows false) (BodyBetween rows false) (walk_within rows false) first → BeginsWithFence rows input
+      differs reading d e (settles q rest (Ok r) h t f a) = by (strict_whole input q (rest ++ drop 15 input) r begins (front_at_most 15 input q rest h) a)
+        where
+          begins : input ≡ q ++ (rest ++ drop 15 input)
+          begins = sym (take-append-drop 15 input) ∙ ap (λ l. l ++ drop 15 input) h ∙ append_assoc q rest (drop 15 input)
+
+          by : Whole rows true q r ⊎ BeginsWithFence rows input → BeginsWithFence rows input
+          by (inl w) = absurd (ok_apart r InvalidOperand (sym (ap (λ o. o.answer) ((takes_whole rows true q r w).takes rest first h)) ∙ e))
+          by (inr b) = b
+      differs reading d e (settles q rest (Err x) h t f a) = absurd (ok_apart reading x (sym d ∙ ap (λ o. o.answer) (t.takes rest first h)))
+      differs reading d e (runs_out q rest h k u) = absurd (ok_apart reading ExhaustedInput (sym d ∙ ap (λ o. o.answer) (u rest [] (sym (append-nil rest)) first h)))
+
+      abbrev walked : Bool → Outcome Instruction
+      walked strict = decode_step rows strict start
+
+      answer_as : (a b : Bool) (r : Result Instruction DecodeError) (n : ℕ) → walked a ≡ walked b → IsAnswer rows a input r n → IsAnswer rows b input r n
+      answer_as a b r n e is =
+          let k : (r ≡ (walked a).answer) × (n ≡ (walked a).after.since_mark) = once rows a input r (walked a).answer n (walked a).after.since_mark is (walk_answers rows a input) in
+          subst (λ x. IsAnswer rows b input x n) (sym (k.0 ∙ ap (λ o. o.answer) e))
+          (subst (λ x. IsAnswer rows b input (walked b).answer x) (sym (k.1 ∙ ap (λ o. o.after.since_mark) e)) (walk_answers rows b input))
+
+      same_walk : walk_within rows true first ≡ walk_within rows false first → walked true ≡ walked false
+      unfolding decode_step
+      same_walk e = ap (λ o. closed o.answer o.after.since_mark start) e
+
+      pub same_elsewhere_on : ((r : Result Instruction DecodeError) (n : ℕ) → IsAnswer rows true input r n ↔ IsAnswer rows false input r n) ⊎ BeginsWithFence rows input
+      same_elsewhere_on = by (compared_body first)
+        where
+          by : Compared (walk_within rows true first) (walk_within rows false first) → ((r : Result Instruction DecodeError) (n : ℕ) → IsAnswer rows true input r n ↔ IsAnswer rows false input r n) ⊎ BeginsWithFence rows input
+          by (same e) = inl (λ r n. (answer_as true false r n (same_walk e), answer_as false true r n (sym (same_walk e))))
+          by (differ reading d e) = inr (differs reading d e (ends_body rows false first))
+
+      -- ---- an input that begins with a fence
+
+      walked_as : (strict : Bool) (q rest : List ℕ) (r : Result Reading DecodeError) → input ≡ q ++ rest → length q ≤ 15 → Takes (walk_within rows strict) q r → walked strict ≡ closed r (length q) start
+      unfolding decode_step
+      walked_as strict q rest r h short t =
+          ap (λ o. closed o.answer o.after.since_mark start) (t.takes (take (15 - length q) rest) first (within input q rest h short))
+          ∙ ap (λ n. closed r n start) (zero_plus (length q))
+
+      answer_at : (strict : Bool) (r : Result Instruction DecodeError) (n : ℕ) → walked strict ≡ outcome r (advanced n start) → IsAnswer rows strict input r n
+      answer_at strict r n e =
+          subst (λ x. IsAnswer rows strict input x n) (ap (λ o. o.answer) e)
+          (subst (λ k. IsAnswer rows strict input (walked strict).answer k) (ap (λ o. o.after.since_mark) e ∙ zero_plus n) (walk_answers rows strict input))
+
+      module _ (f : BeginsWithFence rows input) where
+        abbrev is : IsFence rows f.fence
+        is = f.is
+
+        abbrev p : Prefixes
+        p = seen_by is.map is.opcode (reading_of is.run)
+
+        refused : IsRefusedByRecord rows true f.fence BadOperand
+        refused = record { run = is.run; map = is.map; opcode = is.opcode; row = is.row; tail = is.modrm ∷ []; spelled = is.spelled; prefixes = is.prefixes; meant = is.meant; has_row = is.has_row; refuses = fence_refused is.row p is.modrm is.names }
+
+        taken : (r : Result Reading DecodeError) × Settled rows true f.fence r × (verdict r ≡ Err InvalidOperand)
+        taken = early rows true f.fence InvalidOperand (case_3 BadOperand refused)
+
+        pub fence_strict_answer : IsAnswer rows true input (Err InvalidOperand) (length f.fence)
+        fence_strict_answer = answer_at true (Err InvalidOperand) (length f.fence) (walked_as true f.fence f.rest (Err InvalidOperand) f.begins f.short (subst (Takes (walk_within rows true) f.fence) (refused_by taken.0 taken.2) taken.1.takes))
+
+        read_whole : Whole rows false f.fence (fence_reading is.names.opcode p)
+        read_whole = record { run = is.run; map = is.map; opcode = is.opcode; row = is.row; tail = is.modrm ∷ []; spelled = is.spelled; prefixes = is.prefixes; meant = is.meant; has_row = is.has_row; asked = fence_spelled is.row p is.modrm is.names }
+
+        read_lock : allows_lock (fence_reading is.names.opcode p) ≡ not (reading_of is.run).lock
+        read_lock = fence_lock is.modrm is.names.opcode p is.names.named ∙ ap not (seen_lock is.map is.opcode (reading_of is.run))
+
+        abbrev fence_instruction : Instruction
+        fence_instruction = instruction_of (fence_reading is.names.opcode p) (length f.fence)
+
+        read_walk : walked false ≡ closed (Ok (fence_reading is.names.opcode p)) (length f.fence) start
+        read_walk = walked_as false f.fence f.rest (Ok (fence_reading is.names.opcode p)) f.begins f.short (takes_whole rows false f.fence (fence_reading is.names.opcode p) read_whole)
+
+        closed_as : (t : Bool) → allows_lock (fence_reading is.names.opcode p) ≡ t → walked false ≡ (if t then outcome (Ok fence_instruction) (advanced (length f.fence) start) else outcome (Err InvalidPrefixes) (advanced (length f.fence) start))
+        closed_as t e = read_walk ∙ ap (λ b. if b then outcome (Ok fence_instruction) (advanced (length f.fence) start) else outcome (Err InvalidPrefixes) (advanced (length f.fence) start)) e
+
+        pub fence_read : (reading_of is.run).lock ≡ false → (i : Instruction) × IsAnswer rows false input (Ok i) (length f.fence) × (i.opcode ≡ is.names.opcode) × (i.given.count ≡ 0)
+        unfolding fence_reading
+        fence_read free = (fence_instruction, answer_at false (Ok fence_instruction) (length f.fence) (closed_as true (read_lock ∙ ap not free)), refl, refl)
+
+        pub fence_locked : (reading_of is.run).lock ≡ true → IsAnswer rows false input (Err InvalidPrefixes) (length f.fence)
+        fence_locked locked = answer_at false (Err InvalidPrefixes) (length f.fence) (closed_as false (read_lock ∙ ap not locked))
+
+  -- ---- the printed rows
+
+  pub printed_elsewhere : (xs : List ℕ) → ((answer_of true xs ≡ answer_of false xs) × (count_of true xs ≡ count_of false xs)) ⊎ BeginsWithFence (rows_of packed) xs
+  printed_elsewhere xs = by (same_elsewhere_on (rows_of packed) xs)
+    where
+      by : ((r : Result Instruction DecodeError) (n : ℕ) → IsAnswer (rows_of packed) true xs r n ↔ IsAnswer (rows_of packed) false xs r n) ⊎ BeginsWithFence (rows_of packed) xs → ((answer_of true xs ≡ answer_of false xs) × (count_of true xs ≡ count_of false xs)) ⊎ BeginsWithFence (rows_of packed) xs
+      by (inl e) = inl (only_answer false xs (answer_of true xs) (count_of true xs) ((e (answer_of true xs) (count_of true xs)).0 (is_answer true xs)))
+      by (inr f) = inr f

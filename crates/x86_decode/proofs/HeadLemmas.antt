@@ -1,0 +1,280 @@
+-- The run, the escape and the opcode byte: what the walk takes, and that it takes what the grammar has.
+use Rattle.std.proofs.Common.{◌≡◌, ◌≢◌, ℕ, suc, ◌+◌, ◌==◌, ◌&&◌, ◌||◌, not, Bool, true, false, if◌then◌else◌, List, [], ◌∷◌, ◌++◌, length, Result, Ok, Err, refl, sym, ap, ◌∙◌, arith, length-append, append_assoc}
+use Rattle.std.proofs.lemmas.Bool.Decides.{nat_tests}
+use Rattle.std.proofs.lemmas.List.{append-nil}
+use Rattle.x86_arch.specs.Reader.{State, advanced}
+use Rattle.x86_fields.specs.declared.errors.DecodeError.{DecodeError}
+use Rattle.x86_fields.specs.declared.errors.DecodeError.TheVariants.{ExhaustedInput, InvalidPrefixes, IncompleteDecoder}
+use Rattle.x86_fields.specs.declared.prefixes.Prefixes.{Prefixes}
+use Rattle.x86_fields.specs.Run.{is_prefix, reading_of}
+use Rattle.x86_fields.specs.Steps.{Outcome, outcome, then_from, pure, refuse, ◌>>=◌, next_byte, Takes}
+use Rattle.x86_fields.proofs.StepLemmas.{advanced_twice, advanced_zero, takes_pure, takes_bind, takes_byte}
+use Rattle.x86_fields.proofs.EndLemmas.{EndsWell, Ends, settles, runs_out, no_front, final_ok, IsEmpty, Only, IsByte, ends_byte, ends_pure, ends_refuse, ends_then, Out, out_bind, out_after, out_byte}
+use Rattle.x86_fields.proofs.PieceLemmas.{takes_map}
+use Rattle.x86_forms.specs.declared.Map.{Map}
+use Rattle.x86_forms.specs.declared.Map.TheVariants.{One, Of, Of38, Of3a}
+use Rattle.x86_decode.specs.Head.{is_run, escape_bytes, is_vex, is_opcode, vex_refusal}
+use Rattle.x86_decode.specs.Walk.{run_from, run_step, head_step, read_escaped, opcode_step}
+
+pub and_left : (a b : Bool) → (a && b) ≡ true → a ≡ true
+and_left a b h = grind arith
+
+pub and_right : (a b : Bool) → (a && b) ≡ true → b ≡ true
+and_right a b h = grind arith
+
+-- ---- the run
+
+one_more : (n : ℕ) → 1 + n ≡ suc n
+one_more n = omega arith
+
+run_passes : (back front rest : List ℕ) (s : State ℕ) → is_run back ≡ true → run_from (back ++ rest) front s ≡ run_from rest (front ++ back) (advanced (length back) s)
+run_passes [] front rest s h = rw (append-nil front, advanced_zero s) refl
+run_passes (x ∷ back) front rest s h =
+    ap (λ t. if t then run_from (back ++ rest) (front ++ x ∷ []) (advanced 1 s) else outcome (Ok (front, x)) (advanced 1 s)) (and_left (is_prefix x) (is_run back) h)
+    ∙ run_passes back (front ++ x ∷ []) rest (advanced 1 s) (and_right (is_prefix x) (is_run back) h)
+    ∙ ap (λ l. run_from rest l (advanced (length back) (advanced 1 s))) (append_assoc front (x ∷ []) back)
+    ∙ ap (λ u. run_from rest (front ++ x ∷ back) u) (advanced_twice 1 (length back) s ∙ ap (λ n. advanced n s) (one_more (length back)))
+
+data RunEnd (l : List ℕ) : Type 0 where
+  at_opcode : (run : List ℕ) (c : ℕ) (rest : List ℕ) → l ≡ run ++ c ∷ rest → is_run run ≡ true → is_prefix c ≡ false → RunEnd l
+  all : is_run l ≡ true → RunEnd l
+
+both : (a b : Bool) → a ≡ true → b ≡ true → (a && b) ≡ true
+both a b h k = grind arith
+
+run_more : (x : ℕ) (l : List ℕ) → is_prefix x ≡ true → RunEnd l → RunEnd (x ∷ l)
+run_more x l e (at_opcode run c rest h is plain) = at_opcode (x ∷ run) c rest (ap (λ m. x ∷ m) h) (both (is_prefix x) (is_run run) e is) plain
+run_more x l e (all is) = all (both (is_prefix x) (is_run l) e is)
+
+run_by : (x : ℕ) (l : List ℕ) (test : Bool) → is_prefix x ≡ test → RunEnd l → RunEnd (x ∷ l)
+run_by x l true e r = run_more x l e r
+run_by x l false e r = at_opcode [] x l refl refl e
+
+run_end : (l : List ℕ) → RunEnd l
+run_end [] = all refl
+run_end (x ∷ l) = run_by x l (is_prefix x) refl (run_end l)
+
+run_stops : (front : List ℕ) (c : ℕ) (rest : List ℕ) (s : State ℕ) → is_prefix c ≡ false → run_from (c ∷ rest) front s ≡ outcome (Ok (front, c)) (advanced 1 s)
+run_stops front c rest s e = ap (λ t. if t then run_from rest (front ++ c ∷ []) (advanced 1 s) else outcome (Ok (front, c)) (advanced 1 s)) e
+
+abbrev head_of : Outcome (List ℕ × ℕ) → Outcome (Prefixes × ℕ)
+head_of o = then_from o.answer o.after (λ h. pure (reading_of h.0, h.1))
+
+head_is : (s : State ℕ) (o : Outcome (List ℕ × ℕ)) → run_from s.left [] s ≡ o → head_step s ≡ head_of o
+unfolding head_step run_step
+head_is s o e = ap head_of e
+
+pub takes_head : (run : List ℕ) (c : ℕ) → is_run run ≡ true → is_prefix c ≡ false → Takes head_step (run ++ c ∷ []) (Ok (reading_of run, c))
+takes_head run c is plain = record {
+  takes = λ rest s h.
+      head_is s (outcome (Ok (run, c)) (advanced (length (run ++ c ∷ [])) s))
+      (ap (λ l. run_from l [] s) (h ∙ append_assoc run (c ∷ []) rest)
+      ∙ run_passes run [] (c ∷ rest) s is
+      ∙ run_stops run c rest (advanced (length run) s) plain
+      ∙ ap (λ u. outcome (Ok (run, c)) u) (advanced_twice (length run) 1 s ∙ ap (λ n. advanced n s) (sym (length-append run (c ∷ [])))));
+}
+
+pub out_head : (q : List ℕ) → is_run q ≡ true → Out head_step q
+out_head q is s h = head_is s (outcome (Err ExhaustedInput) (advanced (length q) s)) (ap (λ l. run_from l [] s) (h ∙ sym (append-nil q)) ∙ run_passes q [] [] s is)
+
+-- the run, its reading and the byte behind it
+pub record IsHead (q : List ℕ) (h : Prefixes × ℕ) : Type 0 where
+  pub run : List ℕ
+  pub spelled : q ≡ run ++ h.1 ∷ []
+  pub prefixes : is_run run ≡ true
+  pub reading : h.0 ≡ reading_of run
+  pub plain : is_prefix h.1 ≡ false
+
+abbrev pub IsRun : List ℕ → Type 0
+IsRun q = is_run q ≡ true
+
+head_at : (s : State ℕ) → RunEnd s.left → Ends (Only IsHead) IsRun head_step s
+head_at s (at_opcode run c rest h is plain) = settles (run ++ c ∷ []) rest (Ok (reading_of run, c)) (h ∙ sym (append_assoc run (c ∷ []) rest)) (takes_head run c is plain) (final_ok (reading_of run, c)) (record { run = run; spelled = refl; prefixes = is; reading = refl; plain = plain })
+head_at s (all is) = runs_out s.left [] (sym (append-nil s.left)) is (λ front back e t left. out_head s.left is t (left ∙ ap (λ l. s.left ++ l) (no_front front back e) ∙ append-nil s.left))
+
+pub ends_head : EndsWell (Only IsHead) IsRun head_step
+ends_head s = head_at s (run_end s.left)
+
+-- ---- the escape and the opcode byte
+
+abbrev pub OpcodeGives : Prefixes → ℕ → List ℕ → Result (Map × ℕ) DecodeError → Type 0
+OpcodeGives p c q (Ok o) = (c ∷ q ≡ escape_bytes o.0 ++ o.1 ∷ []) × (is_opcode o.0 o.1 ≡ true)
+OpcodeGives p c q (Err e) = (q ≡ []) × (is_vex c ≡ true) × (e ≡ vex_refusal p)
+
+abbrev pub OpcodeBetween : ℕ → List ℕ → Type 0
+OpcodeBetween c q = (map : Map) × (back : List ℕ) × (escape_bytes map ≡ (c ∷ q) ++ back)
+
+pub vex_final : (p : Prefixes) → vex_refusal p ≢ ExhaustedInput
+vex_final p = by (p.operand_size || (p.lock || _))
+  where
+    by : (test : Bool) → (if test then InvalidPrefixes else IncompleteDecoder) ≢ ExhaustedInput
+    by true e = apart e
+      where
+        apart : InvalidPrefixes ≡ ExhaustedInput → ⊥
+        apart e = cc
+    by false e = apart e
+      where
+        apart : IncompleteDecoder ≡ ExhaustedInput → ⊥
+        apart e = cc
+
+equal : (b n : ℕ) → (b == n) ≡ true → b ≡ n
+equal b n h = grind (arith, nat_tests)
+
+module _ (p : Prefixes) (c : ℕ) where
+  abbrev Behind : List ℕ → List ℕ → Result (Map × ℕ) DecodeError → Type 0
+  Behind q l r = OpcodeGives p c (q ++ l) r
+
+  abbrev Between : List ℕ → List ℕ → Type 0
+  Between q l = OpcodeBetween c (q ++ l)
+
+  third : (map : Map) (d : ℕ) (q : List ℕ) → escape_bytes map ≡ c ∷ d ∷ [] → q ≡ d ∷ [] → ((b : ℕ) → is_opcode map b ≡ true) → EndsWell (Behind q) (Between q) (next_byte >>= λ b. pure (map, b))
+  third map d q e h every = ends_then IsByte IsEmpty (Behind q) (Between q) next_byte (λ b. pure (map, b)) ends_byte
+      (λ l k. (map, [], e ∙ ap (λ m. c ∷ m) (sym (ap (λ m. (m ++ l) ++ []) h ∙ ap (λ m. (d ∷ m) ++ []) k))))
+      (λ l b k. ends_pure (λ m r. Behind q (l ++ m) r) (λ m. Between q (l ++ m)) (map, b)
+      (ap (λ m. c ∷ m) (ap (λ m. m ++ (l ++ [])) h ∙ ap (λ m. d ∷ (m ++ [])) k) ∙ ap (λ m. m ++ b ∷ []) (sym e), every b))
+
+  escaped : (d : ℕ) (q : List ℕ) → c ≡ 0x0f → q ≡ d ∷ [] → EndsWell (Behind q) (Between q) (read_escaped d)
+  escaped d q z h = by (d == 0x38) (d == 0x3a) refl refl
+    where
+      by : (a b : Bool) → (d == 0x38) ≡ a → (d == 0x3a) ≡ b → EndsWell (Behind q) (Between q) (if a then (next_byte >>= λ b. pure (Of38, b)) else (if b then (next_byte >>= λ b. pure (Of3a, b)) else pure (Of, d)))
+      by true b e f = third Of38 d q (ap (λ x. x ∷ 0x38 ∷ []) (sym z) ∙ ap (λ x. c ∷ x ∷ []) (sym (equal d 0x38 e))) h (λ b. refl)
+      by false true e f = third Of3a d q (ap (λ x. x ∷ 0x3a ∷ []) (sym z) ∙ ap (λ x. c ∷ x ∷ []) (sym (equal d 0x3a f))) h (λ b. refl)
+      by false false e f = ends_pure (Behind q) (Between q) (Of, d) (ap (λ m. c ∷ (m ++ [])) h ∙ ap (λ x. x ∷ d ∷ []) z, ap (λ t. not (t || (d == 0x3a))) e ∙ ap not f)
+
+  pub ends_opcode : is_prefix c ≡ false → EndsWell (OpcodeGives p c) (OpcodeBetween c) (opcode_step p c)
+  unfolding opcode_step
+  ends_opcode plain = by (is_vex c) (c == 0x0f) refl refl
+    where
+      by : (v z : Bool) → is_vex c ≡ v → (c == 0x0f) ≡ z → EndsWell (OpcodeGives p c) (OpcodeBetween c) (if v then refuse (vex_refusal p) else (if z then (next_byte >>= λ d. read_escaped d) else pure (One, c)))
+      by true z e f = ends_refuse (OpcodeGives p c) (OpcodeBetween c) (vex_refusal p) (vex_final p) (refl, e, refl)
+      by false true e f = ends_then IsByte IsEmpty (OpcodeGives p c) (OpcodeBetween c) next_byte (λ d. read_escaped d) ends_byte
+          (λ q k. (Of, [], ap (λ x. x ∷ []) (sym (equal c 0x0f f)) ∙ ap (λ m. c ∷ (m ++ [])) (sym k)))
+          (λ q d k. escaped d q (equal c 0x0f f) k)
+      by false false e f = ends_pure (OpcodeGives p c) (OpcodeBetween c) (One, c) (refl, ap (λ t. not (t || ((c == 0x0f) || is_vex c))) plain ∙ ap (λ t. not (t || is_vex c)) f ∙ ap not e)
+
+-- the first byte behind the run, and those up to the opcode
+abbrev pub entry_byte : Map → ℕ → ℕ
+entry_byte One b = b
+entry_byte Of b = 0x0f
+entry_byte Of38 b = 0x0f
+entry_byte Of3a b = 0x0f
+
+abbrev pub entry_rest : Map → ℕ → List ℕ
+entry_rest One b = []
+entry_rest Of b = b ∷ []
+entry_rest Of38 b = 0x38 ∷ b ∷ []
+entry_rest Of3a b = 0x3a ∷ b ∷ []
+
+pub entry_is : (map : Map) (b : ℕ) (tail : List ℕ) → escape_bytes map ++ b ∷ tail ≡ entry_byte map b ∷ (entry_rest map b ++ tail)
+entry_is One b tail = refl
+entry_is Of b tail = refl
+entry_is Of38 b tail = refl
+entry_is Of3a b tail = refl
+
+not_first : (a b : Bool) → not (a || b) ≡ true → a ≡ false
+not_first a b h = grind arith
+
+not_second : (a b : Bool) → not (a || b) ≡ true → b ≡ false
+not_second a b h = grind arith
+
+or_first : (a b : Bool) → (a || b) ≡ false → a ≡ false
+or_first a b h = grind arith
+
+or_second : (a b : Bool) → (a || b) ≡ false → b ≡ false
+or_second a b h = grind arith
+
+pub entry_plain : (map : Map) (b : ℕ) → is_opcode map b ≡ true → is_prefix (entry_byte map b) ≡ false
+entry_plain One b h = not_first (is_prefix b) ((b == 0x0f) || is_vex b) h
+entry_plain Of b h = refl
+entry_plain Of38 b h = refl
+entry_plain Of3a b h = refl
+
+takes_one : (p : Prefixes) (c : ℕ) (v z : Bool) → v ≡ false → z ≡ false → Takes {X = Map × ℕ} (if v then refuse (vex_refusal p) else (if z then (next_byte >>= λ d. read_escaped d) else pure (One, c))) [] (Ok (One, c))
+takes_one p c false false e f = takes_pure (Ok (One, c))
+takes_one p c true z e f = absurd (apart e)
+  where
+    apart : true ≡ false → ⊥
+    apart e = cc
+takes_one p c false true e f = absurd (apart f)
+  where
+    apart : true ≡ false → ⊥
+    apart e = cc
+
+takes_of : (d : ℕ) (a b : Bool) → a ≡ false → b ≡ false → Takes {X = Map × ℕ} (if a then (next_byte >>= λ x. pure (Of38, x)) else (if b then (next_byte >>= λ x. pure (Of3a, x)) else pure (Of, d))) [] (Ok (Of, d))
+takes_of d false false e f = takes_pure (Ok (Of, d))
+takes_of d true b e f = absurd (apart e)
+  where
+    apart : true ≡ false → ⊥
+    apart e = cc
+takes_of d false true e f = absurd (apart f)
+  where
+    apart : true ≡ false → ⊥
+    apart e = cc
+
+pub takes_opcode : (p : Prefixes) (map : Map) (b : ℕ) → is_opcode map b ≡ true → Takes (opcode_step p (entry_byte map b)) (entry_rest map b) (Ok (map, b))
+unfolding opcode_step
+takes_opcode p One b h =
+    let k : ((b == 0x0f) || is_vex b) ≡ false = not_second (is_prefix b) ((b == 0x0f) || is_vex b) h in
+    takes_one p b (is_vex b) (b == 0x0f) (or_second (b == 0x0f) (is_vex b) k) (or_first (b == 0x0f) (is_vex b) k)
+takes_opcode p Of b h = takes_bind next_byte (λ d. read_escaped d) (b ∷ []) [] b (Ok (Of, b)) (takes_byte b) (takes_of b (b == 0x38) (b == 0x3a) (not_first (b == 0x38) (b == 0x3a) h) (not_second (b == 0x38) (b == 0x3a) h))
+takes_opcode p Of38 b h = takes_bind next_byte (λ d. read_escaped d) (0x38 ∷ []) (b ∷ []) 0x38 (Ok (Of38, b)) (takes_byte 0x38) (takes_map next_byte (λ x. (Of38, x)) (b ∷ []) b (takes_byte b))
+takes_opcode p Of3a b h = takes_bind next_byte (λ d. read_escaped d) (0x3a ∷ []) (b ∷ []) 0x3a (Ok (Of3a, b)) (takes_byte 0x3a) (takes_map next_byte (λ x. (Of3a, x)) (b ∷ []) b (takes_byte b))
+
+pub takes_vex : (p : Prefixes) (c : ℕ) → is_vex c ≡ true → Takes (opcode_step p c) [] (Err (vex_refusal p))
+unfolding opcode_step
+takes_vex p c h = by (is_vex c) h
+  where
+    by : (v : Bool) → v ≡ true → Takes {X = Map × ℕ} (if v then refuse (vex_refusal p) else (if c == 0x0f then (next_byte >>= λ d. read_escaped d) else pure (One, c))) [] (Err (vex_refusal p))
+    by true e = takes_pure (Err (vex_refusal p))
+    by false e = absurd (apart e)
+      where
+        apart : false ≡ true → ⊥
+        apart e = cc
+
+pub vex_plain : (c : ℕ) → is_vex c ≡ true → is_prefix c ≡ false
+vex_plain c h = grind (arith, nat_tests)
+
+-- ---- a front of an escape
+
+pub data EscapeFront (front : List ℕ) : Type 0 where
+  none : front ≡ [] → EscapeFront front
+  one : front ≡ 0x0f ∷ [] → EscapeFront front
+  two : (d : ℕ) → front ≡ 0x0f ∷ d ∷ [] → ((p : Prefixes) → Out (opcode_step p 0x0f) (d ∷ [])) → EscapeFront front
+
+out_two : (p : Prefixes) (d : ℕ) → Out (read_escaped d) [] → Out (opcode_step p 0x0f) (d ∷ [])
+unfolding opcode_step
+out_two p d u = out_after next_byte (λ d. read_escaped d) (d ∷ []) [] d (takes_byte d) u
+
+pub out_one : (p : Prefixes) → Out (opcode_step p 0x0f) []
+unfolding opcode_step
+out_one p = out_bind next_byte (λ d. read_escaped d) [] out_byte
+
+head_same : {a b : ℕ} {l m : List ℕ} → a ∷ l ≡ b ∷ m → a ≡ b
+head_same e = cc
+
+tail_same : {a b : ℕ} {l m : List ℕ} → a ∷ l ≡ b ∷ m → l ≡ m
+tail_same e = cc
+
+not_nil : {x : ℕ} {l : List ℕ} → ◌≡◌ {A = List ℕ} [] (x ∷ l) → ⊥
+not_nil e = cc
+
+front_one : (x : ℕ) (rest back : List ℕ) (l : List ℕ) → 0x0f ∷ l ≡ (x ∷ rest) ++ back → (x ≡ 0x0f) × (l ≡ rest ++ back)
+front_one x rest back l e = (sym (head_same e), tail_same e)
+
+front_two : (d : ℕ) (front back : List ℕ) → 0x0f ∷ d ∷ [] ≡ front ++ back → ((p : Prefixes) → Out (opcode_step p 0x0f) (d ∷ [])) → EscapeFront front
+front_two d [] back e u = none refl
+front_two d (x ∷ []) back e u = one (ap (λ b. b ∷ []) (front_one x [] back (d ∷ []) e).0)
+front_two d (x ∷ y ∷ []) back e u =
+    let h = front_one x (y ∷ []) back (d ∷ []) e in
+    two d (ap (λ b. b ∷ y ∷ []) h.0 ∙ ap (λ b. 0x0f ∷ b ∷ []) (sym (head_same h.1))) u
+front_two d (x ∷ y ∷ z ∷ rest) back e u =
+    let h = front_one x (y ∷ z ∷ rest) back (d ∷ []) e in absurd (not_nil (tail_same h.1))
+
+pub escape_front : (map : Map) (front back : List ℕ) → escape_bytes map ≡ front ++ back → EscapeFront front
+escape_front One front back e = none (no_front front back e)
+escape_front Of [] back e = none refl
+escape_front Of (x ∷ rest) back e =
+    let h = front_one x rest back [] e in
+    one (ap (λ b. b ∷ rest) h.0 ∙ ap (λ l. 0x0f ∷ l) (no_front rest back h.1))
+escape_front Of38 front back e = front_two 0x38 front back e (λ p. out_two p 0x38 (out_bind next_byte (λ b. pure (Of38, b)) [] out_byte))
+escape_front Of3a front back e = front_two 0x3a front back e (λ p. out_two p 0x3a (out_bind next_byte (λ b. pure (Of3a, b)) [] out_byte))

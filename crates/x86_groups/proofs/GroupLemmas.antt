@@ -1,0 +1,163 @@
+-- What holds of the records of all groups.
+use Rattle.std.proofs.Common.{◌≡◌, ◌≢◌, ◌≤◌, ℕ, Bool, true, false, not, ◌||◌, ◌==◌, inl, inr, Some, None, Err, if◌then◌else◌, arith, refl, sym, true≢false}
+use Rattle.std.proofs.lemmas.Bool.Decides.{nat_tests}
+use Rattle.x86_arch.specs.Reader.{State}
+use Rattle.x86_fields.specs.declared.errors.DecodeError.TheVariants.{IncompleteDecoder}
+use Rattle.x86_fields.specs.declared.prefixes.Prefixes.{Prefixes}
+use Rattle.x86_fields.specs.ModRM.{reg_field}
+use Rattle.x86_forms.specs.declared.Form.{Form}
+use Rattle.x86_forms.specs.declared.Form.TheVariants as form
+use Rattle.x86_forms.specs.declared.TableRow.{TableRow}
+use Rattle.x86_forms.specs.Groups.{is_group}
+use Rattle.x86_operands.specs.declared.plans.Fault.TheVariants.{BadOpcode, Incomplete}
+use Rattle.x86_operands.specs.declared.plans.Plan.{Plan}
+use Rattle.x86_groups.specs.Keys.{is_f3_alone, fault_f30f3af0}
+use Rattle.x86_operands.specs.declared.plans.Moment.{Moment}
+use Rattle.x86_operands.specs.declared.plans.Moment.TheVariants.{AfterAddress}
+use Rattle.x86_operands.specs.declared.plans.Verdict.TheVariants.{Refuses}
+use Rattle.x86_operands.specs.Asks.{immediates_width}
+use Rattle.x86_operands.specs.PlanSteps.{record_step}
+use Rattle.x86_operands.proofs.RowLemmas.{HasGap, row_left_out}
+use Rattle.x86_operands.proofs.PlanTests.{passes, narrow, without_gap, at_most_64, at_most_8}
+use Rattle.x86_groups.specs.Vocabulary.{left_out}
+use Rattle.x86_groups.specs.Groups.{group_fault, group_form_plan, two_byte_plan, three_byte_plan, group_record}
+use Rattle.x86_groups.proofs.PlanLemmas.{plan_80_passes, plan_81_passes, plan_83_passes, plan_c0_passes, plan_c1_passes, plan_c6_passes, plan_c7_passes, plan_d0_passes, plan_d1_passes, plan_d2_passes, plan_d3_passes, plan_d8_passes, plan_d9_passes, plan_da_passes, plan_db_passes, plan_dc_passes, plan_dd_passes, plan_de_passes, plan_df_passes, plan_f6_passes, plan_f7_passes, plan_fe_passes, plan_ff_passes, plan_0f00_passes, plan_0f01_passes, plan_0f0d_passes, plan_0f0f_passes, plan_0f12_passes, plan_0f16_passes, plan_0f18_passes, plan_rq_cq_passes, plan_rq_dq_passes, plan_cq_rq_passes, plan_dq_rq_passes, plan_0f71_passes, plan_0f72_passes, plan_0f73_passes, plan_0fae_passes, plan_0fba_passes, plan_0fc7_passes, plan_660f78_passes, plan_f20f78_passes, plan_f30f1e_passes, plan_f30f38d8_passes, plan_f30f38dc_passes, plan_f30f38dd_passes, plan_f30f38de_passes, plan_f30f38df_passes, plan_f30f38fa_passes, plan_f30f38fb_passes, plan_f30f3af0_passes, plan_8f_passes, plan_8f_moment}
+
+-- 8F with a reg other than 0
+abbrev pub has_wait : Form → ℕ → Bool
+has_wait form.ModRM_0x8f m = not (reg_field m == 0)
+has_wait f m = false
+
+-- what may refuse as left out: that, and what is no group
+abbrev may_wait : Form → ℕ → Bool
+may_wait f m = not (is_group f) || has_wait f m
+
+none_passes : passes true left_out ≡ true
+unfolding passes narrow
+none_passes = refl
+
+-- a line for each group; what the last one covers is no group
+group_passes : (f : Form) (o : ℕ) (strict : Bool) (p : Prefixes) (m : ℕ) → passes (may_wait f m) (group_form_plan f o strict p m) ≡ true
+unfolding group_form_plan two_byte_plan three_byte_plan
+group_passes form.ModRM_0x80 o strict p m = plan_80_passes m
+group_passes form.ModRM_0x81 o strict p m = plan_81_passes p m
+group_passes form.ModRM_0x83 o strict p m = plan_83_passes p m
+group_passes form.ModRM_0x8f o strict p m = plan_8f_passes p m
+group_passes form.ModRM_0xc0 o strict p m = plan_c0_passes m
+group_passes form.ModRM_0xc1 o strict p m = plan_c1_passes p m
+group_passes form.ModRM_0xc6 o strict p m = plan_c6_passes m
+group_passes form.ModRM_0xc7 o strict p m = plan_c7_passes p m
+group_passes form.ModRM_0xd0 o strict p m = plan_d0_passes m
+group_passes form.ModRM_0xd1 o strict p m = plan_d1_passes p m
+group_passes form.ModRM_0xd2 o strict p m = plan_d2_passes m
+group_passes form.ModRM_0xd3 o strict p m = plan_d3_passes p m
+group_passes form.x87_d8 o strict p m = plan_d8_passes m
+group_passes form.x87_d9 o strict p m = plan_d9_passes m
+group_passes form.x87_da o strict p m = plan_da_passes m
+group_passes form.x87_db o strict p m = plan_db_passes m
+group_passes form.x87_dc o strict p m = plan_dc_passes m
+group_passes form.x87_dd o strict p m = plan_dd_passes m
+group_passes form.x87_de o strict p m = plan_de_passes m
+group_passes form.x87_df o strict p m = plan_df_passes m
+group_passes form.ModRM_0xf6 o strict p m = plan_f6_passes m
+group_passes form.ModRM_0xf7 o strict p m = plan_f7_passes p m
+group_passes form.ModRM_0xfe o strict p m = plan_fe_passes m
+group_passes form.ModRM_0xff o strict p m = plan_ff_passes p m
+group_passes form.ModRM_0x0f00 o strict p m = plan_0f00_passes m
+group_passes form.ModRM_0x0f01 o strict p m = plan_0f01_passes p m
+group_passes form.ModRM_0x0f0d o strict p m = plan_0f0d_passes m
+group_passes form.ModRM_0x0f0f o strict p m = plan_0f0f_passes p m
+group_passes form.ModRM_0x0f12 o strict p m = plan_0f12_passes p m
+group_passes form.ModRM_0x0f16 o strict p m = plan_0f16_passes p m
+group_passes form.ModRM_0x0f18 o strict p m = plan_0f18_passes p m
+group_passes form.Rq_Cq_0 o strict p m = plan_rq_cq_passes o p m
+group_passes form.Rq_Dq_0 o strict p m = plan_rq_dq_passes o p m
+group_passes form.Cq_Rq_0 o strict p m = plan_cq_rq_passes o p m
+group_passes form.Dq_Rq_0 o strict p m = plan_dq_rq_passes o p m
+group_passes form.ModRM_0x0f71 o strict p m = plan_0f71_passes p m
+group_passes form.ModRM_0x0f72 o strict p m = plan_0f72_passes p m
+group_passes form.ModRM_0x0f73 o strict p m = plan_0f73_passes p m
+group_passes form.ModRM_0x0fae o strict p m = plan_0fae_passes strict p m
+group_passes form.ModRM_0x0fba o strict p m = plan_0fba_passes p m
+group_passes form.ModRM_0x0fc7 o strict p m = plan_0fc7_passes p m
+group_passes form.ModRM_0x660f78 o strict p m = plan_660f78_passes m
+group_passes form.ModRM_0xf20f78 o strict p m = plan_f20f78_passes m
+group_passes form.ModRM_0xf30f1e o strict p m = plan_f30f1e_passes p m
+group_passes form.ModRM_0xf30f38d8 o strict p m = plan_f30f38d8_passes m
+group_passes form.ModRM_0xf30f38dc o strict p m = plan_f30f38dc_passes p m
+group_passes form.ModRM_0xf30f38dd o strict p m = plan_f30f38dd_passes m
+group_passes form.ModRM_0xf30f38de o strict p m = plan_f30f38de_passes m
+group_passes form.ModRM_0xf30f38df o strict p m = plan_f30f38df_passes m
+group_passes form.ModRM_0xf30f38fa o strict p m = plan_f30f38fa_passes p m
+group_passes form.ModRM_0xf30f38fb o strict p m = plan_f30f38fb_passes p m
+group_passes form.ModRM_0xf30f3af0 o strict p m = plan_f30f3af0_passes m
+group_passes _ o strict p m = none_passes
+
+pub group_small : (strict : Bool) (row : TableRow) (p : Prefixes) (m : ℕ) → ((group_record strict row p).plan m).size ≤ 64
+unfolding group_record
+group_small strict row p m = at_most_64 (may_wait row.form m) (group_form_plan row.form row.opcode strict p m) (group_passes row.form row.opcode strict p m)
+
+pub group_narrow : (strict : Bool) (row : TableRow) (p : Prefixes) (m : ℕ) → immediates_width ((group_record strict row p).plan m).encodings ≤ 8
+unfolding group_record
+group_narrow strict row p m = at_most_8 (may_wait row.form m) (group_form_plan row.form row.opcode strict p m) (group_passes row.form row.opcode strict p m)
+
+opcode_fault : (b : Bool) → (if b then None else Some BadOpcode) ≢ Some Incomplete
+opcode_fault true e = absurd cc
+opcode_fault false e = absurd cc
+
+fault_of : (f : Form) (p : Prefixes) → group_fault f p ≢ Some Incomplete
+unfolding fault_f30f3af0
+fault_of form.ModRM_0xf30f3af0 p e = opcode_fault (is_f3_alone p) e
+fault_of _ p e = opcode_fault true e
+
+pub no_fault : (strict : Bool) (row : TableRow) (p : Prefixes) → (group_record strict row p).at_opcode ≢ Some Incomplete
+unfolding group_record
+no_fault strict row p = fault_of row.form p
+
+waits : (gaps : Bool) (plan : Plan) (w : Moment) → passes gaps plan ≡ true → plan.verdict ≡ Refuses Incomplete w → gaps ≡ true
+waits true plan w h e = refl
+waits false plan w h e = absurd (without_gap plan w h e)
+
+group_waits : (group wait : Bool) → group ≡ true → (not group || wait) ≡ true → wait ≡ true
+group_waits true wait is h = h
+group_waits false wait is h = absurd (true≢false (sym is))
+
+gap_waits : (strict : Bool) (row : TableRow) (p : Prefixes) (m : ℕ) (w : Moment) → is_group row.form ≡ true → ((group_record strict row p).plan m).verdict ≡ Refuses Incomplete w → has_wait row.form m ≡ true
+unfolding group_record
+gap_waits strict row p m w group e =
+    group_waits (is_group row.form) (has_wait row.form m) group
+    (waits (may_wait row.form m) (group_form_plan row.form row.opcode strict p m) w (group_passes row.form row.opcode strict p m) e)
+
+wait_form : (f : Form) (m : ℕ) → has_wait f m ≡ true → f ≡ form.ModRM_0x8f
+wait_form form.ModRM_0x8f m h = refl
+wait_form _ m h = absurd (true≢false (sym h))
+
+pub gap_form : (strict : Bool) (row : TableRow) (p : Prefixes) (m : ℕ) (w : Moment) → is_group row.form ≡ true → ((group_record strict row p).plan m).verdict ≡ Refuses Incomplete w → row.form ≡ form.ModRM_0x8f
+gap_form strict row p m w group e = wait_form row.form m (gap_waits strict row p m w group e)
+
+not_zero : (n : ℕ) → not (n == 0) ≡ true → n ≢ 0
+not_zero n h e = grind (arith, nat_tests)
+
+wait_reg : (f : Form) (m : ℕ) → has_wait f m ≡ true → reg_field m ≢ 0
+wait_reg form.ModRM_0x8f m h = not_zero (reg_field m) h
+wait_reg _ m h = absurd (true≢false (sym h))
+
+pub gap_reg : (strict : Bool) (row : TableRow) (p : Prefixes) (m : ℕ) (w : Moment) → is_group row.form ≡ true → ((group_record strict row p).plan m).verdict ≡ Refuses Incomplete w → reg_field m ≢ 0
+gap_reg strict row p m w group e = wait_reg row.form m (gap_waits strict row p m w group e)
+
+wait_moment : (f : Form) (o : ℕ) (strict : Bool) (p : Prefixes) (m : ℕ) (w : Moment) → has_wait f m ≡ true → (group_form_plan f o strict p m).verdict ≡ Refuses Incomplete w → w ≡ AfterAddress
+unfolding group_form_plan
+wait_moment form.ModRM_0x8f o strict p m w h e = plan_8f_moment p m w e
+wait_moment _ o strict p m w h e = absurd (true≢false (sym h))
+
+pub gap_moment : (strict : Bool) (row : TableRow) (p : Prefixes) (m : ℕ) (w : Moment) → is_group row.form ≡ true → ((group_record strict row p).plan m).verdict ≡ Refuses Incomplete w → w ≡ AfterAddress
+unfolding group_record
+gap_moment strict row p m w group e = wait_moment row.form row.opcode strict p m w (gap_waits strict row p m w group e) e
+
+-- a row of a group is left out where it is 8F alone
+pub group_left_out : (strict : Bool) (row : TableRow) (p : Prefixes) (s : State ℕ) → is_group row.form ≡ true → (record_step (group_record strict row p) p s).answer ≡ Err IncompleteDecoder → row.form ≡ form.ModRM_0x8f
+group_left_out strict row p s group h = by (row_left_out (group_record strict row p) p s h)
+  where
+    by : HasGap (group_record strict row p) p → row.form ≡ form.ModRM_0x8f
+    by (inl e) = absurd (no_fault strict row p e)
+    by (inr (m, w, e)) = gap_form strict row p m w group e

@@ -1,0 +1,299 @@
+-- Permitted fields are the parts of an accepted encoding, and the parts of an accepted encoding are permitted.
+use Rattle.std.proofs.Common.{◌≡◌, ℕ, ◌↔◌, ◌≤◌, ◌==◌, nat_le, Bool, true, false, if◌then◌else◌, List, [], ◌∷◌, ◌++◌, length, take, slice_index, Option, Some, None, Result, Ok, refl, sym, ap, subst, ◌∙◌, arith}
+use Rattle.std.proofs.lemmas.List.{append-nil}
+use Rattle.std.proofs.lemmas.Bool.Decides.{nat_tests}
+use Rattle.x86_arch.specs.Reader.{State}
+use Rattle.x86_fields.specs.declared.errors.DecodeError.{DecodeError}
+use Rattle.x86_fields.specs.declared.prefixes.Prefixes.{Prefixes}
+use Rattle.x86_fields.specs.Run.{reading_of}
+use Rattle.x86_forms.specs.declared.Map.{Map}
+use Rattle.x86_forms.specs.declared.Map.TheVariants.{One, Of, Of38, Of3a}
+use Rattle.x86_forms.specs.declared.TableRow.{TableRow}
+use Rattle.x86_forms.specs.Words.{rows_of, packed}
+use Rattle.x86_operands.specs.declared.reader.Reading.{Reading}
+use Rattle.x86_operands.specs.Plans.{RowRecord}
+use Rattle.x86_operands.specs.Pieces.{SpellsRow}
+use Rattle.x86_operands.specs.PlanSteps.{record_step}
+use Rattle.x86_operands.proofs.RecordLemmas.{takes_row}
+use Rattle.x86_decode.specs.declared.instructions.Instruction.{Instruction}
+use Rattle.x86_decode.specs.Head.{is_run, column_of, escape_bytes, is_opcode, seen_by}
+use Rattle.x86_decode.specs.Grammar.{record_of, allows_lock, IsAccepted, IsAnswer}
+use Rattle.x86_decode.specs.Instruction.{instruction_of}
+use Rattle.x86_decode.specs.Answer.{answer_of, count_of}
+use Rattle.x86_layout.specs.declared.parts.fields.Fields as fields
+use Rattle.x86_layout.specs.declared.parts.entries.Entry.{Entry}
+use Rattle.x86_layout.specs.declared.parts.emit.EmitError.{EmitError}
+use Rattle.x86_layout.specs.declared.parts.emit.EmitError.TheVariants as error
+use Rattle.x86_layout.specs.Parts.Split.{Encoding, record_in, HasParts, joined}
+use Rattle.x86_layout.specs.Parts.Front.{parts_of}
+use Rattle.x86_layout.specs.Parts.Fields.{lists_in, HasFieldLengths}
+use Rattle.x86_layout.specs.Parts.Permitted.{map_named, entry_by, entry_at, entry_of, record_by, has_legal_run, passes_record, has_asked_parts, tail_of, answer_allows_lock, has_lawful_lock, is_short, unless, failing_at, first_failing, IsPermitted, ArePartsOfSentence}
+use Rattle.x86_layout.proofs.PartLemmas.Part.{front_is}
+use Rattle.x86_layout.proofs.PartLemmas.Front.{parts_are, parts_once}
+use Rattle.x86_layout.proofs.PartLemmas.Split.{joined_is}
+use Rattle.x86_layout.proofs.PartLemmas.Length.{lengths_of}
+use Rattle.x86_layout.proofs.PartLemmas.Spell.{same_number, spelled, HoldsPieces, passes, asked}
+
+-- ---- the first that fails
+
+or_else : {A : Type 0} → A → Option A → A
+or_else d None = d
+or_else d (Some x) = x
+
+same_inside : {A : Type 0} (x y : A) → Some x ≡ Some y → x ≡ y
+unfolding or_else
+same_inside x y h = ap (or_else x) h
+
+holds_of : (b : Bool) (e : EmitError) (rest : Option EmitError) → unless b e rest ≡ None → b ≡ true
+holds_of true e rest h = refl
+holds_of false e rest h = absurd (let k : Some e ≡ None = h in cc)
+
+rest_of : (b : Bool) (e : EmitError) (rest : Option EmitError) → unless b e rest ≡ None → rest ≡ None
+rest_of true e rest h = h
+rest_of false e rest h = absurd (let k : Some e ≡ None = h in cc)
+
+go_on : (b : Bool) (e : EmitError) (rest : Option EmitError) → b ≡ true → rest ≡ None → unless b e rest ≡ None
+go_on true e rest h k = k
+go_on false e rest h k = absurd (let x : false ≡ true = h in cc)
+
+record Holds (strict : Bool) (f : fields.Fields) (e : Entry) : Type 0 where
+  pub record_passes : passes_record (record_by strict e f) f ≡ true
+  pub parts : has_asked_parts (record_by strict e f) f ≡ true
+  pub lock : has_lawful_lock strict e f ≡ true
+  pub short : is_short f ≡ true
+
+holds : (strict : Bool) (f : fields.Fields) (o : Option Entry) → failing_at strict o f ≡ None → (e : Entry) × (o ≡ Some e) × Holds strict f e
+holds strict f None h = absurd (let k : Some error.Row ≡ None = h in cc)
+holds strict f (Some e) h =
+    let b1 = passes_record (record_by strict e f) f in
+    let b2 = has_asked_parts (record_by strict e f) f in
+    let b3 = has_lawful_lock strict e f in
+    let b4 = is_short f in
+    let h2 = rest_of b1 error.Row (unless b2 error.Shape (unless b3 error.Lock (unless b4 error.Length None))) h in
+    let h3 = rest_of b2 error.Shape (unless b3 error.Lock (unless b4 error.Length None)) h2 in
+    let h4 = rest_of b3 error.Lock (unless b4 error.Length None) h3 in (
+      e,
+      refl,
+      record {
+        record_passes = holds_of b1 error.Row _ h;
+        parts = holds_of b2 error.Shape _ h2;
+        lock = holds_of b3 error.Lock _ h3;
+        short = holds_of b4 error.Length None h4;
+      },
+    )
+
+-- ---- the row that fields name
+
+record Names (f : fields.Fields) (e : Entry) : Type 0 where
+  pub map : Map
+  pub row : TableRow
+  pub escape : f.escape.items ≡ escape_bytes map
+  pub meant : is_opcode map f.opcode ≡ true
+  pub has_row : rows_of packed map (column_of (reading_of f.prefixes.items)) f.opcode ≡ Some row
+  pub is : e ≡ record { row = row; prefixes = seen_by map f.opcode (reading_of f.prefixes.items) }
+
+no_map : {A : Type 0} (map : Map) → None ≡ Some map → A
+no_map map h = absurd cc
+
+one_byte : (t : Bool) (a : ℕ) (map : Map) → (a == 0x0f) ≡ t → (if t then Some Of else None) ≡ Some map → a ∷ [] ≡ escape_bytes map
+one_byte true a map e h = ap (λ x. x ∷ []) (same_number a 0x0f e) ∙ ap escape_bytes (same_inside Of map h)
+one_byte false a map e h = no_map map h
+
+second_byte : (t u : Bool) (b : ℕ) (map : Map) → (b == 0x38) ≡ t → (b == 0x3a) ≡ u → (if t then Some Of38 else (if u then Some Of3a else None)) ≡ Some map → 0x0f ∷ b ∷ [] ≡ escape_bytes map
+second_byte true u b map e k h = ap (λ x. 0x0f ∷ x ∷ []) (same_number b 0x38 e) ∙ ap escape_bytes (same_inside Of38 map h)
+second_byte false true b map e k h = ap (λ x. 0x0f ∷ x ∷ []) (same_number b 0x3a k) ∙ ap escape_bytes (same_inside Of3a map h)
+second_byte false false b map e k h = no_map map h
+
+two_bytes : (t : Bool) (a b : ℕ) (map : Map) → (a == 0x0f) ≡ t → (if t then (if b == 0x38 then Some Of38 else (if b == 0x3a then Some Of3a else None)) else None) ≡ Some map → a ∷ b ∷ [] ≡ escape_bytes map
+two_bytes true a b map e h = ap (λ x. x ∷ b ∷ []) (same_number a 0x0f e) ∙ second_byte (b == 0x38) (b == 0x3a) b map refl refl h
+two_bytes false a b map e h = no_map map h
+
+escape_is : (l : List ℕ) (map : Map) → map_named l ≡ Some map → l ≡ escape_bytes map
+escape_is [] map h = ap escape_bytes (same_inside One map h)
+escape_is (a ∷ []) map h = one_byte (a == 0x0f) a map refl h
+escape_is (a ∷ b ∷ []) map h = two_bytes (a == 0x0f) a b map refl h
+escape_is (a ∷ b ∷ c ∷ rest) map h = no_map map h
+
+no_entry : {A : Type 0} (e : Entry) → None ≡ Some e → A
+no_entry e h = absurd cc
+
+row_is : (o : Option TableRow) (q : Prefixes) (e : Entry) → entry_by o q ≡ Some e → (row : TableRow) × (o ≡ Some row) × (e ≡ record { row = row; prefixes = q })
+row_is None q e h = no_entry e h
+row_is (Some row) q e h = (row, refl, sym (same_inside (record { row = row; prefixes = q }) e h))
+
+meant_is : (t : Bool) (o : Option Entry) (e : Entry) → (if t then o else None) ≡ Some e → (t ≡ true) × (o ≡ Some e)
+meant_is true o e h = (refl, h)
+meant_is false o e h = no_entry e h
+
+names_by : (f : fields.Fields) (e : Entry) (o : Option Map) → map_named f.escape.items ≡ o → entry_at o (reading_of f.prefixes.items) f.opcode ≡ Some e → Names f e
+names_by f e None k h = no_entry e h
+names_by f e (Some map) k h =
+    let p : Prefixes = reading_of f.prefixes.items in
+    let x = meant_is (is_opcode map f.opcode) (entry_by (rows_of packed map (column_of p) f.opcode) (seen_by map f.opcode p)) e h in
+    let y = row_is (rows_of packed map (column_of p) f.opcode) (seen_by map f.opcode p) e x.1 in
+    record { map = map; row = y.0; escape = escape_is f.escape.items map k; meant = x.0; has_row = y.1; is = y.2 }
+
+names : (f : fields.Fields) (e : Entry) → entry_of f ≡ Some e → Names f e
+names f e h = names_by f e (map_named f.escape.items) refl h
+
+-- ---- permitted fields spell a sentence
+
+-- the reading of a row's pieces is the one that they spell
+reading_is : (r : RowRecord) (p : Prefixes) (tail : List ℕ) (reading : Reading) → SpellsRow r p tail reading → answer_allows_lock (record_step r p (record { left = tail; since_mark = 0; since_made = 0 })).answer ≡ allows_lock reading
+reading_is r p tail reading a =
+    let start : State ℕ = record { left = tail; since_mark = 0; since_made = 0 } in
+    ap (λ o. answer_allows_lock o.answer) ((takes_row r p tail reading a).takes [] start (sym (append-nil tail)))
+
+record Emitted (strict : Bool) (f : fields.Fields) : Type 0 where
+  pub reading : Reading
+  pub whole : Encoding strict (joined (lists_in f)) reading
+  pub parts : HasParts strict (joined (lists_in f)) reading whole (lists_in f)
+  pub lock : allows_lock reading ≡ true
+  pub short : length (joined (lists_in f)) ≤ 15
+
+at_most_15 : (n : ℕ) → nat_le n 15 ≡ true → n ≤ 15
+at_most_15 n h = grind (arith, nat_tests)
+
+emitted_by : (strict : Bool) (f : fields.Fields) (e : Entry) (n : Names f e) → has_legal_run f ≡ true → Holds strict f (record { row = n.row; prefixes = seen_by n.map f.opcode (reading_of f.prefixes.items) }) → Emitted strict f
+emitted_by strict f e n legal h =
+    let q : Prefixes = seen_by n.map f.opcode (reading_of f.prefixes.items) in
+    let r = record_of strict n.row q in
+    let s = spelled r q f h.record_passes h.parts in
+    let t = s.parts in
+    record {
+      reading = s.reading;
+      whole = record {
+        run = f.prefixes.items;
+        map = n.map;
+        opcode = f.opcode;
+        row = n.row;
+        tail = tail_of f;
+        spelled = ap (λ l. f.prefixes.items ++ (l ++ f.opcode ∷ tail_of f)) n.escape;
+        prefixes = legal;
+        meant = n.meant;
+        has_row = n.has_row;
+        asked = s.row;
+      };
+      parts = record {
+        prefixes = refl;
+        escape = n.escape;
+        opcode = refl;
+        modrm = t.modrm;
+        sib = t.sib;
+        address = t.address;
+        immediate = t.immediate;
+        suffix = t.suffix;
+      };
+      lock = sym (reading_is r q (tail_of f) s.reading s.row) ∙ h.lock;
+      short = at_most_15 (length (joined (lists_in f))) h.short;
+    }
+
+emitted : (strict : Bool) (f : fields.Fields) → IsPermitted strict f → Emitted strict f
+unfolding first_failing
+emitted strict f h =
+    let legal = holds_of (has_legal_run f) error.Prefixes (failing_at strict (entry_of f) f) h in
+    let x = holds strict f (entry_of f) (rest_of (has_legal_run f) error.Prefixes (failing_at strict (entry_of f) f) h) in
+    let n = names f x.0 x.1 in
+    emitted_by strict f x.0 n legal (subst (Holds strict f) n.is x.2)
+
+abbrev pub Only : Bool → Type 0
+Only strict = (xs : List ℕ) (r : Result Instruction DecodeError) (n : ℕ) → IsAnswer (rows_of packed) strict xs r n → (r ≡ answer_of strict xs) × (n ≡ count_of strict xs)
+
+-- What emit wrote is accepted, whatever stands behind it, and its parts are the fields.
+pub split_again : (strict : Bool) (f : fields.Fields) (rest : List ℕ) → Only strict → IsPermitted strict f → (i : Instruction) × (answer_of strict (joined (lists_in f) ++ rest) ≡ Ok i) × (parts_of strict (joined (lists_in f) ++ rest) ≡ lists_in f)
+split_again strict f rest only h =
+    let x = emitted strict f h in
+    let s : List ℕ = joined (lists_in f) in
+    let i : Instruction = instruction_of x.reading (length s) in
+    let accepted : IsAccepted (rows_of packed) strict (s ++ rest) i (length s) = record {
+      sentence = s;
+      rest = rest;
+      begins = refl;
+      long = refl;
+      is = record { reading = x.reading; whole = x.whole; lock = x.lock; short = x.short; gives = refl };
+    } in
+    (i, sym (only (s ++ rest) (Ok i) (length s) accepted).0, parts_once strict s x.reading x.whole (parts_of strict (s ++ rest)) (lists_in f) (parts_are strict s rest x.reading x.whole) x.parts)
+
+-- ---- the parts of an accepted encoding are permitted
+
+map_back : (m : Map) → map_named (escape_bytes m) ≡ Some m
+map_back One = refl
+map_back Of = refl
+map_back Of38 = refl
+map_back Of3a = refl
+
+short_test : (n : ℕ) → n ≤ 15 → nat_le n 15 ≡ true
+short_test n h = grind (arith, nat_tests)
+
+module _ (strict : Bool) (s : List ℕ) (reading : Reading) (w : Encoding strict s reading) (f : fields.Fields) (h : HasParts strict s reading w (lists_in f)) where
+  abbrev q : Prefixes
+  q = seen_by w.map w.opcode (reading_of w.run)
+
+  abbrev entry : Entry
+  entry = record { row = w.row; prefixes = q }
+
+  entry_is : entry_of f ≡ Some entry
+  entry_is =
+      ap (λ l. entry_at (map_named l) (reading_of f.prefixes.items) f.opcode) h.escape
+      ∙ ap (λ o. entry_at o (reading_of f.prefixes.items) f.opcode) (map_back w.map)
+      ∙ ap (λ l. entry_at (Some w.map) (reading_of l) f.opcode) h.prefixes
+      ∙ ap (λ l. entry_at (Some w.map) (reading_of w.run) (slice_index l 0)) h.opcode
+      ∙ ap (λ t. if t then entry_by (rows_of packed w.map (column_of (reading_of w.run)) w.opcode) q else None) w.meant
+      ∙ ap (λ o. entry_by o q) w.has_row
+
+  tail_is : tail_of f ≡ w.tail
+  tail_is =
+      let a = w.asked in
+      let t = a.behind.pieces in
+      cc (h.modrm, h.address, h.immediate, h.suffix, a.spelled, t.spelled)
+
+  lock_is : allows_lock reading ≡ true → has_lawful_lock strict entry f ≡ true
+  lock_is k = ap (λ l. answer_allows_lock (record_step (record_in strict s reading w) q (record { left = l; since_mark = 0; since_made = 0 })).answer) tail_is ∙ reading_is (record_in strict s reading w) q w.tail reading w.asked ∙ k
+
+  pieces : HoldsPieces (record_in strict s reading w) q w.tail reading f w.asked
+  pieces = record { modrm = h.modrm; sib = h.sib; address = h.address; immediate = h.immediate; suffix = h.suffix }
+
+  pub permitted : allows_lock reading ≡ true → length s ≤ 15 → IsPermitted strict f
+  unfolding first_failing
+  permitted lock short =
+      let r = record_in strict s reading w in
+      let legal : has_legal_run f ≡ true = ap is_run h.prefixes ∙ w.prefixes in
+      let short' : is_short f ≡ true = short_test _ (subst (λ l. length l ≤ 15) (sym (joined_is strict s reading w (lists_in f) h)) short) in
+      let at : failing_at strict (Some entry) f ≡ None =
+      go_on _ error.Row _ (passes r q w.tail reading f w.asked pieces)
+      (go_on _ error.Shape _ (asked r q w.tail reading f w.asked pieces)
+      (go_on _ error.Lock _ (lock_is lock) (go_on _ error.Length None short' refl))) in
+      go_on (has_legal_run f) error.Prefixes (failing_at strict (entry_of f) f) legal (ap (λ o. failing_at strict o f) entry_is ∙ at)
+
+-- Emitting the fields of a split gives the encoding's very bytes.
+pub emitted_again : (strict : Bool) (bytes : List ℕ) (i : Instruction) (f : fields.Fields) → IsAccepted (rows_of packed) strict bytes i (count_of strict bytes) → i.length ≡ count_of strict bytes → lists_in f ≡ parts_of strict bytes → IsPermitted strict f × (joined (lists_in f) ≡ take i.length bytes)
+emitted_again strict bytes i f a counted e =
+    let x = a.is in
+    let s = a.sentence in
+    let h : HasParts strict s x.reading x.whole (lists_in f) =
+    subst (HasParts strict s x.reading x.whole) (sym (e ∙ ap (parts_of strict) a.begins)) (parts_are strict s a.rest x.reading x.whole) in
+    (permitted strict s x.reading x.whole f h x.lock x.short, joined_is strict s x.reading x.whole (lists_in f) h ∙ sym (front_is bytes s a.rest i.length a.begins (counted ∙ sym a.long)))
+
+-- Fields are permitted exactly where they are the parts of a sentence.
+pub permitted_are_parts : (strict : Bool) (f : fields.Fields) → IsPermitted strict f ↔ ArePartsOfSentence strict f
+permitted_are_parts strict f = (there, back)
+  where
+    there : IsPermitted strict f → ArePartsOfSentence strict f
+    there h =
+        let x = emitted strict f h in
+        record {
+          answer = instruction_of x.reading (length (joined (lists_in f)));
+          sentence = record { reading = x.reading; whole = x.whole; lock = x.lock; short = x.short; gives = refl };
+          parts = x.parts;
+        }
+
+    back : ArePartsOfSentence strict f → IsPermitted strict f
+    back k = permitted strict (joined (lists_in f)) k.sentence.reading k.sentence.whole f k.parts k.sentence.lock k.sentence.short
+
+-- The parts of an accepted encoding have lengths that fields can hold.
+pub parts_fit : (strict : Bool) (bytes : List ℕ) (i : Instruction) → IsAccepted (rows_of packed) strict bytes i (count_of strict bytes) → HasFieldLengths (parts_of strict bytes)
+parts_fit strict bytes i a =
+    let x = a.is in
+    let h : HasParts strict a.sentence x.reading x.whole (parts_of strict bytes) =
+    subst (HasParts strict a.sentence x.reading x.whole) (sym (ap (parts_of strict) a.begins)) (parts_are strict a.sentence a.rest x.reading x.whole) in
+    lengths_of strict a.sentence x.reading x.whole (parts_of strict bytes) h x.short

@@ -1,0 +1,202 @@
+-- The parts of the encoding at the front of bytes are the pieces of any whole encoding that stands there.
+use Rattle.std.proofs.Common.{◌≡◌, ℕ, ◌==◌, ◌&&◌, Bool, true, false, if◌then◌else◌, List, [], ◌∷◌, ◌++◌, length, slice_index, Option, Some, None, is_some, refl, sym, ap, subst, ◌∙◌, append_assoc}
+use Rattle.std.specs.List.{prefix_len}
+use Rattle.x86_fields.specs.declared.prefixes.Prefixes.{Prefixes}
+use Rattle.x86_fields.specs.declared.raw.Raw.{Raw}
+use Rattle.x86_fields.specs.Run.{is_prefix, reading_of}
+use Rattle.x86_fields.specs.ModRM.{rm_field, is_memory}
+use Rattle.x86_fields.specs.Raw.{displacement_width}
+use Rattle.x86_fields.specs.Pieces.{option_bytes, first_byte}
+use Rattle.x86_operands.specs.declared.asks.Ask.{Ask}
+use Rattle.x86_operands.specs.declared.reader.Reading.{Reading}
+use Rattle.x86_operands.specs.Plans.{RowRecord}
+use Rattle.x86_operands.specs.Pieces.{modrm_of, SpellsMemory, SpellsRow}
+use Rattle.x86_operands.specs.Asks.{used_modrm, ask_of}
+use Rattle.x86_decode.specs.Head.{escape_bytes, seen_by}
+use Rattle.x86_layout.specs.Parts.Heads.{map_of, one_if, asks_sib}
+use Rattle.x86_layout.specs.Parts.Split.{PartLists, Encoding, record_in, sib_width, HasParts}
+use Rattle.x86_layout.specs.Parts.Front.{ask_by, ask_behind, asked_displacement_width, run_in, behind_run, map_in, behind_escape, opcode_in, tail_in, ask_in, modrm_in, behind_modrm, sib_in, behind_sib, displacement_in, behind_address, immediate_in, suffix_in, parts_of}
+use Rattle.x86_layout.proofs.PartLemmas.Part.{front_is, rest_is, run_length_is, map_is, enters, as_it_stands, read_as, modrm_count, sib_count, immediate_count, suffix_count}
+
+-- ---- SIB and displacement
+
+pub record AddressParts (m : ℕ) (address : List ℕ) : Type 0 where
+  pub sib : List ℕ
+  pub disp : List ℕ
+  pub spelled : address ≡ sib ++ disp
+  pub sib_long : length sib ≡ sib_width m
+  pub disp_long : length disp ≡ (if is_memory m then displacement_width m (first_byte sib) else 0)
+
+pub option_count : (o : Option ℕ) → length (option_bytes o) ≡ one_if (is_some o)
+option_count None = refl
+option_count (Some b) = refl
+
+pub first_of : (o : Option ℕ) → first_byte (option_bytes o) ≡ o
+first_of None = refl
+first_of (Some b) = refl
+
+pub address_parts : (p : Prefixes) (m : ℕ) (address : List ℕ) (memory : Option Raw) → SpellsMemory p m address memory → AddressParts m address
+address_parts p m address None h = record {
+  sib = [];
+  disp = [];
+  spelled = h.1;
+  sib_long = subst (λ t. 0 ≡ one_if (t && rm_field m == 4)) (sym h.0) refl;
+  disp_long = subst (λ t. 0 ≡ (if t then displacement_width m None else 0)) (sym h.0) refl;
+}
+address_parts p m address (Some raw) h =
+    let s = h.1 in
+    record {
+      sib = option_bytes s.sib;
+      disp = s.disp;
+      spelled = s.spelled;
+      sib_long = option_count s.sib ∙ ap one_if s.sib_asked ∙ subst (λ t. one_if (rm_field m == 4) ≡ one_if (t && rm_field m == 4)) (sym h.0) refl;
+      disp_long = s.disp_asked ∙ ap (displacement_width m) (sym (first_of s.sib)) ∙ subst (λ t. displacement_width m (first_byte (option_bytes s.sib)) ≡ (if t then displacement_width m (first_byte (option_bytes s.sib)) else 0)) (sym h.0) refl;
+    }
+
+-- in a memory form that is read as such, the byte is as it stands
+disp_by : (memory : Bool) (raw used_modrm : ℕ) (sib : Option ℕ) → (memory ≡ true → used_modrm ≡ raw) → (if memory then displacement_width raw sib else 0) ≡ (if memory then displacement_width used_modrm sib else 0)
+disp_by true raw used_modrm sib h = ap (λ m. displacement_width m sib) (sym (h refl))
+disp_by false raw used_modrm sib h = refl
+
+-- ---- behind the opcode byte
+
+pub record HasTail (r : RowRecord) (p : Prefixes) (tail : List ℕ) (reading : Reading) (a : SpellsRow r p tail reading) (ask : Ask) (all : List ℕ) : Type 0 where
+  pub modrm : modrm_in ask all ≡ a.modrm
+  pub sib : length (sib_in ask all) ≡ sib_width (modrm_of r.modrm a.modrm)
+  pub address : sib_in ask all ++ displacement_in ask all ≡ a.behind.pieces.address
+  pub immediate : immediate_in ask all ≡ a.behind.pieces.immediates
+  pub suffix : suffix_in ask all ≡ a.behind.pieces.suffix
+
+module _ (r : RowRecord) (p : Prefixes) (tail : List ℕ) (reading : Reading) (a : SpellsRow r p tail reading) (all rest : List ℕ) (e : all ≡ tail ++ rest) (ask : Ask) (k : ask ≡ ask_of r (slice_index all 0)) where
+  abbrev first : ℕ
+  first = slice_index all 0
+
+  abbrev m : ℕ
+  m = modrm_of r.modrm a.modrm
+
+  begins : all ≡ a.modrm ++ (a.tail ++ rest)
+  begins = e ∙ ap (λ l. l ++ rest) a.spelled ∙ append_assoc a.modrm a.tail rest
+
+  width_is : (sib : List ℕ) → asked_displacement_width ask first sib ≡ (if is_memory m then displacement_width m (first_byte sib) else 0)
+  unfolding ask_of
+  width_is sib =
+      let u = r.modrm in
+      ap (λ x. asked_displacement_width x first sib) k
+      ∙ disp_by (is_memory (used_modrm u first)) first (used_modrm u first) (first_byte sib) (as_it_stands u first)
+      ∙ ap (λ n. if is_memory n then displacement_width n (first_byte sib) else 0) (sym (read_as r p tail reading a all (a.tail ++ rest) begins ask k))
+
+  pub has_tail : HasTail r p tail reading a ask all
+  has_tail =
+      let more : List ℕ = a.tail ++ rest in
+      let s = a.behind.pieces in
+      let x = address_parts p m s.address s.memory s.address_asked in
+      let last : List ℕ = s.immediates ++ (s.suffix ++ rest) in
+      let modrm_n = modrm_count r p tail reading a all more begins ask k in
+      let row_rest : behind_modrm ask all ≡ x.sib ++ (x.disp ++ last) =
+      rest_is all a.modrm more _ begins modrm_n
+      ∙ ap (λ l. l ++ rest) s.spelled ∙ append_assoc s.address (s.immediates ++ s.suffix) rest
+      ∙ ap (λ l. s.address ++ l) (append_assoc s.immediates s.suffix rest)
+      ∙ ap (λ l. l ++ last) x.spelled ∙ append_assoc x.sib x.disp last in
+      let sib_n : one_if (asks_sib ask first) ≡ length x.sib = sib_count r p tail reading a all more begins ask k ∙ sym x.sib_long in
+      let sib : sib_in ask all ≡ x.sib = front_is _ x.sib (x.disp ++ last) _ row_rest sib_n in
+      let sib_rest : behind_sib ask all ≡ x.disp ++ last = rest_is _ x.sib (x.disp ++ last) _ row_rest sib_n in
+      let disp_n : asked_displacement_width ask first (sib_in ask all) ≡ length x.disp = ap (asked_displacement_width ask first) sib ∙ width_is x.sib ∙ sym x.disp_long in
+      let disp : displacement_in ask all ≡ x.disp = front_is _ x.disp last _ sib_rest disp_n in
+      let address_rest : behind_address ask all ≡ last = rest_is _ x.disp last _ sib_rest disp_n in
+      let immediate_n = immediate_count r p tail reading a all more begins ask k in
+      record {
+        modrm = front_is all a.modrm more _ begins modrm_n;
+        sib = ap length sib ∙ x.sib_long;
+        address = ap (λ l. l ++ displacement_in ask all) sib ∙ ap (λ l. x.sib ++ l) disp ∙ sym x.spelled;
+        immediate = front_is _ s.immediates (s.suffix ++ rest) _ address_rest immediate_n;
+        suffix = front_is _ s.suffix rest _ (rest_is _ s.immediates (s.suffix ++ rest) _ address_rest immediate_n) (suffix_count r p tail reading a all more begins ask k);
+      }
+
+-- ---- the whole encoding
+
+-- What stands up to the opcode byte and behind it, and what the row asks.
+pub record HasHead (strict : Bool) (s rest : List ℕ) (reading : Reading) (w : Encoding strict s reading) : Type 0 where
+  pub prefixes : run_in (s ++ rest) ≡ w.run
+  pub map : map_in (s ++ rest) ≡ w.map
+  pub opcode : opcode_in (s ++ rest) ≡ w.opcode ∷ []
+  pub tail : tail_in (s ++ rest) ≡ w.tail ++ rest
+  pub ask : ask_in (s ++ rest) strict ≡ ask_of (record_in strict s reading w) (slice_index (tail_in (s ++ rest)) 0)
+
+pub has_head : (strict : Bool) (s rest : List ℕ) (reading : Reading) (w : Encoding strict s reading) → HasHead strict s rest reading w
+has_head strict s rest reading w =
+    let bytes : List ℕ = s ++ rest in
+    let tail' : List ℕ = w.tail ++ rest in
+    let behind : List ℕ = escape_bytes w.map ++ w.opcode ∷ tail' in
+    let spelled : bytes ≡ w.run ++ behind =
+    ap (λ l. l ++ rest) w.spelled ∙ append_assoc w.run (escape_bytes w.map ++ w.opcode ∷ w.tail) rest
+    ∙ ap (λ l. w.run ++ l) (append_assoc (escape_bytes w.map) (w.opcode ∷ w.tail) rest) in
+    let in' = enters w.map w.opcode tail' w.meant in
+    let run_n : prefix_len is_prefix bytes ≡ length w.run =
+    ap (prefix_len is_prefix) (spelled ∙ ap (λ l. w.run ++ l) in'.spelled) ∙ run_length_is w.run in'.first in'.rest w.prefixes in'.plain in
+    let prefixes : run_in bytes ≡ w.run = front_is bytes w.run behind _ spelled run_n in
+    let run_rest : behind_run bytes ≡ behind = rest_is bytes w.run behind _ spelled run_n in
+    let map : map_in bytes ≡ w.map = ap (λ l. map_of (slice_index l 0) (slice_index l 1)) run_rest ∙ map_is w.map w.opcode tail' w.meant in
+    let escape_rest : behind_escape bytes ≡ w.opcode ∷ tail' = rest_is _ (escape_bytes w.map) (w.opcode ∷ tail') _ run_rest (ap (λ x. length (escape_bytes x)) map) in
+    let opcode : opcode_in bytes ≡ w.opcode ∷ [] = front_is _ (w.opcode ∷ []) tail' 1 escape_rest refl in
+    let first : ℕ = slice_index (tail_in bytes) 0 in
+    record {
+      prefixes = prefixes;
+      map = map;
+      opcode = opcode;
+      tail = rest_is _ (w.opcode ∷ []) tail' 1 escape_rest refl;
+      ask =
+          ap (λ q. ask_behind strict q (map_in bytes) (slice_index (opcode_in bytes) 0) first) prefixes
+          ∙ ap (λ q. ask_behind strict w.run q (slice_index (opcode_in bytes) 0) first) map
+          ∙ ap (λ l. ask_behind strict w.run w.map (slice_index l 0) first) opcode
+          ∙ ap (λ o. ask_by strict o (seen_by w.map w.opcode (reading_of w.run)) first) w.has_row;
+    }
+
+-- The parts of bytes that begin with a whole encoding are its pieces.
+pub parts_are : (strict : Bool) (s rest : List ℕ) (reading : Reading) (w : Encoding strict s reading) → HasParts strict s reading w (parts_of strict (s ++ rest))
+unfolding parts_of
+parts_are strict s rest reading w =
+    let h = has_head strict s rest reading w in
+    let bytes : List ℕ = s ++ rest in
+    let t = has_tail (record_in strict s reading w) (seen_by w.map w.opcode (reading_of w.run)) w.tail reading w.asked (tail_in bytes) rest h.tail (ask_in bytes strict) h.ask in
+    record {
+      prefixes = h.prefixes;
+      escape = ap escape_bytes h.map;
+      opcode = h.opcode;
+      modrm = t.modrm;
+      sib = t.sib;
+      address = t.address;
+      immediate = t.immediate;
+      suffix = t.suffix;
+    }
+
+-- ---- a whole encoding has its parts once
+
+abbrev lists : List ℕ → List ℕ → List ℕ → List ℕ → List ℕ → List ℕ → List ℕ → List ℕ → PartLists
+lists a b c d e f g h = record { prefixes = a; escape = b; opcode = c; modrm = d; sib = e; displacement = f; immediate = g; suffix = h }
+
+pub same_lists : (a b : PartLists) → a.prefixes ≡ b.prefixes → a.escape ≡ b.escape → a.opcode ≡ b.opcode → a.modrm ≡ b.modrm → a.sib ≡ b.sib → a.displacement ≡ b.displacement → a.immediate ≡ b.immediate → a.suffix ≡ b.suffix → a ≡ b
+same_lists a b e1 e2 e3 e4 e5 e6 e7 e8 =
+    ap (λ x. lists x a.escape a.opcode a.modrm a.sib a.displacement a.immediate a.suffix) e1
+    ∙ ap (λ x. lists b.prefixes x a.opcode a.modrm a.sib a.displacement a.immediate a.suffix) e2
+    ∙ ap (λ x. lists b.prefixes b.escape x a.modrm a.sib a.displacement a.immediate a.suffix) e3
+    ∙ ap (λ x. lists b.prefixes b.escape b.opcode x a.sib a.displacement a.immediate a.suffix) e4
+    ∙ ap (λ x. lists b.prefixes b.escape b.opcode b.modrm x a.displacement a.immediate a.suffix) e5
+    ∙ ap (λ x. lists b.prefixes b.escape b.opcode b.modrm b.sib x a.immediate a.suffix) e6
+    ∙ ap (λ x. lists b.prefixes b.escape b.opcode b.modrm b.sib b.displacement x a.suffix) e7
+    ∙ ap (λ x. lists b.prefixes b.escape b.opcode b.modrm b.sib b.displacement b.immediate x) e8
+
+pub parts_once : (strict : Bool) (s : List ℕ) (reading : Reading) (w : Encoding strict s reading) (a b : PartLists) → HasParts strict s reading w a → HasParts strict s reading w b → a ≡ b
+parts_once strict s reading w a b h k =
+    let sib = front_is _ a.sib a.displacement _ (sym h.address) (sym h.sib) in
+    let sib' = front_is _ b.sib b.displacement _ (sym k.address) (sym k.sib) in
+    let disp = rest_is _ a.sib a.displacement _ (sym h.address) (sym h.sib) in
+    let disp' = rest_is _ b.sib b.displacement _ (sym k.address) (sym k.sib) in
+    same_lists a b
+    (h.prefixes ∙ sym k.prefixes)
+    (h.escape ∙ sym k.escape)
+    (h.opcode ∙ sym k.opcode)
+    (h.modrm ∙ sym k.modrm)
+    (sym sib ∙ sib')
+    (sym disp ∙ disp')
+    (h.immediate ∙ sym k.immediate)
+    (h.suffix ∙ sym k.suffix)

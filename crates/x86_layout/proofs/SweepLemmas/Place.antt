@@ -1,0 +1,118 @@
+-- Where cuts begin and end.
+use Rattle.std.proofs.Common.{◌≡◌, ℕ, zero, suc, ◌+◌, ◌-◌, ◌<◌, ◌≤◌, ◌==◌, ◌&&◌, ◌||◌, not, nat_lt, Bool, false, inl, inr, List, [], ◌∷◌, length, Result, Ok, Err, refl, ap, subst, ◌∙◌, arith}
+use Rattle.std.proofs.lemmas.List.Sums.{sum_by-cons}
+use Rattle.std.proofs.lemmas.List.Elements.{All-nil, All-cons}
+use Rattle.std.proofs.lemmas.Bool.Decides.{nat_tests}
+use Rattle.std.specs.List.{list_any, sum_by, All}
+use Rattle.std.proofs.lemmas.Bool.{cases_lt}
+use Rattle.x86_fields.specs.declared.errors.DecodeError.{DecodeError}
+use Rattle.x86_decode.specs.declared.instructions.Instruction.{Instruction}
+use Rattle.x86_decode.specs.Answer.{answer_of}
+use Rattle.x86_layout.specs.Sweeps.Cuts.{cut_length, cut_at, cuts_behind, cuts_from}
+use Rattle.x86_layout.specs.Sweeps.Marks.{begins_at, is_inside}
+use Rattle.x86_layout.specs.Sweeps.Lengths.{IsWithin}
+
+-- instructions have a length, which is at most that of the input
+abbrev pub Lengths : Bool → Type 0
+Lengths strict = (xs : List ℕ) (i : Instruction) → answer_of strict xs ≡ Ok i → (0 < i.length) × (i.length ≤ length xs)
+
+one_more : (place n : ℕ) → (place + 1) + n ≡ place + suc n
+one_more place n = omega arith
+
+-- ---- tests of places
+
+apart : (p q : ℕ) (b : Bool) → p < q → b ≡ false → ((q == p) || b) ≡ false
+apart p q b h e = grind (arith, nat_tests)
+
+not_inside : (p q n : ℕ) (b : Bool) → p ≤ q → b ≡ false → ((nat_lt q p && nat_lt p (q + n)) || b) ≡ false
+not_inside p q n b h e = grind (arith, nat_tests)
+
+here : (place p n : ℕ) (a b : Bool) → p ≤ place → place ≤ p → b ≡ false → ((place == p) || a) ≡ (not (nat_lt p (place + 0)) && not ((nat_lt place p && nat_lt p (place + n)) || b))
+here place p n a b h k e = grind (arith, nat_tests)
+
+further : (place p n : ℕ) (a b : Bool) → place < p → 0 < n → a ≡ (not (nat_lt p ((place + 1) + (n - 1))) && not b) → ((place == p) || a) ≡ (not (nat_lt p (place + 0)) && not ((nat_lt place p && nat_lt p (place + n)) || b))
+further place p n a b h k e = grind (arith, nat_tests)
+
+passed_over : (place p k : ℕ) (a b : Bool) → p < place + 1 → a ≡ false → a ≡ (not (nat_lt p (place + suc k)) && not b)
+passed_over place p k a b h e = grind (arith, nat_tests)
+
+module _ (strict : Bool) (lengths : Lengths strict) where
+  fits_by : (xs : List ℕ) (r : Result Instruction DecodeError) → 0 < length xs → answer_of strict xs ≡ r → (0 < cut_length r) × (cut_length r ≤ length xs)
+  fits_by xs (Ok i) h e = lengths xs i e
+  fits_by xs (Err e) h _ = (omega arith, omega arith)
+
+  pub fits : (xs : List ℕ) → 0 < length xs → (0 < cut_length (answer_of strict xs)) × (cut_length (answer_of strict xs) ≤ length xs)
+  fits xs h = fits_by xs (answer_of strict xs) h refl
+
+  -- ---- ends
+
+  pub within : (skip place : ℕ) (xs : List ℕ) → All (IsWithin (place + length xs)) (cuts_behind strict skip place xs)
+  unfolding cuts_behind
+  within skip place [] = All-nil (IsWithin (place + 0))
+  within zero place (x ∷ xs) =
+      let n : ℕ = cut_length (answer_of strict (x ∷ xs)) in
+      let fit = fits (x ∷ xs) (omega arith) in
+      All-cons (IsWithin (place + suc (length xs))) (cut_at strict place (x ∷ xs)) (cuts_behind strict (n - 1) (place + 1) xs) (fit.0, let long : n ≤ suc (length xs) = fit.1 in omega arith)
+      (subst (λ e. All (IsWithin e) (cuts_behind strict (n - 1) (place + 1) xs)) (one_more place (length xs)) (within (n - 1) (place + 1) xs))
+  within (suc k) place (x ∷ xs) = subst (λ e. All (IsWithin e) (cuts_behind strict k (place + 1) xs)) (one_more place (length xs)) (within k (place + 1) xs)
+
+  -- ---- indices
+
+  none_before : (skip place p : ℕ) (xs : List ℕ) → p < place → list_any (begins_at p) (cuts_behind strict skip place xs) ≡ false
+  unfolding cuts_behind
+  none_before skip place p [] h = refl
+  none_before zero place p (x ∷ xs) h = apart p place _ h (none_before (cut_length (answer_of strict (x ∷ xs)) - 1) (place + 1) p xs (omega arith))
+  none_before (suc k) place p (x ∷ xs) h = none_before k (place + 1) p xs (omega arith)
+
+  none_round : (skip place p : ℕ) (xs : List ℕ) → p ≤ place → list_any (is_inside p) (cuts_behind strict skip place xs) ≡ false
+  unfolding cuts_behind
+  none_round skip place p [] h = refl
+  none_round zero place p (x ∷ xs) h =
+      let n : ℕ = cut_length (answer_of strict (x ∷ xs)) in
+      not_inside p place n _ h (none_round (n - 1) (place + 1) p xs (omega arith))
+  none_round (suc k) place p (x ∷ xs) h = none_round k (place + 1) p xs (omega arith)
+
+  -- a place behind the cut before is that of a cut, or inside one
+  begins_by : (skip place p : ℕ) (xs : List ℕ) → place ≤ p → p < place + length xs → list_any (begins_at p) (cuts_behind strict skip place xs) ≡ (not (nat_lt p (place + skip)) && not (list_any (is_inside p) (cuts_behind strict skip place xs)))
+  unfolding cuts_behind
+  begins_by skip place p [] h k = absurd (omega arith)
+  begins_by zero place p (x ∷ xs) h k = elim (cases_lt place p) [
+    | inl less ↦
+        let n : ℕ = cut_length (answer_of strict (x ∷ xs)) in
+        further place p n _ _ less (fits (x ∷ xs) (omega arith)).0 (begins_by (n - 1) (place + 1) p xs (omega arith) (omega arith))
+    | inr same ↦
+        let n : ℕ = cut_length (answer_of strict (x ∷ xs)) in
+        here place p n _ _ same h (none_round (n - 1) (place + 1) p xs (omega arith))
+  ]
+  begins_by (suc k) place p (x ∷ xs) h l = elim (cases_lt place p) [
+    | inl less ↦ begins_by k (place + 1) p xs (omega arith) (omega arith) ∙ ap (λ e. not (nat_lt p e) && not (list_any (is_inside p) (cuts_behind strict k (place + 1) xs))) (one_more place k)
+    | inr same ↦ passed_over place p k _ _ (omega arith) (none_before k (place + 1) p xs (omega arith))
+  ]
+
+  always : (p : ℕ) (b : Bool) → (not (nat_lt p 0) && b) ≡ b
+  always p b = grind (arith, nat_tests)
+
+  -- a place of the bytes is that of a cut, or inside one
+  pub begins_or_inside : (p : ℕ) (xs : List ℕ) → p < length xs → list_any (begins_at p) (cuts_from strict 0 xs) ≡ not (list_any (is_inside p) (cuts_from strict 0 xs))
+  begins_or_inside p xs h = begins_by 0 0 p xs (omega arith) (omega arith) ∙ always p _
+
+  pub all_within : (xs : List ℕ) → All (IsWithin (length xs)) (cuts_from strict 0 xs)
+  all_within xs = subst (λ e. All (IsWithin e) (cuts_from strict 0 xs)) (omega arith) (within 0 0 xs)
+
+  -- ---- lengths
+
+  sum_from : (skip place : ℕ) (xs : List ℕ) → skip ≤ length xs → sum_by (λ c. c.length) (cuts_behind strict skip place xs) + skip ≡ length xs
+  unfolding cuts_behind
+  sum_from skip place [] h = omega arith
+  sum_from zero place (x ∷ xs) h =
+      let n : ℕ = cut_length (answer_of strict (x ∷ xs)) in
+      let fit = fits (x ∷ xs) (omega arith) in
+      let some : 0 < n = fit.0 in
+      let long : n ≤ suc (length xs) = fit.1 in
+      let rest = sum_from (n - 1) (place + 1) xs (omega arith) in
+      let first = sum_by-cons (λ c. c.length) (cut_at strict place (x ∷ xs)) (cuts_behind strict (n - 1) (place + 1) xs) in
+      omega (arith, first, rest)
+  sum_from (suc k) place (x ∷ xs) h = let rest = sum_from k (place + 1) xs (omega arith) in omega (arith, rest)
+
+  pub sum_all : (xs : List ℕ) → sum_by (λ c. c.length) (cuts_from strict 0 xs) ≡ length xs
+  sum_all xs = let h = sum_from 0 0 xs (omega arith) in omega (arith, h)

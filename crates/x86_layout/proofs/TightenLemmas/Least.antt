@@ -1,0 +1,65 @@
+-- The length of a shortest relative, by the pieces of an encoding.
+use Rattle.std.proofs.Common.{◌≡◌, ℕ, ◌+◌, ◌-◌, ◌&&◌, not, Bool, true, false, if◌then◌else◌, Some, List, [], length, take, slice_index, Ok, refl, sym, ap, subst, ◌∙◌, arith, append-nil}
+use Rattle.x86_fields.specs.declared.raw.Raw.{Raw}
+use Rattle.x86_operands.specs.declared.reader.Reading.{Reading}
+use Rattle.x86_fields.specs.ModRM.{is_memory}
+use Rattle.x86_operands.specs.Asks.{ask_of}
+use Rattle.x86_layout.specs.Parts.Front.{ask_in, parts_of}
+use Rattle.x86_decode.specs.declared.instructions.Instruction.{Instruction}
+use Rattle.x86_decode.specs.Answer.{answer_of}
+use Rattle.x86_layout.specs.Tightening.Least.{least_by, least_for, least_length, shortest_length}
+use Rattle.x86_layout.specs.Parts.Split.{Encoding, HasParts}
+use Rattle.x86_layout.specs.Tightening.Registers.{is_ip_relative}
+use Rattle.x86_layout.specs.Tightening.Shortest.{shortest, address_length, IsOfBytes}
+use Rattle.x86_layout.specs.Tightening.Tighten.{raw_of}
+use Rattle.x86_layout.proofs.PartLemmas.Front.{has_head, parts_are}
+use Rattle.x86_layout.proofs.PartLemmas.Part.{used_is}
+use Rattle.x86_layout.proofs.TightenLemmas.Relative.{Row, Byte, Bytes', spells, length_is, long}
+use Rattle.x86_layout.proofs.TightenLemmas.Tighten.{raw_is}
+
+module _ (strict : Bool) (s : List ℕ) (a : Reading) (v : Encoding strict s a) where
+  reads : (ask_in s strict).memory ≡ is_memory (Byte strict s a v)
+  unfolding ask_of
+  reads =
+      let h = has_head strict s [] a v in
+      let tail = h.tail ∙ append-nil v.tail in
+      ap (λ l. (ask_in l strict).memory) (sym (append-nil s))
+      ∙ ap (λ k. k.memory) h.ask
+      ∙ ap (λ l. (ask_of (Row strict s a v) (slice_index l 0)).memory) tail
+      ∙ ap is_memory (sym (used_is (Row strict s a v).modrm v.asked.modrm v.asked.tail v.tail v.asked.spelled v.asked.modrm_asked))
+
+  has_parts : HasParts strict s a v (parts_of strict s)
+  has_parts = subst (λ l. HasParts strict s a v (parts_of strict l)) (append-nil s) (parts_are strict s [] a v)
+
+  least_is : (memory : Bool) (raw : Raw) → is_memory (Byte strict s a v) ≡ memory → raw_of (parts_of strict s) ≡ raw → least_length strict s ≡ least_by memory raw (length s)
+  unfolding least_length
+  least_is memory raw e f =
+      ap (λ t. least_by t (raw_of (parts_of strict s)) (length s)) (reads ∙ e)
+      ∙ ap (λ r. least_by memory r (length s)) f
+
+  pub least_without : is_memory (Byte strict s a v) ≡ false → least_length strict s ≡ length s
+  least_without e = least_is false (raw_of (parts_of strict s)) e refl
+
+  module _ (raw : Raw) (read : v.asked.behind.pieces.memory ≡ Some raw) where
+    least_with : (ip : Bool) → is_ip_relative raw ≡ ip → least_length strict s ≡ (if true && not ip then (length s - address_length raw) + address_length (shortest raw) else length s)
+    least_with ip e =
+        least_is true raw (spells strict s a v raw read).0 (raw_is strict s a v raw read (parts_of strict s) (has_parts))
+        ∙ ap (λ t. if true && not t then (length s - address_length raw) + address_length (shortest raw) else length s) e
+
+    pub least_at_ip : is_ip_relative raw ≡ true → least_length strict s ≡ length s
+    least_at_ip e = least_with true e
+
+    pub least_of_raw : is_ip_relative raw ≡ false → least_length strict s ≡ (length s - address_length raw) + address_length (shortest raw)
+    least_of_raw e = least_with false e
+
+    pub least_of_shortest : (fit : IsOfBytes raw) (t : List ℕ) → t ≡ Bytes' strict s a v raw read fit → is_ip_relative raw ≡ false → length t ≡ least_length strict s
+    least_of_shortest fit t spelled e =
+        let h = least_with false e in
+        let old = length_is strict s a v raw read in
+        let new = long strict s a v raw read fit t spelled in
+        omega (arith, h, old, new)
+
+-- at the front of bytes
+pub least_front : (strict : Bool) (bytes encoding : List ℕ) (instruction : Instruction) (n : ℕ) → answer_of strict bytes ≡ Ok instruction → encoding ≡ take n bytes → n ≡ instruction.length → shortest_length strict bytes ≡ least_length strict encoding
+unfolding shortest_length
+least_front strict bytes encoding instruction n accepted front counted = ap (least_for strict bytes) accepted ∙ ap (λ k. least_length strict (take k bytes)) (sym counted) ∙ ap (least_length strict) (sym front)

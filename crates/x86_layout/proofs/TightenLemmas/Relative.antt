@@ -1,0 +1,243 @@
+-- An encoding with the shortest raw fields is a relative, and none is shorter.
+use Rattle.std.proofs.Common.{◌≡◌, ℕ, ◌+◌, ◌≤◌, Bool, true, false, Some, None, List, [], ◌∷◌, ◌++◌, length, map, refl, sym, ap, subst, ◌∙◌, arith, length-append}
+use Rattle.std.proofs.lemmas.Bool.Decides.{nat_tests}
+use Rattle.x86_fields.specs.declared.prefixes.Prefixes.{Prefixes}
+use Rattle.x86_fields.specs.declared.raw.Raw.{Raw}
+use Rattle.x86_fields.specs.ModRM.{reg_field, is_memory, as_register}
+use Rattle.x86_fields.specs.Raw.{live_bit, has_b, has_x}
+use Rattle.x86_fields.specs.Run.{reading_of}
+use Rattle.x86_fields.specs.Linear.{raw_form, IsSameAddress}
+use Rattle.x86_forms.specs.Words.{rows_of, packed}
+use Rattle.x86_operands.specs.declared.plans.ModrmUse.{ModrmUse}
+use Rattle.x86_operands.specs.declared.plans.ModrmUse.TheVariants.{Absent, EitherForm, Registers}
+use Rattle.x86_operands.specs.declared.reader.Reading.{Reading}
+use Rattle.x86_operands.specs.Plans.{RowRecord}
+use Rattle.x86_operands.specs.Pieces.{SpellsMemory, modrm_of, modrm_width}
+use Rattle.x86_decode.specs.Head.{escape_bytes, seen_by}
+use Rattle.x86_decode.specs.Instruction.{instruction_of}
+use Rattle.x86_decode.specs.Grammar.{record_of, allows_lock, IsSentence}
+use Rattle.x86_decode.proofs.ByteLemmas.{Bytes, bytes_of, bytes_behind, bytes_before}
+use Rattle.x86_layout.specs.Parts.Split.{Encoding, record_in}
+use Rattle.x86_layout.specs.Tightening.Registers.{is_ip_relative}
+use Rattle.x86_layout.specs.Tightening.Shortest.{shortest, address_length, IsOfBytes}
+use Rattle.x86_layout.specs.Tightening.Tighten.{bits_in, run_with, address_bytes, IsRelative, IsLeast, IsShortest}
+use Rattle.x86_layout.proofs.TightenLemmas.Rex.{run_stays, run_cleared, length_stays, seen_with, column_stays}
+use Rattle.x86_layout.proofs.TightenLemmas.PlanAlike.{same_plan, same_use, same_fault}
+use Rattle.x86_layout.proofs.TightenLemmas.Address.{of_bytes, address_long, respells, address_bytes_long, b_with, x_with}
+use Rattle.x86_layout.proofs.TightenLemmas.Shortest.{shortest_is_of_bytes, shortest_has_the_address, shortest_keeps_reg, shortest_keeps_67, shortest_keeps_bits, none_is_shorter}
+use Rattle.x86_layout.proofs.TightenLemmas.Respell.{Rerowed, rerowed}
+
+-- ---- a memory form
+
+high_is_register : (m : ℕ) → is_memory (as_register m) ≡ true → false ≡ true
+high_is_register m h = grind (arith, nat_tests)
+
+pub uses_either_form : (u : ModrmUse) (modrm : List ℕ) → is_memory (modrm_of u modrm) ≡ true → u ≡ EitherForm
+uses_either_form Absent modrm h = absurd (let g : false ≡ true = h in cc)
+uses_either_form EitherForm modrm h = refl
+uses_either_form Registers [] h = absurd (let g : false ≡ true = h in cc)
+uses_either_form Registers (m ∷ rest) h = absurd (let g : false ≡ true = high_is_register m h in cc)
+
+one_byte : (u : ModrmUse) (modrm : List ℕ) → u ≡ EitherForm → length modrm ≡ modrm_width u → modrm ≡ modrm_of u modrm ∷ []
+one_byte u modrm e h = subst (λ k. modrm ≡ modrm_of k modrm ∷ []) (sym e) (alone modrm (h ∙ ap modrm_width e))
+  where
+    alone : (l : List ℕ) → length l ≡ 1 → l ≡ modrm_of EitherForm l ∷ []
+    alone [] g = absurd (omega (arith, g))
+    alone (m ∷ []) g = refl
+    alone (m ∷ k ∷ rest) g = absurd (omega (arith, g))
+
+same_some : {x y : Raw} → Some x ≡ Some y → x ≡ y
+same_some e = cc
+
+-- what a memory form is
+module _ (strict : Bool) (s : List ℕ) (a : Reading) (v : Encoding strict s a) where
+  abbrev pub Seen : Prefixes
+  Seen = seen_by v.map v.opcode (reading_of v.run)
+
+  abbrev pub Row : RowRecord
+  Row = record_in strict s a v
+
+  abbrev pub Byte : ℕ
+  Byte = modrm_of (Row).modrm v.asked.modrm
+
+  abbrev pub Address : List ℕ
+  Address = v.asked.behind.pieces.address
+
+  module _ (raw : Raw) (read : v.asked.behind.pieces.memory ≡ Some raw) where
+    pub spells : SpellsMemory (Seen) (Byte) (Address) (Some raw)
+    spells = subst (λ x. SpellsMemory (Seen) (Byte) (Address) x) read v.asked.behind.pieces.address_asked
+
+    pub fields : (Row).modrm ≡ EitherForm
+    fields = uses_either_form (Row).modrm v.asked.modrm (spells).0
+
+    pub byte : v.asked.modrm ≡ Byte ∷ []
+    byte = one_byte (Row).modrm v.asked.modrm fields v.asked.modrm_asked
+
+    pub raw_modrm : raw.modrm ≡ Byte
+    raw_modrm = ap (λ r. r.modrm) (spells).1.fields
+
+    pub raw_b : raw.rex_b ≡ has_b (Seen)
+    raw_b = ap (λ r. r.rex_b) (spells).1.fields
+
+    pub raw_x : raw.rex_x ≡ has_x (Seen)
+    raw_x = ap (λ r. r.rex_x) (spells).1.fields
+
+    pub raw_short : raw.address_size ≡ (Seen).address_size
+    raw_short = ap (λ r. r.address_size) (spells).1.fields
+
+  tail_bytes : Bytes s → Bytes v.tail
+  tail_bytes h =
+      let behind : Bytes (escape_bytes v.map ++ v.opcode ∷ v.tail) = bytes_behind v.run _ (subst Bytes v.spelled h) in
+      (bytes_behind (escape_bytes v.map) (v.opcode ∷ v.tail) behind).1
+
+  pub address_bytes_of : Bytes s → Bytes (Address)
+  address_bytes_of h =
+      let t = v.asked.behind.pieces in
+      let behind : Bytes v.asked.tail = bytes_behind v.asked.modrm v.asked.tail (subst Bytes v.asked.spelled (tail_bytes h)) in
+      bytes_before t.address (t.immediates ++ t.suffix) (subst Bytes t.spelled behind)
+
+  pub raw_of_bytes : (raw : Raw) → v.asked.behind.pieces.memory ≡ Some raw → Bytes s → IsOfBytes raw
+  raw_of_bytes raw read h = of_bytes (Seen) (Byte) (Address) raw (spells raw read) (address_bytes_of h)
+
+  -- how long the encoding is
+  pub length_is : (raw : Raw) → v.asked.behind.pieces.memory ≡ Some raw → length s ≡ length v.run + (length (escape_bytes v.map) + (2 + (address_length raw + (length v.asked.behind.pieces.immediates + length v.asked.behind.pieces.suffix))))
+  length_is raw read =
+      let t = v.asked.behind.pieces in
+      let e1 = ap length v.spelled ∙ length-append v.run (escape_bytes v.map ++ v.opcode ∷ v.tail) in
+      let e2 = length-append (escape_bytes v.map) (v.opcode ∷ v.tail) in
+      let e3 = ap length v.asked.spelled ∙ length-append v.asked.modrm v.asked.tail in
+      let e4 = ap length (byte raw read) in
+      let e5 = ap length t.spelled ∙ length-append t.address (t.immediates ++ t.suffix) in
+      let e6 = length-append t.immediates t.suffix in
+      let e7 = address_long (Seen) (Byte) (Address) raw (spells raw read) in
+      omega (arith, e1, e2, e3, e4, e5, e6, e7)
+
+-- ---- the relative
+
+no_bits : (raw : Raw) (p : Prefixes) → raw.rex_b ≡ has_b p → raw.rex_x ≡ has_x p → p.rex ≡ None → ((shortest raw).rex_b ≡ false) × ((shortest raw).rex_x ≡ false)
+no_bits raw p b x none = shortest_keeps_bits raw (b ∙ ap (live_bit (λ r. r.b)) none) (x ∙ ap (live_bit (λ r. r.x)) none)
+
+module _ (strict : Bool) (s : List ℕ) (a : Reading) (v : Encoding strict s a) (raw : Raw) (read : v.asked.behind.pieces.memory ≡ Some raw) (fit : IsOfBytes raw) where
+  abbrev Other : Raw
+  Other = shortest raw
+
+  abbrev Run : List ℕ
+  Run = run_with (Other).rex_x (Other).rex_b v.run
+
+  abbrev Before : Prefixes
+  Before = Seen strict s a v
+
+  abbrev Bits : Prefixes
+  Bits = record (Before) { rex = bits_in (Other).rex_x (Other).rex_b (Before).rex }
+
+  abbrev After : Prefixes
+  After = seen_by v.map v.opcode (reading_of (Run))
+
+  abbrev Rerow : Prefixes → Type 0
+  Rerow q = Rerowed (Before) q (Byte strict s a v) (Other).modrm raw (Other) (record_of strict v.row q) (address_bytes (Other)) v.asked.behind.pieces.immediates v.asked.behind.pieces.suffix a
+
+  respelled_raw : SpellsMemory (Bits) (Other).modrm (address_bytes (Other)) (Some (Other))
+  respelled_raw =
+      let none = no_bits raw (Before) (raw_b strict s a v raw read) (raw_x strict s a v raw read) in
+      let keeps : (Before).address_size ≡ (Other).address_size = sym (raw_short strict s a v raw read) ∙ sym (shortest_keeps_67 raw) in
+      respells (Bits) (Other) (shortest_is_of_bytes raw fit)
+      (b_with (Other).rex_x (Other).rex_b (Before).rex (λ e. (none e).0))
+      (x_with (Other).rex_x (Other).rex_b (Before).rex (λ e. (none e).1))
+      keeps
+
+  same_register : reg_field (Other).modrm ≡ reg_field (Byte strict s a v)
+  same_register = shortest_keeps_reg raw ∙ ap reg_field (raw_modrm strict s a v raw read)
+
+  rerow_bits : Rerow (Bits)
+  rerow_bits =
+      let m : ℕ = Byte strict s a v in
+      let n : ℕ = (Other).modrm in
+      let mm : is_memory m ≡ true = (spells strict s a v raw read).0 in
+      let nm : is_memory n ≡ true = (respelled_raw).0 in
+      let x = (Other).rex_x in
+      let b = (Other).rex_b in
+      rerowed (Before) (Bits) m n raw (Other) (record_of strict v.row (Bits)) _ v.asked.tail (address_bytes (Other)) a v.asked.behind refl read nm (respelled_raw).1
+      (same_fault strict v.row (Before) x b m n mm nm (same_register) ∙ v.asked.passed)
+      (same_use strict v.row (Before) x b m n mm nm (same_register) ∙ fields strict s a v raw read)
+      (same_plan strict v.row (Before) x b m n mm nm (same_register) (fields strict s a v raw read))
+
+  rerow : Rerow (After)
+  rerow = subst Rerow (sym (seen_with v.map v.opcode (Other).rex_x (Other).rex_b v.run)) rerow_bits
+
+  -- the bytes
+  abbrev pub Bytes' : List ℕ
+  Bytes' = Run ++ (escape_bytes v.map ++ v.opcode ∷ ((Other).modrm ∷ (address_bytes (Other) ++ (v.asked.behind.pieces.immediates ++ v.asked.behind.pieces.suffix))))
+
+  pub no_longer : is_ip_relative raw ≡ false → address_length (Other) ≤ address_length raw
+  no_longer ip = none_is_shorter raw raw fit fit ip (record { modulus = refl; registers = λ r h. refl; next = refl; constant = refl })
+
+  module _ (t : List ℕ) (spelled : t ≡ Bytes') where
+    whole : Encoding strict t (rerow).again
+    whole = record {
+      run = Run;
+      map = v.map;
+      opcode = v.opcode;
+      row = v.row;
+      tail = (Other).modrm ∷ (address_bytes (Other) ++ (v.asked.behind.pieces.immediates ++ v.asked.behind.pieces.suffix));
+      spelled = spelled;
+      prefixes = run_stays (Other).rex_x (Other).rex_b v.run ∙ v.prefixes;
+      meant = v.meant;
+      has_row = ap (λ c. rows_of packed v.map c v.opcode) (column_stays (Other).rex_x (Other).rex_b v.run) ∙ v.has_row;
+      asked = (rerow).row;
+    }
+
+    sentence : allows_lock a ≡ true → length t ≤ 15 → IsSentence (rows_of packed) strict t (instruction_of (rerow).again (length t))
+    sentence lock short = record { reading = (rerow).again; whole = whole; lock = (rerow).lock ∙ lock; short = short; gives = refl }
+
+    relative : is_ip_relative raw ≡ false → IsRelative strict s a v t (rerow).again whole
+    unfolding whole
+    relative ip = record {
+      parts = record {
+        prefixes = run_cleared (Other).rex_x (Other).rex_b v.run;
+        escape = refl;
+        opcode = refl;
+        register = ap (map reg_field) (rerow).modrm ∙ ap (λ n. n ∷ []) (same_register) ∙ sym (ap (map reg_field) (byte strict s a v raw read));
+        immediate = (rerow).immediate;
+        suffix = (rerow).last;
+      };
+      address = record { from = raw; to = Other; old = read; new = (rerow).memory; same = shortest_has_the_address raw fit ip };
+    }
+
+    pub long : length t ≡ length v.run + (length (escape_bytes v.map) + (2 + (address_length (Other) + (length v.asked.behind.pieces.immediates + length v.asked.behind.pieces.suffix))))
+    long =
+        let imm = v.asked.behind.pieces.immediates in
+        let suffix = v.asked.behind.pieces.suffix in
+        let e1 = ap length spelled ∙ length-append (Run) (escape_bytes v.map ++ v.opcode ∷ ((Other).modrm ∷ (address_bytes (Other) ++ (imm ++ suffix)))) in
+        let e2 = length_stays (Other).rex_x (Other).rex_b v.run in
+        let e3 = length-append (escape_bytes v.map) (v.opcode ∷ ((Other).modrm ∷ (address_bytes (Other) ++ (imm ++ suffix)))) in
+        let e4 = length-append (address_bytes (Other)) (imm ++ suffix) in
+        let e5 = length-append imm suffix in
+        let e6 = address_bytes_long (Other) in
+        omega (arith, e1, e2, e3, e4, e5, e6)
+
+    least : is_ip_relative raw ≡ false → IsLeast strict s a v t
+    least ip = λ u c is bytes rel.
+        let w = is.whole in
+        let to = rel.address.to in
+        let from : rel.address.from ≡ raw = same_some (sym rel.address.old ∙ read) in
+        let same : IsSameAddress (raw_form to) (raw_form raw) = subst (λ r. IsSameAddress (raw_form to) (raw_form r)) from rel.address.same in
+        let other = raw_of_bytes strict u is.reading w to rel.address.new (bytes_of u bytes) in
+        let fewer = none_is_shorter raw to fit other ip same in
+        let e1 = long in
+        let e2 = length_is strict u is.reading w to rel.address.new in
+        let e3 = length_stays false false w.run in
+        let e4 = ap length rel.parts.prefixes in
+        let e5 = length_stays false false v.run in
+        let e6 = ap length rel.parts.escape in
+        let e7 = ap length rel.parts.immediate in
+        let e8 = ap length rel.parts.suffix in
+        omega (arith, fewer, e1, e2, e3, e4, e5, e6, e7, e8)
+
+    pub shortest_relative : allows_lock a ≡ true → length s ≤ 15 → is_ip_relative raw ≡ false → IsShortest strict s a v t
+    unfolding sentence
+    shortest_relative lock short ip =
+        let fewer = no_longer ip in
+        let old = length_is strict s a v raw read in
+        let new = long in
+        let fits : length t ≤ 15 = omega (arith, short, fewer, old, new) in
+        record { answer = instruction_of (rerow).again (length t); sentence = sentence lock fits; relative = relative ip; least = least ip }

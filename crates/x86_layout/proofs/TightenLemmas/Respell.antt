@@ -1,0 +1,143 @@
+-- The pieces of a row with other raw fields.
+use Rattle.std.proofs.Common.{◌≡◌, ℕ, ◌&&◌, ◌||◌, not, Bool, true, false, if◌then◌else◌, Option, Some, None, List, [], ◌∷◌, ◌++◌, ℤ, refl, sym, ap, subst, ◌∙◌}
+use Rattle.x86_fields.specs.declared.prefixes.Prefixes.{Prefixes}
+use Rattle.x86_fields.specs.declared.raw.Raw.{Raw}
+use Rattle.x86_fields.specs.Raw.{is_zero}
+use Rattle.x86_fields.specs.Address.{base_of, index_of, scale_by}
+use Rattle.x86_fields.specs.Pieces.{SpellsRaw}
+use Rattle.x86_regs.specs.declared.RegSpec.{RegSpec}
+use Rattle.x86_opcodes.specs.Kinds.{is_among, lockable}
+use Rattle.x86_operands.specs.declared.operands.Slot.{Slot}
+use Rattle.x86_operands.specs.declared.operands.Operand.{Operand}
+use Rattle.x86_operands.specs.declared.plans.OperandEncoding.{OperandEncoding}
+use Rattle.x86_operands.specs.declared.plans.OperandEncoding.TheVariants.{E, Emm, M, U, Umm}
+use Rattle.x86_operands.specs.declared.plans.PrefixChange.{PrefixChange}
+use Rattle.x86_operands.specs.declared.plans.PrefixChange.TheVariants.{Keeps, ClearsOperandSize, SetsEs}
+use Rattle.x86_operands.specs.declared.plans.ModrmUse.TheVariants.{EitherForm}
+use Rattle.x86_operands.specs.declared.plans.Plan.{Plan}
+use Rattle.x86_operands.specs.declared.reader.Reading.{Reading}
+use Rattle.x86_operands.specs.Operands.{is_memory_slot}
+use Rattle.x86_operands.specs.Shape.{shape_by, shape}
+use Rattle.x86_fields.specs.ModRM.{is_memory}
+use Rattle.x86_operands.specs.Plans.{RowRecord, list_of}
+use Rattle.x86_operands.specs.PlanSteps.{pair_at, four_of, changed, reading_from}
+use Rattle.x86_operands.specs.Pieces.{operand_gives, SpellsOperands, SpellsTail, SpellsRow, modrm_of, modrm_width}
+use Rattle.x86_decode.specs.Grammar.{allows_lock}
+
+-- ---- the operands
+
+either : (t : Bool) (x y : Slot × Operand) → is_memory_slot x.0 ≡ true → is_memory_slot y.0 ≡ true → is_memory_slot (if t then x else y).0 ≡ true
+either true x y e f = e
+either false x y e f = f
+
+shape_by_memory : (b i : Option RegSpec) (s : ℕ) (d : ℤ) → is_memory_slot (shape_by b i s d).0 ≡ true
+shape_by_memory None None s d = refl
+shape_by_memory (Some b) None s d = either (is_zero d) _ _ refl refl
+shape_by_memory None (Some i) s d = either (is_zero d) _ _ refl refl
+shape_by_memory (Some b) (Some i) s d = either (is_zero d) _ _ refl refl
+
+is_shape : (raw : Raw) → is_memory_slot (shape raw).0 ≡ true
+unfolding shape
+is_shape raw = shape_by_memory (base_of raw) (index_of raw) (scale_by raw.sib) raw.disp
+
+module _ (p q : Prefixes) (m n : ℕ) (raw other : Raw) where
+  same_kind : (s : OperandEncoding) (bytes : List ℕ) → is_memory_slot (operand_gives s q n (Some other) bytes).0 ≡ is_memory_slot (operand_gives s p m (Some raw) bytes).0
+  same_kind (E c) bytes = is_shape other ∙ sym (is_shape raw)
+  same_kind Emm bytes = is_shape other ∙ sym (is_shape raw)
+  same_kind M bytes = is_shape other ∙ sym (is_shape raw)
+  same_kind (U c) bytes = is_shape other ∙ sym (is_shape raw)
+  same_kind Umm bytes = is_shape other ∙ sym (is_shape raw)
+  same_kind s bytes = refl
+
+  -- the pairs of operands, where their immediates are the same
+  pub record Regiven (encodings : List OperandEncoding) (bytes : List ℕ) (given : List (Slot × Operand)) : Type 0 where
+    pub pairs : List (Slot × Operand)
+    pub spelled : SpellsOperands encodings q n (Some other) bytes pairs
+    pub first : is_memory_slot (pair_at pairs 0).0 ≡ is_memory_slot (pair_at given 0).0
+
+  regiven : (encodings : List OperandEncoding) (bytes : List ℕ) (given : List (Slot × Operand)) → SpellsOperands encodings p m (Some raw) bytes given → Regiven encodings bytes given
+  regiven [] bytes given h = record { pairs = []; spelled = (h.0, refl); first = ap (λ l. is_memory_slot (pair_at l 0).0) (sym h.1) }
+  regiven (s ∷ rest) bytes given h =
+      let behind = regiven rest h.tail h.others h.behind in
+      record {
+        pairs = operand_gives s q n (Some other) h.immediate ∷ behind.pairs;
+        spelled = record { immediate = h.immediate; tail = h.tail; others = behind.pairs; spelled = h.spelled; asked = h.asked; gives = refl; behind = behind.spelled };
+        first = same_kind s h.immediate ∙ ap (λ l. is_memory_slot (pair_at l 0).0) (sym h.gives);
+      }
+
+  -- ---- behind ModRM
+
+  -- the pieces behind a ModRM byte n with these raw fields, and the reading
+  pub record Retailed (plan : Plan) (byte : ℕ) (address immediates suffix : List ℕ) (reading : Reading) : Type 0 where
+    pub again : Reading
+    pub tail : SpellsTail plan q byte (address ++ (immediates ++ suffix)) again
+    pub memory : tail.pieces.memory ≡ Some other
+    pub immediate : tail.pieces.immediates ≡ immediates
+    pub last : tail.pieces.suffix ≡ suffix
+    pub lock : allows_lock again ≡ allows_lock reading
+
+  lock_of_change : (change : PrefixChange) → p.lock ≡ q.lock → (changed change q).lock ≡ (changed change p).lock
+  lock_of_change Keeps e = sym e
+  lock_of_change ClearsOperandSize e = sym e
+  lock_of_change SetsEs e = sym e
+
+  retailed : (plan : Plan) (tail address : List ℕ) (reading : Reading) (h : SpellsTail plan p m tail reading) → p.lock ≡ q.lock → h.pieces.memory ≡ Some raw → is_memory n ≡ true → SpellsRaw q n address other → Retailed plan n address h.pieces.immediates h.pieces.suffix reading
+  retailed plan tail address reading h same read memory spells =
+      let s = h.pieces in
+      let encodings : SpellsOperands (list_of plan.encodings) p m (Some raw) s.immediates s.given = subst (λ x. SpellsOperands (list_of plan.encodings) p m x s.immediates s.given) read s.immediates_asked in
+      let new = regiven (list_of plan.encodings) s.immediates s.given encodings in
+      let again : Reading = reading_from plan q h.opcode (four_of new.pairs) in
+      let lock : allows_lock again ≡ allows_lock (reading_from plan p h.opcode (four_of s.given)) =
+      ap (λ t. not t || (is_among lockable h.opcode && is_memory_slot (pair_at new.pairs 0).0)) (lock_of_change plan.change same)
+      ∙ ap (λ t. not (changed plan.change p).lock || (is_among lockable h.opcode && t)) new.first in
+      record {
+        again = again;
+        tail = record {
+          pieces = record {
+            memory = Some other;
+            address = address;
+            immediates = s.immediates;
+            suffix = s.suffix;
+            given = new.pairs;
+            spelled = refl;
+            address_asked = (memory, spells);
+            immediates_asked = new.spelled;
+            suffix_asked = s.suffix_asked;
+          };
+          opcode = h.opcode;
+          named = h.named;
+          accepted = h.accepted;
+          gives = refl;
+        };
+        memory = refl;
+        immediate = refl;
+        last = refl;
+        lock = lock ∙ ap allows_lock (sym h.gives);
+      }
+
+  -- ---- behind the opcode
+
+  -- what the other row asks there
+  pub record Rerowed (r : RowRecord) (address immediates suffix : List ℕ) (reading : Reading) : Type 0 where
+    pub again : Reading
+    pub row : SpellsRow r q (n ∷ (address ++ (immediates ++ suffix))) again
+    pub modrm : row.modrm ≡ n ∷ []
+    pub memory : row.behind.pieces.memory ≡ Some other
+    pub immediate : row.behind.pieces.immediates ≡ immediates
+    pub last : row.behind.pieces.suffix ≡ suffix
+    pub lock : allows_lock again ≡ allows_lock reading
+
+  pub rerowed : (r : RowRecord) (plan : Plan) (tail address : List ℕ) (reading : Reading) (h : SpellsTail plan p m tail reading) → p.lock ≡ q.lock → h.pieces.memory ≡ Some raw → is_memory n ≡ true → SpellsRaw q n address other → r.at_opcode ≡ None → r.modrm ≡ EitherForm → r.plan n ≡ plan → Rerowed r address h.pieces.immediates h.pieces.suffix reading
+  rerowed r plan tail address reading h same read memory spells passed usage planned =
+      let byte : n ≡ modrm_of r.modrm (n ∷ []) = ap (λ u. modrm_of u (n ∷ [])) (sym usage) in
+      let first : Retailed (r.plan n) n address h.pieces.immediates h.pieces.suffix reading = subst (λ x. Retailed x n address h.pieces.immediates h.pieces.suffix reading) (sym planned) (retailed plan tail address reading h same read memory spells) in
+      let second : Retailed (r.plan (modrm_of r.modrm (n ∷ []))) (modrm_of r.modrm (n ∷ [])) address h.pieces.immediates h.pieces.suffix reading = subst (λ k. Retailed (r.plan k) k address h.pieces.immediates h.pieces.suffix reading) byte first in
+      record {
+        again = second.again;
+        row = record { modrm = n ∷ []; tail = address ++ (h.pieces.immediates ++ h.pieces.suffix); passed = passed; spelled = refl; modrm_asked = ap modrm_width (sym usage); behind = second.tail };
+        modrm = refl;
+        memory = second.memory;
+        immediate = second.immediate;
+        last = second.last;
+        lock = second.lock;
+      }

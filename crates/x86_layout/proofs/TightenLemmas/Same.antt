@@ -1,0 +1,322 @@
+-- A relative is the same instruction but for its memory operand of ModRM, which has the same address.
+use Rattle.std.proofs.Common.{◌≡◌, ◌↔◌, ℕ, zero, suc, ◌≤◌, ◌<◌, ◌^◌, ◌&&◌, nat_le, nat_lt, Bool, true, false, if◌then◌else◌, is_some, Option, Some, None, List, [], ◌∷◌, ◌++◌, length, map, slice_index_or, refl, sym, ap, subst, ◌∙◌, arith, All}
+use Rattle.std.specs.Prelude.{FitsSigned}
+use Rattle.std.specs.Int.{w32}
+use Rattle.x86_regs.specs.declared.RegisterClass.{RegisterClass}
+use Rattle.x86_regs.specs.declared.RegisterClass.TheVariants.{B, RB, MM}
+use Rattle.x86_regs.specs.declared.RegSpec.{RegSpec}
+use Rattle.x86_fields.specs.declared.prefixes.Prefixes.{Prefixes}
+use Rattle.x86_fields.specs.declared.rex.PrefixRex.{PrefixRex}
+use Rattle.x86_fields.specs.declared.raw.Raw.{Raw}
+use Rattle.x86_fields.specs.ModRM.{reg_field, scale_field, is_memory}
+use Rattle.x86_fields.specs.Raw.{live_bit, has_r}
+use Rattle.x86_fields.specs.Run.{reading_of}
+use Rattle.x86_fields.specs.Address.{extend, scale_by}
+use Rattle.x86_fields.specs.Sizes.{register_of}
+use Rattle.x86_fields.specs.Linear.{Linear, raw_form, value_at, IsSameAddress, IsReduced, IsRegFile, AgreeEverywhere}
+use Rattle.x86_forms.specs.declared.Map.{Map}
+use Rattle.x86_forms.specs.declared.Map.TheVariants.{One, Of, Of38, Of3a}
+use Rattle.x86_forms.specs.declared.TableRow.{TableRow}
+use Rattle.x86_forms.specs.Words.{rows_of, packed}
+use Rattle.x86_operands.specs.declared.operands.Slot.{Slot}
+use Rattle.x86_operands.specs.declared.operands.Slot.TheVariants as slots
+use Rattle.x86_operands.specs.declared.operands.Operand.{Operand}
+use Rattle.x86_operands.specs.declared.operands.Operand.TheVariants as operands
+use Rattle.x86_operands.specs.declared.plans.OperandEncoding.{OperandEncoding}
+use Rattle.x86_operands.specs.declared.plans.OperandEncoding.TheVariants.{G, Gmm, E, Emm, M, U, Umm}
+use Rattle.x86_operands.specs.declared.plans.PrefixChange.{PrefixChange}
+use Rattle.x86_operands.specs.declared.plans.PrefixChange.TheVariants.{Keeps, ClearsOperandSize, SetsEs}
+use Rattle.x86_operands.specs.declared.plans.Plan.{Plan}
+use Rattle.x86_operands.specs.declared.reader.Reading.{Reading}
+use Rattle.x86_operands.specs.Shape.{shape}
+use Rattle.x86_operands.specs.Linear.{operand_address}
+use Rattle.x86_operands.specs.Plans.{list_of, reg_number}
+use Rattle.x86_operands.specs.PlanSteps.{pair_at, four_of, changed, reading_from}
+use Rattle.x86_operands.specs.Pieces.{operand_gives, SpellsOperands, SpellsTail, opcode_by, first_or}
+use Rattle.x86_decode.specs.declared.instructions.Instruction.{Instruction}
+use Rattle.x86_decode.specs.Instruction.{instruction_of, operand_at}
+use Rattle.x86_decode.specs.Head.{escape_bytes, column_of, seen_by}
+use Rattle.x86_decode.specs.Grammar.{record_of, IsSentence}
+use Rattle.x86_decode.proofs.ByteLemmas.{bytes_of}
+use Rattle.x86_layout.specs.Parts.Split.{Encoding}
+use Rattle.x86_layout.specs.Tightening.Registers.{IsByteOption}
+use Rattle.x86_layout.specs.Tightening.Shortest.{IsOfBytes}
+use Rattle.x86_layout.specs.Tightening.Tighten.{bits_in, run_with, IsRelative}
+use Rattle.x86_layout.specs.Tightening.Same.{cleared, placed_at, address_at, IsSameOrShape, unchanged, shapes, IsSameButInMemory}
+use Rattle.x86_layout.proofs.TightenLemmas.Rex.{seen_with, column_stays}
+use Rattle.x86_layout.proofs.TightenLemmas.PlanAlike.{same_plan}
+use Rattle.x86_layout.proofs.TightenLemmas.Relative.{Seen, Byte, spells, fields, byte, raw_short, raw_of_bytes}
+use Rattle.x86_layout.proofs.TightenLemmas.Tighten.{take_of, drop_of}
+
+-- ---- what clearing X and B leaves
+
+r_by : (rex : Option PrefixRex) → live_bit (λ r. r.r) (bits_in false false rex) ≡ live_bit (λ r. r.r) rex
+r_by None = refl
+r_by (Some r) = refl
+
+live_by : (rex : Option PrefixRex) → is_some (bits_in false false rex) ≡ is_some rex
+live_by None = refl
+live_by (Some r) = refl
+
+register_by : (c : RegisterClass) (p : Prefixes) (n : ℕ) → register_of c (cleared p) n ≡ register_of c p n
+register_by B p n = ap (λ t. if t && nat_le 4 n then (let r : RegSpec = record { num = n; class = RB } in r) else record { num = n; class = B }) (live_by p.rex)
+register_by c p n = refl
+
+mark_by : (change : PrefixChange) (p : Prefixes) → cleared (changed change p) ≡ changed change (cleared p)
+mark_by Keeps p = refl
+mark_by ClearsOperandSize p = refl
+mark_by SetsEs p = refl
+
+module _ (p q : Prefixes) (alike : cleared q ≡ cleared p) where
+  same_r : has_r q ≡ has_r p
+  same_r = sym (r_by q.rex) ∙ ap has_r alike ∙ r_by p.rex
+
+  same_register : (c : RegisterClass) (n : ℕ) → register_of c q n ≡ register_of c p n
+  same_register c n = sym (register_by c q n) ∙ ap (λ x. register_of c x n) alike ∙ register_by c p n
+
+  same_mark : (change : PrefixChange) → cleared (changed change q) ≡ cleared (changed change p)
+  same_mark change = mark_by change q ∙ ap (changed change) alike ∙ sym (mark_by change p)
+
+-- ---- the operands
+
+number_in : {k l : ℕ} → Some k ≡ Some l → k ≡ l
+number_in e = cc
+
+abbrev mm : ℕ → RegSpec
+mm n = record { num = n; class = MM }
+
+module _ (from to : Raw) where
+  -- There are as many pairs, and at each place they are the same or the shapes of the raw fields.
+  record AlikePairs (given others : List (Slot × Operand)) : Type 0 where
+    count : length others ≡ length given
+    each : (k : ℕ) → IsSameOrShape from to (pair_at given k) (pair_at others k)
+
+  none_alike : AlikePairs [] []
+  none_alike = record { count = refl; each = λ k. unchanged refl }
+
+  one_more : (x y : Slot × Operand) (xs ys : List (Slot × Operand)) → IsSameOrShape from to x y → AlikePairs xs ys → AlikePairs (x ∷ xs) (y ∷ ys)
+  one_more x y xs ys first behind = record { count = ap suc behind.count; each = each }
+    where
+      each : (k : ℕ) → IsSameOrShape from to (pair_at (x ∷ xs) k) (pair_at (y ∷ ys) k)
+      each zero = first
+      each (suc k) = behind.each k
+
+  alike_moved : (xs ys vs ws : List (Slot × Operand)) → vs ≡ xs → ws ≡ ys → AlikePairs xs ys → AlikePairs vs ws
+  alike_moved xs ys vs ws e f h = subst (λ l. AlikePairs l ws) (sym e) (subst (λ l. AlikePairs xs l) (sym f) h)
+
+  module _ (p q : Prefixes) (m n : ℕ) (alike : cleared q ≡ cleared p) (register : reg_field n ≡ reg_field m) where
+    same_number : reg_number n q ≡ reg_number m p
+    same_number = ap (λ t. extend t (reg_field n)) (same_r p q alike) ∙ ap (extend (has_r p)) register
+
+    sign_alike : (s : OperandEncoding) (bytes : List ℕ) → IsSameOrShape from to (operand_gives s p m (Some from) bytes) (operand_gives s q n (Some to) bytes)
+    sign_alike (G c) bytes = unchanged (ap (λ r. (slots.Reg, operands.Register r)) (same_register p q alike c (reg_number n q) ∙ ap (register_of c p) same_number))
+    sign_alike Gmm bytes = unchanged (ap (λ k. (slots.Reg, operands.Register (mm k))) register)
+    sign_alike (E c) bytes = shapes refl refl
+    sign_alike Emm bytes = shapes refl refl
+    sign_alike M bytes = shapes refl refl
+    sign_alike (U c) bytes = shapes refl refl
+    sign_alike Umm bytes = shapes refl refl
+    sign_alike s bytes = unchanged refl
+
+    pairs_alike : (ss : List OperandEncoding) (bytes : List ℕ) (given others : List (Slot × Operand)) → SpellsOperands ss p m (Some from) bytes given → SpellsOperands ss q n (Some to) bytes others → AlikePairs given others
+    pairs_alike [] bytes given others h g = alike_moved [] [] given others h.1 g.1 none_alike
+    pairs_alike (s ∷ rest) bytes given others h g =
+        let both : h.immediate ++ h.tail ≡ g.immediate ++ g.tail = sym h.spelled ∙ g.spelled in
+        let long : length h.immediate ≡ length g.immediate = h.asked ∙ sym g.asked in
+        let front : h.immediate ≡ g.immediate = take_of h.immediate h.tail g.immediate g.tail both long in
+        let back : h.tail ≡ g.tail = drop_of h.immediate h.tail g.immediate g.tail both long in
+        let first = subst (λ l. IsSameOrShape from to (operand_gives s p m (Some from) l) (operand_gives s q n (Some to) g.immediate)) (sym front) (sign_alike s g.immediate) in
+        let behind = pairs_alike rest g.tail h.others g.others (subst (λ l. SpellsOperands rest p m (Some from) l h.others) back h.behind) g.behind in
+        alike_moved _ _ given others h.gives g.gives (one_more _ _ _ _ first behind)
+
+  -- ---- the instruction
+
+  -- the slot and the operand at a place, where it is told whether that is below the count
+  abbrev At : Bool → List (Slot × Operand) → ℕ → Slot × Operand
+  At below xs k = (if below then slice_index_or (four_of xs).slots k slots.Nothing else slots.Nothing, if below then slice_index_or (four_of xs).operands k operands.Nothing else operands.Nothing)
+
+  at_place : (below : Bool) (xs ys : List (Slot × Operand)) (k : ℕ) → AlikePairs xs ys → IsSameOrShape from to (At below xs k) (At below ys k)
+  at_place false xs ys k h = unchanged refl
+  at_place true xs ys zero h = h.each 0
+  at_place true xs ys (suc zero) h = h.each 1
+  at_place true xs ys (suc (suc zero)) h = h.each 2
+  at_place true xs ys (suc (suc (suc zero))) h = h.each 3
+  at_place true xs ys (suc (suc (suc (suc k)))) h = unchanged refl
+
+  same_moved : (a b c d : Instruction) → c ≡ a → d ≡ b → IsSameButInMemory from to a b → IsSameButInMemory from to c d
+  same_moved a b c d e f h = subst (λ i. IsSameButInMemory from to i d) (sym e) (subst (λ i. IsSameButInMemory from to a i) (sym f) h)
+
+  module _ (address : IsSameAddress (raw_form to) (raw_form from)) (p q : Prefixes) (alike : cleared q ≡ cleared p) where
+    built : (plan : Plan) (opcode k l : ℕ) (xs ys : List (Slot × Operand)) → AlikePairs xs ys → IsSameButInMemory from to (instruction_of (reading_from plan p opcode (four_of xs)) k) (instruction_of (reading_from plan q opcode (four_of ys)) l)
+    built plan opcode k l xs ys h = record {
+      opcode = refl;
+      prefixes = same_mark p q alike plan.change;
+      count = h.count;
+      mem_size = refl;
+      operands = λ n. subst (λ c. IsSameOrShape from to (At (nat_lt n (length xs)) xs n) (At (nat_lt n c) ys n)) (sym h.count) (at_place (nat_lt n (length xs)) xs ys n h);
+      address = address;
+    }
+
+    module _ (m n : ℕ) (register : reg_field n ≡ reg_field m) where
+      tails : (plan other : Plan) (tail end : List ℕ) (a b : Reading) (h : SpellsTail plan p m tail a) (g : SpellsTail other q n end b) (k l : ℕ) → other ≡ plan → h.pieces.memory ≡ Some from → g.pieces.memory ≡ Some to → g.pieces.immediates ≡ h.pieces.immediates → g.pieces.suffix ≡ h.pieces.suffix → IsSameButInMemory from to (instruction_of a k) (instruction_of b l)
+      tails plan other tail end a b h g k l planned old new immediates suffix =
+          let x = h.pieces in
+          let y = g.pieces in
+          let spelled : SpellsOperands (list_of plan.encodings) p m (Some from) x.immediates x.given = subst (λ o. SpellsOperands (list_of plan.encodings) p m o x.immediates x.given) old x.immediates_asked in
+          let first : SpellsOperands (list_of other.encodings) q n (Some to) y.immediates y.given = subst (λ o. SpellsOperands (list_of other.encodings) q n o y.immediates y.given) new y.immediates_asked in
+          let second : SpellsOperands (list_of plan.encodings) q n (Some to) y.immediates y.given = subst (λ o. SpellsOperands (list_of o.encodings) q n (Some to) y.immediates y.given) planned first in
+          let third : SpellsOperands (list_of plan.encodings) q n (Some to) x.immediates y.given = subst (λ o. SpellsOperands (list_of plan.encodings) q n (Some to) o y.given) immediates second in
+          let pairs : AlikePairs x.given y.given = pairs_alike p q m n alike register (list_of plan.encodings) x.immediates x.given y.given spelled third in
+          let named : Some g.opcode ≡ Some h.opcode = sym g.named ∙ ap (λ o. opcode_by o.verdict o.opcode y.suffix) planned ∙ ap (opcode_by plan.verdict plan.opcode) suffix ∙ h.named in
+          let opcode : g.opcode ≡ h.opcode = number_in named in
+          let gives : b ≡ reading_from plan q h.opcode (four_of y.given) = g.gives ∙ ap (λ o. reading_from o q g.opcode (four_of y.given)) planned ∙ ap (λ o. reading_from plan q o (four_of y.given)) opcode in
+          same_moved _ _ (instruction_of a k) (instruction_of b l) (ap (λ r. instruction_of r k) h.gives) (ap (λ r. instruction_of r l) gives) (built plan h.opcode k l x.given y.given pairs)
+
+-- ---- the encodings
+
+one_map : (f g : Map) → escape_bytes f ≡ escape_bytes g → f ≡ g
+one_map One One e = refl
+one_map Of Of e = refl
+one_map Of38 Of38 e = refl
+one_map Of3a Of3a e = refl
+one_map Of38 Of3a e = absurd (let k : 0x38 ≡ 0x3a = ap (λ l. slice_index_or l 1 0) e in omega (arith, k))
+one_map Of3a Of38 e = absurd (let k : 0x3a ≡ 0x38 = ap (λ l. slice_index_or l 1 0) e in omega (arith, k))
+one_map f g e = absurd (omega (arith, ap length e))
+
+same_row : {f g : TableRow} → Some f ≡ Some g → f ≡ g
+same_row e = cc
+
+module _ (strict : Bool) (s : List ℕ) (a : Reading) (v : Encoding strict s a) (t : List ℕ) (b : Reading) (w : Encoding strict t b) (rel : IsRelative strict s a v t b w) where
+  abbrev From : Raw
+  From = rel.address.from
+
+  abbrev To : Raw
+  To = rel.address.to
+
+  abbrev Old : Prefixes
+  Old = Seen strict s a v
+
+  abbrev New : Prefixes
+  New = Seen strict t b w
+
+  abbrev OldByte : ℕ
+  OldByte = Byte strict s a v
+
+  abbrev NewByte : ℕ
+  NewByte = Byte strict t b w
+
+  old_memory : is_memory OldByte ≡ true
+  old_memory = (spells strict s a v From rel.address.old).0
+
+  new_memory : is_memory NewByte ≡ true
+  new_memory = (spells strict t b w To rel.address.new).0
+
+  map_is : w.map ≡ v.map
+  map_is = one_map w.map v.map rel.parts.escape
+
+  column_is : column_of (reading_of w.run) ≡ column_of (reading_of v.run)
+  column_is = sym (column_stays false false w.run) ∙ ap (λ l. column_of (reading_of l)) rel.parts.prefixes ∙ column_stays false false v.run
+
+  row_is : w.row ≡ v.row
+  row_is =
+      let column = column_of (reading_of v.run) in
+      same_row (
+      sym w.has_row
+      ∙ ap (λ c. rows_of packed w.map c w.opcode) column_is
+      ∙ ap (λ f. rows_of packed f column w.opcode) map_is
+      ∙ ap (rows_of packed v.map column) rel.parts.opcode
+      ∙ v.has_row)
+
+  seen_is : cleared New ≡ cleared Old
+  seen_is =
+      sym (seen_with w.map w.opcode false false w.run)
+      ∙ ap (λ l. seen_by w.map w.opcode (reading_of l)) rel.parts.prefixes
+      ∙ ap (λ f. seen_by f w.opcode (reading_of (run_with false false v.run))) map_is
+      ∙ ap (λ o. seen_by v.map o (reading_of (run_with false false v.run))) rel.parts.opcode
+      ∙ seen_with v.map v.opcode false false v.run
+
+  register_is : reg_field NewByte ≡ reg_field OldByte
+  register_is = ap (first_or 0) (
+      sym (ap (map reg_field) (byte strict t b w To rel.address.new))
+      ∙ rel.parts.register
+      ∙ ap (map reg_field) (byte strict s a v From rel.address.old))
+
+  plan_is : (record_of strict w.row New).plan NewByte ≡ (record_of strict v.row Old).plan OldByte
+  plan_is =
+      sym (same_plan strict w.row New false false NewByte NewByte new_memory new_memory refl (fields strict t b w To rel.address.new))
+      ∙ ap (λ r. (record_of strict r (cleared New)).plan NewByte) row_is
+      ∙ ap (λ p. (record_of strict v.row p).plan NewByte) seen_is
+      ∙ same_plan strict v.row Old false false OldByte NewByte old_memory new_memory register_is (fields strict s a v From rel.address.old)
+
+  same_instruction : (k l : ℕ) → IsSameButInMemory From To (instruction_of a k) (instruction_of b l)
+  same_instruction k l = tails From To rel.address.same Old New seen_is OldByte NewByte register_is _ _ v.asked.tail w.asked.tail a b v.asked.behind w.asked.behind k l plan_is rel.address.old rel.address.new rel.parts.immediate rel.parts.suffix
+
+-- said of sentences
+pub relative_is_same : (strict : Bool) (s : List ℕ) (a : Instruction) (is : IsSentence (rows_of packed) strict s a) (t : List ℕ) (b : Instruction) (other : IsSentence (rows_of packed) strict t b) (rel : IsRelative strict s is.reading is.whole t other.reading other.whole) → IsSameButInMemory rel.address.from rel.address.to a b
+relative_is_same strict s a is t b other rel = same_moved rel.address.from rel.address.to _ _ a b is.gives other.gives (same_instruction strict s is.reading is.whole t other.reading other.whole rel (length s) (length t))
+
+-- ---- addresses, by the laws on shapes and on forms
+
+abbrev HaveTheAddress : Type 0
+HaveTheAddress = (raw : Raw) (regs : List ℕ) (next : ℕ) → FitsSigned w32 raw.disp → operand_address raw.address_size (shape raw).1 regs next ≡ Some (value_at (raw_form raw) regs next)
+
+abbrev AreReduced : Type 0
+AreReduced = (raw : Raw) → scale_by raw.sib ≤ 8 → FitsSigned w32 raw.disp → IsReduced (raw_form raw)
+
+abbrev AreTheirValues : Type 0
+AreTheirValues = (f g : Linear) → f.modulus ≡ g.modulus → IsReduced f → IsReduced g → (IsSameAddress f g ↔ AgreeEverywhere f g)
+
+power : (high : ℕ) → high < 4 → 2 ^ high ≤ 8
+power zero h = omega arith
+power (suc zero) h = omega arith
+power (suc (suc zero)) h = omega arith
+power (suc (suc (suc zero))) h = omega arith
+power (suc (suc (suc (suc k)))) h = absurd (omega (arith, h))
+
+scale_small : (sib : Option ℕ) → IsByteOption sib → scale_by sib ≤ 8
+scale_small None h = omega arith
+scale_small (Some sib) h = power (scale_field sib) (omega (arith, h))
+
+mark_67 : (change : PrefixChange) (p : Prefixes) → (changed change p).address_size ≡ p.address_size
+mark_67 Keeps p = refl
+mark_67 ClearsOperandSize p = refl
+mark_67 SetsEs p = refl
+
+-- 67 of the raw fields is that of the instruction
+same_67 : (strict : Bool) (s : List ℕ) (a : Instruction) (is : IsSentence (rows_of packed) strict s a) (raw : Raw) → is.whole.asked.behind.pieces.memory ≡ Some raw → a.prefixes.address_size ≡ raw.address_size
+same_67 strict s a is raw read =
+    ap (λ i. i.prefixes.address_size) is.gives
+    ∙ ap (λ r. r.prefixes.address_size) is.whole.asked.behind.gives
+    ∙ mark_67 _ (Seen strict s is.reading is.whole)
+    ∙ sym (raw_short strict s is.reading is.whole raw read)
+
+module _ (have : HaveTheAddress) (reduced : AreReduced) (values : AreTheirValues) (from to : Raw) (from_bytes : IsOfBytes from) (to_bytes : IsOfBytes to) (regs : List ℕ) (next : ℕ) (file : IsRegFile regs) (small : next < 2 ^ 64) where
+  reduced_of : (raw : Raw) → IsOfBytes raw → IsReduced (raw_form raw)
+  reduced_of raw h = reduced raw (scale_small raw.sib h.sib) h.disp
+
+  same_value : IsSameAddress (raw_form to) (raw_form from) → value_at (raw_form to) regs next ≡ value_at (raw_form from) regs next
+  same_value h = (values (raw_form to) (raw_form from) h.modulus (reduced_of to to_bytes) (reduced_of from from_bytes)).0 h regs next file small
+
+  at_shape : (i : Instruction) (k : ℕ) (raw : Raw) → IsOfBytes raw → i.prefixes.address_size ≡ raw.address_size → placed_at i k ≡ shape raw → address_at i k regs next ≡ Some (value_at (raw_form raw) regs next)
+  at_shape i k raw h short shaped =
+      ap (λ t. operand_address t (operand_at i k) regs next) short
+      ∙ ap (λ x. operand_address raw.address_size x.1 regs next) shaped
+      ∙ have raw regs next h.disp
+
+  module _ (a b : Instruction) (k : ℕ) (h : IsSameButInMemory from to a b) (old : a.prefixes.address_size ≡ from.address_size) (new : b.prefixes.address_size ≡ to.address_size) where
+    same_place : IsSameOrShape from to (placed_at a k) (placed_at b k) → address_at b k regs next ≡ address_at a k regs next
+    same_place (unchanged e) = ap (λ p. operand_address p.address_size (operand_at b k) regs next) h.prefixes ∙ ap (λ x. operand_address a.prefixes.address_size x.1 regs next) e
+    same_place (shapes e f) = at_shape b k to to_bytes new f ∙ ap Some (same_value h.address) ∙ sym (at_shape a k from from_bytes old e)
+
+pub relative_has_addresses : HaveTheAddress → AreReduced → AreTheirValues → (strict : Bool) (s : List ℕ) (a : Instruction) (is : IsSentence (rows_of packed) strict s a) (t : List ℕ) (b : Instruction) (other : IsSentence (rows_of packed) strict t b) → IsRelative strict s is.reading is.whole t other.reading other.whole → All (λ byte. byte < 256) s → All (λ byte. byte < 256) t → (k : ℕ) (regs : List ℕ) (next : ℕ) → IsRegFile regs → next < 2 ^ 64 → address_at b k regs next ≡ address_at a k regs next
+relative_has_addresses have reduced values strict s a is t b other rel s_bytes t_bytes k regs next file small =
+    let from = rel.address.from in
+    let to = rel.address.to in
+    let same = relative_is_same strict s a is t b other rel in
+    same_place have reduced values from to
+    (raw_of_bytes strict s is.reading is.whole from rel.address.old (bytes_of s s_bytes))
+    (raw_of_bytes strict t other.reading other.whole to rel.address.new (bytes_of t t_bytes))
+    regs next file small a b k same
+    (same_67 strict s a is from rel.address.old)
+    (same_67 strict t b other to rel.address.new)
+    (same.operands k)

@@ -1,0 +1,142 @@
+-- What the operand encodings of a record take, and where they end: their immediates, one after another.
+use Rattle.std.proofs.Common.{◌≡◌, ℕ, List, [], ◌∷◌, ◌++◌, length, map, Option, Ok, refl, sym, ap, subst, ◌∙◌}
+use Rattle.std.proofs.lemmas.List.{append-nil}
+use Rattle.std.specs.Int.{Width, w8, w16, w32, w64, byte_len, from_le_bytes, cast_signed}
+use Rattle.x86_fields.specs.declared.prefixes.Prefixes.{Prefixes}
+use Rattle.x86_fields.specs.declared.raw.Raw.{Raw}
+use Rattle.x86_fields.specs.Steps.{Step, pure, ◌>>=◌, number_step, Takes}
+use Rattle.x86_fields.specs.Pieces.{EndsBetween}
+use Rattle.x86_fields.proofs.StepLemmas.{takes_pure, takes_bind}
+use Rattle.x86_fields.proofs.EndLemmas.{EndsWell, IsEmpty, Only, ends_pure, ends_then, ends_map, Stands, stands_bind, stands_same, bind_assoc}
+use Rattle.x86_fields.proofs.PieceLemmas.{IsNumber, ends_number, takes_number, takes_map, nil_of, StandsOn, one_there, none_there, stands_piece}
+use Rattle.x86_operands.specs.declared.operands.Slot.{Slot}
+use Rattle.x86_operands.specs.declared.operands.Slot.TheVariants as slots
+use Rattle.x86_operands.specs.declared.operands.Operand.{Operand}
+use Rattle.x86_operands.specs.declared.operands.Operand.TheVariants as operands
+use Rattle.x86_operands.specs.declared.plans.OperandEncoding.{OperandEncoding}
+use Rattle.x86_operands.specs.declared.plans.OperandEncoding.TheVariants.{G, Gmm, E, Emm, M, U, Umm, Fixed, Pointer, I8, I16, I32, I64, I32From16, I64Whole, U8, U16, X8, X16, ConstantI8, ConstantU8, Address32, Address64}
+use Rattle.x86_operands.specs.PlanSteps.{operand_step, operands_step}
+use Rattle.x86_operands.specs.Pieces.{immediate_width, operand_gives, SpellsOperands}
+
+module _ (p : Prefixes) (m : ℕ) (memory : Option Raw) where
+  -- ---- one operand
+
+  abbrev pub IsOperand : OperandEncoding → List ℕ → Slot × Operand → Type 0
+  IsOperand s q x = (x ≡ operand_gives s p m memory q) × (length q ≡ immediate_width s)
+
+  number : (s : OperandEncoding) (w : Width) (g : ℕ → Slot × Operand) → byte_len w ≡ immediate_width s → ((q : List ℕ) → g (from_le_bytes w q) ≡ operand_gives s p m memory q) → EndsWell (Only (IsOperand s)) IsEmpty (number_step w >>= λ n. pure (g n))
+  number s w g wide gives = ends_map (IsNumber w) IsEmpty (IsOperand s) (number_step w) g (ends_number w) (λ q n h. (ap g h.0 ∙ gives q, h.1 ∙ wide))
+
+  pub ends_operand : (s : OperandEncoding) → EndsWell (Only (IsOperand s)) IsEmpty (operand_step s p m memory)
+  unfolding operand_step
+  ends_operand (G c) = ends_pure (Only (IsOperand (G c))) IsEmpty _ (refl, refl)
+  ends_operand Gmm = ends_pure (Only (IsOperand Gmm)) IsEmpty _ (refl, refl)
+  ends_operand (E c) = ends_pure (Only (IsOperand (E c))) IsEmpty _ (refl, refl)
+  ends_operand Emm = ends_pure (Only (IsOperand Emm)) IsEmpty _ (refl, refl)
+  ends_operand M = ends_pure (Only (IsOperand M)) IsEmpty _ (refl, refl)
+  ends_operand (U c) = ends_pure (Only (IsOperand (U c))) IsEmpty _ (refl, refl)
+  ends_operand Umm = ends_pure (Only (IsOperand Umm)) IsEmpty _ (refl, refl)
+  ends_operand (Fixed slot reg) = ends_pure (Only (IsOperand (Fixed slot reg))) IsEmpty _ (refl, refl)
+  ends_operand (Pointer slot reg) = ends_pure (Only (IsOperand (Pointer slot reg))) IsEmpty _ (refl, refl)
+  ends_operand I8 = number I8 w8 _ refl (λ q. refl)
+  ends_operand I16 = number I16 w16 _ refl (λ q. refl)
+  ends_operand I32 = number I32 w32 _ refl (λ q. refl)
+  ends_operand I64 = number I64 w32 _ refl (λ q. refl)
+  ends_operand I32From16 = number I32From16 w16 _ refl (λ q. refl)
+  ends_operand I64Whole = number I64Whole w64 _ refl (λ q. refl)
+  ends_operand U8 = number U8 w8 _ refl (λ q. refl)
+  ends_operand U16 = number U16 w16 _ refl (λ q. refl)
+  ends_operand X8 = number X8 w8 _ refl (λ q. refl)
+  ends_operand X16 = number X16 w16 _ refl (λ q. refl)
+  ends_operand (ConstantI8 z) = ends_pure (Only (IsOperand (ConstantI8 z))) IsEmpty _ (refl, refl)
+  ends_operand (ConstantU8 n) = ends_pure (Only (IsOperand (ConstantU8 n))) IsEmpty _ (refl, refl)
+  ends_operand Address32 = number Address32 w32 _ refl (λ q. refl)
+  ends_operand Address64 = number Address64 w64 _ refl (λ q. refl)
+
+  plain : (y : Slot × Operand) (q : List ℕ) → length q ≡ 0 → Takes (pure y) q (Ok y)
+  plain y q none = subst (λ l. Takes (pure y) l (Ok y)) (sym (nil_of q none)) (takes_pure (Ok y))
+
+  whole : (w : Width) (g : ℕ → Slot × Operand) (q : List ℕ) → length q ≡ byte_len w → Takes (number_step w >>= λ n. pure (g n)) q (Ok (g (from_le_bytes w q)))
+  whole w g q e = takes_map (number_step w) g q (from_le_bytes w q) (takes_number w q e)
+
+  pub takes_operand : (s : OperandEncoding) (q : List ℕ) → length q ≡ immediate_width s → Takes (operand_step s p m memory) q (Ok (operand_gives s p m memory q))
+  unfolding operand_step
+  takes_operand (G c) q e = plain _ q e
+  takes_operand Gmm q e = plain _ q e
+  takes_operand (E c) q e = plain _ q e
+  takes_operand Emm q e = plain _ q e
+  takes_operand M q e = plain _ q e
+  takes_operand (U c) q e = plain _ q e
+  takes_operand Umm q e = plain _ q e
+  takes_operand (Fixed slot reg) q e = plain _ q e
+  takes_operand (Pointer slot reg) q e = plain _ q e
+  takes_operand I8 q e = whole w8 (λ n. (slots.ImmI8, operands.ImmediateI8 (cast_signed w8 n))) q e
+  takes_operand I16 q e = whole w16 (λ n. (slots.ImmI16, operands.ImmediateI16 (cast_signed w16 n))) q e
+  takes_operand I32 q e = whole w32 (λ n. (slots.ImmI32, operands.ImmediateI32 (cast_signed w32 n))) q e
+  takes_operand I64 q e = whole w32 (λ n. (slots.ImmI64, operands.ImmediateI64 (cast_signed w32 n))) q e
+  takes_operand I32From16 q e = whole w16 (λ n. (slots.ImmI32, operands.ImmediateI32 (cast_signed w16 n))) q e
+  takes_operand I64Whole q e = whole w64 (λ n. (slots.ImmI64, operands.ImmediateI64 (cast_signed w64 n))) q e
+  takes_operand U8 q e = whole w8 (λ n. (slots.ImmU8, operands.ImmediateU8 n)) q e
+  takes_operand U16 q e = whole w16 (λ n. (slots.ImmU16, operands.ImmediateU16 n)) q e
+  takes_operand X8 q e = whole w8 (λ n. (slots.ImmInDisp, operands.ImmediateU16 n)) q e
+  takes_operand X16 q e = whole w16 (λ n. (slots.ImmInDisp, operands.ImmediateU16 n)) q e
+  takes_operand (ConstantI8 z) q e = plain _ q e
+  takes_operand (ConstantU8 n) q e = plain _ q e
+  takes_operand Address32 q e = whole w32 (λ n. (slots.DispU32, operands.AbsoluteU32 n)) q e
+  takes_operand Address64 q e = whole w64 (λ n. (slots.DispU64, operands.AbsoluteU64 n)) q e
+
+  -- ---- the operands in order
+
+  abbrev Pairs : Type 0
+  Pairs = List (Slot × Operand)
+
+  abbrev encoding : OperandEncoding → Step (Slot × Operand)
+  encoding s = operand_step s p m memory
+
+  abbrev with_others : List OperandEncoding → Slot × Operand → Step Pairs
+  with_others rest x = operands_step rest p m memory >>= λ others. pure (x ∷ others)
+
+  abbrev pub widths : List OperandEncoding → List ℕ
+  widths encodings = map immediate_width encodings
+
+  abbrev Spells : List OperandEncoding → List ℕ → Pairs → Type 0
+  Spells encodings = SpellsOperands encodings p m memory
+
+  spelled_first : (s : OperandEncoding) (rest : List OperandEncoding) (q l e : List ℕ) (x : Slot × Operand) (others : Pairs) → IsOperand s q x → Spells rest l others → e ≡ [] → Spells (s ∷ rest) (q ++ (l ++ e)) (x ∷ others)
+  spelled_first s rest q l e x others h behind none = record {
+    immediate = q;
+    tail = l;
+    others = others;
+    spelled = ap (λ k. q ++ k) (ap (λ k. l ++ k) none ∙ append-nil l);
+    asked = h.1;
+    gives = ap (λ y. y ∷ others) h.0;
+    behind = behind;
+  }
+
+  pub ends_operands : (encodings : List OperandEncoding) → EndsWell (Only (Spells encodings)) (λ q. EndsBetween (widths encodings) q) (operands_step encodings p m memory)
+  unfolding operands_step
+  ends_operands [] = ends_pure (Only (Spells [])) (λ q. EndsBetween [] q) [] (refl, refl)
+  ends_operands (s ∷ rest) = ends_then (IsOperand s) IsEmpty (Only (Spells (s ∷ rest))) (λ q. EndsBetween (widths (s ∷ rest)) q) (encoding s) (with_others rest) (ends_operand s)
+      (λ q e. none_there (widths (s ∷ rest)) q e)
+      (λ q x h. ends_then (Spells rest) (λ l. EndsBetween (widths rest) l) (λ l r. Only (Spells (s ∷ rest)) (q ++ l) r) (λ l. EndsBetween (widths (s ∷ rest)) (q ++ l)) (operands_step rest p m memory) (λ others. pure (x ∷ others)) (ends_operands rest)
+      (λ l b. one_there (immediate_width s) (widths rest) q l h.1 b)
+      (λ l others g. ends_pure (λ e r. Only (Spells (s ∷ rest)) (q ++ (l ++ e)) r) (λ e. EndsBetween (widths (s ∷ rest)) (q ++ (l ++ e))) (x ∷ others) (spelled_first s rest q l [] x others h g refl)))
+
+  pub takes_operands : (encodings : List OperandEncoding) (q : List ℕ) (given : Pairs) → Spells encodings q given → Takes (operands_step encodings p m memory) q (Ok given)
+  unfolding operands_step
+  takes_operands [] q given h = subst (λ l. Takes {X = Pairs} (pure []) l (Ok given)) (sym h.0) (subst (λ g. Takes {X = Pairs} (pure []) [] (Ok g)) (sym h.1) (takes_pure (Ok [])))
+  takes_operands (s ∷ rest) q given h =
+      let x : Slot × Operand = operand_gives s p m memory h.immediate in
+      let others : Takes (with_others rest x) h.tail (Ok (x ∷ h.others)) = takes_map (operands_step rest p m memory) (λ l. x ∷ l) h.tail h.others (takes_operands rest h.tail h.others h.behind) in
+      let both : Takes (encoding s >>= with_others rest) (h.immediate ++ h.tail) (Ok (x ∷ h.others)) = takes_bind (encoding s) (with_others rest) h.immediate h.tail x (Ok (x ∷ h.others)) (takes_operand s h.immediate h.asked) others in
+      subst (λ l. Takes (encoding s >>= with_others rest) l (Ok given)) (sym h.spelled) (subst (λ g. Takes (encoding s >>= with_others rest) (h.immediate ++ h.tail) (Ok g)) (sym h.gives) both)
+
+  -- the operands stand on bytes that end between their pieces, or between those of what follows
+  pub stands_operands : {Y : Type 0} (encodings : List OperandEncoding) (f : Pairs → Step Y) (ws q : List ℕ) → StandsOn f ws → EndsBetween (widths encodings ++ ws) q → Stands (operands_step encodings p m memory >>= f) q
+  unfolding operands_step
+  stands_operands [] f ws q each k = stands_bind (pure []) f [] q [] (takes_pure (Ok [])) (each [] q k)
+  stands_operands (s ∷ rest) f ws q each k =
+      stands_same (encoding s >>= λ x. with_others rest x >>= f) ((encoding s >>= with_others rest) >>= f) q (λ t. bind_assoc (encoding s) (with_others rest) f t)
+      (stands_piece (encoding s) (λ x. with_others rest x >>= f) (immediate_width s) (widths rest ++ ws) q (λ l. operand_gives s p m memory l) (ends_operand s) (takes_operand s)
+      (λ x l b. stands_same (operands_step rest p m memory >>= λ others. f (x ∷ others)) (with_others rest x >>= f) l (λ t. bind_assoc (operands_step rest p m memory) (λ others. pure (x ∷ others)) f t)
+      (stands_operands rest (λ others. f (x ∷ others)) ws l (λ others e c. each (x ∷ others) e c) b)) k)

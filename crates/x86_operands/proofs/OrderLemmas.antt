@@ -1,0 +1,320 @@
+-- What an encoding writes in place is what its plan gives.
+use Rattle.std.proofs.Common.{◌≡◌, ℕ, Bool, true, false, not, if◌then◌else◌, ◌&&◌, ◌≢◌, IsTrue, refl, sym, ap, ◌∙◌, Ok, Err, Result, None, Some, Option, is_some}
+use Rattle.std.proofs.lemmas.Bool.{eqb-true}
+use Rattle.x86_arch.specs.Reader.{State}
+use Rattle.x86_regs.specs.declared.RegisterClass.{RegisterClass}
+use Rattle.x86_regs.specs.declared.RegisterClass.TheVariants as class
+use Rattle.x86_fields.specs.declared.errors.DecodeError.{DecodeError}
+use Rattle.x86_fields.specs.declared.prefixes.Prefixes.{Prefixes}
+use Rattle.x86_fields.specs.declared.raw.Raw.{Raw}
+use Rattle.x86_fields.specs.Raw.{read_raw, has_w}
+use Rattle.x86_fields.specs.Sizes.{v_class}
+use Rattle.x86_fields.specs.Steps.{Step, Outcome, outcome, then_from, pure, ◌>>=◌}
+use Rattle.x86_operands.specs.declared.operands.Slot.{Slot}
+use Rattle.x86_operands.specs.declared.operands.Operand.{Operand}
+use Rattle.x86_operands.specs.declared.plans.OperandEncoding.{OperandEncoding}
+use Rattle.x86_operands.specs.declared.plans.OperandEncoding.TheVariants.{I16, I32}
+use Rattle.x86_operands.specs.declared.plans.OperandEncodings.{OperandEncodings}
+use Rattle.x86_operands.specs.declared.order.Position.{Position}
+use Rattle.x86_operands.specs.declared.order.Position.TheVariants.{First, Second, Third, Nowhere}
+use Rattle.x86_operands.specs.declared.order.Order.{Order}
+use Rattle.x86_operands.specs.declared.encodings.Behind.{Behind}
+use Rattle.x86_operands.specs.declared.encodings.Behind.TheVariants as behind
+use Rattle.x86_operands.specs.declared.encodings.Width.{Width}
+use Rattle.x86_operands.specs.declared.encodings.Width.TheVariants as width
+use Rattle.x86_operands.specs.declared.encodings.Last.{Last}
+use Rattle.x86_operands.specs.declared.encodings.Last.TheVariants as last
+use Rattle.x86_operands.specs.declared.encodings.FormEncoding.{FormEncoding}
+use Rattle.x86_operands.specs.declared.encodings.Size.{Size}
+use Rattle.x86_operands.specs.declared.reader.Reading.{Reading}
+use Rattle.x86_operands.specs.declared.operand_list.Operands.{Operands}
+use Rattle.x86_operands.specs.PlanSteps.{read_plan, read_memory, given_step, operands_step, operand_step, reading_from, rm_operand}
+use Rattle.x86_fields.specs.ModRM.{is_memory, absent_modrm}
+use Rattle.x86_operands.specs.Plans.{list_of, reads, immediate_of}
+use Rattle.x86_operands.specs.FormSizes.{whole_immediate}
+use Rattle.x86_operands.specs.Shape.{shape}
+use Rattle.x86_operands.specs.Encodings.{last_encoding, reg_encoding, rm_encoding, encodings_in, judged_plan, plan_of, size_bytes, modrm_read, index_of_position, encoded_read, put_encoded, is_last, ends, put_in, rm_pair, reg_pair, fixed_pair, reading_with, sized, last_read, operands_read, somewhere, is_described, is_sound, size_at, is_order_of, is_order, has_modrm, has_register, order_fits, allows}
+
+abbrev Pair : Type 0
+Pair = Slot × Operand
+
+-- ---- the orders
+
+pub data Named : Order → Type 0 where
+  no_named : Named (record { count = 0; reg = Nowhere; rm = Nowhere; last = Nowhere })
+  i_named : Named (record { count = 1; reg = Nowhere; rm = Nowhere; last = First })
+  r_named : Named (record { count = 1; reg = First; rm = Nowhere; last = Nowhere })
+  r_i_named : Named (record { count = 2; reg = First; rm = Nowhere; last = Second })
+  i_r_named : Named (record { count = 2; reg = Second; rm = Nowhere; last = First })
+  e_named : Named (record { count = 1; reg = Nowhere; rm = First; last = Nowhere })
+  e_i_named : Named (record { count = 2; reg = Nowhere; rm = First; last = Second })
+  e_g_named : Named (record { count = 2; reg = Second; rm = First; last = Nowhere })
+  g_e_named : Named (record { count = 2; reg = First; rm = Second; last = Nowhere })
+  e_g_i_named : Named (record { count = 3; reg = Second; rm = First; last = Third })
+  g_e_i_named : Named (record { count = 3; reg = First; rm = Second; last = Third })
+
+pub named_of : (a b c : Position) (n : ℕ) → is_order_of a b c n ≡ true → Named (record { count = n; reg = a; rm = b; last = c })
+named_of Nowhere Nowhere Nowhere n h = rw (eqb-true n 0 h) no_named
+named_of Nowhere Nowhere First n h = rw (eqb-true n 1 h) i_named
+named_of First Nowhere Nowhere n h = rw (eqb-true n 1 h) r_named
+named_of First Nowhere Second n h = rw (eqb-true n 2 h) r_i_named
+named_of Second Nowhere First n h = rw (eqb-true n 2 h) i_r_named
+named_of Nowhere First Nowhere n h = rw (eqb-true n 1 h) e_named
+named_of Nowhere First Second n h = rw (eqb-true n 2 h) e_i_named
+named_of Second First Nowhere n h = rw (eqb-true n 2 h) e_g_named
+named_of First Second Nowhere n h = rw (eqb-true n 2 h) g_e_named
+named_of Second First Third n h = rw (eqb-true n 3 h) e_g_i_named
+named_of First Second Third n h = rw (eqb-true n 3 h) g_e_i_named
+named_of a b c n h = cc
+
+-- ---- operand encodings that read nothing
+
+abbrev reg_given : Behind → Width → ℕ → Prefixes → ℕ → Pair
+reg_given behind.Opcode w n p m = fixed_pair behind.Opcode w n p
+reg_given behind.Accumulator w n p m = fixed_pair behind.Accumulator w n p
+reg_given b w n p m = reg_pair w p m
+
+reg_gives : (b : Behind) (w : Width) (n : ℕ) (p : Prefixes) (m : ℕ) (memory : Option Raw) (s : State ℕ) → operand_step (reg_encoding b w n p) p m memory s ≡ outcome (Ok (reg_given b w n p m)) s
+unfolding operand_step
+reg_gives behind.Opcode w n p m memory s = refl
+reg_gives behind.Accumulator w n p m memory s = refl
+reg_gives b width.Mm n p m memory s = refl
+reg_gives b w n p m memory s = refl
+
+abbrev rm_given : Behind → Width → Prefixes → ℕ → Option Raw → Pair
+rm_given behind.Memory w p m memory = rm_operand class.Q p m memory
+rm_given b w p m memory = rm_pair w p m memory
+
+rm_gives : (b : Behind) (w : Width) (p : Prefixes) (m : ℕ) (memory : Option Raw) (s : State ℕ) → operand_step (rm_encoding b w p) p m memory s ≡ outcome (Ok (rm_given b w p m memory)) s
+unfolding operand_step
+rm_gives behind.Memory w p m memory s = refl
+rm_gives b width.Mm p m memory s = refl
+rm_gives b w p m memory s = refl
+
+-- ---- the last operand, which looks at no ModRM
+
+abbrev IsPlain : OperandEncoding → Type 0
+IsPlain c = (p : Prefixes) (m : ℕ) (memory : Option Raw) (s : State ℕ) → operand_step c p m memory s ≡ operand_step c p absent_modrm None s
+
+immediate_plain : (c : RegisterClass) → IsPlain (immediate_of c)
+unfolding operand_step
+immediate_plain class.W p m memory s = refl
+immediate_plain class.Q p m memory s = refl
+immediate_plain c p m memory s = refl
+
+whole_plain : (c : RegisterClass) → IsPlain (whole_immediate c)
+unfolding operand_step
+whole_plain class.W p m memory s = refl
+whole_plain class.Q p m memory s = refl
+whole_plain c p m memory s = refl
+
+push_plain : (b : Bool) → IsPlain (if b then I16 else I32)
+unfolding operand_step
+push_plain true p m memory s = refl
+push_plain false p m memory s = refl
+
+last_plain : (l : Last) (p : Prefixes) → IsPlain (last_encoding l p)
+unfolding operand_step
+last_plain last.Iv p q m memory s = immediate_plain (v_class p) q m memory s
+last_plain last.Ivq p q m memory s = whole_plain (v_class p) q m memory s
+last_plain last.Ip p q m memory s = push_plain (p.operand_size && not (has_w p)) q m memory s
+last_plain l p q m memory s = refl
+
+-- ---- the operands in their order
+
+abbrev last_given : Position → Result Pair DecodeError → State ℕ → Operands → Step Operands
+last_given Nowhere r t given = pure given
+last_given at r t given = λ s. then_from r t (λ z. pure (put_in at z given))
+
+in_order : {o : Order} → Named o → (r : Result Pair DecodeError) (t : State ℕ) (a b c : OperandEncoding) (x y : Pair) (size opcode : ℕ) (p : Prefixes) (m : ℕ) (memory : Option Raw) →
+    ((s : State ℕ) → operand_step a p m memory s ≡ outcome (Ok x) s) →
+    ((s : State ℕ) → operand_step b p m memory s ≡ outcome (Ok y) s) →
+    (s : State ℕ) → operand_step c p m memory s ≡ outcome r t →
+    (given_step (list_of (encodings_in o a b c)) p m memory >>= λ given. pure (reading_from (reads opcode (encodings_in o a b c) size) p opcode given)) s
+    ≡ (last_given o.last r t (put_in o.reg x (put_in o.rm y (sized o.count size))) >>= λ given. pure (reading_with opcode p given)) s
+unfolding given_step operands_step
+in_order no_named r t a b c x y size opcode p m memory ha hb s hc = refl
+in_order r_named r t a b c x y size opcode p m memory ha hb s hc = rw (ha s) refl
+in_order e_named r t a b c x y size opcode p m memory ha hb s hc = rw (hb s) refl
+in_order e_g_named r t a b c x y size opcode p m memory ha hb s hc = rw (hb s, ha s) refl
+in_order g_e_named r t a b c x y size opcode p m memory ha hb s hc = rw (ha s, hb s) refl
+in_order i_named (Ok z) t a b c x y size opcode p m memory ha hb s hc = rw hc refl
+in_order i_named (Err e) t a b c x y size opcode p m memory ha hb s hc = rw hc refl
+in_order i_r_named (Ok z) t a b c x y size opcode p m memory ha hb s hc = rw (hc, ha t) refl
+in_order i_r_named (Err e) t a b c x y size opcode p m memory ha hb s hc = rw hc refl
+in_order r_i_named (Ok z) t a b c x y size opcode p m memory ha hb s hc = rw (ha s, hc) refl
+in_order r_i_named (Err e) t a b c x y size opcode p m memory ha hb s hc = rw (ha s, hc) refl
+in_order e_i_named (Ok z) t a b c x y size opcode p m memory ha hb s hc = rw (hb s, hc) refl
+in_order e_i_named (Err e) t a b c x y size opcode p m memory ha hb s hc = rw (hb s, hc) refl
+in_order e_g_i_named (Ok z) t a b c x y size opcode p m memory ha hb s hc = rw (hb s, ha s, hc) refl
+in_order e_g_i_named (Err e) t a b c x y size opcode p m memory ha hb s hc = rw (hb s, ha s, hc) refl
+in_order g_e_i_named (Ok z) t a b c x y size opcode p m memory ha hb s hc = rw (ha s, hb s, hc) refl
+in_order g_e_i_named (Err e) t a b c x y size opcode p m memory ha hb s hc = rw (ha s, hb s, hc) refl
+
+last_is : (at : Position) (l : Last) (p : Prefixes) (given : Operands) (s : State ℕ) → last_given at (operand_step (last_encoding l p) p absent_modrm None s).answer (operand_step (last_encoding l p) p absent_modrm None s).after given s ≡ last_read at l p given s
+last_is First l p given s = refl
+last_is Second l p given s = refl
+last_is Third l p given s = refl
+last_is Nowhere l p given s = refl
+
+-- the operands behind memory, at any encoding
+behind_memory : (b : Behind) (o : Order) (wr we : Width) (l : Last) (n size opcode : ℕ) (p : Prefixes) (m : ℕ) (memory : Option Raw) → Named o → (s : State ℕ) →
+    (given_step (list_of (encodings_in o (reg_encoding b wr n p) (rm_encoding b we p) (last_encoding l p))) p m memory >>= λ given. pure (reading_from (reads opcode (encodings_in o (reg_encoding b wr n p) (rm_encoding b we p) (last_encoding l p)) size) p opcode given)) s
+    ≡ (last_read o.last l p (put_in o.reg (reg_given b wr n p m) (put_in o.rm (rm_given b we p m memory) (sized o.count size))) >>= λ given. pure (reading_with opcode p given)) s
+behind_memory b o wr we l n size opcode p m memory h s =
+    in_order h (operand_step (last_encoding l p) p absent_modrm None s).answer (operand_step (last_encoding l p) p absent_modrm None s).after (reg_encoding b wr n p) (rm_encoding b we p) (last_encoding l p) (reg_given b wr n p m) (rm_given b we p m memory) size opcode p m memory (reg_gives b wr n p m memory) (rm_gives b we p m memory) s (last_plain l p p m memory s)
+    ∙ ap (λ (u : Outcome Operands). then_from u.answer u.after (λ given. pure (reading_with opcode p given))) (last_is o.last l p (put_in o.reg (reg_given b wr n p m) (put_in o.rm (rm_given b we p m memory) (sized o.count size))) s)
+
+-- ---- the verdict
+
+not_true : (b : Bool) → not b ≡ true → b ≡ false
+not_true true h = cc
+not_true false h = refl
+
+accepted : (b : Behind) (m o size : ℕ) (encodings : OperandEncodings) → allows b m ≡ true → judged_plan b m (reads o encodings size) ≡ reads o encodings size
+accepted behind.Memory m o size encodings h = rw h refl
+accepted behind.Registers m o size encodings h = rw (not_true (is_memory m) h) refl
+accepted b m o size encodings h = refl
+
+-- ---- the memory operand
+
+-- a memory operand that fits ModRM
+abbrev Suits : Option Raw → Bool → Type 0
+Suits memory test = is_some memory ≡ test
+
+by_memory : (test : Bool) (p : Prefixes) (m : ℕ) (K L : Result (Option Raw) DecodeError → State ℕ → Outcome Reading) →
+    ((memory : Option Raw) (s : State ℕ) → Suits memory test → K (Ok memory) s ≡ L (Ok memory) s) → ((e : DecodeError) (s : State ℕ) → K (Err e) s ≡ L (Err e) s) → (s : State ℕ) →
+    (u : Outcome (Option Raw)) → u ≡ (if test then (read_raw p m >>= λ raw. pure (Some raw)) else pure None) s → K u.answer u.after ≡ L u.answer u.after
+by_memory true p m K L ok err s u e = rw e (from_raw (read_raw p m s).answer (read_raw p m s).after)
+  where
+    from_raw : (r : Result Raw DecodeError) (t : State ℕ) → K (then_from r t (λ raw. pure (Some raw))).answer (then_from r t (λ raw. pure (Some raw))).after ≡ L (then_from r t (λ raw. pure (Some raw))).answer (then_from r t (λ raw. pure (Some raw))).after
+    from_raw (Ok raw) t = ok (Some raw) t refl
+    from_raw (Err x) t = err x t
+by_memory false p m K L ok err s u e = rw e (ok None s refl)
+
+-- ---- ModRM's operands
+
+same_reg : (b : Behind) (w : Width) (n : ℕ) (p : Prefixes) (m : ℕ) → has_modrm b ≡ true → reg_pair w p m ≡ reg_given b w n p m
+same_reg behind.EitherForm w n p m h = refl
+same_reg behind.Memory w n p m h = refl
+same_reg behind.Registers w n p m h = refl
+same_reg b w n p m h = cc
+
+same_rm : (b : Behind) (w : Width) (p : Prefixes) (m : ℕ) (memory : Option Raw) → has_modrm b ≡ true → allows b m ≡ true → Suits memory (is_memory m) → rm_pair w p m memory ≡ rm_given b w p m memory
+same_rm behind.Memory w p m None h a e = cc
+same_rm behind.Memory width.Mm p m (Some raw) h a e = refl
+same_rm behind.Memory w p m (Some raw) h a e = refl
+same_rm b w p m memory h a e = refl
+
+module _ (b : Behind) (o : Order) (wr we : Width) (l : Last) (n size opcode : ℕ) (p : Prefixes) (m : ℕ) where
+  abbrev placing : Result (Option Raw) DecodeError → State ℕ → Outcome Reading
+  placing r t = ((((λ _. outcome r t) >>= λ memory. pure (put_in o.reg (reg_pair wr p m) (put_in o.rm (rm_pair we p m memory) (sized o.count size)))) >>= last_read o.last l p) >>= λ given. pure (reading_with opcode p given)) t
+
+  abbrev planned : Result (Option Raw) DecodeError → State ℕ → Outcome Reading
+  planned r t = ((λ _. outcome r t) >>= λ memory. given_step (list_of (encodings_in o (reg_encoding b wr n p) (rm_encoding b we p) (last_encoding l p))) p m memory >>= λ given. pure (reading_from (reads opcode (encodings_in o (reg_encoding b wr n p) (rm_encoding b we p) (last_encoding l p)) size) p opcode given)) t
+
+  there : Named o → has_modrm b ≡ true → allows b m ≡ true → (memory : Option Raw) (t : State ℕ) → Suits memory (is_memory m) → placing (Ok memory) t ≡ planned (Ok memory) t
+  there h modrm may memory t e =
+      ap (λ x. (last_read o.last l p (put_in o.reg x (put_in o.rm (rm_pair we p m memory) (sized o.count size))) >>= λ given. pure (reading_with opcode p given)) t) (same_reg b wr n p m modrm)
+      ∙ ap (λ y. (last_read o.last l p (put_in o.reg (reg_given b wr n p m) (put_in o.rm y (sized o.count size))) >>= λ given. pure (reading_with opcode p given)) t) (same_rm b we p m memory modrm may e)
+      ∙ sym (behind_memory b o wr we l n size opcode p m memory h t)
+
+  modrm_plan : (s : State ℕ) → Named o → has_modrm b ≡ true → allows b m ≡ true →
+      ((modrm_read o.reg wr o.rm we p m (sized o.count size) >>= last_read o.last l p) >>= λ given. pure (reading_with opcode p given)) s
+      ≡ read_plan (reads opcode (encodings_in o (reg_encoding b wr n p) (rm_encoding b we p) (last_encoding l p)) size) p m s
+  unfolding read_plan
+  modrm_plan s h modrm may = by_memory (is_memory m) p m placing planned (there h modrm may) (λ e t. refl) s (read_memory p m s) refl
+
+-- ---- operands with no ModRM
+
+same_fixed : (b : Behind) (w : Width) (n : ℕ) (p : Prefixes) (m : ℕ) → has_register b ≡ true → fixed_pair b w n p ≡ reg_given b w n p m
+same_fixed behind.Opcode w n p m h = refl
+same_fixed behind.Accumulator w n p m h = refl
+same_fixed b w n p m h = cc
+
+no_memory : (b : Behind) (m : ℕ) → has_modrm b ≡ false → allows b m ≡ true → is_memory m ≡ false
+no_memory behind.EitherForm m h a = cc
+no_memory behind.Memory m h a = cc
+no_memory (behind.ByReg g) m h a = cc
+no_memory (behind.Peculiar u) m h a = cc
+no_memory behind.Group m h a = cc
+no_memory b m h a = not_true (is_memory m) a
+
+no_modrm : (b : Behind) → has_register b ≡ true → has_modrm b ≡ false
+no_modrm behind.Opcode h = refl
+no_modrm behind.Accumulator h = refl
+no_modrm b h = cc
+
+fixed_plan : (b : Behind) (o : Order) (wr we : Width) (l : Last) (n size opcode : ℕ) (p : Prefixes) (m : ℕ) (s : State ℕ) (given : Operands) → Named o → has_modrm b ≡ false → allows b m ≡ true →
+    given ≡ put_in o.reg (reg_given b wr n p m) (put_in o.rm (rm_given b we p m None) (sized o.count size)) →
+    (last_read o.last l p given >>= λ x. pure (reading_with opcode p x)) s
+    ≡ read_plan (reads opcode (encodings_in o (reg_encoding b wr n p) (rm_encoding b we p) (last_encoding l p)) size) p m s
+unfolding read_plan
+fixed_plan b o wr we l n size opcode p m s given h none may e =
+    ap (λ g. (last_read o.last l p g >>= λ x. pure (reading_with opcode p x)) s) e ∙ sym (behind_memory b o wr we l n size opcode p m None h s) ∙ (rw (no_memory b m none may) refl)
+
+-- ---- the whole encoding
+
+abbrev Written : Order → Behind → Width → Width → Last → Size → Size → ℕ → ℕ → ℕ → Prefixes → ℕ → State ℕ → Type 0
+Written o b wr we l x y size n opcode p m s =
+    let e : FormEncoding = record { behind = b; order = o; reg = wr; rm = we; last = l; in_memory = x; in_register = y } in
+    (operands_read e n p m (sized o.count size) >>= λ given. pure (reading_with opcode p given)) s
+    ≡ read_plan (reads opcode (encodings_in o (reg_encoding b wr n p) (rm_encoding b we p) (last_encoding l p)) size) p m s
+
+written : {o : Order} → Named o → (b : Behind) (wr we : Width) (l : Last) (x y : Size) (size n opcode : ℕ) (p : Prefixes) (m : ℕ) (s : State ℕ) → order_fits b o ≡ true → allows b m ≡ true → Written o b wr we l x y size n opcode p m s
+written no_named b wr we l x y size n opcode p m s f a = fixed_plan b _ wr we l n size opcode p m s (sized 0 size) no_named (not_true (has_modrm b) f) a refl
+written i_named b wr we l x y size n opcode p m s f a = fixed_plan b _ wr we l n size opcode p m s (sized 1 size) i_named (not_true (has_modrm b) f) a refl
+written r_named b wr we l x y size n opcode p m s f a = fixed_plan b _ wr we l n size opcode p m s (put_in First (fixed_pair b wr n p) (sized 1 size)) r_named (no_modrm b f) a (ap (λ r. put_in First r (sized 1 size)) (same_fixed b wr n p m f))
+written r_i_named b wr we l x y size n opcode p m s f a = fixed_plan b _ wr we l n size opcode p m s (put_in First (fixed_pair b wr n p) (sized 2 size)) r_i_named (no_modrm b f) a (ap (λ r. put_in First r (sized 2 size)) (same_fixed b wr n p m f))
+written i_r_named b wr we l x y size n opcode p m s f a = fixed_plan b _ wr we l n size opcode p m s (put_in Second (fixed_pair b wr n p) (sized 2 size)) i_r_named (no_modrm b f) a (ap (λ r. put_in Second r (sized 2 size)) (same_fixed b wr n p m f))
+written e_named b wr we l x y size n opcode p m s f a = modrm_plan b _ wr we l n size opcode p m s e_named f a
+written e_i_named b wr we l x y size n opcode p m s f a = modrm_plan b _ wr we l n size opcode p m s e_i_named f a
+written e_g_named b wr we l x y size n opcode p m s f a = modrm_plan b _ wr we l n size opcode p m s e_g_named f a
+written g_e_named b wr we l x y size n opcode p m s f a = modrm_plan b _ wr we l n size opcode p m s g_e_named f a
+written e_g_i_named b wr we l x y size n opcode p m s f a = modrm_plan b _ wr we l n size opcode p m s e_g_i_named f a
+written g_e_i_named b wr we l x y size n opcode p m s f a = modrm_plan b _ wr we l n size opcode p m s g_e_i_named f a
+
+pub plan_is_read : (e : FormEncoding) (n opcode : ℕ) (p : Prefixes) (m : ℕ) (s : State ℕ) → is_order e.order ≡ true → order_fits e.behind e.order ≡ true → allows e.behind m ≡ true →
+    read_plan (plan_of e n opcode p m) p m s
+    ≡ (operands_read e n p m (sized e.order.count (size_bytes (size_at e m) opcode p)) >>= λ given. pure (reading_with opcode p given)) s
+plan_is_read e n opcode p m s h f a =
+    ap (λ plan. read_plan plan p m s) (accepted e.behind m opcode (size_bytes (size_at e m) opcode p) (encodings_in e.order (reg_encoding e.behind e.reg n p) (rm_encoding e.behind e.rm p) (last_encoding e.last p)) a)
+    ∙ sym (written (named_of e.order.reg e.order.rm e.order.last e.order.count h) e.behind e.reg e.rm e.last e.in_memory e.in_register (size_bytes (size_at e m) opcode p) n opcode p m s f a)
+
+pub last_there : (e : FormEncoding) → ends e.order e.last ≡ true → e.order.last ≢ Nowhere → e.last ≢ last.Absent
+last_there e h k = ends_at e.order.last e.last h k
+  where
+    ends_at : (at : Position) (l : Last) → (if somewhere at then is_last l else true) ≡ true → at ≢ Nowhere → l ≢ last.Absent
+    ends_at Nowhere l h k = absurd (k refl)
+    ends_at at last.Absent h k = cc
+    ends_at at l h k = λ e. cc
+
+-- ---- a sound line
+
+both : (a b : Bool) → (a && b) ≡ true → (a ≡ true) × (b ≡ true)
+both true b h = (refl, h)
+both false b h = cc
+
+pub sound_parts : (e : FormEncoding) → is_sound e ≡ true → (is_order e.order ≡ true) × (order_fits e.behind e.order ≡ true) × (ends e.order e.last ≡ true)
+sound_parts e h =
+    let parts : (is_order e.order ≡ true) × ((order_fits e.behind e.order && ends e.order e.last) ≡ true) = both (is_order e.order) (order_fits e.behind e.order && ends e.order e.last) h in
+    let rest : (order_fits e.behind e.order ≡ true) × (ends e.order e.last ≡ true) = both (order_fits e.behind e.order) (ends e.order e.last) parts.1 in
+    (parts.0, rest.0, rest.1)
+
+pub allowed_is_described : (b : Behind) (m : ℕ) → allows b m ≡ true → IsTrue (is_described b)
+allowed_is_described (behind.ByReg g) m h = cc
+allowed_is_described (behind.Peculiar u) m h = cc
+allowed_is_described behind.Group m h = cc
+allowed_is_described b m h = refl
+
+-- ---- in place
+
+pub encoded_at_position : (at : Position) (l : OperandEncoding) (p : Prefixes) (given : Operands) (s : State ℕ) → at ≢ Nowhere → put_encoded (index_of_position at) l p absent_modrm None given s ≡ encoded_read at l p given s
+encoded_at_position First l p given s h = refl
+encoded_at_position Second l p given s h = refl
+encoded_at_position Third l p given s h = refl
+encoded_at_position Nowhere l p given s h = absurd (h refl)
+
+pub rm_in_memory : (w : Width) (p : Prefixes) (m : ℕ) (raw : Raw) → rm_pair w p m (Some raw) ≡ shape raw
+rm_in_memory width.Mm p m raw = refl
+rm_in_memory w p m raw = refl

@@ -1,0 +1,280 @@
+-- What a plan takes, and where it ends: its pieces, one after another.
+use Rattle.std.proofs.Common.{◌≡◌, ℕ, ◌+◌, Bool, true, false, if◌then◌else◌, List, [], ◌∷◌, ◌++◌, length, map, Option, Some, None, Result, Ok, Err, refl, sym, ap, subst, ◌∙◌, length-append}
+use Rattle.std.proofs.lemmas.List.{append-nil}
+use Rattle.x86_fields.specs.declared.errors.DecodeError.{DecodeError}
+use Rattle.x86_fields.specs.declared.prefixes.Prefixes.{Prefixes}
+use Rattle.x86_fields.specs.declared.raw.Raw.{Raw}
+use Rattle.x86_fields.specs.Raw.{read_raw}
+use Rattle.x86_fields.specs.Steps.{Step, pure, ◌>>=◌, Takes}
+use Rattle.x86_fields.specs.Pieces.{SpellsRaw, EndsBetween, raw_widths, total}
+use Rattle.x86_fields.proofs.StepLemmas.{takes_pure, takes_bind, takes_err}
+use Rattle.x86_fields.proofs.EndLemmas.{EndsWell, IsEmpty, Only, ends_pure, ends_bind, ends_then, ends_map, weaken, Stands, stands_bind, stands_empty, stands_refused, stands_same, over, final_err, bind_assoc}
+use Rattle.x86_fields.proofs.PieceLemmas.{takes_map, ends_raw, takes_raw, stands_raw, raw_long, none_there, more_missing, more_there, FirstPiece, nothing, piece, first_piece, between_nil}
+use Rattle.x86_operands.specs.declared.operands.Slot.{Slot}
+use Rattle.x86_operands.specs.declared.operands.Operand.{Operand}
+use Rattle.x86_operands.specs.declared.plans.OperandEncoding.{OperandEncoding}
+use Rattle.x86_operands.specs.declared.plans.Moment.{Moment}
+use Rattle.x86_operands.specs.declared.plans.Moment.TheVariants.{AtModRM, AfterAddress, AfterSuffix}
+use Rattle.x86_operands.specs.declared.plans.Fault.{Fault}
+use Rattle.x86_operands.specs.declared.plans.Fault.TheVariants.{BadOpcode}
+use Rattle.x86_operands.specs.declared.plans.Verdict.{Verdict}
+use Rattle.x86_operands.specs.declared.plans.Verdict.TheVariants.{Accepts, NamedBySuffix, Refuses}
+use Rattle.x86_operands.specs.declared.plans.Plan.{Plan}
+use Rattle.x86_operands.specs.declared.reader.Reading.{Reading}
+use Rattle.x86_fields.specs.ModRM.{is_memory}
+use Rattle.x86_operands.specs.Plans.{list_of}
+use Rattle.x86_operands.specs.PlanSteps.{Given, operands_step, given_step, four_of, refuse_at, read_opcode, read_memory, read_plan, reading_from, error_of}
+use Rattle.x86_operands.specs.Pieces.{immediate_width, SpellsOperands, SpellsMemory, SpellsPieces, SpellsTail, RefusesTail, at_modrm, after_address, after_suffix, no_name, is_refusal, suffix_width, opcode_by, memory_widths, plan_widths, tail_widths}
+use Rattle.x86_operands.proofs.OperandLemmas.{ends_operands, takes_operands, stands_operands}
+use Rattle.x86_operands.proofs.VerdictLemmas.{Faults, Never, refuses_at, IsVerdict, ends_verdict, takes_passed, takes_refused, passed_other, passed_suffix, fault_error, IsNamed, ends_opcode, takes_opcode, takes_unnamed}
+
+-- ---- the memory operand
+
+memory_by : (test : Bool) (p : Prefixes) (m : ℕ) → is_memory m ≡ test → EndsWell (Only (SpellsMemory p m)) (λ q. EndsBetween (if test then raw_widths m q else []) q) (if test then (read_raw p m >>= λ raw. pure (Some raw)) else pure None)
+memory_by true p m is = ends_map (SpellsRaw p m) (λ q. EndsBetween (raw_widths m q) q) (SpellsMemory p m) (read_raw p m) Some (ends_raw p m) (λ q raw h. (is, h))
+memory_by false p m is = ends_pure (Only (SpellsMemory p m)) (λ q. EndsBetween [] q) None (is, refl)
+
+ends_memory : (p : Prefixes) (m : ℕ) → EndsWell (Only (SpellsMemory p m)) (λ q. EndsBetween (memory_widths m q) q) (read_memory p m)
+ends_memory p m = memory_by (is_memory m) p m refl
+
+bools : {A : Type 0} (b : Bool) → b ≡ true → b ≡ false → A
+bools b e f = absurd (apart (sym e ∙ f))
+  where
+    apart : true ≡ false → ⊥
+    apart e = cc
+
+takes_memory_by : (test : Bool) (p : Prefixes) (m : ℕ) (q : List ℕ) (memory : Option Raw) → is_memory m ≡ test → SpellsMemory p m q memory → Takes (if test then (read_raw p m >>= λ raw. pure (Some raw)) else pure None) q (Ok memory)
+takes_memory_by true p m q (Some raw) is h = takes_map (read_raw p m) Some q raw (takes_raw p m q raw h.1)
+takes_memory_by false p m q None is h = subst (λ l. Takes {X = Option Raw} (pure None) l (Ok None)) (sym h.1) (takes_pure (Ok None))
+takes_memory_by true p m q None is h = bools (is_memory m) is h.0
+takes_memory_by false p m q (Some raw) is h = bools (is_memory m) h.0 is
+
+takes_memory : (p : Prefixes) (m : ℕ) (q : List ℕ) (memory : Option Raw) → SpellsMemory p m q memory → Takes (read_memory p m) q (Ok memory)
+takes_memory p m q memory h = takes_memory_by (is_memory m) p m q memory refl h
+
+memory_long : (p : Prefixes) (m : ℕ) (q rest : List ℕ) (memory : Option Raw) → SpellsMemory p m q memory → length q ≡ total (memory_widths m (q ++ rest))
+memory_long p m q rest (Some raw) h = raw_long p m q rest raw h.1 ∙ ap (λ b. total (if b then raw_widths m (q ++ rest) else [])) (sym h.0)
+memory_long p m q rest None h = ap length h.1 ∙ ap (λ b. total (if b then raw_widths m (q ++ rest) else [])) (sym h.0)
+
+-- the immediates measure what the operands ask
+operands_long : (p : Prefixes) (m : ℕ) (memory : Option Raw) (encodings : List OperandEncoding) (q : List ℕ) (given : List (Slot × Operand)) → SpellsOperands encodings p m memory q given → length q ≡ total (map immediate_width encodings)
+operands_long p m memory [] q given h = ap length h.0
+operands_long p m memory (s ∷ rest) q given h = ap length h.spelled ∙ length-append h.immediate h.tail ∙ ap (λ n. n + length h.tail) h.asked ∙ ap (λ n. immediate_width s + n) (operands_long p m memory rest h.tail h.others h.behind)
+
+-- ---- the pieces in order
+
+abbrev pub PlanGives : Plan → Prefixes → ℕ → List ℕ → Result Reading DecodeError → Type 0
+PlanGives plan p m q (Ok reading) = SpellsTail plan p m q reading
+PlanGives plan p m q (Err e) = Faults (RefusesTail plan p m q) e
+
+abbrev pub PlanBetween : Plan → ℕ → List ℕ → Type 0
+PlanBetween plan m q = EndsBetween (tail_widths plan m q) q
+
+-- a verdict refuses at none of the three moments
+never : (v : Verdict) → refuses_at v AtModRM ≡ false → refuses_at v AfterAddress ≡ false → refuses_at v AfterSuffix ≡ false → is_refusal v ≡ false
+never Accepts a b c = refl
+never NamedBySuffix a b c = refl
+never (Refuses f AtModRM) a b c = cc
+never (Refuses f AfterAddress) a b c = cc
+never (Refuses f AfterSuffix) a b c = cc
+
+passed : (v : Verdict) (at : Moment) → is_refusal v ≡ false → refuses_at v at ≡ false
+passed Accepts at e = refl
+passed NamedBySuffix at e = refl
+passed (Refuses f moment) at e = cc
+
+no_suffix_opcode : (v : Verdict) (f : Fault) (at : Moment) (opcode : ℕ) (q : List ℕ) → v ≡ Refuses f at → opcode_by v opcode q ≡ Some opcode
+no_suffix_opcode v f at opcode q e = ap (λ o. opcode_by o opcode q) e
+
+module _ (plan : Plan) (p : Prefixes) (m : ℕ) where
+  abbrev v : Verdict
+  v = plan.verdict
+
+  abbrev Pairs : Type 0
+  Pairs = List (Slot × Operand)
+
+  abbrev encodings : List OperandEncoding
+  encodings = list_of plan.encodings
+
+  abbrev Gives : List ℕ → Result Reading DecodeError → Type 0
+  Gives q r = PlanGives plan p m q r
+
+  abbrev Between : List ℕ → Type 0
+  Between q = PlanBetween plan m q
+
+  abbrev closed : Given → ℕ → Step Reading
+  closed given opcode = refuse_at v AfterSuffix >>= λ _. pure (reading_from plan p opcode given)
+
+  abbrev after_operands : Given → Step Reading
+  after_operands given = read_opcode v plan.opcode >>= closed given
+
+  abbrev after_address_step : Option Raw → Step Reading
+  after_address_step memory = given_step encodings p m memory >>= after_operands
+
+  abbrev after_memory : Option Raw → Step Reading
+  after_memory memory = refuse_at v AfterAddress >>= λ _. after_address_step memory
+
+  abbrev made : (memory : Option Raw) (address immediates suffix tail : List ℕ) (given : Pairs) → tail ≡ address ++ (immediates ++ suffix) → SpellsMemory p m address memory → SpellsOperands encodings p m memory immediates given → length suffix ≡ suffix_width v → SpellsPieces plan p m tail
+  made memory address immediates suffix tail given e h s w = record { memory = memory; address = address; immediates = immediates; suffix = suffix; given = given; spelled = e; address_asked = h; immediates_asked = s; suffix_asked = w }
+
+  -- behind the operands
+  ends_after_operands : (memory : Option Raw) (address immediates : List ℕ) (given : Pairs) → SpellsMemory p m address memory → SpellsOperands encodings p m memory immediates given → refuses_at v AtModRM ≡ false → refuses_at v AfterAddress ≡ false → EndsWell (λ l r. Gives (address ++ (immediates ++ l)) r) (λ l. Between (address ++ (immediates ++ l))) (after_operands (four_of given))
+  ends_after_operands memory address immediates given h s no_first no_second =
+      ends_bind (IsNamed v plan.opcode) IsEmpty (λ l r. Gives (address ++ (immediates ++ l)) r) (λ l. Between (address ++ (immediates ++ l))) (read_opcode v plan.opcode) (closed (four_of given)) (ends_opcode v plan.opcode)
+      (λ q e. more_there (memory_widths m (address ++ (immediates ++ q))) (plan_widths plan) address (immediates ++ q) (memory_long p m address (immediates ++ q) memory h)
+      (more_there (map immediate_width encodings) (suffix_width v ∷ []) immediates q (operands_long p m memory encodings immediates given s) (none_there (suffix_width v ∷ []) q e)))
+      (λ q e k. (BadOpcode, k.1, no_name (made memory address immediates q (address ++ (immediates ++ q)) given refl h s k.0) k.2 k.3 refl))
+      (λ q opcode k.
+      ends_bind (IsVerdict v AfterSuffix) Never (λ l r. Gives (address ++ (immediates ++ (q ++ l))) r) (λ l. Between (address ++ (immediates ++ (q ++ l)))) (refuse_at v AfterSuffix) (λ _. pure (reading_from plan p opcode (four_of given))) (ends_verdict v AfterSuffix)
+      (λ l e. absurd e)
+      (λ l e g.
+      let same : address ++ (immediates ++ (q ++ l)) ≡ address ++ (immediates ++ q) = ap (λ x. address ++ (immediates ++ x)) (ap (λ x. q ++ x) g.0 ∙ append-nil q) in
+      (g.1.0, g.1.1, after_suffix g.1.2 (made memory address immediates q (address ++ (immediates ++ (q ++ l))) given same h s k.0)))
+      (λ l x g. ends_pure (λ e r. Gives (address ++ (immediates ++ (q ++ (l ++ e)))) r) (λ e. Between (address ++ (immediates ++ (q ++ (l ++ e))))) (reading_from plan p opcode (four_of given))
+      (let same : address ++ (immediates ++ (q ++ (l ++ []))) ≡ address ++ (immediates ++ q) = ap (λ x. address ++ (immediates ++ x)) (ap (λ x. q ++ x) (append-nil l ∙ g.0) ∙ append-nil q) in
+      record {
+        pieces = made memory address immediates q (address ++ (immediates ++ (q ++ (l ++ [])))) given same h s k.0;
+        opcode = opcode;
+        named = k.1;
+        accepted = never v no_first no_second g.1;
+        gives = refl;
+      })))
+
+  -- behind the memory operand
+  ends_operands_part : (memory : Option Raw) (address : List ℕ) → SpellsMemory p m address memory → refuses_at v AtModRM ≡ false → refuses_at v AfterAddress ≡ false → EndsWell (λ l r. Gives (address ++ l) r) (λ l. Between (address ++ l)) (after_address_step memory)
+  unfolding given_step
+  ends_operands_part memory address h no_first no_second =
+      ends_then (λ q given. (xs : Pairs) × (given ≡ four_of xs) × SpellsOperands encodings p m memory q xs) (λ q. EndsBetween (map immediate_width encodings) q) (λ l r. Gives (address ++ l) r) (λ l. Between (address ++ l)) (given_step encodings p m memory) after_operands
+      (ends_map (SpellsOperands encodings p m memory) (λ q. EndsBetween (map immediate_width encodings) q) (λ q given. (xs : Pairs) × (given ≡ four_of xs) × SpellsOperands encodings p m memory q xs) (operands_step encodings p m memory) four_of (ends_operands p m memory encodings) (λ q xs s. (xs, refl, s)))
+      (λ q b. more_there (memory_widths m (address ++ q)) (plan_widths plan) address q (memory_long p m address q memory h) (more_missing (map immediate_width encodings) (suffix_width v ∷ []) q b))
+      (λ q given k. subst (λ g. EndsWell (λ l r. Gives (address ++ (q ++ l)) r) (λ l. Between (address ++ (q ++ l))) (after_operands g)) (sym k.1) (ends_after_operands memory address q k.0 h k.2 no_first no_second))
+
+  pub ends_plan : EndsWell Gives Between (read_plan plan p m)
+  unfolding read_plan
+  ends_plan =
+      ends_bind (IsVerdict v AtModRM) Never Gives Between (refuse_at v AtModRM) (λ _. read_memory p m >>= after_memory) (ends_verdict v AtModRM)
+      (λ q e. absurd e) (λ q e h. (h.1.0, h.1.1, at_modrm h.1.2 h.0)) (λ q₀ x h₀.
+      let skip : (l : List ℕ) → l ≡ q₀ ++ l = λ l. ap (λ k. k ++ l) (sym h₀.0) in
+      ends_then (SpellsMemory p m) (λ q. EndsBetween (memory_widths m q) q) (λ l r. Gives (q₀ ++ l) r) (λ l. Between (q₀ ++ l)) (read_memory p m) after_memory (ends_memory p m)
+      (λ q k. subst Between (skip q) (more_missing (memory_widths m q) (plan_widths plan) q k)) (λ q₁ memory h₁.
+      ends_bind (IsVerdict v AfterAddress) Never (λ l r. Gives (q₀ ++ (q₁ ++ l)) r) (λ l. Between (q₀ ++ (q₁ ++ l))) (refuse_at v AfterAddress) (λ _. after_address_step memory) (ends_verdict v AfterAddress)
+      (λ q e. absurd e)
+      (λ q e h. (h.1.0, h.1.1, after_address memory h.1.2 (subst (λ l. SpellsMemory p m l memory) (sym (append-nil q₁) ∙ ap (λ l. q₁ ++ l) (sym h.0) ∙ skip (q₁ ++ q)) h₁)))
+      (λ q₂ y h₂ s.
+      let split : (l : List ℕ) → q₁ ++ l ≡ q₀ ++ (q₁ ++ (q₂ ++ l)) = λ l. ap (λ k. q₁ ++ (k ++ l)) (sym h₂.0) ∙ skip (q₁ ++ (q₂ ++ l)) in
+      weaken s (λ l r g. subst (λ k. Gives k r) (split l) g) (λ l k. subst Between (split l) k) (ends_operands_part memory q₁ h₁ h₀.1 h₂.1 s))))
+
+  -- ---- the pieces are taken
+
+  takes_first : (memory : Option Raw) (address q : List ℕ) (r : Result Reading DecodeError) → SpellsMemory p m address memory → refuses_at v AtModRM ≡ false → Takes (after_memory memory) q r → Takes (read_plan plan p m) (address ++ q) r
+  unfolding read_plan
+  takes_first memory address q r h e t =
+      takes_bind (refuse_at v AtModRM) (λ _. read_memory p m >>= after_memory) [] (address ++ q) tt r (takes_passed v AtModRM e)
+      (takes_bind (read_memory p m) after_memory address q memory r (takes_memory p m address memory h) t)
+
+  takes_pieces : (tail : List ℕ) (r : Result Reading DecodeError) (s : SpellsPieces plan p m tail) → refuses_at v AtModRM ≡ false → refuses_at v AfterAddress ≡ false → Takes (after_operands (four_of s.given)) s.suffix r → Takes (read_plan plan p m) tail r
+  unfolding given_step
+  takes_pieces tail r s no_first no_second t =
+      let four : Takes (given_step encodings p m s.memory) s.immediates (Ok (four_of s.given)) = takes_map (operands_step encodings p m s.memory) four_of s.immediates s.given (takes_operands p m s.memory encodings s.immediates s.given s.immediates_asked) in
+      let behind : Takes (after_address_step s.memory) (s.immediates ++ s.suffix) r = takes_bind (given_step encodings p m s.memory) after_operands s.immediates s.suffix (four_of s.given) r four t in
+      subst (λ l. Takes (read_plan plan p m) l r) (sym s.spelled)
+      (takes_first s.memory s.address (s.immediates ++ s.suffix) r s.address_asked no_first
+      (takes_bind (refuse_at v AfterAddress) (λ _. after_address_step s.memory) [] (s.immediates ++ s.suffix) tt r (takes_passed v AfterAddress no_second) behind))
+
+  pub takes_tail : (tail : List ℕ) (reading : Reading) → SpellsTail plan p m tail reading → Takes (read_plan plan p m) tail (Ok reading)
+  takes_tail tail reading s =
+      let given : Given = four_of s.pieces.given in
+      let last : Takes (closed given s.opcode) [] (Ok (reading_from plan p s.opcode given)) = takes_bind (refuse_at v AfterSuffix) (λ _. pure (reading_from plan p s.opcode given)) [] [] tt (Ok (reading_from plan p s.opcode given)) (takes_passed v AfterSuffix (passed v AfterSuffix s.accepted)) (takes_pure (Ok (reading_from plan p s.opcode given))) in
+      let named : Takes (after_operands given) (s.pieces.suffix ++ []) (Ok (reading_from plan p s.opcode given)) = takes_bind (read_opcode v plan.opcode) (closed given) s.pieces.suffix [] s.opcode (Ok (reading_from plan p s.opcode given)) (takes_opcode v plan.opcode s.opcode s.pieces.suffix s.pieces.suffix_asked s.named) last in
+      subst (λ x. Takes (read_plan plan p m) tail (Ok x)) (sym s.gives)
+      (takes_pieces tail (Ok (reading_from plan p s.opcode given)) s.pieces (passed v AtModRM s.accepted) (passed v AfterAddress s.accepted)
+      (subst (λ l. Takes (after_operands given) l (Ok (reading_from plan p s.opcode given))) (append-nil s.pieces.suffix) named))
+
+  takes_after_suffix : (fault : Fault) (tail : List ℕ) → v ≡ Refuses fault AfterSuffix → SpellsPieces plan p m tail → Takes (read_plan plan p m) tail (Err (error_of fault))
+  takes_after_suffix fault tail is s =
+      let given : Given = four_of s.given in
+      let last : Takes (closed given plan.opcode) [] (Err (error_of fault)) = takes_err (refuse_at v AfterSuffix) (λ _. pure (reading_from plan p plan.opcode given)) [] (error_of fault) (takes_refused v fault AfterSuffix is) in
+      let named : Takes (after_operands given) (s.suffix ++ []) (Err (error_of fault)) = takes_bind (read_opcode v plan.opcode) (closed given) s.suffix [] plan.opcode (Err (error_of fault)) (takes_opcode v plan.opcode plan.opcode s.suffix s.suffix_asked (no_suffix_opcode v fault AfterSuffix plan.opcode s.suffix is)) last in
+      takes_pieces tail (Err (error_of fault)) s (passed_other v fault AfterSuffix AtModRM is refl) (passed_other v fault AfterSuffix AfterAddress is refl)
+      (subst (λ l. Takes (after_operands given) l (Err (error_of fault))) (append-nil s.suffix) named)
+
+  pub takes_tail_refused : (tail : List ℕ) (fault : Fault) → RefusesTail plan p m tail fault → Takes (read_plan plan p m) tail (Err (error_of fault))
+  unfolding read_plan
+  takes_tail_refused tail fault (at_modrm is none) = subst (λ l. Takes (read_plan plan p m) l (Err (error_of fault))) (sym none)
+      (takes_err (refuse_at v AtModRM) (λ _. read_memory p m >>= after_memory) [] (error_of fault) (takes_refused v fault AtModRM is))
+  takes_tail_refused tail fault (after_address memory is h) = subst (λ l. Takes (read_plan plan p m) l (Err (error_of fault))) (append-nil tail)
+      (takes_first memory tail [] (Err (error_of fault)) h (passed_other v fault AfterAddress AtModRM is refl)
+      (takes_err (refuse_at v AfterAddress) (λ _. after_address_step memory) [] (error_of fault) (takes_refused v fault AfterAddress is)))
+  takes_tail_refused tail fault (after_suffix is s) = takes_after_suffix fault tail is s
+  takes_tail_refused tail fault (no_name s is none same) =
+      let given : Given = four_of s.given in
+      subst (λ e. Takes (read_plan plan p m) tail (Err e)) (ap error_of (sym same))
+      (takes_pieces tail (Err (error_of BadOpcode)) s (passed_suffix v AtModRM is) (passed_suffix v AfterAddress is)
+      (takes_err (read_opcode v plan.opcode) (closed given) s.suffix (error_of BadOpcode) (takes_unnamed v plan.opcode s.suffix is s.suffix_asked none)))
+
+  -- ---- bytes that end between the pieces
+
+  ends_closed : (given : Given) (opcode : ℕ) → EndsWell (λ q r. Unit {0}) (λ q. Unit {0}) (closed given opcode)
+  ends_closed given opcode = ends_bind (IsVerdict v AfterSuffix) Never (λ q r. Unit {0}) (λ q. Unit {0}) (refuse_at v AfterSuffix) (λ _. pure (reading_from plan p opcode given)) (ends_verdict v AfterSuffix) (λ q h. tt) (λ q e h. tt) (λ q x h. ends_pure (λ q r. Unit {0}) (λ q. Unit {0}) (reading_from plan p opcode given) tt)
+
+  ends_named : (given : Given) → EndsWell (λ q r. Unit {0}) (λ q. Unit {0}) (after_operands given)
+  ends_named given = ends_bind (IsNamed v plan.opcode) IsEmpty (λ q r. Unit {0}) (λ q. Unit {0}) (read_opcode v plan.opcode) (closed given) (ends_opcode v plan.opcode) (λ q h. tt) (λ q e h. tt) (λ q opcode h. ends_closed given opcode)
+
+  settled : (given : Given) (q : List ℕ) → length q ≡ suffix_width v → (o : Option ℕ) → opcode_by v plan.opcode q ≡ o → Stands (after_operands given) q
+  settled given q w (Some o) e = subst (Stands (after_operands given)) (append-nil q) (stands_bind (read_opcode v plan.opcode) (closed given) q [] o (takes_opcode v plan.opcode o q w e) (stands_empty (closed given o) (ends_closed given o)))
+  settled given q w None e = over q [] (Err (error_of BadOpcode)) (sym (append-nil q)) (takes_err (read_opcode v plan.opcode) (closed given) q (error_of BadOpcode) (takes_unnamed v plan.opcode q (unnamed v e) w e)) (final_err (error_of BadOpcode) (fault_error BadOpcode))
+    where
+      unnamed : (v : Verdict) → opcode_by v plan.opcode q ≡ None → v ≡ NamedBySuffix
+      unnamed NamedBySuffix e = refl
+      unnamed Accepts e = cc
+      unnamed (Refuses f moment) e = cc
+
+  stands_after_operands : (given : Given) (q : List ℕ) → EndsBetween (suffix_width v ∷ []) q → Stands (after_operands given) q
+  stands_after_operands given q k = by (first_piece (suffix_width v) [] q k)
+    where
+      by : FirstPiece (suffix_width v) [] q → Stands (after_operands given) q
+      by (nothing none) = subst (Stands (after_operands given)) (sym none) (stands_empty (after_operands given) (ends_named given))
+      by (piece l rest h long k) =
+          let whole : q ≡ l = h ∙ ap (λ x. l ++ x) (between_nil rest k) ∙ append-nil l in
+          settled given q (ap length whole ∙ long) (opcode_by v plan.opcode q) refl
+
+  stands_address_step : (memory : Option Raw) (q : List ℕ) → EndsBetween (plan_widths plan) q → Stands (after_address_step memory) q
+  unfolding given_step
+  stands_address_step memory q k =
+      stands_same (operands_step encodings p m memory >>= λ xs. after_operands (four_of xs)) (after_address_step memory) q (λ s. bind_assoc (operands_step encodings p m memory) (λ xs. pure (four_of xs)) after_operands s)
+      (stands_operands p m memory encodings (λ xs. after_operands (four_of xs)) (suffix_width v ∷ []) q (λ xs rest b. stands_after_operands (four_of xs) rest b) k)
+
+  stands_after_memory : (memory : Option Raw) (q : List ℕ) → EndsBetween (plan_widths plan) q → Stands (after_memory memory) q
+  stands_after_memory memory q k = by v refl
+    where
+      go : refuses_at v AfterAddress ≡ false → Stands (after_memory memory) q
+      go e = stands_bind (refuse_at v AfterAddress) (λ _. after_address_step memory) [] q tt (takes_passed v AfterAddress e) (stands_address_step memory q k)
+
+      by : (o : Verdict) → v ≡ o → Stands (after_memory memory) q
+      by Accepts e = go (ap (λ o. refuses_at o AfterAddress) e)
+      by NamedBySuffix e = go (ap (λ o. refuses_at o AfterAddress) e)
+      by (Refuses f AfterAddress) e = stands_refused (refuse_at v AfterAddress) (λ _. after_address_step memory) q (error_of f) (fault_error f) (takes_refused v f AfterAddress e)
+      by (Refuses f AtModRM) e = go (passed_other v f AtModRM AfterAddress e refl)
+      by (Refuses f AfterSuffix) e = go (passed_other v f AfterSuffix AfterAddress e refl)
+
+  stands_memory : (q : List ℕ) → Between q → Stands (read_memory p m >>= after_memory) q
+  stands_memory q k = by (is_memory m) q k
+    where
+      by : (test : Bool) (q : List ℕ) → EndsBetween ((if test then raw_widths m q else []) ++ plan_widths plan) q → Stands ((if test then (read_raw p m >>= λ raw. pure (Some raw)) else pure None) >>= after_memory) q
+      by true q k = stands_same (read_raw p m >>= λ raw. after_memory (Some raw)) ((read_raw p m >>= λ raw. pure (Some raw)) >>= after_memory) q (λ s. bind_assoc (read_raw p m) (λ raw. pure (Some raw)) after_memory s)
+          (stands_raw p m (λ raw. after_memory (Some raw)) (plan_widths plan) q (λ raw rest b. stands_after_memory (Some raw) rest b) k)
+      by false q k = stands_bind (pure None) after_memory [] q None (takes_pure (Ok None)) (stands_after_memory None q k)
+
+  pub stands_plan : (q : List ℕ) → Between q → Stands (read_plan plan p m) q
+  unfolding read_plan
+  stands_plan q k = by v refl
+    where
+      go : refuses_at v AtModRM ≡ false → Stands (refuse_at v AtModRM >>= (λ _. read_memory p m >>= after_memory)) q
+      go e = stands_bind (refuse_at v AtModRM) (λ _. read_memory p m >>= after_memory) [] q tt (takes_passed v AtModRM e) (stands_memory q k)
+
+      by : (o : Verdict) → v ≡ o → Stands (refuse_at v AtModRM >>= (λ _. read_memory p m >>= after_memory)) q
+      by Accepts e = go (ap (λ o. refuses_at o AtModRM) e)
+      by NamedBySuffix e = go (ap (λ o. refuses_at o AtModRM) e)
+      by (Refuses f AtModRM) e = stands_refused (refuse_at v AtModRM) (λ _. read_memory p m >>= after_memory) q (error_of f) (fault_error f) (takes_refused v f AtModRM e)
+      by (Refuses f AfterAddress) e = go (passed_other v f AfterAddress AtModRM e refl)
+      by (Refuses f AfterSuffix) e = go (passed_other v f AfterSuffix AtModRM e refl)

@@ -1,0 +1,134 @@
+-- What a row asks behind its opcode byte, where it ends, and that its pieces are taken.
+use Rattle.std.proofs.Common.{◌≡◌, ℕ, ◌+◌, List, [], ◌∷◌, ◌++◌, length, Option, Some, None, Result, Ok, Err, refl, sym, ap, subst, arith}
+use Rattle.x86_fields.specs.declared.errors.DecodeError.{DecodeError}
+use Rattle.x86_fields.specs.declared.prefixes.Prefixes.{Prefixes}
+use Rattle.x86_fields.specs.Steps.{Step, ◌>>=◌, next_byte, Takes}
+use Rattle.x86_fields.specs.ModRM.{absent_modrm, as_register}
+use Rattle.x86_fields.specs.Pieces.{EndsBetween}
+use Rattle.x86_fields.proofs.StepLemmas.{takes_pure, takes_bind, takes_err, takes_byte}
+use Rattle.x86_fields.proofs.EndLemmas.{EndsWell, IsEmpty, Only, IsByte, ends_byte, ends_pure, ends_refuse, ends_bind, ends_then, ends_map, weaken, Stands, stands_bind, stands_empty, stands_refused}
+use Rattle.x86_fields.proofs.PieceLemmas.{takes_map}
+use Rattle.x86_operands.specs.declared.plans.Fault.{Fault}
+use Rattle.x86_operands.specs.declared.plans.ModrmUse.{ModrmUse}
+use Rattle.x86_operands.specs.declared.plans.ModrmUse.TheVariants.{Absent, EitherForm, Registers}
+use Rattle.x86_operands.specs.declared.reader.Reading.{Reading}
+use Rattle.x86_operands.specs.Plans.{RowRecord}
+use Rattle.x86_operands.specs.PlanSteps.{read_modrm, refuse_fault, read_plan, record_step, error_of}
+use Rattle.x86_operands.specs.Pieces.{SpellsTail, RefusesTail, tail_widths, modrm_of, modrm_width, SpellsRow, RefusesRow, at_opcode, behind_modrm, BetweenRow, before, behind}
+use Rattle.x86_operands.proofs.VerdictLemmas.{Faults, Never, fault_error}
+use Rattle.x86_operands.proofs.PlanLemmas.{PlanGives, ends_plan, takes_tail, takes_tail_refused, stands_plan}
+
+abbrev pub RowGives : RowRecord → Prefixes → List ℕ → Result Reading DecodeError → Type 0
+RowGives r p q (Ok reading) = SpellsRow r p q reading
+RowGives r p q (Err e) = Faults (RefusesRow r p q) e
+
+-- ---- a refusal at the opcode
+
+abbrev IsFault : Option Fault → List ℕ → Result (Unit {0}) DecodeError → Type 0
+IsFault o q (Ok x) = (q ≡ []) × (o ≡ None)
+IsFault o q (Err e) = (q ≡ []) × Faults (λ fault. o ≡ Some fault) e
+
+ends_fault : (o : Option Fault) → EndsWell (IsFault o) Never (refuse_fault o)
+ends_fault None = ends_pure (IsFault None) Never tt (refl, refl)
+ends_fault (Some f) = ends_refuse (IsFault (Some f)) Never (error_of f) (fault_error f) (refl, (f, refl, refl))
+
+takes_no_fault : (o : Option Fault) → o ≡ None → Takes (refuse_fault o) [] (Ok tt)
+takes_no_fault o e = subst (λ x. Takes (refuse_fault x) [] (Ok tt)) (sym e) (takes_pure (Ok tt))
+
+takes_fault : (o : Option Fault) (f : Fault) → o ≡ Some f → Takes (refuse_fault o) [] (Err (error_of f))
+takes_fault o f e = subst (λ x. Takes (refuse_fault x) [] (Err (error_of f))) (sym e) (takes_pure (Err (error_of f)))
+
+-- ---- ModRM
+
+abbrev IsModrm : ModrmUse → List ℕ → ℕ → Type 0
+IsModrm u q m = (length q ≡ modrm_width u) × (m ≡ modrm_of u q)
+
+ends_modrm : (u : ModrmUse) → EndsWell (Only (IsModrm u)) IsEmpty (read_modrm u)
+ends_modrm Absent = ends_pure (Only (IsModrm Absent)) IsEmpty absent_modrm (refl, refl)
+ends_modrm EitherForm = ends_map IsByte IsEmpty (IsModrm EitherForm) next_byte (λ m. m) ends_byte (λ q b h. (ap length h, sym (ap (modrm_of EitherForm) h)))
+ends_modrm Registers = ends_map IsByte IsEmpty (IsModrm Registers) next_byte as_register ends_byte (λ q b h. (ap length h, sym (ap (modrm_of Registers) h)))
+
+takes_modrm : (u : ModrmUse) (q : List ℕ) → length q ≡ modrm_width u → Takes (read_modrm u) q (Ok (modrm_of u q))
+takes_modrm Absent [] e = takes_pure (Ok absent_modrm)
+takes_modrm Absent (m ∷ q) e = absurd (omega arith)
+takes_modrm EitherForm (m ∷ []) e = takes_map next_byte (λ m. m) (m ∷ []) m (takes_byte m)
+takes_modrm EitherForm [] e = absurd (omega arith)
+takes_modrm EitherForm (m ∷ n ∷ q) e = absurd (omega arith)
+takes_modrm Registers (m ∷ []) e = takes_map next_byte as_register (m ∷ []) m (takes_byte m)
+takes_modrm Registers [] e = absurd (omega arith)
+takes_modrm Registers (m ∷ n ∷ q) e = absurd (omega arith)
+
+-- ---- the whole row
+
+module _ (r : RowRecord) (p : Prefixes) where
+  abbrev u : ModrmUse
+  u = r.modrm
+
+  abbrev after_modrm : ℕ → Step Reading
+  after_modrm m = read_plan (r.plan m) p m
+
+  abbrev behind_fault : Step Reading
+  behind_fault = read_modrm u >>= after_modrm
+
+  abbrev Gives : List ℕ → Result Reading DecodeError → Type 0
+  Gives q a = RowGives r p q a
+
+  abbrev Between : List ℕ → Type 0
+  Between q = BetweenRow r p q
+
+  row_gives : (modrm q : List ℕ) (m : ℕ) (a : Result Reading DecodeError) → r.at_opcode ≡ None → IsModrm u modrm m → PlanGives (r.plan m) p m q a → Gives (modrm ++ q) a
+  row_gives modrm q m (Ok reading) passed h g = record { modrm = modrm; tail = q; passed = passed; spelled = refl; modrm_asked = h.0; behind = subst (λ k. SpellsTail (r.plan k) p k q reading) h.1 g }
+  row_gives modrm q m (Err e) passed h g = (g.0, g.1, behind_modrm modrm q passed refl h.0 (subst (λ k. RefusesTail (r.plan k) p k q g.0) h.1 g.2))
+
+  ends_behind_fault : r.at_opcode ≡ None → EndsWell Gives Between behind_fault
+  ends_behind_fault passed = ends_then (IsModrm u) IsEmpty Gives Between (read_modrm u) after_modrm (ends_modrm u)
+      (λ q e. before e)
+      (λ modrm m h s. weaken s (λ q a g. row_gives modrm q m a passed h g)
+      (λ q k. behind modrm q refl h.0 (subst (λ x. EndsBetween (tail_widths (r.plan x) x q) q) h.1 k)) (ends_plan (r.plan m) p m s))
+
+  -- what a row takes has the pieces of the row, or ends between them
+  pub ends_row : EndsWell Gives Between (record_step r p)
+  unfolding record_step
+  ends_row = ends_bind (IsFault r.at_opcode) Never Gives Between (refuse_fault r.at_opcode) (λ _. behind_fault) (ends_fault r.at_opcode)
+      (λ q e. absurd e)
+      (λ q e h. (h.1.0, h.1.1, at_opcode h.1.2 h.0))
+      (λ q x h s.
+      let skip : (l : List ℕ) → l ≡ q ++ l = λ l. ap (λ k. k ++ l) (sym h.0) in
+      weaken s (λ l a g. subst (λ k. Gives k a) (skip l) g) (λ l k. subst Between (skip l) k) (ends_behind_fault h.1 s))
+
+  takes_row_by : (modrm q : List ℕ) (a : Result Reading DecodeError) → r.at_opcode ≡ None → length modrm ≡ modrm_width u → Takes (after_modrm (modrm_of u modrm)) q a → Takes (record_step r p) (modrm ++ q) a
+  unfolding record_step
+  takes_row_by modrm q a passed e t = takes_bind (refuse_fault r.at_opcode) (λ _. behind_fault) [] (modrm ++ q) tt a (takes_no_fault r.at_opcode passed)
+      (takes_bind (read_modrm u) after_modrm modrm q (modrm_of u modrm) a (takes_modrm u modrm e) t)
+
+  -- the pieces of a row are taken
+  pub takes_row : (q : List ℕ) (reading : Reading) → SpellsRow r p q reading → Takes (record_step r p) q (Ok reading)
+  takes_row q reading s = subst (λ l. Takes (record_step r p) l (Ok reading)) (sym s.spelled)
+      (takes_row_by s.modrm s.tail (Ok reading) s.passed s.modrm_asked (takes_tail (r.plan (modrm_of u s.modrm)) p (modrm_of u s.modrm) s.tail reading s.behind))
+
+  pub takes_row_refused : (q : List ℕ) (fault : Fault) → RefusesRow r p q fault → Takes (record_step r p) q (Err (error_of fault))
+  unfolding record_step
+  takes_row_refused q fault (at_opcode is none) = subst (λ l. Takes (record_step r p) l (Err (error_of fault))) (sym none)
+      (takes_err (refuse_fault r.at_opcode) (λ _. behind_fault) [] (error_of fault) (takes_fault r.at_opcode fault is))
+  takes_row_refused q fault (behind_modrm modrm tail passed h long s) = subst (λ l. Takes (record_step r p) l (Err (error_of fault))) (sym h)
+      (takes_row_by modrm tail (Err (error_of fault)) passed long (takes_tail_refused (r.plan (modrm_of u modrm)) p (modrm_of u modrm) tail fault s))
+
+  stands_passed : (q : List ℕ) → r.at_opcode ≡ None → Stands behind_fault q → Stands (record_step r p) q
+  unfolding record_step
+  stands_passed q passed t = stands_bind (refuse_fault r.at_opcode) (λ _. behind_fault) [] q tt (takes_no_fault r.at_opcode passed) t
+
+  stands_fault : (q : List ℕ) (f : Fault) → r.at_opcode ≡ Some f → Stands (record_step r p) q
+  unfolding record_step
+  stands_fault q f e = stands_refused (refuse_fault r.at_opcode) (λ _. behind_fault) q (error_of f) (fault_error f) (takes_fault r.at_opcode f e)
+
+  stands_tail : (modrm q : List ℕ) → length modrm ≡ modrm_width u → Stands (after_modrm (modrm_of u modrm)) q → Stands behind_fault (modrm ++ q)
+  stands_tail modrm q e t = stands_bind (read_modrm u) after_modrm modrm q (modrm_of u modrm) (takes_modrm u modrm e) t
+
+  -- the row stands on bytes that end between its pieces
+  pub stands_row : (q : List ℕ) → Between q → Stands (record_step r p) q
+  stands_row q (before e) = subst (Stands (record_step r p)) (sym e) (stands_empty (record_step r p) ends_row)
+  stands_row q (behind modrm tail h long k) = by r.at_opcode refl
+    where
+      by : (o : Option Fault) → r.at_opcode ≡ o → Stands (record_step r p) q
+      by None passed = stands_passed q passed (subst (Stands behind_fault) (sym h) (stands_tail modrm tail long (stands_plan (r.plan (modrm_of u modrm)) p (modrm_of u modrm) tail k)))
+      by (Some f) e = stands_fault q f e

@@ -1,0 +1,117 @@
+-- What is read of a row, over any record: what it takes with each answer, and which answers come.
+use Rattle.std.proofs.Common.{◌≡◌, ◌≢◌, ℕ, ◌⊎◌, inl, inr, List, [], ◌++◌, length, Some, Result, Ok, Err, sym, ap, subst, ◌∙◌}
+use Rattle.std.proofs.lemmas.List.{append-nil}
+use Rattle.x86_arch.specs.Reader.{State, advanced}
+use Rattle.x86_fields.specs.declared.errors.DecodeError.{DecodeError}
+use Rattle.x86_fields.specs.declared.errors.DecodeError.TheVariants.{ExhaustedInput, InvalidPrefixes, TooLong, IncompleteDecoder}
+use Rattle.x86_fields.specs.declared.prefixes.Prefixes.{Prefixes}
+use Rattle.x86_fields.specs.Steps.{outcome}
+use Rattle.x86_fields.proofs.EndLemmas.{Ends, settles, runs_out, longest}
+use Rattle.x86_operands.specs.declared.plans.Fault.{Fault}
+use Rattle.x86_operands.specs.declared.plans.Fault.TheVariants.{BadOpcode, BadOperand, Incomplete}
+use Rattle.x86_operands.specs.declared.plans.Moment.{Moment}
+use Rattle.x86_operands.specs.declared.plans.Moment.TheVariants.{AtModRM, AfterAddress, AfterSuffix}
+use Rattle.x86_operands.specs.declared.plans.Verdict.TheVariants.{Refuses}
+use Rattle.x86_operands.specs.declared.reader.Reading.{Reading}
+use Rattle.x86_operands.specs.Plans.{RowRecord}
+use Rattle.x86_operands.specs.PlanSteps.{record_step, error_of}
+use Rattle.x86_operands.specs.Pieces.{modrm_of, SpellsRow, RefusesTail, at_modrm, after_address, after_suffix, no_name, RefusesRow, at_opcode, behind_modrm, BetweenRow, IsReadRow, IsRefusedRow, IsOpenRow}
+use Rattle.x86_operands.proofs.RecordLemmas.{RowGives, ends_row, takes_row, takes_row_refused, stands_row}
+
+same_error : (d e : DecodeError) → ◌≡◌ {A = Result Reading DecodeError} (Err d) (Err e) → d ≡ e
+same_error d e h = cc
+
+not_ok : (e : DecodeError) (reading : Reading) → ◌≡◌ {A = Result Reading DecodeError} (Err e) (Ok reading) → ⊥
+not_ok e reading h = cc
+
+-- none of the faults is one of these errors
+not_prefixes : (f : Fault) → error_of f ≢ InvalidPrefixes
+not_prefixes BadOpcode e = cc
+not_prefixes BadOperand e = cc
+not_prefixes Incomplete e = cc
+
+not_long : (f : Fault) → error_of f ≢ TooLong
+not_long BadOpcode e = cc
+not_long BadOperand e = cc
+not_long Incomplete e = cc
+
+one_gap : (f : Fault) → error_of f ≡ IncompleteDecoder → f ≡ Incomplete
+one_gap BadOpcode e = cc
+one_gap BadOperand e = cc
+one_gap Incomplete e = cc
+
+module _ (r : RowRecord) (p : Prefixes) where
+  -- a record or one of its plans refuses as left out
+  abbrev pub HasGap : Type 0
+  HasGap = (r.at_opcode ≡ Some Incomplete) ⊎ ((m : ℕ) × (w : Moment) × ((r.plan m).verdict ≡ Refuses Incomplete w))
+
+  module _ (s : State ℕ) where
+    -- what was settled on the bytes in front, if the answer is this
+    abbrev Settled : Result Reading DecodeError → Type 0
+    Settled a = (bytes rest : List ℕ) × (s.left ≡ bytes ++ rest) × RowGives r p bytes a × ((record_step r p s).after ≡ advanced (length bytes) s)
+
+    settled_by : (a : Result Reading DecodeError) → (record_step r p s).answer ≡ a → a ≢ Err ExhaustedInput → Ends (RowGives r p) (BetweenRow r p) (record_step r p) s → Settled a
+    settled_by a h final (settles bytes rest b front takes _ gives) =
+        let took : record_step r p s ≡ outcome b (advanced (length bytes) s) = takes.takes rest s front in
+        (bytes, rest, front, subst (RowGives r p bytes) (sym (ap (λ o. o.answer) took) ∙ h) gives, ap (λ o. o.after) took)
+    settled_by a h final (runs_out bytes rest front between ends) =
+        absurd (final (sym h ∙ ap (λ o. o.answer) (ends rest [] (sym (append-nil rest)) s front)))
+
+    settled : (a : Result Reading DecodeError) → (record_step r p s).answer ≡ a → a ≢ Err ExhaustedInput → Settled a
+    settled a h final = settled_by a h final (ends_row r p s)
+
+    pub row_read : (reading : Reading) → (record_step r p s).answer ≡ Ok reading → IsReadRow r p reading s (record_step r p s).after
+    row_read reading h =
+        let took = settled (Ok reading) h (λ e. not_ok ExhaustedInput reading (sym e)) in
+        record { bytes = took.0; rest = took.1; front = took.2; spelled = took.3; taken = took.4 }
+
+    pub row_refused : (e : DecodeError) → (record_step r p s).answer ≡ Err e → e ≢ ExhaustedInput → IsRefusedRow r p e s (record_step r p s).after
+    row_refused e h other =
+        let took = settled (Err e) h (λ x. other (same_error e ExhaustedInput x)) in
+        let fault = took.3 in
+        record { fault = fault.0; named = fault.1; bytes = took.0; rest = took.1; front = took.2; refuses = fault.2; taken = took.4 }
+
+    open_by : (record_step r p s).answer ≡ Err ExhaustedInput → Ends (RowGives r p) (BetweenRow r p) (record_step r p) s → IsOpenRow r p s (record_step r p s).after
+    open_by h (settles bytes rest b front takes final gives) =
+        absurd (final (sym (ap (λ o. o.answer) (takes.takes rest s front)) ∙ h))
+    open_by h (runs_out bytes rest front between ends) = record {
+      bytes = bytes;
+      rest = rest;
+      front = front;
+      between = between;
+      longest = λ q more k is. longest (record_step r p) bytes rest q more ends (sym front ∙ k) (stands_row r p q is);
+      taken = ap (λ o. o.after) (ends rest [] (sym (append-nil rest)) s front);
+    }
+
+    pub row_open : (record_step r p s).answer ≡ Err ExhaustedInput → IsOpenRow r p s (record_step r p s).after
+    row_open h = open_by h (ends_row r p s)
+
+    pub row_wherever : (bytes rest : List ℕ) (reading : Reading) → s.left ≡ bytes ++ rest → SpellsRow r p bytes reading → record_step r p s ≡ outcome (Ok reading) (advanced (length bytes) s)
+    row_wherever bytes rest reading front spelled = (takes_row r p bytes reading spelled).takes rest s front
+
+    pub row_refuses : (bytes rest : List ℕ) (fault : Fault) → s.left ≡ bytes ++ rest → RefusesRow r p bytes fault → record_step r p s ≡ outcome (Err (error_of fault)) (advanced (length bytes) s)
+    row_refuses bytes rest fault front refuses = (takes_row_refused r p bytes fault refuses).takes rest s front
+
+    -- ---- which errors come
+
+    pub row_has_no_prefixes : (record_step r p s).answer ≢ Err InvalidPrefixes
+    row_has_no_prefixes h = let is = row_refused InvalidPrefixes h (λ e. cc) in not_prefixes is.fault (sym is.named)
+
+    pub row_has_no_length : (record_step r p s).answer ≢ Err TooLong
+    row_has_no_length h = let is = row_refused TooLong h (λ e. cc) in not_long is.fault (sym is.named)
+
+    gap_of_tail : (m : ℕ) (tail : List ℕ) (f : Fault) → f ≡ Incomplete → RefusesTail (r.plan m) p m tail f → HasGap
+    gap_of_tail m tail f is (at_modrm e _) = inr (m, AtModRM, e ∙ ap (λ x. Refuses x AtModRM) is)
+    gap_of_tail m tail f is (after_address _ e _) = inr (m, AfterAddress, e ∙ ap (λ x. Refuses x AfterAddress) is)
+    gap_of_tail m tail f is (after_suffix e _) = inr (m, AfterSuffix, e ∙ ap (λ x. Refuses x AfterSuffix) is)
+    gap_of_tail m tail f is (no_name _ _ _ e) = absurd (named (sym e ∙ is))
+      where
+        named : BadOpcode ≡ Incomplete → ⊥
+        named e = cc
+
+    gap_of_row : (bytes : List ℕ) (f : Fault) → f ≡ Incomplete → RefusesRow r p bytes f → HasGap
+    gap_of_row bytes f is (at_opcode e _) = inl (e ∙ ap (λ x. Some x) is)
+    gap_of_row bytes f is (behind_modrm modrm tail _ _ _ t) = gap_of_tail (modrm_of r.modrm modrm) tail f is t
+
+    pub row_left_out : (record_step r p s).answer ≡ Err IncompleteDecoder → HasGap
+    row_left_out h = let is = row_refused IncompleteDecoder h (λ e. cc) in gap_of_row is.bytes is.fault (one_gap is.fault (sym is.named)) is.refuses

@@ -1,0 +1,230 @@
+-- What the pieces of a row give: tied slots and operands, and the shape of the raw fields.
+use Rattle.std.proofs.Common.{◌≡◌, ℕ, zero, suc, ◌<◌, ◌≤◌, Bool, true, false, if◌then◌else◌, List, [], ◌∷◌, length, Option, Some, None, ℤ, Ok, slice_index_or, refl, sym, ap, subst, ◌∙◌, arith}
+use Rattle.x86_regs.specs.declared.RegSpec.{RegSpec}
+use Rattle.x86_arch.specs.Reader.{State}
+use Rattle.x86_fields.specs.declared.prefixes.Prefixes.{Prefixes}
+use Rattle.x86_fields.specs.declared.raw.Raw.{Raw}
+use Rattle.x86_fields.specs.Address.{base_of, index_of, scale_by}
+use Rattle.x86_operands.specs.declared.operands.Slot.{Slot}
+use Rattle.x86_operands.specs.declared.operands.Slot.TheVariants as slots
+use Rattle.x86_operands.specs.declared.operands.Operand.{Operand}
+use Rattle.x86_operands.specs.declared.operands.Operand.TheVariants as operands
+use Rattle.x86_operands.specs.declared.plans.RegisterSlot.TheVariants as reg_slot
+use Rattle.x86_operands.specs.declared.plans.PointerSlot.TheVariants as pointer
+use Rattle.x86_operands.specs.declared.plans.OperandEncoding.{OperandEncoding}
+use Rattle.x86_operands.specs.declared.plans.OperandEncoding.TheVariants.{G, Gmm, E, Emm, M, U, Umm, Fixed, Pointer, I8, I16, I32, I64, I32From16, I64Whole, U8, U16, X8, X16, ConstantI8, ConstantU8, Address32, Address64}
+use Rattle.x86_operands.specs.declared.plans.OperandEncodings.{OperandEncodings}
+use Rattle.x86_operands.specs.declared.plans.OperandEncodings.TheVariants.{Zero, One, Two, Three, Four}
+use Rattle.x86_operands.specs.declared.plans.Plan.{Plan}
+use Rattle.x86_operands.specs.declared.reader.Reading.{Reading}
+use Rattle.x86_fields.specs.Raw.{is_zero}
+use Rattle.x86_operands.specs.Shape.{shape_by, shape}
+use Rattle.x86_operands.specs.Plans.{RowRecord, list_of}
+use Rattle.x86_operands.specs.PlanSteps.{pair_at, four_of, record_step}
+use Rattle.x86_operands.specs.Ties.{is_decoded, suits, slot_read, operand_read, AreTied, is_modrm_encoding, names_modrm, encodings_of, HasShapeAt}
+use Rattle.x86_operands.specs.Pieces.{modrm_of, operand_gives, SpellsOperands, SpellsMemory, SpellsRow}
+use Rattle.x86_operands.proofs.RowLemmas.{row_read}
+
+-- ---- one operand
+
+abbrev IsTied : Slot × Operand → Type 0
+IsTied x = (is_decoded x.1 ≡ true) × (suits x.0 x.1 ≡ true)
+
+by_zero : (t : Bool) (x y : Slot × Operand) → IsTied x → IsTied y → IsTied (if t then x else y)
+by_zero true x y h k = h
+by_zero false x y h k = k
+
+shape_by_tied : (b i : Option RegSpec) (s : ℕ) (d : ℤ) → IsTied (shape_by b i s d)
+shape_by_tied (Some b) (Some i) s d = by_zero (is_zero d) _ _ (refl, refl) (refl, refl)
+shape_by_tied (Some b) None s d = by_zero (is_zero d) _ _ (refl, refl) (refl, refl)
+shape_by_tied None (Some i) s d = by_zero (is_zero d) _ _ (refl, refl) (refl, refl)
+shape_by_tied None None s d = (refl, refl)
+
+shape_tied : (raw : Raw) → IsTied (shape raw)
+unfolding shape
+shape_tied raw = shape_by_tied (base_of raw) (index_of raw) (scale_by raw.sib) raw.disp
+
+operand_tied : (s : OperandEncoding) (p : Prefixes) (m : ℕ) (memory : Option Raw) (bytes : List ℕ) → IsTied (operand_gives s p m memory bytes)
+operand_tied (G c) p m memory bytes = (refl, refl)
+operand_tied Gmm p m memory bytes = (refl, refl)
+operand_tied (E c) p m None bytes = (refl, refl)
+operand_tied (E c) p m (Some raw) bytes = shape_tied raw
+operand_tied Emm p m None bytes = (refl, refl)
+operand_tied Emm p m (Some raw) bytes = shape_tied raw
+operand_tied M p m None bytes = (refl, refl)
+operand_tied M p m (Some raw) bytes = shape_tied raw
+operand_tied (U c) p m None bytes = (refl, refl)
+operand_tied (U c) p m (Some raw) bytes = shape_tied raw
+operand_tied Umm p m None bytes = (refl, refl)
+operand_tied Umm p m (Some raw) bytes = shape_tied raw
+operand_tied (Fixed reg_slot.Reg reg) p m memory bytes = (refl, refl)
+operand_tied (Fixed reg_slot.Rm reg) p m memory bytes = (refl, refl)
+operand_tied (Fixed reg_slot.Third reg) p m memory bytes = (refl, refl)
+operand_tied (Pointer pointer.Deref reg) p m memory bytes = (refl, refl)
+operand_tied (Pointer pointer.DerefEsi reg) p m memory bytes = (refl, refl)
+operand_tied (Pointer pointer.DerefEdi reg) p m memory bytes = (refl, refl)
+operand_tied (Pointer pointer.DerefRsi reg) p m memory bytes = (refl, refl)
+operand_tied (Pointer pointer.DerefRdi reg) p m memory bytes = (refl, refl)
+operand_tied I8 p m memory bytes = (refl, refl)
+operand_tied I16 p m memory bytes = (refl, refl)
+operand_tied I32 p m memory bytes = (refl, refl)
+operand_tied I64 p m memory bytes = (refl, refl)
+operand_tied I32From16 p m memory bytes = (refl, refl)
+operand_tied I64Whole p m memory bytes = (refl, refl)
+operand_tied U8 p m memory bytes = (refl, refl)
+operand_tied U16 p m memory bytes = (refl, refl)
+operand_tied X8 p m memory bytes = (refl, refl)
+operand_tied X16 p m memory bytes = (refl, refl)
+operand_tied (ConstantI8 z) p m memory bytes = (refl, refl)
+operand_tied (ConstantU8 n) p m memory bytes = (refl, refl)
+operand_tied Address32 p m memory bytes = (refl, refl)
+operand_tied Address64 p m memory bytes = (refl, refl)
+
+-- ---- the operands of a plan
+
+abbrev pairs_tied : List (Slot × Operand) → Type 0
+pairs_tied xs = (k : ℕ) → k < length xs → IsTied (pair_at xs k)
+
+cons_tied : (x : Slot × Operand) (xs : List (Slot × Operand)) → IsTied x → pairs_tied xs → pairs_tied (x ∷ xs)
+cons_tied x xs h t zero below = h
+cons_tied x xs h t (suc k) below = t k (omega arith)
+
+operands_tied : (ss : List OperandEncoding) (p : Prefixes) (m : ℕ) (memory : Option Raw) (bytes : List ℕ) (given : List (Slot × Operand)) → SpellsOperands ss p m memory bytes given → (length given ≡ length ss) × pairs_tied given
+operands_tied [] p m memory bytes given h = (ap length h.1, λ k below. absurd (let n : length given ≡ 0 = ap length h.1 in omega arith))
+operands_tied (s ∷ rest) p m memory bytes given h =
+    let t = operands_tied rest p m memory h.tail h.others h.behind in
+    let more : length h.others ≡ length rest = t.0 in
+    (ap length h.gives ∙ omega arith, subst pairs_tied (sym h.gives) (cons_tied (operand_gives s p m memory h.immediate) h.others (operand_tied s p m memory h.immediate) t.1))
+
+at_most_four : (ss : OperandEncodings) → length (list_of ss) ≤ 4
+at_most_four Zero = omega arith
+at_most_four (One a) = omega arith
+at_most_four (Two a b) = omega arith
+at_most_four (Three a b c) = omega arith
+at_most_four (Four a b c d) = omega arith
+
+-- ---- ModRM's memory operand
+
+modrm_gives : (s : OperandEncoding) (p : Prefixes) (m : ℕ) (raw : Raw) (bytes : List ℕ) → is_modrm_encoding s ≡ true → operand_gives s p m (Some raw) bytes ≡ shape raw
+modrm_gives (E c) p m raw bytes e = refl
+modrm_gives Emm p m raw bytes e = refl
+modrm_gives M p m raw bytes e = refl
+modrm_gives (G c) p m raw bytes e = absurd cc
+modrm_gives Gmm p m raw bytes e = absurd cc
+modrm_gives (U c) p m raw bytes e = absurd cc
+modrm_gives Umm p m raw bytes e = absurd cc
+modrm_gives (Fixed slot reg) p m raw bytes e = absurd cc
+modrm_gives (Pointer slot reg) p m raw bytes e = absurd cc
+modrm_gives I8 p m raw bytes e = absurd cc
+modrm_gives I16 p m raw bytes e = absurd cc
+modrm_gives I32 p m raw bytes e = absurd cc
+modrm_gives I64 p m raw bytes e = absurd cc
+modrm_gives I32From16 p m raw bytes e = absurd cc
+modrm_gives I64Whole p m raw bytes e = absurd cc
+modrm_gives U8 p m raw bytes e = absurd cc
+modrm_gives U16 p m raw bytes e = absurd cc
+modrm_gives X8 p m raw bytes e = absurd cc
+modrm_gives X16 p m raw bytes e = absurd cc
+modrm_gives (ConstantI8 z) p m raw bytes e = absurd cc
+modrm_gives (ConstantU8 n) p m raw bytes e = absurd cc
+modrm_gives Address32 p m raw bytes e = absurd cc
+modrm_gives Address64 p m raw bytes e = absurd cc
+
+abbrev StandsAt : List (Slot × Operand) → ℕ → Raw → Type 0
+StandsAt xs k raw = (k < length xs) × (pair_at xs k ≡ shape raw)
+
+memory_at : (ss : List OperandEncoding) (p : Prefixes) (m : ℕ) (raw : Raw) (bytes : List ℕ) (given : List (Slot × Operand)) (k : ℕ) → SpellsOperands ss p m (Some raw) bytes given → names_modrm ss k ≡ true → StandsAt given k raw
+memory_at [] p m raw bytes given k h e = absurd cc
+memory_at (s ∷ rest) p m raw bytes given zero h e =
+    subst (λ l. StandsAt l zero raw) (sym h.gives) (omega arith, modrm_gives s p m raw h.immediate e)
+memory_at (s ∷ rest) p m raw bytes given (suc k) h e =
+    let t = memory_at rest p m raw h.tail h.others k h.behind e in
+    let below : k < length h.others = t.0 in
+    subst (λ l. StandsAt l (suc k) raw) (sym h.gives) (omega arith, t.1)
+
+-- 67 of the raw fields is that of the prefixes
+same_address_size : (p : Prefixes) (m : ℕ) (bytes : List ℕ) (memory : Option Raw) (raw : Raw) → SpellsMemory p m bytes memory → memory ≡ Some raw → raw.address_size ≡ p.address_size
+same_address_size p m bytes None raw h e = absurd cc
+same_address_size p m bytes (Some other) raw h e =
+    let same : other ≡ raw = cc in
+    let fields = h.1.fields in
+    ap (λ x. x.address_size) (sym same) ∙ ap (λ x. x.address_size) fields
+
+-- ---- indices
+
+-- beyond the last pair is nothing
+pair_beyond : (xs : List (Slot × Operand)) (k : ℕ) → length xs ≤ k → pair_at xs k ≡ (slots.Nothing, operands.Nothing)
+pair_beyond [] k le = refl
+pair_beyond (x ∷ xs) zero le = absurd (omega arith)
+pair_beyond (x ∷ xs) (suc k) le = pair_beyond xs k (omega arith)
+
+slot_in : (xs : List (Slot × Operand)) (k : ℕ) → length xs ≤ 4 → slice_index_or (four_of xs).slots k slots.Nothing ≡ (pair_at xs k).0
+slot_in xs zero few = refl
+slot_in xs (suc zero) few = refl
+slot_in xs (suc (suc zero)) few = refl
+slot_in xs (suc (suc (suc zero))) few = refl
+slot_in xs (suc (suc (suc (suc k)))) few = sym (ap (λ x. x.0) (pair_beyond xs (suc (suc (suc (suc k)))) (omega arith)))
+
+operand_in : (xs : List (Slot × Operand)) (k : ℕ) → length xs ≤ 4 → slice_index_or (four_of xs).operands k operands.Nothing ≡ (pair_at xs k).1
+operand_in xs zero few = refl
+operand_in xs (suc zero) few = refl
+operand_in xs (suc (suc zero)) few = refl
+operand_in xs (suc (suc (suc zero))) few = refl
+operand_in xs (suc (suc (suc (suc k)))) few = sym (ap (λ x. x.1) (pair_beyond xs (suc (suc (suc (suc k)))) (omega arith)))
+
+module _ (r : RowRecord) (p : Prefixes) (bytes : List ℕ) (reading : Reading) (asked : SpellsRow r p bytes reading) where
+  abbrev given : List (Slot × Operand)
+  given = asked.behind.pieces.given
+
+  abbrev m : ℕ
+  m = modrm_of r.modrm asked.modrm
+
+  abbrev plan : Plan
+  plan = r.plan m
+
+  tied : (length given ≡ length (list_of (plan).encodings)) × pairs_tied given
+  tied = operands_tied (list_of (plan).encodings) p m asked.behind.pieces.memory asked.behind.pieces.immediates given asked.behind.pieces.immediates_asked
+
+  counts : reading.count ≡ length given
+  counts = ap (λ x. x.count) asked.behind.gives
+
+  few_given : length given ≤ 4
+  few_given = let t = tied.0 in let f = at_most_four (plan).encodings in omega arith
+
+  slot_here : (k : ℕ) → slot_read reading k ≡ (pair_at given k).0
+  slot_here k = ap (λ x. slice_index_or x.slots k slots.Nothing) asked.behind.gives ∙ slot_in given k few_given
+
+  operand_here : (k : ℕ) → operand_read reading k ≡ (pair_at given k).1
+  operand_here k = ap (λ x. slice_index_or x.operands k operands.Nothing) asked.behind.gives ∙ operand_in given k few_given
+
+  nothing_here : (k : ℕ) → reading.count ≤ k → pair_at given k ≡ (slots.Nothing, operands.Nothing)
+  nothing_here k le = pair_beyond given k (let c = counts in omega arith)
+
+  pub spelled_tied : AreTied reading
+  spelled_tied = record {
+    few = let c = counts in let f = few_given in omega arith;
+    decoded = λ k below. ap is_decoded (operand_here k) ∙ (tied.1 k (let c = counts in omega arith)).0;
+    suited = λ k below. ap (λ o. suits (slot_read reading k) o) (operand_here k) ∙ ap (λ s. suits s (pair_at given k).1) (slot_here k) ∙ (tied.1 k (let c = counts in omega arith)).1;
+    empty_slots = λ k le. slot_here k ∙ ap (λ x. x.0) (nothing_here k le);
+    empty_operands = λ k le. operand_here k ∙ ap (λ x. x.1) (nothing_here k le);
+  }
+
+  module _ (raw : Raw) (memory : asked.behind.pieces.memory ≡ Some raw) where
+    -- 67 of the raw fields is that of the prefixes
+    pub memory_size_is : raw.address_size ≡ p.address_size
+    memory_size_is = same_address_size p m asked.behind.pieces.address asked.behind.pieces.memory raw asked.behind.pieces.address_asked memory
+
+    -- where an operand encoding names the memory of ModRM stand its slot and its operand
+    pub memory_stands : (k : ℕ) → names_modrm (encodings_of r p bytes reading asked) k ≡ true → HasShapeAt reading k raw
+    memory_stands k named =
+        let stands : StandsAt given k raw = memory_at (list_of (plan).encodings) p m raw asked.behind.pieces.immediates given k (subst (λ o. SpellsOperands (list_of (plan).encodings) p m o asked.behind.pieces.immediates given) memory asked.behind.pieces.immediates_asked) named in
+        let within : k < length given = stands.0 in
+        record {
+          below = let c = counts in omega arith;
+          slot = slot_here k ∙ ap (λ x. x.0) stands.1;
+          operand = operand_here k ∙ ap (λ x. x.1) stands.1;
+        }
+
+-- what is read is tied
+pub read_tied : (r : RowRecord) (p : Prefixes) (s : State ℕ) (reading : Reading) → (record_step r p s).answer ≡ Ok reading → AreTied reading
+read_tied r p s reading h = let is = row_read r p s reading h in spelled_tied r p is.bytes reading is.spelled

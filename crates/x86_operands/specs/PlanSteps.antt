@@ -1,0 +1,189 @@
+-- The walk behind an opcode byte, as steps.
+use Rattle.std.specs.Prelude.{ℕ, Bool, true, false, if◌then◌else◌, Option, Some, None, List, [], ◌∷◌, length, zero, suc}
+use Rattle.std.specs.Int.{w8, w16, w32, w64, cast_signed}
+use Rattle.x86_regs.specs.declared.Segment.TheVariants.{ES}
+use Rattle.x86_regs.specs.declared.RegisterClass.{RegisterClass}
+use Rattle.x86_regs.specs.declared.RegSpec.{RegSpec}
+use Rattle.x86_regs.specs.declared.RegisterClass.TheVariants.{Q, MM}
+use Rattle.x86_fields.specs.declared.errors.DecodeError.{DecodeError}
+use Rattle.x86_fields.specs.declared.errors.DecodeError.TheVariants.{InvalidOpcode, InvalidOperand, IncompleteDecoder}
+use Rattle.x86_fields.specs.declared.prefixes.Prefixes.{Prefixes}
+use Rattle.x86_fields.specs.declared.raw.Raw.{Raw}
+use Rattle.x86_fields.specs.ModRM.{reg_field, rm_field, is_memory, absent_modrm, as_register}
+use Rattle.x86_fields.specs.Raw.{read_raw}
+use Rattle.x86_fields.specs.Steps.{Step, pure, refuse, ◌>>=◌, next_byte, number_step}
+use Rattle.x86_operands.specs.declared.operands.Slot.{Slot}
+use Rattle.x86_operands.specs.declared.operands.Slot.TheVariants as slots
+use Rattle.x86_operands.specs.declared.operands.Operand.{Operand}
+use Rattle.x86_operands.specs.declared.operands.Operand.TheVariants as operands
+use Rattle.x86_operands.specs.declared.plans.RegisterSlot.{RegisterSlot}
+use Rattle.x86_operands.specs.declared.plans.RegisterSlot.TheVariants as reg_slot
+use Rattle.x86_operands.specs.declared.plans.PointerSlot.{PointerSlot}
+use Rattle.x86_operands.specs.declared.plans.PointerSlot.TheVariants as pointer
+use Rattle.x86_operands.specs.declared.plans.OperandEncoding.{OperandEncoding}
+use Rattle.x86_operands.specs.declared.plans.OperandEncoding.TheVariants.{G, Gmm, E, Emm, M, U, Umm, Fixed, Pointer, I8, I16, I32, I64, I32From16, I64Whole, U8, U16, X8, X16, ConstantI8, ConstantU8, Address32, Address64}
+use Rattle.x86_operands.specs.declared.plans.Moment.{Moment}
+use Rattle.x86_operands.specs.declared.plans.Moment.TheVariants.{AtModRM, AfterAddress, AfterSuffix}
+use Rattle.x86_operands.specs.declared.plans.Fault.{Fault}
+use Rattle.x86_operands.specs.declared.plans.Fault.TheVariants.{BadOpcode, BadOperand, Incomplete}
+use Rattle.x86_operands.specs.declared.plans.Verdict.{Verdict}
+use Rattle.x86_operands.specs.declared.plans.Verdict.TheVariants.{Accepts, NamedBySuffix, Refuses}
+use Rattle.x86_operands.specs.declared.plans.PrefixChange.{PrefixChange}
+use Rattle.x86_operands.specs.declared.plans.PrefixChange.TheVariants.{Keeps, ClearsOperandSize, SetsEs}
+use Rattle.x86_operands.specs.declared.plans.ModrmUse.{ModrmUse}
+use Rattle.x86_operands.specs.declared.plans.ModrmUse.TheVariants.{Absent, EitherForm, Registers}
+use Rattle.x86_operands.specs.declared.plans.Plan.{Plan}
+use Rattle.x86_operands.specs.declared.reader.Reading.{Reading}
+use Rattle.x86_fields.specs.Sizes.{register_of}
+use Rattle.x86_operands.specs.Shape.{shape}
+use Rattle.x86_operands.specs.Suffix.{suffix_opcode}
+use Rattle.x86_operands.specs.Plans.{RowRecord, list_of, reg_number, rm_number}
+
+-- ---- operands
+
+abbrev pub register_slot : RegisterSlot → Slot
+register_slot reg_slot.Reg = slots.Reg
+register_slot reg_slot.Rm = slots.Rm
+register_slot reg_slot.Third = slots.Third
+
+abbrev pub pointer_slot : PointerSlot → Slot
+pointer_slot pointer.Deref = slots.Deref
+pointer_slot pointer.DerefEsi = slots.DerefEsi
+pointer_slot pointer.DerefEdi = slots.DerefEdi
+pointer_slot pointer.DerefRsi = slots.DerefRsi
+pointer_slot pointer.DerefRdi = slots.DerefRdi
+
+-- the operand of rm: memory where it was read, else the register
+abbrev pub memory_or : RegSpec → Option Raw → Slot × Operand
+memory_or reg None = (slots.Rm, operands.Register reg)
+memory_or reg (Some raw) = shape raw
+
+abbrev pub rm_operand : RegisterClass → Prefixes → ℕ → Option Raw → Slot × Operand
+rm_operand c p m memory = memory_or (register_of c p (rm_number m p)) memory
+
+-- the same for an mm register, which no B extends
+abbrev pub rm_mm_operand : ℕ → Option Raw → Slot × Operand
+rm_mm_operand m memory = memory_or (record { num = rm_field m; class = MM }) memory
+
+-- What an operand encoding gives: its slot and its operand.
+unfoldable pub operand_step : OperandEncoding → Prefixes → ℕ → Option Raw → Step (Slot × Operand)
+operand_step (G c) p m memory = pure (slots.Reg, operands.Register (register_of c p (reg_number m p)))
+operand_step Gmm p m memory = pure (slots.Reg, operands.Register (record { num = reg_field m; class = MM }))
+operand_step (E c) p m memory = pure (rm_operand c p m memory)
+operand_step Emm p m memory = pure (rm_mm_operand m memory)
+operand_step M p m memory = pure (rm_operand Q p m memory)
+operand_step (U c) p m memory = pure (rm_operand c p m memory)
+operand_step Umm p m memory = pure (rm_mm_operand m memory)
+operand_step (Fixed slot reg) p m memory = pure (register_slot slot, operands.Register reg)
+operand_step (Pointer slot reg) p m memory = pure (pointer_slot slot, operands.MemDeref reg)
+operand_step I8 p m memory = number_step w8 >>= λ n. pure (slots.ImmI8, operands.ImmediateI8 (cast_signed w8 n))
+operand_step I16 p m memory = number_step w16 >>= λ n. pure (slots.ImmI16, operands.ImmediateI16 (cast_signed w16 n))
+operand_step I32 p m memory = number_step w32 >>= λ n. pure (slots.ImmI32, operands.ImmediateI32 (cast_signed w32 n))
+operand_step I64 p m memory = number_step w32 >>= λ n. pure (slots.ImmI64, operands.ImmediateI64 (cast_signed w32 n))
+operand_step I32From16 p m memory = number_step w16 >>= λ n. pure (slots.ImmI32, operands.ImmediateI32 (cast_signed w16 n))
+operand_step I64Whole p m memory = number_step w64 >>= λ n. pure (slots.ImmI64, operands.ImmediateI64 (cast_signed w64 n))
+operand_step U8 p m memory = number_step w8 >>= λ n. pure (slots.ImmU8, operands.ImmediateU8 n)
+operand_step U16 p m memory = number_step w16 >>= λ n. pure (slots.ImmU16, operands.ImmediateU16 n)
+operand_step X8 p m memory = number_step w8 >>= λ n. pure (slots.ImmInDisp, operands.ImmediateU16 n)
+operand_step X16 p m memory = number_step w16 >>= λ n. pure (slots.ImmInDisp, operands.ImmediateU16 n)
+operand_step (ConstantI8 z) p m memory = pure (slots.ImmI8, operands.ImmediateI8 z)
+operand_step (ConstantU8 n) p m memory = pure (slots.ImmU8, operands.ImmediateU8 n)
+operand_step Address32 p m memory = number_step w32 >>= λ n. pure (slots.DispU32, operands.AbsoluteU32 n)
+operand_step Address64 p m memory = number_step w64 >>= λ n. pure (slots.DispU64, operands.AbsoluteU64 n)
+
+-- the pairs in order
+unfoldable pub operands_step : List OperandEncoding → Prefixes → ℕ → Option Raw → Step (List (Slot × Operand))
+operands_step [] p m memory = pure []
+operands_step (s ∷ rest) p m memory = operand_step s p m memory >>= λ first. operands_step rest p m memory >>= λ others. pure (first ∷ others)
+
+-- what the operand encodings of a record gave
+pub record Given : Type 0 where
+  pub count : ℕ
+  pub slots : List Slot
+  pub operands : List Operand
+
+-- the pair at an index, and beyond the last one nothing
+abbrev pub pair_at : List (Slot × Operand) → ℕ → Slot × Operand
+pair_at [] n = (slots.Nothing, operands.Nothing)
+pair_at (x ∷ rest) zero = x
+pair_at (x ∷ rest) (suc n) = pair_at rest n
+
+abbrev pub four_of : List (Slot × Operand) → Given
+four_of xs = record {
+  count = length xs;
+  slots = (pair_at xs 0).0 ∷ (pair_at xs 1).0 ∷ (pair_at xs 2).0 ∷ (pair_at xs 3).0 ∷ [];
+  operands = (pair_at xs 0).1 ∷ (pair_at xs 1).1 ∷ (pair_at xs 2).1 ∷ (pair_at xs 3).1 ∷ [];
+}
+
+-- the pairs, filled up to four
+unfoldable pub given_step : List OperandEncoding → Prefixes → ℕ → Option Raw → Step Given
+given_step encodings p m memory = operands_step encodings p m memory >>= λ xs. pure (four_of xs)
+
+-- ---- refusals
+
+abbrev pub error_of : Fault → DecodeError
+error_of BadOpcode = InvalidOpcode
+error_of BadOperand = InvalidOperand
+error_of Incomplete = IncompleteDecoder
+
+abbrev pub same_moment : Moment → Moment → Bool
+same_moment AtModRM AtModRM = true
+same_moment AfterAddress AfterAddress = true
+same_moment AfterSuffix AfterSuffix = true
+same_moment a b = false
+
+-- a refusal at its moment
+abbrev pub refuse_at : Verdict → Moment → Step (Unit {0})
+refuse_at Accepts at = pure tt
+refuse_at NamedBySuffix at = pure tt
+refuse_at (Refuses fault moment) at = if same_moment moment at then refuse (error_of fault) else pure tt
+
+-- ---- the opcode
+
+abbrev pub named_step : Option ℕ → Step ℕ
+named_step None = refuse InvalidOpcode
+named_step (Some opcode) = pure opcode
+
+abbrev pub read_opcode : Verdict → ℕ → Step ℕ
+read_opcode NamedBySuffix opcode = next_byte >>= λ b. named_step (suffix_opcode b)
+read_opcode verdict opcode = pure opcode
+
+-- ---- the whole record
+
+-- the memory operand's bytes, in the memory form
+abbrev pub read_memory : Prefixes → ℕ → Step (Option Raw)
+read_memory p m = if is_memory m then (read_raw p m >>= λ raw. pure (Some raw)) else pure None
+
+-- the prefixes with the record's change
+abbrev pub changed : PrefixChange → Prefixes → Prefixes
+changed Keeps p = p
+changed ClearsOperandSize p = record p { operand_size = false }
+changed SetsEs p = record p { segment = ES }
+
+abbrev pub reading_from : Plan → Prefixes → ℕ → Given → Reading
+reading_from plan p opcode given = record { opcode = opcode; count = given.count; slots = given.slots; operands = given.operands; mem_size = plan.size; prefixes = changed plan.change p }
+
+-- what a record asks behind its ModRM
+unfoldable pub read_plan : Plan → Prefixes → ℕ → Step Reading
+read_plan plan p m =
+    refuse_at plan.verdict AtModRM >>= λ _.
+    read_memory p m >>= λ memory.
+    refuse_at plan.verdict AfterAddress >>= λ _.
+    given_step (list_of plan.encodings) p m memory >>= λ given.
+    read_opcode plan.verdict plan.opcode >>= λ opcode.
+    refuse_at plan.verdict AfterSuffix >>= λ _.
+    pure (reading_from plan p opcode given)
+
+-- ModRM as the row uses it: a byte that isn't there reads as C0, and one whose mod isn't looked at as mod 11
+abbrev pub read_modrm : ModrmUse → Step ℕ
+read_modrm Absent = pure absent_modrm
+read_modrm EitherForm = next_byte >>= λ m. pure m
+read_modrm Registers = next_byte >>= λ m. pure (as_register m)
+
+abbrev pub refuse_fault : Option Fault → Step (Unit {0})
+refuse_fault None = pure tt
+refuse_fault (Some fault) = refuse (error_of fault)
+
+-- what a row asks behind its opcode
+unfoldable pub record_step : RowRecord → Prefixes → Step Reading
+record_step r p = refuse_fault r.at_opcode >>= λ _. read_modrm r.modrm >>= λ m. read_plan (r.plan m) p m

@@ -1,0 +1,389 @@
+//! The operands of an instruction: what their encodings give, written where it stays.
+
+ghost use Rattle.std.specs.Prelude.{◌≡◌, ◌<◌, ◌≢◌, true};
+ghost use Rattle.x86_arch.specs.Reader.{State};
+ghost use Rattle.x86_fields.specs.Steps.{outcome};
+ghost use Rattle.x86_fields.specs.declared.prefixes.Prefixes.{Prefixes};
+ghost use Rattle.x86_operands.specs.declared.encodings.Last.TheVariants.{Absent};
+ghost use Rattle.x86_operands.specs.declared.order.Position.TheVariants.{Nowhere};
+ghost use Rattle.x86_operands.specs.PlanSteps.{memory_or, read_plan, pointer_slot, register_slot};
+ghost use Rattle.x86_operands.specs.Encodings.{rm_read, reg_pair, fixed_pair, no_operands, reading_with, plan_of, held, put_in, put_at, put_encoded, last_encoding, encoded_read, front_read, allows, is_sound, slot_in, operand_in};
+
+use crate::encodings::{Behind, FormEncoding, Last, Width};
+use crate::operands::{Operand, Slot};
+use crate::order::Position;
+use crate::plans::{
+    OperandEncoding, PointerSlot, RegisterSlot, reg_number, register_at, rm_number,
+};
+use crate::shapes::shape;
+use x86_arch::Reader;
+use x86_fields::{
+    DecodeError, ModRM, Prefixes, Raw, read_raw, read_u8, read_u16, read_u32, read_u64,
+};
+use x86_opcodes::Opcode;
+use x86_regs::{RegSpec, RegisterClass};
+
+/// The operands of an instruction, in the order in which a listing names them.
+#[derive(Clone, Copy, PartialEq, Eq, Debug, Drop)]
+pub struct Operands {
+    /// Where each operand comes from.
+    pub slots: [Slot; 4],
+    pub operands: [Operand; 4],
+    /// How many there are, at most 4. What stands at this index and above it is no operand.
+    pub count: u8,
+    /// The size in bytes of what is read or written in memory: 0 for none, and 63 where the processor decides.
+    pub mem_size: u8,
+}
+
+fn register_slot(slot: RegisterSlot) -> Slot
+    ensures { result ≡ register_slot slot }
+{
+    match slot {
+        RegisterSlot::Reg => Slot::Reg,
+        RegisterSlot::Rm => Slot::Rm,
+        RegisterSlot::Third => Slot::Third,
+    }
+}
+
+fn pointer_slot(slot: PointerSlot) -> Slot
+    ensures { result ≡ pointer_slot slot }
+{
+    match slot {
+        PointerSlot::Deref => Slot::Deref,
+        PointerSlot::DerefEsi => Slot::DerefEsi,
+        PointerSlot::DerefEdi => Slot::DerefEdi,
+        PointerSlot::DerefRsi => Slot::DerefRsi,
+        PointerSlot::DerefRdi => Slot::DerefRdi,
+    }
+}
+
+impl Operands {
+    /// Writes a slot and its operand at an index.
+    #[inline(always)]
+    fn put_at(&mut self, at: usize, slot: Slot, operand: Operand)
+        requires { at < 4 }
+        ensures { self.new ≡ put_at at (slot, operand) self.old }
+    {
+        self.slots[at] = slot;
+        self.operands[at] = operand;
+    }
+
+    #[inline(always)]
+    fn put_register(&mut self, at: usize, slot: Slot, reg: RegSpec)
+        requires { at < 4 }
+        ensures { self.new ≡ put_at at (slot, Operand.Register reg) self.old }
+    {
+        self.put_at(at, slot, Operand::Register { reg });
+    }
+
+    /// The operand of rm: memory where it was read, else the register.
+    fn put_rm(&mut self, at: usize, memory: Option<Raw>, reg: RegSpec)
+        requires { at < 4 }
+        ensures { self.new ≡ put_at at (memory_or reg memory) self.old }
+    {
+        match memory {
+            None => self.put_register(at, Slot::Rm, reg),
+            Some(raw) => {
+                let (slot, operand) = shape(&raw);
+                self.put_at(at, slot, operand);
+            }
+        }
+    }
+
+    #[inline(always)]
+    fn put_i8(&mut self, at: usize, imm: i8)
+        requires { at < 4 }
+        ensures { self.new ≡ put_at at (Slot.ImmI8, Operand.ImmediateI8 imm) self.old }
+    {
+        self.put_at(at, Slot::ImmI8, Operand::ImmediateI8 { imm });
+    }
+
+    #[inline(always)]
+    fn put_u8(&mut self, at: usize, imm: u8)
+        requires { at < 4 }
+        ensures { self.new ≡ put_at at (Slot.ImmU8, Operand.ImmediateU8 imm) self.old }
+    {
+        self.put_at(at, Slot::ImmU8, Operand::ImmediateU8 { imm });
+    }
+
+    #[inline(always)]
+    fn put_i16(&mut self, at: usize, imm: i16)
+        requires { at < 4 }
+        ensures { self.new ≡ put_at at (Slot.ImmI16, Operand.ImmediateI16 imm) self.old }
+    {
+        self.put_at(at, Slot::ImmI16, Operand::ImmediateI16 { imm });
+    }
+
+    #[inline(always)]
+    fn put_u16(&mut self, at: usize, slot: Slot, imm: u16)
+        requires { at < 4 }
+        ensures { self.new ≡ put_at at (slot, Operand.ImmediateU16 imm) self.old }
+    {
+        self.put_at(at, slot, Operand::ImmediateU16 { imm });
+    }
+
+    #[inline(always)]
+    fn put_i32(&mut self, at: usize, imm: i32)
+        requires { at < 4 }
+        ensures { self.new ≡ put_at at (Slot.ImmI32, Operand.ImmediateI32 imm) self.old }
+    {
+        self.put_at(at, Slot::ImmI32, Operand::ImmediateI32 { imm });
+    }
+
+    #[inline(always)]
+    fn put_i64(&mut self, at: usize, imm: i64)
+        requires { at < 4 }
+        ensures { self.new ≡ put_at at (Slot.ImmI64, Operand.ImmediateI64 imm) self.old }
+    {
+        self.put_at(at, Slot::ImmI64, Operand::ImmediateI64 { imm });
+    }
+
+    /// What an operand encoding gives, at an index.
+    #[tactic(auto, unfolding(crate::specs::PlanSteps::operand_step))]
+    #[inline(always)]
+    pub(crate) fn put_encoded<T: Reader<u64, u8>>(
+        &mut self,
+        at: usize,
+        reader: &mut T,
+        encoding: OperandEncoding,
+        prefixes: &Prefixes,
+        modrm: ModRM,
+        memory: Option<Raw>,
+    ) -> Result<(), DecodeError>
+        requires { at < 4 }
+        ensures { outcome (held result self.new) (T.state reader.new) ≡ put_encoded at encoding prefixes.now modrm memory self.old (T.state reader.old) }
+    {
+        match encoding {
+            OperandEncoding::G(class) => {
+                let reg = prefixes.register(class, reg_number(modrm, prefixes));
+                self.put_register(at, Slot::Reg, reg);
+            }
+            OperandEncoding::E(class) | OperandEncoding::U(class) => {
+                let reg = prefixes.register(class, rm_number(modrm, prefixes));
+                self.put_rm(at, memory, reg);
+            }
+            OperandEncoding::M => {
+                let reg = prefixes.register(RegisterClass::Q, rm_number(modrm, prefixes));
+                self.put_rm(at, memory, reg);
+            }
+            OperandEncoding::Gmm => self.put_register(
+                at,
+                Slot::Reg,
+                RegSpec::mm(modrm.reg_field()),
+            ),
+            OperandEncoding::Emm | OperandEncoding::Umm => self.put_rm(
+                at,
+                memory,
+                RegSpec::mm(modrm.rm_field()),
+            ),
+            OperandEncoding::Fixed(slot, reg) => self.put_register(at, register_slot(slot), reg),
+            OperandEncoding::Pointer(slot, base) => {
+                self.put_at(at, pointer_slot(slot), Operand::MemDeref { base });
+            }
+            OperandEncoding::I8 => self.put_i8(at, read_u8(reader)?.cast_signed()),
+            OperandEncoding::I16 => self.put_i16(at, read_u16(reader)?.cast_signed()),
+            OperandEncoding::I32 => self.put_i32(at, read_u32(reader)?.cast_signed()),
+            OperandEncoding::I64 => self.put_i64(at, read_u32(reader)?.cast_signed() as i64),
+            OperandEncoding::I32From16 => self.put_i32(at, read_u16(reader)?.cast_signed() as i32),
+            OperandEncoding::I64Whole => self.put_i64(at, read_u64(reader)?.cast_signed()),
+            OperandEncoding::U8 => self.put_u8(at, read_u8(reader)?),
+            OperandEncoding::U16 => self.put_u16(at, Slot::ImmU16, read_u16(reader)?),
+            OperandEncoding::X8 => self.put_u16(at, Slot::ImmInDisp, read_u8(reader)? as u16),
+            OperandEncoding::X16 => self.put_u16(at, Slot::ImmInDisp, read_u16(reader)?),
+            OperandEncoding::ConstantI8(imm) => self.put_i8(at, imm),
+            OperandEncoding::ConstantU8(imm) => self.put_u8(at, imm),
+            OperandEncoding::Address32 => {
+                let addr = read_u32(reader)?;
+                self.put_at(at, Slot::DispU32, Operand::AbsoluteU32 { addr });
+            }
+            OperandEncoding::Address64 => {
+                let addr = read_u64(reader)?;
+                self.put_at(at, Slot::DispU64, Operand::AbsoluteU64 { addr });
+            }
+        }
+        Ok(())
+    }
+
+    /// Writes a slot and its operand at a position.
+    #[inline(always)]
+    fn put_in(&mut self, at: Position, slot: Slot, operand: Operand)
+        requires { at ≢ Nowhere }
+        ensures { self.new ≡ put_in at (slot, operand) self.old }
+    {
+        self.put_at(at.index(), slot, operand);
+    }
+
+    /// The last operand, as its encoding gives it.
+    #[tactic(auto, using(crate::proofs::OrderLemmas::encoded_at_position))]
+    #[inline(never)]
+    fn read_last<T: Reader<u64, u8>>(
+        &mut self,
+        at: Position,
+        reader: &mut T,
+        last: Last,
+        prefixes: &Prefixes,
+    ) -> Result<(), DecodeError>
+        requires { at ≢ Nowhere }
+        ensures { outcome (held result self.new) (T.state reader.new) ≡ encoded_read at (last_encoding last prefixes.now) prefixes.now self.old (T.state reader.old) }
+    {
+        self.put_encoded(
+            at.index(),
+            reader,
+            last.encoding(prefixes),
+            prefixes,
+            ModRM::absent(),
+            None,
+        )
+    }
+
+    /// The operand of rm.
+    #[tactic(auto, using(crate::proofs::OrderLemmas::rm_in_memory))]
+    #[inline(always)]
+    fn read_rm<T: Reader<u64, u8>>(
+        &mut self,
+        at: Position,
+        reader: &mut T,
+        width: Width,
+        prefixes: &Prefixes,
+        modrm: ModRM,
+    ) -> Result<(), DecodeError>
+        requires { at ≢ Nowhere }
+        ensures { outcome (held result self.new) (T.state reader.new) ≡ rm_read at width prefixes.now modrm self.old (T.state reader.old) }
+    {
+        if modrm.is_memory() {
+            let raw = read_raw(reader, prefixes, modrm.byte())?;
+            let (slot, operand) = shape(&raw);
+            self.put_in(at, slot, operand);
+            return Ok(());
+        }
+        let reg = match width {
+            Width::Mm => RegSpec::mm(modrm.rm_field()),
+            w => prefixes.register(w.class(prefixes), rm_number(modrm, prefixes)),
+        };
+        self.put_in(at, Slot::Rm, Operand::Register { reg });
+        Ok(())
+    }
+
+    /// The register of reg, if it is an operand.
+    #[inline(always)]
+    fn put_reg(&mut self, at: Position, width: Width, prefixes: &Prefixes, modrm: ModRM)
+        ensures { self.new ≡ put_in at (reg_pair width prefixes.now modrm) self.old }
+    {
+        match at {
+            Position::Nowhere => {}
+            at => {
+                let reg = match width {
+                    Width::Mm => RegSpec::mm(modrm.reg_field()),
+                    w => prefixes.register(w.class(prefixes), reg_number(modrm, prefixes)),
+                };
+                self.put_in(at, Slot::Reg, Operand::Register { reg });
+            }
+        }
+    }
+
+    /// The register of the opcode byte, or register 0, if it is an operand.
+    #[inline(always)]
+    fn put_fixed(&mut self, encoding: &FormEncoding, num: u8, prefixes: &Prefixes)
+        requires { num < 8 }
+        ensures { self.new ≡ put_in encoding.now.order.reg (fixed_pair encoding.now.behind encoding.now.reg num prefixes.now) self.old }
+    {
+        match encoding.order.reg {
+            Position::Nowhere => {}
+            at => {
+                let class = encoding.reg.class(prefixes);
+                let reg = match encoding.behind {
+                    Behind::Opcode => register_at(num, class, prefixes),
+                    _ => prefixes.register(class, 0),
+                };
+                self.put_in(at, Slot::Reg, Operand::Register { reg });
+            }
+        }
+    }
+
+    /// The operands of ModRM, or a register that no ModRM names.
+    #[inline(always)]
+    fn read_front<T: Reader<u64, u8>>(
+        &mut self,
+        reader: &mut T,
+        encoding: &FormEncoding,
+        num: u8,
+        prefixes: &Prefixes,
+        modrm: ModRM,
+    ) -> Result<(), DecodeError>
+        requires { num < 8 }
+        ensures { outcome (held result self.new) (T.state reader.new) ≡ front_read encoding.now num prefixes.now modrm self.old (T.state reader.old) }
+    {
+        match encoding.order.rm {
+            Position::Nowhere => self.put_fixed(encoding, num, prefixes),
+            at => {
+                self.read_rm(at, reader, encoding.rm, prefixes, modrm)?;
+                self.put_reg(encoding.order.reg, encoding.reg, prefixes, modrm);
+            }
+        }
+        Ok(())
+    }
+
+    /// No operands.
+    #[inline(always)]
+    pub fn none() -> Operands
+        ensures { result ≡ no_operands }
+    {
+        Operands {
+            slots: [Slot::Nothing; 4],
+            operands: [Operand::Nothing; 4],
+            count: 0,
+            mem_size: 0,
+        }
+    }
+
+    /// What an encoding asks behind ModRM, where it doesn't refuse.
+    #[tactic(auto, using(crate::proofs::OrderLemmas::plan_is_read, crate::proofs::OrderLemmas::last_there, crate::proofs::OrderLemmas::sound_parts))]
+    #[inline(always)]
+    pub fn read<T: Reader<u64, u8>>(
+        &mut self,
+        reader: &mut T,
+        encoding: &FormEncoding,
+        opcode: Opcode,
+        num: u8,
+        prefixes: &Prefixes,
+        modrm: ModRM,
+    ) -> Result<(), DecodeError>
+        requires blank { self.old ≡ no_operands }
+        requires small { num < 8 }
+        requires sound { is_sound encoding.now ≡ true }
+        requires allowed { allows encoding.now.behind modrm ≡ true }
+        ensures { outcome (held result (reading_with opcode prefixes.now self.new)) (T.state reader.new) ≡ read_plan (plan_of encoding.now num opcode prefixes.now modrm) prefixes.now modrm (T.state reader.old) }
+    {
+        self.count = encoding.order.count;
+        self.mem_size = encoding.size_at(modrm).bytes(opcode, prefixes);
+        self.read_front(reader, encoding, num, prefixes, modrm)?;
+        match encoding.order.last {
+            Position::Nowhere => Ok(()),
+            at => self.read_last(at, reader, encoding.last, prefixes),
+        }
+    }
+
+    /// The slot at an index, counted from 0; at the count and above it `Slot::Nothing`.
+    pub fn slot(&self, i: u8) -> Slot
+        requires { i < 4 }
+        ensures { result ≡ slot_in self.now i }
+    {
+        if i < self.count {
+            self.slots[i as usize]
+        } else {
+            Slot::Nothing
+        }
+    }
+
+    /// The operand at an index, counted from 0; at the count and above it `Operand::Nothing`.
+    pub fn operand(&self, i: u8) -> Operand
+        requires { i < 4 }
+        ensures { result ≡ operand_in self.now i }
+    {
+        if i < self.count {
+            self.operands[i as usize]
+        } else {
+            Operand::Nothing
+        }
+    }
+}
