@@ -48,8 +48,8 @@ fn tell_refusals_apart(rt: HostRuntime) {
 fn decode_over(first: &[u8], rest: &[u8]) -> Result<Instruction, DecodeError>
     requires { length first.now + length rest.now ≤ usize.MAX }
 {
-    let mut words = ChunkReader::new(first, rest);
-    InstDecoder::default().decode(&mut words)
+    let mut reader = ChunkReader::new(first, rest);
+    InstDecoder::default().decode(&mut reader)
 }
 
 #[test]

@@ -23,8 +23,8 @@ fn split_input(rt: HostRuntime) {
     let bytes = [0x03, 0x05, 0x00, 0x00, 0x00, 0x00];
     let whole = InstDecoder::default().decode_slice(&bytes);
     assert!(rt; whole.is_ok());
-    for cut in 0..=6usize {
-        let mut reader = ChunkReader::new(&bytes[..cut], &bytes[cut..]);
+    for seam in 0..=6usize {
+        let mut reader = ChunkReader::new(&bytes[..seam], &bytes[seam..]);
         assert!(rt; InstDecoder::default().decode(&mut reader) == whole);
     }
 }

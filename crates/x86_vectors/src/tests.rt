@@ -34,9 +34,9 @@ fn accepted(rt: HostRuntime) {
 
 fn is_refused(vector: &Refused) -> bool {
     let (bytes, error, taken) = *vector;
-    let mut words = U8Reader::new(bytes);
-    let answer = InstDecoder::default().decode(&mut words);
-    answer == Err(error) && words.offset() == taken
+    let mut reader = U8Reader::new(bytes);
+    let answer = InstDecoder::default().decode(&mut reader);
+    answer == Err(error) && reader.offset() == taken
 }
 
 #[test]
@@ -48,12 +48,12 @@ fn refused(rt: HostRuntime) {
 
 /// Whether bytes are refused for this reason, given by its description, and so many of them are taken.
 fn is_refused_as(bytes: &[u8], taken: &str, reason: &str) -> bool {
-    let mut words = U8Reader::new(bytes);
-    match InstDecoder::default().decode(&mut words) {
+    let mut reader = U8Reader::new(bytes);
+    match InstDecoder::default().decode(&mut reader) {
         Ok(_) => false,
         Err(error) => {
             let described = x86_arch::DecodeError::description(&error) == reason;
-            described && taken.parse::<u64>() == Ok(words.offset())
+            described && taken.parse::<u64>() == Ok(reader.offset())
         }
     }
 }
@@ -103,10 +103,10 @@ fn is_open_before_its_end(bytes: &[u8]) -> bool {
 
 /// The encoding with FF behind it answers as by itself.
 fn stays(bytes: &'static [u8]) -> bool {
-    let mut words = ChunkReader::new(bytes, &[0xff]);
+    let mut reader = ChunkReader::new(bytes, &[0xff]);
     let decoder = InstDecoder::default();
-    decoder.decode(&mut words) == decoder.decode_slice(bytes)
-        && words.offset() == bytes.len() as u64
+    decoder.decode(&mut reader) == decoder.decode_slice(bytes)
+        && reader.offset() == bytes.len() as u64
 }
 
 #[test]

@@ -152,8 +152,8 @@ fn has_lawful_lock(strict: bool, entry: &Entry, fields: &Fields) -> bool
     ensures { result ≡ has_lawful_lock strict entry.now fields.now }
 {
     let tail = tail_of(fields);
-    let mut words = U8Reader::new(tail.as_slice());
-    match read_row(strict, entry.row, entry.prefixes, &mut words) {
+    let mut reader = U8Reader::new(tail.as_slice());
+    match read_row(strict, entry.row, entry.prefixes, &mut reader) {
         Ok(reading) => allows_lock(&reading),
         Err(_) => false,
     }

@@ -22,5 +22,5 @@ pub returns-clause-printed : goal.returns-clause-printed
 returns-clause-printed c =
     let groups = c.choices_differ_on_fences.ensures in printed_elsewhere groups.elsewhere groups.by_default groups.strictly
 
-pub returns-clause-place : goal.returns-clause-place
-returns-clause-place c = λ xs f. fence_at_0fae c.printed_words_are_the_printed_rows.ensures.rows f.fence f.is
+pub returns-clause-at_0f_ae : goal.returns-clause-at_0f_ae
+returns-clause-at_0f_ae c = λ xs f. fence_at_0fae c.printed_words_are_the_printed_rows.ensures.rows f.fence f.is
