@@ -12,6 +12,7 @@ use Rattle.x86_operands.specs.declared.plans.Fault.TheVariants.{BadOpcode, BadOp
 use Rattle.x86_operands.specs.declared.plans.Moment.TheVariants.{AfterAddress}
 use Rattle.x86_operands.specs.declared.plans.Plan.{Plan}
 use Rattle.x86_fields.specs.ModRM.{reg_field, is_memory}
+use Rattle.x86_operands.specs.Operands.{undecided_size}
 use Rattle.x86_operands.specs.Plans.{reads, refuses, memory_only, size_by}
 use Rattle.x86_opcodes.specs.Names.{BT, BTS, BTR, BTC, CMPXCHG16B, CMPXCHG8B, VMCLEAR, RDRAND, RDSEED, VMXON, SENDUIPI, RDPID, XRSTORS, XRSTORS64, XSAVEC, XSAVEC64, XSAVES, XSAVES64, VMPTRLD, VMPTRST}
 use Rattle.x86_groups.specs.Vocabulary.{bad_opcode, bad_operand, name_at, on_memory, on_register}
@@ -43,9 +44,9 @@ f3_0fc7 m =
 
 unfoldable pub plain_0fc7 : Prefixes → ℕ → Plan
 plain_0fc7 p m =
-    if reg_field m == 3 then memory_only m (on_memory (by_w p XRSTORS XRSTORS64) 63)
-    else (if reg_field m == 4 then memory_only m (on_memory (by_w p XSAVEC XSAVEC64) 63)
-    else (if reg_field m == 5 then memory_only m (on_memory (by_w p XSAVES XSAVES64) 63)
+    if reg_field m == 3 then memory_only m (on_memory (by_w p XRSTORS XRSTORS64) undecided_size)
+    else (if reg_field m == 4 then memory_only m (on_memory (by_w p XSAVEC XSAVEC64) undecided_size)
+    else (if reg_field m == 5 then memory_only m (on_memory (by_w p XSAVES XSAVES64) undecided_size)
     else (if reg_field m == 6 then (if is_memory m then on_memory VMPTRLD 8 else on_register RDRAND (v_class p))
     else (if reg_field m == 7 then (if is_memory m then on_memory VMPTRST 8 else on_register RDSEED (v_class p))
     else bad_operand))))

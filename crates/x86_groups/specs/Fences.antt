@@ -10,6 +10,7 @@ use Rattle.x86_operands.specs.declared.plans.OperandEncodings.TheVariants.{One}
 use Rattle.x86_operands.specs.declared.plans.PrefixChange.TheVariants.{ClearsOperandSize}
 use Rattle.x86_operands.specs.declared.plans.Plan.{Plan}
 use Rattle.x86_fields.specs.ModRM.{reg_field, rm_field, is_memory}
+use Rattle.x86_operands.specs.Operands.{undecided_size}
 use Rattle.x86_operands.specs.Plans.{reads, size_by, rm_number}
 use Rattle.x86_operands.specs.declared.plans.RegisterSlot.TheVariants as reg_slot
 use Rattle.x86_opcodes.specs.Names.{CLWB, CLFLUSH, CLFLUSHOPT, TPAUSE, UMWAIT, PTWRITE, RDFSBASE, RDGSBASE, WRFSBASE, WRGSBASE, INCSSP, UMONITOR, CLRSSBSY, FXSAVE, XSAVE, FXRSTOR, XRSTOR, LDMXCSR, STMXCSR, XSAVEOPT, LFENCE, MFENCE, SFENCE}
@@ -60,12 +61,12 @@ f3_0fae p m =
 unfoldable pub fence : Bool → ℕ → ℕ → Plan
 fence strict opcode m = if strict && not (rm_field m == 0) then bad_operand else bare opcode
 
--- the size of a saved state is the processor's choice, which 63 stands for
+-- the size of a saved state is the processor's choice
 abbrev pub state_name : ℕ → ℕ
 state_name m = named_by_reg (FXSAVE ∷ FXRSTOR ∷ LDMXCSR ∷ STMXCSR ∷ XSAVE ∷ XRSTOR ∷ XSAVEOPT ∷ CLFLUSH ∷ []) m
 
 abbrev pub state_size : ℕ → ℕ
-state_size m = slice_index_or (63 ∷ 63 ∷ 4 ∷ 4 ∷ 63 ∷ 63 ∷ 63 ∷ 64 ∷ []) (reg_field m) 63
+state_size m = slice_index_or (undecided_size ∷ undecided_size ∷ 4 ∷ 4 ∷ undecided_size ∷ undecided_size ∷ undecided_size ∷ 64 ∷ []) (reg_field m) undecided_size
 
 unfoldable pub plain_0fae : Bool → ℕ → Plan
 plain_0fae strict m =

@@ -6,6 +6,7 @@ use Rattle.x86_operands.specs.declared.plans.OperandEncoding.TheVariants.{M, Fix
 use Rattle.x86_operands.specs.declared.plans.OperandEncodings.TheVariants.{One, Two}
 use Rattle.x86_operands.specs.declared.plans.Plan.{Plan}
 use Rattle.x86_fields.specs.ModRM.{reg_field, rm_field, is_memory}
+use Rattle.x86_operands.specs.Operands.{undecided_size}
 use Rattle.x86_operands.specs.Plans.{reads}
 use Rattle.x86_operands.specs.declared.plans.RegisterSlot.TheVariants as reg_slot
 use Rattle.x86_opcodes.specs.Names.{FADD, FMUL, FCOM, FCOMP, FSUB, FSUBR, FDIV, FDIVR, FIADD, FIMUL, FICOM, FICOMP, FISUB, FISUBR, FIDIV, FIDIVR, FLD, FST, FSTP, FLDENV, FLDCW, FNSTENV, FNSTCW, FCHS, FABS, FTST, FXAM, FLD1, FLDL2T, FLDL2E, FLDPI, FLDLG2, FLDLN2, FLDZ, F2XM1, FYL2X, FPTAN, FPATAN, FXTRACT, FPREM, FPREM1, FDECSTP, FINCSTP, FYL2XP1, FSQRT, FSINCOS, FSIN, FRNDINT, FSCALE, FCOS, FXCH, FNOP, FSTPNCE, FCMOVB, FCMOVE, FCMOVBE, FCMOVU, FUCOM, FUCOMPP, FUCOMP, FILD, FISTTP, FIST, FISTP, FENI8087_NOP, FDISI8087_NOP, FNCLEX, FNINIT, FSETPM287_NOP, FCMOVNB, FCMOVNE, FCMOVNBE, FCMOVNU, FUCOMI, FCOMI, FRSTOR, FNSAVE, FNSTSW, FFREE, FADDP, FMULP, FCOMPP, FSUBRP, FSUBP, FDIVRP, FDIVP, FBLD, FBSTP, FFREEP, FUCOMIP, FCOMIP}
@@ -56,9 +57,9 @@ memory_d9 m =
     else (if reg_field m == 1 then bad_opcode
     else (if reg_field m == 2 then stores FST 4
     else (if reg_field m == 3 then stores FSTP 4
-    else (if reg_field m == 4 then on_memory FLDENV 63
+    else (if reg_field m == 4 then on_memory FLDENV undecided_size
     else (if reg_field m == 5 then on_memory FLDCW 2
-    else (if reg_field m == 6 then on_memory FNSTENV 63
+    else (if reg_field m == 6 then on_memory FNSTENV undecided_size
     else on_memory FNSTCW 2))))))
 
 -- E0 to EF
@@ -157,9 +158,9 @@ memory_dd m =
     else (if reg_field m == 1 then stores FISTTP 8
     else (if reg_field m == 2 then stores FST 8
     else (if reg_field m == 3 then stores FSTP 8
-    else (if reg_field m == 4 then on_memory FRSTOR 63
+    else (if reg_field m == 4 then on_memory FRSTOR undecided_size
     else (if reg_field m == 5 then bad_opcode
-    else (if reg_field m == 6 then on_memory FNSAVE 63
+    else (if reg_field m == 6 then on_memory FNSAVE undecided_size
     else on_memory FNSTSW 2))))))
 
 unfoldable pub register_dd : ℕ → Plan

@@ -1,5 +1,6 @@
 //! Bit tests with an immediate, and 0F C7.
 ghost use Rattle.std.specs.Prelude.{◌≡◌};
+ghost use Rattle.x86_operands.specs.Operands.{undecided_size};
 ghost use Rattle.x86_operands.specs.Plans.{memory_only};
 ghost use Rattle.x86_groups.specs.Vocabulary.{on_memory};
 ghost use Rattle.x86_groups.specs.Bits.{plan_0fba, by_w, compares_0fc7, operand_size_0fc7, f3_0fc7, plain_0fc7, plan_0fc7};
@@ -7,6 +8,7 @@ ghost use Rattle.x86_groups.specs.Bits.{plan_0fba, by_w, compares_0fc7, operand_
 use crate::vocabulary::{bad_opcode, bad_operand, name_at, on_memory, on_register};
 use x86_fields::{ModRM, Prefixes};
 use x86_opcodes::Opcode;
+use x86_operands::UNDECIDED_SIZE;
 use x86_operands::plans::OperandEncoding::{E, I8};
 use x86_operands::plans::OperandEncodings::Two;
 use x86_operands::plans::{Fault, Moment, Plan, memory_only, reads, refuses, size_by};
@@ -73,9 +75,9 @@ fn by_w(prefixes: &Prefixes, without: Opcode, with: Opcode) -> Opcode
 
 /// One operand in memory, of a size that the processor decides.
 fn on_state(opcode: Opcode, modrm: ModRM) -> Plan
-    ensures { result ≡ memory_only modrm (on_memory opcode 63) }
+    ensures { result ≡ memory_only modrm (on_memory opcode undecided_size) }
 {
-    memory_only(modrm, on_memory(opcode, 63))
+    memory_only(modrm, on_memory(opcode, UNDECIDED_SIZE))
 }
 
 #[tactic(auto, unfolding(crate::specs::Bits::plain_0fc7))]

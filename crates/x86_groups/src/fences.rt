@@ -5,6 +5,7 @@ ghost use Rattle.x86_groups.specs.Fences.{clears_operand_size, operand_size_0fae
 use crate::vocabulary::{bad_opcode, bad_operand, bare, named_by_reg, on_memory, on_register};
 use x86_fields::{ModRM, Prefixes};
 use x86_opcodes::Opcode;
+use x86_operands::UNDECIDED_SIZE;
 use x86_operands::plans::OperandEncoding::{E, Fixed};
 use x86_operands::plans::OperandEncodings::One;
 use x86_operands::plans::{Plan, PrefixChange, RegisterSlot, reads, rm_number, size_by};
@@ -110,7 +111,7 @@ fn state_size(modrm: ModRM) -> u8
     match modrm.reg_field() {
         2 | 3 => 4,
         7 => 64,
-        _ => 63,
+        _ => UNDECIDED_SIZE,
     }
 }
 

@@ -7,6 +7,7 @@ use crate::vocabulary::{
 };
 use x86_fields::ModRM;
 use x86_opcodes::Opcode;
+use x86_operands::UNDECIDED_SIZE;
 use x86_operands::plans::OperandEncoding::{Fixed, M};
 use x86_operands::plans::OperandEncodings::{One, Two};
 use x86_operands::plans::{OperandEncoding, Plan, RegisterSlot, reads};
@@ -121,9 +122,9 @@ pub fn plan_d9(modrm: ModRM) -> Plan
         (true, 1) => bad_opcode(),
         (true, 2) => stores(Opcode::FST, 4),
         (true, 3) => stores(Opcode::FSTP, 4),
-        (true, 4) => on_memory(Opcode::FLDENV, 63),
+        (true, 4) => on_memory(Opcode::FLDENV, UNDECIDED_SIZE),
         (true, 5) => on_memory(Opcode::FLDCW, 2),
-        (true, 6) => on_memory(Opcode::FNSTENV, 63),
+        (true, 6) => on_memory(Opcode::FNSTENV, UNDECIDED_SIZE),
         (true, _) => on_memory(Opcode::FNSTCW, 2),
         (false, 0) => into_st0(Opcode::FLD, modrm),
         (false, 1) => into_st0(Opcode::FXCH, modrm),
@@ -211,9 +212,9 @@ pub fn plan_dd(modrm: ModRM) -> Plan
         (true, 1) => stores(Opcode::FISTTP, 8),
         (true, 2) => stores(Opcode::FST, 8),
         (true, 3) => stores(Opcode::FSTP, 8),
-        (true, 4) => on_memory(Opcode::FRSTOR, 63),
+        (true, 4) => on_memory(Opcode::FRSTOR, UNDECIDED_SIZE),
         (true, 5) => bad_opcode(),
-        (true, 6) => on_memory(Opcode::FNSAVE, 63),
+        (true, 6) => on_memory(Opcode::FNSAVE, UNDECIDED_SIZE),
         (true, _) => on_memory(Opcode::FNSTSW, 2),
         (false, 0) => of_st_rm(Opcode::FFREE, modrm),
         (false, 1) => into_st0(Opcode::FXCH, modrm),

@@ -6,6 +6,10 @@ use Rattle.x86_operands.specs.declared.operands.Slot.TheVariants as slots
 use Rattle.x86_operands.specs.declared.operands.Operand.{Operand}
 use Rattle.x86_operands.specs.declared.operands.Operand.TheVariants as operands
 
+-- the memory size where the processor decides it
+abbrev pub undecided_size : ℕ
+undecided_size = 63
+
 abbrev pub is_memory_operand : Operand → Bool
 is_memory_operand (operands.AbsoluteU32 n) = true
 is_memory_operand (operands.AbsoluteU64 n) = true

@@ -2,7 +2,7 @@
 ghost use Rattle.std.specs.Prelude.{◌≡◌, ◌==◌, ◌%◌, ◌<◌, ◌^◌, if◌then◌else◌, Some, None};
 ghost use Rattle.x86_fields.specs.Linear.{modulus_by};
 ghost use Rattle.x86_operands.specs.Linear.{operand_address};
-ghost use Rattle.x86_operands.specs.Operands.{is_memory_operand, is_memory_slot, operand_width};
+ghost use Rattle.x86_operands.specs.Operands.{is_memory_operand, is_memory_slot, operand_width, undecided_size};
 
 use x86_fields::{AddressParts, RegFile};
 use x86_regs::{MergeMode, RegSpec, SaeMode};
@@ -179,6 +179,9 @@ pub enum Slot {
     BaseIndexScaleDisp,
 }
 
+/// The memory size of an operation for which the processor decides it, as for the state that XSAVE stores.
+pub const UNDECIDED_SIZE: u8 = 63;
+
 /// A memory size in bytes, as an instruction has it.
 #[derive(Clone, Copy, PartialEq, Eq, Debug, Drop)]
 pub struct MemoryAccessSize {
@@ -194,9 +197,9 @@ impl MemoryAccessSize {
 
     /// The size in bytes, or `None` where the processor decides it, as for the state that XSAVE stores.
     pub fn bytes_size(&self) -> Option<u8>
-        ensures { result ≡ if self.now.size == 63 then None else Some self.now.size }
+        ensures { result ≡ if self.now.size == undecided_size then None else Some self.now.size }
     {
-        if self.size == 63 {
+        if self.size == UNDECIDED_SIZE {
             None
         } else {
             Some(self.size)

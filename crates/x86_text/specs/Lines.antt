@@ -1,16 +1,13 @@
 -- The text of instructions, and the lines of instructions and refusals.
 use Rattle.std.specs.Prelude.{ℕ, List, [], ◌∷◌, ◌++◌, ◌==◌, if◌then◌else◌, codes, decimal, take}
 use Rattle.x86_opcodes.specs.Mnemonics.{mnemonic}
+use Rattle.x86_operands.specs.Operands.{undecided_size}
 use Rattle.x86_operands.specs.declared.operands.Operand.{Operand}
 use Rattle.x86_fields.specs.declared.errors.DecodeError.{DecodeError}
 use Rattle.x86_fields.specs.Errors.{description_of}
 use Rattle.x86_decode.specs.declared.instructions.Instruction.{Instruction}
 use Rattle.x86_decode.specs.Instruction.{operand_at}
 use Rattle.x86_text.specs.Operands.{operands_text}
-
--- the memory size that stands for one that the processor decides
-abbrev pub undecided_size : ℕ
-undecided_size = 63
 
 -- the memory size: 0 for none, and a question mark where the processor decides
 abbrev pub size_text : ℕ → List ℕ

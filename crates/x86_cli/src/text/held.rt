@@ -33,9 +33,9 @@ impl Model for Held {
     ghost invariant = { λ h. (h.start ≤ h.end) × (h.end ≤ h.start + 15) × (h.start ≤ 241) };
 }
 
-impl Held {
+impl Default for Held {
     /// No bytes.
-    pub fn new() -> Held
+    fn default() -> Held
         ensures { result.items ≡ [] }
     {
         Held {
@@ -44,7 +44,9 @@ impl Held {
             end: 0,
         }
     }
+}
 
+impl Held {
     /// How many bytes are held.
     #[inline(always)]
     pub fn len(&self) -> usize

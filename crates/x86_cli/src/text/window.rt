@@ -65,7 +65,7 @@ impl Window {
         ensures ended { result.ended ≡ None }
     {
         Window {
-            bytes: Held::new(),
+            bytes: Held::default(),
             reader: TextReader::new(max),
             ended: None,
         }
