@@ -1,4 +1,5 @@
--- A step settles on a front of what is left, or runs out behind one; what is known of either is put together along the steps.
+-- A step settles on a front of what is left, or runs out behind one; what is known of either is put together along
+-- the steps.
 use Rattle.std.proofs.Common.{◌≡◌, ◌≢◌, ◌⊎◌, inl, inr, true, nat_lt, length-take, ℕ, ◌+◌, ◌<◌, ◌≤◌, true, List, [], ◌∷◌, ◌++◌, length, take, drop, Result, Ok, Err, refl, sym, ap, subst, ◌∙◌, arith, length-append, append_assoc}
 use Rattle.std.proofs.lemmas.Bool.{cases_lt, lt-ltb}
 use Rattle.std.proofs.Math.Seq.{drop-append_seam, take-append_seam}

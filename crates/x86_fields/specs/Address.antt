@@ -1,4 +1,5 @@
--- Base, index and scale of a memory operand, as ModRM and SIB name them. Source: Intel SDM volume 2, sections 2.1.5 and 2.2.1.
+-- Base, index and scale of a memory operand, as ModRM and SIB name them. Source: Intel SDM volume 2, sections 2.1.5
+-- and 2.2.1.
 use Rattle.std.specs.Prelude.{ℕ, ◌+◌, ◌^◌, ◌==◌, ◌&&◌, not, Bool, if◌then◌else◌, Option, Some, None}
 use Rattle.x86_regs.specs.declared.RegisterClass.{RegisterClass}
 use Rattle.x86_regs.specs.declared.RegisterClass.TheVariants.{D, Q, EIP, RIP}
@@ -21,7 +22,8 @@ address_register raw bit n = record { num = extend bit n; class = address_class 
 abbrev pub next_pointer : Raw → RegSpec
 next_pointer raw = record { num = 0; class = if raw.address_size then EIP else RIP }
 
--- Without SIB the base is rm, or the next instruction at mod 00 with rm 101. With SIB it is the base field, or none at mod 00 with 101.
+-- Without SIB the base is rm, or the next instruction at mod 00 with rm 101. With SIB it is the base field, or none
+-- at mod 00 with 101.
 abbrev pub base_by : Raw → Option ℕ → Option RegSpec
 base_by raw None = Some (if (mod_field raw.modrm == 0) && (rm_field raw.modrm == 5) then next_pointer raw else address_register raw raw.rex_b (rm_field raw.modrm))
 base_by raw (Some sib) = if (mod_field raw.modrm == 0) && (base_field sib == 5) then None else Some (address_register raw raw.rex_b (base_field sib))

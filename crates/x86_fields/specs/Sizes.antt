@@ -1,4 +1,5 @@
--- Classes of operands by the reading of a run. Source: Intel SDM volume 2, sections 2.2.1.2 and 3.1.1.3, and volume 1, section 3.6.1.
+-- Classes of operands by the reading of a run. Source: Intel SDM volume 2, sections 2.2.1.2 and 3.1.1.3, and volume
+-- 1, section 3.6.1.
 use Rattle.std.specs.Prelude.{ℕ, nat_le, ◌&&◌, ◌||◌, not, if◌then◌else◌, is_some}
 use Rattle.x86_regs.specs.declared.RegisterClass.{RegisterClass}
 use Rattle.x86_regs.specs.declared.RegisterClass.TheVariants.{B, W, D, RB, Q}

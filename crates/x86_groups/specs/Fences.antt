@@ -1,4 +1,5 @@
--- 0F AE: fences, saved states, cache lines, waits, and the bases of FS and GS. Source: Intel SDM volume 2, appendix A.4, group 15.
+-- 0F AE: fences, saved states, cache lines, waits, and the bases of FS and GS. Source: Intel SDM volume 2, appendix
+-- A.4, group 15.
 use Rattle.std.specs.Prelude.{ℕ, ◌==◌, Bool, not, ◌&&◌, if◌then◌else◌, [], ◌∷◌, slice_index_or}
 use Rattle.x86_regs.specs.declared.RegisterClass.TheVariants.{D, Q}
 use Rattle.x86_regs.specs.Class.{width_of}

@@ -1,4 +1,5 @@
--- x87: D8 to DF, with memory by reg, and with a register by reg or by the whole ModRM byte. Source: Intel SDM volume 2, appendix A.5.
+-- x87: D8 to DF, with memory by reg, and with a register by reg or by the whole ModRM byte. Source: Intel SDM volume
+-- 2, appendix A.5.
 use Rattle.std.specs.Prelude.{ℕ, nat_lt, nat_le, ◌==◌, ◌-◌, ◌&&◌, if◌then◌else◌, [], ◌∷◌}
 use Rattle.x86_regs.specs.declared.RegisterClass.TheVariants.{W, ST}
 use Rattle.x86_operands.specs.declared.plans.OperandEncoding.{OperandEncoding}

@@ -1,4 +1,5 @@
--- The records of the groups: forms of which ModRM or a suffix chooses the operation. Source: Intel SDM volume 2, appendix A.4.
+-- The records of the groups: forms of which ModRM or a suffix chooses the operation. Source: Intel SDM volume 2,
+-- appendix A.4.
 use Rattle.std.specs.Prelude.{ℕ, Bool, Option, None}
 use Rattle.x86_fields.specs.declared.prefixes.Prefixes.{Prefixes}
 use Rattle.x86_operands.specs.declared.plans.Fault.{Fault}

@@ -1,5 +1,5 @@
--- Prefetches, hints, and moves that have another name with a register.
--- Source: Intel SDM volume 2, appendix A.4, group 16, and the pages of MOVLPS, MOVHPS, ENDBR64; AMD APM volume 3, PREFETCH.
+-- Prefetches, hints, and moves that have another name with a register. Source: Intel SDM volume 2, appendix A.4,
+-- group 16, and the pages of MOVLPS, MOVHPS, ENDBR64; AMD APM volume 3, PREFETCH.
 use Rattle.std.specs.Prelude.{ℕ, ◌==◌, if◌then◌else◌, [], ◌∷◌}
 use Rattle.x86_regs.specs.declared.RegisterClass.TheVariants.{X}
 use Rattle.x86_regs.specs.Class.{width_of}

@@ -1,4 +1,5 @@
--- Moves from and to control and debug registers, whose ModRM is a register form at every mod. Source: Intel SDM volume 2, MOV-Move to/from Control Registers, MOV-Move to/from Debug Registers.
+-- Moves from and to control and debug registers, whose ModRM is a register form at every mod. Source: Intel SDM
+-- volume 2, MOV-Move to/from Control Registers, MOV-Move to/from Debug Registers.
 use Rattle.std.specs.Prelude.{ℕ, nat_lt, ◌==◌, Bool, not, ◌||◌}
 use Rattle.x86_regs.specs.declared.RegisterClass.TheVariants.{Q, CR, DR}
 use Rattle.x86_fields.specs.declared.prefixes.Prefixes.{Prefixes}

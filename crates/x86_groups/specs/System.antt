@@ -1,4 +1,5 @@
--- System tables and system instructions. Source: Intel SDM volume 2, appendix A.4, groups 6 and 7, and AMD APM volume 3, appendix A.
+-- System tables and system instructions. Source: Intel SDM volume 2, appendix A.4, groups 6 and 7, and AMD APM volume
+-- 3, appendix A.
 use Rattle.std.specs.Prelude.{ℕ, nat_lt, ◌==◌, if◌then◌else◌, [], ◌∷◌}
 use Rattle.x86_regs.specs.declared.RegisterClass.TheVariants.{W, D, Q}
 use Rattle.x86_fields.specs.declared.prefixes.Prefixes.{Prefixes}

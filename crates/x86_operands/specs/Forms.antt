@@ -1,6 +1,7 @@
--- The records of the plain forms: what each asks behind its opcode byte, and what it gives. The letters are those of the Intel SDM,
--- volume 2, appendix A.2: G and E are the operands of ModRM's reg and rm, M and U its memory and its register form, I an
--- immediate, J a branch, O an address, X and Y the strings at rsi and rdi, Z the register of the opcode byte.
+-- The records of the plain forms: what each asks behind its opcode byte, and what it gives. The letters are those of
+-- the Intel SDM, volume 2, appendix A.2: G and E are the operands of ModRM's reg and rm, M and U its memory and its
+-- register form, I an immediate, J a branch, O an address, X and Y the strings at rsi and rdi, Z the register of the
+-- opcode byte.
 use Rattle.std.specs.Prelude.{ℕ, ◌==◌, ◌&&◌, ◌||◌, nat_lt, not, if◌then◌else◌, None}
 use Rattle.x86_regs.specs.declared.RegisterClass.{RegisterClass}
 use Rattle.x86_regs.specs.declared.RegisterClass.TheVariants.{B, W, D, Q, S, X}

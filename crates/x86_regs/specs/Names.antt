@@ -4,7 +4,8 @@ use Rattle.x86_regs.specs.declared.RegisterClass.{RegisterClass}
 use Rattle.x86_regs.specs.declared.RegisterClass.TheVariants.{B, W, D, RB, Q, CR, DR, S, X, Y, Z, ST, MM, K, EIP, RIP, EFlags, RFlags}
 use Rattle.x86_regs.specs.declared.RegSpec.{RegSpec}
 
--- The registers of each class by number. Class rB has none below 4. Source: Intel SDM volume 1, sections 3.4, 3.7.2 and 8.1.2.
+-- The registers of each class by number. Class rB has none below 4. Source: Intel SDM volume 1, sections 3.4, 3.7.2
+-- and 8.1.2.
 abbrev pub names_of : RegisterClass → List (List ℕ)
 names_of B = codes "al" ∷ codes "cl" ∷ codes "dl" ∷ codes "bl" ∷ codes "ah" ∷ codes "ch" ∷ codes "dh" ∷ codes "bh" ∷ []
 names_of W = codes "ax" ∷ codes "cx" ∷ codes "dx" ∷ codes "bx" ∷ codes "sp" ∷ codes "bp" ∷ codes "si" ∷ codes "di" ∷ codes "r8w" ∷ codes "r9w" ∷ codes "r10w" ∷ codes "r11w" ∷ codes "r12w" ∷ codes "r13w" ∷ codes "r14w" ∷ codes "r15w" ∷ []

@@ -47,9 +47,9 @@ pub record Ran {S K : Type 0} (gives : S → Got → S → Type 0) (takes : K �
   pub took : Took takes lines failed sink sink'
   pub lists : (xs : List ℕ) (s : Stop) → MayCome stop xs s → Lists status lines failed (listing (text_of max (bytes ++ xs) s))
 
--- How far ahead of its lines a run reads: the image that the source gave is what the lines walked, up to their place, and at most 15 bytes
--- more. Of every text that begins with what was given, the listing is the lines shown, and then that of the rest from this place on. At most
--- one line is put behind them: a refusal's or an end's.
+-- How far ahead of its lines a run reads: the image that the source gave is what the lines walked, up to their place,
+-- and at most 15 bytes more. Of every text that begins with what was given, the listing is the lines shown, and then
+-- that of the rest from this place on. At most one line is put behind them: a refusal's or an end's.
 pub record Ahead (at : ℕ → Text → Listing) (text : List ℕ → Stop → Text) (bytes : List ℕ) (stop : Option Stop) (lines : List (List ℕ)) : Type 0 where
   pub walked : List ℕ
   pub held : List ℕ

@@ -97,7 +97,8 @@ abbrev pub HasReadFault : Status → Command → World → World → Type 0
 HasReadFault result c old new = result ≡ ReadFault → Rose old.source_faults new.source_faults
     × ((taken : List ℕ) × Consumes old.left new.left taken × ((taken_listing c taken).status ≡ ReadFault))
 
--- Where the text is clean, the command goes through its image, and neither count rose, the run is done and has written all.
+-- Where the text is clean, the command goes through its image, and neither count rose, the run is done and has
+-- written all.
 abbrev pub Completes : Status → Command → World → World → Type 0
 Completes result c old new =
     IfSome old.left (λ b. (text_of (max_of c) b End).ending ≡ Clean → GoesThrough c (text_of (max_of c) b End).image → IsSound old new →
