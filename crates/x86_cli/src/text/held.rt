@@ -33,20 +33,14 @@ impl Model for Held {
     ghost invariant = { λ h. (h.start ≤ h.end) × (h.end ≤ h.start + 15) × (h.start ≤ 241) };
 }
 
-impl Default for Held {
-    /// No bytes.
-    fn default() -> Held
-        ensures { result.items ≡ [] }
-    {
-        Held {
-            cells: [0; ROOM],
-            start: 0,
-            end: 0,
-        }
-    }
-}
-
 impl Held {
+    /// No bytes.
+    pub const EMPTY: Held = Held {
+        cells: [0; ROOM],
+        start: 0,
+        end: 0,
+    };
+
     /// How many bytes are held.
     #[inline(always)]
     pub fn len(&self) -> usize

@@ -65,7 +65,7 @@ impl Window {
         ensures ended { result.ended ≡ None }
     {
         Window {
-            bytes: Held::default(),
+            bytes: Held::EMPTY,
             reader: TextReader::new(max),
             ended: None,
         }
