@@ -17,7 +17,7 @@ use Rattle.x86_cli.specs.Listings.Listing.{Listing, listing_at}
 use Rattle.x86_cli.specs.Listings.Sweep.{sweep_at}
 use Rattle.x86_cli.specs.Listings.Targets.{targets_at}
 
--- the command that is one word
+-- the command of one argument
 abbrev pub command_by : List ℕ → Option Command
 command_by argument =
     if bytes_eq argument (codes "list") then Some (Listed false)

@@ -45,7 +45,7 @@ pub enum Command {
     Targets,
 }
 
-/// The command that is one word.
+/// The command of one argument.
 fn command_by(argument: &str) -> Option<Command>
     ensures { result ≡ command_by argument.now }
 {

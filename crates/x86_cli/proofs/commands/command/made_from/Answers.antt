@@ -11,10 +11,10 @@ two [] a b l m e f = absurd (omega arith)
 two (x ∷ []) a b l m e f = absurd (omega arith)
 two (x ∷ y ∷ z ∷ xs) a b l m e f = absurd (omega arith)
 
--- the second word is the count
-found : (arguments : List (List ℕ)) (first word : List ℕ) (r : Option ℕ) → arguments ≡ first ∷ word ∷ [] → first ≡ codes "make" → IfSome r (λ n. (1 ≤ n) × (n ≤ make_max) × (word ≡ decimal n)) → IfSome r (IsMake arguments)
-found arguments first word None e m h = tt
-found arguments first word (Some n) e m h = record { matched = e ∙ ap (λ w. w ∷ word ∷ []) m ∙ ap (λ w. codes "make" ∷ w ∷ []) h.2; least = h.0; most = h.1 }
+-- the second argument is the count
+found : (arguments : List (List ℕ)) (first argument : List ℕ) (r : Option ℕ) → arguments ≡ first ∷ argument ∷ [] → first ≡ codes "make" → IfSome r (λ n. (1 ≤ n) × (n ≤ make_max) × (argument ≡ decimal n)) → IfSome r (IsMake arguments)
+found arguments first argument None e m h = tt
+found arguments first argument (Some n) e m h = record { matched = e ∙ ap (λ w. w ∷ argument ∷ []) m ∙ ap (λ w. codes "make" ∷ w ∷ []) h.2; least = h.0; most = h.1 }
 
 pub returns-in-len2-clause-found : goal.returns-in-len2-clause-found
 returns-in-len2-clause-found c =

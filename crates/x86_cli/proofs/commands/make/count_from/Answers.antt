@@ -7,8 +7,8 @@ use Rattle.x86_cli.specs.Commands.Make.{make_max}
 use Rattle.x86_cli.proofs.commands.make.count_from.Goals as goal
 
 -- a decimal up to a million is parsed as its number
-parsed : {E : Type 0} (word : List ℕ) (r : Result ℕ E) (n : ℕ) → n ≤ make_max → word ≡ decimal n → ParsesUnsigned 32 10 word r → result_ok r ≡ Some n
-parsed word r n most e p = ap result_ok (parse-decimal 32 n word r (omega arith) (omega arith) e p)
+parsed : {E : Type 0} (argument : List ℕ) (r : Result ℕ E) (n : ℕ) → n ≤ make_max → argument ≡ decimal n → ParsesUnsigned 32 10 argument r → result_ok r ≡ Some n
+parsed argument r n most e p = ap result_ok (parse-decimal 32 n argument r (omega arith) (omega arith) e p)
 
 same : (a b : ℕ) → ◌≡◌ {A = Option ℕ} (Some a) (Some b) → a ≡ b
 same a b e = cc
