@@ -11,7 +11,7 @@ use Rattle.x86_operands.specs.declared.operands.Slot.TheVariants as slots
 use Rattle.x86_operands.specs.declared.operands.Operand.{Operand}
 use Rattle.x86_operands.specs.declared.operands.MemoryAccessSize.{MemoryAccessSize}
 use Rattle.x86_operands.specs.declared.operands.Operand.TheVariants as operands
-use Rattle.x86_operands.specs.Operands.{is_memory_slot}
+use Rattle.x86_operands.specs.Operands.{access_size, is_memory_slot}
 use Rattle.x86_operands.specs.Encodings.{no_operands, reading_with}
 use Rattle.x86_decode.specs.declared.instructions.Instruction.{Instruction}
 use Rattle.x86_decode.specs.declared.instructions.Shown.{Shown}
@@ -45,6 +45,20 @@ holding inst (Err e) = Err e
 
 -- ---- what an instruction is asked
 
+abbrev pub opcode : Instruction → ℕ
+opcode i = i.opcode
+
+abbrev pub operand_count : Instruction → ℕ
+operand_count i = i.given.count
+
+-- how many bytes the encoding has
+abbrev pub length_of : Instruction → ℕ
+length_of i = i.length
+
+-- the memory size: 0 where none is named, 63 where the processor decides
+abbrev pub mem_size_number : Instruction → ℕ
+mem_size_number i = i.given.mem_size
+
 -- the slot and the operand at an index: nothing at the count and above
 abbrev pub slot_at : Instruction → ℕ → Slot
 slot_at i k = if nat_lt k i.given.count then slice_index_or i.given.slots k slots.Nothing else slots.Nothing
@@ -54,7 +68,7 @@ operand_at i k = if nat_lt k i.given.count then slice_index_or i.given.operands 
 
 -- the size of what is read or written in memory, where one is named
 abbrev pub mem_size_of : Instruction → Option MemoryAccessSize
-mem_size_of i = if i.given.mem_size == 0 then None else Some (record { size = i.given.mem_size })
+mem_size_of i = if i.given.mem_size == 0 then None else Some (access_size i.given.mem_size)
 
 abbrev pub is_rm_slot : Slot → Bool
 is_rm_slot slots.Rm = true

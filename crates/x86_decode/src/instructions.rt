@@ -4,8 +4,9 @@ ghost use Rattle.std.specs.Cmp.{on_equiv, on_per};
 ghost use Rattle.std.specs.Ordering.{on};
 ghost use Rattle.x86_decode.specs.contracts.instructions.ShownPartialEq.TheImpl.Laws as shown_eq;
 ghost use Rattle.x86_decode.specs.contracts.instructions.ShownEq.TheImpl.Laws as shown_equivalence;
+ghost use Rattle.x86_arch.specs.AddressDiff.{from_const};
 ghost use Rattle.x86_operands.specs.Visitor.{visit_of};
-ghost use Rattle.x86_decode.specs.Instruction.{invalid_instruction, slot_at, operand_at, shown_of, segment_override_for_op, unless_ds, mem_size_of, xacquire, xrelease, exchanges_memory, is_release_slot, is_rm_slot};
+ghost use Rattle.x86_decode.specs.Instruction.{opcode, operand_count, length_of, invalid_instruction, slot_at, operand_at, shown_of, segment_override_for_op, unless_ds, mem_size_of, xacquire, xrelease, exchanges_memory, is_release_slot, is_rm_slot};
 
 use x86_arch::{AddressDiff, LengthedInstruction};
 use x86_fields::Prefixes;
@@ -78,14 +79,14 @@ impl Instruction {
 
     /// The operation.
     pub fn opcode(&self) -> Opcode
-        ensures { result ≡ self.now.opcode }
+        ensures { result ≡ opcode self.now }
     {
         self.opcode
     }
 
     /// How many operands there are: at most 4.
     pub fn operand_count(&self) -> u8
-        ensures { result ≡ self.now.given.count }
+        ensures { result ≡ operand_count self.now }
     {
         self.given.count
     }
@@ -93,7 +94,7 @@ impl Instruction {
     /// Whether there is an operand at an index, counted from 0.
     pub fn operand_present(&self, i: u8) -> bool
         requires { i < 4 }
-        ensures { result ≡ nat_lt i self.now.given.count }
+        ensures { result ≡ nat_lt i (operand_count self.now) }
     {
         i < self.given.count
     }
@@ -194,14 +195,14 @@ impl Instruction {
 
     /// How many bytes the encoding has; 0 of the invalid instruction.
     pub fn len(&self) -> AddressDiff<u64>
-        ensures { result ≡ record { amount = self.now.length } }
+        ensures { result ≡ from_const (length_of self.now) }
     {
         AddressDiff::from_const(self.length)
     }
 
     /// The length of the shortest instructions: 1.
     pub fn min_size() -> AddressDiff<u64>
-        ensures { result ≡ record { amount = 1 } }
+        ensures { result ≡ from_const 1 }
     {
         AddressDiff::from_const(1)
     }
@@ -266,9 +267,9 @@ impl x86_arch::Instruction for Instruction {
 impl LengthedInstruction for Instruction {
     type Unit = AddressDiff<u64>;
 
-    ghost len = { λ i. record { amount = i.length } };
+    ghost len = { λ i. from_const (length_of i) };
 
-    ghost min_size = { record { amount = 1 } };
+    ghost min_size = { from_const 1 };
 
     fn len(&self) -> AddressDiff<u64> {
         Instruction::len(self)

@@ -1,6 +1,7 @@
 //! What a run of prefix bytes selects. Source: Intel SDM volume 2, sections 2.1.1 and 2.2.1.
 
 ghost use Rattle.std.specs.Prelude.{◌≡◌, ◌↔◌, ℕ, ◌∷◌, ◌++◌, List, [], IsTrue, false};
+ghost use Rattle.x86_fields.specs.Prefixes.{operand_size, address_size, lock, segment, rex, without_operand_size, with_es};
 ghost use Rattle.x86_fields.specs.Run.{repnz, rep, rep_any, reading_of, after_of, rex_bits, is_rex, is_prefix};
 ghost use Rattle.x86_fields.specs.Raw.{has_w, has_r, has_x, has_b};
 
@@ -92,7 +93,7 @@ impl Prefixes {
     /// 66 is cleared.
     #[inline(always)]
     pub fn without_operand_size(self) -> Prefixes
-        ensures { result ≡ record self { operand_size = false } }
+        ensures { result ≡ without_operand_size self }
     {
         Prefixes {
             operand_size: false,
@@ -103,7 +104,7 @@ impl Prefixes {
     /// The segment is ES.
     #[inline(always)]
     pub fn with_es(self) -> Prefixes
-        ensures { result ≡ record self { segment = Segment.ES } }
+        ensures { result ≡ with_es self }
     {
         Prefixes {
             segment: Segment::ES,
@@ -137,14 +138,14 @@ impl Prefixes {
     /// Whether 66 is in force.
     #[inline(always)]
     pub fn operand_size(&self) -> bool
-        ensures { result ≡ self.now.operand_size }
+        ensures { result ≡ operand_size self.now }
     {
         self.operand_size
     }
 
     /// Whether 67 is in force.
     pub fn address_size(&self) -> bool
-        ensures { result ≡ self.now.address_size }
+        ensures { result ≡ address_size self.now }
     {
         self.address_size
     }
@@ -152,56 +153,56 @@ impl Prefixes {
     /// Whether F0 is in force.
     #[inline(always)]
     pub fn lock(&self) -> bool
-        ensures { result ≡ self.now.lock }
+        ensures { result ≡ lock self.now }
     {
         self.lock
     }
 
     /// The segment that 64 or 65 chose, else DS.
     pub fn segment(&self) -> Segment
-        ensures { result ≡ self.now.segment }
+        ensures { result ≡ segment self.now }
     {
         self.segment
     }
 
     /// Whether the segment is CS.
     pub fn cs(&self) -> bool
-        ensures { IsTrue result ↔ (self.now.segment ≡ Segment.CS) }
+        ensures { IsTrue result ↔ (segment self.now ≡ Segment.CS) }
     {
         self.segment == Segment::CS
     }
 
     /// Whether the segment is DS.
     pub fn ds(&self) -> bool
-        ensures { IsTrue result ↔ (self.now.segment ≡ Segment.DS) }
+        ensures { IsTrue result ↔ (segment self.now ≡ Segment.DS) }
     {
         self.segment == Segment::DS
     }
 
     /// Whether the segment is ES.
     pub fn es(&self) -> bool
-        ensures { IsTrue result ↔ (self.now.segment ≡ Segment.ES) }
+        ensures { IsTrue result ↔ (segment self.now ≡ Segment.ES) }
     {
         self.segment == Segment::ES
     }
 
     /// Whether the segment is FS.
     pub fn fs(&self) -> bool
-        ensures { IsTrue result ↔ (self.now.segment ≡ Segment.FS) }
+        ensures { IsTrue result ↔ (segment self.now ≡ Segment.FS) }
     {
         self.segment == Segment::FS
     }
 
     /// Whether the segment is GS.
     pub fn gs(&self) -> bool
-        ensures { IsTrue result ↔ (self.now.segment ≡ Segment.GS) }
+        ensures { IsTrue result ↔ (segment self.now ≡ Segment.GS) }
     {
         self.segment == Segment::GS
     }
 
     /// Whether the segment is SS.
     pub fn ss(&self) -> bool
-        ensures { IsTrue result ↔ (self.now.segment ≡ Segment.SS) }
+        ensures { IsTrue result ↔ (segment self.now ≡ Segment.SS) }
     {
         self.segment == Segment::SS
     }
@@ -209,7 +210,7 @@ impl Prefixes {
     /// The bits of the REX that is live, if one is.
     #[inline(always)]
     pub fn rex(&self) -> Option<PrefixRex>
-        ensures { result ≡ self.now.rex }
+        ensures { result ≡ rex self.now }
     {
         self.rex
     }

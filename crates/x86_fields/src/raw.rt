@@ -2,6 +2,7 @@
 
 ghost use Rattle.std.specs.Prelude.{◌≡◌, ◌<◌, IsTrue, IfOk};
 ghost use Rattle.x86_arch.specs.Reader.{State};
+ghost use Rattle.x86_regs.specs.Register.{reg_spec};
 ghost use Rattle.x86_fields.specs.Steps.{outcome};
 ghost use Rattle.x86_fields.specs.Address.{base_of, index_of, scale_by, extend, address_class, next_pointer};
 ghost use Rattle.x86_fields.specs.Linear.{raw_form, parts_form};
@@ -78,7 +79,7 @@ impl Raw {
 
     /// The register that base and index have with this number.
     fn register(&self, num: u8) -> RegSpec
-        ensures { result ≡ record { num = num; class = address_class self.now } }
+        ensures { result ≡ reg_spec num (address_class self.now) }
     {
         if self.address_size {
             RegSpec::of(num, RegisterClass::D)

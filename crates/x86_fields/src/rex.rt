@@ -1,6 +1,7 @@
 //! The bits of a REX. Source: Intel SDM volume 2, section 2.2.1.
 
 ghost use Rattle.std.specs.Prelude.{◌≡◌};
+ghost use Rattle.x86_fields.specs.Prefixes.{w, r, x, b};
 ghost use Rattle.x86_fields.specs.Run.{rex_bits};
 
 /// The four bits of a live REX.
@@ -48,28 +49,28 @@ impl PrefixRex {
 
     /// Whether operands have 64 bits.
     pub fn w(&self) -> bool
-        ensures { result ≡ self.now.w }
+        ensures { result ≡ w self.now }
     {
         self.w
     }
 
     /// The fourth bit of the reg field of ModRM.
     pub fn r(&self) -> bool
-        ensures { result ≡ self.now.r }
+        ensures { result ≡ r self.now }
     {
         self.r
     }
 
     /// The fourth bit of the index field of SIB.
     pub fn x(&self) -> bool
-        ensures { result ≡ self.now.x }
+        ensures { result ≡ x self.now }
     {
         self.x
     }
 
     /// The fourth bit of the rm field of ModRM, of the base field of SIB, or of a register in the opcode.
     pub fn b(&self) -> bool
-        ensures { result ≡ self.now.b }
+        ensures { result ≡ b self.now }
     {
         self.b
     }

@@ -2,6 +2,7 @@
 //! 3.6.1.
 
 ghost use Rattle.std.specs.Prelude.{◌≡◌, ◌<◌, None};
+ghost use Rattle.x86_fields.specs.Prefixes.{rex};
 ghost use Rattle.x86_fields.specs.Sizes.{v_class, vq_class, vd_class, dq_class, byte_reg, register_of};
 
 use crate::prefixes::Prefixes;
@@ -61,7 +62,7 @@ impl Prefixes {
     /// The byte register of a number: from 4 on `spl` with a live REX, and `ah` without.
     pub fn byte_reg(&self, num: u8) -> RegSpec
         requires number { num < 16 }
-        requires without_rex { self.now.rex ≡ None → num < 8 }
+        requires without_rex { rex self.now ≡ None → num < 8 }
         ensures { result ≡ byte_reg self.now num }
     {
         self.register(RegisterClass::B, num)

@@ -6,6 +6,7 @@ pub mod Shortest
 pub mod Address
 pub mod Rex
 pub mod Respell
+pub mod GroupPlans
 pub mod PlanAlike
 pub mod Writes
 pub mod Relative

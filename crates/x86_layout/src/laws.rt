@@ -14,6 +14,7 @@ ghost use Rattle.x86_layout.specs.Parts.Fields.{lists_in, HasFieldLengths};
 ghost use Rattle.x86_layout.specs.Parts.Permitted.{IsPermitted, ArePartsOfSentence};
 ghost use Rattle.x86_forms.specs.Words.{rows_of, packed};
 ghost use Rattle.x86_decode.specs.Grammar.{IsSentence};
+ghost use Rattle.x86_decode.specs.Instruction.{length_of};
 ghost use Rattle.x86_layout.specs.Tightening.Least.{least_length};
 ghost use Rattle.x86_layout.specs.declared.tightening.tighten.TightenError.{TightenError};
 ghost use Rattle.x86_layout.specs.Tightening.Tighten.{HasNoRelative, HasOperandForm, IsRelative, IsShortest};
@@ -73,7 +74,7 @@ pub fn permitted_fields_are_split_again()
 /// Fields that hold the parts of an accepted encoding are permitted, and spell that encoding: `emit` of the fields of
 /// a split gives its very bytes.
 pub fn accepted_encodings_are_emitted_again()
-    ensures { (strict : Bool) (bytes : List ℕ) (i : Instruction) (f : Fields) → answer_of strict bytes ≡ Ok i → lists_in f ≡ parts_of strict bytes → IsPermitted strict f × (joined (lists_in f) ≡ take i.length bytes) }
+    ensures { (strict : Bool) (bytes : List ℕ) (i : Instruction) (f : Fields) → answer_of strict bytes ≡ Ok i → lists_in f ≡ parts_of strict bytes → IsPermitted strict f × (joined (lists_in f) ≡ take (length_of i) bytes) }
 {
     laws::answer_is();
     laws::lengths();

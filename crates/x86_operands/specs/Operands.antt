@@ -1,6 +1,7 @@
 -- What an operand and a slot tell by themselves.
-use Rattle.std.specs.Prelude.{ℕ, Bool, true, false, Option, Some, None}
+use Rattle.std.specs.Prelude.{ℕ, Bool, true, false, ◌==◌, if◌then◌else◌, Option, Some, None}
 use Rattle.x86_regs.specs.Class.{width_of}
+use Rattle.x86_operands.specs.declared.operands.MemoryAccessSize.{MemoryAccessSize}
 use Rattle.x86_operands.specs.declared.operands.Slot.{Slot}
 use Rattle.x86_operands.specs.declared.operands.Slot.TheVariants as slots
 use Rattle.x86_operands.specs.declared.operands.Operand.{Operand}
@@ -9,6 +10,13 @@ use Rattle.x86_operands.specs.declared.operands.Operand.TheVariants as operands
 -- the memory size where the processor decides it
 abbrev pub undecided_size : ℕ
 undecided_size = 63
+
+-- the memory size of a number, and the bytes that it has where the processor doesn't decide them
+abbrev pub access_size : ℕ → MemoryAccessSize
+access_size n = record { size = n }
+
+abbrev pub bytes_size : MemoryAccessSize → Option ℕ
+bytes_size s = if s.size == undecided_size then None else Some s.size
 
 abbrev pub is_memory_operand : Operand → Bool
 is_memory_operand (operands.AbsoluteU32 n) = true

@@ -1,5 +1,6 @@
 //! Sizes and classes that go by the opcode or by a form of its own.
 ghost use Rattle.std.specs.Prelude.{◌≡◌, if◌then◌else◌};
+ghost use Rattle.x86_fields.specs.Prefixes.{operand_size};
 ghost use Rattle.x86_fields.specs.Raw.{has_w};
 ghost use Rattle.x86_operands.specs.Forms.{v_size, or_v};
 ghost use Rattle.x86_operands.specs.FormSizes.{pointer_class, whole_immediate, push_immediate, address_encoding, widening, doubling, nothing_size, call_size, return_size, port_size, is_far_load, far_class, far_size, duplicate_size, stream_size, scalar_size, extend_size, is_half_load, extract_size, insert_size, unpack_size};
@@ -146,7 +147,7 @@ pub fn far_class(opcode: Opcode, prefixes: &Prefixes) -> RegisterClass
 }
 
 fn far_pointer_size(prefixes: &Prefixes) -> u8
-    ensures { result ≡ if has_w prefixes.now then 10 else (if prefixes.now.operand_size then 4 else 6) }
+    ensures { result ≡ if has_w prefixes.now then 10 else (if operand_size prefixes.now then 4 else 6) }
 {
     if prefixes.has_w() {
         10

@@ -2,7 +2,7 @@
 ghost use Rattle.std.specs.Prelude.{◌≡◌, ◌==◌, ◌%◌, ◌<◌, ◌^◌, if◌then◌else◌, Some, None};
 ghost use Rattle.x86_fields.specs.Linear.{modulus_by};
 ghost use Rattle.x86_operands.specs.Linear.{operand_address};
-ghost use Rattle.x86_operands.specs.Operands.{is_memory_operand, is_memory_slot, operand_width, undecided_size};
+ghost use Rattle.x86_operands.specs.Operands.{is_memory_operand, is_memory_slot, operand_width, access_size, bytes_size};
 
 use x86_fields::{AddressParts, RegFile};
 use x86_regs::{MergeMode, RegSpec, SaeMode};
@@ -190,14 +190,14 @@ pub struct MemoryAccessSize {
 
 impl MemoryAccessSize {
     pub fn new(size: u8) -> MemoryAccessSize
-        ensures { result ≡ record { size = size } }
+        ensures { result ≡ access_size size }
     {
         MemoryAccessSize { size }
     }
 
     /// The size in bytes, or `None` where the processor decides it, as for the state that XSAVE stores.
     pub fn bytes_size(&self) -> Option<u8>
-        ensures { result ≡ if self.now.size == undecided_size then None else Some self.now.size }
+        ensures { result ≡ bytes_size self.now }
     {
         if self.size == UNDECIDED_SIZE {
             None

@@ -1,5 +1,6 @@
 //! Plans of the forms that no line describes: their operation, their class or their refusal goes by more than W and 66.
 ghost use Rattle.std.specs.Prelude.{◌≡◌, ◌<◌, if◌then◌else◌};
+ghost use Rattle.x86_fields.specs.Prefixes.{operand_size, address_size};
 ghost use Rattle.x86_fields.specs.Raw.{has_w};
 ghost use Rattle.x86_forms.specs.Words.{IsForm};
 ghost use Rattle.x86_opcodes.specs.Names.{JECXZ, IRET, IRETD, IRETQ};
@@ -114,7 +115,7 @@ fn exchange_plan(opcode: Opcode, num: u8, prefixes: &Prefixes) -> Plan
 }
 
 fn loop_opcode(opcode: Opcode, prefixes: &Prefixes) -> Opcode
-    ensures { result ≡ if prefixes.now.address_size then JECXZ else opcode }
+    ensures { result ≡ if address_size prefixes.now then JECXZ else opcode }
 {
     if prefixes.address_size() {
         Opcode::JECXZ
@@ -124,7 +125,7 @@ fn loop_opcode(opcode: Opcode, prefixes: &Prefixes) -> Opcode
 }
 
 fn return_opcode(prefixes: &Prefixes) -> Opcode
-    ensures { result ≡ if has_w prefixes.now then IRETQ else (if prefixes.now.operand_size then IRET else IRETD) }
+    ensures { result ≡ if has_w prefixes.now then IRETQ else (if operand_size prefixes.now then IRET else IRETD) }
 {
     if prefixes.has_w() {
         Opcode::IRETQ

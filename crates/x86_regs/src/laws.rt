@@ -4,6 +4,7 @@ ghost use Rattle.std.specs.Prelude.{◌≡◌, ◌↔◌, ◌∷◌, [], IsTrue}
 ghost use Rattle.std.specs.Ordering.{ordering_then, nat_cmp};
 ghost use Rattle.std.specs.Cmp.{IsTotalOrder};
 ghost use Rattle.x86_regs.specs.Class.{class_code};
+ghost use Rattle.x86_regs.specs.Register.{num, class};
 
 use crate::register_class::{
     B, CR, D, DR, EFLAGS, EIP, K, MM, Q, RB, RFLAGS, RIP, S, ST, W, X, Y, Z,
@@ -14,7 +15,7 @@ use std::hash::Hash;
 
 /// Registers are ordered by number, then by the code of their class, and the order is total.
 pub fn registers_are_ordered()
-    ensures by_number_then_code { (a b : RegSpec) → ⟦<RegSpec as Ord>⟧.cmp a b ≡ ordering_then (nat_cmp a.num b.num) (nat_cmp (class_code a.class) (class_code b.class)) }
+    ensures by_number_then_code { (a b : RegSpec) → ⟦<RegSpec as Ord>⟧.cmp a b ≡ ordering_then (nat_cmp (num a) (num b)) (nat_cmp (class_code (class a)) (class_code (class b))) }
     ensures partly { (a b : RegSpec) → ⟦<RegSpec as PartialOrd>⟧.partial_cmp a b ≡ Some (⟦<RegSpec as Ord>⟧.cmp a b) }
     ensures total { IsTotalOrder ⟦<RegSpec as Ord>⟧.cmp }
     ensures agrees { (a b : RegSpec) → ⟦<RegSpec as Ord>⟧.cmp a b ≡ Ordering.Equal ↔ (a ≡ b) }

@@ -3,6 +3,7 @@
 ghost use Rattle.std.specs.Prelude.{◌≡◌, ◌+◌, ◌++◌, ◌≤◌};
 ghost use Rattle.arrayvec.specs.ArrayVec.{array_vec_len};
 ghost use Rattle.x86_opcodes.specs.Mnemonics.{mnemonic};
+ghost use Rattle.x86_decode.specs.Instruction.{mem_size_number};
 ghost use Rattle.x86_text.specs.Operands.{joint_text, operands_text};
 ghost use Rattle.x86_text.specs.Lines.{shown_operands, size_text, instruction_text, line_of};
 
@@ -40,7 +41,7 @@ fn push_operands(line: &mut Line, instruction: &Instruction)
 
 fn push_size(line: &mut Line, instruction: &Instruction)
     requires { array_vec_len line.old + 3 ≤ LINE_ROOM }
-    ensures text { line.new.items ≡ line.old.items ++ size_text instruction.now.given.mem_size }
+    ensures text { line.new.items ≡ line.old.items ++ size_text (mem_size_number instruction.now) }
     ensures short { array_vec_len line.new ≤ array_vec_len line.old + 3 }
 {
     match instruction.mem_size() {

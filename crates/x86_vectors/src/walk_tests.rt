@@ -1,21 +1,12 @@
 //! Every memory form, at three register files, against the sum written out.
-ghost use Rattle.std.specs.Prelude.{◌<◌, ◌≤◌};
 
 use arrayvec::ArrayVec;
 use x86_decode::InstDecoder;
-use x86_fields::RegFile;
-
-/// The fields of a ModRM or SIB byte: of two bits, of three, and of three.
-fn fields(byte: u8) -> (u8, u8, u8)
-    ensures middle { result.1 < 8 }
-    ensures low { result.2 < 8 }
-{
-    (byte / 64, byte / 8 % 8, byte % 8)
-}
+use x86_fields::{ModRM, RegFile, Sib};
 
 /// Whether there is a SIB behind a ModRM of the memory form.
-fn asks_sib(modrm: u8) -> bool {
-    fields(modrm).2 == 4
+fn asks_sib(modrm: ModRM) -> bool {
+    modrm.rm_field() == 4
 }
 
 /// One memory form of `ADD r32, m32`.
@@ -24,8 +15,8 @@ struct MemoryForm {
     rex_x: bool,
     rex_b: bool,
     address_size: bool,
-    modrm: u8,
-    sib: u8,
+    modrm: ModRM,
+    sib: Sib,
     disp: i32,
 }
 
@@ -36,13 +27,12 @@ impl MemoryForm {
 
     /// How many bytes of displacement there are.
     fn displacement_width(&self) -> u8 {
-        let (mode, _, rm) = fields(self.modrm);
         let base = if self.has_sib() {
-            fields(self.sib).2
+            self.sib.base_field()
         } else {
-            rm
+            self.modrm.rm_field()
         };
-        match mode {
+        match self.modrm.mod_field() {
             1 => 1,
             2 => 4,
             _ => { if base == 5 { 4 } else { 0 } }
@@ -55,9 +45,9 @@ impl MemoryForm {
             let _ = bytes.try_push(0x67);
         }
         let rex = 0x40 + 2 * self.rex_x as u8 + self.rex_b as u8;
-        let _ = bytes.try_extend_from_slice(&[rex, 0x03, self.modrm]);
+        let _ = bytes.try_extend_from_slice(&[rex, 0x03, self.modrm.byte()]);
         if self.has_sib() {
-            let _ = bytes.try_push(self.sib);
+            let _ = bytes.try_push(self.sib.byte());
         }
         let disp = self.disp.to_le_bytes();
         let _ = match self.displacement_width() {
@@ -80,14 +70,16 @@ impl MemoryForm {
     fn full_sum(&self, regs: &[u64; 16], next: u64) -> u64 {
         let b = 8 * self.rex_b as u8;
         let x = 8 * self.rex_x as u8;
-        let (mode, _, rm) = fields(self.modrm);
+        let mode = self.modrm.mod_field();
+        let rm = self.modrm.rm_field();
         if !self.has_sib() {
             if mode == 0 && rm == 5 {
                 return next.wrapping_add(self.distance());
             }
             return regs[(rm + b) as usize].wrapping_add(self.distance());
         }
-        let (scale, index, base) = fields(self.sib);
+        let index = self.sib.index_field();
+        let base = self.sib.base_field();
         let base = if mode == 0 && base == 5 {
             0
         } else {
@@ -98,7 +90,7 @@ impl MemoryForm {
         } else {
             regs[(index + x) as usize]
         };
-        let scale = match scale {
+        let scale = match self.sib.scale_field() {
             0 => 1,
             1 => 2,
             2 => 4,
@@ -147,7 +139,7 @@ fn files() -> [[u64; 16]; 3] {
 }
 
 /// The form with each REX bit, 67 or none, and three displacements.
-fn variants_are_right(modrm: u8, sib: u8) -> bool {
+fn variants_are_right(modrm: ModRM, sib: Sib) -> bool {
     (0..8u8).all(|bits| {
         [0, 5, -3].iter().all(|disp| {
             let form = MemoryForm {
@@ -165,15 +157,15 @@ fn variants_are_right(modrm: u8, sib: u8) -> bool {
 
 #[test]
 fn every_memory_form(rt: HostRuntime) {
-    for modrm in 0..=255u8 {
-        let (mode, _, _) = fields(modrm);
-        if mode == 3 {
+    for byte in 0..=255u8 {
+        let modrm = ModRM::new(byte);
+        if !modrm.is_memory() {
             continue;
         }
         if asks_sib(modrm) {
-            assert!(rt; (0..=255u8).all(|sib| variants_are_right(modrm, sib)));
+            assert!(rt; (0..=255u8).all(|sib| variants_are_right(modrm, Sib::new(sib))));
         } else {
-            assert!(rt; variants_are_right(modrm, 0));
+            assert!(rt; variants_are_right(modrm, Sib::new(0)));
         }
     }
 }

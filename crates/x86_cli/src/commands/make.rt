@@ -2,6 +2,7 @@
 
 ghost use Rattle.std.specs.Prelude.{◌≡◌, ◌↔◌, IsTrue, ◌+◌, ◌≤◌, ◌++◌, ℕ, IfSome, Some, None, length, decimal};
 ghost use Rattle.arrayvec.specs.ArrayVec.{array_vec_len};
+ghost use Rattle.x86_regs.specs.Register.{class};
 ghost use Rattle.x86_decode.specs.Instruction.{holding};
 ghost use Rattle.x86_cli.specs.Commands.Run.{Wrote};
 ghost use Rattle.x86_cli.specs.Commands.Make.{generate, has_long_displacement, is_rip, is_at_rip, is_absolute, has_operand, answer_has, one_if, tally_of, tally_text, make_max, made_listing};
@@ -67,7 +68,7 @@ pub fn generate(i: u32) -> ArrayVec<u8, 15>
 }
 
 fn is_rip(register: RegSpec) -> bool
-    ensures { result ≡ is_rip register.class }
+    ensures { result ≡ is_rip (class register) }
 {
     matches!(register.class(), RegisterClass::RIP)
 }

@@ -1,6 +1,7 @@
 //! Listings, line by line.
 
 ghost use Rattle.x86_decode.specs.Decoder.{is_strict};
+ghost use Rattle.x86_decode.specs.Instruction.{length_of};
 ghost use Rattle.std.specs.Prelude.{◌≡◌, ℕ, Bool, ◌<◌, ◌≤◌, ◌^◌, length, None};
 ghost use Rattle.arrayvec.specs.ArrayVec.{array_vec_len};
 ghost use Rattle.x86_cli.specs.Listings.Line.{line};
@@ -71,7 +72,7 @@ pub fn end<K: Sink>(sink: &mut K, ending: Ending) -> Result<Status, SinkFailed>
 }
 
 fn length_of(instruction: &Instruction) -> u64
-    ensures { result ≡ instruction.now.length }
+    ensures { result ≡ length_of instruction.now }
 {
     instruction.len().to_const()
 }

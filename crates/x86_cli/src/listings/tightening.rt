@@ -2,6 +2,7 @@
 
 ghost use Rattle.std.specs.Prelude.{◌≡◌, ◌+◌, ◌≤◌, ◌++◌, length, codes};
 ghost use Rattle.arrayvec.specs.ArrayVec.{array_vec_len};
+ghost use Rattle.x86_decode.specs.Instruction.{length_of};
 ghost use Rattle.x86_layout.specs.Tightening.Least.{shortest_length};
 ghost use Rattle.x86_cli.specs.Listings.Tighten.{least_text};
 
@@ -15,7 +16,7 @@ use x86_text::{LINE_MAX, Line, Place};
 pub struct LeastLines;
 
 impl Lines for LeastLines {
-    ghost text = { λ s strict place instruction bytes. least_text place instruction.length (shortest_length strict bytes) };
+    ghost text = { λ s strict place instruction bytes. least_text place (length_of instruction) (shortest_length strict bytes) };
 
     fn write(
         &self,
