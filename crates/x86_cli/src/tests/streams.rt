@@ -14,126 +14,77 @@ use std::alloc::Global;
 use std::io;
 use std::io::{ErrorKind, Read, Write};
 
+/// Two instructions.
+const TEXT: &[u8] = b"01 d8 01 d8";
+
+/// Whether the listing of a text is this and ends so, at whichever of these calls its source fails.
+fn fails_at(alloc: Global, text: &str, calls: (u64, u64), written: &str, status: Status) -> bool {
+    let (first, last) = calls;
+    (first..=last).all(|call| runs(
+        alloc,
+        &["list"],
+        text.as_bytes(),
+        &[call],
+        written.as_bytes(),
+        status,
+    ))
+}
+
 #[test]
 fn failing_sources(rt: HostRuntime) {
-    let one: &[u8] = b"0 2 ADD eax, ebx m4\nread fault\n";
-    let two: &[u8] = b"0 2 ADD eax, ebx m4\n2 2 ADD eax, ebx m4\n";
-    assert!(&rt;
-        runs(
-            rt.alloc(),
-            &["list"],
-            b"01 d8",
-            &[5],
-            one,
-            Status::ReadFault
-        )
-    );
-    for call in [0, 1, 2, 3, 4] {
-        assert!(&rt;
-            runs(
-                rt.alloc(),
-                &["list"],
-                b"01 d8 01 d8",
-                &[call],
-                b"read fault\n",
-                Status::ReadFault,
-            )
-        );
+    let one = "0 2 ADD eax, ebx m4\nread fault\n";
+    let both = "0 2 ADD eax, ebx m4\n2 2 ADD eax, ebx m4\nread fault\n";
+    let whole = "0 2 ADD eax, ebx m4\n2 2 ADD eax, ebx m4\n";
+    let worked = [
+        ("01 d8", (0, 0), "read fault\n", Status::ReadFault),
+        ("01 d8", (5, 5), one, Status::ReadFault),
+        ("01 d8 01 d8", (0, 4), "read fault\n", Status::ReadFault),
+        ("01 d8 01 d8", (5, 10), one, Status::ReadFault),
+        ("01 d8 01 d8", (11, 11), both, Status::ReadFault),
+        ("01 d8 01 d8", (12, 12), whole, Status::Done),
+        ("01", (2, 2), "read fault\n", Status::ReadFault),
+    ];
+    for (text, calls, written, status) in worked {
+        assert!(&rt; fails_at(rt.alloc(), text, calls, written, status));
     }
-    for call in [5, 6, 7, 8, 9, 10] {
-        assert!(&rt;
-            runs(
-                rt.alloc(),
-                &["list"],
-                b"01 d8 01 d8",
-                &[call],
-                one,
-                Status::ReadFault,
-            )
-        );
+}
+
+#[test]
+fn sources_that_fail_between_instructions_of_one_byte(rt: HostRuntime) {
+    let one = "0 1 NOP m0\nread fault\n";
+    let both = "0 1 NOP m0\n1 1 NOP m0\nread fault\n";
+    let worked = [
+        ("90", (2, 2), one, Status::ReadFault),
+        ("90 90", (0, 1), "read fault\n", Status::ReadFault),
+        ("90 90", (2, 4), one, Status::ReadFault),
+        ("90 90", (5, 5), both, Status::ReadFault),
+        ("90 90", (6, 6), "0 1 NOP m0\n1 1 NOP m0\n", Status::Done),
+        ("03", (2, 2), "read fault\n", Status::ReadFault),
+    ];
+    for (text, calls, written, status) in worked {
+        assert!(&rt; fails_at(rt.alloc(), text, calls, written, status));
     }
-    assert!(&rt;
-        runs(
-            rt.alloc(),
-            &["list"],
-            b"01 d8 01 d8",
-            &[11],
-            b"0 2 ADD eax, ebx m4\n2 2 ADD eax, ebx m4\nread fault\n",
-            Status::ReadFault,
-        )
-    );
-    assert!(&rt;
-        runs(
-            rt.alloc(),
-            &["list"],
-            b"01 d8 01 d8",
-            &[12],
-            two,
-            Status::Done
-        )
-    );
-    assert!(&rt;
-        runs(
-            rt.alloc(),
-            &["list"],
-            b"01",
-            &[2],
-            b"read fault\n",
-            Status::ReadFault,
-        )
-    );
-    // Nothing is read behind a Failed: the call behind it would give the rest.
-    assert!(&rt;
-        runs(
-            rt.alloc(),
-            &["list"],
-            b"01 d8",
-            &[0],
-            b"read fault\n",
-            Status::ReadFault,
-        )
-    );
-    // Nothing is asked behind End.
+}
+
+#[test]
+fn nothing_is_asked_behind_the_end(rt: HostRuntime) {
+    let written = b"0 2 ADD eax, ebx m4\n";
     assert!(&rt;
         runs(
             rt.alloc(),
             &["list"],
             b"01 d8",
             &[6, 7, 8],
-            b"0 2 ADD eax, ebx m4\n",
-            Status::Done,
+            written,
+            Status::Done
         )
     );
-}
-
-/// Whether the listing of a text, whose source fails at a call, is this and ends so.
-fn fails_at(alloc: Global, text: &[u8], call: u64, written: &[u8], status: Status) -> bool {
-    runs(alloc, &["list"], text, &[call], written, status)
-}
-
-#[test]
-fn sources_that_fail_between_instructions_of_one_byte(rt: HostRuntime) {
-    let fault: &[u8] = b"read fault\n";
-    let one: &[u8] = b"0 1 NOP m0\nread fault\n";
-    let two: &[u8] = b"0 1 NOP m0\n1 1 NOP m0\nread fault\n";
-    let whole: &[u8] = b"0 1 NOP m0\n1 1 NOP m0\n";
-    assert!(&rt; fails_at(rt.alloc(), b"90", 2, one, Status::ReadFault));
-    for call in [0, 1] {
-        assert!(&rt; fails_at(rt.alloc(), b"90 90", call, fault, Status::ReadFault));
-    }
-    for call in [2, 3, 4] {
-        assert!(&rt; fails_at(rt.alloc(), b"90 90", call, one, Status::ReadFault));
-    }
-    assert!(&rt; fails_at(rt.alloc(), b"90 90", 5, two, Status::ReadFault));
-    assert!(&rt; fails_at(rt.alloc(), b"90 90", 6, whole, Status::Done));
-    assert!(&rt; fails_at(rt.alloc(), b"03", 2, fault, Status::ReadFault));
 }
 
 /// Whether a run whose put with a number fails writes this and ends so.
 fn stops_at(arguments: &[String], fails: u64, written: &[u8], status: Status) -> bool {
     let mut sink = ArraySink::<64>::new(fails);
-    run(arguments, &mut SoundSource::new(b"01 d8 01 d8"), &mut sink) == status
-        && sink.written() == written
+    run(arguments, &mut SoundSource::new(TEXT), &mut sink) == status && sink.written() == written
 }
 
 #[test]
@@ -142,34 +93,48 @@ fn failing_sinks(rt: HostRuntime) {
         return;
     };
     let arguments = arguments.as_slice();
-    let mut small = ArraySink::<5>::new(u64::MAX);
-    assert!(&rt; run(arguments, &mut SoundSource::new(b"01 d8"), &mut small) == Status::WriteFault);
-    assert!(&rt; small.written() == b"0 2 A".as_slice());
-    let mut between = ArraySink::<24>::new(u64::MAX);
-    assert!(&rt;
-        run(
-            arguments,
-            &mut SoundSource::new(b"01 d8 01 d8"),
-            &mut between
-        ) == Status::WriteFault
-    );
-    assert!(&rt; between.written() == b"0 2 ADD eax, ebx m4\n2 2 ".as_slice());
-    let mut narrow = ArraySink::<15>::new(u64::MAX);
-    assert!(&rt;
-        run(arguments, &mut SoundSource::new(b"90 90"), &mut narrow) == Status::WriteFault
-    );
-    assert!(&rt; narrow.written() == b"0 1 NOP m0\n1 1 ".as_slice());
+    let both: &[u8] = b"0 2 ADD eax, ebx m4\n2 2 ADD eax, ebx m4\n";
     assert!(&rt; stops_at(arguments, 0, b"", Status::WriteFault));
     assert!(&rt; stops_at(arguments, 1, b"0 2 ADD eax, ebx m4\n", Status::WriteFault));
-    let both: &[u8] = b"0 2 ADD eax, ebx m4\n2 2 ADD eax, ebx m4\n";
     assert!(&rt; stops_at(arguments, 2, both, Status::Done));
-    assert!(&rt;
-        run(
-            arguments,
-            &mut SoundSource::new(b"01 d8"),
-            &mut NullSink::new()
-        ) == Status::Done
-    );
+}
+
+#[test]
+fn sinks_without_room(rt: HostRuntime) {
+    let Ok(arguments) = arguments(rt.alloc(), &["list"]) else {
+        return;
+    };
+    let arguments = arguments.as_slice();
+    let mut small = ArraySink::<5>::new(u64::MAX);
+    let status = run(arguments, &mut SoundSource::new(b"01 d8"), &mut small);
+    assert!(&rt; status == Status::WriteFault);
+    assert!(&rt; small.written() == b"0 2 A".as_slice());
+    let mut between = ArraySink::<24>::new(u64::MAX);
+    let status = run(arguments, &mut SoundSource::new(TEXT), &mut between);
+    assert!(&rt; status == Status::WriteFault);
+    assert!(&rt; between.written() == b"0 2 ADD eax, ebx m4\n2 2 ".as_slice());
+}
+
+#[test]
+fn a_sink_with_room_for_one_line(rt: HostRuntime) {
+    let Ok(arguments) = arguments(rt.alloc(), &["list"]) else {
+        return;
+    };
+    let mut narrow = ArraySink::<15>::new(u64::MAX);
+    let mut source = SoundSource::new(b"90 90");
+    let status = run(arguments.as_slice(), &mut source, &mut narrow);
+    assert!(&rt; status == Status::WriteFault);
+    assert!(&rt; narrow.written() == b"0 1 NOP m0\n1 1 ".as_slice());
+}
+
+#[test]
+fn a_sink_that_keeps_nothing(rt: HostRuntime) {
+    let Ok(arguments) = arguments(rt.alloc(), &["list"]) else {
+        return;
+    };
+    let mut source = SoundSource::new(b"01 d8");
+    let status = run(arguments.as_slice(), &mut source, &mut NullSink::new());
+    assert!(&rt; status == Status::Done);
 }
 
 /// Gives its bytes in two reads, and fails at the third.
@@ -211,35 +176,51 @@ impl Write for NarrowWriter {
 }
 
 #[test]
-fn real_streams(rt: HostRuntime) {
+fn streams_that_do(rt: HostRuntime) {
     let Ok(arguments) = arguments(rt.alloc(), &["list"]) else {
         return;
     };
-    let arguments = arguments.as_slice();
-    let text: &[u8] = b"01 d8 01 d8";
     let mut written = [0; 40];
     {
         let mut room: &mut [u8] = &mut written;
         let mut sink = StdSink::new(&mut room);
-        assert!(&rt; run(arguments, &mut StdSource::new(text), &mut sink) == Status::Done);
-        assert!(&rt; sink.faults() == 0);
+        let status = run(arguments.as_slice(), &mut StdSource::new(TEXT), &mut sink);
+        assert!(&rt; status == Status::Done && sink.faults() == 0);
     }
     assert!(&rt; written.as_slice() == b"0 2 ADD eax, ebx m4\n2 2 ADD eax, ebx m4\n".as_slice());
+}
+
+#[test]
+fn readers_that_fail(rt: HostRuntime) {
+    let Ok(arguments) = arguments(rt.alloc(), &["list"]) else {
+        return;
+    };
     let mut source = StdSource::new(FailingReader {
-        bytes: text,
+        bytes: TEXT,
         reads: 0,
     });
-    assert!(&rt; run(arguments, &mut source, &mut NullSink::new()) == Status::ReadFault);
-    assert!(&rt; source.faults() == 1);
-    let mut narrow = StdSink::new(NarrowWriter { room: 30 });
-    assert!(&rt; run(arguments, &mut StdSource::new(text), &mut narrow) == Status::WriteFault);
-    assert!(&rt; narrow.faults() == 1);
+    let status = run(arguments.as_slice(), &mut source, &mut NullSink::new());
+    assert!(&rt; status == Status::ReadFault && source.faults() == 1);
+}
+
+#[test]
+fn writers_that_fail(rt: HostRuntime) {
+    let Ok(arguments) = arguments(rt.alloc(), &["list"]) else {
+        return;
+    };
+    let mut sink = StdSink::new(NarrowWriter { room: 30 });
+    let status = run(arguments.as_slice(), &mut StdSource::new(TEXT), &mut sink);
+    assert!(&rt; status == Status::WriteFault && sink.faults() == 1);
+}
+
+#[test]
+fn a_flush_that_fails(rt: HostRuntime) {
+    let Ok(arguments) = arguments(rt.alloc(), &["list"]) else {
+        return;
+    };
     let mut gathered = Gathered::new(NarrowWriter { room: 30 });
-    let status = run(
-        arguments,
-        &mut StdSource::new(text),
-        &mut StdSink::new(&mut gathered),
-    );
+    let mut sink = StdSink::new(&mut gathered);
+    let status = run(arguments.as_slice(), &mut StdSource::new(TEXT), &mut sink);
     assert!(&rt; status == Status::Done);
     assert!(&rt; gathered.flush().is_err());
 }
