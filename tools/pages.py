@@ -21,7 +21,7 @@ from pathlib import Path
 
 TOP = Path(__file__).resolve().parent.parent
 PROGRAM = Path(os.environ.get("PROGRAM") or TOP / "crates" / "x86_cli" / "out" / "x86_cli").resolve()
-CODE = ["crates/x86_vectors/src/guide_tests.rt", "examples/own", "tools/own_test"]
+CODE = ["crates/x86_vectors/src/guide_tests.rt", "crates/x86_vectors/src/two_buffers.rt", "examples/own", "tools/own_test"]
 TOOLS = ["objcopy", "xxd", "hexdump", "od", "paste", "xargs"]
 
 

@@ -1,18 +1,18 @@
 -- Instructions: what a reading holds, with the length of its encoding.
-use Rattle.std.specs.Prelude.{◌≡◌, ℕ, ◌<◌, ◌==◌, ◌&&◌, ◌||◌, not, nat_lt, Bool, true, false, if◌then◌else◌, Option, Some, None, [], ◌∷◌, Result, Ok, Err, slice_index_or}
+use Rattle.std.specs.Prelude.{◌≡◌, ℕ, ◌<◌, ◌==◌, ◌&&◌, ◌||◌, not, Bool, true, false, if◌then◌else◌, Option, Some, None, [], ◌∷◌, Result, Ok, Err}
 use Rattle.x86_regs.specs.declared.Segment.{Segment}
 use Rattle.x86_regs.specs.declared.Segment.TheVariants.{DS, ES}
 use Rattle.x86_opcodes.specs.Names.{Invalid, MOVS, CMPS, XCHG, MOV}
 use Rattle.x86_fields.specs.declared.errors.DecodeError.{DecodeError}
+use Rattle.x86_fields.specs.Prefixes.{lock, segment}
 use Rattle.x86_fields.specs.Run.{reading_of, repnz, rep}
 use Rattle.x86_operands.specs.declared.reader.Reading.{Reading}
 use Rattle.x86_operands.specs.declared.operands.Slot.{Slot}
 use Rattle.x86_operands.specs.declared.operands.Slot.TheVariants as slots
 use Rattle.x86_operands.specs.declared.operands.Operand.{Operand}
 use Rattle.x86_operands.specs.declared.operands.MemoryAccessSize.{MemoryAccessSize}
-use Rattle.x86_operands.specs.declared.operands.Operand.TheVariants as operands
 use Rattle.x86_operands.specs.Operands.{access_size, is_memory_slot}
-use Rattle.x86_operands.specs.Encodings.{no_operands, reading_with}
+use Rattle.x86_operands.specs.Encodings.{no_operands, reading_with, slot_in, operand_in}
 use Rattle.x86_decode.specs.declared.instructions.Instruction.{Instruction}
 use Rattle.x86_decode.specs.declared.instructions.Shown.{Shown}
 
@@ -55,20 +55,24 @@ operand_count i = i.given.count
 abbrev pub length_of : Instruction → ℕ
 length_of i = i.length
 
+-- the same in an encoding of another length
+abbrev pub with_length : Instruction → ℕ → Instruction
+with_length i length = record i { length = length }
+
 -- the memory size: 0 where none is named, 63 where the processor decides
 abbrev pub mem_size_number : Instruction → ℕ
 mem_size_number i = i.given.mem_size
 
 -- the slot and the operand at an index: nothing at the count and above
 abbrev pub slot_at : Instruction → ℕ → Slot
-slot_at i k = if nat_lt k i.given.count then slice_index_or i.given.slots k slots.Nothing else slots.Nothing
+slot_at i k = slot_in i.given k
 
 abbrev pub operand_at : Instruction → ℕ → Operand
-operand_at i k = if nat_lt k i.given.count then slice_index_or i.given.operands k operands.Nothing else operands.Nothing
+operand_at i k = operand_in i.given k
 
 -- the size of what is read or written in memory, where one is named
 abbrev pub mem_size_of : Instruction → Option MemoryAccessSize
-mem_size_of i = if i.given.mem_size == 0 then None else Some (access_size i.given.mem_size)
+mem_size_of i = if mem_size_number i == 0 then None else Some (access_size (mem_size_number i))
 
 abbrev pub is_rm_slot : Slot → Bool
 is_rm_slot slots.Rm = true
@@ -82,9 +86,9 @@ unless_ds s = Some s
 -- the segment of the operand at an index, where it isn't the default one
 abbrev pub segment_override_for_op : Instruction → ℕ → Option Segment
 segment_override_for_op i k =
-    if i.opcode == MOVS then (if k == 0 then Some ES else (if k == 1 then Some i.prefixes.segment else None))
-    else (if i.opcode == CMPS then (if k == 0 then Some i.prefixes.segment else (if k == 1 then Some ES else None))
-    else (if is_memory_slot (slot_at i k) then unless_ds i.prefixes.segment else None))
+    if i.opcode == MOVS then (if k == 0 then Some ES else (if k == 1 then Some (segment i.prefixes) else None))
+    else (if i.opcode == CMPS then (if k == 0 then Some (segment i.prefixes) else (if k == 1 then Some ES else None))
+    else (if is_memory_slot (slot_at i k) then unless_ds (segment i.prefixes) else None))
 
 -- XCHG with neither slot 0 nor slot 1 a register of rm
 abbrev pub exchanges_memory : Instruction → Bool
@@ -101,10 +105,10 @@ is_release_slot s = false
 
 -- Source: Intel SDM volume 2, XACQUIRE/XRELEASE.
 abbrev pub xacquire : Instruction → Bool
-xacquire i = repnz i.prefixes && (i.prefixes.lock || exchanges_memory i)
+xacquire i = repnz i.prefixes && (lock i.prefixes || exchanges_memory i)
 
 abbrev pub xrelease : Instruction → Bool
-xrelease i = rep i.prefixes && (i.prefixes.lock || (exchanges_memory i || ((i.opcode == MOV) && (not (is_rm_slot (slot_at i 0)) && is_release_slot (slot_at i 1)))))
+xrelease i = rep i.prefixes && (lock i.prefixes || (exchanges_memory i || ((i.opcode == MOV) && (not (is_rm_slot (slot_at i 0)) && is_release_slot (slot_at i 1)))))
 
 -- what equality looks at: all but the length, and of slots and operands those below the count
 abbrev pub shown_of : Instruction → Shown

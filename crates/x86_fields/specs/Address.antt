@@ -4,6 +4,7 @@ use Rattle.std.specs.Prelude.{ℕ, ◌+◌, ◌^◌, ◌==◌, ◌&&◌, not, Bo
 use Rattle.x86_regs.specs.declared.RegisterClass.{RegisterClass}
 use Rattle.x86_regs.specs.declared.RegisterClass.TheVariants.{D, Q, EIP, RIP}
 use Rattle.x86_regs.specs.declared.RegSpec.{RegSpec}
+use Rattle.x86_regs.specs.Register.{reg_spec}
 use Rattle.x86_fields.specs.declared.raw.Raw.{Raw}
 use Rattle.x86_fields.specs.ModRM.{mod_field, rm_field, scale_field, index_field, base_field}
 
@@ -16,11 +17,11 @@ abbrev pub extend : Bool → ℕ → ℕ
 extend bit n = if bit then n + 8 else n
 
 abbrev pub address_register : Raw → Bool → ℕ → RegSpec
-address_register raw bit n = record { num = extend bit n; class = address_class raw }
+address_register raw bit n = reg_spec (extend bit n) (address_class raw)
 
 -- rip, or eip under 67
 abbrev pub next_pointer : Raw → RegSpec
-next_pointer raw = record { num = 0; class = if raw.address_size then EIP else RIP }
+next_pointer raw = reg_spec 0 (if raw.address_size then EIP else RIP)
 
 -- Without SIB the base is rm, or the next instruction at mod 00 with rm 101. With SIB it is the base field, or none
 -- at mod 00 with 101.

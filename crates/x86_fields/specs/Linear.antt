@@ -5,6 +5,7 @@ use Rattle.std.specs.Int.{w32, w64, cast_unsigned, sum_through}
 use Rattle.x86_regs.specs.declared.RegisterClass.{RegisterClass}
 use Rattle.x86_regs.specs.declared.RegisterClass.TheVariants.{EIP, RIP}
 use Rattle.x86_regs.specs.declared.RegSpec.{RegSpec}
+use Rattle.x86_regs.specs.Register.{num, class}
 use Rattle.x86_fields.specs.declared.address_parts.AddressParts.{AddressParts}
 use Rattle.x86_fields.specs.declared.raw.Raw.{Raw}
 use Rattle.x86_fields.specs.Address.{base_of, index_of, scale_by}
@@ -27,11 +28,11 @@ is_pointer c = false
 -- what a named register adds to the coefficient of register r, and to that of the next pointer
 abbrev pub adds_to : Option RegSpec → ℕ → ℕ → ℕ
 adds_to None times r = 0
-adds_to (Some reg) times r = if is_pointer reg.class then 0 else (if reg.num % 16 == r then times else 0)
+adds_to (Some reg) times r = if is_pointer (class reg) then 0 else (if num reg % 16 == r then times else 0)
 
 abbrev pub adds_next : Option RegSpec → ℕ → ℕ
 adds_next None times = 0
-adds_next (Some reg) times = if is_pointer reg.class then times else 0
+adds_next (Some reg) times = if is_pointer (class reg) then times else 0
 
 -- the displacement modulo the modulus
 abbrev pub constant_by : Bool → ℤ → ℕ
@@ -60,7 +61,7 @@ value_at f regs next = (sum_through (λ r. f.registers r * slice_index regs r) 1
 -- what a named register adds to the value
 abbrev pub part_value : Option RegSpec → ℕ → List ℕ → ℕ → ℕ
 part_value None times regs next = 0
-part_value (Some reg) times regs next = times * (if is_pointer reg.class then next else slice_index regs (reg.num % 16))
+part_value (Some reg) times regs next = times * (if is_pointer (class reg) then next else slice_index regs (num reg % 16))
 
 -- Two forms are the same address where they are equal in every part.
 pub record IsSameAddress (f g : Linear) : Type 0 where

@@ -23,12 +23,15 @@ segment p = p.segment
 abbrev pub rex : Prefixes → Option PrefixRex
 rex p = p.rex
 
--- the same, but for one
+-- the same without 66, with the segment ES, and with another live REX
 abbrev pub without_operand_size : Prefixes → Prefixes
 without_operand_size p = record p { operand_size = false }
 
 abbrev pub with_es : Prefixes → Prefixes
 with_es p = record p { segment = ES }
+
+abbrev pub with_rex : Prefixes → Option PrefixRex → Prefixes
+with_rex p rex = record p { rex = rex }
 
 -- the bits of a REX
 abbrev pub w : PrefixRex → Bool
@@ -42,3 +45,7 @@ x rex = rex.x
 
 abbrev pub b : PrefixRex → Bool
 b rex = rex.b
+
+-- the same with other bits X and B
+abbrev pub with_x_and_b : PrefixRex → Bool → Bool → PrefixRex
+with_x_and_b rex x b = record rex { x = x; b = b }

@@ -4,6 +4,7 @@ use Rattle.std.specs.Prelude.{ℕ, nat_le, ◌&&◌, ◌||◌, not, if◌then◌
 use Rattle.x86_regs.specs.declared.RegisterClass.{RegisterClass}
 use Rattle.x86_regs.specs.declared.RegisterClass.TheVariants.{B, W, D, RB, Q}
 use Rattle.x86_regs.specs.declared.RegSpec.{RegSpec}
+use Rattle.x86_regs.specs.Register.{reg_spec}
 use Rattle.x86_fields.specs.declared.prefixes.Prefixes.{Prefixes}
 use Rattle.x86_fields.specs.Raw.{has_w}
 pub use Rattle.x86_regs.specs.Class.{width_of}
@@ -26,9 +27,9 @@ dq_class p = if has_w p then Q else D
 
 -- A byte register below 4 has class B; from 4 on it has class rB with a live REX, else class B.
 abbrev pub byte_reg : Prefixes → ℕ → RegSpec
-byte_reg p n = if is_some p.rex && nat_le 4 n then record { num = n; class = RB } else record { num = n; class = B }
+byte_reg p n = if is_some p.rex && nat_le 4 n then reg_spec n RB else reg_spec n B
 
 -- a register of a class, where class B stands for the byte registers
 abbrev pub register_of : RegisterClass → Prefixes → ℕ → RegSpec
 register_of B p n = byte_reg p n
-register_of c p n = record { num = n; class = c }
+register_of c p n = reg_spec n c

@@ -65,16 +65,3 @@ impl fmt::Display for DecodeError {
 }
 
 impl Error for DecodeError {}
-
-#[cfg(test)]
-mod tests {
-    use super::*;
-    use std::test::Fail;
-
-    #[test]
-    fn an_error_is_shown_by_its_description(rt: HostRuntime) -> Result<(), Fail> {
-        let shown = format!(in rt.alloc(); "{}", DecodeError::IncompleteDecoder)?;
-        assert_eq!(rt; shown.as_str(), "the decoder is incomplete");
-        Ok(())
-    }
-}

@@ -247,27 +247,3 @@ impl Prefixes {
         self.rex.is_some_and(|rex| rex.b)
     }
 }
-
-#[cfg(test)]
-mod tests {
-    use super::*;
-    use crate::reading_of;
-    use x86_regs::{RegSpec, RegisterClass};
-
-    #[test]
-    fn the_last_prefix_decides(rt: HostRuntime) {
-        let cases: [(&[u8], bool, RegisterClass); 4] = [
-            (&[0x48, 0x2e], false, RegisterClass::D),
-            (&[0x66, 0x48], true, RegisterClass::Q),
-            (&[0x48, 0x41], true, RegisterClass::D),
-            (&[0x41, 0x48], true, RegisterClass::Q),
-        ];
-        for (run, live, class) in cases {
-            let prefixes = reading_of(run);
-            assert_eq!(rt; prefixes.rex().is_some(), live);
-            assert_eq!(rt; prefixes.v_class(), class);
-        }
-        assert_eq!(rt; reading_of(&[0x40]).byte_reg(4), RegSpec::spl());
-        assert_eq!(rt; Prefixes::none().byte_reg(4), RegSpec::ah());
-    }
-}

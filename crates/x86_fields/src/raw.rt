@@ -211,21 +211,3 @@ pub fn read_raw<T: Reader<u64, u8>>(
         disp,
     })
 }
-
-#[cfg(test)]
-mod tests {
-    use super::*;
-    use crate::numbers::{read_imm_signed, read_num};
-    use x86_arch::{Reader, U8Reader};
-
-    #[test]
-    fn a_number_that_does_not_fit_is_not_taken(rt: HostRuntime) {
-        let mut reader = U8Reader::new(&[0x25, 1, 2, 3]);
-        let raw = read_raw(&mut reader, &Prefixes::none(), 0x04);
-        assert_eq!(rt; raw, Err(DecodeError::ExhaustedInput));
-        assert_eq!(rt; reader.total_offset(), 1);
-        assert_eq!(rt; read_num(&mut reader, 4), Err(DecodeError::ExhaustedInput));
-        assert_eq!(rt; read_imm_signed(&mut reader, 2), Ok(0x0201));
-        assert_eq!(rt; read_num(&mut reader, 1), Ok(3));
-    }
-}

@@ -1,6 +1,7 @@
 -- Arithmetic, shifts and rotations, chosen by reg. Source: Intel SDM volume 2, appendix A.4, groups 1, 2 and 3.
 use Rattle.std.specs.Prelude.{ℕ, nat_lt, pos, Bool, if◌then◌else◌, [], ◌∷◌}
 use Rattle.x86_regs.specs.declared.RegisterClass.TheVariants.{B}
+use Rattle.x86_regs.specs.Register.{reg_spec}
 use Rattle.x86_regs.specs.Class.{width_of}
 use Rattle.x86_fields.specs.ModRM.{reg_field}
 use Rattle.x86_fields.specs.declared.prefixes.Prefixes.{Prefixes}
@@ -34,7 +35,7 @@ abbrev pub one : OperandEncoding
 one = ConstantI8 (pos 1)
 
 abbrev pub cl : OperandEncoding
-cl = Fixed reg_slot.Reg (record { num = 1; class = B })
+cl = Fixed reg_slot.Reg (reg_spec 1 B)
 
 -- the first operand is a byte, or of class v
 abbrev pub rotates_byte : OperandEncoding → ℕ → Plan

@@ -15,6 +15,7 @@ use Rattle.x86_fields.specs.ModRM.{reg_field, is_memory}
 use Rattle.x86_operands.specs.Operands.{undecided_size}
 use Rattle.x86_operands.specs.Plans.{reads, refuses, memory_only, size_by}
 use Rattle.x86_opcodes.specs.Names.{BT, BTS, BTR, BTC, CMPXCHG16B, CMPXCHG8B, VMCLEAR, RDRAND, RDSEED, VMXON, SENDUIPI, RDPID, XRSTORS, XRSTORS64, XSAVEC, XSAVEC64, XSAVES, XSAVES64, VMPTRLD, VMPTRST}
+use Rattle.x86_fields.specs.Prefixes.{operand_size}
 use Rattle.x86_groups.specs.Vocabulary.{bad_opcode, bad_operand, name_at, on_memory, on_register}
 
 unfoldable pub plan_0fba : Prefixes → ℕ → Plan
@@ -56,6 +57,6 @@ unfoldable pub plan_0fc7 : Prefixes → ℕ → Plan
 plan_0fc7 p m =
     if reg_field m == 1 then compares_0fc7 p m
     else (if repnz p then bad_operand
-    else (if p.operand_size then operand_size_0fc7 m
+    else (if operand_size p then operand_size_0fc7 m
     else (if rep p then f3_0fc7 m
     else plain_0fc7 p m)))

@@ -6,6 +6,7 @@ use Rattle.x86_fields.specs.ModRM.{reg_field, rm_field, is_memory}
 use Rattle.x86_opcodes.specs.Names.{LFENCE, MFENCE, SFENCE}
 use Rattle.x86_forms.specs.declared.Form.{Form}
 use Rattle.x86_forms.specs.declared.Form.TheVariants as form
+use Rattle.x86_fields.specs.Prefixes.{operand_size}
 
 -- The fence that reg names.
 pub data NamesFence (m : ℕ) : ℕ → Type 0 where
@@ -19,7 +20,7 @@ pub record IsFenceWithRm (f : Form) (p : Prefixes) (m : ℕ) : Type 0 where
   pub group : f ≡ form.ModRM_0x0fae
   pub no_f2 : repnz p ≡ false
   pub no_f3 : rep p ≡ false
-  pub no_66 : p.operand_size ≡ false
+  pub no_66 : operand_size p ≡ false
   pub register : is_memory m ≡ false
   pub named : NamesFence m opcode
   pub other_rm : rm_field m ≢ 0

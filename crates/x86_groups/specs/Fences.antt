@@ -2,6 +2,7 @@
 -- A.4, group 15.
 use Rattle.std.specs.Prelude.{ℕ, ◌==◌, Bool, not, ◌&&◌, if◌then◌else◌, [], ◌∷◌, slice_index_or}
 use Rattle.x86_regs.specs.declared.RegisterClass.TheVariants.{D, Q}
+use Rattle.x86_regs.specs.Register.{reg_spec}
 use Rattle.x86_regs.specs.Class.{width_of}
 use Rattle.x86_fields.specs.declared.prefixes.Prefixes.{Prefixes}
 use Rattle.x86_fields.specs.Run.{repnz, rep}
@@ -15,6 +16,7 @@ use Rattle.x86_operands.specs.Operands.{undecided_size}
 use Rattle.x86_operands.specs.Plans.{reads, size_by, rm_number}
 use Rattle.x86_operands.specs.declared.plans.RegisterSlot.TheVariants as reg_slot
 use Rattle.x86_opcodes.specs.Names.{CLWB, CLFLUSH, CLFLUSHOPT, TPAUSE, UMWAIT, PTWRITE, RDFSBASE, RDGSBASE, WRFSBASE, WRGSBASE, INCSSP, UMONITOR, CLRSSBSY, FXSAVE, XSAVE, FXRSTOR, XRSTOR, LDMXCSR, STMXCSR, XSAVEOPT, LFENCE, MFENCE, SFENCE}
+use Rattle.x86_fields.specs.Prefixes.{operand_size}
 use Rattle.x86_groups.specs.Vocabulary.{bad_opcode, bad_operand, bare, named_by_reg, on_memory, on_register}
 
 -- 66 alone: the answer's prefixes show 66 cleared
@@ -33,13 +35,13 @@ operand_size_0fae m =
 unfoldable pub f2_0fae : Prefixes → ℕ → Plan
 f2_0fae p m =
     if is_memory m then bad_operand
-    else (if reg_field m == 6 then reads UMWAIT (One (Fixed reg_slot.Reg (record { num = rm_number m p; class = D }))) 0
+    else (if reg_field m == 6 then reads UMWAIT (One (Fixed reg_slot.Reg (reg_spec (rm_number m p) D))) 0
     else bad_opcode)
 
 -- F3, /4: memory or a register
 unfoldable pub trace_0fae : Prefixes → ℕ → Plan
 trace_0fae p m =
-    if p.operand_size then bad_opcode
+    if operand_size p then bad_opcode
     else reads PTWRITE (One (E (dq_class p))) (size_by m (width_of (dq_class p)) 0)
 
 abbrev pub f3_register_0fae : Prefixes → ℕ → Plan
@@ -81,5 +83,5 @@ unfoldable pub plan_0fae : Bool → Prefixes → ℕ → Plan
 plan_0fae strict p m =
     if repnz p then f2_0fae p m
     else (if rep p then f3_0fae p m
-    else (if p.operand_size then clears_operand_size (operand_size_0fae m)
+    else (if operand_size p then clears_operand_size (operand_size_0fae m)
     else plain_0fae strict m))

@@ -2,6 +2,7 @@
 -- 2, appendix A.5.
 use Rattle.std.specs.Prelude.{ℕ, nat_lt, nat_le, ◌==◌, ◌-◌, ◌&&◌, if◌then◌else◌, [], ◌∷◌}
 use Rattle.x86_regs.specs.declared.RegisterClass.TheVariants.{W, ST}
+use Rattle.x86_regs.specs.Register.{reg_spec}
 use Rattle.x86_operands.specs.declared.plans.OperandEncoding.{OperandEncoding}
 use Rattle.x86_operands.specs.declared.plans.OperandEncoding.TheVariants.{M, Fixed}
 use Rattle.x86_operands.specs.declared.plans.OperandEncodings.TheVariants.{One, Two}
@@ -15,10 +16,10 @@ use Rattle.x86_groups.specs.Vocabulary.{bad_opcode, bad_operand, bare, name_at, 
 
 -- st(0) in slot Reg, and st(rm) in slot Rm, which no B extends
 abbrev pub st0 : OperandEncoding
-st0 = Fixed reg_slot.Reg (record { num = 0; class = ST })
+st0 = Fixed reg_slot.Reg (reg_spec 0 ST)
 
 abbrev pub st_rm : ℕ → OperandEncoding
-st_rm m = Fixed reg_slot.Rm (record { num = rm_field m; class = ST })
+st_rm m = Fixed reg_slot.Rm (reg_spec (rm_field m) ST)
 
 -- with memory of a size: into st(0), or from st(0)
 abbrev pub loads : ℕ → ℕ → Plan

@@ -16,6 +16,7 @@ use Rattle.x86_operands.specs.declared.plans.Plan.{Plan}
 use Rattle.x86_fields.specs.ModRM.{reg_field, is_memory}
 use Rattle.x86_operands.specs.Plans.{reads, refuses, refused, memory_only, size_by}
 use Rattle.x86_opcodes.specs.Names.{AESENCWIDE128KL, AESDECWIDE128KL, AESENCWIDE256KL, AESDECWIDE256KL, AESENC128KL, LOADIWKEY, AESDEC128KL, AESENC256KL, AESDEC256KL, ENCODEKEY128, ENCODEKEY256, HRESET}
+use Rattle.x86_fields.specs.Prefixes.{operand_size, address_size, lock, segment, rex}
 use Rattle.x86_groups.specs.Vocabulary.{bad_operand, on_memory}
 
 unfoldable pub plan_f30f38d8 : ℕ → Plan
@@ -62,7 +63,7 @@ is_no_override s = false
 -- F3 is in force, and nothing else: no 66, 67, LOCK, FS, GS or live REX
 abbrev pub is_f3_alone : Prefixes → Bool
 is_f3_alone p =
-    rep p && not p.operand_size && not p.address_size && not p.lock && is_no_override p.segment && not (is_some p.rex)
+    rep p && not (operand_size p) && not (address_size p) && not (lock p) && is_no_override (segment p) && not (is_some (rex p))
 
 unfoldable pub fault_f30f3af0 : Prefixes → Option Fault
 fault_f30f3af0 p = if is_f3_alone p then None else Some BadOpcode

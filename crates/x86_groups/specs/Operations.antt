@@ -14,12 +14,13 @@ use Rattle.x86_operands.specs.declared.plans.Moment.TheVariants.{AfterAddress}
 use Rattle.x86_operands.specs.declared.plans.Plan.{Plan}
 use Rattle.x86_operands.specs.Plans.{reads, refuses, memory_only, size_by, immediate_of}
 use Rattle.x86_opcodes.specs.Names.{POP, MOV, XABORT, XBEGIN, INC, DEC, CALL, CALLF, JMP, JMPF, PUSH}
+use Rattle.x86_fields.specs.Prefixes.{operand_size}
 use Rattle.x86_groups.specs.Vocabulary.{is_register_0, on_memory}
 
 -- of a memory form 8 bytes without 66, else the width of v
 unfoldable pub plan_8f : Prefixes → ℕ → Plan
 plan_8f p m =
-    if reg_field m == 0 then reads POP (One (E (v_class p))) (size_by m (if p.operand_size then width_of (v_class p) else 8) (width_of (v_class p)))
+    if reg_field m == 0 then reads POP (One (E (v_class p))) (size_by m (if operand_size p then width_of (v_class p) else 8) (width_of (v_class p)))
     else refuses Incomplete AfterAddress
 
 -- C6 with a reg other than 0
@@ -55,5 +56,5 @@ plan_ff p m =
     else (if reg_field m == 3 then memory_only m (on_memory CALLF 10)
     else (if reg_field m == 4 then reads JMP (One (E Q)) (size_by m 8 (width_of (v_class p)))
     else (if reg_field m == 5 then memory_only m (on_memory JMPF 10)
-    else (if reg_field m == 6 then reads PUSH (One (E (v_class p))) (if p.operand_size then 2 else 8)
+    else (if reg_field m == 6 then reads PUSH (One (E (v_class p))) (if operand_size p then 2 else 8)
     else refuses BadOpcode AfterAddress))))))

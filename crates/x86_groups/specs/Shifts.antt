@@ -12,11 +12,12 @@ use Rattle.x86_operands.specs.declared.plans.Plan.{Plan}
 use Rattle.x86_fields.specs.ModRM.{reg_field, is_memory}
 use Rattle.x86_operands.specs.Plans.{reads, refuses}
 use Rattle.x86_opcodes.specs.Names.{PSRLW, PSRAW, PSLLW, PSRLD, PSRAD, PSLLD, PSRLQ, PSRLDQ, PSLLQ, PSLLDQ}
+use Rattle.x86_fields.specs.Prefixes.{operand_size}
 use Rattle.x86_groups.specs.Vocabulary.{has_f2_or_f3}
 
 -- a register and the count
 abbrev pub packed_shift : Prefixes → ℕ → Plan
-packed_shift p opcode = reads opcode (if p.operand_size then Two (U X) U8 else Two Umm U8) (width_of (v_class p))
+packed_shift p opcode = reads opcode (if operand_size p then Two (U X) U8 else Two Umm U8) (width_of (v_class p))
 
 -- F2, F3 and memory are refused before reg is looked at
 abbrev pub refuses_shift : Prefixes → ℕ → Bool
@@ -40,7 +41,7 @@ plan_0f72 p m =
 
 -- shifts of a whole register, which only xmm registers have
 abbrev pub whole_shift : Prefixes → ℕ → Plan
-whole_shift p opcode = if p.operand_size then packed_shift p opcode else refuses BadOperand AfterAddress
+whole_shift p opcode = if operand_size p then packed_shift p opcode else refuses BadOperand AfterAddress
 
 unfoldable pub plan_0f73 : Prefixes → ℕ → Plan
 plan_0f73 p m =

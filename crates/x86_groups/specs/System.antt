@@ -2,6 +2,7 @@
 -- 3, appendix A.
 use Rattle.std.specs.Prelude.{ℕ, nat_lt, ◌==◌, if◌then◌else◌, [], ◌∷◌}
 use Rattle.x86_regs.specs.declared.RegisterClass.TheVariants.{W, D, Q}
+use Rattle.x86_regs.specs.Register.{reg_spec}
 use Rattle.x86_fields.specs.declared.prefixes.Prefixes.{Prefixes}
 use Rattle.x86_fields.specs.Run.{repnz, rep}
 use Rattle.x86_fields.specs.Sizes.{v_class}
@@ -14,6 +15,7 @@ use Rattle.x86_fields.specs.ModRM.{reg_field, rm_field, is_memory}
 use Rattle.x86_operands.specs.Plans.{reads, size_by}
 use Rattle.x86_operands.specs.declared.plans.RegisterSlot.TheVariants as reg_slot
 use Rattle.x86_opcodes.specs.Names.{SLDT, STR, LLDT, LTR, VERR, VERW, SGDT, SIDT, LGDT, LIDT, SMSW, RSTORSSP, LMSW, INVLPG, ENCLV, VMCALL, VMLAUNCH, VMRESUME, VMXOFF, PCONFIG, TDCALL, SEAMRET, SEAMOPS, SEAMCALL, MONITOR, MWAIT, CLAC, STAC, ENCLS, XGETBV, XSETBV, VMFUNC, XEND, XTEST, ENCLU, VMRUN, VMMCALL, VMLOAD, VMSAVE, STGI, CLGI, SKINIT, INVLPGA, XSUSLDTRK, SETSSBSY, XRESLDTRK, SAVEPREVSSP, UIRET, TESTUI, STUI, CLUI, RDPKRU, WRPKRU, RMPADJUST, RMPUPDATE, INVLPGB, PSMASH, PVALIDATE, TLBSYNC, SWAPGS, RDTSCP, MONITORX, MWAITX, CLZERO, RDPRU}
+use Rattle.x86_fields.specs.Prefixes.{operand_size}
 use Rattle.x86_groups.specs.Vocabulary.{bad_opcode, bad_operand, bare, has_f2_f3_or_66, has_f2_or_f3, name_at, named_by_reg, on_memory}
 
 unfoldable pub plan_0f00 : ℕ → Plan
@@ -63,7 +65,7 @@ monitoring m =
 unfoldable pub register_0f01_1 : Prefixes → ℕ → Plan
 register_0f01_1 p m =
     if has_f2_or_f3 p then bad_opcode
-    else (if p.operand_size then trusted_domain m
+    else (if operand_size p then trusted_domain m
     else monitoring m)
 
 unfoldable pub register_0f01_2 : Prefixes → ℕ → Plan
@@ -79,16 +81,16 @@ register_0f01_2 p m =
 
 -- registers that a name implies
 abbrev pub rax : OperandEncoding
-rax = Fixed reg_slot.Reg (record { num = 0; class = Q })
+rax = Fixed reg_slot.Reg (reg_spec 0 Q)
 
 abbrev pub eax : OperandEncoding
-eax = Fixed reg_slot.Reg (record { num = 0; class = D })
+eax = Fixed reg_slot.Reg (reg_spec 0 D)
 
 abbrev pub ecx_at : RegisterSlot → OperandEncoding
-ecx_at slot = Fixed slot (record { num = 1; class = D })
+ecx_at slot = Fixed slot (reg_spec 1 D)
 
 abbrev pub edx_at : RegisterSlot → OperandEncoding
-edx_at slot = Fixed slot (record { num = 2; class = D })
+edx_at slot = Fixed slot (reg_spec 2 D)
 
 unfoldable pub register_0f01_3 : ℕ → Plan
 register_0f01_3 m =
@@ -133,7 +135,7 @@ register_0f01_7 p m =
     else (if rm_field m == 3 then bare MWAITX
     else (if rm_field m == 4 then bare CLZERO
     else (if rm_field m == 5 then reads RDPRU (One (ecx_at reg_slot.Reg)) 0
-    else (if p.operand_size then bad_operand
+    else (if operand_size p then bad_operand
     else (if rm_field m == 6 then invalidates_pages p
     else synchronizes_pages p)))))))
 

@@ -12,6 +12,7 @@ use Rattle.x86_operands.specs.declared.plans.Moment.TheVariants.{AtModRM}
 use Rattle.x86_operands.specs.declared.plans.Plan.{Plan}
 use Rattle.x86_operands.specs.Plans.{reads, refuses}
 use Rattle.x86_opcodes.specs.Names.{Invalid}
+use Rattle.x86_fields.specs.Prefixes.{operand_size}
 
 -- the name with a number in a list, counted from 0
 abbrev pub name_at : List ℕ → ℕ → ℕ
@@ -30,7 +31,7 @@ abbrev pub has_f2_or_f3 : Prefixes → Bool
 has_f2_or_f3 p = repnz p || rep p
 
 abbrev pub has_f2_f3_or_66 : Prefixes → Bool
-has_f2_f3_or_66 p = repnz p || rep p || p.operand_size
+has_f2_f3_or_66 p = repnz p || rep p || operand_size p
 
 -- no operand, and no memory
 abbrev pub bare : ℕ → Plan

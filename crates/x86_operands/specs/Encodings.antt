@@ -36,9 +36,11 @@ use Rattle.x86_operands.specs.Plans.{reads, refuses, memory_only, register_only,
 use Rattle.x86_operands.specs.FormSizes.{whole_immediate, push_immediate, nothing_size, call_size, return_size, duplicate_size, stream_size, scalar_size, extract_size, insert_size, unpack_size}
 use Rattle.x86_operands.specs.Forms.{form_plan, cl_third, v_size}
 use Rattle.std.specs.Prelude.{Result, Ok, Err, Option, None, not, pos, nat_lt, slice_index_or, ⊤, slice_set, ◌∷◌, [], ◌&&◌}
+use Rattle.x86_regs.specs.Register.{reg_spec}
 use Rattle.x86_operands.specs.declared.operands.Slot.TheVariants as slots
 use Rattle.x86_operands.specs.declared.operands.Operand.TheVariants as operands
 use Rattle.x86_fields.specs.declared.errors.DecodeError.{DecodeError}
+use Rattle.x86_fields.specs.Prefixes.{operand_size}
 use Rattle.x86_fields.specs.Steps.{Step, ◌>>=◌, pure}
 use Rattle.x86_operands.specs.declared.plans.ModrmUse.{ModrmUse}
 use Rattle.x86_operands.specs.declared.plans.ModrmUse.TheVariants as use_as
@@ -73,7 +75,7 @@ size_bytes size.Eight o p = 8
 size_bytes size.Sixteen o p = 16
 size_bytes size.V o p = v_size p
 size_bytes size.Dq o p = width_of (dq_class p)
-size_bytes size.Push o p = if p.operand_size then 2 else 8
+size_bytes size.Push o p = if operand_size p then 2 else 8
 size_bytes size.Call o p = call_size o
 size_bytes size.Bare o p = nothing_size o
 size_bytes size.Return o p = return_size o
@@ -96,7 +98,7 @@ last_encoding last.Ip p = push_immediate p
 last_encoding last.One p = encoding.ConstantI8 (pos 1)
 last_encoding last.Once p = encoding.ConstantU8 1
 last_encoding last.Three p = encoding.ConstantU8 3
-last_encoding last.Cl p = encoding.Fixed slot.Reg (record { num = 1; class = class.B })
+last_encoding last.Cl p = encoding.Fixed slot.Reg (reg_spec 1 class.B)
 last_encoding last.ClThird p = cl_third
 
 abbrev pub reg_encoding : Behind → Width → ℕ → Prefixes → OperandEncoding
@@ -252,7 +254,7 @@ rm_pair w p m memory = rm_operand (class_of w p) p m memory
 
 -- the register of reg
 abbrev pub reg_pair : Width → Prefixes → ℕ → Slot × Operand
-reg_pair width.Mm p m = (slots.Reg, operands.Register (record { num = reg_field m; class = class.MM }))
+reg_pair width.Mm p m = (slots.Reg, operands.Register (reg_spec (reg_field m) class.MM))
 reg_pair w p m = (slots.Reg, operands.Register (register_of (class_of w p) p (reg_number m p)))
 
 -- the register of the opcode byte, or register 0

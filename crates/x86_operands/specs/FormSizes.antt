@@ -7,13 +7,14 @@ use Rattle.x86_fields.specs.declared.prefixes.Prefixes.{Prefixes}
 use Rattle.x86_fields.specs.Raw.{has_w}
 use Rattle.x86_opcodes.specs.Kinds.{is_among}
 use Rattle.x86_opcodes.specs.Names.{CALL, CMPSD, CMPSS, ROUNDSS, ROUNDSD, LFS, LGS, LSS, ENQCMD, ENQCMDS, MOVDDUP, MOVNTSS, MOVNTPS, MOVNTPD, MOVNTDQ, PEXTRB, PEXTRW, EXTRACTPS, PINSRB, INSERTPS, PMOVSXBQ, PMOVZXBQ, PMOVSXBD, PMOVZXBD, PMOVSXWQ, PMOVZXWQ, UCOMISS, COMISS, CVTSS2SD, MOVLPD, MOVHPD, PUNPCKLBW, PUNPCKLWD, PUNPCKLDQ, RETURN, RETF, PUSHF, POPF, LEAVE, XLAT, CBW, CWDE, CDQE, CWD, CDQ, CQO}
+use Rattle.x86_fields.specs.Prefixes.{operand_size, address_size}
 use Rattle.x86_operands.specs.declared.plans.OperandEncoding.{OperandEncoding}
 use Rattle.x86_operands.specs.declared.plans.OperandEncoding.TheVariants.{I16, I32, I64Whole, Address32, Address64}
 use Rattle.x86_fields.specs.Sizes.{v_class}
 
 -- the class of an address register
 abbrev pub pointer_class : Prefixes → RegisterClass
-pointer_class p = if p.address_size then D else Q
+pointer_class p = if address_size p then D else Q
 
 -- the immediate of a class v that has its whole width
 abbrev pub whole_immediate : RegisterClass → OperandEncoding
@@ -23,11 +24,11 @@ whole_immediate c = I32
 
 -- the immediate of PUSH
 abbrev pub push_immediate : Prefixes → OperandEncoding
-push_immediate p = if p.operand_size && not (has_w p) then I16 else I32
+push_immediate p = if operand_size p && not (has_w p) then I16 else I32
 
 -- an absolute address
 abbrev pub address_encoding : Prefixes → OperandEncoding
-address_encoding p = if p.address_size then Address32 else Address64
+address_encoding p = if address_size p then Address32 else Address64
 
 -- the opcode of 98 and of 99, by the class v
 abbrev pub widening : RegisterClass → ℕ
@@ -50,7 +51,7 @@ abbrev pub return_size : ℕ → ℕ
 return_size o = if o == RETURN then 8 else (if o == RETF then 10 else 0)
 
 abbrev pub port_size : Prefixes → ℕ
-port_size p = if p.operand_size then 2 else 4
+port_size p = if operand_size p then 2 else 4
 
 abbrev pub is_far_load : ℕ → Bool
 is_far_load o = is_among (LFS ∷ LGS ∷ LSS ∷ []) o
@@ -60,7 +61,7 @@ far_class o p = if is_far_load o then v_class p else Q
 
 abbrev pub far_size : ℕ → Prefixes → ℕ
 far_size o p =
-    if is_far_load o then (if has_w p then 10 else (if p.operand_size then 4 else 6))
+    if is_far_load o then (if has_w p then 10 else (if operand_size p then 4 else 6))
     else (if is_among (ENQCMD ∷ ENQCMDS ∷ []) o then 64 else 16)
 
 abbrev pub duplicate_size : ℕ → ℕ

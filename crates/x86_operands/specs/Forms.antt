@@ -5,6 +5,7 @@
 use Rattle.std.specs.Prelude.{ℕ, ◌==◌, ◌&&◌, ◌||◌, nat_lt, not, if◌then◌else◌, None}
 use Rattle.x86_regs.specs.declared.RegisterClass.{RegisterClass}
 use Rattle.x86_regs.specs.declared.RegisterClass.TheVariants.{B, W, D, Q, S, X}
+use Rattle.x86_regs.specs.Register.{reg_spec}
 use Rattle.x86_regs.specs.Class.{width_of}
 use Rattle.x86_fields.specs.declared.prefixes.Prefixes.{Prefixes}
 use Rattle.x86_fields.specs.Raw.{has_w, has_b}
@@ -12,6 +13,7 @@ use Rattle.x86_opcodes.specs.Names.{NOP, JECXZ, IRET, IRETD, IRETQ, MOVQ, PEXTRD
 use Rattle.x86_forms.specs.declared.Form.{Form}
 use Rattle.x86_forms.specs.declared.Form.TheVariants as form
 use Rattle.x86_forms.specs.declared.TableRow.{TableRow}
+use Rattle.x86_fields.specs.Prefixes.{operand_size, address_size}
 use Rattle.x86_operands.specs.declared.plans.RegisterSlot.{RegisterSlot}
 use Rattle.x86_operands.specs.declared.plans.RegisterSlot.TheVariants.{Reg, Rm, Third}
 use Rattle.x86_operands.specs.declared.plans.PointerSlot.{PointerSlot}
@@ -37,40 +39,40 @@ abbrev pub z_in : RegisterSlot → ℕ → RegisterClass → Prefixes → Operan
 z_in slot n c p = Fixed slot (register_at n c p)
 
 abbrev pub dx_port : OperandEncoding
-dx_port = Fixed Rm (record { num = 2; class = W })
+dx_port = Fixed Rm (reg_spec 2 W)
 
 abbrev pub dl_in_reg : OperandEncoding
-dl_in_reg = Fixed Reg (record { num = 2; class = B })
+dl_in_reg = Fixed Reg (reg_spec 2 B)
 
 abbrev pub dx_in_reg : OperandEncoding
-dx_in_reg = Fixed Reg (record { num = 2; class = W })
+dx_in_reg = Fixed Reg (reg_spec 2 W)
 
 abbrev pub cl_third : OperandEncoding
-cl_third = Fixed Third (record { num = 1; class = B })
+cl_third = Fixed Third (reg_spec 1 B)
 
 abbrev pub segment_register : ℕ → OperandEncoding
-segment_register n = Fixed Reg (record { num = n; class = S })
+segment_register n = Fixed Reg (reg_spec n S)
 
 -- memory at rsi or esi, and at rdi or edi
 abbrev pub at_rsi : PointerSlot → Prefixes → OperandEncoding
-at_rsi slot p = Pointer slot (record { num = 6; class = pointer_class p })
+at_rsi slot p = Pointer slot (reg_spec 6 (pointer_class p))
 
 abbrev pub at_rdi : PointerSlot → Prefixes → OperandEncoding
-at_rdi slot p = Pointer slot (record { num = 7; class = pointer_class p })
+at_rdi slot p = Pointer slot (reg_spec 7 (pointer_class p))
 
 -- the same in a slot of its own
 abbrev pub source_string : Prefixes → OperandEncoding
-source_string p = at_rsi (if p.address_size then DerefEsi else DerefRsi) p
+source_string p = at_rsi (if address_size p then DerefEsi else DerefRsi) p
 
 abbrev pub target_string : Prefixes → OperandEncoding
-target_string p = at_rdi (if p.address_size then DerefEdi else DerefRdi) p
+target_string p = at_rdi (if address_size p then DerefEdi else DerefRdi) p
 
 -- the strings of INS and OUTS, which 67 doesn't shorten
 abbrev pub wide_rsi : OperandEncoding
-wide_rsi = Pointer Deref (record { num = 6; class = Q })
+wide_rsi = Pointer Deref (reg_spec 6 Q)
 
 abbrev pub wide_rdi : OperandEncoding
-wide_rdi = Pointer Deref (record { num = 7; class = Q })
+wide_rdi = Pointer Deref (reg_spec 7 Q)
 
 abbrev pub sets_es : Plan → Plan
 sets_es plan = record plan { change = SetsEs }
@@ -210,10 +212,10 @@ form_plan form.I_3 o p m = reads o (One (ConstantU8 3)) 0
 form_plan form.I_1 o p m = reads o (One (ConstantU8 1)) 0
 form_plan form.Iw o p m = reads o (One U16) (return_size o)
 form_plan form.Iw_Ib o p m = reads o (Two X16 U8) 8
-form_plan form.CXZ o p m = reads (if p.address_size then JECXZ else o) (One I8) 0
+form_plan form.CXZ o p m = reads (if address_size p then JECXZ else o) (One I8) 0
 form_plan form.CVT_AA o p m = reads (widening (v_class p)) Zero 0
 form_plan form.CVT_DA o p m = reads (doubling (v_class p)) Zero 0
-form_plan form.Fw o p m = reads (if has_w p then IRETQ else (if p.operand_size then IRET else IRETD)) Zero 0
+form_plan form.Fw o p m = reads (if has_w p then IRETQ else (if operand_size p then IRET else IRETD)) Zero 0
 form_plan form.FS o p m = reads o (One (segment_register 4)) 8
 form_plan form.GS o p m = reads o (One (segment_register 5)) 8
 form_plan form.AH o p m = reads o Zero 0

@@ -1,5 +1,6 @@
 -- What an operand and a slot tell by themselves.
 use Rattle.std.specs.Prelude.{ℕ, Bool, true, false, ◌==◌, if◌then◌else◌, Option, Some, None}
+use Rattle.x86_regs.specs.Register.{class}
 use Rattle.x86_regs.specs.Class.{width_of}
 use Rattle.x86_operands.specs.declared.operands.MemoryAccessSize.{MemoryAccessSize}
 use Rattle.x86_operands.specs.declared.operands.Slot.{Slot}
@@ -52,8 +53,8 @@ is_memory_slot slot = false
 
 -- the width in bytes, where the operand itself has one
 abbrev pub operand_width : Operand → Option ℕ
-operand_width (operands.Register reg) = Some (width_of reg.class)
-operand_width (operands.RegisterMaskMerge reg k _) = Some (width_of reg.class)
+operand_width (operands.Register reg) = Some (width_of (class reg))
+operand_width (operands.RegisterMaskMerge reg k _) = Some (width_of (class reg))
 operand_width (operands.ImmediateI8 z) = Some 1
 operand_width (operands.ImmediateU8 n) = Some 1
 operand_width (operands.ImmediateI16 z) = Some 2

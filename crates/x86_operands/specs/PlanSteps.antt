@@ -1,14 +1,15 @@
 -- The walk behind an opcode byte, as steps.
 use Rattle.std.specs.Prelude.{ℕ, Bool, true, false, if◌then◌else◌, Option, Some, None, List, [], ◌∷◌, length, zero, suc}
 use Rattle.std.specs.Int.{w8, w16, w32, w64, cast_signed}
-use Rattle.x86_regs.specs.declared.Segment.TheVariants.{ES}
 use Rattle.x86_regs.specs.declared.RegisterClass.{RegisterClass}
 use Rattle.x86_regs.specs.declared.RegSpec.{RegSpec}
 use Rattle.x86_regs.specs.declared.RegisterClass.TheVariants.{Q, MM}
+use Rattle.x86_regs.specs.Register.{reg_spec}
 use Rattle.x86_fields.specs.declared.errors.DecodeError.{DecodeError}
 use Rattle.x86_fields.specs.declared.errors.DecodeError.TheVariants.{InvalidOpcode, InvalidOperand, IncompleteDecoder}
 use Rattle.x86_fields.specs.declared.prefixes.Prefixes.{Prefixes}
 use Rattle.x86_fields.specs.declared.raw.Raw.{Raw}
+use Rattle.x86_fields.specs.Prefixes.{without_operand_size, with_es}
 use Rattle.x86_fields.specs.ModRM.{reg_field, rm_field, is_memory, absent_modrm, as_register}
 use Rattle.x86_fields.specs.Raw.{read_raw}
 use Rattle.x86_fields.specs.Steps.{Step, pure, refuse, ◌>>=◌, next_byte, number_step}
@@ -63,12 +64,12 @@ rm_operand c p m memory = memory_or (register_of c p (rm_number m p)) memory
 
 -- the same for an mm register, which no B extends
 abbrev pub rm_mm_operand : ℕ → Option Raw → Slot × Operand
-rm_mm_operand m memory = memory_or (record { num = rm_field m; class = MM }) memory
+rm_mm_operand m memory = memory_or (reg_spec (rm_field m) MM) memory
 
 -- What an operand encoding gives: its slot and its operand.
 unfoldable pub operand_step : OperandEncoding → Prefixes → ℕ → Option Raw → Step (Slot × Operand)
 operand_step (G c) p m memory = pure (slots.Reg, operands.Register (register_of c p (reg_number m p)))
-operand_step Gmm p m memory = pure (slots.Reg, operands.Register (record { num = reg_field m; class = MM }))
+operand_step Gmm p m memory = pure (slots.Reg, operands.Register (reg_spec (reg_field m) MM))
 operand_step (E c) p m memory = pure (rm_operand c p m memory)
 operand_step Emm p m memory = pure (rm_mm_operand m memory)
 operand_step M p m memory = pure (rm_operand Q p m memory)
@@ -157,8 +158,8 @@ read_memory p m = if is_memory m then (read_raw p m >>= λ raw. pure (Some raw))
 -- the prefixes with the record's change
 abbrev pub changed : PrefixChange → Prefixes → Prefixes
 changed Keeps p = p
-changed ClearsOperandSize p = record p { operand_size = false }
-changed SetsEs p = record p { segment = ES }
+changed ClearsOperandSize p = without_operand_size p
+changed SetsEs p = with_es p
 
 abbrev pub reading_from : Plan → Prefixes → ℕ → Given → Reading
 reading_from plan p opcode given = record { opcode = opcode; count = given.count; slots = given.slots; operands = given.operands; mem_size = plan.size; prefixes = changed plan.change p }

@@ -8,6 +8,7 @@ ghost use Rattle.x86_fields.specs.declared.errors.DecodeError.{DecodeError};
 ghost use Rattle.x86_fields.specs.declared.errors.DecodeError.TheVariants.{ExhaustedInput, InvalidPrefixes, TooLong, IncompleteDecoder};
 ghost use Rattle.x86_fields.specs.declared.prefixes.Prefixes.{Prefixes};
 ghost use Rattle.x86_fields.specs.declared.raw.Raw.{Raw};
+ghost use Rattle.x86_fields.specs.Prefixes.{address_size};
 ghost use Rattle.x86_fields.specs.Linear.{raw_form, value_at};
 ghost use Rattle.x86_fields.specs.Steps.{outcome};
 ghost use Rattle.x86_forms.specs.declared.TableRow.{TableRow};
@@ -88,5 +89,5 @@ pub fn readings_are_tied()
 /// Where a record writes ModRM's memory operand stands the shape of the raw fields. Their 67 is that of the prefixes.
 pub fn memory_operands_are_shapes()
     ensures stands { (r : RowRecord) (p : Prefixes) (bytes : List ℕ) (reading : Reading) (asked : SpellsRow r p bytes reading) (raw : Raw) → asked.behind.pieces.memory ≡ Some raw → (k : ℕ) → names_modrm (encodings_of r p bytes reading asked) k ≡ true → HasShapeAt reading k raw }
-    ensures address_size { (r : RowRecord) (p : Prefixes) (bytes : List ℕ) (reading : Reading) (asked : SpellsRow r p bytes reading) (raw : Raw) → asked.behind.pieces.memory ≡ Some raw → raw.address_size ≡ p.address_size }
+    ensures address_size { (r : RowRecord) (p : Prefixes) (bytes : List ℕ) (reading : Reading) (asked : SpellsRow r p bytes reading) (raw : Raw) → asked.behind.pieces.memory ≡ Some raw → raw.address_size ≡ address_size p }
 {}

@@ -1,5 +1,5 @@
 //! Operands and where they come from.
-ghost use Rattle.std.specs.Prelude.{◌≡◌, ◌==◌, ◌%◌, ◌<◌, ◌^◌, if◌then◌else◌, Some, None};
+ghost use Rattle.std.specs.Prelude.{◌≡◌, ◌%◌};
 ghost use Rattle.x86_fields.specs.Linear.{modulus_by};
 ghost use Rattle.x86_operands.specs.Linear.{operand_address};
 ghost use Rattle.x86_operands.specs.Operands.{is_memory_operand, is_memory_slot, operand_width, access_size, bytes_size};
@@ -189,6 +189,8 @@ pub struct MemoryAccessSize {
 }
 
 impl MemoryAccessSize {
+    /// The size of so many bytes, which are at most 64 in what is decoded; 63 stands for one that the processor
+    /// decides.
     pub fn new(size: u8) -> MemoryAccessSize
         ensures { result ≡ access_size size }
     {

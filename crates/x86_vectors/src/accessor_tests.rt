@@ -1,5 +1,6 @@
 //! What instructions are asked.
-use x86_decode::{ConditionCode, InstDecoder, Opcode, Operand, RegSpec, Segment};
+use x86_arch::AddressDiff;
+use x86_decode::{ConditionCode, InstDecoder, Opcode, Operand, Segment, Slot};
 
 fn condition(bytes: &[u8]) -> Option<ConditionCode> {
     match InstDecoder::default().decode_slice(bytes) {
@@ -51,15 +52,21 @@ fn segments(rt: HostRuntime) {
 }
 
 #[test]
-fn registers_and_absent_operands(rt: HostRuntime) {
-    assert!(rt; RegSpec::al() < RegSpec::ax());
-    assert!(rt; RegSpec::rax() < RegSpec::cl());
+fn operands_by_their_index(rt: HostRuntime) {
     let added = InstDecoder::default().decode_slice(&[0x01, 0xd8]);
     assert!(rt; added.is_ok());
     if let Ok(instruction) = added {
+        assert!(rt; instruction.operand_count() == 2);
+        assert!(rt; instruction.slot(0) == Slot::Rm);
         assert!(rt; instruction.operand(3) == Operand::Nothing);
         assert!(rt; !instruction.operand_present(3));
+        assert!(rt; instruction.len() == AddressDiff::from_const(2));
     }
+}
+
+#[test]
+fn the_strict_decoder_is_below(rt: HostRuntime) {
+    assert!(rt; InstDecoder::strict() < InstDecoder::default());
 }
 
 /// Whether 66 is left in the prefixes of an instruction.

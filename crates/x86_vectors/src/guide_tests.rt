@@ -1,8 +1,8 @@
 //! The examples of docs/GUIDE.md, as they stand there.
-ghost use Rattle.std.specs.Prelude.{⊤, ◌+◌, ◌<◌, ◌≤◌, length};
+ghost use Rattle.std.specs.Prelude.{⊤, ◌<◌};
 
+use crate::two_buffers::decode_over;
 use arrayvec::ArrayVec;
-use x86_arch::ChunkReader;
 use x86_decode::{
     DecodeError, InstDecoder, Instruction, MergeMode, Opcode, Operand, OperandVisitor, RegSpec,
     SaeMode,
@@ -42,14 +42,6 @@ fn tell_refusals_apart(rt: HostRuntime) {
     assert!(rt; advice_for(&[0x90]) == Advice::Decoded);
     assert!(rt; advice_for(&[0x0f]) == Advice::ReadMore);
     assert!(rt; advice_for(&[0x06]) == Advice::Skip);
-}
-
-/// The instruction at the front of two slices of which the second goes on where the first ends.
-fn decode_over(first: &[u8], rest: &[u8]) -> Result<Instruction, DecodeError>
-    requires { length first.now + length rest.now ≤ usize.MAX }
-{
-    let mut reader = ChunkReader::new(first, rest);
-    InstDecoder::default().decode(&mut reader)
 }
 
 #[test]

@@ -1,10 +1,10 @@
-//! Worked answers of the decoder, as tests. This crate has nothing else.
+//! Tests of the libraries: worked answers and lines, and the examples of docs/GUIDE.md, one of which has a contract.
 #![tactic(auto)]
 
 #[cfg(test)]
 mod accessor_tests;
 #[cfg(test)]
-mod answers;
+mod bound_tests;
 #[cfg(test)]
 mod group_table;
 #[cfg(test)]
@@ -16,6 +16,8 @@ mod mixed_table;
 #[cfg(test)]
 mod operand_tests;
 #[cfg(test)]
+mod parts_tests;
+#[cfg(test)]
 mod plain_table;
 #[cfg(test)]
 mod plain_tests;
@@ -26,7 +28,16 @@ mod recorder;
 #[cfg(test)]
 mod refusal_table;
 #[cfg(test)]
-mod tests;
+mod refusal_tests;
+#[cfg(test)]
+mod sweep_tests;
+#[cfg(test)]
+mod table_tests;
+#[cfg(test)]
+mod text_tests;
+#[cfg(test)]
+mod tighten_tests;
+pub mod two_buffers;
 #[cfg(test)]
 mod walk_tests;
 #[cfg(test)]

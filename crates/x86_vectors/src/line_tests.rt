@@ -1,26 +1,66 @@
 //! Lines of instructions, worked by hand from the rows.
 use crate::{group_table, mixed_table, plain_table, x87_table};
 use arrayvec::ArrayVec;
-use x86_decode::InstDecoder;
+use x86_arch::{ChunkReader, Reader};
+use x86_decode::{DecodeError, InstDecoder};
 use x86_text::line_of;
 
-/// The bytes of pairs of hex digits, each behind a blank but the first.
-fn bytes_of(pairs: &str) -> Option<ArrayVec<u8, 15>> {
+/// The tables of worked lines, `HEX => LINE`.
+pub const TABLES: &[&str] = &[
+    plain_table::PART_1,
+    plain_table::PART_2,
+    plain_table::PART_3,
+    plain_table::PART_4,
+    group_table::PART_1,
+    group_table::PART_2,
+    group_table::PART_3,
+    group_table::PART_4,
+    group_table::PART_5,
+    x87_table::PART_1,
+    x87_table::PART_2,
+    mixed_table::PART_1,
+    mixed_table::PART_2,
+];
+
+/// The bytes of hex digits, in groups with a blank between them.
+pub fn bytes_of(digits: &str) -> Option<ArrayVec<u8, 24>> {
     let mut bytes = ArrayVec::new();
-    for pair in pairs.split(" ") {
-        let mut byte = [0];
-        hex::decode_to_slice(pair, &mut byte).ok()?;
-        bytes.try_push(byte[0]).ok()?;
+    for group in digits.split(" ") {
+        let mut room = [0; 24];
+        let count = group.len() / 2;
+        if count > room.len() {
+            return None;
+        }
+        hex::decode_to_slice(group, &mut room[..count]).ok()?;
+        bytes.try_extend_from_slice(&room[..count]).ok()?;
     }
     Some(bytes)
 }
 
-/// Whether the bytes are one instruction, and this is its line at place 0.
-fn is_worked(pairs: &str, line: &str) -> bool {
-    let Some(bytes) = bytes_of(pairs) else {
+/// Whether each proper prefix of an encoding answers `ExhaustedInput`.
+fn is_open_before_its_end(bytes: &[u8]) -> bool {
+    for end in 0..bytes.len() {
+        if InstDecoder::default().decode_slice(&bytes[..end]) != Err(DecodeError::ExhaustedInput) {
+            return false;
+        }
+    }
+    true
+}
+
+/// Whether an encoding with FF behind it, in another slice, answers as by itself.
+fn stays(bytes: &[u8]) -> bool {
+    if bytes.len() > 15 {
         return false;
-    };
-    match InstDecoder::default().decode_slice(bytes.as_slice()) {
+    }
+    let mut reader = ChunkReader::new(bytes, &[0xff]);
+    let decoder = InstDecoder::default();
+    decoder.decode(&mut reader) == decoder.decode_slice(bytes)
+        && reader.offset() == bytes.len() as u64
+}
+
+/// Whether the bytes are one instruction, and this is its line at place 0.
+fn is_worked(bytes: &[u8], line: &str) -> bool {
+    match InstDecoder::default().decode_slice(bytes) {
         Ok(instruction) => {
             instruction.len().to_const() == bytes.len() as u64
                 && line_of(0, &instruction).as_slice() == line.as_bytes()
@@ -29,46 +69,33 @@ fn is_worked(pairs: &str, line: &str) -> bool {
     }
 }
 
-/// Whether each line of a table, `PAIRS => LINE`, is so.
-fn are_worked(table: &str) -> bool {
-    for worked in table.lines() {
-        match worked.split_once(" => ") {
-            Some((pairs, line)) => {
-                if !is_worked(pairs, line) {
-                    return false;
-                }
-            }
-            None => return false,
+/// Whether a line of a table is so.
+fn is_worked_row(row: &str) -> bool {
+    let Some((digits, line)) = row.split_once(" => ") else {
+        return false;
+    };
+    match bytes_of(digits) {
+        Some(bytes) => {
+            let bytes = bytes.as_slice();
+            is_worked(bytes, line) && is_open_before_its_end(bytes) && stays(bytes)
+        }
+        None => false,
+    }
+}
+
+/// The first line of a table that isn't so.
+fn wrong_row(table: &str) -> Option<&str> {
+    for row in table.lines() {
+        if !is_worked_row(row) {
+            return Some(row);
         }
     }
-    true
+    None
 }
 
 #[test]
-fn worked_plain_forms(rt: HostRuntime) {
-    assert!(rt; are_worked(plain_table::PART_1));
-    assert!(rt; are_worked(plain_table::PART_2));
-    assert!(rt; are_worked(plain_table::PART_3));
-    assert!(rt; are_worked(plain_table::PART_4));
-}
-
-#[test]
-fn worked_groups(rt: HostRuntime) {
-    assert!(rt; are_worked(group_table::PART_1));
-    assert!(rt; are_worked(group_table::PART_2));
-    assert!(rt; are_worked(group_table::PART_3));
-    assert!(rt; are_worked(group_table::PART_4));
-    assert!(rt; are_worked(group_table::PART_5));
-}
-
-#[test]
-fn worked_x87(rt: HostRuntime) {
-    assert!(rt; are_worked(x87_table::PART_1));
-    assert!(rt; are_worked(x87_table::PART_2));
-}
-
-#[test]
-fn worked_encodings_of_all_kinds(rt: HostRuntime) {
-    assert!(rt; are_worked(mixed_table::PART_1));
-    assert!(rt; are_worked(mixed_table::PART_2));
+fn worked_lines(rt: HostRuntime) {
+    for table in TABLES {
+        assert_eq!(rt; wrong_row(table), None);
+    }
 }

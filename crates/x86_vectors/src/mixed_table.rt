@@ -4,6 +4,7 @@
 pub const PART_1: &str = "00 d8 => 0 2 ADD al, bl m1
 48 01 d8 => 0 3 ADD rax, rbx m8
 48 2e 01 d8 => 0 4 ADD eax, ebx m4
+66 48 01 d8 => 0 4 ADD rax, rbx m8
 48 41 01 d8 => 0 4 ADD r8d, ebx m4
 41 48 90 => 0 3 NOP m0
 48 41 90 => 0 3 XCHG eax, r8d m0

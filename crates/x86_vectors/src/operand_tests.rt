@@ -2,8 +2,9 @@
 ghost use Rattle.std.specs.Prelude.{◌<◌};
 
 use crate::recorder::{Call, Recorder};
+use x86_arch::U8Reader;
 use x86_decode::InstDecoder;
-use x86_fields::{RegFile, address_of};
+use x86_fields::{ModRM, Prefixes, RegFile, address_of, read_raw, reading_of};
 use x86_operands::Operand;
 use x86_regs::{MergeMode, RegSpec, SaeMode};
 
@@ -191,5 +192,46 @@ fn sib_address_by_hand(rt: HostRuntime) {
     assert!(rt; raw.fits());
     if raw.fits() {
         assert!(rt; address_of(&raw, &regs, 0) == 0x1018);
+    }
+}
+
+/// The address of the raw fields behind a ModRM byte, with the next instruction at 400000.
+fn raw_address(prefixes: &Prefixes, modrm: u8, bytes: &[u8], regs: &RegFile) -> Option<u64> {
+    if !ModRM::new(modrm).is_memory() {
+        return None;
+    }
+    match read_raw(&mut U8Reader::new(bytes), prefixes, modrm) {
+        Ok(raw) => Some(address_of(&raw, regs, 0x40_0000)),
+        Err(_) => None,
+    }
+}
+
+#[test]
+fn addresses_by_hand(rt: HostRuntime) {
+    let mut regs = [0; 16];
+    regs[1] = 0x1000;
+    regs[4] = 0x2000;
+    regs[12] = 0x0fff_ffff_ffff_ffff;
+    regs[13] = 7;
+    let regs = RegFile { regs };
+    let cases: [(&[u8], u8, &[u8], u64); 7] = [
+        (
+            &[],
+            0x04,
+            &[0x25, 0x00, 0x00, 0x00, 0x80],
+            0xffff_ffff_8000_0000,
+        ),
+        (&[0x67], 0x04, &[0x25, 0x00, 0x00, 0x00, 0x80], 0x8000_0000),
+        (&[], 0x04, &[0x8d, 0x10, 0x00, 0x00, 0x00], 0x4010),
+        (&[], 0x05, &[0x00, 0x00, 0x00, 0x00], 0x40_0000),
+        (&[0x67], 0x05, &[0x01, 0x00, 0x00, 0x00], 0x40_0001),
+        (&[0x43], 0x44, &[0x25, 0x00], 0x1000_0000_0000_0006),
+        (&[0x41], 0x04, &[0x24], 0x0fff_ffff_ffff_ffff),
+    ];
+    for (run, modrm, bytes, sum) in cases {
+        assert_eq!(rt;
+            raw_address(&reading_of(run), modrm, bytes, &regs),
+            Some(sum)
+        );
     }
 }

@@ -1,8 +1,8 @@
 //! The decoder against a plain loop over the printed rows.
 ghost use Rattle.std.specs.Prelude.{◌<◌, ◌≤◌};
 
-use crate::answers::{ACCEPTED, REFUSED};
-use crate::tests::size_of;
+use crate::line_tests::bytes_of;
+use crate::{line_tests, refusal_tests};
 use x86_arch::{Reader, U8Reader};
 use x86_decode::{InstDecoder, Instruction};
 use x86_fields::{DecodeError, Prefixes, is_legacy, is_rex, next_byte};
@@ -108,6 +108,14 @@ fn plain(bytes: &[u8], strict: bool) -> (Result<Reading, DecodeError>, u64) {
     }
 }
 
+/// The memory size in bytes: 0 for none, and 63 where the processor decides.
+fn size_of(instruction: &Instruction) -> u8 {
+    match instruction.mem_size() {
+        None => 0,
+        Some(size) => size.bytes_size().unwrap_or(63),
+    }
+}
+
 fn is_same(instruction: &Instruction, reading: &Reading, taken: u64) -> bool {
     let places = [0u8, 1, 2, 3];
     instruction.opcode() == reading.opcode
@@ -143,13 +151,33 @@ fn agree_on(bytes: &[u8]) -> bool {
     agree(bytes, false) && agree(bytes, true)
 }
 
+fn agree_on_row(row: &str) -> bool {
+    match row.split_once(" => ") {
+        Some((digits, _)) => match bytes_of(digits) {
+            Some(bytes) => agree_on(bytes.as_slice()),
+            None => false,
+        },
+        None => false,
+    }
+}
+
+/// The first line of a table on whose bytes they differ.
+fn differing_row(table: &str) -> Option<&str> {
+    for row in table.lines() {
+        if !agree_on_row(row) {
+            return Some(row);
+        }
+    }
+    None
+}
+
 #[test]
 fn worked_answers_by_a_plain_loop(rt: HostRuntime) {
-    for (bytes, _, _) in ACCEPTED {
-        assert!(rt; agree_on(bytes));
+    for table in line_tests::TABLES {
+        assert_eq!(rt; differing_row(table), None);
     }
-    for (bytes, _, _) in REFUSED {
-        assert!(rt; agree_on(bytes));
+    for table in refusal_tests::TABLES {
+        assert_eq!(rt; differing_row(table), None);
     }
 }
 

@@ -1,8 +1,7 @@
-//! Readers, tables of words, and one instruction used again.
-use x86_arch::{ChunkReader, Reader, U8Reader};
-use x86_decode::{InstDecoder, Instruction};
+//! Readers, and one instruction used again.
+use x86_arch::{ChunkReader, ReadError, Reader, U8Reader};
+use x86_decode::{InstDecoder, Instruction, Opcode};
 use x86_fields::DecodeError;
-use x86_forms::{Column, Map, Packed, Patched, Words, packed};
 
 #[test]
 fn numbers_and_offsets(rt: HostRuntime) {
@@ -29,44 +28,18 @@ fn split_input(rt: HostRuntime) {
     }
 }
 
-fn answer_by<W: Words>(rows: &W, bytes: &[u8]) -> Result<(&'static str, u64), DecodeError> {
-    let mut reader = U8Reader::new(bytes);
-    let instruction = InstDecoder::default().decode_by(rows, &mut reader)?;
-    Ok((
-        instruction.opcode().mnemonic(),
-        instruction.len().to_const(),
-    ))
-}
-
 #[test]
-fn patched_tables(rt: HostRuntime) {
-    let nop = packed(Map::One, Column::Plain, 0x90);
-    assert!(rt; answer_by(&Packed, &[0x06]) == Err(DecodeError::InvalidOpcode));
-    let patched = Patched {
-        map: Map::One,
-        column: Column::Plain,
-        byte: 0x06,
-        word: nop,
-    };
-    assert!(rt; answer_by(&patched, &[0x06]) == Ok(("NOP", 1)));
-    assert!(rt; answer_by(&patched, &[0x41, 0x06]) == Ok(("XCHG", 2)));
-    assert!(rt; answer_by(&patched, &[0x66, 0x06]) == Err(DecodeError::InvalidOpcode));
-    assert!(rt; answer_by(&patched, &[0x90]) == Ok(("NOP", 1)));
-    let unprinted = Patched {
-        map: Map::One,
-        column: Column::Plain,
-        byte: 0x90,
-        word: 0,
-    };
-    assert!(rt; answer_by(&unprinted, &[0x90]) == Err(DecodeError::InvalidOpcode));
-    assert!(rt; answer_by(&unprinted, &[0x66, 0x90]) == Ok(("NOP", 2)));
-    let vex = Patched {
-        map: Map::One,
-        column: Column::Plain,
-        byte: 0xc5,
-        word: nop,
-    };
-    assert!(rt; answer_by(&vex, &[0xc5]) == Err(DecodeError::IncompleteDecoder));
+fn a_number_lies_across_the_seam(rt: HostRuntime) {
+    let mut reader = ChunkReader::new(&[1, 2], &[3, 4, 5]);
+    let mut buf = [0; 3];
+    assert_eq!(rt; reader.next(), Ok(1));
+    reader.mark();
+    assert_eq!(rt; reader.next_n(&mut buf), Ok(()));
+    assert_eq!(rt; buf, [2, 3, 4]);
+    assert_eq!(rt; reader.offset(), 3);
+    assert_eq!(rt; reader.total_offset(), 4);
+    assert_eq!(rt; reader.next(), Ok(5));
+    assert_eq!(rt; reader.next(), Err(ReadError::ExhaustedInput));
 }
 
 #[test]
@@ -80,6 +53,19 @@ fn one_instruction_used_again(rt: HostRuntime) {
     assert!(rt; instruction == Instruction::invalid());
     assert!(rt; decoder.decode_into(&mut instruction, &mut reader).is_ok());
     assert!(rt; decoder.decode_slice(&[0x90]) == Ok(instruction));
+}
+
+#[test]
+fn one_instruction_over_slices(rt: HostRuntime) {
+    let decoder = InstDecoder::default();
+    let mut instruction = Instruction::default();
+    let added = decoder.decode_slice_into(&mut instruction, &[0x48, 0x01, 0xd8, 0x90]);
+    assert!(rt; added.is_ok());
+    assert!(rt; instruction.opcode() == Opcode::ADD && instruction.len().to_const() == 3);
+    let refused = decoder.decode_slice_into(&mut instruction, &[0x06]);
+    assert!(rt; refused == Err(DecodeError::InvalidOpcode));
+    assert!(rt; instruction == Instruction::invalid());
+    assert!(rt; instruction.len().to_const() == 0);
 }
 
 #[test]

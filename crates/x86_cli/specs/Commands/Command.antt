@@ -1,6 +1,7 @@
 -- Commands: their arguments, listings and limits.
 use Rattle.std.specs.Prelude.{ℕ, Bool, true, false, List, [], ◌∷◌, Option, Some, None, ◌&&◌, if◌then◌else◌, IfSome, IsTrue, Result, ⊤, map, codes, bytes_eq, String, string_bytes}
 use Rattle.std.specs.declared.alloc.Global.{Global}
+use Rattle.x86_decode.specs.Instruction.{length_of}
 use Rattle.x86_cli.specs.declared.commands.command.Command.{Command}
 use Rattle.x86_cli.specs.declared.commands.command.Command.TheVariants.{List as Listed, Sweep as Swept, Targets as Targeted, Fields as Fielded, Tighten as Tightened}
 use Rattle.x86_cli.specs.declared.outside.source.Got.{Got}
@@ -41,7 +42,7 @@ IfCommand arguments says = IfSome (command_of (map string_bytes arguments)) says
 abbrev pub listed_at : Command → ℕ → Text → Listing
 listed_at (Listed strict) place t = listing_at strict (λ place instruction bytes. line_of place instruction) place t
 listed_at Fielded place t = listing_at false (λ place instruction bytes. fields_line place (parts_of false bytes)) place t
-listed_at Tightened place t = listing_at false (λ place instruction bytes. least_text place instruction.length (shortest_length false bytes)) place t
+listed_at Tightened place t = listing_at false (λ place instruction bytes. least_text place (length_of instruction) (shortest_length false bytes)) place t
 listed_at Swept place t = sweep_at false place t
 listed_at Targeted place t = targets_at false place t
 

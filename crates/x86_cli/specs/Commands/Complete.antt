@@ -2,6 +2,7 @@
 use Rattle.std.specs.Prelude.{◌≡◌, ℕ, Bool, false, List, [], ◌∷◌, length, Ok, ⊤}
 use Rattle.std.specs.List.{concat}
 use Rattle.x86_decode.specs.declared.instructions.Instruction.{Instruction}
+use Rattle.x86_decode.specs.Instruction.{length_of}
 use Rattle.x86_decode.specs.Answer.{answer_of}
 use Rattle.x86_cli.specs.declared.text.reader.Ending.TheVariants.{Clean}
 use Rattle.x86_cli.specs.declared.listings.status.Status.TheVariants.{Done}
@@ -14,7 +15,7 @@ use Rattle.x86_cli.specs.declared.commands.command.Command.TheVariants.{List as 
 pub record IsOneInstruction (strict : Bool) (bytes : List ℕ) : Type 0 where
   pub instruction : Instruction
   pub answer : answer_of strict bytes ≡ Ok instruction
-  pub whole : instruction.length ≡ length bytes
+  pub whole : length_of instruction ≡ length bytes
 
 abbrev pub AreSentences : Bool → List (List ℕ) → Type 0
 AreSentences strict [] = ⊤

@@ -3,6 +3,7 @@ use Rattle.std.specs.Prelude.{◌≡◌, ℕ, zero, suc, ◌+◌, ◌/◌, ◌%�
 use Rattle.std.specs.Int.{w32, to_le_bytes}
 use Rattle.x86_regs.specs.declared.RegisterClass.{RegisterClass}
 use Rattle.x86_regs.specs.declared.RegisterClass.TheVariants.{RIP}
+use Rattle.x86_regs.specs.Register.{class}
 use Rattle.x86_fields.specs.declared.errors.DecodeError.{DecodeError}
 use Rattle.x86_fields.specs.declared.modrm.TheConstants.{MEMORY_FORMS}
 use Rattle.x86_fields.specs.ModRM.{mod_field, rm_field, base_field}
@@ -47,10 +48,10 @@ is_rip RIP = true
 is_rip c = false
 
 abbrev pub is_at_rip : Operand → Bool
-is_at_rip (operand.MemDeref base) = is_rip base.class
-is_at_rip (operand.Disp base d) = is_rip base.class
-is_at_rip (operand.MemBaseIndexScale base i s) = is_rip base.class
-is_at_rip (operand.MemBaseIndexScaleDisp base i s d) = is_rip base.class
+is_at_rip (operand.MemDeref base) = is_rip (class base)
+is_at_rip (operand.Disp base d) = is_rip (class base)
+is_at_rip (operand.MemBaseIndexScale base i s) = is_rip (class base)
+is_at_rip (operand.MemBaseIndexScaleDisp base i s d) = is_rip (class base)
 is_at_rip op = false
 
 abbrev pub is_absolute : Operand → Bool

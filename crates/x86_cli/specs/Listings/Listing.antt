@@ -3,6 +3,7 @@ use Rattle.std.specs.Prelude.{◌≡◌, ℕ, Bool, ◌+◌, ◌-◌, List, [], 
 use Rattle.x86_decode.specs.declared.instructions.Instruction.{Instruction}
 use Rattle.x86_fields.specs.declared.errors.DecodeError.{DecodeError}
 use Rattle.x86_fields.specs.declared.errors.DecodeError.TheVariants.{ExhaustedInput}
+use Rattle.x86_decode.specs.Instruction.{length_of}
 use Rattle.x86_decode.specs.Answer.{answer_of}
 use Rattle.x86_cli.specs.declared.text.reader.Ending.{Ending}
 use Rattle.x86_cli.specs.declared.text.reader.Ending.TheVariants.{Clean, Bad, Large, Fault}
@@ -54,7 +55,7 @@ front_of strict (x ∷ xs) e = judged (answer_of strict (x ∷ xs)) e
 -- The listings of commands differ in the line of an instruction, which may look at the instruction's bytes.
 module _ (strict : Bool) (text : ℕ → Instruction → List ℕ → List ℕ) where
   abbrev pub listed : Front Instruction → ℕ → List ℕ → (ℕ → Listing) → Listing
-  listed (Whole i) place bytes after = with_lines (line (text place i (take i.length bytes)) ∷ []) (after (i.length - 1))
+  listed (Whole i) place bytes after = with_lines (line (text place i (take (length_of i) bytes)) ∷ []) (after (length_of i - 1))
   listed (Refused error) place bytes after = at_refusal place error
   listed (Ended e) place bytes after = at_end e
 

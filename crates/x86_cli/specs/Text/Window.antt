@@ -4,6 +4,7 @@ use Rattle.x86_cli.specs.declared.outside.source.Got.{Got}
 use Rattle.x86_cli.specs.Text.Reading.{Gave, Asked, MayCome}
 use Rattle.x86_decode.specs.declared.instructions.Instruction.{Instruction}
 use Rattle.x86_fields.specs.declared.errors.DecodeError.TheVariants.{ExhaustedInput}
+use Rattle.x86_decode.specs.Instruction.{length_of}
 use Rattle.x86_cli.specs.declared.text.reader.Ending.{Ending}
 use Rattle.x86_cli.specs.declared.text.reader.Ending.TheVariants.{Clean}
 use Rattle.x86_cli.specs.Outside.Stop.{Stop}
@@ -43,7 +44,7 @@ front_with i (Ended e) = Ended e
 
 -- what the window shows of its front, whatever stands behind it
 abbrev pub Shows : Bool → Front Instruction → Option Ending → List ℕ → Type 0
-Shows strict (Whole i) ended window = (0 < i.length) × (i.length ≤ length window) × ((ys : List ℕ) (e : Ending) → front_of strict (window ++ ys) e ≡ Whole i)
+Shows strict (Whole i) ended window = (0 < length_of i) × (length_of i ≤ length window) × ((ys : List ℕ) (e : Ending) → front_of strict (window ++ ys) e ≡ Whole i)
 Shows strict (Refused error) ended window =
     (error ≡ ExhaustedInput → ended ≡ Some Clean) × (error ≢ ExhaustedInput → (ys : List ℕ) (e : Ending) → front_of strict (window ++ ys) e ≡ Refused error)
 Shows strict (Ended e) ended window = ended ≡ Some e

@@ -18,30 +18,17 @@ fn arguments_matched_whole(rt: HostRuntime) {
 
 #[test]
 fn sweeps(rt: HostRuntime) {
-    let written: &[u8] =
-        b"0 error: invalid opcode\n1 2 ADD eax, ebx m4\n3 error: exhausted input\n";
-    assert!(&rt;
-        runs(
-            rt.alloc(),
-            &["sweep"],
-            b"06 01 d8 01",
-            &[],
-            written,
-            Status::Done
-        )
-    );
-    let written: &[u8] = b"0 2 ADD eax, ebx m4\ntext error at 7\n";
-    assert!(&rt;
-        runs(
-            rt.alloc(),
-            &["sweep"],
-            b"01 d8 4",
-            &[],
-            written,
-            Status::BadText
-        )
-    );
-    assert!(&rt; runs(rt.alloc(), &["sweep"], b"", &[], b"", Status::Done));
+    let cuts = "0 error: invalid opcode\n1 2 ADD eax, ebx m4\n3 error: exhausted input\n";
+    let half = "0 2 ADD eax, ebx m4\ntext error at 7\n";
+    let worked = [
+        ("", "", Status::Done),
+        ("06 01 d8 01", cuts, Status::Done),
+        ("01 d8 4", half, Status::BadText),
+    ];
+    for (text, written, status) in worked {
+        let (text, written) = (text.as_bytes(), written.as_bytes());
+        assert!(&rt; runs(rt.alloc(), &["sweep"], text, &[], written, status));
+    }
 }
 
 #[test]
@@ -94,27 +81,17 @@ fn tighten(rt: HostRuntime) {
 
 #[test]
 fn targets(rt: HostRuntime) {
-    let worked: [(&str, &str); 4] = [
-        ("eb fe", "0\n"),
-        ("74 01 06 eb fb 90", "0\n3\n"),
-        ("eb ff 90", ""),
-        ("eb 7f", ""),
+    let worked = [
+        ("eb fe", "0\n", Status::Done),
+        ("74 01 06 eb fb 90", "0\n3\n", Status::Done),
+        ("eb ff 90", "", Status::Done),
+        ("eb 7f", "", Status::Done),
+        ("eb fe 9", "0\ntext error at 7\n", Status::BadText),
     ];
-    for (text, written) in worked {
+    for (text, written, status) in worked {
         let (text, written) = (text.as_bytes(), written.as_bytes());
-        assert!(&rt; runs(rt.alloc(), &["targets"], text, &[], written, Status::Done));
+        assert!(&rt; runs(rt.alloc(), &["targets"], text, &[], written, status));
     }
-    let (text, written): (&[u8], &[u8]) = (b"eb fe 9", b"0\ntext error at 7\n");
-    assert!(&rt;
-        runs(
-            rt.alloc(),
-            &["targets"],
-            text,
-            &[],
-            written,
-            Status::BadText
-        )
-    );
 }
 
 #[test]
@@ -131,18 +108,19 @@ fn targets_of_long_texts(rt: HostRuntime) {
 
 #[test]
 fn failing_targets(rt: HostRuntime) {
-    let (text, one): (&[u8], &[u8]) = (b"eb fe", b"0\nread fault\n");
-    assert!(&rt; runs(rt.alloc(), &["targets"], text, &[5], one, Status::ReadFault));
-    assert!(&rt;
-        runs(
-            rt.alloc(),
-            &["targets"],
-            text,
-            &[4],
-            b"read fault\n",
-            Status::ReadFault
-        )
-    );
+    for (call, written) in [(4, "read fault\n"), (5, "0\nread fault\n")] {
+        let written = written.as_bytes();
+        assert!(&rt;
+            runs(
+                rt.alloc(),
+                &["targets"],
+                b"eb fe",
+                &[call],
+                written,
+                Status::ReadFault
+            )
+        );
+    }
     let Ok(arguments) = arguments(rt.alloc(), &["targets"]) else {
         return;
     };

@@ -4,28 +4,33 @@ use crate::listings::status::Status;
 use crate::tests::support::{is_usage, runs};
 use std::alloc::Global;
 
-fn makes(alloc: Global, count: &str, written: &[u8]) -> bool {
+fn makes(alloc: Global, count: &str, written: &str) -> bool {
     runs(
         alloc,
         &["make", count],
         b"01 d8",
         &[],
-        written,
+        written.as_bytes(),
         Status::Done,
     )
 }
 
 #[test]
 fn made_encodings(rt: HostRuntime) {
-    let line: &[u8] = b"1 instructions 2 bytes 0 rip 0 abs\n";
-    assert!(&rt; makes(rt.alloc(), "1", line));
-    let line: &[u8] = b"192 instructions 760 bytes 8 rip 0 abs\n";
-    assert!(&rt; makes(rt.alloc(), "192", line));
-    let line: &[u8] = b"7296 instructions 29040 bytes 304 rip 8 abs\n";
-    assert!(&rt; makes(rt.alloc(), "7296", line));
+    let worked = [
+        ("1", "1 instructions 2 bytes 0 rip 0 abs\n"),
+        ("192", "192 instructions 760 bytes 8 rip 0 abs\n"),
+        ("7296", "7296 instructions 29040 bytes 304 rip 8 abs\n"),
+    ];
+    for (count, line) in worked {
+        assert!(&rt; makes(rt.alloc(), count, line));
+    }
+}
+
+#[test]
+fn counts_that_are_none(rt: HostRuntime) {
     assert!(&rt; is_usage(rt.alloc(), &["make"]));
-    assert!(&rt; is_usage(rt.alloc(), &["make", "0"]));
-    assert!(&rt; is_usage(rt.alloc(), &["make", "01"]));
-    assert!(&rt; is_usage(rt.alloc(), &["make", "+1"]));
-    assert!(&rt; is_usage(rt.alloc(), &["make", "1000001"]));
+    for count in ["0", "01", "+1", "1000001"] {
+        assert!(&rt; is_usage(rt.alloc(), &["make", count]));
+    }
 }

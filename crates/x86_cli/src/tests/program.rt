@@ -108,7 +108,7 @@ fn long_outputs(rt: HostRuntime) {
 }
 
 /// Whether the listing of a text, whose read with a number fails, is written and ends so.
-fn fails_at(alloc: Global, fails: u64, error: ErrorKind, written: &[u8], status: Status) -> bool {
+fn fails_at(alloc: Global, fails: u64, error: ErrorKind, written: &str, status: Status) -> bool {
     let Ok(arguments) = arguments(alloc, &["list"]) else {
         return true;
     };
@@ -119,50 +119,30 @@ fn fails_at(alloc: Global, fails: u64, error: ErrorKind, written: &[u8], status:
         error,
     };
     let (ended, writer) = listed(arguments.as_slice(), reader, Vec::new(alloc));
-    ended == status && writer.as_slice() == written
+    ended == status && writer.as_slice() == written.as_bytes()
 }
 
 #[test]
 fn readers_that_fail(rt: HostRuntime) {
-    for fails in [0, 1] {
-        let written = b"read fault\n";
-        assert!(&rt;
-            fails_at(
-                rt.alloc(),
-                fails,
-                ErrorKind::Other,
-                written,
-                Status::ReadFault
-            )
-        );
+    let one = "0 1 NOP m0\nread fault\n";
+    let worked = [
+        (0, "read fault\n", Status::ReadFault),
+        (1, "read fault\n", Status::ReadFault),
+        (2, one, Status::ReadFault),
+        (3, one, Status::ReadFault),
+        (4, one, Status::ReadFault),
+        (5, "0 1 NOP m0\n1 1 NOP m0\nread fault\n", Status::ReadFault),
+        (6, "0 1 NOP m0\n1 1 NOP m0\n", Status::Done),
+    ];
+    for (fails, written, status) in worked {
+        assert!(&rt; fails_at(rt.alloc(), fails, ErrorKind::Other, written, status));
     }
-    for fails in [2, 3, 4] {
-        let written = b"0 1 NOP m0\nread fault\n";
-        assert!(&rt;
-            fails_at(
-                rt.alloc(),
-                fails,
-                ErrorKind::Other,
-                written,
-                Status::ReadFault
-            )
-        );
-    }
-    let written = b"0 1 NOP m0\n1 1 NOP m0\nread fault\n";
-    assert!(&rt; fails_at(rt.alloc(), 5, ErrorKind::Other, written, Status::ReadFault));
-    let written = b"0 1 NOP m0\n1 1 NOP m0\n";
-    assert!(&rt; fails_at(rt.alloc(), 6, ErrorKind::Other, written, Status::Done));
-    // An interrupted read is a fault like any other.
-    let written = b"read fault\n";
-    assert!(&rt;
-        fails_at(
-            rt.alloc(),
-            0,
-            ErrorKind::Interrupted,
-            written,
-            Status::ReadFault
-        )
-    );
+}
+
+#[test]
+fn an_interrupted_read_is_a_fault_too(rt: HostRuntime) {
+    let (error, status) = (ErrorKind::Interrupted, Status::ReadFault);
+    assert!(&rt; fails_at(rt.alloc(), 0, error, "read fault\n", status));
 }
 
 #[test]
@@ -182,28 +162,27 @@ fn flushes_that_fail(rt: HostRuntime) {
     assert!(&rt; writer.kept.as_slice() == b"0 1 NOP m0\n".as_slice());
 }
 
-/// Whether the arguments over a text write this and end with this code.
-fn ends(alloc: Global, texts: &[&str], text: &[u8], written: &[u8], code: u8) -> bool {
-    let Ok(arguments) = arguments(alloc, texts) else {
+/// Whether `list` over a text writes this and ends with this code.
+fn ends(alloc: Global, text: &str, written: &str, code: u8) -> bool {
+    let Ok(arguments) = arguments(alloc, &["list"]) else {
         return true;
     };
-    let (status, writer) = listed(arguments.as_slice(), text, Vec::new(alloc));
-    status.code() == code && writer.as_slice() == written
+    let (status, writer) = listed(arguments.as_slice(), text.as_bytes(), Vec::new(alloc));
+    status.code() == code && writer.as_slice() == written.as_bytes()
 }
 
 #[test]
 fn exit_codes(rt: HostRuntime) {
-    assert!(&rt; ends(rt.alloc(), &[], b"90", b"", 2));
-    assert!(&rt; ends(rt.alloc(), &["list"], b"90", b"0 1 NOP m0\n", 0));
-    let refused = b"0 1 NOP m0\n1 error: invalid opcode\n";
-    assert!(&rt; ends(rt.alloc(), &["list"], b"90 06 90", refused, 3));
-    assert!(&rt;
-        ends(
-            rt.alloc(),
-            &["list"],
-            b"90 4",
-            b"0 1 NOP m0\ntext error at 4\n",
-            4
-        )
-    );
+    let refused = "0 1 NOP m0\n1 error: invalid opcode\n";
+    let worked = [
+        ("90", "0 1 NOP m0\n", 0),
+        ("90 06 90", refused, 3),
+        ("90 4", "0 1 NOP m0\ntext error at 4\n", 4),
+    ];
+    for (text, written, code) in worked {
+        assert!(&rt; ends(rt.alloc(), text, written, code));
+    }
+    let text: &[u8] = b"90";
+    let (status, writer) = listed(&[], text, Vec::new(rt.alloc()));
+    assert!(&rt; status.code() == 2 && writer.as_slice().is_empty());
 }

@@ -38,7 +38,8 @@ pub fn runs(
     run(arguments.as_slice(), &mut source, &mut sink) == status && sink.written() == written
 }
 
-pub fn lists(alloc: Global, text: &[u8], written: &[u8], status: Status) -> bool {
+pub fn lists(alloc: Global, text: &str, written: &str, status: Status) -> bool {
+    let (text, written) = (text.as_bytes(), written.as_bytes());
     runs(alloc, &["list"], text, &[], written, status)
 }
 

@@ -7,6 +7,7 @@ use Rattle.x86_operands.specs.declared.reader.Reading.{Reading}
 use Rattle.x86_operands.specs.Plans.{RowRecord}
 use Rattle.x86_operands.specs.Pieces.{modrm_of}
 use Rattle.x86_decode.specs.declared.instructions.Instruction.{Instruction}
+use Rattle.x86_decode.specs.Instruction.{length_of}
 use Rattle.x86_decode.specs.Head.{escape_bytes, seen_by}
 use Rattle.x86_decode.specs.Grammar.{Whole, record_of}
 use Rattle.x86_decode.specs.Answer.{answer_of}
@@ -72,7 +73,7 @@ pub record IsSplit (strict : Bool) (bytes : List ℕ) (split : Parts) : Type 0 w
   pub reading : Reading
   pub accepted : answer_of strict bytes ≡ Ok instruction
   pub begins : bytes ≡ encoding ++ rest
-  pub long : length encoding ≡ instruction.length
+  pub long : length encoding ≡ length_of instruction
   pub whole : Encoding strict encoding reading
   pub parts : HasParts strict encoding reading whole (lists_of split)
   pub together : joined (lists_of split) ≡ encoding

@@ -8,7 +8,7 @@ use Rattle.x86_operands.specs.declared.operands.Slot.TheVariants.{ImmI8, ImmI32}
 use Rattle.x86_operands.specs.declared.operands.Operand.{Operand}
 use Rattle.x86_operands.specs.declared.operands.Operand.TheVariants.{ImmediateI8, ImmediateI32}
 use Rattle.x86_decode.specs.declared.instructions.Instruction.{Instruction}
-use Rattle.x86_decode.specs.Instruction.{slot_at, operand_at}
+use Rattle.x86_decode.specs.Instruction.{opcode, slot_at, operand_at}
 
 -- the operations that may have a relative target (Intel SDM volume 2: CALL, JMP, Jcc, LOOP/LOOPcc)
 abbrev pub branches : List ℕ
@@ -31,6 +31,6 @@ offset_of o = pos 0
 -- the address behind the instruction, plus the sign-extended immediate, modulo 2^64
 abbrev pub branch_target : Instruction → ℕ → Option ℕ
 branch_target i next =
-    if is_branch i.opcode && is_offset_slot (slot_at i 0)
+    if is_branch (opcode i) && is_offset_slot (slot_at i 0)
     then Some ((next + cast_unsigned w64 (offset_of (operand_at i 0))) % 2 ^ 64)
     else None

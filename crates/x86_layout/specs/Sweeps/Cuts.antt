@@ -2,12 +2,13 @@
 use Rattle.std.specs.Prelude.{ℕ, ◌+◌, ◌-◌, zero, suc, Bool, List, [], ◌∷◌, Result, Ok, Err}
 use Rattle.x86_fields.specs.declared.errors.DecodeError.{DecodeError}
 use Rattle.x86_decode.specs.declared.instructions.Instruction.{Instruction}
+use Rattle.x86_decode.specs.Instruction.{length_of}
 use Rattle.x86_decode.specs.Answer.{answer_of}
 use Rattle.x86_layout.specs.declared.sweeps.cuts.Cut.{Cut}
 
 -- as long as the instruction, else one byte
 abbrev pub cut_length : Result Instruction DecodeError → ℕ
-cut_length (Ok i) = i.length
+cut_length (Ok i) = length_of i
 cut_length (Err e) = 1
 
 -- the cut at a place, where these bytes stand

@@ -3,6 +3,7 @@ use Rattle.std.specs.Prelude.{◌≡◌, ℕ, ◌+◌, ◌-◌, ◌&&◌, not, B
 use Rattle.x86_fields.specs.declared.errors.DecodeError.{DecodeError}
 use Rattle.x86_fields.specs.declared.raw.Raw.{Raw}
 use Rattle.x86_decode.specs.declared.instructions.Instruction.{Instruction}
+use Rattle.x86_decode.specs.Instruction.{length_of}
 use Rattle.x86_decode.specs.Answer.{answer_of}
 use Rattle.x86_layout.specs.Parts.Front.{ask_in, parts_of}
 use Rattle.x86_layout.specs.Tightening.Registers.{is_ip_relative}
@@ -18,7 +19,7 @@ unfoldable pub least_length : Bool → List ℕ → ℕ
 least_length strict s = least_by (ask_in s strict).memory (raw_of (parts_of strict s)) (length s)
 
 abbrev pub least_for : Bool → List ℕ → Result Instruction DecodeError → ℕ
-least_for strict bytes (Ok i) = least_length strict (take i.length bytes)
+least_for strict bytes (Ok i) = least_length strict (take (length_of i) bytes)
 least_for strict bytes (Err e) = 0
 
 -- how long a shortest relative of the encoding at the front is: as long as the encoding where it has none to seek,
@@ -28,4 +29,4 @@ shortest_length strict bytes = least_for strict bytes (answer_of strict bytes)
 
 -- An encoding that is accepted at the front has no shorter relative by this function.
 abbrev pub HasLengthOfFront : Bool → List ℕ → Type 0
-HasLengthOfFront strict bytes = (i : Instruction) → answer_of strict bytes ≡ Ok i → shortest_length strict bytes ≡ i.length
+HasLengthOfFront strict bytes = (i : Instruction) → answer_of strict bytes ≡ Ok i → shortest_length strict bytes ≡ length_of i

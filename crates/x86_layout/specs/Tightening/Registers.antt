@@ -1,6 +1,7 @@
 -- Which registers an address adds, and where they stand. Source: Intel SDM volume 2, sections 2.1.5 and 2.2.1.
 use Rattle.std.specs.Prelude.{ℕ, ◌+◌, ◌<◌, ◌≢◌, ◌==◌, ◌&&◌, Bool, false, if◌then◌else◌, Option, Some, None}
 use Rattle.x86_regs.specs.declared.RegSpec.{RegSpec}
+use Rattle.x86_regs.specs.Register.{num}
 use Rattle.x86_fields.specs.declared.raw.Raw.{Raw}
 use Rattle.x86_fields.specs.ModRM.{mod_field, rm_field}
 use Rattle.x86_fields.specs.Address.{base_of, index_of, scale_by}
@@ -19,7 +20,7 @@ is_ip_relative raw = is_ip_by raw.modrm raw.sib
 -- the number of a register, where there is one
 abbrev pub number_of : Option RegSpec → Option ℕ
 number_of None = None
-number_of (Some register) = Some register.num
+number_of (Some register) = Some (num register)
 
 -- the scale by its factor: 1, 2, 4 or 8
 abbrev pub scale_named : ℕ → Scale

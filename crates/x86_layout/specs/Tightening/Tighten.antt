@@ -10,6 +10,7 @@ use Rattle.x86_fields.specs.Raw.{displacement_width, has_b, has_x}
 use Rattle.x86_fields.specs.Pieces.{option_bytes, first_byte, signed_by}
 use Rattle.x86_fields.specs.Linear.{raw_form, IsSameAddress}
 use Rattle.x86_forms.specs.Words.{rows_of, packed}
+use Rattle.x86_fields.specs.Prefixes.{address_size, with_x_and_b}
 use Rattle.x86_operands.specs.declared.reader.Reading.{Reading}
 use Rattle.x86_decode.specs.declared.instructions.Instruction.{Instruction}
 use Rattle.x86_decode.specs.Head.{escape_bytes}
@@ -27,7 +28,7 @@ use Rattle.x86_layout.specs.Tightening.Shortest.{address_length}
 -- a REX with other bits X and B
 abbrev pub bits_in : Bool → Bool → Option PrefixRex → Option PrefixRex
 bits_in x b None = None
-bits_in x b (Some r) = Some (record r { x = x; b = b })
+bits_in x b (Some r) = Some (with_x_and_b r x b)
 
 -- a REX byte with these bits X and B; another byte stays
 abbrev pub byte_with : Bool → Bool → ℕ → ℕ
@@ -46,7 +47,7 @@ abbrev pub raw_of : PartLists → Raw
 raw_of parts = let p = reading_of parts.prefixes in record {
   rex_b = has_b p;
   rex_x = has_x p;
-  address_size = p.address_size;
+  address_size = address_size p;
   modrm = slice_index parts.modrm 0;
   sib = first_byte parts.sib;
   disp = signed_by (length parts.displacement) parts.displacement;

@@ -56,26 +56,3 @@ pub fn branch_target(inst: &Instruction, next: u64) -> Option<u64>
         None
     }
 }
-
-#[cfg(test)]
-mod tests {
-    use crate::branch_target;
-    use x86_decode::InstDecoder;
-
-    fn target(bytes: &[u8], next: u64) -> Option<u64> {
-        match InstDecoder::default().decode_slice(bytes) {
-            Ok(instruction) => branch_target(&instruction, next),
-            Err(_) => None,
-        }
-    }
-
-    #[test]
-    fn branches(rt: HostRuntime) {
-        assert!(rt; target(&[0xeb, 0xfe], 2) == Some(0));
-        assert!(rt; target(&[0xeb, 0xfe], 1) == Some(u64::MAX));
-        assert!(rt; target(&[0xe8, 0x00, 0x00, 0x00, 0x80], 5) == Some(0xffff_ffff_8000_0005));
-        assert!(rt; target(&[0x0f, 0x84, 0x01, 0x00, 0x00, 0x00], 6) == Some(7));
-        assert!(rt; target(&[0xff, 0xe0], 2).is_none());
-        assert!(rt; target(&[0x6a, 0x01], 2).is_none());
-    }
-}

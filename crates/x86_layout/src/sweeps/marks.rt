@@ -89,26 +89,3 @@ pub fn mark_targets(decoder: &InstDecoder, bytes: &[u8], marks: &mut [bool])
     mark_targets_of(decoder, bytes, marks);
     clear_inside_all(decoder, bytes, marks);
 }
-
-#[cfg(test)]
-mod tests {
-    use crate::mark_targets;
-    use x86_decode::InstDecoder;
-
-    #[test]
-    fn marks(rt: HostRuntime) {
-        let decoder = InstDecoder::default();
-        let mut marks = [true; 2];
-        mark_targets(&decoder, &[0xeb, 0xfe], &mut marks);
-        assert!(rt; marks == [true, false]);
-        let mut marks = [false; 6];
-        mark_targets(&decoder, &[0x74, 0x01, 0x06, 0xeb, 0xfb, 0x90], &mut marks);
-        assert!(rt; marks == [true, false, false, true, false, false]);
-        let mut marks = [false; 3];
-        mark_targets(&decoder, &[0xeb, 0xff, 0x90], &mut marks);
-        assert!(rt; marks == [false; 3]);
-        let mut marks = [true; 2];
-        mark_targets(&decoder, &[0xeb, 0x7f], &mut marks);
-        assert!(rt; marks == [false; 2]);
-    }
-}

@@ -68,38 +68,3 @@ impl<'a> Iterator for Sweep<'a> {
         Some(self.cut_off())
     }
 }
-
-#[cfg(test)]
-mod tests {
-    use crate::Sweep;
-    use x86_decode::InstDecoder;
-    use x86_fields::DecodeError;
-    use x86_opcodes::Opcode;
-
-    #[test]
-    fn a_sweep_goes_on_behind_a_refusal(rt: HostRuntime) {
-        let mut sweep = Sweep::new(InstDecoder::default(), &[0x06, 0x90, 0x48]);
-        let first = sweep.next().expect(&rt, "a cut");
-        assert!(rt; first.place == 0 && first.length == 1);
-        assert!(rt; matches!(first.answer, Err(DecodeError::InvalidOpcode)));
-        let second = sweep.next().expect(&rt, "a cut");
-        assert!(rt; second.place == 1 && second.length == 1);
-        assert!(rt; matches!(second.answer, Ok(read) if read.opcode() == Opcode::NOP));
-        let third = sweep.next().expect(&rt, "a cut");
-        assert!(rt; third.place == 2 && third.length == 1);
-        assert!(rt; matches!(third.answer, Err(DecodeError::ExhaustedInput)));
-        assert!(rt; sweep.next().is_none());
-    }
-
-    #[test]
-    fn a_sweep_ends(rt: HostRuntime) {
-        let mut last = 0;
-        for cut in Sweep::new(
-            InstDecoder::default(),
-            &[0x48, 0x01, 0xd8, 0x06, 0xe8, 0, 0],
-        ) {
-            last = cut.place;
-        }
-        assert!(rt; last == 5);
-    }
-}

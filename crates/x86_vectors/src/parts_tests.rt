@@ -1,0 +1,118 @@
+//! The parts of encodings, and encodings written from parts.
+use crate::line_tests::bytes_of;
+use x86_decode::InstDecoder;
+use x86_layout::{EmitError, Fields, emit, split};
+use x86_text::fields_line;
+
+/// Whether the encoding at the front has this line of its parts.
+fn has_parts(pairs: &str, line: &str) -> bool {
+    let Some(bytes) = bytes_of(pairs) else {
+        return false;
+    };
+    match split(&InstDecoder::default(), bytes.as_slice()) {
+        Ok(parts) => fields_line(0, &parts).as_slice() == line.as_bytes(),
+        Err(_) => false,
+    }
+}
+
+#[test]
+fn parts(rt: HostRuntime) {
+    let worked = [
+        ("90", "0 1 - - 90 - - - - -"),
+        ("48 03 44 25 00 90", "0 5 48 - 03 44 25 00 - -"),
+        (
+            "48 a1 88 77 66 55 44 33 22 11",
+            "0 10 48 - a1 - - - 8877665544332211 -",
+        ),
+        ("0f 0f c1 9e 06", "0 4 - 0f 0f c1 - - - 9e"),
+        ("66 0f 3a 16 c1 02", "0 6 66 0f3a 16 c1 - - 02 -"),
+        ("c7 45 fc 00 00 00 00", "0 7 - - c7 45 - fc 00000000 -"),
+    ];
+    for (pairs, line) in worked {
+        assert!(rt; has_parts(pairs, line));
+    }
+}
+
+/// The fields of the encoding at the front.
+fn fields_of(bytes: &[u8]) -> Option<Fields> {
+    match split(&InstDecoder::default(), bytes) {
+        Ok(parts) => Some(Fields::of(&parts)),
+        Err(_) => None,
+    }
+}
+
+const ADD: [u8; 5] = [0x48, 0x03, 0x44, 0x25, 0x00];
+
+/// The fields of `ADD` with other prefixes, as many as fit.
+fn add_behind(prefixes: &[u8]) -> Option<Fields> {
+    let mut fields = fields_of(&ADD)?;
+    fields.prefixes.clear();
+    let _ = fields.prefixes.try_extend_from_slice(prefixes);
+    Some(fields)
+}
+
+/// The fields of `ADD` with another opcode and ModRM, and without a displacement.
+fn with_opcode(opcode: u8, modrm: u8) -> Option<Fields> {
+    let mut fields = fields_of(&ADD)?;
+    fields.opcode = opcode;
+    fields.modrm = Some(modrm);
+    fields.displacement.clear();
+    Some(fields)
+}
+
+fn writes(fields: Option<Fields>, wanted: &[u8]) -> bool {
+    match fields {
+        Some(fields) => match emit(&InstDecoder::default(), &fields) {
+            Ok(bytes) => bytes.as_slice() == wanted,
+            Err(_) => false,
+        },
+        None => false,
+    }
+}
+
+fn refusal(fields: Option<Fields>) -> Option<EmitError> {
+    emit(&InstDecoder::default(), &fields?).err()
+}
+
+#[test]
+fn fields_are_written(rt: HostRuntime) {
+    assert!(rt; writes(fields_of(&[0x48, 0x03, 0x44, 0x25, 0x00, 0x90]), &ADD));
+    assert!(rt;
+        writes(
+            add_behind(&[0x48, 0x48]),
+            &[0x48, 0x48, 0x03, 0x44, 0x25, 0x00]
+        )
+    );
+    let mut run = [0x66; 12];
+    run[10] = 0x48;
+    let bytes = [
+        0x66, 0x66, 0x66, 0x66, 0x66, 0x66, 0x66, 0x66, 0x66, 0x66, 0x48, 0x03, 0x44, 0x25, 0x00,
+    ];
+    assert!(rt; writes(add_behind(&run[..11]), &bytes));
+    run[10] = 0x66;
+    run[11] = 0x48;
+    assert!(rt; refusal(add_behind(&run)) == Some(EmitError::Length));
+}
+
+#[test]
+fn fields_are_refused(rt: HostRuntime) {
+    assert!(rt; refusal(add_behind(&[0x90])) == Some(EmitError::Prefixes));
+    assert!(rt; refusal(add_behind(&[0xf0])) == Some(EmitError::Lock));
+    let mut fields = fields_of(&ADD).expect(&rt, "fields");
+    fields.sib = None;
+    assert!(rt; refusal(Some(fields)) == Some(EmitError::Shape));
+    assert!(rt; refusal(with_opcode(0x06, 0x44)) == Some(EmitError::Row));
+    // the row of FE refuses /2, and the displacement is missing
+    assert!(rt; refusal(with_opcode(0xfe, 0x54)) == Some(EmitError::Row));
+    let mut fields = fields_of(&[0x0f, 0x0f, 0xc1, 0x9e]).expect(&rt, "fields");
+    fields.suffix = Some(0x06);
+    assert!(rt; refusal(Some(fields)) == Some(EmitError::Row));
+}
+
+#[test]
+fn a_strict_decoder_writes_fewer_fences(rt: HostRuntime) {
+    let fence = [0x0f, 0xae, 0xe9];
+    assert!(rt; writes(fields_of(&fence), &fence));
+    let fields = fields_of(&fence).expect(&rt, "fields");
+    assert!(rt; emit(&InstDecoder::strict(), &fields).err() == Some(EmitError::Row));
+}

@@ -1,0 +1,75 @@
+//! Names of registers and opcodes, the order of registers, and errors as text.
+use std::test::Fail;
+use x86_fields::DecodeError;
+use x86_layout::{EmitError, TightenError};
+use x86_opcodes::Opcode;
+use x86_regs::{MergeMode, RegSpec, RegisterClass, SaeMode, register_class};
+
+#[test]
+fn registers_by_name(rt: HostRuntime) {
+    let cases = [
+        (RegSpec::rb(4), "spl"),
+        (RegSpec::b(4), "ah"),
+        (RegSpec::r13w(), "r13w"),
+        (RegSpec::zmm(31), "zmm31"),
+        (RegSpec::st0(), "st(0)"),
+        (RegSpec::mask(7), "k7"),
+        (RegSpec::gs(), "gs"),
+        (RegSpec::RIP, "rip"),
+    ];
+    for (register, name) in cases {
+        assert_eq!(rt; register.name(), name);
+    }
+    assert_eq!(rt; RegSpec::zmm0().width(), 64);
+    assert_eq!(rt; register_class::RFLAGS.name(), "rflags");
+}
+
+#[test]
+fn the_number_is_compared_first(rt: HostRuntime) {
+    assert!(rt; RegSpec::al() < RegSpec::ax());
+    assert!(rt; RegSpec::rax() < RegSpec::cl());
+    assert!(rt; RegisterClass::Q < RegisterClass::X);
+}
+
+#[test]
+fn modes_by_name(rt: HostRuntime) {
+    assert_eq!(rt; MergeMode::from(true), MergeMode::Zero);
+    assert_eq!(rt; SaeMode::RoundZero.label(), "{rz-sae}");
+}
+
+#[test]
+fn spellings(rt: HostRuntime) {
+    assert_eq!(rt; Opcode::GF2P8AFFINEINVQB.mnemonic(), "GF2P8AFFINEINVQB");
+    assert_eq!(rt; Opcode::Invalid.mnemonic(), "Invalid");
+    assert!(rt; Opcode::from_number(u64::MAX).is_none());
+}
+
+#[test]
+fn errors_by_their_descriptions(rt: HostRuntime) -> Result<(), Fail> {
+    let shown = format!(in rt.alloc(); "{}", DecodeError::IncompleteDecoder)?;
+    assert_eq!(rt; shown.as_str(), "the decoder is incomplete");
+    let texts = [
+        (
+            TightenError::Refused(DecodeError::InvalidOpcode),
+            "invalid opcode",
+        ),
+        (TightenError::NoMemoryForm, "no memory form"),
+        (TightenError::IpRelative, "ip-relative form"),
+    ];
+    for (error, text) in texts {
+        let shown = format!(in rt.alloc(); "{error}")?;
+        assert_eq!(rt; shown.as_str(), text);
+    }
+    let texts = [
+        (EmitError::Prefixes, "not a prefix byte"),
+        (EmitError::Row, "no row for these fields"),
+        (EmitError::Shape, "parts other than the row asks"),
+        (EmitError::Lock, "lock prefix not allowed"),
+        (EmitError::Length, "more than 15 bytes"),
+    ];
+    for (error, text) in texts {
+        let shown = format!(in rt.alloc(); "{error}")?;
+        assert_eq!(rt; shown.as_str(), text);
+    }
+    Ok(())
+}

@@ -1,0 +1,48 @@
+//! Shortest encodings, worked by hand.
+use crate::line_tests::bytes_of;
+use x86_decode::InstDecoder;
+use x86_fields::DecodeError;
+use x86_layout::{TightenError, tighten};
+
+/// Whether this is what the encoding at the front becomes.
+fn becomes(pairs: &str, wanted: &str) -> bool {
+    let (Some(bytes), Some(wanted)) = (bytes_of(pairs), bytes_of(wanted)) else {
+        return false;
+    };
+    match tighten(&InstDecoder::default(), bytes.as_slice()) {
+        Ok(encoding) => encoding.as_slice() == wanted.as_slice(),
+        Err(_) => false,
+    }
+}
+
+#[test]
+fn the_shortest_addresses(rt: HostRuntime) {
+    let worked = [
+        ("48 8b 84 25 00 00 00 00", "48 8b 45 00"),
+        ("43 8b 44 25 00", "43 8b 04 2c"),
+        ("8b 44 05 00", "8b 04 28"),
+        ("8b 44 24 00", "8b 04 24"),
+        ("8b 04 45 00 00 00 00", "8b 04 00"),
+        ("8b 84 85 fc ff ff ff 90", "8b 44 85 fc"),
+        ("67 8b 80 80 00 00 00", "67 8b 80 80 00 00 00"),
+    ];
+    for (pairs, wanted) in worked {
+        assert!(rt; becomes(pairs, wanted));
+    }
+}
+
+#[test]
+fn nothing_to_tighten(rt: HostRuntime) {
+    let decoder = InstDecoder::default();
+    let ip_relative = tighten(&decoder, &[0x8b, 0x05, 0, 0, 0, 0]);
+    assert!(rt; matches!(ip_relative, Err(TightenError::IpRelative)));
+    let registers = tighten(&decoder, &[0x8b, 0xc0]);
+    assert!(rt; matches!(registers, Err(TightenError::NoMemoryForm)));
+    let refused = tighten(&decoder, &[0x06]);
+    assert!(rt;
+        matches!(
+            refused,
+            Err(TightenError::Refused(DecodeError::InvalidOpcode))
+        )
+    );
+}

@@ -1,0 +1,15 @@
+//! The example of docs/GUIDE.md with a contract: an instruction over two buffers.
+ghost use Rattle.std.specs.Prelude.{◌≡◌, ◌+◌, ◌≤◌, ◌++◌, false, length};
+ghost use Rattle.x86_decode.specs.Answer.{answer_of};
+
+use x86_arch::ChunkReader;
+use x86_decode::{DecodeError, InstDecoder, Instruction};
+
+/// The instruction at the front of two slices of which the second goes on where the first ends.
+pub fn decode_over(first: &[u8], rest: &[u8]) -> Result<Instruction, DecodeError>
+    requires { length first.now + length rest.now ≤ usize.MAX }
+    ensures { result ≡ answer_of false (first.now ++ rest.now) }
+{
+    let mut reader = ChunkReader::new(first, rest);
+    InstDecoder::default().decode(&mut reader)
+}
