@@ -1,7 +1,6 @@
 //! The examples of docs/GUIDE.md, as they stand there.
 ghost use Rattle.std.specs.Prelude.{⊤, ◌<◌};
 
-use crate::two_buffers::decode_over;
 use arrayvec::ArrayVec;
 use x86_decode::{
     DecodeError, InstDecoder, Instruction, MergeMode, Opcode, Operand, OperandVisitor, RegSpec,
@@ -47,7 +46,7 @@ fn tell_refusals_apart(rt: HostRuntime) {
 #[test]
 fn read_over_two_buffers(rt: HostRuntime) {
     // lea rax, [rip + 16], cut inside the displacement
-    let read = decode_over(&[0x48, 0x8d, 0x05, 0x10], &[0x00, 0x00, 0x00]);
+    let read = crate::two_buffers::decode_over(&[0x48, 0x8d, 0x05, 0x10], &[0x00, 0x00, 0x00]);
     assert!(rt; matches!(read, Ok(instruction) if instruction.opcode() == Opcode::LEA));
 }
 
