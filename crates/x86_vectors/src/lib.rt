@@ -24,7 +24,7 @@ mod plain_tests;
 #[cfg(test)]
 mod reader_tests;
 #[cfg(test)]
-mod recorder;
+mod rebuilder;
 #[cfg(test)]
 mod refusal_table;
 #[cfg(test)]

@@ -1,4 +1,5 @@
 //! Lines of instructions, worked by hand from the rows.
+use crate::plain_tests::agree_on;
 use crate::{group_table, mixed_table, plain_table, x87_table};
 use arrayvec::ArrayVec;
 use x86_arch::{ChunkReader, Reader};
@@ -6,7 +7,7 @@ use x86_decode::{DecodeError, InstDecoder};
 use x86_text::line_of;
 
 /// The tables of worked lines, `HEX => LINE`.
-pub const TABLES: &[&str] = &[
+const TABLES: &[&str] = &[
     plain_table::PART_1,
     plain_table::PART_2,
     plain_table::PART_3,
@@ -77,7 +78,10 @@ fn is_worked_row(row: &str) -> bool {
     match bytes_of(digits) {
         Some(bytes) => {
             let bytes = bytes.as_slice();
-            is_worked(bytes, line) && is_open_before_its_end(bytes) && stays(bytes)
+            is_worked(bytes, line)
+                && is_open_before_its_end(bytes)
+                && stays(bytes)
+                && agree_on(bytes)
         }
         None => false,
     }

@@ -1,64 +1,48 @@
 //! Operands: the visitor, and the addresses that operands denote.
 ghost use Rattle.std.specs.Prelude.{◌<◌};
 
-use crate::recorder::{Call, Recorder};
+use crate::rebuilder::Rebuilder;
 use x86_arch::U8Reader;
 use x86_decode::InstDecoder;
 use x86_fields::{ModRM, Prefixes, RegFile, address_of, read_raw, reading_of};
 use x86_operands::Operand;
 use x86_regs::{MergeMode, RegSpec, SaeMode};
 
-fn call_of(operand: Operand) -> Option<Call> {
-    operand.visit(&mut Recorder).ok()
+/// Whether the call that an operand makes on a visitor names its variant, with its fields.
+fn is_told(operand: Operand) -> bool {
+    operand.visit(&mut Rebuilder).ok() == Some(operand)
 }
 
 #[test]
 fn visited_immediates_and_registers(rt: HostRuntime) {
-    let rax = RegSpec::rax();
-    let k1 = RegSpec::mask(1);
+    let reg = RegSpec::rax();
+    let mask = RegSpec::mask(1);
     let merge = MergeMode::Zero;
     let sae = SaeMode::RoundDown;
-    let table = [
-        (Operand::ImmediateI8 { imm: -1 }, Call::I8(-1)),
-        (Operand::ImmediateU8 { imm: 2 }, Call::U8(2)),
-        (Operand::ImmediateI16 { imm: -3 }, Call::I16(-3)),
-        (Operand::ImmediateU16 { imm: 4 }, Call::U16(4)),
-        (Operand::ImmediateI32 { imm: -5 }, Call::I32(-5)),
-        (Operand::ImmediateU32 { imm: 6 }, Call::U32(6)),
-        (Operand::ImmediateI64 { imm: -7 }, Call::I64(-7)),
-        (Operand::ImmediateU64 { imm: 8 }, Call::U64(8)),
-        (Operand::Register { reg: rax }, Call::Reg(rax)),
-        (
-            Operand::RegisterMaskMerge {
-                reg: rax,
-                mask: k1,
-                merge,
-            },
-            Call::RegMaskMerge(rax, k1, merge),
-        ),
-        (
-            Operand::RegisterMaskMergeSae {
-                reg: rax,
-                mask: k1,
-                merge,
-                sae,
-            },
-            Call::RegMaskMergeSae(rax, k1, merge, sae),
-        ),
-        (
-            Operand::RegisterMaskMergeSaeNoround {
-                reg: rax,
-                mask: k1,
-                merge,
-            },
-            Call::RegMaskMergeSaeNoround(rax, k1, merge),
-        ),
-        (Operand::AbsoluteU32 { addr: 9 }, Call::AbsU32(9)),
-        (Operand::AbsoluteU64 { addr: 10 }, Call::AbsU64(10)),
-        (Operand::Nothing, Call::Other),
+    let operands = [
+        Operand::ImmediateI8 { imm: -1 },
+        Operand::ImmediateU8 { imm: 2 },
+        Operand::ImmediateI16 { imm: -3 },
+        Operand::ImmediateU16 { imm: 4 },
+        Operand::ImmediateI32 { imm: -5 },
+        Operand::ImmediateU32 { imm: 6 },
+        Operand::ImmediateI64 { imm: -7 },
+        Operand::ImmediateU64 { imm: 8 },
+        Operand::Register { reg },
+        Operand::RegisterMaskMerge { reg, mask, merge },
+        Operand::RegisterMaskMergeSae {
+            reg,
+            mask,
+            merge,
+            sae,
+        },
+        Operand::RegisterMaskMergeSaeNoround { reg, mask, merge },
+        Operand::AbsoluteU32 { addr: 9 },
+        Operand::AbsoluteU64 { addr: 10 },
+        Operand::Nothing,
     ];
-    for (operand, call) in table {
-        assert!(rt; call_of(operand) == Some(call));
+    for operand in operands {
+        assert!(rt; is_told(operand));
     }
 }
 
@@ -66,87 +50,45 @@ fn visited_immediates_and_registers(rt: HostRuntime) {
 fn visited_memory(rt: HostRuntime) {
     let base = RegSpec::rax();
     let index = RegSpec::rcx();
-    let (scale, disp) = (4, -8);
-    let table = [
-        (Operand::MemDeref { base }, Call::Deref(base)),
-        (Operand::Disp { base, disp }, Call::Disp(base, disp)),
-        (
-            Operand::MemIndexScale { index, scale },
-            Call::IndexScale(index, scale),
-        ),
-        (
-            Operand::MemIndexScaleDisp { index, scale, disp },
-            Call::IndexScaleDisp(index, scale, disp),
-        ),
-        (
-            Operand::MemBaseIndexScale { base, index, scale },
-            Call::BaseIndexScale(base, index, scale),
-        ),
-        (
-            Operand::MemBaseIndexScaleDisp {
-                base,
-                index,
-                scale,
-                disp,
-            },
-            Call::BaseIndexScaleDisp(base, index, scale, disp),
-        ),
-    ];
-    for (operand, call) in table {
-        assert!(rt; call_of(operand) == Some(call));
-    }
-}
-
-#[test]
-fn visited_masked_memory(rt: HostRuntime) {
-    let base = RegSpec::rax();
-    let index = RegSpec::rcx();
     let mask = RegSpec::mask(1);
     let (scale, disp) = (4, -8);
-    let table = [
-        (
-            Operand::MemDerefMasked { base, mask },
-            Call::DerefMasked(base, mask),
-        ),
-        (
-            Operand::DispMasked { base, disp, mask },
-            Call::DispMasked(base, disp, mask),
-        ),
-        (
-            Operand::MemIndexScaleMasked { index, scale, mask },
-            Call::IndexScaleMasked(index, scale, mask),
-        ),
-        (
-            Operand::MemIndexScaleDispMasked {
-                index,
-                scale,
-                disp,
-                mask,
-            },
-            Call::IndexScaleDispMasked(index, scale, disp, mask),
-        ),
-        (
-            Operand::MemBaseIndexScaleMasked {
-                base,
-                index,
-                scale,
-                mask,
-            },
-            Call::BaseIndexScaleMasked(base, index, scale, mask),
-        ),
-        (
-            Operand::MemBaseIndexScaleDispMasked {
-                base,
-                index,
-                scale,
-                disp,
-                mask,
-            },
-            Call::BaseIndexScaleDispMasked(base, index, scale, disp, mask),
-        ),
+    let operands = [
+        Operand::MemDeref { base },
+        Operand::Disp { base, disp },
+        Operand::MemIndexScale { index, scale },
+        Operand::MemIndexScaleDisp { index, scale, disp },
+        Operand::MemBaseIndexScale { base, index, scale },
+        Operand::MemBaseIndexScaleDisp {
+            base,
+            index,
+            scale,
+            disp,
+        },
+        Operand::MemDerefMasked { base, mask },
+        Operand::DispMasked { base, disp, mask },
+        Operand::MemIndexScaleMasked { index, scale, mask },
+        Operand::MemIndexScaleDispMasked {
+            index,
+            scale,
+            disp,
+            mask,
+        },
+        Operand::MemBaseIndexScaleMasked {
+            base,
+            index,
+            scale,
+            mask,
+        },
+        Operand::MemBaseIndexScaleDispMasked {
+            base,
+            index,
+            scale,
+            disp,
+            mask,
+        },
     ];
-    for (operand, call) in table {
-        assert!(rt; call_of(operand) == Some(call));
+    for operand in operands {
+        assert!(rt; is_told(operand));
     }
 }
 

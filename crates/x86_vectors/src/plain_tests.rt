@@ -1,8 +1,6 @@
 //! The decoder against a plain loop over the printed rows.
 ghost use Rattle.std.specs.Prelude.{◌<◌, ◌≤◌};
 
-use crate::line_tests::bytes_of;
-use crate::{line_tests, refusal_tests};
 use x86_arch::{Reader, U8Reader};
 use x86_decode::{InstDecoder, Instruction};
 use x86_fields::{DecodeError, Prefixes, is_legacy, is_rex, next_byte};
@@ -147,38 +145,9 @@ fn agree(bytes: &[u8], strict: bool) -> bool {
     same && reader.offset() == taken
 }
 
-fn agree_on(bytes: &[u8]) -> bool {
+/// Whether decoder and loop answer the same for these bytes, under both choices.
+pub fn agree_on(bytes: &[u8]) -> bool {
     agree(bytes, false) && agree(bytes, true)
-}
-
-fn agree_on_row(row: &str) -> bool {
-    match row.split_once(" => ") {
-        Some((digits, _)) => match bytes_of(digits) {
-            Some(bytes) => agree_on(bytes.as_slice()),
-            None => false,
-        },
-        None => false,
-    }
-}
-
-/// The first line of a table on whose bytes they differ.
-fn differing_row(table: &str) -> Option<&str> {
-    for row in table.lines() {
-        if !agree_on_row(row) {
-            return Some(row);
-        }
-    }
-    None
-}
-
-#[test]
-fn worked_answers_by_a_plain_loop(rt: HostRuntime) {
-    for table in line_tests::TABLES {
-        assert_eq!(rt; differing_row(table), None);
-    }
-    for table in refusal_tests::TABLES {
-        assert_eq!(rt; differing_row(table), None);
-    }
 }
 
 /// Every opcode byte of a map, with a register and with a memory form behind it.

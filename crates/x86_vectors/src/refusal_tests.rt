@@ -1,11 +1,12 @@
 //! Refusals, worked by hand from the rows.
 use crate::line_tests::bytes_of;
+use crate::plain_tests::agree_on;
 use crate::refusal_table;
 use x86_arch::{Reader, U8Reader};
 use x86_decode::InstDecoder;
 
 /// The tables of refusals, `HEX => TAKEN REASON`.
-pub const TABLES: &[&str] = &[
+const TABLES: &[&str] = &[
     refusal_table::PART_1,
     refusal_table::PART_2,
     refusal_table::PART_3,
@@ -33,7 +34,10 @@ fn is_refused_row(row: &str) -> bool {
         return false;
     };
     match bytes_of(digits) {
-        Some(bytes) => is_refused(bytes.as_slice(), taken, reason),
+        Some(bytes) => {
+            let bytes = bytes.as_slice();
+            is_refused(bytes, taken, reason) && agree_on(bytes)
+        }
         None => false,
     }
 }

@@ -45,21 +45,29 @@ fn spellings(rt: HostRuntime) {
 }
 
 #[test]
-fn errors_by_their_descriptions(rt: HostRuntime) -> Result<(), Fail> {
+fn refusals_by_their_descriptions(rt: HostRuntime) -> Result<(), Fail> {
     let shown = format!(in rt.alloc(); "{}", DecodeError::IncompleteDecoder)?;
     assert_eq!(rt; shown.as_str(), "the decoder is incomplete");
+    Ok(())
+}
+
+#[test]
+fn errors_of_tighten_by_their_texts(rt: HostRuntime) -> Result<(), Fail> {
+    let refused = TightenError::Refused(DecodeError::InvalidOpcode);
     let texts = [
-        (
-            TightenError::Refused(DecodeError::InvalidOpcode),
-            "invalid opcode",
-        ),
+        (refused, "invalid opcode"),
         (TightenError::NoMemoryForm, "no memory form"),
         (TightenError::IpRelative, "ip-relative form"),
     ];
     for (error, text) in texts {
         let shown = format!(in rt.alloc(); "{error}")?;
-        assert_eq!(rt; shown.as_str(), text);
+        assert!(rt; shown.as_str() == text);
     }
+    Ok(())
+}
+
+#[test]
+fn errors_of_emit_by_their_texts(rt: HostRuntime) -> Result<(), Fail> {
     let texts = [
         (EmitError::Prefixes, "not a prefix byte"),
         (EmitError::Row, "no row for these fields"),
@@ -69,7 +77,7 @@ fn errors_by_their_descriptions(rt: HostRuntime) -> Result<(), Fail> {
     ];
     for (error, text) in texts {
         let shown = format!(in rt.alloc(); "{error}")?;
-        assert_eq!(rt; shown.as_str(), text);
+        assert!(rt; shown.as_str() == text);
     }
     Ok(())
 }
