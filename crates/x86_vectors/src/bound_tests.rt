@@ -60,15 +60,11 @@ fn first<A: Arch, D: Decoder<A>, T: Reader<A::Address, A::Word>>(
 fn a_decoder_through_its_bound(rt: HostRuntime) {
     let mut words = U8Reader::new(&[9, 8]);
     let mut inst = 7;
-    assert_eq!(rt;
-        first::<Bytes, ByteDecoder, U8Reader>(&ByteDecoder, &mut words),
-        Ok(9)
-    );
-    assert_eq!(rt; ByteDecoder.decode_into(&mut inst, &mut words), Ok(()));
-    assert_eq!(rt; inst, 8);
-    assert_eq!(rt;
-        ByteDecoder.decode_into(&mut inst, &mut words),
-        Err(ReadError::ExhaustedInput)
-    );
-    assert_eq!(rt; inst, 0);
+    let read = first::<Bytes, ByteDecoder, U8Reader>(&ByteDecoder, &mut words);
+    assert!(rt; read == Ok(9));
+    assert!(rt; ByteDecoder.decode_into(&mut inst, &mut words).is_ok());
+    assert!(rt; inst == 8);
+    let refused = ByteDecoder.decode_into(&mut inst, &mut words);
+    assert!(rt; refused == Err(ReadError::ExhaustedInput));
+    assert!(rt; inst == 0);
 }

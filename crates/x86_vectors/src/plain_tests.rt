@@ -115,13 +115,13 @@ fn size_of(instruction: &Instruction) -> u8 {
 }
 
 fn is_same(instruction: &Instruction, reading: &Reading, taken: u64) -> bool {
-    let places = [0u8, 1, 2, 3];
+    let indices = [0u8, 1, 2, 3];
     instruction.opcode() == reading.opcode
         && size_of(instruction) == reading.mem_size
         && instruction.len().to_const() == taken
         && instruction.prefixes == reading.prefixes
         && instruction.operand_count() == reading.count
-        && places.iter().all(|i| {
+        && indices.iter().all(|i| {
             *i >= 4
                 || (instruction.operand(*i) == reading.operands[*i as usize]
                     && instruction.slot(*i) == reading.slots[*i as usize])

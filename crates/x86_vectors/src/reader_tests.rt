@@ -4,17 +4,12 @@ use x86_decode::{InstDecoder, Instruction, Opcode};
 use x86_fields::DecodeError;
 
 #[test]
-fn numbers_and_offsets(rt: HostRuntime) {
+fn a_number_that_is_too_long_takes_nothing(rt: HostRuntime) {
     let mut reader = U8Reader::new(&[1, 2, 3]);
     let mut four = [0; 4];
     assert!(rt; reader.next_n(&mut four).is_err());
     assert!(rt; reader.offset() == 0);
     assert!(rt; reader.next() == Ok(1));
-
-    let mut reader = U8Reader::new(&[0x03, 0x05, 0x00, 0x00]);
-    let answer = InstDecoder::default().decode(&mut reader);
-    assert!(rt; answer == Err(DecodeError::ExhaustedInput));
-    assert!(rt; reader.offset() == 2);
 }
 
 #[test]
@@ -32,14 +27,14 @@ fn split_input(rt: HostRuntime) {
 fn a_number_lies_across_the_seam(rt: HostRuntime) {
     let mut reader = ChunkReader::new(&[1, 2], &[3, 4, 5]);
     let mut buf = [0; 3];
-    assert_eq!(rt; reader.next(), Ok(1));
+    assert!(rt; reader.next() == Ok(1));
     reader.mark();
-    assert_eq!(rt; reader.next_n(&mut buf), Ok(()));
-    assert_eq!(rt; buf, [2, 3, 4]);
-    assert_eq!(rt; reader.offset(), 3);
-    assert_eq!(rt; reader.total_offset(), 4);
-    assert_eq!(rt; reader.next(), Ok(5));
-    assert_eq!(rt; reader.next(), Err(ReadError::ExhaustedInput));
+    assert!(rt; reader.next_n(&mut buf).is_ok());
+    assert!(rt; buf == [2, 3, 4]);
+    assert!(rt; reader.offset() == 3);
+    assert!(rt; reader.total_offset() == 4);
+    assert!(rt; reader.next() == Ok(5));
+    assert!(rt; reader.next() == Err(ReadError::ExhaustedInput));
 }
 
 #[test]
@@ -81,9 +76,7 @@ fn equality_looks_at_slots(rt: HostRuntime) {
 
 #[test]
 fn strict_fences(rt: HostRuntime) {
-    let fence = [0x0f, 0xae, 0xe9];
-    assert!(rt; InstDecoder::default().decode_slice(&fence).is_ok());
-    let strict = InstDecoder::strict().decode_slice(&fence);
+    let strict = InstDecoder::strict().decode_slice(&[0x0f, 0xae, 0xe9]);
     assert!(rt; strict == Err(DecodeError::InvalidOperand));
     assert!(rt;
         InstDecoder::strict()

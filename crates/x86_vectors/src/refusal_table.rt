@@ -332,6 +332,7 @@ f3c5 => 2 the decoder is incomplete
 fe50 => 2 exhausted input
 fe5000 => 3 invalid opcode
 0fc500 => 3 exhausted input
+03050000 => 2 exhausted input
 0fc50000 => 4 invalid operand
 8e08 => 2 invalid operand
 ff38 => 2 invalid opcode

@@ -18,10 +18,10 @@ fn registers_by_name(rt: HostRuntime) {
         (RegSpec::RIP, "rip"),
     ];
     for (register, name) in cases {
-        assert_eq!(rt; register.name(), name);
+        assert!(rt; register.name() == name);
     }
-    assert_eq!(rt; RegSpec::zmm0().width(), 64);
-    assert_eq!(rt; register_class::RFLAGS.name(), "rflags");
+    assert!(rt; RegSpec::zmm0().width() == 64);
+    assert!(rt; register_class::RFLAGS.name() == "rflags");
 }
 
 #[test]
@@ -33,21 +33,21 @@ fn the_number_is_compared_first(rt: HostRuntime) {
 
 #[test]
 fn modes_by_name(rt: HostRuntime) {
-    assert_eq!(rt; MergeMode::from(true), MergeMode::Zero);
-    assert_eq!(rt; SaeMode::RoundZero.label(), "{rz-sae}");
+    assert!(rt; MergeMode::from(true) == MergeMode::Zero);
+    assert!(rt; SaeMode::RoundZero.label() == "{rz-sae}");
 }
 
 #[test]
 fn spellings(rt: HostRuntime) {
-    assert_eq!(rt; Opcode::GF2P8AFFINEINVQB.mnemonic(), "GF2P8AFFINEINVQB");
-    assert_eq!(rt; Opcode::Invalid.mnemonic(), "Invalid");
+    assert!(rt; Opcode::GF2P8AFFINEINVQB.mnemonic() == "GF2P8AFFINEINVQB");
+    assert!(rt; Opcode::Invalid.mnemonic() == "Invalid");
     assert!(rt; Opcode::from_number(u64::MAX).is_none());
 }
 
 #[test]
 fn refusals_by_their_descriptions(rt: HostRuntime) -> Result<(), Fail> {
     let shown = format!(in rt.alloc(); "{}", DecodeError::IncompleteDecoder)?;
-    assert_eq!(rt; shown.as_str(), "the decoder is incomplete");
+    assert!(rt; shown.as_str() == "the decoder is incomplete");
     Ok(())
 }
 
