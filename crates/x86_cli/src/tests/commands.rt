@@ -1,10 +1,10 @@
 //! Worked runs of the commands beside `list`.
 
-use crate::commands::command::{TARGETS_MAX, USAGE, run};
+use crate::commands::command::{TARGETS_MAX, USAGE};
 use crate::listings::status::Status;
 use crate::outside::array_sink::ArraySink;
 use crate::outside::sound_source::SoundSource;
-use crate::tests::support::{Repeated, arguments, ends_with, is_usage, runs};
+use crate::tests::support::{Repeated, all_run, ending, ends_with, is_usage, runs};
 
 #[test]
 fn arguments_matched_whole(rt: HostRuntime) {
@@ -25,15 +25,12 @@ fn sweeps(rt: HostRuntime) {
         ("06 01 d8 01", cuts, Status::Done),
         ("01 d8 4", half, Status::BadText),
     ];
-    for (text, written, status) in worked {
-        let (text, written) = (text.as_bytes(), written.as_bytes());
-        assert!(&rt; runs(rt.alloc(), &["sweep"], text, &[], written, status));
-    }
+    assert!(&rt; all_run(rt.alloc(), "sweep", &worked));
 }
 
 #[test]
 fn fields(rt: HostRuntime) {
-    let worked: [(&str, &str, Status); 3] = [
+    let worked = [
         (
             "48 03 44 25 00 90",
             "0 5 48 - 03 44 25 00 - -\n5 1 - - 90 - - - - -\n",
@@ -50,17 +47,23 @@ fn fields(rt: HostRuntime) {
             Status::Refused,
         ),
     ];
-    for (text, written, status) in worked {
-        let (text, written) = (text.as_bytes(), written.as_bytes());
-        assert!(&rt; runs(rt.alloc(), &["fields"], text, &[], written, status));
-    }
-    let (text, one): (&[u8], &[u8]) = (b"90 90", b"0 1 - - 90 - - - - -\nread fault\n");
-    assert!(&rt; runs(rt.alloc(), &["fields"], text, &[3], one, Status::ReadFault));
+    assert!(&rt; all_run(rt.alloc(), "fields", &worked));
+    let one = b"0 1 - - 90 - - - - -\nread fault\n";
+    assert!(&rt;
+        runs(
+            rt.alloc(),
+            &["fields"],
+            b"90 90",
+            &[3],
+            one,
+            Status::ReadFault
+        )
+    );
 }
 
 #[test]
 fn tighten(rt: HostRuntime) {
-    let worked: [(&str, &str, Status); 3] = [
+    let worked = [
         (
             "48 8b 84 25 00 00 00 00 8b c0",
             "0 8 4\n8 2 2\n",
@@ -73,10 +76,7 @@ fn tighten(rt: HostRuntime) {
         ),
         ("06", "0 error: invalid opcode\n", Status::Refused),
     ];
-    for (text, written, status) in worked {
-        let (text, written) = (text.as_bytes(), written.as_bytes());
-        assert!(&rt; runs(rt.alloc(), &["tighten"], text, &[], written, status));
-    }
+    assert!(&rt; all_run(rt.alloc(), "tighten", &worked));
 }
 
 #[test]
@@ -88,10 +88,7 @@ fn targets(rt: HostRuntime) {
         ("eb 7f", "", Status::Done),
         ("eb fe 9", "0\ntext error at 7\n", Status::BadText),
     ];
-    for (text, written, status) in worked {
-        let (text, written) = (text.as_bytes(), written.as_bytes());
-        assert!(&rt; runs(rt.alloc(), &["targets"], text, &[], written, status));
-    }
+    assert!(&rt; all_run(rt.alloc(), "targets", &worked));
 }
 
 #[test]
@@ -108,24 +105,30 @@ fn targets_of_long_texts(rt: HostRuntime) {
 
 #[test]
 fn failing_targets(rt: HostRuntime) {
-    for (call, written) in [(4, "read fault\n"), (5, "0\nread fault\n")] {
-        let written = written.as_bytes();
-        assert!(&rt;
-            runs(
-                rt.alloc(),
-                &["targets"],
-                b"eb fe",
-                &[call],
-                written,
-                Status::ReadFault
-            )
-        );
-    }
-    let Ok(arguments) = arguments(rt.alloc(), &["targets"]) else {
-        return;
-    };
+    let (text, status) = (b"eb fe", Status::ReadFault);
+    assert!(&rt;
+        runs(
+            rt.alloc(),
+            &["targets"],
+            text,
+            &[4],
+            b"read fault\n",
+            status
+        )
+    );
+    assert!(&rt;
+        runs(
+            rt.alloc(),
+            &["targets"],
+            text,
+            &[5],
+            b"0\nread fault\n",
+            status
+        )
+    );
     let mut sink = ArraySink::<64>::new(1);
     let mut source = SoundSource::new(b"74 01 06 eb fb 90");
-    assert!(&rt; run(arguments.as_slice(), &mut source, &mut sink) == Status::WriteFault);
+    let ended = ending(rt.alloc(), &["targets"], &mut source, &mut sink);
+    assert!(&rt; ended == Some(Status::WriteFault));
     assert!(&rt; sink.written() == b"0\n".as_slice());
 }

@@ -16,53 +16,20 @@ fn short_and_long_texts(rt: HostRuntime) {
 }
 
 #[test]
-fn blanks_up_to_the_limit(rt: HostRuntime) {
+fn texts_up_to_the_limit(rt: HostRuntime) {
     assert!(&rt; TEXT_MAX == 67108864);
     let blanks = Repeated::new(b" ", 67108864, b"");
     assert!(&rt; ends_with(rt.alloc(), "list", blanks, 0, b"", Status::Done));
+    let pair = Repeated::new(b" ", 67108860, b"01d8");
+    let line = b"0 2 ADD eax, ebx m4\n";
+    assert!(&rt; ends_with(rt.alloc(), "list", pair, 1, line, Status::Done));
 }
 
 #[test]
-fn one_blank_past_the_limit(rt: HostRuntime) {
+fn texts_past_the_limit(rt: HostRuntime) {
+    let line = b"text too long\n";
     let blanks = Repeated::new(b" ", 67108865, b"");
-    assert!(&rt;
-        ends_with(
-            rt.alloc(),
-            "list",
-            blanks,
-            1,
-            b"text too long\n",
-            Status::TooLarge
-        )
-    );
-}
-
-#[test]
-fn pairs_up_to_the_limit(rt: HostRuntime) {
-    let text = Repeated::new(b" ", 67108860, b"01d8");
-    assert!(&rt;
-        ends_with(
-            rt.alloc(),
-            "list",
-            text,
-            1,
-            b"0 2 ADD eax, ebx m4\n",
-            Status::Done
-        )
-    );
-}
-
-#[test]
-fn half_a_pair_past_the_limit(rt: HostRuntime) {
-    let text = Repeated::new(b" ", 67108861, b"01d8");
-    assert!(&rt;
-        ends_with(
-            rt.alloc(),
-            "list",
-            text,
-            1,
-            b"text too long\n",
-            Status::TooLarge
-        )
-    );
+    assert!(&rt; ends_with(rt.alloc(), "list", blanks, 1, line, Status::TooLarge));
+    let pair = Repeated::new(b" ", 67108861, b"01d8");
+    assert!(&rt; ends_with(rt.alloc(), "list", pair, 1, line, Status::TooLarge));
 }

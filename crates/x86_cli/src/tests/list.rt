@@ -1,7 +1,7 @@
 //! Worked runs of `list`.
 
 use crate::listings::status::Status;
-use crate::tests::support::{lists, runs};
+use crate::tests::support::{all_run, runs};
 
 #[test]
 fn ends_of_the_text(rt: HostRuntime) {
@@ -19,9 +19,7 @@ fn ends_of_the_text(rt: HostRuntime) {
         ("01 zz", "text error at 3\n", Status::BadText),
         ("01 d8 4", half, Status::BadText),
     ];
-    for (text, written, status) in worked {
-        assert!(&rt; lists(rt.alloc(), text, written, status));
-    }
+    assert!(&rt; all_run(rt.alloc(), "list", &worked));
 }
 
 #[test]
@@ -33,25 +31,13 @@ fn instructions_of_one_byte(rt: HostRuntime) {
         ("90 4", "0 1 NOP m0\ntext error at 4\n", Status::BadText),
         ("03 zz", "text error at 3\n", Status::BadText),
     ];
-    for (text, written, status) in worked {
-        assert!(&rt; lists(rt.alloc(), text, written, status));
-    }
+    assert!(&rt; all_run(rt.alloc(), "list", &worked));
 }
 
 #[test]
 fn choices(rt: HostRuntime) {
-    let fence = "0f ae e9";
-    assert!(&rt; lists(rt.alloc(), fence, "0 3 LFENCE m0\n", Status::Done));
-    let refused = b"0 error: invalid operand\n";
-    let arguments = &["list", "--strict"];
-    assert!(&rt;
-        runs(
-            rt.alloc(),
-            arguments,
-            fence.as_bytes(),
-            &[],
-            refused,
-            Status::Refused
-        )
-    );
+    let (fence, strictly) = (b"0f ae e9", &["list", "--strict"]);
+    let (accepted, refused) = (b"0 3 LFENCE m0\n", b"0 error: invalid operand\n");
+    assert!(&rt; runs(rt.alloc(), &["list"], fence, &[], accepted, Status::Done));
+    assert!(&rt; runs(rt.alloc(), strictly, fence, &[], refused, Status::Refused));
 }

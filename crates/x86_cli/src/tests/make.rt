@@ -4,13 +4,15 @@ use crate::listings::status::Status;
 use crate::tests::support::{is_usage, runs};
 use std::alloc::Global;
 
-fn makes(alloc: Global, count: &str, written: &str) -> bool {
+/// Whether `make` writes this line.
+fn makes(alloc: Global, count: &str, line: &str) -> bool {
+    let written = line.as_bytes();
     runs(
         alloc,
         &["make", count],
         b"01 d8",
         &[],
-        written.as_bytes(),
+        written,
         Status::Done,
     )
 }

@@ -80,13 +80,20 @@ fn long_text(alloc: Global, pairs: u64, singles: u64) -> Result<(Vec<u8>, String
     Ok((text, listing))
 }
 
+/// How the program ends with `list` over these, and the writer; `None` where its argument finds no memory.
+fn ended<R: Read + Drop, W: Write + Drop>(
+    alloc: Global,
+    reader: R,
+    writer: W,
+) -> Option<(Status, W)> {
+    let arguments = arguments(alloc, &["list"]).ok()?;
+    Some(listed(arguments.as_slice(), reader, writer))
+}
+
 /// Whether a long text is listed whole, byte for byte, in writes of at most so many bytes.
 fn lists_whole(alloc: Global, pairs: u64, singles: u64, most: usize) -> bool {
-    let (Ok(arguments), Ok((text, listing))) = (
-        arguments(alloc, &["list"]),
-        long_text(alloc, pairs, singles),
-    ) else {
-        return true;
+    let Ok((text, listing)) = long_text(alloc, pairs, singles) else {
+        return false;
     };
     let writer = Short {
         kept: Vec::new(alloc),
@@ -94,8 +101,10 @@ fn lists_whole(alloc: Global, pairs: u64, singles: u64, most: usize) -> bool {
         write: 0,
         flushes: true,
     };
-    let (status, writer) = listed(arguments.as_slice(), text.as_slice(), writer);
-    status == Status::Done && writer.kept.as_slice() == listing.as_bytes()
+    match ended(alloc, text.as_slice(), writer) {
+        Some((Status::Done, writer)) => writer.kept.as_slice() == listing.as_bytes(),
+        _ => false,
+    }
 }
 
 #[test]
@@ -107,49 +116,51 @@ fn long_outputs(rt: HostRuntime) {
     assert!(&rt; lists_whole(rt.alloc(), 0, 24000, 65535));
 }
 
-/// Whether the listing of a text, whose read with a number fails, is written and ends so.
-fn fails_at(alloc: Global, fails: u64, error: ErrorKind, written: &str, status: Status) -> bool {
-    let Ok(arguments) = arguments(alloc, &["list"]) else {
-        return true;
-    };
+/// Whether the program over this reader writes this and ends with this code.
+fn ends<R: Read + Drop>(alloc: Global, reader: R, written: &str, code: u8) -> bool {
+    match ended(alloc, reader, Vec::new(alloc)) {
+        Some((status, writer)) => {
+            status.code() == code && writer.as_slice() == written.as_bytes()
+        }
+        None => false,
+    }
+}
+
+/// Whether the listing of a text, whose read with a number fails, is written and ends with this code.
+fn fails_at(alloc: Global, fails: u64, error: ErrorKind, written: &str, code: u8) -> bool {
     let reader = OneByOne {
         bytes: b"90 90",
         read: 0,
         fails,
         error,
     };
-    let (ended, writer) = listed(arguments.as_slice(), reader, Vec::new(alloc));
-    ended == status && writer.as_slice() == written.as_bytes()
+    ends(alloc, reader, written, code)
 }
 
 #[test]
 fn readers_that_fail(rt: HostRuntime) {
     let one = "0 1 NOP m0\nread fault\n";
     let worked = [
-        (0, "read fault\n", Status::ReadFault),
-        (1, "read fault\n", Status::ReadFault),
-        (2, one, Status::ReadFault),
-        (3, one, Status::ReadFault),
-        (4, one, Status::ReadFault),
-        (5, "0 1 NOP m0\n1 1 NOP m0\nread fault\n", Status::ReadFault),
-        (6, "0 1 NOP m0\n1 1 NOP m0\n", Status::Done),
+        (0, "read fault\n", 5),
+        (1, "read fault\n", 5),
+        (2, one, 5),
+        (3, one, 5),
+        (4, one, 5),
+        (5, "0 1 NOP m0\n1 1 NOP m0\nread fault\n", 5),
+        (6, "0 1 NOP m0\n1 1 NOP m0\n", 0),
     ];
-    for (fails, written, status) in worked {
-        assert!(&rt; fails_at(rt.alloc(), fails, ErrorKind::Other, written, status));
+    for (fails, written, code) in worked {
+        assert!(&rt; fails_at(rt.alloc(), fails, ErrorKind::Other, written, code));
     }
 }
 
 #[test]
 fn an_interrupted_read_is_a_fault_too(rt: HostRuntime) {
-    let (error, status) = (ErrorKind::Interrupted, Status::ReadFault);
-    assert!(&rt; fails_at(rt.alloc(), 0, error, "read fault\n", status));
+    assert!(&rt; fails_at(rt.alloc(), 0, ErrorKind::Interrupted, "read fault\n", 5));
 }
 
 #[test]
 fn flushes_that_fail(rt: HostRuntime) {
-    let Ok(arguments) = arguments(rt.alloc(), &["list"]) else {
-        return;
-    };
     let writer = Short {
         kept: Vec::new(rt.alloc()),
         most: usize::MAX,
@@ -157,18 +168,9 @@ fn flushes_that_fail(rt: HostRuntime) {
         flushes: false,
     };
     let text: &[u8] = b"90";
-    let (status, writer) = listed(arguments.as_slice(), text, writer);
-    assert!(&rt; status == Status::WriteFault && status.code() == 6);
+    let (status, writer) = ended(rt.alloc(), text, writer).expect(&rt, "memory");
+    assert!(&rt; status.code() == 6);
     assert!(&rt; writer.kept.as_slice() == b"0 1 NOP m0\n".as_slice());
-}
-
-/// Whether `list` over a text writes this and ends with this code.
-fn ends(alloc: Global, text: &str, written: &str, code: u8) -> bool {
-    let Ok(arguments) = arguments(alloc, &["list"]) else {
-        return true;
-    };
-    let (status, writer) = listed(arguments.as_slice(), text.as_bytes(), Vec::new(alloc));
-    status.code() == code && writer.as_slice() == written.as_bytes()
 }
 
 #[test]
@@ -180,7 +182,7 @@ fn exit_codes(rt: HostRuntime) {
         ("90 4", "0 1 NOP m0\ntext error at 4\n", 4),
     ];
     for (text, written, code) in worked {
-        assert!(&rt; ends(rt.alloc(), text, written, code));
+        assert!(&rt; ends(rt.alloc(), text.as_bytes(), written, code));
     }
     let text: &[u8] = b"90";
     let (status, writer) = listed(&[], text, Vec::new(rt.alloc()));

@@ -1,6 +1,5 @@
 //! Runs over sources and sinks that fail, and over readers and writers.
 
-use crate::commands::command::run;
 use crate::listings::status::Status;
 use crate::outside::array_sink::ArraySink;
 use crate::outside::gathered::Gathered;
@@ -9,7 +8,7 @@ use crate::outside::sink::Sink;
 use crate::outside::sound_source::SoundSource;
 use crate::outside::std_sink::StdSink;
 use crate::outside::std_source::StdSource;
-use crate::tests::support::{arguments, runs};
+use crate::tests::support::{ending, runs};
 use std::alloc::Global;
 use std::io;
 use std::io::{ErrorKind, Read, Write};
@@ -20,14 +19,8 @@ const TEXT: &[u8] = b"01 d8 01 d8";
 /// Whether the listing of a text is this and ends so, at whichever of these calls its source fails.
 fn fails_at(alloc: Global, text: &str, calls: (u64, u64), written: &str, status: Status) -> bool {
     let (first, last) = calls;
-    (first..=last).all(|call| runs(
-        alloc,
-        &["list"],
-        text.as_bytes(),
-        &[call],
-        written.as_bytes(),
-        status,
-    ))
+    let (text, written) = (text.as_bytes(), written.as_bytes());
+    (first..=last).all(|call| runs(alloc, &["list"], text, &[call], written, status))
 }
 
 #[test]
@@ -68,73 +61,63 @@ fn sources_that_fail_between_instructions_of_one_byte(rt: HostRuntime) {
 
 #[test]
 fn nothing_is_asked_behind_the_end(rt: HostRuntime) {
-    let written = b"0 2 ADD eax, ebx m4\n";
-    assert!(&rt;
-        runs(
-            rt.alloc(),
-            &["list"],
-            b"01 d8",
-            &[6, 7, 8],
-            written,
-            Status::Done
-        )
-    );
+    let (text, line) = (b"01 d8", b"0 2 ADD eax, ebx m4\n");
+    assert!(&rt; runs(rt.alloc(), &["list"], text, &[6, 7, 8], line, Status::Done));
 }
 
-/// Whether a run whose put with a number fails writes this and ends so.
-fn stops_at(arguments: &[String], fails: u64, written: &[u8], status: Status) -> bool {
-    let mut sink = ArraySink::<64>::new(fails);
-    run(arguments, &mut SoundSource::new(TEXT), &mut sink) == status && sink.written() == written
+/// Whether a listing to a sink writes this to it and ends so.
+fn stops_at<const N: usize>(
+    alloc: Global,
+    text: &[u8],
+    mut sink: ArraySink<N>,
+    written: &str,
+    status: Status,
+) -> bool {
+    let ended = ending(alloc, &["list"], &mut SoundSource::new(text), &mut sink);
+    ended == Some(status) && sink.written() == written.as_bytes()
 }
 
 #[test]
 fn failing_sinks(rt: HostRuntime) {
-    let Ok(arguments) = arguments(rt.alloc(), &["list"]) else {
-        return;
-    };
-    let arguments = arguments.as_slice();
-    let both: &[u8] = b"0 2 ADD eax, ebx m4\n2 2 ADD eax, ebx m4\n";
-    assert!(&rt; stops_at(arguments, 0, b"", Status::WriteFault));
-    assert!(&rt; stops_at(arguments, 1, b"0 2 ADD eax, ebx m4\n", Status::WriteFault));
-    assert!(&rt; stops_at(arguments, 2, both, Status::Done));
+    let worked = [
+        (0, "", Status::WriteFault),
+        (1, "0 2 ADD eax, ebx m4\n", Status::WriteFault),
+        (
+            2,
+            "0 2 ADD eax, ebx m4\n2 2 ADD eax, ebx m4\n",
+            Status::Done,
+        ),
+    ];
+    for (fails, written, status) in worked {
+        assert!(&rt;
+            stops_at(
+                rt.alloc(),
+                TEXT,
+                ArraySink::<64>::new(fails),
+                written,
+                status
+            )
+        );
+    }
 }
 
 #[test]
 fn sinks_without_room(rt: HostRuntime) {
-    let Ok(arguments) = arguments(rt.alloc(), &["list"]) else {
-        return;
-    };
-    let arguments = arguments.as_slice();
-    let mut small = ArraySink::<5>::new(u64::MAX);
-    let status = run(arguments, &mut SoundSource::new(b"01 d8"), &mut small);
-    assert!(&rt; status == Status::WriteFault);
-    assert!(&rt; small.written() == b"0 2 A".as_slice());
-    let mut between = ArraySink::<24>::new(u64::MAX);
-    let status = run(arguments, &mut SoundSource::new(TEXT), &mut between);
-    assert!(&rt; status == Status::WriteFault);
-    assert!(&rt; between.written() == b"0 2 ADD eax, ebx m4\n2 2 ".as_slice());
-}
-
-#[test]
-fn a_sink_with_room_for_one_line(rt: HostRuntime) {
-    let Ok(arguments) = arguments(rt.alloc(), &["list"]) else {
-        return;
-    };
-    let mut narrow = ArraySink::<15>::new(u64::MAX);
-    let mut source = SoundSource::new(b"90 90");
-    let status = run(arguments.as_slice(), &mut source, &mut narrow);
-    assert!(&rt; status == Status::WriteFault);
-    assert!(&rt; narrow.written() == b"0 1 NOP m0\n1 1 ".as_slice());
+    let (never, status) = (u64::MAX, Status::WriteFault);
+    let small = ArraySink::<5>::new(never);
+    assert!(&rt; stops_at(rt.alloc(), TEXT, small, "0 2 A", status));
+    let between = ArraySink::<24>::new(never);
+    let written = "0 2 ADD eax, ebx m4\n2 2 ";
+    assert!(&rt; stops_at(rt.alloc(), TEXT, between, written, status));
+    let narrow = ArraySink::<15>::new(never);
+    assert!(&rt; stops_at(rt.alloc(), b"90 90", narrow, "0 1 NOP m0\n1 1 ", status));
 }
 
 #[test]
 fn a_sink_that_keeps_nothing(rt: HostRuntime) {
-    let Ok(arguments) = arguments(rt.alloc(), &["list"]) else {
-        return;
-    };
-    let mut source = SoundSource::new(b"01 d8");
-    let status = run(arguments.as_slice(), &mut source, &mut NullSink::new());
-    assert!(&rt; status == Status::Done);
+    let mut source = SoundSource::new(TEXT);
+    let ended = ending(rt.alloc(), &["list"], &mut source, &mut NullSink::new());
+    assert!(&rt; ended == Some(Status::Done));
 }
 
 /// Gives its bytes in two reads, and fails at the third.
@@ -175,52 +158,40 @@ impl Write for NarrowWriter {
     }
 }
 
+/// How a listing of two instructions to this writer ends, and how many of the sink's calls failed.
+fn listed_to<W: Write + Drop>(alloc: Global, writer: W) -> (Option<Status>, u64) {
+    let mut sink = StdSink::new(writer);
+    let ended = ending(alloc, &["list"], &mut StdSource::new(TEXT), &mut sink);
+    (ended, sink.faults())
+}
+
 #[test]
-fn streams_that_do(rt: HostRuntime) {
-    let Ok(arguments) = arguments(rt.alloc(), &["list"]) else {
-        return;
-    };
+fn writers_that_do(rt: HostRuntime) {
     let mut written = [0; 40];
-    {
-        let mut room: &mut [u8] = &mut written;
-        let mut sink = StdSink::new(&mut room);
-        let status = run(arguments.as_slice(), &mut StdSource::new(TEXT), &mut sink);
-        assert!(&rt; status == Status::Done && sink.faults() == 0);
-    }
+    let mut room: &mut [u8] = &mut written;
+    assert!(&rt; listed_to(rt.alloc(), &mut room) == (Some(Status::Done), 0));
     assert!(&rt; written.as_slice() == b"0 2 ADD eax, ebx m4\n2 2 ADD eax, ebx m4\n".as_slice());
 }
 
 #[test]
-fn readers_that_fail(rt: HostRuntime) {
-    let Ok(arguments) = arguments(rt.alloc(), &["list"]) else {
-        return;
-    };
-    let mut source = StdSource::new(FailingReader {
-        bytes: TEXT,
-        reads: 0,
-    });
-    let status = run(arguments.as_slice(), &mut source, &mut NullSink::new());
-    assert!(&rt; status == Status::ReadFault && source.faults() == 1);
-}
-
-#[test]
 fn writers_that_fail(rt: HostRuntime) {
-    let Ok(arguments) = arguments(rt.alloc(), &["list"]) else {
-        return;
-    };
-    let mut sink = StdSink::new(NarrowWriter { room: 30 });
-    let status = run(arguments.as_slice(), &mut StdSource::new(TEXT), &mut sink);
-    assert!(&rt; status == Status::WriteFault && sink.faults() == 1);
+    let narrow = NarrowWriter { room: 30 };
+    assert!(&rt; listed_to(rt.alloc(), narrow) == (Some(Status::WriteFault), 1));
 }
 
 #[test]
 fn a_flush_that_fails(rt: HostRuntime) {
-    let Ok(arguments) = arguments(rt.alloc(), &["list"]) else {
-        return;
-    };
     let mut gathered = Gathered::new(NarrowWriter { room: 30 });
-    let mut sink = StdSink::new(&mut gathered);
-    let status = run(arguments.as_slice(), &mut StdSource::new(TEXT), &mut sink);
-    assert!(&rt; status == Status::Done);
+    assert!(&rt; listed_to(rt.alloc(), &mut gathered) == (Some(Status::Done), 0));
     assert!(&rt; gathered.flush().is_err());
+}
+
+#[test]
+fn readers_that_fail(rt: HostRuntime) {
+    let mut source = StdSource::new(FailingReader {
+        bytes: TEXT,
+        reads: 0,
+    });
+    let ended = ending(rt.alloc(), &["list"], &mut source, &mut NullSink::new());
+    assert!(&rt; ended == Some(Status::ReadFault) && source.faults() == 1);
 }

@@ -20,8 +20,18 @@ pub fn arguments(alloc: Global, texts: &[&str]) -> Result<Vec<String>, AllocErro
     Ok(arguments)
 }
 
-/// Whether a run over the text, some of whose calls fail, writes this and ends so. The arguments are collected before
-/// the run, so a refused allocation is told here, and never changes an answer.
+/// How a run ends; `None` where its arguments find no memory.
+pub fn ending<S: Source, K: Sink>(
+    alloc: Global,
+    texts: &[&str],
+    source: &mut S,
+    sink: &mut K,
+) -> Option<Status> {
+    let arguments = arguments(alloc, texts).ok()?;
+    Some(run(arguments.as_slice(), source, sink))
+}
+
+/// Whether a run over the text, some of whose calls fail, writes this and ends so.
 pub fn runs(
     alloc: Global,
     texts: &[&str],
@@ -30,17 +40,17 @@ pub fn runs(
     written: &[u8],
     status: Status,
 ) -> bool {
-    let Ok(arguments) = arguments(alloc, texts) else {
-        return true;
-    };
     let mut source = SliceSource::new(text, fails);
     let mut sink = ArraySink::<256>::new(u64::MAX);
-    run(arguments.as_slice(), &mut source, &mut sink) == status && sink.written() == written
+    ending(alloc, texts, &mut source, &mut sink) == Some(status) && sink.written() == written
 }
 
-pub fn lists(alloc: Global, text: &str, written: &str, status: Status) -> bool {
-    let (text, written) = (text.as_bytes(), written.as_bytes());
-    runs(alloc, &["list"], text, &[], written, status)
+/// Whether each run of a command over a text writes this and ends so.
+pub fn all_run(alloc: Global, command: &str, worked: &[(&str, &str, Status)]) -> bool {
+    worked.iter().all(|(text, written, status)| {
+        let (text, written) = (text.as_bytes(), written.as_bytes());
+        runs(alloc, &[command], text, &[], written, *status)
+    })
 }
 
 pub fn is_usage(alloc: Global, texts: &[&str]) -> bool {
@@ -129,15 +139,12 @@ pub fn ends_with(
     last: &[u8],
     status: Status,
 ) -> bool {
-    let Ok(arguments) = arguments(alloc, &[command]) else {
-        return true;
-    };
     let mut sink = LastPiece {
         wanted: last,
         is_wanted: pieces == 0,
         pieces: 0,
     };
-    run(arguments.as_slice(), &mut source, &mut sink) == status
+    ending(alloc, &[command], &mut source, &mut sink) == Some(status)
         && sink.pieces == pieces
         && sink.is_wanted
 }
