@@ -1,5 +1,5 @@
 //! The examples of docs/GUIDE.md, as they stand there.
-ghost use Rattle.std.specs.Prelude.{⊤, ◌<◌};
+ghost use Rattle.std.specs.Prelude.{⊤};
 
 use arrayvec::ArrayVec;
 use x86_decode::{

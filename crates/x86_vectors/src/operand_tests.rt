@@ -1,5 +1,4 @@
 //! Operands: the visitor, and the addresses that operands denote.
-ghost use Rattle.std.specs.Prelude.{◌<◌};
 
 use crate::rebuilder::Rebuilder;
 use x86_arch::U8Reader;

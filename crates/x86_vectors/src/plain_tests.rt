@@ -1,5 +1,4 @@
 //! The decoder against a plain loop over the printed rows.
-ghost use Rattle.std.specs.Prelude.{◌<◌, ◌≤◌};
 
 use x86_arch::{Reader, U8Reader};
 use x86_decode::{InstDecoder, Instruction};

@@ -48,17 +48,8 @@ fn fields(rt: HostRuntime) {
         ),
     ];
     assert!(&rt; all_run(rt.alloc(), "fields", &worked));
-    let one = b"0 1 - - 90 - - - - -\nread fault\n";
-    assert!(&rt;
-        runs(
-            rt.alloc(),
-            &["fields"],
-            b"90 90",
-            &[3],
-            one,
-            Status::ReadFault
-        )
-    );
+    let (words, one) = (&["fields"], b"0 1 - - 90 - - - - -\nread fault\n");
+    assert!(&rt; runs(rt.alloc(), words, b"90 90", &[3], one, Status::ReadFault));
 }
 
 #[test]
@@ -105,27 +96,10 @@ fn targets_of_long_texts(rt: HostRuntime) {
 
 #[test]
 fn failing_targets(rt: HostRuntime) {
-    let (text, status) = (b"eb fe", Status::ReadFault);
-    assert!(&rt;
-        runs(
-            rt.alloc(),
-            &["targets"],
-            text,
-            &[4],
-            b"read fault\n",
-            status
-        )
-    );
-    assert!(&rt;
-        runs(
-            rt.alloc(),
-            &["targets"],
-            text,
-            &[5],
-            b"0\nread fault\n",
-            status
-        )
-    );
+    let (words, text) = (&["targets"], b"eb fe");
+    let (none, one) = (b"read fault\n", b"0\nread fault\n");
+    assert!(&rt; runs(rt.alloc(), words, text, &[4], none, Status::ReadFault));
+    assert!(&rt; runs(rt.alloc(), words, text, &[5], one, Status::ReadFault));
     let mut sink = ArraySink::<64>::new(1);
     let mut source = SoundSource::new(b"74 01 06 eb fb 90");
     let ended = ending(rt.alloc(), &["targets"], &mut source, &mut sink);

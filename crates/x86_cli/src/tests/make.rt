@@ -6,15 +6,8 @@ use std::alloc::Global;
 
 /// Whether `make` writes this line.
 fn makes(alloc: Global, count: &str, line: &str) -> bool {
-    let written = line.as_bytes();
-    runs(
-        alloc,
-        &["make", count],
-        b"01 d8",
-        &[],
-        written,
-        Status::Done,
-    )
+    let (words, written) = (&["make", count], line.as_bytes());
+    runs(alloc, words, b"01 d8", &[], written, Status::Done)
 }
 
 #[test]

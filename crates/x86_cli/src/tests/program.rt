@@ -81,7 +81,7 @@ fn long_text(alloc: Global, pairs: u64, singles: u64) -> Result<(Vec<u8>, String
 }
 
 /// How the program ends with `list` over these, and the writer; `None` where its argument finds no memory.
-fn ended<R: Read + Drop, W: Write + Drop>(
+fn program_ending<R: Read + Drop, W: Write + Drop>(
     alloc: Global,
     reader: R,
     writer: W,
@@ -101,7 +101,7 @@ fn lists_whole(alloc: Global, pairs: u64, singles: u64, most: usize) -> bool {
         write: 0,
         flushes: true,
     };
-    match ended(alloc, text.as_slice(), writer) {
+    match program_ending(alloc, text.as_slice(), writer) {
         Some((Status::Done, writer)) => writer.kept.as_slice() == listing.as_bytes(),
         _ => false,
     }
@@ -118,7 +118,7 @@ fn long_outputs(rt: HostRuntime) {
 
 /// Whether the program over this reader writes this and ends with this code.
 fn ends<R: Read + Drop>(alloc: Global, reader: R, written: &str, code: u8) -> bool {
-    match ended(alloc, reader, Vec::new(alloc)) {
+    match program_ending(alloc, reader, Vec::new(alloc)) {
         Some((status, writer)) => {
             status.code() == code && writer.as_slice() == written.as_bytes()
         }
@@ -168,7 +168,7 @@ fn flushes_that_fail(rt: HostRuntime) {
         flushes: false,
     };
     let text: &[u8] = b"90";
-    let (status, writer) = ended(rt.alloc(), text, writer).expect(&rt, "memory");
+    let (status, writer) = program_ending(rt.alloc(), text, writer).expect(&rt, "memory");
     assert!(&rt; status.code() == 6);
     assert!(&rt; writer.kept.as_slice() == b"0 1 NOP m0\n".as_slice());
 }

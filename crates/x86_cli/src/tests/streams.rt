@@ -89,15 +89,8 @@ fn failing_sinks(rt: HostRuntime) {
         ),
     ];
     for (fails, written, status) in worked {
-        assert!(&rt;
-            stops_at(
-                rt.alloc(),
-                TEXT,
-                ArraySink::<64>::new(fails),
-                written,
-                status
-            )
-        );
+        let sink = ArraySink::<64>::new(fails);
+        assert!(&rt; stops_at(rt.alloc(), TEXT, sink, written, status));
     }
 }
 

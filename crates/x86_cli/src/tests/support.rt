@@ -12,6 +12,7 @@ use crate::outside::slice_source::SliceSource;
 use crate::outside::source::{Got, Source};
 use std::alloc::{AllocError, Global};
 
+/// The words of a command, as `main` collects them.
 pub fn arguments(alloc: Global, texts: &[&str]) -> Result<Vec<String>, AllocError> {
     let mut arguments = Vec::new(alloc);
     for text in texts {
@@ -53,6 +54,7 @@ pub fn all_run(alloc: Global, command: &str, worked: &[(&str, &str, Status)]) ->
     })
 }
 
+/// Whether these words are no command: nothing is written then.
 pub fn is_usage(alloc: Global, texts: &[&str]) -> bool {
     runs(alloc, texts, b"01 d8", &[], b"", Status::Usage)
 }
