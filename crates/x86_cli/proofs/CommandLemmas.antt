@@ -4,3 +4,5 @@ pub mod Stay
 pub mod Says
 pub mod Program
 pub mod Ahead
+pub mod Faults
+pub mod WriteFaults

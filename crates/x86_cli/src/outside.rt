@@ -3,7 +3,9 @@
 pub mod array_sink;
 pub mod counted;
 pub mod gathered;
+pub mod input;
 pub mod null_sink;
+pub mod output;
 pub mod sink;
 pub mod slice_source;
 pub mod sound_source;

@@ -43,3 +43,8 @@ abbrev pub EndsMade : Status → ℕ → Option (List ℕ) → Option (List ℕ)
 EndsMade Done n old new = Has Done (made_listing n) old new
 EndsMade WriteFault n old new = HasFront (made_listing n) old new
 EndsMade status n old new = ⊥
+
+-- A write fault is an error, and no other status is.
+abbrev pub fault_of : Status → Result ⊤ ⊤
+fault_of WriteFault = Err tt
+fault_of status = Ok tt

@@ -2,6 +2,7 @@
 use Rattle.std.specs.Prelude.{ℕ, List}
 use Rattle.x86_cli.specs.declared.outside.slice_source.SliceSource.{SliceSource}
 use Rattle.x86_cli.specs.declared.outside.array_sink.ArraySink.{ArraySink}
+use Rattle.x86_cli.specs.declared.outside.std_source.StdSource.{StdSource}
 use Rattle.x86_cli.specs.declared.outside.std_sink.StdSink.{StdSink}
 use Rattle.x86_cli.specs.declared.outside.gathered.Gathered.{Gathered}
 
@@ -32,3 +33,7 @@ writer_faults g = g.counted.faults
 
 abbrev pub held_bytes : {W : Type 0} → Gathered W → List ℕ
 held_bytes g = g.bytes.items
+
+-- the reader of a source
+abbrev pub source_reader : {R : Type 0} → {g : _} → StdSource R g → R
+source_reader s = s.reader

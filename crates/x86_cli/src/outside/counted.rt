@@ -4,18 +4,20 @@ ghost use Rattle.std.specs.Prelude.{◌≡◌, ◌<◌, ◌≤◌, length, take,
 ghost use Rattle.std.specs.Io.KnownBytes.{Appends, WriteAppends};
 ghost use Rattle.std.specs.Io.{WritesAtMost};
 ghost use Rattle.x86_cli.specs.Outside.FaultCounts.{Rose, CountsFault};
+ghost use Rattle.x86_cli.specs.Outside.Writes.{Caused};
 
+use crate::outside::output::Output;
 use crate::outside::sink::SinkFailed;
-use std::io::{ErrorKind, Write};
+use std::io::ErrorKind;
 
 /// A writer, and how often it failed. The count stops at `u64::MAX`.
 #[derive(Drop)]
-pub struct Counted<W: Write + Drop> {
+pub struct Counted<W: Output + Drop> {
     pub writer: W,
     pub faults: u64,
 }
 
-impl<W: Write + Drop> Counted<W> {
+impl<W: Output + Drop> Counted<W> {
     /// Counts a fault.
     pub fn fail(&mut self) -> SinkFailed
         ensures writer { self.new.writer ≡ self.old.writer }
@@ -30,8 +32,9 @@ impl<W: Write + Drop> Counted<W> {
         requires { 0 < length bytes.now }
         ensures bound { WritesAtMost result bytes.now }
         ensures some { IfOk result (λ n. 0 < n) }
-        ensures bytes { WriteAppends (W.contents self.old.writer) (W.contents self.new.writer) result bytes.now }
+        ensures bytes { WriteAppends (W.written self.old.writer) (W.written self.new.writer) result bytes.now }
         ensures counts { CountsFault result self.old.faults self.new.faults }
+        ensures caused { Caused W.writes W.flushes result self.old.writer self.new.writer }
     {
         for _ in 0..u64::MAX {
             match self.writer.write(bytes) {
@@ -44,7 +47,10 @@ impl<W: Write + Drop> Counted<W> {
                 }
             }
         }
-        Err(self.fail())
+        match self.writer.write(bytes) {
+            Ok(count) if count > 0 => Ok(count),
+            _ => Err(self.fail()),
+        }
     }
 
     /// Writes the bytes until all are written or a write fails, and returns how many were written.
@@ -52,8 +58,9 @@ impl<W: Write + Drop> Counted<W> {
         ensures bound { result.0 ≤ length bytes.now }
         ensures nothing { length bytes.now ≡ 0 → IsOk result.1 }
         ensures all { OnOk result.1 (result.0 ≡ length bytes.now) }
-        ensures bytes { Appends (W.contents self.old.writer) (W.contents self.new.writer) (take result.0 bytes.now) }
+        ensures bytes { Appends (W.written self.old.writer) (W.written self.new.writer) (take result.0 bytes.now) }
         ensures counts { CountsFault result.1 self.old.faults self.new.faults }
+        ensures caused { Caused W.writes W.flushes result.1 self.old.writer self.new.writer }
     {
         let mut sent = 0;
         while sent < bytes.len() {

@@ -4,12 +4,14 @@ ghost use Rattle.std.specs.Prelude.{◌≡◌, ◌<◌, [], length, OnOk, IfOk, 
 ghost use Rattle.std.specs.Io.KnownBytes.{Keeps, WriteAppends, append_known};
 ghost use Rattle.std.specs.Io.{WritesAtMost};
 ghost use Rattle.x86_cli.specs.Outside.FaultCounts.{CountsFault};
+ghost use Rattle.x86_cli.specs.Outside.Writes.{Caused, Settles, Flushed};
 ghost use Rattle.x86_cli.specs.Outside.Seen.{writer_behind, writer_faults, held_bytes};
 
 use crate::outside::counted::Counted;
+use crate::outside::output::Output;
 use crate::outside::sink::SinkFailed;
 use std::io;
-use std::io::{Error, ErrorKind, Write};
+use std::io::{Error, ErrorKind};
 use x86_text::Room;
 
 const SIZE: usize = 65536;
@@ -18,12 +20,12 @@ const SIZE: usize = 65536;
 /// What a failed write leaves unsent stays in the buffer, so no byte is sent twice. An error says that the writer
 /// failed, and not how, since no sink asks that.
 #[derive(Drop)]
-pub struct Gathered<W: Write + Drop> {
+pub struct Gathered<W: Output + Drop> {
     counted: Counted<W>,
     bytes: Room<SIZE>,
 }
 
-impl<W: Write + Drop> Gathered<W> {
+impl<W: Output + Drop> Gathered<W> {
     /// Gathers for the writer, with nothing gathered.
     pub fn new(writer: W) -> Gathered<W>
         ensures writer { writer_behind result ≡ writer }
@@ -46,9 +48,10 @@ impl<W: Write + Drop> Gathered<W> {
     fn send(&mut self) -> Result<(), SinkFailed>
         ensures nothing { held_bytes self.old ≡ [] → IsOk result }
         ensures empty { OnOk result (held_bytes self.new ≡ []) }
-        ensures bytes { Keeps (append_known (W.contents (writer_behind self.old)) (held_bytes self.old))
-            (append_known (W.contents (writer_behind self.new)) (held_bytes self.new)) }
+        ensures bytes { Keeps (append_known (W.written (writer_behind self.old)) (held_bytes self.old))
+            (append_known (W.written (writer_behind self.new)) (held_bytes self.new)) }
         ensures counts { CountsFault result (writer_faults self.old) (writer_faults self.new) }
+        ensures caused { Caused W.writes W.flushes result (writer_behind self.old) (writer_behind self.new) }
     {
         let (sent, result) = self.counted.send_out(self.bytes.as_slice());
         self.bytes.leave(sent);
@@ -60,11 +63,12 @@ impl<W: Write + Drop> Gathered<W> {
     #[inline(never)]
     fn write_part(&mut self, buf: &[u8]) -> Result<usize, SinkFailed>
         ensures bound { WritesAtMost result buf.now }
-        ensures bytes { WriteAppends (append_known (W.contents (writer_behind self.old)) (held_bytes self.old))
-            (append_known (W.contents (writer_behind self.new)) (held_bytes self.new)) result buf.now }
+        ensures bytes { WriteAppends (append_known (W.written (writer_behind self.old)) (held_bytes self.old))
+            (append_known (W.written (writer_behind self.new)) (held_bytes self.new)) result buf.now }
         ensures room { length (held_bytes self.old) < SIZE → IsOk result }
         ensures some { IfOk result (λ n. n ≡ 0 → length buf.now ≡ 0) }
         ensures counts { CountsFault result (writer_faults self.old) (writer_faults self.new) }
+        ensures caused { Caused W.writes W.flushes result (writer_behind self.old) (writer_behind self.new) }
     {
         if self.bytes.left() == 0 {
             self.send()?;
@@ -77,10 +81,12 @@ impl<W: Write + Drop> Gathered<W> {
 
     /// Sends what was gathered, and flushes the writer.
     pub fn send_all(&mut self) -> Result<(), SinkFailed>
-        ensures bytes { Keeps (append_known (W.contents (writer_behind self.old)) (held_bytes self.old))
-            (append_known (W.contents (writer_behind self.new)) (held_bytes self.new)) }
+        ensures bytes { Keeps (append_known (W.written (writer_behind self.old)) (held_bytes self.old))
+            (append_known (W.written (writer_behind self.new)) (held_bytes self.new)) }
         ensures empty { OnOk result (held_bytes self.new ≡ []) }
         ensures counts { CountsFault result (writer_faults self.old) (writer_faults self.new) }
+        ensures flushed { OnOk result (Flushed W.flushes (writer_behind self.new)) }
+        ensures caused { Caused W.writes W.flushes result (writer_behind self.old) (writer_behind self.new) }
     {
         self.send()?;
         match self.counted.writer.flush() {
@@ -90,16 +96,22 @@ impl<W: Write + Drop> Gathered<W> {
     }
 }
 
-impl<W: Write + Drop> Write for Gathered<W> {
-    ghost contents = { λ s. append_known (W.contents (writer_behind s)) (held_bytes s) };
+impl<W: Output + Drop> Output for Gathered<W> {
+    ghost written = { λ s. append_known (W.written (writer_behind s)) (held_bytes s) };
+
+    ghost writes = { λ s buf r t. Caused W.writes W.flushes r (writer_behind s) (writer_behind t) × Settles r buf };
+
+    ghost flushes = { λ s r t. Caused W.writes W.flushes r (writer_behind s) (writer_behind t) };
 
     fn write(&mut self, buf: &[u8]) -> io::Result<usize>
         ensures bound { WritesAtMost result buf.now }
-        ensures bytes { WriteAppends (append_known (W.contents (writer_behind self.old)) (held_bytes self.old))
-            (append_known (W.contents (writer_behind self.new)) (held_bytes self.new)) result buf.now }
+        ensures bytes { WriteAppends (append_known (W.written (writer_behind self.old)) (held_bytes self.old))
+            (append_known (W.written (writer_behind self.new)) (held_bytes self.new)) result buf.now }
         ensures room { length (held_bytes self.old) < SIZE → IsOk result }
         ensures some { IfOk result (λ n. n ≡ 0 → length buf.now ≡ 0) }
         ensures counts { CountsFault result (writer_faults self.old) (writer_faults self.new) }
+        ensures caused { Caused W.writes W.flushes result (writer_behind self.old) (writer_behind self.new) }
+        ensures settles { Settles result buf.now }
     {
         if buf.len() <= self.bytes.left() {
             self.bytes.extend(buf);
@@ -112,10 +124,11 @@ impl<W: Write + Drop> Write for Gathered<W> {
     }
 
     fn flush(&mut self) -> io::Result<()>
-        ensures bytes { Keeps (append_known (W.contents (writer_behind self.old)) (held_bytes self.old))
-            (append_known (W.contents (writer_behind self.new)) (held_bytes self.new)) }
+        ensures bytes { Keeps (append_known (W.written (writer_behind self.old)) (held_bytes self.old))
+            (append_known (W.written (writer_behind self.new)) (held_bytes self.new)) }
         ensures empty { OnOk result (held_bytes self.new ≡ []) }
         ensures counts { CountsFault result (writer_faults self.old) (writer_faults self.new) }
+        ensures caused { Caused W.writes W.flushes result (writer_behind self.old) (writer_behind self.new) }
     {
         match self.send_all() {
             Ok(()) => Ok(()),

@@ -2,20 +2,21 @@
 
 ghost use Rattle.std.specs.Prelude.{◌≡◌};
 ghost use Rattle.x86_cli.specs.Outside.Sink.{TellsPut};
+ghost use Rattle.x86_cli.specs.Outside.Writes.{Caused};
 ghost use Rattle.x86_cli.specs.Outside.Seen.{sink_writer};
 
+use crate::outside::output::Output;
 use crate::outside::sink::{Sink, SinkFailed};
-use std::io::Write;
 
 /// Pieces that go to a writer. It tells what the writer tells. A write that takes none of a piece that isn't empty
 /// fails.
 #[derive(Drop)]
-pub struct StdSink<W: Write + Drop> {
+pub struct StdSink<W: Output + Drop> {
     writer: W,
     faults: u64,
 }
 
-impl<W: Write + Drop> StdSink<W> {
+impl<W: Output + Drop> StdSink<W> {
     /// A sink over the writer.
     pub fn new(writer: W) -> StdSink<W>
         ensures sound { ⟦<StdSink<W> as Sink>⟧.faults result ≡ 0 }
@@ -39,14 +40,15 @@ impl<W: Write + Drop> StdSink<W> {
     }
 }
 
-impl<W: Write + Drop> Sink for StdSink<W> {
-    ghost written = { λ s. W.contents s.writer };
+impl<W: Output + Drop> Sink for StdSink<W> {
+    ghost written = { λ s. W.written s.writer };
 
     ghost faults = { λ s. s.faults };
 
-    ghost takes = { λ s piece r t. TellsPut r piece (W.contents s.writer) (W.contents t.writer) s.faults t.faults };
+    ghost takes = { λ s piece r t. TellsPut r piece (W.written s.writer) (W.written t.writer) s.faults t.faults
+        × Caused W.writes W.flushes r s.writer t.writer };
 
-    ghost tells = { λ s piece r t h. h };
+    ghost tells = { λ s piece r t h. h.0 };
 
     fn put(&mut self, piece: &[u8]) -> Result<(), SinkFailed> {
         let mut rest = piece;

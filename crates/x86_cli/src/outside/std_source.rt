@@ -1,12 +1,12 @@
 //! A source over a reader.
 
-ghost use Rattle.std.specs.Prelude.{◌≡◌, ◌≤◌, ◌<◌, slice_range};
+ghost use Rattle.std.specs.Prelude.{◌≡◌, ◌≤◌, ◌<◌, ◌∷◌, slice_range};
 ghost use Rattle.std.specs.Io.KnownBytes.{prepend_known};
 ghost use Rattle.x86_cli.specs.Outside.Source.{TellsGot};
-ghost use Rattle.x86_cli.specs.Outside.StdSource.{TellsRefill};
+ghost use Rattle.x86_cli.specs.Outside.StdSource.{TellsRefill, Fetches, Refills};
 
+use crate::outside::input::Input;
 use crate::outside::source::{Got, Source};
-use std::io::Read;
 
 /// How many bytes one read may give.
 const BUFFER: usize = 65536;
@@ -14,7 +14,7 @@ const BUFFER: usize = 65536;
 /// The bytes of a reader, one read a buffer. It tells what the reader tells, behind what is buffered. A read that
 /// gives no byte is the end.
 #[derive(Drop)]
-pub struct StdSource<R: Read + Drop> {
+pub struct StdSource<R: Input + Drop> {
     reader: R,
     buffer: [u8; BUFFER],
     position: usize,
@@ -24,11 +24,14 @@ pub struct StdSource<R: Read + Drop> {
     ghost in_order: { position ≤ filled },
 }
 
-impl<R: Read + Drop> StdSource<R> {
+impl<R: Input + Drop> StdSource<R> {
+    ghost use Rattle.x86_cli.specs.Outside.Seen.{source_reader};
+
     /// A source over the reader, with nothing read.
     pub fn new(reader: R) -> StdSource<R>
-        ensures bytes { ⟦<StdSource<R> as Source>⟧.left result ≡ R.remaining reader }
+        ensures bytes { ⟦<StdSource<R> as Source>⟧.left result ≡ R.left reader }
         ensures sound { ⟦<StdSource<R> as Source>⟧.faults result ≡ 0 }
+        ensures reader { source_reader result ≡ reader }
     {
         StdSource {
             reader,
@@ -55,15 +58,16 @@ enum Refill {
     Fault,
 }
 
-impl<R: Read + Drop> StdSource<R> {
+impl<R: Input + Drop> StdSource<R> {
     /// Reads on, where no byte of the buffer is left.
     #[cold]
     #[inline(never)]
     fn refill(&mut self) -> Refill
         requires { self.old.position ≡ self.old.filled }
-        ensures told { TellsRefill result (prepend_known (slice_range self.old.buffer self.old.position self.old.filled) (R.remaining self.old.reader))
-            (prepend_known (slice_range self.new.buffer self.new.position self.new.filled) (R.remaining self.new.reader)) self.old.faults self.new.faults }
+        ensures told { TellsRefill result (prepend_known (slice_range self.old.buffer self.old.position self.old.filled) (R.left self.old.reader))
+            (prepend_known (slice_range self.new.buffer self.new.position self.new.filled) (R.left self.new.reader)) self.old.faults self.new.faults }
         ensures some { result ≡ Refill.Bytes → self.new.position < self.new.filled }
+        ensures refills { Refills R.reads result self.old.reader (slice_range self.new.buffer self.new.position self.new.filled) self.new.reader }
     {
         match self.reader.read(&mut self.buffer) {
             Ok(0) => Refill::Nothing,
@@ -83,8 +87,10 @@ impl<R: Read + Drop> StdSource<R> {
     #[inline(always)]
     fn take(&mut self) -> u8
         requires { self.old.position < self.old.filled }
-        ensures { TellsGot (Got.Byte result) (prepend_known (slice_range self.old.buffer self.old.position self.old.filled) (R.remaining self.old.reader))
-            (prepend_known (slice_range self.new.buffer self.new.position self.new.filled) (R.remaining self.new.reader)) self.old.faults self.new.faults }
+        ensures takes { slice_range self.old.buffer self.old.position self.old.filled ≡ result ∷ slice_range self.new.buffer self.new.position self.new.filled }
+        ensures reader { self.new.reader ≡ self.old.reader }
+        ensures told { TellsGot (Got.Byte result) (prepend_known (slice_range self.old.buffer self.old.position self.old.filled) (R.left self.old.reader))
+            (prepend_known (slice_range self.new.buffer self.new.position self.new.filled) (R.left self.new.reader)) self.old.faults self.new.faults }
     {
         let byte = self.buffer[self.position];
         self.position += 1;
@@ -92,14 +98,15 @@ impl<R: Read + Drop> StdSource<R> {
     }
 }
 
-impl<R: Read + Drop> Source for StdSource<R> {
-    ghost left = { λ s. prepend_known (slice_range s.buffer s.position s.filled) (R.remaining s.reader) };
+impl<R: Input + Drop> Source for StdSource<R> {
+    ghost left = { λ s. prepend_known (slice_range s.buffer s.position s.filled) (R.left s.reader) };
 
     ghost faults = { λ s. s.faults };
 
-    ghost gives = { λ s g t. TellsGot g (prepend_known (slice_range s.buffer s.position s.filled) (R.remaining s.reader)) (prepend_known (slice_range t.buffer t.position t.filled) (R.remaining t.reader)) s.faults t.faults };
+    ghost gives = { λ s g t. TellsGot g (prepend_known (slice_range s.buffer s.position s.filled) (R.left s.reader)) (prepend_known (slice_range t.buffer t.position t.filled) (R.left t.reader)) s.faults t.faults
+        × Fetches R.reads g (slice_range s.buffer s.position s.filled) s.reader (slice_range t.buffer t.position t.filled) t.reader };
 
-    ghost tells = { λ s g t h. h };
+    ghost tells = { λ s g t h. h.0 };
 
     #[inline(always)]
     fn next(&mut self) -> Got {

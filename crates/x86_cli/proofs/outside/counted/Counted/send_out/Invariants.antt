@@ -1,12 +1,16 @@
-use Rattle.std.proofs.Common.{◌≡◌, ◌-◌, ◌≤◌, length, take}
+use Rattle.std.proofs.Common.{◌≡◌, ◌-◌, ◌≤◌, length, take, Ok}
+use Rattle.std.specs.Prelude.{⊤}
 use Rattle.std.specs.Io.KnownBytes.{Appends}
+use Rattle.x86_cli.specs.declared.outside.sink.SinkFailed.{SinkFailed}
+use Rattle.x86_cli.specs.Outside.Writes.{Caused}
 use Rattle.x86_cli.proofs.outside.counted.Counted.send_out.Given as goal
 
 abbrev pub invariant-loop-sent : goal.invariant-loop-sent
 invariant-loop-sent g l = record {
   within : l.sent ≤ length l.bytes;
   still : l.self.faults ≡ l.initial.self.faults;
-  bytes : Appends (g.W.Write.contents l.initial.self.writer) (g.W.Write.contents l.self.writer) (take l.sent l.bytes);
+  bytes : Appends (g.W.Output.written l.initial.self.writer) (g.W.Output.written l.self.writer) (take l.sent l.bytes);
+  caused : Caused g.W.Output.writes g.W.Output.flushes {A = ⊤} {E = SinkFailed} (Ok tt) l.initial.self.writer l.self.writer;
 }
 
 abbrev pub decreases-loop-sent : goal.decreases-loop-sent

@@ -1,8 +1,8 @@
 //! Worked lines of `make`.
 
-use crate::listings::status::Status;
-use crate::tests::support::{is_usage, runs};
+use crate::support::{is_usage, runs};
 use std::alloc::Global;
+use x86_cli::Status;
 
 /// Whether `make` writes this line.
 fn makes(alloc: Global, count: &str, line: &str) -> bool {

@@ -1,20 +1,9 @@
 //! The listing of the x86-64 instructions of a hex text.
 #![tactic(auto)]
 
-mod commands;
-mod laws;
-mod listings;
-mod outside;
-#[cfg(test)]
-mod tests;
-mod text;
-
-use commands::command::USAGE;
-use commands::program::listed;
-use listings::status::Status;
 use std::process::ExitCode;
 use std::{env, io};
-pub use x86_text::{fields_line, line_of, refusal_of};
+use x86_cli::{Status, USAGE, listed};
 
 fn arguments(rt: &HostRuntime) -> io::Result<Vec<String>> {
     let mut arguments = Vec::new(rt.alloc());

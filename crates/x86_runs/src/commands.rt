@@ -1,10 +1,7 @@
 //! Worked runs of the commands beside `list`.
 
-use crate::commands::command::{TARGETS_MAX, USAGE};
-use crate::listings::status::Status;
-use crate::outside::array_sink::ArraySink;
-use crate::outside::sound_source::SoundSource;
-use crate::tests::support::{Repeated, all_run, ending, ends_with, is_usage, runs};
+use crate::support::{Repeated, all_run, ending, ends_with, is_usage, runs};
+use x86_cli::{ArraySink, SoundSource, Status, TARGETS_MAX, USAGE};
 
 #[test]
 fn arguments_matched_whole(rt: HostRuntime) {

@@ -1,7 +1,7 @@
 //! Worked runs of `list`.
 
-use crate::listings::status::Status;
-use crate::tests::support::{all_run, runs};
+use crate::support::{all_run, runs};
+use x86_cli::Status;
 
 #[test]
 fn ends_of_the_text(rt: HostRuntime) {

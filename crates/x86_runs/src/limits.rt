@@ -1,8 +1,7 @@
 //! Runs of `list` over long texts.
 
-use crate::commands::command::TEXT_MAX;
-use crate::listings::status::Status;
-use crate::tests::support::{Repeated, ends_with};
+use crate::support::{Repeated, ends_with};
+use x86_cli::{Status, TEXT_MAX};
 
 #[test]
 fn short_and_long_texts(rt: HostRuntime) {

@@ -1,11 +1,10 @@
 //! The whole program, over readers and writers that are slow, that are short, and that fail.
 
-use crate::commands::program::listed;
-use crate::listings::status::Status;
-use crate::tests::support::arguments;
+use crate::support::arguments;
 use std::alloc::{AllocError, Global};
 use std::io;
 use std::io::{ErrorKind, Read, Write};
+use x86_cli::{Status, listed};
 
 /// Gives one byte a read, and fails at the read with a number, from 0.
 #[derive(Drop)]

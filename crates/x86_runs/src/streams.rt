@@ -1,17 +1,11 @@
 //! Runs over sources and sinks that fail, and over readers and writers.
 
-use crate::listings::status::Status;
-use crate::outside::array_sink::ArraySink;
-use crate::outside::gathered::Gathered;
-use crate::outside::null_sink::NullSink;
-use crate::outside::sink::Sink;
-use crate::outside::sound_source::SoundSource;
-use crate::outside::std_sink::StdSink;
-use crate::outside::std_source::StdSource;
-use crate::tests::support::{ending, runs};
+use x86_cli::outside::gathered::Gathered;
+use crate::support::{ending, runs};
 use std::alloc::Global;
 use std::io;
 use std::io::{ErrorKind, Read, Write};
+use x86_cli::{ArraySink, NullSink, Sink, SoundSource, Status, StdSink, StdSource};
 
 /// Two instructions.
 const TEXT: &[u8] = b"01 d8 01 d8";
@@ -174,9 +168,10 @@ fn writers_that_fail(rt: HostRuntime) {
 
 #[test]
 fn a_flush_that_fails(rt: HostRuntime) {
-    let mut gathered = Gathered::new(NarrowWriter { room: 30 });
-    assert!(&rt; listed_to(rt.alloc(), &mut gathered) == (Some(Status::Done), 0));
-    assert!(&rt; gathered.flush().is_err());
+    let mut sink = StdSink::new(Gathered::new(NarrowWriter { room: 30 }));
+    let ended = ending(rt.alloc(), &["list"], &mut StdSource::new(TEXT), &mut sink);
+    assert!(&rt; ended == Some(Status::Done) && sink.faults() == 0);
+    assert!(&rt; sink.into_writer().send_all().is_err());
 }
 
 #[test]

@@ -4,13 +4,8 @@ ghost use Rattle.std.specs.Prelude.{None};
 ghost use Rattle.x86_cli.specs.Outside.Source.{TellsGot};
 ghost use Rattle.x86_cli.specs.Outside.Sink.{TellsPut};
 
-use crate::commands::command::run;
-use crate::listings::status::Status;
-use crate::outside::array_sink::ArraySink;
-use crate::outside::sink::{Sink, SinkFailed};
-use crate::outside::slice_source::SliceSource;
-use crate::outside::source::{Got, Source};
 use std::alloc::{AllocError, Global};
+use x86_cli::{ArraySink, Got, Sink, SinkFailed, SliceSource, Source, Status, run};
 
 /// The words of a command, as `main` collects them.
 pub fn arguments(alloc: Global, texts: &[&str]) -> Result<Vec<String>, AllocError> {
