@@ -6,3 +6,4 @@ pub mod Make
 pub mod Causes
 pub mod Says
 pub mod Program
+pub mod Process

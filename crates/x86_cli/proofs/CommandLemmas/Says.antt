@@ -75,12 +75,12 @@ done_clean c image Large done = absurd (command_never Done (λ f. cc) Large (λ 
 done_clean c image Fault done = absurd (command_never Done (λ f. cc) Fault (λ f. cc) c image done)
 
 -- Behind a fault a listing ends as that, or in a refusal.
-fault_status : (c : Command) (t : Text) (status : Status) → t.ending ≡ Fault → status ≢ Refused → status ≢ ReadFault → (listing_for c t).status ≢ status
+pub fault_status : (c : Command) (t : Text) (status : Status) → t.ending ≡ Fault → status ≢ Refused → status ≢ ReadFault → (listing_for c t).status ≢ status
 fault_status c t status fault unrefused unread =
     let ends : (at_end t.ending).status ≡ ReadFault = ap (λ e. (at_end e).status) fault in
     command_never status (λ e. unrefused (sym e)) t.ending (λ e. unread (sym e ∙ ends)) c t.image
 
-end_stop : (c : Command) (max : ℕ) (bytes : List ℕ) (stop : Option Stop) →
+pub end_stop : (c : Command) (max : ℕ) (bytes : List ℕ) (stop : Option Stop) →
     ((xs : List ℕ) (s : Stop) → MayCome stop xs s → (listing_for c (text_of max (bytes ++ xs) s)).status ≡ Done) → stop ≡ Some End
 end_stop c max bytes None done = absurd (failed_unclean max (bytes ++ []) (done_clean c _ _ (done [] Failed tt)))
 end_stop c max bytes (Some Failed) done = absurd (failed_unclean max (bytes ++ []) (done_clean c _ _ (done [] Failed (refl, refl))))

@@ -4,7 +4,7 @@ ghost use Rattle.std.specs.Prelude.{◌≡◌, ◌<◌, ◌≤◌, length, take,
 ghost use Rattle.std.specs.Io.KnownBytes.{Appends, WriteAppends};
 ghost use Rattle.std.specs.Io.{WritesAtMost};
 ghost use Rattle.x86_cli.specs.Outside.FaultCounts.{Rose, CountsFault};
-ghost use Rattle.x86_cli.specs.Outside.Writes.{Caused};
+ghost use Rattle.x86_cli.specs.Outside.Writes.{Caused, taken_by};
 
 use crate::outside::output::Output;
 use crate::outside::sink::SinkFailed;
@@ -34,7 +34,8 @@ impl<W: Output + Drop> Counted<W> {
         ensures some { IfOk result (λ n. 0 < n) }
         ensures bytes { WriteAppends (W.written self.old.writer) (W.written self.new.writer) result bytes.now }
         ensures counts { CountsFault result self.old.faults self.new.faults }
-        ensures caused { Caused W.writes W.flushes result self.old.writer self.new.writer }
+        ensures caused { Caused W.writes W.flushes result (taken_by result bytes.now)
+            self.old.writer self.new.writer }
     {
         for _ in 0..u64::MAX {
             match self.writer.write(bytes) {
@@ -60,7 +61,8 @@ impl<W: Output + Drop> Counted<W> {
         ensures all { OnOk result.1 (result.0 ≡ length bytes.now) }
         ensures bytes { Appends (W.written self.old.writer) (W.written self.new.writer) (take result.0 bytes.now) }
         ensures counts { CountsFault result.1 self.old.faults self.new.faults }
-        ensures caused { Caused W.writes W.flushes result.1 self.old.writer self.new.writer }
+        ensures caused { Caused W.writes W.flushes result.1 (take result.0 bytes.now)
+            self.old.writer self.new.writer }
     {
         let mut sent = 0;
         while sent < bytes.len() {

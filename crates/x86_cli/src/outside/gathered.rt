@@ -4,7 +4,7 @@ ghost use Rattle.std.specs.Prelude.{◌≡◌, ◌<◌, [], length, OnOk, IfOk, 
 ghost use Rattle.std.specs.Io.KnownBytes.{Keeps, WriteAppends, append_known};
 ghost use Rattle.std.specs.Io.{WritesAtMost};
 ghost use Rattle.x86_cli.specs.Outside.FaultCounts.{CountsFault};
-ghost use Rattle.x86_cli.specs.Outside.Writes.{Caused, Settles, Flushed};
+ghost use Rattle.x86_cli.specs.Outside.Writes.{Forwards, FlushesOut, Settles, taken_by};
 ghost use Rattle.x86_cli.specs.Outside.Seen.{writer_behind, writer_faults, held_bytes};
 
 use crate::outside::counted::Counted;
@@ -51,7 +51,8 @@ impl<W: Output + Drop> Gathered<W> {
         ensures bytes { Keeps (append_known (W.written (writer_behind self.old)) (held_bytes self.old))
             (append_known (W.written (writer_behind self.new)) (held_bytes self.new)) }
         ensures counts { CountsFault result (writer_faults self.old) (writer_faults self.new) }
-        ensures caused { Caused W.writes W.flushes result (writer_behind self.old) (writer_behind self.new) }
+        ensures forwards { Forwards W.writes W.flushes result [] (held_bytes self.old) (held_bytes self.new)
+            (writer_behind self.old) (writer_behind self.new) }
     {
         let (sent, result) = self.counted.send_out(self.bytes.as_slice());
         self.bytes.leave(sent);
@@ -68,7 +69,8 @@ impl<W: Output + Drop> Gathered<W> {
         ensures room { length (held_bytes self.old) < SIZE → IsOk result }
         ensures some { IfOk result (λ n. n ≡ 0 → length buf.now ≡ 0) }
         ensures counts { CountsFault result (writer_faults self.old) (writer_faults self.new) }
-        ensures caused { Caused W.writes W.flushes result (writer_behind self.old) (writer_behind self.new) }
+        ensures forwards { Forwards W.writes W.flushes result (taken_by result buf.now)
+            (held_bytes self.old) (held_bytes self.new) (writer_behind self.old) (writer_behind self.new) }
     {
         if self.bytes.left() == 0 {
             self.send()?;
@@ -85,8 +87,8 @@ impl<W: Output + Drop> Gathered<W> {
             (append_known (W.written (writer_behind self.new)) (held_bytes self.new)) }
         ensures empty { OnOk result (held_bytes self.new ≡ []) }
         ensures counts { CountsFault result (writer_faults self.old) (writer_faults self.new) }
-        ensures flushed { OnOk result (Flushed W.flushes (writer_behind self.new)) }
-        ensures caused { Caused W.writes W.flushes result (writer_behind self.old) (writer_behind self.new) }
+        ensures flushes { FlushesOut W.writes W.flushes result (held_bytes self.old) (held_bytes self.new)
+            (writer_behind self.old) (writer_behind self.new) }
     {
         self.send()?;
         match self.counted.writer.flush() {
@@ -99,9 +101,11 @@ impl<W: Output + Drop> Gathered<W> {
 impl<W: Output + Drop> Output for Gathered<W> {
     ghost written = { λ s. append_known (W.written (writer_behind s)) (held_bytes s) };
 
-    ghost writes = { λ s buf r t. Caused W.writes W.flushes r (writer_behind s) (writer_behind t) × Settles r buf };
+    ghost writes = { λ s buf r t. Forwards W.writes W.flushes r (taken_by r buf)
+        (held_bytes s) (held_bytes t) (writer_behind s) (writer_behind t) × Settles r buf };
 
-    ghost flushes = { λ s r t. Caused W.writes W.flushes r (writer_behind s) (writer_behind t) };
+    ghost flushes = { λ s r t. Forwards W.writes W.flushes r []
+        (held_bytes s) (held_bytes t) (writer_behind s) (writer_behind t) };
 
     fn write(&mut self, buf: &[u8]) -> io::Result<usize>
         ensures bound { WritesAtMost result buf.now }
@@ -110,7 +114,8 @@ impl<W: Output + Drop> Output for Gathered<W> {
         ensures room { length (held_bytes self.old) < SIZE → IsOk result }
         ensures some { IfOk result (λ n. n ≡ 0 → length buf.now ≡ 0) }
         ensures counts { CountsFault result (writer_faults self.old) (writer_faults self.new) }
-        ensures caused { Caused W.writes W.flushes result (writer_behind self.old) (writer_behind self.new) }
+        ensures forwards { Forwards W.writes W.flushes result (taken_by result buf.now)
+            (held_bytes self.old) (held_bytes self.new) (writer_behind self.old) (writer_behind self.new) }
         ensures settles { Settles result buf.now }
     {
         if buf.len() <= self.bytes.left() {
@@ -128,7 +133,8 @@ impl<W: Output + Drop> Output for Gathered<W> {
             (append_known (W.written (writer_behind self.new)) (held_bytes self.new)) }
         ensures empty { OnOk result (held_bytes self.new ≡ []) }
         ensures counts { CountsFault result (writer_faults self.old) (writer_faults self.new) }
-        ensures caused { Caused W.writes W.flushes result (writer_behind self.old) (writer_behind self.new) }
+        ensures forwards { Forwards W.writes W.flushes result [] (held_bytes self.old) (held_bytes self.new)
+            (writer_behind self.old) (writer_behind self.new) }
     {
         match self.send_all() {
             Ok(()) => Ok(()),

@@ -1,8 +1,8 @@
-use Rattle.std.proofs.Common.{◌-◌, ◌++◌, length, take, drop, sym, ap, subst, ◌∙◌, arith, length-take}
+use Rattle.std.proofs.Common.{◌≡◌, ◌-◌, ◌++◌, ℕ, List, [], length, take, drop, refl, sym, ap, subst, ◌∙◌, arith, append-nil, length-take}
 use Rattle.std.specs.Io.KnownBytes.{Appends}
 use Rattle.std.proofs.KnownBytes.{Appends-trans}
 use lib.Seq.{take-add, take-take}
-use Rattle.x86_cli.proofs.OutsideLemmas.Writes.{caused_join, caused_ok, caused_err}
+use Rattle.x86_cli.proofs.OutsideLemmas.Writes.{take_none, caused_none, caused_as, caused_join, caused_ok, caused_err}
 use Rattle.x86_cli.proofs.outside.counted.Counted.send_out.Goals as goal
 
 pub loop-sent-preserved : goal.loop-sent-preserved
@@ -18,11 +18,12 @@ loop-sent-preserved g c =
       within = omega arith;
       still = grind (arith, before.still);
       bytes = subst (Appends _ _) joined (Appends-trans _ _ _ _ _ before.bytes c.in-Ok.ensures.bytes);
-      caused = caused_ok _ _ _ tt _ _ (caused_join _ _ tt _ _ _ _ before.caused c.in-Ok.ensures.caused);
+      caused = caused_ok _ _ _ tt _ _ _ (caused_as _ _ _ _ _ _ _ joined (caused_join _ _ tt _ _ _ _ _ _ before.caused c.in-Ok.ensures.caused));
     }
 
 pub returns-in-Err-clause-caused : goal.returns-in-Err-clause-caused
-returns-in-Err-clause-caused g c = caused_err _ _ _ _ _ _ (caused_join _ _ tt _ _ _ _ c.loop-sent.invariant.caused c.in-Err.ensures.caused)
+returns-in-Err-clause-caused g c =
+    caused_err _ _ _ _ _ _ _ (caused_as _ _ _ _ _ _ _ (append-nil _) (caused_join _ _ tt _ _ _ _ _ _ c.loop-sent.invariant.caused c.in-Err.ensures.caused))
 
 pub returns-clause-caused : goal.returns-clause-caused
 returns-clause-caused g c = c.loop-sent.invariant.caused

@@ -10,7 +10,7 @@ invariant-loop-sent g l = record {
   within : l.sent ≤ length l.bytes;
   still : l.self.faults ≡ l.initial.self.faults;
   bytes : Appends (g.W.Output.written l.initial.self.writer) (g.W.Output.written l.self.writer) (take l.sent l.bytes);
-  caused : Caused g.W.Output.writes g.W.Output.flushes {A = ⊤} {E = SinkFailed} (Ok tt) l.initial.self.writer l.self.writer;
+  caused : Caused g.W.Output.writes g.W.Output.flushes {A = ⊤} {E = SinkFailed} (Ok tt) (take l.sent l.bytes) l.initial.self.writer l.self.writer;
 }
 
 abbrev pub decreases-loop-sent : goal.decreases-loop-sent

@@ -1,35 +1,32 @@
 use Rattle.std.proofs.Common.{rules, ◌≡◌, Ok, Err}
 use Rattle.std.proofs.lemmas.Bool.Decides.{nat_tests}
-use Rattle.x86_cli.specs.Outside.Writes.{Call, Write, Caused}
-use Rattle.x86_cli.proofs.OutsideLemmas.Writes.{caused_more, caused_fault}
+use Rattle.x86_cli.proofs.OutsideLemmas.Writes.{caused_write, caused_again, caused_nothing, caused_error}
 use Rattle.x86_cli.proofs.outside.counted.Counted.write_some.Goals as goal
 use Rattle.x86_cli.proofs.outside.counted.Counted.write_some.Goals.{in_default-via-in-Ok-write+else-count-gt0, in_default-via-in_default}
 
 pub returns-in-Ok-eq0-clause-caused : goal.returns-in-Ok-eq0-clause-caused
 returns-in-Ok-eq0-clause-caused g c =
-    rw c.fail.ensures.writer (caused_fault _ _ tt c.fail.result (Write c.args.bytes.now (Ok c.in-Ok-eq0.field-0)) _ _ _ c.loop.invariant.caused c.in-Ok-eq0.ensures.wrote (search rules, c.requires))
+    rw c.fail.ensures.writer (caused_nothing _ _ tt c.fail.result _ _ _ _ _ _ c.loop.invariant.caused c.in-Ok-eq0.ensures.wrote (search rules) c.requires)
 
 pub returns-in-Ok-clause-caused : goal.returns-in-Ok-clause-caused
-returns-in-Ok-clause-caused g c =
-    caused_more _ _ tt c.in-Ok.count (Write c.args.bytes.now (Ok c.in-Ok.count)) _ _ _ c.loop.invariant.caused c.in-Ok.ensures.wrote (search rules)
+returns-in-Ok-clause-caused g c = caused_write _ _ tt c.in-Ok.count _ _ _ _ _ _ c.loop.invariant.caused c.in-Ok.ensures.wrote (search rules)
 
 pub returns-then-ne-clause-caused : goal.returns-then-ne-clause-caused
 returns-then-ne-clause-caused g c =
-    rw c.fail-then-ne.ensures.writer (caused_fault _ _ tt c.fail-then-ne.result (Write c.args.bytes.now (Err c.in-Err.error)) _ _ _ c.loop.invariant.caused c.in-Err.ensures.wrote tt)
+    rw c.fail-then-ne.ensures.writer (caused_error _ _ tt c.fail-then-ne.result _ _ _ _ _ _ c.loop.invariant.caused c.in-Err.ensures.wrote)
 
 pub loop-preserved : goal.loop-preserved
 loop-preserved g c = record {
   still = c.loop.invariant.still;
   bytes = search rules;
-  caused = caused_more _ _ tt tt (Write c.args.bytes.now (Err c.in-Err.error)) _ _ _ c.loop.invariant.caused c.in-Err.ensures.wrote (search rules);
+  caused = caused_again _ _ tt tt _ _ _ _ _ _ c.loop.invariant.caused c.in-Err.ensures.wrote (search rules);
 }
 
 pub returns-in-Ok-write-clause-caused : goal.returns-in-Ok-write-clause-caused
-returns-in-Ok-write-clause-caused g c =
-    caused_more _ _ tt c.in-Ok-write.count (Write c.args.bytes.now (Ok c.in-Ok-write.count)) _ _ _ c.loop.invariant.caused c.in-Ok-write.ensures.wrote (search rules)
+returns-in-Ok-write-clause-caused g c = caused_write _ _ tt c.in-Ok-write.count _ _ _ _ _ _ c.loop.invariant.caused c.in-Ok-write.ensures.wrote (search rules)
 
 pub returns-in_default-clause-caused : goal.returns-in_default-clause-caused
 returns-in_default-clause-caused g c = rw c.fail-in_default.ensures.writer (elim c.in_default.branch [
-  | in_default-via-in-Ok-write+else-count-gt0 w ↦ caused_fault _ _ tt c.fail-in_default.result (Write c.args.bytes.now (Ok w.in-Ok-write.count)) _ _ _ c.loop.invariant.caused w.in-Ok-write.ensures.wrote (search rules, c.requires)
-  | in_default-via-in_default w ↦ caused_fault _ _ tt c.fail-in_default.result (Write c.args.bytes.now (Err w.in_default.field-0)) _ _ _ c.loop.invariant.caused w.in_default.ensures.wrote tt
+  | in_default-via-in-Ok-write+else-count-gt0 w ↦ caused_nothing _ _ tt c.fail-in_default.result _ _ _ _ _ _ c.loop.invariant.caused w.in-Ok-write.ensures.wrote (search rules) c.requires
+  | in_default-via-in_default w ↦ caused_error _ _ tt c.fail-in_default.result _ _ _ _ _ _ c.loop.invariant.caused w.in_default.ensures.wrote
 ])
