@@ -24,12 +24,9 @@ array_fails s = s.fails
 abbrev pub sink_writer : {W : Type 0} → StdSink W → W
 sink_writer s = s.writer
 
--- the writer after a buffer, how often it failed, and what the buffer holds
+-- the writer after a buffer, and what the buffer holds
 abbrev pub writer_behind : {W : Type 0} → Gathered W → W
-writer_behind g = g.counted.writer
-
-abbrev pub writer_faults : {W : Type 0} → Gathered W → ℕ
-writer_faults g = g.counted.faults
+writer_behind g = g.writer
 
 abbrev pub held_bytes : {W : Type 0} → Gathered W → List ℕ
 held_bytes g = g.bytes.items

@@ -10,7 +10,7 @@ returns-clause-lists g c =
     let writes = g.W.Output.writes in
     let flushes = g.W.Output.flushes in
     let fresh : c.new-sink.result.writer.bytes.items ≡ [] = ap (λ o. held_bytes o) c.new-sink.ensures.writer ∙ c.new.ensures.empty in
-    let writer : c.new-sink.result.writer.counted.writer ≡ c.args.writer = ap (λ o. writer_behind o) c.new-sink.ensures.writer ∙ c.new.ensures.writer in
+    let writer : c.new-sink.result.writer.writer ≡ c.args.writer = ap (λ o. writer_behind o) c.new-sink.ensures.writer ∙ c.new.ensures.writer in
     each_command (command_of (map string_bytes c.args.arguments.now)) c.run-status.ensures.ran
     (λ command ran. rw (c.ending_of.ensures, c.into_reader.ensures, c.into_writer.ensures, sym c.new-source.ensures.reader, sym writer)
     (ran_performs writes flushes _ _ _ _ _ command _ _ ran.0 _ _ (λ o. writer_behind o) (λ o. held_bytes o) (λ s. sink_writer s) (λ s piece r t h. h.1) (λ a bytes r b w. w) (λ a r b f. f)
@@ -24,7 +24,7 @@ returns-clause-made g c n is =
     let writes = g.W.Output.writes in
     let flushes = g.W.Output.flushes in
     let fresh : c.new-sink.result.writer.bytes.items ≡ [] = ap (λ o. held_bytes o) c.new-sink.ensures.writer ∙ c.new.ensures.empty in
-    let writer : c.new-sink.result.writer.counted.writer ≡ c.args.writer = ap (λ o. writer_behind o) c.new-sink.ensures.writer ∙ c.new.ensures.writer in
+    let writer : c.new-sink.result.writer.writer ≡ c.args.writer = ap (λ o. writer_behind o) c.new-sink.ensures.writer ∙ c.new.ensures.writer in
     rw (c.ending_of.ensures, c.into_writer.ensures, sym writer)
     (wrote_performs writes flushes _ _ _ _ n (c.run-status.ensures.made n is) _ _ (λ o. writer_behind o) (λ o. held_bytes o) (λ s. sink_writer s) (λ s piece r t h. h.1) (λ a bytes r b w. w) (λ a r b f. f)
     fresh _ _ (λ e. c.send_rest-flushed.ensures.failed e ∙ c.into_writer-out.ensures)

@@ -1,9 +1,7 @@
-use Rattle.std.proofs.Common.{◌≡◌, ◌-◌, ◌++◌, ℕ, List, [], length, take, drop, refl, sym, ap, subst, ◌∙◌, arith, append-nil, length-take}
-use Rattle.std.specs.Io.KnownBytes.{Appends}
-use Rattle.std.proofs.KnownBytes.{Appends-trans}
+use Rattle.std.proofs.Common.{◌≡◌, ◌-◌, ◌++◌, length, take, drop, sym, ap, ◌∙◌, arith, append-nil, length-take}
 use lib.Seq.{take-add, take-take}
-use Rattle.x86_cli.proofs.OutsideLemmas.Writes.{take_none, caused_none, caused_as, caused_join, caused_ok, caused_err}
-use Rattle.x86_cli.proofs.outside.counted.Counted.send_out.Goals as goal
+use Rattle.x86_cli.proofs.OutsideLemmas.Writes.{caused_none, caused_as, caused_join, caused_ok, caused_err}
+use Rattle.x86_cli.proofs.outside.sending.send_out.Goals as goal
 
 pub loop-sent-preserved : goal.loop-sent-preserved
 loop-sent-preserved g c =
@@ -16,8 +14,6 @@ loop-sent-preserved g c =
     let joined = ap (λ l. take sent xs ++ l) (take-take n (length xs - sent) (drop sent xs) (omega arith)) ∙ sym (take-add sent n xs) in
     record {
       within = omega arith;
-      still = grind (arith, before.still);
-      bytes = subst (Appends _ _) joined (Appends-trans _ _ _ _ _ before.bytes c.in-Ok.ensures.bytes);
       caused = caused_ok _ _ _ tt _ _ _ (caused_as _ _ _ _ _ _ _ joined (caused_join _ _ tt _ _ _ _ _ _ before.caused c.in-Ok.ensures.caused));
     }
 
