@@ -2,7 +2,7 @@
 # `. tools/program.sh`, where `top` is the folder of the repository.
 
 # The crate of the program, and the folder of the sources that say which words are its commands.
-PROGRAM_CRATE=x86_cli
+PROGRAM_CRATE=x86
 command_sources=$top/crates/x86_cli/src/commands
 
 out=$top/crates/$PROGRAM_CRATE/out
