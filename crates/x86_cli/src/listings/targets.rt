@@ -1,7 +1,7 @@
 //! The places that the instructions of a sweep branch to.
 
 ghost use Rattle.x86_decode.specs.Decoder.{is_strict};
-ghost use Rattle.std.specs.Prelude.{◌≡◌, ◌≢◌, ℕ, ◌*◌, ◌<◌, ◌≤◌, length, slice_index_or, true, false, decimal, None, Some, Err, OnOk, IfErr};
+ghost use Rattle.std.specs.Prelude.{◌≡◌, ℕ, ◌*◌, ◌<◌, ◌≤◌, length, slice_index_or, true, false, decimal, None, Some, Err, OnOk, IfErr};
 ghost use Rattle.x86_cli.specs.Text.{text_of};
 ghost use Rattle.arrayvec.specs.ArrayVec.{array_vec_len};
 ghost use Rattle.x86_layout.specs.Sweeps.Marks.{is_marked};
@@ -83,8 +83,7 @@ pub fn targets<S: Source, K: Sink>(
     sink: &mut K,
 ) -> Status
     requires { max ≤ 2 * IMAGE_MAX }
-    ensures ran { Ran S.gives K.takes (targets_at (is_strict decoder.now) 0) max result source.old source.new sink.old sink.new }
-    ensures unrefused { result ≢ Status.Refused }
+    ensures { Ran S.gives K.takes (targets_at (is_strict decoder.now) 0) max result source.old source.new sink.old sink.new }
 {
     let text = read_whole(max, source);
     let image = text.image.as_slice();

@@ -4,7 +4,6 @@ use Rattle.x86_cli.specs.Text.{Text}
 use Rattle.x86_cli.specs.Listings.Listing.{with_lines}
 use Rattle.x86_cli.specs.Listings.Targets.{lines_if, place_line, targets_at}
 use Rattle.x86_cli.proofs.ListingLemmas.Stands.{stands_whole, stands_step, ran_failed, ran_closed, ran_unclosed}
-use Rattle.x86_cli.proofs.ListingLemmas.Sweep.{end_unrefused}
 use Rattle.x86_cli.proofs.ListingLemmas.Target.{targets-step, targets-end}
 use Rattle.x86_cli.proofs.listings.targets.targets.Goals as goal
 
@@ -30,8 +29,8 @@ places-preserved g c =
     stands_step g.S.Source.gives g.K.Sink.takes (targets_at strict) None _ _ _ _ _ _ _ _ _ _ c.places.invariant (lines_if (is_marked strict text.image place) place) (place + 1) text.image
     (λ xs stop. targets-step strict place text m.inside) [] (λ xs stop. refl) (λ walked any. tt) _ (rw m.mark at c.in-Ok.ensures.ok)
 
-pub returns-in-Err-clause-ran : goal.returns-in-Err-clause-ran
-returns-in-Err-clause-ran g c =
+pub returns-in-Err : goal.returns-in-Err
+returns-in-Err g c =
     let strict = c.args.decoder.now.strict in
     let place = c.places.place in
     let text : Text = record { image = c.read_whole-text.result.image.items; ending = c.read_whole-text.result.ending } in
@@ -41,19 +40,16 @@ returns-in-Err-clause-ran g c =
     ran_failed g.S.Source.gives g.K.Sink.takes (targets_at strict) None _ _ _ _ _ _ _ _ _ _ c.places.invariant (place_line place)
     (λ xs stop. (targets_at strict (place + 1) text, targets-step strict place text m.inside ∙ ap (λ b. with_lines (lines_if b place) (targets_at strict (place + 1) text)) marked)) _ _ failed.1
 
-pub returns-in-Ok-end-clause-ran : goal.returns-in-Ok-end-clause-ran
-returns-in-Ok-end-clause-ran g c =
+pub returns-in-Ok-end : goal.returns-in-Ok-end
+returns-in-Ok-end g c =
     let strict = c.args.decoder.now.strict in
     let image : List ℕ = c.read_whole-text.result.image.items in
     let all : c.places.place ≡ length image = omega (arith, c.places-test.false, c.places.auto.place-end, ap length c.as_slice-image.ensures.value) in
     ran_closed g.S.Source.gives g.K.Sink.takes (targets_at strict) None _ _ _ _ _ _ _ _ _ _ c.places.invariant _ (λ xs stop. targets-end strict c.places.place image c.read_whole-text.result.ending all) _ _ c.in-Ok-end.ensures
 
-pub returns-in-Err-end-clause-ran : goal.returns-in-Err-end-clause-ran
-returns-in-Err-end-clause-ran g c =
+pub returns-in-Err-end : goal.returns-in-Err-end
+returns-in-Err-end g c =
     let strict = c.args.decoder.now.strict in
     let image : List ℕ = c.read_whole-text.result.image.items in
     let all : c.places.place ≡ length image = omega (arith, c.places-test.false, c.places.auto.place-end, ap length c.as_slice-image.ensures.value) in
     ran_unclosed g.S.Source.gives g.K.Sink.takes (targets_at strict) None _ _ _ _ _ _ _ _ _ _ c.places.invariant _ (λ xs stop. targets-end strict c.places.place image c.read_whole-text.result.ending all) c.in-Err-end.field-0 _ c.in-Err-end.ensures
-
-pub returns-in-Ok-end-clause-unrefused : goal.returns-in-Ok-end-clause-unrefused
-returns-in-Ok-end-clause-unrefused g c = end_unrefused c.args.decoder.now.strict c.read_whole-text.result.ending _ c.in-Ok-end.ensures.0
