@@ -5,5 +5,6 @@ pub mod Complete
 pub mod Make
 pub mod Causes
 pub mod Says
+pub mod Follows
 pub mod Program
 pub mod Process

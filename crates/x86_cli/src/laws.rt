@@ -1,15 +1,18 @@
 //! Laws of the text and of the values of the outside, and those of the decoder on which the window stands.
 
-ghost use Rattle.std.specs.Prelude.{◌≡◌, ◌↔◌, ℕ, Bool, IsTrue, List, Option};
+ghost use Rattle.std.specs.Prelude.{◌≡◌, ◌≢◌, ◌↔◌, ℕ, Bool, IsTrue, List, Option};
 ghost use Rattle.x86_cli.specs.DecoderLaws.{DecoderLaws};
 ghost use Rattle.x86_cli.specs.Commands.Causes.{HaveCauses};
+ghost use Rattle.x86_cli.specs.Commands.Command.{Runs, goes_past_refusals};
 ghost use Rattle.x86_cli.specs.Commands.Complete.{CompletesTexts};
+ghost use Rattle.x86_cli.specs.Commands.Follows.{IsExact, HasReadFault, Completes};
 ghost use Rattle.x86_cli.specs.Listings.Listing.{LinesLeaveStatus};
 ghost use Rattle.x86_cli.specs.Text.Reading.{Gave};
 ghost use Rattle.x86_cli.specs.Commands.Make.{made_listing};
 ghost use Rattle.x86_cli.specs.Commands.Program.{Performs, PerformsMake, Has, Leaves};
 ghost use Rattle.x86_cli.specs.Commands.Run.{Took, Wrote};
-ghost use Rattle.x86_cli.specs.Commands.Says.{Makes};
+ghost use Rattle.x86_cli.specs.Commands.Says.{Makes, Says, Streams};
+ghost use Rattle.x86_cli.specs.Outside.FaultCounts.{Rose};
 ghost use Rattle.x86_cli.specs.Outside.Stop.{Stop};
 ghost use Rattle.x86_cli.specs.Outside.Told.{TellsGave, TellsTook};
 ghost use Rattle.x86_cli.specs.Text.Pairs.{SequencesAreSound, BadIsFirst};
@@ -56,31 +59,65 @@ pub fn values_are_equal()
     ensures statuses { (a b : Status) → IsTrue (⟦<Status as PartialEq>⟧.eq a b) ↔ (a ≡ b) }
 {}
 
-/// Where a command goes through the image of a clean text, its listing ends as done.
-pub fn complete()
-    ensures { CompletesTexts }
-{
-    decoder_laws();
-}
-
 /// What the calls of a run say, where the source tells its bytes and the sink what was written.
 pub fn told<S: Source, K: Sink>()
-    ensures source { (bytes : List ℕ) (stop : Option Stop) (a b : S) → Gave S.gives bytes stop a b
+    ensures source { (bytes : List ℕ) (stop : Option Stop) (a b : S)
+        → Gave S.gives bytes stop a b
         → TellsGave bytes stop (S.left a) (S.left b) (S.faults a) (S.faults b) }
-    ensures sink { (pieces : List (List ℕ)) (failed : Option (List ℕ)) (k l : K) → Took K.takes pieces failed k l
+    ensures sink { (pieces : List (List ℕ)) (failed : Option (List ℕ)) (k l : K)
+        → Took K.takes pieces failed k l
         → TellsTook pieces failed (K.written k) (K.written l) (K.faults k) (K.faults l) }
 {}
 
-/// A read fault comes only behind a call of the source that failed, and a write fault behind a put that failed.
+/// A read fault comes only after a call of the source that failed, and a write fault only after a put that failed.
 pub fn causes<S: Source, K: Sink>()
     ensures { HaveCauses S.gives K.takes }
 {}
 
 /// What a run of `make` says, where the sink tells what was written.
 pub fn made<K: Sink>()
-    ensures { (n : ℕ) (status : Status) (k l : K) → Wrote K.takes (made_listing n) status k l
+    ensures { (n : ℕ) (status : Status) (k l : K)
+        → Wrote K.takes (made_listing n) status k l
         → Makes n status (K.written k) (K.written l) (K.faults k) (K.faults l) }
 {}
+
+/// Where the source tells its bytes and neither count of faults rose, a run ends with a status exactly where the
+/// listing of all the bytes does.
+pub fn exact()
+    ensures { (c : Command) (status : Status) (old new : Streams)
+        → Says status c old new → IsExact status c old new }
+{}
+
+/// A read fault comes only where the source's count rose, and the listing of the bytes taken reaches it.
+pub fn read_faults()
+    ensures { (c : Command) (status : Status) (old new : Streams)
+        → Says status c old new → HasReadFault status c old new }
+{}
+
+/// A write fault comes only where the sink's count rose.
+pub fn write_faults()
+    ensures reads { (c : Command) (old new : Streams)
+        → Says Status.WriteFault c old new → Rose old.sink_faults new.sink_faults }
+    ensures made { (n : ℕ) (written later : Option (List ℕ)) (old new : ℕ)
+        → Makes n Status.WriteFault written later old new → Rose old new }
+{}
+
+/// `sweep` and `targets` are never refused.
+pub fn unrefused<S: Source, K: Sink>()
+    ensures { (c : Command) (status : Status) (a b : S) (k l : K)
+        → Runs S.gives K.takes c status a b k l → IsTrue (goes_past_refusals c)
+        → status ≢ Status.Refused }
+{}
+
+/// Where a command goes through the image of a clean text, its listing ends as done. So where the source tells such a
+/// text and neither count of faults rose, the run is done and has written the whole listing.
+pub fn complete()
+    ensures listing { CompletesTexts }
+    ensures run { (c : Command) (status : Status) (old new : Streams)
+        → Says status c old new → Completes status c old new }
+{
+    decoder_laws();
+}
 
 /// What `listed` leaves, where the reader tells the bytes that it has left and the writer the bytes that it has: the
 /// writer has what it had and then the listing of these bytes, or a prefix of that where a write failed.

@@ -18,9 +18,9 @@ use Rattle.x86_cli.proofs.TextLemmas.Text.{text-failed}
 use Rattle.x86_cli.proofs.CommandLemmas.Causes.{some_stop}
 use Rattle.x86_cli.proofs.ListingLemmas.Stands.{Stands, stands_step, ran_failed, ran_closed, ran_unclosed}
 
--- The bytes in front of what is left are those up to this place.
-abbrev pub reaches : ℕ → List ℕ → Type 0
-reaches place walked = length walked ≡ place
+-- the window of a run
+abbrev pub window : Option ℕ
+window = Some 15
 
 -- The image of a text is the same whatever stops it.
 image_same : (max : ℕ) (bytes : List ℕ) (s t : Stop) → (text_of max bytes s).image ≡ (text_of max bytes t).image
@@ -45,12 +45,12 @@ end_one Large = omega arith
 end_one Fault = omega arith
 
 module _ {S K : Type 0} (gives : S → Got → S → Type 0) (takes : K → List ℕ → Result ⊤ SinkFailed → K → Type 0) (at : ℕ → Text → Listing)
-    (max n : ℕ) (ended : Option Ending) (w : List ℕ) (p r : ℕ) (a b : S) (k l : K) (s : Stands gives takes at reaches max n ended w p r a b k l) where
+    (max n : ℕ) (ended : Option Ending) (w : List ℕ) (p r : ℕ) (a b : S) (k l : K) (s : Stands gives takes at window max n ended w p r a b k l) where
   pub stands_line : (x : List ℕ) (len : ℕ) → len ≤ length w →
       ((xs : List ℕ) (stop : Stop) → at n (rest_of ended w p r xs stop) ≡ with_lines (x ∷ []) (at (n + len) (rest_of ended (drop len w) p r xs stop))) →
-      (m : K) → takes l x (Ok tt) m → Stands gives takes at reaches max (n + len) ended (drop len w) p r a b k m
+      (m : K) → takes l x (Ok tt) m → Stands gives takes at window max (n + len) ended (drop len w) p r a b k m
   stands_line x len le step m put =
-      stands_step gives takes at reaches max n ended w p r a b k l s (x ∷ []) (n + len) (drop len w) step (take len w) (rest_split ended w len p r) (longer n len w le) m (m, put, refl)
+      stands_step gives takes at window max n ended w p r a b k l s (x ∷ []) (n + len) (drop len w) step (take len w) (rest_split ended w len p r) (longer n len w le) m (m, put, refl)
 
   image_given : (o : Option Ending) → ended ≡ o → (text_of max s.bytes Failed).image ≡ s.walked ++ w
   image_given None is =
@@ -70,9 +70,8 @@ module _ {S K : Type 0} (gives : S → Got → S → Type 0) (takes : K → List
     ahead : (lines last : List (List ℕ)) → lines ≡ s.lines ++ last → length last ≤ 1 → Ahead at (text_of max) s.bytes s.stop lines
     ahead lines last split one = record {
       walked = s.walked;
-      held = w;
-      taken = image_given ended refl;
-      few = few;
+      few = rw (image_given ended refl) (simp length-append (omega (arith, few)));
+      asked = s.asked;
       shown = s.lines;
       last = last;
       split = split;
@@ -85,13 +84,13 @@ module _ {S K : Type 0} (gives : S → Got → S → Type 0) (takes : K → List
 
     pub window_failed : (x : List ℕ) → ((xs : List ℕ) (stop : Stop) → (after : Listing) × (at n (rest_of ended w p r xs stop) ≡ with_lines (x ∷ []) after)) →
         (e : SinkFailed) (m : K) → takes l x (Err e) m → RanInWindow gives takes at max outcome.WriteFault a b k m
-    window_failed x front e m failed = (ran_failed gives takes at reaches max n ended w p r a b k l s x front e m failed, none_more)
+    window_failed x front e m failed = (ran_failed gives takes at window max n ended w p r a b k l s x front e m failed, none_more)
 
     pub window_closed : (last : Listing) → length last.lines ≤ 1 → ((xs : List ℕ) (stop : Stop) → at n (rest_of ended w p r xs stop) ≡ last) →
         (status : Status) (m : K) → Closes takes last (Ok status) l m → RanInWindow gives takes at max status a b k m
     window_closed last one is status m closes =
-        (ran_closed gives takes at reaches max n ended w p r a b k l s last is status m closes, ahead (s.lines ++ last.lines) last.lines refl one)
+        (ran_closed gives takes at window max n ended w p r a b k l s last is status m closes, ahead (s.lines ++ last.lines) last.lines refl one)
 
     pub window_unclosed : (last : Listing) → ((xs : List ℕ) (stop : Stop) → at n (rest_of ended w p r xs stop) ≡ last) →
         (e : SinkFailed) (m : K) → Closes takes last (Err e) l m → RanInWindow gives takes at max outcome.WriteFault a b k m
-    window_unclosed last is e m closes = (ran_unclosed gives takes at reaches max n ended w p r a b k l s last is e m closes, none_more)
+    window_unclosed last is e m closes = (ran_unclosed gives takes at window max n ended w p r a b k l s last is e m closes, none_more)

@@ -1,7 +1,7 @@
 -- What a run's status says of its causes.
 use Rattle.std.proofs.Common.{◌≡◌, ◌≢◌, ℕ, suc, zero, false, ◌+◌, ◌-◌, ◌<◌, ◌≤◌, Bool, List, [], ◌∷◌, ◌++◌, length, drop, Option, Some, None, Result, Ok, Err, refl, arith, ap, ◌∙◌, sym, length-append, take, true}
 use Rattle.std.proofs.Math.Seq.{drop-append_seam}
-use Rattle.std.specs.Prelude.{⊤}
+use Rattle.std.specs.Prelude.{IsTrue, ⊤}
 use Rattle.std.specs.List.{concat}
 use Rattle.x86_decode.specs.declared.instructions.Instruction.{Instruction}
 use Rattle.x86_fields.specs.declared.errors.DecodeError.{DecodeError}
@@ -24,11 +24,10 @@ use Rattle.x86_text.specs.Lines.{line_of}
 use Rattle.x86_text.specs.Parts.{fields_line}
 use Rattle.x86_cli.specs.Listings.Tighten.{least_text}
 use Rattle.x86_layout.specs.Tightening.Least.{shortest_length}
-use Rattle.x86_cli.specs.Commands.Command.{listing_for}
+use Rattle.x86_cli.specs.Commands.Command.{Runs, listing_for, goes_past_refusals}
 use Rattle.x86_cli.specs.Text.{Text, text_at, text_of, ending_by, bad_of, ends_in_half}
 use Rattle.x86_cli.specs.Text.Reading.{MayCome}
 use Rattle.x86_cli.specs.Listings.Listing.{Listing, at_end, front_of, judged, sure_of, listed, listing_from}
-use Rattle.x86_cli.specs.Listings.Sweep.{sweep_at}
 use Rattle.x86_cli.specs.Commands.Run.{Lists, Ran}
 use Rattle.x86_cli.specs.Commands.Causes.{HaveCauses}
 use Rattle.x86_cli.specs.Commands.Complete.{IsOneInstruction, AreSentences, CompletesTexts}
@@ -128,12 +127,20 @@ ran_used gives takes c max status a b k l ran =
     let s = some_stop ran.stop in
     lists_other Usage (λ e. cc) status ran.lines ran.failed _ (ran.lists [] s.0 s.1) (command_used c _)
 
--- no sweep is refused
-pub sweep_unrefused : {S K : Type 0} (gives : S → Got → S → Type 0) (takes : K → List ℕ → Result ⊤ SinkFailed → K → Type 0) (strict : Bool) (max : ℕ) (status : Status) (a b : S) (k l : K) →
-    Ran gives takes (sweep_at strict 0) max status a b k l → status ≢ outcome.Refused
-sweep_unrefused gives takes strict max status a b k l ran =
+-- Commands that go on after refusals are never refused.
+past_refusals : (c : Command) (t : Text) → IsTrue (goes_past_refusals c) → (listing_for c t).status ≢ outcome.Refused
+past_refusals (Listed strict) t goes = cc
+past_refusals Fielded t goes = cc
+past_refusals Tightened t goes = cc
+past_refusals Swept t goes = end_unrefused false t.ending _ refl
+past_refusals Targeted t goes = end_unrefused false t.ending _ refl
+
+pub ran_unrefused : {S K : Type 0} (gives : S → Got → S → Type 0) (takes : K → List ℕ → Result ⊤ SinkFailed → K → Type 0) (c : Command) (status : Status) (a b : S) (k l : K) →
+    Runs gives takes c status a b k l → IsTrue (goes_past_refusals c) → status ≢ outcome.Refused
+ran_unrefused gives takes c status a b k l runs goes =
+    let ran = runs.0 in
     let s = some_stop ran.stop in
-    lists_other outcome.Refused (λ e. cc) status ran.lines ran.failed _ (ran.lists [] s.0 s.1) (end_unrefused strict (text_of max (ran.bytes ++ []) s.0).ending _ refl)
+    lists_other outcome.Refused (λ e. cc) status ran.lines ran.failed _ (ran.lists [] s.0 s.1) (past_refusals c _ goes)
 
 lists_read : (lines : List (List ℕ)) (failed : Option (List ℕ)) (l : Listing) → Lists outcome.ReadFault lines failed l → l.status ≢ outcome.ReadFault → ⊥
 lists_read lines None l h ne = ne (ap (λ l. l.status) h)

@@ -13,7 +13,6 @@ use Rattle.x86_cli.specs.Outside.Stop.{Stop, End, Failed}
 use Rattle.x86_cli.specs.declared.commands.command.Command.{Command}
 use Rattle.x86_cli.specs.declared.listings.status.Status.{Status}
 use Rattle.x86_cli.specs.declared.listings.status.Status.TheVariants.{Done, Usage, Refused, BadText, ReadFault, WriteFault, TooLarge}
-use Rattle.x86_cli.specs.Outside.FaultCounts.{Rose}
 use Rattle.x86_cli.specs.Text.{Text, text_at, text_of, ending_by, bad_of, ends_in_half}
 use Rattle.x86_cli.specs.Listings.Listing.{Listing, at_end}
 use Rattle.x86_cli.specs.Commands.Command.{listing_for, max_of}
@@ -24,7 +23,8 @@ use Rattle.x86_cli.specs.Commands.Run.{Lists, Wrote, Ran}
 use Rattle.x86_cli.specs.Outside.Told.{TellsGave, TellsTook}
 use Rattle.x86_cli.specs.Commands.Make.{made_listing}
 use Rattle.x86_cli.specs.DecoderLaws.{DecoderLaws}
-use Rattle.x86_cli.specs.Commands.Says.{World, full_listing, taken_listing, Writes, WritesFront, FrontOfTaken, Makes, IsSound, Says, IsExact, HasReadFault, Completes}
+use Rattle.x86_cli.specs.Commands.Says.{Streams, streams_of, full_listing, taken_listing, Writes, WritesPrefix, OfAll, OfTaken, Makes, Says}
+use Rattle.x86_cli.specs.Commands.Follows.{IsSound, IsExact, HasReadFault, Completes}
 use Rattle.x86_cli.proofs.CommandLemmas.Causes.{command_never, some_stop, fault_stop, command_used, command_read, command_written, text_done}
 use Rattle.x86_cli.proofs.OutsideLemmas.Tells.{gave_tells, took_tells}
 use Rattle.x86_cli.proofs.CommandLemmas.Stay.{refused_stays}
@@ -98,9 +98,9 @@ asked_failed max bytes stop asked failed =
     asked_open (text_of max) bytes Failed a
 
 -- lines and what was written of one more are a front of a listing that has these lines
-front_written : (written written' : Option (List ℕ)) (l : Listing) (lines : List (List ℕ)) (failed : List ℕ) (more : List (List ℕ)) (n : ℕ) → l.lines ≡ lines ++ failed ∷ more →
-    Appends written written' (concat lines ++ take n failed) → WritesFront written written' l
-front_written written written' l lines failed more n is wrote =
+prefix_written : (written written' : Option (List ℕ)) (l : Listing) (lines : List (List ℕ)) (failed : List ℕ) (more : List (List ℕ)) (n : ℕ) → l.lines ≡ lines ++ failed ∷ more →
+    Appends written written' (concat lines ++ take n failed) → WritesPrefix written written' l
+prefix_written written written' l lines failed more n is wrote =
     let joined : concat l.lines ≡ concat lines ++ (failed ++ concat more) = ap concat is ∙ concat-append lines (failed ∷ more) in
     let divided : failed ++ concat more ≡ take n failed ++ (drop n failed ++ concat more) =
     ap (λ f. f ++ concat more) (sym (take-append-drop n failed)) ∙ append_assoc (take n failed) (drop n failed) (concat more) in
@@ -111,7 +111,7 @@ front_written written written' l lines failed more n is wrote =
       wrote = wrote;
     }
 
-module _ (laws : (strict : Bool) → DecoderLaws strict) (c : Command) (old new : World) (bytes : List ℕ) (stop : Option Stop)
+module _ (laws : (strict : Bool) → DecoderLaws strict) (c : Command) (old new : Streams) (bytes : List ℕ) (stop : Option Stop)
     (gave : TellsGave bytes stop old.left new.left old.source_faults new.source_faults)
     (fault : stop ≡ Some Failed → (text_of (max_of c) bytes Failed).ending ≡ Fault) where
   -- a run at which no put failed
@@ -162,7 +162,7 @@ module _ (laws : (strict : Bool) → DecoderLaws strict) (c : Command) (old new 
         let failed : stop ≡ Some Failed = fault_stop stop (λ may. command_read c (max_of c) (bytes ++ []) (ap (λ l. l.status) (lists [] End may))) in
         let P : Option Stop → Type 0 = λ s. TellsGave bytes s old.left new.left old.source_faults new.source_faults in
         let told : TellsGave bytes (Some Failed) old.left new.left old.source_faults new.source_faults = subst P failed gave in
-        (record { taken = bytes; takes = told.0; writes = writes ReadFault (taken_listing c bytes) (failed_listed ReadFault lists failed); cause = told.1 }, wrote.1)
+        (record { taken = bytes; takes = told.0; holds = writes ReadFault (taken_listing c bytes) (failed_listed ReadFault lists failed); cause = told.1 }, wrote.1)
 
     says_all : (status : Status) → status ≢ Usage → status ≢ WriteFault → AllListed status → Says status c old new
     says_all Done used written lists = says_done lists
@@ -176,24 +176,27 @@ module _ (laws : (strict : Bool) → DecoderLaws strict) (c : Command) (old new 
   -- a run at which a put failed
   module _ (lines : List (List ℕ)) (failed : List ℕ) (wrote : TellsTook lines (Some failed) old.written new.written old.sink_faults new.sink_faults)
       (lists : (xs : List ℕ) (s : Stop) → MayCome stop xs s → Lists WriteFault lines (Some failed) (listing_for c (text_of (max_of c) (bytes ++ xs) s))) where
-    fronts : (xs : List ℕ) (s : Stop) → MayCome stop xs s → WritesFront old.written new.written (listing_for c (text_of (max_of c) (bytes ++ xs) s))
-    fronts xs s may =
+    prefixes : (xs : List ℕ) (s : Stop) → MayCome stop xs s → WritesPrefix old.written new.written (listing_for c (text_of (max_of c) (bytes ++ xs) s))
+    prefixes xs s may =
         let l = lists xs s may in
-        front_written old.written new.written (listing_for c (text_of (max_of c) (bytes ++ xs) s)) lines failed l.1.0 wrote.0.0 l.1.1 wrote.0.1
+        prefix_written old.written new.written (listing_for c (text_of (max_of c) (bytes ++ xs) s)) lines failed l.1.0 wrote.0.0 l.1.1 wrote.0.1
 
-    full_or_taken : (p : Option Stop) → p ≡ stop → IfSome old.left (λ b. WritesFront old.written new.written (full_listing c b)) ⊎ FrontOfTaken c old new
+    abbrev IsPrefix : Listing → Type 0
+    IsPrefix = WritesPrefix old.written new.written
+
+    full_or_taken : (p : Option Stop) → p ≡ stop → OfAll IsPrefix c old ⊎ OfTaken IsPrefix c old new
     full_or_taken None is =
-        inl (given_of stop old.left new.left bytes old.source_faults new.source_faults (λ b. WritesFront old.written new.written (full_listing c b)) gave (λ xs may. fronts xs End may)
+        inl (given_of stop old.left new.left bytes old.source_faults new.source_faults (λ b. IsPrefix (full_listing c b)) gave (λ xs may. prefixes xs End may)
         (λ f. let g : None ≡ Some Failed = is ∙ f in cc))
     full_or_taken (Some End) is =
-        inl (given_of stop old.left new.left bytes old.source_faults new.source_faults (λ b. WritesFront old.written new.written (full_listing c b)) gave (λ xs may. fronts xs End may)
+        inl (given_of stop old.left new.left bytes old.source_faults new.source_faults (λ b. IsPrefix (full_listing c b)) gave (λ xs may. prefixes xs End may)
         (λ f. let g : Some End ≡ Some Failed = is ∙ f in cc))
     full_or_taken (Some Failed) is =
         let P : Option Stop → Type 0 = λ s. TellsGave bytes s old.left new.left old.source_faults new.source_faults in
         let told : TellsGave bytes (Some Failed) old.left new.left old.source_faults new.source_faults = subst P (sym is) gave in
         let may : MayCome stop [] Failed = rw (sym is) (refl, refl) in
-        let front : WritesFront old.written new.written (taken_listing c bytes) = rw append-nil at (fronts [] Failed may) in
-        inr (record { taken = bytes; takes = told.0; writes = front; cause = told.1 })
+        let part : IsPrefix (taken_listing c bytes) = rw append-nil at (prefixes [] Failed may) in
+        inr (record { taken = bytes; takes = told.0; holds = part; cause = told.1 })
 
     says_written : Says WriteFault c old new
     says_written = (wrote.1, full_or_taken stop refl)
@@ -217,13 +220,11 @@ pub ran_says : {S K : Type 0} (gives : S → Got → S → Type 0) (takes : K �
     ((s : S) (g : Got) (t : S) → gives s g t → TellsGot g (left s) (left t) (faults s) (faults t)) →
     ((s : K) (piece : List ℕ) (r : Result ⊤ SinkFailed) (t : K) → takes s piece r t → TellsPut r piece (written s) (written t) (others s) (others t)) →
     ((strict : Bool) → DecoderLaws strict) → (c : Command) (status : Status) (a b : S) (k l : K) → Ran gives takes (listing_for c) (max_of c) status a b k l →
-    Says status c (record { left = left a; source_faults = faults a; written = written k; sink_faults = others k })
-    (record { left = left b; source_faults = faults b; written = written l; sink_faults = others l })
+    Says status c (streams_of left faults written others a k) (streams_of left faults written others b l)
 ran_says gives takes left faults written others source sink laws c status a b k l ran =
     let gave = gave_tells gives left faults source ran.bytes ran.stop a b ran.gave in
     let took = took_tells takes written others sink ran.lines ran.failed k l ran.took in
-    says_by laws c (record { left = left a; source_faults = faults a; written = written k; sink_faults = others k })
-    (record { left = left b; source_faults = faults b; written = written l; sink_faults = others l }) ran.bytes ran.stop gave
+    says_by laws c (streams_of left faults written others a k) (streams_of left faults written others b l) ran.bytes ran.stop gave
     (asked_failed (max_of c) ran.bytes ran.stop ran.asked) status ran.lines ran.failed took ran.lists
 
 -- `make`
@@ -236,19 +237,13 @@ made_says n status lines None w w' faults faults' lists told =
     subst P (ap (λ l. l.status) lists) (subst Q (sym (ap (λ l. l.lines) lists)) told)
 made_says n status lines (Some failed) w w' faults faults' lists told =
     let P : Status → Type 0 = λ s. Makes n s w w' faults faults' in
-    subst P (sym lists.0) (told.1, front_written w w' (made_listing n) lines failed lists.1.0 told.0.0 lists.1.1 told.0.1)
+    subst P (sym lists.0) (told.1, prefix_written w w' (made_listing n) lines failed lists.1.0 told.0.0 lists.1.1 told.0.1)
 
 pub wrote_says : {K : Type 0} (takes : K → List ℕ → Result ⊤ SinkFailed → K → Type 0) (written : K → Option (List ℕ)) (others : K → ℕ) →
     ((s : K) (piece : List ℕ) (r : Result ⊤ SinkFailed) (t : K) → takes s piece r t → TellsPut r piece (written s) (written t) (others s) (others t)) →
     (n : ℕ) (status : Status) (k l : K) → Wrote takes (made_listing n) status k l → Makes n status (written k) (written l) (others k) (others l)
 wrote_says takes written others sink n status k l wrote =
     made_says n status wrote.lines wrote.failed (written k) (written l) (others k) (others l) wrote.lists (took_tells takes written others sink wrote.lines wrote.failed k l wrote.took)
-
-pub make_rose : (n : ℕ) (status : Status) (w w' : Option (List ℕ)) (faults faults' : ℕ) → Makes n status w w' faults faults' → status ≡ WriteFault → Rose faults faults'
-make_rose n status w w' faults faults' makes is =
-    let P : Status → Type 0 = λ s. Makes n s w w' faults faults' in
-    let fault : Makes n WriteFault w w' faults faults' = subst P is makes in
-    fault.0
 
 -- what follows
 
@@ -260,7 +255,7 @@ any_known : {Q : List ℕ → Type 0} (o : Option (List ℕ)) → ((b : List ℕ
 any_known None f = tt
 any_known (Some b) f = f b
 
-module _ (c : Command) (old new : World) where
+module _ (c : Command) (old new : Streams) where
   -- the whole listing, where neither count rose
   writes_all : (result : Status) → Says result c old new → IfSome old.left (λ b. IsSound old new → Writes result old new (full_listing c b))
   writes_all Done says = each_known old.left (λ b w _. w) says.0
@@ -278,10 +273,7 @@ module _ (c : Command) (old new : World) where
   has_read_fault result says e =
       let P : Status → Type 0 = λ s. Says s c old new in
       let h : Says ReadFault c old new = subst P e says in
-      (h.0.cause, (h.0.taken, h.0.takes, sym h.0.writes.0))
-
-  pub sink_rose : (result : Status) → Says result c old new → result ≡ WriteFault → Rose old.sink_faults new.sink_faults
-  sink_rose result says e = let P : Status → Type 0 = λ s. Says s c old new in let h : Says WriteFault c old new = subst P e says in h.0
+      (h.0.cause, (h.0.taken, h.0.takes, sym h.0.holds.0))
 
   pub completes : ((strict : Bool) → DecoderLaws strict) → (result : Status) → Says result c old new → Completes result c old new
   completes laws result says =

@@ -1,5 +1,5 @@
 -- What a reader's steps say of the whole text.
-use Rattle.std.proofs.Common.{◌≡◌, ℕ, suc, zero, ◌+◌, ◌*◌, ◌<◌, List, [], ◌∷◌, ◌++◌, refl, arith, Option, Some, None, true, false, ◌∙◌, subst, append_assoc, ap}
+use Rattle.std.proofs.Common.{◌≡◌, ℕ, suc, zero, ◌+◌, ◌*◌, ◌<◌, List, [], ◌∷◌, ◌++◌, refl, arith, Option, Some, None, true, false, ◌∙◌, subst, sym, append_assoc}
 use Rattle.x86_cli.specs.declared.outside.source.Got.{Got}
 use Rattle.x86_cli.specs.declared.outside.source.Got.TheVariants as got
 use Rattle.x86_cli.specs.declared.text.reader.Ending.TheVariants.{Clean, Bad, Large, Fault}
@@ -7,27 +7,34 @@ use Rattle.x86_cli.specs.Outside.Stop.{Stop, End, Failed}
 use Rattle.x86_cli.specs.declared.text.reader.Piece.{Piece}
 use Rattle.x86_cli.specs.declared.text.reader.Piece.TheVariants.{Byte, Stopped}
 use Rattle.x86_cli.specs.Text.{Text, is_blank, value_of, text_at}
-use Rattle.x86_cli.specs.Text.Reading.{HasNotEnded, Asked, Gave, Reads}
+use Rattle.x86_cli.specs.Text.Reading.{NeedsMore, AskedWhere, Gave, Reads}
 use Rattle.x86_cli.proofs.TextLemmas.Text.{text-end, text-failed, text-large, text-blank, text-bad, text-half, text-half_failed, text-half_large, text-half_bad, text-pair}
 
 -- what was asked, one after the other
-pub asked-asked : (text : List ℕ → Stop → Text) (u t : List ℕ) (stop : Option Stop) → Asked text u None → Asked (λ xs s. text (u ++ xs) s) t stop → Asked text (u ++ t) stop
-asked-asked text [] t stop e f = f
-asked-asked text (x ∷ u) t stop e f = (e.0, asked-asked (λ xs s. text (x ∷ xs) s) u t stop e.1 f)
+pub asked-asked : (Holds : Text → Type 0) (text : List ℕ → Stop → Text) (u t : List ℕ) (stop : Option Stop) →
+    AskedWhere Holds text u None → AskedWhere Holds (λ xs s. text (u ++ xs) s) t stop → AskedWhere Holds text (u ++ t) stop
+asked-asked Holds text [] t stop e f = f
+asked-asked Holds text (x ∷ u) t stop e f = (e.0, asked-asked Holds (λ xs s. text (x ∷ xs) s) u t stop e.1 f)
 
--- texts with the same ends ask the same
-pub asked-same : (text other : List ℕ → Stop → Text) (t : List ℕ) (stop : Option Stop) → ((xs : List ℕ) → (text xs Failed).ending ≡ (other xs Failed).ending) →
-    Asked other t stop → Asked text t stop
-asked-same text other [] None e a = tt
-asked-same text other [] (Some s) e a = e [] ∙ a
-asked-same text other (x ∷ t) stop e a = (e [] ∙ a.0, asked-same (λ xs s. text (x ∷ xs) s) (λ xs s. other (x ∷ xs) s) t stop (λ xs. e (x ∷ xs)) a.1)
+-- what was asked where one thing holds was asked where another does that follows
+pub asked-where : (Holds Follows : Text → Type 0) (other text : List ℕ → Stop → Text) (t : List ℕ) (stop : Option Stop) →
+    ((xs : List ℕ) → Holds (other xs Failed) → Follows (text xs Failed)) → AskedWhere Holds other t stop → AskedWhere Follows text t stop
+asked-where Holds Follows other text [] None e a = tt
+asked-where Holds Follows other text [] (Some s) e a = e [] a
+asked-where Holds Follows other text (x ∷ t) stop e a =
+    (e [] a.0, asked-where Holds Follows (λ xs s. other (x ∷ xs) s) (λ xs s. text (x ∷ xs) s) t stop (λ xs. e (x ∷ xs)) a.1)
 
--- a text that is just begun, and one of which half a pair came, are open
-open_new : (p r : ℕ) → HasNotEnded (text_at p r)
-open_new p r = ap (λ t. t.ending) (text-failed p r)
+-- of equal texts
+asked-same : (Holds : Text → Type 0) (other text : List ℕ → Stop → Text) (t : List ℕ) (stop : Option Stop) → ((xs : List ℕ) → text xs Failed ≡ other xs Failed) →
+    AskedWhere Holds other t stop → AskedWhere Holds text t stop
+asked-same Holds other text t stop e a = asked-where Holds Holds other text t stop (λ xs h. subst Holds (sym (e xs)) h) a
 
-open_half : (p r x v : ℕ) → is_blank x ≡ false → value_of x ≡ Some v → HasNotEnded (λ xs s. text_at p (suc r) (x ∷ xs) s)
-open_half p r x v blank digit = ap (λ t. t.ending) (text-half_failed p r x v blank digit)
+-- a text that is just begun, and one of which half a pair came, need more
+more_new : (p r : ℕ) → NeedsMore 1 (text_at p r [] Failed)
+more_new p r = rw (text-failed p r) (refl, omega arith)
+
+more_half : (p r x v : ℕ) → is_blank x ≡ false → value_of x ≡ Some v → NeedsMore 1 (text_at p (suc r) (x ∷ []) Failed)
+more_half p r x v blank digit = rw (text-half_failed p r x v blank digit) (refl, omega arith)
 
 module _ {S : Type 0} (gives : S → Got → S → Type 0) where
   -- calls, one after the other
@@ -39,7 +46,7 @@ module _ {S : Type 0} (gives : S → Got → S → Type 0) where
   pub record Skips (position room position' room' : ℕ) (old new : S) : Type 0 where
     pub bytes : List ℕ
     pub gave : Gave gives bytes None old new
-    pub asked : Asked (text_at position room) bytes None
+    pub asked : AskedWhere (NeedsMore 1) (text_at position room) bytes None
     pub same : (xs : List ℕ) (stop : Stop) → text_at position room (bytes ++ xs) stop ≡ text_at position' room' xs stop
 
   pub skips_none : (p r : ℕ) (a : S) → Skips p r p r a a
@@ -50,8 +57,8 @@ module _ {S : Type 0} (gives : S → Got → S → Type 0) where
   skips_blank p r q s q' s' x a b d before e blank eq es = record {
     bytes = before.bytes ++ x ∷ [];
     gave = gave-gave before.bytes (x ∷ []) None a b d before.gave (d, e, refl);
-    asked = asked-asked (text_at p r) before.bytes (x ∷ []) None before.asked
-        (asked-same (λ xs s. text_at p r (before.bytes ++ xs) s) (text_at q s) (x ∷ []) None (λ xs. ap (λ t. t.ending) (before.same xs Failed)) (open_new q s, tt));
+    asked = asked-asked (NeedsMore 1) (text_at p r) before.bytes (x ∷ []) None before.asked
+        (asked-same (NeedsMore 1) (text_at q s) (λ xs s. text_at p r (before.bytes ++ xs) s) (x ∷ []) None (λ xs. before.same xs Failed) (more_new q s, tt));
     same = λ xs stop.
         let room : s ≡ suc s' = omega arith in
         rw append_assoc (before.same (x ∷ xs) stop ∙ rw (room, eq) (text-blank q s' x xs stop blank));
@@ -63,8 +70,8 @@ module _ {S : Type 0} (gives : S → Got → S → Type 0) where
     bytes = before.bytes ++ read.bytes;
     stop = read.stop;
     gave = gave-gave before.bytes read.bytes read.stop a b d before.gave read.gave;
-    asked = asked-asked (text_at p r) before.bytes read.bytes read.stop before.asked
-        (asked-same (λ xs s. text_at p r (before.bytes ++ xs) s) (text_at q s) read.bytes read.stop (λ xs. ap (λ t. t.ending) (before.same xs Failed)) read.asked);
+    asked = asked-asked (NeedsMore 1) (text_at p r) before.bytes read.bytes read.stop before.asked
+        (asked-same (NeedsMore 1) (text_at q s) (λ xs s. text_at p r (before.bytes ++ xs) s) read.bytes read.stop (λ xs. before.same xs Failed) read.asked);
     goes_on = read.goes_on;
     tells = λ xs stop may. rw append_assoc (before.same (read.bytes ++ xs) stop ∙ read.tells xs stop may);
   }
@@ -72,17 +79,17 @@ module _ {S : Type 0} (gives : S → Got → S → Type 0) where
   -- the ends at a piece's first byte
 
   pub reads_end : (p r : ℕ) (a b : S) → gives a got.End b → Reads gives (Stopped Clean) p r p r a b
-  reads_end p r a b e = record { bytes = []; stop = Some End; gave = e; asked = open_new p r; goes_on = tt; tells = λ xs stop may. rw (may.0, may.1) (text-end p r) }
+  reads_end p r a b e = record { bytes = []; stop = Some End; gave = e; asked = more_new p r; goes_on = tt; tells = λ xs stop may. rw (may.0, may.1) (text-end p r) }
 
   pub reads_failed : (p r : ℕ) (a b : S) → gives a got.Failed b → Reads gives (Stopped Fault) p r p r a b
-  reads_failed p r a b e = record { bytes = []; stop = Some Failed; gave = e; asked = open_new p r; goes_on = tt; tells = λ xs stop may. rw (may.0, may.1) (text-failed p r) }
+  reads_failed p r a b e = record { bytes = []; stop = Some Failed; gave = e; asked = more_new p r; goes_on = tt; tells = λ xs stop may. rw (may.0, may.1) (text-failed p r) }
 
   pub reads_large : (p r x : ℕ) (a b : S) → r ≡ 0 → gives a (got.Byte x) b → Reads gives (Stopped Large) p r p r a b
   reads_large p r x a b none e = record {
     bytes = x ∷ [];
     stop = None;
     gave = (b, e, refl);
-    asked = (open_new p r, tt);
+    asked = (more_new p r, tt);
     goes_on = tt;
     tells = λ xs stop may. rw none (text-large p x xs stop);
   }
@@ -93,7 +100,7 @@ module _ {S : Type 0} (gives : S → Got → S → Type 0) where
     bytes = x ∷ [];
     stop = None;
     gave = (b, e, refl);
-    asked = (open_new p (suc r), tt);
+    asked = (more_new p (suc r), tt);
     goes_on = tt;
     tells = λ xs stop may. text-bad p r x xs stop blank digit;
   }
@@ -112,7 +119,7 @@ module _ {S : Type 0} (gives : S → Got → S → Type 0) where
     bytes = x ∷ [];
     stop = Some End;
     gave = (b, behind.gave, e);
-    asked = (open_new p r, let room : r ≡ suc s = omega (arith, behind.room) in rw room (open_half p s x v behind.blank behind.digit));
+    asked = (more_new p r, let room : r ≡ suc s = omega (arith, behind.room) in rw room (more_half p s x v behind.blank behind.digit));
     goes_on = tt;
     tells = λ xs stop may.
         let room : r ≡ suc s = omega (arith, behind.room) in rw (may.0, may.1, room, behind.position) (text-half p s x v behind.blank behind.digit);
@@ -123,7 +130,7 @@ module _ {S : Type 0} (gives : S → Got → S → Type 0) where
     bytes = x ∷ [];
     stop = Some Failed;
     gave = (b, behind.gave, e);
-    asked = (open_new p r, let room : r ≡ suc s = omega (arith, behind.room) in rw room (open_half p s x v behind.blank behind.digit));
+    asked = (more_new p r, let room : r ≡ suc s = omega (arith, behind.room) in rw room (more_half p s x v behind.blank behind.digit));
     goes_on = tt;
     tells = λ xs stop may.
         let room : r ≡ suc s = omega (arith, behind.room) in rw (may.0, may.1, room) (text-half_failed p s x v behind.blank behind.digit);
@@ -134,7 +141,7 @@ module _ {S : Type 0} (gives : S → Got → S → Type 0) where
     bytes = x ∷ y ∷ [];
     stop = None;
     gave = (b, behind.gave, (d, e, refl));
-    asked = (open_new p (r), (let room : r ≡ suc (s) = omega (arith, behind.room) in rw room (open_half p (s) x v behind.blank behind.digit), tt));
+    asked = (more_new p (r), (let room : r ≡ suc (s) = omega (arith, behind.room) in rw room (more_half p (s) x v behind.blank behind.digit), tt));
     goes_on = tt;
     tells = λ xs stop may. let room : r ≡ 1 = omega (arith, behind.room) in rw room (text-half_large p x y v xs stop behind.blank behind.digit);
   }
@@ -145,7 +152,7 @@ module _ {S : Type 0} (gives : S → Got → S → Type 0) where
     bytes = x ∷ y ∷ [];
     stop = None;
     gave = (b, behind.gave, (d, e, refl));
-    asked = (open_new p (r), (let room : r ≡ suc (suc s) = omega (arith, behind.room) in rw room (open_half p (suc s) x v behind.blank behind.digit), tt));
+    asked = (more_new p (r), (let room : r ≡ suc (suc s) = omega (arith, behind.room) in rw room (more_half p (suc s) x v behind.blank behind.digit), tt));
     goes_on = tt;
     tells = λ xs stop may.
         let room : r ≡ suc (suc s) = omega (arith, behind.room) in rw (room, behind.position) (text-half_bad p s x y v xs stop behind.blank behind.digit digit);
@@ -157,7 +164,7 @@ module _ {S : Type 0} (gives : S → Got → S → Type 0) where
     bytes = x ∷ y ∷ [];
     stop = None;
     gave = (b, behind.gave, (d, e, refl));
-    asked = (open_new p (r), (let room : r ≡ suc (s) = omega (arith, behind.room) in rw room (open_half p (s) x v behind.blank behind.digit), tt));
+    asked = (more_new p (r), (let room : r ≡ suc (s) = omega (arith, behind.room) in rw room (more_half p (s) x v behind.blank behind.digit), tt));
     goes_on = refl;
     tells = λ xs stop may.
         let room : r ≡ suc (suc s') = omega (arith, behind.room) in

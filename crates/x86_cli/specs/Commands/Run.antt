@@ -1,12 +1,12 @@
 -- A run by its calls.
-use Rattle.std.specs.Prelude.{◌≡◌, ◌≤◌, ℕ, List, [], ◌∷◌, ◌++◌, length, Option, Some, None, Result, Ok, Err, ⊤}
+use Rattle.std.specs.Prelude.{◌≡◌, ◌≤◌, ◌+◌, ℕ, List, [], ◌∷◌, ◌++◌, length, Option, Some, None, Result, Ok, Err, ⊤}
 use Rattle.x86_cli.specs.declared.outside.source.Got.{Got}
 use Rattle.x86_cli.specs.declared.outside.sink.SinkFailed.{SinkFailed}
 use Rattle.x86_cli.specs.Outside.Stop.{Stop, Failed}
 use Rattle.x86_cli.specs.declared.listings.status.Status.{Status}
 use Rattle.x86_cli.specs.declared.listings.status.Status.TheVariants.{WriteFault}
 use Rattle.x86_cli.specs.Text.{Text, text_of}
-use Rattle.x86_cli.specs.Text.Reading.{Gave, Asked, MayCome}
+use Rattle.x86_cli.specs.Text.Reading.{Gave, Asked, AskedWhere, NeedsMore, MayCome}
 use Rattle.x86_cli.specs.Listings.Listing.{Listing, with_lines}
 use Rattle.x86_cli.specs.Text.Window.{behind}
 
@@ -47,14 +47,15 @@ pub record Ran {S K : Type 0} (gives : S → Got → S → Type 0) (takes : K �
   pub took : Took takes lines failed sink sink'
   pub lists : (xs : List ℕ) (s : Stop) → MayCome stop xs s → Lists status lines failed (listing (text_of max (bytes ++ xs) s))
 
--- How far ahead of its lines a run reads: the image that the source gave is what the lines walked, up to their place,
--- and at most 15 bytes more. Of every text that begins with what was given, the listing is the lines shown, and then
--- that of the rest from this place on. At most one line is put behind them: a refusal's or an end's.
+-- How far ahead of its lines a run reads. The lines shown are those of the bytes walked: every text that begins with
+-- what the source gave has these bytes at the front of its image, and its listing is these lines and then that of the
+-- rest. At most one line is put after them, a refusal's or an end's. The image of what was given has at most 15 bytes
+-- more, and had fewer at each call of the source, which the text had not ended. This holds of every sink, also of one
+-- that fails at a line: so each line is put before more is read.
 pub record Ahead (at : ℕ → Text → Listing) (text : List ℕ → Stop → Text) (bytes : List ℕ) (stop : Option Stop) (lines : List (List ℕ)) : Type 0 where
   pub walked : List ℕ
-  pub held : List ℕ
-  pub taken : (text bytes Failed).image ≡ walked ++ held
-  pub few : length held ≤ 15
+  pub few : length (text bytes Failed).image ≤ length walked + 15
+  pub asked : AskedWhere (NeedsMore (length walked + 15)) text bytes stop
   pub shown : List (List ℕ)
   pub last : List (List ℕ)
   pub split : lines ≡ shown ++ last

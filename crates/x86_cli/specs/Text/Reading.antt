@@ -1,5 +1,5 @@
 -- What reading a text says of every text that begins so.
-use Rattle.std.specs.Prelude.{◌≡◌, ℕ, ◌+◌, ◌≤◌, List, [], ◌∷◌, ◌++◌, Option, Some, None, ⊤}
+use Rattle.std.specs.Prelude.{◌≡◌, ℕ, ◌+◌, ◌<◌, ◌≤◌, List, [], ◌∷◌, ◌++◌, length, Option, Some, None, ⊤}
 use Rattle.x86_cli.specs.declared.outside.source.Got.{Got}
 use Rattle.x86_cli.specs.declared.outside.source.Got.TheVariants as got
 use Rattle.x86_cli.specs.declared.text.reader.Ending.{Ending}
@@ -41,15 +41,28 @@ abbrev pub UsesRoom : Piece → ℕ → ℕ → Type 0
 UsesRoom (Byte v) old new = new + 2 ≤ old
 UsesRoom (Stopped e) old new = new ≤ old
 
+-- A text whose source failed has not ended before: the failure is a fault.
+abbrev pub IsOpen : Text → Type 0
+IsOpen t = t.ending ≡ Fault
+
+-- The same, and its image has fewer than k bytes.
+abbrev pub NeedsMore : ℕ → Text → Type 0
+NeedsMore k t = IsOpen t × (length t.image < k)
+
 -- The bytes given so far had not ended their text: a failure in place of the next would be a fault.
 abbrev pub HasNotEnded : (List ℕ → Stop → Text) → Type 0
-HasNotEnded text = (text [] Failed).ending ≡ Fault
+HasNotEnded text = IsOpen (text [] Failed)
 
--- Each of these bytes, and the stop where there is one, was asked of an open text.
+-- Each of these bytes, and the stop where there is one, was asked where this holds of the text of those before it, with
+-- a failure in place of the next.
+abbrev pub AskedWhere : (Text → Type 0) → (List ℕ → Stop → Text) → List ℕ → Option Stop → Type 0
+AskedWhere Holds text [] None = ⊤
+AskedWhere Holds text [] (Some stop) = Holds (text [] Failed)
+AskedWhere Holds text (b ∷ bs) stop = Holds (text [] Failed) × AskedWhere Holds (λ xs s. text (b ∷ xs) s) bs stop
+
+-- Each was asked of an open text.
 abbrev pub Asked : (List ℕ → Stop → Text) → List ℕ → Option Stop → Type 0
-Asked text [] None = ⊤
-Asked text [] (Some stop) = HasNotEnded text
-Asked text (b ∷ bs) stop = HasNotEnded text × Asked (λ xs s. text (b ∷ xs) s) bs stop
+Asked text bytes stop = AskedWhere IsOpen text bytes stop
 
 -- gives s g t: a call at s may answer g, and leave t
 module _ {S : Type 0} (gives : S → Got → S → Type 0) where
@@ -64,6 +77,6 @@ module _ {S : Type 0} (gives : S → Got → S → Type 0) where
     pub bytes : List ℕ
     pub stop : Option Stop
     pub gave : Gave bytes stop old new
-    pub asked : Asked (text_at position room) bytes stop
+    pub asked : AskedWhere (NeedsMore 1) (text_at position room) bytes stop
     pub goes_on : GoesOn result stop
     pub tells : (xs : List ℕ) (s : Stop) → MayCome stop xs s → text_at position room (bytes ++ xs) s ≡ in_front result (text_at position' room' xs s)

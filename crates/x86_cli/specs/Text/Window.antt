@@ -1,7 +1,7 @@
 -- What a window has taken, and what it shows.
 use Rattle.std.specs.Prelude.{Bool, ◌≡◌, ◌≢◌, ℕ, ◌<◌, ◌≤◌, List, ◌++◌, length, Option, Some, None, ⊤}
 use Rattle.x86_cli.specs.declared.outside.source.Got.{Got}
-use Rattle.x86_cli.specs.Text.Reading.{Gave, Asked, MayCome}
+use Rattle.x86_cli.specs.Text.Reading.{Gave, AskedWhere, MayCome}
 use Rattle.x86_decode.specs.declared.instructions.Instruction.{Instruction}
 use Rattle.x86_fields.specs.declared.errors.DecodeError.TheVariants.{ExhaustedInput}
 use Rattle.x86_decode.specs.Instruction.{length_of}
@@ -27,12 +27,14 @@ abbrev pub Open : Option Ending → Option Stop → Type 0
 Open None stop = stop ≡ None
 Open (Some e) stop = ⊤
 
--- What taking bytes into the window keeps: the text that is left, for all that may come.
-pub record Fills {S : Type 0} (gives : S → Got → S → Type 0) (old : List ℕ → Stop → Text) (ended : Option Ending) (window : List ℕ) (position room : ℕ) (before after : S) : Type 0 where
+-- What taking bytes into the window keeps: the text that is left, for all that may come. Each call was made where this
+-- holds of the text so far, with the window's bytes at its front.
+pub record Fills {S : Type 0} (gives : S → Got → S → Type 0) (Holds : Text → Type 0) (old : List ℕ → Stop → Text)
+    (ended : Option Ending) (window : List ℕ) (position room : ℕ) (before after : S) : Type 0 where
   pub bytes : List ℕ
   pub stop : Option Stop
   pub gave : Gave gives bytes stop before after
-  pub asked : Asked old bytes stop
+  pub asked : AskedWhere Holds old bytes stop
   pub goes_on : Open ended stop
   pub rest : (xs : List ℕ) (s : Stop) → MayCome stop xs s → old (bytes ++ xs) s ≡ rest_of ended window position room xs s
 

@@ -1,12 +1,11 @@
 //! Commands, and what each of them writes.
 
 ghost use Rattle.x86_decode.specs.Decoder.{is_strict};
-ghost use Rattle.std.specs.Prelude.{◌≡◌, ◌≢◌, ◌↔◌, ℕ, IsTrue, IfSome, Some, None, map, string_bytes};
-ghost use Rattle.x86_cli.specs.Outside.FaultCounts.{Rose};
-ghost use Rattle.x86_cli.specs.Commands.Command.{command_by, command_of, IfCommand, Runs, goes_past_refusals};
+ghost use Rattle.std.specs.Prelude.{◌≡◌, ◌↔◌, ℕ, IfSome, Some, None, map, string_bytes};
+ghost use Rattle.x86_cli.specs.Commands.Command.{command_by, command_of, IfCommand, Runs};
 ghost use Rattle.x86_cli.specs.Commands.Make.{IsMake, IsNoCommand, made_listing};
 ghost use Rattle.x86_cli.specs.Commands.Run.{Wrote};
-ghost use Rattle.x86_cli.specs.Commands.Says.{Sees, Says, IsExact, HasReadFault, Completes};
+ghost use Rattle.x86_cli.specs.Commands.Says.{Says, streams_of};
 
 use crate::commands::make::{count_from, make};
 use crate::laws::decoder_laws;
@@ -93,8 +92,7 @@ fn decoder(strict: bool) -> InstDecoder
 }
 
 fn obey<S: Source, K: Sink>(command: Command, source: &mut S, sink: &mut K) -> Status
-    ensures ran { Runs S.gives K.takes command result source.old source.new sink.old sink.new }
-    ensures unrefused { IsTrue (goes_past_refusals command) → result ≢ Status.Refused }
+    ensures { Runs S.gives K.takes command result source.old source.new sink.old sink.new }
 {
     match command {
         Command::List { strict } => list(
@@ -123,21 +121,36 @@ fn obey<S: Source, K: Sink>(command: Command, source: &mut S, sink: &mut K) -> S
     }
 }
 
-/// Does what the arguments say. `list`, `list --strict`, `fields`, `tighten`, `sweep` and `targets` read a hex text
-/// from the source, at most `TEXT_MAX` bytes of it (`TARGETS_MAX` for `targets`), and write its listing to the sink, a
-/// call of `put` for each line.
+/// Does what the words say, and returns how that ended.
+///
+/// `list`, `list --strict`, `fields`, `tighten`, `sweep` and `targets` read a hex text from the source, at most
+/// `TEXT_MAX` bytes of it (`TARGETS_MAX` for `targets`), and put its listing to the sink, a call for each line. `make`
+/// with a number from 1 to `MAKE_MAX` reads nothing and puts one line.
+///
+/// - `Done`: the source was read to its end, and the whole listing was put.
+/// - `Usage`: the words are no command. Nothing was read or put.
+/// - `Refused`: the whole listing was put; it ends in the line of a refusal. `sweep` and `targets` never end so.
+/// - `BadText`: the whole listing was put; its last line has the position of a byte that can't be where it is.
+/// - `ReadFault`: the source failed. The listing of the bytes taken before was put; its last line is `read fault`.
+/// - `WriteFault`: the sink failed at the last put. What was written is a prefix of the listing.
+/// - `TooLarge`: the whole listing was put, of the bytes that may be read; its last line is `text too long`.
+///
+/// `ran` and `made` hold for every source and sink and name each call; `says` is about what these tell. What follows
+/// from the clauses is a law: `laws::told` and `made` (what calls say of bytes and faults), `causes`, `read_faults` and
+/// `write_faults` (what a fault comes from), `exact` and `unrefused` (where a status comes), `complete` (where all is
+/// listed).
 pub fn run<S: Source, K: Sink>(words: &[String], source: &mut S, sink: &mut K) -> Status
-    ensures ran { IfCommand words.now (λ c. Runs S.gives K.takes c result source.old source.new sink.old sink.new) }
-    ensures made { (n : ℕ) → IsMake (map string_bytes words.now) n → Wrote K.takes (made_listing n) result sink.old sink.new }
+    ensures ran { IfCommand words.now (λ c.
+        Runs S.gives K.takes c result source.old source.new sink.old sink.new) }
+    ensures made { (n : ℕ) → IsMake (map string_bytes words.now) n
+        → Wrote K.takes (made_listing n) result sink.old sink.new }
     ensures usage { (result ≡ Status.Usage) ↔ IsNoCommand (map string_bytes words.now) }
-    ensures reads_nothing { command_of (map string_bytes words.now) ≡ None → source.new ≡ source.old }
+    ensures reads_nothing { command_of (map string_bytes words.now) ≡ None
+        → source.new ≡ source.old }
     ensures writes_nothing { result ≡ Status.Usage → sink.new ≡ sink.old }
-    ensures says { Sees words.now (Says result) S.left S.faults K.written K.faults source.old source.new sink.old sink.new }
-    ensures exact { Sees words.now (IsExact result) S.left S.faults K.written K.faults source.old source.new sink.old sink.new }
-    ensures unrefused { IfCommand words.now (λ c. IsTrue (goes_past_refusals c) → result ≢ Status.Refused) }
-    ensures read_fault { Sees words.now (HasReadFault result) S.left S.faults K.written K.faults source.old source.new sink.old sink.new }
-    ensures write_fault { result ≡ Status.WriteFault → Rose (K.faults sink.old) (K.faults sink.new) }
-    ensures complete { Sees words.now (Completes result) S.left S.faults K.written K.faults source.old source.new sink.old sink.new }
+    ensures says { IfCommand words.now (λ c. Says result c
+        (streams_of S.left S.faults K.written K.faults source.old sink.old)
+        (streams_of S.left S.faults K.written K.faults source.new sink.new)) }
 {
     decoder_laws();
     match command_of(words) {

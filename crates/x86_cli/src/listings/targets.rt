@@ -1,12 +1,13 @@
 //! The places that the instructions of a sweep branch to.
 
 ghost use Rattle.x86_decode.specs.Decoder.{is_strict};
-ghost use Rattle.std.specs.Prelude.{◌≡◌, ◌≢◌, ℕ, ◌*◌, ◌<◌, ◌≤◌, length, slice_index_or, true, false, decimal, None, Some, Err, OnOk, IfErr};
+ghost use Rattle.std.specs.Prelude.{◌≡◌, ℕ, ◌*◌, ◌<◌, ◌≤◌, length, slice_index_or, true, false, decimal, None, Some, Err, OnOk, IfErr};
 ghost use Rattle.x86_cli.specs.Text.{text_of};
 ghost use Rattle.arrayvec.specs.ArrayVec.{array_vec_len};
 ghost use Rattle.x86_layout.specs.Sweeps.Marks.{is_marked};
 ghost use Rattle.x86_cli.specs.Commands.Run.{Ran, Took};
 ghost use Rattle.x86_cli.specs.Listings.Targets.{place_line, lines_if, targets_at};
+ghost use Rattle.x86_cli.specs.Text.Reading.{IsOpen};
 ghost use Rattle.x86_cli.specs.Text.Window.{Fills};
 
 use crate::listings::listing::{end, put_line};
@@ -32,7 +33,7 @@ struct HeldText {
 /// Reads a text to its end. Each byte of the image takes at least two bytes of text.
 fn read_whole<S: Source>(max: u64, source: &mut S) -> HeldText
     requires { max ≤ 2 * IMAGE_MAX }
-    ensures { Fills S.gives (text_of max) (Some result.ending) result.image.items 0 0 source.old source.new }
+    ensures { Fills S.gives IsOpen (text_of max) (Some result.ending) result.image.items 0 0 source.old source.new }
 {
     let mut image = ArrayVec::new();
     let mut reader = TextReader::new(max);
@@ -82,8 +83,7 @@ pub fn targets<S: Source, K: Sink>(
     sink: &mut K,
 ) -> Status
     requires { max ≤ 2 * IMAGE_MAX }
-    ensures ran { Ran S.gives K.takes (targets_at (is_strict decoder.now) 0) max result source.old source.new sink.old sink.new }
-    ensures unrefused { result ≢ Status.Refused }
+    ensures { Ran S.gives K.takes (targets_at (is_strict decoder.now) 0) max result source.old source.new sink.old sink.new }
 {
     let text = read_whole(max, source);
     let image = text.image.as_slice();

@@ -7,6 +7,7 @@ ghost use Rattle.x86_decode.specs.Decoder.{is_strict};
 ghost use Rattle.x86_decode.specs.declared.instructions.Instruction.{Instruction};
 ghost use Rattle.x86_decode.specs.Instruction.{holding};
 ghost use Rattle.x86_cli.specs.Listings.Listing.{front_of, judged, sure_of};
+ghost use Rattle.x86_cli.specs.Text.Reading.{NeedsMore};
 ghost use Rattle.x86_cli.specs.Text.Window.{rest_of, front_with, Fills, Shows};
 
 use crate::laws::decoder_laws;
@@ -74,8 +75,10 @@ impl Window {
     /// Takes bytes of the image until the window is full or the text has ended.
     pub fn fill<S: Source>(&mut self, source: &mut S)
         requires { self.old.ended ≡ None }
-        ensures fills { Fills S.gives (rest_of None self.old.bytes.items self.old.reader.position self.old.reader.room)
-            self.new.ended self.new.bytes.items self.new.reader.position self.new.reader.room source.old source.new }
+        ensures fills { Fills S.gives (NeedsMore 15)
+            (rest_of None self.old.bytes.items self.old.reader.position self.old.reader.room)
+            self.new.ended self.new.bytes.items self.new.reader.position self.new.reader.room
+            source.old source.new }
         ensures few { array_vec_len self.new.bytes ≤ 15 }
         ensures full { self.new.ended ≡ None → array_vec_len self.new.bytes ≡ 15 }
         ensures uses { array_vec_len self.new.bytes + self.new.reader.room ≤ array_vec_len self.old.bytes + self.old.reader.room }
@@ -98,8 +101,10 @@ impl Window {
     /// The same, where the text may have ended.
     pub fn refill<S: Source>(&mut self, source: &mut S)
         ensures cases { MatchOption self.old.ended
-            (Fills S.gives (rest_of None self.old.bytes.items self.old.reader.position self.old.reader.room)
-            self.new.ended self.new.bytes.items self.new.reader.position self.new.reader.room source.old source.new)
+            (Fills S.gives (NeedsMore 15)
+            (rest_of None self.old.bytes.items self.old.reader.position self.old.reader.room)
+            self.new.ended self.new.bytes.items self.new.reader.position self.new.reader.room
+            source.old source.new)
             (λ e. (self.new ≡ self.old) × (source.new ≡ source.old)) }
         ensures full { self.new.ended ≡ None → array_vec_len self.new.bytes ≡ 15 }
         ensures few { array_vec_len self.old.bytes ≤ 15 → array_vec_len self.new.bytes ≤ 15 }

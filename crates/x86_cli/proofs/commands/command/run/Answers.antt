@@ -2,7 +2,7 @@ use Rattle.std.proofs.Common.{◌≡◌, ◌≢◌, ◌∙◌, sym, Option, Some
 use Rattle.x86_cli.specs.declared.commands.command.Command.{Command}
 use Rattle.x86_cli.specs.declared.listings.status.Status.TheVariants.{Usage}
 use Rattle.x86_cli.proofs.CommandLemmas.Causes.{ran_used}
-use Rattle.x86_cli.proofs.CommandLemmas.Says.{ran_says, wrote_says, make_rose, exact, has_read_fault, sink_rose, completes}
+use Rattle.x86_cli.proofs.CommandLemmas.Says.{ran_says}
 use Rattle.x86_cli.proofs.commands.command.run.Goals as goal
 
 no_command : (a b : Option Command) (c : Command) → a ≡ b → a ≡ Some c → b ≡ None → ⊥
@@ -10,46 +10,17 @@ no_command a b c same is none = let e : Some c ≡ None = sym is ∙ same ∙ no
 
 pub returns-in-Some-clause-usage : goal.returns-in-Some-clause-usage
 returns-in-Some-clause-usage g c =
-    let used : c.obey.result ≢ Usage = ran_used g.S.Source.gives g.K.Sink.takes c.in-Some.command _ _ _ _ _ _ c.obey.ensures.ran.0 in
+    let used : c.obey.result ≢ Usage = ran_used g.S.Source.gives g.K.Sink.takes c.in-Some.command _ _ _ _ _ _ c.obey.ensures.0 in
     (λ e. absurd (used e), λ no. absurd (no_command _ _ _ c.command_of.ensures c.in-Some.is no.0))
 
 pub returns-in-Some-clause-reads_nothing : goal.returns-in-Some-clause-reads_nothing
 returns-in-Some-clause-reads_nothing g c none = absurd (no_command _ _ _ c.command_of.ensures c.in-Some.is none)
 
 pub returns-in-Some-clause-writes_nothing : goal.returns-in-Some-clause-writes_nothing
-returns-in-Some-clause-writes_nothing g c e = absurd (ran_used g.S.Source.gives g.K.Sink.takes c.in-Some.command _ _ _ _ _ _ c.obey.ensures.ran.0 e)
+returns-in-Some-clause-writes_nothing g c e = absurd (ran_used g.S.Source.gives g.K.Sink.takes c.in-Some.command _ _ _ _ _ _ c.obey.ensures.0 e)
 
 pub returns-in-Some-clause-says : goal.returns-in-Some-clause-says
 returns-in-Some-clause-says g c =
     rw (sym c.command_of.ensures ∙ c.in-Some.is)
     (ran_says g.S.Source.gives g.K.Sink.takes g.S.Source.left g.S.Source.faults g.K.Sink.written g.K.Sink.faults g.met.S.Source.tells g.met.K.Sink.tells
-    c.decoder_laws.ensures c.in-Some.command _ _ _ _ _ c.obey.ensures.ran.0)
-
-pub returns-in-Some-clause-exact : goal.returns-in-Some-clause-exact
-returns-in-Some-clause-exact g c =
-    rw (sym c.command_of.ensures ∙ c.in-Some.is) (exact c.in-Some.command _ _ _
-    (ran_says g.S.Source.gives g.K.Sink.takes g.S.Source.left g.S.Source.faults g.K.Sink.written g.K.Sink.faults g.met.S.Source.tells g.met.K.Sink.tells
-    c.decoder_laws.ensures c.in-Some.command _ _ _ _ _ c.obey.ensures.ran.0))
-
-pub returns-in-Some-clause-read_fault : goal.returns-in-Some-clause-read_fault
-returns-in-Some-clause-read_fault g c =
-    rw (sym c.command_of.ensures ∙ c.in-Some.is) (has_read_fault c.in-Some.command _ _ _
-    (ran_says g.S.Source.gives g.K.Sink.takes g.S.Source.left g.S.Source.faults g.K.Sink.written g.K.Sink.faults g.met.S.Source.tells g.met.K.Sink.tells
-    c.decoder_laws.ensures c.in-Some.command _ _ _ _ _ c.obey.ensures.ran.0))
-
-pub returns-in-Some-clause-write_fault : goal.returns-in-Some-clause-write_fault
-returns-in-Some-clause-write_fault g c =
-    sink_rose c.in-Some.command _ _ _
-    (ran_says g.S.Source.gives g.K.Sink.takes g.S.Source.left g.S.Source.faults g.K.Sink.written g.K.Sink.faults g.met.S.Source.tells g.met.K.Sink.tells
-    c.decoder_laws.ensures c.in-Some.command _ _ _ _ _ c.obey.ensures.ran.0)
-
-pub returns-in-Some-clause-complete : goal.returns-in-Some-clause-complete
-returns-in-Some-clause-complete g c =
-    rw (sym c.command_of.ensures ∙ c.in-Some.is) (completes c.in-Some.command _ _ c.decoder_laws.ensures _
-    (ran_says g.S.Source.gives g.K.Sink.takes g.S.Source.left g.S.Source.faults g.K.Sink.written g.K.Sink.faults g.met.S.Source.tells g.met.K.Sink.tells
-    c.decoder_laws.ensures c.in-Some.command _ _ _ _ _ c.obey.ensures.ran.0))
-
-pub returns-in-Some-made_from-clause-write_fault : goal.returns-in-Some-made_from-clause-write_fault
-returns-in-Some-made_from-clause-write_fault g c =
-    make_rose c.in-Some-made_from.count _ _ _ _ _
-    (wrote_says g.K.Sink.takes g.K.Sink.written g.K.Sink.faults g.met.K.Sink.tells c.in-Some-made_from.count _ _ _ c.make.ensures)
+    c.decoder_laws.ensures c.in-Some.command _ _ _ _ _ c.obey.ensures.0)

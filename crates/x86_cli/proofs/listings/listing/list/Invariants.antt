@@ -1,12 +1,12 @@
 use Rattle.std.proofs.Common.{◌≤◌, ◌+◌}
 use Rattle.arrayvec.specs.ArrayVec.{array_vec_len}
 use Rattle.x86_cli.proofs.ListingLemmas.Stands.{Stands}
-use Rattle.x86_cli.proofs.CommandLemmas.Ahead.{reaches}
+use Rattle.x86_cli.proofs.CommandLemmas.Ahead.{window}
 use Rattle.x86_cli.proofs.listings.listing.list.Given as goal
 
 abbrev pub invariant-lines : goal.invariant-lines
 invariant-lines g l = record {
-  stands : Stands g.S.Source.gives g.K.Sink.takes (g.W.Course.lists l.course l.decoder.strict) reaches l.fn.max l.place l.window.ended l.window.bytes.items l.window.reader.position l.window.reader.room l.fn.source l.source l.fn.sink l.sink;
+  stands : Stands g.S.Source.gives g.K.Sink.takes (g.W.Course.lists l.course l.decoder.strict) window l.fn.max l.place l.window.ended l.window.bytes.items l.window.reader.position l.window.reader.room l.fn.source l.source l.fn.sink l.sink;
   few : array_vec_len l.window.bytes ≤ 15;
   fits : l.place + array_vec_len l.window.bytes + l.window.reader.room ≤ l.fn.max;
 }

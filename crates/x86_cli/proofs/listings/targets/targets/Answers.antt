@@ -1,11 +1,9 @@
-use Rattle.std.proofs.Common.{Bool, List, [], refl, ◌≡◌, ◌∙◌, ℕ, ◌<◌, ap, arith, false, true, length, ◌+◌, sym, slice_index_or}
-use Rattle.std.specs.Prelude.{⊤}
+use Rattle.std.proofs.Common.{Bool, None, List, [], refl, ◌≡◌, ◌∙◌, ℕ, ◌<◌, ap, arith, false, true, length, ◌+◌, sym, slice_index_or}
 use Rattle.x86_layout.specs.Sweeps.Marks.{is_marked}
 use Rattle.x86_cli.specs.Text.{Text}
 use Rattle.x86_cli.specs.Listings.Listing.{with_lines}
 use Rattle.x86_cli.specs.Listings.Targets.{lines_if, place_line, targets_at}
 use Rattle.x86_cli.proofs.ListingLemmas.Stands.{stands_whole, stands_step, ran_failed, ran_closed, ran_unclosed}
-use Rattle.x86_cli.proofs.ListingLemmas.Sweep.{end_unrefused}
 use Rattle.x86_cli.proofs.ListingLemmas.Target.{targets-step, targets-end}
 use Rattle.x86_cli.proofs.listings.targets.targets.Goals as goal
 
@@ -20,7 +18,7 @@ marked_at strict image shown marks place same lt all =
     record { inside = omega (arith, ap length same); mark = all place lt ∙ ap (λ image. is_marked strict image place) same }
 
 pub places-init : goal.places-init
-places-init g c = stands_whole g.S.Source.gives g.K.Sink.takes (targets_at c.args.decoder.now.strict) (λ place walked. ⊤) tt c.args.max c.read_whole-text.result.ending c.read_whole-text.result.image.items _ _ _ c.read_whole-text.ensures
+places-init g c = stands_whole g.S.Source.gives g.K.Sink.takes (targets_at c.args.decoder.now.strict) None tt c.args.max c.read_whole-text.result.ending c.read_whole-text.result.image.items _ _ _ c.read_whole-text.ensures
 
 pub places-preserved : goal.places-preserved
 places-preserved g c =
@@ -28,33 +26,30 @@ places-preserved g c =
     let place = c.places.place in
     let text : Text = record { image = c.read_whole-text.result.image.items; ending = c.read_whole-text.result.ending } in
     let m = marked_at strict text.image c.as_slice-image.result.now c.mark.new.marks place c.as_slice-image.ensures.value c.places-test.true c.mark.ensures in
-    stands_step g.S.Source.gives g.K.Sink.takes (targets_at strict) (λ place walked. ⊤) _ _ _ _ _ _ _ _ _ _ c.places.invariant (lines_if (is_marked strict text.image place) place) (place + 1) text.image
+    stands_step g.S.Source.gives g.K.Sink.takes (targets_at strict) None _ _ _ _ _ _ _ _ _ _ c.places.invariant (lines_if (is_marked strict text.image place) place) (place + 1) text.image
     (λ xs stop. targets-step strict place text m.inside) [] (λ xs stop. refl) (λ walked any. tt) _ (rw m.mark at c.in-Ok.ensures.ok)
 
-pub returns-in-Err-clause-ran : goal.returns-in-Err-clause-ran
-returns-in-Err-clause-ran g c =
+pub returns-in-Err : goal.returns-in-Err
+returns-in-Err g c =
     let strict = c.args.decoder.now.strict in
     let place = c.places.place in
     let text : Text = record { image = c.read_whole-text.result.image.items; ending = c.read_whole-text.result.ending } in
     let m = marked_at strict text.image c.as_slice-image.result.now c.mark.new.marks place c.as_slice-image.ensures.value c.places-test.true c.mark.ensures in
     let failed = c.in-Err.ensures.failed in
     let marked : is_marked strict text.image place ≡ true = sym m.mark ∙ failed.0 in
-    ran_failed g.S.Source.gives g.K.Sink.takes (targets_at strict) (λ place walked. ⊤) _ _ _ _ _ _ _ _ _ _ c.places.invariant (place_line place)
+    ran_failed g.S.Source.gives g.K.Sink.takes (targets_at strict) None _ _ _ _ _ _ _ _ _ _ c.places.invariant (place_line place)
     (λ xs stop. (targets_at strict (place + 1) text, targets-step strict place text m.inside ∙ ap (λ b. with_lines (lines_if b place) (targets_at strict (place + 1) text)) marked)) _ _ failed.1
 
-pub returns-in-Ok-end-clause-ran : goal.returns-in-Ok-end-clause-ran
-returns-in-Ok-end-clause-ran g c =
+pub returns-in-Ok-end : goal.returns-in-Ok-end
+returns-in-Ok-end g c =
     let strict = c.args.decoder.now.strict in
     let image : List ℕ = c.read_whole-text.result.image.items in
     let all : c.places.place ≡ length image = omega (arith, c.places-test.false, c.places.auto.place-end, ap length c.as_slice-image.ensures.value) in
-    ran_closed g.S.Source.gives g.K.Sink.takes (targets_at strict) (λ place walked. ⊤) _ _ _ _ _ _ _ _ _ _ c.places.invariant _ (λ xs stop. targets-end strict c.places.place image c.read_whole-text.result.ending all) _ _ c.in-Ok-end.ensures
+    ran_closed g.S.Source.gives g.K.Sink.takes (targets_at strict) None _ _ _ _ _ _ _ _ _ _ c.places.invariant _ (λ xs stop. targets-end strict c.places.place image c.read_whole-text.result.ending all) _ _ c.in-Ok-end.ensures
 
-pub returns-in-Err-end-clause-ran : goal.returns-in-Err-end-clause-ran
-returns-in-Err-end-clause-ran g c =
+pub returns-in-Err-end : goal.returns-in-Err-end
+returns-in-Err-end g c =
     let strict = c.args.decoder.now.strict in
     let image : List ℕ = c.read_whole-text.result.image.items in
     let all : c.places.place ≡ length image = omega (arith, c.places-test.false, c.places.auto.place-end, ap length c.as_slice-image.ensures.value) in
-    ran_unclosed g.S.Source.gives g.K.Sink.takes (targets_at strict) (λ place walked. ⊤) _ _ _ _ _ _ _ _ _ _ c.places.invariant _ (λ xs stop. targets-end strict c.places.place image c.read_whole-text.result.ending all) c.in-Err-end.field-0 _ c.in-Err-end.ensures
-
-pub returns-in-Ok-end-clause-unrefused : goal.returns-in-Ok-end-clause-unrefused
-returns-in-Ok-end-clause-unrefused g c = end_unrefused c.args.decoder.now.strict c.read_whole-text.result.ending _ c.in-Ok-end.ensures.0
+    ran_unclosed g.S.Source.gives g.K.Sink.takes (targets_at strict) None _ _ _ _ _ _ _ _ _ _ c.places.invariant _ (λ xs stop. targets-end strict c.places.place image c.read_whole-text.result.ending all) c.in-Err-end.field-0 _ c.in-Err-end.ensures
