@@ -1,7 +1,6 @@
 -- The bytes ModRM and SIB: their fields, and the byte that fields make.
 -- Source: Intel SDM volume 2, sections 2.1.3 and 2.1.5.
 use Rattle.std.specs.Prelude.{ℕ, ◌+◌, ◌*◌, ◌/◌, ◌%◌, nat_lt, Bool}
-use Rattle.x86_fields.specs.declared.modrm.TheConstants.{MEMORY_FORMS}
 
 -- the fields of ModRM: mod has two bits, reg and rm have three
 abbrev pub mod_field : ℕ → ℕ
@@ -27,9 +26,9 @@ base_field sib = sib % 8
 abbrev pub packed_byte : ℕ → ℕ → ℕ → ℕ
 packed_byte high middle low = high * 64 + (middle * 8 + low)
 
--- a memory form: mod other than 11
+-- a memory form: mod 00, 01 or 10; mod 11 is a register form
 abbrev pub is_memory : ℕ → Bool
-is_memory modrm = nat_lt modrm MEMORY_FORMS
+is_memory modrm = nat_lt (mod_field modrm) 3
 
 -- what stands for a ModRM that isn't there: the register form of reg 0 and rm 0
 abbrev pub absent_modrm : ℕ

@@ -6,11 +6,12 @@ ghost use Rattle.x86_regs.specs.Register.{reg_spec};
 ghost use Rattle.x86_fields.specs.Steps.{outcome};
 ghost use Rattle.x86_fields.specs.Address.{base_of, index_of, scale_by, extend, address_class, next_pointer};
 ghost use Rattle.x86_fields.specs.Linear.{raw_form, parts_form};
+ghost use Rattle.x86_fields.specs.ModRM.{is_memory};
 ghost use Rattle.x86_fields.specs.Raw.{read_raw, read_displacement, read_sib, displacement_width, fits, sib_fits, disp_fits};
 
 use crate::address_parts::AddressParts;
 use crate::errors::DecodeError;
-use crate::modrm::{MEMORY_FORMS, ModRM};
+use crate::modrm::ModRM;
 use crate::numbers::{next_byte, read_u8, read_u32};
 use crate::prefixes::Prefixes;
 use crate::sib::Sib;
@@ -196,7 +197,7 @@ pub fn read_raw<T: Reader<u64, u8>>(
     prefixes: &Prefixes,
     modrm: u8,
 ) -> Result<Raw, DecodeError>
-    requires { modrm < MEMORY_FORMS }
+    requires { IsTrue (is_memory modrm) }
     ensures read { outcome result (T.state words.new) ≡ read_raw prefixes.now modrm (T.state words.old) }
     ensures fits { IfOk result (λ raw. IsTrue (fits raw)) }
 {

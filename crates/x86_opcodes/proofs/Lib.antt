@@ -1,1 +1,2 @@
--- The answers of this crate need no lemmas.
+-- What several answers share.
+mod NameLemmas

@@ -1,9 +1,18 @@
 //! What holds of opcodes and conditions over the definitions alone: each law is the contract of a function that does
 //! nothing.
-ghost use Rattle.std.specs.Prelude.{◌≡◌, ◌&&◌, ◌↔◌, ℕ, IsTrue, false, is_some};
+ghost use Rattle.std.specs.Prelude.{◌≡◌, ◌&&◌, ◌↔◌, ℕ, IfSome, IsTrue, false, is_some, slice_get};
 ghost use Rattle.x86_opcodes.specs.declared.ConditionCode.{ConditionCode};
 ghost use Rattle.x86_opcodes.specs.Equality.{equal_codes, equal_opcodes};
 ghost use Rattle.x86_opcodes.specs.Kinds.{condition, is_among, is_conditional, jumps, moves, settings};
+ghost use Rattle.x86_opcodes.specs.Mnemonics.{all_names, mnemonic};
+
+use crate::ConditionCode;
+use std::hash::Hash;
+
+/// The nth name of the list, counted from 0, is that of the opcode with number n, and is how this opcode is spelled.
+pub fn names_are_in_the_order_of_their_numbers()
+    ensures { (n : ℕ) → IfSome (slice_get all_names n) (λ named. (named.opcode ≡ n) × (named.spelled ≡ mnemonic n)) }
+{}
 
 /// An operation has a condition exactly where it is a conditional jump, move or setting.
 pub fn condition_is_of_the_three_kinds()
@@ -17,8 +26,9 @@ pub fn kinds_exclude_each_other()
     ensures move_or_setting { (o : ℕ) → (is_among moves o && is_among settings o) ≡ false }
 {}
 
-/// `==` holds exactly of the same opcode, and of the same condition.
+/// `==` holds exactly of the same opcode, and of the same condition; equal conditions hash equally.
 pub fn equality_is_of_the_name()
     ensures opcodes { (o p : ℕ) → IsTrue (equal_opcodes o p) ↔ (o ≡ p) }
     ensures codes { (c d : ConditionCode) → IsTrue (equal_codes c d) ↔ (c ≡ d) }
+    ensures hashed { (c d : ConditionCode) → IsTrue (equal_codes c d) → ⟦<ConditionCode as Hash>⟧.hash_input c ≡ ⟦<ConditionCode as Hash>⟧.hash_input d }
 {}

@@ -5,7 +5,6 @@ use Rattle.x86_regs.specs.declared.RegisterClass.{RegisterClass}
 use Rattle.x86_regs.specs.declared.RegisterClass.TheVariants.{RIP}
 use Rattle.x86_regs.specs.Register.{class}
 use Rattle.x86_fields.specs.declared.errors.DecodeError.{DecodeError}
-use Rattle.x86_fields.specs.declared.modrm.TheConstants.{MEMORY_FORMS}
 use Rattle.x86_fields.specs.ModRM.{mod_field, rm_field, base_field}
 use Rattle.x86_operands.specs.declared.operands.Operand.{Operand}
 use Rattle.x86_operands.specs.declared.operands.Operand.TheVariants as operand
@@ -20,11 +19,12 @@ use Rattle.x86_cli.specs.Listings.Listing.{Listing}
 
 -- ---- encoding i: opcode 03, a ModRM of the memory form, SIB where it asks one, and a displacement
 
+-- the memory forms are the ModRM bytes below 192, whose mod is 00, 01 or 10
 abbrev pub made_modrm : ℕ → ℕ
-made_modrm i = i % MEMORY_FORMS
+made_modrm i = i % 192
 
 abbrev pub made_sib : ℕ → ℕ
-made_sib i = (i / MEMORY_FORMS) % 256
+made_sib i = (i / 192) % 256
 
 -- mod 10; mod 00 with rm 101; mod 00 with rm 100 and base 101
 abbrev pub has_long_displacement : ℕ → ℕ → Bool

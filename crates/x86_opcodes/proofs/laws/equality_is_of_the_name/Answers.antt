@@ -3,6 +3,7 @@ use Rattle.std.proofs.lemmas.Bool.{eqb-true, eq-eqb}
 use Rattle.x86_opcodes.specs.declared.ConditionCode.{ConditionCode}
 use Rattle.x86_opcodes.specs.declared.ConditionCode.TheVariants as code
 use Rattle.x86_opcodes.specs.Equality.{equal_codes, equal_opcodes}
+use Rattle.x86_opcodes.specs.contracts.ConditionCodeHash.TheImpl as code_hash
 use Rattle.x86_opcodes.proofs.laws.equality_is_of_the_name.Goals as goal
 
 different : false ≡ true → ⊥
@@ -39,3 +40,6 @@ returns-clause-opcodes c o p = (eqb-true o p, eq-eqb o p)
 
 pub returns-clause-codes : goal.returns-clause-codes
 returns-clause-codes c d e = (same_code d e, λ p. ap (equal_codes d) (sym p) ∙ reflexive d)
+
+pub returns-clause-hashed : goal.returns-clause-hashed
+returns-clause-hashed c d e same = ap (code_hash.ghosts).hash_input (same_code d e same)
