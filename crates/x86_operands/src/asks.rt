@@ -24,7 +24,7 @@ pub struct Ask {
 }
 
 /// A row's record at one ModRM byte. One that isn't there reads as C0.
-#[derive(Clone, Copy, Debug, Drop)]
+#[derive(Clone, Copy, Drop)]
 pub struct RecordAt {
     /// The refusal at the opcode byte.
     pub at_opcode: Option<Fault>,

@@ -17,7 +17,7 @@ use x86_opcodes::Opcode;
 use x86_regs::{RegSpec, RegisterClass};
 
 /// The groups whose lines reg alone chooses, by their opcode byte.
-#[derive(Clone, Copy, PartialEq, Eq, Debug, Drop)]
+#[derive(Clone, Copy, Drop)]
 pub enum RegGroup {
     G80,
     G81,
@@ -37,7 +37,7 @@ pub enum RegGroup {
 }
 
 /// What stands behind the opcode byte.
-#[derive(Clone, Copy, PartialEq, Eq, Debug, Drop)]
+#[derive(Clone, Copy, Drop)]
 pub enum Behind {
     /// No ModRM, and no register.
     Nothing,
@@ -61,7 +61,7 @@ pub enum Behind {
 
 /// The small letter behind G, E or Z: a class of registers, always the same or by W and 66 (Intel SDM volume 2,
 /// appendix A.2.2).
-#[derive(Clone, Copy, PartialEq, Eq, Debug, Drop)]
+#[derive(Clone, Copy, Drop)]
 pub enum Width {
     B,
     Mm,
@@ -80,7 +80,7 @@ pub enum Width {
 }
 
 /// The operand that is none of ModRM and no register of the opcode byte.
-#[derive(Clone, Copy, PartialEq, Eq, Debug, Drop)]
+#[derive(Clone, Copy, Drop)]
 pub enum Last {
     Absent,
     I8,
@@ -106,7 +106,7 @@ pub enum Last {
 }
 
 /// A memory size in bytes: by itself, by W and 66, or by the operation.
-#[derive(Clone, Copy, PartialEq, Eq, Debug, Drop)]
+#[derive(Clone, Copy, Drop)]
 pub enum Size {
     Zero,
     One,
@@ -130,7 +130,7 @@ pub enum Size {
 }
 
 /// How the operands of a form are encoded.
-#[derive(Clone, Copy, PartialEq, Eq, Debug, Drop)]
+#[derive(Clone, Copy, Drop)]
 pub struct FormEncoding {
     /// What stands behind the opcode byte.
     pub behind: Behind,

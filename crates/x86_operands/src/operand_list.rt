@@ -7,6 +7,7 @@ ghost use Rattle.x86_fields.specs.declared.prefixes.Prefixes.{Prefixes};
 ghost use Rattle.x86_operands.specs.declared.encodings.Last.TheVariants.{Absent};
 ghost use Rattle.x86_operands.specs.declared.order.Position.TheVariants.{Nowhere};
 ghost use Rattle.x86_operands.specs.PlanSteps.{memory_or, read_plan, pointer_slot, register_slot};
+ghost use Rattle.x86_operands.specs.Shape.{shape};
 ghost use Rattle.x86_operands.specs.Encodings.{rm_read, reg_pair, fixed_pair, no_operands, reading_with, plan_of, held, put_in, put_at, put_encoded, last_encoding, encoded_read, front_read, allows, is_sound, slot_in, operand_in};
 
 use crate::encodings::{Behind, FormEncoding, Last, Width};
@@ -15,7 +16,6 @@ use crate::order::Position;
 use crate::plans::{
     OperandEncoding, PointerSlot, RegisterSlot, reg_number, register_at, rm_number,
 };
-use crate::shapes::shape;
 use x86_arch::Reader;
 use x86_fields::{
     DecodeError, ModRM, Prefixes, Raw, read_raw, read_u8, read_u16, read_u32, read_u64,
@@ -24,7 +24,7 @@ use x86_opcodes::Opcode;
 use x86_regs::{RegSpec, RegisterClass};
 
 /// The operands of an instruction, in the order in which a listing names them.
-#[derive(Clone, Copy, PartialEq, Eq, Debug, Drop)]
+#[derive(Clone, Copy, Debug, Drop)]
 pub struct Operands {
     /// Where each operand comes from.
     pub slots: [Slot; 4],
@@ -76,6 +76,58 @@ impl Operands {
         self.put_at(at, slot, Operand::Register { reg });
     }
 
+    /// The memory operand of raw fields, with the parts that are present.
+    #[inline(always)]
+    #[tactic(auto, unfolding(crate::specs::Shape::shape))]
+    fn put_memory(&mut self, at: usize, raw: &Raw)
+        requires { at < 4 }
+        ensures { self.new ≡ put_at at (shape raw.now) self.old }
+    {
+        let disp = raw.disp;
+        match raw.base() {
+            Some(base) => match raw.index() {
+                None => {
+                    if disp == 0 {
+                        self.put_at(at, Slot::Deref, Operand::MemDeref { base });
+                    } else {
+                        self.put_at(at, Slot::Disp, Operand::Disp { base, disp });
+                    }
+                }
+                Some(index) => {
+                    let scale = raw.scale();
+                    if disp == 0 {
+                        let operand = Operand::MemBaseIndexScale { base, index, scale };
+                        self.put_at(at, Slot::BaseIndexScale, operand);
+                    } else {
+                        let operand = Operand::MemBaseIndexScaleDisp {
+                            base,
+                            index,
+                            scale,
+                            disp,
+                        };
+                        self.put_at(at, Slot::BaseIndexScaleDisp, operand);
+                    }
+                }
+            },
+            None => match raw.index() {
+                None => {
+                    let addr = disp.cast_unsigned();
+                    self.put_at(at, Slot::DispU32, Operand::AbsoluteU32 { addr });
+                }
+                Some(index) => {
+                    let scale = raw.scale();
+                    if disp == 0 {
+                        let operand = Operand::MemIndexScale { index, scale };
+                        self.put_at(at, Slot::IndexScale, operand);
+                    } else {
+                        let operand = Operand::MemIndexScaleDisp { index, scale, disp };
+                        self.put_at(at, Slot::IndexScaleDisp, operand);
+                    }
+                }
+            },
+        }
+    }
+
     /// The operand of rm: memory where it was read, else the register.
     fn put_rm(&mut self, at: usize, memory: Option<Raw>, reg: RegSpec)
         requires { at < 4 }
@@ -83,10 +135,7 @@ impl Operands {
     {
         match memory {
             None => self.put_register(at, Slot::Rm, reg),
-            Some(raw) => {
-                let (slot, operand) = shape(&raw);
-                self.put_at(at, slot, operand);
-            }
+            Some(raw) => self.put_memory(at, &raw),
         }
     }
 
@@ -215,7 +264,7 @@ impl Operands {
 
     /// The last operand, as its encoding gives it.
     #[tactic(auto, using(crate::proofs::OrderLemmas::encoded_at_position))]
-    #[inline(never)]
+    #[inline(always)]
     fn read_last<T: Reader<u64, u8>>(
         &mut self,
         at: Position,
@@ -252,8 +301,7 @@ impl Operands {
     {
         if modrm.is_memory() {
             let raw = read_raw(reader, prefixes, modrm.byte())?;
-            let (slot, operand) = shape(&raw);
-            self.put_in(at, slot, operand);
+            self.put_memory(at.index(), &raw);
             return Ok(());
         }
         let reg = match width {

@@ -4,7 +4,7 @@ ghost use Rattle.std.specs.Prelude.{◌≡◌, ◌<◌};
 ghost use Rattle.x86_operands.specs.Encodings.{index_of_position};
 
 /// Which operand something is.
-#[derive(Clone, Copy, PartialEq, Eq, Debug, Drop)]
+#[derive(Clone, Copy, Drop)]
 pub enum Position {
     First,
     Second,
@@ -29,7 +29,7 @@ impl Position {
 }
 
 /// In which order the operands stand.
-#[derive(Clone, Copy, PartialEq, Eq, Debug, Drop)]
+#[derive(Clone, Copy, Drop)]
 pub struct Order {
     pub count: u8,
     pub reg: Position,

@@ -7,7 +7,7 @@ use x86_opcodes::Opcode;
 use x86_regs::{RegSpec, RegisterClass};
 
 /// The slot of a register that the encoding of its operand doesn't tell.
-#[derive(Clone, Copy, PartialEq, Eq, Debug, Drop)]
+#[derive(Clone, Copy, Drop)]
 pub enum RegisterSlot {
     Reg,
     Rm,
@@ -15,7 +15,7 @@ pub enum RegisterSlot {
 }
 
 /// The slot of a string operand.
-#[derive(Clone, Copy, PartialEq, Eq, Debug, Drop)]
+#[derive(Clone, Copy, Drop)]
 pub enum PointerSlot {
     Deref,
     DerefEsi,
@@ -25,7 +25,7 @@ pub enum PointerSlot {
 }
 
 /// What a record asks for one operand, in the letters of the Intel SDM, volume 2, appendix A.2.
-#[derive(Clone, Copy, PartialEq, Eq, Debug, Drop)]
+#[derive(Clone, Copy, Drop)]
 pub enum OperandEncoding {
     /// The register of reg, with R.
     G(RegisterClass),
@@ -76,7 +76,7 @@ pub enum OperandEncoding {
 }
 
 /// The operand encodings of a record, at most four.
-#[derive(Clone, Copy, PartialEq, Eq, Debug, Drop)]
+#[derive(Clone, Copy, Drop)]
 pub enum OperandEncodings {
     Zero,
     One(OperandEncoding),
@@ -86,7 +86,7 @@ pub enum OperandEncodings {
 }
 
 /// Behind which byte a record refuses.
-#[derive(Clone, Copy, PartialEq, Eq, Debug, Drop)]
+#[derive(Clone, Copy, Drop)]
 pub enum Moment {
     /// Behind ModRM.
     AtModRM,
@@ -97,7 +97,7 @@ pub enum Moment {
 }
 
 /// Why a record refuses. No record refuses for want of bytes or for length.
-#[derive(Clone, Copy, PartialEq, Eq, Debug, Drop)]
+#[derive(Clone, Copy, Drop)]
 pub enum Fault {
     BadOpcode,
     BadOperand,
@@ -105,7 +105,7 @@ pub enum Fault {
 }
 
 /// Whether a record gives an instruction.
-#[derive(Clone, Copy, PartialEq, Eq, Debug, Drop)]
+#[derive(Clone, Copy, Drop)]
 pub enum Verdict {
     Accepts,
     /// A last byte names the opcode, as in 3DNow, or is refused.
@@ -114,7 +114,7 @@ pub enum Verdict {
 }
 
 /// What a record changes in the prefixes of its answer.
-#[derive(Clone, Copy, PartialEq, Eq, Debug, Drop)]
+#[derive(Clone, Copy, Drop)]
 pub enum PrefixChange {
     Keeps,
     ClearsOperandSize,
@@ -122,7 +122,7 @@ pub enum PrefixChange {
 }
 
 /// Whether a row has a ModRM byte, and how it is read.
-#[derive(Clone, Copy, PartialEq, Eq, Debug, Drop)]
+#[derive(Clone, Copy, Drop)]
 pub enum ModrmUse {
     /// No ModRM byte.
     Absent,
@@ -133,7 +133,7 @@ pub enum ModrmUse {
 }
 
 /// What a record asks behind ModRM, and what it gives.
-#[derive(Clone, Copy, PartialEq, Eq, Debug, Drop)]
+#[derive(Clone, Copy, Drop)]
 pub struct Plan {
     /// The operation, unless a suffix names it.
     pub opcode: Opcode,

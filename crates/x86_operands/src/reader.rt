@@ -18,7 +18,7 @@ use x86_fields::{DecodeError, ModRM, Prefixes, Raw, next_byte, read_raw};
 use x86_opcodes::Opcode;
 
 /// What was read behind an opcode byte.
-#[derive(Clone, Copy, PartialEq, Eq, Debug, Drop)]
+#[derive(Clone, Copy, Drop)]
 pub struct Reading {
     /// The operation: that of the row, or the one that ModRM or a suffix chose.
     pub opcode: Opcode,
