@@ -1,5 +1,5 @@
 -- Instructions: what a reading holds, with the length of its encoding.
-use Rattle.std.specs.Prelude.{◌≡◌, ℕ, ◌<◌, ◌==◌, ◌&&◌, ◌||◌, not, Bool, true, false, if◌then◌else◌, Option, Some, None, [], ◌∷◌, Result, Ok, Err}
+use Rattle.std.specs.Prelude.{◌≡◌, ℕ, ◌<◌, ◌==◌, ◌&&◌, ◌||◌, not, Bool, true, false, if◌then◌else◌, Option, Some, None, List, [], ◌∷◌, take, Result, Ok, Err}
 use Rattle.x86_regs.specs.declared.Segment.{Segment}
 use Rattle.x86_regs.specs.declared.Segment.TheVariants.{DS, ES}
 use Rattle.x86_opcodes.specs.Names.{Invalid, MOVS, CMPS, XCHG, MOV}
@@ -69,6 +69,10 @@ slot_at i k = slot_in i.given k
 
 abbrev pub operand_at : Instruction → ℕ → Operand
 operand_at i k = operand_in i.given k
+
+-- the operands that an instruction has, of the four for which it has room
+abbrev pub operands_of : Instruction → List Operand
+operands_of i = take (operand_count i) (operand_at i 0 ∷ operand_at i 1 ∷ operand_at i 2 ∷ operand_at i 3 ∷ [])
 
 -- the size of what is read or written in memory, where one is named
 abbrev pub mem_size_of : Instruction → Option MemoryAccessSize

@@ -6,7 +6,7 @@ ghost use Rattle.x86_decode.specs.contracts.instructions.ShownPartialEq.TheImpl.
 ghost use Rattle.x86_decode.specs.contracts.instructions.ShownEq.TheImpl.Laws as shown_equivalence;
 ghost use Rattle.x86_arch.specs.AddressDiff.{from_const};
 ghost use Rattle.x86_operands.specs.Visitor.{visit_of};
-ghost use Rattle.x86_decode.specs.Instruction.{opcode, operand_count, length_of, invalid_instruction, slot_at, operand_at, shown_of, segment_override_for_op, unless_ds, mem_size_of, xacquire, xrelease, exchanges_memory, is_release_slot, is_rm_slot};
+ghost use Rattle.x86_decode.specs.Instruction.{opcode, operand_count, length_of, invalid_instruction, slot_at, operand_at, operands_of, shown_of, segment_override_for_op, unless_ds, mem_size_of, xacquire, xrelease, exchanges_memory, is_release_slot, is_rm_slot};
 
 use x86_arch::{AddressDiff, LengthedInstruction};
 use x86_fields::Prefixes;
@@ -89,6 +89,15 @@ impl Instruction {
         ensures { result ≡ operand_count self.now }
     {
         self.given.count
+    }
+
+    /// The operands in order.
+    #[inline(always)]
+    pub fn operands(&self) -> &[Operand]
+        ensures { result.now ≡ operands_of self.now }
+    {
+        let count = self.given.count.min(4);
+        &self.given.operands[..count as usize]
     }
 
     /// Whether there is an operand at an index, counted from 0.
