@@ -9,6 +9,9 @@ example of a row must end with its status. The program is the built one, or the 
 of an example is missing, these examples are skipped with a line.
 
 Examples of docs/GUIDE.md: each indented block stands in one of the files of `CODE`, line by line, only further to the right.
+
+Quoted code of the pages of `QUOTING`: each indented line that isn't a command, nor of a drawing, is a line of some file of crates/, letter by
+letter.
 """
 
 import os
@@ -22,6 +25,7 @@ from pathlib import Path
 TOP = Path(__file__).resolve().parent.parent
 PROGRAM = Path(os.environ.get("PROGRAM") or TOP / "crates" / "x86_cli" / "out" / "x86_cli").resolve()
 CODE = ["crates/x86_vectors/src/guide_tests.rt", "crates/x86_vectors/src/two_buffers.rt", "examples/own", "tools/own_test"]
+QUOTING = ["docs/ROWS.md", "docs/ENCODING.md", "docs/ARCHITECTURE.md", "CONTRIBUTING.md"]
 TOOLS = ["objcopy", "xxd", "hexdump", "od", "paste", "xargs"]
 
 
@@ -107,8 +111,19 @@ def read_guide(page):
     return wrong
 
 
+def read_quotes(page):
+    """Looks for the quoted lines of code of a page in all sources, and answers how many aren't there."""
+    files = [file for ending in ("*.rt", "*.antt", "*.edit") for file in (TOP / "crates").rglob(ending) if "out" not in file.parts]
+    lines = {line.strip() for file in files for line in file.read_text().splitlines()}
+    quoted = [line for block in blocks(page) if not block[0].startswith("$ ") and "─" not in block[0] for line in block]
+    missing = [line for line in quoted if line and line.strip() not in lines]
+    for line in missing:
+        print(f"pages: {page}: no source has this line: {line}", file=sys.stderr)
+    return len(missing)
+
+
 def main():
-    wrong = read_guide("docs/GUIDE.md")
+    wrong = read_guide("docs/GUIDE.md") + sum(read_quotes(page) for page in QUOTING)
     if os.access(PROGRAM, os.X_OK):
         wrong += sum(run_examples(page) for page in ("README.md", "docs/USAGE.md"))
     else:

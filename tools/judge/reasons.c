@@ -147,7 +147,6 @@ const struct rule changed[] = {
     {"ADOX", "F3 0F38: F6m", "size:v"},
     {"PEXTRB and its neighbours", "66 0F3A: 14 15 16 17", "0:v"},
     {"PINSRB and its neighbours", "66 0F3A: 20 22", "1:x"},
-    {"UD0", "0F: FF", "0:d 1:d"},
 
     /* Sizes. */
     {"a register form keeps a size", "0: 00-03r 08-0Br 10-13r 18-1Br 20-23r 28-2Br 30-33r 38-3Br 63r 69r 6Br", "size:form"},
@@ -182,7 +181,6 @@ const struct rule changed[] = {
     {"INS and OUTS with 66", "+66 0: 6D 6F", "size:2"},
     {"UD1", "0F: B9m", "size:v"},
     {"0F 0D and 0F 18", "0F: 0Dm 18m", "size:64"},
-    {"a NOP keeps a size", "0F: 19-1Fm", "size:v"},
     {"CVTPS2PI and CVTTPS2PI", "NP 0F: 2Cm 2Dm", "size:16"},
     {"CVTSI2SS and CVTSI2SD under 66", "F2 F3 +66 0F: 2Am", "size:v"},
     {"66 0F 6E", "66 0F: 6Em", "size:v"},
