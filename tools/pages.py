@@ -5,7 +5,7 @@
 
 Examples of README.md and docs/USAGE.md: in a block of indented lines, each line behind `$ ` is run by the shell, in a folder with `x86`
 and examples/, and what it prints must be the lines below it. Where these are `...`, anything may be printed. In the table of statuses the
-example of a row must end with its status. The program is the built one, or the one that PROGRAM names; where there is none, or a tool
+example of a row must end with its status, and in the table of texts it must print its last line. The program is the built one, or the one that PROGRAM names; where there is none, or a tool
 of an example is missing, these examples are skipped with a line.
 
 Examples of docs/GUIDE.md: each indented block stands in one of the files of `CODE`, line by line, only further to the right.
@@ -26,7 +26,7 @@ TOP = Path(__file__).resolve().parent.parent
 PROGRAM = Path(os.environ.get("PROGRAM") or TOP / "crates" / "x86_cli" / "out" / "x86_cli").resolve()
 CODE = ["crates/x86_vectors/src/guide_tests.rt", "crates/x86_vectors/src/two_buffers.rt", "examples/own", "tools/own_test"]
 QUOTING = ["docs/ROWS.md", "docs/ENCODING.md", "docs/ARCHITECTURE.md", "CONTRIBUTING.md"]
-TOOLS = ["objcopy", "xxd", "hexdump", "od", "paste", "xargs"]
+TOOLS = ["objcopy", "objdump", "nm", "xxd", "hexdump", "od", "paste", "xargs", "perl"]
 
 
 def blocks(page):
@@ -80,6 +80,11 @@ def run_examples(page):
             got = run(command, folder).returncode
             if got != int(status):
                 print(f"pages: {page}: status {got} and not {status}: {command}", file=sys.stderr)
+                wrong += 1
+        for command, last in re.findall(r"^\| [^|]* \| `(.*)` \| `(.*)` \| [^|]* \|$", (TOP / page).read_text(), re.M):
+            got = run(command.replace("\\|", "|"), folder).stdout.rstrip("\n").split("\n")[-1]
+            if got != last:
+                print(f"pages: {page}: {command}: {got}", file=sys.stderr)
                 wrong += 1
     return wrong
 
