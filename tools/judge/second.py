@@ -1,8 +1,8 @@
 """Holds the lengths and names of the program's sweep against binutils' objdump, which reads the same bytes.
 
-Places are compared at which both begin a line. The two count a place differently after VEX, after bytes that only one refuses, and where
-objdump joins WAIT with the x87 operation after it, shows a REX that isn't the last prefix as a line of its own, or shows more than 15
-bytes; these places are counted apart.
+Places are compared at which both begin a line. What is known to differ is counted: where one refuses (VEX, EVEX, and the tables below), where
+objdump shows a REX that isn't the last prefix as a line of its own ("a prefix apart"), and where lengths differ: objdump joins WAIT with the
+x87 operation after it, and reads 2 bytes for a near branch under 66, as processors of AMD do. Anything else is printed as unexplained.
 """
 
 import re
@@ -24,9 +24,19 @@ NAMES = {
         prefetcht2=PREFETCH2 prefetch=NOP prefetchwt1=NOP pause=NOP cldemote=NOP iret=IRETD fxsave64=FXSAVE fxrstor64=FXRSTOR xsave64=XSAVE
         xrstor64=XRSTOR xsaveopt64=XSAVEOPT incsspd=INCSSP incsspq=INCSSP rdsspd=NOP rdsspq=NOP wrssd=WRSS wrssq=WRSS wrussd=WRUSS
         wrussq=WRUSS sysretl=SYSRET sysretq=SYSRET sysexitl=SYSEXIT sysexitq=SYSEXIT movq=MOVD call=CALLF jmp=JMPF shl=SAL xchg=NOP
-        iretw=IRET movs=MOVS/MOVSD""".split()
+        iretw=IRET movs=MOVS/MOVSD retw=RETURN retfw=RETF retfq=RETF pushfw=PUSHF popfw=POPF leavew=LEAVE enterw=ENTER sysretd=SYSRET
+        sysexitd=SYSEXIT wbnoinvd=WBINVD fneni(8087=FENI8087_NOP fndisi(8087=FDISI8087_NOP fnsetpm(287=FSETPM287_NOP bndldx=NOP bndstx=NOP
+        bndmov=NOP bndmk=NOP bndcl=NOP bndcu=NOP bndcn=NOP monitorx=MONITORX mcommit=MONITORX""".split()
     )
 }
+
+
+# What only one refuses, beside VEX, EVEX and XOP: names of objdump by the error here, and names here that are (bad) there.
+REFUSED_HERE = {
+    "invalid operand": "mov maskmovq maskmovdqu pmovmskb movmskps movmskpd nop prefetch prefetchw pextrw".split(),
+    "invalid opcode": "frstpm(287 serialize xstore-rng xcrypt-ecb xcrypt-cbc xcrypt-ctr xcrypt-cfb xcrypt-ofb montmul xsha1 xsha256 ud1".split(),
+}
+REFUSED_THERE = "FSTPNCE FXCH FCOM FCOMP FSTP XABORT XBEGIN".split()
 
 
 def name_of(text):
@@ -66,11 +76,15 @@ def kind_of(ours, answer):
     refuses = ours[0] == "error:"
     if refuses and name == "(bad)":
         return "same", None
+    if name.startswith("rex"):
+        return "a prefix apart", None
     if refuses or name == "(bad)":
-        is_left_out = ours[1:] == "the decoder is incomplete".split() or ours[1:] == ["invalid", "prefixes"]
-        return "one refuses", None if is_left_out else (" ".join(ours[1:]), name)
+        error = " ".join(ours[1:])
+        is_known = error in ("the decoder is incomplete", "invalid prefixes") or name in REFUSED_HERE.get(error, []) if refuses else ours[1] in REFUSED_THERE
+        return "one refuses", None if is_known else (" ".join(ours), name)
     if int(ours[0]) != length:
-        return "another length", None if ours[1] == "WAIT" else (" ".join(ours[:2]), f"{length} {name}")
+        is_known = ours[1] == "WAIT" or name.rstrip("w") in ("call", "jmp", "ret") or name.startswith("j")
+        return "another length", None if is_known else (" ".join(ours[:2]), f"{length} {name}")
     return ("same", None) if are_same(ours[1], name) else ("another name", (ours[1], name))
 
 
@@ -78,7 +92,7 @@ def compare(program, code, work):
     """Counts places by what is so, and what has no reason with how often."""
     (work / "raw").write_bytes(code)
     text = subprocess.run([program, "sweep"], input=code.hex().encode(), stdout=subprocess.PIPE, check=True).stdout.decode()
-    counts, unlike = dict.fromkeys(["same", "one refuses", "another length", "another name", "only here"], 0), {}
+    counts, unlike = dict.fromkeys(["same", "one refuses", "a prefix apart", "another length", "another name", "only here"], 0), {}
     theirs = {place: (length, name) for place, length, name in read(work / "raw")}
     for line in text.splitlines():
         place, *ours = line.split(" ")
@@ -90,7 +104,7 @@ def compare(program, code, work):
 
 
 def main(program, files, bytes_of):
-    heads = ["code of", "bytes", "same", "one refuses", "another length", "another name", "no line of objdump begins there"]
+    heads = ["code of", "bytes", "same", "one refuses", "a prefix apart", "another length", "another name", "no line of objdump begins there"]
     print("| " + " | ".join(heads) + " |\n" + "|---" * len(heads) + "|")
     unexplained = {}
     with tempfile.TemporaryDirectory() as work:
