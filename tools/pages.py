@@ -5,11 +5,14 @@
 
 Examples of README.md and docs/USAGE.md: in a block of indented lines, each line behind `$ ` is run by the shell, in a folder with `x86`
 and examples/, and what it prints must be the lines below it. Where these are `...`, anything may be printed. In the table of statuses the
-example of a row must end with its status. Standard error must be empty, but for the usage line at status 2. Each run must end within a minute.
-The program is the built one, or the one that PROGRAM names; where there is none, or a tool of an example is missing, these examples are
-skipped with a line.
+example of a row must end with its status. Standard error must be empty, but for the usage line at status 2. Each run must end within a
+minute. In the table of texts an example must print its last line. The program is the built one, or the one that PROGRAM names; where there
+is none, or a tool of an example is missing, these examples are skipped with a line.
 
 Examples of docs/GUIDE.md: each indented block stands in one of the files of `CODE`, line by line, only further to the right.
+
+Quoted code of the pages of `QUOTING`: each indented line that isn't a command, nor of a drawing, is a line of some file of crates/, letter by
+letter.
 """
 
 import os
@@ -26,7 +29,8 @@ CRATE = re.search(r"^PROGRAM_CRATE=(\w+)$", (TOP / "tools" / "program.sh").read_
 PROGRAM = Path(os.environ.get("PROGRAM") or TOP / "crates" / CRATE / "out" / CRATE).resolve()
 SECONDS = 60
 CODE = ["crates/x86_vectors/src/guide_tests.rt", "crates/x86_vectors/src/two_buffers.rt", "examples/own", "tools/own_test"]
-TOOLS = ["objcopy", "xxd", "hexdump", "od", "paste", "xargs"]
+QUOTING = ["docs/ROWS.md", "docs/ENCODING.md", "docs/ARCHITECTURE.md", "CONTRIBUTING.md"]
+TOOLS = ["objcopy", "objdump", "nm", "xxd", "hexdump", "od", "paste", "xargs", "perl"]
 
 
 def blocks(page):
@@ -95,6 +99,9 @@ def run_examples(page):
             wrong += differs(page, command, "status", got, int(status))
             wrong += differs(page, command, "usage line on standard error", said.startswith("usage: "), got == 2)
             wrong += differs(page, command, "usage line on standard output", printed.startswith("usage: "), False)
+        for command, last in re.findall(r"^\| [^|]* \| `(.*)` \| `(.*)` \| [^|]* \|$", (TOP / page).read_text(), re.M):
+            printed, _, _ = run(command.replace("\\|", "|"), folder)
+            wrong += differs(page, command, "last line", printed.rstrip("\n").split("\n")[-1], last)
     return wrong
 
 
@@ -125,8 +132,19 @@ def read_guide(page):
     return wrong
 
 
+def read_quotes(page):
+    """Looks for the quoted lines of code of a page in all sources, and answers how many aren't there."""
+    files = [file for ending in ("*.rt", "*.antt", "*.edit") for file in (TOP / "crates").rglob(ending) if "out" not in file.parts]
+    lines = {line.strip() for file in files for line in file.read_text().splitlines()}
+    quoted = [line for block in blocks(page) if not block[0].startswith("$ ") and "─" not in block[0] for line in block]
+    missing = [line for line in quoted if line and line.strip() not in lines]
+    for line in missing:
+        print(f"pages: {page}: no source has this line: {line}", file=sys.stderr)
+    return len(missing)
+
+
 def main():
-    wrong = read_guide("docs/GUIDE.md")
+    wrong = read_guide("docs/GUIDE.md") + sum(read_quotes(page) for page in QUOTING)
     if os.access(PROGRAM, os.X_OK):
         wrong += sum(run_examples(page) for page in ("README.md", "docs/USAGE.md"))
     else:

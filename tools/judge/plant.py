@@ -1,0 +1,246 @@
+#!/usr/bin/env python3
+"""A program whose output differs from that of another in one line.
+
+    plant.py PROGRAM KIND WORDS..
+
+runs PROGRAM WORDS and prints what it prints, but for one line, which is changed as KIND says. It ends with status 9 where no line can be changed
+so. `tools/compare --self-test` runs it with each kind.
+"""
+
+import random
+import re
+import subprocess
+import sys
+
+# The kind, and the pattern and the text that takes its place, in one of the lines with that pattern.
+EDITS = [
+    ("place higher by one", r"^(\d+) (?=\d+ MOV)", lambda m: f"{int(m[1]) + 1} "),
+    ("place lower by one", r"^(\d+) (?=\d+ ADD)", lambda m: f"{int(m[1]) - 1} "),
+    ("place with a zero in front", r"^(?=\d+ \d+ SUB)", "0"),
+    ("place in hexadecimal", r"^(\d\d\d+) (?=\d+ XOR)", lambda m: f"{int(m[1]):x} "),
+    ("place of a refusal", r"^(\d+) (?=error)", lambda m: f"{int(m[1]) + 1} "),
+    ("length longer by one", r"^(\d+) (\d+) (?=MOV)", lambda m: f"{m[1]} {int(m[2]) + 1} "),
+    ("length shorter by one", r"^(\d+) (\d+) (?=LEA)", lambda m: f"{m[1]} {int(m[2]) - 1} "),
+    ("length 0", r"^(\d+) (\d+) (?=CMP)", r"\1 0 "),
+    ("length missing", r"^(\d+) (\d+) (?=OR)", r"\1 "),
+    ("name of the next arithmetic row", "ADD", "ADC"),
+    ("name of another move", "MOVZX", "MOVSX"),
+    ("name of another width of move", "MOVSXD", "MOVSX"),
+    ("name of the opposite condition", "JZ", "JNZ"),
+    ("name that zydis has for a condition", "SETGE", "SETNL"),
+    ("name of another condition of CMOV", "CMOVL", "CMOVLE"),
+    ("name PUSH as POP", "PUSH (?=r)", "POP "),
+    ("name CALL as JMP", "CALL (?=i32)", "JMP "),
+    ("name RETURN as RETF", "RETURN", "RETF"),
+    ("name RETURN as RET", "RETURN", "RET"),
+    ("name CALLF as CALL", "CALLF", "CALL"),
+    ("name JMP as JMPF", r"JMP (?=\[)", "JMPF "),
+    ("name of an x87 operation", "FADD", "FMUL"),
+    ("name of an x87 operation with another end", "FCOMP", "FCOM"),
+    ("name of another packed width", "ADDPS", "ADDPD"),
+    ("name of another packed integer", "PADDB", "PADDW"),
+    ("name of another shift", "SHL", "SAL"),
+    ("name of another rotation", "ROL", "ROR"),
+    ("name of another string operation", r"MOVS (?=\[)", "STOS "),
+    ("name of a string operation with a width", "LODS", "LODSD"),
+    ("name of a 3DNow operation", "PFRCPIT2", "PFRCPIT1"),
+    ("name INT as INTO", "INT", "INTO"),
+    ("name NOP as PAUSE", "NOP", "PAUSE"),
+    ("name SHLD as SHRD", "SHLD", "SHRD"),
+    ("name of another fence", "LFENCE", "MFENCE"),
+    ("name of a system operation", "VMCALL", "VMLAUNCH"),
+    ("name SYSCALL as SYSRET", "SYSCALL", "SYSRET"),
+    ("name of another bit test", "BTS", "BTR"),
+    ("name CMPXCHG8B as CMPXCHG16B", "CMPXCHG8B", "CMPXCHG16B"),
+    ("name in small letters", "TEST", "test"),
+    ("name cut short", "CMPXCHG", "CMPXCH"),
+    ("name missing", r"(\d+) INC", r"\1"),
+    ("qword register with another number", "rcx(?=, r)", "r9"),
+    ("qword register as dword", "rax(?=,)", "eax"),
+    ("dword register as qword", "edx(?= m)", "rdx"),
+    ("dword register as word", "eax(?=,)", "ax"),
+    ("word register as dword", r"\bdx(?= m2)", "edx"),
+    ("word register with another number", "(?<=,) cx(?= m2)", " si"),
+    ("register of PUSH", "PUSH rbp", "PUSH rcx"),
+    ("register of CALL", "CALL rcx", "CALL r9"),
+    ("extended register without its extension", "r8d", "eax"),
+    ("low byte register as high", "(?<= )cl(?= m1)", "ch"),
+    ("high byte register as low", "(?<= )dh", "dl"),
+    ("high byte register as that of a REX", "(?<= )dh", "sil"),
+    ("register of a REX as high byte", "(?<= )bpl", "ch"),
+    ("byte register as dword", "(?<= )al,", "eax,"),
+    ("xmm register with another number", "xmm0(?=,)", "xmm1"),
+    ("xmm register as ymm", "xmm1", "ymm1"),
+    ("xmm register as mm", "xmm0(?=,)", "mm0"),
+    ("mm register as xmm", "(?<= )mm0(?=,)", "xmm0"),
+    ("mm register with another number", "(?<= )mm3", "mm2"),
+    ("x87 register with another number", r"st\([1-7]\)", "st(0)"),
+    ("x87 register missing", r"st\(0\),", ""),
+    ("control register with another number", "cr0", "cr2"),
+    ("control register as debug register", "cr3", "dr3"),
+    ("debug register with another number", "dr3", "dr2"),
+    ("segment register with another number", "(?<= )ds", "es"),
+    ("segment register of PUSH", "PUSH fs", "PUSH gs"),
+    ("implied register of IN", "IN al,", "IN ah,"),
+    ("implied register of OUT", "OUT dx", "OUT cx"),
+    ("implied count", ", cl", ", dl"),
+    ("implied register of SCAS", r"(SCAS \[rdi\]), al", r"\1, cl"),
+    ("register as memory", "ADD rcx, rax", "ADD rcx, [rax]"),
+    ("memory as register", r"ADD \[(r..)\+", r"ADD \1 ["),
+    ("base with another number", r"\[rbp", "[rbx"),
+    ("base as dword", r"\[rcx(?=[-+])", "[ecx"),
+    ("base as qword under 67", r"\[ebp", "[rbp"),
+    ("base missing", r"\[r..\+(?=r)", "["),
+    ("base added", r"\[(?=rcx\*4)", "[rax+"),
+    ("index with another number", r"\+rcx\*", "+rdx*"),
+    ("index as dword", r"\+rcx\*", "+ecx*"),
+    ("index missing", r"\+rcx\*\d", ""),
+    ("base and index exchanged", r"\[(rbp)\+(rcx)\*", r"[\2+\1*"),
+    ("scale doubled", r"rcx\*4", "rcx*8"),
+    ("scale 1", r"rcx\*4", "rcx*1"),
+    ("scale missing", r"rcx\*4", "rcx"),
+    ("displacement with the other sign", r"(?<=[a-z])-(?=\d+\])", "+"),
+    ("displacement higher by one", r"(?<=[a-z][-+])(\d+)\]", lambda m: f"{int(m[1]) + 1}]"),
+    ("displacement of 8 bits without its sign", r"-(\d+)\]", lambda m: f"+{256 - int(m[1])}]"),
+    ("displacement missing", r"(?<=[a-z])[-+]\d+\]", "]"),
+    ("displacement added", r"(?<=\[rdi)\]", "+8]"),
+    ("displacement of 0", r"(?<=\[rsi)\]", "+0]"),
+    ("rip as another base", r"\[rip", "[rbp"),
+    ("rip as eip", r"\[rip", "[eip"),
+    ("rip missing", r"\[rip\+(\d+)\]", r"[abs32:\1]"),
+    ("absolute address as rip", r"\[abs32:(\d+)\]", r"[rip+\1]"),
+    ("absolute address of another width", "abs32", "abs64"),
+    ("absolute address of 64 bits of another width", "abs64", "abs32"),
+    ("absolute address of another value", r"(abs\d\d):(\d+)", lambda m: f"{m[1]}:{int(m[2]) ^ 1}"),
+    ("absolute address in place of a base", r"MOV (e..), \[r..\]", r"MOV \1, [abs32:0]"),
+    ("string memory at another register", r"(LODS .*)\[rsi\]", r"\1[rdi]"),
+    ("immediate higher by one", r"i32:(\d+)", lambda m: f"i32:{int(m[1]) + 1}"),
+    ("immediate with the other sign", r"i8:-(\d)", r"i8:\1"),
+    ("immediate without its sign", r"i8:-(\d+)", lambda m: f"i8:{256 - int(m[1])}"),
+    ("immediate of another sign", r"i8:(?=\d)", "u8:"),
+    ("immediate of another sign, unsigned", "u8:", "i8:"),
+    ("immediate of 8 bits as 32", "i8:", "i32:"),
+    ("immediate of 32 bits as 64", "i32:", "i64:"),
+    ("immediate of 64 bits as 32", "i64:", "i32:"),
+    ("immediate of 16 bits as 32", "i16:", "i32:"),
+    ("immediate of 16 bits, signed", "u16:", "i16:"),
+    ("immediate in hexadecimal", r"i32:(\d\d+)", lambda m: f"i32:{int(m[1]):#x}"),
+    ("immediate without its type", r"i8:(?=\d)", ""),
+    ("implied immediate of a shift", "(SHL .*)i8:1", r"\1i8:2"),
+    ("implied immediate of INT3", "INT u8:3", "INT u8:1"),
+    ("distance of a branch", r"JMP i8:(-?\d+)", lambda m: f"JMP i8:{int(m[1]) ^ 2}"),
+    ("high half of an immediate of 64 bits", r"i64:(-?\d+)", lambda m: f"i64:{int(m[1]) ^ (1 << 40)}"),
+    ("size of a memory form", r"(\].*) m8$", r"\1 m4"),
+    ("size of a register form", "(, r.. )m8$", r"\1m4"),
+    ("size of a register form as none", "(, e.. )m4$", r"\1m0"),
+    ("size where there is none", "m0$", "m8"),
+    ("size of 16 bytes", "m16$", "m8"),
+    ("size of 10 bytes", "m10$", "m8"),
+    ("size of 64 bytes", "m64$", "m63"),
+    ("size that the processor decides", r"m\?$", "m64"),
+    ("size of PUSH", "(PUSH .*)m8$", r"\1m4"),
+    ("size missing", r"(ADD .*) m\d$", r"\1"),
+    ("size twice", r"(SUB .*) (m\d)$", r"\1 \2 \2"),
+    ("an operand missing", r"(IMUL [^,]*, [^,]*), \S+", r"\1"),
+    ("first operand missing", "(AND )[^,]*,", r"\1"),
+    ("operands missing", r"(SBB) .* (m\d)$", r"\1 \2"),
+    ("operand added", "CPUID", "CPUID eax, ecx"),
+    ("third operand added", r"(XOR \S+, \S+)", r"\1, i8:0"),
+    ("operand twice", "(NEG) (r..)", r"\1 \2, \2"),
+    ("operands exchanged", r"(MOV) (\S+), (r\S+)", r"\1 \3, \2"),
+    ("operands of three exchanged", r"(SHLD \S+), (r\S+),", r"SHLD \2, \1,"),
+    ("operands of a packed move exchanged", r"(MOVAPS) (\S+), (xmm\d)", r"\1 \3, \2"),
+    ("operands without a comma", r"(OR \S+),", r"\1"),
+    ("operands with a semicolon", r"(OR \S+),", r"\1;"),
+    ("two spaces", "(ADC)", r"\1 "),
+    ("space at the end", "(STC m0)$", r"\1 "),
+    ("space in front", r"^(?=\d+ \d+ CLC)", " "),
+    ("carriage return at the end", "(HLT m0)$", "\\1\r"),
+    ("segment in front of memory", r"MOV \[r", "MOV fs:[r"),
+    ("prefix in front of the name", "STOS", "REP STOS"),
+    ("instruction as refusal", r"^(\d+) \d+ NOP.*", r"\1 error: invalid opcode"),
+    ("instruction as the end", r"^(\d+) \d+ MOV.*", r"\1 error: exhausted input"),
+    ("refusal as instruction", r"^(\d+) error: invalid opcode", r"\1 1 NOP m0"),
+    ("refusal of VEX as instruction", r"^(\d+) error: the decoder is incomplete", r"\1 1 NOP m0"),
+    ("refusal invalid opcode as invalid operand", "invalid opcode", "invalid operand"),
+    ("refusal invalid operand as invalid opcode", "invalid operand", "invalid opcode"),
+    ("refusal of VEX as invalid opcode", "the decoder is incomplete", "invalid opcode"),
+    ("refusal invalid opcode as that of VEX", "invalid opcode", "the decoder is incomplete"),
+    ("refusal invalid prefixes as invalid opcode", "invalid prefixes", "invalid opcode"),
+    ("refusal invalid opcode as invalid prefixes", "invalid opcode", "invalid prefixes"),
+    ("refusal too long as exhausted input", "too long", "exhausted input"),
+    ("refusal too long as invalid opcode", "too long", "invalid opcode"),
+    ("refusal exhausted input as too long", "exhausted input", "too long"),
+    ("refusal exhausted input as invalid opcode", "exhausted input", "invalid opcode"),
+    ("refusal without its text", "error: invalid operand", "error:"),
+    ("refusal with another text", "invalid operand", "bad operand"),
+]
+
+# The kind, and what becomes of the list of all lines and the number of one in the middle.
+MOVES = {
+    "a line missing": lambda lines, at: lines[:at] + lines[at + 1 :],
+    "two lines missing": lambda lines, at: lines[:at] + lines[at + 2 :],
+    "the first line missing": lambda lines, at: lines[1:],
+    "the last line missing": lambda lines, at: lines[:-1],
+    "all lines missing": lambda lines, at: [],
+    "the second half missing": lambda lines, at: lines[:at],
+    "a line twice": lambda lines, at: lines[: at + 1] + lines[at:],
+    "the last line twice": lambda lines, at: lines + lines[-1:],
+    "all lines twice": lambda lines, at: lines + lines,
+    "two lines exchanged": lambda lines, at: lines[:at] + [lines[at + 1], lines[at]] + lines[at + 2 :],
+    "an empty line": lambda lines, at: lines[:at] + [""] + lines[at:],
+    "an empty line at the end": lambda lines, at: lines + [""],
+    "two lines in one": lambda lines, at: lines[:at] + [lines[at] + lines[at + 1]] + lines[at + 2 :],
+    "a line after the end": lambda lines, at: lines + ["999999999 1 NOP m0"],
+    "the end of the text after the lines": lambda lines, at: lines + ["text error at 7"],
+    "a byte 0 at the end of a line": lambda lines, at: lines[:at] + [lines[at] + "\0"] + lines[at + 1 :],
+}
+
+ENDS = {"the last line cut short": lambda text: text[:-4], "the last line without its end": lambda text: text[:-1]}
+
+
+def any_byte(seed):
+    """A byte of some line as another one."""
+
+    def changed(lines, at):
+        chance = random.Random(seed)
+        at = chance.randrange(len(lines))
+        place = chance.randrange(len(lines[at]))
+        other = chance.choice([it for it in "0123456789abcdefimrx,:[]+-* " if it != lines[at][place]])
+        return lines[:at] + [lines[at][:place] + other + lines[at][place + 1 :]] + lines[at + 1 :]
+
+    return changed
+
+
+def edit(pattern, text):
+    """Changes one of the lines with a pattern."""
+    def changed(lines, _):
+        found = [at for at, line in enumerate(lines) if re.search(pattern, line)]
+        if not found:
+            return lines
+        at = found[len(found) * 2 // 3]
+        return lines[:at] + [re.sub(pattern, text, lines[at], count=1)] + lines[at + 1 :]
+
+    return changed
+
+
+KINDS = {kind: edit(pattern, text) for kind, pattern, text in EDITS}
+KINDS |= MOVES
+KINDS |= {f"any byte of any line as another one, {seed}": any_byte(seed) for seed in range(1, 11)}
+KINDS |= dict.fromkeys(ENDS)
+
+
+def main(program, kind, words):
+    answer = subprocess.run([program, *words], stdin=sys.stdin, stdout=subprocess.PIPE)
+    text = answer.stdout.decode()
+    if kind in ENDS:
+        changed = ENDS[kind](text)
+    else:
+        lines = text.split("\n")[:-1]
+        changed = "".join(line + "\n" for line in KINDS[kind](lines, len(lines) // 2))
+    sys.stdout.buffer.write(changed.encode())
+    return 9 if changed == text else answer.returncode
+
+
+if __name__ == "__main__":
+    sys.exit(main(sys.argv[1], sys.argv[2], sys.argv[3:]))

@@ -1,0 +1,229 @@
+/* Applies the reasons, and counts them. */
+#include "rules.h"
+#include "judge.h"
+#include <stdio.h>
+#include <stdlib.h>
+#include <string.h>
+
+enum { MOST = 512, AT_ONE = 24 };
+
+/* One opcode byte of a row. */
+struct where {
+    const struct rule *rule;
+    int number;                  /* of the rule, for its counts */
+    unsigned columns, regs;      /* bits */
+    int form;                    /* 'r', 'm' or 0 */
+    int modrm;                   /* or -1 */
+    int p66, p67, w, r;          /* 1: must be there, -1: must not, 0: may */
+    bool rm0, any;
+};
+
+struct table {
+    struct where at[MAPS][256][AT_ONE];
+    int count[MAPS][256];
+};
+
+static struct table tables[3];
+static const struct rule *rules[MOST];
+static size_t counts[MOST][MAPS][256][COLUMNS];
+static int numbered;
+
+static void add(struct table *table, int map, int opcode, struct where where)
+{
+    int *count = &table->count[map][opcode];
+    if (*count == AT_ONE) { fprintf(stderr, "judge: too many reasons at %02X\n", opcode); exit(2); }
+    table->at[map][opcode][(*count)++] = where;
+}
+
+static void read_opcodes(struct table *table, int map, const char *word, struct where where)
+{
+    char *rest;
+    int from = (int)strtol(word, &rest, 16), to = from;
+    if (*rest == '-') to = (int)strtol(rest + 1, &rest, 16);
+    if (*rest == '=') where.modrm = (int)strtol(rest + 1, &rest, 16);
+    if (*rest == '/') {
+        where.regs = 0;
+        for (rest++; *rest >= '0' && *rest <= '7'; rest++) where.regs |= 1u << (*rest - '0');
+    }
+    if (*rest == 'r' || *rest == 'm') where.form = *rest++;
+    if (*rest != '\0') { fprintf(stderr, "judge: not an opcode: %s\n", word); exit(2); }
+    for (int opcode = from; opcode <= to; opcode++) add(table, map, opcode, where);
+}
+
+static void read_rule(struct table *table, const struct rule *rule)
+{
+    static const char *const maps[] = {"0:", "0F:", "0F38:", "0F3A:"}, *const columns[] = {"NP", "66", "F3", "F2"};
+    struct where where = {.rule = rule, .number = numbered, .regs = 0xff, .modrm = -1};
+    char text[256], *word;
+    int map = -1;
+    rules[numbered++] = rule;
+    snprintf(text, sizeof text, "%s", rule->rows);
+    for (word = strtok(text, " "); word != NULL; word = strtok(NULL, " ")) {
+        int at = 0, sign = *word == '+' ? 1 : -1;
+        while (at < 4 && strcmp(word, maps[at]) != 0) at++;
+        if (at < 4) { map = at; continue; }
+        for (at = 0; map < 0 && at < 4 && strcmp(word, columns[at]) != 0;) at++;
+        if (map < 0 && at < 4) where.columns |= 1u << at;
+        else if (strcmp(word, "rm0") == 0) where.rm0 = true;
+        else if (strcmp(word, "+any") == 0) where.any = true;
+        else if (strcmp(word + 1, "66") == 0 && map < 0) where.p66 = sign;
+        else if (strcmp(word + 1, "67") == 0 && map < 0) where.p67 = sign;
+        else if (strcmp(word + 1, "W") == 0) where.w = sign;
+        else if (strcmp(word + 1, "R") == 0) where.r = sign;
+        else {
+            if (where.columns == 0) where.columns = 15;
+            read_opcodes(table, map, word, where);
+        }
+    }
+}
+
+static bool agrees(int wanted, bool is)
+{
+    return wanted == 0 || (wanted > 0) == is;
+}
+
+static bool holds(const struct where *where, const struct code *code)
+{
+    if (!(where->columns >> code->column & 1)) return false;
+    if (!agrees(where->p66, code->p66) || !agrees(where->p67, code->p67) || !agrees(where->w, has_w(code)) || !agrees(where->r, code->rex & 4)) return false;
+    if (where->any && !(code->p66 || code->p67 || code->lock || code->segment || code->rex)) return false;
+    if (where->regs != 0xff || where->form || where->modrm >= 0 || where->rm0) {
+        int modrm = code->modrm;
+        if (modrm < 0 || (where->modrm >= 0 && modrm != where->modrm) || !(where->regs >> (modrm >> 3 & 7) & 1)) return false;
+        if (where->form && (where->form == 'r') != (modrm >> 6 == 3)) return false;
+        if (where->rm0 && (modrm & 7) != 0) return false;
+    }
+    return true;
+}
+
+static const struct where *first(int number, const struct code *code)
+{
+    if (code->opcode < 0) return NULL;
+    const struct table *table = &tables[number];
+    for (int k = 0; k < table->count[code->map][code->opcode]; k++)
+        if (holds(&table->at[code->map][code->opcode][k], code)) return &table->at[code->map][code->opcode][k];
+    return NULL;
+}
+
+static void count(const struct where *where, const struct code *code)
+{
+    counts[where->number][code->map][code->opcode][code->map == 0 ? 0 : code->column]++;
+}
+
+/* The code that stands for another one. */
+static struct code other_code(const struct code *code, const char *words)
+{
+    struct code other = *code;
+    const char *at;
+    if (strstr(words, "no-66")) other.p66 = false;
+    if (strstr(words, "no-repeat")) other.repeat = 0;
+    if ((at = strstr(words, "opcode:")) != NULL) other.opcode = (int)strtol(at + 7, NULL, 16);
+    if ((at = strstr(words, "modrm:")) != NULL) other.modrm = (int)strtol(at + 6, NULL, 16);
+    if ((at = strstr(words, "reg:")) != NULL) other.modrm = (other.modrm & 0xc7) | (at[4] - '0') << 3;
+    return other;
+}
+
+static bool read_other(const ZydisDecoder *decoder, const struct code *code, const struct code *other, struct reading *reading, ZyanStatus *status)
+{
+    unsigned char bytes[32];
+    size_t front, left = spell(other, bytes, &front);
+    if (!decode(decoder, bytes, left, reading, status)) return false;
+    read_as_here(reading);
+    reading->length = reading->length - front + code->front;
+    if (reading->length <= LONGEST) return true;
+    *status = ZYDIS_STATUS_INSTRUCTION_TOO_LONG;
+    return false;
+}
+
+static bool is_same_operand(const struct operand *one, const struct operand *other)
+{
+    return one->kind == other->kind && one->reg == other->reg && one->index == other->index && one->scale == other->scale && one->value == other->value
+        && one->is_signed == other->is_signed && one->bits == other->bits && one->text == other->text;
+}
+
+static bool is_same(const struct reading *one, const struct reading *other)
+{
+    if (strcmp(one->name, other->name) != 0 || one->count != other->count || one->size != other->size) return false;
+    for (int k = 0; k < one->count; k++)
+        if (!is_same_operand(&one->operands[k], &other->operands[k])) return false;
+    return true;
+}
+
+static void apply_changes(const struct code *code, struct reading *reading)
+{
+    static struct reading before;
+    const struct table *table = &tables[2];
+    for (int k = 0; k < table->count[code->map][code->opcode]; k++) {
+        const struct where *where = &table->at[code->map][code->opcode][k];
+        if (!holds(where, code)) continue;
+        memcpy(&before, reading, offsetof(struct reading, read));
+        change(code, reading, where->rule->words);
+        if (!is_same(&before, reading)) count(where, code);
+    }
+}
+
+/* LOCK is looked at last here: where zydis refuses it, what it answers without it decides. */
+static ZyanStatus status_without_lock(const ZydisDecoder *decoder, const struct code *code, struct reading *reading)
+{
+    struct code other = *code;
+    unsigned char bytes[32];
+    size_t front;
+    ZyanStatus status;
+    other.lock = false;
+    if (!decode(decoder, bytes, spell(&other, bytes, &front), reading, &status)) return status;
+    return reading->read.length - front + code->front > LONGEST ? ZYDIS_STATUS_INSTRUCTION_TOO_LONG : ZYDIS_STATUS_ILLEGAL_LOCK;
+}
+
+/* The line that is expected at some bytes. */
+void expect(const ZydisDecoder *decoder, const struct code *code, struct reading *reading)
+{
+    ZyanStatus status;
+    struct code other = *code;
+    bool is_read = decode(decoder, code->bytes, code->left, reading, &status);
+    const struct where *where = first(0, code);
+    if (where) {
+        if (is_read) count(where, code);
+        reading->refusal = refusal_of(decoder, code, NULL, ZYDIS_STATUS_DECODING_ERROR);
+        return;
+    }
+    if (is_read) read_as_here(reading);
+    where = first(1, code);
+    if (where) {
+        bool was_read = is_read;
+        ZydisMnemonic was = reading->read.mnemonic;
+        other = other_code(code, where->rule->words);
+        is_read = read_other(decoder, code, &other, reading, &status);
+        if (is_read && (!was_read || was != reading->read.mnemonic)) count(where, code);
+    }
+    if (is_read) { apply_changes(code, reading); return; }
+    if (status == ZYDIS_STATUS_ILLEGAL_LOCK) status = status_without_lock(decoder, &other, reading);
+    reading->refusal = refusal_of(decoder, code, &other, status);
+}
+
+void prepare_rules(void)
+{
+    const struct rule *const lists[] = {refused, read_otherwise, changed};
+    for (int k = 0; k < 3; k++)
+        for (const struct rule *rule = lists[k]; rule->reason != NULL; rule++) {
+            if (numbered == MOST) { fprintf(stderr, "judge: too many rules\n"); exit(2); }
+            read_rule(&tables[k], rule);
+        }
+}
+
+/* A line for each reason at each row: `reason COUNT ROW REASON`, with a tab between. */
+void print_reasons(void)
+{
+    for (int k = 0; k < numbered; k++)
+        for (int map = 0; map < MAPS; map++)
+            for (int opcode = 0; opcode < 256; opcode++)
+                for (int column = 0; column < COLUMNS; column++)
+                    if (counts[k][map][opcode][column] > 0)
+                        printf("reason\t%zu\t%s\t%s\n", counts[k][map][opcode][column], row_name(map, opcode, (enum column)column), rules[k]->reason);
+}
+
+void print_names(void)
+{
+    const struct rule *const lists[] = {refused, read_otherwise, changed};
+    for (int k = 0; k < 3; k++)
+        for (const struct rule *rule = lists[k]; rule->reason != NULL; rule++) puts(rule->reason);
+}
