@@ -5,8 +5,9 @@
 
 Examples of README.md and docs/USAGE.md: in a block of indented lines, each line behind `$ ` is run by the shell, in a folder with `x86`
 and examples/, and what it prints must be the lines below it. Where these are `...`, anything may be printed. In the table of statuses the
-example of a row must end with its status. The program is the built one, or the one that PROGRAM names; where there is none, or a tool
-of an example is missing, these examples are skipped with a line.
+example of a row must end with its status. Standard error must be empty, but for the usage line at status 2. Each run must end within a minute.
+The program is the built one, or the one that PROGRAM names; where there is none, or a tool of an example is missing, these examples are
+skipped with a line.
 
 Examples of docs/GUIDE.md: each indented block stands in one of the files of `CODE`, line by line, only further to the right.
 """
@@ -14,13 +15,16 @@ Examples of docs/GUIDE.md: each indented block stands in one of the files of `CO
 import os
 import re
 import shutil
+import signal
 import subprocess
 import sys
 import tempfile
 from pathlib import Path
 
 TOP = Path(__file__).resolve().parent.parent
-PROGRAM = Path(os.environ.get("PROGRAM") or TOP / "crates" / "x86_cli" / "out" / "x86_cli").resolve()
+CRATE = re.search(r"^PROGRAM_CRATE=(\w+)$", (TOP / "tools" / "program.sh").read_text(), re.M)[1]
+PROGRAM = Path(os.environ.get("PROGRAM") or TOP / "crates" / CRATE / "out" / CRATE).resolve()
+SECONDS = 60
 CODE = ["crates/x86_vectors/src/guide_tests.rt", "crates/x86_vectors/src/two_buffers.rt", "examples/own", "tools/own_test"]
 TOOLS = ["objcopy", "xxd", "hexdump", "od", "paste", "xargs"]
 
@@ -54,7 +58,21 @@ def lacking(command):
 
 
 def run(command, folder):
-    return subprocess.run(["sh", "-c", command], cwd=folder, stdin=subprocess.DEVNULL, stdout=subprocess.PIPE, stderr=subprocess.STDOUT, text=True)
+    """What a command writes to standard output and to standard error, and its status, which is None where it took too long."""
+    how = {"stdin": subprocess.DEVNULL, "stdout": subprocess.PIPE, "stderr": subprocess.PIPE, "text": True}
+    started = subprocess.Popen(["sh", "-c", command], cwd=folder, start_new_session=True, **how)
+    try:
+        return (*started.communicate(timeout=SECONDS), started.returncode)
+    except subprocess.TimeoutExpired:
+        os.killpg(started.pid, signal.SIGKILL)
+        return (*started.communicate(), None)
+
+
+def differs(page, command, what, got, wanted):
+    """Whether what a command did isn't what the page says of it."""
+    if got != wanted:
+        print(f"pages: {page}: {what} of: {command}\n--- the page\n{wanted}\n--- the run\n{got}\n---", file=sys.stderr)
+    return got != wanted
 
 
 def run_examples(page):
@@ -67,16 +85,16 @@ def run_examples(page):
             if lacking(command):
                 print(f"pages: skipped, {lacking(command)[0]} is missing: {command}", file=sys.stderr)
                 continue
-            got = run(command, folder).stdout.rstrip("\n")
-            if wanted != "..." and got != wanted:
-                print(f"pages: {page}: {command}\n--- the page\n{wanted}\n--- printed\n{got}\n---", file=sys.stderr)
-                wrong += 1
+            printed, said, status = run(command, folder)
+            wrong += status is None and differs(page, command, "status", status, 0)
+            wrong += wanted != "..." and differs(page, command, "output", printed.rstrip("\n"), wanted)
+            wrong += differs(page, command, "standard error", said, "")
         for status, command in re.findall(r"^\| (\d+) \|.*\| `(.*)` \|$", (TOP / page).read_text(), re.M):
             command = command.replace("\\|", "|")
-            got = run(command, folder).returncode
-            if got != int(status):
-                print(f"pages: {page}: status {got} and not {status}: {command}", file=sys.stderr)
-                wrong += 1
+            printed, said, got = run(command, folder)
+            wrong += differs(page, command, "status", got, int(status))
+            wrong += differs(page, command, "usage line on standard error", said.startswith("usage: "), got == 2)
+            wrong += differs(page, command, "usage line on standard output", printed.startswith("usage: "), False)
     return wrong
 
 

@@ -1,27 +1,21 @@
-//! The listing of the x86-64 instructions of a hex text.
+//! The listing of the x86-64 instructions of a hex text: the words, three streams, and the code of the end.
 #![tactic(auto)]
 
 use std::process::ExitCode;
 use std::{env, io};
-use x86_cli::{Status, USAGE, listed};
+use x86_cli::{finish, listed, words};
 
+/// The words after the program's name.
 fn arguments(rt: &HostRuntime) -> io::Result<Vec<String>> {
-    let mut arguments = Vec::new(rt.alloc());
-    for argument in env::args(rt)?.skip(1) {
-        arguments.push(argument)?;
-    }
-    Ok(arguments)
+    Ok(words(rt.alloc(), env::args(rt)?)?)
 }
 
 fn main(rt: HostRuntime) -> ExitCode {
     match arguments(&rt) {
         Err(_) => ExitCode::from(1),
-        Ok(arguments) => {
-            let (status, _) = listed(arguments.as_slice(), rt.reader(), io::writer(&rt));
-            if let Status::Usage = status {
-                let _ = eprintln!(rt; "{USAGE}");
-            }
-            ExitCode::from(status.code())
+        Ok(words) => {
+            let finished = listed(words.as_slice(), rt.reader(), io::writer(&rt));
+            finish(finished.status, rt.stderr()).0
         }
     }
 }

@@ -3,6 +3,5 @@ pub mod Causes
 pub mod Stay
 pub mod Says
 pub mod Program
+pub mod Leaves
 pub mod Ahead
-pub mod Faults
-pub mod WriteFaults

@@ -7,3 +7,4 @@ pub mod Causes
 pub mod Says
 pub mod Follows
 pub mod Program
+pub mod Process

@@ -2,4 +2,5 @@
 
 pub mod command;
 pub mod make;
+pub mod process;
 pub mod program;

@@ -9,6 +9,7 @@ ghost use Rattle.x86_cli.specs.Commands.Follows.{IsExact, HasReadFault, Complete
 ghost use Rattle.x86_cli.specs.Listings.Listing.{LinesLeaveStatus};
 ghost use Rattle.x86_cli.specs.Text.Reading.{Gave};
 ghost use Rattle.x86_cli.specs.Commands.Make.{made_listing};
+ghost use Rattle.x86_cli.specs.Commands.Program.{Performs, PerformsMake, Has, Leaves};
 ghost use Rattle.x86_cli.specs.Commands.Run.{Took, Wrote};
 ghost use Rattle.x86_cli.specs.Commands.Says.{Makes, Says, Streams};
 ghost use Rattle.x86_cli.specs.Outside.FaultCounts.{Rose};
@@ -18,8 +19,11 @@ ghost use Rattle.x86_cli.specs.Text.Pairs.{SequencesAreSound, BadIsFirst};
 
 use crate::commands::command::Command;
 use crate::listings::status::Status;
+use crate::outside::input::Input;
+use crate::outside::output::Output;
 use crate::outside::sink::{Sink, SinkFailed};
 use crate::outside::source::{Got, Source};
+use std::io::{Read, Write};
 use x86_decode::laws;
 
 /// No byte is bad exactly in a sequence of blanks and pairs.
@@ -111,6 +115,19 @@ pub fn complete()
     ensures listing { CompletesTexts }
     ensures run { (c : Command) (status : Status) (old new : Streams)
         → Says status c old new → Completes status c old new }
+{
+    decoder_laws();
+}
+
+/// What `listed` leaves, where the reader tells the bytes that it has left and the writer the bytes that it has: the
+/// writer has what it had and then the listing of these bytes, or a prefix of that where a write failed.
+pub fn program<R: Read, W: Write>()
+    ensures lists { (c : Command) (status : Status) (r r' : R) (w w' : W) →
+        Performs ⟦<W as Output>⟧.writes ⟦<W as Output>⟧.flushes ⟦<R as Input>⟧.reads c status r r' w w' →
+        Leaves status c (R.remaining r) (W.contents w) (W.contents w') }
+    ensures made { (n : ℕ) (status : Status) (w w' : W) →
+        PerformsMake ⟦<W as Output>⟧.writes ⟦<W as Output>⟧.flushes n status w w' →
+        Has status (made_listing n) (W.contents w) (W.contents w') }
 {
     decoder_laws();
 }

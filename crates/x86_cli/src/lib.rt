@@ -18,7 +18,8 @@ pub mod text;
 
 pub use commands::command::{TARGETS_MAX, TEXT_MAX, USAGE, run};
 pub use commands::make::generate;
-pub use commands::program::listed;
+pub use commands::process::{finish, words};
+pub use commands::program::{Finished, listed};
 pub use listings::status::Status;
 pub use outside::array_sink::ArraySink;
 pub use outside::null_sink::NullSink;

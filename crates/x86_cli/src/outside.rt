@@ -1,11 +1,11 @@
 //! What is outside of a run: sources, sinks, and the buffer in front of a writer.
 
 pub mod array_sink;
-pub mod counted;
 pub mod gathered;
 pub mod input;
 pub mod null_sink;
 pub mod output;
+mod sending;
 pub mod sink;
 pub mod slice_source;
 pub mod sound_source;

@@ -4,7 +4,7 @@ use crate::support::arguments;
 use std::alloc::{AllocError, Global};
 use std::io;
 use std::io::{ErrorKind, Read, Write};
-use x86_cli::{Status, listed};
+use x86_cli::{Finished, Status, listed};
 
 /// Gives one byte a read, and fails at the read with a number, from 0.
 #[derive(Drop)]
@@ -79,12 +79,12 @@ fn long_text(alloc: Global, pairs: u64, singles: u64) -> Result<(Vec<u8>, String
     Ok((text, listing))
 }
 
-/// How the program ends with `list` over these, and the writer; `None` where its argument finds no memory.
+/// How the program ends with `list` over these; `None` where its argument finds no memory.
 fn program_ending<R: Read + Drop, W: Write + Drop>(
     alloc: Global,
     reader: R,
     writer: W,
-) -> Option<(Status, W)> {
+) -> Option<Finished<R, W>> {
     let arguments = arguments(alloc, &["list"]).ok()?;
     Some(listed(arguments.as_slice(), reader, writer))
 }
@@ -101,8 +101,10 @@ fn lists_whole(alloc: Global, pairs: u64, singles: u64, most: usize) -> bool {
         flushes: true,
     };
     match program_ending(alloc, text.as_slice(), writer) {
-        Some((Status::Done, writer)) => writer.kept.as_slice() == listing.as_bytes(),
-        _ => false,
+        Some(end) => {
+            end.status == Status::Done && end.writer.kept.as_slice() == listing.as_bytes()
+        }
+        None => false,
     }
 }
 
@@ -118,9 +120,7 @@ fn long_outputs(rt: HostRuntime) {
 /// Whether the program over this reader writes this and ends with this code.
 fn ends<R: Read + Drop>(alloc: Global, reader: R, written: &str, code: u8) -> bool {
     match program_ending(alloc, reader, Vec::new(alloc)) {
-        Some((status, writer)) => {
-            status.code() == code && writer.as_slice() == written.as_bytes()
-        }
+        Some(end) => { end.status.code() == code && end.writer.as_slice() == written.as_bytes() }
         None => false,
     }
 }
@@ -153,6 +153,61 @@ fn readers_that_fail(rt: HostRuntime) {
     }
 }
 
+/// How many reads the listing of this text makes, where each returns one byte.
+fn reads_of(alloc: Global, text: &[u8]) -> Option<u64> {
+    let reader = OneByOne {
+        bytes: text,
+        read: 0,
+        fails: u64::MAX,
+        error: ErrorKind::Other,
+    };
+    Some(program_ending(alloc, reader, Vec::new(alloc))?.reader.read)
+}
+
+#[test]
+fn the_end_is_read_once(rt: HostRuntime) {
+    // A read for each byte of the text, and one that returns none.
+    assert!(&rt; reads_of(rt.alloc(), b"") == Some(1));
+    assert!(&rt; reads_of(rt.alloc(), b"90 90") == Some(6));
+    // After a byte that can't stand at its place, nothing is read.
+    assert!(&rt; reads_of(rt.alloc(), b"90 9z90") == Some(5));
+    // A refusal is listed when 15 bytes of the image are held.
+    let refused = b"06 90909090909090909090909090909090909090909090";
+    assert!(&rt; reads_of(rt.alloc(), refused) == Some(31));
+}
+
+/// Fails at each write, and counts them.
+#[derive(Drop)]
+struct Failing {
+    writes: u64,
+    error: ErrorKind,
+}
+
+impl Write for Failing {
+    fn write(&mut self, _buf: &[u8]) -> io::Result<usize> {
+        self.writes = self.writes.saturating_add(1);
+        Err(io::Error::from(self.error))
+    }
+
+    fn flush(&mut self) -> io::Result<()> {
+        Ok(())
+    }
+}
+
+#[test]
+fn a_failed_write_is_not_tried_again(rt: HostRuntime) {
+    let errors = [
+        ErrorKind::Other,
+        ErrorKind::BrokenPipe,
+        ErrorKind::OutOfMemory,
+    ];
+    for error in errors {
+        let text: &[u8] = b"90";
+        let end = program_ending(rt.alloc(), text, Failing { writes: 0, error });
+        assert!(&rt; matches!(end, Some(end) if end.status.code() == 6 && end.writer.writes == 1));
+    }
+}
+
 #[test]
 fn an_interrupted_read_is_a_fault_too(rt: HostRuntime) {
     assert!(&rt; fails_at(rt.alloc(), 0, ErrorKind::Interrupted, "read fault\n", 5));
@@ -167,9 +222,9 @@ fn flushes_that_fail(rt: HostRuntime) {
         flushes: false,
     };
     let text: &[u8] = b"90";
-    let (status, writer) = program_ending(rt.alloc(), text, writer).expect(&rt, "memory");
-    assert!(&rt; status.code() == 6);
-    assert!(&rt; writer.kept.as_slice() == b"0 1 NOP m0\n".as_slice());
+    let end = program_ending(rt.alloc(), text, writer).expect(&rt, "memory");
+    assert!(&rt; end.status.code() == 6);
+    assert!(&rt; end.writer.kept.as_slice() == b"0 1 NOP m0\n".as_slice());
 }
 
 #[test]
@@ -184,6 +239,7 @@ fn exit_codes(rt: HostRuntime) {
         assert!(&rt; ends(rt.alloc(), text.as_bytes(), written, code));
     }
     let text: &[u8] = b"90";
-    let (status, writer) = listed(&[], text, Vec::new(rt.alloc()));
-    assert!(&rt; status.code() == 2 && writer.as_slice().is_empty());
+    let end = listed(&[], text, Vec::new(rt.alloc()));
+    assert!(&rt; end.status.code() == 2 && end.writer.as_slice().is_empty());
+    assert!(&rt; end.reader == text);
 }

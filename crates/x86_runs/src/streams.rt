@@ -1,10 +1,10 @@
 //! Runs over sources and sinks that fail, and over readers and writers.
 
-use x86_cli::outside::gathered::Gathered;
 use crate::support::{ending, runs};
 use std::alloc::Global;
 use std::io;
 use std::io::{ErrorKind, Read, Write};
+use x86_cli::outside::gathered::Gathered;
 use x86_cli::{ArraySink, NullSink, Sink, SoundSource, Status, StdSink, StdSource};
 
 /// Two instructions.
@@ -164,6 +164,15 @@ fn writers_that_do(rt: HostRuntime) {
 fn writers_that_fail(rt: HostRuntime) {
     let narrow = NarrowWriter { room: 30 };
     assert!(&rt; listed_to(rt.alloc(), narrow) == (Some(Status::WriteFault), 1));
+}
+
+#[test]
+fn a_long_piece(rt: HostRuntime) {
+    let mut written = [0; 200];
+    let mut room: &mut [u8] = &mut written;
+    let mut sink = StdSink::new(&mut room);
+    assert!(&rt; sink.put(&[b'x'; 200]).is_ok() && sink.faults() == 0);
+    assert!(&rt; written == [b'x'; 200]);
 }
 
 #[test]

@@ -1,148 +1,265 @@
--- What the program leaves, from what its run says and what was sent behind it.
-use Rattle.std.proofs.Common.{◌≡◌, ◌≢◌, inl, inr, ℕ, List, [], ◌++◌, Option, Some, None, refl, ap, ◌∙◌, sym, subst, append_assoc, append-nil}
-use Rattle.std.proofs.Math.Seq.{take-append_seam}
-use Rattle.std.specs.Prelude.{IfSome, OnOk, Result, Ok, Err, ⊤}
+-- What the program does, from the calls of its run and the flush after it.
+use Rattle.std.proofs.Common.{◌≡◌, ◌≢◌, ℕ, List, [], ◌∷◌, ◌++◌, take, drop, Option, Some, None, Result, Ok, Err, refl, ap, ◌∙◌, sym, subst, append_assoc, append-nil, take-append-drop}
+use Rattle.std.proofs.lemmas.List.Folds.{concat-append}
+use Rattle.std.specs.Prelude.{IfSome, OnOk, ⊤}
 use Rattle.std.specs.List.{concat}
-use Rattle.std.specs.Io.{StartsWith}
-use Rattle.std.specs.Io.KnownBytes.{Keeps, Consumes, Appends, append_known}
+use Rattle.std.specs.declared.io.Error.{Error}
+use Rattle.x86_cli.specs.declared.outside.source.Got.{Got}
+use Rattle.x86_cli.specs.declared.outside.sink.SinkFailed.{SinkFailed}
 use Rattle.x86_cli.specs.declared.commands.command.Command.{Command}
 use Rattle.x86_cli.specs.declared.listings.status.Status.{Status}
 use Rattle.x86_cli.specs.declared.listings.status.Status.TheVariants.{Done, Usage, Refused, BadText, ReadFault, WriteFault, TooLarge}
+use Rattle.x86_cli.specs.Outside.Stop.{Stop, End, Failed}
+use Rattle.x86_cli.specs.Outside.StdSource.{Fetches}
+use Rattle.x86_cli.specs.Outside.Writes.{Call, AllGoOn, Cause, EndsInFlush, Flush, Write, Caused, Forwards, FlushesOut, PutSends, Settles, taken_by}
+use Rattle.x86_cli.specs.Text.{text_of}
+use Rattle.x86_cli.specs.Text.Reading.{Asked, Gave, MayCome}
 use Rattle.x86_cli.specs.Listings.Listing.{Listing}
+use Rattle.x86_cli.specs.Commands.Command.{listing_for, max_of, Runs}
 use Rattle.x86_cli.specs.Commands.Make.{made_listing}
-use Rattle.x86_cli.specs.Commands.Says.{World, full_listing, taken_listing, WritesFront, Makes, Says}
-use Rattle.x86_cli.proofs.CommandLemmas.Says.{each_known}
-use Rattle.x86_cli.specs.Commands.Program.{ending_of, Has, HasFront, Ends, EndsMade}
+use Rattle.x86_cli.specs.Commands.Run.{Took, Lists, Wrote, Ran}
+use Rattle.x86_cli.specs.Commands.Program.{ending_of, fault_of, EndsAt, IsPrinted, Finishes, Performs, PerformsMake}
+use Rattle.x86_cli.proofs.CommandLemmas.Causes.{some_stop, causes, command_used, command_written, ran_used}
+use Rattle.x86_cli.proofs.CommandLemmas.Says.{end_stop, fault_status, asked_failed}
+use Rattle.x86_cli.proofs.OutsideLemmas.Flat.{flat, took_on, took_fault}
+use Rattle.x86_cli.proofs.OutsideLemmas.Reads.{Fetched, fetched, stopped_empty}
+use Rattle.x86_cli.proofs.OutsideLemmas.Writes.{caused_join, caused_ok, caused_err, forwards_join}
 
-taken_front : (a b : Option (List ℕ)) (taken : List ℕ) → Consumes a b taken → IfSome a (λ xs. StartsWith xs taken)
-taken_front None b taken c = tt
-taken_front (Some xs) None taken c = absurd c
-taken_front (Some xs) (Some ys) taken c = rw c (take-append_seam taken ys)
+no_fault : (status : Status) → status ≢ WriteFault → fault_of status ≡ Ok tt
+no_fault Done ne = refl
+no_fault Usage ne = refl
+no_fault Refused ne = refl
+no_fault BadText ne = refl
+no_fault ReadFault ne = refl
+no_fault TooLarge ne = refl
+no_fault WriteFault ne = absurd (ne refl)
 
--- What was put is with the writer, and behind that what is held.
-kept_written : (w g w' : Option (List ℕ)) (held bytes : List ℕ) → Appends (append_known w []) g bytes → Keeps g (append_known w' held) → Appends w (append_known w' held) bytes
-kept_written None g w' held bytes a k = tt
-kept_written (Some x) None w' held bytes a k = absurd a
-kept_written (Some x) (Some y) None held bytes a k = absurd k
-kept_written (Some x) (Some y) (Some z) held bytes a k = k ∙ a ∙ ap (λ x. x ++ bytes) (append-nil x)
+flush_joined : (cs ds : List Call) → EndsInFlush cs → EndsInFlush (cs ++ ds)
+flush_joined [] ds e = absurd e
+flush_joined (Write bytes answer ∷ cs) ds e = absurd e
+flush_joined (Flush (Ok done) ∷ cs) ds e = tt
+flush_joined (Flush (Err f) ∷ cs) ds e = absurd e
 
-all_sent : (w w' : Option (List ℕ)) (held bytes : List ℕ) → held ≡ [] → Appends w (append_known w' held) bytes → Appends w w' bytes
-all_sent None w' held bytes none a = tt
-all_sent (Some x) None held bytes none a = absurd a
-all_sent (Some x) (Some z) held bytes none a = sym (append-nil z) ∙ ap (λ h. z ++ h) (sym none) ∙ a
+-- what was sent and is held is the beginning of a listing
+printed : (ended status : Status) (bytes held : List ℕ) (lines : List (List ℕ)) (l : Listing) → (ended ≢ WriteFault → (held ≡ []) × (ended ≡ status)) →
+    bytes ++ held ≡ concat lines → l ≡ record { lines = lines; status = status } → IsPrinted ended bytes l
+printed ended status bytes held lines l all order is = record {
+  unsent = held;
+  whole = ap (λ l. concat l.lines) is ∙ sym order;
+  all = λ ne. ((all ne).0, (all ne).1 ∙ sym (ap (λ l. l.status) is));
+}
 
-more_held : (w w' : Option (List ℕ)) (held part more : List ℕ) → Appends w (append_known w' held) part → Appends w (append_known w' (held ++ more)) (part ++ more)
-more_held None w' held part more a = tt
-more_held (Some x) None held part more a = absurd a
-more_held (Some x) (Some z) held part more a = sym (append_assoc z held more) ∙ ap (λ l. l ++ more) a ∙ append_assoc x part more
+printed_part : (bytes held : List ℕ) (lines : List (List ℕ)) (failed : List ℕ) (n : ℕ) (more : List (List ℕ)) (l : Listing) →
+    bytes ++ held ≡ concat lines ++ take n failed → l.lines ≡ lines ++ failed ∷ more → IsPrinted WriteFault bytes l
+printed_part bytes held lines failed n more l order is =
+    let rest : List ℕ = drop n failed ++ concat more in
+    let divided : failed ++ concat more ≡ take n failed ++ rest =
+    ap (λ f. f ++ concat more) (sym (take-append-drop n failed)) ∙ append_assoc (take n failed) (drop n failed) (concat more) in
+    record {
+      unsent = held ++ rest;
+      whole = ap concat is ∙ concat-append lines (failed ∷ more) ∙ ap (λ f. concat lines ++ f) divided ∙ sym (append_assoc (concat lines) (take n failed) rest)
+          ∙ ap (λ f. f ++ rest) (sym order) ∙ append_assoc bytes held rest;
+      all = λ ne. absurd (ne refl);
+    }
 
-module _ (g w w' : Option (List ℕ)) (held : List ℕ) (kept : Keeps g (append_known w' held)) where
-  has : (status : Status) (l : Listing) → held ≡ [] → (status ≡ l.status) × Appends (append_known w []) g (concat l.lines) → Has status l w w'
-  has status l none writes = (writes.0, all_sent w w' held (concat l.lines) none (kept_written w g w' held (concat l.lines) writes.1 kept))
+module _ {W : Type 0} (writes : W → List ℕ → Result ℕ Error → W → Type 0) (flushes : W → Result ⊤ Error → W → Type 0) where
+  -- calls, and then those of a flush that succeeded
+  finishes_flushed : (status : Status) (bs cs : List ℕ) (a b d : W) → status ≢ WriteFault → Caused writes flushes {A = ⊤} {E = SinkFailed} (Ok tt) bs a b →
+      (c : Caused writes flushes {A = ⊤} {E = SinkFailed} (Ok tt) cs b d) → EndsInFlush c.calls → Finishes writes flushes status (bs ++ cs) a d
+  finishes_flushed status bs cs a b d ne f c ends =
+      let j : Caused writes flushes {A = ⊤} {E = SinkFailed} (Ok tt) (bs ++ cs) a d = caused_join writes flushes tt (Ok tt) bs cs a b d f c in
+      record {
+        caused = record {
+          calls = j.calls;
+          did = j.did;
+          cause = subst (λ o. Cause {A = ⊤} {E = ⊤} o j.calls) (sym (no_fault status ne)) j.cause;
+          sends = j.sends;
+        };
+        flushed = λ _. flush_joined c.calls f.calls ends;
+      }
 
-  has_front : (l : Listing) → Appends (append_known w []) g (concat l.lines) → HasFront l w w'
-  has_front l wrote = (held, kept_written w g w' held (concat l.lines) wrote kept)
+  finishes_failed : (f : SinkFailed) (bs : List ℕ) (a b : W) → Caused writes flushes {A = ⊤} {E = SinkFailed} (Err f) bs a b → Finishes writes flushes WriteFault bs a b
+  finishes_failed f bs a b c = record { caused = caused_err writes flushes f tt bs a b c; flushed = λ ne. absurd (ne refl) }
 
-  has_part : (l : Listing) → WritesFront (append_known w []) g l → HasFront l w w'
-  has_part l front =
-      let part = kept_written w g w' held front.part front.wrote kept in
-      (held ++ front.more, subst (Appends w (append_known w' (held ++ front.more))) (sym front.whole) (more_held w w' held front.part front.more part))
+  -- What the writer took, of a run that put these lines and then, where there is one, failed at a line.
+  pub record Printed (status ended : Status) (lines : List (List ℕ)) (failed : Option (List ℕ)) (old new : W) : Type 0 where
+    pub bytes : List ℕ
+    pub wrote : Finishes writes flushes ended bytes old new
+    pub prints : (l : Listing) → Lists status lines failed l → IsPrinted ended bytes l
 
-  -- a run of `make`
-  made_front : (n : ℕ) (status : Status) (faults faults' : ℕ) → Makes n status (append_known w []) g faults faults' → HasFront (made_listing n) w w'
-  made_front n Done faults faults' makes = has_front (made_listing n) makes.0
-  made_front n WriteFault faults faults' makes = has_part (made_listing n) makes.1
-  made_front n Usage faults faults' makes = absurd makes
-  made_front n Refused faults faults' makes = absurd makes
-  made_front n BadText faults faults' makes = absurd makes
-  made_front n ReadFault faults faults' makes = absurd makes
-  made_front n TooLarge faults faults' makes = absurd makes
+  -- all lines were put, and then flushed
+  flushed_lines : (status : Status) (lines : List (List ℕ)) (held : List ℕ) (a b d : W) (held' : List ℕ) → status ≢ WriteFault →
+      Forwards writes flushes {A = ⊤} {E = SinkFailed} (Ok tt) (concat lines) [] held a b → (r : Result ⊤ SinkFailed) → FlushesOut writes flushes r held held' b d →
+      Printed status (ending_of status r) lines None a d
+  flushed_lines status lines held a b d held' ne f (Ok tt) g =
+      let order : (f.bytes ++ g.0.bytes) ++ held' ≡ concat lines =
+      append_assoc f.bytes g.0.bytes held' ∙ ap (λ s. f.bytes ++ s) (g.0.order ∙ append-nil held) ∙ f.order in
+      record {
+        bytes = f.bytes ++ g.0.bytes;
+        wrote = finishes_flushed status f.bytes g.0.bytes a b d ne f.caused g.0.caused g.1.1;
+        prints = λ l is. printed status status (f.bytes ++ g.0.bytes) held' lines l (λ _. (g.1.0, refl)) order is;
+      }
+  flushed_lines status lines held a b d held' ne f (Err e) g =
+      let order : (f.bytes ++ g.0.bytes) ++ held' ≡ concat lines =
+      append_assoc f.bytes g.0.bytes held' ∙ ap (λ s. f.bytes ++ s) (g.0.order ∙ append-nil held) ∙ f.order in
+      record {
+        bytes = f.bytes ++ g.0.bytes;
+        wrote = finishes_failed e (f.bytes ++ g.0.bytes) a d (caused_join writes flushes tt (Err e) f.bytes g.0.bytes a b d f.caused g.0.caused);
+        prints = λ l is. printed WriteFault status (f.bytes ++ g.0.bytes) held' lines l (λ ne. absurd (ne refl)) order is;
+      }
 
-  made_sent : (n : ℕ) (status : Status) (faults faults' : ℕ) → status ≢ WriteFault → (status ≢ Usage → held ≡ []) → Makes n status (append_known w []) g faults faults' → EndsMade status n w w'
-  made_sent n Done faults faults' written sent makes = has Done (made_listing n) (sent (λ f. cc)) (refl, makes.0)
-  made_sent n WriteFault faults faults' written sent makes = absurd (written refl)
-  made_sent n Usage faults faults' written sent makes = absurd makes
-  made_sent n Refused faults faults' written sent makes = absurd makes
-  made_sent n BadText faults faults' written sent makes = absurd makes
-  made_sent n ReadFault faults faults' written sent makes = absurd makes
-  made_sent n TooLarge faults faults' written sent makes = absurd makes
+  ending_failed : (r : Result ⊤ SinkFailed) → ending_of WriteFault r ≡ WriteFault
+  ending_failed (Ok tt) = refl
+  ending_failed (Err e) = refl
 
-  -- a run that reads
-  module _ (c : Command) (left : Option (List ℕ)) (faults others : ℕ) (left' : Option (List ℕ)) (faults' others' : ℕ) where
-    abbrev Said : Status → Type 0
-    Said status = Says status c (record { left = left; source_faults = faults; written = append_known w []; sink_faults = others })
-        (record { left = left'; source_faults = faults'; written = g; sink_faults = others' })
+  -- a put failed, and nothing was sent after it
+  failed_line : (lines : List (List ℕ)) (failed : List ℕ) (n : ℕ) (held : List ℕ) (a b : W) (e : SinkFailed) → Forwards writes flushes {A = ⊤} {E = SinkFailed} (Err e) (concat lines ++ take n failed) [] held a b →
+      Printed WriteFault WriteFault lines (Some failed) a b
+  failed_line lines failed n held a b e f = record {
+    bytes = f.bytes;
+    wrote = finishes_failed e f.bytes a b f.caused;
+    prints = λ l is. printed_part f.bytes held lines failed n is.1.0 l f.order is.1.1;
+  }
 
-    ends_sent : (status : Status) → status ≢ WriteFault → (status ≢ Usage → held ≡ []) → Said status → Ends status c left w w'
-    ends_sent Done written sent says = each_known left (λ b writes. has Done (full_listing c b) (sent (λ f. cc)) writes) says.0
-    ends_sent Usage written sent says = absurd says
-    ends_sent Refused written sent says = each_known left (λ b writes. has Refused (full_listing c b) (sent (λ f. cc)) writes) says.0
-    ends_sent BadText written sent says = each_known left (λ b writes. has BadText (full_listing c b) (sent (λ f. cc)) writes) says.0
-    ends_sent TooLarge written sent says = each_known left (λ b writes. has TooLarge (full_listing c b) (sent (λ f. cc)) writes) says.0
-    ends_sent ReadFault written sent says =
-        let of_taken = says.0 in
-        (of_taken.taken, taken_front left left' of_taken.taken of_taken.takes, has ReadFault (taken_listing c of_taken.taken) (sent (λ f. cc)) of_taken.writes)
-    ends_sent WriteFault written sent says = absurd (written refl)
+  module _ {G K : Type 0} (gwrites : G → List ℕ → Result ℕ Error → G → Type 0) (gflushes : G → Result ⊤ Error → G → Type 0) (behind : G → W) (held : G → List ℕ)
+      (by_write : (s : G) (bytes : List ℕ) (r : Result ℕ Error) (t : G) → gwrites s bytes r t → Forwards writes flushes r (taken_by r bytes) (held s) (held t) (behind s) (behind t) × Settles r bytes)
+      (by_flush : (s : G) (r : Result ⊤ Error) (t : G) → gflushes s r t → Forwards writes flushes r [] (held s) (held t) (behind s) (behind t))
+      (takes : K → List ℕ → Result ⊤ SinkFailed → K → Type 0) (buffer : K → G)
+      (puts : (s : K) (piece : List ℕ) (r : Result ⊤ SinkFailed) (t : K) → takes s piece r t → PutSends gwrites gflushes r piece (buffer s) (buffer t)) where
+    module _ (k l : K) (empty : held (buffer k) ≡ []) where
+      forwarded : (r : Result ⊤ SinkFailed) (bytes : List ℕ) → Caused gwrites gflushes r bytes (buffer k) (buffer l) → Forwards writes flushes r bytes [] (held (buffer l)) (behind (buffer k)) (behind (buffer l))
+      forwarded r bytes c = subst (λ h. Forwards writes flushes r bytes h (held (buffer l)) (behind (buffer k)) (behind (buffer l))) empty (flat writes flushes gwrites gflushes behind held by_write by_flush r bytes _ _ c)
 
-    full_front : (status : Status) → IfSome left (λ b. (status ≡ (full_listing c b).status) × Appends (append_known w []) g (concat (full_listing c b).lines)) → Ends WriteFault c left w w'
-    full_front status full = inl (each_known left (λ b writes. has_front (full_listing c b) writes.1) full)
+      -- A run and the flush after it, whose first listing is this.
+      pub run_printed : (status : Status) (lines : List (List ℕ)) (failed : Option (List ℕ)) (first : Listing) → Lists status lines failed first → first.status ≢ WriteFault → first.status ≢ Usage →
+          Took takes lines failed k l → (r : Result ⊤ SinkFailed) (g : G) → (status ≡ WriteFault → g ≡ buffer l) →
+          (status ≢ Usage → status ≢ WriteFault → FlushesOut writes flushes r (held (buffer l)) (held g) (behind (buffer l)) (behind g)) →
+          Printed status (ending_of status r) lines failed (behind (buffer k)) (behind g)
+      run_printed status lines None first lists unfailed used took r g stays sends =
+          let ne : status ≢ WriteFault = λ e. unfailed (ap (λ l. l.status) lists ∙ e) in
+          let nu : status ≢ Usage = λ e. used (ap (λ l. l.status) lists ∙ e) in
+          flushed_lines status lines (held (buffer l)) _ _ _ (held g) ne (forwarded (Ok tt) (concat lines) (took_on gwrites gflushes takes buffer puts lines k l took)) r (sends nu ne)
+      run_printed status lines (Some failed) first lists unfailed used took r g stays sends =
+          let t = took_fault gwrites gflushes takes buffer puts lines failed k l took in
+          let p : Printed WriteFault WriteFault lines (Some failed) (behind (buffer k)) (behind (buffer l)) =
+          failed_line lines failed t.1 (held (buffer l)) _ _ t.0 (forwarded (Err t.0) (concat lines ++ take t.1 failed) t.2) in
+          let P : G → Type 0 = λ g. Printed WriteFault WriteFault lines (Some failed) (behind (buffer k)) (behind g) in
+          let q : Printed WriteFault WriteFault lines (Some failed) (behind (buffer k)) (behind g) = subst P (sym (stays lists.0)) p in
+          rw (lists.0, ending_failed r) q
 
-    ends_failed : (status : Status) → Said status → Ends WriteFault c left w w'
-    ends_failed Done says = full_front Done says.0
-    ends_failed Usage says = absurd says
-    ends_failed Refused says = full_front Refused says.0
-    ends_failed BadText says = full_front BadText says.0
-    ends_failed TooLarge says = full_front TooLarge says.0
-    ends_failed ReadFault says =
-        let of_taken = says.0 in
-        inr (of_taken.taken, taken_front left left' of_taken.taken of_taken.takes, has_front (taken_listing c of_taken.taken) of_taken.writes.1)
-    ends_failed WriteFault says = elim says.1 [
-      | inl full ↦ inl (each_known left (λ b front. has_part (full_listing c b) front) full)
-      | inr of_taken ↦ inr (of_taken.taken, taken_front left left' of_taken.taken of_taken.takes, has_part (taken_listing c of_taken.taken) of_taken.writes)
-    ]
+-- how the reads of a run ended, by its status
 
-    ends : (status ended : Status) → (ended ≢ WriteFault → ended ≡ status) → (ended ≢ WriteFault → ended ≢ Usage → held ≡ []) → Said status → Ends ended c left w w'
-    ends status WriteFault same sent says = ends_failed status says
-    ends status ended same sent says =
-        let written : ended ≢ WriteFault = λ f. cc in
-        ends_sent ended written (sent written) (subst Said (sym (same written)) says)
+lists_status : (status : Status) (lines : List (List ℕ)) (failed : Option (List ℕ)) (l : Listing) → status ≢ WriteFault → Lists status lines failed l → l.status ≡ status
+lists_status status lines None l ne h = ap (λ l. l.status) h
+lists_status status lines (Some failed) l ne h = absurd (ne h.0)
 
-  -- the same, where what was seen before is known by equations
-  pub program_ends : (c : Command) (status ended : Status) (left0 left left' written0 : Option (List ℕ)) (faults faults' others others' : ℕ) → left0 ≡ left → written0 ≡ append_known w [] →
-      (ended ≢ WriteFault → ended ≡ status) → (ended ≢ WriteFault → ended ≢ Usage → held ≡ []) →
-      Says status c (record { left = left0; source_faults = faults; written = written0; sink_faults = others }) (record { left = left'; source_faults = faults'; written = g; sink_faults = others' }) →
-      Ends ended c left w w'
-  program_ends c status ended left0 left left' written0 faults faults' others others' same_left same_written same sent says =
-      let new : World = record { left = left'; source_faults = faults'; written = g; sink_faults = others' } in
-      let P : Option (List ℕ) → Type 0 = λ l. Says status c (record { left = l; source_faults = faults; written = written0; sink_faults = others }) new in
-      let Q : Option (List ℕ) → Type 0 = λ o. Says status c (record { left = left; source_faults = faults; written = o; sink_faults = others }) new in
-      ends c left faults others left' faults' others' status ended same sent (subst Q same_written (subst P same_left says))
+module _ {S K : Type 0} (gives : S → Got → S → Type 0) (takes : K → List ℕ → Result ⊤ SinkFailed → K → Type 0) (c : Command) (s t : S) (k l : K) where
+  module _ (status : Status) (ran : Ran gives takes (listing_for c) (max_of c) status s t k l) (ne : status ≢ WriteFault) where
+    ends_unfailed : status ≢ Refused → status ≢ ReadFault → ran.stop ≢ Some Failed
+    ends_unfailed unrefused unread failed =
+        let may : MayCome ran.stop [] Failed = rw failed (refl, refl) in
+        let is = rw append-nil at (lists_status status ran.lines ran.failed _ ne (ran.lists [] Failed may)) in
+        fault_status c (text_of (max_of c) ran.bytes Failed) status (asked_failed (max_of c) ran.bytes ran.stop ran.asked failed) unrefused unread is
 
-  ends_made : (n : ℕ) (faults faults' : ℕ) (status ended : Status) → (ended ≢ WriteFault → ended ≡ status) → (ended ≢ WriteFault → ended ≢ Usage → held ≡ []) →
-      Makes n status (append_known w []) g faults faults' → EndsMade ended n w w'
-  ends_made n faults faults' status WriteFault same sent makes = made_front n status faults faults' makes
-  ends_made n faults faults' status ended same sent makes =
-      let written : ended ≢ WriteFault = λ f. cc in
-      let P : Status → Type 0 = λ s. Makes n s (append_known w []) g faults faults' in
-      made_sent n ended faults faults' written (sent written) (subst P (sym (same written)) makes)
+  run_ends : (status : Status) (ran : Ran gives takes (listing_for c) (max_of c) status s t k l) → EndsAt status ran.stop
+  run_ends Done ran = end_stop c (max_of c) ran.bytes ran.stop (λ xs s may. lists_status Done ran.lines ran.failed _ (λ e. cc) (ran.lists xs s may))
+  run_ends Usage ran = absurd (ran_used gives takes c (max_of c) Usage s t k l ran refl)
+  run_ends Refused ran = tt
+  run_ends BadText ran = ends_unfailed BadText ran (λ e. cc) (λ e. cc) (λ e. cc)
+  run_ends TooLarge ran = ends_unfailed TooLarge ran (λ e. cc) (λ e. cc) (λ e. cc)
+  run_ends ReadFault ran = (causes gives takes c (max_of c) s t k l).0 ran
+  run_ends WriteFault ran = tt
 
-  pub program_made : (n : ℕ) (status ended : Status) (written0 : Option (List ℕ)) (faults faults' : ℕ) → written0 ≡ append_known w [] →
-      (ended ≢ WriteFault → ended ≡ status) → (ended ≢ WriteFault → ended ≢ Usage → held ≡ []) → Makes n status written0 g faults faults' → EndsMade ended n w w'
-  program_made n status ended written0 faults faults' same_written same sent makes =
-      let P : Option (List ℕ) → Type 0 = λ o. Makes n status o g faults faults' in
-      ends_made n faults faults' status ended same sent (subst P same_written makes)
+pub program_ends : {E : Type 0} (status : Status) (r : Result ⊤ E) (stop : Option Stop) → status ≢ Usage → EndsAt status stop → EndsAt (ending_of status r) stop
+program_ends status (Ok done) stop used h = h
+program_ends status (Err e) stop used h = tt
 
--- what a flush behind a run says of how the program ends
+-- What is held of the source came after what the run took.
+come_after : (stop : Option Stop) (held xs : List ℕ) (s : Stop) → ((given : Stop) → stop ≡ Some given → held ≡ []) → MayCome stop xs s → MayCome stop (held ++ xs) s
+come_after None held xs s empty may = tt
+come_after (Some given) held xs s empty may = rw (empty given refl) may
 
-pub ends_same : {E : Type 0} (status : Status) (flushed : Result ⊤ E) (ended : Status) → ended ≡ ending_of status flushed → ended ≢ WriteFault → ended ≡ status
-ends_same status (Ok done) ended is written = is
-ends_same status (Err e) ended is written = absurd (written is)
+module _ {W G K : Type 0} (writes : W → List ℕ → Result ℕ Error → W → Type 0) (flushes : W → Result ⊤ Error → W → Type 0)
+    (gwrites : G → List ℕ → Result ℕ Error → G → Type 0) (gflushes : G → Result ⊤ Error → G → Type 0) (behind : G → W) (held : G → List ℕ)
+    (by_write : (s : G) (bytes : List ℕ) (r : Result ℕ Error) (t : G) → gwrites s bytes r t → Forwards writes flushes r (taken_by r bytes) (held s) (held t) (behind s) (behind t) × Settles r bytes)
+    (by_flush : (s : G) (r : Result ⊤ Error) (t : G) → gflushes s r t → Forwards writes flushes r [] (held s) (held t) (behind s) (behind t))
+    (takes : K → List ℕ → Result ⊤ SinkFailed → K → Type 0) (buffer : K → G)
+    (puts : (s : K) (piece : List ℕ) (r : Result ⊤ SinkFailed) (t : K) → takes s piece r t → PutSends gwrites gflushes r piece (buffer s) (buffer t))
+    (k l : K) (empty : held (buffer k) ≡ []) (status : Status) (r : Result ⊤ SinkFailed) (g : G) (stays : status ≡ WriteFault → g ≡ buffer l)
+    (sends : status ≢ Usage → status ≢ WriteFault → FlushesOut writes flushes r (held (buffer l)) (held g) (behind (buffer l)) (behind g)) where
+  pub performs_make : (n : ℕ) → Wrote takes (made_listing n) status k l → PerformsMake writes flushes n (ending_of status r) (behind (buffer k)) (behind g)
+  performs_make n w =
+      let p : Printed writes flushes status (ending_of status r) w.lines w.failed (behind (buffer k)) (behind g) =
+      run_printed writes flushes gwrites gflushes behind held by_write by_flush takes buffer puts k l empty status w.lines w.failed (made_listing n) w.lists (λ e. cc) (λ e. cc) w.took r g stays sends in
+      record { bytes = p.bytes; wrote = p.wrote; lists = p.prints (made_listing n) w.lists }
 
-pub ends_flushed : {E P : Type 0} (status : Status) (flushed : Result ⊤ E) (ended : Status) → ended ≡ ending_of status flushed →
-    OnOk flushed (status ≢ Usage → status ≢ WriteFault → P) → ended ≢ WriteFault → ended ≢ Usage → P
-ends_flushed status (Ok done) ended is sent written used = sent (λ e. used (is ∙ e)) (λ e. written (is ∙ e))
-ends_flushed status (Err e) ended is sent written used = absurd (written is)
+  module _ {S R : Type 0} (reads : R → List ℕ → Result ℕ Error → R → Type 0) (gives : S → Got → S → Type 0) (kept : S → List ℕ) (reader : S → R)
+      (fetches : (s : S) (g : Got) (t : S) → gives s g t → Fetches reads g (kept s) (reader s) (kept t) (reader t)) (s t : S) (none : kept s ≡ []) (c : Command) where
+    module _ (ran : Ran gives takes (listing_for c) (max_of c) status s t k l) where
+      run_fetched : Fetched reads (text_of (max_of c)) ran.bytes ran.stop [] (kept t) (reader s) (reader t)
+      run_fetched = subst (λ h. Fetched reads (text_of (max_of c)) ran.bytes ran.stop h (kept t) (reader s) (reader t)) none
+          (fetched reads gives kept reader fetches (text_of (max_of c)) ran.bytes ran.stop s t ran.gave ran.asked)
 
-pub each_command : {P Q : Command → Type 0} (o : Option Command) → ((c : Command) → P c → Q c) → IfSome o P → IfSome o Q
-each_command None f h = tt
-each_command (Some c) f h = f c h
+      kept_empty : (given : Stop) → ran.stop ≡ Some given → kept t ≡ []
+      kept_empty given is = stopped_empty reads gives kept reader fetches ran.bytes given s t (subst (λ o. Gave gives ran.bytes o s t) is ran.gave)
+
+      run_lists : (pieces : List (List ℕ)) → concat pieces ≡ ran.bytes ++ kept t → (xs : List ℕ) (stop : Stop) → MayCome ran.stop xs stop →
+          Lists status ran.lines ran.failed (listing_for c (text_of (max_of c) (concat pieces ++ xs) stop))
+      run_lists pieces order xs stop may =
+          let P : List ℕ → Type 0 = λ bs. Lists status ran.lines ran.failed (listing_for c (text_of (max_of c) bs stop)) in
+          let same : ran.bytes ++ (kept t ++ xs) ≡ concat pieces ++ xs = sym (append_assoc ran.bytes (kept t) xs) ∙ ap (λ b. b ++ xs) (sym order) in
+          subst P same (ran.lists (kept t ++ xs) stop (come_after ran.stop (kept t) xs stop kept_empty may))
+
+      pub performs : Performs writes flushes reads c (ending_of status r) (reader s) (reader t) (behind (buffer k)) (behind g)
+      performs =
+          let f = run_fetched in
+          let one = some_stop ran.stop in
+          let used : status ≢ Usage = ran_used gives takes c (max_of c) status s t k l ran in
+          let p : Printed writes flushes status (ending_of status r) ran.lines ran.failed (behind (buffer k)) (behind g) =
+          run_printed writes flushes gwrites gflushes behind held by_write by_flush takes buffer puts k l empty status ran.lines ran.failed _ (ran.lists [] one.0 one.1)
+          (command_written c _) (command_used c _) ran.took r g stays sends in
+          record {
+            pieces = f.pieces;
+            stop = ran.stop;
+            read = f.read;
+            open_yet = f.open_yet;
+            ends = program_ends status r ran.stop used (run_ends gives takes c s t k l status ran);
+            bytes = p.bytes;
+            wrote = p.wrote;
+            lists = λ xs stop may. p.prints _ (run_lists f.pieces f.order xs stop may);
+          }
+
+pub each_command : {P Q : Command → Type 0} (o : Option Command) → IfSome o P → ((c : Command) → P c → Q c) → IfSome o Q
+each_command None h f = tt
+each_command (Some c) h f = f c h
+
+pub ends_usage : {E : Type 0} (status : Status) (r : Result ⊤ E) (ended : Status) → ended ≡ ending_of status r → ended ≡ Usage → status ≡ Usage
+ends_usage status (Ok done) ended is e = sym is ∙ e
+ends_usage status (Err f) ended is e = let both : WriteFault ≡ Usage = sym is ∙ e in cc
+
+-- The same, with the run first: it tells which relations of its source and its sink these are.
+module _ {W G K : Type 0} (writes : W → List ℕ → Result ℕ Error → W → Type 0) (flushes : W → Result ⊤ Error → W → Type 0) (takes : K → List ℕ → Result ⊤ SinkFailed → K → Type 0)
+    (status : Status) (k l : K) where
+  pub wrote_performs : (n : ℕ) → Wrote takes (made_listing n) status k l →
+      (gwrites : G → List ℕ → Result ℕ Error → G → Type 0) (gflushes : G → Result ⊤ Error → G → Type 0) (behind : G → W) (held : G → List ℕ) (buffer : K → G) →
+      ((s : K) (piece : List ℕ) (r : Result ⊤ SinkFailed) (t : K) → takes s piece r t → PutSends gwrites gflushes r piece (buffer s) (buffer t)) →
+      ((s : G) (bytes : List ℕ) (r : Result ℕ Error) (t : G) → gwrites s bytes r t → Forwards writes flushes r (taken_by r bytes) (held s) (held t) (behind s) (behind t) × Settles r bytes) →
+      ((s : G) (r : Result ⊤ Error) (t : G) → gflushes s r t → Forwards writes flushes r [] (held s) (held t) (behind s) (behind t)) →
+      held (buffer k) ≡ [] → (r : Result ⊤ SinkFailed) (g : G) → (status ≡ WriteFault → g ≡ buffer l) →
+      (status ≢ Usage → status ≢ WriteFault → FlushesOut writes flushes r (held (buffer l)) (held g) (behind (buffer l)) (behind g)) →
+      PerformsMake writes flushes n (ending_of status r) (behind (buffer k)) (behind g)
+  wrote_performs n wrote gwrites gflushes behind held buffer puts by_write by_flush empty r g stays sends =
+      performs_make writes flushes gwrites gflushes behind held by_write by_flush takes buffer puts k l empty status r g stays sends n wrote
+
+  pub ran_performs : {S R : Type 0} (gives : S → Got → S → Type 0) (c : Command) (s t : S) → Ran gives takes (listing_for c) (max_of c) status s t k l →
+      (gwrites : G → List ℕ → Result ℕ Error → G → Type 0) (gflushes : G → Result ⊤ Error → G → Type 0) (behind : G → W) (held : G → List ℕ) (buffer : K → G) →
+      ((s : K) (piece : List ℕ) (r : Result ⊤ SinkFailed) (t : K) → takes s piece r t → PutSends gwrites gflushes r piece (buffer s) (buffer t)) →
+      ((s : G) (bytes : List ℕ) (r : Result ℕ Error) (t : G) → gwrites s bytes r t → Forwards writes flushes r (taken_by r bytes) (held s) (held t) (behind s) (behind t) × Settles r bytes) →
+      ((s : G) (r : Result ⊤ Error) (t : G) → gflushes s r t → Forwards writes flushes r [] (held s) (held t) (behind s) (behind t)) →
+      held (buffer k) ≡ [] → (r : Result ⊤ SinkFailed) (g : G) → (status ≡ WriteFault → g ≡ buffer l) →
+      (status ≢ Usage → status ≢ WriteFault → FlushesOut writes flushes r (held (buffer l)) (held g) (behind (buffer l)) (behind g)) →
+      (reads : R → List ℕ → Result ℕ Error → R → Type 0) (kept : S → List ℕ) (reader : S → R) →
+      ((s : S) (g : Got) (t : S) → gives s g t → Fetches reads g (kept s) (reader s) (kept t) (reader t)) → kept s ≡ [] →
+      Performs writes flushes reads c (ending_of status r) (reader s) (reader t) (behind (buffer k)) (behind g)
+  ran_performs gives c s t ran gwrites gflushes behind held buffer puts by_write by_flush empty r g stays sends reads kept reader fetches none =
+      performs writes flushes gwrites gflushes behind held by_write by_flush takes buffer puts k l empty status r g stays sends reads gives kept reader fetches s t none c ran

@@ -1,48 +1,66 @@
 -- What a sink's writes are together.
-use Rattle.std.proofs.Common.{◌≡◌, ℕ, List, [], ◌++◌, ◌+◌, ◌-◌, ◌≤◌, Option, Some, None, Result, Ok, Err, length, take, drop, refl, ap, sym, subst, ◌∙◌, arith, append-nil, length-drop, le_refl, take_all}
+use Rattle.std.proofs.Common.{◌≡◌, ℕ, List, [], ◌++◌, ◌+◌, ◌-◌, ◌<◌, ◌≤◌, Option, Some, None, Result, Ok, Err, length, take, drop, refl, ap, sym, subst, ◌∙◌, arith, append-nil, length-drop, le_refl, take_all}
+use Rattle.std.specs.Prelude.{⊤}
+use Rattle.std.specs.declared.io.Error.{Error}
 use Rattle.std.specs.Io.KnownBytes.{Appends, Keeps, WriteAppends}
 use Rattle.std.proofs.KnownBytes.{Appends-trans}
 use lib.Seq.{take-add, drop-drop}
+use Rattle.x86_cli.specs.declared.outside.sink.SinkFailed.{SinkFailed}
+use Rattle.x86_cli.specs.Outside.Writes.{Caused}
+use Rattle.x86_cli.proofs.OutsideLemmas.Writes.{caused_none, caused_as, caused_write, caused_nothing, caused_error}
 
-appends-none : (a b : Option (List ℕ)) → Keeps a b → Appends a b []
+pub appends-none : (a b : Option (List ℕ)) → Keeps a b → Appends a b []
 appends-none None b k = tt
 appends-none (Some x) None k = absurd k
 appends-none (Some x) (Some y) k = k ∙ sym (append-nil x)
 
--- The writer holds the first bytes of a piece, and these are left.
-pub record Puts (piece rest : List ℕ) (old new : Option (List ℕ)) : Type 0 where
-  pub count : ℕ
-  pub left : rest ≡ drop count piece
-  pub bytes : Appends old new (take count piece)
+keeps : (a : Option (List ℕ)) → Keeps a a
+keeps None = tt
+keeps (Some x) = refl
 
-pub puts_none : (piece : List ℕ) (a : Option (List ℕ)) → Puts piece piece a a
-puts_none piece a = record { count = 0; left = refl; bytes = let same : Keeps a a = keeps a in appends-none a a same }
-  where
-    keeps : (a : Option (List ℕ)) → Keeps a a
-    keeps None = tt
-    keeps (Some x) = refl
+module _ {W : Type 0} (writes : W → List ℕ → Result ℕ Error → W → Type 0) (flushes : W → Result ⊤ Error → W → Type 0) (written : W → Option (List ℕ)) (piece : List ℕ) where
+  -- The writer took the first bytes of the piece, and these are left.
+  pub record Puts (rest : List ℕ) (old new : W) : Type 0 where
+    pub count : ℕ
+    pub left : rest ≡ drop count piece
+    pub bytes : Appends (written old) (written new) (take count piece)
+    pub caused : Caused writes flushes {A = ⊤} {E = SinkFailed} (Ok tt) (take count piece) old new
 
-module _ (piece rest : List ℕ) (a b : Option (List ℕ)) (puts : Puts piece rest a b) where
-  further : (k : ℕ) (d : Option (List ℕ)) → Appends b d (take k rest) → Appends a d (take (puts.count + k) piece)
-  further k d h =
-      let both : take puts.count piece ++ take k rest ≡ take (puts.count + k) piece = ap (λ r. take puts.count piece ++ take k r) puts.left ∙ sym (take-add puts.count k piece) in
-      subst (Appends a d) both (Appends-trans a b d _ _ puts.bytes h)
+  pub puts_none : (a : W) → Puts piece a a
+  puts_none a = record { count = 0; left = refl; bytes = appends-none (written a) (written a) (keeps (written a)); caused = caused_none writes flushes tt a }
 
-  pub puts_more : (k : ℕ) (d : Option (List ℕ)) (rest' : List ℕ) → Appends b d (take k rest) → rest' ≡ take (length rest - k) (drop k rest) → Puts piece rest' a d
-  puts_more k d rest' h e = record {
-    count = puts.count + k;
-    left =
-        let le : length (drop k rest) ≤ length rest - k = simp length-drop (le_refl _) in
-        e ∙ take_all (length rest - k) (drop k rest) le ∙ ap (drop k) puts.left ∙ drop-drop k puts.count piece;
-    bytes = further k d h;
-  }
+  module _ (rest : List ℕ) (a b : W) (puts : Puts rest a b) where
+    joined : (k : ℕ) → take puts.count piece ++ take k rest ≡ take (puts.count + k) piece
+    joined k = ap (λ r. take puts.count piece ++ take k r) puts.left ∙ sym (take-add puts.count k piece)
 
-  pub puts_all : length rest ≡ 0 → Appends a b piece
-  puts_all none =
-      let less = simp length-drop at (ap length puts.left) in
-      let le : length piece ≤ puts.count = omega (arith, none, less) in
-      subst (Appends a b) (take_all puts.count piece le) puts.bytes
+    further : (k : ℕ) (d : Option (List ℕ)) → Appends (written b) d (take k rest) → Appends (written a) d (take (puts.count + k) piece)
+    further k d h = subst (Appends (written a) d) (joined k) (Appends-trans (written a) (written b) d _ _ puts.bytes h)
 
-  pub puts_part : {E : Type 0} (r : Result ℕ E) (d : Option (List ℕ)) → WriteAppends b d r rest → (n : ℕ) × Appends a d (take n piece)
-  puts_part (Ok k) d h = (puts.count + k, further k d h)
-  puts_part (Err e) d h = (puts.count + 0, further 0 d (appends-none b d h))
+    pub puts_more : (k : ℕ) (d : W) (rest' : List ℕ) → Appends (written b) (written d) (take k rest) → writes b rest (Ok k) d → 0 < k → rest' ≡ take (length rest - k) (drop k rest) → Puts rest' a d
+    puts_more k d rest' h wrote some e = record {
+      count = puts.count + k;
+      left =
+          let le : length (drop k rest) ≤ length rest - k = simp length-drop (le_refl _) in
+          e ∙ take_all (length rest - k) (drop k rest) le ∙ ap (drop k) puts.left ∙ drop-drop k puts.count piece;
+      bytes = further k (written d) h;
+      caused = caused_as writes flushes _ _ _ _ _ (joined k) (caused_write writes flushes tt tt _ rest k _ _ _ puts.caused wrote some);
+    }
+
+    whole : length rest ≡ 0 → take puts.count piece ≡ piece
+    whole none =
+        let less = simp length-drop at (ap length puts.left) in
+        let le : length piece ≤ puts.count = omega (arith, none, less) in
+        take_all puts.count piece le
+
+    pub puts_all : length rest ≡ 0 → Appends (written a) (written b) piece × Caused writes flushes {A = ⊤} {E = SinkFailed} (Ok tt) piece a b
+    puts_all none = (subst (Appends (written a) (written b)) (whole none) puts.bytes, caused_as writes flushes _ _ _ _ _ (whole none) puts.caused)
+
+    pub puts_part : {E : Type 0} (r : Result ℕ E) (d : Option (List ℕ)) → WriteAppends (written b) d r rest → (n : ℕ) × Appends (written a) d (take n piece)
+    puts_part (Ok k) d h = (puts.count + k, further k d h)
+    puts_part (Err e) d h = (puts.count + 0, further 0 d (appends-none (written b) d h))
+
+    pub puts_nothing : (f : SinkFailed) (n : ℕ) (d : W) → writes b rest (Ok n) d → n ≡ 0 → 0 < length rest → (n : ℕ) × Caused writes flushes {A = ⊤} {E = SinkFailed} (Err f) (take n piece) a d
+    puts_nothing f n d wrote none some = (puts.count, caused_nothing writes flushes tt f _ rest n _ _ _ puts.caused wrote none some)
+
+    pub puts_error : (f : SinkFailed) (e : Error) (d : W) → writes b rest (Err e) d → (n : ℕ) × Caused writes flushes {A = ⊤} {E = SinkFailed} (Err f) (take n piece) a d
+    puts_error f e d wrote = (puts.count, caused_error writes flushes tt f _ rest e _ _ _ puts.caused wrote)

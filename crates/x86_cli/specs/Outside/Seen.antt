@@ -1,5 +1,5 @@
 -- What callers see of sources and sinks whose fields are private.
-use Rattle.std.specs.Prelude.{ℕ, List}
+use Rattle.std.specs.Prelude.{ℕ, List, slice_range}
 use Rattle.x86_cli.specs.declared.outside.slice_source.SliceSource.{SliceSource}
 use Rattle.x86_cli.specs.declared.outside.array_sink.ArraySink.{ArraySink}
 use Rattle.x86_cli.specs.declared.outside.std_source.StdSource.{StdSource}
@@ -24,16 +24,16 @@ array_fails s = s.fails
 abbrev pub sink_writer : {W : Type 0} → StdSink W → W
 sink_writer s = s.writer
 
--- the writer behind a buffer, how often it failed, and what the buffer holds
+-- the writer after a buffer, and what the buffer holds
 abbrev pub writer_behind : {W : Type 0} → Gathered W → W
-writer_behind g = g.counted.writer
-
-abbrev pub writer_faults : {W : Type 0} → Gathered W → ℕ
-writer_faults g = g.counted.faults
+writer_behind g = g.writer
 
 abbrev pub held_bytes : {W : Type 0} → Gathered W → List ℕ
 held_bytes g = g.bytes.items
 
--- the reader of a source
+-- the reader of a source, and what it holds of the bytes that were read
 abbrev pub source_reader : {R : Type 0} → {g : _} → StdSource R g → R
 source_reader s = s.reader
+
+abbrev pub source_bytes : {R : Type 0} → {g : _} → StdSource R g → List ℕ
+source_bytes s = slice_range s.buffer s.position s.filled

@@ -1,22 +1,36 @@
 -- The calls of a writer.
-use Rattle.std.specs.Prelude.{◌≡◌, ◌≢◌, ℕ, ◌<◌, List, [], ◌∷◌, length, Result, Ok, Err, ⊤}
+use Rattle.std.specs.Prelude.{◌≡◌, ◌≢◌, ℕ, ◌<◌, List, [], ◌∷◌, ◌++◌, length, take, Result, Ok, Err, OnOk, ⊤}
 use Rattle.std.specs.declared.io.Error.{Error}
 use Rattle.std.specs.declared.io.ErrorKind.TheVariants.{Interrupted}
 use Rattle.std.specs.IoError.{error_kind}
 
--- a call, and what it answered
+-- a call, and its answer
 pub data Call : Type 0 where
   Write : List ℕ → Result ℕ Error → Call
   Flush : Result ⊤ Error → Call
 
--- A call behind which the next is made: what it took, and a write that was interrupted.
+-- the bytes that a write with this answer took
+abbrev pub taken_by : {E : Type 0} → Result ℕ E → List ℕ → List ℕ
+taken_by (Ok n) bytes = take n bytes
+taken_by (Err e) bytes = []
+
+abbrev pub sent_by : Call → List ℕ
+sent_by (Write bytes answer) = taken_by answer bytes
+sent_by (Flush answer) = []
+
+-- the bytes that the writer took in these calls, the last call in front
+abbrev pub sent : List Call → List ℕ
+sent [] = []
+sent (c ∷ cs) = sent cs ++ sent_by c
+
+-- A call after which the next is made: it took a byte at least, or a signal interrupted it.
 abbrev pub GoesOn : Call → Type 0
 GoesOn (Write bytes (Ok n)) = 0 < n
 GoesOn (Write bytes (Err e)) = error_kind e ≡ Interrupted
 GoesOn (Flush (Ok done)) = ⊤
 GoesOn (Flush (Err e)) = ⊥
 
--- A call that failed: with an error, or since it took none of bytes that aren't empty.
+-- A call that failed: its answer is an error, or it took none of bytes that aren't empty.
 abbrev pub Fails : Call → Type 0
 Fails (Write bytes (Ok n)) = (n ≡ 0) × (0 < length bytes)
 Fails (Write bytes (Err e)) = ⊤
@@ -27,16 +41,23 @@ abbrev pub AllGoOn : List Call → Type 0
 AllGoOn [] = ⊤
 AllGoOn (c ∷ cs) = GoesOn c × AllGoOn cs
 
--- What calls, the last in front, have to do with an answer: an error comes only where the last of them failed.
+-- An error comes only where the last call failed, and success only where none did.
 abbrev pub Cause : {A E : Type 0} → Result A E → List Call → Type 0
 Cause (Ok x) cs = AllGoOn cs
 Cause (Err e) [] = ⊥
 Cause (Err e) (c ∷ cs) = Fails c × AllGoOn cs
 
--- No write of a buffer is to be tried again, and it takes a byte of bytes that aren't empty, or fails.
+-- A write of a buffer is never to be tried again. It takes a byte of bytes that aren't empty, or fails.
 abbrev pub Settles : Result ℕ Error → List ℕ → Type 0
 Settles (Ok n) bytes = n ≡ 0 → length bytes ≡ 0
 Settles (Err e) bytes = error_kind e ≢ Interrupted
+
+-- The last call was a flush that succeeded.
+abbrev pub EndsInFlush : List Call → Type 0
+EndsInFlush [] = ⊥
+EndsInFlush (Write bytes answer ∷ cs) = ⊥
+EndsInFlush (Flush (Ok done) ∷ cs) = ⊤
+EndsInFlush (Flush (Err e) ∷ cs) = ⊥
 
 -- writes w bytes answer w', flushes w answer w': a call of w may answer so, and leave w'
 module _ {W : Type 0} (writes : W → List ℕ → Result ℕ Error → W → Type 0) (flushes : W → Result ⊤ Error → W → Type 0) where
@@ -45,16 +66,28 @@ module _ {W : Type 0} (writes : W → List ℕ → Result ℕ Error → W → Ty
   Does (Flush answer) w w' = flushes w answer w'
 
   -- These calls, the last in front, led from one state of the writer to the other.
-  abbrev pub Calls : List Call → W → W → Type 0
-  Calls [] w w' = w' ≡ w
-  Calls (c ∷ cs) w w' = (v : W) × Calls cs w v × Does c v w'
+  abbrev pub WriterCalls : List Call → W → W → Type 0
+  WriterCalls [] w w' = w' ≡ w
+  WriterCalls (c ∷ cs) w w' = (v : W) × WriterCalls cs w v × Does c v w'
 
-  -- An answer, by the calls that were made for it.
-  pub record Caused {A E : Type 0} (answer : Result A E) (old new : W) : Type 0 where
+  -- The calls that were made for an answer, and the bytes that they sent.
+  pub record Caused {A E : Type 0} (answer : Result A E) (bytes : List ℕ) (old new : W) : Type 0 where
     pub calls : List Call
-    pub did : Calls calls old new
+    pub did : WriterCalls calls old new
     pub cause : Cause answer calls
+    pub sends : sent calls ≡ bytes
 
--- The last step to this state was a flush that went well.
-abbrev pub Flushed : {W : Type 0} → (W → Result ⊤ Error → W → Type 0) → W → Type 0
-Flushed {W} flushes w = (v : W) × flushes v (Ok tt) w
+  -- What a call of a buffer did: its writer took, in order, what was held and what this call took; the rest is held.
+  pub record Forwards {A E : Type 0} (answer : Result A E) (taken held held' : List ℕ) (old new : W) : Type 0 where
+    pub bytes : List ℕ
+    pub caused : Caused answer bytes old new
+    pub order : bytes ++ held' ≡ held ++ taken
+
+  -- What a flush of a buffer did: where it succeeds, all is sent, and the last call was a flush of the writer.
+  abbrev pub FlushesOut : {A E : Type 0} → Result A E → List ℕ → List ℕ → W → W → Type 0
+  FlushesOut answer held held' old new = (f : Forwards answer [] held held' old new) × OnOk answer ((held' ≡ []) × EndsInFlush f.caused.calls)
+
+  -- What a put of a piece did: the writer took the piece, or where it failed the beginning of the piece.
+  abbrev pub PutSends : {A E : Type 0} → Result A E → List ℕ → W → W → Type 0
+  PutSends {A} {E} (Ok done) piece old new = Caused {A = A} {E = E} (Ok done) piece old new
+  PutSends {A} {E} (Err e) piece old new = (n : ℕ) × Caused {A = A} {E = E} (Err e) (take n piece) old new

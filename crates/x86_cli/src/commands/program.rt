@@ -1,14 +1,11 @@
 //! The program over a reader and a writer.
 
-ghost use Rattle.std.specs.Prelude.{◌≡◌, ◌≢◌, ◌↔◌, ℕ, [], OnOk, IsOk, map, string_bytes};
-ghost use Rattle.std.specs.Io.KnownBytes.{Keeps, append_known};
-ghost use Rattle.x86_cli.specs.Commands.Command.{IfCommand};
+ghost use Rattle.std.specs.Prelude.{◌≡◌, ◌≢◌, ◌↔◌, ℕ, None, IsOk, map, string_bytes};
+ghost use Rattle.x86_cli.specs.Commands.Command.{IfCommand, command_of};
 ghost use Rattle.x86_cli.specs.Commands.Make.{IsMake, IsNoCommand};
-ghost use Rattle.x86_cli.specs.Commands.Program.{ending_of, fault_of, Ends, EndsMade};
-ghost use Rattle.x86_cli.specs.Outside.Writes.{Caused};
-ghost use Rattle.x86_cli.specs.Outside.FaultCounts.{CountsFault};
-ghost use Rattle.x86_cli.specs.Outside.StdSource.{HasFault};
-ghost use Rattle.x86_cli.specs.Outside.Seen.{writer_behind, writer_faults, held_bytes};
+ghost use Rattle.x86_cli.specs.Commands.Program.{ending_of, Performs, PerformsMake};
+ghost use Rattle.x86_cli.specs.Outside.Writes.{FlushesOut};
+ghost use Rattle.x86_cli.specs.Outside.Seen.{writer_behind, held_bytes};
 
 use crate::commands::command::run;
 use crate::listings::status::Status;
@@ -19,15 +16,23 @@ use crate::outside::sink::SinkFailed;
 use crate::outside::std_sink::StdSink;
 use crate::outside::std_source::StdSource;
 
-/// Flushes what a run gathered. Behind a failed write nothing is sent, and where the arguments are no command there is
-/// nothing.
+/// How the program ended, and the reader and the writer that it was given, as it leaves them.
+#[derive(Drop)]
+pub struct Finished<R: Drop, W: Drop> {
+    pub status: Status,
+    pub reader: R,
+    pub writer: W,
+}
+
+/// Flushes what a run gathered. After a failed write nothing more is sent, and where the arguments are no command there
+/// is nothing to send.
 fn send_rest<W: Output + Drop>(status: Status, out: &mut Gathered<W>) -> Result<(), SinkFailed>
-    ensures bytes { Keeps (append_known (W.written (writer_behind out.old)) (held_bytes out.old)) (append_known (W.written (writer_behind out.new)) (held_bytes out.new)) }
-    ensures sent { OnOk result (status ≢ Status.Usage → status ≢ Status.WriteFault → held_bytes out.new ≡ []) }
-    ensures usage { status ≡ Status.Usage → IsOk result × (out.new ≡ out.old) }
-    ensures stays { status ≡ Status.WriteFault → writer_behind out.new ≡ writer_behind out.old }
-    ensures counts { CountsFault result (writer_faults out.old) (writer_faults out.new) }
-    ensures caused { Caused W.writes W.flushes result (writer_behind out.old) (writer_behind out.new) }
+    ensures usage { status ≡ Status.Usage → out.new ≡ out.old }
+    ensures failed { status ≡ Status.WriteFault → out.new ≡ out.old }
+    ensures sends { status ≢ Status.Usage → status ≢ Status.WriteFault →
+        FlushesOut W.writes W.flushes result (held_bytes out.old) (held_bytes out.new)
+        (writer_behind out.old) (writer_behind out.new) }
+    ensures nothing { status ≡ Status.Usage → IsOk result }
 {
     match status {
         Status::Usage | Status::WriteFault => Ok(()),
@@ -35,7 +40,7 @@ fn send_rest<W: Output + Drop>(status: Status, out: &mut Gathered<W>) -> Result<
     }
 }
 
-/// How the program ends, where its run ended so and the flush behind it answered this.
+/// How the program ends, where its run ended so and the flush after it answered this.
 fn ending_of(status: Status, flushed: &Result<(), SinkFailed>) -> Status
     ensures { result ≡ ending_of status flushed.now }
 {
@@ -45,24 +50,39 @@ fn ending_of(status: Status, flushed: &Result<(), SinkFailed>) -> Status
     }
 }
 
-/// Does what the arguments say, over a reader and a writer, and gives back how the program ends and the writer. What
-/// is written is gathered, and flushed at the end; where that flush fails, the program ends as at a failed write.
+/// Does what the arguments say, over a reader and a writer. What is written is gathered in a buffer of 64 KiB, and
+/// flushed at the end. It holds for every reader and writer, files and pipes too, and says each call that was made:
+///
+/// - `Done`: the reads end with one that returned no byte, and the writer took the whole listing.
+/// - `Usage`: the arguments are no command. Nothing was read or written.
+/// - `Refused`, `BadText`, `TooLarge`: the listing ends so, and the writer took all of it.
+/// - `ReadFault`: the last read answered an error. The writer took the listing of the bytes read before.
+/// - `WriteFault`: the writer's last call failed: a write or a flush answered an error, or a write took none of bytes
+///   that aren't empty. The writer took a prefix of the listing.
+///
+/// At every status but `WriteFault` and `Usage` the writer's last call was a flush that succeeded. Only a write that a
+/// signal interrupted is tried again. No read follows the end of the input, an error, or the end of the text.
 pub fn listed<R: Input + Drop, W: Output + Drop>(
     arguments: &[String],
     reader: R,
     writer: W,
-) -> (Status, W)
-    ensures lists { IfCommand arguments.now (λ c. Ends result.0 c (R.left reader) (W.written writer) (W.written result.1)) }
-    ensures made { (n : ℕ) → IsMake (map string_bytes arguments.now) n → EndsMade result.0 n (W.written writer) (W.written result.1) }
-    ensures write_fault { IfCommand arguments.now (λ c. Caused W.writes W.flushes (fault_of result.0) writer result.1) }
-    ensures read_fault { IfCommand arguments.now (λ c. result.0 ≡ Status.ReadFault → HasFault R.reads reader) }
-    ensures usage { (result.0 ≡ Status.Usage) ↔ IsNoCommand (map string_bytes arguments.now) }
-    ensures writes_nothing { result.0 ≡ Status.Usage → result.1 ≡ writer }
+) -> Finished<R, W>
+    ensures lists { IfCommand arguments.now (λ c. Performs W.writes W.flushes R.reads c
+        result.status reader result.reader writer result.writer) }
+    ensures made { (n : ℕ) → IsMake (map string_bytes arguments.now) n →
+        PerformsMake W.writes W.flushes n result.status writer result.writer }
+    ensures usage { (result.status ≡ Status.Usage) ↔ IsNoCommand (map string_bytes arguments.now) }
+    ensures reads_nothing { command_of (map string_bytes arguments.now) ≡ None → result.reader ≡ reader }
+    ensures writes_nothing { result.status ≡ Status.Usage → result.writer ≡ writer }
 {
     let mut source = StdSource::new(reader);
     let mut sink = StdSink::new(Gathered::new(writer));
     let status = run(arguments, &mut source, &mut sink);
     let mut out = sink.into_writer();
     let flushed = send_rest(status, &mut out);
-    (ending_of(status, &flushed), out.into_writer())
+    Finished {
+        status: ending_of(status, &flushed),
+        reader: source.into_reader(),
+        writer: out.into_writer(),
+    }
 }

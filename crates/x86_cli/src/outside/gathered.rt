@@ -1,14 +1,12 @@
 //! Output that is gathered, without an allocation.
 
-ghost use Rattle.std.specs.Prelude.{◌≡◌, ◌<◌, [], length, OnOk, IfOk, IsOk};
-ghost use Rattle.std.specs.Io.KnownBytes.{Keeps, WriteAppends, append_known};
+ghost use Rattle.std.specs.Prelude.{◌≡◌, None, [], length, OnOk, IfOk};
 ghost use Rattle.std.specs.Io.{WritesAtMost};
-ghost use Rattle.x86_cli.specs.Outside.FaultCounts.{CountsFault};
-ghost use Rattle.x86_cli.specs.Outside.Writes.{Caused, Settles, Flushed};
-ghost use Rattle.x86_cli.specs.Outside.Seen.{writer_behind, writer_faults, held_bytes};
+ghost use Rattle.x86_cli.specs.Outside.Writes.{Forwards, FlushesOut, Settles, taken_by};
+ghost use Rattle.x86_cli.specs.Outside.Seen.{writer_behind, held_bytes};
 
-use crate::outside::counted::Counted;
 use crate::outside::output::Output;
+use crate::outside::sending::send_out;
 use crate::outside::sink::SinkFailed;
 use std::io;
 use std::io::{Error, ErrorKind};
@@ -16,12 +14,12 @@ use x86_text::Room;
 
 const SIZE: usize = 65536;
 
-/// A writer that gathers what it is given in a buffer of fixed size, and hands it on when that is full or at a flush.
-/// What a failed write leaves unsent stays in the buffer, so no byte is sent twice. An error says that the writer
-/// failed, and not how, since no sink asks that.
+/// A writer that gathers what it is given in a buffer of 64 KiB, and sends it when that is full or at a flush. What a
+/// failed write leaves unsent stays in the buffer, so no byte is sent twice. An error says that the writer failed, and
+/// not how, since a sink needs no more.
 #[derive(Drop)]
 pub struct Gathered<W: Output + Drop> {
-    counted: Counted<W>,
+    writer: W,
     bytes: Room<SIZE>,
 }
 
@@ -32,7 +30,7 @@ impl<W: Output + Drop> Gathered<W> {
         ensures empty { held_bytes result ≡ [] }
     {
         Gathered {
-            counted: Counted { writer, faults: 0 },
+            writer,
             bytes: Room::new(),
         }
     }
@@ -41,34 +39,28 @@ impl<W: Output + Drop> Gathered<W> {
     pub fn into_writer(self) -> W
         ensures { result ≡ writer_behind self }
     {
-        self.counted.writer
+        self.writer
     }
 
-    /// Sends what was gathered. Where that is nothing, it can't fail.
+    /// Sends what was gathered.
     fn send(&mut self) -> Result<(), SinkFailed>
-        ensures nothing { held_bytes self.old ≡ [] → IsOk result }
         ensures empty { OnOk result (held_bytes self.new ≡ []) }
-        ensures bytes { Keeps (append_known (W.written (writer_behind self.old)) (held_bytes self.old))
-            (append_known (W.written (writer_behind self.new)) (held_bytes self.new)) }
-        ensures counts { CountsFault result (writer_faults self.old) (writer_faults self.new) }
-        ensures caused { Caused W.writes W.flushes result (writer_behind self.old) (writer_behind self.new) }
+        ensures forwards { Forwards W.writes W.flushes result [] (held_bytes self.old) (held_bytes self.new)
+            (writer_behind self.old) (writer_behind self.new) }
     {
-        let (sent, result) = self.counted.send_out(self.bytes.as_slice());
+        let (sent, result) = send_out(&mut self.writer, self.bytes.as_slice());
         self.bytes.leave(sent);
         result
     }
 
-    /// Takes as much as fits, where not all does. A full buffer is handed on first.
+    /// Takes as much as fits, where not all does. A full buffer is sent first.
     #[cold]
     #[inline(never)]
     fn write_part(&mut self, buf: &[u8]) -> Result<usize, SinkFailed>
         ensures bound { WritesAtMost result buf.now }
-        ensures bytes { WriteAppends (append_known (W.written (writer_behind self.old)) (held_bytes self.old))
-            (append_known (W.written (writer_behind self.new)) (held_bytes self.new)) result buf.now }
-        ensures room { length (held_bytes self.old) < SIZE → IsOk result }
         ensures some { IfOk result (λ n. n ≡ 0 → length buf.now ≡ 0) }
-        ensures counts { CountsFault result (writer_faults self.old) (writer_faults self.new) }
-        ensures caused { Caused W.writes W.flushes result (writer_behind self.old) (writer_behind self.new) }
+        ensures forwards { Forwards W.writes W.flushes result (taken_by result buf.now)
+            (held_bytes self.old) (held_bytes self.new) (writer_behind self.old) (writer_behind self.new) }
     {
         if self.bytes.left() == 0 {
             self.send()?;
@@ -81,38 +73,28 @@ impl<W: Output + Drop> Gathered<W> {
 
     /// Sends what was gathered, and flushes the writer.
     pub fn send_all(&mut self) -> Result<(), SinkFailed>
-        ensures bytes { Keeps (append_known (W.written (writer_behind self.old)) (held_bytes self.old))
-            (append_known (W.written (writer_behind self.new)) (held_bytes self.new)) }
-        ensures empty { OnOk result (held_bytes self.new ≡ []) }
-        ensures counts { CountsFault result (writer_faults self.old) (writer_faults self.new) }
-        ensures flushed { OnOk result (Flushed W.flushes (writer_behind self.new)) }
-        ensures caused { Caused W.writes W.flushes result (writer_behind self.old) (writer_behind self.new) }
+        ensures { FlushesOut W.writes W.flushes result (held_bytes self.old) (held_bytes self.new)
+            (writer_behind self.old) (writer_behind self.new) }
     {
         self.send()?;
-        match self.counted.writer.flush() {
+        match self.writer.flush() {
             Ok(()) => Ok(()),
-            Err(_) => Err(self.counted.fail()),
+            Err(_) => Err(SinkFailed),
         }
     }
 }
 
+/// What it writes is told by the calls of its writer, `Forwards`.
 impl<W: Output + Drop> Output for Gathered<W> {
-    ghost written = { λ s. append_known (W.written (writer_behind s)) (held_bytes s) };
+    ghost written = { λ s. None };
 
-    ghost writes = { λ s buf r t. Caused W.writes W.flushes r (writer_behind s) (writer_behind t) × Settles r buf };
+    ghost writes = { λ s buf r t. Forwards W.writes W.flushes r (taken_by r buf)
+        (held_bytes s) (held_bytes t) (writer_behind s) (writer_behind t) × Settles r buf };
 
-    ghost flushes = { λ s r t. Caused W.writes W.flushes r (writer_behind s) (writer_behind t) };
+    ghost flushes = { λ s r t. Forwards W.writes W.flushes r []
+        (held_bytes s) (held_bytes t) (writer_behind s) (writer_behind t) };
 
-    fn write(&mut self, buf: &[u8]) -> io::Result<usize>
-        ensures bound { WritesAtMost result buf.now }
-        ensures bytes { WriteAppends (append_known (W.written (writer_behind self.old)) (held_bytes self.old))
-            (append_known (W.written (writer_behind self.new)) (held_bytes self.new)) result buf.now }
-        ensures room { length (held_bytes self.old) < SIZE → IsOk result }
-        ensures some { IfOk result (λ n. n ≡ 0 → length buf.now ≡ 0) }
-        ensures counts { CountsFault result (writer_faults self.old) (writer_faults self.new) }
-        ensures caused { Caused W.writes W.flushes result (writer_behind self.old) (writer_behind self.new) }
-        ensures settles { Settles result buf.now }
-    {
+    fn write(&mut self, buf: &[u8]) -> io::Result<usize> {
         if buf.len() <= self.bytes.left() {
             self.bytes.extend(buf);
             return Ok(buf.len());
@@ -123,13 +105,7 @@ impl<W: Output + Drop> Output for Gathered<W> {
         }
     }
 
-    fn flush(&mut self) -> io::Result<()>
-        ensures bytes { Keeps (append_known (W.written (writer_behind self.old)) (held_bytes self.old))
-            (append_known (W.written (writer_behind self.new)) (held_bytes self.new)) }
-        ensures empty { OnOk result (held_bytes self.new ≡ []) }
-        ensures counts { CountsFault result (writer_faults self.old) (writer_faults self.new) }
-        ensures caused { Caused W.writes W.flushes result (writer_behind self.old) (writer_behind self.new) }
-    {
+    fn flush(&mut self) -> io::Result<()> {
         match self.send_all() {
             Ok(()) => Ok(()),
             Err(_) => Err(Error::from(ErrorKind::Other)),

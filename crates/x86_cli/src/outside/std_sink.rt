@@ -2,7 +2,7 @@
 
 ghost use Rattle.std.specs.Prelude.{◌≡◌};
 ghost use Rattle.x86_cli.specs.Outside.Sink.{TellsPut};
-ghost use Rattle.x86_cli.specs.Outside.Writes.{Caused};
+ghost use Rattle.x86_cli.specs.Outside.Writes.{PutSends};
 ghost use Rattle.x86_cli.specs.Outside.Seen.{sink_writer};
 
 use crate::outside::output::Output;
@@ -46,7 +46,7 @@ impl<W: Output + Drop> Sink for StdSink<W> {
     ghost faults = { λ s. s.faults };
 
     ghost takes = { λ s piece r t. TellsPut r piece (W.written s.writer) (W.written t.writer) s.faults t.faults
-        × Caused W.writes W.flushes r s.writer t.writer };
+        × PutSends W.writes W.flushes r piece s.writer t.writer };
 
     ghost tells = { λ s piece r t h. h.0 };
 

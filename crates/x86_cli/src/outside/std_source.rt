@@ -1,6 +1,6 @@
 //! A source over a reader.
 
-ghost use Rattle.std.specs.Prelude.{◌≡◌, ◌≤◌, ◌<◌, ◌∷◌, slice_range};
+ghost use Rattle.std.specs.Prelude.{◌≡◌, ◌≤◌, ◌<◌, [], ◌∷◌, slice_range};
 ghost use Rattle.std.specs.Io.KnownBytes.{prepend_known};
 ghost use Rattle.x86_cli.specs.Outside.Source.{TellsGot};
 ghost use Rattle.x86_cli.specs.Outside.StdSource.{TellsRefill, Fetches, Refills};
@@ -25,13 +25,14 @@ pub struct StdSource<R: Input + Drop> {
 }
 
 impl<R: Input + Drop> StdSource<R> {
-    ghost use Rattle.x86_cli.specs.Outside.Seen.{source_reader};
+    ghost use Rattle.x86_cli.specs.Outside.Seen.{source_reader, source_bytes};
 
     /// A source over the reader, with nothing read.
     pub fn new(reader: R) -> StdSource<R>
         ensures bytes { ⟦<StdSource<R> as Source>⟧.left result ≡ R.left reader }
         ensures sound { ⟦<StdSource<R> as Source>⟧.faults result ≡ 0 }
         ensures reader { source_reader result ≡ reader }
+        ensures empty { source_bytes result ≡ [] }
     {
         StdSource {
             reader,
@@ -40,6 +41,13 @@ impl<R: Input + Drop> StdSource<R> {
             filled: 0,
             faults: 0,
         }
+    }
+
+    /// Gives the reader back. What is still buffered is let go.
+    pub fn into_reader(self) -> R
+        ensures { result ≡ source_reader self }
+    {
+        self.reader
     }
 
     /// How many reads have failed.

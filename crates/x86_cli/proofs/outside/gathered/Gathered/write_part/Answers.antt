@@ -1,10 +1,11 @@
-use Rattle.std.proofs.KnownBytes.{append_known-grown, Keeps-refl}
+use Rattle.x86_cli.specs.declared.outside.sink.SinkFailed.{SinkFailed}
+use Rattle.x86_cli.proofs.OutsideLemmas.Writes.{forwards_none, forwards_more}
 use Rattle.x86_cli.proofs.outside.gathered.Gathered.write_part.Goals as goal
 use Rattle.x86_cli.proofs.outside.gathered.Gathered.write_part.Goals.{then-left-eq0+in_ok-send, else-left-eq0}
 
-pub returns-clause-bytes : goal.returns-clause-bytes
-returns-clause-bytes g c =
-    append_known-grown _ _ c.if-left-eq0.self.bytes.items _ _ (elim c.if-left-eq0.branch [
-      | then-left-eq0+in_ok-send w ↦ rw w.self-is w.send.ensures.bytes
-      | else-left-eq0 w ↦ rw w.self-is (Keeps-refl _)
-    ]) c.extend.ensures.text
+pub returns-clause-forwards : goal.returns-clause-forwards
+returns-clause-forwards g c =
+    elim c.if-left-eq0.branch [
+      | then-left-eq0+in_ok-send w ↦ forwards_more _ _ {E = SinkFailed} w.in_ok-send.field-0 c.if-buf-room.count _ _ c.if-left-eq0.self.bytes.items _ _ _ c.extend.ensures.text (rw w.self-is w.in_ok-send.ensures.forwards)
+      | else-left-eq0 w ↦ rw w.self-is (forwards_none _ _ c.if-buf-room.count _ _ _ _ (rw w.self-is at c.extend.ensures.text))
+    ]

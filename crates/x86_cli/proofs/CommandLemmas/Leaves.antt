@@ -1,0 +1,150 @@
+-- What the program leaves, where its reader tells the bytes that it has left and its writer the bytes that it has.
+use Rattle.std.proofs.Common.{◌≡◌, ◌≢◌, inl, inr, ℕ, Bool, List, [], ◌∷◌, ◌++◌, length, take, Option, Some, None, Result, Ok, Err, refl, ap, ◌∙◌, sym, subst, append-nil}
+use Rattle.std.proofs.Math.Seq.{take-append_seam}
+use Rattle.std.specs.Prelude.{IfSome, ⊤}
+use Rattle.std.specs.List.{concat}
+use Rattle.std.specs.declared.io.Error.{Error}
+use Rattle.std.specs.Io.{StartsWith}
+use Rattle.std.specs.Io.KnownBytes.{Keeps, Consumes, Appends, IsAtEnd, ReadConsumes, WriteAppends}
+use Rattle.std.proofs.KnownBytes.{Consumes-nil, Consumes-trans, Appends-nil, Appends-trans}
+use Rattle.x86_cli.specs.declared.commands.command.Command.{Command}
+use Rattle.x86_cli.specs.declared.listings.status.Status.{Status}
+use Rattle.x86_cli.specs.declared.listings.status.Status.TheVariants.{Done, Usage, Refused, BadText, ReadFault, WriteFault, TooLarge}
+use Rattle.x86_cli.specs.declared.text.reader.Ending.TheVariants.{Fault}
+use Rattle.x86_cli.specs.DecoderLaws.{DecoderLaws}
+use Rattle.x86_cli.specs.Outside.Stop.{Stop, End, Failed}
+use Rattle.x86_cli.specs.Outside.Reads.{ReaderCalls, ReadWhileOpen}
+use Rattle.x86_cli.specs.Outside.Writes.{Call, Write, Flush, sent, WriterCalls}
+use Rattle.x86_cli.specs.Text.{Text, text_of}
+use Rattle.x86_cli.specs.Text.Reading.{MayCome}
+use Rattle.x86_cli.specs.Listings.Listing.{Listing}
+use Rattle.x86_cli.specs.Commands.Command.{listing_for, max_of}
+use Rattle.x86_cli.specs.Commands.Make.{made_listing}
+use Rattle.x86_cli.specs.Commands.Says.{full_listing, taken_listing}
+use Rattle.x86_cli.specs.Commands.Program.{IsPrinted, Performs, PerformsMake, Has, HasOfAll, HasOfTaken, Leaves}
+use Rattle.x86_cli.proofs.CommandLemmas.Stay.{refused_stays}
+use Rattle.x86_cli.proofs.OutsideLemmas.Sink.{appends-none}
+use Rattle.x86_cli.proofs.OutsideLemmas.Writes.{take_none}
+
+-- readers
+
+consumes_none : (a b : Option (List ℕ)) → Keeps a b → Consumes a b []
+consumes_none None b k = tt
+consumes_none (Some x) None k = absurd k
+consumes_none (Some x) (Some y) k = sym k
+
+at_end : (a b : Option (List ℕ)) (bytes : List ℕ) → bytes ≡ [] → Consumes a b bytes → IsAtEnd b → IfSome a (λ xs. xs ≡ [])
+at_end None b bytes none c e = tt
+at_end (Some x) None bytes none c e = absurd c
+at_end (Some x) (Some y) bytes none c e = c ∙ ap (λ s. s ++ y) none ∙ e
+
+all_read : (p ps : List ℕ) (a b : Option (List ℕ)) → Consumes a b p → IfSome b (λ xs. xs ≡ ps) → IfSome a (λ xs. xs ≡ p ++ ps)
+all_read p ps None b c h = tt
+all_read p ps (Some xs) None c h = absurd c
+all_read p ps (Some xs) (Some ys) c h = c ∙ ap (λ ys. p ++ ys) h
+
+module _ {R : Type 0} (left : R → Option (List ℕ)) where
+  abbrev tells : R → List ℕ → Result ℕ Error → R → Type 0
+  tells s buffer r t = ReadConsumes (left s) (left t) r buffer
+
+  reads_consume : (pieces : List (List ℕ)) (stop : Option Stop) (r r' : R) → ReaderCalls tells pieces stop r r' → Consumes (left r) (left r') (concat pieces)
+  reads_consume [] None r r' e = rw e (Consumes-nil (left r))
+  reads_consume [] (Some End) r r' h = subst (Consumes (left r) (left r')) (take_none 0 h.0 refl) h.2.0
+  reads_consume [] (Some Failed) r r' h = consumes_none (left r) (left r') h.2
+  reads_consume (p ∷ ps) stop r r' h = Consumes-trans (left r) (left h.0) (left r') p (concat ps) (subst (Consumes (left r) (left h.0)) h.1.4 h.1.3.0) (reads_consume ps stop h.0 r' h.2)
+
+  reads_all : (pieces : List (List ℕ)) (r r' : R) → ReaderCalls tells pieces (Some End) r r' → IfSome (left r) (λ b. b ≡ concat pieces)
+  reads_all [] r r' h = at_end (left r) (left r') (take 0 h.0) (take_none 0 h.0 refl) h.2.0 (h.2.1 refl h.1)
+  reads_all (p ∷ ps) r r' h = all_read p (concat ps) (left r) (left h.0) (subst (Consumes (left r) (left h.0)) h.1.4 h.1.3.0) (reads_all ps h.0 r' h.2)
+
+taken_front : (a b : Option (List ℕ)) (taken : List ℕ) → Consumes a b taken → IfSome a (λ xs. StartsWith xs taken)
+taken_front None b taken c = tt
+taken_front (Some xs) None taken c = absurd c
+taken_front (Some xs) (Some ys) taken c = rw c (take-append_seam taken ys)
+
+some_more : (a b : Option (List ℕ)) (bytes : List ℕ) (P : List ℕ → Type 0) → Consumes a b bytes → ((xs : List ℕ) → P (bytes ++ xs)) → IfSome a P
+some_more None b bytes P c h = tt
+some_more (Some xs) None bytes P c h = absurd c
+some_more (Some xs) (Some ys) bytes P c h = subst P (sym c) (h ys)
+
+just_these : (a : Option (List ℕ)) (bytes : List ℕ) (P : List ℕ → Type 0) → IfSome a (λ b. b ≡ bytes) → P bytes → IfSome a P
+just_these None bytes P e h = tt
+just_these (Some xs) bytes P e h = subst P (sym e) h
+
+-- writers
+
+module _ {W : Type 0} (written : W → Option (List ℕ)) where
+  abbrev appends : W → List ℕ → Result ℕ Error → W → Type 0
+  appends s bytes r t = WriteAppends (written s) (written t) r bytes
+
+  abbrev keeps : W → Result ⊤ Error → W → Type 0
+  keeps s r t = Keeps (written s) (written t)
+
+  calls_append : (cs : List Call) (w w' : W) → WriterCalls appends keeps cs w w' → Appends (written w) (written w') (sent cs)
+  calls_append [] w w' e = rw e (Appends-nil (written w))
+  calls_append (Write bytes (Ok n) ∷ cs) w w' h = Appends-trans (written w) (written h.0) (written w') (sent cs) (take n bytes) (calls_append cs w h.0 h.1) h.2
+  calls_append (Write bytes (Err e) ∷ cs) w w' h = Appends-trans (written w) (written h.0) (written w') (sent cs) [] (calls_append cs w h.0 h.1) (appends-none (written h.0) (written w') h.2)
+  calls_append (Flush r ∷ cs) w w' h = Appends-trans (written w) (written h.0) (written w') (sent cs) [] (calls_append cs w h.0 h.1) (appends-none (written h.0) (written w') h.2)
+
+  pub make_leaves : (n : ℕ) (status : Status) (w w' : W) → PerformsMake appends keeps n status w w' → Has status (made_listing n) (written w) (written w')
+  make_leaves n status w w' h =
+      (h.bytes, h.lists, subst (Appends (written w) (written w')) h.wrote.caused.sends (calls_append h.wrote.caused.calls w w' h.wrote.caused.did))
+
+-- texts
+
+open_failed : (text : List ℕ → Stop → Text) (pieces : List (List ℕ)) (stop : Stop) → ReadWhileOpen text pieces (Some stop) → (text (concat pieces) Failed).ending ≡ Fault
+open_failed text [] stop h = h
+open_failed text (p ∷ ps) stop h = open_failed (λ xs s. text (p ++ xs) s) ps stop h.1
+
+module _ {R W : Type 0} (laws : (strict : Bool) → DecoderLaws strict) (left : R → Option (List ℕ)) (written : W → Option (List ℕ)) (c : Command) (r r' : R) (w w' : W) where
+  module _ (status : Status) (h : Performs (appends written) (keeps written) (tells left) c status r r' w w') where
+    wrote : Appends (written w) (written w') h.bytes
+    wrote = subst (Appends (written w) (written w')) h.wrote.caused.sends (calls_append written h.wrote.caused.calls w w' h.wrote.caused.did)
+
+    consumed : Consumes (left r) (left r') (concat h.pieces)
+    consumed = reads_consume left h.pieces h.stop r r' h.read
+
+    of_all : (stop : Option Stop) → h.stop ≡ stop → stop ≢ Some Failed → HasOfAll status c (left r) (written w) (written w')
+    of_all None is ne =
+        some_more (left r) (left r') (concat h.pieces) (λ b. Has status (full_listing c b) (written w) (written w')) consumed
+        (λ xs. (h.bytes, h.lists xs End (rw is tt), wrote))
+    of_all (Some End) is ne =
+        let P : Option Stop → Type 0 = λ o. ReaderCalls (tells left) h.pieces o r r' in
+        let may : MayCome h.stop [] End = rw is (refl, refl) in
+        just_these (left r) (concat h.pieces) (λ b. Has status (full_listing c b) (written w) (written w')) (reads_all left h.pieces r r' (subst P is h.read))
+        (h.bytes, rw append-nil at (h.lists [] End may), wrote)
+    of_all (Some Failed) is ne = absurd (ne refl)
+
+    printed_taken : h.stop ≡ Some Failed → IsPrinted status h.bytes (taken_listing c (concat h.pieces))
+    printed_taken is =
+        let may : MayCome h.stop [] Failed = rw is (refl, refl) in
+        rw append-nil at (h.lists [] Failed may)
+
+    of_taken : h.stop ≡ Some Failed → HasOfTaken status c (left r) (written w) (written w')
+    of_taken is = (concat h.pieces, taken_front (left r) (left r') (concat h.pieces) consumed, (h.bytes, printed_taken is, wrote))
+
+  refused : (h : Performs (appends written) (keeps written) (tells left) c Refused r r' w w') (stop : Option Stop) → h.stop ≡ stop → HasOfAll Refused c (left r) (written w) (written w')
+  refused h None is = of_all Refused h None is (λ e. cc)
+  refused h (Some End) is = of_all Refused h (Some End) is (λ e. cc)
+  refused h (Some Failed) is =
+      let bytes : List ℕ = concat h.pieces in
+      let P : Option Stop → Type 0 = λ o. ReadWhileOpen (text_of (max_of c)) h.pieces o in
+      let fault = open_failed (text_of (max_of c)) h.pieces Failed (subst P is h.open_yet) in
+      let p = printed_taken Refused h is in
+      let ends : (taken_listing c bytes).status ≡ Refused = sym (p.all (λ e. cc)).1 in
+      some_more (left r) (left r') bytes (λ b. Has Refused (full_listing c b) (written w) (written w')) (consumed Refused h)
+      (λ xs. (h.bytes, subst (IsPrinted Refused h.bytes) (sym (refused_stays laws c (max_of c) bytes xs End fault ends)) p, wrote Refused h))
+
+  written_fault : (h : Performs (appends written) (keeps written) (tells left) c WriteFault r r' w w') (stop : Option Stop) → h.stop ≡ stop → Leaves WriteFault c (left r) (written w) (written w')
+  written_fault h None is = inl (of_all WriteFault h None is (λ e. cc))
+  written_fault h (Some End) is = inl (of_all WriteFault h (Some End) is (λ e. cc))
+  written_fault h (Some Failed) is = inr (of_taken WriteFault h is)
+
+  pub leaves : (status : Status) → Performs (appends written) (keeps written) (tells left) c status r r' w w' → Leaves status c (left r) (written w) (written w')
+  leaves Done h = of_all Done h (Some End) h.ends (λ e. cc)
+  leaves Usage h = absurd h.ends
+  leaves Refused h = refused h h.stop refl
+  leaves BadText h = of_all BadText h h.stop refl h.ends
+  leaves TooLarge h = of_all TooLarge h h.stop refl h.ends
+  leaves ReadFault h = of_taken ReadFault h h.ends
+  leaves WriteFault h = written_fault h h.stop refl

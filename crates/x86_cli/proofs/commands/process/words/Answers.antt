@@ -1,0 +1,23 @@
+use Rattle.std.proofs.Common.{rules, ◌≡◌, ◌∙◌, ℕ, List, [], ◌∷◌, length, drop, remove, refl, sym, ap}
+use Rattle.x86_cli.proofs.commands.process.words.Goals as goal
+use Rattle.x86_cli.proofs.commands.process.words.Goals.{then-not-is_empty, else-not-is_empty}
+
+without_first : {A : Type 0} (xs ys zs : List A) → ys ≡ xs → zs ≡ remove ys 0 → zs ≡ drop 1 xs
+without_first [] ys zs same is = is ∙ ap (λ ys. remove ys 0) same
+without_first (x ∷ xs) ys zs same is = is ∙ ap (λ ys. remove ys 0) same
+
+none_left : {A : Type 0} (xs ys zs : List A) → ys ≡ xs → length ys ≡ 0 → zs ≡ ys → zs ≡ drop 1 xs
+none_left xs [] zs same none is = is ∙ ap (drop 1) same
+none_left xs (y ∷ ys) zs same none is = cc
+
+pub returns : goal.returns
+returns g c =
+    let run = c.in_ok-words.ensures.runs (search rules) in (
+      run.0,
+      run.1,
+      run.2,
+      elim c.if-not-is_empty.branch [
+        | then-not-is_empty w ↦ without_first _ _ _ run.3.0 (ap (λ v. v.items) w.words-is ∙ w.remove.ensures.items)
+        | else-not-is_empty w ↦ none_left _ _ _ run.3.0 (search rules) (ap (λ v. v.items) w.words-is)
+      ],
+    )
