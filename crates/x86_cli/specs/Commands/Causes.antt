@@ -1,4 +1,4 @@
--- A read fault comes only behind a call that failed, and a write fault behind a put that failed.
+-- A read fault comes only after a call that failed, and a write fault only after a put that failed.
 use Rattle.std.specs.Prelude.{◌≡◌, ◌≢◌, ℕ, List, Some, None, Result, ⊤}
 use Rattle.x86_cli.specs.declared.outside.source.Got.{Got}
 use Rattle.x86_cli.specs.declared.outside.sink.SinkFailed.{SinkFailed}

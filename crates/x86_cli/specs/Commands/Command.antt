@@ -64,7 +64,7 @@ max_of Tightened = text_max
 max_of Swept = text_max
 max_of Targeted = targets_max
 
--- A command that goes on behind refusals is never refused.
+-- A command that goes on after refusals is never refused.
 abbrev pub goes_past_refusals : Command → Bool
 goes_past_refusals (Listed strict) = false
 goes_past_refusals Fielded = false

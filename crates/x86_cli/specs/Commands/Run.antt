@@ -17,7 +17,7 @@ Lists status lines (Some failed) l = (status ≡ WriteFault) × ((more : List (L
 
 -- takes k piece answer l: a put of the piece at k may answer so, and leave l
 module _ {K : Type 0} (takes : K → List ℕ → Result ⊤ SinkFailed → K → Type 0) where
-  -- The sink took these pieces, one a put, and then, where there is one, failed at a piece. Nothing was put behind it.
+  -- The sink took these pieces, one a put, and then, where there is one, failed at a piece. Nothing was put after it.
   abbrev pub Took : List (List ℕ) → Option (List ℕ) → K → K → Type 0
   Took [] None k l = l ≡ k
   Took [] (Some failed) k l = (e : SinkFailed) × takes k failed (Err e) l

@@ -26,12 +26,12 @@ abbrev pub got_of : Stop → Got
 got_of End = got.End
 got_of Failed = got.Failed
 
--- What may come behind bytes that were given: anything, or nothing but the stop that was given behind them.
+-- What may come after bytes that were given: anything, or nothing but the stop that was given after them.
 abbrev pub MayCome : Option Stop → List ℕ → Stop → Type 0
 MayCome None xs stop = ⊤
 MayCome (Some given) xs stop = (xs ≡ []) × (stop ≡ given)
 
--- Behind a byte the source was not asked for a stop.
+-- After a byte the source was not asked for a stop.
 abbrev pub GoesOn : Piece → Option Stop → Type 0
 GoesOn (Byte v) stop = stop ≡ None
 GoesOn (Stopped e) stop = ⊤
@@ -41,11 +41,11 @@ abbrev pub UsesRoom : Piece → ℕ → ℕ → Type 0
 UsesRoom (Byte v) old new = new + 2 ≤ old
 UsesRoom (Stopped e) old new = new ≤ old
 
--- A text whose source failed has not ended before: the failure is a fault.
+-- The text of bytes after which their source failed: it had not ended before, so that the failure is its end.
 abbrev pub IsOpen : Text → Type 0
 IsOpen t = t.ending ≡ Fault
 
--- The same, and its image has fewer than k bytes.
+-- The same, with fewer than k bytes in its image.
 abbrev pub NeedsMore : ℕ → Text → Type 0
 NeedsMore k t = IsOpen t × (length t.image < k)
 
@@ -66,7 +66,7 @@ Asked text bytes stop = AskedWhere IsOpen text bytes stop
 
 -- gives s g t: a call at s may answer g, and leave t
 module _ {S : Type 0} (gives : S → Got → S → Type 0) where
-  -- The source gave these bytes, one a call, and then, where there is one, the stop. Nothing was asked behind it.
+  -- The source gave these bytes, one a call, and then, where there is one, the stop. Nothing was asked after it.
   abbrev pub Gave : List ℕ → Option Stop → S → S → Type 0
   Gave [] None s t = t ≡ s
   Gave [] (Some stop) s t = gives s (got_of stop) t
