@@ -2,6 +2,7 @@
 ghost use Rattle.std.specs.Prelude.{◌≡◌, ◌∷◌, IfOk};
 
 use x86_arch::{Arch, Decoder, ReadError, Reader, U8Reader};
+use x86_decode::{DecodeError, InstDecoder, Instruction, Opcode, Operand, RegSpec};
 
 /// An instruction set whose instructions are single bytes.
 struct Bytes;
@@ -67,4 +68,41 @@ fn a_decoder_through_its_bound(rt: HostRuntime) {
     let refused = ByteDecoder.decode_into(&mut inst, &mut words);
     assert!(rt; refused == Err(ReadError::ExhaustedInput));
     assert!(rt; inst == 0);
+}
+
+/// As a tool over any instruction set reads: into an instruction that it keeps, by the decoder of the set.
+fn read_into<A: Arch, T: Reader<A::Address, A::Word>>(
+    decoder: &A::Decoder,
+    inst: &mut A::Instruction,
+    words: &mut T,
+) -> Result<(), A::DecodeError>
+where
+    A::Decoder: Decoder<A>,
+{
+    decoder.decode_into(inst, words)
+}
+
+/// An operand of an instruction set, unchanged: what is given is of the type that the set names.
+fn operand_of<A: Arch>(operand: A::Operand) -> A::Operand {
+    operand
+}
+
+#[test]
+fn instructions_of_x86_through_the_bounds(rt: HostRuntime) {
+    let decoder = InstDecoder::default();
+    let mut words = U8Reader::new(&[0x48, 0x01, 0xd8, 0x90, 0xfe, 0xd0]);
+    let added = first::<x86_decode::Arch, InstDecoder, U8Reader>(&decoder, &mut words);
+    assert!(rt; added.is_ok());
+    let mut inst = added.unwrap_or(Instruction::invalid());
+    assert!(rt; inst.opcode() == Opcode::ADD);
+    let operand = operand_of::<x86_decode::Arch>(inst.operand(0));
+    let rax = Operand::Register {
+        reg: RegSpec::rax(),
+    };
+    assert!(rt; operand == rax);
+    assert!(rt; read_into::<x86_decode::Arch, U8Reader>(&decoder, &mut inst, &mut words).is_ok());
+    assert!(rt; inst.opcode() == Opcode::NOP);
+    let refused = read_into::<x86_decode::Arch, U8Reader>(&decoder, &mut inst, &mut words);
+    assert!(rt; refused == Err(DecodeError::InvalidOpcode));
+    assert!(rt; inst == Instruction::invalid());
 }
