@@ -1,5 +1,5 @@
 -- The line of a row, and what the row asks behind ModRM.
-use Rattle.std.proofs.Common.{◌≡◌, ℕ, Bool, false, if◌then◌else◌, IsTrue, Result, Ok, Err, refl, sym, ap, ◌∙◌, subst, ◌⊎◌, inl, inr}
+use Rattle.std.proofs.Common.{◌≡◌, ℕ, Bool, true, false, if◌then◌else◌, IsTrue, Result, Ok, Err, refl, sym, ap, ◌∙◌, subst}
 use Rattle.x86_arch.specs.Reader.{State}
 use Rattle.x86_fields.specs.declared.errors.DecodeError.{DecodeError}
 use Rattle.x86_fields.specs.declared.prefixes.Prefixes.{Prefixes}
@@ -14,13 +14,15 @@ use Rattle.x86_operands.specs.declared.encodings.RegGroup.{RegGroup}
 use Rattle.x86_operands.specs.declared.plans.ModrmUse.{ModrmUse}
 use Rattle.x86_operands.specs.declared.plans.ModrmUse.TheVariants.{Absent, EitherForm}
 use Rattle.x86_operands.specs.declared.reader.Reading.{Reading}
-use Rattle.x86_operands.specs.Encodings.{Belongs, carried, group_form, is_described, plan_of, use_of}
+use Rattle.x86_operands.specs.Encodings.{allows, Belongs, carried, Describes, group_form, has_fields, is_described, plan_of, use_of}
+use Rattle.x86_operands.proofs.OrderLemmas.{allowed_is_described}
+use Rattle.x86_fields.specs.ModRM.{absent_modrm}
 use Rattle.x86_operands.specs.Forms.{form_plan, form_record, modrm_use}
 use Rattle.x86_operands.specs.PlanSteps.{read_modrm, read_plan, record_step}
 use Rattle.x86_groups.specs.ByReg.{Chooses, reg_plan}
 use Rattle.x86_groups.specs.Groups.{group_plan, group_record}
 use Rattle.x86_groups.proofs.RegLemmas.{reg_record, reg_chosen, reg_group, reg_carries}
-use Rattle.x86_decode.specs.Walk.{row_step, plan_at}
+use Rattle.x86_decode.specs.Walk.{fields_use, is_known, row_step, plan_at}
 
 -- what stands behind a ModRM byte that was read
 abbrev asks : Bool → TableRow → Prefixes → Result ℕ DecodeError → State ℕ → Outcome Reading
@@ -31,27 +33,12 @@ same_asks strict row p e = ap (λ o. asks strict row p o.answer o.after) e
 
 -- ---- rows of the table
 
-abbrev pub IsPlain : ModrmUse → Behind → Form → Type 0
-IsPlain u b f = (use_of b ≡ u) × (is_group f ≡ false)
-
-pub with_either_form : (b : Behind) (f : Form) → b ≡ behind.EitherForm → Belongs b f → IsPlain EitherForm b f
-with_either_form b f e h = (ap use_of e, subst (λ k. Belongs k f) e h)
-
-pub with_modrm : (b : Behind) (f : Form) → (b ≡ behind.Memory) ⊎ (b ≡ behind.Registers) → Belongs b f → IsPlain EitherForm b f
-with_modrm b f (inl e) h = (ap use_of e, subst (λ k. Belongs k f) e h)
-with_modrm b f (inr e) h = (ap use_of e, subst (λ k. Belongs k f) e h)
-
-pub with_none : (b : Behind) (f : Form) → (b ≡ behind.Nothing) ⊎ ((b ≡ behind.Opcode) ⊎ (b ≡ behind.Accumulator)) → Belongs b f → IsPlain Absent b f
-with_none b f (inl e) h = (ap use_of e, subst (λ k. Belongs k f) e h)
-with_none b f (inr (inl e)) h = (ap use_of e, subst (λ k. Belongs k f) e h)
-with_none b f (inr (inr e)) h = (ap use_of e, subst (λ k. Belongs k f) e h)
-
 plain_asks : (strict : Bool) (row : TableRow) (p : Prefixes) (s : State ℕ) → is_group row.form ≡ false → row_step strict row p s ≡ asks strict row p (read_modrm (modrm_use row.form) s).answer (read_modrm (modrm_use row.form) s).after
 unfolding record_step form_record
 plain_asks strict row p s e = rw e refl
 
-pub row_asks : {r : Result ℕ DecodeError} {t : State ℕ} (s : State ℕ) (strict : Bool) (row : TableRow) (p : Prefixes) (u : ModrmUse) (b : Behind) → IsPlain u b row.form → modrm_use row.form ≡ use_of b → outcome r t ≡ read_modrm u s → asks strict row p r t ≡ row_step strict row p s
-row_asks {r} {t} s strict row p u b plain usage e = same_asks strict row p (e ∙ ap (λ k. read_modrm k s) (sym (usage ∙ plain.0))) ∙ sym (plain_asks strict row p s plain.1)
+row_asks : {r : Result ℕ DecodeError} {t : State ℕ} (s : State ℕ) (strict : Bool) (row : TableRow) (p : Prefixes) (u : ModrmUse) → modrm_use row.form ≡ u → is_group row.form ≡ false → outcome r t ≡ read_modrm u s → asks strict row p r t ≡ row_step strict row p s
+row_asks {r} {t} s strict row p u usage plain e = same_asks strict row p (e ∙ ap (λ k. read_modrm k s) (sym usage)) ∙ sym (plain_asks strict row p s plain)
 
 -- ---- groups by reg
 
@@ -67,12 +54,58 @@ group_row g strict row p s e =
     ap (λ t. record_step (if t then group_record strict row p else form_record row p) p s) (reg_group g row.form e)
     ∙ reg_record g strict row p s e ∙ reg_behind g strict row p (read_modrm EitherForm s).answer (read_modrm EitherForm s).after e
 
-pub group_asks : {r : Result ℕ DecodeError} {t : State ℕ} (s : State ℕ) (strict : Bool) (row : TableRow) (p : Prefixes) (g : RegGroup) → row.form ≡ group_form g → outcome r t ≡ read_modrm EitherForm s → asks strict row p r t ≡ row_step strict row p s
+group_asks : {r : Result ℕ DecodeError} {t : State ℕ} (s : State ℕ) (strict : Bool) (row : TableRow) (p : Prefixes) (g : RegGroup) → row.form ≡ group_form g → outcome r t ≡ read_modrm EitherForm s → asks strict row p r t ≡ row_step strict row p s
 group_asks {r} {t} s strict row p g e b = same_asks strict row p b ∙ sym (group_row g strict row p s e)
 
-pub group_described : (strict : Bool) (row : TableRow) (p : Prefixes) (m o : ℕ) (g : RegGroup) (e : FormEncoding) → row.form ≡ group_form g → Chooses g m o e → IsTrue (is_described e.behind) → plan_of e (carried row.form) o p m ≡ plan_at strict row p m
+group_described : (strict : Bool) (row : TableRow) (p : Prefixes) (m o : ℕ) (g : RegGroup) (e : FormEncoding) → row.form ≡ group_form g → Chooses g m o e → IsTrue (is_described e.behind) → plan_of e (carried row.form) o p m ≡ plan_at strict row p m
 group_described strict row p m o g e belongs d is =
     ap (λ n. plan_of e n o p m) (reg_carries g row.form belongs) ∙ d is p ∙ sym (chosen_plan g strict row p m belongs)
 
-pub belongs_reg : (b : Behind) (f : Form) (g : RegGroup) → b ≡ behind.ByReg g → Belongs b f → f ≡ group_form g
-belongs_reg b f g e h = subst (λ k. Belongs k f) e h
+-- ---- any form whose line is known
+
+-- what was read before the line was asked for is what the row reads first
+pub known_asks : {r : Result ℕ DecodeError} {t : State ℕ} (s : State ℕ) (strict : Bool) (row : TableRow) (p : Prefixes) (b : Behind) → Belongs b row.form → modrm_use row.form ≡ use_of b → is_known b ≡ true → outcome r t ≡ read_modrm (fields_use b) s → asks strict row p r t ≡ row_step strict row p s
+known_asks s strict row p behind.Nothing plain usage h e = row_asks s strict row p Absent usage plain e
+known_asks s strict row p behind.Opcode plain usage h e = row_asks s strict row p Absent usage plain e
+known_asks s strict row p behind.Accumulator plain usage h e = row_asks s strict row p Absent usage plain e
+known_asks s strict row p behind.EitherForm plain usage h e = row_asks s strict row p EitherForm usage plain e
+known_asks s strict row p behind.Memory plain usage h e = row_asks s strict row p EitherForm usage plain e
+known_asks s strict row p behind.Registers plain usage h e = row_asks s strict row p EitherForm usage plain e
+known_asks s strict row p (behind.ByReg g) belongs usage h e = group_asks s strict row p g belongs e
+known_asks s strict row p (behind.Peculiar u) belongs usage h e = absurd cc
+known_asks s strict row p behind.Group belongs usage h e = absurd cc
+
+pub fields_known : (b : Behind) → has_fields b ≡ true → is_known b ≡ true
+fields_known (behind.Peculiar u) h = cc
+fields_known behind.Group h = cc
+fields_known b h = refl
+
+-- a byte is missing only where one is read
+pub missing_known : (b : Behind) (x : DecodeError) (s t : State ℕ) → outcome (Err x) t ≡ read_modrm (fields_use b) s → is_known b ≡ true
+missing_known (behind.Peculiar u) x s t e = let no : ◌≡◌ {A = Result ℕ DecodeError} (Err x) (Ok absent_modrm) = ap (λ o. o.answer) e in cc
+missing_known behind.Group x s t e = let no : ◌≡◌ {A = Result ℕ DecodeError} (Err x) (Ok absent_modrm) = ap (λ o. o.answer) e in cc
+missing_known b x s t e = refl
+
+-- ---- the line of a row
+
+pub reg_known : (b : Behind) (g : RegGroup) → b ≡ behind.ByReg g → is_known b ≡ true
+reg_known b g e = ap is_known e
+
+pub reg_described : (strict : Bool) (row : TableRow) (p : Prefixes) (m o : ℕ) (b : Behind) (g : RegGroup) (e : FormEncoding) → b ≡ behind.ByReg g → Belongs b row.form → Chooses g m o e → allows e.behind m ≡ true → plan_of e (carried row.form) o p m ≡ plan_at strict row p m
+reg_described strict row p m o b g e is belongs d may = group_described strict row p m o g e (subst (λ k. Belongs k row.form) is belongs) d (allowed_is_described e.behind m may)
+
+pub allowed_known : (b : Behind) (m : ℕ) → allows b m ≡ true → is_known b ≡ true
+allowed_known (behind.Peculiar u) m h = cc
+allowed_known behind.Group m h = cc
+allowed_known b m h = refl
+
+allowed_plain : (b : Behind) (f : Form) (m : ℕ) → allows b m ≡ true → Belongs b f → is_group f ≡ false
+allowed_plain (behind.ByReg g) f m h belongs = cc
+allowed_plain (behind.Peculiar u) f m h belongs = cc
+allowed_plain behind.Group f m h belongs = cc
+allowed_plain b f m h belongs = belongs
+
+pub form_described : (strict : Bool) (row : TableRow) (p : Prefixes) (m : ℕ) (e : FormEncoding) → Belongs e.behind row.form → Describes e row.form → allows e.behind m ≡ true → plan_of e (carried row.form) row.opcode p m ≡ plan_at strict row p m
+form_described strict row p m e belongs d may =
+    d (allowed_is_described e.behind m may) row.opcode m p
+    ∙ ap (λ t. if t then group_plan row p m strict else form_plan row.form row.opcode p m) (sym (allowed_plain e.behind row.form m may belongs))

@@ -319,6 +319,11 @@ has_modrm behind.Memory = true
 has_modrm behind.Registers = true
 has_modrm b = false
 
+-- whether a ModRM byte follows whose line is known, or chosen by reg
+abbrev pub has_fields : Behind → Bool
+has_fields (behind.ByReg g) = true
+has_fields b = has_modrm b
+
 abbrev pub has_register : Behind → Bool
 has_register behind.Opcode = true
 has_register behind.Accumulator = true

@@ -8,6 +8,8 @@ use Rattle.x86_fields.specs.Raw.{has_w}
 use Rattle.x86_opcodes.specs.Kinds.{is_among}
 use Rattle.x86_opcodes.specs.Names.{CALL, CMPSD, CMPSS, ROUNDSS, ROUNDSD, LFS, LGS, LSS, ENQCMD, ENQCMDS, MOVDDUP, MOVNTSS, MOVNTPS, MOVNTPD, MOVNTDQ, PEXTRB, PEXTRW, EXTRACTPS, PINSRB, INSERTPS, PMOVSXBQ, PMOVZXBQ, PMOVSXBD, PMOVZXBD, PMOVSXWQ, PMOVZXWQ, UCOMISS, COMISS, CVTSS2SD, MOVLPD, MOVHPD, PUNPCKLBW, PUNPCKLWD, PUNPCKLDQ, RETURN, RETF, PUSHF, POPF, LEAVE, XLAT, CBW, CWDE, CDQE, CWD, CDQ, CQO}
 use Rattle.x86_fields.specs.Prefixes.{operand_size, address_size}
+use Rattle.x86_operands.specs.declared.encodings.Size.{Size}
+use Rattle.x86_operands.specs.declared.encodings.Size.TheVariants as size
 use Rattle.x86_operands.specs.declared.plans.OperandEncoding.{OperandEncoding}
 use Rattle.x86_operands.specs.declared.plans.OperandEncoding.TheVariants.{I16, I32, I64Whole, Address32, Address64}
 use Rattle.x86_fields.specs.Sizes.{v_class}
@@ -89,3 +91,15 @@ insert_size o = if o == PINSRB then 1 else (if o == INSERTPS then 4 else 0)
 
 abbrev pub unpack_size : ℕ → ℕ
 unpack_size o = if is_among (PUNPCKLBW ∷ PUNPCKLWD ∷ PUNPCKLDQ ∷ []) o then 4 else 8
+
+-- a size that the operation alone decides, and 0 for the others
+abbrev pub named_size : Size → ℕ → ℕ
+named_size size.Bare o = nothing_size o
+named_size size.Return o = return_size o
+named_size size.Duplicate o = duplicate_size o
+named_size size.Stream o = stream_size o
+named_size size.Scalar o = scalar_size o
+named_size size.Extract o = extract_size o
+named_size size.Insert o = insert_size o
+named_size size.Unpack o = unpack_size o
+named_size s o = 0

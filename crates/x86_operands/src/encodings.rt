@@ -1,17 +1,19 @@
 //! What a line of the operand encodings says.
 
 ghost use Rattle.std.specs.Prelude.{◌≡◌, ◌<◌};
-ghost use Rattle.x86_operands.specs.Encodings.{class_of, size_bytes, last_encoding, reg_encoding, rm_encoding, encoding_at, encodings_in, plan_of, use_of, is_described, allows, size_at};
+ghost use Rattle.x86_operands.specs.FormSizes.{named_size};
+ghost use Rattle.x86_operands.specs.Encodings.{class_of, size_bytes, last_encoding, reg_encoding, rm_encoding, encoding_at, encodings_in, plan_of, use_of, is_described, allows, has_fields, size_at};
 
 use crate::form_sizes::{
-    call_size, duplicate_size, extract_size, insert_size, nothing_size, push_immediate,
-    return_size, scalar_size, stream_size, unpack_size, v_size, whole_immediate,
+    duplicate_size, extract_size, insert_size, nothing_size, push_immediate, return_size,
+    scalar_size, stream_size, unpack_size, whole_immediate,
 };
 use crate::order::{Order, Position};
 use crate::plans::{
     ModrmUse, OperandEncoding, OperandEncodings, Plan, RegisterSlot, accumulator_of, immediate_of,
     memory_only, reads, register_at, register_only,
 };
+use crate::sizing::{CLASSES, SIZES};
 use x86_fields::{ModRM, Prefixes};
 use x86_opcodes::Opcode;
 use x86_regs::{RegSpec, RegisterClass};
@@ -148,23 +150,25 @@ pub struct FormEncoding {
     pub in_register: Size,
 }
 
+/// The column of CLASSES and SIZES.
+macro_rules! column {
+    ($prefixes:expr) => {
+        match ($prefixes.has_w(), $prefixes.operand_size()) {
+            (false, false) => 0,
+            (true, false) => 1,
+            (false, true) => 2,
+            (true, true) => 3,
+        }
+    };
+}
+
 impl Width {
     #[inline(always)]
     pub fn class(self, prefixes: &Prefixes) -> RegisterClass
         ensures { result ≡ class_of self prefixes.now }
     {
-        match self {
-            Width::B => RegisterClass::B,
-            Width::Mm => RegisterClass::MM,
-            Width::W => RegisterClass::W,
-            Width::D => RegisterClass::D,
-            Width::Q => RegisterClass::Q,
-            Width::X => RegisterClass::X,
-            Width::V => prefixes.v_class(),
-            Width::Vq => prefixes.vq_class(),
-            Width::Vd => prefixes.vd_class(),
-            Width::Dq => prefixes.dq_class(),
-        }
+        let column = column!(prefixes);
+        CLASSES[self as usize][column]
     }
 }
 
@@ -173,17 +177,24 @@ impl Size {
     pub fn bytes(self, opcode: Opcode, prefixes: &Prefixes) -> u8
         ensures { result ≡ size_bytes self opcode prefixes.now }
     {
+        if self as usize >= 10 {
+            return self.named(opcode);
+        }
+        let column = column!(prefixes);
+        let size = SIZES[self as usize][column];
+        if matches!(self, Size::Call) && opcode != Opcode::CALL {
+            0
+        } else {
+            size
+        }
+    }
+
+    /// The size that the operation alone decides; 0 for the sizes of the table.
+    #[inline(never)]
+    fn named(self, opcode: Opcode) -> u8
+        ensures { result ≡ named_size self opcode }
+    {
         match self {
-            Size::Zero => 0,
-            Size::One => 1,
-            Size::Two => 2,
-            Size::Four => 4,
-            Size::Eight => 8,
-            Size::Sixteen => 16,
-            Size::V => v_size(prefixes),
-            Size::Dq => prefixes.dq_class().width(),
-            Size::Push => if prefixes.operand_size() { 2 } else { 8 },
-            Size::Call => call_size(opcode),
             Size::Bare => nothing_size(opcode),
             Size::Return => return_size(opcode),
             Size::Duplicate => duplicate_size(opcode),
@@ -192,6 +203,7 @@ impl Size {
             Size::Extract => extract_size(opcode),
             Size::Insert => insert_size(opcode),
             Size::Unpack => unpack_size(opcode),
+            _ => 0,
         }
     }
 }
@@ -302,12 +314,25 @@ impl Behind {
     pub fn allows(self, modrm: ModRM) -> bool
         ensures { result ≡ allows self modrm }
     {
-        match self {
-            Behind::EitherForm => true,
-            Behind::Memory => modrm.is_memory(),
-            Behind::ByReg(_) | Behind::Peculiar(_) | Behind::Group => false,
-            _ => !modrm.is_memory(),
+        if modrm.is_memory() {
+            matches!(self, Behind::EitherForm | Behind::Memory)
+        } else {
+            !matches!(
+                self,
+                Behind::Memory | Behind::ByReg(_) | Behind::Peculiar(_) | Behind::Group
+            )
         }
+    }
+
+    /// Whether a ModRM byte follows whose line is known, or chosen by reg.
+    #[inline(always)]
+    pub fn has_fields(self) -> bool
+        ensures { result ≡ has_fields self }
+    {
+        matches!(
+            self,
+            Behind::EitherForm | Behind::Memory | Behind::Registers | Behind::ByReg(_)
+        )
     }
 }
 
@@ -355,37 +380,4 @@ impl FormEncoding {
             _ => plan,
         }
     }
-}
-
-/// A line: what stands behind the opcode byte, the order of operands, the widths of reg and rm, the last operand, and
-/// the memory size in the memory form and in the register form.
-#[macro_export]
-macro_rules! encoded {
-    ($behind:ident $order:ident $reg:ident $rm:ident $last:ident $memory:ident $register:ident) => {
-        &$crate::FormEncoding {
-            behind: $crate::Behind::$behind,
-            order: $crate::order::$order,
-            reg: $crate::Width::$reg,
-            rm: $crate::Width::$rm,
-            last: $crate::Last::$last,
-            in_memory: $crate::Size::$memory,
-            in_register: $crate::Size::$register,
-        }
-    };
-}
-
-/// A form that no line describes.
-#[macro_export]
-macro_rules! other {
-    ($behind:expr) => {
-        &$crate::FormEncoding {
-            behind: $behind,
-            order: $crate::order::NO,
-            reg: $crate::Width::B,
-            rm: $crate::Width::B,
-            last: $crate::Last::Absent,
-            in_memory: $crate::Size::Zero,
-            in_register: $crate::Size::Zero,
-        }
-    };
 }

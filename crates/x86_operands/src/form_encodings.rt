@@ -15,6 +15,39 @@ use crate::plans::ModrmUse;
 use crate::{encoded, other};
 use x86_forms::Form;
 
+/// A line: what stands behind the opcode byte, the order of operands, the widths of reg and rm, the last operand, and
+/// the memory size in the memory form and in the register form.
+#[macro_export]
+macro_rules! encoded {
+    ($behind:ident $order:ident $reg:ident $rm:ident $last:ident $memory:ident $register:ident) => {
+        &$crate::FormEncoding {
+            behind: $crate::Behind::$behind,
+            order: $crate::order::$order,
+            reg: $crate::Width::$reg,
+            rm: $crate::Width::$rm,
+            last: $crate::Last::$last,
+            in_memory: $crate::Size::$memory,
+            in_register: $crate::Size::$register,
+        }
+    };
+}
+
+/// A form that no line describes.
+#[macro_export]
+macro_rules! other {
+    ($behind:expr) => {
+        &$crate::FormEncoding {
+            behind: $behind,
+            order: $crate::order::NO,
+            reg: $crate::Width::B,
+            rm: $crate::Width::B,
+            last: $crate::Last::Absent,
+            in_memory: $crate::Size::Zero,
+            in_register: $crate::Size::Zero,
+        }
+    };
+}
+
 /// The operand encoding of a form.
 #[inline(always)]
 pub fn form_encoding(form: Form) -> &'static FormEncoding

@@ -3,7 +3,7 @@ ghost use Rattle.std.specs.Prelude.{◌≡◌, if◌then◌else◌};
 ghost use Rattle.x86_fields.specs.Prefixes.{operand_size};
 ghost use Rattle.x86_fields.specs.Raw.{has_w};
 ghost use Rattle.x86_operands.specs.Forms.{v_size, or_v};
-ghost use Rattle.x86_operands.specs.FormSizes.{pointer_class, whole_immediate, push_immediate, address_encoding, widening, doubling, nothing_size, call_size, return_size, port_size, is_far_load, far_class, far_size, duplicate_size, stream_size, scalar_size, extend_size, is_half_load, extract_size, insert_size, unpack_size};
+ghost use Rattle.x86_operands.specs.FormSizes.{pointer_class, whole_immediate, push_immediate, address_encoding, widening, doubling, nothing_size, return_size, port_size, is_far_load, far_class, far_size, duplicate_size, stream_size, scalar_size, extend_size, is_half_load, extract_size, insert_size, unpack_size};
 
 use crate::plans::{OperandEncoding, size_by};
 use x86_fields::{ModRM, Prefixes};
@@ -102,13 +102,6 @@ pub fn nothing_size(opcode: Opcode) -> u8
         Opcode::XLAT => 1,
         _ => 0,
     }
-}
-
-/// The size of a near branch of 4 bytes.
-pub fn call_size(opcode: Opcode) -> u8
-    ensures { result ≡ call_size opcode }
-{
-    if opcode == Opcode::CALL { 8 } else { 0 }
 }
 
 /// The size of a return with an immediate.

@@ -7,7 +7,6 @@ ghost use Rattle.x86_fields.specs.declared.prefixes.Prefixes.{Prefixes};
 ghost use Rattle.x86_operands.specs.declared.encodings.Last.TheVariants.{Absent};
 ghost use Rattle.x86_operands.specs.declared.order.Position.TheVariants.{Nowhere};
 ghost use Rattle.x86_operands.specs.PlanSteps.{memory_or, read_plan, pointer_slot, register_slot};
-ghost use Rattle.x86_operands.specs.Shape.{shape};
 ghost use Rattle.x86_operands.specs.Encodings.{rm_read, reg_pair, fixed_pair, no_operands, reading_with, plan_of, held, put_in, put_at, put_encoded, last_encoding, encoded_read, front_read, allows, is_sound, slot_in, operand_in};
 
 use crate::encodings::{Behind, FormEncoding, Last, Width};
@@ -16,6 +15,7 @@ use crate::order::Position;
 use crate::plans::{
     OperandEncoding, PointerSlot, RegisterSlot, reg_number, register_at, rm_number,
 };
+use crate::shapes::put_shape;
 use x86_arch::Reader;
 use x86_fields::{
     DecodeError, ModRM, Prefixes, Raw, read_raw, read_u8, read_u16, read_u32, read_u64,
@@ -60,7 +60,7 @@ fn pointer_slot(slot: PointerSlot) -> Slot
 impl Operands {
     /// Writes a slot and its operand at an index.
     #[inline(always)]
-    fn put_at(&mut self, at: usize, slot: Slot, operand: Operand)
+    pub(crate) fn put_at(&mut self, at: usize, slot: Slot, operand: Operand)
         requires { at < 4 }
         ensures { self.new ≡ put_at at (slot, operand) self.old }
     {
@@ -76,58 +76,6 @@ impl Operands {
         self.put_at(at, slot, Operand::Register { reg });
     }
 
-    /// The memory operand of raw fields, with the parts that are present.
-    #[inline(always)]
-    #[tactic(auto, unfolding(crate::specs::Shape::shape))]
-    fn put_memory(&mut self, at: usize, raw: &Raw)
-        requires { at < 4 }
-        ensures { self.new ≡ put_at at (shape raw.now) self.old }
-    {
-        let disp = raw.disp;
-        match raw.base() {
-            Some(base) => match raw.index() {
-                None => {
-                    if disp == 0 {
-                        self.put_at(at, Slot::Deref, Operand::MemDeref { base });
-                    } else {
-                        self.put_at(at, Slot::Disp, Operand::Disp { base, disp });
-                    }
-                }
-                Some(index) => {
-                    let scale = raw.scale();
-                    if disp == 0 {
-                        let operand = Operand::MemBaseIndexScale { base, index, scale };
-                        self.put_at(at, Slot::BaseIndexScale, operand);
-                    } else {
-                        let operand = Operand::MemBaseIndexScaleDisp {
-                            base,
-                            index,
-                            scale,
-                            disp,
-                        };
-                        self.put_at(at, Slot::BaseIndexScaleDisp, operand);
-                    }
-                }
-            },
-            None => match raw.index() {
-                None => {
-                    let addr = disp.cast_unsigned();
-                    self.put_at(at, Slot::DispU32, Operand::AbsoluteU32 { addr });
-                }
-                Some(index) => {
-                    let scale = raw.scale();
-                    if disp == 0 {
-                        let operand = Operand::MemIndexScale { index, scale };
-                        self.put_at(at, Slot::IndexScale, operand);
-                    } else {
-                        let operand = Operand::MemIndexScaleDisp { index, scale, disp };
-                        self.put_at(at, Slot::IndexScaleDisp, operand);
-                    }
-                }
-            },
-        }
-    }
-
     /// The operand of rm: memory where it was read, else the register.
     fn put_rm(&mut self, at: usize, memory: Option<Raw>, reg: RegSpec)
         requires { at < 4 }
@@ -135,7 +83,7 @@ impl Operands {
     {
         match memory {
             None => self.put_register(at, Slot::Rm, reg),
-            Some(raw) => self.put_memory(at, &raw),
+            Some(raw) => put_shape(self, at, &raw),
         }
     }
 
@@ -301,7 +249,7 @@ impl Operands {
     {
         if modrm.is_memory() {
             let raw = read_raw(reader, prefixes, modrm.byte())?;
-            self.put_memory(at.index(), &raw);
+            put_shape(self, at.index(), &raw);
             return Ok(());
         }
         let reg = match width {

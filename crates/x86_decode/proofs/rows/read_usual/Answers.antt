@@ -1,61 +1,26 @@
-use Rattle.std.proofs.Common.{rules, ◌≡◌, Ok, Err, ap, ◌∙◌}
-use Rattle.x86_fields.specs.Steps.{outcome, then_from}
-use Rattle.x86_operands.specs.declared.plans.ModrmUse.TheVariants.{Absent, EitherForm}
-use Rattle.x86_operands.specs.Encodings.{group_form}
-use Rattle.x86_decode.specs.Walk.{found_row_step}
-use Rattle.x86_decode.proofs.UsualLemmas.{IsPlain, belongs_reg, with_either_form, with_modrm, with_none, row_asks, group_asks, group_described}
+use Rattle.std.proofs.Common.{rules, ◌≡◌, true, Err, ap, ◌∙◌}
+use Rattle.x86_fields.specs.Steps.{then_from}
+use Rattle.x86_operands.specs.Encodings.{allows, has_fields}
+use Rattle.x86_decode.specs.Walk.{found_row_step, is_known, row_step}
+use Rattle.x86_decode.proofs.UsualLemmas.{fields_known, known_asks, missing_known}
 use Rattle.x86_decode.proofs.rows.read_usual.Goals as goal
 
-pub returns-in_err-modrm-in-ByReg-clause-read : goal.returns-in_err-modrm-in-ByReg-clause-read
-returns-in_err-modrm-in-ByReg-clause-read g c = λ strict i.
-    let r : c.from_residual.result ≡ Err c.in_err-modrm-in-ByReg.field-0.0 = search rules in
-    let group : c.args.row.now.form ≡ group_form c.in-ByReg.group = belongs_reg c.form_encoding-encoding.result.now.behind c.args.row.now.form c.in-ByReg.group c.in-ByReg.is c.form_encoding-encoding.ensures.group in
-    ap (λ x. then_from x (g.T.Reader.state c.read_modrm.new.reader) (found_row_step strict c.args.row.now i)) r
-    ∙ group_asks (g.T.Reader.state c.args.reader.now) strict c.args.row.now i.prefixes c.in-ByReg.group group c.in_err-modrm-in-ByReg.ensures
-
-pub line_at-requires-clause-describes : goal.line_at-requires-clause-describes
-line_at-requires-clause-describes g c = λ strict p is.
-    let group : c.args.row.now.form ≡ group_form c.in-ByReg.group = belongs_reg c.form_encoding-encoding.result.now.behind c.args.row.now.form c.in-ByReg.group c.in-ByReg.is c.form_encoding-encoding.ensures.group in
-    group_described strict c.args.row.now p c.in_ok-modrm-in-ByReg.modrm c.chosen-opcode.result.0 c.in-ByReg.group c.chosen-opcode.result.1.now group c.chosen-opcode.ensures.chooses is
-
-pub returns-in_ok-modrm-in-ByReg-clause-read : goal.returns-in_ok-modrm-in-ByReg-clause-read
-returns-in_ok-modrm-in-ByReg-clause-read g c = λ strict i.
-    let group : c.args.row.now.form ≡ group_form c.in-ByReg.group = belongs_reg c.form_encoding-encoding.result.now.behind c.args.row.now.form c.in-ByReg.group c.in-ByReg.is c.form_encoding-encoding.ensures.group in
-    ap (λ q. q (g.T.Reader.state c.read_modrm.new.reader)) (c.line_at.ensures.modrm strict i)
-    ∙ group_asks (g.T.Reader.state c.args.reader.now) strict c.args.row.now i.prefixes c.in-ByReg.group group c.in_ok-modrm-in-ByReg.ensures
-
-pub returns-in_err-modrm-in-EitherForm-clause-read : goal.returns-in_err-modrm-in-EitherForm-clause-read
-returns-in_err-modrm-in-EitherForm-clause-read g c = λ strict i.
-    let r : c.from_residual-in_err-modrm-in-EitherForm.result ≡ Err c.in_err-modrm-in-EitherForm.field-0.0 = search rules in
-    let b = c.form_encoding-encoding.result.now.behind in
-    let plain : IsPlain EitherForm b c.args.row.now.form = with_either_form b c.args.row.now.form c.in-EitherForm.is c.form_encoding-encoding.ensures.group in
-    ap (λ x. then_from x (g.T.Reader.state c.read_modrm-in-EitherForm.new.reader) (found_row_step strict c.args.row.now i)) r
-    ∙ row_asks (g.T.Reader.state c.args.reader.now) strict c.args.row.now i.prefixes EitherForm b plain c.form_encoding-encoding.ensures.usage c.in_err-modrm-in-EitherForm.ensures
-
-pub returns-in_ok-modrm-in-EitherForm-clause-read : goal.returns-in_ok-modrm-in-EitherForm-clause-read
-returns-in_ok-modrm-in-EitherForm-clause-read g c = λ strict i.
-    let b = c.form_encoding-encoding.result.now.behind in
-    let plain : IsPlain EitherForm b c.args.row.now.form = with_either_form b c.args.row.now.form c.in-EitherForm.is c.form_encoding-encoding.ensures.group in
-    row_asks (g.T.Reader.state c.args.reader.now) strict c.args.row.now i.prefixes EitherForm b plain c.form_encoding-encoding.ensures.usage c.in_ok-modrm-in-EitherForm.ensures
-
-pub returns-in_err-modrm-in-Memory-clause-read : goal.returns-in_err-modrm-in-Memory-clause-read
-returns-in_err-modrm-in-Memory-clause-read g c = λ strict i.
-    let r : c.from_residual-in_err-modrm-in-Memory.result ≡ Err c.in_err-modrm-in-Memory.field-0.0 = search rules in
-    let b = c.form_encoding-encoding.result.now.behind in
-    let plain : IsPlain EitherForm b c.args.row.now.form = with_modrm b c.args.row.now.form c.in-Memory.is c.form_encoding-encoding.ensures.group in
-    ap (λ x. then_from x (g.T.Reader.state c.read_modrm-in-Memory.new.reader) (found_row_step strict c.args.row.now i)) r
-    ∙ row_asks (g.T.Reader.state c.args.reader.now) strict c.args.row.now i.prefixes EitherForm b plain c.form_encoding-encoding.ensures.usage c.in_err-modrm-in-Memory.ensures
-
-pub returns-in_ok-modrm-in-Memory-clause-read : goal.returns-in_ok-modrm-in-Memory-clause-read
-returns-in_ok-modrm-in-Memory-clause-read g c = λ strict i.
-    let b = c.form_encoding-encoding.result.now.behind in
-    let plain : IsPlain EitherForm b c.args.row.now.form = with_modrm b c.args.row.now.form c.in-Memory.is c.form_encoding-encoding.ensures.group in
-    ap (λ q. q (g.T.Reader.state c.read_modrm-in-Memory.new.reader)) (c.line_at-in-Memory.ensures.modrm strict i)
-    ∙ row_asks (g.T.Reader.state c.args.reader.now) strict c.args.row.now i.prefixes EitherForm b plain c.form_encoding-encoding.ensures.usage c.in_ok-modrm-in-Memory.ensures
-
-pub returns-in-Nothing-clause-read : goal.returns-in-Nothing-clause-read
-returns-in-Nothing-clause-read g c = λ strict i.
+pub returns-in_err-modrm-clause-read : goal.returns-in_err-modrm-clause-read
+returns-in_err-modrm-clause-read g c = λ strict i.
     let s = g.T.Reader.state c.args.reader.now in
-    let b = c.form_encoding-encoding.result.now.behind in
-    let plain : IsPlain Absent b c.args.row.now.form = with_none b c.args.row.now.form c.in-Nothing.is c.form_encoding-encoding.ensures.group in
-    row_asks {r = Ok c.absent.result} {t = s} s strict c.args.row.now i.prefixes Absent b plain c.form_encoding-encoding.ensures.usage (ap (λ m. outcome (Ok m) s) c.absent.ensures)
+    let t = g.T.Reader.state c.read_fields.new.reader in
+    let b = c.form_encoding-form.result.now.behind in
+    let r : c.from_residual.result ≡ Err c.in_err-modrm.field-0.0 = search rules in
+    ap (λ x. then_from x t (found_row_step strict c.args.row.now i)) r
+    ∙ known_asks s strict c.args.row.now i.prefixes b c.form_encoding-form.ensures.group c.form_encoding-form.ensures.usage (missing_known b c.in_err-modrm.field-0.0 s t c.in_err-modrm.ensures) c.in_err-modrm.ensures
+
+pub returns-then-allows-clause-read : goal.returns-then-allows-clause-read
+returns-then-allows-clause-read g c = λ strict i.
+    let may : allows c.line_at-opcode.result.1.now.behind c.in_ok-modrm.modrm ≡ true = search rules in
+    known_asks (g.T.Reader.state c.args.reader.now) strict c.args.row.now i.prefixes c.form_encoding-form.result.now.behind c.form_encoding-form.ensures.group c.form_encoding-form.ensures.usage (c.line_at-opcode.ensures.known may) c.in_ok-modrm.ensures
+
+pub returns-then-has_fields-clause-read : goal.returns-then-has_fields-clause-read
+returns-then-has_fields-clause-read g c = λ strict i.
+    let b = c.form_encoding-form.result.now.behind in
+    let fields : has_fields b ≡ true = search rules in
+    known_asks (g.T.Reader.state c.args.reader.now) strict c.args.row.now i.prefixes b c.form_encoding-form.ensures.group c.form_encoding-form.ensures.usage (fields_known b fields) c.in_ok-modrm.ensures
