@@ -1,5 +1,5 @@
 #!/usr/bin/env python3
-"""Writes the files that only repeat what three lists say, so that a name, a form or a row is edited in one place.
+"""Writes the files that only repeat what four lists say, so that a name, a form or a row is edited in one place.
 
     python3 tools/tables.py            writes them
     python3 tools/tables.py --check    changes nothing; says which are not what it would write, and then ends with status 1
@@ -9,6 +9,7 @@ The lists, which people edit:
     crates/x86_opcodes/specs/Mnemonics.antt    the opcodes, a line for each name
     crates/x86_forms/src/lib.rt                the forms, the variants of `Form`
     crates/x86_forms/specs/Rows.antt           the rows of each map, a line for each row
+    crates/x86_regs/specs/Names.antt           the registers of each class
 
 Nothing rests on this script. What it writes is checked like all other code: that the constants have the numbers of the
 names, that each form stands at its ordinal, and that each table has the words of the rows, is proved, and a wrong entry is
@@ -22,6 +23,8 @@ from pathlib import Path
 TOP = Path(__file__).resolve().parent.parent
 OPCODES = TOP / "crates" / "x86_opcodes"
 FORMS = TOP / "crates" / "x86_forms"
+REGS = TOP / "crates" / "x86_regs"
+TEXT = TOP / "crates" / "x86_text"
 
 MAPS = ["One", "Of", "Of38", "Of3a"]
 COLUMNS = ["Plain", "P66", "F3", "F2"]
@@ -82,6 +85,13 @@ def rows():
             for columns, byte, opcode, form, carrying, number in lines_of(text, f"rows_of_{of} =", r"    \[\]", pattern)
         ]
     return answer
+
+
+def registers():
+    """The classes of registers in the order of the list, each with the names by number."""
+    text = (REGS / "specs" / "Names.antt").read_text()
+    classes = re.findall(r"^names_of (\w+) = (.*) ∷ \[\]$", text, re.M)
+    return [(of, [re.sub(r'codes "(.*)"|\[\]', r"\1", name) for name in names.split(" ∷ ")]) for of, names in classes]
 
 
 def stands_in(columns, column):
@@ -166,6 +176,27 @@ def tables_rt():
     return lines
 
 
+def name_table(name, texts):
+    """A table of names: a line each, and all on one line where there is one."""
+    entries = [f'name!(b"{text:<16}", {len(text)})' for text in texts]
+    head = f"pub(crate) static {name}: [Name; {len(texts)}] = ["
+    return [f"{head}{entries[0]}];"] if len(texts) == 1 else [head] + [f"    {entry}," for entry in entries] + ["];"]
+
+
+def mnemonics_rt():
+    lines = ["//! The mnemonics as names, in the order of the opcodes' numbers.", "//!"]
+    lines += note("//!", "x86_opcodes/specs/Mnemonics.antt") + ["use crate::names::{Name, name};", ""]
+    return lines + name_table("MNEMONICS", [spelling for _, spelling in spellings()])
+
+
+def registers_rt():
+    lines = ["//! The names of the registers of each class, by number.", "//!"]
+    lines += note("//!", "x86_regs/specs/Names.antt") + ["use crate::names::{Name, name};"]
+    for of, texts in registers():
+        lines += [""] + name_table(of.upper(), texts)
+    return lines
+
+
 def written():
     """Each file with its lines."""
     return {
@@ -174,6 +205,8 @@ def written():
         FORMS / "specs" / "Ordinals.antt": ordinals_antt(),
         FORMS / "src" / "ordinals.rt": ordinals_rt(),
         FORMS / "src" / "tables.rt": tables_rt(),
+        TEXT / "src" / "mnemonics.rt": mnemonics_rt(),
+        TEXT / "src" / "registers.rt": registers_rt(),
     }
 
 

@@ -2,3 +2,4 @@
 pub mod Operands
 pub mod Lines
 pub mod Parts
+pub mod Names

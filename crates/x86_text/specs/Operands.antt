@@ -1,5 +1,5 @@
 -- The text of operands.
-use Rattle.std.specs.Prelude.{ℕ, ℤ, List, [], ◌∷◌, ◌++◌, Option, Some, None, ◌==◌, if◌then◌else◌, codes, decimal, unsigned_abs}
+use Rattle.std.specs.Prelude.{ℕ, ℤ, List, [], ◌∷◌, ◌++◌, Option, Some, None, if◌then◌else◌, codes, decimal, unsigned_abs}
 use Rattle.std.specs.Fmt.{signed_decimal}
 use Rattle.std.specs.Int.{is_negative}
 use Rattle.std.specs.List.{flat_map}
@@ -77,11 +77,11 @@ operand_text (operand.MemBaseIndexScaleMasked base index scale _) = index_text (
 operand_text (operand.MemBaseIndexScaleDispMasked base index scale disp _) = moved_index_text (Some base) index scale disp
 operand_text operand.Nothing = []
 
--- what stands in front of an operand with this number
-abbrev pub joint_text : ℕ → List ℕ
-joint_text n = if n == 0 then codes " " else codes ", "
+-- the operands after the first, each behind a comma
+abbrev pub others_text : List Operand → List ℕ
+others_text os = flat_map (λ o. codes ", " ++ operand_text o) os
 
 -- the operands, behind a space and joined by commas
 unfoldable pub operands_text : List Operand → List ℕ
 operands_text [] = []
-operands_text (o ∷ os) = codes " " ++ operand_text o ++ flat_map (λ o. codes ", " ++ operand_text o) os
+operands_text (o ∷ os) = codes " " ++ operand_text o ++ others_text os

@@ -1,79 +1,92 @@
 //! The text of instructions, and their lines.
 
-ghost use Rattle.std.specs.Prelude.{◌≡◌, ◌+◌, ◌++◌, ◌≤◌};
+ghost use Rattle.std.specs.Prelude.{◌≡◌, ◌+◌, ◌*◌, ◌++◌, length, take, ◌≤◌};
 ghost use Rattle.arrayvec.specs.ArrayVec.{array_vec_len};
 ghost use Rattle.x86_opcodes.specs.Mnemonics.{mnemonic};
 ghost use Rattle.x86_decode.specs.Instruction.{mem_size_number};
-ghost use Rattle.x86_text.specs.Operands.{joint_text, operands_text};
-ghost use Rattle.x86_text.specs.Lines.{shown_operands, size_text, instruction_text, line_of};
+ghost use Rattle.x86_text.specs.Operands.{operands_text, others_text};
+ghost use Rattle.x86_text.specs.Lines.{size_text, instruction_text, line_of};
 
-use crate::operands::push_operand;
+use crate::cells::put;
+use crate::digits::{put_u8, put_u64};
+use crate::names::{mnemonic, put_name};
+use crate::operands::put_operand;
 use crate::place::Place;
 use crate::room::{LINE_MAX, LINE_ROOM, Line};
 use x86_decode::Instruction;
-use x86_opcodes::Opcode;
+use x86_operands::Operand;
 
-fn push_joint(line: &mut Line, number: u8)
-    requires { array_vec_len line.old + 2 ≤ LINE_ROOM }
-    ensures text { line.new.items ≡ line.old.items ++ joint_text number }
-    ensures short { array_vec_len line.new ≤ array_vec_len line.old + 2 }
+/// Writes the operands after the first, each after a comma and a space.
+#[inline(always)]
+fn put_others(cells: &mut [u8], at: usize, operands: &[Operand]) -> usize
+    requires { at + 32 * length operands.now ≤ length cells.old }
+    ensures text { take result cells.new ≡ take at cells.old ++ others_text operands.now }
+    ensures short { result ≤ at + 32 * length operands.now }
 {
-    if number == 0 {
-        line.push(b' ');
-    } else {
-        line.push(b',');
-        line.push(b' ');
+    let mut at = at;
+    for operand in operands {
+        at = put(cells, at, b',');
+        at = put(cells, at, b' ');
+        at = put_operand(cells, at, operand);
     }
+    at
 }
 
+/// Writes the operands, after a space where there are any.
+#[inline(always)]
 #[tactic(auto, unfolding(crate::specs::Operands::operands_text))]
-fn push_operands(line: &mut Line, instruction: &Instruction)
-    requires { array_vec_len line.old + 128 ≤ LINE_ROOM }
-    ensures text { line.new.items ≡ line.old.items ++ operands_text (shown_operands instruction.now) }
-    ensures short { array_vec_len line.new ≤ array_vec_len line.old + 128 }
+fn put_operands(cells: &mut [u8], at: usize, operands: &[Operand]) -> usize
+    requires { at + 32 * length operands.now ≤ length cells.old }
+    ensures text { take result cells.new ≡ take at cells.old ++ operands_text operands.now }
+    ensures short { result ≤ at + 32 * length operands.now }
 {
-    let count = instruction.operand_count().min(4);
-    for i in 0..count {
-        push_joint(line, i);
-        push_operand(line, &instruction.operand(i));
+    match operands {
+        [] => at,
+        [first, others @ ..] => {
+            let at = put(cells, at, b' ');
+            let at = put_operand(cells, at, first);
+            put_others(cells, at, others)
+        }
     }
 }
 
-fn push_size(line: &mut Line, instruction: &Instruction)
-    requires { array_vec_len line.old + 3 ≤ LINE_ROOM }
-    ensures text { line.new.items ≡ line.old.items ++ size_text (mem_size_number instruction.now) }
-    ensures short { array_vec_len line.new ≤ array_vec_len line.old + 3 }
+#[inline(always)]
+fn put_size(cells: &mut [u8], at: usize, instruction: &Instruction) -> usize
+    requires { at + 3 ≤ length cells.old }
+    ensures text { take result cells.new ≡ take at cells.old ++ size_text (mem_size_number instruction.now) }
+    ensures short { result ≤ at + 3 }
 {
     match instruction.mem_size() {
-        None => line.push_u8(0),
+        None => put_u8(cells, at, 0),
         Some(size) => match size.bytes_size() {
-            None => line.push(b'?'),
-            Some(bytes) => line.push_u8(bytes),
+            None => put(cells, at, b'?'),
+            Some(bytes) => put_u8(cells, at, bytes),
         },
     }
 }
 
-fn push_mnemonic(line: &mut Line, opcode: Opcode)
-    requires { array_vec_len line.old + 16 ≤ LINE_ROOM }
-    ensures text { line.new.items ≡ line.old.items ++ mnemonic opcode }
-    ensures short { array_vec_len line.new ≤ array_vec_len line.old + 16 }
+/// Writes the text of an instruction without its place and length.
+#[inline(always)]
+#[tactic(auto, unfolding(crate::specs::Lines::instruction_text))]
+fn put_instruction(cells: &mut [u8], at: usize, instruction: &Instruction) -> usize
+    requires { at + 149 ≤ length cells.old }
+    ensures text { take result cells.new ≡ take at cells.old ++ instruction_text instruction.now }
+    ensures short { result ≤ at + 149 }
 {
-    line.extend(opcode.mnemonic().as_bytes());
+    let at = put_name(cells, at, mnemonic(instruction.opcode()));
+    let at = put_operands(cells, at, instruction.operands());
+    let at = put(cells, at, b' ');
+    let at = put(cells, at, b'm');
+    put_size(cells, at, instruction)
 }
 
 /// Appends the text of an instruction without its place and length, at most 149 bytes, as `ADD rax, rbx m8`.
-#[inline(always)]
-#[tactic(auto, unfolding(crate::specs::Lines::instruction_text))]
 pub fn push_instruction(line: &mut Line, instruction: &Instruction)
     requires { array_vec_len line.old + 149 ≤ LINE_ROOM }
     ensures text { line.new.items ≡ line.old.items ++ instruction_text instruction.now }
     ensures short { array_vec_len line.new ≤ array_vec_len line.old + 149 }
 {
-    push_mnemonic(line, instruction.opcode());
-    push_operands(line, instruction);
-    line.push(b' ');
-    line.push(b'm');
-    push_size(line, instruction);
+    line.len = put_instruction(&mut line.cells, line.len, instruction);
 }
 
 /// The text of an instruction without its place and length: the mnemonic, the operands behind a space and joined by a
@@ -89,16 +102,18 @@ pub fn instruction_text(instruction: &Instruction) -> Line
 }
 
 /// Writes the line of an instruction at a place over another, without its end, as `4 3 ADD rax, rbx m8`.
+#[inline(always)]
 #[tactic(auto, unfolding(crate::specs::Lines::line_of))]
 pub fn write_instruction(line: &mut Line, place: &Place, instruction: &Instruction)
     ensures text { line.new.items ≡ line_of place.now instruction.now }
     ensures short { array_vec_len line.new ≤ LINE_MAX }
 {
     line.set(place.digits());
-    line.push(b' ');
-    line.push_u64(instruction.len().to_const());
-    line.push(b' ');
-    push_instruction(line, instruction);
+    let at = line.len;
+    let at = put(&mut line.cells, at, b' ');
+    let at = put_u64(&mut line.cells, at, instruction.len().to_const());
+    let at = put(&mut line.cells, at, b' ');
+    line.len = put_instruction(&mut line.cells, at, instruction);
 }
 
 /// The line of an instruction at a place, without its end: the place, the length in bytes, and the text of the

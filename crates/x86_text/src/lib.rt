@@ -11,11 +11,16 @@
 //! columns of a caller's own; those that begin with `write` write over it.
 #![tactic(auto)]
 
+mod cells;
+mod digits;
 mod instructions;
+mod mnemonics;
+mod names;
 mod operands;
 mod parts;
 mod place;
 mod refusals;
+mod registers;
 mod room;
 
 pub use instructions::{instruction_text, line_of, push_instruction, write_instruction};

@@ -1,165 +1,204 @@
 //! The text of operands.
 
-ghost use Rattle.std.specs.Prelude.{◌≡◌, ◌+◌, ◌++◌, length, decimal, codes, ◌≤◌};
+ghost use Rattle.std.specs.Prelude.{◌≡◌, ◌+◌, ◌++◌, length, take, decimal, codes, ◌≤◌};
 ghost use Rattle.std.specs.Fmt.{signed_decimal};
 ghost use Rattle.arrayvec.specs.ArrayVec.{array_vec_len};
 ghost use Rattle.x86_text.specs.Operands.{operand_text, deref_text, moved_text, index_text, moved_index_text, scaled_text, displacement_text, register_text, base_text, plus_text};
 
+use crate::cells::{put, put_bytes, put_front};
+use crate::digits::{put_signed, put_u8, put_u32, put_u64};
+use crate::names::{put_name, register_name};
 use crate::room::{LINE_ROOM, Line};
 use x86_operands::Operand;
 use x86_regs::RegSpec;
 
-fn push_signed(line: &mut Line, label: &[u8], n: i64)
-    requires { array_vec_len line.old + length label.now + 20 ≤ LINE_ROOM }
-    ensures text { line.new.items ≡ line.old.items ++ label.now ++ signed_decimal n }
-    ensures short { array_vec_len line.new ≤ array_vec_len line.old + length label.now + 20 }
+/// Writes an immediate after the first bytes of a block, which name its type.
+#[inline(always)]
+fn put_immediate(cells: &mut [u8], at: usize, label: &[u8; 4], count: usize, n: i64) -> usize
+    requires room { at + 24 ≤ length cells.old }
+    requires count { count ≤ 4 }
+    ensures text { take result cells.new ≡ take at cells.old ++ take count label.now ++ signed_decimal n }
+    ensures short { result ≤ at + 24 }
 {
-    line.extend(label);
-    line.push_i64(n);
+    let at = put_front(cells, at, label, count);
+    put_signed(cells, at, n)
 }
 
-fn push_unsigned(line: &mut Line, label: &[u8], n: u64)
-    requires { array_vec_len line.old + length label.now + 20 ≤ LINE_ROOM }
-    ensures text { line.new.items ≡ line.old.items ++ label.now ++ decimal n }
-    ensures short { array_vec_len line.new ≤ array_vec_len line.old + length label.now + 20 }
+/// Writes an unsigned immediate after the first bytes of a block, which name its type.
+#[inline(never)]
+fn put_unsigned(cells: &mut [u8], at: usize, label: &[u8; 4], count: usize, n: u64) -> usize
+    requires room { at + 24 ≤ length cells.old }
+    requires count { count ≤ 4 }
+    ensures text { take result cells.new ≡ take at cells.old ++ take count label.now ++ decimal n }
+    ensures short { result ≤ at + 24 }
 {
-    line.extend(label);
-    line.push_u64(n);
+    let at = put_front(cells, at, label, count);
+    put_u64(cells, at, n)
 }
 
+#[inline(always)]
 #[tactic(auto, unfolding(crate::specs::Operands::register_text))]
-fn push_register(line: &mut Line, register: &RegSpec)
-    requires { array_vec_len line.old + 6 ≤ LINE_ROOM }
-    ensures text { line.new.items ≡ line.old.items ++ register_text register.now }
-    ensures short { array_vec_len line.new ≤ array_vec_len line.old + 6 }
+fn put_register(cells: &mut [u8], at: usize, register: &RegSpec) -> usize
+    requires { at + 16 ≤ length cells.old }
+    ensures text { take result cells.new ≡ take at cells.old ++ register_text register.now }
+    ensures short { result ≤ at + 6 }
 {
-    line.extend(register.name().as_bytes());
+    put_name(cells, at, register_name(register))
 }
 
-fn push_displacement(line: &mut Line, disp: i32)
-    requires { array_vec_len line.old + 11 ≤ LINE_ROOM }
-    ensures text { line.new.items ≡ line.old.items ++ displacement_text disp }
-    ensures short { array_vec_len line.new ≤ array_vec_len line.old + 11 }
+#[inline(always)]
+fn put_displacement(cells: &mut [u8], at: usize, disp: i32) -> usize
+    requires { at + 11 ≤ length cells.old }
+    ensures text { take result cells.new ≡ take at cells.old ++ displacement_text disp }
+    ensures short { result ≤ at + 11 }
 {
-    line.push(if disp < 0 { b'-' } else { b'+' });
-    line.push_u32(disp.unsigned_abs());
+    let at = put(cells, at, if disp < 0 { b'-' } else { b'+' });
+    put_u32(cells, at, disp.unsigned_abs())
 }
 
-fn push_scaled(line: &mut Line, base: Option<RegSpec>, index: &RegSpec, scale: u8)
-    requires { array_vec_len line.old + 17 ≤ LINE_ROOM }
-    ensures text { line.new.items ≡ line.old.items ++ base_text base ++ plus_text base ++ scaled_text index.now scale }
-    ensures short { array_vec_len line.new ≤ array_vec_len line.old + 17 }
+#[inline(always)]
+fn put_scaled(
+    cells: &mut [u8],
+    at: usize,
+    base: Option<RegSpec>,
+    index: &RegSpec,
+    scale: u8,
+) -> usize
+    requires { at + 23 ≤ length cells.old }
+    ensures text { take result cells.new ≡ take at cells.old ++ base_text base ++ plus_text base ++ scaled_text index.now scale }
+    ensures short { result ≤ at + 17 }
 {
+    let mut at = at;
     if let Some(base) = base {
-        push_register(line, &base);
-        line.push(b'+');
+        at = put_register(cells, at, &base);
+        at = put(cells, at, b'+');
     }
-    push_register(line, index);
-    line.push(b'*');
-    line.push_u8(scale);
+    let at = put_register(cells, at, index);
+    let at = put(cells, at, b'*');
+    put_u8(cells, at, scale)
 }
 
+#[inline(always)]
 #[tactic(auto, unfolding(crate::specs::Operands::deref_text))]
-fn push_deref(line: &mut Line, base: &RegSpec)
-    requires { array_vec_len line.old + 30 ≤ LINE_ROOM }
-    ensures text { line.new.items ≡ line.old.items ++ deref_text base.now }
-    ensures short { array_vec_len line.new ≤ array_vec_len line.old + 30 }
+fn put_deref(cells: &mut [u8], at: usize, base: &RegSpec) -> usize
+    requires { at + 30 ≤ length cells.old }
+    ensures text { take result cells.new ≡ take at cells.old ++ deref_text base.now }
+    ensures short { result ≤ at + 30 }
 {
-    line.push(b'[');
-    push_register(line, base);
-    line.push(b']');
+    let at = put(cells, at, b'[');
+    let at = put_register(cells, at, base);
+    put(cells, at, b']')
 }
 
+#[inline(always)]
 #[tactic(auto, unfolding(crate::specs::Operands::moved_text))]
-fn push_moved(line: &mut Line, base: &RegSpec, disp: i32)
-    requires { array_vec_len line.old + 30 ≤ LINE_ROOM }
-    ensures text { line.new.items ≡ line.old.items ++ moved_text base.now disp }
-    ensures short { array_vec_len line.new ≤ array_vec_len line.old + 30 }
+fn put_moved(cells: &mut [u8], at: usize, base: &RegSpec, disp: i32) -> usize
+    requires { at + 30 ≤ length cells.old }
+    ensures text { take result cells.new ≡ take at cells.old ++ moved_text base.now disp }
+    ensures short { result ≤ at + 30 }
 {
-    line.push(b'[');
-    push_register(line, base);
-    push_displacement(line, disp);
-    line.push(b']');
+    let at = put(cells, at, b'[');
+    let at = put_register(cells, at, base);
+    let at = put_displacement(cells, at, disp);
+    put(cells, at, b']')
 }
 
+#[inline(never)]
 #[tactic(auto, unfolding(crate::specs::Operands::index_text))]
-fn push_index(line: &mut Line, base: Option<RegSpec>, index: &RegSpec, scale: u8)
-    requires { array_vec_len line.old + 30 ≤ LINE_ROOM }
-    ensures text { line.new.items ≡ line.old.items ++ index_text base index.now scale }
-    ensures short { array_vec_len line.new ≤ array_vec_len line.old + 30 }
+fn put_index(
+    cells: &mut [u8],
+    at: usize,
+    base: Option<RegSpec>,
+    index: &RegSpec,
+    scale: u8,
+) -> usize
+    requires { at + 30 ≤ length cells.old }
+    ensures text { take result cells.new ≡ take at cells.old ++ index_text base index.now scale }
+    ensures short { result ≤ at + 30 }
 {
-    line.push(b'[');
-    push_scaled(line, base, index, scale);
-    line.push(b']');
+    let at = put(cells, at, b'[');
+    let at = put_scaled(cells, at, base, index, scale);
+    put(cells, at, b']')
 }
 
+#[inline(never)]
 #[tactic(auto, unfolding(crate::specs::Operands::moved_index_text))]
-fn push_moved_index(line: &mut Line, base: Option<RegSpec>, index: &RegSpec, scale: u8, disp: i32)
-    requires { array_vec_len line.old + 30 ≤ LINE_ROOM }
-    ensures text { line.new.items ≡ line.old.items ++ moved_index_text base index.now scale disp }
-    ensures short { array_vec_len line.new ≤ array_vec_len line.old + 30 }
+fn put_moved_index(
+    cells: &mut [u8],
+    at: usize,
+    base: Option<RegSpec>,
+    index: &RegSpec,
+    scale: u8,
+    disp: i32,
+) -> usize
+    requires { at + 30 ≤ length cells.old }
+    ensures text { take result cells.new ≡ take at cells.old ++ moved_index_text base index.now scale disp }
+    ensures short { result ≤ at + 30 }
 {
-    line.push(b'[');
-    push_scaled(line, base, index, scale);
-    push_displacement(line, disp);
-    line.push(b']');
+    let at = put(cells, at, b'[');
+    let at = put_scaled(cells, at, base, index, scale);
+    let at = put_displacement(cells, at, disp);
+    put(cells, at, b']')
 }
 
-fn push_absolute(line: &mut Line, label: &[u8], addr: u64)
-    requires { array_vec_len line.old + length label.now + 21 ≤ LINE_ROOM }
-    ensures text { line.new.items ≡ line.old.items ++ label.now ++ decimal addr ++ codes "]" }
-    ensures short { array_vec_len line.new ≤ array_vec_len line.old + length label.now + 21 }
+#[inline(never)]
+fn put_absolute(cells: &mut [u8], at: usize, label: &[u8; 7], addr: u64) -> usize
+    requires { at + 28 ≤ length cells.old }
+    ensures text { take result cells.new ≡ take at cells.old ++ label.now ++ decimal addr ++ codes "]" }
+    ensures short { result ≤ at + 28 }
 {
-    push_unsigned(line, label, addr);
-    line.push(b']');
+    let at = put_bytes(cells, at, label);
+    let at = put_u64(cells, at, addr);
+    put(cells, at, b']')
 }
 
-/// Appends the text of an operand, at most 30 bytes, as `operand_text` gives it.
+/// Writes the text of an operand.
+#[inline(always)]
 #[tactic(auto, unfolding(crate::specs::Operands::operand_text))]
-pub fn push_operand(line: &mut Line, operand: &Operand)
-    requires { array_vec_len line.old + 30 ≤ LINE_ROOM }
-    ensures text { line.new.items ≡ line.old.items ++ operand_text operand.now }
-    ensures short { array_vec_len line.new ≤ array_vec_len line.old + 30 }
+pub(crate) fn put_operand(cells: &mut [u8], at: usize, operand: &Operand) -> usize
+    requires { at + 30 ≤ length cells.old }
+    ensures text { take result cells.new ≡ take at cells.old ++ operand_text operand.now }
+    ensures short { result ≤ at + 30 }
 {
     match *operand {
-        Operand::ImmediateI8 { imm } => push_signed(line, b"i8:", imm as i64),
-        Operand::ImmediateU8 { imm } => push_unsigned(line, b"u8:", imm as u64),
-        Operand::ImmediateI16 { imm } => push_signed(line, b"i16:", imm as i64),
-        Operand::ImmediateU16 { imm } => push_unsigned(line, b"u16:", imm as u64),
-        Operand::ImmediateI32 { imm } => push_signed(line, b"i32:", imm as i64),
-        Operand::ImmediateU32 { imm } => push_unsigned(line, b"u32:", imm as u64),
-        Operand::ImmediateI64 { imm } => push_signed(line, b"i64:", imm),
-        Operand::ImmediateU64 { imm } => push_unsigned(line, b"u64:", imm),
+        Operand::ImmediateI8 { imm } => put_immediate(cells, at, b"i8: ", 3, imm as i64),
+        Operand::ImmediateU8 { imm } => put_unsigned(cells, at, b"u8: ", 3, imm as u64),
+        Operand::ImmediateI16 { imm } => put_immediate(cells, at, b"i16:", 4, imm as i64),
+        Operand::ImmediateU16 { imm } => put_unsigned(cells, at, b"u16:", 4, imm as u64),
+        Operand::ImmediateI32 { imm } => put_immediate(cells, at, b"i32:", 4, imm as i64),
+        Operand::ImmediateU32 { imm } => put_unsigned(cells, at, b"u32:", 4, imm as u64),
+        Operand::ImmediateI64 { imm } => put_immediate(cells, at, b"i64:", 4, imm),
+        Operand::ImmediateU64 { imm } => put_unsigned(cells, at, b"u64:", 4, imm),
         Operand::Register { reg }
         | Operand::RegisterMaskMerge { reg, .. }
         | Operand::RegisterMaskMergeSae { reg, .. }
-        | Operand::RegisterMaskMergeSaeNoround { reg, .. } => push_register(line, &reg),
-        Operand::AbsoluteU32 { addr } => push_absolute(line, b"[abs32:", addr as u64),
-        Operand::AbsoluteU64 { addr } => push_absolute(line, b"[abs64:", addr),
-        Operand::MemDeref { base } | Operand::MemDerefMasked { base, .. } => push_deref(
-            line, &base,
-        ),
+        | Operand::RegisterMaskMergeSaeNoround { reg, .. } => put_register(cells, at, &reg),
+        Operand::AbsoluteU32 { addr } => put_absolute(cells, at, b"[abs32:", addr as u64),
+        Operand::AbsoluteU64 { addr } => put_absolute(cells, at, b"[abs64:", addr),
+        Operand::MemDeref { base } | Operand::MemDerefMasked { base, .. } => {
+            put_deref(cells, at, &base)
+        }
         Operand::Disp { base, disp } | Operand::DispMasked { base, disp, .. } => {
-            push_moved(line, &base, disp)
+            put_moved(cells, at, &base, disp)
         }
         Operand::MemIndexScale { index, scale }
-        | Operand::MemIndexScaleMasked { index, scale, .. } => push_index(
-            line, None, &index, scale,
-        ),
+        | Operand::MemIndexScaleMasked { index, scale, .. } => {
+            put_index(cells, at, None, &index, scale)
+        }
         Operand::MemIndexScaleDisp { index, scale, disp }
         | Operand::MemIndexScaleDispMasked {
             index,
             scale,
             disp,
             ..
-        } => { push_moved_index(line, None, &index, scale, disp) }
+        } => { put_moved_index(cells, at, None, &index, scale, disp) }
         Operand::MemBaseIndexScale { base, index, scale }
         | Operand::MemBaseIndexScaleMasked {
             base,
             index,
             scale,
             ..
-        } => { push_index(line, Some(base), &index, scale) }
+        } => { put_index(cells, at, Some(base), &index, scale) }
         Operand::MemBaseIndexScaleDisp {
             base,
             index,
@@ -172,9 +211,18 @@ pub fn push_operand(line: &mut Line, operand: &Operand)
             scale,
             disp,
             ..
-        } => { push_moved_index(line, Some(base), &index, scale, disp) }
-        Operand::Nothing => {}
+        } => { put_moved_index(cells, at, Some(base), &index, scale, disp) }
+        Operand::Nothing => at,
     }
+}
+
+/// Appends the text of an operand, at most 30 bytes, as `operand_text` gives it.
+pub fn push_operand(line: &mut Line, operand: &Operand)
+    requires { array_vec_len line.old + 30 ≤ LINE_ROOM }
+    ensures text { line.new.items ≡ line.old.items ++ operand_text operand.now }
+    ensures short { array_vec_len line.new ≤ array_vec_len line.old + 30 }
+{
+    line.len = put_operand(&mut line.cells, line.len, operand);
 }
 
 /// The text of an operand. A register is its name; an immediate its type and decimal; memory its base, its index with

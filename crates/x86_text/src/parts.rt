@@ -1,12 +1,14 @@
 //! The lines of the parts of encodings.
 
-ghost use Rattle.std.specs.Prelude.{◌≡◌, ◌+◌, ◌*◌, ◌≤◌, ◌++◌, length};
+ghost use Rattle.std.specs.Prelude.{◌≡◌, ◌+◌, ◌*◌, ◌≤◌, ◌++◌, length, take};
 ghost use Rattle.std.specs.List.{sum_by};
 ghost use Rattle.arrayvec.specs.ArrayVec.{array_vec_len};
 ghost use Rattle.x86_layout.specs.Parts.Split.{lists_of};
 ghost use Rattle.x86_layout.specs.Parts.Fields.{HasFieldLengths};
 ghost use Rattle.x86_text.specs.Parts.{in_order, spaced, fields_line};
 
+use crate::cells::put;
+use crate::digits::{put_hex, put_u64};
 use crate::place::Place;
 use crate::room::{LINE_MAX, LINE_ROOM, Line};
 use x86_layout::Parts;
@@ -26,17 +28,18 @@ fn parts_length(parts: &Parts) -> usize
         + parts.suffix.len()
 }
 
-/// Appends a part behind a space.
-fn push_part(line: &mut Line, part: &[u8])
-    requires { array_vec_len line.old + 2 + 2 * length part.now ≤ LINE_ROOM }
-    ensures text { line.new.items ≡ line.old.items ++ spaced part.now }
-    ensures short { array_vec_len line.new ≤ array_vec_len line.old + 2 + 2 * length part.now }
+/// Writes a part after a space.
+#[inline(always)]
+fn put_part(cells: &mut [u8], at: usize, part: &[u8]) -> usize
+    requires { at + 2 + 2 * length part.now ≤ length cells.old }
+    ensures text { take result cells.new ≡ take at cells.old ++ spaced part.now }
+    ensures short { result ≤ at + 2 + 2 * length part.now }
 {
-    line.push(b' ');
+    let at = put(cells, at, b' ');
     if part.is_empty() {
-        line.push(b'-');
+        put(cells, at, b'-')
     } else {
-        line.push_hex(part);
+        put_hex(cells, at, part)
     }
 }
 
@@ -48,16 +51,17 @@ pub fn write_fields(line: &mut Line, place: &Place, parts: &Parts)
     ensures short { array_vec_len line.new ≤ LINE_MAX }
 {
     line.set(place.digits());
-    line.push(b' ');
-    line.push_u64(parts_length(parts) as u64);
-    push_part(line, parts.prefixes);
-    push_part(line, parts.escape);
-    push_part(line, parts.opcode);
-    push_part(line, parts.modrm);
-    push_part(line, parts.sib);
-    push_part(line, parts.displacement);
-    push_part(line, parts.immediate);
-    push_part(line, parts.suffix);
+    let at = line.len;
+    let at = put(&mut line.cells, at, b' ');
+    let at = put_u64(&mut line.cells, at, parts_length(parts) as u64);
+    let at = put_part(&mut line.cells, at, parts.prefixes);
+    let at = put_part(&mut line.cells, at, parts.escape);
+    let at = put_part(&mut line.cells, at, parts.opcode);
+    let at = put_part(&mut line.cells, at, parts.modrm);
+    let at = put_part(&mut line.cells, at, parts.sib);
+    let at = put_part(&mut line.cells, at, parts.displacement);
+    let at = put_part(&mut line.cells, at, parts.immediate);
+    line.len = put_part(&mut line.cells, at, parts.suffix);
 }
 
 /// The line of the parts of an encoding at a place, without its end: the place, how many bytes the parts have

@@ -5,7 +5,8 @@ ghost use Rattle.std.specs.Fmt.{signed_decimal};
 ghost use Rattle.arrayvec.specs.ArrayVec.{array_vec_len};
 ghost use Rattle.hex.specs.Hex.{encode_lower};
 
-use itoa::write_digits;
+use crate::cells::{put, put_bytes, put_front};
+use crate::digits::{pair_of, put_hex, put_signed, put_u8, put_u32, put_u64};
 use std::marker::Model;
 
 /// How many bytes a line has room for, its end included.
@@ -17,8 +18,8 @@ pub const LINE_MAX: usize = 191;
 /// At most `N` bytes, which contracts see as those of an `ArrayVec`. What is let go isn't blanked.
 #[derive(Drop)]
 pub struct Room<const N: usize> {
-    cells: [u8; N],
-    len: usize,
+    pub(crate) cells: [u8; N],
+    pub(crate) len: usize,
 }
 
 /// A line, with room for its end.
@@ -33,23 +34,6 @@ impl<const N: usize> Model for Room<N> {
     ghost view = { λ l. record { items = take l.len l.cells } };
 
     ghost invariant = { λ l. l.len ≤ N };
-}
-
-/// How many digits the decimal of a number has.
-fn digits_of(n: u64) -> usize
-    ensures { result ≡ length (decimal n) }
-{
-    if n < 10 {
-        1
-    } else if n < 100 {
-        2
-    } else if n < 1000 {
-        3
-    } else if n < 10000 {
-        4
-    } else {
-        digits_of(n / 10000) + 4
-    }
 }
 
 impl<const N: usize> Room<N> {
@@ -78,9 +62,7 @@ impl<const N: usize> Room<N> {
         requires some { 2 ≤ array_vec_len self.old }
         ensures { self.new.items ≡ take (array_vec_len self.old - 2) self.old.items ++ (48 + n / 10) ∷ (48 + n % 10) ∷ [] }
     {
-        self.len -= 2;
-        self.push(b'0' + n / 10);
-        self.push(b'0' + n % 10);
+        self.len = put_front(&mut self.cells, self.len - 2, pair_of(n), 2);
     }
 
     /// Takes the bytes of a room that is no larger in place of its own.
@@ -129,9 +111,7 @@ impl<const N: usize> Room<N> {
         ensures text { self.new.items ≡ self.old.items ++ byte ∷ [] }
         ensures len { array_vec_len self.new ≡ array_vec_len self.old + 1 }
     {
-        let len = self.len;
-        self.cells[len] = byte;
-        self.len = len + 1;
+        self.len = put(&mut self.cells, self.len, byte);
     }
 
     /// Appends bytes.
@@ -141,11 +121,7 @@ impl<const N: usize> Room<N> {
         ensures text { self.new.items ≡ self.old.items ++ bytes.now }
         ensures len { array_vec_len self.new ≡ array_vec_len self.old + length bytes.now }
     {
-        let len = self.len;
-        let end = len + bytes.len();
-        let cells = &mut self.cells[..];
-        cells[len..end].copy_from_slice(bytes);
-        self.len = end;
+        self.len = put_bytes(&mut self.cells, self.len, bytes);
     }
 
     /// Appends the hex digits of some bytes.
@@ -154,11 +130,7 @@ impl<const N: usize> Room<N> {
         ensures text { self.new.items ≡ self.old.items ++ encode_lower bytes.now }
         ensures len { array_vec_len self.new ≡ array_vec_len self.old + 2 * length bytes.now }
     {
-        let len = self.len;
-        let end = len + 2 * bytes.len();
-        let cells = &mut self.cells[..];
-        let _ = hex::encode_to_slice(bytes, &mut cells[len..end]);
-        self.len = end;
+        self.len = put_hex(&mut self.cells, self.len, bytes);
     }
 
     /// Appends the decimal of a number.
@@ -168,7 +140,7 @@ impl<const N: usize> Room<N> {
         ensures text { self.new.items ≡ self.old.items ++ decimal n }
         ensures short { array_vec_len self.new ≤ array_vec_len self.old + 20 }
     {
-        self.push_decimal(n);
+        self.len = put_u64(&mut self.cells, self.len, n);
     }
 
     /// Appends the decimal of a number, which has at most ten digits.
@@ -178,7 +150,7 @@ impl<const N: usize> Room<N> {
         ensures text { self.new.items ≡ self.old.items ++ decimal n }
         ensures short { array_vec_len self.new ≤ array_vec_len self.old + 10 }
     {
-        self.push_decimal(n as u64);
+        self.len = put_u32(&mut self.cells, self.len, n);
     }
 
     /// Appends the decimal of a number, which has at most three digits.
@@ -188,7 +160,7 @@ impl<const N: usize> Room<N> {
         ensures text { self.new.items ≡ self.old.items ++ decimal n }
         ensures short { array_vec_len self.new ≤ array_vec_len self.old + 3 }
     {
-        self.push_decimal(n as u64);
+        self.len = put_u8(&mut self.cells, self.len, n);
     }
 
     /// Appends the decimal of a number with its sign.
@@ -198,33 +170,6 @@ impl<const N: usize> Room<N> {
         ensures text { self.new.items ≡ self.old.items ++ signed_decimal n }
         ensures short { array_vec_len self.new ≤ array_vec_len self.old + 20 }
     {
-        if n < 0 {
-            self.push(b'-');
-        }
-        self.push_decimal(n.unsigned_abs());
-    }
-
-    #[inline(always)]
-    fn push_decimal(&mut self, n: u64)
-        requires { array_vec_len self.old + length (decimal n) ≤ N }
-        ensures text { self.new.items ≡ self.old.items ++ decimal n }
-        ensures len { array_vec_len self.new ≡ array_vec_len self.old + length (decimal n) }
-    {
-        if n < 10 {
-            self.push(b'0' + n as u8);
-        } else {
-            self.push_digits(n);
-        }
-    }
-
-    #[inline(never)]
-    fn push_digits(&mut self, n: u64)
-        requires { array_vec_len self.old + length (decimal n) ≤ N }
-        ensures text { self.new.items ≡ self.old.items ++ decimal n }
-        ensures len { array_vec_len self.new ≡ array_vec_len self.old + length (decimal n) }
-    {
-        let end = self.len + digits_of(n);
-        let _ = write_digits(n, &mut self.cells, end);
-        self.len = end;
+        self.len = put_signed(&mut self.cells, self.len, n);
     }
 }

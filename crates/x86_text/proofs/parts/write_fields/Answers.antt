@@ -1,4 +1,4 @@
-use Rattle.std.proofs.Common.{◌≡◌, ℕ, List, ◌++◌, length, codes, decimal, ap, ◌∙◌, append_assoc, append-nil}
+use Rattle.std.proofs.Common.{◌≡◌, ℕ, List, ◌++◌, length, take, codes, decimal, ap, ◌∙◌, append_assoc, append-nil}
 use Rattle.std.specs.List.{flat_map, sum_by}
 use Rattle.x86_layout.specs.Parts.Split.{PartLists, lists_of}
 use Rattle.x86_text.specs.Parts.{in_order, spaced, fields_line}
@@ -15,9 +15,10 @@ pub returns-clause-text : goal.returns-clause-text
 unfolding fields_line
 returns-clause-text c =
     let p : PartLists = lists_of c.args.parts.now in
-    let start : c.push.new.self.items ≡ decimal c.args.place.now ++ codes " " =
-    c.push.ensures.text ∙ ap (λ l. l ++ codes " ") (c.set.ensures.text ∙ c.digits.ensures) in
-    all_parts spaced p _ _ _ _ _ _ _ _ _ c.push_part.ensures.text c.push_part-2.ensures.text c.push_part-3.ensures.text c.push_part-4.ensures.text
-    c.push_part-5.ensures.text c.push_part-6.ensures.text c.push_part-7.ensures.text c.push_part-8.ensures.text
-    ∙ ap (λ l. l ++ flat_map spaced (in_order p))
-    (c.push_u64.ensures.text ∙ ap (λ n. c.push.new.self.items ++ decimal n) c.parts_length.ensures ∙ ap (λ l. l ++ decimal (sum_by length (in_order p))) start)
+    let start : take c.line.inside.len c.line.inside.cells ≡ decimal c.args.place.now = ap (λ r. r.items) c.line.view_is ∙ c.set.ensures.text ∙ c.digits.ensures in
+    let counted : take c.put_u64-at.result c.put_u64-at.new.cells ≡ decimal c.args.place.now ++ codes " " ++ decimal (sum_by length (in_order p)) =
+    c.put_u64-at.ensures.text ∙ ap (λ l. l ++ decimal c.parts_length.result) (c.put-at.ensures.text ∙ ap (λ l. l ++ codes " ") start)
+    ∙ ap (λ n. decimal c.args.place.now ++ codes " " ++ decimal n) c.parts_length.ensures in
+    all_parts spaced p _ _ _ _ _ _ _ _ _ c.put_part-at.ensures.text c.put_part-at-2.ensures.text c.put_part-at-3.ensures.text c.put_part-at-4.ensures.text
+    c.put_part-at-5.ensures.text c.put_part-at-6.ensures.text c.put_part-at-7.ensures.text c.put_part-line-inside.ensures.text
+    ∙ ap (λ l. l ++ flat_map spaced (in_order p)) counted

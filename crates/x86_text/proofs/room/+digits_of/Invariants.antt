@@ -1,4 +1,0 @@
-use Rattle.x86_text.proofs.room.+digits_of.Given as goal
-
-abbrev pub decreases-digits_of : goal.decreases-digits_of
-decreases-digits_of l = l.n
