@@ -12,7 +12,7 @@ is none, or a tool of an example is missing, these examples are skipped with a l
 Examples of docs/GUIDE.md: each indented block stands in one of the files of `CODE`, line by line, only further to the right.
 
 Quoted code of the pages of `QUOTING`: each indented line that isn't a command, nor of a drawing, is a line of some file of crates/, letter by
-letter.
+letter. Reasons of tools/compare: those of tools/judge/reasons.c are the rows of their section of docs/DIFFERENCES.md.
 """
 
 import os
@@ -143,8 +143,19 @@ def read_quotes(page):
     return len(missing)
 
 
+def read_reasons(page):
+    """Holds the reasons of tools/compare against the rows of their section, and answers how many are in one alone."""
+    names = set(re.findall(r'^    \{"([^"]+)", "', (TOP / "tools" / "judge" / "reasons.c").read_text(), re.M))
+    section = (TOP / page).read_text().split("## Other answers than zydis\n")[1].split("\n## ")[0]
+    unlike = names ^ (set(re.findall(r"^\| ([^|]*?) \|", section, re.M)) - {"reason"})
+    for name in unlike:
+        print(f"pages: {page}: a reason of tools/judge/reasons.c without a row, or a row without one: {name}", file=sys.stderr)
+    return len(unlike)
+
+
 def main():
     wrong = read_guide("docs/GUIDE.md") + sum(read_quotes(page) for page in QUOTING)
+    wrong += read_reasons("docs/DIFFERENCES.md")
     if os.access(PROGRAM, os.X_OK):
         wrong += sum(run_examples(page) for page in ("README.md", "docs/USAGE.md"))
     else:

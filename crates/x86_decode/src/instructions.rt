@@ -137,7 +137,11 @@ impl Instruction {
         self.operand(i).visit(visitor)
     }
 
-    /// The size in bytes of what the operation reads or writes in memory; `None` where it names no size.
+    /// The size in bytes that the row has for the operation, or `None` where it has none.
+    ///
+    /// It doesn't say that memory is accessed: a form keeps its size in the register form, as `ADD rax, rbx` with 8, and
+    /// LEA has one. An instruction names memory where a slot `is_memory`; PUSH, CALL, RETURN and other operations access
+    /// the stack unnamed (Intel SDM volume 2, chapters 3 to 5).
     pub fn mem_size(&self) -> Option<MemoryAccessSize>
         ensures { result ≡ mem_size_of self.now }
     {

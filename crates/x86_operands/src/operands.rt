@@ -182,7 +182,7 @@ pub enum Slot {
 /// The memory size of an operation for which the processor decides it, as for the state that XSAVE stores.
 pub const UNDECIDED_SIZE: u8 = 63;
 
-/// A memory size in bytes, as an instruction has it.
+/// A memory size in bytes, as the row of an instruction has it, whether or not an operand is memory.
 #[derive(Clone, Copy, PartialEq, Eq, Debug, Drop)]
 pub struct MemoryAccessSize {
     size: u8,
