@@ -3,7 +3,7 @@
 
     python3 tools/pages.py
 
-Examples of README.md and docs/USAGE.md: in a block of indented lines, each line behind `$ ` is run by the shell, in a folder with `x86`
+Examples of README.md and docs/USAGE.md: in a block of indented lines, each line after `$ ` is run by the shell, in a folder with `x86`
 and examples/, and what it prints must be the lines below it. Where these are `...`, anything may be printed. In the table of statuses the
 example of a row must end with its status. Standard error must be empty, but for the usage line at status 2. Each run must end within a
 minute. In the table of texts an example must print its last line. The program is the built one, or the one that PROGRAM names; where there
@@ -12,7 +12,8 @@ is none, or a tool of an example is missing, these examples are skipped with a l
 Examples of docs/GUIDE.md: each indented block stands in one of the files of `CODE`, line by line, only further to the right.
 
 Quoted code of the pages of `QUOTING`: each indented line that isn't a command, nor of a drawing, is a line of some file of crates/, letter by
-letter. Reasons of tools/compare: those of tools/judge/reasons.c are the rows of their section of docs/DIFFERENCES.md.
+letter. Definitions of docs/THEOREM.md: each indented paragraph is in a file of specs/ or src/, line by line, and is whole there: a
+definition from its first line to its last, and a signature up to its body. Its links are to files that are there. Reasons of tools/compare: those of tools/judge/reasons.c are the rows of their section of docs/DIFFERENCES.md.
 """
 
 import os
@@ -47,7 +48,7 @@ def blocks(page):
 
 
 def examples(page):
-    """The commands of a page, each with the text that it prints. A command goes on in lines behind `> `."""
+    """The commands of a page, each with the text that it prints. A command continues in lines after `> `."""
     for block in blocks(page):
         if block[0].startswith("$ "):
             for part in re.split(r"^\$ ", "\n".join(block), flags=re.M)[1:]:
@@ -143,6 +144,42 @@ def read_quotes(page):
     return len(missing)
 
 
+def is_whole(lines, start, end):
+    """Whether nothing is left out of what stands at these lines: of a definition none of its equations, of a signature none of its clauses."""
+    before, after = ([lines[start - 1].strip()] if start else [""]), ([lines[end].strip()] if end < len(lines) else [""])
+    begins = before[0] == "" or before[0].startswith(("--", "//", "#[")) or before[0].endswith("{")
+    return begins and (after[0] in ("", "{", "{}") or lines[end - 1].strip() in ("}", "};"))
+
+
+def is_quoted(block, texts):
+    """Whether a file has these lines, one below the other, and whole."""
+    for text in texts:
+        if block[0].strip() in text:
+            lines = text.split("\n")
+            for at in range(len(lines) - len(block) + 1):
+                if lines[at].strip() == block[0].strip() and dedent(lines[at : at + len(block)]) == dedent(block):
+                    if is_whole(lines, at, at + len(block)):
+                        return True
+    return False
+
+
+def read_definitions(page):
+    """Looks for the paragraphs of indented lines of a page in the specs/ and src/ of all crates, and answers how many aren't whole there."""
+    files = [file for part in ("specs/**/*.antt", "src/**/*.rt") for file in (TOP / "crates").glob(f"*/{part}")]
+    texts = [file.read_text() for file in files]
+    wrong = 0
+    for block in blocks(page):
+        for part in "\n".join(block).split("\n\n"):
+            if not is_quoted(part.split("\n"), texts):
+                print(f"pages: {page}: no source has these lines, whole:\n{part}", file=sys.stderr)
+                wrong += 1
+    for link in re.findall(r"\]\(\.\./([^)#]+)\)", (TOP / page).read_text()):
+        if not (TOP / link).exists():
+            print(f"pages: {page}: a link to nothing: {link}", file=sys.stderr)
+            wrong += 1
+    return wrong
+
+
 def read_reasons(page):
     """Holds the reasons of tools/compare against the rows of their section, and answers how many are in one alone."""
     names = set(re.findall(r'^    \{"([^"]+)", "', (TOP / "tools" / "judge" / "reasons.c").read_text(), re.M))
@@ -155,7 +192,7 @@ def read_reasons(page):
 
 def main():
     wrong = read_guide("docs/GUIDE.md") + sum(read_quotes(page) for page in QUOTING)
-    wrong += read_reasons("docs/DIFFERENCES.md")
+    wrong += read_definitions("docs/THEOREM.md") + read_reasons("docs/DIFFERENCES.md")
     if os.access(PROGRAM, os.X_OK):
         wrong += sum(run_examples(page) for page in ("README.md", "docs/USAGE.md"))
     else:
