@@ -9,7 +9,7 @@ example of a row must end with its status. Standard error must be empty, but for
 minute. In the table of texts an example must print its last line. The program is the built one, or the one that PROGRAM names; where there
 is none, or a tool of an example is missing, these examples are skipped with a line.
 
-Examples of docs/GUIDE.md: each indented block stands in one of the files of `CODE`, line by line, only further to the right.
+Examples of docs/GUIDE.md and docs/CRATES.md: each indented block is in one of the files of `CODE`, or of `TESTS`, line by line, only further to the right.
 
 Quoted code of the pages of `QUOTING`: each indented line that isn't a command, nor of a drawing, is a line of some file of crates/, letter by
 letter. Definitions of docs/THEOREM.md: each indented paragraph is in a file of specs/ or src/, line by line, and is whole there: a
@@ -30,6 +30,7 @@ CRATE = re.search(r"^PROGRAM_CRATE=(\w+)$", (TOP / "tools" / "program.sh").read_
 PROGRAM = Path(os.environ.get("PROGRAM") or TOP / "crates" / CRATE / "out" / CRATE).resolve()
 SECONDS = 60
 CODE = ["crates/x86_vectors/src/guide_tests.rt", "crates/x86_vectors/src/two_buffers.rt", "examples/own", "tools/own_test"]
+TESTS = ["crates/x86_vectors/src", "crates/x86_runs/src"]
 QUOTING = ["docs/ROWS.md", "docs/ENCODING.md", "docs/ARCHITECTURE.md", "CONTRIBUTING.md"]
 TOOLS = ["objcopy", "objdump", "nm", "xxd", "hexdump", "od", "paste", "xargs", "perl"]
 
@@ -121,9 +122,9 @@ def stands_in(block, text):
     return False
 
 
-def read_guide(page):
-    """Looks for the examples of the guide in the files of code, and answers how many aren't there."""
-    files = [file for name in CODE for file in ([TOP / name] if (TOP / name).is_file() else sorted((TOP / name).rglob("*"))) if file.is_file()]
+def read_guide(page, code):
+    """Looks for the examples of a page in the files of code, and answers how many aren't there."""
+    files = [file for name in code for file in ([TOP / name] if (TOP / name).is_file() else sorted((TOP / name).rglob("*"))) if file.is_file()]
     texts = [file.read_text() for file in files]
     wrong = 0
     for block in blocks(page):
@@ -191,7 +192,7 @@ def read_reasons(page):
 
 
 def main():
-    wrong = read_guide("docs/GUIDE.md") + sum(read_quotes(page) for page in QUOTING)
+    wrong = read_guide("docs/GUIDE.md", CODE) + read_guide("docs/CRATES.md", TESTS) + sum(read_quotes(page) for page in QUOTING)
     wrong += read_definitions("docs/THEOREM.md") + read_reasons("docs/DIFFERENCES.md")
     if os.access(PROGRAM, os.X_OK):
         wrong += sum(run_examples(page) for page in ("README.md", "docs/USAGE.md"))
