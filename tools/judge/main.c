@@ -41,8 +41,8 @@ static void report(const unsigned char *bytes, size_t count, size_t at, const ch
     printf(" | %.*s\n", (int)strcspn(expected, "\n"), expected);
 }
 
-/* Holds the lines of standard input against what is expected over some bytes. A line of a later place stands for one that is missing, and
- * one of an earlier place is one too many. */
+/* Holds the lines of standard input against what is expected over some bytes. A line of a later place means that one is missing, and one of an
+ * earlier place is one too many. */
 static void judge(const unsigned char *bytes, size_t count)
 {
     static struct reading reading;

@@ -11,7 +11,7 @@ enum { MOST = 512, AT_ONE = 24 };
 struct where {
     const struct rule *rule;
     int number;                  /* of the rule, for its counts */
-    unsigned columns, regs;      /* bits; no column stands for all */
+    unsigned columns, regs;      /* bits; no column means all */
     int form;                    /* 'r', 'm' or 0 */
     int modrm;                   /* or -1 */
     int prefixes[4];             /* 66, 67, W, R: 1 where it must be there, -1 where it must not, 0 where it may */
@@ -123,7 +123,7 @@ static void count(const struct where *where, const struct code *code)
     counts[where->number][code->map][code->opcode][code->map == 0 ? 0 : code->column]++;
 }
 
-/* The code that stands for another one. */
+/* The code as which a row is read. */
 static struct code other_code(const struct code *code, const char *words)
 {
     struct code other = *code;

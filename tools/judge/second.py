@@ -11,7 +11,7 @@ import sys
 import tempfile
 from pathlib import Path
 
-# What objdump puts in front of a name.
+# What objdump writes before a name.
 PREFIXES = "rep repz repnz lock data16 addr32 cs ds es fs gs ss notrack bnd xacquire xrelease".split()
 
 # What objdump calls what has another name here, with each name that it may have.
@@ -40,7 +40,7 @@ REFUSED_THERE = "FSTPNCE FXCH FCOM FCOMP FSTP XABORT XBEGIN".split()
 
 
 def name_of(text):
-    """The name in a line of objdump, without the prefixes that it puts in front."""
+    """The name in a line of objdump, without the prefixes that it writes before it."""
     words = text.split()
     while len(words) > 1 and (words[0] in PREFIXES or words[0].startswith("rex")):
         words = words[1:]
