@@ -5,10 +5,12 @@
 
 Examples of README.md and docs/USAGE.md: in a block of indented lines, each line behind `$ ` is run by the shell, in a folder with `x86`
 and examples/, and what it prints must be the lines below it. Where these are `...`, anything may be printed. In the table of statuses the
-example of a row must end with its status, and in the table of texts it must print its last line. The program is the built one, or the one that PROGRAM names; where there is none, or a tool
+example of a row must end with its status. The program is the built one, or the one that PROGRAM names; where there is none, or a tool
 of an example is missing, these examples are skipped with a line.
 
 Examples of docs/GUIDE.md: each indented block stands in one of the files of `CODE`, line by line, only further to the right.
+
+In the table of texts of docs/USAGE.md the example of a row must print its last line.
 
 Quoted code of the pages of `QUOTING`: each indented line that isn't a command, nor of a drawing, is a line of some file of crates/, letter by
 letter. Reasons of tools/compare: those of tools/judge/reasons.c are the rows of their section of docs/DIFFERENCES.md.
@@ -81,10 +83,19 @@ def run_examples(page):
             if got != int(status):
                 print(f"pages: {page}: status {got} and not {status}: {command}", file=sys.stderr)
                 wrong += 1
+    return wrong
+
+
+def run_texts(page):
+    """Runs the examples of the table of texts, and answers how many print another last line."""
+    wrong = 0
+    with tempfile.TemporaryDirectory() as folder:
+        os.symlink(PROGRAM, Path(folder) / "x86")
         for command, last in re.findall(r"^\| [^|]* \| `(.*)` \| `(.*)` \| [^|]* \|$", (TOP / page).read_text(), re.M):
-            got = run(command.replace("\\|", "|"), folder).stdout.rstrip("\n").split("\n")[-1]
-            if got != last:
-                print(f"pages: {page}: {command}: {got}", file=sys.stderr)
+            command = command.replace("\\|", "|")
+            printed = subprocess.run(["sh", "-c", command], cwd=folder, stdout=subprocess.PIPE, text=True, timeout=60).stdout
+            if printed.rstrip("\n").split("\n")[-1] != last:
+                print(f"pages: {page}: {command}\n--- the page\n{last}\n--- printed\n{printed}---", file=sys.stderr)
                 wrong += 1
     return wrong
 
@@ -142,6 +153,7 @@ def main():
     wrong += read_reasons("docs/DIFFERENCES.md")
     if os.access(PROGRAM, os.X_OK):
         wrong += sum(run_examples(page) for page in ("README.md", "docs/USAGE.md"))
+        wrong += run_texts("docs/USAGE.md")
     else:
         print(f"pages: the examples are skipped, {PROGRAM} is missing", file=sys.stderr)
     if wrong == 0:
