@@ -150,8 +150,8 @@ static bool read_other(const ZydisDecoder *decoder, const struct code *code, con
 
 static bool is_same_operand(const struct operand *one, const struct operand *other)
 {
-    return one->kind == other->kind && one->reg == other->reg && one->index == other->index && one->scale == other->scale && one->value == other->value
-        && one->is_signed == other->is_signed && one->bits == other->bits && one->text == other->text;
+    return one->kind == other->kind && one->reg == other->reg && one->index == other->index && one->scale == other->scale
+        && one->value == other->value && one->is_signed == other->is_signed && one->bits == other->bits && one->text == other->text;
 }
 
 static bool is_same(const struct reading *one, const struct reading *other)

@@ -60,7 +60,8 @@ def are_same(ours, theirs):
 
 def read(raw):
     """For each place at which objdump begins a line: the length and the name."""
-    dump = subprocess.Popen(["objdump", "-D", "-b", "binary", "-m", "i386:x86-64", "-M", "intel", "-w", "--insn-width=24", raw], stdout=subprocess.PIPE, text=True)
+    words = "objdump -D -b binary -m i386:x86-64 -M intel -w --insn-width=24".split()
+    dump = subprocess.Popen([*words, raw], stdout=subprocess.PIPE, text=True)
     for line in dump.stdout:
         found = re.match(r"\s*([0-9a-f]+):\t([0-9a-f ]+?)\s*\t(.*)", line)
         if found:
@@ -80,7 +81,8 @@ def kind_of(ours, answer):
         return "a prefix apart", None
     if refuses or name == "(bad)":
         error = " ".join(ours[1:])
-        is_known = error in ("the decoder is incomplete", "invalid prefixes") or name in REFUSED_HERE.get(error, []) if refuses else ours[1] in REFUSED_THERE
+        is_left_out = error in ("the decoder is incomplete", "invalid prefixes")
+        is_known = is_left_out or name in REFUSED_HERE.get(error, []) if refuses else ours[1] in REFUSED_THERE
         return "one refuses", None if is_known else (" ".join(ours), name)
     if int(ours[0]) != length:
         is_known = ours[1] == "WAIT" or name.rstrip("w") in ("call", "jmp", "ret") or name.startswith("j")
