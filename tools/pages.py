@@ -11,6 +11,8 @@ is none, or a tool of an example is missing, these examples are skipped with a l
 
 Examples of docs/GUIDE.md and docs/CRATES.md: each indented block is in one of the files of `CODE`, or of `TESTS`, line by line, only further to the right.
 
+In the table of texts of docs/USAGE.md the example of a row must print its last line.
+
 Quoted code of the pages of `QUOTING`: each indented line that isn't a command, nor of a drawing, is a line of some file of crates/, letter by
 letter. Definitions of docs/THEOREM.md: each indented paragraph is in a file of specs/ or src/, line by line, and is whole there: a
 definition from its first line to its last, and a signature up to its body. Its links are to files that are there. Reasons of tools/compare: those of tools/judge/reasons.c are the rows of their section of docs/DIFFERENCES.md.
@@ -101,6 +103,14 @@ def run_examples(page):
             wrong += differs(page, command, "status", got, int(status))
             wrong += differs(page, command, "usage line on standard error", said.startswith("usage: "), got == 2)
             wrong += differs(page, command, "usage line on standard output", printed.startswith("usage: "), False)
+    return wrong
+
+
+def run_texts(page):
+    """Runs the examples of the table of texts, and answers how many print another last line."""
+    wrong = 0
+    with tempfile.TemporaryDirectory() as folder:
+        os.symlink(PROGRAM, Path(folder) / "x86")
         for command, last in re.findall(r"^\| [^|]* \| `(.*)` \| `(.*)` \| [^|]* \|$", (TOP / page).read_text(), re.M):
             printed, _, _ = run(command.replace("\\|", "|"), folder)
             wrong += differs(page, command, "last line", printed.rstrip("\n").split("\n")[-1], last)
@@ -196,6 +206,7 @@ def main():
     wrong += read_definitions("docs/THEOREM.md") + read_reasons("docs/DIFFERENCES.md")
     if os.access(PROGRAM, os.X_OK):
         wrong += sum(run_examples(page) for page in ("README.md", "docs/USAGE.md"))
+        wrong += run_texts("docs/USAGE.md")
     else:
         print(f"pages: the examples are skipped, {PROGRAM} is missing", file=sys.stderr)
     if wrong == 0:

@@ -41,45 +41,49 @@ static void report(const unsigned char *bytes, size_t count, size_t at, const ch
     printf(" | %.*s\n", (int)strcspn(expected, "\n"), expected);
 }
 
-int main(int argc, char **argv)
+/* Holds the lines of standard input against what is expected over some bytes. A line of a later place means that one is missing, and one of an
+ * earlier place is one too many. */
+static void judge(const unsigned char *bytes, size_t count)
 {
-    if (argc == 2 && strcmp(argv[1], "version") == 0) {
-        ZyanU64 v = ZydisGetVersion();
-        printf("zydis %d.%d.%d\n", (int)ZYDIS_VERSION_MAJOR(v), (int)ZYDIS_VERSION_MINOR(v), (int)ZYDIS_VERSION_PATCH(v));
-        return 0;
-    }
-    if (argc == 2 && strcmp(argv[1], "reasons") == 0) {
-        print_names();
-        return 0;
-    }
-    if (argc != 2) { fprintf(stderr, "usage: judge RAW < SWEEP | judge reasons | judge version\n"); return 2; }
-    size_t count, at = 0, lines = 0, refusals = 0, room = 0;
-    unsigned char *bytes = contents(argv[1], &count);
     static struct reading reading;
+    size_t at = 0, lines = 0, refusals = 0, room = 0;
     char *line = NULL, text[512];
     ssize_t length = getline(&line, &room, stdin);
     ZydisDecoder decoder;
     ZydisDecoderInit(&decoder, ZYDIS_MACHINE_MODE_LONG_64, ZYDIS_STACK_WIDTH_64);
-    prepare_rules();
     while (at < count) {
         struct code code = code_of(bytes + at, count - at);
         reading.refusal = NULL;
         expect(&decoder, &code, &reading);
         int size = reading_text(at, &reading, text, sizeof text);
+        size_t place = length > 0 ? strtoull(line, NULL, 10) : count, next = at + (reading.refusal ? 1 : reading.length);
         lines++;
         refusals += reading.refusal != NULL;
-        size_t place = length > 0 ? strtoull(line, NULL, 10) : count;
-        if (length != size || memcmp(line, text, (size_t)size) != 0) report(bytes, count, at, length > 0 ? line : "", length > 0 ? length : 0, text);
-        /* A line of a later place stands for one that is missing, and one of an earlier place is one too many. */
-        if (place >= at + (reading.refusal ? 1 : reading.length)) {
-            at += reading.refusal ? 1 : reading.length;
-            continue;
-        }
-        if (place >= at) at += reading.refusal ? 1 : reading.length;
-        length = getline(&line, &room, stdin);
+        if (length != size || memcmp(line, text, (size_t)size) != 0) report(bytes, count, at, line, length, text);
+        if (place >= at) at = next;
+        if (place < next) length = getline(&line, &room, stdin);
     }
     for (; length > 0; length = getline(&line, &room, stdin)) report(bytes, count, count, line, length, "");
     print_reasons();
     printf("counts\t%zu\t%zu\t%zu\t%zu\n", lines, lines - refusals, refusals, unexplained);
+    free(line);
+}
+
+int main(int argc, char **argv)
+{
+    size_t count;
+    if (argc == 2 && strcmp(argv[1], "version") == 0) {
+        ZyanU64 v = ZydisGetVersion();
+        printf("zydis %d.%d.%d\n", (int)ZYDIS_VERSION_MAJOR(v), (int)ZYDIS_VERSION_MINOR(v), (int)ZYDIS_VERSION_PATCH(v));
+    } else if (argc == 2 && strcmp(argv[1], "reasons") == 0) print_names();
+    else if (argc == 2) {
+        prepare_rules();
+        unsigned char *bytes = contents(argv[1], &count);
+        judge(bytes, count);
+        free(bytes);
+    } else {
+        fprintf(stderr, "usage: judge RAW < SWEEP | judge reasons | judge version\n");
+        return 2;
+    }
     return 0;
 }

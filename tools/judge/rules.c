@@ -11,10 +11,10 @@ enum { MOST = 512, AT_ONE = 24 };
 struct where {
     const struct rule *rule;
     int number;                  /* of the rule, for its counts */
-    unsigned columns, regs;      /* bits */
+    unsigned columns, regs;      /* bits; no column means all */
     int form;                    /* 'r', 'm' or 0 */
     int modrm;                   /* or -1 */
-    int p66, p67, w, r;          /* 1: must be there, -1: must not, 0: may */
+    int prefixes[4];             /* 66, 67, W, R: 1 where it must be there, -1 where it must not, 0 where it may */
     bool rm0, any;
 };
 
@@ -50,30 +50,40 @@ static void read_opcodes(struct table *table, int map, const char *word, struct 
     for (int opcode = from; opcode <= to; opcode++) add(table, map, opcode, where);
 }
 
+/* The place of a word among four, or 4. */
+static int place_of(const char *word, const char *const words[4])
+{
+    int at = 0;
+    while (at < 4 && strcmp(word, words[at]) != 0) at++;
+    return at;
+}
+
+/* Reads a word that isn't a map or an opcode. */
+static bool read_condition(const char *word, struct where *where)
+{
+    static const char *const columns[] = {"NP", "66", "F3", "F2"}, *const prefixes[] = {"66", "67", "W", "R"};
+    int column = place_of(word, columns), prefix = place_of(word + 1, prefixes);
+    if (column < 4) where->columns |= 1u << column;
+    else if (strcmp(word, "rm0") == 0) where->rm0 = true;
+    else if (strcmp(word, "+any") == 0) where->any = true;
+    else if (prefix < 4 && (*word == '+' || *word == '-')) where->prefixes[prefix] = *word == '+' ? 1 : -1;
+    else return false;
+    return true;
+}
+
 static void read_rule(struct table *table, const struct rule *rule)
 {
-    static const char *const maps[] = {"0:", "0F:", "0F38:", "0F3A:"}, *const columns[] = {"NP", "66", "F3", "F2"};
+    static const char *const maps[] = {"0:", "0F:", "0F38:", "0F3A:"};
     struct where where = {.rule = rule, .number = numbered, .regs = 0xff, .modrm = -1};
-    char text[256], *word;
-    int map = -1;
+    char text[256];
+    int map = 4;
     rules[numbered++] = rule;
     snprintf(text, sizeof text, "%s", rule->rows);
-    for (word = strtok(text, " "); word != NULL; word = strtok(NULL, " ")) {
-        int at = 0, sign = *word == '+' ? 1 : -1;
-        while (at < 4 && strcmp(word, maps[at]) != 0) at++;
-        if (at < 4) { map = at; continue; }
-        for (at = 0; map < 0 && at < 4 && strcmp(word, columns[at]) != 0;) at++;
-        if (map < 0 && at < 4) where.columns |= 1u << at;
-        else if (strcmp(word, "rm0") == 0) where.rm0 = true;
-        else if (strcmp(word, "+any") == 0) where.any = true;
-        else if (strcmp(word + 1, "66") == 0 && map < 0) where.p66 = sign;
-        else if (strcmp(word + 1, "67") == 0 && map < 0) where.p67 = sign;
-        else if (strcmp(word + 1, "W") == 0) where.w = sign;
-        else if (strcmp(word + 1, "R") == 0) where.r = sign;
-        else {
-            if (where.columns == 0) where.columns = 15;
-            read_opcodes(table, map, word, where);
-        }
+    for (char *word = strtok(text, " "); word != NULL; word = strtok(NULL, " ")) {
+        int named = place_of(word, maps);
+        if (named < 4) map = named;
+        else if (map < 4) read_opcodes(table, map, word, where);
+        else if (!read_condition(word, &where)) { fprintf(stderr, "judge: no such word: %s\n", word); exit(2); }
     }
 }
 
@@ -82,18 +92,21 @@ static bool agrees(int wanted, bool is)
     return wanted == 0 || (wanted > 0) == is;
 }
 
+static bool holds_of_modrm(const struct where *where, int modrm)
+{
+    if (where->regs == 0xff && !where->form && where->modrm < 0 && !where->rm0) return true;
+    return modrm >= 0 && (where->modrm < 0 || modrm == where->modrm) && (where->regs >> (modrm >> 3 & 7) & 1)
+        && (!where->form || (where->form == 'r') == (modrm >> 6 == 3)) && (!where->rm0 || (modrm & 7) == 0);
+}
+
 static bool holds(const struct where *where, const struct code *code)
 {
-    if (!(where->columns >> code->column & 1)) return false;
-    if (!agrees(where->p66, code->p66) || !agrees(where->p67, code->p67) || !agrees(where->w, has_w(code)) || !agrees(where->r, code->rex & 4)) return false;
+    const bool prefixes[] = {code->p66, code->p67, has_w(code), code->rex & 4};
+    if (where->columns && !(where->columns >> code->column & 1)) return false;
+    for (int k = 0; k < 4; k++)
+        if (!agrees(where->prefixes[k], prefixes[k])) return false;
     if (where->any && !(code->p66 || code->p67 || code->lock || code->segment || code->rex)) return false;
-    if (where->regs != 0xff || where->form || where->modrm >= 0 || where->rm0) {
-        int modrm = code->modrm;
-        if (modrm < 0 || (where->modrm >= 0 && modrm != where->modrm) || !(where->regs >> (modrm >> 3 & 7) & 1)) return false;
-        if (where->form && (where->form == 'r') != (modrm >> 6 == 3)) return false;
-        if (where->rm0 && (modrm & 7) != 0) return false;
-    }
-    return true;
+    return holds_of_modrm(where, code->modrm);
 }
 
 static const struct where *first(int number, const struct code *code)
@@ -110,7 +123,7 @@ static void count(const struct where *where, const struct code *code)
     counts[where->number][code->map][code->opcode][code->map == 0 ? 0 : code->column]++;
 }
 
-/* The code that stands for another one. */
+/* The code as which a row is read. */
 static struct code other_code(const struct code *code, const char *words)
 {
     struct code other = *code;
@@ -137,8 +150,8 @@ static bool read_other(const ZydisDecoder *decoder, const struct code *code, con
 
 static bool is_same_operand(const struct operand *one, const struct operand *other)
 {
-    return one->kind == other->kind && one->reg == other->reg && one->index == other->index && one->scale == other->scale && one->value == other->value
-        && one->is_signed == other->is_signed && one->bits == other->bits && one->text == other->text;
+    return one->kind == other->kind && one->reg == other->reg && one->index == other->index && one->scale == other->scale
+        && one->value == other->value && one->is_signed == other->is_signed && one->bits == other->bits && one->text == other->text;
 }
 
 static bool is_same(const struct reading *one, const struct reading *other)

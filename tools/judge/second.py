@@ -11,7 +11,7 @@ import sys
 import tempfile
 from pathlib import Path
 
-# What objdump puts in front of a name.
+# What objdump writes before a name.
 PREFIXES = "rep repz repnz lock data16 addr32 cs ds es fs gs ss notrack bnd xacquire xrelease".split()
 
 # What objdump calls what has another name here, with each name that it may have.
@@ -40,7 +40,7 @@ REFUSED_THERE = "FSTPNCE FXCH FCOM FCOMP FSTP XABORT XBEGIN".split()
 
 
 def name_of(text):
-    """The name in a line of objdump, without the prefixes that it puts in front."""
+    """The name in a line of objdump, without the prefixes that it writes before it."""
     words = text.split()
     while len(words) > 1 and (words[0] in PREFIXES or words[0].startswith("rex")):
         words = words[1:]
@@ -60,7 +60,8 @@ def are_same(ours, theirs):
 
 def read(raw):
     """For each place at which objdump begins a line: the length and the name."""
-    dump = subprocess.Popen(["objdump", "-D", "-b", "binary", "-m", "i386:x86-64", "-M", "intel", "-w", "--insn-width=24", raw], stdout=subprocess.PIPE, text=True)
+    words = "objdump -D -b binary -m i386:x86-64 -M intel -w --insn-width=24".split()
+    dump = subprocess.Popen([*words, raw], stdout=subprocess.PIPE, text=True)
     for line in dump.stdout:
         found = re.match(r"\s*([0-9a-f]+):\t([0-9a-f ]+?)\s*\t(.*)", line)
         if found:
@@ -80,7 +81,8 @@ def kind_of(ours, answer):
         return "a prefix apart", None
     if refuses or name == "(bad)":
         error = " ".join(ours[1:])
-        is_known = error in ("the decoder is incomplete", "invalid prefixes") or name in REFUSED_HERE.get(error, []) if refuses else ours[1] in REFUSED_THERE
+        is_left_out = error in ("the decoder is incomplete", "invalid prefixes")
+        is_known = is_left_out or name in REFUSED_HERE.get(error, []) if refuses else ours[1] in REFUSED_THERE
         return "one refuses", None if is_known else (" ".join(ours), name)
     if int(ours[0]) != length:
         is_known = ours[1] == "WAIT" or name.rstrip("w") in ("call", "jmp", "ret") or name.startswith("j")

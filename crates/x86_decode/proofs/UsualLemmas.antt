@@ -15,14 +15,13 @@ use Rattle.x86_operands.specs.declared.plans.ModrmUse.{ModrmUse}
 use Rattle.x86_operands.specs.declared.plans.ModrmUse.TheVariants.{Absent, EitherForm}
 use Rattle.x86_operands.specs.declared.reader.Reading.{Reading}
 use Rattle.x86_operands.specs.Encodings.{allows, Belongs, carried, Describes, group_form, has_fields, is_described, plan_of, use_of}
-use Rattle.x86_operands.proofs.OrderLemmas.{allowed_is_described}
 use Rattle.x86_fields.specs.ModRM.{absent_modrm}
 use Rattle.x86_operands.specs.Forms.{form_plan, form_record, modrm_use}
 use Rattle.x86_operands.specs.PlanSteps.{read_modrm, read_plan, record_step}
 use Rattle.x86_groups.specs.ByReg.{Chooses, reg_plan}
 use Rattle.x86_groups.specs.Groups.{group_plan, group_record}
 use Rattle.x86_groups.proofs.RegLemmas.{reg_record, reg_chosen, reg_group, reg_carries}
-use Rattle.x86_decode.specs.Walk.{fields_use, is_known, row_step, plan_at}
+use Rattle.x86_decode.specs.Walk.{row_step, plan_at}
 
 -- what stands behind a ModRM byte that was read
 abbrev asks : Bool → TableRow → Prefixes → Result ℕ DecodeError → State ℕ → Outcome Reading
@@ -61,51 +60,35 @@ group_described : (strict : Bool) (row : TableRow) (p : Prefixes) (m o : ℕ) (g
 group_described strict row p m o g e belongs d is =
     ap (λ n. plan_of e n o p m) (reg_carries g row.form belongs) ∙ d is p ∙ sym (chosen_plan g strict row p m belongs)
 
--- ---- any form whose line is known
+-- ---- what is read first
 
--- what was read before the line was asked for is what the row reads first
-pub known_asks : {r : Result ℕ DecodeError} {t : State ℕ} (s : State ℕ) (strict : Bool) (row : TableRow) (p : Prefixes) (b : Behind) → Belongs b row.form → modrm_use row.form ≡ use_of b → is_known b ≡ true → outcome r t ≡ read_modrm (fields_use b) s → asks strict row p r t ≡ row_step strict row p s
-known_asks s strict row p behind.Nothing plain usage h e = row_asks s strict row p Absent usage plain e
-known_asks s strict row p behind.Opcode plain usage h e = row_asks s strict row p Absent usage plain e
-known_asks s strict row p behind.Accumulator plain usage h e = row_asks s strict row p Absent usage plain e
-known_asks s strict row p behind.EitherForm plain usage h e = row_asks s strict row p EitherForm usage plain e
-known_asks s strict row p behind.Memory plain usage h e = row_asks s strict row p EitherForm usage plain e
-known_asks s strict row p behind.Registers plain usage h e = row_asks s strict row p EitherForm usage plain e
-known_asks s strict row p (behind.ByReg g) belongs usage h e = group_asks s strict row p g belongs e
-known_asks s strict row p (behind.Peculiar u) belongs usage h e = absurd cc
-known_asks s strict row p behind.Group belongs usage h e = absurd cc
+-- a ModRM byte whose line is known, or chosen by reg
+pub fields_asks : {r : Result ℕ DecodeError} {t : State ℕ} (s : State ℕ) (strict : Bool) (row : TableRow) (p : Prefixes) (b : Behind) → Belongs b row.form → modrm_use row.form ≡ use_of b → has_fields b ≡ true → outcome r t ≡ read_modrm EitherForm s → asks strict row p r t ≡ row_step strict row p s
+fields_asks s strict row p behind.EitherForm plain usage h e = row_asks s strict row p EitherForm usage plain e
+fields_asks s strict row p behind.Memory plain usage h e = row_asks s strict row p EitherForm usage plain e
+fields_asks s strict row p behind.Registers plain usage h e = row_asks s strict row p EitherForm usage plain e
+fields_asks s strict row p (behind.ByReg g) belongs usage h e = group_asks s strict row p g belongs e
+fields_asks s strict row p b belongs usage h e = absurd cc
 
-pub fields_known : (b : Behind) → has_fields b ≡ true → is_known b ≡ true
-fields_known (behind.Peculiar u) h = cc
-fields_known behind.Group h = cc
-fields_known b h = refl
-
--- a byte is missing only where one is read
-pub missing_known : (b : Behind) (x : DecodeError) (s t : State ℕ) → outcome (Err x) t ≡ read_modrm (fields_use b) s → is_known b ≡ true
-missing_known (behind.Peculiar u) x s t e = let no : ◌≡◌ {A = Result ℕ DecodeError} (Err x) (Ok absent_modrm) = ap (λ o. o.answer) e in cc
-missing_known behind.Group x s t e = let no : ◌≡◌ {A = Result ℕ DecodeError} (Err x) (Ok absent_modrm) = ap (λ o. o.answer) e in cc
-missing_known b x s t e = refl
+-- no ModRM byte, where a line describes the form
+pub bare_asks : (s : State ℕ) (strict : Bool) (row : TableRow) (p : Prefixes) (m : ℕ) (b : Behind) → Belongs b row.form → modrm_use row.form ≡ use_of b → has_fields b ≡ false → allows b m ≡ true → m ≡ absent_modrm → read_plan (plan_at strict row p m) p m s ≡ row_step strict row p s
+bare_asks s strict row p m behind.Nothing plain usage h may e = row_asks {r = Ok m} {t = s} s strict row p Absent usage plain (ap (λ x. outcome (Ok x) s) e)
+bare_asks s strict row p m behind.Opcode plain usage h may e = row_asks {r = Ok m} {t = s} s strict row p Absent usage plain (ap (λ x. outcome (Ok x) s) e)
+bare_asks s strict row p m behind.Accumulator plain usage h may e = row_asks {r = Ok m} {t = s} s strict row p Absent usage plain (ap (λ x. outcome (Ok x) s) e)
+bare_asks s strict row p m b belongs usage h may e = absurd cc
 
 -- ---- the line of a row
 
-pub reg_known : (b : Behind) (g : RegGroup) → b ≡ behind.ByReg g → is_known b ≡ true
-reg_known b g e = ap is_known e
+pub reg_described : (strict : Bool) (row : TableRow) (p : Prefixes) (m o : ℕ) (b : Behind) (g : RegGroup) (e : FormEncoding) → b ≡ behind.ByReg g → Belongs b row.form → Chooses g m o e → IsTrue (is_described e.behind) → plan_of e (carried row.form) o p m ≡ plan_at strict row p m
+reg_described strict row p m o b g e is belongs d = group_described strict row p m o g e (subst (λ k. Belongs k row.form) is belongs) d
 
-pub reg_described : (strict : Bool) (row : TableRow) (p : Prefixes) (m o : ℕ) (b : Behind) (g : RegGroup) (e : FormEncoding) → b ≡ behind.ByReg g → Belongs b row.form → Chooses g m o e → allows e.behind m ≡ true → plan_of e (carried row.form) o p m ≡ plan_at strict row p m
-reg_described strict row p m o b g e is belongs d may = group_described strict row p m o g e (subst (λ k. Belongs k row.form) is belongs) d (allowed_is_described e.behind m may)
+described_plain : (b : Behind) (f : Form) → IsTrue (is_described b) → Belongs b f → is_group f ≡ false
+described_plain (behind.ByReg g) f h belongs = let no : false ≡ true = h in cc
+described_plain (behind.Peculiar u) f h belongs = belongs
+described_plain behind.Group f h belongs = let no : false ≡ true = h in cc
+described_plain b f h belongs = belongs
 
-pub allowed_known : (b : Behind) (m : ℕ) → allows b m ≡ true → is_known b ≡ true
-allowed_known (behind.Peculiar u) m h = cc
-allowed_known behind.Group m h = cc
-allowed_known b m h = refl
-
-allowed_plain : (b : Behind) (f : Form) (m : ℕ) → allows b m ≡ true → Belongs b f → is_group f ≡ false
-allowed_plain (behind.ByReg g) f m h belongs = cc
-allowed_plain (behind.Peculiar u) f m h belongs = cc
-allowed_plain behind.Group f m h belongs = cc
-allowed_plain b f m h belongs = belongs
-
-pub form_described : (strict : Bool) (row : TableRow) (p : Prefixes) (m : ℕ) (e : FormEncoding) → Belongs e.behind row.form → Describes e row.form → allows e.behind m ≡ true → plan_of e (carried row.form) row.opcode p m ≡ plan_at strict row p m
-form_described strict row p m e belongs d may =
-    d (allowed_is_described e.behind m may) row.opcode m p
-    ∙ ap (λ t. if t then group_plan row p m strict else form_plan row.form row.opcode p m) (sym (allowed_plain e.behind row.form m may belongs))
+pub form_described : (strict : Bool) (row : TableRow) (p : Prefixes) (m : ℕ) (e : FormEncoding) → Belongs e.behind row.form → Describes e row.form → IsTrue (is_described e.behind) → plan_of e (carried row.form) row.opcode p m ≡ plan_at strict row p m
+form_described strict row p m e belongs d is =
+    d is row.opcode m p
+    ∙ ap (λ t. if t then group_plan row p m strict else form_plan row.form row.opcode p m) (sym (described_plain e.behind row.form is belongs))

@@ -1,14 +1,16 @@
 //! What a row asks behind its opcode byte, written where it stays.
-ghost use Rattle.std.specs.Prelude.{◌≡◌, Bool, IfOk, true, false};
+ghost use Rattle.std.specs.Prelude.{◌≡◌, ℕ, Bool, IfOk, IsTrue, true, false};
+ghost use Rattle.x86_arch.specs.Reader.{State};
 ghost use Rattle.x86_fields.specs.Steps.{outcome, then_from};
 ghost use Rattle.x86_fields.specs.declared.prefixes.Prefixes.{Prefixes};
 ghost use Rattle.x86_forms.specs.Words.{IsForm};
-ghost use Rattle.x86_operands.specs.Encodings.{allows, Belongs, carried, Describes, held, is_sound, no_operands, plan_of};
-ghost use Rattle.x86_operands.specs.PlanSteps.{read_modrm, record_step};
+ghost use Rattle.x86_operands.specs.Encodings.{Belongs, carried, Describes, has_fields, held, is_described, is_sound, no_operands, plan_of, use_of};
+ghost use Rattle.x86_operands.specs.Forms.{modrm_use};
+ghost use Rattle.x86_operands.specs.PlanSteps.{read_plan, record_step};
 ghost use Rattle.x86_decode.specs.declared.instructions.Instruction.{Instruction};
 ghost use Rattle.x86_decode.specs.Grammar.{record_of};
 ghost use Rattle.x86_decode.specs.Instruction.{reading_in};
-ghost use Rattle.x86_decode.specs.Walk.{HasForm, IsFound, fields_use, found_row_step, is_known, plan_at, rest_step, row_step, is_nothing};
+ghost use Rattle.x86_decode.specs.Walk.{HasForm, IsFound, found_row_step, plan_at, rest_step, row_step, is_nothing};
 
 use crate::instructions::Instruction;
 use x86_arch::Reader;
@@ -64,38 +66,6 @@ pub fn read_row<T: Reader<u64, u8>>(
     }
 }
 
-/// The ModRM byte of a row whose line is known, or chosen by reg; for the others C0, and nothing is read.
-#[inline(always)]
-fn read_fields<T: Reader<u64, u8>>(behind: Behind, reader: &mut T) -> Result<ModRM, DecodeError>
-    ensures { outcome result (T.state reader.new) ≡ read_modrm (fields_use behind) (T.state reader.old) }
-{
-    if behind.has_fields() {
-        read_modrm(reader, ModrmUse::EitherForm)
-    } else {
-        Ok(ModRM::absent())
-    }
-}
-
-/// The line of a row at this ModRM byte, with the operation: that of its form, or the one that reg chooses.
-#[inline(always)]
-fn line_at<'a>(
-    row: &TableRow,
-    encoding: &'a FormEncoding,
-    modrm: ModRM,
-) -> (Opcode, &'a FormEncoding)
-    requires sound { is_sound encoding.now ≡ true }
-    requires group { Belongs encoding.now.behind row.now.form }
-    requires describes { Describes encoding.now row.now.form }
-    ensures sound { is_sound result.1.now ≡ true }
-    ensures known { allows result.1.now.behind modrm ≡ true → is_known encoding.now.behind ≡ true }
-    ensures describes { allows result.1.now.behind modrm ≡ true → (strict : Bool) (p : Prefixes) → plan_of result.1.now (carried row.now.form) result.0 p modrm ≡ plan_at strict row.now p modrm }
-{
-    match encoding.behind {
-        Behind::ByReg(group) => chosen(group, modrm),
-        _ => (row.opcode, encoding),
-    }
-}
-
 /// ModRM, and the line that describes the row there; else what is left of the row.
 #[inline(always)]
 fn read_usual<'a, T: Reader<u64, u8>>(
@@ -106,19 +76,66 @@ fn read_usual<'a, T: Reader<u64, u8>>(
     ensures read { (strict : Bool) (i : Instruction) → then_from result (T.state reader.new) (found_row_step strict row.now i) ≡ row_step strict row.now i.prefixes (T.state reader.old) }
     ensures found { IfOk result (IsFound row.now) }
 {
-    let form = form_encoding(row.form);
-    let modrm = read_fields(form.behind, reader)?;
-    let (opcode, encoding) = line_at(row, form, modrm);
+    let encoding = form_encoding(row.form);
+    if !encoding.behind.has_fields() {
+        return Ok(bare_line(row, encoding));
+    }
+    let modrm = read_modrm(reader, ModrmUse::EitherForm)?;
+    match encoding.behind {
+        Behind::ByReg(group) => {
+            let (opcode, encoding) = chosen(group, modrm);
+            Ok(line_at(row, encoding, opcode, modrm))
+        }
+        _ => Ok(line_at(row, encoding, row.opcode, modrm)),
+    }
+}
+
+/// The line of a row without ModRM; else all of the row.
+#[inline(always)]
+fn bare_line<'a>(row: &TableRow, encoding: &'a FormEncoding) -> Found<'a>
+    requires form { IsForm row.now.form }
+    requires sound { is_sound encoding.now ≡ true }
+    requires bare { has_fields encoding.now.behind ≡ false }
+    requires group { Belongs encoding.now.behind row.now.form }
+    requires usage { modrm_use row.now.form ≡ use_of encoding.now.behind }
+    requires describes { Describes encoding.now row.now.form }
+    ensures found { IsFound row.now result }
+    ensures read { (strict : Bool) (i : Instruction) (s : State ℕ) → found_row_step strict row.now i result s ≡ row_step strict row.now i.prefixes s }
+{
+    let modrm = ModRM::absent();
     if encoding.behind.allows(modrm) {
-        Ok(Found::Line(Usual {
+        Found::Line(Usual {
+            encoding,
+            opcode: row.opcode,
+            modrm,
+        })
+    } else {
+        Found::Left(Rest::Row(*row))
+    }
+}
+
+/// The line, if it accepts at this ModRM byte; else what stands behind it.
+#[inline(always)]
+fn line_at<'a>(
+    row: &TableRow,
+    encoding: &'a FormEncoding,
+    opcode: Opcode,
+    modrm: ModRM,
+) -> Found<'a>
+    requires form { IsForm row.now.form }
+    requires sound { is_sound encoding.now ≡ true }
+    requires describes { (strict : Bool) (p : Prefixes) → IsTrue (is_described encoding.now.behind) → plan_of encoding.now (carried row.now.form) opcode p modrm ≡ plan_at strict row.now p modrm }
+    ensures found { IsFound row.now result }
+    ensures read { (strict : Bool) (i : Instruction) → found_row_step strict row.now i result ≡ read_plan (plan_at strict row.now i.prefixes modrm) i.prefixes modrm }
+{
+    if encoding.behind.allows(modrm) {
+        Found::Line(Usual {
             encoding,
             opcode,
             modrm,
-        }))
-    } else if form.behind.has_fields() {
-        Ok(Found::Left(Rest::Behind(*row, modrm)))
+        })
     } else {
-        Ok(Found::Left(Rest::Row(*row)))
+        Found::Left(Rest::Behind(*row, modrm))
     }
 }
 

@@ -10,6 +10,8 @@ mod list;
 #[cfg(test)]
 mod make;
 #[cfg(test)]
+mod process;
+#[cfg(test)]
 mod program;
 #[cfg(test)]
 mod streams;

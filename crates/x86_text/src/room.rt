@@ -2,12 +2,17 @@
 
 ghost use Rattle.std.specs.Prelude.{◌≡◌, ℕ, ◌+◌, ◌-◌, ◌*◌, ◌/◌, ◌%◌, ◌<◌, ◌≤◌, ◌++◌, ◌∷◌, [], length, take, drop, decimal};
 ghost use Rattle.std.specs.Fmt.{signed_decimal};
+ghost use Rattle.std.specs.Prelude.{MatchOption, IsUtf8};
 ghost use Rattle.arrayvec.specs.ArrayVec.{array_vec_len};
 ghost use Rattle.hex.specs.Hex.{encode_lower};
 
 use crate::cells::{put, put_bytes, put_front};
 use crate::digits::{pair_of, put_hex, put_signed, put_u8, put_u32, put_u64};
+use std::alloc::AllocError;
+use std::fmt;
+use std::fmt::Display;
 use std::marker::Model;
+use std::str::from_utf8;
 
 /// How many bytes a line has room for, its end included.
 pub const LINE_ROOM: usize = 192;
@@ -22,7 +27,13 @@ pub struct Room<const N: usize> {
     pub(crate) len: usize,
 }
 
-/// A line, with room for its end.
+/// The text of one line, with room for its end. `line_of`, `refusal_of`, `fields_line`, `operand_text` and
+/// `instruction_text` return one, without an end; the calls that begin with `write` or `push` write to one.
+///
+/// ```
+/// let line = line_of(4, &instruction);
+/// println!(rt; "{line}")?; // 4 3 ADD rax, rbx m8
+/// ```
 pub type Line = Room<LINE_ROOM>;
 
 impl<const N: usize> Model for Room<N> {
@@ -94,6 +105,16 @@ impl<const N: usize> Room<N> {
         ensures { result.now ≡ self.now.items }
     {
         &self.cells[..self.len]
+    }
+
+    /// The bytes as text, or `None` where they aren't UTF-8.
+    pub fn as_str(&self) -> Option<&str>
+        ensures { MatchOption result (¬ (IsUtf8 self.now.items)) (λ text. text.now ≡ self.now.items) }
+    {
+        match from_utf8(self.as_slice()) {
+            Ok(text) => Some(text),
+            Err(_) => None,
+        }
     }
 
     /// How many bytes still fit.
@@ -171,5 +192,35 @@ impl<const N: usize> Room<N> {
         ensures short { array_vec_len self.new ≤ array_vec_len self.old + 20 }
     {
         self.len = put_signed(&mut self.cells, self.len, n);
+    }
+}
+
+impl<const N: usize> Clone for Room<N> {
+    ghost use Rattle.std.specs.Prelude.{◌≡◌, ⊤};
+
+    ghost is_clone = { λ room copy. copy ≡ room };
+
+    ghost is_infallible = { λ _. ⊤ };
+
+    /// The same bytes. This takes no memory, and never fails.
+    fn clone(&self) -> Result<Room<N>, AllocError> {
+        Ok(Room {
+            cells: self.cells,
+            len: self.len,
+        })
+    }
+}
+
+impl<const N: usize> Display for Room<N> {
+    ghost use Rattle.std.specs.Prelude.{Some};
+
+    ghost output = { λ room. Some room.items };
+
+    /// Writes the bytes as text. Where they aren't UTF-8, this is an error of the formatter.
+    fn fmt<W: fmt::Write>(&self, f: &mut fmt::Formatter<W>) -> fmt::Result {
+        match self.as_str() {
+            Some(text) => f.pad(text),
+            None => Err(fmt::Error),
+        }
     }
 }
