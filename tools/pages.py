@@ -5,17 +5,19 @@
 
 Examples of README.md and docs/USAGE.md: in a block of indented lines, each line after `$ ` is run by the shell, in a folder with `x86`
 and examples/, and what it prints must be the lines below it. Where these are `...`, anything may be printed. In the table of statuses the
-example of a row must end with its status. Standard error must be empty, but for the usage line at status 2. Each run must end within a
-minute. In the table of texts an example must print its last line. The program is the built one, or the one that PROGRAM names; where there
-is none, or a tool of an example is missing, these examples are skipped with a line.
+example of a row must end with its status, and in the table of texts it must print its last line. Standard error must be empty, but for the
+usage line at status 2. Each run must end within a minute. The program is the built one, or the one that PROGRAM names; where there is
+none, or a tool of an example is missing, these examples are skipped with a line.
 
-Examples of docs/GUIDE.md and docs/CRATES.md: each indented block is in one of the files of `CODE`, or of `TESTS`, line by line, only further to the right.
+Examples of docs/GUIDE.md and docs/CRATES.md: each indented block is in one of the files of `CODE`, or of `TESTS`, line by line, only
+further to the right.
 
-In the table of texts of docs/USAGE.md the example of a row must print its last line.
+Quoted code of the pages of `QUOTING`: each indented line that isn't a command, nor of a drawing, is a line of some file of crates/, letter
+by letter. Definitions of docs/THEOREM.md: each indented paragraph is in a file of specs/ or src/, line by line, and is whole there: a
+definition from its first line to its last, and a signature up to its body. Its links are to files that are there.
 
-Quoted code of the pages of `QUOTING`: each indented line that isn't a command, nor of a drawing, is a line of some file of crates/, letter by
-letter. Definitions of docs/THEOREM.md: each indented paragraph is in a file of specs/ or src/, line by line, and is whole there: a
-definition from its first line to its last, and a signature up to its body. Its links are to files that are there. Reasons of tools/compare: those of tools/judge/reasons.c are the rows of their section of docs/DIFFERENCES.md.
+Reasons of tools/compare: those of tools/judge/reasons.c are the rows of their section of docs/DIFFERENCES.md. The picture docs/speed.svg is
+what tools/chart.py draws.
 """
 
 import os
@@ -26,6 +28,9 @@ import subprocess
 import sys
 import tempfile
 from pathlib import Path
+
+sys.dont_write_bytecode = True
+import chart
 
 TOP = Path(__file__).resolve().parent.parent
 CRATE = re.search(r"^PROGRAM_CRATE=(\w+)$", (TOP / "tools" / "program.sh").read_text(), re.M)[1]
@@ -191,6 +196,14 @@ def read_definitions(page):
     return wrong
 
 
+def read_chart():
+    """Compares the picture of the figures with the page that has them, and answers whether they differ."""
+    if chart.CHART.read_text() == chart.drawn():
+        return 0
+    print("pages: docs/speed.svg isn't what tools/chart.py draws", file=sys.stderr)
+    return 1
+
+
 def read_reasons(page):
     """Holds the reasons of tools/compare against the rows of their section, and answers how many are in one alone."""
     names = set(re.findall(r'^    \{"([^"]+)", "', (TOP / "tools" / "judge" / "reasons.c").read_text(), re.M))
@@ -203,7 +216,7 @@ def read_reasons(page):
 
 def main():
     wrong = read_guide("docs/GUIDE.md", CODE) + read_guide("docs/CRATES.md", TESTS) + sum(read_quotes(page) for page in QUOTING)
-    wrong += read_definitions("docs/THEOREM.md") + read_reasons("docs/DIFFERENCES.md")
+    wrong += read_definitions("docs/THEOREM.md") + read_chart() + read_reasons("docs/DIFFERENCES.md")
     if os.access(PROGRAM, os.X_OK):
         wrong += sum(run_examples(page) for page in ("README.md", "docs/USAGE.md"))
         wrong += run_texts("docs/USAGE.md")
