@@ -1,14 +1,15 @@
 //! The walk over the bytes of an encoding, within fifteen of them.
 ghost use Rattle.std.specs.Prelude.{◌≡◌, ℕ, List, Bool, IfOk, true, false, take};
 ghost use Rattle.x86_arch.specs.Reader.{marked};
-ghost use Rattle.x86_fields.specs.Steps.{outcome, then_from};
+ghost use Rattle.x86_fields.specs.Steps.{Outcome, outcome, then_from};
 ghost use Rattle.x86_fields.specs.Run.{is_prefix, reading_of};
 ghost use Rattle.x86_forms.specs.Words.{rows_of};
 ghost use Rattle.x86_operands.specs.Encodings.{held, no_operands};
+ghost use Rattle.x86_operands.specs.declared.reader.Reading.{Reading};
 ghost use Rattle.x86_decode.specs.Answer.{answer_of};
 ghost use Rattle.x86_decode.specs.Grammar.{first_slot, allows_lock};
 ghost use Rattle.x86_decode.specs.Instruction.{holding, invalid_instruction, reading_in};
-ghost use Rattle.x86_decode.specs.Walk.{HasForm, rest_step, behind_step, long_step, walk_bounded, walk_within, decode_step, is_exhausted, is_nothing, takes_lock, judgement, limited};
+ghost use Rattle.x86_decode.specs.Walk.{ComesTo, Fronted, HasForm, IsReady, rest_step, behind_step, long_step, walk_bounded, walk_within, decode_step, is_exhausted, is_nothing, takes_lock, judgement, limited};
 
 use crate::bounded::{Bounded, Start, takes_rest};
 use crate::head::{is_prefix, read_head, read_on, read_word};
@@ -103,27 +104,49 @@ fn read_long<W: Words, T: Reader<u64, u8>>(
     read_by_plan(strict, rows, reader, inst, byte)
 }
 
-/// What stands behind the run, where this byte is the first of it. The reader comes back.
+/// What is left behind the front of an encoding.
+#[derive(Clone, Copy, Drop)]
+enum Left {
+    /// A longer run, which goes on with this byte.
+    Run(u8),
+    /// What is left of a row.
+    Rest(Rest),
+}
+
+/// The encoding up to what is left, into a blank instruction.
 #[inline(always)]
-fn walk_behind<W: Words, T: Reader<u64, u8>>(
+fn read_front<W: Words, T: Reader<u64, u8>>(
+    rows: &W,
+    reader: &mut T,
+    inst: &mut Instruction,
+) -> Result<Left, DecodeError>
+    requires { inst.old ≡ invalid_instruction }
+    ensures ready { IfOk result (IsReady inst.new) }
+    ensures read { Fronted (rows_of (W.word rows.now)) inst.new result (T.state reader.new) (λ strict. walk_within (rows_of (W.word rows.now)) strict (T.state reader.old)) }
+{
+    let byte = read_head(reader, &mut inst.prefixes)?;
+    if is_prefix(byte) {
+        return Ok(Left::Run(byte));
+    }
+    let rest = read_behind(rows, reader, inst, byte)?;
+    Ok(Left::Rest(rest))
+}
+
+/// What is left.
+#[inline(never)]
+fn read_left<W: Words, T: Reader<u64, u8>>(
     strict: bool,
     rows: &W,
-    reader: T,
+    left: Left,
+    reader: &mut T,
     inst: &mut Instruction,
-    byte: u8,
-) -> (Result<(), DecodeError>, T)
-    requires { inst.old.given ≡ no_operands }
-    ensures { outcome (held result.0 (reading_in inst.new)) (T.state result.1) ≡ behind_step (rows_of (W.word rows.now)) strict inst.old.prefixes byte (T.state reader) }
+) -> Result<(), DecodeError>
+    requires { IsReady inst.old left }
+    ensures { (goal : Bool → Outcome Reading) → ComesTo (rows_of (W.word rows.now)) inst.old left (T.state reader.old) goal → outcome (held result (reading_in inst.new)) (T.state reader.new) ≡ goal strict }
 {
-    let mut reader = reader;
-    match read_behind(rows, &mut reader, inst, byte) {
-        Err(error) => (Err(error), reader),
-        Ok(Rest::Nothing) => (Ok(()), reader),
-        Ok(rest) => {
-            let mut moved = reader;
-            let read = read_rest(strict, rest, &mut moved, inst);
-            (read, moved)
-        }
+    match left {
+        Left::Run(byte) => read_long(strict, rows, byte, reader, inst),
+        Left::Rest(rest) => read_rest(strict, rest, reader, inst),
     }
 }
 
@@ -140,16 +163,13 @@ fn walk_within<W: Words, T: Reader<u64, u8>>(
     ensures { outcome (held result.0 (reading_in inst.new)) (T.state result.1) ≡ walk_within (rows_of (W.word rows.now)) strict (T.state reader) }
 {
     let mut reader = reader;
-    match read_head(&mut reader, &mut inst.prefixes) {
+    match read_front(rows, &mut reader, inst) {
         Err(error) => (Err(error), reader),
-        Ok(byte) => {
-            if is_prefix(byte) {
-                let mut moved = reader;
-                let read = read_long(strict, rows, byte, &mut moved, inst);
-                (read, moved)
-            } else {
-                walk_behind(strict, rows, reader, inst, byte)
-            }
+        Ok(Left::Rest(Rest::Nothing)) => (Ok(()), reader),
+        Ok(left) => {
+            let mut moved = reader;
+            let read = read_left(strict, rows, left, &mut moved, inst);
+            (read, moved)
         }
     }
 }
