@@ -55,7 +55,10 @@ fn read_behind<W: Words, T: Reader<u64, u8>>(
     byte: u8,
 ) -> Result<Rest, DecodeError>
     requires { inst.old.given ≡ no_operands }
-    ensures read { (strict : Bool) → then_from result (T.state reader.new) (rest_step strict inst.new) ≡ behind_step (rows_of (W.word rows.now)) strict inst.old.prefixes byte (T.state reader.old) }
+    ensures read { (strict : Bool) →
+        then_from result (T.state reader.new) (rest_step strict inst.new)
+        ≡ behind_step (rows_of (W.word rows.now)) strict inst.old.prefixes byte
+        (T.state reader.old) }
     ensures blank { IfOk result (λ rest. is_nothing rest ≡ false → inst.new.given ≡ no_operands) }
     ensures form { IfOk result HasForm }
 {
@@ -76,7 +79,9 @@ fn read_by_plan<W: Words, T: Reader<u64, u8>>(
     byte: u8,
 ) -> Result<(), DecodeError>
     requires { inst.old.given ≡ no_operands }
-    ensures { outcome (held result (reading_in inst.new)) (T.state reader.new) ≡ behind_step (rows_of (W.word rows.now)) strict inst.old.prefixes byte (T.state reader.old) }
+    ensures { outcome (held result (reading_in inst.new)) (T.state reader.new)
+        ≡ behind_step (rows_of (W.word rows.now)) strict inst.old.prefixes byte
+        (T.state reader.old) }
 {
     let word = read_word(rows, reader, &mut inst.prefixes, byte)?;
     match unpack(word) {
@@ -96,7 +101,9 @@ fn read_long<W: Words, T: Reader<u64, u8>>(
 ) -> Result<(), DecodeError>
     requires prefix { is_prefix first ≡ true }
     requires blank { inst.old.given ≡ no_operands }
-    ensures { (front : List ℕ) → inst.old.prefixes ≡ reading_of front → outcome (held result (reading_in inst.new)) (T.state reader.new) ≡ long_step (rows_of (W.word rows.now)) strict front first (T.state reader.old) }
+    ensures { (front : List ℕ) → inst.old.prefixes ≡ reading_of front →
+        outcome (held result (reading_in inst.new)) (T.state reader.new)
+        ≡ long_step (rows_of (W.word rows.now)) strict front first (T.state reader.old) }
 {
     let (prefixes, byte) = read_on(reader, inst.prefixes.after(first))?;
     inst.prefixes = prefixes;
@@ -113,7 +120,8 @@ fn walk_behind<W: Words, T: Reader<u64, u8>>(
     byte: u8,
 ) -> (Result<(), DecodeError>, T)
     requires { inst.old.given ≡ no_operands }
-    ensures { outcome (held result.0 (reading_in inst.new)) (T.state result.1) ≡ behind_step (rows_of (W.word rows.now)) strict inst.old.prefixes byte (T.state reader) }
+    ensures { outcome (held result.0 (reading_in inst.new)) (T.state result.1)
+        ≡ behind_step (rows_of (W.word rows.now)) strict inst.old.prefixes byte (T.state reader) }
 {
     let mut reader = reader;
     match read_behind(rows, &mut reader, inst, byte) {
@@ -137,7 +145,8 @@ fn walk_within<W: Words, T: Reader<u64, u8>>(
     inst: &mut Instruction,
 ) -> (Result<(), DecodeError>, T)
     requires { inst.old ≡ invalid_instruction }
-    ensures { outcome (held result.0 (reading_in inst.new)) (T.state result.1) ≡ walk_within (rows_of (W.word rows.now)) strict (T.state reader) }
+    ensures { outcome (held result.0 (reading_in inst.new)) (T.state result.1)
+        ≡ walk_within (rows_of (W.word rows.now)) strict (T.state reader) }
 {
     let mut reader = reader;
     match read_head(&mut reader, &mut inst.prefixes) {
@@ -184,7 +193,8 @@ fn walk_bounded<'a, W: Words, T: Reader<u64, u8>, K: Start>(
     requires marked { (T.state reader.old).since_mark ≡ 0 }
     requires blank { inst.old ≡ invalid_instruction }
     ensures same_reference { result.1.ghost_name ≡ reader.entry.ghost_name }
-    ensures walked { outcome (holding inst.new result.0) (T.state result.1.now) ≡ walk_bounded (rows_of (W.word rows.now)) strict (T.state reader.old) }
+    ensures walked { outcome (holding inst.new result.0) (T.state result.1.now)
+        ≡ walk_bounded (rows_of (W.word rows.now)) strict (T.state reader.old) }
 {
     let bounded: Bounded<'a, T, K> = Bounded {
         reader,
@@ -261,7 +271,8 @@ pub fn walk_into<W: Words, T: Reader<u64, u8>>(
     inst: &mut Instruction,
 ) -> Result<(), DecodeError>
     requires { inst.old ≡ invalid_instruction }
-    ensures { outcome (holding inst.new result) (T.state reader.new) ≡ decode_step (rows_of (W.word rows.now)) strict (T.state reader.old) }
+    ensures { outcome (holding inst.new result) (T.state reader.new)
+        ≡ decode_step (rows_of (W.word rows.now)) strict (T.state reader.old) }
 {
     reader.mark();
     let (result, _back) = walk_bounded::<W, T, Brand>(strict, rows, reader, inst);
@@ -274,7 +285,8 @@ pub fn walk<W: Words, T: Reader<u64, u8>>(
     rows: &W,
     reader: &mut T,
 ) -> Result<Instruction, DecodeError>
-    ensures { outcome result (T.state reader.new) ≡ decode_step (rows_of (W.word rows.now)) strict (T.state reader.old) }
+    ensures { outcome result (T.state reader.new)
+        ≡ decode_step (rows_of (W.word rows.now)) strict (T.state reader.old) }
 {
     let mut inst = Instruction::invalid();
     walk_into(strict, rows, reader, &mut inst)?;
