@@ -1,5 +1,5 @@
 -- Each answer comes exactly where its case decides.
-use Rattle.std.proofs.Common.{◌≡◌, ◌≢◌, ◌↔◌, ℕ, inl, inr, Bool, true, false, if◌then◌else◌, List, length, Result, Ok, Err, IsOk, refl, ap, subst, arith}
+use Rattle.std.proofs.Common.{◌≡◌, ◌≢◌, ◌↔◌, ℕ, inl, inr, Bool, true, false, if◌then◌else◌, List, length, Result, Ok, Err, IsOk, refl, subst, arith}
 use Rattle.x86_fields.specs.declared.errors.DecodeError.{DecodeError}
 use Rattle.x86_fields.specs.declared.errors.DecodeError.TheVariants.{ExhaustedInput, InvalidOpcode, InvalidOperand, InvalidPrefixes, TooLong, IncompleteDecoder}
 use Rattle.x86_fields.specs.Run.{reading_of}
@@ -10,7 +10,7 @@ use Rattle.x86_decode.specs.declared.instructions.Instruction.{Instruction}
 use Rattle.x86_decode.specs.Head.{Rows, bars_vex}
 use Rattle.x86_decode.specs.Grammar.{IsVexBehindRun, IsRefusedByRecord, case_1, case_2, case_3, case_4, Decides, by_bytes, case_5, IsRefusal, IsOpen, IsAnswer}
 use Rattle.x86_decode.specs.Causes.{Faults, IsDecidedBy, IsUndecided, HasSentence, HasFaultyOpcode, HasFaultyOperand, HasFaultyPrefixes, HasNoRoom, IsLeftOut}
-use Rattle.x86_decode.proofs.Theorem.{refusal_answer, same_error}
+use Rattle.x86_decode.proofs.Theorem.{refusal_answer}
 use Rattle.x86_decode.proofs.AnswerLemmas.{once, answer_refusal}
 
 module _ (rows : Rows) (strict : Bool) where
@@ -113,7 +113,3 @@ module _ (rows : Rows) (strict : Bool) where
       only input (Err InvalidPrefixes) n a h = absurd (a.no_sentence h.sentence h.rest h.answer h.begins h.is)
       only input (Err TooLong) n a h = absurd (a.no_sentence h.sentence h.rest h.answer h.begins h.is)
       only input (Err IncompleteDecoder) n a h = absurd (a.no_sentence h.sentence h.rest h.answer h.begins h.is)
-
--- a refusal is the same whatever stands beside it
-pub same_refusal : {A B : Type 0} {P : Type 0} (e f : DecodeError) → (◌≡◌ {A = Result A DecodeError} (Err e) (Err f)) ↔ P → (◌≡◌ {A = Result B DecodeError} (Err e) (Err f)) ↔ P
-same_refusal {A} {B} e f h = ((λ k. h.0 (ap (λ x. Err x) (same_error {X = B} e f k))), (λ p. ap (λ x. Err x) (same_error {X = A} e f (h.1 p))))

@@ -108,14 +108,8 @@ pub vex_final : (p : Prefixes) → vex_refusal p ≢ ExhaustedInput
 vex_final p = by (p.operand_size || (p.lock || _))
   where
     by : (test : Bool) → (if test then InvalidPrefixes else IncompleteDecoder) ≢ ExhaustedInput
-    by true e = apart e
-      where
-        apart : InvalidPrefixes ≡ ExhaustedInput → ⊥
-        apart e = cc
-    by false e = apart e
-      where
-        apart : IncompleteDecoder ≡ ExhaustedInput → ⊥
-        apart e = cc
+    by true e = cc
+    by false e = cc
 
 equal : (b n : ℕ) → (b == n) ≡ true → b ≡ n
 equal b n h = grind (arith, nat_tests)
@@ -191,25 +185,13 @@ entry_plain Of3a b h = refl
 
 takes_one : (p : Prefixes) (c : ℕ) (v z : Bool) → v ≡ false → z ≡ false → Takes {X = Map × ℕ} (if v then refuse (vex_refusal p) else (if z then (next_byte >>= λ d. read_escaped d) else pure (One, c))) [] (Ok (One, c))
 takes_one p c false false e f = takes_pure (Ok (One, c))
-takes_one p c true z e f = absurd (apart e)
-  where
-    apart : true ≡ false → ⊥
-    apart e = cc
-takes_one p c false true e f = absurd (apart f)
-  where
-    apart : true ≡ false → ⊥
-    apart e = cc
+takes_one p c true z e f = absurd cc
+takes_one p c false true e f = absurd cc
 
 takes_of : (d : ℕ) (a b : Bool) → a ≡ false → b ≡ false → Takes {X = Map × ℕ} (if a then (next_byte >>= λ x. pure (Of38, x)) else (if b then (next_byte >>= λ x. pure (Of3a, x)) else pure (Of, d))) [] (Ok (Of, d))
 takes_of d false false e f = takes_pure (Ok (Of, d))
-takes_of d true b e f = absurd (apart e)
-  where
-    apart : true ≡ false → ⊥
-    apart e = cc
-takes_of d false true e f = absurd (apart f)
-  where
-    apart : true ≡ false → ⊥
-    apart e = cc
+takes_of d true b e f = absurd cc
+takes_of d false true e f = absurd cc
 
 pub takes_opcode : (p : Prefixes) (map : Map) (b : ℕ) → is_opcode map b ≡ true → Takes (opcode_step p (entry_byte map b)) (entry_rest map b) (Ok (map, b))
 unfolding opcode_step
@@ -226,10 +208,7 @@ takes_vex p c h = by (is_vex c) h
   where
     by : (v : Bool) → v ≡ true → Takes {X = Map × ℕ} (if v then refuse (vex_refusal p) else (if c == 0x0f then (next_byte >>= λ d. read_escaped d) else pure (One, c))) [] (Err (vex_refusal p))
     by true e = takes_pure (Err (vex_refusal p))
-    by false e = absurd (apart e)
-      where
-        apart : false ≡ true → ⊥
-        apart e = cc
+    by false e = absurd cc
 
 pub vex_plain : (c : ℕ) → is_vex c ≡ true → is_prefix c ≡ false
 vex_plain c h = grind (arith, nat_tests)
@@ -249,32 +228,18 @@ pub out_one : (p : Prefixes) → Out (opcode_step p 0x0f) []
 unfolding opcode_step
 out_one p = out_bind next_byte (λ d. read_escaped d) [] out_byte
 
-head_same : {a b : ℕ} {l m : List ℕ} → a ∷ l ≡ b ∷ m → a ≡ b
-head_same e = cc
-
-tail_same : {a b : ℕ} {l m : List ℕ} → a ∷ l ≡ b ∷ m → l ≡ m
-tail_same e = cc
-
-not_nil : {x : ℕ} {l : List ℕ} → ◌≡◌ {A = List ℕ} [] (x ∷ l) → ⊥
-not_nil e = cc
-
-front_one : (x : ℕ) (rest back : List ℕ) (l : List ℕ) → 0x0f ∷ l ≡ (x ∷ rest) ++ back → (x ≡ 0x0f) × (l ≡ rest ++ back)
-front_one x rest back l e = (sym (head_same e), tail_same e)
-
 front_two : (d : ℕ) (front back : List ℕ) → 0x0f ∷ d ∷ [] ≡ front ++ back → ((p : Prefixes) → Out (opcode_step p 0x0f) (d ∷ [])) → EscapeFront front
 front_two d [] back e u = none refl
-front_two d (x ∷ []) back e u = one (ap (λ b. b ∷ []) (front_one x [] back (d ∷ []) e).0)
-front_two d (x ∷ y ∷ []) back e u =
-    let h = front_one x (y ∷ []) back (d ∷ []) e in
-    two d (ap (λ b. b ∷ y ∷ []) h.0 ∙ ap (λ b. 0x0f ∷ b ∷ []) (sym (head_same h.1))) u
-front_two d (x ∷ y ∷ z ∷ rest) back e u =
-    let h = front_one x (y ∷ z ∷ rest) back (d ∷ []) e in absurd (not_nil (tail_same h.1))
+front_two d (x ∷ []) back e u = one (cc)
+front_two d (x ∷ y ∷ []) back e u = two d (cc) u
+front_two d (x ∷ y ∷ z ∷ rest) back e u = absurd cc
 
 pub escape_front : (map : Map) (front back : List ℕ) → escape_bytes map ≡ front ++ back → EscapeFront front
 escape_front One front back e = none (no_front front back e)
 escape_front Of [] back e = none refl
 escape_front Of (x ∷ rest) back e =
-    let h = front_one x rest back [] e in
-    one (ap (λ b. b ∷ rest) h.0 ∙ ap (λ l. 0x0f ∷ l) (no_front rest back h.1))
+    let behind : [] ≡ rest ++ back = cc in
+    let empty = no_front rest back behind in
+    one (cc)
 escape_front Of38 front back e = front_two 0x38 front back e (λ p. out_two p 0x38 (out_bind next_byte (λ b. pure (Of38, b)) [] out_byte))
 escape_front Of3a front back e = front_two 0x3a front back e (λ p. out_two p 0x3a (out_bind next_byte (λ b. pure (Of3a, b)) [] out_byte))

@@ -1,5 +1,5 @@
 -- What the table of leads says of a byte.
-use Rattle.std.proofs.Common.{◌≡◌, ◌==◌, ◌||◌, ℕ, Bool, true, false, if◌then◌else◌, IsTrue, refl}
+use Rattle.std.proofs.Common.{◌≡◌, ◌==◌, ◌||◌, ℕ, Bool, true, false, if◌then◌else◌, refl}
 use Rattle.std.proofs.lemmas.Bool.{eqb-true}
 use Rattle.x86_fields.specs.Run.{is_legacy, is_rex, is_prefix}
 use Rattle.x86_decode.specs.declared.leads.TheConstants.{LEADS}
@@ -42,16 +42,6 @@ prefix_lead b = by (is_vex b) (b == 0x0f) (is_legacy b) (is_rex b) (vex_free b) 
     by false false true r f g = refl
     by false false false true f g = refl
     by false false false false f g = refl
-
-pub rex_lead : (b : ℕ) → lead_of b ≡ Rex → IsTrue (is_rex b)
-rex_lead b h = by (is_vex b) (b == 0x0f) (is_legacy b) (is_rex b) h
-  where
-    by : (v e l r : Bool) → lead_by v e l r ≡ Rex → IsTrue r
-    by true e l r h = cc
-    by false true l r h = cc
-    by false false true r h = cc
-    by false false false true h = refl
-    by false false false false h = cc
 
 pub vex_lead : (b : ℕ) → lead_of b ≡ Vex → is_vex b ≡ true
 vex_lead b h = by (is_vex b) (b == 0x0f) (is_legacy b) (is_rex b) h

@@ -25,7 +25,8 @@ pub fn read_on<T: Reader<u64, u8>>(
     reader: &mut T,
     begin: Prefixes,
 ) -> Result<(Prefixes, u8), DecodeError>
-    ensures { (front : List ℕ) → begin ≡ reading_of front → outcome result (T.state reader.new) ≡ head_from front (T.state reader.old) }
+    ensures { (front : List ℕ) → begin ≡ reading_of front →
+        outcome result (T.state reader.new) ≡ head_from front (T.state reader.old) }
 {
     let mut prefixes = begin;
     'run: loop {
@@ -44,7 +45,8 @@ fn read_rex<T: Reader<u64, u8>>(
     prefixes: &mut Prefixes,
     byte: u8,
 ) -> Result<u8, DecodeError>
-    ensures { (front : List ℕ) → prefixes.old ≡ reading_of front → Headed result prefixes.new (T.state reader.new) (head_at front byte (T.state reader.old)) }
+    ensures { (front : List ℕ) → prefixes.old ≡ reading_of front →
+        Headed result prefixes.new (T.state reader.new) (head_at front byte (T.state reader.old)) }
 {
     match lead_of(byte) {
         Lead::Rex => {
@@ -139,7 +141,8 @@ pub fn read_word<W: Words, T: Reader<u64, u8>>(
     prefixes: &mut Prefixes,
     byte: u8,
 ) -> Result<u64, DecodeError>
-    ensures { then_from result (T.state reader.new) (found_word prefixes.new) ≡ read_word (rows_of (W.word rows.now)) prefixes.old byte (T.state reader.old) }
+    ensures { then_from result (T.state reader.new) (found_word prefixes.new)
+        ≡ read_word (rows_of (W.word rows.now)) prefixes.old byte (T.state reader.old) }
 {
     match lead_of(byte) {
         Lead::Escape => {

@@ -56,7 +56,10 @@ fn read_behind<W: Words, T: Reader<u64, u8>>(
     byte: u8,
 ) -> Result<Rest, DecodeError>
     requires { inst.old.given ≡ no_operands }
-    ensures read { (strict : Bool) → then_from result (T.state reader.new) (rest_step strict inst.new) ≡ behind_step (rows_of (W.word rows.now)) strict inst.old.prefixes byte (T.state reader.old) }
+    ensures read { (strict : Bool) →
+        then_from result (T.state reader.new) (rest_step strict inst.new)
+        ≡ behind_step (rows_of (W.word rows.now)) strict inst.old.prefixes byte
+        (T.state reader.old) }
     ensures blank { IfOk result (λ rest. is_nothing rest ≡ false → inst.new.given ≡ no_operands) }
     ensures form { IfOk result HasForm }
 {
@@ -77,7 +80,9 @@ fn read_by_plan<W: Words, T: Reader<u64, u8>>(
     byte: u8,
 ) -> Result<(), DecodeError>
     requires { inst.old.given ≡ no_operands }
-    ensures { outcome (held result (reading_in inst.new)) (T.state reader.new) ≡ behind_step (rows_of (W.word rows.now)) strict inst.old.prefixes byte (T.state reader.old) }
+    ensures { outcome (held result (reading_in inst.new)) (T.state reader.new)
+        ≡ behind_step (rows_of (W.word rows.now)) strict inst.old.prefixes byte
+        (T.state reader.old) }
 {
     let word = read_word(rows, reader, &mut inst.prefixes, byte)?;
     match unpack(word) {
@@ -97,7 +102,9 @@ fn read_long<W: Words, T: Reader<u64, u8>>(
 ) -> Result<(), DecodeError>
     requires prefix { is_prefix first ≡ true }
     requires blank { inst.old.given ≡ no_operands }
-    ensures { (front : List ℕ) → inst.old.prefixes ≡ reading_of front → outcome (held result (reading_in inst.new)) (T.state reader.new) ≡ long_step (rows_of (W.word rows.now)) strict front first (T.state reader.old) }
+    ensures { (front : List ℕ) → inst.old.prefixes ≡ reading_of front →
+        outcome (held result (reading_in inst.new)) (T.state reader.new)
+        ≡ long_step (rows_of (W.word rows.now)) strict front first (T.state reader.old) }
 {
     let (prefixes, byte) = read_on(reader, inst.prefixes.after(first))?;
     inst.prefixes = prefixes;
@@ -142,7 +149,9 @@ fn read_left<W: Words, T: Reader<u64, u8>>(
     inst: &mut Instruction,
 ) -> Result<(), DecodeError>
     requires { IsReady inst.old left }
-    ensures { (goal : Bool → Outcome Reading) → ComesTo (rows_of (W.word rows.now)) inst.old left (T.state reader.old) goal → outcome (held result (reading_in inst.new)) (T.state reader.new) ≡ goal strict }
+    ensures { (goal : Bool → Outcome Reading)
+        → ComesTo (rows_of (W.word rows.now)) inst.old left (T.state reader.old) goal
+        → outcome (held result (reading_in inst.new)) (T.state reader.new) ≡ goal strict }
 {
     match left {
         Left::Run(byte) => read_long(strict, rows, byte, reader, inst),
@@ -160,7 +169,8 @@ fn walk_within<W: Words, T: Reader<u64, u8>>(
     inst: &mut Instruction,
 ) -> (Result<(), DecodeError>, T)
     requires { inst.old ≡ invalid_instruction }
-    ensures { outcome (held result.0 (reading_in inst.new)) (T.state result.1) ≡ walk_within (rows_of (W.word rows.now)) strict (T.state reader) }
+    ensures { outcome (held result.0 (reading_in inst.new)) (T.state result.1)
+        ≡ walk_within (rows_of (W.word rows.now)) strict (T.state reader) }
 {
     let mut reader = reader;
     match read_front(rows, &mut reader, inst) {
@@ -204,7 +214,8 @@ fn walk_bounded<'a, W: Words, T: Reader<u64, u8>, K: Start>(
     requires marked { (T.state reader.old).since_mark ≡ 0 }
     requires blank { inst.old ≡ invalid_instruction }
     ensures same_reference { result.1.ghost_name ≡ reader.entry.ghost_name }
-    ensures walked { outcome (holding inst.new result.0) (T.state result.1.now) ≡ walk_bounded (rows_of (W.word rows.now)) strict (T.state reader.old) }
+    ensures walked { outcome (holding inst.new result.0) (T.state result.1.now)
+        ≡ walk_bounded (rows_of (W.word rows.now)) strict (T.state reader.old) }
 {
     let bounded: Bounded<'a, T, K> = Bounded {
         reader,
@@ -281,7 +292,8 @@ pub fn walk_into<W: Words, T: Reader<u64, u8>>(
     inst: &mut Instruction,
 ) -> Result<(), DecodeError>
     requires { inst.old ≡ invalid_instruction }
-    ensures { outcome (holding inst.new result) (T.state reader.new) ≡ decode_step (rows_of (W.word rows.now)) strict (T.state reader.old) }
+    ensures { outcome (holding inst.new result) (T.state reader.new)
+        ≡ decode_step (rows_of (W.word rows.now)) strict (T.state reader.old) }
 {
     reader.mark();
     let (result, _back) = walk_bounded::<W, T, Brand>(strict, rows, reader, inst);
@@ -294,7 +306,8 @@ pub fn walk<W: Words, T: Reader<u64, u8>>(
     rows: &W,
     reader: &mut T,
 ) -> Result<Instruction, DecodeError>
-    ensures { outcome result (T.state reader.new) ≡ decode_step (rows_of (W.word rows.now)) strict (T.state reader.old) }
+    ensures { outcome result (T.state reader.new)
+        ≡ decode_step (rows_of (W.word rows.now)) strict (T.state reader.old) }
 {
     let mut inst = Instruction::invalid();
     walk_into(strict, rows, reader, &mut inst)?;

@@ -1,27 +1,44 @@
 -- What holds of the records of all groups.
-use Rattle.std.proofs.Common.{◌≡◌, ◌≢◌, ◌≤◌, ℕ, Bool, true, false, not, ◌||◌, ◌==◌, inl, inr, Some, None, Err, if◌then◌else◌, arith, refl, sym, true≢false}
+use Rattle.std.proofs.Common.{◌≡◌, ◌≢◌, ◌≤◌, ℕ, Bool, true, false, not, ◌||◌, ◌==◌, inl, inr, Some, None, Err, if◌then◌else◌, arith, refl, sym, true≢false, nat_lt, rules}
 use Rattle.std.proofs.lemmas.Bool.Decides.{nat_tests}
 use Rattle.x86_arch.specs.Reader.{State}
 use Rattle.x86_fields.specs.declared.errors.DecodeError.TheVariants.{IncompleteDecoder}
 use Rattle.x86_fields.specs.declared.prefixes.Prefixes.{Prefixes}
 use Rattle.x86_fields.specs.ModRM.{reg_field}
 use Rattle.x86_forms.specs.declared.Form.{Form}
-use Rattle.x86_forms.specs.declared.Form.TheVariants as form
 use Rattle.x86_forms.specs.declared.TableRow.{TableRow}
 use Rattle.x86_forms.specs.Groups.{is_group}
 use Rattle.x86_operands.specs.declared.plans.Fault.TheVariants.{BadOpcode, Incomplete}
 use Rattle.x86_operands.specs.declared.plans.Plan.{Plan}
-use Rattle.x86_groups.specs.Keys.{is_f3_alone, fault_f30f3af0}
+use Rattle.x86_groups.specs.Keys.{is_f3_alone, fault_f30f3af0, plan_f30f38d8, plan_f30f38dc, plan_f30f38dd, plan_f30f38de, plan_f30f38df, plan_f30f38fa, plan_f30f38fb, plan_f30f3af0}
 use Rattle.x86_operands.specs.declared.plans.Moment.{Moment}
 use Rattle.x86_operands.specs.declared.plans.Moment.TheVariants.{AfterAddress}
 use Rattle.x86_operands.specs.declared.plans.Verdict.TheVariants.{Refuses}
 use Rattle.x86_operands.specs.Asks.{immediates_width}
 use Rattle.x86_operands.specs.PlanSteps.{record_step}
 use Rattle.x86_operands.proofs.RowLemmas.{HasGap, row_left_out}
-use Rattle.x86_operands.proofs.PlanTests.{passes, narrow, without_gap, at_most_64, at_most_8}
+use Rattle.x86_operands.proofs.PlanTests.{passes, narrow, without_gap, at_most_64, at_most_8, both, small_steps}
 use Rattle.x86_groups.specs.Vocabulary.{left_out}
 use Rattle.x86_groups.specs.Groups.{group_fault, group_form_plan, two_byte_plan, three_byte_plan, group_record}
-use Rattle.x86_groups.proofs.PlanLemmas.{plan_80_passes, plan_81_passes, plan_83_passes, plan_c0_passes, plan_c1_passes, plan_c6_passes, plan_c7_passes, plan_d0_passes, plan_d1_passes, plan_d2_passes, plan_d3_passes, plan_d8_passes, plan_d9_passes, plan_da_passes, plan_db_passes, plan_dc_passes, plan_dd_passes, plan_de_passes, plan_df_passes, plan_f6_passes, plan_f7_passes, plan_fe_passes, plan_ff_passes, plan_0f00_passes, plan_0f01_passes, plan_0f0d_passes, plan_0f0f_passes, plan_0f12_passes, plan_0f16_passes, plan_0f18_passes, plan_rq_cq_passes, plan_rq_dq_passes, plan_cq_rq_passes, plan_dq_rq_passes, plan_0f71_passes, plan_0f72_passes, plan_0f73_passes, plan_0fae_passes, plan_0fba_passes, plan_0fc7_passes, plan_660f78_passes, plan_f20f78_passes, plan_f30f1e_passes, plan_f30f38d8_passes, plan_f30f38dc_passes, plan_f30f38dd_passes, plan_f30f38de_passes, plan_f30f38df_passes, plan_f30f38fa_passes, plan_f30f38fb_passes, plan_f30f3af0_passes, plan_8f_passes, plan_8f_moment}
+use Rattle.x86_fields.specs.Sizes.{v_class}
+use Rattle.x86_regs.specs.Class.{width_of}
+use Rattle.x86_opcodes.specs.Names.{POP}
+use Rattle.x86_operands.specs.declared.plans.OperandEncoding.TheVariants.{E}
+use Rattle.x86_operands.specs.declared.plans.OperandEncodings.{OperandEncodings}
+use Rattle.x86_operands.specs.declared.plans.OperandEncodings.TheVariants.{One}
+use Rattle.x86_operands.specs.Plans.{reads, refuses, size_by}
+use Rattle.x86_groups.specs.Arithmetic.{plan_80, plan_81, plan_83, plan_c0, plan_c1, plan_d0, plan_d1, plan_d2, plan_d3, plan_f6, plan_f7}
+use Rattle.x86_groups.specs.Operations.{plan_8f, plan_c6, plan_c7, plan_fe, plan_ff}
+use Rattle.x86_groups.specs.System.{plan_0f00, memory_0f01, register_0f01_0, register_0f01_1, register_0f01_2, register_0f01_3, register_0f01_5, register_0f01_7, register_0f01, plan_0f01}
+use Rattle.x86_groups.specs.Hints.{plan_0f0d, plan_0f12, plan_0f16, plan_0f18, plan_f30f1e}
+use Rattle.x86_groups.specs.Fences.{f2_0fae, trace_0fae, f3_0fae, fence, plain_0fae, plan_0fae}
+use Rattle.x86_groups.specs.Bits.{plan_0fba, operand_size_0fc7, f3_0fc7, plain_0fc7, plan_0fc7}
+use Rattle.x86_groups.specs.Shifts.{plan_0f71, plan_0f72, plan_0f73}
+use Rattle.x86_groups.specs.Moves.{plan_rq_cq, plan_cq_rq, plan_rq_dq, plan_dq_rq}
+use Rattle.x86_groups.specs.Extract.{plan_660f78, plan_f20f78}
+use Rattle.x86_groups.specs.ThreeDNow.{plan_0f0f}
+use Rattle.x86_groups.specs.Floats.{plan_d8, memory_d9, constant_d9, function_d9, register_d9, plan_d9, register_da, plan_da, memory_db, control_db, register_db, plan_db, register_dc, plan_dc, memory_dd, register_dd, plan_dd, register_de, plan_de, memory_df, register_df, plan_df}
+use Rattle.x86_forms.specs.declared.Form.TheVariants as form
 
 -- 8F with a reg other than 0
 abbrev pub has_wait : Form → ℕ → Bool
@@ -36,61 +53,102 @@ none_passes : passes true left_out ≡ true
 unfolding passes narrow
 none_passes = refl
 
+refusal_passes : (b : Bool) (x y : Plan) → passes false x ≡ true → nat_lt y.size 65 ≡ true → narrow y.encodings ≡ true → passes (not b) (if b then x else y) ≡ true
+unfolding passes
+refusal_passes true x y h k w = h
+refusal_passes false x y h k w = both (nat_lt y.size 65) (narrow y.encodings) k w
+
+plan_8f_passes : (p : Prefixes) (m : ℕ) → passes (not (reg_field m == 0)) (plan_8f p m) ≡ true
+unfolding plan_8f
+plan_8f_passes p m = search (rules, refusal_passes, small_steps)
+
+refusal_moment : (b : Bool) (o : ℕ) (s : OperandEncodings) (n : ℕ) (w : Moment) → (if b then reads o s n else refuses Incomplete AfterAddress).verdict ≡ Refuses Incomplete w → w ≡ AfterAddress
+refusal_moment true o s n w e = absurd cc
+refusal_moment false o s n w e = cc
+
+plan_8f_moment : (p : Prefixes) (m : ℕ) (w : Moment) → (plan_8f p m).verdict ≡ Refuses Incomplete w → w ≡ AfterAddress
+unfolding plan_8f
+plan_8f_moment p m w e = refusal_moment (reg_field m == 0) POP (One (E (v_class p))) (size_by m (if p.operand_size then width_of (v_class p) else 8) (width_of (v_class p))) w e
+
+f2_0fae_passes : (p : Prefixes) (m : ℕ) → passes false (f2_0fae p m) ≡ true
+unfolding f2_0fae
+f2_0fae_passes p m = search (rules, small_steps) depth 20
+
+trace_0fae_passes : (p : Prefixes) (m : ℕ) → passes false (trace_0fae p m) ≡ true
+unfolding trace_0fae
+trace_0fae_passes p m = search (rules, small_steps) depth 20
+
+f3_0fae_passes : (p : Prefixes) (m : ℕ) → passes false (f3_0fae p m) ≡ true
+unfolding f3_0fae
+f3_0fae_passes p m = search (rules, trace_0fae_passes, small_steps) depth 20
+
+fence_passes : (strict : Bool) (opcode : ℕ) (m : ℕ) → passes false (fence strict opcode m) ≡ true
+unfolding fence
+fence_passes strict opcode m = search (rules, small_steps) depth 20
+
+plain_0fae_passes : (strict : Bool) (m : ℕ) → passes false (plain_0fae strict m) ≡ true
+unfolding plain_0fae
+plain_0fae_passes strict m = search (rules, fence_passes, small_steps) depth 20
+
+plan_0fae_passes : (strict : Bool) (p : Prefixes) (m : ℕ) → passes false (plan_0fae strict p m) ≡ true
+unfolding plan_0fae
+plan_0fae_passes strict p m = search (rules, f2_0fae_passes, f3_0fae_passes, plain_0fae_passes, small_steps) depth 20
+
 -- a line for each group; what the last one covers is no group
 group_passes : (f : Form) (o : ℕ) (strict : Bool) (p : Prefixes) (m : ℕ) → passes (may_wait f m) (group_form_plan f o strict p m) ≡ true
-unfolding group_form_plan two_byte_plan three_byte_plan
-group_passes form.ModRM_0x80 o strict p m = plan_80_passes m
-group_passes form.ModRM_0x81 o strict p m = plan_81_passes p m
-group_passes form.ModRM_0x83 o strict p m = plan_83_passes p m
+unfolding group_form_plan two_byte_plan three_byte_plan plan_80 plan_81 plan_83 plan_c0 plan_c1 plan_d0 plan_d1 plan_d2 plan_d3 plan_f6 plan_f7 plan_8f plan_c6 plan_c7 plan_fe plan_ff plan_0f00 memory_0f01 register_0f01_0 register_0f01_1 register_0f01_2 register_0f01_3 register_0f01_5 register_0f01_7 register_0f01 plan_0f01 plan_0f0d plan_0f12 plan_0f16 plan_0f18 plan_f30f1e plan_0fba operand_size_0fc7 f3_0fc7 plain_0fc7 plan_0fc7 plan_0f71 plan_0f72 plan_0f73 plan_rq_cq plan_cq_rq plan_rq_dq plan_dq_rq plan_660f78 plan_f20f78 plan_f30f38d8 plan_f30f38dc plan_f30f38dd plan_f30f38de plan_f30f38df plan_f30f38fa plan_f30f38fb plan_f30f3af0 plan_0f0f plan_d8 memory_d9 constant_d9 function_d9 register_d9 plan_d9 register_da plan_da memory_db control_db register_db plan_db register_dc plan_dc memory_dd register_dd plan_dd register_de plan_de memory_df register_df plan_df
+group_passes form.ModRM_0x80 o strict p m = search (rules, small_steps) depth 20
+group_passes form.ModRM_0x81 o strict p m = search (rules, small_steps) depth 20
+group_passes form.ModRM_0x83 o strict p m = search (rules, small_steps) depth 20
 group_passes form.ModRM_0x8f o strict p m = plan_8f_passes p m
-group_passes form.ModRM_0xc0 o strict p m = plan_c0_passes m
-group_passes form.ModRM_0xc1 o strict p m = plan_c1_passes p m
-group_passes form.ModRM_0xc6 o strict p m = plan_c6_passes m
-group_passes form.ModRM_0xc7 o strict p m = plan_c7_passes p m
-group_passes form.ModRM_0xd0 o strict p m = plan_d0_passes m
-group_passes form.ModRM_0xd1 o strict p m = plan_d1_passes p m
-group_passes form.ModRM_0xd2 o strict p m = plan_d2_passes m
-group_passes form.ModRM_0xd3 o strict p m = plan_d3_passes p m
-group_passes form.x87_d8 o strict p m = plan_d8_passes m
-group_passes form.x87_d9 o strict p m = plan_d9_passes m
-group_passes form.x87_da o strict p m = plan_da_passes m
-group_passes form.x87_db o strict p m = plan_db_passes m
-group_passes form.x87_dc o strict p m = plan_dc_passes m
-group_passes form.x87_dd o strict p m = plan_dd_passes m
-group_passes form.x87_de o strict p m = plan_de_passes m
-group_passes form.x87_df o strict p m = plan_df_passes m
-group_passes form.ModRM_0xf6 o strict p m = plan_f6_passes m
-group_passes form.ModRM_0xf7 o strict p m = plan_f7_passes p m
-group_passes form.ModRM_0xfe o strict p m = plan_fe_passes m
-group_passes form.ModRM_0xff o strict p m = plan_ff_passes p m
-group_passes form.ModRM_0x0f00 o strict p m = plan_0f00_passes m
-group_passes form.ModRM_0x0f01 o strict p m = plan_0f01_passes p m
-group_passes form.ModRM_0x0f0d o strict p m = plan_0f0d_passes m
-group_passes form.ModRM_0x0f0f o strict p m = plan_0f0f_passes p m
-group_passes form.ModRM_0x0f12 o strict p m = plan_0f12_passes p m
-group_passes form.ModRM_0x0f16 o strict p m = plan_0f16_passes p m
-group_passes form.ModRM_0x0f18 o strict p m = plan_0f18_passes p m
-group_passes form.Rq_Cq_0 o strict p m = plan_rq_cq_passes o p m
-group_passes form.Rq_Dq_0 o strict p m = plan_rq_dq_passes o p m
-group_passes form.Cq_Rq_0 o strict p m = plan_cq_rq_passes o p m
-group_passes form.Dq_Rq_0 o strict p m = plan_dq_rq_passes o p m
-group_passes form.ModRM_0x0f71 o strict p m = plan_0f71_passes p m
-group_passes form.ModRM_0x0f72 o strict p m = plan_0f72_passes p m
-group_passes form.ModRM_0x0f73 o strict p m = plan_0f73_passes p m
+group_passes form.ModRM_0xc0 o strict p m = search (rules, small_steps) depth 20
+group_passes form.ModRM_0xc1 o strict p m = search (rules, small_steps) depth 20
+group_passes form.ModRM_0xc6 o strict p m = search (rules, small_steps) depth 20
+group_passes form.ModRM_0xc7 o strict p m = search (rules, small_steps) depth 20
+group_passes form.ModRM_0xd0 o strict p m = search (rules, small_steps) depth 20
+group_passes form.ModRM_0xd1 o strict p m = search (rules, small_steps) depth 20
+group_passes form.ModRM_0xd2 o strict p m = search (rules, small_steps) depth 20
+group_passes form.ModRM_0xd3 o strict p m = search (rules, small_steps) depth 20
+group_passes form.x87_d8 o strict p m = search (rules, small_steps) depth 20
+group_passes form.x87_d9 o strict p m = search (rules, small_steps) depth 20
+group_passes form.x87_da o strict p m = search (rules, small_steps) depth 20
+group_passes form.x87_db o strict p m = search (rules, small_steps) depth 20
+group_passes form.x87_dc o strict p m = search (rules, small_steps) depth 20
+group_passes form.x87_dd o strict p m = search (rules, small_steps) depth 20
+group_passes form.x87_de o strict p m = search (rules, small_steps) depth 20
+group_passes form.x87_df o strict p m = search (rules, small_steps) depth 20
+group_passes form.ModRM_0xf6 o strict p m = search (rules, small_steps) depth 20
+group_passes form.ModRM_0xf7 o strict p m = search (rules, small_steps) depth 20
+group_passes form.ModRM_0xfe o strict p m = search (rules, small_steps) depth 20
+group_passes form.ModRM_0xff o strict p m = search (rules, small_steps) depth 20
+group_passes form.ModRM_0x0f00 o strict p m = search (rules, small_steps) depth 20
+group_passes form.ModRM_0x0f01 o strict p m = search (rules, small_steps) depth 20
+group_passes form.ModRM_0x0f0d o strict p m = search (rules, small_steps) depth 20
+group_passes form.ModRM_0x0f0f o strict p m = search (rules, small_steps) depth 20
+group_passes form.ModRM_0x0f12 o strict p m = search (rules, small_steps) depth 20
+group_passes form.ModRM_0x0f16 o strict p m = search (rules, small_steps) depth 20
+group_passes form.ModRM_0x0f18 o strict p m = search (rules, small_steps) depth 20
+group_passes form.Rq_Cq_0 o strict p m = search (rules, small_steps) depth 20
+group_passes form.Rq_Dq_0 o strict p m = search (rules, small_steps) depth 20
+group_passes form.Cq_Rq_0 o strict p m = search (rules, small_steps) depth 20
+group_passes form.Dq_Rq_0 o strict p m = search (rules, small_steps) depth 20
+group_passes form.ModRM_0x0f71 o strict p m = search (rules, small_steps) depth 20
+group_passes form.ModRM_0x0f72 o strict p m = search (rules, small_steps) depth 20
+group_passes form.ModRM_0x0f73 o strict p m = search (rules, small_steps) depth 20
 group_passes form.ModRM_0x0fae o strict p m = plan_0fae_passes strict p m
-group_passes form.ModRM_0x0fba o strict p m = plan_0fba_passes p m
-group_passes form.ModRM_0x0fc7 o strict p m = plan_0fc7_passes p m
-group_passes form.ModRM_0x660f78 o strict p m = plan_660f78_passes m
-group_passes form.ModRM_0xf20f78 o strict p m = plan_f20f78_passes m
-group_passes form.ModRM_0xf30f1e o strict p m = plan_f30f1e_passes p m
-group_passes form.ModRM_0xf30f38d8 o strict p m = plan_f30f38d8_passes m
-group_passes form.ModRM_0xf30f38dc o strict p m = plan_f30f38dc_passes p m
-group_passes form.ModRM_0xf30f38dd o strict p m = plan_f30f38dd_passes m
-group_passes form.ModRM_0xf30f38de o strict p m = plan_f30f38de_passes m
-group_passes form.ModRM_0xf30f38df o strict p m = plan_f30f38df_passes m
-group_passes form.ModRM_0xf30f38fa o strict p m = plan_f30f38fa_passes p m
-group_passes form.ModRM_0xf30f38fb o strict p m = plan_f30f38fb_passes p m
-group_passes form.ModRM_0xf30f3af0 o strict p m = plan_f30f3af0_passes m
+group_passes form.ModRM_0x0fba o strict p m = search (rules, small_steps) depth 20
+group_passes form.ModRM_0x0fc7 o strict p m = search (rules, small_steps) depth 20
+group_passes form.ModRM_0x660f78 o strict p m = search (rules, small_steps) depth 20
+group_passes form.ModRM_0xf20f78 o strict p m = search (rules, small_steps) depth 20
+group_passes form.ModRM_0xf30f1e o strict p m = search (rules, small_steps) depth 20
+group_passes form.ModRM_0xf30f38d8 o strict p m = search (rules, small_steps) depth 20
+group_passes form.ModRM_0xf30f38dc o strict p m = search (rules, small_steps) depth 20
+group_passes form.ModRM_0xf30f38dd o strict p m = search (rules, small_steps) depth 20
+group_passes form.ModRM_0xf30f38de o strict p m = search (rules, small_steps) depth 20
+group_passes form.ModRM_0xf30f38df o strict p m = search (rules, small_steps) depth 20
+group_passes form.ModRM_0xf30f38fa o strict p m = search (rules, small_steps) depth 20
+group_passes form.ModRM_0xf30f38fb o strict p m = search (rules, small_steps) depth 20
+group_passes form.ModRM_0xf30f3af0 o strict p m = search (rules, small_steps) depth 20
 group_passes _ o strict p m = none_passes
 
 pub group_small : (strict : Bool) (row : TableRow) (p : Prefixes) (m : ℕ) → ((group_record strict row p).plan m).size ≤ 64

@@ -1,6 +1,5 @@
 -- The lemmas on the plans of the groups, on what they ask, and on the two choices.
 pub mod ChoiceLemmas
-mod PlanLemmas
 pub mod GroupLemmas
 mod AskLemmas
 pub mod RegLemmas

@@ -92,41 +92,35 @@ record Names (f : fields.Fields) (e : Entry) : Type 0 where
   pub has_row : rows_of packed map (column_of (reading_of f.prefixes.items)) f.opcode ≡ Some row
   pub is : e ≡ record { row = row; prefixes = seen_by map f.opcode (reading_of f.prefixes.items) }
 
-no_map : {A : Type 0} (map : Map) → None ≡ Some map → A
-no_map map h = absurd cc
-
 one_byte : (t : Bool) (a : ℕ) (map : Map) → (a == 0x0f) ≡ t → (if t then Some Of else None) ≡ Some map → a ∷ [] ≡ escape_bytes map
 one_byte true a map e h = ap (λ x. x ∷ []) (same_number a 0x0f e) ∙ ap escape_bytes (same_inside Of map h)
-one_byte false a map e h = no_map map h
+one_byte false a map e h = absurd cc
 
 second_byte : (t u : Bool) (b : ℕ) (map : Map) → (b == 0x38) ≡ t → (b == 0x3a) ≡ u → (if t then Some Of38 else (if u then Some Of3a else None)) ≡ Some map → 0x0f ∷ b ∷ [] ≡ escape_bytes map
 second_byte true u b map e k h = ap (λ x. 0x0f ∷ x ∷ []) (same_number b 0x38 e) ∙ ap escape_bytes (same_inside Of38 map h)
 second_byte false true b map e k h = ap (λ x. 0x0f ∷ x ∷ []) (same_number b 0x3a k) ∙ ap escape_bytes (same_inside Of3a map h)
-second_byte false false b map e k h = no_map map h
+second_byte false false b map e k h = absurd cc
 
 two_bytes : (t : Bool) (a b : ℕ) (map : Map) → (a == 0x0f) ≡ t → (if t then (if b == 0x38 then Some Of38 else (if b == 0x3a then Some Of3a else None)) else None) ≡ Some map → a ∷ b ∷ [] ≡ escape_bytes map
 two_bytes true a b map e h = ap (λ x. x ∷ b ∷ []) (same_number a 0x0f e) ∙ second_byte (b == 0x38) (b == 0x3a) b map refl refl h
-two_bytes false a b map e h = no_map map h
+two_bytes false a b map e h = absurd cc
 
 escape_is : (l : List ℕ) (map : Map) → map_named l ≡ Some map → l ≡ escape_bytes map
 escape_is [] map h = ap escape_bytes (same_inside One map h)
 escape_is (a ∷ []) map h = one_byte (a == 0x0f) a map refl h
 escape_is (a ∷ b ∷ []) map h = two_bytes (a == 0x0f) a b map refl h
-escape_is (a ∷ b ∷ c ∷ rest) map h = no_map map h
-
-no_entry : {A : Type 0} (e : Entry) → None ≡ Some e → A
-no_entry e h = absurd cc
+escape_is (a ∷ b ∷ c ∷ rest) map h = absurd cc
 
 row_is : (o : Option TableRow) (q : Prefixes) (e : Entry) → entry_by o q ≡ Some e → (row : TableRow) × (o ≡ Some row) × (e ≡ record { row = row; prefixes = q })
-row_is None q e h = no_entry e h
+row_is None q e h = absurd cc
 row_is (Some row) q e h = (row, refl, sym (same_inside (record { row = row; prefixes = q }) e h))
 
 meant_is : (t : Bool) (o : Option Entry) (e : Entry) → (if t then o else None) ≡ Some e → (t ≡ true) × (o ≡ Some e)
 meant_is true o e h = (refl, h)
-meant_is false o e h = no_entry e h
+meant_is false o e h = absurd cc
 
 names_by : (f : fields.Fields) (e : Entry) (o : Option Map) → map_named f.escape.items ≡ o → entry_at o (reading_of f.prefixes.items) f.opcode ≡ Some e → Names f e
-names_by f e None k h = no_entry e h
+names_by f e None k h = absurd cc
 names_by f e (Some map) k h =
     let p : Prefixes = reading_of f.prefixes.items in
     let x = meant_is (is_opcode map f.opcode) (entry_by (rows_of packed map (column_of p) f.opcode) (seen_by map f.opcode p)) e h in

@@ -49,9 +49,6 @@ either : (a b : Bool) → a ≡ true → (a || b) ≡ true
 either true b h = refl
 either false b h = absurd (let k : false ≡ true = h in cc)
 
-left_false : (a b : Bool) → not a ≡ true → not (a && b) ≡ true
-left_false a b h = grind arith
-
 none_is : {A : Type 0} (o : Option A) → is_none o ≡ true → o ≡ None
 none_is None h = refl
 none_is (Some x) h = absurd (let k : false ≡ true = h in cc)

@@ -73,9 +73,6 @@ address_long p m address raw h =
 
 -- ---- the bytes of raw fields spell them
 
-lowest : (n : ℕ) → from_le_bytes w8 (take 1 (to_le_bytes w32 n)) ≡ n % 256
-lowest n = refl
-
 byte_back : (d : ℤ) → is_byte d ≡ true → cast_signed w8 (cast_unsigned w32 d % 256) ≡ d
 byte_back (pos n) e = let small : n < 128 = grind (arith, nat_tests) in ap (cast_signed w8) (let f : n % 256 ≡ n = omega (arith, small) in f) ∙ to_z_pos w8 n small
 byte_back (negsuc n) e =

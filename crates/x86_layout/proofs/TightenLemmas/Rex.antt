@@ -4,7 +4,7 @@ use Rattle.std.specs.List.{filter, list_any}
 use Rattle.std.proofs.lemmas.Bool.Decides.{nat_tests}
 use Rattle.x86_fields.specs.declared.prefixes.Prefixes.{Prefixes}
 use Rattle.x86_fields.specs.declared.rex.PrefixRex.{PrefixRex}
-use Rattle.x86_fields.specs.Run.{is_legacy, is_rex, is_prefix, is_repeat_byte, is_segment_byte, last, repeat_named, segment_named, rex_bits, rex_named, reading_of}
+use Rattle.x86_fields.specs.Run.{is_legacy, is_rex, is_prefix, is_repeat_byte, is_segment_byte, last, rex_bits, rex_named, reading_of}
 use Rattle.x86_forms.specs.declared.Map.{Map}
 use Rattle.x86_decode.specs.Head.{is_run, clears, column_of, seen_by}
 use Rattle.x86_layout.specs.Tightening.Tighten.{bits_in, byte_with, run_with}
@@ -33,23 +33,25 @@ cleared_by false false byte k e h = refl
 cleared : (x b : Bool) (byte : ℕ) → byte_with false false (byte_with x b byte) ≡ byte_with false false byte
 cleared x b byte = cleared_by (is_rex (byte_with x b byte)) (is_rex byte) byte _ (stays_rex x b byte) (bits_small x b)
 
--- what no REX is, it is not with other bits
-module _ (kind : ℕ → Bool) (no_rex : (n : ℕ) → is_rex n ≡ true → kind n ≡ false) where
-  kind_by : (t : Bool) (byte other : ℕ) → is_rex byte ≡ t → is_rex other ≡ t → (t ≡ false → other ≡ byte) → kind other ≡ kind byte
-  kind_by true byte other e f h = no_rex other f ∙ sym (no_rex byte e)
-  kind_by false byte other e f h = ap kind (h refl)
+stays_by : (t : Bool) (byte k : ℕ) → t ≡ false → (if t then k else byte) ≡ byte
+stays_by true byte k e = absurd cc
+stays_by false byte k e = refl
 
-  stays_by : (t : Bool) (byte k : ℕ) → t ≡ false → (if t then k else byte) ≡ byte
-  stays_by true byte k e = absurd (let f : true ≡ false = e in cc)
-  stays_by false byte k e = refl
+-- what each REX is, it is with other bits
+module _ (kind : ℕ → Bool) (value : Bool) (of_rex : (n : ℕ) → is_rex n ≡ true → kind n ≡ value) where
+  kind_by : (t : Bool) (byte other : ℕ) → is_rex byte ≡ t → is_rex other ≡ t → (t ≡ false → other ≡ byte) → kind other ≡ kind byte
+  kind_by true byte other e f h = of_rex other f ∙ sym (of_rex byte e)
+  kind_by false byte other e f h = ap kind (h refl)
 
   kind_stays : (x b : Bool) (byte : ℕ) → kind (byte_with x b byte) ≡ kind byte
   kind_stays x b byte = kind_by (is_rex byte) byte (byte_with x b byte) refl (stays_rex x b byte) (stays_by (is_rex byte) byte _)
 
+-- what no REX is, it is not with other bits
+module _ (kind : ℕ → Bool) (no_rex : (n : ℕ) → is_rex n ≡ true → kind n ≡ false) where
   any_stays : (x b : Bool) (run : List ℕ) → list_any kind (run_with x b run) ≡ list_any kind run
   unfolding run_with
   any_stays x b [] = refl
-  any_stays x b (byte ∷ []) = ap (λ t. t || false) (kind_stays x b byte)
+  any_stays x b (byte ∷ []) = ap (λ t. t || false) (kind_stays kind false no_rex x b byte)
   any_stays x b (byte ∷ next ∷ rest) = ap (λ t. kind byte || t) (any_stays x b (next ∷ rest))
 
   same_by : (t : Bool) (byte other : ℕ) → kind byte ≡ t → kind other ≡ t → (is_rex byte ≡ false → other ≡ byte) → (if kind other then other ∷ [] else []) ≡ (if kind byte then byte ∷ [] else [])
@@ -63,23 +65,8 @@ module _ (kind : ℕ → Bool) (no_rex : (n : ℕ) → is_rex n ≡ true → kin
   filter_stays : (x b : Bool) (run : List ℕ) → filter kind (run_with x b run) ≡ filter kind run
   unfolding run_with
   filter_stays x b [] = refl
-  filter_stays x b (byte ∷ []) = same_by (kind byte) byte (byte_with x b byte) refl (kind_stays x b byte) (stays_by (is_rex byte) byte _)
+  filter_stays x b (byte ∷ []) = same_by (kind byte) byte (byte_with x b byte) refl (kind_stays kind false no_rex x b byte) (stays_by (is_rex byte) byte _)
   filter_stays x b (byte ∷ next ∷ rest) = ap (λ l. if kind byte then byte ∷ l else l) (filter_stays x b (next ∷ rest))
-
-no_66 : (n : ℕ) → is_rex n ≡ true → (n == 0x66) ≡ false
-no_66 n h = grind (arith, nat_tests)
-
-no_67 : (n : ℕ) → is_rex n ≡ true → (n == 0x67) ≡ false
-no_67 n h = grind (arith, nat_tests)
-
-no_f0 : (n : ℕ) → is_rex n ≡ true → (n == 0xf0) ≡ false
-no_f0 n h = grind (arith, nat_tests)
-
-no_repeat : (n : ℕ) → is_rex n ≡ true → is_repeat_byte n ≡ false
-no_repeat n h = grind (arith, nat_tests)
-
-no_segment : (n : ℕ) → is_rex n ≡ true → is_segment_byte n ≡ false
-no_segment n h = grind (arith, nat_tests)
 
 -- ---- the bits
 
@@ -125,35 +112,18 @@ rex_stays x b (byte ∷ next ∷ rest) = ap rex_named (last_behind x b byte next
 
 pub reading_is : (x b : Bool) (run : List ℕ) → reading_of (run_with x b run) ≡ record (reading_of run) { rex = bits_in x b (reading_of run).rex }
 reading_is x b run =
-    let at = run_with x b run in
-    let first = any_stays (λ n. n == 0x66) no_66 x b run in
-    let second = any_stays (λ n. n == 0x67) no_67 x b run in
-    let third = any_stays (λ n. n == 0xf0) no_f0 x b run in
-    let fourth = ap (λ l. repeat_named (last l)) (filter_stays is_repeat_byte no_repeat x b run) in
-    let fifth = ap (λ l. segment_named (last l)) (filter_stays is_segment_byte no_segment x b run) in
-    let sixth = rex_stays x b run in
-    let a = reading_of at in
-    let c = reading_of run in
-    ap (λ t. record a { operand_size = t }) first
-    ∙ ap (λ t. record a { operand_size = c.operand_size; address_size = t }) second
-    ∙ ap (λ t. record a { operand_size = c.operand_size; address_size = c.address_size; lock = t }) third
-    ∙ ap (λ t. record a { operand_size = c.operand_size; address_size = c.address_size; lock = c.lock; repeat = t }) fourth
-    ∙ ap (λ t. record a { operand_size = c.operand_size; address_size = c.address_size; lock = c.lock; repeat = c.repeat; segment = t }) fifth
-    ∙ ap (λ t. record c { rex = t }) sixth
+    let first = any_stays (λ n. n == 0x66) (λ n h. grind (arith, nat_tests)) x b run in
+    let second = any_stays (λ n. n == 0x67) (λ n h. grind (arith, nat_tests)) x b run in
+    let third = any_stays (λ n. n == 0xf0) (λ n h. grind (arith, nat_tests)) x b run in
+    let fourth = filter_stays is_repeat_byte (λ n h. grind (arith, nat_tests)) x b run in
+    let fifth = filter_stays is_segment_byte (λ n h. grind (arith, nat_tests)) x b run in
+    rw (first, second, third, fourth, fifth, rex_stays x b run) refl
 
-prefix_stays_by : (t : Bool) (byte other : ℕ) → is_rex byte ≡ t → is_rex other ≡ t → (t ≡ false → other ≡ byte) → is_prefix other ≡ is_prefix byte
-prefix_stays_by true byte other e f h = either (is_legacy other) (is_rex other) f ∙ sym (either (is_legacy byte) (is_rex byte) e)
-  where
-    either : (a b : Bool) → b ≡ true → (a || b) ≡ true
-    either a b g = grind arith
-prefix_stays_by false byte other e f h = ap is_prefix (h refl)
+either : (a b : Bool) → b ≡ true → (a || b) ≡ true
+either a b h = grind arith
 
 prefix_stays : (x b : Bool) (byte : ℕ) → is_prefix (byte_with x b byte) ≡ is_prefix byte
-prefix_stays x b byte = prefix_stays_by (is_rex byte) byte (byte_with x b byte) refl (stays_rex x b byte) (by (is_rex byte))
-  where
-    by : (t : Bool) → t ≡ false → (if t then (byte / 4) * 4 + ((if x then 2 else 0) + (if b then 1 else 0)) else byte) ≡ byte
-    by true e = absurd (let f : true ≡ false = e in cc)
-    by false e = refl
+prefix_stays x b byte = kind_stays is_prefix true (λ n h. either (is_legacy n) (is_rex n) h) x b byte
 
 pub run_stays : (x b : Bool) (run : List ℕ) → is_run (run_with x b run) ≡ is_run run
 unfolding run_with
@@ -196,19 +166,15 @@ seen_if : (t : Bool) (p : Prefixes) (rex : Option PrefixRex) → (if t then reco
 seen_if true p rex = refl
 seen_if false p rex = refl
 
+same_if : {X : Type 0} (f : Prefixes → X) (t : Bool) (p q : Prefixes) → f q ≡ f p → f (if t then q else p) ≡ f p
+same_if f true p q e = e
+same_if f false p q e = refl
+
 pub seen_rex : (m : Map) (opcode : ℕ) (p : Prefixes) → (seen_by m opcode p).rex ≡ p.rex
-seen_rex m opcode p = by (clears m (column_of p) opcode)
-  where
-    by : (t : Bool) → (if t then record p { operand_size = false } else p).rex ≡ p.rex
-    by true = refl
-    by false = refl
+seen_rex m opcode p = same_if (λ q. q.rex) (clears m (column_of p) opcode) p _ refl
 
 pub seen_67 : (m : Map) (opcode : ℕ) (p : Prefixes) → (seen_by m opcode p).address_size ≡ p.address_size
-seen_67 m opcode p = by (clears m (column_of p) opcode)
-  where
-    by : (t : Bool) → (if t then record p { operand_size = false } else p).address_size ≡ p.address_size
-    by true = refl
-    by false = refl
+seen_67 m opcode p = same_if (λ q. q.address_size) (clears m (column_of p) opcode) p _ refl
 
 pub seen_with : (m : Map) (opcode : ℕ) (x b : Bool) (run : List ℕ) → seen_by m opcode (reading_of (run_with x b run)) ≡ record (seen_by m opcode (reading_of run)) { rex = bits_in x b (seen_by m opcode (reading_of run)).rex }
 seen_with m opcode x b run =

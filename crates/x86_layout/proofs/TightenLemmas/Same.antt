@@ -16,7 +16,6 @@ use Rattle.x86_fields.specs.Sizes.{register_of}
 use Rattle.x86_fields.specs.Linear.{Linear, raw_form, value_at, IsSameAddress, IsReduced, IsRegFile, AgreeEverywhere}
 use Rattle.x86_forms.specs.declared.Map.{Map}
 use Rattle.x86_forms.specs.declared.Map.TheVariants.{One, Of, Of38, Of3a}
-use Rattle.x86_forms.specs.declared.TableRow.{TableRow}
 use Rattle.x86_forms.specs.Words.{rows_of, packed}
 use Rattle.x86_operands.specs.declared.operands.Slot.{Slot}
 use Rattle.x86_operands.specs.declared.operands.Slot.TheVariants as slots
@@ -78,9 +77,6 @@ module _ (p q : Prefixes) (alike : cleared q ≡ cleared p) where
   same_mark change = mark_by change q ∙ ap (changed change) alike ∙ sym (mark_by change p)
 
 -- ---- the operands
-
-number_in : {k l : ℕ} → Some k ≡ Some l → k ≡ l
-number_in e = cc
 
 abbrev mm : ℕ → RegSpec
 mm n = record { num = n; class = MM }
@@ -168,7 +164,7 @@ module _ (from to : Raw) where
           let third : SpellsOperands (list_of plan.encodings) q n (Some to) x.immediates y.given = subst (λ o. SpellsOperands (list_of plan.encodings) q n (Some to) o y.given) immediates second in
           let pairs : AlikePairs x.given y.given = pairs_alike p q m n alike register (list_of plan.encodings) x.immediates x.given y.given spelled third in
           let named : Some g.opcode ≡ Some h.opcode = sym g.named ∙ ap (λ o. opcode_by o.verdict o.opcode y.suffix) planned ∙ ap (opcode_by plan.verdict plan.opcode) suffix ∙ h.named in
-          let opcode : g.opcode ≡ h.opcode = number_in named in
+          let opcode : g.opcode ≡ h.opcode = cc in
           let gives : b ≡ reading_from plan q h.opcode (four_of y.given) = g.gives ∙ ap (λ o. reading_from o q g.opcode (four_of y.given)) planned ∙ ap (λ o. reading_from plan q o (four_of y.given)) opcode in
           same_moved _ _ (instruction_of a k) (instruction_of b l) (ap (λ r. instruction_of r k) h.gives) (ap (λ r. instruction_of r l) gives) (built plan h.opcode k l x.given y.given pairs)
 
@@ -182,9 +178,6 @@ one_map Of3a Of3a e = refl
 one_map Of38 Of3a e = absurd (let k : 0x38 ≡ 0x3a = ap (λ l. slice_index_or l 1 0) e in omega (arith, k))
 one_map Of3a Of38 e = absurd (let k : 0x3a ≡ 0x38 = ap (λ l. slice_index_or l 1 0) e in omega (arith, k))
 one_map f g e = absurd (omega (arith, ap length e))
-
-same_row : {f g : TableRow} → Some f ≡ Some g → f ≡ g
-same_row e = cc
 
 module _ (strict : Bool) (s : List ℕ) (a : Reading) (v : Encoding strict s a) (t : List ℕ) (b : Reading) (w : Encoding strict t b) (rel : IsRelative strict s a v t b w) where
   abbrev From : Raw
@@ -218,14 +211,7 @@ module _ (strict : Bool) (s : List ℕ) (a : Reading) (v : Encoding strict s a) 
   column_is = sym (column_stays false false w.run) ∙ ap (λ l. column_of (reading_of l)) rel.parts.prefixes ∙ column_stays false false v.run
 
   row_is : w.row ≡ v.row
-  row_is =
-      let column = column_of (reading_of v.run) in
-      same_row (
-      sym w.has_row
-      ∙ ap (λ c. rows_of packed w.map c w.opcode) column_is
-      ∙ ap (λ f. rows_of packed f column w.opcode) map_is
-      ∙ ap (rows_of packed v.map column) rel.parts.opcode
-      ∙ v.has_row)
+  row_is = cc (w.has_row, v.has_row, column_is, map_is, rel.parts.opcode)
 
   seen_is : cleared New ≡ cleared Old
   seen_is =

@@ -23,10 +23,6 @@ use Rattle.x86_layout.proofs.TightenLemmas.Raw.{least, first_of_three, second_of
 abbrev Stands : AddressRegisters → Type 0
 Stands at = IsBelow16 at.base × IsIndex at.index
 
-index_below : (i : Option ℕ) → IsIndex i → IsBelow16 i
-index_below None h = tt
-index_below (Some i) h = h.0
-
 -- a base that asks a displacement may be an index
 asks_is_index : (b : ℕ) → b < 16 → (field_bits b == 5) ≡ true → IsIndex (Some b)
 asks_is_index b h e = (h, λ f. grind (arith, nat_tests))

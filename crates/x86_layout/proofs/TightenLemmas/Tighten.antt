@@ -62,11 +62,8 @@ module _ (strict : Bool) (s : List ℕ) (a : Reading) (v : Encoding strict s a) 
     form = e;
   }
 
-  none_some : {x : Raw} → None ≡ Some x → ⊥
-  none_some e = cc
-
   pub no_operand : is_memory (Byte strict s a v) ≡ false → HasMemoryOperand strict s a v → ⊥
-  no_operand e o = none_some (sym (no_memory e) ∙ o.read)
+  no_operand e o = let none : None ≡ Some o.raw = sym (no_memory e) ∙ o.read in cc
 
   -- the parts by the head and the tail
   pub has_parts : (head : Head) (parts : Parts) → IsHead strict s a v head → parts.prefixes.now ≡ head.prefixes.now → parts.escape.now ≡ head.escape.now → parts.opcode.now ≡ head.opcode.now → IsTail (Row strict s a v) (Seen strict s a v) v.tail a v.asked parts → HasParts strict s a v (lists_of parts)
@@ -114,13 +111,7 @@ module _ (strict : Bool) (s : List ℕ) (a : Reading) (v : Encoding strict s a) 
         let x : in'.rex_x ≡ has_x p = ap has_x prefixes_is ∙ ap (live_bit (λ r. r.x)) (sym (seen_rex v.map v.opcode (reading_of v.run))) in
         let short : in'.address_size ≡ p.address_size = ap (λ q. q.address_size) prefixes_is ∙ sym (seen_67 v.map v.opcode (reading_of v.run)) in
         let m : in'.modrm ≡ Byte strict s a v = ap (λ l. slice_index l 0) (h.modrm ∙ byte strict s a v raw read) in
-        ap (λ t. record in' { rex_b = t }) b
-        ∙ ap (λ t. record in' { rex_b = has_b p; rex_x = t }) x
-        ∙ ap (λ t. record in' { rex_b = has_b p; rex_x = has_x p; address_size = t }) short
-        ∙ ap (λ n. record in' { rex_b = has_b p; rex_x = has_x p; address_size = p.address_size; modrm = n }) m
-        ∙ ap (λ o. record in' { rex_b = has_b p; rex_x = has_x p; address_size = p.address_size; modrm = Byte strict s a v; sib = o }) sib_is
-        ∙ ap (λ d. record in' { rex_b = has_b p; rex_x = has_x p; address_size = p.address_size; modrm = Byte strict s a v; sib = (spelled).sib; disp = d }) disp_is
-        ∙ sym (spelled).fields
+        rw (b, x, short, m, sib_is, disp_is) (sym (spelled).fields)
 
   module _ (raw : Raw) (read : v.asked.behind.pieces.memory ≡ Some raw) (parts : Parts) (h : HasParts strict s a v (lists_of parts)) where
     module _ (fit : IsOfBytes raw) where

@@ -18,9 +18,6 @@ only_there b n r e = grind (arith, nat_tests)
 there : (b n r : ℕ) → 0 < part_weight (Some b) n r → b ≡ r
 there b n r h = grind (arith, nat_tests)
 
-none_of : (n r : ℕ) → part_weight None n r ≡ 0
-none_of n r = refl
-
 some_times : (s : Scale) → 0 < times s
 some_times One = omega arith
 some_times Two = omega arith

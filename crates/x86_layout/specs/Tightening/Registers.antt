@@ -56,11 +56,6 @@ abbrev pub IsIndex : Option ℕ → Type 0
 IsIndex None = Unit {0}
 IsIndex (Some n) = (n < 16) × (n ≢ 4)
 
--- These are registers that may stand there.
-pub record MayStand (at : AddressRegisters) : Type 0 where
-  pub base : IsBelow16 at.base
-  pub index : IsIndex at.index
-
 -- a byte, where there is one
 abbrev pub IsByteOption : Option ℕ → Type 0
 IsByteOption None = Unit {0}

@@ -1,109 +1,24 @@
-use Rattle.std.proofs.Common.{rules, ◌≡◌, Ok, Err}
+use Rattle.std.proofs.Common.{rules, ◌≡◌, Result, Ok, Err}
+use Rattle.x86_fields.specs.declared.errors.DecodeError.{DecodeError}
 use Rattle.x86_forms.specs.Words.{rows_of, packed}
+use Rattle.x86_decode.specs.declared.instructions.Instruction.{Instruction}
 use Rattle.x86_decode.specs.Answer.{answer_of, count_of}
 use Rattle.x86_decode.proofs.PrintedLemmas.{printed_answer}
-use Rattle.x86_decode.proofs.CauseLemmas.{accepted, exhausted, opcode_faulted, operand_faulted, prefixes_faulted, too_long, left_out}
-use Rattle.x86_decode.proofs.SentenceLemmas.{answer_tied}
+use Rattle.x86_decode.proofs.DecodeLemmas.{answers}
 use Rattle.x86_decode.proofs.InstDecoder.decode_slice.Goals as goal
 
-pub returns-in-Ok-clause-answer : goal.returns-in-Ok-clause-answer
-returns-in-Ok-clause-answer c =
-    let v : (Ok c.walk_slice.new.inst) ≡ answer_of c.args.self.now.strict c.args.bytes.now = search rules in
-    let a = printed_answer c.args.self.now.strict c.args.bytes.now (Ok c.walk_slice.new.inst) v in
-    a
+pub returns-in-Ok : goal.returns-in-Ok
+returns-in-Ok c =
+    let strict = c.args.self.now.strict in
+    let bytes = c.args.bytes.now in
+    let r : Result Instruction DecodeError = Ok c.walk_slice.new.inst in
+    let v : r ≡ answer_of strict bytes = search rules in
+    record { answers = answers (rows_of packed) strict bytes r (count_of strict bytes) (printed_answer strict bytes r v); value = v }
 
-pub returns-in-Ok-clause-accepted : goal.returns-in-Ok-clause-accepted
-returns-in-Ok-clause-accepted c =
-    let v : (Ok c.walk_slice.new.inst) ≡ answer_of c.args.self.now.strict c.args.bytes.now = search rules in
-    let a = printed_answer c.args.self.now.strict c.args.bytes.now (Ok c.walk_slice.new.inst) v in
-    accepted (rows_of packed) c.args.self.now.strict c.args.bytes.now (Ok c.walk_slice.new.inst) (count_of c.args.self.now.strict c.args.bytes.now) a
-
-pub returns-in-Ok-clause-exhausted : goal.returns-in-Ok-clause-exhausted
-returns-in-Ok-clause-exhausted c =
-    let v : (Ok c.walk_slice.new.inst) ≡ answer_of c.args.self.now.strict c.args.bytes.now = search rules in
-    let a = printed_answer c.args.self.now.strict c.args.bytes.now (Ok c.walk_slice.new.inst) v in
-    exhausted (rows_of packed) c.args.self.now.strict c.args.bytes.now (Ok c.walk_slice.new.inst) (count_of c.args.self.now.strict c.args.bytes.now) a
-
-pub returns-in-Ok-clause-invalid_opcode : goal.returns-in-Ok-clause-invalid_opcode
-returns-in-Ok-clause-invalid_opcode c =
-    let v : (Ok c.walk_slice.new.inst) ≡ answer_of c.args.self.now.strict c.args.bytes.now = search rules in
-    let a = printed_answer c.args.self.now.strict c.args.bytes.now (Ok c.walk_slice.new.inst) v in
-    opcode_faulted (rows_of packed) c.args.self.now.strict c.args.bytes.now (Ok c.walk_slice.new.inst) (count_of c.args.self.now.strict c.args.bytes.now) a
-
-pub returns-in-Ok-clause-invalid_operand : goal.returns-in-Ok-clause-invalid_operand
-returns-in-Ok-clause-invalid_operand c =
-    let v : (Ok c.walk_slice.new.inst) ≡ answer_of c.args.self.now.strict c.args.bytes.now = search rules in
-    let a = printed_answer c.args.self.now.strict c.args.bytes.now (Ok c.walk_slice.new.inst) v in
-    operand_faulted (rows_of packed) c.args.self.now.strict c.args.bytes.now (Ok c.walk_slice.new.inst) (count_of c.args.self.now.strict c.args.bytes.now) a
-
-pub returns-in-Ok-clause-invalid_prefixes : goal.returns-in-Ok-clause-invalid_prefixes
-returns-in-Ok-clause-invalid_prefixes c =
-    let v : (Ok c.walk_slice.new.inst) ≡ answer_of c.args.self.now.strict c.args.bytes.now = search rules in
-    let a = printed_answer c.args.self.now.strict c.args.bytes.now (Ok c.walk_slice.new.inst) v in
-    prefixes_faulted (rows_of packed) c.args.self.now.strict c.args.bytes.now (Ok c.walk_slice.new.inst) (count_of c.args.self.now.strict c.args.bytes.now) a
-
-pub returns-in-Ok-clause-too_long : goal.returns-in-Ok-clause-too_long
-returns-in-Ok-clause-too_long c =
-    let v : (Ok c.walk_slice.new.inst) ≡ answer_of c.args.self.now.strict c.args.bytes.now = search rules in
-    let a = printed_answer c.args.self.now.strict c.args.bytes.now (Ok c.walk_slice.new.inst) v in
-    too_long (rows_of packed) c.args.self.now.strict c.args.bytes.now (Ok c.walk_slice.new.inst) (count_of c.args.self.now.strict c.args.bytes.now) a
-
-pub returns-in-Ok-clause-incomplete : goal.returns-in-Ok-clause-incomplete
-returns-in-Ok-clause-incomplete c =
-    let v : (Ok c.walk_slice.new.inst) ≡ answer_of c.args.self.now.strict c.args.bytes.now = search rules in
-    let a = printed_answer c.args.self.now.strict c.args.bytes.now (Ok c.walk_slice.new.inst) v in
-    left_out (rows_of packed) c.args.self.now.strict c.args.bytes.now (Ok c.walk_slice.new.inst) (count_of c.args.self.now.strict c.args.bytes.now) a
-
-pub returns-in-Ok-clause-tied : goal.returns-in-Ok-clause-tied
-returns-in-Ok-clause-tied c =
-    let v : (Ok c.walk_slice.new.inst) ≡ answer_of c.args.self.now.strict c.args.bytes.now = search rules in
-    let a = printed_answer c.args.self.now.strict c.args.bytes.now (Ok c.walk_slice.new.inst) v in
-    answer_tied (rows_of packed) c.args.self.now.strict c.args.bytes.now (Ok c.walk_slice.new.inst) (count_of c.args.self.now.strict c.args.bytes.now) a
-
-pub returns-in-Err-clause-answer : goal.returns-in-Err-clause-answer
-returns-in-Err-clause-answer c =
-    let v : (Err c.in-Err.error) ≡ answer_of c.args.self.now.strict c.args.bytes.now = search rules in
-    let a = printed_answer c.args.self.now.strict c.args.bytes.now (Err c.in-Err.error) v in
-    a
-
-pub returns-in-Err-clause-accepted : goal.returns-in-Err-clause-accepted
-returns-in-Err-clause-accepted c =
-    let v : (Err c.in-Err.error) ≡ answer_of c.args.self.now.strict c.args.bytes.now = search rules in
-    let a = printed_answer c.args.self.now.strict c.args.bytes.now (Err c.in-Err.error) v in
-    accepted (rows_of packed) c.args.self.now.strict c.args.bytes.now (Err c.in-Err.error) (count_of c.args.self.now.strict c.args.bytes.now) a
-
-pub returns-in-Err-clause-exhausted : goal.returns-in-Err-clause-exhausted
-returns-in-Err-clause-exhausted c =
-    let v : (Err c.in-Err.error) ≡ answer_of c.args.self.now.strict c.args.bytes.now = search rules in
-    let a = printed_answer c.args.self.now.strict c.args.bytes.now (Err c.in-Err.error) v in
-    exhausted (rows_of packed) c.args.self.now.strict c.args.bytes.now (Err c.in-Err.error) (count_of c.args.self.now.strict c.args.bytes.now) a
-
-pub returns-in-Err-clause-invalid_opcode : goal.returns-in-Err-clause-invalid_opcode
-returns-in-Err-clause-invalid_opcode c =
-    let v : (Err c.in-Err.error) ≡ answer_of c.args.self.now.strict c.args.bytes.now = search rules in
-    let a = printed_answer c.args.self.now.strict c.args.bytes.now (Err c.in-Err.error) v in
-    opcode_faulted (rows_of packed) c.args.self.now.strict c.args.bytes.now (Err c.in-Err.error) (count_of c.args.self.now.strict c.args.bytes.now) a
-
-pub returns-in-Err-clause-invalid_operand : goal.returns-in-Err-clause-invalid_operand
-returns-in-Err-clause-invalid_operand c =
-    let v : (Err c.in-Err.error) ≡ answer_of c.args.self.now.strict c.args.bytes.now = search rules in
-    let a = printed_answer c.args.self.now.strict c.args.bytes.now (Err c.in-Err.error) v in
-    operand_faulted (rows_of packed) c.args.self.now.strict c.args.bytes.now (Err c.in-Err.error) (count_of c.args.self.now.strict c.args.bytes.now) a
-
-pub returns-in-Err-clause-invalid_prefixes : goal.returns-in-Err-clause-invalid_prefixes
-returns-in-Err-clause-invalid_prefixes c =
-    let v : (Err c.in-Err.error) ≡ answer_of c.args.self.now.strict c.args.bytes.now = search rules in
-    let a = printed_answer c.args.self.now.strict c.args.bytes.now (Err c.in-Err.error) v in
-    prefixes_faulted (rows_of packed) c.args.self.now.strict c.args.bytes.now (Err c.in-Err.error) (count_of c.args.self.now.strict c.args.bytes.now) a
-
-pub returns-in-Err-clause-too_long : goal.returns-in-Err-clause-too_long
-returns-in-Err-clause-too_long c =
-    let v : (Err c.in-Err.error) ≡ answer_of c.args.self.now.strict c.args.bytes.now = search rules in
-    let a = printed_answer c.args.self.now.strict c.args.bytes.now (Err c.in-Err.error) v in
-    too_long (rows_of packed) c.args.self.now.strict c.args.bytes.now (Err c.in-Err.error) (count_of c.args.self.now.strict c.args.bytes.now) a
-
-pub returns-in-Err-clause-incomplete : goal.returns-in-Err-clause-incomplete
-returns-in-Err-clause-incomplete c =
-    let v : (Err c.in-Err.error) ≡ answer_of c.args.self.now.strict c.args.bytes.now = search rules in
-    let a = printed_answer c.args.self.now.strict c.args.bytes.now (Err c.in-Err.error) v in
-    left_out (rows_of packed) c.args.self.now.strict c.args.bytes.now (Err c.in-Err.error) (count_of c.args.self.now.strict c.args.bytes.now) a
+pub returns-in-Err : goal.returns-in-Err
+returns-in-Err c =
+    let strict = c.args.self.now.strict in
+    let bytes = c.args.bytes.now in
+    let r : Result Instruction DecodeError = Err c.in-Err.error in
+    let v : r ≡ answer_of strict bytes = search rules in
+    record { answers = answers (rows_of packed) strict bytes r (count_of strict bytes) (printed_answer strict bytes r v); value = v }

@@ -1,31 +1,31 @@
-use Rattle.std.proofs.Common.{true, Some, ◌≡◌, ℕ, zero, suc, Bool, List, [], ◌∷◌, slice_index, sym, ap, ◌∙◌, arith, Fits, w8}
+use Rattle.std.proofs.Common.{true, Some, ◌≡◌, ℕ, Bool, List, slice_index, sym, ap, ◌∙◌}
 use Rattle.std.specs.List.{list_all}
 use Rattle.x86_fields.specs.declared.prefixes.Prefixes.{Prefixes}
+use Rattle.x86_fields.specs.declared.raw.Raw.{Raw}
 use Rattle.x86_fields.specs.Run.{is_prefix}
 use Rattle.x86_operands.specs.declared.reader.Reading.{Reading}
 use Rattle.x86_operands.specs.Plans.{RowRecord}
 use Rattle.x86_operands.specs.Pieces.{SpellsRow}
 use Rattle.x86_operands.specs.Asks.{ask_of}
-use Rattle.x86_decode.proofs.ByteLemmas.{Bytes}
 use Rattle.x86_layout.specs.declared.parts.heads.Head.{Head}
 use Rattle.x86_layout.specs.declared.parts.split.Parts.{Parts}
 use Rattle.x86_layout.specs.Parts.Heads.{IsHead, IsTail}
 use Rattle.x86_layout.specs.Parts.Split.{Encoding, HasParts, lists_of}
-use Rattle.x86_layout.specs.Tightening.Registers.{is_ip_relative}
+use Rattle.x86_layout.specs.Tightening.Tighten.{raw_of}
 use Rattle.x86_layout.proofs.TightenLemmas.Relative.{Seen, Row}
 use Rattle.x86_layout.proofs.TightenLemmas.Least.{least_without, least_at_ip}
 use Rattle.x86_layout.proofs.TightenLemmas.Tighten.{asks_memory, no_operand, operand_form, some_memory, has_parts, raw_is}
 use Rattle.x86_layout.proofs.tightening.tighten.addressed_in.Goals as goal
 
-bytes_at : (l : List ℕ) → ((i : ℕ) → Fits w8 (slice_index l i)) → Bytes l
-bytes_at [] h = tt
-bytes_at (b ∷ l) h = (let f : Fits w8 b = h zero in omega (arith, f), bytes_at l (λ i. h (suc i)))
-
 abbrev Tails : Head → Parts → Type 0
 Tails head parts = (r : RowRecord) (p : Prefixes) (reading : Reading) (tail : List ℕ) → head.tail.now ≡ tail → head.ask ≡ ask_of r (slice_index tail 0) → (a : SpellsRow r p tail reading) → IsTail r p tail reading a parts
 
-parts_are : (strict : Bool) (s : List ℕ) (a : Reading) (v : Encoding strict s a) (head : Head) (parts : Parts) → IsHead strict s a v head → parts.prefixes.now ≡ head.prefixes.now → parts.escape.now ≡ head.escape.now → parts.opcode.now ≡ head.opcode.now → Tails head parts → HasParts strict s a v (lists_of parts)
-parts_are strict s a v head parts h prefixes escape opcode tails = has_parts strict s a v head parts h prefixes escape opcode (tails (Row strict s a v) (Seen strict s a v) a v.tail h.tail h.ask v.asked)
+-- A sentence whose head asks a memory form: its parts are these, and the raw fields of the parts are its own.
+known : (strict : Bool) (s : List ℕ) (a : Reading) (v : Encoding strict s a) (head : Head) (parts : Parts) (raw : Raw) → IsHead strict s a v head → parts.prefixes.now ≡ head.prefixes.now → parts.escape.now ≡ head.escape.now → parts.opcode.now ≡ head.opcode.now → Tails head parts → raw ≡ raw_of (lists_of parts) → head.ask.memory ≡ true → HasParts strict s a v (lists_of parts) × (v.asked.behind.pieces.memory ≡ Some raw)
+known strict s a v head parts raw h prefixes escape opcode tails fields asked =
+    let has = has_parts strict s a v head parts h prefixes escape opcode (tails (Row strict s a v) (Seen strict s a v) a v.tail h.tail h.ask v.asked) in
+    let some = some_memory strict s a v (sym (asks_memory strict s a v head h) ∙ asked) in
+    (has, some.1 ∙ ap Some (sym (fields ∙ raw_is strict s a v some.0 some.1 (lists_of parts) has)))
 
 pub returns-then-not-head-clause-raw : goal.returns-then-not-head-clause-raw
 returns-then-not-head-clause-raw c = λ strict a is.
@@ -48,35 +48,20 @@ raw_in-raw-requires c =
 pub returns-then-is_ip_relative-clause-raw : goal.returns-then-is_ip_relative-clause-raw
 returns-then-is_ip_relative-clause-raw c = λ strict a is.
     let s = c.args.encoding.now in
-    let head = c.head_of-head.result in
-    let parts = c.parts_behind-parts.result in
     let tie = c.parts_behind-parts.ensures in
-    let h = c.head_of-head.ensures strict is.reading is.whole in
-    let has = parts_are strict s is.reading is.whole head parts h tie.prefixes tie.escape tie.opcode tie.tail in
-    let some = some_memory strict s is.reading is.whole (sym (asks_memory strict s is.reading is.whole head h) ∙ c.if-not-head.false) in
-    let fields = c.raw_in-raw.ensures ∙ raw_is strict s is.reading is.whole some.0 some.1 (lists_of parts) has in
-    operand_form strict s is.reading is.whole some.0 some.1 true (ap is_ip_relative (sym fields) ∙ sym c.is_ip_relative.ensures ∙ c.if-is_ip_relative.true)
+    let k = known strict s is.reading is.whole c.head_of-head.result c.parts_behind-parts.result c.raw_in-raw.result (c.head_of-head.ensures strict is.reading is.whole) tie.prefixes tie.escape tie.opcode tie.tail c.raw_in-raw.ensures c.if-not-head.false in
+    operand_form strict s is.reading is.whole c.raw_in-raw.result k.1 true (sym c.is_ip_relative.ensures ∙ c.if-is_ip_relative.true)
 
 pub returns-then-is_ip_relative-clause-least : goal.returns-then-is_ip_relative-clause-least
 returns-then-is_ip_relative-clause-least c = λ strict a is.
     let s = c.args.encoding.now in
-    let head = c.head_of-head.result in
-    let parts = c.parts_behind-parts.result in
     let tie = c.parts_behind-parts.ensures in
-    let h = c.head_of-head.ensures strict is.reading is.whole in
-    let has = parts_are strict s is.reading is.whole head parts h tie.prefixes tie.escape tie.opcode tie.tail in
-    let some = some_memory strict s is.reading is.whole (sym (asks_memory strict s is.reading is.whole head h) ∙ c.if-not-head.false) in
-    let fields = c.raw_in-raw.ensures ∙ raw_is strict s is.reading is.whole some.0 some.1 (lists_of parts) has in
-    least_at_ip strict s is.reading is.whole some.0 some.1 (ap is_ip_relative (sym fields) ∙ sym c.is_ip_relative.ensures ∙ c.if-is_ip_relative.true)
+    let k = known strict s is.reading is.whole c.head_of-head.result c.parts_behind-parts.result c.raw_in-raw.result (c.head_of-head.ensures strict is.reading is.whole) tie.prefixes tie.escape tie.opcode tie.tail c.raw_in-raw.ensures c.if-not-head.false in
+    least_at_ip strict s is.reading is.whole c.raw_in-raw.result k.1 (sym c.is_ip_relative.ensures ∙ c.if-is_ip_relative.true)
 
 pub returns-clause-raw : goal.returns-clause-raw
 returns-clause-raw c = λ strict a is.
     let s = c.args.encoding.now in
-    let head = c.head_of-head.result in
-    let parts = c.parts_behind-parts.result in
     let tie = c.parts_behind-parts.ensures in
-    let h = c.head_of-head.ensures strict is.reading is.whole in
-    let has = parts_are strict s is.reading is.whole head parts h tie.prefixes tie.escape tie.opcode tie.tail in
-    let some = some_memory strict s is.reading is.whole (sym (asks_memory strict s is.reading is.whole head h) ∙ c.if-not-head.false) in
-    let fields = c.raw_in-raw.ensures ∙ raw_is strict s is.reading is.whole some.0 some.1 (lists_of parts) has in
-    record { parts = has; read = some.1 ∙ ap Some (sym fields); form = sym c.is_ip_relative.ensures ∙ c.if-is_ip_relative.false }
+    let k = known strict s is.reading is.whole c.head_of-head.result c.parts_behind-parts.result c.raw_in-raw.result (c.head_of-head.ensures strict is.reading is.whole) tie.prefixes tie.escape tie.opcode tie.tail c.raw_in-raw.ensures c.if-not-head.false in
+    record { parts = k.0; read = k.1; form = sym c.is_ip_relative.ensures ∙ c.if-is_ip_relative.false }

@@ -39,17 +39,19 @@ module _ (strict : Bool) (bytes encoding : List ℕ) (instruction : Instruction)
 taken : (strict : Bool) (bytes : List ℕ) (instruction : Instruction) (encoding : List ℕ) (accepted : IsAccepted (rows_of packed) strict bytes instruction (count_of strict bytes)) → encoding ≡ accepted.sentence → IsSentenceOfSomeChoice encoding
 taken strict bytes instruction encoding accepted front = record { strict = strict; answer = instruction; is = subst (λ l. Sentence strict l instruction) (sym front) accepted.is }
 
+-- the encoding at the front is the sentence that is accepted
+front_of : (strict : Bool) (bytes encoding : List ℕ) (instruction : Instruction) (n : ℕ) (accepted : IsAccepted (rows_of packed) strict bytes instruction (count_of strict bytes)) → encoding ≡ take n bytes → n ≡ count_of strict bytes → encoding ≡ accepted.sentence
+front_of strict bytes encoding instruction n accepted front counted = front ∙ front_is bytes accepted.sentence accepted.rest n accepted.begins (counted ∙ sym accepted.long)
+
 pub tightened-requires : goal.tightened-requires
 tightened-requires c =
     let strict = c.args.decoder.now.strict in
     let bytes = c.args.bytes.now in
     let instruction = c.in-Ok.instruction in
     let value : answer_of strict bytes ≡ Ok instruction = sym c.in-Ok.ensures.value in
-    let accepted : IsAccepted (rows_of packed) strict bytes instruction (count_of strict bytes) = c.in-Ok.ensures.answer in
-    let counted : instruction.length ≡ count_of strict bytes = c.lengths.ensures.counted strict bytes instruction value in
-    let n : c.to_const.result ≡ length accepted.sentence = c.to_const.ensures ∙ ap (λ d. d.amount) c.len.ensures ∙ counted ∙ sym accepted.long in
-    let front : c.front_and_rest.result.0.now ≡ accepted.sentence = c.front_and_rest.ensures.front ∙ front_is bytes accepted.sentence accepted.rest c.to_const.result accepted.begins n in
-    taken strict bytes instruction c.front_and_rest.result.0.now accepted front
+    let accepted : IsAccepted (rows_of packed) strict bytes instruction (count_of strict bytes) = c.in-Ok.ensures.answers.answer in
+    let n : c.to_const.result ≡ count_of strict bytes = c.to_const.ensures ∙ ap (λ d. d.amount) c.len.ensures ∙ c.lengths.ensures.counted strict bytes instruction value in
+    taken strict bytes instruction c.front_and_rest.result.0.now accepted (front_of strict bytes _ instruction _ accepted c.front_and_rest.ensures.front n)
 
 pub returns-clause-shortest : goal.returns-clause-shortest
 returns-clause-shortest c =
@@ -57,17 +59,16 @@ returns-clause-shortest c =
     let bytes = c.args.bytes.now in
     let instruction = c.in-Ok.instruction in
     let value : answer_of strict bytes ≡ Ok instruction = sym c.in-Ok.ensures.value in
-    let counted : instruction.length ≡ count_of strict bytes = c.lengths.ensures.counted strict bytes instruction value in
-    let n : c.to_const.result ≡ count_of strict bytes = c.to_const.ensures ∙ ap (λ d. d.amount) c.len.ensures ∙ counted in
-    let accepted : IsAccepted (rows_of packed) strict bytes instruction (count_of strict bytes) = c.in-Ok.ensures.answer in
+    let n : c.to_const.result ≡ count_of strict bytes = c.to_const.ensures ∙ ap (λ d. d.amount) c.len.ensures ∙ c.lengths.ensures.counted strict bytes instruction value in
+    let accepted : IsAccepted (rows_of packed) strict bytes instruction (count_of strict bytes) = c.in-Ok.ensures.answers.answer in
     let encoding = c.front_and_rest.result.0.now in
-    let front' : encoding ≡ accepted.sentence = c.front_and_rest.ensures.front ∙ front_is bytes accepted.sentence accepted.rest c.to_const.result accepted.begins (n ∙ sym accepted.long) in
+    let front = front_of strict bytes encoding instruction c.to_const.result accepted c.front_and_rest.ensures.front n in
     let same : (s rest : List ℕ) (a : Instruction) → Sentence strict s a → bytes ≡ s ++ rest → s ≡ encoding =
     λ s rest a is begins.
-    let front : IsAccepted (rows_of packed) strict bytes a (length s) = record { sentence = s; rest = rest; begins = begins; long = refl; is = is } in
-    let long : length s ≡ count_of strict bytes = (c.answer_is.ensures.only strict bytes (Ok a) (length s) front).1 in
+    let other : IsAccepted (rows_of packed) strict bytes a (length s) = record { sentence = s; rest = rest; begins = begins; long = refl; is = is } in
+    let long : length s ≡ count_of strict bytes = (c.answer_is.ensures.only strict bytes (Ok a) (length s) other).1 in
     sym (c.front_and_rest.ensures.front ∙ front_is bytes s rest c.to_const.result begins (n ∙ sym long)) in
-    answered strict bytes encoding instruction value same (taken strict bytes instruction encoding accepted front') (λ t. t.items) c.tightened.result c.tightened.ensures.shortest
+    answered strict bytes encoding instruction value same (taken strict bytes instruction encoding accepted front) (λ t. t.items) c.tightened.result c.tightened.ensures.shortest
 
 -- the least length of an encoding at the front is that of the bytes
 module _ (strict : Bool) (bytes encoding : List ℕ) (instruction : Instruction) (n : ℕ) (accepted : answer_of strict bytes ≡ Ok instruction) (front : encoding ≡ take n bytes) (counted : n ≡ instruction.length) (long : length encoding ≡ n) where
@@ -88,9 +89,10 @@ returns-clause-least c =
     let bytes = c.args.bytes.now in
     let instruction = c.in-Ok.instruction in
     let value : answer_of strict bytes ≡ Ok instruction = sym c.in-Ok.ensures.value in
-    let accepted : IsAccepted (rows_of packed) strict bytes instruction (count_of strict bytes) = c.in-Ok.ensures.answer in
+    let accepted : IsAccepted (rows_of packed) strict bytes instruction (count_of strict bytes) = c.in-Ok.ensures.answers.answer in
     let counted : c.to_const.result ≡ instruction.length = c.to_const.ensures ∙ ap (λ d. d.amount) c.len.ensures in
-    let n : c.to_const.result ≡ length accepted.sentence = counted ∙ c.lengths.ensures.counted strict bytes instruction value ∙ sym accepted.long in
-    let front : c.front_and_rest.result.0.now ≡ accepted.sentence = c.front_and_rest.ensures.front ∙ front_is bytes accepted.sentence accepted.rest c.to_const.result accepted.begins n in
-    let is : Sentence strict c.front_and_rest.result.0.now instruction = subst (λ l. Sentence strict l instruction) (sym front) accepted.is in
-    measured strict bytes c.front_and_rest.result.0.now instruction c.to_const.result value c.front_and_rest.ensures.front counted (ap length front ∙ sym n) (λ t. t.items) is c.tightened.result c.tightened.ensures.least
+    let n : c.to_const.result ≡ count_of strict bytes = counted ∙ c.lengths.ensures.counted strict bytes instruction value in
+    let encoding = c.front_and_rest.result.0.now in
+    let front = front_of strict bytes encoding instruction c.to_const.result accepted c.front_and_rest.ensures.front n in
+    let is : Sentence strict encoding instruction = subst (λ l. Sentence strict l instruction) (sym front) accepted.is in
+    measured strict bytes encoding instruction c.to_const.result value c.front_and_rest.ensures.front counted (ap length front ∙ accepted.long ∙ sym n) (λ t. t.items) is c.tightened.result c.tightened.ensures.least
