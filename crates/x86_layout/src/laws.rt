@@ -31,7 +31,9 @@ use x86_decode::laws;
 /// Where bytes are left, a cut begins at their front, and the next one behind it; where none is left there is no cut.
 pub fn cuts_in_order()
     ensures none { (strict : Bool) (place : ℕ) → cuts_from strict place [] ≡ [] }
-    ensures next { (strict : Bool) (place : ℕ) (xs : List ℕ) → 0 < length xs → let n = cut_length (answer_of strict xs) in cuts_from strict place xs ≡ cut_at strict place xs ∷ cuts_from strict (place + n) (drop n xs) }
+    ensures next { (strict : Bool) (place : ℕ) (xs : List ℕ) → 0 < length xs →
+        let n = cut_length (answer_of strict xs) in cuts_from strict place xs
+        ≡ cut_at strict place xs ∷ cuts_from strict (place + n) (drop n xs) }
 {
     laws::lengths();
 }
@@ -39,8 +41,10 @@ pub fn cuts_in_order()
 /// Every cut has some bytes and lies within the input, and the lengths of the cuts add up to that of the input, so
 /// there are at most as many cuts as bytes.
 pub fn cuts_cover()
-    ensures within { (strict : Bool) (xs : List ℕ) → All (IsWithin (length xs)) (cuts_of strict xs) }
-    ensures sum { (strict : Bool) (xs : List ℕ) → sum_by (λ c. c.length) (cuts_of strict xs) ≡ length xs }
+    ensures within { (strict : Bool) (xs : List ℕ) →
+        All (IsWithin (length xs)) (cuts_of strict xs) }
+    ensures sum { (strict : Bool) (xs : List ℕ) →
+        sum_by (λ c. c.length) (cuts_of strict xs) ≡ length xs }
     ensures count { (strict : Bool) (xs : List ℕ) → length (cuts_of strict xs) ≤ length xs }
 {
     laws::lengths();
@@ -48,12 +52,15 @@ pub fn cuts_cover()
 
 /// The pieces of every whole encoding at the front of bytes are the parts of those bytes, whatever stands behind it.
 pub fn parts_are_those_of_the_bytes()
-    ensures { (strict : Bool) (s rest : List ℕ) (reading : Reading) (w : Encoding strict s reading) → HasParts strict s reading w (parts_of strict (s ++ rest)) }
+    ensures { (strict : Bool) (s rest : List ℕ) (reading : Reading)
+        (w : Encoding strict s reading) →
+        HasParts strict s reading w (parts_of strict (s ++ rest)) }
 {}
 
 /// The parts of an accepted encoding have lengths that fields can hold.
 pub fn parts_fit_fields()
-    ensures { (strict : Bool) (bytes : List ℕ) (i : Instruction) → answer_of strict bytes ≡ Ok i → HasFieldLengths (parts_of strict bytes) }
+    ensures { (strict : Bool) (bytes : List ℕ) (i : Instruction) → answer_of strict bytes ≡ Ok i →
+        HasFieldLengths (parts_of strict bytes) }
 {
     laws::answer_is();
 }
@@ -66,7 +73,9 @@ pub fn permitted_fields_are_the_parts_of_sentences()
 /// What permitted fields spell is accepted, whatever stands behind it, and has these fields again: `split` of the
 /// bytes that `emit` wrote answers parts that are equal to the fields.
 pub fn permitted_fields_are_split_again()
-    ensures { (strict : Bool) (f : Fields) (rest : List ℕ) → IsPermitted strict f → (i : Instruction) × (answer_of strict (joined (lists_in f) ++ rest) ≡ Ok i) × (parts_of strict (joined (lists_in f) ++ rest) ≡ lists_in f) }
+    ensures { (strict : Bool) (f : Fields) (rest : List ℕ) → IsPermitted strict f →
+        (i : Instruction) × (answer_of strict (joined (lists_in f) ++ rest) ≡ Ok i)
+        × (parts_of strict (joined (lists_in f) ++ rest) ≡ lists_in f) }
 {
     laws::answer_is();
 }
@@ -74,7 +83,9 @@ pub fn permitted_fields_are_split_again()
 /// Fields that hold the parts of an accepted encoding are permitted, and spell that encoding: `emit` of the fields of
 /// a split gives its very bytes.
 pub fn accepted_encodings_are_emitted_again()
-    ensures { (strict : Bool) (bytes : List ℕ) (i : Instruction) (f : Fields) → answer_of strict bytes ≡ Ok i → lists_in f ≡ parts_of strict bytes → IsPermitted strict f × (joined (lists_in f) ≡ take (length_of i) bytes) }
+    ensures { (strict : Bool) (bytes : List ℕ) (i : Instruction) (f : Fields) →
+        answer_of strict bytes ≡ Ok i → lists_in f ≡ parts_of strict bytes →
+        IsPermitted strict f × (joined (lists_in f) ≡ take (length_of i) bytes) }
 {
     laws::answer_is();
     laws::lengths();
@@ -87,22 +98,32 @@ pub fn accepted_encodings_are_emitted_again()
 /// 2.1.5 and 2.2.1.
 pub fn shortest_raw_fields()
     ensures of_bytes { (raw : Raw) → IsOfBytes raw → IsOfBytes (shortest raw) }
-    ensures same_address { (raw : Raw) → IsOfBytes raw → is_ip_relative raw ≡ false → IsSameAddress (raw_form (shortest raw)) (raw_form raw) }
+    ensures same_address { (raw : Raw) → IsOfBytes raw → is_ip_relative raw ≡ false →
+        IsSameAddress (raw_form (shortest raw)) (raw_form raw) }
     ensures same_register { (raw : Raw) → reg_field (shortest raw).modrm ≡ reg_field raw.modrm }
-    ensures no_new_bits { (raw : Raw) → raw.rex_b ≡ false → raw.rex_x ≡ false → ((shortest raw).rex_b ≡ false) × ((shortest raw).rex_x ≡ false) }
-    ensures none_shorter { (raw other : Raw) → IsOfBytes raw → IsOfBytes other → is_ip_relative raw ≡ false → IsSameAddress (raw_form other) (raw_form raw) → address_length (shortest raw) ≤ address_length other }
+    ensures no_new_bits { (raw : Raw) → raw.rex_b ≡ false → raw.rex_x ≡ false →
+        ((shortest raw).rex_b ≡ false) × ((shortest raw).rex_x ≡ false) }
+    ensures none_shorter { (raw other : Raw) → IsOfBytes raw → IsOfBytes other →
+        is_ip_relative raw ≡ false → IsSameAddress (raw_form other) (raw_form raw) →
+        address_length (shortest raw) ≤ address_length other }
 {}
 
 /// An encoding with a memory operand of ModRM that isn't relative to the next instruction has a shortest relative,
 /// and the length of that is the one that `shortest_length` tells from the bytes.
 pub fn shortest_relatives_have_the_least_length()
-    ensures { (strict : Bool) (s : List ℕ) (a : Instruction) (is : IsSentence (rows_of packed) strict s a) → All (λ byte. byte < 256) s → HasOperandForm strict s is.reading is.whole false → (t : List ℕ) × IsShortest strict s is.reading is.whole t × (length t ≡ least_length strict s) }
+    ensures { (strict : Bool) (s : List ℕ) (a : Instruction)
+        (is : IsSentence (rows_of packed) strict s a) → All (λ byte. byte < 256) s →
+        HasOperandForm strict s is.reading is.whole false →
+        (t : List ℕ) × IsShortest strict s is.reading is.whole t
+        × (length t ≡ least_length strict s) }
 {}
 
 /// An encoding that has no relative to seek, for want of a memory operand of ModRM or since that is relative to the
 /// next instruction, keeps its length: it is the one that `shortest_length` tells from the bytes.
 pub fn encodings_without_a_relative_keep_their_length()
-    ensures { (strict : Bool) (s : List ℕ) (a : Instruction) (is : IsSentence (rows_of packed) strict s a) (error : TightenError) → HasNoRelative strict s is.reading is.whole error → least_length strict s ≡ length s }
+    ensures { (strict : Bool) (s : List ℕ) (a : Instruction)
+        (is : IsSentence (rows_of packed) strict s a) (error : TightenError) →
+        HasNoRelative strict s is.reading is.whole error → least_length strict s ≡ length s }
 {}
 
 /// A relative of an encoding is the same instruction, but for the bits X and B of a live REX and for memory operands of
@@ -112,8 +133,18 @@ pub fn encodings_without_a_relative_keep_their_length()
 /// This is said of every relative, and so of what `tighten` answers. Source: Intel SDM volume 2, sections 2.1.5 and
 /// 2.2.1.
 pub fn relatives_are_the_same_instruction()
-    ensures but_in_memory { (strict : Bool) (s : List ℕ) (a : Instruction) (is : IsSentence (rows_of packed) strict s a) (t : List ℕ) (b : Instruction) (other : IsSentence (rows_of packed) strict t b) (relative : IsRelative strict s is.reading is.whole t other.reading other.whole) → IsSameButInMemory relative.address.from relative.address.to a b }
-    ensures address { (strict : Bool) (s : List ℕ) (a : Instruction) (is : IsSentence (rows_of packed) strict s a) (t : List ℕ) (b : Instruction) (other : IsSentence (rows_of packed) strict t b) → IsRelative strict s is.reading is.whole t other.reading other.whole → All (λ byte. byte < 256) s → All (λ byte. byte < 256) t → (k : ℕ) (regs : List ℕ) (next : ℕ) → IsRegFile regs → next < 2 ^ 64 → address_at b k regs next ≡ address_at a k regs next }
+    ensures but_in_memory { (strict : Bool) (s : List ℕ) (a : Instruction)
+        (is : IsSentence (rows_of packed) strict s a) (t : List ℕ) (b : Instruction)
+        (other : IsSentence (rows_of packed) strict t b)
+        (relative : IsRelative strict s is.reading is.whole t other.reading other.whole) →
+        IsSameButInMemory relative.address.from relative.address.to a b }
+    ensures address { (strict : Bool) (s : List ℕ) (a : Instruction)
+        (is : IsSentence (rows_of packed) strict s a) (t : List ℕ) (b : Instruction)
+        (other : IsSentence (rows_of packed) strict t b) →
+        IsRelative strict s is.reading is.whole t other.reading other.whole →
+        All (λ byte. byte < 256) s → All (λ byte. byte < 256) t →
+        (k : ℕ) (regs : List ℕ) (next : ℕ) → IsRegFile regs → next < 2 ^ 64 →
+        address_at b k regs next ≡ address_at a k regs next }
 {
     x86_operands::laws::shapes_have_the_address();
     x86_fields::laws::raw_forms_are_reduced();

@@ -182,7 +182,10 @@ fn joined(fields: &Fields) -> Option<ArrayVec<u8, 15>>
 /// Writes fields whose row is known.
 fn emit_row(strict: bool, entry: &Entry, fields: &Fields) -> Result<ArrayVec<u8, 15>, EmitError>
     requires { IsForm entry.now.row.form }
-    ensures { MatchResult result (λ bytes. (failing_at strict (Some entry.now) fields.now ≡ None) × (bytes.items ≡ joined (lists_in fields.now))) (λ error. failing_at strict (Some entry.now) fields.now ≡ Some error) }
+    ensures { MatchResult result
+        (λ bytes. (failing_at strict (Some entry.now) fields.now ≡ None)
+        × (bytes.items ≡ joined (lists_in fields.now)))
+        (λ error. failing_at strict (Some entry.now) fields.now ≡ Some error) }
 {
     let record = record_at(strict, entry, fields.modrm);
     if !passes_record(&record, fields) {
@@ -210,7 +213,8 @@ fn emit_row(strict: bool, entry: &Entry, fields: &Fields) -> Result<ArrayVec<u8,
 pub fn emit(decoder: &InstDecoder, fields: &Fields) -> Result<ArrayVec<u8, 15>, EmitError>
     ensures permitted { IsOk result ↔ IsPermitted (is_strict decoder.now) fields.now }
     ensures bytes { IfOk result (λ bytes. bytes.items ≡ joined (lists_in fields.now)) }
-    ensures first { IfErr result (λ error. first_failing (is_strict decoder.now) fields.now ≡ Some error) }
+    ensures first { IfErr result
+        (λ error. first_failing (is_strict decoder.now) fields.now ≡ Some error) }
 {
     if !is_run(fields.prefixes.as_slice()) {
         return Err(EmitError::Prefixes);

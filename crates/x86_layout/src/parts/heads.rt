@@ -103,7 +103,9 @@ fn ask_of_row(row: TableRow, prefixes: Prefixes, modrm: u8) -> Ask
 
 /// What the row of an opcode byte asks, and nothing where it has no row.
 fn ask_at(map: Map, prefixes: Prefixes, opcode: u8, modrm: u8) -> Ask
-    ensures { (strict : Bool) → IfSome (rows_of packed map (column_of prefixes) opcode) (λ row. result ≡ ask_of (record_of strict row (seen_by map opcode prefixes)) modrm) }
+    ensures { (strict : Bool) →
+        IfSome (rows_of packed map (column_of prefixes) opcode)
+        (λ row. result ≡ ask_of (record_of strict row (seen_by map opcode prefixes)) modrm) }
 {
     match unpack(packed(map, column_of(&prefixes), opcode)) {
         Some(row) => ask_of_row(row, seen_by(map, opcode, prefixes), modrm),
@@ -127,7 +129,8 @@ fn run_of(bytes: &[u8]) -> (&[u8], &[u8])
 
 /// The head of an encoding.
 pub fn head_of(encoding: &[u8]) -> Head<'_>
-    ensures { (strict : Bool) (reading : Reading) (w : Encoding strict encoding.now reading) → IsHead strict encoding.now reading w result }
+    ensures { (strict : Bool) (reading : Reading) (w : Encoding strict encoding.now reading) →
+        IsHead strict encoding.now reading w result }
 {
     let (prefixes, rest) = run_of(encoding);
     let map = map_of(byte_at(rest, 0), byte_at(rest, 1));

@@ -48,7 +48,9 @@ pub fn parts_behind<'a>(head: &Head<'a>) -> Parts<'a>
     ensures prefixes { result.prefixes.now ≡ head.now.prefixes.now }
     ensures escape { result.escape.now ≡ head.now.escape.now }
     ensures opcode { result.opcode.now ≡ head.now.opcode.now }
-    ensures tail { (r : RowRecord) (p : Prefixes) (reading : Reading) (tail : List ℕ) → head.now.tail.now ≡ tail → head.now.ask ≡ ask_of r (slice_index tail 0) → (a : SpellsRow r p tail reading) → IsTail r p tail reading a result }
+    ensures tail { (r : RowRecord) (p : Prefixes) (reading : Reading) (tail : List ℕ) →
+        head.now.tail.now ≡ tail → head.now.ask ≡ ask_of r (slice_index tail 0) →
+        (a : SpellsRow r p tail reading) → IsTail r p tail reading a result }
 {
     let ask = head.ask;
     let immediate_length = usize::from(ask.immediate);
@@ -95,8 +97,10 @@ pub fn split_decoded<'a>(
 ///
 /// For `48 03 44 25 00 90` the prefixes are 48, the opcode is 03, ModRM is 44, SIB is 25 and the displacement is 00.
 pub fn split<'a>(decoder: &InstDecoder, bytes: &'a [u8]) -> Result<Parts<'a>, DecodeError>
-    ensures pieces { MatchResult result (λ parts. IsSplit (is_strict decoder.now) bytes.now parts) (λ error. answer_of (is_strict decoder.now) bytes.now ≡ Err error) }
-    ensures value { IfOk result (λ parts. lists_of parts ≡ parts_of (is_strict decoder.now) bytes.now) }
+    ensures pieces { MatchResult result (λ parts. IsSplit (is_strict decoder.now) bytes.now parts)
+        (λ error. answer_of (is_strict decoder.now) bytes.now ≡ Err error) }
+    ensures value { IfOk result
+        (λ parts. lists_of parts ≡ parts_of (is_strict decoder.now) bytes.now) }
     ensures lengths { IfOk result (λ parts. HasFieldLengths (lists_of parts)) }
 {
     let instruction = decoder.decode_slice(bytes)?;

@@ -26,7 +26,8 @@ fn target(cut: &Cut) -> Option<u64>
 /// Marks the target of a cut.
 fn mark_target(cut: &Cut, marks: &mut [bool])
     requires { cut.now.place + cut.now.length < 2 ^ 64 }
-    ensures { (p : ℕ) → p < length marks.old → slice_index_or marks.new p false ≡ (slice_index_or marks.old p false || targets p cut.now) }
+    ensures { (p : ℕ) → p < length marks.old →
+        slice_index_or marks.new p false ≡ (slice_index_or marks.old p false || targets p cut.now) }
 {
     if let Some(place) = target(cut) {
         if place < marks.len() as u64 {
@@ -38,7 +39,9 @@ fn mark_target(cut: &Cut, marks: &mut [bool])
 /// Takes the marks inside a cut away.
 fn clear_inside(cut: &Cut, marks: &mut [bool])
     requires { IsWithin (length marks.old) cut.now }
-    ensures { (p : ℕ) → p < length marks.old → slice_index_or marks.new p false ≡ (slice_index_or marks.old p false && not (is_inside p cut.now)) }
+    ensures { (p : ℕ) → p < length marks.old →
+        slice_index_or marks.new p false
+        ≡ (slice_index_or marks.old p false && not (is_inside p cut.now)) }
 {
     for place in cut.place + 1..cut.place + cut.length {
         marks[place] = false;
@@ -57,7 +60,10 @@ fn clear(marks: &mut [bool])
 /// Marks the target of each cut.
 fn mark_targets_of(decoder: &InstDecoder, bytes: &[u8], marks: &mut [bool])
     requires { length bytes.now ≡ length marks.old }
-    ensures { (p : ℕ) → p < length marks.old → slice_index_or marks.new p false ≡ (slice_index_or marks.old p false || list_any (targets p) (cuts_of (is_strict decoder.now) bytes.now)) }
+    ensures { (p : ℕ) → p < length marks.old →
+        slice_index_or marks.new p false
+        ≡ (slice_index_or marks.old p false || list_any (targets p)
+        (cuts_of (is_strict decoder.now) bytes.now)) }
 {
     laws::lengths();
     for cut in Sweep::new(*decoder, bytes) {
@@ -68,7 +74,10 @@ fn mark_targets_of(decoder: &InstDecoder, bytes: &[u8], marks: &mut [bool])
 /// Takes the marks inside the cuts away, so that marks are left at their places alone.
 fn clear_inside_all(decoder: &InstDecoder, bytes: &[u8], marks: &mut [bool])
     requires { length bytes.now ≡ length marks.old }
-    ensures { (p : ℕ) → p < length marks.old → slice_index_or marks.new p false ≡ (slice_index_or marks.old p false && list_any (begins_at p) (cuts_of (is_strict decoder.now) bytes.now)) }
+    ensures { (p : ℕ) → p < length marks.old →
+        slice_index_or marks.new p false
+        ≡ (slice_index_or marks.old p false && list_any (begins_at p)
+        (cuts_of (is_strict decoder.now) bytes.now)) }
 {
     laws::lengths();
     for cut in Sweep::new(*decoder, bytes) {
@@ -83,7 +92,8 @@ fn clear_inside_all(decoder: &InstDecoder, bytes: &[u8], marks: &mut [bool])
 /// Over `eb fe` the marks are true and false.
 pub fn mark_targets(decoder: &InstDecoder, bytes: &[u8], marks: &mut [bool])
     requires { length bytes.now ≡ length marks.old }
-    ensures { (p : ℕ) → p < length marks.old → slice_index_or marks.new p false ≡ is_marked (is_strict decoder.now) bytes.now p }
+    ensures { (p : ℕ) → p < length marks.old →
+        slice_index_or marks.new p false ≡ is_marked (is_strict decoder.now) bytes.now p }
 {
     clear(marks);
     mark_targets_of(decoder, bytes, marks);

@@ -85,7 +85,8 @@ fn push_run(encoding: &mut ArrayVec<u8, 15>, run: &[u8], x: bool, b: bool)
 fn push_spelled_displacement(encoding: &mut ArrayVec<u8, 15>, raw: &Raw)
     requires { array_vec_len encoding.old + displacement_width raw.now.modrm raw.now.sib ≤ 15 }
     ensures text { encoding.new.items ≡ encoding.old.items ++ spelled_displacement raw.now }
-    ensures len { array_vec_len encoding.new ≡ array_vec_len encoding.old + displacement_width raw.now.modrm raw.now.sib }
+    ensures len { array_vec_len encoding.new
+        ≡ array_vec_len encoding.old + displacement_width raw.now.modrm raw.now.sib }
 {
     let bytes = raw.disp.to_le_bytes();
     push(encoding, &bytes[..width(raw)]);

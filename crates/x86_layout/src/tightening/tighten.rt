@@ -44,8 +44,13 @@ struct Addressed<'a> {
 #[inline(always)]
 fn addressed_in(encoding: &[u8]) -> Result<Addressed<'_>, TightenError>
     requires { IsSentenceOfSomeChoice encoding.now }
-    ensures raw { (strict : Bool) (a : Instruction) (is : IsSentence (rows_of packed) strict encoding.now a) → MatchResult result (λ found. IsAddressed strict encoding.now is.reading is.whole found) (λ error. HasNoRelative strict encoding.now is.reading is.whole error) }
-    ensures least { (strict : Bool) (a : Instruction) → IsSentence (rows_of packed) strict encoding.now a → IfErr result (λ _. least_length strict encoding.now ≡ length encoding.now) }
+    ensures raw { (strict : Bool) (a : Instruction)
+        (is : IsSentence (rows_of packed) strict encoding.now a) →
+        MatchResult result (λ found. IsAddressed strict encoding.now is.reading is.whole found)
+        (λ error. HasNoRelative strict encoding.now is.reading is.whole error) }
+    ensures least { (strict : Bool) (a : Instruction) →
+        IsSentence (rows_of packed) strict encoding.now a →
+        IfErr result (λ _. least_length strict encoding.now ≡ length encoding.now) }
 {
     let head = head_of(encoding);
     if !head.ask.memory {
@@ -62,8 +67,14 @@ fn addressed_in(encoding: &[u8]) -> Result<Addressed<'_>, TightenError>
 /// The shortest relative of an encoding.
 fn tightened(encoding: &[u8]) -> Result<ArrayVec<u8, 15>, TightenError>
     requires { IsSentenceOfSomeChoice encoding.now }
-    ensures shortest { (strict : Bool) (a : Instruction) (is : IsSentence (rows_of packed) strict encoding.now a) → MatchResult result (λ t. IsTightened strict encoding.now is.reading is.whole t.items) (λ error. HasNoRelative strict encoding.now is.reading is.whole error) }
-    ensures least { (strict : Bool) (a : Instruction) → IsSentence (rows_of packed) strict encoding.now a → MatchResult result (λ t. length t.items ≡ least_length strict encoding.now) (λ _. least_length strict encoding.now ≡ length encoding.now) }
+    ensures shortest { (strict : Bool) (a : Instruction)
+        (is : IsSentence (rows_of packed) strict encoding.now a) →
+        MatchResult result (λ t. IsTightened strict encoding.now is.reading is.whole t.items)
+        (λ error. HasNoRelative strict encoding.now is.reading is.whole error) }
+    ensures least { (strict : Bool) (a : Instruction) →
+        IsSentence (rows_of packed) strict encoding.now a →
+        MatchResult result (λ t. length t.items ≡ least_length strict encoding.now)
+        (λ _. least_length strict encoding.now ≡ length encoding.now) }
 {
     match addressed_in(encoding) {
         Ok(found) => Ok(respelled(&found.parts, &shortest(&found.raw))),
@@ -74,7 +85,9 @@ fn tightened(encoding: &[u8]) -> Result<ArrayVec<u8, 15>, TightenError>
 /// How many bytes a shortest relative has, and the encoding itself where it has none to seek.
 fn least_length(encoding: &[u8]) -> usize
     requires { IsSentenceOfSomeChoice encoding.now }
-    ensures { (strict : Bool) (a : Instruction) → IsSentence (rows_of packed) strict encoding.now a → result ≡ least_length strict encoding.now }
+    ensures { (strict : Bool) (a : Instruction) →
+        IsSentence (rows_of packed) strict encoding.now a →
+        result ≡ least_length strict encoding.now }
 {
     match addressed_in(encoding) {
         Ok(found) => {
@@ -108,8 +121,13 @@ pub fn shortest_length(decoder: &InstDecoder, instruction: &Instruction, bytes: 
 ///
 /// For `48 8b 84 25 00 00 00 00`, which is MOV rax, [rbp], this is `48 8b 45 00` (Intel SDM volume 2, section 2.1.5).
 pub fn tighten(decoder: &InstDecoder, bytes: &[u8]) -> Result<ArrayVec<u8, 15>, TightenError>
-    ensures shortest { MatchResult result (λ t. OfFront (is_strict decoder.now) bytes.now (λ strict s a v. IsTightened strict s a v t.items)) (λ error. IsNotTightened (is_strict decoder.now) bytes.now error) }
-    ensures least { MatchResult result (λ t. length t.items ≡ shortest_length (is_strict decoder.now) bytes.now) (λ _. HasLengthOfFront (is_strict decoder.now) bytes.now) }
+    ensures shortest { MatchResult result
+        (λ t. OfFront (is_strict decoder.now) bytes.now
+        (λ strict s a v. IsTightened strict s a v t.items))
+        (λ error. IsNotTightened (is_strict decoder.now) bytes.now error) }
+    ensures least { MatchResult result
+        (λ t. length t.items ≡ shortest_length (is_strict decoder.now) bytes.now)
+        (λ _. HasLengthOfFront (is_strict decoder.now) bytes.now) }
 {
     laws::lengths();
     laws::answer_is();
