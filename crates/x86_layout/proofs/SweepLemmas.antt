@@ -2,3 +2,4 @@
 pub mod Cut
 pub mod Place
 pub mod Mark
+pub mod Pieces

@@ -4,3 +4,4 @@ pub mod Lengths
 pub mod Sweep
 pub mod Branches
 pub mod Marks
+pub mod Pieces

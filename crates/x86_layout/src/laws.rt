@@ -3,6 +3,7 @@
 ghost use Rattle.std.specs.Prelude.{◌≡◌, ◌↔◌, ℕ, ◌+◌, ◌^◌, ◌<◌, ◌≤◌, Bool, false, IsTrue, List, [], ◌∷◌, ◌++◌, length, take, drop, Ok};
 ghost use Rattle.std.specs.List.{sum_by, All};
 ghost use Rattle.x86_decode.specs.Answer.{answer_of};
+ghost use Rattle.x86_layout.specs.Sweeps.Pieces.{CutsGoOn, CutsOfMore};
 ghost use Rattle.x86_layout.specs.Sweeps.Cuts.{cut_length, cut_at, cuts_from, cuts_of};
 ghost use Rattle.x86_layout.specs.Sweeps.Lengths.{IsWithin};
 ghost use Rattle.x86_operands.specs.declared.reader.Reading.{Reading};
@@ -36,6 +37,17 @@ pub fn cuts_in_order()
         ≡ cut_at strict place xs ∷ cuts_from strict (place + n) (drop n xs) }
 {
     laws::lengths();
+}
+
+/// An input may be swept piece by piece. After cuts at the beginning come those of the rest (`rest`). Cuts at the
+/// beginning of a piece that don't answer `ExhaustedInput` are cuts of the piece with more bytes after it (`more`). So
+/// each piece begins at the place of the first `ExhaustedInput` of the one before, and the cuts are those of the whole.
+pub fn cuts_by_pieces()
+    ensures rest { (strict : Bool) → CutsGoOn strict }
+    ensures more { (strict : Bool) → CutsOfMore strict }
+{
+    laws::lengths();
+    laws::answers_of_more();
 }
 
 /// Every cut has some bytes and lies within the input, and the lengths of the cuts add up to that of the input, so

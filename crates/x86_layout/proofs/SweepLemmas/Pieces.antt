@@ -1,0 +1,63 @@
+-- The cuts of an input that is swept piece by piece.
+use Rattle.std.proofs.Common.{◌≡◌, ◌≢◌, ℕ, ◌+◌, ◌<◌, ◌≤◌, Bool, List, [], ◌∷◌, ◌++◌, length, drop, Result, Ok, Err, refl, ap, ◌∙◌, sym, subst, arith, length-append}
+use Rattle.std.proofs.lemmas.List.{drop-append-le}
+use lib.Seq.{drop-drop}
+use Rattle.x86_fields.specs.declared.errors.DecodeError.TheVariants.{ExhaustedInput}
+use Rattle.x86_decode.specs.Answer.{answer_of}
+use Rattle.x86_layout.specs.declared.sweeps.cuts.Cut.{Cut}
+use Rattle.x86_layout.specs.Sweeps.Cuts.{cut_length, cut_at, cuts_from}
+use Rattle.x86_layout.specs.Sweeps.Pieces.{total_length, AreFinal, CutsGoOn, CutsOfMore}
+use Rattle.x86_layout.proofs.SweepLemmas.Cut.{none_left, first_and_rest}
+
+abbrev size : Bool → List ℕ → ℕ
+size strict xs = cut_length (answer_of strict xs)
+
+module _ (strict : Bool) (fits : (xs : List ℕ) → 0 < length xs → (0 < size strict xs) × (size strict xs ≤ length xs)) where
+  some_bytes : (place : ℕ) (xs : List ℕ) (c : Cut) (cs : List Cut) → cuts_from strict place xs ≡ c ∷ cs → 0 < length xs
+  some_bytes place [] c cs e = let none : [] ≡ c ∷ cs = sym (none_left strict place [] refl) ∙ e in cc
+  some_bytes place (x ∷ xs) c cs e = omega arith
+
+  next : (place : ℕ) (xs : List ℕ) → 0 < length xs → cuts_from strict place xs ≡ cut_at strict place xs ∷ cuts_from strict (place + size strict xs) (drop (size strict xs) xs)
+  next place xs some = first_and_rest strict (size strict xs) place xs refl (fits xs some).0 some
+
+  -- the first cut is the head of the list, and the rest its tail
+  divided : (place : ℕ) (xs : List ℕ) (c : Cut) (cs : List Cut) → cuts_from strict place xs ≡ c ∷ cs →
+      (cut_at strict place xs ≡ c) × (cuts_from strict (place + size strict xs) (drop (size strict xs) xs) ≡ cs)
+  divided place xs c cs e =
+      let both : cut_at strict place xs ∷ cuts_from strict (place + size strict xs) (drop (size strict xs) xs) ≡ c ∷ cs = sym (next place xs (some_bytes place xs c cs e)) ∙ e in
+      (cc, cc)
+
+  moved : (place n m : ℕ) (xs : List ℕ) → cuts_from strict ((place + n) + m) (drop m (drop n xs)) ≡ cuts_from strict (place + (n + m)) (drop (n + m) xs)
+  moved place n m xs =
+      let further : (place + n) + m ≡ place + (n + m) = omega arith in
+      ap (λ p. cuts_from strict p (drop m (drop n xs))) further ∙ ap (cuts_from strict (place + (n + m))) (drop-drop m n xs)
+
+  pub go_on : CutsGoOn strict
+  go_on place xs [] after e = sym e ∙ ap (λ p. cuts_from strict p xs) (omega arith)
+  go_on place xs (c ∷ cs) after e =
+      let d = divided place xs c (cs ++ after) e in
+      let long : size strict xs ≡ c.length = ap (λ c. c.length) d.0 in
+      go_on (place + size strict xs) (drop (size strict xs) xs) cs after d.1 ∙ moved place (size strict xs) (total_length cs) xs
+      ∙ ap (λ n. cuts_from strict (place + (n + total_length cs)) (drop (n + total_length cs) xs)) long
+
+  module _ (stays : (xs ys : List ℕ) → answer_of strict xs ≢ Err ExhaustedInput → answer_of strict (xs ++ ys) ≡ answer_of strict xs) where
+    pub of_more : CutsOfMore strict
+    of_more place xs ys [] after e final = ap (λ p. cuts_from strict p (xs ++ ys)) (omega arith)
+    of_more place xs ys (c ∷ cs) after e final =
+        let d = divided place xs c (cs ++ after) e in
+        let n : ℕ = size strict xs in
+        let some : 0 < length xs = some_bytes place xs c (cs ++ after) e in
+        let known : answer_of strict xs ≢ Err ExhaustedInput = λ f. final.0 (sym (ap (λ c. c.answer) d.0) ∙ f) in
+        let same : answer_of strict (xs ++ ys) ≡ answer_of strict xs = stays xs ys known in
+        let more : 0 < length (xs ++ ys) = simp length-append (omega (arith, some)) in
+        let first : cut_at strict place (xs ++ ys) ≡ c = ap (λ a. record { place = place; length = cut_length a; answer = a }) same ∙ d.0 in
+        let long : size strict (xs ++ ys) ≡ n = ap cut_length same in
+        let rest : drop n (xs ++ ys) ≡ drop n xs ++ ys = drop-append-le n xs ys (fits xs some).1 in
+        let tail = of_more (place + n) (drop n xs) ys cs after d.1 final.1 in
+        let whole : cuts_from strict (place + n) (drop n (xs ++ ys)) ≡ cs ++ cuts_from strict ((place + n) + total_length cs) (drop (total_length cs) (drop n (xs ++ ys))) =
+        ap (cuts_from strict (place + n)) rest ∙ tail ∙ ap (λ zs. cs ++ cuts_from strict ((place + n) + total_length cs) (drop (total_length cs) zs)) (sym rest) in
+        next place (xs ++ ys) more
+        ∙ ap (λ k. cut_at strict place (xs ++ ys) ∷ cuts_from strict (place + k) (drop k (xs ++ ys))) long
+        ∙ ap (λ h. h ∷ cuts_from strict (place + n) (drop n (xs ++ ys))) first
+        ∙ ap (λ l. c ∷ l) (whole ∙ ap (λ l. cs ++ l) (moved place n (total_length cs) (xs ++ ys)
+        ∙ ap (λ k. cuts_from strict (place + (k + total_length cs)) (drop (k + total_length cs) (xs ++ ys))) (ap (λ c. c.length) d.0)))
