@@ -5,7 +5,7 @@ use Rattle.std.proofs.lemmas.List.{append-nil, take-append-drop, take-append-le}
 use Rattle.std.proofs.Math.Seq.{take-append_seam}
 use Rattle.x86_arch.specs.Reader.{State}
 use Rattle.x86_fields.specs.declared.errors.DecodeError.{DecodeError}
-use Rattle.x86_fields.specs.declared.errors.DecodeError.TheVariants.{ExhaustedInput, InvalidOpcode, InvalidOperand, TooLong, InvalidPrefixes, IncompleteDecoder}
+use Rattle.x86_fields.specs.declared.errors.DecodeError.TheVariants.{ExhaustedInput, TooLong}
 use Rattle.x86_fields.proofs.EndLemmas.{no_front}
 use Rattle.x86_operands.specs.declared.reader.Reading.{Reading}
 use Rattle.x86_decode.specs.declared.instructions.Instruction.{Instruction}
@@ -38,11 +38,7 @@ module _ (rows : Rows) (strict : Bool) where
 
   pub answer_refusal : (input : List ℕ) (n : ℕ) (e : DecodeError) → e ≢ ExhaustedInput → Answer input (Err e) n → IsRefusal rows strict input e n
   answer_refusal input n ExhaustedInput d r = absurd (d refl)
-  answer_refusal input n InvalidOpcode d r = r
-  answer_refusal input n InvalidOperand d r = r
-  answer_refusal input n InvalidPrefixes d r = r
-  answer_refusal input n TooLong d r = r
-  answer_refusal input n IncompleteDecoder d r = r
+  answer_refusal input n e d r = r
 
   -- the three kinds of answers
   data View (input : List ℕ) (r : Result Instruction DecodeError) (n : ℕ) : Type 0 where

@@ -88,11 +88,7 @@ module _ (rows : Rows) (strict : Bool) where
   open_only : (input : List ℕ) (r : Result Instruction DecodeError) (n : ℕ) → IsAnswer rows strict input r n → IsUndecided rows strict input → r ≡ Err ExhaustedInput
   open_only input (Ok i) n a u = absurd (u.no_sentence a.sentence a.rest i a.begins a.is)
   open_only input (Err ExhaustedInput) n a u = refl
-  open_only input (Err InvalidOpcode) n a u = absurd (u.undecided a.front a.rest InvalidOpcode a.begins a.decides)
-  open_only input (Err InvalidOperand) n a u = absurd (u.undecided a.front a.rest InvalidOperand a.begins a.decides)
-  open_only input (Err InvalidPrefixes) n a u = absurd (u.undecided a.front a.rest InvalidPrefixes a.begins a.decides)
-  open_only input (Err TooLong) n a u = absurd (u.undecided a.front a.rest TooLong a.begins a.decides)
-  open_only input (Err IncompleteDecoder) n a u = absurd (u.undecided a.front a.rest IncompleteDecoder a.begins a.decides)
+  open_only input (Err e) n a u = absurd (u.undecided a.front a.rest e a.begins a.decides)
 
   pub exhausted : (input : List ℕ) (r : Result Instruction DecodeError) (n : ℕ) → IsAnswer rows strict input r n → (r ≡ Err ExhaustedInput) ↔ IsUndecided rows strict input
   exhausted input r n a = (left_open input r n a, open_only input r n a)
@@ -108,8 +104,4 @@ module _ (rows : Rows) (strict : Bool) where
       only : (input : List ℕ) (r : Result Instruction DecodeError) (n : ℕ) → IsAnswer rows strict input r n → HasSentence rows strict input → IsOk r
       only input (Ok i) n a h = refl
       only input (Err ExhaustedInput) n a h = absurd (a.no_sentence h.sentence h.rest h.answer h.begins h.is)
-      only input (Err InvalidOpcode) n a h = absurd (a.no_sentence h.sentence h.rest h.answer h.begins h.is)
-      only input (Err InvalidOperand) n a h = absurd (a.no_sentence h.sentence h.rest h.answer h.begins h.is)
-      only input (Err InvalidPrefixes) n a h = absurd (a.no_sentence h.sentence h.rest h.answer h.begins h.is)
-      only input (Err TooLong) n a h = absurd (a.no_sentence h.sentence h.rest h.answer h.begins h.is)
-      only input (Err IncompleteDecoder) n a h = absurd (a.no_sentence h.sentence h.rest h.answer h.begins h.is)
+      only input (Err e) n a h = absurd (a.no_sentence h.sentence h.rest h.answer h.begins h.is)

@@ -161,9 +161,7 @@ entry_rest Of3a b = 0x3a ∷ b ∷ []
 
 pub entry_is : (map : Map) (b : ℕ) (tail : List ℕ) → escape_bytes map ++ b ∷ tail ≡ entry_byte map b ∷ (entry_rest map b ++ tail)
 entry_is One b tail = refl
-entry_is Of b tail = refl
-entry_is Of38 b tail = refl
-entry_is Of3a b tail = refl
+entry_is map b tail = refl
 
 not_first : (a b : Bool) → not (a || b) ≡ true → a ≡ false
 not_first a b h = grind arith
@@ -179,9 +177,7 @@ or_second a b h = grind arith
 
 pub entry_plain : (map : Map) (b : ℕ) → is_opcode map b ≡ true → is_prefix (entry_byte map b) ≡ false
 entry_plain One b h = not_first (is_prefix b) ((b == 0x0f) || is_vex b) h
-entry_plain Of b h = refl
-entry_plain Of38 b h = refl
-entry_plain Of3a b h = refl
+entry_plain map b h = refl
 
 takes_one : (p : Prefixes) (c : ℕ) (v z : Bool) → v ≡ false → z ≡ false → Takes {X = Map × ℕ} (if v then refuse (vex_refusal p) else (if z then (next_byte >>= λ d. read_escaped d) else pure (One, c))) [] (Ok (One, c))
 takes_one p c false false e f = takes_pure (Ok (One, c))

@@ -4,7 +4,7 @@ use Rattle.std.proofs.lemmas.Bool.{and_parts, cond_both, eqb-true}
 use Rattle.x86_fields.specs.declared.prefixes.Prefixes.{Prefixes}
 use Rattle.x86_fields.specs.Run.{reading_of}
 use Rattle.x86_forms.specs.declared.Map.{Map}
-use Rattle.x86_forms.specs.declared.Map.TheVariants.{One, Of, Of38, Of3a}
+use Rattle.x86_forms.specs.declared.Map.TheVariants.{One, Of}
 use Rattle.x86_forms.specs.declared.Column.{Column}
 use Rattle.x86_forms.specs.declared.Form.{Form}
 use Rattle.x86_forms.specs.declared.Form.TheVariants as form
@@ -144,9 +144,7 @@ stands_at_8f m byte = false
 
 all_at_8f : (m : Map) → all_at is_8f stands_at_8f m (printed_rows m) ≡ true
 all_at_8f One = refl
-all_at_8f Of = refl
-all_at_8f Of38 = refl
-all_at_8f Of3a = refl
+all_at_8f m = refl
 
 is_row_8f : (m : Map) (byte : ℕ) → stands_at_8f m byte ≡ true → (m ≡ One) × (byte ≡ 0x8f)
 is_row_8f One byte h = (refl, eqb-true byte 0x8f h)
@@ -166,9 +164,7 @@ stands_at_0fae m byte = false
 
 all_at_0fae : (m : Map) → all_at is_0fae stands_at_0fae m (printed_rows m) ≡ true
 all_at_0fae One = refl
-all_at_0fae Of = refl
-all_at_0fae Of38 = refl
-all_at_0fae Of3a = refl
+all_at_0fae m = refl
 
 is_row_0fae : (m : Map) (byte : ℕ) → stands_at_0fae m byte ≡ true → (m ≡ Of) × (byte ≡ 0xae)
 is_row_0fae Of byte h = (refl, eqb-true byte 0xae h)

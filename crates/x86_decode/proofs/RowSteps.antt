@@ -3,13 +3,13 @@ use Rattle.std.proofs.Common.{◌≡◌, ◌≢◌, ◌⊎◌, inl, inr, ℕ, �
 use Rattle.std.proofs.lemmas.List.{append-nil}
 use Rattle.x86_arch.specs.Reader.{State, advanced}
 use Rattle.x86_fields.specs.declared.errors.DecodeError.{DecodeError}
-use Rattle.x86_fields.specs.declared.errors.DecodeError.TheVariants.{ExhaustedInput, InvalidOpcode, InvalidOperand, InvalidPrefixes, TooLong, IncompleteDecoder}
+use Rattle.x86_fields.specs.declared.errors.DecodeError.TheVariants.{ExhaustedInput}
 use Rattle.x86_fields.specs.declared.prefixes.Prefixes.{Prefixes}
 use Rattle.x86_fields.specs.Steps.{Step, outcome, Takes}
 use Rattle.x86_fields.proofs.StepLemmas.{fresh}
 use Rattle.x86_fields.proofs.EndLemmas.{EndsWell, Ends, settles, runs_out, OutOn, final_ok, final_err, Stands, out, over}
 use Rattle.x86_operands.specs.declared.plans.Fault.{Fault}
-use Rattle.x86_operands.specs.declared.plans.Fault.TheVariants.{BadOpcode, BadOperand, Incomplete}
+use Rattle.x86_operands.specs.declared.plans.Fault.TheVariants.{BadOpcode}
 use Rattle.x86_operands.specs.declared.reader.Reading.{Reading}
 use Rattle.x86_operands.specs.Plans.{RowRecord}
 use Rattle.x86_operands.specs.PlanSteps.{record_step, error_of}
@@ -18,17 +18,12 @@ use Rattle.x86_operands.proofs.RowLemmas.{row_read, row_refused, row_open, row_w
 
 pub exhausted_or_not : (e : DecodeError) → (e ≡ ExhaustedInput) ⊎ (e ≢ ExhaustedInput)
 exhausted_or_not ExhaustedInput = inl refl
-exhausted_or_not InvalidOpcode = inr (λ h. let k : InvalidOpcode ≡ ExhaustedInput = h in cc)
-exhausted_or_not InvalidOperand = inr (λ h. let k : InvalidOperand ≡ ExhaustedInput = h in cc)
-exhausted_or_not InvalidPrefixes = inr (λ h. let k : InvalidPrefixes ≡ ExhaustedInput = h in cc)
-exhausted_or_not TooLong = inr (λ h. let k : TooLong ≡ ExhaustedInput = h in cc)
-exhausted_or_not IncompleteDecoder = inr (λ h. let k : IncompleteDecoder ≡ ExhaustedInput = h in cc)
+exhausted_or_not e = inr (λ h. cc)
 
 -- no fault is for want of bytes
 pub fault_error : (f : Fault) → error_of f ≢ ExhaustedInput
 fault_error BadOpcode e = cc
-fault_error BadOperand e = cc
-fault_error Incomplete e = cc
+fault_error f e = cc
 
 ok_apart : (reading : Reading) → ◌≡◌ {A = Result Reading DecodeError} (Ok reading) (Err ExhaustedInput) → ⊥
 ok_apart reading e = cc

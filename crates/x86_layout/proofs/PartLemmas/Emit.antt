@@ -212,9 +212,7 @@ split_again strict f rest only h =
 
 map_back : (m : Map) → map_named (escape_bytes m) ≡ Some m
 map_back One = refl
-map_back Of = refl
-map_back Of38 = refl
-map_back Of3a = refl
+map_back m = refl
 
 short_test : (n : ℕ) → n ≤ 15 → nat_le n 15 ≡ true
 short_test n h = grind (arith, nat_tests)

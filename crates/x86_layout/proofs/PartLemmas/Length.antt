@@ -6,13 +6,13 @@ use Rattle.x86_fields.specs.Raw.{names_no_base, displacement_width}
 use Rattle.x86_fields.specs.Run.{reading_of}
 use Rattle.x86_fields.specs.Pieces.{first_byte}
 use Rattle.x86_forms.specs.declared.Map.{Map}
-use Rattle.x86_forms.specs.declared.Map.TheVariants.{One, Of, Of38, Of3a}
+use Rattle.x86_forms.specs.declared.Map.TheVariants.{One}
 use Rattle.x86_forms.specs.declared.TableRow.{TableRow}
 use Rattle.x86_forms.specs.Groups.{is_group}
 use Rattle.x86_operands.specs.declared.plans.Verdict.{Verdict}
 use Rattle.x86_operands.specs.declared.plans.Verdict.TheVariants.{Accepts, NamedBySuffix, Refuses}
 use Rattle.x86_operands.specs.declared.plans.ModrmUse.{ModrmUse}
-use Rattle.x86_operands.specs.declared.plans.ModrmUse.TheVariants.{Absent, EitherForm, Registers}
+use Rattle.x86_operands.specs.declared.plans.ModrmUse.TheVariants.{Absent}
 use Rattle.x86_operands.specs.declared.reader.Reading.{Reading}
 use Rattle.x86_operands.specs.Pieces.{modrm_of, modrm_width, suffix_width}
 use Rattle.x86_operands.specs.Asks.{immediates_width}
@@ -43,14 +43,11 @@ disp_small m sib =
 
 escape_small : (m : Map) → length (escape_bytes m) ≤ 2
 escape_small One = omega arith
-escape_small Of = omega arith
-escape_small Of38 = omega arith
-escape_small Of3a = omega arith
+escape_small m = omega arith
 
 modrm_small : (u : ModrmUse) → modrm_width u ≤ 1
 modrm_small Absent = omega arith
-modrm_small EitherForm = omega arith
-modrm_small Registers = omega arith
+modrm_small u = omega arith
 
 suffix_small : (v : Verdict) → suffix_width v ≤ 1
 suffix_small Accepts = omega arith

@@ -119,9 +119,7 @@ two_bytes true false false = refl
 
 longer_than : (m : Map) (n : ℕ) → (length (escape_bytes m) == suc (suc (suc n))) ≡ false
 longer_than One n = grind (arith, nat_tests)
-longer_than Of n = grind (arith, nat_tests)
-longer_than Of38 n = grind (arith, nat_tests)
-longer_than Of3a n = grind (arith, nat_tests)
+longer_than m n = grind (arith, nat_tests)
 
 none_named : (t : Bool) (m : Map) → t ≡ false → None ≡ (if t then Some m else None)
 none_named true m e = absurd (let h : true ≡ false = e in cc)
@@ -161,8 +159,7 @@ used_is Registers (m ∷ rest) more tail e h = sym (ap (λ l. as_register (slice
 
 pub modrm_long : (u : ModrmUse) (modrm : List ℕ) → length modrm ≡ modrm_width u → one_if (asks_modrm u) ≡ length modrm
 modrm_long Absent modrm e = sym e
-modrm_long EitherForm modrm e = sym e
-modrm_long Registers modrm e = sym e
+modrm_long u modrm e = sym e
 
 pub operands_long : (encodings : List OperandEncoding) (p : Prefixes) (m : ℕ) (memory : Option Raw) (bytes : List ℕ) (given : List (Slot × Operand)) → SpellsOperands encodings p m memory bytes given → length bytes ≡ total (map immediate_width encodings)
 operands_long [] p m memory bytes given h = ap length h.0

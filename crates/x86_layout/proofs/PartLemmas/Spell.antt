@@ -14,7 +14,7 @@ use Rattle.x86_operands.specs.declared.plans.OperandEncoding.{OperandEncoding}
 use Rattle.x86_operands.specs.declared.plans.Verdict.{Verdict}
 use Rattle.x86_operands.specs.declared.plans.Verdict.TheVariants.{Accepts, NamedBySuffix, Refuses}
 use Rattle.x86_operands.specs.declared.plans.ModrmUse.{ModrmUse}
-use Rattle.x86_operands.specs.declared.plans.ModrmUse.TheVariants.{Absent, EitherForm, Registers}
+use Rattle.x86_operands.specs.declared.plans.ModrmUse.TheVariants.{Absent}
 use Rattle.x86_operands.specs.declared.reader.Reading.{Reading}
 use Rattle.x86_operands.specs.Plans.{RowRecord, list_of}
 use Rattle.x86_operands.specs.Pieces.{immediate_width, operand_gives, modrm_of, modrm_width, suffix_width, opcode_by, is_refusal, SpellsOperands, SpellsMemory, SpellsRow}
@@ -37,17 +37,13 @@ same_test : (m n : ℕ) → m ≡ n → (m == n) ≡ true
 same_test m n h = grind (arith, nat_tests)
 
 same_bool : (a b : Bool) → one_if a ≡ one_if b → a ≡ b
-same_bool true true e = refl
-same_bool false false e = refl
-same_bool true false e = absurd (omega (arith, e))
-same_bool false true e = absurd (omega (arith, e))
+same_bool a b e = grind arith
 
 both : (a b : Bool) → a ≡ true → b ≡ true → (a && b) ≡ true
 both a b p q = cc
 
 either : (a b : Bool) → a ≡ true → (a || b) ≡ true
-either true b h = refl
-either false b h = absurd (let k : false ≡ true = h in cc)
+either a b h = grind arith
 
 none_is : {A : Type 0} (o : Option A) → is_none o ≡ true → o ≡ None
 none_is None h = refl
@@ -97,8 +93,7 @@ spell_memory p m sib disp e h = by (is_memory m) refl e h
 
 pub use_width : (u : ModrmUse) → one_if (asks_modrm u) ≡ modrm_width u
 use_width Absent = refl
-use_width EitherForm = refl
-use_width Registers = refl
+use_width u = refl
 
 pub verdict_width : (v : Verdict) → one_if (asks_suffix v) ≡ suffix_width v
 verdict_width Accepts = refl

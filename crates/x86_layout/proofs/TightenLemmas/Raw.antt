@@ -27,8 +27,7 @@ pub third_of_three : (a b c : Bool) → (a && (b && c)) ≡ true → c ≡ true
 third_of_three a b c h = grind arith
 
 not_true : (t : Bool) → not t ≡ true → t ≡ false
-not_true true h = absurd (let g : false ≡ true = h in cc)
-not_true false h = refl
+not_true t h = grind arith
 
 module _ (d : ℤ) (raw : Raw) where
   behind_is_least : (b low : ℕ) → is_memory raw.modrm ≡ true → field_bits b ≡ low → ((mod_field raw.modrm == 0) && (low == 5)) ≡ false → disp_fits (if mod_field raw.modrm == 1 then 1 else (if mod_field raw.modrm == 2 then 4 else (if low == 5 then 4 else 0))) d ≡ true → behind_base d b ≤ (if mod_field raw.modrm == 1 then 1 else (if mod_field raw.modrm == 2 then 4 else (if low == 5 then 4 else 0)))
@@ -53,7 +52,7 @@ module _ (d : ℤ) (raw : Raw) where
     where
       by : (h : ℕ) (five : Bool) → ((h == 0) && five) ≡ true → 5 ≤ 1 + (if h == 1 then 1 else (if h == 2 then 4 else (if five then 4 else 0)))
       by zero true e = omega arith
-      by zero false e = absurd (let g : false ≡ true = e in cc)
+      by zero false e = absurd cc
       by (suc n) five e = absurd (grind (arith, nat_tests, e))
 
   sib_least : (t : Bool) (sib : ℕ) (i : Option ℕ) → ((mod_field raw.modrm == 0) && (base_field sib == 5)) ≡ t → is_memory raw.modrm ≡ true → disp_fits (displacement_width raw.modrm (Some sib)) d ≡ true → bytes_by d (number_of (if t then None else Some (address_register raw raw.rex_b (base_field sib)))) i ≤ 1 + displacement_width raw.modrm (Some sib)

@@ -12,7 +12,7 @@ use Rattle.x86_operands.specs.declared.operands.Operand.{Operand}
 use Rattle.x86_operands.specs.declared.plans.OperandEncoding.{OperandEncoding}
 use Rattle.x86_operands.specs.declared.plans.OperandEncoding.TheVariants.{E, Emm, M, U, Umm}
 use Rattle.x86_operands.specs.declared.plans.PrefixChange.{PrefixChange}
-use Rattle.x86_operands.specs.declared.plans.PrefixChange.TheVariants.{Keeps, ClearsOperandSize, SetsEs}
+use Rattle.x86_operands.specs.declared.plans.PrefixChange.TheVariants.{Keeps}
 use Rattle.x86_operands.specs.declared.plans.ModrmUse.TheVariants.{EitherForm}
 use Rattle.x86_operands.specs.declared.plans.Plan.{Plan}
 use Rattle.x86_operands.specs.declared.reader.Reading.{Reading}
@@ -78,8 +78,7 @@ module _ (p q : Prefixes) (m n : ℕ) (raw other : Raw) where
 
   lock_of_change : (change : PrefixChange) → p.lock ≡ q.lock → (changed change q).lock ≡ (changed change p).lock
   lock_of_change Keeps e = sym e
-  lock_of_change ClearsOperandSize e = sym e
-  lock_of_change SetsEs e = sym e
+  lock_of_change change e = sym e
 
   retailed : (plan : Plan) (tail address : List ℕ) (reading : Reading) (h : SpellsTail plan p m tail reading) → p.lock ≡ q.lock → h.pieces.memory ≡ Some raw → is_memory n ≡ true → SpellsRaw q n address other → Retailed plan n address h.pieces.immediates h.pieces.suffix reading
   retailed plan tail address reading h same read memory spells =

@@ -16,10 +16,7 @@ rex_by true byte k e h = grind (arith, nat_tests)
 rex_by false byte k e h = e
 
 bits_small : (x b : Bool) → (if x then 2 else 0) + (if b then 1 else 0) < 4
-bits_small true true = omega arith
-bits_small true false = omega arith
-bits_small false true = omega arith
-bits_small false false = omega arith
+bits_small x b = grind arith
 
 stays_rex : (x b : Bool) (byte : ℕ) → is_rex (byte_with x b byte) ≡ is_rex byte
 stays_rex x b byte = rex_by (is_rex byte) byte _ refl (bits_small x b)

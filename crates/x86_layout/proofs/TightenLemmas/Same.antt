@@ -24,7 +24,7 @@ use Rattle.x86_operands.specs.declared.operands.Operand.TheVariants as operands
 use Rattle.x86_operands.specs.declared.plans.OperandEncoding.{OperandEncoding}
 use Rattle.x86_operands.specs.declared.plans.OperandEncoding.TheVariants.{G, Gmm, E, Emm, M, U, Umm}
 use Rattle.x86_operands.specs.declared.plans.PrefixChange.{PrefixChange}
-use Rattle.x86_operands.specs.declared.plans.PrefixChange.TheVariants.{Keeps, ClearsOperandSize, SetsEs}
+use Rattle.x86_operands.specs.declared.plans.PrefixChange.TheVariants.{Keeps}
 use Rattle.x86_operands.specs.declared.plans.Plan.{Plan}
 use Rattle.x86_operands.specs.declared.reader.Reading.{Reading}
 use Rattle.x86_operands.specs.Shape.{shape}
@@ -63,8 +63,7 @@ register_by c p n = refl
 
 mark_by : (change : PrefixChange) (p : Prefixes) → cleared (changed change p) ≡ changed change (cleared p)
 mark_by Keeps p = refl
-mark_by ClearsOperandSize p = refl
-mark_by SetsEs p = refl
+mark_by change p = refl
 
 module _ (p q : Prefixes) (alike : cleared q ≡ cleared p) where
   same_r : has_r q ≡ has_r p
@@ -265,8 +264,7 @@ scale_small (Some sib) h = power (scale_field sib) (omega (arith, h))
 
 mark_67 : (change : PrefixChange) (p : Prefixes) → (changed change p).address_size ≡ p.address_size
 mark_67 Keeps p = refl
-mark_67 ClearsOperandSize p = refl
-mark_67 SetsEs p = refl
+mark_67 change p = refl
 
 -- 67 of the raw fields is that of the instruction
 same_67 : (strict : Bool) (s : List ℕ) (a : Instruction) (is : IsSentence (rows_of packed) strict s a) (raw : Raw) → is.whole.asked.behind.pieces.memory ≡ Some raw → a.prefixes.address_size ≡ raw.address_size

@@ -10,7 +10,7 @@ use Rattle.x86_fields.specs.Raw.{displacement_width, sib_fits, disp_fits, is_zer
 use Rattle.x86_fields.specs.Address.{address_register, next_pointer, base_by, base_of, index_by, scale_by}
 use Rattle.x86_fields.specs.Linear.{adds_to, adds_next, constant_by, modulus_by, raw_form, IsSameAddress}
 use Rattle.x86_layout.specs.declared.tightening.registers.Scale.{Scale}
-use Rattle.x86_layout.specs.declared.tightening.registers.Scale.TheVariants.{One, Two, Four, Eight}
+use Rattle.x86_layout.specs.declared.tightening.registers.Scale.TheVariants.{One, Two}
 use Rattle.x86_layout.specs.declared.tightening.registers.AddressRegisters.{AddressRegisters}
 use Rattle.x86_layout.specs.Tightening.Registers.{is_ip_by, is_ip_relative, number_of, scale_named, registers_of, times, part_weight, weight, IsBelow16, IsIndex, IsByteOption}
 use Rattle.x86_layout.specs.Tightening.Shortest.{asks_displacement, exchanged, arranged, shortest_registers, bytes_by, bytes_at, address_length, mod_behind, mod_of, fourth_bit, scale_bits, field_or, rm_alone, rm_by, sib_by, spelled, shortest, IsOfBytes, field_bits}
@@ -41,42 +41,30 @@ arranged_stands d None None s hb hi = (tt, tt)
 arranged_stands d (Some b) None s hb hi = (hb, tt)
 arranged_stands d None (Some i) One hb hi = (hi.0, tt)
 arranged_stands d None (Some i) Two hb hi = (hi.0, hi)
-arranged_stands d None (Some i) Four hb hi = (tt, hi)
-arranged_stands d None (Some i) Eight hb hi = (tt, hi)
+arranged_stands d None (Some i) s hb hi = (tt, hi)
 arranged_stands d (Some b) (Some i) One hb hi = exchanged_stands d b i hb hi
-arranged_stands d (Some b) (Some i) Two hb hi = (hb, hi)
-arranged_stands d (Some b) (Some i) Four hb hi = (hb, hi)
-arranged_stands d (Some b) (Some i) Eight hb hi = (hb, hi)
+arranged_stands d (Some b) (Some i) s hb hi = (hb, hi)
 
 -- the registers count as before
 double : (t : Bool) → (if t then 1 else 0) + (if t then 1 else 0) ≡ 0 + (if t then 2 else 0)
 double true = omega arith
 double false = omega arith
 
-turned : (a b : ℕ) → a + b ≡ b + a
-turned a b = omega arith
-
-nothing_behind : (n : ℕ) → n + 0 ≡ 0 + n
-nothing_behind n = omega arith
-
 exchanged_weighs : (d : ℤ) (b i r : ℕ) → weight (exchanged d b i) r ≡ Weigh (Some b) (Some i) One r
 exchanged_weighs d b i r = by (is_zero d && (asks_displacement b && not (asks_displacement i)))
   where
     by : (t : Bool) → weight (if t then record { base = Some i; index = Some b; scale = One } else record { base = Some b; index = Some i; scale = One }) r ≡ Weigh (Some b) (Some i) One r
-    by true = turned (part_weight (Some i) 1 r) (part_weight (Some b) 1 r)
+    by true = omega arith
     by false = refl
 
 arranged_weighs : (d : ℤ) (b i : Option ℕ) (s : Scale) (r : ℕ) → weight (arranged d b i s) r ≡ Weigh b i s r
 arranged_weighs d None None s r = refl
 arranged_weighs d (Some b) None s r = refl
-arranged_weighs d None (Some i) One r = nothing_behind (part_weight (Some i) 1 r)
+arranged_weighs d None (Some i) One r = omega arith
 arranged_weighs d None (Some i) Two r = double (i == r)
-arranged_weighs d None (Some i) Four r = refl
-arranged_weighs d None (Some i) Eight r = refl
+arranged_weighs d None (Some i) s r = refl
 arranged_weighs d (Some b) (Some i) One r = exchanged_weighs d b i r
-arranged_weighs d (Some b) (Some i) Two r = refl
-arranged_weighs d (Some b) (Some i) Four r = refl
-arranged_weighs d (Some b) (Some i) Eight r = refl
+arranged_weighs d (Some b) (Some i) s r = refl
 
 -- ---- spelled fields
 
@@ -125,9 +113,7 @@ spelled_sib at None = byte (scale_bits at.scale) (field_or 4 at.index) (field_or
 
     field : (s : Scale) → scale_bits s < 4
     field One = omega arith
-    field Two = omega arith
-    field Four = omega arith
-    field Eight = omega arith
+    field s = omega arith
 
 pub shortest_is_of_bytes : (raw : Raw) → IsOfBytes raw → IsOfBytes (shortest raw)
 unfolding shortest
@@ -221,16 +207,13 @@ arranged_low d None None s hb hi = (refl, refl)
 arranged_low d (Some b) None s hb hi = (hb, refl)
 arranged_low d None (Some i) One hb hi = (hi, refl)
 arranged_low d None (Some i) Two hb hi = (hi, hi)
-arranged_low d None (Some i) Four hb hi = (refl, hi)
-arranged_low d None (Some i) Eight hb hi = (refl, hi)
-arranged_low d (Some b) (Some i) Two hb hi = (hb, hi)
-arranged_low d (Some b) (Some i) Four hb hi = (hb, hi)
-arranged_low d (Some b) (Some i) Eight hb hi = (hb, hi)
+arranged_low d None (Some i) s hb hi = (refl, hi)
 arranged_low d (Some b) (Some i) One hb hi = by (is_zero d && (asks_displacement b && not (asks_displacement i)))
   where
     by : (t : Bool) → (let at : AddressRegisters = if t then record { base = Some i; index = Some b; scale = One } else record { base = Some b; index = Some i; scale = One } in (fourth_bit at.base ≡ false) × (fourth_bit at.index ≡ false))
     by true = (hi, hb)
     by false = (hb, hi)
+arranged_low d (Some b) (Some i) s hb hi = (hb, hi)
 
 low_number : (n : ℕ) → n < 8 → nat_le 8 n ≡ false
 low_number n h = grind (arith, nat_tests)

@@ -6,7 +6,7 @@ use Rattle.x86_fields.specs.Raw.{names_no_base, displacement_width, sib_fits, is
 use Rattle.x86_fields.specs.declared.raw.Raw.{Raw}
 use Rattle.x86_fields.specs.Address.{extend, address_register, next_pointer, base_by, index_by, scale_by}
 use Rattle.x86_layout.specs.declared.tightening.registers.Scale.{Scale}
-use Rattle.x86_layout.specs.declared.tightening.registers.Scale.TheVariants.{One, Two, Four, Eight}
+use Rattle.x86_layout.specs.declared.tightening.registers.Scale.TheVariants.{One}
 use Rattle.x86_layout.specs.Tightening.Registers.{number_of, scale_named, IsBelow16, IsIndex}
 use Rattle.x86_layout.specs.Tightening.Shortest.{asks_displacement, behind_base, bytes_by, mod_behind, mod_of, fourth_bit, scale_bits, field_or, rm_alone, sib_by, rm_by, field_bits}
 
@@ -69,18 +69,10 @@ fitting false five true = refl
 fitting false five false = refl
 
 mod_small : (naught five byte : Bool) → Mod naught five byte < 3
-mod_small true true true = omega arith
-mod_small true true false = omega arith
-mod_small true false byte = omega arith
-mod_small false five true = omega arith
-mod_small false five false = omega arith
+mod_small naught five byte = grind arith
 
 behind_small : (naught five byte : Bool) → Behind naught five byte ≤ 4
-behind_small true true true = omega arith
-behind_small true true false = omega arith
-behind_small true false byte = omega arith
-behind_small false five true = omega arith
-behind_small false five false = omega arith
+behind_small naught five byte = grind arith
 
 pub not_bare_five : (naught five byte : Bool) → (((if naught && not five then 0 else (if byte then 1 else 2)) == 0) && five) ≡ false
 not_bare_five true true true = refl
@@ -262,9 +254,7 @@ module _ (d : ℤ) (m : ℕ) (below : m < 8) where
 
   named : (s : Scale) → scale_named (2 ^ scale_bits s) ≡ s
   named One = refl
-  named Two = refl
-  named Four = refl
-  named Eight = refl
+  named s = refl
 
   pub spelled_scale : (b : Option ℕ) (i : ℕ) (s : Scale) → scale_named (scale_by (Sib b (Some i) s)) ≡ s
   spelled_scale None i s = ap (λ n. scale_named (2 ^ n)) (sib_high None (Some i) s) ∙ named s

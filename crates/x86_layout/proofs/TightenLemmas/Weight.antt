@@ -20,23 +20,18 @@ there b n r h = grind (arith, nat_tests)
 
 some_times : (s : Scale) → 0 < times s
 some_times One = omega arith
-some_times Two = omega arith
-some_times Four = omega arith
-some_times Eight = omega arith
+some_times s = omega arith
 
 -- ---- bytes
 
 bare_or : (a b : Bool) → (if a then 0 else (if b then 1 else 4)) ≤ 4
-bare_or true b = omega arith
-bare_or false true = omega arith
-bare_or false false = omega arith
+bare_or a b = grind arith
 
 at_most_four : (d : ℤ) (b : ℕ) → behind_base d b ≤ 4
 at_most_four d b = bare_or (is_bare d b) (is_byte d)
 
 flag_small : (t : Bool) → (if t then 1 else 0) ≤ 1
-flag_small true = omega arith
-flag_small false = omega arith
+flag_small t = grind arith
 
 pub at_most_five : (d : ℤ) (b i : Option ℕ) → bytes_by d b i ≤ 5
 at_most_five d None i = omega arith
@@ -98,9 +93,7 @@ twice r b' i' s s' e f =
 
 one_index : (d : ℤ) (r b' : ℕ) (i' : Option ℕ) (s s' : Scale) → r < 16 → b' < 16 → IsIndex i' → ((k : ℕ) → k < 16 → 0 + part_weight (Some r) (times s) k ≡ Weigh (Some b') i' s' k) → bytes_at d (lone r s) ≤ bytes_by d (Some b') i'
 one_index d r b' i' One s' hr hb hi e = one_base d r b' i' s' hr hb hi (λ k h. let f = e k h in omega (arith, f))
-one_index d r b' None Two s' hr hb hi e = let f = e b' hb in absurd (let m = many r b' Two hr (omega (arith, f)) in omega (arith, m))
-one_index d r b' None Four s' hr hb hi e = let f = e b' hb in absurd (let m = many r b' Four hr (omega (arith, f)) in omega (arith, m))
-one_index d r b' None Eight s' hr hb hi e = let f = e b' hb in absurd (let m = many r b' Eight hr (omega (arith, f)) in omega (arith, m))
+one_index d r b' None s s' hr hb hi e = let f = e b' hb in absurd (let m = many r b' s hr (omega (arith, f)) in omega (arith, m))
 one_index d r b' (Some i') Two s' hr hb hi e =
     let f = e b' hb in
     let g = e i' hi.0 in
@@ -112,9 +105,7 @@ one_index d r b' (Some i') Four s' hr hb hi e =
   where
     not_four : (s : Scale) → 4 ≡ 1 + times s → ⊥
     not_four One h = omega arith
-    not_four Two h = omega arith
-    not_four Four h = omega arith
-    not_four Eight h = omega arith
+    not_four s h = omega arith
 one_index d r b' (Some i') Eight s' hr hb hi e =
     let f = e b' hb in
     let g = e i' hi.0 in
@@ -122,9 +113,7 @@ one_index d r b' (Some i') Eight s' hr hb hi e =
   where
     not_eight : (s : Scale) → 8 ≡ 1 + times s → ⊥
     not_eight One h = omega arith
-    not_eight Two h = omega arith
-    not_eight Four h = omega arith
-    not_eight Eight h = omega arith
+    not_eight s h = omega arith
 
 -- two registers are no base alone
 two_are_two : (b i b' : ℕ) (s : Scale) → Weigh (Some b) (Some i) s b ≡ part_weight (Some b') 1 b + 0 → Weigh (Some b) (Some i) s i ≡ part_weight (Some b') 1 i + 0 → ⊥
@@ -140,9 +129,7 @@ two_are_two b i b' s e f =
 
 times_one : (s : Scale) → times s ≡ 1 → s ≡ One
 times_one One e = refl
-times_one Two e = absurd (omega (arith, e))
-times_one Four e = absurd (omega (arith, e))
-times_one Eight e = absurd (omega (arith, e))
+times_one s e = absurd (omega (arith, e))
 
 -- the base of two registers is the same, or the index that counts once
 which_by : (t : Bool) (b i : ℕ) (s : Scale) (b' i' : ℕ) (s' : Scale) → (b == b') ≡ t → Weigh (Some b) (Some i) s b ≡ Weigh (Some b') (Some i') s' b → Weigh (Some b) (Some i) s i ≡ Weigh (Some b') (Some i') s' i → Weigh (Some b) (Some i) s b' ≡ Weigh (Some b') (Some i') s' b' → (b ≡ b') ⊎ ((i ≡ b') × (s ≡ One))
@@ -172,15 +159,7 @@ abbrev Behind : Bool → Bool → Bool → ℕ
 Behind zero asks byte = if zero && not asks then 0 else (if byte then 1 else 4)
 
 exchange_spares : (zero byte b i : Bool) → ((if zero && (b && not i) then Behind zero i byte else Behind zero b byte) ≤ Behind zero b byte) × ((if zero && (b && not i) then Behind zero i byte else Behind zero b byte) ≤ Behind zero i byte)
-exchange_spares true true true true = (omega arith, omega arith)
-exchange_spares true true true false = (omega arith, omega arith)
-exchange_spares true true false true = (omega arith, omega arith)
-exchange_spares true true false false = (omega arith, omega arith)
-exchange_spares true false true true = (omega arith, omega arith)
-exchange_spares true false true false = (omega arith, omega arith)
-exchange_spares true false false true = (omega arith, omega arith)
-exchange_spares true false false false = (omega arith, omega arith)
-exchange_spares false byte b i = (omega arith, omega arith)
+exchange_spares zero byte b i = (grind arith, grind arith)
 
 exchanged_bytes : (t : Bool) (d : ℤ) (b i : ℕ) → bytes_at d (if t then record { base = Some i; index = Some b; scale = One } else record { base = Some b; index = Some i; scale = One }) ≡ 1 + (if t then behind_base d i else behind_base d b)
 exchanged_bytes true d b i = refl
@@ -200,9 +179,7 @@ spares_index d b i = one_more _ _ (behind_base d i) (exchanged_is d b i) (exchan
 
 kept_base : (d : ℤ) (b i : ℕ) (s : Scale) → bytes_at d (both d b i s) ≤ 1 + behind_base d b
 kept_base d b i One = spares_base d b i
-kept_base d b i Two = omega arith
-kept_base d b i Four = omega arith
-kept_base d b i Eight = omega arith
+kept_base d b i s = omega arith
 
 by_base : (d : ℤ) (b i : ℕ) (s : Scale) (b' : ℕ) → (b ≡ b') ⊎ ((i ≡ b') × (s ≡ One)) → bytes_at d (both d b i s) ≤ 1 + behind_base d b'
 by_base d b i s b' (inl e) = subst (λ k. bytes_at d (both d b i s) ≤ 1 + behind_base d k) e (kept_base d b i s)
