@@ -4,3 +4,4 @@ pub mod Tells
 pub mod Writes
 pub mod Reads
 pub mod Flat
+pub mod Skip

@@ -4,4 +4,6 @@ pub mod Kind
 pub mod Read
 pub mod Pair
 pub mod Fill
+pub mod Begins
+pub mod Held
 pub mod Front

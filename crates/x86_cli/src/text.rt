@@ -2,5 +2,6 @@
 
 mod held;
 mod kinds;
+mod pairs;
 pub mod reader;
 pub mod window;

@@ -6,30 +6,27 @@ use std::io;
 use std::io::{ErrorKind, Read, Write};
 use x86_cli::{Finished, Status, listed};
 
-/// Gives one byte a read, and fails at the read with a number, from 0.
+/// Returns at most so many bytes a read, and fails at the read with a number, from 0.
 #[derive(Drop)]
-struct OneByOne<'a> {
+struct Few<'a> {
     bytes: &'a [u8],
+    most: usize,
     read: u64,
     fails: u64,
     error: ErrorKind,
 }
 
-impl Read for OneByOne<'_> {
+impl Read for Few<'_> {
     fn read(&mut self, buf: &mut [u8]) -> io::Result<usize> {
         let read = self.read;
         self.read = read.saturating_add(1);
         if read == self.fails {
             return Err(io::Error::from(self.error));
         }
-        match self.bytes.split_first() {
-            Some((first, rest)) if !buf.is_empty() => {
-                buf[0] = *first;
-                self.bytes = rest;
-                Ok(1)
-            }
-            _ => Ok(0),
-        }
+        let count = self.most.min(buf.len()).min(self.bytes.len());
+        buf[..count].copy_from_slice(&self.bytes[..count]);
+        self.bytes = &self.bytes[count..];
+        Ok(count)
     }
 }
 
@@ -125,10 +122,18 @@ fn ends<R: Read + Drop>(alloc: Global, reader: R, written: &str, code: u8) -> bo
     }
 }
 
-/// Whether the listing of a text, whose read with a number fails, is written and ends with this code.
-fn fails_at(alloc: Global, fails: u64, error: ErrorKind, written: &str, code: u8) -> bool {
-    let reader = OneByOne {
+/// Whether the listing of a text is this and ends with this code, where a read returns at most so many bytes, and the read
+/// with a number fails.
+fn fails_at(
+    alloc: Global,
+    (most, fails): (usize, u64),
+    error: ErrorKind,
+    written: &str,
+    code: u8,
+) -> bool {
+    let reader = Few {
         bytes: b"90 90",
+        most,
         read: 0,
         fails,
         error,
@@ -139,24 +144,38 @@ fn fails_at(alloc: Global, fails: u64, error: ErrorKind, written: &str, code: u8
 #[test]
 fn readers_that_fail(rt: HostRuntime) {
     let one = "0 1 NOP m0\nread fault\n";
+    let both = "0 1 NOP m0\n1 1 NOP m0\nread fault\n";
+    let whole = "0 1 NOP m0\n1 1 NOP m0\n";
     let worked = [
-        (0, "read fault\n", 5),
-        (1, "read fault\n", 5),
-        (2, one, 5),
-        (3, one, 5),
-        (4, one, 5),
-        (5, "0 1 NOP m0\n1 1 NOP m0\nread fault\n", 5),
-        (6, "0 1 NOP m0\n1 1 NOP m0\n", 0),
+        (1, 0, "read fault\n", 5),
+        (1, 1, "read fault\n", 5),
+        (1, 2, one, 5),
+        (1, 3, one, 5),
+        (1, 4, one, 5),
+        (1, 5, both, 5),
+        (1, 6, whole, 0),
+        // Reads of more than one byte, after which bytes are ahead.
+        (2, 1, one, 5),
+        (2, 2, one, 5),
+        (2, 3, both, 5),
+        (2, 4, whole, 0),
+        (4, 1, one, 5),
+        (4, 2, both, 5),
+        (4, 3, whole, 0),
+        (64, 0, "read fault\n", 5),
+        (64, 1, both, 5),
+        (64, 2, whole, 0),
     ];
-    for (fails, written, code) in worked {
-        assert!(&rt; fails_at(rt.alloc(), fails, ErrorKind::Other, written, code));
+    for (most, fails, written, code) in worked {
+        assert!(&rt; fails_at(rt.alloc(), (most, fails), ErrorKind::Other, written, code));
     }
 }
 
 /// How many reads the listing of this text makes, where each returns one byte.
 fn reads_of(alloc: Global, text: &[u8]) -> Option<u64> {
-    let reader = OneByOne {
+    let reader = Few {
         bytes: text,
+        most: 1,
         read: 0,
         fails: u64::MAX,
         error: ErrorKind::Other,
@@ -210,7 +229,15 @@ fn a_failed_write_is_not_tried_again(rt: HostRuntime) {
 
 #[test]
 fn an_interrupted_read_is_a_fault_too(rt: HostRuntime) {
-    assert!(&rt; fails_at(rt.alloc(), 0, ErrorKind::Interrupted, "read fault\n", 5));
+    assert!(&rt;
+        fails_at(
+            rt.alloc(),
+            (1, 0),
+            ErrorKind::Interrupted,
+            "read fault\n",
+            5
+        )
+    );
 }
 
 #[test]

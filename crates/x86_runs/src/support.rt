@@ -1,6 +1,6 @@
 //! What tests of runs have in common.
 
-ghost use Rattle.std.specs.Prelude.{None};
+ghost use Rattle.std.specs.Prelude.{None, []};
 ghost use Rattle.x86_cli.specs.Outside.Source.{TellsGot};
 ghost use Rattle.x86_cli.specs.Outside.Sink.{TellsPut};
 
@@ -81,6 +81,8 @@ impl Source for Repeated<'_> {
 
     ghost gives = { λ s g t. TellsGot g None None 0 0 };
 
+    ghost ahead = { λ s. [] };
+
     ghost tells = { λ s g t h. h };
 
     fn next(&mut self) -> Got {
@@ -101,6 +103,12 @@ impl Source for Repeated<'_> {
             None => Got::End,
         }
     }
+
+    fn ahead(&self) -> &[u8] {
+        &[]
+    }
+
+    fn skip(&mut self, _count: usize) {}
 }
 
 /// Counts the pieces, and compares each with what is wanted of the last.

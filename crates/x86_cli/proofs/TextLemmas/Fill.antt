@@ -7,7 +7,7 @@ use Rattle.x86_cli.specs.declared.text.reader.Piece.TheVariants.{Byte, Stopped}
 use Rattle.x86_cli.specs.Text.{Text, text_at}
 use Rattle.x86_cli.specs.Text.Reading.{NeedsMore, AskedWhere, Gave, MayCome, Reads}
 use Rattle.x86_cli.specs.Text.Window.{behind, rest_of, Fills}
-use Rattle.x86_cli.proofs.TextLemmas.Read.{gave-gave, asked-asked, asked-where}
+use Rattle.x86_cli.proofs.TextLemmas.Read.{gave-gave, asked-asked, asked-where, asked-same}
 
 -- with bytes at its front, fewer than k, a text needs more of these
 pub more_behind : (k n : ℕ) (w : List ℕ) (t : Text) → length w + n ≤ k → NeedsMore n t → NeedsMore k (behind w t)
@@ -65,3 +65,20 @@ module _ {S : Type 0} (gives : S → Got → S → Type 0) (Holds : Text → Typ
   -- the window is full
   pub filled : (old : List ℕ → Stop → Text) (w : List ℕ) (p r : ℕ) (a b : S) → Filling old w p r a b → Fills gives Holds old None w p r a b
   filled old w p r a b so_far = record { bytes = so_far.bytes; stop = None; gave = so_far.gave; asked = so_far.asked; goes_on = refl; rest = λ xs stop _. so_far.rest xs stop }
+
+  -- one taking after another
+  pub fills_fills : (old : List ℕ → Stop → Text) (w : List ℕ) (p r : ℕ) (ended : Option Ending) (w' : List ℕ) (p' r' : ℕ) (a b d : S) →
+      Fills gives Holds old None w p r a b → Fills gives Holds (rest_of None w p r) ended w' p' r' b d → Fills gives Holds old ended w' p' r' a d
+  fills_fills old w p r ended w' p' r' a b d f g =
+      let gave : Gave gives f.bytes None a b = let P : Option Stop → Type 0 = λ o. Gave gives f.bytes o a b in subst P f.goes_on f.gave in
+      let asked : AskedWhere Holds old f.bytes None = let P : Option Stop → Type 0 = λ o. AskedWhere Holds old f.bytes o in subst P f.goes_on f.asked in
+      let open_yet : (xs : List ℕ) (s : Stop) → MayCome f.stop xs s = λ xs s. rw f.goes_on tt in
+      record {
+        bytes = f.bytes ++ g.bytes;
+        stop = g.stop;
+        gave = gave-gave gives f.bytes g.bytes g.stop a b d gave g.gave;
+        asked = asked-asked Holds old f.bytes g.bytes g.stop asked
+            (asked-same Holds (rest_of None w p r) (λ xs s. old (f.bytes ++ xs) s) g.bytes g.stop (λ xs. f.rest xs Failed (open_yet xs Failed)) g.asked);
+        goes_on = g.goes_on;
+        rest = λ xs s may. rw append_assoc (f.rest (g.bytes ++ xs) s (open_yet (g.bytes ++ xs) s) ∙ g.rest xs s may);
+      }

@@ -25,15 +25,15 @@ asked-where Holds Follows other text (x ∷ t) stop e a =
     (e [] a.0, asked-where Holds Follows (λ xs s. other (x ∷ xs) s) (λ xs s. text (x ∷ xs) s) t stop (λ xs. e (x ∷ xs)) a.1)
 
 -- of equal texts
-asked-same : (Holds : Text → Type 0) (other text : List ℕ → Stop → Text) (t : List ℕ) (stop : Option Stop) → ((xs : List ℕ) → text xs Failed ≡ other xs Failed) →
+pub asked-same : (Holds : Text → Type 0) (other text : List ℕ → Stop → Text) (t : List ℕ) (stop : Option Stop) → ((xs : List ℕ) → text xs Failed ≡ other xs Failed) →
     AskedWhere Holds other t stop → AskedWhere Holds text t stop
 asked-same Holds other text t stop e a = asked-where Holds Holds other text t stop (λ xs h. subst Holds (sym (e xs)) h) a
 
 -- a text that is just begun, and one of which half a pair came, need more
-more_new : (p r : ℕ) → NeedsMore 1 (text_at p r [] Failed)
+pub more_new : (p r : ℕ) → NeedsMore 1 (text_at p r [] Failed)
 more_new p r = rw (text-failed p r) (refl, omega arith)
 
-more_half : (p r x v : ℕ) → is_blank x ≡ false → value_of x ≡ Some v → NeedsMore 1 (text_at p (suc r) (x ∷ []) Failed)
+pub more_half : (p r x v : ℕ) → is_blank x ≡ false → value_of x ≡ Some v → NeedsMore 1 (text_at p (suc r) (x ∷ []) Failed)
 more_half p r x v blank digit = rw (text-half_failed p r x v blank digit) (refl, omega arith)
 
 module _ {S : Type 0} (gives : S → Got → S → Type 0) where

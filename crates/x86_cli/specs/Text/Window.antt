@@ -1,7 +1,7 @@
 -- What a window has taken, and what it shows.
-use Rattle.std.specs.Prelude.{Bool, ◌≡◌, ◌≢◌, ℕ, ◌<◌, ◌≤◌, List, ◌++◌, length, Option, Some, None, ⊤}
+use Rattle.std.specs.Prelude.{Bool, ◌≡◌, ◌≢◌, ℕ, ◌+◌, ◌<◌, ◌≤◌, List, ◌++◌, length, Option, Some, None, ⊤}
 use Rattle.x86_cli.specs.declared.outside.source.Got.{Got}
-use Rattle.x86_cli.specs.Text.Reading.{Gave, AskedWhere, MayCome}
+use Rattle.x86_cli.specs.Text.Reading.{Gave, AskedWhere, NeedsMore, MayCome}
 use Rattle.x86_decode.specs.declared.instructions.Instruction.{Instruction}
 use Rattle.x86_fields.specs.declared.errors.DecodeError.TheVariants.{ExhaustedInput}
 use Rattle.x86_decode.specs.Instruction.{length_of}
@@ -37,6 +37,13 @@ pub record Fills {S : Type 0} (gives : S → Got → S → Type 0) (Holds : Text
   pub asked : AskedWhere Holds old bytes stop
   pub goes_on : Open ended stop
   pub rest : (xs : List ℕ) (s : Stop) → MayCome stop xs s → old (bytes ++ xs) s ≡ rest_of ended window position room xs s
+
+-- What these bytes say of every text that begins with them: the values are at the front of its image, and the rest is the
+-- text of what follows. Each was taken where the image so far had fewer values than these.
+pub record Begins (most : ℕ) (bytes values : List ℕ) : Type 0 where
+  pub asked : (position room : ℕ) → AskedWhere (NeedsMore most) (text_at position (length bytes + room)) bytes None
+  pub rest : (position room : ℕ) (xs : List ℕ) (s : Stop) →
+      text_at position (length bytes + room) (bytes ++ xs) s ≡ behind values (text_at (position + length bytes) room xs s)
 
 -- a front, where Whole holds this instruction
 abbrev pub front_with : Instruction → Front (Unit {0}) → Front Instruction

@@ -1,6 +1,6 @@
 //! A source over a slice, of which chosen calls fail.
 
-ghost use Rattle.std.specs.Prelude.{◌≡◌, ◌≤◌, Some, drop, length};
+ghost use Rattle.std.specs.Prelude.{[], ◌≡◌, ◌≤◌, Some, drop, length};
 ghost use Rattle.x86_cli.specs.Outside.Source.{TellsGot};
 ghost use Rattle.x86_cli.specs.Outside.SliceSource.{ByNumber, is_listed};
 
@@ -62,6 +62,8 @@ impl<'a> Source for SliceSource<'a> {
     ghost gives = { λ s g t. TellsGot g (Some (drop s.position s.bytes.now)) (Some (drop t.position t.bytes.now)) s.faults t.faults
         × ByNumber g (drop s.position s.bytes.now) (slice_call s) (slice_call t) (slice_fails s) (slice_fails t) };
 
+    ghost ahead = { λ s. [] };
+
     ghost tells = { λ s g t h. h.0 };
 
     fn next(&mut self) -> Got {
@@ -79,4 +81,10 @@ impl<'a> Source for SliceSource<'a> {
             Got::End
         }
     }
+
+    fn ahead(&self) -> &[u8] {
+        &[]
+    }
+
+    fn skip(&mut self, _count: usize) {}
 }

@@ -27,6 +27,8 @@ impl<'a> Source for SoundSource<'a> {
 
     ghost gives = { λ s g t. TellsGot g (Some s.bytes.now) (Some t.bytes.now) 0 0 };
 
+    ghost ahead = { λ s. [] };
+
     ghost tells = { λ s g t h. h };
 
     fn next(&mut self) -> Got
@@ -42,4 +44,10 @@ impl<'a> Source for SoundSource<'a> {
             None => Got::End,
         }
     }
+
+    fn ahead(&self) -> &[u8] {
+        &[]
+    }
+
+    fn skip(&mut self, _count: usize) {}
 }

@@ -1,7 +1,8 @@
 //! What a text is read from.
 
-ghost use Rattle.std.specs.Prelude.{ℕ, List, Option};
+ghost use Rattle.std.specs.Prelude.{◌≡◌, ◌≤◌, ℕ, List, Option, None, length, take, drop};
 ghost use Rattle.x86_cli.specs.Outside.Source.{TellsGot};
+ghost use Rattle.x86_cli.specs.Text.Reading.{Gave};
 ghost use Rattle.x86_cli.specs.declared.outside.source.Got.{Got};
 
 /// What a source gives.
@@ -26,6 +27,19 @@ pub trait Source {
     /// The first byte left, if the source doesn't fail. A failed call takes no byte.
     fn next(&mut self) -> Got
         ensures { gives self.old result self.new };
+
+    /// The bytes that the next calls return, as many as the source knows without a call.
+    ghost ahead: { Self → List ℕ };
+
+    /// Those bytes. This is no call of `next`, and takes nothing.
+    fn ahead(&self) -> &[u8]
+        ensures { result.now ≡ ahead self.now };
+
+    /// Takes so many of the bytes ahead: as many calls of `next`, each of which returns its byte.
+    fn skip(&mut self, count: usize)
+        requires { count ≤ length (ahead self.old) }
+        ensures gave { Gave gives (take count (ahead self.old)) None self.old self.new }
+        ensures rest { ahead self.new ≡ drop count (ahead self.old) };
 
     /// What a call says, where the source tells its bytes.
     ghost tells: { (s : Self) (g : Got) (t : Self) → gives s g t → TellsGot g (left s) (left t) (faults s) (faults t) };

@@ -114,6 +114,8 @@ impl<R: Input + Drop> Source for StdSource<R> {
     ghost gives = { λ s g t. TellsGot g (prepend_known (slice_range s.buffer s.position s.filled) (R.left s.reader)) (prepend_known (slice_range t.buffer t.position t.filled) (R.left t.reader)) s.faults t.faults
         × Fetches R.reads g (slice_range s.buffer s.position s.filled) s.reader (slice_range t.buffer t.position t.filled) t.reader };
 
+    ghost ahead = { λ s. slice_range s.buffer s.position s.filled };
+
     ghost tells = { λ s g t h. h.0 };
 
     #[inline(always)]
@@ -126,5 +128,19 @@ impl<R: Input + Drop> Source for StdSource<R> {
             }
         }
         Got::Byte(self.take())
+    }
+
+    #[inline(always)]
+    fn ahead(&self) -> &[u8] {
+        &self.buffer[self.position..self.filled]
+    }
+
+    #[inline(always)]
+    fn skip(&mut self, count: usize) {
+        let mut taken = 0;
+        while taken < count {
+            self.take();
+            taken += 1;
+        }
     }
 }

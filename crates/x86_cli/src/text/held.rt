@@ -1,8 +1,10 @@
 //! The bytes that a window holds: first in, first out.
 
-ghost use Rattle.std.specs.Prelude.{◌≡◌, ℕ, ◌+◌, ◌<◌, ◌≤◌, ◌++◌, ◌∷◌, ◌==◌, [], length, take, drop};
+ghost use Rattle.std.specs.Prelude.{◌≡◌, ℕ, List, ◌+◌, ◌-◌, ◌<◌, ◌≤◌, ◌++◌, ◌∷◌, ◌==◌, [], length, take, drop};
 ghost use Rattle.arrayvec.specs.ArrayVec.{array_vec_len};
+ghost use Rattle.x86_cli.specs.Text.Window.{Begins};
 
+use crate::text::pairs::read_pairs;
 use std::marker::Model;
 
 /// The most bytes that are held: the most that an instruction may have.
@@ -86,6 +88,23 @@ impl Held {
         let end = self.end;
         self.cells[end] = byte;
         self.end = end + 1;
+    }
+
+    /// Appends the values of the pairs that a text begins with, until no further byte fits, and returns how many bytes of
+    /// the text they and the blanks before them are.
+    #[inline(always)]
+    pub fn push_pairs(&mut self, text: &[u8]) -> usize
+        ensures text { result ≤ length text.now }
+        ensures few { array_vec_len self.new ≤ 15 }
+        ensures uses { array_vec_len self.new ≤ array_vec_len self.old + result }
+        ensures begins { (values : List ℕ) × Begins (15 - array_vec_len self.old) (take result text.now) values
+            × (self.new.items ≡ self.old.items ++ values) }
+    {
+        let end = self.end;
+        let most = self.start + HELD_MAX;
+        let read = read_pairs(text, &mut self.cells[end..most]);
+        self.end = end + read.values;
+        read.text
     }
 
     /// Lets the first bytes go.

@@ -1,6 +1,6 @@
 //! Hex text, read byte by byte.
 
-ghost use Rattle.std.specs.Prelude.{◌≡◌, ℕ, ◌+◌, ◌<◌, true, false};
+ghost use Rattle.std.specs.Prelude.{◌≡◌, ℕ, ◌+◌, ◌<◌, ◌≤◌, take, true, false};
 ghost use Rattle.x86_cli.specs.Text.{is_blank, value_of};
 ghost use Rattle.x86_cli.specs.Text.Reading.{Reads, UsesRoom};
 
@@ -76,6 +76,29 @@ impl TextReader {
         ensures before { result ≡ false → 0 < self.now.room }
     {
         self.position == self.end
+    }
+
+    /// The front of a text that may be taken.
+    #[inline(always)]
+    pub fn within<'a>(&self, text: &'a [u8]) -> &'a [u8]
+        ensures { result.now ≡ take self.now.room text.entry.now }
+    {
+        let room = self.end - self.position;
+        if (text.len() as u64) < room {
+            text
+        } else {
+            &text[..room as usize]
+        }
+    }
+
+    /// Goes on by bytes that were taken.
+    #[inline(always)]
+    pub fn advance_by(&mut self, count: usize)
+        requires { count ≤ self.old.room }
+        ensures position { self.new.position ≡ self.old.position + count }
+        ensures room { self.new.room + count ≡ self.old.room }
+    {
+        self.position += count as u64;
     }
 
     #[inline(always)]

@@ -73,6 +73,8 @@ impl Window {
     }
 
     /// Takes bytes of the image until the window is full or the text has ended.
+    #[cold]
+    #[inline(never)]
     pub fn fill<S: Source>(&mut self, source: &mut S)
         requires { self.old.ended ≡ None }
         ensures fills { Fills S.gives (NeedsMore 15)
@@ -98,6 +100,22 @@ impl Window {
         self.reader = reader;
     }
 
+    /// Takes bytes of the image of those that the source has ahead, until the window is full.
+    #[inline(always)]
+    fn take_ahead<S: Source>(&mut self, source: &mut S)
+        ensures fills { Fills S.gives (NeedsMore 15)
+            (rest_of None self.old.bytes.items self.old.reader.position self.old.reader.room)
+            None self.new.bytes.items self.new.reader.position self.new.reader.room
+            source.old source.new }
+        ensures ended { self.new.ended ≡ self.old.ended }
+        ensures few { array_vec_len self.new.bytes ≤ 15 }
+        ensures uses { array_vec_len self.new.bytes + self.new.reader.room ≤ array_vec_len self.old.bytes + self.old.reader.room }
+    {
+        let taken = self.bytes.push_pairs(self.reader.within(source.ahead()));
+        source.skip(taken);
+        self.reader.advance_by(taken);
+    }
+
     /// The same, where the text may have ended.
     pub fn refill<S: Source>(&mut self, source: &mut S)
         ensures cases { MatchOption self.old.ended
@@ -111,7 +129,10 @@ impl Window {
         ensures uses { array_vec_len self.new.bytes + self.new.reader.room ≤ array_vec_len self.old.bytes + self.old.reader.room }
     {
         if self.ended.is_none() {
-            self.fill(source);
+            self.take_ahead(source);
+            if !self.bytes.is_full() {
+                self.fill(source);
+            }
         }
     }
 

@@ -1,0 +1,42 @@
+-- Bytes that are taken of those ahead, one a call.
+use Rattle.std.proofs.Common.{◌≡◌, ℕ, zero, suc, ◌+◌, ◌-◌, ◌<◌, List, [], ◌∷◌, ◌++◌, length, take, drop, min, slice_range, None, refl, arith, ap, ◌∙◌, sym, length-take}
+use Rattle.std.proofs.lemmas.List.{length-drop}
+use Rattle.x86_cli.specs.declared.outside.source.Got.{Got}
+use Rattle.x86_cli.specs.declared.outside.source.Got.TheVariants as got
+use Rattle.x86_cli.specs.Text.Reading.{Gave}
+use Rattle.x86_cli.proofs.TextLemmas.Read.{gave-gave}
+
+-- one byte more of a list
+next_of : (n : ℕ) (l : List ℕ) (x : ℕ) (t : List ℕ) → drop n l ≡ x ∷ t → (take (suc n) l ≡ take n l ++ x ∷ []) × (drop (suc n) l ≡ t)
+next_of zero [] x t e = cc
+next_of zero (y ∷ l) x t e = (cc, cc)
+next_of (suc n) [] x t e = cc
+next_of (suc n) (y ∷ l) x t e = let more = next_of n l x t e in (ap (λ v. y ∷ v) more.0, more.1)
+
+-- a part of a list that isn't empty
+pub begins_before_end : (l : List ℕ) (a b : ℕ) → 0 < length (slice_range l a b) → a < b
+begins_before_end l a b some =
+    let part : length (slice_range l a b) ≡ min (b - a) (length (drop a l)) = length-take (b - a) (drop a l) in
+    omega (arith, some, part)
+
+module _ {S : Type 0} (gives : S → Got → S → Type 0) where
+  -- n of the bytes ahead were taken, and these are ahead now
+  pub record Skipped (ahead now : List ℕ) (n : ℕ) (old new : S) : Type 0 where
+    pub gave : Gave gives (take n ahead) None old new
+    pub rest : now ≡ drop n ahead
+
+  pub skipped_none : (ahead : List ℕ) (s : S) → Skipped ahead ahead 0 s s
+  skipped_none ahead s = record { gave = refl; rest = refl }
+
+  pub skipped_more : (ahead now now' : List ℕ) (n x : ℕ) (a b d : S) → Skipped ahead now n a b → now ≡ x ∷ now' → gives b (got.Byte x) d → Skipped ahead now' (n + 1) a d
+  skipped_more ahead now now' n x a b d s next call =
+      let more = next_of n ahead x now' (sym s.rest ∙ next) in
+      let count : n + 1 ≡ suc n = omega arith in
+      record {
+        gave = rw (count, more.0) (gave-gave gives (take n ahead) (x ∷ []) None a b d s.gave (d, call, refl));
+        rest = rw count (sym more.1);
+      }
+
+  -- a byte is left
+  pub some_left : (ahead now : List ℕ) (n : ℕ) (a b : S) → Skipped ahead now n a b → n < length ahead → 0 < length now
+  some_left ahead now n a b s fits = let left = ap length s.rest ∙ length-drop n ahead in omega (arith, left, fits)

@@ -1,0 +1,27 @@
+use Rattle.std.proofs.Common.{◌≡◌, arith, inl}
+use Rattle.x86_cli.proofs.OutsideLemmas.Skip.{begins_before_end, skipped_none, skipped_more, some_left}
+use Rattle.x86_cli.proofs.outside.std_source.StdSourceSource.skip.Goals as goal
+
+pub loop-taken-init : goal.loop-taken-init
+loop-taken-init g c = record { inside = omega arith; skipped = skipped_none _ _ _ }
+
+pub take-requires : goal.take-requires
+take-requires g c =
+    begins_before_end c.loop-taken.self.buffer c.loop-taken.self.position c.loop-taken.self.filled
+    (some_left _ _ _ _ _ _ c.loop-taken.invariant.skipped (omega (arith, c.requires, c.loop-taken-test.true)))
+
+pub loop-taken-preserved : goal.loop-taken-preserved
+loop-taken-preserved g c = record {
+  inside = omega (arith, c.loop-taken-test.true);
+  skipped = skipped_more _ _ _ _ _ _ _ _ _ c.loop-taken.invariant.skipped c.take.ensures.takes (c.take.ensures.told, inl (c.take.ensures.takes, c.take.ensures.reader));
+}
+
+pub returns-clause-gave : goal.returns-clause-gave
+returns-clause-gave g c =
+    let all : c.args.count ≡ c.loop-taken.taken = omega (arith, c.loop-taken-test.false, c.loop-taken.invariant.inside) in
+    rw all c.loop-taken.invariant.skipped.gave
+
+pub returns-clause-rest : goal.returns-clause-rest
+returns-clause-rest g c =
+    let all : c.args.count ≡ c.loop-taken.taken = omega (arith, c.loop-taken-test.false, c.loop-taken.invariant.inside) in
+    rw all c.loop-taken.invariant.skipped.rest
