@@ -123,8 +123,8 @@ pub fn complete()
 /// writer has what it had and then the listing of these bytes, or a prefix of that where a write failed.
 pub fn program<R: Read, W: Write>()
     ensures lists { (c : Command) (status : Status) (r r' : R) (w w' : W) →
-        Performs ⟦<W as Output>⟧.writes ⟦<W as Output>⟧.flushes ⟦<R as Input>⟧.reads c status r r' w w' →
-        Leaves status c (R.remaining r) (W.contents w) (W.contents w') }
+        Performs ⟦<W as Output>⟧.writes ⟦<W as Output>⟧.flushes ⟦<R as Input>⟧.reads
+        c status r r' w w' → Leaves status c (R.remaining r) (W.contents w) (W.contents w') }
     ensures made { (n : ℕ) (status : Status) (w w' : W) →
         PerformsMake ⟦<W as Output>⟧.writes ⟦<W as Output>⟧.flushes n status w w' →
         Has status (made_listing n) (W.contents w) (W.contents w') }

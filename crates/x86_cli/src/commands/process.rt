@@ -24,7 +24,8 @@ pub fn words<I: Iterator<Item = String> + Drop>(
 ) -> Result<Vec<String>, AllocError>
     requires can { I.can_next arguments }
     requires finite { IsFinite (I.remaining arguments) }
-    ensures { IfOk result (λ words. WholeRun I.next_gives arguments (λ run. words.items ≡ drop 1 run.items)) }
+    ensures { IfOk result
+        (λ words. WholeRun I.next_gives arguments (λ run. words.items ≡ drop 1 run.items)) }
 {
     let mut words: Vec<String> = arguments.collect(alloc)?;
     if !words.is_empty() {

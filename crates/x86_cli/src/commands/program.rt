@@ -72,7 +72,8 @@ pub fn listed<R: Input + Drop, W: Output + Drop>(
     ensures made { (n : ℕ) → IsMake (map string_bytes arguments.now) n →
         PerformsMake W.writes W.flushes n result.status writer result.writer }
     ensures usage { (result.status ≡ Status.Usage) ↔ IsNoCommand (map string_bytes arguments.now) }
-    ensures reads_nothing { command_of (map string_bytes arguments.now) ≡ None → result.reader ≡ reader }
+    ensures reads_nothing { command_of (map string_bytes arguments.now) ≡ None →
+        result.reader ≡ reader }
     ensures writes_nothing { result.status ≡ Status.Usage → result.writer ≡ writer }
 {
     let mut source = StdSource::new(reader);

@@ -26,7 +26,8 @@ pub trait Lines {
         line: &mut Line,
     )
         requires { answer_of (is_strict decoder.now) bytes.now ≡ Ok instruction.now }
-        ensures text { line.new.items ≡ text self.now (is_strict decoder.now) place.now instruction.now bytes.now }
+        ensures text { line.new.items
+            ≡ text self.now (is_strict decoder.now) place.now instruction.now bytes.now }
         ensures short { array_vec_len line.new ≤ LINE_MAX };
 }
 

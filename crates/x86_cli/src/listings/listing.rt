@@ -102,7 +102,10 @@ pub trait Course {
         line: &mut Line,
     ) -> Step
         requires { window.now.ended ≡ None → array_vec_len window.now.bytes ≡ 15 }
-        ensures next { IsStep (lists self.now (is_strict decoder.now)) result place.now line.new.items window.now.ended window.now.bytes.items window.now.reader.position window.now.reader.room }
+        ensures next { IsStep
+            (lists self.now (is_strict decoder.now)) result place.now line.new.items
+            window.now.ended window.now.bytes.items window.now.reader.position
+            window.now.reader.room }
         ensures short { (n : ℕ) → result ≡ Step.Line n → array_vec_len line.new ≤ LINE_MAX };
 }
 
@@ -147,7 +150,9 @@ pub fn list<W: Course, S: Source, K: Sink>(
     sink: &mut K,
 ) -> Status
     requires { max < 2 ^ 62 }
-    ensures { RanInWindow S.gives K.takes (W.lists course.now (is_strict decoder.now)) max result source.old source.new sink.old sink.new }
+    ensures { RanInWindow S.gives K.takes
+        (W.lists course.now (is_strict decoder.now)) max result source.old source.new sink.old
+        sink.new }
 {
     let mut window = Window::new(max);
     let mut inst = Instruction::invalid();

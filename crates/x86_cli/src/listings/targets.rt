@@ -33,7 +33,8 @@ struct HeldText {
 /// Reads a text to its end. Each byte of the image takes at least two bytes of text.
 fn read_whole<S: Source>(max: u64, source: &mut S) -> HeldText
     requires { max ≤ 2 * IMAGE_MAX }
-    ensures { Fills S.gives IsOpen (text_of max) (Some result.ending) result.image.items 0 0 source.old source.new }
+    ensures { Fills S.gives IsOpen (text_of max)
+        (Some result.ending) result.image.items 0 0 source.old source.new }
 {
     let mut image = ArrayVec::new();
     let mut reader = TextReader::new(max);
@@ -48,7 +49,8 @@ fn read_whole<S: Source>(max: u64, source: &mut S) -> HeldText
 /// Marks the places of an image that the instructions of its sweep branch to.
 fn mark(decoder: &InstDecoder, image: &[u8], marks: &mut [bool; IMAGE_MAX])
     requires { length image.now ≤ IMAGE_MAX }
-    ensures { (p : ℕ) → p < length image.now → slice_index_or marks.new p false ≡ is_marked (is_strict decoder.now) image.now p }
+    ensures { (p : ℕ) → p < length image.now →
+        slice_index_or marks.new p false ≡ is_marked (is_strict decoder.now) image.now p }
 {
     mark_targets(decoder, image, &mut marks[..image.len()]);
 }
@@ -65,7 +67,8 @@ fn decimal(place: u64) -> Line
 /// Writes the line of a place, where it is marked.
 fn put_if_marked<K: Sink>(sink: &mut K, marked: bool, place: u64) -> Result<(), SinkFailed>
     ensures ok { OnOk result (Took K.takes (lines_if marked place) None sink.old sink.new) }
-    ensures failed { IfErr result (λ e. (marked ≡ true) × K.takes sink.old (place_line place) (Err e) sink.new) }
+    ensures failed { IfErr result
+        (λ e. (marked ≡ true) × K.takes sink.old (place_line place) (Err e) sink.new) }
 {
     if marked {
         let mut line = decimal(place);
@@ -83,7 +86,8 @@ pub fn targets<S: Source, K: Sink>(
     sink: &mut K,
 ) -> Status
     requires { max ≤ 2 * IMAGE_MAX }
-    ensures { Ran S.gives K.takes (targets_at (is_strict decoder.now) 0) max result source.old source.new sink.old sink.new }
+    ensures { Ran S.gives K.takes
+        (targets_at (is_strict decoder.now) 0) max result source.old source.new sink.old sink.new }
 {
     let text = read_whole(max, source);
     let image = text.image.as_slice();

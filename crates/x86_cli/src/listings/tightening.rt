@@ -16,7 +16,8 @@ use x86_text::{LINE_MAX, Line, Place};
 pub struct LeastLines;
 
 impl Lines for LeastLines {
-    ghost text = { λ s strict place instruction bytes. least_text place (length_of instruction) (shortest_length strict bytes) };
+    ghost text = { λ s strict place instruction bytes. least_text place (length_of instruction)
+        (shortest_length strict bytes) };
 
     fn write(
         &self,

@@ -60,8 +60,10 @@ impl<const N: usize> Sink for ArraySink<N> {
 
     ghost faults = { λ s. s.faults };
 
-    ghost takes = { λ s piece r t. TellsPut r piece (Some s.bytes.items) (Some t.bytes.items) s.faults t.faults
-        × PutByNumber r N piece s.bytes.items t.bytes.items (array_call s) (array_call t) (array_fails s) (array_fails t) };
+    ghost takes = { λ s piece r t. TellsPut r piece (Some s.bytes.items)
+        (Some t.bytes.items) s.faults t.faults
+        × PutByNumber r N piece s.bytes.items t.bytes.items (array_call s) (array_call t)
+        (array_fails s) (array_fails t) };
 
     ghost tells = { λ s piece r t h. h.0 };
 

@@ -45,8 +45,8 @@ impl<W: Output + Drop> Gathered<W> {
     /// Sends what was gathered.
     fn send(&mut self) -> Result<(), SinkFailed>
         ensures empty { OnOk result (held_bytes self.new ≡ []) }
-        ensures forwards { Forwards W.writes W.flushes result [] (held_bytes self.old) (held_bytes self.new)
-            (writer_behind self.old) (writer_behind self.new) }
+        ensures forwards { Forwards W.writes W.flushes result [] (held_bytes self.old)
+            (held_bytes self.new) (writer_behind self.old) (writer_behind self.new) }
     {
         let (sent, result) = send_out(&mut self.writer, self.bytes.as_slice());
         self.bytes.leave(sent);
@@ -60,7 +60,8 @@ impl<W: Output + Drop> Gathered<W> {
         ensures bound { WritesAtMost result buf.now }
         ensures some { IfOk result (λ n. n ≡ 0 → length buf.now ≡ 0) }
         ensures forwards { Forwards W.writes W.flushes result (taken_by result buf.now)
-            (held_bytes self.old) (held_bytes self.new) (writer_behind self.old) (writer_behind self.new) }
+            (held_bytes self.old) (held_bytes self.new) (writer_behind self.old)
+            (writer_behind self.new) }
     {
         if self.bytes.left() == 0 {
             self.send()?;

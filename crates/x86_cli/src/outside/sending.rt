@@ -13,7 +13,8 @@ fn write_some<W: Output>(writer: &mut W, bytes: &[u8]) -> Result<usize, SinkFail
     requires { 0 < length bytes.now }
     ensures bound { WritesAtMost result bytes.now }
     ensures some { IfOk result (λ n. 0 < n) }
-    ensures caused { Caused W.writes W.flushes result (taken_by result bytes.now) writer.old writer.new }
+    ensures caused { Caused W.writes W.flushes result
+        (taken_by result bytes.now) writer.old writer.new }
 {
     for _ in 0..u64::MAX {
         match writer.write(bytes) {
@@ -36,7 +37,8 @@ fn write_some<W: Output>(writer: &mut W, bytes: &[u8]) -> Result<usize, SinkFail
 pub fn send_out<W: Output>(writer: &mut W, bytes: &[u8]) -> (usize, Result<(), SinkFailed>)
     ensures bound { result.0 ≤ length bytes.now }
     ensures all { OnOk result.1 (result.0 ≡ length bytes.now) }
-    ensures caused { Caused W.writes W.flushes result.1 (take result.0 bytes.now) writer.old writer.new }
+    ensures caused { Caused W.writes W.flushes result.1
+        (take result.0 bytes.now) writer.old writer.new }
 {
     let mut sent = 0;
     while sent < bytes.len() {

@@ -24,5 +24,6 @@ pub trait Sink {
         ensures { takes self.old piece.now result self.new };
 
     /// What a put says, where the sink tells what was written.
-    ghost tells: { (s : Self) (piece : List ℕ) (r : Result ⊤ SinkFailed) (t : Self) → takes s piece r t → TellsPut r piece (written s) (written t) (faults s) (faults t) };
+    ghost tells: { (s : Self) (piece : List ℕ) (r : Result ⊤ SinkFailed) (t : Self) →
+        takes s piece r t → TellsPut r piece (written s) (written t) (faults s) (faults t) };
 }

@@ -59,8 +59,10 @@ impl<'a> Source for SliceSource<'a> {
 
     ghost faults = { λ s. s.faults };
 
-    ghost gives = { λ s g t. TellsGot g (Some (drop s.position s.bytes.now)) (Some (drop t.position t.bytes.now)) s.faults t.faults
-        × ByNumber g (drop s.position s.bytes.now) (slice_call s) (slice_call t) (slice_fails s) (slice_fails t) };
+    ghost gives = { λ s g t. TellsGot g (Some (drop s.position s.bytes.now))
+        (Some (drop t.position t.bytes.now)) s.faults t.faults
+        × ByNumber g (drop s.position s.bytes.now) (slice_call s) (slice_call t) (slice_fails s)
+        (slice_fails t) };
 
     ghost ahead = { λ s. [] };
 

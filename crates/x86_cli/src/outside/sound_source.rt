@@ -34,7 +34,8 @@ impl<'a> Source for SoundSource<'a> {
     fn next(&mut self) -> Got
         ensures gives { ⟦<SoundSource<'a> as Source>⟧.gives self.old result self.new }
         ensures sound { result ≢ Got.Failed }
-        ensures ended { (result ≡ Got.End) ↔ (⟦<SoundSource<'a> as Source>⟧.left self.old ≡ Some []) }
+        ensures ended { (result ≡ Got.End)
+            ↔ (⟦<SoundSource<'a> as Source>⟧.left self.old ≡ Some []) }
     {
         match self.bytes.split_first() {
             Some((first, rest)) => {

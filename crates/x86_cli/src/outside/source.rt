@@ -42,5 +42,6 @@ pub trait Source {
         ensures rest { ahead self.new ≡ drop count (ahead self.old) };
 
     /// What a call says, where the source tells its bytes.
-    ghost tells: { (s : Self) (g : Got) (t : Self) → gives s g t → TellsGot g (left s) (left t) (faults s) (faults t) };
+    ghost tells: { (s : Self) (g : Got) (t : Self) → gives s g t →
+        TellsGot g (left s) (left t) (faults s) (faults t) };
 }

@@ -45,7 +45,8 @@ impl<W: Output + Drop> Sink for StdSink<W> {
 
     ghost faults = { λ s. s.faults };
 
-    ghost takes = { λ s piece r t. TellsPut r piece (W.written s.writer) (W.written t.writer) s.faults t.faults
+    ghost takes = { λ s piece r t. TellsPut r piece (W.written s.writer)
+        (W.written t.writer) s.faults t.faults
         × PutSends W.writes W.flushes r piece s.writer t.writer };
 
     ghost tells = { λ s piece r t h. h.0 };

@@ -72,10 +72,14 @@ impl<R: Input + Drop> StdSource<R> {
     #[inline(never)]
     fn refill(&mut self) -> Refill
         requires { self.old.position ≡ self.old.filled }
-        ensures told { TellsRefill result (prepend_known (slice_range self.old.buffer self.old.position self.old.filled) (R.left self.old.reader))
-            (prepend_known (slice_range self.new.buffer self.new.position self.new.filled) (R.left self.new.reader)) self.old.faults self.new.faults }
+        ensures told { TellsRefill result
+            (prepend_known (slice_range self.old.buffer self.old.position self.old.filled)
+            (R.left self.old.reader))
+            (prepend_known (slice_range self.new.buffer self.new.position self.new.filled)
+            (R.left self.new.reader)) self.old.faults self.new.faults }
         ensures some { result ≡ Refill.Bytes → self.new.position < self.new.filled }
-        ensures refills { Refills R.reads result self.old.reader (slice_range self.new.buffer self.new.position self.new.filled) self.new.reader }
+        ensures refills { Refills R.reads result self.old.reader
+            (slice_range self.new.buffer self.new.position self.new.filled) self.new.reader }
     {
         match self.reader.read(&mut self.buffer) {
             Ok(0) => Refill::Nothing,
@@ -95,10 +99,14 @@ impl<R: Input + Drop> StdSource<R> {
     #[inline(always)]
     fn take(&mut self) -> u8
         requires { self.old.position < self.old.filled }
-        ensures takes { slice_range self.old.buffer self.old.position self.old.filled ≡ result ∷ slice_range self.new.buffer self.new.position self.new.filled }
+        ensures takes { slice_range self.old.buffer self.old.position self.old.filled
+            ≡ result ∷ slice_range self.new.buffer self.new.position self.new.filled }
         ensures reader { self.new.reader ≡ self.old.reader }
-        ensures told { TellsGot (Got.Byte result) (prepend_known (slice_range self.old.buffer self.old.position self.old.filled) (R.left self.old.reader))
-            (prepend_known (slice_range self.new.buffer self.new.position self.new.filled) (R.left self.new.reader)) self.old.faults self.new.faults }
+        ensures told { TellsGot (Got.Byte result)
+            (prepend_known (slice_range self.old.buffer self.old.position self.old.filled)
+            (R.left self.old.reader))
+            (prepend_known (slice_range self.new.buffer self.new.position self.new.filled)
+            (R.left self.new.reader)) self.old.faults self.new.faults }
     {
         let byte = self.buffer[self.position];
         self.position += 1;
@@ -107,12 +115,17 @@ impl<R: Input + Drop> StdSource<R> {
 }
 
 impl<R: Input + Drop> Source for StdSource<R> {
-    ghost left = { λ s. prepend_known (slice_range s.buffer s.position s.filled) (R.left s.reader) };
+    ghost left = { λ s. prepend_known (slice_range s.buffer s.position s.filled)
+        (R.left s.reader) };
 
     ghost faults = { λ s. s.faults };
 
-    ghost gives = { λ s g t. TellsGot g (prepend_known (slice_range s.buffer s.position s.filled) (R.left s.reader)) (prepend_known (slice_range t.buffer t.position t.filled) (R.left t.reader)) s.faults t.faults
-        × Fetches R.reads g (slice_range s.buffer s.position s.filled) s.reader (slice_range t.buffer t.position t.filled) t.reader };
+    ghost gives = { λ s g t. TellsGot g
+        (prepend_known (slice_range s.buffer s.position s.filled) (R.left s.reader))
+        (prepend_known (slice_range t.buffer t.position t.filled) (R.left t.reader)) s.faults
+        t.faults
+        × Fetches R.reads g (slice_range s.buffer s.position s.filled) s.reader
+        (slice_range t.buffer t.position t.filled) t.reader };
 
     ghost ahead = { λ s. slice_range s.buffer s.position s.filled };
 

@@ -97,7 +97,8 @@ impl Held {
         ensures text { result ≤ length text.now }
         ensures few { array_vec_len self.new ≤ 15 }
         ensures uses { array_vec_len self.new ≤ array_vec_len self.old + result }
-        ensures begins { (values : List ℕ) × Begins (15 - array_vec_len self.old) (take result text.now) values
+        ensures begins { (values : List ℕ)
+            × Begins (15 - array_vec_len self.old) (take result text.now) values
             × (self.new.items ≡ self.old.items ++ values) }
     {
         let end = self.end;

@@ -18,7 +18,8 @@ pub fn read_pairs(text: &[u8], cells: &mut [u8]) -> PairsRead
     ensures text { result.text ≤ length text.now }
     ensures values { result.values ≤ length cells.new }
     ensures uses { result.values ≤ result.text }
-    ensures begins { Begins (length cells.old) (take result.text text.now) (take result.values cells.new) }
+    ensures begins { Begins (length cells.old) (take result.text text.now)
+        (take result.values cells.new) }
 {
     let mut read = 0;
     let mut count = 0;

@@ -45,7 +45,8 @@ impl Model for TextReader {
 
     ghost inverse = { λ s. record { position = s.position; end = s.position + s.room } };
 
-    ghost inverse_ok = { λ r h. ap (λ (e : ℕ). record { position = r.position; end = e }) (omega (arith, h)) };
+    ghost inverse_ok = { λ r h. ap (λ (e : ℕ). record { position = r.position; end = e })
+        (omega (arith, h)) };
 }
 
 impl TextReader {
@@ -113,9 +114,10 @@ impl TextReader {
     fn second<S: Source>(&mut self, source: &mut S, high: u8) -> Piece
         requires { high < 16 }
         // Behind a digit x at the position before, it tells the text of x and what follows.
-        ensures reads { (position room x : ℕ) (before : S) → self.old.position ≡ position + 1 → room ≡ self.old.room + 1
-            → is_blank x ≡ false → value_of x ≡ Some high → S.gives before (Got.Byte x) source.old
-            → Reads S.gives result position room self.new.position self.new.room before source.new }
+        ensures reads { (position room x : ℕ) (before : S) → self.old.position ≡ position + 1 →
+            room ≡ self.old.room + 1 → is_blank x ≡ false → value_of x ≡ Some high →
+            S.gives before (Got.Byte x) source.old →
+            Reads S.gives result position room self.new.position self.new.room before source.new }
         ensures uses { UsesRoom result (self.old.room + 1) self.new.room }
     {
         match source.next() {
@@ -139,7 +141,8 @@ impl TextReader {
     /// Takes bytes up to the next pair, or the end of the text.
     #[inline(always)]
     pub fn next<S: Source>(&mut self, source: &mut S) -> Piece
-        ensures reads { Reads S.gives result self.old.position self.old.room self.new.position self.new.room source.old source.new }
+        ensures reads { Reads S.gives result self.old.position self.old.room self.new.position
+            self.new.room source.old source.new }
         ensures uses { UsesRoom result self.old.room self.new.room }
     {
         loop {

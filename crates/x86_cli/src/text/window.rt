@@ -83,7 +83,8 @@ impl Window {
             source.old source.new }
         ensures few { array_vec_len self.new.bytes ≤ 15 }
         ensures full { self.new.ended ≡ None → array_vec_len self.new.bytes ≡ 15 }
-        ensures uses { array_vec_len self.new.bytes + self.new.reader.room ≤ array_vec_len self.old.bytes + self.old.reader.room }
+        ensures uses { array_vec_len self.new.bytes + self.new.reader.room
+            ≤ array_vec_len self.old.bytes + self.old.reader.room }
     {
         // The reader is a local value meanwhile, so that its position need not go to memory at each byte.
         let mut reader = self.reader;
@@ -109,7 +110,8 @@ impl Window {
             source.old source.new }
         ensures ended { self.new.ended ≡ self.old.ended }
         ensures few { array_vec_len self.new.bytes ≤ 15 }
-        ensures uses { array_vec_len self.new.bytes + self.new.reader.room ≤ array_vec_len self.old.bytes + self.old.reader.room }
+        ensures uses { array_vec_len self.new.bytes + self.new.reader.room
+            ≤ array_vec_len self.old.bytes + self.old.reader.room }
     {
         let taken = self.bytes.push_pairs(self.reader.within(source.ahead()));
         source.skip(taken);
@@ -126,7 +128,8 @@ impl Window {
             (λ e. (self.new ≡ self.old) × (source.new ≡ source.old)) }
         ensures full { self.new.ended ≡ None → array_vec_len self.new.bytes ≡ 15 }
         ensures few { array_vec_len self.old.bytes ≤ 15 → array_vec_len self.new.bytes ≤ 15 }
-        ensures uses { array_vec_len self.new.bytes + self.new.reader.room ≤ array_vec_len self.old.bytes + self.old.reader.room }
+        ensures uses { array_vec_len self.new.bytes + self.new.reader.room
+            ≤ array_vec_len self.old.bytes + self.old.reader.room }
     {
         if self.ended.is_none() {
             self.take_ahead(source);
@@ -141,9 +144,11 @@ impl Window {
     pub fn front(&self, decoder: &InstDecoder, inst: &mut Instruction) -> Front<()>
         requires { self.now.ended ≡ None → array_vec_len self.now.bytes ≡ 15 }
         ensures rest { (xs : List ℕ) (stop : Stop) →
-            let rest = rest_of self.now.ended self.now.bytes.items self.now.reader.position self.now.reader.room xs stop in
-            front_of (is_strict decoder.now) rest.image rest.ending ≡ front_with inst.new result }
-        ensures shows { Shows (is_strict decoder.now) (front_with inst.new result) self.now.ended self.now.bytes.items }
+            let rest = rest_of self.now.ended self.now.bytes.items self.now.reader.position
+            self.now.reader.room xs stop in front_of (is_strict decoder.now) rest.image rest.ending
+            ≡ front_with inst.new result }
+        ensures shows { Shows (is_strict decoder.now)
+            (front_with inst.new result) self.now.ended self.now.bytes.items }
     {
         decoder_laws();
         let answer = decoder.decode_slice_into(inst, self.bytes.as_slice());
