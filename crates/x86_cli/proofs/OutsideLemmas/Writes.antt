@@ -133,6 +133,17 @@ module _ {W : Type 0} (writes : W → List ℕ → Result ℕ Error → W → Ty
         tt,
       )
 
+  pub flushes_ok : {A B E F : Type 0} (x : A) (y : B) (held held' : List ℕ) (a b : W) → FlushesOut writes flushes {A = A} {E = E} (Ok x) held held' a b → FlushesOut writes flushes {A = B} {E = F} (Ok y) held held' a b
+  flushes_ok x y held held' a b h =
+      let c = h.0.caused in (
+        record {
+          bytes = h.0.bytes;
+          caused = record { calls = c.calls; did = c.did; cause = c.cause; sends = c.sends };
+          order = h.0.order;
+        },
+        h.1,
+      )
+
   -- one after the other
   pub forwards_join : {A B E F : Type 0} (x : A) (r : Result B F) (t u h0 h1 h2 : List ℕ) (a b d : W) → Forwards writes flushes {A = A} {E = E} (Ok x) t h0 h1 a b → Forwards writes flushes r u h1 h2 b d →
       Forwards writes flushes r (t ++ u) h0 h2 a d

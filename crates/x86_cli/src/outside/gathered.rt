@@ -92,7 +92,7 @@ impl<W: Output + Drop> Output for Gathered<W> {
     ghost writes = { λ s buf r t. Forwards W.writes W.flushes r (taken_by r buf)
         (held_bytes s) (held_bytes t) (writer_behind s) (writer_behind t) × Settles r buf };
 
-    ghost flushes = { λ s r t. Forwards W.writes W.flushes r []
+    ghost flushes = { λ s r t. FlushesOut W.writes W.flushes r
         (held_bytes s) (held_bytes t) (writer_behind s) (writer_behind t) };
 
     fn write(&mut self, buf: &[u8]) -> io::Result<usize> {

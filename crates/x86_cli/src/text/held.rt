@@ -90,7 +90,7 @@ impl Held {
         self.end = end + 1;
     }
 
-    /// Appends the values of the pairs that a text begins with, until no further byte fits, and returns how many bytes of
+    /// Appends the values of the pairs that a text begins with, until no further byte fits. It returns how many bytes of
     /// the text they and the blanks before them are.
     #[inline(always)]
     pub fn push_pairs(&mut self, text: &[u8]) -> usize

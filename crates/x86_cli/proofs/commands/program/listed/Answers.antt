@@ -13,7 +13,7 @@ returns-clause-lists g c =
     let writer : c.new-sink.result.writer.writer ≡ c.args.writer = ap (λ o. writer_behind o) c.new-sink.ensures.writer ∙ c.new.ensures.writer in
     each_command (command_of (map string_bytes c.args.arguments.now)) c.run-status.ensures.ran
     (λ command ran. rw (c.ending_of.ensures, c.into_reader.ensures, c.into_writer.ensures, sym c.new-source.ensures.reader, sym writer)
-    (ran_performs writes flushes _ _ _ _ _ command _ _ ran.0 _ _ (λ o. writer_behind o) (λ o. held_bytes o) (λ s. sink_writer s) (λ s piece r t h. h.1) (λ a bytes r b w. w) (λ a r b f. f)
+    (ran_performs writes flushes _ _ _ _ _ command _ _ ran.0 _ _ (λ o. writer_behind o) (λ o. held_bytes o) (λ s. sink_writer s) (λ s piece r t h. h.1) (λ a bytes r b w. w) (λ a r b f. f.0)
     fresh _ _ (λ e. c.send_rest-flushed.ensures.failed e ∙ c.into_writer-out.ensures)
     (λ u w. subst (λ o. FlushesOut writes flushes c.send_rest-flushed.result (held_bytes o) (held_bytes c.send_rest-flushed.new.out) (writer_behind o) (writer_behind c.send_rest-flushed.new.out))
     c.into_writer-out.ensures (c.send_rest-flushed.ensures.sends u w))
@@ -26,7 +26,7 @@ returns-clause-made g c n is =
     let fresh : c.new-sink.result.writer.bytes.items ≡ [] = ap (λ o. held_bytes o) c.new-sink.ensures.writer ∙ c.new.ensures.empty in
     let writer : c.new-sink.result.writer.writer ≡ c.args.writer = ap (λ o. writer_behind o) c.new-sink.ensures.writer ∙ c.new.ensures.writer in
     rw (c.ending_of.ensures, c.into_writer.ensures, sym writer)
-    (wrote_performs writes flushes _ _ _ _ n (c.run-status.ensures.made n is) _ _ (λ o. writer_behind o) (λ o. held_bytes o) (λ s. sink_writer s) (λ s piece r t h. h.1) (λ a bytes r b w. w) (λ a r b f. f)
+    (wrote_performs writes flushes _ _ _ _ n (c.run-status.ensures.made n is) _ _ (λ o. writer_behind o) (λ o. held_bytes o) (λ s. sink_writer s) (λ s piece r t h. h.1) (λ a bytes r b w. w) (λ a r b f. f.0)
     fresh _ _ (λ e. c.send_rest-flushed.ensures.failed e ∙ c.into_writer-out.ensures)
     (λ u w. subst (λ o. FlushesOut writes flushes c.send_rest-flushed.result (held_bytes o) (held_bytes c.send_rest-flushed.new.out) (writer_behind o) (writer_behind c.send_rest-flushed.new.out))
     c.into_writer-out.ensures (c.send_rest-flushed.ensures.sends u w)))
