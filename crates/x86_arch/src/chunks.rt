@@ -11,14 +11,16 @@ pub struct ChunkReader<'a> {
     rest: &'a [u8],
     place: usize,
     mark: usize,
-    ghost in_range: { (mark ≤ place) × (place ≤ length first.now + length rest.now) × (length first.now + length rest.now < 2 ^ 64) },
+    ghost in_range: { (mark ≤ place) × (place ≤ length first.now + length rest.now) ×
+        (length first.now + length rest.now < 2 ^ 64) },
 }
 
 impl<'a> ChunkReader<'a> {
     /// The bytes of `first` are left, and then those of `rest`. A number may lie across the seam.
     pub fn new(first: &'a [u8], rest: &'a [u8]) -> ChunkReader<'a>
         requires { length first.now + length rest.now ≤ usize.MAX }
-        ensures { ⟦<ChunkReader<'a> as Reader<u64, u8>>⟧.state result ≡ record { left = first.now ++ rest.now; since_mark = 0; since_made = 0 } }
+        ensures { ⟦<ChunkReader<'a> as Reader<u64, u8>>⟧.state result ≡
+            record { left = first.now ++ rest.now; since_mark = 0; since_made = 0 } }
     {
         ChunkReader {
             first,

@@ -71,7 +71,8 @@ pub trait Arch {
 
 /// A decoder of an instruction set, over any reader of its words.
 pub trait Decoder<A: Arch> {
-    ghost decodes: { Self → State A.Word → Result A.Instruction A.DecodeError → State A.Word → Type 0 };
+    ghost decodes: { Self → State A.Word → Result A.Instruction A.DecodeError
+        → State A.Word → Type 0 };
 
     ghost blank: { A.Instruction };
 

@@ -13,7 +13,8 @@ pub fn next_is_that_of_a_slice<T: Reader<u64, u8>>(
     ensures taken { IfOk result.0 (λ item. bytes.now ≡ item ∷ (T.state reader.new).left) }
     ensures none_left { OnErr result.0 (bytes.now ≡ []) }
     ensures same_answer { result.0 ≡ result.1 }
-    ensures same_count { (T.state reader.new).since_made ≡ (T.state reader.old).since_made + result.2 }
+    ensures same_count { (T.state reader.new).since_made ≡
+        (T.state reader.old).since_made + result.2 }
 {
     let mut slice = U8Reader::new(bytes);
     let given = reader.next();
@@ -35,7 +36,8 @@ pub fn next_n_is_that_of_a_slice<T: Reader<u64, u8>>(
     ensures too_few { OnErr result.0 (length bytes.now < length given.old) }
     ensures same_answer { result.0 ≡ result.1 }
     ensures same_bytes { OnOk result.0 (given.new ≡ over_slice.new) }
-    ensures same_count { (T.state reader.new).since_made ≡ (T.state reader.old).since_made + result.2 }
+    ensures same_count { (T.state reader.new).since_made ≡
+        (T.state reader.old).since_made + result.2 }
 {
     let mut slice = U8Reader::new(bytes);
     let answer = reader.next_n(given);
@@ -45,6 +47,7 @@ pub fn next_n_is_that_of_a_slice<T: Reader<u64, u8>>(
 
 /// Distances are equal exactly where their numbers are, and any two refusals of a reader are equal.
 pub fn values_are_equal()
-    ensures distances { (a b : AddressDiff ℕ) → IsTrue (⟦<AddressDiff<u64> as PartialEq>⟧.eq a b) ↔ (a ≡ b) }
+    ensures distances { (a b : AddressDiff ℕ) →
+        IsTrue (⟦<AddressDiff<u64> as PartialEq>⟧.eq a b) ↔ (a ≡ b) }
     ensures refusals { (a b : ReadError) → IsTrue (⟦<ReadError as PartialEq>⟧.eq a b) ↔ (a ≡ b) }
 {}

@@ -1,5 +1,6 @@
 -- Lemmas on listings.
 pub mod Listing
+pub mod Grammar
 pub mod Stands
 pub mod Standing
 pub mod Sweep

@@ -3,6 +3,7 @@ pub mod Line
 pub mod Status
 pub mod Listing
 pub mod Step
+pub mod Grammar
 pub mod Sweep
 pub mod Targets
 pub mod Tighten

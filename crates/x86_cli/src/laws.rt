@@ -1,12 +1,16 @@
 //! Laws of the text and of the values of the outside, and those of the decoder on which the window stands.
 
 ghost use Rattle.std.specs.Prelude.{◌≡◌, ◌≢◌, ◌↔◌, ℕ, Bool, IsTrue, List, Option};
+ghost use Rattle.x86_decode.specs.declared.instructions.Instruction.{Instruction};
+ghost use Rattle.x86_forms.specs.Words.{rows_of, packed};
 ghost use Rattle.x86_cli.specs.DecoderLaws.{DecoderLaws};
 ghost use Rattle.x86_cli.specs.Commands.Causes.{HaveCauses};
 ghost use Rattle.x86_cli.specs.Commands.Command.{Runs, goes_past_refusals};
 ghost use Rattle.x86_cli.specs.Commands.Complete.{CompletesTexts};
 ghost use Rattle.x86_cli.specs.Commands.Follows.{IsExact, HasReadFault, Completes};
-ghost use Rattle.x86_cli.specs.Listings.Listing.{LinesLeaveStatus};
+ghost use Rattle.x86_cli.specs.Listings.Grammar.{IsListing};
+ghost use Rattle.x86_cli.specs.Listings.Listing.{Listing, LinesLeaveStatus, listing_at};
+ghost use Rattle.x86_cli.specs.Text.{Text};
 ghost use Rattle.x86_cli.specs.Text.Reading.{Gave};
 ghost use Rattle.x86_cli.specs.Commands.Make.{made_listing};
 ghost use Rattle.x86_cli.specs.Commands.Program.{Performs, PerformsMake, Has, Leaves};
@@ -40,6 +44,18 @@ pub fn first()
 pub fn statuses()
     ensures { LinesLeaveStatus }
 {}
+
+/// The listing of a text is the one that the grammar has: a line for each sentence, one after the other, and then what
+/// ends it.
+pub fn by_grammar()
+    ensures { (strict : Bool) (text : ℕ → Instruction → List ℕ → List ℕ)
+        (place : ℕ) (t : Text) (l : Listing)
+        → IsListing (rows_of packed) strict text place t.image t.ending l
+            ↔ (l ≡ listing_at strict text place t) }
+{
+    laws::lengths();
+    laws::answer_is();
+}
 
 /// What the window needs of the decoder, under either choice.
 pub fn decoder_laws()

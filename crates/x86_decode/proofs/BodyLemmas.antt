@@ -6,8 +6,8 @@ use Rattle.x86_fields.specs.declared.errors.DecodeError.{DecodeError}
 use Rattle.x86_fields.specs.declared.errors.DecodeError.TheVariants.{ExhaustedInput, InvalidOpcode, InvalidPrefixes}
 use Rattle.x86_fields.specs.declared.prefixes.Prefixes.{Prefixes}
 use Rattle.x86_fields.specs.Run.{is_prefix, reading_of}
-use Rattle.x86_fields.specs.Steps.{Step, Outcome, ◌>>=◌, Takes}
-use Rattle.x86_fields.proofs.StepLemmas.{takes_pure, takes_bind, takes_err}
+use Rattle.x86_fields.specs.Steps.{Step, Outcome, ◌>>=◌}
+use Rattle.x86_fields.proofs.StepLemmas.{Takes, takes_pure, takes_bind, takes_err}
 use Rattle.x86_fields.proofs.EndLemmas.{EndsWell, Ends, settles, runs_out, ends_refuse, ends_bind, ends_then, weaken, IsFinal, final_ok, final_err, Out, out_bind, out_after, Stands, out, stands_bind}
 use Rattle.x86_forms.specs.declared.TableRow.{TableRow}
 use Rattle.x86_operands.specs.declared.reader.Reading.{Reading}

@@ -8,10 +8,19 @@ use Rattle.x86_operands.specs.declared.plans.Fault.TheVariants.{BadOpcode, BadOp
 use Rattle.x86_operands.specs.PlanSteps.{error_of}
 use Rattle.x86_decode.specs.declared.instructions.Instruction.{Instruction}
 use Rattle.x86_decode.specs.Head.{Rows, bars_vex}
-use Rattle.x86_decode.specs.Grammar.{IsVexBehindRun, IsRefusedByRecord, case_1, case_2, case_3, case_4, Decides, by_bytes, case_5, IsRefusal, IsOpen, IsAnswer}
-use Rattle.x86_decode.specs.Causes.{Faults, IsDecidedBy, IsUndecided, HasSentence, HasFaultyOpcode, HasFaultyOperand, HasFaultyPrefixes, HasNoRoom, IsLeftOut}
+use Rattle.x86_decode.specs.Grammar.{IsVexBehindRun, IsRefusedByRecord, case_1, case_2, case_3, case_4, Decides, by_bytes, case_5, IsRefusal, IsOpen, IsTooLong, IsAnswer}
+use Rattle.x86_decode.specs.Causes.{FaultsOpcode, FaultsOperand, FaultsPrefixes, LeavesOut, IsDecidedBy, IsUndecided, HasSentence, HasFaultyOpcode, HasFaultyOperand, HasFaultyPrefixes, HasNoRoom, IsLeftOut}
 use Rattle.x86_decode.proofs.Theorem.{refusal_answer}
 use Rattle.x86_decode.proofs.AnswerLemmas.{once, answer_refusal}
+
+-- what a byte string is that decides an error
+abbrev Faults : Rows → Bool → DecodeError → List ℕ → Type 0
+Faults rows strict ExhaustedInput q = ⊥
+Faults rows strict InvalidOpcode q = FaultsOpcode rows strict q
+Faults rows strict InvalidOperand q = FaultsOperand rows strict q
+Faults rows strict InvalidPrefixes q = FaultsPrefixes rows strict q
+Faults rows strict TooLong q = IsTooLong rows strict q
+Faults rows strict IncompleteDecoder q = LeavesOut rows strict q
 
 module _ (rows : Rows) (strict : Bool) where
   by_vex : (q : List ℕ) (c : IsVexBehindRun rows strict q) (t : Bool) → bars_vex (reading_of c.run) ≡ t → Faults rows strict (if t then InvalidPrefixes else IncompleteDecoder) q

@@ -6,8 +6,8 @@ use Rattle.x86_fields.specs.declared.errors.DecodeError.{DecodeError}
 use Rattle.x86_fields.specs.declared.errors.DecodeError.TheVariants.{ExhaustedInput, InvalidOperand, InvalidPrefixes}
 use Rattle.x86_fields.specs.declared.prefixes.Prefixes.{Prefixes}
 use Rattle.x86_fields.specs.Run.{reading_of}
-use Rattle.x86_fields.specs.Steps.{Step, Outcome, outcome, then_from, Takes}
-use Rattle.x86_fields.proofs.StepLemmas.{fresh}
+use Rattle.x86_fields.specs.Steps.{Step, Outcome, outcome, then_from}
+use Rattle.x86_fields.proofs.StepLemmas.{Takes, fresh}
 use Rattle.x86_fields.proofs.EndLemmas.{Ends, settles, runs_out}
 use Rattle.x86_forms.specs.declared.Map.{Map}
 use Rattle.x86_forms.specs.declared.TableRow.{TableRow}

@@ -7,8 +7,8 @@ use Rattle.x86_fields.specs.declared.errors.DecodeError.{DecodeError}
 use Rattle.x86_fields.specs.declared.errors.DecodeError.TheVariants.{ExhaustedInput, InvalidPrefixes, IncompleteDecoder}
 use Rattle.x86_fields.specs.declared.prefixes.Prefixes.{Prefixes}
 use Rattle.x86_fields.specs.Run.{is_prefix, reading_of}
-use Rattle.x86_fields.specs.Steps.{Outcome, outcome, then_from, pure, refuse, ◌>>=◌, next_byte, Takes}
-use Rattle.x86_fields.proofs.StepLemmas.{advanced_twice, advanced_zero, takes_pure, takes_bind, takes_byte}
+use Rattle.x86_fields.specs.Steps.{Outcome, outcome, then_from, pure, refuse, ◌>>=◌, next_byte}
+use Rattle.x86_fields.proofs.StepLemmas.{Takes, advanced_twice, advanced_zero, takes_pure, takes_bind, takes_byte}
 use Rattle.x86_fields.proofs.EndLemmas.{EndsWell, Ends, settles, runs_out, no_front, final_ok, IsEmpty, Only, IsByte, ends_byte, ends_pure, ends_refuse, ends_then, Out, out_bind, out_after, out_byte}
 use Rattle.x86_fields.proofs.PieceLemmas.{takes_map}
 use Rattle.x86_forms.specs.declared.Map.{Map}

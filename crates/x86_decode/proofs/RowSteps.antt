@@ -5,8 +5,8 @@ use Rattle.x86_arch.specs.Reader.{State, advanced}
 use Rattle.x86_fields.specs.declared.errors.DecodeError.{DecodeError}
 use Rattle.x86_fields.specs.declared.errors.DecodeError.TheVariants.{ExhaustedInput}
 use Rattle.x86_fields.specs.declared.prefixes.Prefixes.{Prefixes}
-use Rattle.x86_fields.specs.Steps.{Step, outcome, Takes}
-use Rattle.x86_fields.proofs.StepLemmas.{fresh}
+use Rattle.x86_fields.specs.Steps.{Step, outcome}
+use Rattle.x86_fields.proofs.StepLemmas.{Takes, fresh}
 use Rattle.x86_fields.proofs.EndLemmas.{EndsWell, Ends, settles, runs_out, OutOn, final_ok, final_err, Stands, out, over}
 use Rattle.x86_operands.specs.declared.plans.Fault.{Fault}
 use Rattle.x86_operands.specs.declared.plans.Fault.TheVariants.{BadOpcode}

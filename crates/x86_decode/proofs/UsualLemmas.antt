@@ -14,7 +14,8 @@ use Rattle.x86_operands.specs.declared.encodings.RegGroup.{RegGroup}
 use Rattle.x86_operands.specs.declared.plans.ModrmUse.{ModrmUse}
 use Rattle.x86_operands.specs.declared.plans.ModrmUse.TheVariants.{Absent, EitherForm}
 use Rattle.x86_operands.specs.declared.reader.Reading.{Reading}
-use Rattle.x86_operands.specs.Encodings.{allows, Belongs, carried, Describes, group_form, has_fields, is_described, plan_of, use_of}
+use Rattle.x86_forms.specs.Words.{carried}
+use Rattle.x86_operands.specs.Encodings.{allows, Belongs, Describes, group_form, has_fields, is_described, plan_of, use_of}
 use Rattle.x86_fields.specs.ModRM.{absent_modrm}
 use Rattle.x86_operands.specs.Forms.{form_plan, form_record, modrm_use}
 use Rattle.x86_operands.specs.PlanSteps.{read_modrm, read_plan, record_step}

@@ -13,7 +13,8 @@ use Rattle.x86_decode.specs.Head.{Rows}
 use Rattle.x86_decode.specs.Instruction.{instruction_of, holding, reading_in}
 use Rattle.x86_decode.specs.Bound.{bounded, IsBehind}
 use Rattle.x86_decode.specs.Grammar.{allows_lock}
-use Rattle.x86_decode.specs.Walk.{walk_within, is_exhausted, closed, judgement, walk_bounded}
+use Rattle.x86_fields.specs.Errors.{is_exhausted}
+use Rattle.x86_decode.specs.Walk.{walk_within, closed, judgement, walk_bounded}
 use Rattle.x86_decode.proofs.BoundLemmas.{same_state}
 use Rattle.x86_decode.proofs.BodyLemmas.{body_moves, Moves}
 use Rattle.x86_decode.proofs.Theorem.{closed_error}

@@ -1,7 +1,6 @@
 -- Why an input is answered as it is: which case decides each refusal.
 use Rattle.std.specs.Prelude.{◌≡◌, ℕ, ◌≤◌, ◌⊎◌, Bool, true, false, List, ◌++◌, length}
 use Rattle.x86_fields.specs.declared.errors.DecodeError.{DecodeError}
-use Rattle.x86_fields.specs.declared.errors.DecodeError.TheVariants.{ExhaustedInput, InvalidOpcode, InvalidOperand, InvalidPrefixes, TooLong, IncompleteDecoder}
 use Rattle.x86_fields.specs.Run.{reading_of}
 use Rattle.x86_operands.specs.declared.plans.Fault.TheVariants.{BadOpcode, BadOperand, Incomplete}
 use Rattle.x86_decode.specs.declared.instructions.Instruction.{Instruction}
@@ -27,15 +26,6 @@ module _ (rows : Rows) (strict : Bool) where
   -- case 1 otherwise, or case 3 with a record that is left out
   abbrev pub LeavesOut : List ℕ → Type 0
   LeavesOut q = ((c : Vex q) × (bars_vex (reading_of c.run) ≡ false)) ⊎ IsRefusedByRecord rows strict q Incomplete
-
-  -- what a byte string is that decides an error
-  abbrev pub Faults : DecodeError → List ℕ → Type 0
-  Faults ExhaustedInput q = ⊥
-  Faults InvalidOpcode q = FaultsOpcode q
-  Faults InvalidOperand q = FaultsOperand q
-  Faults InvalidPrefixes q = FaultsPrefixes q
-  Faults TooLong q = IsTooLong rows strict q
-  Faults IncompleteDecoder q = LeavesOut q
 
   -- The shortest front of the input that decides an error is of this kind, and no front is a sentence.
   pub record IsDecidedBy (Kind : List ℕ → Type 0) (input : List ℕ) : Type 0 where

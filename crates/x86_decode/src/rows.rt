@@ -3,8 +3,8 @@ ghost use Rattle.std.specs.Prelude.{◌≡◌, ℕ, Bool, IfOk, IsTrue, true, fa
 ghost use Rattle.x86_arch.specs.Reader.{State};
 ghost use Rattle.x86_fields.specs.Steps.{outcome, then_from};
 ghost use Rattle.x86_fields.specs.declared.prefixes.Prefixes.{Prefixes};
-ghost use Rattle.x86_forms.specs.Words.{IsForm};
-ghost use Rattle.x86_operands.specs.Encodings.{Belongs, carried, Describes, has_fields, held, is_described, is_sound, no_operands, plan_of, use_of};
+ghost use Rattle.x86_forms.specs.Words.{IsForm, carried};
+ghost use Rattle.x86_operands.specs.Encodings.{Belongs, Describes, has_fields, held, is_described, is_sound, no_operands, plan_of, use_of};
 ghost use Rattle.x86_operands.specs.Forms.{modrm_use};
 ghost use Rattle.x86_operands.specs.PlanSteps.{read_plan, record_step};
 ghost use Rattle.x86_decode.specs.declared.instructions.Instruction.{Instruction};
@@ -57,7 +57,8 @@ pub fn read_row<T: Reader<u64, u8>>(
     reader: &mut T,
 ) -> Result<Reading, DecodeError>
     requires { IsForm row.form }
-    ensures { outcome result (T.state reader.new) ≡ record_step (record_of strict row prefixes) prefixes (T.state reader.old) }
+    ensures { outcome result (T.state reader.new) ≡
+        record_step (record_of strict row prefixes) prefixes (T.state reader.old) }
 {
     if row.form.is_group() {
         read_group(reader, row, prefixes, strict)
@@ -73,7 +74,9 @@ fn read_usual<'a, T: Reader<u64, u8>>(
     reader: &mut T,
 ) -> Result<Found<'a>, DecodeError>
     requires { IsForm row.now.form }
-    ensures read { (strict : Bool) (i : Instruction) → then_from result (T.state reader.new) (found_row_step strict row.now i) ≡ row_step strict row.now i.prefixes (T.state reader.old) }
+    ensures read { (strict : Bool) (i : Instruction) →
+        then_from result (T.state reader.new) (found_row_step strict row.now i) ≡
+        row_step strict row.now i.prefixes (T.state reader.old) }
     ensures found { IfOk result (IsFound row.now) }
 {
     let encoding = form_encoding(row.form);
@@ -100,7 +103,8 @@ fn bare_line<'a>(row: &TableRow, encoding: &'a FormEncoding) -> Found<'a>
     requires usage { modrm_use row.now.form ≡ use_of encoding.now.behind }
     requires describes { Describes encoding.now row.now.form }
     ensures found { IsFound row.now result }
-    ensures read { (strict : Bool) (i : Instruction) (s : State ℕ) → found_row_step strict row.now i result s ≡ row_step strict row.now i.prefixes s }
+    ensures read { (strict : Bool) (i : Instruction) (s : State ℕ) →
+        found_row_step strict row.now i result s ≡ row_step strict row.now i.prefixes s }
 {
     let modrm = ModRM::absent();
     if encoding.behind.allows(modrm) {
@@ -124,9 +128,14 @@ fn line_at<'a>(
 ) -> Found<'a>
     requires form { IsForm row.now.form }
     requires sound { is_sound encoding.now ≡ true }
-    requires describes { (strict : Bool) (p : Prefixes) → IsTrue (is_described encoding.now.behind) → plan_of encoding.now (carried row.now.form) opcode p modrm ≡ plan_at strict row.now p modrm }
+    requires describes { (strict : Bool) (p : Prefixes) →
+        IsTrue (is_described encoding.now.behind) →
+        plan_of encoding.now (carried row.now.form) opcode p modrm ≡
+        plan_at strict row.now p modrm }
     ensures found { IsFound row.now result }
-    ensures read { (strict : Bool) (i : Instruction) → found_row_step strict row.now i result ≡ read_plan (plan_at strict row.now i.prefixes modrm) i.prefixes modrm }
+    ensures read { (strict : Bool) (i : Instruction) →
+        found_row_step strict row.now i result ≡
+        read_plan (plan_at strict row.now i.prefixes modrm) i.prefixes modrm }
 {
     if encoding.behind.allows(modrm) {
         Found::Line(Usual {
@@ -148,7 +157,9 @@ pub fn read_by_line<T: Reader<u64, u8>>(
 ) -> Result<Rest, DecodeError>
     requires form { IsForm row.form }
     requires blank { inst.old.given ≡ no_operands }
-    ensures read { (strict : Bool) → then_from result (T.state reader.new) (rest_step strict inst.new) ≡ row_step strict row inst.old.prefixes (T.state reader.old) }
+    ensures read { (strict : Bool) →
+        then_from result (T.state reader.new) (rest_step strict inst.new) ≡
+        row_step strict row inst.old.prefixes (T.state reader.old) }
     ensures blank { IfOk result (λ rest. is_nothing rest ≡ false → inst.new.given ≡ no_operands) }
     ensures form { IfOk result HasForm }
 {
@@ -191,7 +202,8 @@ pub fn read_row_into<T: Reader<u64, u8>>(
 ) -> Result<(), DecodeError>
     requires form { IsForm row.form }
     requires blank { inst.old.given ≡ no_operands }
-    ensures { outcome (held result (reading_in inst.new)) (T.state reader.new) ≡ row_step strict row inst.old.prefixes (T.state reader.old) }
+    ensures { outcome (held result (reading_in inst.new)) (T.state reader.new) ≡
+        row_step strict row inst.old.prefixes (T.state reader.old) }
 {
     let Instruction {
         prefixes,
@@ -216,7 +228,8 @@ pub fn read_rest<T: Reader<u64, u8>>(
 ) -> Result<(), DecodeError>
     requires form { HasForm rest }
     requires blank { is_nothing rest ≡ false → inst.old.given ≡ no_operands }
-    ensures { outcome (held result (reading_in inst.new)) (T.state reader.new) ≡ rest_step strict inst.old rest (T.state reader.old) }
+    ensures { outcome (held result (reading_in inst.new)) (T.state reader.new) ≡
+        rest_step strict inst.old rest (T.state reader.old) }
 {
     match rest {
         Rest::Nothing => Ok(()),

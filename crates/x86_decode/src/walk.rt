@@ -9,7 +9,8 @@ ghost use Rattle.x86_operands.specs.declared.reader.Reading.{Reading};
 ghost use Rattle.x86_decode.specs.Answer.{answer_of};
 ghost use Rattle.x86_decode.specs.Grammar.{first_slot, allows_lock};
 ghost use Rattle.x86_decode.specs.Instruction.{holding, invalid_instruction, reading_in};
-ghost use Rattle.x86_decode.specs.Walk.{ComesTo, Fronted, HasForm, IsReady, rest_step, behind_step, long_step, walk_bounded, walk_within, decode_step, is_exhausted, is_nothing, takes_lock, judgement, limited};
+ghost use Rattle.x86_fields.specs.Errors.{is_exhausted};
+ghost use Rattle.x86_decode.specs.Walk.{ComesTo, Fronted, HasForm, IsReady, rest_step, behind_step, long_step, walk_bounded, walk_within, decode_step, is_nothing, takes_lock, judgement, limited};
 
 use crate::bounded::{Bounded, Start, takes_rest};
 use crate::head::{is_prefix, read_head, read_on, read_word};

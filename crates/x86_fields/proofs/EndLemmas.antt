@@ -7,8 +7,8 @@ use Rattle.std.proofs.lemmas.List.{append-nil, take-append-drop, take-append-le}
 use Rattle.x86_arch.specs.Reader.{State, advanced}
 use Rattle.x86_fields.specs.declared.errors.DecodeError.{DecodeError}
 use Rattle.x86_fields.specs.declared.errors.DecodeError.TheVariants.{ExhaustedInput}
-use Rattle.x86_fields.specs.Steps.{Step, Outcome, outcome, then_from, pure, refuse, ◌>>=◌, next_byte, byte_of, next_bytes, Takes}
-use Rattle.x86_fields.proofs.StepLemmas.{fresh, advanced_twice, advanced_zero, takes_pure, takes_bind, takes_err, takes_byte, takes_bytes}
+use Rattle.x86_fields.specs.Steps.{Step, Outcome, outcome, then_from, pure, refuse, ◌>>=◌, next_byte, byte_of, next_bytes}
+use Rattle.x86_fields.proofs.StepLemmas.{Takes, fresh, advanced_twice, advanced_zero, takes_pure, takes_bind, takes_err, takes_byte, takes_bytes}
 
 -- an answer that isn't for want of bytes
 abbrev pub IsFinal : {X : Type 0} → Result X DecodeError → Type 0
@@ -183,9 +183,6 @@ pub bind_assoc : {X Y Z : Type 0} (m : Step X) (f : X → Step Y) (g : Y → Ste
 bind_assoc m f g s = assoc_at (m s).answer (m s).after f g
 
 -- ---- the longest front
-
-apart_final : {X : Type 0} (f : Step X) (q p rest : List ℕ) (r : Result X DecodeError) → f (fresh q) ≡ outcome (Err ExhaustedInput) (advanced (length p) (fresh q)) → (o : Outcome X) → f (fresh q) ≡ o → o.answer ≡ r → IsFinal r → ⊥
-apart_final f q p rest r e o h k d = d (sym k ∙ ap (λ u. u.answer) (sym h ∙ e))
 
 longer : {X : Type 0} (f : Step X) (q rest p more : List ℕ) → OutOn f q rest → q ++ rest ≡ p ++ more → length q < length p → Stands f p → length p ≤ length q
 longer f q rest p more u h less st =

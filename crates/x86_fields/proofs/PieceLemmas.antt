@@ -8,11 +8,11 @@ use Rattle.x86_fields.specs.declared.errors.DecodeError.{DecodeError}
 use Rattle.x86_fields.specs.declared.errors.DecodeError.TheVariants.{ExhaustedInput}
 use Rattle.x86_fields.specs.declared.prefixes.Prefixes.{Prefixes}
 use Rattle.x86_fields.specs.declared.raw.Raw.{Raw}
-use Rattle.x86_fields.specs.Steps.{Step, outcome, then_from, pure, ◌>>=◌, next_byte, next_bytes, number_step, Takes}
+use Rattle.x86_fields.specs.Steps.{Step, outcome, then_from, pure, ◌>>=◌, next_byte, next_bytes, number_step}
 use Rattle.x86_fields.specs.ModRM.{mod_field, rm_field}
 use Rattle.x86_fields.specs.Raw.{read_raw, read_sib, read_displacement, displacement_width, names_no_base, has_b, has_x}
 use Rattle.x86_fields.specs.Pieces.{option_bytes, first_byte, signed_by, SpellsRaw, total, EndsBetween, raw_widths}
-use Rattle.x86_fields.proofs.StepLemmas.{fresh, takes_pure, takes_bind, takes_err, takes_bytes, takes_byte}
+use Rattle.x86_fields.proofs.StepLemmas.{Takes, fresh, takes_pure, takes_bind, takes_err, takes_bytes, takes_byte}
 use Rattle.x86_fields.proofs.EndLemmas.{final_other, Ends, settles, runs_out, no_front, stands_out, bind_assoc, EndsWell, IsEmpty, Only, ends_pure, ends_byte, IsByte, ends_bytes, AreBytes, ends_then, ends_map, Stands, over, stands_bind, stands_same}
 
 pub takes_map : {X Y : Type 0} (m : Step X) (g : X → Y) (q : List ℕ) (x : X) → Takes m q (Ok x) → Takes (m >>= λ z. pure (g z)) q (Ok (g x))
@@ -26,9 +26,6 @@ one_there w ws p q e b = record { there = w ∷ b.there; missing = b.missing; pi
 
 pub none_there : (ws q : List ℕ) → q ≡ [] → EndsBetween ws q
 none_there ws q e = record { there = []; missing = ws; pieces = refl; long = ap length e }
-
-pub all_there : (w : ℕ) (q : List ℕ) → length q ≡ w → EndsBetween (w ∷ []) q
-all_there w q e = record { there = w ∷ []; missing = []; pieces = refl; long = e ∙ (omega arith) }
 
 pub more_missing : (ws vs q : List ℕ) → EndsBetween ws q → EndsBetween (ws ++ vs) q
 more_missing ws vs q b = record { there = b.there; missing = b.missing ++ vs; pieces = ap (λ l. l ++ vs) b.pieces ∙ append_assoc b.there b.missing vs; long = b.long }

@@ -16,7 +16,8 @@ use crate::{DecodeError, PrefixRex, Prefixes, Raw};
 /// The reading of a run is what its bytes do one after another, from no prefix on.
 pub fn runs_are_folded()
     ensures folded { (run : List ℕ) → reading_of run ≡ fold after_of (reading_of []) run }
-    ensures longer { (run : List ℕ) (byte : ℕ) → reading_of (run ++ byte ∷ []) ≡ after_of (reading_of run) byte }
+    ensures longer { (run : List ℕ) (byte : ℕ) →
+        reading_of (run ++ byte ∷ []) ≡ after_of (reading_of run) byte }
 {}
 
 /// F2 and F3 are never in force together, and one of them is exactly where `rep_any` holds.
@@ -28,22 +29,30 @@ pub fn repeats_exclude()
 /// Two reduced address forms of one modulus are the same address exactly where their values agree at every register
 /// file and next pointer. The zero file, the sixteen unit files and the unit next pointer show it.
 pub fn forms_are_their_values()
-    ensures exactly { (f g : Linear) → f.modulus ≡ g.modulus → IsReduced f → IsReduced g → (IsSameAddress f g ↔ AgreeEverywhere f g) }
-    ensures shown_by_units { (f g : Linear) → f.modulus ≡ g.modulus → IsReduced f → IsReduced g → AgreeAtUnits f g → IsSameAddress f g }
+    ensures exactly { (f g : Linear) → f.modulus ≡ g.modulus → IsReduced f → IsReduced g →
+        (IsSameAddress f g ↔ AgreeEverywhere f g) }
+    ensures shown_by_units { (f g : Linear) → f.modulus ≡ g.modulus → IsReduced f → IsReduced g →
+        AgreeAtUnits f g → IsSameAddress f g }
 {}
 
 /// What `read_raw` takes. It answers the fields that the bytes in front spell, wherever some do, and takes those
 /// bytes. It refuses for want of bytes alone, and has then taken a SIB that is asked and there, and nothing of a
 /// displacement.
 pub fn raw_fields_are_read()
-    ensures whole { (p : Prefixes) (modrm : ℕ) (s : State ℕ) (raw : Raw) → (read_raw p modrm s).answer ≡ Ok raw → IsReadRaw p modrm raw s (read_raw p modrm s).after }
-    ensures wherever { (p : Prefixes) (modrm : ℕ) (s : State ℕ) (bytes rest : List ℕ) (raw : Raw) → s.left ≡ bytes ++ rest → SpellsRaw p modrm bytes raw → read_raw p modrm s ≡ outcome (Ok raw) (advanced (length bytes) s) }
-    ensures short { (p : Prefixes) (modrm : ℕ) (s : State ℕ) (e : DecodeError) → (read_raw p modrm s).answer ≡ Err e → (e ≡ DecodeError.ExhaustedInput) × ((read_raw p modrm s).after ≡ advanced (sib_taken modrm s.left) s) }
+    ensures whole { (p : Prefixes) (modrm : ℕ) (s : State ℕ) (raw : Raw) →
+        (read_raw p modrm s).answer ≡ Ok raw → IsReadRaw p modrm raw s (read_raw p modrm s).after }
+    ensures wherever { (p : Prefixes) (modrm : ℕ) (s : State ℕ) (bytes rest : List ℕ) (raw : Raw) →
+        s.left ≡ bytes ++ rest → SpellsRaw p modrm bytes raw →
+        read_raw p modrm s ≡ outcome (Ok raw) (advanced (length bytes) s) }
+    ensures short { (p : Prefixes) (modrm : ℕ) (s : State ℕ) (e : DecodeError) →
+        (read_raw p modrm s).answer ≡ Err e → (e ≡ DecodeError.ExhaustedInput) ×
+        ((read_raw p modrm s).after ≡ advanced (sib_taken modrm s.left) s) }
 {}
 
 /// The address forms of raw fields are reduced, so that the law on forms speaks of any two of one modulus.
 pub fn raw_forms_are_reduced()
-    ensures { (raw : Raw) → scale_by raw.sib ≤ 8 → FitsSigned w32 raw.disp → IsReduced (raw_form raw) }
+    ensures { (raw : Raw) → scale_by raw.sib ≤ 8 → FitsSigned w32 raw.disp →
+        IsReduced (raw_form raw) }
 {}
 
 /// Errors, prefixes and raw fields are equal exactly where all that their calls and fields tell is.

@@ -40,7 +40,8 @@ impl Prefixes {
     pub fn after(self, byte: u8) -> Prefixes
         requires { IsTrue (is_prefix byte) }
         ensures effect { result ≡ after_of self byte }
-        ensures reading { (run : List ℕ) → self ≡ reading_of run → result ≡ reading_of (run ++ byte ∷ []) }
+        ensures reading { (run : List ℕ) → self ≡ reading_of run →
+            result ≡ reading_of (run ++ byte ∷ []) }
     {
         let without = Prefixes { rex: None, ..self };
         match byte {
@@ -85,7 +86,8 @@ impl Prefixes {
     pub fn push_rex(&mut self, byte: u8)
         requires { IsTrue (is_rex byte) }
         ensures effect { self.new ≡ after_of self.old byte }
-        ensures reading { (run : List ℕ) → self.old ≡ reading_of run → self.new ≡ reading_of (run ++ byte ∷ []) }
+        ensures reading { (run : List ℕ) → self.old ≡ reading_of run →
+            self.new ≡ reading_of (run ++ byte ∷ []) }
     {
         self.rex = Some(PrefixRex::of(byte));
     }

@@ -171,7 +171,8 @@ fn read_sib<T: Reader<u64, u8>>(reader: &mut T, modrm: ModRM) -> Result<Option<u
 
 #[inline(always)]
 fn read_displacement<T: Reader<u64, u8>>(reader: &mut T, width: u8) -> Result<i32, DecodeError>
-    ensures read { outcome result (T.state reader.new) ≡ read_displacement width (T.state reader.old) }
+    ensures read { outcome result (T.state reader.new) ≡
+        read_displacement width (T.state reader.old) }
     ensures fits { IfOk result (λ disp. IsTrue (disp_fits width disp)) }
 {
     match width {
@@ -198,7 +199,8 @@ pub fn read_raw<T: Reader<u64, u8>>(
     modrm: u8,
 ) -> Result<Raw, DecodeError>
     requires { IsTrue (is_memory modrm) }
-    ensures read { outcome result (T.state words.new) ≡ read_raw prefixes.now modrm (T.state words.old) }
+    ensures read { outcome result (T.state words.new) ≡
+        read_raw prefixes.now modrm (T.state words.old) }
     ensures fits { IfOk result (λ raw. IsTrue (fits raw)) }
 {
     let sib = read_sib(words, ModRM::new(modrm))?;

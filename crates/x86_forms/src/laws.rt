@@ -24,7 +24,8 @@ pub fn words_are_read_back()
 pub fn printed_words_are_the_printed_rows()
     ensures rows { (map : Map) → (column : Column) → (byte : ℕ) →
         rows_of packed map column byte ≡ printed_row map column byte }
-    ensures words { (map : Map) → (column : Column) → (byte : ℕ) → IfSome (printed_row map column byte) HasWord }
+    ensures words { (map : Map) → (column : Column) → (byte : ℕ) →
+        IfSome (printed_row map column byte) HasWord }
 {}
 
 /// `==` holds exactly of the same map, of the same column, of the same form with the same number, and of rows with

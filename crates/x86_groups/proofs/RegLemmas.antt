@@ -10,7 +10,8 @@ use Rattle.x86_forms.specs.Groups.{is_group}
 use Rattle.x86_forms.specs.declared.Form.{Form}
 use Rattle.x86_operands.specs.declared.plans.ModrmUse.TheVariants.{EitherForm}
 use Rattle.x86_operands.specs.PlanSteps.{read_modrm, read_plan, record_step}
-use Rattle.x86_operands.specs.Encodings.{carried, group_form}
+use Rattle.x86_forms.specs.Words.{carried}
+use Rattle.x86_operands.specs.Encodings.{group_form}
 use Rattle.x86_groups.specs.Groups.{group_form_plan, group_plan, group_record}
 use Rattle.x86_groups.specs.ByReg.{reg_plan}
 

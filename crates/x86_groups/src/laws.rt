@@ -12,7 +12,8 @@ ghost use Rattle.x86_operands.specs.declared.plans.Fault.TheVariants.{Incomplete
 ghost use Rattle.x86_operands.specs.declared.plans.Moment.{Moment};
 ghost use Rattle.x86_operands.specs.declared.plans.Moment.TheVariants.{AfterAddress};
 ghost use Rattle.x86_operands.specs.declared.plans.Verdict.TheVariants.{Refuses};
-ghost use Rattle.x86_operands.specs.Encodings.{carried, group_form};
+ghost use Rattle.x86_forms.specs.Words.{carried};
+ghost use Rattle.x86_operands.specs.Encodings.{group_form};
 ghost use Rattle.x86_operands.specs.PlanSteps.{record_step};
 ghost use Rattle.x86_operands.specs.declared.encodings.RegGroup.{RegGroup};
 ghost use Rattle.x86_groups.specs.ByReg.{reg_plan, reg_step};

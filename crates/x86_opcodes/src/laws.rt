@@ -11,7 +11,8 @@ use std::hash::Hash;
 
 /// The nth name of the list, counted from 0, is that of the opcode with number n, and is how this opcode is spelled.
 pub fn names_are_in_the_order_of_their_numbers()
-    ensures { (n : ℕ) → IfSome (slice_get all_names n) (λ named. (named.opcode ≡ n) × (named.spelled ≡ mnemonic n)) }
+    ensures { (n : ℕ) → IfSome (slice_get all_names n)
+        (λ named. (named.opcode ≡ n) × (named.spelled ≡ mnemonic n)) }
 {}
 
 /// An operation has a condition exactly where it is a conditional jump, move or setting.
@@ -30,5 +31,6 @@ pub fn kinds_exclude_each_other()
 pub fn equality_is_of_the_name()
     ensures opcodes { (o p : ℕ) → IsTrue (equal_opcodes o p) ↔ (o ≡ p) }
     ensures codes { (c d : ConditionCode) → IsTrue (equal_codes c d) ↔ (c ≡ d) }
-    ensures hashed { (c d : ConditionCode) → IsTrue (equal_codes c d) → ⟦<ConditionCode as Hash>⟧.hash_input c ≡ ⟦<ConditionCode as Hash>⟧.hash_input d }
+    ensures hashed { (c d : ConditionCode) → IsTrue (equal_codes c d) →
+        ⟦<ConditionCode as Hash>⟧.hash_input c ≡ ⟦<ConditionCode as Hash>⟧.hash_input d }
 {}

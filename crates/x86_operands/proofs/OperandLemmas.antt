@@ -4,9 +4,9 @@ use Rattle.std.proofs.lemmas.List.{append-nil}
 use Rattle.std.specs.Int.{Width, w8, w16, w32, w64, byte_len, from_le_bytes, cast_signed}
 use Rattle.x86_fields.specs.declared.prefixes.Prefixes.{Prefixes}
 use Rattle.x86_fields.specs.declared.raw.Raw.{Raw}
-use Rattle.x86_fields.specs.Steps.{Step, pure, ◌>>=◌, number_step, Takes}
+use Rattle.x86_fields.specs.Steps.{Step, pure, ◌>>=◌, number_step}
 use Rattle.x86_fields.specs.Pieces.{EndsBetween}
-use Rattle.x86_fields.proofs.StepLemmas.{takes_pure, takes_bind}
+use Rattle.x86_fields.proofs.StepLemmas.{Takes, takes_pure, takes_bind}
 use Rattle.x86_fields.proofs.EndLemmas.{EndsWell, IsEmpty, Only, ends_pure, ends_then, ends_map, Stands, stands_bind, stands_same, bind_assoc}
 use Rattle.x86_fields.proofs.PieceLemmas.{IsNumber, ends_number, takes_number, takes_map, nil_of, StandsOn, one_there, none_there, stands_piece}
 use Rattle.x86_operands.specs.declared.operands.Slot.{Slot}

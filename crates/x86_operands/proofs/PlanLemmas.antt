@@ -5,9 +5,9 @@ use Rattle.x86_fields.specs.declared.errors.DecodeError.{DecodeError}
 use Rattle.x86_fields.specs.declared.prefixes.Prefixes.{Prefixes}
 use Rattle.x86_fields.specs.declared.raw.Raw.{Raw}
 use Rattle.x86_fields.specs.Raw.{read_raw}
-use Rattle.x86_fields.specs.Steps.{Step, pure, ◌>>=◌, Takes}
+use Rattle.x86_fields.specs.Steps.{Step, pure, ◌>>=◌}
 use Rattle.x86_fields.specs.Pieces.{SpellsRaw, EndsBetween, raw_widths, total}
-use Rattle.x86_fields.proofs.StepLemmas.{takes_pure, takes_bind, takes_err}
+use Rattle.x86_fields.proofs.StepLemmas.{Takes, takes_pure, takes_bind, takes_err}
 use Rattle.x86_fields.proofs.EndLemmas.{EndsWell, IsEmpty, Only, ends_pure, ends_bind, ends_then, ends_map, weaken, Stands, stands_bind, stands_empty, stands_refused, stands_same, over, final_err, bind_assoc}
 use Rattle.x86_fields.proofs.PieceLemmas.{takes_map, ends_raw, takes_raw, stands_raw, raw_long, none_there, more_missing, more_there, FirstPiece, nothing, piece, first_piece, between_nil}
 use Rattle.x86_operands.specs.declared.operands.Slot.{Slot}

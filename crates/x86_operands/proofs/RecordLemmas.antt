@@ -2,10 +2,10 @@
 use Rattle.std.proofs.Common.{◌≡◌, ℕ, List, [], ◌∷◌, ◌++◌, length, Option, Some, None, Result, Ok, Err, refl, sym, ap, subst, arith}
 use Rattle.x86_fields.specs.declared.errors.DecodeError.{DecodeError}
 use Rattle.x86_fields.specs.declared.prefixes.Prefixes.{Prefixes}
-use Rattle.x86_fields.specs.Steps.{Step, ◌>>=◌, next_byte, Takes}
+use Rattle.x86_fields.specs.Steps.{Step, ◌>>=◌, next_byte}
 use Rattle.x86_fields.specs.ModRM.{absent_modrm, as_register}
 use Rattle.x86_fields.specs.Pieces.{EndsBetween}
-use Rattle.x86_fields.proofs.StepLemmas.{takes_pure, takes_bind, takes_err, takes_byte}
+use Rattle.x86_fields.proofs.StepLemmas.{Takes, takes_pure, takes_bind, takes_err, takes_byte}
 use Rattle.x86_fields.proofs.EndLemmas.{EndsWell, IsEmpty, Only, IsByte, ends_byte, ends_pure, ends_refuse, ends_bind, ends_then, ends_map, weaken, Stands, stands_bind, stands_empty, stands_refused}
 use Rattle.x86_fields.proofs.PieceLemmas.{takes_map}
 use Rattle.x86_operands.specs.declared.plans.Fault.{Fault}

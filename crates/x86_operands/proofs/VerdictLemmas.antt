@@ -3,8 +3,8 @@ use Rattle.std.proofs.Common.{◌≡◌, ◌≢◌, ℕ, Bool, true, false, if�
 use Rattle.std.proofs.lemmas.List.{append-nil}
 use Rattle.x86_fields.specs.declared.errors.DecodeError.{DecodeError}
 use Rattle.x86_fields.specs.declared.errors.DecodeError.TheVariants.{ExhaustedInput}
-use Rattle.x86_fields.specs.Steps.{pure, refuse, next_byte, Takes}
-use Rattle.x86_fields.proofs.StepLemmas.{takes_pure, takes_bind, takes_byte}
+use Rattle.x86_fields.specs.Steps.{pure, refuse, next_byte}
+use Rattle.x86_fields.proofs.StepLemmas.{Takes, takes_pure, takes_bind, takes_byte}
 use Rattle.x86_fields.proofs.EndLemmas.{EndsWell, IsEmpty, IsByte, ends_byte, ends_pure, ends_refuse, ends_then}
 use Rattle.x86_fields.proofs.PieceLemmas.{nil_of}
 use Rattle.x86_operands.specs.declared.plans.Moment.{Moment}

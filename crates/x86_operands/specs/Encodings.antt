@@ -6,6 +6,7 @@ use Rattle.x86_regs.specs.Class.{width_of}
 use Rattle.x86_fields.specs.declared.prefixes.Prefixes.{Prefixes}
 use Rattle.x86_fields.specs.Sizes.{v_class, vq_class, vd_class, dq_class}
 use Rattle.x86_forms.specs.Groups.{is_group}
+use Rattle.x86_forms.specs.Words.{carried}
 use Rattle.x86_forms.specs.declared.Form.{Form}
 use Rattle.x86_forms.specs.declared.Form.TheVariants as form
 use Rattle.x86_operands.specs.declared.plans.OperandEncoding.{OperandEncoding}
@@ -149,15 +150,6 @@ is_described (behind.ByReg g) = false
 is_described (behind.Peculiar u) = false
 is_described behind.Group = false
 is_described b = true
-
--- the number that a form carries
-abbrev pub carried : Form → ℕ
-carried (form.Zv_R n) = n
-carried (form.Zv_AX_R n) = n
-carried (form.Zb_Ib_R n) = n
-carried (form.Zv_Ivq_R n) = n
-carried (form.Zv_B n) = n
-carried f = 0
 
 -- the encoding says what the form's definition says, unless it leaves the form to a plan of its own
 abbrev pub Describes : FormEncoding → Form → Type 0

@@ -5,9 +5,9 @@
 //! B or Zero.
 
 ghost use Rattle.std.specs.Prelude.{◌≡◌, ◌<◌, true};
-ghost use Rattle.x86_forms.specs.Words.{IsForm};
+ghost use Rattle.x86_forms.specs.Words.{IsForm, carried};
 ghost use Rattle.x86_operands.specs.Forms.{modrm_use};
-ghost use Rattle.x86_operands.specs.Encodings.{Belongs, Describes, LeavesPeculiar, carried, is_sound, use_of};
+ghost use Rattle.x86_operands.specs.Encodings.{Belongs, Describes, LeavesPeculiar, is_sound, use_of};
 
 use crate::encodings::Behind::{ByReg, Group, Peculiar};
 use crate::encodings::{FormEncoding, RegGroup};

@@ -7,113 +7,139 @@ ghost use Rattle.x86_operands.specs.Operands.{is_memory_operand, is_memory_slot,
 use x86_fields::{AddressParts, RegFile};
 use x86_regs::{MergeMode, RegSpec, SaeMode};
 
-/// An operand of an instruction. The masked and the sae variants can be built by hand; no instruction here has one.
+/// An operand of an instruction. The examples are as a listing prints them: numbers are decimal.
 #[derive(Clone, Copy, PartialEq, Eq, Debug, Drop)]
 pub enum Operand {
+    /// A signed immediate of 1 byte, as `i8:-1` of `83 c0 ff`.
     ImmediateI8 {
         imm: i8,
     },
+    /// An unsigned immediate of 1 byte, as `u8:128` of `cd 80`.
     ImmediateU8 {
         imm: u8,
     },
+    /// A signed immediate of 2 bytes, as `i16:-2` of `66 05 fe ff`.
     ImmediateI16 {
         imm: i16,
     },
+    /// An unsigned immediate of 2 bytes, as `u16:8` of `c2 08 00`.
     ImmediateU16 {
         imm: u16,
     },
+    /// A signed immediate of 32 bits, as `i32:-2` of `05 fe ff ff ff`, or from 2 bytes in XBEGIN under 66.
     ImmediateI32 {
         imm: i32,
     },
+    /// An unsigned immediate of 32 bits, printed as `u32:7`. No instruction here has one.
     ImmediateU32 {
         imm: u32,
     },
+    /// A signed immediate of 64 bits, from 8 bytes or from 4, as `i64:-1` of `48 c7 c0 ff ff ff ff`.
     ImmediateI64 {
         imm: i64,
     },
+    /// An unsigned immediate of 64 bits, printed as `u64:7`. No instruction here has one.
     ImmediateU64 {
         imm: u64,
     },
+    /// A register, as `eax` of `01 d8`.
     Register {
         reg: RegSpec,
     },
+    /// A register under a mask register, printed as the register. No instruction here has one.
     RegisterMaskMerge {
         reg: RegSpec,
         mask: RegSpec,
         merge: MergeMode,
     },
+    /// The same with a rounding mode. No instruction here has one.
     RegisterMaskMergeSae {
         reg: RegSpec,
         mask: RegSpec,
         merge: MergeMode,
         sae: SaeMode,
     },
+    /// The same where exceptions are suppressed and the rounding mode is that of MXCSR. No instruction here has
+    /// one.
     RegisterMaskMergeSaeNoround {
         reg: RegSpec,
         mask: RegSpec,
         merge: MergeMode,
     },
-    /// An address of 32 bits, without a register.
+    /// Memory at an address of 32 bits without a register, as `[abs32:16]` of `8b 04 25 10 00 00 00`.
     AbsoluteU32 {
         addr: u32,
     },
-    /// An address of 64 bits, without a register.
+    /// Memory at an address of 64 bits, as `[abs64:16]` of `a1 10 00 00 00 00 00 00 00`.
     AbsoluteU64 {
         addr: u64,
     },
+    /// Memory at a register, as `[rax]` of `8b 00`.
     MemDeref {
         base: RegSpec,
     },
+    /// Memory at a register and a displacement other than 0, as `[rax-8]` of `8b 40 f8`.
     Disp {
         base: RegSpec,
         disp: i32,
     },
+    /// Memory at an index times its scale, as `[rcx*4]` of `8b 04 8d 00 00 00 00`.
     MemIndexScale {
         index: RegSpec,
         scale: u8,
     },
+    /// The same with a displacement other than 0, as `[rcx*4+16]` of `8b 04 8d 10 00 00 00`.
     MemIndexScaleDisp {
         index: RegSpec,
         scale: u8,
         disp: i32,
     },
+    /// Memory at a base and an index times its scale, as `[rax+rcx*4]` of `8b 04 88`.
     MemBaseIndexScale {
         base: RegSpec,
         index: RegSpec,
         scale: u8,
     },
+    /// The same with a displacement other than 0, as `[rax+rcx*4-8]` of `8b 44 88 f8`.
     MemBaseIndexScaleDisp {
         base: RegSpec,
         index: RegSpec,
         scale: u8,
         disp: i32,
     },
+    /// `MemDeref` under a mask register, printed without it. No instruction here has one, nor one of the five
+    /// below.
     MemDerefMasked {
         base: RegSpec,
         mask: RegSpec,
     },
+    /// `Disp` under a mask register.
     DispMasked {
         base: RegSpec,
         disp: i32,
         mask: RegSpec,
     },
+    /// `MemIndexScale` under a mask register.
     MemIndexScaleMasked {
         index: RegSpec,
         scale: u8,
         mask: RegSpec,
     },
+    /// `MemIndexScaleDisp` under a mask register.
     MemIndexScaleDispMasked {
         index: RegSpec,
         scale: u8,
         disp: i32,
         mask: RegSpec,
     },
+    /// `MemBaseIndexScale` under a mask register.
     MemBaseIndexScaleMasked {
         base: RegSpec,
         index: RegSpec,
         scale: u8,
         mask: RegSpec,
     },
+    /// `MemBaseIndexScaleDisp` under a mask register.
     MemBaseIndexScaleDispMasked {
         base: RegSpec,
         index: RegSpec,

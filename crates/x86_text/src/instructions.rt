@@ -53,7 +53,8 @@ fn put_operands(cells: &mut [u8], at: usize, operands: &[Operand]) -> usize
 #[inline(always)]
 fn put_size(cells: &mut [u8], at: usize, instruction: &Instruction) -> usize
     requires { at + 3 ≤ length cells.old }
-    ensures text { take result cells.new ≡ take at cells.old ++ size_text (mem_size_number instruction.now) }
+    ensures text { take result cells.new ≡
+        take at cells.old ++ size_text (mem_size_number instruction.now) }
     ensures short { result ≤ at + 3 }
 {
     match instruction.mem_size() {

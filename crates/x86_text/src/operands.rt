@@ -17,7 +17,8 @@ use x86_regs::RegSpec;
 fn put_immediate(cells: &mut [u8], at: usize, label: &[u8; 4], count: usize, n: i64) -> usize
     requires room { at + 24 ≤ length cells.old }
     requires count { count ≤ 4 }
-    ensures text { take result cells.new ≡ take at cells.old ++ take count label.now ++ signed_decimal n }
+    ensures text { take result cells.new ≡
+        take at cells.old ++ take count label.now ++ signed_decimal n }
     ensures short { result ≤ at + 24 }
 {
     let at = put_front(cells, at, label, count);
@@ -65,7 +66,8 @@ fn put_scaled(
     scale: u8,
 ) -> usize
     requires { at + 23 ≤ length cells.old }
-    ensures text { take result cells.new ≡ take at cells.old ++ base_text base ++ plus_text base ++ scaled_text index.now scale }
+    ensures text { take result cells.new ≡
+        take at cells.old ++ base_text base ++ plus_text base ++ scaled_text index.now scale }
     ensures short { result ≤ at + 17 }
 {
     let mut at = at;
@@ -132,7 +134,8 @@ fn put_moved_index(
     disp: i32,
 ) -> usize
     requires { at + 30 ≤ length cells.old }
-    ensures text { take result cells.new ≡ take at cells.old ++ moved_index_text base index.now scale disp }
+    ensures text { take result cells.new ≡
+        take at cells.old ++ moved_index_text base index.now scale disp }
     ensures short { result ≤ at + 30 }
 {
     let at = put(cells, at, b'[');
@@ -144,7 +147,8 @@ fn put_moved_index(
 #[inline(never)]
 fn put_absolute(cells: &mut [u8], at: usize, label: &[u8; 7], addr: u64) -> usize
     requires { at + 28 ≤ length cells.old }
-    ensures text { take result cells.new ≡ take at cells.old ++ label.now ++ decimal addr ++ codes "]" }
+    ensures text { take result cells.new ≡
+        take at cells.old ++ label.now ++ decimal addr ++ codes "]" }
     ensures short { result ≤ at + 28 }
 {
     let at = put_bytes(cells, at, label);

@@ -21,7 +21,8 @@ impl Model for Place {
 
     ghost view = { λ p. p.number };
 
-    ghost invariant = { λ p. (p.digits.items ≡ decimal p.number) × (0 < p.spare → (100 ≤ p.number) × (p.spare + p.number % 100 ≡ 100)) };
+    ghost invariant = { λ p. (p.digits.items ≡ decimal p.number) ×
+        (0 < p.spare → (100 ≤ p.number) × (p.spare + p.number % 100 ≡ 100)) };
 }
 
 impl Place {

@@ -71,7 +71,8 @@ impl<const N: usize> Room<N> {
     pub fn set_last_digits(&mut self, n: u8)
         requires pair { n < 100 }
         requires some { 2 ≤ array_vec_len self.old }
-        ensures { self.new.items ≡ take (array_vec_len self.old - 2) self.old.items ++ (48 + n / 10) ∷ (48 + n % 10) ∷ [] }
+        ensures { self.new.items ≡ take (array_vec_len self.old - 2) self.old.items ++
+            (48 + n / 10) ∷ (48 + n % 10) ∷ [] }
     {
         self.len = put_front(&mut self.cells, self.len - 2, pair_of(n), 2);
     }
@@ -109,7 +110,8 @@ impl<const N: usize> Room<N> {
 
     /// The bytes as text, or `None` where they aren't UTF-8.
     pub fn as_str(&self) -> Option<&str>
-        ensures { MatchOption result (¬ (IsUtf8 self.now.items)) (λ text. text.now ≡ self.now.items) }
+        ensures { MatchOption result (¬ (IsUtf8 self.now.items))
+            (λ text. text.now ≡ self.now.items) }
     {
         match from_utf8(self.as_slice()) {
             Ok(text) => Some(text),

@@ -71,7 +71,7 @@ fn errors_of_emit_by_their_texts(rt: HostRuntime) -> Result<(), Fail> {
     let texts = [
         (EmitError::Prefixes, "not a prefix byte"),
         (EmitError::Row, "no row for these fields"),
-        (EmitError::Shape, "parts other than the row asks"),
+        (EmitError::Shape, "a part is missing, extra or of the wrong length"),
         (EmitError::Lock, "lock prefix not allowed"),
         (EmitError::Length, "more than 15 bytes"),
     ];

@@ -49,9 +49,6 @@ module _ {S : Type 0} (gives : S → Got → S → Type 0) where
     pub asked : AskedWhere (NeedsMore 1) (text_at position room) bytes None
     pub same : (xs : List ℕ) (stop : Stop) → text_at position room (bytes ++ xs) stop ≡ text_at position' room' xs stop
 
-  pub skips_none : (p r : ℕ) (a : S) → Skips p r p r a a
-  skips_none p r a = record { bytes = []; gave = refl; asked = tt; same = λ xs stop. refl }
-
   pub skips_blank : (p r q s q' s' x : ℕ) (a b d : S) → Skips p r q s a b → gives b (got.Byte x) d →
       is_blank x ≡ true → q' ≡ q + 1 → s' + 1 ≡ s → Skips p r q' s' a d
   skips_blank p r q s q' s' x a b d before e blank eq es = record {

@@ -11,6 +11,7 @@ use Rattle.x86_operands.specs.declared.operands.Operand.TheVariants as operand
 use Rattle.x86_decode.specs.declared.instructions.Instruction.{Instruction}
 use Rattle.x86_decode.specs.Instruction.{operand_at}
 use Rattle.x86_decode.specs.Answer.{answer_of}
+use Rattle.x86_layout.specs.Parts.Heads.{one_if}
 use Rattle.x86_cli.specs.declared.commands.make.Tally.{Tally}
 use Rattle.x86_cli.specs.declared.listings.status.Status.TheVariants.{Done}
 use Rattle.x86_cli.specs.Commands.Command.{command_of}
@@ -65,9 +66,6 @@ has_operand test i = test (operand_at i 0) || (test (operand_at i 1) || (test (o
 abbrev pub answer_has : (Operand → Bool) → Result Instruction DecodeError → Bool
 answer_has test (Ok i) = has_operand test i
 answer_has test (Err e) = false
-
-abbrev pub one_if : Bool → ℕ
-one_if b = if b then 1 else 0
 
 abbrev pub counted : Tally → List ℕ → Result Instruction DecodeError → Tally
 counted t bytes answer = record {

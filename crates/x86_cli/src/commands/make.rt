@@ -5,7 +5,8 @@ ghost use Rattle.arrayvec.specs.ArrayVec.{array_vec_len};
 ghost use Rattle.x86_regs.specs.Register.{class};
 ghost use Rattle.x86_decode.specs.Instruction.{holding};
 ghost use Rattle.x86_cli.specs.Commands.Run.{Wrote};
-ghost use Rattle.x86_cli.specs.Commands.Make.{generate, has_long_displacement, is_rip, is_at_rip, is_absolute, has_operand, answer_has, one_if, tally_of, tally_text, make_max, made_listing};
+ghost use Rattle.x86_layout.specs.Parts.Heads.{one_if};
+ghost use Rattle.x86_cli.specs.Commands.Make.{generate, has_long_displacement, is_rip, is_at_rip, is_absolute, has_operand, answer_has, tally_of, tally_text, make_max, made_listing};
 
 use crate::listings::listing::put_line;
 use crate::listings::status::Status;

@@ -33,8 +33,8 @@ pub enum EmitError {
     /// ModRM that is there, or for the suffix that is there.
     #[error("no row for these fields")]
     Row,
-    /// A part that the row asks is missing or has another length, or one is there that it doesn't ask.
-    #[error("parts other than the row asks")]
+    /// A part that the row has is missing or has another length, or one is there that the row doesn't have.
+    #[error("a part is missing, extra or of the wrong length")]
     Shape,
     /// F0 is there and isn't allowed.
     #[error("lock prefix not allowed")]

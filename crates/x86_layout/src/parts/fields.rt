@@ -16,9 +16,13 @@ pub struct Fields {
     pub prefixes: ArrayVec<u8, 14>,
     /// Nothing, or 0F, 0F 38 or 0F 3A.
     pub escape: ArrayVec<u8, 2>,
+    /// The opcode byte, which follows the escape.
     pub opcode: u8,
+    /// ModRM, where the row has one.
     pub modrm: Option<u8>,
+    /// SIB, where rm of a memory form is 100.
     pub sib: Option<u8>,
+    /// The displacement, little-endian: 1 or 4 bytes, or none.
     pub displacement: ArrayVec<u8, 4>,
     /// The immediates in order. The absolute addresses of opcodes A0 to A3 count as immediates.
     pub immediate: ArrayVec<u8, 8>,

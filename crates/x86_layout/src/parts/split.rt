@@ -27,8 +27,11 @@ pub struct Parts<'a> {
     pub escape: &'a [u8],
     /// The opcode byte.
     pub opcode: &'a [u8],
+    /// ModRM, where the row has one.
     pub modrm: &'a [u8],
+    /// SIB, where rm of a memory form is 100.
     pub sib: &'a [u8],
+    /// The displacement, little-endian: 1 or 4 bytes, or none.
     pub displacement: &'a [u8],
     /// The immediates in order. The absolute addresses of opcodes A0 to A3 count as immediates.
     pub immediate: &'a [u8],

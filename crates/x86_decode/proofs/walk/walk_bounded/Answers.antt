@@ -2,7 +2,7 @@ use Rattle.x86_forms.specs.Words.{rows_of}
 use Rattle.std.proofs.Common.{rules, ◌≡◌, Ok, Err, true, false, sym, ap, ◌∙◌, length, nat_le}
 use Rattle.x86_arch.specs.Reader.{advanced}
 use Rattle.x86_decode.specs.Instruction.{reading_in}
-use Rattle.x86_decode.specs.Walk.{is_exhausted}
+use Rattle.x86_fields.specs.Errors.{is_exhausted}
 use Rattle.x86_decode.proofs.WalkLemmas.{walked, held_ok, held_err, ends_judged, ends_error, ends_long, ends_open}
 use Rattle.x86_decode.proofs.walk.walk_bounded.Goals as goal
 

@@ -2,7 +2,8 @@ use Rattle.std.proofs.Common.{◌≡◌, ◌+◌, ℕ, suc, length, false, refl,
 use Rattle.x86_decode.specs.Answer.{answer_of}
 use Rattle.x86_decode.specs.Instruction.{holding}
 use Rattle.x86_cli.specs.declared.commands.make.Tally.{Tally}
-use Rattle.x86_cli.specs.Commands.Make.{generate, tally_of, one_if, answer_has, is_at_rip, is_absolute}
+use Rattle.x86_layout.specs.Parts.Heads.{one_if}
+use Rattle.x86_cli.specs.Commands.Make.{generate, tally_of, answer_has, is_at_rip, is_absolute}
 use Rattle.x86_cli.proofs.commands.make.tally_of.Goals as goal
 
 abbrev of_three : ℕ → ℕ → ℕ → Tally

@@ -1,0 +1,131 @@
+-- The listing by the grammar alone.
+use Rattle.std.proofs.Common.{Bool, ◌≡◌, ◌≢◌, ◌×◌, ◌↔◌, ℕ, suc, zero, ◌+◌, ◌-◌, ◌<◌, ◌≤◌, List, [], ◌∷◌, ◌++◌, length, take, drop, Result, Ok, Err, refl, arith, ap, ◌∙◌, sym, subst, append_assoc, length-append}
+use Rattle.std.proofs.Math.Seq.{take-append_seam, drop-append_seam}
+use Rattle.std.specs.List.{concat}
+use Rattle.x86_decode.specs.declared.instructions.Instruction.{Instruction}
+use Rattle.x86_fields.specs.declared.errors.DecodeError.{DecodeError}
+use Rattle.x86_fields.specs.declared.errors.DecodeError.TheVariants.{ExhaustedInput, InvalidOpcode, InvalidOperand, InvalidPrefixes, TooLong, IncompleteDecoder}
+use Rattle.x86_forms.specs.Words.{rows_of, packed}
+use Rattle.x86_decode.specs.Answer.{answer_of, count_of}
+use Rattle.x86_decode.specs.Grammar.{IsAnswer, IsAccepted, IsSentence}
+use Rattle.x86_cli.specs.declared.text.reader.Ending.{Ending}
+use Rattle.x86_cli.specs.declared.text.reader.Ending.TheVariants.{Clean, Bad, Large, Fault}
+use Rattle.x86_cli.specs.declared.text.window.Front.TheVariants.{Whole, Refused, Ended}
+use Rattle.x86_cli.specs.Listings.Line.{line}
+use Rattle.x86_cli.specs.Listings.Listing.{Listing, with_lines, at_end, front_of, listed, judged, listing_from}
+use Rattle.x86_cli.specs.Listings.Grammar.{at_error, EndsListing, AreLines, IsListing}
+use Rattle.x86_cli.proofs.ListingLemmas.Listing.{listing-whole}
+
+-- what the decoder's laws say of one choice
+pub record GrammarLaws (strict : Bool) : Type 0 where
+  pub there : (xs : List ℕ) → IsAnswer (rows_of packed) strict xs (answer_of strict xs) (count_of strict xs)
+  pub only : (xs : List ℕ) (r : Result Instruction DecodeError) (n : ℕ) → IsAnswer (rows_of packed) strict xs r n → r ≡ answer_of strict xs
+  pub lengths : (xs : List ℕ) (i : Instruction) → answer_of strict xs ≡ Ok i → (0 < i.length) × (i.length ≤ length xs)
+
+module _ (strict : Bool) (laws : GrammarLaws strict) (text : ℕ → Instruction → List ℕ → List ℕ) where
+  abbrev IsHere : ℕ → List ℕ → Ending → Listing → Type 0
+  IsHere place image e l = IsListing (rows_of packed) strict text place image e l
+
+  -- what is left, where its answer is an error
+  listed_error : (error : DecodeError) (e : Ending) (n : ℕ) (xs : List ℕ) (after : ℕ → Listing) →
+      listed strict text (judged (Err error) e) n xs after ≡ at_error n error e
+  listed_error ExhaustedInput Clean n xs after = refl
+  listed_error ExhaustedInput (Bad p) n xs after = refl
+  listed_error ExhaustedInput Large n xs after = refl
+  listed_error ExhaustedInput Fault n xs after = refl
+  listed_error InvalidOpcode e n xs after = refl
+  listed_error InvalidOperand e n xs after = refl
+  listed_error InvalidPrefixes e n xs after = refl
+  listed_error TooLong e n xs after = refl
+  listed_error IncompleteDecoder e n xs after = refl
+
+  error_here : (n x : ℕ) (xs : List ℕ) (e : Ending) (error : DecodeError) → Err error ≡ answer_of strict (x ∷ xs) →
+      listing_from strict text n 0 (x ∷ xs) e ≡ at_error n error e
+  unfolding listing_from front_of
+  error_here n x xs e error h = rw sym h (listed_error error e n (x ∷ xs) _)
+
+  end_here : (n : ℕ) (xs : List ℕ) (e : Ending) (last : Listing) → EndsListing (rows_of packed) strict n xs e last →
+      last ≡ listing_from strict text n 0 xs e
+  unfolding listing_from
+  end_here n [] e last is = is
+  end_here n (x ∷ xs) e last ends =
+      ends.3 ∙ sym (error_here n x xs e ends.0 (laws.only (x ∷ xs) (Err ends.0) ends.1 ends.2))
+
+  -- a sentence and the bytes after it
+  front_whole : (xs : List ℕ) (e : Ending) (i : Instruction) → answer_of strict xs ≡ Ok i → front_of strict xs e ≡ Whole i
+  unfolding front_of
+  front_whole [] e i h = let l = laws.lengths [] i h in absurd (omega (arith, l.0, l.1))
+  front_whole (x ∷ xs) e i h = ap (λ a. judged a e) h
+
+  sentence_here : (n : ℕ) (s rest : List ℕ) (e : Ending) (i : Instruction) → IsSentence (rows_of packed) strict s i →
+      listing_from strict text n 0 (s ++ rest) e ≡ with_lines (line (text n i s) ∷ []) (listing_from strict text (n + length s) 0 rest e)
+  sentence_here n s rest e i is =
+      let all = s ++ rest in
+      let accepted : IsAccepted (rows_of packed) strict all i (length s) = record { sentence = s; rest = rest; begins = refl; long = refl; is = is } in
+      let ok : answer_of strict all ≡ Ok i = sym (laws.only all (Ok i) (length s) accepted) in
+      let l = laws.lengths all i ok in
+      let len : i.length ≡ length s = ap (λ i. i.length) is.gives in
+      let P : ℕ → Type 0 = λ k. listing_from strict text n 0 all e ≡ with_lines (line (text n i (take k all)) ∷ []) (listing_from strict text (n + k) 0 (drop k all) e) in
+      let h = subst P len (listing-whole strict text n all e i (front_whole all e i ok) l.0 l.1) in
+      rw (take-append_seam s rest, drop-append_seam s rest) at h
+
+  listing_is : (n : ℕ) (ss : List (List ℕ)) (left : List ℕ) (e : Ending) (lines : List (List ℕ)) (last : Listing) →
+      AreLines (rows_of packed) strict text n ss lines → EndsListing (rows_of packed) strict (n + length (concat ss)) left e last →
+      with_lines lines last ≡ listing_from strict text n 0 (concat ss ++ left) e
+  listing_is n [] left e lines last each ends =
+      let same : n + 0 ≡ n = omega arith in
+      rw each (end_here n left e last (subst (λ m. EndsListing (rows_of packed) strict m left e last) same ends))
+  listing_is n (s ∷ ss) left e lines last each ends =
+      let same : n + length (s ++ concat ss) ≡ (n + length s) + length (concat ss) = simp length-append (omega arith) in
+      let after = listing_is (n + length s) ss left e each.2 last each.4 (subst (λ m. EndsListing (rows_of packed) strict m left e last) same ends) in
+      rw (each.3, append_assoc)
+      (ap (with_lines (line (text n each.0 s) ∷ [])) after ∙ sym (sentence_here n s (concat ss ++ left) e each.0 each.1))
+
+  -- there is such a listing of each image
+  sentence_first : (n : ℕ) (s rest : List ℕ) (e : Ending) (i : Instruction) → IsSentence (rows_of packed) strict s i →
+      IsHere (n + length s) rest e (listing_from strict text (n + length s) 0 rest e) → IsHere n (s ++ rest) e (listing_from strict text n 0 (s ++ rest) e)
+  sentence_first n s rest e i is t =
+      let same : (n + length s) + length (concat t.sentences) ≡ n + length (s ++ concat t.sentences) = simp length-append (omega arith) in
+      record {
+        sentences = s ∷ t.sentences;
+        left = t.left;
+        whole = ap (λ xs. s ++ xs) t.whole ∙ sym (append_assoc s (concat t.sentences) t.left);
+        lines = line (text n i s) ∷ t.lines;
+        each = (i, is, t.lines, refl, t.each);
+        last = t.last;
+        ends = subst (λ m. EndsListing (rows_of packed) strict m t.left e t.last) same t.ends;
+        is = sentence_here n s rest e i is ∙ ap (with_lines (line (text n i s) ∷ [])) t.is;
+      }
+
+  at_once : (n : ℕ) (xs : List ℕ) (e : Ending) (last : Listing) → EndsListing (rows_of packed) strict n xs e last → IsHere n xs e last
+  at_once n xs e last ends =
+      let same : n ≡ n + 0 = omega arith in
+      record { sentences = []; left = xs; whole = refl; lines = []; each = refl; last = last; ends = subst (λ m. EndsListing (rows_of packed) strict m xs e last) same ends; is = refl }
+
+  -- by the answer of an image that isn't empty, where this is so of shorter ones
+  by_answer : (k n x : ℕ) (xs : List ℕ) (e : Ending) → ((m : ℕ) (ys : List ℕ) → length ys ≤ k → IsHere m ys e (listing_from strict text m 0 ys e)) →
+      length xs ≤ k → (r : Result Instruction DecodeError) → answer_of strict (x ∷ xs) ≡ r →
+      IsAnswer (rows_of packed) strict (x ∷ xs) r (count_of strict (x ∷ xs)) → IsHere n (x ∷ xs) e (listing_from strict text n 0 (x ∷ xs) e)
+  by_answer k n x xs e shorter le (Ok i) h a =
+      let s = a.sentence in
+      let len : i.length ≡ length s = ap (λ i. i.length) a.is.gives in
+      let total : length (x ∷ xs) ≡ length s + length a.rest = ap length a.begins ∙ length-append s a.rest in
+      let less : length a.rest ≤ k = omega (arith, len, total, le, (laws.lengths (x ∷ xs) i h).0) in
+      let t = sentence_first n s a.rest e i a.is (shorter (n + length s) a.rest less) in
+      subst (λ ys. IsHere n ys e (listing_from strict text n 0 ys e)) (sym a.begins) t
+  by_answer k n x xs e shorter le (Err error) h a =
+      let is = error_here n x xs e error (sym h) in
+      rw is (at_once n (x ∷ xs) e (at_error n error e) (error, count_of strict (x ∷ xs), a, refl))
+
+  listing_there : (k n : ℕ) (xs : List ℕ) (e : Ending) → length xs ≤ k → IsHere n xs e (listing_from strict text n 0 xs e)
+  unfolding listing_from
+  listing_there k n [] e le = at_once n [] e (at_end e) refl
+  listing_there zero n (x ∷ xs) e le = absurd (omega (arith, le))
+  listing_there (suc k) n (x ∷ xs) e le =
+      by_answer k n x xs e (λ m ys. listing_there k m ys e) (omega (arith, le)) (answer_of strict (x ∷ xs)) refl (laws.there (x ∷ xs))
+
+  pub listing_exactly : (n : ℕ) (xs : List ℕ) (e : Ending) (l : Listing) → IsHere n xs e l ↔ (l ≡ listing_from strict text n 0 xs e)
+  listing_exactly n xs e l = (
+    λ h. h.is ∙ listing_is n h.sentences h.left e h.lines h.last h.each h.ends ∙ ap (λ ys. listing_from strict text n 0 ys e) (sym h.whole),
+    λ is. rw is (listing_there (length xs) n xs e (omega arith)),
+  )
