@@ -1,5 +1,5 @@
 -- The listing by the grammar alone.
-use Rattle.std.proofs.Common.{Bool, ◌≡◌, ◌≢◌, ◌×◌, ◌↔◌, ℕ, suc, zero, ◌+◌, ◌-◌, ◌<◌, ◌≤◌, List, [], ◌∷◌, ◌++◌, length, take, drop, Result, Ok, Err, refl, arith, ap, ◌∙◌, sym, subst, append_assoc, length-append}
+use Rattle.std.proofs.Common.{Bool, ◌≡◌, ◌≢◌, ◌↔◌, ℕ, suc, zero, ◌+◌, ◌-◌, ◌<◌, ◌≤◌, List, [], ◌∷◌, ◌++◌, length, take, drop, Result, Ok, Err, refl, arith, ap, ◌∙◌, sym, subst, append_assoc, length-append}
 use Rattle.std.proofs.Math.Seq.{take-append_seam, drop-append_seam}
 use Rattle.std.specs.List.{concat}
 use Rattle.x86_decode.specs.declared.instructions.Instruction.{Instruction}
@@ -42,7 +42,7 @@ module _ (strict : Bool) (laws : GrammarLaws strict) (text : ℕ → Instruction
   error_here : (n x : ℕ) (xs : List ℕ) (e : Ending) (error : DecodeError) → Err error ≡ answer_of strict (x ∷ xs) →
       listing_from strict text n 0 (x ∷ xs) e ≡ at_error n error e
   unfolding listing_from front_of
-  error_here n x xs e error h = rw sym h (listed_error error e n (x ∷ xs) _)
+  error_here n x xs e error h = let same : answer_of strict (x ∷ xs) ≡ Err error = sym h in rw same (listed_error error e n (x ∷ xs) _)
 
   end_here : (n : ℕ) (xs : List ℕ) (e : Ending) (last : Listing) → EndsListing (rows_of packed) strict n xs e last →
       last ≡ listing_from strict text n 0 xs e
