@@ -12,7 +12,7 @@ The lists, which people edit:
     crates/x86_regs/specs/Names.antt           the registers of each class
 
 Nothing rests on this script. What it writes is checked like all other code: that the constants have the numbers of the
-names, that each form stands at its ordinal, and that each table has the words of the rows, is proved, and a wrong entry is
+names, that each form is at its ordinal, and that each table has the words of the rows, is proved, and a wrong entry is
 refused, whether the script or a hand wrote it.
 """
 
@@ -66,7 +66,7 @@ def forms():
 
 
 def ordinals():
-    """How many forms, with all their numbers, stand before each form."""
+    """How many forms, with all their numbers, come before each form."""
     ordinal, answer = 0, {}
     for form, carries in forms():
         answer[form] = ordinal
@@ -94,7 +94,7 @@ def registers():
     return [(of, [re.sub(r'codes "(.*)"|\[\]', r"\1", name) for name in names.split(" ∷ ")]) for of, names in classes]
 
 
-def stands_in(columns, column):
+def has_column(columns, column):
     return columns == "all" or column.lower() in columns.split("_")
 
 
@@ -104,13 +104,13 @@ def words(map_rows, column):
     ordinal = ordinals()
     answer = [0] * 256
     for columns, byte, opcode, form, number in reversed(map_rows):
-        if stands_in(columns, column):
+        if has_column(columns, column):
             answer[byte] = 256 * numbers[opcode] + 1 + ordinal[form] + number
     return answer
 
 
 def names_antt():
-    lines = ["-- The numbers of the opcodes, which clauses name. A number tells names apart and means nothing more."]
+    lines = ["-- The numbers of the opcodes, which clauses name. A number only distinguishes names."]
     lines += note("--", "specs/Mnemonics.antt")
     lines += ["use Rattle.std.specs.Prelude.{ℕ, List, [], ◌∷◌}", ""]
     for number, name in enumerate(names()):
@@ -138,7 +138,7 @@ def ordinals_antt():
     lines = ["-- The ordinals of the forms."] + note("--", "the variants of Form in src/lib.rt")
     lines += ["use Rattle.std.specs.Prelude.{ℕ, ◌+◌}", "use Rattle.x86_forms.specs.declared.Form.{Form}"]
     lines += ["use Rattle.x86_forms.specs.declared.Form.TheVariants as form", ""]
-    lines += ["-- how many forms stand before a form, each with every number that it may carry"]
+    lines += ["-- how many forms come before a form, each with every number that it may carry"]
     lines += ["unfoldable pub ordinal_of : Form → ℕ"]
     ordinal = ordinals()
     for form, carries in forms():
@@ -164,7 +164,7 @@ def table(name, entries):
 
 
 def tables_rt():
-    lines = ["//! The words of the rows, by the opcode byte: eight on a line, behind which the byte of the first stands.", "//!"]
+    lines = ["//! The words of the rows, by the opcode byte: eight on a line, followed by the byte of the first.", "//!"]
     lines += ["//! The last two digits of a word are the form's ordinal and 1, the digits before them the opcode's number.", "//!"]
     lines += note("//!", "specs/Rows.antt")
     for of, map_rows in rows().items():

@@ -1,10 +1,10 @@
-//! A reader of two slices, one behind the other.
+//! A reader of two slices, one after the other.
 
 ghost use Rattle.std.specs.Prelude.{◌≡◌, ◌+◌, ◌-◌, ◌<◌, ◌≤◌, ◌^◌, ◌++◌, drop, length};
 
 use crate::{ReadError, Reader};
 
-/// A reader of the bytes of two slices, as if they stood in one.
+/// A reader of the bytes of two slices, as if they were one slice.
 #[derive(Drop)]
 pub struct ChunkReader<'a> {
     first: &'a [u8],

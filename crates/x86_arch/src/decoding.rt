@@ -5,7 +5,7 @@ ghost use Rattle.x86_arch.specs.Reader.{State};
 
 use crate::{Address, Reader};
 
-/// Why no instruction is at the front.
+/// Why the bytes don't begin with an instruction.
 pub trait DecodeError {
     ghost data_exhausted: { Self → Bool };
 
@@ -25,7 +25,7 @@ pub trait DecodeError {
     fn bad_operand(&self) -> bool
         ensures { result ≡ bad_operand self.now };
 
-    /// What to tell a reader of a listing.
+    /// The description that a listing prints.
     fn description(&self) -> &'static str
         ensures { result.now ≡ description self.now };
 }

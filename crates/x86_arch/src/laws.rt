@@ -4,7 +4,8 @@ ghost use Rattle.std.specs.Prelude.{◌≡◌, ◌↔◌, ℕ, ◌+◌, ◌<◌,
 
 use crate::{AddressDiff, ReadError, Reader, U8Reader};
 
-/// Over any reader `next` gives what it gives over a slice with the same bytes left: the answer, and the count taken.
+/// Over any reader `next` returns what it returns over a slice with the same bytes left: the same answer, and the
+/// same count taken.
 pub fn next_is_that_of_a_slice<T: Reader<u64, u8>>(
     reader: &mut T,
     bytes: &[u8],
@@ -22,8 +23,8 @@ pub fn next_is_that_of_a_slice<T: Reader<u64, u8>>(
     (given, over_slice, slice.total_offset())
 }
 
-/// Over any reader `next_n` gives what it gives over a slice with the same bytes left: the answer, the bytes, and the
-/// count taken.
+/// Over any reader `next_n` returns what it returns over a slice with the same bytes left: the same answer, the same
+/// bytes, and the same count taken.
 pub fn next_n_is_that_of_a_slice<T: Reader<u64, u8>>(
     reader: &mut T,
     bytes: &[u8],

@@ -1,4 +1,4 @@
--- A step settles on a front of what is left, or runs out behind one; what is known of either is put together along
+-- A step settles on a prefix of what is left, or runs out after one; what is known of either is put together along
 -- the steps.
 use Rattle.std.proofs.Common.{◌≡◌, ◌≢◌, ◌⊎◌, inl, inr, true, nat_lt, length-take, ℕ, ◌+◌, ◌<◌, ◌≤◌, true, List, [], ◌∷◌, ◌++◌, length, take, drop, Result, Ok, Err, refl, sym, ap, subst, ◌∙◌, arith, length-append, append_assoc}
 use Rattle.std.proofs.lemmas.Bool.{cases_lt, lt-ltb}
@@ -29,14 +29,14 @@ final_other {X} {Y} e d h = d (ap (λ f. Err f) (same h))
     same : ◌≡◌ {A = Result Y DecodeError} (Err e) (Err ExhaustedInput) → e ≡ ExhaustedInput
     same h = cc
 
--- On q and the front behind it f takes q and runs out.
+-- On q and these bytes after it, f takes q and runs out.
 abbrev pub OutAt : {X : Type 0} → Step X → List ℕ → List ℕ → Type 0
 OutAt f q front = (t : State ℕ) → t.left ≡ q ++ front → f t ≡ outcome (Err ExhaustedInput) (advanced (length q) t)
 
 abbrev pub OutOn : {X : Type 0} → Step X → List ℕ → List ℕ → Type 0
 OutOn f q rest = (front back : List ℕ) → rest ≡ front ++ back → OutAt f q front
 
--- A front was taken whatever follows, or f runs out behind q, on every front of the input that holds q.
+-- A prefix was taken whatever follows, or f runs out after q, on every prefix of the input that begins with q.
 pub data Ends {X : Type 0} (A : List ℕ → Result X DecodeError → Type 0) (B : List ℕ → Type 0) (f : Step X) (s : State ℕ) : Type 0 where
   settles : (q rest : List ℕ) (r : Result X DecodeError) → s.left ≡ q ++ rest → Takes f q r → IsFinal r → A q r → Ends A B f s
   runs_out : (q rest : List ℕ) → s.left ≡ q ++ rest → B q → OutOn f q rest → Ends A B f s
@@ -128,7 +128,7 @@ pub ends_bind : {X Y : Type 0} (A₁ : List ℕ → Result X DecodeError → Typ
     → EndsWell A B (m >>= f)
 ends_bind A₁ B₁ A B m f first outs errs each s = ends_at A₁ B₁ A B m f s outs errs each (first s)
 
--- where the first step only gives values
+-- where the first step only yields values
 pub ends_then : {X Y : Type 0} (P : List ℕ → X → Type 0) (B₁ : List ℕ → Type 0) (A : List ℕ → Result Y DecodeError → Type 0) (B : List ℕ → Type 0) (m : Step X) (f : X → Step Y)
     → EndsWell (Only P) B₁ m → ((q : List ℕ) → B₁ q → B q)
     → ((q : List ℕ) (x : X) → P q x → EndsWell (λ p r. A (q ++ p) r) (λ p. B (q ++ p)) (f x))
@@ -182,7 +182,7 @@ assoc_at (Err e) u f g = refl
 pub bind_assoc : {X Y Z : Type 0} (m : Step X) (f : X → Step Y) (g : Y → Step Z) (s : State ℕ) → ((m >>= f) >>= g) s ≡ (m >>= (λ x. f x >>= g)) s
 bind_assoc m f g s = assoc_at (m s).answer (m s).after f g
 
--- ---- the longest front
+-- ---- the longest prefix
 
 longer : {X : Type 0} (f : Step X) (q rest p more : List ℕ) → OutOn f q rest → q ++ rest ≡ p ++ more → length q < length p → Stands f p → length p ≤ length q
 longer f q rest p more u h less st =
@@ -197,7 +197,7 @@ longer f q rest p more u h less st =
         let counts : 0 + length q ≡ 0 + length p = sym (ap (λ o. o.after.since_mark) e) ∙ ap (λ o. o.after.since_mark) (v (fresh p) refl) in omega arith
     at (over a b r e t d) is = absurd (d (sym (ap (λ o. o.answer) (t.takes b (fresh p) e)) ∙ ap (λ o. o.answer) is))
 
--- Of the fronts of an input on which the step runs out, none on which it stands is longer than what it takes.
+-- Of the prefixes of an input on which the step runs out, none on which it halts is longer than what it takes.
 pub longest : {X : Type 0} (f : Step X) (q rest p more : List ℕ) → OutOn f q rest → q ++ rest ≡ p ++ more → Stands f p → length p ≤ length q
 longest f q rest p more u h st = by (cases_lt (length q) (length p))
   where

@@ -76,7 +76,7 @@ value_at_next f =
     one : (n c : ℕ) → 0 + n * 1 + c ≡ n + c
     one n c = omega arith
 
--- ---- what the values tell
+-- ---- what is known from the values
 
 -- a sum of two numbers below m, modulo m
 data Wrapped (x m : ℕ) : Type 0 where

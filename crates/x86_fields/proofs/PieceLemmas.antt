@@ -20,7 +20,7 @@ takes_map m g q x t = record { takes = λ rest s h. ap (λ o. then_from o.answer
 
 -- ---- pieces by their widths
 
--- one more piece in front
+-- one more piece at the beginning
 pub one_there : (w : ℕ) (ws p q : List ℕ) → length p ≡ w → EndsBetween ws q → EndsBetween (w ∷ ws) (p ++ q)
 one_there w ws p q e b = record { there = w ∷ b.there; missing = b.missing; pieces = ap (λ l. w ∷ l) b.pieces; long = length-append p q ∙ ap (λ n. n + length q) e ∙ ap (λ n. w + n) b.long }
 
@@ -148,7 +148,7 @@ raw_made p modrm sib disp = record { rex_b = has_b p; rex_x = has_x p; address_s
 abbrev after_sib : Prefixes → ℕ → Option ℕ → Step Raw
 after_sib p modrm sib = read_displacement (displacement_width modrm sib) >>= λ disp. pure (raw_made p modrm sib disp)
 
--- the widths behind ModRM, where SIB is there if asked
+-- the widths after ModRM, where SIB is there if ModRM requires it
 pub widths_at : (modrm : ℕ) (sib : Option ℕ) (rest : List ℕ) → is_some sib ≡ (rm_field modrm == 4) → raw_widths modrm (option_bytes sib ++ rest) ≡ (if rm_field modrm == 4 then 1 ∷ displacement_width modrm sib ∷ [] else displacement_width modrm sib ∷ [])
 widths_at modrm sib rest e = by (rm_field modrm == 4) sib e
   where

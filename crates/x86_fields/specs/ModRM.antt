@@ -30,7 +30,7 @@ packed_byte high middle low = high * 64 + (middle * 8 + low)
 abbrev pub is_memory : ℕ → Bool
 is_memory modrm = nat_lt (mod_field modrm) 3
 
--- what stands for a ModRM that isn't there: the register form of reg 0 and rm 0
+-- what a ModRM that isn't there reads as: the register form of reg 0 and rm 0
 abbrev pub absent_modrm : ℕ
 absent_modrm = packed_byte 3 0 0
 

@@ -5,7 +5,7 @@ use Rattle.x86_regs.specs.declared.Segment.TheVariants.{ES}
 use Rattle.x86_fields.specs.declared.rex.PrefixRex.{PrefixRex}
 use Rattle.x86_fields.specs.declared.prefixes.Prefixes.{Prefixes}
 
--- 66, 67 and F0 stand in the run
+-- 66, 67 and F0 are in the run
 abbrev pub operand_size : Prefixes → Bool
 operand_size p = p.operand_size
 

@@ -29,7 +29,7 @@ dq_class p = if has_w p then Q else D
 abbrev pub byte_reg : Prefixes → ℕ → RegSpec
 byte_reg p n = if is_some p.rex && nat_le 4 n then reg_spec n RB else reg_spec n B
 
--- a register of a class, where class B stands for the byte registers
+-- a register of a class, where class B means the byte registers
 abbrev pub register_of : RegisterClass → Prefixes → ℕ → RegSpec
 register_of B p n = byte_reg p n
 register_of c p n = reg_spec n c

@@ -39,7 +39,7 @@ fn part_value(reg: Option<RegSpec>, times: u8, regs: &RegFile, next: u64) -> u12
 }
 
 impl AddressParts {
-    /// The sum modulo 2^64, or modulo 2^32 under 67. A base or index rip or eip stands for `next`.
+    /// The sum modulo 2^64, or modulo 2^32 under 67. A base or index rip or eip means `next`.
     pub fn value(&self, regs: &RegFile, next: u64) -> u64
         ensures { result ≡ value_at (parts_form self.now) regs.now.regs next }
     {

@@ -1,4 +1,4 @@
-//! Why no instruction is at the front of some bytes, and what such an error says.
+//! Why bytes don't begin with an instruction, and what such an error says.
 
 ghost use Rattle.std.specs.Prelude.{◌≡◌, Some};
 ghost use Rattle.x86_fields.specs.Errors.{is_exhausted, is_bad_opcode, is_bad_operand, description_of};
@@ -6,7 +6,7 @@ ghost use Rattle.x86_fields.specs.Errors.{is_exhausted, is_bad_opcode, is_bad_op
 use std::error::Error;
 use std::fmt;
 
-/// Why no instruction is at the front of some bytes.
+/// Why bytes don't begin with an instruction.
 #[derive(Clone, Copy, PartialEq, Eq, Debug, Drop)]
 pub enum DecodeError {
     /// The bytes end before an encoding is whole and before anything refuses it.
@@ -15,7 +15,7 @@ pub enum DecodeError {
     InvalidOpcode,
     /// The instruction does not take this operand.
     InvalidOperand,
-    /// The instruction does not stand behind these prefixes.
+    /// These prefixes are not allowed on this instruction.
     InvalidPrefixes,
     /// The encoding would have more than 15 bytes.
     TooLong,

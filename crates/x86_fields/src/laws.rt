@@ -35,9 +35,9 @@ pub fn forms_are_their_values()
         AgreeAtUnits f g → IsSameAddress f g }
 {}
 
-/// What `read_raw` takes. It answers the fields that the bytes in front spell, wherever some do, and takes those
-/// bytes. It refuses for want of bytes alone, and has then taken a SIB that is asked and there, and nothing of a
-/// displacement.
+/// What `read_raw` takes. It returns the fields that a prefix of the bytes spells, wherever there is one, and takes
+/// that prefix. It refuses only where bytes are missing. It has then taken a SIB that ModRM requires, if it is there,
+/// and nothing of a displacement.
 pub fn raw_fields_are_read()
     ensures whole { (p : Prefixes) (modrm : ℕ) (s : State ℕ) (raw : Raw) →
         (read_raw p modrm s).answer ≡ Ok raw → IsReadRaw p modrm raw s (read_raw p modrm s).after }
@@ -55,7 +55,8 @@ pub fn raw_forms_are_reduced()
         IsReduced (raw_form raw) }
 {}
 
-/// Errors, prefixes and raw fields are equal exactly where all that their calls and fields tell is.
+/// Errors, prefixes and raw fields are equal exactly where all their fields, and the results of their calls, are
+/// equal.
 pub fn values_are_equal()
     ensures errors { (a b : DecodeError) → IsTrue (⟦<DecodeError as PartialEq>⟧.eq a b) ↔ (a ≡ b) }
     ensures prefixes { (a b : Prefixes) → IsTrue (⟦<Prefixes as PartialEq>⟧.eq a b) ↔ (a ≡ b) }

@@ -45,7 +45,7 @@ impl ModRM {
         }
     }
 
-    /// What stands for a ModRM that isn't there: C0, the register form of reg 0 and rm 0.
+    /// What a ModRM that isn't there reads as: C0, the register form of reg 0 and rm 0.
     #[inline(always)]
     pub fn absent() -> ModRM
         ensures { result ≡ absent_modrm }

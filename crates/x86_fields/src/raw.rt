@@ -18,7 +18,7 @@ use crate::sib::Sib;
 use x86_arch::Reader;
 use x86_regs::{RegSpec, RegisterClass};
 
-/// The raw fields of a memory operand, as they stand in the encoding. `read_raw` gives them, and `base`, `index` and
+/// The raw fields of a memory operand, as they are in the encoding. `read_raw` returns them, and `base`, `index` and
 /// `scale` read them.
 ///
 /// Source: Intel SDM volume 2, sections 2.1.5 and 2.2.1.
@@ -34,7 +34,7 @@ pub struct Raw {
     pub modrm: u8,
     /// The SIB byte, where rm is 100.
     pub sib: Option<u8>,
-    /// The displacement with its sign, 0 where none is asked.
+    /// The displacement with its sign, 0 where there is none.
     pub disp: i32,
 }
 
@@ -65,7 +65,8 @@ pub fn displacement_width(modrm: u8, sib: Option<u8>) -> u8
 }
 
 impl Raw {
-    /// Whether these are the fields of some bytes: SIB where it is asked, and a displacement of the asked width.
+    /// Whether these are the fields of some bytes: SIB exactly where ModRM requires it, and a displacement of the
+    /// width that ModRM and SIB require.
     pub fn fits(&self) -> bool
         ensures { result ≡ fits self.now }
     {
@@ -188,9 +189,10 @@ fn read_displacement<T: Reader<u64, u8>>(reader: &mut T, width: u8) -> Result<i3
     }
 }
 
-/// SIB and displacement behind a ModRM of the memory form.
+/// SIB and displacement after a ModRM of the memory form.
 ///
-/// Where the bytes end before both are whole, a SIB that is asked and there is taken, and of the displacement nothing.
+/// Where the bytes end before both are whole, a SIB that ModRM requires is taken if it is there, and nothing of the
+/// displacement.
 #[tactic(auto, unfolding(crate::specs::Raw::read_raw))]
 #[inline(always)]
 pub fn read_raw<T: Reader<u64, u8>>(

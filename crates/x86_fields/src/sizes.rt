@@ -68,7 +68,7 @@ impl Prefixes {
         self.register(RegisterClass::B, num)
     }
 
-    /// The register of a class and a number, where class B stands for the byte registers.
+    /// The register of a class and a number, where class B means the byte registers.
     #[inline(always)]
     pub fn register(&self, class: RegisterClass, num: u8) -> RegSpec
         ensures { result ≡ register_of class self.now num }

@@ -5,7 +5,7 @@ use Rattle.std.specs.Prelude.{ℕ, ◌+◌}
 use Rattle.x86_forms.specs.declared.Form.{Form}
 use Rattle.x86_forms.specs.declared.Form.TheVariants as form
 
--- how many forms stand before a form, each with every number that it may carry
+-- how many forms come before a form, each with every number that it may carry
 unfoldable pub ordinal_of : Form → ℕ
 ordinal_of (form.Zv_R n) = 0 + n
 ordinal_of (form.Zv_AX_R n) = 8 + n

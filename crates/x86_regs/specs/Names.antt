@@ -26,7 +26,7 @@ names_of RIP = codes "rip" ∷ []
 names_of EFlags = codes "eflags" ∷ []
 names_of RFlags = codes "rflags" ∷ []
 
--- The register's name; a number that no register of the class has gives the empty text.
+-- The register's name; the empty text for a number that no register of the class has.
 abbrev pub name_of : RegSpec → List ℕ
 name_of r = unwrap_or (slice_get (names_of r.class) r.num) []
 

@@ -102,7 +102,7 @@ fn names_of(class: RegisterClass) -> &'static [&'static str]
     }
 }
 
-/// The text with a number, or none behind the last.
+/// The text with a number; the empty text for a number after the last.
 fn text_at(texts: &[&'static str], number: u8) -> &'static str
     ensures { result.now ≡ unwrap_or (slice_get (map (λ text. text.now) texts.now) number) [] }
 {

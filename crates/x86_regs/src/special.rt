@@ -1,4 +1,4 @@
-//! The other registers that have a function of their own.
+//! The other registers that have a separate function.
 
 ghost use Rattle.std.specs.Prelude.{◌≡◌};
 ghost use Rattle.x86_regs.specs.Register.{reg_spec};

@@ -188,7 +188,7 @@ fn the_end_is_read_once(rt: HostRuntime) {
     // A read for each byte of the text, and one that returns none.
     assert!(&rt; reads_of(rt.alloc(), b"") == Some(1));
     assert!(&rt; reads_of(rt.alloc(), b"90 90") == Some(6));
-    // After a byte that can't stand at its place, nothing is read.
+    // After a byte that isn't allowed at its place, nothing is read.
     assert!(&rt; reads_of(rt.alloc(), b"90 9z90") == Some(5));
     // A refusal is listed when 15 bytes of the image are held.
     let refused = b"06 90909090909090909090909090909090909090909090";

@@ -107,7 +107,7 @@ fn a_sink_that_keeps_nothing(rt: HostRuntime) {
     assert!(&rt; ended == Some(Status::Done));
 }
 
-/// Gives its bytes in two reads, and fails at the third.
+/// Returns its bytes in two reads, and fails at the third.
 #[derive(Drop)]
 struct FailingReader<'a> {
     bytes: &'a [u8],

@@ -1,4 +1,4 @@
--- The decimal of a place that goes on.
+-- The decimal of a place that increases.
 use Rattle.std.proofs.Common.{◌≡◌, ℕ, ◌+◌, ◌-◌, ◌/◌, ◌%◌, ◌<◌, ◌≤◌, ◌^◌, ◌++◌, List, length, take, decimal, sym, ap, ◌∙◌, arith}
 use Rattle.std.proofs.Math.Seq.{take-append_seam}
 use Rattle.itoa.proofs.Decimal.{pair, decimal_pair, length_pair}

@@ -77,11 +77,11 @@ operand_text (operand.MemBaseIndexScaleMasked base index scale _) = index_text (
 operand_text (operand.MemBaseIndexScaleDispMasked base index scale disp _) = moved_index_text (Some base) index scale disp
 operand_text operand.Nothing = []
 
--- the operands after the first, each behind a comma
+-- the operands after the first, each after a comma
 abbrev pub others_text : List Operand → List ℕ
 others_text os = flat_map (λ o. codes ", " ++ operand_text o) os
 
--- the operands, behind a space and joined by commas
+-- the operands, after a space and joined by commas
 unfoldable pub operands_text : List Operand → List ℕ
 operands_text [] = []
 operands_text (o ∷ os) = codes " " ++ operand_text o ++ others_text os

@@ -90,8 +90,8 @@ pub fn push_instruction(line: &mut Line, instruction: &Instruction)
     line.len = put_instruction(&mut line.cells, line.len, instruction);
 }
 
-/// The text of an instruction without its place and length: the mnemonic, the operands behind a space and joined by a
-/// comma and a space, and the bytes of memory that it reads or writes behind an m. Those are 0 where it has none, and
+/// The text of an instruction without its place and length: the mnemonic, a space and the operands, joined by a comma
+/// and a space, and an m with the number of bytes of memory that it reads or writes. That is 0 where it has none, and
 /// `?` where the processor decides. For `48 01 d8` this is `ADD rax, rbx m8`.
 pub fn instruction_text(instruction: &Instruction) -> Line
     ensures text { result.items ≡ instruction_text instruction.now }

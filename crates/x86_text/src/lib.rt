@@ -8,7 +8,7 @@
 //! ```
 //!
 //! Each text is a `Line`, which takes no memory. The calls that begin with `push` append to a line that is there, for
-//! columns of a caller's own; those that begin with `write` write over it.
+//! a caller's additional columns; those that begin with `write` write over it.
 #![tactic(auto)]
 
 mod cells;

@@ -220,7 +220,7 @@ pub(crate) fn put_operand(cells: &mut [u8], at: usize, operand: &Operand) -> usi
     }
 }
 
-/// Appends the text of an operand, at most 30 bytes, as `operand_text` gives it.
+/// Appends the text of an operand, at most 30 bytes, as `operand_text` returns it.
 pub fn push_operand(line: &mut Line, operand: &Operand)
     requires { array_vec_len line.old + 30 ≤ LINE_ROOM }
     ensures text { line.new.items ≡ line.old.items ++ operand_text operand.now }

@@ -43,7 +43,7 @@ fn put_part(cells: &mut [u8], at: usize, part: &[u8]) -> usize
     }
 }
 
-/// Writes the line of the parts of an encoding at a place over another, without its end, as `fields_line` gives it.
+/// Writes the line of the parts of an encoding at a place over another, without its end, as `fields_line` returns it.
 #[tactic(auto, unfolding(crate::specs::Parts::fields_line))]
 pub fn write_fields(line: &mut Line, place: &Place, parts: &Parts)
     requires { HasFieldLengths (lists_of parts.now) }
@@ -65,8 +65,8 @@ pub fn write_fields(line: &mut Line, place: &Place, parts: &Parts)
 }
 
 /// The line of the parts of an encoding at a place, without its end: the place, how many bytes the parts have
-/// together, and each part as hex digits, or a dash where it is empty. It asks the lengths that `Fields::of` asks,
-/// which parts of `split` have.
+/// together, and each part as hex digits, or a dash where it is empty. It requires the lengths that `Fields::of`
+/// requires, which the parts of `split` have.
 ///
 /// For `48 03 44 25 00` at place 0 this is `0 5 48 - 03 44 25 00 - -`.
 pub fn fields_line(place: u64, parts: &Parts) -> Line

@@ -5,7 +5,7 @@ ghost use Rattle.std.specs.Prelude.{◌≡◌, ◌+◌, ◌<◌, ◌^◌, decima
 use crate::room::Room;
 use std::marker::Model;
 
-/// A place in an image, with its decimal. As the place goes on, only the digits that change are written.
+/// A place in an image, with its decimal. As the place increases, only the digits that change are written.
 #[derive(Drop)]
 pub struct Place {
     number: u64,
@@ -55,7 +55,7 @@ impl Place {
         &self.digits
     }
 
-    /// Goes on by so many bytes.
+    /// Increases the place by so many bytes.
     #[inline(always)]
     pub fn advance(&mut self, by: u64)
         requires { self.old + by < 2 ^ 64 }

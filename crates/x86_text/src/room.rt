@@ -77,7 +77,7 @@ impl<const N: usize> Room<N> {
         self.len = put_front(&mut self.cells, self.len - 2, pair_of(n), 2);
     }
 
-    /// Takes the bytes of a room that is no larger in place of its own.
+    /// Replaces the bytes by those of a room that is at most as large.
     #[inline(always)]
     pub fn set<const M: usize>(&mut self, bytes: &Room<M>)
         requires { M ≤ N }

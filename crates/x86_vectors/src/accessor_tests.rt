@@ -1,4 +1,4 @@
-//! What instructions are asked.
+//! What the accessors of an instruction return.
 use x86_arch::AddressDiff;
 use x86_decode::{ConditionCode, InstDecoder, Opcode, Operand, Segment, Slot};
 

@@ -82,7 +82,7 @@ where
     decoder.decode_into(inst, words)
 }
 
-/// An operand of an instruction set, unchanged: what is given is of the type that the set names.
+/// An operand of an instruction set, unchanged: the argument is of the type that the set names.
 fn operand_of<A: Arch>(operand: A::Operand) -> A::Operand {
     operand
 }

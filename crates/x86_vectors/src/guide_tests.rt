@@ -1,4 +1,4 @@
-//! The examples of docs/GUIDE.md, as they stand there.
+//! The examples of docs/GUIDE.md, as they are there.
 ghost use Rattle.std.specs.Prelude.{⊤};
 
 use arrayvec::ArrayVec;

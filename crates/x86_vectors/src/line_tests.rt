@@ -48,7 +48,7 @@ fn is_open_before_its_end(bytes: &[u8]) -> bool {
     true
 }
 
-/// Whether an encoding with FF behind it, in another slice, answers as by itself.
+/// Whether an encoding with FF after it, in another slice, has the same answer as alone.
 fn stays(bytes: &[u8]) -> bool {
     if bytes.len() > 15 {
         return false;

@@ -136,7 +136,7 @@ fn sib_address_by_hand(rt: HostRuntime) {
     }
 }
 
-/// The address of the raw fields behind a ModRM byte, with the next instruction at 400000.
+/// The address of the raw fields after a ModRM byte, with the next instruction at 400000.
 fn raw_address(prefixes: &Prefixes, modrm: u8, bytes: &[u8], regs: &RegFile) -> Option<u64> {
     if !ModRM::new(modrm).is_memory() {
         return None;

@@ -4,7 +4,7 @@ use x86_decode::InstDecoder;
 use x86_layout::{EmitError, Fields, emit, split};
 use x86_text::fields_line;
 
-/// Whether the encoding at the front has this line of its parts.
+/// Whether the encoding at the beginning has this line of its parts.
 fn has_parts(pairs: &str, line: &str) -> bool {
     let Some(bytes) = bytes_of(pairs) else {
         return false;
@@ -33,7 +33,7 @@ fn parts(rt: HostRuntime) {
     }
 }
 
-/// The fields of the encoding at the front.
+/// The fields of the encoding at the beginning.
 fn fields_of(bytes: &[u8]) -> Option<Fields> {
     match split(&InstDecoder::default(), bytes) {
         Ok(parts) => Some(Fields::of(&parts)),

@@ -19,7 +19,7 @@ fn column(prefixes: &Prefixes) -> Column {
     }
 }
 
-/// The map and the opcode byte, where `byte` is the first behind the prefixes.
+/// The map and the opcode byte, where `byte` is the first after the prefixes.
 fn opcode<T: Reader<u64, u8>>(reader: &mut T, byte: u8) -> Result<(Map, u8), DecodeError> {
     if byte != 0x0f {
         return Ok((Map::One, byte));
@@ -149,7 +149,7 @@ pub fn agree_on(bytes: &[u8]) -> bool {
     agree(bytes, false) && agree(bytes, true)
 }
 
-/// Every opcode byte of a map, with a register and with a memory form behind it.
+/// Every opcode byte of a map, with a register form and with a memory form after it.
 fn map_agrees(prefix: u8, escape: &[u8]) -> bool {
     (0..=255u8).all(|byte| {
         let mut bytes = [prefix, 0, 0, 0, byte, 0xc1, 0x24, 1, 2, 3, 4, 5, 6, 7, 8, 9];

@@ -13,7 +13,7 @@ const TABLES: &[&str] = &[
     refusal_table::PART_4,
 ];
 
-/// Whether bytes are refused for this reason, given by its description, and so many of them are taken.
+/// Whether bytes are refused with the error of this description, and so many of them are taken.
 fn is_refused(bytes: &[u8], taken: &str, reason: &str) -> bool {
     let mut reader = U8Reader::new(bytes);
     match InstDecoder::default().decode(&mut reader) {

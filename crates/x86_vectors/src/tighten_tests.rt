@@ -4,7 +4,7 @@ use x86_decode::InstDecoder;
 use x86_fields::DecodeError;
 use x86_layout::{TightenError, tighten};
 
-/// Whether this is what the encoding at the front becomes.
+/// Whether this is what the encoding at the beginning becomes.
 fn becomes(pairs: &str, wanted: &str) -> bool {
     let (Some(bytes), Some(wanted)) = (bytes_of(pairs), bytes_of(wanted)) else {
         return false;

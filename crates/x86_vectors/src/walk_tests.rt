@@ -4,7 +4,7 @@ use arrayvec::ArrayVec;
 use x86_decode::InstDecoder;
 use x86_fields::{ModRM, RegFile, Sib};
 
-/// Whether there is a SIB behind a ModRM of the memory form.
+/// Whether there is a SIB after a ModRM of the memory form.
 fn asks_sib(modrm: ModRM) -> bool {
     modrm.rm_field() == 4
 }

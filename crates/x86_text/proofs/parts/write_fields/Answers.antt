@@ -4,7 +4,7 @@ use Rattle.x86_layout.specs.Parts.Split.{PartLists, lists_of}
 use Rattle.x86_text.specs.Parts.{in_order, spaced, fields_line}
 use Rattle.x86_text.proofs.parts.write_fields.Goals as goal
 
--- eight parts, one behind the other
+-- eight parts, one after the other
 all_parts : (f : List ℕ → List ℕ) (p : PartLists) (l0 l1 l2 l3 l4 l5 l6 l7 l8 : List ℕ) →
     l1 ≡ l0 ++ f p.prefixes → l2 ≡ l1 ++ f p.escape → l3 ≡ l2 ++ f p.opcode → l4 ≡ l3 ++ f p.modrm →
     l5 ≡ l4 ++ f p.sib → l6 ≡ l5 ++ f p.displacement → l7 ≡ l6 ++ f p.immediate → l8 ≡ l7 ++ f p.suffix →
