@@ -327,7 +327,7 @@ fn walk_the_operands(rt: HostRuntime) {
     }
 }
 
-/// The encoding at the front without its prefixes, where that is one.
+/// The encoding at the beginning without its prefixes, where that is one.
 fn without_prefixes(bytes: &[u8]) -> Option<ArrayVec<u8, 15>> {
     let decoder = InstDecoder::default();
     match split(&decoder, bytes) {
@@ -363,7 +363,7 @@ fn take_the_shortest_address(rt: HostRuntime) {
     assert!(rt; matches!(spared(&[0x8b, 0xc0]), Err(TightenError::NoMemoryForm)));
 }
 
-/// Where the last instruction of a sweep stands.
+/// The place of the last instruction of a sweep.
 fn last_place(bytes: &[u8]) -> Option<usize> {
     let mut last = None;
     for cut in Sweep::new(InstDecoder::default(), bytes) {
@@ -376,7 +376,7 @@ fn last_place(bytes: &[u8]) -> Option<usize> {
     last
 }
 
-/// The target of the instruction at the front, if it is a relative branch. The bytes stand at `place`.
+/// The target of the instruction at the beginning, if it is a relative branch. The bytes are at `place`.
 fn target(bytes: &[u8], place: u64) -> Option<u64> {
     match InstDecoder::default().decode_slice(bytes) {
         Ok(instruction) => {
@@ -402,7 +402,7 @@ fn go_over_any_bytes(rt: HostRuntime) {
     assert!(rt; marks == [true, false, false, true, false, false]);
 }
 
-/// The line of the instruction at the front, or of its refusal. The bytes stand at `place`.
+/// The line of the instruction at the beginning, or of its refusal. The bytes are at `place`.
 fn line_at(bytes: &[u8], place: u64) -> Line {
     match InstDecoder::default().decode_slice(bytes) {
         Ok(instruction) => line_of(place, &instruction),
@@ -410,7 +410,7 @@ fn line_at(bytes: &[u8], place: u64) -> Line {
     }
 }
 
-/// The length of an instruction and its text, behind a tab.
+/// The length of an instruction and its text, separated by a tab.
 fn columns(instruction: &Instruction) -> Line {
     let mut line = Line::new();
     line.push_u64(instruction.len().to_const());
