@@ -15,9 +15,11 @@ pub struct AddressParts {
     pub address_size: bool,
     /// A general register, or rip.
     pub base: Option<RegSpec>,
+    /// A general register.
     pub index: Option<RegSpec>,
     /// How often the index counts: 1, 2, 4 or 8.
     pub scale: u8,
+    /// The displacement with its sign, in bytes.
     pub disp: i32,
 }
 

@@ -3,6 +3,8 @@
 /// Which of F2 and F3 is in force.
 #[derive(Clone, Copy, PartialEq, Eq, Debug, Drop)]
 pub enum Repeat {
+    /// REPNZ, or the mandatory prefix F2.
     F2,
+    /// REP and REPZ, or the mandatory prefix F3.
     F3,
 }
