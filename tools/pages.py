@@ -128,8 +128,8 @@ def dedent(lines):
     return "\n".join(line[least:] for line in lines)
 
 
-def stands_in(block, text):
-    """Whether the lines stand in the text, one below the other, all as far to the right as the first."""
+def occurs_in(block, text):
+    """Whether the lines occur in the text, one below the other, all as far to the right as the first."""
     lines = text.split("\n")
     for at in range(len(lines) - len(block) + 1):
         if lines[at].endswith(block[0]) and dedent(lines[at : at + len(block)]) == dedent(block):
@@ -143,7 +143,7 @@ def read_guide(page, code):
     texts = [file.read_text() for file in files]
     wrong = 0
     for block in blocks(page):
-        if not block[0].startswith("$ ") and not any(stands_in(block, text) for text in texts):
+        if not block[0].startswith("$ ") and not any(occurs_in(block, text) for text in texts):
             print(f"pages: {page}: no test has these lines:\n" + "\n".join(block), file=sys.stderr)
             wrong += 1
     return wrong
@@ -161,7 +161,7 @@ def read_quotes(page):
 
 
 def is_whole(lines, start, end):
-    """Whether nothing is left out of what stands at these lines: of a definition none of its equations, of a signature none of its clauses."""
+    """Whether nothing is left out of what these lines have: of a definition none of its equations, of a signature none of its clauses."""
     before, after = ([lines[start - 1].strip()] if start else [""]), ([lines[end].strip()] if end < len(lines) else [""])
     begins = before[0] == "" or before[0].startswith(("--", "//", "#[")) or before[0].endswith("{")
     return begins and (after[0] in ("", "{", "{}") or lines[end - 1].strip() in ("}", "};"))

@@ -2,7 +2,7 @@
  *
  *     peers version
  *     peers sweep < TEXT    of hex text what the program's `sweep` does: PLACE LENGTH and the text of each instruction, a line each
- *     peers decode RAW      decodes the bytes of a file from front to end, five times; prints how many instructions and the least seconds
+ *     peers decode RAW      decodes the bytes of a file from beginning to end, five times; prints how many instructions and the least seconds
  *     peers once RAW        decodes them once
  */
 #include <stdint.h>

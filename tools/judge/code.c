@@ -1,4 +1,4 @@
-/* The front of an encoding. */
+/* The head of an encoding. */
 #include "judge.h"
 #include <stdio.h>
 

@@ -9,7 +9,7 @@
 enum { MAPS = 4, OPERANDS = 5, LONGEST = 15 };
 enum column { PLAIN, P66, F3, F2, COLUMNS };
 
-/* The front of an encoding, read here and not by zydis: the run of prefixes, the escape, the opcode byte and ModRM. */
+/* The head of an encoding, read here and not by zydis: the run of prefixes, the escape, the opcode byte and ModRM. */
 struct code {
     const unsigned char *bytes;
     size_t left;          /* how many bytes there are */

@@ -139,7 +139,7 @@ static size_t moment(const struct code *c)
     return c->front + 1 + address_length(c) + (c->map == 1 && c->opcode == 0xc5 && c->modrm < 0xc0 && c->column == PLAIN);
 }
 
-/* Whether bytes that are cut off are the front of an instruction, by trying what could follow. */
+/* Whether bytes that are cut off are the beginning of an instruction, by trying what could follow. */
 static bool is_open(const ZydisDecoder *decoder, const struct code *code, size_t count)
 {
     struct code front = *code;
