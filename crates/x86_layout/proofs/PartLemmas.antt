@@ -3,5 +3,6 @@ pub mod Part
 pub mod Front
 pub mod Length
 pub mod Split
+pub mod Taken
 pub mod Spell
 pub mod Emit

@@ -1,5 +1,5 @@
 -- Permitted fields are the parts of an accepted encoding, and the parts of an accepted encoding are permitted.
-use Rattle.std.proofs.Common.{◌≡◌, ℕ, ◌↔◌, ◌≤◌, ◌==◌, nat_le, Bool, true, false, if◌then◌else◌, List, [], ◌∷◌, ◌++◌, length, take, slice_index, Option, Some, None, Result, Ok, refl, sym, ap, subst, ◌∙◌, arith}
+use Rattle.std.proofs.Common.{◌≡◌, ℕ, ◌↔◌, ◌≤◌, nat_le, Bool, true, false, if◌then◌else◌, List, [], ◌∷◌, ◌++◌, length, take, slice_index, Option, Some, None, Result, Ok, refl, sym, ap, subst, ◌∙◌, arith}
 use Rattle.std.proofs.lemmas.List.{append-nil}
 use Rattle.std.proofs.lemmas.Bool.Decides.{nat_tests}
 use Rattle.x86_arch.specs.Reader.{State}
@@ -7,7 +7,6 @@ use Rattle.x86_fields.specs.declared.errors.DecodeError.{DecodeError}
 use Rattle.x86_fields.specs.declared.prefixes.Prefixes.{Prefixes}
 use Rattle.x86_fields.specs.Run.{reading_of}
 use Rattle.x86_forms.specs.declared.Map.{Map}
-use Rattle.x86_forms.specs.declared.Map.TheVariants.{One, Of, Of38, Of3a}
 use Rattle.x86_forms.specs.declared.TableRow.{TableRow}
 use Rattle.x86_forms.specs.Words.{rows_of, packed}
 use Rattle.x86_operands.specs.declared.reader.Reading.{Reading}
@@ -32,55 +31,34 @@ use Rattle.x86_layout.proofs.PartLemmas.Part.{front_is}
 use Rattle.x86_layout.proofs.PartLemmas.Front.{parts_are, parts_once}
 use Rattle.x86_layout.proofs.PartLemmas.Split.{joined_is}
 use Rattle.x86_layout.proofs.PartLemmas.Length.{lengths_of}
-use Rattle.x86_layout.proofs.PartLemmas.Spell.{same_number, spelled, HoldsPieces, passes, asked}
+use Rattle.x86_layout.proofs.PartLemmas.Spell.{spelled, HoldsFields, passes, asked}
 
 -- ---- the first that fails
 
-or_else : {A : Type 0} → A → Option A → A
-or_else d None = d
-or_else d (Some x) = x
+abbrev unless_all : Bool → Bool → Bool → Bool → Bool → Option EmitError
+unless_all run a b c d = unless run error.Prefixes (unless a error.Row (unless b error.Shape (unless c error.Lock (unless d error.Length None))))
 
-same_inside : {A : Type 0} (x y : A) → Some x ≡ Some y → x ≡ y
-unfolding or_else
-same_inside x y h = ap (or_else x) h
+none_fails : (run a b c d : Bool) → unless_all run a b c d ≡ None → (run ≡ true) × (a ≡ true) × (b ≡ true) × (c ≡ true) × (d ≡ true)
+none_fails run a b c d h = (grind arith, grind arith, grind arith, grind arith, grind arith)
 
-holds_of : (b : Bool) (e : EmitError) (rest : Option EmitError) → unless b e rest ≡ None → b ≡ true
-holds_of true e rest h = refl
-holds_of false e rest h = absurd (let k : Some e ≡ None = h in cc)
-
-rest_of : (b : Bool) (e : EmitError) (rest : Option EmitError) → unless b e rest ≡ None → rest ≡ None
-rest_of true e rest h = h
-rest_of false e rest h = absurd (let k : Some e ≡ None = h in cc)
-
-go_on : (b : Bool) (e : EmitError) (rest : Option EmitError) → b ≡ true → rest ≡ None → unless b e rest ≡ None
-go_on true e rest h k = k
-go_on false e rest h k = absurd (let x : false ≡ true = h in cc)
+all_hold : (run a b c d : Bool) → run ≡ true → a ≡ true → b ≡ true → c ≡ true → d ≡ true → unless_all run a b c d ≡ None
+all_hold run a b c d r e f g h = cc
 
 record Holds (strict : Bool) (f : fields.Fields) (e : Entry) : Type 0 where
+  pub legal : has_legal_run f ≡ true
   pub record_passes : passes_record (record_by strict e f) f ≡ true
   pub parts : has_asked_parts (record_by strict e f) f ≡ true
   pub lock : has_lawful_lock strict e f ≡ true
   pub short : is_short f ≡ true
 
-holds : (strict : Bool) (f : fields.Fields) (o : Option Entry) → failing_at strict o f ≡ None → (e : Entry) × (o ≡ Some e) × Holds strict f e
-holds strict f None h = absurd (let k : Some error.Row ≡ None = h in cc)
+holds : (strict : Bool) (f : fields.Fields) (o : Option Entry) → unless (has_legal_run f) error.Prefixes (failing_at strict o f) ≡ None → (e : Entry) × (o ≡ Some e) × Holds strict f e
+holds strict f None h = absurd (no_row (has_legal_run f) h)
+  where
+    no_row : (t : Bool) → unless t error.Prefixes (Some error.Row) ≡ None → ⊥
+    no_row t h = grind arith
 holds strict f (Some e) h =
-    let b1 = passes_record (record_by strict e f) f in
-    let b2 = has_asked_parts (record_by strict e f) f in
-    let b3 = has_lawful_lock strict e f in
-    let b4 = is_short f in
-    let h2 = rest_of b1 error.Row (unless b2 error.Shape (unless b3 error.Lock (unless b4 error.Length None))) h in
-    let h3 = rest_of b2 error.Shape (unless b3 error.Lock (unless b4 error.Length None)) h2 in
-    let h4 = rest_of b3 error.Lock (unless b4 error.Length None) h3 in (
-      e,
-      refl,
-      record {
-        record_passes = holds_of b1 error.Row _ h;
-        parts = holds_of b2 error.Shape _ h2;
-        lock = holds_of b3 error.Lock _ h3;
-        short = holds_of b4 error.Length None h4;
-      },
-    )
+    let all = none_fails (has_legal_run f) (passes_record (record_by strict e f) f) (has_asked_parts (record_by strict e f) f) (has_lawful_lock strict e f) (is_short f) h in
+    (e, refl, record { legal = all.0; record_passes = all.1; parts = all.2; lock = all.3; short = all.4 })
 
 -- ---- the row that fields name
 
@@ -92,40 +70,28 @@ record Names (f : fields.Fields) (e : Entry) : Type 0 where
   pub has_row : rows_of packed map (column_of (reading_of f.prefixes.items)) f.opcode ≡ Some row
   pub is : e ≡ record { row = row; prefixes = seen_by map f.opcode (reading_of f.prefixes.items) }
 
-one_byte : (t : Bool) (a : ℕ) (map : Map) → (a == 0x0f) ≡ t → (if t then Some Of else None) ≡ Some map → a ∷ [] ≡ escape_bytes map
-one_byte true a map e h = ap (λ x. x ∷ []) (same_number a 0x0f e) ∙ ap escape_bytes (same_inside Of map h)
-one_byte false a map e h = absurd cc
-
-second_byte : (t u : Bool) (b : ℕ) (map : Map) → (b == 0x38) ≡ t → (b == 0x3a) ≡ u → (if t then Some Of38 else (if u then Some Of3a else None)) ≡ Some map → 0x0f ∷ b ∷ [] ≡ escape_bytes map
-second_byte true u b map e k h = ap (λ x. 0x0f ∷ x ∷ []) (same_number b 0x38 e) ∙ ap escape_bytes (same_inside Of38 map h)
-second_byte false true b map e k h = ap (λ x. 0x0f ∷ x ∷ []) (same_number b 0x3a k) ∙ ap escape_bytes (same_inside Of3a map h)
-second_byte false false b map e k h = absurd cc
-
-two_bytes : (t : Bool) (a b : ℕ) (map : Map) → (a == 0x0f) ≡ t → (if t then (if b == 0x38 then Some Of38 else (if b == 0x3a then Some Of3a else None)) else None) ≡ Some map → a ∷ b ∷ [] ≡ escape_bytes map
-two_bytes true a b map e h = ap (λ x. x ∷ b ∷ []) (same_number a 0x0f e) ∙ second_byte (b == 0x38) (b == 0x3a) b map refl refl h
-two_bytes false a b map e h = absurd cc
-
 escape_is : (l : List ℕ) (map : Map) → map_named l ≡ Some map → l ≡ escape_bytes map
-escape_is [] map h = ap escape_bytes (same_inside One map h)
-escape_is (a ∷ []) map h = one_byte (a == 0x0f) a map refl h
-escape_is (a ∷ b ∷ []) map h = two_bytes (a == 0x0f) a b map refl h
+escape_is [] map h = cc
+escape_is (a ∷ []) map h = one_byte a map h
+  where
+    one_byte : (a : ℕ) (map : Map) → map_named (a ∷ []) ≡ Some map → a ∷ [] ≡ escape_bytes map
+    one_byte a map h = grind (arith, nat_tests)
+escape_is (a ∷ b ∷ []) map h = two_bytes a b map h
+  where
+    two_bytes : (a b : ℕ) (map : Map) → map_named (a ∷ b ∷ []) ≡ Some map → a ∷ b ∷ [] ≡ escape_bytes map
+    two_bytes a b map h = grind (arith, nat_tests)
 escape_is (a ∷ b ∷ c ∷ rest) map h = absurd cc
 
-row_is : (o : Option TableRow) (q : Prefixes) (e : Entry) → entry_by o q ≡ Some e → (row : TableRow) × (o ≡ Some row) × (e ≡ record { row = row; prefixes = q })
-row_is None q e h = absurd cc
-row_is (Some row) q e h = (row, refl, sym (same_inside (record { row = row; prefixes = q }) e h))
-
-meant_is : (t : Bool) (o : Option Entry) (e : Entry) → (if t then o else None) ≡ Some e → (t ≡ true) × (o ≡ Some e)
-meant_is true o e h = (refl, h)
-meant_is false o e h = absurd cc
+row_is : (t : Bool) (o : Option TableRow) (q : Prefixes) (e : Entry) → (if t then entry_by o q else None) ≡ Some e → (row : TableRow) × (t ≡ true) × (o ≡ Some row) × (e ≡ record { row = row; prefixes = q })
+row_is true (Some row) q e h = (row, refl, refl, cc)
+row_is true None q e h = absurd cc
+row_is false o q e h = absurd cc
 
 names_by : (f : fields.Fields) (e : Entry) (o : Option Map) → map_named f.escape.items ≡ o → entry_at o (reading_of f.prefixes.items) f.opcode ≡ Some e → Names f e
 names_by f e None k h = absurd cc
 names_by f e (Some map) k h =
-    let p : Prefixes = reading_of f.prefixes.items in
-    let x = meant_is (is_opcode map f.opcode) (entry_by (rows_of packed map (column_of p) f.opcode) (seen_by map f.opcode p)) e h in
-    let y = row_is (rows_of packed map (column_of p) f.opcode) (seen_by map f.opcode p) e x.1 in
-    record { map = map; row = y.0; escape = escape_is f.escape.items map k; meant = x.0; has_row = y.1; is = y.2 }
+    let x = row_is (is_opcode map f.opcode) _ _ e h in
+    record { map = map; row = x.0; escape = escape_is f.escape.items map k; meant = x.1; has_row = x.2; is = x.3 }
 
 names : (f : fields.Fields) (e : Entry) → entry_of f ≡ Some e → Names f e
 names f e h = names_by f e (map_named f.escape.items) refl h
@@ -138,57 +104,43 @@ reading_is r p tail reading a =
     let start : State ℕ = record { left = tail; since_mark = 0; since_made = 0 } in
     ap (λ o. answer_allows_lock o.answer) ((takes_row r p tail reading a).takes [] start (sym (append-nil tail)))
 
-record Emitted (strict : Bool) (f : fields.Fields) : Type 0 where
-  pub reading : Reading
-  pub whole : Encoding strict (joined (lists_in f)) reading
-  pub parts : HasParts strict (joined (lists_in f)) reading whole (lists_in f)
-  pub lock : allows_lock reading ≡ true
-  pub short : length (joined (lists_in f)) ≤ 15
-
 at_most_15 : (n : ℕ) → nat_le n 15 ≡ true → n ≤ 15
 at_most_15 n h = grind (arith, nat_tests)
 
-emitted_by : (strict : Bool) (f : fields.Fields) (e : Entry) (n : Names f e) → has_legal_run f ≡ true → Holds strict f (record { row = n.row; prefixes = seen_by n.map f.opcode (reading_of f.prefixes.items) }) → Emitted strict f
-emitted_by strict f e n legal h =
+emitted_by : (strict : Bool) (f : fields.Fields) (e : Entry) (n : Names f e) → Holds strict f (record { row = n.row; prefixes = seen_by n.map f.opcode (reading_of f.prefixes.items) }) → ArePartsOfSentence strict f
+emitted_by strict f e n h =
     let q : Prefixes = seen_by n.map f.opcode (reading_of f.prefixes.items) in
     let r = record_of strict n.row q in
     let s = spelled r q f h.record_passes h.parts in
-    let t = s.parts in
     record {
-      reading = s.reading;
-      whole = record {
-        run = f.prefixes.items;
-        map = n.map;
-        opcode = f.opcode;
-        row = n.row;
-        tail = tail_of f;
-        spelled = ap (λ l. f.prefixes.items ++ (l ++ f.opcode ∷ tail_of f)) n.escape;
-        prefixes = legal;
-        meant = n.meant;
-        has_row = n.has_row;
-        asked = s.row;
+      answer = instruction_of s.reading (length (joined (lists_in f)));
+      sentence = record {
+        reading = s.reading;
+        whole = record {
+          run = f.prefixes.items;
+          map = n.map;
+          opcode = f.opcode;
+          row = n.row;
+          tail = tail_of f;
+          spelled = ap (λ l. f.prefixes.items ++ (l ++ f.opcode ∷ tail_of f)) n.escape;
+          prefixes = h.legal;
+          meant = n.meant;
+          has_row = n.has_row;
+          asked = s.row;
+        };
+        lock = sym (reading_is r q (tail_of f) s.reading s.row) ∙ h.lock;
+        short = at_most_15 (length (joined (lists_in f))) h.short;
+        gives = refl;
       };
-      parts = record {
-        prefixes = refl;
-        escape = n.escape;
-        opcode = refl;
-        modrm = t.modrm;
-        sib = t.sib;
-        address = t.address;
-        immediate = t.immediate;
-        suffix = t.suffix;
-      };
-      lock = sym (reading_is r q (tail_of f) s.reading s.row) ∙ h.lock;
-      short = at_most_15 (length (joined (lists_in f))) h.short;
+      parts = assumption (n.escape, s.parts);
     }
 
-emitted : (strict : Bool) (f : fields.Fields) → IsPermitted strict f → Emitted strict f
+emitted : (strict : Bool) (f : fields.Fields) → IsPermitted strict f → ArePartsOfSentence strict f
 unfolding first_failing
 emitted strict f h =
-    let legal = holds_of (has_legal_run f) error.Prefixes (failing_at strict (entry_of f) f) h in
-    let x = holds strict f (entry_of f) (rest_of (has_legal_run f) error.Prefixes (failing_at strict (entry_of f) f) h) in
+    let x = holds strict f (entry_of f) h in
     let n = names f x.0 x.1 in
-    emitted_by strict f x.0 n legal (subst (Holds strict f) n.is x.2)
+    emitted_by strict f x.0 n (subst (Holds strict f) n.is x.2)
 
 abbrev pub Only : Bool → Type 0
 Only strict = (xs : List ℕ) (r : Result Instruction DecodeError) (n : ℕ) → IsAnswer (rows_of packed) strict xs r n → (r ≡ answer_of strict xs) × (n ≡ count_of strict xs)
@@ -198,21 +150,14 @@ pub split_again : (strict : Bool) (f : fields.Fields) (rest : List ℕ) → Only
 split_again strict f rest only h =
     let x = emitted strict f h in
     let s : List ℕ = joined (lists_in f) in
-    let i : Instruction = instruction_of x.reading (length s) in
-    let accepted : IsAccepted (rows_of packed) strict (s ++ rest) i (length s) = record {
-      sentence = s;
-      rest = rest;
-      begins = refl;
-      long = refl;
-      is = record { reading = x.reading; whole = x.whole; lock = x.lock; short = x.short; gives = refl };
-    } in
-    (i, sym (only (s ++ rest) (Ok i) (length s) accepted).0, parts_once strict s x.reading x.whole (parts_of strict (s ++ rest)) (lists_in f) (parts_are strict s rest x.reading x.whole) x.parts)
+    let is = x.sentence in
+    let accepted : IsAccepted (rows_of packed) strict (s ++ rest) x.answer (length s) = record { sentence = s; rest = rest; begins = refl; long = refl; is = is } in
+    (x.answer, sym (only (s ++ rest) (Ok x.answer) (length s) accepted).0, parts_once strict s is.reading is.whole (parts_of strict (s ++ rest)) (lists_in f) (parts_are strict s rest is.reading is.whole) x.parts)
 
 -- ---- the parts of an accepted encoding are permitted
 
 map_back : (m : Map) → map_named (escape_bytes m) ≡ Some m
-map_back One = refl
-map_back m = refl
+map_back m = grind arith
 
 short_test : (n : ℕ) → n ≤ 15 → nat_le n 15 ≡ true
 short_test n h = grind (arith, nat_tests)
@@ -242,8 +187,8 @@ module _ (strict : Bool) (s : List ℕ) (reading : Reading) (w : Encoding strict
   lock_is : allows_lock reading ≡ true → has_lawful_lock strict entry f ≡ true
   lock_is k = ap (λ l. answer_allows_lock (record_step (record_in strict s reading w) q (record { left = l; since_mark = 0; since_made = 0 })).answer) tail_is ∙ reading_is (record_in strict s reading w) q w.tail reading w.asked ∙ k
 
-  pieces : HoldsPieces (record_in strict s reading w) q w.tail reading f w.asked
-  pieces = record { modrm = h.modrm; sib = h.sib; address = h.address; immediate = h.immediate; suffix = h.suffix }
+  pieces : HoldsFields (record_in strict s reading w) q w.tail reading f w.asked
+  pieces = assumption h
 
   pub permitted : allows_lock reading ≡ true → length s ≤ 15 → IsPermitted strict f
   unfolding first_failing
@@ -251,11 +196,8 @@ module _ (strict : Bool) (s : List ℕ) (reading : Reading) (w : Encoding strict
       let r = record_in strict s reading w in
       let legal : has_legal_run f ≡ true = ap is_run h.prefixes ∙ w.prefixes in
       let short' : is_short f ≡ true = short_test _ (subst (λ l. length l ≤ 15) (sym (joined_is strict s reading w (lists_in f) h)) short) in
-      let at : failing_at strict (Some entry) f ≡ None =
-      go_on _ error.Row _ (passes r q w.tail reading f w.asked pieces)
-      (go_on _ error.Shape _ (asked r q w.tail reading f w.asked pieces)
-      (go_on _ error.Lock _ (lock_is lock) (go_on _ error.Length None short' refl))) in
-      go_on (has_legal_run f) error.Prefixes (failing_at strict (entry_of f) f) legal (ap (λ o. failing_at strict o f) entry_is ∙ at)
+      ap (λ o. unless (has_legal_run f) error.Prefixes (failing_at strict o f)) entry_is
+      ∙ all_hold (has_legal_run f) _ _ _ _ legal (passes r q w.tail reading f w.asked pieces) (asked r q w.tail reading f w.asked pieces) (lock_is lock) short'
 
 -- Emitting the fields of a split gives the encoding's very bytes.
 pub emitted_again : (strict : Bool) (bytes : List ℕ) (i : Instruction) (f : fields.Fields) → IsAccepted (rows_of packed) strict bytes i (count_of strict bytes) → i.length ≡ count_of strict bytes → lists_in f ≡ parts_of strict bytes → IsPermitted strict f × (joined (lists_in f) ≡ take i.length bytes)
@@ -268,19 +210,7 @@ emitted_again strict bytes i f a counted e =
 
 -- Fields are permitted exactly where they are the parts of a sentence.
 pub permitted_are_parts : (strict : Bool) (f : fields.Fields) → IsPermitted strict f ↔ ArePartsOfSentence strict f
-permitted_are_parts strict f = (there, back)
-  where
-    there : IsPermitted strict f → ArePartsOfSentence strict f
-    there h =
-        let x = emitted strict f h in
-        record {
-          answer = instruction_of x.reading (length (joined (lists_in f)));
-          sentence = record { reading = x.reading; whole = x.whole; lock = x.lock; short = x.short; gives = refl };
-          parts = x.parts;
-        }
-
-    back : ArePartsOfSentence strict f → IsPermitted strict f
-    back k = permitted strict (joined (lists_in f)) k.sentence.reading k.sentence.whole f k.parts k.sentence.lock k.sentence.short
+permitted_are_parts strict f = (emitted strict f, λ k. permitted strict (joined (lists_in f)) k.sentence.reading k.sentence.whole f k.parts k.sentence.lock k.sentence.short)
 
 -- The parts of an accepted encoding have lengths that fields can hold.
 pub parts_fit : (strict : Bool) (bytes : List ℕ) (i : Instruction) → IsAccepted (rows_of packed) strict bytes i (count_of strict bytes) → HasFieldLengths (parts_of strict bytes)

@@ -1,5 +1,5 @@
 -- The parts of the encoding at the front of bytes are the pieces of any whole encoding that stands there.
-use Rattle.std.proofs.Common.{◌≡◌, ℕ, ◌==◌, ◌&&◌, Bool, true, false, if◌then◌else◌, List, [], ◌∷◌, ◌++◌, length, slice_index, Option, Some, None, is_some, refl, sym, ap, subst, ◌∙◌, append_assoc}
+use Rattle.std.proofs.Common.{◌≡◌, ℕ, ◌==◌, ◌&&◌, Bool, true, if◌then◌else◌, List, [], ◌∷◌, ◌++◌, length, slice_index, Option, Some, None, is_some, refl, sym, ap, subst, ◌∙◌, append_assoc, arith}
 use Rattle.std.specs.List.{prefix_len}
 use Rattle.x86_fields.specs.declared.prefixes.Prefixes.{Prefixes}
 use Rattle.x86_fields.specs.declared.raw.Raw.{Raw}
@@ -16,7 +16,7 @@ use Rattle.x86_decode.specs.Head.{escape_bytes, seen_by}
 use Rattle.x86_layout.specs.Parts.Heads.{map_of, one_if, asks_sib}
 use Rattle.x86_layout.specs.Parts.Split.{PartLists, Encoding, record_in, sib_width, HasParts}
 use Rattle.x86_layout.specs.Parts.Front.{ask_by, ask_behind, asked_displacement_width, run_in, behind_run, map_in, behind_escape, opcode_in, tail_in, ask_in, modrm_in, behind_modrm, sib_in, behind_sib, displacement_in, behind_address, immediate_in, suffix_in, parts_of}
-use Rattle.x86_layout.proofs.PartLemmas.Part.{front_is, rest_is, run_length_is, map_is, enters, as_it_stands, read_as, modrm_count, sib_count, immediate_count, suffix_count}
+use Rattle.x86_layout.proofs.PartLemmas.Part.{front_is, rest_is, take_of, drop_of, run_length_is, map_is, enters, as_it_stands, read_as, modrm_count, sib_count, immediate_count, suffix_count}
 
 -- ---- SIB and displacement
 
@@ -28,12 +28,10 @@ pub record AddressParts (m : ℕ) (address : List ℕ) : Type 0 where
   pub disp_long : length disp ≡ (if is_memory m then displacement_width m (first_byte sib) else 0)
 
 pub option_count : (o : Option ℕ) → length (option_bytes o) ≡ one_if (is_some o)
-option_count None = refl
-option_count (Some b) = refl
+option_count o = grind arith
 
 pub first_of : (o : Option ℕ) → first_byte (option_bytes o) ≡ o
-first_of None = refl
-first_of (Some b) = refl
+first_of o = grind arith
 
 pub address_parts : (p : Prefixes) (m : ℕ) (address : List ℕ) (memory : Option Raw) → SpellsMemory p m address memory → AddressParts m address
 address_parts p m address None h = record {
@@ -54,18 +52,18 @@ address_parts p m address (Some raw) h =
     }
 
 -- in a memory form that is read as such, the byte is as it stands
-disp_by : (memory : Bool) (raw used_modrm : ℕ) (sib : Option ℕ) → (memory ≡ true → used_modrm ≡ raw) → (if memory then displacement_width raw sib else 0) ≡ (if memory then displacement_width used_modrm sib else 0)
-disp_by true raw used_modrm sib h = ap (λ m. displacement_width m sib) (sym (h refl))
-disp_by false raw used_modrm sib h = refl
+disp_by : (memory : Bool) (raw used : ℕ) (sib : Option ℕ) → (memory ≡ true → used ≡ raw) → (if memory then displacement_width raw sib else 0) ≡ (if memory then displacement_width used sib else 0)
+disp_by memory raw used sib h = grind arith
 
 -- ---- behind the opcode byte
 
-pub record HasTail (r : RowRecord) (p : Prefixes) (tail : List ℕ) (reading : Reading) (a : SpellsRow r p tail reading) (ask : Ask) (all : List ℕ) : Type 0 where
-  pub modrm : modrm_in ask all ≡ a.modrm
-  pub sib : length (sib_in ask all) ≡ sib_width (modrm_of r.modrm a.modrm)
-  pub address : sib_in ask all ++ displacement_in ask all ≡ a.behind.pieces.address
-  pub immediate : immediate_in ask all ≡ a.behind.pieces.immediates
-  pub suffix : suffix_in ask all ≡ a.behind.pieces.suffix
+-- These lists are the pieces of a row.
+pub record HoldsPieces (r : RowRecord) (p : Prefixes) (tail : List ℕ) (reading : Reading) (a : SpellsRow r p tail reading) (modrm_bytes sib_bytes displacement_bytes immediate_bytes suffix_bytes : List ℕ) : Type 0 where
+  pub modrm : modrm_bytes ≡ a.modrm
+  pub sib : length sib_bytes ≡ sib_width (modrm_of r.modrm a.modrm)
+  pub address : sib_bytes ++ displacement_bytes ≡ a.behind.pieces.address
+  pub immediate : immediate_bytes ≡ a.behind.pieces.immediates
+  pub suffix : suffix_bytes ≡ a.behind.pieces.suffix
 
 module _ (r : RowRecord) (p : Prefixes) (tail : List ℕ) (reading : Reading) (a : SpellsRow r p tail reading) (all rest : List ℕ) (e : all ≡ tail ++ rest) (ask : Ask) (k : ask ≡ ask_of r (slice_index all 0)) where
   abbrev first : ℕ
@@ -85,7 +83,7 @@ module _ (r : RowRecord) (p : Prefixes) (tail : List ℕ) (reading : Reading) (a
       ∙ disp_by (is_memory (used_modrm u first)) first (used_modrm u first) (first_byte sib) (as_it_stands u first)
       ∙ ap (λ n. if is_memory n then displacement_width n (first_byte sib) else 0) (sym (read_as r p tail reading a all (a.tail ++ rest) begins ask k))
 
-  pub has_tail : HasTail r p tail reading a ask all
+  pub has_tail : HoldsPieces r p tail reading a (modrm_in ask all) (sib_in ask all) (displacement_in ask all) (immediate_in ask all) (suffix_in ask all)
   has_tail =
       let more : List ℕ = a.tail ++ rest in
       let s = a.behind.pieces in
@@ -94,9 +92,8 @@ module _ (r : RowRecord) (p : Prefixes) (tail : List ℕ) (reading : Reading) (a
       let modrm_n = modrm_count r p tail reading a all more begins ask k in
       let row_rest : behind_modrm ask all ≡ x.sib ++ (x.disp ++ last) =
       rest_is all a.modrm more _ begins modrm_n
-      ∙ ap (λ l. l ++ rest) s.spelled ∙ append_assoc s.address (s.immediates ++ s.suffix) rest
-      ∙ ap (λ l. s.address ++ l) (append_assoc s.immediates s.suffix rest)
-      ∙ ap (λ l. l ++ last) x.spelled ∙ append_assoc x.sib x.disp last in
+      ∙ ap (λ l. l ++ rest) s.spelled
+      ∙ ap (λ l. (l ++ (s.immediates ++ s.suffix)) ++ rest) x.spelled ∙ simp append_assoc in
       let sib_n : one_if (asks_sib ask first) ≡ length x.sib = sib_count r p tail reading a all more begins ask k ∙ sym x.sib_long in
       let sib : sib_in ask all ≡ x.sib = front_is _ x.sib (x.disp ++ last) _ row_rest sib_n in
       let sib_rest : behind_sib ask all ≡ x.disp ++ last = rest_is _ x.sib (x.disp ++ last) _ row_rest sib_n in
@@ -127,9 +124,7 @@ has_head strict s rest reading w =
     let bytes : List ℕ = s ++ rest in
     let tail' : List ℕ = w.tail ++ rest in
     let behind : List ℕ = escape_bytes w.map ++ w.opcode ∷ tail' in
-    let spelled : bytes ≡ w.run ++ behind =
-    ap (λ l. l ++ rest) w.spelled ∙ append_assoc w.run (escape_bytes w.map ++ w.opcode ∷ w.tail) rest
-    ∙ ap (λ l. w.run ++ l) (append_assoc (escape_bytes w.map) (w.opcode ∷ w.tail) rest) in
+    let spelled : bytes ≡ w.run ++ behind = ap (λ l. l ++ rest) w.spelled ∙ simp append_assoc in
     let in' = enters w.map w.opcode tail' w.meant in
     let run_n : prefix_len is_prefix bytes ≡ length w.run =
     ap (prefix_len is_prefix) (spelled ∙ ap (λ l. w.run ++ l) in'.spelled) ∙ run_length_is w.run in'.first in'.rest w.prefixes in'.plain in
@@ -158,45 +153,19 @@ parts_are strict s rest reading w =
     let h = has_head strict s rest reading w in
     let bytes : List ℕ = s ++ rest in
     let t = has_tail (record_in strict s reading w) (seen_by w.map w.opcode (reading_of w.run)) w.tail reading w.asked (tail_in bytes) rest h.tail (ask_in bytes strict) h.ask in
-    record {
-      prefixes = h.prefixes;
-      escape = ap escape_bytes h.map;
-      opcode = h.opcode;
-      modrm = t.modrm;
-      sib = t.sib;
-      address = t.address;
-      immediate = t.immediate;
-      suffix = t.suffix;
-    }
+    let escape = ap escape_bytes h.map in
+    assumption (h, t, escape)
 
 -- ---- a whole encoding has its parts once
 
 abbrev lists : List ℕ → List ℕ → List ℕ → List ℕ → List ℕ → List ℕ → List ℕ → List ℕ → PartLists
 lists a b c d e f g h = record { prefixes = a; escape = b; opcode = c; modrm = d; sib = e; displacement = f; immediate = g; suffix = h }
 
-pub same_lists : (a b : PartLists) → a.prefixes ≡ b.prefixes → a.escape ≡ b.escape → a.opcode ≡ b.opcode → a.modrm ≡ b.modrm → a.sib ≡ b.sib → a.displacement ≡ b.displacement → a.immediate ≡ b.immediate → a.suffix ≡ b.suffix → a ≡ b
-same_lists a b e1 e2 e3 e4 e5 e6 e7 e8 =
-    ap (λ x. lists x a.escape a.opcode a.modrm a.sib a.displacement a.immediate a.suffix) e1
-    ∙ ap (λ x. lists b.prefixes x a.opcode a.modrm a.sib a.displacement a.immediate a.suffix) e2
-    ∙ ap (λ x. lists b.prefixes b.escape x a.modrm a.sib a.displacement a.immediate a.suffix) e3
-    ∙ ap (λ x. lists b.prefixes b.escape b.opcode x a.sib a.displacement a.immediate a.suffix) e4
-    ∙ ap (λ x. lists b.prefixes b.escape b.opcode b.modrm x a.displacement a.immediate a.suffix) e5
-    ∙ ap (λ x. lists b.prefixes b.escape b.opcode b.modrm b.sib x a.immediate a.suffix) e6
-    ∙ ap (λ x. lists b.prefixes b.escape b.opcode b.modrm b.sib b.displacement x a.suffix) e7
-    ∙ ap (λ x. lists b.prefixes b.escape b.opcode b.modrm b.sib b.displacement b.immediate x) e8
-
 pub parts_once : (strict : Bool) (s : List ℕ) (reading : Reading) (w : Encoding strict s reading) (a b : PartLists) → HasParts strict s reading w a → HasParts strict s reading w b → a ≡ b
 parts_once strict s reading w a b h k =
-    let sib = front_is _ a.sib a.displacement _ (sym h.address) (sym h.sib) in
-    let sib' = front_is _ b.sib b.displacement _ (sym k.address) (sym k.sib) in
-    let disp = rest_is _ a.sib a.displacement _ (sym h.address) (sym h.sib) in
-    let disp' = rest_is _ b.sib b.displacement _ (sym k.address) (sym k.sib) in
-    same_lists a b
-    (h.prefixes ∙ sym k.prefixes)
-    (h.escape ∙ sym k.escape)
-    (h.opcode ∙ sym k.opcode)
-    (h.modrm ∙ sym k.modrm)
-    (sym sib ∙ sib')
-    (sym disp ∙ disp')
-    (h.immediate ∙ sym k.immediate)
-    (h.suffix ∙ sym k.suffix)
+    let both : a.sib ++ a.displacement ≡ b.sib ++ b.displacement = h.address ∙ sym k.address in
+    let long : length a.sib ≡ length b.sib = h.sib ∙ sym k.sib in
+    let sib : a.sib ≡ b.sib = take_of a.sib a.displacement b.sib b.displacement both long in
+    let displacement : a.displacement ≡ b.displacement = drop_of a.sib a.displacement b.sib b.displacement both long in
+    let same : lists a.prefixes a.escape a.opcode a.modrm a.sib a.displacement a.immediate a.suffix ≡ lists b.prefixes b.escape b.opcode b.modrm b.sib b.displacement b.immediate b.suffix = cc (h.prefixes, k.prefixes, h.escape, k.escape, h.opcode, k.opcode, h.modrm, k.modrm, h.immediate, k.immediate, h.suffix, k.suffix) in
+    same

@@ -1,18 +1,15 @@
 -- The parts of an accepted encoding have lengths that fields can hold.
-use Rattle.std.proofs.Common.{◌≡◌, ℕ, ◌+◌, ◌≤◌, ◌==◌, Bool, true, false, if◌then◌else◌, List, ◌∷◌, ◌++◌, length, Option, sym, ap, ◌∙◌, arith, length-append}
+use Rattle.std.proofs.Common.{◌≡◌, ℕ, ◌≤◌, Bool, true, false, if◌then◌else◌, List, length, Option, sym, ap, ◌∙◌, arith, length-append}
 use Rattle.x86_fields.specs.declared.prefixes.Prefixes.{Prefixes}
-use Rattle.x86_fields.specs.ModRM.{mod_field, is_memory}
-use Rattle.x86_fields.specs.Raw.{names_no_base, displacement_width}
+use Rattle.x86_fields.specs.ModRM.{is_memory}
+use Rattle.x86_fields.specs.Raw.{displacement_width}
 use Rattle.x86_fields.specs.Run.{reading_of}
 use Rattle.x86_fields.specs.Pieces.{first_byte}
 use Rattle.x86_forms.specs.declared.Map.{Map}
-use Rattle.x86_forms.specs.declared.Map.TheVariants.{One}
 use Rattle.x86_forms.specs.declared.TableRow.{TableRow}
 use Rattle.x86_forms.specs.Groups.{is_group}
 use Rattle.x86_operands.specs.declared.plans.Verdict.{Verdict}
-use Rattle.x86_operands.specs.declared.plans.Verdict.TheVariants.{Accepts, NamedBySuffix, Refuses}
 use Rattle.x86_operands.specs.declared.plans.ModrmUse.{ModrmUse}
-use Rattle.x86_operands.specs.declared.plans.ModrmUse.TheVariants.{Absent}
 use Rattle.x86_operands.specs.declared.reader.Reading.{Reading}
 use Rattle.x86_operands.specs.Pieces.{modrm_of, modrm_width, suffix_width}
 use Rattle.x86_operands.specs.Asks.{immediates_width}
@@ -23,36 +20,28 @@ use Rattle.x86_groups.proofs.GroupLemmas.{group_narrow}
 use Rattle.x86_decode.specs.Head.{escape_bytes, seen_by}
 use Rattle.x86_decode.specs.Grammar.{record_of}
 use Rattle.x86_layout.specs.Parts.Heads.{one_if}
-use Rattle.x86_layout.specs.Parts.Split.{PartLists, Encoding, record_in, sib_width, HasParts}
+use Rattle.x86_layout.specs.Parts.Split.{PartLists, Encoding, record_in, HasParts}
 use Rattle.x86_layout.specs.Parts.Fields.{HasFieldLengths}
-use Rattle.x86_layout.proofs.PartLemmas.Part.{rest_is, operands_long}
+use Rattle.x86_layout.proofs.PartLemmas.Part.{drop_of, operands_long}
 use Rattle.x86_layout.proofs.PartLemmas.Front.{address_parts}
 
 one_at_most : (b : Bool) → one_if b ≤ 1
-one_at_most true = omega arith
-one_at_most false = omega arith
-
-either : (b : Bool) (m n k : ℕ) → m ≤ k → n ≤ k → (if b then m else n) ≤ k
-either true m n k h g = h
-either false m n k h g = g
+one_at_most b = grind arith
 
 disp_small : (m : ℕ) (sib : Option ℕ) → displacement_width m sib ≤ 4
-disp_small m sib =
-    either (mod_field m == 1) 1 _ 4 (omega arith)
-    (either (mod_field m == 2) 4 _ 4 (omega arith) (either (names_no_base m sib) 4 0 4 (omega arith) (omega arith)))
+disp_small m sib = grind arith
+
+asked_small : (m : ℕ) (sib : Option ℕ) → (if is_memory m then displacement_width m sib else 0) ≤ 4
+asked_small m sib = grind (arith, disp_small m sib)
 
 escape_small : (m : Map) → length (escape_bytes m) ≤ 2
-escape_small One = omega arith
-escape_small m = omega arith
+escape_small m = grind arith
 
 modrm_small : (u : ModrmUse) → modrm_width u ≤ 1
-modrm_small Absent = omega arith
-modrm_small u = omega arith
+modrm_small u = grind arith
 
 suffix_small : (v : Verdict) → suffix_width v ≤ 1
-suffix_small Accepts = omega arith
-suffix_small NamedBySuffix = omega arith
-suffix_small (Refuses fault moment) = omega arith
+suffix_small v = grind arith
 
 immediate_small : (strict : Bool) (row : TableRow) (p : Prefixes) (m : ℕ) → immediates_width ((record_of strict row p).plan m).encodings ≤ 8
 immediate_small strict row p m = by (is_group row.form)
@@ -73,17 +62,14 @@ lengths_of strict s reading w p h short =
     let m : ℕ = modrm_of r.modrm a.modrm in
     let x = address_parts q m t.address t.memory t.address_asked in
     let disp : p.displacement ≡ x.disp =
-    sym (rest_is t.address p.sib p.displacement (sib_width m) (sym h.address) (sym h.sib)) ∙ rest_is t.address x.sib x.disp (sib_width m) x.spelled (sym x.sib_long) in
-    let whole : length s ≡ length w.run + (length (escape_bytes w.map) + (1 + length w.tail)) =
-    ap length w.spelled ∙ length-append w.run (escape_bytes w.map ++ w.opcode ∷ w.tail)
-    ∙ ap (λ n. length w.run + n) (length-append (escape_bytes w.map) (w.opcode ∷ w.tail) ∙ ap (λ n. length (escape_bytes w.map) + n) (let e : length (w.opcode ∷ w.tail) ≡ 1 + length w.tail = omega arith in e)) in
+    drop_of p.sib p.displacement x.sib x.disp (h.address ∙ x.spelled) (h.sib ∙ sym x.sib_long) in
     record {
-      prefixes = let e = ap length h.prefixes in omega (arith, e, whole, short);
+      prefixes = omega (arith, length-append {A = ℕ}, ap length h.prefixes, ap length w.spelled, short);
       escape = at_most _ _ 2 (ap length h.escape) (escape_small w.map);
       opcode = ap length h.opcode;
       modrm = at_most _ _ 1 (ap length h.modrm ∙ a.modrm_asked) (modrm_small r.modrm);
       sib = at_most _ _ 1 h.sib (one_at_most _);
-      displacement = at_most _ _ 4 (ap length disp ∙ x.disp_long) (either (is_memory m) _ 0 4 (disp_small m (first_byte x.sib)) (omega arith));
+      displacement = at_most _ _ 4 (ap length disp ∙ x.disp_long) (asked_small m (first_byte x.sib));
       immediate = at_most _ _ 8 (ap length h.immediate ∙ operands_long _ q m t.memory t.immediates t.given t.immediates_asked) (immediate_small strict w.row q m);
       suffix = at_most _ _ 1 (ap length h.suffix ∙ t.suffix_asked) (suffix_small (r.plan m).verdict);
     }

@@ -3,6 +3,7 @@ use Rattle.std.proofs.Common.{◌≡◌, ℕ, suc, ◌+◌, ◌-◌, ◌≤◌, 
 use Rattle.std.specs.List.{list_all, prefix_len}
 use Rattle.std.specs.Int.{from_bool}
 use Rattle.std.proofs.Math.Seq.{take-append_seam, drop-append_seam}
+use Rattle.std.proofs.lemmas.Bool.{and_parts}
 use Rattle.std.proofs.lemmas.Bool.Decides.{nat_tests}
 use Rattle.x86_fields.specs.Run.{is_prefix}
 use Rattle.x86_fields.specs.ModRM.{rm_field, is_memory, as_register}
@@ -15,12 +16,11 @@ use Rattle.x86_operands.specs.declared.operands.Slot.{Slot}
 use Rattle.x86_operands.specs.declared.operands.Operand.{Operand}
 use Rattle.x86_operands.specs.declared.plans.OperandEncoding.{OperandEncoding}
 use Rattle.x86_operands.specs.declared.plans.Verdict.{Verdict}
-use Rattle.x86_operands.specs.declared.plans.Verdict.TheVariants.{Accepts, NamedBySuffix, Refuses}
 use Rattle.x86_operands.specs.declared.plans.ModrmUse.{ModrmUse}
 use Rattle.x86_operands.specs.declared.plans.ModrmUse.TheVariants.{Absent, EitherForm, Registers}
-use Rattle.x86_operands.specs.Plans.{RowRecord}
+use Rattle.x86_operands.specs.Plans.{RowRecord, list_of}
 use Rattle.x86_operands.specs.Pieces.{immediate_width, modrm_of, modrm_width, suffix_width, SpellsOperands, SpellsMemory, SpellsRow}
-use Rattle.x86_operands.specs.Asks.{asks_modrm, asks_suffix, immediates_width, used_modrm, ask_of}
+use Rattle.x86_operands.specs.Asks.{asks_modrm, asks_suffix, used_modrm, ask_of}
 use Rattle.x86_decode.specs.Head.{is_run, escape_bytes, is_vex, is_opcode}
 use Rattle.x86_operands.specs.declared.asks.Ask.{Ask}
 use Rattle.x86_operands.specs.declared.reader.Reading.{Reading}
@@ -32,13 +32,11 @@ use Rattle.x86_layout.specs.Parts.Permitted.{map_named}
 
 -- a part that is there or not has one byte or none
 pub from_is : (flag : Bool) → from_bool flag ≡ one_if flag
-from_is true = refl
-from_is false = refl
+from_is flag = grind arith
 
 -- a part of one byte, or none
 pub option_short : (o : Option ℕ) → length (option_bytes o) ≤ 1
-option_short None = omega arith
-option_short (Some b) = omega arith
+option_short o = grind arith
 
 -- ---- pieces of a list
 
@@ -48,27 +46,21 @@ front_is xs a b n e h = ap (λ k. take k xs) h ∙ ap (take (length a)) e ∙ ta
 pub rest_is : (xs a b : List ℕ) (n : ℕ) → xs ≡ a ++ b → n ≡ length a → drop n xs ≡ b
 rest_is xs a b n e h = ap (λ k. drop k xs) h ∙ ap (drop (length a)) e ∙ drop-append_seam a b
 
+-- a list in two ways of two parts
+pub take_of : (xs ys a b : List ℕ) → xs ++ ys ≡ a ++ b → length xs ≡ length a → xs ≡ a
+take_of xs ys a b e h = sym (front_is (xs ++ ys) xs ys (length xs) refl refl) ∙ front_is (xs ++ ys) a b (length xs) e h
+
+pub drop_of : (xs ys a b : List ℕ) → xs ++ ys ≡ a ++ b → length xs ≡ length a → ys ≡ b
+drop_of xs ys a b e h = sym (rest_is (xs ++ ys) xs ys (length xs) refl refl) ∙ rest_is (xs ++ ys) a b (length xs) e h
+
 -- ---- the run
 
-and_left : (a b : Bool) → (a && b) ≡ true → a ≡ true
-and_left a b h = grind arith
-
-and_right : (a b : Bool) → (a && b) ≡ true → b ≡ true
-and_right a b h = grind arith
-
-run_by : (b c n : ℕ) (t : Bool) → t ≡ true → (if t then 1 + n else 0) ≡ suc n
-run_by b c n true e = omega arith
-run_by b c n false e = absurd (let h : false ≡ true = e in cc)
-
-none_by : (n : ℕ) (t : Bool) → t ≡ false → (if t then 1 + n else 0) ≡ 0
-none_by n true e = absurd (let h : true ≡ false = e in cc)
-none_by n false e = refl
-
 pub run_length_is : (run : List ℕ) (c : ℕ) (rest : List ℕ) → is_run run ≡ true → is_prefix c ≡ false → prefix_len is_prefix (run ++ c ∷ rest) ≡ length run
-run_length_is [] c rest h e = none_by (prefix_len is_prefix rest) (is_prefix c) e
+run_length_is [] c rest h e = rw e
 run_length_is (b ∷ run) c rest h e =
-    let first : is_prefix b ≡ true = and_left (is_prefix b) (is_run run) h in
-    run_by b c (prefix_len is_prefix (run ++ c ∷ rest)) (is_prefix b) first ∙ ap suc (run_length_is run c rest (and_right (is_prefix b) (is_run run) h) e)
+    let both = and_parts (is_prefix b) (is_run run) h in
+    let behind = run_length_is run c rest both.1 e in
+    rw (both.0) (omega (arith, behind))
 
 one_more_of : (n : ℕ) → 1 + n ≡ suc n
 one_more_of n = omega arith
@@ -83,50 +75,29 @@ all_prefixes (x ∷ xs) = all_by (is_prefix x) x xs (prefix_len is_prefix xs) re
 
 -- ---- the escape
 
-by_first : (a b : Bool) (m : Map) → b ≡ false → (if b then m else One) ≡ One
-by_first a true m e = absurd (let h : true ≡ false = e in cc)
-by_first a false m e = refl
+first_by : (a b c : Bool) (m : Map) → not (a || (b || c)) ≡ true → (if b then m else One) ≡ One
+first_by a b c m h = grind arith
 
-by_second : (b c : Bool) → b ≡ false → c ≡ false → (if b then Of38 else (if c then Of3a else Of)) ≡ Of
-by_second true c e h = absurd (let k : true ≡ false = e in cc)
-by_second false true e h = absurd (let k : true ≡ false = h in cc)
-by_second false false e h = refl
-
-second_of : (a b c : Bool) → not (a || (b || c)) ≡ true → b ≡ false
-second_of a b c h = grind arith
+second_by : (b c : Bool) → not (b || c) ≡ true → (if b then Of38 else (if c then Of3a else Of)) ≡ Of
+second_by b c h = grind arith
 
 left_of : (a b : Bool) → not (a || b) ≡ true → a ≡ false
 left_of a b h = grind arith
 
-right_of : (a b : Bool) → not (a || b) ≡ true → b ≡ false
-right_of a b h = grind arith
-
 pub map_is : (m : Map) (b : ℕ) (tail : List ℕ) → is_opcode m b ≡ true → map_of (slice_index (escape_bytes m ++ b ∷ tail) 0) (slice_index (escape_bytes m ++ b ∷ tail) 1) ≡ m
-map_is One b tail h = by_first true (b == 0x0f) _ (second_of (is_prefix b) (b == 0x0f) (is_vex b) h)
-map_is Of b tail h = by_second (b == 0x38) (b == 0x3a) (left_of (b == 0x38) (b == 0x3a) h) (right_of (b == 0x38) (b == 0x3a) h)
+map_is One b tail h = first_by (is_prefix b) (b == 0x0f) (is_vex b) _ h
+map_is Of b tail h = second_by (b == 0x38) (b == 0x3a) h
 map_is Of38 b tail h = refl
 map_is Of3a b tail h = refl
 
 one_byte : (t : Bool) → (if t then Some Of else None) ≡ (let m : Map = if t then Of else One in if length (escape_bytes m) == 1 then Some m else None)
-one_byte true = refl
-one_byte false = refl
+one_byte t = grind arith
 
 two_bytes : (t u v : Bool) → (if t then (if u then Some Of38 else (if v then Some Of3a else None)) else None) ≡ (let m : Map = if t then (if u then Of38 else (if v then Of3a else Of)) else One in if length (escape_bytes m) == 2 then Some m else None)
-two_bytes false u v = refl
-two_bytes true true v = refl
-two_bytes true false true = refl
-two_bytes true false false = refl
-
-longer_than : (m : Map) (n : ℕ) → (length (escape_bytes m) == suc (suc (suc n))) ≡ false
-longer_than One n = grind (arith, nat_tests)
-longer_than m n = grind (arith, nat_tests)
-
-none_named : (t : Bool) (m : Map) → t ≡ false → None ≡ (if t then Some m else None)
-none_named true m e = absurd (let h : true ≡ false = e in cc)
-none_named false m e = refl
+two_bytes t u v = grind arith
 
 more_bytes : (m : Map) (n : ℕ) → None ≡ (if length (escape_bytes m) == suc (suc (suc n)) then Some m else None)
-more_bytes m n = none_named _ m (longer_than m n)
+more_bytes m n = grind (arith, nat_tests)
 
 -- the escape of a map is the map by the first two bytes, where these have its length
 pub map_named_is : (l : List ℕ) → map_named l ≡ (let m : Map = map_of (slice_index l 0) (slice_index l 1) in if length (escape_bytes m) == length l then Some m else None)
@@ -157,46 +128,35 @@ used_is EitherForm (m ∷ rest) more tail e h = sym (ap (λ l. slice_index l 0) 
 used_is Registers [] more tail e h = absurd (omega arith)
 used_is Registers (m ∷ rest) more tail e h = sym (ap (λ l. as_register (slice_index l 0)) e)
 
-pub modrm_long : (u : ModrmUse) (modrm : List ℕ) → length modrm ≡ modrm_width u → one_if (asks_modrm u) ≡ length modrm
-modrm_long Absent modrm e = sym e
-modrm_long u modrm e = sym e
+pub use_width : (u : ModrmUse) → one_if (asks_modrm u) ≡ modrm_width u
+use_width u = grind arith
+
+pub verdict_width : (v : Verdict) → one_if (asks_suffix v) ≡ suffix_width v
+verdict_width v = grind arith
 
 pub operands_long : (encodings : List OperandEncoding) (p : Prefixes) (m : ℕ) (memory : Option Raw) (bytes : List ℕ) (given : List (Slot × Operand)) → SpellsOperands encodings p m memory bytes given → length bytes ≡ total (map immediate_width encodings)
 operands_long [] p m memory bytes given h = ap length h.0
 operands_long (s ∷ rest) p m memory bytes given h =
-    let e : length bytes ≡ length h.immediate + length h.tail = ap length h.spelled ∙ length-append h.immediate h.tail in
-    e ∙ ap (λ n. n + length h.tail) h.asked ∙ ap (λ n. immediate_width s + n) (operands_long rest p m memory h.tail h.others h.behind)
-
-pub suffix_long : (v : Verdict) (suffix : List ℕ) → length suffix ≡ suffix_width v → one_if (asks_suffix v) ≡ length suffix
-suffix_long Accepts suffix e = sym e
-suffix_long NamedBySuffix suffix e = sym e
-suffix_long (Refuses fault moment) suffix e = sym e
+    let behind = operands_long rest p m memory h.tail h.others h.behind in
+    omega (arith, length-append {A = ℕ}, ap length h.spelled, h.asked, behind)
 
 -- ---- SIB
 
 -- in a memory form that is read as such, the byte is as it stands
 sib_by : (memory : Bool) (used_modrm raw : ℕ) → (memory ≡ true → used_modrm ≡ raw) → (memory && rm_field raw == 4) ≡ (memory && rm_field used_modrm == 4)
-sib_by true used_modrm raw h = ap (λ m. rm_field m == 4) (sym (h refl))
-sib_by false used_modrm raw h = refl
-
-large : (m : ℕ) → is_memory (as_register m) ≡ false
-large m = grind (arith, nat_tests)
+sib_by memory used_modrm raw h = grind arith
 
 pub as_it_stands : (u : ModrmUse) (m : ℕ) → is_memory (used_modrm u m) ≡ true → used_modrm u m ≡ m
-as_it_stands Absent m e = absurd (let h : false ≡ true = e in cc)
-as_it_stands EitherForm m e = refl
-as_it_stands Registers m e = absurd (let h : false ≡ true = sym (large m) ∙ e in cc)
+as_it_stands u m e = grind (arith, nat_tests)
 
 pub sib_asked : (u : ModrmUse) (m : ℕ) → one_if (is_memory (used_modrm u m) && rm_field m == 4) ≡ sib_width (used_modrm u m)
 sib_asked u m = ap one_if (sib_by (is_memory (used_modrm u m)) (used_modrm u m) m (as_it_stands u m))
 
 option_long : (sib : Option ℕ) (disp : List ℕ) → one_if (is_some sib) ≤ length (option_bytes sib ++ disp)
-option_long None disp = omega arith
-option_long (Some b) disp = omega arith
+option_long sib disp = grind (arith, length-append {A = ℕ})
 
 width_by : (memory four : Bool) (n : ℕ) → one_if four ≤ n → one_if (memory && four) ≤ n
-width_by true four n h = h
-width_by false four n h = omega arith
+width_by memory four n h = grind arith
 
 pub sib_within : (p : Prefixes) (m : ℕ) (address : List ℕ) (memory : Option Raw) → SpellsMemory p m address memory → sib_width m ≤ length address
 sib_within p m address None h = subst (λ t. one_if (t && rm_field m == 4) ≤ length address) (sym h.0) (omega arith)
@@ -214,30 +174,27 @@ module _ (r : RowRecord) (p : Prefixes) (tail : List ℕ) (reading : Reading) (a
 
   pub modrm_count : one_if ask.modrm ≡ length a.modrm
   unfolding ask_of
-  modrm_count = ap (λ x. one_if x.modrm) k ∙ modrm_long r.modrm a.modrm a.modrm_asked
+  modrm_count = ap (λ x. one_if x.modrm) k ∙ use_width r.modrm ∙ sym a.modrm_asked
 
   pub sib_count : one_if (asks_sib ask (slice_index all 0)) ≡ sib_width (modrm_of r.modrm a.modrm)
   unfolding ask_of
-  sib_count = ap (λ x. one_if (asks_sib x (slice_index all 0))) k ∙ sib_asked r.modrm (slice_index all 0) ∙ ap sib_width (sym read_as)
+  sib_count = cc (k, sib_asked r.modrm (slice_index all 0), read_as)
 
   pub immediate_count : ask.immediate ≡ length a.behind.pieces.immediates
   unfolding ask_of
   immediate_count =
       let s = a.behind.pieces in
       let m : ℕ = modrm_of r.modrm a.modrm in
-      ap (λ x. x.immediate) k ∙ ap (λ n. immediates_width (r.plan n).encodings) (sym read_as) ∙ sym (operands_long _ p m s.memory s.immediates s.given s.immediates_asked)
+      let long = operands_long (list_of (r.plan m).encodings) p m s.memory s.immediates s.given s.immediates_asked in
+      cc (k, read_as, long)
 
   pub suffix_count : one_if ask.suffix ≡ length a.behind.pieces.suffix
   unfolding ask_of
   suffix_count =
-      let s = a.behind.pieces in
-      let m : ℕ = modrm_of r.modrm a.modrm in
-      ap (λ x. one_if x.suffix) k ∙ ap (λ n. one_if (asks_suffix (r.plan n).verdict)) (sym read_as) ∙ suffix_long (r.plan m).verdict s.suffix s.suffix_asked
+      let width = verdict_width (r.plan (modrm_of r.modrm a.modrm)).verdict in
+      cc (k, read_as, width, a.behind.pieces.suffix_asked)
 
   pub address_count : (length a.tail - one_if ask.suffix) - ask.immediate ≡ length a.behind.pieces.address
   address_count =
       let s = a.behind.pieces in
-      let e : length a.tail ≡ length s.address + (length s.immediates + length s.suffix) = ap length s.spelled ∙ length-append s.address (s.immediates ++ s.suffix) ∙ ap (λ n. length s.address + n) (length-append s.immediates s.suffix) in
-      let i = immediate_count in
-      let f = suffix_count in
-      omega (arith, e, i, f)
+      omega (arith, length-append {A = ℕ}, ap length s.spelled, immediate_count, suffix_count)

@@ -1,12 +1,12 @@
 -- The cuts of an input that is swept piece by piece.
-use Rattle.std.proofs.Common.{◌≡◌, ◌≢◌, ℕ, ◌+◌, ◌<◌, ◌≤◌, Bool, List, [], ◌∷◌, ◌++◌, length, drop, Result, Ok, Err, refl, ap, ◌∙◌, sym, subst, arith, length-append}
+use Rattle.std.proofs.Common.{◌≡◌, ◌≢◌, ℕ, ◌+◌, ◌<◌, ◌≤◌, Bool, List, [], ◌∷◌, ◌++◌, length, drop, Err, refl, ap, ◌∙◌, sym, arith, length-append}
 use Rattle.std.proofs.lemmas.List.{drop-append-le}
 use lib.Seq.{drop-drop}
 use Rattle.x86_fields.specs.declared.errors.DecodeError.TheVariants.{ExhaustedInput}
 use Rattle.x86_decode.specs.Answer.{answer_of}
 use Rattle.x86_layout.specs.declared.sweeps.cuts.Cut.{Cut}
 use Rattle.x86_layout.specs.Sweeps.Cuts.{cut_length, cut_at, cuts_from}
-use Rattle.x86_layout.specs.Sweeps.Pieces.{total_length, AreFinal, CutsGoOn, CutsOfMore}
+use Rattle.x86_layout.specs.Sweeps.Pieces.{total_length, CutsGoOn, CutsOfMore}
 use Rattle.x86_layout.proofs.SweepLemmas.Cut.{none_left, first_and_rest}
 
 abbrev size : Bool → List ℕ → ℕ
@@ -37,8 +37,8 @@ module _ (strict : Bool) (fits : (xs : List ℕ) → 0 < length xs → (0 < size
   go_on place xs (c ∷ cs) after e =
       let d = divided place xs c (cs ++ after) e in
       let long : size strict xs ≡ c.length = ap (λ c. c.length) d.0 in
-      go_on (place + size strict xs) (drop (size strict xs) xs) cs after d.1 ∙ moved place (size strict xs) (total_length cs) xs
-      ∙ ap (λ n. cuts_from strict (place + (n + total_length cs)) (drop (n + total_length cs) xs)) long
+      let rest = go_on (place + size strict xs) (drop (size strict xs) xs) cs after d.1 in
+      cc (rest, moved place (size strict xs) (total_length cs) xs, long)
 
   module _ (stays : (xs ys : List ℕ) → answer_of strict xs ≢ Err ExhaustedInput → answer_of strict (xs ++ ys) ≡ answer_of strict xs) where
     pub of_more : CutsOfMore strict
@@ -54,10 +54,4 @@ module _ (strict : Bool) (fits : (xs : List ℕ) → 0 < length xs → (0 < size
         let long : size strict (xs ++ ys) ≡ n = ap cut_length same in
         let rest : drop n (xs ++ ys) ≡ drop n xs ++ ys = drop-append-le n xs ys (fits xs some).1 in
         let tail = of_more (place + n) (drop n xs) ys cs after d.1 final.1 in
-        let whole : cuts_from strict (place + n) (drop n (xs ++ ys)) ≡ cs ++ cuts_from strict ((place + n) + total_length cs) (drop (total_length cs) (drop n (xs ++ ys))) =
-        ap (cuts_from strict (place + n)) rest ∙ tail ∙ ap (λ zs. cs ++ cuts_from strict ((place + n) + total_length cs) (drop (total_length cs) zs)) (sym rest) in
-        next place (xs ++ ys) more
-        ∙ ap (λ k. cut_at strict place (xs ++ ys) ∷ cuts_from strict (place + k) (drop k (xs ++ ys))) long
-        ∙ ap (λ h. h ∷ cuts_from strict (place + n) (drop n (xs ++ ys))) first
-        ∙ ap (λ l. c ∷ l) (whole ∙ ap (λ l. cs ++ l) (moved place n (total_length cs) (xs ++ ys)
-        ∙ ap (λ k. cuts_from strict (place + (k + total_length cs)) (drop (k + total_length cs) (xs ++ ys))) (ap (λ c. c.length) d.0)))
+        cc (next place (xs ++ ys) more, first, long, rest, tail, moved place n (total_length cs) (xs ++ ys), d.0)

@@ -1,7 +1,8 @@
 -- The bytes of raw fields, and the raw fields of bytes.
-use Rattle.std.proofs.Common.{◌≡◌, ℕ, suc, ◌+◌, ◌-◌, ◌%◌, ◌^◌, ◌<◌, ◌==◌, nat_lt, ◌&&◌, not, Bool, true, false, if◌then◌else◌, Option, Some, None, is_some, List, [], ◌∷◌, ◌++◌, length, take, ℤ, pos, negsuc, refl, sym, ap, subst, ◌∙◌, arith, length-append}
+use Rattle.std.proofs.Common.{◌≡◌, ℕ, suc, ◌+◌, ◌-◌, ◌%◌, ◌^◌, ◌<◌, ◌==◌, Bool, true, false, if◌then◌else◌, Option, Some, None, is_some, List, [], ◌∷◌, ◌++◌, length, take, ℤ, pos, negsuc, refl, sym, ap, subst, ◌∙◌, arith, length-append}
 use Rattle.std.specs.Prelude.{FitsSigned}
 use Rattle.std.specs.Int.{w8, w32, cast_signed, cast_unsigned, from_le_bytes, to_le_bytes}
+use Rattle.std.proofs.lemmas.Bool.{and_parts}
 use Rattle.std.proofs.lemmas.Bool.Decides.{nat_tests}
 use Rattle.std.proofs.lemmas.Int.{to_z-of_z, to_z_pos}
 use Rattle.std.proofs.lemmas.Nat.{from_le_bytes-to_le_bytes_4}
@@ -16,36 +17,22 @@ use Rattle.x86_decode.proofs.ByteLemmas.{Bytes, bytes_behind, memory_fits}
 use Rattle.x86_layout.specs.Tightening.Registers.{IsByteOption}
 use Rattle.x86_layout.specs.Tightening.Shortest.{address_length, IsOfBytes}
 use Rattle.x86_layout.specs.Tightening.Tighten.{bits_in, spelled_displacement, address_bytes}
-use Rattle.x86_layout.proofs.TightenLemmas.Raw.{first_of_three, second_of_three, third_of_three}
 use Rattle.x86_layout.proofs.PartLemmas.Front.{option_count}
 
 -- ---- the displacement that bytes spell fits its width
 
-byte_by : (t : Bool) (n : ℕ) → nat_lt n 128 ≡ t → n < 256 → is_byte (if t then pos n else negsuc (256 - suc n)) ≡ true
-byte_by true n e h = e
-byte_by false n e h = grind (arith, nat_tests)
-
 byte_fits : (n : ℕ) → n < 256 → is_byte (cast_signed w8 n) ≡ true
-byte_fits n h = byte_by (nat_lt n 128) n refl h
+byte_fits n h = grind (arith, nat_tests)
 
 front_small : (l : List ℕ) → Bytes l → from_le_bytes w8 l < 256
 front_small [] h = omega arith
 front_small (b ∷ l) h = h.0
 
-spelled_fits_by : (one four : Bool) (l : List ℕ) → Bytes l → (if one then is_byte (if one then cast_signed w8 (from_le_bytes w8 l) else (if four then cast_signed w32 (from_le_bytes w32 l) else pos 0)) else (if four then true else is_zero (if one then cast_signed w8 (from_le_bytes w8 l) else (if four then cast_signed w32 (from_le_bytes w32 l) else pos 0)))) ≡ true
-spelled_fits_by true four l h = byte_fits (from_le_bytes w8 l) (front_small l h)
-spelled_fits_by false true l h = refl
-spelled_fits_by false false l h = refl
-
 spelled_disp_fits : (width : ℕ) (l : List ℕ) → Bytes l → disp_fits width (signed_by width l) ≡ true
-spelled_disp_fits width l h = spelled_fits_by (width == 1) (width == 4) l h
-
-all_three : (a b c : Bool) → a ≡ true → b ≡ true → c ≡ true → (a && (b && c)) ≡ true
-all_three a b c e f g = grind arith
+spelled_disp_fits width l h = let fits = byte_fits (from_le_bytes w8 l) (front_small l h) in grind (arith, nat_tests, fits)
 
 sib_fits_by : (modrm : ℕ) (sib : Option ℕ) → is_some sib ≡ (rm_field modrm == 4) → sib_fits modrm sib ≡ true
-sib_fits_by modrm None e = ap not (sym e)
-sib_fits_by modrm (Some sib) e = sym e
+sib_fits_by modrm sib e = grind arith
 
 front_byte : (sib : Option ℕ) (disp : List ℕ) → Bytes (option_bytes sib ++ disp) → IsByteOption sib
 front_byte None disp h = tt
@@ -58,7 +45,7 @@ of_bytes p m address raw h b =
     let both : Bytes (option_bytes s.sib ++ s.disp) = subst Bytes s.spelled b in
     let disp : Bytes s.disp = bytes_behind (option_bytes s.sib) s.disp both in
     record {
-      fit = ap fits s.fields ∙ all_three (is_memory m) (sib_fits m s.sib) _ h.0 (sib_fits_by m s.sib s.sib_asked) (spelled_disp_fits (displacement_width m s.sib) s.disp disp);
+      fit = cc (s.fields, h.0, sib_fits_by m s.sib s.sib_asked, spelled_disp_fits (displacement_width m s.sib) s.disp disp);
       sib = subst (λ r. IsByteOption r.sib) (sym s.fields) (front_byte s.sib s.disp both);
       disp = memory_fits p m address (Some raw) raw h refl b;
     }
@@ -68,8 +55,8 @@ of_bytes p m address raw h b =
 pub address_long : (p : Prefixes) (m : ℕ) (address : List ℕ) (raw : Raw) → SpellsMemory p m address (Some raw) → length address ≡ address_length raw
 address_long p m address raw h =
     let s = h.1 in
-    ap length s.spelled ∙ length-append (option_bytes s.sib) s.disp ∙ ap (λ n. n + length s.disp) (option_count s.sib) ∙ ap (λ n. (if is_some s.sib then 1 else 0) + n) s.disp_asked
-    ∙ sym (ap address_length s.fields)
+    let long = length-append (option_bytes s.sib) s.disp in
+    cc (s.spelled, long, option_count s.sib, s.disp_asked, s.fields)
 
 -- ---- the bytes of raw fields spell them
 
@@ -84,8 +71,7 @@ unsigned_small (pos n) f = let g = f.sfits in omega (arith, g)
 unsigned_small (negsuc n) f = omega arith
 
 zero_back : (d : ℤ) → is_zero d ≡ true → pos 0 ≡ d
-zero_back (pos n) e = let z : n ≡ 0 = grind (arith, nat_tests) in ap pos (sym z)
-zero_back (negsuc n) e = absurd (let f : false ≡ true = e in cc)
+zero_back d e = grind (arith, nat_tests)
 
 abbrev Width : Bool → Bool → Bool → ℕ
 Width one two none = if one then 1 else (if two then 4 else (if none then 4 else 0))
@@ -97,62 +83,44 @@ four_back : (d : ℤ) → FitsSigned w32 d → cast_signed w32 (from_le_bytes w3
 four_back d f = ap (cast_signed w32) (from_le_bytes-to_le_bytes_4 (cast_unsigned w32 d) (unsigned_small d f)) ∙ to_z-of_z w32 d f
 
 signed_back_by : (one two none : Bool) (d : ℤ) → disp_fits (Width one two none) d ≡ true → FitsSigned w32 d → signed_by (Width one two none) (Lowest (Width one two none) d) ≡ d
-signed_back_by true two none d e f = byte_back d e
-signed_back_by false true none d e f = four_back d f
-signed_back_by false false true d e f = four_back d f
-signed_back_by false false false d e f = zero_back d e
+signed_back_by one two none d e f = let byte = byte_back d in let four = four_back d f in let zero = zero_back d in grind arith
 
 signed_back : (modrm : ℕ) (sib : Option ℕ) (d : ℤ) → disp_fits (displacement_width modrm sib) d ≡ true → FitsSigned w32 d → signed_by (displacement_width modrm sib) (Lowest (displacement_width modrm sib) d) ≡ d
 signed_back modrm sib d e f = signed_back_by (mod_field modrm == 1) (mod_field modrm == 2) (names_no_base modrm sib) d e f
 
 lowest_long_by : (one two none : Bool) (d : ℤ) → length (Lowest (Width one two none) d) ≡ Width one two none
-lowest_long_by true two none d = refl
-lowest_long_by false true none d = refl
-lowest_long_by false false true d = refl
-lowest_long_by false false false d = refl
+lowest_long_by one two none d = grind arith
 
 displacement_long : (raw : Raw) → length (spelled_displacement raw) ≡ displacement_width raw.modrm raw.sib
 displacement_long raw = lowest_long_by (mod_field raw.modrm == 1) (mod_field raw.modrm == 2) (names_no_base raw.modrm raw.sib) raw.disp
 
 sib_asked : (modrm : ℕ) (sib : Option ℕ) → sib_fits modrm sib ≡ true → is_some sib ≡ (rm_field modrm == 4)
-sib_asked modrm None e = turned (rm_field modrm == 4) e
-  where
-    turned : (t : Bool) → not t ≡ true → false ≡ t
-    turned t h = grind arith
-sib_asked modrm (Some sib) e = sym e
-
-memory_of : (raw : Raw) → IsOfBytes raw → is_memory raw.modrm ≡ true
-memory_of raw h = first_of_three (is_memory raw.modrm) (sib_fits raw.modrm raw.sib) (disp_fits (displacement_width raw.modrm raw.sib) raw.disp) h.fit
+sib_asked modrm sib e = grind arith
 
 -- the bytes of raw fields spell them, under prefixes with their bits
 pub respells : (q : Prefixes) (raw : Raw) → IsOfBytes raw → has_b q ≡ raw.rex_b → has_x q ≡ raw.rex_x → q.address_size ≡ raw.address_size → SpellsMemory q raw.modrm (address_bytes raw) (Some raw)
 respells q raw h b x short =
-    let width : ℕ = displacement_width raw.modrm raw.sib in
-    let value = signed_back raw.modrm raw.sib raw.disp (third_of_three (is_memory raw.modrm) (sib_fits raw.modrm raw.sib) (disp_fits width raw.disp) h.fit) h.disp in (
-      memory_of raw h,
+    let memory = and_parts (is_memory raw.modrm) _ h.fit in
+    let fit = and_parts (sib_fits raw.modrm raw.sib) _ memory.1 in
+    let value = signed_back raw.modrm raw.sib raw.disp fit.1 h.disp in (
+      memory.0,
       record {
         sib = raw.sib;
         disp = spelled_displacement raw;
         spelled = refl;
-        sib_asked = sib_asked raw.modrm raw.sib (second_of_three (is_memory raw.modrm) (sib_fits raw.modrm raw.sib) (disp_fits width raw.disp) h.fit);
+        sib_asked = sib_asked raw.modrm raw.sib fit.0;
         disp_asked = displacement_long raw;
-        fields =
-            ap (λ t. record raw { rex_b = t }) (sym b)
-            ∙ ap (λ t. record raw { rex_b = has_b q; rex_x = t }) (sym x)
-            ∙ ap (λ t. record raw { rex_b = has_b q; rex_x = has_x q; address_size = t }) (sym short)
-            ∙ ap (λ d. record raw { rex_b = has_b q; rex_x = has_x q; address_size = q.address_size; disp = d }) (sym value);
+        fields = rw (b, x, short, value) refl;
       },
     )
 
 pub address_bytes_long : (raw : Raw) → length (address_bytes raw) ≡ address_length raw
-address_bytes_long raw = length-append (option_bytes raw.sib) (spelled_displacement raw) ∙ ap (λ n. n + length (spelled_displacement raw)) (option_count raw.sib) ∙ ap (λ n. (if is_some raw.sib then 1 else 0) + n) (displacement_long raw)
+address_bytes_long raw = let long = length-append (option_bytes raw.sib) (spelled_displacement raw) in cc (long, option_count raw.sib, displacement_long raw)
 
 -- ---- the bits of a REX
 
 pub b_with : (x b : Bool) (rex : Option PrefixRex) → (rex ≡ None → b ≡ false) → live_bit (λ r. r.b) (bits_in x b rex) ≡ b
-b_with x b None h = sym (h refl)
-b_with x b (Some r) h = refl
+b_with x b rex h = grind arith
 
 pub x_with : (x b : Bool) (rex : Option PrefixRex) → (rex ≡ None → x ≡ false) → live_bit (λ r. r.x) (bits_in x b rex) ≡ x
-x_with x b None h = sym (h refl)
-x_with x b (Some r) h = refl
+x_with x b rex h = grind arith

@@ -7,7 +7,7 @@ use Rattle.x86_operands.specs.Asks.{ask_of}
 use Rattle.x86_layout.specs.Parts.Front.{ask_in, parts_of}
 use Rattle.x86_decode.specs.declared.instructions.Instruction.{Instruction}
 use Rattle.x86_decode.specs.Answer.{answer_of}
-use Rattle.x86_layout.specs.Tightening.Least.{least_by, least_for, least_length, shortest_length}
+use Rattle.x86_layout.specs.Tightening.Least.{least_by, least_length, shortest_length}
 use Rattle.x86_layout.specs.Parts.Split.{Encoding, HasParts}
 use Rattle.x86_layout.specs.Tightening.Registers.{is_ip_relative}
 use Rattle.x86_layout.specs.Tightening.Shortest.{shortest, address_length, IsOfBytes}
@@ -62,4 +62,4 @@ module _ (strict : Bool) (s : List ℕ) (a : Reading) (v : Encoding strict s a) 
 -- at the front of bytes
 pub least_front : (strict : Bool) (bytes encoding : List ℕ) (instruction : Instruction) (n : ℕ) → answer_of strict bytes ≡ Ok instruction → encoding ≡ take n bytes → n ≡ instruction.length → shortest_length strict bytes ≡ least_length strict encoding
 unfolding shortest_length
-least_front strict bytes encoding instruction n accepted front counted = ap (least_for strict bytes) accepted ∙ ap (λ k. least_length strict (take k bytes)) (sym counted) ∙ ap (least_length strict) (sym front)
+least_front strict bytes encoding instruction n accepted front counted = cc (accepted, counted, front)

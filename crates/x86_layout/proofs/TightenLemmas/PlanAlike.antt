@@ -73,8 +73,7 @@ module _ (strict : Bool) (row : TableRow) (p : Prefixes) (x b : Bool) (m n : ℕ
 
   by_use : (group : Bool) → (By group Other).modrm ≡ (By group p).modrm
   unfolding group_record form_record
-  by_use true = refl
-  by_use false = refl
+  by_use group = grind arith
 
   by_fault : (group : Bool) → (By group Other).at_opcode ≡ (By group p).at_opcode
   unfolding group_record form_record

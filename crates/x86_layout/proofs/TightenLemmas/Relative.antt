@@ -3,13 +3,13 @@ use Rattle.std.proofs.Common.{◌≡◌, ℕ, ◌+◌, ◌≤◌, Bool, true, fa
 use Rattle.std.proofs.lemmas.Bool.Decides.{nat_tests}
 use Rattle.x86_fields.specs.declared.prefixes.Prefixes.{Prefixes}
 use Rattle.x86_fields.specs.declared.raw.Raw.{Raw}
-use Rattle.x86_fields.specs.ModRM.{reg_field, is_memory, as_register}
+use Rattle.x86_fields.specs.ModRM.{reg_field, is_memory}
 use Rattle.x86_fields.specs.Raw.{live_bit, has_b, has_x}
 use Rattle.x86_fields.specs.Run.{reading_of}
 use Rattle.x86_fields.specs.Linear.{raw_form, IsSameAddress}
 use Rattle.x86_forms.specs.Words.{rows_of, packed}
 use Rattle.x86_operands.specs.declared.plans.ModrmUse.{ModrmUse}
-use Rattle.x86_operands.specs.declared.plans.ModrmUse.TheVariants.{Absent, EitherForm, Registers}
+use Rattle.x86_operands.specs.declared.plans.ModrmUse.TheVariants.{EitherForm}
 use Rattle.x86_operands.specs.declared.reader.Reading.{Reading}
 use Rattle.x86_operands.specs.Plans.{RowRecord}
 use Rattle.x86_operands.specs.Pieces.{SpellsMemory, modrm_of, modrm_width}
@@ -29,14 +29,8 @@ use Rattle.x86_layout.proofs.TightenLemmas.Respell.{Rerowed, rerowed}
 
 -- ---- a memory form
 
-high_is_register : (m : ℕ) → is_memory (as_register m) ≡ true → false ≡ true
-high_is_register m h = grind (arith, nat_tests)
-
 pub uses_either_form : (u : ModrmUse) (modrm : List ℕ) → is_memory (modrm_of u modrm) ≡ true → u ≡ EitherForm
-uses_either_form Absent modrm h = absurd (let g : false ≡ true = h in cc)
-uses_either_form EitherForm modrm h = refl
-uses_either_form Registers [] h = absurd (let g : false ≡ true = h in cc)
-uses_either_form Registers (m ∷ rest) h = absurd (let g : false ≡ true = high_is_register m h in cc)
+uses_either_form u modrm h = grind (arith, nat_tests)
 
 one_byte : (u : ModrmUse) (modrm : List ℕ) → u ≡ EitherForm → length modrm ≡ modrm_width u → modrm ≡ modrm_of u modrm ∷ []
 one_byte u modrm e h = subst (λ k. modrm ≡ modrm_of k modrm ∷ []) (sym e) (alone modrm (h ∙ ap modrm_width e))
@@ -45,9 +39,6 @@ one_byte u modrm e h = subst (λ k. modrm ≡ modrm_of k modrm ∷ []) (sym e) (
     alone [] g = absurd (omega (arith, g))
     alone (m ∷ []) g = refl
     alone (m ∷ k ∷ rest) g = absurd (omega (arith, g))
-
-same_some : {x y : Raw} → Some x ≡ Some y → x ≡ y
-same_some e = cc
 
 -- what a memory form is
 module _ (strict : Bool) (s : List ℕ) (a : Reading) (v : Encoding strict s a) where
@@ -103,14 +94,8 @@ module _ (strict : Bool) (s : List ℕ) (a : Reading) (v : Encoding strict s a) 
   pub length_is : (raw : Raw) → v.asked.behind.pieces.memory ≡ Some raw → length s ≡ length v.run + (length (escape_bytes v.map) + (2 + (address_length raw + (length v.asked.behind.pieces.immediates + length v.asked.behind.pieces.suffix))))
   length_is raw read =
       let t = v.asked.behind.pieces in
-      let e1 = ap length v.spelled ∙ length-append v.run (escape_bytes v.map ++ v.opcode ∷ v.tail) in
-      let e2 = length-append (escape_bytes v.map) (v.opcode ∷ v.tail) in
-      let e3 = ap length v.asked.spelled ∙ length-append v.asked.modrm v.asked.tail in
-      let e4 = ap length (byte raw read) in
-      let e5 = ap length t.spelled ∙ length-append t.address (t.immediates ++ t.suffix) in
-      let e6 = length-append t.immediates t.suffix in
-      let e7 = address_long (Seen) (Byte) (Address) raw (spells raw read) in
-      omega (arith, e1, e2, e3, e4, e5, e6, e7)
+      let old = address_long (Seen) (Byte) (Address) raw (spells raw read) in
+      omega (arith, length-append {A = ℕ}, ap length v.spelled, ap length v.asked.spelled, ap length (byte raw read), ap length t.spelled, old)
 
 -- ---- the relative
 
@@ -204,34 +189,18 @@ module _ (strict : Bool) (s : List ℕ) (a : Reading) (v : Encoding strict s a) 
     }
 
     pub long : length t ≡ length v.run + (length (escape_bytes v.map) + (2 + (address_length (Other) + (length v.asked.behind.pieces.immediates + length v.asked.behind.pieces.suffix))))
-    long =
-        let imm = v.asked.behind.pieces.immediates in
-        let suffix = v.asked.behind.pieces.suffix in
-        let e1 = ap length spelled ∙ length-append (Run) (escape_bytes v.map ++ v.opcode ∷ ((Other).modrm ∷ (address_bytes (Other) ++ (imm ++ suffix)))) in
-        let e2 = length_stays (Other).rex_x (Other).rex_b v.run in
-        let e3 = length-append (escape_bytes v.map) (v.opcode ∷ ((Other).modrm ∷ (address_bytes (Other) ++ (imm ++ suffix)))) in
-        let e4 = length-append (address_bytes (Other)) (imm ++ suffix) in
-        let e5 = length-append imm suffix in
-        let e6 = address_bytes_long (Other) in
-        omega (arith, e1, e2, e3, e4, e5, e6)
+    long = omega (arith, length-append {A = ℕ}, ap length spelled, length_stays (Other).rex_x (Other).rex_b v.run, address_bytes_long (Other))
 
     least : is_ip_relative raw ≡ false → IsLeast strict s a v t
     least ip = λ u c is bytes rel.
         let w = is.whole in
         let to = rel.address.to in
-        let from : rel.address.from ≡ raw = same_some (sym rel.address.old ∙ read) in
+        let from : rel.address.from ≡ raw = cc (rel.address.old, read) in
         let same : IsSameAddress (raw_form to) (raw_form raw) = subst (λ r. IsSameAddress (raw_form to) (raw_form r)) from rel.address.same in
         let other = raw_of_bytes strict u is.reading w to rel.address.new (bytes_of u bytes) in
         let fewer = none_is_shorter raw to fit other ip same in
-        let e1 = long in
-        let e2 = length_is strict u is.reading w to rel.address.new in
-        let e3 = length_stays false false w.run in
-        let e4 = ap length rel.parts.prefixes in
-        let e5 = length_stays false false v.run in
-        let e6 = ap length rel.parts.escape in
-        let e7 = ap length rel.parts.immediate in
-        let e8 = ap length rel.parts.suffix in
-        omega (arith, fewer, e1, e2, e3, e4, e5, e6, e7, e8)
+        let new = length_is strict u is.reading w to rel.address.new in
+        omega (arith, fewer, long, new, length_stays false false w.run, ap length rel.parts.prefixes, length_stays false false v.run, ap length rel.parts.escape, ap length rel.parts.immediate, ap length rel.parts.suffix)
 
     pub shortest_relative : allows_lock a ≡ true → length s ≤ 15 → is_ip_relative raw ≡ false → IsShortest strict s a v t
     unfolding sentence

@@ -1,18 +1,15 @@
 -- The pieces of a row with other raw fields.
-use Rattle.std.proofs.Common.{◌≡◌, ℕ, ◌&&◌, ◌||◌, not, Bool, true, false, if◌then◌else◌, Option, Some, None, List, [], ◌∷◌, ◌++◌, ℤ, refl, sym, ap, subst, ◌∙◌}
+use Rattle.std.proofs.Common.{◌≡◌, ℕ, true, Option, Some, None, List, [], ◌∷◌, ◌++◌, ℤ, refl, sym, ap, subst, ◌∙◌, arith}
 use Rattle.x86_fields.specs.declared.prefixes.Prefixes.{Prefixes}
 use Rattle.x86_fields.specs.declared.raw.Raw.{Raw}
-use Rattle.x86_fields.specs.Raw.{is_zero}
 use Rattle.x86_fields.specs.Address.{base_of, index_of, scale_by}
 use Rattle.x86_fields.specs.Pieces.{SpellsRaw}
 use Rattle.x86_regs.specs.declared.RegSpec.{RegSpec}
-use Rattle.x86_opcodes.specs.Kinds.{is_among, lockable}
 use Rattle.x86_operands.specs.declared.operands.Slot.{Slot}
 use Rattle.x86_operands.specs.declared.operands.Operand.{Operand}
 use Rattle.x86_operands.specs.declared.plans.OperandEncoding.{OperandEncoding}
 use Rattle.x86_operands.specs.declared.plans.OperandEncoding.TheVariants.{E, Emm, M, U, Umm}
 use Rattle.x86_operands.specs.declared.plans.PrefixChange.{PrefixChange}
-use Rattle.x86_operands.specs.declared.plans.PrefixChange.TheVariants.{Keeps}
 use Rattle.x86_operands.specs.declared.plans.ModrmUse.TheVariants.{EitherForm}
 use Rattle.x86_operands.specs.declared.plans.Plan.{Plan}
 use Rattle.x86_operands.specs.declared.reader.Reading.{Reading}
@@ -26,15 +23,8 @@ use Rattle.x86_decode.specs.Grammar.{allows_lock}
 
 -- ---- the operands
 
-either : (t : Bool) (x y : Slot × Operand) → is_memory_slot x.0 ≡ true → is_memory_slot y.0 ≡ true → is_memory_slot (if t then x else y).0 ≡ true
-either true x y e f = e
-either false x y e f = f
-
 shape_by_memory : (b i : Option RegSpec) (s : ℕ) (d : ℤ) → is_memory_slot (shape_by b i s d).0 ≡ true
-shape_by_memory None None s d = refl
-shape_by_memory (Some b) None s d = either (is_zero d) _ _ refl refl
-shape_by_memory None (Some i) s d = either (is_zero d) _ _ refl refl
-shape_by_memory (Some b) (Some i) s d = either (is_zero d) _ _ refl refl
+shape_by_memory b i s d = grind arith
 
 is_shape : (raw : Raw) → is_memory_slot (shape raw).0 ≡ true
 unfolding shape
@@ -77,8 +67,7 @@ module _ (p q : Prefixes) (m n : ℕ) (raw other : Raw) where
     pub lock : allows_lock again ≡ allows_lock reading
 
   lock_of_change : (change : PrefixChange) → p.lock ≡ q.lock → (changed change q).lock ≡ (changed change p).lock
-  lock_of_change Keeps e = sym e
-  lock_of_change change e = sym e
+  lock_of_change change e = grind arith
 
   retailed : (plan : Plan) (tail address : List ℕ) (reading : Reading) (h : SpellsTail plan p m tail reading) → p.lock ≡ q.lock → h.pieces.memory ≡ Some raw → is_memory n ≡ true → SpellsRaw q n address other → Retailed plan n address h.pieces.immediates h.pieces.suffix reading
   retailed plan tail address reading h same read memory spells =
@@ -86,9 +75,7 @@ module _ (p q : Prefixes) (m n : ℕ) (raw other : Raw) where
       let encodings : SpellsOperands (list_of plan.encodings) p m (Some raw) s.immediates s.given = subst (λ x. SpellsOperands (list_of plan.encodings) p m x s.immediates s.given) read s.immediates_asked in
       let new = regiven (list_of plan.encodings) s.immediates s.given encodings in
       let again : Reading = reading_from plan q h.opcode (four_of new.pairs) in
-      let lock : allows_lock again ≡ allows_lock (reading_from plan p h.opcode (four_of s.given)) =
-      ap (λ t. not t || (is_among lockable h.opcode && is_memory_slot (pair_at new.pairs 0).0)) (lock_of_change plan.change same)
-      ∙ ap (λ t. not (changed plan.change p).lock || (is_among lockable h.opcode && t)) new.first in
+      let lock : allows_lock again ≡ allows_lock (reading_from plan p h.opcode (four_of s.given)) = cc (lock_of_change plan.change same, new.first) in
       record {
         again = again;
         tail = record {

@@ -11,11 +11,10 @@ use Rattle.x86_fields.specs.declared.raw.Raw.{Raw}
 use Rattle.x86_fields.specs.ModRM.{reg_field, scale_field, is_memory}
 use Rattle.x86_fields.specs.Raw.{live_bit, has_r}
 use Rattle.x86_fields.specs.Run.{reading_of}
-use Rattle.x86_fields.specs.Address.{extend, scale_by}
+use Rattle.x86_fields.specs.Address.{scale_by}
 use Rattle.x86_fields.specs.Sizes.{register_of}
 use Rattle.x86_fields.specs.Linear.{Linear, raw_form, value_at, IsSameAddress, IsReduced, IsRegFile, AgreeEverywhere}
 use Rattle.x86_forms.specs.declared.Map.{Map}
-use Rattle.x86_forms.specs.declared.Map.TheVariants.{One, Of, Of38, Of3a}
 use Rattle.x86_forms.specs.Words.{rows_of, packed}
 use Rattle.x86_operands.specs.declared.operands.Slot.{Slot}
 use Rattle.x86_operands.specs.declared.operands.Slot.TheVariants as slots
@@ -24,56 +23,52 @@ use Rattle.x86_operands.specs.declared.operands.Operand.TheVariants as operands
 use Rattle.x86_operands.specs.declared.plans.OperandEncoding.{OperandEncoding}
 use Rattle.x86_operands.specs.declared.plans.OperandEncoding.TheVariants.{G, Gmm, E, Emm, M, U, Umm}
 use Rattle.x86_operands.specs.declared.plans.PrefixChange.{PrefixChange}
-use Rattle.x86_operands.specs.declared.plans.PrefixChange.TheVariants.{Keeps}
 use Rattle.x86_operands.specs.declared.plans.Plan.{Plan}
 use Rattle.x86_operands.specs.declared.reader.Reading.{Reading}
 use Rattle.x86_operands.specs.Shape.{shape}
 use Rattle.x86_operands.specs.Linear.{operand_address}
 use Rattle.x86_operands.specs.Plans.{list_of, reg_number}
 use Rattle.x86_operands.specs.PlanSteps.{pair_at, four_of, changed, reading_from}
-use Rattle.x86_operands.specs.Pieces.{operand_gives, SpellsOperands, SpellsTail, opcode_by, first_or}
+use Rattle.x86_operands.specs.Pieces.{operand_gives, SpellsOperands, SpellsTail, first_or}
 use Rattle.x86_decode.specs.declared.instructions.Instruction.{Instruction}
 use Rattle.x86_decode.specs.Instruction.{instruction_of, operand_at}
-use Rattle.x86_decode.specs.Head.{escape_bytes, column_of, seen_by}
+use Rattle.x86_decode.specs.Head.{escape_bytes, column_of}
 use Rattle.x86_decode.specs.Grammar.{record_of, IsSentence}
 use Rattle.x86_decode.proofs.ByteLemmas.{bytes_of}
 use Rattle.x86_layout.specs.Parts.Split.{Encoding}
 use Rattle.x86_layout.specs.Tightening.Registers.{IsByteOption}
 use Rattle.x86_layout.specs.Tightening.Shortest.{IsOfBytes}
-use Rattle.x86_layout.specs.Tightening.Tighten.{bits_in, run_with, IsRelative}
+use Rattle.x86_layout.specs.Tightening.Tighten.{bits_in, IsRelative}
 use Rattle.x86_layout.specs.Tightening.Same.{cleared, placed_at, address_at, IsSameOrShape, unchanged, shapes, IsSameButInMemory}
 use Rattle.x86_layout.proofs.TightenLemmas.Rex.{seen_with, column_stays}
 use Rattle.x86_layout.proofs.TightenLemmas.PlanAlike.{same_plan}
 use Rattle.x86_layout.proofs.TightenLemmas.Relative.{Seen, Byte, spells, fields, byte, raw_short, raw_of_bytes}
-use Rattle.x86_layout.proofs.TightenLemmas.Tighten.{take_of, drop_of}
+use Rattle.x86_layout.proofs.PartLemmas.Part.{take_of, drop_of}
 
 -- ---- what clearing X and B leaves
 
 r_by : (rex : Option PrefixRex) → live_bit (λ r. r.r) (bits_in false false rex) ≡ live_bit (λ r. r.r) rex
-r_by None = refl
-r_by (Some r) = refl
+r_by rex = grind arith
 
 live_by : (rex : Option PrefixRex) → is_some (bits_in false false rex) ≡ is_some rex
-live_by None = refl
-live_by (Some r) = refl
+live_by rex = grind arith
 
 register_by : (c : RegisterClass) (p : Prefixes) (n : ℕ) → register_of c (cleared p) n ≡ register_of c p n
 register_by B p n = ap (λ t. if t && nat_le 4 n then (let r : RegSpec = record { num = n; class = RB } in r) else record { num = n; class = B }) (live_by p.rex)
 register_by c p n = refl
 
 mark_by : (change : PrefixChange) (p : Prefixes) → cleared (changed change p) ≡ changed change (cleared p)
-mark_by Keeps p = refl
-mark_by change p = refl
+mark_by change p = grind arith
 
 module _ (p q : Prefixes) (alike : cleared q ≡ cleared p) where
   same_r : has_r q ≡ has_r p
   same_r = sym (r_by q.rex) ∙ ap has_r alike ∙ r_by p.rex
 
   same_register : (c : RegisterClass) (n : ℕ) → register_of c q n ≡ register_of c p n
-  same_register c n = sym (register_by c q n) ∙ ap (λ x. register_of c x n) alike ∙ register_by c p n
+  same_register c n = cc (register_by c q n, alike, register_by c p n)
 
   same_mark : (change : PrefixChange) → cleared (changed change q) ≡ cleared (changed change p)
-  same_mark change = mark_by change q ∙ ap (changed change) alike ∙ sym (mark_by change p)
+  same_mark change = cc (mark_by change q, alike, mark_by change p)
 
 -- ---- the operands
 
@@ -97,11 +92,11 @@ module _ (from to : Raw) where
       each (suc k) = behind.each k
 
   alike_moved : (xs ys vs ws : List (Slot × Operand)) → vs ≡ xs → ws ≡ ys → AlikePairs xs ys → AlikePairs vs ws
-  alike_moved xs ys vs ws e f h = subst (λ l. AlikePairs l ws) (sym e) (subst (λ l. AlikePairs xs l) (sym f) h)
+  alike_moved xs ys vs ws e f h = rw (e, f) h
 
   module _ (p q : Prefixes) (m n : ℕ) (alike : cleared q ≡ cleared p) (register : reg_field n ≡ reg_field m) where
     same_number : reg_number n q ≡ reg_number m p
-    same_number = ap (λ t. extend t (reg_field n)) (same_r p q alike) ∙ ap (extend (has_r p)) register
+    same_number = cc (same_r p q alike, register)
 
     sign_alike : (s : OperandEncoding) (bytes : List ℕ) → IsSameOrShape from to (operand_gives s p m (Some from) bytes) (operand_gives s q n (Some to) bytes)
     sign_alike (G c) bytes = unchanged (ap (λ r. (slots.Reg, operands.Register r)) (same_register p q alike c (reg_number n q) ∙ ap (register_of c p) same_number))
@@ -121,7 +116,7 @@ module _ (from to : Raw) where
         let front : h.immediate ≡ g.immediate = take_of h.immediate h.tail g.immediate g.tail both long in
         let back : h.tail ≡ g.tail = drop_of h.immediate h.tail g.immediate g.tail both long in
         let first = subst (λ l. IsSameOrShape from to (operand_gives s p m (Some from) l) (operand_gives s q n (Some to) g.immediate)) (sym front) (sign_alike s g.immediate) in
-        let behind = pairs_alike rest g.tail h.others g.others (subst (λ l. SpellsOperands rest p m (Some from) l h.others) back h.behind) g.behind in
+        let behind = pairs_alike rest g.tail h.others g.others (rw back at h.behind) g.behind in
         alike_moved _ _ given others h.gives g.gives (one_more _ _ _ _ first behind)
 
   -- ---- the instruction
@@ -139,7 +134,7 @@ module _ (from to : Raw) where
   at_place true xs ys (suc (suc (suc (suc k)))) h = unchanged refl
 
   same_moved : (a b c d : Instruction) → c ≡ a → d ≡ b → IsSameButInMemory from to a b → IsSameButInMemory from to c d
-  same_moved a b c d e f h = subst (λ i. IsSameButInMemory from to i d) (sym e) (subst (λ i. IsSameButInMemory from to a i) (sym f) h)
+  same_moved a b c d e f h = rw (e, f) h
 
   module _ (address : IsSameAddress (raw_form to) (raw_form from)) (p q : Prefixes) (alike : cleared q ≡ cleared p) where
     built : (plan : Plan) (opcode k l : ℕ) (xs ys : List (Slot × Operand)) → AlikePairs xs ys → IsSameButInMemory from to (instruction_of (reading_from plan p opcode (four_of xs)) k) (instruction_of (reading_from plan q opcode (four_of ys)) l)
@@ -157,26 +152,18 @@ module _ (from to : Raw) where
       tails plan other tail end a b h g k l planned old new immediates suffix =
           let x = h.pieces in
           let y = g.pieces in
-          let spelled : SpellsOperands (list_of plan.encodings) p m (Some from) x.immediates x.given = subst (λ o. SpellsOperands (list_of plan.encodings) p m o x.immediates x.given) old x.immediates_asked in
-          let first : SpellsOperands (list_of other.encodings) q n (Some to) y.immediates y.given = subst (λ o. SpellsOperands (list_of other.encodings) q n o y.immediates y.given) new y.immediates_asked in
-          let second : SpellsOperands (list_of plan.encodings) q n (Some to) y.immediates y.given = subst (λ o. SpellsOperands (list_of o.encodings) q n (Some to) y.immediates y.given) planned first in
-          let third : SpellsOperands (list_of plan.encodings) q n (Some to) x.immediates y.given = subst (λ o. SpellsOperands (list_of plan.encodings) q n (Some to) o y.given) immediates second in
+          let spelled : SpellsOperands (list_of plan.encodings) p m (Some from) x.immediates x.given = rw old at x.immediates_asked in
+          let third : SpellsOperands (list_of plan.encodings) q n (Some to) x.immediates y.given = rw (planned, new, immediates) at y.immediates_asked in
           let pairs : AlikePairs x.given y.given = pairs_alike p q m n alike register (list_of plan.encodings) x.immediates x.given y.given spelled third in
-          let named : Some g.opcode ≡ Some h.opcode = sym g.named ∙ ap (λ o. opcode_by o.verdict o.opcode y.suffix) planned ∙ ap (opcode_by plan.verdict plan.opcode) suffix ∙ h.named in
+          let named : Some g.opcode ≡ Some h.opcode = cc (g.named, planned, suffix, h.named) in
           let opcode : g.opcode ≡ h.opcode = cc in
-          let gives : b ≡ reading_from plan q h.opcode (four_of y.given) = g.gives ∙ ap (λ o. reading_from o q g.opcode (four_of y.given)) planned ∙ ap (λ o. reading_from plan q o (four_of y.given)) opcode in
+          let gives : b ≡ reading_from plan q h.opcode (four_of y.given) = cc (g.gives, planned, opcode) in
           same_moved _ _ (instruction_of a k) (instruction_of b l) (ap (λ r. instruction_of r k) h.gives) (ap (λ r. instruction_of r l) gives) (built plan h.opcode k l x.given y.given pairs)
 
 -- ---- the encodings
 
 one_map : (f g : Map) → escape_bytes f ≡ escape_bytes g → f ≡ g
-one_map One One e = refl
-one_map Of Of e = refl
-one_map Of38 Of38 e = refl
-one_map Of3a Of3a e = refl
-one_map Of38 Of3a e = absurd (let k : 0x38 ≡ 0x3a = ap (λ l. slice_index_or l 1 0) e in omega (arith, k))
-one_map Of3a Of38 e = absurd (let k : 0x3a ≡ 0x38 = ap (λ l. slice_index_or l 1 0) e in omega (arith, k))
-one_map f g e = absurd (omega (arith, ap length e))
+one_map f g e = grind arith
 
 module _ (strict : Bool) (s : List ℕ) (a : Reading) (v : Encoding strict s a) (t : List ℕ) (b : Reading) (w : Encoding strict t b) (rel : IsRelative strict s a v t b w) where
   abbrev From : Raw
@@ -207,18 +194,13 @@ module _ (strict : Bool) (s : List ℕ) (a : Reading) (v : Encoding strict s a) 
   map_is = one_map w.map v.map rel.parts.escape
 
   column_is : column_of (reading_of w.run) ≡ column_of (reading_of v.run)
-  column_is = sym (column_stays false false w.run) ∙ ap (λ l. column_of (reading_of l)) rel.parts.prefixes ∙ column_stays false false v.run
+  column_is = cc (column_stays false false w.run, rel.parts.prefixes, column_stays false false v.run)
 
   row_is : w.row ≡ v.row
   row_is = cc (w.has_row, v.has_row, column_is, map_is, rel.parts.opcode)
 
   seen_is : cleared New ≡ cleared Old
-  seen_is =
-      sym (seen_with w.map w.opcode false false w.run)
-      ∙ ap (λ l. seen_by w.map w.opcode (reading_of l)) rel.parts.prefixes
-      ∙ ap (λ f. seen_by f w.opcode (reading_of (run_with false false v.run))) map_is
-      ∙ ap (λ o. seen_by v.map o (reading_of (run_with false false v.run))) rel.parts.opcode
-      ∙ seen_with v.map v.opcode false false v.run
+  seen_is = cc (seen_with w.map w.opcode false false w.run, rel.parts.prefixes, map_is, rel.parts.opcode, seen_with v.map v.opcode false false v.run)
 
   register_is : reg_field NewByte ≡ reg_field OldByte
   register_is = ap (first_or 0) (
@@ -228,10 +210,9 @@ module _ (strict : Bool) (s : List ℕ) (a : Reading) (v : Encoding strict s a) 
 
   plan_is : (record_of strict w.row New).plan NewByte ≡ (record_of strict v.row Old).plan OldByte
   plan_is =
-      sym (same_plan strict w.row New false false NewByte NewByte new_memory new_memory refl (fields strict t b w To rel.address.new))
-      ∙ ap (λ r. (record_of strict r (cleared New)).plan NewByte) row_is
-      ∙ ap (λ p. (record_of strict v.row p).plan NewByte) seen_is
-      ∙ same_plan strict v.row Old false false OldByte NewByte old_memory new_memory register_is (fields strict s a v From rel.address.old)
+      let new = same_plan strict w.row New false false NewByte NewByte new_memory new_memory refl (fields strict t b w To rel.address.new) in
+      let old = same_plan strict v.row Old false false OldByte NewByte old_memory new_memory register_is (fields strict s a v From rel.address.old) in
+      cc (new, row_is, seen_is, old)
 
   same_instruction : (k l : ℕ) → IsSameButInMemory From To (instruction_of a k) (instruction_of b l)
   same_instruction k l = tails From To rel.address.same Old New seen_is OldByte NewByte register_is _ _ v.asked.tail w.asked.tail a b v.asked.behind w.asked.behind k l plan_is rel.address.old rel.address.new rel.parts.immediate rel.parts.suffix
@@ -263,8 +244,7 @@ scale_small None h = omega arith
 scale_small (Some sib) h = power (scale_field sib) (omega (arith, h))
 
 mark_67 : (change : PrefixChange) (p : Prefixes) → (changed change p).address_size ≡ p.address_size
-mark_67 Keeps p = refl
-mark_67 change p = refl
+mark_67 change p = grind arith
 
 -- 67 of the raw fields is that of the instruction
 same_67 : (strict : Bool) (s : List ℕ) (a : Instruction) (is : IsSentence (rows_of packed) strict s a) (raw : Raw) → is.whole.asked.behind.pieces.memory ≡ Some raw → a.prefixes.address_size ≡ raw.address_size

@@ -82,7 +82,7 @@ fn push_run(encoding: &mut ArrayVec<u8, 15>, run: &[u8], x: bool, b: bool)
 }
 
 /// Appends the displacement of raw fields.
-fn push_spelled_displacement(encoding: &mut ArrayVec<u8, 15>, raw: &Raw)
+fn push_displacement(encoding: &mut ArrayVec<u8, 15>, raw: &Raw)
     requires { array_vec_len encoding.old + displacement_width raw.now.modrm raw.now.sib ≤ 15 }
     ensures text { encoding.new.items ≡ encoding.old.items ++ spelled_displacement raw.now }
     ensures len { array_vec_len encoding.new
@@ -103,7 +103,7 @@ pub fn respelled(parts: &Parts, raw: &Raw) -> ArrayVec<u8, 15>
     push(&mut encoding, parts.opcode);
     encoding.push(raw.modrm);
     push_byte(&mut encoding, raw.sib);
-    push_spelled_displacement(&mut encoding, raw);
+    push_displacement(&mut encoding, raw);
     push(&mut encoding, parts.immediate);
     push(&mut encoding, parts.suffix);
     encoding

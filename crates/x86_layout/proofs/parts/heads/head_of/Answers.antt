@@ -1,4 +1,4 @@
-use Rattle.std.proofs.Common.{◌≡◌, ℕ, Bool, List, [], ◌∷◌, ◌++◌, length, slice_index, Some, IfSome, refl, ap, subst, ◌∙◌}
+use Rattle.std.proofs.Common.{◌≡◌, ℕ, Bool, List, [], ◌∷◌, ◌++◌, length, slice_index, Some, IfSome, refl, ap, ◌∙◌}
 use Rattle.std.specs.List.{prefix_len}
 use Rattle.x86_fields.specs.declared.prefixes.Prefixes.{Prefixes}
 use Rattle.x86_fields.specs.Run.{is_prefix, reading_of}
@@ -9,7 +9,6 @@ use Rattle.x86_operands.specs.declared.asks.Ask.{Ask}
 use Rattle.x86_operands.specs.Asks.{ask_of}
 use Rattle.x86_decode.specs.Head.{column_of, escape_bytes, seen_by}
 use Rattle.x86_decode.specs.Grammar.{record_of}
-use Rattle.x86_layout.specs.Parts.Heads.{map_of}
 use Rattle.x86_layout.proofs.PartLemmas.Part.{front_is, rest_is, run_length_is, map_is, enters}
 use Rattle.x86_layout.proofs.parts.heads.head_of.Goals as goal
 
@@ -18,11 +17,7 @@ Tells strict ask map p opcode m = IfSome (rows_of packed map (column_of p) opcod
 
 tells : (strict : Bool) (ask : Ask) (map map' : Map) (p p' : Prefixes) (opcode opcode' m m' : ℕ) (row : TableRow) → map ≡ map' → p ≡ p' → opcode ≡ opcode' → m ≡ m' → rows_of packed map' (column_of p') opcode' ≡ Some row → Tells strict ask map p opcode m → ask ≡ ask_of (record_of strict row (seen_by map' opcode' p')) m'
 tells strict ask map map' p p' opcode opcode' m m' row e f g h has t =
-    subst (λ o. IfSome o (λ row. ask ≡ ask_of (record_of strict row (seen_by map' opcode' p')) m')) has
-    (subst (λ x. Tells strict ask map' p' opcode' x) h
-    (subst (λ x. Tells strict ask map' p' x m) g
-    (subst (λ x. Tells strict ask map' x opcode m) f
-    (subst (λ x. Tells strict ask x p opcode m) e t))))
+    rw (e, f, g, h, has) at t
 
 pub returns : goal.returns
 returns c = λ strict reading w.
@@ -34,8 +29,7 @@ returns c = λ strict reading w.
     let prefixes = c.run_of.ensures.front ∙ front_is s w.run behind _ w.spelled run_n in
     let rest = c.run_of.ensures.behind ∙ rest_is s w.run behind _ w.spelled run_n in
     let map : c.map_of-map.result ≡ w.map =
-    c.map_of-map.ensures ∙ ap (λ b. map_of b c.byte_at-2.result) c.byte_at.ensures ∙ ap (map_of (slice_index c.run_of.result.1.now 0)) c.byte_at-2.ensures
-    ∙ ap (λ l. map_of (slice_index l 0) (slice_index l 1)) rest ∙ map_is w.map w.opcode w.tail w.meant in
+    let is = map_is w.map w.opcode w.tail w.meant in cc (c.map_of-map.ensures, c.byte_at.ensures, c.byte_at-2.ensures, rest, is) in
     let escape_n : c.escape_length.result ≡ length (escape_bytes w.map) = c.escape_length.ensures ∙ ap (λ m. length (escape_bytes m)) map in
     let escape = c.front_and_rest.ensures.front ∙ front_is _ (escape_bytes w.map) (w.opcode ∷ w.tail) _ rest escape_n in
     let rest' = c.front_and_rest.ensures.behind ∙ rest_is _ (escape_bytes w.map) (w.opcode ∷ w.tail) _ rest escape_n in

@@ -1,4 +1,4 @@
-use Rattle.std.proofs.Common.{◌+◌, ◌-◌, length, arith, ap, sym, ◌∙◌}
+use Rattle.std.proofs.Common.{◌-◌, arith, ap, sym, ◌∙◌}
 use Rattle.x86_layout.specs.Tightening.Shortest.{address_length}
 use Rattle.x86_layout.proofs.TightenLemmas.Least.{least_of_raw}
 use Rattle.x86_layout.proofs.TightenLemmas.Relative.{length_is}
@@ -20,7 +20,7 @@ returns-in-Ok c = λ strict a is.
     let h = c.in-Ok.ensures.raw strict a is in
     let old = c.address_length.ensures.value in
     let new = c.address_length-in-Ok.ensures.value ∙ ap address_length c.shortest.ensures in
-    ap (λ n. (length s - n) + c.address_length-in-Ok.result) old ∙ ap (λ n. (length s - address_length raw) + n) new ∙ sym (least_of_raw strict s is.reading is.whole raw h.read h.form)
+    cc (old, new, least_of_raw strict s is.reading is.whole raw h.read h.form)
 
 pub returns-in-Err : goal.returns-in-Err
 returns-in-Err c = λ strict a is. sym (c.in-Err.ensures.least strict a is)
