@@ -41,6 +41,9 @@ unless_all run a b c d = unless run error.Prefixes (unless a error.Row (unless b
 none_fails : (run a b c d : Bool) → unless_all run a b c d ≡ None → (run ≡ true) × (a ≡ true) × (b ≡ true) × (c ≡ true) × (d ≡ true)
 none_fails run a b c d h = (grind arith, grind arith, grind arith, grind arith, grind arith)
 
+no_row : (run : Bool) → unless run error.Prefixes (Some error.Row) ≡ None → ⊥
+no_row run h = grind arith
+
 all_hold : (run a b c d : Bool) → run ≡ true → a ≡ true → b ≡ true → c ≡ true → d ≡ true → unless_all run a b c d ≡ None
 all_hold run a b c d r e f g h = cc
 
@@ -53,9 +56,6 @@ record Holds (strict : Bool) (f : fields.Fields) (e : Entry) : Type 0 where
 
 holds : (strict : Bool) (f : fields.Fields) (o : Option Entry) → unless (has_legal_run f) error.Prefixes (failing_at strict o f) ≡ None → (e : Entry) × (o ≡ Some e) × Holds strict f e
 holds strict f None h = absurd (no_row (has_legal_run f) h)
-  where
-    no_row : (t : Bool) → unless t error.Prefixes (Some error.Row) ≡ None → ⊥
-    no_row t h = grind arith
 holds strict f (Some e) h =
     let all = none_fails (has_legal_run f) (passes_record (record_by strict e f) f) (has_asked_parts (record_by strict e f) f) (has_lawful_lock strict e f) (is_short f) h in
     (e, refl, record { legal = all.0; record_passes = all.1; parts = all.2; lock = all.3; short = all.4 })
@@ -70,16 +70,16 @@ record Names (f : fields.Fields) (e : Entry) : Type 0 where
   pub has_row : rows_of packed map (column_of (reading_of f.prefixes.items)) f.opcode ≡ Some row
   pub is : e ≡ record { row = row; prefixes = seen_by map f.opcode (reading_of f.prefixes.items) }
 
+one_byte : (a : ℕ) (map : Map) → map_named (a ∷ []) ≡ Some map → a ∷ [] ≡ escape_bytes map
+one_byte a map h = grind (arith, nat_tests)
+
+two_bytes : (a b : ℕ) (map : Map) → map_named (a ∷ b ∷ []) ≡ Some map → a ∷ b ∷ [] ≡ escape_bytes map
+two_bytes a b map h = grind (arith, nat_tests)
+
 escape_is : (l : List ℕ) (map : Map) → map_named l ≡ Some map → l ≡ escape_bytes map
 escape_is [] map h = cc
 escape_is (a ∷ []) map h = one_byte a map h
-  where
-    one_byte : (a : ℕ) (map : Map) → map_named (a ∷ []) ≡ Some map → a ∷ [] ≡ escape_bytes map
-    one_byte a map h = grind (arith, nat_tests)
 escape_is (a ∷ b ∷ []) map h = two_bytes a b map h
-  where
-    two_bytes : (a b : ℕ) (map : Map) → map_named (a ∷ b ∷ []) ≡ Some map → a ∷ b ∷ [] ≡ escape_bytes map
-    two_bytes a b map h = grind (arith, nat_tests)
 escape_is (a ∷ b ∷ c ∷ rest) map h = absurd cc
 
 row_is : (t : Bool) (o : Option TableRow) (q : Prefixes) (e : Entry) → (if t then entry_by o q else None) ≡ Some e → (row : TableRow) × (t ≡ true) × (o ≡ Some row) × (e ≡ record { row = row; prefixes = q })
@@ -87,14 +87,11 @@ row_is true (Some row) q e h = (row, refl, refl, cc)
 row_is true None q e h = absurd cc
 row_is false o q e h = absurd cc
 
-names_by : (f : fields.Fields) (e : Entry) (o : Option Map) → map_named f.escape.items ≡ o → entry_at o (reading_of f.prefixes.items) f.opcode ≡ Some e → Names f e
-names_by f e None k h = absurd cc
-names_by f e (Some map) k h =
+names : (f : fields.Fields) (e : Entry) (o : Option Map) → map_named f.escape.items ≡ o → entry_at o (reading_of f.prefixes.items) f.opcode ≡ Some e → Names f e
+names f e None k h = absurd cc
+names f e (Some map) k h =
     let x = row_is (is_opcode map f.opcode) _ _ e h in
     record { map = map; row = x.0; escape = escape_is f.escape.items map k; meant = x.1; has_row = x.2; is = x.3 }
-
-names : (f : fields.Fields) (e : Entry) → entry_of f ≡ Some e → Names f e
-names f e h = names_by f e (map_named f.escape.items) refl h
 
 -- ---- permitted fields spell a sentence
 
@@ -139,7 +136,7 @@ emitted : (strict : Bool) (f : fields.Fields) → IsPermitted strict f → ArePa
 unfolding first_failing
 emitted strict f h =
     let x = holds strict f (entry_of f) h in
-    let n = names f x.0 x.1 in
+    let n = names f x.0 (map_named f.escape.items) refl x.1 in
     emitted_by strict f x.0 n (subst (Holds strict f) n.is x.2)
 
 abbrev pub Only : Bool → Type 0
