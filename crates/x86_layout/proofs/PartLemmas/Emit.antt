@@ -149,7 +149,7 @@ split_again strict f rest only h =
     let s : List ℕ = joined (lists_in f) in
     let is = x.sentence in
     let accepted : IsAccepted (rows_of packed) strict (s ++ rest) x.answer (length s) = record { sentence = s; rest = rest; begins = refl; long = refl; is = is } in
-    (x.answer, sym (only (s ++ rest) (Ok x.answer) (length s) accepted).0, parts_once strict s is.reading is.whole (parts_of strict (s ++ rest)) (lists_in f) (parts_are strict s rest is.reading is.whole) x.parts)
+    (x.answer, sym (only (s ++ rest) (Ok x.answer) (length s) accepted).0, parts_once strict s is.reading is.whole (parts_of strict (s ++ rest)) (lists_in f) (parts_are strict (s ++ rest) s rest is.reading is.whole refl) x.parts)
 
 -- ---- the parts of an accepted encoding are permitted
 
@@ -202,7 +202,7 @@ emitted_again strict bytes i f a counted e =
     let x = a.is in
     let s = a.sentence in
     let h : HasParts strict s x.reading x.whole (lists_in f) =
-    subst (HasParts strict s x.reading x.whole) (sym (e ∙ ap (parts_of strict) a.begins)) (parts_are strict s a.rest x.reading x.whole) in
+    subst (HasParts strict s x.reading x.whole) (sym e) (parts_are strict bytes s a.rest x.reading x.whole a.begins) in
     (permitted strict s x.reading x.whole f h x.lock x.short, joined_is strict s x.reading x.whole (lists_in f) h ∙ sym (front_is bytes s a.rest i.length a.begins (counted ∙ sym a.long)))
 
 -- Fields are permitted exactly where they are the parts of a sentence.
@@ -213,6 +213,5 @@ permitted_are_parts strict f = (emitted strict f, λ k. permitted strict (joined
 pub parts_fit : (strict : Bool) (bytes : List ℕ) (i : Instruction) → IsAccepted (rows_of packed) strict bytes i (count_of strict bytes) → HasFieldLengths (parts_of strict bytes)
 parts_fit strict bytes i a =
     let x = a.is in
-    let h : HasParts strict a.sentence x.reading x.whole (parts_of strict bytes) =
-    subst (HasParts strict a.sentence x.reading x.whole) (sym (ap (parts_of strict) a.begins)) (parts_are strict a.sentence a.rest x.reading x.whole) in
+    let h = parts_are strict bytes a.sentence a.rest x.reading x.whole a.begins in
     lengths_of strict a.sentence x.reading x.whole (parts_of strict bytes) h x.short

@@ -111,20 +111,20 @@ module _ (r : RowRecord) (p : Prefixes) (tail : List ℕ) (reading : Reading) (a
 
 -- ---- the whole encoding
 
--- What stands up to the opcode byte and behind it, and what the row asks.
-pub record HasHead (strict : Bool) (s rest : List ℕ) (reading : Reading) (w : Encoding strict s reading) : Type 0 where
-  pub prefixes : run_in (s ++ rest) ≡ w.run
-  pub map : map_in (s ++ rest) ≡ w.map
-  pub opcode : opcode_in (s ++ rest) ≡ w.opcode ∷ []
-  pub tail : tail_in (s ++ rest) ≡ w.tail ++ rest
-  pub ask : ask_in (s ++ rest) strict ≡ ask_of (record_in strict s reading w) (slice_index (tail_in (s ++ rest)) 0)
+-- What is up to the opcode byte and after it, and what the row asks.
+pub record HasHead (strict : Bool) (bytes s rest : List ℕ) (reading : Reading) (w : Encoding strict s reading) : Type 0 where
+  pub prefixes : run_in bytes ≡ w.run
+  pub behind : behind_run bytes ≡ escape_bytes w.map ++ w.opcode ∷ (w.tail ++ rest)
+  pub map : map_in bytes ≡ w.map
+  pub opcode : opcode_in bytes ≡ w.opcode ∷ []
+  pub tail : tail_in bytes ≡ w.tail ++ rest
+  pub ask : ask_in bytes strict ≡ ask_of (record_in strict s reading w) (slice_index (tail_in bytes) 0)
 
-pub has_head : (strict : Bool) (s rest : List ℕ) (reading : Reading) (w : Encoding strict s reading) → HasHead strict s rest reading w
-has_head strict s rest reading w =
-    let bytes : List ℕ = s ++ rest in
+pub has_head : (strict : Bool) (bytes s rest : List ℕ) (reading : Reading) (w : Encoding strict s reading) → bytes ≡ s ++ rest → HasHead strict bytes s rest reading w
+has_head strict bytes s rest reading w begins =
     let tail' : List ℕ = w.tail ++ rest in
     let behind : List ℕ = escape_bytes w.map ++ w.opcode ∷ tail' in
-    let spelled : bytes ≡ w.run ++ behind = ap (λ l. l ++ rest) w.spelled ∙ simp append_assoc in
+    let spelled : bytes ≡ w.run ++ behind = begins ∙ ap (λ l. l ++ rest) w.spelled ∙ simp append_assoc in
     let in' = enters w.map w.opcode tail' w.meant in
     let run_n : prefix_len is_prefix bytes ≡ length w.run =
     ap (prefix_len is_prefix) (spelled ∙ ap (λ l. w.run ++ l) in'.spelled) ∙ run_length_is w.run in'.first in'.rest w.prefixes in'.plain in
@@ -136,6 +136,7 @@ has_head strict s rest reading w =
     let first : ℕ = slice_index (tail_in bytes) 0 in
     record {
       prefixes = prefixes;
+      behind = run_rest;
       map = map;
       opcode = opcode;
       tail = rest_is _ (w.opcode ∷ []) tail' 1 escape_rest refl;
@@ -147,11 +148,10 @@ has_head strict s rest reading w =
     }
 
 -- The parts of bytes that begin with a whole encoding are its pieces.
-pub parts_are : (strict : Bool) (s rest : List ℕ) (reading : Reading) (w : Encoding strict s reading) → HasParts strict s reading w (parts_of strict (s ++ rest))
+pub parts_are : (strict : Bool) (bytes s rest : List ℕ) (reading : Reading) (w : Encoding strict s reading) → bytes ≡ s ++ rest → HasParts strict s reading w (parts_of strict bytes)
 unfolding parts_of
-parts_are strict s rest reading w =
-    let h = has_head strict s rest reading w in
-    let bytes : List ℕ = s ++ rest in
+parts_are strict bytes s rest reading w begins =
+    let h = has_head strict bytes s rest reading w begins in
     let t = has_tail (record_in strict s reading w) (seen_by w.map w.opcode (reading_of w.run)) w.tail reading w.asked (tail_in bytes) rest h.tail (ask_in bytes strict) h.ask in
     let escape = ap escape_bytes h.map in
     assumption (h, t, escape)

@@ -1,5 +1,5 @@
 -- The length of a shortest relative, by the pieces of an encoding.
-use Rattle.std.proofs.Common.{◌≡◌, ℕ, ◌+◌, ◌-◌, ◌&&◌, not, Bool, true, false, if◌then◌else◌, Some, List, [], length, take, slice_index, Ok, refl, sym, ap, subst, ◌∙◌, arith, append-nil}
+use Rattle.std.proofs.Common.{◌≡◌, ℕ, ◌+◌, ◌-◌, ◌&&◌, not, Bool, true, false, if◌then◌else◌, Some, List, [], length, take, slice_index, Ok, refl, sym, ap, ◌∙◌, arith, append-nil}
 use Rattle.x86_fields.specs.declared.raw.Raw.{Raw}
 use Rattle.x86_operands.specs.declared.reader.Reading.{Reading}
 use Rattle.x86_fields.specs.ModRM.{is_memory}
@@ -21,15 +21,13 @@ module _ (strict : Bool) (s : List ℕ) (a : Reading) (v : Encoding strict s a) 
   reads : (ask_in s strict).memory ≡ is_memory (Byte strict s a v)
   unfolding ask_of
   reads =
-      let h = has_head strict s [] a v in
-      let tail = h.tail ∙ append-nil v.tail in
-      ap (λ l. (ask_in l strict).memory) (sym (append-nil s))
-      ∙ ap (λ k. k.memory) h.ask
-      ∙ ap (λ l. (ask_of (Row strict s a v) (slice_index l 0)).memory) tail
+      let h = has_head strict s s [] a v (sym (append-nil s)) in
+      ap (λ k. k.memory) h.ask
+      ∙ ap (λ l. (ask_of (Row strict s a v) (slice_index l 0)).memory) (h.tail ∙ append-nil v.tail)
       ∙ ap is_memory (sym (used_is (Row strict s a v).modrm v.asked.modrm v.asked.tail v.tail v.asked.spelled v.asked.modrm_asked))
 
   has_parts : HasParts strict s a v (parts_of strict s)
-  has_parts = subst (λ l. HasParts strict s a v (parts_of strict l)) (append-nil s) (parts_are strict s [] a v)
+  has_parts = parts_are strict s s [] a v (sym (append-nil s))
 
   least_is : (memory : Bool) (raw : Raw) → is_memory (Byte strict s a v) ≡ memory → raw_of (parts_of strict s) ≡ raw → least_length strict s ≡ least_by memory raw (length s)
   unfolding least_length

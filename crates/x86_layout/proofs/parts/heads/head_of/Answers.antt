@@ -1,7 +1,6 @@
-use Rattle.std.proofs.Common.{◌≡◌, ℕ, Bool, List, [], ◌∷◌, ◌++◌, length, slice_index, Some, IfSome, refl, ap, ◌∙◌}
-use Rattle.std.specs.List.{prefix_len}
+use Rattle.std.proofs.Common.{◌≡◌, ℕ, Bool, [], ◌∷◌, ◌++◌, length, slice_index, Some, IfSome, refl, ap, ◌∙◌, sym, append-nil}
 use Rattle.x86_fields.specs.declared.prefixes.Prefixes.{Prefixes}
-use Rattle.x86_fields.specs.Run.{is_prefix, reading_of}
+use Rattle.x86_fields.specs.Run.{reading_of}
 use Rattle.x86_forms.specs.declared.Map.{Map}
 use Rattle.x86_forms.specs.declared.TableRow.{TableRow}
 use Rattle.x86_forms.specs.Words.{rows_of, packed}
@@ -9,7 +8,8 @@ use Rattle.x86_operands.specs.declared.asks.Ask.{Ask}
 use Rattle.x86_operands.specs.Asks.{ask_of}
 use Rattle.x86_decode.specs.Head.{column_of, escape_bytes, seen_by}
 use Rattle.x86_decode.specs.Grammar.{record_of}
-use Rattle.x86_layout.proofs.PartLemmas.Part.{front_is, rest_is, run_length_is, map_is, enters}
+use Rattle.x86_layout.proofs.PartLemmas.Part.{front_is, rest_is}
+use Rattle.x86_layout.proofs.PartLemmas.Front.{has_head}
 use Rattle.x86_layout.proofs.parts.heads.head_of.Goals as goal
 
 abbrev Tells : Bool → Ask → Map → Prefixes → ℕ → ℕ → Type 0
@@ -22,19 +22,15 @@ tells strict ask map map' p p' opcode opcode' m m' row e f g h has t =
 pub returns : goal.returns
 returns c = λ strict reading w.
     let s = c.args.encoding.now in
-    let behind : List ℕ = escape_bytes w.map ++ w.opcode ∷ w.tail in
-    let in' = enters w.map w.opcode w.tail w.meant in
-    let run_n : prefix_len is_prefix s ≡ length w.run =
-    ap (prefix_len is_prefix) (w.spelled ∙ ap (λ l. w.run ++ l) in'.spelled) ∙ run_length_is w.run in'.first in'.rest w.prefixes in'.plain in
-    let prefixes = c.run_of.ensures.front ∙ front_is s w.run behind _ w.spelled run_n in
-    let rest = c.run_of.ensures.behind ∙ rest_is s w.run behind _ w.spelled run_n in
-    let map : c.map_of-map.result ≡ w.map =
-    let is = map_is w.map w.opcode w.tail w.meant in cc (c.map_of-map.ensures, c.byte_at.ensures, c.byte_at-2.ensures, rest, is) in
+    let h = has_head strict s s [] reading w (sym (append-nil s)) in
+    let prefixes = c.run_of.ensures.front ∙ h.prefixes in
+    let rest = c.run_of.ensures.behind ∙ h.behind in
+    let map : c.map_of-map.result ≡ w.map = cc (c.map_of-map.ensures, c.byte_at.ensures, c.byte_at-2.ensures, c.run_of.ensures.behind, h.map) in
     let escape_n : c.escape_length.result ≡ length (escape_bytes w.map) = c.escape_length.ensures ∙ ap (λ m. length (escape_bytes m)) map in
-    let escape = c.front_and_rest.ensures.front ∙ front_is _ (escape_bytes w.map) (w.opcode ∷ w.tail) _ rest escape_n in
-    let rest' = c.front_and_rest.ensures.behind ∙ rest_is _ (escape_bytes w.map) (w.opcode ∷ w.tail) _ rest escape_n in
-    let opcode = c.front_and_rest-2.ensures.front ∙ front_is _ (w.opcode ∷ []) w.tail 1 rest' refl in
-    let tail = c.front_and_rest-2.ensures.behind ∙ rest_is _ (w.opcode ∷ []) w.tail 1 rest' refl in
+    let escape = c.front_and_rest.ensures.front ∙ front_is _ (escape_bytes w.map) (w.opcode ∷ (w.tail ++ [])) _ rest escape_n in
+    let rest' = c.front_and_rest.ensures.behind ∙ rest_is _ (escape_bytes w.map) (w.opcode ∷ (w.tail ++ [])) _ rest escape_n in
+    let opcode = c.front_and_rest-2.ensures.front ∙ front_is _ (w.opcode ∷ []) (w.tail ++ []) 1 rest' refl in
+    let tail = c.front_and_rest-2.ensures.behind ∙ rest_is _ (w.opcode ∷ []) (w.tail ++ []) 1 rest' refl ∙ append-nil w.tail in
     let p : c.reading_of.result ≡ reading_of w.run = c.reading_of.ensures ∙ ap reading_of prefixes in
     let o : c.byte_at-3.result ≡ w.opcode = c.byte_at-3.ensures ∙ ap (λ l. slice_index l 0) opcode in
     let m : c.byte_at-4.result ≡ slice_index w.tail 0 = c.byte_at-4.ensures ∙ ap (λ l. slice_index l 0) tail in

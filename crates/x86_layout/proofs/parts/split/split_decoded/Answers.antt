@@ -1,4 +1,4 @@
-use Rattle.std.proofs.Common.{◌≤◌, arith, length, sym, ap, subst, ◌∙◌}
+use Rattle.std.proofs.Common.{◌≤◌, arith, length, ap, ◌∙◌}
 use Rattle.x86_fields.specs.Run.{reading_of}
 use Rattle.x86_decode.specs.Head.{seen_by}
 use Rattle.x86_layout.specs.Parts.Split.{lists_of, record_in, HasParts}
@@ -41,7 +41,7 @@ returns-clause-value c =
     let strict = c.args.decoder.now.strict in
     let x = returns-clause-pieces c in
     parts_once strict x.encoding x.reading x.whole (lists_of c.parts_behind.result) (parts_of strict c.args.bytes.now) x.parts
-    (subst (λ l. HasParts strict x.encoding x.reading x.whole (parts_of strict l)) (sym x.begins) (parts_are strict x.encoding x.rest x.reading x.whole))
+    (parts_are strict c.args.bytes.now x.encoding x.rest x.reading x.whole x.begins)
 
 pub returns-clause-lengths : goal.returns-clause-lengths
 returns-clause-lengths c =
