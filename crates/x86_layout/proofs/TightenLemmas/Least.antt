@@ -17,31 +17,31 @@ use Rattle.x86_layout.proofs.PartLemmas.Part.{used_is}
 use Rattle.x86_layout.proofs.TightenLemmas.Relative.{Row, Byte, Bytes', spells, length_is, long}
 use Rattle.x86_layout.proofs.TightenLemmas.Tighten.{raw_is}
 
-module _ (strict : Bool) (s : List ℕ) (a : Reading) (v : Encoding strict s a) where
-  reads : (ask_in s strict).memory ≡ is_memory (Byte strict s a v)
+module _ {strict : Bool} {s : List ℕ} {a : Reading} (v : Encoding strict s a) where
+  reads : (ask_in s strict).memory ≡ is_memory (Byte v)
   unfolding ask_of
   reads =
       let h = has_head strict s s [] a v (sym (append-nil s)) in
       ap (λ k. k.memory) h.ask
-      ∙ ap (λ l. (ask_of (Row strict s a v) (slice_index l 0)).memory) (h.tail ∙ append-nil v.tail)
-      ∙ ap is_memory (sym (used_is (Row strict s a v).modrm v.asked.modrm v.asked.tail v.tail v.asked.spelled v.asked.modrm_asked))
+      ∙ ap (λ l. (ask_of (Row v) (slice_index l 0)).memory) (h.tail ∙ append-nil v.tail)
+      ∙ ap is_memory (sym (used_is (Row v).modrm v.asked.modrm v.asked.tail v.tail v.asked.spelled v.asked.modrm_asked))
 
   has_parts : HasParts strict s a v (parts_of strict s)
   has_parts = parts_are strict s s [] a v (sym (append-nil s))
 
-  least_is : (memory : Bool) (raw : Raw) → is_memory (Byte strict s a v) ≡ memory → raw_of (parts_of strict s) ≡ raw → least_length strict s ≡ least_by memory raw (length s)
+  least_is : (memory : Bool) (raw : Raw) → is_memory (Byte v) ≡ memory → raw_of (parts_of strict s) ≡ raw → least_length strict s ≡ least_by memory raw (length s)
   unfolding least_length
   least_is memory raw e f =
       ap (λ t. least_by t (raw_of (parts_of strict s)) (length s)) (reads ∙ e)
       ∙ ap (λ r. least_by memory r (length s)) f
 
-  pub least_without : is_memory (Byte strict s a v) ≡ false → least_length strict s ≡ length s
+  pub least_without : is_memory (Byte v) ≡ false → least_length strict s ≡ length s
   least_without e = least_is false (raw_of (parts_of strict s)) e refl
 
-  module _ (raw : Raw) (read : v.asked.behind.pieces.memory ≡ Some raw) where
+  module _ {raw : Raw} (read : v.asked.behind.pieces.memory ≡ Some raw) where
     least_with : (ip : Bool) → is_ip_relative raw ≡ ip → least_length strict s ≡ (if true && not ip then (length s - address_length raw) + address_length (shortest raw) else length s)
     least_with ip e =
-        least_is true raw (spells strict s a v raw read).0 (raw_is strict s a v raw read (parts_of strict s) (has_parts))
+        least_is true raw (spells v read).0 (raw_is v read (parts_of strict s) (has_parts))
         ∙ ap (λ t. if true && not t then (length s - address_length raw) + address_length (shortest raw) else length s) e
 
     pub least_at_ip : is_ip_relative raw ≡ true → least_length strict s ≡ length s
@@ -50,11 +50,11 @@ module _ (strict : Bool) (s : List ℕ) (a : Reading) (v : Encoding strict s a) 
     pub least_of_raw : is_ip_relative raw ≡ false → least_length strict s ≡ (length s - address_length raw) + address_length (shortest raw)
     least_of_raw e = least_with false e
 
-    pub least_of_shortest : (fit : IsOfBytes raw) (t : List ℕ) → t ≡ Bytes' strict s a v raw read fit → is_ip_relative raw ≡ false → length t ≡ least_length strict s
+    pub least_of_shortest : (fit : IsOfBytes raw) (t : List ℕ) → t ≡ Bytes' v read fit → is_ip_relative raw ≡ false → length t ≡ least_length strict s
     least_of_shortest fit t spelled e =
         let h = least_with false e in
-        let old = length_is strict s a v raw read in
-        let new = long strict s a v raw read fit t spelled in
+        let old = length_is v raw read in
+        let new = long v read fit t spelled in
         omega (arith, h, old, new)
 
 -- at the front of bytes

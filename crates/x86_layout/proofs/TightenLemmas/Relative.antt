@@ -41,7 +41,7 @@ one_byte u modrm e h = subst (λ k. modrm ≡ modrm_of k modrm ∷ []) (sym e) (
     alone (m ∷ k ∷ rest) g = absurd (omega (arith, g))
 
 -- what a memory form is
-module _ (strict : Bool) (s : List ℕ) (a : Reading) (v : Encoding strict s a) where
+module _ {strict : Bool} {s : List ℕ} {a : Reading} (v : Encoding strict s a) where
   abbrev pub Seen : Prefixes
   Seen = seen_by v.map v.opcode (reading_of v.run)
 
@@ -54,7 +54,7 @@ module _ (strict : Bool) (s : List ℕ) (a : Reading) (v : Encoding strict s a) 
   abbrev pub Address : List ℕ
   Address = v.asked.behind.pieces.address
 
-  module _ (raw : Raw) (read : v.asked.behind.pieces.memory ≡ Some raw) where
+  module _ {raw : Raw} (read : v.asked.behind.pieces.memory ≡ Some raw) where
     pub spells : SpellsMemory (Seen) (Byte) (Address) (Some raw)
     spells = subst (λ x. SpellsMemory (Seen) (Byte) (Address) x) read v.asked.behind.pieces.address_asked
 
@@ -88,21 +88,21 @@ module _ (strict : Bool) (s : List ℕ) (a : Reading) (v : Encoding strict s a) 
       bytes_before t.address (t.immediates ++ t.suffix) (subst Bytes t.spelled behind)
 
   pub raw_of_bytes : (raw : Raw) → v.asked.behind.pieces.memory ≡ Some raw → Bytes s → IsOfBytes raw
-  raw_of_bytes raw read h = of_bytes (Seen) (Byte) (Address) raw (spells raw read) (address_bytes_of h)
+  raw_of_bytes raw read h = of_bytes (Seen) (Byte) (Address) raw (spells read) (address_bytes_of h)
 
   -- how long the encoding is
   pub length_is : (raw : Raw) → v.asked.behind.pieces.memory ≡ Some raw → length s ≡ length v.run + (length (escape_bytes v.map) + (2 + (address_length raw + (length v.asked.behind.pieces.immediates + length v.asked.behind.pieces.suffix))))
   length_is raw read =
       let t = v.asked.behind.pieces in
-      let old = address_long (Seen) (Byte) (Address) raw (spells raw read) in
-      omega (arith, length-append {A = ℕ}, ap length v.spelled, ap length v.asked.spelled, ap length (byte raw read), ap length t.spelled, old)
+      let old = address_long (Seen) (Byte) (Address) raw (spells read) in
+      omega (arith, length-append {A = ℕ}, ap length v.spelled, ap length v.asked.spelled, ap length (byte read), ap length t.spelled, old)
 
 -- ---- the relative
 
 no_bits : (raw : Raw) (p : Prefixes) → raw.rex_b ≡ has_b p → raw.rex_x ≡ has_x p → p.rex ≡ None → ((shortest raw).rex_b ≡ false) × ((shortest raw).rex_x ≡ false)
 no_bits raw p b x none = shortest_keeps_bits raw (b ∙ ap (live_bit (λ r. r.b)) none) (x ∙ ap (live_bit (λ r. r.x)) none)
 
-module _ (strict : Bool) (s : List ℕ) (a : Reading) (v : Encoding strict s a) (raw : Raw) (read : v.asked.behind.pieces.memory ≡ Some raw) (fit : IsOfBytes raw) where
+module _ {strict : Bool} {s : List ℕ} {a : Reading} (v : Encoding strict s a) {raw : Raw} (read : v.asked.behind.pieces.memory ≡ Some raw) (fit : IsOfBytes raw) where
   abbrev Other : Raw
   Other = shortest raw
 
@@ -110,7 +110,7 @@ module _ (strict : Bool) (s : List ℕ) (a : Reading) (v : Encoding strict s a) 
   Run = run_with (Other).rex_x (Other).rex_b v.run
 
   abbrev Before : Prefixes
-  Before = Seen strict s a v
+  Before = Seen v
 
   abbrev Bits : Prefixes
   Bits = record (Before) { rex = bits_in (Other).rex_x (Other).rex_b (Before).rex }
@@ -119,32 +119,32 @@ module _ (strict : Bool) (s : List ℕ) (a : Reading) (v : Encoding strict s a) 
   After = seen_by v.map v.opcode (reading_of (Run))
 
   abbrev Rerow : Prefixes → Type 0
-  Rerow q = Rerowed (Before) q (Byte strict s a v) (Other).modrm raw (Other) (record_of strict v.row q) (address_bytes (Other)) v.asked.behind.pieces.immediates v.asked.behind.pieces.suffix a
+  Rerow q = Rerowed (Before) q (Byte v) (Other).modrm raw (Other) (record_of strict v.row q) (address_bytes (Other)) v.asked.behind.pieces.immediates v.asked.behind.pieces.suffix a
 
   respelled_raw : SpellsMemory (Bits) (Other).modrm (address_bytes (Other)) (Some (Other))
   respelled_raw =
-      let none = no_bits raw (Before) (raw_b strict s a v raw read) (raw_x strict s a v raw read) in
-      let keeps : (Before).address_size ≡ (Other).address_size = sym (raw_short strict s a v raw read) ∙ sym (shortest_keeps_67 raw) in
+      let none = no_bits raw (Before) (raw_b v read) (raw_x v read) in
+      let keeps : (Before).address_size ≡ (Other).address_size = sym (raw_short v read) ∙ sym (shortest_keeps_67 raw) in
       respells (Bits) (Other) (shortest_is_of_bytes raw fit)
       (b_with (Other).rex_x (Other).rex_b (Before).rex (λ e. (none e).0))
       (x_with (Other).rex_x (Other).rex_b (Before).rex (λ e. (none e).1))
       keeps
 
-  same_register : reg_field (Other).modrm ≡ reg_field (Byte strict s a v)
-  same_register = shortest_keeps_reg raw ∙ ap reg_field (raw_modrm strict s a v raw read)
+  same_register : reg_field (Other).modrm ≡ reg_field (Byte v)
+  same_register = shortest_keeps_reg raw ∙ ap reg_field (raw_modrm v read)
 
   rerow_bits : Rerow (Bits)
   rerow_bits =
-      let m : ℕ = Byte strict s a v in
+      let m : ℕ = Byte v in
       let n : ℕ = (Other).modrm in
-      let mm : is_memory m ≡ true = (spells strict s a v raw read).0 in
+      let mm : is_memory m ≡ true = (spells v read).0 in
       let nm : is_memory n ≡ true = (respelled_raw).0 in
       let x = (Other).rex_x in
       let b = (Other).rex_b in
       rerowed (Before) (Bits) m n raw (Other) (record_of strict v.row (Bits)) _ v.asked.tail (address_bytes (Other)) a v.asked.behind refl read nm (respelled_raw).1
       (same_fault strict v.row (Before) x b m n mm nm (same_register) ∙ v.asked.passed)
-      (same_use strict v.row (Before) x b m n mm nm (same_register) ∙ fields strict s a v raw read)
-      (same_plan strict v.row (Before) x b m n mm nm (same_register) (fields strict s a v raw read))
+      (same_use strict v.row (Before) x b m n mm nm (same_register) ∙ fields v read)
+      (same_plan strict v.row (Before) x b m n mm nm (same_register) (fields v read))
 
   rerow : Rerow (After)
   rerow = subst Rerow (sym (seen_with v.map v.opcode (Other).rex_x (Other).rex_b v.run)) rerow_bits
@@ -181,7 +181,7 @@ module _ (strict : Bool) (s : List ℕ) (a : Reading) (v : Encoding strict s a) 
         prefixes = run_cleared (Other).rex_x (Other).rex_b v.run;
         escape = refl;
         opcode = refl;
-        register = ap (map reg_field) (rerow).modrm ∙ ap (λ n. n ∷ []) (same_register) ∙ sym (ap (map reg_field) (byte strict s a v raw read));
+        register = ap (map reg_field) (rerow).modrm ∙ ap (λ n. n ∷ []) (same_register) ∙ sym (ap (map reg_field) (byte v read));
         immediate = (rerow).immediate;
         suffix = (rerow).last;
       };
@@ -197,16 +197,16 @@ module _ (strict : Bool) (s : List ℕ) (a : Reading) (v : Encoding strict s a) 
         let to = rel.address.to in
         let from : rel.address.from ≡ raw = cc (rel.address.old, read) in
         let same : IsSameAddress (raw_form to) (raw_form raw) = subst (λ r. IsSameAddress (raw_form to) (raw_form r)) from rel.address.same in
-        let other = raw_of_bytes strict u is.reading w to rel.address.new (bytes_of u bytes) in
+        let other = raw_of_bytes w to rel.address.new (bytes_of u bytes) in
         let fewer = none_is_shorter raw to fit other ip same in
-        let new = length_is strict u is.reading w to rel.address.new in
+        let new = length_is w to rel.address.new in
         omega (arith, fewer, long, new, length_stays false false w.run, ap length rel.parts.prefixes, length_stays false false v.run, ap length rel.parts.escape, ap length rel.parts.immediate, ap length rel.parts.suffix)
 
     pub shortest_relative : allows_lock a ≡ true → length s ≤ 15 → is_ip_relative raw ≡ false → IsShortest strict s a v t
     unfolding sentence
     shortest_relative lock short ip =
         let fewer = no_longer ip in
-        let old = length_is strict s a v raw read in
+        let old = length_is v raw read in
         let new = long in
         let fits : length t ≤ 15 = omega (arith, short, fewer, old, new) in
         record { answer = instruction_of (rerow).again (length t); sentence = sentence lock fits; relative = relative ip; least = least ip }

@@ -173,22 +173,22 @@ module _ (strict : Bool) (s : List ℕ) (a : Reading) (v : Encoding strict s a) 
   To = rel.address.to
 
   abbrev Old : Prefixes
-  Old = Seen strict s a v
+  Old = Seen v
 
   abbrev New : Prefixes
-  New = Seen strict t b w
+  New = Seen w
 
   abbrev OldByte : ℕ
-  OldByte = Byte strict s a v
+  OldByte = Byte v
 
   abbrev NewByte : ℕ
-  NewByte = Byte strict t b w
+  NewByte = Byte w
 
   old_memory : is_memory OldByte ≡ true
-  old_memory = (spells strict s a v From rel.address.old).0
+  old_memory = (spells v rel.address.old).0
 
   new_memory : is_memory NewByte ≡ true
-  new_memory = (spells strict t b w To rel.address.new).0
+  new_memory = (spells w rel.address.new).0
 
   map_is : w.map ≡ v.map
   map_is = one_map w.map v.map rel.parts.escape
@@ -204,14 +204,14 @@ module _ (strict : Bool) (s : List ℕ) (a : Reading) (v : Encoding strict s a) 
 
   register_is : reg_field NewByte ≡ reg_field OldByte
   register_is = ap (first_or 0) (
-      sym (ap (map reg_field) (byte strict t b w To rel.address.new))
+      sym (ap (map reg_field) (byte w rel.address.new))
       ∙ rel.parts.register
-      ∙ ap (map reg_field) (byte strict s a v From rel.address.old))
+      ∙ ap (map reg_field) (byte v rel.address.old))
 
   plan_is : (record_of strict w.row New).plan NewByte ≡ (record_of strict v.row Old).plan OldByte
   plan_is =
-      let new = same_plan strict w.row New false false NewByte NewByte new_memory new_memory refl (fields strict t b w To rel.address.new) in
-      let old = same_plan strict v.row Old false false OldByte NewByte old_memory new_memory register_is (fields strict s a v From rel.address.old) in
+      let new = same_plan strict w.row New false false NewByte NewByte new_memory new_memory refl (fields w rel.address.new) in
+      let old = same_plan strict v.row Old false false OldByte NewByte old_memory new_memory register_is (fields v rel.address.old) in
       cc (new, row_is, seen_is, old)
 
   same_instruction : (k l : ℕ) → IsSameButInMemory From To (instruction_of a k) (instruction_of b l)
@@ -251,8 +251,8 @@ same_67 : (strict : Bool) (s : List ℕ) (a : Instruction) (is : IsSentence (row
 same_67 strict s a is raw read =
     ap (λ i. i.prefixes.address_size) is.gives
     ∙ ap (λ r. r.prefixes.address_size) is.whole.asked.behind.gives
-    ∙ mark_67 _ (Seen strict s is.reading is.whole)
-    ∙ sym (raw_short strict s is.reading is.whole raw read)
+    ∙ mark_67 _ (Seen is.whole)
+    ∙ sym (raw_short is.whole read)
 
 module _ (have : HaveTheAddress) (reduced : AreReduced) (values : AreTheirValues) (from to : Raw) (from_bytes : IsOfBytes from) (to_bytes : IsOfBytes to) (regs : List ℕ) (next : ℕ) (file : IsRegFile regs) (small : next < 2 ^ 64) where
   reduced_of : (raw : Raw) → IsOfBytes raw → IsReduced (raw_form raw)
@@ -278,8 +278,8 @@ relative_has_addresses have reduced values strict s a is t b other rel s_bytes t
     let to = rel.address.to in
     let same = relative_is_same strict s a is t b other rel in
     same_place have reduced values from to
-    (raw_of_bytes strict s is.reading is.whole from rel.address.old (bytes_of s s_bytes))
-    (raw_of_bytes strict t other.reading other.whole to rel.address.new (bytes_of t t_bytes))
+    (raw_of_bytes is.whole from rel.address.old (bytes_of s s_bytes))
+    (raw_of_bytes other.whole to rel.address.new (bytes_of t t_bytes))
     regs next file small a b k same
     (same_67 strict s a is from rel.address.old)
     (same_67 strict t b other to rel.address.new)

@@ -22,18 +22,18 @@ use Rattle.x86_layout.proofs.TightenLemmas.Rex.{seen_rex, seen_67}
 use Rattle.x86_layout.proofs.TightenLemmas.Writes.{row_writes}
 use Rattle.x86_layout.proofs.TightenLemmas.Relative.{Seen, Row, Byte, Address, spells, fields, byte, length_is, no_longer, Bytes'}
 
-module _ (strict : Bool) (s : List ℕ) (a : Reading) (v : Encoding strict s a) where
+module _ {strict : Bool} {s : List ℕ} {a : Reading} (v : Encoding strict s a) where
   -- whether the row asks a memory form
-  pub asks_memory : (head : Head) → IsHead strict s a v head → head.ask.memory ≡ is_memory (Byte strict s a v)
+  pub asks_memory : (head : Head) → IsHead strict s a v head → head.ask.memory ≡ is_memory (Byte v)
   unfolding ask_of
-  asks_memory head h = ap (λ k. k.memory) h.ask ∙ ap is_memory (sym (used_is (Row strict s a v).modrm v.asked.modrm v.asked.tail v.tail v.asked.spelled v.asked.modrm_asked))
+  asks_memory head h = ap (λ k. k.memory) h.ask ∙ ap is_memory (sym (used_is (Row v).modrm v.asked.modrm v.asked.tail v.tail v.asked.spelled v.asked.modrm_asked))
 
   some_by : (p : Prefixes) (m : ℕ) (address : List ℕ) (memory : Option Raw) → SpellsMemory p m address memory → is_memory m ≡ true → (raw : Raw) × (memory ≡ Some raw)
   some_by p m address None h e = absurd (let g : false ≡ true = sym h.0 ∙ e in cc)
   some_by p m address (Some raw) h e = (raw, refl)
 
-  pub some_memory : is_memory (Byte strict s a v) ≡ true → (raw : Raw) × (v.asked.behind.pieces.memory ≡ Some raw)
-  some_memory e = some_by (Seen strict s a v) (Byte strict s a v) (Address strict s a v) v.asked.behind.pieces.memory v.asked.behind.pieces.address_asked e
+  pub some_memory : is_memory (Byte v) ≡ true → (raw : Raw) × (v.asked.behind.pieces.memory ≡ Some raw)
+  some_memory e = some_by (Seen v) (Byte v) (Address v) v.asked.behind.pieces.memory v.asked.behind.pieces.address_asked e
 
   -- it is written as an operand
   pub operand_form : (raw : Raw) → v.asked.behind.pieces.memory ≡ Some raw → (ip : Bool) → is_ip_relative raw ≡ ip → HasOperandForm strict s a v ip
@@ -41,25 +41,25 @@ module _ (strict : Bool) (s : List ℕ) (a : Reading) (v : Encoding strict s a) 
     operand = record {
       raw = raw;
       read = read;
-      written = row_writes strict v.row (Seen strict s a v) (Byte strict s a v) (spells strict s a v raw read).0 (fields strict s a v raw read) v.asked.behind.accepted;
+      written = row_writes strict v.row (Seen v) (Byte v) (spells v read).0 (fields v read) v.asked.behind.accepted;
     };
     form = e;
   }
 
-  pub no_operand : is_memory (Byte strict s a v) ≡ false → HasMemoryOperand strict s a v → ⊥
-  no_operand e o = let memory = (spells strict s a v o.raw o.read).0 in cc (e, memory)
+  pub no_operand : is_memory (Byte v) ≡ false → HasMemoryOperand strict s a v → ⊥
+  no_operand e o = let memory = (spells v o.read).0 in cc (e, memory)
 
   -- the parts by the head and the tail
-  pub has_parts : (head : Head) (parts : Parts) → IsHead strict s a v head → parts.prefixes.now ≡ head.prefixes.now → parts.escape.now ≡ head.escape.now → parts.opcode.now ≡ head.opcode.now → IsTail (Row strict s a v) (Seen strict s a v) v.tail a v.asked parts → HasParts strict s a v (lists_of parts)
+  pub has_parts : (head : Head) (parts : Parts) → IsHead strict s a v head → parts.prefixes.now ≡ head.prefixes.now → parts.escape.now ≡ head.escape.now → parts.opcode.now ≡ head.opcode.now → IsTail (Row v) (Seen v) v.tail a v.asked parts → HasParts strict s a v (lists_of parts)
   has_parts head parts h prefixes escape opcode tail = assumption (prefixes ∙ h.prefixes, escape ∙ h.escape, opcode ∙ h.opcode, tail)
 
-  module _ (raw : Raw) (read : v.asked.behind.pieces.memory ≡ Some raw) (parts : PartLists) (h : HasParts strict s a v parts) where
-    spelled : SpellsRaw (Seen strict s a v) (Byte strict s a v) (Address strict s a v) raw
-    spelled = (spells strict s a v raw read).1
+  module _ {raw : Raw} (read : v.asked.behind.pieces.memory ≡ Some raw) (parts : PartLists) (h : HasParts strict s a v parts) where
+    spelled : SpellsRaw (Seen v) (Byte v) (Address v) raw
+    spelled = (spells v read).1
 
     sib_long : length parts.sib ≡ length (option_bytes (spelled).sib)
     sib_long =
-        h.sib ∙ ap (λ t. if t && rm_field (Byte strict s a v) == 4 then 1 else 0) (spells strict s a v raw read).0
+        h.sib ∙ ap (λ t. if t && rm_field (Byte v) == 4 then 1 else 0) (spells v read).0
         ∙ ap one_if (sym (spelled).sib_asked) ∙ sym (option_count (spelled).sib)
 
     both : parts.sib ++ parts.displacement ≡ option_bytes (spelled).sib ++ (spelled).disp
@@ -71,7 +71,7 @@ module _ (strict : Bool) (s : List ℕ) (a : Reading) (v : Encoding strict s a) 
     displacement_is : parts.displacement ≡ (spelled).disp
     displacement_is = drop_of parts.sib parts.displacement (option_bytes (spelled).sib) (spelled).disp both sib_long
 
-    disp_is : signed_by (length parts.displacement) parts.displacement ≡ signed_by (displacement_width (Byte strict s a v) (spelled).sib) (spelled).disp
+    disp_is : signed_by (length parts.displacement) parts.displacement ≡ signed_by (displacement_width (Byte v) (spelled).sib) (spelled).disp
     disp_is = cc (displacement_is, (spelled).disp_asked)
 
     prefixes_is : reading_of parts.prefixes ≡ reading_of v.run
@@ -81,22 +81,22 @@ module _ (strict : Bool) (s : List ℕ) (a : Reading) (v : Encoding strict s a) 
     pub raw_is : raw_of parts ≡ raw
     raw_is =
         let in' = raw_of parts in
-        let p = Seen strict s a v in
+        let p = Seen v in
         let rex = seen_rex v.map v.opcode (reading_of v.run) in
         let b : in'.rex_b ≡ has_b p = cc (prefixes_is, rex) in
         let x : in'.rex_x ≡ has_x p = cc (prefixes_is, rex) in
         let short : in'.address_size ≡ p.address_size = cc (prefixes_is, seen_67 v.map v.opcode (reading_of v.run)) in
-        let m : in'.modrm ≡ Byte strict s a v = cc (h.modrm, byte strict s a v raw read) in
+        let m : in'.modrm ≡ Byte v = cc (h.modrm, byte v read) in
         rw (b, x, short, m, sib_is, disp_is) (sym (spelled).fields)
 
-  module _ (raw : Raw) (read : v.asked.behind.pieces.memory ≡ Some raw) (parts : Parts) (h : HasParts strict s a v (lists_of parts)) where
+  module _ {raw : Raw} (read : v.asked.behind.pieces.memory ≡ Some raw) (parts : Parts) (h : HasParts strict s a v (lists_of parts)) where
     module _ (fit : IsOfBytes raw) where
-      pub respelled_is : respelled parts (shortest raw) ≡ Bytes' strict s a v raw read fit
+      pub respelled_is : respelled parts (shortest raw) ≡ Bytes' v read fit
       respelled_is =
           cc (h.prefixes, h.escape, h.opcode, h.immediate, h.suffix)
 
       pub respelled_fits : is_ip_relative raw ≡ false → length s ≤ 15 → respelled_length parts (shortest raw) ≤ 15
       respelled_fits ip short =
-          let old = length_is strict s a v raw read in
-          let new = no_longer strict s a v raw read fit ip in
+          let old = length_is v raw read in
+          let new = no_longer v read fit ip in
           omega (arith, short, old, new, ap length h.prefixes, ap length h.escape, ap length h.opcode, ap length h.immediate, ap length h.suffix)

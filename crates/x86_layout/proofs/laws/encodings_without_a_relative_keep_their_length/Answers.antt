@@ -14,14 +14,14 @@ use Rattle.x86_layout.proofs.laws.encodings_without_a_relative_keep_their_length
 
 module _ (strict : Bool) (s : List ℕ) (a : Reading) (v : Encoding strict s a) where
   -- a memory form of ModRM is an operand, so where there is no such operand ModRM is none
-  by_form : (memory : Bool) → is_memory (Byte strict s a v) ≡ memory → (HasMemoryOperand strict s a v → ⊥) → least_length strict s ≡ length s
-  by_form true e none = absurd (let read = some_memory strict s a v e in none (operand_form strict s a v read.0 read.1 (is_ip_relative read.0) refl).operand)
-  by_form false e none = least_without strict s a v e
+  by_form : (memory : Bool) → is_memory (Byte v) ≡ memory → (HasMemoryOperand strict s a v → ⊥) → least_length strict s ≡ length s
+  by_form true e none = absurd (let read = some_memory v e in none (operand_form v read.0 read.1 (is_ip_relative read.0) refl).operand)
+  by_form false e none = least_without v e
 
   keeps : (error : TightenError) → HasNoRelative strict s a v error → least_length strict s ≡ length s
   keeps (Refused error) h = absurd h
-  keeps NoMemoryForm h = by_form (is_memory (Byte strict s a v)) refl h
-  keeps IpRelative h = least_at_ip strict s a v h.operand.raw h.operand.read h.form
+  keeps NoMemoryForm h = by_form (is_memory (Byte v)) refl h
+  keeps IpRelative h = least_at_ip v h.operand.read h.form
 
 pub returns : goal.returns
 returns c = λ strict s a is error. keeps strict s is.reading is.whole error

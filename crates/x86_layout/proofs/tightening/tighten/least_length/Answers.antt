@@ -10,7 +10,7 @@ overflow_sub-result c =
     let strict = c.requires.strict in
     let is = c.requires.is in
     let h = c.in-Ok.ensures.raw strict c.requires.answer is in
-    let long = length_is strict s is.reading is.whole c.in-Ok.found.raw h.read in
+    let long = length_is is.whole c.in-Ok.found.raw h.read in
     omega (arith, long, c.address_length.ensures.value)
 
 pub returns-in-Ok : goal.returns-in-Ok
@@ -20,7 +20,7 @@ returns-in-Ok c = λ strict a is.
     let h = c.in-Ok.ensures.raw strict a is in
     let old = c.address_length.ensures.value in
     let new = c.address_length-in-Ok.ensures.value ∙ ap address_length c.shortest.ensures in
-    cc (old, new, least_of_raw strict s is.reading is.whole raw h.read h.form)
+    cc (old, new, least_of_raw is.whole h.read h.form)
 
 pub returns-in-Err : goal.returns-in-Err
 returns-in-Err c = λ strict a is. sym (c.in-Err.ensures.least strict a is)

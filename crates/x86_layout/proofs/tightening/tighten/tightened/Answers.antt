@@ -18,19 +18,19 @@ respelled-requires c =
     let is = c.requires.is in
     let found = c.in-Ok.found in
     let h = c.in-Ok.ensures.raw strict c.requires.answer is in
-    let fit : IsOfBytes found.raw = raw_of_bytes strict s is.reading is.whole found.raw h.read (bytes_at s c.type_inv.encoding) in
-    subst (λ r. respelled_length found.parts r ≤ 15) (sym c.shortest.ensures) (respelled_fits strict s is.reading is.whole found.raw h.read found.parts h.parts fit h.form is.short)
+    let fit : IsOfBytes found.raw = raw_of_bytes is.whole found.raw h.read (bytes_at s c.type_inv.encoding) in
+    subst (λ r. respelled_length found.parts r ≤ 15) (sym c.shortest.ensures) (respelled_fits is.whole h.read found.parts h.parts fit h.form is.short)
 
 pub returns-in-Ok-clause-shortest : goal.returns-in-Ok-clause-shortest
 returns-in-Ok-clause-shortest c = λ strict a is.
     let s = c.args.encoding.now in
     let found = c.in-Ok.found in
     let h = c.in-Ok.ensures.raw strict a is in
-    let fit : IsOfBytes found.raw = raw_of_bytes strict s is.reading is.whole found.raw h.read (bytes_at s c.type_inv.encoding) in
-    let spelled = c.respelled.ensures ∙ ap (respelled found.parts) c.shortest.ensures ∙ respelled_is strict s is.reading is.whole found.raw h.read found.parts h.parts fit in
+    let fit : IsOfBytes found.raw = raw_of_bytes is.whole found.raw h.read (bytes_at s c.type_inv.encoding) in
+    let spelled = c.respelled.ensures ∙ ap (respelled found.parts) c.shortest.ensures ∙ respelled_is is.whole h.read found.parts h.parts fit in
     record {
-      form = operand_form strict s is.reading is.whole found.raw h.read false h.form;
-      shortest = shortest_relative strict s is.reading is.whole found.raw h.read fit c.respelled.result.items spelled is.lock is.short h.form;
+      form = operand_form is.whole found.raw h.read false h.form;
+      shortest = shortest_relative is.whole h.read fit c.respelled.result.items spelled is.lock is.short h.form;
     }
 
 pub returns-in-Ok-clause-least : goal.returns-in-Ok-clause-least
@@ -38,6 +38,6 @@ returns-in-Ok-clause-least c = λ strict a is.
     let s = c.args.encoding.now in
     let found = c.in-Ok.found in
     let h = c.in-Ok.ensures.raw strict a is in
-    let fit : IsOfBytes found.raw = raw_of_bytes strict s is.reading is.whole found.raw h.read (bytes_at s c.type_inv.encoding) in
-    let spelled = c.respelled.ensures ∙ ap (respelled found.parts) c.shortest.ensures ∙ respelled_is strict s is.reading is.whole found.raw h.read found.parts h.parts fit in
-    least_of_shortest strict s is.reading is.whole found.raw h.read fit c.respelled.result.items spelled h.form
+    let fit : IsOfBytes found.raw = raw_of_bytes is.whole found.raw h.read (bytes_at s c.type_inv.encoding) in
+    let spelled = c.respelled.ensures ∙ ap (respelled found.parts) c.shortest.ensures ∙ respelled_is is.whole h.read found.parts h.parts fit in
+    least_of_shortest is.whole h.read fit c.respelled.result.items spelled h.form
