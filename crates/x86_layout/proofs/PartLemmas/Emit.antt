@@ -190,11 +190,10 @@ module _ (strict : Bool) (s : List ℕ) (reading : Reading) (w : Encoding strict
   pub permitted : allows_lock reading ≡ true → length s ≤ 15 → IsPermitted strict f
   unfolding first_failing
   permitted lock short =
-      let r = record_in strict s reading w in
       let legal : has_legal_run f ≡ true = ap is_run h.prefixes ∙ w.prefixes in
       let short' : is_short f ≡ true = short_test _ (subst (λ l. length l ≤ 15) (sym (joined_is strict s reading w (lists_in f) h)) short) in
       ap (λ o. unless (has_legal_run f) error.Prefixes (failing_at strict o f)) entry_is
-      ∙ all_hold (has_legal_run f) _ _ _ _ legal (passes r q w.tail reading f w.asked pieces) (asked r q w.tail reading f w.asked pieces) (lock_is lock) short'
+      ∙ all_hold (has_legal_run f) _ _ _ _ legal (passes f w.asked pieces) (asked f w.asked pieces) (lock_is lock) short'
 
 -- Emitting the fields of a split gives the encoding's very bytes.
 pub emitted_again : (strict : Bool) (bytes : List ℕ) (i : Instruction) (f : fields.Fields) → IsAccepted (rows_of packed) strict bytes i (count_of strict bytes) → i.length ≡ count_of strict bytes → lists_in f ≡ parts_of strict bytes → IsPermitted strict f × (joined (lists_in f) ≡ take i.length bytes)

@@ -65,7 +65,7 @@ pub record HoldsPieces (r : RowRecord) (p : Prefixes) (tail : List ℕ) (reading
   pub immediate : immediate_bytes ≡ a.behind.pieces.immediates
   pub suffix : suffix_bytes ≡ a.behind.pieces.suffix
 
-module _ (r : RowRecord) (p : Prefixes) (tail : List ℕ) (reading : Reading) (a : SpellsRow r p tail reading) (all rest : List ℕ) (e : all ≡ tail ++ rest) (ask : Ask) (k : ask ≡ ask_of r (slice_index all 0)) where
+module _ {r : RowRecord} {p : Prefixes} {tail : List ℕ} {reading : Reading} (a : SpellsRow r p tail reading) {all : List ℕ} (rest : List ℕ) (e : all ≡ tail ++ rest) {ask : Ask} (k : ask ≡ ask_of r (slice_index all 0)) where
   abbrev first : ℕ
   first = slice_index all 0
 
@@ -81,7 +81,7 @@ module _ (r : RowRecord) (p : Prefixes) (tail : List ℕ) (reading : Reading) (a
       let u = r.modrm in
       ap (λ x. asked_displacement_width x first sib) k
       ∙ disp_by (is_memory (used_modrm u first)) first (used_modrm u first) (first_byte sib) (as_it_stands u first)
-      ∙ ap (λ n. if is_memory n then displacement_width n (first_byte sib) else 0) (sym (read_as r p tail reading a all (a.tail ++ rest) begins ask k))
+      ∙ ap (λ n. if is_memory n then displacement_width n (first_byte sib) else 0) (sym (read_as a (a.tail ++ rest) begins k))
 
   pub has_tail : HoldsPieces r p tail reading a (modrm_in ask all) (sib_in ask all) (displacement_in ask all) (immediate_in ask all) (suffix_in ask all)
   has_tail =
@@ -89,24 +89,24 @@ module _ (r : RowRecord) (p : Prefixes) (tail : List ℕ) (reading : Reading) (a
       let s = a.behind.pieces in
       let x = address_parts p m s.address s.memory s.address_asked in
       let last : List ℕ = s.immediates ++ (s.suffix ++ rest) in
-      let modrm_n = modrm_count r p tail reading a all more begins ask k in
+      let modrm_n = modrm_count a more begins k in
       let row_rest : behind_modrm ask all ≡ x.sib ++ (x.disp ++ last) =
       rest_is all a.modrm more _ begins modrm_n
       ∙ ap (λ l. l ++ rest) s.spelled
       ∙ ap (λ l. (l ++ (s.immediates ++ s.suffix)) ++ rest) x.spelled ∙ simp append_assoc in
-      let sib_n : one_if (asks_sib ask first) ≡ length x.sib = sib_count r p tail reading a all more begins ask k ∙ sym x.sib_long in
+      let sib_n : one_if (asks_sib ask first) ≡ length x.sib = sib_count a more begins k ∙ sym x.sib_long in
       let sib : sib_in ask all ≡ x.sib = front_is _ x.sib (x.disp ++ last) _ row_rest sib_n in
       let sib_rest : behind_sib ask all ≡ x.disp ++ last = rest_is _ x.sib (x.disp ++ last) _ row_rest sib_n in
       let disp_n : asked_displacement_width ask first (sib_in ask all) ≡ length x.disp = ap (asked_displacement_width ask first) sib ∙ width_is x.sib ∙ sym x.disp_long in
       let disp : displacement_in ask all ≡ x.disp = front_is _ x.disp last _ sib_rest disp_n in
       let address_rest : behind_address ask all ≡ last = rest_is _ x.disp last _ sib_rest disp_n in
-      let immediate_n = immediate_count r p tail reading a all more begins ask k in
+      let immediate_n = immediate_count a more begins k in
       record {
         modrm = front_is all a.modrm more _ begins modrm_n;
         sib = ap length sib ∙ x.sib_long;
         address = ap (λ l. l ++ displacement_in ask all) sib ∙ ap (λ l. x.sib ++ l) disp ∙ sym x.spelled;
         immediate = front_is _ s.immediates (s.suffix ++ rest) _ address_rest immediate_n;
-        suffix = front_is _ s.suffix rest _ (rest_is _ s.immediates (s.suffix ++ rest) _ address_rest immediate_n) (suffix_count r p tail reading a all more begins ask k);
+        suffix = front_is _ s.suffix rest _ (rest_is _ s.immediates (s.suffix ++ rest) _ address_rest immediate_n) (suffix_count a more begins k);
       }
 
 -- ---- the whole encoding
@@ -152,7 +152,7 @@ pub parts_are : (strict : Bool) (bytes s rest : List ℕ) (reading : Reading) (w
 unfolding parts_of
 parts_are strict bytes s rest reading w begins =
     let h = has_head strict bytes s rest reading w begins in
-    let t = has_tail (record_in strict s reading w) (seen_by w.map w.opcode (reading_of w.run)) w.tail reading w.asked (tail_in bytes) rest h.tail (ask_in bytes strict) h.ask in
+    let t = has_tail w.asked rest h.tail h.ask in
     let escape = ap escape_bytes h.map in
     assumption (h, t, escape)
 

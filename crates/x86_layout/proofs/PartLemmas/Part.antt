@@ -168,7 +168,7 @@ sib_within p m address (Some raw) h =
 -- ---- the counts that an ask tells
 
 -- behind the pieces of a row stand further bytes
-module _ (r : RowRecord) (p : Prefixes) (tail : List ℕ) (reading : Reading) (a : SpellsRow r p tail reading) (all more : List ℕ) (e : all ≡ a.modrm ++ more) (ask : Ask) (k : ask ≡ ask_of r (slice_index all 0)) where
+module _ {r : RowRecord} {p : Prefixes} {tail : List ℕ} {reading : Reading} (a : SpellsRow r p tail reading) {all : List ℕ} (more : List ℕ) (e : all ≡ a.modrm ++ more) {ask : Ask} (k : ask ≡ ask_of r (slice_index all 0)) where
   pub read_as : modrm_of r.modrm a.modrm ≡ used_modrm r.modrm (slice_index all 0)
   read_as = used_is r.modrm a.modrm more all e a.modrm_asked
 

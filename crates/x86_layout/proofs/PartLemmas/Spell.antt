@@ -98,7 +98,7 @@ named_by NamedBySuffix opcode (Some b) a h e = some_is (suffix_opcode b) h
 named_by NamedBySuffix opcode None a h e = absurd (omega (arith, e))
 named_by (Refuses fault moment) opcode suffix a h e = absurd cc
 
--- The parts of fields behind the opcode byte are the pieces of a row.
+-- The parts of fields after the opcode byte are the pieces of a row.
 abbrev pub HoldsFields : (r : RowRecord) (p : Prefixes) (tail : List ℕ) (reading : Reading) → fields.Fields → SpellsRow r p tail reading → Type 0
 HoldsFields r p tail reading f a = HoldsPieces r p tail reading a (option_bytes f.modrm) (option_bytes f.sib) f.displacement.items f.immediate.items (option_bytes f.suffix)
 
@@ -160,7 +160,7 @@ module _ (r : RowRecord) (p : Prefixes) (f : fields.Fields) where
 names_suffix : (v : Verdict) (opcode o : ℕ) (suffix : Option ℕ) → opcode_by v opcode (option_bytes suffix) ≡ Some o → refuses_suffix v suffix ≡ false
 names_suffix v opcode o suffix h = grind arith
 
-module _ (r : RowRecord) (p : Prefixes) (tail : List ℕ) (reading : Reading) (f : fields.Fields) (a : SpellsRow r p tail reading) (h : HoldsFields r p tail reading f a) where
+module _ {r : RowRecord} {p : Prefixes} {tail : List ℕ} {reading : Reading} (f : fields.Fields) (a : SpellsRow r p tail reading) (h : HoldsFields r p tail reading f a) where
   abbrev at : ℕ
   at = modrm_of r.modrm (option_bytes f.modrm)
 

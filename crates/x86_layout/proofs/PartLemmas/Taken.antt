@@ -1,4 +1,4 @@
--- The encoding at the front of bytes that are accepted.
+-- The sentence that accepted bytes begin with.
 use Rattle.std.proofs.Common.{◌≡◌, ℕ, Bool, List, ◌++◌, length, take, Ok, sym, ap, subst, ◌∙◌}
 use Rattle.x86_forms.specs.Words.{rows_of, packed}
 use Rattle.x86_decode.specs.declared.instructions.Instruction.{Instruction}
@@ -14,7 +14,7 @@ pub record IsFront (strict : Bool) (bytes encoding : List ℕ) (instruction : In
   pub long : length encoding ≡ instruction.length
   pub is : IsSentence (rows_of packed) strict encoding instruction
 
--- as many bytes as the instruction has are that sentence
+-- As many bytes as the instruction has are that sentence.
 pub front_of : (strict : Bool) (bytes encoding : List ℕ) (instruction : Instruction) (n : ℕ) → answer_of strict bytes ≡ Ok instruction → IsAnswer (rows_of packed) strict bytes (answer_of strict bytes) (count_of strict bytes) → instruction.length ≡ count_of strict bytes → n ≡ instruction.length → encoding ≡ take n bytes → IsFront strict bytes encoding instruction
 front_of strict bytes encoding instruction n value answer counted long front =
     let accepted : IsAccepted (rows_of packed) strict bytes instruction (count_of strict bytes) = subst (λ r. IsAnswer (rows_of packed) strict bytes r (count_of strict bytes)) value answer in

@@ -11,23 +11,23 @@ returns-clause-tail c = λ r p reading tail e k a.
     let ask = c.args.head.now.ask in
     let s = a.behind.pieces in
     let behind : c.args.head.now.tail.now ≡ a.modrm ++ a.tail = e ∙ a.spelled in
-    let modrm_n : c.from.result ≡ length a.modrm = c.from.ensures ∙ from_is ask.modrm ∙ modrm_count r p tail reading a tail a.tail a.spelled ask k in
+    let modrm_n : c.from.result ≡ length a.modrm = c.from.ensures ∙ from_is ask.modrm ∙ modrm_count a a.tail a.spelled k in
     let modrm = c.front_and_rest.ensures.front ∙ front_is _ a.modrm a.tail c.from.result behind modrm_n in
     let rest = c.front_and_rest.ensures.behind ∙ rest_is _ a.modrm a.tail c.from.result behind modrm_n in
     let rest' : c.front_and_rest.result.1.now ≡ s.address ++ (s.immediates ++ s.suffix) = rest ∙ s.spelled in
-    let immediate_n : c.from-immediate_length.result ≡ length s.immediates = c.from-immediate_length.ensures ∙ immediate_count r p tail reading a tail a.tail a.spelled ask k in
+    let immediate_n : c.from-immediate_length.result ≡ length s.immediates = c.from-immediate_length.ensures ∙ immediate_count a a.tail a.spelled k in
     let address_n : c.saturating_sub.result ≡ length s.address =
     let f = c.from-immediate_length.ensures in
     let g = c.from-2.ensures ∙ from_is ask.suffix in
     let l = ap length rest in
-    let h = address_count r p tail reading a tail a.tail a.spelled ask k in
+    let h = address_count a a.tail a.spelled k in
     omega (arith, f, g, l, h, c.saturating_sub.ensures, c.saturating_sub-before_suffix.ensures) in
     let address = c.front_and_rest-2.ensures.front ∙ front_is _ s.address (s.immediates ++ s.suffix) c.saturating_sub.result rest' address_n in
     let last = c.front_and_rest-2.ensures.behind ∙ rest_is _ s.address (s.immediates ++ s.suffix) c.saturating_sub.result rest' address_n in
     let m : ℕ = modrm_of r.modrm a.modrm in
     let n : ℕ = c.from-sib_length.result in
     let sib_n : n ≡ sib_width m =
-    c.from-sib_length.ensures ∙ from_is _ ∙ ap one_if (c.asks_sib.ensures ∙ ap (asks_sib ask) (c.new.ensures ∙ c.byte_at.ensures ∙ ap (λ l. slice_index l 0) e)) ∙ sib_count r p tail reading a tail a.tail a.spelled ask k in
+    c.from-sib_length.ensures ∙ from_is _ ∙ ap one_if (c.asks_sib.ensures ∙ ap (asks_sib ask) (c.new.ensures ∙ c.byte_at.ensures ∙ ap (λ l. slice_index l 0) e)) ∙ sib_count a a.tail a.spelled k in
     let within : sib_width m ≤ length s.address = sib_within p m s.address s.memory s.address_asked in
     let both = c.front_and_rest-2.result.0.now in
     record {
