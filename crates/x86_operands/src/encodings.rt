@@ -173,11 +173,12 @@ impl Width {
 }
 
 impl Size {
+    /// The size in bytes. From `Bare` on the operation alone decides it.
     #[inline(always)]
     pub fn bytes(self, opcode: Opcode, prefixes: &Prefixes) -> u8
         ensures { result ≡ size_bytes self opcode prefixes.now }
     {
-        if self as usize >= 10 {
+        if self as usize >= Size::Bare as usize {
             return self.named(opcode);
         }
         let column = column!(prefixes);

@@ -140,7 +140,8 @@ pub fn far_class(opcode: Opcode, prefixes: &Prefixes) -> RegisterClass
 }
 
 fn far_pointer_size(prefixes: &Prefixes) -> u8
-    ensures { result ≡ if has_w prefixes.now then 10 else (if operand_size prefixes.now then 4 else 6) }
+    ensures { result
+        ≡ if has_w prefixes.now then 10 else (if operand_size prefixes.now then 4 else 6) }
 {
     if prefixes.has_w() {
         10

@@ -51,7 +51,9 @@ pub fn read_form_into<T: Reader<u64, u8>>(
 ) -> Result<(), DecodeError>
     requires carried { IsForm row.form }
     requires blank { given.old ≡ no_operands }
-    ensures { outcome (held result (reading_with opcode.new prefixes.new given.new)) (T.state reader.new) ≡ record_step (form_record row prefixes.old) prefixes.old (T.state reader.old) }
+    ensures { outcome
+        (held result (reading_with opcode.new prefixes.new given.new)) (T.state reader.new)
+        ≡ record_step (form_record row prefixes.old) prefixes.old (T.state reader.old) }
 {
     let modrm = read_modrm(reader, modrm_use(row.form))?;
     let plan = form_plan(row.form, row.opcode, prefixes, modrm);
@@ -71,7 +73,8 @@ pub fn read_form<T: Reader<u64, u8>>(
 ) -> Result<Reading, DecodeError>
     requires plain { is_group row.form ≡ false }
     requires carried { IsForm row.form }
-    ensures { outcome result (T.state words.new) ≡ record_step (form_record row prefixes) prefixes (T.state words.old) }
+    ensures { outcome result (T.state words.new)
+        ≡ record_step (form_record row prefixes) prefixes (T.state words.old) }
 {
     let modrm = read_modrm(words, modrm_use(row.form))?;
     let plan = form_plan(row.form, row.opcode, &prefixes, modrm);

@@ -32,7 +32,8 @@ use crate::{Ask, MemoryAccessSize, Operand, Slot};
 pub fn values_are_equal()
     ensures operands { (a b : Operand) → IsTrue (⟦<Operand as PartialEq>⟧.eq a b) ↔ (a ≡ b) }
     ensures slots { (a b : Slot) → IsTrue (⟦<Slot as PartialEq>⟧.eq a b) ↔ (a ≡ b) }
-    ensures sizes { (a b : MemoryAccessSize) → IsTrue (⟦<MemoryAccessSize as PartialEq>⟧.eq a b) ↔ (a ≡ b) }
+    ensures sizes { (a b : MemoryAccessSize) →
+        IsTrue (⟦<MemoryAccessSize as PartialEq>⟧.eq a b) ↔ (a ≡ b) }
     ensures asks { (a b : Ask) → IsTrue (⟦<Ask as PartialEq>⟧.eq a b) ↔ (a ≡ b) }
 {}
 
@@ -44,8 +45,10 @@ pub fn plain_forms_pass_the_opcode()
 /// Each plain form is built: no plan of its record refuses as `Incomplete`, so `read_form` never answers
 /// `IncompleteDecoder`.
 pub fn plain_forms_are_built()
-    ensures plan { (row : TableRow) (p : Prefixes) (m : ℕ) (w : Moment) → is_group row.form ≡ false → ((form_record row p).plan m).verdict ≢ Refuses Incomplete w }
-    ensures answer { (row : TableRow) (p : Prefixes) (s : State ℕ) → is_group row.form ≡ false → (record_step (form_record row p) p s).answer ≢ Err IncompleteDecoder }
+    ensures plan { (row : TableRow) (p : Prefixes) (m : ℕ) (w : Moment) →
+        is_group row.form ≡ false → ((form_record row p).plan m).verdict ≢ Refuses Incomplete w }
+    ensures answer { (row : TableRow) (p : Prefixes) (s : State ℕ) → is_group row.form ≡ false →
+        (record_step (form_record row p) p s).answer ≢ Err IncompleteDecoder }
 {}
 
 /// The memory size of each plan is at most 64 bytes.
@@ -56,38 +59,62 @@ pub fn plain_sizes_are_small()
 /// The shape of raw fields has their address form, so `address_of` and `Operand::address` of the shape agree at every
 /// register file and next pointer. Source: Intel SDM volume 2, section 2.1.5.
 pub fn shapes_have_the_address()
-    ensures form { (raw : Raw) → FitsSigned w32 raw.disp → operand_form raw.address_size (shape raw).1 ≡ Some (raw_form raw) }
-    ensures address { (raw : Raw) (regs : List ℕ) (next : ℕ) → FitsSigned w32 raw.disp → operand_address raw.address_size (shape raw).1 regs next ≡ Some (value_at (raw_form raw) regs next) }
+    ensures form { (raw : Raw) → FitsSigned w32 raw.disp →
+        operand_form raw.address_size (shape raw).1 ≡ Some (raw_form raw) }
+    ensures address { (raw : Raw) (regs : List ℕ) (next : ℕ) →
+        FitsSigned w32 raw.disp → operand_address raw.address_size (shape raw).1 regs next
+        ≡ Some (value_at (raw_form raw) regs next) }
 {}
 
 /// What `read_form` and `read_group` take, and any reader of a record. On Ok these are the pieces that the record
 /// asks, wherever they stand in front; after a refusal those up to its moment; and at `ExhaustedInput` those before
 /// the first that isn't whole.
 pub fn rows_are_read()
-    ensures whole { (r : RowRecord) (p : Prefixes) (s : State ℕ) (reading : Reading) → (record_step r p s).answer ≡ Ok reading → IsReadRow r p reading s (record_step r p s).after }
-    ensures refused { (r : RowRecord) (p : Prefixes) (s : State ℕ) (e : DecodeError) → (record_step r p s).answer ≡ Err e → e ≢ ExhaustedInput → IsRefusedRow r p e s (record_step r p s).after }
-    ensures exhausted { (r : RowRecord) (p : Prefixes) (s : State ℕ) → (record_step r p s).answer ≡ Err ExhaustedInput → IsOpenRow r p s (record_step r p s).after }
-    ensures wherever { (r : RowRecord) (p : Prefixes) (s : State ℕ) (bytes rest : List ℕ) (reading : Reading) → s.left ≡ bytes ++ rest → SpellsRow r p bytes reading → record_step r p s ≡ outcome (Ok reading) (advanced (length bytes) s) }
-    ensures refuses { (r : RowRecord) (p : Prefixes) (s : State ℕ) (bytes rest : List ℕ) (fault : Fault) → s.left ≡ bytes ++ rest → RefusesRow r p bytes fault → record_step r p s ≡ outcome (Err (error_of fault)) (advanced (length bytes) s) }
+    ensures whole { (r : RowRecord) (p : Prefixes) (s : State ℕ) (reading : Reading) →
+        (record_step r p s).answer ≡ Ok reading →
+        IsReadRow r p reading s (record_step r p s).after }
+    ensures refused { (r : RowRecord) (p : Prefixes) (s : State ℕ) (e : DecodeError) →
+        (record_step r p s).answer ≡ Err e →
+        e ≢ ExhaustedInput → IsRefusedRow r p e s (record_step r p s).after }
+    ensures exhausted { (r : RowRecord) (p : Prefixes) (s : State ℕ) →
+        (record_step r p s).answer ≡ Err ExhaustedInput →
+        IsOpenRow r p s (record_step r p s).after }
+    ensures wherever { (r : RowRecord) (p : Prefixes) (s : State ℕ) (bytes rest : List ℕ)
+        (reading : Reading) → s.left ≡ bytes ++ rest → SpellsRow r p bytes reading →
+        record_step r p s ≡ outcome (Ok reading) (advanced (length bytes) s) }
+    ensures refuses { (r : RowRecord) (p : Prefixes) (s : State ℕ) (bytes rest : List ℕ)
+        (fault : Fault) → s.left ≡ bytes ++ rest → RefusesRow r p bytes fault →
+        record_step r p s ≡ outcome (Err (error_of fault)) (advanced (length bytes) s) }
 {}
 
 /// No reader of a record answers `InvalidPrefixes` or `TooLong`, and `IncompleteDecoder` comes only where the record
 /// or one of its plans refuses so.
 pub fn rows_refuse_by_faults()
-    ensures no_prefixes { (r : RowRecord) (p : Prefixes) (s : State ℕ) → (record_step r p s).answer ≢ Err InvalidPrefixes }
-    ensures no_length { (r : RowRecord) (p : Prefixes) (s : State ℕ) → (record_step r p s).answer ≢ Err TooLong }
-    ensures left_out { (r : RowRecord) (p : Prefixes) (s : State ℕ) → (record_step r p s).answer ≡ Err IncompleteDecoder → (r.at_opcode ≡ Some Incomplete) ⊎ ((m : ℕ) × (w : Moment) × ((r.plan m).verdict ≡ Refuses Incomplete w)) }
+    ensures no_prefixes { (r : RowRecord) (p : Prefixes) (s : State ℕ) →
+        (record_step r p s).answer ≢ Err InvalidPrefixes }
+    ensures no_length { (r : RowRecord) (p : Prefixes) (s : State ℕ) →
+        (record_step r p s).answer ≢ Err TooLong }
+    ensures left_out { (r : RowRecord) (p : Prefixes) (s : State ℕ) →
+        (record_step r p s).answer ≡ Err IncompleteDecoder → (r.at_opcode ≡ Some Incomplete)
+        ⊎ ((m : ℕ) × (w : Moment) × ((r.plan m).verdict ≡ Refuses Incomplete w)) }
 {}
 
 /// A reading has at most four operands. None of them is `Nothing`, masked, rounded or an unsigned immediate of 32 or
 /// 64 bits, in the slot of an immediate stands that immediate, and behind the last operand stands `Nothing`.
 pub fn readings_are_tied()
-    ensures read { (r : RowRecord) (p : Prefixes) (s : State ℕ) (reading : Reading) → (record_step r p s).answer ≡ Ok reading → AreTied reading }
-    ensures spelled { (r : RowRecord) (p : Prefixes) (bytes : List ℕ) (reading : Reading) → SpellsRow r p bytes reading → AreTied reading }
+    ensures read { (r : RowRecord) (p : Prefixes) (s : State ℕ) (reading : Reading) →
+        (record_step r p s).answer ≡ Ok reading → AreTied reading }
+    ensures spelled { (r : RowRecord) (p : Prefixes) (bytes : List ℕ) (reading : Reading) →
+        SpellsRow r p bytes reading → AreTied reading }
 {}
 
 /// Where a record writes ModRM's memory operand stands the shape of the raw fields. Their 67 is that of the prefixes.
 pub fn memory_operands_are_shapes()
-    ensures stands { (r : RowRecord) (p : Prefixes) (bytes : List ℕ) (reading : Reading) (asked : SpellsRow r p bytes reading) (raw : Raw) → asked.behind.pieces.memory ≡ Some raw → (k : ℕ) → names_modrm (encodings_of r p bytes reading asked) k ≡ true → HasShapeAt reading k raw }
-    ensures address_size { (r : RowRecord) (p : Prefixes) (bytes : List ℕ) (reading : Reading) (asked : SpellsRow r p bytes reading) (raw : Raw) → asked.behind.pieces.memory ≡ Some raw → raw.address_size ≡ address_size p }
+    ensures stands { (r : RowRecord) (p : Prefixes)
+        (bytes : List ℕ) (reading : Reading) (asked : SpellsRow r p bytes reading) (raw : Raw) →
+        asked.behind.pieces.memory ≡ Some raw → (k : ℕ) →
+        names_modrm (encodings_of r p bytes reading asked) k ≡ true → HasShapeAt reading k raw }
+    ensures address_size { (r : RowRecord) (p : Prefixes)
+        (bytes : List ℕ) (reading : Reading) (asked : SpellsRow r p bytes reading) (raw : Raw) →
+        asked.behind.pieces.memory ≡ Some raw → raw.address_size ≡ address_size p }
 {}

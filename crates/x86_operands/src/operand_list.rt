@@ -1,19 +1,21 @@
 //! The operands of an instruction: what their encodings give, written where it stays.
 
-ghost use Rattle.std.specs.Prelude.{◌≡◌, ◌<◌, ◌≢◌, true};
+ghost use Rattle.std.specs.Prelude.{◌≡◌, ◌<◌, ◌≢◌, ℕ, Option, true};
 ghost use Rattle.x86_arch.specs.Reader.{State};
 ghost use Rattle.x86_fields.specs.Steps.{outcome};
 ghost use Rattle.x86_fields.specs.declared.prefixes.Prefixes.{Prefixes};
+ghost use Rattle.x86_fields.specs.declared.raw.Raw.{Raw};
 ghost use Rattle.x86_operands.specs.declared.encodings.Last.TheVariants.{Absent};
 ghost use Rattle.x86_operands.specs.declared.order.Position.TheVariants.{Nowhere};
-ghost use Rattle.x86_operands.specs.PlanSteps.{memory_or, read_plan, pointer_slot, register_slot};
+ghost use Rattle.x86_operands.specs.PlanSteps.{memory_or, read_plan};
+ghost use Rattle.x86_operands.specs.LastEncodings.{is_last_encoding};
 ghost use Rattle.x86_operands.specs.Encodings.{rm_read, reg_pair, fixed_pair, no_operands, reading_with, plan_of, held, put_in, put_at, put_encoded, last_encoding, encoded_read, front_read, allows, is_sound, slot_in, operand_in};
 
 use crate::encodings::{Behind, FormEncoding, Last, Width};
 use crate::operands::{Operand, Slot};
 use crate::order::Position;
 use crate::plans::{
-    OperandEncoding, PointerSlot, RegisterSlot, reg_number, register_at, rm_number,
+    OperandEncoding, pointer_slot, reg_number, register_at, register_slot, rm_number,
 };
 use crate::shapes::put_shape;
 use x86_arch::Reader;
@@ -33,28 +35,6 @@ pub struct Operands {
     pub count: u8,
     /// The size in bytes of what is read or written in memory: 0 for none, and 63 where the processor decides.
     pub mem_size: u8,
-}
-
-fn register_slot(slot: RegisterSlot) -> Slot
-    ensures { result ≡ register_slot slot }
-{
-    match slot {
-        RegisterSlot::Reg => Slot::Reg,
-        RegisterSlot::Rm => Slot::Rm,
-        RegisterSlot::Third => Slot::Third,
-    }
-}
-
-fn pointer_slot(slot: PointerSlot) -> Slot
-    ensures { result ≡ pointer_slot slot }
-{
-    match slot {
-        PointerSlot::Deref => Slot::Deref,
-        PointerSlot::DerefEsi => Slot::DerefEsi,
-        PointerSlot::DerefEdi => Slot::DerefEdi,
-        PointerSlot::DerefRsi => Slot::DerefRsi,
-        PointerSlot::DerefRdi => Slot::DerefRdi,
-    }
 }
 
 impl Operands {
@@ -135,6 +115,38 @@ impl Operands {
         self.put_at(at, Slot::ImmI64, Operand::ImmediateI64 { imm });
     }
 
+    /// What the encoding of a last operand gives, at an index: an immediate, or what no byte spells.
+    #[tactic(auto, unfolding(crate::specs::PlanSteps::operand_step))]
+    #[inline(always)]
+    fn put_last<T: Reader<u64, u8>>(
+        &mut self,
+        at: usize,
+        reader: &mut T,
+        encoding: OperandEncoding,
+    ) -> Result<(), DecodeError>
+        requires index { at < 4 }
+        requires last { is_last_encoding encoding ≡ true }
+        ensures { (p : Prefixes) (m : ℕ) (memory : Option Raw) →
+            outcome (held result self.new) (T.state reader.new)
+            ≡ put_encoded at encoding p m memory self.old (T.state reader.old) }
+    {
+        match encoding {
+            OperandEncoding::I8 => self.put_i8(at, read_u8(reader)?.cast_signed()),
+            OperandEncoding::U8 => self.put_u8(at, read_u8(reader)?),
+            OperandEncoding::I16 => self.put_i16(at, read_u16(reader)?.cast_signed()),
+            OperandEncoding::U16 => self.put_u16(at, Slot::ImmU16, read_u16(reader)?),
+            OperandEncoding::I32 => self.put_i32(at, read_u32(reader)?.cast_signed()),
+            OperandEncoding::I64 => self.put_i64(at, read_u32(reader)?.cast_signed() as i64),
+            OperandEncoding::I64Whole => self.put_i64(at, read_u64(reader)?.cast_signed()),
+            OperandEncoding::ConstantI8(imm) => self.put_i8(at, imm),
+            OperandEncoding::ConstantU8(imm) => self.put_u8(at, imm),
+            OperandEncoding::Fixed(slot, reg) => self.put_register(at, register_slot(slot), reg),
+            // No last operand has another encoding.
+            _ => {}
+        }
+        Ok(())
+    }
+
     /// What an operand encoding gives, at an index.
     #[tactic(auto, unfolding(crate::specs::PlanSteps::operand_step))]
     #[inline(always)]
@@ -148,7 +160,8 @@ impl Operands {
         memory: Option<Raw>,
     ) -> Result<(), DecodeError>
         requires { at < 4 }
-        ensures { outcome (held result self.new) (T.state reader.new) ≡ put_encoded at encoding prefixes.now modrm memory self.old (T.state reader.old) }
+        ensures { outcome (held result self.new) (T.state reader.new)
+            ≡ put_encoded at encoding prefixes.now modrm memory self.old (T.state reader.old) }
     {
         match encoding {
             OperandEncoding::G(class) => {
@@ -173,22 +186,12 @@ impl Operands {
                 memory,
                 RegSpec::mm(modrm.rm_field()),
             ),
-            OperandEncoding::Fixed(slot, reg) => self.put_register(at, register_slot(slot), reg),
             OperandEncoding::Pointer(slot, base) => {
                 self.put_at(at, pointer_slot(slot), Operand::MemDeref { base });
             }
-            OperandEncoding::I8 => self.put_i8(at, read_u8(reader)?.cast_signed()),
-            OperandEncoding::I16 => self.put_i16(at, read_u16(reader)?.cast_signed()),
-            OperandEncoding::I32 => self.put_i32(at, read_u32(reader)?.cast_signed()),
-            OperandEncoding::I64 => self.put_i64(at, read_u32(reader)?.cast_signed() as i64),
             OperandEncoding::I32From16 => self.put_i32(at, read_u16(reader)?.cast_signed() as i32),
-            OperandEncoding::I64Whole => self.put_i64(at, read_u64(reader)?.cast_signed()),
-            OperandEncoding::U8 => self.put_u8(at, read_u8(reader)?),
-            OperandEncoding::U16 => self.put_u16(at, Slot::ImmU16, read_u16(reader)?),
             OperandEncoding::X8 => self.put_u16(at, Slot::ImmInDisp, read_u8(reader)? as u16),
             OperandEncoding::X16 => self.put_u16(at, Slot::ImmInDisp, read_u16(reader)?),
-            OperandEncoding::ConstantI8(imm) => self.put_i8(at, imm),
-            OperandEncoding::ConstantU8(imm) => self.put_u8(at, imm),
             OperandEncoding::Address32 => {
                 let addr = read_u32(reader)?;
                 self.put_at(at, Slot::DispU32, Operand::AbsoluteU32 { addr });
@@ -197,6 +200,7 @@ impl Operands {
                 let addr = read_u64(reader)?;
                 self.put_at(at, Slot::DispU64, Operand::AbsoluteU64 { addr });
             }
+            encoding => return self.put_last(at, reader, encoding),
         }
         Ok(())
     }
@@ -221,16 +225,10 @@ impl Operands {
         prefixes: &Prefixes,
     ) -> Result<(), DecodeError>
         requires { at ≢ Nowhere }
-        ensures { outcome (held result self.new) (T.state reader.new) ≡ encoded_read at (last_encoding last prefixes.now) prefixes.now self.old (T.state reader.old) }
+        ensures { outcome (held result self.new) (T.state reader.new) ≡ encoded_read at
+            (last_encoding last prefixes.now) prefixes.now self.old (T.state reader.old) }
     {
-        self.put_encoded(
-            at.index(),
-            reader,
-            last.encoding(prefixes),
-            prefixes,
-            ModRM::absent(),
-            None,
-        )
+        self.put_last(at.index(), reader, last.encoding(prefixes))
     }
 
     /// The operand of rm.
@@ -245,7 +243,8 @@ impl Operands {
         modrm: ModRM,
     ) -> Result<(), DecodeError>
         requires { at ≢ Nowhere }
-        ensures { outcome (held result self.new) (T.state reader.new) ≡ rm_read at width prefixes.now modrm self.old (T.state reader.old) }
+        ensures { outcome (held result self.new) (T.state reader.new)
+            ≡ rm_read at width prefixes.now modrm self.old (T.state reader.old) }
     {
         if modrm.is_memory() {
             let raw = read_raw(reader, prefixes, modrm.byte())?;
@@ -281,7 +280,8 @@ impl Operands {
     #[inline(always)]
     fn put_fixed(&mut self, encoding: &FormEncoding, num: u8, prefixes: &Prefixes)
         requires { num < 8 }
-        ensures { self.new ≡ put_in encoding.now.order.reg (fixed_pair encoding.now.behind encoding.now.reg num prefixes.now) self.old }
+        ensures { self.new ≡ put_in encoding.now.order.reg
+            (fixed_pair encoding.now.behind encoding.now.reg num prefixes.now) self.old }
     {
         match encoding.order.reg {
             Position::Nowhere => {}
@@ -307,7 +307,8 @@ impl Operands {
         modrm: ModRM,
     ) -> Result<(), DecodeError>
         requires { num < 8 }
-        ensures { outcome (held result self.new) (T.state reader.new) ≡ front_read encoding.now num prefixes.now modrm self.old (T.state reader.old) }
+        ensures { outcome (held result self.new) (T.state reader.new)
+            ≡ front_read encoding.now num prefixes.now modrm self.old (T.state reader.old) }
     {
         match encoding.order.rm {
             Position::Nowhere => self.put_fixed(encoding, num, prefixes),
@@ -348,7 +349,9 @@ impl Operands {
         requires small { num < 8 }
         requires sound { is_sound encoding.now ≡ true }
         requires allowed { allows encoding.now.behind modrm ≡ true }
-        ensures { outcome (held result (reading_with opcode prefixes.now self.new)) (T.state reader.new) ≡ read_plan (plan_of encoding.now num opcode prefixes.now modrm) prefixes.now modrm (T.state reader.old) }
+        ensures { outcome (held result (reading_with opcode prefixes.now self.new))
+            (T.state reader.new) ≡ read_plan (plan_of encoding.now num opcode prefixes.now modrm)
+            prefixes.now modrm (T.state reader.old) }
     {
         self.count = encoding.order.count;
         self.mem_size = encoding.size_at(modrm).bytes(opcode, prefixes);

@@ -266,7 +266,8 @@ fn parts(
     scale: u8,
     disp: i32,
 ) -> AddressParts
-    ensures { result ≡ record { address_size = address_size; base = base; index = index; scale = scale; disp = disp } }
+    ensures { result ≡ record
+        { address_size = address_size; base = base; index = index; scale = scale; disp = disp } }
 {
     AddressParts {
         address_size,

@@ -125,7 +125,8 @@ fn loop_opcode(opcode: Opcode, prefixes: &Prefixes) -> Opcode
 }
 
 fn return_opcode(prefixes: &Prefixes) -> Opcode
-    ensures { result ≡ if has_w prefixes.now then IRETQ else (if operand_size prefixes.now then IRET else IRETD) }
+    ensures { result ≡ if has_w prefixes.now then IRETQ else
+        (if operand_size prefixes.now then IRET else IRETD) }
 {
     if prefixes.has_w() {
         Opcode::IRETQ

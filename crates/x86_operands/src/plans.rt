@@ -1,7 +1,9 @@
 //! What the rows' records ask: their vocabulary.
 ghost use Rattle.std.specs.Prelude.{◌≡◌, ◌<◌, ℕ};
+ghost use Rattle.x86_operands.specs.PlanSteps.{pointer_slot, register_slot};
 ghost use Rattle.x86_operands.specs.Plans.{with_verdict, reads, named_by_suffix, refused, refuses, memory_only, register_only, size_by, reg_number, rm_number, register_at, accumulator_of, immediate_of};
 
+use crate::operands::Slot;
 use x86_fields::{ModRM, Prefixes, extend};
 use x86_opcodes::Opcode;
 use x86_regs::{RegSpec, RegisterClass};
@@ -22,6 +24,30 @@ pub enum PointerSlot {
     DerefEdi,
     DerefRsi,
     DerefRdi,
+}
+
+/// The slot of a register that the record names.
+pub(crate) fn register_slot(slot: RegisterSlot) -> Slot
+    ensures { result ≡ register_slot slot }
+{
+    match slot {
+        RegisterSlot::Reg => Slot::Reg,
+        RegisterSlot::Rm => Slot::Rm,
+        RegisterSlot::Third => Slot::Third,
+    }
+}
+
+/// The slot of a string operand, as an answer has it.
+pub(crate) fn pointer_slot(slot: PointerSlot) -> Slot
+    ensures { result ≡ pointer_slot slot }
+{
+    match slot {
+        PointerSlot::Deref => Slot::Deref,
+        PointerSlot::DerefEsi => Slot::DerefEsi,
+        PointerSlot::DerefEdi => Slot::DerefEdi,
+        PointerSlot::DerefRsi => Slot::DerefRsi,
+        PointerSlot::DerefRdi => Slot::DerefRdi,
+    }
 }
 
 /// What a record asks for one operand, in the letters of the Intel SDM, volume 2, appendix A.2.

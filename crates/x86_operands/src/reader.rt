@@ -103,7 +103,8 @@ fn read_opcode<T: Reader<u64, u8>>(
     verdict: Verdict,
     opcode: Opcode,
 ) -> Result<Opcode, DecodeError>
-    ensures { outcome result (T.state reader.new) ≡ read_opcode verdict opcode (T.state reader.old) }
+    ensures { outcome result (T.state reader.new)
+        ≡ read_opcode verdict opcode (T.state reader.old) }
 {
     match verdict {
         Verdict::NamedBySuffix => {
@@ -120,7 +121,8 @@ fn read_memory<T: Reader<u64, u8>>(
     prefixes: &Prefixes,
     modrm: ModRM,
 ) -> Result<Option<Raw>, DecodeError>
-    ensures { outcome result (T.state reader.new) ≡ read_memory prefixes.now modrm (T.state reader.old) }
+    ensures { outcome result (T.state reader.new)
+        ≡ read_memory prefixes.now modrm (T.state reader.old) }
 {
     if modrm.is_memory() {
         let raw = read_raw(reader, prefixes, modrm.byte())?;
@@ -153,7 +155,8 @@ impl Operands {
         memory: Option<Raw>,
     ) -> Result<(), DecodeError>
         requires { at < 4 }
-        ensures { outcome (held result self.new) (T.state reader.new) ≡ put_encoded at encoding prefixes.now modrm memory self.old (T.state reader.old) }
+        ensures { outcome (held result self.new) (T.state reader.new)
+            ≡ put_encoded at encoding prefixes.now modrm memory self.old (T.state reader.old) }
     {
         self.put_encoded(at, reader, encoding, prefixes, modrm, memory)
     }
@@ -169,7 +172,8 @@ impl Operands {
         memory: Option<Raw>,
     ) -> Result<(), DecodeError>
         requires { self.old ≡ no_operands }
-        ensures { outcome (held result (given_from self.new)) (T.state reader.new) ≡ given_step (list_of encodings) prefixes.now modrm memory (T.state reader.old) }
+        ensures { outcome (held result (given_from self.new)) (T.state reader.new)
+            ≡ given_step (list_of encodings) prefixes.now modrm memory (T.state reader.old) }
     {
         match encodings {
             OperandEncodings::Zero => Ok(()),
@@ -210,7 +214,8 @@ pub fn read_plan_into<T: Reader<u64, u8>>(
     given: &mut Operands,
 ) -> Result<(), DecodeError>
     requires { given.old ≡ no_operands }
-    ensures { outcome (held result (reading_with opcode.new prefixes.new given.new)) (T.state reader.new) ≡ read_plan plan.now prefixes.old modrm (T.state reader.old) }
+    ensures { outcome (held result (reading_with opcode.new prefixes.new given.new))
+        (T.state reader.new) ≡ read_plan plan.now prefixes.old modrm (T.state reader.old) }
 {
     refuse_at(plan.verdict, Moment::AtModRM)?;
     let memory = read_memory(reader, prefixes, modrm)?;
@@ -243,7 +248,8 @@ pub fn read_plan<T: Reader<u64, u8>>(
     prefixes: Prefixes,
     modrm: ModRM,
 ) -> Result<Reading, DecodeError>
-    ensures { outcome result (T.state reader.new) ≡ read_plan plan.now prefixes modrm (T.state reader.old) }
+    ensures { outcome result (T.state reader.new)
+        ≡ read_plan plan.now prefixes modrm (T.state reader.old) }
 {
     let mut prefixes = prefixes;
     let mut opcode = plan.opcode;

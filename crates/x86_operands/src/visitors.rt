@@ -51,7 +51,8 @@ pub trait OperandVisitor {
         scale: u8,
         disp: i32,
     ) -> Result<Self::Ok, Self::Error>
-        ensures { answers (visit_base_index_scale_disp base index scale disp) self.old self.new result };
+        ensures { answers (visit_base_index_scale_disp base index scale disp)
+            self.old self.new result };
 
     fn visit_i8(&mut self, imm: i8) -> Result<Self::Ok, Self::Error>
         ensures { answers (visit_i8 imm) self.old self.new result };
@@ -98,7 +99,8 @@ pub trait OperandVisitor {
         merge_mode: MergeMode,
         sae_mode: SaeMode,
     ) -> Result<Self::Ok, Self::Error>
-        ensures { answers (visit_reg_mask_merge_sae base mask merge_mode sae_mode) self.old self.new result };
+        ensures { answers (visit_reg_mask_merge_sae base mask merge_mode sae_mode)
+            self.old self.new result };
 
     fn visit_reg_mask_merge_sae_noround(
         &mut self,
@@ -106,7 +108,8 @@ pub trait OperandVisitor {
         mask: RegSpec,
         merge_mode: MergeMode,
     ) -> Result<Self::Ok, Self::Error>
-        ensures { answers (visit_reg_mask_merge_sae_noround base mask merge_mode) self.old self.new result };
+        ensures { answers (visit_reg_mask_merge_sae_noround base mask merge_mode)
+            self.old self.new result };
 
     fn visit_deref_masked(
         &mut self,
@@ -138,7 +141,8 @@ pub trait OperandVisitor {
         disp: i32,
         mask_reg: RegSpec,
     ) -> Result<Self::Ok, Self::Error>
-        ensures { answers (visit_index_scale_disp_masked base scale disp mask_reg) self.old self.new result };
+        ensures { answers (visit_index_scale_disp_masked base scale disp mask_reg)
+            self.old self.new result };
 
     fn visit_base_index_masked(
         &mut self,
@@ -155,7 +159,8 @@ pub trait OperandVisitor {
         disp: i32,
         mask_reg: RegSpec,
     ) -> Result<Self::Ok, Self::Error>
-        ensures { answers (visit_base_index_disp_masked base index disp mask_reg) self.old self.new result };
+        ensures { answers (visit_base_index_disp_masked base index disp mask_reg)
+            self.old self.new result };
 
     fn visit_base_index_scale_masked(
         &mut self,
@@ -164,7 +169,8 @@ pub trait OperandVisitor {
         scale: u8,
         mask_reg: RegSpec,
     ) -> Result<Self::Ok, Self::Error>
-        ensures { answers (visit_base_index_scale_masked base index scale mask_reg) self.old self.new result };
+        ensures { answers (visit_base_index_scale_masked base index scale mask_reg)
+            self.old self.new result };
 
     fn visit_base_index_scale_disp_masked(
         &mut self,
@@ -174,7 +180,8 @@ pub trait OperandVisitor {
         disp: i32,
         mask_reg: RegSpec,
     ) -> Result<Self::Ok, Self::Error>
-        ensures { answers (visit_base_index_scale_disp_masked base index scale disp mask_reg) self.old self.new result };
+        ensures { answers (visit_base_index_scale_disp_masked base index scale disp mask_reg)
+            self.old self.new result };
 
     fn visit_other(&mut self) -> Result<Self::Ok, Self::Error>
         ensures { answers visit_other self.old self.new result };
