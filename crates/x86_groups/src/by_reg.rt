@@ -100,7 +100,8 @@ pub fn chosen(group: RegGroup, modrm: ModRM) -> (Opcode, &'static FormEncoding)
     ensures chooses { Chooses group modrm result.0 result.1.now }
     ensures left { LeavesOther group modrm result.1.now }
     ensures sound { is_sound result.1.now ≡ true }
-    ensures fields { IsTrue (is_described result.1.now.behind) → has_either_form result.1.now.behind ≡ true }
+    ensures fields { IsTrue (is_described result.1.now.behind) →
+        has_either_form result.1.now.behind ≡ true }
 {
     let reg = modrm.reg_field();
     match group {

@@ -27,26 +27,43 @@ use x86_forms::Form;
 /// refuses as `Incomplete`, and no record does so at the opcode byte. So `read_group` answers `IncompleteDecoder` for
 /// 8F alone. Source: Intel SDM volume 2, appendix A.4, group 1A.
 pub fn groups_are_built()
-    ensures at_opcode { (strict : Bool) (row : TableRow) (p : Prefixes) → (group_record strict row p).at_opcode ≢ Some Incomplete }
-    ensures form { (strict : Bool) (row : TableRow) (p : Prefixes) (m : ℕ) (w : Moment) → is_group row.form ≡ true → ((group_record strict row p).plan m).verdict ≡ Refuses Incomplete w → row.form ≡ Form.ModRM_0x8f }
-    ensures reg { (strict : Bool) (row : TableRow) (p : Prefixes) (m : ℕ) (w : Moment) → is_group row.form ≡ true → ((group_record strict row p).plan m).verdict ≡ Refuses Incomplete w → reg_field m ≢ 0 }
-    ensures moment { (strict : Bool) (row : TableRow) (p : Prefixes) (m : ℕ) (w : Moment) → is_group row.form ≡ true → ((group_record strict row p).plan m).verdict ≡ Refuses Incomplete w → w ≡ AfterAddress }
-    ensures answer { (strict : Bool) (row : TableRow) (p : Prefixes) (s : State ℕ) → is_group row.form ≡ true → (record_step (group_record strict row p) p s).answer ≡ Err IncompleteDecoder → row.form ≡ Form.ModRM_0x8f }
+    ensures at_opcode { (strict : Bool) (row : TableRow) (p : Prefixes) →
+        (group_record strict row p).at_opcode ≢ Some Incomplete }
+    ensures form { (strict : Bool) (row : TableRow) (p : Prefixes) (m : ℕ) (w : Moment) →
+        is_group row.form ≡ true →
+        ((group_record strict row p).plan m).verdict ≡ Refuses Incomplete w →
+        row.form ≡ Form.ModRM_0x8f }
+    ensures reg { (strict : Bool) (row : TableRow) (p : Prefixes) (m : ℕ) (w : Moment) →
+        is_group row.form ≡ true →
+        ((group_record strict row p).plan m).verdict ≡ Refuses Incomplete w → reg_field m ≢ 0 }
+    ensures moment { (strict : Bool) (row : TableRow) (p : Prefixes) (m : ℕ) (w : Moment) →
+        is_group row.form ≡ true →
+        ((group_record strict row p).plan m).verdict ≡ Refuses Incomplete w → w ≡ AfterAddress }
+    ensures answer { (strict : Bool) (row : TableRow) (p : Prefixes) (s : State ℕ) →
+        is_group row.form ≡ true →
+        (record_step (group_record strict row p) p s).answer ≡ Err IncompleteDecoder →
+        row.form ≡ Form.ModRM_0x8f }
 {}
 
 /// The memory size of each plan is at most 64 bytes.
 pub fn group_sizes_are_small()
-    ensures { (strict : Bool) (row : TableRow) (p : Prefixes) (m : ℕ) → ((group_record strict row p).plan m).size ≤ 64 }
+    ensures { (strict : Bool) (row : TableRow) (p : Prefixes) (m : ℕ) →
+        ((group_record strict row p).plan m).size ≤ 64 }
 {}
 
 /// The default and the strict choice differ on LFENCE, MFENCE and SFENCE with rm other than 0, and on nothing else:
 /// there the default reads the fence, without an operand, and the strict choice refuses its operand behind ModRM.
 pub fn choices_differ_on_fences()
-    ensures at_opcode { (row : TableRow) (p : Prefixes) → (group_record true row p).at_opcode ≡ (group_record false row p).at_opcode }
-    ensures modrm { (row : TableRow) (p : Prefixes) → (group_record true row p).modrm ≡ (group_record false row p).modrm }
-    ensures elsewhere { (row : TableRow) (p : Prefixes) (m : ℕ) → (group_plan row p m true ≡ group_plan row p m false) ⊎ IsFenceWithRm row.form p m }
-    ensures by_default { (row : TableRow) (p : Prefixes) (m : ℕ) (fence : IsFenceWithRm row.form p m) → group_plan row p m false ≡ bare fence.opcode }
-    ensures strictly { (row : TableRow) (p : Prefixes) (m : ℕ) → IsFenceWithRm row.form p m → group_plan row p m true ≡ bad_operand }
+    ensures at_opcode { (row : TableRow) (p : Prefixes) →
+        (group_record true row p).at_opcode ≡ (group_record false row p).at_opcode }
+    ensures modrm { (row : TableRow) (p : Prefixes) →
+        (group_record true row p).modrm ≡ (group_record false row p).modrm }
+    ensures elsewhere { (row : TableRow) (p : Prefixes) (m : ℕ) →
+        (group_plan row p m true ≡ group_plan row p m false) ⊎ IsFenceWithRm row.form p m }
+    ensures by_default { (row : TableRow) (p : Prefixes) (m : ℕ)
+        (fence : IsFenceWithRm row.form p m) → group_plan row p m false ≡ bare fence.opcode }
+    ensures strictly { (row : TableRow) (p : Prefixes) (m : ℕ) →
+        IsFenceWithRm row.form p m → group_plan row p m true ≡ bad_operand }
 {}
 
 /// A group that reg alone chooses is read by its ModRM byte and the plan of its line there, under both choices. Its
@@ -54,6 +71,8 @@ pub fn choices_differ_on_fences()
 pub fn reg_groups_are_chosen()
     ensures group { (g : RegGroup) (f : Form) → f ≡ group_form g → is_group f ≡ true }
     ensures carries { (g : RegGroup) (f : Form) → f ≡ group_form g → carried f ≡ 0 }
-    ensures plan { (g : RegGroup) (strict : Bool) (row : TableRow) (p : Prefixes) (m : ℕ) → row.form ≡ group_form g → group_plan row p m strict ≡ reg_plan g p m }
-    ensures read { (g : RegGroup) (strict : Bool) (row : TableRow) (p : Prefixes) (s : State ℕ) → row.form ≡ group_form g → record_step (group_record strict row p) p s ≡ reg_step g p s }
+    ensures plan { (g : RegGroup) (strict : Bool) (row : TableRow) (p : Prefixes) (m : ℕ) →
+        row.form ≡ group_form g → group_plan row p m strict ≡ reg_plan g p m }
+    ensures read { (g : RegGroup) (strict : Bool) (row : TableRow) (p : Prefixes) (s : State ℕ) →
+        row.form ≡ group_form g → record_step (group_record strict row p) p s ≡ reg_step g p s }
 {}

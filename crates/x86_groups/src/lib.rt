@@ -183,7 +183,9 @@ pub fn read_group_into<T: Reader<u64, u8>>(
     given: &mut Operands,
 ) -> Result<(), DecodeError>
     requires { given.old ≡ no_operands }
-    ensures { outcome (held result (reading_with opcode.new prefixes.new given.new)) (T.state reader.new) ≡ record_step (group_record strict row prefixes.old) prefixes.old (T.state reader.old) }
+    ensures { outcome
+        (held result (reading_with opcode.new prefixes.new given.new)) (T.state reader.new)
+        ≡ record_step (group_record strict row prefixes.old) prefixes.old (T.state reader.old) }
 {
     refuse_fault(group_fault(row.form, prefixes))?;
     let modrm = read_modrm(reader, group_modrm(row.form))?;
@@ -212,7 +214,8 @@ pub fn read_group<T: Reader<u64, u8>>(
     strict: bool,
 ) -> Result<Reading, DecodeError>
     requires group { is_group row.form ≡ true }
-    ensures { outcome result (T.state words.new) ≡ record_step (group_record strict row prefixes) prefixes (T.state words.old) }
+    ensures { outcome result (T.state words.new)
+        ≡ record_step (group_record strict row prefixes) prefixes (T.state words.old) }
 {
     refuse_fault(group_fault(row.form, &prefixes))?;
     let modrm = read_modrm(words, group_modrm(row.form))?;
