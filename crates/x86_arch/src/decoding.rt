@@ -88,7 +88,9 @@ pub trait Decoder<A: Arch> {
         inst: &mut A::Instruction,
         words: &mut T,
     ) -> Result<(), A::DecodeError>
-        ensures decoded { OnOk result (decodes self.now (T.state words.old) (Ok inst.new) (T.state words.new)) }
-        ensures refused { IfErr result (λ error. decodes self.now (T.state words.old) (Err error) (T.state words.new)) }
+        ensures decoded { OnOk result
+            (decodes self.now (T.state words.old) (Ok inst.new) (T.state words.new)) }
+        ensures refused { IfErr result
+            (λ error. decodes self.now (T.state words.old) (Err error) (T.state words.new)) }
         ensures blanked { OnErr result (inst.new ≡ blank) };
 }

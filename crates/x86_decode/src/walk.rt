@@ -130,7 +130,8 @@ fn read_front<W: Words, T: Reader<u64, u8>>(
 ) -> Result<Left, DecodeError>
     requires { inst.old ≡ invalid_instruction }
     ensures ready { IfOk result (IsReady inst.new) }
-    ensures read { Fronted (rows_of (W.word rows.now)) inst.new result (T.state reader.new) (λ strict. walk_within (rows_of (W.word rows.now)) strict (T.state reader.old)) }
+    ensures read { Fronted (rows_of (W.word rows.now)) inst.new result (T.state reader.new)
+        (λ strict. walk_within (rows_of (W.word rows.now)) strict (T.state reader.old)) }
 {
     let byte = read_head(reader, &mut inst.prefixes)?;
     if is_prefix(byte) {
