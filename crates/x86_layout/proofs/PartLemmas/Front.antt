@@ -114,7 +114,7 @@ module _ {r : RowRecord} {p : Prefixes} {tail : List ℕ} {reading : Reading} (a
 -- What is up to the opcode byte and after it, and what the row asks.
 pub record HasHead (strict : Bool) (bytes s rest : List ℕ) (reading : Reading) (w : Encoding strict s reading) : Type 0 where
   pub prefixes : run_in bytes ≡ w.run
-  pub behind : behind_run bytes ≡ escape_bytes w.map ++ w.opcode ∷ (w.tail ++ rest)
+  pub after_prefixes : behind_run bytes ≡ escape_bytes w.map ++ w.opcode ∷ (w.tail ++ rest)
   pub map : map_in bytes ≡ w.map
   pub opcode : opcode_in bytes ≡ w.opcode ∷ []
   pub tail : tail_in bytes ≡ w.tail ++ rest
@@ -123,20 +123,20 @@ pub record HasHead (strict : Bool) (bytes s rest : List ℕ) (reading : Reading)
 pub has_head : (strict : Bool) (bytes s rest : List ℕ) (reading : Reading) (w : Encoding strict s reading) → bytes ≡ s ++ rest → HasHead strict bytes s rest reading w
 has_head strict bytes s rest reading w begins =
     let tail' : List ℕ = w.tail ++ rest in
-    let behind : List ℕ = escape_bytes w.map ++ w.opcode ∷ tail' in
-    let spelled : bytes ≡ w.run ++ behind = begins ∙ ap (λ l. l ++ rest) w.spelled ∙ simp append_assoc in
+    let after_prefixes : List ℕ = escape_bytes w.map ++ w.opcode ∷ tail' in
+    let spelled : bytes ≡ w.run ++ after_prefixes = begins ∙ ap (λ l. l ++ rest) w.spelled ∙ simp append_assoc in
     let in' = enters w.map w.opcode tail' w.meant in
     let run_n : prefix_len is_prefix bytes ≡ length w.run =
     ap (prefix_len is_prefix) (spelled ∙ ap (λ l. w.run ++ l) in'.spelled) ∙ run_length_is w.run in'.first in'.rest w.prefixes in'.plain in
-    let prefixes : run_in bytes ≡ w.run = front_is bytes w.run behind _ spelled run_n in
-    let run_rest : behind_run bytes ≡ behind = rest_is bytes w.run behind _ spelled run_n in
+    let prefixes : run_in bytes ≡ w.run = front_is bytes w.run after_prefixes _ spelled run_n in
+    let run_rest : behind_run bytes ≡ after_prefixes = rest_is bytes w.run after_prefixes _ spelled run_n in
     let map : map_in bytes ≡ w.map = ap (λ l. map_of (slice_index l 0) (slice_index l 1)) run_rest ∙ map_is w.map w.opcode tail' w.meant in
     let escape_rest : behind_escape bytes ≡ w.opcode ∷ tail' = rest_is _ (escape_bytes w.map) (w.opcode ∷ tail') _ run_rest (ap (λ x. length (escape_bytes x)) map) in
     let opcode : opcode_in bytes ≡ w.opcode ∷ [] = front_is _ (w.opcode ∷ []) tail' 1 escape_rest refl in
     let first : ℕ = slice_index (tail_in bytes) 0 in
     record {
       prefixes = prefixes;
-      behind = run_rest;
+      after_prefixes = run_rest;
       map = map;
       opcode = opcode;
       tail = rest_is _ (w.opcode ∷ []) tail' 1 escape_rest refl;
