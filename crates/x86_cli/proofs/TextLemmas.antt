@@ -6,4 +6,5 @@ pub mod Pair
 pub mod Fill
 pub mod Begins
 pub mod Held
+pub mod ImageAhead
 pub mod Front

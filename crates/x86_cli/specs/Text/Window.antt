@@ -38,8 +38,8 @@ pub record Fills {S : Type 0} (gives : S → Got → S → Type 0) (Holds : Text
   pub goes_on : Open ended stop
   pub rest : (xs : List ℕ) (s : Stop) → MayCome stop xs s → old (bytes ++ xs) s ≡ rest_of ended window position room xs s
 
--- What these bytes say of every text that begins with them: the values are at the front of its image, and the rest is the
--- text of what follows. Each was taken where the image so far had fewer values than these.
+-- What these bytes say of every text that begins with them: the values are at the front of its image, and the rest is
+-- the text of what follows. Each was taken where the image so far had fewer values than these.
 pub record Begins (most : ℕ) (bytes values : List ℕ) : Type 0 where
   pub asked : (position room : ℕ) → AskedWhere (NeedsMore most) (text_at position (length bytes + room)) bytes None
   pub rest : (position room : ℕ) (xs : List ℕ) (s : Stop) →

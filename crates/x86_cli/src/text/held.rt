@@ -1,20 +1,20 @@
 //! The bytes that a window holds: first in, first out.
 
-ghost use Rattle.std.specs.Prelude.{◌≡◌, ℕ, List, ◌+◌, ◌-◌, ◌<◌, ◌≤◌, ◌++◌, ◌∷◌, ◌==◌, [], length, take, drop};
+ghost use Rattle.std.specs.Prelude.{◌≡◌, ℕ, ◌+◌, ◌<◌, ◌≤◌, ◌++◌, ◌∷◌, ◌==◌, [], length, take, drop};
 ghost use Rattle.arrayvec.specs.ArrayVec.{array_vec_len};
-ghost use Rattle.x86_cli.specs.Text.Window.{Begins};
 
-use crate::text::pairs::read_pairs;
+use crate::text::pairs::BLOCK;
 use std::marker::Model;
 
 /// The most bytes that are held: the most that an instruction may have.
 const HELD_MAX: usize = 15;
 
-/// Room for them and for those that were let go, so that they move to the front only where it is used up.
-const ROOM: usize = 256;
+/// Room for them and for those that were let go, so that they move to the front only where it is used up. A block fits
+/// after the last held byte.
+const ROOM: usize = 272;
 
-/// The last start behind which `HELD_MAX` bytes have room.
-const LAST_START: usize = ROOM - HELD_MAX;
+/// The last start after which `HELD_MAX` bytes and a block have room.
+const LAST_START: usize = ROOM - BLOCK - HELD_MAX;
 
 /// At most `HELD_MAX` bytes, which stand from a start that moves. What contracts see of them is a vector.
 #[derive(Drop)]
@@ -50,6 +50,14 @@ impl Held {
         ensures few { result ≤ 15 }
     {
         self.end - self.start
+    }
+
+    /// How many further bytes fit.
+    #[inline(always)]
+    pub fn room(&self) -> usize
+        ensures { array_vec_len self.now + result ≡ 15 }
+    {
+        HELD_MAX - self.len()
     }
 
     /// Whether no further byte fits.
@@ -90,22 +98,16 @@ impl Held {
         self.end = end + 1;
     }
 
-    /// Appends the values of the pairs that a text begins with, until no further byte fits. It returns how many bytes of
-    /// the text they and the blanks before them are.
+    /// Appends the first bytes of a block.
     #[inline(always)]
-    pub fn push_pairs(&mut self, text: &[u8]) -> usize
-        ensures text { result ≤ length text.now }
-        ensures few { array_vec_len self.new ≤ 15 }
-        ensures uses { array_vec_len self.new ≤ array_vec_len self.old + result }
-        ensures begins { (values : List ℕ)
-            × Begins (15 - array_vec_len self.old) (take result text.now) values
-            × (self.new.items ≡ self.old.items ++ values) }
+    pub fn push_block(&mut self, block: &[u8; BLOCK], count: usize)
+        requires { array_vec_len self.old + count ≤ 15 }
+        ensures items { self.new.items ≡ self.old.items ++ take count block.now }
+        ensures len { array_vec_len self.new ≡ array_vec_len self.old + count }
     {
         let end = self.end;
-        let most = self.start + HELD_MAX;
-        let read = read_pairs(text, &mut self.cells[end..most]);
-        self.end = end + read.values;
-        read.text
+        self.cells[end..end + BLOCK].copy_from_slice(block);
+        self.end = end + count;
     }
 
     /// Lets the first bytes go.

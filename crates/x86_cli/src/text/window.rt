@@ -8,11 +8,13 @@ ghost use Rattle.x86_decode.specs.declared.instructions.Instruction.{Instruction
 ghost use Rattle.x86_decode.specs.Instruction.{holding};
 ghost use Rattle.x86_cli.specs.Listings.Listing.{front_of, judged, sure_of};
 ghost use Rattle.x86_cli.specs.Text.Reading.{NeedsMore};
+ghost use Rattle.x86_cli.specs.Text.ImageAhead.{IsAheadIn, IsEmptyAhead};
 ghost use Rattle.x86_cli.specs.Text.Window.{rest_of, front_with, Fills, Shows};
 
 use crate::laws::decoder_laws;
 use crate::outside::source::Source;
 use crate::text::held::Held;
+use crate::text::image_ahead::ImageAhead;
 use crate::text::reader::{Ending, Piece, TextReader};
 use x86_decode::{InstDecoder, Instruction};
 use x86_fields::DecodeError;
@@ -54,6 +56,7 @@ fn judged(answer: Result<(), DecodeError>, ending: Ending) -> Front<()>
 #[derive(Drop)]
 pub struct Window {
     pub bytes: Held,
+    pub ahead: ImageAhead,
     pub reader: TextReader,
     pub ended: Option<Ending>,
 }
@@ -64,9 +67,11 @@ impl Window {
         ensures position { result.reader.position ≡ 0 }
         ensures room { result.reader.room ≡ max }
         ensures ended { result.ended ≡ None }
+        ensures ahead { (text : List ℕ) → IsAheadIn text result.ahead }
     {
         Window {
             bytes: Held::EMPTY,
+            ahead: ImageAhead::new(),
             reader: TextReader::new(max),
             ended: None,
         }
@@ -82,6 +87,7 @@ impl Window {
             self.new.ended self.new.bytes.items self.new.reader.position self.new.reader.room
             source.old source.new }
         ensures few { array_vec_len self.new.bytes ≤ 15 }
+        ensures ahead { self.new.ahead ≡ self.old.ahead }
         ensures full { self.new.ended ≡ None → array_vec_len self.new.bytes ≡ 15 }
         ensures uses { array_vec_len self.new.bytes + self.new.reader.room
             ≤ array_vec_len self.old.bytes + self.old.reader.room }
@@ -101,31 +107,61 @@ impl Window {
         self.reader = reader;
     }
 
-    /// Takes bytes of the image of those that the source has ahead, until the window is full.
+    /// Takes the bytes of the image that are known ahead, until the window is full.
     #[inline(always)]
     fn take_ahead<S: Source>(&mut self, source: &mut S)
+        requires { IsAheadIn (take self.old.reader.room (S.ahead source.old)) self.old.ahead }
         ensures fills { Fills S.gives (NeedsMore 15)
             (rest_of None self.old.bytes.items self.old.reader.position self.old.reader.room)
             None self.new.bytes.items self.new.reader.position self.new.reader.room
             source.old source.new }
+        ensures ahead { IsAheadIn (take self.new.reader.room (S.ahead source.new)) self.new.ahead }
+        ensures empty { array_vec_len self.new.bytes < 15 → IsEmptyAhead self.new.ahead }
         ensures ended { self.new.ended ≡ self.old.ended }
         ensures few { array_vec_len self.new.bytes ≤ 15 }
         ensures uses { array_vec_len self.new.bytes + self.new.reader.room
             ≤ array_vec_len self.old.bytes + self.old.reader.room }
     {
-        let taken = self.bytes.push_pairs(self.reader.within(source.ahead()));
-        source.skip(taken);
-        self.reader.advance_by(taken);
+        let count = self.ahead.len().min(self.bytes.room());
+        self.bytes.push_block(&self.ahead.block(), count);
+        let text = self.ahead.take(count);
+        source.skip(text);
+        self.reader.advance_by(text);
+    }
+
+    /// Takes bytes of the image until the window is full or the text has ended: those of the bytes that the source has
+    /// ahead, and byte by byte where these are not enough.
+    #[cold]
+    #[inline(never)]
+    fn read_ahead<S: Source>(&mut self, source: &mut S)
+        requires { self.old.ended ≡ None }
+        ensures fills { Fills S.gives (NeedsMore 15)
+            (rest_of None self.old.bytes.items self.old.reader.position self.old.reader.room)
+            self.new.ended self.new.bytes.items self.new.reader.position self.new.reader.room
+            source.old source.new }
+        ensures ahead { IsAheadIn (take self.new.reader.room (S.ahead source.new)) self.new.ahead }
+        ensures few { array_vec_len self.new.bytes ≤ 15 }
+        ensures full { self.new.ended ≡ None → array_vec_len self.new.bytes ≡ 15 }
+        ensures uses { array_vec_len self.new.bytes + self.new.reader.room
+            ≤ array_vec_len self.old.bytes + self.old.reader.room }
+    {
+        self.ahead.read(self.reader.within(source.ahead()));
+        self.take_ahead(source);
+        if !self.bytes.is_full() {
+            self.fill(source);
+        }
     }
 
     /// The same, where the text may have ended.
     pub fn refill<S: Source>(&mut self, source: &mut S)
+        requires { IsAheadIn (take self.old.reader.room (S.ahead source.old)) self.old.ahead }
         ensures cases { MatchOption self.old.ended
             (Fills S.gives (NeedsMore 15)
             (rest_of None self.old.bytes.items self.old.reader.position self.old.reader.room)
             self.new.ended self.new.bytes.items self.new.reader.position self.new.reader.room
             source.old source.new)
             (λ e. (self.new ≡ self.old) × (source.new ≡ source.old)) }
+        ensures ahead { IsAheadIn (take self.new.reader.room (S.ahead source.new)) self.new.ahead }
         ensures full { self.new.ended ≡ None → array_vec_len self.new.bytes ≡ 15 }
         ensures few { array_vec_len self.old.bytes ≤ 15 → array_vec_len self.new.bytes ≤ 15 }
         ensures uses { array_vec_len self.new.bytes + self.new.reader.room
@@ -134,7 +170,7 @@ impl Window {
         if self.ended.is_none() {
             self.take_ahead(source);
             if !self.bytes.is_full() {
-                self.fill(source);
+                self.read_ahead(source);
             }
         }
     }
@@ -177,6 +213,7 @@ impl Window {
         requires { count ≤ array_vec_len self.old.bytes }
         ensures bytes { self.new.bytes.items ≡ drop count self.old.bytes.items }
         ensures reader { self.new.reader ≡ self.old.reader }
+        ensures ahead { self.new.ahead ≡ self.old.ahead }
         ensures ended { self.new.ended ≡ self.old.ended }
     {
         self.bytes.leave(count);

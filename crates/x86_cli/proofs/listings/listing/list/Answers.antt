@@ -10,6 +10,7 @@ lines-init g c =
     let e = c.new-window.ensures in
     record {
       stands = rw (e.ended, e.bytes, e.position, e.room, c.at-place.ensures) (stands_new g.S.Source.gives g.K.Sink.takes (g.W.Course.lists c.args.course.now c.args.decoder.now.strict) window refl c.args.max _ _);
+      ahead = e.ahead _;
       few = omega (arith, ap length e.bytes);
       fits = omega (arith, ap length e.bytes, e.room);
     }
@@ -21,6 +22,7 @@ lines-preserved g c =
     record {
       stands = rw (c.advance.ensures, c.leave.ensures.ended, c.leave.ensures.reader, c.leave.ensures.bytes)
           (stands_line g.S.Source.gives g.K.Sink.takes (g.W.Course.lists c.args.course.now c.args.decoder.now.strict) _ _ _ _ _ _ _ _ _ _ s (line c.next.new.line.items) _ step.1 step.2 _ c.in-Ok.ensures);
+      ahead = rw (c.leave.ensures.reader, c.leave.ensures.ahead) c.refill.ensures.ahead;
       few = omega (arith, simp length-drop at (ap length c.leave.ensures.bytes), c.refill.ensures.few c.lines.invariant.few);
       fits = omega (arith, simp length-drop at (ap length c.leave.ensures.bytes), ap (λ r. r.room) c.leave.ensures.reader, c.refill.ensures.uses, c.lines.invariant.fits, step.1);
     }

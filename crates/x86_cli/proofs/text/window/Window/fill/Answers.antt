@@ -9,6 +9,7 @@ loop-reader-preserved g c =
     let fits : length c.loop-reader.self.bytes.items + 1 ≤ 15 = grind (arith, nat_tests) in
     record {
       goes_on = c.loop-reader.invariant.goes_on;
+      ahead = c.loop-reader.invariant.ahead;
       filling = rw c.push.ensures.items
           (filling_byte g.S.Source.gives (NeedsMore 15) _ _ _ _ _ _ c.loop-reader.invariant.filling (λ t. more_behind 15 1 _ t fits) _ _ _ _ c.in-Byte.ensures.reads);
       uses = omega (arith, c.loop-reader.invariant.uses, c.in-Byte.ensures.uses, c.push.ensures.len);

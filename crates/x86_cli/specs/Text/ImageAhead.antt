@@ -1,0 +1,37 @@
+-- The bytes of an image that the text ahead has, by the places at which they end.
+use Rattle.std.specs.Prelude.{◌≡◌, ℕ, ◌+◌, ◌<◌, ◌≤◌, List, [], ◌∷◌, length, drop, slice_index_or, slice_range}
+use Rattle.x86_cli.specs.declared.text.image_ahead.ImageAhead.{ImageAhead}
+use Rattle.x86_cli.specs.Text.Window.{Begins}
+
+-- Between two places of a text are these values, fewer than two: blanks, and then a pair where there is a value.
+pub record IsBetween (text : List ℕ) (start end : ℕ) (values : List ℕ) : Type 0 where
+  pub ordered : start + length values ≤ end
+  pub inside : end ≤ length text
+  pub begins : Begins 1 (slice_range text start end) values
+
+-- between two places are blanks alone
+abbrev pub AreBlanks : List ℕ → ℕ → ℕ → Type 0
+AreBlanks text start end = IsBetween text start end []
+
+-- between two places are blanks and a pair of this value
+abbrev pub IsByte : List ℕ → ℕ → ℕ → ℕ → Type 0
+IsByte text start end value = IsBetween text start end (value ∷ [])
+
+-- So many of the values are bytes of a text, one after the other: each ends at the place after its number.
+abbrev pub AreBytes : List ℕ → ℕ → List ℕ → List ℕ → Type 0
+AreBytes text count values places =
+    (k : ℕ) → k < count → IsByte text (slice_index_or places k 0) (slice_index_or places (k + 1) 0) (slice_index_or values k 0)
+
+-- The values from a start on, where there are some, are the bytes of the image that a text begins with: those before it
+-- were taken.
+pub record AreAhead (text values places : List ℕ) (start end : ℕ) : Type 0 where
+  pub whole : List ℕ
+  pub bytes : AreBytes whole end values places
+  pub room : end ≤ length values
+  pub rest : start < end → text ≡ drop (slice_index_or places start 0) whole
+
+abbrev pub IsAheadIn : List ℕ → ImageAhead → Type 0
+IsAheadIn text s = AreAhead text s.values s.places s.start s.end
+
+abbrev pub IsEmptyAhead : ImageAhead → Type 0
+IsEmptyAhead s = s.start ≡ s.end
