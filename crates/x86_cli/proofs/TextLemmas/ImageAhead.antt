@@ -94,12 +94,6 @@ byte_after text start at v w b inside blank high low =
 between_same : (text : List ℕ) (a a' b b' v v' : ℕ) → a' ≡ a → b' ≡ b → v' ≡ v → IsByte text a b v → IsByte text a' b' v'
 between_same text a a' b b' v v' e f g byte = rw (e, f, g) byte
 
-pub bytes_same : (text values values' places places' : List ℕ) (n : ℕ) → AreBytes text n values places →
-    ((k : ℕ) → k < n → slice_index_or values' k 0 ≡ slice_index_or values k 0) → ((k : ℕ) → k ≤ n → slice_index_or places' k 0 ≡ slice_index_or places k 0) →
-    AreBytes text n values' places'
-bytes_same text values values' places places' n bytes same places_same k lt =
-    between_same text _ _ _ _ _ _ (places_same k (omega (arith, lt))) (places_same (k + 1) (omega (arith, lt))) (same k lt) (bytes k lt)
-
 pub bytes_push : (text values places : List ℕ) (n at v : ℕ) → AreBytes text n values places → n < length values → n + 1 < length places →
     IsByte text (slice_index_or places n 0) at v → AreBytes text (n + 1) (set values n v) (set places (n + 1) at)
 bytes_push text values places n at v bytes room places_room byte k lt = by (cases_lt k n)
@@ -233,10 +227,6 @@ takes_bytes text values places start end (suc n) a fits =
 -- a block has the first bytes
 pub block_front : (values : List ℕ) (start n : ℕ) → n ≤ 16 → take n (slice_range values start (start + 16)) ≡ take n (drop start values)
 block_front values start n few = take-take n (start + 16 - start) (drop start values) (omega (arith, few))
-
--- where none is left, whatever the text is
-pub ahead_empty : (text text' values places : List ℕ) (start end : ℕ) → AreAhead text values places start end → start ≡ end → AreAhead text' values places start end
-ahead_empty text text' values places start end a none = record { whole = a.whole; bytes = a.bytes; room = a.room; rest = λ some. absurd (omega (arith, some, none)) }
 
 -- what is left ahead, of a text of which no more than room are seen
 pub rest_ahead : (ahead ahead' values places : List ℕ) (room room' start end n used : ℕ) → AreAhead (take room ahead) values places start end →
