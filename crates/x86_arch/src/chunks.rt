@@ -60,9 +60,9 @@ impl Reader<u64, u8> for ChunkReader<'_> {
         } else if seam <= self.place {
             buf.copy_from_slice(&self.rest[self.place - seam..end - seam]);
         } else {
-            let (before, behind) = buf.split_at_mut(seam - self.place);
+            let (before, tail) = buf.split_at_mut(seam - self.place);
             before.copy_from_slice(&self.first[self.place..]);
-            behind.copy_from_slice(&self.rest[..end - seam]);
+            tail.copy_from_slice(&self.rest[..end - seam]);
         }
         self.place = end;
         Ok(())

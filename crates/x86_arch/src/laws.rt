@@ -18,9 +18,9 @@ pub fn next_is_that_of_a_slice<T: Reader<u64, u8>>(
         (T.state reader.old).since_made + result.2 }
 {
     let mut slice = U8Reader::new(bytes);
-    let given = reader.next();
+    let over_reader = reader.next();
     let over_slice = slice.next();
-    (given, over_slice, slice.total_offset())
+    (over_reader, over_slice, slice.total_offset())
 }
 
 /// Over any reader `next_n` returns what it returns over a slice with the same bytes left: the same answer, the same
@@ -28,20 +28,20 @@ pub fn next_is_that_of_a_slice<T: Reader<u64, u8>>(
 pub fn next_n_is_that_of_a_slice<T: Reader<u64, u8>>(
     reader: &mut T,
     bytes: &[u8],
-    given: &mut [u8],
+    over_reader: &mut [u8],
     over_slice: &mut [u8],
 ) -> (Result<(), ReadError>, Result<(), ReadError>, u64)
     requires same_left { (T.state reader.old).left ≡ bytes.now }
-    requires same_room { length given.old ≡ length over_slice.old }
-    ensures filled { OnOk result.0 (given.new ≡ take (length given.old) bytes.now) }
-    ensures too_few { OnErr result.0 (length bytes.now < length given.old) }
+    requires same_room { length over_reader.old ≡ length over_slice.old }
+    ensures filled { OnOk result.0 (over_reader.new ≡ take (length over_reader.old) bytes.now) }
+    ensures too_few { OnErr result.0 (length bytes.now < length over_reader.old) }
     ensures same_answer { result.0 ≡ result.1 }
-    ensures same_bytes { OnOk result.0 (given.new ≡ over_slice.new) }
+    ensures same_bytes { OnOk result.0 (over_reader.new ≡ over_slice.new) }
     ensures same_count { (T.state reader.new).since_made ≡
         (T.state reader.old).since_made + result.2 }
 {
     let mut slice = U8Reader::new(bytes);
-    let answer = reader.next_n(given);
+    let answer = reader.next_n(over_reader);
     let answer_over_slice = slice.next_n(over_slice);
     (answer, answer_over_slice, slice.total_offset())
 }

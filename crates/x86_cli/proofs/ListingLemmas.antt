@@ -1,7 +1,7 @@
 -- Lemmas on listings.
 pub mod Listing
 pub mod Grammar
-pub mod Stands
-pub mod Standing
+pub mod Progress
+pub mod NextStep
 pub mod Sweep
 pub mod Target

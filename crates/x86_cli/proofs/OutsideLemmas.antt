@@ -1,6 +1,6 @@
 -- Lemmas on sources and sinks.
 pub mod Sink
-pub mod Tells
+pub mod Reports
 pub mod Writes
 pub mod Reads
 pub mod Flat

@@ -1,4 +1,4 @@
-//! Laws of the text and of the values of the outside, and those of the decoder on which the window stands.
+//! Laws of the text and of the values of the outside, and those of the decoder on which the window rests.
 
 ghost use Rattle.std.specs.Prelude.{◌≡◌, ◌≢◌, ◌↔◌, ℕ, Bool, IsTrue, List, Option};
 ghost use Rattle.x86_decode.specs.declared.instructions.Instruction.{Instruction};
@@ -11,14 +11,14 @@ ghost use Rattle.x86_cli.specs.Commands.Follows.{IsExact, HasReadFault, Complete
 ghost use Rattle.x86_cli.specs.Listings.Grammar.{IsListing};
 ghost use Rattle.x86_cli.specs.Listings.Listing.{Listing, LinesLeaveStatus, listing_at};
 ghost use Rattle.x86_cli.specs.Text.{Text};
-ghost use Rattle.x86_cli.specs.Text.Reading.{Gave};
+ghost use Rattle.x86_cli.specs.Text.Reading.{SourceCalls};
 ghost use Rattle.x86_cli.specs.Commands.Make.{made_listing};
 ghost use Rattle.x86_cli.specs.Commands.Program.{Performs, PerformsMake, Has, Leaves};
-ghost use Rattle.x86_cli.specs.Commands.Run.{Took, Wrote};
+ghost use Rattle.x86_cli.specs.Commands.Run.{SinkCalls, Wrote};
 ghost use Rattle.x86_cli.specs.Commands.Says.{Makes, Says, Streams};
 ghost use Rattle.x86_cli.specs.Outside.FaultCounts.{Rose};
 ghost use Rattle.x86_cli.specs.Outside.Stop.{Stop};
-ghost use Rattle.x86_cli.specs.Outside.Told.{TellsGave, TellsTook};
+ghost use Rattle.x86_cli.specs.Outside.Reported.{ReportsBytes, ReportsPieces};
 ghost use Rattle.x86_cli.specs.Text.Pairs.{SequencesAreSound, BadIsFirst};
 
 use crate::commands::command::Command;
@@ -35,7 +35,7 @@ pub fn sequences()
     ensures { SequencesAreSound }
 {}
 
-/// A bad place is the first: no front up to it has a bad byte.
+/// A bad place is the first: no beginning up to it has a bad byte.
 pub fn first()
     ensures { BadIsFirst }
 {}
@@ -51,7 +51,7 @@ pub fn by_grammar()
     ensures { (strict : Bool) (text : ℕ → Instruction → List ℕ → List ℕ)
         (place : ℕ) (t : Text) (l : Listing)
         → IsListing (rows_of packed) strict text place t.image t.ending l
-            ↔ (l ≡ listing_at strict text place t) }
+        ↔ (l ≡ listing_at strict text place t) }
 {
     laws::lengths();
     laws::answer_is();
@@ -68,21 +68,21 @@ pub fn decoder_laws()
     laws::answer_is();
 }
 
-/// What a source gives, refusals of a sink, and statuses are equal exactly where they are the same.
+/// The answers of a source, the refusals of a sink, and statuses are equal exactly where they are the same.
 pub fn values_are_equal()
-    ensures given { (a b : Got) → IsTrue (⟦<Got as PartialEq>⟧.eq a b) ↔ (a ≡ b) }
+    ensures answers { (a b : Got) → IsTrue (⟦<Got as PartialEq>⟧.eq a b) ↔ (a ≡ b) }
     ensures refusals { (a b : SinkFailed) → IsTrue (⟦<SinkFailed as PartialEq>⟧.eq a b) ↔ (a ≡ b) }
     ensures statuses { (a b : Status) → IsTrue (⟦<Status as PartialEq>⟧.eq a b) ↔ (a ≡ b) }
 {}
 
-/// What the calls of a run say, where the source tells its bytes and the sink what was written.
-pub fn told<S: Source, K: Sink>()
+/// What the calls of a run say, where the bytes of the source and of the sink are known.
+pub fn reported<S: Source, K: Sink>()
     ensures source { (bytes : List ℕ) (stop : Option Stop) (a b : S)
-        → Gave S.gives bytes stop a b
-        → TellsGave bytes stop (S.left a) (S.left b) (S.faults a) (S.faults b) }
+        → SourceCalls S.gives bytes stop a b
+        → ReportsBytes bytes stop (S.left a) (S.left b) (S.faults a) (S.faults b) }
     ensures sink { (pieces : List (List ℕ)) (failed : Option (List ℕ)) (k l : K)
-        → Took K.takes pieces failed k l
-        → TellsTook pieces failed (K.written k) (K.written l) (K.faults k) (K.faults l) }
+        → SinkCalls K.takes pieces failed k l
+        → ReportsPieces pieces failed (K.written k) (K.written l) (K.faults k) (K.faults l) }
 {}
 
 /// A read fault comes only after a call of the source that failed, and a write fault only after a put that failed.
@@ -90,14 +90,14 @@ pub fn causes<S: Source, K: Sink>()
     ensures { HaveCauses S.gives K.takes }
 {}
 
-/// What a run of `make` says, where the sink tells what was written.
+/// What a run of `make` says, where the sink's bytes are known.
 pub fn made<K: Sink>()
     ensures { (n : ℕ) (status : Status) (k l : K)
         → Wrote K.takes (made_listing n) status k l
         → Makes n status (K.written k) (K.written l) (K.faults k) (K.faults l) }
 {}
 
-/// Where the source tells its bytes and neither count of faults rose, a run ends with a status exactly where the
+/// Where the source's bytes are known and neither count of faults rose, a run ends with a status exactly where the
 /// listing of all the bytes does.
 pub fn exact()
     ensures { (c : Command) (status : Status) (old new : Streams)
@@ -125,8 +125,8 @@ pub fn unrefused<S: Source, K: Sink>()
         → status ≢ Status.Refused }
 {}
 
-/// Where a command goes through the image of a clean text, its listing ends as done. So where the source tells such a
-/// text and neither count of faults rose, the run is done and has written the whole listing.
+/// Where a command goes through the image of a clean text, its listing ends as done. So where the source is known to
+/// have such a text and neither count of faults rose, the run is done and has written the whole listing.
 pub fn complete()
     ensures listing { CompletesTexts }
     ensures run { (c : Command) (status : Status) (old new : Streams)
@@ -135,7 +135,7 @@ pub fn complete()
     decoder_laws();
 }
 
-/// What `listed` leaves, where the reader tells the bytes that it has left and the writer the bytes that it has: the
+/// What `listed` leaves, where the bytes that the reader has left and those that the writer has are known: the
 /// writer has what it had and then the listing of these bytes, or a prefix of that where a write failed.
 pub fn program<R: Read, W: Write>()
     ensures lists { (c : Command) (status : Status) (r r' : R) (w w' : W) →

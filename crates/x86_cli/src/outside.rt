@@ -1,4 +1,4 @@
-//! What is outside of a run: sources, sinks, and the buffer in front of a writer.
+//! What is outside of a run: sources, sinks, and the buffer of a writer.
 
 pub mod array_sink;
 pub mod gathered;

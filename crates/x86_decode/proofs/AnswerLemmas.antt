@@ -6,7 +6,7 @@ use Rattle.std.proofs.Math.Seq.{take-append_seam}
 use Rattle.x86_arch.specs.Reader.{State}
 use Rattle.x86_fields.specs.declared.errors.DecodeError.{DecodeError}
 use Rattle.x86_fields.specs.declared.errors.DecodeError.TheVariants.{ExhaustedInput, TooLong}
-use Rattle.x86_fields.proofs.EndLemmas.{no_front}
+use Rattle.x86_fields.proofs.EndLemmas.{no_beginning}
 use Rattle.x86_operands.specs.declared.reader.Reading.{Reading}
 use Rattle.x86_decode.specs.declared.instructions.Instruction.{Instruction}
 use Rattle.x86_forms.specs.declared.Map.TheVariants.{One}
@@ -17,14 +17,14 @@ use Rattle.x86_decode.proofs.RowSteps.{exhausted_or_not}
 use Rattle.x86_decode.proofs.BodyLemmas.{verdict, early, sentence_settles, out_nothing}
 use Rattle.x86_decode.proofs.Theorem.{ok_apart, same_error, agree, not_both, refusal_answer, some_answer, none_settles, open_answer}
 
--- a front of a longer list that is short enough is a front of the list
-pub front_of : (input more q rest : List ℕ) → input ++ more ≡ q ++ rest → length q ≤ length input → input ≡ q ++ drop (length q) input
-front_of input more q rest h le =
+-- a prefix of a longer list that is short enough is a prefix of the list
+pub beginning_of : (input more q rest : List ℕ) → input ++ more ≡ q ++ rest → length q ≤ length input → input ≡ q ++ drop (length q) input
+beginning_of input more q rest h le =
     let begins : take (length q) input ≡ q = sym (take-append-le (length q) input more le) ∙ ap (take (length q)) h ∙ take-append_seam q rest in
     sym (take-append-drop (length q) input) ∙ ap (λ l. l ++ drop (length q) input) begins
 
-front_le : (q rest l : List ℕ) → l ≡ q ++ rest → length q ≤ length l
-front_le q rest l e = let h : length l ≡ length q + length rest = ap length e ∙ length-append q rest in omega arith
+beginning_le : (q rest l : List ℕ) → l ≡ q ++ rest → length q ≤ length l
+beginning_le q rest l e = let h : length l ≡ length q + length rest = ap length e ∙ length-append q rest in omega arith
 
 same_instruction : (a b : Instruction) (r s : Reading) (n k : ℕ) → a ≡ instruction_of r n → b ≡ instruction_of s k → r ≡ s → n ≡ k → a ≡ b
 same_instruction a b r s n k x y e f = x ∙ ap (λ r. instruction_of r n) e ∙ ap (instruction_of s) f ∙ sym y
@@ -63,24 +63,24 @@ module _ (rows : Rows) (strict : Bool) where
   no_sentence_more q rest more e (case_5 t) s k a h is =
       let long : length q ≡ 15 = t.long in
       let short : length s ≤ length q = let l = is.short in omega arith in
-      t.no_sentence s (drop (length s) q) a (front_of q (rest ++ more) s k (sym (append_assoc q rest more) ∙ h) short) is
+      t.no_sentence s (drop (length s) q) a (beginning_of q (rest ++ more) s k (sym (append_assoc q rest more) ∙ h) short) is
 
   refusal_stays : (input more : List ℕ) (e : DecodeError) (n : ℕ) → IsRefusal rows strict input e n → IsRefusal rows strict (input ++ more) e n
   refusal_stays input more e n r = record {
-    front = r.front;
+    beginning = r.beginning;
     rest = r.rest ++ more;
-    begins = ap (λ l. l ++ more) r.begins ∙ append_assoc r.front r.rest more;
+    begins = ap (λ l. l ++ more) r.begins ∙ append_assoc r.beginning r.rest more;
     decides = r.decides;
     long = r.long;
     shortest = λ p k f h d. by p k f h d (cases_lt (length p) n);
-    no_sentence = λ s k a h is. no_sentence_more r.front r.rest more e r.decides s k a (ap (λ l. l ++ more) (sym r.begins) ∙ h) is;
+    no_sentence = λ s k a h is. no_sentence_more r.beginning r.rest more e r.decides s k a (ap (λ l. l ++ more) (sym r.begins) ∙ h) is;
   }
     where
       by : (p k : List ℕ) (f : DecodeError) → input ++ more ≡ p ++ k → Decides rows strict p f → (length p < n) ⊎ (n ≤ length p) → n ≤ length p
       by p k f h d (inl less) =
-          let l : length r.front ≤ length input = front_le r.front r.rest input r.begins in
-          let e : length r.front ≡ n = r.long in
-          r.shortest p (drop (length p) input) f (front_of input more p k h (omega arith)) d
+          let l : length r.beginning ≤ length input = beginning_le r.beginning r.rest input r.begins in
+          let e : length r.beginning ≡ n = r.long in
+          r.shortest p (drop (length p) input) f (beginning_of input more p k h (omega arith)) d
       by p k f h d (inr le) = le
 
   stays_by : (input more : List ℕ) (r : Result Instruction DecodeError) (n : ℕ) → r ≢ Err ExhaustedInput → View input r n → Answer (input ++ more) r n
@@ -97,7 +97,7 @@ module _ (rows : Rows) (strict : Bool) where
   sentences_agree : (input s t x y : List ℕ) (a b : Instruction) → input ≡ s ++ x → input ≡ t ++ y → IsSentence rows strict s a → IsSentence rows strict t b → (a ≡ b) × (s ≡ t)
   sentences_agree input s t x y a b h k is js =
       let same = agree rows strict s t x y (Ok is.reading) (Ok js.reading) (sentence_settles rows strict s a is) (sentence_settles rows strict t b js) (sym h ∙ k) in
-      (same_instruction a b is.reading js.reading (length s) (length t) is.gives js.gives (same_ok is.reading js.reading same.0) (ap length same.1), same.1)
+      (same_instruction a b is.reading js.reading (length s) (length t) is.yields js.yields (same_ok is.reading js.reading same.0) (ap length same.1), same.1)
 
   refusals_agree : (q : List ℕ) (e f : DecodeError) → Decides rows strict q e → Decides rows strict q f → e ≡ f
   refusals_agree q e f (by_bytes d) (by_bytes k) =
@@ -109,18 +109,18 @@ module _ (rows : Rows) (strict : Bool) where
   refusals_agree q e f (case_5 t) (by_bytes d) = absurd (t.undecided q [] f (sym (append-nil q)) d)
   refusals_agree q e f (case_5 t) (case_5 u) = refl
 
-  same_front : (a b x y : List ℕ) → a ++ x ≡ b ++ y → length a ≡ length b → a ≡ b
-  same_front a b x y e l = sym (take-append_seam a x) ∙ ap (λ n. take n (a ++ x)) l ∙ ap (take (length b)) e ∙ take-append_seam b y
+  same_beginning : (a b x y : List ℕ) → a ++ x ≡ b ++ y → length a ≡ length b → a ≡ b
+  same_beginning a b x y e l = sym (take-append_seam a x) ∙ ap (λ n. take n (a ++ x)) l ∙ ap (take (length b)) e ∙ take-append_seam b y
 
   once_refused : (input : List ℕ) (e f : DecodeError) (n k : ℕ) → IsRefusal rows strict input e n → IsRefusal rows strict input f k → (e ≡ f) × (n ≡ k)
   once_refused input e f n k r s =
-      let one : n ≤ length s.front = r.shortest s.front s.rest f s.begins s.decides in
-      let two : k ≤ length r.front = s.shortest r.front r.rest e r.begins r.decides in
-      let here : length r.front ≡ n = r.long in
-      let there : length s.front ≡ k = s.long in
+      let one : n ≤ length s.beginning = r.shortest s.beginning s.rest f s.begins s.decides in
+      let two : k ≤ length r.beginning = s.shortest r.beginning r.rest e r.begins r.decides in
+      let here : length r.beginning ≡ n = r.long in
+      let there : length s.beginning ≡ k = s.long in
       let counts : n ≡ k = omega arith in
-      let fronts : r.front ≡ s.front = same_front r.front s.front r.rest s.rest (sym r.begins ∙ s.begins) (here ∙ counts ∙ sym there) in
-      (refusals_agree s.front e f (subst (λ q. Decides rows strict q e) fronts r.decides) s.decides, counts)
+      let beginnings : r.beginning ≡ s.beginning = same_beginning r.beginning s.beginning r.rest s.rest (sym r.begins ∙ s.begins) (here ∙ counts ∙ sym there) in
+      (refusals_agree s.beginning e f (subst (λ q. Decides rows strict q e) beginnings r.decides) s.decides, counts)
 
   once_by : (input : List ℕ) (r s : Result Instruction DecodeError) (n k : ℕ) → View input r n → View input s k → (r ≡ s) × (n ≡ k)
   once_by input r s n k (accepted a e h) (accepted b f g) =
@@ -132,24 +132,24 @@ module _ (rows : Rows) (strict : Bool) where
   once_by input r s n k (left_open is g) (accepted a e h) = absurd (g.no_sentence h.sentence h.rest a h.begins h.is)
   once_by input r s n k (refused e is d h) (refused f js c g) =
       let same = once_refused input e f n k h g in (is ∙ ap (λ x. Err x) same.0 ∙ sym js, same.1)
-  once_by input r s n k (refused e is d h) (left_open js g) = absurd (g.undecided h.front h.rest e h.begins h.decides)
-  once_by input r s n k (left_open js g) (refused e is d h) = absurd (g.undecided h.front h.rest e h.begins h.decides)
+  once_by input r s n k (refused e is d h) (left_open js g) = absurd (g.undecided h.beginning h.rest e h.begins h.decides)
+  once_by input r s n k (left_open js g) (refused e is d h) = absurd (g.undecided h.beginning h.rest e h.begins h.decides)
   once_by input r s n k (left_open is h) (left_open js g) =
       let a = h.taken in
       let b = g.taken in
-      let one : length b.front ≤ n = a.longest b.front b.rest b.begins b.between in
-      let two : length a.front ≤ k = b.longest a.front a.rest a.begins a.between in
-      let here : length a.front ≡ n = a.long in
-      let there : length b.front ≡ k = b.long in
+      let one : length b.beginning ≤ n = a.longest b.beginning b.rest b.begins b.between in
+      let two : length a.beginning ≤ k = b.longest a.beginning a.rest a.begins a.between in
+      let here : length a.beginning ≡ n = a.long in
+      let there : length b.beginning ≡ k = b.long in
       (is ∙ sym js, omega arith)
 
   pub once : (input : List ℕ) (r s : Result Instruction DecodeError) (n k : ℕ) → Answer input r n → Answer input s k → (r ≡ s) × (n ≡ k)
   once input r s n k a b = once_by input r s n k (view input n r a) (view input k s b)
 
-  -- ---- sentences and their fronts
+  -- ---- sentences and their prefixes
 
-  pub no_proper_front : (s : List ℕ) (c : ℕ) (rest : List ℕ) (a b : Instruction) → IsSentence rows strict s a → IsSentence rows strict (s ++ c ∷ rest) b → ⊥
-  no_proper_front s c rest a b is js =
+  pub no_proper_beginning : (s : List ℕ) (c : ℕ) (rest : List ℕ) (a b : Instruction) → IsSentence rows strict s a → IsSentence rows strict (s ++ c ∷ rest) b → ⊥
+  no_proper_beginning s c rest a b is js =
       let same = (sentences_agree (s ++ c ∷ rest) s (s ++ c ∷ rest) (c ∷ rest) [] a b refl (sym (append-nil (s ++ c ∷ rest))) is js).1 in
       absurd (let h : length s ≡ length s + suc (length rest) = ap length same ∙ length-append s (c ∷ rest) in omega arith)
 
@@ -157,9 +157,9 @@ module _ (rows : Rows) (strict : Bool) where
   sentence_answer s a is = record { sentence = s; rest = []; begins = sym (append-nil s); long = refl; is = is }
 
   count_within : (input : List ℕ) (r : Result Instruction DecodeError) (n : ℕ) → View input r n → n ≤ length input
-  count_within input r n (accepted a e h) = let k = front_le h.sentence h.rest input h.begins in let l = h.long in omega arith
-  count_within input r n (refused f is d h) = let k = front_le h.front h.rest input h.begins in let l = h.long in omega arith
-  count_within input r n (left_open is h) = let t = h.taken in let k = front_le t.front t.rest input t.begins in let l = t.long in omega arith
+  count_within input r n (accepted a e h) = let k = beginning_le h.sentence h.rest input h.begins in let l = h.long in omega arith
+  count_within input r n (refused f is d h) = let k = beginning_le h.beginning h.rest input h.begins in let l = h.long in omega arith
+  count_within input r n (left_open is h) = let t = h.taken in let k = beginning_le t.beginning t.rest input t.begins in let l = t.long in omega arith
 
   too_late : (q : List ℕ) (c : ℕ) (rest : List ℕ) (a : Instruction) (r : Result Instruction DecodeError) (n : ℕ) → IsSentence rows strict (q ++ c ∷ rest) a → r ≢ Err ExhaustedInput → Answer q r n → View q r n → ⊥
   too_late q c rest a r n is d h v =
@@ -168,15 +168,15 @@ module _ (rows : Rows) (strict : Bool) where
       let long : length (q ++ c ∷ rest) ≡ length q + suc (length rest) = length-append q (c ∷ rest) in
       absurd (omega arith)
 
-  front_by : (q : List ℕ) (c : ℕ) (rest : List ℕ) (a : Instruction) (r : Result Instruction DecodeError) (n : ℕ) → IsSentence rows strict (q ++ c ∷ rest) a → Answer q r n → View q r n → (k : ℕ) × Answer q (Err ExhaustedInput) k
-  front_by q c rest a r n is h (left_open e g) = (n, g)
-  front_by q c rest a r n is h (accepted b e g) = absurd (too_late q c rest a r n is (λ k. ok_apart b ExhaustedInput (sym e ∙ k)) h (accepted b e g))
-  front_by q c rest a r n is h (refused f e d g) = absurd (too_late q c rest a r n is (λ k. d (same_error {X = Instruction} f ExhaustedInput (sym e ∙ k))) h (refused f e d g))
+  beginning_by : (q : List ℕ) (c : ℕ) (rest : List ℕ) (a : Instruction) (r : Result Instruction DecodeError) (n : ℕ) → IsSentence rows strict (q ++ c ∷ rest) a → Answer q r n → View q r n → (k : ℕ) × Answer q (Err ExhaustedInput) k
+  beginning_by q c rest a r n is h (left_open e g) = (n, g)
+  beginning_by q c rest a r n is h (accepted b e g) = absurd (too_late q c rest a r n is (λ k. ok_apart b ExhaustedInput (sym e ∙ k)) h (accepted b e g))
+  beginning_by q c rest a r n is h (refused f e d g) = absurd (too_late q c rest a r n is (λ k. d (same_error {X = Instruction} f ExhaustedInput (sym e ∙ k))) h (refused f e d g))
 
-  pub proper_front_open : (q : List ℕ) (c : ℕ) (rest : List ℕ) (a : Instruction) → IsSentence rows strict (q ++ c ∷ rest) a → (k : ℕ) × Answer q (Err ExhaustedInput) k
-  proper_front_open q c rest a is =
+  pub proper_beginning_open : (q : List ℕ) (c : ℕ) (rest : List ℕ) (a : Instruction) → IsSentence rows strict (q ++ c ∷ rest) a → (k : ℕ) × Answer q (Err ExhaustedInput) k
+  proper_beginning_open q c rest a is =
       let o = some_answer rows strict q in
-      front_by q c rest a o.0 o.1 is o.2 (view q o.1 o.0 o.2)
+      beginning_by q c rest a o.0 o.1 is o.2 (view q o.1 o.0 o.2)
 
   -- ---- the empty input
 
@@ -184,7 +184,7 @@ module _ (rows : Rows) (strict : Bool) where
   nothing_open =
       let b : State ℕ = record { left = []; since_mark = 0; since_made = 0 } in
       open_answer rows strict [] [] [] b (omega arith) refl refl (in_head [] One [] [] refl refl refl)
-      (λ front back e t left. out_nothing rows strict t (left ∙ no_front front back e))
+      (λ beginning back e t left. out_nothing rows strict t (left ∙ no_beginning beginning back e))
       (none_settles rows strict [] [] b [] refl (out_nothing rows strict b refl))
 
   -- ---- the first fifteen bytes
@@ -193,11 +193,11 @@ module _ (rows : Rows) (strict : Bool) where
   never_open input n enough o =
       let w : List ℕ = take 15 input in
       let begins : input ≡ w ++ drop 15 input = sym (take-append-drop 15 input) in
-      let behind : (p k : List ℕ) → w ≡ p ++ k → input ≡ p ++ (k ++ drop 15 input) = λ p k h. begins ∙ ap (λ l. l ++ drop 15 input) h ∙ append_assoc p k (drop 15 input) in
+      let following : (p k : List ℕ) → w ≡ p ++ k → input ≡ p ++ (k ++ drop 15 input) = λ p k h. begins ∙ ap (λ l. l ++ drop 15 input) h ∙ append_assoc p k (drop 15 input) in
       o.undecided w (drop 15 input) TooLong begins (case_5 (record {
         long = length-take 15 input ∙ omega arith;
-        no_sentence = λ p k a h is. o.no_sentence p (k ++ drop 15 input) a (behind p k h) is;
-        undecided = λ p k e h d. o.undecided p (k ++ drop 15 input) e (behind p k h) (by_bytes d);
+        no_sentence = λ p k a h is. o.no_sentence p (k ++ drop 15 input) a (following p k h) is;
+        undecided = λ p k e h d. o.undecided p (k ++ drop 15 input) e (following p k h) (by_bytes d);
       }))
 
   pub first_fifteen : (input : List ℕ) (r : Result Instruction DecodeError) (n : ℕ) → 15 ≤ length input → Answer (take 15 input) r n → Answer input r n
@@ -221,7 +221,7 @@ module _ (rows : Rows) (strict : Bool) where
   -- ---- lengths
 
   sentence_counts : (s : List ℕ) (a : Instruction) → IsSentence rows strict s a → a.length ≡ length s
-  sentence_counts s a is = ap (λ i. i.length) is.gives
+  sentence_counts s a is = ap (λ i. i.length) is.yields
 
   sentence_is_some : (s : List ℕ) (a : Instruction) → IsSentence rows strict s a → 0 < length s
   sentence_is_some [] a is = absurd (none_settles rows strict [] [] (record { left = []; since_mark = 0; since_made = 0 }) [] refl (out_nothing rows strict (record { left = []; since_mark = 0; since_made = 0 }) refl) [] [] (Ok is.reading) refl (sentence_settles rows strict [] a is))
@@ -233,6 +233,6 @@ module _ (rows : Rows) (strict : Bool) where
       let counts : a.length ≡ length h.sentence = sentence_counts h.sentence a is in
       let some : 0 < length h.sentence = sentence_is_some h.sentence a is in
       let short : length h.sentence ≤ 15 = is.short in
-      let within : length h.sentence ≤ length input = front_le h.sentence h.rest input h.begins in
+      let within : length h.sentence ≤ length input = beginning_le h.sentence h.rest input h.begins in
       let long : length h.sentence ≡ n = h.long in
       (omega (arith, counts), omega (arith, counts), omega (arith, counts), counts ∙ long)

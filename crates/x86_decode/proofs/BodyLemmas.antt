@@ -8,7 +8,7 @@ use Rattle.x86_fields.specs.declared.prefixes.Prefixes.{Prefixes}
 use Rattle.x86_fields.specs.Run.{is_prefix, reading_of}
 use Rattle.x86_fields.specs.Steps.{Step, Outcome, ◌>>=◌}
 use Rattle.x86_fields.proofs.StepLemmas.{Takes, takes_pure, takes_bind, takes_err}
-use Rattle.x86_fields.proofs.EndLemmas.{EndsWell, Ends, settles, runs_out, ends_refuse, ends_bind, ends_then, weaken, IsFinal, final_ok, final_err, Out, out_bind, out_after, Stands, out, stands_bind}
+use Rattle.x86_fields.proofs.EndLemmas.{EndsWell, Ends, settles, runs_out, ends_refuse, ends_bind, ends_then, weaken, IsFinal, final_ok, final_err, Out, out_bind, out_after, Halts, out, halts_bind}
 use Rattle.x86_forms.specs.declared.TableRow.{TableRow}
 use Rattle.x86_operands.specs.declared.reader.Reading.{Reading}
 use Rattle.x86_operands.specs.PlanSteps.{error_of}
@@ -17,22 +17,22 @@ use Rattle.x86_forms.specs.declared.Map.TheVariants.{One}
 use Rattle.x86_decode.specs.declared.instructions.Instruction.{Instruction}
 use Rattle.x86_decode.specs.Head.{Rows, is_run, column_of, escape_bytes, is_vex, is_opcode, vex_refusal, seen_by}
 use Rattle.x86_decode.specs.Walk.{head_step, opcode_step, some_row, row_step, walk_within}
-use Rattle.x86_decode.specs.Grammar.{record_of, allows_lock, Whole, IsSentence, DecidesByBytes, case_1, case_2, case_3, case_4, EndsBetweenPieces, in_head, behind_opcode}
-use Rattle.x86_decode.proofs.RowSteps.{fault_error, RowGives, ends_row, takes_row, takes_row_refused, stands_row}
-use Rattle.x86_decode.proofs.HeadLemmas.{IsHead, IsRun, ends_head, takes_head, out_head, OpcodeGives, OpcodeBetween, ends_opcode, entry_byte, entry_rest, entry_is, entry_plain, takes_opcode, takes_vex, vex_plain, vex_final, escape_front, EscapeFront, none, one, two, out_one}
+use Rattle.x86_decode.specs.Grammar.{record_of, allows_lock, Whole, IsSentence, DecidesByBytes, case_1, case_2, case_3, case_4, EndsBetweenPieces, in_head, in_tail}
+use Rattle.x86_decode.proofs.RowSteps.{fault_error, RowYields, ends_row, takes_row, takes_row_refused, halts_row}
+use Rattle.x86_decode.proofs.HeadLemmas.{IsHead, IsRun, ends_head, takes_head, out_head, OpcodeYields, OpcodeBetween, ends_opcode, entry_byte, entry_rest, entry_is, entry_plain, takes_opcode, takes_vex, vex_plain, vex_final, escape_beginning, EscapeBeginning, none, one, two, out_one}
 
 opcode_final : InvalidOpcode ≢ ExhaustedInput
 opcode_final e = cc
 
--- what a reading comes to where LOCK is looked at
+-- the answer of a reading where LOCK is checked
 abbrev pub verdict : Result Reading DecodeError → Result Reading DecodeError
 verdict (Ok reading) = if allows_lock reading then Ok reading else Err InvalidPrefixes
 verdict (Err e) = Err e
 
 module _ (rows : Rows) (strict : Bool) where
-  abbrev pub BodyGives : List ℕ → Result Reading DecodeError → Type 0
-  BodyGives q (Ok reading) = Whole rows strict q reading
-  BodyGives q (Err e) = DecidesByBytes rows strict q e
+  abbrev pub BodyYields : List ℕ → Result Reading DecodeError → Type 0
+  BodyYields q (Ok reading) = Whole rows strict q reading
+  BodyYields q (Err e) = DecidesByBytes rows strict q e
 
   abbrev pub BodyBetween : List ℕ → Type 0
   BodyBetween q = EndsBetweenPieces rows strict q
@@ -48,47 +48,47 @@ module _ (rows : Rows) (strict : Bool) where
 
   -- ---- soundness
 
-  module _ (run : List ℕ) (is : is_run run ≡ true) (q l : List ℕ) (map : Map) (b : ℕ) (spelled : q ++ l ≡ run ++ (escape_bytes map ++ b ∷ [])) (meant : is_opcode map b ≡ true) where
+  module _ (run : List ℕ) (is : is_run run ≡ true) (q l : List ℕ) (map : Map) (b : ℕ) (spelled : q ++ l ≡ run ++ (escape_bytes map ++ b ∷ [])) (in_map : is_opcode map b ≡ true) where
     abbrev p : Prefixes
     p = reading_of run
 
     abbrev v : Prefixes
     v = seen_by map b p
 
-    behind : (tail : List ℕ) → q ++ (l ++ tail) ≡ run ++ (escape_bytes map ++ b ∷ tail)
-    behind tail = sym (append_assoc q l tail) ∙ ap (λ k. k ++ tail) spelled ∙ append_assoc run (escape_bytes map ++ b ∷ []) tail ∙ ap (λ k. run ++ k) (append_assoc (escape_bytes map) (b ∷ []) tail)
+    following : (tail : List ℕ) → q ++ (l ++ tail) ≡ run ++ (escape_bytes map ++ b ∷ tail)
+    following tail = sym (append_assoc q l tail) ∙ ap (λ k. k ++ tail) spelled ∙ append_assoc run (escape_bytes map ++ b ∷ []) tail ∙ ap (λ k. run ++ k) (append_assoc (escape_bytes map) (b ∷ []) tail)
 
-    row_gives : (row : TableRow) → rows map (column_of p) b ≡ Some row → (tail : List ℕ) (r : Result Reading DecodeError) → RowGives (record_of strict row v) v tail r → BodyGives (q ++ (l ++ tail)) r
-    row_gives row has tail (Ok reading) g = record { run = run; map = map; opcode = b; row = row; tail = tail; spelled = behind tail; prefixes = is; meant = meant; has_row = has; asked = g }
-    row_gives row has tail (Err e) g = subst (DecidesByBytes rows strict (q ++ (l ++ tail))) (sym g.1) (case_3 g.0 (record { run = run; map = map; opcode = b; row = row; tail = tail; spelled = behind tail; prefixes = is; meant = meant; has_row = has; refuses = g.2 }))
+    row_yields : (row : TableRow) → rows map (column_of p) b ≡ Some row → (tail : List ℕ) (r : Result Reading DecodeError) → RowYields (record_of strict row v) v tail r → BodyYields (q ++ (l ++ tail)) r
+    row_yields row has tail (Ok reading) g = record { run = run; map = map; opcode = b; row = row; tail = tail; spelled = following tail; prefixes = is; in_map = in_map; has_row = has; row_spelled = g }
+    row_yields row has tail (Err e) g = subst (DecidesByBytes rows strict (q ++ (l ++ tail))) (sym g.1) (case_3 g.0 (record { run = run; map = map; opcode = b; row = row; tail = tail; spelled = following tail; prefixes = is; in_map = in_map; has_row = has; refuses = g.2 }))
 
-    ends_by_row : (o : Option TableRow) → rows map (column_of p) b ≡ o → EndsWell (λ k r. BodyGives (q ++ (l ++ k)) r) (λ k. BodyBetween (q ++ (l ++ k))) (with_row o v)
-    ends_by_row None e s = ends_refuse (λ k r. BodyGives (q ++ (l ++ k)) r) (λ k. BodyBetween (q ++ (l ++ k))) InvalidOpcode opcode_final (case_2 (record { run = run; map = map; opcode = b; spelled = behind []; prefixes = is; meant = meant; no_row = e })) s
-    ends_by_row (Some row) e s = weaken s (λ tail r g. row_gives row e tail r g) (λ tail k. behind_opcode run map b row tail (behind tail) is meant e k) (ends_row (record_of strict row v) v s)
+    ends_by_row : (o : Option TableRow) → rows map (column_of p) b ≡ o → EndsWell (λ k r. BodyYields (q ++ (l ++ k)) r) (λ k. BodyBetween (q ++ (l ++ k))) (with_row o v)
+    ends_by_row None e s = ends_refuse (λ k r. BodyYields (q ++ (l ++ k)) r) (λ k. BodyBetween (q ++ (l ++ k))) InvalidOpcode opcode_final (case_2 (record { run = run; map = map; opcode = b; spelled = following []; prefixes = is; in_map = in_map; no_row = e })) s
+    ends_by_row (Some row) e s = weaken s (λ tail r g. row_yields row e tail r g) (λ tail k. in_tail run map b row tail (following tail) is in_map e k) (ends_row (record_of strict row v) v s)
 
-  after_run : (q run : List ℕ) (c : ℕ) → q ≡ run ++ c ∷ [] → is_run run ≡ true → is_prefix c ≡ false → EndsWell (λ l r. BodyGives (q ++ l) r) (λ l. BodyBetween (q ++ l)) (after_head (reading_of run, c))
+  after_run : (q run : List ℕ) (c : ℕ) → q ≡ run ++ c ∷ [] → is_run run ≡ true → is_prefix c ≡ false → EndsWell (λ l r. BodyYields (q ++ l) r) (λ l. BodyBetween (q ++ l)) (after_head (reading_of run, c))
   after_run q run c spelled is plain =
       let joined : (l : List ℕ) → q ++ l ≡ run ++ c ∷ l = λ l. ap (λ k. k ++ l) spelled ∙ append_assoc run (c ∷ []) l in
-      ends_bind (OpcodeGives (reading_of run) c) (OpcodeBetween c) (λ l r. BodyGives (q ++ l) r) (λ l. BodyBetween (q ++ l)) (opcode_step (reading_of run) c) (after_opcode (reading_of run)) (ends_opcode (reading_of run) c plain)
+      ends_bind (OpcodeYields (reading_of run) c) (OpcodeBetween c) (λ l r. BodyYields (q ++ l) r) (λ l. BodyBetween (q ++ l)) (opcode_step (reading_of run) c) (after_opcode (reading_of run)) (ends_opcode (reading_of run) c plain)
       (λ l k. in_head run k.0 (c ∷ l) k.1 (joined l) is k.2)
       (λ l e g. subst (DecidesByBytes rows strict (q ++ l)) (sym g.2) (case_1 (record { run = run; byte = c; spelled = joined l ∙ ap (λ k. run ++ c ∷ k) g.0; prefixes = is; vex = g.1 })))
       (λ l o g. ends_by_row run is q l o.0 o.1 (joined l ∙ ap (λ k. run ++ k) g.0) g.1 (rows o.0 (column_of (reading_of run)) o.1) refl)
 
-  by_reading : (q : List ℕ) (h : Prefixes × ℕ) → IsHead q h → EndsWell (λ l r. BodyGives (q ++ l) r) (λ l. BodyBetween (q ++ l)) (after_head h)
-  by_reading q h k = subst (λ p. EndsWell (λ l r. BodyGives (q ++ l) r) (λ l. BodyBetween (q ++ l)) (after_head (p, h.1))) (sym k.reading) (after_run q k.run h.1 k.spelled k.prefixes k.plain)
+  by_reading : (q : List ℕ) (h : Prefixes × ℕ) → IsHead q h → EndsWell (λ l r. BodyYields (q ++ l) r) (λ l. BodyBetween (q ++ l)) (after_head h)
+  by_reading q h k = subst (λ p. EndsWell (λ l r. BodyYields (q ++ l) r) (λ l. BodyBetween (q ++ l)) (after_head (p, h.1))) (sym k.reading) (after_run q k.run h.1 k.spelled k.prefixes k.plain)
 
-  pub ends_body : EndsWell BodyGives BodyBetween (walk_within rows strict)
+  pub ends_body : EndsWell BodyYields BodyBetween (walk_within rows strict)
   unfolding walk_within
-  ends_body = ends_then IsHead IsRun BodyGives BodyBetween head_step after_head ends_head
+  ends_body = ends_then IsHead IsRun BodyYields BodyBetween head_step after_head ends_head
       (λ q is. in_head q One [] [] (sym (append-nil q)) is refl) by_reading
 
   -- ---- completeness
 
   takes_at : (run : List ℕ) (map : Map) (b : ℕ) (tail : List ℕ) (r : Result Reading DecodeError) → is_run run ≡ true → is_opcode map b ≡ true → Takes (after_opcode (reading_of run) (map, b)) tail r → Takes (walk_within rows strict) (run ++ (escape_bytes map ++ b ∷ tail)) r
   unfolding walk_within
-  takes_at run map b tail r is meant t =
-      let head : Takes head_step (run ++ entry_byte map b ∷ []) (Ok (reading_of run, entry_byte map b)) = takes_head run (entry_byte map b) is (entry_plain map b meant) in
-      let rest : Takes (after_head (reading_of run, entry_byte map b)) (entry_rest map b ++ tail) r = takes_bind (opcode_step (reading_of run) (entry_byte map b)) (after_opcode (reading_of run)) (entry_rest map b) tail (map, b) r (takes_opcode (reading_of run) map b meant) t in
+  takes_at run map b tail r is in_map t =
+      let head : Takes head_step (run ++ entry_byte map b ∷ []) (Ok (reading_of run, entry_byte map b)) = takes_head run (entry_byte map b) is (entry_plain map b in_map) in
+      let rest : Takes (after_head (reading_of run, entry_byte map b)) (entry_rest map b ++ tail) r = takes_bind (opcode_step (reading_of run) (entry_byte map b)) (after_opcode (reading_of run)) (entry_rest map b) tail (map, b) r (takes_opcode (reading_of run) map b in_map) t in
       let whole : Takes (head_step >>= after_head) ((run ++ entry_byte map b ∷ []) ++ (entry_rest map b ++ tail)) r = takes_bind head_step after_head (run ++ entry_byte map b ∷ []) (entry_rest map b ++ tail) (reading_of run, entry_byte map b) r head rest in
       subst (λ l. Takes (head_step >>= after_head) l r) (append_assoc run (entry_byte map b ∷ []) (entry_rest map b ++ tail) ∙ ap (λ l. run ++ l) (sym (entry_is map b tail))) whole
 
@@ -97,7 +97,7 @@ module _ (rows : Rows) (strict : Bool) where
 
   pub takes_whole : (s : List ℕ) (reading : Reading) → Whole rows strict s reading → Takes (walk_within rows strict) s (Ok reading)
   takes_whole s reading w = subst (λ l. Takes (walk_within rows strict) l (Ok reading)) (sym w.spelled)
-      (takes_at w.run w.map w.opcode w.tail (Ok reading) w.prefixes w.meant (with_some _ w.row (seen_by w.map w.opcode (reading_of w.run)) w.tail (Ok reading) w.has_row (takes_row (record_of strict w.row (seen_by w.map w.opcode (reading_of w.run))) (seen_by w.map w.opcode (reading_of w.run)) w.tail reading w.asked)))
+      (takes_at w.run w.map w.opcode w.tail (Ok reading) w.prefixes w.in_map (with_some _ w.row (seen_by w.map w.opcode (reading_of w.run)) w.tail (Ok reading) w.has_row (takes_row (record_of strict w.row (seen_by w.map w.opcode (reading_of w.run))) (seen_by w.map w.opcode (reading_of w.run)) w.tail reading w.row_spelled)))
 
   takes_no_map : (run : List ℕ) (c : ℕ) → is_run run ≡ true → is_vex c ≡ true → Takes (walk_within rows strict) (run ++ c ∷ []) (Err (vex_refusal (reading_of run)))
   unfolding walk_within
@@ -123,7 +123,7 @@ module _ (rows : Rows) (strict : Bool) where
   early q e (case_2 c) = (
     Err InvalidOpcode,
     record {
-      takes = subst (λ l. Takes (walk_within rows strict) l (Err InvalidOpcode)) (sym c.spelled) (takes_at c.run c.map c.opcode [] (Err InvalidOpcode) c.prefixes c.meant (subst (λ o. Takes (with_row o (seen_by c.map c.opcode (reading_of c.run))) [] (Err InvalidOpcode)) (sym c.no_row) (takes_pure (Err InvalidOpcode))));
+      takes = subst (λ l. Takes (walk_within rows strict) l (Err InvalidOpcode)) (sym c.spelled) (takes_at c.run c.map c.opcode [] (Err InvalidOpcode) c.prefixes c.in_map (subst (λ o. Takes (with_row o (seen_by c.map c.opcode (reading_of c.run))) [] (Err InvalidOpcode)) (sym c.no_row) (takes_pure (Err InvalidOpcode))));
       final = final_err InvalidOpcode opcode_final;
     },
     refl,
@@ -133,7 +133,7 @@ module _ (rows : Rows) (strict : Bool) where
       let r : Result Reading DecodeError = Err (error_of fault) in (
         r,
         record {
-          takes = subst (λ l. Takes (walk_within rows strict) l r) (sym c.spelled) (takes_at c.run c.map c.opcode c.tail r c.prefixes c.meant (with_some _ c.row p c.tail r c.has_row (takes_row_refused (record_of strict c.row p) p c.tail fault c.refuses)));
+          takes = subst (λ l. Takes (walk_within rows strict) l r) (sym c.spelled) (takes_at c.run c.map c.opcode c.tail r c.prefixes c.in_map (with_some _ c.row p c.tail r c.has_row (takes_row_refused (record_of strict c.row p) p c.tail fault c.refuses)));
           final = final_err (error_of fault) (fault_error fault);
         },
         refl,
@@ -145,28 +145,28 @@ module _ (rows : Rows) (strict : Bool) where
 
   -- ---- bytes that end between pieces
 
-  stands_front : (run front : List ℕ) → is_run run ≡ true → EscapeFront front → Stands (walk_within rows strict) (run ++ front)
+  halts_beginning : (run beginning : List ℕ) → is_run run ≡ true → EscapeBeginning beginning → Halts (walk_within rows strict) (run ++ beginning)
   unfolding walk_within
-  stands_front run front is (none e) = subst (λ l. Stands (head_step >>= after_head) (run ++ l)) (sym e)
-      (subst (Stands (head_step >>= after_head)) (sym (append-nil run)) (out (out_bind head_step after_head run (out_head run is))))
-  stands_front run front is (one e) = subst (λ l. Stands (head_step >>= after_head) (run ++ l)) (sym e)
-      (subst (Stands (head_step >>= after_head)) (append-nil (run ++ 0x0f ∷ [])) (out (out_after head_step after_head (run ++ 0x0f ∷ []) [] (reading_of run, 0x0f) (takes_head run 0x0f is refl)
+  halts_beginning run beginning is (none e) = subst (λ l. Halts (head_step >>= after_head) (run ++ l)) (sym e)
+      (subst (Halts (head_step >>= after_head)) (sym (append-nil run)) (out (out_bind head_step after_head run (out_head run is))))
+  halts_beginning run beginning is (one e) = subst (λ l. Halts (head_step >>= after_head) (run ++ l)) (sym e)
+      (subst (Halts (head_step >>= after_head)) (append-nil (run ++ 0x0f ∷ [])) (out (out_after head_step after_head (run ++ 0x0f ∷ []) [] (reading_of run, 0x0f) (takes_head run 0x0f is refl)
       (out_bind (opcode_step (reading_of run) 0x0f) (after_opcode (reading_of run)) [] (out_one (reading_of run))))))
-  stands_front run front is (two d e u) = subst (λ l. Stands (head_step >>= after_head) (run ++ l)) (sym e)
-      (subst (Stands (head_step >>= after_head)) (append_assoc run (0x0f ∷ []) (d ∷ [])) (out (out_after head_step after_head (run ++ 0x0f ∷ []) (d ∷ []) (reading_of run, 0x0f) (takes_head run 0x0f is refl)
+  halts_beginning run beginning is (two d e u) = subst (λ l. Halts (head_step >>= after_head) (run ++ l)) (sym e)
+      (subst (Halts (head_step >>= after_head)) (append_assoc run (0x0f ∷ []) (d ∷ [])) (out (out_after head_step after_head (run ++ 0x0f ∷ []) (d ∷ []) (reading_of run, 0x0f) (takes_head run 0x0f is refl)
       (out_bind (opcode_step (reading_of run) 0x0f) (after_opcode (reading_of run)) (d ∷ []) (u (reading_of run))))))
 
-  stands_at : (run : List ℕ) (map : Map) (b : ℕ) (tail : List ℕ) → is_run run ≡ true → is_opcode map b ≡ true → Stands (after_opcode (reading_of run) (map, b)) tail → Stands (walk_within rows strict) (run ++ (escape_bytes map ++ b ∷ tail))
+  halts_at : (run : List ℕ) (map : Map) (b : ℕ) (tail : List ℕ) → is_run run ≡ true → is_opcode map b ≡ true → Halts (after_opcode (reading_of run) (map, b)) tail → Halts (walk_within rows strict) (run ++ (escape_bytes map ++ b ∷ tail))
   unfolding walk_within
-  stands_at run map b tail is meant t =
-      subst (Stands (head_step >>= after_head)) (append_assoc run (entry_byte map b ∷ []) (entry_rest map b ++ tail) ∙ ap (λ l. run ++ l) (sym (entry_is map b tail)))
-      (stands_bind head_step after_head (run ++ entry_byte map b ∷ []) (entry_rest map b ++ tail) (reading_of run, entry_byte map b) (takes_head run (entry_byte map b) is (entry_plain map b meant))
-      (stands_bind (opcode_step (reading_of run) (entry_byte map b)) (after_opcode (reading_of run)) (entry_rest map b) tail (map, b) (takes_opcode (reading_of run) map b meant) t))
+  halts_at run map b tail is in_map t =
+      subst (Halts (head_step >>= after_head)) (append_assoc run (entry_byte map b ∷ []) (entry_rest map b ++ tail) ∙ ap (λ l. run ++ l) (sym (entry_is map b tail)))
+      (halts_bind head_step after_head (run ++ entry_byte map b ∷ []) (entry_rest map b ++ tail) (reading_of run, entry_byte map b) (takes_head run (entry_byte map b) is (entry_plain map b in_map))
+      (halts_bind (opcode_step (reading_of run) (entry_byte map b)) (after_opcode (reading_of run)) (entry_rest map b) tail (map, b) (takes_opcode (reading_of run) map b in_map) t))
 
-  pub stands_body : (q : List ℕ) → EndsBetweenPieces rows strict q → Stands (walk_within rows strict) q
-  stands_body q (in_head run map front back spelled is e) = subst (Stands (walk_within rows strict)) (sym spelled) (stands_front run front is (escape_front map front back e))
-  stands_body q (behind_opcode run map b row tail spelled is meant has k) = subst (Stands (walk_within rows strict)) (sym spelled)
-      (stands_at run map b tail is meant (subst (λ o. Stands (with_row o (seen_by map b (reading_of run))) tail) (sym has) (stands_row (record_of strict row (seen_by map b (reading_of run))) (seen_by map b (reading_of run)) tail k)))
+  pub halts_body : (q : List ℕ) → EndsBetweenPieces rows strict q → Halts (walk_within rows strict) q
+  halts_body q (in_head run map beginning back spelled is e) = subst (Halts (walk_within rows strict)) (sym spelled) (halts_beginning run beginning is (escape_beginning map beginning back e))
+  halts_body q (in_tail run map b row tail spelled is in_map has k) = subst (Halts (walk_within rows strict)) (sym spelled)
+      (halts_at run map b tail is in_map (subst (λ o. Halts (with_row o (seen_by map b (reading_of run))) tail) (sym has) (halts_row (record_of strict row (seen_by map b (reading_of run))) (seen_by map b (reading_of run)) tail k)))
 
   pub out_nothing : Out (walk_within rows strict) []
   unfolding walk_within
@@ -179,12 +179,12 @@ module _ (rows : Rows) (strict : Bool) where
     pub within : count ≤ length s.left
     pub after : o.after ≡ advanced count s
 
-  front_le : (q rest l : List ℕ) → l ≡ q ++ rest → length q ≤ length l
-  front_le q rest l e = let h : length l ≡ length q + length rest = ap length e ∙ length-append q rest in omega arith
+  beginning_le : (q rest l : List ℕ) → l ≡ q ++ rest → length q ≤ length l
+  beginning_le q rest l e = let h : length l ≡ length q + length rest = ap length e ∙ length-append q rest in omega arith
 
-  moves_at : (s : State ℕ) → Ends BodyGives BodyBetween (walk_within rows strict) s → Moves s (walk_within rows strict s)
-  moves_at s (settles q rest r h t d a) = record { count = length q; within = front_le q rest s.left h; after = ap (λ o. o.after) (t.takes rest s h) }
-  moves_at s (runs_out q rest h b u) = record { count = length q; within = front_le q rest s.left h; after = ap (λ o. o.after) (u rest [] (sym (append-nil rest)) s h) }
+  moves_at : (s : State ℕ) → Ends BodyYields BodyBetween (walk_within rows strict) s → Moves s (walk_within rows strict s)
+  moves_at s (settles q rest r h t d a) = record { count = length q; within = beginning_le q rest s.left h; after = ap (λ o. o.after) (t.takes rest s h) }
+  moves_at s (runs_out q rest h b u) = record { count = length q; within = beginning_le q rest s.left h; after = ap (λ o. o.after) (u rest [] (sym (append-nil rest)) s h) }
 
   pub body_moves : (s : State ℕ) → Moves s (walk_within rows strict s)
   body_moves s = moves_at s (ends_body s)

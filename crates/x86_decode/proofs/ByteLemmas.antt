@@ -18,9 +18,9 @@ pub bytes_of : (l : List ℕ) → All (λ b. b < 256) l → Bytes l
 bytes_of [] h = tt
 bytes_of (b ∷ l) h = (h zero 0 (omega arith), bytes_of l (λ k d below. h (suc k) d (omega arith)))
 
-pub bytes_behind : (xs ys : List ℕ) → Bytes (xs ++ ys) → Bytes ys
-bytes_behind [] ys h = h
-bytes_behind (x ∷ xs) ys h = bytes_behind xs ys h.1
+pub bytes_after : (xs ys : List ℕ) → Bytes (xs ++ ys) → Bytes ys
+bytes_after [] ys h = h
+bytes_after (x ∷ xs) ys h = bytes_after xs ys h.1
 
 pub bytes_before : (xs ys : List ℕ) → Bytes (xs ++ ys) → Bytes xs
 bytes_before [] ys h = tt
@@ -59,7 +59,7 @@ disp_fits width l h = by (width == 1) (width == 4)
 
 raw_fits : (p : Prefixes) (m : ℕ) (bytes : List ℕ) (raw : Raw) → SpellsRaw p m bytes raw → Bytes bytes → FitsSigned w32 raw.disp
 raw_fits p m bytes raw r h =
-    let d : Bytes r.disp = bytes_behind (option_bytes r.sib) r.disp (subst Bytes r.spelled h) in
+    let d : Bytes r.disp = bytes_after (option_bytes r.sib) r.disp (subst Bytes r.spelled h) in
     subst (λ x. FitsSigned w32 x) (sym (ap (λ x. x.disp) r.fields)) (disp_fits (displacement_width m r.sib) r.disp d)
 
 pub memory_fits : (p : Prefixes) (m : ℕ) (bytes : List ℕ) (memory : Option Raw) (raw : Raw) → SpellsMemory p m bytes memory → memory ≡ Some raw → Bytes bytes → FitsSigned w32 raw.disp

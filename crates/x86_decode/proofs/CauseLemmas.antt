@@ -8,7 +8,7 @@ use Rattle.x86_operands.specs.declared.plans.Fault.TheVariants.{BadOpcode, BadOp
 use Rattle.x86_operands.specs.PlanSteps.{error_of}
 use Rattle.x86_decode.specs.declared.instructions.Instruction.{Instruction}
 use Rattle.x86_decode.specs.Head.{Rows, bars_vex}
-use Rattle.x86_decode.specs.Grammar.{IsVexBehindRun, IsRefusedByRecord, case_1, case_2, case_3, case_4, Decides, by_bytes, case_5, IsRefusal, IsOpen, IsTooLong, IsAnswer}
+use Rattle.x86_decode.specs.Grammar.{IsVexAfterRun, IsRefusedByRecord, case_1, case_2, case_3, case_4, Decides, by_bytes, case_5, IsRefusal, IsOpen, IsTooLong, IsAnswer}
 use Rattle.x86_decode.specs.Causes.{FaultsOpcode, FaultsOperand, FaultsPrefixes, LeavesOut, IsDecidedBy, IsUndecided, HasSentence, HasFaultyOpcode, HasFaultyOperand, HasFaultyPrefixes, HasNoRoom, IsLeftOut}
 use Rattle.x86_decode.proofs.Theorem.{refusal_answer}
 use Rattle.x86_decode.proofs.AnswerLemmas.{once, answer_refusal}
@@ -23,7 +23,7 @@ Faults rows strict TooLong q = IsTooLong rows strict q
 Faults rows strict IncompleteDecoder q = LeavesOut rows strict q
 
 module _ (rows : Rows) (strict : Bool) where
-  by_vex : (q : List ℕ) (c : IsVexBehindRun rows strict q) (t : Bool) → bars_vex (reading_of c.run) ≡ t → Faults rows strict (if t then InvalidPrefixes else IncompleteDecoder) q
+  by_vex : (q : List ℕ) (c : IsVexAfterRun rows strict q) (t : Bool) → bars_vex (reading_of c.run) ≡ t → Faults rows strict (if t then InvalidPrefixes else IncompleteDecoder) q
   by_vex q c true e = inl (c, e)
   by_vex q c false e = inl (c, e)
 
@@ -40,7 +40,7 @@ module _ (rows : Rows) (strict : Bool) where
   cause_of q e (by_bytes (case_4 c)) = inr c
   cause_of q e (case_5 c) = c
 
-  vex_decides : (q : List ℕ) (c : IsVexBehindRun rows strict q) (t : Bool) → bars_vex (reading_of c.run) ≡ t → Decides rows strict q (if t then InvalidPrefixes else IncompleteDecoder)
+  vex_decides : (q : List ℕ) (c : IsVexAfterRun rows strict q) (t : Bool) → bars_vex (reading_of c.run) ≡ t → Decides rows strict q (if t then InvalidPrefixes else IncompleteDecoder)
   vex_decides q c t e = subst (λ b. Decides rows strict q (if b then InvalidPrefixes else IncompleteDecoder)) e (by_bytes (case_1 c))
 
   -- and each of its causes decides it
@@ -60,18 +60,18 @@ module _ (rows : Rows) (strict : Bool) where
     refusal e d same =
         let k : IsRefusal rows strict input e n = answer_refusal rows strict input n e d (subst (λ x. IsAnswer rows strict input x n) same a) in
         record {
-          front = k.front;
+          beginning = k.beginning;
           rest = k.rest;
           begins = k.begins;
-          is = cause_of k.front e k.decides;
-          shortest = λ q more f h g. let least = k.shortest q more f h g in let long : length k.front ≡ n = k.long in omega arith;
+          is = cause_of k.beginning e k.decides;
+          shortest = λ q more f h g. let least = k.shortest q more f h g in let long : length k.beginning ≡ n = k.long in omega arith;
           no_sentence = k.no_sentence;
         }
 
     refused : (e : DecodeError) → e ≢ ExhaustedInput → IsDecidedBy rows strict (Faults rows strict e) input → r ≡ Err e
     refused e d k =
-        (once rows strict input r (Err e) n (length k.front) a (refusal_answer rows strict input (length k.front) e d
-        (record { front = k.front; rest = k.rest; begins = k.begins; decides = decided k.front e k.is; long = refl; shortest = k.shortest; no_sentence = k.no_sentence }))).0
+        (once rows strict input r (Err e) n (length k.beginning) a (refusal_answer rows strict input (length k.beginning) e d
+        (record { beginning = k.beginning; rest = k.rest; begins = k.begins; decides = decided k.beginning e k.is; long = refl; shortest = k.shortest; no_sentence = k.no_sentence }))).0
 
     refused_for : (e : DecodeError) → e ≢ ExhaustedInput → (r ≡ Err e) ↔ IsDecidedBy rows strict (Faults rows strict e) input
     refused_for e d = (refusal e d, refused e d)
@@ -97,12 +97,12 @@ module _ (rows : Rows) (strict : Bool) where
   open_only : (input : List ℕ) (r : Result Instruction DecodeError) (n : ℕ) → IsAnswer rows strict input r n → IsUndecided rows strict input → r ≡ Err ExhaustedInput
   open_only input (Ok i) n a u = absurd (u.no_sentence a.sentence a.rest i a.begins a.is)
   open_only input (Err ExhaustedInput) n a u = refl
-  open_only input (Err e) n a u = absurd (u.undecided a.front a.rest e a.begins a.decides)
+  open_only input (Err e) n a u = absurd (u.undecided a.beginning a.rest e a.begins a.decides)
 
   pub exhausted : (input : List ℕ) (r : Result Instruction DecodeError) (n : ℕ) → IsAnswer rows strict input r n → (r ≡ Err ExhaustedInput) ↔ IsUndecided rows strict input
   exhausted input r n a = (left_open input r n a, open_only input r n a)
 
-  -- a front is a sentence exactly where the answer is Ok
+  -- a prefix is a sentence exactly where the answer is Ok
   pub accepted : (input : List ℕ) (r : Result Instruction DecodeError) (n : ℕ) → IsAnswer rows strict input r n → IsOk r ↔ HasSentence rows strict input
   accepted input r n a = (there input r n a, only input r n a)
     where

@@ -18,10 +18,10 @@ use Rattle.x86_operands.specs.declared.plans.ModrmUse.{ModrmUse}
 use Rattle.x86_operands.specs.declared.plans.ModrmUse.TheVariants.{EitherForm}
 use Rattle.x86_operands.specs.declared.reader.Reading.{Reading}
 use Rattle.x86_fields.specs.ModRM.{is_memory}
-use Rattle.x86_operands.specs.PlanSteps.{read_plan, record_step, given_step, operands_step, read_modrm, refuse_fault, four_of, reading_from}
+use Rattle.x86_operands.specs.PlanSteps.{read_plan, record_step, filled_step, operands_step, read_modrm, refuse_fault, four_of, reading_from}
 use Rattle.x86_operands.specs.Forms.{form_record}
-use Rattle.x86_operands.specs.Pieces.{SpellsTail, RefusesTail, at_modrm, SpellsRow, RefusesRow, behind_modrm, modrm_of, modrm_width}
-use Rattle.x86_groups.specs.Vocabulary.{bare, bad_operand}
+use Rattle.x86_operands.specs.Pieces.{SpellsTail, RefusesTail, at_modrm, SpellsRow, RefusesRow, past_opcode, modrm_of, modrm_width}
+use Rattle.x86_groups.specs.Vocabulary.{operandless, bad_operand}
 use Rattle.x86_groups.specs.Choices.{NamesFence, lfence, mfence, sfence, IsFenceWithRm}
 use Rattle.x86_groups.specs.Groups.{group_fault, group_modrm, group_plan, group_record}
 use Rattle.x86_decode.specs.declared.instructions.Instruction.{Instruction}
@@ -29,15 +29,15 @@ use Rattle.x86_decode.specs.Head.{Rows, column_of, escape_bytes, clears, seen_by
 use Rattle.x86_decode.specs.Instruction.{instruction_of}
 use Rattle.x86_decode.specs.Bound.{bounded}
 use Rattle.x86_decode.specs.Grammar.{record_of, allows_lock, Whole, IsRefusedByRecord, case_3, IsAnswer}
-use Rattle.x86_decode.specs.Walk.{head_step, opcode_step, some_row, row_step, walk_within, closed, decode_step}
+use Rattle.x86_decode.specs.Walk.{head_step, opcode_step, some_row, row_step, walk_within, bounded_outcome, decode_step}
 use Rattle.x86_decode.specs.Answer.{answer_of, count_of}
 use Rattle.x86_decode.specs.Choices.{IsFence, BeginsWithFence}
-use Rattle.x86_decode.proofs.BodyLemmas.{BodyGives, BodyBetween, ends_body, takes_whole, verdict, Settled, early}
-use Rattle.x86_decode.proofs.Theorem.{ok_apart, same_error, within, front_at_most, walk_answers}
+use Rattle.x86_decode.proofs.BodyLemmas.{BodyYields, BodyBetween, ends_body, takes_whole, verdict, Settled, early}
+use Rattle.x86_decode.proofs.Theorem.{ok_apart, same_error, within, beginning_at_most, walk_answers}
 use Rattle.x86_decode.proofs.AnswerLemmas.{once}
 use Rattle.x86_decode.proofs.PrintedLemmas.{is_answer, only_answer}
 
--- ---- what a step comes to under the strict choice, and by default
+-- ---- the outcome of a step under the strict choice, and by default
 
 data Compared (strictly default : Outcome Reading) : Type 0 where
   same : strictly ≡ default → Compared strictly default
@@ -50,10 +50,10 @@ compared_from (Err e) s f g each = same refl
 -- ---- plans
 
 fence_reading : ℕ → Prefixes → Reading
-fence_reading o p = reading_from (bare o) p o (four_of [])
+fence_reading o p = reading_from (operandless o) p o (four_of [])
 
-bare_step : (o : ℕ) (p : Prefixes) (m : ℕ) (s : State ℕ) → is_memory m ≡ false → read_plan (bare o) p m s ≡ outcome (Ok (fence_reading o p)) s
-unfolding read_plan given_step operands_step fence_reading
+bare_step : (o : ℕ) (p : Prefixes) (m : ℕ) (s : State ℕ) → is_memory m ≡ false → read_plan (operandless o) p m s ≡ outcome (Ok (fence_reading o p)) s
+unfolding read_plan filled_step operands_step fence_reading
 bare_step o p m s e = rw e refl
 
 bad_step : (p : Prefixes) (m : ℕ) (s : State ℕ) → read_plan bad_operand p m s ≡ outcome (Err InvalidOperand) s
@@ -65,7 +65,7 @@ abbrev SameElsewhere : Type 0
 SameElsewhere = (row : TableRow) (p : Prefixes) (m : ℕ) → (group_plan row p m true ≡ group_plan row p m false) ⊎ IsFenceWithRm row.form p m
 
 abbrev ReadByDefault : Type 0
-ReadByDefault = (row : TableRow) (p : Prefixes) (m : ℕ) (fence : IsFenceWithRm row.form p m) → group_plan row p m false ≡ bare fence.opcode
+ReadByDefault = (row : TableRow) (p : Prefixes) (m : ℕ) (fence : IsFenceWithRm row.form p m) → group_plan row p m false ≡ operandless fence.opcode
 
 abbrev RefusedStrictly : Type 0
 RefusedStrictly = (row : TableRow) (p : Prefixes) (m : ℕ) → IsFenceWithRm row.form p m → group_plan row p m true ≡ bad_operand
@@ -101,22 +101,22 @@ module _ (same_elsewhere : SameElsewhere) (fence_by_default : ReadByDefault) (fe
   pub fence_group : (row : TableRow) (p : Prefixes) (m : ℕ) → IsFenceWithRm row.form p m → is_group row.form ≡ true
   fence_group row p m h = ap is_group h.group
 
-  bare_tail : (o : ℕ) (p : Prefixes) (m : ℕ) → is_memory m ≡ false → SpellsTail (bare o) p m [] (fence_reading o p)
+  bare_tail : (o : ℕ) (p : Prefixes) (m : ℕ) → is_memory m ≡ false → SpellsTail (operandless o) p m [] (fence_reading o p)
   unfolding fence_reading
   bare_tail o p m register = record {
-    pieces = record { memory = None; address = []; immediates = []; suffix = []; given = []; spelled = refl; address_asked = (register, refl); immediates_asked = (refl, refl); suffix_asked = refl };
+    pieces = record { memory = None; address = []; immediates = []; suffix = []; operand_pairs = []; spelled = refl; address_spelled = (register, refl); immediates_spelled = (refl, refl); suffix_length = refl };
     opcode = o;
     named = refl;
     accepted = refl;
-    gives = refl;
+    yields = refl;
   }
 
   module _ (row : TableRow) (p : Prefixes) (m : ℕ) (h : IsFenceWithRm row.form p m) where
     passed : group_fault row.form p ≡ None
     passed = ap (λ f. group_fault f p) h.group
 
-    asked : 1 ≡ modrm_width (group_modrm row.form)
-    asked = ap (λ f. modrm_width (group_modrm f)) (sym h.group)
+    modrm_length : 1 ≡ modrm_width (group_modrm row.form)
+    modrm_length = ap (λ f. modrm_width (group_modrm f)) (sym h.group)
 
     read : m ≡ modrm_of (group_modrm row.form) (m ∷ [])
     read = ap (λ f. modrm_of (group_modrm f) (m ∷ [])) (sym h.group)
@@ -128,18 +128,18 @@ module _ (same_elsewhere : SameElsewhere) (fence_by_default : ReadByDefault) (fe
       tail = [];
       passed = passed;
       spelled = refl;
-      modrm_asked = asked;
-      behind = subst (λ k. SpellsTail (group_plan row p k false) p k [] (fence_reading h.opcode p)) read
+      modrm_length = modrm_length;
+      tail_spelled = subst (λ k. SpellsTail (group_plan row p k false) p k [] (fence_reading h.opcode p)) read
           (subst (λ plan. SpellsTail plan p m [] (fence_reading h.opcode p)) (sym (fence_by_default row p m h)) (bare_tail h.opcode p m h.register));
     })
 
     fence_refused : RefusesRow (record_of true row p) p (m ∷ []) BadOperand
     unfolding group_record
     fence_refused = subst (λ t. RefusesRow (if t then group_record true row p else form_record row p) p (m ∷ []) BadOperand) (sym (fence_group row p m h))
-        (behind_modrm (m ∷ []) [] passed refl asked (subst (λ k. RefusesTail (group_plan row p k true) p k [] BadOperand) read
+        (past_opcode (m ∷ []) [] passed refl modrm_length (subst (λ k. RefusesTail (group_plan row p k true) p k [] BadOperand) read
         (subst (λ plan. RefusesTail plan p m [] BadOperand) (sym (fence_strictly row p m h)) (at_modrm refl refl))))
 
-  -- ---- F0 in front of a fence
+  -- ---- F0 before a fence
 
   seen_lock : (map : Map) (b : ℕ) (p : Prefixes) → (seen_by map b p).lock ≡ p.lock
   seen_lock map b p = by (clears map (column_of p) b)
@@ -182,11 +182,11 @@ module _ (same_elsewhere : SameElsewhere) (fence_by_default : ReadByDefault) (fe
         tail = s.tail;
         passed = s.passed;
         spelled = s.spelled;
-        modrm_asked = s.modrm_asked;
-        behind = subst (λ k. SpellsTail (group_plan row p k true) p k s.tail reading) (sym is)
-            (subst (λ plan. SpellsTail plan p m s.tail reading) (sym e) (subst (λ k. SpellsTail (group_plan row p k false) p k s.tail reading) is s.behind));
+        modrm_length = s.modrm_length;
+        tail_spelled = subst (λ k. SpellsTail (group_plan row p k true) p k s.tail reading) (sym is)
+            (subst (λ plan. SpellsTail plan p m s.tail reading) (sym e) (subst (λ k. SpellsTail (group_plan row p k false) p k s.tail reading) is s.tail_spelled));
       })
-      by m is (inr h) = inr (m, s.tail, s.spelled ∙ ap (λ l. l ++ s.tail) (one_byte (group_modrm row.form) s.modrm (ap group_modrm h.group) s.modrm_asked ∙ ap (λ k. k ∷ []) is), h)
+      by m is (inr h) = inr (m, s.tail, s.spelled ∙ ap (λ l. l ++ s.tail) (one_byte (group_modrm row.form) s.modrm (ap group_modrm h.group) s.modrm_length ∙ ap (λ k. k ∷ []) is), h)
 
   strict_row : (row : TableRow) (p : Prefixes) (bytes : List ℕ) (reading : Reading) → SpellsRow (record_of false row p) p bytes reading → SpellsRow (record_of true row p) p bytes reading ⊎ FenceFirst row p bytes
   strict_row row p bytes reading = by (is_group row.form)
@@ -200,8 +200,8 @@ module _ (same_elsewhere : SameElsewhere) (fence_by_default : ReadByDefault) (fe
   zero_plus : (n : ℕ) → 0 + n ≡ n
   zero_plus n = omega arith
 
-  fence_front : (run escape : List ℕ) (b m : ℕ) (more : List ℕ) → (run ++ (escape ++ b ∷ m ∷ [])) ++ more ≡ run ++ (escape ++ b ∷ m ∷ more)
-  fence_front run escape b m more = append_assoc run (escape ++ b ∷ m ∷ []) more ∙ ap (λ l. run ++ l) (append_assoc escape (b ∷ m ∷ []) more)
+  fence_beginning : (run escape : List ℕ) (b m : ℕ) (more : List ℕ) → (run ++ (escape ++ b ∷ m ∷ [])) ++ more ≡ run ++ (escape ++ b ∷ m ∷ more)
+  fence_beginning run escape b m more = append_assoc run (escape ++ b ∷ m ∷ []) more ∙ ap (λ l. run ++ l) (append_assoc escape (b ∷ m ∷ []) more)
 
   operand_alone : (reading : Reading) (t : Bool) → (if t then Ok reading else Err InvalidPrefixes) ≡ Err InvalidOperand → ⊥
   operand_alone reading true e = ok_apart reading InvalidOperand e
@@ -233,19 +233,19 @@ module _ (same_elsewhere : SameElsewhere) (fence_by_default : ReadByDefault) (fe
     -- ---- an input that is read by default
 
     strict_whole : (input q rest : List ℕ) (reading : Reading) → input ≡ q ++ rest → length q ≤ 15 → Whole rows false q reading → Whole rows true q reading ⊎ BeginsWithFence rows input
-    strict_whole input q rest reading h short w = by (strict_row w.row (seen_by w.map w.opcode (reading_of w.run)) w.tail reading w.asked)
+    strict_whole input q rest reading h short w = by (strict_row w.row (seen_by w.map w.opcode (reading_of w.run)) w.tail reading w.row_spelled)
       where
         by : SpellsRow (record_of true w.row (seen_by w.map w.opcode (reading_of w.run))) (seen_by w.map w.opcode (reading_of w.run)) w.tail reading ⊎ FenceFirst w.row (seen_by w.map w.opcode (reading_of w.run)) w.tail → Whole rows true q reading ⊎ BeginsWithFence rows input
-        by (inl s) = inl (record { run = w.run; map = w.map; opcode = w.opcode; row = w.row; tail = w.tail; spelled = w.spelled; prefixes = w.prefixes; meant = w.meant; has_row = w.has_row; asked = s })
+        by (inl s) = inl (record { run = w.run; map = w.map; opcode = w.opcode; row = w.row; tail = w.tail; spelled = w.spelled; prefixes = w.prefixes; in_map = w.in_map; has_row = w.has_row; row_spelled = s })
         by (inr k) =
             let fence : List ℕ = w.run ++ (escape_bytes w.map ++ w.opcode ∷ k.0 ∷ []) in
-            let whole : q ≡ fence ++ k.1 = w.spelled ∙ ap (λ l. w.run ++ (escape_bytes w.map ++ w.opcode ∷ l)) k.2 ∙ sym (fence_front w.run (escape_bytes w.map) w.opcode k.0 k.1) in
+            let whole : q ≡ fence ++ k.1 = w.spelled ∙ ap (λ l. w.run ++ (escape_bytes w.map ++ w.opcode ∷ l)) k.2 ∙ sym (fence_beginning w.run (escape_bytes w.map) w.opcode k.0 k.1) in
             let long : length q ≡ length fence + length k.1 = ap length whole ∙ length-append fence k.1 in
             inr (record {
               fence = fence;
               rest = k.1 ++ rest;
               begins = h ∙ ap (λ l. l ++ rest) whole ∙ append_assoc fence k.1 rest;
-              is = record { run = w.run; map = w.map; opcode = w.opcode; row = w.row; modrm = k.0; spelled = refl; prefixes = w.prefixes; meant = w.meant; has_row = w.has_row; names = k.3 };
+              is = record { run = w.run; map = w.map; opcode = w.opcode; row = w.row; modrm = k.0; spelled = refl; prefixes = w.prefixes; in_map = w.in_map; has_row = w.has_row; names = k.3 };
               short = omega arith;
             })
 
@@ -256,8 +256,8 @@ module _ (same_elsewhere : SameElsewhere) (fence_by_default : ReadByDefault) (fe
       abbrev first : State ℕ
       first = bounded 15 start
 
-      differs : (reading : Reading) → (walk_within rows false first).answer ≡ Ok reading → (walk_within rows true first).answer ≡ Err InvalidOperand → Ends (BodyGives rows false) (BodyBetween rows false) (walk_within rows false) first → BeginsWithFence rows input
-      differs reading d e (settles q rest (Ok r) h t f a) = by (strict_whole input q (rest ++ drop 15 input) r begins (front_at_most 15 input q rest h) a)
+      differs : (reading : Reading) → (walk_within rows false first).answer ≡ Ok reading → (walk_within rows true first).answer ≡ Err InvalidOperand → Ends (BodyYields rows false) (BodyBetween rows false) (walk_within rows false) first → BeginsWithFence rows input
+      differs reading d e (settles q rest (Ok r) h t f a) = by (strict_whole input q (rest ++ drop 15 input) r begins (beginning_at_most 15 input q rest h) a)
         where
           begins : input ≡ q ++ (rest ++ drop 15 input)
           begins = sym (take-append-drop 15 input) ∙ ap (λ l. l ++ drop 15 input) h ∙ append_assoc q rest (drop 15 input)
@@ -279,7 +279,7 @@ module _ (same_elsewhere : SameElsewhere) (fence_by_default : ReadByDefault) (fe
 
       same_walk : walk_within rows true first ≡ walk_within rows false first → walked true ≡ walked false
       unfolding decode_step
-      same_walk e = ap (λ o. closed o.answer o.after.since_mark start) e
+      same_walk e = ap (λ o. bounded_outcome o.answer o.after.since_mark start) e
 
       pub same_elsewhere_on : ((r : Result Instruction DecodeError) (n : ℕ) → IsAnswer rows true input r n ↔ IsAnswer rows false input r n) ⊎ BeginsWithFence rows input
       same_elsewhere_on = by (compared_body first)
@@ -290,11 +290,11 @@ module _ (same_elsewhere : SameElsewhere) (fence_by_default : ReadByDefault) (fe
 
       -- ---- an input that begins with a fence
 
-      walked_as : (strict : Bool) (q rest : List ℕ) (r : Result Reading DecodeError) → input ≡ q ++ rest → length q ≤ 15 → Takes (walk_within rows strict) q r → walked strict ≡ closed r (length q) start
+      walked_as : (strict : Bool) (q rest : List ℕ) (r : Result Reading DecodeError) → input ≡ q ++ rest → length q ≤ 15 → Takes (walk_within rows strict) q r → walked strict ≡ bounded_outcome r (length q) start
       unfolding decode_step
       walked_as strict q rest r h short t =
-          ap (λ o. closed o.answer o.after.since_mark start) (t.takes (take (15 - length q) rest) first (within input q rest h short))
-          ∙ ap (λ n. closed r n start) (zero_plus (length q))
+          ap (λ o. bounded_outcome o.answer o.after.since_mark start) (t.takes (take (15 - length q) rest) first (within input q rest h short))
+          ∙ ap (λ n. bounded_outcome r n start) (zero_plus (length q))
 
       answer_at : (strict : Bool) (r : Result Instruction DecodeError) (n : ℕ) → walked strict ≡ outcome r (advanced n start) → IsAnswer rows strict input r n
       answer_at strict r n e =
@@ -309,7 +309,7 @@ module _ (same_elsewhere : SameElsewhere) (fence_by_default : ReadByDefault) (fe
         p = seen_by is.map is.opcode (reading_of is.run)
 
         refused : IsRefusedByRecord rows true f.fence BadOperand
-        refused = record { run = is.run; map = is.map; opcode = is.opcode; row = is.row; tail = is.modrm ∷ []; spelled = is.spelled; prefixes = is.prefixes; meant = is.meant; has_row = is.has_row; refuses = fence_refused is.row p is.modrm is.names }
+        refused = record { run = is.run; map = is.map; opcode = is.opcode; row = is.row; tail = is.modrm ∷ []; spelled = is.spelled; prefixes = is.prefixes; in_map = is.in_map; has_row = is.has_row; refuses = fence_refused is.row p is.modrm is.names }
 
         taken : (r : Result Reading DecodeError) × Settled rows true f.fence r × (verdict r ≡ Err InvalidOperand)
         taken = early rows true f.fence InvalidOperand (case_3 BadOperand refused)
@@ -318,7 +318,7 @@ module _ (same_elsewhere : SameElsewhere) (fence_by_default : ReadByDefault) (fe
         fence_strict_answer = answer_at true (Err InvalidOperand) (length f.fence) (walked_as true f.fence f.rest (Err InvalidOperand) f.begins f.short (subst (Takes (walk_within rows true) f.fence) (refused_by taken.0 taken.2) taken.1.takes))
 
         read_whole : Whole rows false f.fence (fence_reading is.names.opcode p)
-        read_whole = record { run = is.run; map = is.map; opcode = is.opcode; row = is.row; tail = is.modrm ∷ []; spelled = is.spelled; prefixes = is.prefixes; meant = is.meant; has_row = is.has_row; asked = fence_spelled is.row p is.modrm is.names }
+        read_whole = record { run = is.run; map = is.map; opcode = is.opcode; row = is.row; tail = is.modrm ∷ []; spelled = is.spelled; prefixes = is.prefixes; in_map = is.in_map; has_row = is.has_row; row_spelled = fence_spelled is.row p is.modrm is.names }
 
         read_lock : allows_lock (fence_reading is.names.opcode p) ≡ not (reading_of is.run).lock
         read_lock = fence_lock is.modrm is.names.opcode p is.names.named ∙ ap not (seen_lock is.map is.opcode (reading_of is.run))
@@ -326,13 +326,13 @@ module _ (same_elsewhere : SameElsewhere) (fence_by_default : ReadByDefault) (fe
         abbrev fence_instruction : Instruction
         fence_instruction = instruction_of (fence_reading is.names.opcode p) (length f.fence)
 
-        read_walk : walked false ≡ closed (Ok (fence_reading is.names.opcode p)) (length f.fence) start
+        read_walk : walked false ≡ bounded_outcome (Ok (fence_reading is.names.opcode p)) (length f.fence) start
         read_walk = walked_as false f.fence f.rest (Ok (fence_reading is.names.opcode p)) f.begins f.short (takes_whole rows false f.fence (fence_reading is.names.opcode p) read_whole)
 
         closed_as : (t : Bool) → allows_lock (fence_reading is.names.opcode p) ≡ t → walked false ≡ (if t then outcome (Ok fence_instruction) (advanced (length f.fence) start) else outcome (Err InvalidPrefixes) (advanced (length f.fence) start))
         closed_as t e = read_walk ∙ ap (λ b. if b then outcome (Ok fence_instruction) (advanced (length f.fence) start) else outcome (Err InvalidPrefixes) (advanced (length f.fence) start)) e
 
-        pub fence_read : (reading_of is.run).lock ≡ false → (i : Instruction) × IsAnswer rows false input (Ok i) (length f.fence) × (i.opcode ≡ is.names.opcode) × (i.given.count ≡ 0)
+        pub fence_read : (reading_of is.run).lock ≡ false → (i : Instruction) × IsAnswer rows false input (Ok i) (length f.fence) × (i.opcode ≡ is.names.opcode) × (i.operand_list.count ≡ 0)
         unfolding fence_reading
         fence_read free = (fence_instruction, answer_at false (Ok fence_instruction) (length f.fence) (closed_as true (read_lock ∙ ap not free)), refl, refl)
 

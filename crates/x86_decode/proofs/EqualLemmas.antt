@@ -56,8 +56,8 @@ module _ (same_prefixes : SamePrefixes) (same_slots : SameSlots) (same_operands 
       record {
         prefixes = (same_prefixes a.prefixes b.prefixes).0 h0.0;
         opcode = (Decides-eqb a.opcode b.opcode).0 h1.0;
-        count = (Decides-eqb a.given.count b.given.count).0 h2.0;
-        mem_size = (Decides-eqb a.given.mem_size b.given.mem_size).0 h3.0;
+        count = (Decides-eqb a.operand_list.count b.operand_list.count).0 h2.0;
+        mem_size = (Decides-eqb a.operand_list.mem_size b.operand_list.mem_size).0 h3.0;
         slots = slot_by (ordinal_of slots.Nothing (slot_at a 0) (slot_at a 1) (slot_at a 2) (slot_at a 3) (slot_at b 0) (slot_at b 1) (slot_at b 2) (slot_at b 3) slots_are);
         operands = operand_by (ordinal_of operands.Nothing (operand_at a 0) (operand_at a 1) (operand_at a 2) (operand_at a 3) (operand_at b 0) (operand_at b 1) (operand_at b 2) (operand_at b 3) operands_are);
       }

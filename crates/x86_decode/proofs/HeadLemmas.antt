@@ -9,7 +9,7 @@ use Rattle.x86_fields.specs.declared.prefixes.Prefixes.{Prefixes}
 use Rattle.x86_fields.specs.Run.{is_prefix, reading_of}
 use Rattle.x86_fields.specs.Steps.{Outcome, outcome, then_from, pure, refuse, ◌>>=◌, next_byte}
 use Rattle.x86_fields.proofs.StepLemmas.{Takes, advanced_twice, advanced_zero, takes_pure, takes_bind, takes_byte}
-use Rattle.x86_fields.proofs.EndLemmas.{EndsWell, Ends, settles, runs_out, no_front, final_ok, IsEmpty, Only, IsByte, ends_byte, ends_pure, ends_refuse, ends_then, Out, out_bind, out_after, out_byte}
+use Rattle.x86_fields.proofs.EndLemmas.{EndsWell, Ends, settles, runs_out, no_beginning, final_ok, IsEmpty, Only, IsByte, ends_byte, ends_pure, ends_refuse, ends_then, Out, out_bind, out_after, out_byte}
 use Rattle.x86_fields.proofs.PieceLemmas.{takes_map}
 use Rattle.x86_forms.specs.declared.Map.{Map}
 use Rattle.x86_forms.specs.declared.Map.TheVariants.{One, Of, Of38, Of3a}
@@ -27,13 +27,13 @@ and_right a b h = grind arith
 one_more : (n : ℕ) → 1 + n ≡ suc n
 one_more n = omega arith
 
-run_passes : (back front rest : List ℕ) (s : State ℕ) → is_run back ≡ true → run_from (back ++ rest) front s ≡ run_from rest (front ++ back) (advanced (length back) s)
-run_passes [] front rest s h = rw (append-nil front, advanced_zero s) refl
-run_passes (x ∷ back) front rest s h =
-    ap (λ t. if t then run_from (back ++ rest) (front ++ x ∷ []) (advanced 1 s) else outcome (Ok (front, x)) (advanced 1 s)) (and_left (is_prefix x) (is_run back) h)
-    ∙ run_passes back (front ++ x ∷ []) rest (advanced 1 s) (and_right (is_prefix x) (is_run back) h)
-    ∙ ap (λ l. run_from rest l (advanced (length back) (advanced 1 s))) (append_assoc front (x ∷ []) back)
-    ∙ ap (λ u. run_from rest (front ++ x ∷ back) u) (advanced_twice 1 (length back) s ∙ ap (λ n. advanced n s) (one_more (length back)))
+run_passes : (back beginning rest : List ℕ) (s : State ℕ) → is_run back ≡ true → run_from (back ++ rest) beginning s ≡ run_from rest (beginning ++ back) (advanced (length back) s)
+run_passes [] beginning rest s h = rw (append-nil beginning, advanced_zero s) refl
+run_passes (x ∷ back) beginning rest s h =
+    ap (λ t. if t then run_from (back ++ rest) (beginning ++ x ∷ []) (advanced 1 s) else outcome (Ok (beginning, x)) (advanced 1 s)) (and_left (is_prefix x) (is_run back) h)
+    ∙ run_passes back (beginning ++ x ∷ []) rest (advanced 1 s) (and_right (is_prefix x) (is_run back) h)
+    ∙ ap (λ l. run_from rest l (advanced (length back) (advanced 1 s))) (append_assoc beginning (x ∷ []) back)
+    ∙ ap (λ u. run_from rest (beginning ++ x ∷ back) u) (advanced_twice 1 (length back) s ∙ ap (λ n. advanced n s) (one_more (length back)))
 
 data RunEnd (l : List ℕ) : Type 0 where
   at_opcode : (run : List ℕ) (c : ℕ) (rest : List ℕ) → l ≡ run ++ c ∷ rest → is_run run ≡ true → is_prefix c ≡ false → RunEnd l
@@ -54,8 +54,8 @@ run_end : (l : List ℕ) → RunEnd l
 run_end [] = all refl
 run_end (x ∷ l) = run_by x l (is_prefix x) refl (run_end l)
 
-run_stops : (front : List ℕ) (c : ℕ) (rest : List ℕ) (s : State ℕ) → is_prefix c ≡ false → run_from (c ∷ rest) front s ≡ outcome (Ok (front, c)) (advanced 1 s)
-run_stops front c rest s e = ap (λ t. if t then run_from rest (front ++ c ∷ []) (advanced 1 s) else outcome (Ok (front, c)) (advanced 1 s)) e
+run_stops : (beginning : List ℕ) (c : ℕ) (rest : List ℕ) (s : State ℕ) → is_prefix c ≡ false → run_from (c ∷ rest) beginning s ≡ outcome (Ok (beginning, c)) (advanced 1 s)
+run_stops beginning c rest s e = ap (λ t. if t then run_from rest (beginning ++ c ∷ []) (advanced 1 s) else outcome (Ok (beginning, c)) (advanced 1 s)) e
 
 abbrev head_of : Outcome (List ℕ × ℕ) → Outcome (Prefixes × ℕ)
 head_of o = then_from o.answer o.after (λ h. pure (reading_of h.0, h.1))
@@ -77,7 +77,7 @@ takes_head run c is plain = record {
 pub out_head : (q : List ℕ) → is_run q ≡ true → Out head_step q
 out_head q is s h = head_is s (outcome (Err ExhaustedInput) (advanced (length q) s)) (ap (λ l. run_from l [] s) (h ∙ sym (append-nil q)) ∙ run_passes q [] [] s is)
 
--- the run, its reading and the byte behind it
+-- the run, its reading and the byte after it
 pub record IsHead (q : List ℕ) (h : Prefixes × ℕ) : Type 0 where
   pub run : List ℕ
   pub spelled : q ≡ run ++ h.1 ∷ []
@@ -90,16 +90,16 @@ IsRun q = is_run q ≡ true
 
 head_at : (s : State ℕ) → RunEnd s.left → Ends (Only IsHead) IsRun head_step s
 head_at s (at_opcode run c rest h is plain) = settles (run ++ c ∷ []) rest (Ok (reading_of run, c)) (h ∙ sym (append_assoc run (c ∷ []) rest)) (takes_head run c is plain) (final_ok (reading_of run, c)) (record { run = run; spelled = refl; prefixes = is; reading = refl; plain = plain })
-head_at s (all is) = runs_out s.left [] (sym (append-nil s.left)) is (λ front back e t left. out_head s.left is t (left ∙ ap (λ l. s.left ++ l) (no_front front back e) ∙ append-nil s.left))
+head_at s (all is) = runs_out s.left [] (sym (append-nil s.left)) is (λ beginning back e t left. out_head s.left is t (left ∙ ap (λ l. s.left ++ l) (no_beginning beginning back e) ∙ append-nil s.left))
 
 pub ends_head : EndsWell (Only IsHead) IsRun head_step
 ends_head s = head_at s (run_end s.left)
 
 -- ---- the escape and the opcode byte
 
-abbrev pub OpcodeGives : Prefixes → ℕ → List ℕ → Result (Map × ℕ) DecodeError → Type 0
-OpcodeGives p c q (Ok o) = (c ∷ q ≡ escape_bytes o.0 ++ o.1 ∷ []) × (is_opcode o.0 o.1 ≡ true)
-OpcodeGives p c q (Err e) = (q ≡ []) × (is_vex c ≡ true) × (e ≡ vex_refusal p)
+abbrev pub OpcodeYields : Prefixes → ℕ → List ℕ → Result (Map × ℕ) DecodeError → Type 0
+OpcodeYields p c q (Ok o) = (c ∷ q ≡ escape_bytes o.0 ++ o.1 ∷ []) × (is_opcode o.0 o.1 ≡ true)
+OpcodeYields p c q (Err e) = (q ≡ []) × (is_vex c ≡ true) × (e ≡ vex_refusal p)
 
 abbrev pub OpcodeBetween : ℕ → List ℕ → Type 0
 OpcodeBetween c q = (map : Map) × (back : List ℕ) × (escape_bytes map ≡ (c ∷ q) ++ back)
@@ -115,38 +115,38 @@ equal : (b n : ℕ) → (b == n) ≡ true → b ≡ n
 equal b n h = grind (arith, nat_tests)
 
 module _ (p : Prefixes) (c : ℕ) where
-  abbrev Behind : List ℕ → List ℕ → Result (Map × ℕ) DecodeError → Type 0
-  Behind q l r = OpcodeGives p c (q ++ l) r
+  abbrev AfterOpcode : List ℕ → List ℕ → Result (Map × ℕ) DecodeError → Type 0
+  AfterOpcode q l r = OpcodeYields p c (q ++ l) r
 
   abbrev Between : List ℕ → List ℕ → Type 0
   Between q l = OpcodeBetween c (q ++ l)
 
-  third : (map : Map) (d : ℕ) (q : List ℕ) → escape_bytes map ≡ c ∷ d ∷ [] → q ≡ d ∷ [] → ((b : ℕ) → is_opcode map b ≡ true) → EndsWell (Behind q) (Between q) (next_byte >>= λ b. pure (map, b))
-  third map d q e h every = ends_then IsByte IsEmpty (Behind q) (Between q) next_byte (λ b. pure (map, b)) ends_byte
+  third : (map : Map) (d : ℕ) (q : List ℕ) → escape_bytes map ≡ c ∷ d ∷ [] → q ≡ d ∷ [] → ((b : ℕ) → is_opcode map b ≡ true) → EndsWell (AfterOpcode q) (Between q) (next_byte >>= λ b. pure (map, b))
+  third map d q e h every = ends_then IsByte IsEmpty (AfterOpcode q) (Between q) next_byte (λ b. pure (map, b)) ends_byte
       (λ l k. (map, [], e ∙ ap (λ m. c ∷ m) (sym (ap (λ m. (m ++ l) ++ []) h ∙ ap (λ m. (d ∷ m) ++ []) k))))
-      (λ l b k. ends_pure (λ m r. Behind q (l ++ m) r) (λ m. Between q (l ++ m)) (map, b)
+      (λ l b k. ends_pure (λ m r. AfterOpcode q (l ++ m) r) (λ m. Between q (l ++ m)) (map, b)
       (ap (λ m. c ∷ m) (ap (λ m. m ++ (l ++ [])) h ∙ ap (λ m. d ∷ (m ++ [])) k) ∙ ap (λ m. m ++ b ∷ []) (sym e), every b))
 
-  escaped : (d : ℕ) (q : List ℕ) → c ≡ 0x0f → q ≡ d ∷ [] → EndsWell (Behind q) (Between q) (read_escaped d)
+  escaped : (d : ℕ) (q : List ℕ) → c ≡ 0x0f → q ≡ d ∷ [] → EndsWell (AfterOpcode q) (Between q) (read_escaped d)
   escaped d q z h = by (d == 0x38) (d == 0x3a) refl refl
     where
-      by : (a b : Bool) → (d == 0x38) ≡ a → (d == 0x3a) ≡ b → EndsWell (Behind q) (Between q) (if a then (next_byte >>= λ b. pure (Of38, b)) else (if b then (next_byte >>= λ b. pure (Of3a, b)) else pure (Of, d)))
+      by : (a b : Bool) → (d == 0x38) ≡ a → (d == 0x3a) ≡ b → EndsWell (AfterOpcode q) (Between q) (if a then (next_byte >>= λ b. pure (Of38, b)) else (if b then (next_byte >>= λ b. pure (Of3a, b)) else pure (Of, d)))
       by true b e f = third Of38 d q (ap (λ x. x ∷ 0x38 ∷ []) (sym z) ∙ ap (λ x. c ∷ x ∷ []) (sym (equal d 0x38 e))) h (λ b. refl)
       by false true e f = third Of3a d q (ap (λ x. x ∷ 0x3a ∷ []) (sym z) ∙ ap (λ x. c ∷ x ∷ []) (sym (equal d 0x3a f))) h (λ b. refl)
-      by false false e f = ends_pure (Behind q) (Between q) (Of, d) (ap (λ m. c ∷ (m ++ [])) h ∙ ap (λ x. x ∷ d ∷ []) z, ap (λ t. not (t || (d == 0x3a))) e ∙ ap not f)
+      by false false e f = ends_pure (AfterOpcode q) (Between q) (Of, d) (ap (λ m. c ∷ (m ++ [])) h ∙ ap (λ x. x ∷ d ∷ []) z, ap (λ t. not (t || (d == 0x3a))) e ∙ ap not f)
 
-  pub ends_opcode : is_prefix c ≡ false → EndsWell (OpcodeGives p c) (OpcodeBetween c) (opcode_step p c)
+  pub ends_opcode : is_prefix c ≡ false → EndsWell (OpcodeYields p c) (OpcodeBetween c) (opcode_step p c)
   unfolding opcode_step
   ends_opcode plain = by (is_vex c) (c == 0x0f) refl refl
     where
-      by : (v z : Bool) → is_vex c ≡ v → (c == 0x0f) ≡ z → EndsWell (OpcodeGives p c) (OpcodeBetween c) (if v then refuse (vex_refusal p) else (if z then (next_byte >>= λ d. read_escaped d) else pure (One, c)))
-      by true z e f = ends_refuse (OpcodeGives p c) (OpcodeBetween c) (vex_refusal p) (vex_final p) (refl, e, refl)
-      by false true e f = ends_then IsByte IsEmpty (OpcodeGives p c) (OpcodeBetween c) next_byte (λ d. read_escaped d) ends_byte
+      by : (v z : Bool) → is_vex c ≡ v → (c == 0x0f) ≡ z → EndsWell (OpcodeYields p c) (OpcodeBetween c) (if v then refuse (vex_refusal p) else (if z then (next_byte >>= λ d. read_escaped d) else pure (One, c)))
+      by true z e f = ends_refuse (OpcodeYields p c) (OpcodeBetween c) (vex_refusal p) (vex_final p) (refl, e, refl)
+      by false true e f = ends_then IsByte IsEmpty (OpcodeYields p c) (OpcodeBetween c) next_byte (λ d. read_escaped d) ends_byte
           (λ q k. (Of, [], ap (λ x. x ∷ []) (sym (equal c 0x0f f)) ∙ ap (λ m. c ∷ (m ++ [])) (sym k)))
           (λ q d k. escaped d q (equal c 0x0f f) k)
-      by false false e f = ends_pure (OpcodeGives p c) (OpcodeBetween c) (One, c) (refl, ap (λ t. not (t || ((c == 0x0f) || is_vex c))) plain ∙ ap (λ t. not (t || is_vex c)) f ∙ ap not e)
+      by false false e f = ends_pure (OpcodeYields p c) (OpcodeBetween c) (One, c) (refl, ap (λ t. not (t || ((c == 0x0f) || is_vex c))) plain ∙ ap (λ t. not (t || is_vex c)) f ∙ ap not e)
 
--- the first byte behind the run, and those up to the opcode
+-- the first byte after the run, and those up to the opcode
 abbrev pub entry_byte : Map → ℕ → ℕ
 entry_byte One b = b
 entry_byte Of b = 0x0f
@@ -209,12 +209,12 @@ takes_vex p c h = by (is_vex c) h
 pub vex_plain : (c : ℕ) → is_vex c ≡ true → is_prefix c ≡ false
 vex_plain c h = grind (arith, nat_tests)
 
--- ---- a front of an escape
+-- ---- the beginning of an escape
 
-pub data EscapeFront (front : List ℕ) : Type 0 where
-  none : front ≡ [] → EscapeFront front
-  one : front ≡ 0x0f ∷ [] → EscapeFront front
-  two : (d : ℕ) → front ≡ 0x0f ∷ d ∷ [] → ((p : Prefixes) → Out (opcode_step p 0x0f) (d ∷ [])) → EscapeFront front
+pub data EscapeBeginning (beginning : List ℕ) : Type 0 where
+  none : beginning ≡ [] → EscapeBeginning beginning
+  one : beginning ≡ 0x0f ∷ [] → EscapeBeginning beginning
+  two : (d : ℕ) → beginning ≡ 0x0f ∷ d ∷ [] → ((p : Prefixes) → Out (opcode_step p 0x0f) (d ∷ [])) → EscapeBeginning beginning
 
 out_two : (p : Prefixes) (d : ℕ) → Out (read_escaped d) [] → Out (opcode_step p 0x0f) (d ∷ [])
 unfolding opcode_step
@@ -224,18 +224,18 @@ pub out_one : (p : Prefixes) → Out (opcode_step p 0x0f) []
 unfolding opcode_step
 out_one p = out_bind next_byte (λ d. read_escaped d) [] out_byte
 
-front_two : (d : ℕ) (front back : List ℕ) → 0x0f ∷ d ∷ [] ≡ front ++ back → ((p : Prefixes) → Out (opcode_step p 0x0f) (d ∷ [])) → EscapeFront front
-front_two d [] back e u = none refl
-front_two d (x ∷ []) back e u = one (cc)
-front_two d (x ∷ y ∷ []) back e u = two d (cc) u
-front_two d (x ∷ y ∷ z ∷ rest) back e u = absurd cc
+beginning_two : (d : ℕ) (beginning back : List ℕ) → 0x0f ∷ d ∷ [] ≡ beginning ++ back → ((p : Prefixes) → Out (opcode_step p 0x0f) (d ∷ [])) → EscapeBeginning beginning
+beginning_two d [] back e u = none refl
+beginning_two d (x ∷ []) back e u = one (cc)
+beginning_two d (x ∷ y ∷ []) back e u = two d (cc) u
+beginning_two d (x ∷ y ∷ z ∷ rest) back e u = absurd cc
 
-pub escape_front : (map : Map) (front back : List ℕ) → escape_bytes map ≡ front ++ back → EscapeFront front
-escape_front One front back e = none (no_front front back e)
-escape_front Of [] back e = none refl
-escape_front Of (x ∷ rest) back e =
-    let behind : [] ≡ rest ++ back = cc in
-    let empty = no_front rest back behind in
+pub escape_beginning : (map : Map) (beginning back : List ℕ) → escape_bytes map ≡ beginning ++ back → EscapeBeginning beginning
+escape_beginning One beginning back e = none (no_beginning beginning back e)
+escape_beginning Of [] back e = none refl
+escape_beginning Of (x ∷ rest) back e =
+    let following : [] ≡ rest ++ back = cc in
+    let empty = no_beginning rest back following in
     one (cc)
-escape_front Of38 front back e = front_two 0x38 front back e (λ p. out_two p 0x38 (out_bind next_byte (λ b. pure (Of38, b)) [] out_byte))
-escape_front Of3a front back e = front_two 0x3a front back e (λ p. out_two p 0x3a (out_bind next_byte (λ b. pure (Of3a, b)) [] out_byte))
+escape_beginning Of38 beginning back e = beginning_two 0x38 beginning back e (λ p. out_two p 0x38 (out_bind next_byte (λ b. pure (Of38, b)) [] out_byte))
+escape_beginning Of3a beginning back e = beginning_two 0x3a beginning back e (λ p. out_two p 0x3a (out_bind next_byte (λ b. pure (Of3a, b)) [] out_byte))

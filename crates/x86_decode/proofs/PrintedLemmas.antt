@@ -13,7 +13,7 @@ pub is_answer : (strict : Bool) (xs : List ℕ) → IsAnswer (rows_of packed) st
 unfolding answer_of count_of outcome_of
 is_answer strict xs = walk_answers (rows_of packed) strict xs
 
--- what answer_of gives is an answer
+-- what answer_of returns is an answer
 pub printed_answer : (strict : Bool) (xs : List ℕ) (r : Result Instruction DecodeError) → r ≡ answer_of strict xs → IsAnswer (rows_of packed) strict xs r (count_of strict xs)
 printed_answer strict xs r e = subst (λ r. IsAnswer (rows_of packed) strict xs r (count_of strict xs)) (sym e) (is_answer strict xs)
 

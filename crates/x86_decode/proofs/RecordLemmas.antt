@@ -1,4 +1,5 @@
--- What holds of the records of all rows: sizes up to 64 bytes, only 8F left out, and where 8F and the fences stand.
+-- What holds of the records of all rows: sizes up to 64 bytes, only 8F left out, and at which bytes 8F and the fences
+-- are.
 use Rattle.std.proofs.Common.{◌≡◌, ◌≢◌, ℕ, ◌<◌, ◌≤◌, Bool, true, false, if◌then◌else◌, List, Some, None, Ok, refl, sym, ap, ◌∙◌, arith, [], ◌∷◌, not, ◌||◌, ◌&&◌, ◌==◌, eqb, IfSome, subst}
 use Rattle.std.proofs.lemmas.Bool.{and_parts, cond_both, eqb-true}
 use Rattle.x86_fields.specs.declared.prefixes.Prefixes.{Prefixes}
@@ -8,7 +9,7 @@ use Rattle.x86_forms.specs.declared.Map.TheVariants.{One, Of}
 use Rattle.x86_forms.specs.declared.Column.{Column}
 use Rattle.x86_forms.specs.declared.Form.{Form}
 use Rattle.x86_forms.specs.declared.Form.TheVariants as form
-use Rattle.x86_forms.specs.Rows.{Row, printed_rows, row_in, stands_in, printed_row}
+use Rattle.x86_forms.specs.Rows.{Row, printed_rows, row_in, has_column, printed_row}
 use Rattle.x86_forms.specs.declared.TableRow.{TableRow}
 use Rattle.x86_forms.specs.Groups.{is_group}
 use Rattle.x86_forms.specs.Words.{rows_of, packed}
@@ -17,7 +18,7 @@ use Rattle.x86_operands.specs.declared.plans.Moment.{Moment}
 use Rattle.x86_operands.specs.declared.plans.Verdict.TheVariants.{Refuses}
 use Rattle.x86_operands.specs.Plans.{RowRecord}
 use Rattle.x86_operands.specs.Forms.{form_record}
-use Rattle.x86_operands.specs.Pieces.{modrm_of, RefusesTail, at_modrm, after_address, after_suffix, no_name, RefusesRow, at_opcode, behind_modrm}
+use Rattle.x86_operands.specs.Pieces.{modrm_of, RefusesTail, at_modrm, after_address, after_suffix, no_name, RefusesRow, at_opcode, past_opcode}
 use Rattle.x86_groups.specs.Groups.{group_record}
 use Rattle.x86_decode.specs.declared.instructions.Instruction.{Instruction}
 use Rattle.x86_decode.specs.Head.{Rows, column_of, seen_by}
@@ -43,19 +44,19 @@ module _ (plain : PlainIsSmall) (group : GroupIsSmall) where
       by false = plain row p m
 
   -- an instruction has the size of its plan
-  sentence_small : (rows : Rows) (strict : Bool) (s : List ℕ) (a : Instruction) → IsSentence rows strict s a → a.given.mem_size < 65
+  sentence_small : (rows : Rows) (strict : Bool) (s : List ℕ) (a : Instruction) → IsSentence rows strict s a → a.operand_list.mem_size < 65
   sentence_small rows strict s a is =
       let p : Prefixes = seen_by is.whole.map is.whole.opcode (reading_of is.whole.run) in
       let r : RowRecord = record_of strict is.whole.row p in
-      let m : ℕ = modrm_of r.modrm is.whole.asked.modrm in
-      let size : a.given.mem_size ≡ (r.plan m).size = ap (λ i. i.given.mem_size) is.gives ∙ ap (λ x. x.mem_size) is.whole.asked.behind.gives in
+      let m : ℕ = modrm_of r.modrm is.whole.row_spelled.modrm in
+      let size : a.operand_list.mem_size ≡ (r.plan m).size = ap (λ i. i.operand_list.mem_size) is.yields ∙ ap (λ x. x.mem_size) is.whole.row_spelled.tail_spelled.yields in
       let small : (r.plan m).size ≤ 64 = record_small strict is.whole.row p m in
       omega arith
 
-  pub answer_small : (rows : Rows) (strict : Bool) (input : List ℕ) (a : Instruction) (n : ℕ) → IsAnswer rows strict input (Ok a) n → a.given.mem_size < 65
+  pub answer_small : (rows : Rows) (strict : Bool) (input : List ℕ) (a : Instruction) (n : ℕ) → IsAnswer rows strict input (Ok a) n → a.operand_list.mem_size < 65
   answer_small rows strict input a n h = sentence_small rows strict h.sentence a h.is
 
-  pub printed_small : (strict : Bool) (xs : List ℕ) (i : Instruction) → answer_of strict xs ≡ Ok i → i.given.mem_size < 65
+  pub printed_small : (strict : Bool) (xs : List ℕ) (i : Instruction) → answer_of strict xs ≡ Ok i → i.operand_list.mem_size < 65
   printed_small strict xs i e = answer_small (rows_of packed) strict xs i (count_of strict xs) (printed_answer strict xs (Ok i) (sym e))
 
 -- ---- records that are left out, by the laws on what is built
@@ -95,14 +96,14 @@ module _ (plain : PlainIsBuilt) (passes : PlainPasses) (group_passes : GroupPass
 
   row_of_8f : (strict : Bool) (row : TableRow) (p : Prefixes) (bytes : List ℕ) → RefusesRow (record_of strict row p) p bytes Incomplete → row.form ≡ form.ModRM_0x8f
   row_of_8f strict row p bytes (at_opcode e _) = absurd (no_gap_at_opcode strict row p e)
-  row_of_8f strict row p bytes (behind_modrm modrm tail _ _ _ t) = tail_of_8f strict row p (modrm_of (record_of strict row p).modrm modrm) tail t
+  row_of_8f strict row p bytes (past_opcode modrm tail _ _ _ t) = tail_of_8f strict row p (modrm_of (record_of strict row p).modrm modrm) tail t
 
   pub left_out_is_8f : (rows : Rows) (strict : Bool) (q : List ℕ) (c : IsRefusedByRecord rows strict q Incomplete) → c.row.form ≡ form.ModRM_0x8f
   left_out_is_8f rows strict q c = row_of_8f strict c.row (seen_by c.map c.opcode (reading_of c.run)) c.tail c.refuses
 
 -- ---- where a form is printed
 
--- Each row of the list whose form passes the test stands where the other test passes.
+-- Each row of the list whose form passes the test is at a byte where the other test passes.
 abbrev all_at : (Form → Bool) → (Map → ℕ → Bool) → Map → List Row → Bool
 all_at is at m [] = true
 all_at is at m (r ∷ rs) = (not (is r.row.form) || at m r.byte) && all_at is at m rs
@@ -112,8 +113,8 @@ abbrev PrintedRows : Type 0
 PrintedRows = (m : Map) (column : Column) (byte : ℕ) → rows_of packed m column byte ≡ printed_row m column byte
 
 module _ (printed : PrintedRows) (is : Form → Bool) (f : Form) (named : is f ≡ true) (at : Map → ℕ → Bool) where
-  stands : (m : Map) (r : Row) → (not (is r.row.form) || at m r.byte) ≡ true → r.row.form ≡ f → at m r.byte ≡ true
-  stands m r h e =
+  is_at : (m : Map) (r : Row) → (not (is r.row.form) || at m r.byte) ≡ true → r.row.form ≡ f → at m r.byte ≡ true
+  is_at m r h e =
       let passes : is r.row.form ≡ true = ap is e ∙ named in
       ap (λ t. not t || at m r.byte) (sym passes) ∙ h
 
@@ -121,13 +122,13 @@ module _ (printed : PrintedRows) (is : Form → Bool) (f : Form) (named : is f �
   found m [] column byte h = tt
   found m (r ∷ rs) column byte h =
       let parts = and_parts (not (is r.row.form) || at m r.byte) (all_at is at m rs) h in
-      cond_both (eqb r.byte byte && stands_in r.columns column) (Some r.row) (row_in rs column byte) (λ o. IfSome o (λ row. row.form ≡ f → at m byte ≡ true))
+      cond_both (eqb r.byte byte && has_column r.columns column) (Some r.row) (row_in rs column byte) (λ o. IfSome o (λ row. row.form ≡ f → at m byte ≡ true))
       (λ here e.
-      let same : r.byte ≡ byte = eqb-true r.byte byte (and_parts (eqb r.byte byte) (stands_in r.columns column) here).0 in
-      ap (at m) (sym same) ∙ stands m r parts.0 e)
+      let same : r.byte ≡ byte = eqb-true r.byte byte (and_parts (eqb r.byte byte) (has_column r.columns column) here).0 in
+      ap (at m) (sym same) ∙ is_at m r parts.0 e)
       (λ _. found m rs column byte parts.1)
 
-  -- the form stands there alone in the printed table
+  -- in the printed table the form is there alone
   printed_at : (m : Map) (column : Column) (byte : ℕ) (row : TableRow) → all_at is at m (printed_rows m) ≡ true → rows_of packed m column byte ≡ Some row → row.form ≡ f → at m byte ≡ true
   unfolding printed_row
   printed_at m column byte row h e =
@@ -138,38 +139,38 @@ abbrev is_8f : Form → Bool
 is_8f form.ModRM_0x8f = true
 is_8f f = false
 
-abbrev stands_at_8f : Map → ℕ → Bool
-stands_at_8f One byte = byte == 0x8f
-stands_at_8f m byte = false
+abbrev is_at_8f : Map → ℕ → Bool
+is_at_8f One byte = byte == 0x8f
+is_at_8f m byte = false
 
-all_at_8f : (m : Map) → all_at is_8f stands_at_8f m (printed_rows m) ≡ true
+all_at_8f : (m : Map) → all_at is_8f is_at_8f m (printed_rows m) ≡ true
 all_at_8f One = refl
 all_at_8f m = refl
 
-is_row_8f : (m : Map) (byte : ℕ) → stands_at_8f m byte ≡ true → (m ≡ One) × (byte ≡ 0x8f)
+is_row_8f : (m : Map) (byte : ℕ) → is_at_8f m byte ≡ true → (m ≡ One) × (byte ≡ 0x8f)
 is_row_8f One byte h = (refl, eqb-true byte 0x8f h)
 is_row_8f _ byte h = absurd cc
 
 pub left_out_at_8f : PlainIsBuilt → PlainPasses → GroupPasses → GroupIsBuilt → PrintedRows → (strict : Bool) (q : List ℕ) (c : IsRefusedByRecord (rows_of packed) strict q Incomplete) → (c.map ≡ One) × (c.opcode ≡ 0x8f)
 left_out_at_8f plain passes group_passes group printed strict q c =
-    is_row_8f c.map c.opcode (printed_at printed is_8f form.ModRM_0x8f refl stands_at_8f c.map (column_of (reading_of c.run)) c.opcode c.row (all_at_8f c.map) c.has_row (left_out_is_8f plain passes group_passes group (rows_of packed) strict q c))
+    is_row_8f c.map c.opcode (printed_at printed is_8f form.ModRM_0x8f refl is_at_8f c.map (column_of (reading_of c.run)) c.opcode c.row (all_at_8f c.map) c.has_row (left_out_is_8f plain passes group_passes group (rows_of packed) strict q c))
 
 abbrev is_0fae : Form → Bool
 is_0fae form.ModRM_0x0fae = true
 is_0fae f = false
 
-abbrev stands_at_0fae : Map → ℕ → Bool
-stands_at_0fae Of byte = byte == 0xae
-stands_at_0fae m byte = false
+abbrev is_at_0fae : Map → ℕ → Bool
+is_at_0fae Of byte = byte == 0xae
+is_at_0fae m byte = false
 
-all_at_0fae : (m : Map) → all_at is_0fae stands_at_0fae m (printed_rows m) ≡ true
+all_at_0fae : (m : Map) → all_at is_0fae is_at_0fae m (printed_rows m) ≡ true
 all_at_0fae One = refl
 all_at_0fae m = refl
 
-is_row_0fae : (m : Map) (byte : ℕ) → stands_at_0fae m byte ≡ true → (m ≡ Of) × (byte ≡ 0xae)
+is_row_0fae : (m : Map) (byte : ℕ) → is_at_0fae m byte ≡ true → (m ≡ Of) × (byte ≡ 0xae)
 is_row_0fae Of byte h = (refl, eqb-true byte 0xae h)
 is_row_0fae _ byte h = absurd cc
 
 pub fence_at_0fae : PrintedRows → (q : List ℕ) (c : IsFence (rows_of packed) q) → (c.map ≡ Of) × (c.opcode ≡ 0xae)
 fence_at_0fae printed q c =
-    is_row_0fae c.map c.opcode (printed_at printed is_0fae form.ModRM_0x0fae refl stands_at_0fae c.map (column_of (reading_of c.run)) c.opcode c.row (all_at_0fae c.map) c.has_row c.names.group)
+    is_row_0fae c.map c.opcode (printed_at printed is_0fae form.ModRM_0x0fae refl is_at_0fae c.map (column_of (reading_of c.run)) c.opcode c.row (all_at_0fae c.map) c.has_row c.names.group)

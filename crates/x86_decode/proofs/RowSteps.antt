@@ -7,7 +7,7 @@ use Rattle.x86_fields.specs.declared.errors.DecodeError.TheVariants.{ExhaustedIn
 use Rattle.x86_fields.specs.declared.prefixes.Prefixes.{Prefixes}
 use Rattle.x86_fields.specs.Steps.{Step, outcome}
 use Rattle.x86_fields.proofs.StepLemmas.{Takes, fresh}
-use Rattle.x86_fields.proofs.EndLemmas.{EndsWell, Ends, settles, runs_out, OutOn, final_ok, final_err, Stands, out, over}
+use Rattle.x86_fields.proofs.EndLemmas.{EndsWell, Ends, settles, runs_out, OutOn, final_ok, final_err, Halts, out, over}
 use Rattle.x86_operands.specs.declared.plans.Fault.{Fault}
 use Rattle.x86_operands.specs.declared.plans.Fault.TheVariants.{BadOpcode}
 use Rattle.x86_operands.specs.declared.reader.Reading.{Reading}
@@ -32,36 +32,36 @@ same_error : (d e : DecodeError) → ◌≡◌ {A = Result Reading DecodeError} 
 same_error d e h = cc
 
 -- what the bytes are that a row takes with this answer
-abbrev pub RowGives : RowRecord → Prefixes → List ℕ → Result Reading DecodeError → Type 0
-RowGives r p bytes (Ok reading) = SpellsRow r p bytes reading
-RowGives r p bytes (Err e) = (fault : Fault) × (e ≡ error_of fault) × RefusesRow r p bytes fault
+abbrev pub RowYields : RowRecord → Prefixes → List ℕ → Result Reading DecodeError → Type 0
+RowYields r p bytes (Ok reading) = SpellsRow r p bytes reading
+RowYields r p bytes (Err e) = (fault : Fault) × (e ≡ error_of fault) × RefusesRow r p bytes fault
 
-front_of_more : (q more back left whole : List ℕ) → left ≡ q ++ more → whole ≡ left ++ back → whole ≡ q ++ (more ++ back)
-front_of_more q more back left whole e h = h ∙ ap (λ l. l ++ back) e ∙ append_assoc q more back
+beginning_of_more : (q more back left whole : List ℕ) → left ≡ q ++ more → whole ≡ left ++ back → whole ≡ q ++ (more ++ back)
+beginning_of_more q more back left whole e h = h ∙ ap (λ l. l ++ back) e ∙ append_assoc q more back
 
 module _ (r : RowRecord) (p : Prefixes) where
   abbrev step : Step Reading
   step = record_step r p
 
   pub takes_row : (bytes : List ℕ) (reading : Reading) → SpellsRow r p bytes reading → Takes step bytes (Ok reading)
-  takes_row bytes reading spelled = record { takes = λ rest s front. row_wherever r p s bytes rest reading front spelled }
+  takes_row bytes reading spelled = record { takes = λ rest s beginning. row_wherever r p s bytes rest reading beginning spelled }
 
   pub takes_row_refused : (bytes : List ℕ) (fault : Fault) → RefusesRow r p bytes fault → Takes step bytes (Err (error_of fault))
-  takes_row_refused bytes fault refuses = record { takes = λ rest s front. row_refuses r p s bytes rest fault front refuses }
+  takes_row_refused bytes fault refuses = record { takes = λ rest s beginning. row_refuses r p s bytes rest fault beginning refuses }
 
-  -- ---- on a front of an input on which the row is open it is open at the same place
+  -- ---- on a prefix of an input on which the row is open it is open at the same place
 
-  module _ (s : State ℕ) (opened : (step s).answer ≡ Err ExhaustedInput) (is : IsOpenRow r p s (step s).after) (t : State ℕ) (back : List ℕ) (front : s.left ≡ t.left ++ back) where
+  module _ (s : State ℕ) (opened : (step s).answer ≡ Err ExhaustedInput) (is : IsOpenRow r p s (step s).after) (t : State ℕ) (back : List ℕ) (beginning : s.left ≡ t.left ++ back) where
     not_read : (reading : Reading) → (step t).answer ≡ Ok reading → ⊥
     not_read reading h =
         let read = row_read r p t reading h in
-        let here = row_wherever r p s read.bytes (read.rest ++ back) reading (front_of_more read.bytes read.rest back t.left s.left read.front front) read.spelled in
+        let here = row_wherever r p s read.bytes (read.rest ++ back) reading (beginning_of_more read.bytes read.rest back t.left s.left read.beginning beginning) read.spelled in
         ok_apart reading (sym (ap (λ o. o.answer) here) ∙ opened)
 
     not_refused : (e : DecodeError) → (step t).answer ≡ Err e → e ≢ ExhaustedInput → ⊥
     not_refused e h other =
         let no = row_refused r p t e h other in
-        let here = row_refuses r p s no.bytes (no.rest ++ back) no.fault (front_of_more no.bytes no.rest back t.left s.left no.front front) no.refuses in
+        let here = row_refuses r p s no.bytes (no.rest ++ back) no.fault (beginning_of_more no.bytes no.rest back t.left s.left no.beginning beginning) no.refuses in
         fault_error no.fault (same_error (error_of no.fault) ExhaustedInput (sym (ap (λ o. o.answer) here) ∙ opened))
 
     stays_open : (a : Result Reading DecodeError) → (step t).answer ≡ a → (step t).answer ≡ Err ExhaustedInput
@@ -77,60 +77,60 @@ module _ (r : RowRecord) (p : Prefixes) where
         let h : (step t).answer ≡ Err ExhaustedInput = stays_open (step t).answer refl in
         let there = row_open r p t h in
         let at_least : length is.bytes ≤ length there.bytes = there.longest is.bytes rest begins is.between in
-        let at_most : length there.bytes ≤ length is.bytes = is.longest there.bytes (there.rest ++ back) (front_of_more there.bytes there.rest back t.left s.left there.front front) there.between in
+        let at_most : length there.bytes ≤ length is.bytes = is.longest there.bytes (there.rest ++ back) (beginning_of_more there.bytes there.rest back t.left s.left there.beginning beginning) there.between in
         let same : length there.bytes ≡ length is.bytes = omega arith in
         ap (λ a. outcome a (step t).after) h ∙ ap (outcome (Err ExhaustedInput)) (there.taken ∙ ap (λ n. advanced n t) same)
 
   open_on : (s : State ℕ) → (step s).answer ≡ Err ExhaustedInput → (is : IsOpenRow r p s (step s).after) → OutOn step is.bytes is.rest
-  open_on s opened is front back split t left =
-      same_place s opened is t back (is.front ∙ ap (λ l. is.bytes ++ l) split ∙ sym (append_assoc is.bytes front back) ∙ ap (λ l. l ++ back) (sym left)) front left
+  open_on s opened is beginning back split t left =
+      same_place s opened is t back (is.beginning ∙ ap (λ l. is.bytes ++ l) split ∙ sym (append_assoc is.bytes beginning back) ∙ ap (λ l. l ++ back) (sym left)) beginning left
 
   -- ---- what a row takes has the pieces of the row, or ends between them
 
   module _ (s : State ℕ) where
-    read : (reading : Reading) → (step s).answer ≡ Ok reading → Ends (RowGives r p) (BetweenRow r p) step s
+    read : (reading : Reading) → (step s).answer ≡ Ok reading → Ends (RowYields r p) (BetweenRow r p) step s
     read reading h =
         let is = row_read r p s reading h in
-        settles is.bytes is.rest (Ok reading) is.front (takes_row is.bytes reading is.spelled) (final_ok reading) is.spelled
+        settles is.bytes is.rest (Ok reading) is.beginning (takes_row is.bytes reading is.spelled) (final_ok reading) is.spelled
 
-    refused : (e : DecodeError) → (step s).answer ≡ Err e → e ≢ ExhaustedInput → Ends (RowGives r p) (BetweenRow r p) step s
+    refused : (e : DecodeError) → (step s).answer ≡ Err e → e ≢ ExhaustedInput → Ends (RowYields r p) (BetweenRow r p) step s
     refused e h other =
         let is = row_refused r p s e h other in
-        settles is.bytes is.rest (Err e) is.front (subst (λ d. Takes step is.bytes (Err d)) (sym is.named) (takes_row_refused is.bytes is.fault is.refuses)) (final_err e other) (is.fault, is.named, is.refuses)
+        settles is.bytes is.rest (Err e) is.beginning (subst (λ d. Takes step is.bytes (Err d)) (sym is.named) (takes_row_refused is.bytes is.fault is.refuses)) (final_err e other) (is.fault, is.named, is.refuses)
 
-    between : (step s).answer ≡ Err ExhaustedInput → Ends (RowGives r p) (BetweenRow r p) step s
-    between h = let is = row_open r p s h in runs_out is.bytes is.rest is.front is.between (open_on s h is)
+    between : (step s).answer ≡ Err ExhaustedInput → Ends (RowYields r p) (BetweenRow r p) step s
+    between h = let is = row_open r p s h in runs_out is.bytes is.rest is.beginning is.between (open_on s h is)
 
-    ends_by : (a : Result Reading DecodeError) → (step s).answer ≡ a → Ends (RowGives r p) (BetweenRow r p) step s
+    ends_by : (a : Result Reading DecodeError) → (step s).answer ≡ a → Ends (RowYields r p) (BetweenRow r p) step s
     ends_by (Ok reading) h = read reading h
     ends_by (Err e) h = by (exhausted_or_not e)
       where
-        by : (e ≡ ExhaustedInput) ⊎ (e ≢ ExhaustedInput) → Ends (RowGives r p) (BetweenRow r p) step s
+        by : (e ≡ ExhaustedInput) ⊎ (e ≢ ExhaustedInput) → Ends (RowYields r p) (BetweenRow r p) step s
         by (inl same) = between (h ∙ ap (λ d. Err d) same)
         by (inr other) = refused e h other
 
-  pub ends_row : EndsWell (RowGives r p) (BetweenRow r p) step
+  pub ends_row : EndsWell (RowYields r p) (BetweenRow r p) step
   ends_row s = ends_by s (step s).answer refl
 
-  -- ---- the row stands on bytes that end between its pieces
+  -- ---- the row halts on bytes that end between its pieces
 
   no_more : (b rest q : List ℕ) → q ≡ b ++ rest → length q ≤ length b → length b ≡ length q
   no_more b rest q e le = let long : length q ≡ length b + length rest = ap length e ∙ length-append b rest in omega arith
 
-  stands_by : (q : List ℕ) → BetweenRow r p q → Ends (RowGives r p) (BetweenRow r p) step (fresh q) → Stands step q
-  stands_by q between (settles bytes rest a front takes final _) = over bytes rest a front takes final
-  stands_by q between (runs_out bytes rest front _ ends) = by (row_open r p (fresh q) answer)
+  halts_by : (q : List ℕ) → BetweenRow r p q → Ends (RowYields r p) (BetweenRow r p) step (fresh q) → Halts step q
+  halts_by q between (settles bytes rest a beginning takes final _) = over bytes rest a beginning takes final
+  halts_by q between (runs_out bytes rest beginning _ ends) = by (row_open r p (fresh q) answer)
     where
       took : step (fresh q) ≡ outcome (Err ExhaustedInput) (advanced (length bytes) (fresh q))
-      took = ends rest [] (sym (append-nil rest)) (fresh q) front
+      took = ends rest [] (sym (append-nil rest)) (fresh q) beginning
 
       answer : (step (fresh q)).answer ≡ Err ExhaustedInput
       answer = ap (λ o. o.answer) took
 
-      by : IsOpenRow r p (fresh q) (step (fresh q)).after → Stands step q
+      by : IsOpenRow r p (fresh q) (step (fresh q)).after → Halts step q
       by is =
-          let all : length is.bytes ≡ length q = no_more is.bytes is.rest q is.front (is.longest q [] (sym (append-nil q)) between) in
-          out (λ t left. open_on (fresh q) answer is is.rest [] (sym (append-nil is.rest)) t (left ∙ is.front) ∙ ap (λ n. outcome (Err ExhaustedInput) (advanced n t)) all)
+          let all : length is.bytes ≡ length q = no_more is.bytes is.rest q is.beginning (is.longest q [] (sym (append-nil q)) between) in
+          out (λ t left. open_on (fresh q) answer is is.rest [] (sym (append-nil is.rest)) t (left ∙ is.beginning) ∙ ap (λ n. outcome (Err ExhaustedInput) (advanced n t)) all)
 
-  pub stands_row : (q : List ℕ) → BetweenRow r p q → Stands step q
-  stands_row q between = stands_by q between (ends_row (fresh q))
+  pub halts_row : (q : List ℕ) → BetweenRow r p q → Halts step q
+  halts_row q between = halts_by q between (ends_row (fresh q))

@@ -22,7 +22,7 @@ use Rattle.x86_decode.specs.Answer.{answer_of, count_of}
 use Rattle.x86_operands.specs.declared.reader.Reading.{Reading}
 use Rattle.x86_operands.specs.Pieces.{modrm_of, SpellsRow}
 use Rattle.x86_operands.specs.Ties.{names_modrm, encodings_of, HasShapeAt}
-use Rattle.x86_decode.proofs.ByteLemmas.{Bytes, bytes_of, bytes_behind, bytes_before, memory_fits}
+use Rattle.x86_decode.proofs.ByteLemmas.{Bytes, bytes_of, bytes_after, bytes_before, memory_fits}
 use Rattle.x86_operands.proofs.TieLemmas.{spelled_tied}
 use Rattle.x86_decode.proofs.TieLemmas.{tied_operands, is_shape}
 use Rattle.x86_decode.proofs.PrintedLemmas.{printed_answer}
@@ -43,25 +43,25 @@ module _ (rows : Rows) (strict : Bool) (s : List ℕ) (a : Instruction) (is : Is
   row_record = record_of strict is.whole.row row_prefixes
 
   pub sentence_tied : HasTiedOperands a
-  sentence_tied = subst HasTiedOperands (sym is.gives) (tied_operands is.reading (length s) (spelled_tied row_record row_prefixes is.whole.tail is.reading is.whole.asked))
+  sentence_tied = subst HasTiedOperands (sym is.yields) (tied_operands is.reading (length s) (spelled_tied row_record row_prefixes is.whole.tail is.reading is.whole.row_spelled))
 
 -- ---- the memory operand of ModRM, by the laws on such operands and on shapes
 
-abbrev StandAsShapes : Type 0
-StandAsShapes = (r : RowRecord) (p : Prefixes) (bytes : List ℕ) (reading : Reading) (asked : SpellsRow r p bytes reading) (raw : Raw) → asked.behind.pieces.memory ≡ Some raw → (k : ℕ) → names_modrm (encodings_of r p bytes reading asked) k ≡ true → HasShapeAt reading k raw
+abbrev AreShapes : Type 0
+AreShapes = (r : RowRecord) (p : Prefixes) (bytes : List ℕ) (reading : Reading) (row_spelled : SpellsRow r p bytes reading) (raw : Raw) → row_spelled.tail_spelled.pieces.memory ≡ Some raw → (k : ℕ) → names_modrm (encodings_of r p bytes reading row_spelled) k ≡ true → HasShapeAt reading k raw
 
 abbrev HaveTheirSize : Type 0
-HaveTheirSize = (r : RowRecord) (p : Prefixes) (bytes : List ℕ) (reading : Reading) (asked : SpellsRow r p bytes reading) (raw : Raw) → asked.behind.pieces.memory ≡ Some raw → raw.address_size ≡ p.address_size
+HaveTheirSize = (r : RowRecord) (p : Prefixes) (bytes : List ℕ) (reading : Reading) (row_spelled : SpellsRow r p bytes reading) (raw : Raw) → row_spelled.tail_spelled.pieces.memory ≡ Some raw → raw.address_size ≡ p.address_size
 
 abbrev HaveTheForm : Type 0
 HaveTheForm = (raw : Raw) → FitsSigned w32 raw.disp → operand_form raw.address_size (shape raw).1 ≡ Some (raw_form raw)
 
-module _ (stand : StandAsShapes) (rows : Rows) (strict : Bool) (s : List ℕ) (a : Instruction) (is : IsSentence rows strict s a) (raw : Raw) (k : ℕ) (memory : raw_within rows strict s is.reading is.whole ≡ Some raw) (named : names_modrm (encodings_within rows strict s is.reading is.whole) k ≡ true) where
+module _ (shapes : AreShapes) (rows : Rows) (strict : Bool) (s : List ℕ) (a : Instruction) (is : IsSentence rows strict s a) (raw : Raw) (k : ℕ) (memory : raw_within rows strict s is.reading is.whole ≡ Some raw) (named : names_modrm (encodings_within rows strict s is.reading is.whole) k ≡ true) where
   shape_here : (slot_at a k ≡ (shape raw).0) × (operand_at a k ≡ (shape raw).1)
   shape_here =
-      let at : HasShapeAt is.reading k raw = stand (row_record rows strict s a is) (row_prefixes rows strict s a is) is.whole.tail is.reading is.whole.asked raw memory k named in
+      let at : HasShapeAt is.reading k raw = shapes (row_record rows strict s a is) (row_prefixes rows strict s a is) is.whole.tail is.reading is.whole.row_spelled raw memory k named in
       let here = is_shape is.reading (length s) k raw at in
-      (ap (λ i. slot_at i k) is.gives ∙ here.0, ap (λ i. operand_at i k) is.gives ∙ here.1)
+      (ap (λ i. slot_at i k) is.yields ∙ here.0, ap (λ i. operand_at i k) is.yields ∙ here.1)
 
   pub sentence_slot : slot_at a k ≡ (shape raw).0
   sentence_slot = shape_here.0
@@ -70,23 +70,23 @@ module _ (stand : StandAsShapes) (rows : Rows) (strict : Bool) (s : List ℕ) (a
   sentence_operand = shape_here.1
 
   -- the bytes of SIB and displacement
-  address_bytes : Bytes s → Bytes is.whole.asked.behind.pieces.address
+  address_bytes : Bytes s → Bytes is.whole.row_spelled.tail_spelled.pieces.address
   address_bytes b =
       let w = is.whole in
-      let behind_run = bytes_behind w.run (escape_bytes w.map ++ w.opcode ∷ w.tail) (subst Bytes w.spelled b) in
-      let behind_opcode : Bytes w.tail = (bytes_behind (escape_bytes w.map) (w.opcode ∷ w.tail) behind_run).1 in
-      let behind_modrm : Bytes w.asked.tail = bytes_behind w.asked.modrm w.asked.tail (subst Bytes w.asked.spelled behind_opcode) in
-      let q = w.asked.behind.pieces in
-      bytes_before q.address (q.immediates ++ q.suffix) (subst Bytes q.spelled behind_modrm)
+      let after_run = bytes_after w.run (escape_bytes w.map ++ w.opcode ∷ w.tail) (subst Bytes w.spelled b) in
+      let in_tail : Bytes w.tail = (bytes_after (escape_bytes w.map) (w.opcode ∷ w.tail) after_run).1 in
+      let past_opcode : Bytes w.row_spelled.tail = bytes_after w.row_spelled.modrm w.row_spelled.tail (subst Bytes w.row_spelled.spelled in_tail) in
+      let q = w.row_spelled.tail_spelled.pieces in
+      bytes_before q.address (q.immediates ++ q.suffix) (subst Bytes q.spelled past_opcode)
 
   pub sentence_address : HaveTheirSize → HaveTheForm → All (λ b. b < 256) s → operand_form (reading_of is.whole.run).address_size (operand_at a k) ≡ Some (raw_form raw)
   sentence_address size form bytes =
       let w = is.whole in
-      let q = w.asked.behind.pieces in
+      let q = w.row_spelled.tail_spelled.pieces in
       let r : RowRecord = row_record rows strict s a is in
       let p : Prefixes = row_prefixes rows strict s a is in
-      let fits : FitsSigned w32 raw.disp = memory_fits p (modrm_of r.modrm w.asked.modrm) q.address q.memory raw q.address_asked memory (address_bytes (bytes_of s bytes)) in
-      let short : (reading_of w.run).address_size ≡ raw.address_size = sym (seen_address_size w.map w.opcode (reading_of w.run)) ∙ sym (size r p w.tail is.reading w.asked raw memory) in
+      let fits : FitsSigned w32 raw.disp = memory_fits p (modrm_of r.modrm w.row_spelled.modrm) q.address q.memory raw q.address_spelled memory (address_bytes (bytes_of s bytes)) in
+      let short : (reading_of w.run).address_size ≡ raw.address_size = sym (seen_address_size w.map w.opcode (reading_of w.run)) ∙ sym (size r p w.tail is.reading w.row_spelled raw memory) in
       ap (λ t. operand_form t (operand_at a k)) short ∙ ap (operand_form raw.address_size) sentence_operand ∙ form raw fits
 
 -- an answer has tied operands

@@ -11,22 +11,22 @@ use Rattle.x86_decode.specs.declared.instructions.Instruction.{Instruction}
 use Rattle.x86_decode.specs.Answer.{answer_of, outcome_of}
 use Rattle.x86_decode.specs.Grammar.{allows_lock}
 use Rattle.x86_decode.specs.Instruction.{holding, reading_in}
-use Rattle.x86_decode.specs.Walk.{walk_within, closed, decode_step, judgement, limited}
+use Rattle.x86_decode.specs.Walk.{walk_within, bounded_outcome, decode_step, judgement, error_at_limit}
 
 abbrev pub at_start : List ℕ → State ℕ
 at_start bytes = record { left = bytes; since_mark = 0; since_made = 0 }
 
-slice_is : (strict : Bool) (bytes : List ℕ) (r : Result Reading DecodeError) (t u : State ℕ) → u ≡ at_start (take 15 bytes) → outcome r t ≡ walk_within (rows_of packed) strict u → (closed r t.since_mark (at_start bytes)).answer ≡ answer_of strict bytes
+slice_is : (strict : Bool) (bytes : List ℕ) (r : Result Reading DecodeError) (t u : State ℕ) → u ≡ at_start (take 15 bytes) → outcome r t ≡ walk_within (rows_of packed) strict u → (bounded_outcome r t.since_mark (at_start bytes)).answer ≡ answer_of strict bytes
 unfolding answer_of outcome_of decode_step
-slice_is strict bytes r t u e h = ap (λ o. (closed o.answer o.after.since_mark (at_start bytes)).answer) (h ∙ ap (walk_within (rows_of packed) strict) e)
+slice_is strict bytes r t u e h = ap (λ o. (bounded_outcome o.answer o.after.since_mark (at_start bytes)).answer) (h ∙ ap (walk_within (rows_of packed) strict) e)
 
 pub slice_ok : (strict : Bool) (bytes : List ℕ) (i : Instruction) (n : ℕ) (j : Result (Unit {0}) DecodeError) (t u : State ℕ) → u ≡ at_start (take 15 bytes) → outcome (Ok (reading_in i)) t ≡ walk_within (rows_of packed) strict u → n ≡ t.since_mark → j ≡ judgement (reading_in i) →
     holding (record i { length = n }) j ≡ answer_of strict bytes
 slice_ok strict bytes i n j t u e h k l =
     ap (holding (record i { length = n })) l ∙ by (allows_lock (reading_in i)) refl
-    ∙ ap (λ m. (closed (Ok (reading_in i)) m (at_start bytes)).answer) k ∙ slice_is strict bytes (Ok (reading_in i)) t u e h
+    ∙ ap (λ m. (bounded_outcome (Ok (reading_in i)) m (at_start bytes)).answer) k ∙ slice_is strict bytes (Ok (reading_in i)) t u e h
   where
-    by : (b : Bool) → allows_lock (reading_in i) ≡ b → holding (record i { length = n }) (judgement (reading_in i)) ≡ (closed (Ok (reading_in i)) n (at_start bytes)).answer
+    by : (b : Bool) → allows_lock (reading_in i) ≡ b → holding (record i { length = n }) (judgement (reading_in i)) ≡ (bounded_outcome (Ok (reading_in i)) n (at_start bytes)).answer
     by true q = rw q refl
     by false q = rw q refl
 
@@ -36,13 +36,13 @@ full_test l = by (length (take 15 l)) (length l) (length-take 15 l) (length (tak
     by : (k n : ℕ) → k ≡ min 15 n → (x y : Bool) → (k == 15) ≡ x → nat_le 15 n ≡ y → (k == 15) ≡ nat_le 15 n
     by k n h x y e f = grind (arith, nat_tests)
 
-closed_limited : (e : DecodeError) (n : ℕ) (bytes : List ℕ) (b : Bool) → nat_le 15 (length bytes) ≡ b → ◌≡◌ {A = Result Instruction DecodeError} (Err (limited e b)) (closed (Err e) n (at_start bytes)).answer
+closed_limited : (e : DecodeError) (n : ℕ) (bytes : List ℕ) (b : Bool) → nat_le 15 (length bytes) ≡ b → ◌≡◌ {A = Result Instruction DecodeError} (Err (error_at_limit e b)) (bounded_outcome (Err e) n (at_start bytes)).answer
 closed_limited ExhaustedInput n bytes true h = rw h refl
 closed_limited ExhaustedInput n bytes false h = rw h refl
 closed_limited e n bytes b h = refl
 
-pub slice_err : (strict : Bool) (bytes within : List ℕ) (e f : DecodeError) (t u : State ℕ) → within ≡ take 15 bytes → u ≡ at_start (take 15 bytes) → outcome (Err e) t ≡ walk_within (rows_of packed) strict u → f ≡ limited e (length within == 15) →
+pub slice_err : (strict : Bool) (bytes within : List ℕ) (e f : DecodeError) (t u : State ℕ) → within ≡ take 15 bytes → u ≡ at_start (take 15 bytes) → outcome (Err e) t ≡ walk_within (rows_of packed) strict u → f ≡ error_at_limit e (length within == 15) →
     ◌≡◌ {A = Result Instruction DecodeError} (Err f) (answer_of strict bytes)
 slice_err strict bytes within e f t u w s h k =
-    ap (λ x. Err x) (k ∙ ap (λ l. limited e (length l == 15)) w ∙ ap (limited e) (full_test bytes))
+    ap (λ x. Err x) (k ∙ ap (λ l. error_at_limit e (length l == 15)) w ∙ ap (error_at_limit e) (full_test bytes))
     ∙ closed_limited e t.since_mark bytes (nat_le 15 (length bytes)) refl ∙ slice_is strict bytes (Err e) t u s h

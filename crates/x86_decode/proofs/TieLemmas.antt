@@ -1,4 +1,4 @@
--- What a reading gives an instruction: tied slots and operands, and the shape of the raw fields.
+-- What an instruction has from its reading: tied slots and operands, and the shape of the raw fields.
 use Rattle.std.proofs.Common.{◌≡◌, ℕ, ◌<◌, true, if◌then◌else◌, nat_lt, ap, ◌∙◌, arith}
 use Rattle.std.proofs.lemmas.Bool.Decides.{nat_tests}
 use Rattle.x86_fields.specs.declared.raw.Raw.{Raw}
@@ -33,4 +33,4 @@ module _ (reading : Reading) (n : ℕ) where
 
   -- the slot and the operand are the shape of the raw fields
   pub is_shape : (k : ℕ) (raw : Raw) → HasShapeAt reading k raw → (slot_at made k ≡ (shape raw).0) × (operand_at made k ≡ (shape raw).1)
-  is_shape k raw stands = (slot_here k stands.below ∙ stands.slot, operand_here k stands.below ∙ stands.operand)
+  is_shape k raw shapes = (slot_here k shapes.below ∙ shapes.slot, operand_here k shapes.below ∙ shapes.operand)

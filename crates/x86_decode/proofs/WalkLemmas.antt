@@ -1,4 +1,4 @@
--- What the true reader has behind it where the bounded one has ended.
+-- What the true reader has taken where the bounded one has ended.
 use Rattle.std.proofs.Common.{◌≡◌, ℕ, ◌+◌, ◌-◌, ◌≤◌, Bool, true, false, if◌then◌else◌, length, drop, take, Result, Ok, Err, refl, sym, ap, ◌∙◌, arith, length-take, length-drop, nat_le}
 use Rattle.std.proofs.lemmas.Bool.Decides.{nat_tests}
 use Rattle.x86_arch.specs.Reader.{State, advanced}
@@ -7,34 +7,34 @@ use Rattle.x86_fields.specs.declared.errors.DecodeError.TheVariants.{ExhaustedIn
 use Rattle.x86_fields.specs.Steps.{Outcome, outcome}
 use Rattle.x86_fields.proofs.StepLemmas.{advanced_twice}
 use Rattle.x86_operands.specs.declared.reader.Reading.{Reading}
-use Rattle.x86_operands.specs.Encodings.{held}
+use Rattle.x86_operands.specs.Encodings.{value_if_ok}
 use Rattle.x86_decode.specs.declared.instructions.Instruction.{Instruction}
 use Rattle.x86_decode.specs.Head.{Rows}
 use Rattle.x86_decode.specs.Instruction.{instruction_of, holding, reading_in}
-use Rattle.x86_decode.specs.Bound.{bounded, IsBehind}
+use Rattle.x86_decode.specs.Bound.{bounded, HasAdvanced}
 use Rattle.x86_decode.specs.Grammar.{allows_lock}
 use Rattle.x86_fields.specs.Errors.{is_exhausted}
-use Rattle.x86_decode.specs.Walk.{walk_within, closed, judgement, walk_bounded}
+use Rattle.x86_decode.specs.Walk.{walk_within, bounded_outcome, judgement, walk_bounded}
 use Rattle.x86_decode.proofs.BoundLemmas.{same_state}
 use Rattle.x86_decode.proofs.BodyLemmas.{body_moves, Moves}
 use Rattle.x86_decode.proofs.Theorem.{closed_error}
 
 module _ (rows : Rows) (strict : Bool) (m t : State ℕ) (a : ℕ) (r : Result Reading DecodeError) where
-  -- the reader's state behind the reading, and what the walk comes to
+  -- the reader's state after the reading, and the outcome of the walk
   pub record Walked : Type 0 where
     pub count : t.since_mark ≡ 15 - a
     pub room : 15 - a ≤ length m.left
     pub at : t ≡ advanced t.since_mark m
-    pub is : walk_bounded rows strict m ≡ closed r t.since_mark m
+    pub is : walk_bounded rows strict m ≡ bounded_outcome r t.since_mark m
 
-  pub walked : (u start : State ℕ) → outcome r u ≡ walk_within rows strict (bounded 15 m) → bounded a t ≡ u → a ≤ 15 → IsBehind (15 - a) start t → m ≡ start → m.since_mark ≡ 0 → Walked
-  walked u start e b few behind same zero =
+  pub walked : (u start : State ℕ) → outcome r u ≡ walk_within rows strict (bounded 15 m) → bounded a t ≡ u → a ≤ 15 → HasAdvanced (15 - a) start t → m ≡ start → m.since_mark ≡ 0 → Walked
+  walked u start e b few following same zero =
       let o : Outcome Reading = walk_within rows strict (bounded 15 m) in
       let v : Moves rows strict (bounded 15 m) o = body_moves rows strict (bounded 15 m) in
       let after : bounded a t ≡ o.after = b ∙ ap (λ x. x.after) e in
       let mark : t.since_mark ≡ m.since_mark + v.count = ap (λ x. x.since_mark) after ∙ ap (λ x. x.since_mark) v.after in
       let made : t.since_made ≡ m.since_made + v.count = ap (λ x. x.since_made) after ∙ ap (λ x. x.since_made) v.after in
-      let here : t.since_made ≡ m.since_made + (15 - a) = behind.made ∙ ap (λ x. x.since_made + (15 - a)) (sym same) in
+      let here : t.since_made ≡ m.since_made + (15 - a) = following.made ∙ ap (λ x. x.since_made + (15 - a)) (sym same) in
       let long : length (take 15 m.left) ≤ length m.left = let h = length-take 15 m.left in omega arith in
       let less : v.count ≤ length (take 15 m.left) = v.within in
       let count : t.since_mark ≡ 15 - a = omega arith in
@@ -42,11 +42,11 @@ module _ (rows : Rows) (strict : Bool) (m t : State ℕ) (a : ℕ) (r : Result R
       record {
         count = count;
         room = within;
-        at = same_state (behind.left ∙ ap (λ x. drop (15 - a) x.left) (sym same) ∙ ap (λ n. drop n m.left) (sym count)) (let h : t.since_mark ≡ m.since_mark + t.since_mark = omega arith in h) (here ∙ ap (λ n. m.since_made + n) (sym count));
-        is = ap (λ x. closed x.answer x.after.since_mark m) (sym e) ∙ ap (λ n. closed r n m) (sym (ap (λ x. x.since_mark) b));
+        at = same_state (following.left ∙ ap (λ x. drop (15 - a) x.left) (sym same) ∙ ap (λ n. drop n m.left) (sym count)) (let h : t.since_mark ≡ m.since_mark + t.since_mark = omega arith in h) (here ∙ ap (λ n. m.since_made + n) (sym count));
+        is = ap (λ x. bounded_outcome x.answer x.after.since_mark m) (sym e) ∙ ap (λ n. bounded_outcome r n m) (sym (ap (λ x. x.since_mark) b));
       }
 
-closed_lock : (t : Bool) (reading : Reading) (n : ℕ) (m : State ℕ) → allows_lock reading ≡ t → closed (Ok reading) n m ≡ (if t then outcome (Ok (instruction_of reading n)) (advanced n m) else outcome (Err InvalidPrefixes) (advanced n m))
+closed_lock : (t : Bool) (reading : Reading) (n : ℕ) (m : State ℕ) → allows_lock reading ≡ t → bounded_outcome (Ok reading) n m ≡ (if t then outcome (Ok (instruction_of reading n)) (advanced n m) else outcome (Err InvalidPrefixes) (advanced n m))
 closed_lock t reading n m l = ap (λ b. if b then outcome (Ok (instruction_of reading n)) (advanced n m) else outcome (Err InvalidPrefixes) (advanced n m)) l
 
 pub ends_ok : (rows : Rows) (strict : Bool) (m t : State ℕ) (a n : ℕ) (reading : Reading) → Walked rows strict m t a (Ok reading) → n ≡ t.since_mark → allows_lock reading ≡ true → outcome (Ok (instruction_of reading n)) t ≡ walk_bounded rows strict m
@@ -57,11 +57,11 @@ pub ends_locked : (rows : Rows) (strict : Bool) (m t : State ℕ) (a : ℕ) (rea
 ends_locked rows strict m t a reading w l = ap (λ s. outcome (Err InvalidPrefixes) s) w.at ∙ sym (w.is ∙ closed_lock false reading t.since_mark m l)
 
 -- what was written, and the answer so far
-pub held_ok : (r : Result (Unit {0}) DecodeError) (x : Reading) (u : State ℕ) (o : Outcome Reading) → r ≡ Ok tt → outcome (held r x) u ≡ o → outcome (Ok x) u ≡ o
-held_ok r x u o e h = ap (λ k. outcome (held k x) u) (sym e) ∙ h
+pub held_ok : (r : Result (Unit {0}) DecodeError) (x : Reading) (u : State ℕ) (o : Outcome Reading) → r ≡ Ok tt → outcome (value_if_ok r x) u ≡ o → outcome (Ok x) u ≡ o
+held_ok r x u o e h = ap (λ k. outcome (value_if_ok k x) u) (sym e) ∙ h
 
-pub held_err : (r : Result (Unit {0}) DecodeError) (x : Reading) (e : DecodeError) (u : State ℕ) (o : Outcome Reading) → r ≡ Err e → outcome (held r x) u ≡ o → outcome (Err e) u ≡ o
-held_err r x e u o k h = ap (λ k. outcome (held k x) u) (sym k) ∙ h
+pub held_err : (r : Result (Unit {0}) DecodeError) (x : Reading) (e : DecodeError) (u : State ℕ) (o : Outcome Reading) → r ≡ Err e → outcome (value_if_ok r x) u ≡ o → outcome (Err e) u ≡ o
+held_err r x e u o k h = ap (λ k. outcome (value_if_ok k x) u) (sym k) ∙ h
 
 pub ends_judged : (rows : Rows) (strict : Bool) (m t : State ℕ) (a n : ℕ) (i : Instruction) (j : Result (Unit {0}) DecodeError) → Walked rows strict m t a (Ok (reading_in i)) → n ≡ t.since_mark → j ≡ judgement (reading_in i) → outcome (holding (record i { length = n }) j) t ≡ walk_bounded rows strict m
 ends_judged rows strict m t a n i j w e h = ap (λ k. outcome (holding (record i { length = n }) k) t) h ∙ by (allows_lock (reading_in i)) refl
@@ -76,7 +76,7 @@ ends_error rows strict m t a e w k = ap (λ s. outcome (Err e) s) w.at ∙ sym (
 abbrev left_open : State ℕ → ℕ → Bool → Outcome Instruction
 left_open m n t = if t then outcome (Err TooLong) (advanced 15 m) else outcome (Err ExhaustedInput) (advanced n m)
 
-closed_open : (e : DecodeError) (n : ℕ) (m : State ℕ) (t : Bool) → is_exhausted e ≡ true → nat_le 15 (length m.left) ≡ t → closed (Err e) n m ≡ left_open m n t
+closed_open : (e : DecodeError) (n : ℕ) (m : State ℕ) (t : Bool) → is_exhausted e ≡ true → nat_le 15 (length m.left) ≡ t → bounded_outcome (Err e) n m ≡ left_open m n t
 closed_open e n m t k h = ap (λ b. if b then left_open m n (nat_le 15 (length m.left)) else outcome (Err e) (advanced n m)) k ∙ ap (left_open m n) h
 
 rest_test : (a k : ℕ) → a ≤ 15 → 15 - a ≤ k → nat_le a (k - (15 - a)) ≡ nat_le 15 k

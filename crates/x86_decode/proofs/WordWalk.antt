@@ -21,12 +21,12 @@ pub found_plain : (rows : Rows) (p : Prefixes) (b : ℕ) (s : State ℕ) → is_
 unfolding opcode_step
 found_plain rows p b s h = rw ((plain_lead b h).0, (plain_lead b h).1) refl
 
-abbrev behind : Rows → Prefixes → Result ℕ DecodeError → State ℕ → Outcome (Option TableRow × Prefixes)
-behind rows p r s = then_from (then_from r s (λ d. read_escaped d)).answer (then_from r s (λ d. read_escaped d)).after (λ o. pure (rows o.0 (column_of p) o.1, seen_by o.0 o.1 p))
+abbrev following : Rows → Prefixes → Result ℕ DecodeError → State ℕ → Outcome (Option TableRow × Prefixes)
+following rows p r s = then_from (then_from r s (λ d. read_escaped d)).answer (then_from r s (λ d. read_escaped d)).after (λ o. pure (rows o.0 (column_of p) o.1, seen_by o.0 o.1 p))
 
-pub found_escape : (rows : Rows) (p : Prefixes) (b : ℕ) (r : Result ℕ DecodeError) (s t : State ℕ) → lead_of b ≡ Escape → outcome r t ≡ next_byte s → behind rows p r t ≡ read_word rows p b s
+pub found_escape : (rows : Rows) (p : Prefixes) (b : ℕ) (r : Result ℕ DecodeError) (s t : State ℕ) → lead_of b ≡ Escape → outcome r t ≡ next_byte s → following rows p r t ≡ read_word rows p b s
 unfolding opcode_step
-found_escape rows p b r s t h e = ap (λ o. behind rows p o.answer o.after) e ∙ rw (escape_lead b h) refl
+found_escape rows p b r s t h e = ap (λ o. following rows p o.answer o.after) e ∙ rw (escape_lead b h) refl
 
 pub found_escaped : (rows : Rows) (p : Prefixes) (b d : ℕ) (r : Result (Map × ℕ) DecodeError) (s t u : State ℕ) → lead_of b ≡ Escape → outcome (Ok d) t ≡ next_byte s → outcome r u ≡ read_escaped d t →
     then_from r u (λ o. pure (rows o.0 (column_of p) o.1, seen_by o.0 o.1 p)) ≡ read_word rows p b s

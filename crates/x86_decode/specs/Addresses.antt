@@ -14,7 +14,7 @@ pub use Rattle.x86_operands.specs.Ties.{is_modrm_encoding, names_modrm}
 module _ (rows : Rows) (strict : Bool) (s : List ℕ) (reading : Reading) (w : Whole rows strict s reading) where
   -- the plan that the record of the encoding's row has at its ModRM
   abbrev pub plan_within : Plan
-  plan_within = let r = record_of strict w.row (seen_by w.map w.opcode (reading_of w.run)) in r.plan (modrm_of r.modrm w.asked.modrm)
+  plan_within = let r = record_of strict w.row (seen_by w.map w.opcode (reading_of w.run)) in r.plan (modrm_of r.modrm w.row_spelled.modrm)
 
   -- the encodings of its operands
   abbrev pub encodings_within : List OperandEncoding
@@ -22,4 +22,4 @@ module _ (rows : Rows) (strict : Bool) (s : List ℕ) (reading : Reading) (w : W
 
   -- the raw fields, in the memory form
   abbrev pub raw_within : Option Raw
-  raw_within = w.asked.behind.pieces.memory
+  raw_within = w.row_spelled.tail_spelled.pieces.memory

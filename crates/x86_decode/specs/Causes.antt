@@ -5,11 +5,11 @@ use Rattle.x86_fields.specs.Run.{reading_of}
 use Rattle.x86_operands.specs.declared.plans.Fault.TheVariants.{BadOpcode, BadOperand, Incomplete}
 use Rattle.x86_decode.specs.declared.instructions.Instruction.{Instruction}
 use Rattle.x86_decode.specs.Head.{Rows, bars_vex}
-use Rattle.x86_decode.specs.Grammar.{IsSentence, IsVexBehindRun, HasNoRow, IsRefusedByRecord, HasForbiddenLock, IsTooLong, Decides, HasNoSentence}
+use Rattle.x86_decode.specs.Grammar.{IsSentence, IsVexAfterRun, HasNoRow, IsRefusedByRecord, HasForbiddenLock, IsTooLong, Decides, HasNoSentence}
 
 module _ (rows : Rows) (strict : Bool) where
   abbrev Vex : List ℕ → Type 0
-  Vex q = IsVexBehindRun rows strict q
+  Vex q = IsVexAfterRun rows strict q
 
   -- case 2, or case 3 with a record that says that the opcode is invalid
   abbrev pub FaultsOpcode : List ℕ → Type 0
@@ -27,13 +27,13 @@ module _ (rows : Rows) (strict : Bool) where
   abbrev pub LeavesOut : List ℕ → Type 0
   LeavesOut q = ((c : Vex q) × (bars_vex (reading_of c.run) ≡ false)) ⊎ IsRefusedByRecord rows strict q Incomplete
 
-  -- The shortest front of the input that decides an error is of this kind, and no front is a sentence.
+  -- The shortest prefix of the input that decides an error is of this kind, and no prefix is a sentence.
   pub record IsDecidedBy (Kind : List ℕ → Type 0) (input : List ℕ) : Type 0 where
-    pub front : List ℕ
+    pub beginning : List ℕ
     pub rest : List ℕ
-    pub begins : input ≡ front ++ rest
-    pub is : Kind front
-    pub shortest : (q more : List ℕ) (e : DecodeError) → input ≡ q ++ more → Decides rows strict q e → length front ≤ length q
+    pub begins : input ≡ beginning ++ rest
+    pub is : Kind beginning
+    pub shortest : (q more : List ℕ) (e : DecodeError) → input ≡ q ++ more → Decides rows strict q e → length beginning ≤ length q
     pub no_sentence : HasNoSentence rows strict input
 
   -- the causes of the six errors
@@ -52,12 +52,12 @@ module _ (rows : Rows) (strict : Bool) where
   abbrev pub IsLeftOut : List ℕ → Type 0
   IsLeftOut input = IsDecidedBy LeavesOut input
 
-  -- No front of the input is a sentence, and none decides an error.
+  -- No prefix of the input is a sentence, and none decides an error.
   pub record IsUndecided (input : List ℕ) : Type 0 where
     pub no_sentence : HasNoSentence rows strict input
     pub undecided : (q rest : List ℕ) (e : DecodeError) → input ≡ q ++ rest → Decides rows strict q e → ⊥
 
-  -- A front of the input is a sentence.
+  -- A prefix of the input is a sentence.
   pub record HasSentence (input : List ℕ) : Type 0 where
     pub sentence : List ℕ
     pub rest : List ℕ

@@ -16,7 +16,7 @@ module _ (rows : Rows) where
     pub modrm : ℕ
     pub spelled : q ≡ run ++ (escape_bytes map ++ opcode ∷ modrm ∷ [])
     pub prefixes : is_run run ≡ true
-    pub meant : is_opcode map opcode ≡ true
+    pub in_map : is_opcode map opcode ≡ true
     pub has_row : rows map (column_of (reading_of run)) opcode ≡ Some row
     pub names : IsFenceWithRm row.form (seen_by map opcode (reading_of run)) modrm
 

@@ -21,20 +21,20 @@ abbrev pub instruction_of : Reading → ℕ → Instruction
 instruction_of r length = record {
   prefixes = r.prefixes;
   opcode = r.opcode;
-  given = record { slots = r.slots; operands = r.operands; count = r.count; mem_size = r.mem_size };
+  operand_list = record { slots = r.slots; operands = r.operands; count = r.count; mem_size = r.mem_size };
   length = length;
 }
 
 -- what an instruction has of a reading
 abbrev pub reading_in : Instruction → Reading
-reading_in i = reading_with i.opcode i.prefixes i.given
+reading_in i = reading_with i.opcode i.prefixes i.operand_list
 
--- the instruction that stands for none
+-- the instruction that means none
 abbrev pub invalid_instruction : Instruction
 invalid_instruction = record {
   prefixes = reading_of [];
   opcode = Invalid;
-  given = no_operands;
+  operand_list = no_operands;
   length = 0;
 }
 
@@ -43,13 +43,13 @@ abbrev pub holding : Instruction → Result (Unit {0}) DecodeError → Result In
 holding inst (Ok x) = Ok inst
 holding inst (Err e) = Err e
 
--- ---- what an instruction is asked
+-- ---- the accessors of an instruction
 
 abbrev pub opcode : Instruction → ℕ
 opcode i = i.opcode
 
 abbrev pub operand_count : Instruction → ℕ
-operand_count i = i.given.count
+operand_count i = i.operand_list.count
 
 -- how many bytes the encoding has
 abbrev pub length_of : Instruction → ℕ
@@ -61,14 +61,14 @@ with_length i length = record i { length = length }
 
 -- the memory size: 0 where none is named, 63 where the processor decides
 abbrev pub mem_size_number : Instruction → ℕ
-mem_size_number i = i.given.mem_size
+mem_size_number i = i.operand_list.mem_size
 
 -- the slot and the operand at an index: nothing at the count and above
 abbrev pub slot_at : Instruction → ℕ → Slot
-slot_at i k = slot_in i.given k
+slot_at i k = slot_in i.operand_list k
 
 abbrev pub operand_at : Instruction → ℕ → Operand
-operand_at i k = operand_in i.given k
+operand_at i k = operand_in i.operand_list k
 
 -- the operands that an instruction has, of the four for which it has room
 abbrev pub operands_of : Instruction → List Operand
@@ -119,8 +119,8 @@ abbrev pub shown_of : Instruction → Shown
 shown_of i = record {
   prefixes = i.prefixes;
   opcode = i.opcode;
-  count = i.given.count;
-  mem_size = i.given.mem_size;
+  count = i.operand_list.count;
+  mem_size = i.operand_list.mem_size;
   slots = slot_at i 0 ∷ slot_at i 1 ∷ slot_at i 2 ∷ slot_at i 3 ∷ [];
   operands = operand_at i 0 ∷ operand_at i 1 ∷ operand_at i 2 ∷ operand_at i 3 ∷ [];
 }
@@ -129,7 +129,7 @@ shown_of i = record {
 pub record IsSameInstruction (a b : Instruction) : Type 0 where
   pub prefixes : a.prefixes ≡ b.prefixes
   pub opcode : a.opcode ≡ b.opcode
-  pub count : a.given.count ≡ b.given.count
-  pub mem_size : a.given.mem_size ≡ b.given.mem_size
+  pub count : a.operand_list.count ≡ b.operand_list.count
+  pub mem_size : a.operand_list.mem_size ≡ b.operand_list.mem_size
   pub slots : (k : ℕ) → k < 4 → slot_at a k ≡ slot_at b k
   pub operands : (k : ℕ) → k < 4 → operand_at a k ≡ operand_at b k

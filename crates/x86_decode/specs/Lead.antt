@@ -1,4 +1,4 @@
--- What a byte is at the front of an encoding.
+-- What a byte is at the beginning of an encoding.
 use Rattle.std.specs.Prelude.{ℕ, ◌==◌, if◌then◌else◌, List, map}
 use Rattle.std.specs.List.{range_with_len}
 use Rattle.x86_fields.specs.Run.{is_legacy, is_rex}

@@ -1,7 +1,7 @@
-//! A reader that gives no more than the fifteen bytes that an encoding may have (Intel SDM volume 2, section 2.3.11).
+//! A reader that yields at most the fifteen bytes that an encoding may have (Intel SDM volume 2, section 2.3.11).
 ghost use Rattle.std.specs.Prelude.{◌≡◌, ℕ, ◌-◌, ◌≤◌, nat_le, Bool, false, [], length, IsTrue};
 ghost use Rattle.x86_arch.specs.Reader.{State, advanced};
-ghost use Rattle.x86_decode.specs.Bound.{bounded, IsBehind};
+ghost use Rattle.x86_decode.specs.Bound.{bounded, HasAdvanced};
 
 use std::marker::{Brand, PhantomData};
 use x86_arch::{ReadError, Reader};
@@ -26,7 +26,7 @@ pub struct Bounded<'a, T: Reader<u64, u8>, K: Start> {
     pub start: PhantomData<K>,
     ghost few: { allowed ≤ 15 },
     ghost same_reference: { reader.ghost_name ≡ K.name },
-    ghost behind: { IsBehind (15 - allowed) K.state (T.state reader.now) },
+    ghost moved: { HasAdvanced (15 - allowed) K.state (T.state reader.now) },
 }
 
 impl<T: Reader<u64, u8>, K: Start> Reader<u64, u8> for Bounded<'_, T, K> {

@@ -1,4 +1,4 @@
-//! The front of an encoding: the run of prefixes, the escape and the opcode byte.
+//! The head of an encoding: the run of prefixes, the escape and the opcode byte.
 ghost use Rattle.std.specs.Prelude.{◌≡◌, ℕ, List, []};
 ghost use Rattle.x86_fields.specs.Steps.{outcome, then_from};
 ghost use Rattle.x86_fields.specs.Run.{is_prefix, reading_of};
@@ -20,13 +20,13 @@ pub fn is_prefix(byte: u8) -> bool
     matches!(lead_of(byte), Lead::Legacy | Lead::Rex)
 }
 
-/// The rest of a run of which some bytes were read, and the byte behind it.
+/// The rest of a run of which some bytes were read, and the byte after it.
 pub fn read_on<T: Reader<u64, u8>>(
     reader: &mut T,
     begin: Prefixes,
 ) -> Result<(Prefixes, u8), DecodeError>
-    ensures { (front : List ℕ) → begin ≡ reading_of front →
-        outcome result (T.state reader.new) ≡ head_from front (T.state reader.old) }
+    ensures { (beginning : List ℕ) → begin ≡ reading_of beginning →
+        outcome result (T.state reader.new) ≡ head_from beginning (T.state reader.old) }
 {
     let mut prefixes = begin;
     'run: loop {
@@ -38,15 +38,15 @@ pub fn read_on<T: Reader<u64, u8>>(
     }
 }
 
-/// The byte behind a run so far, or behind that and a REX.
+/// The byte after a run so far, or after that and a REX.
 #[inline(always)]
 fn read_rex<T: Reader<u64, u8>>(
     reader: &mut T,
     prefixes: &mut Prefixes,
     byte: u8,
 ) -> Result<u8, DecodeError>
-    ensures { (front : List ℕ) → prefixes.old ≡ reading_of front →
-        Headed result prefixes.new (T.state reader.new) (head_at front byte (T.state reader.old)) }
+    ensures { (beginning : List ℕ) → prefixes.old ≡ reading_of beginning →
+        Headed result prefixes.new (T.state reader.new) (head_at beginning byte (T.state reader.old)) }
 {
     match lead_of(byte) {
         Lead::Rex => {
@@ -57,7 +57,7 @@ fn read_rex<T: Reader<u64, u8>>(
     }
 }
 
-/// A run of at most one legacy prefix and a REX, as most are, and the byte behind that.
+/// A run of at most one legacy prefix and a REX, as most are, and the byte after that.
 #[inline(always)]
 pub fn read_head<T: Reader<u64, u8>>(
     reader: &mut T,
@@ -105,7 +105,7 @@ fn read_escaped<T: Reader<u64, u8>>(reader: &mut T, byte: u8) -> Result<(Map, u8
     }
 }
 
-/// The column of the opcode tables behind a run that reads so.
+/// The column of the opcode tables after a run that reads so.
 #[inline(always)]
 pub fn column_of(prefixes: &Prefixes) -> Column
     ensures { result ≡ column_of prefixes.now }
@@ -132,7 +132,7 @@ pub fn seen_by(map: Map, byte: u8, prefixes: Prefixes) -> Prefixes
     }
 }
 
-/// The word of the row at an opcode byte, which is this byte or stands behind the escape that it begins. Where 66
+/// The word of the row at an opcode byte, which is this byte or follows the escape that it begins. Where 66
 /// chooses the operation it is cleared.
 #[inline(always)]
 pub fn read_word<W: Words, T: Reader<u64, u8>>(

@@ -1,4 +1,4 @@
-//! Instructions, and what they are asked.
+//! Instructions and their accessors.
 ghost use Rattle.std.specs.Prelude.{◌≡◌, ◌<◌, true, nat_lt};
 ghost use Rattle.std.specs.Cmp.{on_equiv, on_per};
 ghost use Rattle.std.specs.Ordering.{on};
@@ -25,7 +25,7 @@ pub struct Instruction {
     /// cleared. Nothing ties this field to the operands once a caller has written to it.
     pub prefixes: Prefixes,
     pub(crate) opcode: Opcode,
-    pub(crate) given: Operands,
+    pub(crate) operand_list: Operands,
     pub(crate) length: u64,
 }
 
@@ -72,7 +72,7 @@ impl Instruction {
         Instruction {
             prefixes: Prefixes::none(),
             opcode: Opcode::Invalid,
-            given: Operands::none(),
+            operand_list: Operands::none(),
             length: 0,
         }
     }
@@ -88,7 +88,7 @@ impl Instruction {
     pub fn operand_count(&self) -> u8
         ensures { result ≡ operand_count self.now }
     {
-        self.given.count
+        self.operand_list.count
     }
 
     /// The operands in order.
@@ -96,8 +96,8 @@ impl Instruction {
     pub fn operands(&self) -> &[Operand]
         ensures { result.now ≡ operands_of self.now }
     {
-        let count = self.given.count.min(4);
-        &self.given.operands[..count as usize]
+        let count = self.operand_list.count.min(4);
+        &self.operand_list.operands[..count as usize]
     }
 
     /// Whether there is an operand at an index, counted from 0.
@@ -105,7 +105,7 @@ impl Instruction {
         requires { i < 4 }
         ensures { result ≡ nat_lt i (operand_count self.now) }
     {
-        i < self.given.count
+        i < self.operand_list.count
     }
 
     /// The operand at an index, counted from 0; at the count and above it `Operand::Nothing`.
@@ -113,7 +113,7 @@ impl Instruction {
         requires { i < 4 }
         ensures { result ≡ operand_at self.now i }
     {
-        self.given.operand(i)
+        self.operand_list.operand(i)
     }
 
     /// Where in the encoding the operand at an index comes from; at the count and above it `Slot::Nothing`.
@@ -121,7 +121,7 @@ impl Instruction {
         requires { i < 4 }
         ensures { result ≡ slot_at self.now i }
     {
-        self.given.slot(i)
+        self.operand_list.slot(i)
     }
 
     /// Makes the one call of the visitor that names the operand at an index, and answers what that answers; at the
@@ -145,10 +145,10 @@ impl Instruction {
     pub fn mem_size(&self) -> Option<MemoryAccessSize>
         ensures { result ≡ mem_size_of self.now }
     {
-        if self.given.mem_size == 0 {
+        if self.operand_list.mem_size == 0 {
             None
         } else {
-            Some(MemoryAccessSize::new(self.given.mem_size))
+            Some(MemoryAccessSize::new(self.operand_list.mem_size))
         }
     }
 
@@ -157,7 +157,7 @@ impl Instruction {
     ///
     /// MOVS writes to ES and reads from the segment of the prefixes. CMPS names rdi first, which here takes the
     /// segment of the prefixes, and then rsi, which takes ES. Of another operation a memory operand is in the segment
-    /// of the prefixes, and `None` stands for DS.
+    /// of the prefixes, and `None` means DS.
     pub fn segment_override_for_op(&self, op: u8) -> Option<Segment>
         requires { op < 4 }
         ensures { result ≡ segment_override_for_op self.now op }
@@ -233,8 +233,8 @@ impl Instruction {
         Shown {
             prefixes: self.prefixes,
             opcode: self.opcode,
-            count: self.given.count,
-            mem_size: self.given.mem_size,
+            count: self.operand_list.count,
+            mem_size: self.operand_list.mem_size,
             slots: [self.slot(0), self.slot(1), self.slot(2), self.slot(3)],
             operands: [
                 self.operand(0),

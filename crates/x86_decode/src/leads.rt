@@ -1,8 +1,8 @@
-//! What a byte is at the front of an encoding.
+//! What a byte is at the beginning of an encoding.
 ghost use Rattle.std.specs.Prelude.{◌≡◌};
 ghost use Rattle.x86_decode.specs.Lead.{lead_of};
 
-/// What a byte is at the front of an encoding.
+/// What a byte is at the beginning of an encoding.
 #[derive(Clone, Copy, PartialEq, Eq, Debug, Drop)]
 pub enum Lead {
     Opcode,
@@ -25,7 +25,7 @@ const ESC: Lead = Lead::Escape;
 
 const VEX: Lead = Lead::Vex;
 
-/// By the byte: sixteen on a line, behind which the first of them stands.
+/// By the byte: sixteen on a line, followed by the first of them.
 const LEADS: &[Lead; 256] = &[
     OPC, OPC, OPC, OPC, OPC, OPC, OPC, OPC, OPC, OPC, OPC, OPC, OPC, OPC, OPC, ESC, // 00
     OPC, OPC, OPC, OPC, OPC, OPC, OPC, OPC, OPC, OPC, OPC, OPC, OPC, OPC, OPC, OPC, // 10

@@ -1,10 +1,10 @@
-//! What a row asks behind its opcode byte, written where it stays.
+//! What a row has after its opcode byte, written where it stays.
 ghost use Rattle.std.specs.Prelude.{◌≡◌, ℕ, Bool, IfOk, IsTrue, true, false};
 ghost use Rattle.x86_arch.specs.Reader.{State};
 ghost use Rattle.x86_fields.specs.Steps.{outcome, then_from};
 ghost use Rattle.x86_fields.specs.declared.prefixes.Prefixes.{Prefixes};
 ghost use Rattle.x86_forms.specs.Words.{IsForm, carried};
-ghost use Rattle.x86_operands.specs.Encodings.{Belongs, Describes, has_fields, held, is_described, is_sound, no_operands, plan_of, use_of};
+ghost use Rattle.x86_operands.specs.Encodings.{Belongs, Describes, has_fields, value_if_ok, is_described, is_sound, no_operands, plan_of, use_of};
 ghost use Rattle.x86_operands.specs.Forms.{modrm_use};
 ghost use Rattle.x86_operands.specs.PlanSteps.{read_plan, record_step};
 ghost use Rattle.x86_decode.specs.declared.instructions.Instruction.{Instruction};
@@ -20,8 +20,8 @@ use x86_groups::{chosen, group_plan, read_group, read_group_into};
 use x86_opcodes::Opcode;
 use x86_operands::plans::{ModrmUse, Plan};
 use x86_operands::{
-    Behind, FormEncoding, Reading, carried, form_encoding, form_plan, read_form, read_form_into,
-    read_modrm, read_plan_into,
+    AfterOpcode, FormEncoding, Reading, carried, form_encoding, form_plan, read_form,
+    read_form_into, read_modrm, read_plan_into,
 };
 
 /// What is left of a row that wasn't read at once.
@@ -30,26 +30,26 @@ pub enum Rest {
     Nothing,
     /// All of a row.
     Row(TableRow),
-    /// What stands behind this ModRM byte.
-    Behind(TableRow, ModRM),
+    /// What follows this ModRM byte.
+    AfterModRM(TableRow, ModRM),
 }
 
 /// The line of the operand encodings for a row, with the operation, and the ModRM byte; one that isn't there is C0.
 #[derive(Clone, Copy, Drop)]
-struct Usual<'a> {
+struct RowLine<'a> {
     encoding: &'a FormEncoding,
     opcode: Opcode,
     modrm: ModRM,
 }
 
-/// What a row comes to behind its ModRM byte, if it has one.
+/// What was found of a row after its ModRM byte, if it has one.
 #[derive(Clone, Copy, Drop)]
 enum Found<'a> {
-    Line(Usual<'a>),
+    Line(RowLine<'a>),
     Left(Rest),
 }
 
-/// What a row asks behind its opcode byte.
+/// What a row has after its opcode byte.
 pub fn read_row<T: Reader<u64, u8>>(
     strict: bool,
     row: TableRow,
@@ -69,7 +69,7 @@ pub fn read_row<T: Reader<u64, u8>>(
 
 /// ModRM, and the line that describes the row there; else what is left of the row.
 #[inline(always)]
-fn read_usual<'a, T: Reader<u64, u8>>(
+fn read_line<'a, T: Reader<u64, u8>>(
     row: &TableRow,
     reader: &mut T,
 ) -> Result<Found<'a>, DecodeError>
@@ -80,12 +80,12 @@ fn read_usual<'a, T: Reader<u64, u8>>(
     ensures found { IfOk result (IsFound row.now) }
 {
     let encoding = form_encoding(row.form);
-    if !encoding.behind.has_fields() {
-        return Ok(bare_line(row, encoding));
+    if !encoding.after_opcode.has_fields() {
+        return Ok(line_without_modrm(row, encoding));
     }
     let modrm = read_modrm(reader, ModrmUse::EitherForm)?;
-    match encoding.behind {
-        Behind::ByReg(group) => {
+    match encoding.after_opcode {
+        AfterOpcode::ByReg(group) => {
             let (opcode, encoding) = chosen(group, modrm);
             Ok(line_at(row, encoding, opcode, modrm))
         }
@@ -95,20 +95,20 @@ fn read_usual<'a, T: Reader<u64, u8>>(
 
 /// The line of a row without ModRM; else all of the row.
 #[inline(always)]
-fn bare_line<'a>(row: &TableRow, encoding: &'a FormEncoding) -> Found<'a>
+fn line_without_modrm<'a>(row: &TableRow, encoding: &'a FormEncoding) -> Found<'a>
     requires form { IsForm row.now.form }
     requires sound { is_sound encoding.now ≡ true }
-    requires bare { has_fields encoding.now.behind ≡ false }
-    requires group { Belongs encoding.now.behind row.now.form }
-    requires usage { modrm_use row.now.form ≡ use_of encoding.now.behind }
+    requires no_modrm { has_fields encoding.now.after_opcode ≡ false }
+    requires group { Belongs encoding.now.after_opcode row.now.form }
+    requires usage { modrm_use row.now.form ≡ use_of encoding.now.after_opcode }
     requires describes { Describes encoding.now row.now.form }
     ensures found { IsFound row.now result }
     ensures read { (strict : Bool) (i : Instruction) (s : State ℕ) →
         found_row_step strict row.now i result s ≡ row_step strict row.now i.prefixes s }
 {
     let modrm = ModRM::absent();
-    if encoding.behind.allows(modrm) {
-        Found::Line(Usual {
+    if encoding.after_opcode.allows(modrm) {
+        Found::Line(RowLine {
             encoding,
             opcode: row.opcode,
             modrm,
@@ -118,7 +118,7 @@ fn bare_line<'a>(row: &TableRow, encoding: &'a FormEncoding) -> Found<'a>
     }
 }
 
-/// The line, if it accepts at this ModRM byte; else what stands behind it.
+/// The line, if it accepts at this ModRM byte; else what follows it.
 #[inline(always)]
 fn line_at<'a>(
     row: &TableRow,
@@ -129,7 +129,7 @@ fn line_at<'a>(
     requires form { IsForm row.now.form }
     requires sound { is_sound encoding.now ≡ true }
     requires describes { (strict : Bool) (p : Prefixes) →
-        IsTrue (is_described encoding.now.behind) →
+        IsTrue (is_described encoding.now.after_opcode) →
         plan_of encoding.now (carried row.now.form) opcode p modrm ≡
         plan_at strict row.now p modrm }
     ensures found { IsFound row.now result }
@@ -137,18 +137,18 @@ fn line_at<'a>(
         found_row_step strict row.now i result ≡
         read_plan (plan_at strict row.now i.prefixes modrm) i.prefixes modrm }
 {
-    if encoding.behind.allows(modrm) {
-        Found::Line(Usual {
+    if encoding.after_opcode.allows(modrm) {
+        Found::Line(RowLine {
             encoding,
             opcode,
             modrm,
         })
     } else {
-        Found::Left(Rest::Behind(*row, modrm))
+        Found::Left(Rest::AfterModRM(*row, modrm))
     }
 }
 
-/// What a row asks behind its opcode byte, if a line of the operand encodings describes it.
+/// What a row has after its opcode byte, if a line of the operand encodings describes it.
 #[inline(always)]
 pub fn read_by_line<T: Reader<u64, u8>>(
     row: TableRow,
@@ -156,26 +156,27 @@ pub fn read_by_line<T: Reader<u64, u8>>(
     inst: &mut Instruction,
 ) -> Result<Rest, DecodeError>
     requires form { IsForm row.form }
-    requires blank { inst.old.given ≡ no_operands }
+    requires blank { inst.old.operand_list ≡ no_operands }
     ensures read { (strict : Bool) →
         then_from result (T.state reader.new) (rest_step strict inst.new) ≡
         row_step strict row inst.old.prefixes (T.state reader.old) }
-    ensures blank { IfOk result (λ rest. is_nothing rest ≡ false → inst.new.given ≡ no_operands) }
+    ensures blank { IfOk result (λ rest. is_nothing rest ≡ false
+        → inst.new.operand_list ≡ no_operands) }
     ensures form { IfOk result HasForm }
 {
-    match read_usual(&row, reader) {
+    match read_line(&row, reader) {
         Err(error) => Err(error),
         Ok(Found::Left(rest)) => Ok(rest),
-        Ok(Found::Line(usual)) => {
-            inst.opcode = usual.opcode;
+        Ok(Found::Line(line)) => {
+            inst.opcode = line.opcode;
             let num = carried(row.form);
-            inst.given.read(
+            inst.operand_list.read(
                 reader,
-                usual.encoding,
-                usual.opcode,
+                line.encoding,
+                line.opcode,
                 num,
                 &inst.prefixes,
-                usual.modrm,
+                line.modrm,
             )?;
             Ok(Rest::Nothing)
         }
@@ -201,20 +202,20 @@ pub fn read_row_into<T: Reader<u64, u8>>(
     inst: &mut Instruction,
 ) -> Result<(), DecodeError>
     requires form { IsForm row.form }
-    requires blank { inst.old.given ≡ no_operands }
-    ensures { outcome (held result (reading_in inst.new)) (T.state reader.new) ≡
+    requires blank { inst.old.operand_list ≡ no_operands }
+    ensures { outcome (value_if_ok result (reading_in inst.new)) (T.state reader.new) ≡
         row_step strict row inst.old.prefixes (T.state reader.old) }
 {
     let Instruction {
         prefixes,
         opcode,
-        given,
+        operand_list,
         ..
     } = inst;
     if row.form.is_group() {
-        read_group_into(reader, row, strict, prefixes, opcode, given)
+        read_group_into(reader, row, strict, prefixes, opcode, operand_list)
     } else {
-        read_form_into(reader, row, prefixes, opcode, given)
+        read_form_into(reader, row, prefixes, opcode, operand_list)
     }
 }
 
@@ -227,22 +228,22 @@ pub fn read_rest<T: Reader<u64, u8>>(
     inst: &mut Instruction,
 ) -> Result<(), DecodeError>
     requires form { HasForm rest }
-    requires blank { is_nothing rest ≡ false → inst.old.given ≡ no_operands }
-    ensures { outcome (held result (reading_in inst.new)) (T.state reader.new) ≡
+    requires blank { is_nothing rest ≡ false → inst.old.operand_list ≡ no_operands }
+    ensures { outcome (value_if_ok result (reading_in inst.new)) (T.state reader.new) ≡
         rest_step strict inst.old rest (T.state reader.old) }
 {
     match rest {
         Rest::Nothing => Ok(()),
         Rest::Row(row) => read_row_into(strict, row, reader, inst),
-        Rest::Behind(row, modrm) => {
+        Rest::AfterModRM(row, modrm) => {
             let plan = plan_at(strict, row, &inst.prefixes, modrm);
             let Instruction {
                 prefixes,
                 opcode,
-                given,
+                operand_list,
                 ..
             } = inst;
-            read_plan_into(reader, &plan, modrm, prefixes, opcode, given)
+            read_plan_into(reader, &plan, modrm, prefixes, opcode, operand_list)
         }
     }
 }

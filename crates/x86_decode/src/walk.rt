@@ -4,13 +4,13 @@ ghost use Rattle.x86_arch.specs.Reader.{marked};
 ghost use Rattle.x86_fields.specs.Steps.{Outcome, outcome, then_from};
 ghost use Rattle.x86_fields.specs.Run.{is_prefix, reading_of};
 ghost use Rattle.x86_forms.specs.Words.{rows_of};
-ghost use Rattle.x86_operands.specs.Encodings.{held, no_operands};
+ghost use Rattle.x86_operands.specs.Encodings.{value_if_ok, no_operands};
 ghost use Rattle.x86_operands.specs.declared.reader.Reading.{Reading};
 ghost use Rattle.x86_decode.specs.Answer.{answer_of};
 ghost use Rattle.x86_decode.specs.Grammar.{first_slot, allows_lock};
 ghost use Rattle.x86_decode.specs.Instruction.{holding, invalid_instruction, reading_in};
 ghost use Rattle.x86_fields.specs.Errors.{is_exhausted};
-ghost use Rattle.x86_decode.specs.Walk.{ComesTo, Fronted, HasForm, IsReady, rest_step, behind_step, long_step, walk_bounded, walk_within, decode_step, is_nothing, takes_lock, judgement, limited};
+ghost use Rattle.x86_decode.specs.Walk.{LeadsTo, ResultLeadsTo, HasForm, IsReady, rest_step, body_step, long_step, walk_bounded, walk_within, decode_step, is_nothing, takes_lock, judgement, error_at_limit};
 
 use crate::bounded::{Bounded, Start, takes_rest};
 use crate::head::{is_prefix, read_head, read_on, read_word};
@@ -29,7 +29,7 @@ fn first_slot(slots: &[Slot; 4]) -> Slot
     slots[0]
 }
 
-/// Whether F0 is absent, or stands in front of an operation that takes it, with memory as its first operand.
+/// Whether F0 is absent, or precedes an operation that takes it, with memory as its first operand.
 pub fn allows_lock(reading: &Reading) -> bool
     ensures { result ≡ allows_lock reading.now }
 {
@@ -48,20 +48,21 @@ fn takes_lock(prefixes: &Prefixes, opcode: Opcode, first: Slot) -> bool
     !prefixes.lock() || (opcode.can_lock() && first.is_memory())
 }
 
-/// What stands behind the run, where this byte is the first of it.
+/// What follows the run, where this byte is the first of it.
 #[inline(always)]
-fn read_behind<W: Words, T: Reader<u64, u8>>(
+fn read_body<W: Words, T: Reader<u64, u8>>(
     rows: &W,
     reader: &mut T,
     inst: &mut Instruction,
     byte: u8,
 ) -> Result<Rest, DecodeError>
-    requires { inst.old.given ≡ no_operands }
+    requires { inst.old.operand_list ≡ no_operands }
     ensures read { (strict : Bool) →
         then_from result (T.state reader.new) (rest_step strict inst.new)
-        ≡ behind_step (rows_of (W.word rows.now)) strict inst.old.prefixes byte
+        ≡ body_step (rows_of (W.word rows.now)) strict inst.old.prefixes byte
         (T.state reader.old) }
-    ensures blank { IfOk result (λ rest. is_nothing rest ≡ false → inst.new.given ≡ no_operands) }
+    ensures blank { IfOk result (λ rest. is_nothing rest ≡ false
+        → inst.new.operand_list ≡ no_operands) }
     ensures form { IfOk result HasForm }
 {
     let word = read_word(rows, reader, &mut inst.prefixes, byte)?;
@@ -71,8 +72,8 @@ fn read_behind<W: Words, T: Reader<u64, u8>>(
     }
 }
 
-/// What stands behind the run, where this byte is the first of it, by the plan of its row. So the quick walk stands
-/// in the code once for each reader.
+/// What follows the run, where this byte is the first of it, by the plan of its row. So the quick walk is in the code
+/// once for each reader.
 fn read_by_plan<W: Words, T: Reader<u64, u8>>(
     strict: bool,
     rows: &W,
@@ -80,9 +81,9 @@ fn read_by_plan<W: Words, T: Reader<u64, u8>>(
     inst: &mut Instruction,
     byte: u8,
 ) -> Result<(), DecodeError>
-    requires { inst.old.given ≡ no_operands }
-    ensures { outcome (held result (reading_in inst.new)) (T.state reader.new)
-        ≡ behind_step (rows_of (W.word rows.now)) strict inst.old.prefixes byte
+    requires { inst.old.operand_list ≡ no_operands }
+    ensures { outcome (value_if_ok result (reading_in inst.new)) (T.state reader.new)
+        ≡ body_step (rows_of (W.word rows.now)) strict inst.old.prefixes byte
         (T.state reader.old) }
 {
     let word = read_word(rows, reader, &mut inst.prefixes, byte)?;
@@ -102,20 +103,20 @@ fn read_long<W: Words, T: Reader<u64, u8>>(
     inst: &mut Instruction,
 ) -> Result<(), DecodeError>
     requires prefix { is_prefix first ≡ true }
-    requires blank { inst.old.given ≡ no_operands }
-    ensures { (front : List ℕ) → inst.old.prefixes ≡ reading_of front →
-        outcome (held result (reading_in inst.new)) (T.state reader.new)
-        ≡ long_step (rows_of (W.word rows.now)) strict front first (T.state reader.old) }
+    requires blank { inst.old.operand_list ≡ no_operands }
+    ensures { (beginning : List ℕ) → inst.old.prefixes ≡ reading_of beginning →
+        outcome (value_if_ok result (reading_in inst.new)) (T.state reader.new)
+        ≡ long_step (rows_of (W.word rows.now)) strict beginning first (T.state reader.old) }
 {
     let (prefixes, byte) = read_on(reader, inst.prefixes.after(first))?;
     inst.prefixes = prefixes;
     read_by_plan(strict, rows, reader, inst, byte)
 }
 
-/// What is left behind the front of an encoding.
+/// What is left after the common path.
 #[derive(Clone, Copy, Drop)]
 enum Left {
-    /// A longer run, which goes on with this byte.
+    /// A longer run, which continues with this byte.
     Run(u8),
     /// What is left of a row.
     Rest(Rest),
@@ -123,21 +124,21 @@ enum Left {
 
 /// The encoding up to what is left, into a blank instruction.
 #[inline(always)]
-fn read_front<W: Words, T: Reader<u64, u8>>(
+fn read_common<W: Words, T: Reader<u64, u8>>(
     rows: &W,
     reader: &mut T,
     inst: &mut Instruction,
 ) -> Result<Left, DecodeError>
     requires { inst.old ≡ invalid_instruction }
     ensures ready { IfOk result (IsReady inst.new) }
-    ensures read { Fronted (rows_of (W.word rows.now)) inst.new result (T.state reader.new)
+    ensures read { ResultLeadsTo (rows_of (W.word rows.now)) inst.new result (T.state reader.new)
         (λ strict. walk_within (rows_of (W.word rows.now)) strict (T.state reader.old)) }
 {
     let byte = read_head(reader, &mut inst.prefixes)?;
     if is_prefix(byte) {
         return Ok(Left::Run(byte));
     }
-    let rest = read_behind(rows, reader, inst, byte)?;
+    let rest = read_body(rows, reader, inst, byte)?;
     Ok(Left::Rest(rest))
 }
 
@@ -152,8 +153,8 @@ fn read_left<W: Words, T: Reader<u64, u8>>(
 ) -> Result<(), DecodeError>
     requires { IsReady inst.old left }
     ensures { (goal : Bool → Outcome Reading)
-        → ComesTo (rows_of (W.word rows.now)) inst.old left (T.state reader.old) goal
-        → outcome (held result (reading_in inst.new)) (T.state reader.new) ≡ goal strict }
+        → LeadsTo (rows_of (W.word rows.now)) inst.old left (T.state reader.old) goal
+        → outcome (value_if_ok result (reading_in inst.new)) (T.state reader.new) ≡ goal strict }
 {
     match left {
         Left::Run(byte) => read_long(strict, rows, byte, reader, inst),
@@ -161,8 +162,8 @@ fn read_left<W: Words, T: Reader<u64, u8>>(
     }
 }
 
-/// What stands up to the end of what the row asks, into a blank instruction. The reader comes back: so it stays in
-/// registers where nothing rare is read.
+/// The encoding up to its last byte, into a blank instruction. The reader comes back: so it stays in registers on the
+/// common path.
 #[inline(always)]
 fn walk_within<W: Words, T: Reader<u64, u8>>(
     strict: bool,
@@ -171,11 +172,11 @@ fn walk_within<W: Words, T: Reader<u64, u8>>(
     inst: &mut Instruction,
 ) -> (Result<(), DecodeError>, T)
     requires { inst.old ≡ invalid_instruction }
-    ensures { outcome (held result.0 (reading_in inst.new)) (T.state result.1)
+    ensures { outcome (value_if_ok result.0 (reading_in inst.new)) (T.state result.1)
         ≡ walk_within (rows_of (W.word rows.now)) strict (T.state reader) }
 {
     let mut reader = reader;
-    match read_front(rows, &mut reader, inst) {
+    match read_common(rows, &mut reader, inst) {
         Err(error) => (Err(error), reader),
         Ok(Left::Rest(Rest::Nothing)) => (Ok(()), reader),
         Ok(left) => {
@@ -197,7 +198,11 @@ fn is_exhausted(error: DecodeError) -> bool
 fn judgement(inst: &Instruction) -> Result<(), DecodeError>
     ensures { result ≡ judgement (reading_in inst.now) }
 {
-    if takes_lock(&inst.prefixes, inst.opcode, first_slot(&inst.given.slots)) {
+    if takes_lock(
+        &inst.prefixes,
+        inst.opcode,
+        first_slot(&inst.operand_list.slots),
+    ) {
         Ok(())
     } else {
         Err(DecodeError::InvalidPrefixes)
@@ -247,8 +252,8 @@ fn walk_bounded<'a, W: Words, T: Reader<u64, u8>, K: Start>(
 }
 
 /// The refusal where fifteen bytes were there, or fewer.
-fn limited(error: DecodeError, full: bool) -> DecodeError
-    ensures { result ≡ limited error full }
+fn error_at_limit(error: DecodeError, full: bool) -> DecodeError
+    ensures { result ≡ error_at_limit error full }
 {
     match error {
         DecodeError::ExhaustedInput if full => DecodeError::TooLong,
@@ -280,12 +285,12 @@ pub fn walk_slice(strict: bool, bytes: &[u8], inst: &mut Instruction) -> Result<
     inst.length = back.offset();
     match result {
         Ok(()) => judgement(inst),
-        Err(error) => Err(limited(error, within.len() == 15)),
+        Err(error) => Err(error_at_limit(error, within.len() == 15)),
     }
 }
 
-/// The instruction at the front of what the reader has left, into a blank one. The reader is marked, and then moves
-/// by what the answer takes.
+/// The instruction at the beginning of what the reader has left, into a blank one. The reader is marked, and then
+/// moves by what the answer takes.
 #[tactic(auto, unfolding(crate::specs::Walk::decode_step))]
 pub fn walk_into<W: Words, T: Reader<u64, u8>>(
     strict: bool,

@@ -31,10 +31,10 @@ final_other {X} {Y} e d h = d (ap (λ f. Err f) (same h))
 
 -- On q and these bytes after it, f takes q and runs out.
 abbrev pub OutAt : {X : Type 0} → Step X → List ℕ → List ℕ → Type 0
-OutAt f q front = (t : State ℕ) → t.left ≡ q ++ front → f t ≡ outcome (Err ExhaustedInput) (advanced (length q) t)
+OutAt f q beginning = (t : State ℕ) → t.left ≡ q ++ beginning → f t ≡ outcome (Err ExhaustedInput) (advanced (length q) t)
 
 abbrev pub OutOn : {X : Type 0} → Step X → List ℕ → List ℕ → Type 0
-OutOn f q rest = (front back : List ℕ) → rest ≡ front ++ back → OutAt f q front
+OutOn f q rest = (beginning back : List ℕ) → rest ≡ beginning ++ back → OutAt f q beginning
 
 -- A prefix was taken whatever follows, or f runs out after q, on every prefix of the input that begins with q.
 pub data Ends {X : Type 0} (A : List ℕ → Result X DecodeError → Type 0) (B : List ℕ → Type 0) (f : Step X) (s : State ℕ) : Type 0 where
@@ -63,9 +63,9 @@ ends_pure A B x a s = settles [] s.left (Ok x) refl (takes_pure (Ok x)) (final_o
 pub ends_refuse : {X : Type 0} (A : List ℕ → Result X DecodeError → Type 0) (B : List ℕ → Type 0) (e : DecodeError) → e ≢ ExhaustedInput → A [] (Err e) → EndsWell A B (refuse e)
 ends_refuse A B e d a s = settles [] s.left (Err e) refl (takes_pure (Err e)) (final_err e d) a
 
-pub no_front : (front back : List ℕ) → ◌≡◌ {A = List ℕ} [] (front ++ back) → front ≡ []
-no_front [] back e = refl
-no_front (x ∷ front) back e = cc
+pub no_beginning : (beginning back : List ℕ) → ◌≡◌ {A = List ℕ} [] (beginning ++ back) → beginning ≡ []
+no_beginning [] back e = refl
+no_beginning (x ∷ beginning) back e = cc
 
 -- one byte
 abbrev pub IsByte : List ℕ → ℕ → Type 0
@@ -73,8 +73,8 @@ IsByte q b = q ≡ b ∷ []
 
 ends_byte_at : (l : List ℕ) (s : State ℕ) → s.left ≡ l → Ends (Only IsByte) IsEmpty next_byte s
 unfolding next_byte
-ends_byte_at [] s e = runs_out [] [] e refl (λ front back h t k.
-    ap (λ l. byte_of l t) (k ∙ no_front front back h) ∙ ap (λ u. outcome (Err ExhaustedInput) u) (sym (advanced_zero t)))
+ends_byte_at [] s e = runs_out [] [] e refl (λ beginning back h t k.
+    ap (λ l. byte_of l t) (k ∙ no_beginning beginning back h) ∙ ap (λ u. outcome (Err ExhaustedInput) u) (sym (advanced_zero t)))
 ends_byte_at (x ∷ rest) s e = settles (x ∷ []) rest (Ok x) e (takes_byte x) (final_ok x) refl
 
 pub ends_byte : EndsWell (Only IsByte) IsEmpty next_byte
@@ -86,9 +86,9 @@ AreBytes n q bytes = (bytes ≡ q) × (length q ≡ n)
 
 ends_bytes_at : (n : ℕ) (s : State ℕ) → (length s.left < n) ⊎ (n ≤ length s.left) → Ends (Only (AreBytes n)) IsEmpty (next_bytes n) s
 unfolding next_bytes
-ends_bytes_at n s (inl less) = runs_out [] s.left refl refl (λ front back h t k.
-    let parts : length s.left ≡ length front + length back = ap length h ∙ length-append front back in
-    let here : length t.left ≡ length front = ap length k in
+ends_bytes_at n s (inl less) = runs_out [] s.left refl refl (λ beginning back h t k.
+    let parts : length s.left ≡ length beginning + length back = ap length h ∙ length-append beginning back in
+    let here : length t.left ≡ length beginning = ap length k in
     let test : nat_lt (length t.left) n ≡ true = lt-ltb (length t.left) n (omega arith) in
     rw test (ap (λ u. outcome (Err ExhaustedInput) u) (sym (advanced_zero t))))
 ends_bytes_at n s (inr enough) =
@@ -107,11 +107,11 @@ ends_ok A B m f s q rest x h t (settles p more r e u d a) =
     settles (q ++ p) more r (h ∙ ap (λ l. q ++ l) after ∙ sym (append_assoc q p more)) (takes_bind m f q p x r t u) d a
 ends_ok A B m f s q rest x h t (runs_out p more e b u) =
     let after : rest ≡ p ++ more = sym (ap (drop (length q)) h ∙ drop-append_seam q rest) ∙ e in
-    runs_out (q ++ p) more (h ∙ ap (λ l. q ++ l) after ∙ sym (append_assoc q p more)) b (λ front back part w left.
-    let split : w.left ≡ q ++ (p ++ front) = left ∙ append_assoc q p front in
-    let behind : drop (length q) w.left ≡ p ++ front = ap (drop (length q)) split ∙ drop-append_seam q (p ++ front) in
-    ap (λ o. then_from o.answer o.after f) (t.takes (p ++ front) w split)
-    ∙ u front back part (advanced (length q) w) behind
+    runs_out (q ++ p) more (h ∙ ap (λ l. q ++ l) after ∙ sym (append_assoc q p more)) b (λ beginning back part w left.
+    let split : w.left ≡ q ++ (p ++ beginning) = left ∙ append_assoc q p beginning in
+    let following : drop (length q) w.left ≡ p ++ beginning = ap (drop (length q)) split ∙ drop-append_seam q (p ++ beginning) in
+    ap (λ o. then_from o.answer o.after f) (t.takes (p ++ beginning) w split)
+    ∙ u beginning back part (advanced (length q) w) following
     ∙ ap (λ a. outcome (Err ExhaustedInput) a) (advanced_twice (length q) (length p) w ∙ ap (λ n. advanced n w) (sym (length-append q p))))
 
 ends_at : {X Y : Type 0} (A₁ : List ℕ → Result X DecodeError → Type 0) (B₁ : List ℕ → Type 0) (A : List ℕ → Result Y DecodeError → Type 0) (B : List ℕ → Type 0) (m : Step X) (f : X → Step Y) (s : State ℕ)
@@ -120,7 +120,7 @@ ends_at : {X Y : Type 0} (A₁ : List ℕ → Result X DecodeError → Type 0) (
     → Ends A₁ B₁ m s → Ends A B (m >>= f) s
 ends_at A₁ B₁ A B m f s outs errs each (settles q rest (Ok x) h t d a) = ends_ok A B m f s q rest x h t (each q x a (advanced (length q) s))
 ends_at A₁ B₁ A B m f s outs errs each (settles q rest (Err e) h t d a) = settles q rest (Err e) h (takes_err m f q e t) (final_other e d) (errs q e a)
-ends_at A₁ B₁ A B m f s outs errs each (runs_out q rest h b u) = runs_out q rest h (outs q b) (λ front back part t left. ap (λ o. then_from o.answer o.after f) (u front back part t left))
+ends_at A₁ B₁ A B m f s outs errs each (runs_out q rest h b u) = runs_out q rest h (outs q b) (λ beginning back part t left. ap (λ o. then_from o.answer o.after f) (u beginning back part t left))
 
 pub ends_bind : {X Y : Type 0} (A₁ : List ℕ → Result X DecodeError → Type 0) (B₁ : List ℕ → Type 0) (A : List ℕ → Result Y DecodeError → Type 0) (B : List ℕ → Type 0) (m : Step X) (f : X → Step Y)
     → EndsWell A₁ B₁ m → ((q : List ℕ) → B₁ q → B q) → ((q : List ℕ) (e : DecodeError) → A₁ q (Err e) → A q (Err e))
@@ -145,35 +145,35 @@ ends_map P B Q m g first each = ends_then P B (Only Q) B m (λ x. pure (g x)) fi
 abbrev pub Out : {X : Type 0} → Step X → List ℕ → Type 0
 Out f q = (s : State ℕ) → s.left ≡ q → f s ≡ outcome (Err ExhaustedInput) (advanced (length q) s)
 
-pub data Stands {X : Type 0} (f : Step X) (q : List ℕ) : Type 0 where
-  out : Out f q → Stands f q
-  over : (p rest : List ℕ) (r : Result X DecodeError) → q ≡ p ++ rest → Takes f p r → IsFinal r → Stands f q
+pub data Halts {X : Type 0} (f : Step X) (q : List ℕ) : Type 0 where
+  out : Out f q → Halts f q
+  over : (p rest : List ℕ) (r : Result X DecodeError) → q ≡ p ++ rest → Takes f p r → IsFinal r → Halts f q
 
-stands_none : {X : Type 0} {A : List ℕ → Result X DecodeError → Type 0} {B : List ℕ → Type 0} (f : Step X) → Ends A B f (fresh []) → Stands f []
-stands_none f (settles q rest r h t d a) = over q rest r h t d
-stands_none f (runs_out q rest h b u) =
-    let none : q ≡ [] = no_front q rest h in
+halts_none : {X : Type 0} {A : List ℕ → Result X DecodeError → Type 0} {B : List ℕ → Type 0} (f : Step X) → Ends A B f (fresh []) → Halts f []
+halts_none f (settles q rest r h t d a) = over q rest r h t d
+halts_none f (runs_out q rest h b u) =
+    let none : q ≡ [] = no_beginning q rest h in
     out (λ s e. u [] rest refl s (e ∙ sym none ∙ sym (append-nil q)) ∙ ap (λ l. outcome (Err ExhaustedInput) (advanced (length l) s)) none)
 
-pub stands_empty : {X : Type 0} {A : List ℕ → Result X DecodeError → Type 0} {B : List ℕ → Type 0} (f : Step X) → EndsWell A B f → Stands f []
-stands_empty f e = stands_none f (e (fresh []))
+pub halts_empty : {X : Type 0} {A : List ℕ → Result X DecodeError → Type 0} {B : List ℕ → Type 0} (f : Step X) → EndsWell A B f → Halts f []
+halts_empty f e = halts_none f (e (fresh []))
 
-pub stands_bind : {X Y : Type 0} (m : Step X) (f : X → Step Y) (p q : List ℕ) (x : X) → Takes m p (Ok x) → Stands (f x) q → Stands (m >>= f) (p ++ q)
-stands_bind m f p q x t (out u) = out (λ s h.
+pub halts_bind : {X Y : Type 0} (m : Step X) (f : X → Step Y) (p q : List ℕ) (x : X) → Takes m p (Ok x) → Halts (f x) q → Halts (m >>= f) (p ++ q)
+halts_bind m f p q x t (out u) = out (λ s h.
     ap (λ o. then_from o.answer o.after f) (t.takes q s h)
     ∙ u (advanced (length p) s) (ap (drop (length p)) h ∙ drop-append_seam p q)
     ∙ ap (λ a. outcome (Err ExhaustedInput) a) (advanced_twice (length p) (length q) s ∙ ap (λ n. advanced n s) (sym (length-append p q))))
-stands_bind m f p q x t (over a rest r e u d) = over (p ++ a) rest r (ap (λ l. p ++ l) e ∙ sym (append_assoc p a rest)) (takes_bind m f p a x r t u) d
+halts_bind m f p q x t (over a rest r e u d) = over (p ++ a) rest r (ap (λ l. p ++ l) e ∙ sym (append_assoc p a rest)) (takes_bind m f p a x r t u) d
 
-pub stands_refused : {X Y : Type 0} (m : Step X) (f : X → Step Y) (q : List ℕ) (e : DecodeError) → e ≢ ExhaustedInput → Takes m [] (Err e) → Stands (m >>= f) q
-stands_refused m f q e d t = over [] q (Err e) refl (takes_err m f [] e t) (final_err e d)
+pub halts_refused : {X Y : Type 0} (m : Step X) (f : X → Step Y) (q : List ℕ) (e : DecodeError) → e ≢ ExhaustedInput → Takes m [] (Err e) → Halts (m >>= f) q
+halts_refused m f q e d t = over [] q (Err e) refl (takes_err m f [] e t) (final_err e d)
 
-pub stands_out : {X Y : Type 0} (m : Step X) (f : X → Step Y) (q : List ℕ) → Out m q → Stands (m >>= f) q
-stands_out m f q u = out (λ s h. ap (λ o. then_from o.answer o.after f) (u s h))
+pub halts_out : {X Y : Type 0} (m : Step X) (f : X → Step Y) (q : List ℕ) → Out m q → Halts (m >>= f) q
+halts_out m f q u = out (λ s h. ap (λ o. then_from o.answer o.after f) (u s h))
 
-pub stands_same : {X : Type 0} (f g : Step X) (q : List ℕ) → ((s : State ℕ) → g s ≡ f s) → Stands f q → Stands g q
-stands_same f g q e (out u) = out (λ s h. e s ∙ u s h)
-stands_same f g q e (over p rest r h t d) = over p rest r h (record { takes = λ more s k. e s ∙ t.takes more s k }) d
+pub halts_same : {X : Type 0} (f g : Step X) (q : List ℕ) → ((s : State ℕ) → g s ≡ f s) → Halts f q → Halts g q
+halts_same f g q e (out u) = out (λ s h. e s ∙ u s h)
+halts_same f g q e (over p rest r h t d) = over p rest r h (record { takes = λ more s k. e s ∙ t.takes more s k }) d
 
 assoc_at : {X Y Z : Type 0} (a : Result X DecodeError) (u : State ℕ) (f : X → Step Y) (g : Y → Step Z) → then_from (then_from a u f).answer (then_from a u f).after g ≡ then_from a u (λ x. f x >>= g)
 assoc_at (Ok x) u f g = refl
@@ -184,21 +184,21 @@ bind_assoc m f g s = assoc_at (m s).answer (m s).after f g
 
 -- ---- the longest prefix
 
-longer : {X : Type 0} (f : Step X) (q rest p more : List ℕ) → OutOn f q rest → q ++ rest ≡ p ++ more → length q < length p → Stands f p → length p ≤ length q
+longer : {X : Type 0} (f : Step X) (q rest p more : List ℕ) → OutOn f q rest → q ++ rest ≡ p ++ more → length q < length p → Halts f p → length p ≤ length q
 longer f q rest p more u h less st =
-    let front : List ℕ = drop (length q) p in
+    let beginning : List ℕ = drop (length q) p in
     let begins : take (length q) p ≡ q = sym (take-append-le (length q) p more (omega arith)) ∙ ap (take (length q)) (sym h) ∙ take-append_seam q rest in
-    let whole : p ≡ q ++ front = sym (take-append-drop (length q) p) ∙ ap (λ l. l ++ front) begins in
-    let behind : rest ≡ front ++ more = sym (drop-append_seam q rest) ∙ ap (drop (length q)) (h ∙ ap (λ l. l ++ more) whole ∙ append_assoc q front more) ∙ drop-append_seam q (front ++ more) in
-    at st (u front more behind (fresh p) whole)
+    let whole : p ≡ q ++ beginning = sym (take-append-drop (length q) p) ∙ ap (λ l. l ++ beginning) begins in
+    let following : rest ≡ beginning ++ more = sym (drop-append_seam q rest) ∙ ap (drop (length q)) (h ∙ ap (λ l. l ++ more) whole ∙ append_assoc q beginning more) ∙ drop-append_seam q (beginning ++ more) in
+    at st (u beginning more following (fresh p) whole)
   where
-    at : Stands f p → f (fresh p) ≡ outcome (Err ExhaustedInput) (advanced (length q) (fresh p)) → length p ≤ length q
+    at : Halts f p → f (fresh p) ≡ outcome (Err ExhaustedInput) (advanced (length q) (fresh p)) → length p ≤ length q
     at (out v) e =
         let counts : 0 + length q ≡ 0 + length p = sym (ap (λ o. o.after.since_mark) e) ∙ ap (λ o. o.after.since_mark) (v (fresh p) refl) in omega arith
     at (over a b r e t d) is = absurd (d (sym (ap (λ o. o.answer) (t.takes b (fresh p) e)) ∙ ap (λ o. o.answer) is))
 
 -- Of the prefixes of an input on which the step runs out, none on which it halts is longer than what it takes.
-pub longest : {X : Type 0} (f : Step X) (q rest p more : List ℕ) → OutOn f q rest → q ++ rest ≡ p ++ more → Stands f p → length p ≤ length q
+pub longest : {X : Type 0} (f : Step X) (q rest p more : List ℕ) → OutOn f q rest → q ++ rest ≡ p ++ more → Halts f p → length p ≤ length q
 longest f q rest p more u h st = by (cases_lt (length q) (length p))
   where
     by : (length q < length p) ⊎ (length p ≤ length q) → length p ≤ length q

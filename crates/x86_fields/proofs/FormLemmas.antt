@@ -18,7 +18,7 @@ use Rattle.x86_fields.proofs.LinearLemmas.{sum_none, sum_one}
 sum_same : (f g : ℕ → ℕ) (k : ℕ) → ((r : ℕ) → r ≤ k → f r ≡ g r) → sum_through f k ≡ sum_through g k
 sum_same f g zero each = each 0 (omega arith)
 sum_same f g (suc k) each =
-    let front : sum_through f k ≡ sum_through g k = sum_same f g k (λ r h. each r (omega arith)) in
+    let beginning : sum_through f k ≡ sum_through g k = sum_same f g k (λ r h. each r (omega arith)) in
     let last : f (suc k) ≡ g (suc k) = each (suc k) (omega arith) in
     omega arith
 

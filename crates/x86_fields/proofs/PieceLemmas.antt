@@ -13,7 +13,7 @@ use Rattle.x86_fields.specs.ModRM.{mod_field, rm_field}
 use Rattle.x86_fields.specs.Raw.{read_raw, read_sib, read_displacement, displacement_width, names_no_base, has_b, has_x}
 use Rattle.x86_fields.specs.Pieces.{option_bytes, first_byte, signed_by, SpellsRaw, total, EndsBetween, raw_widths}
 use Rattle.x86_fields.proofs.StepLemmas.{Takes, fresh, takes_pure, takes_bind, takes_err, takes_bytes, takes_byte}
-use Rattle.x86_fields.proofs.EndLemmas.{final_other, Ends, settles, runs_out, no_front, stands_out, bind_assoc, EndsWell, IsEmpty, Only, ends_pure, ends_byte, IsByte, ends_bytes, AreBytes, ends_then, ends_map, Stands, over, stands_bind, stands_same}
+use Rattle.x86_fields.proofs.EndLemmas.{final_other, Ends, settles, runs_out, no_beginning, halts_out, bind_assoc, EndsWell, IsEmpty, Only, ends_pure, ends_byte, IsByte, ends_bytes, AreBytes, ends_then, ends_map, Halts, over, halts_bind, halts_same}
 
 pub takes_map : {X Y : Type 0} (m : Step X) (g : X → Y) (q : List ℕ) (x : X) → Takes m q (Ok x) → Takes (m >>= λ z. pure (g z)) q (Ok (g x))
 takes_map m g q x t = record { takes = λ rest s h. ap (λ o. then_from o.answer o.after (λ z. pure (g z))) (t.takes rest s h) }
@@ -53,7 +53,7 @@ same_tail : {a b : ℕ} {l m : List ℕ} → a ∷ l ≡ b ∷ m → l ≡ m
 same_tail e = cc
 
 pub between_nil : (q : List ℕ) → EndsBetween [] q → q ≡ []
-between_nil q b = nil_of q (b.long ∙ ap total (no_front b.there b.missing b.pieces))
+between_nil q b = nil_of q (b.long ∙ ap total (no_beginning b.there b.missing b.pieces))
 
 pub first_piece : (w : ℕ) (ws q : List ℕ) → EndsBetween (w ∷ ws) q → FirstPiece w ws q
 first_piece w ws q b = by b.there b.missing b.pieces b.long
@@ -184,32 +184,32 @@ ends_raw p modrm = ends_then (IsSib modrm) IsEmpty (Only (SpellsRaw p modrm)) (�
       sib = sib;
       disp = d ++ [];
       spelled = ap (λ l. l ++ (d ++ [])) h.0;
-      sib_asked = h.1;
-      disp_asked = ap length (append-nil d) ∙ k.0 ∙ width_only modrm sib;
+      sib_present = h.1;
+      disp_length = ap length (append-nil d) ∙ k.0 ∙ width_only modrm sib;
       fields = ap (raw_made p modrm sib) (k.1 ∙ ap (signed_by (displacement_width modrm sib)) (sym (append-nil d)));
     })))
 
 pub takes_raw : (p : Prefixes) (modrm : ℕ) (q : List ℕ) (raw : Raw) → SpellsRaw p modrm q raw → Takes (read_raw p modrm) q (Ok raw)
 unfolding read_raw
 takes_raw p modrm q raw r =
-    let d : Takes (after_sib p modrm r.sib) r.disp (Ok (raw_made p modrm r.sib (signed_by (displacement_width modrm r.sib) r.disp))) = takes_map (read_displacement (displacement_width modrm r.sib)) (raw_made p modrm r.sib) r.disp (signed_by (displacement_width modrm r.sib) r.disp) (takes_disp (displacement_width modrm r.sib) r.disp (r.disp_asked ∙ sym (width_only modrm r.sib))) in
-    let t : Takes (read_sib modrm >>= after_sib p modrm) (option_bytes r.sib ++ r.disp) (Ok (raw_made p modrm r.sib (signed_by (displacement_width modrm r.sib) r.disp))) = takes_bind (read_sib modrm) (after_sib p modrm) (option_bytes r.sib) r.disp r.sib _ (takes_sib modrm r.sib r.sib_asked) d in
+    let d : Takes (after_sib p modrm r.sib) r.disp (Ok (raw_made p modrm r.sib (signed_by (displacement_width modrm r.sib) r.disp))) = takes_map (read_displacement (displacement_width modrm r.sib)) (raw_made p modrm r.sib) r.disp (signed_by (displacement_width modrm r.sib) r.disp) (takes_disp (displacement_width modrm r.sib) r.disp (r.disp_length ∙ sym (width_only modrm r.sib))) in
+    let t : Takes (read_sib modrm >>= after_sib p modrm) (option_bytes r.sib ++ r.disp) (Ok (raw_made p modrm r.sib (signed_by (displacement_width modrm r.sib) r.disp))) = takes_bind (read_sib modrm) (after_sib p modrm) (option_bytes r.sib) r.disp r.sib _ (takes_sib modrm r.sib r.sib_present) d in
     let P : Raw → List ℕ → Type 0 = λ x l. Takes (read_sib modrm >>= after_sib p modrm) l (Ok x) in
     subst (λ x. P x q) (sym r.fields) (subst (λ l. P (raw_made p modrm r.sib (signed_by (displacement_width modrm r.sib) r.disp)) l) (sym r.spelled) t)
 
 -- ---- bytes that end between pieces
 
-stands_then_at : {X Y : Type 0} {A : List ℕ → Result X DecodeError → Type 0} {B : List ℕ → Type 0} (m : Step X) (f : X → Step Y) → Ends A B m (fresh []) → ((x : X) → Stands (f x) []) → Stands (m >>= f) []
-stands_then_at m f (settles q rest (Ok x) h t d a) each =
+halts_then_at : {X Y : Type 0} {A : List ℕ → Result X DecodeError → Type 0} {B : List ℕ → Type 0} (m : Step X) (f : X → Step Y) → Ends A B m (fresh []) → ((x : X) → Halts (f x) []) → Halts (m >>= f) []
+halts_then_at m f (settles q rest (Ok x) h t d a) each =
     let P : List ℕ → Type 0 = λ l. Takes m l (Ok x) in
-    stands_bind m f [] [] x (subst P (no_front q rest h) t) (each x)
-stands_then_at m f (settles q rest (Err e) h t d a) each = over q rest (Err e) h (takes_err m f q e t) (final_other e d)
-stands_then_at m f (runs_out q rest h b u) each =
-    let none : q ≡ [] = no_front q rest h in
-    stands_out m f [] (λ s e. u [] rest refl s (e ∙ sym none ∙ sym (append-nil q)) ∙ ap (λ l. outcome (Err ExhaustedInput) (advanced (length l) s)) none)
+    halts_bind m f [] [] x (subst P (no_beginning q rest h) t) (each x)
+halts_then_at m f (settles q rest (Err e) h t d a) each = over q rest (Err e) h (takes_err m f q e t) (final_other e d)
+halts_then_at m f (runs_out q rest h b u) each =
+    let none : q ≡ [] = no_beginning q rest h in
+    halts_out m f [] (λ s e. u [] rest refl s (e ∙ sym none ∙ sym (append-nil q)) ∙ ap (λ l. outcome (Err ExhaustedInput) (advanced (length l) s)) none)
 
-pub stands_then : {X Y : Type 0} {A : List ℕ → Result X DecodeError → Type 0} {B : List ℕ → Type 0} (m : Step X) (f : X → Step Y) → EndsWell A B m → ((x : X) → Stands (f x) []) → Stands (m >>= f) []
-stands_then m f e each = stands_then_at m f (e (fresh [])) each
+pub halts_then : {X Y : Type 0} {A : List ℕ → Result X DecodeError → Type 0} {B : List ℕ → Type 0} (m : Step X) (f : X → Step Y) → EndsWell A B m → ((x : X) → Halts (f x) []) → Halts (m >>= f) []
+halts_then m f e each = halts_then_at m f (e (fresh [])) each
 
 pub byte_there : (ws : List ℕ) (b : ℕ) (rest : List ℕ) → EndsBetween (1 ∷ ws) (b ∷ rest) → EndsBetween ws rest
 byte_there ws b rest k = by k.there k.missing k.pieces k.long
@@ -220,45 +220,45 @@ byte_there ws b rest k = by k.there k.missing k.pieces k.long
         let same : 1 ≡ v = same_head e in
         record { there = there; missing = missing; pieces = same_tail e; long = omega arith }
 
-abbrev pub StandsOn : {X Y : Type 0} → (X → Step Y) → List ℕ → Type 0
-StandsOn f ws = (x : _) (rest : List ℕ) → EndsBetween ws rest → Stands (f x) rest
+abbrev pub HaltsOn : {X Y : Type 0} → (X → Step Y) → List ℕ → Type 0
+HaltsOn f ws = (x : _) (rest : List ℕ) → EndsBetween ws rest → Halts (f x) rest
 
 -- a piece of a fixed width
-pub stands_piece : {X Y : Type 0} {A : List ℕ → Result X DecodeError → Type 0} {B : List ℕ → Type 0} (m : Step X) (f : X → Step Y) (w : ℕ) (ws q : List ℕ) (value : List ℕ → X) → EndsWell A B m → ((p : List ℕ) → length p ≡ w → Takes m p (Ok (value p))) → StandsOn f ws → EndsBetween (w ∷ ws) q → Stands (m >>= f) q
-stands_piece m f w ws q value e takes each b = by (first_piece w ws q b)
+pub halts_piece : {X Y : Type 0} {A : List ℕ → Result X DecodeError → Type 0} {B : List ℕ → Type 0} (m : Step X) (f : X → Step Y) (w : ℕ) (ws q : List ℕ) (value : List ℕ → X) → EndsWell A B m → ((p : List ℕ) → length p ≡ w → Takes m p (Ok (value p))) → HaltsOn f ws → EndsBetween (w ∷ ws) q → Halts (m >>= f) q
+halts_piece m f w ws q value e takes each b = by (first_piece w ws q b)
   where
-    by : FirstPiece w ws q → Stands (m >>= f) q
-    by (nothing none) = subst (Stands (m >>= f)) (sym none) (stands_then m f e (λ x. each x [] (none_there ws [] refl)))
-    by (piece p rest h long k) = subst (Stands (m >>= f)) (sym h) (stands_bind m f p rest (value p) (takes p long) (each (value p) rest k))
+    by : FirstPiece w ws q → Halts (m >>= f) q
+    by (nothing none) = subst (Halts (m >>= f)) (sym none) (halts_then m f e (λ x. each x [] (none_there ws [] refl)))
+    by (piece p rest h long k) = subst (Halts (m >>= f)) (sym h) (halts_bind m f p rest (value p) (takes p long) (each (value p) rest k))
 
-stands_disp : {Y : Type 0} (p : Prefixes) (modrm : ℕ) (sib : Option ℕ) (f : Raw → Step Y) (ws q : List ℕ) → StandsOn f ws → EndsBetween (displacement_width modrm sib ∷ ws) q → Stands (after_sib p modrm sib >>= f) q
-stands_disp p modrm sib f ws q each b =
+halts_disp : {Y : Type 0} (p : Prefixes) (modrm : ℕ) (sib : Option ℕ) (f : Raw → Step Y) (ws q : List ℕ) → HaltsOn f ws → EndsBetween (displacement_width modrm sib ∷ ws) q → Halts (after_sib p modrm sib >>= f) q
+halts_disp p modrm sib f ws q each b =
     let w : ℕ = displacement_width modrm sib in
-    stands_same (read_displacement w >>= λ d. f (raw_made p modrm sib d)) (after_sib p modrm sib >>= f) q
+    halts_same (read_displacement w >>= λ d. f (raw_made p modrm sib d)) (after_sib p modrm sib >>= f) q
     (λ s. bind_assoc (read_displacement w) (λ d. pure (raw_made p modrm sib d)) f s)
-    (stands_piece (read_displacement w) (λ d. f (raw_made p modrm sib d)) w ws q (signed_by w) (ends_disp w) (λ l long. takes_disp w l (long ∙ sym (width_only modrm sib))) (λ d rest k. each (raw_made p modrm sib d) rest k) b)
+    (halts_piece (read_displacement w) (λ d. f (raw_made p modrm sib d)) w ws q (signed_by w) (ends_disp w) (λ l long. takes_disp w l (long ∙ sym (width_only modrm sib))) (λ d rest k. each (raw_made p modrm sib d) rest k) b)
 
-pub stands_raw : {Y : Type 0} (p : Prefixes) (modrm : ℕ) (f : Raw → Step Y) (ws q : List ℕ) → StandsOn f ws → EndsBetween (raw_widths modrm q ++ ws) q → Stands (read_raw p modrm >>= f) q
+pub halts_raw : {Y : Type 0} (p : Prefixes) (modrm : ℕ) (f : Raw → Step Y) (ws q : List ℕ) → HaltsOn f ws → EndsBetween (raw_widths modrm q ++ ws) q → Halts (read_raw p modrm >>= f) q
 unfolding read_raw
-stands_raw {Y} p modrm f ws q each b =
+halts_raw {Y} p modrm f ws q each b =
     let go : Option ℕ → Step Y = λ sib. after_sib p modrm sib >>= f in
-    stands_same (read_sib modrm >>= go) ((read_sib modrm >>= after_sib p modrm) >>= f) q (λ s. bind_assoc (read_sib modrm) (after_sib p modrm) f s)
+    halts_same (read_sib modrm >>= go) ((read_sib modrm >>= after_sib p modrm) >>= f) q (λ s. bind_assoc (read_sib modrm) (after_sib p modrm) f s)
     (by_test (rm_field modrm == 4) refl q b)
   where
-    none_go : (sib : Option ℕ) → Stands (after_sib p modrm sib >>= f) []
-    none_go sib = stands_disp p modrm sib f ws [] each (none_there (displacement_width modrm sib ∷ ws) [] refl)
+    none_go : (sib : Option ℕ) → Halts (after_sib p modrm sib >>= f) []
+    none_go sib = halts_disp p modrm sib f ws [] each (none_there (displacement_width modrm sib ∷ ws) [] refl)
 
-    by_test : (test : Bool) → (rm_field modrm == 4) ≡ test → (q : List ℕ) → EndsBetween ((if test then 1 ∷ displacement_width modrm (first_byte q) ∷ [] else displacement_width modrm None ∷ []) ++ ws) q → Stands (read_sib modrm >>= (λ sib. after_sib p modrm sib >>= f)) q
-    by_test true e [] k = stands_then (read_sib modrm) (λ sib. after_sib p modrm sib >>= f) (ends_sib modrm) none_go
-    by_test true e (x ∷ rest) k = stands_bind (read_sib modrm) (λ sib. after_sib p modrm sib >>= f) (x ∷ []) rest (Some x) (takes_sib modrm (Some x) (sym e)) (stands_disp p modrm (Some x) f ws rest each (byte_there (displacement_width modrm (Some x) ∷ ws) x rest k))
-    by_test false e l k = stands_bind (read_sib modrm) (λ sib. after_sib p modrm sib >>= f) [] l None (takes_sib modrm None (sym e)) (stands_disp p modrm None f ws l each k)
+    by_test : (test : Bool) → (rm_field modrm == 4) ≡ test → (q : List ℕ) → EndsBetween ((if test then 1 ∷ displacement_width modrm (first_byte q) ∷ [] else displacement_width modrm None ∷ []) ++ ws) q → Halts (read_sib modrm >>= (λ sib. after_sib p modrm sib >>= f)) q
+    by_test true e [] k = halts_then (read_sib modrm) (λ sib. after_sib p modrm sib >>= f) (ends_sib modrm) none_go
+    by_test true e (x ∷ rest) k = halts_bind (read_sib modrm) (λ sib. after_sib p modrm sib >>= f) (x ∷ []) rest (Some x) (takes_sib modrm (Some x) (sym e)) (halts_disp p modrm (Some x) f ws rest each (byte_there (displacement_width modrm (Some x) ∷ ws) x rest k))
+    by_test false e l k = halts_bind (read_sib modrm) (λ sib. after_sib p modrm sib >>= f) [] l None (takes_sib modrm None (sym e)) (halts_disp p modrm None f ws l each k)
 
 -- what SIB and displacement measure
 pub raw_long : (p : Prefixes) (modrm : ℕ) (q rest : List ℕ) (raw : Raw) → SpellsRaw p modrm q raw → length q ≡ total (raw_widths modrm (q ++ rest))
 raw_long p modrm q rest raw r =
     let split : q ++ rest ≡ option_bytes r.sib ++ (r.disp ++ rest) = ap (λ l. l ++ rest) r.spelled ∙ append_assoc (option_bytes r.sib) r.disp rest in
-    ap length r.spelled ∙ length-append (option_bytes r.sib) r.disp ∙ ap (λ n. length (option_bytes r.sib) + n) r.disp_asked ∙ by (rm_field modrm == 4) r.sib r.sib_asked
-    ∙ ap total (sym (widths_at modrm r.sib (r.disp ++ rest) r.sib_asked)) ∙ ap (λ l. total (raw_widths modrm l)) (sym split)
+    ap length r.spelled ∙ length-append (option_bytes r.sib) r.disp ∙ ap (λ n. length (option_bytes r.sib) + n) r.disp_length ∙ by (rm_field modrm == 4) r.sib r.sib_present
+    ∙ ap total (sym (widths_at modrm r.sib (r.disp ++ rest) r.sib_present)) ∙ ap (λ l. total (raw_widths modrm l)) (sym split)
   where
     by : (test : Bool) (sib : Option ℕ) → is_some sib ≡ test → length (option_bytes sib) + displacement_width modrm sib ≡ total (if test then 1 ∷ displacement_width modrm sib ∷ [] else displacement_width modrm sib ∷ [])
     by true (Some b) e = omega arith

@@ -64,37 +64,37 @@ disp_short width s = by_width (width == 1) (width == 4)
 abbrev made : Prefixes → ℕ → Option ℕ → ℤ → Raw
 made p modrm sib disp = record { rex_b = has_b p; rex_x = has_x p; address_size = p.address_size; modrm = modrm; sib = sib; disp = disp }
 
-abbrev behind_sib : Prefixes → ℕ → Option ℕ → Step Raw
-behind_sib p modrm sib = read_displacement (displacement_width modrm sib) >>= λ disp. pure (made p modrm sib disp)
+abbrev rest_after_sib : Prefixes → ℕ → Option ℕ → Step Raw
+rest_after_sib p modrm sib = read_displacement (displacement_width modrm sib) >>= λ disp. pure (made p modrm sib disp)
 
 pub raw_short : (p : Prefixes) (modrm : ℕ) (s : State ℕ) → ShortAt (read_raw p modrm s) (advanced (sib_taken modrm s.left) s)
 unfolding read_raw next_byte
 raw_short p modrm s = go (rm_field modrm == 4)
   where
-    with_sib : (l : List ℕ) → ShortAt ((((λ t. byte_of l t) >>= λ sib. pure (Some sib)) >>= behind_sib p modrm) s) (advanced (length (take 1 l)) s)
+    with_sib : (l : List ℕ) → ShortAt ((((λ t. byte_of l t) >>= λ sib. pure (Some sib)) >>= rest_after_sib p modrm) s) (advanced (length (take 1 l)) s)
     with_sib [] = λ e h. let short = out {X = Raw} s e h in (short.0, short.1 ∙ sym (advanced_zero s))
     with_sib (x ∷ l) = map_short (read_displacement (displacement_width modrm (Some x))) (made p modrm (Some x)) (advanced 1 s) (disp_short (displacement_width modrm (Some x)) (advanced 1 s))
 
-    go : (b : Bool) → ShortAt (((if b then (next_byte >>= λ sib. pure (Some sib)) else pure None) >>= behind_sib p modrm) s) (advanced (if b then length (take 1 s.left) else 0) s)
+    go : (b : Bool) → ShortAt (((if b then (next_byte >>= λ sib. pure (Some sib)) else pure None) >>= rest_after_sib p modrm) s) (advanced (if b then length (take 1 s.left) else 0) s)
     go false = λ e h. let short = map_short (read_displacement (displacement_width modrm None)) (made p modrm None) s (disp_short (displacement_width modrm None) s) e h in (short.0, short.1 ∙ sym (advanced_zero s))
     go true = with_sib s.left
 
 pub raw_exactly : (p : Prefixes) (modrm : ℕ) (s : State ℕ) (bytes rest : List ℕ) (raw : Raw) → s.left ≡ bytes ++ rest → SpellsRaw p modrm bytes raw → read_raw p modrm s ≡ outcome (Ok raw) (advanced (length bytes) s)
-raw_exactly p modrm s bytes rest raw front spelled = (takes_raw p modrm bytes raw spelled).takes rest s front
+raw_exactly p modrm s bytes rest raw beginning spelled = (takes_raw p modrm bytes raw spelled).takes rest s beginning
 
 raw_read : {B : List ℕ → Type 0} (p : Prefixes) (modrm : ℕ) (s : State ℕ) (raw : Raw) → (read_raw p modrm s).answer ≡ Ok raw → Ends (Only (SpellsRaw p modrm)) B (read_raw p modrm) s → IsReadRaw p modrm raw s (read_raw p modrm s).after
-raw_read p modrm s raw h (settles bytes rest r front takes final only) =
-    let took : read_raw p modrm s ≡ outcome r (advanced (length bytes) s) = takes.takes rest s front in
+raw_read p modrm s raw h (settles bytes rest r beginning takes final only) =
+    let took : read_raw p modrm s ≡ outcome r (advanced (length bytes) s) = takes.takes rest s beginning in
     let answer : r ≡ Ok raw = sym (ap (λ o. o.answer) took) ∙ h in
     record {
       bytes = bytes;
       rest = rest;
-      front = front;
+      beginning = beginning;
       spelled = subst (λ q. Only (SpellsRaw p modrm) bytes q) answer only;
       taken = ap (λ o. o.after) took;
     }
-raw_read p modrm s raw h (runs_out bytes rest front between ends) =
-    let took : read_raw p modrm s ≡ outcome (Err ExhaustedInput) (advanced (length bytes) s) = ends rest [] (sym (append-nil rest)) s front in
+raw_read p modrm s raw h (runs_out bytes rest beginning between ends) =
+    let took : read_raw p modrm s ≡ outcome (Err ExhaustedInput) (advanced (length bytes) s) = ends rest [] (sym (append-nil rest)) s beginning in
     absurd (apart (sym (ap (λ o. o.answer) took) ∙ h))
   where
     apart : ◌≡◌ {A = Result Raw DecodeError} (Err ExhaustedInput) (Ok raw) → ⊥

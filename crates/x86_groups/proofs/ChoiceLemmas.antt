@@ -8,7 +8,7 @@ use Rattle.x86_forms.specs.declared.Form.{Form}
 use Rattle.x86_forms.specs.declared.Form.TheVariants as form
 use Rattle.x86_fields.specs.ModRM.{reg_field, rm_field, is_memory}
 use Rattle.x86_opcodes.specs.Names.{LFENCE, MFENCE, SFENCE}
-use Rattle.x86_groups.specs.Vocabulary.{bare, bad_operand}
+use Rattle.x86_groups.specs.Vocabulary.{operandless, bad_operand}
 use Rattle.x86_groups.specs.Choices.{NamesFence, lfence, mfence, sfence, IsFenceWithRm}
 use Rattle.x86_groups.specs.Fences.{fence, plain_0fae, plan_0fae}
 use Rattle.x86_groups.specs.Groups.{two_byte_plan, group_form_plan, group_plan, group_record}
@@ -37,7 +37,7 @@ fence_strict : (m o : ℕ) → rm_field m ≢ 0 → fence true o m ≡ bad_opera
 unfolding fence
 fence_strict m o d = rw (tests_other (rm_field m) 0 d) refl
 
-fence_default : (m o : ℕ) → fence false o m ≡ bare o
+fence_default : (m o : ℕ) → fence false o m ≡ operandless o
 unfolding fence
 fence_default m o = refl
 
@@ -114,7 +114,7 @@ same_modrm row p = refl
 pub same_elsewhere : (row : TableRow) (p : Prefixes) (m : ℕ) → (group_plan row p m true ≡ group_plan row p m false) ⊎ IsFenceWithRm row.form p m
 same_elsewhere row p m = form_other row.form row.opcode p m
 
-pub fence_by_default : (row : TableRow) (p : Prefixes) (m : ℕ) (h : IsFenceWithRm row.form p m) → group_plan row p m false ≡ bare h.opcode
+pub fence_by_default : (row : TableRow) (p : Prefixes) (m : ℕ) (h : IsFenceWithRm row.form p m) → group_plan row p m false ≡ operandless h.opcode
 fence_by_default row p m h = form_fence false row.form row.opcode p m h ∙ fence_default m h.opcode
 
 pub fence_strictly : (row : TableRow) (p : Prefixes) (m : ℕ) → IsFenceWithRm row.form p m → group_plan row p m true ≡ bad_operand

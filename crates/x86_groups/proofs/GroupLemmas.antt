@@ -41,13 +41,13 @@ use Rattle.x86_groups.specs.Floats.{plan_d8, memory_d9, constant_d9, function_d9
 use Rattle.x86_forms.specs.declared.Form.TheVariants as form
 
 -- 8F with a reg other than 0
-abbrev pub has_wait : Form → ℕ → Bool
-has_wait form.ModRM_0x8f m = not (reg_field m == 0)
-has_wait f m = false
+abbrev pub is_left_out : Form → ℕ → Bool
+is_left_out form.ModRM_0x8f m = not (reg_field m == 0)
+is_left_out f m = false
 
--- what may refuse as left out: that, and what is no group
-abbrev may_wait : Form → ℕ → Bool
-may_wait f m = not (is_group f) || has_wait f m
+-- what may refuse as left out: that, and each plain form
+abbrev may_be_left_out : Form → ℕ → Bool
+may_be_left_out f m = not (is_group f) || is_left_out f m
 
 none_passes : passes true left_out ≡ true
 unfolding passes narrow
@@ -94,8 +94,8 @@ plan_0fae_passes : (strict : Bool) (p : Prefixes) (m : ℕ) → passes false (pl
 unfolding plan_0fae
 plan_0fae_passes strict p m = search (rules, f2_0fae_passes, f3_0fae_passes, plain_0fae_passes, small_steps) depth 20
 
--- a line for each group; what the last one covers is no group
-group_passes : (f : Form) (o : ℕ) (strict : Bool) (p : Prefixes) (m : ℕ) → passes (may_wait f m) (group_form_plan f o strict p m) ≡ true
+-- a line for each group; the last one covers the plain forms
+group_passes : (f : Form) (o : ℕ) (strict : Bool) (p : Prefixes) (m : ℕ) → passes (may_be_left_out f m) (group_form_plan f o strict p m) ≡ true
 unfolding group_form_plan two_byte_plan three_byte_plan plan_80 plan_81 plan_83 plan_c0 plan_c1 plan_d0 plan_d1 plan_d2 plan_d3 plan_f6 plan_f7 plan_8f plan_c6 plan_c7 plan_fe plan_ff plan_0f00 memory_0f01 register_0f01_0 register_0f01_1 register_0f01_2 register_0f01_3 register_0f01_5 register_0f01_7 register_0f01 plan_0f01 plan_0f0d plan_0f12 plan_0f16 plan_0f18 plan_f30f1e plan_0fba operand_size_0fc7 f3_0fc7 plain_0fc7 plan_0fc7 plan_0f71 plan_0f72 plan_0f73 plan_rq_cq plan_cq_rq plan_rq_dq plan_dq_rq plan_660f78 plan_f20f78 plan_f30f38d8 plan_f30f38dc plan_f30f38dd plan_f30f38de plan_f30f38df plan_f30f38fa plan_f30f38fb plan_f30f3af0 plan_0f0f plan_d8 memory_d9 constant_d9 function_d9 register_d9 plan_d9 register_da plan_da memory_db control_db register_db plan_db register_dc plan_dc memory_dd register_dd plan_dd register_de plan_de memory_df register_df plan_df
 group_passes form.ModRM_0x80 o strict p m = search (rules, small_steps) depth 20
 group_passes form.ModRM_0x81 o strict p m = search (rules, small_steps) depth 20
@@ -153,11 +153,11 @@ group_passes _ o strict p m = none_passes
 
 pub group_small : (strict : Bool) (row : TableRow) (p : Prefixes) (m : ℕ) → ((group_record strict row p).plan m).size ≤ 64
 unfolding group_record
-group_small strict row p m = at_most_64 (may_wait row.form m) (group_form_plan row.form row.opcode strict p m) (group_passes row.form row.opcode strict p m)
+group_small strict row p m = at_most_64 (may_be_left_out row.form m) (group_form_plan row.form row.opcode strict p m) (group_passes row.form row.opcode strict p m)
 
 pub group_narrow : (strict : Bool) (row : TableRow) (p : Prefixes) (m : ℕ) → immediates_width ((group_record strict row p).plan m).encodings ≤ 8
 unfolding group_record
-group_narrow strict row p m = at_most_8 (may_wait row.form m) (group_form_plan row.form row.opcode strict p m) (group_passes row.form row.opcode strict p m)
+group_narrow strict row p m = at_most_8 (may_be_left_out row.form m) (group_form_plan row.form row.opcode strict p m) (group_passes row.form row.opcode strict p m)
 
 opcode_fault : (b : Bool) → (if b then None else Some BadOpcode) ≢ Some Incomplete
 opcode_fault true e = absurd cc
@@ -180,37 +180,37 @@ group_waits : (group wait : Bool) → group ≡ true → (not group || wait) ≡
 group_waits true wait is h = h
 group_waits false wait is h = absurd (true≢false (sym is))
 
-gap_waits : (strict : Bool) (row : TableRow) (p : Prefixes) (m : ℕ) (w : Moment) → is_group row.form ≡ true → ((group_record strict row p).plan m).verdict ≡ Refuses Incomplete w → has_wait row.form m ≡ true
+gap_waits : (strict : Bool) (row : TableRow) (p : Prefixes) (m : ℕ) (w : Moment) → is_group row.form ≡ true → ((group_record strict row p).plan m).verdict ≡ Refuses Incomplete w → is_left_out row.form m ≡ true
 unfolding group_record
 gap_waits strict row p m w group e =
-    group_waits (is_group row.form) (has_wait row.form m) group
-    (waits (may_wait row.form m) (group_form_plan row.form row.opcode strict p m) w (group_passes row.form row.opcode strict p m) e)
+    group_waits (is_group row.form) (is_left_out row.form m) group
+    (waits (may_be_left_out row.form m) (group_form_plan row.form row.opcode strict p m) w (group_passes row.form row.opcode strict p m) e)
 
-wait_form : (f : Form) (m : ℕ) → has_wait f m ≡ true → f ≡ form.ModRM_0x8f
-wait_form form.ModRM_0x8f m h = refl
-wait_form _ m h = absurd (true≢false (sym h))
+left_out_form : (f : Form) (m : ℕ) → is_left_out f m ≡ true → f ≡ form.ModRM_0x8f
+left_out_form form.ModRM_0x8f m h = refl
+left_out_form _ m h = absurd (true≢false (sym h))
 
 pub gap_form : (strict : Bool) (row : TableRow) (p : Prefixes) (m : ℕ) (w : Moment) → is_group row.form ≡ true → ((group_record strict row p).plan m).verdict ≡ Refuses Incomplete w → row.form ≡ form.ModRM_0x8f
-gap_form strict row p m w group e = wait_form row.form m (gap_waits strict row p m w group e)
+gap_form strict row p m w group e = left_out_form row.form m (gap_waits strict row p m w group e)
 
 not_zero : (n : ℕ) → not (n == 0) ≡ true → n ≢ 0
 not_zero n h e = grind (arith, nat_tests)
 
-wait_reg : (f : Form) (m : ℕ) → has_wait f m ≡ true → reg_field m ≢ 0
-wait_reg form.ModRM_0x8f m h = not_zero (reg_field m) h
-wait_reg _ m h = absurd (true≢false (sym h))
+left_out_reg : (f : Form) (m : ℕ) → is_left_out f m ≡ true → reg_field m ≢ 0
+left_out_reg form.ModRM_0x8f m h = not_zero (reg_field m) h
+left_out_reg _ m h = absurd (true≢false (sym h))
 
 pub gap_reg : (strict : Bool) (row : TableRow) (p : Prefixes) (m : ℕ) (w : Moment) → is_group row.form ≡ true → ((group_record strict row p).plan m).verdict ≡ Refuses Incomplete w → reg_field m ≢ 0
-gap_reg strict row p m w group e = wait_reg row.form m (gap_waits strict row p m w group e)
+gap_reg strict row p m w group e = left_out_reg row.form m (gap_waits strict row p m w group e)
 
-wait_moment : (f : Form) (o : ℕ) (strict : Bool) (p : Prefixes) (m : ℕ) (w : Moment) → has_wait f m ≡ true → (group_form_plan f o strict p m).verdict ≡ Refuses Incomplete w → w ≡ AfterAddress
+left_out_moment : (f : Form) (o : ℕ) (strict : Bool) (p : Prefixes) (m : ℕ) (w : Moment) → is_left_out f m ≡ true → (group_form_plan f o strict p m).verdict ≡ Refuses Incomplete w → w ≡ AfterAddress
 unfolding group_form_plan
-wait_moment form.ModRM_0x8f o strict p m w h e = plan_8f_moment p m w e
-wait_moment _ o strict p m w h e = absurd (true≢false (sym h))
+left_out_moment form.ModRM_0x8f o strict p m w h e = plan_8f_moment p m w e
+left_out_moment _ o strict p m w h e = absurd (true≢false (sym h))
 
 pub gap_moment : (strict : Bool) (row : TableRow) (p : Prefixes) (m : ℕ) (w : Moment) → is_group row.form ≡ true → ((group_record strict row p).plan m).verdict ≡ Refuses Incomplete w → w ≡ AfterAddress
 unfolding group_record
-gap_moment strict row p m w group e = wait_moment row.form row.opcode strict p m w (gap_waits strict row p m w group e) e
+gap_moment strict row p m w group e = left_out_moment row.form row.opcode strict p m w (gap_waits strict row p m w group e) e
 
 -- a row of a group is left out where it is 8F alone
 pub group_left_out : (strict : Bool) (row : TableRow) (p : Prefixes) (s : State ℕ) → is_group row.form ≡ true → (record_step (group_record strict row p) p s).answer ≡ Err IncompleteDecoder → row.form ≡ form.ModRM_0x8f

@@ -1,4 +1,4 @@
--- The lemmas on the plans of the groups, on what they ask, and on the two choices.
+-- The lemmas on the plans of the groups, on what the groups have, and on the two choices.
 pub mod ChoiceLemmas
 pub mod GroupLemmas
 mod AskLemmas

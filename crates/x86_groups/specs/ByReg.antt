@@ -11,8 +11,8 @@ use Rattle.x86_operands.specs.declared.encodings.RegGroup.{RegGroup}
 use Rattle.x86_operands.specs.declared.encodings.RegGroup.TheVariants as group
 use Rattle.x86_operands.specs.declared.encodings.FormEncoding.{FormEncoding}
 use Rattle.x86_opcodes.specs.Names.{CALLF, JMPF}
-use Rattle.x86_operands.specs.declared.encodings.Behind.{Behind}
-use Rattle.x86_operands.specs.declared.encodings.Behind.TheVariants as behind
+use Rattle.x86_operands.specs.declared.encodings.AfterOpcode.{AfterOpcode}
+use Rattle.x86_operands.specs.declared.encodings.AfterOpcode.TheVariants as after_opcode
 use Rattle.x86_operands.specs.declared.plans.Fault.TheVariants.{BadOpcode}
 use Rattle.x86_operands.specs.declared.plans.Moment.TheVariants.{AfterAddress}
 use Rattle.x86_operands.specs.Plans.{refuses, memory_only}
@@ -39,9 +39,9 @@ reg_plan group.F7 p m = plan_f7 p m
 reg_plan group.FE p m = plan_fe m
 reg_plan group.FF p m = plan_ff p m
 
--- a line of the table is the plan of the group, unless it leaves it to a plan of its own
+-- a line of the table is the plan of the group, unless it leaves it to a separate plan
 abbrev pub Chooses : RegGroup → ℕ → ℕ → FormEncoding → Type 0
-Chooses g m o e = IsTrue (is_described e.behind) → (p : Prefixes) → plan_of e 0 o p m ≡ reg_plan g p m
+Chooses g m o e = IsTrue (is_described e.after_opcode) → (p : Prefixes) → plan_of e 0 o p m ≡ reg_plan g p m
 
 -- FF with reg 3 and 5, and 7, which is none
 abbrev pub far_plan : ℕ → Plan
@@ -59,13 +59,13 @@ other_plan g p m = refuses BadOpcode AfterAddress
 
 -- where no line describes what reg chooses, the group has one of these plans
 abbrev pub LeavesOther : RegGroup → ℕ → FormEncoding → Type 0
-LeavesOther g m e = is_described e.behind ≡ false → (p : Prefixes) → reg_plan g p m ≡ other_plan g p m
+LeavesOther g m e = is_described e.after_opcode ≡ false → (p : Prefixes) → reg_plan g p m ≡ other_plan g p m
 
 -- a line of a group has a ModRM byte of either form
-abbrev pub has_either_form : Behind → Bool
-has_either_form behind.EitherForm = true
+abbrev pub has_either_form : AfterOpcode → Bool
+has_either_form after_opcode.EitherForm = true
 has_either_form b = false
 
--- what a group reads behind its opcode byte: ModRM, and what its line asks there
+-- what a group reads after its opcode byte: ModRM, and what its line has there
 abbrev pub reg_step : RegGroup → Prefixes → Step Reading
 reg_step g p = read_modrm EitherForm >>= λ m. read_plan (reg_plan g p m) p m

@@ -17,7 +17,7 @@ use Rattle.x86_operands.specs.Plans.{reads, size_by, rm_number}
 use Rattle.x86_operands.specs.declared.plans.RegisterSlot.TheVariants as reg_slot
 use Rattle.x86_opcodes.specs.Names.{CLWB, CLFLUSH, CLFLUSHOPT, TPAUSE, UMWAIT, PTWRITE, RDFSBASE, RDGSBASE, WRFSBASE, WRGSBASE, INCSSP, UMONITOR, CLRSSBSY, FXSAVE, XSAVE, FXRSTOR, XRSTOR, LDMXCSR, STMXCSR, XSAVEOPT, LFENCE, MFENCE, SFENCE}
 use Rattle.x86_fields.specs.Prefixes.{operand_size}
-use Rattle.x86_groups.specs.Vocabulary.{bad_opcode, bad_operand, bare, named_by_reg, on_memory, on_register}
+use Rattle.x86_groups.specs.Vocabulary.{bad_opcode, bad_operand, operandless, named_by_reg, on_memory, on_register}
 
 -- 66 alone: the answer's prefixes show 66 cleared
 abbrev pub clears_operand_size : Plan → Plan
@@ -62,7 +62,7 @@ f3_0fae p m =
 
 -- a fence: under the strict choice a fence whose rm isn't 0 is refused
 unfoldable pub fence : Bool → ℕ → ℕ → Plan
-fence strict opcode m = if strict && not (rm_field m == 0) then bad_operand else bare opcode
+fence strict opcode m = if strict && not (rm_field m == 0) then bad_operand else operandless opcode
 
 -- the size of a saved state is the processor's choice
 abbrev pub state_name : ℕ → ℕ

@@ -12,7 +12,7 @@ use Rattle.x86_operands.specs.Operands.{undecided_size}
 use Rattle.x86_operands.specs.Plans.{reads}
 use Rattle.x86_operands.specs.declared.plans.RegisterSlot.TheVariants as reg_slot
 use Rattle.x86_opcodes.specs.Names.{FADD, FMUL, FCOM, FCOMP, FSUB, FSUBR, FDIV, FDIVR, FIADD, FIMUL, FICOM, FICOMP, FISUB, FISUBR, FIDIV, FIDIVR, FLD, FST, FSTP, FLDENV, FLDCW, FNSTENV, FNSTCW, FCHS, FABS, FTST, FXAM, FLD1, FLDL2T, FLDL2E, FLDPI, FLDLG2, FLDLN2, FLDZ, F2XM1, FYL2X, FPTAN, FPATAN, FXTRACT, FPREM, FPREM1, FDECSTP, FINCSTP, FYL2XP1, FSQRT, FSINCOS, FSIN, FRNDINT, FSCALE, FCOS, FXCH, FNOP, FSTPNCE, FCMOVB, FCMOVE, FCMOVBE, FCMOVU, FUCOM, FUCOMPP, FUCOMP, FILD, FISTTP, FIST, FISTP, FENI8087_NOP, FDISI8087_NOP, FNCLEX, FNINIT, FSETPM287_NOP, FCMOVNB, FCMOVNE, FCMOVNBE, FCMOVNU, FUCOMI, FCOMI, FRSTOR, FNSAVE, FNSTSW, FFREE, FADDP, FMULP, FCOMPP, FSUBRP, FSUBP, FDIVRP, FDIVP, FBLD, FBSTP, FFREEP, FUCOMIP, FCOMIP}
-use Rattle.x86_groups.specs.Vocabulary.{bad_opcode, bad_operand, bare, name_at, named_by_reg, on_memory, on_register}
+use Rattle.x86_groups.specs.Vocabulary.{bad_opcode, bad_operand, operandless, name_at, named_by_reg, on_memory, on_register}
 
 -- st(0) in slot Reg, and st(rm) in slot Rm, which no B extends
 abbrev pub st0 : OperandEncoding
@@ -67,22 +67,22 @@ memory_d9 m =
 -- E0 to EF
 unfoldable pub constant_d9 : ℕ → Plan
 constant_d9 m =
-    if m == 0xe0 then bare FCHS
-    else (if m == 0xe1 then bare FABS
-    else (if m == 0xe4 then bare FTST
-    else (if m == 0xe5 then bare FXAM
-    else (if nat_le 0xe8 m && nat_le m 0xee then bare (name_at (FLD1 ∷ FLDL2T ∷ FLDL2E ∷ FLDPI ∷ FLDLG2 ∷ FLDLN2 ∷ FLDZ ∷ []) (m - 0xe8))
+    if m == 0xe0 then operandless FCHS
+    else (if m == 0xe1 then operandless FABS
+    else (if m == 0xe4 then operandless FTST
+    else (if m == 0xe5 then operandless FXAM
+    else (if nat_le 0xe8 m && nat_le m 0xee then operandless (name_at (FLD1 ∷ FLDL2T ∷ FLDL2E ∷ FLDPI ∷ FLDLG2 ∷ FLDLN2 ∷ FLDZ ∷ []) (m - 0xe8))
     else bad_opcode))))
 
 -- F0 to FF
 unfoldable pub function_d9 : ℕ → Plan
-function_d9 m = bare (name_at (F2XM1 ∷ FYL2X ∷ FPTAN ∷ FPATAN ∷ FXTRACT ∷ FPREM1 ∷ FDECSTP ∷ FINCSTP ∷ FPREM ∷ FYL2XP1 ∷ FSQRT ∷ FSINCOS ∷ FRNDINT ∷ FSCALE ∷ FSIN ∷ FCOS ∷ []) (m - 0xf0))
+function_d9 m = operandless (name_at (F2XM1 ∷ FYL2X ∷ FPTAN ∷ FPATAN ∷ FXTRACT ∷ FPREM1 ∷ FDECSTP ∷ FINCSTP ∷ FPREM ∷ FYL2XP1 ∷ FSQRT ∷ FSINCOS ∷ FRNDINT ∷ FSCALE ∷ FSIN ∷ FCOS ∷ []) (m - 0xf0))
 
 unfoldable pub register_d9 : ℕ → Plan
 register_d9 m =
     if reg_field m == 0 then into_st0 FLD m
     else (if reg_field m == 1 then into_st0 FXCH m
-    else (if reg_field m == 2 then (if m == 0xd0 then bare FNOP else bad_opcode)
+    else (if reg_field m == 2 then (if m == 0xd0 then operandless FNOP else bad_opcode)
     else (if reg_field m == 3 then into_st_rm FSTPNCE m
     else (if nat_lt m 0xf0 then constant_d9 m
     else function_d9 m))))
@@ -98,7 +98,7 @@ register_da m =
     else (if reg_field m == 1 then into_st0 FCMOVE m
     else (if reg_field m == 2 then into_st0 FCMOVBE m
     else (if reg_field m == 3 then into_st0 FCMOVU m
-    else (if m == 0xe9 then bare FUCOMPP
+    else (if m == 0xe9 then operandless FUCOMPP
     else bad_opcode))))
 
 unfoldable pub plan_da : ℕ → Plan
@@ -119,7 +119,7 @@ memory_db m =
 -- E0 to E7
 unfoldable pub control_db : ℕ → Plan
 control_db m =
-    if nat_le 0xe0 m && nat_le m 0xe4 then bare (name_at (FENI8087_NOP ∷ FDISI8087_NOP ∷ FNCLEX ∷ FNINIT ∷ FSETPM287_NOP ∷ []) (m - 0xe0))
+    if nat_le 0xe0 m && nat_le m 0xe4 then operandless (name_at (FENI8087_NOP ∷ FDISI8087_NOP ∷ FNCLEX ∷ FNINIT ∷ FSETPM287_NOP ∷ []) (m - 0xe0))
     else bad_opcode
 
 unfoldable pub register_db : ℕ → Plan
@@ -185,7 +185,7 @@ register_de m =
     if reg_field m == 0 then into_st_rm FADDP m
     else (if reg_field m == 1 then into_st_rm FMULP m
     else (if reg_field m == 2 then into_st0 FCOMP m
-    else (if reg_field m == 3 then (if m == 0xd9 then bare FCOMPP else bad_operand)
+    else (if reg_field m == 3 then (if m == 0xd9 then operandless FCOMPP else bad_operand)
     else (if reg_field m == 4 then into_st_rm FSUBRP m
     else (if reg_field m == 5 then into_st_rm FSUBP m
     else (if reg_field m == 6 then into_st_rm FDIVRP m

@@ -11,7 +11,7 @@ use Rattle.x86_operands.specs.declared.plans.Plan.{Plan}
 use Rattle.x86_fields.specs.ModRM.{reg_field, is_memory}
 use Rattle.x86_operands.specs.Plans.{reads, memory_only, size_by}
 use Rattle.x86_opcodes.specs.Names.{PREFETCHW, NOP, MOVLPS, MOVHLPS, MOVHPS, MOVLHPS, PREFETCHNTA, PREFETCH0, PREFETCH1, PREFETCH2, ENDBR64, ENDBR32}
-use Rattle.x86_groups.specs.Vocabulary.{bare, named_by_reg, on_memory}
+use Rattle.x86_groups.specs.Vocabulary.{operandless, named_by_reg, on_memory}
 
 unfoldable pub plan_0f0d : ℕ → Plan
 plan_0f0d m = memory_only m (on_memory (if reg_field m == 1 then PREFETCHW else NOP) 64)
@@ -31,6 +31,6 @@ plan_0f18 p m = reads (if is_memory m then prefetch_name m else NOP) (One (E (v_
 -- FA and FB are whole ModRM bytes
 unfoldable pub plan_f30f1e : Prefixes → ℕ → Plan
 plan_f30f1e p m =
-    if m == 0xfa then bare ENDBR64
-    else (if m == 0xfb then bare ENDBR32
+    if m == 0xfa then operandless ENDBR64
+    else (if m == 0xfb then operandless ENDBR32
     else reads NOP (Two (E (v_class p)) (G (v_class p))) (width_of (v_class p)))

@@ -16,7 +16,7 @@ use Rattle.x86_operands.specs.Plans.{reads, size_by}
 use Rattle.x86_operands.specs.declared.plans.RegisterSlot.TheVariants as reg_slot
 use Rattle.x86_opcodes.specs.Names.{SLDT, STR, LLDT, LTR, VERR, VERW, SGDT, SIDT, LGDT, LIDT, SMSW, RSTORSSP, LMSW, INVLPG, ENCLV, VMCALL, VMLAUNCH, VMRESUME, VMXOFF, PCONFIG, TDCALL, SEAMRET, SEAMOPS, SEAMCALL, MONITOR, MWAIT, CLAC, STAC, ENCLS, XGETBV, XSETBV, VMFUNC, XEND, XTEST, ENCLU, VMRUN, VMMCALL, VMLOAD, VMSAVE, STGI, CLGI, SKINIT, INVLPGA, XSUSLDTRK, SETSSBSY, XRESLDTRK, SAVEPREVSSP, UIRET, TESTUI, STUI, CLUI, RDPKRU, WRPKRU, RMPADJUST, RMPUPDATE, INVLPGB, PSMASH, PVALIDATE, TLBSYNC, SWAPGS, RDTSCP, MONITORX, MWAITX, CLZERO, RDPRU}
 use Rattle.x86_fields.specs.Prefixes.{operand_size}
-use Rattle.x86_groups.specs.Vocabulary.{bad_opcode, bad_operand, bare, has_f2_f3_or_66, has_f2_or_f3, name_at, named_by_reg, on_memory}
+use Rattle.x86_groups.specs.Vocabulary.{bad_opcode, bad_operand, operandless, has_f2_f3_or_66, has_f2_or_f3, name_at, named_by_reg, on_memory}
 
 unfoldable pub plan_0f00 : ℕ → Plan
 plan_0f00 m =
@@ -41,25 +41,25 @@ memory_0f01 p m =
 unfoldable pub register_0f01_0 : Prefixes → ℕ → Plan
 register_0f01_0 p m =
     if has_f2_f3_or_66 p then bad_operand
-    else (if nat_lt (rm_field m) 6 then bare (name_at (ENCLV ∷ VMCALL ∷ VMLAUNCH ∷ VMRESUME ∷ VMXOFF ∷ PCONFIG ∷ []) (rm_field m))
+    else (if nat_lt (rm_field m) 6 then operandless (name_at (ENCLV ∷ VMCALL ∷ VMLAUNCH ∷ VMRESUME ∷ VMXOFF ∷ PCONFIG ∷ []) (rm_field m))
     else bad_opcode)
 
 -- under 66
 abbrev pub trusted_domain : ℕ → Plan
 trusted_domain m =
-    if rm_field m == 4 then bare TDCALL
-    else (if rm_field m == 5 then bare SEAMRET
-    else (if rm_field m == 6 then bare SEAMOPS
-    else (if rm_field m == 7 then bare SEAMCALL
+    if rm_field m == 4 then operandless TDCALL
+    else (if rm_field m == 5 then operandless SEAMRET
+    else (if rm_field m == 6 then operandless SEAMOPS
+    else (if rm_field m == 7 then operandless SEAMCALL
     else bad_opcode)))
 
 abbrev pub monitoring : ℕ → Plan
 monitoring m =
     if rm_field m == 0 then reads MONITOR Zero 1
-    else (if rm_field m == 1 then bare MWAIT
-    else (if rm_field m == 2 then bare CLAC
-    else (if rm_field m == 3 then bare STAC
-    else (if rm_field m == 7 then bare ENCLS
+    else (if rm_field m == 1 then operandless MWAIT
+    else (if rm_field m == 2 then operandless CLAC
+    else (if rm_field m == 3 then operandless STAC
+    else (if rm_field m == 7 then operandless ENCLS
     else bad_opcode))))
 
 unfoldable pub register_0f01_1 : Prefixes → ℕ → Plan
@@ -71,12 +71,12 @@ register_0f01_1 p m =
 unfoldable pub register_0f01_2 : Prefixes → ℕ → Plan
 register_0f01_2 p m =
     if has_f2_f3_or_66 p then bad_operand
-    else (if rm_field m == 0 then bare XGETBV
-    else (if rm_field m == 1 then bare XSETBV
-    else (if rm_field m == 4 then bare VMFUNC
-    else (if rm_field m == 5 then bare XEND
-    else (if rm_field m == 6 then bare XTEST
-    else (if rm_field m == 7 then bare ENCLU
+    else (if rm_field m == 0 then operandless XGETBV
+    else (if rm_field m == 1 then operandless XSETBV
+    else (if rm_field m == 4 then operandless VMFUNC
+    else (if rm_field m == 5 then operandless XEND
+    else (if rm_field m == 6 then operandless XTEST
+    else (if rm_field m == 7 then operandless ENCLU
     else bad_opcode))))))
 
 -- registers that a name implies
@@ -95,45 +95,45 @@ edx_at slot = Fixed slot (reg_spec 2 D)
 unfoldable pub register_0f01_3 : ℕ → Plan
 register_0f01_3 m =
     if rm_field m == 0 then reads VMRUN (One rax) 0
-    else (if rm_field m == 1 then bare VMMCALL
+    else (if rm_field m == 1 then operandless VMMCALL
     else (if rm_field m == 2 then reads VMLOAD (One rax) 0
     else (if rm_field m == 3 then reads VMSAVE (One rax) 0
-    else (if rm_field m == 4 then bare STGI
-    else (if rm_field m == 5 then bare CLGI
+    else (if rm_field m == 4 then operandless STGI
+    else (if rm_field m == 5 then operandless CLGI
     else (if rm_field m == 6 then reads SKINIT (One eax) 0
     else reads INVLPGA (Two rax (ecx_at reg_slot.Rm)) 0))))))
 
 unfoldable pub register_0f01_5 : Prefixes → ℕ → Plan
 register_0f01_5 p m =
-    if rm_field m == 0 then (if repnz p then bare XSUSLDTRK else (if rep p then bare SETSSBSY else bad_opcode))
-    else (if rm_field m == 1 then (if repnz p then bare XRESLDTRK else bad_opcode)
-    else (if rm_field m == 2 then (if rep p then bare SAVEPREVSSP else bad_opcode)
-    else (if rm_field m == 4 then (if rep p then bare UIRET else bad_opcode)
-    else (if rm_field m == 5 then (if rep p then bare TESTUI else bad_opcode)
-    else (if rm_field m == 6 then (if rep p then bare CLUI else (if has_f2_f3_or_66 p then bad_opcode else bare RDPKRU))
-    else (if rm_field m == 7 then (if rep p then bare STUI else (if has_f2_f3_or_66 p then bad_opcode else bare WRPKRU))
+    if rm_field m == 0 then (if repnz p then operandless XSUSLDTRK else (if rep p then operandless SETSSBSY else bad_opcode))
+    else (if rm_field m == 1 then (if repnz p then operandless XRESLDTRK else bad_opcode)
+    else (if rm_field m == 2 then (if rep p then operandless SAVEPREVSSP else bad_opcode)
+    else (if rm_field m == 4 then (if rep p then operandless UIRET else bad_opcode)
+    else (if rm_field m == 5 then (if rep p then operandless TESTUI else bad_opcode)
+    else (if rm_field m == 6 then (if rep p then operandless CLUI else (if has_f2_f3_or_66 p then bad_opcode else operandless RDPKRU))
+    else (if rm_field m == 7 then (if rep p then operandless STUI else (if has_f2_f3_or_66 p then bad_opcode else operandless WRPKRU))
     else bad_opcode))))))
 
 -- rm 6 and 7 of /7 without 66
 abbrev pub invalidates_pages : Prefixes → Plan
 invalidates_pages p =
-    if rep p then bare RMPADJUST
-    else (if repnz p then bare RMPUPDATE
+    if rep p then operandless RMPADJUST
+    else (if repnz p then operandless RMPUPDATE
     else reads INVLPGB (Three rax (edx_at reg_slot.Rm) (ecx_at reg_slot.Third)) 0)
 
 abbrev pub synchronizes_pages : Prefixes → Plan
 synchronizes_pages p =
-    if rep p then bare PSMASH
-    else (if repnz p then bare PVALIDATE
-    else bare TLBSYNC)
+    if rep p then operandless PSMASH
+    else (if repnz p then operandless PVALIDATE
+    else operandless TLBSYNC)
 
 unfoldable pub register_0f01_7 : Prefixes → ℕ → Plan
 register_0f01_7 p m =
-    if rm_field m == 0 then bare SWAPGS
-    else (if rm_field m == 1 then bare RDTSCP
-    else (if rm_field m == 2 then bare MONITORX
-    else (if rm_field m == 3 then bare MWAITX
-    else (if rm_field m == 4 then bare CLZERO
+    if rm_field m == 0 then operandless SWAPGS
+    else (if rm_field m == 1 then operandless RDTSCP
+    else (if rm_field m == 2 then operandless MONITORX
+    else (if rm_field m == 3 then operandless MWAITX
+    else (if rm_field m == 4 then operandless CLZERO
     else (if rm_field m == 5 then reads RDPRU (One (ecx_at reg_slot.Reg)) 0
     else (if operand_size p then bad_operand
     else (if rm_field m == 6 then invalidates_pages p

@@ -34,8 +34,8 @@ abbrev pub has_f2_f3_or_66 : Prefixes → Bool
 has_f2_f3_or_66 p = repnz p || rep p || operand_size p
 
 -- no operand, and no memory
-abbrev pub bare : ℕ → Plan
-bare opcode = reads opcode Zero 0
+abbrev pub operandless : ℕ → Plan
+operandless opcode = reads opcode Zero 0
 
 -- one operand in memory of this size
 abbrev pub on_memory : ℕ → ℕ → Plan
@@ -45,7 +45,7 @@ on_memory opcode size = reads opcode (One M) size
 abbrev pub on_register : ℕ → RegisterClass → Plan
 on_register opcode c = reads opcode (One (U c)) 0
 
--- a refusal behind ModRM
+-- a refusal after ModRM
 abbrev pub bad_opcode : Plan
 bad_opcode = refuses BadOpcode AtModRM
 

@@ -9,7 +9,7 @@ ghost use Rattle.x86_groups.specs.Vocabulary.{name_at};
 use crate::operations::other_plan;
 use x86_fields::{ModRM, Prefixes};
 use x86_opcodes::Opcode;
-use x86_operands::Behind::Peculiar;
+use x86_operands::AfterOpcode::ByPlan;
 use x86_operands::plans::{ModrmUse, Plan};
 use x86_operands::{FormEncoding, RegGroup, encoded, other};
 
@@ -19,9 +19,9 @@ const EV_IB: &FormEncoding = encoded!(EitherForm E_I B V I8 V V);
 
 const EV_IV: &FormEncoding = encoded!(EitherForm E_I B V Iv V V);
 
-const EB_1: &FormEncoding = encoded!(EitherForm E_I B B One One One);
+const EB_1: &FormEncoding = encoded!(EitherForm E_I B B SignedOne One One);
 
-const EV_1: &FormEncoding = encoded!(EitherForm E_I B V One V V);
+const EV_1: &FormEncoding = encoded!(EitherForm E_I B V SignedOne V V);
 
 const EB_CL: &FormEncoding = encoded!(EitherForm E_I B B Cl One One);
 
@@ -37,7 +37,7 @@ const JUMP: &FormEncoding = encoded!(EitherForm E B Q Absent Eight V);
 
 const PUSH: &FormEncoding = encoded!(EitherForm E B V Absent Push Push);
 
-const ELSE: &FormEncoding = other!(Peculiar(ModrmUse::EitherForm));
+const ELSE: &FormEncoding = other!(ByPlan(ModrmUse::EitherForm));
 
 /// The operations of 80, 81 and 83.
 #[inline(always)]
@@ -100,8 +100,8 @@ pub fn chosen(group: RegGroup, modrm: ModRM) -> (Opcode, &'static FormEncoding)
     ensures chooses { Chooses group modrm result.0 result.1.now }
     ensures left { LeavesOther group modrm result.1.now }
     ensures sound { is_sound result.1.now ≡ true }
-    ensures fields { IsTrue (is_described result.1.now.behind) →
-        has_either_form result.1.now.behind ≡ true }
+    ensures fields { IsTrue (is_described result.1.now.after_opcode) →
+        has_either_form result.1.now.after_opcode ≡ true }
 {
     let reg = modrm.reg_field();
     match group {
@@ -139,7 +139,7 @@ pub fn reg_plan(group: RegGroup, prefixes: &Prefixes, modrm: ModRM) -> Plan
     ensures { result ≡ reg_plan group prefixes.now modrm }
 {
     let (opcode, encoding) = chosen(group, modrm);
-    if encoding.behind.is_described() {
+    if encoding.after_opcode.is_described() {
         encoding.plan(opcode, 0, prefixes, modrm)
     } else {
         other_plan(group, prefixes, modrm)

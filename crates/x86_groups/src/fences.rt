@@ -2,7 +2,9 @@
 ghost use Rattle.std.specs.Prelude.{◌≡◌};
 ghost use Rattle.x86_groups.specs.Fences.{clears_operand_size, operand_size_0fae, f2_0fae, trace_0fae, f3_register_0fae, f3_0fae, fence, state_name, state_size, plain_0fae, plan_0fae};
 
-use crate::vocabulary::{bad_opcode, bad_operand, bare, named_by_reg, on_memory, on_register};
+use crate::vocabulary::{
+    bad_opcode, bad_operand, named_by_reg, on_memory, on_register, operandless,
+};
 use x86_fields::{ModRM, Prefixes};
 use x86_opcodes::Opcode;
 use x86_operands::UNDECIDED_SIZE;
@@ -94,7 +96,7 @@ fn fence(strict: bool, opcode: Opcode, modrm: ModRM) -> Plan
     if strict && modrm.rm_field() != 0 {
         bad_operand()
     } else {
-        bare(opcode)
+        operandless(opcode)
     }
 }
 

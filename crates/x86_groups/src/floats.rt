@@ -3,7 +3,7 @@ ghost use Rattle.std.specs.Prelude.{◌≡◌, ◌≤◌};
 ghost use Rattle.x86_groups.specs.Floats.{control_db, st0, st_rm, loads, stores, into_st0, into_st_rm, of_st_rm, float_name, integer_name, constant_d9, function_d9, plan_d8, plan_d9, plan_da, plan_db, plan_dc, plan_dd, plan_de, plan_df};
 
 use crate::vocabulary::{
-    bad_opcode, bad_operand, bare, name_at, named_by_reg, on_memory, on_register,
+    bad_opcode, bad_operand, name_at, named_by_reg, on_memory, on_register, operandless,
 };
 use x86_fields::ModRM;
 use x86_opcodes::Opcode;
@@ -91,11 +91,11 @@ fn constant_d9(modrm: ModRM) -> Plan
 {
     let constants = names!(FLD1 FLDL2T FLDL2E FLDPI FLDLG2 FLDLN2 FLDZ);
     match modrm.byte() {
-        0xe0 => bare(Opcode::FCHS),
-        0xe1 => bare(Opcode::FABS),
-        0xe4 => bare(Opcode::FTST),
-        0xe5 => bare(Opcode::FXAM),
-        0xe8..=0xee => bare(name_at(&constants, modrm.byte() - 0xe8)),
+        0xe0 => operandless(Opcode::FCHS),
+        0xe1 => operandless(Opcode::FABS),
+        0xe4 => operandless(Opcode::FTST),
+        0xe5 => operandless(Opcode::FXAM),
+        0xe8..=0xee => operandless(name_at(&constants, modrm.byte() - 0xe8)),
         _ => bad_opcode(),
     }
 }
@@ -110,7 +110,7 @@ fn function_d9(modrm: ModRM) -> Plan
         F2XM1 FYL2X FPTAN FPATAN FXTRACT FPREM1 FDECSTP FINCSTP
         FPREM FYL2XP1 FSQRT FSINCOS FRNDINT FSCALE FSIN FCOS
     );
-    bare(name_at(&functions, modrm.byte() - 0xf0))
+    operandless(name_at(&functions, modrm.byte() - 0xf0))
 }
 
 #[tactic(auto, unfolding(crate::specs::Floats::plan_d9, crate::specs::Floats::memory_d9, crate::specs::Floats::register_d9))]
@@ -128,7 +128,7 @@ pub fn plan_d9(modrm: ModRM) -> Plan
         (true, _) => on_memory(Opcode::FNSTCW, 2),
         (false, 0) => into_st0(Opcode::FLD, modrm),
         (false, 1) => into_st0(Opcode::FXCH, modrm),
-        (false, 2) if modrm.byte() == 0xd0 => bare(Opcode::FNOP),
+        (false, 2) if modrm.byte() == 0xd0 => operandless(Opcode::FNOP),
         (false, 2) => bad_opcode(),
         (false, 3) => into_st_rm(Opcode::FSTPNCE, modrm),
         (false, _) if modrm.byte() < 0xf0 => constant_d9(modrm),
@@ -146,7 +146,7 @@ pub fn plan_da(modrm: ModRM) -> Plan
         1 => into_st0(Opcode::FCMOVE, modrm),
         2 => into_st0(Opcode::FCMOVBE, modrm),
         3 => into_st0(Opcode::FCMOVU, modrm),
-        _ if modrm.byte() == 0xe9 => bare(Opcode::FUCOMPP),
+        _ if modrm.byte() == 0xe9 => operandless(Opcode::FUCOMPP),
         _ => bad_opcode(),
     }
 }
@@ -158,7 +158,7 @@ fn control_db(modrm: ModRM) -> Plan
 {
     let controls = names!(FENI8087_NOP FDISI8087_NOP FNCLEX FNINIT FSETPM287_NOP);
     match modrm.byte() {
-        0xe0..=0xe4 => bare(name_at(&controls, modrm.byte() - 0xe0)),
+        0xe0..=0xe4 => operandless(name_at(&controls, modrm.byte() - 0xe0)),
         _ => bad_opcode(),
     }
 }
@@ -235,7 +235,7 @@ pub fn plan_de(modrm: ModRM) -> Plan
         0 => into_st_rm(Opcode::FADDP, modrm),
         1 => into_st_rm(Opcode::FMULP, modrm),
         2 => into_st0(Opcode::FCOMP, modrm),
-        3 if modrm.byte() == 0xd9 => bare(Opcode::FCOMPP),
+        3 if modrm.byte() == 0xd9 => operandless(Opcode::FCOMPP),
         3 => bad_operand(),
         4 => into_st_rm(Opcode::FSUBRP, modrm),
         5 => into_st_rm(Opcode::FSUBP, modrm),

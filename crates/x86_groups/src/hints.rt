@@ -2,7 +2,7 @@
 ghost use Rattle.std.specs.Prelude.{◌≡◌};
 ghost use Rattle.x86_groups.specs.Hints.{prefetch_name, plan_0f0d, plan_0f12, plan_0f16, plan_0f18, plan_f30f1e};
 
-use crate::vocabulary::{bare, name_by, named_by_reg, on_memory};
+use crate::vocabulary::{name_by, named_by_reg, on_memory, operandless};
 use x86_fields::{ModRM, Prefixes};
 use x86_opcodes::Opcode;
 use x86_operands::plans::OperandEncoding::{E, G};
@@ -71,8 +71,8 @@ pub fn plan_f30f1e(prefixes: &Prefixes, modrm: ModRM) -> Plan
 {
     let v = prefixes.v_class();
     match modrm.byte() {
-        0xfa => bare(Opcode::ENDBR64),
-        0xfb => bare(Opcode::ENDBR32),
+        0xfa => operandless(Opcode::ENDBR64),
+        0xfb => operandless(Opcode::ENDBR32),
         _ => reads(Opcode::NOP, Two(E(v), G(v)), v.width()),
     }
 }

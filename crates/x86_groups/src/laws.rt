@@ -17,7 +17,7 @@ ghost use Rattle.x86_operands.specs.Encodings.{group_form};
 ghost use Rattle.x86_operands.specs.PlanSteps.{record_step};
 ghost use Rattle.x86_operands.specs.declared.encodings.RegGroup.{RegGroup};
 ghost use Rattle.x86_groups.specs.ByReg.{reg_plan, reg_step};
-ghost use Rattle.x86_groups.specs.Vocabulary.{bare, bad_operand};
+ghost use Rattle.x86_groups.specs.Vocabulary.{operandless, bad_operand};
 ghost use Rattle.x86_groups.specs.Choices.{IsFenceWithRm};
 ghost use Rattle.x86_groups.specs.Groups.{group_record, group_plan};
 
@@ -52,7 +52,7 @@ pub fn group_sizes_are_small()
 {}
 
 /// The default and the strict choice differ on LFENCE, MFENCE and SFENCE with rm other than 0, and on nothing else:
-/// there the default reads the fence, without an operand, and the strict choice refuses its operand behind ModRM.
+/// there the default reads the fence, without an operand, and the strict choice refuses its operand after ModRM.
 pub fn choices_differ_on_fences()
     ensures at_opcode { (row : TableRow) (p : Prefixes) →
         (group_record true row p).at_opcode ≡ (group_record false row p).at_opcode }
@@ -61,7 +61,7 @@ pub fn choices_differ_on_fences()
     ensures elsewhere { (row : TableRow) (p : Prefixes) (m : ℕ) →
         (group_plan row p m true ≡ group_plan row p m false) ⊎ IsFenceWithRm row.form p m }
     ensures by_default { (row : TableRow) (p : Prefixes) (m : ℕ)
-        (fence : IsFenceWithRm row.form p m) → group_plan row p m false ≡ bare fence.opcode }
+        (fence : IsFenceWithRm row.form p m) → group_plan row p m false ≡ operandless fence.opcode }
     ensures strictly { (row : TableRow) (p : Prefixes) (m : ℕ) →
         IsFenceWithRm row.form p m → group_plan row p m true ≡ bad_operand }
 {}

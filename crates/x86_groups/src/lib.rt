@@ -7,7 +7,7 @@ ghost use Rattle.x86_fields.specs.Steps.{outcome};
 ghost use Rattle.x86_forms.specs.Groups.{is_group};
 ghost use Rattle.x86_operands.specs.Asks.{ask_of, record_at};
 ghost use Rattle.x86_operands.specs.PlanSteps.{record_step};
-ghost use Rattle.x86_operands.specs.Encodings.{held, no_operands, reading_with};
+ghost use Rattle.x86_operands.specs.Encodings.{value_if_ok, no_operands, reading_with};
 ghost use Rattle.x86_groups.specs.Groups.{group_form_plan, three_byte_plan, two_byte_plan, group_fault, group_modrm, group_plan, group_record};
 
 /// Operations in their order: `names!(ADD OR)`.
@@ -171,7 +171,7 @@ fn group_form_plan(
     }
 }
 
-/// What a row asks whose form is a group, written to what was blank.
+/// What a row has whose form is a group, written into blank operands.
 #[inline(never)]
 #[tactic(auto, unfolding(crate::specs::Groups::group_record, x86_operands::specs::PlanSteps::record_step))]
 pub fn read_group_into<T: Reader<u64, u8>>(
@@ -180,17 +180,17 @@ pub fn read_group_into<T: Reader<u64, u8>>(
     strict: bool,
     prefixes: &mut Prefixes,
     opcode: &mut Opcode,
-    given: &mut Operands,
+    operand_list: &mut Operands,
 ) -> Result<(), DecodeError>
-    requires { given.old ≡ no_operands }
+    requires { operand_list.old ≡ no_operands }
     ensures { outcome
-        (held result (reading_with opcode.new prefixes.new given.new)) (T.state reader.new)
+        (value_if_ok result (reading_with opcode.new prefixes.new operand_list.new)) (T.state reader.new)
         ≡ record_step (group_record strict row prefixes.old) prefixes.old (T.state reader.old) }
 {
     refuse_fault(group_fault(row.form, prefixes))?;
     let modrm = read_modrm(reader, group_modrm(row.form))?;
     let plan = group_form_plan(row.form, row.opcode, strict, prefixes, modrm);
-    read_plan_into(reader, &plan, modrm, prefixes, opcode, given)
+    read_plan_into(reader, &plan, modrm, prefixes, opcode, operand_list)
 }
 
 /// The plan of a row whose form is a group, at a ModRM byte.
@@ -200,7 +200,7 @@ pub fn group_plan(row: TableRow, strict: bool, prefixes: &Prefixes, modrm: ModRM
     group_form_plan(row.form, row.opcode, strict, prefixes, modrm)
 }
 
-/// Reads what a row asks behind its opcode byte, where its form is a group.
+/// Reads what a row has after its opcode byte, where its form is a group.
 ///
 /// `strict` chooses whether LFENCE, MFENCE and SFENCE are refused where rm isn't 0; nothing else depends on it. Of
 /// the errors come `InvalidOpcode` and `InvalidOperand` where the row's record refuses, `IncompleteDecoder` for 8F
@@ -223,7 +223,7 @@ pub fn read_group<T: Reader<u64, u8>>(
     read_plan(words, &plan, prefixes, modrm)
 }
 
-/// Which parts a row asks whose form is a group, at a ModRM byte: the same under both choices. Where the row refuses
+/// Which parts a row has whose form is a group, at a ModRM byte: the same under both choices. Where the row refuses
 /// under both choices and with every suffix, the answer is open.
 ///
 /// For the row of F7 at ModRM C0, which is TEST, this is a ModRM, and an immediate of 4 bytes without 66.

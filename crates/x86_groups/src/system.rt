@@ -4,7 +4,8 @@ ghost use Rattle.x86_operands.specs.PlanSteps.{register_slot};
 ghost use Rattle.x86_groups.specs.System.{rax, eax, ecx_at, edx_at, trusted_domain, monitoring, invalidates_pages, synchronizes_pages, register_0f01_0, register_0f01_1, register_0f01_2, register_0f01_3, register_0f01_5, register_0f01_7, plan_0f00, plan_0f01};
 
 use crate::vocabulary::{
-    bad_opcode, bad_operand, bare, has_f2_f3_or_66, has_f2_or_f3, name_at, named_by_reg, on_memory,
+    bad_opcode, bad_operand, has_f2_f3_or_66, has_f2_or_f3, name_at, named_by_reg, on_memory,
+    operandless,
 };
 use x86_fields::{ModRM, Prefixes};
 use x86_opcodes::Opcode;
@@ -36,17 +37,17 @@ fn register_0f01_0(prefixes: &Prefixes, modrm: ModRM) -> Plan
         return bad_opcode();
     }
     let names = names!(ENCLV VMCALL VMLAUNCH VMRESUME VMXOFF PCONFIG);
-    bare(name_at(&names, modrm.rm_field()))
+    operandless(name_at(&names, modrm.rm_field()))
 }
 
 fn trusted_domain(modrm: ModRM) -> Plan
     ensures { result ≡ trusted_domain modrm }
 {
     match modrm.rm_field() {
-        4 => bare(Opcode::TDCALL),
-        5 => bare(Opcode::SEAMRET),
-        6 => bare(Opcode::SEAMOPS),
-        7 => bare(Opcode::SEAMCALL),
+        4 => operandless(Opcode::TDCALL),
+        5 => operandless(Opcode::SEAMRET),
+        6 => operandless(Opcode::SEAMOPS),
+        7 => operandless(Opcode::SEAMCALL),
         _ => bad_opcode(),
     }
 }
@@ -56,10 +57,10 @@ fn monitoring(modrm: ModRM) -> Plan
 {
     match modrm.rm_field() {
         0 => reads(Opcode::MONITOR, Zero, 1),
-        1 => bare(Opcode::MWAIT),
-        2 => bare(Opcode::CLAC),
-        3 => bare(Opcode::STAC),
-        7 => bare(Opcode::ENCLS),
+        1 => operandless(Opcode::MWAIT),
+        2 => operandless(Opcode::CLAC),
+        3 => operandless(Opcode::STAC),
+        7 => operandless(Opcode::ENCLS),
         _ => bad_opcode(),
     }
 }
@@ -85,12 +86,12 @@ fn register_0f01_2(prefixes: &Prefixes, modrm: ModRM) -> Plan
         return bad_operand();
     }
     match modrm.rm_field() {
-        0 => bare(Opcode::XGETBV),
-        1 => bare(Opcode::XSETBV),
-        4 => bare(Opcode::VMFUNC),
-        5 => bare(Opcode::XEND),
-        6 => bare(Opcode::XTEST),
-        7 => bare(Opcode::ENCLU),
+        0 => operandless(Opcode::XGETBV),
+        1 => operandless(Opcode::XSETBV),
+        4 => operandless(Opcode::VMFUNC),
+        5 => operandless(Opcode::XEND),
+        6 => operandless(Opcode::XTEST),
+        7 => operandless(Opcode::ENCLU),
         _ => bad_opcode(),
     }
 }
@@ -125,11 +126,11 @@ fn register_0f01_3(modrm: ModRM) -> Plan
 {
     match modrm.rm_field() {
         0 => reads(Opcode::VMRUN, One(rax()), 0),
-        1 => bare(Opcode::VMMCALL),
+        1 => operandless(Opcode::VMMCALL),
         2 => reads(Opcode::VMLOAD, One(rax()), 0),
         3 => reads(Opcode::VMSAVE, One(rax()), 0),
-        4 => bare(Opcode::STGI),
-        5 => bare(Opcode::CLGI),
+        4 => operandless(Opcode::STGI),
+        5 => operandless(Opcode::CLGI),
         6 => reads(Opcode::SKINIT, One(eax()), 0),
         _ => {
             let encodings = Two(rax(), ecx_at(RegisterSlot::Rm));
@@ -143,16 +144,16 @@ fn register_0f01_5(prefixes: &Prefixes, modrm: ModRM) -> Plan
     ensures { result ≡ register_0f01_5 prefixes.now modrm }
 {
     match modrm.rm_field() {
-        0 if prefixes.repnz() => bare(Opcode::XSUSLDTRK),
-        0 if prefixes.rep() => bare(Opcode::SETSSBSY),
-        1 if prefixes.repnz() => bare(Opcode::XRESLDTRK),
-        2 if prefixes.rep() => bare(Opcode::SAVEPREVSSP),
-        4 if prefixes.rep() => bare(Opcode::UIRET),
-        5 if prefixes.rep() => bare(Opcode::TESTUI),
-        6 if prefixes.rep() => bare(Opcode::CLUI),
-        6 if !has_f2_f3_or_66(prefixes) => bare(Opcode::RDPKRU),
-        7 if prefixes.rep() => bare(Opcode::STUI),
-        7 if !has_f2_f3_or_66(prefixes) => bare(Opcode::WRPKRU),
+        0 if prefixes.repnz() => operandless(Opcode::XSUSLDTRK),
+        0 if prefixes.rep() => operandless(Opcode::SETSSBSY),
+        1 if prefixes.repnz() => operandless(Opcode::XRESLDTRK),
+        2 if prefixes.rep() => operandless(Opcode::SAVEPREVSSP),
+        4 if prefixes.rep() => operandless(Opcode::UIRET),
+        5 if prefixes.rep() => operandless(Opcode::TESTUI),
+        6 if prefixes.rep() => operandless(Opcode::CLUI),
+        6 if !has_f2_f3_or_66(prefixes) => operandless(Opcode::RDPKRU),
+        7 if prefixes.rep() => operandless(Opcode::STUI),
+        7 if !has_f2_f3_or_66(prefixes) => operandless(Opcode::WRPKRU),
         _ => bad_opcode(),
     }
 }
@@ -161,9 +162,9 @@ fn invalidates_pages(prefixes: &Prefixes) -> Plan
     ensures { result ≡ invalidates_pages prefixes.now }
 {
     if prefixes.rep() {
-        bare(Opcode::RMPADJUST)
+        operandless(Opcode::RMPADJUST)
     } else if prefixes.repnz() {
-        bare(Opcode::RMPUPDATE)
+        operandless(Opcode::RMPUPDATE)
     } else {
         let encodings = Three(rax(), edx_at(RegisterSlot::Rm), ecx_at(RegisterSlot::Third));
         reads(Opcode::INVLPGB, encodings, 0)
@@ -174,11 +175,11 @@ fn synchronizes_pages(prefixes: &Prefixes) -> Plan
     ensures { result ≡ synchronizes_pages prefixes.now }
 {
     if prefixes.rep() {
-        bare(Opcode::PSMASH)
+        operandless(Opcode::PSMASH)
     } else if prefixes.repnz() {
-        bare(Opcode::PVALIDATE)
+        operandless(Opcode::PVALIDATE)
     } else {
-        bare(Opcode::TLBSYNC)
+        operandless(Opcode::TLBSYNC)
     }
 }
 
@@ -187,11 +188,11 @@ fn register_0f01_7(prefixes: &Prefixes, modrm: ModRM) -> Plan
     ensures { result ≡ register_0f01_7 prefixes.now modrm }
 {
     match modrm.rm_field() {
-        0 => bare(Opcode::SWAPGS),
-        1 => bare(Opcode::RDTSCP),
-        2 => bare(Opcode::MONITORX),
-        3 => bare(Opcode::MWAITX),
-        4 => bare(Opcode::CLZERO),
+        0 => operandless(Opcode::SWAPGS),
+        1 => operandless(Opcode::RDTSCP),
+        2 => operandless(Opcode::MONITORX),
+        3 => operandless(Opcode::MWAITX),
+        4 => operandless(Opcode::CLZERO),
         5 => reads(Opcode::RDPRU, One(ecx_at(RegisterSlot::Reg)), 0),
         _ if prefixes.operand_size() => bad_operand(),
         6 => invalidates_pages(prefixes),

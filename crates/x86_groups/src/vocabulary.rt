@@ -1,7 +1,7 @@
 //! What a field of ModRM chooses, and the shortest plans.
 ghost use Rattle.std.specs.Prelude.{◌≡◌, if◌then◌else◌};
 ghost use Rattle.x86_fields.specs.ModRM.{is_memory};
-ghost use Rattle.x86_groups.specs.Vocabulary.{name_at, named_by_reg, is_register_0, has_f2_or_f3, has_f2_f3_or_66, bare, on_memory, on_register, bad_opcode, bad_operand, left_out};
+ghost use Rattle.x86_groups.specs.Vocabulary.{name_at, named_by_reg, is_register_0, has_f2_or_f3, has_f2_f3_or_66, operandless, on_memory, on_register, bad_opcode, bad_operand, left_out};
 
 use x86_fields::{ModRM, Prefixes};
 use x86_opcodes::Opcode;
@@ -54,8 +54,8 @@ pub fn has_f2_f3_or_66(prefixes: &Prefixes) -> bool
 }
 
 /// No operand and no memory.
-pub fn bare(opcode: Opcode) -> Plan
-    ensures { result ≡ bare opcode }
+pub fn operandless(opcode: Opcode) -> Plan
+    ensures { result ≡ operandless opcode }
 {
     reads(opcode, Zero, 0)
 }

@@ -1,6 +1,6 @@
 -- Lemmas on the parts of an encoding.
 pub mod Part
-pub mod Front
+pub mod OfBytes
 pub mod Length
 pub mod Split
 pub mod Taken

@@ -1,6 +1,6 @@
--- The parts of an encoding: where they stand, fields that hold them, and which fields are permitted.
+-- The parts of an encoding: where they are, fields that hold them, and which fields are permitted.
 pub mod Heads
 pub mod Split
-pub mod Front
+pub mod OfBytes
 pub mod Fields
 pub mod Permitted

@@ -10,7 +10,7 @@ ghost use Rattle.x86_operands.specs.declared.reader.Reading.{Reading};
 ghost use Rattle.x86_layout.specs.Parts.Split.{Encoding, HasParts, joined};
 ghost use Rattle.x86_decode.specs.declared.instructions.Instruction.{Instruction};
 ghost use Rattle.x86_layout.specs.declared.parts.fields.Fields.{Fields};
-ghost use Rattle.x86_layout.specs.Parts.Front.{parts_of};
+ghost use Rattle.x86_layout.specs.Parts.OfBytes.{parts_of};
 ghost use Rattle.x86_layout.specs.Parts.Fields.{lists_in, HasFieldLengths};
 ghost use Rattle.x86_layout.specs.Parts.Permitted.{IsPermitted, ArePartsOfSentence};
 ghost use Rattle.x86_forms.specs.Words.{rows_of, packed};
@@ -29,7 +29,7 @@ ghost use Rattle.x86_fields.specs.Linear.{raw_form, IsSameAddress, IsRegFile};
 use crate::EmitError;
 use x86_decode::laws;
 
-/// Where bytes are left, a cut begins at their front, and the next one behind it; where none is left there is no cut.
+/// Where bytes are left, a cut begins at the first, and the next cut after it; where none is left there is no cut.
 pub fn cuts_in_order()
     ensures none { (strict : Bool) (place : ℕ) → cuts_from strict place [] ≡ [] }
     ensures next { (strict : Bool) (place : ℕ) (xs : List ℕ) → 0 < length xs →
@@ -62,7 +62,7 @@ pub fn cuts_cover()
     laws::lengths();
 }
 
-/// The pieces of every whole encoding at the front of bytes are the parts of those bytes, whatever stands behind it.
+/// The pieces of every whole encoding at the beginning of bytes are the parts of those bytes, whatever follows it.
 pub fn parts_are_those_of_the_bytes()
     ensures { (strict : Bool) (s rest : List ℕ) (reading : Reading)
         (w : Encoding strict s reading) →
@@ -82,7 +82,7 @@ pub fn permitted_fields_are_the_parts_of_sentences()
     ensures { (strict : Bool) (f : Fields) → IsPermitted strict f ↔ ArePartsOfSentence strict f }
 {}
 
-/// What permitted fields spell is accepted, whatever stands behind it, and has these fields again: `split` of the
+/// What permitted fields spell is accepted, whatever follows it, and has these fields again: `split` of the
 /// bytes that `emit` wrote answers parts that are equal to the fields.
 pub fn permitted_fields_are_split_again()
     ensures { (strict : Bool) (f : Fields) (rest : List ℕ) → IsPermitted strict f →
@@ -93,7 +93,7 @@ pub fn permitted_fields_are_split_again()
 }
 
 /// Fields that hold the parts of an accepted encoding are permitted, and spell that encoding: `emit` of the fields of
-/// a split gives its very bytes.
+/// a split yields its very bytes.
 pub fn accepted_encodings_are_emitted_again()
     ensures { (strict : Bool) (bytes : List ℕ) (i : Instruction) (f : Fields) →
         answer_of strict bytes ≡ Ok i → lists_in f ≡ parts_of strict bytes →
@@ -103,8 +103,8 @@ pub fn accepted_encodings_are_emitted_again()
     laws::lengths();
 }
 
-/// The shortest raw fields have the address of the given ones and the same reg field, need no bit of a REX where the
-/// given ones have none, and no raw fields of that address have fewer bytes of SIB and displacement.
+/// The shortest raw fields have the address of the original ones and the same reg field, need no bit of a REX where
+/// the original ones have none, and no raw fields of that address have fewer bytes of SIB and displacement.
 ///
 /// This is said of raw fields that aren't relative to the next instruction. Source: Intel SDM volume 2, sections
 /// 2.1.5 and 2.2.1.
@@ -121,7 +121,7 @@ pub fn shortest_raw_fields()
 {}
 
 /// An encoding with a memory operand of ModRM that isn't relative to the next instruction has a shortest relative,
-/// and the length of that is the one that `shortest_length` tells from the bytes.
+/// and its length is the one that `shortest_length` computes from the bytes.
 pub fn shortest_relatives_have_the_least_length()
     ensures { (strict : Bool) (s : List ℕ) (a : Instruction)
         (is : IsSentence (rows_of packed) strict s a) → All (λ byte. byte < 256) s →
@@ -131,7 +131,7 @@ pub fn shortest_relatives_have_the_least_length()
 {}
 
 /// An encoding that has no relative to seek, for want of a memory operand of ModRM or since that is relative to the
-/// next instruction, keeps its length: it is the one that `shortest_length` tells from the bytes.
+/// next instruction, keeps its length: it is the one that `shortest_length` computes from the bytes.
 pub fn encodings_without_a_relative_keep_their_length()
     ensures { (strict : Bool) (s : List ℕ) (a : Instruction)
         (is : IsSentence (rows_of packed) strict s a) (error : TightenError) →

@@ -1,9 +1,9 @@
--- What a line of the operand encodings asks is what its plan asks.
+-- What a line of the operand encodings has is what its plan has.
 use Rattle.std.proofs.Common.{◌≡◌, ℕ, Bool, true, false, not, if◌then◌else◌, refl, ap, ◌∙◌, arith}
 use Rattle.x86_fields.specs.declared.prefixes.Prefixes.{Prefixes}
 use Rattle.x86_operands.specs.declared.asks.Ask.{Ask}
-use Rattle.x86_operands.specs.declared.encodings.Behind.{Behind}
-use Rattle.x86_operands.specs.declared.encodings.Behind.TheVariants as behind
+use Rattle.x86_operands.specs.declared.encodings.AfterOpcode.{AfterOpcode}
+use Rattle.x86_operands.specs.declared.encodings.AfterOpcode.TheVariants as after_opcode
 use Rattle.x86_operands.specs.declared.encodings.FormEncoding.{FormEncoding}
 use Rattle.x86_operands.specs.declared.encodings.Width.{Width}
 use Rattle.x86_operands.specs.declared.encodings.Width.TheVariants as width
@@ -14,24 +14,24 @@ use Rattle.x86_operands.specs.declared.plans.Moment.{Moment}
 use Rattle.x86_operands.specs.declared.plans.OperandEncoding.{OperandEncoding}
 use Rattle.x86_operands.specs.declared.plans.OperandEncodings.{OperandEncodings}
 use Rattle.x86_operands.specs.declared.plans.Verdict.TheVariants.{Accepts, Refuses}
-use Rattle.x86_operands.specs.Asks.{asks_modrm, asks_suffix, immediates_width, plan_ask, encoding_ask}
-use Rattle.x86_operands.specs.Encodings.{size_bytes, is_sound, judged_plan, last_encoding, plan_of, reg_encoding, rm_encoding, encodings_in, size_at, somewhere, use_of}
+use Rattle.x86_operands.specs.Asks.{uses_modrm, uses_suffix, immediates_width, plan_ask, encoding_ask}
+use Rattle.x86_operands.specs.Encodings.{size_bytes, is_sound, restricted_plan, last_encoding, plan_of, reg_encoding, rm_encoding, encodings_in, size_at, somewhere, use_of}
 use Rattle.x86_operands.specs.Pieces.{immediate_width}
 use Rattle.x86_fields.specs.ModRM.{is_memory}
 use Rattle.x86_operands.specs.Plans.{reads}
 use Rattle.x86_operands.proofs.OrderLemmas.{Named, named_of, sound_parts, no_named, i_named, r_named, r_i_named, i_r_named, e_named, e_i_named, e_g_named, g_e_named, e_g_i_named, g_e_i_named}
 
 -- the operands of reg and rm have no immediate
-reg_width : (b : Behind) (w : Width) (n : ℕ) (p : Prefixes) → immediate_width (reg_encoding b w n p) ≡ 0
-reg_width behind.Opcode w n p = refl
-reg_width behind.Accumulator w n p = refl
+reg_width : (b : AfterOpcode) (w : Width) (n : ℕ) (p : Prefixes) → immediate_width (reg_encoding b w n p) ≡ 0
+reg_width after_opcode.Opcode w n p = refl
+reg_width after_opcode.Accumulator w n p = refl
 reg_width b width.Mm n p = refl
 reg_width b w n p = refl
 
-rm_width : (b : Behind) (w : Width) (p : Prefixes) → immediate_width (rm_encoding b w p) ≡ 0
-rm_width behind.Memory w p = refl
-rm_width behind.Registers width.Mm p = refl
-rm_width behind.Registers w p = refl
+rm_width : (b : AfterOpcode) (w : Width) (p : Prefixes) → immediate_width (rm_encoding b w p) ≡ 0
+rm_width after_opcode.Memory w p = refl
+rm_width after_opcode.Registers width.Mm p = refl
+rm_width after_opcode.Registers w p = refl
 rm_width b width.Mm p = refl
 rm_width b w p = refl
 
@@ -49,20 +49,20 @@ width_in g_e_named a b c ha hb = omega arith
 width_in e_g_i_named a b c ha hb = omega arith
 width_in g_e_i_named a b c ha hb = omega arith
 
--- a line has no suffix, and its verdict asks nothing
-abbrev Asked : ModrmUse → ℕ → ℕ → Ask
-Asked usage m n = record { modrm = asks_modrm usage; memory = is_memory m; immediate = n; suffix = false }
+-- a line has no suffix, and its verdict requires nothing
+abbrev AskWith : ModrmUse → ℕ → ℕ → Ask
+AskWith usage m n = record { modrm = uses_modrm usage; memory = is_memory m; immediate = n; suffix = false }
 
-no_suffix : (test : Bool) (fault : Fault) (moment : Moment) → asks_suffix (if test then Refuses fault moment else Accepts) ≡ false
+no_suffix : (test : Bool) (fault : Fault) (moment : Moment) → uses_suffix (if test then Refuses fault moment else Accepts) ≡ false
 no_suffix true fault moment = refl
 no_suffix false fault moment = refl
 
-judged_asks : (b : Behind) (usage : ModrmUse) (m opcode size : ℕ) (encodings : OperandEncodings) → plan_ask usage m (judged_plan b m (reads opcode encodings size)) ≡ Asked usage m (immediates_width encodings)
-judged_asks behind.Memory usage m opcode size encodings = ap (λ s. record { modrm = asks_modrm usage; memory = is_memory m; immediate = immediates_width encodings; suffix = s }) (no_suffix (not (is_memory m)) _ _)
-judged_asks behind.Registers usage m opcode size encodings = ap (λ s. record { modrm = asks_modrm usage; memory = is_memory m; immediate = immediates_width encodings; suffix = s }) (no_suffix (is_memory m) _ _)
-judged_asks b usage m opcode size encodings = refl
+restricted_ask : (b : AfterOpcode) (usage : ModrmUse) (m opcode size : ℕ) (encodings : OperandEncodings) → plan_ask usage m (restricted_plan b m (reads opcode encodings size)) ≡ AskWith usage m (immediates_width encodings)
+restricted_ask after_opcode.Memory usage m opcode size encodings = ap (λ s. record { modrm = uses_modrm usage; memory = is_memory m; immediate = immediates_width encodings; suffix = s }) (no_suffix (not (is_memory m)) _ _)
+restricted_ask after_opcode.Registers usage m opcode size encodings = ap (λ s. record { modrm = uses_modrm usage; memory = is_memory m; immediate = immediates_width encodings; suffix = s }) (no_suffix (is_memory m) _ _)
+restricted_ask b usage m opcode size encodings = refl
 
-pub encoding_asks : (e : FormEncoding) (n opcode : ℕ) (p : Prefixes) (m : ℕ) → is_sound e ≡ true → plan_ask (use_of e.behind) m (plan_of e n opcode p m) ≡ encoding_ask e p m
-encoding_asks e n opcode p m h =
-    judged_asks e.behind (use_of e.behind) m opcode (size_bytes (size_at e m) opcode p) (encodings_in e.order (reg_encoding e.behind e.reg n p) (rm_encoding e.behind e.rm p) (last_encoding e.last p))
-    ∙ ap (Asked (use_of e.behind) m) (width_in (named_of e.order.reg e.order.rm e.order.last e.order.count (sound_parts e h).0) (reg_encoding e.behind e.reg n p) (rm_encoding e.behind e.rm p) (last_encoding e.last p) (reg_width e.behind e.reg n p) (rm_width e.behind e.rm p))
+pub encoding_has_ask : (e : FormEncoding) (n opcode : ℕ) (p : Prefixes) (m : ℕ) → is_sound e ≡ true → plan_ask (use_of e.after_opcode) m (plan_of e n opcode p m) ≡ encoding_ask e p m
+encoding_has_ask e n opcode p m h =
+    restricted_ask e.after_opcode (use_of e.after_opcode) m opcode (size_bytes (size_at e m) opcode p) (encodings_in e.order (reg_encoding e.after_opcode e.reg n p) (rm_encoding e.after_opcode e.rm p) (last_encoding e.last p))
+    ∙ ap (AskWith (use_of e.after_opcode) m) (width_in (named_of e.order.reg e.order.rm e.order.last e.order.count (sound_parts e h).0) (reg_encoding e.after_opcode e.reg n p) (rm_encoding e.after_opcode e.rm p) (last_encoding e.last p) (reg_width e.after_opcode e.reg n p) (rm_width e.after_opcode e.rm p))

@@ -43,8 +43,8 @@ same_roundings a b h = search rules
 pub same_sizes : (a b : MemoryAccessSize) → size.ghosts.eq a b ≡ true → a ≡ b
 same_sizes a b h = search rules
 
-pub same_asks : (a b : Ask) → ask.ghosts.eq a b ≡ true → a ≡ b
-same_asks a b h = search rules
+pub same_ask : (a b : Ask) → ask.ghosts.eq a b ≡ true → a ≡ b
+same_ask a b h = search rules
 
 pub same_slots : (a b : Slot) → slot.ghosts.eq a b ≡ true → a ≡ b
 same_slots slots.Nothing slots.Nothing h = refl

@@ -7,8 +7,8 @@ use Rattle.x86_fields.specs.declared.raw.Raw.{Raw}
 use Rattle.x86_fields.specs.Steps.{Step, pure, ◌>>=◌, number_step}
 use Rattle.x86_fields.specs.Pieces.{EndsBetween}
 use Rattle.x86_fields.proofs.StepLemmas.{Takes, takes_pure, takes_bind}
-use Rattle.x86_fields.proofs.EndLemmas.{EndsWell, IsEmpty, Only, ends_pure, ends_then, ends_map, Stands, stands_bind, stands_same, bind_assoc}
-use Rattle.x86_fields.proofs.PieceLemmas.{IsNumber, ends_number, takes_number, takes_map, nil_of, StandsOn, one_there, none_there, stands_piece}
+use Rattle.x86_fields.proofs.EndLemmas.{EndsWell, IsEmpty, Only, ends_pure, ends_then, ends_map, Halts, halts_bind, halts_same, bind_assoc}
+use Rattle.x86_fields.proofs.PieceLemmas.{IsNumber, ends_number, takes_number, takes_map, nil_of, HaltsOn, one_there, none_there, halts_piece}
 use Rattle.x86_operands.specs.declared.operands.Slot.{Slot}
 use Rattle.x86_operands.specs.declared.operands.Slot.TheVariants as slots
 use Rattle.x86_operands.specs.declared.operands.Operand.{Operand}
@@ -16,16 +16,16 @@ use Rattle.x86_operands.specs.declared.operands.Operand.TheVariants as operands
 use Rattle.x86_operands.specs.declared.plans.OperandEncoding.{OperandEncoding}
 use Rattle.x86_operands.specs.declared.plans.OperandEncoding.TheVariants.{G, Gmm, E, Emm, M, U, Umm, Fixed, Pointer, I8, I16, I32, I64, I32From16, I64Whole, U8, U16, X8, X16, ConstantI8, ConstantU8, Address32, Address64}
 use Rattle.x86_operands.specs.PlanSteps.{operand_step, operands_step}
-use Rattle.x86_operands.specs.Pieces.{immediate_width, operand_gives, SpellsOperands}
+use Rattle.x86_operands.specs.Pieces.{immediate_width, operand_from, SpellsOperands}
 
 module _ (p : Prefixes) (m : ℕ) (memory : Option Raw) where
   -- ---- one operand
 
   abbrev pub IsOperand : OperandEncoding → List ℕ → Slot × Operand → Type 0
-  IsOperand s q x = (x ≡ operand_gives s p m memory q) × (length q ≡ immediate_width s)
+  IsOperand s q x = (x ≡ operand_from s p m memory q) × (length q ≡ immediate_width s)
 
-  number : (s : OperandEncoding) (w : Width) (g : ℕ → Slot × Operand) → byte_len w ≡ immediate_width s → ((q : List ℕ) → g (from_le_bytes w q) ≡ operand_gives s p m memory q) → EndsWell (Only (IsOperand s)) IsEmpty (number_step w >>= λ n. pure (g n))
-  number s w g wide gives = ends_map (IsNumber w) IsEmpty (IsOperand s) (number_step w) g (ends_number w) (λ q n h. (ap g h.0 ∙ gives q, h.1 ∙ wide))
+  number : (s : OperandEncoding) (w : Width) (g : ℕ → Slot × Operand) → byte_len w ≡ immediate_width s → ((q : List ℕ) → g (from_le_bytes w q) ≡ operand_from s p m memory q) → EndsWell (Only (IsOperand s)) IsEmpty (number_step w >>= λ n. pure (g n))
+  number s w g wide yields = ends_map (IsNumber w) IsEmpty (IsOperand s) (number_step w) g (ends_number w) (λ q n h. (ap g h.0 ∙ yields q, h.1 ∙ wide))
 
   pub ends_operand : (s : OperandEncoding) → EndsWell (Only (IsOperand s)) IsEmpty (operand_step s p m memory)
   unfolding operand_step
@@ -59,7 +59,7 @@ module _ (p : Prefixes) (m : ℕ) (memory : Option Raw) where
   whole : (w : Width) (g : ℕ → Slot × Operand) (q : List ℕ) → length q ≡ byte_len w → Takes (number_step w >>= λ n. pure (g n)) q (Ok (g (from_le_bytes w q)))
   whole w g q e = takes_map (number_step w) g q (from_le_bytes w q) (takes_number w q e)
 
-  pub takes_operand : (s : OperandEncoding) (q : List ℕ) → length q ≡ immediate_width s → Takes (operand_step s p m memory) q (Ok (operand_gives s p m memory q))
+  pub takes_operand : (s : OperandEncoding) (q : List ℕ) → length q ≡ immediate_width s → Takes (operand_step s p m memory) q (Ok (operand_from s p m memory q))
   unfolding operand_step
   takes_operand (G c) q e = plain _ q e
   takes_operand Gmm q e = plain _ q e
@@ -103,14 +103,14 @@ module _ (p : Prefixes) (m : ℕ) (memory : Option Raw) where
   Spells encodings = SpellsOperands encodings p m memory
 
   spelled_first : (s : OperandEncoding) (rest : List OperandEncoding) (q l e : List ℕ) (x : Slot × Operand) (others : Pairs) → IsOperand s q x → Spells rest l others → e ≡ [] → Spells (s ∷ rest) (q ++ (l ++ e)) (x ∷ others)
-  spelled_first s rest q l e x others h behind none = record {
+  spelled_first s rest q l e x others h following none = record {
     immediate = q;
     tail = l;
     others = others;
     spelled = ap (λ k. q ++ k) (ap (λ k. l ++ k) none ∙ append-nil l);
-    asked = h.1;
-    gives = ap (λ y. y ∷ others) h.0;
-    behind = behind;
+    immediate_length = h.1;
+    yields = ap (λ y. y ∷ others) h.0;
+    tail_spelled = following;
   }
 
   pub ends_operands : (encodings : List OperandEncoding) → EndsWell (Only (Spells encodings)) (λ q. EndsBetween (widths encodings) q) (operands_step encodings p m memory)
@@ -122,21 +122,21 @@ module _ (p : Prefixes) (m : ℕ) (memory : Option Raw) where
       (λ l b. one_there (immediate_width s) (widths rest) q l h.1 b)
       (λ l others g. ends_pure (λ e r. Only (Spells (s ∷ rest)) (q ++ (l ++ e)) r) (λ e. EndsBetween (widths (s ∷ rest)) (q ++ (l ++ e))) (x ∷ others) (spelled_first s rest q l [] x others h g refl)))
 
-  pub takes_operands : (encodings : List OperandEncoding) (q : List ℕ) (given : Pairs) → Spells encodings q given → Takes (operands_step encodings p m memory) q (Ok given)
+  pub takes_operands : (encodings : List OperandEncoding) (q : List ℕ) (operand_pairs : Pairs) → Spells encodings q operand_pairs → Takes (operands_step encodings p m memory) q (Ok operand_pairs)
   unfolding operands_step
-  takes_operands [] q given h = subst (λ l. Takes {X = Pairs} (pure []) l (Ok given)) (sym h.0) (subst (λ g. Takes {X = Pairs} (pure []) [] (Ok g)) (sym h.1) (takes_pure (Ok [])))
-  takes_operands (s ∷ rest) q given h =
-      let x : Slot × Operand = operand_gives s p m memory h.immediate in
-      let others : Takes (with_others rest x) h.tail (Ok (x ∷ h.others)) = takes_map (operands_step rest p m memory) (λ l. x ∷ l) h.tail h.others (takes_operands rest h.tail h.others h.behind) in
-      let both : Takes (encoding s >>= with_others rest) (h.immediate ++ h.tail) (Ok (x ∷ h.others)) = takes_bind (encoding s) (with_others rest) h.immediate h.tail x (Ok (x ∷ h.others)) (takes_operand s h.immediate h.asked) others in
-      subst (λ l. Takes (encoding s >>= with_others rest) l (Ok given)) (sym h.spelled) (subst (λ g. Takes (encoding s >>= with_others rest) (h.immediate ++ h.tail) (Ok g)) (sym h.gives) both)
+  takes_operands [] q operand_pairs h = subst (λ l. Takes {X = Pairs} (pure []) l (Ok operand_pairs)) (sym h.0) (subst (λ g. Takes {X = Pairs} (pure []) [] (Ok g)) (sym h.1) (takes_pure (Ok [])))
+  takes_operands (s ∷ rest) q operand_pairs h =
+      let x : Slot × Operand = operand_from s p m memory h.immediate in
+      let others : Takes (with_others rest x) h.tail (Ok (x ∷ h.others)) = takes_map (operands_step rest p m memory) (λ l. x ∷ l) h.tail h.others (takes_operands rest h.tail h.others h.tail_spelled) in
+      let both : Takes (encoding s >>= with_others rest) (h.immediate ++ h.tail) (Ok (x ∷ h.others)) = takes_bind (encoding s) (with_others rest) h.immediate h.tail x (Ok (x ∷ h.others)) (takes_operand s h.immediate h.immediate_length) others in
+      subst (λ l. Takes (encoding s >>= with_others rest) l (Ok operand_pairs)) (sym h.spelled) (subst (λ g. Takes (encoding s >>= with_others rest) (h.immediate ++ h.tail) (Ok g)) (sym h.yields) both)
 
-  -- the operands stand on bytes that end between their pieces, or between those of what follows
-  pub stands_operands : {Y : Type 0} (encodings : List OperandEncoding) (f : Pairs → Step Y) (ws q : List ℕ) → StandsOn f ws → EndsBetween (widths encodings ++ ws) q → Stands (operands_step encodings p m memory >>= f) q
+  -- the operands halt on bytes that end between their pieces, or between those of what follows
+  pub halts_operands : {Y : Type 0} (encodings : List OperandEncoding) (f : Pairs → Step Y) (ws q : List ℕ) → HaltsOn f ws → EndsBetween (widths encodings ++ ws) q → Halts (operands_step encodings p m memory >>= f) q
   unfolding operands_step
-  stands_operands [] f ws q each k = stands_bind (pure []) f [] q [] (takes_pure (Ok [])) (each [] q k)
-  stands_operands (s ∷ rest) f ws q each k =
-      stands_same (encoding s >>= λ x. with_others rest x >>= f) ((encoding s >>= with_others rest) >>= f) q (λ t. bind_assoc (encoding s) (with_others rest) f t)
-      (stands_piece (encoding s) (λ x. with_others rest x >>= f) (immediate_width s) (widths rest ++ ws) q (λ l. operand_gives s p m memory l) (ends_operand s) (takes_operand s)
-      (λ x l b. stands_same (operands_step rest p m memory >>= λ others. f (x ∷ others)) (with_others rest x >>= f) l (λ t. bind_assoc (operands_step rest p m memory) (λ others. pure (x ∷ others)) f t)
-      (stands_operands rest (λ others. f (x ∷ others)) ws l (λ others e c. each (x ∷ others) e c) b)) k)
+  halts_operands [] f ws q each k = halts_bind (pure []) f [] q [] (takes_pure (Ok [])) (each [] q k)
+  halts_operands (s ∷ rest) f ws q each k =
+      halts_same (encoding s >>= λ x. with_others rest x >>= f) ((encoding s >>= with_others rest) >>= f) q (λ t. bind_assoc (encoding s) (with_others rest) f t)
+      (halts_piece (encoding s) (λ x. with_others rest x >>= f) (immediate_width s) (widths rest ++ ws) q (λ l. operand_from s p m memory l) (ends_operand s) (takes_operand s)
+      (λ x l b. halts_same (operands_step rest p m memory >>= λ others. f (x ∷ others)) (with_others rest x >>= f) l (λ t. bind_assoc (operands_step rest p m memory) (λ others. pure (x ∷ others)) f t)
+      (halts_operands rest (λ others. f (x ∷ others)) ws l (λ others e c. each (x ∷ others) e c) b)) k)

@@ -1,4 +1,4 @@
--- What an encoding writes in place is what its plan gives.
+-- What an encoding writes in place is what its plan yields.
 use Rattle.std.proofs.Common.{◌≡◌, ℕ, Bool, true, false, not, if◌then◌else◌, ◌&&◌, ◌≢◌, IsTrue, refl, sym, ap, ◌∙◌, Ok, Err, Result, None, Some, Option, is_some}
 use Rattle.std.proofs.lemmas.Bool.{eqb-true}
 use Rattle.x86_arch.specs.Reader.{State}
@@ -18,8 +18,8 @@ use Rattle.x86_operands.specs.declared.plans.OperandEncodings.{OperandEncodings}
 use Rattle.x86_operands.specs.declared.order.Position.{Position}
 use Rattle.x86_operands.specs.declared.order.Position.TheVariants.{First, Second, Third, Nowhere}
 use Rattle.x86_operands.specs.declared.order.Order.{Order}
-use Rattle.x86_operands.specs.declared.encodings.Behind.{Behind}
-use Rattle.x86_operands.specs.declared.encodings.Behind.TheVariants as behind
+use Rattle.x86_operands.specs.declared.encodings.AfterOpcode.{AfterOpcode}
+use Rattle.x86_operands.specs.declared.encodings.AfterOpcode.TheVariants as after_opcode
 use Rattle.x86_operands.specs.declared.encodings.Width.{Width}
 use Rattle.x86_operands.specs.declared.encodings.Width.TheVariants as width
 use Rattle.x86_operands.specs.declared.encodings.Last.{Last}
@@ -28,12 +28,12 @@ use Rattle.x86_operands.specs.declared.encodings.FormEncoding.{FormEncoding}
 use Rattle.x86_operands.specs.declared.encodings.Size.{Size}
 use Rattle.x86_operands.specs.declared.reader.Reading.{Reading}
 use Rattle.x86_operands.specs.declared.operand_list.Operands.{Operands}
-use Rattle.x86_operands.specs.PlanSteps.{read_plan, read_memory, given_step, operands_step, operand_step, reading_from, rm_operand}
+use Rattle.x86_operands.specs.PlanSteps.{read_plan, read_memory, filled_step, operands_step, operand_step, reading_from, rm_operand}
 use Rattle.x86_fields.specs.ModRM.{is_memory, absent_modrm}
 use Rattle.x86_operands.specs.Plans.{list_of, reads, immediate_of}
 use Rattle.x86_operands.specs.FormSizes.{whole_immediate}
 use Rattle.x86_operands.specs.Shape.{shape}
-use Rattle.x86_operands.specs.Encodings.{last_encoding, reg_encoding, rm_encoding, encodings_in, judged_plan, plan_of, size_bytes, modrm_read, index_of_position, encoded_read, put_encoded, is_last, ends, put_in, rm_pair, reg_pair, fixed_pair, reading_with, sized, last_read, operands_read, somewhere, is_described, is_sound, size_at, is_order_of, is_order, has_modrm, has_register, order_fits, allows}
+use Rattle.x86_operands.specs.Encodings.{last_encoding, reg_encoding, rm_encoding, encodings_in, restricted_plan, plan_of, size_bytes, modrm_read, index_of_position, encoded_read, put_encoded, is_last, has_last, put_in, rm_pair, reg_pair, fixed_pair, reading_with, sized, last_read, operands_read, somewhere, is_described, is_sound, size_at, is_order_of, is_order, has_modrm, has_register, order_fits, allows}
 
 abbrev Pair : Type 0
 Pair = Slot × Operand
@@ -69,27 +69,27 @@ named_of a b c n h = cc
 
 -- ---- operand encodings that read nothing
 
-abbrev reg_given : Behind → Width → ℕ → Prefixes → ℕ → Pair
-reg_given behind.Opcode w n p m = fixed_pair behind.Opcode w n p
-reg_given behind.Accumulator w n p m = fixed_pair behind.Accumulator w n p
-reg_given b w n p m = reg_pair w p m
+abbrev reg_pair_of : AfterOpcode → Width → ℕ → Prefixes → ℕ → Pair
+reg_pair_of after_opcode.Opcode w n p m = fixed_pair after_opcode.Opcode w n p
+reg_pair_of after_opcode.Accumulator w n p m = fixed_pair after_opcode.Accumulator w n p
+reg_pair_of b w n p m = reg_pair w p m
 
-reg_gives : (b : Behind) (w : Width) (n : ℕ) (p : Prefixes) (m : ℕ) (memory : Option Raw) (s : State ℕ) → operand_step (reg_encoding b w n p) p m memory s ≡ outcome (Ok (reg_given b w n p m)) s
+reg_yields : (b : AfterOpcode) (w : Width) (n : ℕ) (p : Prefixes) (m : ℕ) (memory : Option Raw) (s : State ℕ) → operand_step (reg_encoding b w n p) p m memory s ≡ outcome (Ok (reg_pair_of b w n p m)) s
 unfolding operand_step
-reg_gives behind.Opcode w n p m memory s = refl
-reg_gives behind.Accumulator w n p m memory s = refl
-reg_gives b width.Mm n p m memory s = refl
-reg_gives b w n p m memory s = refl
+reg_yields after_opcode.Opcode w n p m memory s = refl
+reg_yields after_opcode.Accumulator w n p m memory s = refl
+reg_yields b width.Mm n p m memory s = refl
+reg_yields b w n p m memory s = refl
 
-abbrev rm_given : Behind → Width → Prefixes → ℕ → Option Raw → Pair
-rm_given behind.Memory w p m memory = rm_operand class.Q p m memory
-rm_given b w p m memory = rm_pair w p m memory
+abbrev rm_pair_of : AfterOpcode → Width → Prefixes → ℕ → Option Raw → Pair
+rm_pair_of after_opcode.Memory w p m memory = rm_operand class.Q p m memory
+rm_pair_of b w p m memory = rm_pair w p m memory
 
-rm_gives : (b : Behind) (w : Width) (p : Prefixes) (m : ℕ) (memory : Option Raw) (s : State ℕ) → operand_step (rm_encoding b w p) p m memory s ≡ outcome (Ok (rm_given b w p m memory)) s
+rm_yields : (b : AfterOpcode) (w : Width) (p : Prefixes) (m : ℕ) (memory : Option Raw) (s : State ℕ) → operand_step (rm_encoding b w p) p m memory s ≡ outcome (Ok (rm_pair_of b w p m memory)) s
 unfolding operand_step
-rm_gives behind.Memory w p m memory s = refl
-rm_gives b width.Mm p m memory s = refl
-rm_gives b w p m memory s = refl
+rm_yields after_opcode.Memory w p m memory s = refl
+rm_yields b width.Mm p m memory s = refl
+rm_yields b w p m memory s = refl
 
 -- ---- the last operand, which looks at no ModRM
 
@@ -122,17 +122,17 @@ last_plain l p q m memory s = refl
 
 -- ---- the operands in their order
 
-abbrev last_given : Position → Result Pair DecodeError → State ℕ → Operands → Step Operands
-last_given Nowhere r t given = pure given
-last_given at r t given = λ s. then_from r t (λ z. pure (put_in at z given))
+abbrev last_put : Position → Result Pair DecodeError → State ℕ → Operands → Step Operands
+last_put Nowhere r t operand_list = pure operand_list
+last_put at r t operand_list = λ s. then_from r t (λ z. pure (put_in at z operand_list))
 
 in_order : {o : Order} → Named o → (r : Result Pair DecodeError) (t : State ℕ) (a b c : OperandEncoding) (x y : Pair) (size opcode : ℕ) (p : Prefixes) (m : ℕ) (memory : Option Raw) →
     ((s : State ℕ) → operand_step a p m memory s ≡ outcome (Ok x) s) →
     ((s : State ℕ) → operand_step b p m memory s ≡ outcome (Ok y) s) →
     (s : State ℕ) → operand_step c p m memory s ≡ outcome r t →
-    (given_step (list_of (encodings_in o a b c)) p m memory >>= λ given. pure (reading_from (reads opcode (encodings_in o a b c) size) p opcode given)) s
-    ≡ (last_given o.last r t (put_in o.reg x (put_in o.rm y (sized o.count size))) >>= λ given. pure (reading_with opcode p given)) s
-unfolding given_step operands_step
+    (filled_step (list_of (encodings_in o a b c)) p m memory >>= λ operand_list. pure (reading_from (reads opcode (encodings_in o a b c) size) p opcode operand_list)) s
+    ≡ (last_put o.last r t (put_in o.reg x (put_in o.rm y (sized o.count size))) >>= λ operand_list. pure (reading_with opcode p operand_list)) s
+unfolding filled_step operands_step
 in_order no_named r t a b c x y size opcode p m memory ha hb s hc = refl
 in_order r_named r t a b c x y size opcode p m memory ha hb s hc = rw (ha s) refl
 in_order e_named r t a b c x y size opcode p m memory ha hb s hc = rw (hb s) refl
@@ -151,19 +151,19 @@ in_order e_g_i_named (Err e) t a b c x y size opcode p m memory ha hb s hc = rw 
 in_order g_e_i_named (Ok z) t a b c x y size opcode p m memory ha hb s hc = rw (ha s, hb s, hc) refl
 in_order g_e_i_named (Err e) t a b c x y size opcode p m memory ha hb s hc = rw (ha s, hb s, hc) refl
 
-last_is : (at : Position) (l : Last) (p : Prefixes) (given : Operands) (s : State ℕ) → last_given at (operand_step (last_encoding l p) p absent_modrm None s).answer (operand_step (last_encoding l p) p absent_modrm None s).after given s ≡ last_read at l p given s
-last_is First l p given s = refl
-last_is Second l p given s = refl
-last_is Third l p given s = refl
-last_is Nowhere l p given s = refl
+last_is : (at : Position) (l : Last) (p : Prefixes) (operand_list : Operands) (s : State ℕ) → last_put at (operand_step (last_encoding l p) p absent_modrm None s).answer (operand_step (last_encoding l p) p absent_modrm None s).after operand_list s ≡ last_read at l p operand_list s
+last_is First l p operand_list s = refl
+last_is Second l p operand_list s = refl
+last_is Third l p operand_list s = refl
+last_is Nowhere l p operand_list s = refl
 
--- the operands behind memory, at any encoding
-behind_memory : (b : Behind) (o : Order) (wr we : Width) (l : Last) (n size opcode : ℕ) (p : Prefixes) (m : ℕ) (memory : Option Raw) → Named o → (s : State ℕ) →
-    (given_step (list_of (encodings_in o (reg_encoding b wr n p) (rm_encoding b we p) (last_encoding l p))) p m memory >>= λ given. pure (reading_from (reads opcode (encodings_in o (reg_encoding b wr n p) (rm_encoding b we p) (last_encoding l p)) size) p opcode given)) s
-    ≡ (last_read o.last l p (put_in o.reg (reg_given b wr n p m) (put_in o.rm (rm_given b we p m memory) (sized o.count size))) >>= λ given. pure (reading_with opcode p given)) s
-behind_memory b o wr we l n size opcode p m memory h s =
-    in_order h (operand_step (last_encoding l p) p absent_modrm None s).answer (operand_step (last_encoding l p) p absent_modrm None s).after (reg_encoding b wr n p) (rm_encoding b we p) (last_encoding l p) (reg_given b wr n p m) (rm_given b we p m memory) size opcode p m memory (reg_gives b wr n p m memory) (rm_gives b we p m memory) s (last_plain l p p m memory s)
-    ∙ ap (λ (u : Outcome Operands). then_from u.answer u.after (λ given. pure (reading_with opcode p given))) (last_is o.last l p (put_in o.reg (reg_given b wr n p m) (put_in o.rm (rm_given b we p m memory) (sized o.count size))) s)
+-- the operands after memory, at any encoding
+memory_following : (b : AfterOpcode) (o : Order) (wr we : Width) (l : Last) (n size opcode : ℕ) (p : Prefixes) (m : ℕ) (memory : Option Raw) → Named o → (s : State ℕ) →
+    (filled_step (list_of (encodings_in o (reg_encoding b wr n p) (rm_encoding b we p) (last_encoding l p))) p m memory >>= λ operand_list. pure (reading_from (reads opcode (encodings_in o (reg_encoding b wr n p) (rm_encoding b we p) (last_encoding l p)) size) p opcode operand_list)) s
+    ≡ (last_read o.last l p (put_in o.reg (reg_pair_of b wr n p m) (put_in o.rm (rm_pair_of b we p m memory) (sized o.count size))) >>= λ operand_list. pure (reading_with opcode p operand_list)) s
+memory_following b o wr we l n size opcode p m memory h s =
+    in_order h (operand_step (last_encoding l p) p absent_modrm None s).answer (operand_step (last_encoding l p) p absent_modrm None s).after (reg_encoding b wr n p) (rm_encoding b we p) (last_encoding l p) (reg_pair_of b wr n p m) (rm_pair_of b we p m memory) size opcode p m memory (reg_yields b wr n p m memory) (rm_yields b we p m memory) s (last_plain l p p m memory s)
+    ∙ ap (λ (u : Outcome Operands). then_from u.answer u.after (λ operand_list. pure (reading_with opcode p operand_list))) (last_is o.last l p (put_in o.reg (reg_pair_of b wr n p m) (put_in o.rm (rm_pair_of b we p m memory) (sized o.count size))) s)
 
 -- ---- the verdict
 
@@ -171,9 +171,9 @@ not_true : (b : Bool) → not b ≡ true → b ≡ false
 not_true true h = cc
 not_true false h = refl
 
-accepted : (b : Behind) (m o size : ℕ) (encodings : OperandEncodings) → allows b m ≡ true → judged_plan b m (reads o encodings size) ≡ reads o encodings size
-accepted behind.Memory m o size encodings h = rw h refl
-accepted behind.Registers m o size encodings h = rw (not_true (is_memory m) h) refl
+accepted : (b : AfterOpcode) (m o size : ℕ) (encodings : OperandEncodings) → allows b m ≡ true → restricted_plan b m (reads o encodings size) ≡ reads o encodings size
+accepted after_opcode.Memory m o size encodings h = rw h refl
+accepted after_opcode.Registers m o size encodings h = rw (not_true (is_memory m) h) refl
 accepted b m o size encodings h = refl
 
 -- ---- the memory operand
@@ -194,74 +194,74 @@ by_memory false p m K L ok err s u e = rw e (ok None s refl)
 
 -- ---- ModRM's operands
 
-same_reg : (b : Behind) (w : Width) (n : ℕ) (p : Prefixes) (m : ℕ) → has_modrm b ≡ true → reg_pair w p m ≡ reg_given b w n p m
-same_reg behind.EitherForm w n p m h = refl
-same_reg behind.Memory w n p m h = refl
-same_reg behind.Registers w n p m h = refl
+same_reg : (b : AfterOpcode) (w : Width) (n : ℕ) (p : Prefixes) (m : ℕ) → has_modrm b ≡ true → reg_pair w p m ≡ reg_pair_of b w n p m
+same_reg after_opcode.EitherForm w n p m h = refl
+same_reg after_opcode.Memory w n p m h = refl
+same_reg after_opcode.Registers w n p m h = refl
 same_reg b w n p m h = cc
 
-same_rm : (b : Behind) (w : Width) (p : Prefixes) (m : ℕ) (memory : Option Raw) → has_modrm b ≡ true → allows b m ≡ true → Suits memory (is_memory m) → rm_pair w p m memory ≡ rm_given b w p m memory
-same_rm behind.Memory w p m None h a e = cc
-same_rm behind.Memory width.Mm p m (Some raw) h a e = refl
-same_rm behind.Memory w p m (Some raw) h a e = refl
+same_rm : (b : AfterOpcode) (w : Width) (p : Prefixes) (m : ℕ) (memory : Option Raw) → has_modrm b ≡ true → allows b m ≡ true → Suits memory (is_memory m) → rm_pair w p m memory ≡ rm_pair_of b w p m memory
+same_rm after_opcode.Memory w p m None h a e = cc
+same_rm after_opcode.Memory width.Mm p m (Some raw) h a e = refl
+same_rm after_opcode.Memory w p m (Some raw) h a e = refl
 same_rm b w p m memory h a e = refl
 
-module _ (b : Behind) (o : Order) (wr we : Width) (l : Last) (n size opcode : ℕ) (p : Prefixes) (m : ℕ) where
+module _ (b : AfterOpcode) (o : Order) (wr we : Width) (l : Last) (n size opcode : ℕ) (p : Prefixes) (m : ℕ) where
   abbrev placing : Result (Option Raw) DecodeError → State ℕ → Outcome Reading
-  placing r t = ((((λ _. outcome r t) >>= λ memory. pure (put_in o.reg (reg_pair wr p m) (put_in o.rm (rm_pair we p m memory) (sized o.count size)))) >>= last_read o.last l p) >>= λ given. pure (reading_with opcode p given)) t
+  placing r t = ((((λ _. outcome r t) >>= λ memory. pure (put_in o.reg (reg_pair wr p m) (put_in o.rm (rm_pair we p m memory) (sized o.count size)))) >>= last_read o.last l p) >>= λ operand_list. pure (reading_with opcode p operand_list)) t
 
   abbrev planned : Result (Option Raw) DecodeError → State ℕ → Outcome Reading
-  planned r t = ((λ _. outcome r t) >>= λ memory. given_step (list_of (encodings_in o (reg_encoding b wr n p) (rm_encoding b we p) (last_encoding l p))) p m memory >>= λ given. pure (reading_from (reads opcode (encodings_in o (reg_encoding b wr n p) (rm_encoding b we p) (last_encoding l p)) size) p opcode given)) t
+  planned r t = ((λ _. outcome r t) >>= λ memory. filled_step (list_of (encodings_in o (reg_encoding b wr n p) (rm_encoding b we p) (last_encoding l p))) p m memory >>= λ operand_list. pure (reading_from (reads opcode (encodings_in o (reg_encoding b wr n p) (rm_encoding b we p) (last_encoding l p)) size) p opcode operand_list)) t
 
   there : Named o → has_modrm b ≡ true → allows b m ≡ true → (memory : Option Raw) (t : State ℕ) → Suits memory (is_memory m) → placing (Ok memory) t ≡ planned (Ok memory) t
   there h modrm may memory t e =
-      ap (λ x. (last_read o.last l p (put_in o.reg x (put_in o.rm (rm_pair we p m memory) (sized o.count size))) >>= λ given. pure (reading_with opcode p given)) t) (same_reg b wr n p m modrm)
-      ∙ ap (λ y. (last_read o.last l p (put_in o.reg (reg_given b wr n p m) (put_in o.rm y (sized o.count size))) >>= λ given. pure (reading_with opcode p given)) t) (same_rm b we p m memory modrm may e)
-      ∙ sym (behind_memory b o wr we l n size opcode p m memory h t)
+      ap (λ x. (last_read o.last l p (put_in o.reg x (put_in o.rm (rm_pair we p m memory) (sized o.count size))) >>= λ operand_list. pure (reading_with opcode p operand_list)) t) (same_reg b wr n p m modrm)
+      ∙ ap (λ y. (last_read o.last l p (put_in o.reg (reg_pair_of b wr n p m) (put_in o.rm y (sized o.count size))) >>= λ operand_list. pure (reading_with opcode p operand_list)) t) (same_rm b we p m memory modrm may e)
+      ∙ sym (memory_following b o wr we l n size opcode p m memory h t)
 
   modrm_plan : (s : State ℕ) → Named o → has_modrm b ≡ true → allows b m ≡ true →
-      ((modrm_read o.reg wr o.rm we p m (sized o.count size) >>= last_read o.last l p) >>= λ given. pure (reading_with opcode p given)) s
+      ((modrm_read o.reg wr o.rm we p m (sized o.count size) >>= last_read o.last l p) >>= λ operand_list. pure (reading_with opcode p operand_list)) s
       ≡ read_plan (reads opcode (encodings_in o (reg_encoding b wr n p) (rm_encoding b we p) (last_encoding l p)) size) p m s
   unfolding read_plan
   modrm_plan s h modrm may = by_memory (is_memory m) p m placing planned (there h modrm may) (λ e t. refl) s (read_memory p m s) refl
 
 -- ---- operands with no ModRM
 
-same_fixed : (b : Behind) (w : Width) (n : ℕ) (p : Prefixes) (m : ℕ) → has_register b ≡ true → fixed_pair b w n p ≡ reg_given b w n p m
-same_fixed behind.Opcode w n p m h = refl
-same_fixed behind.Accumulator w n p m h = refl
+same_fixed : (b : AfterOpcode) (w : Width) (n : ℕ) (p : Prefixes) (m : ℕ) → has_register b ≡ true → fixed_pair b w n p ≡ reg_pair_of b w n p m
+same_fixed after_opcode.Opcode w n p m h = refl
+same_fixed after_opcode.Accumulator w n p m h = refl
 same_fixed b w n p m h = cc
 
-no_memory : (b : Behind) (m : ℕ) → has_modrm b ≡ false → allows b m ≡ true → is_memory m ≡ false
-no_memory behind.EitherForm m h a = cc
-no_memory behind.Memory m h a = cc
-no_memory (behind.ByReg g) m h a = cc
-no_memory (behind.Peculiar u) m h a = cc
-no_memory behind.Group m h a = cc
+no_memory : (b : AfterOpcode) (m : ℕ) → has_modrm b ≡ false → allows b m ≡ true → is_memory m ≡ false
+no_memory after_opcode.EitherForm m h a = cc
+no_memory after_opcode.Memory m h a = cc
+no_memory (after_opcode.ByReg g) m h a = cc
+no_memory (after_opcode.ByPlan u) m h a = cc
+no_memory after_opcode.Group m h a = cc
 no_memory b m h a = not_true (is_memory m) a
 
-no_modrm : (b : Behind) → has_register b ≡ true → has_modrm b ≡ false
-no_modrm behind.Opcode h = refl
-no_modrm behind.Accumulator h = refl
+no_modrm : (b : AfterOpcode) → has_register b ≡ true → has_modrm b ≡ false
+no_modrm after_opcode.Opcode h = refl
+no_modrm after_opcode.Accumulator h = refl
 no_modrm b h = cc
 
-fixed_plan : (b : Behind) (o : Order) (wr we : Width) (l : Last) (n size opcode : ℕ) (p : Prefixes) (m : ℕ) (s : State ℕ) (given : Operands) → Named o → has_modrm b ≡ false → allows b m ≡ true →
-    given ≡ put_in o.reg (reg_given b wr n p m) (put_in o.rm (rm_given b we p m None) (sized o.count size)) →
-    (last_read o.last l p given >>= λ x. pure (reading_with opcode p x)) s
+fixed_plan : (b : AfterOpcode) (o : Order) (wr we : Width) (l : Last) (n size opcode : ℕ) (p : Prefixes) (m : ℕ) (s : State ℕ) (operand_list : Operands) → Named o → has_modrm b ≡ false → allows b m ≡ true →
+    operand_list ≡ put_in o.reg (reg_pair_of b wr n p m) (put_in o.rm (rm_pair_of b we p m None) (sized o.count size)) →
+    (last_read o.last l p operand_list >>= λ x. pure (reading_with opcode p x)) s
     ≡ read_plan (reads opcode (encodings_in o (reg_encoding b wr n p) (rm_encoding b we p) (last_encoding l p)) size) p m s
 unfolding read_plan
-fixed_plan b o wr we l n size opcode p m s given h none may e =
-    ap (λ g. (last_read o.last l p g >>= λ x. pure (reading_with opcode p x)) s) e ∙ sym (behind_memory b o wr we l n size opcode p m None h s) ∙ (rw (no_memory b m none may) refl)
+fixed_plan b o wr we l n size opcode p m s operand_list h none may e =
+    ap (λ g. (last_read o.last l p g >>= λ x. pure (reading_with opcode p x)) s) e ∙ sym (memory_following b o wr we l n size opcode p m None h s) ∙ (rw (no_memory b m none may) refl)
 
 -- ---- the whole encoding
 
-abbrev Written : Order → Behind → Width → Width → Last → Size → Size → ℕ → ℕ → ℕ → Prefixes → ℕ → State ℕ → Type 0
+abbrev Written : Order → AfterOpcode → Width → Width → Last → Size → Size → ℕ → ℕ → ℕ → Prefixes → ℕ → State ℕ → Type 0
 Written o b wr we l x y size n opcode p m s =
-    let e : FormEncoding = record { behind = b; order = o; reg = wr; rm = we; last = l; in_memory = x; in_register = y } in
-    (operands_read e n p m (sized o.count size) >>= λ given. pure (reading_with opcode p given)) s
+    let e : FormEncoding = record { after_opcode = b; order = o; reg = wr; rm = we; last = l; in_memory = x; in_register = y } in
+    (operands_read e n p m (sized o.count size) >>= λ operand_list. pure (reading_with opcode p operand_list)) s
     ≡ read_plan (reads opcode (encodings_in o (reg_encoding b wr n p) (rm_encoding b we p) (last_encoding l p)) size) p m s
 
-written : {o : Order} → Named o → (b : Behind) (wr we : Width) (l : Last) (x y : Size) (size n opcode : ℕ) (p : Prefixes) (m : ℕ) (s : State ℕ) → order_fits b o ≡ true → allows b m ≡ true → Written o b wr we l x y size n opcode p m s
+written : {o : Order} → Named o → (b : AfterOpcode) (wr we : Width) (l : Last) (x y : Size) (size n opcode : ℕ) (p : Prefixes) (m : ℕ) (s : State ℕ) → order_fits b o ≡ true → allows b m ≡ true → Written o b wr we l x y size n opcode p m s
 written no_named b wr we l x y size n opcode p m s f a = fixed_plan b _ wr we l n size opcode p m s (sized 0 size) no_named (not_true (has_modrm b) f) a refl
 written i_named b wr we l x y size n opcode p m s f a = fixed_plan b _ wr we l n size opcode p m s (sized 1 size) i_named (not_true (has_modrm b) f) a refl
 written r_named b wr we l x y size n opcode p m s f a = fixed_plan b _ wr we l n size opcode p m s (put_in First (fixed_pair b wr n p) (sized 1 size)) r_named (no_modrm b f) a (ap (λ r. put_in First r (sized 1 size)) (same_fixed b wr n p m f))
@@ -274,14 +274,14 @@ written g_e_named b wr we l x y size n opcode p m s f a = modrm_plan b _ wr we l
 written e_g_i_named b wr we l x y size n opcode p m s f a = modrm_plan b _ wr we l n size opcode p m s e_g_i_named f a
 written g_e_i_named b wr we l x y size n opcode p m s f a = modrm_plan b _ wr we l n size opcode p m s g_e_i_named f a
 
-pub plan_is_read : (e : FormEncoding) (n opcode : ℕ) (p : Prefixes) (m : ℕ) (s : State ℕ) → is_order e.order ≡ true → order_fits e.behind e.order ≡ true → allows e.behind m ≡ true →
+pub plan_is_read : (e : FormEncoding) (n opcode : ℕ) (p : Prefixes) (m : ℕ) (s : State ℕ) → is_order e.order ≡ true → order_fits e.after_opcode e.order ≡ true → allows e.after_opcode m ≡ true →
     read_plan (plan_of e n opcode p m) p m s
-    ≡ (operands_read e n p m (sized e.order.count (size_bytes (size_at e m) opcode p)) >>= λ given. pure (reading_with opcode p given)) s
+    ≡ (operands_read e n p m (sized e.order.count (size_bytes (size_at e m) opcode p)) >>= λ operand_list. pure (reading_with opcode p operand_list)) s
 plan_is_read e n opcode p m s h f a =
-    ap (λ plan. read_plan plan p m s) (accepted e.behind m opcode (size_bytes (size_at e m) opcode p) (encodings_in e.order (reg_encoding e.behind e.reg n p) (rm_encoding e.behind e.rm p) (last_encoding e.last p)) a)
-    ∙ sym (written (named_of e.order.reg e.order.rm e.order.last e.order.count h) e.behind e.reg e.rm e.last e.in_memory e.in_register (size_bytes (size_at e m) opcode p) n opcode p m s f a)
+    ap (λ plan. read_plan plan p m s) (accepted e.after_opcode m opcode (size_bytes (size_at e m) opcode p) (encodings_in e.order (reg_encoding e.after_opcode e.reg n p) (rm_encoding e.after_opcode e.rm p) (last_encoding e.last p)) a)
+    ∙ sym (written (named_of e.order.reg e.order.rm e.order.last e.order.count h) e.after_opcode e.reg e.rm e.last e.in_memory e.in_register (size_bytes (size_at e m) opcode p) n opcode p m s f a)
 
-pub last_there : (e : FormEncoding) → ends e.order e.last ≡ true → e.order.last ≢ Nowhere → e.last ≢ last.Absent
+pub last_there : (e : FormEncoding) → has_last e.order e.last ≡ true → e.order.last ≢ Nowhere → e.last ≢ last.Absent
 last_there e h k = ends_at e.order.last e.last h k
   where
     ends_at : (at : Position) (l : Last) → (if somewhere at then is_last l else true) ≡ true → at ≢ Nowhere → l ≢ last.Absent
@@ -295,25 +295,25 @@ both : (a b : Bool) → (a && b) ≡ true → (a ≡ true) × (b ≡ true)
 both true b h = (refl, h)
 both false b h = cc
 
-pub sound_parts : (e : FormEncoding) → is_sound e ≡ true → (is_order e.order ≡ true) × (order_fits e.behind e.order ≡ true) × (ends e.order e.last ≡ true)
+pub sound_parts : (e : FormEncoding) → is_sound e ≡ true → (is_order e.order ≡ true) × (order_fits e.after_opcode e.order ≡ true) × (has_last e.order e.last ≡ true)
 sound_parts e h =
-    let parts : (is_order e.order ≡ true) × ((order_fits e.behind e.order && ends e.order e.last) ≡ true) = both (is_order e.order) (order_fits e.behind e.order && ends e.order e.last) h in
-    let rest : (order_fits e.behind e.order ≡ true) × (ends e.order e.last ≡ true) = both (order_fits e.behind e.order) (ends e.order e.last) parts.1 in
+    let parts : (is_order e.order ≡ true) × ((order_fits e.after_opcode e.order && has_last e.order e.last) ≡ true) = both (is_order e.order) (order_fits e.after_opcode e.order && has_last e.order e.last) h in
+    let rest : (order_fits e.after_opcode e.order ≡ true) × (has_last e.order e.last ≡ true) = both (order_fits e.after_opcode e.order) (has_last e.order e.last) parts.1 in
     (parts.0, rest.0, rest.1)
 
-pub allowed_is_described : (b : Behind) (m : ℕ) → allows b m ≡ true → IsTrue (is_described b)
-allowed_is_described (behind.ByReg g) m h = cc
-allowed_is_described (behind.Peculiar u) m h = cc
-allowed_is_described behind.Group m h = cc
+pub allowed_is_described : (b : AfterOpcode) (m : ℕ) → allows b m ≡ true → IsTrue (is_described b)
+allowed_is_described (after_opcode.ByReg g) m h = cc
+allowed_is_described (after_opcode.ByPlan u) m h = cc
+allowed_is_described after_opcode.Group m h = cc
 allowed_is_described b m h = refl
 
 -- ---- in place
 
-pub encoded_at_position : (at : Position) (l : OperandEncoding) (p : Prefixes) (given : Operands) (s : State ℕ) → at ≢ Nowhere → put_encoded (index_of_position at) l p absent_modrm None given s ≡ encoded_read at l p given s
-encoded_at_position First l p given s h = refl
-encoded_at_position Second l p given s h = refl
-encoded_at_position Third l p given s h = refl
-encoded_at_position Nowhere l p given s h = absurd (h refl)
+pub encoded_at_position : (at : Position) (l : OperandEncoding) (p : Prefixes) (operand_list : Operands) (s : State ℕ) → at ≢ Nowhere → put_encoded (index_of_position at) l p absent_modrm None operand_list s ≡ encoded_read at l p operand_list s
+encoded_at_position First l p operand_list s h = refl
+encoded_at_position Second l p operand_list s h = refl
+encoded_at_position Third l p operand_list s h = refl
+encoded_at_position Nowhere l p operand_list s h = absurd (h refl)
 
 pub rm_in_memory : (w : Width) (p : Prefixes) (m : ℕ) (raw : Raw) → rm_pair w p m (Some raw) ≡ shape raw
 rm_in_memory width.Mm p m raw = refl

@@ -64,8 +64,8 @@ width_small Address64 = refl
 alone : (w : ℕ) → nat_lt w 9 ≡ true → nat_lt (w + 0) 9 ≡ true
 alone w h = grind (arith, nat_tests)
 
-behind_none : (x w : ℕ) → x ≡ 0 → nat_lt w 9 ≡ true → nat_lt (x + w) 9 ≡ true
-behind_none x w e h = grind (arith, nat_tests)
+after_none : (x w : ℕ) → x ≡ 0 → nat_lt w 9 ≡ true → nat_lt (x + w) 9 ≡ true
+after_none x w e h = grind (arith, nat_tests)
 
 before_none : (w x : ℕ) → x ≡ 0 → nat_lt w 9 ≡ true → nat_lt (w + (x + 0)) 9 ≡ true
 before_none w x e h = grind (arith, nat_tests)
@@ -80,7 +80,7 @@ narrow_one a = alone (immediate_width a) (width_small a)
 
 pub narrow_second : (a b : OperandEncoding) → immediate_width a ≡ 0 → narrow (Two a b) ≡ true
 unfolding narrow
-narrow_second a b e = behind_none (immediate_width a) (immediate_width b + 0) e (alone (immediate_width b) (width_small b))
+narrow_second a b e = after_none (immediate_width a) (immediate_width b + 0) e (alone (immediate_width b) (width_small b))
 
 pub narrow_first : (a b : OperandEncoding) → immediate_width b ≡ 0 → narrow (Two a b) ≡ true
 unfolding narrow
@@ -88,7 +88,7 @@ narrow_first a b e = before_none (immediate_width a) (immediate_width b) e (widt
 
 pub narrow_third : (a b c : OperandEncoding) → immediate_width a ≡ 0 → immediate_width b ≡ 0 → narrow (Three a b c) ≡ true
 unfolding narrow
-narrow_third a b c e h = behind_none (immediate_width a) (immediate_width b + (immediate_width c + 0)) e (behind_none (immediate_width b) (immediate_width c + 0) h (alone (immediate_width c) (width_small c)))
+narrow_third a b c e h = after_none (immediate_width a) (immediate_width b + (immediate_width c + 0)) e (after_none (immediate_width b) (immediate_width c + 0) h (alone (immediate_width c) (width_small c)))
 
 pub narrow_if : (b : Bool) (x y : OperandEncodings) → narrow x ≡ true → narrow y ≡ true → narrow (if b then x else y) ≡ true
 narrow_if true x y h k = h

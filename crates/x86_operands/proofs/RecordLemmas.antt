@@ -1,4 +1,4 @@
--- What a row asks behind its opcode byte, where it ends, and that its pieces are taken.
+-- What a row has after its opcode byte, where it ends, and that its pieces are taken.
 use Rattle.std.proofs.Common.{◌≡◌, ℕ, List, [], ◌∷◌, ◌++◌, length, Option, Some, None, Result, Ok, Err, refl, sym, ap, subst, arith}
 use Rattle.x86_fields.specs.declared.errors.DecodeError.{DecodeError}
 use Rattle.x86_fields.specs.declared.prefixes.Prefixes.{Prefixes}
@@ -6,7 +6,7 @@ use Rattle.x86_fields.specs.Steps.{Step, ◌>>=◌, next_byte}
 use Rattle.x86_fields.specs.ModRM.{absent_modrm, as_register}
 use Rattle.x86_fields.specs.Pieces.{EndsBetween}
 use Rattle.x86_fields.proofs.StepLemmas.{Takes, takes_pure, takes_bind, takes_err, takes_byte}
-use Rattle.x86_fields.proofs.EndLemmas.{EndsWell, IsEmpty, Only, IsByte, ends_byte, ends_pure, ends_refuse, ends_bind, ends_then, ends_map, weaken, Stands, stands_bind, stands_empty, stands_refused}
+use Rattle.x86_fields.proofs.EndLemmas.{EndsWell, IsEmpty, Only, IsByte, ends_byte, ends_pure, ends_refuse, ends_bind, ends_then, ends_map, weaken, Halts, halts_bind, halts_empty, halts_refused}
 use Rattle.x86_fields.proofs.PieceLemmas.{takes_map}
 use Rattle.x86_operands.specs.declared.plans.Fault.{Fault}
 use Rattle.x86_operands.specs.declared.plans.ModrmUse.{ModrmUse}
@@ -14,13 +14,13 @@ use Rattle.x86_operands.specs.declared.plans.ModrmUse.TheVariants.{Absent, Eithe
 use Rattle.x86_operands.specs.declared.reader.Reading.{Reading}
 use Rattle.x86_operands.specs.Plans.{RowRecord}
 use Rattle.x86_operands.specs.PlanSteps.{read_modrm, refuse_fault, read_plan, record_step, error_of}
-use Rattle.x86_operands.specs.Pieces.{SpellsTail, RefusesTail, tail_widths, modrm_of, modrm_width, SpellsRow, RefusesRow, at_opcode, behind_modrm, BetweenRow, before, behind}
+use Rattle.x86_operands.specs.Pieces.{SpellsTail, RefusesTail, tail_widths, modrm_of, modrm_width, SpellsRow, RefusesRow, at_opcode, past_opcode, BetweenRow, before, with_modrm}
 use Rattle.x86_operands.proofs.VerdictLemmas.{Faults, Never, fault_error}
-use Rattle.x86_operands.proofs.PlanLemmas.{PlanGives, ends_plan, takes_tail, takes_tail_refused, stands_plan}
+use Rattle.x86_operands.proofs.PlanLemmas.{PlanYields, ends_plan, takes_tail, takes_tail_refused, halts_plan}
 
-abbrev pub RowGives : RowRecord → Prefixes → List ℕ → Result Reading DecodeError → Type 0
-RowGives r p q (Ok reading) = SpellsRow r p q reading
-RowGives r p q (Err e) = Faults (RefusesRow r p q) e
+abbrev pub RowYields : RowRecord → Prefixes → List ℕ → Result Reading DecodeError → Type 0
+RowYields r p q (Ok reading) = SpellsRow r p q reading
+RowYields r p q (Err e) = Faults (RefusesRow r p q) e
 
 -- ---- a refusal at the opcode
 
@@ -67,68 +67,68 @@ module _ (r : RowRecord) (p : Prefixes) where
   abbrev after_modrm : ℕ → Step Reading
   after_modrm m = read_plan (r.plan m) p m
 
-  abbrev behind_fault : Step Reading
-  behind_fault = read_modrm u >>= after_modrm
+  abbrev after_fault : Step Reading
+  after_fault = read_modrm u >>= after_modrm
 
-  abbrev Gives : List ℕ → Result Reading DecodeError → Type 0
-  Gives q a = RowGives r p q a
+  abbrev Yields : List ℕ → Result Reading DecodeError → Type 0
+  Yields q a = RowYields r p q a
 
   abbrev Between : List ℕ → Type 0
   Between q = BetweenRow r p q
 
-  row_gives : (modrm q : List ℕ) (m : ℕ) (a : Result Reading DecodeError) → r.at_opcode ≡ None → IsModrm u modrm m → PlanGives (r.plan m) p m q a → Gives (modrm ++ q) a
-  row_gives modrm q m (Ok reading) passed h g = record { modrm = modrm; tail = q; passed = passed; spelled = refl; modrm_asked = h.0; behind = subst (λ k. SpellsTail (r.plan k) p k q reading) h.1 g }
-  row_gives modrm q m (Err e) passed h g = (g.0, g.1, behind_modrm modrm q passed refl h.0 (subst (λ k. RefusesTail (r.plan k) p k q g.0) h.1 g.2))
+  row_yields : (modrm q : List ℕ) (m : ℕ) (a : Result Reading DecodeError) → r.at_opcode ≡ None → IsModrm u modrm m → PlanYields (r.plan m) p m q a → Yields (modrm ++ q) a
+  row_yields modrm q m (Ok reading) passed h g = record { modrm = modrm; tail = q; passed = passed; spelled = refl; modrm_length = h.0; tail_spelled = subst (λ k. SpellsTail (r.plan k) p k q reading) h.1 g }
+  row_yields modrm q m (Err e) passed h g = (g.0, g.1, past_opcode modrm q passed refl h.0 (subst (λ k. RefusesTail (r.plan k) p k q g.0) h.1 g.2))
 
-  ends_behind_fault : r.at_opcode ≡ None → EndsWell Gives Between behind_fault
-  ends_behind_fault passed = ends_then (IsModrm u) IsEmpty Gives Between (read_modrm u) after_modrm (ends_modrm u)
+  ends_after_fault : r.at_opcode ≡ None → EndsWell Yields Between after_fault
+  ends_after_fault passed = ends_then (IsModrm u) IsEmpty Yields Between (read_modrm u) after_modrm (ends_modrm u)
       (λ q e. before e)
-      (λ modrm m h s. weaken s (λ q a g. row_gives modrm q m a passed h g)
-      (λ q k. behind modrm q refl h.0 (subst (λ x. EndsBetween (tail_widths (r.plan x) x q) q) h.1 k)) (ends_plan (r.plan m) p m s))
+      (λ modrm m h s. weaken s (λ q a g. row_yields modrm q m a passed h g)
+      (λ q k. with_modrm modrm q refl h.0 (subst (λ x. EndsBetween (tail_widths (r.plan x) x q) q) h.1 k)) (ends_plan (r.plan m) p m s))
 
   -- what a row takes has the pieces of the row, or ends between them
-  pub ends_row : EndsWell Gives Between (record_step r p)
+  pub ends_row : EndsWell Yields Between (record_step r p)
   unfolding record_step
-  ends_row = ends_bind (IsFault r.at_opcode) Never Gives Between (refuse_fault r.at_opcode) (λ _. behind_fault) (ends_fault r.at_opcode)
+  ends_row = ends_bind (IsFault r.at_opcode) Never Yields Between (refuse_fault r.at_opcode) (λ _. after_fault) (ends_fault r.at_opcode)
       (λ q e. absurd e)
       (λ q e h. (h.1.0, h.1.1, at_opcode h.1.2 h.0))
       (λ q x h s.
       let skip : (l : List ℕ) → l ≡ q ++ l = λ l. ap (λ k. k ++ l) (sym h.0) in
-      weaken s (λ l a g. subst (λ k. Gives k a) (skip l) g) (λ l k. subst Between (skip l) k) (ends_behind_fault h.1 s))
+      weaken s (λ l a g. subst (λ k. Yields k a) (skip l) g) (λ l k. subst Between (skip l) k) (ends_after_fault h.1 s))
 
   takes_row_by : (modrm q : List ℕ) (a : Result Reading DecodeError) → r.at_opcode ≡ None → length modrm ≡ modrm_width u → Takes (after_modrm (modrm_of u modrm)) q a → Takes (record_step r p) (modrm ++ q) a
   unfolding record_step
-  takes_row_by modrm q a passed e t = takes_bind (refuse_fault r.at_opcode) (λ _. behind_fault) [] (modrm ++ q) tt a (takes_no_fault r.at_opcode passed)
+  takes_row_by modrm q a passed e t = takes_bind (refuse_fault r.at_opcode) (λ _. after_fault) [] (modrm ++ q) tt a (takes_no_fault r.at_opcode passed)
       (takes_bind (read_modrm u) after_modrm modrm q (modrm_of u modrm) a (takes_modrm u modrm e) t)
 
   -- the pieces of a row are taken
   pub takes_row : (q : List ℕ) (reading : Reading) → SpellsRow r p q reading → Takes (record_step r p) q (Ok reading)
   takes_row q reading s = subst (λ l. Takes (record_step r p) l (Ok reading)) (sym s.spelled)
-      (takes_row_by s.modrm s.tail (Ok reading) s.passed s.modrm_asked (takes_tail (r.plan (modrm_of u s.modrm)) p (modrm_of u s.modrm) s.tail reading s.behind))
+      (takes_row_by s.modrm s.tail (Ok reading) s.passed s.modrm_length (takes_tail (r.plan (modrm_of u s.modrm)) p (modrm_of u s.modrm) s.tail reading s.tail_spelled))
 
   pub takes_row_refused : (q : List ℕ) (fault : Fault) → RefusesRow r p q fault → Takes (record_step r p) q (Err (error_of fault))
   unfolding record_step
   takes_row_refused q fault (at_opcode is none) = subst (λ l. Takes (record_step r p) l (Err (error_of fault))) (sym none)
-      (takes_err (refuse_fault r.at_opcode) (λ _. behind_fault) [] (error_of fault) (takes_fault r.at_opcode fault is))
-  takes_row_refused q fault (behind_modrm modrm tail passed h long s) = subst (λ l. Takes (record_step r p) l (Err (error_of fault))) (sym h)
+      (takes_err (refuse_fault r.at_opcode) (λ _. after_fault) [] (error_of fault) (takes_fault r.at_opcode fault is))
+  takes_row_refused q fault (past_opcode modrm tail passed h long s) = subst (λ l. Takes (record_step r p) l (Err (error_of fault))) (sym h)
       (takes_row_by modrm tail (Err (error_of fault)) passed long (takes_tail_refused (r.plan (modrm_of u modrm)) p (modrm_of u modrm) tail fault s))
 
-  stands_passed : (q : List ℕ) → r.at_opcode ≡ None → Stands behind_fault q → Stands (record_step r p) q
+  halts_passed : (q : List ℕ) → r.at_opcode ≡ None → Halts after_fault q → Halts (record_step r p) q
   unfolding record_step
-  stands_passed q passed t = stands_bind (refuse_fault r.at_opcode) (λ _. behind_fault) [] q tt (takes_no_fault r.at_opcode passed) t
+  halts_passed q passed t = halts_bind (refuse_fault r.at_opcode) (λ _. after_fault) [] q tt (takes_no_fault r.at_opcode passed) t
 
-  stands_fault : (q : List ℕ) (f : Fault) → r.at_opcode ≡ Some f → Stands (record_step r p) q
+  halts_fault : (q : List ℕ) (f : Fault) → r.at_opcode ≡ Some f → Halts (record_step r p) q
   unfolding record_step
-  stands_fault q f e = stands_refused (refuse_fault r.at_opcode) (λ _. behind_fault) q (error_of f) (fault_error f) (takes_fault r.at_opcode f e)
+  halts_fault q f e = halts_refused (refuse_fault r.at_opcode) (λ _. after_fault) q (error_of f) (fault_error f) (takes_fault r.at_opcode f e)
 
-  stands_tail : (modrm q : List ℕ) → length modrm ≡ modrm_width u → Stands (after_modrm (modrm_of u modrm)) q → Stands behind_fault (modrm ++ q)
-  stands_tail modrm q e t = stands_bind (read_modrm u) after_modrm modrm q (modrm_of u modrm) (takes_modrm u modrm e) t
+  halts_tail : (modrm q : List ℕ) → length modrm ≡ modrm_width u → Halts (after_modrm (modrm_of u modrm)) q → Halts after_fault (modrm ++ q)
+  halts_tail modrm q e t = halts_bind (read_modrm u) after_modrm modrm q (modrm_of u modrm) (takes_modrm u modrm e) t
 
-  -- the row stands on bytes that end between its pieces
-  pub stands_row : (q : List ℕ) → Between q → Stands (record_step r p) q
-  stands_row q (before e) = subst (Stands (record_step r p)) (sym e) (stands_empty (record_step r p) ends_row)
-  stands_row q (behind modrm tail h long k) = by r.at_opcode refl
+  -- the row halts on bytes that end between its pieces
+  pub halts_row : (q : List ℕ) → Between q → Halts (record_step r p) q
+  halts_row q (before e) = subst (Halts (record_step r p)) (sym e) (halts_empty (record_step r p) ends_row)
+  halts_row q (with_modrm modrm tail h long k) = by r.at_opcode refl
     where
-      by : (o : Option Fault) → r.at_opcode ≡ o → Stands (record_step r p) q
-      by None passed = stands_passed q passed (subst (Stands behind_fault) (sym h) (stands_tail modrm tail long (stands_plan (r.plan (modrm_of u modrm)) p (modrm_of u modrm) tail k)))
-      by (Some f) e = stands_fault q f e
+      by : (o : Option Fault) → r.at_opcode ≡ o → Halts (record_step r p) q
+      by None passed = halts_passed q passed (subst (Halts after_fault) (sym h) (halts_tail modrm tail long (halts_plan (r.plan (modrm_of u modrm)) p (modrm_of u modrm) tail k)))
+      by (Some f) e = halts_fault q f e

@@ -15,8 +15,8 @@ use Rattle.x86_operands.specs.declared.plans.Verdict.TheVariants.{Refuses}
 use Rattle.x86_operands.specs.declared.reader.Reading.{Reading}
 use Rattle.x86_operands.specs.Plans.{RowRecord}
 use Rattle.x86_operands.specs.PlanSteps.{record_step, error_of}
-use Rattle.x86_operands.specs.Pieces.{modrm_of, SpellsRow, RefusesTail, at_modrm, after_address, after_suffix, no_name, RefusesRow, at_opcode, behind_modrm, BetweenRow, IsReadRow, IsRefusedRow, IsOpenRow}
-use Rattle.x86_operands.proofs.RecordLemmas.{RowGives, ends_row, takes_row, takes_row_refused, stands_row}
+use Rattle.x86_operands.specs.Pieces.{modrm_of, SpellsRow, RefusesTail, at_modrm, after_address, after_suffix, no_name, RefusesRow, at_opcode, past_opcode, BetweenRow, IsReadRow, IsRefusedRow, IsOpenRow}
+use Rattle.x86_operands.proofs.RecordLemmas.{RowYields, ends_row, takes_row, takes_row_refused, halts_row}
 
 same_error : (d e : DecodeError) → ◌≡◌ {A = Result Reading DecodeError} (Err d) (Err e) → d ≡ e
 same_error d e h = cc
@@ -46,16 +46,16 @@ module _ (r : RowRecord) (p : Prefixes) where
   HasGap = (r.at_opcode ≡ Some Incomplete) ⊎ ((m : ℕ) × (w : Moment) × ((r.plan m).verdict ≡ Refuses Incomplete w))
 
   module _ (s : State ℕ) where
-    -- what was settled on the bytes in front, if the answer is this
+    -- what was settled on the first bytes, if the answer is this
     abbrev Settled : Result Reading DecodeError → Type 0
-    Settled a = (bytes rest : List ℕ) × (s.left ≡ bytes ++ rest) × RowGives r p bytes a × ((record_step r p s).after ≡ advanced (length bytes) s)
+    Settled a = (bytes rest : List ℕ) × (s.left ≡ bytes ++ rest) × RowYields r p bytes a × ((record_step r p s).after ≡ advanced (length bytes) s)
 
-    settled_by : (a : Result Reading DecodeError) → (record_step r p s).answer ≡ a → a ≢ Err ExhaustedInput → Ends (RowGives r p) (BetweenRow r p) (record_step r p) s → Settled a
-    settled_by a h final (settles bytes rest b front takes _ gives) =
-        let took : record_step r p s ≡ outcome b (advanced (length bytes) s) = takes.takes rest s front in
-        (bytes, rest, front, subst (RowGives r p bytes) (sym (ap (λ o. o.answer) took) ∙ h) gives, ap (λ o. o.after) took)
-    settled_by a h final (runs_out bytes rest front between ends) =
-        absurd (final (sym h ∙ ap (λ o. o.answer) (ends rest [] (sym (append-nil rest)) s front)))
+    settled_by : (a : Result Reading DecodeError) → (record_step r p s).answer ≡ a → a ≢ Err ExhaustedInput → Ends (RowYields r p) (BetweenRow r p) (record_step r p) s → Settled a
+    settled_by a h final (settles bytes rest b beginning takes _ yields) =
+        let took : record_step r p s ≡ outcome b (advanced (length bytes) s) = takes.takes rest s beginning in
+        (bytes, rest, beginning, subst (RowYields r p bytes) (sym (ap (λ o. o.answer) took) ∙ h) yields, ap (λ o. o.after) took)
+    settled_by a h final (runs_out bytes rest beginning between runs_out_there) =
+        absurd (final (sym h ∙ ap (λ o. o.answer) (runs_out_there rest [] (sym (append-nil rest)) s beginning)))
 
     settled : (a : Result Reading DecodeError) → (record_step r p s).answer ≡ a → a ≢ Err ExhaustedInput → Settled a
     settled a h final = settled_by a h final (ends_row r p s)
@@ -63,34 +63,34 @@ module _ (r : RowRecord) (p : Prefixes) where
     pub row_read : (reading : Reading) → (record_step r p s).answer ≡ Ok reading → IsReadRow r p reading s (record_step r p s).after
     row_read reading h =
         let took = settled (Ok reading) h (λ e. not_ok ExhaustedInput reading (sym e)) in
-        record { bytes = took.0; rest = took.1; front = took.2; spelled = took.3; taken = took.4 }
+        record { bytes = took.0; rest = took.1; beginning = took.2; spelled = took.3; taken = took.4 }
 
     pub row_refused : (e : DecodeError) → (record_step r p s).answer ≡ Err e → e ≢ ExhaustedInput → IsRefusedRow r p e s (record_step r p s).after
     row_refused e h other =
         let took = settled (Err e) h (λ x. other (same_error e ExhaustedInput x)) in
         let fault = took.3 in
-        record { fault = fault.0; named = fault.1; bytes = took.0; rest = took.1; front = took.2; refuses = fault.2; taken = took.4 }
+        record { fault = fault.0; named = fault.1; bytes = took.0; rest = took.1; beginning = took.2; refuses = fault.2; taken = took.4 }
 
-    open_by : (record_step r p s).answer ≡ Err ExhaustedInput → Ends (RowGives r p) (BetweenRow r p) (record_step r p) s → IsOpenRow r p s (record_step r p s).after
-    open_by h (settles bytes rest b front takes final gives) =
-        absurd (final (sym (ap (λ o. o.answer) (takes.takes rest s front)) ∙ h))
-    open_by h (runs_out bytes rest front between ends) = record {
+    open_by : (record_step r p s).answer ≡ Err ExhaustedInput → Ends (RowYields r p) (BetweenRow r p) (record_step r p) s → IsOpenRow r p s (record_step r p s).after
+    open_by h (settles bytes rest b beginning takes final yields) =
+        absurd (final (sym (ap (λ o. o.answer) (takes.takes rest s beginning)) ∙ h))
+    open_by h (runs_out bytes rest beginning between runs_out_there) = record {
       bytes = bytes;
       rest = rest;
-      front = front;
+      beginning = beginning;
       between = between;
-      longest = λ q more k is. longest (record_step r p) bytes rest q more ends (sym front ∙ k) (stands_row r p q is);
-      taken = ap (λ o. o.after) (ends rest [] (sym (append-nil rest)) s front);
+      longest = λ q more k is. longest (record_step r p) bytes rest q more runs_out_there (sym beginning ∙ k) (halts_row r p q is);
+      taken = ap (λ o. o.after) (runs_out_there rest [] (sym (append-nil rest)) s beginning);
     }
 
     pub row_open : (record_step r p s).answer ≡ Err ExhaustedInput → IsOpenRow r p s (record_step r p s).after
     row_open h = open_by h (ends_row r p s)
 
     pub row_wherever : (bytes rest : List ℕ) (reading : Reading) → s.left ≡ bytes ++ rest → SpellsRow r p bytes reading → record_step r p s ≡ outcome (Ok reading) (advanced (length bytes) s)
-    row_wherever bytes rest reading front spelled = (takes_row r p bytes reading spelled).takes rest s front
+    row_wherever bytes rest reading beginning spelled = (takes_row r p bytes reading spelled).takes rest s beginning
 
     pub row_refuses : (bytes rest : List ℕ) (fault : Fault) → s.left ≡ bytes ++ rest → RefusesRow r p bytes fault → record_step r p s ≡ outcome (Err (error_of fault)) (advanced (length bytes) s)
-    row_refuses bytes rest fault front refuses = (takes_row_refused r p bytes fault refuses).takes rest s front
+    row_refuses bytes rest fault beginning refuses = (takes_row_refused r p bytes fault refuses).takes rest s beginning
 
     -- ---- which errors come
 
@@ -111,7 +111,7 @@ module _ (r : RowRecord) (p : Prefixes) where
 
     gap_of_row : (bytes : List ℕ) (f : Fault) → f ≡ Incomplete → RefusesRow r p bytes f → HasGap
     gap_of_row bytes f is (at_opcode e _) = inl (e ∙ ap (λ x. Some x) is)
-    gap_of_row bytes f is (behind_modrm modrm tail _ _ _ t) = gap_of_tail (modrm_of r.modrm modrm) tail f is t
+    gap_of_row bytes f is (past_opcode modrm tail _ _ _ t) = gap_of_tail (modrm_of r.modrm modrm) tail f is t
 
     pub row_left_out : (record_step r p s).answer ≡ Err IncompleteDecoder → HasGap
     row_left_out h = let is = row_refused IncompleteDecoder h (λ e. cc) in gap_of_row is.bytes is.fault (one_gap is.fault (sym is.named)) is.refuses

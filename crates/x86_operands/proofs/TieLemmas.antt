@@ -1,4 +1,4 @@
--- What the pieces of a row give: tied slots and operands, and the shape of the raw fields.
+-- What the pieces of a row yield: tied slots and operands, and the shape of the raw fields.
 use Rattle.std.proofs.Common.{◌≡◌, ℕ, zero, suc, ◌<◌, ◌≤◌, Bool, true, false, if◌then◌else◌, List, [], ◌∷◌, length, Option, Some, None, ℤ, Ok, slice_index_or, refl, sym, ap, subst, ◌∙◌, arith}
 use Rattle.x86_regs.specs.declared.RegSpec.{RegSpec}
 use Rattle.x86_arch.specs.Reader.{State}
@@ -22,7 +22,7 @@ use Rattle.x86_operands.specs.Shape.{shape_by, shape}
 use Rattle.x86_operands.specs.Plans.{RowRecord, list_of}
 use Rattle.x86_operands.specs.PlanSteps.{pair_at, four_of, record_step}
 use Rattle.x86_operands.specs.Ties.{is_decoded, suits, slot_read, operand_read, AreTied, is_modrm_encoding, names_modrm, encodings_of, HasShapeAt}
-use Rattle.x86_operands.specs.Pieces.{modrm_of, operand_gives, SpellsOperands, SpellsMemory, SpellsRow}
+use Rattle.x86_operands.specs.Pieces.{modrm_of, operand_from, SpellsOperands, SpellsMemory, SpellsRow}
 use Rattle.x86_operands.proofs.RowLemmas.{row_read}
 
 -- ---- one operand
@@ -44,7 +44,7 @@ shape_tied : (raw : Raw) → IsTied (shape raw)
 unfolding shape
 shape_tied raw = shape_by_tied (base_of raw) (index_of raw) (scale_by raw.sib) raw.disp
 
-operand_tied : (s : OperandEncoding) (p : Prefixes) (m : ℕ) (memory : Option Raw) (bytes : List ℕ) → IsTied (operand_gives s p m memory bytes)
+operand_tied : (s : OperandEncoding) (p : Prefixes) (m : ℕ) (memory : Option Raw) (bytes : List ℕ) → IsTied (operand_from s p m memory bytes)
 operand_tied (G c) p m memory bytes = (refl, refl)
 operand_tied Gmm p m memory bytes = (refl, refl)
 operand_tied (E c) p m None bytes = (refl, refl)
@@ -89,12 +89,12 @@ cons_tied : (x : Slot × Operand) (xs : List (Slot × Operand)) → IsTied x →
 cons_tied x xs h t zero below = h
 cons_tied x xs h t (suc k) below = t k (omega arith)
 
-operands_tied : (ss : List OperandEncoding) (p : Prefixes) (m : ℕ) (memory : Option Raw) (bytes : List ℕ) (given : List (Slot × Operand)) → SpellsOperands ss p m memory bytes given → (length given ≡ length ss) × pairs_tied given
-operands_tied [] p m memory bytes given h = (ap length h.1, λ k below. absurd (let n : length given ≡ 0 = ap length h.1 in omega arith))
-operands_tied (s ∷ rest) p m memory bytes given h =
-    let t = operands_tied rest p m memory h.tail h.others h.behind in
+operands_tied : (ss : List OperandEncoding) (p : Prefixes) (m : ℕ) (memory : Option Raw) (bytes : List ℕ) (operand_pairs : List (Slot × Operand)) → SpellsOperands ss p m memory bytes operand_pairs → (length operand_pairs ≡ length ss) × pairs_tied operand_pairs
+operands_tied [] p m memory bytes operand_pairs h = (ap length h.1, λ k below. absurd (let n : length operand_pairs ≡ 0 = ap length h.1 in omega arith))
+operands_tied (s ∷ rest) p m memory bytes operand_pairs h =
+    let t = operands_tied rest p m memory h.tail h.others h.tail_spelled in
     let more : length h.others ≡ length rest = t.0 in
-    (ap length h.gives ∙ omega arith, subst pairs_tied (sym h.gives) (cons_tied (operand_gives s p m memory h.immediate) h.others (operand_tied s p m memory h.immediate) t.1))
+    (ap length h.yields ∙ omega arith, subst pairs_tied (sym h.yields) (cons_tied (operand_from s p m memory h.immediate) h.others (operand_tied s p m memory h.immediate) t.1))
 
 at_most_four : (ss : OperandEncodings) → length (list_of ss) ≤ 4
 at_most_four Zero = omega arith
@@ -105,42 +105,42 @@ at_most_four (Four a b c d) = omega arith
 
 -- ---- ModRM's memory operand
 
-modrm_gives : (s : OperandEncoding) (p : Prefixes) (m : ℕ) (raw : Raw) (bytes : List ℕ) → is_modrm_encoding s ≡ true → operand_gives s p m (Some raw) bytes ≡ shape raw
-modrm_gives (E c) p m raw bytes e = refl
-modrm_gives Emm p m raw bytes e = refl
-modrm_gives M p m raw bytes e = refl
-modrm_gives (G c) p m raw bytes e = absurd cc
-modrm_gives Gmm p m raw bytes e = absurd cc
-modrm_gives (U c) p m raw bytes e = absurd cc
-modrm_gives Umm p m raw bytes e = absurd cc
-modrm_gives (Fixed slot reg) p m raw bytes e = absurd cc
-modrm_gives (Pointer slot reg) p m raw bytes e = absurd cc
-modrm_gives I8 p m raw bytes e = absurd cc
-modrm_gives I16 p m raw bytes e = absurd cc
-modrm_gives I32 p m raw bytes e = absurd cc
-modrm_gives I64 p m raw bytes e = absurd cc
-modrm_gives I32From16 p m raw bytes e = absurd cc
-modrm_gives I64Whole p m raw bytes e = absurd cc
-modrm_gives U8 p m raw bytes e = absurd cc
-modrm_gives U16 p m raw bytes e = absurd cc
-modrm_gives X8 p m raw bytes e = absurd cc
-modrm_gives X16 p m raw bytes e = absurd cc
-modrm_gives (ConstantI8 z) p m raw bytes e = absurd cc
-modrm_gives (ConstantU8 n) p m raw bytes e = absurd cc
-modrm_gives Address32 p m raw bytes e = absurd cc
-modrm_gives Address64 p m raw bytes e = absurd cc
+modrm_yields : (s : OperandEncoding) (p : Prefixes) (m : ℕ) (raw : Raw) (bytes : List ℕ) → is_modrm_encoding s ≡ true → operand_from s p m (Some raw) bytes ≡ shape raw
+modrm_yields (E c) p m raw bytes e = refl
+modrm_yields Emm p m raw bytes e = refl
+modrm_yields M p m raw bytes e = refl
+modrm_yields (G c) p m raw bytes e = absurd cc
+modrm_yields Gmm p m raw bytes e = absurd cc
+modrm_yields (U c) p m raw bytes e = absurd cc
+modrm_yields Umm p m raw bytes e = absurd cc
+modrm_yields (Fixed slot reg) p m raw bytes e = absurd cc
+modrm_yields (Pointer slot reg) p m raw bytes e = absurd cc
+modrm_yields I8 p m raw bytes e = absurd cc
+modrm_yields I16 p m raw bytes e = absurd cc
+modrm_yields I32 p m raw bytes e = absurd cc
+modrm_yields I64 p m raw bytes e = absurd cc
+modrm_yields I32From16 p m raw bytes e = absurd cc
+modrm_yields I64Whole p m raw bytes e = absurd cc
+modrm_yields U8 p m raw bytes e = absurd cc
+modrm_yields U16 p m raw bytes e = absurd cc
+modrm_yields X8 p m raw bytes e = absurd cc
+modrm_yields X16 p m raw bytes e = absurd cc
+modrm_yields (ConstantI8 z) p m raw bytes e = absurd cc
+modrm_yields (ConstantU8 n) p m raw bytes e = absurd cc
+modrm_yields Address32 p m raw bytes e = absurd cc
+modrm_yields Address64 p m raw bytes e = absurd cc
 
-abbrev StandsAt : List (Slot × Operand) → ℕ → Raw → Type 0
-StandsAt xs k raw = (k < length xs) × (pair_at xs k ≡ shape raw)
+abbrev HasShape : List (Slot × Operand) → ℕ → Raw → Type 0
+HasShape xs k raw = (k < length xs) × (pair_at xs k ≡ shape raw)
 
-memory_at : (ss : List OperandEncoding) (p : Prefixes) (m : ℕ) (raw : Raw) (bytes : List ℕ) (given : List (Slot × Operand)) (k : ℕ) → SpellsOperands ss p m (Some raw) bytes given → names_modrm ss k ≡ true → StandsAt given k raw
-memory_at [] p m raw bytes given k h e = absurd cc
-memory_at (s ∷ rest) p m raw bytes given zero h e =
-    subst (λ l. StandsAt l zero raw) (sym h.gives) (omega arith, modrm_gives s p m raw h.immediate e)
-memory_at (s ∷ rest) p m raw bytes given (suc k) h e =
-    let t = memory_at rest p m raw h.tail h.others k h.behind e in
+memory_at : (ss : List OperandEncoding) (p : Prefixes) (m : ℕ) (raw : Raw) (bytes : List ℕ) (operand_pairs : List (Slot × Operand)) (k : ℕ) → SpellsOperands ss p m (Some raw) bytes operand_pairs → names_modrm ss k ≡ true → HasShape operand_pairs k raw
+memory_at [] p m raw bytes operand_pairs k h e = absurd cc
+memory_at (s ∷ rest) p m raw bytes operand_pairs zero h e =
+    subst (λ l. HasShape l zero raw) (sym h.yields) (omega arith, modrm_yields s p m raw h.immediate e)
+memory_at (s ∷ rest) p m raw bytes operand_pairs (suc k) h e =
+    let t = memory_at rest p m raw h.tail h.others k h.tail_spelled e in
     let below : k < length h.others = t.0 in
-    subst (λ l. StandsAt l (suc k) raw) (sym h.gives) (omega arith, t.1)
+    subst (λ l. HasShape l (suc k) raw) (sym h.yields) (omega arith, t.1)
 
 -- 67 of the raw fields is that of the prefixes
 same_address_size : (p : Prefixes) (m : ℕ) (bytes : List ℕ) (memory : Option Raw) (raw : Raw) → SpellsMemory p m bytes memory → memory ≡ Some raw → raw.address_size ≡ p.address_size
@@ -172,57 +172,57 @@ operand_in xs (suc (suc zero)) few = refl
 operand_in xs (suc (suc (suc zero))) few = refl
 operand_in xs (suc (suc (suc (suc k)))) few = sym (ap (λ x. x.1) (pair_beyond xs (suc (suc (suc (suc k)))) (omega arith)))
 
-module _ (r : RowRecord) (p : Prefixes) (bytes : List ℕ) (reading : Reading) (asked : SpellsRow r p bytes reading) where
-  abbrev given : List (Slot × Operand)
-  given = asked.behind.pieces.given
+module _ (r : RowRecord) (p : Prefixes) (bytes : List ℕ) (reading : Reading) (row_spelled : SpellsRow r p bytes reading) where
+  abbrev operand_pairs : List (Slot × Operand)
+  operand_pairs = row_spelled.tail_spelled.pieces.operand_pairs
 
   abbrev m : ℕ
-  m = modrm_of r.modrm asked.modrm
+  m = modrm_of r.modrm row_spelled.modrm
 
   abbrev plan : Plan
   plan = r.plan m
 
-  tied : (length given ≡ length (list_of (plan).encodings)) × pairs_tied given
-  tied = operands_tied (list_of (plan).encodings) p m asked.behind.pieces.memory asked.behind.pieces.immediates given asked.behind.pieces.immediates_asked
+  tied : (length operand_pairs ≡ length (list_of (plan).encodings)) × pairs_tied operand_pairs
+  tied = operands_tied (list_of (plan).encodings) p m row_spelled.tail_spelled.pieces.memory row_spelled.tail_spelled.pieces.immediates operand_pairs row_spelled.tail_spelled.pieces.immediates_spelled
 
-  counts : reading.count ≡ length given
-  counts = ap (λ x. x.count) asked.behind.gives
+  counts : reading.count ≡ length operand_pairs
+  counts = ap (λ x. x.count) row_spelled.tail_spelled.yields
 
-  few_given : length given ≤ 4
-  few_given = let t = tied.0 in let f = at_most_four (plan).encodings in omega arith
+  few_pairs : length operand_pairs ≤ 4
+  few_pairs = let t = tied.0 in let f = at_most_four (plan).encodings in omega arith
 
-  slot_here : (k : ℕ) → slot_read reading k ≡ (pair_at given k).0
-  slot_here k = ap (λ x. slice_index_or x.slots k slots.Nothing) asked.behind.gives ∙ slot_in given k few_given
+  slot_here : (k : ℕ) → slot_read reading k ≡ (pair_at operand_pairs k).0
+  slot_here k = ap (λ x. slice_index_or x.slots k slots.Nothing) row_spelled.tail_spelled.yields ∙ slot_in operand_pairs k few_pairs
 
-  operand_here : (k : ℕ) → operand_read reading k ≡ (pair_at given k).1
-  operand_here k = ap (λ x. slice_index_or x.operands k operands.Nothing) asked.behind.gives ∙ operand_in given k few_given
+  operand_here : (k : ℕ) → operand_read reading k ≡ (pair_at operand_pairs k).1
+  operand_here k = ap (λ x. slice_index_or x.operands k operands.Nothing) row_spelled.tail_spelled.yields ∙ operand_in operand_pairs k few_pairs
 
-  nothing_here : (k : ℕ) → reading.count ≤ k → pair_at given k ≡ (slots.Nothing, operands.Nothing)
-  nothing_here k le = pair_beyond given k (let c = counts in omega arith)
+  nothing_here : (k : ℕ) → reading.count ≤ k → pair_at operand_pairs k ≡ (slots.Nothing, operands.Nothing)
+  nothing_here k le = pair_beyond operand_pairs k (let c = counts in omega arith)
 
   pub spelled_tied : AreTied reading
   spelled_tied = record {
-    few = let c = counts in let f = few_given in omega arith;
+    few = let c = counts in let f = few_pairs in omega arith;
     decoded = λ k below. ap is_decoded (operand_here k) ∙ (tied.1 k (let c = counts in omega arith)).0;
-    suited = λ k below. ap (λ o. suits (slot_read reading k) o) (operand_here k) ∙ ap (λ s. suits s (pair_at given k).1) (slot_here k) ∙ (tied.1 k (let c = counts in omega arith)).1;
+    suited = λ k below. ap (λ o. suits (slot_read reading k) o) (operand_here k) ∙ ap (λ s. suits s (pair_at operand_pairs k).1) (slot_here k) ∙ (tied.1 k (let c = counts in omega arith)).1;
     empty_slots = λ k le. slot_here k ∙ ap (λ x. x.0) (nothing_here k le);
     empty_operands = λ k le. operand_here k ∙ ap (λ x. x.1) (nothing_here k le);
   }
 
-  module _ (raw : Raw) (memory : asked.behind.pieces.memory ≡ Some raw) where
+  module _ (raw : Raw) (memory : row_spelled.tail_spelled.pieces.memory ≡ Some raw) where
     -- 67 of the raw fields is that of the prefixes
     pub memory_size_is : raw.address_size ≡ p.address_size
-    memory_size_is = same_address_size p m asked.behind.pieces.address asked.behind.pieces.memory raw asked.behind.pieces.address_asked memory
+    memory_size_is = same_address_size p m row_spelled.tail_spelled.pieces.address row_spelled.tail_spelled.pieces.memory raw row_spelled.tail_spelled.pieces.address_spelled memory
 
-    -- where an operand encoding names the memory of ModRM stand its slot and its operand
-    pub memory_stands : (k : ℕ) → names_modrm (encodings_of r p bytes reading asked) k ≡ true → HasShapeAt reading k raw
-    memory_stands k named =
-        let stands : StandsAt given k raw = memory_at (list_of (plan).encodings) p m raw asked.behind.pieces.immediates given k (subst (λ o. SpellsOperands (list_of (plan).encodings) p m o asked.behind.pieces.immediates given) memory asked.behind.pieces.immediates_asked) named in
-        let within : k < length given = stands.0 in
+    -- the slot and the operand, where an operand encoding names the memory of ModRM
+    pub memory_is_shape : (k : ℕ) → names_modrm (encodings_of r p bytes reading row_spelled) k ≡ true → HasShapeAt reading k raw
+    memory_is_shape k named =
+        let shapes : HasShape operand_pairs k raw = memory_at (list_of (plan).encodings) p m raw row_spelled.tail_spelled.pieces.immediates operand_pairs k (subst (λ o. SpellsOperands (list_of (plan).encodings) p m o row_spelled.tail_spelled.pieces.immediates operand_pairs) memory row_spelled.tail_spelled.pieces.immediates_spelled) named in
+        let within : k < length operand_pairs = shapes.0 in
         record {
           below = let c = counts in omega arith;
-          slot = slot_here k ∙ ap (λ x. x.0) stands.1;
-          operand = operand_here k ∙ ap (λ x. x.1) stands.1;
+          slot = slot_here k ∙ ap (λ x. x.0) shapes.1;
+          operand = operand_here k ∙ ap (λ x. x.1) shapes.1;
         }
 
 -- what is read is tied

@@ -1,4 +1,4 @@
--- What a row asks behind its opcode byte, told from a ModRM byte alone.
+-- What a row has after its opcode byte, known from a ModRM byte alone.
 use Rattle.std.specs.Prelude.{ℕ, Bool, true, false, if◌then◌else◌, Option, [], ◌∷◌, map}
 use Rattle.x86_fields.specs.declared.prefixes.Prefixes.{Prefixes}
 use Rattle.x86_fields.specs.Pieces.{total, option_bytes}
@@ -16,13 +16,13 @@ use Rattle.x86_fields.specs.ModRM.{is_memory}
 use Rattle.x86_operands.specs.Plans.{RowRecord, list_of}
 use Rattle.x86_operands.specs.Pieces.{immediate_width, modrm_of}
 
-abbrev pub asks_modrm : ModrmUse → Bool
-asks_modrm Absent = false
-asks_modrm usage = true
+abbrev pub uses_modrm : ModrmUse → Bool
+uses_modrm Absent = false
+uses_modrm usage = true
 
-abbrev pub asks_suffix : Verdict → Bool
-asks_suffix NamedBySuffix = true
-asks_suffix verdict = false
+abbrev pub uses_suffix : Verdict → Bool
+uses_suffix NamedBySuffix = true
+uses_suffix verdict = false
 
 -- how many bytes the immediates have together; those of an absolute address count
 abbrev pub immediates_width : OperandEncodings → ℕ
@@ -32,25 +32,26 @@ immediates_width encodings = total (map immediate_width (list_of encodings))
 abbrev pub used_modrm : ModrmUse → ℕ → ℕ
 used_modrm usage m = modrm_of usage (m ∷ [])
 
--- what a plan asks at a ModRM byte that is used so
+-- what a plan has at a ModRM byte that is used so
 abbrev pub plan_ask : ModrmUse → ℕ → Plan → Ask
 plan_ask usage m plan = record {
-  modrm = asks_modrm usage;
+  modrm = uses_modrm usage;
   memory = is_memory m;
   immediate = immediates_width plan.encodings;
-  suffix = asks_suffix plan.verdict;
+  suffix = uses_suffix plan.verdict;
 }
 
--- what a line of the operand encodings asks at a ModRM byte that is used so: its last operand alone can be an immediate
+-- what a line of the operand encodings has at a ModRM byte that is used so: its last operand alone can be an
+-- immediate
 abbrev pub encoding_ask : FormEncoding → Prefixes → ℕ → Ask
 encoding_ask e p m = record {
-  modrm = asks_modrm (use_of e.behind);
+  modrm = uses_modrm (use_of e.after_opcode);
   memory = is_memory m;
   immediate = if somewhere e.order.last then immediate_width (last_encoding e.last p) else 0;
   suffix = false;
 }
 
--- what a row asks at a ModRM byte
+-- what a row has at a ModRM byte
 unfoldable pub ask_of : RowRecord → ℕ → Ask
 ask_of r m = plan_ask r.modrm (used_modrm r.modrm m) (r.plan (used_modrm r.modrm m))
 

@@ -1,4 +1,4 @@
--- What a line of the operand encodings stands for.
+-- What a line of the operand encodings means.
 use Rattle.std.specs.Prelude.{ℕ, Bool, true, false, IsTrue, ◌≡◌, ◌==◌, if◌then◌else◌}
 use Rattle.x86_regs.specs.declared.RegisterClass.{RegisterClass}
 use Rattle.x86_regs.specs.declared.RegisterClass.TheVariants as class
@@ -20,8 +20,8 @@ use Rattle.x86_operands.specs.declared.plans.Moment.TheVariants.{AtModRM}
 use Rattle.x86_operands.specs.declared.order.Position.{Position}
 use Rattle.x86_operands.specs.declared.order.Position.TheVariants.{First, Second, Third}
 use Rattle.x86_operands.specs.declared.order.Order.{Order}
-use Rattle.x86_operands.specs.declared.encodings.Behind.{Behind}
-use Rattle.x86_operands.specs.declared.encodings.Behind.TheVariants as behind
+use Rattle.x86_operands.specs.declared.encodings.AfterOpcode.{AfterOpcode}
+use Rattle.x86_operands.specs.declared.encodings.AfterOpcode.TheVariants as after_opcode
 use Rattle.x86_operands.specs.declared.encodings.RegGroup.{RegGroup}
 use Rattle.x86_operands.specs.declared.encodings.RegGroup.TheVariants as group
 use Rattle.x86_operands.specs.declared.encodings.Width.{Width}
@@ -46,7 +46,7 @@ use Rattle.x86_fields.specs.Steps.{Step, ◌>>=◌, pure}
 use Rattle.x86_operands.specs.declared.plans.ModrmUse.{ModrmUse}
 use Rattle.x86_operands.specs.declared.plans.ModrmUse.TheVariants as use_as
 use Rattle.x86_fields.specs.Sizes.{register_of}
-use Rattle.x86_operands.specs.PlanSteps.{Given, operand_step, read_memory, rm_operand, rm_mm_operand}
+use Rattle.x86_operands.specs.PlanSteps.{FilledOperands, operand_step, read_memory, rm_operand, rm_mm_operand}
 use Rattle.x86_operands.specs.declared.reader.Reading.{Reading}
 use Rattle.x86_operands.specs.declared.operands.Slot.{Slot}
 use Rattle.x86_operands.specs.declared.operands.Operand.{Operand}
@@ -96,22 +96,22 @@ last_encoding last.I32 p = encoding.I32
 last_encoding last.Iv p = immediate_of (v_class p)
 last_encoding last.Ivq p = whole_immediate (v_class p)
 last_encoding last.Ip p = push_immediate p
-last_encoding last.One p = encoding.ConstantI8 (pos 1)
-last_encoding last.Once p = encoding.ConstantU8 1
+last_encoding last.SignedOne p = encoding.ConstantI8 (pos 1)
+last_encoding last.UnsignedOne p = encoding.ConstantU8 1
 last_encoding last.Three p = encoding.ConstantU8 3
 last_encoding last.Cl p = encoding.Fixed slot.Reg (reg_spec 1 class.B)
 last_encoding last.ClThird p = cl_third
 
-abbrev pub reg_encoding : Behind → Width → ℕ → Prefixes → OperandEncoding
-reg_encoding behind.Opcode w n p = encoding.Fixed slot.Reg (register_at n (class_of w p) p)
-reg_encoding behind.Accumulator w n p = accumulator_of (class_of w p) p
+abbrev pub reg_encoding : AfterOpcode → Width → ℕ → Prefixes → OperandEncoding
+reg_encoding after_opcode.Opcode w n p = encoding.Fixed slot.Reg (register_at n (class_of w p) p)
+reg_encoding after_opcode.Accumulator w n p = accumulator_of (class_of w p) p
 reg_encoding b width.Mm n p = encoding.Gmm
 reg_encoding b w n p = encoding.G (class_of w p)
 
-abbrev pub rm_encoding : Behind → Width → Prefixes → OperandEncoding
-rm_encoding behind.Memory w p = encoding.M
-rm_encoding behind.Registers width.Mm p = encoding.Umm
-rm_encoding behind.Registers w p = encoding.U (class_of w p)
+abbrev pub rm_encoding : AfterOpcode → Width → Prefixes → OperandEncoding
+rm_encoding after_opcode.Memory w p = encoding.M
+rm_encoding after_opcode.Registers width.Mm p = encoding.Umm
+rm_encoding after_opcode.Registers w p = encoding.U (class_of w p)
 rm_encoding b width.Mm p = encoding.Emm
 rm_encoding b w p = encoding.E (class_of w p)
 
@@ -136,24 +136,24 @@ encodings_in o reg rm last =
 abbrev pub size_at : FormEncoding → ℕ → Size
 size_at e m = if is_memory m then e.in_memory else e.in_register
 
-abbrev pub judged_plan : Behind → ℕ → Plan → Plan
-judged_plan behind.Memory m plan = memory_only m plan
-judged_plan behind.Registers m plan = register_only m plan
-judged_plan b m plan = plan
+abbrev pub restricted_plan : AfterOpcode → ℕ → Plan → Plan
+restricted_plan after_opcode.Memory m plan = memory_only m plan
+restricted_plan after_opcode.Registers m plan = register_only m plan
+restricted_plan b m plan = plan
 
 -- the plan of a form with this encoding, whose opcode byte carries n
 abbrev pub plan_of : FormEncoding → ℕ → ℕ → Prefixes → ℕ → Plan
-plan_of e n o p m = judged_plan e.behind m (reads o (encodings_in e.order (reg_encoding e.behind e.reg n p) (rm_encoding e.behind e.rm p) (last_encoding e.last p)) (size_bytes (size_at e m) o p))
+plan_of e n o p m = restricted_plan e.after_opcode m (reads o (encodings_in e.order (reg_encoding e.after_opcode e.reg n p) (rm_encoding e.after_opcode e.rm p) (last_encoding e.last p)) (size_bytes (size_at e m) o p))
 
-abbrev pub is_described : Behind → Bool
-is_described (behind.ByReg g) = false
-is_described (behind.Peculiar u) = false
-is_described behind.Group = false
+abbrev pub is_described : AfterOpcode → Bool
+is_described (after_opcode.ByReg g) = false
+is_described (after_opcode.ByPlan u) = false
+is_described after_opcode.Group = false
 is_described b = true
 
--- the encoding says what the form's definition says, unless it leaves the form to a plan of its own
+-- the encoding says what the form's definition says, unless it leaves the form to a separate plan
 abbrev pub Describes : FormEncoding → Form → Type 0
-Describes e f = IsTrue (is_described e.behind) → (o m : ℕ) (p : Prefixes) → plan_of e (carried f) o p m ≡ form_plan f o p m
+Describes e f = IsTrue (is_described e.after_opcode) → (o m : ℕ) (p : Prefixes) → plan_of e (carried f) o p m ≡ form_plan f o p m
 
 -- ---- forms that no line describes
 
@@ -180,34 +180,34 @@ string_plan form.DX_Xv o p m = form_plan form.DX_Xv o p m
 string_plan f o p m = refuses Incomplete AtModRM
 
 -- the plans of the forms that no line describes: for those of the definitions the same, for groups none
-abbrev pub peculiar_plan : Form → ℕ → Prefixes → ℕ → Plan
-peculiar_plan (form.Zv_AX_R n) o p m = form_plan (form.Zv_AX_R n) o p m
-peculiar_plan form.CVT_AA o p m = form_plan form.CVT_AA o p m
-peculiar_plan form.CVT_DA o p m = form_plan form.CVT_DA o p m
-peculiar_plan form.Fw o p m = form_plan form.Fw o p m
-peculiar_plan form.FS o p m = form_plan form.FS o p m
-peculiar_plan form.GS o p m = form_plan form.GS o p m
-peculiar_plan form.Iw_Ib o p m = form_plan form.Iw_Ib o p m
-peculiar_plan form.CXZ o p m = form_plan form.CXZ o p m
-peculiar_plan form.Ew_Sw o p m = form_plan form.Ew_Sw o p m
-peculiar_plan form.Sw_Ew o p m = form_plan form.Sw_Ew o p m
-peculiar_plan form.INV_Gv_M o p m = form_plan form.INV_Gv_M o p m
-peculiar_plan form.MOVDIR64B o p m = form_plan form.MOVDIR64B o p m
-peculiar_plan form.PMOVX_G_E_xmm o p m = form_plan form.PMOVX_G_E_xmm o p m
-peculiar_plan form.Pextr_dq o p m = form_plan form.Pextr_dq o p m
-peculiar_plan form.Pinsr_dq o p m = form_plan form.Pinsr_dq o p m
-peculiar_plan form.Edq_G_xmm o p m = form_plan form.Edq_G_xmm o p m
-peculiar_plan form.Rv_Gmm_Ib o p m = form_plan form.Rv_Gmm_Ib o p m
-peculiar_plan f o p m = string_plan f o p m
+abbrev pub separate_plan : Form → ℕ → Prefixes → ℕ → Plan
+separate_plan (form.Zv_AX_R n) o p m = form_plan (form.Zv_AX_R n) o p m
+separate_plan form.CVT_AA o p m = form_plan form.CVT_AA o p m
+separate_plan form.CVT_DA o p m = form_plan form.CVT_DA o p m
+separate_plan form.Fw o p m = form_plan form.Fw o p m
+separate_plan form.FS o p m = form_plan form.FS o p m
+separate_plan form.GS o p m = form_plan form.GS o p m
+separate_plan form.Iw_Ib o p m = form_plan form.Iw_Ib o p m
+separate_plan form.CXZ o p m = form_plan form.CXZ o p m
+separate_plan form.Ew_Sw o p m = form_plan form.Ew_Sw o p m
+separate_plan form.Sw_Ew o p m = form_plan form.Sw_Ew o p m
+separate_plan form.INV_Gv_M o p m = form_plan form.INV_Gv_M o p m
+separate_plan form.MOVDIR64B o p m = form_plan form.MOVDIR64B o p m
+separate_plan form.PMOVX_G_E_xmm o p m = form_plan form.PMOVX_G_E_xmm o p m
+separate_plan form.Pextr_dq o p m = form_plan form.Pextr_dq o p m
+separate_plan form.Pinsr_dq o p m = form_plan form.Pinsr_dq o p m
+separate_plan form.Edq_G_xmm o p m = form_plan form.Edq_G_xmm o p m
+separate_plan form.Rv_Gmm_Ib o p m = form_plan form.Rv_Gmm_Ib o p m
+separate_plan f o p m = string_plan f o p m
 
 -- a form that no line describes has one of these plans
-abbrev pub LeavesPeculiar : FormEncoding → Form → Type 0
-LeavesPeculiar e f = is_described e.behind ≡ false → (o m : ℕ) (p : Prefixes) → form_plan f o p m ≡ peculiar_plan f o p m
+abbrev pub HasSeparatePlan : FormEncoding → Form → Type 0
+HasSeparatePlan e f = is_described e.after_opcode ≡ false → (o m : ℕ) (p : Prefixes) → form_plan f o p m ≡ separate_plan f o p m
 
 -- what was written, where the reading is Ok
-abbrev pub held : {X : Type 0} → Result (Unit {0}) DecodeError → X → Result X DecodeError
-held (Ok u) x = Ok x
-held (Err e) x = Err e
+abbrev pub value_if_ok : {X : Type 0} → Result (Unit {0}) DecodeError → X → Result X DecodeError
+value_if_ok (Ok u) x = Ok x
+value_if_ok (Err e) x = Err e
 
 abbrev pub somewhere : Position → Bool
 somewhere Nowhere = false
@@ -220,24 +220,24 @@ index_of_position Third = 2
 index_of_position Nowhere = 3
 
 abbrev pub put_at : ℕ → Slot × Operand → Operands → Operands
-put_at k x given = record given { slots = slice_set given.slots k x.0; operands = slice_set given.operands k x.1 }
+put_at k x operand_list = record operand_list { slots = slice_set operand_list.slots k x.0; operands = slice_set operand_list.operands k x.1 }
 
 -- a pair at a position; Nowhere is none
 abbrev pub put_in : Position → Slot × Operand → Operands → Operands
-put_in First x given = put_at 0 x given
-put_in Second x given = put_at 1 x given
-put_in Third x given = put_at 2 x given
-put_in Nowhere x given = given
+put_in First x operand_list = put_at 0 x operand_list
+put_in Second x operand_list = put_at 1 x operand_list
+put_in Third x operand_list = put_at 2 x operand_list
+put_in Nowhere x operand_list = operand_list
 
 -- the operand of an encoding that looks at no ModRM, at a position
 abbrev pub encoded_read : Position → OperandEncoding → Prefixes → Operands → Step Operands
-encoded_read at s p given = operand_step s p absent_modrm None >>= λ x. pure (put_in at x given)
+encoded_read at s p operand_list = operand_step s p absent_modrm None >>= λ x. pure (put_in at x operand_list)
 
 abbrev pub no_operands : Operands
 no_operands = record { slots = slots.Nothing ∷ slots.Nothing ∷ slots.Nothing ∷ slots.Nothing ∷ []; operands = operands.Nothing ∷ operands.Nothing ∷ operands.Nothing ∷ operands.Nothing ∷ []; count = 0; mem_size = 0 }
 
 abbrev pub reading_with : ℕ → Prefixes → Operands → Reading
-reading_with o p given = record { opcode = o; count = given.count; slots = given.slots; operands = given.operands; mem_size = given.mem_size; prefixes = p }
+reading_with o p operand_list = record { opcode = o; count = operand_list.count; slots = operand_list.slots; operands = operand_list.operands; mem_size = operand_list.mem_size; prefixes = p }
 
 -- the operand of rm
 abbrev pub rm_pair : Width → Prefixes → ℕ → Option Raw → Slot × Operand
@@ -250,37 +250,37 @@ reg_pair width.Mm p m = (slots.Reg, operands.Register (reg_spec (reg_field m) cl
 reg_pair w p m = (slots.Reg, operands.Register (register_of (class_of w p) p (reg_number m p)))
 
 -- the register of the opcode byte, or register 0
-abbrev pub fixed_pair : Behind → Width → ℕ → Prefixes → Slot × Operand
-fixed_pair behind.Opcode w n p = (slots.Reg, operands.Register (register_at n (class_of w p) p))
+abbrev pub fixed_pair : AfterOpcode → Width → ℕ → Prefixes → Slot × Operand
+fixed_pair after_opcode.Opcode w n p = (slots.Reg, operands.Register (register_at n (class_of w p) p))
 fixed_pair b w n p = (slots.Reg, operands.Register (register_of (class_of w p) p 0))
 
 -- the operand of rm, at a position
 abbrev pub rm_read : Position → Width → Prefixes → ℕ → Operands → Step Operands
-rm_read at w p m given = read_memory p m >>= λ memory. pure (put_in at (rm_pair w p m memory) given)
+rm_read at w p m operand_list = read_memory p m >>= λ memory. pure (put_in at (rm_pair w p m memory) operand_list)
 
 -- the last operand
 abbrev pub last_read : Position → Last → Prefixes → Operands → Step Operands
-last_read Nowhere l p given = pure given
-last_read at l p given = encoded_read at (last_encoding l p) p given
+last_read Nowhere l p operand_list = pure operand_list
+last_read at l p operand_list = encoded_read at (last_encoding l p) p operand_list
 
 -- the operands of ModRM
 abbrev pub modrm_read : Position → Width → Position → Width → Prefixes → ℕ → Operands → Step Operands
-modrm_read at_reg wr at_rm we p m given = read_memory p m >>= λ memory. pure (put_in at_reg (reg_pair wr p m) (put_in at_rm (rm_pair we p m memory) given))
+modrm_read at_reg wr at_rm we p m operand_list = read_memory p m >>= λ memory. pure (put_in at_reg (reg_pair wr p m) (put_in at_rm (rm_pair we p m memory) operand_list))
 
 -- the operands of ModRM, or a register that no ModRM names
-abbrev pub front_read : FormEncoding → ℕ → Prefixes → ℕ → Operands → Step Operands
-front_read e n p m given = if somewhere e.order.rm then modrm_read e.order.reg e.reg e.order.rm e.rm p m given else pure (put_in e.order.reg (fixed_pair e.behind e.reg n p) given)
+abbrev pub leading_read : FormEncoding → ℕ → Prefixes → ℕ → Operands → Step Operands
+leading_read e n p m operand_list = if somewhere e.order.rm then modrm_read e.order.reg e.reg e.order.rm e.rm p m operand_list else pure (put_in e.order.reg (fixed_pair e.after_opcode e.reg n p) operand_list)
 
 -- what an encoding writes
 abbrev pub operands_read : FormEncoding → ℕ → Prefixes → ℕ → Operands → Step Operands
-operands_read e n p m given = front_read e n p m given >>= last_read e.order.last e.last p
+operands_read e n p m operand_list = leading_read e n p m operand_list >>= last_read e.order.last e.last p
 
 -- the slot and the operand at an index: nothing at the count and above
 abbrev pub slot_in : Operands → ℕ → Slot
-slot_in given k = if nat_lt k given.count then slice_index_or given.slots k slots.Nothing else slots.Nothing
+slot_in operand_list k = if nat_lt k operand_list.count then slice_index_or operand_list.slots k slots.Nothing else slots.Nothing
 
 abbrev pub operand_in : Operands → ℕ → Operand
-operand_in given k = if nat_lt k given.count then slice_index_or given.operands k operands.Nothing else operands.Nothing
+operand_in operand_list k = if nat_lt k operand_list.count then slice_index_or operand_list.operands k operands.Nothing else operands.Nothing
 
 -- no operand yet, of so many, with this memory size
 abbrev pub sized : ℕ → ℕ → Operands
@@ -305,63 +305,63 @@ is_order_of a b c n = false
 abbrev pub is_order : Order → Bool
 is_order o = is_order_of o.reg o.rm o.last o.count
 
-abbrev pub has_modrm : Behind → Bool
-has_modrm behind.EitherForm = true
-has_modrm behind.Memory = true
-has_modrm behind.Registers = true
+abbrev pub has_modrm : AfterOpcode → Bool
+has_modrm after_opcode.EitherForm = true
+has_modrm after_opcode.Memory = true
+has_modrm after_opcode.Registers = true
 has_modrm b = false
 
 -- whether a ModRM byte follows whose line is known, or chosen by reg
-abbrev pub has_fields : Behind → Bool
-has_fields (behind.ByReg g) = true
+abbrev pub has_fields : AfterOpcode → Bool
+has_fields (after_opcode.ByReg g) = true
 has_fields b = has_modrm b
 
-abbrev pub has_register : Behind → Bool
-has_register behind.Opcode = true
-has_register behind.Accumulator = true
+abbrev pub has_register : AfterOpcode → Bool
+has_register after_opcode.Opcode = true
+has_register after_opcode.Accumulator = true
 has_register b = false
 
--- reg and rm come from what stands behind the opcode byte
-abbrev pub order_fits : Behind → Order → Bool
+-- reg and rm come from what follows the opcode byte
+abbrev pub order_fits : AfterOpcode → Order → Bool
 order_fits b o = if somewhere o.rm then has_modrm b else (if somewhere o.reg then has_register b else not (has_modrm b))
 
 abbrev pub is_last : Last → Bool
 is_last last.Absent = false
 is_last l = true
 
-abbrev pub ends : Order → Last → Bool
-ends o l = if somewhere o.last then is_last l else true
+abbrev pub has_last : Order → Last → Bool
+has_last o l = if somewhere o.last then is_last l else true
 
 -- the ModRM bytes at which a line accepts; one that isn't there reads as C0
-abbrev pub allows : Behind → ℕ → Bool
-allows behind.EitherForm m = true
-allows behind.Memory m = is_memory m
-allows (behind.ByReg g) m = false
-allows (behind.Peculiar u) m = false
-allows behind.Group m = false
+abbrev pub allows : AfterOpcode → ℕ → Bool
+allows after_opcode.EitherForm m = true
+allows after_opcode.Memory m = is_memory m
+allows (after_opcode.ByReg g) m = false
+allows (after_opcode.ByPlan u) m = false
+allows after_opcode.Group m = false
 allows b m = not (is_memory m)
 
 abbrev pub is_sound : FormEncoding → Bool
-is_sound e = is_order e.order && (order_fits e.behind e.order && ends e.order e.last)
+is_sound e = is_order e.order && (order_fits e.after_opcode e.order && has_last e.order e.last)
 
 -- ---- a whole line
 
-abbrev pub use_of : Behind → ModrmUse
-use_of behind.Nothing = use_as.Absent
-use_of behind.Opcode = use_as.Absent
-use_of behind.Accumulator = use_as.Absent
-use_of (behind.Peculiar u) = u
+abbrev pub use_of : AfterOpcode → ModrmUse
+use_of after_opcode.Nothing = use_as.Absent
+use_of after_opcode.Opcode = use_as.Absent
+use_of after_opcode.Accumulator = use_as.Absent
+use_of (after_opcode.ByPlan u) = u
 use_of b = use_as.EitherForm
 
 -- ---- plans, in place
 
--- what an operand encoding gives, at an index
+-- what an operand encoding yields, at an index
 abbrev pub put_encoded : ℕ → OperandEncoding → Prefixes → ℕ → Option Raw → Operands → Step Operands
-put_encoded k s p m memory given = operand_step s p m memory >>= λ x. pure (put_at k x given)
+put_encoded k s p m memory operand_list = operand_step s p m memory >>= λ x. pure (put_at k x operand_list)
 
 -- the operands without their memory size
-abbrev pub given_from : Operands → Given
-given_from given = record { count = given.count; slots = given.slots; operands = given.operands }
+abbrev pub filled_from : Operands → FilledOperands
+filled_from operand_list = record { count = operand_list.count; slots = operand_list.slots; operands = operand_list.operands }
 
 -- ---- groups by reg
 
@@ -384,7 +384,7 @@ group_form group.FE = form.ModRM_0xfe
 group_form group.FF = form.ModRM_0xff
 
 -- a line of a group names the group of its form
-abbrev pub Belongs : Behind → Form → Type 0
-Belongs (behind.ByReg g) f = f ≡ group_form g
-Belongs behind.Group f = ⊤
+abbrev pub Belongs : AfterOpcode → Form → Type 0
+Belongs (after_opcode.ByReg g) f = f ≡ group_form g
+Belongs after_opcode.Group f = ⊤
 Belongs b f = is_group f ≡ false

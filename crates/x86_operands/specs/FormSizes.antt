@@ -1,4 +1,4 @@
--- Sizes and classes that go by the opcode or by a form of its own. In a form that gives sizes for named opcodes
+-- Sizes and classes by the opcode, or by a separate form. In a form that has sizes for named opcodes
 -- alone, any other opcode has size 0.
 use Rattle.std.specs.Prelude.{ℕ, ◌&&◌, ◌==◌, not, Bool, if◌then◌else◌, [], ◌∷◌}
 use Rattle.x86_regs.specs.declared.RegisterClass.{RegisterClass}

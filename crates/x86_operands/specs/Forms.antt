@@ -1,4 +1,4 @@
--- The records of the plain forms: what each asks behind its opcode byte, and what it gives. The letters are those of
+-- The records of the plain forms: what each has after its opcode byte, and what it yields. The letters are those of
 -- the Intel SDM, volume 2, appendix A.2: G and E are the operands of ModRM's reg and rm, M and U its memory and its
 -- register form, I an immediate, J a branch, O an address, X and Y the strings at rsi and rdi, Z the register of the
 -- opcode byte.
@@ -60,7 +60,7 @@ at_rsi slot p = Pointer slot (reg_spec 6 (pointer_class p))
 abbrev pub at_rdi : PointerSlot → Prefixes → OperandEncoding
 at_rdi slot p = Pointer slot (reg_spec 7 (pointer_class p))
 
--- the same in a slot of its own
+-- the same in a separate slot
 abbrev pub source_string : Prefixes → OperandEncoding
 source_string p = at_rsi (if address_size p then DerefEsi else DerefRsi) p
 
@@ -271,6 +271,6 @@ modrm_use form.GS = Absent
 modrm_use form.AH = Absent
 modrm_use f = EitherForm
 
--- The record of a row whose form is no group. No plain form refuses at the opcode.
+-- The record of a row whose form is a plain form. It never refuses at the opcode.
 unfoldable pub form_record : TableRow → Prefixes → RowRecord
 form_record row p = record { at_opcode = None; modrm = modrm_use row.form; plan = λ m. form_plan row.form row.opcode p m }

@@ -1,4 +1,4 @@
--- What an operand and a slot tell by themselves.
+-- What is known of an operand and a slot by themselves.
 use Rattle.std.specs.Prelude.{ℕ, Bool, true, false, ◌==◌, if◌then◌else◌, Option, Some, None}
 use Rattle.x86_regs.specs.Register.{class}
 use Rattle.x86_regs.specs.Class.{width_of}

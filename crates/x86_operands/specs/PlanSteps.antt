@@ -1,4 +1,4 @@
--- The walk behind an opcode byte, as steps.
+-- The walk after an opcode byte, as steps.
 use Rattle.std.specs.Prelude.{ℕ, Bool, true, false, if◌then◌else◌, Option, Some, None, List, [], ◌∷◌, length, zero, suc}
 use Rattle.std.specs.Int.{w8, w16, w32, w64, cast_signed}
 use Rattle.x86_regs.specs.declared.RegisterClass.{RegisterClass}
@@ -66,7 +66,7 @@ rm_operand c p m memory = memory_or (register_of c p (rm_number m p)) memory
 abbrev pub rm_mm_operand : ℕ → Option Raw → Slot × Operand
 rm_mm_operand m memory = memory_or (reg_spec (rm_field m) MM) memory
 
--- What an operand encoding gives: its slot and its operand.
+-- What an operand encoding yields: its slot and its operand.
 unfoldable pub operand_step : OperandEncoding → Prefixes → ℕ → Option Raw → Step (Slot × Operand)
 operand_step (G c) p m memory = pure (slots.Reg, operands.Register (register_of c p (reg_number m p)))
 operand_step Gmm p m memory = pure (slots.Reg, operands.Register (reg_spec (reg_field m) MM))
@@ -97,8 +97,8 @@ unfoldable pub operands_step : List OperandEncoding → Prefixes → ℕ → Opt
 operands_step [] p m memory = pure []
 operands_step (s ∷ rest) p m memory = operand_step s p m memory >>= λ first. operands_step rest p m memory >>= λ others. pure (first ∷ others)
 
--- what the operand encodings of a record gave
-pub record Given : Type 0 where
+-- what the operand encodings of a record yielded
+pub record FilledOperands : Type 0 where
   pub count : ℕ
   pub slots : List Slot
   pub operands : List Operand
@@ -109,7 +109,7 @@ pair_at [] n = (slots.Nothing, operands.Nothing)
 pair_at (x ∷ rest) zero = x
 pair_at (x ∷ rest) (suc n) = pair_at rest n
 
-abbrev pub four_of : List (Slot × Operand) → Given
+abbrev pub four_of : List (Slot × Operand) → FilledOperands
 four_of xs = record {
   count = length xs;
   slots = (pair_at xs 0).0 ∷ (pair_at xs 1).0 ∷ (pair_at xs 2).0 ∷ (pair_at xs 3).0 ∷ [];
@@ -117,8 +117,8 @@ four_of xs = record {
 }
 
 -- the pairs, filled up to four
-unfoldable pub given_step : List OperandEncoding → Prefixes → ℕ → Option Raw → Step Given
-given_step encodings p m memory = operands_step encodings p m memory >>= λ xs. pure (four_of xs)
+unfoldable pub filled_step : List OperandEncoding → Prefixes → ℕ → Option Raw → Step FilledOperands
+filled_step encodings p m memory = operands_step encodings p m memory >>= λ xs. pure (four_of xs)
 
 -- ---- refusals
 
@@ -161,19 +161,19 @@ changed Keeps p = p
 changed ClearsOperandSize p = without_operand_size p
 changed SetsEs p = with_es p
 
-abbrev pub reading_from : Plan → Prefixes → ℕ → Given → Reading
-reading_from plan p opcode given = record { opcode = opcode; count = given.count; slots = given.slots; operands = given.operands; mem_size = plan.size; prefixes = changed plan.change p }
+abbrev pub reading_from : Plan → Prefixes → ℕ → FilledOperands → Reading
+reading_from plan p opcode operand_pairs = record { opcode = opcode; count = operand_pairs.count; slots = operand_pairs.slots; operands = operand_pairs.operands; mem_size = plan.size; prefixes = changed plan.change p }
 
--- what a record asks behind its ModRM
+-- what a record has after its ModRM
 unfoldable pub read_plan : Plan → Prefixes → ℕ → Step Reading
 read_plan plan p m =
     refuse_at plan.verdict AtModRM >>= λ _.
     read_memory p m >>= λ memory.
     refuse_at plan.verdict AfterAddress >>= λ _.
-    given_step (list_of plan.encodings) p m memory >>= λ given.
+    filled_step (list_of plan.encodings) p m memory >>= λ operand_pairs.
     read_opcode plan.verdict plan.opcode >>= λ opcode.
     refuse_at plan.verdict AfterSuffix >>= λ _.
-    pure (reading_from plan p opcode given)
+    pure (reading_from plan p opcode operand_pairs)
 
 -- ModRM as the row uses it: a byte that isn't there reads as C0, and one whose mod isn't looked at as mod 11
 abbrev pub read_modrm : ModrmUse → Step ℕ
@@ -185,6 +185,6 @@ abbrev pub refuse_fault : Option Fault → Step (Unit {0})
 refuse_fault None = pure tt
 refuse_fault (Some fault) = refuse (error_of fault)
 
--- what a row asks behind its opcode
+-- what a row has after its opcode
 unfoldable pub record_step : RowRecord → Prefixes → Step Reading
 record_step r p = refuse_fault r.at_opcode >>= λ _. read_modrm r.modrm >>= λ m. read_plan (r.plan m) p m

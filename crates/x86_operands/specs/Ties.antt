@@ -32,7 +32,7 @@ is_decoded (operands.MemBaseIndexScale b i s) = true
 is_decoded (operands.MemBaseIndexScaleDisp b i s d) = true
 is_decoded op = false
 
--- in the slot of an immediate stands that immediate
+-- the slot of an immediate has that immediate
 abbrev pub suits : Slot → Operand → Bool
 suits slots.ImmI8 (operands.ImmediateI8 z) = true
 suits slots.ImmI8 op = false
@@ -55,7 +55,7 @@ slot_read reading k = slice_index_or reading.slots k slots.Nothing
 abbrev pub operand_read : Reading → ℕ → Operand
 operand_read reading k = slice_index_or reading.operands k operands.Nothing
 
--- At most four operands, each of them decoded and suited to its slot, and nothing behind them.
+-- At most four operands, each of them decoded and suited to its slot, and nothing after them.
 pub record AreTied (reading : Reading) : Type 0 where
   pub few : reading.count ≤ 4
   pub decoded : (k : ℕ) → k < reading.count → is_decoded (operand_read reading k) ≡ true
@@ -78,9 +78,9 @@ names_modrm (s ∷ rest) (suc k) = names_modrm rest k
 
 -- the operand encodings of the row at its ModRM
 abbrev pub encodings_of : (r : RowRecord) (p : Prefixes) (bytes : List ℕ) (reading : Reading) → SpellsRow r p bytes reading → List OperandEncoding
-encodings_of r p bytes reading asked = list_of (r.plan (modrm_of r.modrm asked.modrm)).encodings
+encodings_of r p bytes reading row_spelled = list_of (r.plan (modrm_of r.modrm row_spelled.modrm)).encodings
 
--- At an index below the count stands the shape of raw fields.
+-- At an index below the count is the shape of raw fields.
 pub record HasShapeAt (reading : Reading) (k : ℕ) (raw : Raw) : Type 0 where
   pub below : k < reading.count
   pub slot : slot_read reading k ≡ (shape raw).0

@@ -1,4 +1,4 @@
-//! What a row asks behind its opcode byte, told from a ModRM byte alone.
+//! What a row has after its opcode byte, known from a ModRM byte alone.
 ghost use Rattle.std.specs.Prelude.{◌≡◌, ◌≤◌};
 ghost use Rattle.x86_fields.specs.Pieces.{option_bytes};
 ghost use Rattle.x86_operands.specs.Pieces.{immediate_width, modrm_of};
@@ -9,8 +9,8 @@ use crate::order::Position;
 use crate::plans::{Fault, ModrmUse, OperandEncoding, OperandEncodings, Plan, Verdict};
 use x86_fields::{ModRM, Prefixes};
 
-/// Which parts of an encoding a row asks behind its opcode byte. Whether there is a SIB, and how long the
-/// displacement of a memory form is, ModRM and SIB tell (Intel SDM volume 2, section 2.1.5).
+/// Which parts of an encoding a row has after its opcode byte. Whether there is a SIB, and how long the displacement
+/// of a memory form is, is known from ModRM and SIB (Intel SDM volume 2, section 2.1.5).
 #[derive(Clone, Copy, PartialEq, Eq, Debug, Drop)]
 pub struct Ask {
     /// Whether there is a ModRM byte.
@@ -88,7 +88,7 @@ pub fn used_or_none(usage: ModrmUse, modrm: Option<u8>) -> ModRM
     }
 }
 
-/// What a plan asks at a ModRM byte that is used so.
+/// What a plan has at a ModRM byte that is used so.
 pub fn plan_ask(usage: ModrmUse, modrm: ModRM, plan: &Plan) -> Ask
     ensures { result ≡ plan_ask usage modrm plan.now }
 {
@@ -100,7 +100,7 @@ pub fn plan_ask(usage: ModrmUse, modrm: ModRM, plan: &Plan) -> Ask
     }
 }
 
-/// What a line of the operand encodings asks at a ModRM byte that is used so.
+/// What a line of the operand encodings has at a ModRM byte that is used so.
 #[inline(always)]
 pub fn encoding_ask(encoding: &FormEncoding, prefixes: &Prefixes, modrm: ModRM) -> Ask
     ensures { result ≡ encoding_ask encoding.now prefixes.now modrm }

@@ -38,9 +38,9 @@ pub enum RegGroup {
     FF,
 }
 
-/// What stands behind the opcode byte.
+/// What follows the opcode byte.
 #[derive(Clone, Copy, Drop)]
-pub enum Behind {
+pub enum AfterOpcode {
     /// No ModRM, and no register.
     Nothing,
     /// No ModRM: the opcode byte carries the number of a register.
@@ -55,13 +55,13 @@ pub enum Behind {
     Registers,
     /// A ModRM whose reg chooses the line.
     ByReg(RegGroup),
-    /// A form with a plan of its own.
-    Peculiar(ModrmUse),
+    /// A form with a separate plan.
+    ByPlan(ModrmUse),
     /// Another group.
     Group,
 }
 
-/// The small letter behind G, E or Z: a class of registers, always the same or by W and 66 (Intel SDM volume 2,
+/// The small letter after G, E or Z: a class of registers, always the same or by W and 66 (Intel SDM volume 2,
 /// appendix A.2.2).
 #[derive(Clone, Copy, Drop)]
 pub enum Width {
@@ -71,13 +71,13 @@ pub enum Width {
     D,
     Q,
     X,
-    /// Q under W, else W under 66, else D.
+    /// Q under REX.W, else W under 66, else D.
     V,
     /// W under 66, else Q.
     Vq,
-    /// D under W or without 66, else W.
+    /// D under REX.W or without 66, else the class W.
     Vd,
-    /// Q under W, else D.
+    /// Q under REX.W, else D.
     Dq,
 }
 
@@ -96,14 +96,14 @@ pub enum Last {
     /// Of PUSH.
     Ip,
     /// 1 as a signed byte, which no byte spells.
-    One,
+    SignedOne,
     /// 1, which no byte spells.
-    Once,
+    UnsignedOne,
     /// 3, which no byte spells.
     Three,
     /// The register CL.
     Cl,
-    /// The register CL, behind two others.
+    /// The register CL, after two others.
     ClThird,
 }
 
@@ -134,9 +134,9 @@ pub enum Size {
 /// How the operands of a form are encoded.
 #[derive(Clone, Copy, Drop)]
 pub struct FormEncoding {
-    /// What stands behind the opcode byte.
-    pub behind: Behind,
-    /// In which order reg, rm and the last operand stand.
+    /// What follows the opcode byte.
+    pub after_opcode: AfterOpcode,
+    /// The order of reg, rm and the last operand.
     pub order: Order,
     /// The width of the register of the field reg, of the opcode byte, or of the accumulator.
     pub reg: Width,
@@ -224,8 +224,8 @@ impl Last {
             Last::Iv => immediate_of(prefixes.v_class()),
             Last::Ivq => whole_immediate(prefixes.v_class()),
             Last::Ip => push_immediate(prefixes),
-            Last::One => OperandEncoding::ConstantI8(1),
-            Last::Once => OperandEncoding::ConstantU8(1),
+            Last::SignedOne => OperandEncoding::ConstantI8(1),
+            Last::UnsignedOne => OperandEncoding::ConstantU8(1),
             Last::Three => OperandEncoding::ConstantU8(3),
             Last::Cl => OperandEncoding::Fixed(RegisterSlot::Reg, RegSpec::b(1)),
             Last::ClThird => OperandEncoding::Fixed(RegisterSlot::Third, RegSpec::b(1)),
@@ -233,29 +233,34 @@ impl Last {
     }
 }
 
-fn reg_encoding(behind: Behind, width: Width, num: u8, prefixes: &Prefixes) -> OperandEncoding
+fn reg_encoding(
+    after_opcode: AfterOpcode,
+    width: Width,
+    num: u8,
+    prefixes: &Prefixes,
+) -> OperandEncoding
     requires { num < 8 }
-    ensures { result ≡ reg_encoding behind width num prefixes.now }
+    ensures { result ≡ reg_encoding after_opcode width num prefixes.now }
 {
     let class = width.class(prefixes);
-    match (behind, width) {
-        (Behind::Opcode, _) => OperandEncoding::Fixed(
+    match (after_opcode, width) {
+        (AfterOpcode::Opcode, _) => OperandEncoding::Fixed(
             RegisterSlot::Reg,
             register_at(num, class, prefixes),
         ),
-        (Behind::Accumulator, _) => accumulator_of(class, prefixes),
+        (AfterOpcode::Accumulator, _) => accumulator_of(class, prefixes),
         (_, Width::Mm) => OperandEncoding::Gmm,
         _ => OperandEncoding::G(class),
     }
 }
 
-fn rm_encoding(behind: Behind, width: Width, prefixes: &Prefixes) -> OperandEncoding
-    ensures { result ≡ rm_encoding behind width prefixes.now }
+fn rm_encoding(after_opcode: AfterOpcode, width: Width, prefixes: &Prefixes) -> OperandEncoding
+    ensures { result ≡ rm_encoding after_opcode width prefixes.now }
 {
-    match (behind, width) {
-        (Behind::Memory, _) => OperandEncoding::M,
-        (Behind::Registers, Width::Mm) => OperandEncoding::Umm,
-        (Behind::Registers, w) => OperandEncoding::U(w.class(prefixes)),
+    match (after_opcode, width) {
+        (AfterOpcode::Memory, _) => OperandEncoding::M,
+        (AfterOpcode::Registers, Width::Mm) => OperandEncoding::Umm,
+        (AfterOpcode::Registers, w) => OperandEncoding::U(w.class(prefixes)),
         (_, Width::Mm) => OperandEncoding::Emm,
         (_, w) => OperandEncoding::E(w.class(prefixes)),
     }
@@ -298,14 +303,14 @@ fn encodings_in(
     }
 }
 
-impl Behind {
+impl AfterOpcode {
     /// Whether a line describes the form.
     #[inline(always)]
     pub fn is_described(self) -> bool
         ensures { result ≡ is_described self }
     {
         match self {
-            Behind::ByReg(_) | Behind::Peculiar(_) | Behind::Group => false,
+            AfterOpcode::ByReg(_) | AfterOpcode::ByPlan(_) | AfterOpcode::Group => false,
             _ => true,
         }
     }
@@ -316,11 +321,14 @@ impl Behind {
         ensures { result ≡ allows self modrm }
     {
         if modrm.is_memory() {
-            matches!(self, Behind::EitherForm | Behind::Memory)
+            matches!(self, AfterOpcode::EitherForm | AfterOpcode::Memory)
         } else {
             !matches!(
                 self,
-                Behind::Memory | Behind::ByReg(_) | Behind::Peculiar(_) | Behind::Group
+                AfterOpcode::Memory
+                    | AfterOpcode::ByReg(_)
+                    | AfterOpcode::ByPlan(_)
+                    | AfterOpcode::Group
             )
         }
     }
@@ -332,7 +340,10 @@ impl Behind {
     {
         matches!(
             self,
-            Behind::EitherForm | Behind::Memory | Behind::Registers | Behind::ByReg(_)
+            AfterOpcode::EitherForm
+                | AfterOpcode::Memory
+                | AfterOpcode::Registers
+                | AfterOpcode::ByReg(_)
         )
     }
 }
@@ -353,11 +364,12 @@ impl FormEncoding {
     /// How a form with this encoding uses a ModRM byte.
     #[inline(always)]
     pub fn modrm_use(&self) -> ModrmUse
-        ensures { result ≡ use_of self.now.behind }
+        ensures { result ≡ use_of self.now.after_opcode }
     {
-        match self.behind {
-            Behind::Nothing | Behind::Opcode | Behind::Accumulator => ModrmUse::Absent,
-            Behind::Peculiar(usage) => usage,
+        match self.after_opcode {
+            AfterOpcode::Nothing | AfterOpcode::Opcode | AfterOpcode::Accumulator =>
+                ModrmUse::Absent,
+            AfterOpcode::ByPlan(usage) => usage,
             _ => ModrmUse::EitherForm,
         }
     }
@@ -367,17 +379,17 @@ impl FormEncoding {
         requires { num < 8 }
         ensures { result ≡ plan_of self.now num opcode prefixes.now modrm }
     {
-        let reg = reg_encoding(self.behind, self.reg, num, prefixes);
-        let rm = rm_encoding(self.behind, self.rm, prefixes);
+        let reg = reg_encoding(self.after_opcode, self.reg, num, prefixes);
+        let rm = rm_encoding(self.after_opcode, self.rm, prefixes);
         let encodings = encodings_in(&self.order, reg, rm, self.last.encoding(prefixes));
         let plan = reads(
             opcode,
             encodings,
             self.size_at(modrm).bytes(opcode, prefixes),
         );
-        match self.behind {
-            Behind::Memory => memory_only(modrm, plan),
-            Behind::Registers => register_only(modrm, plan),
+        match self.after_opcode {
+            AfterOpcode::Memory => memory_only(modrm, plan),
+            AfterOpcode::Registers => register_only(modrm, plan),
             _ => plan,
         }
     }

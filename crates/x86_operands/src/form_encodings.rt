@@ -1,27 +1,27 @@
 //! The operand encodings of the forms: a line a form.
 //!
-//! A line reads: what stands behind the opcode byte, the order of operands, the widths of reg and rm, the last
+//! A line reads: what follows the opcode byte, the order of operands, the widths of reg and rm, the last
 //! operand, and the memory size in the memory form and in the register form. A width or a size that no operand has is
 //! B or Zero.
 
 ghost use Rattle.std.specs.Prelude.{◌≡◌, ◌<◌, true};
 ghost use Rattle.x86_forms.specs.Words.{IsForm, carried};
 ghost use Rattle.x86_operands.specs.Forms.{modrm_use};
-ghost use Rattle.x86_operands.specs.Encodings.{Belongs, Describes, LeavesPeculiar, is_sound, use_of};
+ghost use Rattle.x86_operands.specs.Encodings.{Belongs, Describes, HasSeparatePlan, is_sound, use_of};
 
-use crate::encodings::Behind::{ByReg, Group, Peculiar};
+use crate::encodings::AfterOpcode::{ByPlan, ByReg, Group};
 use crate::encodings::{FormEncoding, RegGroup};
 use crate::plans::ModrmUse;
 use crate::{encoded, other};
 use x86_forms::Form;
 
-/// A line: what stands behind the opcode byte, the order of operands, the widths of reg and rm, the last operand, and
+/// A line: what follows the opcode byte, the order of operands, the widths of reg and rm, the last operand, and
 /// the memory size in the memory form and in the register form.
 #[macro_export]
 macro_rules! encoded {
-    ($behind:ident $order:ident $reg:ident $rm:ident $last:ident $memory:ident $register:ident) => {
+    ($after_opcode:ident $order:ident $reg:ident $rm:ident $last:ident $memory:ident $register:ident) => {
         &$crate::FormEncoding {
-            behind: $crate::Behind::$behind,
+            after_opcode: $crate::AfterOpcode::$after_opcode,
             order: $crate::order::$order,
             reg: $crate::Width::$reg,
             rm: $crate::Width::$rm,
@@ -35,9 +35,9 @@ macro_rules! encoded {
 /// A form that no line describes.
 #[macro_export]
 macro_rules! other {
-    ($behind:expr) => {
+    ($after_opcode:expr) => {
         &$crate::FormEncoding {
-            behind: $behind,
+            after_opcode: $after_opcode,
             order: $crate::order::NO,
             reg: $crate::Width::B,
             rm: $crate::Width::B,
@@ -52,10 +52,10 @@ macro_rules! other {
 #[inline(always)]
 pub fn form_encoding(form: Form) -> &'static FormEncoding
     ensures describes { Describes result.now form }
-    ensures peculiar { LeavesPeculiar result.now form }
-    ensures group { Belongs result.now.behind form }
+    ensures separate { HasSeparatePlan result.now form }
+    ensures group { Belongs result.now.after_opcode form }
     ensures sound { is_sound result.now ≡ true }
-    ensures usage { modrm_use form ≡ use_of result.now.behind }
+    ensures usage { modrm_use form ≡ use_of result.now.after_opcode }
 {
     match form {
         // the register of the opcode byte
@@ -76,7 +76,7 @@ pub fn form_encoding(form: Form) -> &'static FormEncoding
         Form::Ibs => encoded!(Nothing I B B I8 Zero Zero),
         Form::Ib => encoded!(Nothing I B B U8 Zero Zero),
         Form::Iw => encoded!(Nothing I B B U16 Return Return),
-        Form::I_1 => encoded!(Nothing I B B Once Zero Zero),
+        Form::I_1 => encoded!(Nothing I B B UnsignedOne Zero Zero),
         Form::I_3 => encoded!(Nothing I B B Three Zero Zero),
         Form::Jvds => encoded!(Nothing I B B I32 Call Call),
         Form::PushIbs => encoded!(Nothing I B B I8 Eight Eight),
@@ -140,7 +140,7 @@ pub fn form_encoding(form: Form) -> &'static FormEncoding
         Form::G_Mq_mm => encoded!(Memory E_G Mm Q Absent Eight Eight),
         Form::G_mm_U_mm => encoded!(Registers G_E Mm Mm Absent Eight Eight),
         Form::G_mm_Ew_Ib => encoded!(EitherForm G_E_I Mm D I8 Two V),
-        // plans of their own, with ModRM and without
+        // separate plans, with ModRM and without
         Form::Ew_Sw
         | Form::Sw_Ew
         | Form::INV_Gv_M
@@ -149,17 +149,17 @@ pub fn form_encoding(form: Form) -> &'static FormEncoding
         | Form::Pextr_dq
         | Form::Pinsr_dq
         | Form::Edq_G_xmm
-        | Form::Rv_Gmm_Ib => other!(Peculiar(ModrmUse::EitherForm)),
+        | Form::Rv_Gmm_Ib => other!(ByPlan(ModrmUse::EitherForm)),
         Form::Zv_AX_R(_) | Form::CVT_AA | Form::CVT_DA | Form::Fw | Form::FS | Form::GS => other!(
-            Peculiar(ModrmUse::Absent)
+            ByPlan(ModrmUse::Absent)
         ),
-        Form::Iw_Ib | Form::CXZ => other!(Peculiar(ModrmUse::Absent)),
-        Form::AL_DX | Form::AX_DX | Form::DX_AL | Form::DX_AX => other!(Peculiar(ModrmUse::Absent)),
-        Form::AL_Ob | Form::AX_Ov | Form::Ob_AL | Form::Ov_AX => other!(Peculiar(ModrmUse::Absent)),
+        Form::Iw_Ib | Form::CXZ => other!(ByPlan(ModrmUse::Absent)),
+        Form::AL_DX | Form::AX_DX | Form::DX_AL | Form::DX_AX => other!(ByPlan(ModrmUse::Absent)),
+        Form::AL_Ob | Form::AX_Ov | Form::Ob_AL | Form::Ov_AX => other!(ByPlan(ModrmUse::Absent)),
         Form::AL_Xb | Form::AX_Xv | Form::Yb_AL | Form::Yv_AX | Form::Yb_Xb | Form::Yv_Xv => other!(
-            Peculiar(ModrmUse::Absent)
+            ByPlan(ModrmUse::Absent)
         ),
-        Form::Yb_DX | Form::Yv_DX | Form::DX_Xb | Form::DX_Xv => other!(Peculiar(ModrmUse::Absent)),
+        Form::Yb_DX | Form::Yv_DX | Form::DX_Xb | Form::DX_Xv => other!(ByPlan(ModrmUse::Absent)),
         // groups by reg
         Form::ModRM_0x80 => other!(ByReg(RegGroup::G80)),
         Form::ModRM_0x81 => other!(ByReg(RegGroup::G81)),

@@ -1,4 +1,4 @@
-//! Sizes and classes that go by the opcode or by a form of its own.
+//! Sizes and classes by the opcode, or by a separate form.
 ghost use Rattle.std.specs.Prelude.{◌≡◌, if◌then◌else◌};
 ghost use Rattle.x86_fields.specs.Prefixes.{operand_size};
 ghost use Rattle.x86_fields.specs.Raw.{has_w};

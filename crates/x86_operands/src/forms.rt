@@ -1,20 +1,20 @@
-//! What a row asks whose form is no group.
+//! What a row has whose form is a plain form.
 ghost use Rattle.std.specs.Prelude.{◌≡◌, false};
 ghost use Rattle.x86_arch.specs.Reader.{State};
 ghost use Rattle.x86_fields.specs.Steps.{outcome};
 ghost use Rattle.x86_forms.specs.Groups.{is_group};
 ghost use Rattle.x86_forms.specs.Words.{IsForm};
 ghost use Rattle.x86_operands.specs.Asks.{ask_of, record_at};
-ghost use Rattle.x86_operands.specs.Encodings.{held, no_operands, reading_with};
+ghost use Rattle.x86_operands.specs.Encodings.{value_if_ok, no_operands, reading_with};
 ghost use Rattle.x86_operands.specs.Forms.{form_plan, form_record, modrm_use};
 ghost use Rattle.x86_operands.specs.PlanSteps.{record_step};
 
 use crate::asks::{Ask, RecordAt, encoding_ask, plan_ask, used_modrm, used_or_none};
 use crate::form_encodings::{carried, form_encoding};
 use crate::operand_list::Operands;
-use crate::peculiar_forms::peculiar_plan;
 use crate::plans::{ModrmUse, Plan};
 use crate::reader::{Reading, read_modrm, read_plan, read_plan_into};
+use crate::separate_plans::separate_plan;
 use x86_arch::Reader;
 use x86_fields::{DecodeError, ModRM, Prefixes};
 use x86_forms::{Form, TableRow};
@@ -26,20 +26,20 @@ fn modrm_use(form: Form) -> ModrmUse
     form_encoding(form).modrm_use()
 }
 
-/// The plan of a form that is no group.
+/// The plan of a plain form.
 pub fn form_plan(form: Form, opcode: Opcode, prefixes: &Prefixes, modrm: ModRM) -> Plan
     requires { IsForm form }
     ensures { result ≡ form_plan form opcode prefixes.now modrm }
 {
     let encoding = form_encoding(form);
-    if encoding.behind.is_described() {
+    if encoding.after_opcode.is_described() {
         encoding.plan(opcode, carried(form), prefixes, modrm)
     } else {
-        peculiar_plan(form, opcode, prefixes, modrm)
+        separate_plan(form, opcode, prefixes, modrm)
     }
 }
 
-/// What a row asks whose form is no group, written to what was blank.
+/// What a row has whose form is a plain form, written into a blank instruction.
 #[inline(never)]
 #[tactic(auto, unfolding(crate::specs::Forms::form_record, crate::specs::PlanSteps::record_step))]
 pub fn read_form_into<T: Reader<u64, u8>>(
@@ -47,23 +47,23 @@ pub fn read_form_into<T: Reader<u64, u8>>(
     row: TableRow,
     prefixes: &mut Prefixes,
     opcode: &mut Opcode,
-    given: &mut Operands,
+    operand_list: &mut Operands,
 ) -> Result<(), DecodeError>
     requires carried { IsForm row.form }
-    requires blank { given.old ≡ no_operands }
+    requires blank { operand_list.old ≡ no_operands }
     ensures { outcome
-        (held result (reading_with opcode.new prefixes.new given.new)) (T.state reader.new)
+        (value_if_ok result (reading_with opcode.new prefixes.new operand_list.new)) (T.state reader.new)
         ≡ record_step (form_record row prefixes.old) prefixes.old (T.state reader.old) }
 {
     let modrm = read_modrm(reader, modrm_use(row.form))?;
     let plan = form_plan(row.form, row.opcode, prefixes, modrm);
-    read_plan_into(reader, &plan, modrm, prefixes, opcode, given)
+    read_plan_into(reader, &plan, modrm, prefixes, opcode, operand_list)
 }
 
-/// Reads what a row asks behind its opcode byte, where its form is no group: ModRM, the memory operand, the
+/// Reads what a row has after its opcode byte, where its form is a plain form: ModRM, the memory operand, the
 /// immediates.
 ///
-/// The bytes taken are exactly those that the record asks; after a refusal, those up to its moment; at
+/// The bytes taken are exactly those that the record has; after a refusal, those up to its moment; at
 /// `ExhaustedInput`, the pieces before the first that isn't whole.
 #[tactic(auto, unfolding(crate::specs::Forms::form_record, crate::specs::PlanSteps::record_step))]
 pub fn read_form<T: Reader<u64, u8>>(
@@ -81,11 +81,11 @@ pub fn read_form<T: Reader<u64, u8>>(
     read_plan(words, &plan, prefixes, modrm)
 }
 
-/// Which parts a row asks whose form is no group, at a ModRM byte. `modrm` is looked at only where the row asks a
+/// Which parts a row has whose form is a plain form, at a ModRM byte. `modrm` is read only where the row has a
 /// ModRM. Where the row refuses with every suffix, the answer is open.
 ///
 /// For the row of 03, which is ADD, at ModRM 44 this is a ModRM of the memory form, and nothing else.
-#[tactic(auto, using(crate::proofs::AskLemmas::encoding_asks), unfolding(crate::specs::Forms::form_record, crate::specs::Asks::ask_of))]
+#[tactic(auto, using(crate::proofs::AskLemmas::encoding_has_ask), unfolding(crate::specs::Forms::form_record, crate::specs::Asks::ask_of))]
 pub fn form_ask(row: TableRow, prefixes: Prefixes, modrm: u8) -> Ask
     requires plain { is_group row.form ≡ false }
     requires carried { IsForm row.form }
@@ -94,15 +94,15 @@ pub fn form_ask(row: TableRow, prefixes: Prefixes, modrm: u8) -> Ask
     let encoding = form_encoding(row.form);
     let usage = encoding.modrm_use();
     let modrm = used_modrm(usage, ModRM::new(modrm));
-    if encoding.behind.is_described() {
+    if encoding.after_opcode.is_described() {
         encoding_ask(encoding, &prefixes, modrm)
     } else {
-        let plan = peculiar_plan(row.form, row.opcode, &prefixes, modrm);
+        let plan = separate_plan(row.form, row.opcode, &prefixes, modrm);
         plan_ask(usage, modrm, &plan)
     }
 }
 
-/// The record of a row whose form is no group, at a ModRM byte.
+/// The record of a row whose form is a plain form, at a ModRM byte.
 #[tactic(auto, unfolding(crate::specs::Forms::form_record, crate::specs::Asks::record_at))]
 pub fn form_at(row: TableRow, prefixes: Prefixes, modrm: Option<u8>) -> RecordAt
     requires plain { is_group row.form ≡ false }

@@ -28,7 +28,7 @@ ghost use Rattle.x86_operands.specs.Ties.{AreTied, names_modrm, encodings_of, Ha
 
 use crate::{Ask, MemoryAccessSize, Operand, Slot};
 
-/// Operands, slots, memory sizes and asks are equal exactly where they are the same.
+/// Operands, slots, memory sizes and values of `Ask` are equal exactly where they are the same.
 pub fn values_are_equal()
     ensures operands { (a b : Operand) → IsTrue (⟦<Operand as PartialEq>⟧.eq a b) ↔ (a ≡ b) }
     ensures slots { (a b : Slot) → IsTrue (⟦<Slot as PartialEq>⟧.eq a b) ↔ (a ≡ b) }
@@ -67,8 +67,8 @@ pub fn shapes_have_the_address()
 {}
 
 /// What `read_form` and `read_group` take, and any reader of a record. On Ok these are the pieces that the record
-/// asks, wherever they stand in front; after a refusal those up to its moment; and at `ExhaustedInput` those before
-/// the first that isn't whole.
+/// has, wherever the bytes begin with them; after a refusal those up to its moment; and at `ExhaustedInput` those
+/// before the first that isn't whole.
 pub fn rows_are_read()
     ensures whole { (r : RowRecord) (p : Prefixes) (s : State ℕ) (reading : Reading) →
         (record_step r p s).answer ≡ Ok reading →
@@ -100,7 +100,7 @@ pub fn rows_refuse_by_faults()
 {}
 
 /// A reading has at most four operands. None of them is `Nothing`, masked, rounded or an unsigned immediate of 32 or
-/// 64 bits, in the slot of an immediate stands that immediate, and behind the last operand stands `Nothing`.
+/// 64 bits, the slot of an immediate has that immediate, and after the last operand there is `Nothing`.
 pub fn readings_are_tied()
     ensures read { (r : RowRecord) (p : Prefixes) (s : State ℕ) (reading : Reading) →
         (record_step r p s).answer ≡ Ok reading → AreTied reading }
@@ -108,13 +108,16 @@ pub fn readings_are_tied()
         SpellsRow r p bytes reading → AreTied reading }
 {}
 
-/// Where a record writes ModRM's memory operand stands the shape of the raw fields. Their 67 is that of the prefixes.
+/// Where a record writes ModRM's memory operand, it is the shape of the raw fields. Their 67 is that of the prefixes.
 pub fn memory_operands_are_shapes()
-    ensures stands { (r : RowRecord) (p : Prefixes)
-        (bytes : List ℕ) (reading : Reading) (asked : SpellsRow r p bytes reading) (raw : Raw) →
-        asked.behind.pieces.memory ≡ Some raw → (k : ℕ) →
-        names_modrm (encodings_of r p bytes reading asked) k ≡ true → HasShapeAt reading k raw }
+    ensures shapes { (r : RowRecord) (p : Prefixes)
+        (bytes : List ℕ) (reading : Reading) (row_spelled : SpellsRow r p bytes reading)
+        (raw : Raw) →
+        row_spelled.tail_spelled.pieces.memory ≡ Some raw → (k : ℕ) →
+        names_modrm (encodings_of r p bytes reading row_spelled) k ≡ true
+        → HasShapeAt reading k raw }
     ensures address_size { (r : RowRecord) (p : Prefixes)
-        (bytes : List ℕ) (reading : Reading) (asked : SpellsRow r p bytes reading) (raw : Raw) →
-        asked.behind.pieces.memory ≡ Some raw → raw.address_size ≡ address_size p }
+        (bytes : List ℕ) (reading : Reading) (row_spelled : SpellsRow r p bytes reading)
+        (raw : Raw) →
+        row_spelled.tail_spelled.pieces.memory ≡ Some raw → raw.address_size ≡ address_size p }
 {}

@@ -1,4 +1,4 @@
-//! The operands of an instruction: what their encodings give, written where it stays.
+//! The operands of an instruction: what their encodings yield, written where it stays.
 
 ghost use Rattle.std.specs.Prelude.{◌≡◌, ◌<◌, ◌≢◌, ℕ, Option, true};
 ghost use Rattle.x86_arch.specs.Reader.{State};
@@ -9,9 +9,9 @@ ghost use Rattle.x86_operands.specs.declared.encodings.Last.TheVariants.{Absent}
 ghost use Rattle.x86_operands.specs.declared.order.Position.TheVariants.{Nowhere};
 ghost use Rattle.x86_operands.specs.PlanSteps.{memory_or, read_plan};
 ghost use Rattle.x86_operands.specs.LastEncodings.{is_last_encoding};
-ghost use Rattle.x86_operands.specs.Encodings.{rm_read, reg_pair, fixed_pair, no_operands, reading_with, plan_of, held, put_in, put_at, put_encoded, last_encoding, encoded_read, front_read, allows, is_sound, slot_in, operand_in};
+ghost use Rattle.x86_operands.specs.Encodings.{rm_read, reg_pair, fixed_pair, no_operands, reading_with, plan_of, value_if_ok, put_in, put_at, put_encoded, last_encoding, encoded_read, leading_read, allows, is_sound, slot_in, operand_in};
 
-use crate::encodings::{Behind, FormEncoding, Last, Width};
+use crate::encodings::{AfterOpcode, FormEncoding, Last, Width};
 use crate::operands::{Operand, Slot};
 use crate::order::Position;
 use crate::plans::{
@@ -31,7 +31,7 @@ pub struct Operands {
     /// Where each operand comes from.
     pub slots: [Slot; 4],
     pub operands: [Operand; 4],
-    /// How many there are, at most 4. What stands at this index and above it is no operand.
+    /// How many there are, at most 4. At this index and above it there is no operand.
     pub count: u8,
     /// The size in bytes of what is read or written in memory: 0 for none, and 63 where the processor decides.
     pub mem_size: u8,
@@ -127,7 +127,7 @@ impl Operands {
         requires index { at < 4 }
         requires last { is_last_encoding encoding ≡ true }
         ensures { (p : Prefixes) (m : ℕ) (memory : Option Raw) →
-            outcome (held result self.new) (T.state reader.new)
+            outcome (value_if_ok result self.new) (T.state reader.new)
             ≡ put_encoded at encoding p m memory self.old (T.state reader.old) }
     {
         match encoding {
@@ -147,7 +147,7 @@ impl Operands {
         Ok(())
     }
 
-    /// What an operand encoding gives, at an index.
+    /// What an operand encoding yields, at an index.
     #[tactic(auto, unfolding(crate::specs::PlanSteps::operand_step))]
     #[inline(always)]
     pub(crate) fn put_encoded<T: Reader<u64, u8>>(
@@ -160,7 +160,7 @@ impl Operands {
         memory: Option<Raw>,
     ) -> Result<(), DecodeError>
         requires { at < 4 }
-        ensures { outcome (held result self.new) (T.state reader.new)
+        ensures { outcome (value_if_ok result self.new) (T.state reader.new)
             ≡ put_encoded at encoding prefixes.now modrm memory self.old (T.state reader.old) }
     {
         match encoding {
@@ -214,7 +214,7 @@ impl Operands {
         self.put_at(at.index(), slot, operand);
     }
 
-    /// The last operand, as its encoding gives it.
+    /// The last operand, as its encoding yields it.
     #[tactic(auto, using(crate::proofs::OrderLemmas::encoded_at_position))]
     #[inline(always)]
     fn read_last<T: Reader<u64, u8>>(
@@ -225,7 +225,7 @@ impl Operands {
         prefixes: &Prefixes,
     ) -> Result<(), DecodeError>
         requires { at ≢ Nowhere }
-        ensures { outcome (held result self.new) (T.state reader.new) ≡ encoded_read at
+        ensures { outcome (value_if_ok result self.new) (T.state reader.new) ≡ encoded_read at
             (last_encoding last prefixes.now) prefixes.now self.old (T.state reader.old) }
     {
         self.put_last(at.index(), reader, last.encoding(prefixes))
@@ -243,7 +243,7 @@ impl Operands {
         modrm: ModRM,
     ) -> Result<(), DecodeError>
         requires { at ≢ Nowhere }
-        ensures { outcome (held result self.new) (T.state reader.new)
+        ensures { outcome (value_if_ok result self.new) (T.state reader.new)
             ≡ rm_read at width prefixes.now modrm self.old (T.state reader.old) }
     {
         if modrm.is_memory() {
@@ -281,14 +281,14 @@ impl Operands {
     fn put_fixed(&mut self, encoding: &FormEncoding, num: u8, prefixes: &Prefixes)
         requires { num < 8 }
         ensures { self.new ≡ put_in encoding.now.order.reg
-            (fixed_pair encoding.now.behind encoding.now.reg num prefixes.now) self.old }
+            (fixed_pair encoding.now.after_opcode encoding.now.reg num prefixes.now) self.old }
     {
         match encoding.order.reg {
             Position::Nowhere => {}
             at => {
                 let class = encoding.reg.class(prefixes);
-                let reg = match encoding.behind {
-                    Behind::Opcode => register_at(num, class, prefixes),
+                let reg = match encoding.after_opcode {
+                    AfterOpcode::Opcode => register_at(num, class, prefixes),
                     _ => prefixes.register(class, 0),
                 };
                 self.put_in(at, Slot::Reg, Operand::Register { reg });
@@ -298,7 +298,7 @@ impl Operands {
 
     /// The operands of ModRM, or a register that no ModRM names.
     #[inline(always)]
-    fn read_front<T: Reader<u64, u8>>(
+    fn read_leading<T: Reader<u64, u8>>(
         &mut self,
         reader: &mut T,
         encoding: &FormEncoding,
@@ -307,8 +307,8 @@ impl Operands {
         modrm: ModRM,
     ) -> Result<(), DecodeError>
         requires { num < 8 }
-        ensures { outcome (held result self.new) (T.state reader.new)
-            ≡ front_read encoding.now num prefixes.now modrm self.old (T.state reader.old) }
+        ensures { outcome (value_if_ok result self.new) (T.state reader.new)
+            ≡ leading_read encoding.now num prefixes.now modrm self.old (T.state reader.old) }
     {
         match encoding.order.rm {
             Position::Nowhere => self.put_fixed(encoding, num, prefixes),
@@ -333,7 +333,7 @@ impl Operands {
         }
     }
 
-    /// What an encoding asks behind ModRM, where it doesn't refuse.
+    /// What an encoding has after ModRM, where it doesn't refuse.
     #[tactic(auto, using(crate::proofs::OrderLemmas::plan_is_read, crate::proofs::OrderLemmas::last_there, crate::proofs::OrderLemmas::sound_parts))]
     #[inline(always)]
     pub fn read<T: Reader<u64, u8>>(
@@ -348,14 +348,14 @@ impl Operands {
         requires blank { self.old ≡ no_operands }
         requires small { num < 8 }
         requires sound { is_sound encoding.now ≡ true }
-        requires allowed { allows encoding.now.behind modrm ≡ true }
-        ensures { outcome (held result (reading_with opcode prefixes.now self.new))
+        requires allowed { allows encoding.now.after_opcode modrm ≡ true }
+        ensures { outcome (value_if_ok result (reading_with opcode prefixes.now self.new))
             (T.state reader.new) ≡ read_plan (plan_of encoding.now num opcode prefixes.now modrm)
             prefixes.now modrm (T.state reader.old) }
     {
         self.count = encoding.order.count;
         self.mem_size = encoding.size_at(modrm).bytes(opcode, prefixes);
-        self.read_front(reader, encoding, num, prefixes, modrm)?;
+        self.read_leading(reader, encoding, num, prefixes, modrm)?;
         match encoding.order.last {
             Position::Nowhere => Ok(()),
             at => self.read_last(at, reader, encoding.last, prefixes),

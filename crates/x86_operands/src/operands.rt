@@ -147,7 +147,7 @@ pub enum Operand {
         disp: i32,
         mask: RegSpec,
     },
-    /// There is no operand.
+    /// No operand.
     Nothing,
 }
 
@@ -162,7 +162,7 @@ pub enum Slot {
     Reg,
     /// The register of the field rm, that of the opcode byte of XCHG, or one that the operation names, as the port dx.
     Rm,
-    /// A register that the operation names behind two others, as cl of SHLD.
+    /// A register that the operation names after two others, as cl of SHLD.
     Third,
     /// A signed immediate of 1 byte. The 1 of a shift by one, which no byte spells, is one too.
     ImmI8,
@@ -215,7 +215,7 @@ pub struct MemoryAccessSize {
 }
 
 impl MemoryAccessSize {
-    /// The size of so many bytes, which are at most 64 in what is decoded; 63 stands for one that the processor
+    /// The size of so many bytes, which are at most 64 in what is decoded; 63 means one that the processor
     /// decides.
     pub fn new(size: u8) -> MemoryAccessSize
         ensures { result ≡ access_size size }
@@ -329,7 +329,7 @@ impl Operand {
     }
 
     /// The address of a memory operand, modulo 2^64, or modulo 2^32 where `address_size` (67) holds; `next` is the
-    /// address behind the instruction. `None` where the operand isn't memory or is masked.
+    /// address after the instruction. `None` where the operand isn't memory or is masked.
     ///
     /// Segment bases are not added. Source: Intel SDM volume 1, section 3.7.5.
     #[tactic(auto, using(crate::proofs::AddressLemmas::absolute_value))]

@@ -1,4 +1,4 @@
-//! In which order the operands of a form stand.
+//! The order of a form's operands.
 
 ghost use Rattle.std.specs.Prelude.{◌≡◌, ◌<◌};
 ghost use Rattle.x86_operands.specs.Encodings.{index_of_position};
@@ -13,7 +13,7 @@ pub enum Position {
 }
 
 impl Position {
-    /// The position, counted from 0. `Nowhere` has one behind the others.
+    /// The position, counted from 0. That of `Nowhere` is after the others.
     #[inline(always)]
     pub fn index(self) -> usize
         ensures value { result ≡ index_of_position self }
@@ -28,7 +28,7 @@ impl Position {
     }
 }
 
-/// In which order the operands stand.
+/// The order of the operands.
 #[derive(Clone, Copy, Drop)]
 pub struct Order {
     pub count: u8,

@@ -1,4 +1,4 @@
-//! What the rows' records ask: their vocabulary.
+//! The vocabulary of the rows' records.
 ghost use Rattle.std.specs.Prelude.{◌≡◌, ◌<◌, ℕ};
 ghost use Rattle.x86_operands.specs.PlanSteps.{pointer_slot, register_slot};
 ghost use Rattle.x86_operands.specs.Plans.{with_verdict, reads, named_by_suffix, refused, refuses, memory_only, register_only, size_by, reg_number, rm_number, register_at, accumulator_of, immediate_of};
@@ -8,7 +8,7 @@ use x86_fields::{ModRM, Prefixes, extend};
 use x86_opcodes::Opcode;
 use x86_regs::{RegSpec, RegisterClass};
 
-/// The slot of a register that the encoding of its operand doesn't tell.
+/// The slot of a register that isn't known from the encoding of its operand.
 #[derive(Clone, Copy, Drop)]
 pub enum RegisterSlot {
     Reg,
@@ -50,7 +50,7 @@ pub(crate) fn pointer_slot(slot: PointerSlot) -> Slot
     }
 }
 
-/// What a record asks for one operand, in the letters of the Intel SDM, volume 2, appendix A.2.
+/// What a record has for one operand, in the letters of the Intel SDM, volume 2, appendix A.2.
 #[derive(Clone, Copy, Drop)]
 pub enum OperandEncoding {
     /// The register of reg, with R.
@@ -111,14 +111,14 @@ pub enum OperandEncodings {
     Four(OperandEncoding, OperandEncoding, OperandEncoding, OperandEncoding),
 }
 
-/// Behind which byte a record refuses.
+/// After which byte a record refuses.
 #[derive(Clone, Copy, Drop)]
 pub enum Moment {
-    /// Behind ModRM.
+    /// After ModRM.
     AtModRM,
-    /// Behind SIB and displacement.
+    /// After SIB and displacement.
     AfterAddress,
-    /// Behind the last byte that the row asks.
+    /// After the last byte that the row has.
     AfterSuffix,
 }
 
@@ -130,7 +130,7 @@ pub enum Fault {
     Incomplete,
 }
 
-/// Whether a record gives an instruction.
+/// Whether a record accepts or refuses.
 #[derive(Clone, Copy, Drop)]
 pub enum Verdict {
     Accepts,
@@ -158,7 +158,7 @@ pub enum ModrmUse {
     Registers,
 }
 
-/// What a record asks behind ModRM, and what it gives.
+/// What a record has after ModRM, and what it yields.
 #[derive(Clone, Copy, Drop)]
 pub struct Plan {
     /// The operation, unless a suffix names it.
@@ -233,7 +233,7 @@ pub fn memory_only(modrm: ModRM, plan: Plan) -> Plan
     refused(register, Fault::BadOperand, Moment::AtModRM, plan)
 }
 
-/// The plan, for which a memory form is refused behind the address.
+/// The plan, with a refusal of the memory form after the address.
 pub fn register_only(modrm: ModRM, plan: Plan) -> Plan
     ensures { result ≡ register_only modrm plan }
 {

@@ -1,11 +1,11 @@
-//! The one reader of plans: what a record asks behind its opcode byte.
-ghost use Rattle.x86_operands.specs.Encodings.{held, no_operands, reading_with, given_from, put_encoded};
+//! The one reader of plans: what a record has after its opcode byte.
+ghost use Rattle.x86_operands.specs.Encodings.{value_if_ok, no_operands, reading_with, filled_from, put_encoded};
 ghost use Rattle.std.specs.Prelude.{◌≡◌, ℕ, ◌<◌, ◌∷◌, []};
 ghost use Rattle.x86_arch.specs.Reader.{State};
 ghost use Rattle.x86_fields.specs.Steps.{outcome};
 ghost use Rattle.x86_operands.specs.Plans.{list_of};
 ghost use Rattle.x86_operands.specs.Suffix.{suffix_opcode};
-ghost use Rattle.x86_operands.specs.PlanSteps.{given_step, error_of, refuse_at, read_opcode, read_memory, changed, read_plan, read_modrm, refuse_fault};
+ghost use Rattle.x86_operands.specs.PlanSteps.{filled_step, error_of, refuse_at, read_opcode, read_memory, changed, read_plan, read_modrm, refuse_fault};
 
 use crate::asks::used_modrm;
 use crate::operand_list::Operands;
@@ -17,7 +17,7 @@ use x86_arch::Reader;
 use x86_fields::{DecodeError, ModRM, Prefixes, Raw, next_byte, read_raw};
 use x86_opcodes::Opcode;
 
-/// What was read behind an opcode byte.
+/// What was read after an opcode byte.
 #[derive(Clone, Copy, Drop)]
 pub struct Reading {
     /// The operation: that of the row, or the one that ModRM or a suffix chose.
@@ -143,7 +143,7 @@ fn changed(change: PrefixChange, prefixes: Prefixes) -> Prefixes
 }
 
 impl Operands {
-    /// What an operand encoding gives, at an index: `put_encoded` behind one call, since it is large.
+    /// What an operand encoding yields, at an index: `put_encoded` as one call, since it is large.
     #[inline(never)]
     fn put_operand<T: Reader<u64, u8>>(
         &mut self,
@@ -155,14 +155,14 @@ impl Operands {
         memory: Option<Raw>,
     ) -> Result<(), DecodeError>
         requires { at < 4 }
-        ensures { outcome (held result self.new) (T.state reader.new)
+        ensures { outcome (value_if_ok result self.new) (T.state reader.new)
             ≡ put_encoded at encoding prefixes.now modrm memory self.old (T.state reader.old) }
     {
         self.put_encoded(at, reader, encoding, prefixes, modrm, memory)
     }
 
     /// The operands in order, each with its immediate.
-    #[tactic(auto, unfolding(crate::specs::PlanSteps::given_step, crate::specs::PlanSteps::operands_step))]
+    #[tactic(auto, unfolding(crate::specs::PlanSteps::filled_step, crate::specs::PlanSteps::operands_step))]
     fn put_operands<T: Reader<u64, u8>>(
         &mut self,
         reader: &mut T,
@@ -172,8 +172,8 @@ impl Operands {
         memory: Option<Raw>,
     ) -> Result<(), DecodeError>
         requires { self.old ≡ no_operands }
-        ensures { outcome (held result (given_from self.new)) (T.state reader.new)
-            ≡ given_step (list_of encodings) prefixes.now modrm memory (T.state reader.old) }
+        ensures { outcome (value_if_ok result (filled_from self.new)) (T.state reader.new)
+            ≡ filled_step (list_of encodings) prefixes.now modrm memory (T.state reader.old) }
     {
         match encodings {
             OperandEncodings::Zero => Ok(()),
@@ -203,7 +203,7 @@ impl Operands {
     }
 }
 
-/// What a record asks behind its ModRM, written to what was blank.
+/// What a record has after its ModRM, written into blank operands.
 #[tactic(auto, unfolding(crate::specs::PlanSteps::read_plan))]
 pub fn read_plan_into<T: Reader<u64, u8>>(
     reader: &mut T,
@@ -211,19 +211,19 @@ pub fn read_plan_into<T: Reader<u64, u8>>(
     modrm: ModRM,
     prefixes: &mut Prefixes,
     opcode: &mut Opcode,
-    given: &mut Operands,
+    operand_list: &mut Operands,
 ) -> Result<(), DecodeError>
-    requires { given.old ≡ no_operands }
-    ensures { outcome (held result (reading_with opcode.new prefixes.new given.new))
+    requires { operand_list.old ≡ no_operands }
+    ensures { outcome (value_if_ok result (reading_with opcode.new prefixes.new operand_list.new))
         (T.state reader.new) ≡ read_plan plan.now prefixes.old modrm (T.state reader.old) }
 {
     refuse_at(plan.verdict, Moment::AtModRM)?;
     let memory = read_memory(reader, prefixes, modrm)?;
     refuse_at(plan.verdict, Moment::AfterAddress)?;
-    given.put_operands(reader, plan.encodings, prefixes, modrm, memory)?;
+    operand_list.put_operands(reader, plan.encodings, prefixes, modrm, memory)?;
     *opcode = read_opcode(reader, plan.verdict, plan.opcode)?;
     refuse_at(plan.verdict, Moment::AfterSuffix)?;
-    given.mem_size = plan.size;
+    operand_list.mem_size = plan.size;
     *prefixes = changed(plan.change, *prefixes);
     Ok(())
 }
@@ -241,7 +241,7 @@ pub fn read_modrm<T: Reader<u64, u8>>(reader: &mut T, modrm: ModrmUse) -> Result
     }
 }
 
-/// What a record asks behind its ModRM.
+/// What a record has after its ModRM.
 pub fn read_plan<T: Reader<u64, u8>>(
     reader: &mut T,
     plan: &Plan,
@@ -253,14 +253,21 @@ pub fn read_plan<T: Reader<u64, u8>>(
 {
     let mut prefixes = prefixes;
     let mut opcode = plan.opcode;
-    let mut given = Operands::none();
-    read_plan_into(reader, plan, modrm, &mut prefixes, &mut opcode, &mut given)?;
+    let mut operand_list = Operands::none();
+    read_plan_into(
+        reader,
+        plan,
+        modrm,
+        &mut prefixes,
+        &mut opcode,
+        &mut operand_list,
+    )?;
     Ok(Reading {
         opcode,
-        count: given.count,
-        slots: given.slots,
-        operands: given.operands,
-        mem_size: given.mem_size,
+        count: operand_list.count,
+        slots: operand_list.slots,
+        operands: operand_list.operands,
+        mem_size: operand_list.mem_size,
         prefixes,
     })
 }

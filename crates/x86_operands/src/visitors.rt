@@ -5,7 +5,7 @@ ghost use Rattle.x86_operands.specs.Visitor.{Visit, is_masked, visit_of, visit_r
 use crate::operands::Operand;
 use x86_regs::{MergeMode, RegSpec, SaeMode};
 
-/// What is told of an operand: one call for each kind, with the operand's fields.
+/// A visitor of operands: one call for each kind, with the operand's fields.
 ///
 /// `visit_base_index_masked` and `visit_base_index_disp_masked` name no operand, and are never called here.
 pub trait OperandVisitor {

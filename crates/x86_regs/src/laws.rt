@@ -18,7 +18,7 @@ pub fn registers_are_ordered()
     ensures by_number_then_code { (a b : RegSpec) →
         ⟦<RegSpec as Ord>⟧.cmp a b ≡
         ordering_then (nat_cmp (num a) (num b))
-            (nat_cmp (class_code (class a)) (class_code (class b))) }
+        (nat_cmp (class_code (class a)) (class_code (class b))) }
     ensures partly { (a b : RegSpec) →
         ⟦<RegSpec as PartialOrd>⟧.partial_cmp a b ≡ Some (⟦<RegSpec as Ord>⟧.cmp a b) }
     ensures total { IsTotalOrder ⟦<RegSpec as Ord>⟧.cmp }
@@ -64,12 +64,12 @@ pub fn modes_are_equal()
 pub fn constants_are_classes()
     ensures general { (B ∷ W ∷ D ∷ RB ∷ Q ∷ []) ≡
         (RegisterClass.B ∷ RegisterClass.W ∷ RegisterClass.D ∷ RegisterClass.RB
-            ∷ RegisterClass.Q ∷ []) }
+        ∷ RegisterClass.Q ∷ []) }
     ensures system { (CR ∷ DR ∷ S ∷ []) ≡
         (RegisterClass.CR ∷ RegisterClass.DR ∷ RegisterClass.S ∷ []) }
     ensures vector { (X ∷ Y ∷ Z ∷ ST ∷ MM ∷ K ∷ []) ≡
         (RegisterClass.X ∷ RegisterClass.Y ∷ RegisterClass.Z ∷ RegisterClass.ST
-            ∷ RegisterClass.MM ∷ RegisterClass.K ∷ []) }
+        ∷ RegisterClass.MM ∷ RegisterClass.K ∷ []) }
     ensures pointers { (EIP ∷ RIP ∷ EFLAGS ∷ RFLAGS ∷ []) ≡
         (RegisterClass.EIP ∷ RegisterClass.RIP ∷ RegisterClass.EFlags ∷ RegisterClass.RFlags ∷ []) }
 {}

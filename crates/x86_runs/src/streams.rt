@@ -54,7 +54,7 @@ fn sources_that_fail_between_instructions_of_one_byte(rt: HostRuntime) {
 }
 
 #[test]
-fn nothing_is_asked_behind_the_end(rt: HostRuntime) {
+fn no_call_follows_the_end(rt: HostRuntime) {
     let (text, line) = (b"01 d8", b"0 2 ADD eax, ebx m4\n");
     assert!(&rt; runs(rt.alloc(), &["list"], text, &[6, 7, 8], line, Status::Done));
 }

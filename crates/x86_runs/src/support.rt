@@ -1,8 +1,8 @@
 //! What tests of runs have in common.
 
 ghost use Rattle.std.specs.Prelude.{None, []};
-ghost use Rattle.x86_cli.specs.Outside.Source.{TellsGot};
-ghost use Rattle.x86_cli.specs.Outside.Sink.{TellsPut};
+ghost use Rattle.x86_cli.specs.Outside.Source.{ReportsGot};
+ghost use Rattle.x86_cli.specs.Outside.Sink.{ReportsPut};
 
 use std::alloc::{AllocError, Global};
 use x86_cli::{ArraySink, Got, Sink, SinkFailed, SliceSource, Source, Status, run};
@@ -79,11 +79,11 @@ impl Source for Repeated<'_> {
 
     ghost faults = { λ s. 0 };
 
-    ghost gives = { λ s g t. TellsGot g None None 0 0 };
+    ghost gives = { λ s g t. ReportsGot g None None 0 0 };
 
     ghost ahead = { λ s. [] };
 
-    ghost tells = { λ s g t h. h };
+    ghost reports = { λ s g t h. h };
 
     fn next(&mut self) -> Got {
         if self.left > 0 && self.place < self.unit.len() {
@@ -124,9 +124,9 @@ impl Sink for LastPiece<'_> {
 
     ghost faults = { λ s. 0 };
 
-    ghost takes = { λ s piece r t. TellsPut r piece None None 0 0 };
+    ghost takes = { λ s piece r t. ReportsPut r piece None None 0 0 };
 
-    ghost tells = { λ s piece r t h. h };
+    ghost reports = { λ s piece r t h. h };
 
     fn put(&mut self, piece: &[u8]) -> Result<(), SinkFailed> {
         self.is_wanted = piece == self.wanted;

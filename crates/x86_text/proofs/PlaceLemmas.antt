@@ -8,8 +8,8 @@ module _ (n by : ℕ) (large_before : 100 ≤ n) (no_carry : by < 100 - n % 100)
   large : 100 ≤ n + by
   large = omega arith
 
-  same_front : n / 100 ≡ (n + by) / 100
-  same_front = omega arith
+  same_hundreds : n / 100 ≡ (n + by) / 100
+  same_hundreds = omega arith
 
   pub last_two : (n + by) % 100 ≡ n % 100 + by
   last_two = omega arith
@@ -17,10 +17,10 @@ module _ (n by : ℕ) (large_before : 100 ≤ n) (no_carry : by < 100 - n % 100)
   pub two_digits : 2 ≤ length (decimal n)
   two_digits = let e = length_pair n large_before (omega arith) in omega arith
 
-  pub goes_on : take (length (decimal n) - 2) (decimal n) ++ pair ((n + by) % 100) ≡ decimal (n + by)
-  goes_on =
-      let front : List ℕ = decimal (n / 100) in
+  pub counts_on : take (length (decimal n) - 2) (decimal n) ++ pair ((n + by) % 100) ≡ decimal (n + by)
+  counts_on =
+      let beginning : List ℕ = decimal (n / 100) in
       let e = decimal_pair n large_before (omega arith) in
-      let count : length (decimal n) - 2 ≡ length front = (let l = length_pair n large_before (omega arith) in omega arith) in
-      let kept : take (length (decimal n) - 2) (decimal n) ≡ front = ap (λ k. take k (decimal n)) count ∙ ap (take (length front)) e ∙ take-append_seam front (pair (n % 100)) in
-      ap (λ xs. xs ++ pair ((n + by) % 100)) (kept ∙ ap decimal same_front) ∙ sym (decimal_pair (n + by) large fits)
+      let count : length (decimal n) - 2 ≡ length beginning = (let l = length_pair n large_before (omega arith) in omega arith) in
+      let kept : take (length (decimal n) - 2) (decimal n) ≡ beginning = ap (λ k. take k (decimal n)) count ∙ ap (take (length beginning)) e ∙ take-append_seam beginning (pair (n % 100)) in
+      ap (λ xs. xs ++ pair ((n + by) % 100)) (kept ∙ ap decimal same_hundreds) ∙ sym (decimal_pair (n + by) large fits)

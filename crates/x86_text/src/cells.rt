@@ -18,7 +18,7 @@ pub(crate) fn put(cells: &mut [u8], at: usize, byte: u8) -> usize
 
 /// Writes the first bytes of a block. The whole block is copied, which takes no loop.
 #[inline(always)]
-pub(crate) fn put_front<const M: usize>(
+pub(crate) fn put_first<const M: usize>(
     cells: &mut [u8],
     at: usize,
     block: &[u8; M],

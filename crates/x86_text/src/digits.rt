@@ -4,7 +4,7 @@ ghost use Rattle.std.specs.Prelude.{◌≡◌, ◌+◌, ◌*◌, ◌/◌, ◌%�
 ghost use Rattle.std.specs.Fmt.{signed_decimal};
 ghost use Rattle.hex.specs.Hex.{encode_lower};
 
-use crate::cells::{put, put_front};
+use crate::cells::{put, put_first};
 
 /// The two digits of each number below 100.
 static PAIRS: [[u8; 2]; 100] = [
@@ -73,7 +73,7 @@ fn put_decimal(cells: &mut [u8], at: usize, n: u64) -> usize
     if n < 10 {
         put(cells, at, b'0' + n as u8)
     } else if n < 100 {
-        put_front(cells, at, pair_of(n as u8), 2)
+        put_first(cells, at, pair_of(n as u8), 2)
     } else {
         put_digits(cells, at, n)
     }
@@ -89,7 +89,7 @@ fn put_digits(cells: &mut [u8], at: usize, n: u64) -> usize
     ensures place { result ≡ at + length (decimal n) }
 {
     let at = put_decimal(cells, at, n / 100);
-    put_front(cells, at, pair_of((n % 100) as u8), 2)
+    put_first(cells, at, pair_of((n % 100) as u8), 2)
 }
 
 /// Writes the decimal of a number, which has at most twenty digits.
@@ -145,7 +145,7 @@ pub(crate) fn put_hex(cells: &mut [u8], at: usize, bytes: &[u8]) -> usize
 {
     let mut at = at;
     for byte in bytes {
-        at = put_front(cells, at, hex_of(*byte), 2);
+        at = put_first(cells, at, hex_of(*byte), 2);
     }
     at
 }

@@ -5,7 +5,7 @@ ghost use Rattle.x86_opcodes.specs.Mnemonics.{mnemonic};
 ghost use Rattle.x86_regs.specs.Names.{name_of, names_of};
 ghost use Rattle.x86_text.specs.Names.{name_text, are_short};
 
-use crate::cells::put_front;
+use crate::cells::put_first;
 use crate::mnemonics::MNEMONICS;
 use crate::registers;
 use x86_opcodes::Opcode;
@@ -40,7 +40,7 @@ pub(crate) fn put_name(cells: &mut [u8], at: usize, name: &Name) -> usize
     ensures text { take result cells.new ≡ take at cells.old ++ name_text name.now }
     ensures place { result ≡ at + name.now.len }
 {
-    put_front(cells, at, &name.bytes, name.len as usize)
+    put_first(cells, at, &name.bytes, name.len as usize)
 }
 
 /// The mnemonic of an opcode.

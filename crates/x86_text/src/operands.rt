@@ -5,7 +5,7 @@ ghost use Rattle.std.specs.Fmt.{signed_decimal};
 ghost use Rattle.arrayvec.specs.ArrayVec.{array_vec_len};
 ghost use Rattle.x86_text.specs.Operands.{operand_text, deref_text, moved_text, index_text, moved_index_text, scaled_text, displacement_text, register_text, base_text, plus_text};
 
-use crate::cells::{put, put_bytes, put_front};
+use crate::cells::{put, put_bytes, put_first};
 use crate::digits::{put_signed, put_u8, put_u32, put_u64};
 use crate::names::{put_name, register_name};
 use crate::room::{LINE_ROOM, Line};
@@ -21,7 +21,7 @@ fn put_immediate(cells: &mut [u8], at: usize, label: &[u8; 4], count: usize, n: 
         take at cells.old ++ take count label.now ++ signed_decimal n }
     ensures short { result ≤ at + 24 }
 {
-    let at = put_front(cells, at, label, count);
+    let at = put_first(cells, at, label, count);
     put_signed(cells, at, n)
 }
 
@@ -33,7 +33,7 @@ fn put_unsigned(cells: &mut [u8], at: usize, label: &[u8; 4], count: usize, n: u
     ensures text { take result cells.new ≡ take at cells.old ++ take count label.now ++ decimal n }
     ensures short { result ≤ at + 24 }
 {
-    let at = put_front(cells, at, label, count);
+    let at = put_first(cells, at, label, count);
     put_u64(cells, at, n)
 }
 

@@ -6,7 +6,7 @@ ghost use Rattle.std.specs.Prelude.{MatchOption, IsUtf8};
 ghost use Rattle.arrayvec.specs.ArrayVec.{array_vec_len};
 ghost use Rattle.hex.specs.Hex.{encode_lower};
 
-use crate::cells::{put, put_bytes, put_front};
+use crate::cells::{put, put_bytes, put_first};
 use crate::digits::{pair_of, put_hex, put_signed, put_u8, put_u32, put_u64};
 use std::alloc::AllocError;
 use std::fmt;
@@ -74,7 +74,7 @@ impl<const N: usize> Room<N> {
         ensures { self.new.items ≡ take (array_vec_len self.old - 2) self.old.items ++
             (48 + n / 10) ∷ (48 + n % 10) ∷ [] }
     {
-        self.len = put_front(&mut self.cells, self.len - 2, pair_of(n), 2);
+        self.len = put_first(&mut self.cells, self.len - 2, pair_of(n), 2);
     }
 
     /// Replaces the bytes by those of a room that is at most as large.
@@ -84,8 +84,8 @@ impl<const N: usize> Room<N> {
         ensures text { self.new.items ≡ bytes.now.items }
         ensures short { array_vec_len self.new ≤ M }
     {
-        if let Some(front) = self.cells.first_chunk_mut::<M>() {
-            *front = bytes.cells;
+        if let Some(beginning) = self.cells.first_chunk_mut::<M>() {
+            *beginning = bytes.cells;
         }
         self.len = bytes.len;
     }

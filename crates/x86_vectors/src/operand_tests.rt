@@ -8,7 +8,7 @@ use x86_operands::Operand;
 use x86_regs::{MergeMode, RegSpec, SaeMode};
 
 /// Whether the call that an operand makes on a visitor names its variant, with its fields.
-fn is_told(operand: Operand) -> bool {
+fn is_decoded(operand: Operand) -> bool {
     operand.visit(&mut Rebuilder).ok() == Some(operand)
 }
 
@@ -41,7 +41,7 @@ fn visited_immediates_and_registers(rt: HostRuntime) {
         Operand::Nothing,
     ];
     for operand in operands {
-        assert!(rt; is_told(operand));
+        assert!(rt; is_decoded(operand));
     }
 }
 
@@ -87,7 +87,7 @@ fn visited_memory(rt: HostRuntime) {
         },
     ];
     for operand in operands {
-        assert!(rt; is_told(operand));
+        assert!(rt; is_decoded(operand));
     }
 }
 

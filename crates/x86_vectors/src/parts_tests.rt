@@ -44,7 +44,7 @@ fn fields_of(bytes: &[u8]) -> Option<Fields> {
 const ADD: [u8; 5] = [0x48, 0x03, 0x44, 0x25, 0x00];
 
 /// The fields of `ADD` with other prefixes, as many as fit.
-fn add_behind(prefixes: &[u8]) -> Option<Fields> {
+fn add_after(prefixes: &[u8]) -> Option<Fields> {
     let mut fields = fields_of(&ADD)?;
     fields.prefixes.clear();
     let _ = fields.prefixes.try_extend_from_slice(prefixes);
@@ -79,7 +79,7 @@ fn fields_are_written(rt: HostRuntime) {
     assert!(rt; writes(fields_of(&[0x48, 0x03, 0x44, 0x25, 0x00, 0x90]), &ADD));
     assert!(rt;
         writes(
-            add_behind(&[0x48, 0x48]),
+            add_after(&[0x48, 0x48]),
             &[0x48, 0x48, 0x03, 0x44, 0x25, 0x00]
         )
     );
@@ -88,16 +88,16 @@ fn fields_are_written(rt: HostRuntime) {
     let bytes = [
         0x66, 0x66, 0x66, 0x66, 0x66, 0x66, 0x66, 0x66, 0x66, 0x66, 0x48, 0x03, 0x44, 0x25, 0x00,
     ];
-    assert!(rt; writes(add_behind(&run[..11]), &bytes));
+    assert!(rt; writes(add_after(&run[..11]), &bytes));
     run[10] = 0x66;
     run[11] = 0x48;
-    assert!(rt; refusal(add_behind(&run)) == Some(EmitError::Length));
+    assert!(rt; refusal(add_after(&run)) == Some(EmitError::Length));
 }
 
 #[test]
 fn fields_are_refused(rt: HostRuntime) {
-    assert!(rt; refusal(add_behind(&[0x90])) == Some(EmitError::Prefixes));
-    assert!(rt; refusal(add_behind(&[0xf0])) == Some(EmitError::Lock));
+    assert!(rt; refusal(add_after(&[0x90])) == Some(EmitError::Prefixes));
+    assert!(rt; refusal(add_after(&[0xf0])) == Some(EmitError::Lock));
     let mut fields = fields_of(&ADD).expect(&rt, "fields");
     fields.sib = None;
     assert!(rt; refusal(Some(fields)) == Some(EmitError::Shape));

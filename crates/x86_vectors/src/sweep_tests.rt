@@ -22,7 +22,7 @@ fn branches(rt: HostRuntime) {
 }
 
 #[test]
-fn a_sweep_goes_on_behind_a_refusal(rt: HostRuntime) {
+fn a_sweep_continues_after_a_refusal(rt: HostRuntime) {
     let mut sweep = Sweep::new(InstDecoder::default(), &[0x06, 0x90, 0x48]);
     let first = sweep.next().expect(&rt, "a cut");
     assert!(rt; first.place == 0 && first.length == 1);

@@ -71,7 +71,10 @@ fn errors_of_emit_by_their_texts(rt: HostRuntime) -> Result<(), Fail> {
     let texts = [
         (EmitError::Prefixes, "not a prefix byte"),
         (EmitError::Row, "no row for these fields"),
-        (EmitError::Shape, "a part is missing, extra or of the wrong length"),
+        (
+            EmitError::Shape,
+            "a part is missing, extra or of the wrong length",
+        ),
         (EmitError::Lock, "lock prefix not allowed"),
         (EmitError::Length, "more than 15 bytes"),
     ];

@@ -5,7 +5,7 @@ use x86_decode::InstDecoder;
 use x86_fields::{ModRM, RegFile, Sib};
 
 /// Whether there is a SIB after a ModRM of the memory form.
-fn asks_sib(modrm: ModRM) -> bool {
+fn requires_sib(modrm: ModRM) -> bool {
     modrm.rm_field() == 4
 }
 
@@ -22,7 +22,7 @@ struct MemoryForm {
 
 impl MemoryForm {
     fn has_sib(&self) -> bool {
-        asks_sib(self.modrm)
+        requires_sib(self.modrm)
     }
 
     /// How many bytes of displacement there are.
@@ -162,7 +162,7 @@ fn every_memory_form(rt: HostRuntime) {
         if !modrm.is_memory() {
             continue;
         }
-        if asks_sib(modrm) {
+        if requires_sib(modrm) {
             assert!(rt; (0..=255u8).all(|sib| variants_are_right(modrm, Sib::new(sib))));
         } else {
             assert!(rt; variants_are_right(modrm, Sib::new(0)));

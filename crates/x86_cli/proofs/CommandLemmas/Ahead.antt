@@ -12,11 +12,11 @@ use Rattle.x86_cli.specs.declared.listings.status.Status.TheVariants as outcome
 use Rattle.x86_cli.specs.Text.{Text, text_at, text_of}
 use Rattle.x86_cli.specs.Text.Reading.{MayCome}
 use Rattle.x86_cli.specs.Listings.Listing.{Listing, with_lines, at_end}
-use Rattle.x86_cli.specs.Text.Window.{behind, rest_of, Open}
+use Rattle.x86_cli.specs.Text.Window.{with_bytes, rest_of, Open}
 use Rattle.x86_cli.specs.Commands.Run.{Closes, Ahead, RanInWindow}
 use Rattle.x86_cli.proofs.TextLemmas.Text.{text-failed}
 use Rattle.x86_cli.proofs.CommandLemmas.Causes.{some_stop}
-use Rattle.x86_cli.proofs.ListingLemmas.Stands.{Stands, stands_step, ran_failed, ran_closed, ran_unclosed}
+use Rattle.x86_cli.proofs.ListingLemmas.Progress.{Progress, progress_step, ran_failed, ran_closed, ran_unclosed}
 
 -- the window of a run
 abbrev pub window : Option ℕ
@@ -27,7 +27,7 @@ image_same : (max : ℕ) (bytes : List ℕ) (s t : Stop) → (text_of max bytes 
 unfolding text_at
 image_same max bytes s t = refl
 
-rest_split : (ended : Option Ending) (w : List ℕ) (len p r : ℕ) (xs : List ℕ) (stop : Stop) → rest_of ended w p r xs stop ≡ behind (take len w) (rest_of ended (drop len w) p r xs stop)
+rest_split : (ended : Option Ending) (w : List ℕ) (len p r : ℕ) (xs : List ℕ) (stop : Stop) → rest_of ended w p r xs stop ≡ with_bytes (take len w) (rest_of ended (drop len w) p r xs stop)
 rest_split None w len p r xs stop =
     let t = text_at p r xs stop in
     let split : w ++ t.image ≡ take len w ++ (drop len w ++ t.image) =
@@ -45,24 +45,24 @@ end_one Large = omega arith
 end_one Fault = omega arith
 
 module _ {S K : Type 0} (gives : S → Got → S → Type 0) (takes : K → List ℕ → Result ⊤ SinkFailed → K → Type 0) (at : ℕ → Text → Listing)
-    (max n : ℕ) (ended : Option Ending) (w : List ℕ) (p r : ℕ) (a b : S) (k l : K) (s : Stands gives takes at window max n ended w p r a b k l) where
-  pub stands_line : (x : List ℕ) (len : ℕ) → len ≤ length w →
+    (max n : ℕ) (ended : Option Ending) (w : List ℕ) (p r : ℕ) (a b : S) (k l : K) (s : Progress gives takes at window max n ended w p r a b k l) where
+  pub progress_line : (x : List ℕ) (len : ℕ) → len ≤ length w →
       ((xs : List ℕ) (stop : Stop) → at n (rest_of ended w p r xs stop) ≡ with_lines (x ∷ []) (at (n + len) (rest_of ended (drop len w) p r xs stop))) →
-      (m : K) → takes l x (Ok tt) m → Stands gives takes at window max (n + len) ended (drop len w) p r a b k m
-  stands_line x len le step m put =
-      stands_step gives takes at window max n ended w p r a b k l s (x ∷ []) (n + len) (drop len w) step (take len w) (rest_split ended w len p r) (longer n len w le) m (m, put, refl)
+      (m : K) → takes l x (Ok tt) m → Progress gives takes at window max (n + len) ended (drop len w) p r a b k m
+  progress_line x len le step m put =
+      progress_step gives takes at window max n ended w p r a b k l s (x ∷ []) (n + len) (drop len w) step (take len w) (rest_split ended w len p r) (longer n len w le) m (m, put, refl)
 
-  image_given : (o : Option Ending) → ended ≡ o → (text_of max s.bytes Failed).image ≡ s.walked ++ w
-  image_given None is =
+  image_taken : (o : Option Ending) → ended ≡ o → (text_of max s.bytes Failed).image ≡ s.walked ++ w
+  image_taken None is =
       let P : Option Ending → Type 0 = λ o. Open o s.stop in
-      let open_yet : s.stop ≡ None = subst P is s.goes_on in
+      let open_yet : s.stop ≡ None = subst P is s.continues in
       let may : MayCome s.stop [] Failed = rw open_yet tt in
-      let whole : text_of max (s.bytes ++ []) Failed ≡ behind s.walked (rest_of None w p r [] Failed) = rw is at (s.front [] Failed may) in
+      let whole : text_of max (s.bytes ++ []) Failed ≡ with_bytes s.walked (rest_of None w p r [] Failed) = rw is at (s.beginning [] Failed may) in
       let image : (text_of max s.bytes Failed).image ≡ s.walked ++ (w ++ (text_at p r [] Failed).image) = rw append-nil at (ap (λ t. t.image) whole) in
       image ∙ ap (λ t. s.walked ++ (w ++ t.image)) (text-failed p r) ∙ ap (λ v. s.walked ++ v) (append-nil w)
-  image_given (Some e) is =
+  image_taken (Some e) is =
       let stop = some_stop s.stop in
-      let whole : text_of max (s.bytes ++ []) stop.0 ≡ behind s.walked (rest_of (Some e) w p r [] stop.0) = rw is at (s.front [] stop.0 stop.1) in
+      let whole : text_of max (s.bytes ++ []) stop.0 ≡ with_bytes s.walked (rest_of (Some e) w p r [] stop.0) = rw is at (s.beginning [] stop.0 stop.1) in
       let image : (text_of max s.bytes stop.0).image ≡ s.walked ++ w = rw append-nil at (ap (λ t. t.image) whole) in
       image_same max s.bytes Failed stop.0 ∙ image
 
@@ -70,13 +70,13 @@ module _ {S K : Type 0} (gives : S → Got → S → Type 0) (takes : K → List
     ahead : (lines last : List (List ℕ)) → lines ≡ s.lines ++ last → length last ≤ 1 → Ahead at (text_of max) s.bytes s.stop lines
     ahead lines last split one = record {
       walked = s.walked;
-      few = rw (image_given ended refl) (simp length-append (omega (arith, few)));
-      asked = s.asked;
+      few = rw (image_taken ended refl) (simp length-append (omega (arith, few)));
+      called = s.called;
       shown = s.lines;
       last = last;
       split = split;
       one = one;
-      lists = λ xs stop may. (rest_of ended w p r xs stop, s.front xs stop may, rw s.walks (s.lists xs stop may));
+      lists = λ xs stop may. (rest_of ended w p r xs stop, s.beginning xs stop may, rw s.walks (s.lists xs stop may));
     }
 
     none_more : Ahead at (text_of max) s.bytes s.stop s.lines
@@ -84,7 +84,7 @@ module _ {S K : Type 0} (gives : S → Got → S → Type 0) (takes : K → List
 
     pub window_failed : (x : List ℕ) → ((xs : List ℕ) (stop : Stop) → (after : Listing) × (at n (rest_of ended w p r xs stop) ≡ with_lines (x ∷ []) after)) →
         (e : SinkFailed) (m : K) → takes l x (Err e) m → RanInWindow gives takes at max outcome.WriteFault a b k m
-    window_failed x front e m failed = (ran_failed gives takes at window max n ended w p r a b k l s x front e m failed, none_more)
+    window_failed x beginning e m failed = (ran_failed gives takes at window max n ended w p r a b k l s x beginning e m failed, none_more)
 
     pub window_closed : (last : Listing) → length last.lines ≤ 1 → ((xs : List ℕ) (stop : Stop) → at n (rest_of ended w p r xs stop) ≡ last) →
         (status : Status) (m : K) → Closes takes last (Ok status) l m → RanInWindow gives takes at max status a b k m

@@ -12,14 +12,14 @@ use Rattle.x86_cli.specs.declared.outside.sink.SinkFailed.{SinkFailed}
 use Rattle.x86_cli.specs.declared.text.reader.Ending.{Ending}
 use Rattle.x86_cli.specs.declared.text.reader.Ending.TheVariants.{Clean, Bad, Large, Fault}
 use Rattle.x86_cli.specs.Outside.Stop.{Stop, End, Failed}
-use Rattle.x86_cli.specs.declared.text.window.Front.{Front}
-use Rattle.x86_cli.specs.declared.text.window.Front.TheVariants.{Whole, Refused, Ended}
+use Rattle.x86_cli.specs.declared.text.window.Decoded.{Decoded}
+use Rattle.x86_cli.specs.declared.text.window.Decoded.TheVariants.{Whole, Refused, Ended}
 use Rattle.x86_cli.specs.declared.listings.status.Status.{Status}
 use Rattle.x86_cli.specs.declared.listings.status.Status.TheVariants as outcome
 use Rattle.x86_cli.specs.declared.listings.status.Status.TheVariants.{Done, Usage}
 use Rattle.x86_cli.specs.declared.commands.command.Command.{Command}
 use Rattle.x86_cli.specs.declared.commands.command.Command.TheVariants.{List as Listed, Sweep as Swept, Targets as Targeted, Fields as Fielded, Tighten as Tightened}
-use Rattle.x86_layout.specs.Parts.Front.{parts_of}
+use Rattle.x86_layout.specs.Parts.OfBytes.{parts_of}
 use Rattle.x86_text.specs.Lines.{line_of}
 use Rattle.x86_text.specs.Parts.{fields_line}
 use Rattle.x86_cli.specs.Listings.Tighten.{least_text}
@@ -27,18 +27,18 @@ use Rattle.x86_layout.specs.Tightening.Least.{shortest_length}
 use Rattle.x86_cli.specs.Commands.Command.{Runs, listing_for, goes_past_refusals}
 use Rattle.x86_cli.specs.Text.{Text, text_at, text_of, ending_by, bad_of, ends_in_half}
 use Rattle.x86_cli.specs.Text.Reading.{MayCome}
-use Rattle.x86_cli.specs.Listings.Listing.{Listing, at_end, front_of, judged, sure_of, listed, listing_from}
+use Rattle.x86_cli.specs.Listings.Listing.{Listing, at_end, decoded_of, decoded_at_end, decoded_before_end, listed, listing_from}
 use Rattle.x86_cli.specs.Commands.Run.{Lists, Ran}
 use Rattle.x86_cli.specs.Commands.Causes.{HaveCauses}
 use Rattle.x86_cli.specs.Commands.Complete.{IsOneInstruction, AreSentences, CompletesTexts}
 use Rattle.x86_cli.specs.DecoderLaws.{DecoderLaws}
-use Rattle.x86_cli.proofs.TextLemmas.Front.{front-stays}
+use Rattle.x86_cli.proofs.TextLemmas.Decoded.{decoded-stays}
 use Rattle.x86_cli.proofs.ListingLemmas.Listing.{listing-whole}
 use Rattle.x86_cli.proofs.ListingLemmas.Sweep.{end_unrefused}
 
 -- a status with which no listing of a text ends
 
-judged_end : (answer : Result Instruction DecodeError) (e g : Ending) → judged answer e ≡ Ended g → g ≡ e
+judged_end : (answer : Result Instruction DecodeError) (e g : Ending) → decoded_at_end answer e ≡ Ended g → g ≡ e
 judged_end (Ok i) e g h = cc
 judged_end (Err ExhaustedInput) Clean g h = cc
 judged_end (Err ExhaustedInput) (Bad n) g h = cc
@@ -46,13 +46,13 @@ judged_end (Err ExhaustedInput) Large g h = cc
 judged_end (Err ExhaustedInput) Fault g h = cc
 judged_end (Err error) e g h = cc
 
-front_end : (strict : Bool) (x : ℕ) (xs : List ℕ) (e g : Ending) → front_of strict (x ∷ xs) e ≡ Ended g → g ≡ e
-unfolding front_of
-front_end strict x xs e g h = judged_end (answer_of strict (x ∷ xs)) e g h
+decoded_end : (strict : Bool) (x : ℕ) (xs : List ℕ) (e g : Ending) → decoded_of strict (x ∷ xs) e ≡ Ended g → g ≡ e
+unfolding decoded_of
+decoded_end strict x xs e g h = judged_end (answer_of strict (x ∷ xs)) e g h
 
 module _ (other : Status) (refusal : outcome.Refused ≢ other) (e : Ending) (end : (at_end e).status ≢ other) where
   module _ (strict : Bool) (text : ℕ → Instruction → List ℕ → List ℕ) where
-    listed_never : (f : Front Instruction) (n : ℕ) (xs : List ℕ) (after : ℕ → Listing) → ((g : Ending) → f ≡ Ended g → g ≡ e) → ((k : ℕ) → (after k).status ≢ other) →
+    listed_never : (f : Decoded Instruction) (n : ℕ) (xs : List ℕ) (after : ℕ → Listing) → ((g : Ending) → f ≡ Ended g → g ≡ e) → ((k : ℕ) → (after k).status ≢ other) →
         (listed strict text f n xs after).status ≢ other
     listed_never (Whole i) n xs after same h = h (i.length - 1)
     listed_never (Refused error) n xs after same h = refusal
@@ -61,7 +61,7 @@ module _ (other : Status) (refusal : outcome.Refused ≢ other) (e : Ending) (en
     listing_never : (n k : ℕ) (xs : List ℕ) → (listing_from strict text n k xs e).status ≢ other
     unfolding listing_from
     listing_never n k [] = end
-    listing_never n zero (x ∷ xs) = listed_never (front_of strict (x ∷ xs) e) n (x ∷ xs) _ (front_end strict x xs e) (λ k. listing_never (n + 1) k xs)
+    listing_never n zero (x ∷ xs) = listed_never (decoded_of strict (x ∷ xs) e) n (x ∷ xs) _ (decoded_end strict x xs e) (λ k. listing_never (n + 1) k xs)
     listing_never n (suc k) (x ∷ xs) = listing_never (n + 1) k xs
 
   pub command_never : (c : Command) (image : List ℕ) → (listing_for c (record { image = image; ending = e })).status ≢ other
@@ -111,7 +111,7 @@ command_read c max bytes =
 pub command_written : (c : Command) (t : Text) → (listing_for c t).status ≢ outcome.WriteFault
 command_written c t = command_never outcome.WriteFault (λ f. cc) t.ending (end_written t.ending) c t.image
 
--- a stop that may come behind the bytes that were given
+-- a stop that may come after the bytes that were returned
 pub some_stop : (stop : Option Stop) → (s : Stop) × MayCome stop [] s
 some_stop None = (End, tt)
 some_stop (Some given) = (given, (refl, refl))
@@ -127,7 +127,7 @@ ran_used gives takes c max status a b k l ran =
     let s = some_stop ran.stop in
     lists_other Usage (λ e. cc) status ran.lines ran.failed _ (ran.lists [] s.0 s.1) (command_used c _)
 
--- Commands that go on after refusals are never refused.
+-- Commands that continue after refusals are never refused.
 past_refusals : (c : Command) (t : Text) → IsTrue (goes_past_refusals c) → (listing_for c t).status ≢ outcome.Refused
 past_refusals (Listed strict) t goes = cc
 past_refusals Fielded t goes = cc
@@ -166,17 +166,17 @@ causes gives takes c max a b k l = (
 -- sequences of sentences
 
 module _ (strict : Bool) (laws : DecoderLaws strict) (text : ℕ → Instruction → List ℕ → List ℕ) where
-  sentence_front : (s rest : List ℕ) → IsOneInstruction strict s → (i : Instruction) × (front_of strict (s ++ rest) Clean ≡ Whole i) × (0 < i.length) × (i.length ≡ length s)
-  sentence_front s rest is =
+  sentence_beginning : (s rest : List ℕ) → IsOneInstruction strict s → (i : Instruction) × (decoded_of strict (s ++ rest) Clean ≡ Whole i) × (0 < i.length) × (i.length ≡ length s)
+  sentence_beginning s rest is =
       let i = is.instruction in
       let ok : answer_of strict s ≢ Err ExhaustedInput = λ e. let f : Ok i ≡ Err ExhaustedInput = sym is.answer ∙ e in cc in
-      (i, front-stays strict laws s rest Clean ok ∙ ap sure_of is.answer, (laws.lengths s i is.answer).0, is.whole)
+      (i, decoded-stays strict laws s rest Clean ok ∙ ap decoded_before_end is.answer, (laws.lengths s i is.answer).0, is.whole)
 
   pub sentences_done : (n : ℕ) (ss : List (List ℕ)) → AreSentences strict ss → (listing_from strict text n 0 (concat ss) Clean).status ≡ Done
   unfolding listing_from
   sentences_done n [] each = refl
   sentences_done n (s ∷ ss) each =
-      let f = sentence_front s (concat ss) each.0 in
+      let f = sentence_beginning s (concat ss) each.0 in
       let i = f.0 in
       let fits : i.length ≤ length (s ++ concat ss) = simp length-append (omega (arith, f.3)) in
       let dropped : drop i.length (s ++ concat ss) ≡ concat ss = rw f.3 (drop-append_seam s (concat ss)) in

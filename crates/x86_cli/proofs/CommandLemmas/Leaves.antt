@@ -1,4 +1,4 @@
--- What the program leaves, where its reader tells the bytes that it has left and its writer the bytes that it has.
+-- What the program leaves, where the bytes that its reader has left and those that its writer has are known.
 use Rattle.std.proofs.Common.{◌≡◌, ◌≢◌, inl, inr, ℕ, Bool, List, [], ◌∷◌, ◌++◌, length, take, Option, Some, None, Result, Ok, Err, refl, ap, ◌∙◌, sym, subst, append-nil}
 use Rattle.std.proofs.Math.Seq.{take-append_seam}
 use Rattle.std.specs.Prelude.{IfSome, ⊤}
@@ -44,23 +44,23 @@ all_read p ps (Some xs) None c h = absurd c
 all_read p ps (Some xs) (Some ys) c h = c ∙ ap (λ ys. p ++ ys) h
 
 module _ {R : Type 0} (left : R → Option (List ℕ)) where
-  abbrev tells : R → List ℕ → Result ℕ Error → R → Type 0
-  tells s buffer r t = ReadConsumes (left s) (left t) r buffer
+  abbrev reports : R → List ℕ → Result ℕ Error → R → Type 0
+  reports s buffer r t = ReadConsumes (left s) (left t) r buffer
 
-  reads_consume : (pieces : List (List ℕ)) (stop : Option Stop) (r r' : R) → ReaderCalls tells pieces stop r r' → Consumes (left r) (left r') (concat pieces)
+  reads_consume : (pieces : List (List ℕ)) (stop : Option Stop) (r r' : R) → ReaderCalls reports pieces stop r r' → Consumes (left r) (left r') (concat pieces)
   reads_consume [] None r r' e = rw e (Consumes-nil (left r))
   reads_consume [] (Some End) r r' h = subst (Consumes (left r) (left r')) (take_none 0 h.0 refl) h.2.0
   reads_consume [] (Some Failed) r r' h = consumes_none (left r) (left r') h.2
   reads_consume (p ∷ ps) stop r r' h = Consumes-trans (left r) (left h.0) (left r') p (concat ps) (subst (Consumes (left r) (left h.0)) h.1.4 h.1.3.0) (reads_consume ps stop h.0 r' h.2)
 
-  reads_all : (pieces : List (List ℕ)) (r r' : R) → ReaderCalls tells pieces (Some End) r r' → IfSome (left r) (λ b. b ≡ concat pieces)
+  reads_all : (pieces : List (List ℕ)) (r r' : R) → ReaderCalls reports pieces (Some End) r r' → IfSome (left r) (λ b. b ≡ concat pieces)
   reads_all [] r r' h = at_end (left r) (left r') (take 0 h.0) (take_none 0 h.0 refl) h.2.0 (h.2.1 refl h.1)
   reads_all (p ∷ ps) r r' h = all_read p (concat ps) (left r) (left h.0) (subst (Consumes (left r) (left h.0)) h.1.4 h.1.3.0) (reads_all ps h.0 r' h.2)
 
-taken_front : (a b : Option (List ℕ)) (taken : List ℕ) → Consumes a b taken → IfSome a (λ xs. StartsWith xs taken)
-taken_front None b taken c = tt
-taken_front (Some xs) None taken c = absurd c
-taken_front (Some xs) (Some ys) taken c = rw c (take-append_seam taken ys)
+taken_beginning : (a b : Option (List ℕ)) (taken : List ℕ) → Consumes a b taken → IfSome a (λ xs. StartsWith xs taken)
+taken_beginning None b taken c = tt
+taken_beginning (Some xs) None taken c = absurd c
+taken_beginning (Some xs) (Some ys) taken c = rw c (take-append_seam taken ys)
 
 some_more : (a b : Option (List ℕ)) (bytes : List ℕ) (P : List ℕ → Type 0) → Consumes a b bytes → ((xs : List ℕ) → P (bytes ++ xs)) → IfSome a P
 some_more None b bytes P c h = tt
@@ -97,7 +97,7 @@ open_failed text [] stop h = h
 open_failed text (p ∷ ps) stop h = open_failed (λ xs s. text (p ++ xs) s) ps stop h.1
 
 module _ {R W : Type 0} (laws : (strict : Bool) → DecoderLaws strict) (left : R → Option (List ℕ)) (written : W → Option (List ℕ)) (c : Command) (r r' : R) (w w' : W) where
-  module _ (status : Status) (h : Performs (appends written) (keeps written) (tells left) c status r r' w w') where
+  module _ (status : Status) (h : Performs (appends written) (keeps written) (reports left) c status r r' w w') where
     wrote : Appends (written w) (written w') h.bytes
     wrote = subst (Appends (written w) (written w')) h.wrote.caused.sends (calls_append written h.wrote.caused.calls w w' h.wrote.caused.did)
 
@@ -109,7 +109,7 @@ module _ {R W : Type 0} (laws : (strict : Bool) → DecoderLaws strict) (left : 
         some_more (left r) (left r') (concat h.pieces) (λ b. Has status (full_listing c b) (written w) (written w')) consumed
         (λ xs. (h.bytes, h.lists xs End (rw is tt), wrote))
     of_all (Some End) is ne =
-        let P : Option Stop → Type 0 = λ o. ReaderCalls (tells left) h.pieces o r r' in
+        let P : Option Stop → Type 0 = λ o. ReaderCalls (reports left) h.pieces o r r' in
         let may : MayCome h.stop [] End = rw is (refl, refl) in
         just_these (left r) (concat h.pieces) (λ b. Has status (full_listing c b) (written w) (written w')) (reads_all left h.pieces r r' (subst P is h.read))
         (h.bytes, rw append-nil at (h.lists [] End may), wrote)
@@ -121,9 +121,9 @@ module _ {R W : Type 0} (laws : (strict : Bool) → DecoderLaws strict) (left : 
         rw append-nil at (h.lists [] Failed may)
 
     of_taken : h.stop ≡ Some Failed → HasOfTaken status c (left r) (written w) (written w')
-    of_taken is = (concat h.pieces, taken_front (left r) (left r') (concat h.pieces) consumed, (h.bytes, printed_taken is, wrote))
+    of_taken is = (concat h.pieces, taken_beginning (left r) (left r') (concat h.pieces) consumed, (h.bytes, printed_taken is, wrote))
 
-  refused : (h : Performs (appends written) (keeps written) (tells left) c Refused r r' w w') (stop : Option Stop) → h.stop ≡ stop → HasOfAll Refused c (left r) (written w) (written w')
+  refused : (h : Performs (appends written) (keeps written) (reports left) c Refused r r' w w') (stop : Option Stop) → h.stop ≡ stop → HasOfAll Refused c (left r) (written w) (written w')
   refused h None is = of_all Refused h None is (λ e. cc)
   refused h (Some End) is = of_all Refused h (Some End) is (λ e. cc)
   refused h (Some Failed) is =
@@ -135,12 +135,12 @@ module _ {R W : Type 0} (laws : (strict : Bool) → DecoderLaws strict) (left : 
       some_more (left r) (left r') bytes (λ b. Has Refused (full_listing c b) (written w) (written w')) (consumed Refused h)
       (λ xs. (h.bytes, subst (IsPrinted Refused h.bytes) (sym (refused_stays laws c (max_of c) bytes xs End fault ends)) p, wrote Refused h))
 
-  written_fault : (h : Performs (appends written) (keeps written) (tells left) c WriteFault r r' w w') (stop : Option Stop) → h.stop ≡ stop → Leaves WriteFault c (left r) (written w) (written w')
+  written_fault : (h : Performs (appends written) (keeps written) (reports left) c WriteFault r r' w w') (stop : Option Stop) → h.stop ≡ stop → Leaves WriteFault c (left r) (written w) (written w')
   written_fault h None is = inl (of_all WriteFault h None is (λ e. cc))
   written_fault h (Some End) is = inl (of_all WriteFault h (Some End) is (λ e. cc))
   written_fault h (Some Failed) is = inr (of_taken WriteFault h is)
 
-  pub leaves : (status : Status) → Performs (appends written) (keeps written) (tells left) c status r r' w w' → Leaves status c (left r) (written w) (written w')
+  pub leaves : (status : Status) → Performs (appends written) (keeps written) (reports left) c status r r' w w' → Leaves status c (left r) (written w) (written w')
   leaves Done h = of_all Done h (Some End) h.ends (λ e. cc)
   leaves Usage h = absurd h.ends
   leaves Refused h = refused h h.stop refl

@@ -11,16 +11,16 @@ use Rattle.x86_cli.specs.declared.listings.status.Status.{Status}
 use Rattle.x86_cli.specs.declared.listings.status.Status.TheVariants.{Done, Usage, Refused, BadText, ReadFault, WriteFault, TooLarge}
 use Rattle.x86_cli.specs.Outside.Stop.{Stop, End, Failed}
 use Rattle.x86_cli.specs.Outside.StdSource.{Fetches}
-use Rattle.x86_cli.specs.Outside.Writes.{Call, AllGoOn, Cause, EndsInFlush, Flush, Write, Caused, Forwards, FlushesOut, PutSends, Settles, taken_by}
+use Rattle.x86_cli.specs.Outside.Writes.{Call, AllContinue, Cause, EndsInFlush, Flush, Write, Caused, Forwards, FlushesOut, PutSends, IsFinalWrite, taken_by}
 use Rattle.x86_cli.specs.Text.{text_of}
-use Rattle.x86_cli.specs.Text.Reading.{Asked, Gave, MayCome}
+use Rattle.x86_cli.specs.Text.Reading.{CalledWhileOpen, SourceCalls, MayCome}
 use Rattle.x86_cli.specs.Listings.Listing.{Listing}
 use Rattle.x86_cli.specs.Commands.Command.{listing_for, max_of, Runs}
 use Rattle.x86_cli.specs.Commands.Make.{made_listing}
-use Rattle.x86_cli.specs.Commands.Run.{Took, Lists, Wrote, Ran}
+use Rattle.x86_cli.specs.Commands.Run.{SinkCalls, Lists, Wrote, Ran}
 use Rattle.x86_cli.specs.Commands.Program.{ending_of, fault_of, EndsAt, IsPrinted, Finishes, Performs, PerformsMake}
 use Rattle.x86_cli.proofs.CommandLemmas.Causes.{some_stop, causes, command_used, command_written, ran_used}
-use Rattle.x86_cli.proofs.CommandLemmas.Says.{end_stop, fault_status, asked_failed}
+use Rattle.x86_cli.proofs.CommandLemmas.Says.{end_stop, fault_status, called_failed}
 use Rattle.x86_cli.proofs.OutsideLemmas.Flat.{flat, took_on, took_fault}
 use Rattle.x86_cli.proofs.OutsideLemmas.Reads.{Fetched, fetched, stopped_empty}
 use Rattle.x86_cli.proofs.OutsideLemmas.Writes.{caused_join, caused_ok, caused_err, forwards_join}
@@ -121,30 +121,30 @@ module _ {W : Type 0} (writes : W → List ℕ → Result ℕ Error → W → Ty
     prints = λ l is. printed_part f.bytes held lines failed n is.1.0 l f.order is.1.1;
   }
 
-  module _ {G K : Type 0} (gwrites : G → List ℕ → Result ℕ Error → G → Type 0) (gflushes : G → Result ⊤ Error → G → Type 0) (behind : G → W) (held : G → List ℕ)
-      (by_write : (s : G) (bytes : List ℕ) (r : Result ℕ Error) (t : G) → gwrites s bytes r t → Forwards writes flushes r (taken_by r bytes) (held s) (held t) (behind s) (behind t) × Settles r bytes)
-      (by_flush : (s : G) (r : Result ⊤ Error) (t : G) → gflushes s r t → Forwards writes flushes r [] (held s) (held t) (behind s) (behind t))
+  module _ {G K : Type 0} (gwrites : G → List ℕ → Result ℕ Error → G → Type 0) (gflushes : G → Result ⊤ Error → G → Type 0) (writer_of : G → W) (held : G → List ℕ)
+      (by_write : (s : G) (bytes : List ℕ) (r : Result ℕ Error) (t : G) → gwrites s bytes r t → Forwards writes flushes r (taken_by r bytes) (held s) (held t) (writer_of s) (writer_of t) × IsFinalWrite r bytes)
+      (by_flush : (s : G) (r : Result ⊤ Error) (t : G) → gflushes s r t → Forwards writes flushes r [] (held s) (held t) (writer_of s) (writer_of t))
       (takes : K → List ℕ → Result ⊤ SinkFailed → K → Type 0) (buffer : K → G)
       (puts : (s : K) (piece : List ℕ) (r : Result ⊤ SinkFailed) (t : K) → takes s piece r t → PutSends gwrites gflushes r piece (buffer s) (buffer t)) where
     module _ (k l : K) (empty : held (buffer k) ≡ []) where
-      forwarded : (r : Result ⊤ SinkFailed) (bytes : List ℕ) → Caused gwrites gflushes r bytes (buffer k) (buffer l) → Forwards writes flushes r bytes [] (held (buffer l)) (behind (buffer k)) (behind (buffer l))
-      forwarded r bytes c = subst (λ h. Forwards writes flushes r bytes h (held (buffer l)) (behind (buffer k)) (behind (buffer l))) empty (flat writes flushes gwrites gflushes behind held by_write by_flush r bytes _ _ c)
+      forwarded : (r : Result ⊤ SinkFailed) (bytes : List ℕ) → Caused gwrites gflushes r bytes (buffer k) (buffer l) → Forwards writes flushes r bytes [] (held (buffer l)) (writer_of (buffer k)) (writer_of (buffer l))
+      forwarded r bytes c = subst (λ h. Forwards writes flushes r bytes h (held (buffer l)) (writer_of (buffer k)) (writer_of (buffer l))) empty (flat writes flushes gwrites gflushes writer_of held by_write by_flush r bytes _ _ c)
 
       -- A run and the flush after it, whose first listing is this.
       pub run_printed : (status : Status) (lines : List (List ℕ)) (failed : Option (List ℕ)) (first : Listing) → Lists status lines failed first → first.status ≢ WriteFault → first.status ≢ Usage →
-          Took takes lines failed k l → (r : Result ⊤ SinkFailed) (g : G) → (status ≡ WriteFault → g ≡ buffer l) →
-          (status ≢ Usage → status ≢ WriteFault → FlushesOut writes flushes r (held (buffer l)) (held g) (behind (buffer l)) (behind g)) →
-          Printed status (ending_of status r) lines failed (behind (buffer k)) (behind g)
-      run_printed status lines None first lists unfailed used took r g stays sends =
+          SinkCalls takes lines failed k l → (r : Result ⊤ SinkFailed) (g : G) → (status ≡ WriteFault → g ≡ buffer l) →
+          (status ≢ Usage → status ≢ WriteFault → FlushesOut writes flushes r (held (buffer l)) (held g) (writer_of (buffer l)) (writer_of g)) →
+          Printed status (ending_of status r) lines failed (writer_of (buffer k)) (writer_of g)
+      run_printed status lines None first lists unfailed used sink_calls r g stays sends =
           let ne : status ≢ WriteFault = λ e. unfailed (ap (λ l. l.status) lists ∙ e) in
           let nu : status ≢ Usage = λ e. used (ap (λ l. l.status) lists ∙ e) in
-          flushed_lines status lines (held (buffer l)) _ _ _ (held g) ne (forwarded (Ok tt) (concat lines) (took_on gwrites gflushes takes buffer puts lines k l took)) r (sends nu ne)
-      run_printed status lines (Some failed) first lists unfailed used took r g stays sends =
-          let t = took_fault gwrites gflushes takes buffer puts lines failed k l took in
-          let p : Printed WriteFault WriteFault lines (Some failed) (behind (buffer k)) (behind (buffer l)) =
+          flushed_lines status lines (held (buffer l)) _ _ _ (held g) ne (forwarded (Ok tt) (concat lines) (took_on gwrites gflushes takes buffer puts lines k l sink_calls)) r (sends nu ne)
+      run_printed status lines (Some failed) first lists unfailed used sink_calls r g stays sends =
+          let t = took_fault gwrites gflushes takes buffer puts lines failed k l sink_calls in
+          let p : Printed WriteFault WriteFault lines (Some failed) (writer_of (buffer k)) (writer_of (buffer l)) =
           failed_line lines failed t.1 (held (buffer l)) _ _ t.0 (forwarded (Err t.0) (concat lines ++ take t.1 failed) t.2) in
-          let P : G → Type 0 = λ g. Printed WriteFault WriteFault lines (Some failed) (behind (buffer k)) (behind g) in
-          let q : Printed WriteFault WriteFault lines (Some failed) (behind (buffer k)) (behind g) = subst P (sym (stays lists.0)) p in
+          let P : G → Type 0 = λ g. Printed WriteFault WriteFault lines (Some failed) (writer_of (buffer k)) (writer_of g) in
+          let q : Printed WriteFault WriteFault lines (Some failed) (writer_of (buffer k)) (writer_of g) = subst P (sym (stays lists.0)) p in
           rw (lists.0, ending_failed r) q
 
 -- how the reads of a run ended, by its status
@@ -159,7 +159,7 @@ module _ {S K : Type 0} (gives : S → Got → S → Type 0) (takes : K → List
     ends_unfailed unrefused unread failed =
         let may : MayCome ran.stop [] Failed = rw failed (refl, refl) in
         let is = rw append-nil at (lists_status status ran.lines ran.failed _ ne (ran.lists [] Failed may)) in
-        fault_status c (text_of (max_of c) ran.bytes Failed) status (asked_failed (max_of c) ran.bytes ran.stop ran.asked failed) unrefused unread is
+        fault_status c (text_of (max_of c) ran.bytes Failed) status (called_failed (max_of c) ran.bytes ran.stop ran.called failed) unrefused unread is
 
   run_ends : (status : Status) (ran : Ran gives takes (listing_for c) (max_of c) status s t k l) → EndsAt status ran.stop
   run_ends Done ran = end_stop c (max_of c) ran.bytes ran.stop (λ xs s may. lists_status Done ran.lines ran.failed _ (λ e. cc) (ran.lists xs s may))
@@ -180,17 +180,17 @@ come_after None held xs s empty may = tt
 come_after (Some given) held xs s empty may = rw (empty given refl) may
 
 module _ {W G K : Type 0} (writes : W → List ℕ → Result ℕ Error → W → Type 0) (flushes : W → Result ⊤ Error → W → Type 0)
-    (gwrites : G → List ℕ → Result ℕ Error → G → Type 0) (gflushes : G → Result ⊤ Error → G → Type 0) (behind : G → W) (held : G → List ℕ)
-    (by_write : (s : G) (bytes : List ℕ) (r : Result ℕ Error) (t : G) → gwrites s bytes r t → Forwards writes flushes r (taken_by r bytes) (held s) (held t) (behind s) (behind t) × Settles r bytes)
-    (by_flush : (s : G) (r : Result ⊤ Error) (t : G) → gflushes s r t → Forwards writes flushes r [] (held s) (held t) (behind s) (behind t))
+    (gwrites : G → List ℕ → Result ℕ Error → G → Type 0) (gflushes : G → Result ⊤ Error → G → Type 0) (writer_of : G → W) (held : G → List ℕ)
+    (by_write : (s : G) (bytes : List ℕ) (r : Result ℕ Error) (t : G) → gwrites s bytes r t → Forwards writes flushes r (taken_by r bytes) (held s) (held t) (writer_of s) (writer_of t) × IsFinalWrite r bytes)
+    (by_flush : (s : G) (r : Result ⊤ Error) (t : G) → gflushes s r t → Forwards writes flushes r [] (held s) (held t) (writer_of s) (writer_of t))
     (takes : K → List ℕ → Result ⊤ SinkFailed → K → Type 0) (buffer : K → G)
     (puts : (s : K) (piece : List ℕ) (r : Result ⊤ SinkFailed) (t : K) → takes s piece r t → PutSends gwrites gflushes r piece (buffer s) (buffer t))
     (k l : K) (empty : held (buffer k) ≡ []) (status : Status) (r : Result ⊤ SinkFailed) (g : G) (stays : status ≡ WriteFault → g ≡ buffer l)
-    (sends : status ≢ Usage → status ≢ WriteFault → FlushesOut writes flushes r (held (buffer l)) (held g) (behind (buffer l)) (behind g)) where
-  pub performs_make : (n : ℕ) → Wrote takes (made_listing n) status k l → PerformsMake writes flushes n (ending_of status r) (behind (buffer k)) (behind g)
+    (sends : status ≢ Usage → status ≢ WriteFault → FlushesOut writes flushes r (held (buffer l)) (held g) (writer_of (buffer l)) (writer_of g)) where
+  pub performs_make : (n : ℕ) → Wrote takes (made_listing n) status k l → PerformsMake writes flushes n (ending_of status r) (writer_of (buffer k)) (writer_of g)
   performs_make n w =
-      let p : Printed writes flushes status (ending_of status r) w.lines w.failed (behind (buffer k)) (behind g) =
-      run_printed writes flushes gwrites gflushes behind held by_write by_flush takes buffer puts k l empty status w.lines w.failed (made_listing n) w.lists (λ e. cc) (λ e. cc) w.took r g stays sends in
+      let p : Printed writes flushes status (ending_of status r) w.lines w.failed (writer_of (buffer k)) (writer_of g) =
+      run_printed writes flushes gwrites gflushes writer_of held by_write by_flush takes buffer puts k l empty status w.lines w.failed (made_listing n) w.lists (λ e. cc) (λ e. cc) w.sink_calls r g stays sends in
       record { bytes = p.bytes; wrote = p.wrote; lists = p.prints (made_listing n) w.lists }
 
   module _ {S R : Type 0} (reads : R → List ℕ → Result ℕ Error → R → Type 0) (gives : S → Got → S → Type 0) (kept : S → List ℕ) (reader : S → R)
@@ -198,10 +198,10 @@ module _ {W G K : Type 0} (writes : W → List ℕ → Result ℕ Error → W �
     module _ (ran : Ran gives takes (listing_for c) (max_of c) status s t k l) where
       run_fetched : Fetched reads (text_of (max_of c)) ran.bytes ran.stop [] (kept t) (reader s) (reader t)
       run_fetched = subst (λ h. Fetched reads (text_of (max_of c)) ran.bytes ran.stop h (kept t) (reader s) (reader t)) none
-          (fetched reads gives kept reader fetches (text_of (max_of c)) ran.bytes ran.stop s t ran.gave ran.asked)
+          (fetched reads gives kept reader fetches (text_of (max_of c)) ran.bytes ran.stop s t ran.source_calls ran.called)
 
       kept_empty : (given : Stop) → ran.stop ≡ Some given → kept t ≡ []
-      kept_empty given is = stopped_empty reads gives kept reader fetches ran.bytes given s t (subst (λ o. Gave gives ran.bytes o s t) is ran.gave)
+      kept_empty given is = stopped_empty reads gives kept reader fetches ran.bytes given s t (subst (λ o. SourceCalls gives ran.bytes o s t) is ran.source_calls)
 
       run_lists : (pieces : List (List ℕ)) → concat pieces ≡ ran.bytes ++ kept t → (xs : List ℕ) (stop : Stop) → MayCome ran.stop xs stop →
           Lists status ran.lines ran.failed (listing_for c (text_of (max_of c) (concat pieces ++ xs) stop))
@@ -210,14 +210,14 @@ module _ {W G K : Type 0} (writes : W → List ℕ → Result ℕ Error → W �
           let same : ran.bytes ++ (kept t ++ xs) ≡ concat pieces ++ xs = sym (append_assoc ran.bytes (kept t) xs) ∙ ap (λ b. b ++ xs) (sym order) in
           subst P same (ran.lists (kept t ++ xs) stop (come_after ran.stop (kept t) xs stop kept_empty may))
 
-      pub performs : Performs writes flushes reads c (ending_of status r) (reader s) (reader t) (behind (buffer k)) (behind g)
+      pub performs : Performs writes flushes reads c (ending_of status r) (reader s) (reader t) (writer_of (buffer k)) (writer_of g)
       performs =
           let f = run_fetched in
           let one = some_stop ran.stop in
           let used : status ≢ Usage = ran_used gives takes c (max_of c) status s t k l ran in
-          let p : Printed writes flushes status (ending_of status r) ran.lines ran.failed (behind (buffer k)) (behind g) =
-          run_printed writes flushes gwrites gflushes behind held by_write by_flush takes buffer puts k l empty status ran.lines ran.failed _ (ran.lists [] one.0 one.1)
-          (command_written c _) (command_used c _) ran.took r g stays sends in
+          let p : Printed writes flushes status (ending_of status r) ran.lines ran.failed (writer_of (buffer k)) (writer_of g) =
+          run_printed writes flushes gwrites gflushes writer_of held by_write by_flush takes buffer puts k l empty status ran.lines ran.failed _ (ran.lists [] one.0 one.1)
+          (command_written c _) (command_used c _) ran.sink_calls r g stays sends in
           record {
             pieces = f.pieces;
             stop = ran.stop;
@@ -237,29 +237,29 @@ pub ends_usage : {E : Type 0} (status : Status) (r : Result ⊤ E) (ended : Stat
 ends_usage status (Ok done) ended is e = sym is ∙ e
 ends_usage status (Err f) ended is e = let both : WriteFault ≡ Usage = sym is ∙ e in cc
 
--- The same, with the run first: it tells which relations of its source and its sink these are.
+-- The same, with the run first: from it is known which relations of its source and its sink these are.
 module _ {W G K : Type 0} (writes : W → List ℕ → Result ℕ Error → W → Type 0) (flushes : W → Result ⊤ Error → W → Type 0) (takes : K → List ℕ → Result ⊤ SinkFailed → K → Type 0)
     (status : Status) (k l : K) where
   pub wrote_performs : (n : ℕ) → Wrote takes (made_listing n) status k l →
-      (gwrites : G → List ℕ → Result ℕ Error → G → Type 0) (gflushes : G → Result ⊤ Error → G → Type 0) (behind : G → W) (held : G → List ℕ) (buffer : K → G) →
+      (gwrites : G → List ℕ → Result ℕ Error → G → Type 0) (gflushes : G → Result ⊤ Error → G → Type 0) (writer_of : G → W) (held : G → List ℕ) (buffer : K → G) →
       ((s : K) (piece : List ℕ) (r : Result ⊤ SinkFailed) (t : K) → takes s piece r t → PutSends gwrites gflushes r piece (buffer s) (buffer t)) →
-      ((s : G) (bytes : List ℕ) (r : Result ℕ Error) (t : G) → gwrites s bytes r t → Forwards writes flushes r (taken_by r bytes) (held s) (held t) (behind s) (behind t) × Settles r bytes) →
-      ((s : G) (r : Result ⊤ Error) (t : G) → gflushes s r t → Forwards writes flushes r [] (held s) (held t) (behind s) (behind t)) →
+      ((s : G) (bytes : List ℕ) (r : Result ℕ Error) (t : G) → gwrites s bytes r t → Forwards writes flushes r (taken_by r bytes) (held s) (held t) (writer_of s) (writer_of t) × IsFinalWrite r bytes) →
+      ((s : G) (r : Result ⊤ Error) (t : G) → gflushes s r t → Forwards writes flushes r [] (held s) (held t) (writer_of s) (writer_of t)) →
       held (buffer k) ≡ [] → (r : Result ⊤ SinkFailed) (g : G) → (status ≡ WriteFault → g ≡ buffer l) →
-      (status ≢ Usage → status ≢ WriteFault → FlushesOut writes flushes r (held (buffer l)) (held g) (behind (buffer l)) (behind g)) →
-      PerformsMake writes flushes n (ending_of status r) (behind (buffer k)) (behind g)
-  wrote_performs n wrote gwrites gflushes behind held buffer puts by_write by_flush empty r g stays sends =
-      performs_make writes flushes gwrites gflushes behind held by_write by_flush takes buffer puts k l empty status r g stays sends n wrote
+      (status ≢ Usage → status ≢ WriteFault → FlushesOut writes flushes r (held (buffer l)) (held g) (writer_of (buffer l)) (writer_of g)) →
+      PerformsMake writes flushes n (ending_of status r) (writer_of (buffer k)) (writer_of g)
+  wrote_performs n wrote gwrites gflushes writer_of held buffer puts by_write by_flush empty r g stays sends =
+      performs_make writes flushes gwrites gflushes writer_of held by_write by_flush takes buffer puts k l empty status r g stays sends n wrote
 
   pub ran_performs : {S R : Type 0} (gives : S → Got → S → Type 0) (c : Command) (s t : S) → Ran gives takes (listing_for c) (max_of c) status s t k l →
-      (gwrites : G → List ℕ → Result ℕ Error → G → Type 0) (gflushes : G → Result ⊤ Error → G → Type 0) (behind : G → W) (held : G → List ℕ) (buffer : K → G) →
+      (gwrites : G → List ℕ → Result ℕ Error → G → Type 0) (gflushes : G → Result ⊤ Error → G → Type 0) (writer_of : G → W) (held : G → List ℕ) (buffer : K → G) →
       ((s : K) (piece : List ℕ) (r : Result ⊤ SinkFailed) (t : K) → takes s piece r t → PutSends gwrites gflushes r piece (buffer s) (buffer t)) →
-      ((s : G) (bytes : List ℕ) (r : Result ℕ Error) (t : G) → gwrites s bytes r t → Forwards writes flushes r (taken_by r bytes) (held s) (held t) (behind s) (behind t) × Settles r bytes) →
-      ((s : G) (r : Result ⊤ Error) (t : G) → gflushes s r t → Forwards writes flushes r [] (held s) (held t) (behind s) (behind t)) →
+      ((s : G) (bytes : List ℕ) (r : Result ℕ Error) (t : G) → gwrites s bytes r t → Forwards writes flushes r (taken_by r bytes) (held s) (held t) (writer_of s) (writer_of t) × IsFinalWrite r bytes) →
+      ((s : G) (r : Result ⊤ Error) (t : G) → gflushes s r t → Forwards writes flushes r [] (held s) (held t) (writer_of s) (writer_of t)) →
       held (buffer k) ≡ [] → (r : Result ⊤ SinkFailed) (g : G) → (status ≡ WriteFault → g ≡ buffer l) →
-      (status ≢ Usage → status ≢ WriteFault → FlushesOut writes flushes r (held (buffer l)) (held g) (behind (buffer l)) (behind g)) →
+      (status ≢ Usage → status ≢ WriteFault → FlushesOut writes flushes r (held (buffer l)) (held g) (writer_of (buffer l)) (writer_of g)) →
       (reads : R → List ℕ → Result ℕ Error → R → Type 0) (kept : S → List ℕ) (reader : S → R) →
       ((s : S) (g : Got) (t : S) → gives s g t → Fetches reads g (kept s) (reader s) (kept t) (reader t)) → kept s ≡ [] →
-      Performs writes flushes reads c (ending_of status r) (reader s) (reader t) (behind (buffer k)) (behind g)
-  ran_performs gives c s t ran gwrites gflushes behind held buffer puts by_write by_flush empty r g stays sends reads kept reader fetches none =
-      performs writes flushes gwrites gflushes behind held by_write by_flush takes buffer puts k l empty status r g stays sends reads gives kept reader fetches s t none c ran
+      Performs writes flushes reads c (ending_of status r) (reader s) (reader t) (writer_of (buffer k)) (writer_of g)
+  ran_performs gives c s t ran gwrites gflushes writer_of held buffer puts by_write by_flush empty r g stays sends reads kept reader fetches none =
+      performs writes flushes gwrites gflushes writer_of held by_write by_flush takes buffer puts k l empty status r g stays sends reads gives kept reader fetches s t none c ran

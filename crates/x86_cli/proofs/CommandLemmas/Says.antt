@@ -16,17 +16,17 @@ use Rattle.x86_cli.specs.declared.listings.status.Status.TheVariants.{Done, Usag
 use Rattle.x86_cli.specs.Text.{Text, text_at, text_of, ending_by, bad_of, ends_in_half}
 use Rattle.x86_cli.specs.Listings.Listing.{Listing, at_end}
 use Rattle.x86_cli.specs.Commands.Command.{listing_for, max_of}
-use Rattle.x86_cli.specs.Outside.Source.{TellsGot}
-use Rattle.x86_cli.specs.Outside.Sink.{TellsPut}
-use Rattle.x86_cli.specs.Text.Reading.{Asked, MayCome}
+use Rattle.x86_cli.specs.Outside.Source.{ReportsGot}
+use Rattle.x86_cli.specs.Outside.Sink.{ReportsPut}
+use Rattle.x86_cli.specs.Text.Reading.{CalledWhileOpen, MayCome}
 use Rattle.x86_cli.specs.Commands.Run.{Lists, Wrote, Ran}
-use Rattle.x86_cli.specs.Outside.Told.{TellsGave, TellsTook}
+use Rattle.x86_cli.specs.Outside.Reported.{ReportsBytes, ReportsPieces}
 use Rattle.x86_cli.specs.Commands.Make.{made_listing}
 use Rattle.x86_cli.specs.DecoderLaws.{DecoderLaws}
 use Rattle.x86_cli.specs.Commands.Says.{Streams, streams_of, full_listing, taken_listing, Writes, WritesPrefix, OfAll, OfTaken, Makes, Says}
 use Rattle.x86_cli.specs.Commands.Follows.{IsSound, IsExact, HasReadFault, Completes}
 use Rattle.x86_cli.proofs.CommandLemmas.Causes.{command_never, some_stop, fault_stop, command_used, command_read, command_written, text_done}
-use Rattle.x86_cli.proofs.OutsideLemmas.Tells.{gave_tells, took_tells}
+use Rattle.x86_cli.proofs.OutsideLemmas.Reports.{source_calls_report, sink_calls_report}
 use Rattle.x86_cli.proofs.CommandLemmas.Stay.{refused_stays}
 
 -- options that are known
@@ -36,26 +36,26 @@ some_left None b bytes P c h = tt
 some_left (Some xs) None bytes P c h = absurd c
 some_left (Some xs) (Some ys) bytes P c h = subst P (sym c) (h ys)
 
-all_given : (a : Option (List ℕ)) (bytes : List ℕ) (P : List ℕ → Type 0) → IfSome a (λ xs. xs ≡ bytes) → P (bytes ++ []) → IfSome a P
-all_given None bytes P e h = tt
-all_given (Some xs) bytes P e h = let same : bytes ++ [] ≡ xs = append-nil bytes ∙ sym e in subst P same h
+all_taken : (a : Option (List ℕ)) (bytes : List ℕ) (P : List ℕ → Type 0) → IfSome a (λ xs. xs ≡ bytes) → P (bytes ++ []) → IfSome a P
+all_taken None bytes P e h = tt
+all_taken (Some xs) bytes P e h = let same : bytes ++ [] ≡ xs = append-nil bytes ∙ sym e in subst P same h
 
 none_left : (a b : Option (List ℕ)) (bytes : List ℕ) → Consumes a b bytes → IfSome a (λ xs. xs ≡ bytes) → IfSome a (λ xs. b ≡ Some [])
 none_left None b bytes c e = tt
 none_left (Some xs) None bytes c e = absurd c
 none_left (Some xs) (Some ys) bytes c e = ap Some (append_cancel_left bytes ys [] (sym c ∙ e ∙ sym (append-nil bytes)))
 
--- of all that the source tells, where what it gave is a front of that
-given_of : (stop : Option Stop) (a b : Option (List ℕ)) (bytes : List ℕ) (faults faults' : ℕ) (P : List ℕ → Type 0) → TellsGave bytes stop a b faults faults' →
+-- of all the known bytes of the source, of which those returned are a prefix
+known_bytes : (stop : Option Stop) (a b : Option (List ℕ)) (bytes : List ℕ) (faults faults' : ℕ) (P : List ℕ → Type 0) → ReportsBytes bytes stop a b faults faults' →
     ((xs : List ℕ) → MayCome stop xs End → P (bytes ++ xs)) → (stop ≡ Some Failed → (xs : List ℕ) → P (bytes ++ xs)) → IfSome a P
-given_of None a b bytes faults faults' P t h f = some_left a b bytes P t.0 (λ xs. h xs tt)
-given_of (Some End) a b bytes faults faults' P t h f = all_given a bytes P t.1.0 (h [] (refl, refl))
-given_of (Some Failed) a b bytes faults faults' P t h f = some_left a b bytes P t.0 (f refl)
+known_bytes None a b bytes faults faults' P t h f = some_left a b bytes P t.0 (λ xs. h xs tt)
+known_bytes (Some End) a b bytes faults faults' P t h f = all_taken a bytes P t.1.0 (h [] (refl, refl))
+known_bytes (Some Failed) a b bytes faults faults' P t h f = some_left a b bytes P t.0 (f refl)
 
-still_given : (stop : Option Stop) (a b : Option (List ℕ)) (bytes : List ℕ) (faults faults' : ℕ) → TellsGave bytes stop a b faults faults' → stop ≢ Some Failed → faults' ≡ faults
-still_given None a b bytes faults faults' t unfailed = t.1
-still_given (Some End) a b bytes faults faults' t unfailed = t.1.1
-still_given (Some Failed) a b bytes faults faults' t unfailed = absurd (unfailed refl)
+faults_unchanged : (stop : Option Stop) (a b : Option (List ℕ)) (bytes : List ℕ) (faults faults' : ℕ) → ReportsBytes bytes stop a b faults faults' → stop ≢ Some Failed → faults' ≡ faults
+faults_unchanged None a b bytes faults faults' t unfailed = t.1
+faults_unchanged (Some End) a b bytes faults faults' t unfailed = t.1.1
+faults_unchanged (Some Failed) a b bytes faults faults' t unfailed = absurd (unfailed refl)
 
 -- texts and listings
 
@@ -74,7 +74,7 @@ done_clean c image (Bad n) done = absurd (command_never Done (λ f. cc) (Bad n) 
 done_clean c image Large done = absurd (command_never Done (λ f. cc) Large (λ f. cc) c image done)
 done_clean c image Fault done = absurd (command_never Done (λ f. cc) Fault (λ f. cc) c image done)
 
--- Behind a fault a listing ends as that, or in a refusal.
+-- After a fault a listing ends as that, or in a refusal.
 pub fault_status : (c : Command) (t : Text) (status : Status) → t.ending ≡ Fault → status ≢ Refused → status ≢ ReadFault → (listing_for c t).status ≢ status
 fault_status c t status fault unrefused unread =
     let ends : (at_end t.ending).status ≡ ReadFault = ap (λ e. (at_end e).status) fault in
@@ -87,17 +87,17 @@ end_stop c max bytes (Some Failed) done = absurd (failed_unclean max (bytes ++ [
 end_stop c max bytes (Some End) done = refl
 
 -- the text whose last call failed was open
-asked_open : (text : List ℕ → Stop → Text) (bytes : List ℕ) (stop : Stop) → Asked text bytes (Some stop) → (text bytes Failed).ending ≡ Fault
-asked_open text [] stop a = a
-asked_open text (x ∷ bytes) stop a = asked_open (λ xs s. text (x ∷ xs) s) bytes stop a.1
+called_open : (text : List ℕ → Stop → Text) (bytes : List ℕ) (stop : Stop) → CalledWhileOpen text bytes (Some stop) → (text bytes Failed).ending ≡ Fault
+called_open text [] stop a = a
+called_open text (x ∷ bytes) stop a = called_open (λ xs s. text (x ∷ xs) s) bytes stop a.1
 
-pub asked_failed : (max : ℕ) (bytes : List ℕ) (stop : Option Stop) → Asked (text_of max) bytes stop → stop ≡ Some Failed → (text_of max bytes Failed).ending ≡ Fault
-asked_failed max bytes stop asked failed =
-    let P : Option Stop → Type 0 = λ s. Asked (text_of max) bytes s in
-    let a : Asked (text_of max) bytes (Some Failed) = subst P failed asked in
-    asked_open (text_of max) bytes Failed a
+pub called_failed : (max : ℕ) (bytes : List ℕ) (stop : Option Stop) → CalledWhileOpen (text_of max) bytes stop → stop ≡ Some Failed → (text_of max bytes Failed).ending ≡ Fault
+called_failed max bytes stop called failed =
+    let P : Option Stop → Type 0 = λ s. CalledWhileOpen (text_of max) bytes s in
+    let a : CalledWhileOpen (text_of max) bytes (Some Failed) = subst P failed called in
+    called_open (text_of max) bytes Failed a
 
--- lines and what was written of one more are a front of a listing that has these lines
+-- lines and what was written of one more are a prefix of a listing that has these lines
 prefix_written : (written written' : Option (List ℕ)) (l : Listing) (lines : List (List ℕ)) (failed : List ℕ) (more : List (List ℕ)) (n : ℕ) → l.lines ≡ lines ++ failed ∷ more →
     Appends written written' (concat lines ++ take n failed) → WritesPrefix written written' l
 prefix_written written written' l lines failed more n is wrote =
@@ -112,10 +112,10 @@ prefix_written written written' l lines failed more n is wrote =
     }
 
 module _ (laws : (strict : Bool) → DecoderLaws strict) (c : Command) (old new : Streams) (bytes : List ℕ) (stop : Option Stop)
-    (gave : TellsGave bytes stop old.left new.left old.source_faults new.source_faults)
+    (source_calls : ReportsBytes bytes stop old.left new.left old.source_faults new.source_faults)
     (fault : stop ≡ Some Failed → (text_of (max_of c) bytes Failed).ending ≡ Fault) where
   -- a run at which no put failed
-  module _ (lines : List (List ℕ)) (wrote : TellsTook lines None old.written new.written old.sink_faults new.sink_faults) where
+  module _ (lines : List (List ℕ)) (wrote : ReportsPieces lines None old.written new.written old.sink_faults new.sink_faults) where
     abbrev AllListed : Status → Type 0
     AllListed status = (xs : List ℕ) (s : Stop) → MayCome stop xs s → listing_for c (text_of (max_of c) (bytes ++ xs) s) ≡ record { lines = lines; status = status }
 
@@ -124,10 +124,10 @@ module _ (laws : (strict : Bool) → DecoderLaws strict) (c : Command) (old new 
 
     all_full : (status : Status) → AllListed status → (stop ≡ Some Failed → (xs : List ℕ) → Writes status old new (full_listing c (bytes ++ xs))) →
         IfSome old.left (λ b. Writes status old new (full_listing c b))
-    all_full status lists failed = given_of stop old.left new.left bytes old.source_faults new.source_faults (λ b. Writes status old new (full_listing c b)) gave
+    all_full status lists failed = known_bytes stop old.left new.left bytes old.source_faults new.source_faults (λ b. Writes status old new (full_listing c b)) source_calls
         (λ xs may. writes status (full_listing c (bytes ++ xs)) (lists xs End may)) failed
 
-    -- what was listed of the bytes given, where the source failed behind them
+    -- what was listed of the bytes returned, where the source failed after them
     failed_listed : (status : Status) → AllListed status → stop ≡ Some Failed → listing_for c (text_of (max_of c) bytes Failed) ≡ record { lines = lines; status = status }
     failed_listed status lists failed =
         let may : MayCome stop [] Failed = rw failed (refl, refl) in
@@ -137,8 +137,8 @@ module _ (laws : (strict : Bool) → DecoderLaws strict) (c : Command) (old new 
     says_done lists =
         let end : stop ≡ Some End = end_stop c (max_of c) bytes stop (λ xs s may. ap (λ l. l.status) (lists xs s may)) in
         let unfailed : stop ≢ Some Failed = λ f. let g : Some End ≡ Some Failed = sym end ∙ f in cc in
-        let P : Option Stop → Type 0 = λ s. TellsGave bytes s old.left new.left old.source_faults new.source_faults in
-        let ended : TellsGave bytes (Some End) old.left new.left old.source_faults new.source_faults = subst P end gave in
+        let P : Option Stop → Type 0 = λ s. ReportsBytes bytes s old.left new.left old.source_faults new.source_faults in
+        let ended : ReportsBytes bytes (Some End) old.left new.left old.source_faults new.source_faults = subst P end source_calls in
         (all_full Done lists (λ f. absurd (unfailed f)), ended.1.1, wrote.1, none_left old.left new.left bytes ended.0 ended.1.0)
 
     -- a text that ends by itself
@@ -147,7 +147,7 @@ module _ (laws : (strict : Bool) → DecoderLaws strict) (c : Command) (old new 
     says_ended status unrefused unread lists =
         let unfailed : stop ≢ Some Failed = λ f.
         fault_status c (text_of (max_of c) bytes Failed) status (fault f) unrefused unread (ap (λ l. l.status) (failed_listed status lists f)) in
-        (all_full status lists (λ f. absurd (unfailed f)), still_given stop old.left new.left bytes old.source_faults new.source_faults gave unfailed, wrote.1)
+        (all_full status lists (λ f. absurd (unfailed f)), faults_unchanged stop old.left new.left bytes old.source_faults new.source_faults source_calls unfailed, wrote.1)
 
     says_refused : AllListed Refused → Says Refused c old new
     says_refused lists = (
@@ -160,9 +160,9 @@ module _ (laws : (strict : Bool) → DecoderLaws strict) (c : Command) (old new 
     says_read : AllListed ReadFault → Says ReadFault c old new
     says_read lists =
         let failed : stop ≡ Some Failed = fault_stop stop (λ may. command_read c (max_of c) (bytes ++ []) (ap (λ l. l.status) (lists [] End may))) in
-        let P : Option Stop → Type 0 = λ s. TellsGave bytes s old.left new.left old.source_faults new.source_faults in
-        let told : TellsGave bytes (Some Failed) old.left new.left old.source_faults new.source_faults = subst P failed gave in
-        (record { taken = bytes; takes = told.0; holds = writes ReadFault (taken_listing c bytes) (failed_listed ReadFault lists failed); cause = told.1 }, wrote.1)
+        let P : Option Stop → Type 0 = λ s. ReportsBytes bytes s old.left new.left old.source_faults new.source_faults in
+        let reported : ReportsBytes bytes (Some Failed) old.left new.left old.source_faults new.source_faults = subst P failed source_calls in
+        (record { taken = bytes; takes = reported.0; holds = writes ReadFault (taken_listing c bytes) (failed_listed ReadFault lists failed); cause = reported.1 }, wrote.1)
 
     says_all : (status : Status) → status ≢ Usage → status ≢ WriteFault → AllListed status → Says status c old new
     says_all Done used written lists = says_done lists
@@ -174,7 +174,7 @@ module _ (laws : (strict : Bool) → DecoderLaws strict) (c : Command) (old new 
     says_all TooLarge used written lists = says_ended TooLarge (λ f. cc) (λ f. cc) lists
 
   -- a run at which a put failed
-  module _ (lines : List (List ℕ)) (failed : List ℕ) (wrote : TellsTook lines (Some failed) old.written new.written old.sink_faults new.sink_faults)
+  module _ (lines : List (List ℕ)) (failed : List ℕ) (wrote : ReportsPieces lines (Some failed) old.written new.written old.sink_faults new.sink_faults)
       (lists : (xs : List ℕ) (s : Stop) → MayCome stop xs s → Lists WriteFault lines (Some failed) (listing_for c (text_of (max_of c) (bytes ++ xs) s))) where
     prefixes : (xs : List ℕ) (s : Stop) → MayCome stop xs s → WritesPrefix old.written new.written (listing_for c (text_of (max_of c) (bytes ++ xs) s))
     prefixes xs s may =
@@ -186,22 +186,22 @@ module _ (laws : (strict : Bool) → DecoderLaws strict) (c : Command) (old new 
 
     full_or_taken : (p : Option Stop) → p ≡ stop → OfAll IsPrefix c old ⊎ OfTaken IsPrefix c old new
     full_or_taken None is =
-        inl (given_of stop old.left new.left bytes old.source_faults new.source_faults (λ b. IsPrefix (full_listing c b)) gave (λ xs may. prefixes xs End may)
+        inl (known_bytes stop old.left new.left bytes old.source_faults new.source_faults (λ b. IsPrefix (full_listing c b)) source_calls (λ xs may. prefixes xs End may)
         (λ f. let g : None ≡ Some Failed = is ∙ f in cc))
     full_or_taken (Some End) is =
-        inl (given_of stop old.left new.left bytes old.source_faults new.source_faults (λ b. IsPrefix (full_listing c b)) gave (λ xs may. prefixes xs End may)
+        inl (known_bytes stop old.left new.left bytes old.source_faults new.source_faults (λ b. IsPrefix (full_listing c b)) source_calls (λ xs may. prefixes xs End may)
         (λ f. let g : Some End ≡ Some Failed = is ∙ f in cc))
     full_or_taken (Some Failed) is =
-        let P : Option Stop → Type 0 = λ s. TellsGave bytes s old.left new.left old.source_faults new.source_faults in
-        let told : TellsGave bytes (Some Failed) old.left new.left old.source_faults new.source_faults = subst P (sym is) gave in
+        let P : Option Stop → Type 0 = λ s. ReportsBytes bytes s old.left new.left old.source_faults new.source_faults in
+        let reported : ReportsBytes bytes (Some Failed) old.left new.left old.source_faults new.source_faults = subst P (sym is) source_calls in
         let may : MayCome stop [] Failed = rw (sym is) (refl, refl) in
         let part : IsPrefix (taken_listing c bytes) = rw append-nil at (prefixes [] Failed may) in
-        inr (record { taken = bytes; takes = told.0; holds = part; cause = told.1 })
+        inr (record { taken = bytes; takes = reported.0; holds = part; cause = reported.1 })
 
     says_written : Says WriteFault c old new
     says_written = (wrote.1, full_or_taken stop refl)
 
-  says_by : (status : Status) (lines : List (List ℕ)) (failed : Option (List ℕ)) → TellsTook lines failed old.written new.written old.sink_faults new.sink_faults →
+  says_by : (status : Status) (lines : List (List ℕ)) (failed : Option (List ℕ)) → ReportsPieces lines failed old.written new.written old.sink_faults new.sink_faults →
       ((xs : List ℕ) (s : Stop) → MayCome stop xs s → Lists status lines failed (listing_for c (text_of (max_of c) (bytes ++ xs) s))) → Says status c old new
   says_by status lines None wrote lists =
       let s = some_stop stop in
@@ -217,33 +217,33 @@ module _ (laws : (strict : Bool) → DecoderLaws strict) (c : Command) (old new 
 -- of every source and sink
 pub ran_says : {S K : Type 0} (gives : S → Got → S → Type 0) (takes : K → List ℕ → Result ⊤ SinkFailed → K → Type 0)
     (left : S → Option (List ℕ)) (faults : S → ℕ) (written : K → Option (List ℕ)) (others : K → ℕ) →
-    ((s : S) (g : Got) (t : S) → gives s g t → TellsGot g (left s) (left t) (faults s) (faults t)) →
-    ((s : K) (piece : List ℕ) (r : Result ⊤ SinkFailed) (t : K) → takes s piece r t → TellsPut r piece (written s) (written t) (others s) (others t)) →
+    ((s : S) (g : Got) (t : S) → gives s g t → ReportsGot g (left s) (left t) (faults s) (faults t)) →
+    ((s : K) (piece : List ℕ) (r : Result ⊤ SinkFailed) (t : K) → takes s piece r t → ReportsPut r piece (written s) (written t) (others s) (others t)) →
     ((strict : Bool) → DecoderLaws strict) → (c : Command) (status : Status) (a b : S) (k l : K) → Ran gives takes (listing_for c) (max_of c) status a b k l →
     Says status c (streams_of left faults written others a k) (streams_of left faults written others b l)
 ran_says gives takes left faults written others source sink laws c status a b k l ran =
-    let gave = gave_tells gives left faults source ran.bytes ran.stop a b ran.gave in
-    let took = took_tells takes written others sink ran.lines ran.failed k l ran.took in
-    says_by laws c (streams_of left faults written others a k) (streams_of left faults written others b l) ran.bytes ran.stop gave
-    (asked_failed (max_of c) ran.bytes ran.stop ran.asked) status ran.lines ran.failed took ran.lists
+    let source_calls = source_calls_report gives left faults source ran.bytes ran.stop a b ran.source_calls in
+    let sink_calls = sink_calls_report takes written others sink ran.lines ran.failed k l ran.sink_calls in
+    says_by laws c (streams_of left faults written others a k) (streams_of left faults written others b l) ran.bytes ran.stop source_calls
+    (called_failed (max_of c) ran.bytes ran.stop ran.called) status ran.lines ran.failed sink_calls ran.lists
 
 -- `make`
 
 made_says : (n : ℕ) (status : Status) (lines : List (List ℕ)) (failed : Option (List ℕ)) (w w' : Option (List ℕ)) (faults faults' : ℕ) →
-    Lists status lines failed (made_listing n) → TellsTook lines failed w w' faults faults' → Makes n status w w' faults faults'
-made_says n status lines None w w' faults faults' lists told =
+    Lists status lines failed (made_listing n) → ReportsPieces lines failed w w' faults faults' → Makes n status w w' faults faults'
+made_says n status lines None w w' faults faults' lists reported =
     let P : Status → Type 0 = λ s. Makes n s w w' faults faults' in
     let Q : List (List ℕ) → Type 0 = λ ls. Appends w w' (concat ls) × (faults' ≡ faults) in
-    subst P (ap (λ l. l.status) lists) (subst Q (sym (ap (λ l. l.lines) lists)) told)
-made_says n status lines (Some failed) w w' faults faults' lists told =
+    subst P (ap (λ l. l.status) lists) (subst Q (sym (ap (λ l. l.lines) lists)) reported)
+made_says n status lines (Some failed) w w' faults faults' lists reported =
     let P : Status → Type 0 = λ s. Makes n s w w' faults faults' in
-    subst P (sym lists.0) (told.1, prefix_written w w' (made_listing n) lines failed lists.1.0 told.0.0 lists.1.1 told.0.1)
+    subst P (sym lists.0) (reported.1, prefix_written w w' (made_listing n) lines failed lists.1.0 reported.0.0 lists.1.1 reported.0.1)
 
 pub wrote_says : {K : Type 0} (takes : K → List ℕ → Result ⊤ SinkFailed → K → Type 0) (written : K → Option (List ℕ)) (others : K → ℕ) →
-    ((s : K) (piece : List ℕ) (r : Result ⊤ SinkFailed) (t : K) → takes s piece r t → TellsPut r piece (written s) (written t) (others s) (others t)) →
+    ((s : K) (piece : List ℕ) (r : Result ⊤ SinkFailed) (t : K) → takes s piece r t → ReportsPut r piece (written s) (written t) (others s) (others t)) →
     (n : ℕ) (status : Status) (k l : K) → Wrote takes (made_listing n) status k l → Makes n status (written k) (written l) (others k) (others l)
 wrote_says takes written others sink n status k l wrote =
-    made_says n status wrote.lines wrote.failed (written k) (written l) (others k) (others l) wrote.lists (took_tells takes written others sink wrote.lines wrote.failed k l wrote.took)
+    made_says n status wrote.lines wrote.failed (written k) (written l) (others k) (others l) wrote.lists (sink_calls_report takes written others sink wrote.lines wrote.failed k l wrote.sink_calls)
 
 -- what follows
 

@@ -11,7 +11,7 @@ use Rattle.x86_cli.specs.Outside.Stop.{Stop, Failed}
 use Rattle.x86_cli.specs.declared.listings.status.Status.TheVariants as outcome
 use Rattle.x86_cli.specs.declared.commands.command.Command.{Command}
 use Rattle.x86_cli.specs.declared.commands.command.Command.TheVariants.{List as Listed, Sweep as Swept, Targets as Targeted, Fields as Fielded, Tighten as Tightened}
-use Rattle.x86_layout.specs.Parts.Front.{parts_of}
+use Rattle.x86_layout.specs.Parts.OfBytes.{parts_of}
 use Rattle.x86_layout.specs.Tightening.Least.{shortest_length}
 use Rattle.x86_text.specs.Lines.{line_of}
 use Rattle.x86_text.specs.Parts.{fields_line}
@@ -19,88 +19,88 @@ use Rattle.x86_cli.specs.Listings.Line.{line}
 use Rattle.x86_cli.specs.Listings.Tighten.{least_text}
 use Rattle.x86_cli.specs.Commands.Command.{listing_for}
 use Rattle.x86_cli.specs.Text.{Text, is_blank, value_of, paired, image_of, text_at, text_of}
-use Rattle.x86_cli.specs.Listings.Listing.{Listing, with_lines, at_end, front_of, judged, sure_of, listed, listing_from, listing_of}
+use Rattle.x86_cli.specs.Listings.Listing.{Listing, with_lines, at_end, decoded_of, decoded_at_end, decoded_before_end, listed, listing_from, listing_of}
 use Rattle.x86_cli.specs.DecoderLaws.{DecoderLaws}
-use Rattle.x86_cli.proofs.TextLemmas.Front.{front-stays, closed_rest}
+use Rattle.x86_cli.proofs.TextLemmas.Decoded.{decoded-stays, closed_rest}
 
 -- images
 
--- what a list is the front of
-record IsFront (xs ys : List ℕ) : Type 0 where
+-- a list is a prefix of another
+record IsBeginning (xs ys : List ℕ) : Type 0 where
   more : List ℕ
   whole : ys ≡ xs ++ more
 
-first_pair : (blank : Bool) (high low : Option ℕ) (x y x' y' : List ℕ) → IsFront x x' → IsFront y y' →
-    IsFront (if blank then x else paired high low y) (if blank then x' else paired high low y')
+first_pair : (blank : Bool) (high low : Option ℕ) (x y x' y' : List ℕ) → IsBeginning x x' → IsBeginning y y' →
+    IsBeginning (if blank then x else paired high low y) (if blank then x' else paired high low y')
 first_pair true high low x y x' y' f g = f
 first_pair false None low x y x' y' f g = record { more = []; whole = refl }
 first_pair false (Some h) None x y x' y' f g = record { more = []; whole = refl }
 first_pair false (Some h) (Some l) x y x' y' f g = record { more = g.more; whole = ap (λ ys. (16 * h + l) ∷ ys) g.whole }
 
-image_front : (bytes xs : List ℕ) → IsFront (image_of bytes) (image_of (bytes ++ xs))
+image_beginning : (bytes xs : List ℕ) → IsBeginning (image_of bytes) (image_of (bytes ++ xs))
 unfolding image_of
-image_front [] xs = record { more = image_of xs; whole = refl }
-image_front (a ∷ []) xs = record { more = image_of (a ∷ xs); whole = refl }
-image_front (a ∷ b ∷ s) xs = first_pair (is_blank a) (value_of a) (value_of b) _ _ _ _ (image_front (b ∷ s) xs) (image_front s xs)
+image_beginning [] xs = record { more = image_of xs; whole = refl }
+image_beginning (a ∷ []) xs = record { more = image_of (a ∷ xs); whole = refl }
+image_beginning (a ∷ b ∷ s) xs = first_pair (is_blank a) (value_of a) (value_of b) _ _ _ _ (image_beginning (b ∷ s) xs) (image_beginning s xs)
 
-take_front : (n : ℕ) (xs ys : List ℕ) → IsFront (take n xs) (take n (xs ++ ys))
-take_front zero [] [] = record { more = []; whole = refl }
-take_front zero [] (y ∷ ys) = record { more = []; whole = refl }
-take_front zero (x ∷ xs) ys = record { more = []; whole = refl }
-take_front (suc n) [] ys = record { more = take (suc n) ys; whole = refl }
-take_front (suc n) (x ∷ xs) ys = let rest = take_front n xs ys in record { more = rest.more; whole = ap (λ zs. x ∷ zs) rest.whole }
+take_beginning : (n : ℕ) (xs ys : List ℕ) → IsBeginning (take n xs) (take n (xs ++ ys))
+take_beginning zero [] [] = record { more = []; whole = refl }
+take_beginning zero [] (y ∷ ys) = record { more = []; whole = refl }
+take_beginning zero (x ∷ xs) ys = record { more = []; whole = refl }
+take_beginning (suc n) [] ys = record { more = take (suc n) ys; whole = refl }
+take_beginning (suc n) (x ∷ xs) ys = let rest = take_beginning n xs ys in record { more = rest.more; whole = ap (λ zs. x ∷ zs) rest.whole }
 
-text_front : (max : ℕ) (bytes xs : List ℕ) (s t : Stop) → IsFront (text_of max bytes s).image (text_of max (bytes ++ xs) t).image
+text_beginning : (max : ℕ) (bytes xs : List ℕ) (s t : Stop) → IsBeginning (text_of max bytes s).image (text_of max (bytes ++ xs) t).image
 unfolding text_at
-text_front max bytes xs s t = let front = take_front max bytes xs in rw front.whole (image_front (take max bytes) front.more)
+text_beginning max bytes xs s t = let beginning = take_beginning max bytes xs in rw beginning.whole (image_beginning (take max bytes) beginning.more)
 
 -- listings
 
 module _ (strict : Bool) (laws : DecoderLaws strict) (text : ℕ → Instruction → List ℕ → List ℕ) where
   module _ (w more : List ℕ) (some : 0 < length w) (n : ℕ) (e : Ending) (after after' : ℕ → Listing)
       (same : (k : ℕ) → (after k).status ≡ outcome.Refused → after' k ≡ after k) where
-    first_stays : (a : Result Instruction DecodeError) → answer_of strict w ≡ a → (listed strict text (judged a Fault) n w after).status ≡ outcome.Refused →
-        listed strict text (front_of strict (w ++ more) e) n (w ++ more) after' ≡ listed strict text (judged a Fault) n w after
+    first_stays : (a : Result Instruction DecodeError) → answer_of strict w ≡ a → (listed strict text (decoded_at_end a Fault) n w after).status ≡ outcome.Refused →
+        listed strict text (decoded_of strict (w ++ more) e) n (w ++ more) after' ≡ listed strict text (decoded_at_end a Fault) n w after
     first_stays (Ok i) h refused =
         let taken : take i.length (w ++ more) ≡ take i.length w = take-append-le i.length w more (laws.lengths w i h).1 in
         let sure : answer_of strict w ≢ Err ExhaustedInput = λ f. let g : Ok i ≡ Err ExhaustedInput = sym h ∙ f in cc in
-        ap (λ f. listed strict text f n (w ++ more) after') (front-stays strict laws w more e sure ∙ ap sure_of h)
+        ap (λ f. listed strict text f n (w ++ more) after') (decoded-stays strict laws w more e sure ∙ ap decoded_before_end h)
         ∙ ap (λ ys. with_lines (line (text n i ys) ∷ []) (after' (i.length - 1))) taken
         ∙ ap (with_lines (line (text n i (take i.length w)) ∷ [])) (same (i.length - 1) refused)
     first_stays (Err ExhaustedInput) h refused = cc
     first_stays (Err error) h refused =
         let sure : answer_of strict w ≢ Err ExhaustedInput = λ f. let g : Err error ≡ Err ExhaustedInput = sym h ∙ f in cc in
-        ap (λ f. listed strict text f n (w ++ more) after') (front-stays strict laws w more e sure ∙ ap sure_of h)
+        ap (λ f. listed strict text f n (w ++ more) after') (decoded-stays strict laws w more e sure ∙ ap decoded_before_end h)
 
-    front_refused : (listed strict text (front_of strict w Fault) n w after).status ≡ outcome.Refused →
-        listed strict text (front_of strict (w ++ more) e) n (w ++ more) after' ≡ listed strict text (front_of strict w Fault) n w after
-    front_refused refused =
-        let front : front_of strict w Fault ≡ judged (answer_of strict w) Fault = closed_rest strict laws w (answer_of strict w) Fault some refl in
-        rw front (first_stays (answer_of strict w) refl (rw front at refused))
+    decoded_refused : (listed strict text (decoded_of strict w Fault) n w after).status ≡ outcome.Refused →
+        listed strict text (decoded_of strict (w ++ more) e) n (w ++ more) after' ≡ listed strict text (decoded_of strict w Fault) n w after
+    decoded_refused refused =
+        let beginning : decoded_of strict w Fault ≡ decoded_at_end (answer_of strict w) Fault = closed_rest strict laws w (answer_of strict w) Fault some refl in
+        rw beginning (first_stays (answer_of strict w) refl (rw beginning at refused))
 
   listing_stays : (n k : ℕ) (xs more : List ℕ) (e : Ending) → (listing_from strict text n k xs Fault).status ≡ outcome.Refused →
       listing_from strict text n k (xs ++ more) e ≡ listing_from strict text n k xs Fault
   unfolding listing_from
   listing_stays n k [] more e refused = cc
   listing_stays n zero (x ∷ xs) more e refused =
-      front_refused (x ∷ xs) more (omega arith) n e _ _ (λ k. listing_stays (n + 1) k xs more e) refused
+      decoded_refused (x ∷ xs) more (omega arith) n e _ _ (λ k. listing_stays (n + 1) k xs more e) refused
   listing_stays n (suc k) (x ∷ xs) more e refused = listing_stays (n + 1) k xs more e refused
 
-  list_stays : (t t' : Text) → IsFront t.image t'.image → t.ending ≡ Fault → (listing_of strict text t).status ≡ outcome.Refused → listing_of strict text t' ≡ listing_of strict text t
-  list_stays t t' front fault refused = rw (fault, front.whole) (listing_stays 0 0 t.image front.more t'.ending (rw fault at refused))
+  list_stays : (t t' : Text) → IsBeginning t.image t'.image → t.ending ≡ Fault → (listing_of strict text t).status ≡ outcome.Refused → listing_of strict text t' ≡ listing_of strict text t
+  list_stays t t' beginning fault refused = rw (fault, beginning.whole) (listing_stays 0 0 t.image beginning.more t'.ending (rw fault at refused))
 
 unrefused : (t : Text) → t.ending ≡ Fault → (at_end t.ending).status ≢ outcome.Refused
 unrefused t fault refused = let e : outcome.ReadFault ≡ outcome.Refused = ap (λ e. (at_end e).status) (sym fault) ∙ refused in cc
 
 module _ (laws : (strict : Bool) → DecoderLaws strict) where
-  command_stays : (c : Command) (t t' : Text) → IsFront t.image t'.image → t.ending ≡ Fault → (listing_for c t).status ≡ outcome.Refused → listing_for c t' ≡ listing_for c t
-  command_stays (Listed strict) t t' front fault refused = list_stays strict (laws strict) (λ place instruction bytes. line_of place instruction) t t' front fault refused
-  command_stays Fielded t t' front fault refused = list_stays false (laws false) (λ place instruction bytes. fields_line place (parts_of false bytes)) t t' front fault refused
-  command_stays Tightened t t' front fault refused =
-      list_stays false (laws false) (λ place instruction bytes. least_text place instruction.length (shortest_length false bytes)) t t' front fault refused
-  command_stays Swept t t' front fault refused = absurd (unrefused t fault refused)
-  command_stays Targeted t t' front fault refused = absurd (unrefused t fault refused)
+  command_stays : (c : Command) (t t' : Text) → IsBeginning t.image t'.image → t.ending ≡ Fault → (listing_for c t).status ≡ outcome.Refused → listing_for c t' ≡ listing_for c t
+  command_stays (Listed strict) t t' beginning fault refused = list_stays strict (laws strict) (λ place instruction bytes. line_of place instruction) t t' beginning fault refused
+  command_stays Fielded t t' beginning fault refused = list_stays false (laws false) (λ place instruction bytes. fields_line place (parts_of false bytes)) t t' beginning fault refused
+  command_stays Tightened t t' beginning fault refused =
+      list_stays false (laws false) (λ place instruction bytes. least_text place instruction.length (shortest_length false bytes)) t t' beginning fault refused
+  command_stays Swept t t' beginning fault refused = absurd (unrefused t fault refused)
+  command_stays Targeted t t' beginning fault refused = absurd (unrefused t fault refused)
 
   pub refused_stays : (c : Command) (max : ℕ) (bytes xs : List ℕ) (s : Stop) → (text_of max bytes Failed).ending ≡ Fault → (listing_for c (text_of max bytes Failed)).status ≡ outcome.Refused →
       listing_for c (text_of max (bytes ++ xs) s) ≡ listing_for c (text_of max bytes Failed)
-  refused_stays c max bytes xs s = command_stays c (text_of max bytes Failed) (text_of max (bytes ++ xs) s) (text_front max bytes xs Failed s)
+  refused_stays c max bytes xs s = command_stays c (text_of max bytes Failed) (text_of max (bytes ++ xs) s) (text_beginning max bytes xs Failed s)

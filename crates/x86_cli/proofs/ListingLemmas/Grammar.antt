@@ -10,9 +10,9 @@ use Rattle.x86_decode.specs.Answer.{answer_of, count_of}
 use Rattle.x86_decode.specs.Grammar.{IsAnswer, IsAccepted, IsSentence}
 use Rattle.x86_cli.specs.declared.text.reader.Ending.{Ending}
 use Rattle.x86_cli.specs.declared.text.reader.Ending.TheVariants.{Clean, Bad, Large, Fault}
-use Rattle.x86_cli.specs.declared.text.window.Front.TheVariants.{Whole, Refused, Ended}
+use Rattle.x86_cli.specs.declared.text.window.Decoded.TheVariants.{Whole, Refused, Ended}
 use Rattle.x86_cli.specs.Listings.Line.{line}
-use Rattle.x86_cli.specs.Listings.Listing.{Listing, with_lines, at_end, front_of, listed, judged, listing_from}
+use Rattle.x86_cli.specs.Listings.Listing.{Listing, with_lines, at_end, decoded_of, listed, decoded_at_end, listing_from}
 use Rattle.x86_cli.specs.Listings.Grammar.{at_error, EndsListing, AreLines, IsListing}
 use Rattle.x86_cli.proofs.ListingLemmas.Listing.{listing-whole}
 
@@ -28,7 +28,7 @@ module _ (strict : Bool) (laws : GrammarLaws strict) (text : ℕ → Instruction
 
   -- what is left, where its answer is an error
   listed_error : (error : DecodeError) (e : Ending) (n : ℕ) (xs : List ℕ) (after : ℕ → Listing) →
-      listed strict text (judged (Err error) e) n xs after ≡ at_error n error e
+      listed strict text (decoded_at_end (Err error) e) n xs after ≡ at_error n error e
   listed_error ExhaustedInput Clean n xs after = refl
   listed_error ExhaustedInput (Bad p) n xs after = refl
   listed_error ExhaustedInput Large n xs after = refl
@@ -41,7 +41,7 @@ module _ (strict : Bool) (laws : GrammarLaws strict) (text : ℕ → Instruction
 
   error_here : (n x : ℕ) (xs : List ℕ) (e : Ending) (error : DecodeError) → Err error ≡ answer_of strict (x ∷ xs) →
       listing_from strict text n 0 (x ∷ xs) e ≡ at_error n error e
-  unfolding listing_from front_of
+  unfolding listing_from decoded_of
   error_here n x xs e error h = let same : answer_of strict (x ∷ xs) ≡ Err error = sym h in rw same (listed_error error e n (x ∷ xs) _)
 
   end_here : (n : ℕ) (xs : List ℕ) (e : Ending) (last : Listing) → EndsListing (rows_of packed) strict n xs e last →
@@ -52,10 +52,10 @@ module _ (strict : Bool) (laws : GrammarLaws strict) (text : ℕ → Instruction
       ends.3 ∙ sym (error_here n x xs e ends.0 (laws.only (x ∷ xs) (Err ends.0) ends.1 ends.2))
 
   -- a sentence and the bytes after it
-  front_whole : (xs : List ℕ) (e : Ending) (i : Instruction) → answer_of strict xs ≡ Ok i → front_of strict xs e ≡ Whole i
-  unfolding front_of
-  front_whole [] e i h = let l = laws.lengths [] i h in absurd (omega (arith, l.0, l.1))
-  front_whole (x ∷ xs) e i h = ap (λ a. judged a e) h
+  decoded_whole : (xs : List ℕ) (e : Ending) (i : Instruction) → answer_of strict xs ≡ Ok i → decoded_of strict xs e ≡ Whole i
+  unfolding decoded_of
+  decoded_whole [] e i h = let l = laws.lengths [] i h in absurd (omega (arith, l.0, l.1))
+  decoded_whole (x ∷ xs) e i h = ap (λ a. decoded_at_end a e) h
 
   sentence_here : (n : ℕ) (s rest : List ℕ) (e : Ending) (i : Instruction) → IsSentence (rows_of packed) strict s i →
       listing_from strict text n 0 (s ++ rest) e ≡ with_lines (line (text n i s) ∷ []) (listing_from strict text (n + length s) 0 rest e)
@@ -64,9 +64,9 @@ module _ (strict : Bool) (laws : GrammarLaws strict) (text : ℕ → Instruction
       let accepted : IsAccepted (rows_of packed) strict all i (length s) = record { sentence = s; rest = rest; begins = refl; long = refl; is = is } in
       let ok : answer_of strict all ≡ Ok i = sym (laws.only all (Ok i) (length s) accepted) in
       let l = laws.lengths all i ok in
-      let len : i.length ≡ length s = ap (λ i. i.length) is.gives in
+      let len : i.length ≡ length s = ap (λ i. i.length) is.yields in
       let P : ℕ → Type 0 = λ k. listing_from strict text n 0 all e ≡ with_lines (line (text n i (take k all)) ∷ []) (listing_from strict text (n + k) 0 (drop k all) e) in
-      let h = subst P len (listing-whole strict text n all e i (front_whole all e i ok) l.0 l.1) in
+      let h = subst P len (listing-whole strict text n all e i (decoded_whole all e i ok) l.0 l.1) in
       rw (take-append_seam s rest, drop-append_seam s rest) at h
 
   listing_is : (n : ℕ) (ss : List (List ℕ)) (left : List ℕ) (e : Ending) (lines : List (List ℕ)) (last : Listing) →
@@ -108,7 +108,7 @@ module _ (strict : Bool) (laws : GrammarLaws strict) (text : ℕ → Instruction
       IsAnswer (rows_of packed) strict (x ∷ xs) r (count_of strict (x ∷ xs)) → IsHere n (x ∷ xs) e (listing_from strict text n 0 (x ∷ xs) e)
   by_answer k n x xs e shorter le (Ok i) h a =
       let s = a.sentence in
-      let len : i.length ≡ length s = ap (λ i. i.length) a.is.gives in
+      let len : i.length ≡ length s = ap (λ i. i.length) a.is.yields in
       let total : length (x ∷ xs) ≡ length s + length a.rest = ap length a.begins ∙ length-append s a.rest in
       let less : length a.rest ≤ k = omega (arith, len, total, le, (laws.lengths (x ∷ xs) i h).0) in
       let t = sentence_first n s a.rest e i a.is (shorter (n + length s) a.rest less) in

@@ -1,14 +1,14 @@
--- The listing by what stands at the front.
+-- The listing by what is decoded first.
 use Rattle.std.proofs.Common.{Bool, ◌≡◌, ℕ, suc, zero, ◌+◌, ◌-◌, ◌<◌, ◌≤◌, List, [], ◌∷◌, length, take, drop, refl, arith, ap, sym, subst}
 use Rattle.x86_decode.specs.declared.instructions.Instruction.{Instruction}
 use Rattle.x86_fields.specs.declared.errors.DecodeError.{DecodeError}
 use Rattle.x86_cli.specs.declared.text.reader.Ending.{Ending}
-use Rattle.x86_cli.specs.declared.text.window.Front.{Front}
-use Rattle.x86_cli.specs.declared.text.window.Front.TheVariants.{Whole, Refused, Ended}
+use Rattle.x86_cli.specs.declared.text.window.Decoded.{Decoded}
+use Rattle.x86_cli.specs.declared.text.window.Decoded.TheVariants.{Whole, Refused, Ended}
 use Rattle.x86_cli.specs.declared.listings.status.Status.TheVariants as status
 use Rattle.x86_text.specs.Lines.{refusal_of}
 use Rattle.x86_cli.specs.Listings.Line.{line}
-use Rattle.x86_cli.specs.Listings.Listing.{Listing, with_lines, at_end, front_of, listed, listing_from, LinesLeaveStatus}
+use Rattle.x86_cli.specs.Listings.Listing.{Listing, with_lines, at_end, decoded_of, listed, listing_from, LinesLeaveStatus}
 
 module _ (strict : Bool) (text : ℕ → Instruction → List ℕ → List ℕ) where
   -- bytes that belong to an instruction before
@@ -22,7 +22,7 @@ module _ (strict : Bool) (text : ℕ → Instruction → List ℕ → List ℕ) 
       let place : n + suc k ≡ (n + 1) + k = omega arith in
       rw place (listing-skip (n + 1) k xs e le')
 
-  whole-at : (n k : ℕ) (xs : List ℕ) (e : Ending) (i : Instruction) → front_of strict xs e ≡ Whole i → i.length ≡ suc k → suc k ≤ length xs →
+  whole-at : (n k : ℕ) (xs : List ℕ) (e : Ending) (i : Instruction) → decoded_of strict xs e ≡ Whole i → i.length ≡ suc k → suc k ≤ length xs →
       listing_from strict text n 0 xs e ≡ with_lines (line (text n i (take i.length xs)) ∷ []) (listing_from strict text (n + suc k) 0 (drop (suc k) xs) e)
   unfolding listing_from
   whole-at n k [] e i h len le = absurd (omega arith)
@@ -32,28 +32,28 @@ module _ (strict : Bool) (text : ℕ → Instruction → List ℕ → List ℕ) 
       let place : n + suc k ≡ (n + 1) + k = omega arith in
       rw (h, less, place) (ap (with_lines (line (text n i (take i.length (x ∷ xs))) ∷ [])) (listing-skip (n + 1) k xs e le'))
 
-  pub listing-whole : (n : ℕ) (xs : List ℕ) (e : Ending) (i : Instruction) → front_of strict xs e ≡ Whole i → 0 < i.length → i.length ≤ length xs →
+  pub listing-whole : (n : ℕ) (xs : List ℕ) (e : Ending) (i : Instruction) → decoded_of strict xs e ≡ Whole i → 0 < i.length → i.length ≤ length xs →
       listing_from strict text n 0 xs e ≡ with_lines (line (text n i (take i.length xs)) ∷ []) (listing_from strict text (n + i.length) 0 (drop i.length xs) e)
   listing-whole n xs e i h some le =
       let len : i.length ≡ suc (i.length - 1) = omega arith in
       let P : ℕ → Type 0 = λ m. listing_from strict text n 0 xs e ≡ with_lines (line (text n i (take i.length xs)) ∷ []) (listing_from strict text (n + m) 0 (drop m xs) e) in
       subst P (sym len) (whole-at n (i.length - 1) xs e i h len (omega arith))
 
-  pub listing-refused : (n : ℕ) (xs : List ℕ) (e : Ending) (error : DecodeError) → front_of strict xs e ≡ Refused error →
+  pub listing-refused : (n : ℕ) (xs : List ℕ) (e : Ending) (error : DecodeError) → decoded_of strict xs e ≡ Refused error →
       listing_from strict text n 0 xs e ≡ record { lines = line (refusal_of n error) ∷ []; status = status.Refused }
-  unfolding listing_from front_of
+  unfolding listing_from decoded_of
   listing-refused n [] e error h = cc
   listing-refused n (x ∷ xs) e error h = rw h refl
 
-  pub listing-ended : (n : ℕ) (xs : List ℕ) (e f : Ending) → front_of strict xs e ≡ Ended f → listing_from strict text n 0 xs e ≡ at_end f
-  unfolding listing_from front_of
+  pub listing-ended : (n : ℕ) (xs : List ℕ) (e f : Ending) → decoded_of strict xs e ≡ Ended f → listing_from strict text n 0 xs e ≡ at_end f
+  unfolding listing_from decoded_of
   listing-ended n [] e f h = let same : e ≡ f = cc in ap at_end same
   listing-ended n (x ∷ xs) e f h = rw h refl
 
 -- the same status with other lines
 
 module _ (strict : Bool) (text other : ℕ → Instruction → List ℕ → List ℕ) where
-  listed-status : (f : Front Instruction) (n : ℕ) (xs : List ℕ) (a b : ℕ → Listing) → ((k : ℕ) → (a k).status ≡ (b k).status) →
+  listed-status : (f : Decoded Instruction) (n : ℕ) (xs : List ℕ) (a b : ℕ → Listing) → ((k : ℕ) → (a k).status ≡ (b k).status) →
       (listed strict text f n xs a).status ≡ (listed strict other f n xs b).status
   listed-status (Whole i) n xs a b h = h (i.length - 1)
   listed-status (Refused error) n xs a b h = refl
@@ -62,7 +62,7 @@ module _ (strict : Bool) (text other : ℕ → Instruction → List ℕ → List
   listing-status : (n k : ℕ) (xs : List ℕ) (e : Ending) → (listing_from strict text n k xs e).status ≡ (listing_from strict other n k xs e).status
   unfolding listing_from
   listing-status n k [] e = refl
-  listing-status n zero (x ∷ xs) e = listed-status (front_of strict (x ∷ xs) e) n (x ∷ xs) _ _ (λ k. listing-status (n + 1) k xs e)
+  listing-status n zero (x ∷ xs) e = listed-status (decoded_of strict (x ∷ xs) e) n (x ∷ xs) _ _ (λ k. listing-status (n + 1) k xs e)
   listing-status n (suc k) (x ∷ xs) e = listing-status (n + 1) k xs e
 
 pub lines_leave_status : LinesLeaveStatus

@@ -19,9 +19,9 @@ use Rattle.x86_layout.proofs.SweepLemmas.Cut.{first_and_rest, none_left}
 use Rattle.x86_cli.specs.Listings.Step.{IsStep}
 use Rattle.x86_cli.specs.declared.listings.listing.Step.TheVariants as step
 use Rattle.x86_cli.specs.Listings.Sweep.{cut_text, cut_line, sweep_at}
-use Rattle.x86_cli.proofs.ListingLemmas.Stands.{with-with, rest_is}
+use Rattle.x86_cli.proofs.ListingLemmas.Progress.{with-with, rest_is}
 
--- what a window shows of its front, where a cut stands there: whatever follows, that the next cut has this answer
+-- what a window shows of its first cut: the next cut has this answer, whatever follows
 record ShowsAnswer (strict : Bool) (a : Result Instruction DecodeError) (ended : Option Ending) (w : List ℕ) (p r : ℕ) : Type 0 where
   some : 0 < cut_length a
   fits : cut_length a ≤ length w
@@ -31,10 +31,10 @@ module _ (strict : Bool) where
   sweep-cut : (n len : ℕ) (xs : List ℕ) (e : Ending) (a : Result Instruction DecodeError) → answer_of strict xs ≡ a → cut_length a ≡ len → 0 < len → len ≤ length xs →
       sweep_at strict n (record { image = xs; ending = e }) ≡ with_lines (line (cut_text n a) ∷ []) (sweep_at strict (n + len) (record { image = drop len xs; ending = e }))
   sweep-cut n len xs e a h same some le =
-      let behind : List (List ℕ) = map cut_line (cuts_from strict (n + len) (drop len xs)) in
+      let following : List (List ℕ) = map cut_line (cuts_from strict (n + len) (drop len xs)) in
       ap (λ cs. with_lines (map cut_line cs) (at_end e)) (first_and_rest strict len n xs (ap cut_length h ∙ same) some (omega arith))
-      ∙ sym (with-with (cut_line (cut_at strict n xs) ∷ []) behind (at_end e))
-      ∙ ap (λ a. with_lines (line (cut_text n a) ∷ []) (with_lines behind (at_end e))) h
+      ∙ sym (with-with (cut_line (cut_at strict n xs) ∷ []) following (at_end e))
+      ∙ ap (λ a. with_lines (line (cut_text n a) ∷ []) (with_lines following (at_end e))) h
 
   -- one cut of the rest
   rest_cut : (ended : Option Ending) (n : ℕ) (w : List ℕ) (p r : ℕ) (a : Result Instruction DecodeError) → ShowsAnswer strict a ended w p r → (xs : List ℕ) (stop : Stop) →

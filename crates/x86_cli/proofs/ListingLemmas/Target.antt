@@ -6,7 +6,7 @@ use Rattle.x86_cli.specs.declared.text.reader.Ending.{Ending}
 use Rattle.x86_cli.specs.Text.{Text}
 use Rattle.x86_cli.specs.Listings.Listing.{with_lines, at_end}
 use Rattle.x86_cli.specs.Listings.Targets.{marked_from, place_line, lines_if, targets_at}
-use Rattle.x86_cli.proofs.ListingLemmas.Stands.{with-with}
+use Rattle.x86_cli.proofs.ListingLemmas.Progress.{with-with}
 
 map-filter_first : (test : ℕ → Bool) (f : ℕ → List ℕ) (x : ℕ) (xs : List ℕ) (b : Bool) → test x ≡ b →
     map f (filter test (x ∷ xs)) ≡ (if b then f x ∷ [] else []) ++ map f (filter test xs)
@@ -24,7 +24,7 @@ module _ (strict : Bool) where
       (map-filter_first (is_marked strict t.image) place_line n (range_with_len (n + 1) (length t.image - (n + 1))) (is_marked strict t.image n) refl))
       ∙ sym (with-with (lines_if (is_marked strict t.image n) n) (map place_line (marked_from strict (n + 1) t.image)) (at_end t.ending))
 
-  -- behind the last place
+  -- after the last place
   pub targets-end : (n : ℕ) (image : List ℕ) (e : Ending) → n ≡ length image → targets_at strict n (record { image = image; ending = e }) ≡ at_end e
   unfolding marked_from
   targets-end n image e is =

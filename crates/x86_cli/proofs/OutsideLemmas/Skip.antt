@@ -3,8 +3,8 @@ use Rattle.std.proofs.Common.{◌≡◌, ℕ, zero, suc, ◌+◌, ◌-◌, ◌<�
 use Rattle.std.proofs.lemmas.List.{length-drop}
 use Rattle.x86_cli.specs.declared.outside.source.Got.{Got}
 use Rattle.x86_cli.specs.declared.outside.source.Got.TheVariants as got
-use Rattle.x86_cli.specs.Text.Reading.{Gave}
-use Rattle.x86_cli.proofs.TextLemmas.Read.{gave-gave}
+use Rattle.x86_cli.specs.Text.Reading.{SourceCalls}
+use Rattle.x86_cli.proofs.TextLemmas.Read.{source_calls-source_calls}
 
 -- one byte more of a list
 next_of : (n : ℕ) (l : List ℕ) (x : ℕ) (t : List ℕ) → drop n l ≡ x ∷ t → (take (suc n) l ≡ take n l ++ x ∷ []) × (drop (suc n) l ≡ t)
@@ -22,18 +22,18 @@ begins_before_end l a b some =
 module _ {S : Type 0} (gives : S → Got → S → Type 0) where
   -- n of the bytes ahead were taken, and these are ahead now
   pub record Skipped (ahead now : List ℕ) (n : ℕ) (old new : S) : Type 0 where
-    pub gave : Gave gives (take n ahead) None old new
+    pub source_calls : SourceCalls gives (take n ahead) None old new
     pub rest : now ≡ drop n ahead
 
   pub skipped_none : (ahead : List ℕ) (s : S) → Skipped ahead ahead 0 s s
-  skipped_none ahead s = record { gave = refl; rest = refl }
+  skipped_none ahead s = record { source_calls = refl; rest = refl }
 
   pub skipped_more : (ahead now now' : List ℕ) (n x : ℕ) (a b d : S) → Skipped ahead now n a b → now ≡ x ∷ now' → gives b (got.Byte x) d → Skipped ahead now' (n + 1) a d
   skipped_more ahead now now' n x a b d s next call =
       let more = next_of n ahead x now' (sym s.rest ∙ next) in
       let count : n + 1 ≡ suc n = omega arith in
       record {
-        gave = rw (count, more.0) (gave-gave gives (take n ahead) (x ∷ []) None a b d s.gave (d, call, refl));
+        source_calls = rw (count, more.0) (source_calls-source_calls gives (take n ahead) (x ∷ []) None a b d s.source_calls (d, call, refl));
         rest = rw count (sym more.1);
       }
 

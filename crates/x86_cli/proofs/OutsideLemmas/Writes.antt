@@ -4,17 +4,17 @@ use Rattle.std.specs.Prelude.{⊤}
 use Rattle.std.specs.declared.io.Error.{Error}
 use Rattle.std.specs.declared.io.ErrorKind.TheVariants.{Interrupted}
 use Rattle.std.specs.IoError.{error_kind}
-use Rattle.x86_cli.specs.Outside.Writes.{Call, Write, Flush, sent_by, sent, AllGoOn, Cause, WriterCalls, Caused, Forwards, FlushesOut}
+use Rattle.x86_cli.specs.Outside.Writes.{Call, Write, Flush, sent_by, sent, AllContinue, Cause, WriterCalls, Caused, Forwards, FlushesOut}
 
 pub take_none : (n : ℕ) (xs : List ℕ) → n ≡ 0 → take n xs ≡ []
 take_none n [] none = rw none refl
 take_none n (x ∷ xs) none = rw none refl
 
-all_go_on : (cs ds : List Call) → AllGoOn cs → AllGoOn ds → AllGoOn (cs ++ ds)
+all_go_on : (cs ds : List Call) → AllContinue cs → AllContinue ds → AllContinue (cs ++ ds)
 all_go_on [] ds c d = d
 all_go_on (x ∷ cs) ds c d = (c.0, all_go_on cs ds c.1 d)
 
-pub joined_cause : {A E : Type 0} (r : Result A E) (cs ds : List Call) → Cause r cs → AllGoOn ds → Cause r (cs ++ ds)
+pub joined_cause : {A E : Type 0} (r : Result A E) (cs ds : List Call) → Cause r cs → AllContinue ds → Cause r (cs ++ ds)
 joined_cause (Ok x) cs ds c d = all_go_on cs ds c d
 joined_cause (Err e) [] ds c d = absurd c
 joined_cause (Err e) (x ∷ cs) ds c d = (c.0, all_go_on cs ds c.1 d)

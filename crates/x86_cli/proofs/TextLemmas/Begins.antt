@@ -3,15 +3,15 @@ use Rattle.std.proofs.Common.{◌≡◌, ℕ, suc, ◌+◌, ◌*◌, ◌<◌, �
 use Rattle.x86_cli.specs.declared.outside.source.Got.{Got}
 use Rattle.x86_cli.specs.Outside.Stop.{Failed}
 use Rattle.x86_cli.specs.Text.{Text, is_blank, value_of, text_at}
-use Rattle.x86_cli.specs.Text.Reading.{NeedsMore, Gave}
-use Rattle.x86_cli.specs.Text.Window.{behind, rest_of, Begins, Fills}
+use Rattle.x86_cli.specs.Text.Reading.{NeedsMore, SourceCalls}
+use Rattle.x86_cli.specs.Text.Window.{with_bytes, rest_of, Begins, Fills}
 use Rattle.x86_cli.proofs.TextLemmas.Text.{text-blank, text-pair}
-use Rattle.x86_cli.proofs.TextLemmas.Read.{more_new, more_half, asked-asked, asked-where}
-use Rattle.x86_cli.proofs.TextLemmas.Fill.{more_behind}
+use Rattle.x86_cli.proofs.TextLemmas.Read.{more_new, more_half, called-called, called-where}
+use Rattle.x86_cli.proofs.TextLemmas.Fill.{more_after}
 
 pub begins_none : (most : ℕ) → Begins most [] []
 begins_none most = record {
-  asked = λ p r. tt;
+  called = λ p r. tt;
   rest = λ p r xs s.
       let room : 0 + r ≡ r = omega arith in
       let at : p ≡ p + 0 = omega arith in
@@ -23,26 +23,26 @@ module _ (most : ℕ) (bs vs : List ℕ) (b : Begins most bs vs) (few : length v
   needs : (p r : ℕ) (ys : List ℕ) → NeedsMore 1 (text_at (p + length bs) r ys Failed) → NeedsMore most (text_at p (length bs + r) (bs ++ ys) Failed)
   needs p r ys h =
       let fits : length vs + 1 ≤ most = omega (arith, few) in
-      subst (NeedsMore most) (sym (b.rest p r ys Failed)) (more_behind most 1 vs _ fits h)
+      subst (NeedsMore most) (sym (b.rest p r ys Failed)) (more_after most 1 vs _ fits h)
 
   pub begins_blank : (x : ℕ) → is_blank x ≡ true → Begins most (bs ++ x ∷ []) vs
   begins_blank x blank = record {
-    asked = λ p r.
+    called = λ p r.
         let room : length (bs ++ x ∷ []) + r ≡ length bs + suc r = simp length-append (omega arith) in
-        rw room (asked-asked (NeedsMore most) (text_at p (length bs + suc r)) bs (x ∷ []) None (b.asked p (suc r)) (needs p (suc r) [] (more_new (p + length bs) (suc r)), tt));
+        rw room (called-called (NeedsMore most) (text_at p (length bs + suc r)) bs (x ∷ []) None (b.called p (suc r)) (needs p (suc r) [] (more_new (p + length bs) (suc r)), tt));
     rest = λ p r xs s.
         let room : length (bs ++ x ∷ []) + r ≡ length bs + suc r = simp length-append (omega arith) in
         let after : p + length bs + 1 ≡ p + length (bs ++ x ∷ []) = simp length-append (omega arith) in
-        rw (room, append_assoc) (b.rest p (suc r) (x ∷ xs) s ∙ ap (behind vs) (text-blank (p + length bs) r x xs s blank)
-        ∙ ap (λ q. behind vs (text_at q r xs s)) after);
+        rw (room, append_assoc) (b.rest p (suc r) (x ∷ xs) s ∙ ap (with_bytes vs) (text-blank (p + length bs) r x xs s blank)
+        ∙ ap (λ q. with_bytes vs (text_at q r xs s)) after);
   }
 
   pub begins_pair : (x y v w : ℕ) → is_blank x ≡ false → value_of x ≡ Some v → value_of y ≡ Some w →
       Begins most (bs ++ x ∷ y ∷ []) (vs ++ (16 * v + w) ∷ [])
   begins_pair x y v w blank high low = record {
-    asked = λ p r.
+    called = λ p r.
         let room : length (bs ++ x ∷ y ∷ []) + r ≡ length bs + suc (suc r) = simp length-append (omega arith) in
-        rw room (asked-asked (NeedsMore most) (text_at p (length bs + suc (suc r))) bs (x ∷ y ∷ []) None (b.asked p (suc (suc r))) (
+        rw room (called-called (NeedsMore most) (text_at p (length bs + suc (suc r))) bs (x ∷ y ∷ []) None (b.called p (suc (suc r))) (
           needs p (suc (suc r)) [] (more_new (p + length bs) (suc (suc r))),
           (needs p (suc (suc r)) (x ∷ []) (more_half (p + length bs) (suc r) x v blank high), tt),
         ));
@@ -51,25 +51,25 @@ module _ (most : ℕ) (bs vs : List ℕ) (b : Begins most bs vs) (few : length v
         let room : length (bs ++ x ∷ y ∷ []) + r ≡ length bs + suc (suc r) = simp length-append (omega arith) in
         let after : p + length bs + 2 ≡ p + length (bs ++ x ∷ y ∷ []) = simp length-append (omega arith) in
         let image : vs ++ ((16 * v + w) ∷ t.image) ≡ (vs ++ (16 * v + w) ∷ []) ++ t.image = sym (append_assoc vs ((16 * v + w) ∷ []) t.image) in
-        rw (room, append_assoc bs (x ∷ y ∷ []) xs) (b.rest p (suc (suc r)) (x ∷ y ∷ xs) s ∙ ap (behind vs) (text-pair (p + length bs) r x y v w xs s blank high low)
+        rw (room, append_assoc bs (x ∷ y ∷ []) xs) (b.rest p (suc (suc r)) (x ∷ y ∷ xs) s ∙ ap (with_bytes vs) (text-pair (p + length bs) r x y v w xs s blank high low)
         ∙ ap (λ i. record { image = i; ending = t.ending }) image
-        ∙ ap (λ q. behind (vs ++ (16 * v + w) ∷ []) (text_at q r xs s)) after);
+        ∙ ap (λ q. with_bytes (vs ++ (16 * v + w) ∷ []) (text_at q r xs s)) after);
   }
 
 module _ {S : Type 0} (gives : S → Got → S → Type 0) where
   -- The bytes that a text begins with were taken into the window.
   pub fills_begins : (most k : ℕ) (bs vs w : List ℕ) (p r p' r' : ℕ) (a b : S) → Begins most bs vs → length w + most ≤ k →
-      p' ≡ p + length bs → r ≡ length bs + r' → Gave gives bs None a b →
+      p' ≡ p + length bs → r ≡ length bs + r' → SourceCalls gives bs None a b →
       Fills gives (NeedsMore k) (rest_of None w p r) None (w ++ vs) p' r' a b
-  fills_begins most k bs vs w p r p' r' a b begins fits position room gave = rw (position, room) (record {
+  fills_begins most k bs vs w p r p' r' a b begins fits position room source_calls = rw (position, room) (record {
     bytes = bs;
     stop = None;
-    gave = gave;
-    asked = asked-where (NeedsMore most) (NeedsMore k) (text_at p (length bs + r')) (rest_of None w p (length bs + r')) bs None
-        (λ xs h. more_behind k most w (text_at p (length bs + r') xs Failed) fits h) (begins.asked p r');
-    goes_on = refl;
+    source_calls = source_calls;
+    called = called-where (NeedsMore most) (NeedsMore k) (text_at p (length bs + r')) (rest_of None w p (length bs + r')) bs None
+        (λ xs h. more_after k most w (text_at p (length bs + r') xs Failed) fits h) (begins.called p r');
+    continues = refl;
     rest = λ xs s may.
         let t : Text = text_at (p + length bs) r' xs s in
         let image : w ++ (vs ++ t.image) ≡ (w ++ vs) ++ t.image = sym (append_assoc w vs t.image) in
-        ap (behind w) (begins.rest p r' xs s) ∙ ap (λ i. record { image = i; ending = t.ending }) image;
+        ap (with_bytes w) (begins.rest p r' xs s) ∙ ap (λ i. record { image = i; ending = t.ending }) image;
   })

@@ -6,32 +6,32 @@ use Rattle.std.proofs.lemmas.List.{drop-drop, drop-take, take-take, take_more, t
 use Rattle.x86_cli.specs.Outside.Stop.{Failed}
 use Rattle.x86_cli.specs.Text.{Text, is_blank, value_of, text_at}
 use Rattle.x86_cli.specs.Text.Reading.{NeedsMore}
-use Rattle.x86_cli.specs.Text.Window.{behind, Begins}
+use Rattle.x86_cli.specs.Text.Window.{with_bytes, Begins}
 use Rattle.x86_cli.specs.Text.ImageAhead.{IsBetween, AreBlanks, IsByte, AreBytes, AreAhead}
 use Rattle.x86_cli.proofs.TextLemmas.Text.{value-blank}
-use Rattle.x86_cli.proofs.TextLemmas.Read.{asked-asked, asked-where}
-use Rattle.x86_cli.proofs.TextLemmas.Fill.{more_behind}
+use Rattle.x86_cli.proofs.TextLemmas.Read.{called-called, called-where}
+use Rattle.x86_cli.proofs.TextLemmas.Fill.{more_after}
 use Rattle.x86_cli.proofs.TextLemmas.Begins.{begins_none, begins_blank, begins_pair}
 
 -- one part after another
 pub begins_append : (m n : ℕ) (bs cs vs ws : List ℕ) → Begins m bs vs → Begins n cs ws → length vs ≤ m → Begins (m + n) (bs ++ cs) (vs ++ ws)
 begins_append m n bs cs vs ws b c few = record {
-  asked = λ p r.
+  called = λ p r.
       let room : length (bs ++ cs) + r ≡ length bs + (length cs + r) = simp length-append (omega arith) in
-      rw room (asked-asked (NeedsMore (m + n)) (text_at p (length bs + (length cs + r))) bs cs None
-      (asked-where (NeedsMore m) (NeedsMore (m + n)) (text_at p (length bs + (length cs + r))) (text_at p (length bs + (length cs + r))) bs None
-      (λ xs h. (h.0, omega (arith, h.1))) (b.asked p (length cs + r)))
-      (asked-where (NeedsMore n) (NeedsMore (m + n)) (text_at (p + length bs) (length cs + r)) (λ xs s. text_at p (length bs + (length cs + r)) (bs ++ xs) s) cs None
-      (λ xs h. subst (NeedsMore (m + n)) (sym (b.rest p (length cs + r) xs Failed)) (more_behind (m + n) n vs (text_at (p + length bs) (length cs + r) xs Failed) (omega (arith, few)) h))
-      (c.asked (p + length bs) r)));
+      rw room (called-called (NeedsMore (m + n)) (text_at p (length bs + (length cs + r))) bs cs None
+      (called-where (NeedsMore m) (NeedsMore (m + n)) (text_at p (length bs + (length cs + r))) (text_at p (length bs + (length cs + r))) bs None
+      (λ xs h. (h.0, omega (arith, h.1))) (b.called p (length cs + r)))
+      (called-where (NeedsMore n) (NeedsMore (m + n)) (text_at (p + length bs) (length cs + r)) (λ xs s. text_at p (length bs + (length cs + r)) (bs ++ xs) s) cs None
+      (λ xs h. subst (NeedsMore (m + n)) (sym (b.rest p (length cs + r) xs Failed)) (more_after (m + n) n vs (text_at (p + length bs) (length cs + r) xs Failed) (omega (arith, few)) h))
+      (c.called (p + length bs) r)));
   rest = λ p r xs s.
       let t : Text = text_at (p + length bs + length cs) r xs s in
       let room : length (bs ++ cs) + r ≡ length bs + (length cs + r) = simp length-append (omega arith) in
       let after : p + length bs + length cs ≡ p + length (bs ++ cs) = simp length-append (omega arith) in
       let image : vs ++ (ws ++ t.image) ≡ (vs ++ ws) ++ t.image = sym (append_assoc vs ws t.image) in
-      rw (room, append_assoc bs cs xs) (b.rest p (length cs + r) (cs ++ xs) s ∙ ap (behind vs) (c.rest (p + length bs) r xs s)
+      rw (room, append_assoc bs cs xs) (b.rest p (length cs + r) (cs ++ xs) s ∙ ap (with_bytes vs) (c.rest (p + length bs) r xs s)
       ∙ ap (λ i. record { image = i; ending = t.ending }) image
-      ∙ ap (λ q. behind (vs ++ ws) (text_at q r xs s)) after);
+      ∙ ap (λ q. with_bytes (vs ++ ws) (text_at q r xs s)) after);
 }
 
 -- parts of a text

@@ -186,25 +186,25 @@ first_bad (a ∷ b ∷ s) n e =
     let m = mapped 2 (bad_of s) n (rw (h, d, g) at e) in
     moved_to (a ∷ b ∷ s) n (suc (suc m.0)) (omega (arith, m.2)) (first_pair a b v w s m.0 d g (first_bad s m.0 m.1)))))
 
--- What stands in front of no bad byte has none.
-fronts_good : (m : ℕ) (bytes : List ℕ) → bad_of bytes ≡ None → bad_of (take m bytes) ≡ None
+-- A beginning of bytes without a bad byte has none.
+beginnings_good : (m : ℕ) (bytes : List ℕ) → bad_of bytes ≡ None → bad_of (take m bytes) ≡ None
 unfolding bad_of
-fronts_good zero bytes e = refl
-fronts_good (suc m) [] e = refl
-fronts_good (suc zero) (a ∷ []) e = e
-fronts_good (suc (suc m)) (a ∷ []) e = e
-fronts_good (suc zero) (a ∷ b ∷ s) e =
+beginnings_good zero bytes e = refl
+beginnings_good (suc m) [] e = refl
+beginnings_good (suc zero) (a ∷ []) e = e
+beginnings_good (suc (suc m)) (a ∷ []) e = e
+beginnings_good (suc zero) (a ∷ b ∷ s) e =
     by_bool (is_blank a) (λ h. rw h refl)
     (λ h. by_option (value_of a) (λ n. let f = rw (h, n) at e in cc) (λ v d. rw (h, d) refl))
-fronts_good (suc (suc m)) (a ∷ b ∷ s) e =
+beginnings_good (suc (suc m)) (a ∷ b ∷ s) e =
     by_bool (is_blank a)
-    (λ h. bad-blank a (take (suc m) (b ∷ s)) h ∙ ap (option_map (λ n. 1 + n)) (fronts_good (suc m) (b ∷ s) (unmapped (λ n. 1 + n) (bad_of (b ∷ s)) (rw h at e))))
+    (λ h. bad-blank a (take (suc m) (b ∷ s)) h ∙ ap (option_map (λ n. 1 + n)) (beginnings_good (suc m) (b ∷ s) (unmapped (λ n. 1 + n) (bad_of (b ∷ s)) (rw h at e))))
     (λ h. by_option (value_of a) (λ n. let f = rw (h, n) at e in cc)
     (λ v d. by_option (value_of b) (λ n. let f = rw (h, d, n) at e in cc)
-    (λ w f. bad-pair a b v w (take m s) d f ∙ ap (option_map (λ n. 2 + n)) (fronts_good m s (unmapped (λ n. 2 + n) (bad_of s) (rw (h, d, f) at e))))))
+    (λ w f. bad-pair a b v w (take m s) d f ∙ ap (option_map (λ n. 2 + n)) (beginnings_good m s (unmapped (λ n. 2 + n) (bad_of s) (rw (h, d, f) at e))))))
 
 pub bad_is_first : BadIsFirst
 bad_is_first bytes n e =
     let f = first_bad bytes n e in
     let next : n + 1 ≡ suc n = omega arith in
-    (f.inside, (λ m le. ap bad_of (sym (take-take m n bytes le)) ∙ fronts_good m (take n bytes) f.before), rw next f.here, f.image)
+    (f.inside, (λ m le. ap bad_of (sym (take-take m n bytes le)) ∙ beginnings_good m (take n bytes) f.before), rw next f.here, f.image)

@@ -7,27 +7,27 @@ use Rattle.x86_cli.specs.Outside.Stop.{Stop, End, Failed}
 use Rattle.x86_cli.specs.declared.text.reader.Piece.{Piece}
 use Rattle.x86_cli.specs.declared.text.reader.Piece.TheVariants.{Byte, Stopped}
 use Rattle.x86_cli.specs.Text.{Text, is_blank, value_of, text_at}
-use Rattle.x86_cli.specs.Text.Reading.{NeedsMore, AskedWhere, Gave, Reads}
+use Rattle.x86_cli.specs.Text.Reading.{NeedsMore, CalledWhere, SourceCalls, Reads}
 use Rattle.x86_cli.proofs.TextLemmas.Text.{text-end, text-failed, text-large, text-blank, text-bad, text-half, text-half_failed, text-half_large, text-half_bad, text-pair}
 
--- what was asked, one after the other
-pub asked-asked : (Holds : Text → Type 0) (text : List ℕ → Stop → Text) (u t : List ℕ) (stop : Option Stop) →
-    AskedWhere Holds text u None → AskedWhere Holds (λ xs s. text (u ++ xs) s) t stop → AskedWhere Holds text (u ++ t) stop
-asked-asked Holds text [] t stop e f = f
-asked-asked Holds text (x ∷ u) t stop e f = (e.0, asked-asked Holds (λ xs s. text (x ∷ xs) s) u t stop e.1 f)
+-- what held at calls, one after the other
+pub called-called : (Holds : Text → Type 0) (text : List ℕ → Stop → Text) (u t : List ℕ) (stop : Option Stop) →
+    CalledWhere Holds text u None → CalledWhere Holds (λ xs s. text (u ++ xs) s) t stop → CalledWhere Holds text (u ++ t) stop
+called-called Holds text [] t stop e f = f
+called-called Holds text (x ∷ u) t stop e f = (e.0, called-called Holds (λ xs s. text (x ∷ xs) s) u t stop e.1 f)
 
--- what was asked where one thing holds was asked where another does that follows
-pub asked-where : (Holds Follows : Text → Type 0) (other text : List ℕ → Stop → Text) (t : List ℕ) (stop : Option Stop) →
-    ((xs : List ℕ) → Holds (other xs Failed) → Follows (text xs Failed)) → AskedWhere Holds other t stop → AskedWhere Follows text t stop
-asked-where Holds Follows other text [] None e a = tt
-asked-where Holds Follows other text [] (Some s) e a = e [] a
-asked-where Holds Follows other text (x ∷ t) stop e a =
-    (e [] a.0, asked-where Holds Follows (λ xs s. other (x ∷ xs) s) (λ xs s. text (x ∷ xs) s) t stop (λ xs. e (x ∷ xs)) a.1)
+-- where one thing holds at each call, so does another that follows from it
+pub called-where : (Holds Follows : Text → Type 0) (other text : List ℕ → Stop → Text) (t : List ℕ) (stop : Option Stop) →
+    ((xs : List ℕ) → Holds (other xs Failed) → Follows (text xs Failed)) → CalledWhere Holds other t stop → CalledWhere Follows text t stop
+called-where Holds Follows other text [] None e a = tt
+called-where Holds Follows other text [] (Some s) e a = e [] a
+called-where Holds Follows other text (x ∷ t) stop e a =
+    (e [] a.0, called-where Holds Follows (λ xs s. other (x ∷ xs) s) (λ xs s. text (x ∷ xs) s) t stop (λ xs. e (x ∷ xs)) a.1)
 
 -- of equal texts
-pub asked-same : (Holds : Text → Type 0) (other text : List ℕ → Stop → Text) (t : List ℕ) (stop : Option Stop) → ((xs : List ℕ) → text xs Failed ≡ other xs Failed) →
-    AskedWhere Holds other t stop → AskedWhere Holds text t stop
-asked-same Holds other text t stop e a = asked-where Holds Holds other text t stop (λ xs h. subst Holds (sym (e xs)) h) a
+pub called-same : (Holds : Text → Type 0) (other text : List ℕ → Stop → Text) (t : List ℕ) (stop : Option Stop) → ((xs : List ℕ) → text xs Failed ≡ other xs Failed) →
+    CalledWhere Holds other t stop → CalledWhere Holds text t stop
+called-same Holds other text t stop e a = called-where Holds Holds other text t stop (λ xs h. subst Holds (sym (e xs)) h) a
 
 -- a text that is just begun, and one of which half a pair came, need more
 pub more_new : (p r : ℕ) → NeedsMore 1 (text_at p r [] Failed)
@@ -38,24 +38,24 @@ more_half p r x v blank digit = rw (text-half_failed p r x v blank digit) (refl,
 
 module _ {S : Type 0} (gives : S → Got → S → Type 0) where
   -- calls, one after the other
-  pub gave-gave : (u t : List ℕ) (stop : Option Stop) (a b d : S) → Gave gives u None a b → Gave gives t stop b d → Gave gives (u ++ t) stop a d
-  gave-gave [] t stop a b d e f = let P : S → Type 0 = λ x. Gave gives t stop x d in subst P e f
-  gave-gave (x ∷ u) t stop a b d e f = (e.0, e.1, gave-gave u t stop e.0 b d e.2 f)
+  pub source_calls-source_calls : (u t : List ℕ) (stop : Option Stop) (a b d : S) → SourceCalls gives u None a b → SourceCalls gives t stop b d → SourceCalls gives (u ++ t) stop a d
+  source_calls-source_calls [] t stop a b d e f = let P : S → Type 0 = λ x. SourceCalls gives t stop x d in subst P e f
+  source_calls-source_calls (x ∷ u) t stop a b d e f = (e.0, e.1, source_calls-source_calls u t stop e.0 b d e.2 f)
 
-  -- Whatever comes, the text that begins with the bytes given is that which is left.
+  -- Whatever comes, the text that begins with the bytes returned is that which is left.
   pub record Skips (position room position' room' : ℕ) (old new : S) : Type 0 where
     pub bytes : List ℕ
-    pub gave : Gave gives bytes None old new
-    pub asked : AskedWhere (NeedsMore 1) (text_at position room) bytes None
+    pub source_calls : SourceCalls gives bytes None old new
+    pub called : CalledWhere (NeedsMore 1) (text_at position room) bytes None
     pub same : (xs : List ℕ) (stop : Stop) → text_at position room (bytes ++ xs) stop ≡ text_at position' room' xs stop
 
   pub skips_blank : (p r q s q' s' x : ℕ) (a b d : S) → Skips p r q s a b → gives b (got.Byte x) d →
       is_blank x ≡ true → q' ≡ q + 1 → s' + 1 ≡ s → Skips p r q' s' a d
   skips_blank p r q s q' s' x a b d before e blank eq es = record {
     bytes = before.bytes ++ x ∷ [];
-    gave = gave-gave before.bytes (x ∷ []) None a b d before.gave (d, e, refl);
-    asked = asked-asked (NeedsMore 1) (text_at p r) before.bytes (x ∷ []) None before.asked
-        (asked-same (NeedsMore 1) (text_at q s) (λ xs s. text_at p r (before.bytes ++ xs) s) (x ∷ []) None (λ xs. before.same xs Failed) (more_new q s, tt));
+    source_calls = source_calls-source_calls before.bytes (x ∷ []) None a b d before.source_calls (d, e, refl);
+    called = called-called (NeedsMore 1) (text_at p r) before.bytes (x ∷ []) None before.called
+        (called-same (NeedsMore 1) (text_at q s) (λ xs s. text_at p r (before.bytes ++ xs) s) (x ∷ []) None (λ xs. before.same xs Failed) (more_new q s, tt));
     same = λ xs stop.
         let room : s ≡ suc s' = omega arith in
         rw append_assoc (before.same (x ∷ xs) stop ∙ rw (room, eq) (text-blank q s' x xs stop blank));
@@ -66,29 +66,29 @@ module _ {S : Type 0} (gives : S → Got → S → Type 0) where
   reads_after result p r q s q' s' a b d before read = record {
     bytes = before.bytes ++ read.bytes;
     stop = read.stop;
-    gave = gave-gave before.bytes read.bytes read.stop a b d before.gave read.gave;
-    asked = asked-asked (NeedsMore 1) (text_at p r) before.bytes read.bytes read.stop before.asked
-        (asked-same (NeedsMore 1) (text_at q s) (λ xs s. text_at p r (before.bytes ++ xs) s) read.bytes read.stop (λ xs. before.same xs Failed) read.asked);
-    goes_on = read.goes_on;
-    tells = λ xs stop may. rw append_assoc (before.same (read.bytes ++ xs) stop ∙ read.tells xs stop may);
+    source_calls = source_calls-source_calls before.bytes read.bytes read.stop a b d before.source_calls read.source_calls;
+    called = called-called (NeedsMore 1) (text_at p r) before.bytes read.bytes read.stop before.called
+        (called-same (NeedsMore 1) (text_at q s) (λ xs s. text_at p r (before.bytes ++ xs) s) read.bytes read.stop (λ xs. before.same xs Failed) read.called);
+    continues = read.continues;
+    reports = λ xs stop may. rw append_assoc (before.same (read.bytes ++ xs) stop ∙ read.reports xs stop may);
   }
 
   -- the ends at a piece's first byte
 
   pub reads_end : (p r : ℕ) (a b : S) → gives a got.End b → Reads gives (Stopped Clean) p r p r a b
-  reads_end p r a b e = record { bytes = []; stop = Some End; gave = e; asked = more_new p r; goes_on = tt; tells = λ xs stop may. rw (may.0, may.1) (text-end p r) }
+  reads_end p r a b e = record { bytes = []; stop = Some End; source_calls = e; called = more_new p r; continues = tt; reports = λ xs stop may. rw (may.0, may.1) (text-end p r) }
 
   pub reads_failed : (p r : ℕ) (a b : S) → gives a got.Failed b → Reads gives (Stopped Fault) p r p r a b
-  reads_failed p r a b e = record { bytes = []; stop = Some Failed; gave = e; asked = more_new p r; goes_on = tt; tells = λ xs stop may. rw (may.0, may.1) (text-failed p r) }
+  reads_failed p r a b e = record { bytes = []; stop = Some Failed; source_calls = e; called = more_new p r; continues = tt; reports = λ xs stop may. rw (may.0, may.1) (text-failed p r) }
 
   pub reads_large : (p r x : ℕ) (a b : S) → r ≡ 0 → gives a (got.Byte x) b → Reads gives (Stopped Large) p r p r a b
   reads_large p r x a b none e = record {
     bytes = x ∷ [];
     stop = None;
-    gave = (b, e, refl);
-    asked = (more_new p r, tt);
-    goes_on = tt;
-    tells = λ xs stop may. rw none (text-large p x xs stop);
+    source_calls = (b, e, refl);
+    called = (more_new p r, tt);
+    continues = tt;
+    reports = λ xs stop may. rw none (text-large p x xs stop);
   }
 
   pub reads_bad : (p r x : ℕ) (a b : S) → 0 < r → is_blank x ≡ false → value_of x ≡ None → gives a (got.Byte x) b → Reads gives (Stopped (Bad p)) p r p r a b
@@ -96,75 +96,75 @@ module _ {S : Type 0} (gives : S → Got → S → Type 0) where
   reads_bad p (suc r) x a b some blank digit e = record {
     bytes = x ∷ [];
     stop = None;
-    gave = (b, e, refl);
-    asked = (more_new p (suc r), tt);
-    goes_on = tt;
-    tells = λ xs stop may. text-bad p r x xs stop blank digit;
+    source_calls = (b, e, refl);
+    called = (more_new p (suc r), tt);
+    continues = tt;
+    reports = λ xs stop may. text-bad p r x xs stop blank digit;
   }
 
-  -- the ends at its second byte, behind the digit x
+  -- the ends at its second byte, after the digit x
 
-  pub record Behind (p r q s x v : ℕ) (a b : S) : Type 0 where
+  pub record AfterOpcode (p r q s x v : ℕ) (a b : S) : Type 0 where
     pub position : q ≡ p + 1
     pub room : r ≡ s + 1
     pub blank : is_blank x ≡ false
     pub digit : value_of x ≡ Some v
-    pub gave : gives a (got.Byte x) b
+    pub source_calls : gives a (got.Byte x) b
 
-  pub half_end : (p r q s x v : ℕ) (a b d : S) → Behind p r q s x v a b → gives b got.End d → Reads gives (Stopped (Bad q)) p r q s a d
-  half_end p r q s x v a b d behind e = record {
+  pub half_end : (p r q s x v : ℕ) (a b d : S) → AfterOpcode p r q s x v a b → gives b got.End d → Reads gives (Stopped (Bad q)) p r q s a d
+  half_end p r q s x v a b d following e = record {
     bytes = x ∷ [];
     stop = Some End;
-    gave = (b, behind.gave, e);
-    asked = (more_new p r, let room : r ≡ suc s = omega (arith, behind.room) in rw room (more_half p s x v behind.blank behind.digit));
-    goes_on = tt;
-    tells = λ xs stop may.
-        let room : r ≡ suc s = omega (arith, behind.room) in rw (may.0, may.1, room, behind.position) (text-half p s x v behind.blank behind.digit);
+    source_calls = (b, following.source_calls, e);
+    called = (more_new p r, let room : r ≡ suc s = omega (arith, following.room) in rw room (more_half p s x v following.blank following.digit));
+    continues = tt;
+    reports = λ xs stop may.
+        let room : r ≡ suc s = omega (arith, following.room) in rw (may.0, may.1, room, following.position) (text-half p s x v following.blank following.digit);
   }
 
-  pub half_failed : (p r q s x v : ℕ) (a b d : S) → Behind p r q s x v a b → gives b got.Failed d → Reads gives (Stopped Fault) p r q s a d
-  half_failed p r q s x v a b d behind e = record {
+  pub half_failed : (p r q s x v : ℕ) (a b d : S) → AfterOpcode p r q s x v a b → gives b got.Failed d → Reads gives (Stopped Fault) p r q s a d
+  half_failed p r q s x v a b d following e = record {
     bytes = x ∷ [];
     stop = Some Failed;
-    gave = (b, behind.gave, e);
-    asked = (more_new p r, let room : r ≡ suc s = omega (arith, behind.room) in rw room (more_half p s x v behind.blank behind.digit));
-    goes_on = tt;
-    tells = λ xs stop may.
-        let room : r ≡ suc s = omega (arith, behind.room) in rw (may.0, may.1, room) (text-half_failed p s x v behind.blank behind.digit);
+    source_calls = (b, following.source_calls, e);
+    called = (more_new p r, let room : r ≡ suc s = omega (arith, following.room) in rw room (more_half p s x v following.blank following.digit));
+    continues = tt;
+    reports = λ xs stop may.
+        let room : r ≡ suc s = omega (arith, following.room) in rw (may.0, may.1, room) (text-half_failed p s x v following.blank following.digit);
   }
 
-  pub half_large : (p r q s x v y : ℕ) (a b d : S) → Behind p r q s x v a b → s ≡ 0 → gives b (got.Byte y) d → Reads gives (Stopped Large) p r q s a d
-  half_large p r q s x v y a b d behind none e = record {
+  pub half_large : (p r q s x v y : ℕ) (a b d : S) → AfterOpcode p r q s x v a b → s ≡ 0 → gives b (got.Byte y) d → Reads gives (Stopped Large) p r q s a d
+  half_large p r q s x v y a b d following none e = record {
     bytes = x ∷ y ∷ [];
     stop = None;
-    gave = (b, behind.gave, (d, e, refl));
-    asked = (more_new p (r), (let room : r ≡ suc (s) = omega (arith, behind.room) in rw room (more_half p (s) x v behind.blank behind.digit), tt));
-    goes_on = tt;
-    tells = λ xs stop may. let room : r ≡ 1 = omega (arith, behind.room) in rw room (text-half_large p x y v xs stop behind.blank behind.digit);
+    source_calls = (b, following.source_calls, (d, e, refl));
+    called = (more_new p (r), (let room : r ≡ suc (s) = omega (arith, following.room) in rw room (more_half p (s) x v following.blank following.digit), tt));
+    continues = tt;
+    reports = λ xs stop may. let room : r ≡ 1 = omega (arith, following.room) in rw room (text-half_large p x y v xs stop following.blank following.digit);
   }
 
-  pub half_bad : (p r q s x v y : ℕ) (a b d : S) → Behind p r q s x v a b → 0 < s → gives b (got.Byte y) d → value_of y ≡ None → Reads gives (Stopped (Bad q)) p r q s a d
-  half_bad p r q zero x v y a b d behind some e digit = absurd (omega arith)
-  half_bad p r q (suc s) x v y a b d behind some e digit = record {
+  pub half_bad : (p r q s x v y : ℕ) (a b d : S) → AfterOpcode p r q s x v a b → 0 < s → gives b (got.Byte y) d → value_of y ≡ None → Reads gives (Stopped (Bad q)) p r q s a d
+  half_bad p r q zero x v y a b d following some e digit = absurd (omega arith)
+  half_bad p r q (suc s) x v y a b d following some e digit = record {
     bytes = x ∷ y ∷ [];
     stop = None;
-    gave = (b, behind.gave, (d, e, refl));
-    asked = (more_new p (r), (let room : r ≡ suc (suc s) = omega (arith, behind.room) in rw room (more_half p (suc s) x v behind.blank behind.digit), tt));
-    goes_on = tt;
-    tells = λ xs stop may.
-        let room : r ≡ suc (suc s) = omega (arith, behind.room) in rw (room, behind.position) (text-half_bad p s x y v xs stop behind.blank behind.digit digit);
+    source_calls = (b, following.source_calls, (d, e, refl));
+    called = (more_new p (r), (let room : r ≡ suc (suc s) = omega (arith, following.room) in rw room (more_half p (suc s) x v following.blank following.digit), tt));
+    continues = tt;
+    reports = λ xs stop may.
+        let room : r ≡ suc (suc s) = omega (arith, following.room) in rw (room, following.position) (text-half_bad p s x y v xs stop following.blank following.digit digit);
   }
 
-  pub half_pair : (p r q s q' s' x v y w : ℕ) (a b d : S) → Behind p r q s x v a b → gives b (got.Byte y) d → value_of y ≡ Some w →
+  pub half_pair : (p r q s q' s' x v y w : ℕ) (a b d : S) → AfterOpcode p r q s x v a b → gives b (got.Byte y) d → value_of y ≡ Some w →
       q' ≡ q + 1 → s' + 1 ≡ s → Reads gives (Byte (16 * v + w)) p r q' s' a d
-  half_pair p r q s q' s' x v y w a b d behind e digit eq es = record {
+  half_pair p r q s q' s' x v y w a b d following e digit eq es = record {
     bytes = x ∷ y ∷ [];
     stop = None;
-    gave = (b, behind.gave, (d, e, refl));
-    asked = (more_new p (r), (let room : r ≡ suc (s) = omega (arith, behind.room) in rw room (more_half p (s) x v behind.blank behind.digit), tt));
-    goes_on = refl;
-    tells = λ xs stop may.
-        let room : r ≡ suc (suc s') = omega (arith, behind.room) in
-        let position : q' ≡ p + 2 = omega (arith, behind.position) in
-        rw (room, position) (text-pair p s' x y v w xs stop behind.blank behind.digit digit);
+    source_calls = (b, following.source_calls, (d, e, refl));
+    called = (more_new p (r), (let room : r ≡ suc (s) = omega (arith, following.room) in rw room (more_half p (s) x v following.blank following.digit), tt));
+    continues = refl;
+    reports = λ xs stop may.
+        let room : r ≡ suc (suc s') = omega (arith, following.room) in
+        let position : q' ≡ p + 2 = omega (arith, following.position) in
+        rw (room, position) (text-pair p s' x y v w xs stop following.blank following.digit digit);
   }

@@ -5,7 +5,7 @@ use Rattle.std.specs.Option.{option_map}
 use Rattle.x86_cli.specs.declared.text.reader.Ending.TheVariants.{Clean, Bad, Large, Fault}
 use Rattle.x86_cli.specs.Outside.Stop.{Stop, End, Failed}
 use Rattle.x86_cli.specs.Text.{is_blank, value_of, image_of, bad_of, ends_in_half, ending_by, text_at}
-use Rattle.x86_cli.specs.Text.Reading.{with_front, ended}
+use Rattle.x86_cli.specs.Text.Reading.{with_byte, ended}
 
 -- at the end of the bytes
 
@@ -51,7 +51,7 @@ ending-blank p None [] true len Failed = refl
 ending-blank p None [] false len End = refl
 ending-blank p None [] false len Failed = refl
 
--- a blank is no digit
+-- a blank isn't a digit
 pub value-blank : (x : ℕ) → is_blank x ≡ true → value_of x ≡ None
 unfolding value_of
 value-blank x e = grind (arith, common_steps)
@@ -75,7 +75,7 @@ text-bad p zero x xs stop e v = rw (e, v) (ap (λ n. record { image = []; ending
 text-bad p (suc r) x [] stop e v = rw (e, v) (ap (λ n. record { image = []; ending = Bad n }) (omega arith))
 text-bad p (suc r) x (y ∷ xs) stop e v = rw (e, v) (ap (λ n. record { image = []; ending = Bad n }) (omega arith))
 
--- a digit, and no other behind it
+-- a digit, and no other after it
 
 pub text-half : (p r x v : ℕ) → is_blank x ≡ false → value_of x ≡ Some v →
     text_at p (suc r) (x ∷ []) End ≡ ended (Bad (p + 1))
@@ -111,7 +111,7 @@ ending-pair p None [] false len End = refl
 ending-pair p None [] false len Failed = refl
 
 pub text-pair : (p r x y v w : ℕ) (xs : List ℕ) (stop : Stop) → is_blank x ≡ false → value_of x ≡ Some v → value_of y ≡ Some w →
-    text_at p (suc (suc r)) (x ∷ y ∷ xs) stop ≡ with_front (16 * v + w) (text_at (p + 2) r xs stop)
+    text_at p (suc (suc r)) (x ∷ y ∷ xs) stop ≡ with_byte (16 * v + w) (text_at (p + 2) r xs stop)
 unfolding text_at image_of bad_of ends_in_half
 text-pair p r x y v w xs stop e d f =
     let n = ending-pair p (bad_of (take r xs)) (drop r xs) (ends_in_half (take r xs)) (length xs) stop in

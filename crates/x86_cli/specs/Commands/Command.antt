@@ -9,7 +9,7 @@ use Rattle.x86_cli.specs.declared.outside.sink.SinkFailed.{SinkFailed}
 use Rattle.x86_cli.specs.declared.listings.status.Status.{Status}
 use Rattle.x86_cli.specs.Text.{Text, text_of}
 use Rattle.x86_cli.specs.Commands.Run.{Ran, Ahead}
-use Rattle.x86_layout.specs.Parts.Front.{parts_of}
+use Rattle.x86_layout.specs.Parts.OfBytes.{parts_of}
 use Rattle.x86_layout.specs.Tightening.Least.{shortest_length}
 use Rattle.x86_text.specs.Lines.{line_of}
 use Rattle.x86_text.specs.Parts.{fields_line}
@@ -38,7 +38,7 @@ command_of (a ∷ b ∷ c ∷ arguments) = None
 abbrev pub IfCommand : List (String Global) → (Command → Type 0) → Type 0
 IfCommand arguments says = IfSome (command_of (map string_bytes arguments)) says
 
--- what a command lists of a text that stands from a place on, and of a whole text
+-- what a command lists of a text from a place on, and of a whole text
 abbrev pub listed_at : Command → ℕ → Text → Listing
 listed_at (Listed strict) place t = listing_at strict (λ place instruction bytes. line_of place instruction) place t
 listed_at Fielded place t = listing_at false (λ place instruction bytes. fields_line place (parts_of false bytes)) place t
@@ -64,7 +64,7 @@ max_of Tightened = text_max
 max_of Swept = text_max
 max_of Targeted = targets_max
 
--- A command that goes on after refusals is never refused.
+-- A command that continues after refusals is never refused.
 abbrev pub goes_past_refusals : Command → Bool
 goes_past_refusals (Listed strict) = false
 goes_past_refusals Fielded = false

@@ -18,7 +18,7 @@ use Rattle.x86_cli.specs.Commands.Command.{command_of}
 use Rattle.x86_cli.specs.Listings.Line.{line}
 use Rattle.x86_cli.specs.Listings.Listing.{Listing}
 
--- ---- encoding i: opcode 03, a ModRM of the memory form, SIB where it asks one, and a displacement
+-- ---- encoding i: opcode 03, a ModRM of the memory form, SIB where ModRM requires one, and a displacement
 
 -- the memory forms are the ModRM bytes below 192, whose mod is 00, 01 or 10
 abbrev pub made_modrm : ℕ → ℕ
@@ -89,7 +89,7 @@ tally_text n t =
 abbrev pub make_max : ℕ
 make_max = 1000000
 
--- the arguments `make` and a decimal from 1 to that number, without a sign or a zero in front
+-- the arguments `make` and a decimal from 1 to that number, without a sign or a leading zero
 pub record IsMake (arguments : List (List ℕ)) (n : ℕ) : Type 0 where
   pub matched : arguments ≡ codes "make" ∷ decimal n ∷ []
   pub least : 1 ≤ n

@@ -68,7 +68,7 @@ module _ {W : Type 0} (writes : W → List ℕ → Result ℕ Error → W → Ty
       pub wrote : Finishes status bytes writer writer'
       pub lists : (xs : List ℕ) (s : Stop) → MayCome stop xs s → IsPrinted status bytes (listing_for c (text_of (max_of c) (concat pieces ++ xs) s))
 
--- ---- what that says where the reader tells the bytes that it has left, and the writer the bytes that it has
+-- ---- what that says where the bytes that the reader has left and those that the writer has are known
 
 -- The writer has what it had and then the listing, or a prefix of that at a write fault.
 abbrev pub Has : Status → Listing → Option (List ℕ) → Option (List ℕ) → Type 0

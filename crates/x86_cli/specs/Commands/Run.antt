@@ -6,9 +6,9 @@ use Rattle.x86_cli.specs.Outside.Stop.{Stop, Failed}
 use Rattle.x86_cli.specs.declared.listings.status.Status.{Status}
 use Rattle.x86_cli.specs.declared.listings.status.Status.TheVariants.{WriteFault}
 use Rattle.x86_cli.specs.Text.{Text, text_of}
-use Rattle.x86_cli.specs.Text.Reading.{Gave, Asked, AskedWhere, NeedsMore, MayCome}
+use Rattle.x86_cli.specs.Text.Reading.{SourceCalls, CalledWhileOpen, CalledWhere, NeedsMore, MayCome}
 use Rattle.x86_cli.specs.Listings.Listing.{Listing, with_lines}
-use Rattle.x86_cli.specs.Text.Window.{behind}
+use Rattle.x86_cli.specs.Text.Window.{with_bytes}
 
 -- The run wrote these lines of the listing and ended so: all of them, or those before the one at which the sink failed.
 abbrev pub Lists : Status → List (List ℕ) → Option (List ℕ) → Listing → Type 0
@@ -18,52 +18,54 @@ Lists status lines (Some failed) l = (status ≡ WriteFault) × ((more : List (L
 -- takes k piece answer l: a put of the piece at k may answer so, and leave l
 module _ {K : Type 0} (takes : K → List ℕ → Result ⊤ SinkFailed → K → Type 0) where
   -- The sink took these pieces, one a put, and then, where there is one, failed at a piece. Nothing was put after it.
-  abbrev pub Took : List (List ℕ) → Option (List ℕ) → K → K → Type 0
-  Took [] None k l = l ≡ k
-  Took [] (Some failed) k l = (e : SinkFailed) × takes k failed (Err e) l
-  Took (piece ∷ pieces) failed k l = (m : K) × takes k piece (Ok tt) m × Took pieces failed m l
+  abbrev pub SinkCalls : List (List ℕ) → Option (List ℕ) → K → K → Type 0
+  SinkCalls [] None k l = l ≡ k
+  SinkCalls [] (Some failed) k l = (e : SinkFailed) × takes k failed (Err e) l
+  SinkCalls (piece ∷ pieces) failed k l = (m : K) × takes k piece (Ok tt) m × SinkCalls pieces failed m l
 
   -- What a last line does: it is put, or the sink fails at it.
   abbrev pub Closes : Listing → Result Status SinkFailed → K → K → Type 0
-  Closes l (Ok status) old new = (status ≡ l.status) × Took l.lines None old new
+  Closes l (Ok status) old new = (status ≡ l.status) × SinkCalls l.lines None old new
   Closes l (Err e) old new = (failed : List ℕ) × (l.lines ≡ failed ∷ []) × takes old failed (Err e) new
 
   -- a run that reads nothing
   pub record Wrote (listing : Listing) (status : Status) (old new : K) : Type 0 where
     pub lines : List (List ℕ)
     pub failed : Option (List ℕ)
-    pub took : Took lines failed old new
+    pub sink_calls : SinkCalls lines failed old new
     pub lists : Lists status lines failed listing
 
--- A run: the calls of the source and of the sink, and of every text that begins with what the source gave, the listing.
+-- A run: the calls of the source and of the sink, and of every text that begins with what the source returned, the
+-- listing.
 pub record Ran {S K : Type 0} (gives : S → Got → S → Type 0) (takes : K → List ℕ → Result ⊤ SinkFailed → K → Type 0)
     (listing : Text → Listing) (max : ℕ) (status : Status) (source source' : S) (sink sink' : K) : Type 0 where
   pub bytes : List ℕ
   pub stop : Option Stop
-  pub gave : Gave gives bytes stop source source'
-  pub asked : Asked (text_of max) bytes stop
+  pub source_calls : SourceCalls gives bytes stop source source'
+  pub called : CalledWhileOpen (text_of max) bytes stop
   pub lines : List (List ℕ)
   pub failed : Option (List ℕ)
-  pub took : Took takes lines failed sink sink'
+  pub sink_calls : SinkCalls takes lines failed sink sink'
   pub lists : (xs : List ℕ) (s : Stop) → MayCome stop xs s → Lists status lines failed (listing (text_of max (bytes ++ xs) s))
 
 -- How far ahead of its lines a run reads. The lines shown are those of the bytes walked: every text that begins with
--- what the source gave has these bytes at the front of its image, and its listing is these lines and then that of the
--- rest. At most one line is put after them, a refusal's or an end's. The image of what was given has at most 15 bytes
--- more, and had fewer at each call of the source, which the text had not ended. This holds of every sink, also of one
+-- the image of what the source returned begins with these bytes, and its listing is these lines and then that of the
+-- rest. At most one line is put after them, a refusal's or an end's. The image of what was returned has at most 15
+-- bytes more, and had fewer at each call of the source, which the text had not ended. This holds of every sink, also
+-- of one
 -- that fails at a line: so each line is put before more is read.
 pub record Ahead (at : ℕ → Text → Listing) (text : List ℕ → Stop → Text) (bytes : List ℕ) (stop : Option Stop) (lines : List (List ℕ)) : Type 0 where
   pub walked : List ℕ
   pub few : length (text bytes Failed).image ≤ length walked + 15
-  pub asked : AskedWhere (NeedsMore (length walked + 15)) text bytes stop
+  pub called : CalledWhere (NeedsMore (length walked + 15)) text bytes stop
   pub shown : List (List ℕ)
   pub last : List (List ℕ)
   pub split : lines ≡ shown ++ last
   pub one : length last ≤ 1
   pub lists : (xs : List ℕ) (s : Stop) → MayCome stop xs s →
-      (rest : Text) × (text (bytes ++ xs) s ≡ behind walked rest) × (at 0 (text (bytes ++ xs) s) ≡ with_lines shown (at (length walked) rest))
+      (rest : Text) × (text (bytes ++ xs) s ≡ with_bytes walked rest) × (at 0 (text (bytes ++ xs) s) ≡ with_lines shown (at (length walked) rest))
 
--- A run that holds a window: at place text is the listing of a text that stands from a place on.
+-- A run that holds a window: at place text is the listing of a text from a place on.
 abbrev pub RanInWindow : {S K : Type 0} → (S → Got → S → Type 0) → (K → List ℕ → Result ⊤ SinkFailed → K → Type 0) →
     (ℕ → Text → Listing) → ℕ → Status → S → S → K → K → Type 0
 RanInWindow gives takes at max status source source' sink sink' =

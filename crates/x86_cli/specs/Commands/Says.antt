@@ -1,4 +1,4 @@
--- What a run says of a source that tells the bytes it has left, and of a sink that tells the bytes written.
+-- What a run says of a source and of a sink whose bytes are known.
 use Rattle.std.specs.Prelude.{◌≡◌, ◌⊎◌, ℕ, List, [], ◌++◌, Option, Some, IfSome}
 use Rattle.std.specs.List.{concat}
 use Rattle.std.specs.Io.KnownBytes.{Consumes, Appends}
@@ -23,7 +23,7 @@ abbrev pub streams_of : {S K : Type 0} → (S → Option (List ℕ)) → (S → 
 streams_of left faults written others source sink =
     record { left = left source; source_faults = faults source; written = written sink; sink_faults = others sink }
 
--- the listing of all the bytes b that a source tells, and that of the bytes t that were taken of it
+-- the listing of all the bytes b that a source has, and that of the bytes t that were taken of it
 abbrev pub full_listing : Command → List ℕ → Listing
 full_listing c b = listing_for c (text_of (max_of c) b End)
 
@@ -41,7 +41,7 @@ pub record WritesPrefix (written written' : Option (List ℕ)) (l : Listing) : T
   pub whole : concat l.lines ≡ part ++ more
   pub wrote : Appends written written' part
 
--- Where the source tells its bytes, this holds of the listing of all of them.
+-- Where the source's bytes are known, this holds of the listing of all of them.
 abbrev pub OfAll : (Listing → Type 0) → Command → Streams → Type 0
 OfAll Holds c old = IfSome old.left (λ b. Holds (full_listing c b))
 

@@ -13,8 +13,8 @@ use Rattle.x86_cli.specs.Listings.Line.{line, bad_text}
 use Rattle.x86_cli.specs.declared.listings.status.Status.{Status}
 use Rattle.x86_cli.specs.declared.listings.status.Status.TheVariants.{Done, BadText, TooLarge, ReadFault}
 use Rattle.x86_cli.specs.declared.listings.status.Status.TheVariants as status
-use Rattle.x86_cli.specs.declared.text.window.Front.{Front}
-use Rattle.x86_cli.specs.declared.text.window.Front.TheVariants.{Whole, Refused, Ended}
+use Rattle.x86_cli.specs.declared.text.window.Decoded.{Decoded}
+use Rattle.x86_cli.specs.declared.text.window.Decoded.TheVariants.{Whole, Refused, Ended}
 
 -- the lines that are written, and the status
 pub record Listing : Type 0 where
@@ -22,7 +22,7 @@ pub record Listing : Type 0 where
   pub status : Status
 
 abbrev pub with_lines : List (List ℕ) → Listing → Listing
-with_lines front l = record { lines = front ++ l.lines; status = l.status }
+with_lines beginning l = record { lines = beginning ++ l.lines; status = l.status }
 
 abbrev pub at_end : Ending → Listing
 at_end Clean = record { lines = []; status = Done }
@@ -35,34 +35,34 @@ abbrev pub at_refusal : ℕ → DecodeError → Listing
 at_refusal place error = record { lines = line (refusal_of place error) ∷ []; status = status.Refused }
 
 -- An end that isn't clean overrules a refusal that more bytes could lift.
-abbrev pub judged : Result Instruction DecodeError → Ending → Front Instruction
-judged (Ok i) e = Whole i
-judged (Err ExhaustedInput) (Bad n) = Ended (Bad n)
-judged (Err ExhaustedInput) Large = Ended Large
-judged (Err ExhaustedInput) Fault = Ended Fault
-judged (Err error) e = Refused error
+abbrev pub decoded_at_end : Result Instruction DecodeError → Ending → Decoded Instruction
+decoded_at_end (Ok i) e = Whole i
+decoded_at_end (Err ExhaustedInput) (Bad n) = Ended (Bad n)
+decoded_at_end (Err ExhaustedInput) Large = Ended Large
+decoded_at_end (Err ExhaustedInput) Fault = Ended Fault
+decoded_at_end (Err error) e = Refused error
 
 -- where more bytes lift nothing
-abbrev pub sure_of : Result Instruction DecodeError → Front Instruction
-sure_of (Ok i) = Whole i
-sure_of (Err error) = Refused error
+abbrev pub decoded_before_end : Result Instruction DecodeError → Decoded Instruction
+decoded_before_end (Ok i) = Whole i
+decoded_before_end (Err error) = Refused error
 
--- what stands at the front of an image
-unfoldable pub front_of : Bool → List ℕ → Ending → Front Instruction
-front_of strict [] e = Ended e
-front_of strict (x ∷ xs) e = judged (answer_of strict (x ∷ xs)) e
+-- what decoding an image yields
+unfoldable pub decoded_of : Bool → List ℕ → Ending → Decoded Instruction
+decoded_of strict [] e = Ended e
+decoded_of strict (x ∷ xs) e = decoded_at_end (answer_of strict (x ∷ xs)) e
 
 -- The listings of commands differ in the line of an instruction, which may look at the instruction's bytes.
 module _ (strict : Bool) (text : ℕ → Instruction → List ℕ → List ℕ) where
-  abbrev pub listed : Front Instruction → ℕ → List ℕ → (ℕ → Listing) → Listing
+  abbrev pub listed : Decoded Instruction → ℕ → List ℕ → (ℕ → Listing) → Listing
   listed (Whole i) place bytes after = with_lines (line (text place i (take (length_of i) bytes)) ∷ []) (after (length_of i - 1))
   listed (Refused error) place bytes after = at_refusal place error
   listed (Ended e) place bytes after = at_end e
 
-  -- the listing of an image that stands from a place on, without its first bytes that belong to an instruction before
+  -- the listing of an image from a place on, without its first bytes that belong to an instruction before
   unfoldable pub listing_from : ℕ → ℕ → List ℕ → Ending → Listing
   listing_from place skip [] e = at_end e
-  listing_from place zero (x ∷ xs) e = listed (front_of strict (x ∷ xs) e) place (x ∷ xs) (λ skip. listing_from (place + 1) skip xs e)
+  listing_from place zero (x ∷ xs) e = listed (decoded_of strict (x ∷ xs) e) place (x ∷ xs) (λ skip. listing_from (place + 1) skip xs e)
   listing_from place (suc skip) (x ∷ xs) e = listing_from (place + 1) skip xs e
 
   abbrev pub listing_at : ℕ → Text → Listing

@@ -1,4 +1,4 @@
--- What stands next in a listing.
+-- The next step of a listing.
 use Rattle.std.specs.Prelude.{◌≡◌, ℕ, ◌+◌, ◌<◌, ◌≤◌, List, [], ◌∷◌, length, drop, Option}
 use Rattle.x86_cli.specs.declared.text.reader.Ending.{Ending}
 use Rattle.x86_cli.specs.declared.listings.listing.Step.{Step}
@@ -9,7 +9,7 @@ use Rattle.x86_cli.specs.Text.Window.{rest_of}
 use Rattle.x86_cli.specs.Listings.Line.{line}
 use Rattle.x86_cli.specs.Listings.Listing.{Listing, with_lines, at_end, at_refusal}
 
--- What stands next at a place, whatever follows: the listing of what is left is this line and that of the bytes behind
+-- The next step at a place, whatever follows: the listing of what is left is this line and that of the bytes after
 -- it, or a refusal's, or an end's.
 abbrev pub IsStep : (ℕ → Text → Listing) → Step → ℕ → List ℕ → Option Ending → List ℕ → ℕ → ℕ → Type 0
 IsStep at (Line n) place text ended window position room = (0 < n) × (n ≤ length window) × ((xs : List ℕ) (stop : Stop) →

@@ -18,7 +18,7 @@ cut_text place (Err e) = refusal_of place e
 abbrev pub cut_line : Cut → List ℕ
 cut_line c = line (cut_text c.place c.answer)
 
--- The sweep of a text whose image stands from a place on: a line for each cut of the image, in order, and then the
+-- The sweep of a text whose image begins at a place: a line for each cut of the image, in order, and then the
 -- end's.
 abbrev pub sweep_at : Bool → ℕ → Text → Listing
 sweep_at strict place t = with_lines (map cut_line (cuts_from strict place t.image)) (at_end t.ending)

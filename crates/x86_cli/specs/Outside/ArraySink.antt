@@ -7,7 +7,7 @@ use Rattle.x86_cli.specs.Outside.Calls.{counts, next_call}
 abbrev pub is_chosen : ℕ → ℕ → Bool
 is_chosen call fails = counts call && (call == fails)
 
--- a piece behind what was written, as far as it fits
+-- a piece after what was written, as far as it fits
 abbrev pub as_far_as_fits : ℕ → List ℕ → List ℕ → List ℕ
 as_far_as_fits capacity written piece = written ++ take (capacity - length written) piece
 

@@ -5,6 +5,6 @@ use Rattle.std.specs.Prelude.{ℕ, ◌+◌, Bool, nat_lt, if◌then◌else◌}
 abbrev pub counts : ℕ → Bool
 counts call = nat_lt call 18446744073709551615
 
--- the number of the call behind this one
+-- the number of the call after this one
 abbrev pub next_call : ℕ → ℕ
 next_call call = if counts call then call + 1 else call

@@ -25,11 +25,11 @@ abbrev pub sink_writer : {W : Type 0} → StdSink W → W
 sink_writer s = s.writer
 
 -- the writer after a buffer, and what the buffer holds
-abbrev pub writer_behind : {W : Type 0} → Gathered W → W
-writer_behind g = g.writer
+abbrev pub buffer_writer : {W : Type 0} → Gathered W → W
+buffer_writer g = g.writer
 
-abbrev pub held_bytes : {W : Type 0} → Gathered W → List ℕ
-held_bytes g = g.bytes.items
+abbrev pub buffer_bytes : {W : Type 0} → Gathered W → List ℕ
+buffer_bytes g = g.bytes.items
 
 -- the reader of a source, and what it holds of the bytes that were read
 abbrev pub source_reader : {R : Type 0} → {g : _} → StdSource R g → R

@@ -4,7 +4,7 @@ use Rattle.std.specs.Io.KnownBytes.{Appends}
 use Rattle.x86_cli.specs.declared.outside.sink.SinkFailed.{SinkFailed}
 use Rattle.x86_cli.specs.Outside.FaultCounts.{Rose}
 
--- What a put says of the bytes written, where the sink tells them, and of its faults.
-abbrev pub TellsPut : Result ⊤ SinkFailed → List ℕ → Option (List ℕ) → Option (List ℕ) → ℕ → ℕ → Type 0
-TellsPut (Ok done) piece written written' faults faults' = Appends written written' piece × (faults' ≡ faults)
-TellsPut (Err e) piece written written' faults faults' = ((n : ℕ) × Appends written written' (take n piece)) × Rose faults faults'
+-- What a put says of the bytes written, where they are known, and of its faults.
+abbrev pub ReportsPut : Result ⊤ SinkFailed → List ℕ → Option (List ℕ) → Option (List ℕ) → ℕ → ℕ → Type 0
+ReportsPut (Ok done) piece written written' faults faults' = Appends written written' piece × (faults' ≡ faults)
+ReportsPut (Err e) piece written written' faults faults' = ((n : ℕ) × Appends written written' (take n piece)) × Rose faults faults'

@@ -23,6 +23,6 @@ CountsFailed (Byte b) old new = new ≡ old
 CountsFailed End old new = new ≡ old
 CountsFailed Failed old new = Rose old new
 
--- What a call of a source says of its bytes, where it tells them, and of its faults.
-abbrev pub TellsGot : Got → Option (List ℕ) → Option (List ℕ) → ℕ → ℕ → Type 0
-TellsGot g left left' faults faults' = Consumes left left' (taken g) × EndsOnly g left × CountsFailed g faults faults'
+-- What a call of a source says of its bytes, where they are known, and of its faults.
+abbrev pub ReportsGot : Got → Option (List ℕ) → Option (List ℕ) → ℕ → ℕ → Type 0
+ReportsGot g left left' faults faults' = Consumes left left' (taken g) × EndsOnly g left × CountsFailed g faults faults'

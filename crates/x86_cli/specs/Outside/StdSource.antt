@@ -6,14 +6,14 @@ use Rattle.x86_cli.specs.declared.outside.source.Got.{Got}
 use Rattle.x86_cli.specs.declared.outside.source.Got.TheVariants.{Byte, End, Failed}
 use Rattle.x86_cli.specs.declared.outside.std_source.Refill.{Refill}
 use Rattle.x86_cli.specs.declared.outside.std_source.Refill.TheVariants as refill
-use Rattle.x86_cli.specs.Outside.Source.{TellsGot}
+use Rattle.x86_cli.specs.Outside.Source.{ReportsGot}
 use Rattle.x86_cli.specs.Outside.Reads.{ReadsBytes, ReadsEnd, ReadsFault}
 
 -- What a refill says: where bytes came, they are all that was left, and else it says what the call of the source says.
-abbrev pub TellsRefill : Refill → Option (List ℕ) → Option (List ℕ) → ℕ → ℕ → Type 0
-TellsRefill refill.Bytes left left' faults faults' = Consumes left left' [] × (faults' ≡ faults)
-TellsRefill refill.Nothing left left' faults faults' = TellsGot End left left' faults faults'
-TellsRefill refill.Fault left left' faults faults' = TellsGot Failed left left' faults faults'
+abbrev pub ReportsRefill : Refill → Option (List ℕ) → Option (List ℕ) → ℕ → ℕ → Type 0
+ReportsRefill refill.Bytes left left' faults faults' = Consumes left left' [] × (faults' ≡ faults)
+ReportsRefill refill.Nothing left left' faults faults' = ReportsGot End left left' faults faults'
+ReportsRefill refill.Fault left left' faults faults' = ReportsGot Failed left left' faults faults'
 
 -- reads r buffer answer r': a read of r may answer so, with this in its buffer, and leave r'
 module _ {R : Type 0} (reads : R → List ℕ → Result ℕ Error → R → Type 0) where

@@ -18,17 +18,17 @@ abbrev pub sent_by : Call → List ℕ
 sent_by (Write bytes answer) = taken_by answer bytes
 sent_by (Flush answer) = []
 
--- the bytes that the writer took in these calls, the last call in front
+-- the bytes that the writer took in these calls, the last call first
 abbrev pub sent : List Call → List ℕ
 sent [] = []
 sent (c ∷ cs) = sent cs ++ sent_by c
 
 -- A call after which the next is made: it took a byte at least, or a signal interrupted it.
-abbrev pub GoesOn : Call → Type 0
-GoesOn (Write bytes (Ok n)) = 0 < n
-GoesOn (Write bytes (Err e)) = error_kind e ≡ Interrupted
-GoesOn (Flush (Ok done)) = ⊤
-GoesOn (Flush (Err e)) = ⊥
+abbrev pub Continues : Call → Type 0
+Continues (Write bytes (Ok n)) = 0 < n
+Continues (Write bytes (Err e)) = error_kind e ≡ Interrupted
+Continues (Flush (Ok done)) = ⊤
+Continues (Flush (Err e)) = ⊥
 
 -- A call that failed: its answer is an error, or it took none of bytes that aren't empty.
 abbrev pub Fails : Call → Type 0
@@ -37,20 +37,20 @@ Fails (Write bytes (Err e)) = ⊤
 Fails (Flush (Ok done)) = ⊥
 Fails (Flush (Err e)) = ⊤
 
-abbrev pub AllGoOn : List Call → Type 0
-AllGoOn [] = ⊤
-AllGoOn (c ∷ cs) = GoesOn c × AllGoOn cs
+abbrev pub AllContinue : List Call → Type 0
+AllContinue [] = ⊤
+AllContinue (c ∷ cs) = Continues c × AllContinue cs
 
 -- An error comes only where the last call failed, and success only where none did.
 abbrev pub Cause : {A E : Type 0} → Result A E → List Call → Type 0
-Cause (Ok x) cs = AllGoOn cs
+Cause (Ok x) cs = AllContinue cs
 Cause (Err e) [] = ⊥
-Cause (Err e) (c ∷ cs) = Fails c × AllGoOn cs
+Cause (Err e) (c ∷ cs) = Fails c × AllContinue cs
 
 -- A write of a buffer is never to be tried again. It takes a byte of bytes that aren't empty, or fails.
-abbrev pub Settles : Result ℕ Error → List ℕ → Type 0
-Settles (Ok n) bytes = n ≡ 0 → length bytes ≡ 0
-Settles (Err e) bytes = error_kind e ≢ Interrupted
+abbrev pub IsFinalWrite : Result ℕ Error → List ℕ → Type 0
+IsFinalWrite (Ok n) bytes = n ≡ 0 → length bytes ≡ 0
+IsFinalWrite (Err e) bytes = error_kind e ≢ Interrupted
 
 -- The last call was a flush that succeeded.
 abbrev pub EndsInFlush : List Call → Type 0
@@ -65,7 +65,7 @@ module _ {W : Type 0} (writes : W → List ℕ → Result ℕ Error → W → Ty
   Does (Write bytes answer) w w' = writes w bytes answer w'
   Does (Flush answer) w w' = flushes w answer w'
 
-  -- These calls, the last in front, led from one state of the writer to the other.
+  -- These calls, the last first, led from one state of the writer to the other.
   abbrev pub WriterCalls : List Call → W → W → Type 0
   WriterCalls [] w w' = w' ≡ w
   WriterCalls (c ∷ cs) w w' = (v : W) × WriterCalls cs w v × Does c v w'

@@ -7,7 +7,7 @@ pub data Item : Type 0 where
   blank : ℕ → Item
   pair : ℕ → ℕ → Item
 
--- its bytes, and what they give to the image
+-- its bytes, and what they add to the image
 abbrev pub bytes_of : Item → List ℕ
 bytes_of (blank b) = b ∷ []
 bytes_of (pair high low) = high ∷ low ∷ []
@@ -47,8 +47,8 @@ SequencesAreSound =
     ((bytes : List ℕ) → bad_of bytes ≡ None → (half : List ℕ) × IsSequence bytes (image_of bytes) half × (ends_in_half bytes ≡ is_half half))
     × ((bytes image half : List ℕ) → IsSequence bytes image half → (bad_of bytes ≡ None) × (image_of bytes ≡ image) × (ends_in_half bytes ≡ is_half half))
 
--- A bad position is the first byte that ends no front that is a sequence: each front up to it has no bad byte, and
--- the one with it has. The image is that of the bytes before.
+-- A bad position is that of the first byte that ends no beginning that is a sequence: each beginning up to it has no
+-- bad byte, and the one with it has. The image is that of the bytes before.
 abbrev pub BadIsFirst : Type 0
 BadIsFirst = (bytes : List ℕ) (n : ℕ) → bad_of bytes ≡ Some n →
     (n < length bytes) × ((m : ℕ) → m ≤ n → bad_of (take m bytes) ≡ None) × (bad_of (take (n + 1) bytes) ≡ Some n)

@@ -70,7 +70,7 @@ fn command_of(arguments: &[String]) -> Option<Command>
     }
 }
 
-/// How many encodings the arguments ask to be made.
+/// How many encodings the arguments request.
 fn made_from(arguments: &[String]) -> Option<u32>
     ensures found { IfSome result (λ n. IsMake (map string_bytes arguments.now) n) }
     ensures every { (n : ℕ) → IsMake (map string_bytes arguments.now) n → result ≡ Some n }
@@ -135,8 +135,9 @@ fn obey<S: Source, K: Sink>(command: Command, source: &mut S, sink: &mut K) -> S
 /// - `WriteFault`: the sink failed at the last put. What was written is a prefix of the listing.
 /// - `TooLarge`: the whole listing was put, of the bytes that may be read; its last line is `text too long`.
 ///
-/// `ran` and `made` hold for every source and sink and name each call; `says` is about what these tell. What follows
-/// from the clauses is a law: `laws::told` and `made` (what calls say of bytes and faults), `causes`, `read_faults` and
+/// `ran` and `made` hold for every source and sink and name each call; `says` is about those whose bytes are known.
+/// What follows
+/// from the clauses is a law: `laws::reported` and `made` (what calls say of bytes and faults), `causes`, `read_faults` and
 /// `write_faults` (what a fault comes from), `exact` and `unrefused` (where a status comes), `complete` (where all is
 /// listed).
 pub fn run<S: Source, K: Sink>(words: &[String], source: &mut S, sink: &mut K) -> Status

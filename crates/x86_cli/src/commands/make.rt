@@ -170,7 +170,7 @@ fn tally_line(count: u32, tally: &Tally) -> Line
     line
 }
 
-/// Whether an argument is the decimal of a count, without a sign or a zero in front.
+/// Whether an argument is the decimal of a count, without a sign or a leading zero.
 fn is_decimal(argument: &str, count: u32) -> bool
     ensures { IsTrue result ↔ (argument.now ≡ decimal count) }
 {
@@ -178,7 +178,7 @@ fn is_decimal(argument: &str, count: u32) -> bool
     buffer.format(count) == argument
 }
 
-/// The count that an argument spells: a decimal from 1 to `MAKE_MAX`, without a sign or a zero in front.
+/// The count that an argument spells: a decimal from 1 to `MAKE_MAX`, without a sign or a leading zero.
 pub fn count_from(argument: &str) -> Option<u32>
     ensures found { IfSome result (λ n. (1 ≤ n) × (n ≤ make_max) × (argument.now ≡ decimal n)) }
     ensures every { (n : ℕ) → 1 ≤ n → n ≤ make_max → argument.now ≡ decimal n → result ≡ Some n }

@@ -5,7 +5,7 @@ ghost use Rattle.x86_cli.specs.Commands.Command.{IfCommand, command_of};
 ghost use Rattle.x86_cli.specs.Commands.Make.{IsMake, IsNoCommand};
 ghost use Rattle.x86_cli.specs.Commands.Program.{ending_of, Performs, PerformsMake};
 ghost use Rattle.x86_cli.specs.Outside.Writes.{FlushesOut};
-ghost use Rattle.x86_cli.specs.Outside.Seen.{writer_behind, held_bytes};
+ghost use Rattle.x86_cli.specs.Outside.Seen.{buffer_writer, buffer_bytes};
 
 use crate::commands::command::run;
 use crate::listings::status::Status;
@@ -16,7 +16,7 @@ use crate::outside::sink::SinkFailed;
 use crate::outside::std_sink::StdSink;
 use crate::outside::std_source::StdSource;
 
-/// How the program ended, and the reader and the writer that it was given, as it leaves them.
+/// How the program ended, and its reader and its writer, as it leaves them.
 #[derive(Drop)]
 pub struct Finished<R: Drop, W: Drop> {
     pub status: Status,
@@ -30,8 +30,8 @@ fn send_rest<W: Output + Drop>(status: Status, out: &mut Gathered<W>) -> Result<
     ensures usage { status ≡ Status.Usage → out.new ≡ out.old }
     ensures failed { status ≡ Status.WriteFault → out.new ≡ out.old }
     ensures sends { status ≢ Status.Usage → status ≢ Status.WriteFault →
-        FlushesOut W.writes W.flushes result (held_bytes out.old) (held_bytes out.new)
-        (writer_behind out.old) (writer_behind out.new) }
+        FlushesOut W.writes W.flushes result (buffer_bytes out.old) (buffer_bytes out.new)
+        (buffer_writer out.old) (buffer_writer out.new) }
     ensures nothing { status ≡ Status.Usage → IsOk result }
 {
     match status {

@@ -1,6 +1,6 @@
 //! The lines of the parts of encodings.
 
-ghost use Rattle.x86_layout.specs.Parts.Front.{parts_of};
+ghost use Rattle.x86_layout.specs.Parts.OfBytes.{parts_of};
 ghost use Rattle.x86_text.specs.Parts.{fields_line};
 
 use crate::listings::line::Lines;

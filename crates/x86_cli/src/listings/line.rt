@@ -13,7 +13,7 @@ use x86_text::{LINE_MAX, Line, Place, write_instruction};
 
 /// What a command writes for an instruction.
 pub trait Lines {
-    /// The line of an instruction at a place, under a choice and given its bytes.
+    /// The line of an instruction at a place, under a choice, from its bytes.
     ghost text: { Self → Bool → ℕ → Instruction → List ℕ → List ℕ };
 
     /// Writes that line over another, without its end. The bytes are those of the instruction.
@@ -50,7 +50,7 @@ impl Lines for Plain {
     }
 }
 
-/// The line of a text whose byte at a position can't stand there, without its end.
+/// The line of a text whose byte at a position isn't allowed there, without its end.
 #[tactic(auto, unfolding(crate::specs::Listings::Line::bad_text))]
 pub fn bad_text(position: u64) -> Line
     ensures text { result.items ≡ bad_text position }

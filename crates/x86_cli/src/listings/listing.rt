@@ -16,7 +16,7 @@ use crate::listings::status::Status;
 use crate::outside::sink::{Sink, SinkFailed};
 use crate::outside::source::Source;
 use crate::text::reader::Ending;
-use crate::text::window::{Front, Window};
+use crate::text::window::{Decoded, Window};
 use x86_decode::{InstDecoder, Instruction};
 use x86_fields::DecodeError;
 use x86_text::{LINE_MAX, Line, Place, refusal_of};
@@ -50,7 +50,7 @@ fn constant(text: &[u8]) -> Line
     line
 }
 
-/// Writes what an end asks.
+/// Writes the line of an end, if it has one.
 pub fn end<K: Sink>(sink: &mut K, ending: Ending) -> Result<Status, SinkFailed>
     ensures { Closes K.takes (at_end ending) result sink.old sink.new }
 {
@@ -77,7 +77,7 @@ fn length_of(instruction: &Instruction) -> u64
     instruction.len().to_const()
 }
 
-/// What stands next in a listing: a line, or its end.
+/// The next step of a listing: a line, or its end.
 pub enum Step {
     /// A line, and how many bytes of the image it is of.
     Line(u64),
@@ -89,10 +89,10 @@ pub enum Step {
 
 /// How a listing goes through an image.
 pub trait Course {
-    /// The listing of a text that stands from a place on.
+    /// The listing of a text from a place on.
     ghost lists: { Self → Bool → ℕ → Text → Listing };
 
-    /// What stands next, at a place. A line is written over the one given, without its end.
+    /// The next step at a place. A line is written over `line`, without its end.
     fn next(
         &self,
         decoder: &InstDecoder,
@@ -128,20 +128,20 @@ impl<L: Lines + Drop> Course for UpToRefusal<L> {
         line: &mut Line,
     ) -> Step {
         decoder_laws();
-        match window.front(decoder, inst) {
-            Front::Whole(()) => {
+        match window.decode_next(decoder, inst) {
+            Decoded::Whole(()) => {
                 let length = length_of(inst);
                 let bytes = window.first(length as usize);
                 self.lines.write(decoder, place, inst, bytes, line);
                 Step::Line(length)
             }
-            Front::Refused(error) => Step::Refused(error),
-            Front::Ended(ending) => Step::Ended(ending),
+            Decoded::Refused(error) => Step::Refused(error),
+            Decoded::Ended(ending) => Step::Ended(ending),
         }
     }
 }
 
-/// Writes the listing of the text that the source gives.
+/// Writes the listing of the source's text.
 pub fn list<W: Course, S: Source, K: Sink>(
     decoder: &InstDecoder,
     course: &W,

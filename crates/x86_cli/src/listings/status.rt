@@ -12,7 +12,7 @@ pub enum Status {
     Usage,
     /// The listing ended in a refusal.
     Refused,
-    /// A byte of the text can't stand at its place.
+    /// A byte of the text isn't allowed at its place.
     BadText,
     /// The source failed, and the listing reached that place.
     ReadFault,

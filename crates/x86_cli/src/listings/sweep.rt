@@ -1,4 +1,4 @@
-//! The sweep: a listing that goes on behind a refusal.
+//! The sweep: a listing that continues after a refusal.
 
 ghost use Rattle.std.specs.Prelude.{◌≡◌, ◌≤◌};
 ghost use Rattle.arrayvec.specs.ArrayVec.{array_vec_len};
@@ -16,7 +16,7 @@ use x86_text::{LINE_MAX, Line, Place, write_instruction, write_refusal};
 /// The listing of `sweep`: a line for each cut.
 pub struct PastRefusals;
 
-/// Writes the line of a cut at a place over another, without its end. The instruction of a cut stands beside its
+/// Writes the line of a cut at a place over another, without its end. The instruction of a cut is beside its
 /// answer.
 fn write_cut(line: &mut Line, place: &Place, inst: &Instruction, answer: Result<(), DecodeError>)
     ensures text { line.new.items ≡ cut_text place.now (holding inst.now answer) }

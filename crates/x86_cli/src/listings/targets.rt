@@ -5,9 +5,9 @@ ghost use Rattle.std.specs.Prelude.{◌≡◌, ℕ, ◌*◌, ◌<◌, ◌≤◌,
 ghost use Rattle.x86_cli.specs.Text.{text_of};
 ghost use Rattle.arrayvec.specs.ArrayVec.{array_vec_len};
 ghost use Rattle.x86_layout.specs.Sweeps.Marks.{is_marked};
-ghost use Rattle.x86_cli.specs.Commands.Run.{Ran, Took};
+ghost use Rattle.x86_cli.specs.Commands.Run.{Ran, SinkCalls};
 ghost use Rattle.x86_cli.specs.Listings.Targets.{place_line, lines_if, targets_at};
-ghost use Rattle.x86_cli.specs.Text.Reading.{IsOpen};
+ghost use Rattle.x86_cli.specs.Text.Reading.{IsOpenText};
 ghost use Rattle.x86_cli.specs.Text.Window.{Fills};
 
 use crate::listings::listing::{end, put_line};
@@ -25,15 +25,15 @@ const IMAGE_MAX: usize = 8192;
 
 /// A text that is read to its end, its image held whole.
 #[derive(Drop)]
-struct HeldText {
+struct WholeText {
     image: ArrayVec<u8, IMAGE_MAX>,
     ending: Ending,
 }
 
 /// Reads a text to its end. Each byte of the image takes at least two bytes of text.
-fn read_whole<S: Source>(max: u64, source: &mut S) -> HeldText
+fn read_whole<S: Source>(max: u64, source: &mut S) -> WholeText
     requires { max ≤ 2 * IMAGE_MAX }
-    ensures { Fills S.gives IsOpen (text_of max)
+    ensures { Fills S.gives IsOpenText (text_of max)
         (Some result.ending) result.image.items 0 0 source.old source.new }
 {
     let mut image = ArrayVec::new();
@@ -41,7 +41,7 @@ fn read_whole<S: Source>(max: u64, source: &mut S) -> HeldText
     'pairs: loop {
         match reader.next(source) {
             Piece::Byte(byte) => image.push(byte),
-            Piece::Stopped(ending) => return HeldText { image, ending },
+            Piece::Stopped(ending) => return WholeText { image, ending },
         }
     }
 }
@@ -66,7 +66,7 @@ fn decimal(place: u64) -> Line
 
 /// Writes the line of a place, where it is marked.
 fn put_if_marked<K: Sink>(sink: &mut K, marked: bool, place: u64) -> Result<(), SinkFailed>
-    ensures ok { OnOk result (Took K.takes (lines_if marked place) None sink.old sink.new) }
+    ensures ok { OnOk result (SinkCalls K.takes (lines_if marked place) None sink.old sink.new) }
     ensures failed { IfErr result
         (λ e. (marked ≡ true) × K.takes sink.old (place_line place) (Err e) sink.new) }
 {

@@ -1,7 +1,7 @@
 //! A sink of fixed size, of which a chosen put fails.
 
 ghost use Rattle.std.specs.Prelude.{◌≡◌, Some, []};
-ghost use Rattle.x86_cli.specs.Outside.Sink.{TellsPut};
+ghost use Rattle.x86_cli.specs.Outside.Sink.{ReportsPut};
 ghost use Rattle.x86_cli.specs.Outside.ArraySink.{PutByNumber, is_chosen};
 ghost use Rattle.x86_cli.specs.Outside.Seen.{array_call, array_fails};
 
@@ -60,12 +60,12 @@ impl<const N: usize> Sink for ArraySink<N> {
 
     ghost faults = { λ s. s.faults };
 
-    ghost takes = { λ s piece r t. TellsPut r piece (Some s.bytes.items)
+    ghost takes = { λ s piece r t. ReportsPut r piece (Some s.bytes.items)
         (Some t.bytes.items) s.faults t.faults
         × PutByNumber r N piece s.bytes.items t.bytes.items (array_call s) (array_call t)
         (array_fails s) (array_fails t) };
 
-    ghost tells = { λ s piece r t h. h.0 };
+    ghost reports = { λ s piece r t h. h.0 };
 
     fn put(&mut self, piece: &[u8]) -> Result<(), SinkFailed> {
         let failed = self.fails_now();

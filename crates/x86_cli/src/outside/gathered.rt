@@ -2,8 +2,8 @@
 
 ghost use Rattle.std.specs.Prelude.{◌≡◌, None, [], length, OnOk, IfOk};
 ghost use Rattle.std.specs.Io.{WritesAtMost};
-ghost use Rattle.x86_cli.specs.Outside.Writes.{Forwards, FlushesOut, Settles, taken_by};
-ghost use Rattle.x86_cli.specs.Outside.Seen.{writer_behind, held_bytes};
+ghost use Rattle.x86_cli.specs.Outside.Writes.{Forwards, FlushesOut, IsFinalWrite, taken_by};
+ghost use Rattle.x86_cli.specs.Outside.Seen.{buffer_writer, buffer_bytes};
 
 use crate::outside::output::Output;
 use crate::outside::sending::send_out;
@@ -14,7 +14,7 @@ use x86_text::Room;
 
 const SIZE: usize = 65536;
 
-/// A writer that gathers what it is given in a buffer of 64 KiB, and sends it when that is full or at a flush. What a
+/// A writer that gathers bytes in a buffer of 64 KiB, and sends it when that is full or at a flush. What a
 /// failed write leaves unsent stays in the buffer, so no byte is sent twice. An error says that the writer failed, and
 /// not how, since a sink needs no more.
 #[derive(Drop)]
@@ -26,8 +26,8 @@ pub struct Gathered<W: Output + Drop> {
 impl<W: Output + Drop> Gathered<W> {
     /// Gathers for the writer, with nothing gathered.
     pub fn new(writer: W) -> Gathered<W>
-        ensures writer { writer_behind result ≡ writer }
-        ensures empty { held_bytes result ≡ [] }
+        ensures writer { buffer_writer result ≡ writer }
+        ensures empty { buffer_bytes result ≡ [] }
     {
         Gathered {
             writer,
@@ -35,18 +35,18 @@ impl<W: Output + Drop> Gathered<W> {
         }
     }
 
-    /// Gives the writer back. What is still gathered is let go.
+    /// Returns the writer. What is still gathered is dropped.
     pub fn into_writer(self) -> W
-        ensures { result ≡ writer_behind self }
+        ensures { result ≡ buffer_writer self }
     {
         self.writer
     }
 
     /// Sends what was gathered.
     fn send(&mut self) -> Result<(), SinkFailed>
-        ensures empty { OnOk result (held_bytes self.new ≡ []) }
-        ensures forwards { Forwards W.writes W.flushes result [] (held_bytes self.old)
-            (held_bytes self.new) (writer_behind self.old) (writer_behind self.new) }
+        ensures empty { OnOk result (buffer_bytes self.new ≡ []) }
+        ensures forwards { Forwards W.writes W.flushes result [] (buffer_bytes self.old)
+            (buffer_bytes self.new) (buffer_writer self.old) (buffer_writer self.new) }
     {
         let (sent, result) = send_out(&mut self.writer, self.bytes.as_slice());
         self.bytes.leave(sent);
@@ -60,8 +60,8 @@ impl<W: Output + Drop> Gathered<W> {
         ensures bound { WritesAtMost result buf.now }
         ensures some { IfOk result (λ n. n ≡ 0 → length buf.now ≡ 0) }
         ensures forwards { Forwards W.writes W.flushes result (taken_by result buf.now)
-            (held_bytes self.old) (held_bytes self.new) (writer_behind self.old)
-            (writer_behind self.new) }
+            (buffer_bytes self.old) (buffer_bytes self.new) (buffer_writer self.old)
+            (buffer_writer self.new) }
     {
         if self.bytes.left() == 0 {
             self.send()?;
@@ -74,8 +74,9 @@ impl<W: Output + Drop> Gathered<W> {
 
     /// Sends what was gathered, and flushes the writer.
     pub fn send_all(&mut self) -> Result<(), SinkFailed>
-        ensures { FlushesOut W.writes W.flushes result (held_bytes self.old) (held_bytes self.new)
-            (writer_behind self.old) (writer_behind self.new) }
+        ensures { FlushesOut W.writes W.flushes result (buffer_bytes self.old)
+            (buffer_bytes self.new)
+            (buffer_writer self.old) (buffer_writer self.new) }
     {
         self.send()?;
         match self.writer.flush() {
@@ -85,15 +86,16 @@ impl<W: Output + Drop> Gathered<W> {
     }
 }
 
-/// What it writes is told by the calls of its writer, `Forwards`.
+/// What it writes is known from the calls of its writer, `Forwards`.
 impl<W: Output + Drop> Output for Gathered<W> {
     ghost written = { λ s. None };
 
     ghost writes = { λ s buf r t. Forwards W.writes W.flushes r (taken_by r buf)
-        (held_bytes s) (held_bytes t) (writer_behind s) (writer_behind t) × Settles r buf };
+        (buffer_bytes s) (buffer_bytes t) (buffer_writer s) (buffer_writer t)
+        × IsFinalWrite r buf };
 
     ghost flushes = { λ s r t. FlushesOut W.writes W.flushes r
-        (held_bytes s) (held_bytes t) (writer_behind s) (writer_behind t) };
+        (buffer_bytes s) (buffer_bytes t) (buffer_writer s) (buffer_writer t) };
 
     fn write(&mut self, buf: &[u8]) -> io::Result<usize> {
         if buf.len() <= self.bytes.left() {

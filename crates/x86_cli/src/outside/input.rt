@@ -10,7 +10,7 @@ use std::io::Read;
 
 /// A reader, with a relation that says which reads there were. Code that is generic over it can't make a read up.
 pub trait Input {
-    /// The bytes that reads will give, where they are known.
+    /// The bytes that reads will return, where they are known.
     ghost left: { Self → Option (List ℕ) };
 
     /// What a read may answer, with this in its buffer, and what it may leave of the reader.

@@ -1,11 +1,11 @@
 //! A sink that takes everything.
 
 ghost use Rattle.std.specs.Prelude.{◌≡◌, None};
-ghost use Rattle.x86_cli.specs.Outside.Sink.{TellsPut};
+ghost use Rattle.x86_cli.specs.Outside.Sink.{ReportsPut};
 
 use crate::outside::sink::{Sink, SinkFailed};
 
-/// Takes everything and tells nothing.
+/// Takes everything; its bytes aren't known.
 #[derive(Drop)]
 pub struct NullSink;
 
@@ -21,9 +21,9 @@ impl Sink for NullSink {
 
     ghost faults = { λ s. 0 };
 
-    ghost takes = { λ s piece r t. TellsPut r piece None None 0 0 };
+    ghost takes = { λ s piece r t. ReportsPut r piece None None 0 0 };
 
-    ghost tells = { λ s piece r t h. h };
+    ghost reports = { λ s piece r t h. h };
 
     fn put(&mut self, _piece: &[u8]) -> Result<(), SinkFailed>
         ensures takes { ⟦<NullSink as Sink>⟧.takes self.old _piece.now result self.new }

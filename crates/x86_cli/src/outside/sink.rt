@@ -1,7 +1,7 @@
 //! What a listing is written to.
 
 ghost use Rattle.std.specs.Prelude.{ℕ, List, Option, Result, ⊤};
-ghost use Rattle.x86_cli.specs.Outside.Sink.{TellsPut};
+ghost use Rattle.x86_cli.specs.Outside.Sink.{ReportsPut};
 ghost use Rattle.x86_cli.specs.declared.outside.sink.SinkFailed.{SinkFailed};
 
 /// The sink took no more.
@@ -10,7 +10,7 @@ pub struct SinkFailed;
 
 /// What is written to, piece by piece, and a count of faults that never falls and stops at `u64::MAX`.
 pub trait Sink {
-    /// The bytes written, where the sink tells them.
+    /// The bytes written, where they are known.
     ghost written: { Self → Option (List ℕ) };
 
     /// How often the sink has failed.
@@ -23,7 +23,7 @@ pub trait Sink {
     fn put(&mut self, piece: &[u8]) -> Result<(), SinkFailed>
         ensures { takes self.old piece.now result self.new };
 
-    /// What a put says, where the sink tells what was written.
-    ghost tells: { (s : Self) (piece : List ℕ) (r : Result ⊤ SinkFailed) (t : Self) →
-        takes s piece r t → TellsPut r piece (written s) (written t) (faults s) (faults t) };
+    /// What a put says, where the sink's bytes are known.
+    ghost reports: { (s : Self) (piece : List ℕ) (r : Result ⊤ SinkFailed) (t : Self) →
+        takes s piece r t → ReportsPut r piece (written s) (written t) (faults s) (faults t) };
 }

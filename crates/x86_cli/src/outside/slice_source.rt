@@ -1,12 +1,12 @@
 //! A source over a slice, of which chosen calls fail.
 
 ghost use Rattle.std.specs.Prelude.{[], ◌≡◌, ◌≤◌, Some, drop, length};
-ghost use Rattle.x86_cli.specs.Outside.Source.{TellsGot};
+ghost use Rattle.x86_cli.specs.Outside.Source.{ReportsGot};
 ghost use Rattle.x86_cli.specs.Outside.SliceSource.{ByNumber, is_listed};
 
 use crate::outside::source::{Got, Source};
 
-/// The bytes of a slice. The calls whose numbers, from 0, stand in `fails` answer `Failed`; the number of a call stops
+/// The bytes of a slice. The calls whose numbers, from 0, are in `fails` answer `Failed`; the number of a call stops
 /// at `u64::MAX`, and a call with that number doesn't fail.
 #[derive(Drop)]
 pub struct SliceSource<'a> {
@@ -59,14 +59,14 @@ impl<'a> Source for SliceSource<'a> {
 
     ghost faults = { λ s. s.faults };
 
-    ghost gives = { λ s g t. TellsGot g (Some (drop s.position s.bytes.now))
+    ghost gives = { λ s g t. ReportsGot g (Some (drop s.position s.bytes.now))
         (Some (drop t.position t.bytes.now)) s.faults t.faults
         × ByNumber g (drop s.position s.bytes.now) (slice_call s) (slice_call t) (slice_fails s)
         (slice_fails t) };
 
     ghost ahead = { λ s. [] };
 
-    ghost tells = { λ s g t h. h.0 };
+    ghost reports = { λ s g t h. h.0 };
 
     fn next(&mut self) -> Got {
         let failed = self.fails_now();

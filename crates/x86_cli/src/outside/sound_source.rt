@@ -1,7 +1,7 @@
 //! A source over a slice that never fails.
 
 ghost use Rattle.std.specs.Prelude.{◌≡◌, ◌≢◌, ◌↔◌, Some, []};
-ghost use Rattle.x86_cli.specs.Outside.Source.{TellsGot};
+ghost use Rattle.x86_cli.specs.Outside.Source.{ReportsGot};
 
 use crate::outside::source::{Got, Source};
 
@@ -25,11 +25,11 @@ impl<'a> Source for SoundSource<'a> {
 
     ghost faults = { λ s. 0 };
 
-    ghost gives = { λ s g t. TellsGot g (Some s.bytes.now) (Some t.bytes.now) 0 0 };
+    ghost gives = { λ s g t. ReportsGot g (Some s.bytes.now) (Some t.bytes.now) 0 0 };
 
     ghost ahead = { λ s. [] };
 
-    ghost tells = { λ s g t h. h };
+    ghost reports = { λ s g t h. h };
 
     fn next(&mut self) -> Got
         ensures gives { ⟦<SoundSource<'a> as Source>⟧.gives self.old result self.new }

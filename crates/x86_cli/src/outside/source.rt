@@ -1,11 +1,11 @@
 //! What a text is read from.
 
 ghost use Rattle.std.specs.Prelude.{◌≡◌, ◌≤◌, ℕ, List, Option, None, length, take, drop};
-ghost use Rattle.x86_cli.specs.Outside.Source.{TellsGot};
-ghost use Rattle.x86_cli.specs.Text.Reading.{Gave};
+ghost use Rattle.x86_cli.specs.Outside.Source.{ReportsGot};
+ghost use Rattle.x86_cli.specs.Text.Reading.{SourceCalls};
 ghost use Rattle.x86_cli.specs.declared.outside.source.Got.{Got};
 
-/// What a source gives.
+/// What a call of a source returns.
 #[derive(Clone, Copy, PartialEq, Eq, Debug, Drop)]
 pub enum Got {
     Byte(u8),
@@ -15,7 +15,7 @@ pub enum Got {
 
 /// Bytes that are taken one by one, and a count of faults that never falls and stops at `u64::MAX`.
 pub trait Source {
-    /// The bytes left, where the source tells them.
+    /// The bytes left, where they are known.
     ghost left: { Self → Option (List ℕ) };
 
     /// How often the source has failed.
@@ -31,17 +31,18 @@ pub trait Source {
     /// The bytes that the next calls return, as many as the source knows without a call.
     ghost ahead: { Self → List ℕ };
 
-    /// Those bytes. This is no call of `next`, and takes nothing.
+    /// Those bytes. This takes nothing, and doesn't count as a call of `next`.
     fn ahead(&self) -> &[u8]
         ensures { result.now ≡ ahead self.now };
 
     /// Takes so many of the bytes ahead: as many calls of `next`, each of which returns its byte.
     fn skip(&mut self, count: usize)
         requires { count ≤ length (ahead self.old) }
-        ensures gave { Gave gives (take count (ahead self.old)) None self.old self.new }
+        ensures source_calls { SourceCalls gives
+            (take count (ahead self.old)) None self.old self.new }
         ensures rest { ahead self.new ≡ drop count (ahead self.old) };
 
-    /// What a call says, where the source tells its bytes.
-    ghost tells: { (s : Self) (g : Got) (t : Self) → gives s g t →
-        TellsGot g (left s) (left t) (faults s) (faults t) };
+    /// What a call says, where the source's bytes are known.
+    ghost reports: { (s : Self) (g : Got) (t : Self) → gives s g t →
+        ReportsGot g (left s) (left t) (faults s) (faults t) };
 }

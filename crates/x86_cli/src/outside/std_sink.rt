@@ -1,15 +1,15 @@
 //! A sink over a writer.
 
 ghost use Rattle.std.specs.Prelude.{◌≡◌};
-ghost use Rattle.x86_cli.specs.Outside.Sink.{TellsPut};
+ghost use Rattle.x86_cli.specs.Outside.Sink.{ReportsPut};
 ghost use Rattle.x86_cli.specs.Outside.Writes.{PutSends};
 ghost use Rattle.x86_cli.specs.Outside.Seen.{sink_writer};
 
 use crate::outside::output::Output;
 use crate::outside::sink::{Sink, SinkFailed};
 
-/// Pieces that go to a writer. It tells what the writer tells. A write that takes none of a piece that isn't empty
-/// fails.
+/// Pieces that go to a writer. Its bytes are known where the writer's are. A write that takes none of a piece that
+/// isn't empty fails.
 #[derive(Drop)]
 pub struct StdSink<W: Output + Drop> {
     writer: W,
@@ -25,7 +25,7 @@ impl<W: Output + Drop> StdSink<W> {
         StdSink { writer, faults: 0 }
     }
 
-    /// Gives the writer back.
+    /// Returns the writer.
     pub fn into_writer(self) -> W
         ensures { result ≡ sink_writer self }
     {
@@ -45,11 +45,11 @@ impl<W: Output + Drop> Sink for StdSink<W> {
 
     ghost faults = { λ s. s.faults };
 
-    ghost takes = { λ s piece r t. TellsPut r piece (W.written s.writer)
+    ghost takes = { λ s piece r t. ReportsPut r piece (W.written s.writer)
         (W.written t.writer) s.faults t.faults
         × PutSends W.writes W.flushes r piece s.writer t.writer };
 
-    ghost tells = { λ s piece r t h. h.0 };
+    ghost reports = { λ s piece r t h. h.0 };
 
     fn put(&mut self, piece: &[u8]) -> Result<(), SinkFailed> {
         let mut rest = piece;

@@ -2,17 +2,17 @@
 
 ghost use Rattle.std.specs.Prelude.{◌≡◌, ◌≤◌, ◌<◌, [], ◌∷◌, slice_range};
 ghost use Rattle.std.specs.Io.KnownBytes.{prepend_known};
-ghost use Rattle.x86_cli.specs.Outside.Source.{TellsGot};
-ghost use Rattle.x86_cli.specs.Outside.StdSource.{TellsRefill, Fetches, Refills};
+ghost use Rattle.x86_cli.specs.Outside.Source.{ReportsGot};
+ghost use Rattle.x86_cli.specs.Outside.StdSource.{ReportsRefill, Fetches, Refills};
 
 use crate::outside::input::Input;
 use crate::outside::source::{Got, Source};
 
-/// How many bytes one read may give.
+/// How many bytes one read may return.
 const BUFFER: usize = 65536;
 
-/// The bytes of a reader, one read a buffer. It tells what the reader tells, behind what is buffered. A read that
-/// gives no byte is the end.
+/// The bytes of a reader, one read a buffer. Its bytes are known where the reader's are: first what is buffered, then
+/// those of the reader. A read that returns no byte is the end.
 #[derive(Drop)]
 pub struct StdSource<R: Input + Drop> {
     reader: R,
@@ -43,7 +43,7 @@ impl<R: Input + Drop> StdSource<R> {
         }
     }
 
-    /// Gives the reader back. What is still buffered is let go.
+    /// Returns the reader. What is still buffered is dropped.
     pub fn into_reader(self) -> R
         ensures { result ≡ source_reader self }
     {
@@ -58,7 +58,7 @@ impl<R: Input + Drop> StdSource<R> {
     }
 }
 
-/// What a read gave.
+/// What a read returned.
 #[derive(Clone, Copy, Drop)]
 enum Refill {
     Bytes,
@@ -72,7 +72,7 @@ impl<R: Input + Drop> StdSource<R> {
     #[inline(never)]
     fn refill(&mut self) -> Refill
         requires { self.old.position ≡ self.old.filled }
-        ensures told { TellsRefill result
+        ensures reported { ReportsRefill result
             (prepend_known (slice_range self.old.buffer self.old.position self.old.filled)
             (R.left self.old.reader))
             (prepend_known (slice_range self.new.buffer self.new.position self.new.filled)
@@ -102,7 +102,7 @@ impl<R: Input + Drop> StdSource<R> {
         ensures takes { slice_range self.old.buffer self.old.position self.old.filled
             ≡ result ∷ slice_range self.new.buffer self.new.position self.new.filled }
         ensures reader { self.new.reader ≡ self.old.reader }
-        ensures told { TellsGot (Got.Byte result)
+        ensures reported { ReportsGot (Got.Byte result)
             (prepend_known (slice_range self.old.buffer self.old.position self.old.filled)
             (R.left self.old.reader))
             (prepend_known (slice_range self.new.buffer self.new.position self.new.filled)
@@ -120,7 +120,7 @@ impl<R: Input + Drop> Source for StdSource<R> {
 
     ghost faults = { λ s. s.faults };
 
-    ghost gives = { λ s g t. TellsGot g
+    ghost gives = { λ s g t. ReportsGot g
         (prepend_known (slice_range s.buffer s.position s.filled) (R.left s.reader))
         (prepend_known (slice_range t.buffer t.position t.filled) (R.left t.reader)) s.faults
         t.faults
@@ -129,7 +129,7 @@ impl<R: Input + Drop> Source for StdSource<R> {
 
     ghost ahead = { λ s. slice_range s.buffer s.position s.filled };
 
-    ghost tells = { λ s g t h. h.0 };
+    ghost reports = { λ s g t h. h.0 };
 
     #[inline(always)]
     fn next(&mut self) -> Got {

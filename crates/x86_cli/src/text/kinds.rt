@@ -47,7 +47,7 @@ const BLA: Kind = Kind::Blank;
 
 const OTH: Kind = Kind::Other;
 
-/// By the byte: sixteen on a line, behind which the first of them stands.
+/// By the byte: sixteen on a line, followed by the first of them.
 const KINDS: &[Kind; 256] = &[
     OTH, OTH, OTH, OTH, OTH, OTH, OTH, OTH, OTH, BLA, BLA, OTH, OTH, BLA, OTH, OTH, // 00
     OTH, OTH, OTH, OTH, OTH, OTH, OTH, OTH, OTH, OTH, OTH, OTH, OTH, OTH, OTH, OTH, // 10

@@ -24,7 +24,7 @@ pub enum Piece {
     Stopped(Ending),
 }
 
-/// Where in a text the reader stands, and the position up to which it may take bytes. What contracts see of it is its
+/// Where in a text the reader is, and the position up to which it may take bytes. What contracts see of it is its
 /// position and how many bytes it may still take.
 #[derive(Clone, Copy, Drop)]
 pub struct TextReader {
@@ -79,7 +79,7 @@ impl TextReader {
         self.position == self.end
     }
 
-    /// The front of a text that may be taken.
+    /// The beginning of a text that may be taken.
     #[inline(always)]
     pub fn within<'a>(&self, text: &'a [u8]) -> &'a [u8]
         ensures { result.now ≡ take self.now.room text.entry.now }
@@ -92,7 +92,7 @@ impl TextReader {
         }
     }
 
-    /// Goes on by bytes that were taken.
+    /// Advances by bytes that were taken.
     #[inline(always)]
     pub fn advance_by(&mut self, count: usize)
         requires { count ≤ self.old.room }
@@ -109,11 +109,11 @@ impl TextReader {
         self.position
     }
 
-    /// Reads on behind the first digit of a pair.
+    /// Continues after the first digit of a pair.
     #[inline(always)]
     fn second<S: Source>(&mut self, source: &mut S, high: u8) -> Piece
         requires { high < 16 }
-        // Behind a digit x at the position before, it tells the text of x and what follows.
+        // After a digit x at the position before, it is the text of x and what follows.
         ensures reads { (position room x : ℕ) (before : S) → self.old.position ≡ position + 1 →
             room ≡ self.old.room + 1 → is_blank x ≡ false → value_of x ≡ Some high →
             S.gives before (Got.Byte x) source.old →

@@ -6,56 +6,56 @@ ghost use Rattle.x86_cli.specs.Outside.Stop.{Stop};
 ghost use Rattle.x86_decode.specs.Decoder.{is_strict};
 ghost use Rattle.x86_decode.specs.declared.instructions.Instruction.{Instruction};
 ghost use Rattle.x86_decode.specs.Instruction.{holding};
-ghost use Rattle.x86_cli.specs.Listings.Listing.{front_of, judged, sure_of};
+ghost use Rattle.x86_cli.specs.Listings.Listing.{decoded_of, decoded_at_end, decoded_before_end};
 ghost use Rattle.x86_cli.specs.Text.Reading.{NeedsMore};
 ghost use Rattle.x86_cli.specs.Text.ImageAhead.{IsAheadIn, IsEmptyAhead};
-ghost use Rattle.x86_cli.specs.Text.Window.{rest_of, front_with, Fills, Shows};
+ghost use Rattle.x86_cli.specs.Text.Window.{rest_of, decoded_with, Fills, Shows};
 
 use crate::laws::decoder_laws;
 use crate::outside::source::Source;
-use crate::text::held::Held;
 use crate::text::image_ahead::ImageAhead;
 use crate::text::reader::{Ending, Piece, TextReader};
+use crate::text::window_bytes::WindowBytes;
 use x86_decode::{InstDecoder, Instruction};
 use x86_fields::DecodeError;
 
-/// What stands at the front of an image. In contracts `I` is the instruction; in code it is `()`, and the instruction
-/// stands beside it.
+/// What decoding the next bytes of an image yields. In contracts `I` is the instruction; in code it is `()`, and the
+/// instruction is written beside it.
 #[derive(Clone, Copy, Drop)]
-pub enum Front<I> {
+pub enum Decoded<I> {
     Whole(I),
     Refused(DecodeError),
     Ended(Ending),
 }
 
-fn sure_of(answer: Result<(), DecodeError>) -> Front<()>
-    ensures { (i : Instruction) → front_with i result ≡ sure_of (holding i answer) }
+fn decoded_before_end(answer: Result<(), DecodeError>) -> Decoded<()>
+    ensures { (i : Instruction) → decoded_with i result ≡ decoded_before_end (holding i answer) }
 {
     match answer {
-        Ok(()) => Front::Whole(()),
-        Err(error) => Front::Refused(error),
+        Ok(()) => Decoded::Whole(()),
+        Err(error) => Decoded::Refused(error),
     }
 }
 
-fn judged(answer: Result<(), DecodeError>, ending: Ending) -> Front<()>
-    ensures { (i : Instruction) → front_with i result ≡ judged (holding i answer) ending }
+fn decoded_at_end(answer: Result<(), DecodeError>, ending: Ending) -> Decoded<()>
+    ensures { (i : Instruction) → decoded_with i result ≡ decoded_at_end (holding i answer) ending }
 {
     match answer {
-        Ok(()) => Front::Whole(()),
+        Ok(()) => Decoded::Whole(()),
         Err(DecodeError::ExhaustedInput) => match ending {
-            Ending::Clean => Front::Refused(DecodeError::ExhaustedInput),
-            Ending::Bad(position) => Front::Ended(Ending::Bad(position)),
-            Ending::Large => Front::Ended(Ending::Large),
-            Ending::Fault => Front::Ended(Ending::Fault),
+            Ending::Clean => Decoded::Refused(DecodeError::ExhaustedInput),
+            Ending::Bad(position) => Decoded::Ended(Ending::Bad(position)),
+            Ending::Large => Decoded::Ended(Ending::Large),
+            Ending::Fault => Decoded::Ended(Ending::Fault),
         },
-        Err(error) => Front::Refused(error),
+        Err(error) => Decoded::Refused(error),
     }
 }
 
 /// The next bytes of an image, and the reader of what follows them.
 #[derive(Drop)]
 pub struct Window {
-    pub bytes: Held,
+    pub bytes: WindowBytes,
     pub ahead: ImageAhead,
     pub reader: TextReader,
     pub ended: Option<Ending>,
@@ -70,7 +70,7 @@ impl Window {
         ensures ahead { (text : List ℕ) → IsAheadIn text result.ahead }
     {
         Window {
-            bytes: Held::EMPTY,
+            bytes: WindowBytes::EMPTY,
             ahead: ImageAhead::new(),
             reader: TextReader::new(max),
             ended: None,
@@ -175,26 +175,25 @@ impl Window {
         }
     }
 
-    /// What stands at the front of the image that is left. Where it is an instruction, that is written to the one
-    /// given.
-    pub fn front(&self, decoder: &InstDecoder, inst: &mut Instruction) -> Front<()>
+    /// What decoding the image that is left yields. An instruction is written to `inst`.
+    pub fn decode_next(&self, decoder: &InstDecoder, inst: &mut Instruction) -> Decoded<()>
         requires { self.now.ended ≡ None → array_vec_len self.now.bytes ≡ 15 }
         ensures rest { (xs : List ℕ) (stop : Stop) →
             let rest = rest_of self.now.ended self.now.bytes.items self.now.reader.position
-            self.now.reader.room xs stop in front_of (is_strict decoder.now) rest.image rest.ending
-            ≡ front_with inst.new result }
+            self.now.reader.room xs stop in decoded_of (is_strict decoder.now) rest.image rest.ending
+            ≡ decoded_with inst.new result }
         ensures shows { Shows (is_strict decoder.now)
-            (front_with inst.new result) self.now.ended self.now.bytes.items }
+            (decoded_with inst.new result) self.now.ended self.now.bytes.items }
     {
         decoder_laws();
         let answer = decoder.decode_slice_into(inst, self.bytes.as_slice());
         match self.ended {
-            None => sure_of(answer),
+            None => decoded_before_end(answer),
             Some(ending) => {
                 if self.bytes.is_empty() {
-                    Front::Ended(ending)
+                    Decoded::Ended(ending)
                 } else {
-                    judged(answer, ending)
+                    decoded_at_end(answer, ending)
                 }
             }
         }

@@ -24,14 +24,14 @@ use Rattle.x86_layout.specs.declared.parts.entries.Entry.{Entry}
 use Rattle.x86_layout.specs.declared.parts.emit.EmitError.{EmitError}
 use Rattle.x86_layout.specs.declared.parts.emit.EmitError.TheVariants as error
 use Rattle.x86_layout.specs.Parts.Split.{Encoding, record_in, HasParts, joined}
-use Rattle.x86_layout.specs.Parts.Front.{parts_of}
+use Rattle.x86_layout.specs.Parts.OfBytes.{parts_of}
 use Rattle.x86_layout.specs.Parts.Fields.{lists_in, HasFieldLengths}
-use Rattle.x86_layout.specs.Parts.Permitted.{map_named, entry_by, entry_at, entry_of, record_by, has_legal_run, passes_record, has_asked_parts, tail_of, answer_allows_lock, has_lawful_lock, is_short, unless, failing_at, first_failing, IsPermitted, ArePartsOfSentence}
-use Rattle.x86_layout.proofs.PartLemmas.Part.{front_is}
-use Rattle.x86_layout.proofs.PartLemmas.Front.{parts_are, parts_once}
+use Rattle.x86_layout.specs.Parts.Permitted.{map_named, entry_by, entry_at, entry_of, record_by, has_legal_run, passes_record, has_row_parts, tail_of, answer_allows_lock, has_lawful_lock, is_short, unless, failing_at, first_failing, IsPermitted, ArePartsOfSentence}
+use Rattle.x86_layout.proofs.PartLemmas.Part.{beginning_is}
+use Rattle.x86_layout.proofs.PartLemmas.OfBytes.{parts_are, parts_once}
 use Rattle.x86_layout.proofs.PartLemmas.Split.{joined_is}
 use Rattle.x86_layout.proofs.PartLemmas.Length.{lengths_of}
-use Rattle.x86_layout.proofs.PartLemmas.Spell.{spelled, HoldsFields, passes, asked}
+use Rattle.x86_layout.proofs.PartLemmas.Spell.{spelled, HoldsFields, passes, row_parts}
 
 -- ---- the first that fails
 
@@ -50,14 +50,14 @@ all_hold run a b c d r e f g h = cc
 record Holds (strict : Bool) (f : fields.Fields) (e : Entry) : Type 0 where
   pub legal : has_legal_run f ≡ true
   pub record_passes : passes_record (record_by strict e f) f ≡ true
-  pub parts : has_asked_parts (record_by strict e f) f ≡ true
+  pub parts : has_row_parts (record_by strict e f) f ≡ true
   pub lock : has_lawful_lock strict e f ≡ true
   pub short : is_short f ≡ true
 
 holds : (strict : Bool) (f : fields.Fields) (o : Option Entry) → unless (has_legal_run f) error.Prefixes (failing_at strict o f) ≡ None → (e : Entry) × (o ≡ Some e) × Holds strict f e
 holds strict f None h = absurd (no_row (has_legal_run f) h)
 holds strict f (Some e) h =
-    let all = none_fails (has_legal_run f) (passes_record (record_by strict e f) f) (has_asked_parts (record_by strict e f) f) (has_lawful_lock strict e f) (is_short f) h in
+    let all = none_fails (has_legal_run f) (passes_record (record_by strict e f) f) (has_row_parts (record_by strict e f) f) (has_lawful_lock strict e f) (is_short f) h in
     (e, refl, record { legal = all.0; record_passes = all.1; parts = all.2; lock = all.3; short = all.4 })
 
 -- ---- the row that fields name
@@ -66,7 +66,7 @@ record Names (f : fields.Fields) (e : Entry) : Type 0 where
   pub map : Map
   pub row : TableRow
   pub escape : f.escape.items ≡ escape_bytes map
-  pub meant : is_opcode map f.opcode ≡ true
+  pub in_map : is_opcode map f.opcode ≡ true
   pub has_row : rows_of packed map (column_of (reading_of f.prefixes.items)) f.opcode ≡ Some row
   pub is : e ≡ record { row = row; prefixes = seen_by map f.opcode (reading_of f.prefixes.items) }
 
@@ -91,7 +91,7 @@ names : (f : fields.Fields) (e : Entry) (o : Option Map) → map_named f.escape.
 names f e None k h = absurd cc
 names f e (Some map) k h =
     let x = row_is (is_opcode map f.opcode) _ _ e h in
-    record { map = map; row = x.0; escape = escape_is f.escape.items map k; meant = x.1; has_row = x.2; is = x.3 }
+    record { map = map; row = x.0; escape = escape_is f.escape.items map k; in_map = x.1; has_row = x.2; is = x.3 }
 
 -- ---- permitted fields spell a sentence
 
@@ -121,13 +121,13 @@ emitted_by strict f e n h =
           tail = tail_of f;
           spelled = ap (λ l. f.prefixes.items ++ (l ++ f.opcode ∷ tail_of f)) n.escape;
           prefixes = h.legal;
-          meant = n.meant;
+          in_map = n.in_map;
           has_row = n.has_row;
-          asked = s.row;
+          row_spelled = s.row;
         };
         lock = sym (reading_is r q (tail_of f) s.reading s.row) ∙ h.lock;
         short = at_most_15 (length (joined (lists_in f))) h.short;
-        gives = refl;
+        yields = refl;
       };
       parts = assumption (n.escape, s.parts);
     }
@@ -142,7 +142,7 @@ emitted strict f h =
 abbrev pub Only : Bool → Type 0
 Only strict = (xs : List ℕ) (r : Result Instruction DecodeError) (n : ℕ) → IsAnswer (rows_of packed) strict xs r n → (r ≡ answer_of strict xs) × (n ≡ count_of strict xs)
 
--- What emit wrote is accepted, whatever stands behind it, and its parts are the fields.
+-- What emit wrote is accepted, whatever follows it, and its parts are the fields.
 pub split_again : (strict : Bool) (f : fields.Fields) (rest : List ℕ) → Only strict → IsPermitted strict f → (i : Instruction) × (answer_of strict (joined (lists_in f) ++ rest) ≡ Ok i) × (parts_of strict (joined (lists_in f) ++ rest) ≡ lists_in f)
 split_again strict f rest only h =
     let x = emitted strict f h in
@@ -172,19 +172,19 @@ module _ (strict : Bool) (s : List ℕ) (reading : Reading) (w : Encoding strict
       ∙ ap (λ o. entry_at o (reading_of f.prefixes.items) f.opcode) (map_back w.map)
       ∙ ap (λ l. entry_at (Some w.map) (reading_of l) f.opcode) h.prefixes
       ∙ ap (λ l. entry_at (Some w.map) (reading_of w.run) (slice_index l 0)) h.opcode
-      ∙ ap (λ t. if t then entry_by (rows_of packed w.map (column_of (reading_of w.run)) w.opcode) q else None) w.meant
+      ∙ ap (λ t. if t then entry_by (rows_of packed w.map (column_of (reading_of w.run)) w.opcode) q else None) w.in_map
       ∙ ap (λ o. entry_by o q) w.has_row
 
   tail_is : tail_of f ≡ w.tail
   tail_is =
-      let a = w.asked in
-      let t = a.behind.pieces in
+      let a = w.row_spelled in
+      let t = a.tail_spelled.pieces in
       cc (h.modrm, h.address, h.immediate, h.suffix, a.spelled, t.spelled)
 
   lock_is : allows_lock reading ≡ true → has_lawful_lock strict entry f ≡ true
-  lock_is k = ap (λ l. answer_allows_lock (record_step (record_in strict s reading w) q (record { left = l; since_mark = 0; since_made = 0 })).answer) tail_is ∙ reading_is (record_in strict s reading w) q w.tail reading w.asked ∙ k
+  lock_is k = ap (λ l. answer_allows_lock (record_step (record_in strict s reading w) q (record { left = l; since_mark = 0; since_made = 0 })).answer) tail_is ∙ reading_is (record_in strict s reading w) q w.tail reading w.row_spelled ∙ k
 
-  pieces : HoldsFields (record_in strict s reading w) q w.tail reading f w.asked
+  pieces : HoldsFields (record_in strict s reading w) q w.tail reading f w.row_spelled
   pieces = assumption h
 
   pub permitted : allows_lock reading ≡ true → length s ≤ 15 → IsPermitted strict f
@@ -193,16 +193,16 @@ module _ (strict : Bool) (s : List ℕ) (reading : Reading) (w : Encoding strict
       let legal : has_legal_run f ≡ true = ap is_run h.prefixes ∙ w.prefixes in
       let short' : is_short f ≡ true = short_test _ (subst (λ l. length l ≤ 15) (sym (joined_is strict s reading w (lists_in f) h)) short) in
       ap (λ o. unless (has_legal_run f) error.Prefixes (failing_at strict o f)) entry_is
-      ∙ all_hold (has_legal_run f) _ _ _ _ legal (passes f w.asked pieces) (asked f w.asked pieces) (lock_is lock) short'
+      ∙ all_hold (has_legal_run f) _ _ _ _ legal (passes f w.row_spelled pieces) (row_parts f w.row_spelled pieces) (lock_is lock) short'
 
--- Emitting the fields of a split gives the encoding's very bytes.
+-- Emitting the fields of a split yields the encoding's very bytes.
 pub emitted_again : (strict : Bool) (bytes : List ℕ) (i : Instruction) (f : fields.Fields) → IsAccepted (rows_of packed) strict bytes i (count_of strict bytes) → i.length ≡ count_of strict bytes → lists_in f ≡ parts_of strict bytes → IsPermitted strict f × (joined (lists_in f) ≡ take i.length bytes)
 emitted_again strict bytes i f a counted e =
     let x = a.is in
     let s = a.sentence in
     let h : HasParts strict s x.reading x.whole (lists_in f) =
     subst (HasParts strict s x.reading x.whole) (sym e) (parts_are strict bytes s a.rest x.reading x.whole a.begins) in
-    (permitted strict s x.reading x.whole f h x.lock x.short, joined_is strict s x.reading x.whole (lists_in f) h ∙ sym (front_is bytes s a.rest i.length a.begins (counted ∙ sym a.long)))
+    (permitted strict s x.reading x.whole f h x.lock x.short, joined_is strict s x.reading x.whole (lists_in f) h ∙ sym (beginning_is bytes s a.rest i.length a.begins (counted ∙ sym a.long)))
 
 -- Fields are permitted exactly where they are the parts of a sentence.
 pub permitted_are_parts : (strict : Bool) (f : fields.Fields) → IsPermitted strict f ↔ ArePartsOfSentence strict f

@@ -23,7 +23,7 @@ use Rattle.x86_layout.specs.Parts.Heads.{one_if}
 use Rattle.x86_layout.specs.Parts.Split.{PartLists, Encoding, record_in, HasParts}
 use Rattle.x86_layout.specs.Parts.Fields.{HasFieldLengths}
 use Rattle.x86_layout.proofs.PartLemmas.Part.{drop_of, operands_long}
-use Rattle.x86_layout.proofs.PartLemmas.Front.{address_parts}
+use Rattle.x86_layout.proofs.PartLemmas.OfBytes.{address_parts}
 
 one_at_most : (b : Bool) → one_if b ≤ 1
 one_at_most b = grind arith
@@ -31,8 +31,8 @@ one_at_most b = grind arith
 disp_small : (m : ℕ) (sib : Option ℕ) → displacement_width m sib ≤ 4
 disp_small m sib = grind arith
 
-asked_small : (m : ℕ) (sib : Option ℕ) → (if is_memory m then displacement_width m sib else 0) ≤ 4
-asked_small m sib = grind (arith, disp_small m sib)
+displacement_small : (m : ℕ) (sib : Option ℕ) → (if is_memory m then displacement_width m sib else 0) ≤ 4
+displacement_small m sib = grind (arith, disp_small m sib)
 
 escape_small : (m : Map) → length (escape_bytes m) ≤ 2
 escape_small m = grind arith
@@ -57,19 +57,19 @@ pub lengths_of : (strict : Bool) (s : List ℕ) (reading : Reading) (w : Encodin
 lengths_of strict s reading w p h short =
     let r = record_in strict s reading w in
     let q = seen_by w.map w.opcode (reading_of w.run) in
-    let a = w.asked in
-    let t = a.behind.pieces in
+    let a = w.row_spelled in
+    let t = a.tail_spelled.pieces in
     let m : ℕ = modrm_of r.modrm a.modrm in
-    let x = address_parts q m t.address t.memory t.address_asked in
+    let x = address_parts q m t.address t.memory t.address_spelled in
     let disp : p.displacement ≡ x.disp =
     drop_of p.sib p.displacement x.sib x.disp (h.address ∙ x.spelled) (h.sib ∙ sym x.sib_long) in
     record {
       prefixes = omega (arith, length-append {A = ℕ}, ap length h.prefixes, ap length w.spelled, short);
       escape = at_most _ _ 2 (ap length h.escape) (escape_small w.map);
       opcode = ap length h.opcode;
-      modrm = at_most _ _ 1 (ap length h.modrm ∙ a.modrm_asked) (modrm_small r.modrm);
+      modrm = at_most _ _ 1 (ap length h.modrm ∙ a.modrm_length) (modrm_small r.modrm);
       sib = at_most _ _ 1 h.sib (one_at_most _);
-      displacement = at_most _ _ 4 (ap length disp ∙ x.disp_long) (asked_small m (first_byte x.sib));
-      immediate = at_most _ _ 8 (ap length h.immediate ∙ operands_long _ q m t.memory t.immediates t.given t.immediates_asked) (immediate_small strict w.row q m);
-      suffix = at_most _ _ 1 (ap length h.suffix ∙ t.suffix_asked) (suffix_small (r.plan m).verdict);
+      displacement = at_most _ _ 4 (ap length disp ∙ x.disp_long) (displacement_small m (first_byte x.sib));
+      immediate = at_most _ _ 8 (ap length h.immediate ∙ operands_long _ q m t.memory t.immediates t.operand_pairs t.immediates_spelled) (immediate_small strict w.row q m);
+      suffix = at_most _ _ 1 (ap length h.suffix ∙ t.suffix_length) (suffix_small (r.plan m).verdict);
     }

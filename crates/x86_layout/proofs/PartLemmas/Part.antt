@@ -1,4 +1,4 @@
--- What stands where in an encoding.
+-- Where the parts of an encoding are.
 use Rattle.std.proofs.Common.{◌≡◌, ℕ, suc, ◌+◌, ◌-◌, ◌≤◌, ◌==◌, ◌&&◌, ◌||◌, not, Bool, true, false, if◌then◌else◌, List, [], ◌∷◌, ◌++◌, length, take, drop, map, slice_index, Option, Some, None, is_some, refl, sym, ap, subst, ◌∙◌, arith, length-append}
 use Rattle.std.specs.List.{list_all, prefix_len}
 use Rattle.std.specs.Int.{from_bool}
@@ -20,11 +20,11 @@ use Rattle.x86_operands.specs.declared.plans.ModrmUse.{ModrmUse}
 use Rattle.x86_operands.specs.declared.plans.ModrmUse.TheVariants.{Absent, EitherForm, Registers}
 use Rattle.x86_operands.specs.Plans.{RowRecord, list_of}
 use Rattle.x86_operands.specs.Pieces.{immediate_width, modrm_of, modrm_width, suffix_width, SpellsOperands, SpellsMemory, SpellsRow}
-use Rattle.x86_operands.specs.Asks.{asks_modrm, asks_suffix, used_modrm, ask_of}
+use Rattle.x86_operands.specs.Asks.{uses_modrm, uses_suffix, used_modrm, ask_of}
 use Rattle.x86_decode.specs.Head.{is_run, escape_bytes, is_vex, is_opcode}
 use Rattle.x86_operands.specs.declared.asks.Ask.{Ask}
 use Rattle.x86_operands.specs.declared.reader.Reading.{Reading}
-use Rattle.x86_layout.specs.Parts.Heads.{map_of, one_if, asks_sib}
+use Rattle.x86_layout.specs.Parts.Heads.{map_of, one_if, has_sib}
 use Rattle.x86_layout.specs.Parts.Split.{sib_width}
 use Rattle.x86_layout.specs.Parts.Permitted.{map_named}
 
@@ -40,15 +40,15 @@ option_short o = grind arith
 
 -- ---- pieces of a list
 
-pub front_is : (xs a b : List ℕ) (n : ℕ) → xs ≡ a ++ b → n ≡ length a → take n xs ≡ a
-front_is xs a b n e h = ap (λ k. take k xs) h ∙ ap (take (length a)) e ∙ take-append_seam a b
+pub beginning_is : (xs a b : List ℕ) (n : ℕ) → xs ≡ a ++ b → n ≡ length a → take n xs ≡ a
+beginning_is xs a b n e h = ap (λ k. take k xs) h ∙ ap (take (length a)) e ∙ take-append_seam a b
 
 pub rest_is : (xs a b : List ℕ) (n : ℕ) → xs ≡ a ++ b → n ≡ length a → drop n xs ≡ b
 rest_is xs a b n e h = ap (λ k. drop k xs) h ∙ ap (drop (length a)) e ∙ drop-append_seam a b
 
 -- a list in two ways of two parts
 pub take_of : (xs ys a b : List ℕ) → xs ++ ys ≡ a ++ b → length xs ≡ length a → xs ≡ a
-take_of xs ys a b e h = sym (front_is (xs ++ ys) xs ys (length xs) refl refl) ∙ front_is (xs ++ ys) a b (length xs) e h
+take_of xs ys a b e h = sym (beginning_is (xs ++ ys) xs ys (length xs) refl refl) ∙ beginning_is (xs ++ ys) a b (length xs) e h
 
 pub drop_of : (xs ys a b : List ℕ) → xs ++ ys ≡ a ++ b → length xs ≡ length a → ys ≡ b
 drop_of xs ys a b e h = sym (rest_is (xs ++ ys) xs ys (length xs) refl refl) ∙ rest_is (xs ++ ys) a b (length xs) e h
@@ -59,8 +59,8 @@ pub run_length_is : (run : List ℕ) (c : ℕ) (rest : List ℕ) → is_run run 
 run_length_is [] c rest h e = rw e
 run_length_is (b ∷ run) c rest h e =
     let both = and_parts (is_prefix b) (is_run run) h in
-    let behind = run_length_is run c rest both.1 e in
-    rw (both.0) (omega (arith, behind))
+    let following = run_length_is run c rest both.1 e in
+    rw (both.0) (omega (arith, following))
 
 one_more_of : (n : ℕ) → 1 + n ≡ suc n
 one_more_of n = omega arith
@@ -106,7 +106,7 @@ map_named_is (a ∷ []) = one_byte (a == 0x0f)
 map_named_is (a ∷ b ∷ []) = two_bytes (a == 0x0f) (b == 0x38) (b == 0x3a)
 map_named_is (a ∷ b ∷ c ∷ rest) = more_bytes (map_of a b) (length rest)
 
--- the byte behind the run is no prefix
+-- the byte after the run isn't a prefix
 pub record Enters (m : Map) (b : ℕ) (tail : List ℕ) : Type 0 where
   pub first : ℕ
   pub rest : List ℕ
@@ -119,7 +119,7 @@ enters Of b tail h = record { first = 0x0f; rest = b ∷ tail; spelled = refl; p
 enters Of38 b tail h = record { first = 0x0f; rest = 0x38 ∷ b ∷ tail; spelled = refl; plain = refl }
 enters Of3a b tail h = record { first = 0x0f; rest = 0x3a ∷ b ∷ tail; spelled = refl; plain = refl }
 
--- ---- what a row asks
+-- ---- what a row has
 
 pub used_is : (u : ModrmUse) (modrm more tail : List ℕ) → tail ≡ modrm ++ more → length modrm ≡ modrm_width u → modrm_of u modrm ≡ used_modrm u (slice_index tail 0)
 used_is Absent modrm more tail e h = refl
@@ -128,29 +128,29 @@ used_is EitherForm (m ∷ rest) more tail e h = sym (ap (λ l. slice_index l 0) 
 used_is Registers [] more tail e h = absurd (omega arith)
 used_is Registers (m ∷ rest) more tail e h = sym (ap (λ l. as_register (slice_index l 0)) e)
 
-pub use_width : (u : ModrmUse) → one_if (asks_modrm u) ≡ modrm_width u
+pub use_width : (u : ModrmUse) → one_if (uses_modrm u) ≡ modrm_width u
 use_width u = grind arith
 
-pub verdict_width : (v : Verdict) → one_if (asks_suffix v) ≡ suffix_width v
+pub verdict_width : (v : Verdict) → one_if (uses_suffix v) ≡ suffix_width v
 verdict_width v = grind arith
 
-pub operands_long : (encodings : List OperandEncoding) (p : Prefixes) (m : ℕ) (memory : Option Raw) (bytes : List ℕ) (given : List (Slot × Operand)) → SpellsOperands encodings p m memory bytes given → length bytes ≡ total (map immediate_width encodings)
-operands_long [] p m memory bytes given h = ap length h.0
-operands_long (s ∷ rest) p m memory bytes given h =
-    let behind = operands_long rest p m memory h.tail h.others h.behind in
-    omega (arith, length-append {A = ℕ}, ap length h.spelled, h.asked, behind)
+pub operands_long : (encodings : List OperandEncoding) (p : Prefixes) (m : ℕ) (memory : Option Raw) (bytes : List ℕ) (operand_pairs : List (Slot × Operand)) → SpellsOperands encodings p m memory bytes operand_pairs → length bytes ≡ total (map immediate_width encodings)
+operands_long [] p m memory bytes operand_pairs h = ap length h.0
+operands_long (s ∷ rest) p m memory bytes operand_pairs h =
+    let following = operands_long rest p m memory h.tail h.others h.tail_spelled in
+    omega (arith, length-append {A = ℕ}, ap length h.spelled, h.immediate_length, following)
 
 -- ---- SIB
 
--- in a memory form that is read as such, the byte is as it stands
+-- in a memory form that is read as such, the byte is used as it is
 sib_by : (memory : Bool) (used_modrm raw : ℕ) → (memory ≡ true → used_modrm ≡ raw) → (memory && rm_field raw == 4) ≡ (memory && rm_field used_modrm == 4)
 sib_by memory used_modrm raw h = grind arith
 
-pub as_it_stands : (u : ModrmUse) (m : ℕ) → is_memory (used_modrm u m) ≡ true → used_modrm u m ≡ m
-as_it_stands u m e = grind (arith, nat_tests)
+pub as_it_is : (u : ModrmUse) (m : ℕ) → is_memory (used_modrm u m) ≡ true → used_modrm u m ≡ m
+as_it_is u m e = grind (arith, nat_tests)
 
-pub sib_asked : (u : ModrmUse) (m : ℕ) → one_if (is_memory (used_modrm u m) && rm_field m == 4) ≡ sib_width (used_modrm u m)
-sib_asked u m = ap one_if (sib_by (is_memory (used_modrm u m)) (used_modrm u m) m (as_it_stands u m))
+pub sib_present : (u : ModrmUse) (m : ℕ) → one_if (is_memory (used_modrm u m) && rm_field m == 4) ≡ sib_width (used_modrm u m)
+sib_present u m = ap one_if (sib_by (is_memory (used_modrm u m)) (used_modrm u m) m (as_it_is u m))
 
 option_long : (sib : Option ℕ) (disp : List ℕ) → one_if (is_some sib) ≤ length (option_bytes sib ++ disp)
 option_long sib disp = grind (arith, length-append {A = ℕ})
@@ -163,38 +163,38 @@ sib_within p m address None h = subst (λ t. one_if (t && rm_field m == 4) ≤ l
 sib_within p m address (Some raw) h =
     let s = h.1 in
     let long : one_if (is_some s.sib) ≤ length address = subst (λ l. one_if (is_some s.sib) ≤ length l) (sym s.spelled) (option_long s.sib s.disp) in
-    width_by (is_memory m) (rm_field m == 4) (length address) (subst (λ t. one_if t ≤ length address) s.sib_asked long)
+    width_by (is_memory m) (rm_field m == 4) (length address) (subst (λ t. one_if t ≤ length address) s.sib_present long)
 
--- ---- the counts that an ask tells
+-- ---- the counts of an ask
 
--- behind the pieces of a row stand further bytes
+-- further bytes come after the pieces of a row
 module _ {r : RowRecord} {p : Prefixes} {tail : List ℕ} {reading : Reading} (a : SpellsRow r p tail reading) {all : List ℕ} (more : List ℕ) (e : all ≡ a.modrm ++ more) {ask : Ask} (k : ask ≡ ask_of r (slice_index all 0)) where
   pub read_as : modrm_of r.modrm a.modrm ≡ used_modrm r.modrm (slice_index all 0)
-  read_as = used_is r.modrm a.modrm more all e a.modrm_asked
+  read_as = used_is r.modrm a.modrm more all e a.modrm_length
 
   pub modrm_count : one_if ask.modrm ≡ length a.modrm
   unfolding ask_of
-  modrm_count = ap (λ x. one_if x.modrm) k ∙ use_width r.modrm ∙ sym a.modrm_asked
+  modrm_count = ap (λ x. one_if x.modrm) k ∙ use_width r.modrm ∙ sym a.modrm_length
 
-  pub sib_count : one_if (asks_sib ask (slice_index all 0)) ≡ sib_width (modrm_of r.modrm a.modrm)
+  pub sib_count : one_if (has_sib ask (slice_index all 0)) ≡ sib_width (modrm_of r.modrm a.modrm)
   unfolding ask_of
-  sib_count = cc (k, sib_asked r.modrm (slice_index all 0), read_as)
+  sib_count = cc (k, sib_present r.modrm (slice_index all 0), read_as)
 
-  pub immediate_count : ask.immediate ≡ length a.behind.pieces.immediates
+  pub immediate_count : ask.immediate ≡ length a.tail_spelled.pieces.immediates
   unfolding ask_of
   immediate_count =
-      let s = a.behind.pieces in
+      let s = a.tail_spelled.pieces in
       let m : ℕ = modrm_of r.modrm a.modrm in
-      let long = operands_long (list_of (r.plan m).encodings) p m s.memory s.immediates s.given s.immediates_asked in
+      let long = operands_long (list_of (r.plan m).encodings) p m s.memory s.immediates s.operand_pairs s.immediates_spelled in
       cc (k, read_as, long)
 
-  pub suffix_count : one_if ask.suffix ≡ length a.behind.pieces.suffix
+  pub suffix_count : one_if ask.suffix ≡ length a.tail_spelled.pieces.suffix
   unfolding ask_of
   suffix_count =
       let width = verdict_width (r.plan (modrm_of r.modrm a.modrm)).verdict in
-      cc (k, read_as, width, a.behind.pieces.suffix_asked)
+      cc (k, read_as, width, a.tail_spelled.pieces.suffix_length)
 
-  pub address_count : (length a.tail - one_if ask.suffix) - ask.immediate ≡ length a.behind.pieces.address
+  pub address_count : (length a.tail - one_if ask.suffix) - ask.immediate ≡ length a.tail_spelled.pieces.address
   address_count =
-      let s = a.behind.pieces in
+      let s = a.tail_spelled.pieces in
       omega (arith, length-append {A = ℕ}, ap length s.spelled, immediate_count, suffix_count)

@@ -1,4 +1,4 @@
--- Fields that meet the conditions on their row spell what the row asks, and the other way round.
+-- Fields that meet the conditions on their row spell what the row has, and the other way round.
 use Rattle.std.proofs.Common.{◌≡◌, ℕ, ◌==◌, ◌&&◌, ◌||◌, not, Bool, true, false, if◌then◌else◌, List, [], ◌∷◌, ◌++◌, length, take, drop, map, Option, Some, None, is_some, is_none, refl, sym, ap, subst, ◌∙◌, arith, length-take, length-drop}
 use Rattle.std.proofs.lemmas.List.{take-append-drop}
 use Rattle.std.proofs.lemmas.Bool.Decides.{nat_tests}
@@ -14,16 +14,16 @@ use Rattle.x86_operands.specs.declared.plans.Verdict.{Verdict}
 use Rattle.x86_operands.specs.declared.plans.Verdict.TheVariants.{Accepts, NamedBySuffix, Refuses}
 use Rattle.x86_operands.specs.declared.reader.Reading.{Reading}
 use Rattle.x86_operands.specs.Plans.{RowRecord, list_of}
-use Rattle.x86_operands.specs.Pieces.{immediate_width, operand_gives, modrm_of, opcode_by, is_refusal, SpellsOperands, SpellsMemory, SpellsRow}
+use Rattle.x86_operands.specs.Pieces.{immediate_width, operand_from, modrm_of, opcode_by, is_refusal, SpellsOperands, SpellsMemory, SpellsRow}
 use Rattle.x86_operands.specs.PlanSteps.{four_of, reading_from}
 use Rattle.x86_operands.specs.Suffix.{suffix_opcode}
-use Rattle.x86_operands.specs.Asks.{asks_modrm, asks_suffix, immediates_width, record_at}
+use Rattle.x86_operands.specs.Asks.{uses_modrm, uses_suffix, immediates_width, record_at}
 use Rattle.x86_layout.specs.declared.parts.fields.Fields as fields
 use Rattle.x86_layout.specs.Parts.Heads.{one_if}
 use Rattle.x86_layout.specs.Parts.Split.{sib_width}
-use Rattle.x86_layout.specs.Parts.Permitted.{refuses_suffix, passes_record, displacement_asked, has_asked_parts, tail_of}
+use Rattle.x86_layout.specs.Parts.Permitted.{refuses_suffix, passes_record, displacement_length, has_row_parts, tail_of}
 use Rattle.x86_layout.proofs.PartLemmas.Part.{take_of, drop_of, operands_long, use_width, verdict_width}
-use Rattle.x86_layout.proofs.PartLemmas.Front.{HoldsPieces, option_count, first_of, address_parts}
+use Rattle.x86_layout.proofs.PartLemmas.OfBytes.{HoldsPieces, option_count, first_of, address_parts}
 
 -- ---- tests
 
@@ -55,23 +55,23 @@ empty_of : (bytes : List ℕ) → length bytes ≡ 0 → bytes ≡ []
 empty_of [] e = refl
 empty_of (x ∷ xs) e = absurd (omega (arith, e))
 
--- ---- the pieces that a row asks
+-- ---- the pieces that a row has
 
-spell_operands : (encodings : List OperandEncoding) (p : Prefixes) (m : ℕ) (memory : Option Raw) (bytes : List ℕ) → length bytes ≡ total (map immediate_width encodings) → (given : List (Slot × Operand)) × SpellsOperands encodings p m memory bytes given
+spell_operands : (encodings : List OperandEncoding) (p : Prefixes) (m : ℕ) (memory : Option Raw) (bytes : List ℕ) → length bytes ≡ total (map immediate_width encodings) → (operand_pairs : List (Slot × Operand)) × SpellsOperands encodings p m memory bytes operand_pairs
 spell_operands [] p m memory bytes e = ([], (empty_of bytes e, refl))
 spell_operands (s ∷ rest) p m memory bytes e =
     let w : ℕ = immediate_width s in
     let back : length (drop w bytes) ≡ total (map immediate_width rest) = let d = length-drop w bytes in omega (arith, d, e) in
     let others = spell_operands rest p m memory (drop w bytes) back in (
-      operand_gives s p m memory (take w bytes) ∷ others.0,
+      operand_from s p m memory (take w bytes) ∷ others.0,
       record {
         immediate = take w bytes;
         tail = drop w bytes;
         others = others.0;
         spelled = sym (take-append-drop w bytes);
-        asked = let t = length-take w bytes in omega (arith, t, e);
-        gives = refl;
-        behind = others.1;
+        immediate_length = let t = length-take w bytes in omega (arith, t, e);
+        yields = refl;
+        tail_spelled = others.1;
       },
     )
 
@@ -79,20 +79,20 @@ none_left : (sib : Option ℕ) (disp : List ℕ) → one_if (is_some sib) ≡ 0 
 none_left None disp e h = empty_of disp h
 none_left (Some b) disp e h = absurd (omega (arith, e))
 
-spell_memory : (p : Prefixes) (m : ℕ) (sib : Option ℕ) (disp : List ℕ) → one_if (is_some sib) ≡ sib_width m → length disp ≡ displacement_asked m sib → (memory : Option Raw) × SpellsMemory p m (option_bytes sib ++ disp) memory
+spell_memory : (p : Prefixes) (m : ℕ) (sib : Option ℕ) (disp : List ℕ) → one_if (is_some sib) ≡ sib_width m → length disp ≡ displacement_length m sib → (memory : Option Raw) × SpellsMemory p m (option_bytes sib ++ disp) memory
 spell_memory p m sib disp e h = by (is_memory m) refl e h
   where
     by : (t : Bool) → is_memory m ≡ t → one_if (is_some sib) ≡ one_if (t && rm_field m == 4) → length disp ≡ (if t then displacement_width m sib else 0) → (memory : Option Raw) × SpellsMemory p m (option_bytes sib ++ disp) memory
     by true is e h = (
       Some (record { rex_b = has_b p; rex_x = has_x p; address_size = p.address_size; modrm = m; sib = sib; disp = signed_by (displacement_width m sib) disp }),
-      (is, record { sib = sib; disp = disp; spelled = refl; sib_asked = same_bool (is_some sib) (rm_field m == 4) e; disp_asked = h; fields = refl }),
+      (is, record { sib = sib; disp = disp; spelled = refl; sib_present = same_bool (is_some sib) (rm_field m == 4) e; disp_length = h; fields = refl }),
     )
     by false is e h = (None, (is, none_left sib disp e h))
 
-accepted_by : (refusal asks : Bool) (modrm : Option ℕ) → (not refusal || (asks && is_none modrm)) ≡ true → one_if (is_some modrm) ≡ one_if asks → refusal ≡ false
-accepted_by refusal asks modrm h e = grind arith
+accepted_by : (refusal uses : Bool) (modrm : Option ℕ) → (not refusal || (uses && is_none modrm)) ≡ true → one_if (is_some modrm) ≡ one_if uses → refusal ≡ false
+accepted_by refusal uses modrm h e = grind arith
 
-named_by : (v : Verdict) (opcode : ℕ) (suffix : Option ℕ) → is_refusal v ≡ false → refuses_suffix v suffix ≡ false → one_if (is_some suffix) ≡ one_if (asks_suffix v) → (o : ℕ) × (opcode_by v opcode (option_bytes suffix) ≡ Some o)
+named_by : (v : Verdict) (opcode : ℕ) (suffix : Option ℕ) → is_refusal v ≡ false → refuses_suffix v suffix ≡ false → one_if (is_some suffix) ≡ one_if (uses_suffix v) → (o : ℕ) × (opcode_by v opcode (option_bytes suffix) ≡ Some o)
 named_by Accepts opcode suffix a h e = (opcode, refl)
 named_by NamedBySuffix opcode (Some b) a h e = some_is (suffix_opcode b) h
 named_by NamedBySuffix opcode None a h e = absurd (omega (arith, e))
@@ -114,42 +114,42 @@ module _ (r : RowRecord) (p : Prefixes) (f : fields.Fields) where
   abbrev v : Verdict
   v = (r.plan m).verdict
 
-  pub spelled : passes_record (record_at r f.modrm) f ≡ true → has_asked_parts (record_at r f.modrm) f ≡ true → SpellsFields r p f
+  pub spelled : passes_record (record_at r f.modrm) f ≡ true → has_row_parts (record_at r f.modrm) f ≡ true → SpellsFields r p f
   unfolding record_at
   spelled h k =
-      let passed = three_of (is_none r.at_opcode) (is_refusal v) (asks_modrm r.modrm && is_none f.modrm) (refuses_suffix v f.suffix) h in
+      let passed = three_of (is_none r.at_opcode) (is_refusal v) (uses_modrm r.modrm && is_none f.modrm) (refuses_suffix v f.suffix) h in
       let counts = same_five _ _ _ _ _ _ _ _ _ _ k in
-      let modrm_n : one_if (is_some f.modrm) ≡ one_if (asks_modrm r.modrm) = counts.0 in
+      let modrm_n : one_if (is_some f.modrm) ≡ one_if (uses_modrm r.modrm) = counts.0 in
       let sib_n : one_if (is_some f.sib) ≡ sib_width m = counts.1 in
-      let suffix_n : one_if (is_some f.suffix) ≡ one_if (asks_suffix v) = counts.4 in
+      let suffix_n : one_if (is_some f.suffix) ≡ one_if (uses_suffix v) = counts.4 in
       let memory = spell_memory p m f.sib f.displacement.items sib_n counts.2 in
-      let given = spell_operands (list_of (r.plan m).encodings) p m memory.0 f.immediate.items counts.3 in
-      let accepted : is_refusal v ≡ false = accepted_by (is_refusal v) (asks_modrm r.modrm) f.modrm passed.1 modrm_n in
+      let operand_pairs = spell_operands (list_of (r.plan m).encodings) p m memory.0 f.immediate.items counts.3 in
+      let accepted : is_refusal v ≡ false = accepted_by (is_refusal v) (uses_modrm r.modrm) f.modrm passed.1 modrm_n in
       let named = named_by v (r.plan m).opcode f.suffix accepted passed.2 suffix_n in
       record {
-        reading = reading_from (r.plan m) p named.0 (four_of given.0);
+        reading = reading_from (r.plan m) p named.0 (four_of operand_pairs.0);
         row = record {
           modrm = option_bytes f.modrm;
           tail = (option_bytes f.sib ++ f.displacement.items) ++ (f.immediate.items ++ option_bytes f.suffix);
           passed = none_is r.at_opcode passed.0;
           spelled = refl;
-          modrm_asked = option_count f.modrm ∙ modrm_n ∙ use_width r.modrm;
-          behind = record {
+          modrm_length = option_count f.modrm ∙ modrm_n ∙ use_width r.modrm;
+          tail_spelled = record {
             pieces = record {
               memory = memory.0;
               address = option_bytes f.sib ++ f.displacement.items;
               immediates = f.immediate.items;
               suffix = option_bytes f.suffix;
-              given = given.0;
+              operand_pairs = operand_pairs.0;
               spelled = refl;
-              address_asked = memory.1;
-              immediates_asked = given.1;
-              suffix_asked = option_count f.suffix ∙ suffix_n ∙ verdict_width v;
+              address_spelled = memory.1;
+              immediates_spelled = operand_pairs.1;
+              suffix_length = option_count f.suffix ∙ suffix_n ∙ verdict_width v;
             };
             opcode = named.0;
             named = named.1;
             accepted = accepted;
-            gives = refl;
+            yields = refl;
           };
         };
         parts = record { modrm = refl; sib = option_count f.sib ∙ sib_n; address = refl; immediate = refl; suffix = refl };
@@ -168,34 +168,34 @@ module _ {r : RowRecord} {p : Prefixes} {tail : List ℕ} {reading : Reading} (f
   same_at = ap (modrm_of r.modrm) (sym h.modrm)
 
   accepts : is_refusal (r.plan at).verdict ≡ false
-  accepts = subst (λ n. is_refusal (r.plan n).verdict ≡ false) same_at a.behind.accepted
+  accepts = subst (λ n. is_refusal (r.plan n).verdict ≡ false) same_at a.tail_spelled.accepted
 
-  names : opcode_by (r.plan at).verdict (r.plan at).opcode (option_bytes f.suffix) ≡ Some a.behind.opcode
-  names = cc (same_at, h.suffix, a.behind.named)
+  names : opcode_by (r.plan at).verdict (r.plan at).opcode (option_bytes f.suffix) ≡ Some a.tail_spelled.opcode
+  names = cc (same_at, h.suffix, a.tail_spelled.named)
 
   pub passes : passes_record (record_at r f.modrm) f ≡ true
   unfolding record_at
-  passes = all_three _ _ _ _ (ap is_none a.passed) accepts (names_suffix (r.plan at).verdict (r.plan at).opcode a.behind.opcode f.suffix names)
+  passes = all_three _ _ _ _ (ap is_none a.passed) accepts (names_suffix (r.plan at).verdict (r.plan at).opcode a.tail_spelled.opcode f.suffix names)
 
-  displacement_long : length f.displacement.items ≡ displacement_asked at f.sib
+  displacement_long : length f.displacement.items ≡ displacement_length at f.sib
   displacement_long =
-      let t = a.behind.pieces in
+      let t = a.tail_spelled.pieces in
       let n : ℕ = modrm_of r.modrm a.modrm in
-      let x = address_parts p n t.address t.memory t.address_asked in
+      let x = address_parts p n t.address t.memory t.address_spelled in
       let both : option_bytes f.sib ++ f.displacement.items ≡ x.sib ++ x.disp = h.address ∙ x.spelled in
       let long : length (option_bytes f.sib) ≡ length x.sib = h.sib ∙ sym x.sib_long in
-      let front : option_bytes f.sib ≡ x.sib = take_of _ f.displacement.items x.sib x.disp both long in
+      let beginning : option_bytes f.sib ≡ x.sib = take_of _ f.displacement.items x.sib x.disp both long in
       let back : f.displacement.items ≡ x.disp = drop_of (option_bytes f.sib) f.displacement.items x.sib x.disp both long in
-      cc (back, x.disp_long, front, first_of f.sib, same_at)
+      cc (back, x.disp_long, beginning, first_of f.sib, same_at)
 
-  pub asked : has_asked_parts (record_at r f.modrm) f ≡ true
+  pub row_parts : has_row_parts (record_at r f.modrm) f ≡ true
   unfolding record_at
-  asked =
-      let t = a.behind.pieces in
+  row_parts =
+      let t = a.tail_spelled.pieces in
       let n : ℕ = modrm_of r.modrm a.modrm in
-      let modrm : one_if (is_some f.modrm) ≡ one_if (asks_modrm r.modrm) = cc (option_count f.modrm, h.modrm, a.modrm_asked, use_width r.modrm) in
+      let modrm : one_if (is_some f.modrm) ≡ one_if (uses_modrm r.modrm) = cc (option_count f.modrm, h.modrm, a.modrm_length, use_width r.modrm) in
       let sib : one_if (is_some f.sib) ≡ sib_width at = cc (option_count f.sib, h.sib, same_at) in
-      let long = operands_long (list_of (r.plan n).encodings) p n t.memory t.immediates t.given t.immediates_asked in
+      let long = operands_long (list_of (r.plan n).encodings) p n t.memory t.immediates t.operand_pairs t.immediates_spelled in
       let immediate : length f.immediate.items ≡ immediates_width (r.plan at).encodings = cc (h.immediate, long, same_at) in
-      let suffix : one_if (is_some f.suffix) ≡ one_if (asks_suffix (r.plan at).verdict) = cc (option_count f.suffix, h.suffix, t.suffix_asked, verdict_width (r.plan n).verdict, same_at) in
+      let suffix : one_if (is_some f.suffix) ≡ one_if (uses_suffix (r.plan at).verdict) = cc (option_count f.suffix, h.suffix, t.suffix_length, verdict_width (r.plan n).verdict, same_at) in
       test_five _ _ _ _ _ _ _ _ _ _ modrm sib displacement_long immediate suffix

@@ -5,6 +5,6 @@ use Rattle.x86_layout.specs.Parts.Split.{PartLists, Encoding, HasParts, joined}
 
 pub joined_is : (strict : Bool) (s : List ℕ) (reading : Reading) (w : Encoding strict s reading) (p : PartLists) → HasParts strict s reading w p → joined p ≡ s
 joined_is strict s reading w p h =
-    let a = w.asked in
-    let t = a.behind.pieces in
+    let a = w.row_spelled in
+    let t = a.tail_spelled.pieces in
     cc (h.prefixes, h.escape, h.opcode, h.modrm, h.address, h.immediate, h.suffix, w.spelled, a.spelled, t.spelled)

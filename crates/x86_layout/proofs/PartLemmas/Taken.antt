@@ -4,10 +4,10 @@ use Rattle.x86_forms.specs.Words.{rows_of, packed}
 use Rattle.x86_decode.specs.declared.instructions.Instruction.{Instruction}
 use Rattle.x86_decode.specs.Grammar.{IsAccepted, IsAnswer, IsSentence}
 use Rattle.x86_decode.specs.Answer.{answer_of, count_of}
-use Rattle.x86_layout.proofs.PartLemmas.Part.{front_is}
+use Rattle.x86_layout.proofs.PartLemmas.Part.{beginning_is}
 
 -- The bytes are accepted, and begin with this sentence.
-pub record IsFront (strict : Bool) (bytes encoding : List ℕ) (instruction : Instruction) : Type 0 where
+pub record IsFirstSentence (strict : Bool) (bytes encoding : List ℕ) (instruction : Instruction) : Type 0 where
   pub accepted : answer_of strict bytes ≡ Ok instruction
   pub rest : List ℕ
   pub begins : bytes ≡ encoding ++ rest
@@ -15,10 +15,10 @@ pub record IsFront (strict : Bool) (bytes encoding : List ℕ) (instruction : In
   pub is : IsSentence (rows_of packed) strict encoding instruction
 
 -- As many bytes as the instruction has are that sentence.
-pub front_of : (strict : Bool) (bytes encoding : List ℕ) (instruction : Instruction) (n : ℕ) → answer_of strict bytes ≡ Ok instruction → IsAnswer (rows_of packed) strict bytes (answer_of strict bytes) (count_of strict bytes) → instruction.length ≡ count_of strict bytes → n ≡ instruction.length → encoding ≡ take n bytes → IsFront strict bytes encoding instruction
-front_of strict bytes encoding instruction n value answer counted long front =
+pub beginning_of : (strict : Bool) (bytes encoding : List ℕ) (instruction : Instruction) (n : ℕ) → answer_of strict bytes ≡ Ok instruction → IsAnswer (rows_of packed) strict bytes (answer_of strict bytes) (count_of strict bytes) → instruction.length ≡ count_of strict bytes → n ≡ instruction.length → encoding ≡ take n bytes → IsFirstSentence strict bytes encoding instruction
+beginning_of strict bytes encoding instruction n value answer counted long beginning =
     let accepted : IsAccepted (rows_of packed) strict bytes instruction (count_of strict bytes) = subst (λ r. IsAnswer (rows_of packed) strict bytes r (count_of strict bytes)) value answer in
-    let same : encoding ≡ accepted.sentence = front ∙ front_is bytes accepted.sentence accepted.rest n accepted.begins (long ∙ counted ∙ sym accepted.long) in
+    let same : encoding ≡ accepted.sentence = beginning ∙ beginning_is bytes accepted.sentence accepted.rest n accepted.begins (long ∙ counted ∙ sym accepted.long) in
     record {
       accepted = value;
       rest = accepted.rest;

@@ -8,7 +8,7 @@ use Rattle.std.proofs.lemmas.Bool.{cases_lt}
 use Rattle.x86_fields.specs.declared.errors.DecodeError.{DecodeError}
 use Rattle.x86_decode.specs.declared.instructions.Instruction.{Instruction}
 use Rattle.x86_decode.specs.Answer.{answer_of}
-use Rattle.x86_layout.specs.Sweeps.Cuts.{cut_length, cut_at, cuts_behind, cuts_from}
+use Rattle.x86_layout.specs.Sweeps.Cuts.{cut_length, cut_at, cuts_skipping, cuts_from}
 use Rattle.x86_layout.specs.Sweeps.Marks.{begins_at, is_inside}
 use Rattle.x86_layout.specs.Sweeps.Lengths.{IsWithin}
 
@@ -46,35 +46,35 @@ module _ (strict : Bool) (lengths : Lengths strict) where
 
   -- ---- ends
 
-  pub within : (skip place : ℕ) (xs : List ℕ) → All (IsWithin (place + length xs)) (cuts_behind strict skip place xs)
-  unfolding cuts_behind
+  pub within : (skip place : ℕ) (xs : List ℕ) → All (IsWithin (place + length xs)) (cuts_skipping strict skip place xs)
+  unfolding cuts_skipping
   within skip place [] = All-nil (IsWithin (place + 0))
   within zero place (x ∷ xs) =
       let n : ℕ = cut_length (answer_of strict (x ∷ xs)) in
       let fit = fits (x ∷ xs) (omega arith) in
-      All-cons (IsWithin (place + suc (length xs))) (cut_at strict place (x ∷ xs)) (cuts_behind strict (n - 1) (place + 1) xs) (fit.0, let long : n ≤ suc (length xs) = fit.1 in omega arith)
-      (subst (λ e. All (IsWithin e) (cuts_behind strict (n - 1) (place + 1) xs)) (one_more place (length xs)) (within (n - 1) (place + 1) xs))
-  within (suc k) place (x ∷ xs) = subst (λ e. All (IsWithin e) (cuts_behind strict k (place + 1) xs)) (one_more place (length xs)) (within k (place + 1) xs)
+      All-cons (IsWithin (place + suc (length xs))) (cut_at strict place (x ∷ xs)) (cuts_skipping strict (n - 1) (place + 1) xs) (fit.0, let long : n ≤ suc (length xs) = fit.1 in omega arith)
+      (subst (λ e. All (IsWithin e) (cuts_skipping strict (n - 1) (place + 1) xs)) (one_more place (length xs)) (within (n - 1) (place + 1) xs))
+  within (suc k) place (x ∷ xs) = subst (λ e. All (IsWithin e) (cuts_skipping strict k (place + 1) xs)) (one_more place (length xs)) (within k (place + 1) xs)
 
   -- ---- indices
 
-  none_before : (skip place p : ℕ) (xs : List ℕ) → p < place → list_any (begins_at p) (cuts_behind strict skip place xs) ≡ false
-  unfolding cuts_behind
+  none_before : (skip place p : ℕ) (xs : List ℕ) → p < place → list_any (begins_at p) (cuts_skipping strict skip place xs) ≡ false
+  unfolding cuts_skipping
   none_before skip place p [] h = refl
   none_before zero place p (x ∷ xs) h = apart p place _ h (none_before (cut_length (answer_of strict (x ∷ xs)) - 1) (place + 1) p xs (omega arith))
   none_before (suc k) place p (x ∷ xs) h = none_before k (place + 1) p xs (omega arith)
 
-  none_round : (skip place p : ℕ) (xs : List ℕ) → p ≤ place → list_any (is_inside p) (cuts_behind strict skip place xs) ≡ false
-  unfolding cuts_behind
+  none_round : (skip place p : ℕ) (xs : List ℕ) → p ≤ place → list_any (is_inside p) (cuts_skipping strict skip place xs) ≡ false
+  unfolding cuts_skipping
   none_round skip place p [] h = refl
   none_round zero place p (x ∷ xs) h =
       let n : ℕ = cut_length (answer_of strict (x ∷ xs)) in
       not_inside p place n _ h (none_round (n - 1) (place + 1) p xs (omega arith))
   none_round (suc k) place p (x ∷ xs) h = none_round k (place + 1) p xs (omega arith)
 
-  -- a place behind the cut before is that of a cut, or inside one
-  begins_by : (skip place p : ℕ) (xs : List ℕ) → place ≤ p → p < place + length xs → list_any (begins_at p) (cuts_behind strict skip place xs) ≡ (not (nat_lt p (place + skip)) && not (list_any (is_inside p) (cuts_behind strict skip place xs)))
-  unfolding cuts_behind
+  -- a place after the cut before is that of a cut, or inside one
+  begins_by : (skip place p : ℕ) (xs : List ℕ) → place ≤ p → p < place + length xs → list_any (begins_at p) (cuts_skipping strict skip place xs) ≡ (not (nat_lt p (place + skip)) && not (list_any (is_inside p) (cuts_skipping strict skip place xs)))
+  unfolding cuts_skipping
   begins_by skip place p [] h k = absurd (omega arith)
   begins_by zero place p (x ∷ xs) h k = elim (cases_lt place p) [
     | inl less ↦
@@ -85,7 +85,7 @@ module _ (strict : Bool) (lengths : Lengths strict) where
         here place p n _ _ same h (none_round (n - 1) (place + 1) p xs (omega arith))
   ]
   begins_by (suc k) place p (x ∷ xs) h l = elim (cases_lt place p) [
-    | inl less ↦ begins_by k (place + 1) p xs (omega arith) (omega arith) ∙ ap (λ e. not (nat_lt p e) && not (list_any (is_inside p) (cuts_behind strict k (place + 1) xs))) (one_more place k)
+    | inl less ↦ begins_by k (place + 1) p xs (omega arith) (omega arith) ∙ ap (λ e. not (nat_lt p e) && not (list_any (is_inside p) (cuts_skipping strict k (place + 1) xs))) (one_more place k)
     | inr same ↦ passed_over place p k _ _ (omega arith) (none_before k (place + 1) p xs (omega arith))
   ]
 
@@ -101,8 +101,8 @@ module _ (strict : Bool) (lengths : Lengths strict) where
 
   -- ---- lengths
 
-  sum_from : (skip place : ℕ) (xs : List ℕ) → skip ≤ length xs → sum_by (λ c. c.length) (cuts_behind strict skip place xs) + skip ≡ length xs
-  unfolding cuts_behind
+  sum_from : (skip place : ℕ) (xs : List ℕ) → skip ≤ length xs → sum_by (λ c. c.length) (cuts_skipping strict skip place xs) + skip ≡ length xs
+  unfolding cuts_skipping
   sum_from skip place [] h = omega arith
   sum_from zero place (x ∷ xs) h =
       let n : ℕ = cut_length (answer_of strict (x ∷ xs)) in
@@ -110,7 +110,7 @@ module _ (strict : Bool) (lengths : Lengths strict) where
       let some : 0 < n = fit.0 in
       let long : n ≤ suc (length xs) = fit.1 in
       let rest = sum_from (n - 1) (place + 1) xs (omega arith) in
-      let first = sum_by-cons (λ c. c.length) (cut_at strict place (x ∷ xs)) (cuts_behind strict (n - 1) (place + 1) xs) in
+      let first = sum_by-cons (λ c. c.length) (cut_at strict place (x ∷ xs)) (cuts_skipping strict (n - 1) (place + 1) xs) in
       omega (arith, first, rest)
   sum_from (suc k) place (x ∷ xs) h = let rest = sum_from k (place + 1) xs (omega arith) in omega (arith, rest)
 

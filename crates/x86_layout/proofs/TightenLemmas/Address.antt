@@ -13,40 +13,40 @@ use Rattle.x86_fields.specs.ModRM.{mod_field, rm_field, is_memory}
 use Rattle.x86_fields.specs.Raw.{live_bit, displacement_width, names_no_base, sib_fits, is_zero, is_byte, disp_fits, fits, has_b, has_x}
 use Rattle.x86_fields.specs.Pieces.{option_bytes, signed_by}
 use Rattle.x86_operands.specs.Pieces.{SpellsMemory}
-use Rattle.x86_decode.proofs.ByteLemmas.{Bytes, bytes_behind, memory_fits}
+use Rattle.x86_decode.proofs.ByteLemmas.{Bytes, bytes_after, memory_fits}
 use Rattle.x86_layout.specs.Tightening.Registers.{IsByteOption}
 use Rattle.x86_layout.specs.Tightening.Shortest.{address_length, IsOfBytes}
 use Rattle.x86_layout.specs.Tightening.Tighten.{bits_in, spelled_displacement, address_bytes}
-use Rattle.x86_layout.proofs.PartLemmas.Front.{option_count}
+use Rattle.x86_layout.proofs.PartLemmas.OfBytes.{option_count}
 
 -- ---- the displacement that bytes spell fits its width
 
 byte_fits : (n : ℕ) → n < 256 → is_byte (cast_signed w8 n) ≡ true
 byte_fits n h = grind (arith, nat_tests)
 
-front_small : (l : List ℕ) → Bytes l → from_le_bytes w8 l < 256
-front_small [] h = omega arith
-front_small (b ∷ l) h = h.0
+beginning_small : (l : List ℕ) → Bytes l → from_le_bytes w8 l < 256
+beginning_small [] h = omega arith
+beginning_small (b ∷ l) h = h.0
 
 spelled_disp_fits : (width : ℕ) (l : List ℕ) → Bytes l → disp_fits width (signed_by width l) ≡ true
-spelled_disp_fits width l h = let fits = byte_fits (from_le_bytes w8 l) (front_small l h) in grind (arith, nat_tests, fits)
+spelled_disp_fits width l h = let fits = byte_fits (from_le_bytes w8 l) (beginning_small l h) in grind (arith, nat_tests, fits)
 
 sib_fits_by : (modrm : ℕ) (sib : Option ℕ) → is_some sib ≡ (rm_field modrm == 4) → sib_fits modrm sib ≡ true
 sib_fits_by modrm sib e = grind arith
 
-front_byte : (sib : Option ℕ) (disp : List ℕ) → Bytes (option_bytes sib ++ disp) → IsByteOption sib
-front_byte None disp h = tt
-front_byte (Some b) disp h = h.0
+beginning_byte : (sib : Option ℕ) (disp : List ℕ) → Bytes (option_bytes sib ++ disp) → IsByteOption sib
+beginning_byte None disp h = tt
+beginning_byte (Some b) disp h = h.0
 
 -- raw fields that bytes spell are raw fields of bytes
 pub of_bytes : (p : Prefixes) (m : ℕ) (address : List ℕ) (raw : Raw) → SpellsMemory p m address (Some raw) → Bytes address → IsOfBytes raw
 of_bytes p m address raw h b =
     let s = h.1 in
     let both : Bytes (option_bytes s.sib ++ s.disp) = subst Bytes s.spelled b in
-    let disp : Bytes s.disp = bytes_behind (option_bytes s.sib) s.disp both in
+    let disp : Bytes s.disp = bytes_after (option_bytes s.sib) s.disp both in
     record {
-      fit = cc (s.fields, h.0, sib_fits_by m s.sib s.sib_asked, spelled_disp_fits (displacement_width m s.sib) s.disp disp);
-      sib = subst (λ r. IsByteOption r.sib) (sym s.fields) (front_byte s.sib s.disp both);
+      fit = cc (s.fields, h.0, sib_fits_by m s.sib s.sib_present, spelled_disp_fits (displacement_width m s.sib) s.disp disp);
+      sib = subst (λ r. IsByteOption r.sib) (sym s.fields) (beginning_byte s.sib s.disp both);
       disp = memory_fits p m address (Some raw) raw h refl b;
     }
 
@@ -56,7 +56,7 @@ pub address_long : (p : Prefixes) (m : ℕ) (address : List ℕ) (raw : Raw) →
 address_long p m address raw h =
     let s = h.1 in
     let long = length-append (option_bytes s.sib) s.disp in
-    cc (s.spelled, long, option_count s.sib, s.disp_asked, s.fields)
+    cc (s.spelled, long, option_count s.sib, s.disp_length, s.fields)
 
 -- ---- the bytes of raw fields spell them
 
@@ -94,8 +94,8 @@ lowest_long_by one two none d = grind arith
 displacement_long : (raw : Raw) → length (spelled_displacement raw) ≡ displacement_width raw.modrm raw.sib
 displacement_long raw = lowest_long_by (mod_field raw.modrm == 1) (mod_field raw.modrm == 2) (names_no_base raw.modrm raw.sib) raw.disp
 
-sib_asked : (modrm : ℕ) (sib : Option ℕ) → sib_fits modrm sib ≡ true → is_some sib ≡ (rm_field modrm == 4)
-sib_asked modrm sib e = grind arith
+sib_present : (modrm : ℕ) (sib : Option ℕ) → sib_fits modrm sib ≡ true → is_some sib ≡ (rm_field modrm == 4)
+sib_present modrm sib e = grind arith
 
 -- the bytes of raw fields spell them, under prefixes with their bits
 pub respells : (q : Prefixes) (raw : Raw) → IsOfBytes raw → has_b q ≡ raw.rex_b → has_x q ≡ raw.rex_x → q.address_size ≡ raw.address_size → SpellsMemory q raw.modrm (address_bytes raw) (Some raw)
@@ -108,8 +108,8 @@ respells q raw h b x short =
         sib = raw.sib;
         disp = spelled_displacement raw;
         spelled = refl;
-        sib_asked = sib_asked raw.modrm raw.sib fit.0;
-        disp_asked = displacement_long raw;
+        sib_present = sib_present raw.modrm raw.sib fit.0;
+        disp_length = displacement_long raw;
         fields = rw (b, x, short, value) refl;
       },
     )

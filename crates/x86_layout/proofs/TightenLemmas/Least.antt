@@ -4,7 +4,7 @@ use Rattle.x86_fields.specs.declared.raw.Raw.{Raw}
 use Rattle.x86_operands.specs.declared.reader.Reading.{Reading}
 use Rattle.x86_fields.specs.ModRM.{is_memory}
 use Rattle.x86_operands.specs.Asks.{ask_of}
-use Rattle.x86_layout.specs.Parts.Front.{ask_in, parts_of}
+use Rattle.x86_layout.specs.Parts.OfBytes.{ask_in, parts_of}
 use Rattle.x86_decode.specs.declared.instructions.Instruction.{Instruction}
 use Rattle.x86_decode.specs.Answer.{answer_of}
 use Rattle.x86_layout.specs.Tightening.Least.{least_by, least_length, shortest_length}
@@ -12,7 +12,7 @@ use Rattle.x86_layout.specs.Parts.Split.{Encoding, HasParts}
 use Rattle.x86_layout.specs.Tightening.Registers.{is_ip_relative}
 use Rattle.x86_layout.specs.Tightening.Shortest.{shortest, address_length, IsOfBytes}
 use Rattle.x86_layout.specs.Tightening.Tighten.{raw_of}
-use Rattle.x86_layout.proofs.PartLemmas.Front.{has_head, parts_are}
+use Rattle.x86_layout.proofs.PartLemmas.OfBytes.{has_head, parts_are}
 use Rattle.x86_layout.proofs.PartLemmas.Part.{used_is}
 use Rattle.x86_layout.proofs.TightenLemmas.Relative.{Row, Byte, Bytes', spells, length_is, long}
 use Rattle.x86_layout.proofs.TightenLemmas.Tighten.{raw_is}
@@ -24,7 +24,7 @@ module _ {strict : Bool} {s : List ℕ} {a : Reading} (v : Encoding strict s a) 
       let h = has_head strict s s [] a v (sym (append-nil s)) in
       ap (λ k. k.memory) h.ask
       ∙ ap (λ l. (ask_of (Row v) (slice_index l 0)).memory) (h.tail ∙ append-nil v.tail)
-      ∙ ap is_memory (sym (used_is (Row v).modrm v.asked.modrm v.asked.tail v.tail v.asked.spelled v.asked.modrm_asked))
+      ∙ ap is_memory (sym (used_is (Row v).modrm v.row_spelled.modrm v.row_spelled.tail v.tail v.row_spelled.spelled v.row_spelled.modrm_length))
 
   has_parts : HasParts strict s a v (parts_of strict s)
   has_parts = parts_are strict s s [] a v (sym (append-nil s))
@@ -38,7 +38,7 @@ module _ {strict : Bool} {s : List ℕ} {a : Reading} (v : Encoding strict s a) 
   pub least_without : is_memory (Byte v) ≡ false → least_length strict s ≡ length s
   least_without e = least_is false (raw_of (parts_of strict s)) e refl
 
-  module _ {raw : Raw} (read : v.asked.behind.pieces.memory ≡ Some raw) where
+  module _ {raw : Raw} (read : v.row_spelled.tail_spelled.pieces.memory ≡ Some raw) where
     least_with : (ip : Bool) → is_ip_relative raw ≡ ip → least_length strict s ≡ (if true && not ip then (length s - address_length raw) + address_length (shortest raw) else length s)
     least_with ip e =
         least_is true raw (spells v read).0 (raw_is v read (parts_of strict s) (has_parts))
@@ -57,7 +57,7 @@ module _ {strict : Bool} {s : List ℕ} {a : Reading} (v : Encoding strict s a) 
         let new = long v read fit t spelled in
         omega (arith, h, old, new)
 
--- at the front of bytes
-pub least_front : (strict : Bool) (bytes encoding : List ℕ) (instruction : Instruction) (n : ℕ) → answer_of strict bytes ≡ Ok instruction → encoding ≡ take n bytes → n ≡ instruction.length → shortest_length strict bytes ≡ least_length strict encoding
+-- at the beginning of bytes
+pub least_beginning : (strict : Bool) (bytes encoding : List ℕ) (instruction : Instruction) (n : ℕ) → answer_of strict bytes ≡ Ok instruction → encoding ≡ take n bytes → n ≡ instruction.length → shortest_length strict bytes ≡ least_length strict encoding
 unfolding shortest_length
-least_front strict bytes encoding instruction n accepted front counted = cc (accepted, counted, front)
+least_beginning strict bytes encoding instruction n accepted beginning counted = cc (accepted, counted, beginning)

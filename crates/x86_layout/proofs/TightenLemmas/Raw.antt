@@ -14,13 +14,13 @@ use Rattle.x86_layout.specs.Tightening.Shortest.{bytes_by}
 pub least : (d : ℤ) (raw : Raw) (sib : Option ℕ) → (is_memory raw.modrm && (sib_fits raw.modrm sib && disp_fits (displacement_width raw.modrm sib) d)) ≡ true → is_ip_by raw.modrm sib ≡ false → bytes_by d (number_of (base_by raw sib)) (number_of (index_by raw sib)) ≤ (if is_some sib then 1 else 0) + displacement_width raw.modrm sib
 least d raw sib h e = grind (arith, nat_tests)
 
--- ---- registers that may stand there
+-- ---- registers that may be there
 
-pub base_stands : (raw : Raw) (sib : Option ℕ) → IsBelow16 (number_of (base_by raw sib))
-base_stands raw sib = grind (arith, nat_tests)
+pub base_number : (raw : Raw) (sib : Option ℕ) → IsBelow16 (number_of (base_by raw sib))
+base_number raw sib = grind (arith, nat_tests)
 
-pub index_stands : (raw : Raw) (sib : Option ℕ) → IsIndex (number_of (index_by raw sib))
-index_stands raw sib = grind (arith, nat_tests)
+pub index_number : (raw : Raw) (sib : Option ℕ) → IsIndex (number_of (index_by raw sib))
+index_number raw sib = grind (arith, nat_tests)
 
 -- ---- the address form
 

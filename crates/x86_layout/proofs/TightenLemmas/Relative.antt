@@ -16,7 +16,7 @@ use Rattle.x86_operands.specs.Pieces.{SpellsMemory, modrm_of, modrm_width}
 use Rattle.x86_decode.specs.Head.{escape_bytes, seen_by}
 use Rattle.x86_decode.specs.Instruction.{instruction_of}
 use Rattle.x86_decode.specs.Grammar.{record_of, allows_lock, IsSentence}
-use Rattle.x86_decode.proofs.ByteLemmas.{Bytes, bytes_of, bytes_behind, bytes_before}
+use Rattle.x86_decode.proofs.ByteLemmas.{Bytes, bytes_of, bytes_after, bytes_before}
 use Rattle.x86_layout.specs.Parts.Split.{Encoding, record_in}
 use Rattle.x86_layout.specs.Tightening.Registers.{is_ip_relative}
 use Rattle.x86_layout.specs.Tightening.Shortest.{shortest, address_length, IsOfBytes}
@@ -49,20 +49,20 @@ module _ {strict : Bool} {s : List ℕ} {a : Reading} (v : Encoding strict s a) 
   Row = record_in strict s a v
 
   abbrev pub Byte : ℕ
-  Byte = modrm_of (Row).modrm v.asked.modrm
+  Byte = modrm_of (Row).modrm v.row_spelled.modrm
 
   abbrev pub Address : List ℕ
-  Address = v.asked.behind.pieces.address
+  Address = v.row_spelled.tail_spelled.pieces.address
 
-  module _ {raw : Raw} (read : v.asked.behind.pieces.memory ≡ Some raw) where
+  module _ {raw : Raw} (read : v.row_spelled.tail_spelled.pieces.memory ≡ Some raw) where
     pub spells : SpellsMemory (Seen) (Byte) (Address) (Some raw)
-    spells = subst (λ x. SpellsMemory (Seen) (Byte) (Address) x) read v.asked.behind.pieces.address_asked
+    spells = subst (λ x. SpellsMemory (Seen) (Byte) (Address) x) read v.row_spelled.tail_spelled.pieces.address_spelled
 
     pub fields : (Row).modrm ≡ EitherForm
-    fields = uses_either_form (Row).modrm v.asked.modrm (spells).0
+    fields = uses_either_form (Row).modrm v.row_spelled.modrm (spells).0
 
-    pub byte : v.asked.modrm ≡ Byte ∷ []
-    byte = one_byte (Row).modrm v.asked.modrm fields v.asked.modrm_asked
+    pub byte : v.row_spelled.modrm ≡ Byte ∷ []
+    byte = one_byte (Row).modrm v.row_spelled.modrm fields v.row_spelled.modrm_length
 
     pub raw_modrm : raw.modrm ≡ Byte
     raw_modrm = ap (λ r. r.modrm) (spells).1.fields
@@ -78,31 +78,31 @@ module _ {strict : Bool} {s : List ℕ} {a : Reading} (v : Encoding strict s a) 
 
   tail_bytes : Bytes s → Bytes v.tail
   tail_bytes h =
-      let behind : Bytes (escape_bytes v.map ++ v.opcode ∷ v.tail) = bytes_behind v.run _ (subst Bytes v.spelled h) in
-      (bytes_behind (escape_bytes v.map) (v.opcode ∷ v.tail) behind).1
+      let following : Bytes (escape_bytes v.map ++ v.opcode ∷ v.tail) = bytes_after v.run _ (subst Bytes v.spelled h) in
+      (bytes_after (escape_bytes v.map) (v.opcode ∷ v.tail) following).1
 
   pub address_bytes_of : Bytes s → Bytes (Address)
   address_bytes_of h =
-      let t = v.asked.behind.pieces in
-      let behind : Bytes v.asked.tail = bytes_behind v.asked.modrm v.asked.tail (subst Bytes v.asked.spelled (tail_bytes h)) in
-      bytes_before t.address (t.immediates ++ t.suffix) (subst Bytes t.spelled behind)
+      let t = v.row_spelled.tail_spelled.pieces in
+      let following : Bytes v.row_spelled.tail = bytes_after v.row_spelled.modrm v.row_spelled.tail (subst Bytes v.row_spelled.spelled (tail_bytes h)) in
+      bytes_before t.address (t.immediates ++ t.suffix) (subst Bytes t.spelled following)
 
-  pub raw_of_bytes : (raw : Raw) → v.asked.behind.pieces.memory ≡ Some raw → Bytes s → IsOfBytes raw
+  pub raw_of_bytes : (raw : Raw) → v.row_spelled.tail_spelled.pieces.memory ≡ Some raw → Bytes s → IsOfBytes raw
   raw_of_bytes raw read h = of_bytes (Seen) (Byte) (Address) raw (spells read) (address_bytes_of h)
 
   -- how long the encoding is
-  pub length_is : (raw : Raw) → v.asked.behind.pieces.memory ≡ Some raw → length s ≡ length v.run + (length (escape_bytes v.map) + (2 + (address_length raw + (length v.asked.behind.pieces.immediates + length v.asked.behind.pieces.suffix))))
+  pub length_is : (raw : Raw) → v.row_spelled.tail_spelled.pieces.memory ≡ Some raw → length s ≡ length v.run + (length (escape_bytes v.map) + (2 + (address_length raw + (length v.row_spelled.tail_spelled.pieces.immediates + length v.row_spelled.tail_spelled.pieces.suffix))))
   length_is raw read =
-      let t = v.asked.behind.pieces in
+      let t = v.row_spelled.tail_spelled.pieces in
       let old = address_long (Seen) (Byte) (Address) raw (spells read) in
-      omega (arith, length-append {A = ℕ}, ap length v.spelled, ap length v.asked.spelled, ap length (byte read), ap length t.spelled, old)
+      omega (arith, length-append {A = ℕ}, ap length v.spelled, ap length v.row_spelled.spelled, ap length (byte read), ap length t.spelled, old)
 
 -- ---- the relative
 
 no_bits : (raw : Raw) (p : Prefixes) → raw.rex_b ≡ has_b p → raw.rex_x ≡ has_x p → p.rex ≡ None → ((shortest raw).rex_b ≡ false) × ((shortest raw).rex_x ≡ false)
 no_bits raw p b x none = shortest_keeps_bits raw (b ∙ ap (live_bit (λ r. r.b)) none) (x ∙ ap (live_bit (λ r. r.x)) none)
 
-module _ {strict : Bool} {s : List ℕ} {a : Reading} (v : Encoding strict s a) {raw : Raw} (read : v.asked.behind.pieces.memory ≡ Some raw) (fit : IsOfBytes raw) where
+module _ {strict : Bool} {s : List ℕ} {a : Reading} (v : Encoding strict s a) {raw : Raw} (read : v.row_spelled.tail_spelled.pieces.memory ≡ Some raw) (fit : IsOfBytes raw) where
   abbrev Other : Raw
   Other = shortest raw
 
@@ -119,7 +119,7 @@ module _ {strict : Bool} {s : List ℕ} {a : Reading} (v : Encoding strict s a) 
   After = seen_by v.map v.opcode (reading_of (Run))
 
   abbrev Rerow : Prefixes → Type 0
-  Rerow q = Rerowed (Before) q (Byte v) (Other).modrm raw (Other) (record_of strict v.row q) (address_bytes (Other)) v.asked.behind.pieces.immediates v.asked.behind.pieces.suffix a
+  Rerow q = Rerowed (Before) q (Byte v) (Other).modrm raw (Other) (record_of strict v.row q) (address_bytes (Other)) v.row_spelled.tail_spelled.pieces.immediates v.row_spelled.tail_spelled.pieces.suffix a
 
   respelled_raw : SpellsMemory (Bits) (Other).modrm (address_bytes (Other)) (Some (Other))
   respelled_raw =
@@ -141,8 +141,8 @@ module _ {strict : Bool} {s : List ℕ} {a : Reading} (v : Encoding strict s a) 
       let nm : is_memory n ≡ true = (respelled_raw).0 in
       let x = (Other).rex_x in
       let b = (Other).rex_b in
-      rerowed (Before) (Bits) m n raw (Other) (record_of strict v.row (Bits)) _ v.asked.tail (address_bytes (Other)) a v.asked.behind refl read nm (respelled_raw).1
-      (same_fault strict v.row (Before) x b m n mm nm (same_register) ∙ v.asked.passed)
+      rerowed (Before) (Bits) m n raw (Other) (record_of strict v.row (Bits)) _ v.row_spelled.tail (address_bytes (Other)) a v.row_spelled.tail_spelled refl read nm (respelled_raw).1
+      (same_fault strict v.row (Before) x b m n mm nm (same_register) ∙ v.row_spelled.passed)
       (same_use strict v.row (Before) x b m n mm nm (same_register) ∙ fields v read)
       (same_plan strict v.row (Before) x b m n mm nm (same_register) (fields v read))
 
@@ -151,7 +151,7 @@ module _ {strict : Bool} {s : List ℕ} {a : Reading} (v : Encoding strict s a) 
 
   -- the bytes
   abbrev pub Bytes' : List ℕ
-  Bytes' = Run ++ (escape_bytes v.map ++ v.opcode ∷ ((Other).modrm ∷ (address_bytes (Other) ++ (v.asked.behind.pieces.immediates ++ v.asked.behind.pieces.suffix))))
+  Bytes' = Run ++ (escape_bytes v.map ++ v.opcode ∷ ((Other).modrm ∷ (address_bytes (Other) ++ (v.row_spelled.tail_spelled.pieces.immediates ++ v.row_spelled.tail_spelled.pieces.suffix))))
 
   pub no_longer : is_ip_relative raw ≡ false → address_length (Other) ≤ address_length raw
   no_longer ip = none_is_shorter raw raw fit fit ip (record { modulus = refl; registers = λ r h. refl; next = refl; constant = refl })
@@ -163,16 +163,16 @@ module _ {strict : Bool} {s : List ℕ} {a : Reading} (v : Encoding strict s a) 
       map = v.map;
       opcode = v.opcode;
       row = v.row;
-      tail = (Other).modrm ∷ (address_bytes (Other) ++ (v.asked.behind.pieces.immediates ++ v.asked.behind.pieces.suffix));
+      tail = (Other).modrm ∷ (address_bytes (Other) ++ (v.row_spelled.tail_spelled.pieces.immediates ++ v.row_spelled.tail_spelled.pieces.suffix));
       spelled = spelled;
       prefixes = run_stays (Other).rex_x (Other).rex_b v.run ∙ v.prefixes;
-      meant = v.meant;
+      in_map = v.in_map;
       has_row = ap (λ c. rows_of packed v.map c v.opcode) (column_stays (Other).rex_x (Other).rex_b v.run) ∙ v.has_row;
-      asked = (rerow).row;
+      row_spelled = (rerow).row;
     }
 
     sentence : allows_lock a ≡ true → length t ≤ 15 → IsSentence (rows_of packed) strict t (instruction_of (rerow).again (length t))
-    sentence lock short = record { reading = (rerow).again; whole = whole; lock = (rerow).lock ∙ lock; short = short; gives = refl }
+    sentence lock short = record { reading = (rerow).again; whole = whole; lock = (rerow).lock ∙ lock; short = short; yields = refl }
 
     relative : is_ip_relative raw ≡ false → IsRelative strict s a v t (rerow).again whole
     unfolding whole
@@ -188,7 +188,7 @@ module _ {strict : Bool} {s : List ℕ} {a : Reading} (v : Encoding strict s a) 
       address = record { from = raw; to = Other; old = read; new = (rerow).memory; same = shortest_has_the_address raw fit ip };
     }
 
-    pub long : length t ≡ length v.run + (length (escape_bytes v.map) + (2 + (address_length (Other) + (length v.asked.behind.pieces.immediates + length v.asked.behind.pieces.suffix))))
+    pub long : length t ≡ length v.run + (length (escape_bytes v.map) + (2 + (address_length (Other) + (length v.row_spelled.tail_spelled.pieces.immediates + length v.row_spelled.tail_spelled.pieces.suffix))))
     long = omega (arith, length-append {A = ℕ}, ap length spelled, length_stays (Other).rex_x (Other).rex_b v.run, address_bytes_long (Other))
 
     least : is_ip_relative raw ≡ false → IsLeast strict s a v t

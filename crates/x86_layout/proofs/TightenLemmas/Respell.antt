@@ -18,7 +18,7 @@ use Rattle.x86_operands.specs.Shape.{shape_by, shape}
 use Rattle.x86_fields.specs.ModRM.{is_memory}
 use Rattle.x86_operands.specs.Plans.{RowRecord, list_of}
 use Rattle.x86_operands.specs.PlanSteps.{pair_at, four_of, changed, reading_from}
-use Rattle.x86_operands.specs.Pieces.{operand_gives, SpellsOperands, SpellsTail, SpellsRow, modrm_of, modrm_width}
+use Rattle.x86_operands.specs.Pieces.{operand_from, SpellsOperands, SpellsTail, SpellsRow, modrm_of, modrm_width}
 use Rattle.x86_decode.specs.Grammar.{allows_lock}
 
 -- ---- the operands
@@ -31,7 +31,7 @@ unfolding shape
 is_shape raw = shape_by_memory (base_of raw) (index_of raw) (scale_by raw.sib) raw.disp
 
 module _ (p q : Prefixes) (m n : ℕ) (raw other : Raw) where
-  same_kind : (s : OperandEncoding) (bytes : List ℕ) → is_memory_slot (operand_gives s q n (Some other) bytes).0 ≡ is_memory_slot (operand_gives s p m (Some raw) bytes).0
+  same_kind : (s : OperandEncoding) (bytes : List ℕ) → is_memory_slot (operand_from s q n (Some other) bytes).0 ≡ is_memory_slot (operand_from s p m (Some raw) bytes).0
   same_kind (E c) bytes = is_shape other ∙ sym (is_shape raw)
   same_kind Emm bytes = is_shape other ∙ sym (is_shape raw)
   same_kind M bytes = is_shape other ∙ sym (is_shape raw)
@@ -40,24 +40,24 @@ module _ (p q : Prefixes) (m n : ℕ) (raw other : Raw) where
   same_kind s bytes = refl
 
   -- the pairs of operands, where their immediates are the same
-  pub record Regiven (encodings : List OperandEncoding) (bytes : List ℕ) (given : List (Slot × Operand)) : Type 0 where
+  pub record Regiven (encodings : List OperandEncoding) (bytes : List ℕ) (operand_pairs : List (Slot × Operand)) : Type 0 where
     pub pairs : List (Slot × Operand)
     pub spelled : SpellsOperands encodings q n (Some other) bytes pairs
-    pub first : is_memory_slot (pair_at pairs 0).0 ≡ is_memory_slot (pair_at given 0).0
+    pub first : is_memory_slot (pair_at pairs 0).0 ≡ is_memory_slot (pair_at operand_pairs 0).0
 
-  regiven : (encodings : List OperandEncoding) (bytes : List ℕ) (given : List (Slot × Operand)) → SpellsOperands encodings p m (Some raw) bytes given → Regiven encodings bytes given
-  regiven [] bytes given h = record { pairs = []; spelled = (h.0, refl); first = ap (λ l. is_memory_slot (pair_at l 0).0) (sym h.1) }
-  regiven (s ∷ rest) bytes given h =
-      let behind = regiven rest h.tail h.others h.behind in
+  regiven : (encodings : List OperandEncoding) (bytes : List ℕ) (operand_pairs : List (Slot × Operand)) → SpellsOperands encodings p m (Some raw) bytes operand_pairs → Regiven encodings bytes operand_pairs
+  regiven [] bytes operand_pairs h = record { pairs = []; spelled = (h.0, refl); first = ap (λ l. is_memory_slot (pair_at l 0).0) (sym h.1) }
+  regiven (s ∷ rest) bytes operand_pairs h =
+      let following = regiven rest h.tail h.others h.tail_spelled in
       record {
-        pairs = operand_gives s q n (Some other) h.immediate ∷ behind.pairs;
-        spelled = record { immediate = h.immediate; tail = h.tail; others = behind.pairs; spelled = h.spelled; asked = h.asked; gives = refl; behind = behind.spelled };
-        first = same_kind s h.immediate ∙ ap (λ l. is_memory_slot (pair_at l 0).0) (sym h.gives);
+        pairs = operand_from s q n (Some other) h.immediate ∷ following.pairs;
+        spelled = record { immediate = h.immediate; tail = h.tail; others = following.pairs; spelled = h.spelled; immediate_length = h.immediate_length; yields = refl; tail_spelled = following.spelled };
+        first = same_kind s h.immediate ∙ ap (λ l. is_memory_slot (pair_at l 0).0) (sym h.yields);
       }
 
-  -- ---- behind ModRM
+  -- ---- after ModRM
 
-  -- the pieces behind a ModRM byte n with these raw fields, and the reading
+  -- the pieces after a ModRM byte n with these raw fields, and the reading
   pub record Retailed (plan : Plan) (byte : ℕ) (address immediates suffix : List ℕ) (reading : Reading) : Type 0 where
     pub again : Reading
     pub tail : SpellsTail plan q byte (address ++ (immediates ++ suffix)) again
@@ -72,10 +72,10 @@ module _ (p q : Prefixes) (m n : ℕ) (raw other : Raw) where
   retailed : (plan : Plan) (tail address : List ℕ) (reading : Reading) (h : SpellsTail plan p m tail reading) → p.lock ≡ q.lock → h.pieces.memory ≡ Some raw → is_memory n ≡ true → SpellsRaw q n address other → Retailed plan n address h.pieces.immediates h.pieces.suffix reading
   retailed plan tail address reading h same read memory spells =
       let s = h.pieces in
-      let encodings : SpellsOperands (list_of plan.encodings) p m (Some raw) s.immediates s.given = subst (λ x. SpellsOperands (list_of plan.encodings) p m x s.immediates s.given) read s.immediates_asked in
-      let new = regiven (list_of plan.encodings) s.immediates s.given encodings in
+      let encodings : SpellsOperands (list_of plan.encodings) p m (Some raw) s.immediates s.operand_pairs = subst (λ x. SpellsOperands (list_of plan.encodings) p m x s.immediates s.operand_pairs) read s.immediates_spelled in
+      let new = regiven (list_of plan.encodings) s.immediates s.operand_pairs encodings in
       let again : Reading = reading_from plan q h.opcode (four_of new.pairs) in
-      let lock : allows_lock again ≡ allows_lock (reading_from plan p h.opcode (four_of s.given)) = cc (lock_of_change plan.change same, new.first) in
+      let lock : allows_lock again ≡ allows_lock (reading_from plan p h.opcode (four_of s.operand_pairs)) = cc (lock_of_change plan.change same, new.first) in
       record {
         again = again;
         tail = record {
@@ -84,33 +84,33 @@ module _ (p q : Prefixes) (m n : ℕ) (raw other : Raw) where
             address = address;
             immediates = s.immediates;
             suffix = s.suffix;
-            given = new.pairs;
+            operand_pairs = new.pairs;
             spelled = refl;
-            address_asked = (memory, spells);
-            immediates_asked = new.spelled;
-            suffix_asked = s.suffix_asked;
+            address_spelled = (memory, spells);
+            immediates_spelled = new.spelled;
+            suffix_length = s.suffix_length;
           };
           opcode = h.opcode;
           named = h.named;
           accepted = h.accepted;
-          gives = refl;
+          yields = refl;
         };
         memory = refl;
         immediate = refl;
         last = refl;
-        lock = lock ∙ ap allows_lock (sym h.gives);
+        lock = lock ∙ ap allows_lock (sym h.yields);
       }
 
-  -- ---- behind the opcode
+  -- ---- after the opcode
 
-  -- what the other row asks there
+  -- what the other row has there
   pub record Rerowed (r : RowRecord) (address immediates suffix : List ℕ) (reading : Reading) : Type 0 where
     pub again : Reading
     pub row : SpellsRow r q (n ∷ (address ++ (immediates ++ suffix))) again
     pub modrm : row.modrm ≡ n ∷ []
-    pub memory : row.behind.pieces.memory ≡ Some other
-    pub immediate : row.behind.pieces.immediates ≡ immediates
-    pub last : row.behind.pieces.suffix ≡ suffix
+    pub memory : row.tail_spelled.pieces.memory ≡ Some other
+    pub immediate : row.tail_spelled.pieces.immediates ≡ immediates
+    pub last : row.tail_spelled.pieces.suffix ≡ suffix
     pub lock : allows_lock again ≡ allows_lock reading
 
   pub rerowed : (r : RowRecord) (plan : Plan) (tail address : List ℕ) (reading : Reading) (h : SpellsTail plan p m tail reading) → p.lock ≡ q.lock → h.pieces.memory ≡ Some raw → is_memory n ≡ true → SpellsRaw q n address other → r.at_opcode ≡ None → r.modrm ≡ EitherForm → r.plan n ≡ plan → Rerowed r address h.pieces.immediates h.pieces.suffix reading
@@ -120,7 +120,7 @@ module _ (p q : Prefixes) (m n : ℕ) (raw other : Raw) where
       let second : Retailed (r.plan (modrm_of r.modrm (n ∷ []))) (modrm_of r.modrm (n ∷ [])) address h.pieces.immediates h.pieces.suffix reading = subst (λ k. Retailed (r.plan k) k address h.pieces.immediates h.pieces.suffix reading) byte first in
       record {
         again = second.again;
-        row = record { modrm = n ∷ []; tail = address ++ (h.pieces.immediates ++ h.pieces.suffix); passed = passed; spelled = refl; modrm_asked = ap modrm_width (sym usage); behind = second.tail };
+        row = record { modrm = n ∷ []; tail = address ++ (h.pieces.immediates ++ h.pieces.suffix); passed = passed; spelled = refl; modrm_length = ap modrm_width (sym usage); tail_spelled = second.tail };
         modrm = refl;
         memory = second.memory;
         immediate = second.immediate;

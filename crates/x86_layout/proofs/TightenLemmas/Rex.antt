@@ -96,11 +96,11 @@ run_cleared x b (byte ∷ next ∷ []) = cc (cleared x b next)
 run_cleared x b (byte ∷ next ∷ other ∷ rest) = cc (run_cleared x b (next ∷ other ∷ rest))
 
 -- the last byte alone is another
-pub run_at_end : (x b : Bool) (front : List ℕ) (byte : ℕ) → run_with x b (front ++ byte ∷ []) ≡ front ++ byte_with x b byte ∷ []
+pub run_at_end : (x b : Bool) (beginning : List ℕ) (byte : ℕ) → run_with x b (beginning ++ byte ∷ []) ≡ beginning ++ byte_with x b byte ∷ []
 unfolding run_with
 run_at_end x b [] byte = refl
 run_at_end x b (first ∷ []) byte = refl
-run_at_end x b (first ∷ next ∷ front) byte = cc (run_at_end x b (next ∷ front) byte)
+run_at_end x b (first ∷ next ∷ beginning) byte = cc (run_at_end x b (next ∷ beginning) byte)
 
 -- ---- what a record sees
 

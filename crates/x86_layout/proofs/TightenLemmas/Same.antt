@@ -29,7 +29,7 @@ use Rattle.x86_operands.specs.Shape.{shape}
 use Rattle.x86_operands.specs.Linear.{operand_address}
 use Rattle.x86_operands.specs.Plans.{list_of, reg_number}
 use Rattle.x86_operands.specs.PlanSteps.{pair_at, four_of, changed, reading_from}
-use Rattle.x86_operands.specs.Pieces.{operand_gives, SpellsOperands, SpellsTail, first_or}
+use Rattle.x86_operands.specs.Pieces.{operand_from, SpellsOperands, SpellsTail, first_or}
 use Rattle.x86_decode.specs.declared.instructions.Instruction.{Instruction}
 use Rattle.x86_decode.specs.Instruction.{instruction_of, operand_at}
 use Rattle.x86_decode.specs.Head.{escape_bytes, column_of}
@@ -77,19 +77,19 @@ mm n = record { num = n; class = MM }
 
 module _ (from to : Raw) where
   -- There are as many pairs, and at each place they are the same or the shapes of the raw fields.
-  record AlikePairs (given others : List (Slot × Operand)) : Type 0 where
-    count : length others ≡ length given
-    each : (k : ℕ) → IsSameOrShape from to (pair_at given k) (pair_at others k)
+  record AlikePairs (operand_pairs others : List (Slot × Operand)) : Type 0 where
+    count : length others ≡ length operand_pairs
+    each : (k : ℕ) → IsSameOrShape from to (pair_at operand_pairs k) (pair_at others k)
 
   none_alike : AlikePairs [] []
   none_alike = record { count = refl; each = λ k. unchanged refl }
 
   one_more : (x y : Slot × Operand) (xs ys : List (Slot × Operand)) → IsSameOrShape from to x y → AlikePairs xs ys → AlikePairs (x ∷ xs) (y ∷ ys)
-  one_more x y xs ys first behind = record { count = ap suc behind.count; each = each }
+  one_more x y xs ys first following = record { count = ap suc following.count; each = each }
     where
       each : (k : ℕ) → IsSameOrShape from to (pair_at (x ∷ xs) k) (pair_at (y ∷ ys) k)
       each zero = first
-      each (suc k) = behind.each k
+      each (suc k) = following.each k
 
   alike_moved : (xs ys vs ws : List (Slot × Operand)) → vs ≡ xs → ws ≡ ys → AlikePairs xs ys → AlikePairs vs ws
   alike_moved xs ys vs ws e f h = rw (e, f) h
@@ -98,7 +98,7 @@ module _ (from to : Raw) where
     same_number : reg_number n q ≡ reg_number m p
     same_number = cc (same_r p q alike, register)
 
-    sign_alike : (s : OperandEncoding) (bytes : List ℕ) → IsSameOrShape from to (operand_gives s p m (Some from) bytes) (operand_gives s q n (Some to) bytes)
+    sign_alike : (s : OperandEncoding) (bytes : List ℕ) → IsSameOrShape from to (operand_from s p m (Some from) bytes) (operand_from s q n (Some to) bytes)
     sign_alike (G c) bytes = unchanged (ap (λ r. (slots.Reg, operands.Register r)) (same_register p q alike c (reg_number n q) ∙ ap (register_of c p) same_number))
     sign_alike Gmm bytes = unchanged (ap (λ k. (slots.Reg, operands.Register (mm k))) register)
     sign_alike (E c) bytes = shapes refl refl
@@ -108,20 +108,20 @@ module _ (from to : Raw) where
     sign_alike Umm bytes = shapes refl refl
     sign_alike s bytes = unchanged refl
 
-    pairs_alike : (ss : List OperandEncoding) (bytes : List ℕ) (given others : List (Slot × Operand)) → SpellsOperands ss p m (Some from) bytes given → SpellsOperands ss q n (Some to) bytes others → AlikePairs given others
-    pairs_alike [] bytes given others h g = alike_moved [] [] given others h.1 g.1 none_alike
-    pairs_alike (s ∷ rest) bytes given others h g =
+    pairs_alike : (ss : List OperandEncoding) (bytes : List ℕ) (operand_pairs others : List (Slot × Operand)) → SpellsOperands ss p m (Some from) bytes operand_pairs → SpellsOperands ss q n (Some to) bytes others → AlikePairs operand_pairs others
+    pairs_alike [] bytes operand_pairs others h g = alike_moved [] [] operand_pairs others h.1 g.1 none_alike
+    pairs_alike (s ∷ rest) bytes operand_pairs others h g =
         let both : h.immediate ++ h.tail ≡ g.immediate ++ g.tail = sym h.spelled ∙ g.spelled in
-        let long : length h.immediate ≡ length g.immediate = h.asked ∙ sym g.asked in
-        let front : h.immediate ≡ g.immediate = take_of h.immediate h.tail g.immediate g.tail both long in
+        let long : length h.immediate ≡ length g.immediate = h.immediate_length ∙ sym g.immediate_length in
+        let beginning : h.immediate ≡ g.immediate = take_of h.immediate h.tail g.immediate g.tail both long in
         let back : h.tail ≡ g.tail = drop_of h.immediate h.tail g.immediate g.tail both long in
-        let first = subst (λ l. IsSameOrShape from to (operand_gives s p m (Some from) l) (operand_gives s q n (Some to) g.immediate)) (sym front) (sign_alike s g.immediate) in
-        let behind = pairs_alike rest g.tail h.others g.others (rw back at h.behind) g.behind in
-        alike_moved _ _ given others h.gives g.gives (one_more _ _ _ _ first behind)
+        let first = subst (λ l. IsSameOrShape from to (operand_from s p m (Some from) l) (operand_from s q n (Some to) g.immediate)) (sym beginning) (sign_alike s g.immediate) in
+        let following = pairs_alike rest g.tail h.others g.others (rw back at h.tail_spelled) g.tail_spelled in
+        alike_moved _ _ operand_pairs others h.yields g.yields (one_more _ _ _ _ first following)
 
   -- ---- the instruction
 
-  -- the slot and the operand at a place, where it is told whether that is below the count
+  -- the slot and the operand at a place, where it is known whether that is below the count
   abbrev At : Bool → List (Slot × Operand) → ℕ → Slot × Operand
   At below xs k = (if below then slice_index_or (four_of xs).slots k slots.Nothing else slots.Nothing, if below then slice_index_or (four_of xs).operands k operands.Nothing else operands.Nothing)
 
@@ -152,13 +152,13 @@ module _ (from to : Raw) where
       tails plan other tail end a b h g k l planned old new immediates suffix =
           let x = h.pieces in
           let y = g.pieces in
-          let spelled : SpellsOperands (list_of plan.encodings) p m (Some from) x.immediates x.given = rw old at x.immediates_asked in
-          let third : SpellsOperands (list_of plan.encodings) q n (Some to) x.immediates y.given = rw (planned, new, immediates) at y.immediates_asked in
-          let pairs : AlikePairs x.given y.given = pairs_alike p q m n alike register (list_of plan.encodings) x.immediates x.given y.given spelled third in
+          let spelled : SpellsOperands (list_of plan.encodings) p m (Some from) x.immediates x.operand_pairs = rw old at x.immediates_spelled in
+          let third : SpellsOperands (list_of plan.encodings) q n (Some to) x.immediates y.operand_pairs = rw (planned, new, immediates) at y.immediates_spelled in
+          let pairs : AlikePairs x.operand_pairs y.operand_pairs = pairs_alike p q m n alike register (list_of plan.encodings) x.immediates x.operand_pairs y.operand_pairs spelled third in
           let named : Some g.opcode ≡ Some h.opcode = cc (g.named, planned, suffix, h.named) in
           let opcode : g.opcode ≡ h.opcode = cc in
-          let gives : b ≡ reading_from plan q h.opcode (four_of y.given) = cc (g.gives, planned, opcode) in
-          same_moved _ _ (instruction_of a k) (instruction_of b l) (ap (λ r. instruction_of r k) h.gives) (ap (λ r. instruction_of r l) gives) (built plan h.opcode k l x.given y.given pairs)
+          let yields : b ≡ reading_from plan q h.opcode (four_of y.operand_pairs) = cc (g.yields, planned, opcode) in
+          same_moved _ _ (instruction_of a k) (instruction_of b l) (ap (λ r. instruction_of r k) h.yields) (ap (λ r. instruction_of r l) yields) (built plan h.opcode k l x.operand_pairs y.operand_pairs pairs)
 
 -- ---- the encodings
 
@@ -215,11 +215,11 @@ module _ (strict : Bool) (s : List ℕ) (a : Reading) (v : Encoding strict s a) 
       cc (new, row_is, seen_is, old)
 
   same_instruction : (k l : ℕ) → IsSameButInMemory From To (instruction_of a k) (instruction_of b l)
-  same_instruction k l = tails From To rel.address.same Old New seen_is OldByte NewByte register_is _ _ v.asked.tail w.asked.tail a b v.asked.behind w.asked.behind k l plan_is rel.address.old rel.address.new rel.parts.immediate rel.parts.suffix
+  same_instruction k l = tails From To rel.address.same Old New seen_is OldByte NewByte register_is _ _ v.row_spelled.tail w.row_spelled.tail a b v.row_spelled.tail_spelled w.row_spelled.tail_spelled k l plan_is rel.address.old rel.address.new rel.parts.immediate rel.parts.suffix
 
 -- said of sentences
 pub relative_is_same : (strict : Bool) (s : List ℕ) (a : Instruction) (is : IsSentence (rows_of packed) strict s a) (t : List ℕ) (b : Instruction) (other : IsSentence (rows_of packed) strict t b) (rel : IsRelative strict s is.reading is.whole t other.reading other.whole) → IsSameButInMemory rel.address.from rel.address.to a b
-relative_is_same strict s a is t b other rel = same_moved rel.address.from rel.address.to _ _ a b is.gives other.gives (same_instruction strict s is.reading is.whole t other.reading other.whole rel (length s) (length t))
+relative_is_same strict s a is t b other rel = same_moved rel.address.from rel.address.to _ _ a b is.yields other.yields (same_instruction strict s is.reading is.whole t other.reading other.whole rel (length s) (length t))
 
 -- ---- addresses, by the laws on shapes and on forms
 
@@ -247,10 +247,10 @@ mark_67 : (change : PrefixChange) (p : Prefixes) → (changed change p).address_
 mark_67 change p = grind arith
 
 -- 67 of the raw fields is that of the instruction
-same_67 : (strict : Bool) (s : List ℕ) (a : Instruction) (is : IsSentence (rows_of packed) strict s a) (raw : Raw) → is.whole.asked.behind.pieces.memory ≡ Some raw → a.prefixes.address_size ≡ raw.address_size
+same_67 : (strict : Bool) (s : List ℕ) (a : Instruction) (is : IsSentence (rows_of packed) strict s a) (raw : Raw) → is.whole.row_spelled.tail_spelled.pieces.memory ≡ Some raw → a.prefixes.address_size ≡ raw.address_size
 same_67 strict s a is raw read =
-    ap (λ i. i.prefixes.address_size) is.gives
-    ∙ ap (λ r. r.prefixes.address_size) is.whole.asked.behind.gives
+    ap (λ i. i.prefixes.address_size) is.yields
+    ∙ ap (λ r. r.prefixes.address_size) is.whole.row_spelled.tail_spelled.yields
     ∙ mark_67 _ (Seen is.whole)
     ∙ sym (raw_short is.whole read)
 

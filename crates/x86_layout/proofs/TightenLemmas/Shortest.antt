@@ -14,15 +14,15 @@ use Rattle.x86_layout.specs.Tightening.Registers.{is_ip_by, is_ip_relative, numb
 use Rattle.x86_layout.specs.Tightening.Shortest.{arranged, shortest_registers, bytes_by, bytes_at, address_length, mod_of, fourth_bit, scale_bits, field_or, rm_alone, rm_by, sib_by, spelled, shortest, IsOfBytes}
 use Rattle.x86_layout.proofs.TightenLemmas.Weight.{Weigh, fewest}
 use Rattle.x86_layout.proofs.TightenLemmas.Spelled.{middle_is, middle_small, rm_small, spelled_length, spelled_fits, spelled_base, spelled_index, spelled_scale}
-use Rattle.x86_layout.proofs.TightenLemmas.Raw.{least, base_stands, index_stands, base_counts, index_counts, base_next, index_next}
+use Rattle.x86_layout.proofs.TightenLemmas.Raw.{least, base_number, index_number, base_counts, index_counts, base_next, index_next}
 
 -- ---- where registers are arranged
 
-abbrev Stands : AddressRegisters → Type 0
-Stands at = IsBelow16 at.base × IsIndex at.index
+abbrev HaveNumbers : AddressRegisters → Type 0
+HaveNumbers at = IsBelow16 at.base × IsIndex at.index
 
-arranged_stands : (d : ℤ) (b i : Option ℕ) (s : Scale) → IsBelow16 b → IsIndex i → Stands (arranged d b i s)
-arranged_stands d b i s hb hi = (grind (arith, nat_tests), grind (arith, nat_tests))
+arranged_numbers : (d : ℤ) (b i : Option ℕ) (s : Scale) → IsBelow16 b → IsIndex i → HaveNumbers (arranged d b i s)
+arranged_numbers d b i s hb hi = (grind (arith, nat_tests), grind (arith, nat_tests))
 
 -- the registers count as before
 arranged_weighs : (d : ℤ) (b i : Option ℕ) (s : Scale) (r : ℕ) → weight (arranged d b i s) r ≡ Weigh b i s r
@@ -37,7 +37,7 @@ same_index i j s t r e f = grind arith
 spelled_scale_where : (d : ℤ) (m : ℕ) → m < 8 → (b i : Option ℕ) (s : Scale) (n : ℕ) → i ≡ Some n → scale_named (scale_by (sib_by (rm_alone b i) (packed_byte (scale_bits s) (field_or 4 i) (field_or 5 b)))) ≡ s
 spelled_scale_where d m below b i s n e = subst (λ k. scale_named (scale_by (sib_by (rm_alone b k) (packed_byte (scale_bits s) (field_or 4 k) (field_or 5 b)))) ≡ s) (sym e) (spelled_scale d m below b n s)
 
-spelled_weighs : (raw : Raw) (at : AddressRegisters) (r : ℕ) → Stands at → weight (registers_of (spelled raw at)) r ≡ weight at r
+spelled_weighs : (raw : Raw) (at : AddressRegisters) (r : ℕ) → HaveNumbers at → weight (registers_of (spelled raw at)) r ≡ weight at r
 spelled_weighs raw at r h =
     let d = raw.disp in
     let m : ℕ = reg_field raw.modrm in
@@ -79,8 +79,8 @@ form_weighs raw r h e = let base = base_counts raw raw.sib r e in let index = in
 form_next : (raw : Raw) → (raw_form raw).next ≡ (if is_ip_relative raw then 1 else 0)
 form_next raw = let base = base_next raw raw.sib in let index = index_next raw raw.sib (scale_by raw.sib) in omega (arith, base, index)
 
-stands : (raw : Raw) → Stands (shortest_registers raw)
-stands raw = arranged_stands raw.disp _ _ _ (base_stands raw raw.sib) (index_stands raw raw.sib)
+shortest_numbers : (raw : Raw) → HaveNumbers (shortest_registers raw)
+shortest_numbers raw = arranged_numbers raw.disp _ _ _ (base_number raw raw.sib) (index_number raw raw.sib)
 
 pub shortest_has_the_address : (raw : Raw) → IsOfBytes raw → is_ip_relative raw ≡ false → IsSameAddress (raw_form (shortest raw)) (raw_form raw)
 unfolding shortest
@@ -92,7 +92,7 @@ shortest_has_the_address raw h e =
       modulus = refl;
       registers = λ r small.
           form_weighs to r (spelled_sib at (rm_alone at.base at.index)) (spelled_ip raw at)
-          ∙ spelled_weighs raw at r (stands raw)
+          ∙ spelled_weighs raw at r (shortest_numbers raw)
           ∙ arranged_weighs raw.disp from.base from.index from.scale r
           ∙ sym (form_weighs raw r h.sib e);
       next = form_next to ∙ ap (λ t. if t then 1 else 0) (spelled_ip raw at) ∙ sym (form_next raw ∙ ap (λ t. if t then 1 else 0) e);
@@ -101,16 +101,16 @@ shortest_has_the_address raw h e =
 
 -- ---- the lower bound
 
--- the constant tells the displacement
-disp_told : (short : Bool) (d e : ℤ) → FitsSigned w32 d → FitsSigned w32 e → constant_by short d ≡ constant_by short e → d ≡ e
-disp_told true d e fd fe h = sym (to_z-of_z w32 d fd) ∙ ap (cast_signed w32) h ∙ to_z-of_z w32 e fe
-disp_told false d e fd fe h = sym (to_z-of_z w64 d (wide d fd)) ∙ ap (cast_signed w64) h ∙ to_z-of_z w64 e (wide e fe)
+-- the displacement is known from the constant
+disp_known : (short : Bool) (d e : ℤ) → FitsSigned w32 d → FitsSigned w32 e → constant_by short d ≡ constant_by short e → d ≡ e
+disp_known true d e fd fe h = sym (to_z-of_z w32 d fd) ∙ ap (cast_signed w32) h ∙ to_z-of_z w32 e fe
+disp_known false d e fd fe h = sym (to_z-of_z w64 d (wide d fd)) ∙ ap (cast_signed w64) h ∙ to_z-of_z w64 e (wide e fe)
   where
     wide : (d : ℤ) → FitsSigned w32 d → FitsSigned w64 d
     wide d f = let g = f.sfits in record { sfits = omega (arith, g) }
 
-ip_told : (t : Bool) (n : ℕ) → n ≡ (if t then 1 else 0) → n ≡ 0 → t ≡ false
-ip_told t n e f = grind arith
+ip_known : (t : Bool) (n : ℕ) → n ≡ (if t then 1 else 0) → n ≡ 0 → t ≡ false
+ip_known t n e f = grind arith
 
 shortest_length : (raw : Raw) → address_length (shortest raw) ≡ bytes_at raw.disp (shortest_registers raw)
 unfolding shortest
@@ -120,17 +120,17 @@ pub none_is_shorter : (raw other : Raw) → IsOfBytes raw → IsOfBytes other �
 none_is_shorter raw other h k e same =
     let from = registers_of raw in
     let to = registers_of other in
-    let ip : is_ip_relative other ≡ false = ip_told (is_ip_relative other) _ (form_next other) (same.next ∙ form_next raw ∙ ap (λ t. if t then 1 else 0) e) in
-    let disp : other.disp ≡ raw.disp = disp_told raw.address_size other.disp raw.disp k.disp h.disp (ap (λ s. constant_by s other.disp) (sym (short_told other.address_size raw.address_size same.modulus)) ∙ same.constant) in
+    let ip : is_ip_relative other ≡ false = ip_known (is_ip_relative other) _ (form_next other) (same.next ∙ form_next raw ∙ ap (λ t. if t then 1 else 0) e) in
+    let disp : other.disp ≡ raw.disp = disp_known raw.address_size other.disp raw.disp k.disp h.disp (ap (λ s. constant_by s other.disp) (sym (short_known other.address_size raw.address_size same.modulus)) ∙ same.constant) in
     let counts_so : (r : ℕ) → r < 16 → weight from r ≡ weight to r = λ r small. sym (form_weighs raw r h.sib e) ∙ sym (same.registers r small) ∙ form_weighs other r k.sib ip in
-    let fewer = fewest raw.disp from.base from.index from.scale to.base to.index to.scale (base_stands raw raw.sib) (index_stands raw raw.sib) (base_stands other other.sib) (index_stands other other.sib) counts_so in
+    let fewer = fewest raw.disp from.base from.index from.scale to.base to.index to.scale (base_number raw raw.sib) (index_number raw raw.sib) (base_number other other.sib) (index_number other other.sib) counts_so in
     let all = least other.disp other other.sib k.fit ip in
     let all' : bytes_by raw.disp to.base to.index ≤ address_length other = subst (λ d. bytes_by d to.base to.index ≤ address_length other) disp all in
     let long = shortest_length raw in
     omega (arith, long, fewer, all')
   where
-    short_told : (a b : Bool) → modulus_by a ≡ modulus_by b → a ≡ b
-    short_told a b e = grind arith
+    short_known : (a b : Bool) → modulus_by a ≡ modulus_by b → a ≡ b
+    short_known a b e = grind arith
 
 -- ---- without a live REX
 

@@ -7,7 +7,7 @@ use Rattle.x86_fields.specs.declared.raw.Raw.{Raw}
 use Rattle.x86_fields.specs.Address.{base_by, index_by, scale_by}
 use Rattle.x86_layout.specs.declared.tightening.registers.Scale.{Scale}
 use Rattle.x86_layout.specs.Tightening.Registers.{number_of, scale_named, IsBelow16, IsIndex}
-use Rattle.x86_layout.specs.Tightening.Shortest.{behind_base, bytes_by, mod_of, fourth_bit, scale_bits, field_or, rm_alone, sib_by, rm_by}
+use Rattle.x86_layout.specs.Tightening.Shortest.{width_with_base, bytes_by, mod_of, fourth_bit, scale_bits, field_or, rm_alone, sib_by, rm_by}
 
 -- ---- the fields of a byte
 
@@ -17,7 +17,7 @@ middle_is h m l a b = omega arith
 pub middle_small : (n : ℕ) → reg_field n < 8
 middle_small n = omega arith
 
--- ---- the raw fields where registers stand so
+-- ---- the raw fields where the registers are these
 
 module _ (d : ℤ) (m : ℕ) (below : m < 8) where
   -- the ModRM byte and the SIB byte of spelled raw fields
@@ -30,13 +30,13 @@ module _ (d : ℤ) (m : ℕ) (below : m < 8) where
   pub rm_small : (b i : Option ℕ) → rm_by (rm_alone b i) < 8
   rm_small b i = grind (arith, nat_tests)
 
-  spelled_width : (b i : Option ℕ) (s : Scale) → displacement_width (Modrm b i) (Sib b i s) ≡ (elim b [ None ↦ 4 | Some n ↦ behind_base d n ])
+  spelled_width : (b i : Option ℕ) (s : Scale) → displacement_width (Modrm b i) (Sib b i s) ≡ (elim b [ None ↦ 4 | Some n ↦ width_with_base d n ])
   spelled_width b i s = grind (arith, nat_tests)
 
   pub spelled_length : (b i : Option ℕ) (s : Scale) → (if is_some (Sib b i s) then 1 else 0) + displacement_width (Modrm b i) (Sib b i s) ≡ bytes_by d b i
   spelled_length b i s = rw (spelled_width b i s) (long b i)
     where
-      long : (b i : Option ℕ) → (if is_some (Sib b i s) then 1 else 0) + (elim b [ None ↦ 4 | Some n ↦ behind_base d n ]) ≡ bytes_by d b i
+      long : (b i : Option ℕ) → (if is_some (Sib b i s) then 1 else 0) + (elim b [ None ↦ 4 | Some n ↦ width_with_base d n ]) ≡ bytes_by d b i
       long b i = grind arith
 
   pub spelled_fits : (b i : Option ℕ) (s : Scale) → (is_memory (Modrm b i) && (sib_fits (Modrm b i) (Sib b i s) && disp_fits (displacement_width (Modrm b i) (Sib b i s)) d)) ≡ true

@@ -4,7 +4,7 @@ use Rattle.std.proofs.lemmas.Bool.Decides.{nat_tests}
 use Rattle.x86_layout.specs.declared.tightening.registers.Scale.{Scale}
 use Rattle.x86_layout.specs.declared.tightening.registers.Scale.TheVariants.{One}
 use Rattle.x86_layout.specs.Tightening.Registers.{times, part_weight, IsBelow16, IsIndex}
-use Rattle.x86_layout.specs.Tightening.Shortest.{lone, both, exchanged, arranged, behind_base, bytes_by, bytes_at}
+use Rattle.x86_layout.specs.Tightening.Shortest.{index_alone, base_and_index, exchanged, arranged, width_with_base, bytes_by, bytes_at}
 
 -- ---- how often a register counts
 
@@ -16,22 +16,22 @@ some_times s = grind arith
 
 -- ---- bytes
 
-at_most_four : (d : ℤ) (b : ℕ) → behind_base d b ≤ 4
+at_most_four : (d : ℤ) (b : ℕ) → width_with_base d b ≤ 4
 at_most_four d b = grind arith
 
 pub at_most_five : (d : ℤ) (b i : Option ℕ) → bytes_by d b i ≤ 5
 at_most_five d b i = grind (arith, at_most_four)
 
--- ---- what equal counts tell
+-- ---- what is known from equal counts
 
--- one register that counts once is no base with an index
+-- one register that counts once isn't a base beside an index
 alone : (r b' i' : ℕ) (s' : Scale) → part_weight (Some r) 1 b' ≡ part_weight (Some b') 1 b' + part_weight (Some i') (times s') b' → part_weight (Some r) 1 i' ≡ part_weight (Some b') 1 i' + part_weight (Some i') (times s') i' → ⊥
 alone r b' i' s' e f = let some = some_times s' in grind (arith, nat_tests)
 
 abbrev pub Weigh : Option ℕ → Option ℕ → Scale → ℕ → ℕ
 Weigh b i s r = part_weight b 1 r + part_weight i (times s) r
 
--- an index that counts more than once is no base alone
+-- an index that counts more than once isn't a base alone
 many : (r b' : ℕ) (s : Scale) → part_weight (Some r) (times s) b' ≡ part_weight (Some b') 1 b' → times s ≡ 1
 many r b' s e = let some = some_times s in grind (arith, nat_tests)
 
@@ -52,25 +52,25 @@ one_base : (d : ℤ) (r b' : ℕ) (i' : Option ℕ) (s' : Scale) → r < 16 → 
 one_base d r b' None s' hr hb hi e = let f = e b' hb in grind (arith, nat_tests)
 one_base d r b' (Some i') s' hr hb hi e = let f = e b' hb in let g = e i' hi.0 in absurd (alone r b' i' s' (omega (arith, f)) (omega (arith, g)))
 
-one_index : (d : ℤ) (r b' : ℕ) (i' : Option ℕ) (s s' : Scale) → r < 16 → b' < 16 → IsIndex i' → ((k : ℕ) → k < 16 → 0 + part_weight (Some r) (times s) k ≡ Weigh (Some b') i' s' k) → bytes_at d (lone r s) ≤ bytes_by d (Some b') i'
+one_index : (d : ℤ) (r b' : ℕ) (i' : Option ℕ) (s s' : Scale) → r < 16 → b' < 16 → IsIndex i' → ((k : ℕ) → k < 16 → 0 + part_weight (Some r) (times s) k ≡ Weigh (Some b') i' s' k) → bytes_at d (index_alone r s) ≤ bytes_by d (Some b') i'
 one_index d r b' i' One s' hr hb hi e = one_base d r b' i' s' hr hb hi (λ k h. let f = e k h in omega (arith, f))
 one_index d r b' None s s' hr hb hi e = let f = e b' hb in let m = many r b' s (omega (arith, f)) in grind (arith, nat_tests)
 one_index d r b' (Some i') s s' hr hb hi e =
     let f = e b' hb in
     let g = e i' hi.0 in
-    let both = twice r b' i' s s' (omega (arith, f)) (omega (arith, g)) in
+    let base_and_index = twice r b' i' s s' (omega (arith, f)) (omega (arith, g)) in
     grind (arith, nat_tests)
 
 -- two registers
-spares_base : (d : ℤ) (b i : ℕ) (s : Scale) → bytes_at d (both d b i s) ≤ 1 + behind_base d b
+spares_base : (d : ℤ) (b i : ℕ) (s : Scale) → bytes_at d (base_and_index d b i s) ≤ 1 + width_with_base d b
 spares_base d b i s = grind arith
 
-spares_index : (d : ℤ) (b i : ℕ) → bytes_at d (exchanged d b i) ≤ 1 + behind_base d i
+spares_index : (d : ℤ) (b i : ℕ) → bytes_at d (exchanged d b i) ≤ 1 + width_with_base d i
 spares_index d b i = grind arith
 
-by_base : (d : ℤ) (b i : ℕ) (s : Scale) (b' : ℕ) → (b ≡ b') ⊎ ((i ≡ b') × (s ≡ One)) → bytes_at d (both d b i s) ≤ 1 + behind_base d b'
-by_base d b i s b' (inl e) = subst (λ k. bytes_at d (both d b i s) ≤ 1 + behind_base d k) e (spares_base d b i s)
-by_base d b i s b' (inr e) = subst (λ k. bytes_at d (both d b i k) ≤ 1 + behind_base d b') (sym e.1) (subst (λ k. bytes_at d (exchanged d b i) ≤ 1 + behind_base d k) e.0 (spares_index d b i))
+by_base : (d : ℤ) (b i : ℕ) (s : Scale) (b' : ℕ) → (b ≡ b') ⊎ ((i ≡ b') × (s ≡ One)) → bytes_at d (base_and_index d b i s) ≤ 1 + width_with_base d b'
+by_base d b i s b' (inl e) = subst (λ k. bytes_at d (base_and_index d b i s) ≤ 1 + width_with_base d k) e (spares_base d b i s)
+by_base d b i s b' (inr e) = subst (λ k. bytes_at d (base_and_index d b i k) ≤ 1 + width_with_base d b') (sym e.1) (subst (λ k. bytes_at d (exchanged d b i) ≤ 1 + width_with_base d k) e.0 (spares_index d b i))
 
 pub fewest : (d : ℤ) (b i : Option ℕ) (s : Scale) (b' i' : Option ℕ) (s' : Scale) → IsBelow16 b → IsIndex i → IsBelow16 b' → IsIndex i' → ((k : ℕ) → k < 16 → Weigh b i s k ≡ Weigh b' i' s' k) → bytes_at d (arranged d b i s) ≤ bytes_by d b' i'
 fewest d b i s None i' s' hb hi hb' hi' e = let at = arranged d b i s in at_most_five d at.base at.index

@@ -1,4 +1,4 @@
--- The map by the first two bytes behind the run, and the pieces in front of and behind it.
+-- The map by the first two bytes after the run, and the pieces before and after it.
 use Rattle.std.specs.Prelude.{◌≡◌, ℕ, ◌==◌, ◌&&◌, Bool, if◌then◌else◌, List, [], ◌∷◌, ◌++◌, length, slice_index}
 use Rattle.x86_fields.specs.declared.prefixes.Prefixes.{Prefixes}
 use Rattle.x86_fields.specs.ModRM.{rm_field}
@@ -23,11 +23,11 @@ map_of first second =
 abbrev pub one_if : Bool → ℕ
 one_if flag = if flag then 1 else 0
 
--- whether a SIB is asked, told from what the row asks and the byte behind the opcode
-abbrev pub asks_sib : Ask → ℕ → Bool
-asks_sib ask modrm = ask.memory && rm_field modrm == 4
+-- whether there is a SIB, known from what the row has and the byte after the opcode
+abbrev pub has_sib : Ask → ℕ → Bool
+has_sib ask modrm = ask.memory && rm_field modrm == 4
 
--- These are the pieces up to the opcode byte, what stands behind it, and what the row asks.
+-- These are the pieces up to the opcode byte, what follows it, and what the row has.
 pub record IsHead (strict : Bool) (s : List ℕ) (reading : Reading) (w : Encoding strict s reading) (h : Head) : Type 0 where
   pub prefixes : h.prefixes.now ≡ w.run
   pub escape : h.escape.now ≡ escape_bytes w.map
@@ -35,10 +35,10 @@ pub record IsHead (strict : Bool) (s : List ℕ) (reading : Reading) (w : Encodi
   pub tail : h.tail.now ≡ w.tail
   pub ask : h.ask ≡ ask_of (record_in strict s reading w) (slice_index w.tail 0)
 
--- These are the pieces behind the opcode byte.
+-- These are the pieces after the opcode byte.
 pub record IsTail (r : RowRecord) (p : Prefixes) (tail : List ℕ) (reading : Reading) (a : SpellsRow r p tail reading) (parts : Parts) : Type 0 where
   pub modrm : parts.modrm.now ≡ a.modrm
   pub sib : length parts.sib.now ≡ sib_width (modrm_of r.modrm a.modrm)
-  pub address : parts.sib.now ++ parts.displacement.now ≡ a.behind.pieces.address
-  pub immediate : parts.immediate.now ≡ a.behind.pieces.immediates
-  pub suffix : parts.suffix.now ≡ a.behind.pieces.suffix
+  pub address : parts.sib.now ++ parts.displacement.now ≡ a.tail_spelled.pieces.address
+  pub immediate : parts.immediate.now ≡ a.tail_spelled.pieces.immediates
+  pub suffix : parts.suffix.now ≡ a.tail_spelled.pieces.suffix

@@ -16,7 +16,7 @@ use Rattle.x86_operands.specs.declared.reader.Reading.{Reading}
 use Rattle.x86_fields.specs.ModRM.{is_memory}
 use Rattle.x86_operands.specs.Pieces.{is_refusal}
 use Rattle.x86_operands.specs.Suffix.{suffix_opcode}
-use Rattle.x86_operands.specs.Asks.{asks_modrm, asks_suffix, immediates_width, record_at}
+use Rattle.x86_operands.specs.Asks.{uses_modrm, uses_suffix, immediates_width, record_at}
 use Rattle.x86_operands.specs.PlanSteps.{record_step}
 use Rattle.x86_decode.specs.Head.{is_run, column_of, is_opcode, seen_by}
 use Rattle.x86_decode.specs.declared.instructions.Instruction.{Instruction}
@@ -61,11 +61,11 @@ record_by strict e f = record_at (record_of strict e.row e.prefixes) f.modrm
 abbrev pub has_legal_run : Fields → Bool
 has_legal_run f = is_run f.prefixes.items
 
--- a ModRM that the row asks isn't there
+-- a ModRM that the row has isn't there
 abbrev pub lacks_modrm : RecordAt → Fields → Bool
-lacks_modrm at f = asks_modrm at.usage && is_none f.modrm
+lacks_modrm at f = uses_modrm at.usage && is_none f.modrm
 
--- the suffix that is there names no operation, where the row asks one
+-- the suffix that is there names no operation, where the row has one
 abbrev pub refuses_suffix : Verdict → Option ℕ → Bool
 refuses_suffix NamedBySuffix (Some b) = is_none (suffix_opcode b)
 refuses_suffix verdict suffix = false
@@ -75,19 +75,19 @@ abbrev pub passes_record : RecordAt → Fields → Bool
 passes_record at f = is_none at.at_opcode && (not (is_refusal at.plan.verdict) || lacks_modrm at f) && not (refuses_suffix at.plan.verdict f.suffix)
 
 -- how many bytes of displacement there are at ModRM and SIB
-abbrev pub displacement_asked : ℕ → Option ℕ → ℕ
-displacement_asked m sib = if is_memory m then displacement_width m sib else 0
+abbrev pub displacement_length : ℕ → Option ℕ → ℕ
+displacement_length m sib = if is_memory m then displacement_width m sib else 0
 
--- 3: each part that the row asks is there with its length, and no other part is
-abbrev pub has_asked_parts : RecordAt → Fields → Bool
-has_asked_parts at f =
-    (one_if (is_some f.modrm) == one_if (asks_modrm at.usage))
+-- 3: each part that the row has is there with its length, and no other part is
+abbrev pub has_row_parts : RecordAt → Fields → Bool
+has_row_parts at f =
+    (one_if (is_some f.modrm) == one_if (uses_modrm at.usage))
     && (one_if (is_some f.sib) == sib_width at.modrm)
-    && (length f.displacement.items == displacement_asked at.modrm f.sib)
+    && (length f.displacement.items == displacement_length at.modrm f.sib)
     && (length f.immediate.items == immediates_width at.plan.encodings)
-    && (one_if (is_some f.suffix) == one_if (asks_suffix at.plan.verdict))
+    && (one_if (is_some f.suffix) == one_if (uses_suffix at.plan.verdict))
 
--- what stands behind the opcode byte
+-- what follows the opcode byte
 abbrev pub tail_of : Fields → List ℕ
 tail_of f = option_bytes f.modrm ++ ((option_bytes f.sib ++ f.displacement.items) ++ (f.immediate.items ++ option_bytes f.suffix))
 
@@ -95,7 +95,7 @@ abbrev pub answer_allows_lock : Result Reading DecodeError → Bool
 answer_allows_lock (Ok reading) = allows_lock reading
 answer_allows_lock (Err e) = false
 
--- 4: F0 is absent, or allowed for the reading of what stands behind the opcode byte
+-- 4: F0 is absent, or allowed for the reading of what follows the opcode byte
 abbrev pub has_lawful_lock : Bool → Entry → Fields → Bool
 has_lawful_lock strict e f = answer_allows_lock (record_step (record_of strict e.row e.prefixes) e.prefixes (record { left = tail_of f; since_mark = 0; since_made = 0 })).answer
 
@@ -113,7 +113,7 @@ abbrev pub failing_at : Bool → Option Entry → Fields → Option EmitError
 failing_at strict None f = Some error.Row
 failing_at strict (Some e) f =
     unless (passes_record (record_by strict e f) f) error.Row
-    (unless (has_asked_parts (record_by strict e f) f) error.Shape
+    (unless (has_row_parts (record_by strict e f) f) error.Shape
     (unless (has_lawful_lock strict e f) error.Lock
     (unless (is_short f) error.Length None)))
 

@@ -55,11 +55,11 @@ module _ (strict : Bool) (s : List ℕ) (reading : Reading) (w : Encoding strict
     pub prefixes : parts.prefixes ≡ w.run
     pub escape : parts.escape ≡ escape_bytes w.map
     pub opcode : parts.opcode ≡ w.opcode ∷ []
-    pub modrm : parts.modrm ≡ w.asked.modrm
-    pub sib : length parts.sib ≡ sib_width (modrm_of record_in.modrm w.asked.modrm)
-    pub address : parts.sib ++ parts.displacement ≡ w.asked.behind.pieces.address
-    pub immediate : parts.immediate ≡ w.asked.behind.pieces.immediates
-    pub suffix : parts.suffix ≡ w.asked.behind.pieces.suffix
+    pub modrm : parts.modrm ≡ w.row_spelled.modrm
+    pub sib : length parts.sib ≡ sib_width (modrm_of record_in.modrm w.row_spelled.modrm)
+    pub address : parts.sib ++ parts.displacement ≡ w.row_spelled.tail_spelled.pieces.address
+    pub immediate : parts.immediate ≡ w.row_spelled.tail_spelled.pieces.immediates
+    pub suffix : parts.suffix ≡ w.row_spelled.tail_spelled.pieces.suffix
 
 -- the parts in order
 abbrev pub joined : PartLists → List ℕ

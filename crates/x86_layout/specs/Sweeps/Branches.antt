@@ -28,7 +28,7 @@ offset_of (ImmediateI8 imm) = imm
 offset_of (ImmediateI32 imm) = imm
 offset_of o = pos 0
 
--- the address behind the instruction, plus the sign-extended immediate, modulo 2^64
+-- the address after the instruction, plus the sign-extended immediate, modulo 2^64
 abbrev pub branch_target : Instruction → ℕ → Option ℕ
 branch_target i next =
     if is_branch (opcode i) && is_offset_slot (slot_at i 0)

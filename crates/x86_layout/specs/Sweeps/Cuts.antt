@@ -11,19 +11,19 @@ abbrev pub cut_length : Result Instruction DecodeError → ℕ
 cut_length (Ok i) = length_of i
 cut_length (Err e) = 1
 
--- the cut at a place, where these bytes stand
+-- the cut at a place that has these bytes
 abbrev pub cut_at : Bool → ℕ → List ℕ → Cut
 cut_at strict place bytes = record { place = place; length = cut_length (answer_of strict bytes); answer = answer_of strict bytes }
 
--- the cuts of bytes that stand from a place on, without the bytes at the front that belong to the cut before
-unfoldable pub cuts_behind : Bool → ℕ → ℕ → List ℕ → List Cut
-cuts_behind strict skip place [] = []
-cuts_behind strict zero place (x ∷ xs) = cut_at strict place (x ∷ xs) ∷ cuts_behind strict (cut_length (answer_of strict (x ∷ xs)) - 1) (place + 1) xs
-cuts_behind strict (suc skip) place (x ∷ xs) = cuts_behind strict skip (place + 1) xs
+-- the cuts of bytes from a place on, without the first bytes that belong to the cut before
+unfoldable pub cuts_skipping : Bool → ℕ → ℕ → List ℕ → List Cut
+cuts_skipping strict skip place [] = []
+cuts_skipping strict zero place (x ∷ xs) = cut_at strict place (x ∷ xs) ∷ cuts_skipping strict (cut_length (answer_of strict (x ∷ xs)) - 1) (place + 1) xs
+cuts_skipping strict (suc skip) place (x ∷ xs) = cuts_skipping strict skip (place + 1) xs
 
--- the cuts of bytes that stand from a place on
+-- the cuts of bytes from a place on
 abbrev pub cuts_from : Bool → ℕ → List ℕ → List Cut
-cuts_from strict place bytes = cuts_behind strict 0 place bytes
+cuts_from strict place bytes = cuts_skipping strict 0 place bytes
 
 -- the cuts of an input
 abbrev pub cuts_of : Bool → List ℕ → List Cut

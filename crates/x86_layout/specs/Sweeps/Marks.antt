@@ -25,7 +25,7 @@ targets place c = is_target place (target_of_cut c)
 abbrev pub begins_at : ℕ → Cut → Bool
 begins_at place c = c.place == place
 
--- the place is behind the first byte of a cut, and not behind its last one
+-- the place is after the first byte of a cut, and at most at its last one
 abbrev pub is_inside : ℕ → Cut → Bool
 is_inside place c = nat_lt c.place place && nat_lt place (c.place + c.length)
 

@@ -5,7 +5,7 @@ use Rattle.x86_fields.specs.declared.raw.Raw.{Raw}
 use Rattle.x86_decode.specs.declared.instructions.Instruction.{Instruction}
 use Rattle.x86_decode.specs.Instruction.{length_of}
 use Rattle.x86_decode.specs.Answer.{answer_of}
-use Rattle.x86_layout.specs.Parts.Front.{ask_in, parts_of}
+use Rattle.x86_layout.specs.Parts.OfBytes.{ask_in, parts_of}
 use Rattle.x86_layout.specs.Tightening.Registers.{is_ip_relative}
 use Rattle.x86_layout.specs.Tightening.Shortest.{address_length, shortest}
 use Rattle.x86_layout.specs.Tightening.Tighten.{raw_of}
@@ -22,11 +22,11 @@ abbrev pub least_for : Bool → List ℕ → Result Instruction DecodeError → 
 least_for strict bytes (Ok i) = least_length strict (take (length_of i) bytes)
 least_for strict bytes (Err e) = 0
 
--- how long a shortest relative of the encoding at the front is: as long as the encoding where it has none to seek,
--- and 0 where the bytes are refused
+-- how long a shortest relative of the encoding at the beginning is: as long as the encoding where it has none to
+-- seek, and 0 where the bytes are refused
 unfoldable pub shortest_length : Bool → List ℕ → ℕ
 shortest_length strict bytes = least_for strict bytes (answer_of strict bytes)
 
--- An encoding that is accepted at the front has no shorter relative by this function.
-abbrev pub HasLengthOfFront : Bool → List ℕ → Type 0
-HasLengthOfFront strict bytes = (i : Instruction) → answer_of strict bytes ≡ Ok i → shortest_length strict bytes ≡ length_of i
+-- An encoding that is accepted at the beginning has no shorter relative by this function.
+abbrev pub HasShortestLength : Bool → List ℕ → Type 0
+HasShortestLength strict bytes = (i : Instruction) → answer_of strict bytes ≡ Ok i → shortest_length strict bytes ≡ length_of i

@@ -1,4 +1,4 @@
--- Which registers an address adds, and where they stand. Source: Intel SDM volume 2, sections 2.1.5 and 2.2.1.
+-- Which registers an address adds, as base or as index. Source: Intel SDM volume 2, sections 2.1.5 and 2.2.1.
 use Rattle.std.specs.Prelude.{ℕ, ◌+◌, ◌<◌, ◌≢◌, ◌==◌, ◌&&◌, Bool, false, if◌then◌else◌, Option, Some, None}
 use Rattle.x86_regs.specs.declared.RegSpec.{RegSpec}
 use Rattle.x86_regs.specs.Register.{num}
@@ -37,7 +37,7 @@ times Two = 2
 times Four = 4
 times Eight = 8
 
--- how often a register counts that stands here
+-- how often a register counts that is here
 abbrev pub part_weight : Option ℕ → ℕ → ℕ → ℕ
 part_weight None n r = 0
 part_weight (Some b) n r = if b == r then n else 0
@@ -51,7 +51,7 @@ abbrev pub IsBelow16 : Option ℕ → Type 0
 IsBelow16 None = Unit {0}
 IsBelow16 (Some n) = n < 16
 
--- a number from 0 to 15, and not 4: rsp is no index
+-- a number from 0 to 15, and not 4: rsp can't be an index
 abbrev pub IsIndex : Option ℕ → Type 0
 IsIndex None = Unit {0}
 IsIndex (Some n) = (n < 16) × (n ≢ 4)

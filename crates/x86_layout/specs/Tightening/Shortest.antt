@@ -9,58 +9,58 @@ use Rattle.x86_layout.specs.declared.tightening.registers.Scale.TheVariants.{One
 use Rattle.x86_layout.specs.declared.tightening.registers.AddressRegisters.{AddressRegisters}
 use Rattle.x86_layout.specs.Tightening.Registers.{registers_of, IsByteOption}
 
--- ---- where the registers stand
+-- ---- which register is base and which is index
 
 -- the three bits of a register's number that a field holds
 abbrev pub field_bits : ℕ → ℕ
 field_bits number = number % 8
 
 -- a base whose number ends in 101 has a displacement, also of 0
-abbrev pub asks_displacement : ℕ → Bool
-asks_displacement base = field_bits base == 5
+abbrev pub requires_displacement : ℕ → Bool
+requires_displacement base = field_bits base == 5
 
-abbrev pub is_bare : ℤ → ℕ → Bool
-is_bare disp base = is_zero disp && not (asks_displacement base)
+abbrev pub omits_displacement : ℤ → ℕ → Bool
+omits_displacement disp base = is_zero disp && not (requires_displacement base)
 
--- an index alone stands as base where it counts once, and as both where it counts twice
-abbrev pub lone : ℕ → Scale → AddressRegisters
-lone index One = record { base = Some index; index = None; scale = One }
-lone index Two = record { base = Some index; index = Some index; scale = One }
-lone index Four = record { base = None; index = Some index; scale = Four }
-lone index Eight = record { base = None; index = Some index; scale = Eight }
+-- an index alone is the base where it counts once, and both where it counts twice
+abbrev pub index_alone : ℕ → Scale → AddressRegisters
+index_alone index One = record { base = Some index; index = None; scale = One }
+index_alone index Two = record { base = Some index; index = Some index; scale = One }
+index_alone index Four = record { base = None; index = Some index; scale = Four }
+index_alone index Eight = record { base = None; index = Some index; scale = Eight }
 
 -- base and index change places where that spares a displacement of 0
 abbrev pub exchanged : ℤ → ℕ → ℕ → AddressRegisters
 exchanged disp base index =
-    if is_zero disp && (asks_displacement base && not (asks_displacement index))
+    if is_zero disp && (requires_displacement base && not (requires_displacement index))
     then record { base = Some index; index = Some base; scale = One }
     else record { base = Some base; index = Some index; scale = One }
 
-abbrev pub both : ℤ → ℕ → ℕ → Scale → AddressRegisters
-both disp base index One = exchanged disp base index
-both disp base index scale = record { base = Some base; index = Some index; scale = scale }
+abbrev pub base_and_index : ℤ → ℕ → ℕ → Scale → AddressRegisters
+base_and_index disp base index One = exchanged disp base index
+base_and_index disp base index scale = record { base = Some base; index = Some index; scale = scale }
 
 abbrev pub arranged : ℤ → Option ℕ → Option ℕ → Scale → AddressRegisters
 arranged disp None None scale = record { base = None; index = None; scale = One }
 arranged disp (Some b) None scale = record { base = Some b; index = None; scale = One }
-arranged disp None (Some i) scale = lone i scale
-arranged disp (Some b) (Some i) scale = both disp b i scale
+arranged disp None (Some i) scale = index_alone i scale
+arranged disp (Some b) (Some i) scale = base_and_index disp b i scale
 
--- where the registers stand in the shortest form
+-- the base and the index of the shortest form
 abbrev pub shortest_registers : Raw → AddressRegisters
 shortest_registers raw = let at = registers_of raw in arranged raw.disp at.base at.index at.scale
 
 -- ---- how many bytes
 
--- of the displacement, behind a base
-abbrev pub behind_base : ℤ → ℕ → ℕ
-behind_base disp base = if is_bare disp base then 0 else (if is_byte disp then 1 else 4)
+-- of the displacement, beside a base
+abbrev pub width_with_base : ℤ → ℕ → ℕ
+width_with_base disp base = if omits_displacement disp base then 0 else (if is_byte disp then 1 else 4)
 
--- of SIB and displacement, where the registers stand so
+-- of SIB and displacement, with this base and index
 abbrev pub bytes_by : ℤ → Option ℕ → Option ℕ → ℕ
 bytes_by disp None index = 5
-bytes_by disp (Some b) None = (if field_bits b == 4 then 1 else 0) + behind_base disp b
-bytes_by disp (Some b) (Some i) = 1 + behind_base disp b
+bytes_by disp (Some b) None = (if field_bits b == 4 then 1 else 0) + width_with_base disp b
+bytes_by disp (Some b) (Some i) = 1 + width_with_base disp b
 
 abbrev pub bytes_at : ℤ → AddressRegisters → ℕ
 bytes_at disp at = bytes_by disp at.base at.index
@@ -71,12 +71,12 @@ address_length raw = (if is_some raw.sib then 1 else 0) + displacement_width raw
 
 -- ---- the raw fields
 
-abbrev pub mod_behind : ℤ → ℕ → ℕ
-mod_behind disp base = if is_bare disp base then 0 else (if is_byte disp then 1 else 2)
+abbrev pub mod_with_base : ℤ → ℕ → ℕ
+mod_with_base disp base = if omits_displacement disp base then 0 else (if is_byte disp then 1 else 2)
 
 abbrev pub mod_of : ℤ → Option ℕ → ℕ
 mod_of disp None = 0
-mod_of disp (Some b) = mod_behind disp b
+mod_of disp (Some b) = mod_with_base disp b
 
 -- the fourth bit of a register's number
 abbrev pub fourth_bit : Option ℕ → Bool
@@ -110,7 +110,7 @@ abbrev pub rm_by : Option ℕ → ℕ
 rm_by None = 4
 rm_by (Some rm) = rm
 
--- the raw fields where the registers stand so, with the reg field and the displacement of some raw fields
+-- the raw fields with this base and index, and with the reg field and the displacement of some raw fields
 abbrev pub spelled : Raw → AddressRegisters → Raw
 spelled raw at = record raw {
   rex_b = fourth_bit at.base;

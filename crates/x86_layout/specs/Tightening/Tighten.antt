@@ -79,16 +79,16 @@ module _ (strict : Bool) (s : List ℕ) (a : Reading) (v : Encoding strict s a) 
     pub prefixes : run_with false false w.run ≡ run_with false false v.run
     pub escape : escape_bytes w.map ≡ escape_bytes v.map
     pub opcode : w.opcode ≡ v.opcode
-    pub register : map reg_field w.asked.modrm ≡ map reg_field v.asked.modrm
-    pub immediate : w.asked.behind.pieces.immediates ≡ v.asked.behind.pieces.immediates
-    pub suffix : w.asked.behind.pieces.suffix ≡ v.asked.behind.pieces.suffix
+    pub register : map reg_field w.row_spelled.modrm ≡ map reg_field v.row_spelled.modrm
+    pub immediate : w.row_spelled.tail_spelled.pieces.immediates ≡ v.row_spelled.tail_spelled.pieces.immediates
+    pub suffix : w.row_spelled.tail_spelled.pieces.suffix ≡ v.row_spelled.tail_spelled.pieces.suffix
 
   -- The raw fields of t have the same address as those of s.
   pub record HasAddressOf : Type 0 where
     pub from : Raw
     pub to : Raw
-    pub old : v.asked.behind.pieces.memory ≡ Some from
-    pub new : w.asked.behind.pieces.memory ≡ Some to
+    pub old : v.row_spelled.tail_spelled.pieces.memory ≡ Some from
+    pub new : w.row_spelled.tail_spelled.pieces.memory ≡ Some to
     pub same : IsSameAddress (raw_form to) (raw_form from)
 
   pub record IsRelative : Type 0 where
@@ -110,7 +110,7 @@ module _ (strict : Bool) (s : List ℕ) (a : Reading) (v : Encoding strict s a) 
   -- A memory operand is read from ModRM: it is a memory form, and an operand is written as its memory.
   pub record HasMemoryOperand : Type 0 where
     pub raw : Raw
-    pub read : v.asked.behind.pieces.memory ≡ Some raw
+    pub read : v.row_spelled.tail_spelled.pieces.memory ≡ Some raw
     pub written : list_any is_modrm_encoding (encodings_within (rows_of packed) strict s a v) ≡ true
 
   -- There is such an operand, and its base is the next instruction or isn't.
@@ -122,7 +122,7 @@ module _ (strict : Bool) (s : List ℕ) (a : Reading) (v : Encoding strict s a) 
   -- instruction.
   pub record IsAddressed (found : Addressed) : Type 0 where
     pub parts : HasParts strict s a v (lists_of found.parts)
-    pub read : v.asked.behind.pieces.memory ≡ Some found.raw
+    pub read : v.row_spelled.tail_spelled.pieces.memory ≡ Some found.raw
     pub form : is_ip_relative found.raw ≡ false
 
   -- The encoding has a memory operand of ModRM that isn't relative to the next instruction, and t is a shortest
@@ -137,14 +137,14 @@ module _ (strict : Bool) (s : List ℕ) (a : Reading) (v : Encoding strict s a) 
   HasNoRelative NoMemoryForm = HasMemoryOperand → ⊥
   HasNoRelative IpRelative = HasOperandForm true
 
--- ---- at the front of bytes
+-- ---- at the beginning of bytes
 
 -- what is said of a sentence by its pieces
 abbrev pub Statement : Type 1
 Statement = (strict : Bool) (s : List ℕ) (a : Reading) → Encoding strict s a → Type 0
 
 -- The bytes begin with a sentence, and this holds of it.
-pub record OfFront (strict : Bool) (bytes : List ℕ) (Holds : Statement) : Type 0 where
+pub record OfFirstSentence (strict : Bool) (bytes : List ℕ) (Holds : Statement) : Type 0 where
   pub instruction : Instruction
   pub accepted : answer_of strict bytes ≡ Ok instruction
   pub of_it : (s rest : List ℕ) (a : Instruction) (is : IsSentence (rows_of packed) strict s a) → bytes ≡ s ++ rest → Holds strict s is.reading is.whole
@@ -152,8 +152,8 @@ pub record OfFront (strict : Bool) (bytes : List ℕ) (Holds : Statement) : Type
 -- The bytes are refused, or their sentence has no relative to seek.
 abbrev pub IsNotTightened : Bool → List ℕ → TightenError → Type 0
 IsNotTightened strict bytes (Refused error) = answer_of strict bytes ≡ Err error
-IsNotTightened strict bytes NoMemoryForm = OfFront strict bytes (λ strict s a v. HasNoRelative strict s a v NoMemoryForm)
-IsNotTightened strict bytes IpRelative = OfFront strict bytes (λ strict s a v. HasNoRelative strict s a v IpRelative)
+IsNotTightened strict bytes NoMemoryForm = OfFirstSentence strict bytes (λ strict s a v. HasNoRelative strict s a v NoMemoryForm)
+IsNotTightened strict bytes IpRelative = OfFirstSentence strict bytes (λ strict s a v. HasNoRelative strict s a v IpRelative)
 
 -- The bytes are a sentence under some choice.
 pub record IsSentenceOfSomeChoice (s : List ℕ) : Type 0 where

@@ -9,11 +9,11 @@ ghost use Rattle.x86_decode.specs.Decoder.{is_strict};
 ghost use Rattle.x86_decode.specs.Head.{is_run};
 ghost use Rattle.x86_layout.specs.Parts.Split.{joined};
 ghost use Rattle.x86_layout.specs.Parts.Fields.{lists_in};
-ghost use Rattle.x86_layout.specs.Parts.Permitted.{lacks_modrm, refuses_suffix, passes_record, displacement_asked, has_asked_parts, tail_of, has_lawful_lock, is_short, failing_at, first_failing, IsPermitted};
+ghost use Rattle.x86_layout.specs.Parts.Permitted.{lacks_modrm, refuses_suffix, passes_record, displacement_length, has_row_parts, tail_of, has_lawful_lock, is_short, failing_at, first_failing, IsPermitted};
 
 use crate::parts::entries::{Entry, entry_of, record_at};
 use crate::parts::fields::Fields;
-use crate::parts::split::asks_sib;
+use crate::parts::split::has_sib;
 use arrayvec::ArrayVec;
 use thiserror::Error;
 use x86_arch::U8Reader;
@@ -50,7 +50,7 @@ fn is_run(prefixes: &[u8]) -> bool
     prefixes.iter().all(|byte| is_prefix(*byte))
 }
 
-/// Whether a ModRM that the row asks isn't there.
+/// Whether a ModRM that the row has isn't there.
 fn lacks_modrm(row_record: &RecordAt, fields: &Fields) -> bool
     ensures { result ≡ lacks_modrm row_record.now fields.now }
 {
@@ -58,7 +58,7 @@ fn lacks_modrm(row_record: &RecordAt, fields: &Fields) -> bool
     ask.modrm && fields.modrm.is_none()
 }
 
-/// Whether the suffix that is there names no operation, where the row asks one.
+/// Whether the suffix that is there names no operation, where the row has one.
 fn refuses_suffix(verdict: Verdict, suffix: Option<u8>) -> bool
     ensures { result ≡ refuses_suffix verdict suffix }
 {
@@ -84,8 +84,8 @@ fn passes_record(row_record: &RecordAt, fields: &Fields) -> bool
 }
 
 /// How many bytes of displacement there are at ModRM and SIB.
-fn displacement_asked(modrm: ModRM, sib: Option<u8>) -> u8
-    ensures { result ≡ displacement_asked modrm sib }
+fn displacement_length(modrm: ModRM, sib: Option<u8>) -> u8
+    ensures { result ≡ displacement_length modrm sib }
 {
     if modrm.is_memory() {
         displacement_width(modrm.byte(), sib)
@@ -94,15 +94,15 @@ fn displacement_asked(modrm: ModRM, sib: Option<u8>) -> u8
     }
 }
 
-/// Whether each part that a record asks is there with its length, and no other part is.
-fn has_asked_parts(row_record: &RecordAt, fields: &Fields) -> bool
-    ensures { result ≡ has_asked_parts row_record.now fields.now }
+/// Whether each part that a record has is there with its length, and no other part is.
+fn has_row_parts(row_record: &RecordAt, fields: &Fields) -> bool
+    ensures { result ≡ has_row_parts row_record.now fields.now }
 {
     let ask = plan_ask(row_record.usage, row_record.modrm, &row_record.plan);
-    let sib_asked = asks_sib(&ask, row_record.modrm);
-    let displacement = usize::from(displacement_asked(row_record.modrm, fields.sib));
+    let sib_present = has_sib(&ask, row_record.modrm);
+    let displacement = usize::from(displacement_length(row_record.modrm, fields.sib));
     let modrm_fits = fields.modrm.is_some() == ask.modrm;
-    let sib_fits = fields.sib.is_some() == sib_asked;
+    let sib_fits = fields.sib.is_some() == sib_present;
     let displacement_fits = fields.displacement.len() == displacement;
     let immediate_fits = fields.immediate.len() == usize::from(ask.immediate);
     let suffix_fits = fields.suffix.is_some() == ask.suffix;
@@ -130,7 +130,7 @@ pub fn push_byte(bytes: &mut ArrayVec<u8, 15>, part: Option<u8>)
     }
 }
 
-/// What stands behind the opcode byte, at most 15 bytes.
+/// What follows the opcode byte, at most 15 bytes.
 #[tactic(auto, using(crate::proofs::PartLemmas::Part::option_short))]
 fn tail_of(fields: &Fields) -> ArrayVec<u8, 15>
     ensures { result.items ≡ tail_of fields.now }
@@ -146,7 +146,7 @@ fn tail_of(fields: &Fields) -> ArrayVec<u8, 15>
     tail
 }
 
-/// Whether F0 is absent, or allowed for the reading of what stands behind the opcode byte.
+/// Whether F0 is absent, or allowed for the reading of what follows the opcode byte.
 fn has_lawful_lock(strict: bool, entry: &Entry, fields: &Fields) -> bool
     requires { IsForm entry.now.row.form }
     ensures { result ≡ has_lawful_lock strict entry.now fields.now }
@@ -167,15 +167,15 @@ fn joined(fields: &Fields) -> Option<ArrayVec<u8, 15>>
     let prefixes = fields.prefixes.as_slice();
     let escape = fields.escape.as_slice();
     let tail = tail_of(fields);
-    let behind = tail.as_slice();
-    if prefixes.len() + escape.len() + 1 + behind.len() > 15 {
+    let tail_bytes = tail.as_slice();
+    if prefixes.len() + escape.len() + 1 + tail_bytes.len() > 15 {
         return None;
     }
     let mut bytes = ArrayVec::new();
     push(&mut bytes, prefixes);
     push(&mut bytes, escape);
     push(&mut bytes, &[fields.opcode]);
-    push(&mut bytes, behind);
+    push(&mut bytes, tail_bytes);
     Some(bytes)
 }
 
@@ -191,7 +191,7 @@ fn emit_row(strict: bool, entry: &Entry, fields: &Fields) -> Result<ArrayVec<u8,
     if !passes_record(&record, fields) {
         return Err(EmitError::Row);
     }
-    if !has_asked_parts(&record, fields) {
+    if !has_row_parts(&record, fields) {
         return Err(EmitError::Shape);
     }
     if !has_lawful_lock(strict, entry, fields) {
@@ -204,11 +204,11 @@ fn emit_row(strict: bool, entry: &Entry, fields: &Fields) -> Result<ArrayVec<u8,
 }
 
 /// The encoding that has these parts, where they are permitted: the prefixes are a legal run; the opcode byte has a
-/// row, and its record doesn't refuse; each part that the row asks is there with its length, and no other part; F0 is
+/// row, and its record doesn't refuse; each part that the row has is there with its length, and no other part; F0 is
 /// absent or allowed; and the parts have at most 15 bytes in all. Else the error says which of these fails first
 /// (Intel SDM volume 2, section 2.1).
 ///
-/// The fields of the split of `48 03 44 25 00` give these bytes again, and `Shape` where their SIB is taken away.
+/// The fields of the split of `48 03 44 25 00` yield these bytes again, and `Shape` where their SIB is taken away.
 #[tactic(auto, unfolding(crate::specs::Parts::Permitted::first_failing))]
 pub fn emit(decoder: &InstDecoder, fields: &Fields) -> Result<ArrayVec<u8, 15>, EmitError>
     ensures permitted { IsOk result ↔ IsPermitted (is_strict decoder.now) fields.now }

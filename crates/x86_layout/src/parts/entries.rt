@@ -35,7 +35,7 @@ fn map_named(escape: &[u8]) -> Option<Map>
     }
 }
 
-/// Whether the byte is an opcode of the map, whatever the table gives it.
+/// Whether the byte is an opcode of the map, whatever row the table has for it.
 fn is_opcode(map: Map, byte: u8) -> bool
     ensures { result ≡ is_opcode map byte }
 {
@@ -46,7 +46,7 @@ fn is_opcode(map: Map, byte: u8) -> bool
     }
 }
 
-/// The row of an opcode byte in a map, behind a run that reads so.
+/// The row of an opcode byte in a map, after a run that reads so.
 fn entry_in(map: Map, prefixes: Prefixes, opcode: u8) -> Option<Entry>
     ensures value { result ≡ entry_at (Some map) prefixes opcode }
     ensures carried { IfSome result (λ entry. IsForm entry.row.form) }

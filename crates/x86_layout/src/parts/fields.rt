@@ -52,7 +52,7 @@ fn single(bytes: &[u8]) -> Option<u8>
 }
 
 impl Fields {
-    /// The same parts, owned. The parts that [`split`](crate::split) gives have the lengths that this asks.
+    /// The same parts, owned. The parts that [`split`](crate::split) returns have the lengths that this requires.
     ///
     /// Of the parts of `48 03 44 25 00`, ModRM is `Some(0x44)` and the displacement holds 00.
     pub fn of(parts: &Parts) -> Fields

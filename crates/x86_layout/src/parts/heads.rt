@@ -1,4 +1,4 @@
-//! What stands in front of the pieces that a row asks, and what the row asks.
+//! What comes before the pieces of a row, and which pieces the row has.
 
 ghost use Rattle.std.specs.Prelude.{◌≡◌, Bool, true, length, take, drop, slice_index, IfSome};
 ghost use Rattle.std.specs.List.{list_all, prefix_len};
@@ -17,7 +17,7 @@ use x86_forms::{Map, TableRow, packed, unpack};
 use x86_groups::group_ask;
 use x86_operands::{Ask, form_ask};
 
-/// An encoding up to its opcode byte, what stands behind it, and what its row asks there.
+/// An encoding up to its opcode byte, what follows it, and what its row has there.
 #[derive(Clone, Copy, Drop)]
 pub struct Head<'a> {
     pub prefixes: &'a [u8],
@@ -27,10 +27,10 @@ pub struct Head<'a> {
     pub ask: Ask,
 }
 
-/// The first bytes, as many as are there, and those behind them.
-pub fn front_and_rest(bytes: &[u8], count: usize) -> (&[u8], &[u8])
-    ensures front { result.0.now ≡ take count bytes.now }
-    ensures behind { result.1.now ≡ drop count bytes.now }
+/// The first bytes, as many as are there, and those after them.
+pub fn split_at_most(bytes: &[u8], count: usize) -> (&[u8], &[u8])
+    ensures first { result.0.now ≡ take count bytes.now }
+    ensures rest { result.1.now ≡ drop count bytes.now }
 {
     if count <= bytes.len() {
         bytes.split_at(count)
@@ -49,7 +49,7 @@ pub fn byte_at(bytes: &[u8], place: usize) -> u8
     }
 }
 
-/// How many prefix bytes stand in front.
+/// How many prefix bytes come first.
 fn run_length(bytes: &[u8]) -> usize
     ensures { result ≡ prefix_len is_prefix bytes.now }
 {
@@ -63,7 +63,7 @@ fn run_length(bytes: &[u8]) -> usize
     length
 }
 
-/// The map by the first two bytes behind the run.
+/// The map by the first two bytes after the run.
 pub fn map_of(first: u8, second: u8) -> Map
     ensures { result ≡ map_of first second }
 {
@@ -89,7 +89,7 @@ pub fn escape_length(map: Map) -> usize
     }
 }
 
-/// What a row asks at a ModRM byte, under either choice.
+/// What a row has at a ModRM byte, under either choice.
 fn ask_of_row(row: TableRow, prefixes: Prefixes, modrm: u8) -> Ask
     requires { IsForm row.form }
     ensures { (strict : Bool) → result ≡ ask_of (record_of strict row prefixes) modrm }
@@ -101,7 +101,7 @@ fn ask_of_row(row: TableRow, prefixes: Prefixes, modrm: u8) -> Ask
     }
 }
 
-/// What the row of an opcode byte asks, and nothing where it has no row.
+/// What the row of an opcode byte has, and nothing where there is no row.
 fn ask_at(map: Map, prefixes: Prefixes, opcode: u8, modrm: u8) -> Ask
     ensures { (strict : Bool) →
         IfSome (rows_of packed map (column_of prefixes) opcode)
@@ -118,13 +118,13 @@ fn ask_at(map: Map, prefixes: Prefixes, opcode: u8, modrm: u8) -> Ask
     }
 }
 
-/// The run of prefixes in front.
+/// The run of prefixes at the beginning.
 fn run_of(bytes: &[u8]) -> (&[u8], &[u8])
     ensures prefixes { list_all is_prefix result.0.now ≡ true }
-    ensures front { result.0.now ≡ take (prefix_len is_prefix bytes.now) bytes.now }
-    ensures behind { result.1.now ≡ drop (prefix_len is_prefix bytes.now) bytes.now }
+    ensures first { result.0.now ≡ take (prefix_len is_prefix bytes.now) bytes.now }
+    ensures rest { result.1.now ≡ drop (prefix_len is_prefix bytes.now) bytes.now }
 {
-    front_and_rest(bytes, run_length(bytes))
+    split_at_most(bytes, run_length(bytes))
 }
 
 /// The head of an encoding.
@@ -134,8 +134,8 @@ pub fn head_of(encoding: &[u8]) -> Head<'_>
 {
     let (prefixes, rest) = run_of(encoding);
     let map = map_of(byte_at(rest, 0), byte_at(rest, 1));
-    let (escape, rest) = front_and_rest(rest, escape_length(map));
-    let (opcode, tail) = front_and_rest(rest, 1);
+    let (escape, rest) = split_at_most(rest, escape_length(map));
+    let (opcode, tail) = split_at_most(rest, 1);
     let ask = ask_at(
         map,
         reading_of(prefixes),

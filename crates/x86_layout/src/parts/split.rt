@@ -8,12 +8,12 @@ ghost use Rattle.x86_operands.specs.Pieces.{SpellsRow};
 ghost use Rattle.x86_operands.specs.Asks.{ask_of};
 ghost use Rattle.x86_decode.specs.Decoder.{is_strict};
 ghost use Rattle.x86_decode.specs.Answer.{answer_of};
-ghost use Rattle.x86_layout.specs.Parts.Heads.{asks_sib, IsTail};
+ghost use Rattle.x86_layout.specs.Parts.Heads.{has_sib, IsTail};
 ghost use Rattle.x86_layout.specs.Parts.Split.{lists_of, IsSplit};
-ghost use Rattle.x86_layout.specs.Parts.Front.{parts_of};
+ghost use Rattle.x86_layout.specs.Parts.OfBytes.{parts_of};
 ghost use Rattle.x86_layout.specs.Parts.Fields.{HasFieldLengths};
 
-use crate::parts::heads::{Head, byte_at, front_and_rest, head_of};
+use crate::parts::heads::{Head, byte_at, head_of, split_at_most};
 use x86_decode::{InstDecoder, Instruction, laws};
 use x86_fields::{DecodeError, ModRM};
 use x86_operands::Ask;
@@ -40,14 +40,14 @@ pub struct Parts<'a> {
 }
 
 /// Whether there is a SIB at a ModRM byte.
-pub fn asks_sib(ask: &Ask, modrm: ModRM) -> bool
-    ensures { result ≡ asks_sib ask.now modrm }
+pub fn has_sib(ask: &Ask, modrm: ModRM) -> bool
+    ensures { result ≡ has_sib ask.now modrm }
 {
     ask.memory && modrm.rm_field() == 4
 }
 
 /// The parts of an encoding that has this head.
-pub fn parts_behind<'a>(head: &Head<'a>) -> Parts<'a>
+pub fn parts_after<'a>(head: &Head<'a>) -> Parts<'a>
     ensures prefixes { result.prefixes.now ≡ head.now.prefixes.now }
     ensures escape { result.escape.now ≡ head.now.escape.now }
     ensures opcode { result.opcode.now ≡ head.now.opcode.now }
@@ -57,12 +57,12 @@ pub fn parts_behind<'a>(head: &Head<'a>) -> Parts<'a>
 {
     let ask = head.ask;
     let immediate_length = usize::from(ask.immediate);
-    let sib_length = usize::from(asks_sib(&ask, ModRM::new(byte_at(head.tail, 0))));
-    let (modrm, rest) = front_and_rest(head.tail, usize::from(ask.modrm));
+    let sib_length = usize::from(has_sib(&ask, ModRM::new(byte_at(head.tail, 0))));
+    let (modrm, rest) = split_at_most(head.tail, usize::from(ask.modrm));
     let before_suffix = rest.len().saturating_sub(usize::from(ask.suffix));
-    let (address, rest) = front_and_rest(rest, before_suffix.saturating_sub(immediate_length));
-    let (sib, displacement) = front_and_rest(address, sib_length);
-    let (immediate, suffix) = front_and_rest(rest, immediate_length);
+    let (address, rest) = split_at_most(rest, before_suffix.saturating_sub(immediate_length));
+    let (sib, displacement) = split_at_most(address, sib_length);
+    let (immediate, suffix) = split_at_most(rest, immediate_length);
     Parts {
         prefixes: head.prefixes,
         escape: head.escape,
@@ -91,11 +91,11 @@ pub fn split_decoded<'a>(
 {
     laws::lengths();
     laws::answer_is();
-    let (encoding, _) = front_and_rest(bytes, instruction.len().to_const() as usize);
-    parts_behind(&head_of(encoding))
+    let (encoding, _) = split_at_most(bytes, instruction.len().to_const() as usize);
+    parts_after(&head_of(encoding))
 }
 
-/// The parts of the accepted encoding at the front of the bytes, in order; their concatenation is that encoding.
+/// The parts of the accepted encoding at the beginning of the bytes, in order; their concatenation is that encoding.
 /// Refused as `InstDecoder::decode_slice` refuses.
 ///
 /// For `48 03 44 25 00 90` the prefixes are 48, the opcode is 03, ModRM is 44, SIB is 25 and the displacement is 00.

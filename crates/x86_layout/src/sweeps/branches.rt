@@ -42,7 +42,7 @@ fn offset_of(operand: Operand) -> i64
     }
 }
 
-/// The address that an instruction branches to, where `next` is the address behind it: `next` plus its sign-extended
+/// The address that an instruction branches to, where `next` is the address after it: `next` plus its sign-extended
 /// immediate, modulo 2^64. `None` where the operation isn't CALL, JMP, a Jcc, LOOPNZ, LOOPZ, LOOP, JRCXZ or JECXZ, or
 /// its target isn't an immediate (Intel SDM volume 2, CALL, JMP, Jcc and LOOP/LOOPcc).
 ///

@@ -7,7 +7,7 @@ ghost use Rattle.x86_layout.specs.Sweeps.Cuts.{cut_at, cut_length};
 use x86_decode::{InstDecoder, Instruction, laws};
 use x86_fields::DecodeError;
 
-/// A piece of a sweep: an instruction, or one byte at which none stands.
+/// A piece of a sweep: an instruction, or one byte at which there is none.
 #[derive(Clone, Copy, Debug, Drop)]
 pub struct Cut {
     /// Where it begins, counted from 0.
@@ -28,7 +28,7 @@ fn length_by(answer: &Result<Instruction, DecodeError>) -> u64
     }
 }
 
-/// The cut at the front of the bytes, which stand from a place on.
+/// The cut at the beginning of the bytes, whose first has this place.
 pub fn first_cut(decoder: &InstDecoder, place: usize, rest: &[u8]) -> Cut
     requires { 0 < length rest.now }
     ensures cut { result ≡ cut_at (is_strict decoder.now) place rest.now }

@@ -16,7 +16,7 @@ pub struct Sweep<'a> {
 }
 
 /// The bytes from a place on.
-fn behind(bytes: &[u8], place: usize) -> &[u8]
+fn from_place(bytes: &[u8], place: usize) -> &[u8]
     requires { place ≤ length bytes.now }
     ensures { result.now ≡ drop place bytes.now }
 {
@@ -46,7 +46,7 @@ impl<'a> Sweep<'a> {
     {
         let cut = first_cut(&self.decoder, self.place, self.rest);
         self.place += cut.length;
-        self.rest = behind(self.rest, cut.length);
+        self.rest = from_place(self.rest, cut.length);
         cut
     }
 }

@@ -1,4 +1,4 @@
-//! Which registers an address adds, and where they stand.
+//! Which registers an address adds, as base or as index.
 
 ghost use Rattle.std.specs.Prelude.{◌≡◌};
 ghost use Rattle.x86_layout.specs.Tightening.Registers.{number_of, scale_named, registers_of, is_ip_relative};

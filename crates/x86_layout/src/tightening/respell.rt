@@ -75,8 +75,8 @@ fn push_run(encoding: &mut ArrayVec<u8, 15>, run: &[u8], x: bool, b: bool)
     ensures text { encoding.new.items ≡ encoding.old.items ++ run_with x b run.now }
     ensures len { array_vec_len encoding.new ≡ array_vec_len encoding.old + length run.now }
 {
-    if let Some((last, front)) = run.split_last() {
-        push(encoding, front);
+    if let Some((last, beginning)) = run.split_last() {
+        push(encoding, beginning);
         encoding.push(byte_with(x, b, *last));
     }
 }

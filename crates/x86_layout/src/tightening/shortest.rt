@@ -1,7 +1,7 @@
 //! The raw fields of an address with the fewest bytes. Source: Intel SDM volume 2, sections 2.1.5 and 2.2.1.
 
 ghost use Rattle.std.specs.Prelude.{◌≡◌, ◌<◌};
-ghost use Rattle.x86_layout.specs.Tightening.Shortest.{asks_displacement, is_bare, lone, both, exchanged, arranged, mod_behind, mod_of, fourth_bit, scale_bits, field_or, sib_byte, rm_alone, spelled, shortest, field_bits};
+ghost use Rattle.x86_layout.specs.Tightening.Shortest.{requires_displacement, omits_displacement, index_alone, base_and_index, exchanged, arranged, mod_with_base, mod_of, fourth_bit, scale_bits, field_or, sib_byte, rm_alone, spelled, shortest, field_bits};
 
 use crate::tightening::registers::{AddressRegisters, Scale, registers_of};
 use x86_fields::{ModRM, Raw, Sib};
@@ -14,16 +14,16 @@ fn field_bits(number: u8) -> u8
     number % 8
 }
 
-/// Whether a base asks a displacement, also of 0: its number ends in 101.
-fn asks_displacement(base: u8) -> bool
-    ensures { result ≡ asks_displacement base }
+/// Whether a base requires a displacement, also of 0: its number ends in 101.
+fn requires_displacement(base: u8) -> bool
+    ensures { result ≡ requires_displacement base }
 {
     field_bits(base) == 5
 }
 
-/// Where an index stands that is alone.
-fn lone(index: u8, scale: Scale) -> AddressRegisters
-    ensures { result ≡ lone index scale }
+/// The registers of an index without a base.
+fn index_alone(index: u8, scale: Scale) -> AddressRegisters
+    ensures { result ≡ index_alone index scale }
 {
     match scale {
         Scale::One => AddressRegisters {
@@ -48,7 +48,7 @@ fn lone(index: u8, scale: Scale) -> AddressRegisters
 fn exchanged(disp: i32, base: u8, index: u8) -> AddressRegisters
     ensures { result ≡ exchanged disp base index }
 {
-    if disp == 0 && asks_displacement(base) && !asks_displacement(index) {
+    if disp == 0 && requires_displacement(base) && !requires_displacement(index) {
         AddressRegisters {
             base: Some(index),
             index: Some(base),
@@ -63,8 +63,8 @@ fn exchanged(disp: i32, base: u8, index: u8) -> AddressRegisters
     }
 }
 
-fn both(disp: i32, base: u8, index: u8, scale: Scale) -> AddressRegisters
-    ensures { result ≡ both disp base index scale }
+fn base_and_index(disp: i32, base: u8, index: u8, scale: Scale) -> AddressRegisters
+    ensures { result ≡ base_and_index disp base index scale }
 {
     match scale {
         Scale::One => exchanged(disp, base, index),
@@ -76,13 +76,13 @@ fn both(disp: i32, base: u8, index: u8, scale: Scale) -> AddressRegisters
     }
 }
 
-/// Where the registers stand in the shortest form.
+/// The base and the index of the shortest form.
 fn arranged(disp: i32, at: AddressRegisters) -> AddressRegisters
     ensures { result ≡ arranged disp at.base at.index at.scale }
 {
     match (at.base, at.index) {
-        (Some(base), Some(index)) => both(disp, base, index, at.scale),
-        (None, Some(index)) => lone(index, at.scale),
+        (Some(base), Some(index)) => base_and_index(disp, base, index, at.scale),
+        (None, Some(index)) => index_alone(index, at.scale),
         (base, None) => AddressRegisters {
             base,
             index: None,
@@ -92,11 +92,11 @@ fn arranged(disp: i32, at: AddressRegisters) -> AddressRegisters
 }
 
 /// The mod field: no displacement, one of a byte, or one of four bytes.
-fn mod_behind(disp: i32, base: u8) -> u8
-    ensures value { result ≡ mod_behind disp base }
+fn mod_with_base(disp: i32, base: u8) -> u8
+    ensures value { result ≡ mod_with_base disp base }
     ensures small { result < 3 }
 {
-    if disp == 0 && !asks_displacement(base) {
+    if disp == 0 && !requires_displacement(base) {
         0
     } else if -128 <= disp && disp < 128 {
         1
@@ -110,7 +110,7 @@ fn mod_of(disp: i32, base: Option<u8>) -> u8
     ensures small { result < 3 }
 {
     match base {
-        Some(base) => mod_behind(disp, base),
+        Some(base) => mod_with_base(disp, base),
         None => 0,
     }
 }
@@ -170,7 +170,7 @@ fn rm_alone(at: &AddressRegisters) -> Option<u8>
     }
 }
 
-/// The raw fields where the registers stand so.
+/// The raw fields with this base and index.
 fn spelled(raw: &Raw, at: &AddressRegisters) -> Raw
     ensures { result ≡ spelled raw.now at.now }
 {

@@ -5,12 +5,12 @@ ghost use Rattle.x86_forms.specs.Words.{rows_of, packed};
 ghost use Rattle.x86_decode.specs.Decoder.{is_strict};
 ghost use Rattle.x86_decode.specs.declared.instructions.Instruction.{Instruction};
 ghost use Rattle.x86_decode.specs.Grammar.{IsSentence};
-ghost use Rattle.x86_layout.specs.Tightening.Least.{least_length, shortest_length, HasLengthOfFront};
+ghost use Rattle.x86_layout.specs.Tightening.Least.{least_length, shortest_length, HasShortestLength};
 ghost use Rattle.x86_decode.specs.Answer.{answer_of};
-ghost use Rattle.x86_layout.specs.Tightening.Tighten.{IsTightened, IsAddressed, HasNoRelative, IsSentenceOfSomeChoice, OfFront, IsNotTightened};
+ghost use Rattle.x86_layout.specs.Tightening.Tighten.{IsTightened, IsAddressed, HasNoRelative, IsSentenceOfSomeChoice, OfFirstSentence, IsNotTightened};
 
-use crate::parts::heads::{front_and_rest, head_of};
-use crate::parts::split::{Parts, parts_behind};
+use crate::parts::heads::{head_of, split_at_most};
+use crate::parts::split::{Parts, parts_after};
 use crate::tightening::registers::is_ip_relative;
 use crate::tightening::respell::{address_length, raw_in, respelled};
 use crate::tightening::shortest::shortest;
@@ -56,7 +56,7 @@ fn addressed_in(encoding: &[u8]) -> Result<Addressed<'_>, TightenError>
     if !head.ask.memory {
         return Err(TightenError::NoMemoryForm);
     }
-    let parts = parts_behind(&head);
+    let parts = parts_after(&head);
     let raw = raw_in(&parts);
     if is_ip_relative(&raw) {
         return Err(TightenError::IpRelative);
@@ -108,26 +108,26 @@ pub fn shortest_length(decoder: &InstDecoder, instruction: &Instruction, bytes: 
 {
     laws::lengths();
     laws::answer_is();
-    let (encoding, _) = front_and_rest(bytes, instruction.len().to_const() as usize);
+    let (encoding, _) = split_at_most(bytes, instruction.len().to_const() as usize);
     least_length(encoding) as u64
 }
 
-/// An encoding with the same address as the accepted encoding at the front of the bytes, of which none is shorter.
+/// The shortest encoding with the same address as the accepted encoding at the beginning of the bytes.
 ///
 /// Its parts are those of that encoding, but for mod and rm of ModRM, SIB, the displacement, and the bits X and B of
 /// a live REX. Base and index may change places at scale 1, and the processor's default segment with them. Refused as
-/// `InstDecoder::decode_slice` refuses; `NoMemoryForm` where ModRM is no memory form, and `IpRelative` at mod 00 with
-/// rm 101.
+/// `InstDecoder::decode_slice` refuses; `NoMemoryForm` where ModRM isn't a memory form, and `IpRelative` at mod 00
+/// with rm 101.
 ///
 /// For `48 8b 84 25 00 00 00 00`, which is MOV rax, [rbp], this is `48 8b 45 00` (Intel SDM volume 2, section 2.1.5).
 pub fn tighten(decoder: &InstDecoder, bytes: &[u8]) -> Result<ArrayVec<u8, 15>, TightenError>
     ensures shortest { MatchResult result
-        (λ t. OfFront (is_strict decoder.now) bytes.now
+        (λ t. OfFirstSentence (is_strict decoder.now) bytes.now
         (λ strict s a v. IsTightened strict s a v t.items))
         (λ error. IsNotTightened (is_strict decoder.now) bytes.now error) }
     ensures least { MatchResult result
         (λ t. length t.items ≡ shortest_length (is_strict decoder.now) bytes.now)
-        (λ _. HasLengthOfFront (is_strict decoder.now) bytes.now) }
+        (λ _. HasShortestLength (is_strict decoder.now) bytes.now) }
 {
     laws::lengths();
     laws::answer_is();
@@ -135,6 +135,6 @@ pub fn tighten(decoder: &InstDecoder, bytes: &[u8]) -> Result<ArrayVec<u8, 15>, 
         Ok(instruction) => instruction,
         Err(error) => return Err(TightenError::Refused(error)),
     };
-    let (encoding, _) = front_and_rest(bytes, instruction.len().to_const() as usize);
+    let (encoding, _) = split_at_most(bytes, instruction.len().to_const() as usize);
     tightened(encoding)
 }

@@ -7,15 +7,15 @@ use Rattle.x86_decode.specs.Answer.{answer_of, count_of}
 use Rattle.x86_decode.specs.Grammar.{IsAnswer, IsAccepted}
 use Rattle.x86_cli.proofs.laws.decoder_laws.Goals as goal
 
--- the sentence at the front, without what stands behind it
+-- the sentence at the beginning, without what follows it
 sentence_alone : (strict : Bool) (xs : List ℕ) (i : Instruction) (n : ℕ) → i.length ≡ n → IsAccepted (rows_of packed) strict xs i n →
     ((ys : List ℕ) (r : Result Instruction DecodeError) (k : ℕ) → IsAnswer (rows_of packed) strict ys r k → r ≡ answer_of strict ys) →
     answer_of strict (take i.length xs) ≡ Ok i
 sentence_alone strict xs i n len a only =
     let s = a.sentence in
-    let front : take i.length xs ≡ s = ap (λ m. take m xs) (len ∙ sym a.long) ∙ ap (take (length s)) a.begins ∙ take-append_seam s a.rest in
+    let beginning : take i.length xs ≡ s = ap (λ m. take m xs) (len ∙ sym a.long) ∙ ap (take (length s)) a.begins ∙ take-append_seam s a.rest in
     let alone : IsAccepted (rows_of packed) strict s i n = record { sentence = s; rest = []; begins = sym (append-nil s); long = a.long; is = a.is } in
-    ap (answer_of strict) front ∙ sym (only s (Ok i) n alone)
+    ap (answer_of strict) beginning ∙ sym (only s (Ok i) n alone)
 
 pub returns : goal.returns
 returns c strict = record {

@@ -9,8 +9,8 @@ run-init g c = walk_begins (g.T.Reader.state c.args.reader.now) c.args.begin
 pub returns-in_err-byte : goal.returns-in_err-byte
 returns-in_err-byte g c =
     let r : c.from_residual.result ≡ Err c.in_err-byte.field-0.0 = search rules in
-    λ front e. ap (λ x. outcome x (g.T.Reader.state c.next_byte.new.reader)) r
-    ∙ walk_lacks (g.T.Reader.state c.args.reader.now) (g.T.Reader.state c.run.reader) (g.T.Reader.state c.next_byte.new.reader) c.args.begin c.run.prefixes c.in_err-byte.field-0.0 c.run.invariant c.in_err-byte.ensures front e
+    λ beginning e. ap (λ x. outcome x (g.T.Reader.state c.next_byte.new.reader)) r
+    ∙ walk_lacks (g.T.Reader.state c.args.reader.now) (g.T.Reader.state c.run.reader) (g.T.Reader.state c.next_byte.new.reader) c.args.begin c.run.prefixes c.in_err-byte.field-0.0 c.run.invariant c.in_err-byte.ensures beginning e
 
 pub returns-then-not-is_prefix : goal.returns-then-not-is_prefix
 returns-then-not-is_prefix g c = walk_stops (g.T.Reader.state c.args.reader.now) (g.T.Reader.state c.run.reader) (g.T.Reader.state c.next_byte.new.reader) c.args.begin c.run.prefixes c.in_ok-byte.byte c.run.invariant c.in_ok-byte.ensures (search rules)

@@ -13,5 +13,5 @@ returns-in-Ok c =
 pub returns-in-Err : goal.returns-in-Err
 returns-in-Err c =
     let i = c.walk_within-result.new.inst in
-    slice_err c.args.strict c.args.bytes.now c.first_fifteen-within.result.now c.in-Err.error c.limited.result _ _ c.first_fifteen-within.ensures (c.new.ensures ∙ ap at_start c.first_fifteen-within.ensures)
-    (held_err c.walk_within-result.result.0 (reading_in i) c.in-Err.error _ _ c.in-Err.is c.walk_within-result.ensures) c.limited.ensures
+    slice_err c.args.strict c.args.bytes.now c.first_fifteen-within.result.now c.in-Err.error c.error_at_limit.result _ _ c.first_fifteen-within.ensures (c.new.ensures ∙ ap at_start c.first_fifteen-within.ensures)
+    (held_err c.walk_within-result.result.0 (reading_in i) c.in-Err.error _ _ c.in-Err.is c.walk_within-result.ensures) c.error_at_limit.ensures

@@ -5,7 +5,7 @@ pub returns-clause-whole : goal.returns-clause-whole
 returns-clause-whole c p modrm s raw h = raw_whole p modrm s raw h
 
 pub returns-clause-wherever : goal.returns-clause-wherever
-returns-clause-wherever c p modrm s bytes rest raw front spelled = raw_exactly p modrm s bytes rest raw front spelled
+returns-clause-wherever c p modrm s bytes rest raw beginning spelled = raw_exactly p modrm s bytes rest raw beginning spelled
 
 pub returns-clause-short : goal.returns-clause-short
 returns-clause-short c p modrm s e h = raw_short p modrm s e h

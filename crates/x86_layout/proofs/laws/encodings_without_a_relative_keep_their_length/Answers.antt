@@ -13,7 +13,7 @@ use Rattle.x86_layout.proofs.TightenLemmas.Tighten.{operand_form, some_memory}
 use Rattle.x86_layout.proofs.laws.encodings_without_a_relative_keep_their_length.Goals as goal
 
 module _ (strict : Bool) (s : List ℕ) (a : Reading) (v : Encoding strict s a) where
-  -- a memory form of ModRM is an operand, so where there is no such operand ModRM is none
+  -- a memory form of ModRM is an operand, so without such an operand ModRM isn't a memory form
   by_form : (memory : Bool) → is_memory (Byte v) ≡ memory → (HasMemoryOperand strict s a v → ⊥) → least_length strict s ≡ length s
   by_form true e none = absurd (let read = some_memory v e in none (operand_form v read.0 read.1 (is_ip_relative read.0) refl).operand)
   by_form false e none = least_without v e

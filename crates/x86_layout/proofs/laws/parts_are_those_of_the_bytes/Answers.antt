@@ -1,5 +1,5 @@
 use Rattle.std.proofs.Common.{◌++◌, refl}
-use Rattle.x86_layout.proofs.PartLemmas.Front.{parts_are}
+use Rattle.x86_layout.proofs.PartLemmas.OfBytes.{parts_are}
 use Rattle.x86_layout.proofs.laws.parts_are_those_of_the_bytes.Goals as goal
 
 pub returns : goal.returns

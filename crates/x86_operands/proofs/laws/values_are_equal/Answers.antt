@@ -1,4 +1,4 @@
-use Rattle.x86_operands.proofs.EqualLemmas.{same_asks, same_operands, same_slots, same_sizes}
+use Rattle.x86_operands.proofs.EqualLemmas.{same_ask, same_operands, same_slots, same_sizes}
 use Rattle.std.proofs.Common.{ap, sym, ◌∙◌}
 use Rattle.x86_operands.specs.contracts.operands.OperandPartialEq.TheImpl as operand
 use Rattle.x86_operands.specs.contracts.operands.OperandEq.TheImpl.Laws as operand_laws
@@ -20,4 +20,4 @@ pub returns-clause-sizes : goal.returns-clause-sizes
 returns-clause-sizes c a b = (same_sizes a b, λ e. ap (λ x. size.ghosts.eq a x) (sym e) ∙ size_laws.laws-law.refl a)
 
 pub returns-clause-asks : goal.returns-clause-asks
-returns-clause-asks c a b = (same_asks a b, λ e. ap (λ x. ask.ghosts.eq a x) (sym e) ∙ ask_laws.laws-law.refl a)
+returns-clause-asks c a b = (same_ask a b, λ e. ap (λ x. ask.ghosts.eq a x) (sym e) ∙ ask_laws.laws-law.refl a)

@@ -12,8 +12,8 @@ laid to from m same least most =
     let last : List ℕ = take m (drop k from) in
     let long : length first ≡ length from = length-put_chunk 0 to (take m from) ∙ same in
     let size : length last ≡ m = length-take-le m (drop k from) (omega (arith, length-drop k from)) in
-    let front : take m first ≡ take m from = take_more_put_chunk 0 to (take m from) m (omega (arith, length-take-le m from least)) (omega arith) in
-    let kept : take k first ≡ take k from = sym (take-take k m first (omega arith)) ∙ ap (take k) front ∙ take-take k m from (omega arith) in
+    let beginning : take m first ≡ take m from = take_more_put_chunk 0 to (take m from) m (omega (arith, length-take-le m from least)) (omega arith) in
+    let kept : take k first ≡ take k from = sym (take-take k m first (omega arith)) ∙ ap (take k) beginning ∙ take-take k m from (omega arith) in
     sym (take_all (length from) (put_chunk k first last) (omega (arith, length-put_chunk k first last, long)))
     ∙ take_more_put_chunk k first last (length from) (omega arith) (omega (arith, long))
     ∙ ap (λ xs. xs ++ last) kept

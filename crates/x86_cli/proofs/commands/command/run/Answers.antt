@@ -22,5 +22,5 @@ returns-in-Some-clause-writes_nothing g c e = absurd (ran_used g.S.Source.gives 
 pub returns-in-Some-clause-says : goal.returns-in-Some-clause-says
 returns-in-Some-clause-says g c =
     rw (sym c.command_of.ensures ∙ c.in-Some.is)
-    (ran_says g.S.Source.gives g.K.Sink.takes g.S.Source.left g.S.Source.faults g.K.Sink.written g.K.Sink.faults g.met.S.Source.tells g.met.K.Sink.tells
+    (ran_says g.S.Source.gives g.K.Sink.takes g.S.Source.left g.S.Source.faults g.K.Sink.written g.K.Sink.faults g.met.S.Source.reports g.met.K.Sink.reports
     c.decoder_laws.ensures c.in-Some.command _ _ _ _ _ c.obey.ensures.0)

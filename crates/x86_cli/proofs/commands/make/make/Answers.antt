@@ -9,7 +9,7 @@ returns-in-Ok g c =
     record {
       lines = line (tally_text c.args.count (tally_of c.args.count)) ∷ [];
       failed = None;
-      took = (c.put_line.new.sink, (rw text at c.in-Ok.ensures), refl);
+      sink_calls = (c.put_line.new.sink, (rw text at c.in-Ok.ensures), refl);
       lists = refl;
     }
 
@@ -19,6 +19,6 @@ returns-in-Err g c =
     record {
       lines = [];
       failed = Some (line (tally_text c.args.count (tally_of c.args.count)));
-      took = (c.in-Err.field-0, (rw text at c.in-Err.ensures));
+      sink_calls = (c.in-Err.field-0, (rw text at c.in-Err.ensures));
       lists = (refl, ([], refl));
     }

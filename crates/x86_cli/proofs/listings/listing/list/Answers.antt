@@ -1,15 +1,15 @@
 use Rattle.std.proofs.Common.{refl, arith, length, ap, length-drop}
 use Rattle.x86_cli.specs.Text.Reading.{NeedsMore}
 use Rattle.x86_cli.specs.Listings.Line.{line}
-use Rattle.x86_cli.proofs.ListingLemmas.Stands.{window_needs, stands_new, stands_refill}
-use Rattle.x86_cli.proofs.CommandLemmas.Ahead.{window, end_one, stands_line, window_failed, window_closed, window_unclosed}
+use Rattle.x86_cli.proofs.ListingLemmas.Progress.{window_needs, progress_new, progress_refill}
+use Rattle.x86_cli.proofs.CommandLemmas.Ahead.{window, end_one, progress_line, window_failed, window_closed, window_unclosed}
 use Rattle.x86_cli.proofs.listings.listing.list.Goals as goal
 
 pub lines-init : goal.lines-init
 lines-init g c =
     let e = c.new-window.ensures in
     record {
-      stands = rw (e.ended, e.bytes, e.position, e.room, c.at-place.ensures) (stands_new g.S.Source.gives g.K.Sink.takes (g.W.Course.lists c.args.course.now c.args.decoder.now.strict) window refl c.args.max _ _);
+      progress = rw (e.ended, e.bytes, e.position, e.room, c.at-place.ensures) (progress_new g.S.Source.gives g.K.Sink.takes (g.W.Course.lists c.args.course.now c.args.decoder.now.strict) window refl c.args.max _ _);
       ahead = e.ahead _;
       few = omega (arith, ap length e.bytes);
       fits = omega (arith, ap length e.bytes, e.room);
@@ -17,11 +17,11 @@ lines-init g c =
 
 pub lines-preserved : goal.lines-preserved
 lines-preserved g c =
-    let s = stands_refill g.S.Source.gives g.K.Sink.takes (g.W.Course.lists c.args.course.now c.args.decoder.now.strict) window (NeedsMore 15) (window_needs 15) _ _ _ _ _ _ _ _ _ c.lines.invariant.stands c.refill.ensures.cases in
+    let s = progress_refill g.S.Source.gives g.K.Sink.takes (g.W.Course.lists c.args.course.now c.args.decoder.now.strict) window (NeedsMore 15) (window_needs 15) _ _ _ _ _ _ _ _ _ c.lines.invariant.progress c.refill.ensures.cases in
     let step = c.in-Line.ensures.next in
     record {
-      stands = rw (c.advance.ensures, c.leave.ensures.ended, c.leave.ensures.reader, c.leave.ensures.bytes)
-          (stands_line g.S.Source.gives g.K.Sink.takes (g.W.Course.lists c.args.course.now c.args.decoder.now.strict) _ _ _ _ _ _ _ _ _ _ s (line c.next.new.line.items) _ step.1 step.2 _ c.in-Ok.ensures);
+      progress = rw (c.advance.ensures, c.leave.ensures.ended, c.leave.ensures.reader, c.leave.ensures.bytes)
+          (progress_line g.S.Source.gives g.K.Sink.takes (g.W.Course.lists c.args.course.now c.args.decoder.now.strict) _ _ _ _ _ _ _ _ _ _ s (line c.next.new.line.items) _ step.1 step.2 _ c.in-Ok.ensures);
       ahead = rw (c.leave.ensures.reader, c.leave.ensures.ahead) c.refill.ensures.ahead;
       few = omega (arith, simp length-drop at (ap length c.leave.ensures.bytes), c.refill.ensures.few c.lines.invariant.few);
       fits = omega (arith, simp length-drop at (ap length c.leave.ensures.bytes), ap (λ r. r.room) c.leave.ensures.reader, c.refill.ensures.uses, c.lines.invariant.fits, step.1);
@@ -29,25 +29,25 @@ lines-preserved g c =
 
 pub returns-in-Err : goal.returns-in-Err
 returns-in-Err g c =
-    let s = stands_refill g.S.Source.gives g.K.Sink.takes (g.W.Course.lists c.args.course.now c.args.decoder.now.strict) window (NeedsMore 15) (window_needs 15) _ _ _ _ _ _ _ _ _ c.lines.invariant.stands c.refill.ensures.cases in
+    let s = progress_refill g.S.Source.gives g.K.Sink.takes (g.W.Course.lists c.args.course.now c.args.decoder.now.strict) window (NeedsMore 15) (window_needs 15) _ _ _ _ _ _ _ _ _ c.lines.invariant.progress c.refill.ensures.cases in
     window_failed g.S.Source.gives g.K.Sink.takes (g.W.Course.lists c.args.course.now c.args.decoder.now.strict) _ _ _ _ _ _ _ _ _ _ s (c.refill.ensures.few c.lines.invariant.few) (line c.next.new.line.items) (λ xs stop. (_, c.in-Line.ensures.next.2 xs stop)) _ _ c.in-Err.ensures
 
 pub returns-in-Ok-refuse : goal.returns-in-Ok-refuse
 returns-in-Ok-refuse g c =
-    let s = stands_refill g.S.Source.gives g.K.Sink.takes (g.W.Course.lists c.args.course.now c.args.decoder.now.strict) window (NeedsMore 15) (window_needs 15) _ _ _ _ _ _ _ _ _ c.lines.invariant.stands c.refill.ensures.cases in
+    let s = progress_refill g.S.Source.gives g.K.Sink.takes (g.W.Course.lists c.args.course.now c.args.decoder.now.strict) window (NeedsMore 15) (window_needs 15) _ _ _ _ _ _ _ _ _ c.lines.invariant.progress c.refill.ensures.cases in
     window_closed g.S.Source.gives g.K.Sink.takes (g.W.Course.lists c.args.course.now c.args.decoder.now.strict) _ _ _ _ _ _ _ _ _ _ s (c.refill.ensures.few c.lines.invariant.few) _ (omega arith) c.in-Refused.ensures.next _ _ (rw c.number.ensures at c.in-Ok-refuse.ensures)
 
 pub returns-in-Err-refuse : goal.returns-in-Err-refuse
 returns-in-Err-refuse g c =
-    let s = stands_refill g.S.Source.gives g.K.Sink.takes (g.W.Course.lists c.args.course.now c.args.decoder.now.strict) window (NeedsMore 15) (window_needs 15) _ _ _ _ _ _ _ _ _ c.lines.invariant.stands c.refill.ensures.cases in
+    let s = progress_refill g.S.Source.gives g.K.Sink.takes (g.W.Course.lists c.args.course.now c.args.decoder.now.strict) window (NeedsMore 15) (window_needs 15) _ _ _ _ _ _ _ _ _ c.lines.invariant.progress c.refill.ensures.cases in
     window_unclosed g.S.Source.gives g.K.Sink.takes (g.W.Course.lists c.args.course.now c.args.decoder.now.strict) _ _ _ _ _ _ _ _ _ _ s (c.refill.ensures.few c.lines.invariant.few) _ c.in-Refused.ensures.next c.in-Err-refuse.field-0 _ (rw c.number.ensures at c.in-Err-refuse.ensures)
 
 pub returns-in-Ok-end : goal.returns-in-Ok-end
 returns-in-Ok-end g c =
-    let s = stands_refill g.S.Source.gives g.K.Sink.takes (g.W.Course.lists c.args.course.now c.args.decoder.now.strict) window (NeedsMore 15) (window_needs 15) _ _ _ _ _ _ _ _ _ c.lines.invariant.stands c.refill.ensures.cases in
+    let s = progress_refill g.S.Source.gives g.K.Sink.takes (g.W.Course.lists c.args.course.now c.args.decoder.now.strict) window (NeedsMore 15) (window_needs 15) _ _ _ _ _ _ _ _ _ c.lines.invariant.progress c.refill.ensures.cases in
     window_closed g.S.Source.gives g.K.Sink.takes (g.W.Course.lists c.args.course.now c.args.decoder.now.strict) _ _ _ _ _ _ _ _ _ _ s (c.refill.ensures.few c.lines.invariant.few) _ (end_one c.in-Ended.ending) c.in-Ended.ensures.next _ _ c.in-Ok-end.ensures
 
 pub returns-in-Err-end : goal.returns-in-Err-end
 returns-in-Err-end g c =
-    let s = stands_refill g.S.Source.gives g.K.Sink.takes (g.W.Course.lists c.args.course.now c.args.decoder.now.strict) window (NeedsMore 15) (window_needs 15) _ _ _ _ _ _ _ _ _ c.lines.invariant.stands c.refill.ensures.cases in
+    let s = progress_refill g.S.Source.gives g.K.Sink.takes (g.W.Course.lists c.args.course.now c.args.decoder.now.strict) window (NeedsMore 15) (window_needs 15) _ _ _ _ _ _ _ _ _ c.lines.invariant.progress c.refill.ensures.cases in
     window_unclosed g.S.Source.gives g.K.Sink.takes (g.W.Course.lists c.args.course.now c.args.decoder.now.strict) _ _ _ _ _ _ _ _ _ _ s (c.refill.ensures.few c.lines.invariant.few) _ c.in-Ended.ensures.next c.in-Err-end.field-0 _ c.in-Err-end.ensures

@@ -3,7 +3,7 @@ use Rattle.x86_layout.specs.Sweeps.Marks.{is_marked}
 use Rattle.x86_cli.specs.Text.{Text}
 use Rattle.x86_cli.specs.Listings.Listing.{with_lines}
 use Rattle.x86_cli.specs.Listings.Targets.{lines_if, place_line, targets_at}
-use Rattle.x86_cli.proofs.ListingLemmas.Stands.{stands_whole, stands_step, ran_failed, ran_closed, ran_unclosed}
+use Rattle.x86_cli.proofs.ListingLemmas.Progress.{progress_whole, progress_step, ran_failed, ran_closed, ran_unclosed}
 use Rattle.x86_cli.proofs.ListingLemmas.Target.{targets-step, targets-end}
 use Rattle.x86_cli.proofs.listings.targets.targets.Goals as goal
 
@@ -18,7 +18,7 @@ marked_at strict image shown marks place same lt all =
     record { inside = omega (arith, ap length same); mark = all place lt ∙ ap (λ image. is_marked strict image place) same }
 
 pub places-init : goal.places-init
-places-init g c = stands_whole g.S.Source.gives g.K.Sink.takes (targets_at c.args.decoder.now.strict) None tt c.args.max c.read_whole-text.result.ending c.read_whole-text.result.image.items _ _ _ c.read_whole-text.ensures
+places-init g c = progress_whole g.S.Source.gives g.K.Sink.takes (targets_at c.args.decoder.now.strict) None tt c.args.max c.read_whole-text.result.ending c.read_whole-text.result.image.items _ _ _ c.read_whole-text.ensures
 
 pub places-preserved : goal.places-preserved
 places-preserved g c =
@@ -26,7 +26,7 @@ places-preserved g c =
     let place = c.places.place in
     let text : Text = record { image = c.read_whole-text.result.image.items; ending = c.read_whole-text.result.ending } in
     let m = marked_at strict text.image c.as_slice-image.result.now c.mark.new.marks place c.as_slice-image.ensures.value c.places-test.true c.mark.ensures in
-    stands_step g.S.Source.gives g.K.Sink.takes (targets_at strict) None _ _ _ _ _ _ _ _ _ _ c.places.invariant (lines_if (is_marked strict text.image place) place) (place + 1) text.image
+    progress_step g.S.Source.gives g.K.Sink.takes (targets_at strict) None _ _ _ _ _ _ _ _ _ _ c.places.invariant (lines_if (is_marked strict text.image place) place) (place + 1) text.image
     (λ xs stop. targets-step strict place text m.inside) [] (λ xs stop. refl) (λ walked any. tt) _ (rw m.mark at c.in-Ok.ensures.ok)
 
 pub returns-in-Err : goal.returns-in-Err

@@ -2,10 +2,10 @@ use Rattle.std.proofs.Common.{◌≤◌, arith, length, ap, ◌∙◌}
 use Rattle.x86_fields.specs.Run.{reading_of}
 use Rattle.x86_decode.specs.Head.{seen_by}
 use Rattle.x86_layout.specs.Parts.Split.{lists_of, record_in, HasParts}
-use Rattle.x86_layout.proofs.PartLemmas.Taken.{front_of}
-use Rattle.x86_layout.specs.Parts.Front.{parts_of}
+use Rattle.x86_layout.proofs.PartLemmas.Taken.{beginning_of}
+use Rattle.x86_layout.specs.Parts.OfBytes.{parts_of}
 use Rattle.x86_layout.proofs.PartLemmas.Length.{lengths_of}
-use Rattle.x86_layout.proofs.PartLemmas.Front.{parts_are, parts_once}
+use Rattle.x86_layout.proofs.PartLemmas.OfBytes.{parts_are, parts_once}
 use Rattle.x86_layout.proofs.PartLemmas.Split.{joined_is}
 use Rattle.x86_layout.proofs.parts.split.split_decoded.Goals as goal
 
@@ -14,37 +14,37 @@ returns-clause-pieces c =
     let strict = c.args.decoder.now.strict in
     let bytes = c.args.bytes.now in
     let instruction = c.args.instruction.now in
-    let encoding = c.front_and_rest.result.0.now in
-    let front = front_of strict bytes encoding instruction c.to_const.result c.requires.decoded (c.answer_is.ensures.there strict bytes) (c.lengths.ensures.counted strict bytes instruction c.requires.decoded) (c.to_const.ensures ∙ ap (λ d. d.amount) c.len.ensures) c.front_and_rest.ensures.front in
-    let reading = front.is.reading in
-    let whole = front.is.whole in
+    let encoding = c.split_at_most.result.0.now in
+    let beginning = beginning_of strict bytes encoding instruction c.to_const.result c.requires.decoded (c.answer_is.ensures.there strict bytes) (c.lengths.ensures.counted strict bytes instruction c.requires.decoded) (c.to_const.ensures ∙ ap (λ d. d.amount) c.len.ensures) c.split_at_most.ensures.first in
+    let reading = beginning.is.reading in
+    let whole = beginning.is.whole in
     let head = c.head_of.ensures strict reading whole in
-    let behind = c.parts_behind.ensures in
+    let following = c.parts_after.ensures in
     let row = record_in strict encoding reading whole in
-    let tail = behind.tail row (seen_by whole.map whole.opcode (reading_of whole.run)) reading whole.tail head.tail head.ask whole.asked in
-    let parts : HasParts strict encoding reading whole (lists_of c.parts_behind.result) = assumption (behind.prefixes ∙ head.prefixes, behind.escape ∙ head.escape, behind.opcode ∙ head.opcode, tail) in
+    let tail = following.tail row (seen_by whole.map whole.opcode (reading_of whole.run)) reading whole.tail head.tail head.ask whole.row_spelled in
+    let parts : HasParts strict encoding reading whole (lists_of c.parts_after.result) = assumption (following.prefixes ∙ head.prefixes, following.escape ∙ head.escape, following.opcode ∙ head.opcode, tail) in
     record {
       instruction = instruction;
       encoding = encoding;
-      rest = front.rest;
+      rest = beginning.rest;
       reading = reading;
-      accepted = front.accepted;
-      begins = front.begins;
-      long = front.long;
+      accepted = beginning.accepted;
+      begins = beginning.begins;
+      long = beginning.long;
       whole = whole;
       parts = parts;
-      together = joined_is strict encoding reading whole (lists_of c.parts_behind.result) parts;
+      together = joined_is strict encoding reading whole (lists_of c.parts_after.result) parts;
     }
 
 pub returns-clause-value : goal.returns-clause-value
 returns-clause-value c =
     let strict = c.args.decoder.now.strict in
     let x = returns-clause-pieces c in
-    parts_once strict x.encoding x.reading x.whole (lists_of c.parts_behind.result) (parts_of strict c.args.bytes.now) x.parts
+    parts_once strict x.encoding x.reading x.whole (lists_of c.parts_after.result) (parts_of strict c.args.bytes.now) x.parts
     (parts_are strict c.args.bytes.now x.encoding x.rest x.reading x.whole x.begins)
 
 pub returns-clause-lengths : goal.returns-clause-lengths
 returns-clause-lengths c =
     let x = returns-clause-pieces c in
     let short : length x.encoding ≤ 15 = let e = x.long in let s = c.lengths.ensures.short c.args.decoder.now.strict c.args.bytes.now x.instruction x.accepted in omega (arith, e, s) in
-    lengths_of c.args.decoder.now.strict x.encoding x.reading x.whole (lists_of c.parts_behind.result) x.parts short
+    lengths_of c.args.decoder.now.strict x.encoding x.reading x.whole (lists_of c.parts_after.result) x.parts short

@@ -10,8 +10,8 @@ none_to_change x b old (byte ∷ run) e = absurd (omega (arith, e))
 
 pub returns-in-Some-clause-text : goal.returns-in-Some-clause-text
 returns-in-Some-clause-text c =
-    let whole = append_assoc c.args.encoding.now.items c.in-Some.front.now (c.byte_with.result ∷ []) in
-    let run = run_at_end c.args.x c.args.b c.in-Some.front.now c.in-Some.last.now in
+    let whole = append_assoc c.args.encoding.now.items c.in-Some.beginning.now (c.byte_with.result ∷ []) in
+    let run = run_at_end c.args.x c.args.b c.in-Some.beginning.now c.in-Some.last.now in
     cc (c.push-in-Some.ensures.items, c.push.ensures.text, whole, c.byte_with.ensures, run, c.in-Some.ensures.cases.0)
 
 pub returns-in_default-clause-text : goal.returns-in_default-clause-text

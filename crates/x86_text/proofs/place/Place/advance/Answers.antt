@@ -1,6 +1,6 @@
 use Rattle.std.proofs.Common.{◌≡◌, ◌+◌, ◌-◌, ◌<◌, ◌^◌, ◌%◌, ◌++◌, arith, length, take, decimal, ap, ◌∙◌}
 use Rattle.itoa.proofs.Decimal.{pair}
-use Rattle.x86_text.proofs.PlaceLemmas.{two_digits, goes_on, last_two}
+use Rattle.x86_text.proofs.PlaceLemmas.{two_digits, counts_on, last_two}
 use Rattle.x86_text.proofs.place.Place.advance.Goals as goal
 
 pub set_last_digits-requires : goal.set_last_digits-requires
@@ -22,4 +22,4 @@ invariant_of-self c =
     let number : 100 - (c.self.inside.spare - by) ≡ (n + by) % 100 = omega (arith, low, h.1) in
     let kept = ap (λ xs. take (length xs - 2) xs ++ pair (100 - (c.self.inside.spare - by))) c.self.invariant.0 in
     let written = ap (λ k. take (length (decimal n) - 2) (decimal n) ++ pair k) number in
-    (c.set_last_digits.ensures ∙ kept ∙ written ∙ goes_on n by h.0 no_carry fits, λ more. (omega (arith, h.0), omega (arith, low, h.1)))
+    (c.set_last_digits.ensures ∙ kept ∙ written ∙ counts_on n by h.0 no_carry fits, λ more. (omega (arith, h.0), omega (arith, low, h.1)))

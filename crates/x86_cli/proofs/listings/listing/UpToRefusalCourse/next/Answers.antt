@@ -1,13 +1,13 @@
 use Rattle.std.proofs.Common.{None, ap, ◌∙◌}
-use Rattle.x86_cli.proofs.TextLemmas.Front.{shown_answer}
-use Rattle.x86_cli.proofs.ListingLemmas.Standing.{step_line, step_refused, step_ended}
+use Rattle.x86_cli.proofs.TextLemmas.Decoded.{shown_answer}
+use Rattle.x86_cli.proofs.ListingLemmas.NextStep.{step_line, step_refused, step_ended}
 use Rattle.x86_cli.proofs.listings.listing.UpToRefusalCourse.next.Goals as goal
 
 pub returns-in-Whole-clause-next : goal.returns-in-Whole-clause-next
 returns-in-Whole-clause-next g c =
     let shows = c.in-Whole.ensures.shows in
-    let is = c.write.ensures.text ∙ ap (g.L.Lines.text c.args.self.now.lines c.args.decoder.now.strict c.args.place.now c.front.new.inst) (rw c.length_of-length.ensures at c.first-bytes.ensures) in
-    step_line c.args.decoder.now.strict (g.L.Lines.text c.args.self.now.lines c.args.decoder.now.strict) _ _ _ _ _ c.front.new.inst c.in-Whole.ensures.rest shows.0 shows.1 _ _ c.length_of-length.ensures is
+    let is = c.write.ensures.text ∙ ap (g.L.Lines.text c.args.self.now.lines c.args.decoder.now.strict c.args.place.now c.decode_next.new.inst) (rw c.length_of-length.ensures at c.first-bytes.ensures) in
+    step_line c.args.decoder.now.strict (g.L.Lines.text c.args.self.now.lines c.args.decoder.now.strict) _ _ _ _ _ c.decode_next.new.inst c.in-Whole.ensures.rest shows.0 shows.1 _ _ c.length_of-length.ensures is
 
 pub returns-in-Refused-clause-next : goal.returns-in-Refused-clause-next
 returns-in-Refused-clause-next g c = step_refused c.args.decoder.now.strict (g.L.Lines.text c.args.self.now.lines c.args.decoder.now.strict) c.args.window.now.ended c.args.place.now c.args.window.now.bytes.items c.args.window.now.reader.position c.args.window.now.reader.room c.in-Refused.error c.args.line.now.items c.in-Refused.ensures.rest
@@ -18,4 +18,4 @@ returns-in-Ended-clause-next g c = step_ended c.args.decoder.now.strict (g.L.Lin
 pub write-requires : goal.write-requires
 write-requires g c =
     let taken = rw c.length_of-length.ensures at c.first-bytes.ensures in
-    rw taken (shown_answer c.args.decoder.now.strict (c.decoder_laws.ensures _) None c.args.window.now.bytes.items c.front.new.inst c.in-Whole.ensures.shows)
+    rw taken (shown_answer c.args.decoder.now.strict (c.decoder_laws.ensures _) None c.args.window.now.bytes.items c.decode_next.new.inst c.in-Whole.ensures.shows)

@@ -13,13 +13,13 @@ take-requires g c =
 pub loop-taken-preserved : goal.loop-taken-preserved
 loop-taken-preserved g c = record {
   inside = omega (arith, c.loop-taken-test.true);
-  skipped = skipped_more _ _ _ _ _ _ _ _ _ c.loop-taken.invariant.skipped c.take.ensures.takes (c.take.ensures.told, inl (c.take.ensures.takes, c.take.ensures.reader));
+  skipped = skipped_more _ _ _ _ _ _ _ _ _ c.loop-taken.invariant.skipped c.take.ensures.takes (c.take.ensures.reported, inl (c.take.ensures.takes, c.take.ensures.reader));
 }
 
-pub returns-clause-gave : goal.returns-clause-gave
-returns-clause-gave g c =
+pub returns-clause-source_calls : goal.returns-clause-source_calls
+returns-clause-source_calls g c =
     let all : c.args.count ≡ c.loop-taken.taken = omega (arith, c.loop-taken-test.false, c.loop-taken.invariant.inside) in
-    rw all c.loop-taken.invariant.skipped.gave
+    rw all c.loop-taken.invariant.skipped.source_calls
 
 pub returns-clause-rest : goal.returns-clause-rest
 returns-clause-rest g c =

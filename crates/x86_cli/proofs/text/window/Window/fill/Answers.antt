@@ -1,24 +1,24 @@
 use Rattle.std.proofs.Common.{◌+◌, ◌≤◌, length, arith}
 use Rattle.std.proofs.lemmas.Bool.Decides.{nat_tests}
 use Rattle.x86_cli.specs.Text.Reading.{NeedsMore}
-use Rattle.x86_cli.proofs.TextLemmas.Fill.{more_behind, filling_byte, stopped, filled}
+use Rattle.x86_cli.proofs.TextLemmas.Fill.{more_after, filling_byte, stopped, filled}
 use Rattle.x86_cli.proofs.text.window.Window.fill.Goals as goal
 
 pub loop-reader-preserved : goal.loop-reader-preserved
 loop-reader-preserved g c =
     let fits : length c.loop-reader.self.bytes.items + 1 ≤ 15 = grind (arith, nat_tests) in
     record {
-      goes_on = c.loop-reader.invariant.goes_on;
+      continues = c.loop-reader.invariant.continues;
       ahead = c.loop-reader.invariant.ahead;
       filling = rw c.push.ensures.items
-          (filling_byte g.S.Source.gives (NeedsMore 15) _ _ _ _ _ _ c.loop-reader.invariant.filling (λ t. more_behind 15 1 _ t fits) _ _ _ _ c.in-Byte.ensures.reads);
+          (filling_byte g.S.Source.gives (NeedsMore 15) _ _ _ _ _ _ c.loop-reader.invariant.filling (λ t. more_after 15 1 _ t fits) _ _ _ _ c.in-Byte.ensures.reads);
       uses = omega (arith, c.loop-reader.invariant.uses, c.in-Byte.ensures.uses, c.push.ensures.len);
     }
 
 pub returns-in-Stopped-clause-fills : goal.returns-in-Stopped-clause-fills
 returns-in-Stopped-clause-fills g c =
     let fits : length c.loop-reader.self.bytes.items + 1 ≤ 15 = grind (arith, nat_tests) in
-    stopped g.S.Source.gives (NeedsMore 15) _ _ _ _ _ _ c.loop-reader.invariant.filling (λ t. more_behind 15 1 _ t fits) _ _ _ _ _ _ c.in-Stopped.ensures.reads
+    stopped g.S.Source.gives (NeedsMore 15) _ _ _ _ _ _ c.loop-reader.invariant.filling (λ t. more_after 15 1 _ t fits) _ _ _ _ _ _ c.in-Stopped.ensures.reads
 
 pub returns-clause-fills : goal.returns-clause-fills
-returns-clause-fills g c = rw c.loop-reader.invariant.goes_on (filled g.S.Source.gives (NeedsMore 15) _ _ _ _ _ _ c.loop-reader.invariant.filling)
+returns-clause-fills g c = rw c.loop-reader.invariant.continues (filled g.S.Source.gives (NeedsMore 15) _ _ _ _ _ _ c.loop-reader.invariant.filling)

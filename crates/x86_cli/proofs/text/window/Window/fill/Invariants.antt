@@ -7,7 +7,7 @@ use Rattle.x86_cli.proofs.text.window.Window.fill.Given as goal
 
 abbrev pub invariant-loop-reader : goal.invariant-loop-reader
 invariant-loop-reader g l = record {
-  goes_on : l.self.ended ≡ None;
+  continues : l.self.ended ≡ None;
   ahead : l.self.ahead ≡ l.fn.self.ahead;
   filling : Filling g.S.Source.gives (NeedsMore 15) (rest_of None l.fn.self.bytes.items l.fn.self.reader.position l.fn.self.reader.room)
       l.self.bytes.items l.reader.position l.reader.room l.fn.source l.source;

@@ -46,7 +46,7 @@ returns-clause-fills g c =
     ∙ ap (λ l. c.args.self.now.bytes.items ++ l) (block_front s.values s.start count (omega (arith, few))) in
     rw items (fills_begins g.S.Source.gives count 15 (take used text) (take count (drop s.start s.values)) c.args.self.now.bytes.items
     _ _ _ _ _ _ begins (omega (arith, few)) (omega (arith, bytes, c.advance_by.ensures.position))
-    (omega (arith, bytes, c.advance_by.ensures.room)) c.skip.ensures.gave)
+    (omega (arith, bytes, c.advance_by.ensures.room)) c.skip.ensures.source_calls)
 
 pub returns-clause-ahead : goal.returns-clause-ahead
 returns-clause-ahead g c =

@@ -7,24 +7,24 @@ use crate::text::pairs::BLOCK;
 use std::marker::Model;
 
 /// The most bytes that are held: the most that an instruction may have.
-const HELD_MAX: usize = 15;
+const WINDOW_MAX: usize = 15;
 
-/// Room for them and for those that were let go, so that they move to the front only where it is used up. A block fits
-/// after the last held byte.
+/// Room for them and for those that were let go, so that they move to the beginning only where it is used up. A block
+/// fits after the last held byte.
 const ROOM: usize = 272;
 
-/// The last start after which `HELD_MAX` bytes and a block have room.
-const LAST_START: usize = ROOM - BLOCK - HELD_MAX;
+/// The last start after which `WINDOW_MAX` bytes and a block have room.
+const LAST_START: usize = ROOM - BLOCK - WINDOW_MAX;
 
-/// At most `HELD_MAX` bytes, which stand from a start that moves. What contracts see of them is a vector.
+/// At most `WINDOW_MAX` bytes, from a start that moves. What contracts see of them is a vector.
 #[derive(Drop)]
-pub struct Held {
+pub struct WindowBytes {
     cells: [u8; ROOM],
     start: usize,
     end: usize,
 }
 
-impl Model for Held {
+impl Model for WindowBytes {
     ghost use Rattle.std.specs.Prelude.{ℕ, ◌≡◌, ◌≤◌, ◌+◌, length, take, drop};
     ghost use Rattle.arrayvec.specs.ArrayVec.{ArrayVec as Items};
 
@@ -35,9 +35,9 @@ impl Model for Held {
     ghost invariant = { λ h. (h.start ≤ h.end) × (h.end ≤ h.start + 15) × (h.start ≤ 241) };
 }
 
-impl Held {
+impl WindowBytes {
     /// No bytes.
-    pub const EMPTY: Held = Held {
+    pub const EMPTY: WindowBytes = WindowBytes {
         cells: [0; ROOM],
         start: 0,
         end: 0,
@@ -57,7 +57,7 @@ impl Held {
     pub fn room(&self) -> usize
         ensures { array_vec_len self.now + result ≡ 15 }
     {
-        HELD_MAX - self.len()
+        WINDOW_MAX - self.len()
     }
 
     /// Whether no further byte fits.
@@ -66,7 +66,7 @@ impl Held {
         ensures value { result ≡ (array_vec_len self.now == 15) }
         ensures few { array_vec_len self.now ≤ 15 }
     {
-        self.len() == HELD_MAX
+        self.len() == WINDOW_MAX
     }
 
     /// Whether no byte is held.

@@ -1,4 +1,4 @@
--- The parts of the encoding at the front of bytes, told from the bytes.
+-- The parts of the encoding at the beginning of bytes, known from the bytes.
 use Rattle.std.specs.Prelude.{ℕ, Bool, false, if◌then◌else◌, Option, Some, None, List, length, take, drop, slice_index}
 use Rattle.std.specs.List.{prefix_len}
 use Rattle.x86_fields.specs.declared.prefixes.Prefixes.{Prefixes}
@@ -12,21 +12,21 @@ use Rattle.x86_operands.specs.declared.asks.Ask.{Ask}
 use Rattle.x86_operands.specs.Asks.{ask_of}
 use Rattle.x86_decode.specs.Head.{column_of, escape_bytes, seen_by}
 use Rattle.x86_decode.specs.Grammar.{record_of}
-use Rattle.x86_layout.specs.Parts.Heads.{map_of, one_if, asks_sib}
+use Rattle.x86_layout.specs.Parts.Heads.{map_of, one_if, has_sib}
 use Rattle.x86_layout.specs.Parts.Split.{PartLists}
 
--- what a row asks at a ModRM byte; nothing where there is no row
+-- what a row has at a ModRM byte; nothing where there is no row
 abbrev pub ask_by : Bool → Option TableRow → Prefixes → ℕ → Ask
 ask_by strict None p m = record { modrm = false; memory = false; immediate = 0; suffix = false }
 ask_by strict (Some row) p m = ask_of (record_of strict row p) m
 
--- what the row of an opcode byte behind a run asks at a ModRM byte
-abbrev pub ask_behind : Bool → List ℕ → Map → ℕ → ℕ → Ask
-ask_behind strict run map opcode m = ask_by strict (rows_of packed map (column_of (reading_of run)) opcode) (seen_by map opcode (reading_of run)) m
+-- what the row of an opcode byte after a run has at a ModRM byte
+abbrev pub ask_after_run : Bool → List ℕ → Map → ℕ → ℕ → Ask
+ask_after_run strict run map opcode m = ask_by strict (rows_of packed map (column_of (reading_of run)) opcode) (seen_by map opcode (reading_of run)) m
 
 -- how many bytes of displacement there are at ModRM and SIB
-abbrev pub asked_displacement_width : Ask → ℕ → List ℕ → ℕ
-asked_displacement_width ask m sib = if ask.memory then displacement_width m (first_byte sib) else 0
+abbrev pub displacement_length_by : Ask → ℕ → List ℕ → ℕ
+displacement_length_by ask m sib = if ask.memory then displacement_width m (first_byte sib) else 0
 
 -- ---- up to the opcode byte
 
@@ -34,52 +34,52 @@ module _ (bytes : List ℕ) where
   abbrev pub run_in : List ℕ
   run_in = take (prefix_len is_prefix bytes) bytes
 
-  abbrev pub behind_run : List ℕ
-  behind_run = drop (prefix_len is_prefix bytes) bytes
+  abbrev pub after_run : List ℕ
+  after_run = drop (prefix_len is_prefix bytes) bytes
 
   abbrev pub map_in : Map
-  map_in = map_of (slice_index behind_run 0) (slice_index behind_run 1)
+  map_in = map_of (slice_index after_run 0) (slice_index after_run 1)
 
-  abbrev pub behind_escape : List ℕ
-  behind_escape = drop (length (escape_bytes map_in)) behind_run
+  abbrev pub after_escape : List ℕ
+  after_escape = drop (length (escape_bytes map_in)) after_run
 
   abbrev pub opcode_in : List ℕ
-  opcode_in = take 1 behind_escape
+  opcode_in = take 1 after_escape
 
   abbrev pub tail_in : List ℕ
-  tail_in = drop 1 behind_escape
+  tail_in = drop 1 after_escape
 
   abbrev pub ask_in : Bool → Ask
-  ask_in strict = ask_behind strict run_in map_in (slice_index opcode_in 0) (slice_index tail_in 0)
+  ask_in strict = ask_after_run strict run_in map_in (slice_index opcode_in 0) (slice_index tail_in 0)
 
--- ---- behind the opcode byte, by what the row asks
+-- ---- after the opcode byte, by what the row has
 
 module _ (ask : Ask) (tail : List ℕ) where
   abbrev pub modrm_in : List ℕ
   modrm_in = take (one_if ask.modrm) tail
 
-  abbrev pub behind_modrm : List ℕ
-  behind_modrm = drop (one_if ask.modrm) tail
+  abbrev pub after_modrm : List ℕ
+  after_modrm = drop (one_if ask.modrm) tail
 
   abbrev pub sib_in : List ℕ
-  sib_in = take (one_if (asks_sib ask (slice_index tail 0))) behind_modrm
+  sib_in = take (one_if (has_sib ask (slice_index tail 0))) after_modrm
 
-  abbrev pub behind_sib : List ℕ
-  behind_sib = drop (one_if (asks_sib ask (slice_index tail 0))) behind_modrm
+  abbrev pub after_sib : List ℕ
+  after_sib = drop (one_if (has_sib ask (slice_index tail 0))) after_modrm
 
   abbrev pub displacement_in : List ℕ
-  displacement_in = take (asked_displacement_width ask (slice_index tail 0) sib_in) behind_sib
+  displacement_in = take (displacement_length_by ask (slice_index tail 0) sib_in) after_sib
 
-  abbrev pub behind_address : List ℕ
-  behind_address = drop (asked_displacement_width ask (slice_index tail 0) sib_in) behind_sib
+  abbrev pub after_displacement : List ℕ
+  after_displacement = drop (displacement_length_by ask (slice_index tail 0) sib_in) after_sib
 
   abbrev pub immediate_in : List ℕ
-  immediate_in = take ask.immediate behind_address
+  immediate_in = take ask.immediate after_displacement
 
   abbrev pub suffix_in : List ℕ
-  suffix_in = take (one_if ask.suffix) (drop ask.immediate behind_address)
+  suffix_in = take (one_if ask.suffix) (drop ask.immediate after_displacement)
 
--- The parts of the encoding at the front of bytes, under a choice. Source: Intel SDM volume 2, section 2.1.
+-- The parts of the encoding at the beginning of bytes, under a choice. Source: Intel SDM volume 2, section 2.1.
 unfoldable pub parts_of : Bool → List ℕ → PartLists
 parts_of strict bytes = record {
   prefixes = run_in bytes;

@@ -5,7 +5,7 @@ ghost use Rattle.x86_fields.specs.Raw.{has_w};
 ghost use Rattle.x86_forms.specs.Words.{IsForm};
 ghost use Rattle.x86_opcodes.specs.Names.{JECXZ, IRET, IRETD, IRETQ};
 ghost use Rattle.x86_operands.specs.Forms.{exchange_plan, z_in, dx_port, dl_in_reg, dx_in_reg, segment_register, at_rsi, at_rdi, source_string, target_string, wide_rsi, wide_rdi, sets_es};
-ghost use Rattle.x86_operands.specs.Encodings.{peculiar_plan, string_plan};
+ghost use Rattle.x86_operands.specs.Encodings.{separate_plan, string_plan};
 
 use crate::form_sizes::{
     address, doubling, extend_size, far_class, far_size, is_half_load, or_v, pointer_class,
@@ -186,9 +186,9 @@ fn string_plan(form: Form, opcode: Opcode, prefixes: &Prefixes, modrm: ModRM) ->
 }
 
 /// The plan of a form that no line describes.
-pub fn peculiar_plan(form: Form, opcode: Opcode, prefixes: &Prefixes, modrm: ModRM) -> Plan
+pub fn separate_plan(form: Form, opcode: Opcode, prefixes: &Prefixes, modrm: ModRM) -> Plan
     requires { IsForm form }
-    ensures { result ≡ peculiar_plan form opcode prefixes.now modrm }
+    ensures { result ≡ separate_plan form opcode prefixes.now modrm }
 {
     let v = prefixes.v_class();
     let dq = prefixes.dq_class();

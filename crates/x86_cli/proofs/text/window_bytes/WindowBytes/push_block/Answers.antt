@@ -1,6 +1,6 @@
 use Rattle.std.proofs.Common.{◌≡◌, ℕ, ◌+◌, ◌-◌, ◌≤◌, List, ◌++◌, length, take, drop, arith, ap, ◌∙◌}
-use Rattle.x86_cli.proofs.TextLemmas.Held.{pushed}
-use Rattle.x86_cli.proofs.text.held.Held.push_block.Goals as goal
+use Rattle.x86_cli.proofs.TextLemmas.WindowBytes.{pushed}
+use Rattle.x86_cli.proofs.text.window_bytes.WindowBytes.push_block.Goals as goal
 
 pub returns-clause-items : goal.returns-clause-items
 returns-clause-items c =

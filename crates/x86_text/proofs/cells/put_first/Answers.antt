@@ -2,7 +2,7 @@ use Rattle.std.proofs.Common.{◌≡◌, ℕ, ◌+◌, ◌≤◌, List, ◌++◌
 use Rattle.std.proofs.Math.Seq.{take-append-add}
 use Rattle.std.proofs.lemmas.Simd.{take_more_put_chunk}
 use Rattle.std.specs.Simd.Lanes.{put_chunk}
-use Rattle.x86_text.proofs.cells.put_front.Goals as goal
+use Rattle.x86_text.proofs.cells.put_first.Goals as goal
 
 -- of a block that is laid at a place, the first n items
 laid : (d b : List ℕ) (at m n : ℕ) → m ≤ length b → at + m ≤ length d → n ≤ m → take (at + n) (put_chunk at d (take m b)) ≡ take at d ++ take n b

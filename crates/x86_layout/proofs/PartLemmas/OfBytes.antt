@@ -1,4 +1,4 @@
--- The parts of the encoding at the front of bytes are the pieces of any whole encoding that stands there.
+-- The parts of the encoding at the beginning of bytes are the pieces of any whole encoding there.
 use Rattle.std.proofs.Common.{◌≡◌, ℕ, ◌==◌, ◌&&◌, Bool, true, if◌then◌else◌, List, [], ◌∷◌, ◌++◌, length, slice_index, Option, Some, None, is_some, refl, sym, ap, subst, ◌∙◌, append_assoc, arith}
 use Rattle.std.specs.List.{prefix_len}
 use Rattle.x86_fields.specs.declared.prefixes.Prefixes.{Prefixes}
@@ -13,10 +13,10 @@ use Rattle.x86_operands.specs.Plans.{RowRecord}
 use Rattle.x86_operands.specs.Pieces.{modrm_of, SpellsMemory, SpellsRow}
 use Rattle.x86_operands.specs.Asks.{used_modrm, ask_of}
 use Rattle.x86_decode.specs.Head.{escape_bytes, seen_by}
-use Rattle.x86_layout.specs.Parts.Heads.{map_of, one_if, asks_sib}
+use Rattle.x86_layout.specs.Parts.Heads.{map_of, one_if, has_sib}
 use Rattle.x86_layout.specs.Parts.Split.{PartLists, Encoding, record_in, sib_width, HasParts}
-use Rattle.x86_layout.specs.Parts.Front.{ask_by, ask_behind, asked_displacement_width, run_in, behind_run, map_in, behind_escape, opcode_in, tail_in, ask_in, modrm_in, behind_modrm, sib_in, behind_sib, displacement_in, behind_address, immediate_in, suffix_in, parts_of}
-use Rattle.x86_layout.proofs.PartLemmas.Part.{front_is, rest_is, take_of, drop_of, run_length_is, map_is, enters, as_it_stands, read_as, modrm_count, sib_count, immediate_count, suffix_count}
+use Rattle.x86_layout.specs.Parts.OfBytes.{ask_by, ask_after_run, displacement_length_by, run_in, after_run, map_in, after_escape, opcode_in, tail_in, ask_in, modrm_in, after_modrm, sib_in, after_sib, displacement_in, after_displacement, immediate_in, suffix_in, parts_of}
+use Rattle.x86_layout.proofs.PartLemmas.Part.{beginning_is, rest_is, take_of, drop_of, run_length_is, map_is, enters, as_it_is, read_as, modrm_count, sib_count, immediate_count, suffix_count}
 
 -- ---- SIB and displacement
 
@@ -47,23 +47,23 @@ address_parts p m address (Some raw) h =
       sib = option_bytes s.sib;
       disp = s.disp;
       spelled = s.spelled;
-      sib_long = option_count s.sib ∙ ap one_if s.sib_asked ∙ subst (λ t. one_if (rm_field m == 4) ≡ one_if (t && rm_field m == 4)) (sym h.0) refl;
-      disp_long = s.disp_asked ∙ ap (displacement_width m) (sym (first_of s.sib)) ∙ subst (λ t. displacement_width m (first_byte (option_bytes s.sib)) ≡ (if t then displacement_width m (first_byte (option_bytes s.sib)) else 0)) (sym h.0) refl;
+      sib_long = option_count s.sib ∙ ap one_if s.sib_present ∙ subst (λ t. one_if (rm_field m == 4) ≡ one_if (t && rm_field m == 4)) (sym h.0) refl;
+      disp_long = s.disp_length ∙ ap (displacement_width m) (sym (first_of s.sib)) ∙ subst (λ t. displacement_width m (first_byte (option_bytes s.sib)) ≡ (if t then displacement_width m (first_byte (option_bytes s.sib)) else 0)) (sym h.0) refl;
     }
 
--- in a memory form that is read as such, the byte is as it stands
+-- in a memory form that is read as such, the byte is used as it is
 disp_by : (memory : Bool) (raw used : ℕ) (sib : Option ℕ) → (memory ≡ true → used ≡ raw) → (if memory then displacement_width raw sib else 0) ≡ (if memory then displacement_width used sib else 0)
 disp_by memory raw used sib h = grind arith
 
--- ---- behind the opcode byte
+-- ---- after the opcode byte
 
 -- These lists are the pieces of a row.
 pub record HoldsPieces (r : RowRecord) (p : Prefixes) (tail : List ℕ) (reading : Reading) (a : SpellsRow r p tail reading) (modrm_bytes sib_bytes displacement_bytes immediate_bytes suffix_bytes : List ℕ) : Type 0 where
   pub modrm : modrm_bytes ≡ a.modrm
   pub sib : length sib_bytes ≡ sib_width (modrm_of r.modrm a.modrm)
-  pub address : sib_bytes ++ displacement_bytes ≡ a.behind.pieces.address
-  pub immediate : immediate_bytes ≡ a.behind.pieces.immediates
-  pub suffix : suffix_bytes ≡ a.behind.pieces.suffix
+  pub address : sib_bytes ++ displacement_bytes ≡ a.tail_spelled.pieces.address
+  pub immediate : immediate_bytes ≡ a.tail_spelled.pieces.immediates
+  pub suffix : suffix_bytes ≡ a.tail_spelled.pieces.suffix
 
 module _ {r : RowRecord} {p : Prefixes} {tail : List ℕ} {reading : Reading} (a : SpellsRow r p tail reading) {all : List ℕ} (rest : List ℕ) (e : all ≡ tail ++ rest) {ask : Ask} (k : ask ≡ ask_of r (slice_index all 0)) where
   abbrev first : ℕ
@@ -75,46 +75,46 @@ module _ {r : RowRecord} {p : Prefixes} {tail : List ℕ} {reading : Reading} (a
   begins : all ≡ a.modrm ++ (a.tail ++ rest)
   begins = e ∙ ap (λ l. l ++ rest) a.spelled ∙ append_assoc a.modrm a.tail rest
 
-  width_is : (sib : List ℕ) → asked_displacement_width ask first sib ≡ (if is_memory m then displacement_width m (first_byte sib) else 0)
+  width_is : (sib : List ℕ) → displacement_length_by ask first sib ≡ (if is_memory m then displacement_width m (first_byte sib) else 0)
   unfolding ask_of
   width_is sib =
       let u = r.modrm in
-      ap (λ x. asked_displacement_width x first sib) k
-      ∙ disp_by (is_memory (used_modrm u first)) first (used_modrm u first) (first_byte sib) (as_it_stands u first)
+      ap (λ x. displacement_length_by x first sib) k
+      ∙ disp_by (is_memory (used_modrm u first)) first (used_modrm u first) (first_byte sib) (as_it_is u first)
       ∙ ap (λ n. if is_memory n then displacement_width n (first_byte sib) else 0) (sym (read_as a (a.tail ++ rest) begins k))
 
   pub has_tail : HoldsPieces r p tail reading a (modrm_in ask all) (sib_in ask all) (displacement_in ask all) (immediate_in ask all) (suffix_in ask all)
   has_tail =
       let more : List ℕ = a.tail ++ rest in
-      let s = a.behind.pieces in
-      let x = address_parts p m s.address s.memory s.address_asked in
+      let s = a.tail_spelled.pieces in
+      let x = address_parts p m s.address s.memory s.address_spelled in
       let last : List ℕ = s.immediates ++ (s.suffix ++ rest) in
       let modrm_n = modrm_count a more begins k in
-      let row_rest : behind_modrm ask all ≡ x.sib ++ (x.disp ++ last) =
+      let row_rest : after_modrm ask all ≡ x.sib ++ (x.disp ++ last) =
       rest_is all a.modrm more _ begins modrm_n
       ∙ ap (λ l. l ++ rest) s.spelled
       ∙ ap (λ l. (l ++ (s.immediates ++ s.suffix)) ++ rest) x.spelled ∙ simp append_assoc in
-      let sib_n : one_if (asks_sib ask first) ≡ length x.sib = sib_count a more begins k ∙ sym x.sib_long in
-      let sib : sib_in ask all ≡ x.sib = front_is _ x.sib (x.disp ++ last) _ row_rest sib_n in
-      let sib_rest : behind_sib ask all ≡ x.disp ++ last = rest_is _ x.sib (x.disp ++ last) _ row_rest sib_n in
-      let disp_n : asked_displacement_width ask first (sib_in ask all) ≡ length x.disp = ap (asked_displacement_width ask first) sib ∙ width_is x.sib ∙ sym x.disp_long in
-      let disp : displacement_in ask all ≡ x.disp = front_is _ x.disp last _ sib_rest disp_n in
-      let address_rest : behind_address ask all ≡ last = rest_is _ x.disp last _ sib_rest disp_n in
+      let sib_n : one_if (has_sib ask first) ≡ length x.sib = sib_count a more begins k ∙ sym x.sib_long in
+      let sib : sib_in ask all ≡ x.sib = beginning_is _ x.sib (x.disp ++ last) _ row_rest sib_n in
+      let sib_rest : after_sib ask all ≡ x.disp ++ last = rest_is _ x.sib (x.disp ++ last) _ row_rest sib_n in
+      let disp_n : displacement_length_by ask first (sib_in ask all) ≡ length x.disp = ap (displacement_length_by ask first) sib ∙ width_is x.sib ∙ sym x.disp_long in
+      let disp : displacement_in ask all ≡ x.disp = beginning_is _ x.disp last _ sib_rest disp_n in
+      let address_rest : after_displacement ask all ≡ last = rest_is _ x.disp last _ sib_rest disp_n in
       let immediate_n = immediate_count a more begins k in
       record {
-        modrm = front_is all a.modrm more _ begins modrm_n;
+        modrm = beginning_is all a.modrm more _ begins modrm_n;
         sib = ap length sib ∙ x.sib_long;
         address = ap (λ l. l ++ displacement_in ask all) sib ∙ ap (λ l. x.sib ++ l) disp ∙ sym x.spelled;
-        immediate = front_is _ s.immediates (s.suffix ++ rest) _ address_rest immediate_n;
-        suffix = front_is _ s.suffix rest _ (rest_is _ s.immediates (s.suffix ++ rest) _ address_rest immediate_n) (suffix_count a more begins k);
+        immediate = beginning_is _ s.immediates (s.suffix ++ rest) _ address_rest immediate_n;
+        suffix = beginning_is _ s.suffix rest _ (rest_is _ s.immediates (s.suffix ++ rest) _ address_rest immediate_n) (suffix_count a more begins k);
       }
 
 -- ---- the whole encoding
 
--- What is up to the opcode byte and after it, and what the row asks.
+-- What is up to the opcode byte and after it, and which parts the row has.
 pub record HasHead (strict : Bool) (bytes s rest : List ℕ) (reading : Reading) (w : Encoding strict s reading) : Type 0 where
   pub prefixes : run_in bytes ≡ w.run
-  pub after_prefixes : behind_run bytes ≡ escape_bytes w.map ++ w.opcode ∷ (w.tail ++ rest)
+  pub after_prefixes : after_run bytes ≡ escape_bytes w.map ++ w.opcode ∷ (w.tail ++ rest)
   pub map : map_in bytes ≡ w.map
   pub opcode : opcode_in bytes ≡ w.opcode ∷ []
   pub tail : tail_in bytes ≡ w.tail ++ rest
@@ -125,14 +125,14 @@ has_head strict bytes s rest reading w begins =
     let tail' : List ℕ = w.tail ++ rest in
     let after_prefixes : List ℕ = escape_bytes w.map ++ w.opcode ∷ tail' in
     let spelled : bytes ≡ w.run ++ after_prefixes = begins ∙ ap (λ l. l ++ rest) w.spelled ∙ simp append_assoc in
-    let in' = enters w.map w.opcode tail' w.meant in
+    let in' = enters w.map w.opcode tail' w.in_map in
     let run_n : prefix_len is_prefix bytes ≡ length w.run =
     ap (prefix_len is_prefix) (spelled ∙ ap (λ l. w.run ++ l) in'.spelled) ∙ run_length_is w.run in'.first in'.rest w.prefixes in'.plain in
-    let prefixes : run_in bytes ≡ w.run = front_is bytes w.run after_prefixes _ spelled run_n in
-    let run_rest : behind_run bytes ≡ after_prefixes = rest_is bytes w.run after_prefixes _ spelled run_n in
-    let map : map_in bytes ≡ w.map = ap (λ l. map_of (slice_index l 0) (slice_index l 1)) run_rest ∙ map_is w.map w.opcode tail' w.meant in
-    let escape_rest : behind_escape bytes ≡ w.opcode ∷ tail' = rest_is _ (escape_bytes w.map) (w.opcode ∷ tail') _ run_rest (ap (λ x. length (escape_bytes x)) map) in
-    let opcode : opcode_in bytes ≡ w.opcode ∷ [] = front_is _ (w.opcode ∷ []) tail' 1 escape_rest refl in
+    let prefixes : run_in bytes ≡ w.run = beginning_is bytes w.run after_prefixes _ spelled run_n in
+    let run_rest : after_run bytes ≡ after_prefixes = rest_is bytes w.run after_prefixes _ spelled run_n in
+    let map : map_in bytes ≡ w.map = ap (λ l. map_of (slice_index l 0) (slice_index l 1)) run_rest ∙ map_is w.map w.opcode tail' w.in_map in
+    let escape_rest : after_escape bytes ≡ w.opcode ∷ tail' = rest_is _ (escape_bytes w.map) (w.opcode ∷ tail') _ run_rest (ap (λ x. length (escape_bytes x)) map) in
+    let opcode : opcode_in bytes ≡ w.opcode ∷ [] = beginning_is _ (w.opcode ∷ []) tail' 1 escape_rest refl in
     let first : ℕ = slice_index (tail_in bytes) 0 in
     record {
       prefixes = prefixes;
@@ -141,9 +141,9 @@ has_head strict bytes s rest reading w begins =
       opcode = opcode;
       tail = rest_is _ (w.opcode ∷ []) tail' 1 escape_rest refl;
       ask =
-          ap (λ q. ask_behind strict q (map_in bytes) (slice_index (opcode_in bytes) 0) first) prefixes
-          ∙ ap (λ q. ask_behind strict w.run q (slice_index (opcode_in bytes) 0) first) map
-          ∙ ap (λ l. ask_behind strict w.run w.map (slice_index l 0) first) opcode
+          ap (λ q. ask_after_run strict q (map_in bytes) (slice_index (opcode_in bytes) 0) first) prefixes
+          ∙ ap (λ q. ask_after_run strict w.run q (slice_index (opcode_in bytes) 0) first) map
+          ∙ ap (λ l. ask_after_run strict w.run w.map (slice_index l 0) first) opcode
           ∙ ap (λ o. ask_by strict o (seen_by w.map w.opcode (reading_of w.run)) first) w.has_row;
     }
 
@@ -152,7 +152,7 @@ pub parts_are : (strict : Bool) (bytes s rest : List ℕ) (reading : Reading) (w
 unfolding parts_of
 parts_are strict bytes s rest reading w begins =
     let h = has_head strict bytes s rest reading w begins in
-    let t = has_tail w.asked rest h.tail h.ask in
+    let t = has_tail w.row_spelled rest h.tail h.ask in
     let escape = ap escape_bytes h.map in
     assumption (h, t, escape)
 

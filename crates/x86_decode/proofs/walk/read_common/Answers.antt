@@ -2,25 +2,25 @@ use Rattle.std.proofs.Common.{rules, ◌≡◌, true, false, Err, ap, subst, sym
 use Rattle.x86_fields.specs.Run.{is_prefix}
 use Rattle.x86_fields.specs.Steps.{then_from}
 use Rattle.x86_forms.specs.Words.{rows_of}
-use Rattle.x86_decode.specs.Walk.{Fronted, behind_step, walk_within}
+use Rattle.x86_decode.specs.Walk.{ResultLeadsTo, body_step, walk_within}
 use Rattle.x86_decode.proofs.HeadWalk.{at_prefix, at_other}
-use Rattle.x86_decode.proofs.walk.read_front.Goals as goal
+use Rattle.x86_decode.proofs.walk.read_common.Goals as goal
 
 pub returns-in_err-byte-clause-read : goal.returns-in_err-byte-clause-read
 unfolding walk_within
 returns-in_err-byte-clause-read g c =
     let rows = rows_of (g.W.Words.word c.args.rows.now) in
     let r : c.from_residual.result ≡ Err c.in_err-byte.field-0.0 = search rules in
-    subst (λ x. Fronted rows (record c.args.inst.now { prefixes = c.read_head.new.prefixes }) x (g.T.Reader.state c.read_head.new.reader) (λ strict. walk_within rows strict (g.T.Reader.state c.args.reader.now))) (sym r)
-    (λ strict. ap (λ o. then_from o.answer o.after (λ h. behind_step rows strict h.0 h.1)) c.in_err-byte.ensures)
+    subst (λ x. ResultLeadsTo rows (record c.args.inst.now { prefixes = c.read_head.new.prefixes }) x (g.T.Reader.state c.read_head.new.reader) (λ strict. walk_within rows strict (g.T.Reader.state c.args.reader.now))) (sym r)
+    (λ strict. ap (λ o. then_from o.answer o.after (λ h. body_step rows strict h.0 h.1)) c.in_err-byte.ensures)
 
 pub returns-then-is_prefix-clause-read : goal.returns-then-is_prefix-clause-read
 unfolding walk_within
 returns-then-is_prefix-clause-read g c =
     let s = g.T.Reader.state c.read_head.new.reader in
     let is : is_prefix c.in_ok-byte.byte ≡ true = search rules in
-    let front = c.in_ok-byte.ensures.0 in
-    (front, c.in_ok-byte.ensures.1, λ strict. ap (λ o. then_from o.answer o.after (λ h. behind_step (rows_of (g.W.Words.word c.args.rows.now)) strict h.0 h.1)) (at_prefix front c.in_ok-byte.byte s is ∙ c.in_ok-byte.ensures.2))
+    let beginning = c.in_ok-byte.ensures.0 in
+    (beginning, c.in_ok-byte.ensures.1, λ strict. ap (λ o. then_from o.answer o.after (λ h. body_step (rows_of (g.W.Words.word c.args.rows.now)) strict h.0 h.1)) (at_prefix beginning c.in_ok-byte.byte s is ∙ c.in_ok-byte.ensures.2))
 
 pub returns-in_err-rest-clause-read : goal.returns-in_err-rest-clause-read
 unfolding walk_within
@@ -28,12 +28,12 @@ returns-in_err-rest-clause-read g c =
     let rows = rows_of (g.W.Words.word c.args.rows.now) in
     let s = g.T.Reader.state c.read_head.new.reader in
     let is : is_prefix c.in_ok-byte.byte ≡ false = search rules in
-    let front = c.in_ok-byte.ensures.0 in
+    let beginning = c.in_ok-byte.ensures.0 in
     let r : c.from_residual-in_err-rest.result ≡ Err c.in_err-rest.field-0.0 = search rules in
-    subst (λ x. Fronted rows c.read_behind.new.inst x (g.T.Reader.state c.read_behind.new.reader) (λ strict. walk_within rows strict (g.T.Reader.state c.args.reader.now))) (sym r)
+    subst (λ x. ResultLeadsTo rows c.read_body.new.inst x (g.T.Reader.state c.read_body.new.reader) (λ strict. walk_within rows strict (g.T.Reader.state c.args.reader.now))) (sym r)
     (λ strict. c.in_err-rest.ensures.read strict
-    ∙ ap (λ q. behind_step rows strict q c.in_ok-byte.byte s) c.in_ok-byte.ensures.1
-    ∙ ap (λ o. then_from o.answer o.after (λ h. behind_step rows strict h.0 h.1)) (at_other front c.in_ok-byte.byte s is ∙ c.in_ok-byte.ensures.2))
+    ∙ ap (λ q. body_step rows strict q c.in_ok-byte.byte s) c.in_ok-byte.ensures.1
+    ∙ ap (λ o. then_from o.answer o.after (λ h. body_step rows strict h.0 h.1)) (at_other beginning c.in_ok-byte.byte s is ∙ c.in_ok-byte.ensures.2))
 
 pub returns-clause-read : goal.returns-clause-read
 unfolding walk_within
@@ -41,7 +41,7 @@ returns-clause-read g c =
     let rows = rows_of (g.W.Words.word c.args.rows.now) in
     let s = g.T.Reader.state c.read_head.new.reader in
     let is : is_prefix c.in_ok-byte.byte ≡ false = search rules in
-    let front = c.in_ok-byte.ensures.0 in
+    let beginning = c.in_ok-byte.ensures.0 in
     λ strict. c.in_ok-rest.ensures.read strict
-    ∙ ap (λ q. behind_step rows strict q c.in_ok-byte.byte s) c.in_ok-byte.ensures.1
-    ∙ ap (λ o. then_from o.answer o.after (λ h. behind_step rows strict h.0 h.1)) (at_other front c.in_ok-byte.byte s is ∙ c.in_ok-byte.ensures.2)
+    ∙ ap (λ q. body_step rows strict q c.in_ok-byte.byte s) c.in_ok-byte.ensures.1
+    ∙ ap (λ o. then_from o.answer o.after (λ h. body_step rows strict h.0 h.1)) (at_other beginning c.in_ok-byte.byte s is ∙ c.in_ok-byte.ensures.2)

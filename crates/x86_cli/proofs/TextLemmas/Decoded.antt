@@ -1,0 +1,109 @@
+-- What a window shows, whatever follows it.
+use Rattle.std.proofs.Common.{◌≡◌, ◌≢◌, ℕ, ◌<◌, List, [], ◌∷◌, ◌++◌, length, take, refl, arith, Option, Some, None, Result, Ok, Err, Bool, ap, ◌∙◌, sym, append-nil}
+use Rattle.x86_decode.specs.declared.instructions.Instruction.{Instruction}
+use Rattle.x86_fields.specs.declared.errors.DecodeError.{DecodeError}
+use Rattle.x86_fields.specs.declared.errors.DecodeError.TheVariants.{ExhaustedInput}
+use Rattle.x86_decode.specs.Answer.{answer_of}
+use Rattle.x86_cli.specs.declared.text.reader.Ending.{Ending}
+use Rattle.x86_cli.specs.declared.text.reader.Ending.TheVariants.{Clean, Bad, Large, Fault}
+use Rattle.x86_cli.specs.Outside.Stop.{Stop}
+use Rattle.x86_cli.specs.declared.text.window.Decoded.{Decoded}
+use Rattle.x86_cli.specs.declared.text.window.Decoded.TheVariants.{Whole, Ended}
+use Rattle.x86_cli.specs.Listings.Listing.{decoded_of, decoded_at_end, decoded_before_end}
+use Rattle.x86_cli.specs.DecoderLaws.{DecoderLaws}
+use Rattle.x86_cli.specs.Text.Window.{rest_of, Shows}
+
+decoded_at_end-sure : (a : Result Instruction DecodeError) (e : Ending) → a ≢ Err ExhaustedInput → decoded_at_end a e ≡ decoded_before_end a
+decoded_at_end-sure (Ok i) e ne = refl
+decoded_at_end-sure (Err ExhaustedInput) e ne = absurd (ne refl)
+decoded_at_end-sure (Err error) e ne = refl
+
+decoded_at_end-whole : (a : Result Instruction DecodeError) (e : Ending) (i : Instruction) → decoded_at_end a e ≡ Whole i → a ≡ Ok i
+decoded_at_end-whole (Ok j) e i h = let same : j ≡ i = cc in ap Ok same
+decoded_at_end-whole (Err ExhaustedInput) Clean i h = cc
+decoded_at_end-whole (Err ExhaustedInput) (Bad n) i h = cc
+decoded_at_end-whole (Err ExhaustedInput) Large i h = cc
+decoded_at_end-whole (Err ExhaustedInput) Fault i h = cc
+decoded_at_end-whole (Err error) e i h = cc
+
+module _ (strict : Bool) (laws : DecoderLaws strict) where
+  whole_answer : (w : List ℕ) (e : Ending) (i : Instruction) → decoded_of strict w e ≡ Whole i → answer_of strict w ≡ Ok i
+  unfolding decoded_of
+  whole_answer [] e i h = cc
+  whole_answer (x ∷ w) e i h = decoded_at_end-whole (answer_of strict (x ∷ w)) e i h
+
+  -- what a window that shows an instruction says of its bytes alone
+  pub shown_answer : (ended : Option Ending) (w : List ℕ) (i : Instruction) → Shows strict (Whole i) ended w → answer_of strict (take i.length w) ≡ Ok i
+  shown_answer ended w i shows = laws.alone w i (whole_answer w Clean i (rw append-nil at (shows.2 [] Clean)))
+
+  -- an answer that more bytes don't change
+  pub decoded-stays : (w ys : List ℕ) (e : Ending) → answer_of strict w ≢ Err ExhaustedInput → decoded_of strict (w ++ ys) e ≡ decoded_before_end (answer_of strict w)
+  unfolding decoded_of
+  decoded-stays [] ys e ne = absurd (ne laws.empty)
+  decoded-stays (x ∷ w) ys e ne = rw (laws.stay (x ∷ w) ys ne) (decoded_at_end-sure (answer_of strict (x ∷ w)) e ne)
+
+  -- a full window, with anything after it
+
+  pub open_rest : (w : List ℕ) (a : Result Instruction DecodeError) (p r : ℕ) (xs : List ℕ) (stop : Stop) → length w ≡ 15 → a ≡ answer_of strict w →
+      decoded_of strict (rest_of None w p r xs stop).image (rest_of None w p r xs stop).ending ≡ decoded_before_end a
+  open_rest w a p r xs stop full e =
+      let ne = laws.enough w (omega arith) in
+      rw e (decoded-stays w (rest_of None [] p r xs stop).image (rest_of None w p r xs stop).ending ne)
+
+  shows-sure : (w : List ℕ) (a : Result Instruction DecodeError) (ended : Option Ending) → answer_of strict w ≡ a → a ≢ Err ExhaustedInput → Shows strict (decoded_before_end a) ended w
+  shows-sure w (Ok i) ended e ne =
+      let h = laws.lengths w i e in
+      let sure : answer_of strict w ≢ Err ExhaustedInput = λ f. ne (sym e ∙ f) in
+      (h.0, h.1, λ ys end. decoded-stays w ys end sure ∙ ap decoded_before_end e)
+  shows-sure w (Err error) ended e ne =
+      let sure : answer_of strict w ≢ Err ExhaustedInput = λ f. ne (sym e ∙ f) in
+      (λ f. absurd (ne (ap Err f)), λ _ ys end. decoded-stays w ys end sure ∙ ap decoded_before_end e)
+
+  pub open_shows : (w : List ℕ) (a : Result Instruction DecodeError) → length w ≡ 15 → a ≡ answer_of strict w → Shows strict (decoded_before_end a) None w
+  open_shows w a full e =
+      let ne = laws.enough w (omega arith) in
+      shows-sure w a None (sym e) (λ f. ne (sym e ∙ f))
+
+  -- a window with nothing after it
+
+  pub closed_rest : (w : List ℕ) (a : Result Instruction DecodeError) (e : Ending) → 0 < length w → a ≡ answer_of strict w → decoded_of strict w e ≡ decoded_at_end a e
+  unfolding decoded_of
+  closed_rest [] a e some h = absurd (omega arith)
+  closed_rest (x ∷ w) a e some h = rw h refl
+
+  pub closed_shows : (w : List ℕ) (a : Result Instruction DecodeError) (e : Ending) → answer_of strict w ≡ a → Shows strict (decoded_at_end a e) (Some e) w
+  closed_shows w (Ok i) e h = shows-sure w (Ok i) (Some e) h (λ f. cc)
+  closed_shows w (Err ExhaustedInput) Clean h = (λ _. refl, λ ne. absurd (ne refl))
+  closed_shows w (Err ExhaustedInput) (Bad n) h = refl
+  closed_shows w (Err ExhaustedInput) Large h = refl
+  closed_shows w (Err ExhaustedInput) Fault h = refl
+  closed_shows w (Err error) e h = shows-sure w (Err error) (Some e) h (λ f. cc)
+
+  pub empty_rest : (w : List ℕ) (e : Ending) → length w ≡ 0 → decoded_of strict w e ≡ Ended e
+  unfolding decoded_of
+  empty_rest [] e h = refl
+  empty_rest (x ∷ w) e h = absurd (omega arith)
+
+  -- the same of what the code knows
+
+  module _ (w s : List ℕ) (a : Result Instruction DecodeError) (ended : Option Ending) (result : Decoded Instruction) (answer : a ≡ answer_of strict s) (bytes : s ≡ w) where
+    answered : a ≡ answer_of strict w
+    answered = answer ∙ ap (answer_of strict) bytes
+
+    pub decoded_open : (ended ≡ None → length w ≡ 15) → ended ≡ None → result ≡ decoded_before_end a → (p r : ℕ) (xs : List ℕ) (stop : Stop) →
+        decoded_of strict (rest_of ended w p r xs stop).image (rest_of ended w p r xs stop).ending ≡ result
+    decoded_open full is res p r xs stop = rw (is, res) (open_rest w a p r xs stop (full is) answered)
+
+    pub shows_open : (ended ≡ None → length w ≡ 15) → ended ≡ None → result ≡ decoded_before_end a → Shows strict result ended w
+    shows_open full is res = rw (is, res) (open_shows w a (full is) answered)
+
+    pub decoded_closed : (e : Ending) → ended ≡ Some e → 0 < length w → result ≡ decoded_at_end a e → (p r : ℕ) (xs : List ℕ) (stop : Stop) →
+        decoded_of strict (rest_of ended w p r xs stop).image (rest_of ended w p r xs stop).ending ≡ result
+    decoded_closed e is some res p r xs stop = rw (is, res) (closed_rest w a e some answered)
+
+    pub shows_closed : (e : Ending) → ended ≡ Some e → result ≡ decoded_at_end a e → Shows strict result ended w
+    shows_closed e is res = rw (is, res) (closed_shows w a e (sym answered))
+
+  pub decoded_empty : (w : List ℕ) (ended : Option Ending) (e : Ending) → ended ≡ Some e → length w ≡ 0 → (p r : ℕ) (xs : List ℕ) (stop : Stop) →
+      decoded_of strict (rest_of ended w p r xs stop).image (rest_of ended w p r xs stop).ending ≡ Ended e
+  decoded_empty w ended e is none p r xs stop = rw is (empty_rest w e none)

@@ -1,0 +1,20 @@
+use Rattle.x86_operands.proofs.OrderLemmas.{allowed_is_described}
+use Rattle.std.proofs.Common.{rules, ◌≡◌, true}
+use Rattle.x86_operands.specs.Encodings.{allows}
+use Rattle.x86_decode.proofs.LineLemmas.{row_without_modrm, form_described}
+use Rattle.x86_decode.proofs.rows.line_without_modrm.Goals as goal
+
+pub returns-then-allows-clause-read : goal.returns-then-allows-clause-read
+returns-then-allows-clause-read c = λ strict i s.
+    let b = c.args.encoding.now.after_opcode in
+    let may : allows b c.absent-modrm.result ≡ true = search rules in
+    row_without_modrm s strict c.args.row.now i.prefixes c.absent-modrm.result b c.requires.group c.requires.usage c.requires.no_modrm may c.absent-modrm.ensures
+
+pub returns-then-allows-clause-found : goal.returns-then-allows-clause-found
+returns-then-allows-clause-found c =
+    let may : allows c.args.encoding.now.after_opcode c.absent-modrm.result ≡ true = search rules in
+    record {
+      sound = c.requires.sound;
+      accepts = may;
+      describes = λ strict p. form_described strict c.args.row.now p c.absent-modrm.result c.args.encoding.now c.requires.group c.requires.describes (allowed_is_described c.args.encoding.now.after_opcode c.absent-modrm.result may);
+    }
