@@ -5,8 +5,8 @@ use Rattle.x86_cli.specs.declared.text.reader.Ending.{Ending}
 use Rattle.x86_cli.specs.Outside.Stop.{Stop, Failed}
 use Rattle.x86_cli.specs.declared.text.reader.Piece.TheVariants.{Byte, Stopped}
 use Rattle.x86_cli.specs.Text.{Text, text_at}
-use Rattle.x86_cli.specs.Text.Reading.{NeedsMore, CalledWhere, SourceCalls, MayCome, Reads}
-use Rattle.x86_cli.specs.Text.Window.{with_bytes, rest_of, Fills}
+use Rattle.x86_cli.specs.Text.Reading.{IsOpenText, NeedsMore, CalledWhere, SourceCalls, MayCome, Reads}
+use Rattle.x86_cli.specs.Text.Window.{with_bytes, rest_of, Open, Fills}
 use Rattle.x86_cli.proofs.TextLemmas.Read.{source_calls-source_calls, called-called, called-where, called-same}
 
 -- a text that begins with fewer than k bytes needs more of these
@@ -82,3 +82,40 @@ module _ {S : Type 0} (gives : S → Got → S → Type 0) (Holds : Text → Typ
         continues = g.continues;
         rest = λ xs s may. rw append_assoc (f.rest (g.bytes ++ xs) s (open_yet (g.bytes ++ xs) s) ∙ g.rest xs s may);
       }
+
+module _ {S : Type 0} (gives : S → Got → S → Type 0) (old : List ℕ → Stop → Text) (image : List ℕ) (p r : ℕ) (a b : S) (so_far : Filling gives IsOpenText old image p r a b)
+    (k : ℕ) (ended : Option Ending) (w : List ℕ) (p' r' : ℕ) (d : S) (fills : Fills gives (NeedsMore k) (rest_of None [] p r) ended w p' r' b d) where
+  opened : CalledWhere IsOpenText old (so_far.bytes ++ fills.bytes) fills.stop
+  opened =
+      called-called IsOpenText old so_far.bytes fills.bytes fills.stop so_far.called
+      (called-where (NeedsMore k) IsOpenText (rest_of None [] p r) (λ xs s. old (so_far.bytes ++ xs) s) fills.bytes fills.stop
+      (λ xs h. subst IsOpenText (sym (so_far.rest xs Failed)) h.0) fills.called)
+
+  window_rest : (xs : List ℕ) (s : Stop) → MayCome fills.stop xs s → old ((so_far.bytes ++ fills.bytes) ++ xs) s ≡ with_bytes image (rest_of ended w p' r' xs s)
+  window_rest xs s may = rw append_assoc (so_far.rest (fills.bytes ++ xs) s ∙ ap (with_bytes image) (fills.rest xs s may))
+
+  -- a window that was filled, at the end of an image
+  pub filling_window : ended ≡ None → Filling gives IsOpenText old (image ++ w) p' r' a d
+  filling_window open_yet =
+      let none : fills.stop ≡ None = (let P : Option Ending → Type 0 = λ o. Open o fills.stop in subst P open_yet fills.continues) in
+      record {
+        bytes = so_far.bytes ++ fills.bytes;
+        source_calls = let P : Option Stop → Type 0 = λ o. SourceCalls gives fills.bytes o b d in source_calls-source_calls gives so_far.bytes fills.bytes None a b d so_far.source_calls (subst P none fills.source_calls);
+        called = let P : Option Stop → Type 0 = λ o. CalledWhere IsOpenText old (so_far.bytes ++ fills.bytes) o in subst P none opened;
+        rest = λ xs s.
+            let t : Text = text_at p' r' xs s in
+            let P : Option Ending → Type 0 = λ o. old ((so_far.bytes ++ fills.bytes) ++ xs) s ≡ with_bytes image (rest_of o w p' r' xs s) in
+            subst P open_yet (window_rest xs s (rw none tt)) ∙ ap (λ i. record { image = i; ending = t.ending }) (sym (append_assoc image w t.image));
+      }
+
+  pub stopped_window : (e : Ending) (p'' r'' : ℕ) → ended ≡ Some e → Fills gives IsOpenText old (Some e) (image ++ w) p'' r'' a d
+  stopped_window e p'' r'' is = record {
+    bytes = so_far.bytes ++ fills.bytes;
+    stop = fills.stop;
+    source_calls = source_calls-source_calls gives so_far.bytes fills.bytes fills.stop a b d so_far.source_calls fills.source_calls;
+    called = opened;
+    continues = tt;
+    rest = λ xs s may.
+        let P : Option Ending → Type 0 = λ o. old ((so_far.bytes ++ fills.bytes) ++ xs) s ≡ with_bytes image (rest_of o w p' r' xs s) in
+        subst P is (window_rest xs s may);
+  }

@@ -176,7 +176,7 @@ module _ (text values values' places places' digits : List ℕ) (at end run : �
 
 -- several bytes, one after the other
 pub record IsPart (text values places : List ℕ) (start n : ℕ) : Type 0 where
-  pub ordered : slice_index_or places start 0 + n ≤ slice_index_or places (start + n) 0
+  pub ordered : slice_index_or places start 0 + 2 * n ≤ slice_index_or places (start + n) 0
   pub begins : Begins n (slice_range text (slice_index_or places start 0) (slice_index_or places (start + n) 0)) (take n (drop start values))
 
 module _ (text values places : List ℕ) (end start : ℕ) (bytes : AreBytes text end values places) (room : end ≤ length values) where
@@ -204,7 +204,7 @@ module _ (text values places : List ℕ) (end start : ℕ) (bytes : AreBytes tex
 -- taking some of the bytes ahead
 pub record Takes (text values places : List ℕ) (start n used : ℕ) : Type 0 where
   pub ordered : slice_index_or places start 0 ≤ slice_index_or places (start + n) 0
-  pub uses : n ≤ used
+  pub uses : 2 * n ≤ used
   pub fits : used ≤ length text
   pub begins : Begins n (take used text) (take n (drop start values))
 

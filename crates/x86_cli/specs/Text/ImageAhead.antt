@@ -1,11 +1,11 @@
 -- The bytes of an image that the text ahead has, by the places at which they end.
-use Rattle.std.specs.Prelude.{◌≡◌, ℕ, ◌+◌, ◌<◌, ◌≤◌, List, [], ◌∷◌, length, drop, slice_index_or, slice_range}
+use Rattle.std.specs.Prelude.{◌≡◌, ℕ, ◌+◌, ◌*◌, ◌<◌, ◌≤◌, List, [], ◌∷◌, length, drop, slice_index_or, slice_range}
 use Rattle.x86_cli.specs.declared.text.image_ahead.ImageAhead.{ImageAhead}
 use Rattle.x86_cli.specs.Text.Window.{Begins}
 
 -- Between two places of a text are these values, fewer than two: blanks, and then a pair where there is a value.
 pub record IsBetween (text : List ℕ) (start end : ℕ) (values : List ℕ) : Type 0 where
-  pub ordered : start + length values ≤ end
+  pub ordered : start + 2 * length values ≤ end
   pub inside : end ≤ length text
   pub begins : Begins 1 (slice_range text start end) values
 

@@ -1,7 +1,7 @@
 //! The places that the instructions of a sweep branch to.
 
 ghost use Rattle.x86_decode.specs.Decoder.{is_strict};
-ghost use Rattle.std.specs.Prelude.{◌≡◌, ℕ, ◌*◌, ◌<◌, ◌≤◌, length, slice_index_or, true, false, decimal, None, Some, Err, OnOk, IfErr};
+ghost use Rattle.std.specs.Prelude.{◌≡◌, ℕ, ◌+◌, ◌*◌, ◌<◌, ◌≤◌, ◌++◌, length, slice_index_or, true, false, decimal, None, Some, Err, OnOk, IfErr};
 ghost use Rattle.x86_cli.specs.Text.{text_of};
 ghost use Rattle.arrayvec.specs.ArrayVec.{array_vec_len};
 ghost use Rattle.x86_layout.specs.Sweeps.Marks.{is_marked};
@@ -14,7 +14,8 @@ use crate::listings::listing::{end, put_line};
 use crate::listings::status::Status;
 use crate::outside::sink::{Sink, SinkFailed};
 use crate::outside::source::Source;
-use crate::text::reader::{Ending, Piece, TextReader};
+use crate::text::reader::Ending;
+use crate::text::window::Window;
 use arrayvec::ArrayVec;
 use x86_decode::InstDecoder;
 use x86_layout::mark_targets;
@@ -30,6 +31,19 @@ struct WholeText {
     ending: Ending,
 }
 
+/// Appends the bytes of a window to an image. It returns how many they are.
+fn append(image: &mut ArrayVec<u8, IMAGE_MAX>, window: &Window) -> usize
+    requires { array_vec_len image.old + array_vec_len window.now.bytes ≤ IMAGE_MAX }
+    ensures image { image.new.items ≡ image.old.items ++ window.now.bytes.items }
+    ensures count { result ≡ array_vec_len window.now.bytes }
+{
+    let bytes = window.bytes.as_slice();
+    for byte in bytes {
+        image.push(*byte);
+    }
+    bytes.len()
+}
+
 /// Reads a text to its end. Each byte of the image takes at least two bytes of text.
 fn read_whole<S: Source>(max: u64, source: &mut S) -> WholeText
     requires { max ≤ 2 * IMAGE_MAX }
@@ -37,11 +51,13 @@ fn read_whole<S: Source>(max: u64, source: &mut S) -> WholeText
         (Some result.ending) result.image.items 0 0 source.old source.new }
 {
     let mut image = ArrayVec::new();
-    let mut reader = TextReader::new(max);
-    'pairs: loop {
-        match reader.next(source) {
-            Piece::Byte(byte) => image.push(byte),
-            Piece::Stopped(ending) => return WholeText { image, ending },
+    let mut window = Window::new(max);
+    'windows: loop {
+        window.refill(source);
+        let count = append(&mut image, &window);
+        match window.ended {
+            Some(ending) => return WholeText { image, ending },
+            None => window.leave(count),
         }
     }
 }

@@ -1,6 +1,6 @@
 //! The next bytes of an image.
 
-ghost use Rattle.std.specs.Prelude.{◌≡◌, ℕ, ◌+◌, ◌<◌, ◌≤◌, List, [], take, drop, None, Some, MatchOption};
+ghost use Rattle.std.specs.Prelude.{◌≡◌, ℕ, ◌+◌, ◌*◌, ◌<◌, ◌≤◌, List, [], take, drop, None, Some, MatchOption};
 ghost use Rattle.arrayvec.specs.ArrayVec.{array_vec_len};
 ghost use Rattle.x86_cli.specs.Outside.Stop.{Stop};
 ghost use Rattle.x86_decode.specs.Decoder.{is_strict};
@@ -91,6 +91,8 @@ impl Window {
         ensures full { self.new.ended ≡ None → array_vec_len self.new.bytes ≡ 15 }
         ensures uses { array_vec_len self.new.bytes + self.new.reader.room
             ≤ array_vec_len self.old.bytes + self.old.reader.room }
+        ensures pairs { 2 * array_vec_len self.new.bytes + self.new.reader.room
+            ≤ 2 * array_vec_len self.old.bytes + self.old.reader.room }
     {
         // The reader is a local value meanwhile, so that its position need not go to memory at each byte.
         let mut reader = self.reader;
@@ -121,6 +123,8 @@ impl Window {
         ensures few { array_vec_len self.new.bytes ≤ 15 }
         ensures uses { array_vec_len self.new.bytes + self.new.reader.room
             ≤ array_vec_len self.old.bytes + self.old.reader.room }
+        ensures pairs { 2 * array_vec_len self.new.bytes + self.new.reader.room
+            ≤ 2 * array_vec_len self.old.bytes + self.old.reader.room }
     {
         let count = self.ahead.len().min(self.bytes.room());
         self.bytes.push_block(&self.ahead.block(), count);
@@ -144,6 +148,8 @@ impl Window {
         ensures full { self.new.ended ≡ None → array_vec_len self.new.bytes ≡ 15 }
         ensures uses { array_vec_len self.new.bytes + self.new.reader.room
             ≤ array_vec_len self.old.bytes + self.old.reader.room }
+        ensures pairs { 2 * array_vec_len self.new.bytes + self.new.reader.room
+            ≤ 2 * array_vec_len self.old.bytes + self.old.reader.room }
     {
         self.ahead.read(self.reader.within(source.ahead()));
         self.take_ahead(source);
@@ -166,6 +172,8 @@ impl Window {
         ensures few { array_vec_len self.old.bytes ≤ 15 → array_vec_len self.new.bytes ≤ 15 }
         ensures uses { array_vec_len self.new.bytes + self.new.reader.room
             ≤ array_vec_len self.old.bytes + self.old.reader.room }
+        ensures pairs { 2 * array_vec_len self.new.bytes + self.new.reader.room
+            ≤ 2 * array_vec_len self.old.bytes + self.old.reader.room }
     {
         if self.ended.is_none() {
             self.take_ahead(source);

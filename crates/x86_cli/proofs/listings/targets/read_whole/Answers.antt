@@ -1,19 +1,39 @@
-use Rattle.std.proofs.Common.{[], arith, ap, length}
+use Rattle.std.proofs.Common.{◌≡◌, ℕ, ◌+◌, List, [], None, arith, ap, length, ◌∙◌, length-append}
+use Rattle.std.proofs.lemmas.List.{drop_all}
+use Rattle.x86_cli.specs.Text.{text_of}
 use Rattle.x86_cli.specs.Text.Reading.{IsOpenText}
-use Rattle.x86_cli.proofs.TextLemmas.Fill.{filling_none, filling_byte, stopped}
+use Rattle.x86_cli.proofs.TextLemmas.Fill.{filling_none, filling_window, stopped_window}
 use Rattle.x86_cli.proofs.listings.targets.read_whole.Goals as goal
 
-pub pairs-init : goal.pairs-init
-pairs-init g c = record {
-  filling = rw (c.new-image.ensures, c.new-reader.ensures.position, c.new-reader.ensures.room) (filling_none g.S.Source.gives IsOpenText [] 0 c.args.max _);
-  fits = omega (arith, ap length c.new-image.ensures, c.new-reader.ensures.room);
-}
+pub windows-init : goal.windows-init
+windows-init g c =
+    let e = c.new-window.ensures in
+    record {
+      filling = rw (c.new-image.ensures, e.position, e.room) (filling_none g.S.Source.gives IsOpenText [] 0 c.args.max _);
+      ahead = e.ahead _;
+      ended = e.ended;
+      empty = e.bytes;
+      fits = omega (arith, ap length c.new-image.ensures, e.room);
+    }
 
-pub pairs-preserved : goal.pairs-preserved
-pairs-preserved g c = record {
-  filling = rw c.push.ensures.items (filling_byte g.S.Source.gives IsOpenText _ _ _ _ _ _ c.pairs.invariant.filling (λ t h. h.0) _ _ _ _ c.in-Byte.ensures.reads);
-  fits = omega (arith, c.pairs.invariant.fits, c.in-Byte.ensures.uses, c.push.ensures.len);
-}
+pub windows-preserved : goal.windows-preserved
+windows-preserved g c =
+    let i = c.windows.invariant in
+    let w = c.refill.new.self in
+    let fills = rw (i.ended, i.empty) at c.refill.ensures.cases in
+    let all : length w.bytes.items ≡ c.append-count.result = omega (arith, c.append-count.ensures.count) in
+    record {
+      filling = rw (c.append-count.ensures.image, c.leave.ensures.reader)
+          (filling_window g.S.Source.gives (text_of c.args.max) c.windows.image.items _ _ _ _ i.filling 15 w.ended w.bytes.items _ _ _ fills c.in-None.is);
+      ahead = rw (c.leave.ensures.reader, c.leave.ensures.ahead) c.refill.ensures.ahead;
+      ended = c.leave.ensures.ended ∙ c.in-None.is;
+      empty = c.leave.ensures.bytes ∙ drop_all c.append-count.result w.bytes.items (omega (arith, all));
+      fits = omega (arith, i.fits, ap length i.empty, c.refill.ensures.pairs, ap (λ r. r.room) c.leave.ensures.reader, simp length-append at (ap length c.append-count.ensures.image));
+    }
 
-pub returns-in-Stopped : goal.returns-in-Stopped
-returns-in-Stopped g c = stopped g.S.Source.gives IsOpenText _ _ _ _ _ _ c.pairs.invariant.filling (λ t h. h.0) _ _ _ _ _ _ c.in-Stopped.ensures.reads
+pub returns-in-Some : goal.returns-in-Some
+returns-in-Some g c =
+    let i = c.windows.invariant in
+    let w = c.refill.new.self in
+    let fills = rw (i.ended, i.empty) at c.refill.ensures.cases in
+    rw c.append-count.ensures.image (stopped_window g.S.Source.gives (text_of c.args.max) c.windows.image.items _ _ _ _ i.filling 15 w.ended w.bytes.items _ _ _ fills c.in-Some.ending 0 0 c.in-Some.is)

@@ -12,6 +12,7 @@ loop-reader-preserved g c =
       ahead = c.loop-reader.invariant.ahead;
       filling = rw c.push.ensures.items
           (filling_byte g.S.Source.gives (NeedsMore 15) _ _ _ _ _ _ c.loop-reader.invariant.filling (λ t. more_after 15 1 _ t fits) _ _ _ _ c.in-Byte.ensures.reads);
+      pairs = omega (arith, c.loop-reader.invariant.pairs, c.in-Byte.ensures.uses, c.push.ensures.len);
       uses = omega (arith, c.loop-reader.invariant.uses, c.in-Byte.ensures.uses, c.push.ensures.len);
     }
 

@@ -63,3 +63,9 @@ returns-clause-uses g c =
     let s = c.args.self.now.ahead in
     let takes = takes_bytes _ s.values s.places s.start s.end c.min-count.result c.requires (omega arith) in
     omega (arith, c.take-text.ensures.text, takes.uses, c.push_block.ensures.len, c.advance_by.ensures.room)
+
+pub returns-clause-pairs : goal.returns-clause-pairs
+returns-clause-pairs g c =
+    let s = c.args.self.now.ahead in
+    let takes = takes_bytes _ s.values s.places s.start s.end c.min-count.result c.requires (omega arith) in
+    omega (arith, c.take-text.ensures.text, takes.uses, c.push_block.ensures.len, c.advance_by.ensures.room)
