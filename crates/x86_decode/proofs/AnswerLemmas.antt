@@ -12,25 +12,16 @@ use Rattle.x86_decode.specs.declared.instructions.Instruction.{Instruction}
 use Rattle.x86_forms.specs.declared.Map.TheVariants.{One}
 use Rattle.x86_decode.specs.Head.{Rows}
 use Rattle.x86_decode.specs.Instruction.{instruction_of}
-use Rattle.x86_decode.specs.Grammar.{IsSentence, Decides, by_bytes, case_5, HasNoSentence, in_head, IsRefusal, IsOpen, IsAccepted, IsAnswer}
-use Rattle.x86_decode.proofs.RowSteps.{exhausted_or_not}
-use Rattle.x86_decode.proofs.BodyLemmas.{verdict, early, sentence_settles, out_nothing}
-use Rattle.x86_decode.proofs.Theorem.{ok_apart, same_error, agree, not_both, refusal_answer, some_answer, none_settles, open_answer}
+use Rattle.x86_decode.specs.Grammar.{IsSentence, Decides, by_bytes, case_5, HasNoSentence, in_head, IsRefusal, IsAnswer}
+use Rattle.x86_decode.proofs.RowSteps.{same_error}
+use Rattle.x86_decode.proofs.BodyLemmas.{beginning_le, verdict, early, sentence_settles, out_nothing}
+use Rattle.x86_decode.proofs.Theorem.{agree, not_both, some_answer, none_settles, open_answer}
 
 -- a prefix of a longer list that is short enough is a prefix of the list
 pub beginning_of : (input more q rest : List ℕ) → input ++ more ≡ q ++ rest → length q ≤ length input → input ≡ q ++ drop (length q) input
 beginning_of input more q rest h le =
     let begins : take (length q) input ≡ q = sym (take-append-le (length q) input more le) ∙ ap (take (length q)) h ∙ take-append_seam q rest in
     sym (take-append-drop (length q) input) ∙ ap (λ l. l ++ drop (length q) input) begins
-
-beginning_le : (q rest l : List ℕ) → l ≡ q ++ rest → length q ≤ length l
-beginning_le q rest l e = let h : length l ≡ length q + length rest = ap length e ∙ length-append q rest in omega arith
-
-same_instruction : (a b : Instruction) (r s : Reading) (n k : ℕ) → a ≡ instruction_of r n → b ≡ instruction_of s k → r ≡ s → n ≡ k → a ≡ b
-same_instruction a b r s n k x y e f = x ∙ ap (λ r. instruction_of r n) e ∙ ap (instruction_of s) f ∙ sym y
-
-same_ok : (a b : Reading) → ◌≡◌ {A = Result Reading DecodeError} (Ok a) (Ok b) → a ≡ b
-same_ok a b e = cc
 
 module _ (rows : Rows) (strict : Bool) where
   abbrev Answer : List ℕ → Result Instruction DecodeError → ℕ → Type 0
@@ -39,20 +30,6 @@ module _ (rows : Rows) (strict : Bool) where
   pub answer_refusal : (input : List ℕ) (n : ℕ) (e : DecodeError) → e ≢ ExhaustedInput → Answer input (Err e) n → IsRefusal rows strict input e n
   answer_refusal input n ExhaustedInput d r = absurd (d refl)
   answer_refusal input n e d r = r
-
-  -- the three kinds of answers
-  data View (input : List ℕ) (r : Result Instruction DecodeError) (n : ℕ) : Type 0 where
-    accepted : (a : Instruction) → r ≡ Ok a → IsAccepted rows strict input a n → View input r n
-    refused : (e : DecodeError) → r ≡ Err e → e ≢ ExhaustedInput → IsRefusal rows strict input e n → View input r n
-    left_open : r ≡ Err ExhaustedInput → IsOpen rows strict input n → View input r n
-
-  view_error : (input : List ℕ) (n : ℕ) (e : DecodeError) → (e ≡ ExhaustedInput) ⊎ (e ≢ ExhaustedInput) → Answer input (Err e) n → View input (Err e) n
-  view_error input n e (inl is) a = left_open (ap (λ f. Err f) is) (subst (λ f. Answer input (Err f) n) is a)
-  view_error input n e (inr not) a = refused e refl not (answer_refusal input n e not a)
-
-  view : (input : List ℕ) (n : ℕ) (r : Result Instruction DecodeError) → Answer input r n → View input r n
-  view input n (Ok a) h = accepted a refl h
-  view input n (Err e) h = view_error input n e (exhausted_or_not e) h
 
   -- ---- appended bytes
 
@@ -83,21 +60,18 @@ module _ (rows : Rows) (strict : Bool) where
           r.shortest p (drop (length p) input) f (beginning_of input more p k h (omega arith)) d
       by p k f h d (inr le) = le
 
-  stays_by : (input more : List ℕ) (r : Result Instruction DecodeError) (n : ℕ) → r ≢ Err ExhaustedInput → View input r n → Answer (input ++ more) r n
-  stays_by input more r n d (accepted a e h) = subst (λ x. Answer (input ++ more) x n) (sym e)
-      (record { sentence = h.sentence; rest = h.rest ++ more; begins = ap (λ l. l ++ more) h.begins ∙ append_assoc h.sentence h.rest more; long = h.long; is = h.is })
-  stays_by input more r n d (refused e is apart h) = subst (λ x. Answer (input ++ more) x n) (sym is) (refusal_answer rows strict (input ++ more) n e apart (refusal_stays input more e n h))
-  stays_by input more r n d (left_open is h) = absurd (d is)
-
   pub stays : (input more : List ℕ) (r : Result Instruction DecodeError) (n : ℕ) → r ≢ Err ExhaustedInput → Answer input r n → Answer (input ++ more) r n
-  stays input more r n d a = stays_by input more r n d (view input n r a)
+  stays input more (Ok a) n d h = record { sentence = h.sentence; rest = h.rest ++ more; begins = ap (λ l. l ++ more) h.begins ∙ append_assoc h.sentence h.rest more; long = h.long; is = h.is }
+  stays input more (Err ExhaustedInput) n d h = absurd (d refl)
+  stays input more (Err e) n d h = refusal_stays input more e n h
 
   -- ---- one answer
 
   sentences_agree : (input s t x y : List ℕ) (a b : Instruction) → input ≡ s ++ x → input ≡ t ++ y → IsSentence rows strict s a → IsSentence rows strict t b → (a ≡ b) × (s ≡ t)
   sentences_agree input s t x y a b h k is js =
       let same = agree rows strict s t x y (Ok is.reading) (Ok js.reading) (sentence_settles rows strict s a is) (sentence_settles rows strict t b js) (sym h ∙ k) in
-      (same_instruction a b is.reading js.reading (length s) (length t) is.yields js.yields (same_ok is.reading js.reading same.0) (ap length same.1), same.1)
+      let r : is.reading ≡ js.reading = cc (same.0) in
+      (is.yields ∙ ap (λ x. instruction_of x (length s)) r ∙ ap (λ l. instruction_of js.reading (length l)) same.1 ∙ sym js.yields, same.1)
 
   refusals_agree : (q : List ℕ) (e f : DecodeError) → Decides rows strict q e → Decides rows strict q f → e ≡ f
   refusals_agree q e f (by_bytes d) (by_bytes k) =
@@ -122,29 +96,22 @@ module _ (rows : Rows) (strict : Bool) where
       let beginnings : r.beginning ≡ s.beginning = same_beginning r.beginning s.beginning r.rest s.rest (sym r.begins ∙ s.begins) (here ∙ counts ∙ sym there) in
       (refusals_agree s.beginning e f (subst (λ q. Decides rows strict q e) beginnings r.decides) s.decides, counts)
 
-  once_by : (input : List ℕ) (r s : Result Instruction DecodeError) (n k : ℕ) → View input r n → View input s k → (r ≡ s) × (n ≡ k)
-  once_by input r s n k (accepted a e h) (accepted b f g) =
-      let same = sentences_agree input h.sentence g.sentence h.rest g.rest a b h.begins g.begins h.is g.is in
-      (e ∙ ap (λ x. Ok x) same.0 ∙ sym f, sym h.long ∙ ap length same.1 ∙ g.long)
-  once_by input r s n k (accepted a e h) (refused f is d g) = absurd (g.no_sentence h.sentence h.rest a h.begins h.is)
-  once_by input r s n k (accepted a e h) (left_open is g) = absurd (g.no_sentence h.sentence h.rest a h.begins h.is)
-  once_by input r s n k (refused f is d g) (accepted a e h) = absurd (g.no_sentence h.sentence h.rest a h.begins h.is)
-  once_by input r s n k (left_open is g) (accepted a e h) = absurd (g.no_sentence h.sentence h.rest a h.begins h.is)
-  once_by input r s n k (refused e is d h) (refused f js c g) =
-      let same = once_refused input e f n k h g in (is ∙ ap (λ x. Err x) same.0 ∙ sym js, same.1)
-  once_by input r s n k (refused e is d h) (left_open js g) = absurd (g.undecided h.beginning h.rest e h.begins h.decides)
-  once_by input r s n k (left_open js g) (refused e is d h) = absurd (g.undecided h.beginning h.rest e h.begins h.decides)
-  once_by input r s n k (left_open is h) (left_open js g) =
+  pub once : (input : List ℕ) (r s : Result Instruction DecodeError) (n k : ℕ) → Answer input r n → Answer input s k → (r ≡ s) × (n ≡ k)
+  once input (Ok a) (Ok b) n k h g =
+      let same = sentences_agree input h.sentence g.sentence h.rest g.rest a b h.begins g.begins h.is g.is in (ap (λ x. Ok x) same.0, sym h.long ∙ ap length same.1 ∙ g.long)
+  once input (Ok a) (Err ExhaustedInput) n k h g = absurd (g.no_sentence h.sentence h.rest a h.begins h.is)
+  once input (Ok a) (Err f) n k h g = absurd (g.no_sentence h.sentence h.rest a h.begins h.is)
+  once input (Err ExhaustedInput) (Ok a) n k g h = absurd (g.no_sentence h.sentence h.rest a h.begins h.is)
+  once input (Err ExhaustedInput) (Err ExhaustedInput) n k h g =
       let a = h.taken in
       let b = g.taken in
       let one : length b.beginning ≤ n = a.longest b.beginning b.rest b.begins b.between in
       let two : length a.beginning ≤ k = b.longest a.beginning a.rest a.begins a.between in
-      let here : length a.beginning ≡ n = a.long in
-      let there : length b.beginning ≡ k = b.long in
-      (is ∙ sym js, omega arith)
-
-  pub once : (input : List ℕ) (r s : Result Instruction DecodeError) (n k : ℕ) → Answer input r n → Answer input s k → (r ≡ s) × (n ≡ k)
-  once input r s n k a b = once_by input r s n k (view input n r a) (view input k s b)
+      (refl, omega (arith, a.long, b.long))
+  once input (Err ExhaustedInput) (Err e) n k g h = absurd (g.undecided h.beginning h.rest e h.begins h.decides)
+  once input (Err e) (Ok a) n k g h = absurd (g.no_sentence h.sentence h.rest a h.begins h.is)
+  once input (Err e) (Err ExhaustedInput) n k h g = absurd (g.undecided h.beginning h.rest e h.begins h.decides)
+  once input (Err e) (Err f) n k h g = let same = once_refused input e f n k h g in (ap (λ x. Err x) same.0, same.1)
 
   -- ---- sentences and their prefixes
 
@@ -156,27 +123,25 @@ module _ (rows : Rows) (strict : Bool) where
   sentence_answer : (s : List ℕ) (a : Instruction) → IsSentence rows strict s a → Answer s (Ok a) (length s)
   sentence_answer s a is = record { sentence = s; rest = []; begins = sym (append-nil s); long = refl; is = is }
 
-  count_within : (input : List ℕ) (r : Result Instruction DecodeError) (n : ℕ) → View input r n → n ≤ length input
-  count_within input r n (accepted a e h) = let k = beginning_le h.sentence h.rest input h.begins in let l = h.long in omega arith
-  count_within input r n (refused f is d h) = let k = beginning_le h.beginning h.rest input h.begins in let l = h.long in omega arith
-  count_within input r n (left_open is h) = let t = h.taken in let k = beginning_le t.beginning t.rest input t.begins in let l = t.long in omega arith
+  count_within : (input : List ℕ) (r : Result Instruction DecodeError) (n : ℕ) → Answer input r n → n ≤ length input
+  count_within input (Ok a) n h = omega (arith, beginning_le h.sentence h.rest input h.begins, h.long)
+  count_within input (Err ExhaustedInput) n h = let t = h.taken in omega (arith, beginning_le t.beginning t.rest input t.begins, t.long)
+  count_within input (Err e) n h = omega (arith, beginning_le h.beginning h.rest input h.begins, h.long)
 
-  too_late : (q : List ℕ) (c : ℕ) (rest : List ℕ) (a : Instruction) (r : Result Instruction DecodeError) (n : ℕ) → IsSentence rows strict (q ++ c ∷ rest) a → r ≢ Err ExhaustedInput → Answer q r n → View q r n → ⊥
-  too_late q c rest a r n is d h v =
+  too_late : (q : List ℕ) (c : ℕ) (rest : List ℕ) (a : Instruction) (r : Result Instruction DecodeError) (n : ℕ) → IsSentence rows strict (q ++ c ∷ rest) a → r ≢ Err ExhaustedInput → Answer q r n → ⊥
+  too_late q c rest a r n is d h =
       let counts : n ≡ length (q ++ c ∷ rest) = (once (q ++ c ∷ rest) r (Ok a) n (length (q ++ c ∷ rest)) (stays q (c ∷ rest) r n d h) (sentence_answer (q ++ c ∷ rest) a is)).1 in
-      let within : n ≤ length q = count_within q r n v in
+      let within : n ≤ length q = count_within q r n h in
       let long : length (q ++ c ∷ rest) ≡ length q + suc (length rest) = length-append q (c ∷ rest) in
       absurd (omega arith)
 
-  beginning_by : (q : List ℕ) (c : ℕ) (rest : List ℕ) (a : Instruction) (r : Result Instruction DecodeError) (n : ℕ) → IsSentence rows strict (q ++ c ∷ rest) a → Answer q r n → View q r n → (k : ℕ) × Answer q (Err ExhaustedInput) k
-  beginning_by q c rest a r n is h (left_open e g) = (n, g)
-  beginning_by q c rest a r n is h (accepted b e g) = absurd (too_late q c rest a r n is (λ k. ok_apart b ExhaustedInput (sym e ∙ k)) h (accepted b e g))
-  beginning_by q c rest a r n is h (refused f e d g) = absurd (too_late q c rest a r n is (λ k. d (same_error {X = Instruction} f ExhaustedInput (sym e ∙ k))) h (refused f e d g))
+  beginning_by : (q : List ℕ) (c : ℕ) (rest : List ℕ) (a : Instruction) (r : Result Instruction DecodeError) (n : ℕ) → IsSentence rows strict (q ++ c ∷ rest) a → Answer q r n → (k : ℕ) × Answer q (Err ExhaustedInput) k
+  beginning_by q c rest a (Err ExhaustedInput) n is h = (n, h)
+  beginning_by q c rest a r n is h = absurd (too_late q c rest a r n is (λ k. cc) h)
 
   pub proper_beginning_open : (q : List ℕ) (c : ℕ) (rest : List ℕ) (a : Instruction) → IsSentence rows strict (q ++ c ∷ rest) a → (k : ℕ) × Answer q (Err ExhaustedInput) k
   proper_beginning_open q c rest a is =
-      let o = some_answer rows strict q in
-      beginning_by q c rest a o.0 o.1 is o.2 (view q o.1 o.0 o.2)
+      let o = some_answer rows strict q in beginning_by q c rest a o.0 o.1 is o.2
 
   -- ---- the empty input
 
@@ -207,10 +172,10 @@ module _ (rows : Rows) (strict : Bool) where
       (stays (take 15 input) (drop 15 input) r n (λ e. never_open (take 15 input) n long (subst (λ x. Answer (take 15 input) x n) e a)) a)
 
   by_fifteen : (input : List ℕ) (r : Result Instruction DecodeError) (n : ℕ) → Answer input r n → (length input < 15) ⊎ (15 ≤ length input) → n ≤ 15
-  by_fifteen input r n a (inl less) = let h = count_within input r n (view input n r a) in omega arith
+  by_fifteen input r n a (inl less) = let h = count_within input r n a in omega arith
   by_fifteen input r n a (inr enough) =
       let o = some_answer rows strict (take 15 input) in
-      let within : o.1 ≤ length (take 15 input) = count_within (take 15 input) o.0 o.1 (view (take 15 input) o.1 o.0 o.2) in
+      let within : o.1 ≤ length (take 15 input) = count_within (take 15 input) o.0 o.1 o.2 in
       let same : n ≡ o.1 = (once input r o.0 n o.1 a (first_fifteen input o.0 o.1 enough o.2)).1 in
       let long : length (take 15 input) ≤ 15 = let h = length-take 15 input in omega arith in
       omega arith
@@ -220,9 +185,6 @@ module _ (rows : Rows) (strict : Bool) where
 
   -- ---- lengths
 
-  sentence_counts : (s : List ℕ) (a : Instruction) → IsSentence rows strict s a → a.length ≡ length s
-  sentence_counts s a is = ap (λ i. i.length) is.yields
-
   sentence_is_some : (s : List ℕ) (a : Instruction) → IsSentence rows strict s a → 0 < length s
   sentence_is_some [] a is = absurd (none_settles rows strict [] [] (record { left = []; since_mark = 0; since_made = 0 }) [] refl (out_nothing rows strict (record { left = []; since_mark = 0; since_made = 0 }) refl) [] [] (Ok is.reading) refl (sentence_settles rows strict [] a is))
   sentence_is_some (c ∷ s) a is = omega arith
@@ -230,7 +192,7 @@ module _ (rows : Rows) (strict : Bool) where
   pub accepted_within : (input : List ℕ) (a : Instruction) (n : ℕ) → Answer input (Ok a) n → (0 < a.length) × (a.length ≤ 15) × (a.length ≤ length input) × (a.length ≡ n)
   accepted_within input a n h =
       let is = h.is in
-      let counts : a.length ≡ length h.sentence = sentence_counts h.sentence a is in
+      let counts : a.length ≡ length h.sentence = ap (λ i. i.length) is.yields in
       let some : 0 < length h.sentence = sentence_is_some h.sentence a is in
       let short : length h.sentence ≤ 15 = is.short in
       let within : length h.sentence ≤ length input = beginning_le h.sentence h.rest input h.begins in

@@ -1,9 +1,9 @@
 -- What the body takes is in the grammar, and what the grammar has is taken.
-use Rattle.std.proofs.Common.{◌≡◌, ◌≢◌, ℕ, ◌+◌, ◌≤◌, Bool, true, false, if◌then◌else◌, List, [], ◌∷◌, ◌++◌, length, Option, Some, None, Result, Ok, Err, refl, sym, ap, subst, ◌∙◌, arith, length-append, append_assoc}
+use Rattle.std.proofs.Common.{◌≡◌, ℕ, ◌≤◌, Bool, true, false, if◌then◌else◌, List, [], ◌∷◌, ◌++◌, length, Option, Some, None, Result, Ok, Err, refl, sym, ap, subst, ◌∙◌, arith, length-append, append_assoc}
 use Rattle.std.proofs.lemmas.List.{append-nil}
 use Rattle.x86_arch.specs.Reader.{State, advanced}
 use Rattle.x86_fields.specs.declared.errors.DecodeError.{DecodeError}
-use Rattle.x86_fields.specs.declared.errors.DecodeError.TheVariants.{ExhaustedInput, InvalidOpcode, InvalidPrefixes}
+use Rattle.x86_fields.specs.declared.errors.DecodeError.TheVariants.{InvalidOpcode, InvalidPrefixes}
 use Rattle.x86_fields.specs.declared.prefixes.Prefixes.{Prefixes}
 use Rattle.x86_fields.specs.Run.{is_prefix, reading_of}
 use Rattle.x86_fields.specs.Steps.{Step, Outcome, ◌>>=◌}
@@ -21,13 +21,13 @@ use Rattle.x86_decode.specs.Grammar.{record_of, allows_lock, Whole, IsSentence, 
 use Rattle.x86_decode.proofs.RowSteps.{fault_error, RowYields, ends_row, takes_row, takes_row_refused, halts_row}
 use Rattle.x86_decode.proofs.HeadLemmas.{IsHead, IsRun, ends_head, takes_head, out_head, OpcodeYields, OpcodeBetween, ends_opcode, entry_byte, entry_rest, entry_is, entry_plain, takes_opcode, takes_vex, vex_plain, vex_final, escape_beginning, EscapeBeginning, none, one, two, out_one}
 
-opcode_final : InvalidOpcode ≢ ExhaustedInput
-opcode_final e = cc
-
 -- the answer of a reading where LOCK is checked
 abbrev pub verdict : Result Reading DecodeError → Result Reading DecodeError
 verdict (Ok reading) = if allows_lock reading then Ok reading else Err InvalidPrefixes
 verdict (Err e) = Err e
+
+pub beginning_le : (q rest l : List ℕ) → l ≡ q ++ rest → length q ≤ length l
+beginning_le q rest l e = omega (arith, length-append {A = ℕ}, ap length e)
 
 module _ (rows : Rows) (strict : Bool) where
   abbrev pub BodyYields : List ℕ → Result Reading DecodeError → Type 0
@@ -56,14 +56,14 @@ module _ (rows : Rows) (strict : Bool) where
     v = seen_by map b p
 
     following : (tail : List ℕ) → q ++ (l ++ tail) ≡ run ++ (escape_bytes map ++ b ∷ tail)
-    following tail = sym (append_assoc q l tail) ∙ ap (λ k. k ++ tail) spelled ∙ append_assoc run (escape_bytes map ++ b ∷ []) tail ∙ ap (λ k. run ++ k) (append_assoc (escape_bytes map) (b ∷ []) tail)
+    following tail = sym (append_assoc q l tail) ∙ ap (λ k. k ++ tail) spelled ∙ simp append_assoc
 
     row_yields : (row : TableRow) → rows map (column_of p) b ≡ Some row → (tail : List ℕ) (r : Result Reading DecodeError) → RowYields (record_of strict row v) v tail r → BodyYields (q ++ (l ++ tail)) r
     row_yields row has tail (Ok reading) g = record { run = run; map = map; opcode = b; row = row; tail = tail; spelled = following tail; prefixes = is; in_map = in_map; has_row = has; row_spelled = g }
     row_yields row has tail (Err e) g = subst (DecidesByBytes rows strict (q ++ (l ++ tail))) (sym g.1) (case_3 g.0 (record { run = run; map = map; opcode = b; row = row; tail = tail; spelled = following tail; prefixes = is; in_map = in_map; has_row = has; refuses = g.2 }))
 
     ends_by_row : (o : Option TableRow) → rows map (column_of p) b ≡ o → EndsWell (λ k r. BodyYields (q ++ (l ++ k)) r) (λ k. BodyBetween (q ++ (l ++ k))) (with_row o v)
-    ends_by_row None e s = ends_refuse (λ k r. BodyYields (q ++ (l ++ k)) r) (λ k. BodyBetween (q ++ (l ++ k))) InvalidOpcode opcode_final (case_2 (record { run = run; map = map; opcode = b; spelled = following []; prefixes = is; in_map = in_map; no_row = e })) s
+    ends_by_row None e s = ends_refuse (λ k r. BodyYields (q ++ (l ++ k)) r) (λ k. BodyBetween (q ++ (l ++ k))) InvalidOpcode (λ no. cc) (case_2 (record { run = run; map = map; opcode = b; spelled = following []; prefixes = is; in_map = in_map; no_row = e })) s
     ends_by_row (Some row) e s = weaken s (λ tail r g. row_yields row e tail r g) (λ tail k. in_tail run map b row tail (following tail) is in_map e k) (ends_row (record_of strict row v) v s)
 
   after_run : (q run : List ℕ) (c : ℕ) → q ≡ run ++ c ∷ [] → is_run run ≡ true → is_prefix c ≡ false → EndsWell (λ l r. BodyYields (q ++ l) r) (λ l. BodyBetween (q ++ l)) (after_head (reading_of run, c))
@@ -87,10 +87,9 @@ module _ (rows : Rows) (strict : Bool) where
   takes_at : (run : List ℕ) (map : Map) (b : ℕ) (tail : List ℕ) (r : Result Reading DecodeError) → is_run run ≡ true → is_opcode map b ≡ true → Takes (after_opcode (reading_of run) (map, b)) tail r → Takes (walk_within rows strict) (run ++ (escape_bytes map ++ b ∷ tail)) r
   unfolding walk_within
   takes_at run map b tail r is in_map t =
-      let head : Takes head_step (run ++ entry_byte map b ∷ []) (Ok (reading_of run, entry_byte map b)) = takes_head run (entry_byte map b) is (entry_plain map b in_map) in
-      let rest : Takes (after_head (reading_of run, entry_byte map b)) (entry_rest map b ++ tail) r = takes_bind (opcode_step (reading_of run) (entry_byte map b)) (after_opcode (reading_of run)) (entry_rest map b) tail (map, b) r (takes_opcode (reading_of run) map b in_map) t in
-      let whole : Takes (head_step >>= after_head) ((run ++ entry_byte map b ∷ []) ++ (entry_rest map b ++ tail)) r = takes_bind head_step after_head (run ++ entry_byte map b ∷ []) (entry_rest map b ++ tail) (reading_of run, entry_byte map b) r head rest in
-      subst (λ l. Takes (head_step >>= after_head) l r) (append_assoc run (entry_byte map b ∷ []) (entry_rest map b ++ tail) ∙ ap (λ l. run ++ l) (sym (entry_is map b tail))) whole
+      subst (λ l. Takes (head_step >>= after_head) l r) (append_assoc run (entry_byte map b ∷ []) (entry_rest map b ++ tail) ∙ ap (λ l. run ++ l) (sym (entry_is map b tail)))
+      (takes_bind head_step after_head (run ++ entry_byte map b ∷ []) (entry_rest map b ++ tail) (reading_of run, entry_byte map b) r (takes_head run (entry_byte map b) is (entry_plain map b in_map))
+      (takes_bind (opcode_step (reading_of run) (entry_byte map b)) (after_opcode (reading_of run)) (entry_rest map b) tail (map, b) r (takes_opcode (reading_of run) map b in_map) t))
 
   with_some : (o : Option TableRow) (row : TableRow) (p : Prefixes) (tail : List ℕ) (r : Result Reading DecodeError) → o ≡ Some row → Takes (row_step strict row p) tail r → Takes (with_row o p) tail r
   with_some o row p tail r e t = subst (λ x. Takes (with_row x p) tail r) (sym e) t
@@ -102,9 +101,9 @@ module _ (rows : Rows) (strict : Bool) where
   takes_no_map : (run : List ℕ) (c : ℕ) → is_run run ≡ true → is_vex c ≡ true → Takes (walk_within rows strict) (run ++ c ∷ []) (Err (vex_refusal (reading_of run)))
   unfolding walk_within
   takes_no_map run c is vex =
-      let rest : Takes (after_head (reading_of run, c)) [] (Err (vex_refusal (reading_of run))) = takes_err (opcode_step (reading_of run) c) (after_opcode (reading_of run)) [] (vex_refusal (reading_of run)) (takes_vex (reading_of run) c vex) in
       subst (λ l. Takes (head_step >>= after_head) l (Err (vex_refusal (reading_of run)))) (append-nil (run ++ c ∷ []))
-      (takes_bind head_step after_head (run ++ c ∷ []) [] (reading_of run, c) (Err (vex_refusal (reading_of run))) (takes_head run c is (vex_plain c vex)) rest)
+      (takes_bind head_step after_head (run ++ c ∷ []) [] (reading_of run, c) (Err (vex_refusal (reading_of run))) (takes_head run c is (vex_plain c vex))
+      (takes_err (opcode_step (reading_of run) c) (after_opcode (reading_of run)) [] (vex_refusal (reading_of run)) (takes_vex (reading_of run) c vex)))
 
   -- The body takes the bytes, with a final answer.
   pub record Settled (q : List ℕ) (r : Result Reading DecodeError) : Type 0 where
@@ -124,7 +123,7 @@ module _ (rows : Rows) (strict : Bool) where
     Err InvalidOpcode,
     record {
       takes = subst (λ l. Takes (walk_within rows strict) l (Err InvalidOpcode)) (sym c.spelled) (takes_at c.run c.map c.opcode [] (Err InvalidOpcode) c.prefixes c.in_map (subst (λ o. Takes (with_row o (seen_by c.map c.opcode (reading_of c.run))) [] (Err InvalidOpcode)) (sym c.no_row) (takes_pure (Err InvalidOpcode))));
-      final = final_err InvalidOpcode opcode_final;
+      final = final_err InvalidOpcode (λ no. cc);
     },
     refl,
   )
@@ -178,9 +177,6 @@ module _ (rows : Rows) (strict : Bool) where
     pub count : ℕ
     pub within : count ≤ length s.left
     pub after : o.after ≡ advanced count s
-
-  beginning_le : (q rest l : List ℕ) → l ≡ q ++ rest → length q ≤ length l
-  beginning_le q rest l e = let h : length l ≡ length q + length rest = ap length e ∙ length-append q rest in omega arith
 
   moves_at : (s : State ℕ) → Ends BodyYields BodyBetween (walk_within rows strict) s → Moves s (walk_within rows strict s)
   moves_at s (settles q rest r h t d a) = record { count = length q; within = beginning_le q rest s.left h; after = ap (λ o. o.after) (t.takes rest s h) }

@@ -8,13 +8,13 @@ use Rattle.x86_operands.specs.declared.plans.Fault.TheVariants.{BadOpcode, BadOp
 use Rattle.x86_operands.specs.PlanSteps.{error_of}
 use Rattle.x86_decode.specs.declared.instructions.Instruction.{Instruction}
 use Rattle.x86_decode.specs.Head.{Rows, bars_vex}
-use Rattle.x86_decode.specs.Grammar.{IsVexAfterRun, IsRefusedByRecord, case_1, case_2, case_3, case_4, Decides, by_bytes, case_5, IsRefusal, IsOpen, IsTooLong, IsAnswer}
-use Rattle.x86_decode.specs.Causes.{FaultsOpcode, FaultsOperand, FaultsPrefixes, LeavesOut, IsDecidedBy, IsUndecided, HasSentence, HasFaultyOpcode, HasFaultyOperand, HasFaultyPrefixes, HasNoRoom, IsLeftOut}
+use Rattle.x86_decode.specs.Grammar.{IsVexAfterRun, IsRefusedByRecord, case_1, case_2, case_3, case_4, Decides, by_bytes, case_5, IsRefusal, IsTooLong, IsAnswer}
+use Rattle.x86_decode.specs.Causes.{FaultsOpcode, FaultsOperand, FaultsPrefixes, LeavesOut, IsDecidedBy, IsUndecided, HasSentence}
 use Rattle.x86_decode.proofs.Theorem.{refusal_answer}
 use Rattle.x86_decode.proofs.AnswerLemmas.{once, answer_refusal}
 
 -- what a byte string is that decides an error
-abbrev Faults : Rows → Bool → DecodeError → List ℕ → Type 0
+abbrev pub Faults : Rows → Bool → DecodeError → List ℕ → Type 0
 Faults rows strict ExhaustedInput q = ⊥
 Faults rows strict InvalidOpcode q = FaultsOpcode rows strict q
 Faults rows strict InvalidOperand q = FaultsOperand rows strict q
@@ -59,58 +59,23 @@ module _ (rows : Rows) (strict : Bool) where
     refusal : (e : DecodeError) → e ≢ ExhaustedInput → r ≡ Err e → IsDecidedBy rows strict (Faults rows strict e) input
     refusal e d same =
         let k : IsRefusal rows strict input e n = answer_refusal rows strict input n e d (subst (λ x. IsAnswer rows strict input x n) same a) in
-        record {
-          beginning = k.beginning;
-          rest = k.rest;
-          begins = k.begins;
-          is = cause_of k.beginning e k.decides;
-          shortest = λ q more f h g. let least = k.shortest q more f h g in let long : length k.beginning ≡ n = k.long in omega arith;
-          no_sentence = k.no_sentence;
-        }
+        record { beginning = k.beginning; rest = k.rest; begins = k.begins; is = cause_of k.beginning e k.decides; shortest = λ q more f h g. omega (arith, k.shortest q more f h g, k.long); no_sentence = k.no_sentence }
 
     refused : (e : DecodeError) → e ≢ ExhaustedInput → IsDecidedBy rows strict (Faults rows strict e) input → r ≡ Err e
     refused e d k =
         (once rows strict input r (Err e) n (length k.beginning) a (refusal_answer rows strict input (length k.beginning) e d
         (record { beginning = k.beginning; rest = k.rest; begins = k.begins; decides = decided k.beginning e k.is; long = refl; shortest = k.shortest; no_sentence = k.no_sentence }))).0
 
-    refused_for : (e : DecodeError) → e ≢ ExhaustedInput → (r ≡ Err e) ↔ IsDecidedBy rows strict (Faults rows strict e) input
+    pub refused_for : (e : DecodeError) → e ≢ ExhaustedInput → (r ≡ Err e) ↔ IsDecidedBy rows strict (Faults rows strict e) input
     refused_for e d = (refusal e d, refused e d)
 
-    pub opcode_faulted : (r ≡ Err InvalidOpcode) ↔ HasFaultyOpcode rows strict input
-    opcode_faulted = refused_for InvalidOpcode (λ e. cc)
-
-    pub operand_faulted : (r ≡ Err InvalidOperand) ↔ HasFaultyOperand rows strict input
-    operand_faulted = refused_for InvalidOperand (λ e. cc)
-
-    pub prefixes_faulted : (r ≡ Err InvalidPrefixes) ↔ HasFaultyPrefixes rows strict input
-    prefixes_faulted = refused_for InvalidPrefixes (λ e. cc)
-
-    pub too_long : (r ≡ Err TooLong) ↔ HasNoRoom rows strict input
-    too_long = refused_for TooLong (λ e. cc)
-
-    pub left_out : (r ≡ Err IncompleteDecoder) ↔ IsLeftOut rows strict input
-    left_out = refused_for IncompleteDecoder (λ e. cc)
-
-  left_open : (input : List ℕ) (r : Result Instruction DecodeError) (n : ℕ) → IsAnswer rows strict input r n → r ≡ Err ExhaustedInput → IsUndecided rows strict input
-  left_open input r n a e = let o : IsOpen rows strict input n = subst (λ x. IsAnswer rows strict input x n) e a in record { no_sentence = o.no_sentence; undecided = o.undecided }
-
-  open_only : (input : List ℕ) (r : Result Instruction DecodeError) (n : ℕ) → IsAnswer rows strict input r n → IsUndecided rows strict input → r ≡ Err ExhaustedInput
-  open_only input (Ok i) n a u = absurd (u.no_sentence a.sentence a.rest i a.begins a.is)
-  open_only input (Err ExhaustedInput) n a u = refl
-  open_only input (Err e) n a u = absurd (u.undecided a.beginning a.rest e a.begins a.decides)
-
   pub exhausted : (input : List ℕ) (r : Result Instruction DecodeError) (n : ℕ) → IsAnswer rows strict input r n → (r ≡ Err ExhaustedInput) ↔ IsUndecided rows strict input
-  exhausted input r n a = (left_open input r n a, open_only input r n a)
+  exhausted input (Ok i) n a = (λ e. absurd cc, λ u. absurd (u.no_sentence a.sentence a.rest i a.begins a.is))
+  exhausted input (Err ExhaustedInput) n a = (λ e. record { no_sentence = a.no_sentence; undecided = a.undecided }, λ u. refl)
+  exhausted input (Err f) n a = (λ e. absurd cc, λ u. absurd (u.undecided a.beginning a.rest f a.begins a.decides))
 
   -- a prefix is a sentence exactly where the answer is Ok
   pub accepted : (input : List ℕ) (r : Result Instruction DecodeError) (n : ℕ) → IsAnswer rows strict input r n → IsOk r ↔ HasSentence rows strict input
-  accepted input r n a = (there input r n a, only input r n a)
-    where
-      there : (input : List ℕ) (r : Result Instruction DecodeError) (n : ℕ) → IsAnswer rows strict input r n → IsOk r → HasSentence rows strict input
-      there input (Ok i) n a ok = record { sentence = a.sentence; rest = a.rest; answer = i; begins = a.begins; is = a.is }
-      there input (Err e) n a ok = absurd cc
-
-      only : (input : List ℕ) (r : Result Instruction DecodeError) (n : ℕ) → IsAnswer rows strict input r n → HasSentence rows strict input → IsOk r
-      only input (Ok i) n a h = refl
-      only input (Err ExhaustedInput) n a h = absurd (a.no_sentence h.sentence h.rest h.answer h.begins h.is)
-      only input (Err e) n a h = absurd (a.no_sentence h.sentence h.rest h.answer h.begins h.is)
+  accepted input (Ok i) n a = (λ ok. record { sentence = a.sentence; rest = a.rest; answer = i; begins = a.begins; is = a.is }, λ h. refl)
+  accepted input (Err ExhaustedInput) n a = (λ ok. absurd cc, λ h. absurd (a.no_sentence h.sentence h.rest h.answer h.begins h.is))
+  accepted input (Err e) n a = (λ ok. absurd cc, λ h. absurd (a.no_sentence h.sentence h.rest h.answer h.begins h.is))

@@ -33,7 +33,8 @@ use Rattle.x86_decode.specs.Walk.{head_step, opcode_step, some_row, row_step, wa
 use Rattle.x86_decode.specs.Answer.{answer_of, count_of}
 use Rattle.x86_decode.specs.Choices.{IsFence, BeginsWithFence}
 use Rattle.x86_decode.proofs.BodyLemmas.{BodyYields, BodyBetween, ends_body, takes_whole, verdict, Settled, early}
-use Rattle.x86_decode.proofs.Theorem.{ok_apart, same_error, within, beginning_at_most, walk_answers}
+use Rattle.x86_decode.proofs.Theorem.{within, beginning_at_most, walk_answers}
+use Rattle.x86_decode.proofs.RowSteps.{ok_apart, same_error}
 use Rattle.x86_decode.proofs.AnswerLemmas.{once}
 use Rattle.x86_decode.proofs.PrintedLemmas.{is_answer, only_answer}
 

@@ -1,68 +1,47 @@
 -- The run, the escape and the opcode byte: what the walk takes, and that it takes what the grammar has.
-use Rattle.std.proofs.Common.{◌≡◌, ◌≢◌, ℕ, suc, ◌+◌, ◌==◌, ◌&&◌, ◌||◌, not, Bool, true, false, if◌then◌else◌, List, [], ◌∷◌, ◌++◌, length, Result, Ok, Err, refl, sym, ap, ◌∙◌, arith, length-append, append_assoc}
+use Rattle.std.proofs.Common.{◌≡◌, ◌≢◌, ℕ, suc, ◌+◌, ◌==◌, ◌||◌, not, Bool, true, false, if◌then◌else◌, List, [], ◌∷◌, ◌++◌, length, Result, Ok, Err, refl, sym, ap, ◌∙◌, arith, length-append, append_assoc}
+use Rattle.std.proofs.lemmas.Bool.{and_parts, or_parts, not-true, eqb-true}
 use Rattle.std.proofs.lemmas.Bool.Decides.{nat_tests}
 use Rattle.std.proofs.lemmas.List.{append-nil}
 use Rattle.x86_arch.specs.Reader.{State, advanced}
 use Rattle.x86_fields.specs.declared.errors.DecodeError.{DecodeError}
-use Rattle.x86_fields.specs.declared.errors.DecodeError.TheVariants.{ExhaustedInput, InvalidPrefixes, IncompleteDecoder}
+use Rattle.x86_fields.specs.declared.errors.DecodeError.TheVariants.{ExhaustedInput}
 use Rattle.x86_fields.specs.declared.prefixes.Prefixes.{Prefixes}
 use Rattle.x86_fields.specs.Run.{is_prefix, reading_of}
-use Rattle.x86_fields.specs.Steps.{Outcome, outcome, then_from, pure, refuse, ◌>>=◌, next_byte}
+use Rattle.x86_fields.specs.Steps.{Outcome, outcome, pure, refuse, ◌>>=◌, next_byte}
 use Rattle.x86_fields.proofs.StepLemmas.{Takes, advanced_twice, advanced_zero, takes_pure, takes_bind, takes_byte}
 use Rattle.x86_fields.proofs.EndLemmas.{EndsWell, Ends, settles, runs_out, no_beginning, final_ok, IsEmpty, Only, IsByte, ends_byte, ends_pure, ends_refuse, ends_then, Out, out_bind, out_after, out_byte}
 use Rattle.x86_fields.proofs.PieceLemmas.{takes_map}
 use Rattle.x86_forms.specs.declared.Map.{Map}
 use Rattle.x86_forms.specs.declared.Map.TheVariants.{One, Of, Of38, Of3a}
 use Rattle.x86_decode.specs.Head.{is_run, escape_bytes, is_vex, is_opcode, vex_refusal}
-use Rattle.x86_decode.specs.Walk.{run_from, run_step, head_step, read_escaped, opcode_step}
-
-pub and_left : (a b : Bool) → (a && b) ≡ true → a ≡ true
-and_left a b h = grind arith
-
-pub and_right : (a b : Bool) → (a && b) ≡ true → b ≡ true
-and_right a b h = grind arith
+use Rattle.x86_decode.specs.Walk.{run_from, run_step, read_of, head_step, read_escaped, opcode_step}
 
 -- ---- the run
-
-one_more : (n : ℕ) → 1 + n ≡ suc n
-one_more n = omega arith
 
 run_passes : (back beginning rest : List ℕ) (s : State ℕ) → is_run back ≡ true → run_from (back ++ rest) beginning s ≡ run_from rest (beginning ++ back) (advanced (length back) s)
 run_passes [] beginning rest s h = rw (append-nil beginning, advanced_zero s) refl
 run_passes (x ∷ back) beginning rest s h =
-    ap (λ t. if t then run_from (back ++ rest) (beginning ++ x ∷ []) (advanced 1 s) else outcome (Ok (beginning, x)) (advanced 1 s)) (and_left (is_prefix x) (is_run back) h)
-    ∙ run_passes back (beginning ++ x ∷ []) rest (advanced 1 s) (and_right (is_prefix x) (is_run back) h)
-    ∙ ap (λ l. run_from rest l (advanced (length back) (advanced 1 s))) (append_assoc beginning (x ∷ []) back)
-    ∙ ap (λ u. run_from rest (beginning ++ x ∷ back) u) (advanced_twice 1 (length back) s ∙ ap (λ n. advanced n s) (one_more (length back)))
+    let parts = and_parts (is_prefix x) (is_run back) h in
+    let count : 1 + length back ≡ suc (length back) = omega arith in
+    rw parts.0 (run_passes back (beginning ++ x ∷ []) rest (advanced 1 s) parts.1 ∙ rw (append_assoc beginning (x ∷ []) back, advanced_twice 1 (length back) s, count) refl)
 
 data RunEnd (l : List ℕ) : Type 0 where
   at_opcode : (run : List ℕ) (c : ℕ) (rest : List ℕ) → l ≡ run ++ c ∷ rest → is_run run ≡ true → is_prefix c ≡ false → RunEnd l
   all : is_run l ≡ true → RunEnd l
 
-both : (a b : Bool) → a ≡ true → b ≡ true → (a && b) ≡ true
-both a b h k = grind arith
-
-run_more : (x : ℕ) (l : List ℕ) → is_prefix x ≡ true → RunEnd l → RunEnd (x ∷ l)
-run_more x l e (at_opcode run c rest h is plain) = at_opcode (x ∷ run) c rest (ap (λ m. x ∷ m) h) (both (is_prefix x) (is_run run) e is) plain
-run_more x l e (all is) = all (both (is_prefix x) (is_run l) e is)
-
-run_by : (x : ℕ) (l : List ℕ) (test : Bool) → is_prefix x ≡ test → RunEnd l → RunEnd (x ∷ l)
-run_by x l true e r = run_more x l e r
-run_by x l false e r = at_opcode [] x l refl refl e
-
 run_end : (l : List ℕ) → RunEnd l
 run_end [] = all refl
-run_end (x ∷ l) = run_by x l (is_prefix x) refl (run_end l)
+run_end (x ∷ l) = by (is_prefix x) refl (run_end l)
+  where
+    by : (test : Bool) → is_prefix x ≡ test → RunEnd l → RunEnd (x ∷ l)
+    by true e (at_opcode run c rest h is plain) = at_opcode (x ∷ run) c rest (ap (λ m. x ∷ m) h) (rw e is) plain
+    by true e (all is) = all (rw e is)
+    by false e r = at_opcode [] x l refl refl e
 
-run_stops : (beginning : List ℕ) (c : ℕ) (rest : List ℕ) (s : State ℕ) → is_prefix c ≡ false → run_from (c ∷ rest) beginning s ≡ outcome (Ok (beginning, c)) (advanced 1 s)
-run_stops beginning c rest s e = ap (λ t. if t then run_from rest (beginning ++ c ∷ []) (advanced 1 s) else outcome (Ok (beginning, c)) (advanced 1 s)) e
-
-abbrev head_of : Outcome (List ℕ × ℕ) → Outcome (Prefixes × ℕ)
-head_of o = then_from o.answer o.after (λ h. pure (reading_of h.0, h.1))
-
-head_is : (s : State ℕ) (o : Outcome (List ℕ × ℕ)) → run_from s.left [] s ≡ o → head_step s ≡ head_of o
+head_is : (s : State ℕ) (o : Outcome (List ℕ × ℕ)) → run_from s.left [] s ≡ o → head_step s ≡ read_of o
 unfolding head_step run_step
-head_is s o e = ap head_of e
+head_is s o e = ap read_of e
 
 pub takes_head : (run : List ℕ) (c : ℕ) → is_run run ≡ true → is_prefix c ≡ false → Takes head_step (run ++ c ∷ []) (Ok (reading_of run, c))
 takes_head run c is plain = record {
@@ -70,8 +49,7 @@ takes_head run c is plain = record {
       head_is s (outcome (Ok (run, c)) (advanced (length (run ++ c ∷ [])) s))
       (ap (λ l. run_from l [] s) (h ∙ append_assoc run (c ∷ []) rest)
       ∙ run_passes run [] (c ∷ rest) s is
-      ∙ run_stops run c rest (advanced (length run) s) plain
-      ∙ ap (λ u. outcome (Ok (run, c)) u) (advanced_twice (length run) 1 s ∙ ap (λ n. advanced n s) (sym (length-append run (c ∷ [])))));
+      ∙ rw (plain, advanced_twice (length run) 1 s, length-append run (c ∷ [])) refl);
 }
 
 pub out_head : (q : List ℕ) → is_run q ≡ true → Out head_step q
@@ -105,14 +83,7 @@ abbrev pub OpcodeBetween : ℕ → List ℕ → Type 0
 OpcodeBetween c q = (map : Map) × (back : List ℕ) × (escape_bytes map ≡ (c ∷ q) ++ back)
 
 pub vex_final : (p : Prefixes) → vex_refusal p ≢ ExhaustedInput
-vex_final p = by (p.operand_size || (p.lock || _))
-  where
-    by : (test : Bool) → (if test then InvalidPrefixes else IncompleteDecoder) ≢ ExhaustedInput
-    by true e = cc
-    by false e = cc
-
-equal : (b n : ℕ) → (b == n) ≡ true → b ≡ n
-equal b n h = grind (arith, nat_tests)
+vex_final p e = grind (arith, nat_tests)
 
 module _ (p : Prefixes) (c : ℕ) where
   abbrev AfterOpcode : List ℕ → List ℕ → Result (Map × ℕ) DecodeError → Type 0
@@ -131,8 +102,8 @@ module _ (p : Prefixes) (c : ℕ) where
   escaped d q z h = by (d == 0x38) (d == 0x3a) refl refl
     where
       by : (a b : Bool) → (d == 0x38) ≡ a → (d == 0x3a) ≡ b → EndsWell (AfterOpcode q) (Between q) (if a then (next_byte >>= λ b. pure (Of38, b)) else (if b then (next_byte >>= λ b. pure (Of3a, b)) else pure (Of, d)))
-      by true b e f = third Of38 d q (ap (λ x. x ∷ 0x38 ∷ []) (sym z) ∙ ap (λ x. c ∷ x ∷ []) (sym (equal d 0x38 e))) h (λ b. refl)
-      by false true e f = third Of3a d q (ap (λ x. x ∷ 0x3a ∷ []) (sym z) ∙ ap (λ x. c ∷ x ∷ []) (sym (equal d 0x3a f))) h (λ b. refl)
+      by true b e f = third Of38 d q (ap (λ x. x ∷ 0x38 ∷ []) (sym z) ∙ ap (λ x. c ∷ x ∷ []) (sym (eqb-true d 0x38 e))) h (λ b. refl)
+      by false true e f = third Of3a d q (ap (λ x. x ∷ 0x3a ∷ []) (sym z) ∙ ap (λ x. c ∷ x ∷ []) (sym (eqb-true d 0x3a f))) h (λ b. refl)
       by false false e f = ends_pure (AfterOpcode q) (Between q) (Of, d) (ap (λ m. c ∷ (m ++ [])) h ∙ ap (λ x. x ∷ d ∷ []) z, ap (λ t. not (t || (d == 0x3a))) e ∙ ap not f)
 
   pub ends_opcode : is_prefix c ≡ false → EndsWell (OpcodeYields p c) (OpcodeBetween c) (opcode_step p c)
@@ -142,8 +113,8 @@ module _ (p : Prefixes) (c : ℕ) where
       by : (v z : Bool) → is_vex c ≡ v → (c == 0x0f) ≡ z → EndsWell (OpcodeYields p c) (OpcodeBetween c) (if v then refuse (vex_refusal p) else (if z then (next_byte >>= λ d. read_escaped d) else pure (One, c)))
       by true z e f = ends_refuse (OpcodeYields p c) (OpcodeBetween c) (vex_refusal p) (vex_final p) (refl, e, refl)
       by false true e f = ends_then IsByte IsEmpty (OpcodeYields p c) (OpcodeBetween c) next_byte (λ d. read_escaped d) ends_byte
-          (λ q k. (Of, [], ap (λ x. x ∷ []) (sym (equal c 0x0f f)) ∙ ap (λ m. c ∷ (m ++ [])) (sym k)))
-          (λ q d k. escaped d q (equal c 0x0f f) k)
+          (λ q k. (Of, [], ap (λ x. x ∷ []) (sym (eqb-true c 0x0f f)) ∙ ap (λ m. c ∷ (m ++ [])) (sym k)))
+          (λ q d k. escaped d q (eqb-true c 0x0f f) k)
       by false false e f = ends_pure (OpcodeYields p c) (OpcodeBetween c) (One, c) (refl, ap (λ t. not (t || ((c == 0x0f) || is_vex c))) plain ∙ ap (λ t. not (t || is_vex c)) f ∙ ap not e)
 
 -- the first byte after the run, and those up to the opcode
@@ -163,48 +134,24 @@ pub entry_is : (map : Map) (b : ℕ) (tail : List ℕ) → escape_bytes map ++ b
 entry_is One b tail = refl
 entry_is map b tail = refl
 
-not_first : (a b : Bool) → not (a || b) ≡ true → a ≡ false
-not_first a b h = grind arith
-
-not_second : (a b : Bool) → not (a || b) ≡ true → b ≡ false
-not_second a b h = grind arith
-
-or_first : (a b : Bool) → (a || b) ≡ false → a ≡ false
-or_first a b h = grind arith
-
-or_second : (a b : Bool) → (a || b) ≡ false → b ≡ false
-or_second a b h = grind arith
-
 pub entry_plain : (map : Map) (b : ℕ) → is_opcode map b ≡ true → is_prefix (entry_byte map b) ≡ false
-entry_plain One b h = not_first (is_prefix b) ((b == 0x0f) || is_vex b) h
+entry_plain One b h = (or_parts (is_prefix b) ((b == 0x0f) || is_vex b) (not-true _ h)).0
 entry_plain map b h = refl
-
-takes_one : (p : Prefixes) (c : ℕ) (v z : Bool) → v ≡ false → z ≡ false → Takes {X = Map × ℕ} (if v then refuse (vex_refusal p) else (if z then (next_byte >>= λ d. read_escaped d) else pure (One, c))) [] (Ok (One, c))
-takes_one p c false false e f = takes_pure (Ok (One, c))
-takes_one p c true z e f = absurd cc
-takes_one p c false true e f = absurd cc
-
-takes_of : (d : ℕ) (a b : Bool) → a ≡ false → b ≡ false → Takes {X = Map × ℕ} (if a then (next_byte >>= λ x. pure (Of38, x)) else (if b then (next_byte >>= λ x. pure (Of3a, x)) else pure (Of, d))) [] (Ok (Of, d))
-takes_of d false false e f = takes_pure (Ok (Of, d))
-takes_of d true b e f = absurd cc
-takes_of d false true e f = absurd cc
 
 pub takes_opcode : (p : Prefixes) (map : Map) (b : ℕ) → is_opcode map b ≡ true → Takes (opcode_step p (entry_byte map b)) (entry_rest map b) (Ok (map, b))
 unfolding opcode_step
 takes_opcode p One b h =
-    let k : ((b == 0x0f) || is_vex b) ≡ false = not_second (is_prefix b) ((b == 0x0f) || is_vex b) h in
-    takes_one p b (is_vex b) (b == 0x0f) (or_second (b == 0x0f) (is_vex b) k) (or_first (b == 0x0f) (is_vex b) k)
-takes_opcode p Of b h = takes_bind next_byte (λ d. read_escaped d) (b ∷ []) [] b (Ok (Of, b)) (takes_byte b) (takes_of b (b == 0x38) (b == 0x3a) (not_first (b == 0x38) (b == 0x3a) h) (not_second (b == 0x38) (b == 0x3a) h))
+    let parts = or_parts (b == 0x0f) (is_vex b) (or_parts (is_prefix b) ((b == 0x0f) || is_vex b) (not-true _ h)).1 in
+    rw (parts.1, parts.0) (takes_pure (Ok (One, b)))
+takes_opcode p Of b h =
+    let parts = or_parts (b == 0x38) (b == 0x3a) (not-true _ h) in
+    takes_bind next_byte (λ d. read_escaped d) (b ∷ []) [] b (Ok (Of, b)) (takes_byte b) (rw (parts.0, parts.1) (takes_pure (Ok (Of, b))))
 takes_opcode p Of38 b h = takes_bind next_byte (λ d. read_escaped d) (0x38 ∷ []) (b ∷ []) 0x38 (Ok (Of38, b)) (takes_byte 0x38) (takes_map next_byte (λ x. (Of38, x)) (b ∷ []) b (takes_byte b))
 takes_opcode p Of3a b h = takes_bind next_byte (λ d. read_escaped d) (0x3a ∷ []) (b ∷ []) 0x3a (Ok (Of3a, b)) (takes_byte 0x3a) (takes_map next_byte (λ x. (Of3a, x)) (b ∷ []) b (takes_byte b))
 
 pub takes_vex : (p : Prefixes) (c : ℕ) → is_vex c ≡ true → Takes (opcode_step p c) [] (Err (vex_refusal p))
 unfolding opcode_step
-takes_vex p c h = by (is_vex c) h
-  where
-    by : (v : Bool) → v ≡ true → Takes {X = Map × ℕ} (if v then refuse (vex_refusal p) else (if c == 0x0f then (next_byte >>= λ d. read_escaped d) else pure (One, c))) [] (Err (vex_refusal p))
-    by true e = takes_pure (Err (vex_refusal p))
-    by false e = absurd cc
+takes_vex p c h = rw h (takes_pure (Err (vex_refusal p)))
 
 pub vex_plain : (c : ℕ) → is_vex c ≡ true → is_prefix c ≡ false
 vex_plain c h = grind (arith, nat_tests)
@@ -215,10 +162,6 @@ pub data EscapeBeginning (beginning : List ℕ) : Type 0 where
   none : beginning ≡ [] → EscapeBeginning beginning
   one : beginning ≡ 0x0f ∷ [] → EscapeBeginning beginning
   two : (d : ℕ) → beginning ≡ 0x0f ∷ d ∷ [] → ((p : Prefixes) → Out (opcode_step p 0x0f) (d ∷ [])) → EscapeBeginning beginning
-
-out_two : (p : Prefixes) (d : ℕ) → Out (read_escaped d) [] → Out (opcode_step p 0x0f) (d ∷ [])
-unfolding opcode_step
-out_two p d u = out_after next_byte (λ d. read_escaped d) (d ∷ []) [] d (takes_byte d) u
 
 pub out_one : (p : Prefixes) → Out (opcode_step p 0x0f) []
 unfolding opcode_step
@@ -231,11 +174,10 @@ beginning_two d (x ∷ y ∷ []) back e u = two d (cc) u
 beginning_two d (x ∷ y ∷ z ∷ rest) back e u = absurd cc
 
 pub escape_beginning : (map : Map) (beginning back : List ℕ) → escape_bytes map ≡ beginning ++ back → EscapeBeginning beginning
+unfolding opcode_step
 escape_beginning One beginning back e = none (no_beginning beginning back e)
 escape_beginning Of [] back e = none refl
-escape_beginning Of (x ∷ rest) back e =
-    let following : [] ≡ rest ++ back = cc in
-    let empty = no_beginning rest back following in
-    one (cc)
-escape_beginning Of38 beginning back e = beginning_two 0x38 beginning back e (λ p. out_two p 0x38 (out_bind next_byte (λ b. pure (Of38, b)) [] out_byte))
-escape_beginning Of3a beginning back e = beginning_two 0x3a beginning back e (λ p. out_two p 0x3a (out_bind next_byte (λ b. pure (Of3a, b)) [] out_byte))
+escape_beginning Of (x ∷ []) back e = one (cc)
+escape_beginning Of (x ∷ y ∷ rest) back e = absurd cc
+escape_beginning Of38 beginning back e = beginning_two 0x38 beginning back e (λ p. out_after next_byte (λ d. read_escaped d) (0x38 ∷ []) [] 0x38 (takes_byte 0x38) (out_bind next_byte (λ b. pure (Of38, b)) [] out_byte))
+escape_beginning Of3a beginning back e = beginning_two 0x3a beginning back e (λ p. out_after next_byte (λ d. read_escaped d) (0x3a ∷ []) [] 0x3a (takes_byte 0x3a) (out_bind next_byte (λ b. pure (Of3a, b)) [] out_byte))

@@ -25,24 +25,9 @@ only_answer strict xs r n a = once (rows_of packed) strict xs r (answer_of stric
 pub length_bounds : (strict : Bool) (xs : List ℕ) (i : Instruction) → answer_of strict xs ≡ Ok i → (0 < i.length) × (i.length ≤ 15) × (i.length ≤ length xs) × (i.length ≡ count_of strict xs)
 length_bounds strict xs i e = accepted_within (rows_of packed) strict xs i (count_of strict xs) (subst (λ r. IsAnswer (rows_of packed) strict xs r (count_of strict xs)) e (is_answer strict xs))
 
-pub lengths : (strict : Bool) (xs : List ℕ) (i : Instruction) → answer_of strict xs ≡ Ok i → (0 < i.length) × (i.length ≤ length xs)
-lengths strict xs i e = let h = length_bounds strict xs i e in (h.0, h.2)
-
-pub short_lengths : (strict : Bool) (xs : List ℕ) (i : Instruction) → answer_of strict xs ≡ Ok i → i.length ≤ 15
-short_lengths strict xs i e = (length_bounds strict xs i e).1
-
-pub lengths_are_counts : (strict : Bool) (xs : List ℕ) (i : Instruction) → answer_of strict xs ≡ Ok i → i.length ≡ count_of strict xs
-lengths_are_counts strict xs i e = (length_bounds strict xs i e).3
-
 -- an answer other than ExhaustedInput stays when bytes are appended, and so does its count
-answer_stays : (strict : Bool) (xs ys : List ℕ) → answer_of strict xs ≢ Err ExhaustedInput → (answer_of strict xs ≡ answer_of strict (xs ++ ys)) × (count_of strict xs ≡ count_of strict (xs ++ ys))
+pub answer_stays : (strict : Bool) (xs ys : List ℕ) → answer_of strict xs ≢ Err ExhaustedInput → (answer_of strict xs ≡ answer_of strict (xs ++ ys)) × (count_of strict xs ≡ count_of strict (xs ++ ys))
 answer_stays strict xs ys d = only_answer strict (xs ++ ys) (answer_of strict xs) (count_of strict xs) (stays (rows_of packed) strict xs ys (answer_of strict xs) (count_of strict xs) d (is_answer strict xs))
-
-pub answers_of_more : (strict : Bool) (xs ys : List ℕ) → answer_of strict xs ≢ Err ExhaustedInput → answer_of strict (xs ++ ys) ≡ answer_of strict xs
-answers_of_more strict xs ys d = sym (answer_stays strict xs ys d).0
-
-pub counts_of_more : (strict : Bool) (xs ys : List ℕ) → answer_of strict xs ≢ Err ExhaustedInput → count_of strict (xs ++ ys) ≡ count_of strict xs
-counts_of_more strict xs ys d = sym (answer_stays strict xs ys d).1
 
 pub fifteen_are_enough : (strict : Bool) (xs : List ℕ) → 15 ≤ length xs → answer_of strict xs ≢ Err ExhaustedInput
 fifteen_are_enough strict xs enough e = never_open (rows_of packed) strict xs (count_of strict xs) enough (subst (λ r. IsAnswer (rows_of packed) strict xs r (count_of strict xs)) e (is_answer strict xs))

@@ -1,6 +1,6 @@
 -- What holds of the records of all rows: sizes up to 64 bytes, only 8F left out, and at which bytes 8F and the fences
 -- are.
-use Rattle.std.proofs.Common.{◌≡◌, ◌≢◌, ℕ, ◌<◌, ◌≤◌, Bool, true, false, if◌then◌else◌, List, Some, None, Ok, refl, sym, ap, ◌∙◌, arith, [], ◌∷◌, not, ◌||◌, ◌&&◌, ◌==◌, eqb, IfSome, subst}
+use Rattle.std.proofs.Common.{◌≡◌, ◌≢◌, ℕ, ◌<◌, ◌≤◌, Bool, true, false, List, Some, None, Ok, refl, sym, ap, ◌∙◌, arith, [], ◌∷◌, not, ◌||◌, ◌&&◌, ◌==◌, eqb, IfSome, subst}
 use Rattle.std.proofs.lemmas.Bool.{and_parts, cond_both, eqb-true}
 use Rattle.x86_fields.specs.declared.prefixes.Prefixes.{Prefixes}
 use Rattle.x86_fields.specs.Run.{reading_of}
@@ -37,11 +37,7 @@ GroupIsSmall = (strict : Bool) (row : TableRow) (p : Prefixes) (m : ℕ) → ((g
 
 module _ (plain : PlainIsSmall) (group : GroupIsSmall) where
   record_small : (strict : Bool) (row : TableRow) (p : Prefixes) (m : ℕ) → ((record_of strict row p).plan m).size ≤ 64
-  record_small strict row p m = by (is_group row.form)
-    where
-      by : (t : Bool) → ((if t then group_record strict row p else form_record row p).plan m).size ≤ 64
-      by true = group strict row p m
-      by false = plain row p m
+  record_small strict row p m = cond_both (is_group row.form) (group_record strict row p) (form_record row p) (λ r. (r.plan m).size ≤ 64) (λ _. group strict row p m) (λ _. plain row p m)
 
   -- an instruction has the size of its plan
   sentence_small : (rows : Rows) (strict : Bool) (s : List ℕ) (a : Instruction) → IsSentence rows strict s a → a.operand_list.mem_size < 65
@@ -75,18 +71,11 @@ GroupIsBuilt = (strict : Bool) (row : TableRow) (p : Prefixes) (m : ℕ) (w : Mo
 
 module _ (plain : PlainIsBuilt) (passes : PlainPasses) (group_passes : GroupPasses) (group : GroupIsBuilt) where
   no_gap_at_opcode : (strict : Bool) (row : TableRow) (p : Prefixes) → (record_of strict row p).at_opcode ≢ Some Incomplete
-  no_gap_at_opcode strict row p = by (is_group row.form)
-    where
-      by : (t : Bool) → (if t then group_record strict row p else form_record row p).at_opcode ≢ Some Incomplete
-      by true e = group_passes strict row p e
-      by false e = let none = passes row p in absurd cc
+  no_gap_at_opcode strict row p = cond_both (is_group row.form) (group_record strict row p) (form_record row p) (λ r. r.at_opcode ≢ Some Incomplete) (λ _. group_passes strict row p) (λ _ e. let none = passes row p in absurd cc)
 
   gap_of_8f : (strict : Bool) (row : TableRow) (p : Prefixes) (m : ℕ) (w : Moment) → ((record_of strict row p).plan m).verdict ≡ Refuses Incomplete w → row.form ≡ form.ModRM_0x8f
-  gap_of_8f strict row p m w = by (is_group row.form) refl
-    where
-      by : (t : Bool) → is_group row.form ≡ t → ((if t then group_record strict row p else form_record row p).plan m).verdict ≡ Refuses Incomplete w → row.form ≡ form.ModRM_0x8f
-      by true is e = group strict row p m w is e
-      by false is e = absurd (plain row p m w is e)
+  gap_of_8f strict row p m w = cond_both (is_group row.form) (group_record strict row p) (form_record row p) (λ r. (r.plan m).verdict ≡ Refuses Incomplete w → row.form ≡ form.ModRM_0x8f)
+      (λ is. group strict row p m w is) (λ is e. absurd (plain row p m w is e))
 
   tail_of_8f : (strict : Bool) (row : TableRow) (p : Prefixes) (m : ℕ) (tail : List ℕ) → RefusesTail ((record_of strict row p).plan m) p m tail Incomplete → row.form ≡ form.ModRM_0x8f
   tail_of_8f strict row p m tail (at_modrm e _) = gap_of_8f strict row p m _ e

@@ -1,5 +1,5 @@
 -- The step of a row, by the law of what is read of it: it takes its pieces whatever follows, and runs out between them.
-use Rattle.std.proofs.Common.{◌≡◌, ◌≢◌, ◌⊎◌, inl, inr, ℕ, ◌+◌, ◌≤◌, List, [], ◌++◌, length, Result, Ok, Err, refl, sym, ap, subst, ◌∙◌, arith, length-append, append_assoc}
+use Rattle.std.proofs.Common.{◌≡◌, ◌≢◌, ℕ, ◌≤◌, List, [], ◌++◌, length, Result, Ok, Err, refl, sym, ap, subst, ◌∙◌, arith, length-append, append_assoc}
 use Rattle.std.proofs.lemmas.List.{append-nil}
 use Rattle.x86_arch.specs.Reader.{State, advanced}
 use Rattle.x86_fields.specs.declared.errors.DecodeError.{DecodeError}
@@ -16,20 +16,16 @@ use Rattle.x86_operands.specs.PlanSteps.{record_step, error_of}
 use Rattle.x86_operands.specs.Pieces.{SpellsRow, RefusesRow, BetweenRow, IsOpenRow}
 use Rattle.x86_operands.proofs.RowLemmas.{row_read, row_refused, row_open, row_wherever, row_refuses}
 
-pub exhausted_or_not : (e : DecodeError) → (e ≡ ExhaustedInput) ⊎ (e ≢ ExhaustedInput)
-exhausted_or_not ExhaustedInput = inl refl
-exhausted_or_not e = inr (λ h. cc)
-
 -- no fault is for want of bytes
 pub fault_error : (f : Fault) → error_of f ≢ ExhaustedInput
 fault_error BadOpcode e = cc
 fault_error f e = cc
 
-ok_apart : (reading : Reading) → ◌≡◌ {A = Result Reading DecodeError} (Ok reading) (Err ExhaustedInput) → ⊥
-ok_apart reading e = cc
+pub ok_apart : {X : Type 0} (x : X) (e : DecodeError) → ◌≡◌ {A = Result X DecodeError} (Ok x) (Err e) → ⊥
+ok_apart x e h = cc
 
-same_error : (d e : DecodeError) → ◌≡◌ {A = Result Reading DecodeError} (Err d) (Err e) → d ≡ e
-same_error d e h = cc
+pub same_error : {X : Type 0} (e f : DecodeError) → ◌≡◌ {A = Result X DecodeError} (Err e) (Err f) → e ≡ f
+same_error e f h = cc
 
 -- what the bytes are that a row takes with this answer
 abbrev pub RowYields : RowRecord → Prefixes → List ℕ → Result Reading DecodeError → Type 0
@@ -52,25 +48,16 @@ module _ (r : RowRecord) (p : Prefixes) where
   -- ---- on a prefix of an input on which the row is open it is open at the same place
 
   module _ (s : State ℕ) (opened : (step s).answer ≡ Err ExhaustedInput) (is : IsOpenRow r p s (step s).after) (t : State ℕ) (back : List ℕ) (beginning : s.left ≡ t.left ++ back) where
-    not_read : (reading : Reading) → (step t).answer ≡ Ok reading → ⊥
-    not_read reading h =
+    stays_open : (a : Result Reading DecodeError) → (step t).answer ≡ a → (step t).answer ≡ Err ExhaustedInput
+    stays_open (Ok reading) h =
         let read = row_read r p t reading h in
         let here = row_wherever r p s read.bytes (read.rest ++ back) reading (beginning_of_more read.bytes read.rest back t.left s.left read.beginning beginning) read.spelled in
-        ok_apart reading (sym (ap (λ o. o.answer) here) ∙ opened)
-
-    not_refused : (e : DecodeError) → (step t).answer ≡ Err e → e ≢ ExhaustedInput → ⊥
-    not_refused e h other =
-        let no = row_refused r p t e h other in
+        absurd (ok_apart reading ExhaustedInput (sym (ap (λ o. o.answer) here) ∙ opened))
+    stays_open (Err ExhaustedInput) h = h
+    stays_open (Err e) h =
+        let no = row_refused r p t e h (λ same. cc) in
         let here = row_refuses r p s no.bytes (no.rest ++ back) no.fault (beginning_of_more no.bytes no.rest back t.left s.left no.beginning beginning) no.refuses in
-        fault_error no.fault (same_error (error_of no.fault) ExhaustedInput (sym (ap (λ o. o.answer) here) ∙ opened))
-
-    stays_open : (a : Result Reading DecodeError) → (step t).answer ≡ a → (step t).answer ≡ Err ExhaustedInput
-    stays_open (Ok reading) h = absurd (not_read reading h)
-    stays_open (Err e) h = by (exhausted_or_not e)
-      where
-        by : (e ≡ ExhaustedInput) ⊎ (e ≢ ExhaustedInput) → (step t).answer ≡ Err ExhaustedInput
-        by (inl same) = h ∙ ap (λ d. Err d) same
-        by (inr other) = absurd (not_refused e h other)
+        absurd (fault_error no.fault (same_error {X = Reading} (error_of no.fault) ExhaustedInput (sym (ap (λ o. o.answer) here) ∙ opened)))
 
     same_place : (rest : List ℕ) → t.left ≡ is.bytes ++ rest → step t ≡ outcome (Err ExhaustedInput) (advanced (length is.bytes) t)
     same_place rest begins =
@@ -88,34 +75,19 @@ module _ (r : RowRecord) (p : Prefixes) where
   -- ---- what a row takes has the pieces of the row, or ends between them
 
   module _ (s : State ℕ) where
-    read : (reading : Reading) → (step s).answer ≡ Ok reading → Ends (RowYields r p) (BetweenRow r p) step s
-    read reading h =
+    ends_by : (a : Result Reading DecodeError) → (step s).answer ≡ a → Ends (RowYields r p) (BetweenRow r p) step s
+    ends_by (Ok reading) h =
         let is = row_read r p s reading h in
         settles is.bytes is.rest (Ok reading) is.beginning (takes_row is.bytes reading is.spelled) (final_ok reading) is.spelled
-
-    refused : (e : DecodeError) → (step s).answer ≡ Err e → e ≢ ExhaustedInput → Ends (RowYields r p) (BetweenRow r p) step s
-    refused e h other =
-        let is = row_refused r p s e h other in
-        settles is.bytes is.rest (Err e) is.beginning (subst (λ d. Takes step is.bytes (Err d)) (sym is.named) (takes_row_refused is.bytes is.fault is.refuses)) (final_err e other) (is.fault, is.named, is.refuses)
-
-    between : (step s).answer ≡ Err ExhaustedInput → Ends (RowYields r p) (BetweenRow r p) step s
-    between h = let is = row_open r p s h in runs_out is.bytes is.rest is.beginning is.between (open_on s h is)
-
-    ends_by : (a : Result Reading DecodeError) → (step s).answer ≡ a → Ends (RowYields r p) (BetweenRow r p) step s
-    ends_by (Ok reading) h = read reading h
-    ends_by (Err e) h = by (exhausted_or_not e)
-      where
-        by : (e ≡ ExhaustedInput) ⊎ (e ≢ ExhaustedInput) → Ends (RowYields r p) (BetweenRow r p) step s
-        by (inl same) = between (h ∙ ap (λ d. Err d) same)
-        by (inr other) = refused e h other
+    ends_by (Err ExhaustedInput) h = let is = row_open r p s h in runs_out is.bytes is.rest is.beginning is.between (open_on s h is)
+    ends_by (Err e) h =
+        let is = row_refused r p s e h (λ same. cc) in
+        settles is.bytes is.rest (Err e) is.beginning (subst (λ d. Takes step is.bytes (Err d)) (sym is.named) (takes_row_refused is.bytes is.fault is.refuses)) (final_err e (λ same. cc)) (is.fault, is.named, is.refuses)
 
   pub ends_row : EndsWell (RowYields r p) (BetweenRow r p) step
   ends_row s = ends_by s (step s).answer refl
 
   -- ---- the row halts on bytes that end between its pieces
-
-  no_more : (b rest q : List ℕ) → q ≡ b ++ rest → length q ≤ length b → length b ≡ length q
-  no_more b rest q e le = let long : length q ≡ length b + length rest = ap length e ∙ length-append b rest in omega arith
 
   halts_by : (q : List ℕ) → BetweenRow r p q → Ends (RowYields r p) (BetweenRow r p) step (fresh q) → Halts step q
   halts_by q between (settles bytes rest a beginning takes final _) = over bytes rest a beginning takes final
@@ -129,7 +101,7 @@ module _ (r : RowRecord) (p : Prefixes) where
 
       by : IsOpenRow r p (fresh q) (step (fresh q)).after → Halts step q
       by is =
-          let all : length is.bytes ≡ length q = no_more is.bytes is.rest q is.beginning (is.longest q [] (sym (append-nil q)) between) in
+          let all : length is.bytes ≡ length q = let most : length q ≤ length is.bytes = is.longest q [] (sym (append-nil q)) between in omega (arith, length-append {A = ℕ}, ap length is.beginning) in
           out (λ t left. open_on (fresh q) answer is is.rest [] (sym (append-nil is.rest)) t (left ∙ is.beginning) ∙ ap (λ n. outcome (Err ExhaustedInput) (advanced n t)) all)
 
   pub halts_row : (q : List ℕ) → BetweenRow r p q → Halts step q

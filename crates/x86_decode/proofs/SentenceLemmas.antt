@@ -1,5 +1,6 @@
 -- What the answer of a sentence has: tied operands, and the address of its raw fields.
-use Rattle.std.proofs.Common.{◌≡◌, ℕ, ◌<◌, Bool, true, false, if◌then◌else◌, List, ◌∷◌, ◌++◌, All, Some, Result, Ok, Err, IfOk, length, refl, sym, ap, subst, ◌∙◌}
+use Rattle.std.proofs.Common.{◌≡◌, ℕ, ◌<◌, Bool, true, false, List, ◌∷◌, ◌++◌, All, Some, Result, Ok, Err, IfOk, length, refl, sym, ap, subst, ◌∙◌}
+use Rattle.std.proofs.lemmas.Bool.{cond_both}
 use Rattle.std.specs.Prelude.{FitsSigned}
 use Rattle.std.specs.Int.{w32}
 use Rattle.x86_fields.specs.declared.errors.DecodeError.{DecodeError}
@@ -29,11 +30,7 @@ use Rattle.x86_decode.proofs.PrintedLemmas.{printed_answer}
 
 -- clearing 66 leaves 67
 seen_address_size : (map : Map) (b : ℕ) (p : Prefixes) → (seen_by map b p).address_size ≡ p.address_size
-seen_address_size map b p = by (clears map (column_of p) b)
-  where
-    by : (t : Bool) → (if t then record p { operand_size = false } else p).address_size ≡ p.address_size
-    by true = refl
-    by false = refl
+seen_address_size map b p = cond_both (clears map (column_of p) b) (record p { operand_size = false }) p (λ q. q.address_size ≡ p.address_size) (λ _. refl) (λ _. refl)
 
 module _ (rows : Rows) (strict : Bool) (s : List ℕ) (a : Instruction) (is : IsSentence rows strict s a) where
   abbrev row_prefixes : Prefixes
@@ -57,17 +54,10 @@ abbrev HaveTheForm : Type 0
 HaveTheForm = (raw : Raw) → FitsSigned w32 raw.disp → operand_form raw.address_size (shape raw).1 ≡ Some (raw_form raw)
 
 module _ (shapes : AreShapes) (rows : Rows) (strict : Bool) (s : List ℕ) (a : Instruction) (is : IsSentence rows strict s a) (raw : Raw) (k : ℕ) (memory : raw_within rows strict s is.reading is.whole ≡ Some raw) (named : names_modrm (encodings_within rows strict s is.reading is.whole) k ≡ true) where
-  shape_here : (slot_at a k ≡ (shape raw).0) × (operand_at a k ≡ (shape raw).1)
-  shape_here =
-      let at : HasShapeAt is.reading k raw = shapes (row_record rows strict s a is) (row_prefixes rows strict s a is) is.whole.tail is.reading is.whole.row_spelled raw memory k named in
-      let here = is_shape is.reading (length s) k raw at in
+  pub sentence_shape : (slot_at a k ≡ (shape raw).0) × (operand_at a k ≡ (shape raw).1)
+  sentence_shape =
+      let here = is_shape is.reading (length s) k raw (shapes (row_record rows strict s a is) (row_prefixes rows strict s a is) is.whole.tail is.reading is.whole.row_spelled raw memory k named) in
       (ap (λ i. slot_at i k) is.yields ∙ here.0, ap (λ i. operand_at i k) is.yields ∙ here.1)
-
-  pub sentence_slot : slot_at a k ≡ (shape raw).0
-  sentence_slot = shape_here.0
-
-  pub sentence_operand : operand_at a k ≡ (shape raw).1
-  sentence_operand = shape_here.1
 
   -- the bytes of SIB and displacement
   address_bytes : Bytes s → Bytes is.whole.row_spelled.tail_spelled.pieces.address
@@ -87,15 +77,12 @@ module _ (shapes : AreShapes) (rows : Rows) (strict : Bool) (s : List ℕ) (a : 
       let p : Prefixes = row_prefixes rows strict s a is in
       let fits : FitsSigned w32 raw.disp = memory_fits p (modrm_of r.modrm w.row_spelled.modrm) q.address q.memory raw q.address_spelled memory (address_bytes (bytes_of s bytes)) in
       let short : (reading_of w.run).address_size ≡ raw.address_size = sym (seen_address_size w.map w.opcode (reading_of w.run)) ∙ sym (size r p w.tail is.reading w.row_spelled raw memory) in
-      ap (λ t. operand_form t (operand_at a k)) short ∙ ap (operand_form raw.address_size) sentence_operand ∙ form raw fits
+      ap (λ t. operand_form t (operand_at a k)) short ∙ ap (operand_form raw.address_size) sentence_shape.1 ∙ form raw fits
 
 -- an answer has tied operands
 pub answer_tied : (rows : Rows) (strict : Bool) (input : List ℕ) (r : Result Instruction DecodeError) (n : ℕ) → IsAnswer rows strict input r n → IfOk r HasTiedOperands
 answer_tied rows strict input (Ok a) n h = sentence_tied rows strict h.sentence a h.is
 answer_tied rows strict input (Err e) n h = tt
-
-pub accepted_tied : (rows : Rows) (strict : Bool) (input : List ℕ) (a : Instruction) (n : ℕ) → IsAnswer rows strict input (Ok a) n → HasTiedOperands a
-accepted_tied rows strict input a n h = sentence_tied rows strict h.sentence a h.is
 
 pub printed_tied : (strict : Bool) (xs : List ℕ) (i : Instruction) → answer_of strict xs ≡ Ok i → HasTiedOperands i
 printed_tied strict xs i e = answer_tied (rows_of packed) strict xs (Ok i) (count_of strict xs) (printed_answer strict xs (Ok i) (sym e))

@@ -17,7 +17,6 @@ use Rattle.x86_fields.specs.Errors.{is_exhausted}
 use Rattle.x86_decode.specs.Walk.{walk_within, bounded_outcome, judgement, walk_bounded}
 use Rattle.x86_decode.proofs.BoundLemmas.{same_state}
 use Rattle.x86_decode.proofs.BodyLemmas.{body_moves, Moves}
-use Rattle.x86_decode.proofs.Theorem.{closed_error}
 
 module _ (rows : Rows) (strict : Bool) (m t : State ℕ) (a : ℕ) (r : Result Reading DecodeError) where
   -- the reader's state after the reading, and the outcome of the walk
@@ -71,7 +70,7 @@ ends_judged rows strict m t a n i j w e h = ap (λ k. outcome (holding (record i
     by false l = ap (λ b. outcome (holding (record i { length = n }) (if b then Ok tt else Err InvalidPrefixes)) t) l ∙ ends_locked rows strict m t a (reading_in i) w l
 
 pub ends_error : (rows : Rows) (strict : Bool) (m t : State ℕ) (a : ℕ) (e : DecodeError) → Walked rows strict m t a (Err e) → is_exhausted e ≡ false → outcome (Err e) t ≡ walk_bounded rows strict m
-ends_error rows strict m t a e w k = ap (λ s. outcome (Err e) s) w.at ∙ sym (w.is ∙ closed_error rows strict e t.since_mark m k)
+ends_error rows strict m t a e w k = ap (λ s. outcome (Err e) s) w.at ∙ sym (w.is ∙ rw k refl)
 
 abbrev left_open : State ℕ → ℕ → Bool → Outcome Instruction
 left_open m n t = if t then outcome (Err TooLong) (advanced 15 m) else outcome (Err ExhaustedInput) (advanced n m)

@@ -2,7 +2,7 @@ use Rattle.std.proofs.Common.{rules, ◌≡◌, true, Err, ap, ◌∙◌}
 use Rattle.x86_fields.specs.Steps.{then_from}
 use Rattle.x86_operands.specs.Encodings.{has_fields}
 use Rattle.x86_decode.specs.Walk.{found_row_step}
-use Rattle.x86_decode.proofs.LineLemmas.{row_with_modrm, form_described, reg_described}
+use Rattle.x86_decode.proofs.LineLemmas.{row_with_modrm, reg_described}
 use Rattle.x86_decode.proofs.rows.read_line.Goals as goal
 
 pub returns-in_err-modrm-clause-read : goal.returns-in_err-modrm-clause-read
