@@ -27,10 +27,6 @@ module _ (rows : Rows) (strict : Bool) where
   abbrev Answer : List ℕ → Result Instruction DecodeError → ℕ → Type 0
   Answer input r n = IsAnswer rows strict input r n
 
-  pub answer_refusal : (input : List ℕ) (n : ℕ) (e : DecodeError) → e ≢ ExhaustedInput → Answer input (Err e) n → IsRefusal rows strict input e n
-  answer_refusal input n ExhaustedInput d r = absurd (d refl)
-  answer_refusal input n e d r = r
-
   -- ---- appended bytes
 
   no_sentence_more : (q rest more : List ℕ) (e : DecodeError) → Decides rows strict q e → HasNoSentence rows strict ((q ++ rest) ++ more)

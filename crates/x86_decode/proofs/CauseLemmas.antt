@@ -10,8 +10,8 @@ use Rattle.x86_decode.specs.declared.instructions.Instruction.{Instruction}
 use Rattle.x86_decode.specs.Head.{Rows, bars_vex}
 use Rattle.x86_decode.specs.Grammar.{IsVexAfterRun, IsRefusedByRecord, case_1, case_2, case_3, case_4, Decides, by_bytes, case_5, IsRefusal, IsTooLong, IsAnswer}
 use Rattle.x86_decode.specs.Causes.{FaultsOpcode, FaultsOperand, FaultsPrefixes, LeavesOut, IsDecidedBy, IsUndecided, HasSentence}
-use Rattle.x86_decode.proofs.Theorem.{refusal_answer}
-use Rattle.x86_decode.proofs.AnswerLemmas.{once, answer_refusal}
+use Rattle.x86_decode.proofs.Theorem.{refusal_iff}
+use Rattle.x86_decode.proofs.AnswerLemmas.{once}
 
 -- what a byte string is that decides an error
 abbrev pub Faults : Rows → Bool → DecodeError → List ℕ → Type 0
@@ -58,12 +58,12 @@ module _ (rows : Rows) (strict : Bool) where
   module _ (input : List ℕ) (r : Result Instruction DecodeError) (n : ℕ) (a : IsAnswer rows strict input r n) where
     refusal : (e : DecodeError) → e ≢ ExhaustedInput → r ≡ Err e → IsDecidedBy rows strict (Faults rows strict e) input
     refusal e d same =
-        let k : IsRefusal rows strict input e n = answer_refusal rows strict input n e d (subst (λ x. IsAnswer rows strict input x n) same a) in
+        let k : IsRefusal rows strict input e n = (refusal_iff rows strict input n e d).1 (subst (λ x. IsAnswer rows strict input x n) same a) in
         record { beginning = k.beginning; rest = k.rest; begins = k.begins; is = cause_of k.beginning e k.decides; shortest = λ q more f h g. omega (arith, k.shortest q more f h g, k.long); no_sentence = k.no_sentence }
 
     refused : (e : DecodeError) → e ≢ ExhaustedInput → IsDecidedBy rows strict (Faults rows strict e) input → r ≡ Err e
     refused e d k =
-        (once rows strict input r (Err e) n (length k.beginning) a (refusal_answer rows strict input (length k.beginning) e d
+        (once rows strict input r (Err e) n (length k.beginning) a ((refusal_iff rows strict input (length k.beginning) e d).0
         (record { beginning = k.beginning; rest = k.rest; begins = k.begins; decides = decided k.beginning e k.is; long = refl; shortest = k.shortest; no_sentence = k.no_sentence }))).0
 
     pub refused_for : (e : DecodeError) → e ≢ ExhaustedInput → (r ≡ Err e) ↔ IsDecidedBy rows strict (Faults rows strict e) input

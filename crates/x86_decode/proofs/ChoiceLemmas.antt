@@ -1,5 +1,6 @@
 -- The default and the strict decoder differ on fences whose rm isn't 0, and on nothing else.
-use Rattle.std.proofs.Common.{◌≡◌, ◌↔◌, ℕ, ◌+◌, ◌-◌, ◌≤◌, ◌⊎◌, inl, inr, Bool, true, false, if◌then◌else◌, not, ◌||◌, List, [], ◌∷◌, ◌++◌, length, take, drop, Option, None, Result, Ok, Err, refl, sym, ap, subst, ◌∙◌, arith, length-append, append_assoc}
+use Rattle.std.proofs.Common.{◌≡◌, ◌↔◌, ℕ, ◌+◌, ◌-◌, ◌≤◌, ◌⊎◌, inl, inr, Bool, true, false, if◌then◌else◌, not, List, [], ◌∷◌, ◌++◌, length, take, drop, None, Result, Ok, Err, refl, sym, ap, subst, ◌∙◌, arith, length-append, append_assoc}
+use Rattle.std.proofs.lemmas.Bool.{cond_both}
 use Rattle.std.proofs.lemmas.List.{append-nil, take-append-drop}
 use Rattle.x86_arch.specs.Reader.{State, advanced}
 use Rattle.x86_fields.specs.declared.errors.DecodeError.{DecodeError}
@@ -28,13 +29,13 @@ use Rattle.x86_decode.specs.declared.instructions.Instruction.{Instruction}
 use Rattle.x86_decode.specs.Head.{Rows, column_of, escape_bytes, clears, seen_by}
 use Rattle.x86_decode.specs.Instruction.{instruction_of}
 use Rattle.x86_decode.specs.Bound.{bounded}
-use Rattle.x86_decode.specs.Grammar.{record_of, allows_lock, Whole, IsRefusedByRecord, case_3, IsAnswer}
+use Rattle.x86_decode.specs.Grammar.{record_of, allows_lock, Whole, case_3, IsAnswer}
 use Rattle.x86_decode.specs.Walk.{head_step, opcode_step, some_row, row_step, walk_within, bounded_outcome, decode_step}
 use Rattle.x86_decode.specs.Answer.{answer_of, count_of}
 use Rattle.x86_decode.specs.Choices.{IsFence, BeginsWithFence}
 use Rattle.x86_decode.proofs.BodyLemmas.{BodyYields, BodyBetween, ends_body, takes_whole, verdict, Settled, early}
 use Rattle.x86_decode.proofs.Theorem.{within, beginning_at_most, walk_answers}
-use Rattle.x86_decode.proofs.RowSteps.{ok_apart, same_error}
+use Rattle.x86_decode.proofs.RowSteps.{ok_apart}
 use Rattle.x86_decode.proofs.AnswerLemmas.{once}
 use Rattle.x86_decode.proofs.PrintedLemmas.{is_answer, only_answer}
 
@@ -53,14 +54,6 @@ compared_from (Err e) s f g each = same refl
 fence_reading : ℕ → Prefixes → Reading
 fence_reading o p = reading_from (operandless o) p o (four_of [])
 
-bare_step : (o : ℕ) (p : Prefixes) (m : ℕ) (s : State ℕ) → is_memory m ≡ false → read_plan (operandless o) p m s ≡ outcome (Ok (fence_reading o p)) s
-unfolding read_plan filled_step operands_step fence_reading
-bare_step o p m s e = rw e refl
-
-bad_step : (p : Prefixes) (m : ℕ) (s : State ℕ) → read_plan bad_operand p m s ≡ outcome (Err InvalidOperand) s
-unfolding read_plan
-bad_step p m s = refl
-
 -- the law of x86_groups on its two choices
 abbrev SameElsewhere : Type 0
 SameElsewhere = (row : TableRow) (p : Prefixes) (m : ℕ) → (group_plan row p m true ≡ group_plan row p m false) ⊎ IsFenceWithRm row.form p m
@@ -73,10 +66,9 @@ RefusedStrictly = (row : TableRow) (p : Prefixes) (m : ℕ) → IsFenceWithRm ro
 
 module _ (same_elsewhere : SameElsewhere) (fence_by_default : ReadByDefault) (fence_strictly : RefusedStrictly) where
   compared_plan : (row : TableRow) (p : Prefixes) (m : ℕ) (s : State ℕ) → (group_plan row p m true ≡ group_plan row p m false) ⊎ IsFenceWithRm row.form p m → Compared (read_plan (group_plan row p m true) p m s) (read_plan (group_plan row p m false) p m s)
+  unfolding read_plan filled_step operands_step fence_reading
   compared_plan row p m s (inl e) = same (ap (λ plan. read_plan plan p m s) e)
-  compared_plan row p m s (inr h) = differ (fence_reading h.opcode p)
-      (ap (λ plan. (read_plan plan p m s).answer) (fence_by_default row p m h) ∙ ap (λ o. o.answer) (bare_step h.opcode p m s h.register))
-      (ap (λ plan. (read_plan plan p m s).answer) (fence_strictly row p m h) ∙ ap (λ o. o.answer) (bad_step p m s))
+  compared_plan row p m s (inr h) = differ (fence_reading h.opcode p) (ap (λ plan. (read_plan plan p m s).answer) (fence_by_default row p m h) ∙ rw h.register refl) (ap (λ plan. (read_plan plan p m s).answer) (fence_strictly row p m h))
 
   -- ---- rows
 
@@ -99,9 +91,6 @@ module _ (same_elsewhere : SameElsewhere) (fence_by_default : ReadByDefault) (fe
 
   -- ---- a fence in the grammar
 
-  pub fence_group : (row : TableRow) (p : Prefixes) (m : ℕ) → IsFenceWithRm row.form p m → is_group row.form ≡ true
-  fence_group row p m h = ap is_group h.group
-
   bare_tail : (o : ℕ) (p : Prefixes) (m : ℕ) → is_memory m ≡ false → SpellsTail (operandless o) p m [] (fence_reading o p)
   unfolding fence_reading
   bare_tail o p m register = record {
@@ -113,61 +102,41 @@ module _ (same_elsewhere : SameElsewhere) (fence_by_default : ReadByDefault) (fe
   }
 
   module _ (row : TableRow) (p : Prefixes) (m : ℕ) (h : IsFenceWithRm row.form p m) where
-    passed : group_fault row.form p ≡ None
-    passed = ap (λ f. group_fault f p) h.group
-
-    modrm_length : 1 ≡ modrm_width (group_modrm row.form)
-    modrm_length = ap (λ f. modrm_width (group_modrm f)) (sym h.group)
-
-    read : m ≡ modrm_of (group_modrm row.form) (m ∷ [])
-    read = ap (λ f. modrm_of (group_modrm f) (m ∷ [])) (sym h.group)
-
     fence_spelled : SpellsRow (record_of false row p) p (m ∷ []) (fence_reading h.opcode p)
     unfolding group_record
-    fence_spelled = subst (λ t. SpellsRow (if t then group_record false row p else form_record row p) p (m ∷ []) (fence_reading h.opcode p)) (sym (fence_group row p m h)) (record {
+    fence_spelled = subst (λ t. SpellsRow (if t then group_record false row p else form_record row p) p (m ∷ []) (fence_reading h.opcode p)) (ap is_group (sym h.group)) (record {
       modrm = m ∷ [];
       tail = [];
-      passed = passed;
+      passed = ap (λ f. group_fault f p) h.group;
       spelled = refl;
-      modrm_length = modrm_length;
-      tail_spelled = subst (λ k. SpellsTail (group_plan row p k false) p k [] (fence_reading h.opcode p)) read
+      modrm_length = ap (λ f. modrm_width (group_modrm f)) (sym h.group);
+      tail_spelled = subst (λ k. SpellsTail (group_plan row p k false) p k [] (fence_reading h.opcode p)) (ap (λ f. modrm_of (group_modrm f) (m ∷ [])) (sym h.group))
           (subst (λ plan. SpellsTail plan p m [] (fence_reading h.opcode p)) (sym (fence_by_default row p m h)) (bare_tail h.opcode p m h.register));
     })
 
     fence_refused : RefusesRow (record_of true row p) p (m ∷ []) BadOperand
     unfolding group_record
-    fence_refused = subst (λ t. RefusesRow (if t then group_record true row p else form_record row p) p (m ∷ []) BadOperand) (sym (fence_group row p m h))
-        (past_opcode (m ∷ []) [] passed refl modrm_length (subst (λ k. RefusesTail (group_plan row p k true) p k [] BadOperand) read
+    fence_refused = subst (λ t. RefusesRow (if t then group_record true row p else form_record row p) p (m ∷ []) BadOperand) (ap is_group (sym h.group))
+        (past_opcode (m ∷ []) [] (ap (λ f. group_fault f p) h.group) refl (ap (λ f. modrm_width (group_modrm f)) (sym h.group)) (subst (λ k. RefusesTail (group_plan row p k true) p k [] BadOperand) (ap (λ f. modrm_of (group_modrm f) (m ∷ [])) (sym h.group))
         (subst (λ plan. RefusesTail plan p m [] BadOperand) (sym (fence_strictly row p m h)) (at_modrm refl refl))))
 
   -- ---- F0 before a fence
 
   seen_lock : (map : Map) (b : ℕ) (p : Prefixes) → (seen_by map b p).lock ≡ p.lock
-  seen_lock map b p = by (clears map (column_of p) b)
-    where
-      by : (t : Bool) → (if t then record p { operand_size = false } else p).lock ≡ p.lock
-      by true = refl
-      by false = refl
-
-  or_false : (b : Bool) → (b || false) ≡ b
-  or_false true = refl
-  or_false false = refl
+  seen_lock map b p = cond_both (clears map (column_of p) b) (record p { operand_size = false }) p (λ q. q.lock ≡ p.lock) (λ _. refl) (λ _. refl)
 
   fence_lock : (m o : ℕ) (p : Prefixes) → NamesFence m o → allows_lock (fence_reading o p) ≡ not p.lock
   unfolding fence_reading
-  fence_lock m o p (lfence e) = or_false (not p.lock)
-  fence_lock m o p (mfence e) = or_false (not p.lock)
-  fence_lock m o p (sfence e) = or_false (not p.lock)
+  fence_lock m o p (lfence e) = grind arith
+  fence_lock m o p (mfence e) = grind arith
+  fence_lock m o p (sfence e) = grind arith
 
   -- ---- a row that is read by default
 
-  only_byte : (bytes : List ℕ) → length bytes ≡ 1 → bytes ≡ modrm_of EitherForm bytes ∷ []
-  only_byte (m ∷ []) e = refl
-  only_byte [] e = absurd (omega arith)
-  only_byte (m ∷ n ∷ rest) e = absurd (omega arith)
-
   one_byte : (u : ModrmUse) (bytes : List ℕ) → u ≡ EitherForm → length bytes ≡ modrm_width u → bytes ≡ modrm_of u bytes ∷ []
-  one_byte u bytes e l = only_byte bytes (l ∙ ap modrm_width e) ∙ ap (λ x. modrm_of x bytes ∷ []) (sym e)
+  one_byte u (m ∷ []) e l = rw e refl
+  one_byte u [] e l = absurd (omega (arith, l ∙ ap modrm_width e))
+  one_byte u (m ∷ n ∷ rest) e l = absurd (omega (arith, l ∙ ap modrm_width e))
 
   -- the row's bytes begin with a ModRM that names a fence
   abbrev FenceFirst : TableRow → Prefixes → List ℕ → Type 0
@@ -201,25 +170,16 @@ module _ (same_elsewhere : SameElsewhere) (fence_by_default : ReadByDefault) (fe
   zero_plus : (n : ℕ) → 0 + n ≡ n
   zero_plus n = omega arith
 
-  fence_beginning : (run escape : List ℕ) (b m : ℕ) (more : List ℕ) → (run ++ (escape ++ b ∷ m ∷ [])) ++ more ≡ run ++ (escape ++ b ∷ m ∷ more)
-  fence_beginning run escape b m more = append_assoc run (escape ++ b ∷ m ∷ []) more ∙ ap (λ l. run ++ l) (append_assoc escape (b ∷ m ∷ []) more)
-
-  operand_alone : (reading : Reading) (t : Bool) → (if t then Ok reading else Err InvalidPrefixes) ≡ Err InvalidOperand → ⊥
-  operand_alone reading true e = ok_apart reading InvalidOperand e
-  operand_alone reading false e = prefixes_apart (same_error {X = Reading} InvalidPrefixes InvalidOperand e)
-    where
-      prefixes_apart : InvalidPrefixes ≡ InvalidOperand → ⊥
-      prefixes_apart h = cc
-
   -- InvalidOperand is never due to LOCK
   refused_by : (r : Result Reading DecodeError) → verdict r ≡ Err InvalidOperand → r ≡ Err InvalidOperand
-  refused_by (Ok reading) e = absurd (operand_alone reading (allows_lock reading) e)
+  refused_by (Ok reading) e = by (allows_lock reading) e
+    where
+      by : (t : Bool) → (if t then Ok reading else Err InvalidPrefixes) ≡ Err InvalidOperand → Ok reading ≡ Err InvalidOperand
+      by true h = h
+      by false h = absurd cc
   refused_by (Err x) e = e
 
   module _ (rows : Rows) where
-    compared_with_row : (o : Option TableRow) (p : Prefixes) (s : State ℕ) → Compared (then_from (some_row o s).answer (some_row o s).after (λ row. row_step true row p)) (then_from (some_row o s).answer (some_row o s).after (λ row. row_step false row p))
-    compared_with_row o p s = compared_from (some_row o s).answer (some_row o s).after (λ row. row_step true row p) (λ row. row_step false row p) (λ row t. compared_row row p t)
-
     abbrev after_opcode : Bool → Prefixes → Map × ℕ → Step Reading
     after_opcode strict p o s = then_from (some_row (rows o.0 (column_of p) o.1) s).answer (some_row (rows o.0 (column_of p) o.1) s).after (λ row. row_step strict row (seen_by o.0 o.1 p))
 
@@ -229,7 +189,8 @@ module _ (same_elsewhere : SameElsewhere) (fence_by_default : ReadByDefault) (fe
     compared_body : (s : State ℕ) → Compared (walk_within rows true s) (walk_within rows false s)
     unfolding walk_within
     compared_body s = compared_from (head_step s).answer (head_step s).after (after_head true) (after_head false) (λ h t.
-        compared_from (opcode_step h.0 h.1 t).answer (opcode_step h.0 h.1 t).after (after_opcode true h.0) (after_opcode false h.0) (λ o z. compared_with_row (rows o.0 (column_of h.0) o.1) (seen_by o.0 o.1 h.0) z))
+        compared_from (opcode_step h.0 h.1 t).answer (opcode_step h.0 h.1 t).after (after_opcode true h.0) (after_opcode false h.0) (λ o z.
+        let row = some_row (rows o.0 (column_of h.0) o.1) z in compared_from row.answer row.after (λ k. row_step true k (seen_by o.0 o.1 h.0)) (λ k. row_step false k (seen_by o.0 o.1 h.0)) (λ k. compared_row k (seen_by o.0 o.1 h.0))))
 
     -- ---- an input that is read by default
 
@@ -240,14 +201,13 @@ module _ (same_elsewhere : SameElsewhere) (fence_by_default : ReadByDefault) (fe
         by (inl s) = inl (record { run = w.run; map = w.map; opcode = w.opcode; row = w.row; tail = w.tail; spelled = w.spelled; prefixes = w.prefixes; in_map = w.in_map; has_row = w.has_row; row_spelled = s })
         by (inr k) =
             let fence : List ℕ = w.run ++ (escape_bytes w.map ++ w.opcode ∷ k.0 ∷ []) in
-            let whole : q ≡ fence ++ k.1 = w.spelled ∙ ap (λ l. w.run ++ (escape_bytes w.map ++ w.opcode ∷ l)) k.2 ∙ sym (fence_beginning w.run (escape_bytes w.map) w.opcode k.0 k.1) in
-            let long : length q ≡ length fence + length k.1 = ap length whole ∙ length-append fence k.1 in
+            let whole : q ≡ fence ++ k.1 = w.spelled ∙ ap (λ l. w.run ++ (escape_bytes w.map ++ w.opcode ∷ l)) k.2 ∙ simp append_assoc in
             inr (record {
               fence = fence;
               rest = k.1 ++ rest;
               begins = h ∙ ap (λ l. l ++ rest) whole ∙ append_assoc fence k.1 rest;
               is = record { run = w.run; map = w.map; opcode = w.opcode; row = w.row; modrm = k.0; spelled = refl; prefixes = w.prefixes; in_map = w.in_map; has_row = w.has_row; names = k.3 };
-              short = omega arith;
+              short = omega (arith, length-append {A = ℕ}, ap length whole);
             })
 
     module _ (input : List ℕ) where
@@ -258,11 +218,8 @@ module _ (same_elsewhere : SameElsewhere) (fence_by_default : ReadByDefault) (fe
       first = bounded 15 start
 
       differs : (reading : Reading) → (walk_within rows false first).answer ≡ Ok reading → (walk_within rows true first).answer ≡ Err InvalidOperand → Ends (BodyYields rows false) (BodyBetween rows false) (walk_within rows false) first → BeginsWithFence rows input
-      differs reading d e (settles q rest (Ok r) h t f a) = by (strict_whole input q (rest ++ drop 15 input) r begins (beginning_at_most 15 input q rest h) a)
+      differs reading d e (settles q rest (Ok r) h t f a) = by (strict_whole input q (rest ++ drop 15 input) r (sym (take-append-drop 15 input) ∙ ap (λ l. l ++ drop 15 input) h ∙ append_assoc q rest (drop 15 input)) (beginning_at_most 15 input q rest h) a)
         where
-          begins : input ≡ q ++ (rest ++ drop 15 input)
-          begins = sym (take-append-drop 15 input) ∙ ap (λ l. l ++ drop 15 input) h ∙ append_assoc q rest (drop 15 input)
-
           by : Whole rows true q r ⊎ BeginsWithFence rows input → BeginsWithFence rows input
           by (inl w) = absurd (ok_apart r InvalidOperand (sym (ap (λ o. o.answer) ((takes_whole rows true q r w).takes rest first h)) ∙ e))
           by (inr b) = b
@@ -309,11 +266,9 @@ module _ (same_elsewhere : SameElsewhere) (fence_by_default : ReadByDefault) (fe
         abbrev p : Prefixes
         p = seen_by is.map is.opcode (reading_of is.run)
 
-        refused : IsRefusedByRecord rows true f.fence BadOperand
-        refused = record { run = is.run; map = is.map; opcode = is.opcode; row = is.row; tail = is.modrm ∷ []; spelled = is.spelled; prefixes = is.prefixes; in_map = is.in_map; has_row = is.has_row; refuses = fence_refused is.row p is.modrm is.names }
-
         taken : (r : Result Reading DecodeError) × Settled rows true f.fence r × (verdict r ≡ Err InvalidOperand)
-        taken = early rows true f.fence InvalidOperand (case_3 BadOperand refused)
+        taken = early rows true f.fence InvalidOperand (case_3 BadOperand
+            (record { run = is.run; map = is.map; opcode = is.opcode; row = is.row; tail = is.modrm ∷ []; spelled = is.spelled; prefixes = is.prefixes; in_map = is.in_map; has_row = is.has_row; refuses = fence_refused is.row p is.modrm is.names }))
 
         pub fence_strict_answer : IsAnswer rows true input (Err InvalidOperand) (length f.fence)
         fence_strict_answer = answer_at true (Err InvalidOperand) (length f.fence) (walked_as true f.fence f.rest (Err InvalidOperand) f.begins f.short (subst (Takes (walk_within rows true) f.fence) (refused_by taken.0 taken.2) taken.1.takes))
@@ -327,11 +282,8 @@ module _ (same_elsewhere : SameElsewhere) (fence_by_default : ReadByDefault) (fe
         abbrev fence_instruction : Instruction
         fence_instruction = instruction_of (fence_reading is.names.opcode p) (length f.fence)
 
-        read_walk : walked false ≡ bounded_outcome (Ok (fence_reading is.names.opcode p)) (length f.fence) start
-        read_walk = walked_as false f.fence f.rest (Ok (fence_reading is.names.opcode p)) f.begins f.short (takes_whole rows false f.fence (fence_reading is.names.opcode p) read_whole)
-
         closed_as : (t : Bool) → allows_lock (fence_reading is.names.opcode p) ≡ t → walked false ≡ (if t then outcome (Ok fence_instruction) (advanced (length f.fence) start) else outcome (Err InvalidPrefixes) (advanced (length f.fence) start))
-        closed_as t e = read_walk ∙ ap (λ b. if b then outcome (Ok fence_instruction) (advanced (length f.fence) start) else outcome (Err InvalidPrefixes) (advanced (length f.fence) start)) e
+        closed_as t e = walked_as false f.fence f.rest (Ok (fence_reading is.names.opcode p)) f.begins f.short (takes_whole rows false f.fence (fence_reading is.names.opcode p) read_whole) ∙ rw e refl
 
         pub fence_read : (reading_of is.run).lock ≡ false → (i : Instruction) × IsAnswer rows false input (Ok i) (length f.fence) × (i.opcode ≡ is.names.opcode) × (i.operand_list.count ≡ 0)
         unfolding fence_reading

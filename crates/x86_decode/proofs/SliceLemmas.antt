@@ -1,5 +1,5 @@
 -- The walk over the first fifteen bytes of a slice.
-use Rattle.std.proofs.Common.{◌≡◌, ◌==◌, ℕ, Bool, true, false, List, length, take, min, nat_le, Result, Ok, Err, refl, ap, ◌∙◌, arith, length-take}
+use Rattle.std.proofs.Common.{◌≡◌, ◌==◌, ℕ, Bool, true, false, List, length, take, nat_le, Result, Ok, Err, refl, ap, ◌∙◌, arith, length-take}
 use Rattle.std.proofs.lemmas.Bool.Decides.{nat_tests}
 use Rattle.x86_arch.specs.Reader.{State}
 use Rattle.x86_fields.specs.declared.errors.DecodeError.{DecodeError}
@@ -31,10 +31,7 @@ slice_ok strict bytes i n j t u e h k l =
     by false q = rw q refl
 
 full_test : (l : List ℕ) → (length (take 15 l) == 15) ≡ nat_le 15 (length l)
-full_test l = by (length (take 15 l)) (length l) (length-take 15 l) (length (take 15 l) == 15) (nat_le 15 (length l)) refl refl
-  where
-    by : (k n : ℕ) → k ≡ min 15 n → (x y : Bool) → (k == 15) ≡ x → nat_le 15 n ≡ y → (k == 15) ≡ nat_le 15 n
-    by k n h x y e f = grind (arith, nat_tests)
+full_test l = let k = length-take 15 l in grind (arith, nat_tests)
 
 closed_limited : (e : DecodeError) (n : ℕ) (bytes : List ℕ) (b : Bool) → nat_le 15 (length bytes) ≡ b → ◌≡◌ {A = Result Instruction DecodeError} (Err (error_at_limit e b)) (bounded_outcome (Err e) n (at_start bytes)).answer
 closed_limited ExhaustedInput n bytes true h = rw h refl

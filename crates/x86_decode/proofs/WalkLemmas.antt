@@ -1,16 +1,15 @@
 -- What the true reader has taken where the bounded one has ended.
-use Rattle.std.proofs.Common.{◌≡◌, ℕ, ◌+◌, ◌-◌, ◌≤◌, Bool, true, false, if◌then◌else◌, length, drop, take, Result, Ok, Err, refl, sym, ap, ◌∙◌, arith, length-take, length-drop, nat_le}
+use Rattle.std.proofs.Common.{◌≡◌, ℕ, ◌+◌, ◌-◌, ◌≤◌, Bool, true, false, length, drop, take, Result, Ok, Err, refl, sym, ap, ◌∙◌, arith, length-take, length-drop, nat_le}
 use Rattle.std.proofs.lemmas.Bool.Decides.{nat_tests}
 use Rattle.x86_arch.specs.Reader.{State, advanced}
 use Rattle.x86_fields.specs.declared.errors.DecodeError.{DecodeError}
-use Rattle.x86_fields.specs.declared.errors.DecodeError.TheVariants.{ExhaustedInput, InvalidPrefixes, TooLong}
+use Rattle.x86_fields.specs.declared.errors.DecodeError.TheVariants.{ExhaustedInput, TooLong}
 use Rattle.x86_fields.specs.Steps.{Outcome, outcome}
 use Rattle.x86_fields.proofs.StepLemmas.{advanced_twice}
 use Rattle.x86_operands.specs.declared.reader.Reading.{Reading}
-use Rattle.x86_operands.specs.Encodings.{value_if_ok}
 use Rattle.x86_decode.specs.declared.instructions.Instruction.{Instruction}
 use Rattle.x86_decode.specs.Head.{Rows}
-use Rattle.x86_decode.specs.Instruction.{instruction_of, holding, reading_in}
+use Rattle.x86_decode.specs.Instruction.{holding, reading_in}
 use Rattle.x86_decode.specs.Bound.{bounded, HasAdvanced}
 use Rattle.x86_decode.specs.Grammar.{allows_lock}
 use Rattle.x86_fields.specs.Errors.{is_exhausted}
@@ -45,44 +44,18 @@ module _ (rows : Rows) (strict : Bool) (m t : State ℕ) (a : ℕ) (r : Result R
         is = ap (λ x. bounded_outcome x.answer x.after.since_mark m) (sym e) ∙ ap (λ n. bounded_outcome r n m) (sym (ap (λ x. x.since_mark) b));
       }
 
-closed_lock : (t : Bool) (reading : Reading) (n : ℕ) (m : State ℕ) → allows_lock reading ≡ t → bounded_outcome (Ok reading) n m ≡ (if t then outcome (Ok (instruction_of reading n)) (advanced n m) else outcome (Err InvalidPrefixes) (advanced n m))
-closed_lock t reading n m l = ap (λ b. if b then outcome (Ok (instruction_of reading n)) (advanced n m) else outcome (Err InvalidPrefixes) (advanced n m)) l
-
-pub ends_ok : (rows : Rows) (strict : Bool) (m t : State ℕ) (a n : ℕ) (reading : Reading) → Walked rows strict m t a (Ok reading) → n ≡ t.since_mark → allows_lock reading ≡ true → outcome (Ok (instruction_of reading n)) t ≡ walk_bounded rows strict m
-ends_ok rows strict m t a n reading w e l =
-    ap (λ k. outcome (Ok (instruction_of reading k)) t) e ∙ ap (λ s. outcome (Ok (instruction_of reading t.since_mark)) s) w.at ∙ sym (w.is ∙ closed_lock true reading t.since_mark m l)
-
-pub ends_locked : (rows : Rows) (strict : Bool) (m t : State ℕ) (a : ℕ) (reading : Reading) → Walked rows strict m t a (Ok reading) → allows_lock reading ≡ false → outcome (Err InvalidPrefixes) t ≡ walk_bounded rows strict m
-ends_locked rows strict m t a reading w l = ap (λ s. outcome (Err InvalidPrefixes) s) w.at ∙ sym (w.is ∙ closed_lock false reading t.since_mark m l)
-
--- what was written, and the answer so far
-pub held_ok : (r : Result (Unit {0}) DecodeError) (x : Reading) (u : State ℕ) (o : Outcome Reading) → r ≡ Ok tt → outcome (value_if_ok r x) u ≡ o → outcome (Ok x) u ≡ o
-held_ok r x u o e h = ap (λ k. outcome (value_if_ok k x) u) (sym e) ∙ h
-
-pub held_err : (r : Result (Unit {0}) DecodeError) (x : Reading) (e : DecodeError) (u : State ℕ) (o : Outcome Reading) → r ≡ Err e → outcome (value_if_ok r x) u ≡ o → outcome (Err e) u ≡ o
-held_err r x e u o k h = ap (λ k. outcome (value_if_ok k x) u) (sym k) ∙ h
-
 pub ends_judged : (rows : Rows) (strict : Bool) (m t : State ℕ) (a n : ℕ) (i : Instruction) (j : Result (Unit {0}) DecodeError) → Walked rows strict m t a (Ok (reading_in i)) → n ≡ t.since_mark → j ≡ judgement (reading_in i) → outcome (holding (record i { length = n }) j) t ≡ walk_bounded rows strict m
-ends_judged rows strict m t a n i j w e h = ap (λ k. outcome (holding (record i { length = n }) k) t) h ∙ by (allows_lock (reading_in i)) refl
+ends_judged rows strict m t a n i j w e h = ap (λ k. outcome (holding (record i { length = n }) k) t) h ∙ by (allows_lock (reading_in i)) refl ∙ ap (λ k. bounded_outcome (Ok (reading_in i)) k m) e ∙ sym w.is
   where
-    by : (b : Bool) → allows_lock (reading_in i) ≡ b → outcome (holding (record i { length = n }) (judgement (reading_in i))) t ≡ walk_bounded rows strict m
-    by true l = ap (λ b. outcome (holding (record i { length = n }) (if b then Ok tt else Err InvalidPrefixes)) t) l ∙ ends_ok rows strict m t a n (reading_in i) w e l
-    by false l = ap (λ b. outcome (holding (record i { length = n }) (if b then Ok tt else Err InvalidPrefixes)) t) l ∙ ends_locked rows strict m t a (reading_in i) w l
+    by : (b : Bool) → allows_lock (reading_in i) ≡ b → outcome (holding (record i { length = n }) (judgement (reading_in i))) t ≡ bounded_outcome (Ok (reading_in i)) n m
+    by true l = rw l (ap (outcome _) (w.at ∙ ap (λ k. advanced k m) (sym e)))
+    by false l = rw l (ap (outcome _) (w.at ∙ ap (λ k. advanced k m) (sym e)))
 
 pub ends_error : (rows : Rows) (strict : Bool) (m t : State ℕ) (a : ℕ) (e : DecodeError) → Walked rows strict m t a (Err e) → is_exhausted e ≡ false → outcome (Err e) t ≡ walk_bounded rows strict m
 ends_error rows strict m t a e w k = ap (λ s. outcome (Err e) s) w.at ∙ sym (w.is ∙ rw k refl)
 
-abbrev left_open : State ℕ → ℕ → Bool → Outcome Instruction
-left_open m n t = if t then outcome (Err TooLong) (advanced 15 m) else outcome (Err ExhaustedInput) (advanced n m)
-
-closed_open : (e : DecodeError) (n : ℕ) (m : State ℕ) (t : Bool) → is_exhausted e ≡ true → nat_le 15 (length m.left) ≡ t → bounded_outcome (Err e) n m ≡ left_open m n t
-closed_open e n m t k h = ap (λ b. if b then left_open m n (nat_le 15 (length m.left)) else outcome (Err e) (advanced n m)) k ∙ ap (left_open m n) h
-
 rest_test : (a k : ℕ) → a ≤ 15 → 15 - a ≤ k → nat_le a (k - (15 - a)) ≡ nat_le 15 k
-rest_test a k h j = by (nat_le a (k - (15 - a))) (nat_le 15 k) refl refl
-  where
-    by : (x y : Bool) → nat_le a (k - (15 - a)) ≡ x → nat_le 15 k ≡ y → nat_le a (k - (15 - a)) ≡ nat_le 15 k
-    by x y e f = grind (arith, nat_tests)
+rest_test a k h j = grind (arith, nat_tests)
 
 -- the items still allowed are there exactly where there were fifteen
 there : (rows : Rows) (strict : Bool) (m t : State ℕ) (a : ℕ) (r : Result Reading DecodeError) → Walked rows strict m t a r → a ≤ 15 → nat_le a (length t.left) ≡ nat_le 15 (length m.left)
@@ -94,9 +67,9 @@ pub ends_long : (rows : Rows) (strict : Bool) (m t after : State ℕ) (a : ℕ) 
 ends_long rows strict m t after a e w k few enough moved =
     let all : t.since_mark + a ≡ 15 = let c = w.count in omega arith in
     ap (λ s. outcome (Err TooLong) s) (moved ∙ ap (advanced a) w.at ∙ advanced_twice t.since_mark a m ∙ ap (λ n. advanced n m) all)
-    ∙ sym (w.is ∙ closed_open e t.since_mark m true k (sym (there rows strict m t a (Err e) w few) ∙ enough))
+    ∙ sym (w.is ∙ rw (k, sym (there rows strict m t a (Err e) w few) ∙ enough) refl)
 
 pub ends_open : (rows : Rows) (strict : Bool) (m t after : State ℕ) (a : ℕ) (e : DecodeError) → Walked rows strict m t a (Err e) → is_exhausted e ≡ true → a ≤ 15 → nat_le a (length t.left) ≡ false → after ≡ t → outcome (Err ExhaustedInput) after ≡ walk_bounded rows strict m
 ends_open rows strict m t after a e w k few short unmoved =
     ap (λ s. outcome (Err ExhaustedInput) s) (unmoved ∙ w.at)
-    ∙ sym (w.is ∙ closed_open e t.since_mark m false k (sym (there rows strict m t a (Err e) w few) ∙ short))
+    ∙ sym (w.is ∙ rw (k, sym (there rows strict m t a (Err e) w few) ∙ short) refl)

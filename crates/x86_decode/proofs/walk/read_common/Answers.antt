@@ -1,18 +1,17 @@
-use Rattle.std.proofs.Common.{rules, ◌≡◌, true, false, Err, ap, subst, sym, ◌∙◌}
+use Rattle.std.proofs.Common.{rules, ◌≡◌, true, false, Err, ap, ◌∙◌}
 use Rattle.x86_fields.specs.Run.{is_prefix}
 use Rattle.x86_fields.specs.Steps.{then_from}
 use Rattle.x86_forms.specs.Words.{rows_of}
-use Rattle.x86_decode.specs.Walk.{ResultLeadsTo, body_step, walk_within}
+use Rattle.x86_decode.specs.Walk.{body_step, walk_within}
 use Rattle.x86_decode.proofs.HeadWalk.{at_prefix, at_other}
 use Rattle.x86_decode.proofs.walk.read_common.Goals as goal
 
 pub returns-in_err-byte-clause-read : goal.returns-in_err-byte-clause-read
 unfolding walk_within
 returns-in_err-byte-clause-read g c =
-    let rows = rows_of (g.W.Words.word c.args.rows.now) in
     let r : c.from_residual.result ≡ Err c.in_err-byte.field-0.0 = search rules in
-    subst (λ x. ResultLeadsTo rows (record c.args.inst.now { prefixes = c.read_head.new.prefixes }) x (g.T.Reader.state c.read_head.new.reader) (λ strict. walk_within rows strict (g.T.Reader.state c.args.reader.now))) (sym r)
-    (λ strict. ap (λ o. then_from o.answer o.after (λ h. body_step rows strict h.0 h.1)) c.in_err-byte.ensures)
+    rw r
+    (λ strict. ap (λ o. then_from o.answer o.after (λ h. body_step (rows_of (g.W.Words.word c.args.rows.now)) strict h.0 h.1)) c.in_err-byte.ensures)
 
 pub returns-then-is_prefix-clause-read : goal.returns-then-is_prefix-clause-read
 unfolding walk_within
@@ -30,7 +29,7 @@ returns-in_err-rest-clause-read g c =
     let is : is_prefix c.in_ok-byte.byte ≡ false = search rules in
     let beginning = c.in_ok-byte.ensures.0 in
     let r : c.from_residual-in_err-rest.result ≡ Err c.in_err-rest.field-0.0 = search rules in
-    subst (λ x. ResultLeadsTo rows c.read_body.new.inst x (g.T.Reader.state c.read_body.new.reader) (λ strict. walk_within rows strict (g.T.Reader.state c.args.reader.now))) (sym r)
+    rw r
     (λ strict. c.in_err-rest.ensures.read strict
     ∙ ap (λ q. body_step rows strict q c.in_ok-byte.byte s) c.in_ok-byte.ensures.1
     ∙ ap (λ o. then_from o.answer o.after (λ h. body_step rows strict h.0 h.1)) (at_other beginning c.in_ok-byte.byte s is ∙ c.in_ok-byte.ensures.2))

@@ -3,27 +3,27 @@ use Rattle.std.proofs.Common.{rules, ◌≡◌, Ok, Err, true, false, sym, ap, �
 use Rattle.x86_arch.specs.Reader.{advanced}
 use Rattle.x86_decode.specs.Instruction.{reading_in}
 use Rattle.x86_fields.specs.Errors.{is_exhausted}
-use Rattle.x86_decode.proofs.WalkLemmas.{walked, held_ok, held_err, ends_judged, ends_error, ends_long, ends_open}
+use Rattle.x86_decode.proofs.WalkLemmas.{walked, ends_judged, ends_error, ends_long, ends_open}
 use Rattle.x86_decode.proofs.walk.walk_bounded.Goals as goal
 
 pub returns-in-Ok-clause-walked : goal.returns-in-Ok-clause-walked
 returns-in-Ok-clause-walked g c =
     let b = c.offset-inst.new.self in
     let i = c.walk_within-result.new.inst in
-    let w = walked (rows_of (g.W.Words.word c.args.rows.now)) c.args.strict (g.T.Reader.state c.args.reader.now) (g.T.Reader.state b.reader.now) b.allowed (Ok (reading_in i)) _ g.K.Start.state (held_ok c.walk_within-result.result.0 (reading_in i) _ _ c.in-Ok.is c.walk_within-result.ensures) c.offset-inst.ensures.unmoved b.few b.moved c.requires.here c.requires.marked in
+    let w = walked (rows_of (g.W.Words.word c.args.rows.now)) c.args.strict (g.T.Reader.state c.args.reader.now) (g.T.Reader.state b.reader.now) b.allowed (Ok (reading_in i)) _ g.K.Start.state (rw c.in-Ok.is at c.walk_within-result.ensures) c.offset-inst.ensures.unmoved b.few b.moved c.requires.here c.requires.marked in
     ends_judged (rows_of (g.W.Words.word c.args.rows.now)) c.args.strict (g.T.Reader.state c.args.reader.now) (g.T.Reader.state b.reader.now) b.allowed c.offset-inst.result i c.judgement.result w (c.offset-inst.ensures.count ∙ sym (ap (λ s. s.since_mark) c.offset-inst.ensures.unmoved)) c.judgement.ensures
 
 pub returns-then-not-is_exhausted-clause-walked : goal.returns-then-not-is_exhausted-clause-walked
 returns-then-not-is_exhausted-clause-walked g c =
     let b = c.offset-inst.new.self in
-    let w = walked (rows_of (g.W.Words.word c.args.rows.now)) c.args.strict (g.T.Reader.state c.args.reader.now) (g.T.Reader.state b.reader.now) b.allowed (Err c.in-Err.error) _ g.K.Start.state (held_err c.walk_within-result.result.0 (reading_in c.walk_within-result.new.inst) c.in-Err.error _ _ c.in-Err.is c.walk_within-result.ensures) c.offset-inst.ensures.unmoved b.few b.moved c.requires.here c.requires.marked in
+    let w = walked (rows_of (g.W.Words.word c.args.rows.now)) c.args.strict (g.T.Reader.state c.args.reader.now) (g.T.Reader.state b.reader.now) b.allowed (Err c.in-Err.error) _ g.K.Start.state (rw c.in-Err.is at c.walk_within-result.ensures) c.offset-inst.ensures.unmoved b.few b.moved c.requires.here c.requires.marked in
     let k : is_exhausted c.in-Err.error ≡ false = search rules in
     ends_error (rows_of (g.W.Words.word c.args.rows.now)) c.args.strict (g.T.Reader.state c.args.reader.now) (g.T.Reader.state b.reader.now) b.allowed c.in-Err.error w k
 
 pub returns-then-takes_rest-clause-walked : goal.returns-then-takes_rest-clause-walked
 returns-then-takes_rest-clause-walked g c =
     let b = c.offset-inst.new.self in
-    let w = walked (rows_of (g.W.Words.word c.args.rows.now)) c.args.strict (g.T.Reader.state c.args.reader.now) (g.T.Reader.state b.reader.now) b.allowed (Err c.in-Err.error) _ g.K.Start.state (held_err c.walk_within-result.result.0 (reading_in c.walk_within-result.new.inst) c.in-Err.error _ _ c.in-Err.is c.walk_within-result.ensures) c.offset-inst.ensures.unmoved b.few b.moved c.requires.here c.requires.marked in
+    let w = walked (rows_of (g.W.Words.word c.args.rows.now)) c.args.strict (g.T.Reader.state c.args.reader.now) (g.T.Reader.state b.reader.now) b.allowed (Err c.in-Err.error) _ g.K.Start.state (rw c.in-Err.is at c.walk_within-result.ensures) c.offset-inst.ensures.unmoved b.few b.moved c.requires.here c.requires.marked in
     let k : is_exhausted c.in-Err.error ≡ true = search rules in
     let enough : nat_le b.allowed (length (g.T.Reader.state b.reader.now).left) ≡ true = search rules in
     let moved : g.T.Reader.state c.takes_rest.new.reader ≡ advanced b.allowed (g.T.Reader.state b.reader.now) = search rules in
@@ -32,7 +32,7 @@ returns-then-takes_rest-clause-walked g c =
 pub returns-else-takes_rest-clause-walked : goal.returns-else-takes_rest-clause-walked
 returns-else-takes_rest-clause-walked g c =
     let b = c.offset-inst.new.self in
-    let w = walked (rows_of (g.W.Words.word c.args.rows.now)) c.args.strict (g.T.Reader.state c.args.reader.now) (g.T.Reader.state b.reader.now) b.allowed (Err c.in-Err.error) _ g.K.Start.state (held_err c.walk_within-result.result.0 (reading_in c.walk_within-result.new.inst) c.in-Err.error _ _ c.in-Err.is c.walk_within-result.ensures) c.offset-inst.ensures.unmoved b.few b.moved c.requires.here c.requires.marked in
+    let w = walked (rows_of (g.W.Words.word c.args.rows.now)) c.args.strict (g.T.Reader.state c.args.reader.now) (g.T.Reader.state b.reader.now) b.allowed (Err c.in-Err.error) _ g.K.Start.state (rw c.in-Err.is at c.walk_within-result.ensures) c.offset-inst.ensures.unmoved b.few b.moved c.requires.here c.requires.marked in
     let k : is_exhausted c.in-Err.error ≡ true = search rules in
     let short : nat_le b.allowed (length (g.T.Reader.state b.reader.now).left) ≡ false = search rules in
     let unmoved : g.T.Reader.state c.takes_rest.new.reader ≡ g.T.Reader.state b.reader.now = search rules in

@@ -1,6 +1,4 @@
 use Rattle.std.proofs.Common.{ap, ◌∙◌}
-use Rattle.x86_decode.specs.Instruction.{reading_in}
-use Rattle.x86_decode.proofs.WalkLemmas.{held_ok, held_err}
 use Rattle.x86_decode.proofs.SliceLemmas.{at_start, slice_ok, slice_err}
 use Rattle.x86_decode.proofs.walk.walk_slice.Goals as goal
 
@@ -8,10 +6,9 @@ pub returns-in-Ok : goal.returns-in-Ok
 returns-in-Ok c =
     let i = c.walk_within-result.new.inst in
     slice_ok c.args.strict c.args.bytes.now i c.offset-inst.result c.judgement.result _ _ (c.new.ensures ∙ ap at_start c.first_fifteen-within.ensures)
-    (held_ok c.walk_within-result.result.0 (reading_in i) _ _ c.in-Ok.is c.walk_within-result.ensures) c.offset-inst.ensures.count c.judgement.ensures
+    (rw c.in-Ok.is at c.walk_within-result.ensures) c.offset-inst.ensures.count c.judgement.ensures
 
 pub returns-in-Err : goal.returns-in-Err
 returns-in-Err c =
-    let i = c.walk_within-result.new.inst in
     slice_err c.args.strict c.args.bytes.now c.first_fifteen-within.result.now c.in-Err.error c.error_at_limit.result _ _ c.first_fifteen-within.ensures (c.new.ensures ∙ ap at_start c.first_fifteen-within.ensures)
-    (held_err c.walk_within-result.result.0 (reading_in i) c.in-Err.error _ _ c.in-Err.is c.walk_within-result.ensures) c.error_at_limit.ensures
+    (rw c.in-Err.is at c.walk_within-result.ensures) c.error_at_limit.ensures
