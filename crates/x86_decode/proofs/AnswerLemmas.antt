@@ -3,7 +3,7 @@ use Rattle.std.proofs.Common.{◌≡◌, ◌≢◌, ℕ, suc, ◌+◌, ◌<◌, 
 use Rattle.std.proofs.lemmas.Bool.{cases_lt}
 use Rattle.std.proofs.lemmas.List.{append-nil, take-append-drop, take-append-le}
 use Rattle.std.proofs.Math.Seq.{take-append_seam}
-use Rattle.x86_arch.specs.Reader.{State}
+use Rattle.x86_fields.proofs.StepLemmas.{fresh}
 use Rattle.x86_fields.specs.declared.errors.DecodeError.{DecodeError}
 use Rattle.x86_fields.specs.declared.errors.DecodeError.TheVariants.{ExhaustedInput, TooLong}
 use Rattle.x86_fields.proofs.EndLemmas.{no_beginning}
@@ -34,9 +34,7 @@ module _ (rows : Rows) (strict : Bool) where
       let o = early rows strict q e d in
       not_both rows strict q s (rest ++ more) k e a o.0 o.1 o.2 is (sym (append_assoc q rest more) ∙ h)
   no_sentence_more q rest more e (case_5 t) s k a h is =
-      let long : length q ≡ 15 = t.long in
-      let short : length s ≤ length q = let l = is.short in omega arith in
-      t.no_sentence s (drop (length s) q) a (beginning_of q (rest ++ more) s k (sym (append_assoc q rest more) ∙ h) short) is
+      t.no_sentence s (drop (length s) q) a (beginning_of q (rest ++ more) s k (sym (append_assoc q rest more) ∙ h) (omega (arith, t.long, is.short))) is
 
   refusal_stays : (input more : List ℕ) (e : DecodeError) (n : ℕ) → IsRefusal rows strict input e n → IsRefusal rows strict (input ++ more) e n
   refusal_stays input more e n r = record {
@@ -51,9 +49,7 @@ module _ (rows : Rows) (strict : Bool) where
     where
       by : (p k : List ℕ) (f : DecodeError) → input ++ more ≡ p ++ k → Decides rows strict p f → (length p < n) ⊎ (n ≤ length p) → n ≤ length p
       by p k f h d (inl less) =
-          let l : length r.beginning ≤ length input = beginning_le r.beginning r.rest input r.begins in
-          let e : length r.beginning ≡ n = r.long in
-          r.shortest p (drop (length p) input) f (beginning_of input more p k h (omega arith)) d
+          r.shortest p (drop (length p) input) f (beginning_of input more p k h (omega (arith, beginning_le r.beginning r.rest input r.begins, r.long))) d
       by p k f h d (inr le) = le
 
   pub stays : (input more : List ℕ) (r : Result Instruction DecodeError) (n : ℕ) → r ≢ Err ExhaustedInput → Answer input r n → Answer (input ++ more) r n
@@ -84,12 +80,8 @@ module _ (rows : Rows) (strict : Bool) where
 
   once_refused : (input : List ℕ) (e f : DecodeError) (n k : ℕ) → IsRefusal rows strict input e n → IsRefusal rows strict input f k → (e ≡ f) × (n ≡ k)
   once_refused input e f n k r s =
-      let one : n ≤ length s.beginning = r.shortest s.beginning s.rest f s.begins s.decides in
-      let two : k ≤ length r.beginning = s.shortest r.beginning r.rest e r.begins r.decides in
-      let here : length r.beginning ≡ n = r.long in
-      let there : length s.beginning ≡ k = s.long in
-      let counts : n ≡ k = omega arith in
-      let beginnings : r.beginning ≡ s.beginning = same_beginning r.beginning s.beginning r.rest s.rest (sym r.begins ∙ s.begins) (here ∙ counts ∙ sym there) in
+      let counts : n ≡ k = omega (arith, r.shortest s.beginning s.rest f s.begins s.decides, s.shortest r.beginning r.rest e r.begins r.decides, r.long, s.long) in
+      let beginnings : r.beginning ≡ s.beginning = same_beginning r.beginning s.beginning r.rest s.rest (sym r.begins ∙ s.begins) (r.long ∙ counts ∙ sym s.long) in
       (refusals_agree s.beginning e f (subst (λ q. Decides rows strict q e) beginnings r.decides) s.decides, counts)
 
   pub once : (input : List ℕ) (r s : Result Instruction DecodeError) (n k : ℕ) → Answer input r n → Answer input s k → (r ≡ s) × (n ≡ k)
@@ -101,9 +93,7 @@ module _ (rows : Rows) (strict : Bool) where
   once input (Err ExhaustedInput) (Err ExhaustedInput) n k h g =
       let a = h.taken in
       let b = g.taken in
-      let one : length b.beginning ≤ n = a.longest b.beginning b.rest b.begins b.between in
-      let two : length a.beginning ≤ k = b.longest a.beginning a.rest a.begins a.between in
-      (refl, omega (arith, a.long, b.long))
+      (refl, omega (arith, a.longest b.beginning b.rest b.begins b.between, b.longest a.beginning a.rest a.begins a.between, a.long, b.long))
   once input (Err ExhaustedInput) (Err e) n k g h = absurd (g.undecided h.beginning h.rest e h.begins h.decides)
   once input (Err e) (Ok a) n k g h = absurd (g.no_sentence h.sentence h.rest a h.begins h.is)
   once input (Err e) (Err ExhaustedInput) n k h g = absurd (g.undecided h.beginning h.rest e h.begins h.decides)
@@ -126,36 +116,30 @@ module _ (rows : Rows) (strict : Bool) where
 
   too_late : (q : List ℕ) (c : ℕ) (rest : List ℕ) (a : Instruction) (r : Result Instruction DecodeError) (n : ℕ) → IsSentence rows strict (q ++ c ∷ rest) a → r ≢ Err ExhaustedInput → Answer q r n → ⊥
   too_late q c rest a r n is d h =
-      let counts : n ≡ length (q ++ c ∷ rest) = (once (q ++ c ∷ rest) r (Ok a) n (length (q ++ c ∷ rest)) (stays q (c ∷ rest) r n d h) (sentence_answer (q ++ c ∷ rest) a is)).1 in
-      let within : n ≤ length q = count_within q r n h in
-      let long : length (q ++ c ∷ rest) ≡ length q + suc (length rest) = length-append q (c ∷ rest) in
-      absurd (omega arith)
+      let counts = (once (q ++ c ∷ rest) r (Ok a) n (length (q ++ c ∷ rest)) (stays q (c ∷ rest) r n d h) (sentence_answer (q ++ c ∷ rest) a is)).1 in
+      absurd (omega (arith, counts, count_within q r n h, length-append q (c ∷ rest)))
 
   beginning_by : (q : List ℕ) (c : ℕ) (rest : List ℕ) (a : Instruction) (r : Result Instruction DecodeError) (n : ℕ) → IsSentence rows strict (q ++ c ∷ rest) a → Answer q r n → (k : ℕ) × Answer q (Err ExhaustedInput) k
   beginning_by q c rest a (Err ExhaustedInput) n is h = (n, h)
   beginning_by q c rest a r n is h = absurd (too_late q c rest a r n is (λ k. cc) h)
 
   pub proper_beginning_open : (q : List ℕ) (c : ℕ) (rest : List ℕ) (a : Instruction) → IsSentence rows strict (q ++ c ∷ rest) a → (k : ℕ) × Answer q (Err ExhaustedInput) k
-  proper_beginning_open q c rest a is =
-      let o = some_answer rows strict q in beginning_by q c rest a o.0 o.1 is o.2
+  proper_beginning_open q c rest a is = let o = some_answer rows strict q in beginning_by q c rest a o.0 o.1 is o.2
 
   -- ---- the empty input
 
   pub nothing_open : Answer [] (Err ExhaustedInput) 0
   nothing_open =
-      let b : State ℕ = record { left = []; since_mark = 0; since_made = 0 } in
-      open_answer rows strict [] [] [] b (omega arith) refl refl (in_head [] One [] [] refl refl refl)
+      open_answer rows strict [] [] [] (fresh []) (omega arith) refl refl (in_head [] One [] [] refl refl refl)
       (λ beginning back e t left. out_nothing rows strict t (left ∙ no_beginning beginning back e))
-      (none_settles rows strict [] [] b [] refl (out_nothing rows strict b refl))
+      (none_settles rows strict [] [] (fresh []) [] refl (out_nothing rows strict (fresh []) refl))
 
   -- ---- the first fifteen bytes
 
   pub never_open : (input : List ℕ) (n : ℕ) → 15 ≤ length input → Answer input (Err ExhaustedInput) n → ⊥
   never_open input n enough o =
-      let w : List ℕ = take 15 input in
-      let begins : input ≡ w ++ drop 15 input = sym (take-append-drop 15 input) in
-      let following : (p k : List ℕ) → w ≡ p ++ k → input ≡ p ++ (k ++ drop 15 input) = λ p k h. begins ∙ ap (λ l. l ++ drop 15 input) h ∙ append_assoc p k (drop 15 input) in
-      o.undecided w (drop 15 input) TooLong begins (case_5 (record {
+      let following : (p k : List ℕ) → take 15 input ≡ p ++ k → input ≡ p ++ (k ++ drop 15 input) = λ p k h. sym (take-append-drop 15 input) ∙ ap (λ l. l ++ drop 15 input) h ∙ append_assoc p k (drop 15 input) in
+      o.undecided (take 15 input) (drop 15 input) TooLong (sym (take-append-drop 15 input)) (case_5 (record {
         long = length-take 15 input ∙ omega arith;
         no_sentence = λ p k a h is. o.no_sentence p (k ++ drop 15 input) a (following p k h) is;
         undecided = λ p k e h d. o.undecided p (k ++ drop 15 input) e (following p k h) (by_bytes d);
@@ -163,18 +147,14 @@ module _ (rows : Rows) (strict : Bool) where
 
   pub first_fifteen : (input : List ℕ) (r : Result Instruction DecodeError) (n : ℕ) → 15 ≤ length input → Answer (take 15 input) r n → Answer input r n
   first_fifteen input r n enough a =
-      let long : 15 ≤ length (take 15 input) = let h = length-take 15 input in omega arith in
       subst (λ l. Answer l r n) (take-append-drop 15 input)
-      (stays (take 15 input) (drop 15 input) r n (λ e. never_open (take 15 input) n long (subst (λ x. Answer (take 15 input) x n) e a)) a)
+      (stays (take 15 input) (drop 15 input) r n (λ e. never_open (take 15 input) n (omega (arith, length-take 15 input)) (subst (λ x. Answer (take 15 input) x n) e a)) a)
 
   by_fifteen : (input : List ℕ) (r : Result Instruction DecodeError) (n : ℕ) → Answer input r n → (length input < 15) ⊎ (15 ≤ length input) → n ≤ 15
-  by_fifteen input r n a (inl less) = let h = count_within input r n a in omega arith
+  by_fifteen input r n a (inl less) = omega (arith, count_within input r n a)
   by_fifteen input r n a (inr enough) =
       let o = some_answer rows strict (take 15 input) in
-      let within : o.1 ≤ length (take 15 input) = count_within (take 15 input) o.0 o.1 o.2 in
-      let same : n ≡ o.1 = (once input r o.0 n o.1 a (first_fifteen input o.0 o.1 enough o.2)).1 in
-      let long : length (take 15 input) ≤ 15 = let h = length-take 15 input in omega arith in
-      omega arith
+      omega (arith, count_within (take 15 input) o.0 o.1 o.2, (once input r o.0 n o.1 a (first_fifteen input o.0 o.1 enough o.2)).1, length-take 15 input)
 
   pub at_most_fifteen : (input : List ℕ) (r : Result Instruction DecodeError) (n : ℕ) → Answer input r n → n ≤ 15
   at_most_fifteen input r n a = by_fifteen input r n a (cases_lt (length input) 15)
@@ -182,7 +162,7 @@ module _ (rows : Rows) (strict : Bool) where
   -- ---- lengths
 
   sentence_is_some : (s : List ℕ) (a : Instruction) → IsSentence rows strict s a → 0 < length s
-  sentence_is_some [] a is = absurd (none_settles rows strict [] [] (record { left = []; since_mark = 0; since_made = 0 }) [] refl (out_nothing rows strict (record { left = []; since_mark = 0; since_made = 0 }) refl) [] [] (Ok is.reading) refl (sentence_settles rows strict [] a is))
+  sentence_is_some [] a is = absurd (none_settles rows strict [] [] (fresh []) [] refl (out_nothing rows strict (fresh []) refl) [] [] (Ok is.reading) refl (sentence_settles rows strict [] a is))
   sentence_is_some (c ∷ s) a is = omega arith
 
   pub accepted_within : (input : List ℕ) (a : Instruction) (n : ℕ) → Answer input (Ok a) n → (0 < a.length) × (a.length ≤ 15) × (a.length ≤ length input) × (a.length ≡ n)
@@ -190,7 +170,5 @@ module _ (rows : Rows) (strict : Bool) where
       let is = h.is in
       let counts : a.length ≡ length h.sentence = ap (λ i. i.length) is.yields in
       let some : 0 < length h.sentence = sentence_is_some h.sentence a is in
-      let short : length h.sentence ≤ 15 = is.short in
       let within : length h.sentence ≤ length input = beginning_le h.sentence h.rest input h.begins in
-      let long : length h.sentence ≡ n = h.long in
-      (omega (arith, counts), omega (arith, counts), omega (arith, counts), counts ∙ long)
+      (omega arith, omega (arith, is.short), omega arith, counts ∙ h.long)

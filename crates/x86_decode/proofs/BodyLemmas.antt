@@ -1,9 +1,9 @@
 -- What the body takes is in the grammar, and what the grammar has is taken.
-use Rattle.std.proofs.Common.{◌≡◌, ℕ, ◌≤◌, Bool, true, false, if◌then◌else◌, List, [], ◌∷◌, ◌++◌, length, Option, Some, None, Result, Ok, Err, refl, sym, ap, subst, ◌∙◌, arith, length-append, append_assoc}
+use Rattle.std.proofs.Common.{◌≡◌, ◌≢◌, ℕ, ◌≤◌, Bool, true, false, if◌then◌else◌, List, [], ◌∷◌, ◌++◌, length, Option, Some, None, Result, Ok, Err, refl, sym, ap, subst, ◌∙◌, arith, length-append, append_assoc}
 use Rattle.std.proofs.lemmas.List.{append-nil}
 use Rattle.x86_arch.specs.Reader.{State, advanced}
 use Rattle.x86_fields.specs.declared.errors.DecodeError.{DecodeError}
-use Rattle.x86_fields.specs.declared.errors.DecodeError.TheVariants.{InvalidOpcode, InvalidPrefixes}
+use Rattle.x86_fields.specs.declared.errors.DecodeError.TheVariants.{ExhaustedInput, InvalidOpcode, InvalidPrefixes}
 use Rattle.x86_fields.specs.declared.prefixes.Prefixes.{Prefixes}
 use Rattle.x86_fields.specs.Run.{is_prefix, reading_of}
 use Rattle.x86_fields.specs.Steps.{Step, Outcome, ◌>>=◌}
@@ -91,12 +91,9 @@ module _ (rows : Rows) (strict : Bool) where
       (takes_bind head_step after_head (run ++ entry_byte map b ∷ []) (entry_rest map b ++ tail) (reading_of run, entry_byte map b) r (takes_head run (entry_byte map b) is (entry_plain map b in_map))
       (takes_bind (opcode_step (reading_of run) (entry_byte map b)) (after_opcode (reading_of run)) (entry_rest map b) tail (map, b) r (takes_opcode (reading_of run) map b in_map) t))
 
-  with_some : (o : Option TableRow) (row : TableRow) (p : Prefixes) (tail : List ℕ) (r : Result Reading DecodeError) → o ≡ Some row → Takes (row_step strict row p) tail r → Takes (with_row o p) tail r
-  with_some o row p tail r e t = subst (λ x. Takes (with_row x p) tail r) (sym e) t
-
   pub takes_whole : (s : List ℕ) (reading : Reading) → Whole rows strict s reading → Takes (walk_within rows strict) s (Ok reading)
   takes_whole s reading w = subst (λ l. Takes (walk_within rows strict) l (Ok reading)) (sym w.spelled)
-      (takes_at w.run w.map w.opcode w.tail (Ok reading) w.prefixes w.in_map (with_some _ w.row (seen_by w.map w.opcode (reading_of w.run)) w.tail (Ok reading) w.has_row (takes_row (record_of strict w.row (seen_by w.map w.opcode (reading_of w.run))) (seen_by w.map w.opcode (reading_of w.run)) w.tail reading w.row_spelled)))
+      (takes_at w.run w.map w.opcode w.tail (Ok reading) w.prefixes w.in_map (rw w.has_row (takes_row (record_of strict w.row (seen_by w.map w.opcode (reading_of w.run))) (seen_by w.map w.opcode (reading_of w.run)) w.tail reading w.row_spelled)))
 
   takes_no_map : (run : List ℕ) (c : ℕ) → is_run run ≡ true → is_vex c ≡ true → Takes (walk_within rows strict) (run ++ c ∷ []) (Err (vex_refusal (reading_of run)))
   unfolding walk_within
@@ -110,33 +107,15 @@ module _ (rows : Rows) (strict : Bool) where
     pub takes : Takes (walk_within rows strict) q r
     pub final : IsFinal r
 
+  early_by : {q : List ℕ} {e : DecodeError} → Takes (walk_within rows strict) q (Err e) → e ≢ ExhaustedInput → (r : Result Reading DecodeError) × Settled q r × (verdict r ≡ Err e)
+  early_by {q} {e} t d = (Err e, record { takes = t; final = final_err e d }, refl)
+
   pub early : (q : List ℕ) (e : DecodeError) → DecidesByBytes rows strict q e → (r : Result Reading DecodeError) × Settled q r × (verdict r ≡ Err e)
-  early q e (case_1 c) = (
-    Err (vex_refusal (reading_of c.run)),
-    record {
-      takes = subst (λ l. Takes (walk_within rows strict) l (Err (vex_refusal (reading_of c.run)))) (sym c.spelled) (takes_no_map c.run c.byte c.prefixes c.vex);
-      final = final_err (vex_refusal (reading_of c.run)) (vex_final (reading_of c.run));
-    },
-    refl,
-  )
-  early q e (case_2 c) = (
-    Err InvalidOpcode,
-    record {
-      takes = subst (λ l. Takes (walk_within rows strict) l (Err InvalidOpcode)) (sym c.spelled) (takes_at c.run c.map c.opcode [] (Err InvalidOpcode) c.prefixes c.in_map (subst (λ o. Takes (with_row o (seen_by c.map c.opcode (reading_of c.run))) [] (Err InvalidOpcode)) (sym c.no_row) (takes_pure (Err InvalidOpcode))));
-      final = final_err InvalidOpcode (λ no. cc);
-    },
-    refl,
-  )
+  early q e (case_1 c) = early_by (rw c.spelled (takes_no_map c.run c.byte c.prefixes c.vex)) (vex_final (reading_of c.run))
+  early q e (case_2 c) = early_by (rw c.spelled (takes_at c.run c.map c.opcode [] (Err InvalidOpcode) c.prefixes c.in_map (rw c.no_row (takes_pure (Err InvalidOpcode))))) (λ no. cc)
   early q e (case_3 fault c) =
       let p : Prefixes = seen_by c.map c.opcode (reading_of c.run) in
-      let r : Result Reading DecodeError = Err (error_of fault) in (
-        r,
-        record {
-          takes = subst (λ l. Takes (walk_within rows strict) l r) (sym c.spelled) (takes_at c.run c.map c.opcode c.tail r c.prefixes c.in_map (with_some _ c.row p c.tail r c.has_row (takes_row_refused (record_of strict c.row p) p c.tail fault c.refuses)));
-          final = final_err (error_of fault) (fault_error fault);
-        },
-        refl,
-      )
+      early_by (rw c.spelled (takes_at c.run c.map c.opcode c.tail (Err (error_of fault)) c.prefixes c.in_map (rw c.has_row (takes_row_refused (record_of strict c.row p) p c.tail fault c.refuses)))) (fault_error fault)
   early q e (case_4 c) = (Ok c.reading, record { takes = takes_whole q c.reading c.whole; final = final_ok c.reading }, ap (λ t. if t then Ok c.reading else Err InvalidPrefixes) c.locked)
 
   pub sentence_settles : (q : List ℕ) (a : Instruction) → (is : IsSentence rows strict q a) → Settled q (Ok is.reading)
@@ -165,7 +144,7 @@ module _ (rows : Rows) (strict : Bool) where
   pub halts_body : (q : List ℕ) → EndsBetweenPieces rows strict q → Halts (walk_within rows strict) q
   halts_body q (in_head run map beginning back spelled is e) = subst (Halts (walk_within rows strict)) (sym spelled) (halts_beginning run beginning is (escape_beginning map beginning back e))
   halts_body q (in_tail run map b row tail spelled is in_map has k) = subst (Halts (walk_within rows strict)) (sym spelled)
-      (halts_at run map b tail is in_map (subst (λ o. Halts (with_row o (seen_by map b (reading_of run))) tail) (sym has) (halts_row (record_of strict row (seen_by map b (reading_of run))) (seen_by map b (reading_of run)) tail k)))
+      (halts_at run map b tail is in_map (rw has (halts_row (record_of strict row (seen_by map b (reading_of run))) (seen_by map b (reading_of run)) tail k)))
 
   pub out_nothing : Out (walk_within rows strict) []
   unfolding walk_within

@@ -75,12 +75,7 @@ module _ (same_elsewhere : SameElsewhere) (fence_by_default : ReadByDefault) (fe
   compared_group : (row : TableRow) (p : Prefixes) (s : State ℕ) → Compared (record_step (group_record true row p) p s) (record_step (group_record false row p) p s)
   unfolding record_step group_record
   compared_group row p s =
-      let u : ModrmUse = group_modrm row.form in
-      let strictly : ℕ → Step Reading = λ m. read_plan (group_plan row p m true) p m in
-      let default : ℕ → Step Reading = λ m. read_plan (group_plan row p m false) p m in
-      let fault : Outcome (Unit {0}) = refuse_fault (group_fault row.form p) s in
-      compared_from fault.answer fault.after (λ _ t. then_from (read_modrm u t).answer (read_modrm u t).after strictly) (λ _ t. then_from (read_modrm u t).answer (read_modrm u t).after default)
-      (λ _ t. compared_from (read_modrm u t).answer (read_modrm u t).after strictly default (λ m z. compared_plan row p m z (same_elsewhere row p m)))
+      compared_from (refuse_fault (group_fault row.form p) s).answer (refuse_fault (group_fault row.form p) s).after _ _ (λ _ t. compared_from (read_modrm (group_modrm row.form) t).answer (read_modrm (group_modrm row.form) t).after _ _ (λ m z. compared_plan row p m z (same_elsewhere row p m)))
 
   compared_row : (row : TableRow) (p : Prefixes) (s : State ℕ) → Compared (row_step true row p s) (row_step false row p s)
   compared_row row p s = by (is_group row.form)
@@ -180,17 +175,10 @@ module _ (same_elsewhere : SameElsewhere) (fence_by_default : ReadByDefault) (fe
   refused_by (Err x) e = e
 
   module _ (rows : Rows) where
-    abbrev after_opcode : Bool → Prefixes → Map × ℕ → Step Reading
-    after_opcode strict p o s = then_from (some_row (rows o.0 (column_of p) o.1) s).answer (some_row (rows o.0 (column_of p) o.1) s).after (λ row. row_step strict row (seen_by o.0 o.1 p))
-
-    abbrev after_head : Bool → Prefixes × ℕ → Step Reading
-    after_head strict h s = then_from (opcode_step h.0 h.1 s).answer (opcode_step h.0 h.1 s).after (after_opcode strict h.0)
-
     compared_body : (s : State ℕ) → Compared (walk_within rows true s) (walk_within rows false s)
     unfolding walk_within
-    compared_body s = compared_from (head_step s).answer (head_step s).after (after_head true) (after_head false) (λ h t.
-        compared_from (opcode_step h.0 h.1 t).answer (opcode_step h.0 h.1 t).after (after_opcode true h.0) (after_opcode false h.0) (λ o z.
-        let row = some_row (rows o.0 (column_of h.0) o.1) z in compared_from row.answer row.after (λ k. row_step true k (seen_by o.0 o.1 h.0)) (λ k. row_step false k (seen_by o.0 o.1 h.0)) (λ k. compared_row k (seen_by o.0 o.1 h.0))))
+    compared_body s = compared_from (head_step s).answer (head_step s).after _ _ (λ h t. compared_from (opcode_step h.0 h.1 t).answer (opcode_step h.0 h.1 t).after _ _ (λ o z.
+        let row = some_row (rows o.0 (column_of h.0) o.1) z in compared_from row.answer row.after _ _ (λ k. compared_row k (seen_by o.0 o.1 h.0))))
 
     -- ---- an input that is read by default
 

@@ -28,9 +28,6 @@ use Rattle.x86_decode.specs.Walk.{row_step, plan_at}
 abbrev after_modrm : Bool → TableRow → Prefixes → Result ℕ DecodeError → State ℕ → Outcome Reading
 after_modrm strict row p r s = then_from r s (λ m. read_plan (plan_at strict row p m) p m)
 
-same_after_modrm : {r : Result ℕ DecodeError} {t : State ℕ} {o : Outcome ℕ} (strict : Bool) (row : TableRow) (p : Prefixes) → outcome r t ≡ o → after_modrm strict row p r t ≡ after_modrm strict row p o.answer o.after
-same_after_modrm strict row p e = ap (λ o. after_modrm strict row p o.answer o.after) e
-
 -- ---- rows of the table
 
 plain_row : (strict : Bool) (row : TableRow) (p : Prefixes) (s : State ℕ) → is_group row.form ≡ false → row_step strict row p s ≡ after_modrm strict row p (read_modrm (modrm_use row.form) s).answer (read_modrm (modrm_use row.form) s).after
@@ -38,7 +35,7 @@ unfolding record_step form_record
 plain_row strict row p s e = rw e refl
 
 form_row : {r : Result ℕ DecodeError} {t : State ℕ} (s : State ℕ) (strict : Bool) (row : TableRow) (p : Prefixes) (u : ModrmUse) → modrm_use row.form ≡ u → is_group row.form ≡ false → outcome r t ≡ read_modrm u s → after_modrm strict row p r t ≡ row_step strict row p s
-form_row {r} {t} s strict row p u usage plain e = same_after_modrm strict row p (e ∙ ap (λ k. read_modrm k s) (sym usage)) ∙ sym (plain_row strict row p s plain)
+form_row {r} {t} s strict row p u usage plain e = ap (λ o. after_modrm strict row p o.answer o.after) (e ∙ ap (λ k. read_modrm k s) (sym usage)) ∙ sym (plain_row strict row p s plain)
 
 -- ---- groups by reg
 
@@ -55,7 +52,7 @@ group_row g strict row p s e =
     ∙ reg_record g strict row p s e ∙ reg_following g strict row p (read_modrm EitherForm s).answer (read_modrm EitherForm s).after e
 
 chosen_row : {r : Result ℕ DecodeError} {t : State ℕ} (s : State ℕ) (strict : Bool) (row : TableRow) (p : Prefixes) (g : RegGroup) → row.form ≡ group_form g → outcome r t ≡ read_modrm EitherForm s → after_modrm strict row p r t ≡ row_step strict row p s
-chosen_row {r} {t} s strict row p g e b = same_after_modrm strict row p b ∙ sym (group_row g strict row p s e)
+chosen_row {r} {t} s strict row p g e b = ap (λ o. after_modrm strict row p o.answer o.after) b ∙ sym (group_row g strict row p s e)
 
 group_described : (strict : Bool) (row : TableRow) (p : Prefixes) (m o : ℕ) (g : RegGroup) (e : FormEncoding) → row.form ≡ group_form g → Chooses g m o e → IsTrue (is_described e.after_opcode) → plan_of e (carried row.form) o p m ≡ plan_at strict row p m
 group_described strict row p m o g e belongs d is =

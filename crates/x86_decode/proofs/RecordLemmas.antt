@@ -16,13 +16,12 @@ use Rattle.x86_forms.specs.Words.{rows_of, packed}
 use Rattle.x86_operands.specs.declared.plans.Fault.TheVariants.{Incomplete}
 use Rattle.x86_operands.specs.declared.plans.Moment.{Moment}
 use Rattle.x86_operands.specs.declared.plans.Verdict.TheVariants.{Refuses}
-use Rattle.x86_operands.specs.Plans.{RowRecord}
 use Rattle.x86_operands.specs.Forms.{form_record}
 use Rattle.x86_operands.specs.Pieces.{modrm_of, RefusesTail, at_modrm, after_address, after_suffix, no_name, RefusesRow, at_opcode, past_opcode}
 use Rattle.x86_groups.specs.Groups.{group_record}
 use Rattle.x86_decode.specs.declared.instructions.Instruction.{Instruction}
 use Rattle.x86_decode.specs.Head.{Rows, column_of, seen_by}
-use Rattle.x86_decode.specs.Grammar.{record_of, IsSentence, IsRefusedByRecord, IsAnswer}
+use Rattle.x86_decode.specs.Grammar.{record_of, IsRefusedByRecord, IsAnswer}
 use Rattle.x86_decode.specs.Answer.{answer_of, count_of}
 use Rattle.x86_decode.specs.Choices.{IsFence}
 use Rattle.x86_decode.proofs.PrintedLemmas.{printed_answer}
@@ -40,17 +39,11 @@ module _ (plain : PlainIsSmall) (group : GroupIsSmall) where
   record_small strict row p m = cond_both (is_group row.form) (group_record strict row p) (form_record row p) (λ r. (r.plan m).size ≤ 64) (λ _. group strict row p m) (λ _. plain row p m)
 
   -- an instruction has the size of its plan
-  sentence_small : (rows : Rows) (strict : Bool) (s : List ℕ) (a : Instruction) → IsSentence rows strict s a → a.operand_list.mem_size < 65
-  sentence_small rows strict s a is =
-      let p : Prefixes = seen_by is.whole.map is.whole.opcode (reading_of is.whole.run) in
-      let r : RowRecord = record_of strict is.whole.row p in
-      let m : ℕ = modrm_of r.modrm is.whole.row_spelled.modrm in
-      let size : a.operand_list.mem_size ≡ (r.plan m).size = ap (λ i. i.operand_list.mem_size) is.yields ∙ ap (λ x. x.mem_size) is.whole.row_spelled.tail_spelled.yields in
-      let small : (r.plan m).size ≤ 64 = record_small strict is.whole.row p m in
-      omega arith
-
   pub answer_small : (rows : Rows) (strict : Bool) (input : List ℕ) (a : Instruction) (n : ℕ) → IsAnswer rows strict input (Ok a) n → a.operand_list.mem_size < 65
-  answer_small rows strict input a n h = sentence_small rows strict h.sentence a h.is
+  answer_small rows strict input a n h =
+      let w = h.is.whole in
+      let p : Prefixes = seen_by w.map w.opcode (reading_of w.run) in
+      omega (arith, ap (λ i. i.operand_list.mem_size) h.is.yields, ap (λ x. x.mem_size) w.row_spelled.tail_spelled.yields, record_small strict w.row p (modrm_of (record_of strict w.row p).modrm w.row_spelled.modrm))
 
   pub printed_small : (strict : Bool) (xs : List ℕ) (i : Instruction) → answer_of strict xs ≡ Ok i → i.operand_list.mem_size < 65
   printed_small strict xs i e = answer_small (rows_of packed) strict xs i (count_of strict xs) (printed_answer strict xs (Ok i) (sym e))

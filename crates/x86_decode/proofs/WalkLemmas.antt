@@ -1,5 +1,5 @@
 -- What the true reader has taken where the bounded one has ended.
-use Rattle.std.proofs.Common.{◌≡◌, ℕ, ◌+◌, ◌-◌, ◌≤◌, Bool, true, false, length, drop, take, Result, Ok, Err, refl, sym, ap, ◌∙◌, arith, length-take, length-drop, nat_le}
+use Rattle.std.proofs.Common.{◌≡◌, ℕ, ◌+◌, ◌-◌, ◌≤◌, Bool, true, false, length, drop, Result, Ok, Err, refl, sym, ap, ◌∙◌, arith, length-take, length-drop, nat_le}
 use Rattle.std.proofs.lemmas.Bool.Decides.{nat_tests}
 use Rattle.x86_arch.specs.Reader.{State, advanced}
 use Rattle.x86_fields.specs.declared.errors.DecodeError.{DecodeError}
@@ -33,10 +33,8 @@ module _ (rows : Rows) (strict : Bool) (m t : State ℕ) (a : ℕ) (r : Result R
       let mark : t.since_mark ≡ m.since_mark + v.count = ap (λ x. x.since_mark) after ∙ ap (λ x. x.since_mark) v.after in
       let made : t.since_made ≡ m.since_made + v.count = ap (λ x. x.since_made) after ∙ ap (λ x. x.since_made) v.after in
       let here : t.since_made ≡ m.since_made + (15 - a) = following.made ∙ ap (λ x. x.since_made + (15 - a)) (sym same) in
-      let long : length (take 15 m.left) ≤ length m.left = let h = length-take 15 m.left in omega arith in
-      let less : v.count ≤ length (take 15 m.left) = v.within in
       let count : t.since_mark ≡ 15 - a = omega arith in
-      let within : 15 - a ≤ length m.left = omega arith in
+      let within : 15 - a ≤ length m.left = omega (arith, v.within, length-take 15 m.left) in
       record {
         count = count;
         room = within;

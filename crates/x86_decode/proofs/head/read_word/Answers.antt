@@ -2,7 +2,6 @@ use Rattle.std.proofs.Common.{rules, ◌≡◌, Err, true, sym, ap, ◌∙◌}
 use Rattle.x86_fields.specs.Steps.{outcome, then_from}
 use Rattle.x86_forms.specs.Words.{rows_of}
 use Rattle.x86_forms.specs.declared.Map.TheVariants.{One}
-use Rattle.x86_decode.specs.declared.leads.Lead.TheVariants.{Escape, Vex}
 use Rattle.x86_decode.specs.Head.{seen_by}
 use Rattle.x86_decode.specs.Lead.{lead_of}
 use Rattle.x86_decode.specs.Walk.{found_word}
@@ -13,31 +12,25 @@ use Rattle.x86_decode.proofs.head.read_word.Goals as goal
 pub returns-in_err-second-in-Escape : goal.returns-in_err-second-in-Escape
 returns-in_err-second-in-Escape g c =
     let r : c.from_residual.result ≡ Err c.in_err-second-in-Escape.field-0.0 = search rules in
-    let is : lead_of c.args.byte ≡ Escape = search rules in
     ap (λ x. then_from x (g.T.Reader.state c.next_byte.new.reader) (found_word c.args.prefixes.now)) r
-    ∙ found_escape (rows_of (g.W.Words.word c.args.rows.now)) c.args.prefixes.now c.args.byte (Err c.in_err-second-in-Escape.field-0.0) (g.T.Reader.state c.args.reader.now) (g.T.Reader.state c.next_byte.new.reader) is c.in_err-second-in-Escape.ensures
+    ∙ found_escape (rows_of (g.W.Words.word c.args.rows.now)) c.args.prefixes.now c.args.byte (Err c.in_err-second-in-Escape.field-0.0) (g.T.Reader.state c.args.reader.now) (g.T.Reader.state c.next_byte.new.reader) (search rules) c.in_err-second-in-Escape.ensures
 
 pub returns-in_err-map-in-Escape : goal.returns-in_err-map-in-Escape
 returns-in_err-map-in-Escape g c =
     let r : c.from_residual-in_err-map-in-Escape.result ≡ Err c.in_err-map-in-Escape.field-0.0 = search rules in
-    let is : lead_of c.args.byte ≡ Escape = search rules in
     ap (λ x. then_from x (g.T.Reader.state c.read_escaped.new.reader) (found_word c.args.prefixes.now)) r
-    ∙ found_escaped (rows_of (g.W.Words.word c.args.rows.now)) c.args.prefixes.now c.args.byte c.in_ok-second-in-Escape.second (Err c.in_err-map-in-Escape.field-0.0) (g.T.Reader.state c.args.reader.now) (g.T.Reader.state c.next_byte.new.reader) (g.T.Reader.state c.read_escaped.new.reader) is c.in_ok-second-in-Escape.ensures c.in_err-map-in-Escape.ensures
+    ∙ found_escaped (rows_of (g.W.Words.word c.args.rows.now)) c.args.prefixes.now c.args.byte c.in_ok-second-in-Escape.second (Err c.in_err-map-in-Escape.field-0.0) (g.T.Reader.state c.args.reader.now) (g.T.Reader.state c.next_byte.new.reader) (g.T.Reader.state c.read_escaped.new.reader) (search rules) c.in_ok-second-in-Escape.ensures c.in_err-map-in-Escape.ensures
 
 pub returns-in_ok-map-in-Escape : goal.returns-in_ok-map-in-Escape
 returns-in_ok-map-in-Escape g c =
-    let is : lead_of c.args.byte ≡ Escape = search rules in
-    let m = c.in_ok-map-in-Escape.map in
-    let o = c.in_ok-map-in-Escape.opcode in
     ap (λ q. found_word q c.word-word.result (g.T.Reader.state c.read_escaped.new.reader)) c.seen_by.ensures
-    ∙ ap (λ w. found_word (seen_by m o c.args.prefixes.now) w (g.T.Reader.state c.read_escaped.new.reader)) (c.word-word.ensures ∙ ap (λ k. g.W.Words.word c.args.rows.now m k o) c.column_of.ensures)
-    ∙ found_escaped (rows_of (g.W.Words.word c.args.rows.now)) c.args.prefixes.now c.args.byte c.in_ok-second-in-Escape.second _ (g.T.Reader.state c.args.reader.now) (g.T.Reader.state c.next_byte.new.reader) (g.T.Reader.state c.read_escaped.new.reader) is c.in_ok-second-in-Escape.ensures c.in_ok-map-in-Escape.ensures
+    ∙ ap (λ w. found_word (seen_by c.in_ok-map-in-Escape.map c.in_ok-map-in-Escape.opcode c.args.prefixes.now) w (g.T.Reader.state c.read_escaped.new.reader)) (c.word-word.ensures ∙ ap (λ k. g.W.Words.word c.args.rows.now c.in_ok-map-in-Escape.map k c.in_ok-map-in-Escape.opcode) c.column_of.ensures)
+    ∙ found_escaped (rows_of (g.W.Words.word c.args.rows.now)) c.args.prefixes.now c.args.byte c.in_ok-second-in-Escape.second _ (g.T.Reader.state c.args.reader.now) (g.T.Reader.state c.next_byte.new.reader) (g.T.Reader.state c.read_escaped.new.reader) (search rules) c.in_ok-second-in-Escape.ensures c.in_ok-map-in-Escape.ensures
 
 pub returns-in-Vex : goal.returns-in-Vex
 returns-in-Vex g c =
-    let is : lead_of c.args.byte ≡ Vex = search rules in
     ap (λ e. outcome (Err e) (g.T.Reader.state c.args.reader.now)) c.vex_refusal.ensures
-    ∙ found_vex (rows_of (g.W.Words.word c.args.rows.now)) c.args.prefixes.now c.args.byte (g.T.Reader.state c.args.reader.now) is
+    ∙ found_vex (rows_of (g.W.Words.word c.args.rows.now)) c.args.prefixes.now c.args.byte (g.T.Reader.state c.args.reader.now) (search rules)
 
 pub returns-in_default : goal.returns-in_default
 returns-in_default g c =

@@ -6,9 +6,7 @@ use Rattle.x86_decode.proofs.rows.line_without_modrm.Goals as goal
 
 pub returns-then-allows-clause-read : goal.returns-then-allows-clause-read
 returns-then-allows-clause-read c = λ strict i s.
-    let b = c.args.encoding.now.after_opcode in
-    let may : allows b c.absent-modrm.result ≡ true = search rules in
-    row_without_modrm s strict c.args.row.now i.prefixes c.absent-modrm.result b c.requires.group c.requires.usage c.requires.no_modrm may c.absent-modrm.ensures
+    row_without_modrm s strict c.args.row.now i.prefixes c.absent-modrm.result c.args.encoding.now.after_opcode c.requires.group c.requires.usage c.requires.no_modrm (search rules) c.absent-modrm.ensures
 
 pub returns-then-allows-clause-found : goal.returns-then-allows-clause-found
 returns-then-allows-clause-found c =

@@ -1,8 +1,6 @@
 use Rattle.x86_forms.specs.Words.{rows_of}
-use Rattle.std.proofs.Common.{rules, ◌≡◌, Ok, Err, true, false, sym, ap, ◌∙◌, length, nat_le}
-use Rattle.x86_arch.specs.Reader.{advanced}
+use Rattle.std.proofs.Common.{rules, Ok, Err, sym, ap, ◌∙◌}
 use Rattle.x86_decode.specs.Instruction.{reading_in}
-use Rattle.x86_fields.specs.Errors.{is_exhausted}
 use Rattle.x86_decode.proofs.WalkLemmas.{walked, ends_judged, ends_error, ends_long, ends_open}
 use Rattle.x86_decode.proofs.walk.walk_bounded.Goals as goal
 
@@ -17,23 +15,16 @@ pub returns-then-not-is_exhausted-clause-walked : goal.returns-then-not-is_exhau
 returns-then-not-is_exhausted-clause-walked g c =
     let b = c.offset-inst.new.self in
     let w = walked (rows_of (g.W.Words.word c.args.rows.now)) c.args.strict (g.T.Reader.state c.args.reader.now) (g.T.Reader.state b.reader.now) b.allowed (Err c.in-Err.error) _ g.K.Start.state (rw c.in-Err.is at c.walk_within-result.ensures) c.offset-inst.ensures.unmoved b.few b.moved c.requires.here c.requires.marked in
-    let k : is_exhausted c.in-Err.error ≡ false = search rules in
-    ends_error (rows_of (g.W.Words.word c.args.rows.now)) c.args.strict (g.T.Reader.state c.args.reader.now) (g.T.Reader.state b.reader.now) b.allowed c.in-Err.error w k
+    ends_error (rows_of (g.W.Words.word c.args.rows.now)) c.args.strict (g.T.Reader.state c.args.reader.now) (g.T.Reader.state b.reader.now) b.allowed c.in-Err.error w (search rules)
 
 pub returns-then-takes_rest-clause-walked : goal.returns-then-takes_rest-clause-walked
 returns-then-takes_rest-clause-walked g c =
     let b = c.offset-inst.new.self in
     let w = walked (rows_of (g.W.Words.word c.args.rows.now)) c.args.strict (g.T.Reader.state c.args.reader.now) (g.T.Reader.state b.reader.now) b.allowed (Err c.in-Err.error) _ g.K.Start.state (rw c.in-Err.is at c.walk_within-result.ensures) c.offset-inst.ensures.unmoved b.few b.moved c.requires.here c.requires.marked in
-    let k : is_exhausted c.in-Err.error ≡ true = search rules in
-    let enough : nat_le b.allowed (length (g.T.Reader.state b.reader.now).left) ≡ true = search rules in
-    let moved : g.T.Reader.state c.takes_rest.new.reader ≡ advanced b.allowed (g.T.Reader.state b.reader.now) = search rules in
-    ends_long (rows_of (g.W.Words.word c.args.rows.now)) c.args.strict (g.T.Reader.state c.args.reader.now) (g.T.Reader.state b.reader.now) (g.T.Reader.state c.takes_rest.new.reader) b.allowed c.in-Err.error w k b.few enough moved
+    ends_long (rows_of (g.W.Words.word c.args.rows.now)) c.args.strict (g.T.Reader.state c.args.reader.now) (g.T.Reader.state b.reader.now) (g.T.Reader.state c.takes_rest.new.reader) b.allowed c.in-Err.error w (search rules) b.few (search rules) (search rules)
 
 pub returns-else-takes_rest-clause-walked : goal.returns-else-takes_rest-clause-walked
 returns-else-takes_rest-clause-walked g c =
     let b = c.offset-inst.new.self in
     let w = walked (rows_of (g.W.Words.word c.args.rows.now)) c.args.strict (g.T.Reader.state c.args.reader.now) (g.T.Reader.state b.reader.now) b.allowed (Err c.in-Err.error) _ g.K.Start.state (rw c.in-Err.is at c.walk_within-result.ensures) c.offset-inst.ensures.unmoved b.few b.moved c.requires.here c.requires.marked in
-    let k : is_exhausted c.in-Err.error ≡ true = search rules in
-    let short : nat_le b.allowed (length (g.T.Reader.state b.reader.now).left) ≡ false = search rules in
-    let unmoved : g.T.Reader.state c.takes_rest.new.reader ≡ g.T.Reader.state b.reader.now = search rules in
-    ends_open (rows_of (g.W.Words.word c.args.rows.now)) c.args.strict (g.T.Reader.state c.args.reader.now) (g.T.Reader.state b.reader.now) (g.T.Reader.state c.takes_rest.new.reader) b.allowed c.in-Err.error w k b.few short unmoved
+    ends_open (rows_of (g.W.Words.word c.args.rows.now)) c.args.strict (g.T.Reader.state c.args.reader.now) (g.T.Reader.state b.reader.now) (g.T.Reader.state c.takes_rest.new.reader) b.allowed c.in-Err.error w (search rules) b.few (search rules) (search rules)
