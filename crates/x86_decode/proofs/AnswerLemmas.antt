@@ -1,6 +1,5 @@
 -- What follows from the definition of the answer.
-use Rattle.std.proofs.Common.{◌≡◌, ◌≢◌, ℕ, suc, ◌+◌, ◌<◌, ◌≤◌, ◌⊎◌, inl, inr, Bool, List, [], ◌∷◌, ◌++◌, length, drop, take, Result, Ok, Err, refl, sym, ap, subst, ◌∙◌, arith, length-append, append_assoc, length-take}
-use Rattle.std.proofs.lemmas.Bool.{cases_lt}
+use Rattle.std.proofs.Common.{◌≡◌, ◌≢◌, ℕ, suc, ◌+◌, ◌<◌, ◌≤◌, Bool, List, [], ◌∷◌, ◌++◌, length, drop, take, Result, Ok, Err, refl, sym, ap, subst, ◌∙◌, arith, length-append, append_assoc, length-take}
 use Rattle.std.proofs.lemmas.List.{append-nil, take-append-drop, take-append-le}
 use Rattle.std.proofs.Math.Seq.{take-append_seam}
 use Rattle.x86_fields.proofs.StepLemmas.{fresh}
@@ -43,14 +42,10 @@ module _ (rows : Rows) (strict : Bool) where
     begins = ap (λ l. l ++ more) r.begins ∙ append_assoc r.beginning r.rest more;
     decides = r.decides;
     long = r.long;
-    shortest = λ p k f h d. by p k f h d (cases_lt (length p) n);
+    shortest = λ p k f h d.
+        let no : length p < n → ⊥ = λ less. omega (arith, r.shortest p (drop (length p) input) f (beginning_of input more p k h (omega (arith, beginning_le r.beginning r.rest input r.begins, r.long))) d) in omega arith;
     no_sentence = λ s k a h is. no_sentence_more r.beginning r.rest more e r.decides s k a (ap (λ l. l ++ more) (sym r.begins) ∙ h) is;
   }
-    where
-      by : (p k : List ℕ) (f : DecodeError) → input ++ more ≡ p ++ k → Decides rows strict p f → (length p < n) ⊎ (n ≤ length p) → n ≤ length p
-      by p k f h d (inl less) =
-          r.shortest p (drop (length p) input) f (beginning_of input more p k h (omega (arith, beginning_le r.beginning r.rest input r.begins, r.long))) d
-      by p k f h d (inr le) = le
 
   pub stays : (input more : List ℕ) (r : Result Instruction DecodeError) (n : ℕ) → r ≢ Err ExhaustedInput → Answer input r n → Answer (input ++ more) r n
   stays input more (Ok a) n d h = record { sentence = h.sentence; rest = h.rest ++ more; begins = ap (λ l. l ++ more) h.begins ∙ append_assoc h.sentence h.rest more; long = h.long; is = h.is }
@@ -150,14 +145,11 @@ module _ (rows : Rows) (strict : Bool) where
       subst (λ l. Answer l r n) (take-append-drop 15 input)
       (stays (take 15 input) (drop 15 input) r n (λ e. never_open (take 15 input) n (omega (arith, length-take 15 input)) (subst (λ x. Answer (take 15 input) x n) e a)) a)
 
-  by_fifteen : (input : List ℕ) (r : Result Instruction DecodeError) (n : ℕ) → Answer input r n → (length input < 15) ⊎ (15 ≤ length input) → n ≤ 15
-  by_fifteen input r n a (inl less) = omega (arith, count_within input r n a)
-  by_fifteen input r n a (inr enough) =
-      let o = some_answer rows strict (take 15 input) in
-      omega (arith, count_within (take 15 input) o.0 o.1 o.2, (once input r o.0 n o.1 a (first_fifteen input o.0 o.1 enough o.2)).1, length-take 15 input)
-
   pub at_most_fifteen : (input : List ℕ) (r : Result Instruction DecodeError) (n : ℕ) → Answer input r n → n ≤ 15
-  at_most_fifteen input r n a = by_fifteen input r n a (cases_lt (length input) 15)
+  at_most_fifteen input r n a =
+      let no : 15 < n → ⊥ = λ over.
+      let o = some_answer rows strict (take 15 input) in
+      omega (arith, count_within (take 15 input) o.0 o.1 o.2, (once input r o.0 n o.1 a (first_fifteen input o.0 o.1 (omega (arith, count_within input r n a)) o.2)).1, length-take 15 input) in omega arith
 
   -- ---- lengths
 

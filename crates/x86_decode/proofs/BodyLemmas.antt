@@ -10,6 +10,7 @@ use Rattle.x86_fields.specs.Steps.{Step, Outcome, ◌>>=◌}
 use Rattle.x86_fields.proofs.StepLemmas.{Takes, takes_pure, takes_bind, takes_err}
 use Rattle.x86_fields.proofs.EndLemmas.{EndsWell, Ends, settles, runs_out, ends_refuse, ends_bind, ends_then, weaken, IsFinal, final_ok, final_err, Out, out_bind, out_after, Halts, out, halts_bind}
 use Rattle.x86_forms.specs.declared.TableRow.{TableRow}
+use Rattle.x86_operands.specs.declared.plans.Fault.{Fault}
 use Rattle.x86_operands.specs.declared.reader.Reading.{Reading}
 use Rattle.x86_operands.specs.PlanSteps.{error_of}
 use Rattle.x86_forms.specs.declared.Map.{Map}
@@ -17,7 +18,7 @@ use Rattle.x86_forms.specs.declared.Map.TheVariants.{One}
 use Rattle.x86_decode.specs.declared.instructions.Instruction.{Instruction}
 use Rattle.x86_decode.specs.Head.{Rows, is_run, column_of, escape_bytes, is_vex, is_opcode, vex_refusal, seen_by}
 use Rattle.x86_decode.specs.Walk.{head_step, opcode_step, some_row, row_step, walk_within}
-use Rattle.x86_decode.specs.Grammar.{record_of, allows_lock, Whole, IsSentence, DecidesByBytes, case_1, case_2, case_3, case_4, EndsBetweenPieces, in_head, in_tail}
+use Rattle.x86_decode.specs.Grammar.{IsRefusedByRecord, record_of, allows_lock, Whole, IsSentence, DecidesByBytes, case_1, case_2, case_3, case_4, EndsBetweenPieces, in_head, in_tail}
 use Rattle.x86_decode.proofs.RowSteps.{fault_error, RowYields, ends_row, takes_row, takes_row_refused, halts_row}
 use Rattle.x86_decode.proofs.HeadLemmas.{IsHead, IsRun, ends_head, takes_head, out_head, OpcodeYields, OpcodeBetween, ends_opcode, entry_byte, entry_rest, entry_is, entry_plain, takes_opcode, takes_vex, vex_plain, vex_final, escape_beginning, EscapeBeginning, none, one, two, out_one}
 
@@ -95,6 +96,11 @@ module _ (rows : Rows) (strict : Bool) where
   takes_whole s reading w = subst (λ l. Takes (walk_within rows strict) l (Ok reading)) (sym w.spelled)
       (takes_at w.run w.map w.opcode w.tail (Ok reading) w.prefixes w.in_map (rw w.has_row (takes_row (record_of strict w.row (seen_by w.map w.opcode (reading_of w.run))) (seen_by w.map w.opcode (reading_of w.run)) w.tail reading w.row_spelled)))
 
+  pub takes_refused : (q : List ℕ) (fault : Fault) → IsRefusedByRecord rows strict q fault → Takes (walk_within rows strict) q (Err (error_of fault))
+  takes_refused q fault c =
+      let p : Prefixes = seen_by c.map c.opcode (reading_of c.run) in
+      rw c.spelled (takes_at c.run c.map c.opcode c.tail (Err (error_of fault)) c.prefixes c.in_map (rw c.has_row (takes_row_refused (record_of strict c.row p) p c.tail fault c.refuses)))
+
   takes_no_map : (run : List ℕ) (c : ℕ) → is_run run ≡ true → is_vex c ≡ true → Takes (walk_within rows strict) (run ++ c ∷ []) (Err (vex_refusal (reading_of run)))
   unfolding walk_within
   takes_no_map run c is vex =
@@ -113,9 +119,7 @@ module _ (rows : Rows) (strict : Bool) where
   pub early : (q : List ℕ) (e : DecodeError) → DecidesByBytes rows strict q e → (r : Result Reading DecodeError) × Settled q r × (verdict r ≡ Err e)
   early q e (case_1 c) = early_by (rw c.spelled (takes_no_map c.run c.byte c.prefixes c.vex)) (vex_final (reading_of c.run))
   early q e (case_2 c) = early_by (rw c.spelled (takes_at c.run c.map c.opcode [] (Err InvalidOpcode) c.prefixes c.in_map (rw c.no_row (takes_pure (Err InvalidOpcode))))) (λ no. cc)
-  early q e (case_3 fault c) =
-      let p : Prefixes = seen_by c.map c.opcode (reading_of c.run) in
-      early_by (rw c.spelled (takes_at c.run c.map c.opcode c.tail (Err (error_of fault)) c.prefixes c.in_map (rw c.has_row (takes_row_refused (record_of strict c.row p) p c.tail fault c.refuses)))) (fault_error fault)
+  early q e (case_3 fault c) = early_by (takes_refused q fault c) (fault_error fault)
   early q e (case_4 c) = (Ok c.reading, record { takes = takes_whole q c.reading c.whole; final = final_ok c.reading }, ap (λ t. if t then Ok c.reading else Err InvalidPrefixes) c.locked)
 
   pub sentence_settles : (q : List ℕ) (a : Instruction) → (is : IsSentence rows strict q a) → Settled q (Ok is.reading)

@@ -1,5 +1,6 @@
 -- The displacement that bytes spell has 32 bits.
-use Rattle.std.proofs.Common.{◌≡◌, ℕ, zero, suc, ◌%◌, ◌^◌, ◌<◌, ◌==◌, Bool, true, false, if◌then◌else◌, List, [], ◌∷◌, ◌++◌, Option, Some, None, pos, slice_index, All, sym, ap, subst, arith}
+use Rattle.std.proofs.Common.{◌≡◌, ℕ, zero, suc, ◌%◌, ◌^◌, ◌<◌, ◌==◌, if◌then◌else◌, List, [], ◌∷◌, ◌++◌, Option, Some, None, pos, slice_index, All, sym, ap, subst, arith}
+use Rattle.std.proofs.lemmas.Bool.{cond_both}
 use Rattle.std.specs.Prelude.{FitsSigned}
 use Rattle.std.specs.Int.{w8, w32, cast_signed, from_le_bytes, int_wrap}
 use Rattle.std.proofs.lemmas.Int.{SFits-int_wrap}
@@ -46,16 +47,9 @@ fits_8 n below =
     let h = g.sfits in
     record { sfits = omega (arith, h) }
 
-fits_0 : FitsSigned w32 (pos 0)
-fits_0 = record { sfits = omega arith }
-
 pub disp_fits : (width : ℕ) (l : List ℕ) → Bytes l → FitsSigned w32 (signed_by width l)
-disp_fits width l h = by (width == 1) (width == 4)
-  where
-    by : (one four : Bool) → FitsSigned w32 (if one then cast_signed w8 (from_le_bytes w8 l) else (if four then cast_signed w32 (from_le_bytes w32 l) else pos 0))
-    by true four = fits_8 (from_le_bytes w8 l) (at l h 0)
-    by false true = fits_32 (from_le_bytes w32 l) (small l h)
-    by false false = fits_0
+disp_fits width l h = cond_both (width == 1) (cast_signed w8 (from_le_bytes w8 l)) (if width == 4 then cast_signed w32 (from_le_bytes w32 l) else pos 0) (λ k. FitsSigned w32 k) (λ _. fits_8 (from_le_bytes w8 l) (at l h 0))
+    (λ _. cond_both (width == 4) (cast_signed w32 (from_le_bytes w32 l)) (pos 0) (λ k. FitsSigned w32 k) (λ _. fits_32 (from_le_bytes w32 l) (small l h)) (λ _. record { sfits = omega arith }))
 
 raw_fits : (p : Prefixes) (m : ℕ) (bytes : List ℕ) (raw : Raw) → SpellsRaw p m bytes raw → Bytes bytes → FitsSigned w32 raw.disp
 raw_fits p m bytes raw r h =

@@ -1,6 +1,7 @@
 -- The default and the strict decoder differ on fences whose rm isn't 0, and on nothing else.
 use Rattle.std.proofs.Common.{◌≡◌, ◌↔◌, ℕ, ◌+◌, ◌-◌, ◌≤◌, ◌⊎◌, inl, inr, Bool, true, false, if◌then◌else◌, not, List, [], ◌∷◌, ◌++◌, length, take, drop, None, Result, Ok, Err, refl, sym, ap, subst, ◌∙◌, arith, length-append, append_assoc}
 use Rattle.std.proofs.lemmas.Bool.{cond_both}
+use Rattle.std.proofs.lemmas.Grind.{common_steps}
 use Rattle.std.proofs.lemmas.List.{append-nil, take-append-drop}
 use Rattle.x86_arch.specs.Reader.{State, advanced}
 use Rattle.x86_fields.specs.declared.errors.DecodeError.{DecodeError}
@@ -23,17 +24,17 @@ use Rattle.x86_operands.specs.PlanSteps.{read_plan, record_step, filled_step, op
 use Rattle.x86_operands.specs.Forms.{form_record}
 use Rattle.x86_operands.specs.Pieces.{SpellsTail, RefusesTail, at_modrm, SpellsRow, RefusesRow, past_opcode, modrm_of, modrm_width}
 use Rattle.x86_groups.specs.Vocabulary.{operandless, bad_operand}
-use Rattle.x86_groups.specs.Choices.{NamesFence, lfence, mfence, sfence, IsFenceWithRm}
+use Rattle.x86_groups.specs.Choices.{IsFenceWithRm}
 use Rattle.x86_groups.specs.Groups.{group_fault, group_modrm, group_plan, group_record}
 use Rattle.x86_decode.specs.declared.instructions.Instruction.{Instruction}
 use Rattle.x86_decode.specs.Head.{Rows, column_of, escape_bytes, clears, seen_by}
 use Rattle.x86_decode.specs.Instruction.{instruction_of}
 use Rattle.x86_decode.specs.Bound.{bounded}
-use Rattle.x86_decode.specs.Grammar.{record_of, allows_lock, Whole, case_3, IsAnswer}
+use Rattle.x86_decode.specs.Grammar.{IsRefusedByRecord, record_of, allows_lock, Whole, IsAnswer}
 use Rattle.x86_decode.specs.Walk.{head_step, opcode_step, some_row, row_step, walk_within, bounded_outcome, decode_step}
 use Rattle.x86_decode.specs.Answer.{answer_of, count_of}
 use Rattle.x86_decode.specs.Choices.{IsFence, BeginsWithFence}
-use Rattle.x86_decode.proofs.BodyLemmas.{BodyYields, BodyBetween, ends_body, takes_whole, verdict, Settled, early}
+use Rattle.x86_decode.proofs.BodyLemmas.{takes_refused, BodyYields, BodyBetween, ends_body, takes_whole}
 use Rattle.x86_decode.proofs.Theorem.{within, beginning_at_most, walk_answers}
 use Rattle.x86_decode.proofs.RowSteps.{ok_apart}
 use Rattle.x86_decode.proofs.AnswerLemmas.{once}
@@ -120,18 +121,14 @@ module _ (same_elsewhere : SameElsewhere) (fence_by_default : ReadByDefault) (fe
   seen_lock : (map : Map) (b : ℕ) (p : Prefixes) → (seen_by map b p).lock ≡ p.lock
   seen_lock map b p = cond_both (clears map (column_of p) b) (record p { operand_size = false }) p (λ q. q.lock ≡ p.lock) (λ _. refl) (λ _. refl)
 
-  fence_lock : (m o : ℕ) (p : Prefixes) → NamesFence m o → allows_lock (fence_reading o p) ≡ not p.lock
+  fence_lock : (o : ℕ) (p : Prefixes) → allows_lock (fence_reading o p) ≡ not p.lock
   unfolding fence_reading
-  fence_lock m o p (lfence e) = grind arith
-  fence_lock m o p (mfence e) = grind arith
-  fence_lock m o p (sfence e) = grind arith
+  fence_lock o p = grind arith
 
   -- ---- a row that is read by default
 
   one_byte : (u : ModrmUse) (bytes : List ℕ) → u ≡ EitherForm → length bytes ≡ modrm_width u → bytes ≡ modrm_of u bytes ∷ []
-  one_byte u (m ∷ []) e l = rw e refl
-  one_byte u [] e l = absurd (omega (arith, l ∙ ap modrm_width e))
-  one_byte u (m ∷ n ∷ rest) e l = absurd (omega (arith, l ∙ ap modrm_width e))
+  one_byte u bytes e l = grind (arith, common_steps)
 
   -- the row's bytes begin with a ModRM that names a fence
   abbrev FenceFirst : TableRow → Prefixes → List ℕ → Type 0
@@ -164,15 +161,6 @@ module _ (same_elsewhere : SameElsewhere) (fence_by_default : ReadByDefault) (fe
 
   zero_plus : (n : ℕ) → 0 + n ≡ n
   zero_plus n = omega arith
-
-  -- InvalidOperand is never due to LOCK
-  refused_by : (r : Result Reading DecodeError) → verdict r ≡ Err InvalidOperand → r ≡ Err InvalidOperand
-  refused_by (Ok reading) e = by (allows_lock reading) e
-    where
-      by : (t : Bool) → (if t then Ok reading else Err InvalidPrefixes) ≡ Err InvalidOperand → Ok reading ≡ Err InvalidOperand
-      by true h = h
-      by false h = absurd cc
-  refused_by (Err x) e = e
 
   module _ (rows : Rows) where
     compared_body : (s : State ℕ) → Compared (walk_within rows true s) (walk_within rows false s)
@@ -219,7 +207,7 @@ module _ (same_elsewhere : SameElsewhere) (fence_by_default : ReadByDefault) (fe
 
       answer_as : (a b : Bool) (r : Result Instruction DecodeError) (n : ℕ) → walked a ≡ walked b → IsAnswer rows a input r n → IsAnswer rows b input r n
       answer_as a b r n e is =
-          let k : (r ≡ (walked a).answer) × (n ≡ (walked a).after.since_mark) = once rows a input r (walked a).answer n (walked a).after.since_mark is (walk_answers rows a input) in
+          let k = once rows a input r (walked a).answer n (walked a).after.since_mark is (walk_answers rows a input) in
           subst (λ x. IsAnswer rows b input x n) (sym (k.0 ∙ ap (λ o. o.answer) e))
           (subst (λ x. IsAnswer rows b input (walked b).answer x) (sym (k.1 ∙ ap (λ o. o.after.since_mark) e)) (walk_answers rows b input))
 
@@ -254,18 +242,17 @@ module _ (same_elsewhere : SameElsewhere) (fence_by_default : ReadByDefault) (fe
         abbrev p : Prefixes
         p = seen_by is.map is.opcode (reading_of is.run)
 
-        taken : (r : Result Reading DecodeError) × Settled rows true f.fence r × (verdict r ≡ Err InvalidOperand)
-        taken = early rows true f.fence InvalidOperand (case_3 BadOperand
-            (record { run = is.run; map = is.map; opcode = is.opcode; row = is.row; tail = is.modrm ∷ []; spelled = is.spelled; prefixes = is.prefixes; in_map = is.in_map; has_row = is.has_row; refuses = fence_refused is.row p is.modrm is.names }))
+        refused : IsRefusedByRecord rows true f.fence BadOperand
+        refused = record { run = is.run; map = is.map; opcode = is.opcode; row = is.row; tail = is.modrm ∷ []; spelled = is.spelled; prefixes = is.prefixes; in_map = is.in_map; has_row = is.has_row; refuses = fence_refused is.row p is.modrm is.names }
 
         pub fence_strict_answer : IsAnswer rows true input (Err InvalidOperand) (length f.fence)
-        fence_strict_answer = answer_at true (Err InvalidOperand) (length f.fence) (walked_as true f.fence f.rest (Err InvalidOperand) f.begins f.short (subst (Takes (walk_within rows true) f.fence) (refused_by taken.0 taken.2) taken.1.takes))
+        fence_strict_answer = answer_at true (Err InvalidOperand) (length f.fence) (walked_as true f.fence f.rest (Err InvalidOperand) f.begins f.short (takes_refused rows true f.fence BadOperand refused))
 
         read_whole : Whole rows false f.fence (fence_reading is.names.opcode p)
         read_whole = record { run = is.run; map = is.map; opcode = is.opcode; row = is.row; tail = is.modrm ∷ []; spelled = is.spelled; prefixes = is.prefixes; in_map = is.in_map; has_row = is.has_row; row_spelled = fence_spelled is.row p is.modrm is.names }
 
         read_lock : allows_lock (fence_reading is.names.opcode p) ≡ not (reading_of is.run).lock
-        read_lock = fence_lock is.modrm is.names.opcode p is.names.named ∙ ap not (seen_lock is.map is.opcode (reading_of is.run))
+        read_lock = fence_lock is.names.opcode p ∙ ap not (seen_lock is.map is.opcode (reading_of is.run))
 
         abbrev fence_instruction : Instruction
         fence_instruction = instruction_of (fence_reading is.names.opcode p) (length f.fence)

@@ -1,12 +1,10 @@
 -- What a decode answers, from its answer, and the same where the answer is written to an instruction.
-use Rattle.std.proofs.Common.{◌≡◌, ◌↔◌, ℕ, Bool, List, Result, Ok, Err, IsOk, IfOk, OnOk}
+use Rattle.std.proofs.Common.{◌≡◌, ℕ, Bool, List, Result}
 use Rattle.x86_fields.specs.declared.errors.DecodeError.{DecodeError}
 use Rattle.x86_fields.specs.declared.errors.DecodeError.TheVariants.{InvalidOpcode, InvalidOperand, InvalidPrefixes, TooLong, IncompleteDecoder}
 use Rattle.x86_decode.specs.declared.instructions.Instruction.{Instruction}
 use Rattle.x86_decode.specs.Head.{Rows}
 use Rattle.x86_decode.specs.Grammar.{IsAnswer}
-use Rattle.x86_decode.specs.Instruction.{holding}
-use Rattle.x86_decode.specs.Ties.{HasTiedOperands}
 use Rattle.x86_decode.specs.Answer.{answer_of, count_of}
 use Rattle.x86_decode.specs.Answers.{Answers, HasMoved}
 use Rattle.x86_decode.specs.Walk.{decode_step}
@@ -49,17 +47,3 @@ decoded {strict} s {after} {r} e =
     let a = answered_by (rows_of packed) strict s e in
     let only = only_answer strict s.left r after.since_mark a.0 in
     record { answers = answers a.0; value = only.0; count = only.1; moved = a.1 }
-
--- ---- the status of an answer that is written to an instruction
-
-pub accepted_status : (i : Instruction) (status : Result (Unit {0}) DecodeError) → IsOk (holding i status) ↔ IsOk status
-accepted_status i (Ok u) = ((λ h. h), (λ h. h))
-accepted_status i (Err e) = ((λ h. h), (λ h. h))
-
-pub refused_status : (i : Instruction) (status : Result (Unit {0}) DecodeError) (e : DecodeError) → (holding i status ≡ Err e) ↔ (status ≡ Err e)
-refused_status i (Ok u) e = ((λ h. cc), (λ h. cc))
-refused_status i (Err f) e = ((λ h. cc), (λ h. cc))
-
-pub tied_status : (i : Instruction) (status : Result (Unit {0}) DecodeError) → IfOk (holding i status) HasTiedOperands ↔ OnOk status (HasTiedOperands i)
-tied_status i (Ok u) = ((λ h. h), (λ h. h))
-tied_status i (Err e) = ((λ h. tt), (λ h. tt))

@@ -1,5 +1,5 @@
 -- Instructions that == finds equal are the same but for their length, by the laws on the equality of what they hold.
-use Rattle.std.proofs.Common.{◌≡◌, ◌↔◌, ℕ, zero, suc, ◌<◌, true, List, [], ◌∷◌, refl, sym, ap, ◌∙◌, arith}
+use Rattle.std.proofs.Common.{◌≡◌, ◌↔◌, ℕ, ◌<◌, true, List, [], ◌∷◌, refl, sym, ap, ◌∙◌, arith}
 use Rattle.std.proofs.lemmas.Bool.{and_parts}
 use Rattle.std.proofs.lemmas.Bool.Decides.{Decides-eqb}
 use Rattle.std.proofs.lemmas.Slice.Eq.{slice_eq-Decides}
@@ -17,11 +17,7 @@ use Rattle.x86_decode.specs.contracts.instructions.ShownEq.TheImpl.Laws as shown
 
 -- the elements of equal lists of four
 each_of : {A : Type 0} (f g : ℕ → A) → ◌≡◌ {A = List A} (f 0 ∷ f 1 ∷ f 2 ∷ f 3 ∷ []) (g 0 ∷ g 1 ∷ g 2 ∷ g 3 ∷ []) → (k : ℕ) → k < 4 → f k ≡ g k
-each_of f g e zero below = cc
-each_of f g e (suc zero) below = cc
-each_of f g e (suc (suc zero)) below = cc
-each_of f g e (suc (suc (suc zero))) below = cc
-each_of f g e (suc (suc (suc (suc k)))) below = absurd (omega arith)
+each_of f g e k below = grind arith
 
 abbrev SamePrefixes : Type 0
 SamePrefixes = (a b : Prefixes) → (prefixes.ghosts.eq a b ≡ true) ↔ (a ≡ b)
@@ -46,15 +42,13 @@ module _ (same_prefixes : SamePrefixes) (same_slots : SameSlots) (same_operands 
       let h2 = and_parts _ _ h1.1 in
       let h3 = and_parts _ _ h2.1 in
       let h4 = and_parts _ _ h3.1 in
-      let slots_are : (x).slots ≡ (y).slots = (slice_eq-Decides same_slots (x).slots (y).slots _ refl).0 h4.0 in
-      let operands_are : (x).operands ≡ (y).operands = (slice_eq-Decides same_operands (x).operands (y).operands _ refl).0 h4.1 in
       record {
         prefixes = (same_prefixes a.prefixes b.prefixes).0 h0.0;
         opcode = (Decides-eqb a.opcode b.opcode).0 h1.0;
         count = (Decides-eqb a.operand_list.count b.operand_list.count).0 h2.0;
         mem_size = (Decides-eqb a.operand_list.mem_size b.operand_list.mem_size).0 h3.0;
-        slots = each_of (slot_at a) (slot_at b) slots_are;
-        operands = each_of (operand_at a) (operand_at b) operands_are;
+        slots = each_of (slot_at a) (slot_at b) ((slice_eq-Decides same_slots (x).slots (y).slots _ refl).0 h4.0);
+        operands = each_of (operand_at a) (operand_at b) ((slice_eq-Decides same_operands (x).operands (y).operands _ refl).0 h4.1);
       }
 
   shown_same : IsSameInstruction a b → x ≡ y

@@ -1,5 +1,5 @@
 -- The run, the escape and the opcode byte: what the walk takes, and that it takes what the grammar has.
-use Rattle.std.proofs.Common.{◌≡◌, ◌≢◌, ℕ, suc, ◌+◌, ◌==◌, ◌||◌, not, Bool, true, false, if◌then◌else◌, List, [], ◌∷◌, ◌++◌, length, Result, Ok, Err, refl, sym, ap, ◌∙◌, arith, length-append, append_assoc}
+use Rattle.std.proofs.Common.{◌≡◌, ◌≢◌, ℕ, suc, ◌+◌, ◌==◌, ◌||◌, not, Bool, true, false, if◌then◌else◌, List, [], ◌∷◌, ◌++◌, length, Result, Ok, Err, refl, sym, ap, ◌∙◌, rules, arith, length-append, append_assoc}
 use Rattle.std.proofs.lemmas.Bool.{and_parts, or_parts, not-true, eqb-true}
 use Rattle.std.proofs.lemmas.Bool.Decides.{nat_tests}
 use Rattle.std.proofs.lemmas.List.{append-nil}
@@ -131,12 +131,10 @@ entry_rest Of38 b = 0x38 ∷ b ∷ []
 entry_rest Of3a b = 0x3a ∷ b ∷ []
 
 pub entry_is : (map : Map) (b : ℕ) (tail : List ℕ) → escape_bytes map ++ b ∷ tail ≡ entry_byte map b ∷ (entry_rest map b ++ tail)
-entry_is One b tail = refl
-entry_is map b tail = refl
+entry_is map b tail = search rules
 
 pub entry_plain : (map : Map) (b : ℕ) → is_opcode map b ≡ true → is_prefix (entry_byte map b) ≡ false
-entry_plain One b h = (or_parts (is_prefix b) ((b == 0x0f) || is_vex b) (not-true _ h)).0
-entry_plain map b h = refl
+entry_plain map b h = grind (arith, nat_tests)
 
 pub takes_opcode : (p : Prefixes) (map : Map) (b : ℕ) → is_opcode map b ≡ true → Takes (opcode_step p (entry_byte map b)) (entry_rest map b) (Ok (map, b))
 unfolding opcode_step

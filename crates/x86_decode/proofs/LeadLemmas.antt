@@ -36,6 +36,4 @@ pub plain_lead : (b : ℕ) → is_plain (lead_of b) ≡ true → (is_vex b ≡ f
 plain_lead b h = grind (arith, nat_tests)
 
 pub plain_not : (l : Lead) → (l ≡ Escape → ⊥) → (l ≡ Vex → ⊥) → is_plain l ≡ true
-plain_not Vex f g = absurd (g refl)
-plain_not Escape f g = absurd (f refl)
-plain_not l f g = refl
+plain_not l f g = grind arith

@@ -1,5 +1,5 @@
 -- The line of a row, and what the row has after ModRM.
-use Rattle.std.proofs.Common.{◌≡◌, ℕ, Bool, true, false, if◌then◌else◌, IsTrue, Result, Ok, Err, refl, sym, ap, ◌∙◌, subst}
+use Rattle.std.proofs.Common.{◌≡◌, ℕ, Bool, true, false, if◌then◌else◌, IsTrue, Result, Ok, Err, refl, sym, ap, ◌∙◌, subst, arith}
 use Rattle.x86_arch.specs.Reader.{State}
 use Rattle.x86_fields.specs.declared.errors.DecodeError.{DecodeError}
 use Rattle.x86_fields.specs.declared.prefixes.Prefixes.{Prefixes}
@@ -30,12 +30,9 @@ after_modrm strict row p r s = then_from r s (λ m. read_plan (plan_at strict ro
 
 -- ---- rows of the table
 
-plain_row : (strict : Bool) (row : TableRow) (p : Prefixes) (s : State ℕ) → is_group row.form ≡ false → row_step strict row p s ≡ after_modrm strict row p (read_modrm (modrm_use row.form) s).answer (read_modrm (modrm_use row.form) s).after
-unfolding record_step form_record
-plain_row strict row p s e = rw e refl
-
 form_row : {r : Result ℕ DecodeError} {t : State ℕ} (s : State ℕ) (strict : Bool) (row : TableRow) (p : Prefixes) (u : ModrmUse) → modrm_use row.form ≡ u → is_group row.form ≡ false → outcome r t ≡ read_modrm u s → after_modrm strict row p r t ≡ row_step strict row p s
-form_row {r} {t} s strict row p u usage plain e = ap (λ o. after_modrm strict row p o.answer o.after) (e ∙ ap (λ k. read_modrm k s) (sym usage)) ∙ sym (plain_row strict row p s plain)
+unfolding record_step form_record
+form_row {r} {t} s strict row p u usage plain e = ap (λ o. after_modrm strict row p o.answer o.after) (e ∙ ap (λ k. read_modrm k s) (sym usage)) ∙ rw plain refl
 
 -- ---- groups by reg
 
@@ -51,13 +48,6 @@ group_row g strict row p s e =
     ap (λ t. record_step (if t then group_record strict row p else form_record row p) p s) (reg_group g row.form e)
     ∙ reg_record g strict row p s e ∙ reg_following g strict row p (read_modrm EitherForm s).answer (read_modrm EitherForm s).after e
 
-chosen_row : {r : Result ℕ DecodeError} {t : State ℕ} (s : State ℕ) (strict : Bool) (row : TableRow) (p : Prefixes) (g : RegGroup) → row.form ≡ group_form g → outcome r t ≡ read_modrm EitherForm s → after_modrm strict row p r t ≡ row_step strict row p s
-chosen_row {r} {t} s strict row p g e b = ap (λ o. after_modrm strict row p o.answer o.after) b ∙ sym (group_row g strict row p s e)
-
-group_described : (strict : Bool) (row : TableRow) (p : Prefixes) (m o : ℕ) (g : RegGroup) (e : FormEncoding) → row.form ≡ group_form g → Chooses g m o e → IsTrue (is_described e.after_opcode) → plan_of e (carried row.form) o p m ≡ plan_at strict row p m
-group_described strict row p m o g e belongs d is =
-    ap (λ n. plan_of e n o p m) (reg_carries g row.form belongs) ∙ d is p ∙ sym (chosen_plan g strict row p m belongs)
-
 -- ---- what is read first
 
 -- a ModRM byte whose line is known, or chosen by reg
@@ -65,7 +55,7 @@ pub row_with_modrm : {r : Result ℕ DecodeError} {t : State ℕ} (s : State ℕ
 row_with_modrm s strict row p after_opcode.EitherForm plain usage h e = form_row s strict row p EitherForm usage plain e
 row_with_modrm s strict row p after_opcode.Memory plain usage h e = form_row s strict row p EitherForm usage plain e
 row_with_modrm s strict row p after_opcode.Registers plain usage h e = form_row s strict row p EitherForm usage plain e
-row_with_modrm s strict row p (after_opcode.ByReg g) belongs usage h e = chosen_row s strict row p g belongs e
+row_with_modrm s strict row p (after_opcode.ByReg g) belongs usage h e = ap (λ o. after_modrm strict row p o.answer o.after) e ∙ sym (group_row g strict row p s belongs)
 row_with_modrm s strict row p b belongs usage h e = absurd cc
 
 -- no ModRM byte, where a line describes the form
@@ -78,13 +68,12 @@ row_without_modrm s strict row p m b belongs usage h may e = absurd cc
 -- ---- the line of a row
 
 pub reg_described : (strict : Bool) (row : TableRow) (p : Prefixes) (m o : ℕ) (b : AfterOpcode) (g : RegGroup) (e : FormEncoding) → b ≡ after_opcode.ByReg g → Belongs b row.form → Chooses g m o e → IsTrue (is_described e.after_opcode) → plan_of e (carried row.form) o p m ≡ plan_at strict row p m
-reg_described strict row p m o b g e is belongs d = group_described strict row p m o g e (subst (λ k. Belongs k row.form) is belongs) d
+reg_described strict row p m o b g e is belongs d described =
+    let k = subst (λ x. Belongs x row.form) is belongs in
+    ap (λ n. plan_of e n o p m) (reg_carries g row.form k) ∙ d described p ∙ sym (chosen_plan g strict row p m k)
 
 described_plain : (b : AfterOpcode) (f : Form) → IsTrue (is_described b) → Belongs b f → is_group f ≡ false
-described_plain (after_opcode.ByReg g) f h belongs = let no : false ≡ true = h in cc
-described_plain (after_opcode.ByPlan u) f h belongs = belongs
-described_plain after_opcode.Group f h belongs = let no : false ≡ true = h in cc
-described_plain b f h belongs = belongs
+described_plain b f h belongs = grind arith
 
 pub form_described : (strict : Bool) (row : TableRow) (p : Prefixes) (m : ℕ) (e : FormEncoding) → Belongs e.after_opcode row.form → Describes e row.form → IsTrue (is_described e.after_opcode) → plan_of e (carried row.form) row.opcode p m ≡ plan_at strict row p m
 form_described strict row p m e belongs d is =

@@ -1,6 +1,7 @@
 -- What holds of the records of all rows: sizes up to 64 bytes, only 8F left out, and at which bytes 8F and the fences
 -- are.
 use Rattle.std.proofs.Common.{◌≡◌, ◌≢◌, ℕ, ◌<◌, ◌≤◌, Bool, true, false, List, Some, None, Ok, refl, sym, ap, ◌∙◌, arith, [], ◌∷◌, not, ◌||◌, ◌&&◌, ◌==◌, eqb, IfSome, subst}
+use Rattle.std.proofs.lemmas.Bool.Decides.{nat_tests}
 use Rattle.std.proofs.lemmas.Bool.{and_parts, cond_both, eqb-true}
 use Rattle.x86_fields.specs.declared.prefixes.Prefixes.{Prefixes}
 use Rattle.x86_fields.specs.Run.{reading_of}
@@ -95,11 +96,6 @@ abbrev PrintedRows : Type 0
 PrintedRows = (m : Map) (column : Column) (byte : ℕ) → rows_of packed m column byte ≡ printed_row m column byte
 
 module _ (printed : PrintedRows) (is : Form → Bool) (f : Form) (named : is f ≡ true) (at : Map → ℕ → Bool) where
-  is_at : (m : Map) (r : Row) → (not (is r.row.form) || at m r.byte) ≡ true → r.row.form ≡ f → at m r.byte ≡ true
-  is_at m r h e =
-      let passes : is r.row.form ≡ true = ap is e ∙ named in
-      ap (λ t. not t || at m r.byte) (sym passes) ∙ h
-
   found : (m : Map) (rs : List Row) (column : Column) (byte : ℕ) → all_at is at m rs ≡ true → IfSome (row_in rs column byte) (λ row. row.form ≡ f → at m byte ≡ true)
   found m [] column byte h = tt
   found m (r ∷ rs) column byte h =
@@ -107,7 +103,7 @@ module _ (printed : PrintedRows) (is : Form → Bool) (f : Form) (named : is f �
       cond_both (eqb r.byte byte && has_column r.columns column) (Some r.row) (row_in rs column byte) (λ o. IfSome o (λ row. row.form ≡ f → at m byte ≡ true))
       (λ here e.
       let same : r.byte ≡ byte = eqb-true r.byte byte (and_parts (eqb r.byte byte) (has_column r.columns column) here).0 in
-      ap (at m) (sym same) ∙ is_at m r parts.0 e)
+      ap (at m) (sym same) ∙ (rw (ap is e ∙ named) at parts.0))
       (λ _. found m rs column byte parts.1)
 
   -- in the printed table the form is there alone
@@ -130,8 +126,7 @@ all_at_8f One = refl
 all_at_8f m = refl
 
 is_row_8f : (m : Map) (byte : ℕ) → is_at_8f m byte ≡ true → (m ≡ One) × (byte ≡ 0x8f)
-is_row_8f One byte h = (refl, eqb-true byte 0x8f h)
-is_row_8f _ byte h = absurd cc
+is_row_8f m byte h = grind (arith, nat_tests)
 
 pub left_out_at_8f : PlainIsBuilt → PlainPasses → GroupPasses → GroupIsBuilt → PrintedRows → (strict : Bool) (q : List ℕ) (c : IsRefusedByRecord (rows_of packed) strict q Incomplete) → (c.map ≡ One) × (c.opcode ≡ 0x8f)
 left_out_at_8f plain passes group_passes group printed strict q c =
@@ -150,8 +145,7 @@ all_at_0fae One = refl
 all_at_0fae m = refl
 
 is_row_0fae : (m : Map) (byte : ℕ) → is_at_0fae m byte ≡ true → (m ≡ Of) × (byte ≡ 0xae)
-is_row_0fae Of byte h = (refl, eqb-true byte 0xae h)
-is_row_0fae _ byte h = absurd cc
+is_row_0fae m byte h = grind (arith, nat_tests)
 
 pub fence_at_0fae : PrintedRows → (q : List ℕ) (c : IsFence (rows_of packed) q) → (c.map ≡ Of) × (c.opcode ≡ 0xae)
 fence_at_0fae printed q c =

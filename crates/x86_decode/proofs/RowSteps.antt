@@ -9,7 +9,6 @@ use Rattle.x86_fields.specs.Steps.{Step, outcome}
 use Rattle.x86_fields.proofs.StepLemmas.{Takes, fresh}
 use Rattle.x86_fields.proofs.EndLemmas.{EndsWell, Ends, settles, runs_out, OutOn, final_ok, final_err, Halts, out, over}
 use Rattle.x86_operands.specs.declared.plans.Fault.{Fault}
-use Rattle.x86_operands.specs.declared.plans.Fault.TheVariants.{BadOpcode}
 use Rattle.x86_operands.specs.declared.reader.Reading.{Reading}
 use Rattle.x86_operands.specs.Plans.{RowRecord}
 use Rattle.x86_operands.specs.PlanSteps.{record_step, error_of}
@@ -18,8 +17,7 @@ use Rattle.x86_operands.proofs.RowLemmas.{row_read, row_refused, row_open, row_w
 
 -- no fault is for want of bytes
 pub fault_error : (f : Fault) → error_of f ≢ ExhaustedInput
-fault_error BadOpcode e = cc
-fault_error f e = cc
+fault_error f e = grind arith
 
 pub ok_apart : {X : Type 0} (x : X) (e : DecodeError) → ◌≡◌ {A = Result X DecodeError} (Ok x) (Err e) → ⊥
 ok_apart x e h = cc

@@ -3,7 +3,6 @@ use Rattle.std.proofs.Common.{◌≡◌, ◌==◌, ℕ, Bool, true, false, List,
 use Rattle.std.proofs.lemmas.Bool.Decides.{nat_tests}
 use Rattle.x86_arch.specs.Reader.{State}
 use Rattle.x86_fields.specs.declared.errors.DecodeError.{DecodeError}
-use Rattle.x86_fields.specs.declared.errors.DecodeError.TheVariants.{ExhaustedInput}
 use Rattle.x86_fields.specs.Steps.{outcome}
 use Rattle.x86_forms.specs.Words.{rows_of, packed}
 use Rattle.x86_operands.specs.declared.reader.Reading.{Reading}
@@ -33,13 +32,11 @@ slice_ok strict bytes i n j t u e h k l =
 full_test : (l : List ℕ) → (length (take 15 l) == 15) ≡ nat_le 15 (length l)
 full_test l = let k = length-take 15 l in grind (arith, nat_tests)
 
-closed_limited : (e : DecodeError) (n : ℕ) (bytes : List ℕ) (b : Bool) → nat_le 15 (length bytes) ≡ b → ◌≡◌ {A = Result Instruction DecodeError} (Err (error_at_limit e b)) (bounded_outcome (Err e) n (at_start bytes)).answer
-closed_limited ExhaustedInput n bytes true h = rw h refl
-closed_limited ExhaustedInput n bytes false h = rw h refl
-closed_limited e n bytes b h = refl
+closed_limited : (e : DecodeError) (n : ℕ) (bytes : List ℕ) → ◌≡◌ {A = Result Instruction DecodeError} (Err (error_at_limit e (nat_le 15 (length bytes)))) (bounded_outcome (Err e) n (at_start bytes)).answer
+closed_limited e n bytes = grind arith
 
 pub slice_err : (strict : Bool) (bytes within : List ℕ) (e f : DecodeError) (t u : State ℕ) → within ≡ take 15 bytes → u ≡ at_start (take 15 bytes) → outcome (Err e) t ≡ walk_within (rows_of packed) strict u → f ≡ error_at_limit e (length within == 15) →
     ◌≡◌ {A = Result Instruction DecodeError} (Err f) (answer_of strict bytes)
 slice_err strict bytes within e f t u w s h k =
     ap (λ x. Err x) (k ∙ ap (λ l. error_at_limit e (length l == 15)) w ∙ ap (error_at_limit e) (full_test bytes))
-    ∙ closed_limited e t.since_mark bytes (nat_le 15 (length bytes)) refl ∙ slice_is strict bytes (Err e) t u s h
+    ∙ closed_limited e t.since_mark bytes ∙ slice_is strict bytes (Err e) t u s h

@@ -52,14 +52,12 @@ ends_judged rows strict m t a n i j w e h = ap (λ k. outcome (holding (record i
 pub ends_error : (rows : Rows) (strict : Bool) (m t : State ℕ) (a : ℕ) (e : DecodeError) → Walked rows strict m t a (Err e) → is_exhausted e ≡ false → outcome (Err e) t ≡ walk_bounded rows strict m
 ends_error rows strict m t a e w k = ap (λ s. outcome (Err e) s) w.at ∙ sym (w.is ∙ rw k refl)
 
-rest_test : (a k : ℕ) → a ≤ 15 → 15 - a ≤ k → nat_le a (k - (15 - a)) ≡ nat_le 15 k
-rest_test a k h j = grind (arith, nat_tests)
-
 -- the items still allowed are there exactly where there were fifteen
 there : (rows : Rows) (strict : Bool) (m t : State ℕ) (a : ℕ) (r : Result Reading DecodeError) → Walked rows strict m t a r → a ≤ 15 → nat_le a (length t.left) ≡ nat_le 15 (length m.left)
 there rows strict m t a r w few =
+    let room = w.room in
     let left : length t.left ≡ length m.left - (15 - a) = ap (λ s. length s.left) w.at ∙ length-drop t.since_mark m.left ∙ ap (λ n. length m.left - n) w.count in
-    ap (nat_le a) left ∙ rest_test a (length m.left) few w.room
+    grind (arith, nat_tests)
 
 pub ends_long : (rows : Rows) (strict : Bool) (m t after : State ℕ) (a : ℕ) (e : DecodeError) → Walked rows strict m t a (Err e) → is_exhausted e ≡ true → a ≤ 15 → nat_le a (length t.left) ≡ true → after ≡ advanced a t → outcome (Err TooLong) after ≡ walk_bounded rows strict m
 ends_long rows strict m t after a e w k few enough moved =
