@@ -1,5 +1,5 @@
 -- The walk over the first fifteen bytes of a slice.
-use Rattle.std.proofs.Common.{◌≡◌, ◌==◌, ℕ, Bool, true, false, List, length, take, nat_le, Result, Ok, Err, refl, ap, ◌∙◌, arith, length-take}
+use Rattle.std.proofs.Common.{◌≡◌, ◌==◌, ℕ, Bool, List, length, take, nat_le, Result, Ok, Err, ap, ◌∙◌, arith, length-take}
 use Rattle.std.proofs.lemmas.Bool.Decides.{nat_tests}
 use Rattle.x86_arch.specs.Reader.{State}
 use Rattle.x86_fields.specs.declared.errors.DecodeError.{DecodeError}
@@ -8,7 +8,6 @@ use Rattle.x86_forms.specs.Words.{rows_of, packed}
 use Rattle.x86_operands.specs.declared.reader.Reading.{Reading}
 use Rattle.x86_decode.specs.declared.instructions.Instruction.{Instruction}
 use Rattle.x86_decode.specs.Answer.{answer_of, outcome_of}
-use Rattle.x86_decode.specs.Grammar.{allows_lock}
 use Rattle.x86_decode.specs.Instruction.{holding, reading_in}
 use Rattle.x86_decode.specs.Walk.{walk_within, bounded_outcome, decode_step, judgement, error_at_limit}
 
@@ -22,12 +21,11 @@ slice_is strict bytes r t u e h = ap (λ o. (bounded_outcome o.answer o.after.si
 pub slice_ok : (strict : Bool) (bytes : List ℕ) (i : Instruction) (n : ℕ) (j : Result (Unit {0}) DecodeError) (t u : State ℕ) → u ≡ at_start (take 15 bytes) → outcome (Ok (reading_in i)) t ≡ walk_within (rows_of packed) strict u → n ≡ t.since_mark → j ≡ judgement (reading_in i) →
     holding (record i { length = n }) j ≡ answer_of strict bytes
 slice_ok strict bytes i n j t u e h k l =
-    ap (holding (record i { length = n })) l ∙ by (allows_lock (reading_in i)) refl
+    ap (holding (record i { length = n })) l ∙ same
     ∙ ap (λ m. (bounded_outcome (Ok (reading_in i)) m (at_start bytes)).answer) k ∙ slice_is strict bytes (Ok (reading_in i)) t u e h
   where
-    by : (b : Bool) → allows_lock (reading_in i) ≡ b → holding (record i { length = n }) (judgement (reading_in i)) ≡ (bounded_outcome (Ok (reading_in i)) n (at_start bytes)).answer
-    by true q = rw q refl
-    by false q = rw q refl
+    same : holding (record i { length = n }) (judgement (reading_in i)) ≡ (bounded_outcome (Ok (reading_in i)) n (at_start bytes)).answer
+    same = grind arith
 
 full_test : (l : List ℕ) → (length (take 15 l) == 15) ≡ nat_le 15 (length l)
 full_test l = let k = length-take 15 l in grind (arith, nat_tests)

@@ -11,7 +11,6 @@ use Rattle.x86_decode.specs.declared.instructions.Instruction.{Instruction}
 use Rattle.x86_decode.specs.Head.{Rows}
 use Rattle.x86_decode.specs.Instruction.{holding, reading_in}
 use Rattle.x86_decode.specs.Bound.{bounded, HasAdvanced}
-use Rattle.x86_decode.specs.Grammar.{allows_lock}
 use Rattle.x86_fields.specs.Errors.{is_exhausted}
 use Rattle.x86_decode.specs.Walk.{walk_within, bounded_outcome, judgement, walk_bounded}
 use Rattle.x86_decode.proofs.BoundLemmas.{same_state}
@@ -43,11 +42,10 @@ module _ (rows : Rows) (strict : Bool) (m t : State ℕ) (a : ℕ) (r : Result R
       }
 
 pub ends_judged : (rows : Rows) (strict : Bool) (m t : State ℕ) (a n : ℕ) (i : Instruction) (j : Result (Unit {0}) DecodeError) → Walked rows strict m t a (Ok (reading_in i)) → n ≡ t.since_mark → j ≡ judgement (reading_in i) → outcome (holding (record i { length = n }) j) t ≡ walk_bounded rows strict m
-ends_judged rows strict m t a n i j w e h = ap (λ k. outcome (holding (record i { length = n }) k) t) h ∙ by (allows_lock (reading_in i)) refl ∙ ap (λ k. bounded_outcome (Ok (reading_in i)) k m) e ∙ sym w.is
+ends_judged rows strict m t a n i j w e h = ap (λ k. outcome (holding (record i { length = n }) k) t) h ∙ same ∙ ap (λ k. bounded_outcome (Ok (reading_in i)) k m) e ∙ sym w.is
   where
-    by : (b : Bool) → allows_lock (reading_in i) ≡ b → outcome (holding (record i { length = n }) (judgement (reading_in i))) t ≡ bounded_outcome (Ok (reading_in i)) n m
-    by true l = rw l (ap (outcome _) (w.at ∙ ap (λ k. advanced k m) (sym e)))
-    by false l = rw l (ap (outcome _) (w.at ∙ ap (λ k. advanced k m) (sym e)))
+    same : outcome (holding (record i { length = n }) (judgement (reading_in i))) t ≡ bounded_outcome (Ok (reading_in i)) n m
+    same = let at : t ≡ advanced n m = w.at ∙ ap (λ k. advanced k m) (sym e) in grind arith
 
 pub ends_error : (rows : Rows) (strict : Bool) (m t : State ℕ) (a : ℕ) (e : DecodeError) → Walked rows strict m t a (Err e) → is_exhausted e ≡ false → outcome (Err e) t ≡ walk_bounded rows strict m
 ends_error rows strict m t a e w k = ap (λ s. outcome (Err e) s) w.at ∙ sym (w.is ∙ rw k refl)
