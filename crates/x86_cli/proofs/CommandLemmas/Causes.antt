@@ -36,80 +36,43 @@ use Rattle.x86_cli.proofs.TextLemmas.Decoded.{decoded-stays}
 use Rattle.x86_cli.proofs.ListingLemmas.Listing.{listing-whole}
 use Rattle.x86_cli.proofs.ListingLemmas.Sweep.{end_unrefused}
 
--- a status with which no listing of a text ends
+-- a listing that isn't refused ends as its text
 
-judged_end : (answer : Result Instruction DecodeError) (e g : Ending) → decoded_at_end answer e ≡ Ended g → g ≡ e
-judged_end (Ok i) e g h = cc
-judged_end (Err ExhaustedInput) Clean g h = cc
-judged_end (Err ExhaustedInput) (Bad n) g h = cc
-judged_end (Err ExhaustedInput) Large g h = cc
-judged_end (Err ExhaustedInput) Fault g h = cc
-judged_end (Err error) e g h = cc
+module _ (strict : Bool) (text : ℕ → Instruction → List ℕ → List ℕ) (e : Ending) where
+  answered_end : (a : Result Instruction DecodeError) (n : ℕ) (xs : List ℕ) (after : ℕ → Listing) →
+      ((k : ℕ) → (after k).status ≢ outcome.Refused → (after k).status ≡ (at_end e).status) →
+      (listed strict text (decoded_at_end a e) n xs after).status ≢ outcome.Refused → (listed strict text (decoded_at_end a e) n xs after).status ≡ (at_end e).status
+  answered_end a n xs after h = grind arith
 
-decoded_end : (strict : Bool) (x : ℕ) (xs : List ℕ) (e g : Ending) → decoded_of strict (x ∷ xs) e ≡ Ended g → g ≡ e
-unfolding decoded_of
-decoded_end strict x xs e g h = judged_end (answer_of strict (x ∷ xs)) e g h
+  listing_end : (n k : ℕ) (xs : List ℕ) → (listing_from strict text n k xs e).status ≢ outcome.Refused → (listing_from strict text n k xs e).status ≡ (at_end e).status
+  unfolding listing_from decoded_of
+  listing_end n k [] = λ _. refl
+  listing_end n zero (x ∷ xs) = answered_end (answer_of strict (x ∷ xs)) n (x ∷ xs) _ (λ k. listing_end (n + 1) k xs)
+  listing_end n (suc k) (x ∷ xs) = listing_end (n + 1) k xs
 
-module _ (other : Status) (refusal : outcome.Refused ≢ other) (e : Ending) (end : (at_end e).status ≢ other) where
-  module _ (strict : Bool) (text : ℕ → Instruction → List ℕ → List ℕ) where
-    listed_never : (f : Decoded Instruction) (n : ℕ) (xs : List ℕ) (after : ℕ → Listing) → ((g : Ending) → f ≡ Ended g → g ≡ e) → ((k : ℕ) → (after k).status ≢ other) →
-        (listed strict text f n xs after).status ≢ other
-    listed_never (Whole i) n xs after same h = h (i.length - 1)
-    listed_never (Refused error) n xs after same h = refusal
-    listed_never (Ended g) n xs after same h = rw (same g refl) end
-
-    listing_never : (n k : ℕ) (xs : List ℕ) → (listing_from strict text n k xs e).status ≢ other
-    unfolding listing_from
-    listing_never n k [] = end
-    listing_never n zero (x ∷ xs) = listed_never (decoded_of strict (x ∷ xs) e) n (x ∷ xs) _ (decoded_end strict x xs e) (λ k. listing_never (n + 1) k xs)
-    listing_never n (suc k) (x ∷ xs) = listing_never (n + 1) k xs
-
-  pub command_never : (c : Command) (image : List ℕ) → (listing_for c (record { image = image; ending = e })).status ≢ other
-  command_never (Listed strict) image = listing_never strict (λ place instruction bytes. line_of place instruction) 0 0 image
-  command_never Fielded image = listing_never false (λ place instruction bytes. fields_line place (parts_of false bytes)) 0 0 image
-  command_never Tightened image = listing_never false (λ place instruction bytes. least_text place instruction.length (shortest_length false bytes)) 0 0 image
-  command_never Swept image = end
-  command_never Targeted image = end
-
-end_used : (e : Ending) → (at_end e).status ≢ Usage
-end_used Clean = λ f. cc
-end_used (Bad n) = λ f. cc
-end_used Large = λ f. cc
-end_used Fault = λ f. cc
-
-end_written : (e : Ending) → (at_end e).status ≢ outcome.WriteFault
-end_written Clean = λ f. cc
-end_written (Bad n) = λ f. cc
-end_written Large = λ f. cc
-end_written Fault = λ f. cc
-
-end_read : (e : Ending) → e ≢ Fault → (at_end e).status ≢ outcome.ReadFault
-end_read Clean ne = λ f. cc
-end_read (Bad n) ne = λ f. cc
-end_read Large ne = λ f. cc
-end_read Fault ne = absurd (ne refl)
+pub command_end : (c : Command) (t : Text) → (listing_for c t).status ≢ outcome.Refused → (listing_for c t).status ≡ (at_end t.ending).status
+command_end (Listed strict) t = listing_end strict _ t.ending 0 0 t.image
+command_end Fielded t = listing_end false _ t.ending 0 0 t.image
+command_end Tightened t = listing_end false _ t.ending 0 0 t.image
+command_end Swept t = λ _. refl
+command_end Targeted t = λ _. refl
 
 -- the bytes up to the end are no fault
-ending_end : (p : ℕ) (o : Option ℕ) (more : List ℕ) (half : Bool) (len : ℕ) → ending_by p o more half len End ≢ Fault
-ending_end p (Some n) more half len = λ f. cc
-ending_end p None (x ∷ more) half len = λ f. cc
-ending_end p None [] true len = λ f. cc
-ending_end p None [] false len = λ f. cc
-
 text_end : (max : ℕ) (bytes : List ℕ) → (text_of max bytes End).ending ≢ Fault
 unfolding text_at
-text_end max bytes = ending_end 0 (bad_of (take max bytes)) (drop max bytes) (ends_in_half (take max bytes)) (length bytes)
+text_end max bytes = grind arith
 
 pub command_used : (c : Command) (t : Text) → (listing_for c t).status ≢ Usage
-command_used c t = command_never Usage (λ f. cc) t.ending (end_used t.ending) c t.image
+command_used c t = let h = command_end c t in grind arith
 
 pub command_read : (c : Command) (max : ℕ) (bytes : List ℕ) → (listing_for c (text_of max bytes End)).status ≢ outcome.ReadFault
 command_read c max bytes =
-    let t = text_of max bytes End in
-    command_never outcome.ReadFault (λ f. cc) t.ending (end_read t.ending (text_end max bytes)) c t.image
+    let h = command_end c (text_of max bytes End) in
+    let e = text_end max bytes in
+    grind arith
 
 pub command_written : (c : Command) (t : Text) → (listing_for c t).status ≢ outcome.WriteFault
-command_written c t = command_never outcome.WriteFault (λ f. cc) t.ending (end_written t.ending) c t.image
+command_written c t = let h = command_end c t in grind arith
 
 -- a stop that may come after the bytes that were returned
 pub some_stop : (stop : Option Stop) → (s : Stop) × MayCome stop [] s
@@ -118,8 +81,7 @@ some_stop (Some given) = (given, (refl, refl))
 
 lists_other : (other : Status) → outcome.WriteFault ≢ other → (status : Status) (lines : List (List ℕ)) (failed : Option (List ℕ)) (l : Listing) → Lists status lines failed l →
     l.status ≢ other → status ≢ other
-lists_other other fault status lines None l h ne = λ e. ne (ap (λ l. l.status) h ∙ e)
-lists_other other fault status lines (Some failed) l h ne = λ e. fault (sym h.0 ∙ e)
+lists_other other fault status lines failed l h ne = grind arith
 
 pub ran_used : {S K : Type 0} (gives : S → Got → S → Type 0) (takes : K → List ℕ → Result ⊤ SinkFailed → K → Type 0) (c : Command) (max : ℕ) (status : Status) (a b : S) (k l : K) →
     Ran gives takes (listing_for c) max status a b k l → status ≢ Usage
@@ -129,11 +91,7 @@ ran_used gives takes c max status a b k l ran =
 
 -- Commands that continue after refusals are never refused.
 past_refusals : (c : Command) (t : Text) → IsTrue (goes_past_refusals c) → (listing_for c t).status ≢ outcome.Refused
-past_refusals (Listed strict) t goes = cc
-past_refusals Fielded t goes = cc
-past_refusals Tightened t goes = cc
-past_refusals Swept t goes = end_unrefused false t.ending _ refl
-past_refusals Targeted t goes = end_unrefused false t.ending _ refl
+past_refusals c t goes = grind arith
 
 pub ran_unrefused : {S K : Type 0} (gives : S → Got → S → Type 0) (takes : K → List ℕ → Result ⊤ SinkFailed → K → Type 0) (c : Command) (status : Status) (a b : S) (k l : K) →
     Runs gives takes c status a b k l → IsTrue (goes_past_refusals c) → status ≢ outcome.Refused
@@ -143,17 +101,13 @@ ran_unrefused gives takes c status a b k l runs goes =
     lists_other outcome.Refused (λ e. cc) status ran.lines ran.failed _ (ran.lists [] s.0 s.1) (past_refusals c _ goes)
 
 lists_read : (lines : List (List ℕ)) (failed : Option (List ℕ)) (l : Listing) → Lists outcome.ReadFault lines failed l → l.status ≢ outcome.ReadFault → ⊥
-lists_read lines None l h ne = ne (ap (λ l. l.status) h)
-lists_read lines (Some failed) l h ne = let e : outcome.ReadFault ≡ outcome.WriteFault = h.0 in cc
+lists_read lines failed l h ne = grind arith
 
 lists_written : (lines : List (List ℕ)) (failed : Option (List ℕ)) (l : Listing) → Lists outcome.WriteFault lines failed l → l.status ≢ outcome.WriteFault → failed ≢ None
-lists_written lines None l h ne = λ _. ne (ap (λ l. l.status) h)
-lists_written lines (Some failed) l h ne = λ e. cc
+lists_written lines failed l h ne = grind arith
 
 pub fault_stop : (stop : Option Stop) → (MayCome stop [] End → ⊥) → stop ≡ Some Failed
-fault_stop None never = absurd (never tt)
-fault_stop (Some End) never = absurd (never (refl, refl))
-fault_stop (Some Failed) never = refl
+fault_stop stop never = grind arith
 
 pub causes : {S K : Type 0} (gives : S → Got → S → Type 0) (takes : K → List ℕ → Result ⊤ SinkFailed → K → Type 0) → HaveCauses gives takes
 causes gives takes c max a b k l = (
@@ -186,11 +140,8 @@ module _ (strict : Bool) (laws : DecoderLaws strict) (text : ℕ → Instruction
 
 -- the listing of a clean text whose image a command goes through
 pub text_done : ((strict : Bool) → DecoderLaws strict) → CompletesTexts
-text_done laws (Listed strict) t clean sequence =
-    rw (clean, sequence.whole) (sentences_done strict (laws strict) (λ place instruction bytes. line_of place instruction) 0 sequence.sentences sequence.each)
-text_done laws Fielded t clean sequence =
-    rw (clean, sequence.whole) (sentences_done false (laws false) (λ place instruction bytes. fields_line place (parts_of false bytes)) 0 sequence.sentences sequence.each)
-text_done laws Tightened t clean sequence =
-    rw (clean, sequence.whole) (sentences_done false (laws false) (λ place instruction bytes. least_text place instruction.length (shortest_length false bytes)) 0 sequence.sentences sequence.each)
+text_done laws (Listed strict) t clean sequence = rw (clean, sequence.whole) (sentences_done strict (laws strict) _ 0 sequence.sentences sequence.each)
+text_done laws Fielded t clean sequence = rw (clean, sequence.whole) (sentences_done false (laws false) _ 0 sequence.sentences sequence.each)
+text_done laws Tightened t clean sequence = rw (clean, sequence.whole) (sentences_done false (laws false) _ 0 sequence.sentences sequence.each)
 text_done laws Swept t clean any = rw clean refl
 text_done laws Targeted t clean any = rw clean refl

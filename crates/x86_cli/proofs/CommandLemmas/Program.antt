@@ -1,6 +1,5 @@
 -- What the program does, from the calls of its run and the flush after it.
-use Rattle.std.proofs.Common.{◌≡◌, ◌≢◌, ℕ, List, [], ◌∷◌, ◌++◌, take, drop, Option, Some, None, Result, Ok, Err, refl, ap, ◌∙◌, sym, subst, append_assoc, append-nil, take-append-drop}
-use Rattle.std.proofs.lemmas.List.Folds.{concat-append}
+use Rattle.std.proofs.Common.{◌≡◌, ◌≢◌, ℕ, List, [], ◌∷◌, ◌++◌, take, drop, arith, Option, Some, None, Result, Ok, Err, refl, ap, ◌∙◌, sym, subst, append_assoc, append-nil, take-append-drop}
 use Rattle.std.specs.Prelude.{IfSome, OnOk, ⊤}
 use Rattle.std.specs.List.{concat}
 use Rattle.std.specs.declared.io.Error.{Error}
@@ -20,25 +19,16 @@ use Rattle.x86_cli.specs.Commands.Make.{made_listing}
 use Rattle.x86_cli.specs.Commands.Run.{SinkCalls, Lists, Wrote, Ran}
 use Rattle.x86_cli.specs.Commands.Program.{ending_of, fault_of, EndsAt, IsPrinted, Finishes, Performs, PerformsMake}
 use Rattle.x86_cli.proofs.CommandLemmas.Causes.{some_stop, causes, command_used, command_written, ran_used}
-use Rattle.x86_cli.proofs.CommandLemmas.Says.{end_stop, fault_status, called_failed}
+use Rattle.x86_cli.proofs.CommandLemmas.Says.{written_part, end_stop, fault_status, called_failed}
 use Rattle.x86_cli.proofs.OutsideLemmas.Flat.{flat, took_on, took_fault}
 use Rattle.x86_cli.proofs.OutsideLemmas.Reads.{Fetched, fetched, stopped_empty}
 use Rattle.x86_cli.proofs.OutsideLemmas.Writes.{caused_join, caused_ok, caused_err, forwards_join}
 
 no_fault : (status : Status) → status ≢ WriteFault → fault_of status ≡ Ok tt
-no_fault Done ne = refl
-no_fault Usage ne = refl
-no_fault Refused ne = refl
-no_fault BadText ne = refl
-no_fault ReadFault ne = refl
-no_fault TooLarge ne = refl
-no_fault WriteFault ne = absurd (ne refl)
+no_fault status ne = grind arith
 
 flush_joined : (cs ds : List Call) → EndsInFlush cs → EndsInFlush (cs ++ ds)
-flush_joined [] ds e = absurd e
-flush_joined (Write bytes answer ∷ cs) ds e = absurd e
-flush_joined (Flush (Ok done) ∷ cs) ds e = tt
-flush_joined (Flush (Err f) ∷ cs) ds e = absurd e
+flush_joined cs ds e = grind arith
 
 -- what was sent and is held is the beginning of a listing
 printed : (ended status : Status) (bytes held : List ℕ) (lines : List (List ℕ)) (l : Listing) → (ended ≢ WriteFault → (held ≡ []) × (ended ≡ status)) →
@@ -53,12 +43,9 @@ printed_part : (bytes held : List ℕ) (lines : List (List ℕ)) (failed : List 
     bytes ++ held ≡ concat lines ++ take n failed → l.lines ≡ lines ++ failed ∷ more → IsPrinted WriteFault bytes l
 printed_part bytes held lines failed n more l order is =
     let rest : List ℕ = drop n failed ++ concat more in
-    let divided : failed ++ concat more ≡ take n failed ++ rest =
-    ap (λ f. f ++ concat more) (sym (take-append-drop n failed)) ∙ append_assoc (take n failed) (drop n failed) (concat more) in
     record {
       unsent = held ++ rest;
-      whole = ap concat is ∙ concat-append lines (failed ∷ more) ∙ ap (λ f. concat lines ++ f) divided ∙ sym (append_assoc (concat lines) (take n failed) rest)
-          ∙ ap (λ f. f ++ rest) (sym order) ∙ append_assoc bytes held rest;
+      whole = ap concat is ∙ written_part lines failed n more ∙ ap (λ f. f ++ rest) (sym order) ∙ append_assoc bytes held rest;
       all = λ ne. absurd (ne refl);
     }
 
@@ -72,7 +59,7 @@ module _ {W : Type 0} (writes : W → List ℕ → Result ℕ Error → W → Ty
         caused = record {
           calls = j.calls;
           did = j.did;
-          cause = subst (λ o. Cause {A = ⊤} {E = ⊤} o j.calls) (sym (no_fault status ne)) j.cause;
+          cause = rw (no_fault status ne) j.cause;
           sends = j.sends;
         };
         flushed = λ _. flush_joined c.calls f.calls ends;
@@ -92,16 +79,14 @@ module _ {W : Type 0} (writes : W → List ℕ → Result ℕ Error → W → Ty
       Forwards writes flushes {A = ⊤} {E = SinkFailed} (Ok tt) (concat lines) [] held a b → (r : Result ⊤ SinkFailed) → FlushesOut writes flushes r held held' b d →
       Printed status (ending_of status r) lines None a d
   flushed_lines status lines held a b d held' ne f (Ok tt) g =
-      let order : (f.bytes ++ g.0.bytes) ++ held' ≡ concat lines =
-      append_assoc f.bytes g.0.bytes held' ∙ ap (λ s. f.bytes ++ s) (g.0.order ∙ append-nil held) ∙ f.order in
+      let order : (f.bytes ++ g.0.bytes) ++ held' ≡ concat lines = simp append_assoc (ap (λ s. f.bytes ++ s) (g.0.order ∙ append-nil held) ∙ f.order) in
       record {
         bytes = f.bytes ++ g.0.bytes;
         wrote = finishes_flushed status f.bytes g.0.bytes a b d ne f.caused g.0.caused g.1.1;
         prints = λ l is. printed status status (f.bytes ++ g.0.bytes) held' lines l (λ _. (g.1.0, refl)) order is;
       }
   flushed_lines status lines held a b d held' ne f (Err e) g =
-      let order : (f.bytes ++ g.0.bytes) ++ held' ≡ concat lines =
-      append_assoc f.bytes g.0.bytes held' ∙ ap (λ s. f.bytes ++ s) (g.0.order ∙ append-nil held) ∙ f.order in
+      let order : (f.bytes ++ g.0.bytes) ++ held' ≡ concat lines = simp append_assoc (ap (λ s. f.bytes ++ s) (g.0.order ∙ append-nil held) ∙ f.order) in
       record {
         bytes = f.bytes ++ g.0.bytes;
         wrote = finishes_failed e (f.bytes ++ g.0.bytes) a d (caused_join writes flushes tt (Err e) f.bytes g.0.bytes a b d f.caused g.0.caused);
@@ -109,8 +94,7 @@ module _ {W : Type 0} (writes : W → List ℕ → Result ℕ Error → W → Ty
       }
 
   ending_failed : (r : Result ⊤ SinkFailed) → ending_of WriteFault r ≡ WriteFault
-  ending_failed (Ok tt) = refl
-  ending_failed (Err e) = refl
+  ending_failed r = grind arith
 
   -- a put failed, and nothing was sent after it
   failed_line : (lines : List (List ℕ)) (failed : List ℕ) (n : ℕ) (held : List ℕ) (a b : W) (e : SinkFailed) → Forwards writes flushes {A = ⊤} {E = SinkFailed} (Err e) (concat lines ++ take n failed) [] held a b →
@@ -141,17 +125,12 @@ module _ {W : Type 0} (writes : W → List ℕ → Result ℕ Error → W → Ty
           flushed_lines status lines (held (buffer l)) _ _ _ (held g) ne (forwarded (Ok tt) (concat lines) (took_on gwrites gflushes takes buffer puts lines k l sink_calls)) r (sends nu ne)
       run_printed status lines (Some failed) first lists unfailed used sink_calls r g stays sends =
           let t = took_fault gwrites gflushes takes buffer puts lines failed k l sink_calls in
-          let p : Printed WriteFault WriteFault lines (Some failed) (writer_of (buffer k)) (writer_of (buffer l)) =
-          failed_line lines failed t.1 (held (buffer l)) _ _ t.0 (forwarded (Err t.0) (concat lines ++ take t.1 failed) t.2) in
-          let P : G → Type 0 = λ g. Printed WriteFault WriteFault lines (Some failed) (writer_of (buffer k)) (writer_of g) in
-          let q : Printed WriteFault WriteFault lines (Some failed) (writer_of (buffer k)) (writer_of g) = subst P (sym (stays lists.0)) p in
-          rw (lists.0, ending_failed r) q
+          rw (lists.0, ending_failed r, stays lists.0) (failed_line lines failed t.1 (held (buffer l)) _ _ t.0 (forwarded (Err t.0) (concat lines ++ take t.1 failed) t.2))
 
 -- how the reads of a run ended, by its status
 
 lists_status : (status : Status) (lines : List (List ℕ)) (failed : Option (List ℕ)) (l : Listing) → status ≢ WriteFault → Lists status lines failed l → l.status ≡ status
-lists_status status lines None l ne h = ap (λ l. l.status) h
-lists_status status lines (Some failed) l ne h = absurd (ne h.0)
+lists_status status lines failed l ne h = grind arith
 
 module _ {S K : Type 0} (gives : S → Got → S → Type 0) (takes : K → List ℕ → Result ⊤ SinkFailed → K → Type 0) (c : Command) (s t : S) (k l : K) where
   module _ (status : Status) (ran : Ran gives takes (listing_for c) (max_of c) status s t k l) (ne : status ≢ WriteFault) where
@@ -171,13 +150,11 @@ module _ {S K : Type 0} (gives : S → Got → S → Type 0) (takes : K → List
   run_ends WriteFault ran = tt
 
 pub program_ends : {E : Type 0} (status : Status) (r : Result ⊤ E) (stop : Option Stop) → status ≢ Usage → EndsAt status stop → EndsAt (ending_of status r) stop
-program_ends status (Ok done) stop used h = h
-program_ends status (Err e) stop used h = tt
+program_ends status r stop used h = grind arith
 
 -- What is held of the source came after what the run took.
 come_after : (stop : Option Stop) (held xs : List ℕ) (s : Stop) → ((given : Stop) → stop ≡ Some given → held ≡ []) → MayCome stop xs s → MayCome stop (held ++ xs) s
-come_after None held xs s empty may = tt
-come_after (Some given) held xs s empty may = rw (empty given refl) may
+come_after stop held xs s empty may = grind arith
 
 module _ {W G K : Type 0} (writes : W → List ℕ → Result ℕ Error → W → Type 0) (flushes : W → Result ⊤ Error → W → Type 0)
     (gwrites : G → List ℕ → Result ℕ Error → G → Type 0) (gflushes : G → Result ⊤ Error → G → Type 0) (writer_of : G → W) (held : G → List ℕ)
@@ -206,9 +183,7 @@ module _ {W G K : Type 0} (writes : W → List ℕ → Result ℕ Error → W �
       run_lists : (pieces : List (List ℕ)) → concat pieces ≡ ran.bytes ++ kept t → (xs : List ℕ) (stop : Stop) → MayCome ran.stop xs stop →
           Lists status ran.lines ran.failed (listing_for c (text_of (max_of c) (concat pieces ++ xs) stop))
       run_lists pieces order xs stop may =
-          let P : List ℕ → Type 0 = λ bs. Lists status ran.lines ran.failed (listing_for c (text_of (max_of c) bs stop)) in
-          let same : ran.bytes ++ (kept t ++ xs) ≡ concat pieces ++ xs = sym (append_assoc ran.bytes (kept t) xs) ∙ ap (λ b. b ++ xs) (sym order) in
-          subst P same (ran.lists (kept t ++ xs) stop (come_after ran.stop (kept t) xs stop kept_empty may))
+          rw (order, append_assoc) (ran.lists (kept t ++ xs) stop (come_after ran.stop (kept t) xs stop kept_empty may))
 
       pub performs : Performs writes flushes reads c (ending_of status r) (reader s) (reader t) (writer_of (buffer k)) (writer_of g)
       performs =
@@ -230,12 +205,10 @@ module _ {W G K : Type 0} (writes : W → List ℕ → Result ℕ Error → W �
           }
 
 pub each_command : {P Q : Command → Type 0} (o : Option Command) → IfSome o P → ((c : Command) → P c → Q c) → IfSome o Q
-each_command None h f = tt
-each_command (Some c) h f = f c h
+each_command o h f = grind arith
 
 pub ends_usage : {E : Type 0} (status : Status) (r : Result ⊤ E) (ended : Status) → ended ≡ ending_of status r → ended ≡ Usage → status ≡ Usage
-ends_usage status (Ok done) ended is e = sym is ∙ e
-ends_usage status (Err f) ended is e = let both : WriteFault ≡ Usage = sym is ∙ e in cc
+ends_usage status r ended is e = grind arith
 
 -- The same, with the run first: from it is known which relations of its source and its sink these are.
 module _ {W G K : Type 0} (writes : W → List ℕ → Result ℕ Error → W → Type 0) (flushes : W → Result ⊤ Error → W → Type 0) (takes : K → List ℕ → Result ⊤ SinkFailed → K → Type 0)

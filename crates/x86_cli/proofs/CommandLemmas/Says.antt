@@ -1,5 +1,5 @@
 -- What a run says of what is seen, from its calls.
-use Rattle.std.proofs.Common.{◌≡◌, ◌≢◌, ◌⊎◌, inl, inr, ℕ, Bool, List, [], ◌∷◌, ◌++◌, length, take, drop, Option, Some, None, refl, ap, ◌∙◌, sym, subst, append_assoc, append-nil}
+use Rattle.std.proofs.Common.{◌≡◌, ◌≢◌, ◌⊎◌, inl, inr, ℕ, Bool, List, [], ◌∷◌, ◌++◌, length, take, drop, Option, Some, None, refl, ap, ◌∙◌, sym, subst, append_assoc, append-nil, arith}
 use Rattle.std.proofs.lemmas.List.{take-append-drop, append_cancel_left}
 use Rattle.std.proofs.lemmas.List.Folds.{concat-append}
 use Rattle.std.specs.Prelude.{IfSome, Result, ⊤}
@@ -25,65 +25,46 @@ use Rattle.x86_cli.specs.Commands.Make.{made_listing}
 use Rattle.x86_cli.specs.DecoderLaws.{DecoderLaws}
 use Rattle.x86_cli.specs.Commands.Says.{Streams, streams_of, full_listing, taken_listing, Writes, WritesPrefix, OfAll, OfTaken, Makes, Says}
 use Rattle.x86_cli.specs.Commands.Follows.{IsSound, IsExact, HasReadFault, Completes}
-use Rattle.x86_cli.proofs.CommandLemmas.Causes.{command_never, some_stop, fault_stop, command_used, command_read, command_written, text_done}
+use Rattle.x86_cli.proofs.CommandLemmas.Causes.{command_end, some_stop, fault_stop, command_used, command_read, command_written, text_done}
 use Rattle.x86_cli.proofs.OutsideLemmas.Reports.{source_calls_report, sink_calls_report}
 use Rattle.x86_cli.proofs.CommandLemmas.Stay.{refused_stays}
 
 -- options that are known
 
 some_left : (a b : Option (List ℕ)) (bytes : List ℕ) (P : List ℕ → Type 0) → Consumes a b bytes → ((xs : List ℕ) → P (bytes ++ xs)) → IfSome a P
-some_left None b bytes P c h = tt
-some_left (Some xs) None bytes P c h = absurd c
-some_left (Some xs) (Some ys) bytes P c h = subst P (sym c) (h ys)
+some_left a b bytes P c h = grind arith
 
 all_taken : (a : Option (List ℕ)) (bytes : List ℕ) (P : List ℕ → Type 0) → IfSome a (λ xs. xs ≡ bytes) → P (bytes ++ []) → IfSome a P
-all_taken None bytes P e h = tt
-all_taken (Some xs) bytes P e h = let same : bytes ++ [] ≡ xs = append-nil bytes ∙ sym e in subst P same h
+all_taken a bytes P e h = let g = rw append-nil at h in grind arith
 
 none_left : (a b : Option (List ℕ)) (bytes : List ℕ) → Consumes a b bytes → IfSome a (λ xs. xs ≡ bytes) → IfSome a (λ xs. b ≡ Some [])
-none_left None b bytes c e = tt
-none_left (Some xs) None bytes c e = absurd c
-none_left (Some xs) (Some ys) bytes c e = ap Some (append_cancel_left bytes ys [] (sym c ∙ e ∙ sym (append-nil bytes)))
+none_left a b bytes c e = grind (arith, append_cancel_left {A = ℕ}, append-nil {A = ℕ})
 
 -- of all the known bytes of the source, of which those returned are a prefix
 known_bytes : (stop : Option Stop) (a b : Option (List ℕ)) (bytes : List ℕ) (faults faults' : ℕ) (P : List ℕ → Type 0) → ReportsBytes bytes stop a b faults faults' →
     ((xs : List ℕ) → MayCome stop xs End → P (bytes ++ xs)) → (stop ≡ Some Failed → (xs : List ℕ) → P (bytes ++ xs)) → IfSome a P
-known_bytes None a b bytes faults faults' P t h f = some_left a b bytes P t.0 (λ xs. h xs tt)
-known_bytes (Some End) a b bytes faults faults' P t h f = all_taken a bytes P t.1.0 (h [] (refl, refl))
-known_bytes (Some Failed) a b bytes faults faults' P t h f = some_left a b bytes P t.0 (f refl)
+known_bytes stop a b bytes faults faults' P t h f = grind (arith, append-nil {A = ℕ})
 
 faults_unchanged : (stop : Option Stop) (a b : Option (List ℕ)) (bytes : List ℕ) (faults faults' : ℕ) → ReportsBytes bytes stop a b faults faults' → stop ≢ Some Failed → faults' ≡ faults
-faults_unchanged None a b bytes faults faults' t unfailed = t.1
-faults_unchanged (Some End) a b bytes faults faults' t unfailed = t.1.1
-faults_unchanged (Some Failed) a b bytes faults faults' t unfailed = absurd (unfailed refl)
+faults_unchanged stop a b bytes faults faults' t unfailed = grind arith
 
 -- texts and listings
 
-unclean : (p : ℕ) (o : Option ℕ) (more : List ℕ) (half : Bool) (len : ℕ) → ending_by p o more half len Failed ≢ Clean
-unclean p (Some n) more half len = λ f. cc
-unclean p None (x ∷ more) half len = λ f. cc
-unclean p None [] half len = λ f. cc
-
 failed_unclean : (max : ℕ) (bytes : List ℕ) → (text_of max bytes Failed).ending ≢ Clean
 unfolding text_at
-failed_unclean max bytes = unclean 0 (bad_of (take max bytes)) (drop max bytes) (ends_in_half (take max bytes)) (length bytes)
+failed_unclean max bytes = grind arith
 
-done_clean : (c : Command) (image : List ℕ) (e : Ending) → (listing_for c (record { image = image; ending = e })).status ≡ Done → e ≡ Clean
-done_clean c image Clean done = refl
-done_clean c image (Bad n) done = absurd (command_never Done (λ f. cc) (Bad n) (λ f. cc) c image done)
-done_clean c image Large done = absurd (command_never Done (λ f. cc) Large (λ f. cc) c image done)
-done_clean c image Fault done = absurd (command_never Done (λ f. cc) Fault (λ f. cc) c image done)
+done_clean : (c : Command) (t : Text) → (listing_for c t).status ≡ Done → t.ending ≡ Clean
+done_clean c t done = let h = command_end c t in grind arith
 
 -- After a fault a listing ends as that, or in a refusal.
 pub fault_status : (c : Command) (t : Text) (status : Status) → t.ending ≡ Fault → status ≢ Refused → status ≢ ReadFault → (listing_for c t).status ≢ status
-fault_status c t status fault unrefused unread =
-    let ends : (at_end t.ending).status ≡ ReadFault = ap (λ e. (at_end e).status) fault in
-    command_never status (λ e. unrefused (sym e)) t.ending (λ e. unread (sym e ∙ ends)) c t.image
+fault_status c t status fault unrefused unread = let h = command_end c t in grind arith
 
 pub end_stop : (c : Command) (max : ℕ) (bytes : List ℕ) (stop : Option Stop) →
     ((xs : List ℕ) (s : Stop) → MayCome stop xs s → (listing_for c (text_of max (bytes ++ xs) s)).status ≡ Done) → stop ≡ Some End
-end_stop c max bytes None done = absurd (failed_unclean max (bytes ++ []) (done_clean c _ _ (done [] Failed tt)))
-end_stop c max bytes (Some Failed) done = absurd (failed_unclean max (bytes ++ []) (done_clean c _ _ (done [] Failed (refl, refl))))
+end_stop c max bytes None done = absurd (failed_unclean max (bytes ++ []) (done_clean c _ (done [] Failed tt)))
+end_stop c max bytes (Some Failed) done = absurd (failed_unclean max (bytes ++ []) (done_clean c _ (done [] Failed (refl, refl))))
 end_stop c max bytes (Some End) done = refl
 
 -- the text whose last call failed was open
@@ -97,19 +78,15 @@ called_failed max bytes stop called failed =
     let a : CalledWhileOpen (text_of max) bytes (Some Failed) = subst P failed called in
     called_open (text_of max) bytes Failed a
 
--- lines and what was written of one more are a prefix of a listing that has these lines
+-- lines, what was written of one more, and what was not
+pub written_part : (lines : List (List ℕ)) (failed : List ℕ) (n : ℕ) (more : List (List ℕ)) → concat (lines ++ failed ∷ more) ≡ (concat lines ++ take n failed) ++ (drop n failed ++ concat more)
+written_part lines failed n more =
+    simp (concat-append, append_assoc) (ap (λ f. concat lines ++ f) (ap (λ f. f ++ concat more) (sym (take-append-drop n failed)) ∙ append_assoc (take n failed) (drop n failed) (concat more)))
+
 prefix_written : (written written' : Option (List ℕ)) (l : Listing) (lines : List (List ℕ)) (failed : List ℕ) (more : List (List ℕ)) (n : ℕ) → l.lines ≡ lines ++ failed ∷ more →
     Appends written written' (concat lines ++ take n failed) → WritesPrefix written written' l
 prefix_written written written' l lines failed more n is wrote =
-    let joined : concat l.lines ≡ concat lines ++ (failed ++ concat more) = ap concat is ∙ concat-append lines (failed ∷ more) in
-    let divided : failed ++ concat more ≡ take n failed ++ (drop n failed ++ concat more) =
-    ap (λ f. f ++ concat more) (sym (take-append-drop n failed)) ∙ append_assoc (take n failed) (drop n failed) (concat more) in
-    record {
-      part = concat lines ++ take n failed;
-      more = drop n failed ++ concat more;
-      whole = joined ∙ ap (λ f. concat lines ++ f) divided ∙ sym (append_assoc (concat lines) (take n failed) (drop n failed ++ concat more));
-      wrote = wrote;
-    }
+    record { part = concat lines ++ take n failed; more = drop n failed ++ concat more; whole = ap concat is ∙ written_part lines failed n more; wrote = wrote }
 
 module _ (laws : (strict : Bool) → DecoderLaws strict) (c : Command) (old new : Streams) (bytes : List ℕ) (stop : Option Stop)
     (source_calls : ReportsBytes bytes stop old.left new.left old.source_faults new.source_faults)
@@ -136,10 +113,8 @@ module _ (laws : (strict : Bool) → DecoderLaws strict) (c : Command) (old new 
     says_done : AllListed Done → Says Done c old new
     says_done lists =
         let end : stop ≡ Some End = end_stop c (max_of c) bytes stop (λ xs s may. ap (λ l. l.status) (lists xs s may)) in
-        let unfailed : stop ≢ Some Failed = λ f. let g : Some End ≡ Some Failed = sym end ∙ f in cc in
-        let P : Option Stop → Type 0 = λ s. ReportsBytes bytes s old.left new.left old.source_faults new.source_faults in
-        let ended : ReportsBytes bytes (Some End) old.left new.left old.source_faults new.source_faults = subst P end source_calls in
-        (all_full Done lists (λ f. absurd (unfailed f)), ended.1.1, wrote.1, none_left old.left new.left bytes ended.0 ended.1.0)
+        let ended : ReportsBytes bytes (Some End) old.left new.left old.source_faults new.source_faults = rw end at source_calls in
+        (all_full Done lists (λ f. absurd (cc)), ended.1.1, wrote.1, none_left old.left new.left bytes ended.0 ended.1.0)
 
     -- a text that ends by itself
     says_ended : (status : Status) → status ≢ Refused → status ≢ ReadFault → AllListed status →
@@ -160,8 +135,7 @@ module _ (laws : (strict : Bool) → DecoderLaws strict) (c : Command) (old new 
     says_read : AllListed ReadFault → Says ReadFault c old new
     says_read lists =
         let failed : stop ≡ Some Failed = fault_stop stop (λ may. command_read c (max_of c) (bytes ++ []) (ap (λ l. l.status) (lists [] End may))) in
-        let P : Option Stop → Type 0 = λ s. ReportsBytes bytes s old.left new.left old.source_faults new.source_faults in
-        let reported : ReportsBytes bytes (Some Failed) old.left new.left old.source_faults new.source_faults = subst P failed source_calls in
+        let reported : ReportsBytes bytes (Some Failed) old.left new.left old.source_faults new.source_faults = rw failed at source_calls in
         (record { taken = bytes; takes = reported.0; holds = writes ReadFault (taken_listing c bytes) (failed_listed ReadFault lists failed); cause = reported.1 }, wrote.1)
 
     says_all : (status : Status) → status ≢ Usage → status ≢ WriteFault → AllListed status → Says status c old new
@@ -185,18 +159,11 @@ module _ (laws : (strict : Bool) → DecoderLaws strict) (c : Command) (old new 
     IsPrefix = WritesPrefix old.written new.written
 
     full_or_taken : (p : Option Stop) → p ≡ stop → OfAll IsPrefix c old ⊎ OfTaken IsPrefix c old new
-    full_or_taken None is =
-        inl (known_bytes stop old.left new.left bytes old.source_faults new.source_faults (λ b. IsPrefix (full_listing c b)) source_calls (λ xs may. prefixes xs End may)
-        (λ f. let g : None ≡ Some Failed = is ∙ f in cc))
-    full_or_taken (Some End) is =
-        inl (known_bytes stop old.left new.left bytes old.source_faults new.source_faults (λ b. IsPrefix (full_listing c b)) source_calls (λ xs may. prefixes xs End may)
-        (λ f. let g : Some End ≡ Some Failed = is ∙ f in cc))
     full_or_taken (Some Failed) is =
-        let P : Option Stop → Type 0 = λ s. ReportsBytes bytes s old.left new.left old.source_faults new.source_faults in
-        let reported : ReportsBytes bytes (Some Failed) old.left new.left old.source_faults new.source_faults = subst P (sym is) source_calls in
-        let may : MayCome stop [] Failed = rw (sym is) (refl, refl) in
-        let part : IsPrefix (taken_listing c bytes) = rw append-nil at (prefixes [] Failed may) in
+        let reported : ReportsBytes bytes (Some Failed) old.left new.left old.source_faults new.source_faults = rw (sym is) at source_calls in
+        let part : IsPrefix (taken_listing c bytes) = rw append-nil at (prefixes [] Failed (rw (sym is) (refl, refl))) in
         inr (record { taken = bytes; takes = reported.0; holds = part; cause = reported.1 })
+    full_or_taken p is = inl (known_bytes stop old.left new.left bytes old.source_faults new.source_faults (λ b. IsPrefix (full_listing c b)) source_calls (λ xs may. prefixes xs End may) (λ f. absurd (cc)))
 
     says_written : Says WriteFault c old new
     says_written = (wrote.1, full_or_taken stop refl)
@@ -210,9 +177,7 @@ module _ (laws : (strict : Bool) → DecoderLaws strict) (c : Command) (old new 
       says_all lines wrote status (λ f. command_used c t (ends ∙ f)) (λ f. command_written c t (ends ∙ f)) lists
   says_by status lines (Some failed) wrote lists =
       let s = some_stop stop in
-      let is : status ≡ WriteFault = (lists [] s.0 s.1).0 in
-      let P : Status → Type 0 = λ st. Says st c old new in
-      subst P (sym is) (says_written lines failed wrote (λ xs s may. (refl, (lists xs s may).1)))
+      rw ((lists [] s.0 s.1).0) (says_written lines failed wrote (λ xs s may. (refl, (lists xs s may).1)))
 
 -- of every source and sink
 pub ran_says : {S K : Type 0} (gives : S → Got → S → Type 0) (takes : K → List ℕ → Result ⊤ SinkFailed → K → Type 0)
@@ -231,13 +196,9 @@ ran_says gives takes left faults written others source sink laws c status a b k 
 
 made_says : (n : ℕ) (status : Status) (lines : List (List ℕ)) (failed : Option (List ℕ)) (w w' : Option (List ℕ)) (faults faults' : ℕ) →
     Lists status lines failed (made_listing n) → ReportsPieces lines failed w w' faults faults' → Makes n status w w' faults faults'
-made_says n status lines None w w' faults faults' lists reported =
-    let P : Status → Type 0 = λ s. Makes n s w w' faults faults' in
-    let Q : List (List ℕ) → Type 0 = λ ls. Appends w w' (concat ls) × (faults' ≡ faults) in
-    subst P (ap (λ l. l.status) lists) (subst Q (sym (ap (λ l. l.lines) lists)) reported)
+made_says n status lines None w w' faults faults' lists reported = rw (← ap (λ l. l.status) lists) (rw (ap (λ l. concat l.lines) lists) reported)
 made_says n status lines (Some failed) w w' faults faults' lists reported =
-    let P : Status → Type 0 = λ s. Makes n s w w' faults faults' in
-    subst P (sym lists.0) (reported.1, prefix_written w w' (made_listing n) lines failed lists.1.0 reported.0.0 lists.1.1 reported.0.1)
+    rw (lists.0) (reported.1, prefix_written w w' (made_listing n) lines failed lists.1.0 reported.0.0 lists.1.1 reported.0.1)
 
 pub wrote_says : {K : Type 0} (takes : K → List ℕ → Result ⊤ SinkFailed → K → Type 0) (written : K → Option (List ℕ)) (others : K → ℕ) →
     ((s : K) (piece : List ℕ) (r : Result ⊤ SinkFailed) (t : K) → takes s piece r t → ReportsPut r piece (written s) (written t) (others s) (others t)) →
@@ -248,12 +209,10 @@ wrote_says takes written others sink n status k l wrote =
 -- what follows
 
 pub each_known : {P Q : List ℕ → Type 0} (o : Option (List ℕ)) → ((b : List ℕ) → P b → Q b) → IfSome o P → IfSome o Q
-each_known None f h = tt
-each_known (Some b) f h = f b h
+each_known o f h = grind arith
 
 any_known : {Q : List ℕ → Type 0} (o : Option (List ℕ)) → ((b : List ℕ) → Q b) → IfSome o Q
-any_known None f = tt
-any_known (Some b) f = f b
+any_known o f = grind arith
 
 module _ (c : Command) (old new : Streams) where
   -- the whole listing, where neither count rose
@@ -271,8 +230,7 @@ module _ (c : Command) (old new : Streams) where
 
   pub has_read_fault : (result : Status) → Says result c old new → HasReadFault result c old new
   has_read_fault result says e =
-      let P : Status → Type 0 = λ s. Says s c old new in
-      let h : Says ReadFault c old new = subst P e says in
+      let h : Says ReadFault c old new = rw e at says in
       (h.0.cause, (h.0.taken, h.0.takes, sym h.0.holds.0))
 
   pub completes : ((strict : Bool) → DecoderLaws strict) → (result : Status) → Says result c old new → Completes result c old new
