@@ -1,5 +1,5 @@
 -- What the program leaves, where the bytes that its reader has left and those that its writer has are known.
-use Rattle.std.proofs.Common.{◌≡◌, ◌≢◌, inl, inr, ℕ, Bool, List, [], ◌∷◌, ◌++◌, length, take, Option, Some, None, Result, Ok, Err, refl, ap, ◌∙◌, sym, subst, append-nil}
+use Rattle.std.proofs.Common.{◌≡◌, ◌≢◌, inl, inr, ℕ, Bool, List, [], ◌∷◌, ◌++◌, length, take, Option, Some, None, Result, Ok, Err, refl, ap, ◌∙◌, sym, subst, append-nil, arith}
 use Rattle.std.proofs.Math.Seq.{take-append_seam}
 use Rattle.std.specs.Prelude.{IfSome, ⊤}
 use Rattle.std.specs.List.{concat}
@@ -14,7 +14,7 @@ use Rattle.x86_cli.specs.declared.text.reader.Ending.TheVariants.{Fault}
 use Rattle.x86_cli.specs.DecoderLaws.{DecoderLaws}
 use Rattle.x86_cli.specs.Outside.Stop.{Stop, End, Failed}
 use Rattle.x86_cli.specs.Outside.Reads.{ReaderCalls, ReadWhileOpen}
-use Rattle.x86_cli.specs.Outside.Writes.{Call, Write, Flush, sent, WriterCalls}
+use Rattle.x86_cli.specs.Outside.Writes.{Call, Write, Flush, sent, sent_by, Does, WriterCalls}
 use Rattle.x86_cli.specs.Text.{Text, text_of}
 use Rattle.x86_cli.specs.Text.Reading.{MayCome}
 use Rattle.x86_cli.specs.Listings.Listing.{Listing}
@@ -22,6 +22,7 @@ use Rattle.x86_cli.specs.Commands.Command.{listing_for, max_of}
 use Rattle.x86_cli.specs.Commands.Make.{made_listing}
 use Rattle.x86_cli.specs.Commands.Says.{full_listing, taken_listing}
 use Rattle.x86_cli.specs.Commands.Program.{IsPrinted, Performs, PerformsMake, Has, HasOfAll, HasOfTaken, Leaves}
+use Rattle.x86_cli.proofs.CommandLemmas.Says.{some_left}
 use Rattle.x86_cli.proofs.CommandLemmas.Stay.{refused_stays}
 use Rattle.x86_cli.proofs.OutsideLemmas.Sink.{appends-none}
 use Rattle.x86_cli.proofs.OutsideLemmas.Writes.{take_none}
@@ -29,19 +30,13 @@ use Rattle.x86_cli.proofs.OutsideLemmas.Writes.{take_none}
 -- readers
 
 consumes_none : (a b : Option (List ℕ)) → Keeps a b → Consumes a b []
-consumes_none None b k = tt
-consumes_none (Some x) None k = absurd k
-consumes_none (Some x) (Some y) k = sym k
+consumes_none a b k = grind arith
 
 at_end : (a b : Option (List ℕ)) (bytes : List ℕ) → bytes ≡ [] → Consumes a b bytes → IsAtEnd b → IfSome a (λ xs. xs ≡ [])
-at_end None b bytes none c e = tt
-at_end (Some x) None bytes none c e = absurd c
-at_end (Some x) (Some y) bytes none c e = c ∙ ap (λ s. s ++ y) none ∙ e
+at_end a b bytes none c e = grind arith
 
 all_read : (p ps : List ℕ) (a b : Option (List ℕ)) → Consumes a b p → IfSome b (λ xs. xs ≡ ps) → IfSome a (λ xs. xs ≡ p ++ ps)
-all_read p ps None b c h = tt
-all_read p ps (Some xs) None c h = absurd c
-all_read p ps (Some xs) (Some ys) c h = c ∙ ap (λ ys. p ++ ys) h
+all_read p ps a b c h = grind arith
 
 module _ {R : Type 0} (left : R → Option (List ℕ)) where
   abbrev reports : R → List ℕ → Result ℕ Error → R → Type 0
@@ -58,18 +53,10 @@ module _ {R : Type 0} (left : R → Option (List ℕ)) where
   reads_all (p ∷ ps) r r' h = all_read p (concat ps) (left r) (left h.0) (subst (Consumes (left r) (left h.0)) h.1.4 h.1.3.0) (reads_all ps h.0 r' h.2)
 
 taken_beginning : (a b : Option (List ℕ)) (taken : List ℕ) → Consumes a b taken → IfSome a (λ xs. StartsWith xs taken)
-taken_beginning None b taken c = tt
-taken_beginning (Some xs) None taken c = absurd c
-taken_beginning (Some xs) (Some ys) taken c = rw c (take-append_seam taken ys)
-
-some_more : (a b : Option (List ℕ)) (bytes : List ℕ) (P : List ℕ → Type 0) → Consumes a b bytes → ((xs : List ℕ) → P (bytes ++ xs)) → IfSome a P
-some_more None b bytes P c h = tt
-some_more (Some xs) None bytes P c h = absurd c
-some_more (Some xs) (Some ys) bytes P c h = subst P (sym c) (h ys)
+taken_beginning a b taken c = grind (arith, take-append_seam {A = ℕ})
 
 just_these : (a : Option (List ℕ)) (bytes : List ℕ) (P : List ℕ → Type 0) → IfSome a (λ b. b ≡ bytes) → P bytes → IfSome a P
-just_these None bytes P e h = tt
-just_these (Some xs) bytes P e h = subst P (sym e) h
+just_these a bytes P e h = grind arith
 
 -- writers
 
@@ -80,15 +67,18 @@ module _ {W : Type 0} (written : W → Option (List ℕ)) where
   abbrev keeps : W → Result ⊤ Error → W → Type 0
   keeps s r t = Keeps (written s) (written t)
 
+  call_appends : (c : Call) (v w : W) → Does appends keeps c v w → Appends (written v) (written w) (sent_by c)
+  call_appends (Write bytes (Ok n)) v w h = h
+  call_appends (Write bytes (Err e)) v w h = appends-none (written v) (written w) h
+  call_appends (Flush r) v w h = appends-none (written v) (written w) h
+
   calls_append : (cs : List Call) (w w' : W) → WriterCalls appends keeps cs w w' → Appends (written w) (written w') (sent cs)
   calls_append [] w w' e = rw e (Appends-nil (written w))
-  calls_append (Write bytes (Ok n) ∷ cs) w w' h = Appends-trans (written w) (written h.0) (written w') (sent cs) (take n bytes) (calls_append cs w h.0 h.1) h.2
-  calls_append (Write bytes (Err e) ∷ cs) w w' h = Appends-trans (written w) (written h.0) (written w') (sent cs) [] (calls_append cs w h.0 h.1) (appends-none (written h.0) (written w') h.2)
-  calls_append (Flush r ∷ cs) w w' h = Appends-trans (written w) (written h.0) (written w') (sent cs) [] (calls_append cs w h.0 h.1) (appends-none (written h.0) (written w') h.2)
+  calls_append (c ∷ cs) w w' h = Appends-trans (written w) (written h.0) (written w') (sent cs) (sent_by c) (calls_append cs w h.0 h.1) (call_appends c h.0 w' h.2)
 
   pub make_leaves : (n : ℕ) (status : Status) (w w' : W) → PerformsMake appends keeps n status w w' → Has status (made_listing n) (written w) (written w')
   make_leaves n status w w' h =
-      (h.bytes, h.lists, subst (Appends (written w) (written w')) h.wrote.caused.sends (calls_append h.wrote.caused.calls w w' h.wrote.caused.did))
+      (h.bytes, h.lists, rw h.wrote.caused.sends at (calls_append h.wrote.caused.calls w w' h.wrote.caused.did))
 
 -- texts
 
@@ -99,19 +89,18 @@ open_failed text (p ∷ ps) stop h = open_failed (λ xs s. text (p ++ xs) s) ps 
 module _ {R W : Type 0} (laws : (strict : Bool) → DecoderLaws strict) (left : R → Option (List ℕ)) (written : W → Option (List ℕ)) (c : Command) (r r' : R) (w w' : W) where
   module _ (status : Status) (h : Performs (appends written) (keeps written) (reports left) c status r r' w w') where
     wrote : Appends (written w) (written w') h.bytes
-    wrote = subst (Appends (written w) (written w')) h.wrote.caused.sends (calls_append written h.wrote.caused.calls w w' h.wrote.caused.did)
+    wrote = rw h.wrote.caused.sends at (calls_append written h.wrote.caused.calls w w' h.wrote.caused.did)
 
     consumed : Consumes (left r) (left r') (concat h.pieces)
     consumed = reads_consume left h.pieces h.stop r r' h.read
 
     of_all : (stop : Option Stop) → h.stop ≡ stop → stop ≢ Some Failed → HasOfAll status c (left r) (written w) (written w')
     of_all None is ne =
-        some_more (left r) (left r') (concat h.pieces) (λ b. Has status (full_listing c b) (written w) (written w')) consumed
+        some_left (left r) (left r') (concat h.pieces) (λ b. Has status (full_listing c b) (written w) (written w')) consumed
         (λ xs. (h.bytes, h.lists xs End (rw is tt), wrote))
     of_all (Some End) is ne =
-        let P : Option Stop → Type 0 = λ o. ReaderCalls (reports left) h.pieces o r r' in
         let may : MayCome h.stop [] End = rw is (refl, refl) in
-        just_these (left r) (concat h.pieces) (λ b. Has status (full_listing c b) (written w) (written w')) (reads_all left h.pieces r r' (subst P is h.read))
+        just_these (left r) (concat h.pieces) (λ b. Has status (full_listing c b) (written w) (written w')) (reads_all left h.pieces r r' (rw is at h.read))
         (h.bytes, rw append-nil at (h.lists [] End may), wrote)
     of_all (Some Failed) is ne = absurd (ne refl)
 
@@ -124,21 +113,18 @@ module _ {R W : Type 0} (laws : (strict : Bool) → DecoderLaws strict) (left : 
     of_taken is = (concat h.pieces, taken_beginning (left r) (left r') (concat h.pieces) consumed, (h.bytes, printed_taken is, wrote))
 
   refused : (h : Performs (appends written) (keeps written) (reports left) c Refused r r' w w') (stop : Option Stop) → h.stop ≡ stop → HasOfAll Refused c (left r) (written w) (written w')
-  refused h None is = of_all Refused h None is (λ e. cc)
-  refused h (Some End) is = of_all Refused h (Some End) is (λ e. cc)
   refused h (Some Failed) is =
       let bytes : List ℕ = concat h.pieces in
-      let P : Option Stop → Type 0 = λ o. ReadWhileOpen (text_of (max_of c)) h.pieces o in
-      let fault = open_failed (text_of (max_of c)) h.pieces Failed (subst P is h.open_yet) in
+      let fault = open_failed (text_of (max_of c)) h.pieces Failed (rw is at h.open_yet) in
       let p = printed_taken Refused h is in
       let ends : (taken_listing c bytes).status ≡ Refused = sym (p.all (λ e. cc)).1 in
-      some_more (left r) (left r') bytes (λ b. Has Refused (full_listing c b) (written w) (written w')) (consumed Refused h)
+      some_left (left r) (left r') bytes (λ b. Has Refused (full_listing c b) (written w) (written w')) (consumed Refused h)
       (λ xs. (h.bytes, subst (IsPrinted Refused h.bytes) (sym (refused_stays laws c (max_of c) bytes xs End fault ends)) p, wrote Refused h))
+  refused h stop is = of_all Refused h stop is (λ e. absurd (cc))
 
   written_fault : (h : Performs (appends written) (keeps written) (reports left) c WriteFault r r' w w') (stop : Option Stop) → h.stop ≡ stop → Leaves WriteFault c (left r) (written w) (written w')
-  written_fault h None is = inl (of_all WriteFault h None is (λ e. cc))
-  written_fault h (Some End) is = inl (of_all WriteFault h (Some End) is (λ e. cc))
   written_fault h (Some Failed) is = inr (of_taken WriteFault h is)
+  written_fault h stop is = inl (of_all WriteFault h stop is (λ e. absurd (cc)))
 
   pub leaves : (status : Status) → Performs (appends written) (keeps written) (reports left) c status r r' w w' → Leaves status c (left r) (written w) (written w')
   leaves Done h = of_all Done h (Some End) h.ends (λ e. cc)

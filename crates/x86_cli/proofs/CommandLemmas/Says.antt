@@ -31,7 +31,7 @@ use Rattle.x86_cli.proofs.CommandLemmas.Stay.{refused_stays}
 
 -- options that are known
 
-some_left : (a b : Option (List ℕ)) (bytes : List ℕ) (P : List ℕ → Type 0) → Consumes a b bytes → ((xs : List ℕ) → P (bytes ++ xs)) → IfSome a P
+pub some_left : (a b : Option (List ℕ)) (bytes : List ℕ) (P : List ℕ → Type 0) → Consumes a b bytes → ((xs : List ℕ) → P (bytes ++ xs)) → IfSome a P
 some_left a b bytes P c h = grind arith
 
 all_taken : (a : Option (List ℕ)) (bytes : List ℕ) (P : List ℕ → Type 0) → IfSome a (λ xs. xs ≡ bytes) → P (bytes ++ []) → IfSome a P
@@ -217,13 +217,7 @@ any_known o f = grind arith
 module _ (c : Command) (old new : Streams) where
   -- the whole listing, where neither count rose
   writes_all : (result : Status) → Says result c old new → IfSome old.left (λ b. IsSound old new → Writes result old new (full_listing c b))
-  writes_all Done says = each_known old.left (λ b w _. w) says.0
-  writes_all Usage says = absurd says
-  writes_all Refused says = each_known old.left (λ b w _. w) says.0
-  writes_all BadText says = each_known old.left (λ b w _. w) says.0
-  writes_all TooLarge says = each_known old.left (λ b w _. w) says.0
-  writes_all ReadFault says = any_known old.left (λ b sound. absurd (sound.0 says.0.cause))
-  writes_all WriteFault says = any_known old.left (λ b sound. absurd (sound.1 says.0))
+  writes_all result says = grind arith
 
   pub exact : (result : Status) → Says result c old new → IsExact result c old new
   exact result says = each_known old.left (λ b w sound status. let e = (w sound).0 in (λ h. sym e ∙ h, λ h. e ∙ h)) (writes_all result says)

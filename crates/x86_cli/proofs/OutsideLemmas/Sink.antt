@@ -10,13 +10,10 @@ use Rattle.x86_cli.specs.Outside.Writes.{Caused}
 use Rattle.x86_cli.proofs.OutsideLemmas.Writes.{caused_none, caused_as, caused_write, caused_nothing, caused_error}
 
 pub appends-none : (a b : Option (List ℕ)) → Keeps a b → Appends a b []
-appends-none None b k = tt
-appends-none (Some x) None k = absurd k
-appends-none (Some x) (Some y) k = k ∙ sym (append-nil x)
+appends-none a b k = grind (arith, append-nil {A = ℕ})
 
 keeps : (a : Option (List ℕ)) → Keeps a a
-keeps None = tt
-keeps (Some x) = refl
+keeps a = grind arith
 
 module _ {W : Type 0} (writes : W → List ℕ → Result ℕ Error → W → Type 0) (flushes : W → Result ⊤ Error → W → Type 0) (written : W → Option (List ℕ)) (piece : List ℕ) where
   -- The writer took the first bytes of the piece, and these are left.

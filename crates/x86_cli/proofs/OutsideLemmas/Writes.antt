@@ -1,5 +1,5 @@
 -- How calls of a writer are put together.
-use Rattle.std.proofs.Common.{◌≡◌, ◌<◌, ℕ, List, [], ◌∷◌, ◌++◌, length, take, drop, Result, Ok, Err, refl, ap, ◌∙◌, subst, sym, append_assoc, append-nil, take-append-drop}
+use Rattle.std.proofs.Common.{◌≡◌, ◌<◌, ℕ, List, [], ◌∷◌, ◌++◌, length, take, drop, Result, Ok, Err, refl, ap, ◌∙◌, subst, sym, append_assoc, append-nil, take-append-drop, arith}
 use Rattle.std.specs.Prelude.{⊤}
 use Rattle.std.specs.declared.io.Error.{Error}
 use Rattle.std.specs.declared.io.ErrorKind.TheVariants.{Interrupted}
@@ -7,8 +7,7 @@ use Rattle.std.specs.IoError.{error_kind}
 use Rattle.x86_cli.specs.Outside.Writes.{Call, Write, Flush, sent_by, sent, AllContinue, Cause, WriterCalls, Caused, Forwards, FlushesOut}
 
 pub take_none : (n : ℕ) (xs : List ℕ) → n ≡ 0 → take n xs ≡ []
-take_none n [] none = rw none refl
-take_none n (x ∷ xs) none = rw none refl
+take_none n xs none = grind arith
 
 all_go_on : (cs ds : List Call) → AllContinue cs → AllContinue ds → AllContinue (cs ++ ds)
 all_go_on [] ds c d = d
@@ -20,8 +19,7 @@ joined_cause (Err e) [] ds c d = absurd c
 joined_cause (Err e) (x ∷ cs) ds c d = (c.0, all_go_on cs ds c.1 d)
 
 err_cause : (A B : Type 0) {E F : Type 0} (e : E) (f : F) (cs : List Call) → Cause {A = A} {E = E} (Err e) cs → Cause {A = B} {E = F} (Err f) cs
-err_cause A B e f [] c = absurd c
-err_cause A B e f (x ∷ cs) c = c
+err_cause A B e f cs c = grind arith
 
 pub sent_joined : (cs ds : List Call) → sent (cs ++ ds) ≡ sent ds ++ sent cs
 sent_joined [] ds = sym (append-nil (sent ds))
@@ -69,10 +67,10 @@ module _ {W : Type 0} (writes : W → List ℕ → Result ℕ Error → W → Ty
     calls = after.calls ++ before.calls;
     did = joined after.calls before.calls a b d before.did after.did;
     cause = joined_cause r after.calls before.calls after.cause before.cause;
-    sends = sent_joined after.calls before.calls ∙ ap (λ s. s ++ sent after.calls) before.sends ∙ ap (λ s. bs ++ s) after.sends;
+    sends = rw (sent_joined, before.sends, after.sends) refl;
   }
 
-  pub caused_ok : {A B E F : Type 0} (x : A) (y : B) (bs : List ℕ) (a b : W) → Caused writes flushes {A = A} {E = E} (Ok x) bs a b → Caused writes flushes {A = B} {E = F} (Ok y) bs a b
+  abbrev pub caused_ok : {A B E F : Type 0} (x : A) (y : B) (bs : List ℕ) (a b : W) → Caused writes flushes {A = A} {E = E} (Ok x) bs a b → Caused writes flushes {A = B} {E = F} (Ok y) bs a b
   caused_ok x y bs a b h = record { calls = h.calls; did = h.did; cause = h.cause; sends = h.sends }
 
   pub caused_err : {A B E F : Type 0} (e : E) (f : F) (bs : List ℕ) (a b : W) → Caused writes flushes {A = A} {E = E} (Err e) bs a b → Caused writes flushes {A = B} {E = F} (Err f) bs a b
@@ -97,10 +95,10 @@ module _ {W : Type 0} (writes : W → List ℕ → Result ℕ Error → W → Ty
   forwards_more x y taken held held' held'' a b is h = record {
     bytes = h.bytes;
     caused = caused_ok x y h.bytes a b h.caused;
-    order = ap (λ s. h.bytes ++ s) is ∙ sym (append_assoc h.bytes held' taken) ∙ ap (λ s. s ++ taken) (h.order ∙ append-nil held);
+    order = rw (is, ← append_assoc, h.order, append-nil) refl;
   }
 
-  pub forwards_ok : {A B E F : Type 0} (x : A) (y : B) (taken held held' : List ℕ) (a b : W) → Forwards writes flushes {A = A} {E = E} (Ok x) taken held held' a b →
+  abbrev pub forwards_ok : {A B E F : Type 0} (x : A) (y : B) (taken held held' : List ℕ) (a b : W) → Forwards writes flushes {A = A} {E = E} (Ok x) taken held held' a b →
       Forwards writes flushes {A = B} {E = F} (Ok y) taken held held' a b
   forwards_ok x y taken held held' a b h = record { bytes = h.bytes; caused = caused_ok x y h.bytes a b h.caused; order = h.order }
 
@@ -111,38 +109,20 @@ module _ {W : Type 0} (writes : W → List ℕ → Result ℕ Error → W → Ty
   -- Then the writer is flushed.
   pub flushes_out : {A B E F : Type 0} (x : A) (y : B) (held held' : List ℕ) (a b d : W) → held' ≡ [] → Forwards writes flushes {A = A} {E = E} (Ok x) [] held held' a b → flushes b (Ok tt) d →
       FlushesOut writes flushes {A = B} {E = F} (Ok y) held held' a d
-  flushes_out x y held held' a b d none h flushed =
-      let c = h.caused in (
-        record {
-          bytes = h.bytes;
-          caused = record { calls = Flush (Ok tt) ∷ c.calls; did = (b, c.did, flushed); cause = (tt, c.cause); sends = append-nil (sent c.calls) ∙ c.sends };
-          order = h.order;
-        },
-        (none, tt),
-      )
+  flushes_out {A} {B} {E} {F} x y held held' a b d none h flushed =
+      let c = h.caused in
+      let calls : Caused writes flushes {A = B} {E = F} (Ok y) h.bytes a d = record { calls = Flush (Ok tt) ∷ c.calls; did = (b, c.did, flushed); cause = (tt, c.cause); sends = append-nil (sent c.calls) ∙ c.sends } in
+      (record { bytes = h.bytes; caused = calls; order = h.order }, (none, tt))
 
   pub flush_fails : {A B E F : Type 0} (x : A) (f : F) (e : Error) (held held' : List ℕ) (a b d : W) → Forwards writes flushes {A = A} {E = E} (Ok x) [] held held' a b → flushes b (Err e) d →
       FlushesOut writes flushes {A = B} {E = F} (Err f) held held' a d
-  flush_fails x f e held held' a b d h flushed =
-      let c = h.caused in (
-        record {
-          bytes = h.bytes;
-          caused = record { calls = Flush (Err e) ∷ c.calls; did = (b, c.did, flushed); cause = (tt, c.cause); sends = append-nil (sent c.calls) ∙ c.sends };
-          order = h.order;
-        },
-        tt,
-      )
+  flush_fails {A} {B} {E} {F} x f e held held' a b d h flushed =
+      let c = h.caused in
+      let calls : Caused writes flushes {A = B} {E = F} (Err f) h.bytes a d = record { calls = Flush (Err e) ∷ c.calls; did = (b, c.did, flushed); cause = (tt, c.cause); sends = append-nil (sent c.calls) ∙ c.sends } in
+      (record { bytes = h.bytes; caused = calls; order = h.order }, tt)
 
   pub flushes_ok : {A B E F : Type 0} (x : A) (y : B) (held held' : List ℕ) (a b : W) → FlushesOut writes flushes {A = A} {E = E} (Ok x) held held' a b → FlushesOut writes flushes {A = B} {E = F} (Ok y) held held' a b
-  flushes_ok x y held held' a b h =
-      let c = h.0.caused in (
-        record {
-          bytes = h.0.bytes;
-          caused = record { calls = c.calls; did = c.did; cause = c.cause; sends = c.sends };
-          order = h.0.order;
-        },
-        h.1,
-      )
+  flushes_ok x y held held' a b h = (forwards_ok x y [] held held' a b h.0, h.1)
 
   -- one after the other
   pub forwards_join : {A B E F : Type 0} (x : A) (r : Result B F) (t u h0 h1 h2 : List ℕ) (a b d : W) → Forwards writes flushes {A = A} {E = E} (Ok x) t h0 h1 a b → Forwards writes flushes r u h1 h2 b d →
@@ -150,5 +130,5 @@ module _ {W : Type 0} (writes : W → List ℕ → Result ℕ Error → W → Ty
   forwards_join x r t u h0 h1 h2 a b d f g = record {
     bytes = f.bytes ++ g.bytes;
     caused = caused_join x r f.bytes g.bytes a b d f.caused g.caused;
-    order = append_assoc f.bytes g.bytes h2 ∙ ap (λ s. f.bytes ++ s) g.order ∙ sym (append_assoc f.bytes h1 u) ∙ ap (λ s. s ++ u) f.order ∙ append_assoc h0 t u;
+    order = rw (append_assoc, g.order, ← append_assoc, f.order) (append_assoc h0 t u);
   }

@@ -14,23 +14,15 @@ use Rattle.x86_cli.specs.DecoderLaws.{DecoderLaws}
 use Rattle.x86_cli.specs.Text.Window.{rest_of, Shows}
 
 decoded_at_end-sure : (a : Result Instruction DecodeError) (e : Ending) → a ≢ Err ExhaustedInput → decoded_at_end a e ≡ decoded_before_end a
-decoded_at_end-sure (Ok i) e ne = refl
-decoded_at_end-sure (Err ExhaustedInput) e ne = absurd (ne refl)
-decoded_at_end-sure (Err error) e ne = refl
+decoded_at_end-sure a e ne = grind arith
 
 decoded_at_end-whole : (a : Result Instruction DecodeError) (e : Ending) (i : Instruction) → decoded_at_end a e ≡ Whole i → a ≡ Ok i
-decoded_at_end-whole (Ok j) e i h = let same : j ≡ i = cc in ap Ok same
-decoded_at_end-whole (Err ExhaustedInput) Clean i h = cc
-decoded_at_end-whole (Err ExhaustedInput) (Bad n) i h = cc
-decoded_at_end-whole (Err ExhaustedInput) Large i h = cc
-decoded_at_end-whole (Err ExhaustedInput) Fault i h = cc
-decoded_at_end-whole (Err error) e i h = cc
+decoded_at_end-whole a e i h = grind arith
 
 module _ (strict : Bool) (laws : DecoderLaws strict) where
   whole_answer : (w : List ℕ) (e : Ending) (i : Instruction) → decoded_of strict w e ≡ Whole i → answer_of strict w ≡ Ok i
   unfolding decoded_of
-  whole_answer [] e i h = cc
-  whole_answer (x ∷ w) e i h = decoded_at_end-whole (answer_of strict (x ∷ w)) e i h
+  whole_answer w e i h = grind (arith, decoded_at_end-whole)
 
   -- what a window that shows an instruction says of its bytes alone
   pub shown_answer : (ended : Option Ending) (w : List ℕ) (i : Instruction) → Shows strict (Whole i) ended w → answer_of strict (take i.length w) ≡ Ok i
@@ -39,8 +31,7 @@ module _ (strict : Bool) (laws : DecoderLaws strict) where
   -- an answer that more bytes don't change
   pub decoded-stays : (w ys : List ℕ) (e : Ending) → answer_of strict w ≢ Err ExhaustedInput → decoded_of strict (w ++ ys) e ≡ decoded_before_end (answer_of strict w)
   unfolding decoded_of
-  decoded-stays [] ys e ne = absurd (ne laws.empty)
-  decoded-stays (x ∷ w) ys e ne = rw (laws.stay (x ∷ w) ys ne) (decoded_at_end-sure (answer_of strict (x ∷ w)) e ne)
+  decoded-stays w ys e ne = let empty = laws.empty in let h = laws.stay w ys ne in grind arith
 
   -- a full window, with anything after it
 
@@ -51,13 +42,10 @@ module _ (strict : Bool) (laws : DecoderLaws strict) where
       rw e (decoded-stays w (rest_of None [] p r xs stop).image (rest_of None w p r xs stop).ending ne)
 
   shows-sure : (w : List ℕ) (a : Result Instruction DecodeError) (ended : Option Ending) → answer_of strict w ≡ a → a ≢ Err ExhaustedInput → Shows strict (decoded_before_end a) ended w
-  shows-sure w (Ok i) ended e ne =
-      let h = laws.lengths w i e in
-      let sure : answer_of strict w ≢ Err ExhaustedInput = λ f. ne (sym e ∙ f) in
-      (h.0, h.1, λ ys end. decoded-stays w ys end sure ∙ ap decoded_before_end e)
-  shows-sure w (Err error) ended e ne =
-      let sure : answer_of strict w ≢ Err ExhaustedInput = λ f. ne (sym e ∙ f) in
-      (λ f. absurd (ne (ap Err f)), λ _ ys end. decoded-stays w ys end sure ∙ ap decoded_before_end e)
+  shows-sure w a ended e ne =
+      let h = laws.lengths w in
+      let stays = λ (ys : List ℕ) (end : Ending). decoded-stays w ys end (λ f. ne (sym e ∙ f)) in
+      grind arith
 
   pub open_shows : (w : List ℕ) (a : Result Instruction DecodeError) → length w ≡ 15 → a ≡ answer_of strict w → Shows strict (decoded_before_end a) None w
   open_shows w a full e =
@@ -68,21 +56,16 @@ module _ (strict : Bool) (laws : DecoderLaws strict) where
 
   pub closed_rest : (w : List ℕ) (a : Result Instruction DecodeError) (e : Ending) → 0 < length w → a ≡ answer_of strict w → decoded_of strict w e ≡ decoded_at_end a e
   unfolding decoded_of
-  closed_rest [] a e some h = absurd (omega arith)
-  closed_rest (x ∷ w) a e some h = rw h refl
+  closed_rest w a e some h = grind arith
 
   pub closed_shows : (w : List ℕ) (a : Result Instruction DecodeError) (e : Ending) → answer_of strict w ≡ a → Shows strict (decoded_at_end a e) (Some e) w
   closed_shows w (Ok i) e h = shows-sure w (Ok i) (Some e) h (λ f. cc)
-  closed_shows w (Err ExhaustedInput) Clean h = (λ _. refl, λ ne. absurd (ne refl))
-  closed_shows w (Err ExhaustedInput) (Bad n) h = refl
-  closed_shows w (Err ExhaustedInput) Large h = refl
-  closed_shows w (Err ExhaustedInput) Fault h = refl
+  closed_shows w (Err ExhaustedInput) e' h = grind arith
   closed_shows w (Err error) e h = shows-sure w (Err error) (Some e) h (λ f. cc)
 
   pub empty_rest : (w : List ℕ) (e : Ending) → length w ≡ 0 → decoded_of strict w e ≡ Ended e
   unfolding decoded_of
-  empty_rest [] e h = refl
-  empty_rest (x ∷ w) e h = absurd (omega arith)
+  empty_rest w e h = grind arith
 
   -- the same of what the code knows
 

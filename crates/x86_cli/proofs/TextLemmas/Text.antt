@@ -11,13 +11,11 @@ use Rattle.x86_cli.specs.Text.Reading.{with_byte, ended}
 
 pub text-end : (p r : ℕ) → text_at p r [] End ≡ ended Clean
 unfolding text_at image_of bad_of ends_in_half
-text-end p zero = refl
-text-end p (suc r) = refl
+text-end p r = grind arith
 
 pub text-failed : (p r : ℕ) → text_at p r [] Failed ≡ ended Fault
 unfolding text_at image_of bad_of ends_in_half
-text-failed p zero = refl
-text-failed p (suc r) = refl
+text-failed p r = grind arith
 
 -- no room
 
@@ -29,27 +27,19 @@ text-large p x xs stop = refl
 
 pub image-blank : (x : ℕ) (s : List ℕ) → is_blank x ≡ true → image_of (x ∷ s) ≡ image_of s
 unfolding image_of
-image-blank x [] e = refl
-image-blank x (y ∷ s) e = rw e refl
+image-blank x s e = grind arith
 
 pub bad-blank : (x : ℕ) (s : List ℕ) → is_blank x ≡ true → bad_of (x ∷ s) ≡ option_map (λ n. 1 + n) (bad_of s)
 unfolding bad_of
-bad-blank x [] e = rw e refl
-bad-blank x (y ∷ s) e = rw e refl
+bad-blank x s e = grind arith
 
 pub half-blank : (x : ℕ) (s : List ℕ) → is_blank x ≡ true → value_of x ≡ None → ends_in_half (x ∷ s) ≡ ends_in_half s
 unfolding ends_in_half
-half-blank x [] e v = rw v refl
-half-blank x (y ∷ s) e v = rw e refl
+half-blank x s e v = grind arith
 
 ending-blank : (p : ℕ) (o : Option ℕ) (more : List ℕ) (half : Bool) (len : ℕ) (stop : Stop) →
     ending_by p (option_map (λ n. 1 + n) o) more half (suc len) stop ≡ ending_by (p + 1) o more half len stop
-ending-blank p (Some n) more half len stop = ap Bad (omega arith)
-ending-blank p None (x ∷ more) half len stop = refl
-ending-blank p None [] true len End = ap Bad (omega arith)
-ending-blank p None [] true len Failed = refl
-ending-blank p None [] false len End = refl
-ending-blank p None [] false len Failed = refl
+ending-blank p o more half len stop = grind (arith, common_steps)
 
 -- a blank isn't a digit
 pub value-blank : (x : ℕ) → is_blank x ≡ true → value_of x ≡ None
@@ -71,23 +61,19 @@ text-blank p r x xs stop e =
 pub text-bad : (p r x : ℕ) (xs : List ℕ) (stop : Stop) → is_blank x ≡ false → value_of x ≡ None →
     text_at p (suc r) (x ∷ xs) stop ≡ ended (Bad p)
 unfolding text_at image_of bad_of ends_in_half
-text-bad p zero x xs stop e v = rw (e, v) (ap (λ n. record { image = []; ending = Bad n }) (omega arith))
-text-bad p (suc r) x [] stop e v = rw (e, v) (ap (λ n. record { image = []; ending = Bad n }) (omega arith))
-text-bad p (suc r) x (y ∷ xs) stop e v = rw (e, v) (ap (λ n. record { image = []; ending = Bad n }) (omega arith))
+text-bad p r x xs stop e v = grind (arith, common_steps)
 
 -- a digit, and no other after it
 
 pub text-half : (p r x v : ℕ) → is_blank x ≡ false → value_of x ≡ Some v →
     text_at p (suc r) (x ∷ []) End ≡ ended (Bad (p + 1))
 unfolding text_at image_of bad_of ends_in_half
-text-half p zero x v e d = rw (e, d) refl
-text-half p (suc r) x v e d = rw (e, d) refl
+text-half p r x v e d = grind (arith, common_steps)
 
 pub text-half_failed : (p r x v : ℕ) → is_blank x ≡ false → value_of x ≡ Some v →
     text_at p (suc r) (x ∷ []) Failed ≡ ended Fault
 unfolding text_at image_of bad_of ends_in_half
-text-half_failed p zero x v e d = rw (e, d) refl
-text-half_failed p (suc r) x v e d = rw (e, d) refl
+text-half_failed p r x v e d = grind (arith, common_steps)
 
 pub text-half_large : (p x y v : ℕ) (xs : List ℕ) (stop : Stop) → is_blank x ≡ false → value_of x ≡ Some v →
     text_at p 1 (x ∷ y ∷ xs) stop ≡ ended Large
@@ -103,12 +89,7 @@ text-half_bad p r x y v xs stop e d f = rw (e, d, f) refl
 
 ending-pair : (p : ℕ) (o : Option ℕ) (more : List ℕ) (half : Bool) (len : ℕ) (stop : Stop) →
     ending_by p (option_map (λ n. 2 + n) o) more half (suc (suc len)) stop ≡ ending_by (p + 2) o more half len stop
-ending-pair p (Some n) more half len stop = ap Bad (omega arith)
-ending-pair p None (x ∷ more) half len stop = refl
-ending-pair p None [] true len End = ap Bad (omega arith)
-ending-pair p None [] true len Failed = refl
-ending-pair p None [] false len End = refl
-ending-pair p None [] false len Failed = refl
+ending-pair p o more half len stop = grind (arith, common_steps)
 
 pub text-pair : (p r x y v w : ℕ) (xs : List ℕ) (stop : Stop) → is_blank x ≡ false → value_of x ≡ Some v → value_of y ≡ Some w →
     text_at p (suc (suc r)) (x ∷ y ∷ xs) stop ≡ with_byte (16 * v + w) (text_at (p + 2) r xs stop)
