@@ -1,18 +1,15 @@
 -- How far ahead of its lines a run reads that holds a window.
-use Rattle.std.proofs.Common.{◌≡◌, ℕ, ◌+◌, ◌≤◌, List, [], ◌∷◌, ◌++◌, length, take, drop, Option, Some, None, Result, Ok, Err, refl, arith, ap, ◌∙◌, sym, subst, append_assoc, append-nil, length-append, length-take-le}
-use Rattle.std.proofs.lemmas.List.{take-append-drop}
+use Rattle.std.proofs.Common.{◌≡◌, ℕ, ◌+◌, ◌≤◌, List, [], ◌∷◌, ◌++◌, length, take, drop, Option, Some, None, Result, Ok, Err, refl, arith, ap, ◌∙◌, sym, append_assoc, append-nil, length-append, length-take-le, take-append-drop}
 use Rattle.std.specs.Prelude.{⊤}
 use Rattle.x86_cli.specs.declared.outside.source.Got.{Got}
 use Rattle.x86_cli.specs.declared.outside.sink.SinkFailed.{SinkFailed}
 use Rattle.x86_cli.specs.declared.text.reader.Ending.{Ending}
-use Rattle.x86_cli.specs.declared.text.reader.Ending.TheVariants.{Clean, Bad, Large, Fault}
 use Rattle.x86_cli.specs.Outside.Stop.{Stop, Failed}
 use Rattle.x86_cli.specs.declared.listings.status.Status.{Status}
 use Rattle.x86_cli.specs.declared.listings.status.Status.TheVariants as outcome
 use Rattle.x86_cli.specs.Text.{Text, text_at, text_of}
-use Rattle.x86_cli.specs.Text.Reading.{MayCome}
 use Rattle.x86_cli.specs.Listings.Listing.{Listing, with_lines, at_end}
-use Rattle.x86_cli.specs.Text.Window.{with_bytes, rest_of, Open}
+use Rattle.x86_cli.specs.Text.Window.{with_bytes, rest_of}
 use Rattle.x86_cli.specs.Commands.Run.{Closes, Ahead, RanInWindow}
 use Rattle.x86_cli.proofs.TextLemmas.Text.{text-failed}
 use Rattle.x86_cli.proofs.CommandLemmas.Causes.{some_stop}
@@ -39,10 +36,7 @@ longer : (n len : ℕ) (w : List ℕ) → len ≤ length w → (walked : List �
 longer n len w le walked is = simp length-append (omega (arith, length-take-le len w le, is))
 
 pub end_one : (e : Ending) → length (at_end e).lines ≤ 1
-end_one Clean = omega arith
-end_one (Bad n) = omega arith
-end_one Large = omega arith
-end_one Fault = omega arith
+end_one e = grind arith
 
 module _ {S K : Type 0} (gives : S → Got → S → Type 0) (takes : K → List ℕ → Result ⊤ SinkFailed → K → Type 0) (at : ℕ → Text → Listing)
     (max n : ℕ) (ended : Option Ending) (w : List ℕ) (p r : ℕ) (a b : S) (k l : K) (s : Progress gives takes at window max n ended w p r a b k l) where
@@ -54,10 +48,8 @@ module _ {S K : Type 0} (gives : S → Got → S → Type 0) (takes : K → List
 
   image_taken : (o : Option Ending) → ended ≡ o → (text_of max s.bytes Failed).image ≡ s.walked ++ w
   image_taken None is =
-      let P : Option Ending → Type 0 = λ o. Open o s.stop in
-      let open_yet : s.stop ≡ None = subst P is s.continues in
-      let may : MayCome s.stop [] Failed = rw open_yet tt in
-      let whole : text_of max (s.bytes ++ []) Failed ≡ with_bytes s.walked (rest_of None w p r [] Failed) = rw is at (s.beginning [] Failed may) in
+      let open_yet : s.stop ≡ None = rw is at s.continues in
+      let whole : text_of max (s.bytes ++ []) Failed ≡ with_bytes s.walked (rest_of None w p r [] Failed) = rw is at (s.beginning [] Failed (rw open_yet tt)) in
       let image : (text_of max s.bytes Failed).image ≡ s.walked ++ (w ++ (text_at p r [] Failed).image) = rw append-nil at (ap (λ t. t.image) whole) in
       image ∙ ap (λ t. s.walked ++ (w ++ t.image)) (text-failed p r) ∙ ap (λ v. s.walked ++ v) (append-nil w)
   image_taken (Some e) is =

@@ -1,5 +1,5 @@
 -- What a run's status says of its causes.
-use Rattle.std.proofs.Common.{◌≡◌, ◌≢◌, ℕ, suc, zero, false, ◌+◌, ◌-◌, ◌<◌, ◌≤◌, Bool, List, [], ◌∷◌, ◌++◌, length, drop, Option, Some, None, Result, Ok, Err, refl, arith, ap, ◌∙◌, sym, length-append, take, true}
+use Rattle.std.proofs.Common.{◌≡◌, ◌≢◌, ℕ, suc, zero, false, ◌+◌, ◌-◌, ◌<◌, ◌≤◌, Bool, List, [], ◌∷◌, ◌++◌, length, drop, Option, Some, None, Result, Ok, Err, refl, arith, ap, ◌∙◌, sym, length-append}
 use Rattle.std.proofs.Math.Seq.{drop-append_seam}
 use Rattle.std.specs.Prelude.{IsTrue, ⊤}
 use Rattle.std.specs.List.{concat}
@@ -10,22 +10,16 @@ use Rattle.x86_decode.specs.Answer.{answer_of}
 use Rattle.x86_cli.specs.declared.outside.source.Got.{Got}
 use Rattle.x86_cli.specs.declared.outside.sink.SinkFailed.{SinkFailed}
 use Rattle.x86_cli.specs.declared.text.reader.Ending.{Ending}
-use Rattle.x86_cli.specs.declared.text.reader.Ending.TheVariants.{Clean, Bad, Large, Fault}
+use Rattle.x86_cli.specs.declared.text.reader.Ending.TheVariants.{Clean, Fault}
 use Rattle.x86_cli.specs.Outside.Stop.{Stop, End, Failed}
-use Rattle.x86_cli.specs.declared.text.window.Decoded.{Decoded}
-use Rattle.x86_cli.specs.declared.text.window.Decoded.TheVariants.{Whole, Refused, Ended}
+use Rattle.x86_cli.specs.declared.text.window.Decoded.TheVariants.{Whole, Refused}
 use Rattle.x86_cli.specs.declared.listings.status.Status.{Status}
 use Rattle.x86_cli.specs.declared.listings.status.Status.TheVariants as outcome
 use Rattle.x86_cli.specs.declared.listings.status.Status.TheVariants.{Done, Usage}
 use Rattle.x86_cli.specs.declared.commands.command.Command.{Command}
 use Rattle.x86_cli.specs.declared.commands.command.Command.TheVariants.{List as Listed, Sweep as Swept, Targets as Targeted, Fields as Fielded, Tighten as Tightened}
-use Rattle.x86_layout.specs.Parts.OfBytes.{parts_of}
-use Rattle.x86_text.specs.Lines.{line_of}
-use Rattle.x86_text.specs.Parts.{fields_line}
-use Rattle.x86_cli.specs.Listings.Tighten.{least_text}
-use Rattle.x86_layout.specs.Tightening.Least.{shortest_length}
 use Rattle.x86_cli.specs.Commands.Command.{Runs, listing_for, goes_past_refusals}
-use Rattle.x86_cli.specs.Text.{Text, text_at, text_of, ending_by, bad_of, ends_in_half}
+use Rattle.x86_cli.specs.Text.{Text, text_at, text_of}
 use Rattle.x86_cli.specs.Text.Reading.{MayCome}
 use Rattle.x86_cli.specs.Listings.Listing.{Listing, at_end, decoded_of, decoded_at_end, decoded_before_end, listed, listing_from}
 use Rattle.x86_cli.specs.Commands.Run.{Lists, Ran}
@@ -34,7 +28,6 @@ use Rattle.x86_cli.specs.Commands.Complete.{IsOneInstruction, AreSentences, Comp
 use Rattle.x86_cli.specs.DecoderLaws.{DecoderLaws}
 use Rattle.x86_cli.proofs.TextLemmas.Decoded.{decoded-stays}
 use Rattle.x86_cli.proofs.ListingLemmas.Listing.{listing-whole}
-use Rattle.x86_cli.proofs.ListingLemmas.Sweep.{end_unrefused}
 
 -- a listing that isn't refused ends as its text
 

@@ -1,5 +1,5 @@
 -- What the program leaves, where the bytes that its reader has left and those that its writer has are known.
-use Rattle.std.proofs.Common.{◌≡◌, ◌≢◌, inl, inr, ℕ, Bool, List, [], ◌∷◌, ◌++◌, length, take, Option, Some, None, Result, Ok, Err, refl, ap, ◌∙◌, sym, subst, append-nil, arith}
+use Rattle.std.proofs.Common.{◌≡◌, ◌≢◌, inl, inr, ℕ, Bool, List, [], ◌∷◌, ◌++◌, take, Option, Some, None, Result, Ok, Err, refl, sym, subst, append-nil, arith}
 use Rattle.std.proofs.Math.Seq.{take-append_seam}
 use Rattle.std.specs.Prelude.{IfSome, ⊤}
 use Rattle.std.specs.List.{concat}
@@ -16,9 +16,7 @@ use Rattle.x86_cli.specs.Outside.Stop.{Stop, End, Failed}
 use Rattle.x86_cli.specs.Outside.Reads.{ReaderCalls, ReadWhileOpen}
 use Rattle.x86_cli.specs.Outside.Writes.{Call, Write, Flush, sent, sent_by, Does, WriterCalls}
 use Rattle.x86_cli.specs.Text.{Text, text_of}
-use Rattle.x86_cli.specs.Text.Reading.{MayCome}
-use Rattle.x86_cli.specs.Listings.Listing.{Listing}
-use Rattle.x86_cli.specs.Commands.Command.{listing_for, max_of}
+use Rattle.x86_cli.specs.Commands.Command.{max_of}
 use Rattle.x86_cli.specs.Commands.Make.{made_listing}
 use Rattle.x86_cli.specs.Commands.Says.{full_listing, taken_listing}
 use Rattle.x86_cli.specs.Commands.Program.{IsPrinted, Performs, PerformsMake, Has, HasOfAll, HasOfTaken, Leaves}
@@ -99,15 +97,12 @@ module _ {R W : Type 0} (laws : (strict : Bool) → DecoderLaws strict) (left : 
         some_left (left r) (left r') (concat h.pieces) (λ b. Has status (full_listing c b) (written w) (written w')) consumed
         (λ xs. (h.bytes, h.lists xs End (rw is tt), wrote))
     of_all (Some End) is ne =
-        let may : MayCome h.stop [] End = rw is (refl, refl) in
         just_these (left r) (concat h.pieces) (λ b. Has status (full_listing c b) (written w) (written w')) (reads_all left h.pieces r r' (rw is at h.read))
-        (h.bytes, rw append-nil at (h.lists [] End may), wrote)
+        (h.bytes, rw append-nil at (h.lists [] End (rw is (refl, refl))), wrote)
     of_all (Some Failed) is ne = absurd (ne refl)
 
     printed_taken : h.stop ≡ Some Failed → IsPrinted status h.bytes (taken_listing c (concat h.pieces))
-    printed_taken is =
-        let may : MayCome h.stop [] Failed = rw is (refl, refl) in
-        rw append-nil at (h.lists [] Failed may)
+    printed_taken is = rw append-nil at (h.lists [] Failed (rw is (refl, refl)))
 
     of_taken : h.stop ≡ Some Failed → HasOfTaken status c (left r) (written w) (written w')
     of_taken is = (concat h.pieces, taken_beginning (left r) (left r') (concat h.pieces) consumed, (h.bytes, printed_taken is, wrote))

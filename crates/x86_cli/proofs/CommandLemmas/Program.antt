@@ -1,6 +1,6 @@
 -- What the program does, from the calls of its run and the flush after it.
-use Rattle.std.proofs.Common.{◌≡◌, ◌≢◌, ℕ, List, [], ◌∷◌, ◌++◌, take, drop, arith, Option, Some, None, Result, Ok, Err, refl, ap, ◌∙◌, sym, subst, append_assoc, append-nil, take-append-drop}
-use Rattle.std.specs.Prelude.{IfSome, OnOk, ⊤}
+use Rattle.std.proofs.Common.{◌≡◌, ◌≢◌, ℕ, List, [], ◌∷◌, ◌++◌, take, drop, arith, Option, Some, None, Result, Ok, Err, refl, ap, ◌∙◌, sym, append_assoc, append-nil}
+use Rattle.std.specs.Prelude.{IfSome, ⊤}
 use Rattle.std.specs.List.{concat}
 use Rattle.std.specs.declared.io.Error.{Error}
 use Rattle.x86_cli.specs.declared.outside.source.Got.{Got}
@@ -8,13 +8,13 @@ use Rattle.x86_cli.specs.declared.outside.sink.SinkFailed.{SinkFailed}
 use Rattle.x86_cli.specs.declared.commands.command.Command.{Command}
 use Rattle.x86_cli.specs.declared.listings.status.Status.{Status}
 use Rattle.x86_cli.specs.declared.listings.status.Status.TheVariants.{Done, Usage, Refused, BadText, ReadFault, WriteFault, TooLarge}
-use Rattle.x86_cli.specs.Outside.Stop.{Stop, End, Failed}
+use Rattle.x86_cli.specs.Outside.Stop.{Stop, Failed}
 use Rattle.x86_cli.specs.Outside.StdSource.{Fetches}
-use Rattle.x86_cli.specs.Outside.Writes.{Call, AllContinue, Cause, EndsInFlush, Flush, Write, Caused, Forwards, FlushesOut, PutSends, IsFinalWrite, taken_by}
+use Rattle.x86_cli.specs.Outside.Writes.{Call, EndsInFlush, Caused, Forwards, FlushesOut, PutSends, IsFinalWrite, taken_by}
 use Rattle.x86_cli.specs.Text.{text_of}
-use Rattle.x86_cli.specs.Text.Reading.{CalledWhileOpen, SourceCalls, MayCome}
+use Rattle.x86_cli.specs.Text.Reading.{MayCome}
 use Rattle.x86_cli.specs.Listings.Listing.{Listing}
-use Rattle.x86_cli.specs.Commands.Command.{listing_for, max_of, Runs}
+use Rattle.x86_cli.specs.Commands.Command.{listing_for, max_of}
 use Rattle.x86_cli.specs.Commands.Make.{made_listing}
 use Rattle.x86_cli.specs.Commands.Run.{SinkCalls, Lists, Wrote, Ran}
 use Rattle.x86_cli.specs.Commands.Program.{ending_of, fault_of, EndsAt, IsPrinted, Finishes, Performs, PerformsMake}
@@ -22,7 +22,7 @@ use Rattle.x86_cli.proofs.CommandLemmas.Causes.{some_stop, causes, command_used,
 use Rattle.x86_cli.proofs.CommandLemmas.Says.{written_part, end_stop, fault_status, called_failed}
 use Rattle.x86_cli.proofs.OutsideLemmas.Flat.{flat, took_on, took_fault}
 use Rattle.x86_cli.proofs.OutsideLemmas.Reads.{Fetched, fetched, stopped_empty}
-use Rattle.x86_cli.proofs.OutsideLemmas.Writes.{caused_join, caused_ok, caused_err, forwards_join}
+use Rattle.x86_cli.proofs.OutsideLemmas.Writes.{caused_join, caused_err}
 
 no_fault : (status : Status) → status ≢ WriteFault → fault_of status ≡ Ok tt
 no_fault status ne = grind arith
@@ -112,7 +112,7 @@ module _ {W : Type 0} (writes : W → List ℕ → Result ℕ Error → W → Ty
       (puts : (s : K) (piece : List ℕ) (r : Result ⊤ SinkFailed) (t : K) → takes s piece r t → PutSends gwrites gflushes r piece (buffer s) (buffer t)) where
     module _ (k l : K) (empty : held (buffer k) ≡ []) where
       forwarded : (r : Result ⊤ SinkFailed) (bytes : List ℕ) → Caused gwrites gflushes r bytes (buffer k) (buffer l) → Forwards writes flushes r bytes [] (held (buffer l)) (writer_of (buffer k)) (writer_of (buffer l))
-      forwarded r bytes c = subst (λ h. Forwards writes flushes r bytes h (held (buffer l)) (writer_of (buffer k)) (writer_of (buffer l))) empty (flat writes flushes gwrites gflushes writer_of held by_write by_flush r bytes _ _ c)
+      forwarded r bytes c = rw empty at (flat writes flushes gwrites gflushes writer_of held by_write by_flush r bytes _ _ c)
 
       -- A run and the flush after it, whose first listing is this.
       pub run_printed : (status : Status) (lines : List (List ℕ)) (failed : Option (List ℕ)) (first : Listing) → Lists status lines failed first → first.status ≢ WriteFault → first.status ≢ Usage →
@@ -136,8 +136,7 @@ module _ {S K : Type 0} (gives : S → Got → S → Type 0) (takes : K → List
   module _ (status : Status) (ran : Ran gives takes (listing_for c) (max_of c) status s t k l) (ne : status ≢ WriteFault) where
     ends_unfailed : status ≢ Refused → status ≢ ReadFault → ran.stop ≢ Some Failed
     ends_unfailed unrefused unread failed =
-        let may : MayCome ran.stop [] Failed = rw failed (refl, refl) in
-        let is = rw append-nil at (lists_status status ran.lines ran.failed _ ne (ran.lists [] Failed may)) in
+        let is = rw append-nil at (lists_status status ran.lines ran.failed _ ne (ran.lists [] Failed (rw failed (refl, refl)))) in
         fault_status c (text_of (max_of c) ran.bytes Failed) status (called_failed (max_of c) ran.bytes ran.stop ran.called failed) unrefused unread is
 
   run_ends : (status : Status) (ran : Ran gives takes (listing_for c) (max_of c) status s t k l) → EndsAt status ran.stop
@@ -156,61 +155,24 @@ program_ends status r stop used h = grind arith
 come_after : (stop : Option Stop) (held xs : List ℕ) (s : Stop) → ((given : Stop) → stop ≡ Some given → held ≡ []) → MayCome stop xs s → MayCome stop (held ++ xs) s
 come_after stop held xs s empty may = grind arith
 
-module _ {W G K : Type 0} (writes : W → List ℕ → Result ℕ Error → W → Type 0) (flushes : W → Result ⊤ Error → W → Type 0)
-    (gwrites : G → List ℕ → Result ℕ Error → G → Type 0) (gflushes : G → Result ⊤ Error → G → Type 0) (writer_of : G → W) (held : G → List ℕ)
-    (by_write : (s : G) (bytes : List ℕ) (r : Result ℕ Error) (t : G) → gwrites s bytes r t → Forwards writes flushes r (taken_by r bytes) (held s) (held t) (writer_of s) (writer_of t) × IsFinalWrite r bytes)
-    (by_flush : (s : G) (r : Result ⊤ Error) (t : G) → gflushes s r t → Forwards writes flushes r [] (held s) (held t) (writer_of s) (writer_of t))
-    (takes : K → List ℕ → Result ⊤ SinkFailed → K → Type 0) (buffer : K → G)
-    (puts : (s : K) (piece : List ℕ) (r : Result ⊤ SinkFailed) (t : K) → takes s piece r t → PutSends gwrites gflushes r piece (buffer s) (buffer t))
-    (k l : K) (empty : held (buffer k) ≡ []) (status : Status) (r : Result ⊤ SinkFailed) (g : G) (stays : status ≡ WriteFault → g ≡ buffer l)
-    (sends : status ≢ Usage → status ≢ WriteFault → FlushesOut writes flushes r (held (buffer l)) (held g) (writer_of (buffer l)) (writer_of g)) where
-  pub performs_make : (n : ℕ) → Wrote takes (made_listing n) status k l → PerformsMake writes flushes n (ending_of status r) (writer_of (buffer k)) (writer_of g)
-  performs_make n w =
-      let p : Printed writes flushes status (ending_of status r) w.lines w.failed (writer_of (buffer k)) (writer_of g) =
-      run_printed writes flushes gwrites gflushes writer_of held by_write by_flush takes buffer puts k l empty status w.lines w.failed (made_listing n) w.lists (λ e. cc) (λ e. cc) w.sink_calls r g stays sends in
-      record { bytes = p.bytes; wrote = p.wrote; lists = p.prints (made_listing n) w.lists }
+-- the reads of a run
+module _ {S R K : Type 0} (reads : R → List ℕ → Result ℕ Error → R → Type 0) (gives : S → Got → S → Type 0) (takes : K → List ℕ → Result ⊤ SinkFailed → K → Type 0) (kept : S → List ℕ) (reader : S → R)
+    (fetches : (s : S) (g : Got) (t : S) → gives s g t → Fetches reads g (kept s) (reader s) (kept t) (reader t)) (s t : S) (k l : K) (c : Command) (status : Status)
+    (ran : Ran gives takes (listing_for c) (max_of c) status s t k l) where
+  run_fetched : kept s ≡ [] → Fetched reads (text_of (max_of c)) ran.bytes ran.stop [] (kept t) (reader s) (reader t)
+  run_fetched none = rw none at (fetched reads gives kept reader fetches (text_of (max_of c)) ran.bytes ran.stop s t ran.source_calls ran.called)
 
-  module _ {S R : Type 0} (reads : R → List ℕ → Result ℕ Error → R → Type 0) (gives : S → Got → S → Type 0) (kept : S → List ℕ) (reader : S → R)
-      (fetches : (s : S) (g : Got) (t : S) → gives s g t → Fetches reads g (kept s) (reader s) (kept t) (reader t)) (s t : S) (none : kept s ≡ []) (c : Command) where
-    module _ (ran : Ran gives takes (listing_for c) (max_of c) status s t k l) where
-      run_fetched : Fetched reads (text_of (max_of c)) ran.bytes ran.stop [] (kept t) (reader s) (reader t)
-      run_fetched = subst (λ h. Fetched reads (text_of (max_of c)) ran.bytes ran.stop h (kept t) (reader s) (reader t)) none
-          (fetched reads gives kept reader fetches (text_of (max_of c)) ran.bytes ran.stop s t ran.source_calls ran.called)
+  kept_empty : (given : Stop) → ran.stop ≡ Some given → kept t ≡ []
+  kept_empty given is = stopped_empty reads gives kept reader fetches ran.bytes given s t (rw is at ran.source_calls)
 
-      kept_empty : (given : Stop) → ran.stop ≡ Some given → kept t ≡ []
-      kept_empty given is = stopped_empty reads gives kept reader fetches ran.bytes given s t (subst (λ o. SourceCalls gives ran.bytes o s t) is ran.source_calls)
-
-      run_lists : (pieces : List (List ℕ)) → concat pieces ≡ ran.bytes ++ kept t → (xs : List ℕ) (stop : Stop) → MayCome ran.stop xs stop →
-          Lists status ran.lines ran.failed (listing_for c (text_of (max_of c) (concat pieces ++ xs) stop))
-      run_lists pieces order xs stop may =
-          rw (order, append_assoc) (ran.lists (kept t ++ xs) stop (come_after ran.stop (kept t) xs stop kept_empty may))
-
-      pub performs : Performs writes flushes reads c (ending_of status r) (reader s) (reader t) (writer_of (buffer k)) (writer_of g)
-      performs =
-          let f = run_fetched in
-          let one = some_stop ran.stop in
-          let used : status ≢ Usage = ran_used gives takes c (max_of c) status s t k l ran in
-          let p : Printed writes flushes status (ending_of status r) ran.lines ran.failed (writer_of (buffer k)) (writer_of g) =
-          run_printed writes flushes gwrites gflushes writer_of held by_write by_flush takes buffer puts k l empty status ran.lines ran.failed _ (ran.lists [] one.0 one.1)
-          (command_written c _) (command_used c _) ran.sink_calls r g stays sends in
-          record {
-            pieces = f.pieces;
-            stop = ran.stop;
-            read = f.read;
-            open_yet = f.open_yet;
-            ends = program_ends status r ran.stop used (run_ends gives takes c s t k l status ran);
-            bytes = p.bytes;
-            wrote = p.wrote;
-            lists = λ xs stop may. p.prints _ (run_lists f.pieces f.order xs stop may);
-          }
+  run_lists : (pieces : List (List ℕ)) → concat pieces ≡ ran.bytes ++ kept t → (xs : List ℕ) (stop : Stop) → MayCome ran.stop xs stop →
+      Lists status ran.lines ran.failed (listing_for c (text_of (max_of c) (concat pieces ++ xs) stop))
+  run_lists pieces order xs stop may = rw (order, append_assoc) (ran.lists (kept t ++ xs) stop (come_after ran.stop (kept t) xs stop kept_empty may))
 
 pub each_command : {P Q : Command → Type 0} (o : Option Command) → IfSome o P → ((c : Command) → P c → Q c) → IfSome o Q
 each_command o h f = grind arith
 
-pub ends_usage : {E : Type 0} (status : Status) (r : Result ⊤ E) (ended : Status) → ended ≡ ending_of status r → ended ≡ Usage → status ≡ Usage
-ends_usage status r ended is e = grind arith
-
--- The same, with the run first: from it is known which relations of its source and its sink these are.
+-- The run comes first: from it is known which relations of its source and its sink these are.
 module _ {W G K : Type 0} (writes : W → List ℕ → Result ℕ Error → W → Type 0) (flushes : W → Result ⊤ Error → W → Type 0) (takes : K → List ℕ → Result ⊤ SinkFailed → K → Type 0)
     (status : Status) (k l : K) where
   pub wrote_performs : (n : ℕ) → Wrote takes (made_listing n) status k l →
@@ -221,8 +183,9 @@ module _ {W G K : Type 0} (writes : W → List ℕ → Result ℕ Error → W �
       held (buffer k) ≡ [] → (r : Result ⊤ SinkFailed) (g : G) → (status ≡ WriteFault → g ≡ buffer l) →
       (status ≢ Usage → status ≢ WriteFault → FlushesOut writes flushes r (held (buffer l)) (held g) (writer_of (buffer l)) (writer_of g)) →
       PerformsMake writes flushes n (ending_of status r) (writer_of (buffer k)) (writer_of g)
-  wrote_performs n wrote gwrites gflushes writer_of held buffer puts by_write by_flush empty r g stays sends =
-      performs_make writes flushes gwrites gflushes writer_of held by_write by_flush takes buffer puts k l empty status r g stays sends n wrote
+  wrote_performs n w gwrites gflushes writer_of held buffer puts by_write by_flush empty r g stays sends =
+      let p = run_printed writes flushes gwrites gflushes writer_of held by_write by_flush takes buffer puts k l empty status w.lines w.failed (made_listing n) w.lists (λ e. cc) (λ e. cc) w.sink_calls r g stays sends in
+      record { bytes = p.bytes; wrote = p.wrote; lists = p.prints (made_listing n) w.lists }
 
   pub ran_performs : {S R : Type 0} (gives : S → Got → S → Type 0) (c : Command) (s t : S) → Ran gives takes (listing_for c) (max_of c) status s t k l →
       (gwrites : G → List ℕ → Result ℕ Error → G → Type 0) (gflushes : G → Result ⊤ Error → G → Type 0) (writer_of : G → W) (held : G → List ℕ) (buffer : K → G) →
@@ -235,4 +198,17 @@ module _ {W G K : Type 0} (writes : W → List ℕ → Result ℕ Error → W �
       ((s : S) (g : Got) (t : S) → gives s g t → Fetches reads g (kept s) (reader s) (kept t) (reader t)) → kept s ≡ [] →
       Performs writes flushes reads c (ending_of status r) (reader s) (reader t) (writer_of (buffer k)) (writer_of g)
   ran_performs gives c s t ran gwrites gflushes writer_of held buffer puts by_write by_flush empty r g stays sends reads kept reader fetches none =
-      performs writes flushes gwrites gflushes writer_of held by_write by_flush takes buffer puts k l empty status r g stays sends reads gives kept reader fetches s t none c ran
+      let f = run_fetched reads gives takes kept reader fetches s t k l c status ran none in
+      let one = some_stop ran.stop in
+      let p = run_printed writes flushes gwrites gflushes writer_of held by_write by_flush takes buffer puts k l empty status ran.lines ran.failed _ (ran.lists [] one.0 one.1)
+          (command_written c _) (command_used c _) ran.sink_calls r g stays sends in
+      record {
+        pieces = f.pieces;
+        stop = ran.stop;
+        read = f.read;
+        open_yet = f.open_yet;
+        ends = program_ends status r ran.stop (ran_used gives takes c (max_of c) status s t k l ran) (run_ends gives takes c s t k l status ran);
+        bytes = p.bytes;
+        wrote = p.wrote;
+        lists = λ xs stop may. p.prints _ (run_lists reads gives takes kept reader fetches s t k l c status ran f.pieces f.order xs stop may);
+      }

@@ -1,5 +1,5 @@
 -- What a run says of what is seen, from its calls.
-use Rattle.std.proofs.Common.{◌≡◌, ◌≢◌, ◌⊎◌, inl, inr, ℕ, Bool, List, [], ◌∷◌, ◌++◌, length, take, drop, Option, Some, None, refl, ap, ◌∙◌, sym, subst, append_assoc, append-nil, arith}
+use Rattle.std.proofs.Common.{◌≡◌, ◌≢◌, ◌⊎◌, inl, inr, ℕ, Bool, List, [], ◌∷◌, ◌++◌, take, drop, Option, Some, None, refl, ap, ◌∙◌, sym, append_assoc, append-nil, arith}
 use Rattle.std.proofs.lemmas.List.{take-append-drop, append_cancel_left}
 use Rattle.std.proofs.lemmas.List.Folds.{concat-append}
 use Rattle.std.specs.Prelude.{IfSome, Result, ⊤}
@@ -7,14 +7,13 @@ use Rattle.std.specs.List.{concat}
 use Rattle.std.specs.Io.KnownBytes.{Consumes, Appends}
 use Rattle.x86_cli.specs.declared.outside.source.Got.{Got}
 use Rattle.x86_cli.specs.declared.outside.sink.SinkFailed.{SinkFailed}
-use Rattle.x86_cli.specs.declared.text.reader.Ending.{Ending}
-use Rattle.x86_cli.specs.declared.text.reader.Ending.TheVariants.{Clean, Bad, Large, Fault}
+use Rattle.x86_cli.specs.declared.text.reader.Ending.TheVariants.{Clean, Fault}
 use Rattle.x86_cli.specs.Outside.Stop.{Stop, End, Failed}
 use Rattle.x86_cli.specs.declared.commands.command.Command.{Command}
 use Rattle.x86_cli.specs.declared.listings.status.Status.{Status}
 use Rattle.x86_cli.specs.declared.listings.status.Status.TheVariants.{Done, Usage, Refused, BadText, ReadFault, WriteFault, TooLarge}
-use Rattle.x86_cli.specs.Text.{Text, text_at, text_of, ending_by, bad_of, ends_in_half}
-use Rattle.x86_cli.specs.Listings.Listing.{Listing, at_end}
+use Rattle.x86_cli.specs.Text.{Text, text_at, text_of}
+use Rattle.x86_cli.specs.Listings.Listing.{Listing}
 use Rattle.x86_cli.specs.Commands.Command.{listing_for, max_of}
 use Rattle.x86_cli.specs.Outside.Source.{ReportsGot}
 use Rattle.x86_cli.specs.Outside.Sink.{ReportsPut}
@@ -33,9 +32,6 @@ use Rattle.x86_cli.proofs.CommandLemmas.Stay.{refused_stays}
 
 pub some_left : (a b : Option (List ℕ)) (bytes : List ℕ) (P : List ℕ → Type 0) → Consumes a b bytes → ((xs : List ℕ) → P (bytes ++ xs)) → IfSome a P
 some_left a b bytes P c h = grind arith
-
-all_taken : (a : Option (List ℕ)) (bytes : List ℕ) (P : List ℕ → Type 0) → IfSome a (λ xs. xs ≡ bytes) → P (bytes ++ []) → IfSome a P
-all_taken a bytes P e h = let g = rw append-nil at h in grind arith
 
 none_left : (a b : Option (List ℕ)) (bytes : List ℕ) → Consumes a b bytes → IfSome a (λ xs. xs ≡ bytes) → IfSome a (λ xs. b ≡ Some [])
 none_left a b bytes c e = grind (arith, append_cancel_left {A = ℕ}, append-nil {A = ℕ})
@@ -74,8 +70,7 @@ called_open text (x ∷ bytes) stop a = called_open (λ xs s. text (x ∷ xs) s)
 
 pub called_failed : (max : ℕ) (bytes : List ℕ) (stop : Option Stop) → CalledWhileOpen (text_of max) bytes stop → stop ≡ Some Failed → (text_of max bytes Failed).ending ≡ Fault
 called_failed max bytes stop called failed =
-    let P : Option Stop → Type 0 = λ s. CalledWhileOpen (text_of max) bytes s in
-    let a : CalledWhileOpen (text_of max) bytes (Some Failed) = subst P failed called in
+    let a : CalledWhileOpen (text_of max) bytes (Some Failed) = rw failed at called in
     called_open (text_of max) bytes Failed a
 
 -- lines, what was written of one more, and what was not
@@ -106,9 +101,7 @@ module _ (laws : (strict : Bool) → DecoderLaws strict) (c : Command) (old new 
 
     -- what was listed of the bytes returned, where the source failed after them
     failed_listed : (status : Status) → AllListed status → stop ≡ Some Failed → listing_for c (text_of (max_of c) bytes Failed) ≡ record { lines = lines; status = status }
-    failed_listed status lists failed =
-        let may : MayCome stop [] Failed = rw failed (refl, refl) in
-        rw append-nil at (lists [] Failed may)
+    failed_listed status lists failed = rw append-nil at (lists [] Failed (rw failed (refl, refl)))
 
     says_done : AllListed Done → Says Done c old new
     says_done lists =
@@ -210,9 +203,6 @@ wrote_says takes written others sink n status k l wrote =
 
 pub each_known : {P Q : List ℕ → Type 0} (o : Option (List ℕ)) → ((b : List ℕ) → P b → Q b) → IfSome o P → IfSome o Q
 each_known o f h = grind arith
-
-any_known : {Q : List ℕ → Type 0} (o : Option (List ℕ)) → ((b : List ℕ) → Q b) → IfSome o Q
-any_known o f = grind arith
 
 module _ (c : Command) (old new : Streams) where
   -- the whole listing, where neither count rose

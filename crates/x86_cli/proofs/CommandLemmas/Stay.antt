@@ -11,12 +11,7 @@ use Rattle.x86_cli.specs.Outside.Stop.{Stop, Failed}
 use Rattle.x86_cli.specs.declared.listings.status.Status.TheVariants as outcome
 use Rattle.x86_cli.specs.declared.commands.command.Command.{Command}
 use Rattle.x86_cli.specs.declared.commands.command.Command.TheVariants.{List as Listed, Sweep as Swept, Targets as Targeted, Fields as Fielded, Tighten as Tightened}
-use Rattle.x86_layout.specs.Parts.OfBytes.{parts_of}
-use Rattle.x86_layout.specs.Tightening.Least.{shortest_length}
-use Rattle.x86_text.specs.Lines.{line_of}
-use Rattle.x86_text.specs.Parts.{fields_line}
 use Rattle.x86_cli.specs.Listings.Line.{line}
-use Rattle.x86_cli.specs.Listings.Tighten.{least_text}
 use Rattle.x86_cli.specs.Commands.Command.{listing_for}
 use Rattle.x86_cli.specs.Text.{Text, is_blank, value_of, paired, image_of, text_at, text_of}
 use Rattle.x86_cli.specs.Listings.Listing.{Listing, with_lines, at_end, decoded_of, decoded_at_end, decoded_before_end, listed, listing_from, listing_of}
@@ -44,9 +39,7 @@ image_beginning (a ∷ []) xs = record { more = image_of (a ∷ xs); whole = ref
 image_beginning (a ∷ b ∷ s) xs = first_pair (is_blank a) (value_of a) (value_of b) _ _ _ _ (image_beginning (b ∷ s) xs) (image_beginning s xs)
 
 take_beginning : (n : ℕ) (xs ys : List ℕ) → IsBeginning (take n xs) (take n (xs ++ ys))
-take_beginning zero [] [] = record { more = []; whole = refl }
-take_beginning zero [] (y ∷ ys) = record { more = []; whole = refl }
-take_beginning zero (x ∷ xs) ys = record { more = []; whole = refl }
+take_beginning zero xs ys = record { more = []; whole = grind arith }
 take_beginning (suc n) [] ys = record { more = take (suc n) ys; whole = refl }
 take_beginning (suc n) (x ∷ xs) ys = let rest = take_beginning n xs ys in record { more = rest.more; whole = ap (λ zs. x ∷ zs) rest.whole }
 
@@ -63,7 +56,7 @@ module _ (strict : Bool) (laws : DecoderLaws strict) (text : ℕ → Instruction
         listed strict text (decoded_of strict (w ++ more) e) n (w ++ more) after' ≡ listed strict text (decoded_at_end a Fault) n w after
     first_stays (Ok i) h refused =
         let taken : take i.length (w ++ more) ≡ take i.length w = take-append-le i.length w more (laws.lengths w i h).1 in
-        let sure : answer_of strict w ≢ Err ExhaustedInput = λ f. let g : Ok i ≡ Err ExhaustedInput = sym h ∙ f in cc in
+        let sure : answer_of strict w ≢ Err ExhaustedInput = λ f. absurd (cc) in
         ap (λ f. listed strict text f n (w ++ more) after') (decoded-stays strict laws w more e sure ∙ ap decoded_before_end h)
         ∙ ap (λ ys. with_lines (line (text n i ys) ∷ []) (after' (i.length - 1))) taken
         ∙ ap (with_lines (line (text n i (take i.length w)) ∷ [])) (same (i.length - 1) refused)
@@ -94,10 +87,9 @@ unrefused t fault refused = let e : outcome.ReadFault ≡ outcome.Refused = ap (
 
 module _ (laws : (strict : Bool) → DecoderLaws strict) where
   command_stays : (c : Command) (t t' : Text) → IsBeginning t.image t'.image → t.ending ≡ Fault → (listing_for c t).status ≡ outcome.Refused → listing_for c t' ≡ listing_for c t
-  command_stays (Listed strict) t t' beginning fault refused = list_stays strict (laws strict) (λ place instruction bytes. line_of place instruction) t t' beginning fault refused
-  command_stays Fielded t t' beginning fault refused = list_stays false (laws false) (λ place instruction bytes. fields_line place (parts_of false bytes)) t t' beginning fault refused
-  command_stays Tightened t t' beginning fault refused =
-      list_stays false (laws false) (λ place instruction bytes. least_text place instruction.length (shortest_length false bytes)) t t' beginning fault refused
+  command_stays (Listed strict) t t' beginning fault refused = list_stays strict (laws strict) _ t t' beginning fault refused
+  command_stays Fielded t t' beginning fault refused = list_stays false (laws false) _ t t' beginning fault refused
+  command_stays Tightened t t' beginning fault refused = list_stays false (laws false) _ t t' beginning fault refused
   command_stays Swept t t' beginning fault refused = absurd (unrefused t fault refused)
   command_stays Targeted t t' beginning fault refused = absurd (unrefused t fault refused)
 

@@ -1,16 +1,14 @@
 -- The listing by the grammar alone.
-use Rattle.std.proofs.Common.{Bool, ◌≡◌, ◌≢◌, ◌↔◌, ℕ, suc, zero, ◌+◌, ◌-◌, ◌<◌, ◌≤◌, List, [], ◌∷◌, ◌++◌, length, take, drop, Result, Ok, Err, refl, arith, ap, ◌∙◌, sym, subst, append_assoc, length-append}
+use Rattle.std.proofs.Common.{Bool, ◌≡◌, ◌↔◌, ℕ, suc, zero, ◌+◌, ◌-◌, ◌<◌, ◌≤◌, List, [], ◌∷◌, ◌++◌, length, take, drop, Result, Ok, Err, refl, arith, ap, ◌∙◌, sym, subst, append_assoc, length-append}
 use Rattle.std.proofs.Math.Seq.{take-append_seam, drop-append_seam}
 use Rattle.std.specs.List.{concat}
 use Rattle.x86_decode.specs.declared.instructions.Instruction.{Instruction}
 use Rattle.x86_fields.specs.declared.errors.DecodeError.{DecodeError}
-use Rattle.x86_fields.specs.declared.errors.DecodeError.TheVariants.{ExhaustedInput, InvalidOpcode, InvalidOperand, InvalidPrefixes, TooLong, IncompleteDecoder}
 use Rattle.x86_forms.specs.Words.{rows_of, packed}
 use Rattle.x86_decode.specs.Answer.{answer_of, count_of}
 use Rattle.x86_decode.specs.Grammar.{IsAnswer, IsAccepted, IsSentence}
 use Rattle.x86_cli.specs.declared.text.reader.Ending.{Ending}
-use Rattle.x86_cli.specs.declared.text.reader.Ending.TheVariants.{Clean, Bad, Large, Fault}
-use Rattle.x86_cli.specs.declared.text.window.Decoded.TheVariants.{Whole, Refused, Ended}
+use Rattle.x86_cli.specs.declared.text.window.Decoded.TheVariants.{Whole}
 use Rattle.x86_cli.specs.Listings.Line.{line}
 use Rattle.x86_cli.specs.Listings.Listing.{Listing, with_lines, at_end, decoded_of, listed, decoded_at_end, listing_from}
 use Rattle.x86_cli.specs.Listings.Grammar.{at_error, EndsListing, AreLines, IsListing}
@@ -29,15 +27,7 @@ module _ (strict : Bool) (laws : GrammarLaws strict) (text : ℕ → Instruction
   -- what is left, where its answer is an error
   listed_error : (error : DecodeError) (e : Ending) (n : ℕ) (xs : List ℕ) (after : ℕ → Listing) →
       listed strict text (decoded_at_end (Err error) e) n xs after ≡ at_error n error e
-  listed_error ExhaustedInput Clean n xs after = refl
-  listed_error ExhaustedInput (Bad p) n xs after = refl
-  listed_error ExhaustedInput Large n xs after = refl
-  listed_error ExhaustedInput Fault n xs after = refl
-  listed_error InvalidOpcode e n xs after = refl
-  listed_error InvalidOperand e n xs after = refl
-  listed_error InvalidPrefixes e n xs after = refl
-  listed_error TooLong e n xs after = refl
-  listed_error IncompleteDecoder e n xs after = refl
+  listed_error error e n xs after = grind arith
 
   error_here : (n x : ℕ) (xs : List ℕ) (e : Ending) (error : DecodeError) → Err error ≡ answer_of strict (x ∷ xs) →
       listing_from strict text n 0 (x ∷ xs) e ≡ at_error n error e
@@ -54,8 +44,7 @@ module _ (strict : Bool) (laws : GrammarLaws strict) (text : ℕ → Instruction
   -- a sentence and the bytes after it
   decoded_whole : (xs : List ℕ) (e : Ending) (i : Instruction) → answer_of strict xs ≡ Ok i → decoded_of strict xs e ≡ Whole i
   unfolding decoded_of
-  decoded_whole [] e i h = let l = laws.lengths [] i h in absurd (omega (arith, l.0, l.1))
-  decoded_whole (x ∷ xs) e i h = ap (λ a. decoded_at_end a e) h
+  decoded_whole xs e i h = let l = laws.lengths xs i h in grind arith
 
   sentence_here : (n : ℕ) (s rest : List ℕ) (e : Ending) (i : Instruction) → IsSentence (rows_of packed) strict s i →
       listing_from strict text n 0 (s ++ rest) e ≡ with_lines (line (text n i s) ∷ []) (listing_from strict text (n + length s) 0 rest e)
@@ -109,8 +98,7 @@ module _ (strict : Bool) (laws : GrammarLaws strict) (text : ℕ → Instruction
   by_answer k n x xs e shorter le (Ok i) h a =
       let s = a.sentence in
       let len : i.length ≡ length s = ap (λ i. i.length) a.is.yields in
-      let total : length (x ∷ xs) ≡ length s + length a.rest = ap length a.begins ∙ length-append s a.rest in
-      let less : length a.rest ≤ k = omega (arith, len, total, le, (laws.lengths (x ∷ xs) i h).0) in
+      let less : length a.rest ≤ k = omega (arith, len, ap length a.begins ∙ length-append s a.rest, le, (laws.lengths (x ∷ xs) i h).0) in
       let t = sentence_first n s a.rest e i a.is (shorter (n + length s) a.rest less) in
       subst (λ ys. IsHere n ys e (listing_from strict text n 0 ys e)) (sym a.begins) t
   by_answer k n x xs e shorter le (Err error) h a =

@@ -42,22 +42,18 @@ module _ (strict : Bool) (text : ℕ → Instruction → List ℕ → List ℕ) 
   pub listing-refused : (n : ℕ) (xs : List ℕ) (e : Ending) (error : DecodeError) → decoded_of strict xs e ≡ Refused error →
       listing_from strict text n 0 xs e ≡ record { lines = line (refusal_of n error) ∷ []; status = status.Refused }
   unfolding listing_from decoded_of
-  listing-refused n [] e error h = cc
-  listing-refused n (x ∷ xs) e error h = rw h refl
+  listing-refused n xs e error h = grind arith
 
   pub listing-ended : (n : ℕ) (xs : List ℕ) (e f : Ending) → decoded_of strict xs e ≡ Ended f → listing_from strict text n 0 xs e ≡ at_end f
   unfolding listing_from decoded_of
-  listing-ended n [] e f h = let same : e ≡ f = cc in ap at_end same
-  listing-ended n (x ∷ xs) e f h = rw h refl
+  listing-ended n xs e f h = grind arith
 
 -- the same status with other lines
 
 module _ (strict : Bool) (text other : ℕ → Instruction → List ℕ → List ℕ) where
   listed-status : (f : Decoded Instruction) (n : ℕ) (xs : List ℕ) (a b : ℕ → Listing) → ((k : ℕ) → (a k).status ≡ (b k).status) →
       (listed strict text f n xs a).status ≡ (listed strict other f n xs b).status
-  listed-status (Whole i) n xs a b h = h (i.length - 1)
-  listed-status (Refused error) n xs a b h = refl
-  listed-status (Ended e) n xs a b h = refl
+  listed-status f n xs a b h = grind arith
 
   listing-status : (n k : ℕ) (xs : List ℕ) (e : Ending) → (listing_from strict text n k xs e).status ≡ (listing_from strict other n k xs e).status
   unfolding listing_from

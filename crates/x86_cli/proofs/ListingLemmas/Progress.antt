@@ -34,7 +34,7 @@ rest_is at n ended w p r e l is same xs stop = rw is same
 module _ {K : Type 0} (takes : K → List ℕ → Result ⊤ SinkFailed → K → Type 0) where
   -- puts, one after the other
   pub sink_calls-sink_calls : (u t : List (List ℕ)) (failed : Option (List ℕ)) (a b d : K) → SinkCalls takes u None a b → SinkCalls takes t failed b d → SinkCalls takes (u ++ t) failed a d
-  sink_calls-sink_calls [] t failed a b d e f = let P : K → Type 0 = λ x. SinkCalls takes t failed x d in subst P e f
+  sink_calls-sink_calls [] t failed a b d e f = rw e at f
   sink_calls-sink_calls (x ∷ u) t failed a b d e f = (e.0, e.1, sink_calls-sink_calls u t failed e.0 b d e.2 f)
 
 -- Where a run holds a window, the bytes of the image before what is left are those up to its place.
@@ -48,12 +48,10 @@ Needs None walked t = IsOpenText t
 Needs (Some k) walked t = NeedsMore (length walked + k) t
 
 needs_open : (window : Option ℕ) (walked : List ℕ) (t : Text) → Needs window walked t → IsOpenText t
-needs_open None walked t needs = needs
-needs_open (Some k) walked t needs = needs.0
+needs_open window walked t needs = grind arith
 
 needs_longer : (window : Option ℕ) (walked ahead : List ℕ) (t : Text) → Needs window walked t → Needs window (walked ++ ahead) t
-needs_longer None walked ahead t needs = needs
-needs_longer (Some k) walked ahead t needs = (needs.0, simp length-append (omega (arith, needs.1)))
+needs_longer window walked ahead t needs = grind (arith, length-append {A = ℕ})
 
 -- a window that fills
 pub window_needs : (k : ℕ) (walked : List ℕ) (t : Text) → NeedsMore k t → Needs (Some k) walked (with_bytes walked t)
@@ -101,22 +99,19 @@ module _ {S K : Type 0} (gives : S → Got → S → Type 0) (takes : K → List
     progress_fill max n w p r a b k l s ended w' p' r' d fills = record {
       bytes = s.bytes ++ fills.bytes;
       stop = fills.stop;
-      source_calls = let P : Option Stop → Type 0 = λ o. SourceCalls gives s.bytes o a b in source_calls-source_calls gives s.bytes fills.bytes fills.stop a b d (subst P s.continues s.source_calls) fills.source_calls;
+      source_calls = source_calls-source_calls gives s.bytes fills.bytes fills.stop a b d (rw s.continues at s.source_calls) fills.source_calls;
       walked = s.walked;
-      called = let P : Option Stop → Type 0 = λ o. CalledWhere (Needs window s.walked) (text_of max) s.bytes o in
-          called-called (Needs window s.walked) (text_of max) s.bytes fills.bytes fills.stop (subst P s.continues s.called)
+      called = called-called (Needs window s.walked) (text_of max) s.bytes fills.bytes fills.stop (rw s.continues at s.called)
           (called-where Holds (Needs window s.walked) (rest_of None w p r) (λ xs stop. text_of max (s.bytes ++ xs) stop) fills.bytes fills.stop
           (λ xs h. subst (Needs window s.walked) (sym (s.beginning xs Failed (rw s.continues tt))) (holds s.walked (rest_of None w p r xs Failed) h)) fills.called);
       continues = fills.continues;
       walks = s.walks;
       beginning = λ xs stop may.
-          let may' : MayCome s.stop (fills.bytes ++ xs) stop = rw s.continues tt in
-          rw append_assoc (s.beginning (fills.bytes ++ xs) stop may' ∙ ap (with_bytes s.walked) (fills.rest xs stop may));
+          rw append_assoc (s.beginning (fills.bytes ++ xs) stop (rw s.continues tt) ∙ ap (with_bytes s.walked) (fills.rest xs stop may));
       lines = s.lines;
       sink_calls = s.sink_calls;
       lists = λ xs stop may.
-          let may' : MayCome s.stop (fills.bytes ++ xs) stop = rw s.continues tt in
-          rw append_assoc (s.lists (fills.bytes ++ xs) stop may' ∙ ap (λ t. with_lines s.lines (at n t)) (fills.rest xs stop may));
+          rw append_assoc (s.lists (fills.bytes ++ xs) stop (rw s.continues tt) ∙ ap (λ t. with_lines s.lines (at n t)) (fills.rest xs stop may));
     }
 
     pub progress_refill : (max n : ℕ) (v w : Window) (a b d : S) (k l : K) →
@@ -127,9 +122,7 @@ module _ {S K : Type 0} (gives : S → Got → S → Type 0) (takes : K → List
         Progress max n w.ended w.bytes.items w.reader.position w.reader.room a d k l
     progress_refill max n v w a b d k l progress m =
         match_case v.ended m
-        (λ none fills.
-        let P : Option Ending → Type 0 = λ o. Progress max n o v.bytes.items v.reader.position v.reader.room a b k l in
-        progress_fill max n v.bytes.items v.reader.position v.reader.room a b k l (subst P none progress) w.ended w.bytes.items w.reader.position w.reader.room d fills)
+        (λ none fills. progress_fill max n v.bytes.items v.reader.position v.reader.room a b k l (rw none at progress) w.ended w.bytes.items w.reader.position w.reader.room d fills)
         (λ same. rw (same.0, same.1) progress)
 
   module _ (max n : ℕ) (ended : Option Ending) (w : List ℕ) (p r : ℕ) (a b : S) (k l : K) (s : Progress max n ended w p r a b k l) where

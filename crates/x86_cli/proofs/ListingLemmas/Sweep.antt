@@ -1,13 +1,11 @@
 -- The sweep by its cuts.
-use Rattle.std.proofs.Common.{Bool, ◌≡◌, ◌≢◌, ℕ, ◌+◌, ◌<◌, ◌≤◌, List, [], ◌∷◌, ◌++◌, map, length, drop, Option, Some, None, Result, Ok, Err, refl, arith, ap, ◌∙◌, sym, length-append}
+use Rattle.std.proofs.Common.{Bool, ◌≡◌, ℕ, ◌+◌, ◌<◌, ◌≤◌, List, [], ◌∷◌, ◌++◌, map, length, drop, Option, Some, None, Result, refl, arith, ap, ◌∙◌, sym, length-append}
 use Rattle.std.proofs.lemmas.List.{drop-append-le}
 use Rattle.x86_decode.specs.declared.instructions.Instruction.{Instruction}
 use Rattle.x86_fields.specs.declared.errors.DecodeError.{DecodeError}
 use Rattle.x86_decode.specs.Answer.{answer_of}
 use Rattle.x86_cli.specs.DecoderLaws.{DecoderLaws}
 use Rattle.x86_cli.specs.declared.text.reader.Ending.{Ending}
-use Rattle.x86_cli.specs.declared.text.reader.Ending.TheVariants.{Clean, Bad, Large, Fault}
-use Rattle.x86_cli.specs.declared.listings.status.Status.{Status}
 use Rattle.x86_cli.specs.declared.listings.status.Status.TheVariants as outcome
 use Rattle.x86_cli.specs.Outside.Stop.{Stop}
 use Rattle.x86_cli.specs.Text.{Text, text_at}
@@ -52,18 +50,10 @@ module _ (strict : Bool) where
   pub sweep_end : (ended : Option Ending) (n : ℕ) (text w : List ℕ) (p r : ℕ) (e : Ending) → ended ≡ Some e → length w ≡ 0 → IsStep (sweep_at strict) (step.Ended e) n text ended w p r
   sweep_end ended n text w p r e is none = rest_is (sweep_at strict) n ended w p r e (at_end e) is (rest_end n w e none)
 
-  -- no sweep refuses
-  pub end_unrefused : (e : Ending) (status : Status) → status ≡ (at_end e).status → status ≢ outcome.Refused
-  end_unrefused Clean status is = λ f. let g : outcome.Done ≡ outcome.Refused = sym is ∙ f in cc
-  end_unrefused (Bad n) status is = λ f. let g : outcome.BadText ≡ outcome.Refused = sym is ∙ f in cc
-  end_unrefused Large status is = λ f. let g : outcome.TooLarge ≡ outcome.Refused = sym is ∙ f in cc
-  end_unrefused Fault status is = λ f. let g : outcome.ReadFault ≡ outcome.Refused = sym is ∙ f in cc
-
 -- what a window that isn't empty shows
 module _ (strict : Bool) (laws : DecoderLaws strict) where
   answer_shows : (a : Result Instruction DecodeError) (w : List ℕ) → answer_of strict w ≡ a → 0 < length w → (0 < cut_length a) × (cut_length a ≤ length w)
-  answer_shows (Ok i) w h some = laws.lengths w i h
-  answer_shows (Err e) w h some = (omega arith, omega arith)
+  answer_shows a w h some = let l = laws.lengths w in grind arith
 
   same_answer : (ended : Option Ending) (w : List ℕ) (p r : ℕ) → (ended ≡ None → length w ≡ 15) → (xs : List ℕ) (stop : Stop) →
       answer_of strict (rest_of ended w p r xs stop).image ≡ answer_of strict w

@@ -1,21 +1,19 @@
 -- The calls of the writer after a buffer, and of the writer of a sink.
-use Rattle.std.proofs.Common.{◌≡◌, ◌<◌, ℕ, List, [], ◌∷◌, ◌++◌, length, take, None, Some, Result, Ok, Err, refl, subst, sym, ap, ◌∙◌, arith, append-nil, append_assoc}
+use Rattle.std.proofs.Common.{ℕ, List, [], ◌∷◌, ◌++◌, take, None, Some, Result, Ok, Err, sym, arith, append-nil, append_assoc}
 use Rattle.std.specs.Prelude.{⊤}
 use Rattle.std.specs.List.{concat}
 use Rattle.std.specs.declared.io.Error.{Error}
 use Rattle.x86_cli.specs.declared.outside.sink.SinkFailed.{SinkFailed}
 use Rattle.x86_cli.specs.Commands.Run.{SinkCalls}
 use Rattle.x86_cli.specs.Outside.Writes.{Call, Write, Flush, taken_by, sent, AllContinue, Cause, WriterCalls, Caused, Forwards, PutSends, IsFinalWrite}
-use Rattle.x86_cli.proofs.OutsideLemmas.Writes.{caused_none, caused_join, caused_as, caused_err, caused_ok, forwards_none, forwards_join, forwards_ok, forwards_err}
+use Rattle.x86_cli.proofs.OutsideLemmas.Writes.{caused_none, caused_join, caused_as, forwards_none, forwards_join, forwards_ok, forwards_err}
 
 module _ {W : Type 0} (writes : W → List ℕ → Result ℕ Error → W → Type 0) (flushes : W → Result ⊤ Error → W → Type 0) where
   module _ {G : Type 0} (gwrites : G → List ℕ → Result ℕ Error → G → Type 0) (gflushes : G → Result ⊤ Error → G → Type 0) (writer_of : G → W) (held : G → List ℕ)
       (by_write : (s : G) (bytes : List ℕ) (r : Result ℕ Error) (t : G) → gwrites s bytes r t → Forwards writes flushes r (taken_by r bytes) (held s) (held t) (writer_of s) (writer_of t) × IsFinalWrite r bytes)
       (by_flush : (s : G) (r : Result ⊤ Error) (t : G) → gflushes s r t → Forwards writes flushes r [] (held s) (held t) (writer_of s) (writer_of t)) where
     flat_on : (cs : List Call) (a b : G) → WriterCalls gwrites gflushes cs a b → AllContinue cs → Forwards writes flushes {A = ⊤} {E = SinkFailed} (Ok tt) (sent cs) (held a) (held b) (writer_of a) (writer_of b)
-    flat_on [] a b e on =
-        let same : Forwards writes flushes {A = ⊤} {E = SinkFailed} (Ok tt) [] (held a) (held a) (writer_of a) (writer_of a) = forwards_none writes flushes tt [] (held a) (held a) (writer_of a) (sym (append-nil (held a))) in
-        subst (λ b. Forwards writes flushes {A = ⊤} {E = SinkFailed} (Ok tt) [] (held a) (held b) (writer_of a) (writer_of b)) (sym e) same
+    flat_on [] a b e on = rw e (forwards_none writes flushes tt [] (held a) (held a) (writer_of a) (sym (append-nil (held a))))
     flat_on (Write bytes (Ok n) ∷ cs) a b h on =
         forwards_ok writes flushes n tt _ _ _ _ _ (forwards_join writes flushes tt (Ok n) _ _ _ _ _ _ _ _ (flat_on cs a h.0 h.1 on.1) (by_write h.0 bytes (Ok n) b h.2).0)
     flat_on (Write bytes (Err e) ∷ cs) a b h on = absurd ((by_write h.0 bytes (Err e) b h.2).1 on.0)
@@ -27,9 +25,7 @@ module _ {W : Type 0} (writes : W → List ℕ → Result ℕ Error → W → Ty
         Forwards writes flushes {A = ⊤} {E = SinkFailed} (Err f) (sent cs) (held a) (held b) (writer_of a) (writer_of b)
     flat_fault f [] a b h c = absurd c
     flat_fault f (Write bytes (Ok n) ∷ cs) a b h c =
-        let none : length bytes ≡ 0 = (by_write h.0 bytes (Ok n) b h.2).1 c.0.0 in
-        let some : 0 < length bytes = c.0.1 in
-        absurd (omega (arith, none, some))
+        absurd (omega (arith, (by_write h.0 bytes (Ok n) b h.2).1 c.0.0, c.0.1))
     flat_fault f (Write bytes (Err e) ∷ cs) a b h c =
         forwards_err writes flushes e f _ _ _ _ _ (forwards_join writes flushes tt (Err e) _ _ _ _ _ _ _ _ (flat_on cs a h.0 h.1 c.1) (by_write h.0 bytes (Err e) b h.2).0)
     flat_fault f (Flush (Ok done) ∷ cs) a b h c = absurd c.0
@@ -38,14 +34,14 @@ module _ {W : Type 0} (writes : W → List ℕ → Result ℕ Error → W → Ty
 
     -- What calls of the buffer sent, its writer took, but for what the buffer holds.
     pub flat : (r : Result ⊤ SinkFailed) (bytes : List ℕ) (a b : G) → Caused gwrites gflushes r bytes a b → Forwards writes flushes r bytes (held a) (held b) (writer_of a) (writer_of b)
-    flat (Ok done) bytes a b h = subst (λ s. Forwards writes flushes {A = ⊤} {E = SinkFailed} (Ok done) s (held a) (held b) (writer_of a) (writer_of b)) h.sends (flat_on h.calls a b h.did h.cause)
-    flat (Err f) bytes a b h = subst (λ s. Forwards writes flushes {A = ⊤} {E = SinkFailed} (Err f) s (held a) (held b) (writer_of a) (writer_of b)) h.sends (flat_fault f h.calls a b h.did h.cause)
+    flat (Ok done) bytes a b h = rw h.sends at (flat_on h.calls a b h.did h.cause)
+    flat (Err f) bytes a b h = rw h.sends at (flat_fault f h.calls a b h.did h.cause)
 
   -- The puts of a run, one after the other.
   module _ {K : Type 0} (takes : K → List ℕ → Result ⊤ SinkFailed → K → Type 0) (writer : K → W)
       (puts : (s : K) (piece : List ℕ) (r : Result ⊤ SinkFailed) (t : K) → takes s piece r t → PutSends writes flushes r piece (writer s) (writer t)) where
     pub took_on : (pieces : List (List ℕ)) (k l : K) → SinkCalls takes pieces None k l → Caused writes flushes {A = ⊤} {E = SinkFailed} (Ok tt) (concat pieces) (writer k) (writer l)
-    took_on [] k l e = subst (λ l. Caused writes flushes {A = ⊤} {E = SinkFailed} (Ok tt) [] (writer k) (writer l)) (sym e) (caused_none writes flushes tt (writer k))
+    took_on [] k l e = rw e (caused_none writes flushes tt (writer k))
     took_on (p ∷ ps) k l h = caused_join writes flushes tt (Ok tt) _ _ _ _ _ (puts k p (Ok tt) h.0 h.1) (took_on ps h.0 l h.2)
 
     pub took_fault : (pieces : List (List ℕ)) (failed : List ℕ) (k l : K) → SinkCalls takes pieces (Some failed) k l →

@@ -1,14 +1,11 @@
 -- What calls say, one after the other.
-use Rattle.std.proofs.Common.{◌≡◌, ℕ, List, [], ◌∷◌, ◌++◌, take, Option, Some, None, Result, Ok, Err, refl, ap, ◌∙◌, sym, subst, append_assoc, arith}
-use Rattle.std.specs.Prelude.{⊤, IfSome}
-use Rattle.std.specs.List.{concat}
-use Rattle.std.specs.Io.KnownBytes.{Consumes, Appends}
-use Rattle.std.proofs.KnownBytes.{Consumes-nil, Consumes-trans, Appends-nil, Appends-trans}
+use Rattle.std.proofs.Common.{ℕ, List, [], ◌∷◌, Option, Some, None, Result, Ok, Err, refl, append_assoc, arith}
+use Rattle.std.specs.Prelude.{⊤}
+use Rattle.std.proofs.KnownBytes.{Consumes-nil, Appends-nil}
 use Rattle.x86_cli.specs.declared.outside.source.Got.{Got}
 use Rattle.x86_cli.specs.declared.outside.source.Got.TheVariants as got
 use Rattle.x86_cli.specs.declared.outside.sink.SinkFailed.{SinkFailed}
 use Rattle.x86_cli.specs.Outside.Stop.{Stop, End, Failed}
-use Rattle.x86_cli.specs.Outside.FaultCounts.{Rose}
 use Rattle.x86_cli.specs.Outside.Source.{ReportsGot}
 use Rattle.x86_cli.specs.Outside.Sink.{ReportsPut}
 use Rattle.x86_cli.specs.Text.Reading.{SourceCalls}

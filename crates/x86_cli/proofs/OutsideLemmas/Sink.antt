@@ -1,10 +1,9 @@
 -- What a sink's writes are together.
-use Rattle.std.proofs.Common.{◌≡◌, ℕ, List, [], ◌++◌, ◌+◌, ◌-◌, ◌<◌, ◌≤◌, Option, Some, None, Result, Ok, Err, length, take, drop, refl, ap, sym, subst, ◌∙◌, arith, append-nil, length-drop, le_refl, take_all}
+use Rattle.std.proofs.Common.{◌≡◌, ℕ, List, [], ◌++◌, ◌+◌, ◌-◌, ◌<◌, Option, Result, Ok, Err, length, take, drop, refl, ap, sym, subst, ◌∙◌, arith, append-nil, length-drop, le_refl, take_all, take-add, drop-drop}
 use Rattle.std.specs.Prelude.{⊤}
 use Rattle.std.specs.declared.io.Error.{Error}
 use Rattle.std.specs.Io.KnownBytes.{Appends, Keeps, WriteAppends}
 use Rattle.std.proofs.KnownBytes.{Appends-trans}
-use lib.Seq.{take-add, drop-drop}
 use Rattle.x86_cli.specs.declared.outside.sink.SinkFailed.{SinkFailed}
 use Rattle.x86_cli.specs.Outside.Writes.{Caused}
 use Rattle.x86_cli.proofs.OutsideLemmas.Writes.{caused_none, caused_as, caused_write, caused_nothing, caused_error}
@@ -36,18 +35,13 @@ module _ {W : Type 0} (writes : W → List ℕ → Result ℕ Error → W → Ty
     pub puts_more : (k : ℕ) (d : W) (rest' : List ℕ) → Appends (written b) (written d) (take k rest) → writes b rest (Ok k) d → 0 < k → rest' ≡ take (length rest - k) (drop k rest) → Puts rest' a d
     puts_more k d rest' h wrote some e = record {
       count = puts.count + k;
-      left =
-          let le : length (drop k rest) ≤ length rest - k = simp length-drop (le_refl _) in
-          e ∙ take_all (length rest - k) (drop k rest) le ∙ ap (drop k) puts.left ∙ drop-drop k puts.count piece;
+      left = e ∙ take_all (length rest - k) (drop k rest) (simp length-drop (le_refl _)) ∙ ap (drop k) puts.left ∙ drop-drop k puts.count piece;
       bytes = further k (written d) h;
       caused = caused_as writes flushes _ _ _ _ _ (joined k) (caused_write writes flushes tt tt _ rest k _ _ _ puts.caused wrote some);
     }
 
     whole : length rest ≡ 0 → take puts.count piece ≡ piece
-    whole none =
-        let less = simp length-drop at (ap length puts.left) in
-        let le : length piece ≤ puts.count = omega (arith, none, less) in
-        take_all puts.count piece le
+    whole none = take_all puts.count piece (omega (arith, none, simp length-drop at (ap length puts.left)))
 
     pub puts_all : length rest ≡ 0 → Appends (written a) (written b) piece × Caused writes flushes {A = ⊤} {E = SinkFailed} (Ok tt) piece a b
     puts_all none = (subst (Appends (written a) (written b)) (whole none) puts.bytes, caused_as writes flushes _ _ _ _ _ (whole none) puts.caused)

@@ -1,6 +1,5 @@
 -- Bytes that are taken of those ahead, one a call.
-use Rattle.std.proofs.Common.{◌≡◌, ℕ, zero, suc, ◌+◌, ◌-◌, ◌<◌, List, [], ◌∷◌, ◌++◌, length, take, drop, min, slice_range, None, refl, arith, ap, ◌∙◌, sym, length-take}
-use Rattle.std.proofs.lemmas.List.{length-drop}
+use Rattle.std.proofs.Common.{◌≡◌, ℕ, zero, suc, ◌+◌, ◌-◌, ◌<◌, List, [], ◌∷◌, ◌++◌, length, take, drop, slice_range, None, refl, arith, ap, ◌∙◌, sym, length-take, length-drop}
 use Rattle.x86_cli.specs.declared.outside.source.Got.{Got}
 use Rattle.x86_cli.specs.declared.outside.source.Got.TheVariants as got
 use Rattle.x86_cli.specs.Text.Reading.{SourceCalls}
@@ -8,16 +7,14 @@ use Rattle.x86_cli.proofs.TextLemmas.Read.{source_calls-source_calls}
 
 -- one byte more of a list
 next_of : (n : ℕ) (l : List ℕ) (x : ℕ) (t : List ℕ) → drop n l ≡ x ∷ t → (take (suc n) l ≡ take n l ++ x ∷ []) × (drop (suc n) l ≡ t)
-next_of zero [] x t e = cc
-next_of zero (y ∷ l) x t e = (cc, cc)
+next_of zero l x t e = grind arith
 next_of (suc n) [] x t e = cc
 next_of (suc n) (y ∷ l) x t e = let more = next_of n l x t e in (ap (λ v. y ∷ v) more.0, more.1)
 
 -- a part of a list that isn't empty
 pub begins_before_end : (l : List ℕ) (a b : ℕ) → 0 < length (slice_range l a b) → a < b
 begins_before_end l a b some =
-    let part : length (slice_range l a b) ≡ min (b - a) (length (drop a l)) = length-take (b - a) (drop a l) in
-    omega (arith, some, part)
+    omega (arith, some, length-take (b - a) (drop a l))
 
 module _ {S : Type 0} (gives : S → Got → S → Type 0) where
   -- n of the bytes ahead were taken, and these are ahead now

@@ -1,20 +1,17 @@
 -- What a window shows, whatever follows it.
-use Rattle.std.proofs.Common.{◌≡◌, ◌≢◌, ℕ, ◌<◌, List, [], ◌∷◌, ◌++◌, length, take, refl, arith, Option, Some, None, Result, Ok, Err, Bool, ap, ◌∙◌, sym, append-nil}
+use Rattle.std.proofs.Common.{◌≡◌, ◌≢◌, ℕ, ◌<◌, List, [], ◌++◌, length, take, arith, Option, Some, None, Result, Ok, Err, Bool, ap, ◌∙◌, sym, append-nil}
 use Rattle.x86_decode.specs.declared.instructions.Instruction.{Instruction}
 use Rattle.x86_fields.specs.declared.errors.DecodeError.{DecodeError}
 use Rattle.x86_fields.specs.declared.errors.DecodeError.TheVariants.{ExhaustedInput}
 use Rattle.x86_decode.specs.Answer.{answer_of}
 use Rattle.x86_cli.specs.declared.text.reader.Ending.{Ending}
-use Rattle.x86_cli.specs.declared.text.reader.Ending.TheVariants.{Clean, Bad, Large, Fault}
+use Rattle.x86_cli.specs.declared.text.reader.Ending.TheVariants.{Clean}
 use Rattle.x86_cli.specs.Outside.Stop.{Stop}
 use Rattle.x86_cli.specs.declared.text.window.Decoded.{Decoded}
 use Rattle.x86_cli.specs.declared.text.window.Decoded.TheVariants.{Whole, Ended}
 use Rattle.x86_cli.specs.Listings.Listing.{decoded_of, decoded_at_end, decoded_before_end}
 use Rattle.x86_cli.specs.DecoderLaws.{DecoderLaws}
 use Rattle.x86_cli.specs.Text.Window.{rest_of, Shows}
-
-decoded_at_end-sure : (a : Result Instruction DecodeError) (e : Ending) → a ≢ Err ExhaustedInput → decoded_at_end a e ≡ decoded_before_end a
-decoded_at_end-sure a e ne = grind arith
 
 decoded_at_end-whole : (a : Result Instruction DecodeError) (e : Ending) (i : Instruction) → decoded_at_end a e ≡ Whole i → a ≡ Ok i
 decoded_at_end-whole a e i h = grind arith

@@ -40,14 +40,12 @@ module _ {S : Type 0} (gives : S → Got → S → Type 0) (Holds : Text → Typ
     pub filling_byte : (p' r' v : ℕ) (d : S) → Reads gives (Byte v) p r p' r' b d → Filling old (w ++ v ∷ []) p' r' a d
     filling_byte p' r' v d read = record {
       bytes = so_far.bytes ++ read.bytes;
-      source_calls = let P : Option Stop → Type 0 = λ o. SourceCalls gives read.bytes o b d in joined read.bytes None d (subst P read.continues read.source_calls);
-      called = let P : Option Stop → Type 0 = λ o. CalledWhere (NeedsMore 1) (text_at p r) read.bytes o in also read.bytes None (subst P read.continues read.called);
+      source_calls = joined read.bytes None d (rw read.continues at read.source_calls);
+      called = also read.bytes None (rw read.continues at read.called);
       rest = λ xs stop.
           let t : Text = text_at p' r' xs stop in
-          let may : MayCome read.stop xs stop = rw read.continues tt in
-          let image : w ++ (v ∷ t.image) ≡ (w ++ v ∷ []) ++ t.image = sym (append_assoc w (v ∷ []) t.image) in
-          rw append_assoc (so_far.rest (read.bytes ++ xs) stop ∙ ap (with_bytes w) (read.reports xs stop may)
-          ∙ ap (λ i. record { image = i; ending = t.ending }) image);
+          rw append_assoc (so_far.rest (read.bytes ++ xs) stop ∙ ap (with_bytes w) (read.reports xs stop (rw read.continues tt))
+          ∙ ap (λ i. record { image = i; ending = t.ending }) (sym (append_assoc w (v ∷ []) t.image)));
     }
 
     pub stopped : (e : Ending) (p' r' p'' r'' : ℕ) (d : S) → Reads gives (Stopped e) p r p' r' b d → Fills gives Holds old (Some e) w p'' r'' a d
@@ -70,8 +68,8 @@ module _ {S : Type 0} (gives : S → Got → S → Type 0) (Holds : Text → Typ
   pub fills_fills : (old : List ℕ → Stop → Text) (w : List ℕ) (p r : ℕ) (ended : Option Ending) (w' : List ℕ) (p' r' : ℕ) (a b d : S) →
       Fills gives Holds old None w p r a b → Fills gives Holds (rest_of None w p r) ended w' p' r' b d → Fills gives Holds old ended w' p' r' a d
   fills_fills old w p r ended w' p' r' a b d f g =
-      let source_calls : SourceCalls gives f.bytes None a b = let P : Option Stop → Type 0 = λ o. SourceCalls gives f.bytes o a b in subst P f.continues f.source_calls in
-      let called : CalledWhere Holds old f.bytes None = let P : Option Stop → Type 0 = λ o. CalledWhere Holds old f.bytes o in subst P f.continues f.called in
+      let source_calls : SourceCalls gives f.bytes None a b = rw f.continues at f.source_calls in
+      let called : CalledWhere Holds old f.bytes None = rw f.continues at f.called in
       let open_yet : (xs : List ℕ) (s : Stop) → MayCome f.stop xs s = λ xs s. rw f.continues tt in
       record {
         bytes = f.bytes ++ g.bytes;

@@ -1,5 +1,5 @@
 -- What the table of kinds says of a byte.
-use Rattle.std.proofs.Common.{◌≡◌, ◌<◌, ◌⊎◌, inl, inr, ℕ, List, map, Bool, true, false, Option, Some, None, IfSome, refl, arith}
+use Rattle.std.proofs.Common.{◌≡◌, ◌<◌, ◌⊎◌, ℕ, List, map, Bool, true, false, Option, Some, None, IfSome, refl, arith}
 use Rattle.std.specs.List.{range_with_len}
 use Rattle.std.proofs.lemmas.Grind.{common_steps}
 use Rattle.x86_cli.specs.declared.text.kinds.TheConstants.{KINDS}
@@ -41,7 +41,4 @@ is_kind b = by (is_blank b) (value_of b) refl refl (small b) (value-blank b)
     by false None e f s none = (e, f)
 
 pub no_digit : (k : Kind) (b : ℕ) → IsKind k b → (k ≡ Blank) ⊎ (k ≡ Other) → value_of b ≡ None
-no_digit Blank b h e = h.1
-no_digit Other b h e = h.1
-no_digit (Digit v) b h (inl e) = cc
-no_digit (Digit v) b h (inr e) = cc
+no_digit k b h e = grind arith

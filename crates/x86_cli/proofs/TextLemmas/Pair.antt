@@ -1,8 +1,7 @@
 -- Sequences of blanks and pairs.
-use Rattle.std.proofs.Common.{◌≡◌, ℕ, zero, suc, ◌+◌, ◌*◌, ◌<◌, List, [], ◌∷◌, ◌++◌, length, take, refl, arith, Option, Some, None, Bool, true, false, ap, ◌∙◌, sym}
+use Rattle.std.proofs.Common.{◌≡◌, ℕ, zero, suc, ◌+◌, ◌*◌, ◌<◌, List, [], ◌∷◌, ◌++◌, length, take, refl, arith, Option, Some, None, Bool, true, false, ap, ◌∙◌, sym, take-take}
 use Rattle.std.specs.List.{flat_map}
 use Rattle.std.specs.Option.{option_map}
-use lib.Seq.{take-take}
 use Rattle.x86_cli.specs.Text.{is_blank, value_of, bad_of, image_of, ends_in_half}
 use Rattle.x86_cli.specs.Text.Pairs.{Item, blank, pair, bytes_of, values_of, AreItems, IsHalf, IsSequence, is_half, SequencesAreSound, BadIsFirst}
 use Rattle.x86_cli.proofs.TextLemmas.Text.{value-blank, image-blank, bad-blank, half-blank}
@@ -16,8 +15,7 @@ by_option None f g = f refl
 by_option (Some v) f g = g v refl
 
 unmapped : (f : ℕ → ℕ) (o : Option ℕ) → option_map f o ≡ None → o ≡ None
-unmapped f None e = refl
-unmapped f (Some v) e = cc
+unmapped f o e = grind arith
 
 digit_not_blank : (b v : ℕ) → value_of b ≡ Some v → is_blank b ≡ false
 digit_not_blank b v e = by_bool (is_blank b) (λ h. let n = value-blank b h in cc) (λ h. h)
@@ -48,18 +46,12 @@ items_bad [] [] each ok = (refl, refl, refl)
 items_bad [] (d ∷ []) each ok = (bad-half d ok.0 ok.1, refl, rw ok.1 refl)
 items_bad [] (d ∷ e ∷ ds) each ok = absurd ok
 items_bad (blank b ∷ items) half each ok =
-    let s = flat_map bytes_of items ++ half in
     let h = items_bad items half each.1 ok in
-    (bad-blank b s each.0 ∙ ap (option_map (λ n. 1 + n)) h.0, image-blank b s each.0 ∙ h.1, half-blank b s each.0 (value-blank b each.0) ∙ h.2)
+    grind (arith, bad-blank, image-blank, half-blank, value-blank)
 items_bad (pair a b ∷ items) half each ok =
-    let s = flat_map bytes_of items ++ half in
     let h = items_bad items half each.2 ok in
-    let d = each.0.1 in
-    let e = each.1.1 in (
-      bad-pair a b each.0.0 each.1.0 s d e ∙ ap (option_map (λ n. 2 + n)) h.0,
-      image-pair a b each.0.0 each.1.0 s d e ∙ rw (d, e, h.1) refl,
-      half-pair a b each.0.0 s d ∙ h.2,
-    )
+    let f = digit_not_blank a each.0.0 each.0.1 in
+    grind arith
 
 sequence_bad : (bytes image half : List ℕ) → IsSequence bytes image half → (bad_of bytes ≡ None) × (image_of bytes ≡ image) × (ends_in_half bytes ≡ is_half half)
 sequence_bad bytes image half sequence =
@@ -127,10 +119,6 @@ sequences_sound = (sequence_of, sequence_bad)
 
 -- the first bad byte
 
-mapped : (k : ℕ) (o : Option ℕ) (n : ℕ) → option_map (λ m. k + m) o ≡ Some n → (m : ℕ) × (o ≡ Some m) × (n ≡ k + m)
-mapped k None n e = cc
-mapped k (Some m) n e = (m, refl, cc)
-
 record First (bytes : List ℕ) (n : ℕ) : Type 0 where
   inside : n < length bytes
   before : bad_of (take n bytes) ≡ None
@@ -153,38 +141,20 @@ first_pair a b v w s m d e f = record {
   image = image-pair a b v w (take m s) d e ∙ ap (λ xs. (16 * v + w) ∷ xs) f.image ∙ sym (image-pair a b v w s d e);
 }
 
-first_other : (a : ℕ) (s : List ℕ) → is_blank a ≡ false → value_of a ≡ None → First (a ∷ s) 0
-unfolding bad_of image_of
-first_other a [] e n = record { inside = omega arith; before = refl; here = rw (e, n) refl; image = refl }
-first_other a (b ∷ s) e n = record { inside = omega arith; before = refl; here = rw (e, n) refl; image = rw (e, n) refl }
-
-first_half : (a b v : ℕ) (s : List ℕ) → value_of a ≡ Some v → value_of b ≡ None → First (a ∷ b ∷ s) 1
-unfolding bad_of image_of
-first_half a b v s d n =
-    let f = digit_not_blank a v d in
-    record { inside = omega arith; before = rw (f, d) refl; here = rw (f, d, n) refl; image = rw (f, d, n) refl }
-
-moved_to : (bytes : List ℕ) (n m : ℕ) → n ≡ m → First bytes m → First bytes n
-moved_to bytes n m e f = rw e f
+mapped : (k : ℕ) (o : Option ℕ) (n m : ℕ) → option_map (λ x. k + x) o ≡ Some n → n ≡ k + m → o ≡ Some m
+mapped k o n m e is = grind arith
 
 first_bad : (bytes : List ℕ) (n : ℕ) → bad_of bytes ≡ Some n → First bytes n
-unfolding bad_of
+unfolding bad_of image_of
 first_bad [] n e = cc
-first_bad (a ∷ []) n e =
-    by_bool (is_blank a) (λ h. let f = rw h at e in cc)
-    (λ h. by_option (value_of a) (λ d. let f = rw (h, d) at e in let z : n ≡ 0 = cc in moved_to (a ∷ []) n 0 z (first_other a [] h d)) (λ v d. let f = rw (h, d) at e in cc))
-first_bad (a ∷ b ∷ s) n e =
-    by_bool (is_blank a)
-    (λ h.
-    let m = mapped 1 (bad_of (b ∷ s)) n (rw h at e) in
-    moved_to (a ∷ b ∷ s) n (suc m.0) (omega (arith, m.2)) (first_blank a (b ∷ s) m.0 h (first_bad (b ∷ s) m.0 m.1)))
-    (λ h. by_option (value_of a)
-    (λ d. let f = rw (h, d) at e in let z : n ≡ 0 = cc in moved_to (a ∷ b ∷ s) n 0 z (first_other a (b ∷ s) h d))
-    (λ v d. by_option (value_of b)
-    (λ g. let f = rw (h, d, g) at e in let z : n ≡ 1 = cc in moved_to (a ∷ b ∷ s) n 1 z (first_half a b v s d g))
-    (λ w g.
-    let m = mapped 2 (bad_of s) n (rw (h, d, g) at e) in
-    moved_to (a ∷ b ∷ s) n (suc (suc m.0)) (omega (arith, m.2)) (first_pair a b v w s m.0 d g (first_bad s m.0 m.1)))))
+first_bad (a ∷ []) n e = grind arith
+first_bad (a ∷ b ∷ s) zero e = grind arith
+first_bad (a ∷ b ∷ s) (suc zero) e = let f = first_bad (b ∷ s) 0 in grind arith
+first_bad (a ∷ b ∷ s) (suc (suc n)) e =
+    by_bool (is_blank a) (λ h. first_blank a (b ∷ s) (suc n) h (first_bad (b ∷ s) (suc n) (mapped 1 _ _ (suc n) (rw h at e) (omega arith))))
+    (λ h. by_option (value_of a) (λ d. let f = rw (h, d) at e in cc)
+    (λ v d. by_option (value_of b) (λ g. let f = rw (h, d, g) at e in cc)
+    (λ w g. first_pair a b v w s n d g (first_bad s n (mapped 2 _ _ n (rw (h, d, g) at e) (omega arith))))))
 
 -- A beginning of bytes without a bad byte has none.
 beginnings_good : (m : ℕ) (bytes : List ℕ) → bad_of bytes ≡ None → bad_of (take m bytes) ≡ None
@@ -194,8 +164,7 @@ beginnings_good (suc m) [] e = refl
 beginnings_good (suc zero) (a ∷ []) e = e
 beginnings_good (suc (suc m)) (a ∷ []) e = e
 beginnings_good (suc zero) (a ∷ b ∷ s) e =
-    by_bool (is_blank a) (λ h. rw h refl)
-    (λ h. by_option (value_of a) (λ n. let f = rw (h, n) at e in cc) (λ v d. rw (h, d) refl))
+    by_bool (is_blank a) (λ h. rw h refl) (λ h. by_option (value_of a) (λ n. let f = rw (h, n) at e in cc) (λ v d. rw (h, d) refl))
 beginnings_good (suc (suc m)) (a ∷ b ∷ s) e =
     by_bool (is_blank a)
     (λ h. bad-blank a (take (suc m) (b ∷ s)) h ∙ ap (option_map (λ n. 1 + n)) (beginnings_good (suc m) (b ∷ s) (unmapped (λ n. 1 + n) (bad_of (b ∷ s)) (rw h at e))))

@@ -111,15 +111,17 @@ module _ {S : Type 0} (gives : S → Got → S → Type 0) where
     pub digit : value_of x ≡ Some v
     pub source_calls : gives a (got.Byte x) b
 
+  half_called : (p r q s x v : ℕ) (a b : S) → AfterOpcode p r q s x v a b → NeedsMore 1 (text_at p r (x ∷ []) Failed)
+  half_called p r q s x v a b following = let room : r ≡ suc s = omega (arith, following.room) in rw room (more_half p s x v following.blank following.digit)
+
   pub half_end : (p r q s x v : ℕ) (a b d : S) → AfterOpcode p r q s x v a b → gives b got.End d → Reads gives (Stopped (Bad q)) p r q s a d
   half_end p r q s x v a b d following e = record {
     bytes = x ∷ [];
     stop = Some End;
     source_calls = (b, following.source_calls, e);
-    called = (more_new p r, let room : r ≡ suc s = omega (arith, following.room) in rw room (more_half p s x v following.blank following.digit));
+    called = (more_new p r, half_called p r q s x v a b following);
     continues = tt;
-    reports = λ xs stop may.
-        let room : r ≡ suc s = omega (arith, following.room) in rw (may.0, may.1, room, following.position) (text-half p s x v following.blank following.digit);
+    reports = λ xs stop may. let room : r ≡ suc s = omega (arith, following.room) in rw (may.0, may.1, room, following.position) (text-half p s x v following.blank following.digit);
   }
 
   pub half_failed : (p r q s x v : ℕ) (a b d : S) → AfterOpcode p r q s x v a b → gives b got.Failed d → Reads gives (Stopped Fault) p r q s a d
@@ -127,10 +129,9 @@ module _ {S : Type 0} (gives : S → Got → S → Type 0) where
     bytes = x ∷ [];
     stop = Some Failed;
     source_calls = (b, following.source_calls, e);
-    called = (more_new p r, let room : r ≡ suc s = omega (arith, following.room) in rw room (more_half p s x v following.blank following.digit));
+    called = (more_new p r, half_called p r q s x v a b following);
     continues = tt;
-    reports = λ xs stop may.
-        let room : r ≡ suc s = omega (arith, following.room) in rw (may.0, may.1, room) (text-half_failed p s x v following.blank following.digit);
+    reports = λ xs stop may. let room : r ≡ suc s = omega (arith, following.room) in rw (may.0, may.1, room) (text-half_failed p s x v following.blank following.digit);
   }
 
   pub half_large : (p r q s x v y : ℕ) (a b d : S) → AfterOpcode p r q s x v a b → s ≡ 0 → gives b (got.Byte y) d → Reads gives (Stopped Large) p r q s a d
@@ -138,7 +139,7 @@ module _ {S : Type 0} (gives : S → Got → S → Type 0) where
     bytes = x ∷ y ∷ [];
     stop = None;
     source_calls = (b, following.source_calls, (d, e, refl));
-    called = (more_new p (r), (let room : r ≡ suc (s) = omega (arith, following.room) in rw room (more_half p (s) x v following.blank following.digit), tt));
+    called = (more_new p r, (half_called p r q s x v a b following, tt));
     continues = tt;
     reports = λ xs stop may. let room : r ≡ 1 = omega (arith, following.room) in rw room (text-half_large p x y v xs stop following.blank following.digit);
   }
@@ -149,10 +150,9 @@ module _ {S : Type 0} (gives : S → Got → S → Type 0) where
     bytes = x ∷ y ∷ [];
     stop = None;
     source_calls = (b, following.source_calls, (d, e, refl));
-    called = (more_new p (r), (let room : r ≡ suc (suc s) = omega (arith, following.room) in rw room (more_half p (suc s) x v following.blank following.digit), tt));
+    called = (more_new p r, (half_called p r q (suc s) x v a b following, tt));
     continues = tt;
-    reports = λ xs stop may.
-        let room : r ≡ suc (suc s) = omega (arith, following.room) in rw (room, following.position) (text-half_bad p s x y v xs stop following.blank following.digit digit);
+    reports = λ xs stop may. let room : r ≡ suc (suc s) = omega (arith, following.room) in rw (room, following.position) (text-half_bad p s x y v xs stop following.blank following.digit digit);
   }
 
   pub half_pair : (p r q s q' s' x v y w : ℕ) (a b d : S) → AfterOpcode p r q s x v a b → gives b (got.Byte y) d → value_of y ≡ Some w →
@@ -161,7 +161,7 @@ module _ {S : Type 0} (gives : S → Got → S → Type 0) where
     bytes = x ∷ y ∷ [];
     stop = None;
     source_calls = (b, following.source_calls, (d, e, refl));
-    called = (more_new p (r), (let room : r ≡ suc (s) = omega (arith, following.room) in rw room (more_half p (s) x v following.blank following.digit), tt));
+    called = (more_new p r, (half_called p r q s x v a b following, tt));
     continues = refl;
     reports = λ xs stop may.
         let room : r ≡ suc (suc s') = omega (arith, following.room) in

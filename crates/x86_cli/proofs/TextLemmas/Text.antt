@@ -1,5 +1,5 @@
 -- What the text is at its first bytes.
-use Rattle.std.proofs.Common.{◌≡◌, ℕ, suc, zero, ◌+◌, ◌*◌, List, [], ◌∷◌, length, take, drop, refl, arith, Option, Some, None, true, false, Bool, ap}
+use Rattle.std.proofs.Common.{◌≡◌, ℕ, suc, ◌+◌, ◌*◌, List, [], ◌∷◌, length, take, drop, refl, arith, Option, Some, None, true, false, Bool}
 use Rattle.std.proofs.lemmas.Grind.{common_steps}
 use Rattle.std.specs.Option.{option_map}
 use Rattle.x86_cli.specs.declared.text.reader.Ending.TheVariants.{Clean, Bad, Large, Fault}

@@ -1,5 +1,4 @@
-use Rattle.std.proofs.Common.{◌≡◌, ◌≤◌, ◌∙◌, ℕ, List, [], ◌∷◌, Option, Some, None, IfSome, map, decimal, ap, sym, subst, get_or, length, ◌<◌, arith}
-use Rattle.std.specs.Prelude.{codes, string_bytes}
+use Rattle.std.proofs.Common.{◌≡◌, ◌≤◌, ◌∙◌, ℕ, List, [], ◌∷◌, Option, Some, None, IfSome, map, decimal, ap, sym, subst, get_or, length, ◌<◌, arith, codes, string_bytes}
 use Rattle.std.specs.Cmp.Lexicographic.{same_text}
 use Rattle.x86_cli.specs.Commands.Make.{IsMake, make_max}
 use Rattle.x86_cli.proofs.commands.command.made_from.Goals as goal

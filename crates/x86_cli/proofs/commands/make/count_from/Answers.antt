@@ -1,7 +1,6 @@
-use Rattle.std.proofs.Common.{Bool, true, false, ◌≡◌, ◌≤◌, ◌<◌, ◌⊎◌, inl, inr, ℕ, List, Option, Some, Result, decimal, ap, sym, ◌∙◌, arith}
+use Rattle.std.proofs.Common.{Bool, true, false, ◌≡◌, ◌≤◌, ◌<◌, ◌⊎◌, inl, inr, ℕ, List, Option, Some, Result, decimal, ap, sym, ◌∙◌, arith, IsTrue}
 use Rattle.std.proofs.lemmas.Fmt.{parse-decimal}
 use Rattle.std.specs.Str.Parse.{ParsesUnsigned}
-use Rattle.std.specs.Prelude.{IsTrue}
 use Rattle.std.specs.Result.{result_ok}
 use Rattle.x86_cli.specs.Commands.Make.{make_max}
 use Rattle.x86_cli.proofs.commands.make.count_from.Goals as goal

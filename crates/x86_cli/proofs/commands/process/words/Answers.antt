@@ -1,4 +1,4 @@
-use Rattle.std.proofs.Common.{rules, ◌≡◌, ◌∙◌, ℕ, List, [], ◌∷◌, length, drop, remove, refl, sym, ap}
+use Rattle.std.proofs.Common.{rules, ◌≡◌, ◌∙◌, List, [], ◌∷◌, length, drop, remove, ap}
 use Rattle.x86_cli.proofs.commands.process.words.Goals as goal
 use Rattle.x86_cli.proofs.commands.process.words.Goals.{then-not-is_empty, else-not-is_empty}
 

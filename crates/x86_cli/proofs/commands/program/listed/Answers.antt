@@ -1,8 +1,8 @@
-use Rattle.std.proofs.Common.{◌≡◌, ◌∙◌, ℕ, List, [], ap, sym, subst, map, string_bytes, slice_range}
+use Rattle.std.proofs.Common.{◌≡◌, ◌∙◌, [], ap, sym, subst, map, string_bytes, slice_range}
 use Rattle.x86_cli.specs.Commands.Command.{command_of}
 use Rattle.x86_cli.specs.Outside.Seen.{sink_writer, buffer_writer, buffer_bytes}
 use Rattle.x86_cli.specs.Outside.Writes.{FlushesOut}
-use Rattle.x86_cli.proofs.CommandLemmas.Program.{each_command, ran_performs, wrote_performs, ends_usage}
+use Rattle.x86_cli.proofs.CommandLemmas.Program.{each_command, ran_performs, wrote_performs}
 use Rattle.x86_cli.proofs.commands.program.listed.Goals as goal
 
 pub returns-clause-lists : goal.returns-clause-lists

@@ -1,6 +1,5 @@
-use Rattle.std.proofs.Common.{◌≡◌, ◌-◌, ◌++◌, length, take, drop, sym, ap, ◌∙◌, arith, append-nil, length-take}
-use lib.Seq.{take-add, take-take}
-use Rattle.x86_cli.proofs.OutsideLemmas.Writes.{caused_none, caused_as, caused_join, caused_ok, caused_err}
+use Rattle.std.proofs.Common.{◌-◌, ◌++◌, length, take, drop, sym, ap, ◌∙◌, arith, append-nil, length-take, take-add, take-take}
+use Rattle.x86_cli.proofs.OutsideLemmas.Writes.{caused_as, caused_join, caused_ok, caused_err}
 use Rattle.x86_cli.proofs.outside.sending.send_out.Goals as goal
 
 pub loop-sent-preserved : goal.loop-sent-preserved

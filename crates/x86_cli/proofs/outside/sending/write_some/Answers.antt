@@ -1,6 +1,5 @@
-use Rattle.std.proofs.Common.{rules, ◌≡◌, Ok, Err}
-use Rattle.std.proofs.lemmas.Bool.Decides.{nat_tests}
-use Rattle.x86_cli.proofs.OutsideLemmas.Writes.{caused_none, caused_write, caused_again, caused_nothing, caused_error}
+use Rattle.std.proofs.Common.{rules}
+use Rattle.x86_cli.proofs.OutsideLemmas.Writes.{caused_write, caused_again, caused_nothing, caused_error}
 use Rattle.x86_cli.proofs.outside.sending.write_some.Goals as goal
 
 pub returns-in-Ok-eq0-clause-caused : goal.returns-in-Ok-eq0-clause-caused
