@@ -201,7 +201,7 @@ module _ {W G K : Type 0} (writes : W → List ℕ → Result ℕ Error → W �
       let f = run_fetched reads gives takes kept reader fetches s t k l c status ran none in
       let one = some_stop ran.stop in
       let p = run_printed writes flushes gwrites gflushes writer_of held by_write by_flush takes buffer puts k l empty status ran.lines ran.failed _ (ran.lists [] one.0 one.1)
-          (command_written c _) (command_used c _) ran.sink_calls r g stays sends in
+      (command_written c _) (command_used c _) ran.sink_calls r g stays sends in
       record {
         pieces = f.pieces;
         stop = ran.stop;

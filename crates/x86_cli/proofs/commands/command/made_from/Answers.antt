@@ -1,4 +1,4 @@
-use Rattle.std.proofs.Common.{◌≡◌, ◌≤◌, ◌∙◌, ℕ, List, [], ◌∷◌, Option, Some, None, IfSome, map, decimal, ap, sym, subst, get_or, length, ◌<◌, arith, codes, string_bytes}
+use Rattle.std.proofs.Common.{◌≡◌, ◌≤◌, ◌∙◌, ℕ, List, [], ◌∷◌, Option, IfSome, map, decimal, ap, sym, get_or, length, ◌<◌, arith, codes, string_bytes}
 use Rattle.std.specs.Cmp.Lexicographic.{same_text}
 use Rattle.x86_cli.specs.Commands.Make.{IsMake, make_max}
 use Rattle.x86_cli.proofs.commands.command.made_from.Goals as goal
@@ -12,8 +12,7 @@ two (x ∷ y ∷ z ∷ xs) a b l m e f = absurd (omega arith)
 
 -- the second argument is the count
 found : (arguments : List (List ℕ)) (first argument : List ℕ) (r : Option ℕ) → arguments ≡ first ∷ argument ∷ [] → first ≡ codes "make" → IfSome r (λ n. (1 ≤ n) × (n ≤ make_max) × (argument ≡ decimal n)) → IfSome r (IsMake arguments)
-found arguments first argument None e m h = tt
-found arguments first argument (Some n) e m h = record { matched = e ∙ ap (λ w. w ∷ argument ∷ []) m ∙ ap (λ w. codes "make" ∷ w ∷ []) h.2; least = h.0; most = h.1 }
+found arguments first argument r e m h = grind arith
 
 pub returns-in-len2-clause-found : goal.returns-in-len2-clause-found
 returns-in-len2-clause-found c =
@@ -21,5 +20,4 @@ returns-in-len2-clause-found c =
     let two : arguments ≡ string_bytes c.make-item.result ∷ string_bytes c.count-item.result ∷ [] = ap (map string_bytes) (two c.args.arguments.now c.make-item.result c.count-item.result (omega arith) (omega arith) c.make-item.is c.count-item.is) in
     let make : string_bytes c.make-item.result ≡ codes "make" = sym c.as_str.ensures.value ∙ same_text c.as_str.result.now (codes "make") c.if-eq.ensures in
     found arguments (string_bytes c.make-item.result) (string_bytes c.count-item.result) c.count_from.result two make
-    (let given : IfSome c.count_from.result (λ n. (1 ≤ n) × (n ≤ make_max) × (c.as_str-in-len2.result.now ≡ decimal n)) = c.count_from.ensures.found in
-    subst (λ w. IfSome c.count_from.result (λ n. (1 ≤ n) × (n ≤ make_max) × (w ≡ decimal n))) c.as_str-in-len2.ensures.value given)
+    (rw c.as_str-in-len2.ensures.value at c.count_from.ensures.found)

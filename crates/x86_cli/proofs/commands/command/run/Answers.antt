@@ -6,7 +6,7 @@ use Rattle.x86_cli.proofs.CommandLemmas.Says.{ran_says}
 use Rattle.x86_cli.proofs.commands.command.run.Goals as goal
 
 no_command : (a b : Option Command) (c : Command) → a ≡ b → a ≡ Some c → b ≡ None → ⊥
-no_command a b c same is none = let e : Some c ≡ None = sym is ∙ same ∙ none in cc
+no_command a b c same is none = cc
 
 pub returns-in-Some-clause-usage : goal.returns-in-Some-clause-usage
 returns-in-Some-clause-usage g c =

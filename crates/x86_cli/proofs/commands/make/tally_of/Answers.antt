@@ -1,4 +1,4 @@
-use Rattle.std.proofs.Common.{◌≡◌, ◌+◌, ℕ, suc, length, false, refl, sym, ap, subst, ◌∙◌, add-one, arith}
+use Rattle.std.proofs.Common.{◌≡◌, ◌+◌, ℕ, length, false, refl, ap, ◌∙◌, add-one, arith}
 use Rattle.x86_decode.specs.Answer.{answer_of}
 use Rattle.x86_decode.specs.Instruction.{holding}
 use Rattle.x86_cli.specs.declared.commands.make.Tally.{Tally}
@@ -12,15 +12,7 @@ of_three b r a = record { bytes = b; at_rip = r; absolute = a }
 -- one more encoding is counted
 next : (i b r a l x y : ℕ) → of_three b r a ≡ tally_of i → l ≡ length (generate i) → x ≡ one_if (answer_has is_at_rip (answer_of false (generate i))) → y ≡ one_if (answer_has is_absolute (answer_of false (generate i))) → of_three (b + l) (r + x) (a + y) ≡ tally_of (i + 1)
 unfolding tally_of
-next i b r a l x y e long at_rip absolute =
-    let t : Tally = tally_of i in
-    let rips : ℕ = one_if (answer_has is_at_rip (answer_of false (generate i))) in
-    let here : of_three (b + l) (r + x) (a + y) ≡ tally_of (suc i) =
-    ap (λ (s : Tally). of_three (s.bytes + l) (s.at_rip + x) (s.absolute + y)) e
-    ∙ ap (λ n. of_three (t.bytes + n) (t.at_rip + x) (t.absolute + y)) long
-    ∙ ap (λ n. of_three (t.bytes + length (generate i)) (t.at_rip + n) (t.absolute + y)) at_rip
-    ∙ ap (λ n. of_three (t.bytes + length (generate i)) (t.at_rip + rips) (t.absolute + n)) absolute in
-    subst (λ k. of_three (b + l) (r + x) (a + y) ≡ tally_of k) (sym (add-one i)) here
+next i b r a l x y e long at_rip absolute = rw (add-one, ← e, long, at_rip, absolute) refl
 
 pub loop-i-init : goal.loop-i-init
 unfolding tally_of

@@ -1,5 +1,4 @@
-use Rattle.std.proofs.Common.{rules, ◌≡◌, sym, subst}
-use Rattle.x86_cli.specs.Outside.Writes.{PutSends}
+use Rattle.std.proofs.Common.{rules, ◌≡◌, sym}
 use Rattle.x86_cli.specs.Listings.Line.{line}
 use Rattle.x86_cli.specs.Commands.Process.{usage_line}
 use Rattle.x86_cli.proofs.commands.process.report_usage.Goals as goal
@@ -8,6 +7,5 @@ pub returns : goal.returns
 returns g c =
     let same : line c.extend.new.self.items ≡ usage_line = search rules in (
       c.put_line.result,
-      rw (c.into_writer.ensures, sym c.new-sink.ensures.writer)
-          (subst (λ text. PutSends g.E.Output.writes g.E.Output.flushes c.put_line.result text c.new-sink.result.writer c.put_line.new.sink.writer) same c.put_line.ensures.1),
+      rw (c.into_writer.ensures, sym c.new-sink.ensures.writer) (rw same at c.put_line.ensures.1),
     )

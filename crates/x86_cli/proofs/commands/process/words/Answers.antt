@@ -1,14 +1,12 @@
-use Rattle.std.proofs.Common.{rules, ◌≡◌, ◌∙◌, List, [], ◌∷◌, length, drop, remove, ap}
+use Rattle.std.proofs.Common.{rules, ◌≡◌, ◌∙◌, List, length, drop, remove, ap, arith}
 use Rattle.x86_cli.proofs.commands.process.words.Goals as goal
 use Rattle.x86_cli.proofs.commands.process.words.Goals.{then-not-is_empty, else-not-is_empty}
 
 without_first : {A : Type 0} (xs ys zs : List A) → ys ≡ xs → zs ≡ remove ys 0 → zs ≡ drop 1 xs
-without_first [] ys zs same is = is ∙ ap (λ ys. remove ys 0) same
-without_first (x ∷ xs) ys zs same is = is ∙ ap (λ ys. remove ys 0) same
+without_first xs ys zs same is = grind arith
 
 none_left : {A : Type 0} (xs ys zs : List A) → ys ≡ xs → length ys ≡ 0 → zs ≡ ys → zs ≡ drop 1 xs
-none_left xs [] zs same none is = is ∙ ap (drop 1) same
-none_left xs (y ∷ ys) zs same none is = cc
+none_left xs ys zs same none is = grind arith
 
 pub returns : goal.returns
 returns g c =

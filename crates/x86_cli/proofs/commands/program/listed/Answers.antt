@@ -1,7 +1,6 @@
-use Rattle.std.proofs.Common.{◌≡◌, ◌∙◌, [], ap, sym, subst, map, string_bytes, slice_range}
+use Rattle.std.proofs.Common.{◌≡◌, ◌∙◌, [], ap, sym, map, string_bytes, slice_range}
 use Rattle.x86_cli.specs.Commands.Command.{command_of}
 use Rattle.x86_cli.specs.Outside.Seen.{sink_writer, buffer_writer, buffer_bytes}
-use Rattle.x86_cli.specs.Outside.Writes.{FlushesOut}
 use Rattle.x86_cli.proofs.CommandLemmas.Program.{each_command, ran_performs, wrote_performs}
 use Rattle.x86_cli.proofs.commands.program.listed.Goals as goal
 
@@ -15,8 +14,7 @@ returns-clause-lists g c =
     (λ command ran. rw (c.ending_of.ensures, c.into_reader.ensures, c.into_writer.ensures, sym c.new-source.ensures.reader, sym writer)
     (ran_performs writes flushes _ _ _ _ _ command _ _ ran.0 _ _ (λ o. buffer_writer o) (λ o. buffer_bytes o) (λ s. sink_writer s) (λ s piece r t h. h.1) (λ a bytes r b w. w) (λ a r b f. f.0)
     fresh _ _ (λ e. c.send_rest-flushed.ensures.failed e ∙ c.into_writer-out.ensures)
-    (λ u w. subst (λ o. FlushesOut writes flushes c.send_rest-flushed.result (buffer_bytes o) (buffer_bytes c.send_rest-flushed.new.out) (buffer_writer o) (buffer_writer c.send_rest-flushed.new.out))
-    c.into_writer-out.ensures (c.send_rest-flushed.ensures.sends u w))
+    (λ u w. rw c.into_writer-out.ensures at (c.send_rest-flushed.ensures.sends u w))
     g.R.Input.reads (λ s. slice_range s.buffer s.position s.filled) (λ s. s.reader) (λ s got t h. h.1) c.new-source.ensures.empty))
 
 pub returns-clause-made : goal.returns-clause-made
@@ -28,5 +26,4 @@ returns-clause-made g c n is =
     rw (c.ending_of.ensures, c.into_writer.ensures, sym writer)
     (wrote_performs writes flushes _ _ _ _ n (c.run-status.ensures.made n is) _ _ (λ o. buffer_writer o) (λ o. buffer_bytes o) (λ s. sink_writer s) (λ s piece r t h. h.1) (λ a bytes r b w. w) (λ a r b f. f.0)
     fresh _ _ (λ e. c.send_rest-flushed.ensures.failed e ∙ c.into_writer-out.ensures)
-    (λ u w. subst (λ o. FlushesOut writes flushes c.send_rest-flushed.result (buffer_bytes o) (buffer_bytes c.send_rest-flushed.new.out) (buffer_writer o) (buffer_writer c.send_rest-flushed.new.out))
-    c.into_writer-out.ensures (c.send_rest-flushed.ensures.sends u w)))
+    (λ u w. rw c.into_writer-out.ensures at (c.send_rest-flushed.ensures.sends u w)))
