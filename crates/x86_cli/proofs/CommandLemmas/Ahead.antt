@@ -25,12 +25,8 @@ unfolding text_at
 image_same max bytes s t = refl
 
 rest_split : (ended : Option Ending) (w : List ℕ) (len p r : ℕ) (xs : List ℕ) (stop : Stop) → rest_of ended w p r xs stop ≡ with_bytes (take len w) (rest_of ended (drop len w) p r xs stop)
-rest_split None w len p r xs stop =
-    let t = text_at p r xs stop in
-    let split : w ++ t.image ≡ take len w ++ (drop len w ++ t.image) =
-    ap (λ v. v ++ t.image) (sym (take-append-drop len w)) ∙ append_assoc (take len w) (drop len w) t.image in
-    ap (λ i. record { image = i; ending = t.ending }) split
-rest_split (Some e) w len p r xs stop = ap (λ i. record { image = i; ending = e }) (sym (take-append-drop len w))
+rest_split None w len p r xs stop = rw (sym (append_assoc (take len w) (drop len w) (text_at p r xs stop).image), take-append-drop len w) refl
+rest_split (Some e) w len p r xs stop = rw take-append-drop refl
 
 longer : (n len : ℕ) (w : List ℕ) → len ≤ length w → (walked : List ℕ) → length walked ≡ n → length (walked ++ take len w) ≡ n + len
 longer n len w le walked is = simp length-append (omega (arith, length-take-le len w le, is))

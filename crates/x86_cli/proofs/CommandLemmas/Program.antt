@@ -56,12 +56,7 @@ module _ {W : Type 0} (writes : W → List ℕ → Result ℕ Error → W → Ty
   finishes_flushed status bs cs a b d ne f c ends =
       let j : Caused writes flushes {A = ⊤} {E = SinkFailed} (Ok tt) (bs ++ cs) a d = caused_join writes flushes tt (Ok tt) bs cs a b d f c in
       record {
-        caused = record {
-          calls = j.calls;
-          did = j.did;
-          cause = rw (no_fault status ne) j.cause;
-          sends = j.sends;
-        };
+        caused = record { calls = j.calls; did = j.did; cause = rw (no_fault status ne) j.cause; sends = j.sends };
         flushed = λ _. flush_joined c.calls f.calls ends;
       }
 

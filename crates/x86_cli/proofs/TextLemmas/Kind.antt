@@ -32,13 +32,10 @@ unfolding value_of
 small b = grind (arith, common_steps)
 
 pub is_kind : (b : ℕ) → IsKind (kind b) b
-is_kind b = by (is_blank b) (value_of b) refl refl (small b) (value-blank b)
-  where
-    by : (blank : Bool) (value : Option ℕ) → is_blank b ≡ blank → value_of b ≡ value → IfSome value (λ v. v < 16) → (is_blank b ≡ true → value_of b ≡ None) →
-        IsKind (kind_by blank value) b
-    by true value e f s none = (e, none e)
-    by false (Some v) e f s none = (e, f, s)
-    by false None e f s none = (e, f)
+is_kind b =
+    let s = small b in
+    let n = value-blank b in
+    grind arith
 
 pub no_digit : (k : Kind) (b : ℕ) → IsKind k b → (k ≡ Blank) ⊎ (k ≡ Other) → value_of b ≡ None
 no_digit k b h e = grind arith

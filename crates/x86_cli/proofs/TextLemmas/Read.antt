@@ -7,7 +7,7 @@ use Rattle.x86_cli.specs.Outside.Stop.{Stop, End, Failed}
 use Rattle.x86_cli.specs.declared.text.reader.Piece.{Piece}
 use Rattle.x86_cli.specs.declared.text.reader.Piece.TheVariants.{Byte, Stopped}
 use Rattle.x86_cli.specs.Text.{Text, is_blank, value_of, text_at}
-use Rattle.x86_cli.specs.Text.Reading.{NeedsMore, CalledWhere, SourceCalls, Reads}
+use Rattle.x86_cli.specs.Text.Reading.{NeedsMore, CalledWhere, SourceCalls, MayCome, HasNoStop, with_piece, Reads}
 use Rattle.x86_cli.proofs.TextLemmas.Text.{text-end, text-failed, text-large, text-blank, text-bad, text-half, text-half_failed, text-half_large, text-half_bad, text-pair}
 
 -- what held at calls, one after the other
@@ -114,57 +114,42 @@ module _ {S : Type 0} (gives : S → Got → S → Type 0) where
   half_called : (p r q s x v : ℕ) (a b : S) → AfterOpcode p r q s x v a b → NeedsMore 1 (text_at p r (x ∷ []) Failed)
   half_called p r q s x v a b following = let room : r ≡ suc s = omega (arith, following.room) in rw room (more_half p s x v following.blank following.digit)
 
+  -- the digit, and what came after it
+  after_digit : (result : Piece) (p r q s q' s' x v : ℕ) (a b d : S) (ys : List ℕ) (stop : Option Stop) → AfterOpcode p r q s x v a b → SourceCalls gives ys stop b d →
+      CalledWhere (NeedsMore 1) (λ zs s. text_at p r (x ∷ zs) s) ys stop → HasNoStop result stop →
+      ((xs : List ℕ) (s : Stop) → MayCome stop xs s → text_at p r (x ∷ (ys ++ xs)) s ≡ with_piece result (text_at q' s' xs s)) → Reads gives result p r q' s' a d
+  after_digit result p r q s q' s' x v a b d ys stop following calls called continues reports =
+      record { bytes = x ∷ ys; stop = stop; source_calls = (b, following.source_calls, calls); called = (more_new p r, called); continues = continues; reports = reports }
+
   pub half_end : (p r q s x v : ℕ) (a b d : S) → AfterOpcode p r q s x v a b → gives b got.End d → Reads gives (Stopped (Bad q)) p r q s a d
-  half_end p r q s x v a b d following e = record {
-    bytes = x ∷ [];
-    stop = Some End;
-    source_calls = (b, following.source_calls, e);
-    called = (more_new p r, half_called p r q s x v a b following);
-    continues = tt;
-    reports = λ xs stop may. let room : r ≡ suc s = omega (arith, following.room) in rw (may.0, may.1, room, following.position) (text-half p s x v following.blank following.digit);
-  }
+  half_end p r q s x v a b d following e =
+      let room : r ≡ suc s = omega (arith, following.room) in
+      after_digit (Stopped (Bad q)) p r q s q s x v a b d [] (Some End) following e (half_called p r q s x v a b following) tt
+      (λ xs stop may. rw (may.0, may.1, room, following.position) (text-half p s x v following.blank following.digit))
 
   pub half_failed : (p r q s x v : ℕ) (a b d : S) → AfterOpcode p r q s x v a b → gives b got.Failed d → Reads gives (Stopped Fault) p r q s a d
-  half_failed p r q s x v a b d following e = record {
-    bytes = x ∷ [];
-    stop = Some Failed;
-    source_calls = (b, following.source_calls, e);
-    called = (more_new p r, half_called p r q s x v a b following);
-    continues = tt;
-    reports = λ xs stop may. let room : r ≡ suc s = omega (arith, following.room) in rw (may.0, may.1, room) (text-half_failed p s x v following.blank following.digit);
-  }
+  half_failed p r q s x v a b d following e =
+      let room : r ≡ suc s = omega (arith, following.room) in
+      after_digit (Stopped Fault) p r q s q s x v a b d [] (Some Failed) following e (half_called p r q s x v a b following) tt
+      (λ xs stop may. rw (may.0, may.1, room) (text-half_failed p s x v following.blank following.digit))
 
   pub half_large : (p r q s x v y : ℕ) (a b d : S) → AfterOpcode p r q s x v a b → s ≡ 0 → gives b (got.Byte y) d → Reads gives (Stopped Large) p r q s a d
-  half_large p r q s x v y a b d following none e = record {
-    bytes = x ∷ y ∷ [];
-    stop = None;
-    source_calls = (b, following.source_calls, (d, e, refl));
-    called = (more_new p r, (half_called p r q s x v a b following, tt));
-    continues = tt;
-    reports = λ xs stop may. let room : r ≡ 1 = omega (arith, following.room) in rw room (text-half_large p x y v xs stop following.blank following.digit);
-  }
+  half_large p r q s x v y a b d following none e =
+      let room : r ≡ 1 = omega (arith, following.room) in
+      after_digit (Stopped Large) p r q s q s x v a b d (y ∷ []) None following (d, e, refl) (half_called p r q s x v a b following, tt) tt
+      (λ xs stop may. rw room (text-half_large p x y v xs stop following.blank following.digit))
 
   pub half_bad : (p r q s x v y : ℕ) (a b d : S) → AfterOpcode p r q s x v a b → 0 < s → gives b (got.Byte y) d → value_of y ≡ None → Reads gives (Stopped (Bad q)) p r q s a d
   half_bad p r q zero x v y a b d following some e digit = absurd (omega arith)
-  half_bad p r q (suc s) x v y a b d following some e digit = record {
-    bytes = x ∷ y ∷ [];
-    stop = None;
-    source_calls = (b, following.source_calls, (d, e, refl));
-    called = (more_new p r, (half_called p r q (suc s) x v a b following, tt));
-    continues = tt;
-    reports = λ xs stop may. let room : r ≡ suc (suc s) = omega (arith, following.room) in rw (room, following.position) (text-half_bad p s x y v xs stop following.blank following.digit digit);
-  }
+  half_bad p r q (suc s) x v y a b d following some e digit =
+      let room : r ≡ suc (suc s) = omega (arith, following.room) in
+      after_digit (Stopped (Bad q)) p r q (suc s) q (suc s) x v a b d (y ∷ []) None following (d, e, refl) (half_called p r q (suc s) x v a b following, tt) tt
+      (λ xs stop may. rw (room, following.position) (text-half_bad p s x y v xs stop following.blank following.digit digit))
 
   pub half_pair : (p r q s q' s' x v y w : ℕ) (a b d : S) → AfterOpcode p r q s x v a b → gives b (got.Byte y) d → value_of y ≡ Some w →
       q' ≡ q + 1 → s' + 1 ≡ s → Reads gives (Byte (16 * v + w)) p r q' s' a d
-  half_pair p r q s q' s' x v y w a b d following e digit eq es = record {
-    bytes = x ∷ y ∷ [];
-    stop = None;
-    source_calls = (b, following.source_calls, (d, e, refl));
-    called = (more_new p r, (half_called p r q s x v a b following, tt));
-    continues = refl;
-    reports = λ xs stop may.
-        let room : r ≡ suc (suc s') = omega (arith, following.room) in
-        let position : q' ≡ p + 2 = omega (arith, following.position) in
-        rw (room, position) (text-pair p s' x y v w xs stop following.blank following.digit digit);
-  }
+  half_pair p r q s q' s' x v y w a b d following e digit eq es =
+      let room : r ≡ suc (suc s') = omega (arith, following.room) in
+      let position : q' ≡ p + 2 = omega (arith, following.position) in
+      after_digit (Byte (16 * v + w)) p r q s q' s' x v a b d (y ∷ []) None following (d, e, refl) (half_called p r q s x v a b following, tt) refl
+      (λ xs stop may. rw (room, position) (text-pair p s' x y v w xs stop following.blank following.digit digit))
