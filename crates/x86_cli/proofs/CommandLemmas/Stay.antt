@@ -1,9 +1,8 @@
 -- A listing that is refused stays when text is appended.
-use Rattle.std.proofs.Common.{◌≡◌, ◌≢◌, ℕ, zero, suc, ◌+◌, ◌-◌, ◌*◌, ◌<◌, Bool, true, false, List, [], ◌∷◌, ◌++◌, length, take, Option, Some, None, Result, Ok, Err, if◌then◌else◌, refl, arith, ap, ◌∙◌, sym}
+use Rattle.std.proofs.Common.{◌≡◌, ◌≢◌, ℕ, zero, suc, ◌+◌, ◌-◌, ◌*◌, ◌<◌, Bool, true, false, List, [], ◌∷◌, ◌++◌, length, take, Option, Some, None, Result, Ok, if◌then◌else◌, refl, arith, ap}
 use Rattle.std.proofs.lemmas.List.{take-append-le}
 use Rattle.x86_decode.specs.declared.instructions.Instruction.{Instruction}
 use Rattle.x86_fields.specs.declared.errors.DecodeError.{DecodeError}
-use Rattle.x86_fields.specs.declared.errors.DecodeError.TheVariants.{ExhaustedInput}
 use Rattle.x86_decode.specs.Answer.{answer_of}
 use Rattle.x86_cli.specs.declared.text.reader.Ending.{Ending}
 use Rattle.x86_cli.specs.declared.text.reader.Ending.TheVariants.{Fault}
@@ -11,10 +10,9 @@ use Rattle.x86_cli.specs.Outside.Stop.{Stop, Failed}
 use Rattle.x86_cli.specs.declared.listings.status.Status.TheVariants as outcome
 use Rattle.x86_cli.specs.declared.commands.command.Command.{Command}
 use Rattle.x86_cli.specs.declared.commands.command.Command.TheVariants.{List as Listed, Sweep as Swept, Targets as Targeted, Fields as Fielded, Tighten as Tightened}
-use Rattle.x86_cli.specs.Listings.Line.{line}
 use Rattle.x86_cli.specs.Commands.Command.{listing_for}
 use Rattle.x86_cli.specs.Text.{Text, is_blank, value_of, paired, image_of, text_at, text_of}
-use Rattle.x86_cli.specs.Listings.Listing.{Listing, with_lines, at_end, decoded_of, decoded_at_end, decoded_before_end, listed, listing_from, listing_of}
+use Rattle.x86_cli.specs.Listings.Listing.{Listing, at_end, decoded_of, decoded_at_end, listed, listing_from, listing_of}
 use Rattle.x86_cli.specs.DecoderLaws.{DecoderLaws}
 use Rattle.x86_cli.proofs.TextLemmas.Decoded.{decoded-stays, closed_rest}
 
@@ -54,16 +52,10 @@ module _ (strict : Bool) (laws : DecoderLaws strict) (text : ℕ → Instruction
       (same : (k : ℕ) → (after k).status ≡ outcome.Refused → after' k ≡ after k) where
     first_stays : (a : Result Instruction DecodeError) → answer_of strict w ≡ a → (listed strict text (decoded_at_end a Fault) n w after).status ≡ outcome.Refused →
         listed strict text (decoded_of strict (w ++ more) e) n (w ++ more) after' ≡ listed strict text (decoded_at_end a Fault) n w after
-    first_stays (Ok i) h refused =
-        let taken : take i.length (w ++ more) ≡ take i.length w = take-append-le i.length w more (laws.lengths w i h).1 in
-        let sure : answer_of strict w ≢ Err ExhaustedInput = λ f. absurd (cc) in
-        ap (λ f. listed strict text f n (w ++ more) after') (decoded-stays strict laws w more e sure ∙ ap decoded_before_end h)
-        ∙ ap (λ ys. with_lines (line (text n i ys) ∷ []) (after' (i.length - 1))) taken
-        ∙ ap (with_lines (line (text n i (take i.length w)) ∷ [])) (same (i.length - 1) refused)
-    first_stays (Err ExhaustedInput) h refused = cc
-    first_stays (Err error) h refused =
-        let sure : answer_of strict w ≢ Err ExhaustedInput = λ f. let g : Err error ≡ Err ExhaustedInput = sym h ∙ f in cc in
-        ap (λ f. listed strict text f n (w ++ more) after') (decoded-stays strict laws w more e sure ∙ ap decoded_before_end h)
+    first_stays a h refused =
+        let stays = decoded-stays strict laws w more e in
+        let within = λ (i : Instruction) (f : answer_of strict w ≡ Ok i). take-append-le i.length w more (laws.lengths w i f).1 in
+        grind arith
 
     decoded_refused : (listed strict text (decoded_of strict w Fault) n w after).status ≡ outcome.Refused →
         listed strict text (decoded_of strict (w ++ more) e) n (w ++ more) after' ≡ listed strict text (decoded_of strict w Fault) n w after
@@ -83,7 +75,7 @@ module _ (strict : Bool) (laws : DecoderLaws strict) (text : ℕ → Instruction
   list_stays t t' beginning fault refused = rw (fault, beginning.whole) (listing_stays 0 0 t.image beginning.more t'.ending (rw fault at refused))
 
 unrefused : (t : Text) → t.ending ≡ Fault → (at_end t.ending).status ≢ outcome.Refused
-unrefused t fault refused = let e : outcome.ReadFault ≡ outcome.Refused = ap (λ e. (at_end e).status) (sym fault) ∙ refused in cc
+unrefused t fault = rw fault (λ f. cc)
 
 module _ (laws : (strict : Bool) → DecoderLaws strict) where
   command_stays : (c : Command) (t t' : Text) → IsBeginning t.image t'.image → t.ending ≡ Fault → (listing_for c t).status ≡ outcome.Refused → listing_for c t' ≡ listing_for c t

@@ -10,7 +10,7 @@ use Rattle.x86_decode.specs.Grammar.{IsAnswer, IsAccepted, IsSentence}
 use Rattle.x86_cli.specs.declared.text.reader.Ending.{Ending}
 use Rattle.x86_cli.specs.declared.text.window.Decoded.TheVariants.{Whole}
 use Rattle.x86_cli.specs.Listings.Line.{line}
-use Rattle.x86_cli.specs.Listings.Listing.{Listing, with_lines, at_end, decoded_of, listed, decoded_at_end, listing_from}
+use Rattle.x86_cli.specs.Listings.Listing.{Listing, with_lines, at_end, decoded_of, listing_from}
 use Rattle.x86_cli.specs.Listings.Grammar.{at_error, EndsListing, AreLines, IsListing}
 use Rattle.x86_cli.proofs.ListingLemmas.Listing.{listing-whole}
 
@@ -25,14 +25,10 @@ module _ (strict : Bool) (laws : GrammarLaws strict) (text : ℕ → Instruction
   IsHere place image e l = IsListing (rows_of packed) strict text place image e l
 
   -- what is left, where its answer is an error
-  listed_error : (error : DecodeError) (e : Ending) (n : ℕ) (xs : List ℕ) (after : ℕ → Listing) →
-      listed strict text (decoded_at_end (Err error) e) n xs after ≡ at_error n error e
-  listed_error error e n xs after = grind arith
-
   error_here : (n x : ℕ) (xs : List ℕ) (e : Ending) (error : DecodeError) → Err error ≡ answer_of strict (x ∷ xs) →
       listing_from strict text n 0 (x ∷ xs) e ≡ at_error n error e
   unfolding listing_from decoded_of
-  error_here n x xs e error h = let same : answer_of strict (x ∷ xs) ≡ Err error = sym h in rw same (listed_error error e n (x ∷ xs) _)
+  error_here n x xs e error h = grind arith
 
   end_here : (n : ℕ) (xs : List ℕ) (e : Ending) (last : Listing) → EndsListing (rows_of packed) strict n xs e last →
       last ≡ listing_from strict text n 0 xs e

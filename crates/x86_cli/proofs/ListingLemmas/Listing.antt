@@ -18,9 +18,8 @@ module _ (strict : Bool) (text : ℕ → Instruction → List ℕ → List ℕ) 
   listing-skip n zero xs e le = let same : n + 0 ≡ n = omega arith in rw same refl
   listing-skip n (suc k) [] e le = absurd (omega arith)
   listing-skip n (suc k) (x ∷ xs) e le =
-      let le' : k ≤ length xs = omega arith in
       let place : n + suc k ≡ (n + 1) + k = omega arith in
-      rw place (listing-skip (n + 1) k xs e le')
+      rw place (listing-skip (n + 1) k xs e (omega arith))
 
   whole-at : (n k : ℕ) (xs : List ℕ) (e : Ending) (i : Instruction) → decoded_of strict xs e ≡ Whole i → i.length ≡ suc k → suc k ≤ length xs →
       listing_from strict text n 0 xs e ≡ with_lines (line (text n i (take i.length xs)) ∷ []) (listing_from strict text (n + suc k) 0 (drop (suc k) xs) e)
@@ -28,9 +27,8 @@ module _ (strict : Bool) (text : ℕ → Instruction → List ℕ → List ℕ) 
   whole-at n k [] e i h len le = absurd (omega arith)
   whole-at n k (x ∷ xs) e i h len le =
       let less : i.length - 1 ≡ k = omega arith in
-      let le' : k ≤ length xs = omega arith in
       let place : n + suc k ≡ (n + 1) + k = omega arith in
-      rw (h, less, place) (ap (with_lines (line (text n i (take i.length (x ∷ xs))) ∷ [])) (listing-skip (n + 1) k xs e le'))
+      rw (h, less, place) (ap (with_lines (line (text n i (take i.length (x ∷ xs))) ∷ [])) (listing-skip (n + 1) k xs e (omega arith)))
 
   pub listing-whole : (n : ℕ) (xs : List ℕ) (e : Ending) (i : Instruction) → decoded_of strict xs e ≡ Whole i → 0 < i.length → i.length ≤ length xs →
       listing_from strict text n 0 xs e ≡ with_lines (line (text n i (take i.length xs)) ∷ []) (listing_from strict text (n + i.length) 0 (drop i.length xs) e)

@@ -1,5 +1,5 @@
 -- The next step of a listing that ends at a refusal.
-use Rattle.std.proofs.Common.{◌≡◌, Bool, ℕ, ◌+◌, ◌<◌, ◌≤◌, List, [], ◌∷◌, ◌++◌, length, take, drop, Option, Some, None, arith, ap, ◌∙◌, length-append}
+use Rattle.std.proofs.Common.{◌≡◌, Bool, ℕ, ◌+◌, ◌<◌, ◌≤◌, List, [], ◌∷◌, ◌++◌, length, take, drop, Option, Some, None, arith, sym, length-append}
 use Rattle.std.proofs.lemmas.List.{drop-append-le, take-append-le}
 use Rattle.x86_decode.specs.declared.instructions.Instruction.{Instruction}
 use Rattle.x86_fields.specs.declared.errors.DecodeError.{DecodeError}
@@ -10,7 +10,7 @@ use Rattle.x86_cli.specs.declared.text.window.Decoded.{Decoded}
 use Rattle.x86_cli.specs.declared.text.window.Decoded.TheVariants.{Whole, Refused, Ended}
 use Rattle.x86_cli.specs.declared.listings.listing.Step.TheVariants as step
 use Rattle.x86_cli.specs.Listings.Line.{line}
-use Rattle.x86_cli.specs.Listings.Listing.{Listing, with_lines, decoded_of, listing_from, listing_at}
+use Rattle.x86_cli.specs.Listings.Listing.{Listing, with_lines, decoded_of, listing_at}
 use Rattle.x86_cli.specs.Listings.Step.{IsStep}
 use Rattle.x86_cli.specs.Text.Window.{with_bytes, rest_of}
 use Rattle.x86_cli.proofs.ListingLemmas.Listing.{listing-whole, listing-refused, listing-ended}
@@ -23,11 +23,7 @@ module _ (strict : Bool) (text : ℕ → Instruction → List ℕ → List ℕ) 
       at n (with_bytes w more) ≡ with_lines (line (text n i (take i.length w)) ∷ []) (at (n + i.length) (with_bytes (drop i.length w) more))
   line_after n w i more h some le =
       let fits : i.length ≤ length (w ++ more.image) = simp length-append (omega arith) in
-      let dropped = drop-append-le i.length w more.image le in
-      let taken : take i.length (w ++ more.image) ≡ take i.length w = take-append-le i.length w more.image le in
-      listing-whole strict text n (w ++ more.image) more.ending i h some fits
-      ∙ ap (λ ys. with_lines (line (text n i ys) ∷ []) (listing_from strict text (n + i.length) 0 (drop i.length (w ++ more.image)) more.ending)) taken
-      ∙ ap (λ ys. with_lines (line (text n i (take i.length w)) ∷ []) (listing_from strict text (n + i.length) 0 ys more.ending)) dropped
+      rw (sym (drop-append-le i.length w more.image le), sym (take-append-le i.length w more.image le)) (listing-whole strict text n (w ++ more.image) more.ending i h some fits)
 
   rest_line : (ended : Option Ending) (n : ℕ) (w : List ℕ) (i : Instruction) (p r : ℕ) (xs : List ℕ) (stop : Stop) →
       decoded_of strict (rest_of ended w p r xs stop).image (rest_of ended w p r xs stop).ending ≡ Whole i → 0 < i.length → i.length ≤ length w →

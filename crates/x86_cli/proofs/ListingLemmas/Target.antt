@@ -1,5 +1,5 @@
 -- The targets place by place.
-use Rattle.std.proofs.Common.{Bool, true, false, ◌≡◌, ℕ, suc, ◌+◌, ◌-◌, ◌<◌, List, [], ◌∷◌, ◌++◌, map, length, refl, arith, ap, ◌∙◌, sym, if◌then◌else◌}
+use Rattle.std.proofs.Common.{Bool, ◌≡◌, ℕ, suc, ◌+◌, ◌-◌, ◌<◌, List, [], ◌∷◌, ◌++◌, map, length, refl, arith, ap, ◌∙◌, sym, if◌then◌else◌}
 use Rattle.std.specs.List.{filter, range_with_len}
 use Rattle.x86_layout.specs.Sweeps.Marks.{is_marked}
 use Rattle.x86_cli.specs.declared.text.reader.Ending.{Ending}
@@ -10,8 +10,7 @@ use Rattle.x86_cli.proofs.ListingLemmas.Progress.{with-with}
 
 map-filter_first : (test : ℕ → Bool) (f : ℕ → List ℕ) (x : ℕ) (xs : List ℕ) (b : Bool) → test x ≡ b →
     map f (filter test (x ∷ xs)) ≡ (if b then f x ∷ [] else []) ++ map f (filter test xs)
-map-filter_first test f x xs true e = rw e refl
-map-filter_first test f x xs false e = rw e refl
+map-filter_first test f x xs b e = grind arith
 
 module _ (strict : Bool) where
   -- one place further

@@ -56,9 +56,7 @@ module _ (strict : Bool) (laws : DecoderLaws strict) where
   closed_rest w a e some h = grind arith
 
   pub closed_shows : (w : List ℕ) (a : Result Instruction DecodeError) (e : Ending) → answer_of strict w ≡ a → Shows strict (decoded_at_end a e) (Some e) w
-  closed_shows w (Ok i) e h = shows-sure w (Ok i) (Some e) h (λ f. cc)
-  closed_shows w (Err ExhaustedInput) e' h = grind arith
-  closed_shows w (Err error) e h = shows-sure w (Err error) (Some e) h (λ f. cc)
+  closed_shows w a e h = let sure = shows-sure w a (Some e) h in grind arith
 
   pub empty_rest : (w : List ℕ) (e : Ending) → length w ≡ 0 → decoded_of strict w e ≡ Ended e
   unfolding decoded_of

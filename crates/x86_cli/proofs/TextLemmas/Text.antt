@@ -50,11 +50,7 @@ pub text-blank : (p r x : ℕ) (xs : List ℕ) (stop : Stop) → is_blank x ≡ 
     text_at p (suc r) (x ∷ xs) stop ≡ text_at (p + 1) r xs stop
 unfolding text_at
 text-blank p r x xs stop e =
-    let i = image-blank x (take r xs) e in
-    let b = bad-blank x (take r xs) e in
-    let h = half-blank x (take r xs) e (value-blank x e) in
-    let n = ending-blank p (bad_of (take r xs)) (drop r xs) (ends_in_half (take r xs)) (length xs) stop in
-    rw (i, b, h, n) refl
+    grind (arith, image-blank, bad-blank, half-blank, value-blank, ending-blank)
 
 -- no digit and no blank
 
