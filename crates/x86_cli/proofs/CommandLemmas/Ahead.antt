@@ -46,8 +46,7 @@ module _ {S K : Type 0} (gives : S → Got → S → Type 0) (takes : K → List
   image_taken None is =
       let open_yet : s.stop ≡ None = rw is at s.continues in
       let whole : text_of max (s.bytes ++ []) Failed ≡ with_bytes s.walked (rest_of None w p r [] Failed) = rw is at (s.beginning [] Failed (rw open_yet tt)) in
-      let image : (text_of max s.bytes Failed).image ≡ s.walked ++ (w ++ (text_at p r [] Failed).image) = rw append-nil at (ap (λ t. t.image) whole) in
-      image ∙ ap (λ t. s.walked ++ (w ++ t.image)) (text-failed p r) ∙ ap (λ v. s.walked ++ v) (append-nil w)
+      simp (append-nil, text-failed p r) at (ap (λ t. t.image) whole)
   image_taken (Some e) is =
       let stop = some_stop s.stop in
       let whole : text_of max (s.bytes ++ []) stop.0 ≡ with_bytes s.walked (rest_of (Some e) w p r [] stop.0) = rw is at (s.beginning [] stop.0 stop.1) in

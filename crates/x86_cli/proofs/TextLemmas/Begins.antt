@@ -1,8 +1,8 @@
 -- What the bytes that a text begins with say of it.
-use Rattle.std.proofs.Common.{◌≡◌, ℕ, suc, ◌+◌, ◌*◌, ◌<◌, ◌≤◌, List, [], ◌∷◌, ◌++◌, length, refl, arith, Some, None, true, false, ap, ◌∙◌, sym, subst, append_assoc, length-append}
+use Rattle.std.proofs.Common.{◌≡◌, ℕ, suc, ◌+◌, ◌*◌, ◌<◌, ◌≤◌, List, [], ◌∷◌, ◌++◌, length, refl, arith, Some, None, true, false, ap, ◌∙◌, sym, append_assoc, length-append}
 use Rattle.x86_cli.specs.declared.outside.source.Got.{Got}
 use Rattle.x86_cli.specs.Outside.Stop.{Failed}
-use Rattle.x86_cli.specs.Text.{Text, is_blank, value_of, text_at}
+use Rattle.x86_cli.specs.Text.{is_blank, value_of, text_at}
 use Rattle.x86_cli.specs.Text.Reading.{NeedsMore, SourceCalls}
 use Rattle.x86_cli.specs.Text.Window.{with_bytes, rest_of, Begins, Fills}
 use Rattle.x86_cli.proofs.TextLemmas.Text.{text-blank, text-pair}
@@ -21,9 +21,7 @@ begins_none most = record {
 module _ (most : ℕ) (bs vs : List ℕ) (b : Begins most bs vs) (few : length vs < most) where
   -- a text so begun needs more where that of the bytes after it does
   needs : (p r : ℕ) (ys : List ℕ) → NeedsMore 1 (text_at (p + length bs) r ys Failed) → NeedsMore most (text_at p (length bs + r) (bs ++ ys) Failed)
-  needs p r ys h =
-      let fits : length vs + 1 ≤ most = omega (arith, few) in
-      subst (NeedsMore most) (sym (b.rest p r ys Failed)) (more_after most 1 vs _ fits h)
+  needs p r ys h = rw (b.rest p r ys Failed) (more_after most 1 vs _ (omega (arith, few)) h)
 
   pub begins_blank : (x : ℕ) → is_blank x ≡ true → Begins most (bs ++ x ∷ []) vs
   begins_blank x blank = record {
@@ -33,8 +31,7 @@ module _ (most : ℕ) (bs vs : List ℕ) (b : Begins most bs vs) (few : length v
     rest = λ p r xs s.
         let room : length (bs ++ x ∷ []) + r ≡ length bs + suc r = simp length-append (omega arith) in
         let after : p + length bs + 1 ≡ p + length (bs ++ x ∷ []) = simp length-append (omega arith) in
-        rw (room, append_assoc) (b.rest p (suc r) (x ∷ xs) s ∙ ap (with_bytes vs) (text-blank (p + length bs) r x xs s blank)
-        ∙ ap (λ q. with_bytes vs (text_at q r xs s)) after);
+        rw (room, sym after) (simp append_assoc (b.rest p (suc r) (x ∷ xs) s ∙ ap (with_bytes vs) (text-blank (p + length bs) r x xs s blank)));
   }
 
   pub begins_pair : (x y v w : ℕ) → is_blank x ≡ false → value_of x ≡ Some v → value_of y ≡ Some w →
@@ -47,13 +44,9 @@ module _ (most : ℕ) (bs vs : List ℕ) (b : Begins most bs vs) (few : length v
           (needs p (suc (suc r)) (x ∷ []) (more_half (p + length bs) (suc r) x v blank high), tt),
         ));
     rest = λ p r xs s.
-        let t : Text = text_at (p + length bs + 2) r xs s in
         let room : length (bs ++ x ∷ y ∷ []) + r ≡ length bs + suc (suc r) = simp length-append (omega arith) in
         let after : p + length bs + 2 ≡ p + length (bs ++ x ∷ y ∷ []) = simp length-append (omega arith) in
-        let image : vs ++ ((16 * v + w) ∷ t.image) ≡ (vs ++ (16 * v + w) ∷ []) ++ t.image = sym (append_assoc vs ((16 * v + w) ∷ []) t.image) in
-        rw (room, append_assoc bs (x ∷ y ∷ []) xs) (b.rest p (suc (suc r)) (x ∷ y ∷ xs) s ∙ ap (with_bytes vs) (text-pair (p + length bs) r x y v w xs s blank high low)
-        ∙ ap (λ i. record { image = i; ending = t.ending }) image
-        ∙ ap (λ q. with_bytes (vs ++ (16 * v + w) ∷ []) (text_at q r xs s)) after);
+        rw (room, sym after) (simp append_assoc (b.rest p (suc (suc r)) (x ∷ y ∷ xs) s ∙ ap (with_bytes vs) (text-pair (p + length bs) r x y v w xs s blank high low)));
   }
 
 module _ {S : Type 0} (gives : S → Got → S → Type 0) where
@@ -68,8 +61,5 @@ module _ {S : Type 0} (gives : S → Got → S → Type 0) where
     called = called-where (NeedsMore most) (NeedsMore k) (text_at p (length bs + r')) (rest_of None w p (length bs + r')) bs None
         (λ xs h. more_after k most w (text_at p (length bs + r') xs Failed) fits h) (begins.called p r');
     continues = refl;
-    rest = λ xs s may.
-        let t : Text = text_at (p + length bs) r' xs s in
-        let image : w ++ (vs ++ t.image) ≡ (w ++ vs) ++ t.image = sym (append_assoc w vs t.image) in
-        ap (with_bytes w) (begins.rest p r' xs s) ∙ ap (λ i. record { image = i; ending = t.ending }) image;
+    rest = λ xs s may. simp (begins.rest p r' xs s, append_assoc);
   })

@@ -43,9 +43,7 @@ module _ {S : Type 0} (gives : S → Got → S → Type 0) (Holds : Text → Typ
       source_calls = joined read.bytes None d (rw read.continues at read.source_calls);
       called = also read.bytes None (rw read.continues at read.called);
       rest = λ xs stop.
-          let t : Text = text_at p' r' xs stop in
-          rw append_assoc (so_far.rest (read.bytes ++ xs) stop ∙ ap (with_bytes w) (read.reports xs stop (rw read.continues tt))
-          ∙ ap (λ i. record { image = i; ending = t.ending }) (sym (append_assoc w (v ∷ []) t.image)));
+          simp append_assoc (so_far.rest (read.bytes ++ xs) stop ∙ ap (with_bytes w) (read.reports xs stop (rw read.continues tt)));
     }
 
     pub stopped : (e : Ending) (p' r' p'' r'' : ℕ) (d : S) → Reads gives (Stopped e) p r p' r' b d → Fills gives Holds old (Some e) w p'' r'' a d
@@ -56,8 +54,7 @@ module _ {S : Type 0} (gives : S → Got → S → Type 0) (Holds : Text → Typ
       called = also read.bytes read.stop read.called;
       continues = tt;
       rest = λ xs stop may.
-          rw append_assoc (so_far.rest (read.bytes ++ xs) stop ∙ ap (with_bytes w) (read.reports xs stop may)
-          ∙ ap (λ i. record { image = i; ending = e }) (append-nil w));
+          rw append_assoc (so_far.rest (read.bytes ++ xs) stop ∙ ap (with_bytes w) (read.reports xs stop may) ∙ simp append-nil);
     }
 
   -- the window is full

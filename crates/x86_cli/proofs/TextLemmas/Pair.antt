@@ -126,20 +126,10 @@ record First (bytes : List ℕ) (n : ℕ) : Type 0 where
   image : image_of (take n bytes) ≡ image_of bytes
 
 first_blank : (a : ℕ) (s : List ℕ) (m : ℕ) → is_blank a ≡ true → First s m → First (a ∷ s) (suc m)
-first_blank a s m e f = record {
-  inside = omega (arith, f.inside);
-  before = bad-blank a (take m s) e ∙ ap (option_map (λ n. 1 + n)) f.before;
-  here = bad-blank a (take (suc m) s) e ∙ ap (option_map (λ n. 1 + n)) f.here ∙ ap Some (omega arith);
-  image = image-blank a (take m s) e ∙ f.image ∙ sym (image-blank a s e);
-}
+first_blank a s m e f = grind (arith, bad-blank, image-blank)
 
 first_pair : (a b v w : ℕ) (s : List ℕ) (m : ℕ) → value_of a ≡ Some v → value_of b ≡ Some w → First s m → First (a ∷ b ∷ s) (suc (suc m))
-first_pair a b v w s m d e f = record {
-  inside = omega (arith, f.inside);
-  before = bad-pair a b v w (take m s) d e ∙ ap (option_map (λ n. 2 + n)) f.before;
-  here = bad-pair a b v w (take (suc m) s) d e ∙ ap (option_map (λ n. 2 + n)) f.here ∙ ap Some (omega arith);
-  image = image-pair a b v w (take m s) d e ∙ ap (λ xs. (16 * v + w) ∷ xs) f.image ∙ sym (image-pair a b v w s d e);
-}
+first_pair a b v w s m d e f = grind (arith, bad-pair, image-pair)
 
 mapped : (k : ℕ) (o : Option ℕ) (n m : ℕ) → option_map (λ x. k + x) o ≡ Some n → n ≡ k + m → o ≡ Some m
 mapped k o n m e is = grind arith
