@@ -15,7 +15,6 @@ use Rattle.x86_cli.specs.Outside.Stop.{Stop, End, Failed}
 use Rattle.x86_cli.specs.declared.text.window.Decoded.TheVariants.{Whole, Refused}
 use Rattle.x86_cli.specs.declared.listings.status.Status.{Status}
 use Rattle.x86_cli.specs.declared.listings.status.Status.TheVariants as outcome
-use Rattle.x86_cli.specs.declared.listings.status.Status.TheVariants.{Done, Usage}
 use Rattle.x86_cli.specs.declared.commands.command.Command.{Command}
 use Rattle.x86_cli.specs.declared.commands.command.Command.TheVariants.{List as Listed, Sweep as Swept, Targets as Targeted, Fields as Fielded, Tighten as Tightened}
 use Rattle.x86_cli.specs.Commands.Command.{Runs, listing_for, goes_past_refusals}
@@ -55,7 +54,7 @@ text_end : (max : ℕ) (bytes : List ℕ) → (text_of max bytes End).ending ≢
 unfolding text_at
 text_end max bytes = grind arith
 
-pub command_used : (c : Command) (t : Text) → (listing_for c t).status ≢ Usage
+pub command_used : (c : Command) (t : Text) → (listing_for c t).status ≢ outcome.Usage
 command_used c t = let h = command_end c t in grind arith
 
 pub command_read : (c : Command) (max : ℕ) (bytes : List ℕ) → (listing_for c (text_of max bytes End)).status ≢ outcome.ReadFault
@@ -77,10 +76,10 @@ lists_other : (other : Status) → outcome.WriteFault ≢ other → (status : St
 lists_other other fault status lines failed l h ne = grind arith
 
 pub ran_used : {S K : Type 0} (gives : S → Got → S → Type 0) (takes : K → List ℕ → Result ⊤ SinkFailed → K → Type 0) (c : Command) (max : ℕ) (status : Status) (a b : S) (k l : K) →
-    Ran gives takes (listing_for c) max status a b k l → status ≢ Usage
+    Ran gives takes (listing_for c) max status a b k l → status ≢ outcome.Usage
 ran_used gives takes c max status a b k l ran =
     let s = some_stop ran.stop in
-    lists_other Usage (λ e. cc) status ran.lines ran.failed _ (ran.lists [] s.0 s.1) (command_used c _)
+    lists_other outcome.Usage (λ e. cc) status ran.lines ran.failed _ (ran.lists [] s.0 s.1) (command_used c _)
 
 -- Commands that continue after refusals are never refused.
 past_refusals : (c : Command) (t : Text) → IsTrue (goes_past_refusals c) → (listing_for c t).status ≢ outcome.Refused
@@ -119,7 +118,7 @@ module _ (strict : Bool) (laws : DecoderLaws strict) (text : ℕ → Instruction
       let ok : answer_of strict s ≢ Err ExhaustedInput = λ e. let f : Ok i ≡ Err ExhaustedInput = sym is.answer ∙ e in cc in
       (i, decoded-stays strict laws s rest Clean ok ∙ ap decoded_before_end is.answer, (laws.lengths s i is.answer).0, is.whole)
 
-  pub sentences_done : (n : ℕ) (ss : List (List ℕ)) → AreSentences strict ss → (listing_from strict text n 0 (concat ss) Clean).status ≡ Done
+  pub sentences_done : (n : ℕ) (ss : List (List ℕ)) → AreSentences strict ss → (listing_from strict text n 0 (concat ss) Clean).status ≡ outcome.Done
   unfolding listing_from
   sentences_done n [] each = refl
   sentences_done n (s ∷ ss) each =
@@ -127,9 +126,7 @@ module _ (strict : Bool) (laws : DecoderLaws strict) (text : ℕ → Instruction
       let i = f.0 in
       let fits : i.length ≤ length (s ++ concat ss) = simp length-append (omega (arith, f.3)) in
       let dropped : drop i.length (s ++ concat ss) ≡ concat ss = rw f.3 (drop-append_seam s (concat ss)) in
-      ap (λ l. l.status) (listing-whole strict text n (s ++ concat ss) Clean i f.1 f.2 fits)
-      ∙ ap (λ xs. (listing_from strict text (n + i.length) 0 xs Clean).status) dropped
-      ∙ sentences_done (n + i.length) ss each.1
+      rw (listing-whole strict text n (s ++ concat ss) Clean i f.1 f.2 fits, dropped) (sentences_done (n + i.length) ss each.1)
 
 -- the listing of a clean text whose image a command goes through
 pub text_done : ((strict : Bool) → DecoderLaws strict) → CompletesTexts

@@ -1,5 +1,5 @@
 -- A listing that is refused stays when text is appended.
-use Rattle.std.proofs.Common.{◌≡◌, ◌≢◌, ℕ, zero, suc, ◌+◌, ◌-◌, ◌*◌, ◌<◌, Bool, true, false, List, [], ◌∷◌, ◌++◌, length, take, Option, Some, None, Result, Ok, if◌then◌else◌, refl, arith, ap}
+use Rattle.std.proofs.Common.{◌≡◌, ◌≢◌, ℕ, zero, suc, ◌+◌, ◌-◌, ◌*◌, ◌<◌, Bool, true, false, List, [], ◌∷◌, ◌++◌, length, take, Option, Some, Result, Ok, if◌then◌else◌, refl, arith, ap}
 use Rattle.std.proofs.lemmas.List.{take-append-le}
 use Rattle.x86_decode.specs.declared.instructions.Instruction.{Instruction}
 use Rattle.x86_fields.specs.declared.errors.DecodeError.{DecodeError}
@@ -26,9 +26,8 @@ record IsBeginning (xs ys : List ℕ) : Type 0 where
 first_pair : (blank : Bool) (high low : Option ℕ) (x y x' y' : List ℕ) → IsBeginning x x' → IsBeginning y y' →
     IsBeginning (if blank then x else paired high low y) (if blank then x' else paired high low y')
 first_pair true high low x y x' y' f g = f
-first_pair false None low x y x' y' f g = record { more = []; whole = refl }
-first_pair false (Some h) None x y x' y' f g = record { more = []; whole = refl }
 first_pair false (Some h) (Some l) x y x' y' f g = record { more = g.more; whole = ap (λ ys. (16 * h + l) ∷ ys) g.whole }
+first_pair blank high low x y x' y' f g = record { more = []; whole = refl }
 
 image_beginning : (bytes xs : List ℕ) → IsBeginning (image_of bytes) (image_of (bytes ++ xs))
 unfolding image_of

@@ -8,7 +8,7 @@ use Rattle.x86_cli.specs.DecoderLaws.{DecoderLaws}
 use Rattle.x86_cli.specs.declared.text.reader.Ending.{Ending}
 use Rattle.x86_cli.specs.declared.listings.status.Status.TheVariants as outcome
 use Rattle.x86_cli.specs.Outside.Stop.{Stop}
-use Rattle.x86_cli.specs.Text.{Text, text_at}
+use Rattle.x86_cli.specs.Text.{text_at}
 use Rattle.x86_cli.specs.Listings.Line.{line}
 use Rattle.x86_cli.specs.Listings.Listing.{with_lines, at_end}
 use Rattle.x86_cli.specs.Text.Window.{rest_of}
@@ -38,10 +38,8 @@ module _ (strict : Bool) where
   rest_cut : (ended : Option Ending) (n : ℕ) (w : List ℕ) (p r : ℕ) (a : Result Instruction DecodeError) → ShowsAnswer strict a ended w p r → (xs : List ℕ) (stop : Stop) →
       sweep_at strict n (rest_of ended w p r xs stop) ≡ with_lines (line (cut_text n a) ∷ []) (sweep_at strict (n + cut_length a) (rest_of ended (drop (cut_length a) w) p r xs stop))
   rest_cut None n w p r a shows xs stop =
-      let t : Text = text_at p r xs stop in
-      let fits : cut_length a ≤ length (w ++ t.image) = simp length-append (omega (arith, shows.fits)) in
-      sweep-cut n (cut_length a) (w ++ t.image) t.ending a (shows.answers xs stop) refl shows.some fits
-      ∙ ap (λ ys. with_lines (line (cut_text n a) ∷ []) (sweep_at strict (n + cut_length a) (record { image = ys; ending = t.ending }))) (drop-append-le (cut_length a) w t.image shows.fits)
+      rw (sym (drop-append-le (cut_length a) w (text_at p r xs stop).image shows.fits))
+      (sweep-cut n (cut_length a) (w ++ (text_at p r xs stop).image) (text_at p r xs stop).ending a (shows.answers xs stop) refl shows.some (simp length-append (omega (arith, shows.fits))))
   rest_cut (Some e) n w p r a shows xs stop = sweep-cut n (cut_length a) w e a (shows.answers xs stop) refl shows.some shows.fits
 
   rest_end : (n : ℕ) (w : List ℕ) (e : Ending) → length w ≡ 0 → sweep_at strict n (record { image = w; ending = e }) ≡ at_end e

@@ -14,9 +14,7 @@ all_go_on [] ds c d = d
 all_go_on (x ∷ cs) ds c d = (c.0, all_go_on cs ds c.1 d)
 
 pub joined_cause : {A E : Type 0} (r : Result A E) (cs ds : List Call) → Cause r cs → AllContinue ds → Cause r (cs ++ ds)
-joined_cause (Ok x) cs ds c d = all_go_on cs ds c d
-joined_cause (Err e) [] ds c d = absurd c
-joined_cause (Err e) (x ∷ cs) ds c d = (c.0, all_go_on cs ds c.1 d)
+joined_cause r cs ds c d = grind (arith, all_go_on)
 
 err_cause : (A B : Type 0) {E F : Type 0} (e : E) (f : F) (cs : List Call) → Cause {A = A} {E = E} (Err e) cs → Cause {A = B} {E = F} (Err f) cs
 err_cause A B e f cs c = grind arith
