@@ -112,9 +112,8 @@ module _ {R W : Type 0} (laws : (strict : Bool) → DecoderLaws strict) (left : 
       let bytes : List ℕ = concat h.pieces in
       let fault = open_failed (text_of (max_of c)) h.pieces Failed (rw is at h.open_yet) in
       let p = printed_taken Refused h is in
-      let ends : (taken_listing c bytes).status ≡ Refused = sym (p.all (λ e. cc)).1 in
       some_left (left r) (left r') bytes (λ b. Has Refused (full_listing c b) (written w) (written w')) (consumed Refused h)
-      (λ xs. (h.bytes, subst (IsPrinted Refused h.bytes) (sym (refused_stays laws c (max_of c) bytes xs End fault ends)) p, wrote Refused h))
+      (λ xs. (h.bytes, rw (refused_stays laws c (max_of c) bytes xs End fault (sym (p.all (λ e. cc)).1)) p, wrote Refused h))
   refused h stop is = of_all Refused h stop is (λ e. absurd (cc))
 
   written_fault : (h : Performs (appends written) (keeps written) (reports left) c WriteFault r r' w w') (stop : Option Stop) → h.stop ≡ stop → Leaves WriteFault c (left r) (written w) (written w')

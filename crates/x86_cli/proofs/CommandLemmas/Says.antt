@@ -69,9 +69,7 @@ called_open text [] stop a = a
 called_open text (x ∷ bytes) stop a = called_open (λ xs s. text (x ∷ xs) s) bytes stop a.1
 
 pub called_failed : (max : ℕ) (bytes : List ℕ) (stop : Option Stop) → CalledWhileOpen (text_of max) bytes stop → stop ≡ Some Failed → (text_of max bytes Failed).ending ≡ Fault
-called_failed max bytes stop called failed =
-    let a : CalledWhileOpen (text_of max) bytes (Some Failed) = rw failed at called in
-    called_open (text_of max) bytes Failed a
+called_failed max bytes stop called failed = called_open (text_of max) bytes Failed (rw failed at called)
 
 -- lines, what was written of one more, and what was not
 pub written_part : (lines : List (List ℕ)) (failed : List ℕ) (n : ℕ) (more : List (List ℕ)) → concat (lines ++ failed ∷ more) ≡ (concat lines ++ take n failed) ++ (drop n failed ++ concat more)
@@ -144,9 +142,7 @@ module _ (laws : (strict : Bool) → DecoderLaws strict) (c : Command) (old new 
   module _ (lines : List (List ℕ)) (failed : List ℕ) (wrote : ReportsPieces lines (Some failed) old.written new.written old.sink_faults new.sink_faults)
       (lists : (xs : List ℕ) (s : Stop) → MayCome stop xs s → Lists WriteFault lines (Some failed) (listing_for c (text_of (max_of c) (bytes ++ xs) s))) where
     prefixes : (xs : List ℕ) (s : Stop) → MayCome stop xs s → WritesPrefix old.written new.written (listing_for c (text_of (max_of c) (bytes ++ xs) s))
-    prefixes xs s may =
-        let l = lists xs s may in
-        prefix_written old.written new.written (listing_for c (text_of (max_of c) (bytes ++ xs) s)) lines failed l.1.0 wrote.0.0 l.1.1 wrote.0.1
+    prefixes xs s may = let l = lists xs s may in prefix_written old.written new.written _ lines failed l.1.0 wrote.0.0 l.1.1 wrote.0.1
 
     abbrev IsPrefix : Listing → Type 0
     IsPrefix = WritesPrefix old.written new.written

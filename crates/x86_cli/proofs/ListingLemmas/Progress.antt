@@ -182,6 +182,4 @@ module _ {S K : Type 0} (gives : S → Got → S → Type 0) (takes : K → List
 
     abbrev pub ran_unclosed : (last : Listing) → ((xs : List ℕ) (stop : Stop) → at n (rest_of ended w p r xs stop) ≡ last) →
         (e : SinkFailed) (m : K) → Closes takes last (Err e) l m → Ran gives takes (at 0) max outcome.WriteFault a b k m
-    ran_unclosed last is e m closes =
-        let whole : last ≡ with_lines (closes.0 ∷ []) (record { lines = []; status = last.status }) = ap (λ ls. record { lines = ls; status = last.status }) closes.1 in
-        ran_failed closes.0 (λ xs stop. (record { lines = []; status = last.status }, is xs stop ∙ whole)) e m closes.2
+    ran_unclosed last is e m closes = ran_failed closes.0 (λ xs stop. (record { lines = []; status = last.status }, is xs stop ∙ ap (λ ls. record { lines = ls; status = last.status }) closes.1)) e m closes.2

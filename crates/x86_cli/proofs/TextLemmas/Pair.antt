@@ -32,10 +32,6 @@ half-pair : (a b v : ℕ) (s : List ℕ) → value_of a ≡ Some v → ends_in_h
 unfolding ends_in_half
 half-pair a b v s d = let f = digit_not_blank a v d in rw f refl
 
-bad-half : (a v : ℕ) → value_of a ≡ Some v → bad_of (a ∷ []) ≡ None
-unfolding bad_of
-bad-half a v d = let f = digit_not_blank a v d in rw (f, d) refl
-
 -- from a sequence
 
 items_bad : (items : List Item) (half : List ℕ) → AreItems items → IsHalf half →
@@ -43,7 +39,7 @@ items_bad : (items : List Item) (half : List ℕ) → AreItems items → IsHalf 
     × (ends_in_half (flat_map bytes_of items ++ half) ≡ is_half half)
 unfolding image_of ends_in_half bad_of
 items_bad [] [] each ok = (refl, refl, refl)
-items_bad [] (d ∷ []) each ok = (bad-half d ok.0 ok.1, refl, rw ok.1 refl)
+items_bad [] (d ∷ []) each ok = let f = digit_not_blank d ok.0 ok.1 in grind arith
 items_bad [] (d ∷ e ∷ ds) each ok = absurd ok
 items_bad (blank b ∷ items) half each ok =
     let h = items_bad items half each.1 ok in
