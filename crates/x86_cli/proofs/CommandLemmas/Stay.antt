@@ -59,8 +59,7 @@ module _ (strict : Bool) (laws : DecoderLaws strict) (text : ℕ → Instruction
     decoded_refused : (listed strict text (decoded_of strict w Fault) n w after).status ≡ outcome.Refused →
         listed strict text (decoded_of strict (w ++ more) e) n (w ++ more) after' ≡ listed strict text (decoded_of strict w Fault) n w after
     decoded_refused refused =
-        let beginning : decoded_of strict w Fault ≡ decoded_at_end (answer_of strict w) Fault = closed_rest strict laws w (answer_of strict w) Fault some refl in
-        rw beginning (first_stays (answer_of strict w) refl (rw beginning at refused))
+        let b = closed_rest strict laws w (answer_of strict w) Fault some refl in rw b (first_stays (answer_of strict w) refl (rw b at refused))
 
   listing_stays : (n k : ℕ) (xs more : List ℕ) (e : Ending) → (listing_from strict text n k xs Fault).status ≡ outcome.Refused →
       listing_from strict text n k (xs ++ more) e ≡ listing_from strict text n k xs Fault

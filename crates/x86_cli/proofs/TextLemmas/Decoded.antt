@@ -13,13 +13,10 @@ use Rattle.x86_cli.specs.Listings.Listing.{decoded_of, decoded_at_end, decoded_b
 use Rattle.x86_cli.specs.DecoderLaws.{DecoderLaws}
 use Rattle.x86_cli.specs.Text.Window.{rest_of, Shows}
 
-decoded_at_end-whole : (a : Result Instruction DecodeError) (e : Ending) (i : Instruction) → decoded_at_end a e ≡ Whole i → a ≡ Ok i
-decoded_at_end-whole a e i h = grind arith
-
 module _ (strict : Bool) (laws : DecoderLaws strict) where
   whole_answer : (w : List ℕ) (e : Ending) (i : Instruction) → decoded_of strict w e ≡ Whole i → answer_of strict w ≡ Ok i
   unfolding decoded_of
-  whole_answer w e i h = grind (arith, decoded_at_end-whole)
+  whole_answer w e i h = grind arith
 
   -- what a window that shows an instruction says of its bytes alone
   pub shown_answer : (ended : Option Ending) (w : List ℕ) (i : Instruction) → Shows strict (Whole i) ended w → answer_of strict (take i.length w) ≡ Ok i

@@ -1,5 +1,5 @@
 -- What the text is at its first bytes.
-use Rattle.std.proofs.Common.{◌≡◌, ℕ, suc, ◌+◌, ◌*◌, List, [], ◌∷◌, length, take, drop, refl, arith, Option, Some, None, true, false, Bool}
+use Rattle.std.proofs.Common.{◌≡◌, ℕ, suc, ◌+◌, ◌*◌, List, [], ◌∷◌, refl, arith, Option, Some, None, true, false, Bool}
 use Rattle.std.proofs.lemmas.Grind.{common_steps}
 use Rattle.std.specs.Option.{option_map}
 use Rattle.x86_cli.specs.declared.text.reader.Ending.TheVariants.{Clean, Bad, Large, Fault}
@@ -91,5 +91,4 @@ pub text-pair : (p r x y v w : ℕ) (xs : List ℕ) (stop : Stop) → is_blank x
     text_at p (suc (suc r)) (x ∷ y ∷ xs) stop ≡ with_byte (16 * v + w) (text_at (p + 2) r xs stop)
 unfolding text_at image_of bad_of ends_in_half
 text-pair p r x y v w xs stop e d f =
-    let n = ending-pair p (bad_of (take r xs)) (drop r xs) (ends_in_half (take r xs)) (length xs) stop in
-    rw (e, d, f, n) refl
+    grind (arith, ending-pair)
