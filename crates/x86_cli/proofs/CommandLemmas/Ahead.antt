@@ -28,9 +28,6 @@ rest_split : (ended : Option Ending) (w : List ℕ) (len p r : ℕ) (xs : List �
 rest_split None w len p r xs stop = rw (sym (append_assoc (take len w) (drop len w) (text_at p r xs stop).image), take-append-drop len w) refl
 rest_split (Some e) w len p r xs stop = rw take-append-drop refl
 
-longer : (n len : ℕ) (w : List ℕ) → len ≤ length w → (walked : List ℕ) → length walked ≡ n → length (walked ++ take len w) ≡ n + len
-longer n len w le walked is = simp length-append (omega (arith, length-take-le len w le, is))
-
 pub end_one : (e : Ending) → length (at_end e).lines ≤ 1
 end_one e = grind arith
 
@@ -40,7 +37,7 @@ module _ {S K : Type 0} (gives : S → Got → S → Type 0) (takes : K → List
       ((xs : List ℕ) (stop : Stop) → at n (rest_of ended w p r xs stop) ≡ with_lines (x ∷ []) (at (n + len) (rest_of ended (drop len w) p r xs stop))) →
       (m : K) → takes l x (Ok tt) m → Progress gives takes at window max (n + len) ended (drop len w) p r a b k m
   progress_line x len le step m put =
-      progress_step gives takes at window max n ended w p r a b k l s (x ∷ []) (n + len) (drop len w) step (take len w) (rest_split ended w len p r) (longer n len w le) m (m, put, refl)
+      progress_step gives takes at window max n ended w p r a b k l s (x ∷ []) (n + len) (drop len w) step (take len w) (rest_split ended w len p r) (λ walked is. simp length-append (omega (arith, length-take-le len w le, is))) m (m, put, refl)
 
   image_taken : (o : Option Ending) → ended ≡ o → (text_of max s.bytes Failed).image ≡ s.walked ++ w
   image_taken None is =

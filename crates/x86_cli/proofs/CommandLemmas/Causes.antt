@@ -10,7 +10,7 @@ use Rattle.x86_decode.specs.Answer.{answer_of}
 use Rattle.x86_cli.specs.declared.outside.source.Got.{Got}
 use Rattle.x86_cli.specs.declared.outside.sink.SinkFailed.{SinkFailed}
 use Rattle.x86_cli.specs.declared.text.reader.Ending.{Ending}
-use Rattle.x86_cli.specs.declared.text.reader.Ending.TheVariants.{Clean, Fault}
+use Rattle.x86_cli.specs.declared.text.reader.Ending.TheVariants.{Clean}
 use Rattle.x86_cli.specs.Outside.Stop.{Stop, End, Failed}
 use Rattle.x86_cli.specs.declared.text.window.Decoded.TheVariants.{Whole, Refused}
 use Rattle.x86_cli.specs.declared.listings.status.Status.{Status}
@@ -49,19 +49,13 @@ command_end Tightened t = listing_end false _ t.ending 0 0 t.image
 command_end Swept t = λ _. refl
 command_end Targeted t = λ _. refl
 
--- the bytes up to the end are no fault
-text_end : (max : ℕ) (bytes : List ℕ) → (text_of max bytes End).ending ≢ Fault
-unfolding text_at
-text_end max bytes = grind arith
-
 pub command_used : (c : Command) (t : Text) → (listing_for c t).status ≢ outcome.Usage
 command_used c t = let h = command_end c t in grind arith
 
+-- the bytes up to the end are no fault
 pub command_read : (c : Command) (max : ℕ) (bytes : List ℕ) → (listing_for c (text_of max bytes End)).status ≢ outcome.ReadFault
-command_read c max bytes =
-    let h = command_end c (text_of max bytes End) in
-    let e = text_end max bytes in
-    grind arith
+unfolding text_at
+command_read c max bytes = let h = command_end c (text_of max bytes End) in grind arith
 
 pub command_written : (c : Command) (t : Text) → (listing_for c t).status ≢ outcome.WriteFault
 command_written c t = let h = command_end c t in grind arith

@@ -42,11 +42,8 @@ module _ (strict : Bool) where
       (sweep-cut n (cut_length a) (w ++ (text_at p r xs stop).image) (text_at p r xs stop).ending a (shows.answers xs stop) refl shows.some (simp length-append (omega (arith, shows.fits))))
   rest_cut (Some e) n w p r a shows xs stop = sweep-cut n (cut_length a) w e a (shows.answers xs stop) refl shows.some shows.fits
 
-  rest_end : (n : ℕ) (w : List ℕ) (e : Ending) → length w ≡ 0 → sweep_at strict n (record { image = w; ending = e }) ≡ at_end e
-  rest_end n w e none = ap (λ cs. with_lines (map cut_line cs) (at_end e)) (none_left strict n w none)
-
   pub sweep_end : (ended : Option Ending) (n : ℕ) (text w : List ℕ) (p r : ℕ) (e : Ending) → ended ≡ Some e → length w ≡ 0 → IsStep (sweep_at strict) (step.Ended e) n text ended w p r
-  sweep_end ended n text w p r e is none = rest_is (sweep_at strict) n ended w p r e (at_end e) is (rest_end n w e none)
+  sweep_end ended n text w p r e is none = rest_is (sweep_at strict) n ended w p r e (at_end e) is (ap (λ cs. with_lines (map cut_line cs) (at_end e)) (none_left strict n w none))
 
 -- what a window that isn't empty shows
 module _ (strict : Bool) (laws : DecoderLaws strict) where
