@@ -27,37 +27,17 @@ module _ (strict : Bool) (laws : DecoderLaws strict) where
   unfolding decoded_of
   decoded-stays w ys e ne = let empty = laws.empty in let h = laws.stay w ys ne in grind arith
 
-  -- a full window, with anything after it
-
-  pub open_rest : (w : List ℕ) (a : Result Instruction DecodeError) (p r : ℕ) (xs : List ℕ) (stop : Stop) → length w ≡ 15 → a ≡ answer_of strict w →
-      decoded_of strict (rest_of None w p r xs stop).image (rest_of None w p r xs stop).ending ≡ decoded_before_end a
-  open_rest w a p r xs stop full e =
-      let ne = laws.enough w (omega arith) in
-      rw e (decoded-stays w (rest_of None [] p r xs stop).image (rest_of None w p r xs stop).ending ne)
-
+  -- a window whose answer more bytes don't change
   shows-sure : (w : List ℕ) (a : Result Instruction DecodeError) (ended : Option Ending) → answer_of strict w ≡ a → a ≢ Err ExhaustedInput → Shows strict (decoded_before_end a) ended w
   shows-sure w a ended e ne =
       let h = laws.lengths w in
       let stays = λ (ys : List ℕ) (end : Ending). decoded-stays w ys end (λ f. ne (sym e ∙ f)) in
       grind arith
 
-  pub open_shows : (w : List ℕ) (a : Result Instruction DecodeError) → length w ≡ 15 → a ≡ answer_of strict w → Shows strict (decoded_before_end a) None w
-  open_shows w a full e =
-      let ne = laws.enough w (omega arith) in
-      shows-sure w a None (sym e) (λ f. ne (sym e ∙ f))
-
   -- a window with nothing after it
-
   pub closed_rest : (w : List ℕ) (a : Result Instruction DecodeError) (e : Ending) → 0 < length w → a ≡ answer_of strict w → decoded_of strict w e ≡ decoded_at_end a e
   unfolding decoded_of
   closed_rest w a e some h = grind arith
-
-  pub closed_shows : (w : List ℕ) (a : Result Instruction DecodeError) (e : Ending) → answer_of strict w ≡ a → Shows strict (decoded_at_end a e) (Some e) w
-  closed_shows w a e h = let sure = shows-sure w a (Some e) h in grind arith
-
-  pub empty_rest : (w : List ℕ) (e : Ending) → length w ≡ 0 → decoded_of strict w e ≡ Ended e
-  unfolding decoded_of
-  empty_rest w e h = grind arith
 
   -- the same of what the code knows
 
@@ -67,18 +47,21 @@ module _ (strict : Bool) (laws : DecoderLaws strict) where
 
     pub decoded_open : (ended ≡ None → length w ≡ 15) → ended ≡ None → result ≡ decoded_before_end a → (p r : ℕ) (xs : List ℕ) (stop : Stop) →
         decoded_of strict (rest_of ended w p r xs stop).image (rest_of ended w p r xs stop).ending ≡ result
-    decoded_open full is res p r xs stop = rw (is, res) (open_rest w a p r xs stop (full is) answered)
+    decoded_open full is res p r xs stop =
+        let ne = laws.enough w (omega (arith, full is)) in
+        rw (is, res, answered) (decoded-stays w (rest_of None [] p r xs stop).image (rest_of None w p r xs stop).ending ne)
 
     pub shows_open : (ended ≡ None → length w ≡ 15) → ended ≡ None → result ≡ decoded_before_end a → Shows strict result ended w
-    shows_open full is res = rw (is, res) (open_shows w a (full is) answered)
+    shows_open full is res = let ne = laws.enough w (omega (arith, full is)) in rw res (shows-sure w a ended (sym answered) (λ f. ne (sym answered ∙ f)))
 
     pub decoded_closed : (e : Ending) → ended ≡ Some e → 0 < length w → result ≡ decoded_at_end a e → (p r : ℕ) (xs : List ℕ) (stop : Stop) →
         decoded_of strict (rest_of ended w p r xs stop).image (rest_of ended w p r xs stop).ending ≡ result
     decoded_closed e is some res p r xs stop = rw (is, res) (closed_rest w a e some answered)
 
     pub shows_closed : (e : Ending) → ended ≡ Some e → result ≡ decoded_at_end a e → Shows strict result ended w
-    shows_closed e is res = rw (is, res) (closed_shows w a e (sym answered))
+    shows_closed e is res = let sure = shows-sure w a (Some e) (sym answered) in grind arith
 
   pub decoded_empty : (w : List ℕ) (ended : Option Ending) (e : Ending) → ended ≡ Some e → length w ≡ 0 → (p r : ℕ) (xs : List ℕ) (stop : Stop) →
       decoded_of strict (rest_of ended w p r xs stop).image (rest_of ended w p r xs stop).ending ≡ Ended e
-  decoded_empty w ended e is none p r xs stop = rw is (empty_rest w e none)
+  unfolding decoded_of
+  decoded_empty w ended e is none p r xs stop = grind arith
