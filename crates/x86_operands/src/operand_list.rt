@@ -115,7 +115,7 @@ impl Operands {
         self.put_at(at, Slot::ImmI64, Operand::ImmediateI64 { imm });
     }
 
-    /// What the encoding of a last operand gives, at an index: an immediate, or what no byte spells.
+    /// Writes the operand of a last encoding at an index: an immediate, or a constant that no byte spells.
     #[tactic(auto, unfolding(crate::specs::PlanSteps::operand_step))]
     #[inline(always)]
     fn put_last<T: Reader<u64, u8>>(

@@ -10,6 +10,8 @@ use x86_regs::{MergeMode, RegSpec, SaeMode};
 /// An operand of an instruction. The examples are as a listing prints them: numbers are decimal.
 #[derive(Clone, Copy, PartialEq, Eq, Debug, Drop)]
 pub enum Operand {
+    /// No operand. It is the first variant, so that the blank operands of an instruction are zeros.
+    Nothing,
     /// A signed immediate of 1 byte, as `i8:-1` of `83 c0 ff`.
     ImmediateI8 {
         imm: i8,
@@ -147,8 +149,6 @@ pub enum Operand {
         disp: i32,
         mask: RegSpec,
     },
-    /// No operand.
-    Nothing,
 }
 
 /// Where in the encoding an operand comes from. Immediates and displacements are little-endian.
