@@ -2,14 +2,12 @@
  *
  *     peers version
  *     peers sweep < TEXT    of hex text what the program's `sweep` does: PLACE LENGTH and the text of each instruction, a line each
- *     peers decode RAW      decodes the bytes of a file from beginning to end, five times; prints how many instructions and the least seconds
- *     peers once RAW        decodes them once
+ *     peers decode N < RAW  decodes bytes from beginning to end, N times; prints how many instructions and refusals these are together
  */
 #include <stdint.h>
 #include <stdio.h>
 #include <stdlib.h>
 #include <string.h>
-#include <time.h>
 
 #ifdef DISTORM
 #define SUPPORT_64BIT_OFFSET
@@ -149,19 +147,11 @@ int main(int argc, char **argv)
             putc_unlocked('\n', stdout);
             at += length;
         }
-    } else if (argc == 3 && (strcmp(argv[1], "decode") == 0 || strcmp(argv[1], "once") == 0)) {
-        FILE *file = fopen(argv[2], "rb");
-        if (file == NULL) return 2;
-        uint8_t *bytes = contents(file, &count);
-        double best = 1e9;
+    } else if (argc == 3 && strcmp(argv[1], "decode") == 0) {
+        uint8_t *bytes = contents(stdin, &count);
         size_t decoded = 0;
-        for (int k = 0; k < (argv[1][0] == 'd' ? 5 : 1); k++) {
-            clock_t began = clock();
-            decoded = decode(bytes, count);
-            double took = (double)(clock() - began) / CLOCKS_PER_SEC;
-            if (took < best) best = took;
-        }
-        printf("%zu %.6f\n", decoded, best);
+        for (int passes = atoi(argv[2]); passes > 0; passes--) decoded += decode(bytes, count);
+        printf("%zu\n", decoded);
     } else return 2;
     return 0;
 }
