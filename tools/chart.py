@@ -12,7 +12,7 @@ from pathlib import Path
 
 DOCS = Path(__file__).resolve().parent.parent / "docs"
 PAGE, CHART = DOCS / "PERFORMANCE.md", DOCS / "speed.svg"
-TABLES = ["ns a line", "ns an encoding"]
+TABLES = ["ns a line", "ns a decode"]
 WIDTH, NAMES, BARS, ROW = 720, 250, 400, 22
 OURS, OTHERS = "#1f6feb", "#8b949e"
 
