@@ -1,14 +1,15 @@
 //! The head of an encoding: the run of prefixes, the escape and the opcode byte.
-ghost use Rattle.std.specs.Prelude.{◌≡◌, ℕ, List, []};
+ghost use Rattle.std.specs.Prelude.{◌≡◌, ℕ, List, [], None};
 ghost use Rattle.x86_fields.specs.Steps.{outcome, then_from};
+ghost use Rattle.x86_fields.specs.Prefixes.{rex};
 ghost use Rattle.x86_fields.specs.Run.{is_prefix, reading_of};
 ghost use Rattle.x86_forms.specs.Words.{rows_of};
 ghost use Rattle.x86_decode.specs.Head.{column_of, is_vex, vex_refusal, seen_by};
-ghost use Rattle.x86_decode.specs.Walk.{Headed, head_from, head_at, head_step, read_escaped, found_word, read_word};
+ghost use Rattle.x86_decode.specs.Walk.{Headed, next_byte_if, head_from, head_at, head_step, read_escaped, found_word, read_word};
 
 use crate::leads::{Lead, lead_of};
-use x86_arch::Reader;
-use x86_fields::{DecodeError, Prefixes, next_byte};
+use x86_arch::{ReadError, ReadIf, Reader};
+use x86_fields::{DecodeError, Prefixes, is_rex, next_byte};
 use x86_forms::{Column, Map, Words};
 
 /// Whether the byte is a legacy prefix or a REX.
@@ -38,31 +39,33 @@ pub fn read_on<T: Reader<u64, u8>>(
     }
 }
 
-/// The byte after a run so far, or after that and a REX.
+/// The next byte where it is wanted, else `other`.
 #[inline(always)]
-fn read_rex<T: Reader<u64, u8>>(
-    reader: &mut T,
-    prefixes: &mut Prefixes,
-    byte: u8,
-) -> Result<u8, DecodeError>
+fn next_byte_if<T: ReadIf>(reader: &mut T, wanted: bool, other: u8) -> Result<u8, DecodeError>
+    ensures { outcome result (T.state reader.new)
+        ≡ next_byte_if wanted other (T.state reader.old) }
+{
+    match reader.next_if(wanted, other) {
+        Ok(byte) => Ok(byte),
+        Err(ReadError::ExhaustedInput) => Err(DecodeError::ExhaustedInput),
+    }
+}
+
+/// The byte after a run so far, or after that and a REX. Most encodings have a REX, and many have none: so no branch
+/// depends on it.
+#[inline(always)]
+fn read_rex<T: ReadIf>(reader: &mut T, prefixes: &mut Prefixes, byte: u8) -> Result<u8, DecodeError>
+    requires { rex prefixes.old ≡ None }
     ensures { (beginning : List ℕ) → prefixes.old ≡ reading_of beginning →
         Headed result prefixes.new (T.state reader.new) (head_at beginning byte (T.state reader.old)) }
 {
-    match lead_of(byte) {
-        Lead::Rex => {
-            prefixes.push_rex(byte);
-            next_byte(reader)
-        }
-        _ => Ok(byte),
-    }
+    prefixes.set_rex(byte);
+    next_byte_if(reader, is_rex(byte), byte)
 }
 
 /// A run of at most one legacy prefix and a REX, as most are, and the byte after that.
 #[inline(always)]
-pub fn read_head<T: Reader<u64, u8>>(
-    reader: &mut T,
-    prefixes: &mut Prefixes,
-) -> Result<u8, DecodeError>
+pub fn read_head<T: ReadIf>(reader: &mut T, prefixes: &mut Prefixes) -> Result<u8, DecodeError>
     requires { prefixes.old ≡ reading_of [] }
     ensures { Headed result prefixes.new (T.state reader.new) (head_step (T.state reader.old)) }
 {

@@ -1,9 +1,9 @@
 //! What a row has after its opcode byte, written where it stays.
-ghost use Rattle.std.specs.Prelude.{◌≡◌, ℕ, Bool, IfOk, IsTrue, true, false};
+ghost use Rattle.std.specs.Prelude.{◌≡◌, ℕ, Bool, IfOk, IsTrue, Some, true, false};
 ghost use Rattle.x86_arch.specs.Reader.{State};
 ghost use Rattle.x86_fields.specs.Steps.{outcome, then_from};
 ghost use Rattle.x86_fields.specs.declared.prefixes.Prefixes.{Prefixes};
-ghost use Rattle.x86_forms.specs.Words.{IsForm, carried};
+ghost use Rattle.x86_forms.specs.Words.{IsForm, carried, unpack};
 ghost use Rattle.x86_operands.specs.Encodings.{Belongs, Describes, has_fields, value_if_ok, is_described, is_sound, no_operands, plan_of, use_of};
 ghost use Rattle.x86_operands.specs.Forms.{modrm_use};
 ghost use Rattle.x86_operands.specs.PlanSteps.{read_plan, record_step};
@@ -20,8 +20,8 @@ use x86_groups::{chosen, group_plan, read_group, read_group_into};
 use x86_opcodes::Opcode;
 use x86_operands::plans::{ModrmUse, Plan};
 use x86_operands::{
-    AfterOpcode, FormEncoding, Reading, carried, form_encoding, form_plan, read_form,
-    read_form_into, read_modrm, read_plan_into,
+    AfterOpcode, FormEncoding, Reading, carried, form_plan, read_form, read_form_into, read_modrm,
+    read_plan_into, word_encoding,
 };
 
 /// What is left of a row that wasn't read at once.
@@ -70,16 +70,18 @@ pub fn read_row<T: Reader<u64, u8>>(
 /// ModRM, and the line that describes the row there; else what is left of the row.
 #[inline(always)]
 fn read_line<'a, T: Reader<u64, u8>>(
+    word: u64,
     row: &TableRow,
     reader: &mut T,
 ) -> Result<Found<'a>, DecodeError>
-    requires { IsForm row.now.form }
+    requires form { IsForm row.now.form }
+    requires word { unpack word ≡ Some row.now }
     ensures read { (strict : Bool) (i : Instruction) →
         then_from result (T.state reader.new) (found_row_step strict row.now i) ≡
         row_step strict row.now i.prefixes (T.state reader.old) }
     ensures found { IfOk result (IsFound row.now) }
 {
-    let encoding = form_encoding(row.form);
+    let encoding = word_encoding(word, row);
     if !encoding.after_opcode.has_fields() {
         return Ok(line_without_modrm(row, encoding));
     }
@@ -148,14 +150,16 @@ fn line_at<'a>(
     }
 }
 
-/// What a row has after its opcode byte, if a line of the operand encodings describes it.
+/// What the row of a word has after its opcode byte, if a line of the operand encodings describes it.
 #[inline(always)]
 pub fn read_by_line<T: Reader<u64, u8>>(
+    word: u64,
     row: TableRow,
     reader: &mut T,
     inst: &mut Instruction,
 ) -> Result<Rest, DecodeError>
     requires form { IsForm row.form }
+    requires word { unpack word ≡ Some row }
     requires blank { inst.old.operand_list ≡ no_operands }
     ensures read { (strict : Bool) →
         then_from result (T.state reader.new) (rest_step strict inst.new) ≡
@@ -164,7 +168,7 @@ pub fn read_by_line<T: Reader<u64, u8>>(
         → inst.new.operand_list ≡ no_operands) }
     ensures form { IfOk result HasForm }
 {
-    match read_line(&row, reader) {
+    match read_line(word, &row, reader) {
         Err(error) => Err(error),
         Ok(Found::Left(rest)) => Ok(rest),
         Ok(Found::Line(line)) => {

@@ -17,7 +17,7 @@ use crate::head::{is_prefix, read_head, read_on, read_word};
 use crate::instructions::Instruction;
 use crate::rows::{Rest, read_by_line, read_rest, read_row_into};
 use std::marker::{Brand, PhantomData};
-use x86_arch::{Reader, U8Reader};
+use x86_arch::{ReadIf, Reader, U8Reader};
 use x86_fields::{DecodeError, Prefixes};
 use x86_forms::{Packed, Words, unpack};
 use x86_opcodes::Opcode;
@@ -68,7 +68,7 @@ fn read_body<W: Words, T: Reader<u64, u8>>(
     let word = read_word(rows, reader, &mut inst.prefixes, byte)?;
     match unpack(word) {
         None => Err(DecodeError::InvalidOpcode),
-        Some(row) => read_by_line(row, reader, inst),
+        Some(row) => read_by_line(word, row, reader, inst),
     }
 }
 
@@ -124,7 +124,7 @@ enum Left {
 
 /// The encoding up to what is left, into a blank instruction.
 #[inline(always)]
-fn read_common<W: Words, T: Reader<u64, u8>>(
+fn read_common<W: Words, T: ReadIf>(
     rows: &W,
     reader: &mut T,
     inst: &mut Instruction,
@@ -165,7 +165,7 @@ fn read_left<W: Words, T: Reader<u64, u8>>(
 /// The encoding up to its last byte, into a blank instruction. The reader comes back: so it stays in registers on the
 /// common path.
 #[inline(always)]
-fn walk_within<W: Words, T: Reader<u64, u8>>(
+fn walk_within<W: Words, T: ReadIf>(
     strict: bool,
     rows: &W,
     reader: T,

@@ -4,6 +4,7 @@ use Rattle.x86_regs.specs.declared.Segment.{Segment}
 use Rattle.x86_regs.specs.declared.Segment.TheVariants.{ES}
 use Rattle.x86_fields.specs.declared.rex.PrefixRex.{PrefixRex}
 use Rattle.x86_fields.specs.declared.prefixes.Prefixes.{Prefixes}
+pub use Rattle.x86_fields.specs.Rex.{w, r, x, b}
 
 -- 66, 67 and F0 are in the run
 abbrev pub operand_size : Prefixes → Bool
@@ -32,19 +33,6 @@ with_es p = record p { segment = ES }
 
 abbrev pub with_rex : Prefixes → Option PrefixRex → Prefixes
 with_rex p rex = record p { rex = rex }
-
--- the bits of a REX
-abbrev pub w : PrefixRex → Bool
-w rex = rex.w
-
-abbrev pub r : PrefixRex → Bool
-r rex = rex.r
-
-abbrev pub x : PrefixRex → Bool
-x rex = rex.x
-
-abbrev pub b : PrefixRex → Bool
-b rex = rex.b
 
 -- the same with other bits X and B
 abbrev pub with_x_and_b : PrefixRex → Bool → Bool → PrefixRex

@@ -17,6 +17,7 @@ pub fn is_legacy(byte: u8) -> bool
 }
 
 /// Whether the byte is a REX.
+#[inline(always)]
 pub fn is_rex(byte: u8) -> bool
     ensures { result ≡ is_rex byte }
 {

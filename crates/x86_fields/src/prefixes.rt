@@ -1,12 +1,12 @@
 //! What a run of prefix bytes selects. Source: Intel SDM volume 2, sections 2.1.1 and 2.2.1.
 
-ghost use Rattle.std.specs.Prelude.{◌≡◌, ◌↔◌, ℕ, ◌∷◌, ◌++◌, List, [], IsTrue, false};
-ghost use Rattle.x86_fields.specs.Prefixes.{operand_size, address_size, lock, segment, rex, without_operand_size, with_es};
-ghost use Rattle.x86_fields.specs.Run.{repnz, rep, rep_any, reading_of, after_of, rex_bits, is_rex, is_prefix};
+ghost use Rattle.std.specs.Prelude.{◌≡◌, ◌↔◌, ℕ, ◌∷◌, ◌++◌, List, [], IsTrue, Some};
+ghost use Rattle.x86_fields.specs.Prefixes.{operand_size, address_size, lock, segment, rex, with_rex, without_operand_size, with_es};
+ghost use Rattle.x86_fields.specs.Run.{repnz, rep, rep_any, reading_of, after_of, rex_named, is_prefix};
 ghost use Rattle.x86_fields.specs.Raw.{has_w, has_r, has_x, has_b};
 
 use crate::repeat::Repeat;
-use crate::rex::PrefixRex;
+use crate::rex::{LiveRex, PrefixRex};
 use x86_regs::Segment;
 
 /// What a run of prefix bytes selects.
@@ -17,7 +17,7 @@ pub struct Prefixes {
     pub(crate) lock: bool,
     pub(crate) repeat: Option<Repeat>,
     pub(crate) segment: Segment,
-    pub(crate) rex: Option<PrefixRex>,
+    pub(crate) rex: LiveRex,
 }
 
 impl Prefixes {
@@ -32,18 +32,22 @@ impl Prefixes {
             lock: false,
             repeat: None,
             segment: Segment::DS,
-            rex: None,
+            rex: LiveRex::of(0),
         }
     }
 
     /// The effect of one more prefix byte. A REX is live only as the last byte of a run.
+    #[tactic(auto, unfolding(crate::specs::Run::after_of), using(crate::proofs::RunLemmas::reading_push))]
     pub fn after(self, byte: u8) -> Prefixes
         requires { IsTrue (is_prefix byte) }
         ensures effect { result ≡ after_of self byte }
         ensures reading { (run : List ℕ) → self ≡ reading_of run →
             result ≡ reading_of (run ++ byte ∷ []) }
     {
-        let without = Prefixes { rex: None, ..self };
+        let without = Prefixes {
+            rex: LiveRex::of(byte),
+            ..self
+        };
         match byte {
             0x66 => Prefixes {
                 operand_size: true,
@@ -73,23 +77,16 @@ impl Prefixes {
                 segment: Segment::GS,
                 ..without
             },
-            0x40..=0x4f => Prefixes {
-                rex: Some(PrefixRex::of(byte)),
-                ..without
-            },
             _ => without,
         }
     }
 
-    /// The effect of a REX, in place.
+    /// The REX that is live is this byte, if it is a REX; else none is live.
     #[inline(always)]
-    pub fn push_rex(&mut self, byte: u8)
-        requires { IsTrue (is_rex byte) }
-        ensures effect { self.new ≡ after_of self.old byte }
-        ensures reading { (run : List ℕ) → self.old ≡ reading_of run →
-            self.new ≡ reading_of (run ++ byte ∷ []) }
+    pub fn set_rex(&mut self, byte: u8)
+        ensures { self.new ≡ with_rex self.old (rex_named (Some byte)) }
     {
-        self.rex = Some(PrefixRex::of(byte));
+        self.rex = LiveRex::of(byte);
     }
 
     /// 66 is cleared.
@@ -214,7 +211,7 @@ impl Prefixes {
     pub fn rex(&self) -> Option<PrefixRex>
         ensures { result ≡ rex self.now }
     {
-        self.rex
+        self.rex.get()
     }
 
     /// Whether a live REX has W.
@@ -222,7 +219,7 @@ impl Prefixes {
     pub fn has_w(&self) -> bool
         ensures { result ≡ has_w self.now }
     {
-        self.rex.is_some_and(|rex| rex.w)
+        self.rex.has_w()
     }
 
     /// Whether a live REX has R.
@@ -230,7 +227,7 @@ impl Prefixes {
     pub fn has_r(&self) -> bool
         ensures { result ≡ has_r self.now }
     {
-        self.rex.is_some_and(|rex| rex.r)
+        self.rex.has_r()
     }
 
     /// Whether a live REX has X.
@@ -238,7 +235,7 @@ impl Prefixes {
     pub fn has_x(&self) -> bool
         ensures { result ≡ has_x self.now }
     {
-        self.rex.is_some_and(|rex| rex.x)
+        self.rex.has_x()
     }
 
     /// Whether a live REX has B.
@@ -246,6 +243,6 @@ impl Prefixes {
     pub fn has_b(&self) -> bool
         ensures { result ≡ has_b self.now }
     {
-        self.rex.is_some_and(|rex| rex.b)
+        self.rex.has_b()
     }
 }

@@ -13,31 +13,31 @@ use x86_operands::AfterOpcode::ByPlan;
 use x86_operands::plans::{ModrmUse, Plan};
 use x86_operands::{FormEncoding, RegGroup, encoded, other};
 
-const EB_IB: &FormEncoding = encoded!(EitherForm E_I B B I8 One One);
+const EB_IB: &FormEncoding = &encoded!(EitherForm E_I B B I8 One One);
 
-const EV_IB: &FormEncoding = encoded!(EitherForm E_I B V I8 V V);
+const EV_IB: &FormEncoding = &encoded!(EitherForm E_I B V I8 V V);
 
-const EV_IV: &FormEncoding = encoded!(EitherForm E_I B V Iv V V);
+const EV_IV: &FormEncoding = &encoded!(EitherForm E_I B V Iv V V);
 
-const EB_1: &FormEncoding = encoded!(EitherForm E_I B B SignedOne One One);
+const EB_1: &FormEncoding = &encoded!(EitherForm E_I B B SignedOne One One);
 
-const EV_1: &FormEncoding = encoded!(EitherForm E_I B V SignedOne V V);
+const EV_1: &FormEncoding = &encoded!(EitherForm E_I B V SignedOne V V);
 
-const EB_CL: &FormEncoding = encoded!(EitherForm E_I B B Cl One One);
+const EB_CL: &FormEncoding = &encoded!(EitherForm E_I B B Cl One One);
 
-const EV_CL: &FormEncoding = encoded!(EitherForm E_I B V Cl V V);
+const EV_CL: &FormEncoding = &encoded!(EitherForm E_I B V Cl V V);
 
-const EB: &FormEncoding = encoded!(EitherForm E B B Absent One One);
+const EB: &FormEncoding = &encoded!(EitherForm E B B Absent One One);
 
-const EV: &FormEncoding = encoded!(EitherForm E B V Absent V V);
+const EV: &FormEncoding = &encoded!(EitherForm E B V Absent V V);
 
-const CALL: &FormEncoding = encoded!(EitherForm E B Q Absent Eight Eight);
+const CALL: &FormEncoding = &encoded!(EitherForm E B Q Absent Eight Eight);
 
-const JUMP: &FormEncoding = encoded!(EitherForm E B Q Absent Eight V);
+const JUMP: &FormEncoding = &encoded!(EitherForm E B Q Absent Eight V);
 
-const PUSH: &FormEncoding = encoded!(EitherForm E B V Absent Push Push);
+const PUSH: &FormEncoding = &encoded!(EitherForm E B V Absent Push Push);
 
-const ELSE: &FormEncoding = other!(ByPlan(ModrmUse::EitherForm));
+const ELSE: &FormEncoding = &other!(ByPlan(ModrmUse::EitherForm));
 
 /// The operations of 80, 81 and 83.
 #[inline(always)]

@@ -14,7 +14,8 @@ use Rattle.x86_fields.specs.contracts.raw.RawPartialEq.TheImpl as raw
 use Rattle.x86_fields.specs.contracts.raw.RawEq.TheImpl.Laws as raw_laws
 use Rattle.x86_regs.specs.contracts.SegmentPartialEq.TheImpl as segment
 use Rattle.x86_fields.specs.contracts.repeat.RepeatPartialEq.TheImpl as repeat
-use Rattle.x86_fields.specs.contracts.rex.PrefixRexPartialEq.TheImpl as rex
+use Rattle.x86_fields.specs.contracts.rex.LiveRexPartialEq.TheImpl as live
+use Rattle.x86_fields.specs.Rex.{rex_byte, rex_named}
 use Rattle.x86_fields.proofs.RunLemmas.{cong6, same_prefixes}
 use Rattle.x86_fields.proofs.laws.values_are_equal.Goals as goal
 
@@ -30,8 +31,13 @@ segment_same x y h = search rules
 repeat_same : (x y : Repeat) → repeat.ghosts.eq x y ≡ true → x ≡ y
 repeat_same x y h = search rules
 
-rex_same : (x y : PrefixRex) → rex.ghosts.eq x y ≡ true → x ≡ y
-rex_same x y h = search rules
+-- the bits of a byte are its bits
+bits_back : (x : Option PrefixRex) → rex_named (Some (rex_byte x)) ≡ x
+bits_back None = refl
+bits_back (Some x) = search rules
+
+rex_same : (x y : Option PrefixRex) → live.ghosts.eq x y ≡ true → x ≡ y
+rex_same x y h = sym (bits_back x) ∙ ap (λ b. rex_named (Some b)) ((Decides-eqb (rex_byte x) (rex_byte y)).0 h) ∙ bits_back y
 
 -- the fields of prefixes that are found equal
 prefixes_same : (a b : Prefixes) → prefixes.ghosts.eq a b ≡ true → a ≡ b
@@ -46,7 +52,7 @@ prefixes_same a b h =
     let lock : a.lock ≡ b.lock = (booleans_Decides a.lock b.lock).0 h2.0 in
     let repeat : a.repeat ≡ b.repeat = option_same repeat.ghosts.eq repeat_same a.repeat b.repeat h3.0 in
     let segment : a.segment ≡ b.segment = segment_same a.segment b.segment h4.0 in
-    let rex : a.rex ≡ b.rex = option_same rex.ghosts.eq rex_same a.rex b.rex h4.1 in
+    let rex : a.rex ≡ b.rex = rex_same a.rex b.rex h4.1 in
     same_prefixes operand address lock repeat segment rex
 
 pub returns-clause-prefixes : goal.returns-clause-prefixes
