@@ -143,9 +143,9 @@ def ordinals_antt():
     ordinal = ordinals()
     for form, carries in forms():
         lines.append(f"ordinal_of (form.{form} n) = {ordinal[form]} + n" if carries else f"ordinal_of form.{form} = {ordinal[form]}")
-    lines += ["", "-- how many forms come before a form, whatever they carry", "abbrev pub discriminant_of : Form → ℕ"]
-    for place, (form, carries) in enumerate(forms()):
-        lines.append(f"discriminant_of (form.{form} n) = {place}" if carries else f"discriminant_of form.{form} = {place}")
+    lines += ["", "-- the ordinal of a form that carries 0, or nothing", "abbrev pub first_ordinal_of : Form → ℕ"]
+    for form, carries in forms():
+        lines.append(f"first_ordinal_of (form.{form} n) = {ordinal[form]}" if carries else f"first_ordinal_of form.{form} = {ordinal[form]}")
     return lines
 
 
@@ -153,17 +153,19 @@ def ordinals_rt():
     every = []
     for form, carries in forms():
         every += [f"Form::{form}({number})" for number in range(CARRIED)] if carries else [f"Form::{form}"]
-    lines = ["//! The forms in the order of their ordinals, each with every number that it may carry, and their discriminants.", "//!"]
+    lines = ["//! The forms in the order of their ordinals, each with every number that it may carry.", "//!"]
     lines += note("//!", "the variants of `Form`")
-    lines += ["", "ghost use Rattle.std.specs.Prelude.{◌≡◌};", "ghost use Rattle.x86_forms.specs.Ordinals.{discriminant_of};", ""]
+    lines += ["", "ghost use Rattle.std.specs.Prelude.{◌≡◌};", "ghost use Rattle.x86_forms.specs.Ordinals.{first_ordinal_of};", ""]
     lines += ["use crate::Form;", ""]
     lines += [f"pub(crate) const FORMS: &[Form; {len(every)}] = &["]
     lines += [f"    {form}," for form in every] + ["];", ""]
-    lines += ["impl Form {", "    /// How many forms come before it, whatever they carry: so `Form::Zv_R(3)` has 0.", "    #[inline(always)]"]
-    lines += ["    pub fn discriminant(&self) -> u8", "        ensures { result ≡ discriminant_of self.now }", "    {"]
+    lines += ["impl Form {", "    /// The ordinal of the form with 0 in place of the number that it carries."]
+    lines += ["    ///", "    /// So `Form::Zv_R(3)` has 0, and `Form::Eb_Gb` has 40.", "    #[inline(always)]"]
+    lines += ["    pub fn first_ordinal(&self) -> u8", "        ensures { result ≡ first_ordinal_of self.now }", "    {"]
     lines += ["        match *self {"]
-    for place, (form, carries) in enumerate(forms()):
-        lines.append(f"            Form::{form}(_) => {place}," if carries else f"            Form::{form} => {place},")
+    ordinal = ordinals()
+    for form, carries in forms():
+        lines.append(f"            Form::{form}{'(_)' if carries else ''} => {ordinal[form]},")
     return lines + ["        }", "    }", "}"]
 
 

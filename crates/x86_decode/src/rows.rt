@@ -15,12 +15,12 @@ ghost use Rattle.x86_decode.specs.Walk.{HasForm, IsFound, found_row_step, plan_a
 use crate::instructions::Instruction;
 use x86_arch::Reader;
 use x86_fields::{DecodeError, ModRM, Prefixes};
-use x86_forms::TableRow;
+use x86_forms::{TableRow, word_carried};
 use x86_groups::{chosen, group_plan, read_group, read_group_into};
 use x86_opcodes::Opcode;
 use x86_operands::plans::{ModrmUse, Plan};
 use x86_operands::{
-    AfterOpcode, FormEncoding, Reading, carried, form_plan, read_form, read_form_into, read_modrm,
+    AfterOpcode, FormEncoding, Reading, form_plan, read_form, read_form_into, read_modrm,
     read_plan_into, word_encoding,
 };
 
@@ -173,7 +173,7 @@ pub fn read_by_line<T: Reader<u64, u8>>(
         Ok(Found::Left(rest)) => Ok(rest),
         Ok(Found::Line(line)) => {
             inst.opcode = line.opcode;
-            let num = carried(row.form);
+            let num = word_carried(word);
             inst.operand_list.read(
                 reader,
                 line.encoding,

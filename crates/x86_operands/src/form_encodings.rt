@@ -13,7 +13,7 @@ use crate::encodings::AfterOpcode::{ByPlan, ByReg, Group};
 use crate::encodings::{FormEncoding, RegGroup};
 use crate::plans::ModrmUse;
 use crate::{encoded, other};
-use x86_forms::{Form, TableRow, word_discriminant};
+use x86_forms::{Form, TableRow, word_ordinal};
 
 /// A line: what follows the opcode byte, the order of operands, the widths of reg and rm, the last operand, and
 /// the memory size in the memory form and in the register form.
@@ -48,13 +48,58 @@ macro_rules! other {
     };
 }
 
-/// The operand encoding of each form, in the order of the forms.
-const ENCODINGS: &[FormEncoding; 163] = &[
-    encoded!(Opcode R Vq B Absent Eight Eight), // Zv_R
-    other!(ByPlan(ModrmUse::Absent)), // Zv_AX_R
-    encoded!(Opcode R_I B B U8 Zero Zero), // Zb_Ib_R
-    encoded!(Opcode R_I V B Ivq Zero Zero), // Zv_Ivq_R
-    encoded!(Opcode R V B Absent Zero Zero), // Zv_B
+const ZV_R: FormEncoding = encoded!(Opcode R Vq B Absent Eight Eight);
+
+const ZV_AX_R: FormEncoding = other!(ByPlan(ModrmUse::Absent));
+
+const ZB_IB_R: FormEncoding = encoded!(Opcode R_I B B U8 Zero Zero);
+
+const ZV_IVQ_R: FormEncoding = encoded!(Opcode R_I V B Ivq Zero Zero);
+
+const ZV_B: FormEncoding = encoded!(Opcode R V B Absent Zero Zero);
+
+/// The operand encoding of each form by its ordinal. A form that carries a number has a line of eight.
+const ENCODINGS: &[FormEncoding; 198] = &[
+    ZV_R,
+    ZV_R,
+    ZV_R,
+    ZV_R,
+    ZV_R,
+    ZV_R,
+    ZV_R,
+    ZV_R,
+    ZV_AX_R,
+    ZV_AX_R,
+    ZV_AX_R,
+    ZV_AX_R,
+    ZV_AX_R,
+    ZV_AX_R,
+    ZV_AX_R,
+    ZV_AX_R,
+    ZB_IB_R,
+    ZB_IB_R,
+    ZB_IB_R,
+    ZB_IB_R,
+    ZB_IB_R,
+    ZB_IB_R,
+    ZB_IB_R,
+    ZB_IB_R,
+    ZV_IVQ_R,
+    ZV_IVQ_R,
+    ZV_IVQ_R,
+    ZV_IVQ_R,
+    ZV_IVQ_R,
+    ZV_IVQ_R,
+    ZV_IVQ_R,
+    ZV_IVQ_R,
+    ZV_B,
+    ZV_B,
+    ZV_B,
+    ZV_B,
+    ZV_B,
+    ZV_B,
+    ZV_B,
+    ZV_B,
     encoded!(EitherForm E_G B B Absent One One), // Eb_Gb
     encoded!(EitherForm E_G V V Absent V V), // Ev_Gv
     encoded!(EitherForm G_E B B Absent One One), // Gb_Eb
@@ -224,21 +269,22 @@ pub fn form_encoding(form: Form) -> &'static FormEncoding
     ensures sound { is_sound result.now ≡ true }
     ensures usage { modrm_use form ≡ use_of result.now.after_opcode }
 {
-    &ENCODINGS[form.discriminant() as usize]
+    &ENCODINGS[form.first_ordinal() as usize]
 }
 
 /// The operand encoding of the form that a word has: the row of this word is known. So the form need not be read to
 /// find its line.
 #[inline(always)]
 pub fn word_encoding(word: u64, row: &TableRow) -> &'static FormEncoding
-    requires { unpack word ≡ Some row.now }
+    requires form { IsForm row.now.form }
+    requires word { unpack word ≡ Some row.now }
     ensures describes { Describes result.now row.now.form }
     ensures separate { HasSeparatePlan result.now row.now.form }
     ensures group { Belongs result.now.after_opcode row.now.form }
     ensures sound { is_sound result.now ≡ true }
     ensures usage { modrm_use row.now.form ≡ use_of result.now.after_opcode }
 {
-    &ENCODINGS[word_discriminant(word) as usize]
+    &ENCODINGS[word_ordinal(word) as usize]
 }
 
 /// The number that a form carries, or 0.
