@@ -7,15 +7,16 @@ ghost use Rattle.x86_forms.specs.Words.{IsForm, carried, unpack};
 ghost use Rattle.x86_operands.specs.Encodings.{Belongs, Describes, has_fields, value_if_ok, is_described, is_sound, no_operands, plan_of, use_of};
 ghost use Rattle.x86_operands.specs.Forms.{modrm_use};
 ghost use Rattle.x86_operands.specs.PlanSteps.{read_plan, record_step};
+ghost use Rattle.x86_decode.specs.declared.rows.Rest.TheVariants as Rest;
 ghost use Rattle.x86_decode.specs.declared.instructions.Instruction.{Instruction};
 ghost use Rattle.x86_decode.specs.Grammar.{record_of};
 ghost use Rattle.x86_decode.specs.Instruction.{reading_in};
-ghost use Rattle.x86_decode.specs.Walk.{HasForm, IsFound, found_row_step, plan_at, rest_step, row_step, is_nothing};
+ghost use Rattle.x86_decode.specs.Walk.{IsFound, found_row_step, plan_at, rest_step, row_step, is_nothing};
 
 use crate::instructions::Instruction;
 use x86_arch::Reader;
 use x86_fields::{DecodeError, ModRM, Prefixes};
-use x86_forms::{TableRow, word_carried};
+use x86_forms::{TableRow, unpack, word_carried};
 use x86_groups::{chosen, group_plan, read_group, read_group_into};
 use x86_opcodes::Opcode;
 use x86_operands::plans::{ModrmUse, Plan};
@@ -28,10 +29,10 @@ use x86_operands::{
 #[derive(Clone, Copy, Drop)]
 pub enum Rest {
     Nothing,
-    /// All of a row.
-    Row(TableRow),
-    /// What follows this ModRM byte.
-    AfterModRM(TableRow, ModRM),
+    /// All of the row of this word.
+    Row(u64),
+    /// What follows this ModRM byte, in the row of this word.
+    AfterModRM(u64, ModRM),
 }
 
 /// The line of the operand encodings for a row, with the operation, and the ModRM byte; one that isn't there is C0.
@@ -83,22 +84,22 @@ fn read_line<'a, T: Reader<u64, u8>>(
 {
     let encoding = word_encoding(word, row);
     if !encoding.after_opcode.has_fields() {
-        return Ok(line_without_modrm(row, encoding));
+        return Ok(line_without_modrm(word, row, encoding));
     }
     let modrm = read_modrm(reader, ModrmUse::EitherForm)?;
     match encoding.after_opcode {
         AfterOpcode::ByReg(group) => {
             let (opcode, encoding) = chosen(group, modrm);
-            Ok(line_at(row, encoding, opcode, modrm))
+            Ok(line_at(word, row, encoding, opcode, modrm))
         }
-        _ => Ok(line_at(row, encoding, row.opcode, modrm)),
+        _ => Ok(line_at(word, row, encoding, row.opcode, modrm)),
     }
 }
 
 /// The line of a row without ModRM; else all of the row.
 #[inline(always)]
-fn line_without_modrm<'a>(row: &TableRow, encoding: &'a FormEncoding) -> Found<'a>
-    requires form { IsForm row.now.form }
+fn line_without_modrm<'a>(word: u64, row: &TableRow, encoding: &'a FormEncoding) -> Found<'a>
+    requires word { unpack word ≡ Some row.now }
     requires sound { is_sound encoding.now ≡ true }
     requires no_modrm { has_fields encoding.now.after_opcode ≡ false }
     requires group { Belongs encoding.now.after_opcode row.now.form }
@@ -116,19 +117,20 @@ fn line_without_modrm<'a>(row: &TableRow, encoding: &'a FormEncoding) -> Found<'
             modrm,
         })
     } else {
-        Found::Left(Rest::Row(*row))
+        Found::Left(Rest::Row(word))
     }
 }
 
 /// The line, if it accepts at this ModRM byte; else what follows it.
 #[inline(always)]
 fn line_at<'a>(
+    word: u64,
     row: &TableRow,
     encoding: &'a FormEncoding,
     opcode: Opcode,
     modrm: ModRM,
 ) -> Found<'a>
-    requires form { IsForm row.now.form }
+    requires word { unpack word ≡ Some row.now }
     requires sound { is_sound encoding.now ≡ true }
     requires describes { (strict : Bool) (p : Prefixes) →
         IsTrue (is_described encoding.now.after_opcode) →
@@ -146,7 +148,7 @@ fn line_at<'a>(
             modrm,
         })
     } else {
-        Found::Left(Rest::AfterModRM(*row, modrm))
+        Found::Left(Rest::AfterModRM(word, modrm))
     }
 }
 
@@ -166,7 +168,6 @@ pub fn read_by_line<T: Reader<u64, u8>>(
         row_step strict row inst.old.prefixes (T.state reader.old) }
     ensures blank { IfOk result (λ rest. is_nothing rest ≡ false
         → inst.new.operand_list ≡ no_operands) }
-    ensures form { IfOk result HasForm }
 {
     match read_line(word, &row, reader) {
         Err(error) => Err(error),
@@ -223,6 +224,31 @@ pub fn read_row_into<T: Reader<u64, u8>>(
     }
 }
 
+/// What follows a ModRM byte in the row of a word, by its plan.
+fn read_after_modrm<T: Reader<u64, u8>>(
+    strict: bool,
+    word: u64,
+    modrm: ModRM,
+    reader: &mut T,
+    inst: &mut Instruction,
+) -> Result<(), DecodeError>
+    requires { inst.old.operand_list ≡ no_operands }
+    ensures { outcome (value_if_ok result (reading_in inst.new)) (T.state reader.new) ≡
+        rest_step strict inst.old (Rest.AfterModRM word modrm) (T.state reader.old) }
+{
+    let Some(row) = unpack(word) else {
+        return Err(DecodeError::InvalidOpcode);
+    };
+    let plan = plan_at(strict, row, &inst.prefixes, modrm);
+    let Instruction {
+        prefixes,
+        opcode,
+        operand_list,
+        ..
+    } = inst;
+    read_plan_into(reader, &plan, modrm, prefixes, opcode, operand_list)
+}
+
 /// What is left of a row.
 #[inline(never)]
 pub fn read_rest<T: Reader<u64, u8>>(
@@ -231,23 +257,16 @@ pub fn read_rest<T: Reader<u64, u8>>(
     reader: &mut T,
     inst: &mut Instruction,
 ) -> Result<(), DecodeError>
-    requires form { HasForm rest }
     requires blank { is_nothing rest ≡ false → inst.old.operand_list ≡ no_operands }
     ensures { outcome (value_if_ok result (reading_in inst.new)) (T.state reader.new) ≡
         rest_step strict inst.old rest (T.state reader.old) }
 {
     match rest {
         Rest::Nothing => Ok(()),
-        Rest::Row(row) => read_row_into(strict, row, reader, inst),
-        Rest::AfterModRM(row, modrm) => {
-            let plan = plan_at(strict, row, &inst.prefixes, modrm);
-            let Instruction {
-                prefixes,
-                opcode,
-                operand_list,
-                ..
-            } = inst;
-            read_plan_into(reader, &plan, modrm, prefixes, opcode, operand_list)
-        }
+        Rest::Row(word) => match unpack(word) {
+            None => Err(DecodeError::InvalidOpcode),
+            Some(row) => read_row_into(strict, row, reader, inst),
+        },
+        Rest::AfterModRM(word, modrm) => read_after_modrm(strict, word, modrm, reader, inst),
     }
 }

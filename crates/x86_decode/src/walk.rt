@@ -10,7 +10,7 @@ ghost use Rattle.x86_decode.specs.Answer.{answer_of};
 ghost use Rattle.x86_decode.specs.Grammar.{first_slot, allows_lock};
 ghost use Rattle.x86_decode.specs.Instruction.{holding, invalid_instruction, reading_in};
 ghost use Rattle.x86_fields.specs.Errors.{is_exhausted};
-ghost use Rattle.x86_decode.specs.Walk.{LeadsTo, ResultLeadsTo, HasForm, IsReady, rest_step, body_step, long_step, walk_bounded, walk_within, decode_step, is_nothing, takes_lock, judgement, error_at_limit};
+ghost use Rattle.x86_decode.specs.Walk.{LeadsTo, ResultLeadsTo, IsReady, rest_step, body_step, long_step, walk_bounded, walk_within, decode_step, is_nothing, takes_lock, judgement, error_at_limit};
 
 use crate::bounded::{Bounded, Start, takes_rest};
 use crate::head::{is_prefix, read_head, read_on, read_word};
@@ -63,7 +63,6 @@ fn read_body<W: Words, T: Reader<u64, u8>>(
         (T.state reader.old) }
     ensures blank { IfOk result (λ rest. is_nothing rest ≡ false
         → inst.new.operand_list ≡ no_operands) }
-    ensures form { IfOk result HasForm }
 {
     let word = read_word(rows, reader, &mut inst.prefixes, byte)?;
     match unpack(word) {

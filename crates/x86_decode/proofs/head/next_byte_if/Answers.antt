@@ -1,5 +1,4 @@
-use Rattle.std.proofs.Common.{◌≡◌, Ok, Err, refl}
-use Rattle.x86_fields.specs.Steps.{outcome}
+use Rattle.std.proofs.Common.{◌≡◌, Ok, refl}
 use Rattle.x86_decode.proofs.HeadWalk.{byte_is, none_is, if_wanted}
 use Rattle.x86_decode.proofs.head.next_byte_if.Goals as goal
 
