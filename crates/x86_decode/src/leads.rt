@@ -5,10 +5,10 @@ ghost use Rattle.x86_decode.specs.Lead.{lead_of};
 /// What a byte is at the beginning of an encoding.
 #[derive(Clone, Copy, PartialEq, Eq, Debug, Drop)]
 pub enum Lead {
-    Opcode,
     /// A legacy prefix.
     Legacy,
     Rex,
+    Opcode,
     /// 0F.
     Escape,
     /// C4, C5 or 62.

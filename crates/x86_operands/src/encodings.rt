@@ -41,12 +41,6 @@ pub enum RegGroup {
 /// What follows the opcode byte.
 #[derive(Clone, Copy, Drop)]
 pub enum AfterOpcode {
-    /// No ModRM, and no register.
-    Nothing,
-    /// No ModRM: the opcode byte carries the number of a register.
-    Opcode,
-    /// No ModRM: register 0 is an operand.
-    Accumulator,
     /// A ModRM of either form.
     EitherForm,
     /// A ModRM of the memory form; the register form is refused.
@@ -55,6 +49,12 @@ pub enum AfterOpcode {
     Registers,
     /// A ModRM whose reg chooses the line.
     ByReg(RegGroup),
+    /// No ModRM, and no register.
+    Nothing,
+    /// No ModRM: the opcode byte carries the number of a register.
+    Opcode,
+    /// No ModRM: register 0 is an operand.
+    Accumulator,
     /// A form with a separate plan.
     ByPlan(ModrmUse),
     /// Another group.
