@@ -1,6 +1,6 @@
 use Rattle.std.proofs.Common.{rules, Ok, Err}
 use Rattle.x86_decode.proofs.DecodeLemmas.{decoded}
-use Rattle.x86_decode.proofs.InstDecoder.decode_into.Goals as goal
+use Rattle.x86_decode.proofs.decoder.InstDecoder.decode_into.Goals as goal
 
 pub returns-in-Ok : goal.returns-in-Ok
 returns-in-Ok g c =

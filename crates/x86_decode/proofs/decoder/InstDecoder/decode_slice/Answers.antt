@@ -1,6 +1,6 @@
 use Rattle.std.proofs.Common.{rules}
 use Rattle.x86_decode.proofs.DecodeLemmas.{printed_answers}
-use Rattle.x86_decode.proofs.InstDecoder.decode_slice_into.Goals as goal
+use Rattle.x86_decode.proofs.decoder.InstDecoder.decode_slice.Goals as goal
 
 pub returns-in-Ok-clause-answers : goal.returns-in-Ok-clause-answers
 returns-in-Ok-clause-answers c = printed_answers (search rules)

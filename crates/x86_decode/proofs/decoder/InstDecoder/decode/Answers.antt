@@ -1,5 +1,5 @@
 use Rattle.x86_decode.proofs.PrintedLemmas.{only_answer}
-use Rattle.x86_decode.proofs.InstDecoder.decode.Goals as goal
+use Rattle.x86_decode.proofs.decoder.InstDecoder.decode.Goals as goal
 
 pub returns : goal.returns
 returns g c =

@@ -1,0 +1,183 @@
+//! The five calls that decode.
+
+ghost use Rattle.std.specs.Prelude.{◌≡◌, true, false, OnErr};
+ghost use Rattle.std.proofs.Common.{rules};
+ghost use Rattle.std.specs.Cmp.{partial_order_from_own_ties};
+ghost use Rattle.std.specs.Cmp.Rules.{comparing};
+ghost use Rattle.std.specs.Ordering.{on, bool_cmp, flip_args, as_partial_cmp};
+ghost use Rattle.x86_forms.specs.Words.{rows_of, packed};
+ghost use Rattle.x86_decode.specs.Decoder.{is_strict};
+ghost use Rattle.x86_decode.specs.Answer.{answer_of, count_of};
+ghost use Rattle.x86_decode.specs.Answers.{Answers, HasMoved};
+ghost use Rattle.x86_decode.specs.Instruction.{holding, invalid_instruction};
+
+use crate::instructions::Instruction;
+use crate::walk::{walk, walk_into, walk_slice};
+use std::cmp::Ordering;
+use x86_arch::Reader;
+use x86_fields::DecodeError;
+use x86_forms::{Packed, Words};
+
+/// How instructions are read. By default the fences LFENCE, MFENCE and SFENCE are read whatever rm is; a strict
+/// decoder refuses them where rm isn't 0.
+#[derive(Clone, Copy, PartialEq, Eq, Hash, Drop)]
+pub struct InstDecoder {
+    strict: bool,
+}
+
+impl InstDecoder {
+    /// The decoder that refuses LFENCE, MFENCE and SFENCE with rm other than 0.
+    pub fn strict() -> InstDecoder
+        ensures { is_strict result ≡ true }
+    {
+        InstDecoder { strict: true }
+    }
+
+    /// Whether it refuses LFENCE, MFENCE and SFENCE with rm other than 0.
+    pub fn is_strict(&self) -> bool
+        ensures { result ≡ is_strict self.now }
+    {
+        self.strict
+    }
+
+    /// The instruction at the beginning of what the reader has left, with the rows of a table in place of the printed
+    /// ones.
+    ///
+    /// The prefix bytes, 0F, C4, C5 and 62 keep their meaning whatever row the table has for them, and so do 38 and
+    /// 3A after 0F. The reader is marked. On `Ok` it has moved by the length, after a refusal by the bytes that
+    /// decide it, and after `ExhaustedInput` it is before the number that didn't fit, or at the end of the input.
+    ///
+    /// A caller uses `answers`: the result is the grammar's answer of what was left, it comes exactly where its cause
+    /// is, and the items since the mark are its count, at most 15. `moved`: the reader has taken these and no other.
+    pub fn decode_by<W: Words, T: Reader<u64, u8>>(
+        &self,
+        rows: &W,
+        words: &mut T,
+    ) -> Result<Instruction, DecodeError>
+        ensures answers { Answers (rows_of (W.word rows.now)) (is_strict self.now)
+            (T.state words.old).left result (T.state words.new).since_mark }
+        ensures moved { HasMoved (T.state words.old) (T.state words.new) }
+    {
+        walk(self.strict, rows, words)
+    }
+
+    /// The instruction at the beginning of what the reader has left. The reader is marked, and moves as `decode_by`
+    /// says.
+    ///
+    /// A caller uses `answers` and `moved` as of `decode_by`, and `value` and `count`: the result and the items since
+    /// the mark are functions of the bytes that were left.
+    pub fn decode<T: Reader<u64, u8>>(&self, words: &mut T) -> Result<Instruction, DecodeError>
+        ensures answers { Answers (rows_of packed) (is_strict self.now)
+            (T.state words.old).left result (T.state words.new).since_mark }
+        ensures value { result ≡ answer_of (is_strict self.now) (T.state words.old).left }
+        ensures count { (T.state words.new).since_mark
+            ≡ count_of (is_strict self.now) (T.state words.old).left }
+        ensures moved { HasMoved (T.state words.old) (T.state words.new) }
+    {
+        self.decode_by(&Packed, words)
+    }
+
+    /// As `decode`, written to an instruction. What it held before doesn't matter, and after a refusal it is
+    /// `Instruction::invalid()`.
+    ///
+    /// A caller uses the clauses of `decode`, which speak of `Ok` with this instruction where the status is `Ok`, and
+    /// of the error otherwise; `laws::statuses_are_results` says the same of the status.
+    pub fn decode_into<T: Reader<u64, u8>>(
+        &self,
+        inst: &mut Instruction,
+        words: &mut T,
+    ) -> Result<(), DecodeError>
+        ensures answers { Answers (rows_of packed) (is_strict self.now) (T.state words.old).left
+            (holding inst.new result) (T.state words.new).since_mark }
+        ensures value { holding inst.new result
+            ≡ answer_of (is_strict self.now) (T.state words.old).left }
+        ensures count { (T.state words.new).since_mark
+            ≡ count_of (is_strict self.now) (T.state words.old).left }
+        ensures moved { HasMoved (T.state words.old) (T.state words.new) }
+        ensures invalid { OnErr result (inst.new ≡ invalid_instruction) }
+    {
+        *inst = Instruction::invalid();
+        match walk_into(self.strict, &Packed, words, inst) {
+            Ok(()) => Ok(()),
+            Err(error) => {
+                *inst = Instruction::invalid();
+                Err(error)
+            }
+        }
+    }
+
+    /// The instruction at the beginning of the bytes: of `[0x90, 0x06]` it is NOP with length 1, whatever comes after
+    /// it.
+    ///
+    /// A caller uses `value`: the result is a function of the bytes; and `answers`: it comes exactly where its cause
+    /// is.
+    #[inline(always)]
+    pub fn decode_slice(&self, bytes: &[u8]) -> Result<Instruction, DecodeError>
+        ensures answers { Answers (rows_of packed) (is_strict self.now) bytes.now result
+            (count_of (is_strict self.now) bytes.now) }
+        ensures value { result ≡ answer_of (is_strict self.now) bytes.now }
+    {
+        let mut inst = Instruction::invalid();
+        match walk_slice(self.strict, bytes, &mut inst) {
+            Ok(()) => Ok(inst),
+            Err(error) => Err(error),
+        }
+    }
+
+    /// As `decode_slice`, written to an instruction, for loops over code. What it held before doesn't matter, and
+    /// after a refusal it is `Instruction::invalid()`.
+    ///
+    /// A caller uses the clauses of `decode_slice`, which speak of `Ok` with this instruction where the status is
+    /// `Ok`, and of the error otherwise.
+    #[inline(always)]
+    pub fn decode_slice_into(&self, inst: &mut Instruction, bytes: &[u8]) -> Result<(), DecodeError>
+        ensures answers { Answers (rows_of packed) (is_strict self.now) bytes.now
+            (holding inst.new result) (count_of (is_strict self.now) bytes.now) }
+        ensures value { holding inst.new result ≡ answer_of (is_strict self.now) bytes.now }
+        ensures invalid { OnErr result (inst.new ≡ invalid_instruction) }
+    {
+        *inst = Instruction::invalid();
+        match walk_slice(self.strict, bytes, inst) {
+            Ok(()) => Ok(()),
+            Err(error) => {
+                *inst = Instruction::invalid();
+                Err(error)
+            }
+        }
+    }
+}
+
+impl Default for InstDecoder {
+    /// The decoder that reads LFENCE, MFENCE and SFENCE whatever rm is.
+    fn default() -> InstDecoder
+        ensures { is_strict result ≡ false }
+    {
+        InstDecoder { strict: false }
+    }
+}
+
+/// The strict decoder is below the default one.
+impl Ord for InstDecoder {
+    ghost cmp = { flip_args (on (λ d. (is_strict d)) bool_cmp) };
+
+    ghost total = { Prim.search (comparing, rules) };
+
+    ghost matches_partial_cmp = { Prim.search (comparing, rules) };
+
+    ghost matches_eq = { Prim.search (comparing, rules) };
+
+    fn cmp(&self, other: &InstDecoder) -> Ordering {
+        other.strict.cmp(&self.strict)
+    }
+}
+
+impl PartialOrd for InstDecoder {
+    ghost partial_cmp = { as_partial_cmp (flip_args (on (λ d. (is_strict d)) bool_cmp)) };
+
+    ghost laws = { partial_order_from_own_ties (Prim.search (comparing, rules))
+        (Prim.search (comparing, rules)) };
+
+    fn partial_cmp(&self, other: &InstDecoder) -> Option<Ordering> {
+        Some(self.cmp(other))
+    }
+}
