@@ -38,8 +38,8 @@ pub enum Rest {
 /// The line of the operand encodings for a row, with the operation, and the ModRM byte; one that isn't there is C0.
 #[derive(Clone, Copy, Drop)]
 struct RowLine<'a> {
-    encoding: &'a FormEncoding,
     opcode: Opcode,
+    encoding: &'a FormEncoding,
     modrm: ModRM,
 }
 
