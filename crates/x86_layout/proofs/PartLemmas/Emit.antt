@@ -1,5 +1,5 @@
 -- Permitted fields are the parts of an accepted encoding, and the parts of an accepted encoding are permitted.
-use Rattle.std.proofs.Common.{◌≡◌, ℕ, ◌↔◌, ◌≤◌, nat_le, Bool, true, false, if◌then◌else◌, List, [], ◌∷◌, ◌++◌, length, take, slice_index, Option, Some, None, Result, Ok, refl, sym, ap, subst, ◌∙◌, arith}
+use Rattle.std.proofs.Common.{◌≡◌, ℕ, ◌↔◌, ◌≤◌, nat_le, Bool, true, false, if◌then◌else◌, List, [], ◌∷◌, ◌++◌, length, take, Option, Some, None, Result, Ok, refl, sym, ap, subst, ◌∙◌, arith}
 use Rattle.std.proofs.lemmas.List.{append-nil}
 use Rattle.std.proofs.lemmas.Bool.Decides.{nat_tests}
 use Rattle.x86_arch.specs.Reader.{State}
@@ -15,7 +15,7 @@ use Rattle.x86_operands.specs.Pieces.{SpellsRow}
 use Rattle.x86_operands.specs.PlanSteps.{record_step}
 use Rattle.x86_operands.proofs.RecordLemmas.{takes_row}
 use Rattle.x86_decode.specs.declared.instructions.Instruction.{Instruction}
-use Rattle.x86_decode.specs.Head.{is_run, column_of, escape_bytes, is_opcode, seen_by}
+use Rattle.x86_decode.specs.Head.{column_of, escape_bytes, is_opcode, seen_by}
 use Rattle.x86_decode.specs.Grammar.{record_of, allows_lock, IsAccepted, IsAnswer}
 use Rattle.x86_decode.specs.Instruction.{instruction_of}
 use Rattle.x86_decode.specs.Answer.{answer_of, count_of}
@@ -27,7 +27,7 @@ use Rattle.x86_layout.specs.Parts.Split.{Encoding, record_in, HasParts, joined}
 use Rattle.x86_layout.specs.Parts.OfBytes.{parts_of}
 use Rattle.x86_layout.specs.Parts.Fields.{lists_in, HasFieldLengths}
 use Rattle.x86_layout.specs.Parts.Permitted.{map_named, entry_by, entry_at, entry_of, record_by, has_legal_run, passes_record, has_row_parts, tail_of, answer_allows_lock, has_lawful_lock, is_short, unless, failing_at, first_failing, IsPermitted, ArePartsOfSentence}
-use Rattle.x86_layout.proofs.PartLemmas.Part.{beginning_is}
+use Rattle.x86_layout.proofs.PartLemmas.Part.{cut_is}
 use Rattle.x86_layout.proofs.PartLemmas.OfBytes.{parts_are, parts_once}
 use Rattle.x86_layout.proofs.PartLemmas.Split.{joined_is}
 use Rattle.x86_layout.proofs.PartLemmas.Length.{lengths_of}
@@ -149,7 +149,7 @@ split_again strict f rest only h =
     let s : List ℕ = joined (lists_in f) in
     let is = x.sentence in
     let accepted : IsAccepted (rows_of packed) strict (s ++ rest) x.answer (length s) = record { sentence = s; rest = rest; begins = refl; long = refl; is = is } in
-    (x.answer, sym (only (s ++ rest) (Ok x.answer) (length s) accepted).0, parts_once strict s is.reading is.whole (parts_of strict (s ++ rest)) (lists_in f) (parts_are strict (s ++ rest) s rest is.reading is.whole refl) x.parts)
+    (x.answer, sym (only (s ++ rest) (Ok x.answer) (length s) accepted).0, parts_once (parts_are rest is.whole refl) x.parts)
 
 -- ---- the parts of an accepted encoding are permitted
 
@@ -159,7 +159,7 @@ map_back m = grind arith
 short_test : (n : ℕ) → n ≤ 15 → nat_le n 15 ≡ true
 short_test n h = grind (arith, nat_tests)
 
-module _ (strict : Bool) (s : List ℕ) (reading : Reading) (w : Encoding strict s reading) (f : fields.Fields) (h : HasParts strict s reading w (lists_in f)) where
+module _ {strict : Bool} {s : List ℕ} {reading : Reading} {w : Encoding strict s reading} (f : fields.Fields) (h : HasParts strict s reading w (lists_in f)) where
   abbrev q : Prefixes
   q = seen_by w.map w.opcode (reading_of w.run)
 
@@ -167,19 +167,10 @@ module _ (strict : Bool) (s : List ℕ) (reading : Reading) (w : Encoding strict
   entry = record { row = w.row; prefixes = q }
 
   entry_is : entry_of f ≡ Some entry
-  entry_is =
-      ap (λ l. entry_at (map_named l) (reading_of f.prefixes.items) f.opcode) h.escape
-      ∙ ap (λ o. entry_at o (reading_of f.prefixes.items) f.opcode) (map_back w.map)
-      ∙ ap (λ l. entry_at (Some w.map) (reading_of l) f.opcode) h.prefixes
-      ∙ ap (λ l. entry_at (Some w.map) (reading_of w.run) (slice_index l 0)) h.opcode
-      ∙ ap (λ t. if t then entry_by (rows_of packed w.map (column_of (reading_of w.run)) w.opcode) q else None) w.in_map
-      ∙ ap (λ o. entry_by o q) w.has_row
+  entry_is = cc (map_back w.map, w.in_map, w.has_row)
 
   tail_is : tail_of f ≡ w.tail
-  tail_is =
-      let a = w.row_spelled in
-      let t = a.tail_spelled.pieces in
-      cc (h.modrm, h.address, h.immediate, h.suffix, a.spelled, t.spelled)
+  tail_is = cc (w.row_spelled.spelled, w.row_spelled.tail_spelled.pieces.spelled)
 
   lock_is : allows_lock reading ≡ true → has_lawful_lock strict entry f ≡ true
   lock_is k = ap (λ l. answer_allows_lock (record_step (record_in strict s reading w) q (record { left = l; since_mark = 0; since_made = 0 })).answer) tail_is ∙ reading_is (record_in strict s reading w) q w.tail reading w.row_spelled ∙ k
@@ -190,27 +181,21 @@ module _ (strict : Bool) (s : List ℕ) (reading : Reading) (w : Encoding strict
   pub permitted : allows_lock reading ≡ true → length s ≤ 15 → IsPermitted strict f
   unfolding first_failing
   permitted lock short =
-      let legal : has_legal_run f ≡ true = ap is_run h.prefixes ∙ w.prefixes in
-      let short' : is_short f ≡ true = short_test _ (subst (λ l. length l ≤ 15) (sym (joined_is strict s reading w (lists_in f) h)) short) in
+      let legal : has_legal_run f ≡ true = cc (h.prefixes, w.prefixes) in
+      let short' : is_short f ≡ true = cc (joined_is h, short_test (length s) short) in
       ap (λ o. unless (has_legal_run f) error.Prefixes (failing_at strict o f)) entry_is
       ∙ all_hold (has_legal_run f) _ _ _ _ legal (passes f w.row_spelled pieces) (row_parts f w.row_spelled pieces) (lock_is lock) short'
 
 -- Emitting the fields of a split yields the encoding's very bytes.
 pub emitted_again : (strict : Bool) (bytes : List ℕ) (i : Instruction) (f : fields.Fields) → IsAccepted (rows_of packed) strict bytes i (count_of strict bytes) → i.length ≡ count_of strict bytes → lists_in f ≡ parts_of strict bytes → IsPermitted strict f × (joined (lists_in f) ≡ take i.length bytes)
 emitted_again strict bytes i f a counted e =
-    let x = a.is in
-    let s = a.sentence in
-    let h : HasParts strict s x.reading x.whole (lists_in f) =
-    subst (HasParts strict s x.reading x.whole) (sym e) (parts_are strict bytes s a.rest x.reading x.whole a.begins) in
-    (permitted strict s x.reading x.whole f h x.lock x.short, joined_is strict s x.reading x.whole (lists_in f) h ∙ sym (beginning_is bytes s a.rest i.length a.begins (counted ∙ sym a.long)))
+    let h = subst (HasParts strict a.sentence a.is.reading a.is.whole) (sym e) (parts_are a.rest a.is.whole a.begins) in
+    (permitted f h a.is.lock a.is.short, joined_is h ∙ sym (cut_is a.sentence a.rest a.begins (counted ∙ sym a.long)).0)
 
 -- Fields are permitted exactly where they are the parts of a sentence.
 pub permitted_are_parts : (strict : Bool) (f : fields.Fields) → IsPermitted strict f ↔ ArePartsOfSentence strict f
-permitted_are_parts strict f = (emitted strict f, λ k. permitted strict (joined (lists_in f)) k.sentence.reading k.sentence.whole f k.parts k.sentence.lock k.sentence.short)
+permitted_are_parts strict f = (emitted strict f, λ k. permitted f k.parts k.sentence.lock k.sentence.short)
 
 -- The parts of an accepted encoding have lengths that fields can hold.
 pub parts_fit : (strict : Bool) (bytes : List ℕ) (i : Instruction) → IsAccepted (rows_of packed) strict bytes i (count_of strict bytes) → HasFieldLengths (parts_of strict bytes)
-parts_fit strict bytes i a =
-    let x = a.is in
-    let h = parts_are strict bytes a.sentence a.rest x.reading x.whole a.begins in
-    lengths_of strict a.sentence x.reading x.whole (parts_of strict bytes) h x.short
+parts_fit strict bytes i a = lengths_of (parts_are a.rest a.is.whole a.begins) a.is.short

@@ -1,9 +1,8 @@
 -- The parts of an accepted encoding have lengths that fields can hold.
-use Rattle.std.proofs.Common.{◌≡◌, ℕ, ◌≤◌, Bool, true, false, if◌then◌else◌, List, length, Option, sym, ap, ◌∙◌, arith, length-append}
+use Rattle.std.proofs.Common.{◌≡◌, ℕ, ◌≤◌, Bool, true, false, if◌then◌else◌, List, length, Option, ap, ◌∙◌, arith, length-append}
 use Rattle.x86_fields.specs.declared.prefixes.Prefixes.{Prefixes}
 use Rattle.x86_fields.specs.ModRM.{is_memory}
 use Rattle.x86_fields.specs.Raw.{displacement_width}
-use Rattle.x86_fields.specs.Run.{reading_of}
 use Rattle.x86_fields.specs.Pieces.{first_byte}
 use Rattle.x86_forms.specs.declared.Map.{Map}
 use Rattle.x86_forms.specs.declared.TableRow.{TableRow}
@@ -17,13 +16,13 @@ use Rattle.x86_operands.specs.Forms.{form_record}
 use Rattle.x86_operands.proofs.PlainLemmas.{plain_narrow}
 use Rattle.x86_groups.specs.Groups.{group_record}
 use Rattle.x86_groups.proofs.GroupLemmas.{group_narrow}
-use Rattle.x86_decode.specs.Head.{escape_bytes, seen_by}
+use Rattle.x86_decode.specs.Head.{escape_bytes}
 use Rattle.x86_decode.specs.Grammar.{record_of}
 use Rattle.x86_layout.specs.Parts.Heads.{one_if}
 use Rattle.x86_layout.specs.Parts.Split.{PartLists, Encoding, record_in, HasParts}
 use Rattle.x86_layout.specs.Parts.Fields.{HasFieldLengths}
-use Rattle.x86_layout.proofs.PartLemmas.Part.{drop_of, operands_long}
-use Rattle.x86_layout.proofs.PartLemmas.OfBytes.{address_parts}
+use Rattle.x86_layout.proofs.PartLemmas.Part.{immediates_long}
+use Rattle.x86_layout.proofs.PartLemmas.OfBytes.{displacement_long}
 
 one_at_most : (b : Bool) → one_if b ≤ 1
 one_at_most b = grind arith
@@ -53,23 +52,18 @@ immediate_small strict row p m = by (is_group row.form)
 at_most : (n m k : ℕ) → n ≡ m → m ≤ k → n ≤ k
 at_most n m k e h = omega (arith, e, h)
 
-pub lengths_of : (strict : Bool) (s : List ℕ) (reading : Reading) (w : Encoding strict s reading) (p : PartLists) → HasParts strict s reading w p → length s ≤ 15 → HasFieldLengths p
-lengths_of strict s reading w p h short =
-    let r = record_in strict s reading w in
-    let q = seen_by w.map w.opcode (reading_of w.run) in
+pub lengths_of : {strict : Bool} {s : List ℕ} {reading : Reading} {w : Encoding strict s reading} {p : PartLists} → HasParts strict s reading w p → length s ≤ 15 → HasFieldLengths p
+lengths_of {strict = strict} {w = w} {p = p} h short =
     let a = w.row_spelled in
-    let t = a.tail_spelled.pieces in
+    let r = record_in strict _ _ w in
     let m : ℕ = modrm_of r.modrm a.modrm in
-    let x = address_parts q m t.address t.memory t.address_spelled in
-    let disp : p.displacement ≡ x.disp =
-    drop_of p.sib p.displacement x.sib x.disp (h.address ∙ x.spelled) (h.sib ∙ sym x.sib_long) in
     record {
       prefixes = omega (arith, length-append {A = ℕ}, ap length h.prefixes, ap length w.spelled, short);
       escape = at_most _ _ 2 (ap length h.escape) (escape_small w.map);
       opcode = ap length h.opcode;
       modrm = at_most _ _ 1 (ap length h.modrm ∙ a.modrm_length) (modrm_small r.modrm);
       sib = at_most _ _ 1 h.sib (one_at_most _);
-      displacement = at_most _ _ 4 (ap length disp ∙ x.disp_long) (displacement_small m (first_byte x.sib));
-      immediate = at_most _ _ 8 (ap length h.immediate ∙ operands_long _ q m t.memory t.immediates t.operand_pairs t.immediates_spelled) (immediate_small strict w.row q m);
-      suffix = at_most _ _ 1 (ap length h.suffix ∙ t.suffix_length) (suffix_small (r.plan m).verdict);
+      displacement = at_most _ _ 4 (displacement_long a p.sib p.displacement h.address h.sib) (displacement_small m (first_byte p.sib));
+      immediate = at_most _ _ 8 (ap length h.immediate ∙ immediates_long a) (immediate_small strict w.row _ m);
+      suffix = at_most _ _ 1 (ap length h.suffix ∙ a.tail_spelled.pieces.suffix_length) (suffix_small (r.plan m).verdict);
     }

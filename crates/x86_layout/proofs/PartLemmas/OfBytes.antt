@@ -1,10 +1,10 @@
 -- The parts of the encoding at the beginning of bytes are the pieces of any whole encoding there.
-use Rattle.std.proofs.Common.{◌≡◌, ℕ, ◌==◌, ◌&&◌, Bool, true, if◌then◌else◌, List, [], ◌∷◌, ◌++◌, length, slice_index, Option, Some, None, is_some, refl, sym, ap, subst, ◌∙◌, append_assoc, arith}
+use Rattle.std.proofs.Common.{◌≡◌, ℕ, Bool, true, if◌then◌else◌, List, [], ◌∷◌, ◌++◌, length, slice_index, Option, Some, None, is_some, refl, sym, ap, ◌∙◌, append_assoc, arith}
 use Rattle.std.specs.List.{prefix_len}
 use Rattle.x86_fields.specs.declared.prefixes.Prefixes.{Prefixes}
 use Rattle.x86_fields.specs.declared.raw.Raw.{Raw}
 use Rattle.x86_fields.specs.Run.{is_prefix, reading_of}
-use Rattle.x86_fields.specs.ModRM.{rm_field, is_memory}
+use Rattle.x86_fields.specs.ModRM.{is_memory}
 use Rattle.x86_fields.specs.Raw.{displacement_width}
 use Rattle.x86_fields.specs.Pieces.{option_bytes, first_byte}
 use Rattle.x86_operands.specs.declared.asks.Ask.{Ask}
@@ -13,10 +13,10 @@ use Rattle.x86_operands.specs.Plans.{RowRecord}
 use Rattle.x86_operands.specs.Pieces.{modrm_of, SpellsMemory, SpellsRow}
 use Rattle.x86_operands.specs.Asks.{used_modrm, ask_of}
 use Rattle.x86_decode.specs.Head.{escape_bytes, seen_by}
-use Rattle.x86_layout.specs.Parts.Heads.{map_of, one_if, has_sib}
+use Rattle.x86_layout.specs.Parts.Heads.{one_if}
 use Rattle.x86_layout.specs.Parts.Split.{PartLists, Encoding, record_in, sib_width, HasParts}
-use Rattle.x86_layout.specs.Parts.OfBytes.{ask_by, ask_after_run, displacement_length_by, run_in, after_run, map_in, after_escape, opcode_in, tail_in, ask_in, modrm_in, after_modrm, sib_in, after_sib, displacement_in, after_displacement, immediate_in, suffix_in, parts_of}
-use Rattle.x86_layout.proofs.PartLemmas.Part.{beginning_is, rest_is, take_of, drop_of, run_length_is, map_is, enters, as_it_is, read_as, modrm_count, sib_count, immediate_count, suffix_count}
+use Rattle.x86_layout.specs.Parts.OfBytes.{ask_by, ask_after_run, displacement_length_by, run_in, after_run, map_in, opcode_in, tail_in, ask_in, modrm_in, sib_in, displacement_in, immediate_in, suffix_in, parts_of}
+use Rattle.x86_layout.proofs.PartLemmas.Part.{cut_is, halves, run_length_is, map_is, enters, as_it_is, read_as, modrm_count, sib_count, immediate_count, suffix_count}
 
 -- ---- SIB and displacement
 
@@ -33,23 +33,11 @@ option_count o = grind arith
 pub first_of : (o : Option ℕ) → first_byte (option_bytes o) ≡ o
 first_of o = grind arith
 
-pub address_parts : (p : Prefixes) (m : ℕ) (address : List ℕ) (memory : Option Raw) → SpellsMemory p m address memory → AddressParts m address
-address_parts p m address None h = record {
-  sib = [];
-  disp = [];
-  spelled = h.1;
-  sib_long = subst (λ t. 0 ≡ one_if (t && rm_field m == 4)) (sym h.0) refl;
-  disp_long = subst (λ t. 0 ≡ (if t then displacement_width m None else 0)) (sym h.0) refl;
-}
+address_parts : (p : Prefixes) (m : ℕ) (address : List ℕ) (memory : Option Raw) → SpellsMemory p m address memory → AddressParts m address
+address_parts p m address None h = record { sib = []; disp = []; spelled = h.1; sib_long = cc (h.0); disp_long = cc (h.0) }
 address_parts p m address (Some raw) h =
     let s = h.1 in
-    record {
-      sib = option_bytes s.sib;
-      disp = s.disp;
-      spelled = s.spelled;
-      sib_long = option_count s.sib ∙ ap one_if s.sib_present ∙ subst (λ t. one_if (rm_field m == 4) ≡ one_if (t && rm_field m == 4)) (sym h.0) refl;
-      disp_long = s.disp_length ∙ ap (displacement_width m) (sym (first_of s.sib)) ∙ subst (λ t. displacement_width m (first_byte (option_bytes s.sib)) ≡ (if t then displacement_width m (first_byte (option_bytes s.sib)) else 0)) (sym h.0) refl;
-    }
+    record { sib = option_bytes s.sib; disp = s.disp; spelled = s.spelled; sib_long = cc (option_count s.sib, s.sib_present, h.0); disp_long = cc (s.disp_length, first_of s.sib, h.0) }
 
 -- in a memory form that is read as such, the byte is used as it is
 disp_by : (memory : Bool) (raw used : ℕ) (sib : Option ℕ) → (memory ≡ true → used ≡ raw) → (if memory then displacement_width raw sib else 0) ≡ (if memory then displacement_width used sib else 0)
@@ -65,49 +53,46 @@ pub record HoldsPieces (r : RowRecord) (p : Prefixes) (tail : List ℕ) (reading
   pub immediate : immediate_bytes ≡ a.tail_spelled.pieces.immediates
   pub suffix : suffix_bytes ≡ a.tail_spelled.pieces.suffix
 
-module _ {r : RowRecord} {p : Prefixes} {tail : List ℕ} {reading : Reading} (a : SpellsRow r p tail reading) {all : List ℕ} (rest : List ℕ) (e : all ≡ tail ++ rest) {ask : Ask} (k : ask ≡ ask_of r (slice_index all 0)) where
-  abbrev first : ℕ
-  first = slice_index all 0
-
+module _ {r : RowRecord} {p : Prefixes} {tail : List ℕ} {reading : Reading} (a : SpellsRow r p tail reading) where
   abbrev m : ℕ
   m = modrm_of r.modrm a.modrm
 
-  begins : all ≡ a.modrm ++ (a.tail ++ rest)
-  begins = e ∙ ap (λ l. l ++ rest) a.spelled ∙ append_assoc a.modrm a.tail rest
+  address_of : AddressParts m a.tail_spelled.pieces.address
+  address_of = address_parts p m _ _ a.tail_spelled.pieces.address_spelled
 
-  width_is : (sib : List ℕ) → displacement_length_by ask first sib ≡ (if is_memory m then displacement_width m (first_byte sib) else 0)
-  unfolding ask_of
-  width_is sib =
-      let u = r.modrm in
-      ap (λ x. displacement_length_by x first sib) k
-      ∙ disp_by (is_memory (used_modrm u first)) first (used_modrm u first) (first_byte sib) (as_it_is u first)
-      ∙ ap (λ n. if is_memory n then displacement_width n (first_byte sib) else 0) (sym (read_as a (a.tail ++ rest) begins k))
+  -- SIB as long as it says tells how long the displacement is
+  pub displacement_long : (sib disp : List ℕ) → sib ++ disp ≡ a.tail_spelled.pieces.address → length sib ≡ sib_width m → length disp ≡ (if is_memory m then displacement_width m (first_byte sib) else 0)
+  displacement_long sib disp e h =
+      let x = address_of in
+      let same = halves sib disp x.sib x.disp (e ∙ x.spelled) (h ∙ sym x.sib_long) in
+      cc (same.0, same.1, x.disp_long)
 
-  pub has_tail : HoldsPieces r p tail reading a (modrm_in ask all) (sib_in ask all) (displacement_in ask all) (immediate_in ask all) (suffix_in ask all)
-  has_tail =
-      let more : List ℕ = a.tail ++ rest in
-      let s = a.tail_spelled.pieces in
-      let x = address_parts p m s.address s.memory s.address_spelled in
-      let last : List ℕ = s.immediates ++ (s.suffix ++ rest) in
-      let modrm_n = modrm_count a more begins k in
-      let row_rest : after_modrm ask all ≡ x.sib ++ (x.disp ++ last) =
-      rest_is all a.modrm more _ begins modrm_n
-      ∙ ap (λ l. l ++ rest) s.spelled
-      ∙ ap (λ l. (l ++ (s.immediates ++ s.suffix)) ++ rest) x.spelled ∙ simp append_assoc in
-      let sib_n : one_if (has_sib ask first) ≡ length x.sib = sib_count a more begins k ∙ sym x.sib_long in
-      let sib : sib_in ask all ≡ x.sib = beginning_is _ x.sib (x.disp ++ last) _ row_rest sib_n in
-      let sib_rest : after_sib ask all ≡ x.disp ++ last = rest_is _ x.sib (x.disp ++ last) _ row_rest sib_n in
-      let disp_n : displacement_length_by ask first (sib_in ask all) ≡ length x.disp = ap (displacement_length_by ask first) sib ∙ width_is x.sib ∙ sym x.disp_long in
-      let disp : displacement_in ask all ≡ x.disp = beginning_is _ x.disp last _ sib_rest disp_n in
-      let address_rest : after_displacement ask all ≡ last = rest_is _ x.disp last _ sib_rest disp_n in
-      let immediate_n = immediate_count a more begins k in
-      record {
-        modrm = beginning_is all a.modrm more _ begins modrm_n;
-        sib = ap length sib ∙ x.sib_long;
-        address = ap (λ l. l ++ displacement_in ask all) sib ∙ ap (λ l. x.sib ++ l) disp ∙ sym x.spelled;
-        immediate = beginning_is _ s.immediates (s.suffix ++ rest) _ address_rest immediate_n;
-        suffix = beginning_is _ s.suffix rest _ (rest_is _ s.immediates (s.suffix ++ rest) _ address_rest immediate_n) (suffix_count a more begins k);
-      }
+  module _ {all : List ℕ} (rest : List ℕ) (e : all ≡ tail ++ rest) {ask : Ask} (k : ask ≡ ask_of r (slice_index all 0)) where
+    abbrev first : ℕ
+    first = slice_index all 0
+
+    begins : all ≡ a.modrm ++ (a.tail ++ rest)
+    begins = e ∙ ap (λ l. l ++ rest) a.spelled ∙ append_assoc a.modrm a.tail rest
+
+    width_is : (sib : List ℕ) → displacement_length_by ask first sib ≡ (if is_memory m then displacement_width m (first_byte sib) else 0)
+    unfolding ask_of
+    width_is sib =
+        let u = r.modrm in
+        cc (k, disp_by (is_memory (used_modrm u first)) first (used_modrm u first) (first_byte sib) (as_it_is u first), read_as a (a.tail ++ rest) begins)
+
+    pub has_tail : HoldsPieces r p tail reading a (modrm_in ask all) (sib_in ask all) (displacement_in ask all) (immediate_in ask all) (suffix_in ask all)
+    has_tail =
+        let more : List ℕ = a.tail ++ rest in
+        let s = a.tail_spelled.pieces in
+        let x = address_of in
+        let last : List ℕ = s.immediates ++ (s.suffix ++ rest) in
+        let modrm = cut_is a.modrm more begins (modrm_count a more begins k) in
+        let spelled : more ≡ x.sib ++ (x.disp ++ last) = ap (λ l. l ++ rest) s.spelled ∙ ap (λ l. (l ++ (s.immediates ++ s.suffix)) ++ rest) x.spelled ∙ simp append_assoc in
+        let sib = cut_is x.sib (x.disp ++ last) (modrm.1 ∙ spelled) (sib_count a more begins k ∙ sym x.sib_long) in
+        let disp = cut_is x.disp last sib.1 (ap (displacement_length_by ask first) sib.0 ∙ width_is x.sib ∙ sym x.disp_long) in
+        let immediate = cut_is s.immediates (s.suffix ++ rest) disp.1 (immediate_count a more begins k) in
+        let suffix = cut_is s.suffix rest immediate.1 (suffix_count a more begins k) in
+        record { modrm = modrm.0; sib = ap length sib.0 ∙ x.sib_long; address = cc (sib.0, disp.0, x.spelled); immediate = immediate.0; suffix = suffix.0 }
 
 -- ---- the whole encoding
 
@@ -120,38 +105,36 @@ pub record HasHead (strict : Bool) (bytes s rest : List ℕ) (reading : Reading)
   pub tail : tail_in bytes ≡ w.tail ++ rest
   pub ask : ask_in bytes strict ≡ ask_of (record_in strict s reading w) (slice_index (tail_in bytes) 0)
 
-pub has_head : (strict : Bool) (bytes s rest : List ℕ) (reading : Reading) (w : Encoding strict s reading) → bytes ≡ s ++ rest → HasHead strict bytes s rest reading w
-has_head strict bytes s rest reading w begins =
+pub has_head : {strict : Bool} {bytes s : List ℕ} (rest : List ℕ) {reading : Reading} (w : Encoding strict s reading) → bytes ≡ s ++ rest → HasHead strict bytes s rest reading w
+has_head {strict = strict} {bytes = bytes} rest w begins =
     let tail' : List ℕ = w.tail ++ rest in
     let after_prefixes : List ℕ = escape_bytes w.map ++ w.opcode ∷ tail' in
     let spelled : bytes ≡ w.run ++ after_prefixes = begins ∙ ap (λ l. l ++ rest) w.spelled ∙ simp append_assoc in
     let in' = enters w.map w.opcode tail' w.in_map in
-    let run_n : prefix_len is_prefix bytes ≡ length w.run =
-    ap (prefix_len is_prefix) (spelled ∙ ap (λ l. w.run ++ l) in'.spelled) ∙ run_length_is w.run in'.first in'.rest w.prefixes in'.plain in
-    let prefixes : run_in bytes ≡ w.run = beginning_is bytes w.run after_prefixes _ spelled run_n in
-    let run_rest : after_run bytes ≡ after_prefixes = rest_is bytes w.run after_prefixes _ spelled run_n in
-    let map : map_in bytes ≡ w.map = ap (λ l. map_of (slice_index l 0) (slice_index l 1)) run_rest ∙ map_is w.map w.opcode tail' w.in_map in
-    let escape_rest : after_escape bytes ≡ w.opcode ∷ tail' = rest_is _ (escape_bytes w.map) (w.opcode ∷ tail') _ run_rest (ap (λ x. length (escape_bytes x)) map) in
-    let opcode : opcode_in bytes ≡ w.opcode ∷ [] = beginning_is _ (w.opcode ∷ []) tail' 1 escape_rest refl in
+    let run_n : prefix_len is_prefix bytes ≡ length w.run = ap (prefix_len is_prefix) (spelled ∙ ap (λ l. w.run ++ l) in'.spelled) ∙ run_length_is w.run in'.first in'.rest w.prefixes in'.plain in
+    let run = cut_is w.run after_prefixes spelled run_n in
+    let map : map_in bytes ≡ w.map = cc (run.1, map_is w.map w.opcode tail' w.in_map) in
+    let escape = cut_is (escape_bytes w.map) (w.opcode ∷ tail') run.1 (ap (λ x. length (escape_bytes x)) map) in
+    let opcode = cut_is (w.opcode ∷ []) tail' escape.1 refl in
     let first : ℕ = slice_index (tail_in bytes) 0 in
     record {
-      prefixes = prefixes;
-      after_prefixes = run_rest;
+      prefixes = run.0;
+      after_prefixes = run.1;
       map = map;
-      opcode = opcode;
-      tail = rest_is _ (w.opcode ∷ []) tail' 1 escape_rest refl;
+      opcode = opcode.0;
+      tail = opcode.1;
       ask =
-          ap (λ q. ask_after_run strict q (map_in bytes) (slice_index (opcode_in bytes) 0) first) prefixes
+          ap (λ q. ask_after_run strict q (map_in bytes) (slice_index (opcode_in bytes) 0) first) run.0
           ∙ ap (λ q. ask_after_run strict w.run q (slice_index (opcode_in bytes) 0) first) map
-          ∙ ap (λ l. ask_after_run strict w.run w.map (slice_index l 0) first) opcode
+          ∙ ap (λ l. ask_after_run strict w.run w.map (slice_index l 0) first) opcode.0
           ∙ ap (λ o. ask_by strict o (seen_by w.map w.opcode (reading_of w.run)) first) w.has_row;
     }
 
 -- The parts of bytes that begin with a whole encoding are its pieces.
-pub parts_are : (strict : Bool) (bytes s rest : List ℕ) (reading : Reading) (w : Encoding strict s reading) → bytes ≡ s ++ rest → HasParts strict s reading w (parts_of strict bytes)
+pub parts_are : {strict : Bool} {bytes s : List ℕ} (rest : List ℕ) {reading : Reading} (w : Encoding strict s reading) → bytes ≡ s ++ rest → HasParts strict s reading w (parts_of strict bytes)
 unfolding parts_of
-parts_are strict bytes s rest reading w begins =
-    let h = has_head strict bytes s rest reading w begins in
+parts_are rest w begins =
+    let h = has_head rest w begins in
     let t = has_tail w.row_spelled rest h.tail h.ask in
     let escape = ap escape_bytes h.map in
     assumption (h, t, escape)
@@ -161,11 +144,8 @@ parts_are strict bytes s rest reading w begins =
 abbrev lists : List ℕ → List ℕ → List ℕ → List ℕ → List ℕ → List ℕ → List ℕ → List ℕ → PartLists
 lists a b c d e f g h = record { prefixes = a; escape = b; opcode = c; modrm = d; sib = e; displacement = f; immediate = g; suffix = h }
 
-pub parts_once : (strict : Bool) (s : List ℕ) (reading : Reading) (w : Encoding strict s reading) (a b : PartLists) → HasParts strict s reading w a → HasParts strict s reading w b → a ≡ b
-parts_once strict s reading w a b h k =
-    let both : a.sib ++ a.displacement ≡ b.sib ++ b.displacement = h.address ∙ sym k.address in
-    let long : length a.sib ≡ length b.sib = h.sib ∙ sym k.sib in
-    let sib : a.sib ≡ b.sib = take_of a.sib a.displacement b.sib b.displacement both long in
-    let displacement : a.displacement ≡ b.displacement = drop_of a.sib a.displacement b.sib b.displacement both long in
-    let same : lists a.prefixes a.escape a.opcode a.modrm a.sib a.displacement a.immediate a.suffix ≡ lists b.prefixes b.escape b.opcode b.modrm b.sib b.displacement b.immediate b.suffix = cc (h.prefixes, k.prefixes, h.escape, k.escape, h.opcode, k.opcode, h.modrm, k.modrm, h.immediate, k.immediate, h.suffix, k.suffix) in
+pub parts_once : {strict : Bool} {s : List ℕ} {reading : Reading} {w : Encoding strict s reading} {a b : PartLists} → HasParts strict s reading w a → HasParts strict s reading w b → a ≡ b
+parts_once {a = a} {b = b} h k =
+    let address = halves a.sib a.displacement b.sib b.displacement (h.address ∙ sym k.address) (h.sib ∙ sym k.sib) in
+    let same : lists a.prefixes a.escape a.opcode a.modrm a.sib a.displacement a.immediate a.suffix ≡ lists b.prefixes b.escape b.opcode b.modrm b.sib b.displacement b.immediate b.suffix = cc (address.0, address.1) in
     same

@@ -1,5 +1,5 @@
 -- Where the parts of an encoding are.
-use Rattle.std.proofs.Common.{◌≡◌, ℕ, suc, ◌+◌, ◌-◌, ◌≤◌, ◌==◌, ◌&&◌, ◌||◌, not, Bool, true, false, if◌then◌else◌, List, [], ◌∷◌, ◌++◌, length, take, drop, map, slice_index, Option, Some, None, is_some, refl, sym, ap, subst, ◌∙◌, arith, length-append}
+use Rattle.std.proofs.Common.{◌≡◌, ℕ, suc, ◌+◌, ◌-◌, ◌≤◌, ◌==◌, ◌&&◌, ◌||◌, not, Bool, true, false, if◌then◌else◌, List, [], ◌∷◌, ◌++◌, length, take, drop, map, slice_index, Option, Some, None, is_some, refl, sym, ap, arith, length-append}
 use Rattle.std.specs.List.{list_all, prefix_len}
 use Rattle.std.specs.Int.{from_bool}
 use Rattle.std.proofs.Math.Seq.{take-append_seam, drop-append_seam}
@@ -18,9 +18,9 @@ use Rattle.x86_operands.specs.declared.plans.OperandEncoding.{OperandEncoding}
 use Rattle.x86_operands.specs.declared.plans.Verdict.{Verdict}
 use Rattle.x86_operands.specs.declared.plans.ModrmUse.{ModrmUse}
 use Rattle.x86_operands.specs.declared.plans.ModrmUse.TheVariants.{Absent, EitherForm, Registers}
-use Rattle.x86_operands.specs.Plans.{RowRecord, list_of}
+use Rattle.x86_operands.specs.Plans.{RowRecord}
 use Rattle.x86_operands.specs.Pieces.{immediate_width, modrm_of, modrm_width, suffix_width, SpellsOperands, SpellsMemory, SpellsRow}
-use Rattle.x86_operands.specs.Asks.{uses_modrm, uses_suffix, used_modrm, ask_of}
+use Rattle.x86_operands.specs.Asks.{immediates_width, uses_modrm, uses_suffix, used_modrm, ask_of}
 use Rattle.x86_decode.specs.Head.{is_run, escape_bytes, is_vex, is_opcode}
 use Rattle.x86_operands.specs.declared.asks.Ask.{Ask}
 use Rattle.x86_operands.specs.declared.reader.Reading.{Reading}
@@ -40,18 +40,12 @@ option_short o = grind arith
 
 -- ---- pieces of a list
 
-pub beginning_is : (xs a b : List ℕ) (n : ℕ) → xs ≡ a ++ b → n ≡ length a → take n xs ≡ a
-beginning_is xs a b n e h = ap (λ k. take k xs) h ∙ ap (take (length a)) e ∙ take-append_seam a b
-
-pub rest_is : (xs a b : List ℕ) (n : ℕ) → xs ≡ a ++ b → n ≡ length a → drop n xs ≡ b
-rest_is xs a b n e h = ap (λ k. drop k xs) h ∙ ap (drop (length a)) e ∙ drop-append_seam a b
+pub cut_is : {xs : List ℕ} (a b : List ℕ) {n : ℕ} → xs ≡ a ++ b → n ≡ length a → (take n xs ≡ a) × (drop n xs ≡ b)
+cut_is a b e h = (cc (take-append_seam a b), cc (drop-append_seam a b))
 
 -- a list in two ways of two parts
-pub take_of : (xs ys a b : List ℕ) → xs ++ ys ≡ a ++ b → length xs ≡ length a → xs ≡ a
-take_of xs ys a b e h = sym (beginning_is (xs ++ ys) xs ys (length xs) refl refl) ∙ beginning_is (xs ++ ys) a b (length xs) e h
-
-pub drop_of : (xs ys a b : List ℕ) → xs ++ ys ≡ a ++ b → length xs ≡ length a → ys ≡ b
-drop_of xs ys a b e h = sym (rest_is (xs ++ ys) xs ys (length xs) refl refl) ∙ rest_is (xs ++ ys) a b (length xs) e h
+pub halves : (xs ys a b : List ℕ) → xs ++ ys ≡ a ++ b → length xs ≡ length a → (xs ≡ a) × (ys ≡ b)
+halves xs ys a b e h = (cc (take-append_seam xs ys, take-append_seam a b), cc (drop-append_seam xs ys, drop-append_seam a b))
 
 -- ---- the run
 
@@ -121,7 +115,7 @@ enters Of3a b tail h = record { first = 0x0f; rest = 0x3a ∷ b ∷ tail; spelle
 
 -- ---- what a row has
 
-pub used_is : (u : ModrmUse) (modrm more tail : List ℕ) → tail ≡ modrm ++ more → length modrm ≡ modrm_width u → modrm_of u modrm ≡ used_modrm u (slice_index tail 0)
+used_is : (u : ModrmUse) (modrm more tail : List ℕ) → tail ≡ modrm ++ more → length modrm ≡ modrm_width u → modrm_of u modrm ≡ used_modrm u (slice_index tail 0)
 used_is Absent modrm more tail e h = refl
 used_is EitherForm [] more tail e h = absurd (omega arith)
 used_is EitherForm (m ∷ rest) more tail e h = sym (ap (λ l. slice_index l 0) e)
@@ -155,46 +149,43 @@ sib_present u m = ap one_if (sib_by (is_memory (used_modrm u m)) (used_modrm u m
 option_long : (sib : Option ℕ) (disp : List ℕ) → one_if (is_some sib) ≤ length (option_bytes sib ++ disp)
 option_long sib disp = grind (arith, length-append {A = ℕ})
 
-width_by : (memory four : Bool) (n : ℕ) → one_if four ≤ n → one_if (memory && four) ≤ n
-width_by memory four n h = grind arith
-
-pub sib_within : (p : Prefixes) (m : ℕ) (address : List ℕ) (memory : Option Raw) → SpellsMemory p m address memory → sib_width m ≤ length address
-sib_within p m address None h = subst (λ t. one_if (t && rm_field m == 4) ≤ length address) (sym h.0) (omega arith)
-sib_within p m address (Some raw) h =
-    let s = h.1 in
-    let long : one_if (is_some s.sib) ≤ length address = subst (λ l. one_if (is_some s.sib) ≤ length l) (sym s.spelled) (option_long s.sib s.disp) in
-    width_by (is_memory m) (rm_field m == 4) (length address) (subst (λ t. one_if t ≤ length address) s.sib_present long)
+sib_within_by : (p : Prefixes) (m : ℕ) (address : List ℕ) (memory : Option Raw) → SpellsMemory p m address memory → sib_width m ≤ length address
+sib_within_by p m address None h = rw (h.0) (omega arith)
+sib_within_by p m address (Some raw) h = let s = h.1 in rw (s.spelled, h.0, ← s.sib_present) (option_long s.sib s.disp)
 
 -- ---- the counts of an ask
 
--- further bytes come after the pieces of a row
-module _ {r : RowRecord} {p : Prefixes} {tail : List ℕ} {reading : Reading} (a : SpellsRow r p tail reading) {all : List ℕ} (more : List ℕ) (e : all ≡ a.modrm ++ more) {ask : Ask} (k : ask ≡ ask_of r (slice_index all 0)) where
-  pub read_as : modrm_of r.modrm a.modrm ≡ used_modrm r.modrm (slice_index all 0)
-  read_as = used_is r.modrm a.modrm more all e a.modrm_length
+module _ {r : RowRecord} {p : Prefixes} {tail : List ℕ} {reading : Reading} (a : SpellsRow r p tail reading) where
+  abbrev m : ℕ
+  m = modrm_of r.modrm a.modrm
 
-  pub modrm_count : one_if ask.modrm ≡ length a.modrm
-  unfolding ask_of
-  modrm_count = ap (λ x. one_if x.modrm) k ∙ use_width r.modrm ∙ sym a.modrm_length
+  pub sib_within : sib_width m ≤ length a.tail_spelled.pieces.address
+  sib_within = sib_within_by p m _ _ a.tail_spelled.pieces.address_spelled
 
-  pub sib_count : one_if (has_sib ask (slice_index all 0)) ≡ sib_width (modrm_of r.modrm a.modrm)
-  unfolding ask_of
-  sib_count = cc (k, sib_present r.modrm (slice_index all 0), read_as)
+  pub immediates_long : length a.tail_spelled.pieces.immediates ≡ immediates_width (r.plan m).encodings
+  immediates_long = operands_long _ p m _ _ _ a.tail_spelled.pieces.immediates_spelled
 
-  pub immediate_count : ask.immediate ≡ length a.tail_spelled.pieces.immediates
-  unfolding ask_of
-  immediate_count =
-      let s = a.tail_spelled.pieces in
-      let m : ℕ = modrm_of r.modrm a.modrm in
-      let long = operands_long (list_of (r.plan m).encodings) p m s.memory s.immediates s.operand_pairs s.immediates_spelled in
-      cc (k, read_as, long)
+  -- further bytes come after the pieces of a row
+  module _ {all : List ℕ} (more : List ℕ) (e : all ≡ a.modrm ++ more) where
+    pub read_as : m ≡ used_modrm r.modrm (slice_index all 0)
+    read_as = used_is r.modrm a.modrm more all e a.modrm_length
 
-  pub suffix_count : one_if ask.suffix ≡ length a.tail_spelled.pieces.suffix
-  unfolding ask_of
-  suffix_count =
-      let width = verdict_width (r.plan (modrm_of r.modrm a.modrm)).verdict in
-      cc (k, read_as, width, a.tail_spelled.pieces.suffix_length)
+    module _ {ask : Ask} (k : ask ≡ ask_of r (slice_index all 0)) where
+      pub modrm_count : one_if ask.modrm ≡ length a.modrm
+      unfolding ask_of
+      modrm_count = cc (k, use_width r.modrm, a.modrm_length)
 
-  pub address_count : (length a.tail - one_if ask.suffix) - ask.immediate ≡ length a.tail_spelled.pieces.address
-  address_count =
-      let s = a.tail_spelled.pieces in
-      omega (arith, length-append {A = ℕ}, ap length s.spelled, immediate_count, suffix_count)
+      pub sib_count : one_if (has_sib ask (slice_index all 0)) ≡ sib_width m
+      unfolding ask_of
+      sib_count = cc (k, sib_present r.modrm (slice_index all 0), read_as)
+
+      pub immediate_count : ask.immediate ≡ length a.tail_spelled.pieces.immediates
+      unfolding ask_of
+      immediate_count = cc (k, read_as, immediates_long)
+
+      pub suffix_count : one_if ask.suffix ≡ length a.tail_spelled.pieces.suffix
+      unfolding ask_of
+      suffix_count = cc (k, read_as, verdict_width (r.plan m).verdict, a.tail_spelled.pieces.suffix_length)
+
+      pub address_count : (length a.tail - one_if ask.suffix) - ask.immediate ≡ length a.tail_spelled.pieces.address
+      address_count = omega (arith, length-append {A = ℕ}, ap length a.tail_spelled.pieces.spelled, immediate_count, suffix_count)

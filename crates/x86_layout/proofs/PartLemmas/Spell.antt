@@ -22,8 +22,8 @@ use Rattle.x86_layout.specs.declared.parts.fields.Fields as fields
 use Rattle.x86_layout.specs.Parts.Heads.{one_if}
 use Rattle.x86_layout.specs.Parts.Split.{sib_width}
 use Rattle.x86_layout.specs.Parts.Permitted.{refuses_suffix, passes_record, displacement_length, has_row_parts, tail_of}
-use Rattle.x86_layout.proofs.PartLemmas.Part.{take_of, drop_of, operands_long, use_width, verdict_width}
-use Rattle.x86_layout.proofs.PartLemmas.OfBytes.{HoldsPieces, option_count, first_of, address_parts}
+use Rattle.x86_layout.proofs.PartLemmas.Part.{immediates_long, use_width, verdict_width}
+use Rattle.x86_layout.proofs.PartLemmas.OfBytes.{HoldsPieces, option_count, first_of, displacement_long}
 
 -- ---- tests
 
@@ -177,25 +177,12 @@ module _ {r : RowRecord} {p : Prefixes} {tail : List ℕ} {reading : Reading} (f
   unfolding record_at
   passes = all_three _ _ _ _ (ap is_none a.passed) accepts (names_suffix (r.plan at).verdict (r.plan at).opcode a.tail_spelled.opcode f.suffix names)
 
-  displacement_long : length f.displacement.items ≡ displacement_length at f.sib
-  displacement_long =
-      let t = a.tail_spelled.pieces in
-      let n : ℕ = modrm_of r.modrm a.modrm in
-      let x = address_parts p n t.address t.memory t.address_spelled in
-      let both : option_bytes f.sib ++ f.displacement.items ≡ x.sib ++ x.disp = h.address ∙ x.spelled in
-      let long : length (option_bytes f.sib) ≡ length x.sib = h.sib ∙ sym x.sib_long in
-      let beginning : option_bytes f.sib ≡ x.sib = take_of _ f.displacement.items x.sib x.disp both long in
-      let back : f.displacement.items ≡ x.disp = drop_of (option_bytes f.sib) f.displacement.items x.sib x.disp both long in
-      cc (back, x.disp_long, beginning, first_of f.sib, same_at)
-
   pub row_parts : has_row_parts (record_at r f.modrm) f ≡ true
   unfolding record_at
   row_parts =
-      let t = a.tail_spelled.pieces in
-      let n : ℕ = modrm_of r.modrm a.modrm in
       let modrm : one_if (is_some f.modrm) ≡ one_if (uses_modrm r.modrm) = cc (option_count f.modrm, h.modrm, a.modrm_length, use_width r.modrm) in
       let sib : one_if (is_some f.sib) ≡ sib_width at = cc (option_count f.sib, h.sib, same_at) in
-      let long = operands_long (list_of (r.plan n).encodings) p n t.memory t.immediates t.operand_pairs t.immediates_spelled in
-      let immediate : length f.immediate.items ≡ immediates_width (r.plan at).encodings = cc (h.immediate, long, same_at) in
-      let suffix : one_if (is_some f.suffix) ≡ one_if (uses_suffix (r.plan at).verdict) = cc (option_count f.suffix, h.suffix, t.suffix_length, verdict_width (r.plan n).verdict, same_at) in
-      test_five _ _ _ _ _ _ _ _ _ _ modrm sib displacement_long immediate suffix
+      let displacement : length f.displacement.items ≡ displacement_length at f.sib = cc (displacement_long a (option_bytes f.sib) f.displacement.items h.address h.sib, first_of f.sib, same_at) in
+      let immediate : length f.immediate.items ≡ immediates_width (r.plan at).encodings = cc (h.immediate, immediates_long a, same_at) in
+      let suffix : one_if (is_some f.suffix) ≡ one_if (uses_suffix (r.plan at).verdict) = cc (option_count f.suffix, h.suffix, a.tail_spelled.pieces.suffix_length, verdict_width (r.plan (modrm_of r.modrm a.modrm)).verdict, same_at) in
+      test_five _ _ _ _ _ _ _ _ _ _ modrm sib displacement immediate suffix

@@ -1,5 +1,5 @@
 -- Where cuts begin and end.
-use Rattle.std.proofs.Common.{◌≡◌, ℕ, zero, suc, ◌+◌, ◌-◌, ◌<◌, ◌≤◌, ◌==◌, ◌&&◌, ◌||◌, not, nat_lt, Bool, false, inl, inr, List, [], ◌∷◌, length, Result, Ok, Err, refl, ap, subst, ◌∙◌, arith}
+use Rattle.std.proofs.Common.{◌≡◌, ℕ, zero, suc, ◌+◌, ◌-◌, ◌<◌, ◌≤◌, ◌==◌, ◌&&◌, ◌||◌, not, nat_lt, Bool, false, inl, inr, List, [], ◌∷◌, length, Result, Ok, Err, refl, subst, ◌∙◌, arith}
 use Rattle.std.proofs.lemmas.List.Sums.{sum_by-cons}
 use Rattle.std.proofs.lemmas.List.Elements.{All-nil, All-cons}
 use Rattle.std.proofs.lemmas.Bool.Decides.{nat_tests}
@@ -85,7 +85,7 @@ module _ (strict : Bool) (lengths : Lengths strict) where
         here place p n _ _ same h (none_round (n - 1) (place + 1) p xs (omega arith))
   ]
   begins_by (suc k) place p (x ∷ xs) h l = elim (cases_lt place p) [
-    | inl less ↦ begins_by k (place + 1) p xs (omega arith) (omega arith) ∙ ap (λ e. not (nat_lt p e) && not (list_any (is_inside p) (cuts_skipping strict k (place + 1) xs))) (one_more place k)
+    | inl less ↦ cc (begins_by k (place + 1) p xs (omega arith) (omega arith), one_more place k)
     | inr same ↦ passed_over place p k _ _ (omega arith) (none_before k (place + 1) p xs (omega arith))
   ]
 

@@ -1,5 +1,5 @@
 -- The bytes of raw fields, and the raw fields of bytes.
-use Rattle.std.proofs.Common.{◌≡◌, ℕ, suc, ◌+◌, ◌-◌, ◌%◌, ◌^◌, ◌<◌, ◌==◌, Bool, true, false, if◌then◌else◌, Option, Some, None, is_some, List, [], ◌∷◌, ◌++◌, length, take, ℤ, pos, negsuc, refl, sym, ap, subst, ◌∙◌, arith, length-append}
+use Rattle.std.proofs.Common.{◌≡◌, ℕ, suc, ◌-◌, ◌%◌, ◌^◌, ◌<◌, ◌==◌, Bool, true, false, if◌then◌else◌, Option, Some, None, is_some, List, [], ◌∷◌, ◌++◌, length, take, ℤ, pos, negsuc, refl, sym, ap, subst, ◌∙◌, arith, length-append}
 use Rattle.std.specs.Prelude.{FitsSigned}
 use Rattle.std.specs.Int.{w8, w32, cast_signed, cast_unsigned, from_le_bytes, to_le_bytes}
 use Rattle.std.proofs.lemmas.Bool.{and_parts}
@@ -10,7 +10,7 @@ use Rattle.x86_fields.specs.declared.prefixes.Prefixes.{Prefixes}
 use Rattle.x86_fields.specs.declared.rex.PrefixRex.{PrefixRex}
 use Rattle.x86_fields.specs.declared.raw.Raw.{Raw}
 use Rattle.x86_fields.specs.ModRM.{mod_field, rm_field, is_memory}
-use Rattle.x86_fields.specs.Raw.{live_bit, displacement_width, names_no_base, sib_fits, is_zero, is_byte, disp_fits, fits, has_b, has_x}
+use Rattle.x86_fields.specs.Raw.{live_bit, displacement_width, names_no_base, sib_fits, is_zero, is_byte, disp_fits, has_b, has_x}
 use Rattle.x86_fields.specs.Pieces.{option_bytes, signed_by}
 use Rattle.x86_operands.specs.Pieces.{SpellsMemory}
 use Rattle.x86_decode.proofs.ByteLemmas.{Bytes, bytes_after, memory_fits}

@@ -1,47 +1,40 @@
 -- The length of a shortest relative, by the pieces of an encoding.
-use Rattle.std.proofs.Common.{◌≡◌, ℕ, ◌+◌, ◌-◌, ◌&&◌, not, Bool, true, false, if◌then◌else◌, Some, List, [], length, take, slice_index, Ok, refl, sym, ap, ◌∙◌, arith, append-nil}
+use Rattle.std.proofs.Common.{◌≡◌, ℕ, ◌+◌, ◌-◌, ◌&&◌, not, Bool, true, false, if◌then◌else◌, List, [], length, refl, sym, ap, ◌∙◌, arith, append-nil}
 use Rattle.x86_fields.specs.declared.raw.Raw.{Raw}
 use Rattle.x86_operands.specs.declared.reader.Reading.{Reading}
 use Rattle.x86_fields.specs.ModRM.{is_memory}
 use Rattle.x86_operands.specs.Asks.{ask_of}
 use Rattle.x86_layout.specs.Parts.OfBytes.{ask_in, parts_of}
 use Rattle.x86_decode.specs.declared.instructions.Instruction.{Instruction}
-use Rattle.x86_decode.specs.Answer.{answer_of}
 use Rattle.x86_layout.specs.Tightening.Least.{least_by, least_length, shortest_length}
-use Rattle.x86_layout.specs.Parts.Split.{Encoding, HasParts}
+use Rattle.x86_layout.specs.Parts.Split.{Encoding}
 use Rattle.x86_layout.specs.Tightening.Registers.{is_ip_relative}
 use Rattle.x86_layout.specs.Tightening.Shortest.{shortest, address_length, IsOfBytes}
 use Rattle.x86_layout.specs.Tightening.Tighten.{raw_of}
+use Rattle.x86_layout.proofs.PartLemmas.Taken.{IsFirstSentence}
 use Rattle.x86_layout.proofs.PartLemmas.OfBytes.{has_head, parts_are}
-use Rattle.x86_layout.proofs.PartLemmas.Part.{used_is}
-use Rattle.x86_layout.proofs.TightenLemmas.Relative.{Row, Byte, Bytes', spells, length_is, long}
+use Rattle.x86_layout.proofs.PartLemmas.Part.{read_as}
+use Rattle.x86_layout.proofs.TightenLemmas.Relative.{Reads, Byte, Bytes', spells, length_is, long}
 use Rattle.x86_layout.proofs.TightenLemmas.Tighten.{raw_is}
 
 module _ {strict : Bool} {s : List ℕ} {a : Reading} (v : Encoding strict s a) where
   reads : (ask_in s strict).memory ≡ is_memory (Byte v)
   unfolding ask_of
   reads =
-      let h = has_head strict s s [] a v (sym (append-nil s)) in
-      ap (λ k. k.memory) h.ask
-      ∙ ap (λ l. (ask_of (Row v) (slice_index l 0)).memory) (h.tail ∙ append-nil v.tail)
-      ∙ ap is_memory (sym (used_is (Row v).modrm v.row_spelled.modrm v.row_spelled.tail v.tail v.row_spelled.spelled v.row_spelled.modrm_length))
-
-  has_parts : HasParts strict s a v (parts_of strict s)
-  has_parts = parts_are strict s s [] a v (sym (append-nil s))
+      let h = has_head [] v (sym (append-nil s)) in
+      cc (h.ask, h.tail, append-nil v.tail, read_as v.row_spelled v.row_spelled.tail v.row_spelled.spelled)
 
   least_is : (memory : Bool) (raw : Raw) → is_memory (Byte v) ≡ memory → raw_of (parts_of strict s) ≡ raw → least_length strict s ≡ least_by memory raw (length s)
   unfolding least_length
-  least_is memory raw e f =
-      ap (λ t. least_by t (raw_of (parts_of strict s)) (length s)) (reads ∙ e)
-      ∙ ap (λ r. least_by memory r (length s)) f
+  least_is memory raw e f = cc (reads, e, f)
 
   pub least_without : is_memory (Byte v) ≡ false → least_length strict s ≡ length s
   least_without e = least_is false (raw_of (parts_of strict s)) e refl
 
-  module _ {raw : Raw} (read : v.row_spelled.tail_spelled.pieces.memory ≡ Some raw) where
+  module _ {raw : Raw} (read : Reads v raw) where
     least_with : (ip : Bool) → is_ip_relative raw ≡ ip → least_length strict s ≡ (if true && not ip then (length s - address_length raw) + address_length (shortest raw) else length s)
     least_with ip e =
-        least_is true raw (spells v read).0 (raw_is v read (parts_of strict s) (has_parts))
+        least_is true raw (spells v read).0 (raw_is v read (parts_of strict s) (parts_are [] v (sym (append-nil s))))
         ∙ ap (λ t. if true && not t then (length s - address_length raw) + address_length (shortest raw) else length s) e
 
     pub least_at_ip : is_ip_relative raw ≡ true → least_length strict s ≡ length s
@@ -58,6 +51,6 @@ module _ {strict : Bool} {s : List ℕ} {a : Reading} (v : Encoding strict s a) 
         omega (arith, h, old, new)
 
 -- at the beginning of bytes
-pub least_beginning : (strict : Bool) (bytes encoding : List ℕ) (instruction : Instruction) (n : ℕ) → answer_of strict bytes ≡ Ok instruction → encoding ≡ take n bytes → n ≡ instruction.length → shortest_length strict bytes ≡ least_length strict encoding
+pub least_beginning : {strict : Bool} {bytes encoding : List ℕ} {instruction : Instruction} → IsFirstSentence strict bytes encoding instruction → shortest_length strict bytes ≡ least_length strict encoding
 unfolding shortest_length
-least_beginning strict bytes encoding instruction n accepted beginning counted = cc (accepted, counted, beginning)
+least_beginning h = cc (h.accepted, h.taken)

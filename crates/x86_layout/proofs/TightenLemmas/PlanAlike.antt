@@ -45,17 +45,10 @@ module _ (x b : Bool) (p : Prefixes) (m : ℕ) (mm : is_memory m ≡ true) where
   fault_bits r form.ModRM_0xf30f3af0 = refl
   fault_bits r f = refl
 
-  plain_with : (rex : Option PrefixRex) (f : Form) (o : ℕ) → modrm_use f ≡ EitherForm → form_plan f o (With (bits_in x b rex)) m ≡ form_plan f o (With rex) m
-  plain_with None f o usage = refl
-  plain_with (Some r) f o usage = plain_bits r f o usage
-
-  group_with : (rex : Option PrefixRex) (f : Form) (o : ℕ) (strict : Bool) → group_modrm f ≡ EitherForm → groups.group_form_plan f o strict (With (bits_in x b rex)) m ≡ groups.group_form_plan f o strict (With rex) m
-  group_with None f o strict usage = refl
-  group_with (Some r) f o strict usage = group_bits r f o strict usage
-
-  fault_with : (rex : Option PrefixRex) (f : Form) → group_fault f (With (bits_in x b rex)) ≡ group_fault f (With rex)
-  fault_with None f = refl
-  fault_with (Some r) f = fault_bits r f
+  -- what goes not by these bits of a REX is the same with and without one
+  with_bits : {A : Type 0} (f : Prefixes → A) → ((r : PrefixRex) → f (With (Some (record r { x = x; b = b }))) ≡ f (With (Some r))) → (rex : Option PrefixRex) → f (With (bits_in x b rex)) ≡ f (With rex)
+  with_bits f h None = refl
+  with_bits f h (Some r) = h r
 
 -- ---- records
 
@@ -68,8 +61,8 @@ module _ (strict : Bool) (row : TableRow) (p : Prefixes) (x b : Bool) (m n : ℕ
 
   by_plan : (group : Bool) → (By group p).modrm ≡ EitherForm → (By group Other).plan n ≡ (By group p).plan m
   unfolding group_record form_record
-  by_plan true usage = group_at m n mm nm same row.form row.opcode strict Other usage ∙ group_with x b p m mm p.rex row.form row.opcode strict usage
-  by_plan false usage = plain_at m n mm nm same row.form row.opcode Other usage ∙ plain_with x b p m mm p.rex row.form row.opcode usage
+  by_plan true usage = group_at m n mm nm same row.form row.opcode strict Other usage ∙ with_bits x b p m mm (λ q. groups.group_form_plan row.form row.opcode strict q m) (λ r. group_bits x b p m mm r row.form row.opcode strict usage) p.rex
+  by_plan false usage = plain_at m n mm nm same row.form row.opcode Other usage ∙ with_bits x b p m mm (λ q. form_plan row.form row.opcode q m) (λ r. plain_bits x b p m mm r row.form row.opcode usage) p.rex
 
   by_use : (group : Bool) → (By group Other).modrm ≡ (By group p).modrm
   unfolding group_record form_record
@@ -77,7 +70,7 @@ module _ (strict : Bool) (row : TableRow) (p : Prefixes) (x b : Bool) (m n : ℕ
 
   by_fault : (group : Bool) → (By group Other).at_opcode ≡ (By group p).at_opcode
   unfolding group_record form_record
-  by_fault true = fault_with x b p m mm p.rex row.form
+  by_fault true = with_bits x b p m mm (group_fault row.form) (λ r. fault_bits x b p m mm r row.form) p.rex
   by_fault false = refl
 
   pub same_plan : (record_of strict row p).modrm ≡ EitherForm → (record_of strict row Other).plan n ≡ (record_of strict row p).plan m

@@ -27,7 +27,7 @@ index_number raw sib = grind (arith, nat_tests)
 pub base_counts : (raw : Raw) (sib : Option ℕ) (r : ℕ) → is_ip_by raw.modrm sib ≡ false → adds_to (base_by raw sib) 1 r ≡ part_weight (number_of (base_by raw sib)) 1 r
 base_counts raw sib r e = grind (arith, nat_tests)
 
-scale_is : (scale : ℕ) → scale < 4 → 2 ^ scale ≡ times (scale_named (2 ^ scale))
+pub scale_is : (scale : ℕ) → scale < 4 → 2 ^ scale ≡ times (scale_named (2 ^ scale))
 scale_is zero h = refl
 scale_is (suc zero) h = refl
 scale_is (suc (suc zero)) h = refl

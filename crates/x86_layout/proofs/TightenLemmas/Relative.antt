@@ -4,7 +4,7 @@ use Rattle.std.proofs.lemmas.Bool.Decides.{nat_tests}
 use Rattle.x86_fields.specs.declared.prefixes.Prefixes.{Prefixes}
 use Rattle.x86_fields.specs.declared.raw.Raw.{Raw}
 use Rattle.x86_fields.specs.ModRM.{reg_field, is_memory}
-use Rattle.x86_fields.specs.Raw.{live_bit, has_b, has_x}
+use Rattle.x86_fields.specs.Raw.{has_b, has_x}
 use Rattle.x86_fields.specs.Run.{reading_of}
 use Rattle.x86_fields.specs.Linear.{raw_form, IsSameAddress}
 use Rattle.x86_forms.specs.Words.{rows_of, packed}
@@ -33,7 +33,7 @@ pub uses_either_form : (u : ModrmUse) (modrm : List ℕ) → is_memory (modrm_of
 uses_either_form u modrm h = grind (arith, nat_tests)
 
 one_byte : (u : ModrmUse) (modrm : List ℕ) → u ≡ EitherForm → length modrm ≡ modrm_width u → modrm ≡ modrm_of u modrm ∷ []
-one_byte u modrm e h = subst (λ k. modrm ≡ modrm_of k modrm ∷ []) (sym e) (alone modrm (h ∙ ap modrm_width e))
+one_byte u modrm e h = rw e (alone modrm (h ∙ ap modrm_width e))
   where
     alone : (l : List ℕ) → length l ≡ 1 → l ≡ modrm_of EitherForm l ∷ []
     alone [] g = absurd (omega (arith, g))
@@ -54,9 +54,20 @@ module _ {strict : Bool} {s : List ℕ} {a : Reading} (v : Encoding strict s a) 
   abbrev pub Address : List ℕ
   Address = v.row_spelled.tail_spelled.pieces.address
 
-  module _ {raw : Raw} (read : v.row_spelled.tail_spelled.pieces.memory ≡ Some raw) where
+  abbrev pub Reads : Raw → Type 0
+  Reads raw = v.row_spelled.tail_spelled.pieces.memory ≡ Some raw
+
+  -- the bytes after the address
+  abbrev pub Last : List ℕ
+  Last = v.row_spelled.tail_spelled.pieces.immediates ++ v.row_spelled.tail_spelled.pieces.suffix
+
+  -- how long the encoding is with these raw fields
+  abbrev pub Long : Raw → ℕ
+  Long raw = length v.run + (length (escape_bytes v.map) + (2 + (address_length raw + length (Last))))
+
+  module _ {raw : Raw} (read : Reads raw) where
     pub spells : SpellsMemory (Seen) (Byte) (Address) (Some raw)
-    spells = subst (λ x. SpellsMemory (Seen) (Byte) (Address) x) read v.row_spelled.tail_spelled.pieces.address_spelled
+    spells = rw read at v.row_spelled.tail_spelled.pieces.address_spelled
 
     pub fields : (Row).modrm ≡ EitherForm
     fields = uses_either_form (Row).modrm v.row_spelled.modrm (spells).0
@@ -87,11 +98,10 @@ module _ {strict : Bool} {s : List ℕ} {a : Reading} (v : Encoding strict s a) 
       let following : Bytes v.row_spelled.tail = bytes_after v.row_spelled.modrm v.row_spelled.tail (subst Bytes v.row_spelled.spelled (tail_bytes h)) in
       bytes_before t.address (t.immediates ++ t.suffix) (subst Bytes t.spelled following)
 
-  pub raw_of_bytes : (raw : Raw) → v.row_spelled.tail_spelled.pieces.memory ≡ Some raw → Bytes s → IsOfBytes raw
+  pub raw_of_bytes : (raw : Raw) → Reads raw → Bytes s → IsOfBytes raw
   raw_of_bytes raw read h = of_bytes (Seen) (Byte) (Address) raw (spells read) (address_bytes_of h)
 
-  -- how long the encoding is
-  pub length_is : (raw : Raw) → v.row_spelled.tail_spelled.pieces.memory ≡ Some raw → length s ≡ length v.run + (length (escape_bytes v.map) + (2 + (address_length raw + (length v.row_spelled.tail_spelled.pieces.immediates + length v.row_spelled.tail_spelled.pieces.suffix))))
+  pub length_is : (raw : Raw) → Reads raw → length s ≡ Long raw
   length_is raw read =
       let t = v.row_spelled.tail_spelled.pieces in
       let old = address_long (Seen) (Byte) (Address) raw (spells read) in
@@ -100,9 +110,9 @@ module _ {strict : Bool} {s : List ℕ} {a : Reading} (v : Encoding strict s a) 
 -- ---- the relative
 
 no_bits : (raw : Raw) (p : Prefixes) → raw.rex_b ≡ has_b p → raw.rex_x ≡ has_x p → p.rex ≡ None → ((shortest raw).rex_b ≡ false) × ((shortest raw).rex_x ≡ false)
-no_bits raw p b x none = shortest_keeps_bits raw (b ∙ ap (live_bit (λ r. r.b)) none) (x ∙ ap (live_bit (λ r. r.x)) none)
+no_bits raw p b x none = shortest_keeps_bits raw (cc (b, none)) (cc (x, none))
 
-module _ {strict : Bool} {s : List ℕ} {a : Reading} (v : Encoding strict s a) {raw : Raw} (read : v.row_spelled.tail_spelled.pieces.memory ≡ Some raw) (fit : IsOfBytes raw) where
+module _ {strict : Bool} {s : List ℕ} {a : Reading} (v : Encoding strict s a) {raw : Raw} (read : Reads v raw) (fit : IsOfBytes raw) where
   abbrev Other : Raw
   Other = shortest raw
 
@@ -151,7 +161,7 @@ module _ {strict : Bool} {s : List ℕ} {a : Reading} (v : Encoding strict s a) 
 
   -- the bytes
   abbrev pub Bytes' : List ℕ
-  Bytes' = Run ++ (escape_bytes v.map ++ v.opcode ∷ ((Other).modrm ∷ (address_bytes (Other) ++ (v.row_spelled.tail_spelled.pieces.immediates ++ v.row_spelled.tail_spelled.pieces.suffix))))
+  Bytes' = Run ++ (escape_bytes v.map ++ v.opcode ∷ ((Other).modrm ∷ (address_bytes (Other) ++ Last v)))
 
   pub no_longer : is_ip_relative raw ≡ false → address_length (Other) ≤ address_length raw
   no_longer ip = none_is_shorter raw raw fit fit ip (record { modulus = refl; registers = λ r h. refl; next = refl; constant = refl })
@@ -163,7 +173,7 @@ module _ {strict : Bool} {s : List ℕ} {a : Reading} (v : Encoding strict s a) 
       map = v.map;
       opcode = v.opcode;
       row = v.row;
-      tail = (Other).modrm ∷ (address_bytes (Other) ++ (v.row_spelled.tail_spelled.pieces.immediates ++ v.row_spelled.tail_spelled.pieces.suffix));
+      tail = (Other).modrm ∷ (address_bytes (Other) ++ Last v);
       spelled = spelled;
       prefixes = run_stays (Other).rex_x (Other).rex_b v.run ∙ v.prefixes;
       in_map = v.in_map;
@@ -188,7 +198,7 @@ module _ {strict : Bool} {s : List ℕ} {a : Reading} (v : Encoding strict s a) 
       address = record { from = raw; to = Other; old = read; new = (rerow).memory; same = shortest_has_the_address raw fit ip };
     }
 
-    pub long : length t ≡ length v.run + (length (escape_bytes v.map) + (2 + (address_length (Other) + (length v.row_spelled.tail_spelled.pieces.immediates + length v.row_spelled.tail_spelled.pieces.suffix))))
+    pub long : length t ≡ Long v (Other)
     long = omega (arith, length-append {A = ℕ}, ap length spelled, length_stays (Other).rex_x (Other).rex_b v.run, address_bytes_long (Other))
 
     least : is_ip_relative raw ≡ false → IsLeast strict s a v t
@@ -196,11 +206,11 @@ module _ {strict : Bool} {s : List ℕ} {a : Reading} (v : Encoding strict s a) 
         let w = is.whole in
         let to = rel.address.to in
         let from : rel.address.from ≡ raw = cc (rel.address.old, read) in
-        let same : IsSameAddress (raw_form to) (raw_form raw) = subst (λ r. IsSameAddress (raw_form to) (raw_form r)) from rel.address.same in
+        let same = subst (λ r. IsSameAddress (raw_form to) (raw_form r)) from rel.address.same in
         let other = raw_of_bytes w to rel.address.new (bytes_of u bytes) in
         let fewer = none_is_shorter raw to fit other ip same in
         let new = length_is w to rel.address.new in
-        omega (arith, fewer, long, new, length_stays false false w.run, ap length rel.parts.prefixes, length_stays false false v.run, ap length rel.parts.escape, ap length rel.parts.immediate, ap length rel.parts.suffix)
+        omega (arith, length-append {A = ℕ}, fewer, long, new, length_stays false false w.run, ap length rel.parts.prefixes, length_stays false false v.run, ap length rel.parts.escape, ap length rel.parts.immediate, ap length rel.parts.suffix)
 
     pub shortest_relative : allows_lock a ≡ true → length s ≤ 15 → is_ip_relative raw ≡ false → IsShortest strict s a v t
     unfolding sentence

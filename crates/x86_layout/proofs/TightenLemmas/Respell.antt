@@ -1,5 +1,5 @@
 -- The pieces of a row with other raw fields.
-use Rattle.std.proofs.Common.{◌≡◌, ℕ, true, Option, Some, None, List, [], ◌∷◌, ◌++◌, ℤ, refl, sym, ap, subst, ◌∙◌, arith}
+use Rattle.std.proofs.Common.{◌≡◌, ℕ, true, Option, Some, None, List, [], ◌∷◌, ◌++◌, ℤ, refl, sym, ap, ◌∙◌, arith}
 use Rattle.x86_fields.specs.declared.prefixes.Prefixes.{Prefixes}
 use Rattle.x86_fields.specs.declared.raw.Raw.{Raw}
 use Rattle.x86_fields.specs.Address.{base_of, index_of, scale_by}
@@ -72,7 +72,7 @@ module _ (p q : Prefixes) (m n : ℕ) (raw other : Raw) where
   retailed : (plan : Plan) (tail address : List ℕ) (reading : Reading) (h : SpellsTail plan p m tail reading) → p.lock ≡ q.lock → h.pieces.memory ≡ Some raw → is_memory n ≡ true → SpellsRaw q n address other → Retailed plan n address h.pieces.immediates h.pieces.suffix reading
   retailed plan tail address reading h same read memory spells =
       let s = h.pieces in
-      let encodings : SpellsOperands (list_of plan.encodings) p m (Some raw) s.immediates s.operand_pairs = subst (λ x. SpellsOperands (list_of plan.encodings) p m x s.immediates s.operand_pairs) read s.immediates_spelled in
+      let encodings = rw read at s.immediates_spelled in
       let new = regiven (list_of plan.encodings) s.immediates s.operand_pairs encodings in
       let again : Reading = reading_from plan q h.opcode (four_of new.pairs) in
       let lock : allows_lock again ≡ allows_lock (reading_from plan p h.opcode (four_of s.operand_pairs)) = cc (lock_of_change plan.change same, new.first) in
@@ -115,9 +115,7 @@ module _ (p q : Prefixes) (m n : ℕ) (raw other : Raw) where
 
   pub rerowed : (r : RowRecord) (plan : Plan) (tail address : List ℕ) (reading : Reading) (h : SpellsTail plan p m tail reading) → p.lock ≡ q.lock → h.pieces.memory ≡ Some raw → is_memory n ≡ true → SpellsRaw q n address other → r.at_opcode ≡ None → r.modrm ≡ EitherForm → r.plan n ≡ plan → Rerowed r address h.pieces.immediates h.pieces.suffix reading
   rerowed r plan tail address reading h same read memory spells passed usage planned =
-      let byte : n ≡ modrm_of r.modrm (n ∷ []) = ap (λ u. modrm_of u (n ∷ [])) (sym usage) in
-      let first : Retailed (r.plan n) n address h.pieces.immediates h.pieces.suffix reading = subst (λ x. Retailed x n address h.pieces.immediates h.pieces.suffix reading) (sym planned) (retailed plan tail address reading h same read memory spells) in
-      let second : Retailed (r.plan (modrm_of r.modrm (n ∷ []))) (modrm_of r.modrm (n ∷ [])) address h.pieces.immediates h.pieces.suffix reading = subst (λ k. Retailed (r.plan k) k address h.pieces.immediates h.pieces.suffix reading) byte first in
+      let second : Retailed (r.plan (modrm_of r.modrm (n ∷ []))) (modrm_of r.modrm (n ∷ [])) address h.pieces.immediates h.pieces.suffix reading = rw (usage, planned) (retailed plan tail address reading h same read memory spells) in
       record {
         again = second.again;
         row = record { modrm = n ∷ []; tail = address ++ (h.pieces.immediates ++ h.pieces.suffix); passed = passed; spelled = refl; modrm_length = ap modrm_width (sym usage); tail_spelled = second.tail };

@@ -1,5 +1,5 @@
 -- A relative is the same instruction but for its memory operand of ModRM, which has the same address.
-use Rattle.std.proofs.Common.{◌≡◌, ◌↔◌, ℕ, zero, suc, ◌≤◌, ◌<◌, ◌^◌, ◌&&◌, nat_le, nat_lt, Bool, true, false, if◌then◌else◌, is_some, Option, Some, None, List, [], ◌∷◌, ◌++◌, length, map, slice_index_or, refl, sym, ap, subst, ◌∙◌, arith, All}
+use Rattle.std.proofs.Common.{◌≡◌, ◌↔◌, ℕ, zero, suc, ◌≤◌, ◌<◌, ◌^◌, ◌&&◌, nat_le, nat_lt, Bool, true, false, if◌then◌else◌, is_some, Option, Some, None, List, [], ◌∷◌, length, map, slice_index_or, refl, sym, ap, subst, ◌∙◌, arith, All}
 use Rattle.std.specs.Prelude.{FitsSigned}
 use Rattle.std.specs.Int.{w32}
 use Rattle.x86_regs.specs.declared.RegisterClass.{RegisterClass}
@@ -8,9 +8,8 @@ use Rattle.x86_regs.specs.declared.RegSpec.{RegSpec}
 use Rattle.x86_fields.specs.declared.prefixes.Prefixes.{Prefixes}
 use Rattle.x86_fields.specs.declared.rex.PrefixRex.{PrefixRex}
 use Rattle.x86_fields.specs.declared.raw.Raw.{Raw}
-use Rattle.x86_fields.specs.ModRM.{reg_field, scale_field, is_memory}
+use Rattle.x86_fields.specs.ModRM.{reg_field, scale_field}
 use Rattle.x86_fields.specs.Raw.{live_bit, has_r}
-use Rattle.x86_fields.specs.Run.{reading_of}
 use Rattle.x86_fields.specs.Address.{scale_by}
 use Rattle.x86_fields.specs.Sizes.{register_of}
 use Rattle.x86_fields.specs.Linear.{Linear, raw_form, value_at, IsSameAddress, IsReduced, IsRegFile, AgreeEverywhere}
@@ -32,18 +31,20 @@ use Rattle.x86_operands.specs.PlanSteps.{pair_at, four_of, changed, reading_from
 use Rattle.x86_operands.specs.Pieces.{operand_from, SpellsOperands, SpellsTail, first_or}
 use Rattle.x86_decode.specs.declared.instructions.Instruction.{Instruction}
 use Rattle.x86_decode.specs.Instruction.{instruction_of, operand_at}
-use Rattle.x86_decode.specs.Head.{escape_bytes, column_of}
-use Rattle.x86_decode.specs.Grammar.{record_of, IsSentence}
+use Rattle.x86_decode.specs.Head.{escape_bytes}
+use Rattle.x86_decode.specs.Grammar.{IsSentence}
 use Rattle.x86_decode.proofs.ByteLemmas.{bytes_of}
 use Rattle.x86_layout.specs.Parts.Split.{Encoding}
-use Rattle.x86_layout.specs.Tightening.Registers.{IsByteOption}
+use Rattle.x86_layout.specs.declared.tightening.registers.Scale.{Scale}
+use Rattle.x86_layout.specs.Tightening.Registers.{scale_named, times, IsByteOption}
 use Rattle.x86_layout.specs.Tightening.Shortest.{IsOfBytes}
 use Rattle.x86_layout.specs.Tightening.Tighten.{bits_in, IsRelative}
 use Rattle.x86_layout.specs.Tightening.Same.{cleared, placed_at, address_at, IsSameOrShape, unchanged, shapes, IsSameButInMemory}
 use Rattle.x86_layout.proofs.TightenLemmas.Rex.{seen_with, column_stays}
 use Rattle.x86_layout.proofs.TightenLemmas.PlanAlike.{same_plan}
-use Rattle.x86_layout.proofs.TightenLemmas.Relative.{Seen, Byte, spells, fields, byte, raw_short, raw_of_bytes}
-use Rattle.x86_layout.proofs.PartLemmas.Part.{take_of, drop_of}
+use Rattle.x86_layout.proofs.TightenLemmas.Raw.{scale_is}
+use Rattle.x86_layout.proofs.TightenLemmas.Relative.{Reads, Row, Seen, Byte, spells, fields, byte, raw_short, raw_of_bytes}
+use Rattle.x86_layout.proofs.PartLemmas.Part.{halves}
 
 -- ---- what clearing X and B leaves
 
@@ -84,15 +85,12 @@ module _ (from to : Raw) where
   none_alike : AlikePairs [] []
   none_alike = record { count = refl; each = λ k. unchanged refl }
 
-  one_more : (x y : Slot × Operand) (xs ys : List (Slot × Operand)) → IsSameOrShape from to x y → AlikePairs xs ys → AlikePairs (x ∷ xs) (y ∷ ys)
-  one_more x y xs ys first following = record { count = ap suc following.count; each = each }
+  one_more : {x y : Slot × Operand} {xs ys : List (Slot × Operand)} → IsSameOrShape from to x y → AlikePairs xs ys → AlikePairs (x ∷ xs) (y ∷ ys)
+  one_more {x = x} {y = y} {xs = xs} {ys = ys} first following = record { count = ap suc following.count; each = each }
     where
       each : (k : ℕ) → IsSameOrShape from to (pair_at (x ∷ xs) k) (pair_at (y ∷ ys) k)
       each zero = first
       each (suc k) = following.each k
-
-  alike_moved : (xs ys vs ws : List (Slot × Operand)) → vs ≡ xs → ws ≡ ys → AlikePairs xs ys → AlikePairs vs ws
-  alike_moved xs ys vs ws e f h = rw (e, f) h
 
   module _ (p q : Prefixes) (m n : ℕ) (alike : cleared q ≡ cleared p) (register : reg_field n ≡ reg_field m) where
     same_number : reg_number n q ≡ reg_number m p
@@ -109,15 +107,12 @@ module _ (from to : Raw) where
     sign_alike s bytes = unchanged refl
 
     pairs_alike : (ss : List OperandEncoding) (bytes : List ℕ) (operand_pairs others : List (Slot × Operand)) → SpellsOperands ss p m (Some from) bytes operand_pairs → SpellsOperands ss q n (Some to) bytes others → AlikePairs operand_pairs others
-    pairs_alike [] bytes operand_pairs others h g = alike_moved [] [] operand_pairs others h.1 g.1 none_alike
+    pairs_alike [] bytes operand_pairs others h g = rw (h.1, g.1) none_alike
     pairs_alike (s ∷ rest) bytes operand_pairs others h g =
-        let both : h.immediate ++ h.tail ≡ g.immediate ++ g.tail = sym h.spelled ∙ g.spelled in
-        let long : length h.immediate ≡ length g.immediate = h.immediate_length ∙ sym g.immediate_length in
-        let beginning : h.immediate ≡ g.immediate = take_of h.immediate h.tail g.immediate g.tail both long in
-        let back : h.tail ≡ g.tail = drop_of h.immediate h.tail g.immediate g.tail both long in
-        let first = subst (λ l. IsSameOrShape from to (operand_from s p m (Some from) l) (operand_from s q n (Some to) g.immediate)) (sym beginning) (sign_alike s g.immediate) in
-        let following = pairs_alike rest g.tail h.others g.others (rw back at h.tail_spelled) g.tail_spelled in
-        alike_moved _ _ operand_pairs others h.yields g.yields (one_more _ _ _ _ first following)
+        let same = halves h.immediate h.tail g.immediate g.tail (sym h.spelled ∙ g.spelled) (h.immediate_length ∙ sym g.immediate_length) in
+        let first : IsSameOrShape from to (operand_from s p m (Some from) h.immediate) (operand_from s q n (Some to) g.immediate) = rw (same.0) (sign_alike s g.immediate) in
+        let following = pairs_alike rest g.tail h.others g.others (rw (same.1) at h.tail_spelled) g.tail_spelled in
+        rw (h.yields, g.yields) (one_more first following)
 
   -- ---- the instruction
 
@@ -133,9 +128,6 @@ module _ (from to : Raw) where
   at_place true xs ys (suc (suc (suc zero))) h = h.each 3
   at_place true xs ys (suc (suc (suc (suc k)))) h = unchanged refl
 
-  same_moved : (a b c d : Instruction) → c ≡ a → d ≡ b → IsSameButInMemory from to a b → IsSameButInMemory from to c d
-  same_moved a b c d e f h = rw (e, f) h
-
   module _ (address : IsSameAddress (raw_form to) (raw_form from)) (p q : Prefixes) (alike : cleared q ≡ cleared p) where
     built : (plan : Plan) (opcode k l : ℕ) (xs ys : List (Slot × Operand)) → AlikePairs xs ys → IsSameButInMemory from to (instruction_of (reading_from plan p opcode (four_of xs)) k) (instruction_of (reading_from plan q opcode (four_of ys)) l)
     built plan opcode k l xs ys h = record {
@@ -148,78 +140,48 @@ module _ (from to : Raw) where
     }
 
     module _ (m n : ℕ) (register : reg_field n ≡ reg_field m) where
-      tails : (plan other : Plan) (tail end : List ℕ) (a b : Reading) (h : SpellsTail plan p m tail a) (g : SpellsTail other q n end b) (k l : ℕ) → other ≡ plan → h.pieces.memory ≡ Some from → g.pieces.memory ≡ Some to → g.pieces.immediates ≡ h.pieces.immediates → g.pieces.suffix ≡ h.pieces.suffix → IsSameButInMemory from to (instruction_of a k) (instruction_of b l)
-      tails plan other tail end a b h g k l planned old new immediates suffix =
+      tails : {plan other : Plan} {tail end : List ℕ} {a b : Reading} (h : SpellsTail plan p m tail a) (g : SpellsTail other q n end b) (k l : ℕ) → other ≡ plan → h.pieces.memory ≡ Some from → g.pieces.memory ≡ Some to → g.pieces.immediates ≡ h.pieces.immediates → g.pieces.suffix ≡ h.pieces.suffix → IsSameButInMemory from to (instruction_of a k) (instruction_of b l)
+      tails {plan = plan} {b = b} h g k l planned old new immediates suffix =
           let x = h.pieces in
           let y = g.pieces in
-          let spelled : SpellsOperands (list_of plan.encodings) p m (Some from) x.immediates x.operand_pairs = rw old at x.immediates_spelled in
-          let third : SpellsOperands (list_of plan.encodings) q n (Some to) x.immediates y.operand_pairs = rw (planned, new, immediates) at y.immediates_spelled in
-          let pairs : AlikePairs x.operand_pairs y.operand_pairs = pairs_alike p q m n alike register (list_of plan.encodings) x.immediates x.operand_pairs y.operand_pairs spelled third in
-          let named : Some g.opcode ≡ Some h.opcode = cc (g.named, planned, suffix, h.named) in
-          let opcode : g.opcode ≡ h.opcode = cc in
-          let yields : b ≡ reading_from plan q h.opcode (four_of y.operand_pairs) = cc (g.yields, planned, opcode) in
-          same_moved _ _ (instruction_of a k) (instruction_of b l) (ap (λ r. instruction_of r k) h.yields) (ap (λ r. instruction_of r l) yields) (built plan h.opcode k l x.operand_pairs y.operand_pairs pairs)
+          let spelled = rw old at x.immediates_spelled in
+          let third = rw (planned, new, immediates) at y.immediates_spelled in
+          let pairs = pairs_alike p q m n alike register (list_of plan.encodings) x.immediates x.operand_pairs y.operand_pairs spelled third in
+          let yields : b ≡ reading_from plan q h.opcode (four_of y.operand_pairs) = cc (g.yields, planned, g.named, suffix, h.named) in
+          rw (h.yields, yields) (built plan h.opcode k l x.operand_pairs y.operand_pairs pairs)
 
 -- ---- the encodings
 
 one_map : (f g : Map) → escape_bytes f ≡ escape_bytes g → f ≡ g
 one_map f g e = grind arith
 
-module _ (strict : Bool) (s : List ℕ) (a : Reading) (v : Encoding strict s a) (t : List ℕ) (b : Reading) (w : Encoding strict t b) (rel : IsRelative strict s a v t b w) where
-  abbrev From : Raw
-  From = rel.address.from
-
-  abbrev To : Raw
-  To = rel.address.to
-
-  abbrev Old : Prefixes
-  Old = Seen v
-
-  abbrev New : Prefixes
-  New = Seen w
-
-  abbrev OldByte : ℕ
-  OldByte = Byte v
-
-  abbrev NewByte : ℕ
-  NewByte = Byte w
-
-  old_memory : is_memory OldByte ≡ true
-  old_memory = (spells v rel.address.old).0
-
-  new_memory : is_memory NewByte ≡ true
-  new_memory = (spells w rel.address.new).0
-
+module _ {strict : Bool} {s : List ℕ} {a : Reading} {v : Encoding strict s a} {t : List ℕ} {b : Reading} {w : Encoding strict t b} (rel : IsRelative strict s a v t b w) where
   map_is : w.map ≡ v.map
   map_is = one_map w.map v.map rel.parts.escape
 
-  column_is : column_of (reading_of w.run) ≡ column_of (reading_of v.run)
-  column_is = cc (column_stays false false w.run, rel.parts.prefixes, column_stays false false v.run)
-
   row_is : w.row ≡ v.row
-  row_is = cc (w.has_row, v.has_row, column_is, map_is, rel.parts.opcode)
+  row_is = cc (w.has_row, v.has_row, column_stays false false w.run, column_stays false false v.run, rel.parts.prefixes, map_is, rel.parts.opcode)
 
-  seen_is : cleared New ≡ cleared Old
+  seen_is : cleared (Seen w) ≡ cleared (Seen v)
   seen_is = cc (seen_with w.map w.opcode false false w.run, rel.parts.prefixes, map_is, rel.parts.opcode, seen_with v.map v.opcode false false v.run)
 
-  register_is : reg_field NewByte ≡ reg_field OldByte
-  register_is = ap (first_or 0) (
-      sym (ap (map reg_field) (byte w rel.address.new))
-      ∙ rel.parts.register
-      ∙ ap (map reg_field) (byte v rel.address.old))
+  register_is : reg_field (Byte w) ≡ reg_field (Byte v)
+  register_is = ap (first_or 0) (sym (ap (map reg_field) (byte w rel.address.new)) ∙ rel.parts.register ∙ ap (map reg_field) (byte v rel.address.old))
 
-  plan_is : (record_of strict w.row New).plan NewByte ≡ (record_of strict v.row Old).plan OldByte
+  plan_is : (Row w).plan (Byte w) ≡ (Row v).plan (Byte v)
   plan_is =
-      let new = same_plan strict w.row New false false NewByte NewByte new_memory new_memory refl (fields w rel.address.new) in
-      let old = same_plan strict v.row Old false false OldByte NewByte old_memory new_memory register_is (fields v rel.address.old) in
+      let mm = (spells v rel.address.old).0 in
+      let nm = (spells w rel.address.new).0 in
+      let new = same_plan strict w.row (Seen w) false false (Byte w) (Byte w) nm nm refl (fields w rel.address.new) in
+      let old = same_plan strict v.row (Seen v) false false (Byte v) (Byte w) mm nm register_is (fields v rel.address.old) in
       cc (new, row_is, seen_is, old)
 
-  same_instruction : (k l : ℕ) → IsSameButInMemory From To (instruction_of a k) (instruction_of b l)
-  same_instruction k l = tails From To rel.address.same Old New seen_is OldByte NewByte register_is _ _ v.row_spelled.tail w.row_spelled.tail a b v.row_spelled.tail_spelled w.row_spelled.tail_spelled k l plan_is rel.address.old rel.address.new rel.parts.immediate rel.parts.suffix
+  same_instruction : (k l : ℕ) → IsSameButInMemory rel.address.from rel.address.to (instruction_of a k) (instruction_of b l)
+  same_instruction k l = tails rel.address.from rel.address.to rel.address.same (Seen v) (Seen w) seen_is (Byte v) (Byte w) register_is v.row_spelled.tail_spelled w.row_spelled.tail_spelled k l plan_is rel.address.old rel.address.new rel.parts.immediate rel.parts.suffix
 
 -- said of sentences
 pub relative_is_same : (strict : Bool) (s : List ℕ) (a : Instruction) (is : IsSentence (rows_of packed) strict s a) (t : List ℕ) (b : Instruction) (other : IsSentence (rows_of packed) strict t b) (rel : IsRelative strict s is.reading is.whole t other.reading other.whole) → IsSameButInMemory rel.address.from rel.address.to a b
-relative_is_same strict s a is t b other rel = same_moved rel.address.from rel.address.to _ _ a b is.yields other.yields (same_instruction strict s is.reading is.whole t other.reading other.whole rel (length s) (length t))
+relative_is_same strict s a is t b other rel = rw (is.yields, other.yields) (same_instruction rel (length s) (length t))
 
 -- ---- addresses, by the laws on shapes and on forms
 
@@ -232,23 +194,19 @@ AreReduced = (raw : Raw) → scale_by raw.sib ≤ 8 → FitsSigned w32 raw.disp 
 abbrev AreTheirValues : Type 0
 AreTheirValues = (f g : Linear) → f.modulus ≡ g.modulus → IsReduced f → IsReduced g → (IsSameAddress f g ↔ AgreeEverywhere f g)
 
-power : (high : ℕ) → high < 4 → 2 ^ high ≤ 8
-power zero h = omega arith
-power (suc zero) h = omega arith
-power (suc (suc zero)) h = omega arith
-power (suc (suc (suc zero))) h = omega arith
-power (suc (suc (suc (suc k)))) h = absurd (omega (arith, h))
+times_small : (s : Scale) → times s ≤ 8
+times_small s = grind arith
 
 scale_small : (sib : Option ℕ) → IsByteOption sib → scale_by sib ≤ 8
 scale_small None h = omega arith
-scale_small (Some sib) h = power (scale_field sib) (omega (arith, h))
+scale_small (Some sib) h = let e = scale_is (scale_field sib) (omega (arith, h)) in let t = times_small (scale_named (2 ^ scale_field sib)) in omega (arith, e, t)
 
 mark_67 : (change : PrefixChange) (p : Prefixes) → (changed change p).address_size ≡ p.address_size
 mark_67 change p = grind arith
 
 -- 67 of the raw fields is that of the instruction
-same_67 : (strict : Bool) (s : List ℕ) (a : Instruction) (is : IsSentence (rows_of packed) strict s a) (raw : Raw) → is.whole.row_spelled.tail_spelled.pieces.memory ≡ Some raw → a.prefixes.address_size ≡ raw.address_size
-same_67 strict s a is raw read =
+same_67 : {strict : Bool} {s : List ℕ} {a : Instruction} (is : IsSentence (rows_of packed) strict s a) {raw : Raw} → Reads is.whole raw → a.prefixes.address_size ≡ raw.address_size
+same_67 is read =
     ap (λ i. i.prefixes.address_size) is.yields
     ∙ ap (λ r. r.prefixes.address_size) is.whole.row_spelled.tail_spelled.yields
     ∙ mark_67 _ (Seen is.whole)
@@ -270,7 +228,7 @@ module _ (have : HaveTheAddress) (reduced : AreReduced) (values : AreTheirValues
   module _ (a b : Instruction) (k : ℕ) (h : IsSameButInMemory from to a b) (old : a.prefixes.address_size ≡ from.address_size) (new : b.prefixes.address_size ≡ to.address_size) where
     same_place : IsSameOrShape from to (placed_at a k) (placed_at b k) → address_at b k regs next ≡ address_at a k regs next
     same_place (unchanged e) = ap (λ p. operand_address p.address_size (operand_at b k) regs next) h.prefixes ∙ ap (λ x. operand_address a.prefixes.address_size x.1 regs next) e
-    same_place (shapes e f) = at_shape b k to to_bytes new f ∙ ap Some (same_value h.address) ∙ sym (at_shape a k from from_bytes old e)
+    same_place (shapes e f) = cc (at_shape b k to to_bytes new f, same_value h.address, at_shape a k from from_bytes old e)
 
 pub relative_has_addresses : HaveTheAddress → AreReduced → AreTheirValues → (strict : Bool) (s : List ℕ) (a : Instruction) (is : IsSentence (rows_of packed) strict s a) (t : List ℕ) (b : Instruction) (other : IsSentence (rows_of packed) strict t b) → IsRelative strict s is.reading is.whole t other.reading other.whole → All (λ byte. byte < 256) s → All (λ byte. byte < 256) t → (k : ℕ) (regs : List ℕ) (next : ℕ) → IsRegFile regs → next < 2 ^ 64 → address_at b k regs next ≡ address_at a k regs next
 relative_has_addresses have reduced values strict s a is t b other rel s_bytes t_bytes k regs next file small =
@@ -281,6 +239,6 @@ relative_has_addresses have reduced values strict s a is t b other rel s_bytes t
     (raw_of_bytes is.whole from rel.address.old (bytes_of s s_bytes))
     (raw_of_bytes other.whole to rel.address.new (bytes_of t t_bytes))
     regs next file small a b k same
-    (same_67 strict s a is from rel.address.old)
-    (same_67 strict t b other to rel.address.new)
+    (same_67 is rel.address.old)
+    (same_67 other rel.address.new)
     (same.operands k)

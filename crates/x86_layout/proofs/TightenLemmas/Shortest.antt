@@ -1,5 +1,5 @@
 -- The shortest raw fields have the same address, and no others of that address have fewer bytes.
-use Rattle.std.proofs.Common.{◌≡◌, ℕ, ◌<◌, ◌≤◌, Bool, true, false, if◌then◌else◌, Option, Some, ℤ, refl, sym, ap, subst, ◌∙◌, arith}
+use Rattle.std.proofs.Common.{◌≡◌, ℕ, ◌<◌, ◌≤◌, Bool, true, false, if◌then◌else◌, Option, Some, ℤ, refl, sym, ap, ◌∙◌, arith}
 use Rattle.std.specs.Prelude.{FitsSigned}
 use Rattle.std.specs.Int.{w32, w64, cast_signed}
 use Rattle.std.proofs.lemmas.Bool.Decides.{nat_tests}
@@ -35,7 +35,7 @@ same_index : (i j : Option ℕ) (s t : Scale) (r : ℕ) → i ≡ j → ((n : �
 same_index i j s t r e f = grind arith
 
 spelled_scale_where : (d : ℤ) (m : ℕ) → m < 8 → (b i : Option ℕ) (s : Scale) (n : ℕ) → i ≡ Some n → scale_named (scale_by (sib_by (rm_alone b i) (packed_byte (scale_bits s) (field_or 4 i) (field_or 5 b)))) ≡ s
-spelled_scale_where d m below b i s n e = subst (λ k. scale_named (scale_by (sib_by (rm_alone b k) (packed_byte (scale_bits s) (field_or 4 k) (field_or 5 b)))) ≡ s) (sym e) (spelled_scale d m below b n s)
+spelled_scale_where d m below b i s n e = rw e (spelled_scale d m below b n s)
 
 spelled_weighs : (raw : Raw) (at : AddressRegisters) (r : ℕ) → HaveNumbers at → weight (registers_of (spelled raw at)) r ≡ weight at r
 spelled_weighs raw at r h =
@@ -95,7 +95,7 @@ shortest_has_the_address raw h e =
           ∙ spelled_weighs raw at r (shortest_numbers raw)
           ∙ arranged_weighs raw.disp from.base from.index from.scale r
           ∙ sym (form_weighs raw r h.sib e);
-      next = form_next to ∙ ap (λ t. if t then 1 else 0) (spelled_ip raw at) ∙ sym (form_next raw ∙ ap (λ t. if t then 1 else 0) e);
+      next = cc (form_next to, spelled_ip raw at, form_next raw, e);
       constant = refl;
     }
 
@@ -120,14 +120,13 @@ pub none_is_shorter : (raw other : Raw) → IsOfBytes raw → IsOfBytes other �
 none_is_shorter raw other h k e same =
     let from = registers_of raw in
     let to = registers_of other in
-    let ip : is_ip_relative other ≡ false = ip_known (is_ip_relative other) _ (form_next other) (same.next ∙ form_next raw ∙ ap (λ t. if t then 1 else 0) e) in
-    let disp : other.disp ≡ raw.disp = disp_known raw.address_size other.disp raw.disp k.disp h.disp (ap (λ s. constant_by s other.disp) (sym (short_known other.address_size raw.address_size same.modulus)) ∙ same.constant) in
+    let ip : is_ip_relative other ≡ false = ip_known (is_ip_relative other) _ (form_next other) (cc (same.next, form_next raw, e)) in
+    let disp : other.disp ≡ raw.disp = disp_known raw.address_size other.disp raw.disp k.disp h.disp (cc (short_known other.address_size raw.address_size same.modulus, same.constant)) in
     let counts_so : (r : ℕ) → r < 16 → weight from r ≡ weight to r = λ r small. sym (form_weighs raw r h.sib e) ∙ sym (same.registers r small) ∙ form_weighs other r k.sib ip in
     let fewer = fewest raw.disp from.base from.index from.scale to.base to.index to.scale (base_number raw raw.sib) (index_number raw raw.sib) (base_number other other.sib) (index_number other other.sib) counts_so in
-    let all = least other.disp other other.sib k.fit ip in
-    let all' : bytes_by raw.disp to.base to.index ≤ address_length other = subst (λ d. bytes_by d to.base to.index ≤ address_length other) disp all in
+    let all : bytes_by raw.disp to.base to.index ≤ address_length other = rw (← disp) (least other.disp other other.sib k.fit ip) in
     let long = shortest_length raw in
-    omega (arith, long, fewer, all')
+    omega (arith, long, fewer, all)
   where
     short_known : (a b : Bool) → modulus_by a ≡ modulus_by b → a ≡ b
     short_known a b e = grind arith

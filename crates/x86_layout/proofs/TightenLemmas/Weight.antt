@@ -1,5 +1,5 @@
 -- No arrangement of the same registers needs fewer bytes.
-use Rattle.std.proofs.Common.{◌≡◌, ℕ, ◌+◌, ◌<◌, ◌≤◌, ◌⊎◌, inl, inr, Option, Some, None, ℤ, sym, subst, arith}
+use Rattle.std.proofs.Common.{◌≡◌, ℕ, ◌+◌, ◌<◌, ◌≤◌, ◌⊎◌, inl, inr, Option, Some, None, ℤ, arith}
 use Rattle.std.proofs.lemmas.Bool.Decides.{nat_tests}
 use Rattle.x86_layout.specs.declared.tightening.registers.Scale.{Scale}
 use Rattle.x86_layout.specs.declared.tightening.registers.Scale.TheVariants.{One}
@@ -69,8 +69,8 @@ spares_index : (d : ℤ) (b i : ℕ) → bytes_at d (exchanged d b i) ≤ 1 + wi
 spares_index d b i = grind arith
 
 by_base : (d : ℤ) (b i : ℕ) (s : Scale) (b' : ℕ) → (b ≡ b') ⊎ ((i ≡ b') × (s ≡ One)) → bytes_at d (base_and_index d b i s) ≤ 1 + width_with_base d b'
-by_base d b i s b' (inl e) = subst (λ k. bytes_at d (base_and_index d b i s) ≤ 1 + width_with_base d k) e (spares_base d b i s)
-by_base d b i s b' (inr e) = subst (λ k. bytes_at d (base_and_index d b i k) ≤ 1 + width_with_base d b') (sym e.1) (subst (λ k. bytes_at d (exchanged d b i) ≤ 1 + width_with_base d k) e.0 (spares_index d b i))
+by_base d b i s b' (inl e) = rw (← e) (spares_base d b i s)
+by_base d b i s b' (inr e) = rw (e.1, ← e.0) (spares_index d b i)
 
 pub fewest : (d : ℤ) (b i : Option ℕ) (s : Scale) (b' i' : Option ℕ) (s' : Scale) → IsBelow16 b → IsIndex i → IsBelow16 b' → IsIndex i' → ((k : ℕ) → k < 16 → Weigh b i s k ≡ Weigh b' i' s' k) → bytes_at d (arranged d b i s) ≤ bytes_by d b' i'
 fewest d b i s None i' s' hb hi hb' hi' e = let at = arranged d b i s in at_most_five d at.base at.index

@@ -3,7 +3,6 @@ use Rattle.x86_fields.specs.Run.{reading_of}
 use Rattle.x86_decode.specs.Head.{seen_by}
 use Rattle.x86_layout.specs.Parts.Split.{lists_of, record_in, HasParts}
 use Rattle.x86_layout.proofs.PartLemmas.Taken.{beginning_of}
-use Rattle.x86_layout.specs.Parts.OfBytes.{parts_of}
 use Rattle.x86_layout.proofs.PartLemmas.Length.{lengths_of}
 use Rattle.x86_layout.proofs.PartLemmas.OfBytes.{parts_are, parts_once}
 use Rattle.x86_layout.proofs.PartLemmas.Split.{joined_is}
@@ -13,9 +12,8 @@ pub returns-clause-pieces : goal.returns-clause-pieces
 returns-clause-pieces c =
     let strict = c.args.decoder.now.strict in
     let bytes = c.args.bytes.now in
-    let instruction = c.args.instruction.now in
     let encoding = c.split_at_most.result.0.now in
-    let beginning = beginning_of strict bytes encoding instruction c.to_const.result c.requires.decoded (c.answer_is.ensures.there strict bytes) (c.lengths.ensures.counted strict bytes instruction c.requires.decoded) (c.to_const.ensures ∙ ap (λ d. d.amount) c.len.ensures) c.split_at_most.ensures.first in
+    let beginning = beginning_of strict bytes c.requires.decoded (c.answer_is.ensures.there strict bytes) (c.lengths.ensures.counted strict bytes) (c.to_const.ensures ∙ ap (λ d. d.amount) c.len.ensures) c.split_at_most.ensures.first in
     let reading = beginning.is.reading in
     let whole = beginning.is.whole in
     let head = c.head_of.ensures strict reading whole in
@@ -24,7 +22,7 @@ returns-clause-pieces c =
     let tail = following.tail row (seen_by whole.map whole.opcode (reading_of whole.run)) reading whole.tail head.tail head.ask whole.row_spelled in
     let parts : HasParts strict encoding reading whole (lists_of c.parts_after.result) = assumption (following.prefixes ∙ head.prefixes, following.escape ∙ head.escape, following.opcode ∙ head.opcode, tail) in
     record {
-      instruction = instruction;
+      instruction = c.args.instruction.now;
       encoding = encoding;
       rest = beginning.rest;
       reading = reading;
@@ -33,18 +31,16 @@ returns-clause-pieces c =
       long = beginning.long;
       whole = whole;
       parts = parts;
-      together = joined_is strict encoding reading whole (lists_of c.parts_after.result) parts;
+      together = joined_is parts;
     }
 
 pub returns-clause-value : goal.returns-clause-value
 returns-clause-value c =
-    let strict = c.args.decoder.now.strict in
     let x = returns-clause-pieces c in
-    parts_once strict x.encoding x.reading x.whole (lists_of c.parts_after.result) (parts_of strict c.args.bytes.now) x.parts
-    (parts_are strict c.args.bytes.now x.encoding x.rest x.reading x.whole x.begins)
+    parts_once x.parts (parts_are x.rest x.whole x.begins)
 
 pub returns-clause-lengths : goal.returns-clause-lengths
 returns-clause-lengths c =
     let x = returns-clause-pieces c in
     let short : length x.encoding ≤ 15 = let e = x.long in let s = c.lengths.ensures.short c.args.decoder.now.strict c.args.bytes.now x.instruction x.accepted in omega (arith, e, s) in
-    lengths_of c.args.decoder.now.strict x.encoding x.reading x.whole (lists_of c.parts_after.result) x.parts short
+    lengths_of x.parts short

@@ -18,7 +18,7 @@ loop-cut-init c =
       tt,
       tt,
       All-same (IsWithin (length bytes)) left (cuts_of strict bytes) e (all_within strict (c.lengths.ensures.within strict) bytes),
-      λ p h. ap (λ l. slice_index_or c.args.marks.now p false || list_any (targets p) l) e,
+      λ p h. cc (e),
     )
 
 pub loop-cut-preserved : goal.loop-cut-preserved

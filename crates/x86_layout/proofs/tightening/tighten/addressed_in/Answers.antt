@@ -1,4 +1,4 @@
-use Rattle.std.proofs.Common.{true, Some, ◌≡◌, ℕ, Bool, List, slice_index, sym, ap, ◌∙◌}
+use Rattle.std.proofs.Common.{true, ◌≡◌, ℕ, Bool, List, slice_index, sym, ap, ◌∙◌}
 use Rattle.std.specs.List.{list_all}
 use Rattle.x86_fields.specs.declared.prefixes.Prefixes.{Prefixes}
 use Rattle.x86_fields.specs.declared.raw.Raw.{Raw}
@@ -12,7 +12,7 @@ use Rattle.x86_layout.specs.declared.parts.split.Parts.{Parts}
 use Rattle.x86_layout.specs.Parts.Heads.{IsHead, IsTail}
 use Rattle.x86_layout.specs.Parts.Split.{Encoding, HasParts, lists_of}
 use Rattle.x86_layout.specs.Tightening.Tighten.{raw_of}
-use Rattle.x86_layout.proofs.TightenLemmas.Relative.{Seen, Row}
+use Rattle.x86_layout.proofs.TightenLemmas.Relative.{Seen, Reads, Row}
 use Rattle.x86_layout.proofs.TightenLemmas.Least.{least_without, least_at_ip}
 use Rattle.x86_layout.proofs.TightenLemmas.Tighten.{memory_in_head, no_operand, operand_form, some_memory, has_parts, raw_is}
 use Rattle.x86_layout.proofs.tightening.tighten.addressed_in.Goals as goal
@@ -22,21 +22,19 @@ Tails head parts = (r : RowRecord) (p : Prefixes) (reading : Reading) (tail : Li
 
 -- A sentence whose head has a memory form: its parts are these, and the raw fields of the parts are those of the
 -- sentence.
-known : (strict : Bool) (s : List ℕ) (a : Reading) (v : Encoding strict s a) (head : Head) (parts : Parts) (raw : Raw) → IsHead strict s a v head → parts.prefixes.now ≡ head.prefixes.now → parts.escape.now ≡ head.escape.now → parts.opcode.now ≡ head.opcode.now → Tails head parts → raw ≡ raw_of (lists_of parts) → head.ask.memory ≡ true → HasParts strict s a v (lists_of parts) × (v.row_spelled.tail_spelled.pieces.memory ≡ Some raw)
-known strict s a v head parts raw h prefixes escape opcode tails fields row_spelled =
-    let has = has_parts v head parts h prefixes escape opcode (tails (Row v) (Seen v) a v.tail h.tail h.ask v.row_spelled) in
-    let some = some_memory v (sym (memory_in_head v head h) ∙ row_spelled) in
-    (has, some.1 ∙ ap Some (sym (fields ∙ raw_is v some.1 (lists_of parts) has)))
+known : {strict : Bool} {s : List ℕ} {a : Reading} (v : Encoding strict s a) {head : Head} (parts : Parts) {raw : Raw} → IsHead strict s a v head → parts.prefixes.now ≡ head.prefixes.now → parts.escape.now ≡ head.escape.now → parts.opcode.now ≡ head.opcode.now → Tails head parts → raw ≡ raw_of (lists_of parts) → head.ask.memory ≡ true → HasParts strict s a v (lists_of parts) × Reads v raw
+known v {head = head} parts h prefixes escape opcode tails fields memory =
+    let has = has_parts v head parts h prefixes escape opcode (tails (Row v) (Seen v) _ v.tail h.tail h.ask v.row_spelled) in
+    let some = some_memory v (sym (memory_in_head v head h) ∙ memory) in
+    (has, cc (some.1, fields, raw_is v some.1 (lists_of parts) has))
 
 pub returns-then-not-head-clause-raw : goal.returns-then-not-head-clause-raw
 returns-then-not-head-clause-raw c = λ strict a is.
-    let s = c.args.encoding.now in
     let h = c.head_of-head.ensures strict is.reading is.whole in
     no_operand is.whole (sym (memory_in_head is.whole c.head_of-head.result h) ∙ c.if-not-head.true)
 
 pub returns-then-not-head-clause-least : goal.returns-then-not-head-clause-least
 returns-then-not-head-clause-least c = λ strict a is.
-    let s = c.args.encoding.now in
     let h = c.head_of-head.ensures strict is.reading is.whole in
     least_without is.whole (sym (memory_in_head is.whole c.head_of-head.result h) ∙ c.if-not-head.true)
 
@@ -48,21 +46,18 @@ raw_in-raw-requires c =
 
 pub returns-then-is_ip_relative-clause-raw : goal.returns-then-is_ip_relative-clause-raw
 returns-then-is_ip_relative-clause-raw c = λ strict a is.
-    let s = c.args.encoding.now in
     let tie = c.parts_after-parts.ensures in
-    let k = known strict s is.reading is.whole c.head_of-head.result c.parts_after-parts.result c.raw_in-raw.result (c.head_of-head.ensures strict is.reading is.whole) tie.prefixes tie.escape tie.opcode tie.tail c.raw_in-raw.ensures c.if-not-head.false in
+    let k = known is.whole c.parts_after-parts.result (c.head_of-head.ensures strict is.reading is.whole) tie.prefixes tie.escape tie.opcode tie.tail c.raw_in-raw.ensures c.if-not-head.false in
     operand_form is.whole c.raw_in-raw.result k.1 true (sym c.is_ip_relative.ensures ∙ c.if-is_ip_relative.true)
 
 pub returns-then-is_ip_relative-clause-least : goal.returns-then-is_ip_relative-clause-least
 returns-then-is_ip_relative-clause-least c = λ strict a is.
-    let s = c.args.encoding.now in
     let tie = c.parts_after-parts.ensures in
-    let k = known strict s is.reading is.whole c.head_of-head.result c.parts_after-parts.result c.raw_in-raw.result (c.head_of-head.ensures strict is.reading is.whole) tie.prefixes tie.escape tie.opcode tie.tail c.raw_in-raw.ensures c.if-not-head.false in
+    let k = known is.whole c.parts_after-parts.result (c.head_of-head.ensures strict is.reading is.whole) tie.prefixes tie.escape tie.opcode tie.tail c.raw_in-raw.ensures c.if-not-head.false in
     least_at_ip is.whole k.1 (sym c.is_ip_relative.ensures ∙ c.if-is_ip_relative.true)
 
 pub returns-clause-raw : goal.returns-clause-raw
 returns-clause-raw c = λ strict a is.
-    let s = c.args.encoding.now in
     let tie = c.parts_after-parts.ensures in
-    let k = known strict s is.reading is.whole c.head_of-head.result c.parts_after-parts.result c.raw_in-raw.result (c.head_of-head.ensures strict is.reading is.whole) tie.prefixes tie.escape tie.opcode tie.tail c.raw_in-raw.ensures c.if-not-head.false in
+    let k = known is.whole c.parts_after-parts.result (c.head_of-head.ensures strict is.reading is.whole) tie.prefixes tie.escape tie.opcode tie.tail c.raw_in-raw.ensures c.if-not-head.false in
     record { parts = k.0; read = k.1; form = sym c.is_ip_relative.ensures ∙ c.if-is_ip_relative.false }

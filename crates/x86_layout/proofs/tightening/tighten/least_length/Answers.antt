@@ -1,4 +1,4 @@
-use Rattle.std.proofs.Common.{◌-◌, arith, ap, sym, ◌∙◌}
+use Rattle.std.proofs.Common.{arith, ap, sym, ◌∙◌}
 use Rattle.x86_layout.specs.Tightening.Shortest.{address_length}
 use Rattle.x86_layout.proofs.TightenLemmas.Least.{least_of_raw}
 use Rattle.x86_layout.proofs.TightenLemmas.Relative.{length_is}

@@ -1,4 +1,4 @@
-use Rattle.std.proofs.Common.{◌≡◌, sym, ap, ◌∙◌}
+use Rattle.std.proofs.Common.{sym, ap, ◌∙◌}
 use Rattle.x86_layout.proofs.TightenLemmas.Least.{least_beginning}
 use Rattle.x86_layout.proofs.PartLemmas.Taken.{beginning_of}
 use Rattle.x86_layout.proofs.tightening.tighten.shortest_length.Goals as goal
@@ -7,8 +7,5 @@ pub returns : goal.returns
 returns c =
     let strict = c.args.decoder.now.strict in
     let bytes = c.args.bytes.now in
-    let instruction = c.args.instruction.now in
-    let encoding = c.split_at_most.result.0.now in
-    let long : c.to_const.result ≡ instruction.length = c.to_const.ensures ∙ ap (λ d. d.amount) c.len.ensures in
-    let beginning = beginning_of strict bytes encoding instruction c.to_const.result c.requires.decoded (c.answer_is.ensures.there strict bytes) (c.lengths.ensures.counted strict bytes instruction c.requires.decoded) long c.split_at_most.ensures.first in
-    c.least_length.ensures strict instruction beginning.is ∙ sym (least_beginning strict bytes encoding instruction c.to_const.result c.requires.decoded c.split_at_most.ensures.first long)
+    let beginning = beginning_of strict bytes c.requires.decoded (c.answer_is.ensures.there strict bytes) (c.lengths.ensures.counted strict bytes) (c.to_const.ensures ∙ ap (λ d. d.amount) c.len.ensures) c.split_at_most.ensures.first in
+    c.least_length.ensures strict c.args.instruction.now beginning.is ∙ sym (least_beginning beginning)
