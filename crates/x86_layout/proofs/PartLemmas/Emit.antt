@@ -38,14 +38,11 @@ use Rattle.x86_layout.proofs.PartLemmas.Spell.{spelled, HoldsFields, passes, row
 abbrev unless_all : Bool → Bool → Bool → Bool → Bool → Option EmitError
 unless_all run a b c d = unless run error.Prefixes (unless a error.Row (unless b error.Shape (unless c error.Lock (unless d error.Length None))))
 
-none_fails : (run a b c d : Bool) → unless_all run a b c d ≡ None → (run ≡ true) × (a ≡ true) × (b ≡ true) × (c ≡ true) × (d ≡ true)
-none_fails run a b c d h = (grind arith, grind arith, grind arith, grind arith, grind arith)
+all_pass : (run a b c d : Bool) → (unless_all run a b c d ≡ None) ↔ ((run ≡ true) × (a ≡ true) × (b ≡ true) × (c ≡ true) × (d ≡ true))
+all_pass run a b c d = (λ h. (grind arith, grind arith, grind arith, grind arith, grind arith), λ h. grind arith)
 
 no_row : (run : Bool) → unless run error.Prefixes (Some error.Row) ≡ None → ⊥
 no_row run h = grind arith
-
-all_hold : (run a b c d : Bool) → run ≡ true → a ≡ true → b ≡ true → c ≡ true → d ≡ true → unless_all run a b c d ≡ None
-all_hold run a b c d r e f g h = cc
 
 record Holds (strict : Bool) (f : fields.Fields) (e : Entry) : Type 0 where
   pub legal : has_legal_run f ≡ true
@@ -57,7 +54,7 @@ record Holds (strict : Bool) (f : fields.Fields) (e : Entry) : Type 0 where
 holds : (strict : Bool) (f : fields.Fields) (o : Option Entry) → unless (has_legal_run f) error.Prefixes (failing_at strict o f) ≡ None → (e : Entry) × (o ≡ Some e) × Holds strict f e
 holds strict f None h = absurd (no_row (has_legal_run f) h)
 holds strict f (Some e) h =
-    let all = none_fails (has_legal_run f) (passes_record (record_by strict e f) f) (has_row_parts (record_by strict e f) f) (has_lawful_lock strict e f) (is_short f) h in
+    let all = (all_pass (has_legal_run f) (passes_record (record_by strict e f) f) (has_row_parts (record_by strict e f) f) (has_lawful_lock strict e f) (is_short f)).0 h in
     (e, refl, record { legal = all.0; record_passes = all.1; parts = all.2; lock = all.3; short = all.4 })
 
 -- ---- the row that fields name
@@ -70,16 +67,10 @@ record Names (f : fields.Fields) (e : Entry) : Type 0 where
   pub has_row : rows_of packed map (column_of (reading_of f.prefixes.items)) f.opcode ≡ Some row
   pub is : e ≡ record { row = row; prefixes = seen_by map f.opcode (reading_of f.prefixes.items) }
 
-one_byte : (a : ℕ) (map : Map) → map_named (a ∷ []) ≡ Some map → a ∷ [] ≡ escape_bytes map
-one_byte a map h = grind (arith, nat_tests)
-
-two_bytes : (a b : ℕ) (map : Map) → map_named (a ∷ b ∷ []) ≡ Some map → a ∷ b ∷ [] ≡ escape_bytes map
-two_bytes a b map h = grind (arith, nat_tests)
-
 escape_is : (l : List ℕ) (map : Map) → map_named l ≡ Some map → l ≡ escape_bytes map
 escape_is [] map h = cc
-escape_is (a ∷ []) map h = one_byte a map h
-escape_is (a ∷ b ∷ []) map h = two_bytes a b map h
+escape_is (a ∷ []) map h = grind (arith, nat_tests)
+escape_is (a ∷ b ∷ []) map h = grind (arith, nat_tests)
 escape_is (a ∷ b ∷ c ∷ rest) map h = absurd cc
 
 row_is : (t : Bool) (o : Option TableRow) (q : Prefixes) (e : Entry) → (if t then entry_by o q else None) ≡ Some e → (row : TableRow) × (t ≡ true) × (o ≡ Some row) × (e ≡ record { row = row; prefixes = q })
@@ -101,8 +92,8 @@ reading_is r p tail reading a =
     let start : State ℕ = record { left = tail; since_mark = 0; since_made = 0 } in
     ap (λ o. answer_allows_lock o.answer) ((takes_row r p tail reading a).takes [] start (sym (append-nil tail)))
 
-at_most_15 : (n : ℕ) → nat_le n 15 ≡ true → n ≤ 15
-at_most_15 n h = grind (arith, nat_tests)
+short_is : (n : ℕ) → (nat_le n 15 ≡ true) ↔ (n ≤ 15)
+short_is n = (λ h. grind (arith, nat_tests), λ h. grind (arith, nat_tests))
 
 emitted_by : (strict : Bool) (f : fields.Fields) (e : Entry) (n : Names f e) → Holds strict f (record { row = n.row; prefixes = seen_by n.map f.opcode (reading_of f.prefixes.items) }) → ArePartsOfSentence strict f
 emitted_by strict f e n h =
@@ -126,7 +117,7 @@ emitted_by strict f e n h =
           row_spelled = s.row;
         };
         lock = sym (reading_is r q (tail_of f) s.reading s.row) ∙ h.lock;
-        short = at_most_15 (length (joined (lists_in f))) h.short;
+        short = (short_is (length (joined (lists_in f)))).0 h.short;
         yields = refl;
       };
       parts = assumption (n.escape, s.parts);
@@ -156,9 +147,6 @@ split_again strict f rest only h =
 map_back : (m : Map) → map_named (escape_bytes m) ≡ Some m
 map_back m = grind arith
 
-short_test : (n : ℕ) → n ≤ 15 → nat_le n 15 ≡ true
-short_test n h = grind (arith, nat_tests)
-
 module _ {strict : Bool} {s : List ℕ} {reading : Reading} {w : Encoding strict s reading} (f : fields.Fields) (h : HasParts strict s reading w (lists_in f)) where
   abbrev q : Prefixes
   q = seen_by w.map w.opcode (reading_of w.run)
@@ -182,9 +170,9 @@ module _ {strict : Bool} {s : List ℕ} {reading : Reading} {w : Encoding strict
   unfolding first_failing
   permitted lock short =
       let legal : has_legal_run f ≡ true = cc (h.prefixes, w.prefixes) in
-      let short' : is_short f ≡ true = cc (joined_is h, short_test (length s) short) in
+      let short' : is_short f ≡ true = cc (joined_is h, (short_is (length s)).1 short) in
       ap (λ o. unless (has_legal_run f) error.Prefixes (failing_at strict o f)) entry_is
-      ∙ all_hold (has_legal_run f) _ _ _ _ legal (passes f w.row_spelled pieces) (row_parts f w.row_spelled pieces) (lock_is lock) short'
+      ∙ (all_pass (has_legal_run f) _ _ _ _).1 (legal, passes f w.row_spelled pieces, row_parts f w.row_spelled pieces, lock_is lock, short')
 
 -- Emitting the fields of a split yields the encoding's very bytes.
 pub emitted_again : (strict : Bool) (bytes : List ℕ) (i : Instruction) (f : fields.Fields) → IsAccepted (rows_of packed) strict bytes i (count_of strict bytes) → i.length ≡ count_of strict bytes → lists_in f ≡ parts_of strict bytes → IsPermitted strict f × (joined (lists_in f) ≡ take i.length bytes)

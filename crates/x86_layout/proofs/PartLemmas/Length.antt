@@ -24,23 +24,11 @@ use Rattle.x86_layout.specs.Parts.Fields.{HasFieldLengths}
 use Rattle.x86_layout.proofs.PartLemmas.Part.{immediates_long}
 use Rattle.x86_layout.proofs.PartLemmas.OfBytes.{displacement_long}
 
-one_at_most : (b : Bool) → one_if b ≤ 1
-one_at_most b = grind arith
-
 disp_small : (m : ℕ) (sib : Option ℕ) → displacement_width m sib ≤ 4
 disp_small m sib = grind arith
 
 displacement_small : (m : ℕ) (sib : Option ℕ) → (if is_memory m then displacement_width m sib else 0) ≤ 4
 displacement_small m sib = grind (arith, disp_small m sib)
-
-escape_small : (m : Map) → length (escape_bytes m) ≤ 2
-escape_small m = grind arith
-
-modrm_small : (u : ModrmUse) → modrm_width u ≤ 1
-modrm_small u = grind arith
-
-suffix_small : (v : Verdict) → suffix_width v ≤ 1
-suffix_small v = grind arith
 
 immediate_small : (strict : Bool) (row : TableRow) (p : Prefixes) (m : ℕ) → immediates_width ((record_of strict row p).plan m).encodings ≤ 8
 immediate_small strict row p m = by (is_group row.form)
@@ -59,11 +47,11 @@ lengths_of {strict = strict} {w = w} {p = p} h short =
     let m : ℕ = modrm_of r.modrm a.modrm in
     record {
       prefixes = omega (arith, length-append {A = ℕ}, ap length h.prefixes, ap length w.spelled, short);
-      escape = at_most _ _ 2 (ap length h.escape) (escape_small w.map);
+      escape = at_most _ _ 2 (ap length h.escape) (grind arith);
       opcode = ap length h.opcode;
-      modrm = at_most _ _ 1 (ap length h.modrm ∙ a.modrm_length) (modrm_small r.modrm);
-      sib = at_most _ _ 1 h.sib (one_at_most _);
+      modrm = at_most _ _ 1 (ap length h.modrm ∙ a.modrm_length) (grind arith);
+      sib = at_most _ _ 1 h.sib (grind arith);
       displacement = at_most _ _ 4 (displacement_long a p.sib p.displacement h.address h.sib) (displacement_small m (first_byte p.sib));
       immediate = at_most _ _ 8 (ap length h.immediate ∙ immediates_long a) (immediate_small strict w.row _ m);
-      suffix = at_most _ _ 1 (ap length h.suffix ∙ a.tail_spelled.pieces.suffix_length) (suffix_small (r.plan m).verdict);
+      suffix = at_most _ _ 1 (ap length h.suffix ∙ a.tail_spelled.pieces.suffix_length) (grind arith);
     }

@@ -84,21 +84,12 @@ map_is Of b tail h = second_by (b == 0x38) (b == 0x3a) h
 map_is Of38 b tail h = refl
 map_is Of3a b tail h = refl
 
-one_byte : (t : Bool) → (if t then Some Of else None) ≡ (let m : Map = if t then Of else One in if length (escape_bytes m) == 1 then Some m else None)
-one_byte t = grind arith
-
-two_bytes : (t u v : Bool) → (if t then (if u then Some Of38 else (if v then Some Of3a else None)) else None) ≡ (let m : Map = if t then (if u then Of38 else (if v then Of3a else Of)) else One in if length (escape_bytes m) == 2 then Some m else None)
-two_bytes t u v = grind arith
-
-more_bytes : (m : Map) (n : ℕ) → None ≡ (if length (escape_bytes m) == suc (suc (suc n)) then Some m else None)
-more_bytes m n = grind (arith, nat_tests)
-
 -- the escape of a map is the map by the first two bytes, where these have its length
 pub map_named_is : (l : List ℕ) → map_named l ≡ (let m : Map = map_of (slice_index l 0) (slice_index l 1) in if length (escape_bytes m) == length l then Some m else None)
 map_named_is [] = refl
-map_named_is (a ∷ []) = one_byte (a == 0x0f)
-map_named_is (a ∷ b ∷ []) = two_bytes (a == 0x0f) (b == 0x38) (b == 0x3a)
-map_named_is (a ∷ b ∷ c ∷ rest) = more_bytes (map_of a b) (length rest)
+map_named_is (a ∷ []) = grind (arith, nat_tests)
+map_named_is (a ∷ b ∷ []) = grind (arith, nat_tests)
+map_named_is (a ∷ b ∷ c ∷ rest) = grind (arith, nat_tests)
 
 -- the byte after the run isn't a prefix
 pub record Enters (m : Map) (b : ℕ) (tail : List ℕ) : Type 0 where

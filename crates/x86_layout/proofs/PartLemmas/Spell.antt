@@ -1,5 +1,5 @@
 -- Fields that meet the conditions on their row spell what the row has, and the other way round.
-use Rattle.std.proofs.Common.{◌≡◌, ℕ, ◌==◌, ◌&&◌, ◌||◌, not, Bool, true, false, if◌then◌else◌, List, [], ◌∷◌, ◌++◌, length, take, drop, map, Option, Some, None, is_some, is_none, refl, sym, ap, subst, ◌∙◌, arith, length-take, length-drop}
+use Rattle.std.proofs.Common.{◌↔◌, ◌≡◌, ℕ, ◌==◌, ◌&&◌, ◌||◌, not, Bool, true, false, if◌then◌else◌, List, [], ◌∷◌, ◌++◌, length, take, drop, map, Option, Some, None, is_some, is_none, refl, sym, ap, subst, ◌∙◌, arith, length-take, length-drop}
 use Rattle.std.proofs.lemmas.List.{take-append-drop}
 use Rattle.std.proofs.lemmas.Bool.Decides.{nat_tests}
 use Rattle.x86_fields.specs.declared.prefixes.Prefixes.{Prefixes}
@@ -28,17 +28,11 @@ use Rattle.x86_layout.proofs.PartLemmas.OfBytes.{HoldsPieces, option_count, firs
 -- ---- tests
 
 -- five numbers are what they are tested for
-same_five : (a a' b b' c c' d d' e e' : ℕ) → ((a == a') && (b == b') && (c == c') && (d == d') && (e == e')) ≡ true → (a ≡ a') × (b ≡ b') × (c ≡ c') × (d ≡ d') × (e ≡ e')
-same_five a a' b b' c c' d d' e e' h = (grind (arith, nat_tests), grind (arith, nat_tests), grind (arith, nat_tests), grind (arith, nat_tests), grind (arith, nat_tests))
-
-test_five : (a a' b b' c c' d d' e e' : ℕ) → a ≡ a' → b ≡ b' → c ≡ c' → d ≡ d' → e ≡ e' → ((a == a') && (b == b') && (c == c') && (d == d') && (e == e')) ≡ true
-test_five a a' b b' c c' d d' e e' h i j k l = grind (arith, nat_tests)
+tests_five : (a a' b b' c c' d d' e e' : ℕ) → (((a == a') && (b == b') && (c == c') && (d == d') && (e == e')) ≡ true) ↔ ((a ≡ a') × (b ≡ b') × (c ≡ c') × (d ≡ d') × (e ≡ e'))
+tests_five a a' b b' c c' d d' e e' = (λ h. (grind (arith, nat_tests), grind (arith, nat_tests), grind (arith, nat_tests), grind (arith, nat_tests), grind (arith, nat_tests)), λ h. grind (arith, nat_tests))
 
 three_of : (a b c d : Bool) → (a && (not b || c) && not d) ≡ true → (a ≡ true) × ((not b || c) ≡ true) × (d ≡ false)
 three_of a b c d h = (grind arith, grind arith, grind arith)
-
-all_three : (a b c d : Bool) → a ≡ true → b ≡ false → d ≡ false → (a && (not b || c) && not d) ≡ true
-all_three a b c d e f g = cc
 
 same_bool : (a b : Bool) → one_if a ≡ one_if b → a ≡ b
 same_bool a b e = grind arith
@@ -118,7 +112,7 @@ module _ (r : RowRecord) (p : Prefixes) (f : fields.Fields) where
   unfolding record_at
   spelled h k =
       let passed = three_of (is_none r.at_opcode) (is_refusal v) (uses_modrm r.modrm && is_none f.modrm) (refuses_suffix v f.suffix) h in
-      let counts = same_five _ _ _ _ _ _ _ _ _ _ k in
+      let counts = (tests_five _ _ _ _ _ _ _ _ _ _).0 k in
       let modrm_n : one_if (is_some f.modrm) ≡ one_if (uses_modrm r.modrm) = counts.0 in
       let sib_n : one_if (is_some f.sib) ≡ sib_width m = counts.1 in
       let suffix_n : one_if (is_some f.suffix) ≡ one_if (uses_suffix v) = counts.4 in
@@ -175,7 +169,7 @@ module _ {r : RowRecord} {p : Prefixes} {tail : List ℕ} {reading : Reading} (f
 
   pub passes : passes_record (record_at r f.modrm) f ≡ true
   unfolding record_at
-  passes = all_three _ _ _ _ (ap is_none a.passed) accepts (names_suffix (r.plan at).verdict (r.plan at).opcode a.tail_spelled.opcode f.suffix names)
+  passes = cc (a.passed, accepts, names_suffix (r.plan at).verdict (r.plan at).opcode a.tail_spelled.opcode f.suffix names)
 
   pub row_parts : has_row_parts (record_at r f.modrm) f ≡ true
   unfolding record_at
@@ -185,4 +179,4 @@ module _ {r : RowRecord} {p : Prefixes} {tail : List ℕ} {reading : Reading} (f
       let displacement : length f.displacement.items ≡ displacement_length at f.sib = cc (displacement_long a (option_bytes f.sib) f.displacement.items h.address h.sib, first_of f.sib, same_at) in
       let immediate : length f.immediate.items ≡ immediates_width (r.plan at).encodings = cc (h.immediate, immediates_long a, same_at) in
       let suffix : one_if (is_some f.suffix) ≡ one_if (uses_suffix (r.plan at).verdict) = cc (option_count f.suffix, h.suffix, a.tail_spelled.pieces.suffix_length, verdict_width (r.plan (modrm_of r.modrm a.modrm)).verdict, same_at) in
-      test_five _ _ _ _ _ _ _ _ _ _ modrm sib displacement immediate suffix
+      (tests_five _ _ _ _ _ _ _ _ _ _).1 (modrm, sib, displacement, immediate, suffix)

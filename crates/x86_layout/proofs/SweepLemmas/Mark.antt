@@ -8,10 +8,6 @@ use Rattle.std.proofs.lemmas.Bool.Decides.{nat_tests}
 pub marked : (marks : List Bool) (place p : ℕ) → place < length marks → slice_index_or (slice_set marks place true) p false ≡ (slice_index_or marks p false || place == p)
 marked marks place p h = grind (arith, nat_tests, get_or-set_same, get_or-set_other)
 
--- what is cleared after a place and before another
-pub cleared : (place n i p : ℕ) (m r : Bool) → place + n ≡ i → r ≡ (m && not (nat_lt place p && nat_lt p i)) → r ≡ (m && not (nat_lt place p && nat_lt p (place + n)))
-cleared place n i p m r e h = rw e h
-
 -- ---- one cut further
 
 pub one_more_marked : (old new t u all : Bool) → new ≡ (old || t) → (old || (t || u)) ≡ all → (new || u) ≡ all

@@ -14,7 +14,7 @@ size strict xs = cut_length (answer_of strict xs)
 
 module _ (strict : Bool) (fits : (xs : List ℕ) → 0 < length xs → (0 < size strict xs) × (size strict xs ≤ length xs)) where
   some_bytes : (place : ℕ) (xs : List ℕ) (c : Cut) (cs : List Cut) → cuts_from strict place xs ≡ c ∷ cs → 0 < length xs
-  some_bytes place [] c cs e = let none : [] ≡ c ∷ cs = sym (none_left strict place [] refl) ∙ e in cc
+  some_bytes place [] c cs e = absurd (cc (none_left strict place [] refl, e))
   some_bytes place (x ∷ xs) c cs e = omega arith
 
   next : (place : ℕ) (xs : List ℕ) → 0 < length xs → cuts_from strict place xs ≡ cut_at strict place xs ∷ cuts_from strict (place + size strict xs) (drop (size strict xs) xs)

@@ -53,8 +53,8 @@ module _ (strict : Bool) (lengths : Lengths strict) where
       let n : ℕ = cut_length (answer_of strict (x ∷ xs)) in
       let fit = fits (x ∷ xs) (omega arith) in
       All-cons (IsWithin (place + suc (length xs))) (cut_at strict place (x ∷ xs)) (cuts_skipping strict (n - 1) (place + 1) xs) (fit.0, let long : n ≤ suc (length xs) = fit.1 in omega arith)
-      (subst (λ e. All (IsWithin e) (cuts_skipping strict (n - 1) (place + 1) xs)) (one_more place (length xs)) (within (n - 1) (place + 1) xs))
-  within (suc k) place (x ∷ xs) = subst (λ e. All (IsWithin e) (cuts_skipping strict k (place + 1) xs)) (one_more place (length xs)) (within k (place + 1) xs)
+      (rw (← one_more place (length xs)) (within (n - 1) (place + 1) xs))
+  within (suc k) place (x ∷ xs) = rw (← one_more place (length xs)) (within k (place + 1) xs)
 
   -- ---- indices
 

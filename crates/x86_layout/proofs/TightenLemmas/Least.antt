@@ -34,8 +34,7 @@ module _ {strict : Bool} {s : List ℕ} {a : Reading} (v : Encoding strict s a) 
   module _ {raw : Raw} (read : Reads v raw) where
     least_with : (ip : Bool) → is_ip_relative raw ≡ ip → least_length strict s ≡ (if true && not ip then (length s - address_length raw) + address_length (shortest raw) else length s)
     least_with ip e =
-        least_is true raw (spells v read).0 (raw_is v read (parts_of strict s) (parts_are [] v (sym (append-nil s))))
-        ∙ ap (λ t. if true && not t then (length s - address_length raw) + address_length (shortest raw) else length s) e
+        cc (least_is true raw (spells v read).0 (raw_is v read (parts_of strict s) (parts_are [] v (sym (append-nil s)))), e)
 
     pub least_at_ip : is_ip_relative raw ≡ true → least_length strict s ≡ length s
     least_at_ip e = least_with true e

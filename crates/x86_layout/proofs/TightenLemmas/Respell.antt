@@ -32,12 +32,7 @@ is_shape raw = shape_by_memory (base_of raw) (index_of raw) (scale_by raw.sib) r
 
 module _ (p q : Prefixes) (m n : ℕ) (raw other : Raw) where
   same_kind : (s : OperandEncoding) (bytes : List ℕ) → is_memory_slot (operand_from s q n (Some other) bytes).0 ≡ is_memory_slot (operand_from s p m (Some raw) bytes).0
-  same_kind (E c) bytes = is_shape other ∙ sym (is_shape raw)
-  same_kind Emm bytes = is_shape other ∙ sym (is_shape raw)
-  same_kind M bytes = is_shape other ∙ sym (is_shape raw)
-  same_kind (U c) bytes = is_shape other ∙ sym (is_shape raw)
-  same_kind Umm bytes = is_shape other ∙ sym (is_shape raw)
-  same_kind s bytes = refl
+  same_kind s bytes = grind (arith, is_shape other, is_shape raw)
 
   -- the pairs of operands, where their immediates are the same
   pub record Regiven (encodings : List OperandEncoding) (bytes : List ℕ) (operand_pairs : List (Slot × Operand)) : Type 0 where

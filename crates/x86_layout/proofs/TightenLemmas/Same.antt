@@ -55,7 +55,7 @@ live_by : (rex : Option PrefixRex) → is_some (bits_in false false rex) ≡ is_
 live_by rex = grind arith
 
 register_by : (c : RegisterClass) (p : Prefixes) (n : ℕ) → register_of c (cleared p) n ≡ register_of c p n
-register_by B p n = ap (λ t. if t && nat_le 4 n then (let r : RegSpec = record { num = n; class = RB } in r) else record { num = n; class = B }) (live_by p.rex)
+register_by B p n = cc (live_by p.rex)
 register_by c p n = refl
 
 mark_by : (change : PrefixChange) (p : Prefixes) → cleared (changed change p) ≡ changed change (cleared p)
@@ -72,9 +72,6 @@ module _ (p q : Prefixes) (alike : cleared q ≡ cleared p) where
   same_mark change = cc (mark_by change q, alike, mark_by change p)
 
 -- ---- the operands
-
-abbrev mm : ℕ → RegSpec
-mm n = record { num = n; class = MM }
 
 module _ (from to : Raw) where
   -- There are as many pairs, and at each place they are the same or the shapes of the raw fields.
@@ -97,8 +94,8 @@ module _ (from to : Raw) where
     same_number = cc (same_r p q alike, register)
 
     sign_alike : (s : OperandEncoding) (bytes : List ℕ) → IsSameOrShape from to (operand_from s p m (Some from) bytes) (operand_from s q n (Some to) bytes)
-    sign_alike (G c) bytes = unchanged (ap (λ r. (slots.Reg, operands.Register r)) (same_register p q alike c (reg_number n q) ∙ ap (register_of c p) same_number))
-    sign_alike Gmm bytes = unchanged (ap (λ k. (slots.Reg, operands.Register (mm k))) register)
+    sign_alike (G c) bytes = unchanged (cc (same_register p q alike c (reg_number n q), same_number))
+    sign_alike Gmm bytes = unchanged (cc (register))
     sign_alike (E c) bytes = shapes refl refl
     sign_alike Emm bytes = shapes refl refl
     sign_alike M bytes = shapes refl refl
@@ -135,7 +132,7 @@ module _ (from to : Raw) where
       prefixes = same_mark p q alike plan.change;
       count = h.count;
       mem_size = refl;
-      operands = λ n. subst (λ c. IsSameOrShape from to (At (nat_lt n (length xs)) xs n) (At (nat_lt n c) ys n)) (sym h.count) (at_place (nat_lt n (length xs)) xs ys n h);
+      operands = λ n. rw (h.count) (at_place (nat_lt n (length xs)) xs ys n h);
       address = address;
     }
 

@@ -103,14 +103,11 @@ shortest_has_the_address raw h e =
 
 -- the displacement is known from the constant
 disp_known : (short : Bool) (d e : ℤ) → FitsSigned w32 d → FitsSigned w32 e → constant_by short d ≡ constant_by short e → d ≡ e
-disp_known true d e fd fe h = sym (to_z-of_z w32 d fd) ∙ ap (cast_signed w32) h ∙ to_z-of_z w32 e fe
-disp_known false d e fd fe h = sym (to_z-of_z w64 d (wide d fd)) ∙ ap (cast_signed w64) h ∙ to_z-of_z w64 e (wide e fe)
+disp_known true d e fd fe h = cc (to_z-of_z w32 d fd, h, to_z-of_z w32 e fe)
+disp_known false d e fd fe h = cc (to_z-of_z w64 d (wide d fd), h, to_z-of_z w64 e (wide e fe))
   where
     wide : (d : ℤ) → FitsSigned w32 d → FitsSigned w64 d
     wide d f = let g = f.sfits in record { sfits = omega (arith, g) }
-
-ip_known : (t : Bool) (n : ℕ) → n ≡ (if t then 1 else 0) → n ≡ 0 → t ≡ false
-ip_known t n e f = grind arith
 
 shortest_length : (raw : Raw) → address_length (shortest raw) ≡ bytes_at raw.disp (shortest_registers raw)
 unfolding shortest
@@ -120,7 +117,7 @@ pub none_is_shorter : (raw other : Raw) → IsOfBytes raw → IsOfBytes other �
 none_is_shorter raw other h k e same =
     let from = registers_of raw in
     let to = registers_of other in
-    let ip : is_ip_relative other ≡ false = ip_known (is_ip_relative other) _ (form_next other) (cc (same.next, form_next raw, e)) in
+    let ip : is_ip_relative other ≡ false = let f = form_next other in let g : (raw_form other).next ≡ 0 = cc (same.next, form_next raw, e) in grind arith in
     let disp : other.disp ≡ raw.disp = disp_known raw.address_size other.disp raw.disp k.disp h.disp (cc (short_known other.address_size raw.address_size same.modulus, same.constant)) in
     let counts_so : (r : ℕ) → r < 16 → weight from r ≡ weight to r = λ r small. sym (form_weighs raw r h.sib e) ∙ sym (same.registers r small) ∙ form_weighs other r k.sib ip in
     let fewer = fewest raw.disp from.base from.index from.scale to.base to.index to.scale (base_number raw raw.sib) (index_number raw raw.sib) (base_number other other.sib) (index_number other other.sib) counts_so in

@@ -27,7 +27,7 @@ either false x y e f = f
 
 in_memory : (b : Bool) (x y : Plan) → b ≡ true → writes x ≡ true → writes (if b then x else y) ≡ true
 in_memory true x y e f = f
-in_memory false x y e f = absurd (let g : false ≡ true = e in cc)
+in_memory false x y e f = absurd cc
 
 module _ (p : Prefixes) (m : ℕ) (mm : is_memory m ≡ true) where
   plain_writes : (f : Form) (o : ℕ) → modrm_use f ≡ EitherForm → writes (form_plan f o p m) ≡ true

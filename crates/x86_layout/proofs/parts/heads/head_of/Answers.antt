@@ -12,13 +12,6 @@ use Rattle.x86_layout.proofs.PartLemmas.Part.{cut_is}
 use Rattle.x86_layout.proofs.PartLemmas.OfBytes.{has_head}
 use Rattle.x86_layout.proofs.parts.heads.head_of.Goals as goal
 
-abbrev IsAskOf : Bool → Ask → Map → Prefixes → ℕ → ℕ → Type 0
-IsAskOf strict ask map p opcode m = IfSome (rows_of packed map (column_of p) opcode) (λ row. ask ≡ ask_of (record_of strict row (seen_by map opcode p)) m)
-
-ask_known : (strict : Bool) (ask : Ask) (map map' : Map) (p p' : Prefixes) (opcode opcode' m m' : ℕ) (row : TableRow) → map ≡ map' → p ≡ p' → opcode ≡ opcode' → m ≡ m' → rows_of packed map' (column_of p') opcode' ≡ Some row → IsAskOf strict ask map p opcode m → ask ≡ ask_of (record_of strict row (seen_by map' opcode' p')) m'
-ask_known strict ask map map' p p' opcode opcode' m m' row e f g h has t =
-    rw (e, f, g, h, has) at t
-
 pub returns : goal.returns
 returns c = λ strict reading w.
     let s = c.args.encoding.now in
@@ -38,5 +31,5 @@ returns c = λ strict reading w.
       escape = c.split_at_most.ensures.first ∙ escape.0;
       opcode = c.split_at_most-2.ensures.first ∙ opcode.0;
       tail = tail;
-      ask = ask_known strict c.ask_at-ask.result _ _ _ _ _ _ _ _ w.row map p o m w.has_row (c.ask_at-ask.ensures strict);
+      ask = rw (map, p, o, m, w.has_row) at (c.ask_at-ask.ensures strict);
     }

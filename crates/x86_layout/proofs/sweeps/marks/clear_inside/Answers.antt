@@ -1,5 +1,4 @@
 use Rattle.std.proofs.Common.{◌+◌, ◌≡◌, arith}
-use Rattle.x86_layout.proofs.SweepLemmas.Mark.{cleared}
 use Rattle.x86_layout.proofs.sweeps.marks.clear_inside.Goals as goal
 
 pub returns : goal.returns
@@ -7,4 +6,4 @@ returns c =
     let cut = c.args.cut.now in
     let some = c.requires.0 in
     let end : cut.place + cut.length ≡ c.loop-place.place = omega (arith, c.loop-place.auto.place-end, c.loop-place-test.false) in
-    λ p h. cleared cut.place cut.length c.loop-place.place p _ _ end (c.loop-place.invariant p h)
+    λ p h. rw end (c.loop-place.invariant p h)

@@ -1,6 +1,6 @@
 use Rattle.std.proofs.Common.{◌≡◌, ◌||◌, false, length, slice_index_or, arith, ap, sym, ◌∙◌}
 use Rattle.std.specs.List.{list_any}
-use Rattle.std.proofs.lemmas.List.Elements.{All-same, All-rest}
+use Rattle.std.proofs.lemmas.List.Elements.{All-rest}
 use Rattle.x86_layout.specs.Sweeps.Cuts.{cuts_of}
 use Rattle.x86_layout.specs.Sweeps.Sweep.{cuts_left}
 use Rattle.x86_layout.specs.Sweeps.Lengths.{IsWithin}
@@ -17,7 +17,7 @@ loop-cut-init c =
     let e : left ≡ cuts_of strict bytes = ap cuts_left c.into_iter-cut-iterator.ensures.into_iter_gives ∙ c.new-cut-items.ensures in (
       tt,
       tt,
-      All-same (IsWithin (length bytes)) left (cuts_of strict bytes) e (all_within strict (c.lengths.ensures.within strict) bytes),
+      rw e (all_within strict (c.lengths.ensures.within strict) bytes),
       λ p h. cc (e),
     )
 

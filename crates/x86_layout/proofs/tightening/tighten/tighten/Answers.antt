@@ -22,10 +22,9 @@ module _ {strict : Bool} {bytes encoding : List ℕ} {instruction : Instruction}
     instruction = instruction;
     accepted = beginning.accepted;
     of_it = λ s rest a is begins.
-        let P : List ℕ → Type 0 = λ l. (is : Sentence strict l a) → Holds strict l is.reading is.whole in
         let other : IsAccepted (rows_of packed) strict bytes a (length s) = record { sentence = s; rest = rest; begins = begins; long = refl; is = is } in
         let same = halves s rest encoding beginning.rest (sym begins ∙ beginning.begins) ((only bytes (Ok a) (length s) other).1 ∙ sym (beginning.long ∙ beginning.counted)) in
-        subst P (sym same.0) (λ is. each strict a is) is;
+        subst (λ l. (is : Sentence strict l a) → Holds strict l is.reading is.whole) (sym same.0) (each strict a) is;
   }
 
   module _ {A : Type 0} (items : A → List ℕ) where
