@@ -41,9 +41,6 @@ unless_all run a b c d = unless run error.Prefixes (unless a error.Row (unless b
 all_pass : (run a b c d : Bool) → (unless_all run a b c d ≡ None) ↔ ((run ≡ true) × (a ≡ true) × (b ≡ true) × (c ≡ true) × (d ≡ true))
 all_pass run a b c d = (λ h. (grind arith, grind arith, grind arith, grind arith, grind arith), λ h. grind arith)
 
-no_row : (run : Bool) → unless run error.Prefixes (Some error.Row) ≡ None → ⊥
-no_row run h = grind arith
-
 record Holds (strict : Bool) (f : fields.Fields) (e : Entry) : Type 0 where
   pub legal : has_legal_run f ≡ true
   pub record_passes : passes_record (record_by strict e f) f ≡ true
@@ -52,7 +49,7 @@ record Holds (strict : Bool) (f : fields.Fields) (e : Entry) : Type 0 where
   pub short : is_short f ≡ true
 
 holds : (strict : Bool) (f : fields.Fields) (o : Option Entry) → unless (has_legal_run f) error.Prefixes (failing_at strict o f) ≡ None → (e : Entry) × (o ≡ Some e) × Holds strict f e
-holds strict f None h = absurd (no_row (has_legal_run f) h)
+holds strict f None h = absurd (grind arith)
 holds strict f (Some e) h =
     let all = (all_pass (has_legal_run f) (passes_record (record_by strict e f) f) (has_row_parts (record_by strict e f) f) (has_lawful_lock strict e f) (is_short f)).0 h in
     (e, refl, record { legal = all.0; record_passes = all.1; parts = all.2; lock = all.3; short = all.4 })

@@ -1,34 +1,20 @@
 -- The parts of an accepted encoding have lengths that fields can hold.
-use Rattle.std.proofs.Common.{◌≡◌, ℕ, ◌≤◌, Bool, true, false, if◌then◌else◌, List, length, Option, ap, ◌∙◌, arith, length-append}
+use Rattle.std.proofs.Common.{◌≡◌, ℕ, ◌≤◌, Bool, true, false, if◌then◌else◌, List, length, ap, ◌∙◌, arith, length-append}
 use Rattle.x86_fields.specs.declared.prefixes.Prefixes.{Prefixes}
-use Rattle.x86_fields.specs.ModRM.{is_memory}
-use Rattle.x86_fields.specs.Raw.{displacement_width}
-use Rattle.x86_fields.specs.Pieces.{first_byte}
-use Rattle.x86_forms.specs.declared.Map.{Map}
 use Rattle.x86_forms.specs.declared.TableRow.{TableRow}
 use Rattle.x86_forms.specs.Groups.{is_group}
-use Rattle.x86_operands.specs.declared.plans.Verdict.{Verdict}
-use Rattle.x86_operands.specs.declared.plans.ModrmUse.{ModrmUse}
 use Rattle.x86_operands.specs.declared.reader.Reading.{Reading}
-use Rattle.x86_operands.specs.Pieces.{modrm_of, modrm_width, suffix_width}
+use Rattle.x86_operands.specs.Pieces.{modrm_of}
 use Rattle.x86_operands.specs.Asks.{immediates_width}
 use Rattle.x86_operands.specs.Forms.{form_record}
 use Rattle.x86_operands.proofs.PlainLemmas.{plain_narrow}
 use Rattle.x86_groups.specs.Groups.{group_record}
 use Rattle.x86_groups.proofs.GroupLemmas.{group_narrow}
-use Rattle.x86_decode.specs.Head.{escape_bytes}
 use Rattle.x86_decode.specs.Grammar.{record_of}
-use Rattle.x86_layout.specs.Parts.Heads.{one_if}
 use Rattle.x86_layout.specs.Parts.Split.{PartLists, Encoding, record_in, HasParts}
 use Rattle.x86_layout.specs.Parts.Fields.{HasFieldLengths}
 use Rattle.x86_layout.proofs.PartLemmas.Part.{immediates_long}
 use Rattle.x86_layout.proofs.PartLemmas.OfBytes.{displacement_long}
-
-disp_small : (m : ℕ) (sib : Option ℕ) → displacement_width m sib ≤ 4
-disp_small m sib = grind arith
-
-displacement_small : (m : ℕ) (sib : Option ℕ) → (if is_memory m then displacement_width m sib else 0) ≤ 4
-displacement_small m sib = grind (arith, disp_small m sib)
 
 immediate_small : (strict : Bool) (row : TableRow) (p : Prefixes) (m : ℕ) → immediates_width ((record_of strict row p).plan m).encodings ≤ 8
 immediate_small strict row p m = by (is_group row.form)
@@ -51,7 +37,7 @@ lengths_of {strict = strict} {w = w} {p = p} h short =
       opcode = ap length h.opcode;
       modrm = at_most _ _ 1 (ap length h.modrm ∙ a.modrm_length) (grind arith);
       sib = at_most _ _ 1 h.sib (grind arith);
-      displacement = at_most _ _ 4 (displacement_long a p.sib p.displacement h.address h.sib) (displacement_small m (first_byte p.sib));
+      displacement = at_most _ _ 4 (displacement_long a p.sib p.displacement h.address h.sib) (grind arith);
       immediate = at_most _ _ 8 (ap length h.immediate ∙ immediates_long a) (immediate_small strict w.row _ m);
       suffix = at_most _ _ 1 (ap length h.suffix ∙ a.tail_spelled.pieces.suffix_length) (grind arith);
     }

@@ -1,5 +1,5 @@
 -- Where the parts of an encoding are.
-use Rattle.std.proofs.Common.{◌≡◌, ℕ, suc, ◌+◌, ◌-◌, ◌≤◌, ◌==◌, ◌&&◌, ◌||◌, not, Bool, true, false, if◌then◌else◌, List, [], ◌∷◌, ◌++◌, length, take, drop, map, slice_index, Option, Some, None, is_some, refl, sym, ap, arith, length-append}
+use Rattle.std.proofs.Common.{◌≡◌, ℕ, suc, ◌+◌, ◌-◌, ◌≤◌, ◌==◌, ◌&&◌, Bool, true, false, if◌then◌else◌, List, [], ◌∷◌, ◌++◌, length, take, drop, map, slice_index, Option, Some, None, is_some, refl, sym, ap, arith, length-append}
 use Rattle.std.specs.List.{list_all, prefix_len}
 use Rattle.std.specs.Int.{from_bool}
 use Rattle.std.proofs.Math.Seq.{take-append_seam, drop-append_seam}
@@ -21,7 +21,7 @@ use Rattle.x86_operands.specs.declared.plans.ModrmUse.TheVariants.{Absent, Eithe
 use Rattle.x86_operands.specs.Plans.{RowRecord}
 use Rattle.x86_operands.specs.Pieces.{immediate_width, modrm_of, modrm_width, suffix_width, SpellsOperands, SpellsMemory, SpellsRow}
 use Rattle.x86_operands.specs.Asks.{immediates_width, uses_modrm, uses_suffix, used_modrm, ask_of}
-use Rattle.x86_decode.specs.Head.{is_run, escape_bytes, is_vex, is_opcode}
+use Rattle.x86_decode.specs.Head.{is_run, escape_bytes, is_opcode}
 use Rattle.x86_operands.specs.declared.asks.Ask.{Ask}
 use Rattle.x86_operands.specs.declared.reader.Reading.{Reading}
 use Rattle.x86_layout.specs.Parts.Heads.{map_of, one_if, has_sib}
@@ -69,18 +69,9 @@ all_prefixes (x ∷ xs) = all_by (is_prefix x) x xs (prefix_len is_prefix xs) re
 
 -- ---- the escape
 
-first_by : (a b c : Bool) (m : Map) → not (a || (b || c)) ≡ true → (if b then m else One) ≡ One
-first_by a b c m h = grind arith
-
-second_by : (b c : Bool) → not (b || c) ≡ true → (if b then Of38 else (if c then Of3a else Of)) ≡ Of
-second_by b c h = grind arith
-
-left_of : (a b : Bool) → not (a || b) ≡ true → a ≡ false
-left_of a b h = grind arith
-
 pub map_is : (m : Map) (b : ℕ) (tail : List ℕ) → is_opcode m b ≡ true → map_of (slice_index (escape_bytes m ++ b ∷ tail) 0) (slice_index (escape_bytes m ++ b ∷ tail) 1) ≡ m
-map_is One b tail h = first_by (is_prefix b) (b == 0x0f) (is_vex b) _ h
-map_is Of b tail h = second_by (b == 0x38) (b == 0x3a) h
+map_is One b tail h = grind (arith, nat_tests)
+map_is Of b tail h = grind (arith, nat_tests)
 map_is Of38 b tail h = refl
 map_is Of3a b tail h = refl
 
@@ -99,7 +90,7 @@ pub record Enters (m : Map) (b : ℕ) (tail : List ℕ) : Type 0 where
   pub plain : is_prefix first ≡ false
 
 pub enters : (m : Map) (b : ℕ) (tail : List ℕ) → is_opcode m b ≡ true → Enters m b tail
-enters One b tail h = record { first = b; rest = tail; spelled = refl; plain = left_of (is_prefix b) ((b == 0x0f) || is_vex b) h }
+enters One b tail h = record { first = b; rest = tail; spelled = refl; plain = grind (arith, nat_tests) }
 enters Of b tail h = record { first = 0x0f; rest = b ∷ tail; spelled = refl; plain = refl }
 enters Of38 b tail h = record { first = 0x0f; rest = 0x38 ∷ b ∷ tail; spelled = refl; plain = refl }
 enters Of3a b tail h = record { first = 0x0f; rest = 0x3a ∷ b ∷ tail; spelled = refl; plain = refl }
@@ -127,15 +118,11 @@ operands_long (s ∷ rest) p m memory bytes operand_pairs h =
 
 -- ---- SIB
 
--- in a memory form that is read as such, the byte is used as it is
-sib_by : (memory : Bool) (used_modrm raw : ℕ) → (memory ≡ true → used_modrm ≡ raw) → (memory && rm_field raw == 4) ≡ (memory && rm_field used_modrm == 4)
-sib_by memory used_modrm raw h = grind arith
-
 pub as_it_is : (u : ModrmUse) (m : ℕ) → is_memory (used_modrm u m) ≡ true → used_modrm u m ≡ m
 as_it_is u m e = grind (arith, nat_tests)
 
 pub sib_present : (u : ModrmUse) (m : ℕ) → one_if (is_memory (used_modrm u m) && rm_field m == 4) ≡ sib_width (used_modrm u m)
-sib_present u m = ap one_if (sib_by (is_memory (used_modrm u m)) (used_modrm u m) m (as_it_is u m))
+sib_present u m = let h = as_it_is u m in grind arith
 
 option_long : (sib : Option ℕ) (disp : List ℕ) → one_if (is_some sib) ≤ length (option_bytes sib ++ disp)
 option_long sib disp = grind (arith, length-append {A = ℕ})

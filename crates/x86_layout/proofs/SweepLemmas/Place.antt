@@ -1,5 +1,5 @@
 -- Where cuts begin and end.
-use Rattle.std.proofs.Common.{◌≡◌, ℕ, zero, suc, ◌+◌, ◌-◌, ◌<◌, ◌≤◌, ◌==◌, ◌&&◌, ◌||◌, not, nat_lt, Bool, false, inl, inr, List, [], ◌∷◌, length, Result, Ok, Err, refl, subst, ◌∙◌, arith}
+use Rattle.std.proofs.Common.{◌≡◌, ℕ, zero, suc, ◌+◌, ◌-◌, ◌<◌, ◌≤◌, ◌&&◌, not, nat_lt, Bool, false, inl, inr, List, [], ◌∷◌, length, Result, Ok, Err, refl, subst, arith}
 use Rattle.std.proofs.lemmas.List.Sums.{sum_by-cons}
 use Rattle.std.proofs.lemmas.List.Elements.{All-nil, All-cons}
 use Rattle.std.proofs.lemmas.Bool.Decides.{nat_tests}
@@ -18,23 +18,6 @@ Lengths strict = (xs : List ℕ) (i : Instruction) → answer_of strict xs ≡ O
 
 one_more : (place n : ℕ) → (place + 1) + n ≡ place + suc n
 one_more place n = omega arith
-
--- ---- tests of places
-
-apart : (p q : ℕ) (b : Bool) → p < q → b ≡ false → ((q == p) || b) ≡ false
-apart p q b h e = grind (arith, nat_tests)
-
-not_inside : (p q n : ℕ) (b : Bool) → p ≤ q → b ≡ false → ((nat_lt q p && nat_lt p (q + n)) || b) ≡ false
-not_inside p q n b h e = grind (arith, nat_tests)
-
-here : (place p n : ℕ) (a b : Bool) → p ≤ place → place ≤ p → b ≡ false → ((place == p) || a) ≡ (not (nat_lt p (place + 0)) && not ((nat_lt place p && nat_lt p (place + n)) || b))
-here place p n a b h k e = grind (arith, nat_tests)
-
-further : (place p n : ℕ) (a b : Bool) → place < p → 0 < n → a ≡ (not (nat_lt p ((place + 1) + (n - 1))) && not b) → ((place == p) || a) ≡ (not (nat_lt p (place + 0)) && not ((nat_lt place p && nat_lt p (place + n)) || b))
-further place p n a b h k e = grind (arith, nat_tests)
-
-passed_over : (place p k : ℕ) (a b : Bool) → p < place + 1 → a ≡ false → a ≡ (not (nat_lt p (place + suc k)) && not b)
-passed_over place p k a b h e = grind (arith, nat_tests)
 
 module _ (strict : Bool) (lengths : Lengths strict) where
   fits_by : (xs : List ℕ) (r : Result Instruction DecodeError) → 0 < length xs → answer_of strict xs ≡ r → (0 < cut_length r) × (cut_length r ≤ length xs)
@@ -61,15 +44,15 @@ module _ (strict : Bool) (lengths : Lengths strict) where
   none_before : (skip place p : ℕ) (xs : List ℕ) → p < place → list_any (begins_at p) (cuts_skipping strict skip place xs) ≡ false
   unfolding cuts_skipping
   none_before skip place p [] h = refl
-  none_before zero place p (x ∷ xs) h = apart p place _ h (none_before (cut_length (answer_of strict (x ∷ xs)) - 1) (place + 1) p xs (omega arith))
+  none_before zero place p (x ∷ xs) h = let rest = none_before (cut_length (answer_of strict (x ∷ xs)) - 1) (place + 1) p xs (omega arith) in grind (arith, nat_tests)
   none_before (suc k) place p (x ∷ xs) h = none_before k (place + 1) p xs (omega arith)
 
   none_round : (skip place p : ℕ) (xs : List ℕ) → p ≤ place → list_any (is_inside p) (cuts_skipping strict skip place xs) ≡ false
   unfolding cuts_skipping
   none_round skip place p [] h = refl
   none_round zero place p (x ∷ xs) h =
-      let n : ℕ = cut_length (answer_of strict (x ∷ xs)) in
-      not_inside p place n _ h (none_round (n - 1) (place + 1) p xs (omega arith))
+      let rest = none_round (cut_length (answer_of strict (x ∷ xs)) - 1) (place + 1) p xs (omega arith) in
+      grind (arith, nat_tests)
   none_round (suc k) place p (x ∷ xs) h = none_round k (place + 1) p xs (omega arith)
 
   -- a place after the cut before is that of a cut, or inside one
@@ -78,23 +61,21 @@ module _ (strict : Bool) (lengths : Lengths strict) where
   begins_by skip place p [] h k = absurd (omega arith)
   begins_by zero place p (x ∷ xs) h k = elim (cases_lt place p) [
     | inl less ↦
-        let n : ℕ = cut_length (answer_of strict (x ∷ xs)) in
-        further place p n _ _ less (fits (x ∷ xs) (omega arith)).0 (begins_by (n - 1) (place + 1) p xs (omega arith) (omega arith))
+        let some = (fits (x ∷ xs) (omega arith)).0 in
+        let rest = begins_by (cut_length (answer_of strict (x ∷ xs)) - 1) (place + 1) p xs (omega arith) (omega arith) in
+        grind (arith, nat_tests)
     | inr same ↦
-        let n : ℕ = cut_length (answer_of strict (x ∷ xs)) in
-        here place p n _ _ same h (none_round (n - 1) (place + 1) p xs (omega arith))
+        let rest = none_round (cut_length (answer_of strict (x ∷ xs)) - 1) (place + 1) p xs (omega arith) in
+        grind (arith, nat_tests)
   ]
   begins_by (suc k) place p (x ∷ xs) h l = elim (cases_lt place p) [
     | inl less ↦ cc (begins_by k (place + 1) p xs (omega arith) (omega arith), one_more place k)
-    | inr same ↦ passed_over place p k _ _ (omega arith) (none_before k (place + 1) p xs (omega arith))
+    | inr same ↦ let rest = none_before k (place + 1) p xs (omega arith) in grind (arith, nat_tests)
   ]
-
-  always : (p : ℕ) (b : Bool) → (not (nat_lt p 0) && b) ≡ b
-  always p b = grind (arith, nat_tests)
 
   -- a place of the bytes is that of a cut, or inside one
   pub begins_or_inside : (p : ℕ) (xs : List ℕ) → p < length xs → list_any (begins_at p) (cuts_from strict 0 xs) ≡ not (list_any (is_inside p) (cuts_from strict 0 xs))
-  begins_or_inside p xs h = begins_by 0 0 p xs (omega arith) (omega arith) ∙ always p _
+  begins_or_inside p xs h = let h = begins_by 0 0 p xs (omega arith) (omega arith) in grind (arith, nat_tests)
 
   pub all_within : (xs : List ℕ) → All (IsWithin (length xs)) (cuts_from strict 0 xs)
   all_within xs = subst (λ e. All (IsWithin e) (cuts_from strict 0 xs)) (omega arith) (within 0 0 xs)

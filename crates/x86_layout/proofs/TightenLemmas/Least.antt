@@ -1,5 +1,5 @@
 -- The length of a shortest relative, by the pieces of an encoding.
-use Rattle.std.proofs.Common.{◌≡◌, ℕ, ◌+◌, ◌-◌, ◌&&◌, not, Bool, true, false, if◌then◌else◌, List, [], length, refl, sym, ap, ◌∙◌, arith, append-nil}
+use Rattle.std.proofs.Common.{◌≡◌, ℕ, ◌+◌, ◌-◌, ◌&&◌, not, Bool, true, false, if◌then◌else◌, List, [], length, refl, sym, arith, append-nil}
 use Rattle.x86_fields.specs.declared.raw.Raw.{Raw}
 use Rattle.x86_operands.specs.declared.reader.Reading.{Reading}
 use Rattle.x86_fields.specs.ModRM.{is_memory}

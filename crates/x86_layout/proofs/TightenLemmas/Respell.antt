@@ -8,7 +8,6 @@ use Rattle.x86_regs.specs.declared.RegSpec.{RegSpec}
 use Rattle.x86_operands.specs.declared.operands.Slot.{Slot}
 use Rattle.x86_operands.specs.declared.operands.Operand.{Operand}
 use Rattle.x86_operands.specs.declared.plans.OperandEncoding.{OperandEncoding}
-use Rattle.x86_operands.specs.declared.plans.OperandEncoding.TheVariants.{E, Emm, M, U, Umm}
 use Rattle.x86_operands.specs.declared.plans.PrefixChange.{PrefixChange}
 use Rattle.x86_operands.specs.declared.plans.ModrmUse.TheVariants.{EitherForm}
 use Rattle.x86_operands.specs.declared.plans.Plan.{Plan}

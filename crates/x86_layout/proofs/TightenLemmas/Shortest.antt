@@ -1,7 +1,7 @@
 -- The shortest raw fields have the same address, and no others of that address have fewer bytes.
-use Rattle.std.proofs.Common.{◌≡◌, ℕ, ◌<◌, ◌≤◌, Bool, true, false, if◌then◌else◌, Option, Some, ℤ, refl, sym, ap, ◌∙◌, arith}
+use Rattle.std.proofs.Common.{◌≡◌, ℕ, ◌<◌, ◌≤◌, Bool, true, false, if◌then◌else◌, Option, Some, ℤ, refl, sym, ◌∙◌, arith}
 use Rattle.std.specs.Prelude.{FitsSigned}
-use Rattle.std.specs.Int.{w32, w64, cast_signed}
+use Rattle.std.specs.Int.{w32, w64}
 use Rattle.std.proofs.lemmas.Bool.Decides.{nat_tests}
 use Rattle.std.proofs.lemmas.Int.{to_z-of_z}
 use Rattle.x86_fields.specs.declared.raw.Raw.{Raw}
@@ -10,8 +10,8 @@ use Rattle.x86_fields.specs.Address.{base_by, index_by, scale_by}
 use Rattle.x86_fields.specs.Linear.{constant_by, modulus_by, raw_form, IsSameAddress}
 use Rattle.x86_layout.specs.declared.tightening.registers.Scale.{Scale}
 use Rattle.x86_layout.specs.declared.tightening.registers.AddressRegisters.{AddressRegisters}
-use Rattle.x86_layout.specs.Tightening.Registers.{is_ip_by, is_ip_relative, number_of, scale_named, registers_of, times, part_weight, weight, IsBelow16, IsIndex, IsByteOption}
-use Rattle.x86_layout.specs.Tightening.Shortest.{arranged, shortest_registers, bytes_by, bytes_at, address_length, mod_of, fourth_bit, scale_bits, field_or, rm_alone, rm_by, sib_by, spelled, shortest, IsOfBytes}
+use Rattle.x86_layout.specs.Tightening.Registers.{is_ip_relative, number_of, scale_named, registers_of, times, part_weight, weight, IsBelow16, IsIndex, IsByteOption}
+use Rattle.x86_layout.specs.Tightening.Shortest.{arranged, shortest_registers, bytes_by, bytes_at, address_length, fourth_bit, scale_bits, field_or, rm_alone, rm_by, sib_by, spelled, shortest, IsOfBytes}
 use Rattle.x86_layout.proofs.TightenLemmas.Weight.{Weigh, fewest}
 use Rattle.x86_layout.proofs.TightenLemmas.Spelled.{middle_is, middle_small, rm_small, spelled_length, spelled_fits, spelled_base, spelled_index, spelled_scale}
 use Rattle.x86_layout.proofs.TightenLemmas.Raw.{least, base_number, index_number, base_counts, index_counts, base_next, index_next}
@@ -34,9 +34,6 @@ arranged_weighs d b i s r = grind (arith, nat_tests)
 same_index : (i j : Option ℕ) (s t : Scale) (r : ℕ) → i ≡ j → ((n : ℕ) → j ≡ Some n → s ≡ t) → part_weight i (times s) r ≡ part_weight j (times t) r
 same_index i j s t r e f = grind arith
 
-spelled_scale_where : (d : ℤ) (m : ℕ) → m < 8 → (b i : Option ℕ) (s : Scale) (n : ℕ) → i ≡ Some n → scale_named (scale_by (sib_by (rm_alone b i) (packed_byte (scale_bits s) (field_or 4 i) (field_or 5 b)))) ≡ s
-spelled_scale_where d m below b i s n e = rw e (spelled_scale d m below b n s)
-
 spelled_weighs : (raw : Raw) (at : AddressRegisters) (r : ℕ) → HaveNumbers at → weight (registers_of (spelled raw at)) r ≡ weight at r
 spelled_weighs raw at r h =
     let d = raw.disp in
@@ -45,15 +42,12 @@ spelled_weighs raw at r h =
     let base = spelled_base d m below (spelled raw at) at.base at.index at.scale refl refl h.0 in
     let index = spelled_index d m below (spelled raw at) at.base at.index at.scale refl h.1 in
     let to = registers_of (spelled raw at) in
-    let second : part_weight to.index (times to.scale) r ≡ part_weight at.index (times at.scale) r = same_index to.index at.index to.scale at.scale r index (spelled_scale_where d m below at.base at.index at.scale) in
+    let second : part_weight to.index (times to.scale) r ≡ part_weight at.index (times at.scale) r = same_index to.index at.index to.scale at.scale r index (λ n e. rw e (spelled_scale d m below at.base n at.scale)) in
     cc (base, second)
 
 -- a spelled form is never relative to the next instruction
-spelled_ip_by : (d : ℤ) (m : ℕ) → m < 8 → (b i : Option ℕ) (sib : ℕ) → is_ip_by (packed_byte (mod_of d b) m (rm_by (rm_alone b i))) (sib_by (rm_alone b i) sib) ≡ false
-spelled_ip_by d m below b i sib = grind (arith, nat_tests)
-
 spelled_ip : (raw : Raw) (at : AddressRegisters) → is_ip_relative (spelled raw at) ≡ false
-spelled_ip raw at = spelled_ip_by raw.disp (reg_field raw.modrm) (middle_small raw.modrm) at.base at.index _
+spelled_ip raw at = let below = middle_small raw.modrm in grind (arith, nat_tests)
 
 -- the SIB byte is a byte
 spelled_sib : (at : AddressRegisters) (rm : Option ℕ) → IsByteOption (sib_by rm (packed_byte (scale_bits at.scale) (field_or 4 at.index) (field_or 5 at.base)))

@@ -8,9 +8,6 @@ use Rattle.x86_layout.specs.Tightening.Shortest.{index_alone, base_and_index, ex
 
 -- ---- how often a register counts
 
-pub once : (b n : ℕ) → part_weight (Some b) n b ≡ n
-once b n = grind (arith, nat_tests)
-
 some_times : (s : Scale) → 0 < times s
 some_times s = grind arith
 
@@ -74,7 +71,7 @@ by_base d b i s b' (inr e) = rw (e.1, ← e.0) (spares_index d b i)
 
 pub fewest : (d : ℤ) (b i : Option ℕ) (s : Scale) (b' i' : Option ℕ) (s' : Scale) → IsBelow16 b → IsIndex i → IsBelow16 b' → IsIndex i' → ((k : ℕ) → k < 16 → Weigh b i s k ≡ Weigh b' i' s' k) → bytes_at d (arranged d b i s) ≤ bytes_by d b' i'
 fewest d b i s None i' s' hb hi hb' hi' e = let at = arranged d b i s in at_most_five d at.base at.index
-fewest d None None s (Some b') i' s' hb hi hb' hi' e = let one = once b' 1 in let f = e b' hb' in absurd (omega (arith, f, one))
+fewest d None None s (Some b') i' s' hb hi hb' hi' e = let f = e b' hb' in absurd (grind (arith, nat_tests))
 fewest d (Some r) None s (Some b') i' s' hb hi hb' hi' e = one_base d r b' i' s' hb hb' hi' e
 fewest d None (Some r) s (Some b') i' s' hb hi hb' hi' e = one_index d r b' i' s s' hi.0 hb' hi' e
 fewest d (Some b) (Some i) s (Some b') None s' hb hi hb' hi' e = absurd (two_are_two b i b' s (e b hb) (e i hi.0))

@@ -46,8 +46,5 @@ module _ (strict : Bool) (row : TableRow) (p : Prefixes) (m : ℕ) (mm : is_memo
   by_kind true usage = group_writes p m mm row.form row.opcode strict usage
   by_kind false usage = plain_writes p m mm row.form row.opcode usage
 
-  second : (a b : Bool) → (a || b) ≡ true → a ≡ false → b ≡ true
-  second a b e f = grind arith
-
   pub row_writes : (record_of strict row p).modrm ≡ EitherForm → is_refusal ((record_of strict row p).plan m).verdict ≡ false → list_any is_modrm_encoding (list_of ((record_of strict row p).plan m).encodings) ≡ true
-  row_writes usage accepted = second _ _ (by_kind (is_group row.form) usage) accepted
+  row_writes usage accepted = cc (by_kind (is_group row.form) usage, accepted)

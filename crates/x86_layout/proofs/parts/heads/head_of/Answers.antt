@@ -1,13 +1,6 @@
-use Rattle.std.proofs.Common.{◌≡◌, ℕ, Bool, [], ◌∷◌, ◌++◌, length, slice_index, Some, IfSome, refl, ap, ◌∙◌, sym, append-nil}
-use Rattle.x86_fields.specs.declared.prefixes.Prefixes.{Prefixes}
+use Rattle.std.proofs.Common.{◌≡◌, [], ◌∷◌, ◌++◌, length, slice_index, refl, ap, ◌∙◌, sym, append-nil}
 use Rattle.x86_fields.specs.Run.{reading_of}
-use Rattle.x86_forms.specs.declared.Map.{Map}
-use Rattle.x86_forms.specs.declared.TableRow.{TableRow}
-use Rattle.x86_forms.specs.Words.{rows_of, packed}
-use Rattle.x86_operands.specs.declared.asks.Ask.{Ask}
-use Rattle.x86_operands.specs.Asks.{ask_of}
-use Rattle.x86_decode.specs.Head.{column_of, escape_bytes, seen_by}
-use Rattle.x86_decode.specs.Grammar.{record_of}
+use Rattle.x86_decode.specs.Head.{escape_bytes}
 use Rattle.x86_layout.proofs.PartLemmas.Part.{cut_is}
 use Rattle.x86_layout.proofs.PartLemmas.OfBytes.{has_head}
 use Rattle.x86_layout.proofs.parts.heads.head_of.Goals as goal
