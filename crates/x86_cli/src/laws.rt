@@ -31,6 +31,7 @@ use std::io::{Read, Write};
 use x86_decode::laws;
 
 /// No byte is bad exactly in a sequence of blanks and pairs.
+#[tactic(auto, using(crate::proofs::TextLemmas::Pair::sequences_sound))]
 pub fn sequences()
     ensures { SequencesAreSound }
 {}
@@ -41,6 +42,7 @@ pub fn first()
 {}
 
 /// A listing ends with the same status whatever its lines are, as those of `list` and `fields` do.
+#[tactic(auto, using(crate::proofs::ListingLemmas::Listing::lines_leave_status))]
 pub fn statuses()
     ensures { LinesLeaveStatus }
 {}
@@ -99,12 +101,14 @@ pub fn made<K: Sink>()
 
 /// Where the source's bytes are known and neither count of faults rose, a run ends with a status exactly where the
 /// listing of all the bytes does.
+#[tactic(auto, using(crate::proofs::CommandLemmas::Says::exact))]
 pub fn exact()
     ensures { (c : Command) (status : Status) (old new : Streams)
         → Says status c old new → IsExact status c old new }
 {}
 
 /// A read fault comes only where the source's count rose, and the listing of the bytes taken reaches it.
+#[tactic(auto, using(crate::proofs::CommandLemmas::Says::has_read_fault))]
 pub fn read_faults()
     ensures { (c : Command) (status : Status) (old new : Streams)
         → Says status c old new → HasReadFault status c old new }
@@ -127,6 +131,7 @@ pub fn unrefused<S: Source, K: Sink>()
 
 /// Where a command goes through the image of a clean text, its listing ends as done. So where the source is known to
 /// have such a text and neither count of faults rose, the run is done and has written the whole listing.
+#[tactic(auto, using(crate::proofs::CommandLemmas::Causes::text_done, crate::proofs::CommandLemmas::Says::completes))]
 pub fn complete()
     ensures listing { CompletesTexts }
     ensures run { (c : Command) (status : Status) (old new : Streams)

@@ -4,14 +4,14 @@ use Rattle.std.specs.Prelude.{⊤}
 use Rattle.x86_cli.specs.declared.outside.source.Got.{Got}
 use Rattle.x86_cli.specs.declared.outside.sink.SinkFailed.{SinkFailed}
 use Rattle.x86_cli.specs.declared.text.reader.Ending.{Ending}
-use Rattle.x86_cli.specs.Outside.Stop.{Stop, Failed}
+use Rattle.x86_cli.specs.Outside.Stop.{Stop, End, Failed}
 use Rattle.x86_cli.specs.declared.listings.status.Status.{Status}
 use Rattle.x86_cli.specs.declared.listings.status.Status.TheVariants as outcome
 use Rattle.x86_cli.specs.Text.{Text, text_at, text_of}
 use Rattle.x86_cli.specs.Listings.Listing.{Listing, with_lines, at_end}
 use Rattle.x86_cli.specs.Text.Window.{with_bytes, rest_of}
 use Rattle.x86_cli.specs.Commands.Run.{Closes, Ahead, RanInWindow}
-use Rattle.x86_cli.proofs.TextLemmas.Text.{text-failed}
+use Rattle.x86_cli.proofs.TextLemmas.Text.{text-end, text-failed}
 use Rattle.x86_cli.proofs.CommandLemmas.Causes.{some_stop}
 use Rattle.x86_cli.proofs.ListingLemmas.Progress.{Progress, progress_step, ran_failed, ran_closed, ran_unclosed}
 
@@ -24,9 +24,13 @@ image_same : (max : ℕ) (bytes : List ℕ) (s t : Stop) → (text_of max bytes 
 unfolding text_at
 image_same max bytes s t = refl
 
+-- Where no more comes, the image of what is left is the window.
+rest_image : (ended : Option Ending) (w : List ℕ) (p r : ℕ) (stop : Stop) → (rest_of ended w p r [] stop).image ≡ w
+rest_image ended w p r End = grind (arith, append-nil {A = ℕ}, text-end p r)
+rest_image ended w p r Failed = grind (arith, append-nil {A = ℕ}, text-failed p r)
+
 rest_split : (ended : Option Ending) (w : List ℕ) (len p r : ℕ) (xs : List ℕ) (stop : Stop) → rest_of ended w p r xs stop ≡ with_bytes (take len w) (rest_of ended (drop len w) p r xs stop)
-rest_split None w len p r xs stop = rw (sym (append_assoc (take len w) (drop len w) (text_at p r xs stop).image), take-append-drop len w) refl
-rest_split (Some e) w len p r xs stop = rw take-append-drop refl
+rest_split ended w len p r xs stop = grind (arith, take-append-drop len w, append_assoc {A = ℕ})
 
 pub end_one : (e : Ending) → length (at_end e).lines ≤ 1
 end_one e = grind arith
@@ -39,22 +43,16 @@ module _ {S K : Type 0} (gives : S → Got → S → Type 0) (takes : K → List
   progress_line x len le step m put =
       progress_step gives takes at window max n ended w p r a b k l s (x ∷ []) (n + len) (drop len w) step (take len w) (rest_split ended w len p r) (λ walked is. simp length-append (omega (arith, length-take-le len w le, is))) m (m, put, refl)
 
-  image_taken : (o : Option Ending) → ended ≡ o → (text_of max s.bytes Failed).image ≡ s.walked ++ w
-  image_taken None is =
-      let open_yet : s.stop ≡ None = rw is at s.continues in
-      let whole : text_of max (s.bytes ++ []) Failed ≡ with_bytes s.walked (rest_of None w p r [] Failed) = rw is at (s.beginning [] Failed (rw open_yet tt)) in
-      simp (append-nil, text-failed p r) at (ap (λ t. t.image) whole)
-  image_taken (Some e) is =
+  image_taken : (text_of max s.bytes Failed).image ≡ s.walked ++ w
+  image_taken =
       let stop = some_stop s.stop in
-      let whole : text_of max (s.bytes ++ []) stop.0 ≡ with_bytes s.walked (rest_of (Some e) w p r [] stop.0) = rw is at (s.beginning [] stop.0 stop.1) in
-      let image : (text_of max s.bytes stop.0).image ≡ s.walked ++ w = rw append-nil at (ap (λ t. t.image) whole) in
-      image_same max s.bytes Failed stop.0 ∙ image
+      image_same max s.bytes Failed stop.0 ∙ rw append-nil at (ap (λ t. t.image) (s.beginning [] stop.0 stop.1)) ∙ ap (λ x. s.walked ++ x) (rest_image ended w p r stop.0)
 
   module _ (few : length w ≤ 15) where
     ahead : (lines last : List (List ℕ)) → lines ≡ s.lines ++ last → length last ≤ 1 → Ahead at (text_of max) s.bytes s.stop lines
     ahead lines last split one = record {
       walked = s.walked;
-      few = rw (image_taken ended refl) (simp length-append (omega (arith, few)));
+      few = rw image_taken (simp length-append (omega (arith, few)));
       called = s.called;
       shown = s.lines;
       last = last;

@@ -43,11 +43,7 @@ module _ (strict : Bool) (text : ℕ → Instruction → List ℕ → List ℕ) 
   listing_end n (suc k) (x ∷ xs) = listing_end (n + 1) k xs
 
 pub command_end : (c : Command) (t : Text) → (listing_for c t).status ≢ outcome.Refused → (listing_for c t).status ≡ (at_end t.ending).status
-command_end (Listed strict) t = listing_end strict _ t.ending 0 0 t.image
-command_end Fielded t = listing_end false _ t.ending 0 0 t.image
-command_end Tightened t = listing_end false _ t.ending 0 0 t.image
-command_end Swept t = λ _. refl
-command_end Targeted t = λ _. refl
+command_end c t = grind (arith, listing_end)
 
 pub command_used : (c : Command) (t : Text) → (listing_for c t).status ≢ outcome.Usage
 command_used c t = let h = command_end c t in grind arith
@@ -125,7 +121,6 @@ module _ (strict : Bool) (laws : DecoderLaws strict) (text : ℕ → Instruction
 -- the listing of a clean text whose image a command goes through
 pub text_done : ((strict : Bool) → DecoderLaws strict) → CompletesTexts
 text_done laws (Listed strict) t clean sequence = rw (clean, sequence.whole) (sentences_done strict (laws strict) _ 0 sequence.sentences sequence.each)
-text_done laws Fielded t clean sequence = rw (clean, sequence.whole) (sentences_done false (laws false) _ 0 sequence.sentences sequence.each)
-text_done laws Tightened t clean sequence = rw (clean, sequence.whole) (sentences_done false (laws false) _ 0 sequence.sentences sequence.each)
 text_done laws Swept t clean any = rw clean refl
 text_done laws Targeted t clean any = rw clean refl
+text_done laws _ t clean sequence = rw (clean, sequence.whole) (sentences_done false (laws false) _ 0 sequence.sentences sequence.each)

@@ -41,9 +41,7 @@ module _ {R : Type 0} (left : R → Option (List ℕ)) where
   reports s buffer r t = ReadConsumes (left s) (left t) r buffer
 
   reads_consume : (pieces : List (List ℕ)) (stop : Option Stop) (r r' : R) → ReaderCalls reports pieces stop r r' → Consumes (left r) (left r') (concat pieces)
-  reads_consume [] None r r' e = rw e (Consumes-nil (left r))
-  reads_consume [] (Some End) r r' h = subst (Consumes (left r) (left r')) (take_none 0 h.0 refl) h.2.0
-  reads_consume [] (Some Failed) r r' h = consumes_none (left r) (left r') h.2
+  reads_consume [] stop r r' h = grind (arith, Consumes-nil, consumes_none, take_none)
   reads_consume (p ∷ ps) stop r r' h = Consumes-trans (left r) (left h.0) (left r') p (concat ps) (subst (Consumes (left r) (left h.0)) h.1.4 h.1.3.0) (reads_consume ps stop h.0 r' h.2)
 
   reads_all : (pieces : List (List ℕ)) (r r' : R) → ReaderCalls reports pieces (Some End) r r' → IfSome (left r) (λ b. b ≡ concat pieces)
@@ -66,9 +64,7 @@ module _ {W : Type 0} (written : W → Option (List ℕ)) where
   keeps s r t = Keeps (written s) (written t)
 
   call_appends : (c : Call) (v w : W) → Does appends keeps c v w → Appends (written v) (written w) (sent_by c)
-  call_appends (Write bytes (Ok n)) v w h = h
-  call_appends (Write bytes (Err e)) v w h = appends-none (written v) (written w) h
-  call_appends (Flush r) v w h = appends-none (written v) (written w) h
+  call_appends c v w h = grind (arith, appends-none)
 
   calls_append : (cs : List Call) (w w' : W) → WriterCalls appends keeps cs w w' → Appends (written w) (written w') (sent cs)
   calls_append [] w w' e = rw e (Appends-nil (written w))
@@ -124,7 +120,6 @@ module _ {R W : Type 0} (laws : (strict : Bool) → DecoderLaws strict) (left : 
   leaves Done h = of_all Done h (Some End) h.ends (λ e. cc)
   leaves Usage h = absurd h.ends
   leaves Refused h = refused h h.stop refl
-  leaves BadText h = of_all BadText h h.stop refl h.ends
-  leaves TooLarge h = of_all TooLarge h h.stop refl h.ends
   leaves ReadFault h = of_taken ReadFault h h.ends
   leaves WriteFault h = written_fault h h.stop refl
+  leaves status h = of_all status h h.stop refl h.ends

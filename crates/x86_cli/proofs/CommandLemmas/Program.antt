@@ -22,7 +22,7 @@ use Rattle.x86_cli.proofs.CommandLemmas.Causes.{some_stop, causes, command_used,
 use Rattle.x86_cli.proofs.CommandLemmas.Says.{written_part, end_stop, fault_status, called_failed}
 use Rattle.x86_cli.proofs.OutsideLemmas.Flat.{flat, took_on, took_fault}
 use Rattle.x86_cli.proofs.OutsideLemmas.Reads.{Fetched, fetched, stopped_empty}
-use Rattle.x86_cli.proofs.OutsideLemmas.Writes.{caused_join, caused_err}
+use Rattle.x86_cli.proofs.OutsideLemmas.Writes.{caused_join, caused_as, err_cause}
 
 no_fault : (status : Status) → status ≢ WriteFault → fault_of status ≡ Ok tt
 no_fault status ne = grind arith
@@ -61,7 +61,7 @@ module _ {W : Type 0} (writes : W → List ℕ → Result ℕ Error → W → Ty
       }
 
   finishes_failed : (f : SinkFailed) (bs : List ℕ) (a b : W) → Caused writes flushes {A = ⊤} {E = SinkFailed} (Err f) bs a b → Finishes writes flushes WriteFault bs a b
-  finishes_failed f bs a b c = record { caused = caused_err writes flushes f tt bs a b c; flushed = λ ne. absurd (ne refl) }
+  finishes_failed f bs a b c = record { caused = caused_as writes flushes {E = SinkFailed} {F = ⊤} (Err f) (Err tt) bs bs a b refl (err_cause ⊤ ⊤ {E = SinkFailed} {F = ⊤} f tt) c; flushed = λ ne. absurd (ne refl) }
 
   -- What the writer took, of a run that put these lines and then, where there is one, failed at a line.
   pub record Printed (status ended : Status) (lines : List (List ℕ)) (failed : Option (List ℕ)) (old new : W) : Type 0 where
@@ -138,10 +138,9 @@ module _ {S K : Type 0} (gives : S → Got → S → Type 0) (takes : K → List
   run_ends Done ran = end_stop c (max_of c) ran.bytes ran.stop (λ xs s may. lists_status Done ran.lines ran.failed _ (λ e. cc) (ran.lists xs s may))
   run_ends Usage ran = absurd (ran_used gives takes c (max_of c) Usage s t k l ran refl)
   run_ends Refused ran = tt
-  run_ends BadText ran = ends_unfailed BadText ran (λ e. cc) (λ e. cc) (λ e. cc)
-  run_ends TooLarge ran = ends_unfailed TooLarge ran (λ e. cc) (λ e. cc) (λ e. cc)
   run_ends ReadFault ran = (causes gives takes c (max_of c) s t k l).0 ran
   run_ends WriteFault ran = tt
+  run_ends status ran = ends_unfailed status ran (λ e. cc) (λ e. cc) (λ e. cc)
 
 pub program_ends : {E : Type 0} (status : Status) (r : Result ⊤ E) (stop : Option Stop) → status ≢ Usage → EndsAt status stop → EndsAt (ending_of status r) stop
 program_ends status r stop used h = grind arith

@@ -59,9 +59,7 @@ fault_status c t status fault unrefused unread = let h = command_end c t in grin
 
 pub end_stop : (c : Command) (max : ℕ) (bytes : List ℕ) (stop : Option Stop) →
     ((xs : List ℕ) (s : Stop) → MayCome stop xs s → (listing_for c (text_of max (bytes ++ xs) s)).status ≡ Done) → stop ≡ Some End
-end_stop c max bytes None done = absurd (failed_unclean max (bytes ++ []) (done_clean c _ (done [] Failed tt)))
-end_stop c max bytes (Some Failed) done = absurd (failed_unclean max (bytes ++ []) (done_clean c _ (done [] Failed (refl, refl))))
-end_stop c max bytes (Some End) done = refl
+end_stop c max bytes stop done = grind (arith, failed_unclean max (bytes ++ []), done_clean c, done [] Failed)
 
 -- the text whose last call failed was open
 called_open : (text : List ℕ → Stop → Text) (bytes : List ℕ) (stop : Stop) → CalledWhileOpen text bytes (Some stop) → (text bytes Failed).ending ≡ Fault
@@ -73,8 +71,7 @@ called_failed max bytes stop called failed = called_open (text_of max) bytes Fai
 
 -- lines, what was written of one more, and what was not
 pub written_part : (lines : List (List ℕ)) (failed : List ℕ) (n : ℕ) (more : List (List ℕ)) → concat (lines ++ failed ∷ more) ≡ (concat lines ++ take n failed) ++ (drop n failed ++ concat more)
-written_part lines failed n more =
-    simp (concat-append, append_assoc) (ap (λ f. concat lines ++ f) (ap (λ f. f ++ concat more) (sym (take-append-drop n failed)) ∙ append_assoc (take n failed) (drop n failed) (concat more)))
+written_part lines failed n more = grind (arith, concat-append, append_assoc {A = ℕ}, take-append-drop n failed)
 
 prefix_written : (written written' : Option (List ℕ)) (l : Listing) (lines : List (List ℕ)) (failed : List ℕ) (more : List (List ℕ)) (n : ℕ) → l.lines ≡ lines ++ failed ∷ more →
     Appends written written' (concat lines ++ take n failed) → WritesPrefix written written' l
@@ -133,10 +130,9 @@ module _ (laws : (strict : Bool) → DecoderLaws strict) (c : Command) (old new 
     says_all Done used written lists = says_done lists
     says_all Usage used written lists = absurd (used refl)
     says_all Refused used written lists = says_refused lists
-    says_all BadText used written lists = says_ended BadText (λ f. cc) (λ f. cc) lists
     says_all ReadFault used written lists = says_read lists
     says_all WriteFault used written lists = absurd (written refl)
-    says_all TooLarge used written lists = says_ended TooLarge (λ f. cc) (λ f. cc) lists
+    says_all status used written lists = says_ended status (λ f. cc) (λ f. cc) lists
 
   -- a run at which a put failed
   module _ (lines : List (List ℕ)) (failed : List ℕ) (wrote : ReportsPieces lines (Some failed) old.written new.written old.sink_faults new.sink_faults)

@@ -80,8 +80,7 @@ module _ (laws : (strict : Bool) → DecoderLaws strict) where
   command_stays (Listed strict) t t' beginning fault refused = list_stays strict (laws strict) _ t t' beginning fault refused
   command_stays Fielded t t' beginning fault refused = list_stays false (laws false) _ t t' beginning fault refused
   command_stays Tightened t t' beginning fault refused = list_stays false (laws false) _ t t' beginning fault refused
-  command_stays Swept t t' beginning fault refused = absurd (unrefused t fault refused)
-  command_stays Targeted t t' beginning fault refused = absurd (unrefused t fault refused)
+  command_stays _ t t' beginning fault refused = absurd (unrefused t fault refused)
 
   pub refused_stays : (c : Command) (max : ℕ) (bytes xs : List ℕ) (s : Stop) → (text_of max bytes Failed).ending ≡ Fault → (listing_for c (text_of max bytes Failed)).status ≡ outcome.Refused →
       listing_for c (text_of max (bytes ++ xs) s) ≡ listing_for c (text_of max bytes Failed)

@@ -1,5 +1,5 @@
 -- The listing by the grammar alone.
-use Rattle.std.proofs.Common.{Bool, ◌≡◌, ◌↔◌, ℕ, suc, zero, ◌+◌, ◌-◌, ◌<◌, ◌≤◌, List, [], ◌∷◌, ◌++◌, length, take, drop, Result, Ok, Err, refl, arith, ap, ◌∙◌, sym, subst, append_assoc, length-append}
+use Rattle.std.proofs.Common.{add-zero, add_assoc, Bool, ◌≡◌, ◌↔◌, ℕ, suc, zero, ◌+◌, ◌-◌, ◌<◌, ◌≤◌, List, [], ◌∷◌, ◌++◌, length, take, drop, Result, Ok, Err, refl, arith, ap, ◌∙◌, sym, subst, append_assoc, length-append}
 use Rattle.std.proofs.Math.Seq.{take-append_seam, drop-append_seam}
 use Rattle.std.specs.List.{concat}
 use Rattle.x86_decode.specs.declared.instructions.Instruction.{Instruction}
@@ -34,8 +34,7 @@ module _ (strict : Bool) (laws : GrammarLaws strict) (text : ℕ → Instruction
       last ≡ listing_from strict text n 0 xs e
   unfolding listing_from
   end_here n [] e last is = is
-  end_here n (x ∷ xs) e last ends =
-      ends.3 ∙ sym (error_here n x xs e ends.0 (laws.only (x ∷ xs) (Err ends.0) ends.1 ends.2))
+  end_here n (x ∷ xs) e last ends = grind (arith, error_here n x xs e ends.0, laws.only (x ∷ xs) (Err ends.0))
 
   -- a sentence and the bytes after it
   decoded_whole : (xs : List ℕ) (e : Ending) (i : Instruction) → answer_of strict xs ≡ Ok i → decoded_of strict xs e ≡ Whole i
@@ -50,16 +49,14 @@ module _ (strict : Bool) (laws : GrammarLaws strict) (text : ℕ → Instruction
       let ok : answer_of strict all ≡ Ok i = sym (laws.only all (Ok i) (length s) accepted) in
       let l = laws.lengths all i ok in
       let len : i.length ≡ length s = ap (λ i. i.length) is.yields in
-      let P : ℕ → Type 0 = λ k. listing_from strict text n 0 all e ≡ with_lines (line (text n i (take k all)) ∷ []) (listing_from strict text (n + k) 0 (drop k all) e) in
-      let h = subst P len (listing-whole strict text n all e i (decoded_whole all e i ok) l.0 l.1) in
-      rw (take-append_seam s rest, drop-append_seam s rest) at h
+      let h = listing-whole strict text n all e i (decoded_whole all e i ok) l.0 l.1 in
+      grind (arith, take-append_seam s rest, drop-append_seam s rest)
 
   listing_is : (n : ℕ) (ss : List (List ℕ)) (left : List ℕ) (e : Ending) (lines : List (List ℕ)) (last : Listing) →
       AreLines (rows_of packed) strict text n ss lines → EndsListing (rows_of packed) strict (n + length (concat ss)) left e last →
       with_lines lines last ≡ listing_from strict text n 0 (concat ss ++ left) e
   listing_is n [] left e lines last each ends =
-      let same : n + 0 ≡ n = omega arith in
-      rw each (end_here n left e last (subst (λ m. EndsListing (rows_of packed) strict m left e last) same ends))
+      rw each (end_here n left e last (simp add-zero at ends))
   listing_is n (s ∷ ss) left e lines last each ends =
       let same : n + length (s ++ concat ss) ≡ (n + length s) + length (concat ss) = simp length-append (omega arith) in
       let after = listing_is (n + length s) ss left e each.2 last each.4 (subst (λ m. EndsListing (rows_of packed) strict m left e last) same ends) in
@@ -70,7 +67,6 @@ module _ (strict : Bool) (laws : GrammarLaws strict) (text : ℕ → Instruction
   sentence_first : (n : ℕ) (s rest : List ℕ) (e : Ending) (i : Instruction) → IsSentence (rows_of packed) strict s i →
       IsHere (n + length s) rest e (listing_from strict text (n + length s) 0 rest e) → IsHere n (s ++ rest) e (listing_from strict text n 0 (s ++ rest) e)
   sentence_first n s rest e i is t =
-      let same : (n + length s) + length (concat t.sentences) ≡ n + length (s ++ concat t.sentences) = simp length-append (omega arith) in
       record {
         sentences = s ∷ t.sentences;
         left = t.left;
@@ -78,14 +74,13 @@ module _ (strict : Bool) (laws : GrammarLaws strict) (text : ℕ → Instruction
         lines = line (text n i s) ∷ t.lines;
         each = (i, is, t.lines, refl, t.each);
         last = t.last;
-        ends = subst (λ m. EndsListing (rows_of packed) strict m t.left e t.last) same t.ends;
+        ends = simp (length-append, ← add_assoc) t.ends;
         is = sentence_here n s rest e i is ∙ ap (with_lines (line (text n i s) ∷ [])) t.is;
       }
 
   at_once : (n : ℕ) (xs : List ℕ) (e : Ending) (last : Listing) → EndsListing (rows_of packed) strict n xs e last → IsHere n xs e last
   at_once n xs e last ends =
-      let same : n ≡ n + 0 = omega arith in
-      record { sentences = []; left = xs; whole = refl; lines = []; each = refl; last = last; ends = subst (λ m. EndsListing (rows_of packed) strict m xs e last) same ends; is = refl }
+      record { sentences = []; left = xs; whole = refl; lines = []; each = refl; last = last; ends = simp add-zero ends; is = refl }
 
   -- by the answer of an image that isn't empty, where this is so of shorter ones
   by_answer : (k n x : ℕ) (xs : List ℕ) (e : Ending) → ((m : ℕ) (ys : List ℕ) → length ys ≤ k → IsHere m ys e (listing_from strict text m 0 ys e)) →

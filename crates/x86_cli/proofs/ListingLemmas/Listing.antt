@@ -17,25 +17,18 @@ module _ (strict : Bool) (text : ℕ → Instruction → List ℕ → List ℕ) 
   unfolding listing_from
   listing-skip n zero xs e le = let same : n + 0 ≡ n = omega arith in rw same refl
   listing-skip n (suc k) [] e le = absurd (omega arith)
-  listing-skip n (suc k) (x ∷ xs) e le =
-      let place : n + suc k ≡ (n + 1) + k = omega arith in
-      rw place (listing-skip (n + 1) k xs e (omega arith))
+  listing-skip n (suc k) (x ∷ xs) e le = grind (arith, listing-skip (n + 1) k xs e)
 
   whole-at : (n k : ℕ) (xs : List ℕ) (e : Ending) (i : Instruction) → decoded_of strict xs e ≡ Whole i → i.length ≡ suc k → suc k ≤ length xs →
       listing_from strict text n 0 xs e ≡ with_lines (line (text n i (take i.length xs)) ∷ []) (listing_from strict text (n + suc k) 0 (drop (suc k) xs) e)
   unfolding listing_from
   whole-at n k [] e i h len le = absurd (omega arith)
   whole-at n k (x ∷ xs) e i h len le =
-      let less : i.length - 1 ≡ k = omega arith in
-      let place : n + suc k ≡ (n + 1) + k = omega arith in
-      rw (h, less, place) (ap (with_lines (line (text n i (take i.length (x ∷ xs))) ∷ [])) (listing-skip (n + 1) k xs e (omega arith)))
+      grind (arith, listing-skip (n + 1) k xs e)
 
   pub listing-whole : (n : ℕ) (xs : List ℕ) (e : Ending) (i : Instruction) → decoded_of strict xs e ≡ Whole i → 0 < i.length → i.length ≤ length xs →
       listing_from strict text n 0 xs e ≡ with_lines (line (text n i (take i.length xs)) ∷ []) (listing_from strict text (n + i.length) 0 (drop i.length xs) e)
-  listing-whole n xs e i h some le =
-      let len : i.length ≡ suc (i.length - 1) = omega arith in
-      let P : ℕ → Type 0 = λ m. listing_from strict text n 0 xs e ≡ with_lines (line (text n i (take i.length xs)) ∷ []) (listing_from strict text (n + m) 0 (drop m xs) e) in
-      subst P (sym len) (whole-at n (i.length - 1) xs e i h len (omega arith))
+  listing-whole n xs e i h some le = grind (arith, whole-at n (i.length - 1) xs e i)
 
   pub listing-refused : (n : ℕ) (xs : List ℕ) (e : Ending) (error : DecodeError) → decoded_of strict xs e ≡ Refused error →
       listing_from strict text n 0 xs e ≡ record { lines = line (refusal_of n error) ∷ []; status = status.Refused }
@@ -56,7 +49,9 @@ module _ (strict : Bool) (text other : ℕ → Instruction → List ℕ → List
   listing-status : (n k : ℕ) (xs : List ℕ) (e : Ending) → (listing_from strict text n k xs e).status ≡ (listing_from strict other n k xs e).status
   unfolding listing_from
   listing-status n k [] e = refl
-  listing-status n zero (x ∷ xs) e = listed-status (decoded_of strict (x ∷ xs) e) n (x ∷ xs) _ _ (λ k. listing-status (n + 1) k xs e)
+  listing-status n zero (x ∷ xs) e =
+      let h = λ (k : ℕ). listing-status (n + 1) k xs e in
+      grind arith
   listing-status n (suc k) (x ∷ xs) e = listing-status (n + 1) k xs e
 
 pub lines_leave_status : LinesLeaveStatus

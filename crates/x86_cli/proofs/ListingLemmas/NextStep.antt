@@ -22,8 +22,7 @@ module _ (strict : Bool) (text : ℕ → Instruction → List ℕ → List ℕ) 
   line_after : (n : ℕ) (w : List ℕ) (i : Instruction) (more : Text) → decoded_of strict (w ++ more.image) more.ending ≡ Whole i → 0 < i.length → i.length ≤ length w →
       at n (with_bytes w more) ≡ with_lines (line (text n i (take i.length w)) ∷ []) (at (n + i.length) (with_bytes (drop i.length w) more))
   line_after n w i more h some le =
-      let fits : i.length ≤ length (w ++ more.image) = simp length-append (omega arith) in
-      rw (sym (drop-append-le i.length w more.image le), sym (take-append-le i.length w more.image le)) (listing-whole strict text n (w ++ more.image) more.ending i h some fits)
+      grind (arith, length-append w more.image, drop-append-le i.length w more.image, take-append-le i.length w more.image, listing-whole strict text n (w ++ more.image) more.ending i)
 
   rest_line : (ended : Option Ending) (n : ℕ) (w : List ℕ) (i : Instruction) (p r : ℕ) (xs : List ℕ) (stop : Stop) →
       decoded_of strict (rest_of ended w p r xs stop).image (rest_of ended w p r xs stop).ending ≡ Whole i → 0 < i.length → i.length ≤ length w →

@@ -106,12 +106,10 @@ module _ {S K : Type 0} (gives : S → Got → S → Type 0) (takes : K → List
           (λ xs h. subst (Needs window s.walked) (sym (s.beginning xs Failed (rw s.continues tt))) (holds s.walked (rest_of None w p r xs Failed) h)) fills.called);
       continues = fills.continues;
       walks = s.walks;
-      beginning = λ xs stop may.
-          rw append_assoc (s.beginning (fills.bytes ++ xs) stop (rw s.continues tt) ∙ ap (with_bytes s.walked) (fills.rest xs stop may));
+      beginning = λ xs stop may. grind (arith, append_assoc {A = ℕ}, s.beginning (fills.bytes ++ xs) stop, s.continues, fills.rest xs stop);
       lines = s.lines;
       sink_calls = s.sink_calls;
-      lists = λ xs stop may.
-          rw append_assoc (s.lists (fills.bytes ++ xs) stop (rw s.continues tt) ∙ ap (λ t. with_lines s.lines (at n t)) (fills.rest xs stop may));
+      lists = λ xs stop may. grind (arith, append_assoc {A = ℕ}, s.lists (fills.bytes ++ xs) stop, s.continues, fills.rest xs stop);
     }
 
     pub progress_refill : (max n : ℕ) (v w : Window) (a b d : S) (k l : K) →

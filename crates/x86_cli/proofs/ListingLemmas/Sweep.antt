@@ -28,19 +28,14 @@ record ShowsAnswer (strict : Bool) (a : Result Instruction DecodeError) (ended :
 module _ (strict : Bool) where
   sweep-cut : (n len : ℕ) (xs : List ℕ) (e : Ending) (a : Result Instruction DecodeError) → answer_of strict xs ≡ a → cut_length a ≡ len → 0 < len → len ≤ length xs →
       sweep_at strict n (record { image = xs; ending = e }) ≡ with_lines (line (cut_text n a) ∷ []) (sweep_at strict (n + len) (record { image = drop len xs; ending = e }))
-  sweep-cut n len xs e a h same some le =
-      let following : List (List ℕ) = map cut_line (cuts_from strict (n + len) (drop len xs)) in
-      ap (λ cs. with_lines (map cut_line cs) (at_end e)) (first_and_rest strict len n xs (ap cut_length h ∙ same) some (omega arith))
-      ∙ sym (with-with (cut_line (cut_at strict n xs) ∷ []) following (at_end e))
-      ∙ ap (λ a. with_lines (line (cut_text n a) ∷ []) (with_lines following (at_end e))) h
+  sweep-cut n len xs e a h same some le = grind (arith, first_and_rest strict len n xs, with-with (cut_line (cut_at strict n xs) ∷ []) (map cut_line (cuts_from strict (n + len) (drop len xs))) (at_end e))
 
   -- one cut of the rest
   rest_cut : (ended : Option Ending) (n : ℕ) (w : List ℕ) (p r : ℕ) (a : Result Instruction DecodeError) → ShowsAnswer strict a ended w p r → (xs : List ℕ) (stop : Stop) →
       sweep_at strict n (rest_of ended w p r xs stop) ≡ with_lines (line (cut_text n a) ∷ []) (sweep_at strict (n + cut_length a) (rest_of ended (drop (cut_length a) w) p r xs stop))
-  rest_cut None n w p r a shows xs stop =
-      rw (sym (drop-append-le (cut_length a) w (text_at p r xs stop).image shows.fits))
-      (sweep-cut n (cut_length a) (w ++ (text_at p r xs stop).image) (text_at p r xs stop).ending a (shows.answers xs stop) refl shows.some (simp length-append (omega (arith, shows.fits))))
-  rest_cut (Some e) n w p r a shows xs stop = sweep-cut n (cut_length a) w e a (shows.answers xs stop) refl shows.some shows.fits
+  rest_cut ended n w p r a shows xs stop =
+      let cut = sweep-cut n (cut_length a) (rest_of ended w p r xs stop).image (rest_of ended w p r xs stop).ending a (shows.answers xs stop) refl shows.some in
+      grind (arith, shows.fits, drop-append-le (cut_length a) w, length-append {A = ℕ})
 
   pub sweep_end : (ended : Option Ending) (n : ℕ) (text w : List ℕ) (p r : ℕ) (e : Ending) → ended ≡ Some e → length w ≡ 0 → IsStep (sweep_at strict) (step.Ended e) n text ended w p r
   sweep_end ended n text w p r e is none = rest_is (sweep_at strict) n ended w p r e (at_end e) is (ap (λ cs. with_lines (map cut_line cs) (at_end e)) (none_left strict n w none))
@@ -52,8 +47,7 @@ module _ (strict : Bool) (laws : DecoderLaws strict) where
 
   same_answer : (ended : Option Ending) (w : List ℕ) (p r : ℕ) → (ended ≡ None → length w ≡ 15) → (xs : List ℕ) (stop : Stop) →
       answer_of strict (rest_of ended w p r xs stop).image ≡ answer_of strict w
-  same_answer None w p r full xs stop = laws.stay w (text_at p r xs stop).image (laws.enough w (omega (arith, full refl)))
-  same_answer (Some e) w p r full xs stop = refl
+  same_answer ended w p r full xs stop = let ne = laws.enough w in let stay = laws.stay w in grind arith
 
   pub sweep_line : (ended : Option Ending) (n : ℕ) (w s : List ℕ) (p r : ℕ) (a : Result Instruction DecodeError) → (ended ≡ None → length w ≡ 15) → 0 < length w →
       a ≡ answer_of strict s → s ≡ w → (len : ℕ) (text : List ℕ) → len ≡ cut_length a → text ≡ cut_text n a → IsStep (sweep_at strict) (step.Line len) n text ended w p r

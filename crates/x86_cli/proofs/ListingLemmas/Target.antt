@@ -26,6 +26,4 @@ module _ (strict : Bool) where
   -- after the last place
   pub targets-end : (n : ℕ) (image : List ℕ) (e : Ending) → n ≡ length image → targets_at strict n (record { image = image; ending = e }) ≡ at_end e
   unfolding marked_from
-  targets-end n image e is =
-      let none : length image - n ≡ 0 = omega arith in
-      rw none refl
+  targets-end n image e is = grind arith

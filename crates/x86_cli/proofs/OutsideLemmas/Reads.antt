@@ -1,5 +1,5 @@
 -- What calls of a source say of the reads of its reader.
-use Rattle.std.proofs.Common.{◌≡◌, ℕ, List, [], ◌∷◌, ◌++◌, Option, Some, None, Result, refl, ap, sym, inl, inr, ◌⊎◌, append-nil}
+use Rattle.std.proofs.Common.{arith, ◌≡◌, ℕ, List, [], ◌∷◌, ◌++◌, Option, Some, None, Result, refl, ap, sym, inl, inr, ◌⊎◌, append-nil}
 use Rattle.std.specs.List.{concat}
 use Rattle.std.specs.declared.io.Error.{Error}
 use Rattle.x86_cli.specs.declared.outside.source.Got.{Got}
@@ -45,6 +45,5 @@ module _ {R : Type 0} (reads : R → List ℕ → Result ℕ Error → R → Typ
   module _ {S : Type 0} (gives : S → Got → S → Type 0) (held : S → List ℕ) (reader : S → R)
       (fetches : (s : S) (g : Got) (t : S) → gives s g t → Fetches reads g (held s) (reader s) (held t) (reader t)) where
     pub stopped_empty : (bytes : List ℕ) (stop : Stop) (s t : S) → SourceCalls gives bytes (Some stop) s t → held t ≡ []
-    stopped_empty [] End s t h = (fetches s got.End t h).1
-    stopped_empty [] Failed s t h = (fetches s got.Failed t h).1
+    stopped_empty [] stop s t h = grind (arith, fetches s got.End t, fetches s got.Failed t)
     stopped_empty (b ∷ bs) stop s t h = stopped_empty bs stop h.0 t h.2

@@ -24,9 +24,7 @@ piece_reports p ps (Some x) a b d i j k t more = ((more.0.0, grind (arith, appen
 module _ {S : Type 0} (gives : S → Got → S → Type 0) (left : S → Option (List ℕ)) (faults : S → ℕ)
     (reports : (s : S) (g : Got) (t : S) → gives s g t → ReportsGot g (left s) (left t) (faults s) (faults t)) where
   pub source_calls_report : (bytes : List ℕ) (stop : Option Stop) (a b : S) → SourceCalls gives bytes stop a b → ReportsBytes bytes stop (left a) (left b) (faults a) (faults b)
-  source_calls_report [] None a b e = rw e (Consumes-nil (left a), refl)
-  source_calls_report [] (Some End) a b h = let t = reports a got.End b h in (t.0, (t.1, t.2))
-  source_calls_report [] (Some Failed) a b h = let t = reports a got.Failed b h in (t.0, t.2)
+  source_calls_report [] stop a b h = grind (arith, Consumes-nil, reports a got.End b, reports a got.Failed b)
   source_calls_report (x ∷ bs) stop a b h = byte_reports x bs stop _ _ _ _ _ _ (reports a (got.Byte x) h.0 h.1) (source_calls_report bs stop h.0 b h.2)
 
 module _ {K : Type 0} (takes : K → List ℕ → Result ⊤ SinkFailed → K → Type 0) (written : K → Option (List ℕ)) (faults : K → ℕ)

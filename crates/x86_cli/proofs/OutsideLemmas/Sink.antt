@@ -5,8 +5,8 @@ use Rattle.std.specs.declared.io.Error.{Error}
 use Rattle.std.specs.Io.KnownBytes.{Appends, Keeps, WriteAppends}
 use Rattle.std.proofs.KnownBytes.{Appends-trans}
 use Rattle.x86_cli.specs.declared.outside.sink.SinkFailed.{SinkFailed}
-use Rattle.x86_cli.specs.Outside.Writes.{Caused}
-use Rattle.x86_cli.proofs.OutsideLemmas.Writes.{caused_none, caused_as, caused_write, caused_nothing, caused_error}
+use Rattle.x86_cli.specs.Outside.Writes.{Write, Caused}
+use Rattle.x86_cli.proofs.OutsideLemmas.Writes.{take_none, caused_none, caused_as, caused_more}
 
 pub appends-none : (a b : Option (List ℕ)) → Keeps a b → Appends a b []
 appends-none a b k = grind (arith, append-nil {A = ℕ})
@@ -37,21 +37,21 @@ module _ {W : Type 0} (writes : W → List ℕ → Result ℕ Error → W → Ty
       count = puts.count + k;
       left = e ∙ take_all (length rest - k) (drop k rest) (simp length-drop (le_refl _)) ∙ ap (drop k) puts.left ∙ drop-drop k puts.count piece;
       bytes = further k (written d) h;
-      caused = caused_as writes flushes _ _ _ _ _ (joined k) (caused_write writes flushes tt tt _ rest k _ _ _ puts.caused wrote some);
+      caused = caused_more writes flushes tt (Ok tt) _ _ (Write rest (Ok k)) _ _ _ puts.caused wrote (λ _ on. (some, on)) (joined k);
     }
 
     whole : length rest ≡ 0 → take puts.count piece ≡ piece
     whole none = take_all puts.count piece (omega (arith, none, simp length-drop at (ap length puts.left)))
 
     pub puts_all : length rest ≡ 0 → Appends (written a) (written b) piece × Caused writes flushes {A = ⊤} {E = SinkFailed} (Ok tt) piece a b
-    puts_all none = (subst (Appends (written a) (written b)) (whole none) puts.bytes, caused_as writes flushes _ _ _ _ _ (whole none) puts.caused)
+    puts_all none = (subst (Appends (written a) (written b)) (whole none) puts.bytes, caused_as writes flushes (Ok tt) (Ok tt) _ _ _ _ (whole none) (λ _ on. on) puts.caused)
 
     pub puts_part : {E : Type 0} (r : Result ℕ E) (d : Option (List ℕ)) → WriteAppends (written b) d r rest → (n : ℕ) × Appends (written a) d (take n piece)
     puts_part (Ok k) d h = (puts.count + k, further k d h)
     puts_part (Err e) d h = (puts.count + 0, further 0 d (appends-none (written b) d h))
 
     pub puts_nothing : (f : SinkFailed) (n : ℕ) (d : W) → writes b rest (Ok n) d → n ≡ 0 → 0 < length rest → (n : ℕ) × Caused writes flushes {A = ⊤} {E = SinkFailed} (Err f) (take n piece) a d
-    puts_nothing f n d wrote none some = (puts.count, caused_nothing writes flushes tt f _ rest n _ _ _ puts.caused wrote none some)
+    puts_nothing f n d wrote none some = (puts.count, caused_more writes flushes tt (Err f) _ _ (Write rest (Ok n)) _ _ _ puts.caused wrote (λ _ on. ((none, some), on)) (rw (take_none n rest none) (append-nil _)))
 
     pub puts_error : (f : SinkFailed) (e : Error) (d : W) → writes b rest (Err e) d → (n : ℕ) × Caused writes flushes {A = ⊤} {E = SinkFailed} (Err f) (take n piece) a d
-    puts_error f e d wrote = (puts.count, caused_error writes flushes tt f _ rest e _ _ _ puts.caused wrote)
+    puts_error f e d wrote = (puts.count, caused_more writes flushes tt (Err f) _ _ (Write rest (Err e)) _ _ _ puts.caused wrote (λ _ on. (tt, on)) (append-nil _))

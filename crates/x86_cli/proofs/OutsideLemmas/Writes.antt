@@ -4,7 +4,7 @@ use Rattle.std.specs.Prelude.{⊤}
 use Rattle.std.specs.declared.io.Error.{Error}
 use Rattle.std.specs.declared.io.ErrorKind.TheVariants.{Interrupted}
 use Rattle.std.specs.IoError.{error_kind}
-use Rattle.x86_cli.specs.Outside.Writes.{Call, Write, Flush, sent_by, sent, AllContinue, Cause, WriterCalls, Caused, Forwards, FlushesOut}
+use Rattle.x86_cli.specs.Outside.Writes.{Call, Write, Flush, sent_by, sent, AllContinue, Cause, Does, WriterCalls, Caused, Forwards, FlushesOut}
 
 pub take_none : (n : ℕ) (xs : List ℕ) → n ≡ 0 → take n xs ≡ []
 take_none n xs none = grind arith
@@ -16,7 +16,7 @@ all_go_on (x ∷ cs) ds c d = (c.0, all_go_on cs ds c.1 d)
 pub joined_cause : {A E : Type 0} (r : Result A E) (cs ds : List Call) → Cause r cs → AllContinue ds → Cause r (cs ++ ds)
 joined_cause r cs ds c d = grind (arith, all_go_on)
 
-err_cause : (A B : Type 0) {E F : Type 0} (e : E) (f : F) (cs : List Call) → Cause {A = A} {E = E} (Err e) cs → Cause {A = B} {E = F} (Err f) cs
+pub err_cause : (A B : Type 0) {E F : Type 0} (e : E) (f : F) (cs : List Call) → Cause {A = A} {E = E} (Err e) cs → Cause {A = B} {E = F} (Err f) cs
 err_cause A B e f cs c = grind arith
 
 pub sent_joined : (cs ds : List Call) → sent (cs ++ ds) ≡ sent ds ++ sent cs
@@ -31,33 +31,11 @@ module _ {W : Type 0} (writes : W → List ℕ → Result ℕ Error → W → Ty
   pub caused_none : {A E : Type 0} (x : A) (a : W) → Caused writes flushes {A = A} {E = E} (Ok x) [] a a
   caused_none x a = record { calls = []; did = refl; cause = tt; sends = refl }
 
-  -- A write took bytes.
-  pub caused_write : {A B E F : Type 0} (x : A) (y : B) (bs bytes : List ℕ) (n : ℕ) (a b d : W) → Caused writes flushes {A = A} {E = E} (Ok x) bs a b → writes b bytes (Ok n) d → 0 < n →
-      Caused writes flushes {A = B} {E = F} (Ok y) (bs ++ take n bytes) a d
-  caused_write x y bs bytes n a b d before wrote some =
-      record { calls = Write bytes (Ok n) ∷ before.calls; did = (b, before.did, wrote); cause = (some, before.cause); sends = ap (λ s. s ++ take n bytes) before.sends }
-
-  -- A write was interrupted.
-  pub caused_again : {A B E F : Type 0} (x : A) (y : B) (bs bytes : List ℕ) (e : Error) (a b d : W) → Caused writes flushes {A = A} {E = E} (Ok x) bs a b → writes b bytes (Err e) d → error_kind e ≡ Interrupted →
-      Caused writes flushes {A = B} {E = F} (Ok y) bs a d
-  caused_again x y bs bytes e a b d before wrote again =
-      record { calls = Write bytes (Err e) ∷ before.calls; did = (b, before.did, wrote); cause = (again, before.cause); sends = append-nil (sent before.calls) ∙ before.sends }
-
-  -- A write took none of bytes that aren't empty.
-  pub caused_nothing : {A B E F : Type 0} (x : A) (f : F) (bs bytes : List ℕ) (n : ℕ) (a b d : W) → Caused writes flushes {A = A} {E = E} (Ok x) bs a b → writes b bytes (Ok n) d → n ≡ 0 → 0 < length bytes →
-      Caused writes flushes {A = B} {E = F} (Err f) bs a d
-  caused_nothing x f bs bytes n a b d before wrote none some = record {
-    calls = Write bytes (Ok n) ∷ before.calls;
-    did = (b, before.did, wrote);
-    cause = ((none, some), before.cause);
-    sends = ap (λ t. sent before.calls ++ t) (take_none n bytes none) ∙ append-nil (sent before.calls) ∙ before.sends;
-  }
-
-  -- A write answered an error.
-  pub caused_error : {A B E F : Type 0} (x : A) (f : F) (bs bytes : List ℕ) (e : Error) (a b d : W) → Caused writes flushes {A = A} {E = E} (Ok x) bs a b → writes b bytes (Err e) d →
-      Caused writes flushes {A = B} {E = F} (Err f) bs a d
-  caused_error x f bs bytes e a b d before wrote =
-      record { calls = Write bytes (Err e) ∷ before.calls; did = (b, before.did, wrote); cause = (tt, before.cause); sends = append-nil (sent before.calls) ∙ before.sends }
+  -- One more call.
+  abbrev pub caused_more : {A B E F : Type 0} (x : A) (r : Result B F) (bs all : List ℕ) (c : Call) (a b d : W) → Caused writes flushes {A = A} {E = E} (Ok x) bs a b → Does writes flushes c b d →
+      ((cs : List Call) → AllContinue cs → Cause r (c ∷ cs)) → bs ++ sent_by c ≡ all → Caused writes flushes r all a d
+  caused_more x r bs all c a b d before did cause sends =
+      record { calls = c ∷ before.calls; did = (b, before.did, did); cause = cause before.calls before.cause; sends = ap (λ s. s ++ sent_by c) before.sends ∙ sends }
 
   abbrev pub caused_join : {A B E F : Type 0} (x : A) (r : Result B F) (bs cs : List ℕ) (a b d : W) → Caused writes flushes {A = A} {E = E} (Ok x) bs a b → Caused writes flushes r cs b d →
       Caused writes flushes r (bs ++ cs) a d
@@ -68,15 +46,10 @@ module _ {W : Type 0} (writes : W → List ℕ → Result ℕ Error → W → Ty
     sends = rw (sent_joined, before.sends, after.sends) refl;
   }
 
-  abbrev pub caused_ok : {A B E F : Type 0} (x : A) (y : B) (bs : List ℕ) (a b : W) → Caused writes flushes {A = A} {E = E} (Ok x) bs a b → Caused writes flushes {A = B} {E = F} (Ok y) bs a b
-  caused_ok x y bs a b h = record { calls = h.calls; did = h.did; cause = h.cause; sends = h.sends }
-
-  pub caused_err : {A B E F : Type 0} (e : E) (f : F) (bs : List ℕ) (a b : W) → Caused writes flushes {A = A} {E = E} (Err e) bs a b → Caused writes flushes {A = B} {E = F} (Err f) bs a b
-  caused_err {A} {B} e f bs a b h = record { calls = h.calls; did = h.did; cause = err_cause A B e f h.calls h.cause; sends = h.sends }
-
-  -- the same calls, where their bytes are known by another name
-  pub caused_as : {A E : Type 0} (r : Result A E) (bs cs : List ℕ) (a b : W) → bs ≡ cs → Caused writes flushes r bs a b → Caused writes flushes r cs a b
-  caused_as r bs cs a b same h = subst (λ s. Caused writes flushes r s a b) same h
+  -- the same calls, for another answer and where their bytes are known by another name
+  abbrev pub caused_as : {A B E F : Type 0} (q : Result A E) (r : Result B F) (bs cs : List ℕ) (a b : W) → bs ≡ cs → ((calls : List Call) → Cause q calls → Cause r calls) →
+      Caused writes flushes q bs a b → Caused writes flushes r cs a b
+  caused_as q r bs cs a b same cause h = record { calls = h.calls; did = h.did; cause = cause h.calls h.cause; sends = h.sends ∙ same }
 
   -- Nothing is sent, and all is held.
   pub forwards_none : {A E : Type 0} (x : A) (taken held held' : List ℕ) (a : W) → held' ≡ held ++ taken → Forwards writes flushes {A = A} {E = E} (Ok x) taken held held' a a
@@ -92,35 +65,28 @@ module _ {W : Type 0} (writes : W → List ℕ → Result ℕ Error → W → Ty
       Forwards writes flushes {A = B} {E = F} (Ok y) taken held held'' a b
   forwards_more x y taken held held' held'' a b is h = record {
     bytes = h.bytes;
-    caused = caused_ok x y h.bytes a b h.caused;
+    caused = caused_as (Ok x) (Ok y) h.bytes h.bytes a b refl (λ _ on. on) h.caused;
     order = rw (is, ← append_assoc, h.order, append-nil) refl;
   }
 
-  abbrev pub forwards_ok : {A B E F : Type 0} (x : A) (y : B) (taken held held' : List ℕ) (a b : W) → Forwards writes flushes {A = A} {E = E} (Ok x) taken held held' a b →
-      Forwards writes flushes {A = B} {E = F} (Ok y) taken held held' a b
-  forwards_ok x y taken held held' a b h = record { bytes = h.bytes; caused = caused_ok x y h.bytes a b h.caused; order = h.order }
-
-  pub forwards_err : {A B E F : Type 0} (e : E) (f : F) (taken held held' : List ℕ) (a b : W) → Forwards writes flushes {A = A} {E = E} (Err e) taken held held' a b →
-      Forwards writes flushes {A = B} {E = F} (Err f) taken held held' a b
-  forwards_err e f taken held held' a b h = record { bytes = h.bytes; caused = caused_err e f h.bytes a b h.caused; order = h.order }
+  -- for another answer
+  abbrev pub forwards_as : {A B E F : Type 0} (q : Result A E) (r : Result B F) (taken held held' : List ℕ) (a b : W) → ((calls : List Call) → Cause q calls → Cause r calls) →
+      Forwards writes flushes q taken held held' a b → Forwards writes flushes r taken held held' a b
+  forwards_as q r taken held held' a b cause h = record { bytes = h.bytes; caused = caused_as q r h.bytes h.bytes a b refl cause h.caused; order = h.order }
 
   -- Then the writer is flushed.
   pub flushes_out : {A B E F : Type 0} (x : A) (y : B) (held held' : List ℕ) (a b d : W) → held' ≡ [] → Forwards writes flushes {A = A} {E = E} (Ok x) [] held held' a b → flushes b (Ok tt) d →
       FlushesOut writes flushes {A = B} {E = F} (Ok y) held held' a d
-  flushes_out {A} {B} {E} {F} x y held held' a b d none h flushed =
-      let c = h.caused in
-      let calls : Caused writes flushes {A = B} {E = F} (Ok y) h.bytes a d = record { calls = Flush (Ok tt) ∷ c.calls; did = (b, c.did, flushed); cause = (tt, c.cause); sends = append-nil (sent c.calls) ∙ c.sends } in
-      (record { bytes = h.bytes; caused = calls; order = h.order }, (none, tt))
+  flushes_out x y held held' a b d none h flushed =
+      (record { bytes = h.bytes; caused = caused_more x (Ok y) _ _ (Flush (Ok tt)) a b d h.caused flushed (λ cs on. (tt, on)) (append-nil h.bytes); order = h.order }, (none, tt))
 
   pub flush_fails : {A B E F : Type 0} (x : A) (f : F) (e : Error) (held held' : List ℕ) (a b d : W) → Forwards writes flushes {A = A} {E = E} (Ok x) [] held held' a b → flushes b (Err e) d →
       FlushesOut writes flushes {A = B} {E = F} (Err f) held held' a d
-  flush_fails {A} {B} {E} {F} x f e held held' a b d h flushed =
-      let c = h.caused in
-      let calls : Caused writes flushes {A = B} {E = F} (Err f) h.bytes a d = record { calls = Flush (Err e) ∷ c.calls; did = (b, c.did, flushed); cause = (tt, c.cause); sends = append-nil (sent c.calls) ∙ c.sends } in
-      (record { bytes = h.bytes; caused = calls; order = h.order }, tt)
+  flush_fails x f e held held' a b d h flushed =
+      (record { bytes = h.bytes; caused = caused_more x (Err f) _ _ (Flush (Err e)) a b d h.caused flushed (λ cs on. (tt, on)) (append-nil h.bytes); order = h.order }, tt)
 
   pub flushes_ok : {A B E F : Type 0} (x : A) (y : B) (held held' : List ℕ) (a b : W) → FlushesOut writes flushes {A = A} {E = E} (Ok x) held held' a b → FlushesOut writes flushes {A = B} {E = F} (Ok y) held held' a b
-  flushes_ok x y held held' a b h = (forwards_ok x y [] held held' a b h.0, h.1)
+  flushes_ok x y held held' a b h = (forwards_as (Ok x) (Ok y) [] held held' a b (λ _ on. on) h.0, h.1)
 
   -- one after the other
   pub forwards_join : {A B E F : Type 0} (x : A) (r : Result B F) (t u h0 h1 h2 : List ℕ) (a b d : W) → Forwards writes flushes {A = A} {E = E} (Ok x) t h0 h1 a b → Forwards writes flushes r u h1 h2 b d →

@@ -1,5 +1,5 @@
 -- What the bytes that a text begins with say of it.
-use Rattle.std.proofs.Common.{◌≡◌, ℕ, suc, ◌+◌, ◌*◌, ◌<◌, ◌≤◌, List, [], ◌∷◌, ◌++◌, length, refl, arith, Some, None, true, false, ap, ◌∙◌, sym, append_assoc, length-append}
+use Rattle.std.proofs.Common.{zero-add, add-zero, add_assoc, ◌≡◌, ℕ, suc, ◌+◌, ◌*◌, ◌<◌, ◌≤◌, List, [], ◌∷◌, ◌++◌, length, refl, arith, Some, None, true, false, ap, ◌∙◌, sym, append_assoc, length-append}
 use Rattle.x86_cli.specs.declared.outside.source.Got.{Got}
 use Rattle.x86_cli.specs.Outside.Stop.{Failed}
 use Rattle.x86_cli.specs.Text.{is_blank, value_of, text_at}
@@ -10,13 +10,7 @@ use Rattle.x86_cli.proofs.TextLemmas.Read.{more_new, more_half, called-called, c
 use Rattle.x86_cli.proofs.TextLemmas.Fill.{more_after}
 
 pub begins_none : (most : ℕ) → Begins most [] []
-begins_none most = record {
-  called = λ p r. tt;
-  rest = λ p r xs s.
-      let room : 0 + r ≡ r = omega arith in
-      let at : p ≡ p + 0 = omega arith in
-      ap (λ n. text_at p n xs s) room ∙ ap (λ q. text_at q r xs s) at;
-}
+begins_none most = record { called = λ p r. tt; rest = λ p r xs s. simp (zero-add, add-zero) }
 
 module _ (most : ℕ) (bs vs : List ℕ) (b : Begins most bs vs) (few : length vs < most) where
   -- a text so begun needs more where that of the bytes after it does
@@ -30,8 +24,7 @@ module _ (most : ℕ) (bs vs : List ℕ) (b : Begins most bs vs) (few : length v
         rw room (called-called (NeedsMore most) (text_at p (length bs + suc r)) bs (x ∷ []) None (b.called p (suc r)) (needs p (suc r) [] (more_new (p + length bs) (suc r)), tt));
     rest = λ p r xs s.
         let room : length (bs ++ x ∷ []) + r ≡ length bs + suc r = simp length-append (omega arith) in
-        let after : p + length bs + 1 ≡ p + length (bs ++ x ∷ []) = simp length-append (omega arith) in
-        rw (room, sym after) (simp append_assoc (b.rest p (suc r) (x ∷ xs) s ∙ ap (with_bytes vs) (text-blank (p + length bs) r x xs s blank)));
+        rw room (simp (append_assoc, b.rest, text-blank (p + length bs) r x xs s blank, length-append, add_assoc));
   }
 
   pub begins_pair : (x y v w : ℕ) → is_blank x ≡ false → value_of x ≡ Some v → value_of y ≡ Some w →
@@ -45,8 +38,7 @@ module _ (most : ℕ) (bs vs : List ℕ) (b : Begins most bs vs) (few : length v
         ));
     rest = λ p r xs s.
         let room : length (bs ++ x ∷ y ∷ []) + r ≡ length bs + suc (suc r) = simp length-append (omega arith) in
-        let after : p + length bs + 2 ≡ p + length (bs ++ x ∷ y ∷ []) = simp length-append (omega arith) in
-        rw (room, sym after) (simp append_assoc (b.rest p (suc (suc r)) (x ∷ y ∷ xs) s ∙ ap (with_bytes vs) (text-pair (p + length bs) r x y v w xs s blank high low)));
+        rw room (simp (append_assoc, b.rest, text-pair (p + length bs) r x y v w xs s blank high low, length-append, add_assoc));
   }
 
 module _ {S : Type 0} (gives : S → Got → S → Type 0) where

@@ -42,8 +42,7 @@ module _ {S : Type 0} (gives : S → Got → S → Type 0) (Holds : Text → Typ
       bytes = so_far.bytes ++ read.bytes;
       source_calls = joined read.bytes None d (rw read.continues at read.source_calls);
       called = also read.bytes None (rw read.continues at read.called);
-      rest = λ xs stop.
-          simp append_assoc (so_far.rest (read.bytes ++ xs) stop ∙ ap (with_bytes w) (read.reports xs stop (rw read.continues tt)));
+      rest = λ xs stop. grind (arith, append_assoc {A = ℕ}, so_far.rest (read.bytes ++ xs) stop, read.continues, read.reports xs stop);
     }
 
     pub stopped : (e : Ending) (p' r' p'' r'' : ℕ) (d : S) → Reads gives (Stopped e) p r p' r' b d → Fills gives Holds old (Some e) w p'' r'' a d
@@ -53,8 +52,7 @@ module _ {S : Type 0} (gives : S → Got → S → Type 0) (Holds : Text → Typ
       source_calls = joined read.bytes read.stop d read.source_calls;
       called = also read.bytes read.stop read.called;
       continues = tt;
-      rest = λ xs stop may.
-          rw append_assoc (so_far.rest (read.bytes ++ xs) stop ∙ ap (with_bytes w) (read.reports xs stop may) ∙ simp append-nil);
+      rest = λ xs stop may. grind (arith, append_assoc {A = ℕ}, append-nil {A = ℕ}, so_far.rest (read.bytes ++ xs) stop, read.reports xs stop may);
     }
 
   -- the window is full
@@ -64,19 +62,15 @@ module _ {S : Type 0} (gives : S → Got → S → Type 0) (Holds : Text → Typ
   -- one taking after another
   pub fills_fills : (old : List ℕ → Stop → Text) (w : List ℕ) (p r : ℕ) (ended : Option Ending) (w' : List ℕ) (p' r' : ℕ) (a b d : S) →
       Fills gives Holds old None w p r a b → Fills gives Holds (rest_of None w p r) ended w' p' r' b d → Fills gives Holds old ended w' p' r' a d
-  fills_fills old w p r ended w' p' r' a b d f g =
-      let source_calls : SourceCalls gives f.bytes None a b = rw f.continues at f.source_calls in
-      let called : CalledWhere Holds old f.bytes None = rw f.continues at f.called in
-      let open_yet : (xs : List ℕ) (s : Stop) → MayCome f.stop xs s = λ xs s. rw f.continues tt in
-      record {
-        bytes = f.bytes ++ g.bytes;
-        stop = g.stop;
-        source_calls = source_calls-source_calls gives f.bytes g.bytes g.stop a b d source_calls g.source_calls;
-        called = called-called Holds old f.bytes g.bytes g.stop called
-            (called-same Holds (rest_of None w p r) (λ xs s. old (f.bytes ++ xs) s) g.bytes g.stop (λ xs. f.rest xs Failed (open_yet xs Failed)) g.called);
-        continues = g.continues;
-        rest = λ xs s may. rw append_assoc (f.rest (g.bytes ++ xs) s (open_yet (g.bytes ++ xs) s) ∙ g.rest xs s may);
-      }
+  fills_fills old w p r ended w' p' r' a b d f g = record {
+    bytes = f.bytes ++ g.bytes;
+    stop = g.stop;
+    source_calls = source_calls-source_calls gives f.bytes g.bytes g.stop a b d (rw f.continues at f.source_calls) g.source_calls;
+    called = called-called Holds old f.bytes g.bytes g.stop (rw f.continues at f.called)
+        (called-same Holds (rest_of None w p r) (λ xs s. old (f.bytes ++ xs) s) g.bytes g.stop (λ xs. f.rest xs Failed (rw f.continues tt)) g.called);
+    continues = g.continues;
+    rest = λ xs s may. grind (arith, append_assoc {A = ℕ}, f.rest (g.bytes ++ xs) s, f.continues, g.rest xs s may);
+  }
 
 module _ {S : Type 0} (gives : S → Got → S → Type 0) (old : List ℕ → Stop → Text) (image : List ℕ) (p r : ℕ) (a b : S) (so_far : Filling gives IsOpenText old image p r a b)
     (k : ℕ) (ended : Option Ending) (w : List ℕ) (p' r' : ℕ) (d : S) (fills : Fills gives (NeedsMore k) (rest_of None [] p r) ended w p' r' b d) where
@@ -92,15 +86,12 @@ module _ {S : Type 0} (gives : S → Got → S → Type 0) (old : List ℕ → S
   -- a window that was filled, at the end of an image
   pub filling_window : ended ≡ None → Filling gives IsOpenText old (image ++ w) p' r' a d
   filling_window open_yet =
-      let none : fills.stop ≡ None = (let P : Option Ending → Type 0 = λ o. Open o fills.stop in subst P open_yet fills.continues) in
+      let none : fills.stop ≡ None = rw open_yet at fills.continues in
       record {
         bytes = so_far.bytes ++ fills.bytes;
-        source_calls = let P : Option Stop → Type 0 = λ o. SourceCalls gives fills.bytes o b d in source_calls-source_calls gives so_far.bytes fills.bytes None a b d so_far.source_calls (subst P none fills.source_calls);
-        called = let P : Option Stop → Type 0 = λ o. CalledWhere IsOpenText old (so_far.bytes ++ fills.bytes) o in subst P none opened;
-        rest = λ xs s.
-            let t : Text = text_at p' r' xs s in
-            let P : Option Ending → Type 0 = λ o. old ((so_far.bytes ++ fills.bytes) ++ xs) s ≡ with_bytes image (rest_of o w p' r' xs s) in
-            subst P open_yet (window_rest xs s (rw none tt)) ∙ ap (λ i. record { image = i; ending = t.ending }) (sym (append_assoc image w t.image));
+        source_calls = source_calls-source_calls gives so_far.bytes fills.bytes None a b d so_far.source_calls (rw none at fills.source_calls);
+        called = rw none at opened;
+        rest = λ xs s. rw (append_assoc image w (text_at p' r' xs s).image) (rw open_yet at (window_rest xs s (rw none tt)));
       }
 
   pub stopped_window : (e : Ending) (p'' r'' : ℕ) → ended ≡ Some e → Fills gives IsOpenText old (Some e) (image ++ w) p'' r'' a d
@@ -110,7 +101,5 @@ module _ {S : Type 0} (gives : S → Got → S → Type 0) (old : List ℕ → S
     source_calls = source_calls-source_calls gives so_far.bytes fills.bytes fills.stop a b d so_far.source_calls fills.source_calls;
     called = opened;
     continues = tt;
-    rest = λ xs s may.
-        let P : Option Ending → Type 0 = λ o. old ((so_far.bytes ++ fills.bytes) ++ xs) s ≡ with_bytes image (rest_of o w p' r' xs s) in
-        subst P is (window_rest xs s may);
+    rest = λ xs s may. rw is at (window_rest xs s may);
   }

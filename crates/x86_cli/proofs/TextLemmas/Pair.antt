@@ -1,24 +1,18 @@
 -- Sequences of blanks and pairs.
-use Rattle.std.proofs.Common.{◌≡◌, ℕ, zero, suc, ◌+◌, ◌*◌, ◌<◌, List, [], ◌∷◌, ◌++◌, length, take, refl, arith, Option, Some, None, Bool, true, false, ap, ◌∙◌, sym, take-take}
+use Rattle.std.proofs.Common.{if◌then◌else◌, ◌≡◌, ℕ, zero, suc, ◌+◌, ◌*◌, ◌<◌, List, [], ◌∷◌, ◌++◌, length, take, refl, arith, Option, Some, None, Bool, true, false, ap, ◌∙◌, sym, take-take}
 use Rattle.std.specs.List.{flat_map}
 use Rattle.std.specs.Option.{option_map}
+use Rattle.std.specs.Prelude.{is_some, ◌||◌}
 use Rattle.x86_cli.specs.Text.{is_blank, value_of, bad_of, image_of, ends_in_half}
 use Rattle.x86_cli.specs.Text.Pairs.{Item, blank, pair, bytes_of, values_of, AreItems, IsHalf, IsSequence, is_half, SequencesAreSound, BadIsFirst}
 use Rattle.x86_cli.proofs.TextLemmas.Text.{value-blank, image-blank, bad-blank, half-blank}
 
-by_bool : {G : Type 0} (b : Bool) → (b ≡ true → G) → (b ≡ false → G) → G
-by_bool true f g = f refl
-by_bool false f g = g refl
-
-by_option : {G : Type 0} (o : Option ℕ) → (o ≡ None → G) → ((v : ℕ) → o ≡ Some v → G) → G
-by_option None f g = f refl
-by_option (Some v) f g = g v refl
-
-unmapped : (f : ℕ → ℕ) (o : Option ℕ) → option_map f o ≡ None → o ≡ None
-unmapped f o e = grind arith
-
 digit_not_blank : (b v : ℕ) → value_of b ≡ Some v → is_blank b ≡ false
-digit_not_blank b v e = by_bool (is_blank b) (λ h. let n = value-blank b h in cc) (λ h. h)
+digit_not_blank b v e = grind (arith, value-blank)
+
+-- the first bad byte of two or more, by those after the first and after the second
+abbrev bad_by : Bool → Option ℕ → Option ℕ → Option ℕ → Option ℕ → Option ℕ
+bad_by skips x y p q = if skips then option_map (λ n. 1 + n) p else (if is_some x then (if is_some y then option_map (λ n. 2 + n) q else Some 1) else Some 0)
 
 bad-pair : (a b v w : ℕ) (s : List ℕ) → value_of a ≡ Some v → value_of b ≡ Some w → bad_of (a ∷ b ∷ s) ≡ option_map (λ n. 2 + n) (bad_of s)
 unfolding bad_of
@@ -38,16 +32,13 @@ items_bad : (items : List Item) (half : List ℕ) → AreItems items → IsHalf 
     (bad_of (flat_map bytes_of items ++ half) ≡ None) × (image_of (flat_map bytes_of items ++ half) ≡ flat_map values_of items)
     × (ends_in_half (flat_map bytes_of items ++ half) ≡ is_half half)
 unfolding image_of ends_in_half bad_of
-items_bad [] [] each ok = (refl, refl, refl)
-items_bad [] (d ∷ []) each ok = let f = digit_not_blank d ok.0 ok.1 in grind arith
-items_bad [] (d ∷ e ∷ ds) each ok = absurd ok
+items_bad [] half each ok = grind (arith, digit_not_blank)
 items_bad (blank b ∷ items) half each ok =
     let h = items_bad items half each.1 ok in
     grind (arith, bad-blank, image-blank, half-blank, value-blank)
 items_bad (pair a b ∷ items) half each ok =
     let h = items_bad items half each.2 ok in
-    let f = digit_not_blank a each.0.0 each.0.1 in
-    grind arith
+    grind (arith, digit_not_blank)
 
 sequence_bad : (bytes image half : List ℕ) → IsSequence bytes image half → (bad_of bytes ≡ None) × (image_of bytes ≡ image) × (ends_in_half bytes ≡ is_half half)
 sequence_bad bytes image half sequence =
@@ -101,13 +92,13 @@ sequence_of : (bytes : List ℕ) → bad_of bytes ≡ None → Found bytes
 unfolding bad_of
 sequence_of [] e = from_none
 sequence_of (a ∷ []) e =
-    by_bool (is_blank a) (λ h. from_blank a [] h from_none)
-    (λ h. by_option (value_of a) (λ n. let f = rw (h, n) at e in cc) (λ v d. from_half a v d))
+    let f = from_blank a [] in
+    let g = from_half a in
+    grind (arith, from_none)
 sequence_of (a ∷ b ∷ s) e =
-    by_bool (is_blank a) (λ h. from_blank a (b ∷ s) h (sequence_of (b ∷ s) (unmapped (λ n. 1 + n) (bad_of (b ∷ s)) (rw h at e))))
-    (λ h. by_option (value_of a) (λ n. let f = rw (h, n) at e in cc)
-    (λ v d. by_option (value_of b) (λ n. let f = rw (h, d, n) at e in cc)
-    (λ w f. from_pair a b v w s d f (sequence_of s (unmapped (λ n. 2 + n) (bad_of s) (rw (h, d, f) at e))))))
+    let f = sequence_of (b ∷ s) in
+    let g = sequence_of s in
+    grind (arith, from_blank, from_pair)
 
 pub sequences_sound : SequencesAreSound
 unfolding Found
@@ -130,6 +121,13 @@ first_pair a b v w s m d e f = grind (arith, bad-pair, image-pair)
 mapped : (k : ℕ) (o : Option ℕ) (n m : ℕ) → option_map (λ x. k + x) o ≡ Some n → n ≡ k + m → o ≡ Some m
 mapped k o n m e is = grind arith
 
+first_further : (skips : Bool) (x y : Option ℕ) (a b : ℕ) (s : List ℕ) (n : ℕ) → is_blank a ≡ skips → value_of a ≡ x → value_of b ≡ y →
+    bad_by skips x y (bad_of (b ∷ s)) (bad_of s) ≡ Some (suc (suc n)) → (bad_of (b ∷ s) ≡ Some (suc n) → First (b ∷ s) (suc n)) → (bad_of s ≡ Some n → First s n) → First (a ∷ b ∷ s) (suc (suc n))
+first_further true x y a b s n h d k e f g = first_blank a (b ∷ s) (suc n) h (f (mapped 1 _ _ (suc n) e (omega arith)))
+first_further false (Some v) (Some w) a b s n h d k e f g = first_pair a b v w s n d k (g (mapped 2 _ _ n e (omega arith)))
+first_further false None y a b s n h d k e f g = cc
+first_further false x None a b s n h d k e f g = cc
+
 first_bad : (bytes : List ℕ) (n : ℕ) → bad_of bytes ≡ Some n → First bytes n
 unfolding bad_of image_of
 first_bad [] n e = cc
@@ -137,26 +135,24 @@ first_bad (a ∷ []) n e = grind arith
 first_bad (a ∷ b ∷ s) zero e = grind arith
 first_bad (a ∷ b ∷ s) (suc zero) e = let f = first_bad (b ∷ s) 0 in grind arith
 first_bad (a ∷ b ∷ s) (suc (suc n)) e =
-    by_bool (is_blank a) (λ h. first_blank a (b ∷ s) (suc n) h (first_bad (b ∷ s) (suc n) (mapped 1 _ _ (suc n) (rw h at e) (omega arith))))
-    (λ h. by_option (value_of a) (λ d. let f = rw (h, d) at e in cc)
-    (λ v d. by_option (value_of b) (λ g. let f = rw (h, d, g) at e in cc)
-    (λ w g. first_pair a b v w s n d g (first_bad s n (mapped 2 _ _ n (rw (h, d, g) at e) (omega arith))))))
+    first_further (is_blank a) (value_of a) (value_of b) a b s n refl refl refl e (first_bad (b ∷ s) (suc n)) (first_bad s n)
 
 -- A beginning of bytes without a bad byte has none.
+good_one : (skips : Bool) (x p q : Option ℕ) → (if skips then p else (if is_some x then q else Some zero)) ≡ None → (if skips || is_some x then None else Some zero) ≡ None
+good_one skips x p q e = grind arith
+
+good_further : (skips : Bool) (x y p q p' q' : Option ℕ) → bad_by skips x y p q ≡ None → (p ≡ None → p' ≡ None) → (q ≡ None → q' ≡ None) → bad_by skips x y p' q' ≡ None
+good_further skips x y p q p' q' e f g = grind arith
+
 beginnings_good : (m : ℕ) (bytes : List ℕ) → bad_of bytes ≡ None → bad_of (take m bytes) ≡ None
 unfolding bad_of
 beginnings_good zero bytes e = refl
 beginnings_good (suc m) [] e = refl
 beginnings_good (suc zero) (a ∷ []) e = e
 beginnings_good (suc (suc m)) (a ∷ []) e = e
-beginnings_good (suc zero) (a ∷ b ∷ s) e =
-    by_bool (is_blank a) (λ h. rw h refl) (λ h. by_option (value_of a) (λ n. let f = rw (h, n) at e in cc) (λ v d. rw (h, d) refl))
+beginnings_good (suc zero) (a ∷ b ∷ s) e = good_one (is_blank a) (value_of a) _ _ e
 beginnings_good (suc (suc m)) (a ∷ b ∷ s) e =
-    by_bool (is_blank a)
-    (λ h. bad-blank a (take (suc m) (b ∷ s)) h ∙ ap (option_map (λ n. 1 + n)) (beginnings_good (suc m) (b ∷ s) (unmapped (λ n. 1 + n) (bad_of (b ∷ s)) (rw h at e))))
-    (λ h. by_option (value_of a) (λ n. let f = rw (h, n) at e in cc)
-    (λ v d. by_option (value_of b) (λ n. let f = rw (h, d, n) at e in cc)
-    (λ w f. bad-pair a b v w (take m s) d f ∙ ap (option_map (λ n. 2 + n)) (beginnings_good m s (unmapped (λ n. 2 + n) (bad_of s) (rw (h, d, f) at e))))))
+    good_further (is_blank a) (value_of a) (value_of b) _ _ _ _ e (beginnings_good (suc m) (b ∷ s)) (beginnings_good m s)
 
 pub bad_is_first : BadIsFirst
 bad_is_first bytes n e =

@@ -1,13 +1,14 @@
 -- What a reader's steps say of the whole text.
-use Rattle.std.proofs.Common.{◌≡◌, ℕ, suc, zero, ◌+◌, ◌*◌, ◌<◌, List, [], ◌∷◌, ◌++◌, refl, arith, Option, Some, None, true, false, ◌∙◌, subst, sym, append_assoc}
+use Rattle.std.proofs.Common.{◌-◌, ◌≡◌, ℕ, suc, zero, ◌+◌, ◌*◌, ◌<◌, List, [], ◌∷◌, ◌++◌, refl, arith, Option, Some, None, true, false, ◌∙◌, subst, sym, append_assoc}
 use Rattle.x86_cli.specs.declared.outside.source.Got.{Got}
 use Rattle.x86_cli.specs.declared.outside.source.Got.TheVariants as got
+use Rattle.x86_cli.specs.declared.text.reader.Ending.{Ending}
 use Rattle.x86_cli.specs.declared.text.reader.Ending.TheVariants.{Clean, Bad, Large, Fault}
 use Rattle.x86_cli.specs.Outside.Stop.{Stop, End, Failed}
 use Rattle.x86_cli.specs.declared.text.reader.Piece.{Piece}
 use Rattle.x86_cli.specs.declared.text.reader.Piece.TheVariants.{Byte, Stopped}
 use Rattle.x86_cli.specs.Text.{Text, is_blank, value_of, text_at}
-use Rattle.x86_cli.specs.Text.Reading.{NeedsMore, CalledWhere, SourceCalls, MayCome, HasNoStop, with_piece, Reads}
+use Rattle.x86_cli.specs.Text.Reading.{ended, NeedsMore, CalledWhere, SourceCalls, MayCome, HasNoStop, with_piece, Reads}
 use Rattle.x86_cli.proofs.TextLemmas.Text.{text-end, text-failed, text-large, text-blank, text-bad, text-half, text-half_failed, text-half_large, text-half_bad, text-pair}
 
 -- what held at calls, one after the other
@@ -56,9 +57,7 @@ module _ {S : Type 0} (gives : S → Got → S → Type 0) where
     source_calls = source_calls-source_calls before.bytes (x ∷ []) None a b d before.source_calls (d, e, refl);
     called = called-called (NeedsMore 1) (text_at p r) before.bytes (x ∷ []) None before.called
         (called-same (NeedsMore 1) (text_at q s) (λ xs s. text_at p r (before.bytes ++ xs) s) (x ∷ []) None (λ xs. before.same xs Failed) (more_new q s, tt));
-    same = λ xs stop.
-        let room : s ≡ suc s' = omega arith in
-        rw append_assoc (before.same (x ∷ xs) stop ∙ rw (room, eq) (text-blank q s' x xs stop blank));
+    same = λ xs stop. grind (arith, append_assoc {A = ℕ}, before.same (x ∷ xs) stop, text-blank q s' x xs stop);
   }
 
   -- what was read after a skip was read
@@ -81,26 +80,15 @@ module _ {S : Type 0} (gives : S → Got → S → Type 0) where
   pub reads_failed : (p r : ℕ) (a b : S) → gives a got.Failed b → Reads gives (Stopped Fault) p r p r a b
   reads_failed p r a b e = record { bytes = []; stop = Some Failed; source_calls = e; called = more_new p r; continues = tt; reports = λ xs stop may. rw (may.0, may.1) (text-failed p r) }
 
+  -- at a byte
+  stopped_at : (e : Ending) (p r x : ℕ) (a b : S) → gives a (got.Byte x) b → ((xs : List ℕ) (stop : Stop) → text_at p r (x ∷ xs) stop ≡ ended e) → Reads gives (Stopped e) p r p r a b
+  stopped_at e p r x a b call is = record { bytes = x ∷ []; stop = None; source_calls = (b, call, refl); called = (more_new p r, tt); continues = tt; reports = λ xs stop may. is xs stop }
+
   pub reads_large : (p r x : ℕ) (a b : S) → r ≡ 0 → gives a (got.Byte x) b → Reads gives (Stopped Large) p r p r a b
-  reads_large p r x a b none e = record {
-    bytes = x ∷ [];
-    stop = None;
-    source_calls = (b, e, refl);
-    called = (more_new p r, tt);
-    continues = tt;
-    reports = λ xs stop may. rw none (text-large p x xs stop);
-  }
+  reads_large p r x a b none e = stopped_at Large p r x a b e (λ xs stop. rw none (text-large p x xs stop))
 
   pub reads_bad : (p r x : ℕ) (a b : S) → 0 < r → is_blank x ≡ false → value_of x ≡ None → gives a (got.Byte x) b → Reads gives (Stopped (Bad p)) p r p r a b
-  reads_bad p zero x a b some blank digit e = absurd (omega arith)
-  reads_bad p (suc r) x a b some blank digit e = record {
-    bytes = x ∷ [];
-    stop = None;
-    source_calls = (b, e, refl);
-    called = (more_new p (suc r), tt);
-    continues = tt;
-    reports = λ xs stop may. text-bad p r x xs stop blank digit;
-  }
+  reads_bad p r x a b some blank digit e = stopped_at (Bad p) p r x a b e (λ xs stop. grind (arith, text-bad p (r - 1) x xs stop blank digit))
 
   -- the ends at its second byte, after the digit x
 
@@ -123,33 +111,26 @@ module _ {S : Type 0} (gives : S → Got → S → Type 0) where
 
   pub half_end : (p r q s x v : ℕ) (a b d : S) → AfterOpcode p r q s x v a b → gives b got.End d → Reads gives (Stopped (Bad q)) p r q s a d
   half_end p r q s x v a b d following e =
-      let room : r ≡ suc s = omega (arith, following.room) in
       after_digit (Stopped (Bad q)) p r q s q s x v a b d [] (Some End) following e (half_called p r q s x v a b following) tt
-      (λ xs stop may. rw (may.0, may.1, room, following.position) (text-half p s x v following.blank following.digit))
+      (λ xs stop may. grind (arith, following.room, following.position, text-half p s x v following.blank following.digit))
 
   pub half_failed : (p r q s x v : ℕ) (a b d : S) → AfterOpcode p r q s x v a b → gives b got.Failed d → Reads gives (Stopped Fault) p r q s a d
   half_failed p r q s x v a b d following e =
-      let room : r ≡ suc s = omega (arith, following.room) in
       after_digit (Stopped Fault) p r q s q s x v a b d [] (Some Failed) following e (half_called p r q s x v a b following) tt
-      (λ xs stop may. rw (may.0, may.1, room) (text-half_failed p s x v following.blank following.digit))
+      (λ xs stop may. grind (arith, following.room, text-half_failed p s x v following.blank following.digit))
 
   pub half_large : (p r q s x v y : ℕ) (a b d : S) → AfterOpcode p r q s x v a b → s ≡ 0 → gives b (got.Byte y) d → Reads gives (Stopped Large) p r q s a d
   half_large p r q s x v y a b d following none e =
-      let room : r ≡ 1 = omega (arith, following.room) in
       after_digit (Stopped Large) p r q s q s x v a b d (y ∷ []) None following (d, e, refl) (half_called p r q s x v a b following, tt) tt
-      (λ xs stop may. rw room (text-half_large p x y v xs stop following.blank following.digit))
+      (λ xs stop may. grind (arith, following.room, text-half_large p x y v xs stop following.blank following.digit))
 
   pub half_bad : (p r q s x v y : ℕ) (a b d : S) → AfterOpcode p r q s x v a b → 0 < s → gives b (got.Byte y) d → value_of y ≡ None → Reads gives (Stopped (Bad q)) p r q s a d
-  half_bad p r q zero x v y a b d following some e digit = absurd (omega arith)
-  half_bad p r q (suc s) x v y a b d following some e digit =
-      let room : r ≡ suc (suc s) = omega (arith, following.room) in
-      after_digit (Stopped (Bad q)) p r q (suc s) q (suc s) x v a b d (y ∷ []) None following (d, e, refl) (half_called p r q (suc s) x v a b following, tt) tt
-      (λ xs stop may. rw (room, following.position) (text-half_bad p s x y v xs stop following.blank following.digit digit))
+  half_bad p r q s x v y a b d following some e digit =
+      after_digit (Stopped (Bad q)) p r q s q s x v a b d (y ∷ []) None following (d, e, refl) (half_called p r q s x v a b following, tt) tt
+      (λ xs stop may. grind (arith, following.room, following.position, text-half_bad p (s - 1) x y v xs stop following.blank following.digit digit))
 
   pub half_pair : (p r q s q' s' x v y w : ℕ) (a b d : S) → AfterOpcode p r q s x v a b → gives b (got.Byte y) d → value_of y ≡ Some w →
       q' ≡ q + 1 → s' + 1 ≡ s → Reads gives (Byte (16 * v + w)) p r q' s' a d
   half_pair p r q s q' s' x v y w a b d following e digit eq es =
-      let room : r ≡ suc (suc s') = omega (arith, following.room) in
-      let position : q' ≡ p + 2 = omega (arith, following.position) in
       after_digit (Byte (16 * v + w)) p r q s q' s' x v a b d (y ∷ []) None following (d, e, refl) (half_called p r q s x v a b following, tt) refl
-      (λ xs stop may. rw (room, position) (text-pair p s' x y v w xs stop following.blank following.digit digit))
+      (λ xs stop may. grind (arith, following.room, following.position, text-pair p s' x y v w xs stop following.blank following.digit digit))

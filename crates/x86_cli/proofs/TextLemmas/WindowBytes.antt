@@ -9,11 +9,5 @@ use Rattle.std.proofs.lemmas.Slice.{take-put_mid}
 pub pushed : (cells ys : List ℕ) (start end k count : ℕ) → start ≤ end → end ≤ length cells → count ≤ length ys →
     drop start (take (end + count) (put_mid end k cells ys)) ≡ drop start (take end cells) ++ take count ys
 pushed cells ys start end k count ordered inside fits =
-    let put : List ℕ = put_mid end k cells ys in
     let beginning : length (take end cells) ≡ end = length-take-le end cells inside in
-    let whole : take (end + length ys) put ≡ take end cells ++ ys = take-put_mid end k cells ys (end + length ys) refl inside in
-    let shorter : take (end + count) put ≡ take (end + count) (take (end + length ys) put) = sym (take-take (end + count) (end + length ys) put (omega (arith, fits))) in
-    let at : end + count ≡ length (take end cells) + count = omega (arith, beginning) in
-    let split : take (end + count) (take end cells ++ ys) ≡ take end cells ++ take count ys =
-    ap (λ n. take n (take end cells ++ ys)) at ∙ take-append-add (take end cells) ys count in
-    ap (drop start) (shorter ∙ ap (take (end + count)) whole ∙ split) ∙ drop-append-le start (take end cells) (take count ys) (omega (arith, beginning, ordered))
+    grind (arith, take-put_mid end k cells ys (end + length ys) refl inside, take-take (end + count) (end + length ys) (put_mid end k cells ys), take-append-add (take end cells) ys count, drop-append-le start (take end cells) (take count ys))

@@ -131,6 +131,7 @@ fn one_absolute(inst: &Instruction, answer: Result<(), DecodeError>) -> u64
 }
 
 /// Makes and decodes the first encodings.
+#[tactic(auto, unfolding(crate::specs::Commands::Make::tally_of))]
 fn tally_of(count: u32) -> Tally
     ensures { result ≡ tally_of count }
 {

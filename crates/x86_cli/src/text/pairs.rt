@@ -37,6 +37,7 @@ fn digit_of(byte: u8) -> u8
 
 /// The values of the digits from a place on.
 #[inline(always)]
+#[tactic(auto, using(crate::proofs::TextLemmas::ImageAhead::more_set))]
 fn digits_at(text: &[u8], at: usize) -> [u8; DIGITS]
     requires { at + 32 ≤ length text.now }
     ensures { (k : ℕ) → k < 32 → slice_index_or result k 0
@@ -138,6 +139,7 @@ fn read_run(text: &[u8], at: usize, end: usize, values: &mut [u8], places: &mut 
 
 /// The place after the blanks at a place.
 #[inline(always)]
+#[tactic(auto, using(crate::proofs::TextLemmas::ImageAhead::blanks_more))]
 fn after_blanks(text: &[u8], from: usize) -> usize
     requires { from ≤ length text.now }
     ensures inside { result ≤ length text.now }
@@ -155,6 +157,7 @@ fn after_blanks(text: &[u8], from: usize) -> usize
 
 /// The place after the one blank at a place, or that place.
 #[inline(always)]
+#[tactic(auto, using(crate::proofs::TextLemmas::ImageAhead::blanks_more))]
 fn after_blank(text: &[u8], at: usize) -> usize
     requires { at < length text.now }
     ensures ordered { at ≤ result }
@@ -170,6 +173,7 @@ fn after_blank(text: &[u8], at: usize) -> usize
 /// Reads pairs from a place on, and the blanks between them, up to the end of the line. It returns how many bytes there
 /// are then, at most so many.
 #[inline(always)]
+#[tactic(auto, using(crate::proofs::TextLemmas::ImageAhead::blanks_none, crate::proofs::TextLemmas::ImageAhead::blanks_more, crate::proofs::TextLemmas::ImageAhead::byte_after, crate::proofs::TextLemmas::ImageAhead::bytes_push))]
 fn read_line(
     text: &[u8],
     at: usize,

@@ -100,6 +100,7 @@ impl WindowBytes {
 
     /// Appends the first bytes of a block.
     #[inline(always)]
+    #[tactic(auto, using(crate::proofs::TextLemmas::WindowBytes::pushed))]
     pub fn push_block(&mut self, block: &[u8; BLOCK], count: usize)
         requires { array_vec_len self.old + count ≤ 15 }
         ensures items { self.new.items ≡ self.old.items ++ take count block.now }

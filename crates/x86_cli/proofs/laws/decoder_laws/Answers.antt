@@ -1,4 +1,4 @@
-use Rattle.std.proofs.Common.{◌≡◌, ◌∙◌, ℕ, Bool, List, [], length, take, Ok, Result, ap, sym, subst, append-nil}
+use Rattle.std.proofs.Common.{arith, ◌≡◌, ◌∙◌, ℕ, Bool, List, [], length, take, Ok, Result, ap, sym, subst, append-nil}
 use Rattle.std.proofs.Math.Seq.{take-append_seam}
 use Rattle.x86_decode.specs.declared.instructions.Instruction.{Instruction}
 use Rattle.x86_fields.specs.declared.errors.DecodeError.{DecodeError}
@@ -13,9 +13,8 @@ sentence_alone : (strict : Bool) (xs : List ℕ) (i : Instruction) (n : ℕ) →
     answer_of strict (take i.length xs) ≡ Ok i
 sentence_alone strict xs i n len a only =
     let s = a.sentence in
-    let beginning : take i.length xs ≡ s = ap (λ m. take m xs) (len ∙ sym a.long) ∙ ap (take (length s)) a.begins ∙ take-append_seam s a.rest in
     let alone : IsAccepted (rows_of packed) strict s i n = record { sentence = s; rest = []; begins = sym (append-nil s); long = a.long; is = a.is } in
-    ap (answer_of strict) beginning ∙ sym (only s (Ok i) n alone)
+    grind (arith, only s (Ok i) n alone, take-append_seam s a.rest)
 
 pub returns : goal.returns
 returns c strict = record {

@@ -5,7 +5,7 @@ use Rattle.x86_cli.proofs.commands.command.made_from.Goals as goal
 
 -- a list of two
 two : {A : Type 0} (xs : List A) (a b : A) → 2 ≤ length xs → length xs < 3 → a ≡ get_or xs 0 a → b ≡ get_or xs 1 b → xs ≡ a ∷ b ∷ []
-two (x ∷ y ∷ []) a b l m e f = ap (λ z. z ∷ y ∷ []) (sym e) ∙ ap (λ z. a ∷ z ∷ []) (sym f)
+two (x ∷ y ∷ []) a b l m e f = cc
 two xs a b l m e f = absurd (omega arith)
 
 -- the second argument is the count

@@ -14,10 +14,6 @@ next : (i b r a l x y : ℕ) → of_three b r a ≡ tally_of i → l ≡ length 
 unfolding tally_of
 next i b r a l x y e long at_rip absolute = rw (add-one, ← e, long, at_rip, absolute) refl
 
-pub loop-i-init : goal.loop-i-init
-unfolding tally_of
-loop-i-init c = record { counted = refl; few_bytes = omega arith; few_at_rip = omega arith; few_absolute = omega arith }
-
 pub loop-i-preserved : goal.loop-i-preserved
 loop-i-preserved c =
     let i : ℕ = c.loop-i.i in

@@ -8,14 +8,9 @@ use Rattle.x86_cli.proofs.ListingLemmas.Target.{targets-step, targets-end}
 use Rattle.x86_cli.proofs.listings.targets.targets.Goals as goal
 
 -- the mark of a place of the image
-record Marked (strict : Bool) (image : List ℕ) (marks : List Bool) (place : ℕ) : Type 0 where
-  inside : place < length image
-  mark : slice_index_or marks place false ≡ is_marked strict image place
-
 marked_at : (strict : Bool) (image shown : List ℕ) (marks : List Bool) (place : ℕ) → shown ≡ image → place < length shown →
-    ((p : ℕ) → p < length shown → slice_index_or marks p false ≡ is_marked strict shown p) → Marked strict image marks place
-marked_at strict image shown marks place same lt all =
-    record { inside = omega (arith, ap length same); mark = all place lt ∙ ap (λ image. is_marked strict image place) same }
+    ((p : ℕ) → p < length shown → slice_index_or marks p false ≡ is_marked strict shown p) → (place < length image) × (slice_index_or marks place false ≡ is_marked strict image place)
+marked_at strict image shown marks place same lt all = grind (arith, all place)
 
 pub places-init : goal.places-init
 places-init g c = progress_whole g.S.Source.gives g.K.Sink.takes (targets_at c.args.decoder.now.strict) None tt c.args.max c.read_whole-text.result.ending c.read_whole-text.result.image.items _ _ _ c.read_whole-text.ensures
@@ -27,7 +22,7 @@ places-preserved g c =
     let text : Text = record { image = c.read_whole-text.result.image.items; ending = c.read_whole-text.result.ending } in
     let m = marked_at strict text.image c.as_slice-image.result.now c.mark.new.marks place c.as_slice-image.ensures.value c.places-test.true c.mark.ensures in
     progress_step g.S.Source.gives g.K.Sink.takes (targets_at strict) None _ _ _ _ _ _ _ _ _ _ c.places.invariant (lines_if (is_marked strict text.image place) place) (place + 1) text.image
-    (λ xs stop. targets-step strict place text m.inside) [] (λ xs stop. refl) (λ walked any. tt) _ (rw m.mark at c.in-Ok.ensures.ok)
+    (λ xs stop. targets-step strict place text m.0) [] (λ xs stop. refl) (λ walked any. tt) _ (rw m.1 at c.in-Ok.ensures.ok)
 
 pub returns-in-Err : goal.returns-in-Err
 returns-in-Err g c =
@@ -36,9 +31,9 @@ returns-in-Err g c =
     let text : Text = record { image = c.read_whole-text.result.image.items; ending = c.read_whole-text.result.ending } in
     let m = marked_at strict text.image c.as_slice-image.result.now c.mark.new.marks place c.as_slice-image.ensures.value c.places-test.true c.mark.ensures in
     let failed = c.in-Err.ensures.failed in
-    let marked : is_marked strict text.image place ≡ true = sym m.mark ∙ failed.0 in
+    let marked : is_marked strict text.image place ≡ true = sym m.1 ∙ failed.0 in
     ran_failed g.S.Source.gives g.K.Sink.takes (targets_at strict) None _ _ _ _ _ _ _ _ _ _ c.places.invariant (place_line place)
-    (λ xs stop. (targets_at strict (place + 1) text, targets-step strict place text m.inside ∙ ap (λ b. with_lines (lines_if b place) (targets_at strict (place + 1) text)) marked)) _ _ failed.1
+    (λ xs stop. (targets_at strict (place + 1) text, targets-step strict place text m.0 ∙ ap (λ b. with_lines (lines_if b place) (targets_at strict (place + 1) text)) marked)) _ _ failed.1
 
 pub returns-in-Ok-end : goal.returns-in-Ok-end
 returns-in-Ok-end g c =

@@ -4,19 +4,6 @@ use Rattle.std.proofs.lemmas.List.{get_or-set_same, get_or-set_other, length-set
 use Rattle.x86_cli.proofs.TextLemmas.ImageAhead.{blanks_none, blanks_more, byte_after, bytes_push}
 use Rattle.x86_cli.proofs.text.pairs.read_line.Goals as goal
 
-pub pairs-preserved-in-Blank : goal.pairs-preserved-in-Blank
-pairs-preserved-in-Blank c =
-    let inside : c.pairs.read + 2 < length c.args.text.now = grind (arith, nat_tests) in
-    let first = c.after_blank-first in
-    record {
-      more = c.pairs.invariant.more;
-      fits = c.pairs.invariant.fits;
-      inside = omega (arith, inside, first.ensures.near);
-      before = c.pairs.invariant.before;
-      bytes = c.pairs.invariant.bytes;
-      blanks = blanks_more c.args.text.now _ first.result (first.ensures.blanks _ c.pairs.invariant.blanks) (omega (arith, inside, first.ensures.near)) c.in-Blank.ensures.0;
-    }
-
 pub pairs-preserved : goal.pairs-preserved
 pairs-preserved c =
     let inside : c.pairs.read + 2 < length c.args.text.now = grind (arith, nat_tests) in

@@ -3,10 +3,9 @@ use Rattle.x86_cli.proofs.text.image_ahead.ImageAhead.read.Goals as goal
 
 pub returns-then-more-end : goal.returns-then-more-end
 returns-then-more-end c =
-    let first : slice_index_or c.read_more-more.new.places 0 0 ≡ 0 = c.read_more-more.ensures.before 0 (omega arith) ∙ c.bytes.invariant.first in
     record {
       whole = c.args.text.now;
       bytes = c.read_more-more.ensures.bytes;
       room = omega (arith, c.read_more-more.auto.values, c.read_more-more.ensures.fits, c.bytes.invariant.few);
-      rest = λ some. rw first refl;
+      rest = λ some. grind (arith, c.read_more-more.ensures.before 0, c.bytes.invariant.first);
     }
