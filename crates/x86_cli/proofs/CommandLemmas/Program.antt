@@ -1,6 +1,6 @@
 -- What the program does, from the calls of its run and the flush after it.
 use Rattle.std.proofs.Common.{◌≡◌, ◌≢◌, ℕ, List, [], ◌∷◌, ◌++◌, take, drop, arith, Option, Some, None, Result, Ok, Err, refl, ap, ◌∙◌, sym, append_assoc, append-nil}
-use Rattle.std.specs.Prelude.{IfSome, ⊤}
+use Rattle.std.specs.Prelude.{OnOk, IfSome, ⊤}
 use Rattle.std.specs.List.{concat}
 use Rattle.std.specs.declared.io.Error.{Error}
 use Rattle.x86_cli.specs.declared.outside.source.Got.{Got}
@@ -50,18 +50,19 @@ printed_part bytes held lines failed n more l order is =
     }
 
 module _ {W : Type 0} (writes : W → List ℕ → Result ℕ Error → W → Type 0) (flushes : W → Result ⊤ Error → W → Type 0) where
-  -- calls, and then those of a flush that succeeded
-  finishes_flushed : (status : Status) (bs cs : List ℕ) (a b d : W) → status ≢ WriteFault → Caused writes flushes {A = ⊤} {E = SinkFailed} (Ok tt) bs a b →
-      (c : Caused writes flushes {A = ⊤} {E = SinkFailed} (Ok tt) cs b d) → EndsInFlush c.calls → Finishes writes flushes status (bs ++ cs) a d
-  finishes_flushed status bs cs a b d ne f c ends =
-      let j : Caused writes flushes {A = ⊤} {E = SinkFailed} (Ok tt) (bs ++ cs) a d = caused_join writes flushes tt (Ok tt) bs cs a b d f c in
-      record {
-        caused = record { calls = j.calls; did = j.did; cause = rw (no_fault status ne) j.cause; sends = j.sends };
-        flushed = λ _. flush_joined c.calls f.calls ends;
-      }
-
   finishes_failed : (f : SinkFailed) (bs : List ℕ) (a b : W) → Caused writes flushes {A = ⊤} {E = SinkFailed} (Err f) bs a b → Finishes writes flushes WriteFault bs a b
   finishes_failed f bs a b c = record { caused = caused_as writes flushes {E = SinkFailed} {F = ⊤} (Err f) (Err tt) bs bs a b refl (err_cause ⊤ ⊤ {E = SinkFailed} {F = ⊤} f tt) c; flushed = λ ne. absurd (ne refl) }
+
+  -- calls, and then those of a flush
+  finishes : (status : Status) (bs held held' : List ℕ) (a b d : W) → status ≢ WriteFault → Caused writes flushes {A = ⊤} {E = SinkFailed} (Ok tt) bs a b →
+      (r : Result ⊤ SinkFailed) (g : FlushesOut writes flushes r held held' b d) → Finishes writes flushes (ending_of status r) (bs ++ g.0.bytes) a d
+  finishes status bs held held' a b d ne f (Ok tt) g =
+      let j : Caused writes flushes {A = ⊤} {E = SinkFailed} (Ok tt) (bs ++ g.0.bytes) a d = caused_join writes flushes tt (Ok tt) bs g.0.bytes a b d f g.0.caused in
+      record {
+        caused = record { calls = j.calls; did = j.did; cause = rw (no_fault status ne) j.cause; sends = j.sends };
+        flushed = λ _. flush_joined g.0.caused.calls f.calls g.1.1;
+      }
+  finishes status bs held held' a b d ne f (Err e) g = finishes_failed e (bs ++ g.0.bytes) a d (caused_join writes flushes tt (Err e) bs g.0.bytes a b d f g.0.caused)
 
   -- What the writer took, of a run that put these lines and then, where there is one, failed at a line.
   pub record Printed (status ended : Status) (lines : List (List ℕ)) (failed : Option (List ℕ)) (old new : W) : Type 0 where
@@ -69,23 +70,19 @@ module _ {W : Type 0} (writes : W → List ℕ → Result ℕ Error → W → Ty
     pub wrote : Finishes writes flushes ended bytes old new
     pub prints : (l : Listing) → Lists status lines failed l → IsPrinted ended bytes l
 
+  all_sent : (status : Status) (r : Result ⊤ SinkFailed) (held' : List ℕ) (F : Type 0) → OnOk r ((held' ≡ []) × F) → ending_of status r ≢ WriteFault → (held' ≡ []) × (ending_of status r ≡ status)
+  all_sent status r held' F g ne = grind arith
+
   -- all lines were put, and then flushed
   flushed_lines : (status : Status) (lines : List (List ℕ)) (held : List ℕ) (a b d : W) (held' : List ℕ) → status ≢ WriteFault →
       Forwards writes flushes {A = ⊤} {E = SinkFailed} (Ok tt) (concat lines) [] held a b → (r : Result ⊤ SinkFailed) → FlushesOut writes flushes r held held' b d →
       Printed status (ending_of status r) lines None a d
-  flushed_lines status lines held a b d held' ne f (Ok tt) g =
+  flushed_lines status lines held a b d held' ne f r g =
       let order : (f.bytes ++ g.0.bytes) ++ held' ≡ concat lines = simp append_assoc (ap (λ s. f.bytes ++ s) (g.0.order ∙ append-nil held) ∙ f.order) in
       record {
         bytes = f.bytes ++ g.0.bytes;
-        wrote = finishes_flushed status f.bytes g.0.bytes a b d ne f.caused g.0.caused g.1.1;
-        prints = λ l is. printed status status (f.bytes ++ g.0.bytes) held' lines l (λ _. (g.1.0, refl)) order is;
-      }
-  flushed_lines status lines held a b d held' ne f (Err e) g =
-      let order : (f.bytes ++ g.0.bytes) ++ held' ≡ concat lines = simp append_assoc (ap (λ s. f.bytes ++ s) (g.0.order ∙ append-nil held) ∙ f.order) in
-      record {
-        bytes = f.bytes ++ g.0.bytes;
-        wrote = finishes_failed e (f.bytes ++ g.0.bytes) a d (caused_join writes flushes tt (Err e) f.bytes g.0.bytes a b d f.caused g.0.caused);
-        prints = λ l is. printed WriteFault status (f.bytes ++ g.0.bytes) held' lines l (λ ne. absurd (ne refl)) order is;
+        wrote = finishes status f.bytes held held' a b d ne f.caused r g;
+        prints = λ l is. printed (ending_of status r) status (f.bytes ++ g.0.bytes) held' lines l (all_sent status r held' (EndsInFlush g.0.caused.calls) g.1) order is;
       }
 
   ending_failed : (r : Result ⊤ SinkFailed) → ending_of WriteFault r ≡ WriteFault

@@ -88,7 +88,7 @@ module _ (strict : Bool) (laws : GrammarLaws strict) (text : ℕ → Instruction
       IsAnswer (rows_of packed) strict (x ∷ xs) r (count_of strict (x ∷ xs)) → IsHere n (x ∷ xs) e (listing_from strict text n 0 (x ∷ xs) e)
   by_answer k n x xs e shorter le (Ok i) h a =
       let s = a.sentence in
-      let len : i.length ≡ length s = ap (λ i. i.length) a.is.yields in
+      let len = ap (λ i. i.length) a.is.yields in
       let less : length a.rest ≤ k = omega (arith, len, ap length a.begins ∙ length-append s a.rest, le, (laws.lengths (x ∷ xs) i h).0) in
       let t = sentence_first n s a.rest e i a.is (shorter (n + length s) a.rest less) in
       subst (λ ys. IsHere n ys e (listing_from strict text n 0 ys e)) (sym a.begins) t

@@ -12,7 +12,7 @@ use Rattle.x86_cli.specs.Text.{Text, text_of}
 use Rattle.x86_cli.specs.Text.Reading.{IsOpenText, NeedsMore, CalledWhere, SourceCalls, MayCome}
 use Rattle.x86_cli.specs.Listings.Listing.{Listing, with_lines}
 use Rattle.x86_cli.specs.Text.Window.{with_bytes, rest_of, Open, Fills}
-use Rattle.x86_cli.specs.Commands.Run.{SinkCalls, Closes, Ran}
+use Rattle.x86_cli.specs.Commands.Run.{SinkCalls, Closes, Lists, Ran}
 use Rattle.x86_cli.proofs.TextLemmas.Read.{source_calls-source_calls, called-called, called-where}
 use Rattle.x86_cli.proofs.TextLemmas.Fill.{more_after}
 
@@ -53,6 +53,9 @@ needs_open window walked t needs = grind arith
 needs_longer : (window : Option ℕ) (walked ahead : List ℕ) (t : Text) → Needs window walked t → Needs window (walked ++ ahead) t
 needs_longer window walked ahead t needs = grind (arith, length-append {A = ℕ})
 
+needs_after : (window : Option ℕ) (walked : List ℕ) (t : Text) → Needs window [] t → Needs window walked (with_bytes walked t)
+needs_after window walked t needs = grind (arith, length-append {A = ℕ})
+
 -- a window that fills
 pub window_needs : (k : ℕ) (walked : List ℕ) (t : Text) → NeedsMore k t → Needs (Some k) walked (with_bytes walked t)
 window_needs k walked t needs = more_after (length walked + k) k walked t (omega arith) needs
@@ -75,22 +78,6 @@ module _ {S K : Type 0} (gives : S → Got → S → Type 0) (takes : K → List
 
   pub progress_new : Walks window 0 [] → (max : ℕ) (a : S) (k : K) → Progress max 0 None [] 0 max a a k k
   progress_new walks max a k = record { bytes = []; stop = None; source_calls = refl; walked = []; called = tt; continues = refl; walks = walks; beginning = λ xs s _. refl; lines = []; sink_calls = refl; lists = λ xs s _. refl }
-
-  -- the text was read to its end
-  pub progress_whole : Walks window 0 [] → (max : ℕ) (e : Ending) (w : List ℕ) (a b : S) (k : K) → Fills gives (Needs window []) (text_of max) (Some e) w 0 0 a b → Progress max 0 (Some e) w 0 0 a b k k
-  progress_whole walks max e w a b k fills = record {
-    bytes = fills.bytes;
-    stop = fills.stop;
-    source_calls = fills.source_calls;
-    walked = [];
-    called = fills.called;
-    continues = tt;
-    walks = walks;
-    beginning = fills.rest;
-    lines = [];
-    sink_calls = refl;
-    lists = λ xs s may. ap (at 0) (fills.rest xs s may);
-  }
 
   -- Holds: what held of the text, with the window's bytes before it, at each call that filled the window
   module _ (Holds : Text → Type 0) (holds : (walked : List ℕ) (t : Text) → Holds t → Needs window walked (with_bytes walked t)) where
@@ -123,6 +110,11 @@ module _ {S K : Type 0} (gives : S → Got → S → Type 0) (takes : K → List
         (λ none fills. progress_fill max n v.bytes.items v.reader.position v.reader.room a b k l (rw none at progress) w.ended w.bytes.items w.reader.position w.reader.room d fills)
         (λ same. rw (same.0, same.1) progress)
 
+  -- the text was read to its end
+  pub progress_whole : Walks window 0 [] → (max : ℕ) (e : Ending) (w : List ℕ) (a b : S) (k : K) → Fills gives (Needs window []) (text_of max) (Some e) w 0 0 a b → Progress max 0 (Some e) w 0 0 a b k k
+  progress_whole walks max e w a b k fills =
+      progress_fill (Needs window []) (needs_after window) max 0 [] 0 max a a k k (progress_new walks max a k) (Some e) w 0 0 b fills
+
   module _ (max n : ℕ) (ended : Option Ending) (w : List ℕ) (p r : ℕ) (a b : S) (k l : K) (s : Progress max n ended w p r a b k l) where
     pub progress_step : (ls : List (List ℕ)) (n' : ℕ) (w' : List ℕ) →
         ((xs : List ℕ) (stop : Stop) → at n (rest_of ended w p r xs stop) ≡ with_lines ls (at n' (rest_of ended w' p r xs stop))) →
@@ -146,37 +138,24 @@ module _ {S K : Type 0} (gives : S → Got → S → Type 0) (takes : K → List
     pub called_open : CalledWhere IsOpenText (text_of max) s.bytes s.stop
     called_open = called-where (Needs window s.walked) IsOpenText (text_of max) (text_of max) s.bytes s.stop (λ xs. needs_open window s.walked (text_of max xs Failed)) s.called
 
+    abbrev ran : (status : Status) (lines : List (List ℕ)) (failed : Option (List ℕ)) (m : K) → SinkCalls takes lines failed k m →
+        ((xs : List ℕ) (stop : Stop) → MayCome s.stop xs stop → Lists status lines failed (at 0 (text_of max (s.bytes ++ xs) stop))) → Ran gives takes (at 0) max status a b k m
+    ran status lines failed m sink_calls lists =
+        record { bytes = s.bytes; stop = s.stop; source_calls = s.source_calls; called = called_open; lines = lines; failed = failed; sink_calls = sink_calls; lists = lists }
+
     -- a put failed
     abbrev pub ran_failed : (x : List ℕ) → ((xs : List ℕ) (stop : Stop) → (after : Listing) × (at n (rest_of ended w p r xs stop) ≡ with_lines (x ∷ []) after)) →
         (e : SinkFailed) (m : K) → takes l x (Err e) m → Ran gives takes (at 0) max outcome.WriteFault a b k m
-    ran_failed x beginning e m failed = record {
-      bytes = s.bytes;
-      stop = s.stop;
-      source_calls = s.source_calls;
-      called = called_open;
-      lines = s.lines;
-      failed = Some x;
-      sink_calls = let t = sink_calls-sink_calls takes s.lines [] (Some x) k l m s.sink_calls (e, failed) in rw append-nil at t;
-      lists = λ xs stop may.
-          let f = beginning xs stop in
-          let all = s.lists xs stop may ∙ ap (with_lines s.lines) f.1 in
-          (refl, (f.0.lines, ap (λ l. l.lines) all));
-    }
+    ran_failed x beginning e m failed =
+        ran outcome.WriteFault s.lines (Some x) m (rw append-nil at (sink_calls-sink_calls takes s.lines [] (Some x) k l m s.sink_calls (e, failed)))
+        (λ xs stop may. let f = beginning xs stop in (refl, (f.0.lines, ap (λ l. l.lines) (s.lists xs stop may ∙ ap (with_lines s.lines) f.1))))
 
     -- a last listing
     abbrev pub ran_closed : (last : Listing) → ((xs : List ℕ) (stop : Stop) → at n (rest_of ended w p r xs stop) ≡ last) →
         (status : Status) (m : K) → Closes takes last (Ok status) l m → Ran gives takes (at 0) max status a b k m
-    ran_closed last is status m closes = record {
-      bytes = s.bytes;
-      stop = s.stop;
-      source_calls = s.source_calls;
-      called = called_open;
-      lines = s.lines ++ last.lines;
-      failed = None;
-      sink_calls = sink_calls-sink_calls takes s.lines last.lines None k l m s.sink_calls closes.1;
-      lists = λ xs stop may.
-          s.lists xs stop may ∙ ap (with_lines s.lines) (is xs stop) ∙ ap (λ st. record { lines = s.lines ++ last.lines; status = st }) (sym closes.0);
-    }
+    ran_closed last is status m closes =
+        ran status (s.lines ++ last.lines) None m (sink_calls-sink_calls takes s.lines last.lines None k l m s.sink_calls closes.1)
+        (λ xs stop may. s.lists xs stop may ∙ ap (with_lines s.lines) (is xs stop) ∙ ap (λ st. record { lines = s.lines ++ last.lines; status = st }) (sym closes.0))
 
     abbrev pub ran_unclosed : (last : Listing) → ((xs : List ℕ) (stop : Stop) → at n (rest_of ended w p r xs stop) ≡ last) →
         (e : SinkFailed) (m : K) → Closes takes last (Err e) l m → Ran gives takes (at 0) max outcome.WriteFault a b k m

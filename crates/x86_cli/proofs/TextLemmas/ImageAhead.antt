@@ -70,9 +70,6 @@ byte_after text start at v w b inside blank high low =
 
 -- the bytes that were read
 
-between_same : (text : List ℕ) (a a' b b' v v' : ℕ) → a' ≡ a → b' ≡ b → v' ≡ v → IsByte text a b v → IsByte text a' b' v'
-between_same text a a' b b' v v' e f g byte = rw (e, f, g) byte
-
 pub bytes_push : (text values places : List ℕ) (n at v : ℕ) → AreBytes text n values places → n < length values → n + 1 < length places →
     IsByte text (slice_index_or places n 0) at v → AreBytes text (n + 1) (set values n v) (set places (n + 1) at)
 bytes_push text values places n at v bytes room places_room byte k lt = grind (arith, get_or-set_other {A = ℕ}, get_or-set_same {A = ℕ}, bytes)
@@ -145,10 +142,6 @@ takes_bytes room text s (suc n) used a fits is =
     let last = a.bytes (s.start + n) (omega (arith, fits)) in
     let rest = a.rest (omega (arith, fits)) in
     grind (arith, ap length rest, length-drop (slice_index_or s.places s.start 0) a.whole, length-take room text, take-take used room text)
-
--- a block has the first bytes
-pub block_front : (values : List ℕ) (start n : ℕ) → n ≤ 16 → take n (slice_range values start (start + 16)) ≡ take n (drop start values)
-block_front values start n few = take-take n (start + 16 - start) (drop start values) (omega (arith, few))
 
 -- what is left ahead, of a text of which no more than room are seen
 pub rest_ahead : (ahead ahead' values places : List ℕ) (room room' start end n used : ℕ) → AreAhead (take room ahead) values places start end →

@@ -118,6 +118,7 @@ pub struct UpToRefusal<L: Lines + Drop> {
 impl<L: Lines + Drop> Course for UpToRefusal<L> {
     ghost lists = { λ s strict place text. listing_at strict (L.text s.lines strict) place text };
 
+    #[tactic(auto, using(crate::proofs::ListingLemmas::NextStep::step_refused))]
     #[inline(always)]
     fn next(
         &self,

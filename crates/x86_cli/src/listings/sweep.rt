@@ -41,6 +41,7 @@ impl Course for PastRefusals {
     ghost lists = { λ s strict place text. sweep_at strict place text };
 
     #[inline(always)]
+    #[tactic(auto, using(crate::proofs::ListingLemmas::Sweep::sweep_end))]
     fn next(
         &self,
         decoder: &InstDecoder,

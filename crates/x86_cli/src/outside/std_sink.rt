@@ -51,6 +51,7 @@ impl<W: Output + Drop> Sink for StdSink<W> {
 
     ghost reports = { λ s piece r t h. h.0 };
 
+    #[tactic(auto, using(crate::proofs::OutsideLemmas::Sink::puts_none))]
     fn put(&mut self, piece: &[u8]) -> Result<(), SinkFailed> {
         let mut rest = piece;
         while !rest.is_empty() {

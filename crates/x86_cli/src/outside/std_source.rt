@@ -149,6 +149,7 @@ impl<R: Input + Drop> Source for StdSource<R> {
     }
 
     #[inline(always)]
+    #[tactic(auto, using(crate::proofs::OutsideLemmas::Skip::skipped_none))]
     fn skip(&mut self, count: usize) {
         let mut taken = 0;
         while taken < count {

@@ -140,6 +140,7 @@ impl TextReader {
 
     /// Takes bytes up to the next pair, or the end of the text.
     #[inline(always)]
+    #[tactic(auto, using(crate::proofs::TextLemmas::Read::skips_blank))]
     pub fn next<S: Source>(&mut self, source: &mut S) -> Piece
         ensures reads { Reads S.gives result self.old.position self.old.room self.new.position
             self.new.room source.old source.new }

@@ -22,8 +22,7 @@ returns c strict = record {
   stay = c.answers_of_more.ensures.answer strict;
   enough = c.fifteen_are_enough.ensures strict;
   alone = λ xs i e.
-      let A : Result Instruction DecodeError → Type 0 = λ r. IsAnswer (rows_of packed) strict xs r (count_of strict xs) in
-      sentence_alone strict xs i (count_of strict xs) (c.lengths.ensures.counted strict xs i e) (subst A e (c.answer_is.ensures.there strict xs))
+      sentence_alone strict xs i (count_of strict xs) (c.lengths.ensures.counted strict xs i e) (rw e at (c.answer_is.ensures.there strict xs))
       (λ ys r k h. (c.answer_is.ensures.only strict ys r k h).0);
   empty = c.empty_input.ensures strict;
 }

@@ -1,20 +1,12 @@
-use Rattle.std.proofs.Common.{◌≡◌, ◌≢◌, ◌∙◌, sym, Option, Some, None}
+use Rattle.std.proofs.Common.{arith, ◌≡◌, ◌≢◌, ◌∙◌, sym, Option, Some, None}
 use Rattle.x86_cli.specs.declared.commands.command.Command.{Command}
 use Rattle.x86_cli.specs.declared.listings.status.Status.TheVariants.{Usage}
 use Rattle.x86_cli.proofs.CommandLemmas.Causes.{ran_used}
 use Rattle.x86_cli.proofs.CommandLemmas.Says.{ran_says}
 use Rattle.x86_cli.proofs.commands.command.run.Goals as goal
 
-no_command : (a b : Option Command) (c : Command) → a ≡ b → a ≡ Some c → b ≡ None → ⊥
-no_command a b c same is none = cc
-
 pub returns-in-Some-clause-usage : goal.returns-in-Some-clause-usage
-returns-in-Some-clause-usage g c =
-    let used : c.obey.result ≢ Usage = ran_used g.S.Source.gives g.K.Sink.takes c.in-Some.command _ _ _ _ _ _ c.obey.ensures.0 in
-    (λ e. absurd (used e), λ no. absurd (no_command _ _ _ c.command_of.ensures c.in-Some.is no.0))
-
-pub returns-in-Some-clause-reads_nothing : goal.returns-in-Some-clause-reads_nothing
-returns-in-Some-clause-reads_nothing g c none = absurd (no_command _ _ _ c.command_of.ensures c.in-Some.is none)
+returns-in-Some-clause-usage g c = let used = ran_used g.S.Source.gives g.K.Sink.takes c.in-Some.command _ _ _ _ _ _ c.obey.ensures.0 in grind arith
 
 pub returns-in-Some-clause-writes_nothing : goal.returns-in-Some-clause-writes_nothing
 returns-in-Some-clause-writes_nothing g c e = absurd (ran_used g.S.Source.gives g.K.Sink.takes c.in-Some.command _ _ _ _ _ _ c.obey.ensures.0 e)

@@ -9,9 +9,6 @@ returns-in-Whole-clause-next g c =
     let is = c.write.ensures.text ∙ ap (g.L.Lines.text c.args.self.now.lines c.args.decoder.now.strict c.args.place.now c.decode_next.new.inst) (rw c.length_of-length.ensures at c.first-bytes.ensures) in
     step_line c.args.decoder.now.strict (g.L.Lines.text c.args.self.now.lines c.args.decoder.now.strict) _ _ _ _ _ c.decode_next.new.inst c.in-Whole.ensures.rest shows.0 shows.1 _ _ c.length_of-length.ensures is
 
-pub returns-in-Refused-clause-next : goal.returns-in-Refused-clause-next
-returns-in-Refused-clause-next g c = step_refused c.args.decoder.now.strict (g.L.Lines.text c.args.self.now.lines c.args.decoder.now.strict) c.args.window.now.ended c.args.place.now c.args.window.now.bytes.items c.args.window.now.reader.position c.args.window.now.reader.room c.in-Refused.error c.args.line.now.items c.in-Refused.ensures.rest
-
 pub returns-in-Ended-clause-next : goal.returns-in-Ended-clause-next
 returns-in-Ended-clause-next g c = step_ended c.args.decoder.now.strict (g.L.Lines.text c.args.self.now.lines c.args.decoder.now.strict) c.args.window.now.ended c.args.place.now c.args.window.now.bytes.items c.args.window.now.reader.position c.args.window.now.reader.room c.in-Ended.ending c.args.line.now.items c.in-Ended.ensures.rest
 

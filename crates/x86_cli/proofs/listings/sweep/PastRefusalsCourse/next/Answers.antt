@@ -9,8 +9,3 @@ returns-then-not-is_empty-clause-next c =
     let some : 0 < length c.args.window.now.bytes.items = grind (arith, nat_tests) in
     sweep_line c.args.decoder.now.strict (c.decoder_laws.ensures _) _ _ _ _ _ _ (holding c.decode_slice_into-answer.new.inst c.decode_slice_into-answer.result) c.requires some
     c.decode_slice_into-answer.ensures.value c.as_slice.ensures.value _ _ c.cut_length.ensures c.write_cut.ensures.text
-
-pub returns-clause-next : goal.returns-clause-next
-returns-clause-next c =
-    let none : length c.args.window.now.bytes.items ≡ 0 = grind (arith, nat_tests) in
-    sweep_end c.args.decoder.now.strict _ _ c.args.line.now.items _ _ _ _ c.in-Some.is none

@@ -4,9 +4,6 @@ use Rattle.x86_cli.proofs.OutsideLemmas.Sink.{puts_none, puts_more, puts_all, pu
 use Rattle.x86_cli.proofs.outside.std_sink.StdSinkSink.put.Goals as goal
 use Rattle.x86_cli.proofs.outside.std_sink.StdSinkSink.put.Goals.{in_default-via-in-Ok+else-count-gt0, in_default-via-in_default}
 
-pub loop-rest-init : goal.loop-rest-init
-loop-rest-init g c = record { still = refl; puts = puts_none _ _ _ _ _ }
-
 pub loop-rest-preserved : goal.loop-rest-preserved
 loop-rest-preserved g c = record {
   still = c.loop-rest.invariant.still;

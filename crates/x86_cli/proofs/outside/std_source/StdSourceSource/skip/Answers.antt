@@ -2,9 +2,6 @@ use Rattle.std.proofs.Common.{◌≡◌, arith, inl}
 use Rattle.x86_cli.proofs.OutsideLemmas.Skip.{begins_before_end, skipped_none, skipped_more, some_left}
 use Rattle.x86_cli.proofs.outside.std_source.StdSourceSource.skip.Goals as goal
 
-pub loop-taken-init : goal.loop-taken-init
-loop-taken-init g c = record { inside = omega arith; skipped = skipped_none _ _ _ }
-
 pub take-requires : goal.take-requires
 take-requires g c =
     begins_before_end c.loop-taken.self.buffer c.loop-taken.self.position c.loop-taken.self.filled

@@ -27,10 +27,3 @@ pub returns-in-Digit-clause-reads : goal.returns-in-Digit-clause-reads
 returns-in-Digit-clause-reads g c =
     reads_after g.S.Source.gives _ _ _ _ _ _ _ _ _ _ c.loop-byte.invariant.skips
     (c.second.ensures.reads _ _ _ _ c.advance.ensures.position (sym c.advance.ensures.room) c.in-Digit.ensures.0 c.in-Digit.ensures.1 c.in-Byte.ensures)
-
-pub loop-byte-preserved : goal.loop-byte-preserved
-loop-byte-preserved g c = record {
-  skips = skips_blank g.S.Source.gives _ _ _ _ _ _ _ _ _ _ c.loop-byte.invariant.skips c.in-Byte.ensures c.in-Blank.ensures.0
-      c.advance-in-Blank.ensures.position c.advance-in-Blank.ensures.room;
-  less = omega (arith, c.loop-byte.invariant.less, c.advance-in-Blank.ensures.room);
-}

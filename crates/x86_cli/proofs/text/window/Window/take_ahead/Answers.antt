@@ -1,6 +1,7 @@
-use Rattle.std.proofs.Common.{◌≡◌, ◌+◌, ◌≤◌, ◌++◌, length, take, drop, arith, ap, ◌∙◌, refl, length-take-le}
+use Rattle.std.proofs.Common.{◌-◌, ◌≡◌, ◌+◌, ◌≤◌, ◌++◌, length, take, drop, arith, ap, ◌∙◌, refl, length-take-le}
+use Rattle.std.proofs.lemmas.List.{take-take}
 use Rattle.x86_cli.proofs.TextLemmas.Begins.{fills_begins}
-use Rattle.x86_cli.proofs.TextLemmas.ImageAhead.{takes_bytes, block_front, rest_ahead}
+use Rattle.x86_cli.proofs.TextLemmas.ImageAhead.{takes_bytes, rest_ahead}
 use Rattle.x86_cli.proofs.text.window.Window.take_ahead.Goals as goal
 
 pub take-text-requires-clause-ordered : goal.take-text-requires-clause-ordered
@@ -22,7 +23,7 @@ returns-clause-fills g c =
     let takes = takes_bytes c.args.self.now.reader.room text s count used c.requires (omega arith) c.take-text.ensures.text in
     let bytes = length-take-le used text takes.inside in
     let items = c.push_block.ensures.items ∙ ap (λ b. c.args.self.now.bytes.items ++ take count b) c.block.ensures
-    ∙ ap (λ l. c.args.self.now.bytes.items ++ l) (block_front s.values s.start count (omega (arith, few))) in
+    ∙ ap (λ l. c.args.self.now.bytes.items ++ l) (take-take count (s.start + 16 - s.start) (drop s.start s.values) (omega (arith, few))) in
     rw items (fills_begins g.S.Source.gives count 15 (take used text) (take count (drop s.start s.values)) c.args.self.now.bytes.items
     _ _ _ _ _ _ takes.begins (omega (arith, few)) (omega (arith, bytes, c.advance_by.ensures.position))
     (omega (arith, bytes, c.advance_by.ensures.room)) c.skip.ensures.source_calls)
