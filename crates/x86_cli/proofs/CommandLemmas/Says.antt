@@ -11,7 +11,7 @@ use Rattle.x86_cli.specs.declared.text.reader.Ending.TheVariants.{Clean, Fault}
 use Rattle.x86_cli.specs.Outside.Stop.{Stop, End, Failed}
 use Rattle.x86_cli.specs.declared.commands.command.Command.{Command}
 use Rattle.x86_cli.specs.declared.listings.status.Status.{Status}
-use Rattle.x86_cli.specs.declared.listings.status.Status.TheVariants.{Done, Usage, Refused, BadText, ReadFault, WriteFault, TooLarge}
+use Rattle.x86_cli.specs.declared.listings.status.Status.TheVariants.{Done, Usage, Refused, ReadFault, WriteFault}
 use Rattle.x86_cli.specs.Text.{Text, text_at, text_of}
 use Rattle.x86_cli.specs.Listings.Listing.{Listing}
 use Rattle.x86_cli.specs.Commands.Command.{listing_for, max_of}

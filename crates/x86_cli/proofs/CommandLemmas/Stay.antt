@@ -1,5 +1,5 @@
 -- A listing that is refused stays when text is appended.
-use Rattle.std.proofs.Common.{◌≡◌, ◌≢◌, ℕ, zero, suc, ◌+◌, ◌-◌, ◌*◌, ◌<◌, Bool, true, false, List, [], ◌∷◌, ◌++◌, length, take, Option, Some, Result, Ok, if◌then◌else◌, refl, arith, ap}
+use Rattle.std.proofs.Common.{◌≡◌, ◌≢◌, ℕ, zero, suc, ◌+◌, ◌*◌, ◌<◌, Bool, true, false, List, [], ◌∷◌, ◌++◌, length, take, Option, Some, Result, Ok, if◌then◌else◌, refl, arith, ap}
 use Rattle.std.proofs.lemmas.List.{take-append-le}
 use Rattle.x86_decode.specs.declared.instructions.Instruction.{Instruction}
 use Rattle.x86_fields.specs.declared.errors.DecodeError.{DecodeError}
@@ -9,7 +9,7 @@ use Rattle.x86_cli.specs.declared.text.reader.Ending.TheVariants.{Fault}
 use Rattle.x86_cli.specs.Outside.Stop.{Stop, Failed}
 use Rattle.x86_cli.specs.declared.listings.status.Status.TheVariants as outcome
 use Rattle.x86_cli.specs.declared.commands.command.Command.{Command}
-use Rattle.x86_cli.specs.declared.commands.command.Command.TheVariants.{List as Listed, Sweep as Swept, Targets as Targeted, Fields as Fielded, Tighten as Tightened}
+use Rattle.x86_cli.specs.declared.commands.command.Command.TheVariants.{List as Listed, Fields as Fielded, Tighten as Tightened}
 use Rattle.x86_cli.specs.Commands.Command.{listing_for}
 use Rattle.x86_cli.specs.Text.{Text, is_blank, value_of, paired, image_of, text_at, text_of}
 use Rattle.x86_cli.specs.Listings.Listing.{Listing, at_end, decoded_of, decoded_at_end, listed, listing_from, listing_of}

@@ -1,5 +1,5 @@
 -- The listing by the grammar alone.
-use Rattle.std.proofs.Common.{add-zero, add_assoc, Bool, ◌≡◌, ◌↔◌, ℕ, suc, zero, ◌+◌, ◌-◌, ◌<◌, ◌≤◌, List, [], ◌∷◌, ◌++◌, length, take, drop, Result, Ok, Err, refl, arith, ap, ◌∙◌, sym, subst, append_assoc, length-append}
+use Rattle.std.proofs.Common.{add-zero, add_assoc, Bool, ◌≡◌, ◌↔◌, ℕ, suc, zero, ◌+◌, ◌<◌, ◌≤◌, List, [], ◌∷◌, ◌++◌, length, Result, Ok, Err, refl, arith, ap, ◌∙◌, sym, subst, append_assoc, length-append}
 use Rattle.std.proofs.Math.Seq.{take-append_seam, drop-append_seam}
 use Rattle.std.specs.List.{concat}
 use Rattle.x86_decode.specs.declared.instructions.Instruction.{Instruction}
@@ -88,8 +88,7 @@ module _ (strict : Bool) (laws : GrammarLaws strict) (text : ℕ → Instruction
       IsAnswer (rows_of packed) strict (x ∷ xs) r (count_of strict (x ∷ xs)) → IsHere n (x ∷ xs) e (listing_from strict text n 0 (x ∷ xs) e)
   by_answer k n x xs e shorter le (Ok i) h a =
       let s = a.sentence in
-      let len = ap (λ i. i.length) a.is.yields in
-      let less : length a.rest ≤ k = omega (arith, len, ap length a.begins ∙ length-append s a.rest, le, (laws.lengths (x ∷ xs) i h).0) in
+      let less : length a.rest ≤ k = omega (arith, ap (λ i. i.length) a.is.yields, ap length a.begins ∙ length-append s a.rest, le, (laws.lengths (x ∷ xs) i h).0) in
       let t = sentence_first n s a.rest e i a.is (shorter (n + length s) a.rest less) in
       subst (λ ys. IsHere n ys e (listing_from strict text n 0 ys e)) (sym a.begins) t
   by_answer k n x xs e shorter le (Err error) h a =

@@ -1,11 +1,11 @@
 -- What calls say, one after the other.
-use Rattle.std.proofs.Common.{ℕ, List, [], ◌∷◌, Option, Some, None, Result, Ok, Err, refl, append_assoc, arith}
+use Rattle.std.proofs.Common.{ℕ, List, [], ◌∷◌, Option, Some, None, Result, Ok, append_assoc, arith}
 use Rattle.std.specs.Prelude.{⊤}
 use Rattle.std.proofs.KnownBytes.{Consumes-nil, Appends-nil}
 use Rattle.x86_cli.specs.declared.outside.source.Got.{Got}
 use Rattle.x86_cli.specs.declared.outside.source.Got.TheVariants as got
 use Rattle.x86_cli.specs.declared.outside.sink.SinkFailed.{SinkFailed}
-use Rattle.x86_cli.specs.Outside.Stop.{Stop, End, Failed}
+use Rattle.x86_cli.specs.Outside.Stop.{Stop}
 use Rattle.x86_cli.specs.Outside.Source.{ReportsGot}
 use Rattle.x86_cli.specs.Outside.Sink.{ReportsPut}
 use Rattle.x86_cli.specs.Text.Reading.{SourceCalls}
@@ -30,6 +30,5 @@ module _ {S : Type 0} (gives : S → Got → S → Type 0) (left : S → Option 
 module _ {K : Type 0} (takes : K → List ℕ → Result ⊤ SinkFailed → K → Type 0) (written : K → Option (List ℕ)) (faults : K → ℕ)
     (reports : (s : K) (piece : List ℕ) (r : Result ⊤ SinkFailed) (t : K) → takes s piece r t → ReportsPut r piece (written s) (written t) (faults s) (faults t)) where
   pub sink_calls_report : (pieces : List (List ℕ)) (failed : Option (List ℕ)) (k l : K) → SinkCalls takes pieces failed k l → ReportsPieces pieces failed (written k) (written l) (faults k) (faults l)
-  sink_calls_report [] None k l e = rw e (Appends-nil (written k), refl)
-  sink_calls_report [] (Some x) k l h = reports k x (Err h.0) l h.1
+  sink_calls_report [] failed k l h = grind (arith, Appends-nil, reports k)
   sink_calls_report (p ∷ ps) failed k l h = piece_reports p ps failed _ _ _ _ _ _ (reports k p (Ok tt) h.0 h.1) (sink_calls_report ps failed h.0 l h.2)

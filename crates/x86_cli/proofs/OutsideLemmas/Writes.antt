@@ -1,10 +1,8 @@
 -- How calls of a writer are put together.
-use Rattle.std.proofs.Common.{◌≡◌, ◌<◌, ℕ, List, [], ◌∷◌, ◌++◌, length, take, drop, Result, Ok, Err, refl, ap, ◌∙◌, subst, sym, append_assoc, append-nil, take-append-drop, arith}
+use Rattle.std.proofs.Common.{◌≡◌, ℕ, List, [], ◌∷◌, ◌++◌, take, drop, Result, Ok, Err, refl, ap, ◌∙◌, subst, sym, append_assoc, append-nil, take-append-drop, arith}
 use Rattle.std.specs.Prelude.{⊤}
 use Rattle.std.specs.declared.io.Error.{Error}
-use Rattle.std.specs.declared.io.ErrorKind.TheVariants.{Interrupted}
-use Rattle.std.specs.IoError.{error_kind}
-use Rattle.x86_cli.specs.Outside.Writes.{Call, Write, Flush, sent_by, sent, AllContinue, Cause, Does, WriterCalls, Caused, Forwards, FlushesOut}
+use Rattle.x86_cli.specs.Outside.Writes.{Call, Flush, sent_by, sent, AllContinue, Cause, Does, WriterCalls, Caused, Forwards, FlushesOut}
 
 pub take_none : (n : ℕ) (xs : List ℕ) → n ≡ 0 → take n xs ≡ []
 take_none n xs none = grind arith

@@ -1,10 +1,10 @@
 -- What the bytes that a text begins with say of it.
-use Rattle.std.proofs.Common.{zero-add, add-zero, add_assoc, ◌≡◌, ℕ, suc, ◌+◌, ◌*◌, ◌<◌, ◌≤◌, List, [], ◌∷◌, ◌++◌, length, refl, arith, Some, None, true, false, ap, ◌∙◌, sym, append_assoc, length-append}
+use Rattle.std.proofs.Common.{zero-add, add-zero, ◌≡◌, ℕ, suc, ◌+◌, ◌*◌, ◌<◌, ◌≤◌, List, [], ◌∷◌, ◌++◌, length, refl, arith, Some, None, true, false, append_assoc, length-append}
 use Rattle.x86_cli.specs.declared.outside.source.Got.{Got}
 use Rattle.x86_cli.specs.Outside.Stop.{Failed}
 use Rattle.x86_cli.specs.Text.{is_blank, value_of, text_at}
 use Rattle.x86_cli.specs.Text.Reading.{NeedsMore, SourceCalls}
-use Rattle.x86_cli.specs.Text.Window.{with_bytes, rest_of, Begins, Fills}
+use Rattle.x86_cli.specs.Text.Window.{rest_of, Begins, Fills}
 use Rattle.x86_cli.proofs.TextLemmas.Text.{text-blank, text-pair}
 use Rattle.x86_cli.proofs.TextLemmas.Read.{more_new, more_half, called-called, called-where}
 use Rattle.x86_cli.proofs.TextLemmas.Fill.{more_after}
@@ -22,9 +22,7 @@ module _ (most : ℕ) (bs vs : List ℕ) (b : Begins most bs vs) (few : length v
     called = λ p r.
         let room : length (bs ++ x ∷ []) + r ≡ length bs + suc r = simp length-append (omega arith) in
         rw room (called-called (NeedsMore most) (text_at p (length bs + suc r)) bs (x ∷ []) None (b.called p (suc r)) (needs p (suc r) [] (more_new (p + length bs) (suc r)), tt));
-    rest = λ p r xs s.
-        let room : length (bs ++ x ∷ []) + r ≡ length bs + suc r = simp length-append (omega arith) in
-        rw room (simp (append_assoc, b.rest, text-blank (p + length bs) r x xs s blank, length-append, add_assoc));
+    rest = λ p r xs s. grind (arith, append_assoc {A = ℕ}, length-append bs (x ∷ []), b.rest p (suc r) (x ∷ xs) s, text-blank (p + length bs) r x xs s blank);
   }
 
   pub begins_pair : (x y v w : ℕ) → is_blank x ≡ false → value_of x ≡ Some v → value_of y ≡ Some w →
@@ -36,9 +34,7 @@ module _ (most : ℕ) (bs vs : List ℕ) (b : Begins most bs vs) (few : length v
           needs p (suc (suc r)) [] (more_new (p + length bs) (suc (suc r))),
           (needs p (suc (suc r)) (x ∷ []) (more_half (p + length bs) (suc r) x v blank high), tt),
         ));
-    rest = λ p r xs s.
-        let room : length (bs ++ x ∷ y ∷ []) + r ≡ length bs + suc (suc r) = simp length-append (omega arith) in
-        rw room (simp (append_assoc, b.rest, text-pair (p + length bs) r x y v w xs s blank high low, length-append, add_assoc));
+    rest = λ p r xs s. grind (arith, append_assoc {A = ℕ}, length-append bs (x ∷ y ∷ []), b.rest p (suc (suc r)) (x ∷ y ∷ xs) s, text-pair (p + length bs) r x y v w xs s blank high low);
   }
 
 module _ {S : Type 0} (gives : S → Got → S → Type 0) where

@@ -6,7 +6,7 @@ use Rattle.x86_cli.specs.Outside.Stop.{Stop, Failed}
 use Rattle.x86_cli.specs.declared.text.reader.Piece.TheVariants.{Byte, Stopped}
 use Rattle.x86_cli.specs.Text.{Text, text_at}
 use Rattle.x86_cli.specs.Text.Reading.{IsOpenText, NeedsMore, CalledWhere, SourceCalls, MayCome, Reads}
-use Rattle.x86_cli.specs.Text.Window.{with_bytes, rest_of, Open, Fills}
+use Rattle.x86_cli.specs.Text.Window.{with_bytes, rest_of, Fills}
 use Rattle.x86_cli.proofs.TextLemmas.Read.{source_calls-source_calls, called-called, called-where, called-same}
 
 -- a text that begins with fewer than k bytes needs more of these

@@ -1,13 +1,12 @@
 -- The bytes of an image that the text ahead has.
-use Rattle.std.proofs.Common.{add_assoc, add-zero, mul-zero, ◌≡◌, ◌≢◌, ◌⊎◌, inl, inr, ℕ, zero, suc, ◌+◌, ◌-◌, ◌*◌, ◌%◌, ◌<◌, ◌≤◌, List, [], ◌∷◌, ◌++◌, length, take, drop, min, set, slice_index_or, slice_range, unwrap_or, Option, Some, None, Bool, true, false, refl, arith, ap, ◌∙◌, sym, subst, append_assoc, length-append, length-take, length-drop}
+use Rattle.std.proofs.Common.{add_assoc, add-zero, ◌≡◌, ℕ, zero, suc, ◌+◌, ◌-◌, ◌*◌, ◌%◌, ◌<◌, ◌≤◌, List, [], ◌∷◌, ◌++◌, length, take, drop, set, slice_index_or, slice_range, unwrap_or, Some, None, true, false, arith, ap, sym, subst, append_assoc, length-append, length-take, length-drop}
 use Rattle.std.proofs.Math.Seq.{take-add}
-use Rattle.std.proofs.lemmas.Bool.{cases_lt, cases_eq}
-use Rattle.std.proofs.lemmas.List.{drop-drop, drop-take, take-take, take_more, take_all, get_or-drop, get_or-set_same, get_or-set_other, length-set}
+use Rattle.std.proofs.lemmas.List.{drop-drop, drop-take, take-take, take_more, get_or-drop, get_or-set_same, get_or-set_other}
 use Rattle.x86_cli.specs.Outside.Stop.{Failed}
-use Rattle.x86_cli.specs.Text.{Text, is_blank, value_of, text_at}
+use Rattle.x86_cli.specs.Text.{is_blank, value_of, text_at}
 use Rattle.x86_cli.specs.Text.Reading.{NeedsMore}
-use Rattle.x86_cli.specs.Text.Window.{with_bytes, Begins}
-use Rattle.x86_cli.specs.Text.ImageAhead.{IsBetween, AreBlanks, IsByte, AreBytes, AreAhead, IsAheadIn}
+use Rattle.x86_cli.specs.Text.Window.{Begins}
+use Rattle.x86_cli.specs.Text.ImageAhead.{AreBlanks, IsByte, AreBytes, AreAhead, IsAheadIn}
 use Rattle.x86_cli.specs.declared.text.image_ahead.ImageAhead.{ImageAhead}
 use Rattle.x86_cli.proofs.TextLemmas.Text.{value-blank}
 use Rattle.x86_cli.proofs.TextLemmas.Read.{called-called, called-where}
@@ -43,30 +42,14 @@ range_none text a = grind arith
 -- what is between two places
 
 pub blanks_none : (text : List ℕ) (at : ℕ) → at ≤ length text → AreBlanks text at at
-blanks_none text at inside = record {
-  ordered = omega arith;
-  inside = inside;
-  begins = rw (range_none text at) (begins_none 1);
-}
+blanks_none text at inside = grind (arith, range_none text at, begins_none 1)
 
 pub blanks_more : (text : List ℕ) (start at : ℕ) → AreBlanks text start at → at < length text → is_blank (slice_index_or text at 0) ≡ true → AreBlanks text start (at + 1)
-blanks_more text start at b inside blank = record {
-  ordered = omega (arith, b.ordered);
-  inside = omega (arith, inside);
-  begins = rw (range_more text start at (omega (arith, b.ordered)) inside) (begins_blank 1 (slice_range text start at) [] b.begins (omega arith) (slice_index_or text at 0) blank);
-}
+blanks_more text start at b inside blank = grind (arith, range_more text start at, begins_blank 1 (slice_range text start at) [] b.begins)
 
 pub byte_after : (text : List ℕ) (start at v w : ℕ) → AreBlanks text start at → at + 1 < length text → is_blank (slice_index_or text at 0) ≡ false →
     value_of (slice_index_or text at 0) ≡ Some v → value_of (slice_index_or text (at + 1) 0) ≡ Some w → IsByte text start (at + 2) (16 * v + w)
-byte_after text start at v w b inside blank high low =
-    let two : at + 2 ≡ at + 1 + 1 = omega arith in
-    let last = range_more text start (at + 1) (omega (arith, b.ordered)) inside in
-    let first = range_more text start at (omega (arith, b.ordered)) (omega (arith, inside)) in
-    record {
-      ordered = omega (arith, b.ordered);
-      inside = omega (arith, inside);
-      begins = rw (two, last, first, append_assoc) (begins_pair 1 _ [] b.begins (omega arith) _ _ v w blank high low);
-    }
+byte_after text start at v w b inside blank high low = grind (arith, range_more text start (at + 1), range_more text start at, append_assoc {A = ℕ}, begins_pair 1 (slice_range text start at) [] b.begins)
 
 -- the bytes that were read
 

@@ -157,5 +157,4 @@ beginnings_good (suc (suc m)) (a ∷ b ∷ s) e =
 pub bad_is_first : BadIsFirst
 bad_is_first bytes n e =
     let f = first_bad bytes n e in
-    let next : n + 1 ≡ suc n = omega arith in
-    (f.inside, (λ m le. ap bad_of (sym (take-take m n bytes le)) ∙ beginnings_good m (take n bytes) f.before), rw next f.here, f.image)
+    (f.inside, (λ m le. ap bad_of (sym (take-take m n bytes le)) ∙ beginnings_good m (take n bytes) f.before), grind (arith, f.here), f.image)

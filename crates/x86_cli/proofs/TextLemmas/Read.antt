@@ -1,5 +1,5 @@
 -- What a reader's steps say of the whole text.
-use Rattle.std.proofs.Common.{◌-◌, ◌≡◌, ℕ, suc, zero, ◌+◌, ◌*◌, ◌<◌, List, [], ◌∷◌, ◌++◌, refl, arith, Option, Some, None, true, false, ◌∙◌, subst, sym, append_assoc}
+use Rattle.std.proofs.Common.{◌-◌, ◌≡◌, ℕ, suc, ◌+◌, ◌*◌, ◌<◌, List, [], ◌∷◌, ◌++◌, refl, arith, Option, Some, None, true, false, ◌∙◌, subst, sym, append_assoc}
 use Rattle.x86_cli.specs.declared.outside.source.Got.{Got}
 use Rattle.x86_cli.specs.declared.outside.source.Got.TheVariants as got
 use Rattle.x86_cli.specs.declared.text.reader.Ending.{Ending}

@@ -1,5 +1,5 @@
 -- What the process writes beside its listing.
-use Rattle.std.specs.Prelude.{ℕ, List, ◌++◌, Result, ⊤, codes}
+use Rattle.std.specs.Prelude.{ℕ, List, Result, ⊤, codes}
 use Rattle.std.specs.declared.io.Error.{Error}
 use Rattle.x86_cli.specs.declared.outside.sink.SinkFailed.{SinkFailed}
 use Rattle.x86_cli.specs.Listings.Line.{line}

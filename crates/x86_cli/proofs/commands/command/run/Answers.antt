@@ -1,6 +1,4 @@
-use Rattle.std.proofs.Common.{arith, ◌≡◌, ◌≢◌, ◌∙◌, sym, Option, Some, None}
-use Rattle.x86_cli.specs.declared.commands.command.Command.{Command}
-use Rattle.x86_cli.specs.declared.listings.status.Status.TheVariants.{Usage}
+use Rattle.std.proofs.Common.{arith, ◌∙◌, sym}
 use Rattle.x86_cli.proofs.CommandLemmas.Causes.{ran_used}
 use Rattle.x86_cli.proofs.CommandLemmas.Says.{ran_says}
 use Rattle.x86_cli.proofs.commands.command.run.Goals as goal

@@ -1,4 +1,4 @@
-use Rattle.std.proofs.Common.{◌≡◌, ℕ, ◌+◌, List, [], None, arith, ap, length, ◌∙◌, length-append}
+use Rattle.std.proofs.Common.{[], arith, ap, length, ◌∙◌, length-append}
 use Rattle.std.proofs.lemmas.List.{drop_all}
 use Rattle.x86_cli.specs.Text.{text_of}
 use Rattle.x86_cli.specs.Text.Reading.{IsOpenText}
@@ -21,13 +21,12 @@ windows-preserved g c =
     let i = c.windows.invariant in
     let w = c.refill.new.self in
     let fills = rw (i.ended, i.empty) at c.refill.ensures.cases in
-    let all : length w.bytes.items ≡ c.append-count.result = omega (arith, c.append-count.ensures.count) in
     record {
       filling = rw (c.append-count.ensures.image, c.leave.ensures.reader)
           (filling_window g.S.Source.gives (text_of c.args.max) c.windows.image.items _ _ _ _ i.filling 15 w.ended w.bytes.items _ _ _ fills c.in-None.is);
       ahead = rw (c.leave.ensures.reader, c.leave.ensures.ahead) c.refill.ensures.ahead;
       ended = c.leave.ensures.ended ∙ c.in-None.is;
-      empty = c.leave.ensures.bytes ∙ drop_all c.append-count.result w.bytes.items (omega (arith, all));
+      empty = c.leave.ensures.bytes ∙ drop_all c.append-count.result w.bytes.items (omega (arith, c.append-count.ensures.count));
       fits = omega (arith, i.fits, ap length i.empty, c.refill.ensures.pairs, ap (λ r. r.room) c.leave.ensures.reader, simp length-append at (ap length c.append-count.ensures.image));
     }
 

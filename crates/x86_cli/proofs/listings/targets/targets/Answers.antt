@@ -1,7 +1,6 @@
-use Rattle.std.proofs.Common.{Bool, None, List, [], refl, ◌≡◌, ◌∙◌, ℕ, ◌<◌, ap, arith, false, true, length, ◌+◌, sym, slice_index_or}
+use Rattle.std.proofs.Common.{Bool, None, List, [], refl, ◌≡◌, ℕ, ◌<◌, ap, arith, false, length, ◌+◌, slice_index_or}
 use Rattle.x86_layout.specs.Sweeps.Marks.{is_marked}
 use Rattle.x86_cli.specs.Text.{Text}
-use Rattle.x86_cli.specs.Listings.Listing.{with_lines}
 use Rattle.x86_cli.specs.Listings.Targets.{lines_if, place_line, targets_at}
 use Rattle.x86_cli.proofs.ListingLemmas.Progress.{progress_whole, progress_step, ran_failed, ran_closed, ran_unclosed}
 use Rattle.x86_cli.proofs.ListingLemmas.Target.{targets-step, targets-end}
@@ -30,10 +29,8 @@ returns-in-Err g c =
     let place = c.places.place in
     let text : Text = record { image = c.read_whole-text.result.image.items; ending = c.read_whole-text.result.ending } in
     let m = marked_at strict text.image c.as_slice-image.result.now c.mark.new.marks place c.as_slice-image.ensures.value c.places-test.true c.mark.ensures in
-    let failed = c.in-Err.ensures.failed in
-    let marked : is_marked strict text.image place ≡ true = sym m.1 ∙ failed.0 in
     ran_failed g.S.Source.gives g.K.Sink.takes (targets_at strict) None _ _ _ _ _ _ _ _ _ _ c.places.invariant (place_line place)
-    (λ xs stop. (targets_at strict (place + 1) text, targets-step strict place text m.0 ∙ ap (λ b. with_lines (lines_if b place) (targets_at strict (place + 1) text)) marked)) _ _ failed.1
+    (λ xs stop. (targets_at strict (place + 1) text, grind (arith, targets-step strict place text m.0, m.1, c.in-Err.ensures.failed.0))) _ _ c.in-Err.ensures.failed.1
 
 pub returns-in-Ok-end : goal.returns-in-Ok-end
 returns-in-Ok-end g c =

@@ -1,4 +1,4 @@
-use Rattle.std.proofs.Common.{◌≡◌, ℕ, ◌+◌, ◌-◌, ◌*◌, ◌%◌, ◌<◌, ◌≤◌, length, slice_index_or, unwrap_or}
+use Rattle.std.proofs.Common.{ℕ, ◌-◌, ◌≤◌, length}
 use Rattle.x86_cli.specs.Text.ImageAhead.{AreBlanks}
 use Rattle.x86_cli.proofs.text.pairs.after_blanks.Given as goal
 

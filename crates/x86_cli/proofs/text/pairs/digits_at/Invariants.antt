@@ -1,4 +1,4 @@
-use Rattle.std.proofs.Common.{◌≡◌, ℕ, ◌+◌, ◌-◌, ◌*◌, ◌%◌, ◌<◌, ◌≤◌, length, slice_index_or, unwrap_or}
+use Rattle.std.proofs.Common.{◌≡◌, ℕ, ◌+◌, ◌<◌, length, slice_index_or, unwrap_or}
 use Rattle.x86_cli.specs.Text.{value_of}
 use Rattle.x86_cli.proofs.text.pairs.digits_at.Given as goal
 

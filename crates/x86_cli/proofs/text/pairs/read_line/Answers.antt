@@ -1,7 +1,7 @@
-use Rattle.std.proofs.Common.{◌≡◌, ℕ, suc, ◌+◌, ◌*◌, ◌<◌, length, slice_index_or, arith, ◌∙◌}
+use Rattle.std.proofs.Common.{ℕ, ◌+◌, ◌<◌, length, arith}
 use Rattle.std.proofs.lemmas.Bool.Decides.{nat_tests}
-use Rattle.std.proofs.lemmas.List.{get_or-set_same, get_or-set_other, length-set}
-use Rattle.x86_cli.proofs.TextLemmas.ImageAhead.{blanks_none, blanks_more, byte_after, bytes_push}
+use Rattle.std.proofs.lemmas.List.{get_or-set_same, get_or-set_other}
+use Rattle.x86_cli.proofs.TextLemmas.ImageAhead.{blanks_none, byte_after, bytes_push}
 use Rattle.x86_cli.proofs.text.pairs.read_line.Goals as goal
 
 pub pairs-preserved : goal.pairs-preserved

@@ -1,4 +1,4 @@
-use Rattle.std.proofs.Common.{◌≡◌, ℕ, ◌+◌, ◌-◌, ◌*◌, ◌%◌, ◌<◌, ◌≤◌, length, slice_index_or, unwrap_or}
+use Rattle.std.proofs.Common.{◌≡◌, ℕ, ◌-◌, ◌≤◌, length, slice_index_or}
 use Rattle.x86_cli.specs.Text.ImageAhead.{AreBlanks, AreBytes}
 use Rattle.x86_cli.proofs.text.pairs.read_line.Given as goal
 

@@ -1,4 +1,4 @@
-use Rattle.std.proofs.Common.{◌≡◌, ◌+◌, ◌≤◌, length, arith}
+use Rattle.std.proofs.Common.{◌+◌, ◌≤◌, length, arith}
 use Rattle.x86_cli.proofs.TextLemmas.ImageAhead.{run_bytes, run_inside}
 use Rattle.x86_cli.proofs.text.pairs.read_run.Goals as goal
 

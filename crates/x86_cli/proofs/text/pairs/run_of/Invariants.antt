@@ -1,4 +1,4 @@
-use Rattle.std.proofs.Common.{◌≡◌, ℕ, ◌+◌, ◌-◌, ◌*◌, ◌%◌, ◌<◌, ◌≤◌, length, slice_index_or, unwrap_or}
+use Rattle.std.proofs.Common.{ℕ, ◌-◌, ◌*◌, ◌<◌, ◌≤◌, slice_index_or}
 use Rattle.x86_cli.proofs.text.pairs.run_of.Given as goal
 
 abbrev pub invariant-loop-run : goal.invariant-loop-run

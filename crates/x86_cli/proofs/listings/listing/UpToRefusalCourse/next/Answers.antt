@@ -1,6 +1,6 @@
 use Rattle.std.proofs.Common.{None, ap, ◌∙◌}
 use Rattle.x86_cli.proofs.TextLemmas.Decoded.{shown_answer}
-use Rattle.x86_cli.proofs.ListingLemmas.NextStep.{step_line, step_refused, step_ended}
+use Rattle.x86_cli.proofs.ListingLemmas.NextStep.{step_line, step_ended}
 use Rattle.x86_cli.proofs.listings.listing.UpToRefusalCourse.next.Goals as goal
 
 pub returns-in-Whole-clause-next : goal.returns-in-Whole-clause-next

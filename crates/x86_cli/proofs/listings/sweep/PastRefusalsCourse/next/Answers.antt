@@ -1,7 +1,7 @@
-use Rattle.std.proofs.Common.{◌≡◌, ◌<◌, arith, length}
+use Rattle.std.proofs.Common.{◌<◌, arith, length}
 use Rattle.std.proofs.lemmas.Bool.Decides.{nat_tests}
 use Rattle.x86_decode.specs.Instruction.{holding}
-use Rattle.x86_cli.proofs.ListingLemmas.Sweep.{sweep_line, sweep_end}
+use Rattle.x86_cli.proofs.ListingLemmas.Sweep.{sweep_line}
 use Rattle.x86_cli.proofs.listings.sweep.PastRefusalsCourse.next.Goals as goal
 
 pub returns-then-not-is_empty-clause-next : goal.returns-then-not-is_empty-clause-next

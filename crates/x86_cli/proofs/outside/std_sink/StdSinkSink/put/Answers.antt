@@ -1,6 +1,6 @@
 use Rattle.std.proofs.Common.{◌≡◌, ◌<◌, rules, refl, arith, length}
 use Rattle.std.proofs.lemmas.Bool.Decides.{nat_tests}
-use Rattle.x86_cli.proofs.OutsideLemmas.Sink.{puts_none, puts_more, puts_all, puts_part, puts_nothing, puts_error}
+use Rattle.x86_cli.proofs.OutsideLemmas.Sink.{puts_more, puts_all, puts_part, puts_nothing, puts_error}
 use Rattle.x86_cli.proofs.outside.std_sink.StdSinkSink.put.Goals as goal
 use Rattle.x86_cli.proofs.outside.std_sink.StdSinkSink.put.Goals.{in_default-via-in-Ok+else-count-gt0, in_default-via-in_default}
 

@@ -1,5 +1,5 @@
 use Rattle.std.proofs.Common.{◌≡◌, arith, inl}
-use Rattle.x86_cli.proofs.OutsideLemmas.Skip.{begins_before_end, skipped_none, skipped_more, some_left}
+use Rattle.x86_cli.proofs.OutsideLemmas.Skip.{begins_before_end, skipped_more, some_left}
 use Rattle.x86_cli.proofs.outside.std_source.StdSourceSource.skip.Goals as goal
 
 pub take-requires : goal.take-requires

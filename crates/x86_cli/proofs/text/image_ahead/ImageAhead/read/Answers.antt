@@ -1,4 +1,4 @@
-use Rattle.std.proofs.Common.{◌≡◌, slice_index_or, refl, arith, ◌∙◌}
+use Rattle.std.proofs.Common.{arith}
 use Rattle.x86_cli.proofs.text.image_ahead.ImageAhead.read.Goals as goal
 
 pub returns-then-more-end : goal.returns-then-more-end

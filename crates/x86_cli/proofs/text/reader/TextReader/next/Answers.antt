@@ -1,5 +1,5 @@
 use Rattle.std.proofs.Common.{arith, refl, sym, ◌<◌}
-use Rattle.x86_cli.proofs.TextLemmas.Read.{reads_after, reads_end, reads_failed, reads_large, reads_bad, skips_blank}
+use Rattle.x86_cli.proofs.TextLemmas.Read.{reads_after, reads_end, reads_failed, reads_large, reads_bad}
 use Rattle.x86_cli.proofs.text.reader.TextReader.next.Goals as goal
 
 pub returns-in-End-clause-reads : goal.returns-in-End-clause-reads

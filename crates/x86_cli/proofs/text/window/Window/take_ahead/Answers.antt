@@ -1,4 +1,4 @@
-use Rattle.std.proofs.Common.{◌-◌, ◌≡◌, ◌+◌, ◌≤◌, ◌++◌, length, take, drop, arith, ap, ◌∙◌, refl, length-take-le}
+use Rattle.std.proofs.Common.{◌-◌, ◌+◌, ◌≤◌, ◌++◌, length, take, drop, arith, ap, ◌∙◌, refl, length-take-le}
 use Rattle.std.proofs.lemmas.List.{take-take}
 use Rattle.x86_cli.proofs.TextLemmas.Begins.{fills_begins}
 use Rattle.x86_cli.proofs.TextLemmas.ImageAhead.{takes_bytes, rest_ahead}
