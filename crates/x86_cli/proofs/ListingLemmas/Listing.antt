@@ -42,10 +42,6 @@ module _ (strict : Bool) (text : ℕ → Instruction → List ℕ → List ℕ) 
 -- the same status with other lines
 
 module _ (strict : Bool) (text other : ℕ → Instruction → List ℕ → List ℕ) where
-  listed-status : (f : Decoded Instruction) (n : ℕ) (xs : List ℕ) (a b : ℕ → Listing) → ((k : ℕ) → (a k).status ≡ (b k).status) →
-      (listed strict text f n xs a).status ≡ (listed strict other f n xs b).status
-  listed-status f n xs a b h = grind arith
-
   listing-status : (n k : ℕ) (xs : List ℕ) (e : Ending) → (listing_from strict text n k xs e).status ≡ (listing_from strict other n k xs e).status
   unfolding listing_from
   listing-status n k [] e = refl
