@@ -5,6 +5,6 @@ pub mod Read
 pub mod Pair
 pub mod Fill
 pub mod Begins
-pub mod WindowBytes
+pub mod ImageBytes
 pub mod ImageAhead
 pub mod Decoded

@@ -1,8 +1,7 @@
 //! Hex text: its bytes by kind, its reader, and the window over its image.
 
-pub mod image_ahead;
+pub mod image_bytes;
 mod kinds;
 mod pairs;
 pub mod reader;
 pub mod window;
-mod window_bytes;

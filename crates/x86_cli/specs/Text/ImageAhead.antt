@@ -1,7 +1,18 @@
 -- The bytes of an image that the text ahead has, by the places at which they end.
 use Rattle.std.specs.Prelude.{◌≡◌, ℕ, ◌+◌, ◌*◌, ◌<◌, ◌≤◌, List, [], ◌∷◌, length, drop, slice_index_or, slice_range}
-use Rattle.x86_cli.specs.declared.text.image_ahead.ImageAhead.{ImageAhead}
 use Rattle.x86_cli.specs.Text.Window.{Begins}
+
+-- The bytes that are ahead: values from a start up to an end, with the places of a text at which they end.
+pub record BytesAhead : Type 0 where
+  pub values : List ℕ
+  pub places : List ℕ
+  pub start : ℕ
+  pub end : ℕ
+
+-- The bytes that a window holds, and those that are ahead of them.
+pub record WindowBytes : Type 0 where
+  pub items : List ℕ
+  pub ahead : BytesAhead
 
 -- Between two places of a text are these values, fewer than two: blanks, and then a pair where there is a value.
 pub record IsBetween (text : List ℕ) (start end : ℕ) (values : List ℕ) : Type 0 where
@@ -22,16 +33,24 @@ abbrev pub AreBytes : List ℕ → ℕ → List ℕ → List ℕ → Type 0
 AreBytes text count values places =
     (k : ℕ) → k < count → IsByte text (slice_index_or places k 0) (slice_index_or places (k + 1) 0) (slice_index_or values k 0)
 
--- The values from a start on, where there are some, are the bytes of the image that a text begins with: those before it
--- were taken.
+-- The values from a start up to an end, where there are some, are the bytes of the image that a text begins with: the
+-- rest of a whole whose bytes before them were taken.
 pub record AreAhead (text values places : List ℕ) (start end : ℕ) : Type 0 where
   pub whole : List ℕ
-  pub bytes : AreBytes whole end values places
-  pub room : end ≤ length values
+  pub bytes : (k : ℕ) → start ≤ k → k < end → IsByte whole (slice_index_or places k 0) (slice_index_or places (k + 1) 0) (slice_index_or values k 0)
+  pub room : start < end → end ≤ length values
   pub rest : start < end → text ≡ drop (slice_index_or places start 0) whole
 
-abbrev pub IsAheadIn : List ℕ → ImageAhead → Type 0
-IsAheadIn text s = AreAhead text s.values s.places s.start s.end
+abbrev pub IsAheadIn : List ℕ → BytesAhead → Type 0
+IsAheadIn text a = AreAhead text a.values a.places a.start a.end
 
-abbrev pub IsEmptyAhead : ImageAhead → Type 0
-IsEmptyAhead s = s.start ≡ s.end
+abbrev pub IsEmptyAhead : BytesAhead → Type 0
+IsEmptyAhead a = a.start ≡ a.end
+
+-- no byte ahead ends before those are taken
+abbrev pub AreOrdered : BytesAhead → Type 0
+AreOrdered a = (to : ℕ) → a.start ≤ to → to ≤ a.end → slice_index_or a.places a.start 0 ≤ slice_index_or a.places to 0
+
+-- the bytes ahead from another start on
+abbrev pub starting : ℕ → BytesAhead → BytesAhead
+starting start a = record { values = a.values; places = a.places; start = start; end = a.end }

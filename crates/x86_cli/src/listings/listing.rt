@@ -101,7 +101,7 @@ pub trait Course {
         inst: &mut Instruction,
         line: &mut Line,
     ) -> Step
-        requires { window.now.ended ≡ None → array_vec_len window.now.bytes ≡ 15 }
+        requires { window.now.ended ≡ None → length window.now.bytes.items ≡ 15 }
         ensures next { IsStep
             (lists self.now (is_strict decoder.now)) result place.now line.new.items
             window.now.ended window.now.bytes.items window.now.reader.position

@@ -33,9 +33,9 @@ struct WholeText {
 
 /// Appends the bytes of a window to an image. It returns how many they are.
 fn append(image: &mut ArrayVec<u8, IMAGE_MAX>, window: &Window) -> usize
-    requires { array_vec_len image.old + array_vec_len window.now.bytes ≤ IMAGE_MAX }
+    requires { array_vec_len image.old + length window.now.bytes.items ≤ IMAGE_MAX }
     ensures image { image.new.items ≡ image.old.items ++ window.now.bytes.items }
-    ensures count { result ≡ array_vec_len window.now.bytes }
+    ensures count { result ≡ length window.now.bytes.items }
 {
     let bytes = window.bytes.as_slice();
     for byte in bytes {

@@ -1,6 +1,6 @@
 //! Pairs of digits, read many at once.
 
-ghost use Rattle.std.specs.Prelude.{◌≡◌, ℕ, ◌+◌, ◌*◌, ◌%◌, ◌^◌, ◌<◌, ◌≤◌, length, slice_index_or, unwrap_or, true};
+ghost use Rattle.std.specs.Prelude.{◌≡◌, ℕ, ◌+◌, ◌*◌, ◌%◌, ◌^◌, ◌<◌, ◌≤◌, length, slice_index_or, Some, true};
 ghost use Rattle.x86_cli.specs.Text.{value_of};
 ghost use Rattle.x86_cli.specs.Text.ImageAhead.{AreBlanks, AreBytes};
 
@@ -18,21 +18,17 @@ const RUN_MIN: usize = 8;
 /// The most pairs that are read one by one.
 const LINE: usize = 48;
 
-/// The value of a digit. That of another byte is 255.
+/// The value of a digit. That of another byte is above 15.
 #[inline(always)]
 #[tactic(auto, unfolding(crate::specs::Text::value_of))]
 fn digit_of(byte: u8) -> u8
-    ensures { result ≡ unwrap_or (value_of byte) 255 }
+    ensures { result < 16 → value_of byte ≡ Some result }
 {
     let number = byte.wrapping_sub(b'0');
-    let letter = (byte % 32).wrapping_sub(1);
-    if number < 10 {
-        number
-    } else if byte / 64 == 1 && letter < 6 {
-        letter + 10
-    } else {
-        255
-    }
+    let decimal = if number < 10 { number } else { 255 };
+    let capital = byte.wrapping_sub(b'A').saturating_add(10);
+    let small = byte.wrapping_sub(b'a').saturating_add(10);
+    decimal.min(capital).min(small)
 }
 
 /// The values of the digits from a place on.
@@ -40,8 +36,8 @@ fn digit_of(byte: u8) -> u8
 #[tactic(auto, using(crate::proofs::TextLemmas::ImageAhead::more_set))]
 fn digits_at(text: &[u8], at: usize) -> [u8; DIGITS]
     requires { at + 32 ≤ length text.now }
-    ensures { (k : ℕ) → k < 32 → slice_index_or result k 0
-        ≡ unwrap_or (value_of (slice_index_or text.now (at + k) 0)) 255 }
+    ensures { (k : ℕ) → k < 32 → slice_index_or result k 0 < 16 →
+        value_of (slice_index_or text.now (at + k) 0) ≡ Some (slice_index_or result k 0) }
 {
     let mut digits = [255; DIGITS];
     for i in 0..DIGITS {

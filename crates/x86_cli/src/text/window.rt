@@ -1,7 +1,6 @@
 //! The next bytes of an image.
 
-ghost use Rattle.std.specs.Prelude.{◌≡◌, ℕ, ◌+◌, ◌*◌, ◌<◌, ◌≤◌, List, [], take, drop, None, Some, MatchOption};
-ghost use Rattle.arrayvec.specs.ArrayVec.{array_vec_len};
+ghost use Rattle.std.specs.Prelude.{◌≡◌, ℕ, ◌+◌, ◌*◌, ◌<◌, ◌≤◌, List, [], length, take, drop, None, Some, MatchOption};
 ghost use Rattle.x86_cli.specs.Outside.Stop.{Stop};
 ghost use Rattle.x86_decode.specs.Decoder.{is_strict};
 ghost use Rattle.x86_decode.specs.declared.instructions.Instruction.{Instruction};
@@ -13,9 +12,8 @@ ghost use Rattle.x86_cli.specs.Text.Window.{rest_of, decoded_with, Fills, Shows}
 
 use crate::laws::decoder_laws;
 use crate::outside::source::Source;
-use crate::text::image_ahead::ImageAhead;
+use crate::text::image_bytes::ImageBytes;
 use crate::text::reader::{Ending, Piece, TextReader};
-use crate::text::window_bytes::WindowBytes;
 use x86_decode::{InstDecoder, Instruction};
 use x86_fields::DecodeError;
 
@@ -55,8 +53,7 @@ fn decoded_at_end(answer: Result<(), DecodeError>, ending: Ending) -> Decoded<()
 /// The next bytes of an image, and the reader of what follows them.
 #[derive(Drop)]
 pub struct Window {
-    pub bytes: WindowBytes,
-    pub ahead: ImageAhead,
+    pub bytes: ImageBytes,
     pub reader: TextReader,
     pub ended: Option<Ending>,
 }
@@ -67,11 +64,10 @@ impl Window {
         ensures position { result.reader.position ≡ 0 }
         ensures room { result.reader.room ≡ max }
         ensures ended { result.ended ≡ None }
-        ensures ahead { (text : List ℕ) → IsAheadIn text result.ahead }
+        ensures ahead { (text : List ℕ) → IsAheadIn text result.bytes.ahead }
     {
         Window {
-            bytes: WindowBytes::EMPTY,
-            ahead: ImageAhead::new(),
+            bytes: ImageBytes::NONE,
             reader: TextReader::new(max),
             ended: None,
         }
@@ -80,19 +76,21 @@ impl Window {
     /// Takes bytes of the image until the window is full or the text has ended.
     #[cold]
     #[inline(never)]
+    #[tactic(auto, using(crate::proofs::TextLemmas::ImageAhead::none_ahead))]
     pub fn fill<S: Source>(&mut self, source: &mut S)
-        requires { self.old.ended ≡ None }
+        requires ended { self.old.ended ≡ None }
+        requires empty { IsEmptyAhead self.old.bytes.ahead }
         ensures fills { Fills S.gives (NeedsMore 15)
             (rest_of None self.old.bytes.items self.old.reader.position self.old.reader.room)
             self.new.ended self.new.bytes.items self.new.reader.position self.new.reader.room
             source.old source.new }
-        ensures few { array_vec_len self.new.bytes ≤ 15 }
-        ensures ahead { self.new.ahead ≡ self.old.ahead }
-        ensures full { self.new.ended ≡ None → array_vec_len self.new.bytes ≡ 15 }
-        ensures uses { array_vec_len self.new.bytes + self.new.reader.room
-            ≤ array_vec_len self.old.bytes + self.old.reader.room }
-        ensures pairs { 2 * array_vec_len self.new.bytes + self.new.reader.room
-            ≤ 2 * array_vec_len self.old.bytes + self.old.reader.room }
+        ensures few { length self.new.bytes.items ≤ 15 }
+        ensures ahead { (text : List ℕ) → IsAheadIn text self.new.bytes.ahead }
+        ensures full { self.new.ended ≡ None → length self.new.bytes.items ≡ 15 }
+        ensures uses { length self.new.bytes.items + self.new.reader.room
+            ≤ length self.old.bytes.items + self.old.reader.room }
+        ensures pairs { 2 * length self.new.bytes.items + self.new.reader.room
+            ≤ 2 * length self.old.bytes.items + self.old.reader.room }
     {
         // The reader is a local value meanwhile, so that its position need not go to memory at each byte.
         let mut reader = self.reader;
@@ -112,23 +110,22 @@ impl Window {
     /// Takes the bytes of the image that are known ahead, until the window is full.
     #[inline(always)]
     fn take_ahead<S: Source>(&mut self, source: &mut S)
-        requires { IsAheadIn (take self.old.reader.room (S.ahead source.old)) self.old.ahead }
+        requires { IsAheadIn (take self.old.reader.room (S.ahead source.old)) self.old.bytes.ahead }
         ensures fills { Fills S.gives (NeedsMore 15)
             (rest_of None self.old.bytes.items self.old.reader.position self.old.reader.room)
             None self.new.bytes.items self.new.reader.position self.new.reader.room
             source.old source.new }
-        ensures ahead { IsAheadIn (take self.new.reader.room (S.ahead source.new)) self.new.ahead }
-        ensures empty { array_vec_len self.new.bytes < 15 → IsEmptyAhead self.new.ahead }
+        ensures ahead { IsAheadIn
+            (take self.new.reader.room (S.ahead source.new)) self.new.bytes.ahead }
+        ensures empty { length self.new.bytes.items < 15 → IsEmptyAhead self.new.bytes.ahead }
         ensures ended { self.new.ended ≡ self.old.ended }
-        ensures few { array_vec_len self.new.bytes ≤ 15 }
-        ensures uses { array_vec_len self.new.bytes + self.new.reader.room
-            ≤ array_vec_len self.old.bytes + self.old.reader.room }
-        ensures pairs { 2 * array_vec_len self.new.bytes + self.new.reader.room
-            ≤ 2 * array_vec_len self.old.bytes + self.old.reader.room }
+        ensures few { length self.new.bytes.items ≤ 15 }
+        ensures uses { length self.new.bytes.items + self.new.reader.room
+            ≤ length self.old.bytes.items + self.old.reader.room }
+        ensures pairs { 2 * length self.new.bytes.items + self.new.reader.room
+            ≤ 2 * length self.old.bytes.items + self.old.reader.room }
     {
-        let count = self.ahead.len().min(self.bytes.room());
-        self.bytes.push_block(&self.ahead.block(), count);
-        let text = self.ahead.take(count);
+        let text = self.bytes.take();
         source.skip(text);
         self.reader.advance_by(text);
     }
@@ -138,20 +135,22 @@ impl Window {
     #[cold]
     #[inline(never)]
     fn read_ahead<S: Source>(&mut self, source: &mut S)
-        requires { self.old.ended ≡ None }
+        requires ended { self.old.ended ≡ None }
+        requires empty { IsEmptyAhead self.old.bytes.ahead }
         ensures fills { Fills S.gives (NeedsMore 15)
             (rest_of None self.old.bytes.items self.old.reader.position self.old.reader.room)
             self.new.ended self.new.bytes.items self.new.reader.position self.new.reader.room
             source.old source.new }
-        ensures ahead { IsAheadIn (take self.new.reader.room (S.ahead source.new)) self.new.ahead }
-        ensures few { array_vec_len self.new.bytes ≤ 15 }
-        ensures full { self.new.ended ≡ None → array_vec_len self.new.bytes ≡ 15 }
-        ensures uses { array_vec_len self.new.bytes + self.new.reader.room
-            ≤ array_vec_len self.old.bytes + self.old.reader.room }
-        ensures pairs { 2 * array_vec_len self.new.bytes + self.new.reader.room
-            ≤ 2 * array_vec_len self.old.bytes + self.old.reader.room }
+        ensures ahead { IsAheadIn
+            (take self.new.reader.room (S.ahead source.new)) self.new.bytes.ahead }
+        ensures few { length self.new.bytes.items ≤ 15 }
+        ensures full { self.new.ended ≡ None → length self.new.bytes.items ≡ 15 }
+        ensures uses { length self.new.bytes.items + self.new.reader.room
+            ≤ length self.old.bytes.items + self.old.reader.room }
+        ensures pairs { 2 * length self.new.bytes.items + self.new.reader.room
+            ≤ 2 * length self.old.bytes.items + self.old.reader.room }
     {
-        self.ahead.read(self.reader.within(source.ahead()));
+        self.bytes.read(self.reader.within(source.ahead()));
         self.take_ahead(source);
         if !self.bytes.is_full() {
             self.fill(source);
@@ -160,20 +159,21 @@ impl Window {
 
     /// The same, where the text may have ended.
     pub fn refill<S: Source>(&mut self, source: &mut S)
-        requires { IsAheadIn (take self.old.reader.room (S.ahead source.old)) self.old.ahead }
+        requires { IsAheadIn (take self.old.reader.room (S.ahead source.old)) self.old.bytes.ahead }
         ensures cases { MatchOption self.old.ended
             (Fills S.gives (NeedsMore 15)
             (rest_of None self.old.bytes.items self.old.reader.position self.old.reader.room)
             self.new.ended self.new.bytes.items self.new.reader.position self.new.reader.room
             source.old source.new)
             (λ e. (self.new ≡ self.old) × (source.new ≡ source.old)) }
-        ensures ahead { IsAheadIn (take self.new.reader.room (S.ahead source.new)) self.new.ahead }
-        ensures full { self.new.ended ≡ None → array_vec_len self.new.bytes ≡ 15 }
-        ensures few { array_vec_len self.old.bytes ≤ 15 → array_vec_len self.new.bytes ≤ 15 }
-        ensures uses { array_vec_len self.new.bytes + self.new.reader.room
-            ≤ array_vec_len self.old.bytes + self.old.reader.room }
-        ensures pairs { 2 * array_vec_len self.new.bytes + self.new.reader.room
-            ≤ 2 * array_vec_len self.old.bytes + self.old.reader.room }
+        ensures ahead { IsAheadIn
+            (take self.new.reader.room (S.ahead source.new)) self.new.bytes.ahead }
+        ensures full { self.new.ended ≡ None → length self.new.bytes.items ≡ 15 }
+        ensures few { length self.old.bytes.items ≤ 15 → length self.new.bytes.items ≤ 15 }
+        ensures uses { length self.new.bytes.items + self.new.reader.room
+            ≤ length self.old.bytes.items + self.old.reader.room }
+        ensures pairs { 2 * length self.new.bytes.items + self.new.reader.room
+            ≤ 2 * length self.old.bytes.items + self.old.reader.room }
     {
         if self.ended.is_none() {
             self.take_ahead(source);
@@ -185,7 +185,7 @@ impl Window {
 
     /// What decoding the image that is left yields. An instruction is written to `inst`.
     pub fn decode_next(&self, decoder: &InstDecoder, inst: &mut Instruction) -> Decoded<()>
-        requires { self.now.ended ≡ None → array_vec_len self.now.bytes ≡ 15 }
+        requires { self.now.ended ≡ None → length self.now.bytes.items ≡ 15 }
         ensures rest { (xs : List ℕ) (stop : Stop) →
             let rest = rest_of self.now.ended self.now.bytes.items self.now.reader.position
             self.now.reader.room xs stop in decoded_of (is_strict decoder.now) rest.image rest.ending
@@ -209,7 +209,7 @@ impl Window {
 
     /// The first bytes.
     pub fn first(&self, count: usize) -> &[u8]
-        requires { count ≤ array_vec_len self.now.bytes }
+        requires { count ≤ length self.now.bytes.items }
         ensures { result.now ≡ take count self.now.bytes.items }
     {
         &self.bytes.as_slice()[..count]
@@ -217,10 +217,10 @@ impl Window {
 
     /// Lets the first bytes go.
     pub fn leave(&mut self, count: usize)
-        requires { count ≤ array_vec_len self.old.bytes }
+        requires { count ≤ length self.old.bytes.items }
         ensures bytes { self.new.bytes.items ≡ drop count self.old.bytes.items }
         ensures reader { self.new.reader ≡ self.old.reader }
-        ensures ahead { self.new.ahead ≡ self.old.ahead }
+        ensures ahead { self.new.bytes.ahead ≡ self.old.bytes.ahead }
         ensures ended { self.new.ended ≡ self.old.ended }
     {
         self.bytes.leave(count);

@@ -9,7 +9,7 @@ use Rattle.x86_cli.proofs.listings.targets.read_whole.Given as goal
 abbrev pub invariant-windows : goal.invariant-windows
 invariant-windows g l = record {
   filling : Filling g.S.Source.gives IsOpenText (text_of l.fn.max) l.image.items l.window.reader.position l.window.reader.room l.fn.source l.source;
-  ahead : IsAheadIn (take l.window.reader.room (g.S.Source.ahead l.source)) l.window.ahead;
+  ahead : IsAheadIn (take l.window.reader.room (g.S.Source.ahead l.source)) l.window.bytes.ahead;
   ended : l.window.ended ≡ None;
   empty : l.window.bytes.items ≡ [];
   fits : 2 * array_vec_len l.image + l.window.reader.room ≤ l.fn.max;

@@ -9,7 +9,7 @@ loop-reader-preserved g c =
     let fits : length c.loop-reader.self.bytes.items + 1 ≤ 15 = grind (arith, nat_tests) in
     record {
       continues = c.loop-reader.invariant.continues;
-      ahead = c.loop-reader.invariant.ahead;
+      empty = c.push.ensures.empty;
       filling = rw c.push.ensures.items
           (filling_byte g.S.Source.gives (NeedsMore 15) _ _ _ _ _ _ c.loop-reader.invariant.filling (λ t. more_after 15 1 _ t fits) _ _ _ _ c.in-Byte.ensures.reads);
       pairs = omega (arith, c.loop-reader.invariant.pairs, c.in-Byte.ensures.uses, c.push.ensures.len);
