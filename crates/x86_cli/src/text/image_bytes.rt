@@ -136,7 +136,7 @@ impl ImageBytes {
         ensures len { length self.new.items ≡ length self.old.items + 1 }
         ensures empty { IsEmptyAhead self.new.ahead }
     {
-        move_to_front(self);
+        move_to_beginning(self);
         let held = self.held;
         self.values[held] = byte;
         self.held = held + 1;
@@ -149,7 +149,7 @@ impl ImageBytes {
         ensures items { self.new.items ≡ self.old.items }
         ensures ahead { IsAheadIn text.now self.new.ahead }
     {
-        move_to_front(self);
+        move_to_beginning(self);
         let held = self.held;
         let count = read_bytes(text, &mut self.values[held..], &mut self.places[held..]);
         self.end = held + count;
@@ -158,10 +158,10 @@ impl ImageBytes {
 
 /// Moves the bytes that are held to the beginning, where none is ahead.
 #[tactic(auto, using(crate::proofs::TextLemmas::ImageBytes::moved))]
-fn move_to_front(bytes: &mut ImageBytes)
+fn move_to_beginning(bytes: &mut ImageBytes)
     requires { IsEmptyAhead bytes.old.ahead }
     ensures items { bytes.new.items ≡ bytes.old.items }
-    ensures front { bytes.new.ahead.start ≤ 15 }
+    ensures few { bytes.new.ahead.start ≤ 15 }
     ensures empty { IsEmptyAhead bytes.new.ahead }
 {
     let count = bytes.held - bytes.start;
