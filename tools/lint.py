@@ -1,6 +1,7 @@
 #!/usr/bin/env python3
-"""lint.py: names each definition and each lemma that nothing cites, each name that two files of specs/ define, and each
-line of a clause that is longer than 100 columns. The status is 0 where there is none."""
+"""lint.py: names each definition and each lemma that nothing cites, each definition of specs/ whose name another file of
+specs/ defines or a type of src/ has, and each line of a clause that is longer than 100 columns. The status is 0 where
+there is none."""
 
 import collections
 import pathlib
@@ -13,6 +14,7 @@ NAME = r"[A-Za-z_][A-Za-z_0-9\-']*"
 WORDS = re.compile(NAME)
 # A definition's signature begins with its name. A field of a record is cited by its record.
 SIGNATURE = re.compile(rf"( *)(?:(pub) |(abbrev|unfoldable|data|record|ruleset) )*({NAME})(?: [({{].*?[)}}])* :")
+TYPE = re.compile(r"^(?:pub )?(?:struct|enum|trait) (\w+)", re.M)
 # The toolchain cites what answers a goal.
 ANSWERS = ("Answers.antt", "Invariants.antt", "Proof.antt")
 CONTRACT = re.compile("ensures|requires|invariant|→|×|≡|↔")
@@ -77,8 +79,11 @@ def defined_twice(texts):
             for _, name, public in definitions(text):
                 if public:
                     places[name].add(str(path.relative_to(ROOT)))
+        if path.suffix == ".rt" and "src" in path.parts:
+            for name in TYPE.findall(text):
+                places[name].add(str(path.relative_to(ROOT)))
     for name, files in sorted(places.items()):
-        if len(files) > 1:
+        if len(files) > 1 and any("/specs/" in file for file in files):
             yield f"{name} is defined in {' and in '.join(sorted(files))}"
 
 
