@@ -1,5 +1,4 @@
 -- Lemmas on the cuts of a sweep and their marks.
-pub mod Cut
 pub mod Place
 pub mod Mark
 pub mod Pieces

@@ -28,9 +28,7 @@ use Rattle.x86_layout.specs.Parts.OfBytes.{parts_of}
 use Rattle.x86_layout.specs.Parts.Fields.{lists_in, HasFieldLengths}
 use Rattle.x86_layout.specs.Parts.Permitted.{map_named, entry_by, entry_at, entry_of, record_by, has_legal_run, passes_record, has_row_parts, tail_of, answer_allows_lock, has_lawful_lock, is_short, unless, failing_at, first_failing, IsPermitted, ArePartsOfSentence}
 use Rattle.x86_layout.proofs.PartLemmas.Part.{cut_is}
-use Rattle.x86_layout.proofs.PartLemmas.OfBytes.{parts_are, parts_once}
-use Rattle.x86_layout.proofs.PartLemmas.Split.{joined_is}
-use Rattle.x86_layout.proofs.PartLemmas.Length.{lengths_of}
+use Rattle.x86_layout.proofs.PartLemmas.OfBytes.{parts_are, parts_once, joined_is, lengths_of}
 use Rattle.x86_layout.proofs.PartLemmas.Spell.{spelled, HoldsFields, passes, row_parts}
 
 -- ---- the first that fails
@@ -41,18 +39,13 @@ unless_all run a b c d = unless run error.Prefixes (unless a error.Row (unless b
 all_pass : (run a b c d : Bool) → (unless_all run a b c d ≡ None) ↔ ((run ≡ true) × (a ≡ true) × (b ≡ true) × (c ≡ true) × (d ≡ true))
 all_pass run a b c d = (λ h. (grind arith, grind arith, grind arith, grind arith, grind arith), λ h. grind arith)
 
-record Holds (strict : Bool) (f : fields.Fields) (e : Entry) : Type 0 where
-  pub legal : has_legal_run f ≡ true
-  pub record_passes : passes_record (record_by strict e f) f ≡ true
-  pub parts : has_row_parts (record_by strict e f) f ≡ true
-  pub lock : has_lawful_lock strict e f ≡ true
-  pub short : is_short f ≡ true
+abbrev Holds : Bool → fields.Fields → Entry → Type 0
+Holds strict f e = (has_legal_run f ≡ true) × (passes_record (record_by strict e f) f ≡ true) × (has_row_parts (record_by strict e f) f ≡ true) × (has_lawful_lock strict e f ≡ true) × (is_short f ≡ true)
 
 holds : (strict : Bool) (f : fields.Fields) (o : Option Entry) → unless (has_legal_run f) error.Prefixes (failing_at strict o f) ≡ None → (e : Entry) × (o ≡ Some e) × Holds strict f e
 holds strict f None h = absurd (grind arith)
 holds strict f (Some e) h =
-    let all = (all_pass (has_legal_run f) (passes_record (record_by strict e f) f) (has_row_parts (record_by strict e f) f) (has_lawful_lock strict e f) (is_short f)).0 h in
-    (e, refl, record { legal = all.0; record_passes = all.1; parts = all.2; lock = all.3; short = all.4 })
+    (e, refl, (all_pass (has_legal_run f) (passes_record (record_by strict e f) f) (has_row_parts (record_by strict e f) f) (has_lawful_lock strict e f) (is_short f)).0 h)
 
 -- ---- the row that fields name
 
@@ -65,15 +58,10 @@ record Names (f : fields.Fields) (e : Entry) : Type 0 where
   pub is : e ≡ record { row = row; prefixes = seen_by map f.opcode (reading_of f.prefixes.items) }
 
 escape_is : (l : List ℕ) (map : Map) → map_named l ≡ Some map → l ≡ escape_bytes map
-escape_is [] map h = cc
-escape_is (a ∷ []) map h = grind (arith, nat_tests)
-escape_is (a ∷ b ∷ []) map h = grind (arith, nat_tests)
-escape_is (a ∷ b ∷ c ∷ rest) map h = absurd cc
+escape_is l map h = grind (arith, nat_tests)
 
 row_is : (t : Bool) (o : Option TableRow) (q : Prefixes) (e : Entry) → (if t then entry_by o q else None) ≡ Some e → (row : TableRow) × (t ≡ true) × (o ≡ Some row) × (e ≡ record { row = row; prefixes = q })
-row_is true (Some row) q e h = (row, refl, refl, cc)
-row_is true None q e h = absurd cc
-row_is false o q e h = absurd cc
+row_is t o q e h = grind arith
 
 names : (f : fields.Fields) (e : Entry) (o : Option Map) → map_named f.escape.items ≡ o → entry_at o (reading_of f.prefixes.items) f.opcode ≡ Some e → Names f e
 names f e None k h = absurd cc
@@ -96,7 +84,7 @@ emitted_by : (strict : Bool) (f : fields.Fields) (e : Entry) (n : Names f e) →
 emitted_by strict f e n h =
     let q : Prefixes = seen_by n.map f.opcode (reading_of f.prefixes.items) in
     let r = record_of strict n.row q in
-    let s = spelled r q f h.record_passes h.parts in
+    let s = spelled r q f h.1 h.2 in
     record {
       answer = instruction_of s.reading (length (joined (lists_in f)));
       sentence = record {
@@ -108,13 +96,13 @@ emitted_by strict f e n h =
           row = n.row;
           tail = tail_of f;
           spelled = ap (λ l. f.prefixes.items ++ (l ++ f.opcode ∷ tail_of f)) n.escape;
-          prefixes = h.legal;
+          prefixes = h.0;
           in_map = n.in_map;
           has_row = n.has_row;
           row_spelled = s.row;
         };
-        lock = sym (reading_is r q (tail_of f) s.reading s.row) ∙ h.lock;
-        short = (short_is (length (joined (lists_in f)))).0 h.short;
+        lock = sym (reading_is r q (tail_of f) s.reading s.row) ∙ h.3;
+        short = (short_is (length (joined (lists_in f)))).0 h.4;
         yields = refl;
       };
       parts = assumption (n.escape, s.parts);

@@ -1,5 +1,5 @@
--- The parts of the encoding at the beginning of bytes are the pieces of any whole encoding there.
-use Rattle.std.proofs.Common.{◌≡◌, ℕ, Bool, true, if◌then◌else◌, List, [], ◌∷◌, ◌++◌, length, slice_index, Option, Some, None, is_some, refl, sym, ap, ◌∙◌, append_assoc, arith}
+-- The parts of the encoding at the beginning of bytes: the pieces of any whole encoding there, and their lengths.
+use Rattle.std.proofs.Common.{◌≡◌, ℕ, Bool, true, if◌then◌else◌, List, [], ◌∷◌, ◌++◌, length, slice_index, Option, Some, None, is_some, refl, sym, ap, ◌∙◌, append_assoc, arith, take, Ok, subst, ◌≤◌, false, length-append}
 use Rattle.std.specs.List.{prefix_len}
 use Rattle.x86_fields.specs.declared.prefixes.Prefixes.{Prefixes}
 use Rattle.x86_fields.specs.declared.raw.Raw.{Raw}
@@ -11,12 +11,23 @@ use Rattle.x86_operands.specs.declared.asks.Ask.{Ask}
 use Rattle.x86_operands.specs.declared.reader.Reading.{Reading}
 use Rattle.x86_operands.specs.Plans.{RowRecord}
 use Rattle.x86_operands.specs.Pieces.{modrm_of, SpellsMemory, SpellsRow}
-use Rattle.x86_operands.specs.Asks.{used_modrm, ask_of}
+use Rattle.x86_operands.specs.Asks.{used_modrm, ask_of, immediates_width}
 use Rattle.x86_decode.specs.Head.{escape_bytes, seen_by}
 use Rattle.x86_layout.specs.Parts.Heads.{one_if}
-use Rattle.x86_layout.specs.Parts.Split.{PartLists, Encoding, record_in, sib_width, HasParts}
+use Rattle.x86_layout.specs.Parts.Split.{PartLists, Encoding, record_in, sib_width, HasParts, joined}
 use Rattle.x86_layout.specs.Parts.OfBytes.{ask_by, ask_after_run, displacement_length_by, run_in, after_run, map_in, opcode_in, tail_in, ask_in, modrm_in, sib_in, displacement_in, immediate_in, suffix_in, parts_of}
-use Rattle.x86_layout.proofs.PartLemmas.Part.{cut_is, halves, run_length_is, map_is, enters, as_it_is, read_as, modrm_count, sib_count, immediate_count, suffix_count}
+use Rattle.x86_layout.proofs.PartLemmas.Part.{cut_is, halves, run_length_is, map_is, as_it_is, read_as, modrm_count, sib_count, immediate_count, suffix_count, immediates_long}
+use Rattle.x86_forms.specs.Words.{rows_of, packed}
+use Rattle.x86_decode.specs.declared.instructions.Instruction.{Instruction}
+use Rattle.x86_decode.specs.Grammar.{IsAnswer, IsSentence, record_of}
+use Rattle.x86_decode.specs.Answer.{answer_of, count_of}
+use Rattle.x86_forms.specs.declared.TableRow.{TableRow}
+use Rattle.x86_forms.specs.Groups.{is_group}
+use Rattle.x86_operands.specs.Forms.{form_record}
+use Rattle.x86_operands.proofs.PlainLemmas.{plain_narrow}
+use Rattle.x86_groups.specs.Groups.{group_record}
+use Rattle.x86_groups.proofs.GroupLemmas.{group_narrow}
+use Rattle.x86_layout.specs.Parts.Fields.{HasFieldLengths}
 
 -- ---- SIB and displacement
 
@@ -110,9 +121,7 @@ has_head {strict = strict} {bytes = bytes} rest w begins =
     let tail' : List ℕ = w.tail ++ rest in
     let after_prefixes : List ℕ = escape_bytes w.map ++ w.opcode ∷ tail' in
     let spelled : bytes ≡ w.run ++ after_prefixes = begins ∙ ap (λ l. l ++ rest) w.spelled ∙ simp append_assoc in
-    let in' = enters w.map w.opcode tail' w.in_map in
-    let run_n : prefix_len is_prefix bytes ≡ length w.run = ap (prefix_len is_prefix) (spelled ∙ ap (λ l. w.run ++ l) in'.spelled) ∙ run_length_is w.run in'.first in'.rest w.prefixes in'.plain in
-    let run = cut_is w.run after_prefixes spelled run_n in
+    let run = cut_is w.run after_prefixes spelled (ap (prefix_len is_prefix) spelled ∙ run_length_is w.run w.map w.opcode tail' w.prefixes w.in_map) in
     let map : map_in bytes ≡ w.map = cc (run.1, map_is w.map w.opcode tail' w.in_map) in
     let escape = cut_is (escape_bytes w.map) (w.opcode ∷ tail') run.1 (ap (λ x. length (escape_bytes x)) map) in
     let opcode = cut_is (w.opcode ∷ []) tail' escape.1 refl in
@@ -139,6 +148,13 @@ parts_are rest w begins =
     let escape = ap escape_bytes h.map in
     assumption (h, t, escape)
 
+-- The parts of an encoding together are the encoding.
+pub joined_is : {strict : Bool} {s : List ℕ} {reading : Reading} {w : Encoding strict s reading} {p : PartLists} → HasParts strict s reading w p → joined p ≡ s
+joined_is {w = w} h =
+    let a = w.row_spelled in
+    let t = a.tail_spelled.pieces in
+    cc (h.prefixes, h.escape, h.opcode, h.modrm, h.address, h.immediate, h.suffix, w.spelled, a.spelled, t.spelled)
+
 -- ---- a whole encoding has its parts once
 
 abbrev lists : List ℕ → List ℕ → List ℕ → List ℕ → List ℕ → List ℕ → List ℕ → List ℕ → PartLists
@@ -149,3 +165,52 @@ parts_once {a = a} {b = b} h k =
     let address = halves a.sib a.displacement b.sib b.displacement (h.address ∙ sym k.address) (h.sib ∙ sym k.sib) in
     let same : lists a.prefixes a.escape a.opcode a.modrm a.sib a.displacement a.immediate a.suffix ≡ lists b.prefixes b.escape b.opcode b.modrm b.sib b.displacement b.immediate b.suffix = cc (address.0, address.1) in
     same
+
+-- The bytes are accepted, and begin with this sentence.
+pub record IsFirstSentence (strict : Bool) (bytes encoding : List ℕ) (instruction : Instruction) : Type 0 where
+  pub accepted : answer_of strict bytes ≡ Ok instruction
+  pub rest : List ℕ
+  pub begins : bytes ≡ encoding ++ rest
+  pub taken : encoding ≡ take instruction.length bytes
+  pub long : length encoding ≡ instruction.length
+  pub counted : instruction.length ≡ count_of strict bytes
+  pub is : IsSentence (rows_of packed) strict encoding instruction
+
+-- As many bytes as the instruction has are that sentence.
+pub beginning_of : (strict : Bool) (bytes : List ℕ) {encoding : List ℕ} {instruction : Instruction} {n : ℕ} → answer_of strict bytes ≡ Ok instruction → IsAnswer (rows_of packed) strict bytes (answer_of strict bytes) (count_of strict bytes) → ((i : Instruction) → answer_of strict bytes ≡ Ok i → i.length ≡ count_of strict bytes) → n ≡ instruction.length → encoding ≡ take n bytes → IsFirstSentence strict bytes encoding instruction
+beginning_of strict bytes {instruction = i} value answer counts long beginning =
+    let accepted = subst (λ r. IsAnswer (rows_of packed) strict bytes r (count_of strict bytes)) value answer in
+    let counted = counts i value in
+    let same = beginning ∙ (cut_is accepted.sentence accepted.rest accepted.begins (long ∙ counted ∙ sym accepted.long)).0 in
+    record {
+      accepted = value;
+      rest = accepted.rest;
+      begins = cc (accepted.begins, same);
+      taken = cc (beginning, long);
+      long = cc (same, accepted.long, counted);
+      counted = counted;
+      is = subst (λ l. IsSentence (rows_of packed) strict l i) (sym same) accepted.is;
+    }
+
+immediate_small : (strict : Bool) (row : TableRow) (p : Prefixes) (m : ℕ) → immediates_width ((record_of strict row p).plan m).encodings ≤ 8
+immediate_small strict row p m = by (is_group row.form)
+  where
+    by : (t : Bool) → immediates_width ((if t then group_record strict row p else form_record row p).plan m).encodings ≤ 8
+    by true = group_narrow strict row p m
+    by false = plain_narrow row p m
+
+pub lengths_of : {strict : Bool} {s : List ℕ} {reading : Reading} {w : Encoding strict s reading} {p : PartLists} → HasParts strict s reading w p → length s ≤ 15 → HasFieldLengths p
+lengths_of {strict = strict} {w = w} {p = p} h short =
+    let a = w.row_spelled in
+    let r = record_in strict _ _ w in
+    let m : ℕ = modrm_of r.modrm a.modrm in
+    record {
+      prefixes = omega (arith, length-append {A = ℕ}, ap length h.prefixes, ap length w.spelled, short);
+      escape = grind (arith, ap length h.escape);
+      opcode = ap length h.opcode;
+      modrm = grind (arith, ap length h.modrm, a.modrm_length);
+      sib = grind (arith, h.sib);
+      displacement = grind (arith, displacement_long a p.sib p.displacement h.address h.sib);
+      immediate = rw (ap length h.immediate ∙ immediates_long a) (immediate_small strict w.row _ m);
+      suffix = grind (arith, ap length h.suffix, a.tail_spelled.pieces.suffix_length);
+    }

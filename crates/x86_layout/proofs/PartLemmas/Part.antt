@@ -1,6 +1,7 @@
 -- Where the parts of an encoding are.
 use Rattle.std.proofs.Common.{◌≡◌, ℕ, suc, ◌+◌, ◌-◌, ◌≤◌, ◌==◌, ◌&&◌, Bool, true, false, if◌then◌else◌, List, [], ◌∷◌, ◌++◌, length, take, drop, map, slice_index, Option, Some, None, is_some, refl, sym, ap, arith, length-append}
-use Rattle.std.specs.List.{list_all, prefix_len}
+use Rattle.std.specs.List.{list_all, prefix_len, take_while}
+use Rattle.std.proofs.lemmas.List.Sums.{take_while-cons}
 use Rattle.std.specs.Int.{from_bool}
 use Rattle.std.proofs.Math.Seq.{take-append_seam, drop-append_seam}
 use Rattle.std.proofs.lemmas.Bool.{and_parts}
@@ -49,60 +50,31 @@ halves xs ys a b e h = (cc (take-append_seam xs ys, take-append_seam a b), cc (d
 
 -- ---- the run
 
-pub run_length_is : (run : List ℕ) (c : ℕ) (rest : List ℕ) → is_run run ≡ true → is_prefix c ≡ false → prefix_len is_prefix (run ++ c ∷ rest) ≡ length run
-run_length_is [] c rest h e = rw e
-run_length_is (b ∷ run) c rest h e =
-    let both = and_parts (is_prefix b) (is_run run) h in
-    let following = run_length_is run c rest both.1 e in
+-- it ends before an escape, and before an opcode byte without one
+pub run_length_is : (run : List ℕ) (m : Map) (b : ℕ) (tail : List ℕ) → is_run run ≡ true → is_opcode m b ≡ true → prefix_len is_prefix (run ++ (escape_bytes m ++ b ∷ tail)) ≡ length run
+run_length_is [] m b tail h k = grind (arith, nat_tests)
+run_length_is (c ∷ run) m b tail h k =
+    let both = and_parts (is_prefix c) (is_run run) h in
+    let following = run_length_is run m b tail both.1 k in
     rw (both.0) (omega (arith, following))
 
-one_more_of : (n : ℕ) → 1 + n ≡ suc n
-one_more_of n = omega arith
-
-all_by : (t : Bool) (x : ℕ) (xs : List ℕ) (n : ℕ) → is_prefix x ≡ t → list_all is_prefix (take n xs) ≡ true → list_all is_prefix (take (if t then 1 + n else 0) (x ∷ xs)) ≡ true
-all_by true x xs n e h = rw (one_more_of n) (rw e h)
-all_by false x xs n e h = refl
-
-pub all_prefixes : (xs : List ℕ) → list_all is_prefix (take (prefix_len is_prefix xs) xs) ≡ true
-all_prefixes [] = refl
-all_prefixes (x ∷ xs) = all_by (is_prefix x) x xs (prefix_len is_prefix xs) refl (all_prefixes xs)
+pub all_pass : (p : ℕ → Bool) (xs : List ℕ) → list_all p (take_while p xs) ≡ true
+all_pass p [] = refl
+all_pass p (x ∷ xs) = let e = take_while-cons p x xs in let h = all_pass p xs in grind arith
 
 -- ---- the escape
 
 pub map_is : (m : Map) (b : ℕ) (tail : List ℕ) → is_opcode m b ≡ true → map_of (slice_index (escape_bytes m ++ b ∷ tail) 0) (slice_index (escape_bytes m ++ b ∷ tail) 1) ≡ m
-map_is One b tail h = grind (arith, nat_tests)
-map_is Of b tail h = grind (arith, nat_tests)
-map_is Of38 b tail h = refl
-map_is Of3a b tail h = refl
+map_is m b tail h = grind (arith, nat_tests)
 
 -- the escape of a map is the map by the first two bytes, where these have its length
 pub map_named_is : (l : List ℕ) → map_named l ≡ (let m : Map = map_of (slice_index l 0) (slice_index l 1) in if length (escape_bytes m) == length l then Some m else None)
-map_named_is [] = refl
-map_named_is (a ∷ []) = grind (arith, nat_tests)
-map_named_is (a ∷ b ∷ []) = grind (arith, nat_tests)
-map_named_is (a ∷ b ∷ c ∷ rest) = grind (arith, nat_tests)
-
--- the byte after the run isn't a prefix
-pub record Enters (m : Map) (b : ℕ) (tail : List ℕ) : Type 0 where
-  pub first : ℕ
-  pub rest : List ℕ
-  pub spelled : escape_bytes m ++ b ∷ tail ≡ first ∷ rest
-  pub plain : is_prefix first ≡ false
-
-pub enters : (m : Map) (b : ℕ) (tail : List ℕ) → is_opcode m b ≡ true → Enters m b tail
-enters One b tail h = record { first = b; rest = tail; spelled = refl; plain = grind (arith, nat_tests) }
-enters Of b tail h = record { first = 0x0f; rest = b ∷ tail; spelled = refl; plain = refl }
-enters Of38 b tail h = record { first = 0x0f; rest = 0x38 ∷ b ∷ tail; spelled = refl; plain = refl }
-enters Of3a b tail h = record { first = 0x0f; rest = 0x3a ∷ b ∷ tail; spelled = refl; plain = refl }
+map_named_is l = grind (arith, nat_tests)
 
 -- ---- what a row has
 
 used_is : (u : ModrmUse) (modrm more tail : List ℕ) → tail ≡ modrm ++ more → length modrm ≡ modrm_width u → modrm_of u modrm ≡ used_modrm u (slice_index tail 0)
-used_is Absent modrm more tail e h = refl
-used_is EitherForm [] more tail e h = absurd (omega arith)
-used_is EitherForm (m ∷ rest) more tail e h = sym (ap (λ l. slice_index l 0) e)
-used_is Registers [] more tail e h = absurd (omega arith)
-used_is Registers (m ∷ rest) more tail e h = sym (ap (λ l. as_register (slice_index l 0)) e)
+used_is u modrm more tail e h = grind (arith, nat_tests)
 
 pub use_width : (u : ModrmUse) → one_if (uses_modrm u) ≡ modrm_width u
 use_width u = grind arith
@@ -124,12 +96,8 @@ as_it_is u m e = grind (arith, nat_tests)
 pub sib_present : (u : ModrmUse) (m : ℕ) → one_if (is_memory (used_modrm u m) && rm_field m == 4) ≡ sib_width (used_modrm u m)
 sib_present u m = let h = as_it_is u m in grind arith
 
-option_long : (sib : Option ℕ) (disp : List ℕ) → one_if (is_some sib) ≤ length (option_bytes sib ++ disp)
-option_long sib disp = grind (arith, length-append {A = ℕ})
-
 sib_within_by : (p : Prefixes) (m : ℕ) (address : List ℕ) (memory : Option Raw) → SpellsMemory p m address memory → sib_width m ≤ length address
-sib_within_by p m address None h = rw (h.0) (omega arith)
-sib_within_by p m address (Some raw) h = let s = h.1 in rw (s.spelled, h.0, ← s.sib_present) (option_long s.sib s.disp)
+sib_within_by p m address memory h = grind (arith, length-append {A = ℕ})
 
 -- ---- the counts of an ask
 

@@ -1,6 +1,6 @@
 -- Fields that meet the conditions on their row spell what the row has, and the other way round.
 use Rattle.std.proofs.Common.{◌↔◌, ◌≡◌, ℕ, ◌==◌, ◌&&◌, ◌||◌, not, Bool, true, false, if◌then◌else◌, List, [], ◌∷◌, ◌++◌, length, take, drop, map, Option, Some, None, is_some, is_none, refl, sym, ap, subst, ◌∙◌, arith, length-take, length-drop}
-use Rattle.std.proofs.lemmas.List.{take-append-drop}
+use Rattle.std.proofs.lemmas.List.{take-append-drop, nil_from_length}
 use Rattle.std.proofs.lemmas.Bool.Decides.{nat_tests}
 use Rattle.x86_fields.specs.declared.prefixes.Prefixes.{Prefixes}
 use Rattle.x86_fields.specs.declared.raw.Raw.{Raw}
@@ -38,21 +38,15 @@ same_bool : (a b : Bool) → one_if a ≡ one_if b → a ≡ b
 same_bool a b e = grind arith
 
 none_is : {A : Type 0} (o : Option A) → is_none o ≡ true → o ≡ None
-none_is None h = refl
-none_is (Some x) h = absurd cc
+none_is o h = grind arith
 
 some_is : {A : Type 0} (o : Option A) → is_none o ≡ false → (x : A) × (o ≡ Some x)
-some_is (Some x) h = (x, refl)
-some_is None h = absurd cc
-
-empty_of : (bytes : List ℕ) → length bytes ≡ 0 → bytes ≡ []
-empty_of [] e = refl
-empty_of (x ∷ xs) e = absurd (omega (arith, e))
+some_is o h = grind arith
 
 -- ---- the pieces that a row has
 
 spell_operands : (encodings : List OperandEncoding) (p : Prefixes) (m : ℕ) (memory : Option Raw) (bytes : List ℕ) → length bytes ≡ total (map immediate_width encodings) → (operand_pairs : List (Slot × Operand)) × SpellsOperands encodings p m memory bytes operand_pairs
-spell_operands [] p m memory bytes e = ([], (empty_of bytes e, refl))
+spell_operands [] p m memory bytes e = ([], (nil_from_length bytes e, refl))
 spell_operands (s ∷ rest) p m memory bytes e =
     let w : ℕ = immediate_width s in
     let back : length (drop w bytes) ≡ total (map immediate_width rest) = let d = length-drop w bytes in omega (arith, d, e) in
@@ -70,8 +64,7 @@ spell_operands (s ∷ rest) p m memory bytes e =
     )
 
 none_left : (sib : Option ℕ) (disp : List ℕ) → one_if (is_some sib) ≡ 0 → length disp ≡ 0 → option_bytes sib ++ disp ≡ []
-none_left None disp e h = empty_of disp h
-none_left (Some b) disp e h = absurd (omega (arith, e))
+none_left sib disp e h = let none = nil_from_length disp h in grind arith
 
 spell_memory : (p : Prefixes) (m : ℕ) (sib : Option ℕ) (disp : List ℕ) → one_if (is_some sib) ≡ sib_width m → length disp ≡ displacement_length m sib → (memory : Option Raw) × SpellsMemory p m (option_bytes sib ++ disp) memory
 spell_memory p m sib disp e h = by (is_memory m) refl e h

@@ -7,7 +7,7 @@ use Rattle.x86_decode.specs.Answer.{answer_of}
 use Rattle.x86_layout.specs.declared.sweeps.cuts.Cut.{Cut}
 use Rattle.x86_layout.specs.Sweeps.Cuts.{cut_length, cut_at, cuts_from}
 use Rattle.x86_layout.specs.Sweeps.Pieces.{total_length, CutsGoOn, CutsOfMore}
-use Rattle.x86_layout.proofs.SweepLemmas.Cut.{none_left, first_and_rest}
+use Rattle.x86_layout.proofs.SweepLemmas.Place.{none_left, first_and_rest}
 
 abbrev size : Bool → List ℕ → ℕ
 size strict xs = cut_length (answer_of strict xs)

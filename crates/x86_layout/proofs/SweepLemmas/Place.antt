@@ -1,5 +1,8 @@
--- Where cuts begin and end.
-use Rattle.std.proofs.Common.{◌≡◌, ℕ, zero, suc, ◌+◌, ◌-◌, ◌<◌, ◌≤◌, ◌&&◌, not, nat_lt, Bool, false, inl, inr, List, [], ◌∷◌, length, Result, Ok, Err, refl, subst, arith}
+-- The cuts after a cut, and where cuts begin and end.
+use Rattle.std.proofs.Common.{◌≡◌, ℕ, zero, suc, ◌+◌, ◌-◌, ◌<◌, ◌≤◌, Bool, List, [], ◌∷◌, length, drop, refl, ap, ◌∙◌, arith, ◌&&◌, not, nat_lt, false, inl, inr, Result, Ok, Err, subst}
+use Rattle.std.proofs.lemmas.List.{nil_from_length}
+use Rattle.x86_decode.specs.Answer.{answer_of}
+use Rattle.x86_layout.specs.Sweeps.Cuts.{cut_length, cut_at, cuts_skipping, cuts_from}
 use Rattle.std.proofs.lemmas.List.Sums.{sum_by-cons}
 use Rattle.std.proofs.lemmas.List.Elements.{All-nil, All-cons}
 use Rattle.std.proofs.lemmas.Bool.Decides.{nat_tests}
@@ -7,10 +10,37 @@ use Rattle.std.specs.List.{list_any, sum_by, All}
 use Rattle.std.proofs.lemmas.Bool.{cases_lt}
 use Rattle.x86_fields.specs.declared.errors.DecodeError.{DecodeError}
 use Rattle.x86_decode.specs.declared.instructions.Instruction.{Instruction}
-use Rattle.x86_decode.specs.Answer.{answer_of}
-use Rattle.x86_layout.specs.Sweeps.Cuts.{cut_length, cut_at, cuts_skipping, cuts_from}
+use Rattle.x86_layout.specs.declared.sweeps.cuts.Cut.{Cut}
 use Rattle.x86_layout.specs.Sweeps.Marks.{begins_at, is_inside}
 use Rattle.x86_layout.specs.Sweeps.Lengths.{IsWithin}
+
+module _ (strict : Bool) where
+  -- the bytes of the cut before are passed over
+  pub passed : (skip place : ℕ) (xs : List ℕ) → cuts_skipping strict skip place xs ≡ cuts_from strict (place + skip) (drop skip xs)
+  unfolding cuts_skipping
+  passed zero place xs = ap (λ p. cuts_skipping strict 0 p xs) (omega arith)
+  passed (suc k) place [] = refl
+  passed (suc k) place (x ∷ xs) = passed k (place + 1) xs ∙ ap (λ p. cuts_skipping strict 0 p (drop k xs)) (omega arith)
+
+  -- the first cut, and the cuts after it
+  pub first_and_rest : (n place : ℕ) (xs : List ℕ) → cut_length (answer_of strict xs) ≡ n → 0 < n → 0 < length xs → cuts_from strict place xs ≡ cut_at strict place xs ∷ cuts_from strict (place + n) (drop n xs)
+  unfolding cuts_skipping
+  first_and_rest n place [] e some h = absurd (omega arith)
+  first_and_rest zero place (x ∷ xs) e some h = absurd (omega arith)
+  first_and_rest (suc k) place (x ∷ xs) e some h =
+      let skipped : cut_length (answer_of strict (x ∷ xs)) - 1 ≡ k = omega arith in
+      ap (λ l. cut_at strict place (x ∷ xs) ∷ l)
+      (ap (λ s. cuts_skipping strict s (place + 1) xs) skipped ∙ passed k (place + 1) xs ∙ ap (λ p. cuts_skipping strict 0 p (drop k xs)) (omega arith))
+
+  pub none_left : (place : ℕ) (xs : List ℕ) → length xs ≡ 0 → cuts_from strict place xs ≡ []
+  unfolding cuts_skipping
+  none_left place xs e = rw (nil_from_length xs e)
+
+  pub count : (skip place : ℕ) (xs : List ℕ) → length (cuts_skipping strict skip place xs) ≤ length xs
+  unfolding cuts_skipping
+  count skip place [] = omega arith
+  count zero place (x ∷ xs) = let h = count (cut_length (answer_of strict (x ∷ xs)) - 1) (place + 1) xs in omega (arith, h)
+  count (suc k) place (x ∷ xs) = let h = count k (place + 1) xs in omega (arith, h)
 
 -- instructions have a length, which is at most that of the input
 abbrev pub Lengths : Bool → Type 0
@@ -41,19 +71,13 @@ module _ (strict : Bool) (lengths : Lengths strict) where
 
   -- ---- indices
 
-  none_before : (skip place p : ℕ) (xs : List ℕ) → p < place → list_any (begins_at p) (cuts_skipping strict skip place xs) ≡ false
+  -- what no cut at a place or after it is
+  none_from : (test : Cut → Bool) (skip place : ℕ) (xs : List ℕ) → ((c : Cut) → place ≤ c.place → test c ≡ false) → list_any test (cuts_skipping strict skip place xs) ≡ false
   unfolding cuts_skipping
-  none_before skip place p [] h = refl
-  none_before zero place p (x ∷ xs) h = let rest = none_before (cut_length (answer_of strict (x ∷ xs)) - 1) (place + 1) p xs (omega arith) in grind (arith, nat_tests)
-  none_before (suc k) place p (x ∷ xs) h = none_before k (place + 1) p xs (omega arith)
-
-  none_round : (skip place p : ℕ) (xs : List ℕ) → p ≤ place → list_any (is_inside p) (cuts_skipping strict skip place xs) ≡ false
-  unfolding cuts_skipping
-  none_round skip place p [] h = refl
-  none_round zero place p (x ∷ xs) h =
-      let rest = none_round (cut_length (answer_of strict (x ∷ xs)) - 1) (place + 1) p xs (omega arith) in
-      grind (arith, nat_tests)
-  none_round (suc k) place p (x ∷ xs) h = none_round k (place + 1) p xs (omega arith)
+  none_from test skip place [] none = refl
+  none_from test zero place (x ∷ xs) none =
+      cc (none (cut_at strict place (x ∷ xs)) (omega arith), none_from test (cut_length (answer_of strict (x ∷ xs)) - 1) (place + 1) xs (λ c h. none c (omega arith)))
+  none_from test (suc k) place (x ∷ xs) none = none_from test k (place + 1) xs (λ c h. none c (omega arith))
 
   -- a place after the cut before is that of a cut, or inside one
   begins_by : (skip place p : ℕ) (xs : List ℕ) → place ≤ p → p < place + length xs → list_any (begins_at p) (cuts_skipping strict skip place xs) ≡ (not (nat_lt p (place + skip)) && not (list_any (is_inside p) (cuts_skipping strict skip place xs)))
@@ -65,12 +89,12 @@ module _ (strict : Bool) (lengths : Lengths strict) where
         let rest = begins_by (cut_length (answer_of strict (x ∷ xs)) - 1) (place + 1) p xs (omega arith) (omega arith) in
         grind (arith, nat_tests)
     | inr same ↦
-        let rest = none_round (cut_length (answer_of strict (x ∷ xs)) - 1) (place + 1) p xs (omega arith) in
+        let rest = none_from (is_inside p) (cut_length (answer_of strict (x ∷ xs)) - 1) (place + 1) xs (λ c h. grind (arith, nat_tests)) in
         grind (arith, nat_tests)
   ]
   begins_by (suc k) place p (x ∷ xs) h l = elim (cases_lt place p) [
     | inl less ↦ cc (begins_by k (place + 1) p xs (omega arith) (omega arith), one_more place k)
-    | inr same ↦ let rest = none_before k (place + 1) p xs (omega arith) in grind (arith, nat_tests)
+    | inr same ↦ let rest = none_from (begins_at p) k (place + 1) xs (λ c h. grind (arith, nat_tests)) in grind (arith, nat_tests)
   ]
 
   -- a place of the bytes is that of a cut, or inside one
@@ -86,13 +110,9 @@ module _ (strict : Bool) (lengths : Lengths strict) where
   unfolding cuts_skipping
   sum_from skip place [] h = omega arith
   sum_from zero place (x ∷ xs) h =
-      let n : ℕ = cut_length (answer_of strict (x ∷ xs)) in
       let fit = fits (x ∷ xs) (omega arith) in
-      let some : 0 < n = fit.0 in
-      let long : n ≤ suc (length xs) = fit.1 in
-      let rest = sum_from (n - 1) (place + 1) xs (omega arith) in
-      let first = sum_by-cons (λ c. c.length) (cut_at strict place (x ∷ xs)) (cuts_skipping strict (n - 1) (place + 1) xs) in
-      omega (arith, first, rest)
+      let rest = sum_from (cut_length (answer_of strict (x ∷ xs)) - 1) (place + 1) xs (omega arith) in
+      omega (arith, sum_by-cons {X = Cut}, rest)
   sum_from (suc k) place (x ∷ xs) h = let rest = sum_from k (place + 1) xs (omega arith) in omega (arith, rest)
 
   pub sum_all : (xs : List ℕ) → sum_by (λ c. c.length) (cuts_from strict 0 xs) ≡ length xs

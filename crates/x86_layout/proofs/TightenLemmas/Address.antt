@@ -35,8 +35,7 @@ sib_fits_by : (modrm : ℕ) (sib : Option ℕ) → is_some sib ≡ (rm_field mod
 sib_fits_by modrm sib e = grind arith
 
 beginning_byte : (sib : Option ℕ) (disp : List ℕ) → Bytes (option_bytes sib ++ disp) → IsByteOption sib
-beginning_byte None disp h = tt
-beginning_byte (Some b) disp h = h.0
+beginning_byte sib disp h = grind arith
 
 -- raw fields that bytes spell are raw fields of bytes
 pub of_bytes : (p : Prefixes) (m : ℕ) (address : List ℕ) (raw : Raw) → SpellsMemory p m address (Some raw) → Bytes address → IsOfBytes raw
@@ -82,11 +81,8 @@ Lowest width d = take width (to_le_bytes w32 (cast_unsigned w32 d))
 four_back : (d : ℤ) → FitsSigned w32 d → cast_signed w32 (from_le_bytes w32 (to_le_bytes w32 (cast_unsigned w32 d))) ≡ d
 four_back d f = ap (cast_signed w32) (from_le_bytes-to_le_bytes_4 (cast_unsigned w32 d) (unsigned_small d f)) ∙ to_z-of_z w32 d f
 
-signed_back_by : (one two none : Bool) (d : ℤ) → disp_fits (Width one two none) d ≡ true → FitsSigned w32 d → signed_by (Width one two none) (Lowest (Width one two none) d) ≡ d
-signed_back_by one two none d e f = let byte = byte_back d in let four = four_back d f in let zero = zero_back d in grind arith
-
-signed_back : (modrm : ℕ) (sib : Option ℕ) (d : ℤ) → disp_fits (displacement_width modrm sib) d ≡ true → FitsSigned w32 d → signed_by (displacement_width modrm sib) (Lowest (displacement_width modrm sib) d) ≡ d
-signed_back modrm sib d e f = signed_back_by (mod_field modrm == 1) (mod_field modrm == 2) (names_no_base modrm sib) d e f
+signed_back : (one two none : Bool) (d : ℤ) → disp_fits (Width one two none) d ≡ true → FitsSigned w32 d → signed_by (Width one two none) (Lowest (Width one two none) d) ≡ d
+signed_back one two none d e f = let byte = byte_back d in let four = four_back d f in let zero = zero_back d in grind arith
 
 lowest_long_by : (one two none : Bool) (d : ℤ) → length (Lowest (Width one two none) d) ≡ Width one two none
 lowest_long_by one two none d = grind arith
@@ -102,7 +98,7 @@ pub respells : (q : Prefixes) (raw : Raw) → IsOfBytes raw → has_b q ≡ raw.
 respells q raw h b x short =
     let memory = and_parts (is_memory raw.modrm) _ h.fit in
     let fit = and_parts (sib_fits raw.modrm raw.sib) _ memory.1 in
-    let value = signed_back raw.modrm raw.sib raw.disp fit.1 h.disp in (
+    let value = signed_back (mod_field raw.modrm == 1) (mod_field raw.modrm == 2) (names_no_base raw.modrm raw.sib) raw.disp fit.1 h.disp in (
       memory.0,
       record {
         sib = raw.sib;
@@ -119,8 +115,5 @@ address_bytes_long raw = let long = length-append (option_bytes raw.sib) (spelle
 
 -- ---- the bits of a REX
 
-pub b_with : (x b : Bool) (rex : Option PrefixRex) → (rex ≡ None → b ≡ false) → live_bit (λ r. r.b) (bits_in x b rex) ≡ b
-b_with x b rex h = grind arith
-
-pub x_with : (x b : Bool) (rex : Option PrefixRex) → (rex ≡ None → x ≡ false) → live_bit (λ r. r.x) (bits_in x b rex) ≡ x
-x_with x b rex h = grind arith
+pub bits_with : (x b : Bool) (rex : Option PrefixRex) → (rex ≡ None → (b ≡ false) × (x ≡ false)) → (live_bit (λ r. r.b) (bits_in x b rex) ≡ b) × (live_bit (λ r. r.x) (bits_in x b rex) ≡ x)
+bits_with x b rex h = (grind arith, grind arith)

@@ -1,16 +1,21 @@
--- In the memory form a plan goes by reg, and not by mod, rm, and the bits X and B.
-use Rattle.std.proofs.Common.{◌≡◌, ℕ, Bool, if◌then◌else◌, true, false, Option, Some, None, refl, ◌∙◌, arith}
+-- In the memory form a plan goes by reg, and not by mod, rm, and the bits X and B. It refuses, or writes the memory as an
+-- operand.
+use Rattle.std.proofs.Common.{◌≡◌, ℕ, ◌||◌, Bool, if◌then◌else◌, true, false, Option, Some, None, refl, ◌∙◌, arith}
+use Rattle.std.specs.List.{list_any}
 use Rattle.x86_fields.specs.declared.prefixes.Prefixes.{Prefixes}
 use Rattle.x86_fields.specs.declared.rex.PrefixRex.{PrefixRex}
 use Rattle.x86_fields.specs.ModRM.{reg_field, is_memory}
 use Rattle.x86_forms.specs.declared.Form.{Form}
 use Rattle.x86_operands.specs.declared.plans.ModrmUse.TheVariants.{EitherForm}
+use Rattle.x86_operands.specs.declared.plans.Plan.{Plan}
 use Rattle.x86_forms.specs.declared.Form.TheVariants as form
 use Rattle.x86_forms.specs.declared.TableRow.{TableRow}
 use Rattle.x86_forms.specs.Groups.{is_group}
-use Rattle.x86_operands.specs.Plans.{RowRecord}
+use Rattle.x86_operands.specs.Plans.{RowRecord, list_of}
+use Rattle.x86_operands.specs.Pieces.{is_refusal}
 use Rattle.x86_operands.specs.Forms.{form_plan, form_record, modrm_use}
 use Rattle.x86_decode.specs.Grammar.{record_of}
+use Rattle.x86_decode.specs.Addresses.{is_modrm_encoding}
 use Rattle.x86_layout.specs.Tightening.Tighten.{bits_in}
 use Rattle.x86_groups.specs.Keys.{fault_f30f3af0}
 use Rattle.x86_groups.specs.Groups.{group_fault, group_modrm, group_record}
@@ -52,32 +57,58 @@ module _ (x b : Bool) (p : Prefixes) (m : ℕ) (mm : is_memory m ≡ true) where
 
 -- ---- records
 
+abbrev By : Bool → TableRow → Bool → Prefixes → RowRecord
+By strict row group p = if group then group_record strict row p else form_record row p
+
 module _ (strict : Bool) (row : TableRow) (p : Prefixes) (x b : Bool) (m n : ℕ) (mm : is_memory m ≡ true) (nm : is_memory n ≡ true) (same : reg_field n ≡ reg_field m) where
   abbrev pub Other : Prefixes
   Other = record p { rex = bits_in x b p.rex }
 
-  abbrev By : Bool → Prefixes → RowRecord
-  By group q = if group then group_record strict row q else form_record row q
-
-  by_plan : (group : Bool) → (By group p).modrm ≡ EitherForm → (By group Other).plan n ≡ (By group p).plan m
+  by_plan : (group : Bool) → (By strict row group p).modrm ≡ EitherForm → (By strict row group Other).plan n ≡ (By strict row group p).plan m
   unfolding group_record form_record
   by_plan true usage = group_at m n mm nm same row.form row.opcode strict Other usage ∙ with_bits x b p m mm (λ q. groups.group_form_plan row.form row.opcode strict q m) (λ r. group_bits x b p m mm r row.form row.opcode strict usage) p.rex
   by_plan false usage = plain_at m n mm nm same row.form row.opcode Other usage ∙ with_bits x b p m mm (λ q. form_plan row.form row.opcode q m) (λ r. plain_bits x b p m mm r row.form row.opcode usage) p.rex
 
-  by_use : (group : Bool) → (By group Other).modrm ≡ (By group p).modrm
+  by_use : (group : Bool) → (By strict row group Other).modrm ≡ (By strict row group p).modrm
   unfolding group_record form_record
   by_use group = grind arith
 
-  by_fault : (group : Bool) → (By group Other).at_opcode ≡ (By group p).at_opcode
+  by_fault : (group : Bool) → (By strict row group Other).at_opcode ≡ (By strict row group p).at_opcode
   unfolding group_record form_record
   by_fault true = with_bits x b p m mm (group_fault row.form) (λ r. fault_bits x b p m mm r row.form) p.rex
   by_fault false = refl
 
-  pub same_plan : (record_of strict row p).modrm ≡ EitherForm → (record_of strict row Other).plan n ≡ (record_of strict row p).plan m
-  same_plan usage = by_plan (is_group row.form) usage
+  pub same_record :
+      ((record_of strict row Other).at_opcode ≡ (record_of strict row p).at_opcode)
+      × ((record_of strict row Other).modrm ≡ (record_of strict row p).modrm)
+      × ((record_of strict row p).modrm ≡ EitherForm → (record_of strict row Other).plan n ≡ (record_of strict row p).plan m)
+  same_record = (by_fault (is_group row.form), by_use (is_group row.form), by_plan (is_group row.form))
 
-  pub same_use : (record_of strict row Other).modrm ≡ (record_of strict row p).modrm
-  same_use = by_use (is_group row.form)
+-- ---- what a plan writes
 
-  pub same_fault : (record_of strict row Other).at_opcode ≡ (record_of strict row p).at_opcode
-  same_fault = by_fault (is_group row.form)
+-- a plan refuses, or writes ModRM's memory operand
+abbrev pub writes : Plan → Bool
+writes plan = is_refusal plan.verdict || list_any is_modrm_encoding (list_of plan.encodings)
+
+either : (b : Bool) (x y : Plan) → writes x ≡ true → writes y ≡ true → writes (if b then x else y) ≡ true
+either b x y e f = grind arith
+
+in_memory : (b : Bool) (x y : Plan) → b ≡ true → writes x ≡ true → writes (if b then x else y) ≡ true
+in_memory b x y e f = grind arith
+
+module _ (p : Prefixes) (m : ℕ) (mm : is_memory m ≡ true) where
+  plain_writes : (f : Form) (o : ℕ) → modrm_use f ≡ EitherForm → writes (form_plan f o p m) ≡ true
+  plain_writes f o usage = first_of (cc (mm), search (in_memory, either, mm), grind (arith, mm))
+
+  group_writes : (f : Form) (o : ℕ) (strict : Bool) → group_modrm f ≡ EitherForm → writes (groups.group_form_plan f o strict p m) ≡ true
+  unfolding group_plans
+  group_writes f o strict usage = first_of (cc (mm), search (in_memory, either, mm), grind (arith, mm))
+
+module _ (strict : Bool) (row : TableRow) (p : Prefixes) (m : ℕ) (mm : is_memory m ≡ true) where
+  by_kind : (group : Bool) → (By strict row group p).modrm ≡ EitherForm → writes ((By strict row group p).plan m) ≡ true
+  unfolding group_record form_record
+  by_kind true usage = group_writes p m mm row.form row.opcode strict usage
+  by_kind false usage = plain_writes p m mm row.form row.opcode usage
+
+  pub row_writes : (record_of strict row p).modrm ≡ EitherForm → is_refusal ((record_of strict row p).plan m).verdict ≡ false → list_any is_modrm_encoding (list_of ((record_of strict row p).plan m).encodings) ≡ true
+  row_writes usage accepted = cc (by_kind (is_group row.form) usage, accepted)

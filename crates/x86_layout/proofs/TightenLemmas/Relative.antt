@@ -1,6 +1,7 @@
 -- An encoding with the shortest raw fields is a relative, and none is shorter.
 use Rattle.std.proofs.Common.{◌≡◌, ℕ, ◌+◌, ◌≤◌, Bool, true, false, Some, None, List, [], ◌∷◌, ◌++◌, length, map, refl, sym, ap, subst, ◌∙◌, arith, length-append}
 use Rattle.std.proofs.lemmas.Bool.Decides.{nat_tests}
+use Rattle.std.proofs.lemmas.List.{nil_from_length}
 use Rattle.x86_fields.specs.declared.prefixes.Prefixes.{Prefixes}
 use Rattle.x86_fields.specs.declared.raw.Raw.{Raw}
 use Rattle.x86_fields.specs.ModRM.{reg_field, is_memory}
@@ -22,8 +23,8 @@ use Rattle.x86_layout.specs.Tightening.Registers.{is_ip_relative}
 use Rattle.x86_layout.specs.Tightening.Shortest.{shortest, address_length, IsOfBytes}
 use Rattle.x86_layout.specs.Tightening.Tighten.{bits_in, run_with, address_bytes, IsRelative, IsLeast, IsShortest}
 use Rattle.x86_layout.proofs.TightenLemmas.Rex.{run_stays, run_cleared, length_stays, seen_with, column_stays}
-use Rattle.x86_layout.proofs.TightenLemmas.PlanAlike.{same_plan, same_use, same_fault}
-use Rattle.x86_layout.proofs.TightenLemmas.Address.{of_bytes, address_long, respells, address_bytes_long, b_with, x_with}
+use Rattle.x86_layout.proofs.TightenLemmas.PlanAlike.{same_record}
+use Rattle.x86_layout.proofs.TightenLemmas.Address.{of_bytes, address_long, respells, address_bytes_long, bits_with}
 use Rattle.x86_layout.proofs.TightenLemmas.Shortest.{shortest_is_of_bytes, shortest_has_the_address, shortest_keeps_reg, shortest_keeps_67, shortest_keeps_bits, none_is_shorter}
 use Rattle.x86_layout.proofs.TightenLemmas.Respell.{Rerowed, rerowed}
 
@@ -33,12 +34,7 @@ pub uses_either_form : (u : ModrmUse) (modrm : List ℕ) → is_memory (modrm_of
 uses_either_form u modrm h = grind (arith, nat_tests)
 
 one_byte : (u : ModrmUse) (modrm : List ℕ) → u ≡ EitherForm → length modrm ≡ modrm_width u → modrm ≡ modrm_of u modrm ∷ []
-one_byte u modrm e h = rw e (alone modrm (h ∙ ap modrm_width e))
-  where
-    alone : (l : List ℕ) → length l ≡ 1 → l ≡ modrm_of EitherForm l ∷ []
-    alone [] g = absurd (omega (arith, g))
-    alone (m ∷ []) g = refl
-    alone (m ∷ k ∷ rest) g = absurd (omega (arith, g))
+one_byte u modrm e h = grind (arith, nil_from_length)
 
 -- what a memory form is
 module _ {strict : Bool} {s : List ℕ} {a : Reading} (v : Encoding strict s a) where
@@ -75,18 +71,6 @@ module _ {strict : Bool} {s : List ℕ} {a : Reading} (v : Encoding strict s a) 
     pub byte : v.row_spelled.modrm ≡ Byte ∷ []
     byte = one_byte (Row).modrm v.row_spelled.modrm fields v.row_spelled.modrm_length
 
-    pub raw_modrm : raw.modrm ≡ Byte
-    raw_modrm = ap (λ r. r.modrm) (spells).1.fields
-
-    pub raw_b : raw.rex_b ≡ has_b (Seen)
-    raw_b = ap (λ r. r.rex_b) (spells).1.fields
-
-    pub raw_x : raw.rex_x ≡ has_x (Seen)
-    raw_x = ap (λ r. r.rex_x) (spells).1.fields
-
-    pub raw_short : raw.address_size ≡ (Seen).address_size
-    raw_short = ap (λ r. r.address_size) (spells).1.fields
-
   tail_bytes : Bytes s → Bytes v.tail
   tail_bytes h =
       let following : Bytes (escape_bytes v.map ++ v.opcode ∷ v.tail) = bytes_after v.run _ (subst Bytes v.spelled h) in
@@ -119,42 +103,31 @@ module _ {strict : Bool} {s : List ℕ} {a : Reading} (v : Encoding strict s a) 
   abbrev Run : List ℕ
   Run = run_with (Other).rex_x (Other).rex_b v.run
 
-  abbrev Before : Prefixes
-  Before = Seen v
-
   abbrev Bits : Prefixes
-  Bits = record (Before) { rex = bits_in (Other).rex_x (Other).rex_b (Before).rex }
+  Bits = record (Seen v) { rex = bits_in (Other).rex_x (Other).rex_b (Seen v).rex }
 
   abbrev After : Prefixes
   After = seen_by v.map v.opcode (reading_of (Run))
 
   abbrev Rerow : Prefixes → Type 0
-  Rerow q = Rerowed (Before) q (Byte v) (Other).modrm raw (Other) (record_of strict v.row q) (address_bytes (Other)) v.row_spelled.tail_spelled.pieces.immediates v.row_spelled.tail_spelled.pieces.suffix a
+  Rerow q = Rerowed (Seen v) q (Byte v) (Other).modrm raw (Other) (record_of strict v.row q) (address_bytes (Other)) v.row_spelled.tail_spelled.pieces.immediates v.row_spelled.tail_spelled.pieces.suffix a
 
   respelled_raw : SpellsMemory (Bits) (Other).modrm (address_bytes (Other)) (Some (Other))
   respelled_raw =
-      let none = no_bits raw (Before) (raw_b v read) (raw_x v read) in
-      let keeps : (Before).address_size ≡ (Other).address_size = sym (raw_short v read) ∙ sym (shortest_keeps_67 raw) in
-      respells (Bits) (Other) (shortest_is_of_bytes raw fit)
-      (b_with (Other).rex_x (Other).rex_b (Before).rex (λ e. (none e).0))
-      (x_with (Other).rex_x (Other).rex_b (Before).rex (λ e. (none e).1))
-      keeps
+      let is = (spells v read).1.fields in
+      let bits = bits_with (Other).rex_x (Other).rex_b (Seen v).rex (no_bits raw (Seen v) (ap (λ r. r.rex_b) is) (ap (λ r. r.rex_x) is)) in
+      respells (Bits) (Other) (shortest_is_of_bytes raw fit) bits.0 bits.1 (sym (shortest_keeps_67 raw ∙ ap (λ r. r.address_size) is))
 
   same_register : reg_field (Other).modrm ≡ reg_field (Byte v)
-  same_register = shortest_keeps_reg raw ∙ ap reg_field (raw_modrm v read)
+  same_register = shortest_keeps_reg raw ∙ ap (λ r. reg_field r.modrm) (spells v read).1.fields
 
   rerow_bits : Rerow (Bits)
   rerow_bits =
-      let m : ℕ = Byte v in
-      let n : ℕ = (Other).modrm in
-      let mm : is_memory m ≡ true = (spells v read).0 in
-      let nm : is_memory n ≡ true = (respelled_raw).0 in
-      let x = (Other).rex_x in
-      let b = (Other).rex_b in
-      rerowed (Before) (Bits) m n raw (Other) (record_of strict v.row (Bits)) _ v.row_spelled.tail (address_bytes (Other)) a v.row_spelled.tail_spelled refl read nm (respelled_raw).1
-      (same_fault strict v.row (Before) x b m n mm nm (same_register) ∙ v.row_spelled.passed)
-      (same_use strict v.row (Before) x b m n mm nm (same_register) ∙ fields v read)
-      (same_plan strict v.row (Before) x b m n mm nm (same_register) (fields v read))
+      let alike = same_record strict v.row (Seen v) (Other).rex_x (Other).rex_b (Byte v) (Other).modrm (spells v read).0 (respelled_raw).0 (same_register) in
+      rerowed (Seen v) (Bits) (Byte v) (Other).modrm raw (Other) (record_of strict v.row (Bits)) _ v.row_spelled.tail (address_bytes (Other)) a v.row_spelled.tail_spelled refl read (respelled_raw).0 (respelled_raw).1
+      (alike.0 ∙ v.row_spelled.passed)
+      (alike.1 ∙ fields v read)
+      (alike.2 (fields v read))
 
   rerow : Rerow (After)
   rerow = subst Rerow (sym (seen_with v.map v.opcode (Other).rex_x (Other).rex_b v.run)) rerow_bits

@@ -22,12 +22,9 @@ use Rattle.x86_decode.specs.Grammar.{allows_lock}
 
 -- ---- the operands
 
-shape_by_memory : (b i : Option RegSpec) (s : ℕ) (d : ℤ) → is_memory_slot (shape_by b i s d).0 ≡ true
-shape_by_memory b i s d = grind arith
-
 is_shape : (raw : Raw) → is_memory_slot (shape raw).0 ≡ true
 unfolding shape
-is_shape raw = shape_by_memory (base_of raw) (index_of raw) (scale_by raw.sib) raw.disp
+is_shape raw = grind arith
 
 module _ (p q : Prefixes) (m n : ℕ) (raw other : Raw) where
   same_kind : (s : OperandEncoding) (bytes : List ℕ) → is_memory_slot (operand_from s q n (Some other) bytes).0 ≡ is_memory_slot (operand_from s p m (Some raw) bytes).0
@@ -49,55 +46,12 @@ module _ (p q : Prefixes) (m n : ℕ) (raw other : Raw) where
         first = same_kind s h.immediate ∙ ap (λ l. is_memory_slot (pair_at l 0).0) (sym h.yields);
       }
 
-  -- ---- after ModRM
-
-  -- the pieces after a ModRM byte n with these raw fields, and the reading
-  pub record Retailed (plan : Plan) (byte : ℕ) (address immediates suffix : List ℕ) (reading : Reading) : Type 0 where
-    pub again : Reading
-    pub tail : SpellsTail plan q byte (address ++ (immediates ++ suffix)) again
-    pub memory : tail.pieces.memory ≡ Some other
-    pub immediate : tail.pieces.immediates ≡ immediates
-    pub last : tail.pieces.suffix ≡ suffix
-    pub lock : allows_lock again ≡ allows_lock reading
+  -- ---- after the opcode
 
   lock_of_change : (change : PrefixChange) → p.lock ≡ q.lock → (changed change q).lock ≡ (changed change p).lock
   lock_of_change change e = grind arith
 
-  retailed : (plan : Plan) (tail address : List ℕ) (reading : Reading) (h : SpellsTail plan p m tail reading) → p.lock ≡ q.lock → h.pieces.memory ≡ Some raw → is_memory n ≡ true → SpellsRaw q n address other → Retailed plan n address h.pieces.immediates h.pieces.suffix reading
-  retailed plan tail address reading h same read memory spells =
-      let s = h.pieces in
-      let encodings = rw read at s.immediates_spelled in
-      let new = regiven (list_of plan.encodings) s.immediates s.operand_pairs encodings in
-      let again : Reading = reading_from plan q h.opcode (four_of new.pairs) in
-      let lock : allows_lock again ≡ allows_lock (reading_from plan p h.opcode (four_of s.operand_pairs)) = cc (lock_of_change plan.change same, new.first) in
-      record {
-        again = again;
-        tail = record {
-          pieces = record {
-            memory = Some other;
-            address = address;
-            immediates = s.immediates;
-            suffix = s.suffix;
-            operand_pairs = new.pairs;
-            spelled = refl;
-            address_spelled = (memory, spells);
-            immediates_spelled = new.spelled;
-            suffix_length = s.suffix_length;
-          };
-          opcode = h.opcode;
-          named = h.named;
-          accepted = h.accepted;
-          yields = refl;
-        };
-        memory = refl;
-        immediate = refl;
-        last = refl;
-        lock = lock ∙ ap allows_lock (sym h.yields);
-      }
-
-  -- ---- after the opcode
-
-  -- what the other row has there
+  -- what the other row has there, with ModRM byte n and these raw fields, and the reading
   pub record Rerowed (r : RowRecord) (address immediates suffix : List ℕ) (reading : Reading) : Type 0 where
     pub again : Reading
     pub row : SpellsRow r q (n ∷ (address ++ (immediates ++ suffix))) again
@@ -109,13 +63,40 @@ module _ (p q : Prefixes) (m n : ℕ) (raw other : Raw) where
 
   pub rerowed : (r : RowRecord) (plan : Plan) (tail address : List ℕ) (reading : Reading) (h : SpellsTail plan p m tail reading) → p.lock ≡ q.lock → h.pieces.memory ≡ Some raw → is_memory n ≡ true → SpellsRaw q n address other → r.at_opcode ≡ None → r.modrm ≡ EitherForm → r.plan n ≡ plan → Rerowed r address h.pieces.immediates h.pieces.suffix reading
   rerowed r plan tail address reading h same read memory spells passed usage planned =
-      let second : Retailed (r.plan (modrm_of r.modrm (n ∷ []))) (modrm_of r.modrm (n ∷ [])) address h.pieces.immediates h.pieces.suffix reading = rw (usage, planned) (retailed plan tail address reading h same read memory spells) in
+      let s = h.pieces in
+      let encodings = rw read at s.immediates_spelled in
+      let new = regiven (list_of plan.encodings) s.immediates s.operand_pairs encodings in
+      let again : Reading = reading_from plan q h.opcode (four_of new.pairs) in
+      let lock : allows_lock again ≡ allows_lock (reading_from plan p h.opcode (four_of s.operand_pairs)) = cc (lock_of_change plan.change same, new.first) in
       record {
-        again = second.again;
-        row = record { modrm = n ∷ []; tail = address ++ (h.pieces.immediates ++ h.pieces.suffix); passed = passed; spelled = refl; modrm_length = ap modrm_width (sym usage); tail_spelled = second.tail };
+        again = again;
+        row = record {
+          modrm = n ∷ [];
+          tail = address ++ (s.immediates ++ s.suffix);
+          passed = passed;
+          spelled = refl;
+          modrm_length = ap modrm_width (sym usage);
+          tail_spelled = record {
+            pieces = record {
+              memory = Some other;
+              address = address;
+              immediates = s.immediates;
+              suffix = s.suffix;
+              operand_pairs = new.pairs;
+              spelled = refl;
+              address_spelled = rw usage (memory, spells);
+              immediates_spelled = rw (usage, planned) new.spelled;
+              suffix_length = rw (usage, planned) s.suffix_length;
+            };
+            opcode = h.opcode;
+            named = rw (usage, planned) h.named;
+            accepted = rw (usage, planned) h.accepted;
+            yields = rw (usage, planned) refl;
+          };
+        };
         modrm = refl;
-        memory = second.memory;
-        immediate = second.immediate;
-        last = second.last;
-        lock = second.lock;
+        memory = refl;
+        immediate = refl;
+        last = refl;
+        lock = lock ∙ ap allows_lock (sym h.yields);
       }

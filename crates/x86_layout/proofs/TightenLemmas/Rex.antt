@@ -38,21 +38,8 @@ module _ (x b : Bool) (kind : ℕ → Bool) (stays : (n : ℕ) → kind (byte_wi
 
 -- ---- the bits
 
-bits_at : (byte k x b : ℕ) → (k / 2) % 2 ≡ x → k % 2 ≡ b → k < 4 → rex_bits ((byte / 4) * 4 + k) ≡ record (rex_bits byte) { x = x == 1; b = b == 1 }
-bits_at byte k x b e f h =
-    let at : ℕ = (byte / 4) * 4 + k in
-    let first : (at / 8) % 2 ≡ (byte / 8) % 2 = omega (arith, h) in
-    let second : (at / 4) % 2 ≡ (byte / 4) % 2 = omega (arith, h) in
-    let third : (at / 2) % 2 ≡ x = omega (arith, h, e) in
-    let fourth : at % 2 ≡ b = omega (arith, h, f) in
-    cc (first, second, third, fourth)
-
 named_by : (x b t : Bool) (byte : ℕ) → is_rex byte ≡ t → is_rex (byte_with x b byte) ≡ t → rex_named (Some (byte_with x b byte)) ≡ bits_in x b (rex_named (Some byte))
-named_by x b false byte e f = cc
-named_by true true true byte e f = cc (bits_at byte 3 1 1 refl refl (omega arith))
-named_by true false true byte e f = cc (bits_at byte 2 1 0 refl refl (omega arith))
-named_by false true true byte e f = cc (bits_at byte 1 0 1 refl refl (omega arith))
-named_by false false true byte e f = cc (bits_at byte 0 0 0 refl refl (omega arith))
+named_by x b t byte e f = grind (arith, nat_tests)
 
 rex_stays : (x b : Bool) (run : List ℕ) → rex_named (last (run_with x b run)) ≡ bits_in x b (rex_named (last run))
 unfolding run_with

@@ -40,35 +40,22 @@ use Rattle.x86_layout.specs.Tightening.Shortest.{IsOfBytes}
 use Rattle.x86_layout.specs.Tightening.Tighten.{bits_in, IsRelative}
 use Rattle.x86_layout.specs.Tightening.Same.{cleared, placed_at, address_at, IsSameOrShape, unchanged, shapes, IsSameButInMemory}
 use Rattle.x86_layout.proofs.TightenLemmas.Rex.{seen_with, column_stays}
-use Rattle.x86_layout.proofs.TightenLemmas.PlanAlike.{same_plan}
+use Rattle.x86_layout.proofs.TightenLemmas.PlanAlike.{same_record}
 use Rattle.x86_layout.proofs.TightenLemmas.Raw.{scale_is}
-use Rattle.x86_layout.proofs.TightenLemmas.Relative.{Reads, Row, Seen, Byte, spells, fields, byte, raw_short, raw_of_bytes}
+use Rattle.x86_layout.proofs.TightenLemmas.Relative.{Reads, Row, Seen, Byte, spells, fields, byte, raw_of_bytes}
 use Rattle.x86_layout.proofs.PartLemmas.Part.{halves}
 
 -- ---- what clearing X and B leaves
 
-r_by : (rex : Option PrefixRex) → live_bit (λ r. r.r) (bits_in false false rex) ≡ live_bit (λ r. r.r) rex
-r_by rex = grind arith
-
-live_by : (rex : Option PrefixRex) → is_some (bits_in false false rex) ≡ is_some rex
-live_by rex = grind arith
-
-register_by : (c : RegisterClass) (p : Prefixes) (n : ℕ) → register_of c (cleared p) n ≡ register_of c p n
-register_by B p n = cc (live_by p.rex)
-register_by c p n = refl
-
-mark_by : (change : PrefixChange) (p : Prefixes) → cleared (changed change p) ≡ changed change (cleared p)
-mark_by change p = grind arith
-
 module _ (p q : Prefixes) (alike : cleared q ≡ cleared p) where
   same_r : has_r q ≡ has_r p
-  same_r = sym (r_by q.rex) ∙ ap has_r alike ∙ r_by p.rex
+  same_r = let e = ap has_r alike in grind arith
 
   same_register : (c : RegisterClass) (n : ℕ) → register_of c q n ≡ register_of c p n
-  same_register c n = cc (register_by c q n, alike, register_by c p n)
+  same_register c n = let e = ap (λ r. register_of c r n) alike in grind arith
 
   same_mark : (change : PrefixChange) → cleared (changed change q) ≡ cleared (changed change p)
-  same_mark change = cc (mark_by change q, alike, mark_by change p)
+  same_mark change = let e = ap (changed change) alike in grind arith
 
 -- ---- the operands
 
@@ -77,9 +64,6 @@ module _ (from to : Raw) where
   record AlikePairs (operand_pairs others : List (Slot × Operand)) : Type 0 where
     count : length others ≡ length operand_pairs
     each : (k : ℕ) → IsSameOrShape from to (pair_at operand_pairs k) (pair_at others k)
-
-  none_alike : AlikePairs [] []
-  none_alike = record { count = refl; each = λ k. unchanged refl }
 
   one_more : {x y : Slot × Operand} {xs ys : List (Slot × Operand)} → IsSameOrShape from to x y → AlikePairs xs ys → AlikePairs (x ∷ xs) (y ∷ ys)
   one_more {x = x} {y = y} {xs = xs} {ys = ys} first following = record { count = ap suc following.count; each = each }
@@ -93,17 +77,10 @@ module _ (from to : Raw) where
     same_number = cc (same_r p q alike, register)
 
     sign_alike : (s : OperandEncoding) (bytes : List ℕ) → IsSameOrShape from to (operand_from s p m (Some from) bytes) (operand_from s q n (Some to) bytes)
-    sign_alike (G c) bytes = unchanged (cc (same_register p q alike c (reg_number n q), same_number))
-    sign_alike Gmm bytes = unchanged (cc (register))
-    sign_alike (E c) bytes = shapes refl refl
-    sign_alike Emm bytes = shapes refl refl
-    sign_alike M bytes = shapes refl refl
-    sign_alike (U c) bytes = shapes refl refl
-    sign_alike Umm bytes = shapes refl refl
-    sign_alike s bytes = unchanged refl
+    sign_alike s bytes = grind (arith, unchanged, shapes, same_register p q alike, same_number)
 
     pairs_alike : (ss : List OperandEncoding) (bytes : List ℕ) (operand_pairs others : List (Slot × Operand)) → SpellsOperands ss p m (Some from) bytes operand_pairs → SpellsOperands ss q n (Some to) bytes others → AlikePairs operand_pairs others
-    pairs_alike [] bytes operand_pairs others h g = rw (h.1, g.1) none_alike
+    pairs_alike [] bytes operand_pairs others h g = rw (h.1, g.1) (record { count = refl; each = λ k. unchanged refl })
     pairs_alike (s ∷ rest) bytes operand_pairs others h g =
         let same = halves h.immediate h.tail g.immediate g.tail (sym h.spelled ∙ g.spelled) (h.immediate_length ∙ sym g.immediate_length) in
         let first : IsSameOrShape from to (operand_from s p m (Some from) h.immediate) (operand_from s q n (Some to) g.immediate) = rw (same.0) (sign_alike s g.immediate) in
@@ -117,12 +94,7 @@ module _ (from to : Raw) where
   At below xs k = (if below then slice_index_or (four_of xs).slots k slots.Nothing else slots.Nothing, if below then slice_index_or (four_of xs).operands k operands.Nothing else operands.Nothing)
 
   at_place : (below : Bool) (xs ys : List (Slot × Operand)) (k : ℕ) → AlikePairs xs ys → IsSameOrShape from to (At below xs k) (At below ys k)
-  at_place false xs ys k h = unchanged refl
-  at_place true xs ys zero h = h.each 0
-  at_place true xs ys (suc zero) h = h.each 1
-  at_place true xs ys (suc (suc zero)) h = h.each 2
-  at_place true xs ys (suc (suc (suc zero))) h = h.each 3
-  at_place true xs ys (suc (suc (suc (suc k)))) h = unchanged refl
+  at_place below xs ys k h = grind (arith, unchanged, h.each 0, h.each 1, h.each 2, h.each 3)
 
   module _ (address : IsSameAddress (raw_form to) (raw_form from)) (p q : Prefixes) (alike : cleared q ≡ cleared p) where
     built : (plan : Plan) (opcode k l : ℕ) (xs ys : List (Slot × Operand)) → AlikePairs xs ys → IsSameButInMemory from to (instruction_of (reading_from plan p opcode (four_of xs)) k) (instruction_of (reading_from plan q opcode (four_of ys)) l)
@@ -148,12 +120,9 @@ module _ (from to : Raw) where
 
 -- ---- the encodings
 
-one_map : (f g : Map) → escape_bytes f ≡ escape_bytes g → f ≡ g
-one_map f g e = grind arith
-
 module _ {strict : Bool} {s : List ℕ} {a : Reading} {v : Encoding strict s a} {t : List ℕ} {b : Reading} {w : Encoding strict t b} (rel : IsRelative strict s a v t b w) where
   map_is : w.map ≡ v.map
-  map_is = one_map w.map v.map rel.parts.escape
+  map_is = let e = rel.parts.escape in grind arith
 
   row_is : w.row ≡ v.row
   row_is = cc (w.has_row, v.has_row, column_stays false false w.run, column_stays false false v.run, rel.parts.prefixes, map_is, rel.parts.opcode)
@@ -168,8 +137,8 @@ module _ {strict : Bool} {s : List ℕ} {a : Reading} {v : Encoding strict s a} 
   plan_is =
       let mm = (spells v rel.address.old).0 in
       let nm = (spells w rel.address.new).0 in
-      let new = same_plan strict w.row (Seen w) false false (Byte w) (Byte w) nm nm refl (fields w rel.address.new) in
-      let old = same_plan strict v.row (Seen v) false false (Byte v) (Byte w) mm nm register_is (fields v rel.address.old) in
+      let new = (same_record strict w.row (Seen w) false false (Byte w) (Byte w) nm nm refl).2 (fields w rel.address.new) in
+      let old = (same_record strict v.row (Seen v) false false (Byte v) (Byte w) mm nm register_is).2 (fields v rel.address.old) in
       cc (new, row_is, seen_is, old)
 
   same_instruction : (k l : ℕ) → IsSameButInMemory rel.address.from rel.address.to (instruction_of a k) (instruction_of b l)
@@ -206,7 +175,7 @@ same_67 is read =
     ap (λ i. i.prefixes.address_size) is.yields
     ∙ ap (λ r. r.prefixes.address_size) is.whole.row_spelled.tail_spelled.yields
     ∙ mark_67 _ (Seen is.whole)
-    ∙ sym (raw_short is.whole read)
+    ∙ sym (ap (λ r. r.address_size) (spells is.whole read).1.fields)
 
 module _ (have : HaveTheAddress) (reduced : AreReduced) (values : AreTheirValues) (from to : Raw) (from_bytes : IsOfBytes from) (to_bytes : IsOfBytes to) (regs : List ℕ) (next : ℕ) (file : IsRegFile regs) (small : next < 2 ^ 64) where
   reduced_of : (raw : Raw) → IsOfBytes raw → IsReduced (raw_form raw)

@@ -1,20 +1,71 @@
 -- The shortest raw fields have the same address, and no others of that address have fewer bytes.
-use Rattle.std.proofs.Common.{◌≡◌, ℕ, ◌<◌, ◌≤◌, Bool, true, false, if◌then◌else◌, Option, Some, ℤ, refl, sym, ◌∙◌, arith}
+use Rattle.std.proofs.Common.{◌≡◌, ℕ, ◌+◌, ◌<◌, ◌≤◌, ◌⊎◌, inl, inr, Option, Some, None, ℤ, arith, Bool, true, false, if◌then◌else◌, refl, sym, ◌∙◌}
+use Rattle.std.proofs.lemmas.Bool.Decides.{nat_tests}
+use Rattle.x86_layout.specs.declared.tightening.registers.Scale.{Scale}
+use Rattle.x86_layout.specs.declared.tightening.registers.Scale.TheVariants.{One}
+use Rattle.x86_layout.specs.Tightening.Registers.{times, part_weight, IsBelow16, IsIndex, is_ip_relative, number_of, scale_named, registers_of, weight, IsByteOption}
+use Rattle.x86_layout.specs.Tightening.Shortest.{index_alone, base_and_index, exchanged, arranged, width_with_base, bytes_by, bytes_at, shortest_registers, address_length, fourth_bit, scale_bits, field_or, rm_alone, rm_by, sib_by, spelled, shortest, IsOfBytes}
 use Rattle.std.specs.Prelude.{FitsSigned}
 use Rattle.std.specs.Int.{w32, w64}
-use Rattle.std.proofs.lemmas.Bool.Decides.{nat_tests}
 use Rattle.std.proofs.lemmas.Int.{to_z-of_z}
 use Rattle.x86_fields.specs.declared.raw.Raw.{Raw}
 use Rattle.x86_fields.specs.ModRM.{reg_field, packed_byte}
 use Rattle.x86_fields.specs.Address.{base_by, index_by, scale_by}
 use Rattle.x86_fields.specs.Linear.{constant_by, modulus_by, raw_form, IsSameAddress}
-use Rattle.x86_layout.specs.declared.tightening.registers.Scale.{Scale}
 use Rattle.x86_layout.specs.declared.tightening.registers.AddressRegisters.{AddressRegisters}
-use Rattle.x86_layout.specs.Tightening.Registers.{is_ip_relative, number_of, scale_named, registers_of, times, part_weight, weight, IsBelow16, IsIndex, IsByteOption}
-use Rattle.x86_layout.specs.Tightening.Shortest.{arranged, shortest_registers, bytes_by, bytes_at, address_length, fourth_bit, scale_bits, field_or, rm_alone, rm_by, sib_by, spelled, shortest, IsOfBytes}
-use Rattle.x86_layout.proofs.TightenLemmas.Weight.{Weigh, fewest}
-use Rattle.x86_layout.proofs.TightenLemmas.Spelled.{middle_is, middle_small, rm_small, spelled_length, spelled_fits, spelled_base, spelled_index, spelled_scale}
-use Rattle.x86_layout.proofs.TightenLemmas.Raw.{least, base_number, index_number, base_counts, index_counts, base_next, index_next}
+use Rattle.x86_layout.proofs.TightenLemmas.Raw.{middle_is, middle_small, rm_small, spelled_length, spelled_fits, spelled_base, spelled_index, spelled_scale, least, base_number, index_number, base_counts, index_counts, base_next, index_next}
+
+-- ---- how often a register counts
+
+some_times : (s : Scale) → 0 < times s
+some_times s = grind arith
+
+-- ---- bytes
+
+at_most_four : (d : ℤ) (b : ℕ) → width_with_base d b ≤ 4
+at_most_four d b = grind arith
+
+pub at_most_five : (d : ℤ) (b i : Option ℕ) → bytes_by d b i ≤ 5
+at_most_five d b i = grind (arith, at_most_four)
+
+-- ---- what is known from equal counts
+
+abbrev pub Weigh : Option ℕ → Option ℕ → Scale → ℕ → ℕ
+Weigh b i s r = part_weight b 1 r + part_weight i (times s) r
+
+-- an index that counts as base and index together: both are it, and it counts as often as both
+twice : (r b' i' : ℕ) (s s' : Scale) → part_weight (Some r) (times s) b' ≡ part_weight (Some b') 1 b' + part_weight (Some i') (times s') b' → part_weight (Some r) (times s) i' ≡ part_weight (Some b') 1 i' + part_weight (Some i') (times s') i' → (r ≡ b') × (times s ≡ 1 + times s')
+twice r b' i' s s' e f = let some = some_times s' in (grind (arith, nat_tests), grind (arith, nat_tests))
+
+-- the base of two registers is the same, or the index that counts once
+which : (b i : ℕ) (s : Scale) (b' i' : ℕ) (s' : Scale) → Weigh (Some b) (Some i) s b ≡ Weigh (Some b') (Some i') s' b → Weigh (Some b) (Some i) s i ≡ Weigh (Some b') (Some i') s' i → Weigh (Some b) (Some i) s b' ≡ Weigh (Some b') (Some i') s' b' → (b ≡ b') ⊎ ((i ≡ b') × (s ≡ One))
+which b i s b' i' s' e f g = let some = some_times s in let some' = some_times s' in grind (arith, nat_tests)
+
+-- a base alone
+one_base : (d : ℤ) (r b' : ℕ) (i' : Option ℕ) (s' : Scale) → r < 16 → b' < 16 → IsIndex i' → ((k : ℕ) → k < 16 → part_weight (Some r) 1 k + 0 ≡ Weigh (Some b') i' s' k) → bytes_by d (Some r) None ≤ bytes_by d (Some b') i'
+one_base d r b' None s' hr hb hi e = let f = e b' hb in grind (arith, nat_tests)
+one_base d r b' (Some i') s' hr hb hi e = let some = some_times s' in let f = e b' hb in let g = e i' hi.0 in grind (arith, nat_tests)
+
+one_index : (d : ℤ) (r b' : ℕ) (i' : Option ℕ) (s s' : Scale) → r < 16 → b' < 16 → IsIndex i' → ((k : ℕ) → k < 16 → 0 + part_weight (Some r) (times s) k ≡ Weigh (Some b') i' s' k) → bytes_at d (index_alone r s) ≤ bytes_by d (Some b') i'
+one_index d r b' i' One s' hr hb hi e = one_base d r b' i' s' hr hb hi (λ k h. let f = e k h in omega (arith, f))
+one_index d r b' None s s' hr hb hi e = let some = some_times s in let f = e b' hb in grind (arith, nat_tests)
+one_index d r b' (Some i') s s' hr hb hi e =
+    let f = e b' hb in
+    let g = e i' hi.0 in
+    let base_and_index = twice r b' i' s s' (omega (arith, f)) (omega (arith, g)) in
+    grind (arith, nat_tests)
+
+-- two registers
+by_base : (d : ℤ) (b i : ℕ) (s : Scale) (b' : ℕ) → (b ≡ b') ⊎ ((i ≡ b') × (s ≡ One)) → bytes_at d (base_and_index d b i s) ≤ 1 + width_with_base d b'
+by_base d b i s b' e = grind arith
+
+pub fewest : (d : ℤ) (b i : Option ℕ) (s : Scale) (b' i' : Option ℕ) (s' : Scale) → IsBelow16 b → IsIndex i → IsBelow16 b' → IsIndex i' → ((k : ℕ) → k < 16 → Weigh b i s k ≡ Weigh b' i' s' k) → bytes_at d (arranged d b i s) ≤ bytes_by d b' i'
+fewest d b i s None i' s' hb hi hb' hi' e = let at = arranged d b i s in at_most_five d at.base at.index
+fewest d None None s (Some b') i' s' hb hi hb' hi' e = let f = e b' hb' in absurd (grind (arith, nat_tests))
+fewest d (Some r) None s (Some b') i' s' hb hi hb' hi' e = one_base d r b' i' s' hb hb' hi' e
+fewest d None (Some r) s (Some b') i' s' hb hi hb' hi' e = one_index d r b' i' s s' hi.0 hb' hi' e
+fewest d (Some b) (Some i) s (Some b') None s' hb hi hb' hi' e = let some = some_times s in let f = e b hb in let g = e i hi.0 in absurd (grind (arith, nat_tests))
+fewest d (Some b) (Some i) s (Some b') (Some i') s' hb hi hb' hi' e = by_base d b i s b' (which b i s b' i' s' (e b hb) (e i hi.0) (e b' hb'))
 
 -- ---- where registers are arranged
 

@@ -1,5 +1,5 @@
--- What is known of raw fields from the parts of an encoding.
-use Rattle.std.proofs.Common.{◌≡◌, ℕ, ◌≤◌, ◌==◌, ◌&&◌, Bool, true, false, if◌then◌else◌, Option, Some, None, List, length, refl, sym, ap, ◌∙◌, arith, length-append}
+-- What is known of raw fields from the parts of an encoding, and how long a shortest relative is.
+use Rattle.std.proofs.Common.{◌≡◌, ℕ, ◌≤◌, ◌==◌, ◌&&◌, Bool, true, false, if◌then◌else◌, Option, Some, None, List, length, refl, sym, ap, ◌∙◌, arith, length-append, ◌+◌, ◌-◌, not, [], append-nil}
 use Rattle.x86_fields.specs.declared.prefixes.Prefixes.{Prefixes}
 use Rattle.x86_fields.specs.declared.raw.Raw.{Raw}
 use Rattle.x86_fields.specs.ModRM.{rm_field, is_memory}
@@ -14,13 +14,16 @@ use Rattle.x86_layout.specs.declared.parts.split.Parts.{Parts}
 use Rattle.x86_layout.specs.Parts.Heads.{one_if, IsHead, IsTail}
 use Rattle.x86_layout.specs.Parts.Split.{PartLists, Encoding, HasParts, lists_of}
 use Rattle.x86_layout.specs.Tightening.Registers.{is_ip_relative}
-use Rattle.x86_layout.specs.Tightening.Shortest.{shortest, IsOfBytes}
+use Rattle.x86_layout.specs.Tightening.Shortest.{shortest, IsOfBytes, address_length}
 use Rattle.x86_layout.specs.Tightening.Tighten.{HasMemoryOperand, HasOperandForm, raw_of, respelled, respelled_length}
 use Rattle.x86_layout.proofs.PartLemmas.Part.{halves, read_as}
-use Rattle.x86_layout.proofs.PartLemmas.OfBytes.{option_count, first_of}
+use Rattle.x86_layout.proofs.PartLemmas.OfBytes.{option_count, first_of, IsFirstSentence, has_head, parts_are}
 use Rattle.x86_layout.proofs.TightenLemmas.Rex.{seen_rex, seen_67}
-use Rattle.x86_layout.proofs.TightenLemmas.Writes.{row_writes}
-use Rattle.x86_layout.proofs.TightenLemmas.Relative.{Seen, Reads, Row, Byte, Address, spells, fields, byte, length_is, no_longer, Bytes'}
+use Rattle.x86_layout.proofs.TightenLemmas.PlanAlike.{row_writes}
+use Rattle.x86_layout.proofs.TightenLemmas.Relative.{Seen, Reads, Row, Byte, Address, spells, fields, byte, length_is, no_longer, Bytes', long}
+use Rattle.x86_layout.specs.Parts.OfBytes.{ask_in, parts_of}
+use Rattle.x86_decode.specs.declared.instructions.Instruction.{Instruction}
+use Rattle.x86_layout.specs.Tightening.Least.{least_by, least_length, shortest_length}
 
 module _ {strict : Bool} {s : List ℕ} {a : Reading} (v : Encoding strict s a) where
   -- whether the row has a memory form
@@ -29,8 +32,7 @@ module _ {strict : Bool} {s : List ℕ} {a : Reading} (v : Encoding strict s a) 
   memory_in_head head h = cc (h.ask, read_as v.row_spelled v.row_spelled.tail v.row_spelled.spelled)
 
   some_by : (p : Prefixes) (m : ℕ) (address : List ℕ) (memory : Option Raw) → SpellsMemory p m address memory → is_memory m ≡ true → (raw : Raw) × (memory ≡ Some raw)
-  some_by p m address None h e = absurd (cc (h.0, e))
-  some_by p m address (Some raw) h e = (raw, refl)
+  some_by p m address memory h e = grind arith
 
   pub some_memory : is_memory (Byte v) ≡ true → (raw : Raw) × (Reads v raw)
   some_memory e = some_by (Seen v) (Byte v) (Address v) v.row_spelled.tail_spelled.pieces.memory v.row_spelled.tail_spelled.pieces.address_spelled e
@@ -83,3 +85,34 @@ module _ {strict : Bool} {s : List ℕ} {a : Reading} (v : Encoding strict s a) 
           let old = length_is v raw read in
           let new = no_longer v read fit ip in
           omega (arith, length-append {A = ℕ}, short, old, new, ap length h.prefixes, ap length h.escape, ap length h.opcode, ap length h.immediate, ap length h.suffix)
+
+module _ {strict : Bool} {s : List ℕ} {a : Reading} (v : Encoding strict s a) where
+  reads : (ask_in s strict).memory ≡ is_memory (Byte v)
+  unfolding ask_of
+  reads =
+      let h = has_head [] v (sym (append-nil s)) in
+      cc (h.ask, h.tail, append-nil v.tail, read_as v.row_spelled v.row_spelled.tail v.row_spelled.spelled)
+
+  least_is : (memory : Bool) (raw : Raw) → is_memory (Byte v) ≡ memory → raw_of (parts_of strict s) ≡ raw → least_length strict s ≡ least_by memory raw (length s)
+  unfolding least_length
+  least_is memory raw e f = cc (reads, e, f)
+
+  pub least_without : is_memory (Byte v) ≡ false → least_length strict s ≡ length s
+  least_without e = least_is false (raw_of (parts_of strict s)) e refl
+
+  module _ {raw : Raw} (read : Reads v raw) where
+    pub least_with : (ip : Bool) → is_ip_relative raw ≡ ip → least_length strict s ≡ (if true && not ip then (length s - address_length raw) + address_length (shortest raw) else length s)
+    least_with ip e =
+        cc (least_is true raw (spells v read).0 (raw_is v read (parts_of strict s) (parts_are [] v (sym (append-nil s)))), e)
+
+    pub least_of_shortest : (fit : IsOfBytes raw) (t : List ℕ) → t ≡ Bytes' v read fit → is_ip_relative raw ≡ false → length t ≡ least_length strict s
+    least_of_shortest fit t spelled e =
+        let h = least_with false e in
+        let old = length_is v raw read in
+        let new = long v read fit t spelled in
+        omega (arith, h, old, new)
+
+-- at the beginning of bytes
+pub least_beginning : {strict : Bool} {bytes encoding : List ℕ} {instruction : Instruction} → IsFirstSentence strict bytes encoding instruction → shortest_length strict bytes ≡ least_length strict encoding
+unfolding shortest_length
+least_beginning h = cc (h.accepted, h.taken)

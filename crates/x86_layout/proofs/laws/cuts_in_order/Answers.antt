@@ -1,8 +1,7 @@
 use Rattle.std.proofs.Common.{[], refl}
 use Rattle.x86_decode.specs.Answer.{answer_of}
 use Rattle.x86_layout.specs.Sweeps.Cuts.{cut_length}
-use Rattle.x86_layout.proofs.SweepLemmas.Cut.{none_left, first_and_rest}
-use Rattle.x86_layout.proofs.SweepLemmas.Place.{fits}
+use Rattle.x86_layout.proofs.SweepLemmas.Place.{none_left, first_and_rest, fits}
 use Rattle.x86_layout.proofs.laws.cuts_in_order.Goals as goal
 
 pub returns-clause-none : goal.returns-clause-none

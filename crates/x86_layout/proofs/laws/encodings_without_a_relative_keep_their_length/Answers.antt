@@ -7,9 +7,8 @@ use Rattle.x86_layout.specs.Tightening.Least.{least_length}
 use Rattle.x86_layout.specs.Parts.Split.{Encoding}
 use Rattle.x86_layout.specs.Tightening.Registers.{is_ip_relative}
 use Rattle.x86_layout.specs.Tightening.Tighten.{HasMemoryOperand, HasNoRelative}
-use Rattle.x86_layout.proofs.TightenLemmas.Least.{least_without, least_at_ip}
+use Rattle.x86_layout.proofs.TightenLemmas.Tighten.{least_without, least_with, operand_form, some_memory}
 use Rattle.x86_layout.proofs.TightenLemmas.Relative.{Byte}
-use Rattle.x86_layout.proofs.TightenLemmas.Tighten.{operand_form, some_memory}
 use Rattle.x86_layout.proofs.laws.encodings_without_a_relative_keep_their_length.Goals as goal
 
 module _ (strict : Bool) (s : List ℕ) (a : Reading) (v : Encoding strict s a) where
@@ -21,7 +20,7 @@ module _ (strict : Bool) (s : List ℕ) (a : Reading) (v : Encoding strict s a) 
   keeps : (error : TightenError) → HasNoRelative strict s a v error → least_length strict s ≡ length s
   keeps (Refused error) h = absurd h
   keeps NoMemoryForm h = by_form (is_memory (Byte v)) refl h
-  keeps IpRelative h = least_at_ip v h.operand.read h.form
+  keeps IpRelative h = least_with v h.operand.read true h.form
 
 pub returns : goal.returns
 returns c = λ strict s a is error. keeps strict s is.reading is.whole error

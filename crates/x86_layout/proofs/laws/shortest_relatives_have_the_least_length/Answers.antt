@@ -2,7 +2,7 @@ use Rattle.std.proofs.Common.{List, ℕ, refl}
 use Rattle.x86_decode.proofs.ByteLemmas.{bytes_of}
 use Rattle.x86_layout.specs.Tightening.Shortest.{IsOfBytes}
 use Rattle.x86_layout.proofs.TightenLemmas.Relative.{Bytes', raw_of_bytes, shortest_relative}
-use Rattle.x86_layout.proofs.TightenLemmas.Least.{least_of_shortest}
+use Rattle.x86_layout.proofs.TightenLemmas.Tighten.{least_of_shortest}
 use Rattle.x86_layout.proofs.laws.shortest_relatives_have_the_least_length.Goals as goal
 
 pub returns : goal.returns

@@ -2,10 +2,7 @@ use Rattle.std.proofs.Common.{◌≤◌, arith, length, ap, ◌∙◌}
 use Rattle.x86_fields.specs.Run.{reading_of}
 use Rattle.x86_decode.specs.Head.{seen_by}
 use Rattle.x86_layout.specs.Parts.Split.{lists_of, record_in, HasParts}
-use Rattle.x86_layout.proofs.PartLemmas.Taken.{beginning_of}
-use Rattle.x86_layout.proofs.PartLemmas.Length.{lengths_of}
-use Rattle.x86_layout.proofs.PartLemmas.OfBytes.{parts_are, parts_once}
-use Rattle.x86_layout.proofs.PartLemmas.Split.{joined_is}
+use Rattle.x86_layout.proofs.PartLemmas.OfBytes.{beginning_of, parts_are, parts_once, joined_is, lengths_of}
 use Rattle.x86_layout.proofs.parts.split.split_decoded.Goals as goal
 
 pub returns-clause-pieces : goal.returns-clause-pieces

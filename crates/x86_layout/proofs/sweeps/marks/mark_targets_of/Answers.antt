@@ -11,24 +11,15 @@ use Rattle.x86_layout.proofs.sweeps.marks.mark_targets_of.Goals as goal
 
 pub loop-cut-init : goal.loop-cut-init
 loop-cut-init c =
-    let strict = c.args.decoder.now.strict in
-    let bytes = c.args.bytes.now in
-    let left = cuts_left c.into_iter-cut-iterator.result in
-    let e : left ≡ cuts_of strict bytes = ap cuts_left c.into_iter-cut-iterator.ensures.into_iter_gives ∙ c.new-cut-items.ensures in (
-      tt,
-      tt,
-      rw e (all_within strict (c.lengths.ensures.within strict) bytes),
-      λ p h. cc (e),
-    )
+    let e = ap cuts_left c.into_iter-cut-iterator.ensures.into_iter_gives ∙ c.new-cut-items.ensures in
+    (tt, tt, rw e (all_within _ (c.lengths.ensures.within _) c.args.bytes.now), λ p h. cc (e))
 
 pub loop-cut-preserved : goal.loop-cut-preserved
 loop-cut-preserved c =
     let before = c.loop-cut.invariant in
-    let left = cuts_left c.loop-cut.cut-iterator in
     let e = c.in-Some.ensures.steps in (
       tt,
       tt,
-      All-rest (IsWithin (length c.args.bytes.now)) c.in-Some.cut (cuts_left c.next.new.self) left e before.2,
-      λ p h. one_more_marked _ _ _ _ _ (c.mark_target.ensures p (omega (arith, c.loop-cut.auto.marks)))
-          (ap (λ l. slice_index_or c.loop-cut.marks p false || list_any (targets p) l) (sym e) ∙ before.3 p h),
+      All-rest (IsWithin (length c.args.bytes.now)) c.in-Some.cut (cuts_left c.next.new.self) (cuts_left c.loop-cut.cut-iterator) e before.2,
+      λ p h. one_more_marked _ _ _ _ _ (c.mark_target.ensures p (omega (arith, c.loop-cut.auto.marks))) (rw e at (before.3 p h)),
     )

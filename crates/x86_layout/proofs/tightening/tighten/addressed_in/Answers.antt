@@ -13,8 +13,7 @@ use Rattle.x86_layout.specs.Parts.Heads.{IsHead, IsTail}
 use Rattle.x86_layout.specs.Parts.Split.{Encoding, HasParts, lists_of}
 use Rattle.x86_layout.specs.Tightening.Tighten.{raw_of}
 use Rattle.x86_layout.proofs.TightenLemmas.Relative.{Seen, Reads, Row}
-use Rattle.x86_layout.proofs.TightenLemmas.Least.{least_without, least_at_ip}
-use Rattle.x86_layout.proofs.TightenLemmas.Tighten.{memory_in_head, no_operand, operand_form, some_memory, has_parts, raw_is}
+use Rattle.x86_layout.proofs.TightenLemmas.Tighten.{least_without, least_with, memory_in_head, no_operand, operand_form, some_memory, has_parts, raw_is}
 use Rattle.x86_layout.proofs.tightening.tighten.addressed_in.Goals as goal
 
 abbrev Tails : Head → Parts → Type 0
@@ -54,7 +53,7 @@ pub returns-then-is_ip_relative-clause-least : goal.returns-then-is_ip_relative-
 returns-then-is_ip_relative-clause-least c = λ strict a is.
     let tie = c.parts_after-parts.ensures in
     let k = known is.whole c.parts_after-parts.result (c.head_of-head.ensures strict is.reading is.whole) tie.prefixes tie.escape tie.opcode tie.tail c.raw_in-raw.ensures c.if-not-head.false in
-    least_at_ip is.whole k.1 (sym c.is_ip_relative.ensures ∙ c.if-is_ip_relative.true)
+    least_with is.whole k.1 true (sym c.is_ip_relative.ensures ∙ c.if-is_ip_relative.true)
 
 pub returns-clause-raw : goal.returns-clause-raw
 returns-clause-raw c = λ strict a is.

@@ -1,26 +1,20 @@
-use Rattle.std.proofs.Common.{arith, ap, sym, ◌∙◌}
+use Rattle.std.proofs.Common.{false, arith, ap, sym, ◌∙◌}
 use Rattle.x86_layout.specs.Tightening.Shortest.{address_length}
-use Rattle.x86_layout.proofs.TightenLemmas.Least.{least_of_raw}
+use Rattle.x86_layout.proofs.TightenLemmas.Tighten.{least_with}
 use Rattle.x86_layout.proofs.TightenLemmas.Relative.{length_is}
 use Rattle.x86_layout.proofs.tightening.tighten.least_length.Goals as goal
 
 pub overflow_sub-result : goal.overflow_sub-result
 overflow_sub-result c =
-    let s = c.args.encoding.now in
-    let strict = c.requires.strict in
     let is = c.requires.is in
-    let h = c.in-Ok.ensures.raw strict c.requires.answer is in
+    let h = c.in-Ok.ensures.raw c.requires.strict c.requires.answer is in
     let long = length_is is.whole c.in-Ok.found.raw h.read in
     omega (arith, long, c.address_length.ensures.value)
 
 pub returns-in-Ok : goal.returns-in-Ok
 returns-in-Ok c = λ strict a is.
-    let s = c.args.encoding.now in
-    let raw = c.in-Ok.found.raw in
     let h = c.in-Ok.ensures.raw strict a is in
-    let old = c.address_length.ensures.value in
-    let new = c.address_length-in-Ok.ensures.value ∙ ap address_length c.shortest.ensures in
-    cc (old, new, least_of_raw is.whole h.read h.form)
+    cc (c.address_length.ensures.value, c.address_length-in-Ok.ensures.value, c.shortest.ensures, least_with is.whole h.read false h.form)
 
 pub returns-in-Err : goal.returns-in-Err
 returns-in-Err c = λ strict a is. sym (c.in-Err.ensures.least strict a is)

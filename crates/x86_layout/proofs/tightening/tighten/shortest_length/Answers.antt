@@ -1,6 +1,6 @@
 use Rattle.std.proofs.Common.{sym, ap, ◌∙◌}
-use Rattle.x86_layout.proofs.TightenLemmas.Least.{least_beginning}
-use Rattle.x86_layout.proofs.PartLemmas.Taken.{beginning_of}
+use Rattle.x86_layout.proofs.TightenLemmas.Tighten.{least_beginning}
+use Rattle.x86_layout.proofs.PartLemmas.OfBytes.{beginning_of}
 use Rattle.x86_layout.proofs.tightening.tighten.shortest_length.Goals as goal
 
 pub returns : goal.returns

@@ -8,8 +8,8 @@ use Rattle.x86_layout.specs.Tightening.Least.{least_length, shortest_length, Has
 use Rattle.x86_layout.specs.Tightening.Tighten.{OfFirstSentence, Statement, IsTightened, HasNoRelative, IsNotTightened}
 use Rattle.x86_layout.proofs.PartLemmas.Part.{halves}
 use Rattle.x86_layout.proofs.PartLemmas.Emit.{Only}
-use Rattle.x86_layout.proofs.PartLemmas.Taken.{IsFirstSentence, beginning_of}
-use Rattle.x86_layout.proofs.TightenLemmas.Least.{least_beginning}
+use Rattle.x86_layout.proofs.PartLemmas.OfBytes.{IsFirstSentence, beginning_of}
+use Rattle.x86_layout.proofs.TightenLemmas.Tighten.{least_beginning}
 use Rattle.x86_layout.proofs.tightening.tighten.tighten.Goals as goal
 
 abbrev Sentence : Bool → List ℕ → Instruction → Type 0
@@ -45,16 +45,12 @@ tightened-requires c =
     let beginning = beginning_of strict bytes (sym c.in-Ok.ensures.value) (c.answer_is.ensures.there strict bytes) (c.lengths.ensures.counted strict bytes) (c.to_const.ensures ∙ ap (λ d. d.amount) c.len.ensures) c.split_at_most.ensures.first in
     record { strict = strict; answer = c.in-Ok.instruction; is = beginning.is }
 
-pub returns-clause-shortest : goal.returns-clause-shortest
-returns-clause-shortest c =
+pub returns : goal.returns
+returns c =
     let strict = c.args.decoder.now.strict in
     let bytes = c.args.bytes.now in
     let beginning = beginning_of strict bytes (sym c.in-Ok.ensures.value) (c.answer_is.ensures.there strict bytes) (c.lengths.ensures.counted strict bytes) (c.to_const.ensures ∙ ap (λ d. d.amount) c.len.ensures) c.split_at_most.ensures.first in
-    answered beginning (λ t. t.items) (c.answer_is.ensures.only strict) c.tightened.result c.tightened.ensures.shortest
-
-pub returns-clause-least : goal.returns-clause-least
-returns-clause-least c =
-    let strict = c.args.decoder.now.strict in
-    let bytes = c.args.bytes.now in
-    let beginning = beginning_of strict bytes (sym c.in-Ok.ensures.value) (c.answer_is.ensures.there strict bytes) (c.lengths.ensures.counted strict bytes) (c.to_const.ensures ∙ ap (λ d. d.amount) c.len.ensures) c.split_at_most.ensures.first in
-    measured beginning (λ t. t.items) c.tightened.result c.tightened.ensures.least
+    record {
+      shortest = answered beginning (λ t. t.items) (c.answer_is.ensures.only strict) c.tightened.result c.tightened.ensures.shortest;
+      least = measured beginning (λ t. t.items) c.tightened.result c.tightened.ensures.least;
+    }

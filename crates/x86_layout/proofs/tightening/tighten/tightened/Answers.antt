@@ -8,8 +8,7 @@ use Rattle.x86_decode.proofs.ByteLemmas.{Bytes}
 use Rattle.x86_layout.specs.Tightening.Shortest.{shortest, IsOfBytes}
 use Rattle.x86_layout.specs.Tightening.Tighten.{respelled, IsAddressed}
 use Rattle.x86_layout.proofs.TightenLemmas.Relative.{Bytes', raw_of_bytes, shortest_relative}
-use Rattle.x86_layout.proofs.TightenLemmas.Least.{least_of_shortest}
-use Rattle.x86_layout.proofs.TightenLemmas.Tighten.{operand_form, respelled_is, respelled_fits}
+use Rattle.x86_layout.proofs.TightenLemmas.Tighten.{least_of_shortest, operand_form, respelled_is, respelled_fits}
 use Rattle.x86_layout.proofs.tightening.tighten.tightened.Goals as goal
 
 bytes_at : (l : List ℕ) → ((i : ℕ) → Fits w8 (slice_index l i)) → Bytes l

@@ -1,5 +1,5 @@
 use Rattle.std.proofs.Common.{arith, ap, sym, length}
-use Rattle.x86_layout.proofs.SweepLemmas.Cut.{first_and_rest}
+use Rattle.x86_layout.proofs.SweepLemmas.Place.{first_and_rest}
 use Rattle.x86_layout.proofs.sweeps.sweep.Sweep.cut_off.Goals as goal
 
 pub returns-clause-first : goal.returns-clause-first

@@ -1,5 +1,5 @@
 use Rattle.std.proofs.Common.{rules, length, ◌≡◌}
-use Rattle.x86_layout.proofs.SweepLemmas.Cut.{none_left}
+use Rattle.x86_layout.proofs.SweepLemmas.Place.{none_left}
 use Rattle.x86_layout.proofs.sweeps.sweep.SweepIterator.next.Goals as goal
 
 pub returns-then-is_empty-clause-steps : goal.returns-then-is_empty-clause-steps
