@@ -1,4 +1,3 @@
 -- Lemmas on the cuts of a sweep and their marks.
 pub mod Place
-pub mod Mark
 pub mod Pieces

@@ -68,13 +68,10 @@ module _ {r : RowRecord} {p : Prefixes} {tail : List ℕ} {reading : Reading} (a
   abbrev m : ℕ
   m = modrm_of r.modrm a.modrm
 
-  address_of : AddressParts m a.tail_spelled.pieces.address
-  address_of = address_parts p m _ _ a.tail_spelled.pieces.address_spelled
-
   -- SIB as long as it says tells how long the displacement is
   pub displacement_long : (sib disp : List ℕ) → sib ++ disp ≡ a.tail_spelled.pieces.address → length sib ≡ sib_width m → length disp ≡ (if is_memory m then displacement_width m (first_byte sib) else 0)
   displacement_long sib disp e h =
-      let x = address_of in
+      let x = address_parts p m _ _ a.tail_spelled.pieces.address_spelled in
       let same = halves sib disp x.sib x.disp (e ∙ x.spelled) (h ∙ sym x.sib_long) in
       cc (same.0, same.1, x.disp_long)
 
@@ -95,7 +92,7 @@ module _ {r : RowRecord} {p : Prefixes} {tail : List ℕ} {reading : Reading} (a
     has_tail =
         let more : List ℕ = a.tail ++ rest in
         let s = a.tail_spelled.pieces in
-        let x = address_of in
+        let x = address_parts p m _ _ s.address_spelled in
         let last : List ℕ = s.immediates ++ (s.suffix ++ rest) in
         let modrm = cut_is a.modrm more begins (modrm_count a more begins k) in
         let spelled : more ≡ x.sib ++ (x.disp ++ last) = ap (λ l. l ++ rest) s.spelled ∙ ap (λ l. (l ++ (s.immediates ++ s.suffix)) ++ rest) x.spelled ∙ simp append_assoc in

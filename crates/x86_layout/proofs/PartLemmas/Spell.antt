@@ -34,9 +34,6 @@ tests_five a a' b b' c c' d d' e e' = (λ h. (grind (arith, nat_tests), grind (a
 three_of : (a b c d : Bool) → (a && (not b || c) && not d) ≡ true → (a ≡ true) × ((not b || c) ≡ true) × (d ≡ false)
 three_of a b c d h = (grind arith, grind arith, grind arith)
 
-same_bool : (a b : Bool) → one_if a ≡ one_if b → a ≡ b
-same_bool a b e = grind arith
-
 none_is : {A : Type 0} (o : Option A) → is_none o ≡ true → o ≡ None
 none_is o h = grind arith
 
@@ -72,12 +69,9 @@ spell_memory p m sib disp e h = by (is_memory m) refl e h
     by : (t : Bool) → is_memory m ≡ t → one_if (is_some sib) ≡ one_if (t && rm_field m == 4) → length disp ≡ (if t then displacement_width m sib else 0) → (memory : Option Raw) × SpellsMemory p m (option_bytes sib ++ disp) memory
     by true is e h = (
       Some (record { rex_b = has_b p; rex_x = has_x p; address_size = p.address_size; modrm = m; sib = sib; disp = signed_by (displacement_width m sib) disp }),
-      (is, record { sib = sib; disp = disp; spelled = refl; sib_present = same_bool (is_some sib) (rm_field m == 4) e; disp_length = h; fields = refl }),
+      (is, record { sib = sib; disp = disp; spelled = refl; sib_present = grind (arith, e); disp_length = h; fields = refl }),
     )
     by false is e h = (None, (is, none_left sib disp e h))
-
-accepted_by : (refusal uses : Bool) (modrm : Option ℕ) → (not refusal || (uses && is_none modrm)) ≡ true → one_if (is_some modrm) ≡ one_if uses → refusal ≡ false
-accepted_by refusal uses modrm h e = grind arith
 
 named_by : (v : Verdict) (opcode : ℕ) (suffix : Option ℕ) → is_refusal v ≡ false → refuses_suffix v suffix ≡ false → one_if (is_some suffix) ≡ one_if (uses_suffix v) → (o : ℕ) × (opcode_by v opcode (option_bytes suffix) ≡ Some o)
 named_by Accepts opcode suffix a h e = (opcode, refl)
@@ -111,7 +105,7 @@ module _ (r : RowRecord) (p : Prefixes) (f : fields.Fields) where
       let suffix_n : one_if (is_some f.suffix) ≡ one_if (uses_suffix v) = counts.4 in
       let memory = spell_memory p m f.sib f.displacement.items sib_n counts.2 in
       let operand_pairs = spell_operands (list_of (r.plan m).encodings) p m memory.0 f.immediate.items counts.3 in
-      let accepted : is_refusal v ≡ false = accepted_by (is_refusal v) (uses_modrm r.modrm) f.modrm passed.1 modrm_n in
+      let accepted : is_refusal v ≡ false = let either = passed.1 in grind arith in
       let named = named_by v (r.plan m).opcode f.suffix accepted passed.2 suffix_n in
       record {
         reading = reading_from (r.plan m) p named.0 (four_of operand_pairs.0);

@@ -1,6 +1,6 @@
--- The cuts after a cut, and where cuts begin and end.
-use Rattle.std.proofs.Common.{◌≡◌, ℕ, zero, suc, ◌+◌, ◌-◌, ◌<◌, ◌≤◌, Bool, List, [], ◌∷◌, length, drop, refl, ap, ◌∙◌, arith, ◌&&◌, not, nat_lt, false, inl, inr, Result, Ok, Err, subst}
-use Rattle.std.proofs.lemmas.List.{nil_from_length}
+-- The cuts after a cut, where cuts begin and end, and the marks at their places.
+use Rattle.std.proofs.Common.{◌≡◌, ℕ, zero, suc, ◌+◌, ◌-◌, ◌<◌, ◌≤◌, Bool, List, [], ◌∷◌, length, drop, refl, ap, ◌∙◌, arith, ◌&&◌, not, nat_lt, false, inl, inr, Result, Ok, Err, subst, ◌==◌, ◌||◌, true, slice_index_or, slice_set}
+use Rattle.std.proofs.lemmas.List.{nil_from_length, get_or-set_same, get_or-set_other}
 use Rattle.x86_decode.specs.Answer.{answer_of}
 use Rattle.x86_layout.specs.Sweeps.Cuts.{cut_length, cut_at, cuts_skipping, cuts_from}
 use Rattle.std.proofs.lemmas.List.Sums.{sum_by-cons}
@@ -117,3 +117,19 @@ module _ (strict : Bool) (lengths : Lengths strict) where
 
   pub sum_all : (xs : List ℕ) → sum_by (λ c. c.length) (cuts_from strict 0 xs) ≡ length xs
   sum_all xs = let h = sum_from 0 0 xs (omega arith) in omega (arith, h)
+
+-- ---- tests of places
+
+pub marked : (marks : List Bool) (place p : ℕ) → place < length marks → slice_index_or (slice_set marks place true) p false ≡ (slice_index_or marks p false || place == p)
+marked marks place p h = grind (arith, nat_tests, get_or-set_same, get_or-set_other)
+
+-- ---- one cut further
+
+pub one_more_marked : (old new t u all : Bool) → new ≡ (old || t) → (old || (t || u)) ≡ all → (new || u) ≡ all
+one_more_marked old new t u all e h = grind arith
+
+pub one_more_cleared : (old new t u all : Bool) → new ≡ (old && not t) → (old && not (t || u)) ≡ all → (new && not u) ≡ all
+one_more_cleared old new t u all e h = grind arith
+
+pub all_cleared : (new old inside begins : Bool) → (new && not false) ≡ (old && not inside) → begins ≡ not inside → new ≡ (old && begins)
+all_cleared new old inside begins e h = grind arith

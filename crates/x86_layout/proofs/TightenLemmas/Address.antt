@@ -1,5 +1,5 @@
 -- The bytes of raw fields, and the raw fields of bytes.
-use Rattle.std.proofs.Common.{◌≡◌, ℕ, suc, ◌-◌, ◌%◌, ◌^◌, ◌<◌, ◌==◌, Bool, true, false, if◌then◌else◌, Option, Some, None, is_some, List, [], ◌∷◌, ◌++◌, length, take, ℤ, pos, negsuc, refl, sym, ap, subst, ◌∙◌, arith, length-append}
+use Rattle.std.proofs.Common.{◌≡◌, ℕ, suc, ◌-◌, ◌%◌, ◌^◌, ◌<◌, ◌==◌, Bool, true, false, if◌then◌else◌, Option, Some, None, List, [], ◌∷◌, ◌++◌, length, take, ℤ, pos, negsuc, refl, sym, ap, subst, ◌∙◌, arith, length-append}
 use Rattle.std.specs.Prelude.{FitsSigned}
 use Rattle.std.specs.Int.{w8, w32, cast_signed, cast_unsigned, from_le_bytes, to_le_bytes}
 use Rattle.std.proofs.lemmas.Bool.{and_parts}
@@ -9,7 +9,7 @@ use Rattle.std.proofs.lemmas.Nat.{from_le_bytes-to_le_bytes_4}
 use Rattle.x86_fields.specs.declared.prefixes.Prefixes.{Prefixes}
 use Rattle.x86_fields.specs.declared.rex.PrefixRex.{PrefixRex}
 use Rattle.x86_fields.specs.declared.raw.Raw.{Raw}
-use Rattle.x86_fields.specs.ModRM.{mod_field, rm_field, is_memory}
+use Rattle.x86_fields.specs.ModRM.{mod_field, is_memory}
 use Rattle.x86_fields.specs.Raw.{live_bit, displacement_width, names_no_base, sib_fits, is_zero, is_byte, disp_fits, has_b, has_x}
 use Rattle.x86_fields.specs.Pieces.{option_bytes, signed_by}
 use Rattle.x86_operands.specs.Pieces.{SpellsMemory}
@@ -31,9 +31,6 @@ beginning_small (b ∷ l) h = h.0
 spelled_disp_fits : (width : ℕ) (l : List ℕ) → Bytes l → disp_fits width (signed_by width l) ≡ true
 spelled_disp_fits width l h = let fits = byte_fits (from_le_bytes w8 l) (beginning_small l h) in grind (arith, nat_tests, fits)
 
-sib_fits_by : (modrm : ℕ) (sib : Option ℕ) → is_some sib ≡ (rm_field modrm == 4) → sib_fits modrm sib ≡ true
-sib_fits_by modrm sib e = grind arith
-
 beginning_byte : (sib : Option ℕ) (disp : List ℕ) → Bytes (option_bytes sib ++ disp) → IsByteOption sib
 beginning_byte sib disp h = grind arith
 
@@ -42,9 +39,10 @@ pub of_bytes : (p : Prefixes) (m : ℕ) (address : List ℕ) (raw : Raw) → Spe
 of_bytes p m address raw h b =
     let s = h.1 in
     let both : Bytes (option_bytes s.sib ++ s.disp) = subst Bytes s.spelled b in
+    let fits : sib_fits m s.sib ≡ true = let e = s.sib_present in grind arith in
     let disp : Bytes s.disp = bytes_after (option_bytes s.sib) s.disp both in
     record {
-      fit = cc (s.fields, h.0, sib_fits_by m s.sib s.sib_present, spelled_disp_fits (displacement_width m s.sib) s.disp disp);
+      fit = cc (s.fields, h.0, fits, spelled_disp_fits (displacement_width m s.sib) s.disp disp);
       sib = subst (λ r. IsByteOption r.sib) (sym s.fields) (beginning_byte s.sib s.disp both);
       disp = memory_fits p m address (Some raw) raw h refl b;
     }
@@ -90,9 +88,6 @@ lowest_long_by one two none d = grind arith
 displacement_long : (raw : Raw) → length (spelled_displacement raw) ≡ displacement_width raw.modrm raw.sib
 displacement_long raw = lowest_long_by (mod_field raw.modrm == 1) (mod_field raw.modrm == 2) (names_no_base raw.modrm raw.sib) raw.disp
 
-sib_present : (modrm : ℕ) (sib : Option ℕ) → sib_fits modrm sib ≡ true → is_some sib ≡ (rm_field modrm == 4)
-sib_present modrm sib e = grind arith
-
 -- the bytes of raw fields spell them, under prefixes with their bits
 pub respells : (q : Prefixes) (raw : Raw) → IsOfBytes raw → has_b q ≡ raw.rex_b → has_x q ≡ raw.rex_x → q.address_size ≡ raw.address_size → SpellsMemory q raw.modrm (address_bytes raw) (Some raw)
 respells q raw h b x short =
@@ -104,7 +99,7 @@ respells q raw h b x short =
         sib = raw.sib;
         disp = spelled_displacement raw;
         spelled = refl;
-        sib_present = sib_present raw.modrm raw.sib fit.0;
+        sib_present = grind (arith, fit.0);
         disp_length = displacement_long raw;
         fields = rw (b, x, short, value) refl;
       },

@@ -1,10 +1,8 @@
 -- The pieces of a row with other raw fields.
-use Rattle.std.proofs.Common.{◌≡◌, ℕ, true, Option, Some, None, List, [], ◌∷◌, ◌++◌, ℤ, refl, sym, ap, ◌∙◌, arith}
+use Rattle.std.proofs.Common.{◌≡◌, ℕ, true, Some, None, List, [], ◌∷◌, ◌++◌, refl, sym, ap, ◌∙◌, arith}
 use Rattle.x86_fields.specs.declared.prefixes.Prefixes.{Prefixes}
 use Rattle.x86_fields.specs.declared.raw.Raw.{Raw}
-use Rattle.x86_fields.specs.Address.{base_of, index_of, scale_by}
 use Rattle.x86_fields.specs.Pieces.{SpellsRaw}
-use Rattle.x86_regs.specs.declared.RegSpec.{RegSpec}
 use Rattle.x86_operands.specs.declared.operands.Slot.{Slot}
 use Rattle.x86_operands.specs.declared.operands.Operand.{Operand}
 use Rattle.x86_operands.specs.declared.plans.OperandEncoding.{OperandEncoding}
@@ -13,11 +11,11 @@ use Rattle.x86_operands.specs.declared.plans.ModrmUse.TheVariants.{EitherForm}
 use Rattle.x86_operands.specs.declared.plans.Plan.{Plan}
 use Rattle.x86_operands.specs.declared.reader.Reading.{Reading}
 use Rattle.x86_operands.specs.Operands.{is_memory_slot}
-use Rattle.x86_operands.specs.Shape.{shape_by, shape}
+use Rattle.x86_operands.specs.Shape.{shape}
 use Rattle.x86_fields.specs.ModRM.{is_memory}
 use Rattle.x86_operands.specs.Plans.{RowRecord, list_of}
 use Rattle.x86_operands.specs.PlanSteps.{pair_at, four_of, changed, reading_from}
-use Rattle.x86_operands.specs.Pieces.{operand_from, SpellsOperands, SpellsTail, SpellsRow, modrm_of, modrm_width}
+use Rattle.x86_operands.specs.Pieces.{operand_from, SpellsOperands, SpellsTail, SpellsRow, modrm_width}
 use Rattle.x86_decode.specs.Grammar.{allows_lock}
 
 -- ---- the operands

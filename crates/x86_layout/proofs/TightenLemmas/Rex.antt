@@ -1,10 +1,10 @@
 -- What a run reads as whose live REX has other bits X and B.
-use Rattle.std.proofs.Common.{◌≡◌, ℕ, suc, ◌+◌, ◌*◌, ◌/◌, ◌%◌, ◌<◌, ◌==◌, Bool, true, false, if◌then◌else◌, Option, Some, List, [], ◌∷◌, ◌++◌, length, refl, ap, arith}
+use Rattle.std.proofs.Common.{◌≡◌, ℕ, suc, ◌+◌, ◌==◌, Bool, true, false, if◌then◌else◌, Option, Some, List, [], ◌∷◌, ◌++◌, length, refl, ap, arith}
 use Rattle.std.specs.List.{filter, list_any}
 use Rattle.std.proofs.lemmas.Bool.Decides.{nat_tests}
 use Rattle.x86_fields.specs.declared.prefixes.Prefixes.{Prefixes}
 use Rattle.x86_fields.specs.declared.rex.PrefixRex.{PrefixRex}
-use Rattle.x86_fields.specs.Run.{is_rex, is_prefix, is_repeat_byte, is_segment_byte, last, rex_bits, rex_named, reading_of}
+use Rattle.x86_fields.specs.Run.{is_rex, is_prefix, is_repeat_byte, is_segment_byte, last, rex_named, reading_of}
 use Rattle.x86_forms.specs.declared.Map.{Map}
 use Rattle.x86_decode.specs.Head.{is_run, column_of, seen_by}
 use Rattle.x86_layout.specs.Tightening.Tighten.{bits_in, byte_with, run_with}

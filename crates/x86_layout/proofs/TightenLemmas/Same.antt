@@ -1,25 +1,22 @@
 -- A relative is the same instruction but for its memory operand of ModRM, which has the same address.
-use Rattle.std.proofs.Common.{◌≡◌, ◌↔◌, ℕ, zero, suc, ◌≤◌, ◌<◌, ◌^◌, nat_lt, Bool, true, false, if◌then◌else◌, is_some, Option, Some, None, List, [], ◌∷◌, length, map, slice_index_or, refl, sym, ap, ◌∙◌, arith, All}
+use Rattle.std.proofs.Common.{◌≡◌, ◌↔◌, ℕ, zero, suc, ◌≤◌, ◌<◌, ◌^◌, nat_lt, Bool, false, if◌then◌else◌, Option, Some, None, List, [], ◌∷◌, length, map, slice_index_or, refl, sym, ap, ◌∙◌, arith, All}
 use Rattle.std.specs.Prelude.{FitsSigned}
+use Rattle.std.proofs.Math.Nat.{pow-le-pow_right}
 use Rattle.std.specs.Int.{w32}
 use Rattle.x86_regs.specs.declared.RegisterClass.{RegisterClass}
-use Rattle.x86_regs.specs.declared.RegisterClass.TheVariants.{B}
 use Rattle.x86_fields.specs.declared.prefixes.Prefixes.{Prefixes}
-use Rattle.x86_fields.specs.declared.rex.PrefixRex.{PrefixRex}
 use Rattle.x86_fields.specs.declared.raw.Raw.{Raw}
 use Rattle.x86_fields.specs.ModRM.{reg_field, scale_field}
-use Rattle.x86_fields.specs.Raw.{live_bit, has_r}
+use Rattle.x86_fields.specs.Raw.{has_r}
 use Rattle.x86_fields.specs.Address.{scale_by}
 use Rattle.x86_fields.specs.Sizes.{register_of}
 use Rattle.x86_fields.specs.Linear.{Linear, raw_form, value_at, IsSameAddress, IsReduced, IsRegFile, AgreeEverywhere}
-use Rattle.x86_forms.specs.declared.Map.{Map}
 use Rattle.x86_forms.specs.Words.{rows_of, packed}
 use Rattle.x86_operands.specs.declared.operands.Slot.{Slot}
 use Rattle.x86_operands.specs.declared.operands.Slot.TheVariants as slots
 use Rattle.x86_operands.specs.declared.operands.Operand.{Operand}
 use Rattle.x86_operands.specs.declared.operands.Operand.TheVariants as operands
 use Rattle.x86_operands.specs.declared.plans.OperandEncoding.{OperandEncoding}
-use Rattle.x86_operands.specs.declared.plans.OperandEncoding.TheVariants.{G, Gmm, E, Emm, M, U, Umm}
 use Rattle.x86_operands.specs.declared.plans.PrefixChange.{PrefixChange}
 use Rattle.x86_operands.specs.declared.plans.Plan.{Plan}
 use Rattle.x86_operands.specs.declared.reader.Reading.{Reading}
@@ -30,18 +27,15 @@ use Rattle.x86_operands.specs.PlanSteps.{pair_at, four_of, changed, reading_from
 use Rattle.x86_operands.specs.Pieces.{operand_from, SpellsOperands, SpellsTail, first_or}
 use Rattle.x86_decode.specs.declared.instructions.Instruction.{Instruction}
 use Rattle.x86_decode.specs.Instruction.{instruction_of, operand_at}
-use Rattle.x86_decode.specs.Head.{escape_bytes}
 use Rattle.x86_decode.specs.Grammar.{IsSentence}
 use Rattle.x86_decode.proofs.ByteLemmas.{bytes_of}
 use Rattle.x86_layout.specs.Parts.Split.{Encoding}
-use Rattle.x86_layout.specs.declared.tightening.registers.Scale.{Scale}
-use Rattle.x86_layout.specs.Tightening.Registers.{scale_named, times, IsByteOption}
+use Rattle.x86_layout.specs.Tightening.Registers.{IsByteOption}
 use Rattle.x86_layout.specs.Tightening.Shortest.{IsOfBytes}
-use Rattle.x86_layout.specs.Tightening.Tighten.{bits_in, IsRelative}
+use Rattle.x86_layout.specs.Tightening.Tighten.{IsRelative}
 use Rattle.x86_layout.specs.Tightening.Same.{cleared, placed_at, address_at, IsSameOrShape, unchanged, shapes, IsSameButInMemory}
 use Rattle.x86_layout.proofs.TightenLemmas.Rex.{seen_with, column_stays}
 use Rattle.x86_layout.proofs.TightenLemmas.PlanAlike.{same_record}
-use Rattle.x86_layout.proofs.TightenLemmas.Raw.{scale_is}
 use Rattle.x86_layout.proofs.TightenLemmas.Relative.{Reads, Row, Seen, Byte, spells, fields, byte, raw_of_bytes}
 use Rattle.x86_layout.proofs.PartLemmas.Part.{halves}
 
@@ -159,12 +153,9 @@ AreReduced = (raw : Raw) → scale_by raw.sib ≤ 8 → FitsSigned w32 raw.disp 
 abbrev AreTheirValues : Type 0
 AreTheirValues = (f g : Linear) → f.modulus ≡ g.modulus → IsReduced f → IsReduced g → (IsSameAddress f g ↔ AgreeEverywhere f g)
 
-times_small : (s : Scale) → times s ≤ 8
-times_small s = grind arith
-
 scale_small : (sib : Option ℕ) → IsByteOption sib → scale_by sib ≤ 8
 scale_small None h = omega arith
-scale_small (Some sib) h = let e = scale_is (scale_field sib) (omega (arith, h)) in let t = times_small (scale_named (2 ^ scale_field sib)) in omega (arith, e, t)
+scale_small (Some sib) h = pow-le-pow_right {n = 2} (omega arith) {i = scale_field sib} {j = 3} (omega (arith, h))
 
 mark_67 : (change : PrefixChange) (p : Prefixes) → (changed change p).address_size ≡ p.address_size
 mark_67 change p = grind arith

@@ -1,10 +1,10 @@
 -- The shortest raw fields have the same address, and no others of that address have fewer bytes.
-use Rattle.std.proofs.Common.{◌≡◌, ℕ, ◌+◌, ◌<◌, ◌≤◌, ◌⊎◌, inl, inr, Option, Some, None, ℤ, arith, Bool, true, false, if◌then◌else◌, refl, sym, ◌∙◌}
+use Rattle.std.proofs.Common.{◌≡◌, ℕ, ◌+◌, ◌<◌, ◌≤◌, ◌⊎◌, Option, Some, None, ℤ, arith, Bool, true, false, if◌then◌else◌, refl, sym, ◌∙◌}
 use Rattle.std.proofs.lemmas.Bool.Decides.{nat_tests}
 use Rattle.x86_layout.specs.declared.tightening.registers.Scale.{Scale}
 use Rattle.x86_layout.specs.declared.tightening.registers.Scale.TheVariants.{One}
 use Rattle.x86_layout.specs.Tightening.Registers.{times, part_weight, IsBelow16, IsIndex, is_ip_relative, number_of, scale_named, registers_of, weight, IsByteOption}
-use Rattle.x86_layout.specs.Tightening.Shortest.{index_alone, base_and_index, exchanged, arranged, width_with_base, bytes_by, bytes_at, shortest_registers, address_length, fourth_bit, scale_bits, field_or, rm_alone, rm_by, sib_by, spelled, shortest, IsOfBytes}
+use Rattle.x86_layout.specs.Tightening.Shortest.{index_alone, base_and_index, arranged, width_with_base, bytes_by, bytes_at, shortest_registers, address_length, fourth_bit, scale_bits, field_or, rm_alone, rm_by, sib_by, spelled, shortest, IsOfBytes}
 use Rattle.std.specs.Prelude.{FitsSigned}
 use Rattle.std.specs.Int.{w32, w64}
 use Rattle.std.proofs.lemmas.Int.{to_z-of_z}
@@ -13,7 +13,7 @@ use Rattle.x86_fields.specs.ModRM.{reg_field, packed_byte}
 use Rattle.x86_fields.specs.Address.{base_by, index_by, scale_by}
 use Rattle.x86_fields.specs.Linear.{constant_by, modulus_by, raw_form, IsSameAddress}
 use Rattle.x86_layout.specs.declared.tightening.registers.AddressRegisters.{AddressRegisters}
-use Rattle.x86_layout.proofs.TightenLemmas.Raw.{middle_is, middle_small, rm_small, spelled_length, spelled_fits, spelled_base, spelled_index, spelled_scale, least, base_number, index_number, base_counts, index_counts, base_next, index_next}
+use Rattle.x86_layout.proofs.TightenLemmas.Raw.{middle_is, middle_small, rm_small, spelled_length, spelled_fits, spelled_base, spelled_index, spelled_scale, least, base_number, index_number, base_counts, index_counts}
 
 -- ---- how often a register counts
 
@@ -122,7 +122,7 @@ form_weighs : (raw : Raw) (r : ℕ) → IsByteOption raw.sib → is_ip_relative 
 form_weighs raw r h e = let base = base_counts raw raw.sib r e in let index = index_counts raw raw.sib r h in omega (arith, base, index)
 
 form_next : (raw : Raw) → (raw_form raw).next ≡ (if is_ip_relative raw then 1 else 0)
-form_next raw = let base = base_next raw raw.sib in let index = index_next raw raw.sib (scale_by raw.sib) in omega (arith, base, index)
+form_next raw = grind (arith, nat_tests)
 
 shortest_numbers : (raw : Raw) → HaveNumbers (shortest_registers raw)
 shortest_numbers raw = arranged_numbers raw.disp _ _ _ (base_number raw raw.sib) (index_number raw raw.sib)

@@ -1,11 +1,10 @@
 -- What is known of raw fields from the parts of an encoding, and how long a shortest relative is.
-use Rattle.std.proofs.Common.{◌≡◌, ℕ, ◌≤◌, ◌==◌, ◌&&◌, Bool, true, false, if◌then◌else◌, Option, Some, None, List, length, refl, sym, ap, ◌∙◌, arith, length-append, ◌+◌, ◌-◌, not, [], append-nil}
+use Rattle.std.proofs.Common.{◌≡◌, ℕ, ◌≤◌, ◌==◌, ◌&&◌, Bool, true, false, if◌then◌else◌, Option, Some, List, length, refl, sym, ap, ◌∙◌, arith, length-append, ◌+◌, ◌-◌, not, [], append-nil}
 use Rattle.x86_fields.specs.declared.prefixes.Prefixes.{Prefixes}
 use Rattle.x86_fields.specs.declared.raw.Raw.{Raw}
 use Rattle.x86_fields.specs.ModRM.{rm_field, is_memory}
-use Rattle.x86_fields.specs.Raw.{has_b, has_x, displacement_width}
 use Rattle.x86_fields.specs.Run.{reading_of}
-use Rattle.x86_fields.specs.Pieces.{option_bytes, signed_by}
+use Rattle.x86_fields.specs.Pieces.{option_bytes}
 use Rattle.x86_operands.specs.declared.reader.Reading.{Reading}
 use Rattle.x86_operands.specs.Pieces.{SpellsMemory}
 use Rattle.x86_operands.specs.Asks.{ask_of}
@@ -59,20 +58,12 @@ module _ {strict : Bool} {s : List ℕ} {a : Reading} (v : Encoding strict s a) 
     -- the raw fields of the parts are those of the encoding
     pub raw_is : raw_of parts ≡ raw
     raw_is =
-        let in' = raw_of parts in
         let p = reading_of v.run in
         let x = spells v read in
         let s = x.1 in
         let long : length parts.sib ≡ length (option_bytes s.sib) = h.sib ∙ ap (λ t. if t && rm_field (Byte v) == 4 then 1 else 0) x.0 ∙ ap one_if (sym s.sib_present) ∙ sym (option_count s.sib) in
         let address = halves parts.sib parts.displacement (option_bytes s.sib) s.disp (h.address ∙ s.spelled) long in
-        let rex = seen_rex v.map v.opcode p in
-        let b : in'.rex_b ≡ has_b (Seen v) = cc (h.prefixes, rex) in
-        let x : in'.rex_x ≡ has_x (Seen v) = cc (h.prefixes, rex) in
-        let short : in'.address_size ≡ (Seen v).address_size = cc (h.prefixes, seen_67 v.map v.opcode p) in
-        let m : in'.modrm ≡ Byte v = cc (h.modrm, byte v read) in
-        let sib : in'.sib ≡ s.sib = cc (address.0, first_of s.sib) in
-        let disp : in'.disp ≡ signed_by (displacement_width (Byte v) s.sib) s.disp = cc (address.1, s.disp_length) in
-        rw (b, x, short, m, sib, disp) (sym s.fields)
+        rw (h.prefixes, h.modrm ∙ byte v read, address.0, address.1, first_of s.sib, s.disp_length) (sym (rw (seen_rex v.map v.opcode p, seen_67 v.map v.opcode p) at s.fields))
 
   module _ {raw : Raw} (read : Reads v raw) (parts : Parts) (h : HasParts strict s a v (lists_of parts)) where
     module _ (fit : IsOfBytes raw) where

@@ -119,6 +119,7 @@ fn ask_at(map: Map, prefixes: Prefixes, opcode: u8, modrm: u8) -> Ask
 }
 
 /// The run of prefixes at the beginning.
+#[tactic(auto, using(crate::proofs::PartLemmas::Part::all_pass))]
 fn run_of(bytes: &[u8]) -> (&[u8], &[u8])
     ensures prefixes { list_all is_prefix result.0.now ≡ true }
     ensures first { result.0.now ≡ take (prefix_len is_prefix bytes.now) bytes.now }

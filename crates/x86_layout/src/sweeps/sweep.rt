@@ -61,6 +61,7 @@ impl<'a> Iterator for Sweep<'a> {
 
     ghost remaining = { item_count cuts_left };
 
+    #[tactic(auto, using(crate::proofs::SweepLemmas::Place::none_left))]
     fn next(&mut self) -> Option<Cut> {
         if self.rest.is_empty() {
             return None;

@@ -1,12 +1,8 @@
-use Rattle.std.proofs.Common.{◌≡◌, ◌&&◌, not, false, length, slice_index_or, arith, ap, sym, ◌∙◌}
-use Rattle.std.specs.List.{list_any}
+use Rattle.std.proofs.Common.{length, arith, ap, ◌∙◌}
 use Rattle.std.proofs.lemmas.List.Elements.{All-rest}
-use Rattle.x86_layout.specs.Sweeps.Cuts.{cuts_of}
 use Rattle.x86_layout.specs.Sweeps.Sweep.{cuts_left}
 use Rattle.x86_layout.specs.Sweeps.Lengths.{IsWithin}
-use Rattle.x86_layout.specs.Sweeps.Marks.{is_inside}
-use Rattle.x86_layout.proofs.SweepLemmas.Place.{all_within, begins_or_inside}
-use Rattle.x86_layout.proofs.SweepLemmas.Mark.{one_more_cleared, all_cleared}
+use Rattle.x86_layout.proofs.SweepLemmas.Place.{all_within, begins_or_inside, one_more_cleared, all_cleared}
 use Rattle.x86_layout.proofs.sweeps.marks.clear_inside_all.Goals as goal
 
 pub loop-cut-init : goal.loop-cut-init

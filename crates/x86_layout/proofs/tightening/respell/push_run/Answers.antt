@@ -1,12 +1,12 @@
-use Rattle.std.proofs.Common.{◌≡◌, ℕ, Bool, List, [], ◌∷◌, ◌++◌, length, sym, append_assoc, append-nil, arith}
+use Rattle.std.proofs.Common.{◌≡◌, ℕ, Bool, List, [], ◌∷◌, ◌++◌, length, sym, append_assoc, append-nil}
+use Rattle.std.proofs.lemmas.List.{nil_from_length}
 use Rattle.x86_layout.specs.Tightening.Tighten.{run_with}
 use Rattle.x86_layout.proofs.TightenLemmas.Rex.{run_at_end}
 use Rattle.x86_layout.proofs.tightening.respell.push_run.Goals as goal
 
 none_to_change : (x b : Bool) (old run : List ℕ) → length run ≡ 0 → old ≡ old ++ run_with x b run
 unfolding run_with
-none_to_change x b old [] e = sym (append-nil old)
-none_to_change x b old (byte ∷ run) e = absurd (omega (arith, e))
+none_to_change x b old run e = rw (nil_from_length run e) (sym (append-nil old))
 
 pub returns-in-Some-clause-text : goal.returns-in-Some-clause-text
 returns-in-Some-clause-text c =
