@@ -1,6 +1,7 @@
 -- The parts of the encoding at the beginning of bytes: the pieces of any whole encoding there, and their lengths.
-use Rattle.std.proofs.Common.{◌≡◌, ℕ, Bool, true, if◌then◌else◌, List, [], ◌∷◌, ◌++◌, length, slice_index, Option, Some, None, is_some, refl, sym, ap, ◌∙◌, append_assoc, arith, take, Ok, subst, ◌≤◌, false, length-append}
+use Rattle.std.proofs.Common.{◌≡◌, ℕ, Bool, true, if◌then◌else◌, List, [], ◌∷◌, ◌++◌, length, slice_index, Option, Some, None, is_some, refl, sym, ap, ◌∙◌, append_assoc, arith, take, Ok, subst, ◌≤◌, length-append}
 use Rattle.std.specs.List.{prefix_len}
+use Rattle.std.proofs.lemmas.Bool.{cond_both}
 use Rattle.x86_fields.specs.declared.prefixes.Prefixes.{Prefixes}
 use Rattle.x86_fields.specs.declared.raw.Raw.{Raw}
 use Rattle.x86_fields.specs.Run.{is_prefix, reading_of}
@@ -190,11 +191,7 @@ beginning_of strict bytes {instruction = i} value answer counts long beginning =
     }
 
 immediate_small : (strict : Bool) (row : TableRow) (p : Prefixes) (m : ℕ) → immediates_width ((record_of strict row p).plan m).encodings ≤ 8
-immediate_small strict row p m = by (is_group row.form)
-  where
-    by : (t : Bool) → immediates_width ((if t then group_record strict row p else form_record row p).plan m).encodings ≤ 8
-    by true = group_narrow strict row p m
-    by false = plain_narrow row p m
+immediate_small strict row p m = cond_both (is_group row.form) (group_record strict row p) (form_record row p) (λ r. immediates_width (r.plan m).encodings ≤ 8) (λ _. group_narrow strict row p m) (λ _. plain_narrow row p m)
 
 pub lengths_of : {strict : Bool} {s : List ℕ} {reading : Reading} {w : Encoding strict s reading} {p : PartLists} → HasParts strict s reading w p → length s ≤ 15 → HasFieldLengths p
 lengths_of {strict = strict} {w = w} {p = p} h short =

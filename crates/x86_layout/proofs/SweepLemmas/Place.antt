@@ -1,5 +1,5 @@
 -- The cuts after a cut, where cuts begin and end, and the marks at their places.
-use Rattle.std.proofs.Common.{◌≡◌, ℕ, zero, suc, ◌+◌, ◌-◌, ◌<◌, ◌≤◌, Bool, List, [], ◌∷◌, length, drop, refl, ap, ◌∙◌, arith, ◌&&◌, not, nat_lt, false, inl, inr, Result, Ok, Err, subst, ◌==◌, ◌||◌, true, slice_index_or, slice_set}
+use Rattle.std.proofs.Common.{◌≡◌, ℕ, zero, suc, ◌+◌, ◌-◌, ◌<◌, ◌≤◌, Bool, List, [], ◌∷◌, length, drop, refl, ap, ◌∙◌, arith, ◌&&◌, not, nat_lt, false, inl, inr, Ok, subst, ◌==◌, ◌||◌, true, slice_index_or, slice_set}
 use Rattle.std.proofs.lemmas.List.{nil_from_length, get_or-set_same, get_or-set_other}
 use Rattle.x86_decode.specs.Answer.{answer_of}
 use Rattle.x86_layout.specs.Sweeps.Cuts.{cut_length, cut_at, cuts_skipping, cuts_from}
@@ -8,7 +8,6 @@ use Rattle.std.proofs.lemmas.List.Elements.{All-nil, All-cons}
 use Rattle.std.proofs.lemmas.Bool.Decides.{nat_tests}
 use Rattle.std.specs.List.{list_any, sum_by, All}
 use Rattle.std.proofs.lemmas.Bool.{cases_lt}
-use Rattle.x86_fields.specs.declared.errors.DecodeError.{DecodeError}
 use Rattle.x86_decode.specs.declared.instructions.Instruction.{Instruction}
 use Rattle.x86_layout.specs.declared.sweeps.cuts.Cut.{Cut}
 use Rattle.x86_layout.specs.Sweeps.Marks.{begins_at, is_inside}
@@ -50,12 +49,8 @@ one_more : (place n : ℕ) → (place + 1) + n ≡ place + suc n
 one_more place n = omega arith
 
 module _ (strict : Bool) (lengths : Lengths strict) where
-  fits_by : (xs : List ℕ) (r : Result Instruction DecodeError) → 0 < length xs → answer_of strict xs ≡ r → (0 < cut_length r) × (cut_length r ≤ length xs)
-  fits_by xs (Ok i) h e = lengths xs i e
-  fits_by xs (Err e) h _ = (omega arith, omega arith)
-
   pub fits : (xs : List ℕ) → 0 < length xs → (0 < cut_length (answer_of strict xs)) × (cut_length (answer_of strict xs) ≤ length xs)
-  fits xs h = fits_by xs (answer_of strict xs) h refl
+  fits xs h = grind (arith, lengths)
 
   -- ---- ends
 

@@ -1,6 +1,5 @@
 -- The bytes of raw fields, and the raw fields of bytes.
-use Rattle.std.proofs.Common.{◌≡◌, ℕ, suc, ◌-◌, ◌%◌, ◌^◌, ◌<◌, ◌==◌, Bool, true, false, if◌then◌else◌, Option, Some, None, List, [], ◌∷◌, ◌++◌, length, take, ℤ, pos, negsuc, refl, sym, ap, subst, ◌∙◌, arith, length-append}
-use Rattle.std.specs.Prelude.{FitsSigned}
+use Rattle.std.proofs.Common.{◌≡◌, ℕ, suc, ◌-◌, ◌%◌, ◌^◌, ◌<◌, ◌==◌, Bool, true, false, if◌then◌else◌, Option, Some, None, List, [], ◌∷◌, ◌++◌, length, take, ℤ, pos, negsuc, refl, sym, ap, subst, ◌∙◌, arith, length-append, FitsSigned}
 use Rattle.std.specs.Int.{w8, w32, cast_signed, cast_unsigned, from_le_bytes, to_le_bytes}
 use Rattle.std.proofs.lemmas.Bool.{and_parts}
 use Rattle.std.proofs.lemmas.Bool.Decides.{nat_tests}
@@ -10,7 +9,7 @@ use Rattle.x86_fields.specs.declared.prefixes.Prefixes.{Prefixes}
 use Rattle.x86_fields.specs.declared.rex.PrefixRex.{PrefixRex}
 use Rattle.x86_fields.specs.declared.raw.Raw.{Raw}
 use Rattle.x86_fields.specs.ModRM.{mod_field, is_memory}
-use Rattle.x86_fields.specs.Raw.{live_bit, displacement_width, names_no_base, sib_fits, is_zero, is_byte, disp_fits, has_b, has_x}
+use Rattle.x86_fields.specs.Raw.{live_bit, displacement_width, names_no_base, sib_fits, is_byte, disp_fits, has_b, has_x}
 use Rattle.x86_fields.specs.Pieces.{option_bytes, signed_by}
 use Rattle.x86_operands.specs.Pieces.{SpellsMemory}
 use Rattle.x86_decode.proofs.ByteLemmas.{Bytes, bytes_after, memory_fits}
@@ -21,15 +20,12 @@ use Rattle.x86_layout.proofs.PartLemmas.OfBytes.{option_count}
 
 -- ---- the displacement that bytes spell fits its width
 
-byte_fits : (n : ℕ) → n < 256 → is_byte (cast_signed w8 n) ≡ true
-byte_fits n h = grind (arith, nat_tests)
-
 beginning_small : (l : List ℕ) → Bytes l → from_le_bytes w8 l < 256
 beginning_small [] h = omega arith
 beginning_small (b ∷ l) h = h.0
 
 spelled_disp_fits : (width : ℕ) (l : List ℕ) → Bytes l → disp_fits width (signed_by width l) ≡ true
-spelled_disp_fits width l h = let fits = byte_fits (from_le_bytes w8 l) (beginning_small l h) in grind (arith, nat_tests, fits)
+spelled_disp_fits width l h = let small = beginning_small l h in grind (arith, nat_tests)
 
 beginning_byte : (sib : Option ℕ) (disp : List ℕ) → Bytes (option_bytes sib ++ disp) → IsByteOption sib
 beginning_byte sib disp h = grind arith
@@ -67,9 +63,6 @@ unsigned_small : (d : ℤ) → FitsSigned w32 d → cast_unsigned w32 d < 2 ^ 32
 unsigned_small (pos n) f = let g = f.sfits in omega (arith, g)
 unsigned_small (negsuc n) f = omega arith
 
-zero_back : (d : ℤ) → is_zero d ≡ true → pos 0 ≡ d
-zero_back d e = grind (arith, nat_tests)
-
 abbrev Width : Bool → Bool → Bool → ℕ
 Width one two none = if one then 1 else (if two then 4 else (if none then 4 else 0))
 
@@ -80,7 +73,7 @@ four_back : (d : ℤ) → FitsSigned w32 d → cast_signed w32 (from_le_bytes w3
 four_back d f = ap (cast_signed w32) (from_le_bytes-to_le_bytes_4 (cast_unsigned w32 d) (unsigned_small d f)) ∙ to_z-of_z w32 d f
 
 signed_back : (one two none : Bool) (d : ℤ) → disp_fits (Width one two none) d ≡ true → FitsSigned w32 d → signed_by (Width one two none) (Lowest (Width one two none) d) ≡ d
-signed_back one two none d e f = let byte = byte_back d in let four = four_back d f in let zero = zero_back d in grind arith
+signed_back one two none d e f = let byte = byte_back d in let four = four_back d f in grind (arith, nat_tests)
 
 lowest_long_by : (one two none : Bool) (d : ℤ) → length (Lowest (Width one two none) d) ≡ Width one two none
 lowest_long_by one two none d = grind arith

@@ -5,7 +5,7 @@ use Rattle.x86_fields.specs.declared.raw.Raw.{Raw}
 use Rattle.x86_fields.specs.ModRM.{scale_field, is_memory, reg_field, packed_byte}
 use Rattle.x86_fields.specs.Raw.{displacement_width, sib_fits, disp_fits}
 use Rattle.x86_fields.specs.Address.{base_by, index_by, scale_by}
-use Rattle.x86_fields.specs.Linear.{adds_to, adds_next}
+use Rattle.x86_fields.specs.Linear.{adds_to}
 use Rattle.x86_layout.specs.Tightening.Registers.{is_ip_by, number_of, scale_named, times, part_weight, IsBelow16, IsIndex, IsByteOption}
 use Rattle.x86_layout.specs.Tightening.Shortest.{bytes_by, width_with_base, mod_of, fourth_bit, scale_bits, field_or, rm_alone, sib_by, rm_by}
 use Rattle.x86_layout.specs.declared.tightening.registers.Scale.{Scale}
@@ -35,18 +35,9 @@ scale_is (suc (suc zero)) h = refl
 scale_is (suc (suc (suc zero))) h = refl
 scale_is (suc (suc (suc (suc n)))) h = absurd (omega (arith, h))
 
-index_by_factor : (raw : Raw) (sib n m r : ℕ) → n ≡ m → adds_to (index_by raw (Some sib)) n r ≡ part_weight (number_of (index_by raw (Some sib))) m r
-index_by_factor raw sib n m r e = grind (arith, nat_tests)
-
 pub index_counts : (raw : Raw) (sib : Option ℕ) (r : ℕ) → IsByteOption sib → adds_to (index_by raw sib) (scale_by sib) r ≡ part_weight (number_of (index_by raw sib)) (times (scale_named (scale_by sib))) r
 index_counts raw None r h = refl
-index_counts raw (Some sib) r h = index_by_factor raw sib _ _ r (scale_is (scale_field sib) (omega (arith, h)))
-
-pub base_next : (raw : Raw) (sib : Option ℕ) → adds_next (base_by raw sib) 1 ≡ (if is_ip_by raw.modrm sib then 1 else 0)
-base_next raw sib = grind (arith, nat_tests)
-
-pub index_next : (raw : Raw) (sib : Option ℕ) (n : ℕ) → adds_next (index_by raw sib) n ≡ 0
-index_next raw sib n = grind (arith, nat_tests)
+index_counts raw (Some sib) r h = let e = scale_is (scale_field sib) (omega (arith, h)) in grind (arith, nat_tests, e)
 
 -- ---- the fields of a byte
 

@@ -106,9 +106,6 @@ module _ {strict : Bool} {s : List ℕ} {a : Reading} (v : Encoding strict s a) 
   abbrev Bits : Prefixes
   Bits = record (Seen v) { rex = bits_in (Other).rex_x (Other).rex_b (Seen v).rex }
 
-  abbrev After : Prefixes
-  After = seen_by v.map v.opcode (reading_of (Run))
-
   abbrev Rerow : Prefixes → Type 0
   Rerow q = Rerowed (Seen v) q (Byte v) (Other).modrm raw (Other) (record_of strict v.row q) (address_bytes (Other)) v.row_spelled.tail_spelled.pieces.immediates v.row_spelled.tail_spelled.pieces.suffix a
 
@@ -121,16 +118,13 @@ module _ {strict : Bool} {s : List ℕ} {a : Reading} (v : Encoding strict s a) 
   same_register : reg_field (Other).modrm ≡ reg_field (Byte v)
   same_register = shortest_keeps_reg raw ∙ ap (λ r. reg_field r.modrm) (spells v read).1.fields
 
-  rerow_bits : Rerow (Bits)
-  rerow_bits =
+  rerow : Rerow (seen_by v.map v.opcode (reading_of (Run)))
+  rerow =
       let alike = same_record strict v.row (Seen v) (Other).rex_x (Other).rex_b (Byte v) (Other).modrm (spells v read).0 (respelled_raw).0 (same_register) in
-      rerowed (Seen v) (Bits) (Byte v) (Other).modrm raw (Other) (record_of strict v.row (Bits)) _ v.row_spelled.tail (address_bytes (Other)) a v.row_spelled.tail_spelled refl read (respelled_raw).0 (respelled_raw).1
+      subst Rerow (sym (seen_with v.map v.opcode (Other).rex_x (Other).rex_b v.run)) (rerowed (Seen v) (Bits) (Byte v) (Other).modrm raw (Other) (record_of strict v.row (Bits)) _ v.row_spelled.tail (address_bytes (Other)) a v.row_spelled.tail_spelled refl read (respelled_raw).0 (respelled_raw).1
       (alike.0 ∙ v.row_spelled.passed)
       (alike.1 ∙ fields v read)
-      (alike.2 (fields v read))
-
-  rerow : Rerow (After)
-  rerow = subst Rerow (sym (seen_with v.map v.opcode (Other).rex_x (Other).rex_b v.run)) rerow_bits
+      (alike.2 (fields v read)))
 
   -- the bytes
   abbrev pub Bytes' : List ℕ

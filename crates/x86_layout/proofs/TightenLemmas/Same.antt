@@ -1,8 +1,5 @@
 -- A relative is the same instruction but for its memory operand of ModRM, which has the same address.
-use Rattle.std.proofs.Common.{◌≡◌, ◌↔◌, ℕ, zero, suc, ◌≤◌, ◌<◌, ◌^◌, nat_lt, Bool, false, if◌then◌else◌, Option, Some, None, List, [], ◌∷◌, length, map, slice_index_or, refl, sym, ap, ◌∙◌, arith, All}
-use Rattle.std.specs.Prelude.{FitsSigned}
-use Rattle.std.proofs.Math.Nat.{pow-le-pow_right}
-use Rattle.std.specs.Int.{w32}
+use Rattle.std.proofs.Common.{◌≡◌, ◌↔◌, ℕ, zero, suc, ◌≤◌, ◌<◌, ◌^◌, nat_lt, Bool, false, if◌then◌else◌, Option, Some, None, List, [], ◌∷◌, length, map, slice_index_or, refl, sym, ap, ◌∙◌, arith, All, FitsSigned, w32, pow_mono}
 use Rattle.x86_regs.specs.declared.RegisterClass.{RegisterClass}
 use Rattle.x86_fields.specs.declared.prefixes.Prefixes.{Prefixes}
 use Rattle.x86_fields.specs.declared.raw.Raw.{Raw}
@@ -155,7 +152,7 @@ AreTheirValues = (f g : Linear) → f.modulus ≡ g.modulus → IsReduced f → 
 
 scale_small : (sib : Option ℕ) → IsByteOption sib → scale_by sib ≤ 8
 scale_small None h = omega arith
-scale_small (Some sib) h = pow-le-pow_right {n = 2} (omega arith) {i = scale_field sib} {j = 3} (omega (arith, h))
+scale_small (Some sib) h = pow_mono {i = scale_field sib} {j = 3} (omega (arith, h))
 
 mark_67 : (change : PrefixChange) (p : Prefixes) → (changed change p).address_size ≡ p.address_size
 mark_67 change p = grind arith

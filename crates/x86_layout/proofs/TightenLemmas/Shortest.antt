@@ -1,16 +1,12 @@
 -- The shortest raw fields have the same address, and no others of that address have fewer bytes.
-use Rattle.std.proofs.Common.{◌≡◌, ℕ, ◌+◌, ◌<◌, ◌≤◌, ◌⊎◌, Option, Some, None, ℤ, arith, Bool, true, false, if◌then◌else◌, refl, sym, ◌∙◌}
+use Rattle.std.proofs.Common.{◌≡◌, ℕ, ◌+◌, ◌<◌, ◌≤◌, ◌⊎◌, Option, Some, None, ℤ, arith, Bool, true, false, if◌then◌else◌, refl, sym, ◌∙◌, FitsSigned, w32, w64, to_z-of_z}
 use Rattle.std.proofs.lemmas.Bool.Decides.{nat_tests}
 use Rattle.x86_layout.specs.declared.tightening.registers.Scale.{Scale}
 use Rattle.x86_layout.specs.declared.tightening.registers.Scale.TheVariants.{One}
-use Rattle.x86_layout.specs.Tightening.Registers.{times, part_weight, IsBelow16, IsIndex, is_ip_relative, number_of, scale_named, registers_of, weight, IsByteOption}
+use Rattle.x86_layout.specs.Tightening.Registers.{times, part_weight, IsBelow16, IsIndex, is_ip_relative, registers_of, weight, IsByteOption}
 use Rattle.x86_layout.specs.Tightening.Shortest.{index_alone, base_and_index, arranged, width_with_base, bytes_by, bytes_at, shortest_registers, address_length, fourth_bit, scale_bits, field_or, rm_alone, rm_by, sib_by, spelled, shortest, IsOfBytes}
-use Rattle.std.specs.Prelude.{FitsSigned}
-use Rattle.std.specs.Int.{w32, w64}
-use Rattle.std.proofs.lemmas.Int.{to_z-of_z}
 use Rattle.x86_fields.specs.declared.raw.Raw.{Raw}
 use Rattle.x86_fields.specs.ModRM.{reg_field, packed_byte}
-use Rattle.x86_fields.specs.Address.{base_by, index_by, scale_by}
 use Rattle.x86_fields.specs.Linear.{constant_by, modulus_by, raw_form, IsSameAddress}
 use Rattle.x86_layout.specs.declared.tightening.registers.AddressRegisters.{AddressRegisters}
 use Rattle.x86_layout.proofs.TightenLemmas.Raw.{middle_is, middle_small, rm_small, spelled_length, spelled_fits, spelled_base, spelled_index, spelled_scale, least, base_number, index_number, base_counts, index_counts}
@@ -22,20 +18,13 @@ some_times s = grind arith
 
 -- ---- bytes
 
-at_most_four : (d : ℤ) (b : ℕ) → width_with_base d b ≤ 4
-at_most_four d b = grind arith
-
 pub at_most_five : (d : ℤ) (b i : Option ℕ) → bytes_by d b i ≤ 5
-at_most_five d b i = grind (arith, at_most_four)
+at_most_five d b i = grind arith
 
 -- ---- what is known from equal counts
 
 abbrev pub Weigh : Option ℕ → Option ℕ → Scale → ℕ → ℕ
 Weigh b i s r = part_weight b 1 r + part_weight i (times s) r
-
--- an index that counts as base and index together: both are it, and it counts as often as both
-twice : (r b' i' : ℕ) (s s' : Scale) → part_weight (Some r) (times s) b' ≡ part_weight (Some b') 1 b' + part_weight (Some i') (times s') b' → part_weight (Some r) (times s) i' ≡ part_weight (Some b') 1 i' + part_weight (Some i') (times s') i' → (r ≡ b') × (times s ≡ 1 + times s')
-twice r b' i' s s' e f = let some = some_times s' in (grind (arith, nat_tests), grind (arith, nat_tests))
 
 -- the base of two registers is the same, or the index that counts once
 which : (b i : ℕ) (s : Scale) (b' i' : ℕ) (s' : Scale) → Weigh (Some b) (Some i) s b ≡ Weigh (Some b') (Some i') s' b → Weigh (Some b) (Some i) s i ≡ Weigh (Some b') (Some i') s' i → Weigh (Some b) (Some i) s b' ≡ Weigh (Some b') (Some i') s' b' → (b ≡ b') ⊎ ((i ≡ b') × (s ≡ One))
@@ -52,7 +41,7 @@ one_index d r b' None s s' hr hb hi e = let some = some_times s in let f = e b' 
 one_index d r b' (Some i') s s' hr hb hi e =
     let f = e b' hb in
     let g = e i' hi.0 in
-    let base_and_index = twice r b' i' s s' (omega (arith, f)) (omega (arith, g)) in
+    let some = some_times s' in
     grind (arith, nat_tests)
 
 -- two registers
@@ -148,8 +137,8 @@ shortest_has_the_address raw h e =
 
 -- the displacement is known from the constant
 disp_known : (short : Bool) (d e : ℤ) → FitsSigned w32 d → FitsSigned w32 e → constant_by short d ≡ constant_by short e → d ≡ e
-disp_known true d e fd fe h = cc (to_z-of_z w32 d fd, h, to_z-of_z w32 e fe)
-disp_known false d e fd fe h = cc (to_z-of_z w64 d (wide d fd), h, to_z-of_z w64 e (wide e fe))
+disp_known true d e fd fe h = cc (to_z-of_z fd, h, to_z-of_z fe)
+disp_known false d e fd fe h = cc (to_z-of_z (wide d fd), h, to_z-of_z (wide e fe))
   where
     wide : (d : ℤ) → FitsSigned w32 d → FitsSigned w64 d
     wide d f = let g = f.sfits in record { sfits = omega (arith, g) }
@@ -179,15 +168,9 @@ none_is_shorter raw other h k e same =
 arranged_low : (d : ℤ) (b i : Option ℕ) (s : Scale) → fourth_bit b ≡ false → fourth_bit i ≡ false → (fourth_bit (arranged d b i s).base ≡ false) × (fourth_bit (arranged d b i s).index ≡ false)
 arranged_low d b i s hb hi = (grind (arith, nat_tests), grind (arith, nat_tests))
 
-low_base : (raw : Raw) (sib : Option ℕ) → raw.rex_b ≡ false → fourth_bit (number_of (base_by raw sib)) ≡ false
-low_base raw sib e = grind (arith, nat_tests)
-
-low_index : (raw : Raw) (sib : Option ℕ) → raw.rex_x ≡ false → fourth_bit (number_of (index_by raw sib)) ≡ false
-low_index raw sib e = grind (arith, nat_tests)
-
 pub shortest_keeps_bits : (raw : Raw) → raw.rex_b ≡ false → raw.rex_x ≡ false → ((shortest raw).rex_b ≡ false) × ((shortest raw).rex_x ≡ false)
 unfolding shortest
-shortest_keeps_bits raw e f = arranged_low raw.disp _ _ (scale_named (scale_by raw.sib)) (low_base raw raw.sib e) (low_index raw raw.sib f)
+shortest_keeps_bits raw e f = let at = registers_of raw in arranged_low raw.disp at.base at.index at.scale (grind (arith, nat_tests)) (grind (arith, nat_tests))
 
 pub shortest_keeps_67 : (raw : Raw) → (shortest raw).address_size ≡ raw.address_size
 unfolding shortest

@@ -39,6 +39,7 @@ impl<'a> Sweep<'a> {
     }
 
     /// Cuts off the first cut of what is left.
+    #[tactic(auto, using(crate::proofs::SweepLemmas::Place::first_and_rest))]
     fn cut_off(&mut self) -> Cut
         requires { 0 < length self.old.rest.now }
         ensures first { cuts_left self.old ≡ result ∷ cuts_left self.new }

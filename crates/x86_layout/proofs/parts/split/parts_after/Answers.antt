@@ -1,5 +1,4 @@
-use Rattle.std.proofs.Common.{◌≡◌, ℕ, ◌++◌, length, slice_index, ap, ◌∙◌, arith, length-take}
-use Rattle.std.proofs.lemmas.List.{take-append-drop}
+use Rattle.std.proofs.Common.{◌≡◌, ℕ, ◌++◌, length, slice_index, ap, ◌∙◌, arith, length-take, take-append-drop}
 use Rattle.x86_operands.specs.Pieces.{modrm_of}
 use Rattle.x86_layout.specs.Parts.Heads.{one_if, has_sib}
 use Rattle.x86_layout.specs.Parts.Split.{sib_width}

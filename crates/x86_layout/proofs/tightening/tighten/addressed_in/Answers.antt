@@ -27,15 +27,11 @@ known v {head = head} parts h prefixes escape opcode tails fields memory =
     let some = some_memory v (sym (memory_in_head v head h) ∙ memory) in
     (has, cc (some.1, fields, raw_is v some.1 (lists_of parts) has))
 
-pub returns-then-not-head-clause-raw : goal.returns-then-not-head-clause-raw
-returns-then-not-head-clause-raw c = λ strict a is.
-    let h = c.head_of-head.ensures strict is.reading is.whole in
-    no_operand is.whole (sym (memory_in_head is.whole c.head_of-head.result h) ∙ c.if-not-head.true)
-
-pub returns-then-not-head-clause-least : goal.returns-then-not-head-clause-least
-returns-then-not-head-clause-least c = λ strict a is.
-    let h = c.head_of-head.ensures strict is.reading is.whole in
-    least_without is.whole (sym (memory_in_head is.whole c.head_of-head.result h) ∙ c.if-not-head.true)
+pub returns-then-not-head : goal.returns-then-not-head
+returns-then-not-head c = record {
+  raw = λ strict a is. no_operand is.whole (sym (memory_in_head is.whole _ (c.head_of-head.ensures strict is.reading is.whole)) ∙ c.if-not-head.true);
+  least = λ strict a is. least_without is.whole (sym (memory_in_head is.whole _ (c.head_of-head.ensures strict is.reading is.whole)) ∙ c.if-not-head.true);
+}
 
 pub raw_in-raw-requires : goal.raw_in-raw-requires
 raw_in-raw-requires c =
