@@ -30,7 +30,7 @@ use crate::EmitError;
 use x86_decode::laws;
 
 /// Where bytes are left, a cut begins at the first, and the next cut after it; where none is left there is no cut.
-#[tactic(auto, using(crate::proofs::SweepLemmas::Place::none_left, crate::proofs::SweepLemmas::Place::first_and_rest, crate::proofs::SweepLemmas::Place::fits))]
+#[tactic(auto, using(crate::proofs::SweepLemmas::Place::cut_laws))]
 pub fn cuts_in_order()
     ensures none { (strict : Bool) (place : ℕ) → cuts_from strict place [] ≡ [] }
     ensures next { (strict : Bool) (place : ℕ) (xs : List ℕ) → 0 < length xs →
@@ -43,7 +43,7 @@ pub fn cuts_in_order()
 /// An input may be swept piece by piece. After cuts at the beginning come those of the rest (`rest`). Cuts at the
 /// beginning of a piece that don't answer `ExhaustedInput` are cuts of the piece with more bytes after it (`more`). So
 /// each piece begins at the place of the first `ExhaustedInput` of the one before, and the cuts are those of the whole.
-#[tactic(auto, using(crate::proofs::SweepLemmas::Place::fits, crate::proofs::SweepLemmas::Pieces::go_on, crate::proofs::SweepLemmas::Pieces::of_more))]
+#[tactic(auto, using(crate::proofs::SweepLemmas::Pieces::piece_laws))]
 pub fn cuts_by_pieces()
     ensures rest { (strict : Bool) → CutsGoOn strict }
     ensures more { (strict : Bool) → CutsOfMore strict }
@@ -54,7 +54,7 @@ pub fn cuts_by_pieces()
 
 /// Every cut has some bytes and lies within the input, and the lengths of the cuts add up to that of the input, so
 /// there are at most as many cuts as bytes.
-#[tactic(auto, using(crate::proofs::SweepLemmas::Place::count, crate::proofs::SweepLemmas::Place::sum_all, crate::proofs::SweepLemmas::Place::all_within))]
+#[tactic(auto, using(crate::proofs::SweepLemmas::Place::cut_laws))]
 pub fn cuts_cover()
     ensures within { (strict : Bool) (xs : List ℕ) →
         All (IsWithin (length xs)) (cuts_of strict xs) }
@@ -114,7 +114,7 @@ pub fn accepted_encodings_are_emitted_again()
 ///
 /// This is said of raw fields that aren't relative to the next instruction. Source: Intel SDM volume 2, sections
 /// 2.1.5 and 2.2.1.
-#[tactic(auto, using(crate::proofs::TightenLemmas::Shortest::shortest_has_the_address, crate::proofs::TightenLemmas::Shortest::shortest_keeps_reg, crate::proofs::TightenLemmas::Shortest::shortest_keeps_bits, crate::proofs::TightenLemmas::Shortest::none_is_shorter))]
+#[tactic(auto, using(crate::proofs::TightenLemmas::Shortest::shortest_laws))]
 pub fn shortest_raw_fields()
     ensures of_bytes { (raw : Raw) → IsOfBytes raw → IsOfBytes (shortest raw) }
     ensures same_address { (raw : Raw) → IsOfBytes raw → is_ip_relative raw ≡ false →

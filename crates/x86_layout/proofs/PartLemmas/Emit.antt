@@ -39,12 +39,15 @@ all_pass : (run a b c d : Bool) → (unless_all run a b c d ≡ None) ↔ ((run 
 all_pass run a b c d = (λ h. (grind arith, grind arith, grind arith, grind arith, grind arith), λ h. grind arith)
 
 abbrev Holds : Bool → fields.Fields → Entry → Type 0
-Holds strict f e = (has_legal_run f ≡ true) × (passes_record (record_by strict e f) f ≡ true) × (has_row_parts (record_by strict e f) f ≡ true) × (has_lawful_lock strict e f ≡ true) × (is_short f ≡ true)
+Holds strict f e =
+    (has_legal_run f ≡ true) × (passes_record (record_by strict e f) f ≡ true) × (has_row_parts (record_by strict e f) f ≡ true)
+    × (has_lawful_lock strict e f ≡ true) × (is_short f ≡ true)
 
 holds : (strict : Bool) (f : fields.Fields) (o : Option Entry) → unless (has_legal_run f) error.Prefixes (failing_at strict o f) ≡ None → (e : Entry) × (o ≡ Some e) × Holds strict f e
 holds strict f None h = absurd (grind arith)
 holds strict f (Some e) h =
-    (e, refl, (all_pass (has_legal_run f) (passes_record (record_by strict e f) f) (has_row_parts (record_by strict e f) f) (has_lawful_lock strict e f) (is_short f)).0 h)
+    let at = record_by strict e f in
+    (e, refl, (all_pass (has_legal_run f) (passes_record at f) (has_row_parts at f) (has_lawful_lock strict e f) (is_short f)).0 h)
 
 -- ---- the row that fields name
 

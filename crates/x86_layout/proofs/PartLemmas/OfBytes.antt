@@ -119,7 +119,8 @@ has_head {strict = strict} {bytes = bytes} rest w begins =
     let tail' : List ℕ = w.tail ++ rest in
     let after_prefixes : List ℕ = escape_bytes w.map ++ w.opcode ∷ tail' in
     let spelled : bytes ≡ w.run ++ after_prefixes = begins ∙ ap (λ l. l ++ rest) w.spelled ∙ simp append_assoc in
-    let run = cut_is w.run after_prefixes spelled (ap (prefix_len is_prefix) spelled ∙ run_length_is w.run w.map w.opcode tail' w.prefixes w.in_map) in
+    let run_n = ap (prefix_len is_prefix) spelled ∙ run_length_is w.run w.map w.opcode tail' w.prefixes w.in_map in
+    let run = cut_is w.run after_prefixes spelled run_n in
     let map : map_in bytes ≡ w.map = cc (run.1, map_is w.map w.opcode tail' w.in_map) in
     let escape = cut_is (escape_bytes w.map) (w.opcode ∷ tail') run.1 (ap (λ x. length (escape_bytes x)) map) in
     let opcode = cut_is (w.opcode ∷ []) tail' escape.1 refl in
@@ -191,7 +192,9 @@ beginning_of strict bytes {instruction = i} value answer counts long beginning =
     }
 
 immediate_small : (strict : Bool) (row : TableRow) (p : Prefixes) (m : ℕ) → immediates_width ((record_of strict row p).plan m).encodings ≤ 8
-immediate_small strict row p m = cond_both (is_group row.form) (group_record strict row p) (form_record row p) (λ r. immediates_width (r.plan m).encodings ≤ 8) (λ _. group_narrow strict row p m) (λ _. plain_narrow row p m)
+immediate_small strict row p m =
+    cond_both (is_group row.form) (group_record strict row p) (form_record row p) (λ r. immediates_width (r.plan m).encodings ≤ 8)
+    (λ _. group_narrow strict row p m) (λ _. plain_narrow row p m)
 
 pub lengths_of : {strict : Bool} {s : List ℕ} {reading : Reading} {w : Encoding strict s reading} {p : PartLists} → HasParts strict s reading w p → length s ≤ 15 → HasFieldLengths p
 lengths_of {strict = strict} {w = w} {p = p} h short =

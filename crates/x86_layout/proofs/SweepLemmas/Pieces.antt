@@ -6,18 +6,18 @@ use Rattle.x86_decode.specs.Answer.{answer_of}
 use Rattle.x86_layout.specs.declared.sweeps.cuts.Cut.{Cut}
 use Rattle.x86_layout.specs.Sweeps.Cuts.{cut_length, cut_at, cuts_from}
 use Rattle.x86_layout.specs.Sweeps.Pieces.{total_length, CutsGoOn, CutsOfMore}
-use Rattle.x86_layout.proofs.SweepLemmas.Place.{none_left, first_and_rest}
+use Rattle.x86_layout.proofs.SweepLemmas.Place.{none_left, first_and_rest, fits}
 
 abbrev size : Bool → List ℕ → ℕ
 size strict xs = cut_length (answer_of strict xs)
 
-module _ (strict : Bool) (fits : (xs : List ℕ) → 0 < length xs → (0 < size strict xs) × (size strict xs ≤ length xs)) where
+module _ (strict : Bool) (fit : (xs : List ℕ) → 0 < length xs → (0 < size strict xs) × (size strict xs ≤ length xs)) where
   some_bytes : (place : ℕ) (xs : List ℕ) (c : Cut) (cs : List Cut) → cuts_from strict place xs ≡ c ∷ cs → 0 < length xs
   some_bytes place [] c cs e = absurd (cc (none_left strict place [] refl, e))
   some_bytes place (x ∷ xs) c cs e = omega arith
 
   next : (place : ℕ) (xs : List ℕ) → 0 < length xs → cuts_from strict place xs ≡ cut_at strict place xs ∷ cuts_from strict (place + size strict xs) (drop (size strict xs) xs)
-  next place xs some = first_and_rest strict (size strict xs) place xs refl (fits xs some).0 some
+  next place xs some = first_and_rest strict (size strict xs) place xs refl (fit xs some).0 some
 
   -- the first cut is the head of the list, and the rest its tail
   divided : (place : ℕ) (xs : List ℕ) (c : Cut) (cs : List Cut) → cuts_from strict place xs ≡ c ∷ cs →
@@ -51,6 +51,9 @@ module _ (strict : Bool) (fits : (xs : List ℕ) → 0 < length xs → (0 < size
         let more : 0 < length (xs ++ ys) = simp length-append (omega (arith, some)) in
         let first : cut_at strict place (xs ++ ys) ≡ c = ap (λ a. record { place = place; length = cut_length a; answer = a }) same ∙ d.0 in
         let long : size strict (xs ++ ys) ≡ n = ap cut_length same in
-        let rest : drop n (xs ++ ys) ≡ drop n xs ++ ys = drop-append-le n xs ys (fits xs some).1 in
+        let rest : drop n (xs ++ ys) ≡ drop n xs ++ ys = drop-append-le n xs ys (fit xs some).1 in
         let tail = of_more (place + n) (drop n xs) ys cs after d.1 final.1 in
         cc (next place (xs ++ ys) more, first, long, rest, tail, moved place n (total_length cs) (xs ++ ys), d.0)
+
+-- what the law of pieces says
+pub ruleset piece_laws = (fits, go_on, of_more)

@@ -71,7 +71,8 @@ module _ (strict : Bool) (lengths : Lengths strict) where
   unfolding cuts_skipping
   none_from test skip place [] none = refl
   none_from test zero place (x ∷ xs) none =
-      cc (none (cut_at strict place (x ∷ xs)) (omega arith), none_from test (cut_length (answer_of strict (x ∷ xs)) - 1) (place + 1) xs (λ c h. none c (omega arith)))
+      let rest = none_from test (cut_length (answer_of strict (x ∷ xs)) - 1) (place + 1) xs (λ c h. none c (omega arith)) in
+      cc (none (cut_at strict place (x ∷ xs)) (omega arith), rest)
   none_from test (suc k) place (x ∷ xs) none = none_from test k (place + 1) xs (λ c h. none c (omega arith))
 
   -- a place after the cut before is that of a cut, or inside one
@@ -84,7 +85,8 @@ module _ (strict : Bool) (lengths : Lengths strict) where
         let rest = begins_by (cut_length (answer_of strict (x ∷ xs)) - 1) (place + 1) p xs (omega arith) (omega arith) in
         grind (arith, nat_tests)
     | inr same ↦
-        let rest = none_from (is_inside p) (cut_length (answer_of strict (x ∷ xs)) - 1) (place + 1) xs (λ c h. grind (arith, nat_tests)) in
+        let n : ℕ = cut_length (answer_of strict (x ∷ xs)) in
+        let rest = none_from (is_inside p) (n - 1) (place + 1) xs (λ c h. grind (arith, nat_tests)) in
         grind (arith, nat_tests)
   ]
   begins_by (suc k) place p (x ∷ xs) h l = elim (cases_lt place p) [
@@ -128,3 +130,6 @@ one_more_cleared old new t u all e h = grind arith
 
 pub all_cleared : (new old inside begins : Bool) → (new && not false) ≡ (old && not inside) → begins ≡ not inside → new ≡ (old && begins)
 all_cleared new old inside begins e h = grind arith
+
+-- what the laws of cuts say
+pub ruleset cut_laws = (none_left, first_and_rest, fits, count, sum_all, all_within)

@@ -86,7 +86,8 @@ pub respells : (q : Prefixes) (raw : Raw) → IsOfBytes raw → has_b q ≡ raw.
 respells q raw h b x short =
     let memory = and_parts (is_memory raw.modrm) _ h.fit in
     let fit = and_parts (sib_fits raw.modrm raw.sib) _ memory.1 in
-    let value = signed_back (mod_field raw.modrm == 1) (mod_field raw.modrm == 2) (names_no_base raw.modrm raw.sib) raw.disp fit.1 h.disp in (
+    let m = mod_field raw.modrm in
+    let value = signed_back (m == 1) (m == 2) (names_no_base raw.modrm raw.sib) raw.disp fit.1 h.disp in (
       memory.0,
       record {
         sib = raw.sib;

@@ -112,7 +112,8 @@ module _ {strict : Bool} {s : List ℕ} {a : Reading} (v : Encoding strict s a) 
   respelled_raw : SpellsMemory (Bits) (Other).modrm (address_bytes (Other)) (Some (Other))
   respelled_raw =
       let is = (spells v read).1.fields in
-      let bits = bits_with (Other).rex_x (Other).rex_b (Seen v).rex (no_bits raw (Seen v) (ap (λ r. r.rex_b) is) (ap (λ r. r.rex_x) is)) in
+      let none = no_bits raw (Seen v) (ap (λ r. r.rex_b) is) (ap (λ r. r.rex_x) is) in
+      let bits = bits_with (Other).rex_x (Other).rex_b (Seen v).rex none in
       respells (Bits) (Other) (shortest_is_of_bytes raw fit) bits.0 bits.1 (sym (shortest_keeps_67 raw ∙ ap (λ r. r.address_size) is))
 
   same_register : reg_field (Other).modrm ≡ reg_field (Byte v)
@@ -120,11 +121,13 @@ module _ {strict : Bool} {s : List ℕ} {a : Reading} (v : Encoding strict s a) 
 
   rerow : Rerow (seen_by v.map v.opcode (reading_of (Run)))
   rerow =
-      let alike = same_record strict v.row (Seen v) (Other).rex_x (Other).rex_b (Byte v) (Other).modrm (spells v read).0 (respelled_raw).0 (same_register) in
-      subst Rerow (sym (seen_with v.map v.opcode (Other).rex_x (Other).rex_b v.run)) (rerowed (Seen v) (Bits) (Byte v) (Other).modrm raw (Other) (record_of strict v.row (Bits)) _ v.row_spelled.tail (address_bytes (Other)) a v.row_spelled.tail_spelled refl read (respelled_raw).0 (respelled_raw).1
-      (alike.0 ∙ v.row_spelled.passed)
-      (alike.1 ∙ fields v read)
-      (alike.2 (fields v read)))
+      let m : ℕ = Byte v in
+      let n : ℕ = (Other).modrm in
+      let alike = same_record strict v.row (Seen v) (Other).rex_x (Other).rex_b m n (spells v read).0 (respelled_raw).0 (same_register) in
+      subst Rerow (sym (seen_with v.map v.opcode (Other).rex_x (Other).rex_b v.run))
+      (rerowed (Seen v) (Bits) m n raw (Other) (record_of strict v.row (Bits)) _ v.row_spelled.tail (address_bytes (Other)) a
+      v.row_spelled.tail_spelled refl read (respelled_raw).0 (respelled_raw).1
+      (alike.0 ∙ v.row_spelled.passed) (alike.1 ∙ fields v read) (alike.2 (fields v read)))
 
   -- the bytes
   abbrev pub Bytes' : List ℕ

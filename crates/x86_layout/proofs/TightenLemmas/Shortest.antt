@@ -170,8 +170,13 @@ arranged_low d b i s hb hi = (grind (arith, nat_tests), grind (arith, nat_tests)
 
 pub shortest_keeps_bits : (raw : Raw) → raw.rex_b ≡ false → raw.rex_x ≡ false → ((shortest raw).rex_b ≡ false) × ((shortest raw).rex_x ≡ false)
 unfolding shortest
-shortest_keeps_bits raw e f = let at = registers_of raw in arranged_low raw.disp at.base at.index at.scale (grind (arith, nat_tests)) (grind (arith, nat_tests))
+shortest_keeps_bits raw e f =
+    let at = registers_of raw in
+    arranged_low raw.disp at.base at.index at.scale (grind (arith, nat_tests)) (grind (arith, nat_tests))
 
 pub shortest_keeps_67 : (raw : Raw) → (shortest raw).address_size ≡ raw.address_size
 unfolding shortest
 shortest_keeps_67 raw = refl
+
+-- what the law of the shortest raw fields says
+pub ruleset shortest_laws = (shortest_has_the_address, shortest_keeps_reg, shortest_keeps_bits, none_is_shorter)

@@ -26,9 +26,9 @@ use Rattle.x86_layout.specs.Tightening.Least.{least_by, least_length, shortest_l
 
 module _ {strict : Bool} {s : List ℕ} {a : Reading} (v : Encoding strict s a) where
   -- whether the row has a memory form
-  pub memory_in_head : (head : Head) → IsHead strict s a v head → head.ask.memory ≡ is_memory (Byte v)
+  pub memory_in_head : {head : Head} → IsHead strict s a v head → is_memory (Byte v) ≡ head.ask.memory
   unfolding ask_of
-  memory_in_head head h = cc (h.ask, read_as v.row_spelled v.row_spelled.tail v.row_spelled.spelled)
+  memory_in_head h = cc (h.ask, read_as v.row_spelled v.row_spelled.tail v.row_spelled.spelled)
 
   some_by : (p : Prefixes) (m : ℕ) (address : List ℕ) (memory : Option Raw) → SpellsMemory p m address memory → is_memory m ≡ true → (raw : Raw) × (memory ≡ Some raw)
   some_by p m address memory h e = grind arith
@@ -63,7 +63,8 @@ module _ {strict : Bool} {s : List ℕ} {a : Reading} (v : Encoding strict s a) 
         let s = x.1 in
         let long : length parts.sib ≡ length (option_bytes s.sib) = h.sib ∙ ap (λ t. if t && rm_field (Byte v) == 4 then 1 else 0) x.0 ∙ ap one_if (sym s.sib_present) ∙ sym (option_count s.sib) in
         let address = halves parts.sib parts.displacement (option_bytes s.sib) s.disp (h.address ∙ s.spelled) long in
-        rw (h.prefixes, h.modrm ∙ byte v read, address.0, address.1, first_of s.sib, s.disp_length) (sym (rw (seen_rex v.map v.opcode p, seen_67 v.map v.opcode p) at s.fields))
+        let fields = rw (seen_rex v.map v.opcode p, seen_67 v.map v.opcode p) at s.fields in
+        rw (h.prefixes, h.modrm ∙ byte v read, address.0, address.1, first_of s.sib, s.disp_length) (sym fields)
 
   module _ {raw : Raw} (read : Reads v raw) (parts : Parts) (h : HasParts strict s a v (lists_of parts)) where
     module _ (fit : IsOfBytes raw) where

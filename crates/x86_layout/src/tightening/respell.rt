@@ -70,7 +70,7 @@ fn byte_with(x: bool, b: bool, byte: u8) -> u8
 }
 
 /// A run whose live REX has these bits X and B.
-#[tactic(auto, using(std::proofs::lemmas::List::nil_from_length), unfolding(crate::specs::Tightening::Tighten::run_with))]
+#[tactic(auto, unfolding(crate::specs::Tightening::Tighten::run_with))]
 fn push_run(encoding: &mut ArrayVec<u8, 15>, run: &[u8], x: bool, b: bool)
     requires { array_vec_len encoding.old + length run.now ≤ 15 }
     ensures text { encoding.new.items ≡ encoding.old.items ++ run_with x b run.now }

@@ -13,10 +13,11 @@ loop-cut-init c =
 pub loop-cut-preserved : goal.loop-cut-preserved
 loop-cut-preserved c =
     let before = c.loop-cut.invariant in
-    let e = c.in-Some.ensures.steps in (
+    let e = c.in-Some.ensures.steps in
+    let within = All-rest (IsWithin (length c.args.bytes.now)) c.in-Some.cut _ (cuts_left c.loop-cut.cut-iterator) e before.2 in (
       tt,
       tt,
-      All-rest (IsWithin (length c.args.bytes.now)) c.in-Some.cut (cuts_left c.next.new.self) (cuts_left c.loop-cut.cut-iterator) e before.2,
+      within,
       λ p h. one_more_cleared _ _ _ _ _ (c.clear_inside.ensures p (omega (arith, c.loop-cut.auto.marks))) (rw e at (before.3 p h)),
     )
 

@@ -24,13 +24,17 @@ Tails head parts = (r : RowRecord) (p : Prefixes) (reading : Reading) (tail : Li
 known : {strict : Bool} {s : List ℕ} {a : Reading} (v : Encoding strict s a) {head : Head} (parts : Parts) {raw : Raw} → IsHead strict s a v head → parts.prefixes.now ≡ head.prefixes.now → parts.escape.now ≡ head.escape.now → parts.opcode.now ≡ head.opcode.now → Tails head parts → raw ≡ raw_of (lists_of parts) → head.ask.memory ≡ true → HasParts strict s a v (lists_of parts) × Reads v raw
 known v {head = head} parts h prefixes escape opcode tails fields memory =
     let has = has_parts v head parts h prefixes escape opcode (tails (Row v) (Seen v) _ v.tail h.tail h.ask v.row_spelled) in
-    let some = some_memory v (sym (memory_in_head v head h) ∙ memory) in
+    let some = some_memory v (memory_in_head v h ∙ memory) in
     (has, cc (some.1, fields, raw_is v some.1 (lists_of parts) has))
 
 pub returns-then-not-head : goal.returns-then-not-head
 returns-then-not-head c = record {
-  raw = λ strict a is. no_operand is.whole (sym (memory_in_head is.whole _ (c.head_of-head.ensures strict is.reading is.whole)) ∙ c.if-not-head.true);
-  least = λ strict a is. least_without is.whole (sym (memory_in_head is.whole _ (c.head_of-head.ensures strict is.reading is.whole)) ∙ c.if-not-head.true);
+  raw = λ strict a is.
+      let head = c.head_of-head.ensures strict is.reading is.whole in
+      no_operand is.whole (memory_in_head is.whole head ∙ c.if-not-head.true);
+  least = λ strict a is.
+      let head = c.head_of-head.ensures strict is.reading is.whole in
+      least_without is.whole (memory_in_head is.whole head ∙ c.if-not-head.true);
 }
 
 pub raw_in-raw-requires : goal.raw_in-raw-requires
