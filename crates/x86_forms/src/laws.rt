@@ -9,18 +9,21 @@ ghost use Rattle.x86_forms.specs.Rows.{printed_row};
 ghost use Rattle.x86_forms.specs.Words.{HasWord, unpack, rows_of, packed, word_of};
 
 /// The words of rows: none is 0, and different rows have different words.
+#[tactic(auto, using(crate::proofs::WordLemmas::not_zero))]
 pub fn words_differ()
     ensures not_zero { (r : TableRow) → word_of r ≢ 0 }
     ensures distinct { (r s : TableRow) → HasWord r → HasWord s → word_of r ≡ word_of s → r ≡ s }
 {}
 
 /// A row is read back from its word, and nothing is read from any other word.
+#[tactic(auto, using(crate::proofs::WordLemmas::row_of_its_word, crate::proofs::WordLemmas::row_found))]
 pub fn words_are_read_back()
     ensures back { (r : TableRow) → HasWord r → unpack (word_of r) ≡ Some r }
     ensures only { (word : ℕ) → IfSome (unpack word) (λ r. HasWord r × (word ≡ word_of r)) }
 {}
 
 /// The table of the printed words has the printed rows, each of which has a word.
+#[tactic(auto, using(crate::proofs::WordLemmas::row_of_printed_word, crate::proofs::WordLemmas::printed_has_word))]
 pub fn printed_words_are_the_printed_rows()
     ensures rows { (map : Map) → (column : Column) → (byte : ℕ) →
         rows_of packed map column byte ≡ printed_row map column byte }
@@ -32,6 +35,7 @@ pub fn printed_words_are_the_printed_rows()
 /// the same opcode and form.
 ///
 /// `equal_forms` and the others are what `==` answers; a caller that compares forms or rows cites this law.
+#[tactic(auto, unfolding(crate::specs::Equality::equal_maps, crate::specs::Equality::equal_columns))]
 pub fn equality_is_of_all_parts()
     ensures maps { (m n : Map) → IsTrue (equal_maps m n) ↔ (m ≡ n) }
     ensures columns { (c d : Column) → IsTrue (equal_columns c d) ↔ (c ≡ d) }
