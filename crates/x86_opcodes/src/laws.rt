@@ -28,6 +28,7 @@ pub fn kinds_exclude_each_other()
 {}
 
 /// `==` holds exactly of the same opcode, and of the same condition; equal conditions hash equally.
+#[tactic(auto, unfolding(crate::specs::Equality::equal_opcodes))]
 pub fn equality_is_of_the_name()
     ensures opcodes { (o p : ℕ) → IsTrue (equal_opcodes o p) ↔ (o ≡ p) }
     ensures codes { (c d : ConditionCode) → IsTrue (equal_codes c d) ↔ (c ≡ d) }
