@@ -19,7 +19,7 @@ use Rattle.x86_operands.specs.Encodings.{size_bytes, is_sound, restricted_plan, 
 use Rattle.x86_operands.specs.Pieces.{immediate_width}
 use Rattle.x86_fields.specs.ModRM.{is_memory}
 use Rattle.x86_operands.specs.Plans.{reads}
-use Rattle.x86_operands.proofs.OrderLemmas.{Named, named_of, sound_parts, no_named, i_named, r_named, r_i_named, i_r_named, e_named, e_i_named, e_g_named, g_e_named, e_g_i_named, g_e_i_named}
+use Rattle.x86_operands.proofs.OrderLemmas.{Named, named_of, sound_parts, no_named}
 
 -- the operands of reg and rm have no immediate
 reg_width : (b : AfterOpcode) (w : Width) (n : ℕ) (p : Prefixes) → immediate_width (reg_encoding b w n p) ≡ 0
@@ -37,17 +37,8 @@ rm_width b w p = refl
 
 -- so the last operand has all of it
 width_in : {o : Order} → Named o → (a b c : OperandEncoding) → immediate_width a ≡ 0 → immediate_width b ≡ 0 → immediates_width (encodings_in o a b c) ≡ (if somewhere o.last then immediate_width c else 0)
-width_in no_named a b c ha hb = refl
-width_in i_named a b c ha hb = omega arith
-width_in r_named a b c ha hb = omega arith
-width_in r_i_named a b c ha hb = omega arith
-width_in i_r_named a b c ha hb = omega arith
-width_in e_named a b c ha hb = omega arith
-width_in e_i_named a b c ha hb = omega arith
-width_in e_g_named a b c ha hb = omega arith
-width_in g_e_named a b c ha hb = omega arith
-width_in e_g_i_named a b c ha hb = omega arith
-width_in g_e_i_named a b c ha hb = omega arith
+width_in no_named a b c ha hb = omega arith
+width_in h a b c ha hb = omega arith
 
 -- a line has no suffix, and its verdict requires nothing
 abbrev AskWith : ModrmUse → ℕ → ℕ → Ask

@@ -1,6 +1,6 @@
 -- What the operand encodings of a record take, and where they end: their immediates, one after another.
 use Rattle.std.proofs.Common.{◌≡◌, ℕ, List, [], ◌∷◌, ◌++◌, length, map, Option, Ok, refl, sym, ap, subst, ◌∙◌}
-use Rattle.std.proofs.lemmas.List.{append-nil}
+use Rattle.std.proofs.lemmas.List.{append-nil, nil_from_length}
 use Rattle.std.specs.Int.{Width, w8, w16, w32, w64, byte_len, from_le_bytes, cast_signed}
 use Rattle.x86_fields.specs.declared.prefixes.Prefixes.{Prefixes}
 use Rattle.x86_fields.specs.declared.raw.Raw.{Raw}
@@ -8,13 +8,13 @@ use Rattle.x86_fields.specs.Steps.{Step, pure, ◌>>=◌, number_step}
 use Rattle.x86_fields.specs.Pieces.{EndsBetween}
 use Rattle.x86_fields.proofs.StepLemmas.{Takes, takes_pure, takes_bind}
 use Rattle.x86_fields.proofs.EndLemmas.{EndsWell, IsEmpty, Only, ends_pure, ends_then, ends_map, Halts, halts_bind, halts_same, bind_assoc}
-use Rattle.x86_fields.proofs.PieceLemmas.{IsNumber, ends_number, takes_number, takes_map, nil_of, HaltsOn, one_there, none_there, halts_piece}
+use Rattle.x86_fields.proofs.PieceLemmas.{IsNumber, ends_number, takes_number, takes_map, HaltsOn, one_there, none_there, halts_piece}
 use Rattle.x86_operands.specs.declared.operands.Slot.{Slot}
 use Rattle.x86_operands.specs.declared.operands.Slot.TheVariants as slots
 use Rattle.x86_operands.specs.declared.operands.Operand.{Operand}
 use Rattle.x86_operands.specs.declared.operands.Operand.TheVariants as operands
 use Rattle.x86_operands.specs.declared.plans.OperandEncoding.{OperandEncoding}
-use Rattle.x86_operands.specs.declared.plans.OperandEncoding.TheVariants.{G, Gmm, E, Emm, M, U, Umm, Fixed, Pointer, I8, I16, I32, I64, I32From16, I64Whole, U8, U16, X8, X16, ConstantI8, ConstantU8, Address32, Address64}
+use Rattle.x86_operands.specs.declared.plans.OperandEncoding.TheVariants.{I8, I16, I32, I64, I32From16, I64Whole, U8, U16, X8, X16, Address32, Address64}
 use Rattle.x86_operands.specs.PlanSteps.{operand_step, operands_step}
 use Rattle.x86_operands.specs.Pieces.{immediate_width, operand_from, SpellsOperands}
 
@@ -29,15 +29,6 @@ module _ (p : Prefixes) (m : ℕ) (memory : Option Raw) where
 
   pub ends_operand : (s : OperandEncoding) → EndsWell (Only (IsOperand s)) IsEmpty (operand_step s p m memory)
   unfolding operand_step
-  ends_operand (G c) = ends_pure (Only (IsOperand (G c))) IsEmpty _ (refl, refl)
-  ends_operand Gmm = ends_pure (Only (IsOperand Gmm)) IsEmpty _ (refl, refl)
-  ends_operand (E c) = ends_pure (Only (IsOperand (E c))) IsEmpty _ (refl, refl)
-  ends_operand Emm = ends_pure (Only (IsOperand Emm)) IsEmpty _ (refl, refl)
-  ends_operand M = ends_pure (Only (IsOperand M)) IsEmpty _ (refl, refl)
-  ends_operand (U c) = ends_pure (Only (IsOperand (U c))) IsEmpty _ (refl, refl)
-  ends_operand Umm = ends_pure (Only (IsOperand Umm)) IsEmpty _ (refl, refl)
-  ends_operand (Fixed slot reg) = ends_pure (Only (IsOperand (Fixed slot reg))) IsEmpty _ (refl, refl)
-  ends_operand (Pointer slot reg) = ends_pure (Only (IsOperand (Pointer slot reg))) IsEmpty _ (refl, refl)
   ends_operand I8 = number I8 w8 _ refl (λ q. refl)
   ends_operand I16 = number I16 w16 _ refl (λ q. refl)
   ends_operand I32 = number I32 w32 _ refl (λ q. refl)
@@ -48,28 +39,18 @@ module _ (p : Prefixes) (m : ℕ) (memory : Option Raw) where
   ends_operand U16 = number U16 w16 _ refl (λ q. refl)
   ends_operand X8 = number X8 w8 _ refl (λ q. refl)
   ends_operand X16 = number X16 w16 _ refl (λ q. refl)
-  ends_operand (ConstantI8 z) = ends_pure (Only (IsOperand (ConstantI8 z))) IsEmpty _ (refl, refl)
-  ends_operand (ConstantU8 n) = ends_pure (Only (IsOperand (ConstantU8 n))) IsEmpty _ (refl, refl)
   ends_operand Address32 = number Address32 w32 _ refl (λ q. refl)
   ends_operand Address64 = number Address64 w64 _ refl (λ q. refl)
+  ends_operand s = ends_pure (Only (IsOperand s)) IsEmpty _ (refl, refl)
 
   plain : (y : Slot × Operand) (q : List ℕ) → length q ≡ 0 → Takes (pure y) q (Ok y)
-  plain y q none = subst (λ l. Takes (pure y) l (Ok y)) (sym (nil_of q none)) (takes_pure (Ok y))
+  plain y q none = subst (λ l. Takes (pure y) l (Ok y)) (sym (nil_from_length q none)) (takes_pure (Ok y))
 
   whole : (w : Width) (g : ℕ → Slot × Operand) (q : List ℕ) → length q ≡ byte_len w → Takes (number_step w >>= λ n. pure (g n)) q (Ok (g (from_le_bytes w q)))
   whole w g q e = takes_map (number_step w) g q (from_le_bytes w q) (takes_number w q e)
 
   pub takes_operand : (s : OperandEncoding) (q : List ℕ) → length q ≡ immediate_width s → Takes (operand_step s p m memory) q (Ok (operand_from s p m memory q))
   unfolding operand_step
-  takes_operand (G c) q e = plain _ q e
-  takes_operand Gmm q e = plain _ q e
-  takes_operand (E c) q e = plain _ q e
-  takes_operand Emm q e = plain _ q e
-  takes_operand M q e = plain _ q e
-  takes_operand (U c) q e = plain _ q e
-  takes_operand Umm q e = plain _ q e
-  takes_operand (Fixed slot reg) q e = plain _ q e
-  takes_operand (Pointer slot reg) q e = plain _ q e
   takes_operand I8 q e = whole w8 (λ n. (slots.ImmI8, operands.ImmediateI8 (cast_signed w8 n))) q e
   takes_operand I16 q e = whole w16 (λ n. (slots.ImmI16, operands.ImmediateI16 (cast_signed w16 n))) q e
   takes_operand I32 q e = whole w32 (λ n. (slots.ImmI32, operands.ImmediateI32 (cast_signed w32 n))) q e
@@ -80,10 +61,9 @@ module _ (p : Prefixes) (m : ℕ) (memory : Option Raw) where
   takes_operand U16 q e = whole w16 (λ n. (slots.ImmU16, operands.ImmediateU16 n)) q e
   takes_operand X8 q e = whole w8 (λ n. (slots.ImmInDisp, operands.ImmediateU16 n)) q e
   takes_operand X16 q e = whole w16 (λ n. (slots.ImmInDisp, operands.ImmediateU16 n)) q e
-  takes_operand (ConstantI8 z) q e = plain _ q e
-  takes_operand (ConstantU8 n) q e = plain _ q e
   takes_operand Address32 q e = whole w32 (λ n. (slots.DispU32, operands.AbsoluteU32 n)) q e
   takes_operand Address64 q e = whole w64 (λ n. (slots.DispU64, operands.AbsoluteU64 n)) q e
+  takes_operand s q e = plain _ q e
 
   -- ---- the operands in order
 

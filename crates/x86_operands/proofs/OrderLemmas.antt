@@ -1,6 +1,6 @@
 -- What an encoding writes in place is what its plan yields.
 use Rattle.std.proofs.Common.{◌≡◌, ℕ, Bool, true, false, not, if◌then◌else◌, ◌&&◌, ◌≢◌, IsTrue, refl, sym, ap, ◌∙◌, Ok, Err, Result, None, Some, Option, is_some}
-use Rattle.std.proofs.lemmas.Bool.{eqb-true}
+use Rattle.std.proofs.lemmas.Bool.{and_parts, eqb-true, not-true}
 use Rattle.x86_arch.specs.Reader.{State}
 use Rattle.x86_regs.specs.declared.RegisterClass.{RegisterClass}
 use Rattle.x86_regs.specs.declared.RegisterClass.TheVariants as class
@@ -126,54 +126,34 @@ abbrev last_put : Position → Result Pair DecodeError → State ℕ → Operand
 last_put Nowhere r t operand_list = pure operand_list
 last_put at r t operand_list = λ s. then_from r t (λ z. pure (put_in at z operand_list))
 
-in_order : {o : Order} → Named o → (r : Result Pair DecodeError) (t : State ℕ) (a b c : OperandEncoding) (x y : Pair) (size opcode : ℕ) (p : Prefixes) (m : ℕ) (memory : Option Raw) →
+in_order : {o : Order} (r : Result Pair DecodeError) → Named o → (t : State ℕ) (a b c : OperandEncoding) (x y : Pair) (size opcode : ℕ) (p : Prefixes) (m : ℕ) (memory : Option Raw) →
     ((s : State ℕ) → operand_step a p m memory s ≡ outcome (Ok x) s) →
     ((s : State ℕ) → operand_step b p m memory s ≡ outcome (Ok y) s) →
     (s : State ℕ) → operand_step c p m memory s ≡ outcome r t →
     (filled_step (list_of (encodings_in o a b c)) p m memory >>= λ operand_list. pure (reading_from (reads opcode (encodings_in o a b c) size) p opcode operand_list)) s
     ≡ (last_put o.last r t (put_in o.reg x (put_in o.rm y (sized o.count size))) >>= λ operand_list. pure (reading_with opcode p operand_list)) s
 unfolding filled_step operands_step
-in_order no_named r t a b c x y size opcode p m memory ha hb s hc = refl
-in_order r_named r t a b c x y size opcode p m memory ha hb s hc = rw (ha s) refl
-in_order e_named r t a b c x y size opcode p m memory ha hb s hc = rw (hb s) refl
-in_order e_g_named r t a b c x y size opcode p m memory ha hb s hc = rw (hb s, ha s) refl
-in_order g_e_named r t a b c x y size opcode p m memory ha hb s hc = rw (ha s, hb s) refl
-in_order i_named (Ok z) t a b c x y size opcode p m memory ha hb s hc = rw hc refl
-in_order i_named (Err e) t a b c x y size opcode p m memory ha hb s hc = rw hc refl
-in_order i_r_named (Ok z) t a b c x y size opcode p m memory ha hb s hc = rw (hc, ha t) refl
-in_order i_r_named (Err e) t a b c x y size opcode p m memory ha hb s hc = rw hc refl
-in_order r_i_named (Ok z) t a b c x y size opcode p m memory ha hb s hc = rw (ha s, hc) refl
-in_order r_i_named (Err e) t a b c x y size opcode p m memory ha hb s hc = rw (ha s, hc) refl
-in_order e_i_named (Ok z) t a b c x y size opcode p m memory ha hb s hc = rw (hb s, hc) refl
-in_order e_i_named (Err e) t a b c x y size opcode p m memory ha hb s hc = rw (hb s, hc) refl
-in_order e_g_i_named (Ok z) t a b c x y size opcode p m memory ha hb s hc = rw (hb s, ha s, hc) refl
-in_order e_g_i_named (Err e) t a b c x y size opcode p m memory ha hb s hc = rw (hb s, ha s, hc) refl
-in_order g_e_i_named (Ok z) t a b c x y size opcode p m memory ha hb s hc = rw (ha s, hb s, hc) refl
-in_order g_e_i_named (Err e) t a b c x y size opcode p m memory ha hb s hc = rw (ha s, hb s, hc) refl
+in_order (Ok z) no_named t a b c x y size opcode p m memory ha hb s hc = refl
+in_order (Err e) no_named t a b c x y size opcode p m memory ha hb s hc = refl
+in_order r h t a b c x y size opcode p m memory ha hb s hc = simp (ha, hb, hc)
 
 last_is : (at : Position) (l : Last) (p : Prefixes) (operand_list : Operands) (s : State ℕ) → last_put at (operand_step (last_encoding l p) p absent_modrm None s).answer (operand_step (last_encoding l p) p absent_modrm None s).after operand_list s ≡ last_read at l p operand_list s
-last_is First l p operand_list s = refl
-last_is Second l p operand_list s = refl
-last_is Third l p operand_list s = refl
 last_is Nowhere l p operand_list s = refl
+last_is at l p operand_list s = refl
 
 -- the operands after memory, at any encoding
 memory_following : (b : AfterOpcode) (o : Order) (wr we : Width) (l : Last) (n size opcode : ℕ) (p : Prefixes) (m : ℕ) (memory : Option Raw) → Named o → (s : State ℕ) →
     (filled_step (list_of (encodings_in o (reg_encoding b wr n p) (rm_encoding b we p) (last_encoding l p))) p m memory >>= λ operand_list. pure (reading_from (reads opcode (encodings_in o (reg_encoding b wr n p) (rm_encoding b we p) (last_encoding l p)) size) p opcode operand_list)) s
     ≡ (last_read o.last l p (put_in o.reg (reg_pair_of b wr n p m) (put_in o.rm (rm_pair_of b we p m memory) (sized o.count size))) >>= λ operand_list. pure (reading_with opcode p operand_list)) s
 memory_following b o wr we l n size opcode p m memory h s =
-    in_order h (operand_step (last_encoding l p) p absent_modrm None s).answer (operand_step (last_encoding l p) p absent_modrm None s).after (reg_encoding b wr n p) (rm_encoding b we p) (last_encoding l p) (reg_pair_of b wr n p m) (rm_pair_of b we p m memory) size opcode p m memory (reg_yields b wr n p m memory) (rm_yields b we p m memory) s (last_plain l p p m memory s)
+    in_order (operand_step (last_encoding l p) p absent_modrm None s).answer h (operand_step (last_encoding l p) p absent_modrm None s).after (reg_encoding b wr n p) (rm_encoding b we p) (last_encoding l p) (reg_pair_of b wr n p m) (rm_pair_of b we p m memory) size opcode p m memory (reg_yields b wr n p m memory) (rm_yields b we p m memory) s (last_plain l p p m memory s)
     ∙ ap (λ (u : Outcome Operands). then_from u.answer u.after (λ operand_list. pure (reading_with opcode p operand_list))) (last_is o.last l p (put_in o.reg (reg_pair_of b wr n p m) (put_in o.rm (rm_pair_of b we p m memory) (sized o.count size))) s)
 
 -- ---- the verdict
 
-not_true : (b : Bool) → not b ≡ true → b ≡ false
-not_true true h = cc
-not_true false h = refl
-
 accepted : (b : AfterOpcode) (m o size : ℕ) (encodings : OperandEncodings) → allows b m ≡ true → restricted_plan b m (reads o encodings size) ≡ reads o encodings size
 accepted after_opcode.Memory m o size encodings h = rw h refl
-accepted after_opcode.Registers m o size encodings h = rw (not_true (is_memory m) h) refl
+accepted after_opcode.Registers m o size encodings h = rw (not-true (is_memory m) h) refl
 accepted b m o size encodings h = refl
 
 -- ---- the memory operand
@@ -238,7 +218,7 @@ no_memory after_opcode.Memory m h a = cc
 no_memory (after_opcode.ByReg g) m h a = cc
 no_memory (after_opcode.ByPlan u) m h a = cc
 no_memory after_opcode.Group m h a = cc
-no_memory b m h a = not_true (is_memory m) a
+no_memory b m h a = not-true (is_memory m) a
 
 no_modrm : (b : AfterOpcode) → has_register b ≡ true → has_modrm b ≡ false
 no_modrm after_opcode.Opcode h = refl
@@ -262,17 +242,12 @@ Written o b wr we l x y size n opcode p m s =
     ≡ read_plan (reads opcode (encodings_in o (reg_encoding b wr n p) (rm_encoding b we p) (last_encoding l p)) size) p m s
 
 written : {o : Order} → Named o → (b : AfterOpcode) (wr we : Width) (l : Last) (x y : Size) (size n opcode : ℕ) (p : Prefixes) (m : ℕ) (s : State ℕ) → order_fits b o ≡ true → allows b m ≡ true → Written o b wr we l x y size n opcode p m s
-written no_named b wr we l x y size n opcode p m s f a = fixed_plan b _ wr we l n size opcode p m s (sized 0 size) no_named (not_true (has_modrm b) f) a refl
-written i_named b wr we l x y size n opcode p m s f a = fixed_plan b _ wr we l n size opcode p m s (sized 1 size) i_named (not_true (has_modrm b) f) a refl
+written no_named b wr we l x y size n opcode p m s f a = fixed_plan b _ wr we l n size opcode p m s (sized 0 size) no_named (not-true (has_modrm b) f) a refl
+written i_named b wr we l x y size n opcode p m s f a = fixed_plan b _ wr we l n size opcode p m s (sized 1 size) i_named (not-true (has_modrm b) f) a refl
 written r_named b wr we l x y size n opcode p m s f a = fixed_plan b _ wr we l n size opcode p m s (put_in First (fixed_pair b wr n p) (sized 1 size)) r_named (no_modrm b f) a (ap (λ r. put_in First r (sized 1 size)) (same_fixed b wr n p m f))
 written r_i_named b wr we l x y size n opcode p m s f a = fixed_plan b _ wr we l n size opcode p m s (put_in First (fixed_pair b wr n p) (sized 2 size)) r_i_named (no_modrm b f) a (ap (λ r. put_in First r (sized 2 size)) (same_fixed b wr n p m f))
 written i_r_named b wr we l x y size n opcode p m s f a = fixed_plan b _ wr we l n size opcode p m s (put_in Second (fixed_pair b wr n p) (sized 2 size)) i_r_named (no_modrm b f) a (ap (λ r. put_in Second r (sized 2 size)) (same_fixed b wr n p m f))
-written e_named b wr we l x y size n opcode p m s f a = modrm_plan b _ wr we l n size opcode p m s e_named f a
-written e_i_named b wr we l x y size n opcode p m s f a = modrm_plan b _ wr we l n size opcode p m s e_i_named f a
-written e_g_named b wr we l x y size n opcode p m s f a = modrm_plan b _ wr we l n size opcode p m s e_g_named f a
-written g_e_named b wr we l x y size n opcode p m s f a = modrm_plan b _ wr we l n size opcode p m s g_e_named f a
-written e_g_i_named b wr we l x y size n opcode p m s f a = modrm_plan b _ wr we l n size opcode p m s e_g_i_named f a
-written g_e_i_named b wr we l x y size n opcode p m s f a = modrm_plan b _ wr we l n size opcode p m s g_e_i_named f a
+written h b wr we l x y size n opcode p m s f a = modrm_plan b _ wr we l n size opcode p m s h f a
 
 pub plan_is_read : (e : FormEncoding) (n opcode : ℕ) (p : Prefixes) (m : ℕ) (s : State ℕ) → is_order e.order ≡ true → order_fits e.after_opcode e.order ≡ true → allows e.after_opcode m ≡ true →
     read_plan (plan_of e n opcode p m) p m s
@@ -291,14 +266,10 @@ last_there e h k = ends_at e.order.last e.last h k
 
 -- ---- a sound line
 
-both : (a b : Bool) → (a && b) ≡ true → (a ≡ true) × (b ≡ true)
-both true b h = (refl, h)
-both false b h = cc
-
 pub sound_parts : (e : FormEncoding) → is_sound e ≡ true → (is_order e.order ≡ true) × (order_fits e.after_opcode e.order ≡ true) × (has_last e.order e.last ≡ true)
 sound_parts e h =
-    let parts : (is_order e.order ≡ true) × ((order_fits e.after_opcode e.order && has_last e.order e.last) ≡ true) = both (is_order e.order) (order_fits e.after_opcode e.order && has_last e.order e.last) h in
-    let rest : (order_fits e.after_opcode e.order ≡ true) × (has_last e.order e.last ≡ true) = both (order_fits e.after_opcode e.order) (has_last e.order e.last) parts.1 in
+    let parts = and_parts (is_order e.order) (order_fits e.after_opcode e.order && has_last e.order e.last) h in
+    let rest = and_parts (order_fits e.after_opcode e.order) (has_last e.order e.last) parts.1 in
     (parts.0, rest.0, rest.1)
 
 pub allowed_is_described : (b : AfterOpcode) (m : ℕ) → allows b m ≡ true → IsTrue (is_described b)
@@ -310,10 +281,8 @@ allowed_is_described b m h = refl
 -- ---- in place
 
 pub encoded_at_position : (at : Position) (l : OperandEncoding) (p : Prefixes) (operand_list : Operands) (s : State ℕ) → at ≢ Nowhere → put_encoded (index_of_position at) l p absent_modrm None operand_list s ≡ encoded_read at l p operand_list s
-encoded_at_position First l p operand_list s h = refl
-encoded_at_position Second l p operand_list s h = refl
-encoded_at_position Third l p operand_list s h = refl
 encoded_at_position Nowhere l p operand_list s h = absurd (h refl)
+encoded_at_position at l p operand_list s h = refl
 
 pub rm_in_memory : (w : Width) (p : Prefixes) (m : ℕ) (raw : Raw) → rm_pair w p m (Some raw) ≡ shape raw
 rm_in_memory width.Mm p m raw = refl

@@ -1,12 +1,11 @@
 -- What holds of the plans of all plain forms.
-use Rattle.std.proofs.Common.{◌≡◌, ◌≢◌, ◌≤◌, inl, inr, ℕ, Option, Some, None, Err, true, false, rules, refl, sym, ap, ◌∙◌}
+use Rattle.std.proofs.Common.{◌≡◌, ◌≢◌, ◌≤◌, inl, inr, ℕ, Err, true, false, rules, sym, ap, ◌∙◌}
 use Rattle.x86_arch.specs.Reader.{State}
 use Rattle.x86_fields.specs.declared.errors.DecodeError.TheVariants.{IncompleteDecoder}
 use Rattle.x86_fields.specs.declared.prefixes.Prefixes.{Prefixes}
 use Rattle.x86_forms.specs.declared.Form.{Form}
 use Rattle.x86_forms.specs.declared.Form.TheVariants as form
 use Rattle.x86_forms.specs.Groups.{is_group}
-use Rattle.x86_operands.specs.declared.plans.Fault.{Fault}
 use Rattle.x86_operands.specs.declared.plans.Fault.TheVariants.{Incomplete}
 use Rattle.x86_operands.specs.declared.plans.Moment.{Moment}
 use Rattle.x86_operands.specs.declared.plans.Verdict.TheVariants.{Refuses}
@@ -17,14 +16,10 @@ use Rattle.x86_operands.specs.Forms.{form_plan, form_record}
 use Rattle.x86_operands.proofs.RowLemmas.{HasGap, row_left_out}
 use Rattle.x86_operands.proofs.PlanTests.{passes, small_steps, without_gap, at_most_64, at_most_8}
 
--- by the form, of which the last clause covers all that carry no number
+-- by the form
 plain_passes : (f : Form) (o : ℕ) (p : Prefixes) (m : ℕ) → passes (is_group f) (form_plan f o p m) ≡ true
 unfolding passes
 plain_passes (form.Zv_R n) o p m = search (rules, small_steps)
-plain_passes (form.Zv_AX_R n) o p m = search (rules, small_steps)
-plain_passes (form.Zb_Ib_R n) o p m = search (rules, small_steps)
-plain_passes (form.Zv_Ivq_R n) o p m = search (rules, small_steps)
-plain_passes (form.Zv_B n) o p m = search (rules, small_steps)
 plain_passes _ o p m = search (rules, small_steps)
 
 pub plain_built : (row : TableRow) (p : Prefixes) (m : ℕ) (w : Moment) → is_group row.form ≡ false → ((form_record row p).plan m).verdict ≢ Refuses Incomplete w
@@ -40,17 +35,11 @@ pub plain_narrow : (row : TableRow) (p : Prefixes) (m : ℕ) → immediates_widt
 unfolding form_record
 plain_narrow row p m = at_most_8 (is_group row.form) (form_plan row.form row.opcode p m) (plain_passes row.form row.opcode p m)
 
-pub plain_passed : (row : TableRow) (p : Prefixes) → (form_record row p).at_opcode ≡ None
-unfolding form_record
-plain_passed row p = refl
-
 -- a row of a plain form is never left out
 pub plain_read : (row : TableRow) (p : Prefixes) (s : State ℕ) → is_group row.form ≡ false → (record_step (form_record row p) p s).answer ≢ Err IncompleteDecoder
+unfolding form_record
 plain_read row p s plain h = by (row_left_out (form_record row p) p s h)
   where
     by : HasGap (form_record row p) p → ⊥
-    by (inl e) = absurd (none_apart (sym (plain_passed row p) ∙ e))
-      where
-        none_apart : ◌≡◌ {A = Option Fault} None (Some Incomplete) → ⊥
-        none_apart e = cc
+    by (inl e) = absurd cc
     by (inr (m, w, e)) = plain_built row p m w plain e

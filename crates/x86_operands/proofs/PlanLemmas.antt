@@ -1,5 +1,5 @@
 -- What a plan takes, and where it ends: its pieces, one after another.
-use Rattle.std.proofs.Common.{◌≡◌, ℕ, ◌+◌, Bool, true, false, if◌then◌else◌, List, [], ◌∷◌, ◌++◌, length, map, Option, Some, None, Result, Ok, Err, refl, sym, ap, subst, ◌∙◌, length-append}
+use Rattle.std.proofs.Common.{◌≡◌, ℕ, ◌+◌, Bool, true, false, if◌then◌else◌, List, [], ◌∷◌, ◌++◌, length, map, Option, Some, None, Result, Ok, Err, refl, sym, ap, subst, ◌∙◌, length-append, true≢false}
 use Rattle.std.proofs.lemmas.List.{append-nil}
 use Rattle.x86_fields.specs.declared.errors.DecodeError.{DecodeError}
 use Rattle.x86_fields.specs.declared.prefixes.Prefixes.{Prefixes}
@@ -8,7 +8,7 @@ use Rattle.x86_fields.specs.Raw.{read_raw}
 use Rattle.x86_fields.specs.Steps.{Step, pure, ◌>>=◌}
 use Rattle.x86_fields.specs.Pieces.{SpellsRaw, EndsBetween, raw_widths, total}
 use Rattle.x86_fields.proofs.StepLemmas.{Takes, takes_pure, takes_bind, takes_err}
-use Rattle.x86_fields.proofs.EndLemmas.{EndsWell, IsEmpty, Only, ends_pure, ends_bind, ends_then, ends_map, weaken, Halts, halts_bind, halts_empty, halts_refused, halts_same, over, final_err, bind_assoc}
+use Rattle.x86_fields.proofs.EndLemmas.{EndsWell, IsEmpty, Only, ends_pure, ends_bind, ends_then, ends_map, weaken, Halts, halts_bind, halts_empty, halts_same, over, final_err, bind_assoc}
 use Rattle.x86_fields.proofs.PieceLemmas.{takes_map, ends_raw, takes_raw, halts_raw, raw_long, none_there, more_missing, more_there, FirstPiece, nothing, piece, first_piece, between_nil}
 use Rattle.x86_operands.specs.declared.operands.Slot.{Slot}
 use Rattle.x86_operands.specs.declared.operands.Operand.{Operand}
@@ -18,7 +18,7 @@ use Rattle.x86_operands.specs.declared.plans.Moment.TheVariants.{AtModRM, AfterA
 use Rattle.x86_operands.specs.declared.plans.Fault.{Fault}
 use Rattle.x86_operands.specs.declared.plans.Fault.TheVariants.{BadOpcode}
 use Rattle.x86_operands.specs.declared.plans.Verdict.{Verdict}
-use Rattle.x86_operands.specs.declared.plans.Verdict.TheVariants.{Accepts, NamedBySuffix, Refuses}
+use Rattle.x86_operands.specs.declared.plans.Verdict.TheVariants.{NamedBySuffix, Refuses}
 use Rattle.x86_operands.specs.declared.plans.Plan.{Plan}
 use Rattle.x86_operands.specs.declared.reader.Reading.{Reading}
 use Rattle.x86_fields.specs.ModRM.{is_memory}
@@ -26,7 +26,7 @@ use Rattle.x86_operands.specs.Plans.{list_of}
 use Rattle.x86_operands.specs.PlanSteps.{FilledOperands, operands_step, filled_step, four_of, refuse_at, read_opcode, read_memory, read_plan, reading_from, error_of}
 use Rattle.x86_operands.specs.Pieces.{immediate_width, SpellsOperands, SpellsMemory, SpellsPieces, SpellsTail, RefusesTail, at_modrm, after_address, after_suffix, no_name, is_refusal, suffix_width, opcode_by, memory_widths, plan_widths, tail_widths}
 use Rattle.x86_operands.proofs.OperandLemmas.{ends_operands, takes_operands, halts_operands}
-use Rattle.x86_operands.proofs.VerdictLemmas.{Faults, Never, refuses_at, IsVerdict, ends_verdict, takes_passed, takes_refused, passed_other, passed_suffix, fault_error, IsNamed, ends_opcode, takes_opcode, takes_unnamed}
+use Rattle.x86_operands.proofs.VerdictLemmas.{Faults, Never, refuses_at, IsVerdict, ends_verdict, takes_passed, takes_refused, halts_verdict, passed_other, passed_suffix, fault_error, IsNamed, ends_opcode, takes_opcode, takes_unnamed}
 
 -- ---- the memory operand
 
@@ -37,17 +37,11 @@ memory_by false p m is = ends_pure (Only (SpellsMemory p m)) (λ q. EndsBetween 
 ends_memory : (p : Prefixes) (m : ℕ) → EndsWell (Only (SpellsMemory p m)) (λ q. EndsBetween (memory_widths m q) q) (read_memory p m)
 ends_memory p m = memory_by (is_memory m) p m refl
 
-bools : {A : Type 0} (b : Bool) → b ≡ true → b ≡ false → A
-bools b e f = absurd (apart (sym e ∙ f))
-  where
-    apart : true ≡ false → ⊥
-    apart e = cc
-
 takes_memory_by : (test : Bool) (p : Prefixes) (m : ℕ) (q : List ℕ) (memory : Option Raw) → is_memory m ≡ test → SpellsMemory p m q memory → Takes (if test then (read_raw p m >>= λ raw. pure (Some raw)) else pure None) q (Ok memory)
 takes_memory_by true p m q (Some raw) is h = takes_map (read_raw p m) Some q raw (takes_raw p m q raw h.1)
 takes_memory_by false p m q None is h = subst (λ l. Takes {X = Option Raw} (pure None) l (Ok None)) (sym h.1) (takes_pure (Ok None))
-takes_memory_by true p m q None is h = bools (is_memory m) is h.0
-takes_memory_by false p m q (Some raw) is h = bools (is_memory m) h.0 is
+takes_memory_by true p m q None is h = absurd (true≢false (sym is ∙ h.0))
+takes_memory_by false p m q (Some raw) is h = absurd (true≢false (sym h.0 ∙ is))
 
 takes_memory : (p : Prefixes) (m : ℕ) (q : List ℕ) (memory : Option Raw) → SpellsMemory p m q memory → Takes (read_memory p m) q (Ok memory)
 takes_memory p m q memory h = takes_memory_by (is_memory m) p m q memory refl h
@@ -72,16 +66,12 @@ PlanBetween plan m q = EndsBetween (tail_widths plan m q) q
 
 -- a verdict refuses at none of the three moments
 never : (v : Verdict) → refuses_at v AtModRM ≡ false → refuses_at v AfterAddress ≡ false → refuses_at v AfterSuffix ≡ false → is_refusal v ≡ false
-never Accepts a b c = refl
-never NamedBySuffix a b c = refl
 never (Refuses f AtModRM) a b c = cc
-never (Refuses f AfterAddress) a b c = cc
-never (Refuses f AfterSuffix) a b c = cc
+never v a b c = cc
 
 passed : (v : Verdict) (at : Moment) → is_refusal v ≡ false → refuses_at v at ≡ false
-passed Accepts at e = refl
-passed NamedBySuffix at e = refl
 passed (Refuses f moment) at e = cc
+passed v at e = refl
 
 no_suffix_opcode : (v : Verdict) (f : Fault) (at : Moment) (opcode : ℕ) (q : List ℕ) → v ≡ Refuses f at → opcode_by v opcode q ≡ Some opcode
 no_suffix_opcode v f at opcode q e = ap (λ o. opcode_by o opcode q) e
@@ -226,8 +216,7 @@ module _ (plan : Plan) (p : Prefixes) (m : ℕ) where
     where
       unnamed : (v : Verdict) → opcode_by v plan.opcode q ≡ None → v ≡ NamedBySuffix
       unnamed NamedBySuffix e = refl
-      unnamed Accepts e = cc
-      unnamed (Refuses f moment) e = cc
+      unnamed v e = cc
 
   halts_after_operands : (operand_pairs : FilledOperands) (q : List ℕ) → EndsBetween (suffix_width v ∷ []) q → Halts (after_operands operand_pairs) q
   halts_after_operands operand_pairs q k = by (first_piece (suffix_width v) [] q k)
@@ -245,17 +234,7 @@ module _ (plan : Plan) (p : Prefixes) (m : ℕ) where
       (halts_operands p m memory encodings (λ xs. after_operands (four_of xs)) (suffix_width v ∷ []) q (λ xs rest b. halts_after_operands (four_of xs) rest b) k)
 
   halts_after_memory : (memory : Option Raw) (q : List ℕ) → EndsBetween (plan_widths plan) q → Halts (after_memory memory) q
-  halts_after_memory memory q k = by v refl
-    where
-      go : refuses_at v AfterAddress ≡ false → Halts (after_memory memory) q
-      go e = halts_bind (refuse_at v AfterAddress) (λ _. after_address_step memory) [] q tt (takes_passed v AfterAddress e) (halts_address_step memory q k)
-
-      by : (o : Verdict) → v ≡ o → Halts (after_memory memory) q
-      by Accepts e = go (ap (λ o. refuses_at o AfterAddress) e)
-      by NamedBySuffix e = go (ap (λ o. refuses_at o AfterAddress) e)
-      by (Refuses f AfterAddress) e = halts_refused (refuse_at v AfterAddress) (λ _. after_address_step memory) q (error_of f) (fault_error f) (takes_refused v f AfterAddress e)
-      by (Refuses f AtModRM) e = go (passed_other v f AtModRM AfterAddress e refl)
-      by (Refuses f AfterSuffix) e = go (passed_other v f AfterSuffix AfterAddress e refl)
+  halts_after_memory memory q k = halts_verdict v AfterAddress (λ _. after_address_step memory) q (λ e. halts_address_step memory q k)
 
   halts_memory : (q : List ℕ) → Between q → Halts (read_memory p m >>= after_memory) q
   halts_memory q k = by (is_memory m) q k
@@ -267,14 +246,4 @@ module _ (plan : Plan) (p : Prefixes) (m : ℕ) where
 
   pub halts_plan : (q : List ℕ) → Between q → Halts (read_plan plan p m) q
   unfolding read_plan
-  halts_plan q k = by v refl
-    where
-      go : refuses_at v AtModRM ≡ false → Halts (refuse_at v AtModRM >>= (λ _. read_memory p m >>= after_memory)) q
-      go e = halts_bind (refuse_at v AtModRM) (λ _. read_memory p m >>= after_memory) [] q tt (takes_passed v AtModRM e) (halts_memory q k)
-
-      by : (o : Verdict) → v ≡ o → Halts (refuse_at v AtModRM >>= (λ _. read_memory p m >>= after_memory)) q
-      by Accepts e = go (ap (λ o. refuses_at o AtModRM) e)
-      by NamedBySuffix e = go (ap (λ o. refuses_at o AtModRM) e)
-      by (Refuses f AtModRM) e = halts_refused (refuse_at v AtModRM) (λ _. read_memory p m >>= after_memory) q (error_of f) (fault_error f) (takes_refused v f AtModRM e)
-      by (Refuses f AfterAddress) e = go (passed_other v f AfterAddress AtModRM e refl)
-      by (Refuses f AfterSuffix) e = go (passed_other v f AfterSuffix AtModRM e refl)
+  halts_plan q k = halts_verdict v AtModRM (λ _. read_memory p m >>= after_memory) q (λ e. halts_memory q k)

@@ -12,7 +12,7 @@ use Rattle.x86_operands.specs.declared.plans.Verdict.TheVariants.{Refuses}
 use Rattle.x86_operands.specs.declared.plans.Plan.{Plan}
 use Rattle.x86_operands.specs.declared.plans.PrefixChange.{PrefixChange}
 use Rattle.x86_operands.specs.declared.plans.OperandEncoding.{OperandEncoding}
-use Rattle.x86_operands.specs.declared.plans.OperandEncoding.TheVariants.{G, Gmm, E, Emm, M, U, Umm, Fixed, Pointer, I8, I16, I32, I64, I32From16, I64Whole, U8, U16, X8, X16, ConstantI8, ConstantU8, Address32, Address64}
+use Rattle.x86_operands.specs.declared.plans.OperandEncoding.TheVariants.{I8}
 use Rattle.x86_operands.specs.declared.plans.OperandEncodings.{OperandEncodings}
 use Rattle.x86_operands.specs.declared.plans.OperandEncodings.TheVariants.{One, Two, Three}
 use Rattle.x86_operands.specs.Pieces.{immediate_width}
@@ -37,29 +37,8 @@ unfoldable pub passes : Bool → Plan → Bool
 passes gaps plan = ((gaps || not (has_gap plan.verdict)) && nat_lt plan.size 65) && narrow plan.encodings
 
 width_small : (s : OperandEncoding) → nat_lt (immediate_width s) 9 ≡ true
-width_small (G c) = refl
-width_small Gmm = refl
-width_small (E c) = refl
-width_small Emm = refl
-width_small M = refl
-width_small (U c) = refl
-width_small Umm = refl
-width_small (Fixed slot reg) = refl
-width_small (Pointer slot reg) = refl
 width_small I8 = refl
-width_small I16 = refl
-width_small I32 = refl
-width_small I64 = refl
-width_small I32From16 = refl
-width_small I64Whole = refl
-width_small U8 = refl
-width_small U16 = refl
-width_small X8 = refl
-width_small X16 = refl
-width_small (ConstantI8 z) = refl
-width_small (ConstantU8 n) = refl
-width_small Address32 = refl
-width_small Address64 = refl
+width_small s = refl
 
 alone : (w : ℕ) → nat_lt w 9 ≡ true → nat_lt (w + 0) 9 ≡ true
 alone w h = grind (arith, nat_tests)

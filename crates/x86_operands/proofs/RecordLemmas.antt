@@ -50,13 +50,9 @@ ends_modrm Registers = ends_map IsByte IsEmpty (IsModrm Registers) next_byte as_
 
 takes_modrm : (u : ModrmUse) (q : List ℕ) → length q ≡ modrm_width u → Takes (read_modrm u) q (Ok (modrm_of u q))
 takes_modrm Absent [] e = takes_pure (Ok absent_modrm)
-takes_modrm Absent (m ∷ q) e = absurd (omega arith)
 takes_modrm EitherForm (m ∷ []) e = takes_map next_byte (λ m. m) (m ∷ []) m (takes_byte m)
-takes_modrm EitherForm [] e = absurd (omega arith)
-takes_modrm EitherForm (m ∷ n ∷ q) e = absurd (omega arith)
 takes_modrm Registers (m ∷ []) e = takes_map next_byte as_register (m ∷ []) m (takes_byte m)
-takes_modrm Registers [] e = absurd (omega arith)
-takes_modrm Registers (m ∷ n ∷ q) e = absurd (omega arith)
+takes_modrm u q e = absurd (omega arith)
 
 -- ---- the whole row
 
@@ -113,22 +109,15 @@ module _ (r : RowRecord) (p : Prefixes) where
   takes_row_refused q fault (past_opcode modrm tail passed h long s) = subst (λ l. Takes (record_step r p) l (Err (error_of fault))) (sym h)
       (takes_row_by modrm tail (Err (error_of fault)) passed long (takes_tail_refused (r.plan (modrm_of u modrm)) p (modrm_of u modrm) tail fault s))
 
-  halts_passed : (q : List ℕ) → r.at_opcode ≡ None → Halts after_fault q → Halts (record_step r p) q
+  halts_by : (q : List ℕ) → Halts after_fault q → (o : Option Fault) → r.at_opcode ≡ o → Halts (record_step r p) q
   unfolding record_step
-  halts_passed q passed t = halts_bind (refuse_fault r.at_opcode) (λ _. after_fault) [] q tt (takes_no_fault r.at_opcode passed) t
-
-  halts_fault : (q : List ℕ) (f : Fault) → r.at_opcode ≡ Some f → Halts (record_step r p) q
-  unfolding record_step
-  halts_fault q f e = halts_refused (refuse_fault r.at_opcode) (λ _. after_fault) q (error_of f) (fault_error f) (takes_fault r.at_opcode f e)
-
-  halts_tail : (modrm q : List ℕ) → length modrm ≡ modrm_width u → Halts (after_modrm (modrm_of u modrm)) q → Halts after_fault (modrm ++ q)
-  halts_tail modrm q e t = halts_bind (read_modrm u) after_modrm modrm q (modrm_of u modrm) (takes_modrm u modrm e) t
+  halts_by q t None passed = halts_bind (refuse_fault r.at_opcode) (λ _. after_fault) [] q tt (takes_no_fault r.at_opcode passed) t
+  halts_by q t (Some f) e = halts_refused (refuse_fault r.at_opcode) (λ _. after_fault) q (error_of f) (fault_error f) (takes_fault r.at_opcode f e)
 
   -- the row halts on bytes that end between its pieces
   pub halts_row : (q : List ℕ) → Between q → Halts (record_step r p) q
   halts_row q (before e) = subst (Halts (record_step r p)) (sym e) (halts_empty (record_step r p) ends_row)
-  halts_row q (with_modrm modrm tail h long k) = by r.at_opcode refl
-    where
-      by : (o : Option Fault) → r.at_opcode ≡ o → Halts (record_step r p) q
-      by None passed = halts_passed q passed (subst (Halts after_fault) (sym h) (halts_tail modrm tail long (halts_plan (r.plan (modrm_of u modrm)) p (modrm_of u modrm) tail k)))
-      by (Some f) e = halts_fault q f e
+  halts_row q (with_modrm modrm tail h long k) =
+      let m : ℕ = modrm_of u modrm in
+      let tail_halts : Halts after_fault (modrm ++ tail) = halts_bind (read_modrm u) after_modrm modrm tail m (takes_modrm u modrm long) (halts_plan (r.plan m) p m tail k) in
+      subst (Halts (record_step r p)) (sym h) (halts_by (modrm ++ tail) tail_halts r.at_opcode refl)

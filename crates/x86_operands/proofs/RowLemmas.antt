@@ -8,7 +8,7 @@ use Rattle.x86_fields.specs.declared.prefixes.Prefixes.{Prefixes}
 use Rattle.x86_fields.specs.Steps.{outcome}
 use Rattle.x86_fields.proofs.EndLemmas.{Ends, settles, runs_out, longest}
 use Rattle.x86_operands.specs.declared.plans.Fault.{Fault}
-use Rattle.x86_operands.specs.declared.plans.Fault.TheVariants.{BadOpcode, BadOperand, Incomplete}
+use Rattle.x86_operands.specs.declared.plans.Fault.TheVariants.{BadOpcode, Incomplete}
 use Rattle.x86_operands.specs.declared.plans.Moment.{Moment}
 use Rattle.x86_operands.specs.declared.plans.Moment.TheVariants.{AtModRM, AfterAddress, AfterSuffix}
 use Rattle.x86_operands.specs.declared.plans.Verdict.TheVariants.{Refuses}
@@ -18,27 +18,18 @@ use Rattle.x86_operands.specs.PlanSteps.{record_step, error_of}
 use Rattle.x86_operands.specs.Pieces.{modrm_of, SpellsRow, RefusesTail, at_modrm, after_address, after_suffix, no_name, RefusesRow, at_opcode, past_opcode, BetweenRow, IsReadRow, IsRefusedRow, IsOpenRow}
 use Rattle.x86_operands.proofs.RecordLemmas.{RowYields, ends_row, takes_row, takes_row_refused, halts_row}
 
-same_error : (d e : DecodeError) → ◌≡◌ {A = Result Reading DecodeError} (Err d) (Err e) → d ≡ e
-same_error d e h = cc
-
-not_ok : (e : DecodeError) (reading : Reading) → ◌≡◌ {A = Result Reading DecodeError} (Err e) (Ok reading) → ⊥
-not_ok e reading h = cc
-
 -- none of the faults is one of these errors
 not_prefixes : (f : Fault) → error_of f ≢ InvalidPrefixes
 not_prefixes BadOpcode e = cc
-not_prefixes BadOperand e = cc
-not_prefixes Incomplete e = cc
+not_prefixes _ e = cc
 
 not_long : (f : Fault) → error_of f ≢ TooLong
 not_long BadOpcode e = cc
-not_long BadOperand e = cc
-not_long Incomplete e = cc
+not_long _ e = cc
 
 one_gap : (f : Fault) → error_of f ≡ IncompleteDecoder → f ≡ Incomplete
 one_gap BadOpcode e = cc
-one_gap BadOperand e = cc
-one_gap Incomplete e = cc
+one_gap _ e = cc
 
 module _ (r : RowRecord) (p : Prefixes) where
   -- a record or one of its plans refuses as left out
@@ -62,12 +53,12 @@ module _ (r : RowRecord) (p : Prefixes) where
 
     pub row_read : (reading : Reading) → (record_step r p s).answer ≡ Ok reading → IsReadRow r p reading s (record_step r p s).after
     row_read reading h =
-        let took = settled (Ok reading) h (λ e. not_ok ExhaustedInput reading (sym e)) in
+        let took = settled (Ok reading) h (λ e. cc) in
         record { bytes = took.0; rest = took.1; beginning = took.2; spelled = took.3; taken = took.4 }
 
     pub row_refused : (e : DecodeError) → (record_step r p s).answer ≡ Err e → e ≢ ExhaustedInput → IsRefusedRow r p e s (record_step r p s).after
     row_refused e h other =
-        let took = settled (Err e) h (λ x. other (same_error e ExhaustedInput x)) in
+        let took = settled (Err e) h (λ x. other cc) in
         let fault = took.3 in
         record { fault = fault.0; named = fault.1; bytes = took.0; rest = took.1; beginning = took.2; refuses = fault.2; taken = took.4 }
 
@@ -104,10 +95,7 @@ module _ (r : RowRecord) (p : Prefixes) where
     gap_of_tail m tail f is (at_modrm e _) = inr (m, AtModRM, e ∙ ap (λ x. Refuses x AtModRM) is)
     gap_of_tail m tail f is (after_address _ e _) = inr (m, AfterAddress, e ∙ ap (λ x. Refuses x AfterAddress) is)
     gap_of_tail m tail f is (after_suffix e _) = inr (m, AfterSuffix, e ∙ ap (λ x. Refuses x AfterSuffix) is)
-    gap_of_tail m tail f is (no_name _ _ _ e) = absurd (named (sym e ∙ is))
-      where
-        named : BadOpcode ≡ Incomplete → ⊥
-        named e = cc
+    gap_of_tail m tail f is (no_name _ _ _ e) = let named : BadOpcode ≡ Incomplete = sym e ∙ is in absurd cc
 
     gap_of_row : (bytes : List ℕ) (f : Fault) → f ≡ Incomplete → RefusesRow r p bytes f → HasGap
     gap_of_row bytes f is (at_opcode e _) = inl (e ∙ ap (λ x. Some x) is)

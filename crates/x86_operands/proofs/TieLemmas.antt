@@ -12,9 +12,9 @@ use Rattle.x86_operands.specs.declared.operands.Operand.TheVariants as operands
 use Rattle.x86_operands.specs.declared.plans.RegisterSlot.TheVariants as reg_slot
 use Rattle.x86_operands.specs.declared.plans.PointerSlot.TheVariants as pointer
 use Rattle.x86_operands.specs.declared.plans.OperandEncoding.{OperandEncoding}
-use Rattle.x86_operands.specs.declared.plans.OperandEncoding.TheVariants.{G, Gmm, E, Emm, M, U, Umm, Fixed, Pointer, I8, I16, I32, I64, I32From16, I64Whole, U8, U16, X8, X16, ConstantI8, ConstantU8, Address32, Address64}
+use Rattle.x86_operands.specs.declared.plans.OperandEncoding.TheVariants.{E, Emm, M, U, Umm, Fixed, Pointer}
 use Rattle.x86_operands.specs.declared.plans.OperandEncodings.{OperandEncodings}
-use Rattle.x86_operands.specs.declared.plans.OperandEncodings.TheVariants.{Zero, One, Two, Three, Four}
+use Rattle.x86_operands.specs.declared.plans.OperandEncodings.TheVariants.{Zero}
 use Rattle.x86_operands.specs.declared.plans.Plan.{Plan}
 use Rattle.x86_operands.specs.declared.reader.Reading.{Reading}
 use Rattle.x86_fields.specs.Raw.{is_zero}
@@ -45,40 +45,14 @@ unfolding shape
 shape_tied raw = shape_by_tied (base_of raw) (index_of raw) (scale_by raw.sib) raw.disp
 
 operand_tied : (s : OperandEncoding) (p : Prefixes) (m : ℕ) (memory : Option Raw) (bytes : List ℕ) → IsTied (operand_from s p m memory bytes)
-operand_tied (G c) p m memory bytes = (refl, refl)
-operand_tied Gmm p m memory bytes = (refl, refl)
-operand_tied (E c) p m None bytes = (refl, refl)
 operand_tied (E c) p m (Some raw) bytes = shape_tied raw
-operand_tied Emm p m None bytes = (refl, refl)
 operand_tied Emm p m (Some raw) bytes = shape_tied raw
-operand_tied M p m None bytes = (refl, refl)
 operand_tied M p m (Some raw) bytes = shape_tied raw
-operand_tied (U c) p m None bytes = (refl, refl)
 operand_tied (U c) p m (Some raw) bytes = shape_tied raw
-operand_tied Umm p m None bytes = (refl, refl)
 operand_tied Umm p m (Some raw) bytes = shape_tied raw
 operand_tied (Fixed reg_slot.Reg reg) p m memory bytes = (refl, refl)
-operand_tied (Fixed reg_slot.Rm reg) p m memory bytes = (refl, refl)
-operand_tied (Fixed reg_slot.Third reg) p m memory bytes = (refl, refl)
 operand_tied (Pointer pointer.Deref reg) p m memory bytes = (refl, refl)
-operand_tied (Pointer pointer.DerefEsi reg) p m memory bytes = (refl, refl)
-operand_tied (Pointer pointer.DerefEdi reg) p m memory bytes = (refl, refl)
-operand_tied (Pointer pointer.DerefRsi reg) p m memory bytes = (refl, refl)
-operand_tied (Pointer pointer.DerefRdi reg) p m memory bytes = (refl, refl)
-operand_tied I8 p m memory bytes = (refl, refl)
-operand_tied I16 p m memory bytes = (refl, refl)
-operand_tied I32 p m memory bytes = (refl, refl)
-operand_tied I64 p m memory bytes = (refl, refl)
-operand_tied I32From16 p m memory bytes = (refl, refl)
-operand_tied I64Whole p m memory bytes = (refl, refl)
-operand_tied U8 p m memory bytes = (refl, refl)
-operand_tied U16 p m memory bytes = (refl, refl)
-operand_tied X8 p m memory bytes = (refl, refl)
-operand_tied X16 p m memory bytes = (refl, refl)
-operand_tied (ConstantI8 z) p m memory bytes = (refl, refl)
-operand_tied (ConstantU8 n) p m memory bytes = (refl, refl)
-operand_tied Address32 p m memory bytes = (refl, refl)
-operand_tied Address64 p m memory bytes = (refl, refl)
+operand_tied s p m memory bytes = (refl, refl)
 
 -- ---- the operands of a plan
 
@@ -98,10 +72,7 @@ operands_tied (s ∷ rest) p m memory bytes operand_pairs h =
 
 at_most_four : (ss : OperandEncodings) → length (list_of ss) ≤ 4
 at_most_four Zero = omega arith
-at_most_four (One a) = omega arith
-at_most_four (Two a b) = omega arith
-at_most_four (Three a b c) = omega arith
-at_most_four (Four a b c d) = omega arith
+at_most_four ss = omega arith
 
 -- ---- ModRM's memory operand
 
@@ -109,26 +80,7 @@ modrm_yields : (s : OperandEncoding) (p : Prefixes) (m : ℕ) (raw : Raw) (bytes
 modrm_yields (E c) p m raw bytes e = refl
 modrm_yields Emm p m raw bytes e = refl
 modrm_yields M p m raw bytes e = refl
-modrm_yields (G c) p m raw bytes e = absurd cc
-modrm_yields Gmm p m raw bytes e = absurd cc
-modrm_yields (U c) p m raw bytes e = absurd cc
-modrm_yields Umm p m raw bytes e = absurd cc
-modrm_yields (Fixed slot reg) p m raw bytes e = absurd cc
-modrm_yields (Pointer slot reg) p m raw bytes e = absurd cc
-modrm_yields I8 p m raw bytes e = absurd cc
-modrm_yields I16 p m raw bytes e = absurd cc
-modrm_yields I32 p m raw bytes e = absurd cc
-modrm_yields I64 p m raw bytes e = absurd cc
-modrm_yields I32From16 p m raw bytes e = absurd cc
-modrm_yields I64Whole p m raw bytes e = absurd cc
-modrm_yields U8 p m raw bytes e = absurd cc
-modrm_yields U16 p m raw bytes e = absurd cc
-modrm_yields X8 p m raw bytes e = absurd cc
-modrm_yields X16 p m raw bytes e = absurd cc
-modrm_yields (ConstantI8 z) p m raw bytes e = absurd cc
-modrm_yields (ConstantU8 n) p m raw bytes e = absurd cc
-modrm_yields Address32 p m raw bytes e = absurd cc
-modrm_yields Address64 p m raw bytes e = absurd cc
+modrm_yields s p m raw bytes e = absurd cc
 
 abbrev HasShape : List (Slot × Operand) → ℕ → Raw → Type 0
 HasShape xs k raw = (k < length xs) × (pair_at xs k ≡ shape raw)
@@ -148,7 +100,7 @@ same_address_size p m bytes None raw h e = absurd cc
 same_address_size p m bytes (Some other) raw h e =
     let same : other ≡ raw = cc in
     let fields = h.1.fields in
-    ap (λ x. x.address_size) (sym same) ∙ ap (λ x. x.address_size) fields
+    ap (λ x. x.address_size) (sym same ∙ fields)
 
 -- ---- indices
 
@@ -158,19 +110,19 @@ pair_beyond [] k le = refl
 pair_beyond (x ∷ xs) zero le = absurd (omega arith)
 pair_beyond (x ∷ xs) (suc k) le = pair_beyond xs k (omega arith)
 
-slot_in : (xs : List (Slot × Operand)) (k : ℕ) → length xs ≤ 4 → slice_index_or (four_of xs).slots k slots.Nothing ≡ (pair_at xs k).0
-slot_in xs zero few = refl
-slot_in xs (suc zero) few = refl
-slot_in xs (suc (suc zero)) few = refl
-slot_in xs (suc (suc (suc zero))) few = refl
-slot_in xs (suc (suc (suc (suc k)))) few = sym (ap (λ x. x.0) (pair_beyond xs (suc (suc (suc (suc k)))) (omega arith)))
+-- what is read at an index is of the pair there
+abbrev IsPairIn : List (Slot × Operand) → ℕ → Type 0
+IsPairIn xs k =
+    (slice_index_or (four_of xs).slots k slots.Nothing ≡ (pair_at xs k).0)
+    × (slice_index_or (four_of xs).operands k operands.Nothing ≡ (pair_at xs k).1)
 
-operand_in : (xs : List (Slot × Operand)) (k : ℕ) → length xs ≤ 4 → slice_index_or (four_of xs).operands k operands.Nothing ≡ (pair_at xs k).1
-operand_in xs zero few = refl
-operand_in xs (suc zero) few = refl
-operand_in xs (suc (suc zero)) few = refl
-operand_in xs (suc (suc (suc zero))) few = refl
-operand_in xs (suc (suc (suc (suc k)))) few = sym (ap (λ x. x.1) (pair_beyond xs (suc (suc (suc (suc k)))) (omega arith)))
+pair_in : (xs : List (Slot × Operand)) (k : ℕ) → length xs ≤ 4 → IsPairIn xs k
+pair_in xs zero few = (refl, refl)
+pair_in xs (suc zero) few = (refl, refl)
+pair_in xs (suc (suc zero)) few = (refl, refl)
+pair_in xs (suc (suc (suc zero))) few = (refl, refl)
+pair_in xs (suc (suc (suc (suc k)))) few =
+    let none = pair_beyond xs (suc (suc (suc (suc k)))) (omega arith) in (sym (ap (λ x. x.0) none), sym (ap (λ x. x.1) none))
 
 module _ (r : RowRecord) (p : Prefixes) (bytes : List ℕ) (reading : Reading) (row_spelled : SpellsRow r p bytes reading) where
   abbrev operand_pairs : List (Slot × Operand)
@@ -192,10 +144,10 @@ module _ (r : RowRecord) (p : Prefixes) (bytes : List ℕ) (reading : Reading) (
   few_pairs = let t = tied.0 in let f = at_most_four (plan).encodings in omega arith
 
   slot_here : (k : ℕ) → slot_read reading k ≡ (pair_at operand_pairs k).0
-  slot_here k = ap (λ x. slice_index_or x.slots k slots.Nothing) row_spelled.tail_spelled.yields ∙ slot_in operand_pairs k few_pairs
+  slot_here k = ap (λ x. slice_index_or x.slots k slots.Nothing) row_spelled.tail_spelled.yields ∙ (pair_in operand_pairs k few_pairs).0
 
   operand_here : (k : ℕ) → operand_read reading k ≡ (pair_at operand_pairs k).1
-  operand_here k = ap (λ x. slice_index_or x.operands k operands.Nothing) row_spelled.tail_spelled.yields ∙ operand_in operand_pairs k few_pairs
+  operand_here k = ap (λ x. slice_index_or x.operands k operands.Nothing) row_spelled.tail_spelled.yields ∙ (pair_in operand_pairs k few_pairs).1
 
   nothing_here : (k : ℕ) → reading.count ≤ k → pair_at operand_pairs k ≡ (slots.Nothing, operands.Nothing)
   nothing_here k le = pair_beyond operand_pairs k (let c = counts in omega arith)

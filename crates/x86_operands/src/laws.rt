@@ -38,12 +38,14 @@ pub fn values_are_equal()
 {}
 
 /// No record of a plain form refuses at the opcode byte.
+#[tactic(auto, unfolding(crate::specs::Forms::form_record))]
 pub fn plain_forms_pass_the_opcode()
     ensures { (row : TableRow) (p : Prefixes) → (form_record row p).at_opcode ≡ None }
 {}
 
 /// Each plain form is built: no plan of its record refuses as `Incomplete`, so `read_form` never answers
 /// `IncompleteDecoder`.
+#[tactic(auto, using(crate::proofs::PlainLemmas::plain_built, crate::proofs::PlainLemmas::plain_read))]
 pub fn plain_forms_are_built()
     ensures plan { (row : TableRow) (p : Prefixes) (m : ℕ) (w : Moment) →
         is_group row.form ≡ false → ((form_record row p).plan m).verdict ≢ Refuses Incomplete w }
@@ -52,12 +54,14 @@ pub fn plain_forms_are_built()
 {}
 
 /// The memory size of each plan is at most 64 bytes.
+#[tactic(auto, using(crate::proofs::PlainLemmas::plain_small))]
 pub fn plain_sizes_are_small()
     ensures { (row : TableRow) (p : Prefixes) (m : ℕ) → ((form_record row p).plan m).size ≤ 64 }
 {}
 
 /// The shape of raw fields has their address form, so `address_of` and `Operand::address` of the shape agree at every
 /// register file and next pointer. Source: Intel SDM volume 2, section 2.1.5.
+#[tactic(auto, using(crate::proofs::ShapeLemmas::shape_has_form, crate::proofs::ShapeLemmas::shape_has_address))]
 pub fn shapes_have_the_address()
     ensures form { (raw : Raw) → FitsSigned w32 raw.disp →
         operand_form raw.address_size (shape raw).1 ≡ Some (raw_form raw) }
@@ -69,6 +73,7 @@ pub fn shapes_have_the_address()
 /// What `read_form` and `read_group` take, and any reader of a record. On Ok these are the pieces that the record
 /// has, wherever the bytes begin with them; after a refusal those up to its moment; and at `ExhaustedInput` those
 /// before the first that isn't whole.
+#[tactic(auto, using(crate::proofs::RowLemmas::row_read, crate::proofs::RowLemmas::row_refused, crate::proofs::RowLemmas::row_open))]
 pub fn rows_are_read()
     ensures whole { (r : RowRecord) (p : Prefixes) (s : State ℕ) (reading : Reading) →
         (record_step r p s).answer ≡ Ok reading →
@@ -89,6 +94,7 @@ pub fn rows_are_read()
 
 /// No reader of a record answers `InvalidPrefixes` or `TooLong`, and `IncompleteDecoder` comes only where the record
 /// or one of its plans refuses so.
+#[tactic(auto, using(crate::proofs::RowLemmas::row_has_no_prefixes, crate::proofs::RowLemmas::row_has_no_length, crate::proofs::RowLemmas::row_left_out))]
 pub fn rows_refuse_by_faults()
     ensures no_prefixes { (r : RowRecord) (p : Prefixes) (s : State ℕ) →
         (record_step r p s).answer ≢ Err InvalidPrefixes }
@@ -101,6 +107,7 @@ pub fn rows_refuse_by_faults()
 
 /// A reading has at most four operands. None of them is `Nothing`, masked, rounded or an unsigned immediate of 32 or
 /// 64 bits, the slot of an immediate has that immediate, and after the last operand there is `Nothing`.
+#[tactic(auto, using(crate::proofs::TieLemmas::read_tied))]
 pub fn readings_are_tied()
     ensures read { (r : RowRecord) (p : Prefixes) (s : State ℕ) (reading : Reading) →
         (record_step r p s).answer ≡ Ok reading → AreTied reading }
@@ -109,6 +116,7 @@ pub fn readings_are_tied()
 {}
 
 /// Where a record writes ModRM's memory operand, it is the shape of the raw fields. Their 67 is that of the prefixes.
+#[tactic(auto, using(crate::proofs::TieLemmas::memory_size_is))]
 pub fn memory_operands_are_shapes()
     ensures shapes { (r : RowRecord) (p : Prefixes)
         (bytes : List ℕ) (reading : Reading) (row_spelled : SpellsRow r p bytes reading)

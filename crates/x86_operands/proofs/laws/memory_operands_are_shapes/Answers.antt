@@ -1,8 +1,5 @@
-use Rattle.x86_operands.proofs.TieLemmas.{memory_is_shape, memory_size_is}
+use Rattle.x86_operands.proofs.TieLemmas.{memory_is_shape}
 use Rattle.x86_operands.proofs.laws.memory_operands_are_shapes.Goals as goal
 
 pub returns-clause-shapes : goal.returns-clause-shapes
 returns-clause-shapes c = memory_is_shape
-
-pub returns-clause-address_size : goal.returns-clause-address_size
-returns-clause-address_size c = memory_size_is
