@@ -7,8 +7,8 @@ use Rattle.std.proofs.lemmas.List.{append-nil, take-append-drop, take-append-le}
 use Rattle.x86_arch.specs.Reader.{State, advanced}
 use Rattle.x86_fields.specs.declared.errors.DecodeError.{DecodeError}
 use Rattle.x86_fields.specs.declared.errors.DecodeError.TheVariants.{ExhaustedInput}
-use Rattle.x86_fields.specs.Steps.{Step, Outcome, outcome, then_from, pure, refuse, ◌>>=◌, next_byte, byte_of, next_bytes}
-use Rattle.x86_fields.proofs.StepLemmas.{Takes, fresh, advanced_twice, advanced_zero, takes_pure, takes_bind, takes_err, takes_byte, takes_bytes}
+use Rattle.x86_fields.specs.Steps.{Step, outcome, then_from, pure, refuse, ◌>>=◌, next_byte, byte_of, next_bytes}
+use Rattle.x86_fields.proofs.StepLemmas.{Takes, fresh, advanced_zero, takes_pure, bound, takes_bind, takes_err, takes_byte, takes_bytes}
 
 -- an answer that isn't for want of bytes
 abbrev pub IsFinal : {X : Type 0} → Result X DecodeError → Type 0
@@ -18,16 +18,10 @@ pub final_ok : {X : Type 0} (x : X) → IsFinal (Ok x)
 final_ok x e = cc
 
 pub final_err : {X : Type 0} (e : DecodeError) → e ≢ ExhaustedInput → IsFinal {X = X} (Err e)
-final_err {X} e d h = d (same h)
-  where
-    same : ◌≡◌ {A = Result X DecodeError} (Err e) (Err ExhaustedInput) → e ≡ ExhaustedInput
-    same h = cc
+final_err e d h = d cc
 
 pub final_other : {X Y : Type 0} (e : DecodeError) → IsFinal {X = X} (Err e) → IsFinal {X = Y} (Err e)
-final_other {X} {Y} e d h = d (ap (λ f. Err f) (same h))
-  where
-    same : ◌≡◌ {A = Result Y DecodeError} (Err e) (Err ExhaustedInput) → e ≡ ExhaustedInput
-    same h = cc
+final_other e d h = d cc
 
 -- On q and these bytes after it, f takes q and runs out.
 abbrev pub OutAt : {X : Type 0} → Step X → List ℕ → List ℕ → Type 0
@@ -108,11 +102,7 @@ ends_ok A B m f s q rest x h t (settles p more r e u d a) =
 ends_ok A B m f s q rest x h t (runs_out p more e b u) =
     let after : rest ≡ p ++ more = sym (ap (drop (length q)) h ∙ drop-append_seam q rest) ∙ e in
     runs_out (q ++ p) more (h ∙ ap (λ l. q ++ l) after ∙ sym (append_assoc q p more)) b (λ beginning back part w left.
-    let split : w.left ≡ q ++ (p ++ beginning) = left ∙ append_assoc q p beginning in
-    let following : drop (length q) w.left ≡ p ++ beginning = ap (drop (length q)) split ∙ drop-append_seam q (p ++ beginning) in
-    ap (λ o. then_from o.answer o.after f) (t.takes (p ++ beginning) w split)
-    ∙ u beginning back part (advanced (length q) w) following
-    ∙ ap (λ a. outcome (Err ExhaustedInput) a) (advanced_twice (length q) (length p) w ∙ ap (λ n. advanced n w) (sym (length-append q p))))
+    bound m f q p beginning x (Err ExhaustedInput) t (u beginning back part) w (left ∙ append_assoc q p beginning))
 
 ends_at : {X Y : Type 0} (A₁ : List ℕ → Result X DecodeError → Type 0) (B₁ : List ℕ → Type 0) (A : List ℕ → Result Y DecodeError → Type 0) (B : List ℕ → Type 0) (m : Step X) (f : X → Step Y) (s : State ℕ)
     → ((q : List ℕ) → B₁ q → B q) → ((q : List ℕ) (e : DecodeError) → A₁ q (Err e) → A q (Err e))
@@ -145,6 +135,12 @@ ends_map P B Q m g first each = ends_then P B (Only Q) B m (λ x. pure (g x)) fi
 abbrev pub Out : {X : Type 0} → Step X → List ℕ → Type 0
 Out f q = (s : State ℕ) → s.left ≡ q → f s ≡ outcome (Err ExhaustedInput) (advanced (length q) s)
 
+pub out_bind : {X Y : Type 0} (m : Step X) (f : X → Step Y) (q : List ℕ) → Out m q → Out (m >>= f) q
+out_bind m f q u s h = ap (λ o. then_from o.answer o.after f) (u s h)
+
+pub out_after : {X Y : Type 0} (m : Step X) (f : X → Step Y) (p q : List ℕ) (x : X) → Takes m p (Ok x) → Out (f x) q → Out (m >>= f) (p ++ q)
+out_after m f p q x t u s h = bound m f p q [] x (Err ExhaustedInput) t (λ w k. u w (k ∙ append-nil q)) s (h ∙ ap (λ l. p ++ l) (sym (append-nil q)))
+
 pub data Halts {X : Type 0} (f : Step X) (q : List ℕ) : Type 0 where
   out : Out f q → Halts f q
   over : (p rest : List ℕ) (r : Result X DecodeError) → q ≡ p ++ rest → Takes f p r → IsFinal r → Halts f q
@@ -159,17 +155,11 @@ pub halts_empty : {X : Type 0} {A : List ℕ → Result X DecodeError → Type 0
 halts_empty f e = halts_none f (e (fresh []))
 
 pub halts_bind : {X Y : Type 0} (m : Step X) (f : X → Step Y) (p q : List ℕ) (x : X) → Takes m p (Ok x) → Halts (f x) q → Halts (m >>= f) (p ++ q)
-halts_bind m f p q x t (out u) = out (λ s h.
-    ap (λ o. then_from o.answer o.after f) (t.takes q s h)
-    ∙ u (advanced (length p) s) (ap (drop (length p)) h ∙ drop-append_seam p q)
-    ∙ ap (λ a. outcome (Err ExhaustedInput) a) (advanced_twice (length p) (length q) s ∙ ap (λ n. advanced n s) (sym (length-append p q))))
+halts_bind m f p q x t (out u) = out (out_after m f p q x t u)
 halts_bind m f p q x t (over a rest r e u d) = over (p ++ a) rest r (ap (λ l. p ++ l) e ∙ sym (append_assoc p a rest)) (takes_bind m f p a x r t u) d
 
 pub halts_refused : {X Y : Type 0} (m : Step X) (f : X → Step Y) (q : List ℕ) (e : DecodeError) → e ≢ ExhaustedInput → Takes m [] (Err e) → Halts (m >>= f) q
 halts_refused m f q e d t = over [] q (Err e) refl (takes_err m f [] e t) (final_err e d)
-
-pub halts_out : {X Y : Type 0} (m : Step X) (f : X → Step Y) (q : List ℕ) → Out m q → Halts (m >>= f) q
-halts_out m f q u = out (λ s h. ap (λ o. then_from o.answer o.after f) (u s h))
 
 pub halts_same : {X : Type 0} (f g : Step X) (q : List ℕ) → ((s : State ℕ) → g s ≡ f s) → Halts f q → Halts g q
 halts_same f g q e (out u) = out (λ s h. e s ∙ u s h)
@@ -204,15 +194,6 @@ longest f q rest p more u h st = by (cases_lt (length q) (length p))
     by : (length q < length p) ⊎ (length p ≤ length q) → length p ≤ length q
     by (inl less) = longer f q rest p more u h less st
     by (inr le) = le
-
-pub out_bind : {X Y : Type 0} (m : Step X) (f : X → Step Y) (q : List ℕ) → Out m q → Out (m >>= f) q
-out_bind m f q u s h = ap (λ o. then_from o.answer o.after f) (u s h)
-
-pub out_after : {X Y : Type 0} (m : Step X) (f : X → Step Y) (p q : List ℕ) (x : X) → Takes m p (Ok x) → Out (f x) q → Out (m >>= f) (p ++ q)
-out_after m f p q x t u s h =
-    ap (λ o. then_from o.answer o.after f) (t.takes q s h)
-    ∙ u (advanced (length p) s) (ap (drop (length p)) h ∙ drop-append_seam p q)
-    ∙ ap (λ a. outcome (Err ExhaustedInput) a) (advanced_twice (length p) (length q) s ∙ ap (λ n. advanced n s) (sym (length-append p q)))
 
 pub out_byte : Out next_byte []
 unfolding next_byte

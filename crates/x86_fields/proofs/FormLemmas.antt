@@ -1,16 +1,16 @@
 -- Two address forms are equal where their values agree.
-use Rattle.std.proofs.Common.{◌≡◌, ◌≢◌, ℕ, zero, suc, ◌+◌, ◌-◌, ◌*◌, ◌%◌, ◌<◌, ◌≤◌, ◌^◌, ◌==◌, nat_le, nat_lt, Bool, true, false, ◌&&◌, if◌then◌else◌, List, [], ◌∷◌, refl, sym, ap, ◌∙◌, arith, Option, Some, None, ℤ, pos, negsuc}
+use Rattle.std.proofs.Common.{◌⊎◌, inl, inr, ◌≡◌, ◌≢◌, ℕ, zero, suc, ◌+◌, ◌-◌, ◌*◌, ◌%◌, ◌<◌, ◌≤◌, ◌^◌, ◌==◌, nat_le, nat_lt, Bool, true, false, ◌&&◌, if◌then◌else◌, List, [], ◌∷◌, refl, sym, ap, ◌∙◌, arith, Option, Some, None, ℤ, pos, negsuc}
 use Rattle.std.specs.Prelude.{slice_index, slice_set, FitsSigned}
 use Rattle.std.specs.List.{list_all}
 use Rattle.std.specs.Int.{w32, sum_through}
-use Rattle.std.proofs.lemmas.Bool.{and_parts}
+use Rattle.std.proofs.lemmas.Bool.{and_parts, cases_lt}
 use Rattle.std.proofs.lemmas.Bool.Decides.{nat_tests}
 use Rattle.std.proofs.lemmas.List.{get_or-replicate, get_or-set_same, get_or-set_other, length-set}
 use Rattle.std.proofs.Math.Nat.{mod-eq_of_lt, add-mod_right}
 use Rattle.x86_regs.specs.declared.RegSpec.{RegSpec}
 use Rattle.x86_fields.specs.declared.raw.Raw.{Raw}
 use Rattle.x86_fields.specs.Address.{base_of, index_of, scale_by}
-use Rattle.x86_fields.specs.Linear.{Linear, linear, raw_form, modulus_by, constant_by, adds_to, adds_next, is_pointer, value_at, IsSameAddress, IsReduced, IsRegFile, zero_file, unit_file, AgreeEverywhere, AgreeAtUnits}
+use Rattle.x86_fields.specs.Linear.{Linear, linear, raw_form, modulus_by, constant_by, adds_to, adds_next, value_at, IsSameAddress, IsReduced, IsRegFile, zero_file, unit_file, AgreeEverywhere, AgreeAtUnits}
 use Rattle.x86_fields.proofs.LinearLemmas.{sum_none, sum_one}
 
 -- ---- sums
@@ -54,57 +54,36 @@ sum_at_unit c k h =
 value_at_zero : (f : Linear) → IsReduced f → value_at f zero_file 0 ≡ f.constant
 value_at_zero f small =
     ap (λ x. (x + f.next * 0 + f.constant) % f.modulus) (sum_at_zero f.registers)
-    ∙ ap (λ x. x % f.modulus) (none f.next f.constant)
+    ∙ (let none : 0 + f.next * 0 + f.constant ≡ f.constant = omega arith in ap (λ x. x % f.modulus) none)
     ∙ mod-eq_of_lt small.constant
-  where
-    none : (n c : ℕ) → 0 + n * 0 + c ≡ c
-    none n c = omega arith
 
 value_at_unit : (f : Linear) (k : ℕ) → k < 16 → value_at f (unit_file k) 0 ≡ (f.registers k + f.constant) % f.modulus
 value_at_unit f k h =
     ap (λ x. (x + f.next * 0 + f.constant) % f.modulus) (sum_at_unit f.registers k h)
-    ∙ ap (λ x. x % f.modulus) (none (f.registers k) f.next f.constant)
-  where
-    none : (a n c : ℕ) → a + n * 0 + c ≡ a + c
-    none a n c = omega arith
+    ∙ (let none : f.registers k + f.next * 0 + f.constant ≡ f.registers k + f.constant = omega arith in ap (λ x. x % f.modulus) none)
 
 value_at_next : (f : Linear) → value_at f zero_file 1 ≡ (f.next + f.constant) % f.modulus
 value_at_next f =
     ap (λ x. (x + f.next * 1 + f.constant) % f.modulus) (sum_at_zero f.registers)
-    ∙ ap (λ x. x % f.modulus) (one f.next f.constant)
-  where
-    one : (n c : ℕ) → 0 + n * 1 + c ≡ n + c
-    one n c = omega arith
+    ∙ (let one : 0 + f.next * 1 + f.constant ≡ f.next + f.constant = omega arith in ap (λ x. x % f.modulus) one)
 
 -- ---- what is known from the values
 
 -- a sum of two numbers below m, modulo m
-data Wrapped (x m : ℕ) : Type 0 where
-  within : x < m → x % m ≡ x → Wrapped x m
-  around : m ≤ x → x % m + m ≡ x → Wrapped x m
-
-wrapped_by : (b : Bool) (x m : ℕ) → nat_lt x m ≡ b → x < m + m → Wrapped x m
-wrapped_by true x m e h = let below : x < m = grind (arith, nat_tests) in within below (mod-eq_of_lt below)
-wrapped_by false x m e h =
-    let above : m ≤ x = grind (arith, nat_tests) in
-    let split : x ≡ x - m + m = omega arith in
-    let rest : x % m ≡ x - m = ap (λ y. y % m) split ∙ add-mod_right (x - m) m ∙ mod-eq_of_lt (omega arith) in
-    around above (omega arith)
-
-wrapped : (x m : ℕ) → x < m + m → Wrapped x m
-wrapped x m h = wrapped_by (nat_lt x m) x m refl h
+wrapped : (x m : ℕ) → x < m + m → (x % m ≡ x) ⊎ (x % m + m ≡ x)
+wrapped x m h = elim (cases_lt x m) [
+  | inl below ↦ inl (mod-eq_of_lt below)
+  | inr above ↦
+      let split : x ≡ x - m + m = omega arith in
+      let rest : x % m ≡ x - m = ap (λ y. y % m) split ∙ add-mod_right (x - m) m ∙ mod-eq_of_lt (omega arith) in
+      inr (omega arith)
+]
 
 same_term : (a b c m : ℕ) → a < m → b < m → c < m → (a + c) % m ≡ (b + c) % m → a ≡ b
-same_term a b c m ha hb hc e = elim (wrapped (a + c) m (omega arith)) [
-  | within h x ↦ elim (wrapped (b + c) m (omega arith)) [
-    | within k y ↦ omega arith
-    | around k y ↦ omega arith
-  ]
-  | around h x ↦ elim (wrapped (b + c) m (omega arith)) [
-    | within k y ↦ omega arith
-    | around k y ↦ omega arith
-  ]
-]
+same_term a b c m ha hb hc e =
+    let x = wrapped (a + c) m (omega arith) in
+    let y = wrapped (b + c) m (omega arith) in
+    grind arith
 
 module _ (f g : Linear) (same : f.modulus ≡ g.modulus) (f_small : IsReduced f) (g_small : IsReduced g) where
   constants : AgreeAtUnits f g → f.constant ≡ g.constant
@@ -137,45 +116,32 @@ zero_is_file = record { sixteen = refl; small = refl }
 unit_is_file : (r : ℕ) → IsRegFile (unit_file r)
 unit_is_file r = record { sixteen = length-set zero_file r 1; small = all_set (λ n. nat_lt n (2 ^ 64)) zero_file r 1 refl refl }
 
-units_of : (f g : Linear) → AgreeEverywhere f g → AgreeAtUnits f g
+pub units_of : (f g : Linear) → AgreeEverywhere f g → AgreeAtUnits f g
 units_of f g agree = record {
   zero = agree zero_file 0 zero_is_file (omega arith);
   units = λ r h. agree (unit_file r) 0 (unit_is_file r) (omega arith);
   next = agree zero_file 1 zero_is_file (omega arith);
 }
 
-same_value : (f g : Linear) → IsSameAddress f g → (regs : List ℕ) (next : ℕ) → value_at f regs next ≡ value_at g regs next
+pub same_value : (f g : Linear) → IsSameAddress f g → (regs : List ℕ) (next : ℕ) → value_at f regs next ≡ value_at g regs next
 same_value f g same regs next =
     ap (λ x. (x + f.next * next + f.constant) % f.modulus) (sum_same (λ r. f.registers r * slice_index regs r) (λ r. g.registers r * slice_index regs r) 15 (λ r h. ap (λ c. c * slice_index regs r) (same.registers r (omega arith))))
     ∙ ap (λ n. (sum_through (λ r. g.registers r * slice_index regs r) 15 + n * next + f.constant) % f.modulus) same.next
     ∙ ap (λ c. (sum_through (λ r. g.registers r * slice_index regs r) 15 + g.next * next + c) % f.modulus) same.constant
     ∙ ap (λ m. (sum_through (λ r. g.registers r * slice_index regs r) 15 + g.next * next + g.constant) % m) same.modulus
 
-pub forms_exactly : (f g : Linear) → f.modulus ≡ g.modulus → IsReduced f → IsReduced g → (IsSameAddress f g → AgreeEverywhere f g) × (AgreeEverywhere f g → IsSameAddress f g)
-forms_exactly f g same f_small g_small = (λ equal regs next file small. same_value f g equal regs next, λ agree. units_show f g same f_small g_small (units_of f g agree))
-
 -- ---- the forms of raw fields
 
 adds_little : (o : Option RegSpec) (t r : ℕ) → adds_to o t r ≤ t
 adds_little None t r = omega arith
-adds_little (Some reg) t r = by_tests (is_pointer reg.class) (reg.num % 16 == r)
-  where
-    by_tests : (a b : Bool) → (if a then 0 else (if b then t else 0)) ≤ t
-    by_tests true b = omega arith
-    by_tests false true = omega arith
-    by_tests false false = omega arith
+adds_little (Some reg) t r = grind (arith, nat_tests)
 
 adds_next_little : (o : Option RegSpec) (t : ℕ) → adds_next o t ≤ t
 adds_next_little None t = omega arith
-adds_next_little (Some reg) t = by_test (is_pointer reg.class)
-  where
-    by_test : (a : Bool) → (if a then t else 0) ≤ t
-    by_test true = omega arith
-    by_test false = omega arith
+adds_next_little (Some reg) t = grind (arith, nat_tests)
 
 large : (short : Bool) → 16 ≤ modulus_by short
-large true = omega arith
-large false = omega arith
+large short = grind (arith, nat_tests)
 
 constant_small : (short : Bool) (d : ℤ) → FitsSigned w32 d → constant_by short d < modulus_by short
 constant_small true (pos n) fits = let h : n < 2 ^ 31 = fits.sfits in omega arith

@@ -1,19 +1,17 @@
 -- The pieces that the primitives take, SIB and displacement among them.
-use Rattle.std.proofs.Common.{◌≡◌, ◌==◌, subst, pos, ℤ, ℕ, ◌+◌, Bool, true, false, cond, if◌then◌else◌, List, [], ◌∷◌, ◌++◌, length, take, drop, Option, Some, None, Result, Ok, Err, refl, sym, ap, ◌∙◌, arith, length-append, append_assoc, length-take}
-use Rattle.std.proofs.lemmas.List.{append-nil, take-append-drop}
+use Rattle.std.proofs.Common.{rules, ◌≡◌, ◌==◌, subst, pos, ℤ, ℕ, ◌+◌, Bool, true, false, cond, if◌then◌else◌, List, [], ◌∷◌, ◌++◌, length, take, drop, Option, Some, None, Result, Ok, Err, refl, sym, ap, ◌∙◌, arith, length-append, append_assoc, length-take}
+use Rattle.std.proofs.lemmas.List.{append-nil, take-append-drop, nil_from_length}
 use Rattle.std.specs.Option.{is_some}
 use Rattle.std.specs.Int.{Width, w8, w32, byte_len, from_le_bytes, cast_signed}
-use Rattle.x86_arch.specs.Reader.{advanced}
 use Rattle.x86_fields.specs.declared.errors.DecodeError.{DecodeError}
-use Rattle.x86_fields.specs.declared.errors.DecodeError.TheVariants.{ExhaustedInput}
 use Rattle.x86_fields.specs.declared.prefixes.Prefixes.{Prefixes}
 use Rattle.x86_fields.specs.declared.raw.Raw.{Raw}
-use Rattle.x86_fields.specs.Steps.{Step, outcome, then_from, pure, ◌>>=◌, next_byte, next_bytes, number_step}
+use Rattle.x86_fields.specs.Steps.{Step, then_from, pure, ◌>>=◌, next_byte, next_bytes, number_step}
 use Rattle.x86_fields.specs.ModRM.{mod_field, rm_field}
 use Rattle.x86_fields.specs.Raw.{read_raw, read_sib, read_displacement, displacement_width, names_no_base, has_b, has_x}
 use Rattle.x86_fields.specs.Pieces.{option_bytes, first_byte, signed_by, SpellsRaw, total, EndsBetween, raw_widths}
-use Rattle.x86_fields.proofs.StepLemmas.{Takes, fresh, takes_pure, takes_bind, takes_err, takes_bytes, takes_byte}
-use Rattle.x86_fields.proofs.EndLemmas.{final_other, Ends, settles, runs_out, no_beginning, halts_out, bind_assoc, EndsWell, IsEmpty, Only, ends_pure, ends_byte, IsByte, ends_bytes, AreBytes, ends_then, ends_map, Halts, over, halts_bind, halts_same}
+use Rattle.x86_fields.proofs.StepLemmas.{Takes, takes_pure, takes_bind, takes_err, takes_bytes, takes_byte}
+use Rattle.x86_fields.proofs.EndLemmas.{final_other, no_beginning, out_bind, halts_empty, bind_assoc, EndsWell, IsEmpty, Only, ends_pure, ends_byte, IsByte, ends_bytes, AreBytes, ends_then, ends_map, Halts, out, over, halts_bind, halts_same}
 
 pub takes_map : {X Y : Type 0} (m : Step X) (g : X → Y) (q : List ℕ) (x : X) → Takes m q (Ok x) → Takes (m >>= λ z. pure (g z)) q (Ok (g x))
 takes_map m g q x t = record { takes = λ rest s h. ap (λ o. then_from o.answer o.after (λ z. pure (g z))) (t.takes rest s h) }
@@ -42,30 +40,20 @@ pub data FirstPiece (w : ℕ) (ws q : List ℕ) : Type 0 where
   nothing : q ≡ [] → FirstPiece w ws q
   piece : (p rest : List ℕ) → q ≡ p ++ rest → length p ≡ w → EndsBetween ws rest → FirstPiece w ws q
 
-pub nil_of : (l : List ℕ) → length l ≡ 0 → l ≡ []
-nil_of [] h = refl
-nil_of (x ∷ l) h = absurd (omega arith)
-
-same_head : {a b : ℕ} {l m : List ℕ} → a ∷ l ≡ b ∷ m → a ≡ b
-same_head e = cc
-
-same_tail : {a b : ℕ} {l m : List ℕ} → a ∷ l ≡ b ∷ m → l ≡ m
-same_tail e = cc
-
 pub between_nil : (q : List ℕ) → EndsBetween [] q → q ≡ []
-between_nil q b = nil_of q (b.long ∙ ap total (no_beginning b.there b.missing b.pieces))
+between_nil q b = nil_from_length q (b.long ∙ ap total (no_beginning b.there b.missing b.pieces))
 
 pub first_piece : (w : ℕ) (ws q : List ℕ) → EndsBetween (w ∷ ws) q → FirstPiece w ws q
 first_piece w ws q b = by b.there b.missing b.pieces b.long
   where
     by : (there missing : List ℕ) → w ∷ ws ≡ there ++ missing → length q ≡ total there → FirstPiece w ws q
-    by [] missing e long = nothing (nil_of q long)
+    by [] missing e long = nothing (nil_from_length q long)
     by (v ∷ there) missing e long =
-        let same : w ≡ v = same_head e in
+        let same : w ≡ v = cc in
         let enough : length (take w q) ≡ w = length-take w q ∙ omega arith in
         let split : take w q ++ drop w q ≡ q = take-append-drop w q in
         let sizes : length (take w q) + length (drop w q) ≡ length q = sym (length-append (take w q) (drop w q)) ∙ ap length split in
-        piece (take w q) (drop w q) (sym split) enough (record { there = there; missing = missing; pieces = same_tail e; long = omega arith })
+        piece (take w q) (drop w q) (sym split) enough (record { there = there; missing = missing; pieces = cc; long = omega arith })
 
 -- ---- numbers
 
@@ -95,14 +83,7 @@ ends_sib modrm = sib_by (rm_field modrm == 4)
 takes_sib_by : (test : Bool) (sib : Option ℕ) → is_some sib ≡ test → Takes (if test then (next_byte >>= λ b. pure (Some b)) else pure None) (option_bytes sib) (Ok sib)
 takes_sib_by true (Some b) e = takes_map next_byte Some (b ∷ []) b (takes_byte b)
 takes_sib_by false None e = takes_pure (Ok None)
-takes_sib_by true None e = absurd (apart e)
-  where
-    apart : false ≡ true → ⊥
-    apart e = cc
-takes_sib_by false (Some b) e = absurd (apart e)
-  where
-    apart : true ≡ false → ⊥
-    apart e = cc
+takes_sib_by _ _ e = absurd cc
 
 takes_sib : (modrm : ℕ) (sib : Option ℕ) → is_some sib ≡ (rm_field modrm == 4) → Takes (read_sib modrm) (option_bytes sib) (Ok sib)
 takes_sib modrm sib e = takes_sib_by (rm_field modrm == 4) sib e
@@ -126,26 +107,23 @@ ends_disp width = disp_by (width == 1) (width == 4)
 takes_disp_by : (one four : Bool) (q : List ℕ) → length q ≡ (if one then 1 else (if four then 4 else 0)) → Takes (if one then (number_step w8 >>= λ n. pure (cast_signed w8 n)) else (if four then (number_step w32 >>= λ n. pure (cast_signed w32 n)) else pure (pos 0))) q (Ok (if one then cast_signed w8 (from_le_bytes w8 q) else (if four then cast_signed w32 (from_le_bytes w32 q) else pos 0)))
 takes_disp_by true four q e = takes_map (number_step w8) (cast_signed w8) q (from_le_bytes w8 q) (takes_number w8 q e)
 takes_disp_by false true q e = takes_map (number_step w32) (cast_signed w32) q (from_le_bytes w32 q) (takes_number w32 q e)
-takes_disp_by false false q e = subst (λ l. Takes (pure (pos 0)) l (Ok (pos 0))) (sym (nil_of q e)) (takes_pure (Ok (pos 0)))
+takes_disp_by false false q e = subst (λ l. Takes (pure (pos 0)) l (Ok (pos 0))) (sym (nil_from_length q e)) (takes_pure (Ok (pos 0)))
 
 takes_disp : (width : ℕ) (q : List ℕ) → length q ≡ width_read width → Takes (read_displacement width) q (Ok (signed_by width q))
 takes_disp width q e = takes_disp_by (width == 1) (width == 4) q e
 
 width_of_tests : (one two base : Bool) → (let w : ℕ = cond one 1 (cond two 4 (cond base 4 0)) in cond {A = ℕ} (w == 1) 1 (cond {A = ℕ} (w == 4) 4 0) ≡ w)
-width_of_tests true two base = refl
-width_of_tests false true base = refl
-width_of_tests false false true = refl
-width_of_tests false false false = refl
+width_of_tests one two base = search rules
 
 width_only : (modrm : ℕ) (sib : Option ℕ) → width_read (displacement_width modrm sib) ≡ displacement_width modrm sib
 width_only modrm sib = width_of_tests (mod_field modrm == 1) (mod_field modrm == 2) (names_no_base modrm sib)
 
 -- ---- both
 
-abbrev raw_made : Prefixes → ℕ → Option ℕ → ℤ → Raw
+abbrev pub raw_made : Prefixes → ℕ → Option ℕ → ℤ → Raw
 raw_made p modrm sib disp = record { rex_b = has_b p; rex_x = has_x p; address_size = p.address_size; modrm = modrm; sib = sib; disp = disp }
 
-abbrev after_sib : Prefixes → ℕ → Option ℕ → Step Raw
+abbrev pub after_sib : Prefixes → ℕ → Option ℕ → Step Raw
 after_sib p modrm sib = read_displacement (displacement_width modrm sib) >>= λ disp. pure (raw_made p modrm sib disp)
 
 -- the widths after ModRM, where SIB is there if ModRM requires it
@@ -155,8 +133,7 @@ widths_at modrm sib rest e = by (rm_field modrm == 4) sib e
     by : (test : Bool) (sib : Option ℕ) → is_some sib ≡ test → (if test then 1 ∷ displacement_width modrm (first_byte (option_bytes sib ++ rest)) ∷ [] else displacement_width modrm None ∷ []) ≡ (if test then 1 ∷ displacement_width modrm sib ∷ [] else displacement_width modrm sib ∷ [])
     by true (Some b) e = refl
     by false None e = refl
-    by true None e = cc
-    by false (Some b) e = cc
+    by _ _ e = cc
 
 between_sib : (modrm : ℕ) (sib : Option ℕ) (rest : List ℕ) → is_some sib ≡ (rm_field modrm == 4) → EndsBetween (displacement_width modrm sib ∷ []) rest → EndsBetween (raw_widths modrm (option_bytes sib ++ rest)) (option_bytes sib ++ rest)
 between_sib modrm sib rest e b = subst (λ l. EndsBetween l (option_bytes sib ++ rest)) (sym (widths_at modrm sib rest e)) (by (rm_field modrm == 4) sib e b)
@@ -164,14 +141,7 @@ between_sib modrm sib rest e b = subst (λ l. EndsBetween l (option_bytes sib ++
     by : (test : Bool) (sib : Option ℕ) → is_some sib ≡ test → EndsBetween (displacement_width modrm sib ∷ []) rest → EndsBetween (if test then 1 ∷ displacement_width modrm sib ∷ [] else displacement_width modrm sib ∷ []) (option_bytes sib ++ rest)
     by true (Some b) e k = one_there 1 (displacement_width modrm (Some b) ∷ []) (b ∷ []) rest refl k
     by false None e k = k
-    by true None e k = absurd (apart e)
-      where
-        apart : false ≡ true → ⊥
-        apart e = cc
-    by false (Some b) e k = absurd (apart e)
-      where
-        apart : true ≡ false → ⊥
-        apart e = cc
+    by _ _ e k = absurd cc
 
 pub ends_raw : (p : Prefixes) (modrm : ℕ) → EndsWell (Only (SpellsRaw p modrm)) (λ q. EndsBetween (raw_widths modrm q) q) (read_raw p modrm)
 unfolding read_raw
@@ -189,27 +159,31 @@ ends_raw p modrm = ends_then (IsSib modrm) IsEmpty (Only (SpellsRaw p modrm)) (�
       fields = ap (raw_made p modrm sib) (k.1 ∙ ap (signed_by (displacement_width modrm sib)) (sym (append-nil d)));
     })))
 
+takes_after_sib : (p : Prefixes) (modrm : ℕ) (sib : Option ℕ) (q : List ℕ) → length q ≡ displacement_width modrm sib
+    → Takes (after_sib p modrm sib) q (Ok (raw_made p modrm sib (signed_by (displacement_width modrm sib) q)))
+takes_after_sib p modrm sib q long =
+    let w : ℕ = displacement_width modrm sib in
+    takes_map (read_displacement w) (raw_made p modrm sib) q (signed_by w q) (takes_disp w q (long ∙ sym (width_only modrm sib)))
+
 pub takes_raw : (p : Prefixes) (modrm : ℕ) (q : List ℕ) (raw : Raw) → SpellsRaw p modrm q raw → Takes (read_raw p modrm) q (Ok raw)
 unfolding read_raw
 takes_raw p modrm q raw r =
-    let d : Takes (after_sib p modrm r.sib) r.disp (Ok (raw_made p modrm r.sib (signed_by (displacement_width modrm r.sib) r.disp))) = takes_map (read_displacement (displacement_width modrm r.sib)) (raw_made p modrm r.sib) r.disp (signed_by (displacement_width modrm r.sib) r.disp) (takes_disp (displacement_width modrm r.sib) r.disp (r.disp_length ∙ sym (width_only modrm r.sib))) in
-    let t : Takes (read_sib modrm >>= after_sib p modrm) (option_bytes r.sib ++ r.disp) (Ok (raw_made p modrm r.sib (signed_by (displacement_width modrm r.sib) r.disp))) = takes_bind (read_sib modrm) (after_sib p modrm) (option_bytes r.sib) r.disp r.sib _ (takes_sib modrm r.sib r.sib_present) d in
+    let made : Raw = raw_made p modrm r.sib (signed_by (displacement_width modrm r.sib) r.disp) in
+    let t : Takes (read_sib modrm >>= after_sib p modrm) (option_bytes r.sib ++ r.disp) (Ok made) = takes_bind (read_sib modrm) (after_sib p modrm) (option_bytes r.sib) r.disp r.sib _ (takes_sib modrm r.sib r.sib_present) (takes_after_sib p modrm r.sib r.disp r.disp_length) in
     let P : Raw → List ℕ → Type 0 = λ x l. Takes (read_sib modrm >>= after_sib p modrm) l (Ok x) in
-    subst (λ x. P x q) (sym r.fields) (subst (λ l. P (raw_made p modrm r.sib (signed_by (displacement_width modrm r.sib) r.disp)) l) (sym r.spelled) t)
+    subst (λ x. P x q) (sym r.fields) (subst (P made) (sym r.spelled) t)
 
 -- ---- bytes that end between pieces
 
-halts_then_at : {X Y : Type 0} {A : List ℕ → Result X DecodeError → Type 0} {B : List ℕ → Type 0} (m : Step X) (f : X → Step Y) → Ends A B m (fresh []) → ((x : X) → Halts (f x) []) → Halts (m >>= f) []
-halts_then_at m f (settles q rest (Ok x) h t d a) each =
+halts_then_at : {X Y : Type 0} (m : Step X) (f : X → Step Y) → Halts m [] → ((x : X) → Halts (f x) []) → Halts (m >>= f) []
+halts_then_at m f (over q rest (Ok x) h t d) each =
     let P : List ℕ → Type 0 = λ l. Takes m l (Ok x) in
     halts_bind m f [] [] x (subst P (no_beginning q rest h) t) (each x)
-halts_then_at m f (settles q rest (Err e) h t d a) each = over q rest (Err e) h (takes_err m f q e t) (final_other e d)
-halts_then_at m f (runs_out q rest h b u) each =
-    let none : q ≡ [] = no_beginning q rest h in
-    halts_out m f [] (λ s e. u [] rest refl s (e ∙ sym none ∙ sym (append-nil q)) ∙ ap (λ l. outcome (Err ExhaustedInput) (advanced (length l) s)) none)
+halts_then_at m f (over q rest (Err e) h t d) each = over q rest (Err e) h (takes_err m f q e t) (final_other e d)
+halts_then_at m f (out u) each = out (out_bind m f [] u)
 
 pub halts_then : {X Y : Type 0} {A : List ℕ → Result X DecodeError → Type 0} {B : List ℕ → Type 0} (m : Step X) (f : X → Step Y) → EndsWell A B m → ((x : X) → Halts (f x) []) → Halts (m >>= f) []
-halts_then m f e each = halts_then_at m f (e (fresh [])) each
+halts_then m f e each = halts_then_at m f (halts_empty m e) each
 
 pub byte_there : (ws : List ℕ) (b : ℕ) (rest : List ℕ) → EndsBetween (1 ∷ ws) (b ∷ rest) → EndsBetween ws rest
 byte_there ws b rest k = by k.there k.missing k.pieces k.long
@@ -217,8 +191,8 @@ byte_there ws b rest k = by k.there k.missing k.pieces k.long
     by : (there missing : List ℕ) → 1 ∷ ws ≡ there ++ missing → length (b ∷ rest) ≡ total there → EndsBetween ws rest
     by [] missing e long = absurd (omega arith)
     by (v ∷ there) missing e long =
-        let same : 1 ≡ v = same_head e in
-        record { there = there; missing = missing; pieces = same_tail e; long = omega arith }
+        let same : 1 ≡ v = cc in
+        record { there = there; missing = missing; pieces = cc; long = omega arith }
 
 abbrev pub HaltsOn : {X Y : Type 0} → (X → Step Y) → List ℕ → Type 0
 HaltsOn f ws = (x : _) (rest : List ℕ) → EndsBetween ws rest → Halts (f x) rest
@@ -234,9 +208,9 @@ halts_piece m f w ws q value e takes each b = by (first_piece w ws q b)
 halts_disp : {Y : Type 0} (p : Prefixes) (modrm : ℕ) (sib : Option ℕ) (f : Raw → Step Y) (ws q : List ℕ) → HaltsOn f ws → EndsBetween (displacement_width modrm sib ∷ ws) q → Halts (after_sib p modrm sib >>= f) q
 halts_disp p modrm sib f ws q each b =
     let w : ℕ = displacement_width modrm sib in
-    halts_same (read_displacement w >>= λ d. f (raw_made p modrm sib d)) (after_sib p modrm sib >>= f) q
-    (λ s. bind_assoc (read_displacement w) (λ d. pure (raw_made p modrm sib d)) f s)
-    (halts_piece (read_displacement w) (λ d. f (raw_made p modrm sib d)) w ws q (signed_by w) (ends_disp w) (λ l long. takes_disp w l (long ∙ sym (width_only modrm sib))) (λ d rest k. each (raw_made p modrm sib d) rest k) b)
+    halts_piece (after_sib p modrm sib) f w ws q (λ l. raw_made p modrm sib (signed_by w l))
+    (ends_map (IsDisp w) IsEmpty (λ l r. Unit {0}) (read_displacement w) (raw_made p modrm sib) (ends_disp w) (λ l d h. tt))
+    (takes_after_sib p modrm sib) each b
 
 pub halts_raw : {Y : Type 0} (p : Prefixes) (modrm : ℕ) (f : Raw → Step Y) (ws q : List ℕ) → HaltsOn f ws → EndsBetween (raw_widths modrm q ++ ws) q → Halts (read_raw p modrm >>= f) q
 unfolding read_raw
@@ -263,11 +237,4 @@ raw_long p modrm q rest raw r =
     by : (test : Bool) (sib : Option ℕ) → is_some sib ≡ test → length (option_bytes sib) + displacement_width modrm sib ≡ total (if test then 1 ∷ displacement_width modrm sib ∷ [] else displacement_width modrm sib ∷ [])
     by true (Some b) e = omega arith
     by false None e = omega arith
-    by true None e = absurd (apart e)
-      where
-        apart : false ≡ true → ⊥
-        apart e = cc
-    by false (Some b) e = absurd (apart e)
-      where
-        apart : true ≡ false → ⊥
-        apart e = cc
+    by _ _ e = absurd cc

@@ -14,6 +14,7 @@ ghost use Rattle.x86_fields.specs.Run.{repnz, rep, rep_any, reading_of, after_of
 use crate::{DecodeError, PrefixRex, Prefixes, Raw};
 
 /// The reading of a run is what its bytes do one after another, from no prefix on.
+#[tactic(auto, using(crate::proofs::RunLemmas::reading_folds, crate::proofs::RunLemmas::reading_push))]
 pub fn runs_are_folded()
     ensures folded { (run : List ℕ) → reading_of run ≡ fold after_of (reading_of []) run }
     ensures longer { (run : List ℕ) (byte : ℕ) →
@@ -28,6 +29,7 @@ pub fn repeats_exclude()
 
 /// Two reduced address forms of one modulus are the same address exactly where their values agree at every register
 /// file and next pointer. The zero file, the sixteen unit files and the unit next pointer show it.
+#[tactic(auto, using(crate::proofs::FormLemmas::units_show))]
 pub fn forms_are_their_values()
     ensures exactly { (f g : Linear) → f.modulus ≡ g.modulus → IsReduced f → IsReduced g →
         (IsSameAddress f g ↔ AgreeEverywhere f g) }
@@ -38,6 +40,7 @@ pub fn forms_are_their_values()
 /// What `read_raw` takes. It returns the fields that a prefix of the bytes spells, wherever there is one, and takes
 /// that prefix. It refuses only where bytes are missing. It has then taken a SIB that ModRM requires, if it is there,
 /// and nothing of a displacement.
+#[tactic(auto, using(crate::proofs::ReadLemmas::raw_whole, crate::proofs::ReadLemmas::raw_short))]
 pub fn raw_fields_are_read()
     ensures whole { (p : Prefixes) (modrm : ℕ) (s : State ℕ) (raw : Raw) →
         (read_raw p modrm s).answer ≡ Ok raw → IsReadRaw p modrm raw s (read_raw p modrm s).after }
@@ -50,6 +53,7 @@ pub fn raw_fields_are_read()
 {}
 
 /// The address forms of raw fields are reduced, so that the law on forms speaks of any two of one modulus.
+#[tactic(auto, using(crate::proofs::FormLemmas::raw_reduced))]
 pub fn raw_forms_are_reduced()
     ensures { (raw : Raw) → scale_by raw.sib ≤ 8 → FitsSigned w32 raw.disp →
         IsReduced (raw_form raw) }

@@ -47,13 +47,8 @@ prefixes_same a b h =
     let h2 = and_parts _ _ h1.1 in
     let h3 = and_parts _ _ h2.1 in
     let h4 = and_parts _ _ h3.1 in
-    let operand : a.operand_size ≡ b.operand_size = (booleans_Decides a.operand_size b.operand_size).0 h0.0 in
-    let address : a.address_size ≡ b.address_size = (booleans_Decides a.address_size b.address_size).0 h1.0 in
-    let lock : a.lock ≡ b.lock = (booleans_Decides a.lock b.lock).0 h2.0 in
-    let repeat : a.repeat ≡ b.repeat = option_same repeat.ghosts.eq repeat_same a.repeat b.repeat h3.0 in
-    let segment : a.segment ≡ b.segment = segment_same a.segment b.segment h4.0 in
-    let rex : a.rex ≡ b.rex = rex_same a.rex b.rex h4.1 in
-    same_prefixes operand address lock repeat segment rex
+    same_prefixes ((booleans_Decides _ _).0 h0.0) ((booleans_Decides _ _).0 h1.0) ((booleans_Decides _ _).0 h2.0)
+    (option_same repeat.ghosts.eq repeat_same _ _ h3.0) (segment_same _ _ h4.0) (rex_same _ _ h4.1)
 
 pub returns-clause-prefixes : goal.returns-clause-prefixes
 returns-clause-prefixes c a b = (prefixes_same a b, λ e. ap (λ x. prefixes.ghosts.eq a x) (sym e) ∙ prefixes_laws.laws-law.refl a)
@@ -65,14 +60,9 @@ raw_same a b h =
     let h2 = and_parts _ _ h1.1 in
     let h3 = and_parts _ _ h2.1 in
     let h4 = and_parts _ _ h3.1 in
-    let rex_b : a.rex_b ≡ b.rex_b = (booleans_Decides a.rex_b b.rex_b).0 h0.0 in
-    let rex_x : a.rex_x ≡ b.rex_x = (booleans_Decides a.rex_x b.rex_x).0 h1.0 in
-    let address : a.address_size ≡ b.address_size = (booleans_Decides a.address_size b.address_size).0 h2.0 in
-    let modrm : a.modrm ≡ b.modrm = (Decides-eqb a.modrm b.modrm).0 h3.0 in
-    let sib : a.sib ≡ b.sib = option_same _ (λ x y. (Decides-eqb x y).0) a.sib b.sib h4.0 in
-    let disp : a.disp ≡ b.disp = (Decides-int_eq a.disp b.disp).0 h4.1 in
     let make : Bool → Bool → Bool → ℕ → Option ℕ → ℤ → Raw = λ b x s m i d. record { rex_b = b; rex_x = x; address_size = s; modrm = m; sib = i; disp = d } in
-    cong6 make rex_b rex_x address modrm sib disp
+    cong6 make ((booleans_Decides _ _).0 h0.0) ((booleans_Decides _ _).0 h1.0) ((booleans_Decides _ _).0 h2.0)
+    ((Decides-eqb _ _).0 h3.0) (option_same _ (λ x y. (Decides-eqb x y).0) _ _ h4.0) ((Decides-int_eq _ _).0 h4.1)
 
 pub returns-clause-raw : goal.returns-clause-raw
 returns-clause-raw c a b = (raw_same a b, λ e. ap (λ x. raw.ghosts.eq a x) (sym e) ∙ raw_laws.laws-law.refl a)
