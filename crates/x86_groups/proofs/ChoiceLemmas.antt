@@ -1,6 +1,6 @@
 -- The default and the strict choice differ on fences whose rm isn't 0, and on nothing else.
-use Rattle.std.proofs.Common.{◌≡◌, ◌≢◌, ℕ, ◌==◌, ◌⊎◌, inl, inr, Bool, true, false, refl, ap, ◌∙◌, arith}
-use Rattle.std.proofs.lemmas.Bool.Decides.{nat_tests}
+use Rattle.std.proofs.Common.{◌≡◌, ◌≢◌, ℕ, ◌==◌, ◌⊎◌, inl, inr, Bool, true, false, refl, sym, ap, ◌∙◌}
+use Rattle.std.proofs.lemmas.Bool.{eqb-true, eqb-false, ne_eqb}
 use Rattle.x86_fields.specs.declared.prefixes.Prefixes.{Prefixes}
 use Rattle.x86_fields.specs.Run.{repnz, rep}
 use Rattle.x86_forms.specs.declared.TableRow.{TableRow}
@@ -11,66 +11,43 @@ use Rattle.x86_opcodes.specs.Names.{LFENCE, MFENCE, SFENCE}
 use Rattle.x86_groups.specs.Vocabulary.{operandless, bad_operand}
 use Rattle.x86_groups.specs.Choices.{NamesFence, lfence, mfence, sfence, IsFenceWithRm}
 use Rattle.x86_groups.specs.Fences.{fence, plain_0fae, plan_0fae}
-use Rattle.x86_groups.specs.Groups.{two_byte_plan, group_form_plan, group_plan, group_record}
-
-is_equal : (a b : ℕ) → (a == b) ≡ true → a ≡ b
-is_equal a b e = grind (arith, nat_tests)
-
-is_other : (a b : ℕ) → (a == b) ≡ false → a ≢ b
-is_other a b e h = grind (arith, nat_tests)
-
-tests_other : (a b : ℕ) → a ≢ b → (a == b) ≡ false
-tests_other a b d = by (a == b) refl
-  where
-    by : (t : Bool) → (a == b) ≡ t → t ≡ false
-    by true e = absurd (d (is_equal a b e))
-    by false e = refl
+use Rattle.x86_groups.specs.Groups.{two_byte_plan, group_form_plan, group_plan}
 
 -- ---- a fence alone
 
 fence_other : (m o : ℕ) (t : Bool) → (rm_field m == 0) ≡ t → (fence true o m ≡ fence false o m) ⊎ (rm_field m ≢ 0)
 unfolding fence
 fence_other m o true e = inl (rw e refl)
-fence_other m o false e = inr (is_other (rm_field m) 0 e)
+fence_other m o false e = inr (eqb-false (rm_field m) 0 e)
 
 fence_strict : (m o : ℕ) → rm_field m ≢ 0 → fence true o m ≡ bad_operand
 unfolding fence
-fence_strict m o d = rw (tests_other (rm_field m) 0 d) refl
-
-fence_default : (m o : ℕ) → fence false o m ≡ operandless o
-unfolding fence
-fence_default m o = refl
+fence_strict m o d = rw (ne_eqb (rm_field m) 0 d) refl
 
 -- ---- 0F AE without a prefix that chooses
 
 abbrev PlainFence : ℕ → Type 0
 PlainFence m = (o : ℕ) × NamesFence m o × (is_memory m ≡ false) × (rm_field m ≢ 0)
 
-plain_other : (m : ℕ) (memory five six seven : Bool) → is_memory m ≡ memory → (reg_field m == 5) ≡ five → (reg_field m == 6) ≡ six → (reg_field m == 7) ≡ seven → (plain_0fae true m ≡ plain_0fae false m) ⊎ PlainFence m
-unfolding plain_0fae
-plain_other m true five six seven a b c d = inl (rw a refl)
-plain_other m false true six seven a b c d = by (fence_other m LFENCE (rm_field m == 0) refl)
-  where
-    by : (fence true LFENCE m ≡ fence false LFENCE m) ⊎ (rm_field m ≢ 0) → (plain_0fae true m ≡ plain_0fae false m) ⊎ PlainFence m
-    by (inl e) = inl (rw (a, b) e)
-    by (inr h) = inr (LFENCE, lfence (is_equal (reg_field m) 5 b), a, h)
-plain_other m false false true seven a b c d = by (fence_other m MFENCE (rm_field m == 0) refl)
-  where
-    by : (fence true MFENCE m ≡ fence false MFENCE m) ⊎ (rm_field m ≢ 0) → (plain_0fae true m ≡ plain_0fae false m) ⊎ PlainFence m
-    by (inl e) = inl (rw (a, b, c) e)
-    by (inr h) = inr (MFENCE, mfence (is_equal (reg_field m) 6 c), a, h)
-plain_other m false false false true a b c d = by (fence_other m SFENCE (rm_field m == 0) refl)
-  where
-    by : (fence true SFENCE m ≡ fence false SFENCE m) ⊎ (rm_field m ≢ 0) → (plain_0fae true m ≡ plain_0fae false m) ⊎ PlainFence m
-    by (inl e) = inl (rw (a, b, c, d) e)
-    by (inr h) = inr (SFENCE, sfence (is_equal (reg_field m) 7 d), a, h)
-plain_other m false false false false a b c d = inl (rw (a, b, c, d) refl)
-
 plain_fence : (m o : ℕ) (strict : Bool) → is_memory m ≡ false → NamesFence m o → plain_0fae strict m ≡ fence strict o m
 unfolding plain_0fae
 plain_fence m o strict a (lfence e) = rw (a, e) refl
 plain_fence m o strict a (mfence e) = rw (a, e) refl
 plain_fence m o strict a (sfence e) = rw (a, e) refl
+
+named_other : (m o : ℕ) → is_memory m ≡ false → NamesFence m o → (plain_0fae true m ≡ plain_0fae false m) ⊎ PlainFence m
+named_other m o a named = elim (fence_other m o (rm_field m == 0) refl) [
+  | inl e ↦ inl (plain_fence m o true a named ∙ e ∙ sym (plain_fence m o false a named))
+  | inr h ↦ inr (o, named, a, h)
+]
+
+plain_other : (m : ℕ) (memory five six seven : Bool) → is_memory m ≡ memory → (reg_field m == 5) ≡ five → (reg_field m == 6) ≡ six → (reg_field m == 7) ≡ seven → (plain_0fae true m ≡ plain_0fae false m) ⊎ PlainFence m
+unfolding plain_0fae
+plain_other m true five six seven a b c d = inl (rw a refl)
+plain_other m false true six seven a b c d = named_other m LFENCE a (lfence (eqb-true (reg_field m) 5 b))
+plain_other m false false true seven a b c d = named_other m MFENCE a (mfence (eqb-true (reg_field m) 6 c))
+plain_other m false false false true a b c d = named_other m SFENCE a (sfence (eqb-true (reg_field m) 7 d))
+plain_other m false false false false a b c d = inl (rw (a, b, c, d) refl)
 
 -- ---- 0F AE
 
@@ -103,19 +80,12 @@ form_fence strict f o p m h =
 
 -- ---- rows
 
-pub same_at_opcode : (row : TableRow) (p : Prefixes) → (group_record true row p).at_opcode ≡ (group_record false row p).at_opcode
-unfolding group_record
-same_at_opcode row p = refl
-
-pub same_modrm : (row : TableRow) (p : Prefixes) → (group_record true row p).modrm ≡ (group_record false row p).modrm
-unfolding group_record
-same_modrm row p = refl
-
 pub same_elsewhere : (row : TableRow) (p : Prefixes) (m : ℕ) → (group_plan row p m true ≡ group_plan row p m false) ⊎ IsFenceWithRm row.form p m
 same_elsewhere row p m = form_other row.form row.opcode p m
 
 pub fence_by_default : (row : TableRow) (p : Prefixes) (m : ℕ) (h : IsFenceWithRm row.form p m) → group_plan row p m false ≡ operandless h.opcode
-fence_by_default row p m h = form_fence false row.form row.opcode p m h ∙ fence_default m h.opcode
+unfolding fence
+fence_by_default row p m h = form_fence false row.form row.opcode p m h
 
 pub fence_strictly : (row : TableRow) (p : Prefixes) (m : ℕ) → IsFenceWithRm row.form p m → group_plan row p m true ≡ bad_operand
 fence_strictly row p m h = form_fence true row.form row.opcode p m h ∙ fence_strict m h.opcode h.other_rm

@@ -70,86 +70,20 @@ plan_8f_moment : (p : Prefixes) (m : ℕ) (w : Moment) → (plan_8f p m).verdict
 unfolding plan_8f
 plan_8f_moment p m w e = refusal_moment (reg_field m == 0) POP (One (E (v_class p))) (size_by m (if p.operand_size then width_of (v_class p) else 8) (width_of (v_class p))) w e
 
-f2_0fae_passes : (p : Prefixes) (m : ℕ) → passes false (f2_0fae p m) ≡ true
-unfolding f2_0fae
-f2_0fae_passes p m = search (rules, small_steps) depth 20
-
-trace_0fae_passes : (p : Prefixes) (m : ℕ) → passes false (trace_0fae p m) ≡ true
-unfolding trace_0fae
-trace_0fae_passes p m = search (rules, small_steps) depth 20
-
-f3_0fae_passes : (p : Prefixes) (m : ℕ) → passes false (f3_0fae p m) ≡ true
-unfolding f3_0fae
-f3_0fae_passes p m = search (rules, trace_0fae_passes, small_steps) depth 20
-
-fence_passes : (strict : Bool) (opcode : ℕ) (m : ℕ) → passes false (fence strict opcode m) ≡ true
-unfolding fence
-fence_passes strict opcode m = search (rules, small_steps) depth 20
-
 plain_0fae_passes : (strict : Bool) (m : ℕ) → passes false (plain_0fae strict m) ≡ true
-unfolding plain_0fae
-plain_0fae_passes strict m = search (rules, fence_passes, small_steps) depth 20
+unfolding plain_0fae fence
+plain_0fae_passes strict m = search (rules, small_steps) depth 20 fits 4000
 
 plan_0fae_passes : (strict : Bool) (p : Prefixes) (m : ℕ) → passes false (plan_0fae strict p m) ≡ true
-unfolding plan_0fae
-plan_0fae_passes strict p m = search (rules, f2_0fae_passes, f3_0fae_passes, plain_0fae_passes, small_steps) depth 20
+unfolding plan_0fae f2_0fae trace_0fae f3_0fae
+plan_0fae_passes strict p m = search (rules, plain_0fae_passes, small_steps) depth 20 fits 4000
 
--- a line for each group; the last one covers the plain forms
+-- `none_passes` is for the plain forms
 group_passes : (f : Form) (o : ℕ) (strict : Bool) (p : Prefixes) (m : ℕ) → passes (may_be_left_out f m) (group_form_plan f o strict p m) ≡ true
 unfolding group_form_plan two_byte_plan three_byte_plan plan_80 plan_81 plan_83 plan_c0 plan_c1 plan_d0 plan_d1 plan_d2 plan_d3 plan_f6 plan_f7 plan_8f plan_c6 plan_c7 plan_fe plan_ff plan_0f00 memory_0f01 register_0f01_0 register_0f01_1 register_0f01_2 register_0f01_3 register_0f01_5 register_0f01_7 register_0f01 plan_0f01 plan_0f0d plan_0f12 plan_0f16 plan_0f18 plan_f30f1e plan_0fba operand_size_0fc7 f3_0fc7 plain_0fc7 plan_0fc7 plan_0f71 plan_0f72 plan_0f73 plan_rq_cq plan_cq_rq plan_rq_dq plan_dq_rq plan_660f78 plan_f20f78 plan_f30f38d8 plan_f30f38dc plan_f30f38dd plan_f30f38de plan_f30f38df plan_f30f38fa plan_f30f38fb plan_f30f3af0 plan_0f0f plan_d8 memory_d9 constant_d9 function_d9 register_d9 plan_d9 register_da plan_da memory_db control_db register_db plan_db register_dc plan_dc memory_dd register_dd plan_dd register_de plan_de memory_df register_df plan_df
-group_passes form.ModRM_0x80 o strict p m = search (rules, small_steps) depth 20
-group_passes form.ModRM_0x81 o strict p m = search (rules, small_steps) depth 20
-group_passes form.ModRM_0x83 o strict p m = search (rules, small_steps) depth 20
 group_passes form.ModRM_0x8f o strict p m = plan_8f_passes p m
-group_passes form.ModRM_0xc0 o strict p m = search (rules, small_steps) depth 20
-group_passes form.ModRM_0xc1 o strict p m = search (rules, small_steps) depth 20
-group_passes form.ModRM_0xc6 o strict p m = search (rules, small_steps) depth 20
-group_passes form.ModRM_0xc7 o strict p m = search (rules, small_steps) depth 20
-group_passes form.ModRM_0xd0 o strict p m = search (rules, small_steps) depth 20
-group_passes form.ModRM_0xd1 o strict p m = search (rules, small_steps) depth 20
-group_passes form.ModRM_0xd2 o strict p m = search (rules, small_steps) depth 20
-group_passes form.ModRM_0xd3 o strict p m = search (rules, small_steps) depth 20
-group_passes form.x87_d8 o strict p m = search (rules, small_steps) depth 20
-group_passes form.x87_d9 o strict p m = search (rules, small_steps) depth 20
-group_passes form.x87_da o strict p m = search (rules, small_steps) depth 20
-group_passes form.x87_db o strict p m = search (rules, small_steps) depth 20
-group_passes form.x87_dc o strict p m = search (rules, small_steps) depth 20
-group_passes form.x87_dd o strict p m = search (rules, small_steps) depth 20
-group_passes form.x87_de o strict p m = search (rules, small_steps) depth 20
-group_passes form.x87_df o strict p m = search (rules, small_steps) depth 20
-group_passes form.ModRM_0xf6 o strict p m = search (rules, small_steps) depth 20
-group_passes form.ModRM_0xf7 o strict p m = search (rules, small_steps) depth 20
-group_passes form.ModRM_0xfe o strict p m = search (rules, small_steps) depth 20
-group_passes form.ModRM_0xff o strict p m = search (rules, small_steps) depth 20
-group_passes form.ModRM_0x0f00 o strict p m = search (rules, small_steps) depth 20
-group_passes form.ModRM_0x0f01 o strict p m = search (rules, small_steps) depth 20
-group_passes form.ModRM_0x0f0d o strict p m = search (rules, small_steps) depth 20
-group_passes form.ModRM_0x0f0f o strict p m = search (rules, small_steps) depth 20
-group_passes form.ModRM_0x0f12 o strict p m = search (rules, small_steps) depth 20
-group_passes form.ModRM_0x0f16 o strict p m = search (rules, small_steps) depth 20
-group_passes form.ModRM_0x0f18 o strict p m = search (rules, small_steps) depth 20
-group_passes form.Rq_Cq_0 o strict p m = search (rules, small_steps) depth 20
-group_passes form.Rq_Dq_0 o strict p m = search (rules, small_steps) depth 20
-group_passes form.Cq_Rq_0 o strict p m = search (rules, small_steps) depth 20
-group_passes form.Dq_Rq_0 o strict p m = search (rules, small_steps) depth 20
-group_passes form.ModRM_0x0f71 o strict p m = search (rules, small_steps) depth 20
-group_passes form.ModRM_0x0f72 o strict p m = search (rules, small_steps) depth 20
-group_passes form.ModRM_0x0f73 o strict p m = search (rules, small_steps) depth 20
 group_passes form.ModRM_0x0fae o strict p m = plan_0fae_passes strict p m
-group_passes form.ModRM_0x0fba o strict p m = search (rules, small_steps) depth 20
-group_passes form.ModRM_0x0fc7 o strict p m = search (rules, small_steps) depth 20
-group_passes form.ModRM_0x660f78 o strict p m = search (rules, small_steps) depth 20
-group_passes form.ModRM_0xf20f78 o strict p m = search (rules, small_steps) depth 20
-group_passes form.ModRM_0xf30f1e o strict p m = search (rules, small_steps) depth 20
-group_passes form.ModRM_0xf30f38d8 o strict p m = search (rules, small_steps) depth 20
-group_passes form.ModRM_0xf30f38dc o strict p m = search (rules, small_steps) depth 20
-group_passes form.ModRM_0xf30f38dd o strict p m = search (rules, small_steps) depth 20
-group_passes form.ModRM_0xf30f38de o strict p m = search (rules, small_steps) depth 20
-group_passes form.ModRM_0xf30f38df o strict p m = search (rules, small_steps) depth 20
-group_passes form.ModRM_0xf30f38fa o strict p m = search (rules, small_steps) depth 20
-group_passes form.ModRM_0xf30f38fb o strict p m = search (rules, small_steps) depth 20
-group_passes form.ModRM_0xf30f3af0 o strict p m = search (rules, small_steps) depth 20
-group_passes _ o strict p m = none_passes
+group_passes _ o strict p m = search (rules, none_passes, small_steps) depth 20
 
 pub group_small : (strict : Bool) (row : TableRow) (p : Prefixes) (m : ℕ) → ((group_record strict row p).plan m).size ≤ 64
 unfolding group_record
@@ -186,22 +120,18 @@ gap_waits strict row p m w group e =
     group_waits (is_group row.form) (is_left_out row.form m) group
     (waits (may_be_left_out row.form m) (group_form_plan row.form row.opcode strict p m) w (group_passes row.form row.opcode strict p m) e)
 
-left_out_form : (f : Form) (m : ℕ) → is_left_out f m ≡ true → f ≡ form.ModRM_0x8f
-left_out_form form.ModRM_0x8f m h = refl
-left_out_form _ m h = absurd (true≢false (sym h))
-
-pub gap_form : (strict : Bool) (row : TableRow) (p : Prefixes) (m : ℕ) (w : Moment) → is_group row.form ≡ true → ((group_record strict row p).plan m).verdict ≡ Refuses Incomplete w → row.form ≡ form.ModRM_0x8f
-gap_form strict row p m w group e = left_out_form row.form m (gap_waits strict row p m w group e)
-
 not_zero : (n : ℕ) → not (n == 0) ≡ true → n ≢ 0
 not_zero n h e = grind (arith, nat_tests)
 
-left_out_reg : (f : Form) (m : ℕ) → is_left_out f m ≡ true → reg_field m ≢ 0
-left_out_reg form.ModRM_0x8f m h = not_zero (reg_field m) h
-left_out_reg _ m h = absurd (true≢false (sym h))
+left_out_is : (f : Form) (m : ℕ) → is_left_out f m ≡ true → (f ≡ form.ModRM_0x8f) × (reg_field m ≢ 0)
+left_out_is form.ModRM_0x8f m h = (refl, not_zero (reg_field m) h)
+left_out_is _ m h = absurd (true≢false (sym h))
+
+pub gap_form : (strict : Bool) (row : TableRow) (p : Prefixes) (m : ℕ) (w : Moment) → is_group row.form ≡ true → ((group_record strict row p).plan m).verdict ≡ Refuses Incomplete w → row.form ≡ form.ModRM_0x8f
+gap_form strict row p m w group e = (left_out_is row.form m (gap_waits strict row p m w group e)).0
 
 pub gap_reg : (strict : Bool) (row : TableRow) (p : Prefixes) (m : ℕ) (w : Moment) → is_group row.form ≡ true → ((group_record strict row p).plan m).verdict ≡ Refuses Incomplete w → reg_field m ≢ 0
-gap_reg strict row p m w group e = left_out_reg row.form m (gap_waits strict row p m w group e)
+gap_reg strict row p m w group e = (left_out_is row.form m (gap_waits strict row p m w group e)).1
 
 left_out_moment : (f : Form) (o : ℕ) (strict : Bool) (p : Prefixes) (m : ℕ) (w : Moment) → is_left_out f m ≡ true → (group_form_plan f o strict p m).verdict ≡ Refuses Incomplete w → w ≡ AfterAddress
 unfolding group_form_plan

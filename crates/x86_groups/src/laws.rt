@@ -26,6 +26,7 @@ use x86_forms::Form;
 /// Every group has a plan, and of the groups only 8F with a reg other than 0 isn't built: no other plan of a record
 /// refuses as `Incomplete`, and no record does so at the opcode byte. So `read_group` answers `IncompleteDecoder` for
 /// 8F alone. Source: Intel SDM volume 2, appendix A.4, group 1A.
+#[tactic(auto, using(crate::proofs::GroupLemmas::no_fault, crate::proofs::GroupLemmas::gap_form, crate::proofs::GroupLemmas::gap_reg, crate::proofs::GroupLemmas::gap_moment, crate::proofs::GroupLemmas::group_left_out))]
 pub fn groups_are_built()
     ensures at_opcode { (strict : Bool) (row : TableRow) (p : Prefixes) →
         (group_record strict row p).at_opcode ≢ Some Incomplete }
@@ -46,6 +47,7 @@ pub fn groups_are_built()
 {}
 
 /// The memory size of each plan is at most 64 bytes.
+#[tactic(auto, using(crate::proofs::GroupLemmas::group_small))]
 pub fn group_sizes_are_small()
     ensures { (strict : Bool) (row : TableRow) (p : Prefixes) (m : ℕ) →
         ((group_record strict row p).plan m).size ≤ 64 }
@@ -53,6 +55,7 @@ pub fn group_sizes_are_small()
 
 /// The default and the strict choice differ on LFENCE, MFENCE and SFENCE with rm other than 0, and on nothing else:
 /// there the default reads the fence, without an operand, and the strict choice refuses its operand after ModRM.
+#[tactic(auto, using(crate::proofs::ChoiceLemmas::same_elsewhere, crate::proofs::ChoiceLemmas::fence_strictly), unfolding(crate::specs::Groups::group_record))]
 pub fn choices_differ_on_fences()
     ensures at_opcode { (row : TableRow) (p : Prefixes) →
         (group_record true row p).at_opcode ≡ (group_record false row p).at_opcode }
@@ -68,6 +71,7 @@ pub fn choices_differ_on_fences()
 
 /// A group that reg alone chooses is read by its ModRM byte and the plan of its line there, under both choices. Its
 /// form carries no number.
+#[tactic(auto, using(crate::proofs::RegLemmas::reg_chosen, crate::proofs::RegLemmas::reg_group, crate::proofs::RegLemmas::reg_carries))]
 pub fn reg_groups_are_chosen()
     ensures group { (g : RegGroup) (f : Form) → f ≡ group_form g → is_group f ≡ true }
     ensures carries { (g : RegGroup) (f : Form) → f ≡ group_form g → carried f ≡ 0 }
