@@ -71,15 +71,12 @@ module _ {strict : Bool} {s : List ℕ} {a : Reading} (v : Encoding strict s a) 
     pub byte : v.row_spelled.modrm ≡ Byte ∷ []
     byte = one_byte (Row).modrm v.row_spelled.modrm fields v.row_spelled.modrm_length
 
-  tail_bytes : Bytes s → Bytes v.tail
-  tail_bytes h =
-      let following : Bytes (escape_bytes v.map ++ v.opcode ∷ v.tail) = bytes_after v.run _ (subst Bytes v.spelled h) in
-      (bytes_after (escape_bytes v.map) (v.opcode ∷ v.tail) following).1
-
   pub address_bytes_of : Bytes s → Bytes (Address)
   address_bytes_of h =
       let t = v.row_spelled.tail_spelled.pieces in
-      let following : Bytes v.row_spelled.tail = bytes_after v.row_spelled.modrm v.row_spelled.tail (subst Bytes v.row_spelled.spelled (tail_bytes h)) in
+      let after_run : Bytes (escape_bytes v.map ++ v.opcode ∷ v.tail) = bytes_after v.run _ (subst Bytes v.spelled h) in
+      let tail : Bytes v.tail = (bytes_after (escape_bytes v.map) (v.opcode ∷ v.tail) after_run).1 in
+      let following : Bytes v.row_spelled.tail = bytes_after v.row_spelled.modrm v.row_spelled.tail (subst Bytes v.row_spelled.spelled tail) in
       bytes_before t.address (t.immediates ++ t.suffix) (subst Bytes t.spelled following)
 
   pub raw_of_bytes : (raw : Raw) → Reads raw → Bytes s → IsOfBytes raw

@@ -10,7 +10,7 @@ use Rattle.x86_operands.specs.Pieces.{SpellsMemory}
 use Rattle.x86_operands.specs.Asks.{ask_of}
 use Rattle.x86_layout.specs.declared.parts.heads.Head.{Head}
 use Rattle.x86_layout.specs.declared.parts.split.Parts.{Parts}
-use Rattle.x86_layout.specs.Parts.Heads.{one_if, IsHead, IsTail}
+use Rattle.x86_layout.specs.Parts.Heads.{one_if, IsHead}
 use Rattle.x86_layout.specs.Parts.Split.{PartLists, Encoding, HasParts, lists_of}
 use Rattle.x86_layout.specs.Tightening.Registers.{is_ip_relative}
 use Rattle.x86_layout.specs.Tightening.Shortest.{shortest, IsOfBytes, address_length}
@@ -19,7 +19,7 @@ use Rattle.x86_layout.proofs.PartLemmas.Part.{halves, read_as}
 use Rattle.x86_layout.proofs.PartLemmas.OfBytes.{option_count, first_of, IsFirstSentence, has_head, parts_are}
 use Rattle.x86_layout.proofs.TightenLemmas.Rex.{seen_rex, seen_67}
 use Rattle.x86_layout.proofs.TightenLemmas.PlanAlike.{row_writes}
-use Rattle.x86_layout.proofs.TightenLemmas.Relative.{Seen, Reads, Row, Byte, Address, spells, fields, byte, length_is, no_longer, Bytes', long}
+use Rattle.x86_layout.proofs.TightenLemmas.Relative.{Seen, Reads, Byte, Address, spells, fields, byte, length_is, no_longer, Bytes', long}
 use Rattle.x86_layout.specs.Parts.OfBytes.{ask_in, parts_of}
 use Rattle.x86_decode.specs.declared.instructions.Instruction.{Instruction}
 use Rattle.x86_layout.specs.Tightening.Least.{least_by, least_length, shortest_length}
@@ -49,10 +49,6 @@ module _ {strict : Bool} {s : List ℕ} {a : Reading} (v : Encoding strict s a) 
 
   pub no_operand : is_memory (Byte v) ≡ false → HasMemoryOperand strict s a v → ⊥
   no_operand e o = let memory = (spells v o.read).0 in cc (e, memory)
-
-  -- the parts by the head and the tail
-  pub has_parts : (head : Head) (parts : Parts) → IsHead strict s a v head → parts.prefixes.now ≡ head.prefixes.now → parts.escape.now ≡ head.escape.now → parts.opcode.now ≡ head.opcode.now → IsTail (Row v) (Seen v) v.tail a v.row_spelled parts → HasParts strict s a v (lists_of parts)
-  has_parts head parts h prefixes escape opcode tail = assumption (prefixes ∙ h.prefixes, escape ∙ h.escape, opcode ∙ h.opcode, tail)
 
   module _ {raw : Raw} (read : Reads v raw) (parts : PartLists) (h : HasParts strict s a v parts) where
     -- the raw fields of the parts are those of the encoding

@@ -1,8 +1,5 @@
 use Rattle.std.proofs.Common.{◌≤◌, arith, length, ap, ◌∙◌}
-use Rattle.x86_fields.specs.Run.{reading_of}
-use Rattle.x86_decode.specs.Head.{seen_by}
-use Rattle.x86_layout.specs.Parts.Split.{lists_of, record_in, HasParts}
-use Rattle.x86_layout.proofs.PartLemmas.OfBytes.{beginning_of, parts_are, parts_once, joined_is, lengths_of}
+use Rattle.x86_layout.proofs.PartLemmas.OfBytes.{beginning_of, parts_are, parts_once, joined_is, has_parts, lengths_of}
 use Rattle.x86_layout.proofs.parts.split.split_decoded.Goals as goal
 
 pub returns-clause-pieces : goal.returns-clause-pieces
@@ -15,9 +12,7 @@ returns-clause-pieces c =
     let whole = beginning.is.whole in
     let head = c.head_of.ensures strict reading whole in
     let following = c.parts_after.ensures in
-    let row = record_in strict encoding reading whole in
-    let tail = following.tail row (seen_by whole.map whole.opcode (reading_of whole.run)) reading whole.tail head.tail head.ask whole.row_spelled in
-    let parts : HasParts strict encoding reading whole (lists_of c.parts_after.result) = assumption (following.prefixes ∙ head.prefixes, following.escape ∙ head.escape, following.opcode ∙ head.opcode, tail) in
+    let parts = has_parts whole c.parts_after.result head following.prefixes following.escape following.opcode following.tail in
     record {
       instruction = c.args.instruction.now;
       encoding = encoding;

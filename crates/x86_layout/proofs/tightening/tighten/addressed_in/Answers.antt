@@ -1,29 +1,23 @@
-use Rattle.std.proofs.Common.{true, ◌≡◌, ℕ, Bool, List, slice_index, sym, ap, ◌∙◌}
+use Rattle.std.proofs.Common.{true, ◌≡◌, ℕ, Bool, List, sym, ap, ◌∙◌}
 use Rattle.std.specs.List.{list_all}
-use Rattle.x86_fields.specs.declared.prefixes.Prefixes.{Prefixes}
 use Rattle.x86_fields.specs.declared.raw.Raw.{Raw}
 use Rattle.x86_fields.specs.Run.{is_prefix}
 use Rattle.x86_operands.specs.declared.reader.Reading.{Reading}
-use Rattle.x86_operands.specs.Plans.{RowRecord}
-use Rattle.x86_operands.specs.Pieces.{SpellsRow}
-use Rattle.x86_operands.specs.Asks.{ask_of}
 use Rattle.x86_layout.specs.declared.parts.heads.Head.{Head}
 use Rattle.x86_layout.specs.declared.parts.split.Parts.{Parts}
-use Rattle.x86_layout.specs.Parts.Heads.{IsHead, IsTail}
+use Rattle.x86_layout.specs.Parts.Heads.{IsHead}
 use Rattle.x86_layout.specs.Parts.Split.{Encoding, HasParts, lists_of}
 use Rattle.x86_layout.specs.Tightening.Tighten.{raw_of}
-use Rattle.x86_layout.proofs.TightenLemmas.Relative.{Seen, Reads, Row}
-use Rattle.x86_layout.proofs.TightenLemmas.Tighten.{least_without, least_with, memory_in_head, no_operand, operand_form, some_memory, has_parts, raw_is}
+use Rattle.x86_layout.proofs.PartLemmas.OfBytes.{Tails, has_parts}
+use Rattle.x86_layout.proofs.TightenLemmas.Relative.{Reads}
+use Rattle.x86_layout.proofs.TightenLemmas.Tighten.{least_without, least_with, memory_in_head, no_operand, operand_form, some_memory, raw_is}
 use Rattle.x86_layout.proofs.tightening.tighten.addressed_in.Goals as goal
-
-abbrev Tails : Head → Parts → Type 0
-Tails head parts = (r : RowRecord) (p : Prefixes) (reading : Reading) (tail : List ℕ) → head.tail.now ≡ tail → head.ask ≡ ask_of r (slice_index tail 0) → (a : SpellsRow r p tail reading) → IsTail r p tail reading a parts
 
 -- A sentence whose head has a memory form: its parts are these, and the raw fields of the parts are those of the
 -- sentence.
 known : {strict : Bool} {s : List ℕ} {a : Reading} (v : Encoding strict s a) {head : Head} (parts : Parts) {raw : Raw} → IsHead strict s a v head → parts.prefixes.now ≡ head.prefixes.now → parts.escape.now ≡ head.escape.now → parts.opcode.now ≡ head.opcode.now → Tails head parts → raw ≡ raw_of (lists_of parts) → head.ask.memory ≡ true → HasParts strict s a v (lists_of parts) × Reads v raw
 known v {head = head} parts h prefixes escape opcode tails fields memory =
-    let has = has_parts v head parts h prefixes escape opcode (tails (Row v) (Seen v) _ v.tail h.tail h.ask v.row_spelled) in
+    let has = has_parts v parts h prefixes escape opcode tails in
     let some = some_memory v (memory_in_head v h ∙ memory) in
     (has, cc (some.1, fields, raw_is v some.1 (lists_of parts) has))
 
