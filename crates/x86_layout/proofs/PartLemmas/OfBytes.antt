@@ -177,6 +177,8 @@ parts_once {a = a} {b = b} h k =
     let same : lists a.prefixes a.escape a.opcode a.modrm a.sib a.displacement a.immediate a.suffix ≡ lists b.prefixes b.escape b.opcode b.modrm b.sib b.displacement b.immediate b.suffix = cc (address.0, address.1) in
     same
 
+-- ---- the sentence that accepted bytes begin with
+
 -- The bytes are accepted, and begin with this sentence.
 pub record IsFirstSentence (strict : Bool) (bytes encoding : List ℕ) (instruction : Instruction) : Type 0 where
   pub accepted : answer_of strict bytes ≡ Ok instruction
@@ -202,6 +204,8 @@ beginning_of strict bytes {instruction = i} value answer counts long beginning =
       counted = counted;
       is = subst (λ l. IsSentence (rows_of packed) strict l i) (sym same) accepted.is;
     }
+
+-- ---- the lengths of parts
 
 immediate_small : (strict : Bool) (row : TableRow) (p : Prefixes) (m : ℕ) → immediates_width ((record_of strict row p).plan m).encodings ≤ 8
 immediate_small strict row p m =

@@ -13,6 +13,8 @@ use Rattle.x86_layout.specs.declared.sweeps.cuts.Cut.{Cut}
 use Rattle.x86_layout.specs.Sweeps.Marks.{begins_at, is_inside}
 use Rattle.x86_layout.specs.Sweeps.Lengths.{IsWithin}
 
+-- ---- the cuts after a cut
+
 module _ (strict : Bool) where
   -- the bytes of the cut before are passed over
   pub passed : (skip place : ℕ) (xs : List ℕ) → cuts_skipping strict skip place xs ≡ cuts_from strict (place + skip) (drop skip xs)
@@ -40,6 +42,8 @@ module _ (strict : Bool) where
   count skip place [] = omega arith
   count zero place (x ∷ xs) = let h = count (cut_length (answer_of strict (x ∷ xs)) - 1) (place + 1) xs in omega (arith, h)
   count (suc k) place (x ∷ xs) = let h = count k (place + 1) xs in omega (arith, h)
+
+-- ---- where cuts begin and end
 
 -- instructions have a length, which is at most that of the input
 abbrev pub Lengths : Bool → Type 0
@@ -115,7 +119,7 @@ module _ (strict : Bool) (lengths : Lengths strict) where
   pub sum_all : (xs : List ℕ) → sum_by (λ c. c.length) (cuts_from strict 0 xs) ≡ length xs
   sum_all xs = let h = sum_from 0 0 xs (omega arith) in omega (arith, h)
 
--- ---- tests of places
+-- ---- marks after one of them is changed
 
 pub marked : (marks : List Bool) (place p : ℕ) → place < length marks → slice_index_or (slice_set marks place true) p false ≡ (slice_index_or marks p false || place == p)
 marked marks place p h = grind (arith, nat_tests, get_or-set_same, get_or-set_other)

@@ -11,7 +11,7 @@ use Rattle.x86_fields.specs.Linear.{constant_by, modulus_by, raw_form, IsSameAdd
 use Rattle.x86_layout.specs.declared.tightening.registers.AddressRegisters.{AddressRegisters}
 use Rattle.x86_layout.proofs.TightenLemmas.Raw.{middle_is, middle_small, rm_small, spelled_length, spelled_fits, spelled_base, spelled_index, spelled_scale, least, base_number, index_number, base_counts, index_counts}
 
--- ---- how often a register counts
+-- ---- no arrangement of the same registers has fewer bytes: how often a register counts
 
 some_times : (s : Scale) → 0 < times s
 some_times s = grind arith

@@ -24,6 +24,8 @@ use Rattle.x86_layout.specs.Parts.OfBytes.{ask_in, parts_of}
 use Rattle.x86_decode.specs.declared.instructions.Instruction.{Instruction}
 use Rattle.x86_layout.specs.Tightening.Least.{least_by, least_length, shortest_length}
 
+-- ---- raw fields
+
 module _ {strict : Bool} {s : List ℕ} {a : Reading} (v : Encoding strict s a) where
   -- whether the row has a memory form
   pub memory_in_head : {head : Head} → IsHead strict s a v head → is_memory (Byte v) ≡ head.ask.memory
@@ -73,6 +75,8 @@ module _ {strict : Bool} {s : List ℕ} {a : Reading} (v : Encoding strict s a) 
           let old = length_is v raw read in
           let new = no_longer v read fit ip in
           omega (arith, length-append {A = ℕ}, short, old, new, ap length h.prefixes, ap length h.escape, ap length h.opcode, ap length h.immediate, ap length h.suffix)
+
+-- ---- the length of a shortest relative
 
 module _ {strict : Bool} {s : List ℕ} {a : Reading} (v : Encoding strict s a) where
   reads : (ask_in s strict).memory ≡ is_memory (Byte v)
