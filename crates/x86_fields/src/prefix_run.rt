@@ -2,7 +2,7 @@
 
 ghost use Rattle.std.specs.Prelude.{◌≡◌, IsTrue};
 ghost use Rattle.std.specs.List.{list_all};
-ghost use Rattle.x86_fields.specs.Run.{reading_of, is_legacy, is_rex, is_prefix};
+ghost use Rattle.x86_fields.specs.Run.{reading_of, is_legacy, is_prefix};
 
 use crate::prefixes::Prefixes;
 
@@ -14,14 +14,6 @@ pub fn is_legacy(byte: u8) -> bool
         byte,
         0x66 | 0x67 | 0xf0 | 0xf2 | 0xf3 | 0x26 | 0x2e | 0x36 | 0x3e | 0x64 | 0x65
     )
-}
-
-/// Whether the byte is a REX.
-#[inline(always)]
-pub fn is_rex(byte: u8) -> bool
-    ensures { result ≡ is_rex byte }
-{
-    0x40 <= byte && byte < 0x50
 }
 
 /// The reading of a whole run.

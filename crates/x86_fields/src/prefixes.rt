@@ -1,12 +1,11 @@
 //! What a run of prefix bytes selects. Source: Intel SDM volume 2, sections 2.1.1 and 2.2.1.
 
-ghost use Rattle.std.specs.Prelude.{◌≡◌, ◌↔◌, ℕ, ◌∷◌, ◌++◌, List, [], IsTrue, Some};
-ghost use Rattle.x86_fields.specs.Prefixes.{operand_size, address_size, lock, segment, rex, with_rex, without_operand_size, with_es};
-ghost use Rattle.x86_fields.specs.Run.{repnz, rep, rep_any, reading_of, after_of, rex_named, is_prefix};
-ghost use Rattle.x86_fields.specs.Raw.{has_w, has_r, has_x, has_b};
+ghost use Rattle.std.specs.Prelude.{◌≡◌, ◌↔◌, ℕ, ◌∷◌, ◌++◌, List, [], IsTrue};
+ghost use Rattle.x86_fields.specs.Prefixes.{operand_size, address_size, lock, segment, without_operand_size, with_es};
+ghost use Rattle.x86_fields.specs.Run.{repnz, rep, rep_any, reading_of, after_of, is_prefix};
 
 use crate::repeat::Repeat;
-use crate::rex::{LiveRex, PrefixRex};
+use crate::rex::LiveRex;
 use x86_regs::Segment;
 
 /// What a run of prefix bytes selects.
@@ -32,7 +31,7 @@ impl Prefixes {
             lock: false,
             repeat: None,
             segment: Segment::DS,
-            rex: LiveRex::of(0),
+            rex: LiveRex::NONE,
         }
     }
 
@@ -44,10 +43,8 @@ impl Prefixes {
         ensures reading { (run : List ℕ) → self ≡ reading_of run →
             result ≡ reading_of (run ++ byte ∷ []) }
     {
-        let without = Prefixes {
-            rex: LiveRex::of(byte),
-            ..self
-        };
+        let mut without = self;
+        without.set_rex(byte);
         match byte {
             0x66 => Prefixes {
                 operand_size: true,
@@ -79,14 +76,6 @@ impl Prefixes {
             },
             _ => without,
         }
-    }
-
-    /// The REX that is live is this byte, if it is a REX; else none is live.
-    #[inline(always)]
-    pub fn set_rex(&mut self, byte: u8)
-        ensures { self.new ≡ with_rex self.old (rex_named (Some byte)) }
-    {
-        self.rex = LiveRex::of(byte);
     }
 
     /// 66 is cleared.
@@ -204,45 +193,5 @@ impl Prefixes {
         ensures { IsTrue result ↔ (segment self.now ≡ Segment.SS) }
     {
         self.segment == Segment::SS
-    }
-
-    /// The bits of the REX that is live, if one is.
-    #[inline(always)]
-    pub fn rex(&self) -> Option<PrefixRex>
-        ensures { result ≡ rex self.now }
-    {
-        self.rex.get()
-    }
-
-    /// Whether a live REX has W.
-    #[inline(always)]
-    pub fn has_w(&self) -> bool
-        ensures { result ≡ has_w self.now }
-    {
-        self.rex.has_w()
-    }
-
-    /// Whether a live REX has R.
-    #[inline(always)]
-    pub fn has_r(&self) -> bool
-        ensures { result ≡ has_r self.now }
-    {
-        self.rex.has_r()
-    }
-
-    /// Whether a live REX has X.
-    #[inline(always)]
-    pub fn has_x(&self) -> bool
-        ensures { result ≡ has_x self.now }
-    {
-        self.rex.has_x()
-    }
-
-    /// Whether a live REX has B.
-    #[inline(always)]
-    pub fn has_b(&self) -> bool
-        ensures { result ≡ has_b self.now }
-    {
-        self.rex.has_b()
     }
 }

@@ -1,10 +1,10 @@
 //! The raw fields of a memory operand: ModRM, SIB and displacement. Source: Intel SDM volume 2, section 2.1.5.
 
-ghost use Rattle.std.specs.Prelude.{◌≡◌, ◌<◌, IsTrue, IfOk};
+ghost use Rattle.std.specs.Prelude.{◌≡◌, IsTrue, IfOk};
 ghost use Rattle.x86_arch.specs.Reader.{State};
 ghost use Rattle.x86_regs.specs.Register.{reg_spec};
 ghost use Rattle.x86_fields.specs.Steps.{outcome};
-ghost use Rattle.x86_fields.specs.Address.{base_of, index_of, scale_by, extend, address_class, next_pointer};
+ghost use Rattle.x86_fields.specs.Address.{base_of, index_of, scale_by, address_class, next_pointer};
 ghost use Rattle.x86_fields.specs.Linear.{raw_form, parts_form};
 ghost use Rattle.x86_fields.specs.ModRM.{is_memory};
 ghost use Rattle.x86_fields.specs.Raw.{read_raw, read_displacement, read_sib, displacement_width, fits, sib_fits, disp_fits};
@@ -14,6 +14,7 @@ use crate::errors::DecodeError;
 use crate::modrm::ModRM;
 use crate::numbers::{next_byte, read_u8, read_u32};
 use crate::prefixes::Prefixes;
+use crate::rex::extend;
 use crate::sib::Sib;
 use x86_arch::Reader;
 use x86_regs::{RegSpec, RegisterClass};
@@ -36,15 +37,6 @@ pub struct Raw {
     pub sib: Option<u8>,
     /// The displacement with its sign, 0 where there is none.
     pub disp: i32,
-}
-
-/// A field of three bits under its fourth, which a REX has.
-#[inline(always)]
-pub fn extend(bit: bool, num: u8) -> u8
-    requires { num < 8 }
-    ensures { result ≡ extend bit num }
-{
-    if bit { num + 8 } else { num }
 }
 
 /// How many bytes of displacement a memory form has, by ModRM and SIB (Intel SDM volume 2, section 2.1.5).
