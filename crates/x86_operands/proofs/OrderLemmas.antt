@@ -280,9 +280,9 @@ allowed_is_described b m h = refl
 
 -- ---- in place
 
-pub encoded_at_position : (at : Position) (l : OperandEncoding) (p : Prefixes) (operand_list : Operands) (s : State ℕ) → at ≢ Nowhere → put_encoded (index_of_position at) l p absent_modrm None operand_list s ≡ encoded_read at l p operand_list s
-encoded_at_position Nowhere l p operand_list s h = absurd (h refl)
-encoded_at_position at l p operand_list s h = refl
+pub encoded_at_position : (at : Position) (n : ℕ) (l : OperandEncoding) (p : Prefixes) (operand_list : Operands) (s : State ℕ) → n ≡ index_of_position at → at ≢ Nowhere → put_encoded n l p absent_modrm None operand_list s ≡ encoded_read at l p operand_list s
+encoded_at_position Nowhere n l p operand_list s e h = absurd (h refl)
+encoded_at_position at n l p operand_list s e h = rw e refl
 
 pub rm_in_memory : (w : Width) (p : Prefixes) (m : ℕ) (raw : Raw) → rm_pair w p m (Some raw) ≡ shape raw
 rm_in_memory width.Mm p m raw = refl

@@ -14,9 +14,7 @@ ghost use Rattle.x86_operands.specs.Encodings.{rm_read, reg_pair, fixed_pair, no
 use crate::encodings::{AfterOpcode, FormEncoding, Last, Width};
 use crate::operands::{Operand, Slot};
 use crate::order::Position;
-use crate::plans::{
-    OperandEncoding, pointer_slot, reg_number, register_at, register_slot, rm_number,
-};
+use crate::plans::{OperandEncoding, pointer_slot, register_at, register_slot};
 use crate::shapes::put_shape;
 use x86_arch::Reader;
 use x86_fields::{
@@ -165,15 +163,15 @@ impl Operands {
     {
         match encoding {
             OperandEncoding::G(class) => {
-                let reg = prefixes.register(class, reg_number(modrm, prefixes));
+                let reg = prefixes.register(class, prefixes.reg_number(modrm));
                 self.put_register(at, Slot::Reg, reg);
             }
             OperandEncoding::E(class) | OperandEncoding::U(class) => {
-                let reg = prefixes.register(class, rm_number(modrm, prefixes));
+                let reg = prefixes.register(class, prefixes.rm_number(modrm));
                 self.put_rm(at, memory, reg);
             }
             OperandEncoding::M => {
-                let reg = prefixes.register(RegisterClass::Q, rm_number(modrm, prefixes));
+                let reg = prefixes.register(RegisterClass::Q, prefixes.rm_number(modrm));
                 self.put_rm(at, memory, reg);
             }
             OperandEncoding::Gmm => self.put_register(
@@ -205,15 +203,6 @@ impl Operands {
         Ok(())
     }
 
-    /// Writes a slot and its operand at a position.
-    #[inline(always)]
-    fn put_in(&mut self, at: Position, slot: Slot, operand: Operand)
-        requires { at ≢ Nowhere }
-        ensures { self.new ≡ put_in at (slot, operand) self.old }
-    {
-        self.put_at(at.index(), slot, operand);
-    }
-
     /// The last operand, as its encoding yields it.
     #[tactic(auto, using(crate::proofs::OrderLemmas::encoded_at_position))]
     #[inline(always)]
@@ -228,7 +217,7 @@ impl Operands {
         ensures { outcome (value_if_ok result self.new) (T.state reader.new) ≡ encoded_read at
             (last_encoding last prefixes.now) prefixes.now self.old (T.state reader.old) }
     {
-        self.put_last(at.index(), reader, last.encoding(prefixes))
+        self.put_last(at as usize, reader, last.encoding(prefixes))
     }
 
     /// The operand of rm.
@@ -248,14 +237,14 @@ impl Operands {
     {
         if modrm.is_memory() {
             let raw = read_raw(reader, prefixes, modrm.byte())?;
-            put_shape(self, at.index(), &raw);
+            put_shape(self, at as usize, &raw);
             return Ok(());
         }
         let reg = match width {
             Width::Mm => RegSpec::mm(modrm.rm_field()),
-            w => prefixes.register(w.class(prefixes), rm_number(modrm, prefixes)),
+            w => prefixes.register(w.class(prefixes), prefixes.rm_number(modrm)),
         };
-        self.put_in(at, Slot::Rm, Operand::Register { reg });
+        self.put_at(at as usize, Slot::Rm, Operand::Register { reg });
         Ok(())
     }
 
@@ -269,9 +258,9 @@ impl Operands {
             at => {
                 let reg = match width {
                     Width::Mm => RegSpec::mm(modrm.reg_field()),
-                    w => prefixes.register(w.class(prefixes), reg_number(modrm, prefixes)),
+                    w => prefixes.register(w.class(prefixes), prefixes.reg_number(modrm)),
                 };
-                self.put_in(at, Slot::Reg, Operand::Register { reg });
+                self.put_at(at as usize, Slot::Reg, Operand::Register { reg });
             }
         }
     }
@@ -291,7 +280,7 @@ impl Operands {
                     AfterOpcode::Opcode => register_at(num, class, prefixes),
                     _ => prefixes.register(class, 0),
                 };
-                self.put_in(at, Slot::Reg, Operand::Register { reg });
+                self.put_at(at as usize, Slot::Reg, Operand::Register { reg });
             }
         }
     }

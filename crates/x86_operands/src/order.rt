@@ -1,31 +1,12 @@
 //! The order of a form's operands.
 
-ghost use Rattle.std.specs.Prelude.{◌≡◌, ◌<◌};
-ghost use Rattle.x86_operands.specs.Encodings.{index_of_position};
-
-/// Which operand something is.
+/// Which operand something is. As a number it is the index of the operand.
 #[derive(Clone, Copy, Drop)]
 pub enum Position {
     First,
     Second,
     Third,
     Nowhere,
-}
-
-impl Position {
-    /// The position, counted from 0. That of `Nowhere` is after the others.
-    #[inline(always)]
-    pub fn index(self) -> usize
-        ensures value { result ≡ index_of_position self }
-        ensures small { result < 4 }
-    {
-        match self {
-            Position::First => 0,
-            Position::Second => 1,
-            Position::Third => 2,
-            Position::Nowhere => 3,
-        }
-    }
 }
 
 /// The order of the operands.

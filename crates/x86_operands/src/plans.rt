@@ -1,7 +1,7 @@
 //! The vocabulary of the rows' records.
 ghost use Rattle.std.specs.Prelude.{◌≡◌, ◌<◌, ℕ};
 ghost use Rattle.x86_operands.specs.PlanSteps.{pointer_slot, register_slot};
-ghost use Rattle.x86_operands.specs.Plans.{with_verdict, reads, named_by_suffix, refused, refuses, memory_only, register_only, size_by, reg_number, rm_number, register_at, accumulator_of, immediate_of};
+ghost use Rattle.x86_operands.specs.Plans.{with_verdict, reads, named_by_suffix, refused, refuses, memory_only, register_only, size_by, register_at, accumulator_of, immediate_of};
 
 use crate::operands::Slot;
 use x86_fields::{ModRM, Prefixes, extend};
@@ -246,22 +246,6 @@ pub fn size_by(modrm: ModRM, memory: u8, register: u8) -> u8
     ensures { result ≡ size_by modrm memory register }
 {
     if modrm.is_memory() { memory } else { register }
-}
-
-/// The number of reg, with R.
-pub fn reg_number(modrm: ModRM, prefixes: &Prefixes) -> u8
-    ensures value { result ≡ reg_number modrm prefixes.now }
-    ensures small { result < 16 }
-{
-    extend(prefixes.has_r(), modrm.reg_field())
-}
-
-/// The number of rm, with B.
-pub fn rm_number(modrm: ModRM, prefixes: &Prefixes) -> u8
-    ensures value { result ≡ rm_number modrm prefixes.now }
-    ensures small { result < 16 }
-{
-    extend(prefixes.has_b(), modrm.rm_field())
 }
 
 /// The register that an opcode byte carries, with B.

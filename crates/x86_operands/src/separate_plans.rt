@@ -15,7 +15,7 @@ use crate::plans::OperandEncoding::{E, Fixed, G, I8, M, Pointer, U8, Umm, X16};
 use crate::plans::OperandEncodings::{One, Three, Two, Zero};
 use crate::plans::{
     Fault, Moment, OperandEncoding, Plan, PointerSlot, PrefixChange, RegisterSlot, accumulator_of,
-    memory_only, reads, refused, refuses, reg_number, register_at,
+    memory_only, reads, refused, refuses, register_at,
 };
 use x86_fields::{ModRM, Prefixes};
 use x86_forms::Form;
@@ -203,12 +203,12 @@ pub fn separate_plan(form: Form, opcode: Opcode, prefixes: &Prefixes, modrm: Mod
         Form::CXZ => reads(loop_opcode(opcode, prefixes), One(I8), 0),
         Form::Ew_Sw => {
             let plan = reads(opcode, Two(E(D), G(S)), or_v(2, prefixes, modrm));
-            let no_segment = reg_number(modrm, prefixes) > 5;
+            let no_segment = prefixes.reg_number(modrm) > 5;
             refused(no_segment, Fault::BadOperand, Moment::AfterAddress, plan)
         }
         Form::Sw_Ew => {
             let plan = reads(opcode, Two(G(S), E(W)), or_v(2, prefixes, modrm));
-            let reg = reg_number(modrm, prefixes);
+            let reg = prefixes.reg_number(modrm);
             let no_target = reg > 5 || reg == 1;
             refused(no_target, Fault::BadOperand, Moment::AfterAddress, plan)
         }
