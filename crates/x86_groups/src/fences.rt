@@ -10,7 +10,7 @@ use x86_opcodes::Opcode;
 use x86_operands::UNDECIDED_SIZE;
 use x86_operands::plans::OperandEncoding::{E, Fixed};
 use x86_operands::plans::OperandEncodings::One;
-use x86_operands::plans::{Plan, PrefixChange, RegisterSlot, reads, rm_number, size_by};
+use x86_operands::plans::{Plan, PrefixChange, RegisterSlot, reads, size_by};
 use x86_regs::{RegSpec, RegisterClass};
 
 /// The answer's prefixes show 66 cleared.
@@ -41,7 +41,7 @@ fn f2_0fae(prefixes: &Prefixes, modrm: ModRM) -> Plan
     if modrm.is_memory() {
         bad_operand()
     } else if modrm.reg_field() == 6 {
-        let register = RegSpec::of(rm_number(modrm, prefixes), RegisterClass::D);
+        let register = RegSpec::of(prefixes.rm_number(modrm), RegisterClass::D);
         let encoding = Fixed(RegisterSlot::Reg, register);
         reads(Opcode::UMWAIT, One(encoding), 0)
     } else {

@@ -6,7 +6,7 @@ use x86_fields::{ModRM, Prefixes};
 use x86_opcodes::Opcode;
 use x86_operands::plans::OperandEncoding::{G, U};
 use x86_operands::plans::OperandEncodings::Two;
-use x86_operands::plans::{Fault, Moment, Plan, reads, refused, reg_number};
+use x86_operands::plans::{Fault, Moment, Plan, reads, refused};
 use x86_regs::RegisterClass;
 
 /// Whether a control register has the number.
@@ -19,14 +19,14 @@ fn is_control(num: u8) -> bool
 fn with_control(prefixes: &Prefixes, modrm: ModRM, plan: Plan) -> Plan
     ensures { result ≡ with_control prefixes.now modrm plan }
 {
-    let missing = !is_control(reg_number(modrm, prefixes));
+    let missing = !is_control(prefixes.reg_number(modrm));
     refused(missing, Fault::BadOperand, Moment::AtModRM, plan)
 }
 
 fn with_debug(prefixes: &Prefixes, modrm: ModRM, plan: Plan) -> Plan
     ensures { result ≡ with_debug prefixes.now modrm plan }
 {
-    let missing = !(reg_number(modrm, prefixes) < 8);
+    let missing = !(prefixes.reg_number(modrm) < 8);
     refused(missing, Fault::BadOperand, Moment::AtModRM, plan)
 }
 
