@@ -1,12 +1,12 @@
 -- What the table of leads says of a byte.
-use Rattle.std.proofs.Common.{◌≡◌, ◌==◌, ℕ, Bool, true, false, if◌then◌else◌, Some, None, refl, ap, arith}
+use Rattle.std.proofs.Common.{◌≡◌, ◌==◌, ℕ, Bool, true, false, if◌then◌else◌, Some, None, refl, sym, ap, ◌∙◌, arith}
 use Rattle.std.proofs.lemmas.Bool.Decides.{nat_tests}
 use Rattle.x86_fields.specs.declared.prefixes.Prefixes.{Prefixes}
 use Rattle.x86_fields.specs.Prefixes.{rex}
 use Rattle.x86_fields.specs.Run.{after_of, is_prefix, is_rex, rex_bits}
-use Rattle.x86_decode.specs.declared.leads.TheConstants.{LEADS}
-use Rattle.x86_decode.specs.declared.leads.Lead.{Lead}
-use Rattle.x86_decode.specs.declared.leads.Lead.TheVariants.{Legacy, Rex, Escape, Vex}
+use Rattle.x86_decode.specs.declared.head.TheConstants.{LEADS}
+use Rattle.x86_decode.specs.declared.head.Lead.{Lead}
+use Rattle.x86_decode.specs.declared.head.Lead.TheVariants.{Legacy, Rex, Escape, Vex}
 use Rattle.x86_decode.specs.Head.{is_vex}
 use Rattle.x86_decode.specs.Lead.{lead_of, leads}
 
@@ -21,6 +21,11 @@ of_prefix x = false
 
 pub prefix_lead : (b : ℕ) → is_prefix b ≡ of_prefix (lead_of b)
 prefix_lead b = grind (arith, nat_tests)
+
+pub no_prefix : (b : ℕ) (l : Lead) → l ≡ lead_of b → (l ≡ Legacy → ⊥) → (l ≡ Rex → ⊥) → is_prefix b ≡ false
+no_prefix b l e f g =
+    let other : of_prefix l ≡ false = grind arith in
+    prefix_lead b ∙ ap of_prefix (sym e) ∙ other
 
 -- a legacy prefix lets no REX be live
 pub legacy_lead : (p : Prefixes) (b : ℕ) → lead_of b ≡ Legacy → rex (after_of p b) ≡ None

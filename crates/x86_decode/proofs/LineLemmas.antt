@@ -3,7 +3,7 @@ use Rattle.std.proofs.Common.{◌≡◌, ℕ, Bool, true, false, if◌then◌els
 use Rattle.x86_arch.specs.Reader.{State}
 use Rattle.x86_fields.specs.declared.errors.DecodeError.{DecodeError}
 use Rattle.x86_fields.specs.declared.prefixes.Prefixes.{Prefixes}
-use Rattle.x86_fields.specs.Steps.{Outcome, outcome, then_from}
+use Rattle.x86_fields.specs.Steps.{Outcome, outcome, then_from, pure, next_byte}
 use Rattle.x86_forms.specs.Groups.{is_group}
 use Rattle.x86_forms.specs.declared.Form.{Form}
 use Rattle.x86_forms.specs.declared.TableRow.{TableRow}
@@ -51,12 +51,22 @@ group_row g strict row p s e =
 -- ---- what is read first
 
 -- a ModRM byte whose line is known, or chosen by reg
-pub row_with_modrm : {r : Result ℕ DecodeError} {t : State ℕ} (s : State ℕ) (strict : Bool) (row : TableRow) (p : Prefixes) (b : AfterOpcode) → Belongs b row.form → modrm_use row.form ≡ use_of b → has_fields b ≡ true → outcome r t ≡ read_modrm EitherForm s → after_modrm strict row p r t ≡ row_step strict row p s
-row_with_modrm s strict row p after_opcode.EitherForm plain usage h e = form_row s strict row p EitherForm usage plain e
-row_with_modrm s strict row p after_opcode.Memory plain usage h e = form_row s strict row p EitherForm usage plain e
-row_with_modrm s strict row p after_opcode.Registers plain usage h e = form_row s strict row p EitherForm usage plain e
-row_with_modrm s strict row p (after_opcode.ByReg g) belongs usage h e = ap (λ o. after_modrm strict row p o.answer o.after) e ∙ sym (group_row g strict row p s belongs)
-row_with_modrm s strict row p b belongs usage h e = absurd cc
+read_either : (s : State ℕ) → read_modrm EitherForm s ≡ next_byte s
+read_either s = by (next_byte s).answer (next_byte s).after
+  where
+    by : (r : Result ℕ DecodeError) (t : State ℕ) → then_from r t (λ m. pure m) ≡ outcome r t
+    by (Ok m) t = refl
+    by (Err e) t = refl
+
+with_modrm : {r : Result ℕ DecodeError} {t : State ℕ} (s : State ℕ) (strict : Bool) (row : TableRow) (p : Prefixes) (b : AfterOpcode) → Belongs b row.form → modrm_use row.form ≡ use_of b → has_fields b ≡ true → outcome r t ≡ read_modrm EitherForm s → after_modrm strict row p r t ≡ row_step strict row p s
+with_modrm s strict row p after_opcode.EitherForm plain usage h e = form_row s strict row p EitherForm usage plain e
+with_modrm s strict row p after_opcode.Memory plain usage h e = form_row s strict row p EitherForm usage plain e
+with_modrm s strict row p after_opcode.Registers plain usage h e = form_row s strict row p EitherForm usage plain e
+with_modrm s strict row p (after_opcode.ByReg g) belongs usage h e = ap (λ o. after_modrm strict row p o.answer o.after) e ∙ sym (group_row g strict row p s belongs)
+with_modrm s strict row p b belongs usage h e = absurd cc
+
+pub row_with_modrm : {r : Result ℕ DecodeError} {t : State ℕ} (s : State ℕ) (strict : Bool) (row : TableRow) (p : Prefixes) (b : AfterOpcode) → Belongs b row.form → modrm_use row.form ≡ use_of b → has_fields b ≡ true → outcome r t ≡ next_byte s → after_modrm strict row p r t ≡ row_step strict row p s
+row_with_modrm s strict row p b belongs usage h e = with_modrm s strict row p b belongs usage h (e ∙ sym (read_either s))
 
 -- no ModRM byte, where a line describes the form
 pub row_without_modrm : (s : State ℕ) (strict : Bool) (row : TableRow) (p : Prefixes) (m : ℕ) (b : AfterOpcode) → Belongs b row.form → modrm_use row.form ≡ use_of b → has_fields b ≡ false → allows b m ≡ true → m ≡ absent_modrm → read_plan (plan_at strict row p m) p m s ≡ row_step strict row p s

@@ -7,7 +7,7 @@ use Rattle.x86_fields.specs.Steps.{Outcome, outcome, then_from, pure, next_byte}
 use Rattle.x86_forms.specs.declared.Map.{Map}
 use Rattle.x86_forms.specs.declared.Map.TheVariants.{One}
 use Rattle.x86_forms.specs.declared.TableRow.{TableRow}
-use Rattle.x86_decode.specs.declared.leads.Lead.TheVariants.{Vex, Escape}
+use Rattle.x86_decode.specs.declared.head.Lead.TheVariants.{Vex, Escape}
 use Rattle.x86_decode.specs.Head.{Rows, column_of, vex_refusal, seen_by}
 use Rattle.x86_decode.specs.Lead.{lead_of}
 use Rattle.x86_decode.specs.Walk.{read_escaped, opcode_step, read_word}

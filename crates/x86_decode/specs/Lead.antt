@@ -2,8 +2,8 @@
 use Rattle.std.specs.Prelude.{ℕ, ◌==◌, if◌then◌else◌, List, map}
 use Rattle.std.specs.List.{range_with_len}
 use Rattle.x86_fields.specs.Run.{is_legacy, is_rex}
-use Rattle.x86_decode.specs.declared.leads.Lead.{Lead}
-use Rattle.x86_decode.specs.declared.leads.Lead.TheVariants.{Opcode, Legacy, Rex, Escape, Vex}
+use Rattle.x86_decode.specs.declared.head.Lead.{Lead}
+use Rattle.x86_decode.specs.declared.head.Lead.TheVariants.{Opcode, Legacy, Rex, Escape, Vex}
 use Rattle.x86_decode.specs.Head.{is_vex}
 
 abbrev pub lead_of : ℕ → Lead

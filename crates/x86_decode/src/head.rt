@@ -1,16 +1,67 @@
 //! The head of an encoding: the run of prefixes, the escape and the opcode byte.
+
 ghost use Rattle.std.specs.Prelude.{◌≡◌, ℕ, List, [], None};
 ghost use Rattle.x86_fields.specs.Steps.{outcome, then_from};
 ghost use Rattle.x86_fields.specs.Prefixes.{rex};
 ghost use Rattle.x86_fields.specs.Run.{is_prefix, reading_of};
 ghost use Rattle.x86_forms.specs.Words.{rows_of};
 ghost use Rattle.x86_decode.specs.Head.{column_of, is_vex, vex_refusal, seen_by};
-ghost use Rattle.x86_decode.specs.Walk.{Headed, next_byte_if, head_from, head_at, head_step, read_escaped, found_word, read_word};
+ghost use Rattle.x86_decode.specs.Lead.{lead_of};
+ghost use Rattle.x86_decode.specs.Walk.{Headed, head_from, head_at, head_step, read_escaped, found_word, read_word};
 
-use crate::leads::{Lead, lead_of};
 use x86_arch::{ReadError, ReadIf, Reader};
-use x86_fields::{DecodeError, Prefixes, is_rex, next_byte};
+use x86_fields::{DecodeError, Prefixes, next_byte};
 use x86_forms::{Column, Map, Words};
+
+/// What a byte is at the beginning of an encoding.
+#[derive(Clone, Copy, PartialEq, Eq, Debug, Drop)]
+pub enum Lead {
+    /// A legacy prefix.
+    Legacy,
+    Rex,
+    Opcode,
+    /// 0F.
+    Escape,
+    /// C4, C5 or 62.
+    Vex,
+}
+
+const OPC: Lead = Lead::Opcode;
+
+const LEG: Lead = Lead::Legacy;
+
+const REX: Lead = Lead::Rex;
+
+const ESC: Lead = Lead::Escape;
+
+const VEX: Lead = Lead::Vex;
+
+/// By the byte: sixteen on a line, followed by the first of them.
+const LEADS: &[Lead; 256] = &[
+    OPC, OPC, OPC, OPC, OPC, OPC, OPC, OPC, OPC, OPC, OPC, OPC, OPC, OPC, OPC, ESC, // 00
+    OPC, OPC, OPC, OPC, OPC, OPC, OPC, OPC, OPC, OPC, OPC, OPC, OPC, OPC, OPC, OPC, // 10
+    OPC, OPC, OPC, OPC, OPC, OPC, LEG, OPC, OPC, OPC, OPC, OPC, OPC, OPC, LEG, OPC, // 20
+    OPC, OPC, OPC, OPC, OPC, OPC, LEG, OPC, OPC, OPC, OPC, OPC, OPC, OPC, LEG, OPC, // 30
+    REX, REX, REX, REX, REX, REX, REX, REX, REX, REX, REX, REX, REX, REX, REX, REX, // 40
+    OPC, OPC, OPC, OPC, OPC, OPC, OPC, OPC, OPC, OPC, OPC, OPC, OPC, OPC, OPC, OPC, // 50
+    OPC, OPC, VEX, OPC, LEG, LEG, LEG, LEG, OPC, OPC, OPC, OPC, OPC, OPC, OPC, OPC, // 60
+    OPC, OPC, OPC, OPC, OPC, OPC, OPC, OPC, OPC, OPC, OPC, OPC, OPC, OPC, OPC, OPC, // 70
+    OPC, OPC, OPC, OPC, OPC, OPC, OPC, OPC, OPC, OPC, OPC, OPC, OPC, OPC, OPC, OPC, // 80
+    OPC, OPC, OPC, OPC, OPC, OPC, OPC, OPC, OPC, OPC, OPC, OPC, OPC, OPC, OPC, OPC, // 90
+    OPC, OPC, OPC, OPC, OPC, OPC, OPC, OPC, OPC, OPC, OPC, OPC, OPC, OPC, OPC, OPC, // A0
+    OPC, OPC, OPC, OPC, OPC, OPC, OPC, OPC, OPC, OPC, OPC, OPC, OPC, OPC, OPC, OPC, // B0
+    OPC, OPC, OPC, OPC, VEX, VEX, OPC, OPC, OPC, OPC, OPC, OPC, OPC, OPC, OPC, OPC, // C0
+    OPC, OPC, OPC, OPC, OPC, OPC, OPC, OPC, OPC, OPC, OPC, OPC, OPC, OPC, OPC, OPC, // D0
+    OPC, OPC, OPC, OPC, OPC, OPC, OPC, OPC, OPC, OPC, OPC, OPC, OPC, OPC, OPC, OPC, // E0
+    LEG, OPC, LEG, LEG, OPC, OPC, OPC, OPC, OPC, OPC, OPC, OPC, OPC, OPC, OPC, OPC, // F0
+];
+
+#[inline(always)]
+pub fn lead_of(byte: u8) -> Lead
+    ensures { result ≡ lead_of byte }
+{
+    LEADS[byte as usize]
+}
 
 /// Whether the byte is a legacy prefix or a REX.
 #[inline(always)]
@@ -39,18 +90,6 @@ pub fn read_on<T: Reader<u64, u8>>(
     }
 }
 
-/// The next byte where it is wanted, else `other`.
-#[inline(always)]
-fn next_byte_if<T: ReadIf>(reader: &mut T, wanted: bool, other: u8) -> Result<u8, DecodeError>
-    ensures { outcome result (T.state reader.new)
-        ≡ next_byte_if wanted other (T.state reader.old) }
-{
-    match reader.next_if(wanted, other) {
-        Ok(byte) => Ok(byte),
-        Err(ReadError::ExhaustedInput) => Err(DecodeError::ExhaustedInput),
-    }
-}
-
 /// The byte after a run so far, or after that and a REX. Most encodings have a REX, and many have none: so no branch
 /// depends on it.
 #[inline(always)]
@@ -59,8 +98,11 @@ fn read_rex<T: ReadIf>(reader: &mut T, prefixes: &mut Prefixes, byte: u8) -> Res
     ensures { (beginning : List ℕ) → prefixes.old ≡ reading_of beginning →
         Headed result prefixes.new (T.state reader.new) (head_at beginning byte (T.state reader.old)) }
 {
-    prefixes.set_rex(byte);
-    next_byte_if(reader, is_rex(byte), byte)
+    let is_rex = prefixes.set_rex(byte);
+    match reader.next_if(is_rex, byte) {
+        Ok(next) => Ok(next),
+        Err(ReadError::ExhaustedInput) => Err(DecodeError::ExhaustedInput),
+    }
 }
 
 /// A run of at most one legacy prefix and a REX, as most are, and the byte after that.
@@ -136,18 +178,20 @@ pub fn seen_by(map: Map, byte: u8, prefixes: Prefixes) -> Prefixes
 }
 
 /// The word of the row at an opcode byte, which is this byte or follows the escape that it begins. Where 66
-/// chooses the operation it is cleared.
+/// chooses the operation it is cleared. `lead` says what this byte is.
 #[inline(always)]
 pub fn read_word<W: Words, T: Reader<u64, u8>>(
     rows: &W,
     reader: &mut T,
     prefixes: &mut Prefixes,
+    lead: Lead,
     byte: u8,
 ) -> Result<u64, DecodeError>
+    requires { lead ≡ lead_of byte }
     ensures { then_from result (T.state reader.new) (found_word prefixes.new)
         ≡ read_word (rows_of (W.word rows.now)) prefixes.old byte (T.state reader.old) }
 {
-    match lead_of(byte) {
+    match lead {
         Lead::Escape => {
             let second = next_byte(reader)?;
             let (map, opcode) = read_escaped(reader, second)?;

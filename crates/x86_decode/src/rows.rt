@@ -15,14 +15,14 @@ ghost use Rattle.x86_decode.specs.Walk.{IsFound, found_row_step, plan_at, rest_s
 
 use crate::instructions::Instruction;
 use x86_arch::Reader;
-use x86_fields::{DecodeError, ModRM, Prefixes};
+use x86_fields::{DecodeError, ModRM, Prefixes, next_byte};
 use x86_forms::{TableRow, unpack, word_carried};
 use x86_groups::{chosen, group_plan, read_group, read_group_into};
 use x86_opcodes::Opcode;
-use x86_operands::plans::{ModrmUse, Plan};
+use x86_operands::plans::Plan;
 use x86_operands::{
-    AfterOpcode, FormEncoding, Reading, form_plan, read_form, read_form_into, read_modrm,
-    read_plan_into, word_encoding,
+    AfterOpcode, FormEncoding, Reading, form_plan, read_form, read_form_into, read_plan_into,
+    word_encoding,
 };
 
 /// What is left of a row that wasn't read at once.
@@ -86,7 +86,8 @@ fn read_line<'a, T: Reader<u64, u8>>(
     if !encoding.after_opcode.has_fields() {
         return Ok(line_without_modrm(word, row, encoding));
     }
-    let modrm = read_modrm(reader, ModrmUse::EitherForm)?;
+    let byte = next_byte(reader)?;
+    let modrm = ModRM::new(byte);
     match encoding.after_opcode {
         AfterOpcode::ByReg(group) => {
             let (opcode, encoding) = chosen(group, modrm);

@@ -1,5 +1,5 @@
 //! The walk over the bytes of an encoding, within fifteen of them.
-ghost use Rattle.std.specs.Prelude.{◌≡◌, ℕ, List, Bool, IfOk, true, false, take};
+ghost use Rattle.std.specs.Prelude.{◌≡◌, ℕ, List, Bool, IfOk, true, false};
 ghost use Rattle.x86_arch.specs.Reader.{marked};
 ghost use Rattle.x86_fields.specs.Steps.{Outcome, outcome, then_from};
 ghost use Rattle.x86_fields.specs.Run.{is_prefix, reading_of};
@@ -7,13 +7,14 @@ ghost use Rattle.x86_forms.specs.Words.{rows_of};
 ghost use Rattle.x86_operands.specs.Encodings.{value_if_ok, no_operands};
 ghost use Rattle.x86_operands.specs.declared.reader.Reading.{Reading};
 ghost use Rattle.x86_decode.specs.Answer.{answer_of};
-ghost use Rattle.x86_decode.specs.Grammar.{first_slot, allows_lock};
+ghost use Rattle.x86_decode.specs.Grammar.{allows_lock};
+ghost use Rattle.x86_decode.specs.Lead.{lead_of};
 ghost use Rattle.x86_decode.specs.Instruction.{holding, invalid_instruction, reading_in};
 ghost use Rattle.x86_fields.specs.Errors.{is_exhausted};
 ghost use Rattle.x86_decode.specs.Walk.{LeadsTo, ResultLeadsTo, IsReady, rest_step, body_step, long_step, walk_bounded, walk_within, decode_step, is_nothing, takes_lock, judgement, error_at_limit};
 
 use crate::bounded::{Bounded, Start, takes_rest};
-use crate::head::{is_prefix, read_head, read_on, read_word};
+use crate::head::{Lead, lead_of, read_head, read_on, read_word};
 use crate::instructions::Instruction;
 use crate::rows::{Rest, read_by_line, read_rest, read_row_into};
 use std::marker::{Brand, PhantomData};
@@ -23,21 +24,11 @@ use x86_forms::{Packed, Words, unpack};
 use x86_opcodes::Opcode;
 use x86_operands::{Reading, Slot};
 
-fn first_slot(slots: &[Slot; 4]) -> Slot
-    ensures { result ≡ first_slot slots.now }
-{
-    slots[0]
-}
-
 /// Whether F0 is absent, or precedes an operation that takes it, with memory as its first operand.
 pub fn allows_lock(reading: &Reading) -> bool
     ensures { result ≡ allows_lock reading.now }
 {
-    takes_lock(
-        &reading.prefixes,
-        reading.opcode,
-        first_slot(&reading.slots),
-    )
+    takes_lock(&reading.prefixes, reading.opcode, reading.slots[0])
 }
 
 /// The same of the parts of a reading.
@@ -54,9 +45,11 @@ fn read_body<W: Words, T: Reader<u64, u8>>(
     rows: &W,
     reader: &mut T,
     inst: &mut Instruction,
+    lead: Lead,
     byte: u8,
 ) -> Result<Rest, DecodeError>
-    requires { inst.old.operand_list ≡ no_operands }
+    requires lead { lead ≡ lead_of byte }
+    requires blank { inst.old.operand_list ≡ no_operands }
     ensures read { (strict : Bool) →
         then_from result (T.state reader.new) (rest_step strict inst.new)
         ≡ body_step (rows_of (W.word rows.now)) strict inst.old.prefixes byte
@@ -64,7 +57,7 @@ fn read_body<W: Words, T: Reader<u64, u8>>(
     ensures blank { IfOk result (λ rest. is_nothing rest ≡ false
         → inst.new.operand_list ≡ no_operands) }
 {
-    let word = read_word(rows, reader, &mut inst.prefixes, byte)?;
+    let word = read_word(rows, reader, &mut inst.prefixes, lead, byte)?;
     match unpack(word) {
         None => Err(DecodeError::InvalidOpcode),
         Some(row) => read_by_line(word, row, reader, inst),
@@ -85,7 +78,7 @@ fn read_by_plan<W: Words, T: Reader<u64, u8>>(
         ≡ body_step (rows_of (W.word rows.now)) strict inst.old.prefixes byte
         (T.state reader.old) }
 {
-    let word = read_word(rows, reader, &mut inst.prefixes, byte)?;
+    let word = read_word(rows, reader, &mut inst.prefixes, lead_of(byte), byte)?;
     match unpack(word) {
         None => Err(DecodeError::InvalidOpcode),
         Some(row) => read_row_into(strict, row, reader, inst),
@@ -134,11 +127,13 @@ fn read_common<W: Words, T: ReadIf>(
         (λ strict. walk_within (rows_of (W.word rows.now)) strict (T.state reader.old)) }
 {
     let byte = read_head(reader, &mut inst.prefixes)?;
-    if is_prefix(byte) {
-        return Ok(Left::Run(byte));
+    match lead_of(byte) {
+        Lead::Legacy | Lead::Rex => Ok(Left::Run(byte)),
+        lead => {
+            let rest = read_body(rows, reader, inst, lead, byte)?;
+            Ok(Left::Rest(rest))
+        }
     }
-    let rest = read_body(rows, reader, inst, byte)?;
-    Ok(Left::Rest(rest))
 }
 
 /// What is left.
@@ -197,11 +192,7 @@ fn is_exhausted(error: DecodeError) -> bool
 fn judgement(inst: &Instruction) -> Result<(), DecodeError>
     ensures { result ≡ judgement (reading_in inst.now) }
 {
-    if takes_lock(
-        &inst.prefixes,
-        inst.opcode,
-        first_slot(&inst.operand_list.slots),
-    ) {
+    if takes_lock(&inst.prefixes, inst.opcode, inst.operand_list.slots[0]) {
         Ok(())
     } else {
         Err(DecodeError::InvalidPrefixes)
@@ -260,25 +251,13 @@ fn error_at_limit(error: DecodeError, full: bool) -> DecodeError
     }
 }
 
-/// The first fifteen bytes.
-#[inline(always)]
-fn first_fifteen(bytes: &[u8]) -> &[u8]
-    ensures { result.now ≡ take 15 bytes.now }
-{
-    if bytes.len() > 15 {
-        &bytes[..15]
-    } else {
-        bytes
-    }
-}
-
 /// The walk within the first fifteen bytes of a slice, into a blank instruction.
 #[inline(never)]
 pub fn walk_slice(strict: bool, bytes: &[u8], inst: &mut Instruction) -> Result<(), DecodeError>
     requires { inst.old ≡ invalid_instruction }
     ensures { holding inst.new result ≡ answer_of strict bytes.now }
 {
-    let within = first_fifteen(bytes);
+    let within = &bytes[..bytes.len().min(15)];
     let (result, back) = walk_within(strict, &Packed, U8Reader::new(within), inst);
     let mut back = back;
     inst.length = back.offset();

@@ -3,6 +3,7 @@ use Rattle.x86_fields.specs.Steps.{then_from}
 use Rattle.x86_forms.specs.Words.{rows_of}
 use Rattle.x86_decode.specs.Walk.{body_step, walk_within}
 use Rattle.x86_decode.proofs.HeadWalk.{at_prefix, at_other}
+use Rattle.x86_decode.proofs.LeadLemmas.{no_prefix}
 use Rattle.x86_decode.proofs.walk.read_common.Goals as goal
 
 pub returns-in_err-byte-clause-read : goal.returns-in_err-byte-clause-read
@@ -12,28 +13,28 @@ returns-in_err-byte-clause-read g c =
     rw r
     (λ strict. ap (λ o. then_from o.answer o.after (λ h. body_step (rows_of (g.W.Words.word c.args.rows.now)) strict h.0 h.1)) c.in_err-byte.ensures)
 
-pub returns-then-is_prefix-clause-read : goal.returns-then-is_prefix-clause-read
+pub returns-in-Legacy-clause-read : goal.returns-in-Legacy-clause-read
 unfolding walk_within
-returns-then-is_prefix-clause-read g c =
+returns-in-Legacy-clause-read g c =
     let s = g.T.Reader.state c.read_head.new.reader in
     (c.in_ok-byte.ensures.0, c.in_ok-byte.ensures.1, λ strict. ap (λ o. then_from o.answer o.after (λ h. body_step (rows_of (g.W.Words.word c.args.rows.now)) strict h.0 h.1)) (at_prefix c.in_ok-byte.ensures.0 c.in_ok-byte.byte s (search rules) ∙ c.in_ok-byte.ensures.2))
 
-pub returns-in_err-rest-clause-read : goal.returns-in_err-rest-clause-read
+pub returns-in_err-rest-in_default-clause-read : goal.returns-in_err-rest-in_default-clause-read
 unfolding walk_within
-returns-in_err-rest-clause-read g c =
+returns-in_err-rest-in_default-clause-read g c =
     let rows = rows_of (g.W.Words.word c.args.rows.now) in
     let s = g.T.Reader.state c.read_head.new.reader in
-    let r : c.from_residual-in_err-rest.result ≡ Err c.in_err-rest.field-0.0 = search rules in
+    let r : c.from_residual-in_err-rest-in_default.result ≡ Err c.in_err-rest-in_default.field-0.0 = search rules in
     rw r
-    (λ strict. c.in_err-rest.ensures.read strict
+    (λ strict. c.in_err-rest-in_default.ensures.read strict
     ∙ ap (λ q. body_step rows strict q c.in_ok-byte.byte s) c.in_ok-byte.ensures.1
-    ∙ ap (λ o. then_from o.answer o.after (λ h. body_step rows strict h.0 h.1)) (at_other c.in_ok-byte.ensures.0 c.in_ok-byte.byte s (search rules) ∙ c.in_ok-byte.ensures.2))
+    ∙ ap (λ o. then_from o.answer o.after (λ h. body_step rows strict h.0 h.1)) (at_other c.in_ok-byte.ensures.0 c.in_ok-byte.byte s (no_prefix c.in_ok-byte.byte c.lead_of.result c.lead_of.ensures c.in_default.not-Legacy c.in_default.not-Rex) ∙ c.in_ok-byte.ensures.2))
 
-pub returns-clause-read : goal.returns-clause-read
+pub returns-in_ok-rest-in_default-clause-read : goal.returns-in_ok-rest-in_default-clause-read
 unfolding walk_within
-returns-clause-read g c =
+returns-in_ok-rest-in_default-clause-read g c =
     let rows = rows_of (g.W.Words.word c.args.rows.now) in
     let s = g.T.Reader.state c.read_head.new.reader in
-    λ strict. c.in_ok-rest.ensures.read strict
+    λ strict. c.in_ok-rest-in_default.ensures.read strict
     ∙ ap (λ q. body_step rows strict q c.in_ok-byte.byte s) c.in_ok-byte.ensures.1
-    ∙ ap (λ o. then_from o.answer o.after (λ h. body_step rows strict h.0 h.1)) (at_other c.in_ok-byte.ensures.0 c.in_ok-byte.byte s (search rules) ∙ c.in_ok-byte.ensures.2)
+    ∙ ap (λ o. then_from o.answer o.after (λ h. body_step rows strict h.0 h.1)) (at_other c.in_ok-byte.ensures.0 c.in_ok-byte.byte s (no_prefix c.in_ok-byte.byte c.lead_of.result c.lead_of.ensures c.in_default.not-Legacy c.in_default.not-Rex) ∙ c.in_ok-byte.ensures.2)

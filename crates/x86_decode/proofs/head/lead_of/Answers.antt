@@ -1,10 +1,10 @@
 use Rattle.std.proofs.Common.{List, get_or, arith, ap, ◌∙◌}
 use Rattle.std.proofs.lemmas.List.FromFn.{get_or-map-range_with_len}
-use Rattle.x86_decode.specs.declared.leads.Lead.{Lead}
-use Rattle.x86_decode.specs.declared.leads.Lead.TheVariants.{Legacy}
+use Rattle.x86_decode.specs.declared.head.Lead.{Lead}
+use Rattle.x86_decode.specs.declared.head.Lead.TheVariants.{Legacy}
 use Rattle.x86_decode.specs.Lead.{lead_of, leads}
 use Rattle.x86_decode.proofs.LeadLemmas.{table}
-use Rattle.x86_decode.proofs.leads.lead_of.Goals as goal
+use Rattle.x86_decode.proofs.head.lead_of.Goals as goal
 
 pub returns : goal.returns
 unfolding leads
