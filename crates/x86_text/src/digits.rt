@@ -1,6 +1,6 @@
 //! Numbers as decimals and bytes as hex digits, two digits at a time.
 
-ghost use Rattle.std.specs.Prelude.{◌≡◌, ◌+◌, ◌*◌, ◌/◌, ◌%◌, ◌<◌, ◌≤◌, ◌++◌, ◌∷◌, [], length, take, decimal};
+ghost use Rattle.std.specs.Prelude.{◌≡◌, ℕ, List, ◌+◌, ◌*◌, ◌/◌, ◌%◌, ◌<◌, ◌≤◌, ◌++◌, ◌∷◌, [], length, take, decimal};
 ghost use Rattle.std.specs.Fmt.{signed_decimal};
 ghost use Rattle.hex.specs.Hex.{encode_lower};
 
@@ -62,34 +62,122 @@ fn hex_of(byte: u8) -> &'static [u8; 2]
     &HEX[byte as usize]
 }
 
+/// Writes the last two digits of a number, after its other digits.
+#[inline(always)]
+fn put_last_two(cells: &mut [u8], at: usize, n: u64) -> usize
+    requires many { 100 ≤ n }
+    requires room { at + 2 ≤ length cells.old }
+    ensures text { (before : List ℕ) → take at cells.old ≡ before ++ decimal (n / 100) →
+        take result cells.new ≡ before ++ decimal n }
+    ensures place { result ≡ at + 2 }
+{
+    put_first(cells, at, pair_of((n % 100) as u8), 2)
+}
+
+/// Writes the decimal of a number that has one digit.
+#[inline(always)]
+#[tactic(auto, using(std::proofs::lemmas::Fmt::decimal_digit, itoa::proofs::Decimal::length_one))]
+pub(crate) fn put_one(cells: &mut [u8], at: usize, n: u64) -> usize
+    requires few { n < 10 }
+    requires room { at + 1 ≤ length cells.old }
+    ensures text { take result cells.new ≡ take at cells.old ++ decimal n }
+    ensures place { result ≡ at + length (decimal n) }
+{
+    put(cells, at, b'0' + n as u8)
+}
+
+/// Writes the decimal of a number that has two digits.
+#[inline(always)]
+#[tactic(auto, using(itoa::proofs::Decimal::decimal_two, itoa::proofs::Decimal::length_two))]
+fn put_pair(cells: &mut [u8], at: usize, n: u64) -> usize
+    requires many { 10 ≤ n }
+    requires few { n < 100 }
+    requires room { at + length (decimal n) ≤ length cells.old }
+    ensures text { take result cells.new ≡ take at cells.old ++ decimal n }
+    ensures place { result ≡ at + length (decimal n) }
+{
+    put_first(cells, at, pair_of(n as u8), 2)
+}
+
+/// Writes the decimal of a number that has at most two digits.
+#[inline(always)]
+#[tactic(auto, using(itoa::proofs::Decimal::length_one))]
+fn put_two(cells: &mut [u8], at: usize, n: u64) -> usize
+    requires few { n < 100 }
+    requires room { at + length (decimal n) ≤ length cells.old }
+    ensures text { take result cells.new ≡ take at cells.old ++ decimal n }
+    ensures place { result ≡ at + length (decimal n) }
+{
+    if n < 10 {
+        put_one(cells, at, n)
+    } else {
+        put_pair(cells, at, n)
+    }
+}
+
+/// Writes the decimal of a number that has at most four digits.
+#[inline(always)]
+#[tactic(auto, using(itoa::proofs::Decimal::length_pair))]
+fn put_four(cells: &mut [u8], at: usize, n: u64) -> usize
+    requires few { n < 10000 }
+    requires room { at + length (decimal n) ≤ length cells.old }
+    ensures text { take result cells.new ≡ take at cells.old ++ decimal n }
+    ensures place { result ≡ at + length (decimal n) }
+{
+    if n < 100 {
+        put_two(cells, at, n)
+    } else {
+        let at = put_two(cells, at, n / 100);
+        put_last_two(cells, at, n)
+    }
+}
+
+/// Writes the decimal of a number that has three to six digits.
+#[inline(never)]
+#[tactic(auto, using(itoa::proofs::Decimal::length_pair))]
+fn put_six(cells: &mut [u8], at: usize, n: u32) -> usize
+    requires many { 100 ≤ n }
+    requires few { n < 1000000 }
+    requires room { at + length (decimal n) ≤ length cells.old }
+    ensures text { take result cells.new ≡ take at cells.old ++ decimal n }
+    ensures place { result ≡ at + length (decimal n) }
+{
+    let n = n as u64;
+    let at = put_four(cells, at, n / 100);
+    put_last_two(cells, at, n)
+}
+
 /// Writes the decimal of a number.
 #[inline(always)]
 #[cycle(decimals)]
+#[tactic(auto, using(itoa::proofs::Decimal::length_one))]
 fn put_decimal(cells: &mut [u8], at: usize, n: u64) -> usize
     requires { at + length (decimal n) ≤ length cells.old }
     ensures text { take result cells.new ≡ take at cells.old ++ decimal n }
     ensures place { result ≡ at + length (decimal n) }
 {
     if n < 10 {
-        put(cells, at, b'0' + n as u8)
+        put_one(cells, at, n)
     } else if n < 100 {
-        put_first(cells, at, pair_of(n as u8), 2)
+        put_pair(cells, at, n)
+    } else if n < 1000000 {
+        put_six(cells, at, n as u32)
     } else {
-        put_digits(cells, at, n)
+        put_many(cells, at, n)
     }
 }
 
 /// Writes the decimal of a number that has more than two digits: the hundreds, and then the last two.
 #[inline(never)]
 #[cycle(decimals)]
-fn put_digits(cells: &mut [u8], at: usize, n: u64) -> usize
+fn put_many(cells: &mut [u8], at: usize, n: u64) -> usize
     requires many { 100 ≤ n }
     requires room { at + length (decimal n) ≤ length cells.old }
     ensures text { take result cells.new ≡ take at cells.old ++ decimal n }
     ensures place { result ≡ at + length (decimal n) }
 {
     let at = put_decimal(cells, at, n / 100);
-    put_first(cells, at, pair_of((n % 100) as u8), 2)
+    put_last_two(cells, at, n)
 }
 
 /// Writes the decimal of a number, which has at most twenty digits.

@@ -4,5 +4,5 @@ use Rattle.x86_text.proofs.digits.+decimals.Given as goal
 abbrev pub decreases-put_decimal : goal.decreases-put_decimal
 decreases-put_decimal l = 2 * l.n + 1
 
-abbrev pub decreases-put_digits : goal.decreases-put_digits
-decreases-put_digits l = 2 * l.n
+abbrev pub decreases-put_many : goal.decreases-put_many
+decreases-put_many l = 2 * l.n
