@@ -28,6 +28,7 @@ TEXT = TOP / "crates" / "x86_text"
 
 MAPS = ["One", "Of", "Of38", "Of3a"]
 COLUMNS = ["Plain", "P66", "F3", "F2"]
+UNDECIDED = 63  # the size that means one that the processor decides
 CARRIED = 8  # how many numbers a form with a field can carry
 NOTE = ["Written by tools/tables.py from {}.", "The proof doesn't rest on that script: a wrong entry is refused."]
 
@@ -189,25 +190,31 @@ def tables_rt():
     return lines
 
 
-def name_table(name, texts):
-    """A table of names: a line each, and all on one line where there is one."""
-    entries = [f'name!(b"{text:<16}", {len(text)})' for text in texts]
-    head = f"pub(crate) static {name}: [Name; {len(texts)}] = ["
+def name_table(name, size, texts):
+    """A table of names in blocks of a size: a line each, and all on one line where there is one."""
+    entries = [f'name!(b"{text:<{size}}", {len(text)})' for text in texts]
+    head = f"pub(crate) static {name}: [Name<{size}>; {len(texts)}] = ["
     return [f"{head}{entries[0]}];"] if len(texts) == 1 else [head] + [f"    {entry}," for entry in entries] + ["];"]
 
 
 def mnemonics_rt():
     lines = ["//! The mnemonics as names, in the order of the opcodes' numbers.", "//!"]
     lines += note("//!", "x86_opcodes/specs/Mnemonics.antt") + ["use crate::names::{Name, name};", ""]
-    return lines + name_table("MNEMONICS", [spelling for _, spelling in spellings()])
+    return lines + name_table("MNEMONICS", 16, [spelling for _, spelling in spellings()])
 
 
 def registers_rt():
     lines = ["//! The names of the registers of each class, by number.", "//!"]
     lines += note("//!", "x86_regs/specs/Names.antt") + ["use crate::names::{Name, name};"]
     for of, texts in registers():
-        lines += [""] + name_table(of.upper(), texts)
+        lines += [""] + name_table(of.upper(), 8, texts)
     return lines
+
+
+def sizes_rt():
+    lines = ["//! The sizes as an instruction's text ends with them, by number.", "//!"]
+    lines += note("//!", "specs/Lines.antt") + ["use crate::names::{Name, name};", ""]
+    return lines + name_table("SIZES", 4, [" m?" if size == UNDECIDED else f" m{size}" for size in range(65)])
 
 
 def written():
@@ -220,6 +227,7 @@ def written():
         FORMS / "src" / "tables.rt": tables_rt(),
         TEXT / "src" / "mnemonics.rt": mnemonics_rt(),
         TEXT / "src" / "registers.rt": registers_rt(),
+        TEXT / "src" / "sizes.rt": sizes_rt(),
     }
 
 

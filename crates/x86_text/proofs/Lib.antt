@@ -1,3 +1,4 @@
--- The lemmas on texts of operands and on places.
+-- The lemmas on texts of operands, on names and on places.
 pub mod OperandLemmas
+pub mod NameLemmas
 pub mod PlaceLemmas

@@ -6,9 +6,8 @@ use Rattle.x86_operands.specs.declared.operands.MemoryAccessSize.{MemoryAccessSi
 use Rattle.x86_fields.specs.declared.errors.DecodeError.{DecodeError}
 use Rattle.x86_fields.specs.declared.errors.DecodeError.TheVariants.{ExhaustedInput, InvalidOpcode, InvalidOperand, InvalidPrefixes, TooLong, IncompleteDecoder}
 use Rattle.x86_fields.specs.Errors.{description_of}
-use Rattle.x86_text.specs.Lines.{size_text}
 
-pub no_size : (m : ℕ) (o : Option MemoryAccessSize) (s : MemoryAccessSize) → o ≡ (if m == 0 then None else Some s) → o ≡ None → size_text m ≡ size_text 0
+pub no_size : (m : ℕ) (o : Option MemoryAccessSize) (s : MemoryAccessSize) → o ≡ (if m == 0 then None else Some s) → o ≡ None → m ≡ 0
 no_size zero o s e f = refl
 no_size (suc m) o s e f = let g : o ≡ Some s = e ∙ rw eqb-suc-zero refl in cc
 

@@ -1,22 +1,35 @@
 //! The text of instructions, and their lines.
 
-ghost use Rattle.std.specs.Prelude.{◌≡◌, ◌+◌, ◌*◌, ◌++◌, length, take, ◌≤◌};
+ghost use Rattle.std.specs.Prelude.{◌≡◌, ◌+◌, ◌*◌, ◌++◌, length, take, drop, codes, decimal, ◌≤◌, ◌<◌};
 ghost use Rattle.arrayvec.specs.ArrayVec.{array_vec_len};
 ghost use Rattle.x86_opcodes.specs.Mnemonics.{mnemonic};
-ghost use Rattle.x86_decode.specs.Instruction.{mem_size_number};
-ghost use Rattle.x86_text.specs.Operands.{operands_text, others_text};
+ghost use Rattle.x86_decode.specs.Instruction.{mem_size_number, operand_count, operands_of};
+ghost use Rattle.x86_text.specs.Operands.{operand_text, operands_text, others_text};
 ghost use Rattle.x86_text.specs.Lines.{size_text, instruction_text, line_of};
 
 use crate::cells::put;
-use crate::digits::{put_u8, put_u64};
-use crate::names::{mnemonic, put_name};
+use crate::digits::{put_one, put_u8, put_u64};
+use crate::names::{mnemonic, put_name, size_name};
 use crate::operands::put_operand;
 use crate::place::Place;
 use crate::room::{LINE_MAX, LINE_ROOM, Line};
 use x86_decode::Instruction;
 use x86_operands::Operand;
 
-/// Writes the operands after the first, each after a comma and a space.
+/// Writes an operand after a comma and a space.
+#[inline(always)]
+fn put_other(cells: &mut [u8], at: usize, operand: &Operand) -> usize
+    requires { at + 32 ≤ length cells.old }
+    ensures text { take result cells.new ≡
+        take at cells.old ++ codes ", " ++ operand_text operand.now }
+    ensures short { result ≤ at + 32 }
+{
+    let at = put(cells, at, b',');
+    let at = put(cells, at, b' ');
+    put_operand(cells, at, operand)
+}
+
+/// Writes operands, each after a comma and a space.
 #[inline(always)]
 fn put_others(cells: &mut [u8], at: usize, operands: &[Operand]) -> usize
     requires { at + 32 * length operands.now ≤ length cells.old }
@@ -25,45 +38,124 @@ fn put_others(cells: &mut [u8], at: usize, operands: &[Operand]) -> usize
 {
     let mut at = at;
     for operand in operands {
-        at = put(cells, at, b',');
-        at = put(cells, at, b' ');
-        at = put_operand(cells, at, operand);
+        at = put_other(cells, at, operand);
     }
     at
+}
+
+/// Writes the operands after the second, each after a comma and a space. Few instructions have any.
+#[inline(never)]
+fn put_after_second(cells: &mut [u8], at: usize, instruction: &Instruction) -> usize
+    requires room { at + 64 ≤ length cells.old }
+    requires many { 2 < operand_count instruction.now }
+    ensures text { take result cells.new ≡
+        take at cells.old ++ others_text (drop 2 (operands_of instruction.now)) }
+    ensures short { result ≤ at + 64 }
+{
+    put_others(cells, at, &instruction.operands()[2..])
 }
 
 /// Writes the operands, after a space where there are any.
 #[inline(always)]
 #[tactic(auto, unfolding(crate::specs::Operands::operands_text))]
-fn put_operands(cells: &mut [u8], at: usize, operands: &[Operand]) -> usize
-    requires { at + 32 * length operands.now ≤ length cells.old }
-    ensures text { take result cells.new ≡ take at cells.old ++ operands_text operands.now }
-    ensures short { result ≤ at + 32 * length operands.now }
+fn put_operands(cells: &mut [u8], at: usize, instruction: &Instruction) -> usize
+    requires { at + 128 ≤ length cells.old }
+    ensures text { take result cells.new ≡
+        take at cells.old ++ operands_text (operands_of instruction.now) }
+    ensures short { result ≤ at + 128 }
 {
-    match operands {
+    match instruction.operands() {
         [] => at,
         [first, others @ ..] => {
             let at = put(cells, at, b' ');
             let at = put_operand(cells, at, first);
-            put_others(cells, at, others)
+            match others {
+                [] => at,
+                [second, ..] => {
+                    let at = put_other(cells, at, second);
+                    if instruction.operand_count() > 2 {
+                        put_after_second(cells, at, instruction)
+                    } else {
+                        at
+                    }
+                }
+            }
         }
     }
 }
 
+/// The number of bytes of memory that an instruction reads or writes: 0 where it has none, and 63 where the processor
+/// decides.
 #[inline(always)]
-fn put_size(cells: &mut [u8], at: usize, instruction: &Instruction) -> usize
-    requires { at + 3 ≤ length cells.old }
-    ensures text { take result cells.new ≡
-        take at cells.old ++ size_text (mem_size_number instruction.now) }
-    ensures short { result ≤ at + 3 }
+fn size_number(instruction: &Instruction) -> u8
+    ensures { result ≡ mem_size_number instruction.now }
 {
     match instruction.mem_size() {
-        None => put_u8(cells, at, 0),
+        None => 0,
         Some(size) => match size.bytes_size() {
-            None => put(cells, at, b'?'),
-            Some(bytes) => put_u8(cells, at, bytes),
+            None => 63,
+            Some(bytes) => bytes,
         },
     }
+}
+
+/// Writes a size after a space and an m.
+#[inline(always)]
+fn put_size(cells: &mut [u8], at: usize, size: u8) -> usize
+    requires { at + 5 ≤ length cells.old }
+    ensures text { take result cells.new ≡ take at cells.old ++ codes " m" ++ size_text size }
+    ensures short { result ≤ at + 5 }
+{
+    match size_name(size) {
+        Some(name) => put_name(cells, at, name),
+        None => put_large_size(cells, at, size),
+    }
+}
+
+/// Writes a size that no decoded instruction has.
+#[cold]
+#[inline(never)]
+fn put_large_size(cells: &mut [u8], at: usize, size: u8) -> usize
+    requires room { at + 5 ≤ length cells.old }
+    requires large { 65 ≤ size }
+    ensures text { take result cells.new ≡ take at cells.old ++ codes " m" ++ size_text size }
+    ensures short { result ≤ at + 5 }
+{
+    let at = put(cells, at, b' ');
+    let at = put(cells, at, b'm');
+    put_u8(cells, at, size)
+}
+
+/// Writes the length of an encoding between spaces.
+#[inline(always)]
+#[tactic(auto, using(itoa::proofs::Decimal::length_one))]
+fn put_length(cells: &mut [u8], at: usize, n: u64) -> usize
+    requires { at + 22 ≤ length cells.old }
+    ensures text { take result cells.new ≡
+        take at cells.old ++ codes " " ++ decimal n ++ codes " " }
+    ensures short { result ≤ at + 22 }
+{
+    if n < 10 {
+        let at = put(cells, at, b' ');
+        let at = put_one(cells, at, n);
+        put(cells, at, b' ')
+    } else {
+        put_long_length(cells, at, n)
+    }
+}
+
+/// Writes a length that has more than one digit.
+#[cold]
+#[inline(never)]
+fn put_long_length(cells: &mut [u8], at: usize, n: u64) -> usize
+    requires { at + 22 ≤ length cells.old }
+    ensures text { take result cells.new ≡
+        take at cells.old ++ codes " " ++ decimal n ++ codes " " }
+    ensures short { result ≤ at + 22 }
+{
+    let at = put(cells, at, b' ');
+    let at = put_u64(cells, at, n);
+    put(cells, at, b' ')
 }
 
 /// Writes the text of an instruction without its place and length.
@@ -75,10 +167,8 @@ fn put_instruction(cells: &mut [u8], at: usize, instruction: &Instruction) -> us
     ensures short { result ≤ at + 149 }
 {
     let at = put_name(cells, at, mnemonic(instruction.opcode()));
-    let at = put_operands(cells, at, instruction.operands());
-    let at = put(cells, at, b' ');
-    let at = put(cells, at, b'm');
-    put_size(cells, at, instruction)
+    let at = put_operands(cells, at, instruction);
+    put_size(cells, at, size_number(instruction))
 }
 
 /// Appends the text of an instruction without its place and length, at most 149 bytes, as `ADD rax, rbx m8`.
@@ -111,9 +201,7 @@ pub fn write_instruction(line: &mut Line, place: &Place, instruction: &Instructi
 {
     line.set(place.digits());
     let at = line.len;
-    let at = put(&mut line.cells, at, b' ');
-    let at = put_u64(&mut line.cells, at, instruction.len().to_const());
-    let at = put(&mut line.cells, at, b' ');
+    let at = put_length(&mut line.cells, at, instruction.len().to_const());
     line.len = put_instruction(&mut line.cells, at, instruction);
 }
 

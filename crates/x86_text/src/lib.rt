@@ -22,6 +22,7 @@ mod place;
 mod refusals;
 mod registers;
 mod room;
+mod sizes;
 
 pub use instructions::{instruction_text, line_of, push_instruction, write_instruction};
 pub use operands::{operand_text, push_operand};

@@ -4,7 +4,7 @@
 //! The proof doesn't rest on that script: a wrong entry is refused.
 use crate::names::{Name, name};
 
-pub(crate) static MNEMONICS: [Name; 691] = [
+pub(crate) static MNEMONICS: [Name<16>; 691] = [
     name!(b"Invalid         ", 7),
     name!(b"ADD             ", 3),
     name!(b"OR              ", 2),

@@ -1,21 +1,23 @@
 //! Names as blocks of fixed size, so that they are copied without a loop.
 
-ghost use Rattle.std.specs.Prelude.{◌≡◌, ◌+◌, ◌++◌, ◌≤◌, IsTrue, [], length, map, slice_get, take, unwrap_or};
+ghost use Rattle.std.specs.Prelude.{◌≡◌, ◌+◌, ◌++◌, ◌≤◌, IsTrue, IfSome, IfNone, length, map, take, codes};
 ghost use Rattle.x86_opcodes.specs.Mnemonics.{mnemonic};
 ghost use Rattle.x86_regs.specs.Names.{name_of, names_of};
 ghost use Rattle.x86_text.specs.Names.{name_text, are_short};
+ghost use Rattle.x86_text.specs.Lines.{size_text};
 
 use crate::cells::put_first;
 use crate::mnemonics::MNEMONICS;
 use crate::registers;
+use crate::sizes::SIZES;
 use x86_opcodes::Opcode;
 use x86_regs::{RegSpec, RegisterClass};
 
-/// A text of at most 16 bytes: a block that begins with it, and its length.
+/// A text of at most `M` bytes: a block that begins with it, and its length.
 #[derive(Drop)]
-pub(crate) struct Name {
-    pub bytes: [u8; 16],
-    pub len: u8,
+pub(crate) struct Name<const M: usize> {
+    pub bytes: [u8; M],
+    pub len: usize,
 }
 
 /// A name by its block and its length.
@@ -30,31 +32,43 @@ macro_rules! name {
 
 pub(crate) use name;
 
-static NONE: Name = name!(b"                ", 0);
-
 /// Writes a name.
 #[inline(always)]
-pub(crate) fn put_name(cells: &mut [u8], at: usize, name: &Name) -> usize
-    requires room { at + 16 ≤ length cells.old }
-    requires short { name.now.len ≤ 16 }
+pub(crate) fn put_name<const M: usize>(cells: &mut [u8], at: usize, name: &Name<M>) -> usize
+    requires room { at + M ≤ length cells.old }
+    requires short { name.now.len ≤ M }
     ensures text { take result cells.new ≡ take at cells.old ++ name_text name.now }
     ensures place { result ≡ at + name.now.len }
 {
-    put_first(cells, at, &name.bytes, name.len as usize)
+    put_first(cells, at, &name.bytes, name.len)
 }
 
 /// The mnemonic of an opcode.
 #[inline(always)]
-pub(crate) fn mnemonic(opcode: Opcode) -> &'static Name
+pub(crate) fn mnemonic(opcode: Opcode) -> &'static Name<16>
     ensures text { name_text result.now ≡ mnemonic opcode }
     ensures short { result.now.len ≤ 16 }
 {
     &MNEMONICS[opcode.number() as usize]
 }
 
+/// A size after a space and an m, of the sizes that instructions have. With `inline(always)` this would be three tests in
+/// the caller, in place of one.
+pub(crate) fn size_name(size: u8) -> Option<&'static Name<4>>
+    ensures text { IfSome result (λ name. name_text name.now ≡ codes " m" ++ size_text size) }
+    ensures short { IfSome result (λ name. name.now.len ≤ 4) }
+    ensures large { IfNone result (65 ≤ size) }
+{
+    if size < 65 {
+        Some(&SIZES[size as usize])
+    } else {
+        None
+    }
+}
+
 /// The names of the registers of a class, by number.
 #[inline(always)]
-fn names_of(class: RegisterClass) -> &'static [Name]
+fn names_of(class: RegisterClass) -> &'static [Name<8>]
     ensures text { map name_text result.now ≡ names_of class }
     ensures short { IsTrue (are_short 6 result.now) }
 {
@@ -80,14 +94,15 @@ fn names_of(class: RegisterClass) -> &'static [Name]
     }
 }
 
-/// The name of a register.
+/// Writes the name of a register, or nothing where its class has no such number.
 #[inline(always)]
-pub(crate) fn register_name(register: &RegSpec) -> &'static Name
-    ensures text { name_text result.now ≡ name_of register.now }
-    ensures short { result.now.len ≤ 6 }
+pub(crate) fn put_register_name(cells: &mut [u8], at: usize, register: &RegSpec) -> usize
+    requires { at + 8 ≤ length cells.old }
+    ensures text { take result cells.new ≡ take at cells.old ++ name_of register.now }
+    ensures short { result ≤ at + 6 }
 {
     match names_of(register.class()).get(register.num() as usize) {
-        Some(name) => name,
-        None => &NONE,
+        Some(name) => put_name(cells, at, name),
+        None => at,
     }
 }

@@ -7,7 +7,7 @@ ghost use Rattle.x86_text.specs.Operands.{operand_text, deref_text, moved_text, 
 
 use crate::cells::{put, put_bytes, put_first};
 use crate::digits::{put_signed, put_u8, put_u32, put_u64};
-use crate::names::{put_name, register_name};
+use crate::names::put_register_name;
 use crate::room::{LINE_ROOM, Line};
 use x86_operands::Operand;
 use x86_regs::RegSpec;
@@ -40,11 +40,11 @@ fn put_unsigned(cells: &mut [u8], at: usize, label: &[u8; 4], count: usize, n: u
 #[inline(always)]
 #[tactic(auto, unfolding(crate::specs::Operands::register_text))]
 fn put_register(cells: &mut [u8], at: usize, register: &RegSpec) -> usize
-    requires { at + 16 ≤ length cells.old }
+    requires { at + 8 ≤ length cells.old }
     ensures text { take result cells.new ≡ take at cells.old ++ register_text register.now }
     ensures short { result ≤ at + 6 }
 {
-    put_name(cells, at, register_name(register))
+    put_register_name(cells, at, register)
 }
 
 #[inline(always)]
@@ -164,30 +164,30 @@ pub(crate) fn put_operand(cells: &mut [u8], at: usize, operand: &Operand) -> usi
     ensures text { take result cells.new ≡ take at cells.old ++ operand_text operand.now }
     ensures short { result ≤ at + 30 }
 {
-    match *operand {
-        Operand::ImmediateI8 { imm } => put_immediate(cells, at, b"i8: ", 3, imm as i64),
-        Operand::ImmediateU8 { imm } => put_unsigned(cells, at, b"u8: ", 3, imm as u64),
-        Operand::ImmediateI16 { imm } => put_immediate(cells, at, b"i16:", 4, imm as i64),
-        Operand::ImmediateU16 { imm } => put_unsigned(cells, at, b"u16:", 4, imm as u64),
-        Operand::ImmediateI32 { imm } => put_immediate(cells, at, b"i32:", 4, imm as i64),
-        Operand::ImmediateU32 { imm } => put_unsigned(cells, at, b"u32:", 4, imm as u64),
-        Operand::ImmediateI64 { imm } => put_immediate(cells, at, b"i64:", 4, imm),
-        Operand::ImmediateU64 { imm } => put_unsigned(cells, at, b"u64:", 4, imm),
+    match operand {
+        Operand::ImmediateI8 { imm } => put_immediate(cells, at, b"i8: ", 3, *imm as i64),
+        Operand::ImmediateU8 { imm } => put_unsigned(cells, at, b"u8: ", 3, *imm as u64),
+        Operand::ImmediateI16 { imm } => put_immediate(cells, at, b"i16:", 4, *imm as i64),
+        Operand::ImmediateU16 { imm } => put_unsigned(cells, at, b"u16:", 4, *imm as u64),
+        Operand::ImmediateI32 { imm } => put_immediate(cells, at, b"i32:", 4, *imm as i64),
+        Operand::ImmediateU32 { imm } => put_unsigned(cells, at, b"u32:", 4, *imm as u64),
+        Operand::ImmediateI64 { imm } => put_immediate(cells, at, b"i64:", 4, *imm),
+        Operand::ImmediateU64 { imm } => put_unsigned(cells, at, b"u64:", 4, *imm),
         Operand::Register { reg }
         | Operand::RegisterMaskMerge { reg, .. }
         | Operand::RegisterMaskMergeSae { reg, .. }
-        | Operand::RegisterMaskMergeSaeNoround { reg, .. } => put_register(cells, at, &reg),
-        Operand::AbsoluteU32 { addr } => put_absolute(cells, at, b"[abs32:", addr as u64),
-        Operand::AbsoluteU64 { addr } => put_absolute(cells, at, b"[abs64:", addr),
+        | Operand::RegisterMaskMergeSaeNoround { reg, .. } => put_register(cells, at, reg),
+        Operand::AbsoluteU32 { addr } => put_absolute(cells, at, b"[abs32:", *addr as u64),
+        Operand::AbsoluteU64 { addr } => put_absolute(cells, at, b"[abs64:", *addr),
         Operand::MemDeref { base } | Operand::MemDerefMasked { base, .. } => {
-            put_deref(cells, at, &base)
+            put_deref(cells, at, base)
         }
         Operand::Disp { base, disp } | Operand::DispMasked { base, disp, .. } => {
-            put_moved(cells, at, &base, disp)
+            put_moved(cells, at, base, *disp)
         }
         Operand::MemIndexScale { index, scale }
         | Operand::MemIndexScaleMasked { index, scale, .. } => {
-            put_index(cells, at, None, &index, scale)
+            put_index(cells, at, None, index, *scale)
         }
         Operand::MemIndexScaleDisp { index, scale, disp }
         | Operand::MemIndexScaleDispMasked {
@@ -195,14 +195,14 @@ pub(crate) fn put_operand(cells: &mut [u8], at: usize, operand: &Operand) -> usi
             scale,
             disp,
             ..
-        } => { put_moved_index(cells, at, None, &index, scale, disp) }
+        } => { put_moved_index(cells, at, None, index, *scale, *disp) }
         Operand::MemBaseIndexScale { base, index, scale }
         | Operand::MemBaseIndexScaleMasked {
             base,
             index,
             scale,
             ..
-        } => { put_index(cells, at, Some(base), &index, scale) }
+        } => { put_index(cells, at, Some(*base), index, *scale) }
         Operand::MemBaseIndexScaleDisp {
             base,
             index,
@@ -215,7 +215,7 @@ pub(crate) fn put_operand(cells: &mut [u8], at: usize, operand: &Operand) -> usi
             scale,
             disp,
             ..
-        } => { put_moved_index(cells, at, Some(base), &index, scale, disp) }
+        } => { put_moved_index(cells, at, Some(*base), index, *scale, *disp) }
         Operand::Nothing => at,
     }
 }
