@@ -13,7 +13,7 @@ use Rattle.x86_cli.specs.Text.Window.{with_bytes, rest_of}
 use Rattle.x86_cli.specs.Commands.Run.{Closes, Ahead, RanInWindow}
 use Rattle.x86_cli.proofs.TextLemmas.Text.{text-end, text-failed}
 use Rattle.x86_cli.proofs.CommandLemmas.Causes.{some_stop}
-use Rattle.x86_cli.proofs.ListingLemmas.Progress.{Progress, progress_step, ran_failed, ran_closed, ran_unclosed}
+use Rattle.x86_cli.proofs.ListingLemmas.Progress.{Progress, progress_step, status_by, ran_failed, ran_closes}
 
 -- the window of a run
 abbrev pub window : Option ℕ
@@ -68,11 +68,8 @@ module _ {S K : Type 0} (gives : S → Got → S → Type 0) (takes : K → List
         (e : SinkFailed) (m : K) → takes l x (Err e) m → RanInWindow gives takes at max outcome.WriteFault a b k m
     window_failed x beginning e m failed = (ran_failed gives takes at window max n ended w p r a b k l s x beginning e m failed, none_more)
 
-    pub window_closed : (last : Listing) → length last.lines ≤ 1 → ((xs : List ℕ) (stop : Stop) → at n (rest_of ended w p r xs stop) ≡ last) →
-        (status : Status) (m : K) → Closes takes last (Ok status) l m → RanInWindow gives takes at max status a b k m
-    window_closed last one is status m closes =
-        (ran_closed gives takes at window max n ended w p r a b k l s last is status m closes, ahead (s.lines ++ last.lines) last.lines refl one)
-
-    pub window_unclosed : (last : Listing) → ((xs : List ℕ) (stop : Stop) → at n (rest_of ended w p r xs stop) ≡ last) →
-        (e : SinkFailed) (m : K) → Closes takes last (Err e) l m → RanInWindow gives takes at max outcome.WriteFault a b k m
-    window_unclosed last is e m closes = (ran_unclosed gives takes at window max n ended w p r a b k l s last is e m closes, none_more)
+    pub window_closes : (last : Listing) → length last.lines ≤ 1 → ((xs : List ℕ) (stop : Stop) → at n (rest_of ended w p r xs stop) ≡ last) →
+        (result : Result Status SinkFailed) (m : K) → Closes takes last result l m → RanInWindow gives takes at max (status_by result) a b k m
+    window_closes last one is (Ok status) m closes =
+        (ran_closes gives takes at window max n ended w p r a b k l s last is (Ok status) m closes, ahead (s.lines ++ last.lines) last.lines refl one)
+    window_closes last one is (Err e) m closes = (ran_closes gives takes at window max n ended w p r a b k l s last is (Err e) m closes, none_more)

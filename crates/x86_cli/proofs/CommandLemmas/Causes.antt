@@ -4,7 +4,6 @@ use Rattle.std.proofs.Math.Seq.{drop-append_seam}
 use Rattle.std.specs.Prelude.{IsTrue, ⊤}
 use Rattle.std.specs.List.{concat}
 use Rattle.x86_decode.specs.declared.instructions.Instruction.{Instruction}
-use Rattle.x86_fields.specs.declared.errors.DecodeError.{DecodeError}
 use Rattle.x86_fields.specs.declared.errors.DecodeError.TheVariants.{ExhaustedInput}
 use Rattle.x86_decode.specs.Answer.{answer_of}
 use Rattle.x86_cli.specs.declared.outside.source.Got.{Got}
@@ -20,7 +19,7 @@ use Rattle.x86_cli.specs.declared.commands.command.Command.TheVariants.{List as 
 use Rattle.x86_cli.specs.Commands.Command.{Runs, listing_for, goes_past_refusals}
 use Rattle.x86_cli.specs.Text.{Text, text_at, text_of}
 use Rattle.x86_cli.specs.Text.Reading.{MayCome}
-use Rattle.x86_cli.specs.Listings.Listing.{Listing, at_end, decoded_of, decoded_at_end, decoded_before_end, listed, listing_from}
+use Rattle.x86_cli.specs.Listings.Listing.{Listing, at_end, decoded_of, decoded_before_end, listing_from}
 use Rattle.x86_cli.specs.Commands.Run.{Lists, Ran}
 use Rattle.x86_cli.specs.Commands.Causes.{HaveCauses}
 use Rattle.x86_cli.specs.Commands.Complete.{IsOneInstruction, AreSentences, CompletesTexts}
@@ -31,15 +30,10 @@ use Rattle.x86_cli.proofs.ListingLemmas.Listing.{listing-whole}
 -- a listing that isn't refused ends as its text
 
 module _ (strict : Bool) (text : ℕ → Instruction → List ℕ → List ℕ) (e : Ending) where
-  answered_end : (a : Result Instruction DecodeError) (n : ℕ) (xs : List ℕ) (after : ℕ → Listing) →
-      ((k : ℕ) → (after k).status ≢ outcome.Refused → (after k).status ≡ (at_end e).status) →
-      (listed strict text (decoded_at_end a e) n xs after).status ≢ outcome.Refused → (listed strict text (decoded_at_end a e) n xs after).status ≡ (at_end e).status
-  answered_end a n xs after h = grind arith
-
   listing_end : (n k : ℕ) (xs : List ℕ) → (listing_from strict text n k xs e).status ≢ outcome.Refused → (listing_from strict text n k xs e).status ≡ (at_end e).status
   unfolding listing_from decoded_of
   listing_end n k [] = λ _. refl
-  listing_end n zero (x ∷ xs) = answered_end (answer_of strict (x ∷ xs)) n (x ∷ xs) _ (λ k. listing_end (n + 1) k xs)
+  listing_end n zero (x ∷ xs) = let h = λ (k : ℕ). listing_end (n + 1) k xs in grind arith
   listing_end n (suc k) (x ∷ xs) = listing_end (n + 1) k xs
 
 pub command_end : (c : Command) (t : Text) → (listing_for c t).status ≢ outcome.Refused → (listing_for c t).status ≡ (at_end t.ending).status
@@ -61,15 +55,15 @@ pub some_stop : (stop : Option Stop) → (s : Stop) × MayCome stop [] s
 some_stop None = (End, tt)
 some_stop (Some given) = (given, (refl, refl))
 
-lists_other : (other : Status) → outcome.WriteFault ≢ other → (status : Status) (lines : List (List ℕ)) (failed : Option (List ℕ)) (l : Listing) → Lists status lines failed l →
-    l.status ≢ other → status ≢ other
-lists_other other fault status lines failed l h ne = grind arith
+-- a run at which no put failed ends as its listing
+pub lists_status : (status : Status) (lines : List (List ℕ)) (failed : Option (List ℕ)) (l : Listing) → status ≢ outcome.WriteFault → Lists status lines failed l → l.status ≡ status
+lists_status status lines failed l ne h = grind arith
 
 pub ran_used : {S K : Type 0} (gives : S → Got → S → Type 0) (takes : K → List ℕ → Result ⊤ SinkFailed → K → Type 0) (c : Command) (max : ℕ) (status : Status) (a b : S) (k l : K) →
     Ran gives takes (listing_for c) max status a b k l → status ≢ outcome.Usage
-ran_used gives takes c max status a b k l ran =
+ran_used gives takes c max status a b k l ran e =
     let s = some_stop ran.stop in
-    lists_other outcome.Usage (λ e. cc) status ran.lines ran.failed _ (ran.lists [] s.0 s.1) (command_used c _)
+    command_used c _ (lists_status status ran.lines ran.failed _ (λ f. cc) (ran.lists [] s.0 s.1) ∙ e)
 
 -- Commands that continue after refusals are never refused.
 past_refusals : (c : Command) (t : Text) → IsTrue (goes_past_refusals c) → (listing_for c t).status ≢ outcome.Refused
@@ -77,26 +71,19 @@ past_refusals c t goes = grind arith
 
 pub ran_unrefused : {S K : Type 0} (gives : S → Got → S → Type 0) (takes : K → List ℕ → Result ⊤ SinkFailed → K → Type 0) (c : Command) (status : Status) (a b : S) (k l : K) →
     Runs gives takes c status a b k l → IsTrue (goes_past_refusals c) → status ≢ outcome.Refused
-ran_unrefused gives takes c status a b k l runs goes =
-    let ran = runs.0 in
-    let s = some_stop ran.stop in
-    lists_other outcome.Refused (λ e. cc) status ran.lines ran.failed _ (ran.lists [] s.0 s.1) (past_refusals c _ goes)
-
-lists_read : (lines : List (List ℕ)) (failed : Option (List ℕ)) (l : Listing) → Lists outcome.ReadFault lines failed l → l.status ≢ outcome.ReadFault → ⊥
-lists_read lines failed l h ne = grind arith
-
-lists_written : (lines : List (List ℕ)) (failed : Option (List ℕ)) (l : Listing) → Lists outcome.WriteFault lines failed l → l.status ≢ outcome.WriteFault → failed ≢ None
-lists_written lines failed l h ne = grind arith
+ran_unrefused gives takes c status a b k l runs goes e =
+    let s = some_stop runs.0.stop in
+    past_refusals c _ goes (lists_status status runs.0.lines runs.0.failed _ (λ f. cc) (runs.0.lists [] s.0 s.1) ∙ e)
 
 pub fault_stop : (stop : Option Stop) → (MayCome stop [] End → ⊥) → stop ≡ Some Failed
 fault_stop stop never = grind arith
 
 pub causes : {S K : Type 0} (gives : S → Got → S → Type 0) (takes : K → List ℕ → Result ⊤ SinkFailed → K → Type 0) → HaveCauses gives takes
 causes gives takes c max a b k l = (
-  λ ran. fault_stop ran.stop (λ may. lists_read ran.lines ran.failed _ (ran.lists [] End may) (command_read c max (ran.bytes ++ []))),
-  λ ran.
+  λ ran. fault_stop ran.stop (λ may. command_read c max (ran.bytes ++ []) (lists_status outcome.ReadFault ran.lines ran.failed _ (λ e. cc) (ran.lists [] End may))),
+  λ ran e.
       let s = some_stop ran.stop in
-      lists_written ran.lines ran.failed _ (ran.lists [] s.0 s.1) (command_written c _),
+      command_written c _ (ap (λ l. l.status) (rw e at (ran.lists [] s.0 s.1))),
 )
 
 -- sequences of sentences

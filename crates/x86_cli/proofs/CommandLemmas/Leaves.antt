@@ -1,12 +1,12 @@
 -- What the program leaves, where the bytes that its reader has left and those that its writer has are known.
-use Rattle.std.proofs.Common.{◌≡◌, ◌≢◌, inl, inr, ℕ, Bool, List, [], ◌∷◌, ◌++◌, take, Option, Some, None, Result, refl, sym, subst, append-nil, arith}
+use Rattle.std.proofs.Common.{◌≡◌, ◌≢◌, inl, inr, ℕ, Bool, List, [], ◌∷◌, ◌++◌, Option, Some, None, Result, Ok, refl, sym, subst, append-nil, arith}
 use Rattle.std.proofs.Math.Seq.{take-append_seam}
 use Rattle.std.specs.Prelude.{IfSome, ⊤}
 use Rattle.std.specs.List.{concat}
 use Rattle.std.specs.declared.io.Error.{Error}
 use Rattle.std.specs.Io.{StartsWith}
 use Rattle.std.specs.Io.KnownBytes.{Keeps, Consumes, Appends, IsAtEnd, ReadConsumes, WriteAppends}
-use Rattle.std.proofs.KnownBytes.{Consumes-nil, Consumes-trans, Appends-nil, Appends-trans}
+use Rattle.std.proofs.KnownBytes.{Consumes-nil, Consumes-trans, Consumes-kept, Consumes-whole, Appends-nil, Appends-trans, Appends-kept}
 use Rattle.x86_cli.specs.declared.commands.command.Command.{Command}
 use Rattle.x86_cli.specs.declared.listings.status.Status.{Status}
 use Rattle.x86_cli.specs.declared.listings.status.Status.TheVariants.{Done, Usage, Refused, ReadFault, WriteFault}
@@ -14,7 +14,7 @@ use Rattle.x86_cli.specs.declared.text.reader.Ending.TheVariants.{Fault}
 use Rattle.x86_cli.specs.DecoderLaws.{DecoderLaws}
 use Rattle.x86_cli.specs.Outside.Stop.{Stop, End, Failed}
 use Rattle.x86_cli.specs.Outside.Reads.{ReaderCalls, ReadWhileOpen}
-use Rattle.x86_cli.specs.Outside.Writes.{Call, sent, sent_by, Does, WriterCalls}
+use Rattle.x86_cli.specs.Outside.Writes.{Call, Write, sent, sent_by, Does, WriterCalls}
 use Rattle.x86_cli.specs.Text.{Text, text_of}
 use Rattle.x86_cli.specs.Commands.Command.{max_of}
 use Rattle.x86_cli.specs.Commands.Make.{made_listing}
@@ -22,37 +22,23 @@ use Rattle.x86_cli.specs.Commands.Says.{full_listing, taken_listing}
 use Rattle.x86_cli.specs.Commands.Program.{IsPrinted, Performs, PerformsMake, Has, HasOfAll, HasOfTaken, Leaves}
 use Rattle.x86_cli.proofs.CommandLemmas.Says.{some_left}
 use Rattle.x86_cli.proofs.CommandLemmas.Stay.{refused_stays}
-use Rattle.x86_cli.proofs.OutsideLemmas.Sink.{appends-none}
-use Rattle.x86_cli.proofs.OutsideLemmas.Writes.{take_none}
 
 -- readers
-
-consumes_none : (a b : Option (List ℕ)) → Keeps a b → Consumes a b []
-consumes_none a b k = grind arith
-
-at_end : (a b : Option (List ℕ)) (bytes : List ℕ) → bytes ≡ [] → Consumes a b bytes → IsAtEnd b → IfSome a (λ xs. xs ≡ [])
-at_end a b bytes none c e = grind arith
-
-all_read : (p ps : List ℕ) (a b : Option (List ℕ)) → Consumes a b p → IfSome b (λ xs. xs ≡ ps) → IfSome a (λ xs. xs ≡ p ++ ps)
-all_read p ps a b c h = grind arith
 
 module _ {R : Type 0} (left : R → Option (List ℕ)) where
   abbrev reports : R → List ℕ → Result ℕ Error → R → Type 0
   reports s buffer r t = ReadConsumes (left s) (left t) r buffer
 
   reads_consume : (pieces : List (List ℕ)) (stop : Option Stop) (r r' : R) → ReaderCalls reports pieces stop r r' → Consumes (left r) (left r') (concat pieces)
-  reads_consume [] stop r r' h = grind (arith, Consumes-nil, consumes_none, take_none)
+  reads_consume [] stop r r' h = grind (arith, Consumes-nil, Consumes-kept)
   reads_consume (p ∷ ps) stop r r' h = Consumes-trans (left r) (left h.0) (left r') p (concat ps) (subst (Consumes (left r) (left h.0)) h.1.4 h.1.3.0) (reads_consume ps stop h.0 r' h.2)
 
-  reads_all : (pieces : List (List ℕ)) (r r' : R) → ReaderCalls reports pieces (Some End) r r' → IfSome (left r) (λ b. b ≡ concat pieces)
-  reads_all [] r r' h = at_end (left r) (left r') (take 0 h.0) (take_none 0 h.0 refl) h.2.0 (h.2.1 refl h.1)
-  reads_all (p ∷ ps) r r' h = all_read p (concat ps) (left r) (left h.0) (subst (Consumes (left r) (left h.0)) h.1.4 h.1.3.0) (reads_all ps h.0 r' h.2)
+  reads_end : (pieces : List (List ℕ)) (r r' : R) → ReaderCalls reports pieces (Some End) r r' → IsAtEnd (left r')
+  reads_end [] r r' h = h.2.1 refl h.1
+  reads_end (p ∷ ps) r r' h = reads_end ps h.0 r' h.2
 
 taken_beginning : (a b : Option (List ℕ)) (taken : List ℕ) → Consumes a b taken → IfSome a (λ xs. StartsWith xs taken)
 taken_beginning a b taken c = grind (arith, take-append_seam {A = ℕ})
-
-just_these : (a : Option (List ℕ)) (bytes : List ℕ) (P : List ℕ → Type 0) → IfSome a (λ b. b ≡ bytes) → P bytes → IfSome a P
-just_these a bytes P e h = grind arith
 
 -- writers
 
@@ -64,7 +50,8 @@ module _ {W : Type 0} (written : W → Option (List ℕ)) where
   keeps s r t = Keeps (written s) (written t)
 
   call_appends : (c : Call) (v w : W) → Does appends keeps c v w → Appends (written v) (written w) (sent_by c)
-  call_appends c v w h = grind (arith, appends-none)
+  call_appends (Write bytes (Ok n)) v w h = h
+  call_appends c v w h = Appends-kept (written v) (written v) (written w) [] (Appends-nil (written v)) h
 
   calls_append : (cs : List Call) (w w' : W) → WriterCalls appends keeps cs w w' → Appends (written w) (written w') (sent cs)
   calls_append [] w w' e = rw e (Appends-nil (written w))
@@ -93,7 +80,7 @@ module _ {R W : Type 0} (laws : (strict : Bool) → DecoderLaws strict) (left : 
         some_left (left r) (left r') (concat h.pieces) (λ b. Has status (full_listing c b) (written w) (written w')) consumed
         (λ xs. (h.bytes, h.lists xs End (rw is tt), wrote))
     of_all (Some End) is ne =
-        just_these (left r) (concat h.pieces) (λ b. Has status (full_listing c b) (written w) (written w')) (reads_all left h.pieces r r' (rw is at h.read))
+        Consumes-whole (left r) (left r') (concat h.pieces) (λ b. Has status (full_listing c b) (written w) (written w')) consumed (reads_end left h.pieces r r' (rw is at h.read))
         (h.bytes, rw append-nil at (h.lists [] End (rw is (refl, refl))), wrote)
     of_all (Some Failed) is ne = absurd (ne refl)
 

@@ -2,6 +2,7 @@
 use Rattle.std.proofs.Common.{◌≡◌, ◌≢◌, ◌⊎◌, inl, inr, ℕ, Bool, List, [], ◌∷◌, ◌++◌, take, drop, Option, Some, None, refl, ap, ◌∙◌, sym, append_assoc, append-nil, arith}
 use Rattle.std.proofs.lemmas.List.{take-append-drop, append_cancel_left}
 use Rattle.std.proofs.lemmas.List.Folds.{concat-append}
+use Rattle.std.proofs.lemmas.Option.{IfSome_then}
 use Rattle.std.specs.Prelude.{IfSome, Result, ⊤}
 use Rattle.std.specs.List.{concat}
 use Rattle.std.specs.Io.KnownBytes.{Consumes, Appends}
@@ -98,12 +99,6 @@ module _ (laws : (strict : Bool) → DecoderLaws strict) (c : Command) (old new 
     failed_listed : (status : Status) → AllListed status → stop ≡ Some Failed → listing_for c (text_of (max_of c) bytes Failed) ≡ record { lines = lines; status = status }
     failed_listed status lists failed = rw append-nil at (lists [] Failed (rw failed (refl, refl)))
 
-    says_done : AllListed Done → Says Done c old new
-    says_done lists =
-        let end : stop ≡ Some End = end_stop c (max_of c) bytes stop (λ xs s may. ap (λ l. l.status) (lists xs s may)) in
-        let ended : ReportsBytes bytes (Some End) old.left new.left old.source_faults new.source_faults = rw end at source_calls in
-        (all_full Done lists (λ f. absurd (cc)), ended.1.1, wrote.1, none_left old.left new.left bytes ended.0 ended.1.0)
-
     -- a text that ends by itself
     says_ended : (status : Status) → status ≢ Refused → status ≢ ReadFault → AllListed status →
         IfSome old.left (λ b. Writes status old new (full_listing c b)) × (new.source_faults ≡ old.source_faults) × (new.sink_faults ≡ old.sink_faults)
@@ -112,36 +107,33 @@ module _ (laws : (strict : Bool) → DecoderLaws strict) (c : Command) (old new 
         fault_status c (text_of (max_of c) bytes Failed) status (fault f) unrefused unread (ap (λ l. l.status) (failed_listed status lists f)) in
         (all_full status lists (λ f. absurd (unfailed f)), faults_unchanged stop old.left new.left bytes old.source_faults new.source_faults source_calls unfailed, wrote.1)
 
-    says_refused : AllListed Refused → Says Refused c old new
-    says_refused lists = (
+    says_all : (status : Status) → AllListed status → Says status c old new
+    says_all Done lists =
+        let end : stop ≡ Some End = end_stop c (max_of c) bytes stop (λ xs s may. ap (λ l. l.status) (lists xs s may)) in
+        let ended : ReportsBytes bytes (Some End) old.left new.left old.source_faults new.source_faults = rw end at source_calls in
+        (all_full Done lists (λ f. absurd (cc)), ended.1.1, wrote.1, none_left old.left new.left bytes ended.0 ended.1.0)
+    says_all Refused lists = (
       all_full Refused lists (λ f xs.
           let divided = failed_listed Refused lists f in
           writes Refused (full_listing c (bytes ++ xs)) (refused_stays laws c (max_of c) bytes xs End (fault f) (ap (λ l. l.status) divided) ∙ divided)),
       wrote.1,
     )
-
-    says_read : AllListed ReadFault → Says ReadFault c old new
-    says_read lists =
+    says_all ReadFault lists =
         let failed : stop ≡ Some Failed = fault_stop stop (λ may. command_read c (max_of c) (bytes ++ []) (ap (λ l. l.status) (lists [] End may))) in
         let reported : ReportsBytes bytes (Some Failed) old.left new.left old.source_faults new.source_faults = rw failed at source_calls in
         (record { taken = bytes; takes = reported.0; holds = writes ReadFault (taken_listing c bytes) (failed_listed ReadFault lists failed); cause = reported.1 }, wrote.1)
-
-    says_all : (status : Status) → status ≢ Usage → status ≢ WriteFault → AllListed status → Says status c old new
-    says_all Done used written lists = says_done lists
-    says_all Usage used written lists = absurd (used refl)
-    says_all Refused used written lists = says_refused lists
-    says_all ReadFault used written lists = says_read lists
-    says_all WriteFault used written lists = absurd (written refl)
-    says_all status used written lists = says_ended status (λ f. cc) (λ f. cc) lists
+    says_all Usage lists = let s = some_stop stop in absurd (command_used c _ (ap (λ l. l.status) (lists [] s.0 s.1)))
+    says_all WriteFault lists = let s = some_stop stop in absurd (command_written c _ (ap (λ l. l.status) (lists [] s.0 s.1)))
+    says_all status lists = says_ended status (λ f. cc) (λ f. cc) lists
 
   -- a run at which a put failed
   module _ (lines : List (List ℕ)) (failed : List ℕ) (wrote : ReportsPieces lines (Some failed) old.written new.written old.sink_faults new.sink_faults)
       (lists : (xs : List ℕ) (s : Stop) → MayCome stop xs s → Lists WriteFault lines (Some failed) (listing_for c (text_of (max_of c) (bytes ++ xs) s))) where
-    prefixes : (xs : List ℕ) (s : Stop) → MayCome stop xs s → WritesPrefix old.written new.written (listing_for c (text_of (max_of c) (bytes ++ xs) s))
-    prefixes xs s may = let l = lists xs s may in prefix_written old.written new.written _ lines failed l.1.0 wrote.0.0 l.1.1 wrote.0.1
-
     abbrev IsPrefix : Listing → Type 0
     IsPrefix = WritesPrefix old.written new.written
+
+    prefixes : (xs : List ℕ) (s : Stop) → MayCome stop xs s → IsPrefix (listing_for c (text_of (max_of c) (bytes ++ xs) s))
+    prefixes xs s may = let l = lists xs s may in prefix_written old.written new.written _ lines failed l.1.0 wrote.0.0 l.1.1 wrote.0.1
 
     full_or_taken : (p : Option Stop) → p ≡ stop → OfAll IsPrefix c old ⊎ OfTaken IsPrefix c old new
     full_or_taken (Some Failed) is =
@@ -150,19 +142,12 @@ module _ (laws : (strict : Bool) → DecoderLaws strict) (c : Command) (old new 
         inr (record { taken = bytes; takes = reported.0; holds = part; cause = reported.1 })
     full_or_taken p is = inl (known_bytes stop old.left new.left bytes old.source_faults new.source_faults (λ b. IsPrefix (full_listing c b)) source_calls (λ xs may. prefixes xs End may) (λ f. absurd (cc)))
 
-    says_written : Says WriteFault c old new
-    says_written = (wrote.1, full_or_taken stop refl)
-
   says_by : (status : Status) (lines : List (List ℕ)) (failed : Option (List ℕ)) → ReportsPieces lines failed old.written new.written old.sink_faults new.sink_faults →
       ((xs : List ℕ) (s : Stop) → MayCome stop xs s → Lists status lines failed (listing_for c (text_of (max_of c) (bytes ++ xs) s))) → Says status c old new
-  says_by status lines None wrote lists =
-      let s = some_stop stop in
-      let t = text_of (max_of c) (bytes ++ []) s.0 in
-      let ends : (listing_for c t).status ≡ status = ap (λ l. l.status) (lists [] s.0 s.1) in
-      says_all lines wrote status (λ f. command_used c t (ends ∙ f)) (λ f. command_written c t (ends ∙ f)) lists
+  says_by status lines None wrote lists = says_all lines wrote status lists
   says_by status lines (Some failed) wrote lists =
       let s = some_stop stop in
-      rw ((lists [] s.0 s.1).0) (says_written lines failed wrote (λ xs s may. (refl, (lists xs s may).1)))
+      rw ((lists [] s.0 s.1).0) (wrote.1, full_or_taken lines failed wrote (λ xs s may. (refl, (lists xs s may).1)) stop refl)
 
 -- of every source and sink
 pub ran_says : {S K : Type 0} (gives : S → Got → S → Type 0) (takes : K → List ℕ → Result ⊤ SinkFailed → K → Type 0)
@@ -193,16 +178,13 @@ wrote_says takes written others sink n status k l wrote =
 
 -- what follows
 
-pub each_known : {P Q : List ℕ → Type 0} (o : Option (List ℕ)) → ((b : List ℕ) → P b → Q b) → IfSome o P → IfSome o Q
-each_known o f h = grind arith
-
 module _ (c : Command) (old new : Streams) where
   -- the whole listing, where neither count rose
   writes_all : (result : Status) → Says result c old new → IfSome old.left (λ b. IsSound old new → Writes result old new (full_listing c b))
   writes_all result says = grind arith
 
   pub exact : (result : Status) → Says result c old new → IsExact result c old new
-  exact result says = each_known old.left (λ b w sound status. let e = (w sound).0 in (λ h. sym e ∙ h, λ h. e ∙ h)) (writes_all result says)
+  exact result says = IfSome_then old.left (writes_all result says) (λ b w sound status. let e = (w sound).0 in (λ h. sym e ∙ h, λ h. e ∙ h))
 
   pub has_read_fault : (result : Status) → Says result c old new → HasReadFault result c old new
   has_read_fault result says e =
@@ -211,6 +193,5 @@ module _ (c : Command) (old new : Streams) where
 
   pub completes : ((strict : Bool) → DecoderLaws strict) → (result : Status) → Says result c old new → Completes result c old new
   completes laws result says =
-      each_known old.left
+      IfSome_then old.left (writes_all result says)
       (λ b w clean through sound. let h = w sound in (h.0 ∙ text_done laws c (text_of (max_of c) b End) clean through, h.1))
-      (writes_all result says)

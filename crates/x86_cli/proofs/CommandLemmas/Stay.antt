@@ -1,8 +1,7 @@
 -- A listing that is refused stays when text is appended.
-use Rattle.std.proofs.Common.{◌≡◌, ◌≢◌, ℕ, zero, suc, ◌+◌, ◌*◌, ◌<◌, Bool, true, false, List, [], ◌∷◌, ◌++◌, length, take, Option, Some, Result, Ok, if◌then◌else◌, refl, arith, ap}
+use Rattle.std.proofs.Common.{◌≡◌, ◌≢◌, ℕ, zero, suc, ◌+◌, ◌*◌, ◌<◌, Bool, true, false, List, [], ◌∷◌, ◌++◌, length, take, Option, Some, Ok, if◌then◌else◌, refl, arith, ap}
 use Rattle.std.proofs.lemmas.List.{take-append-le}
 use Rattle.x86_decode.specs.declared.instructions.Instruction.{Instruction}
-use Rattle.x86_fields.specs.declared.errors.DecodeError.{DecodeError}
 use Rattle.x86_decode.specs.Answer.{answer_of}
 use Rattle.x86_cli.specs.declared.text.reader.Ending.{Ending}
 use Rattle.x86_cli.specs.declared.text.reader.Ending.TheVariants.{Fault}
@@ -12,7 +11,7 @@ use Rattle.x86_cli.specs.declared.commands.command.Command.{Command}
 use Rattle.x86_cli.specs.declared.commands.command.Command.TheVariants.{List as Listed, Fields as Fielded, Tighten as Tightened}
 use Rattle.x86_cli.specs.Commands.Command.{listing_for}
 use Rattle.x86_cli.specs.Text.{Text, is_blank, value_of, paired, image_of, text_at, text_of}
-use Rattle.x86_cli.specs.Listings.Listing.{Listing, at_end, decoded_of, decoded_at_end, listed, listing_from, listing_of}
+use Rattle.x86_cli.specs.Listings.Listing.{Listing, at_end, decoded_of, listed, listing_from, listing_of}
 use Rattle.x86_cli.specs.DecoderLaws.{DecoderLaws}
 use Rattle.x86_cli.proofs.TextLemmas.Decoded.{decoded-stays, closed_rest}
 
@@ -49,17 +48,13 @@ text_beginning max bytes xs s t = let beginning = take_beginning max bytes xs in
 module _ (strict : Bool) (laws : DecoderLaws strict) (text : ℕ → Instruction → List ℕ → List ℕ) where
   module _ (w more : List ℕ) (some : 0 < length w) (n : ℕ) (e : Ending) (after after' : ℕ → Listing)
       (same : (k : ℕ) → (after k).status ≡ outcome.Refused → after' k ≡ after k) where
-    first_stays : (a : Result Instruction DecodeError) → answer_of strict w ≡ a → (listed strict text (decoded_at_end a Fault) n w after).status ≡ outcome.Refused →
-        listed strict text (decoded_of strict (w ++ more) e) n (w ++ more) after' ≡ listed strict text (decoded_at_end a Fault) n w after
-    first_stays a h refused =
-        let stays = decoded-stays strict laws w more e in
-        let within = λ (i : Instruction) (f : answer_of strict w ≡ Ok i). take-append-le i.length w more (laws.lengths w i f).1 in
-        grind arith
-
     decoded_refused : (listed strict text (decoded_of strict w Fault) n w after).status ≡ outcome.Refused →
         listed strict text (decoded_of strict (w ++ more) e) n (w ++ more) after' ≡ listed strict text (decoded_of strict w Fault) n w after
     decoded_refused refused =
-        let b = closed_rest strict laws w (answer_of strict w) Fault some refl in rw b (first_stays (answer_of strict w) refl (rw b at refused))
+        let is = closed_rest strict laws w (answer_of strict w) Fault some refl in
+        let stays = decoded-stays strict laws w more e in
+        let within = λ (i : Instruction) (f : answer_of strict w ≡ Ok i). take-append-le i.length w more (laws.lengths w i f).1 in
+        grind arith
 
   listing_stays : (n k : ℕ) (xs more : List ℕ) (e : Ending) → (listing_from strict text n k xs Fault).status ≡ outcome.Refused →
       listing_from strict text n k (xs ++ more) e ≡ listing_from strict text n k xs Fault

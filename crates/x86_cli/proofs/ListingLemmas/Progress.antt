@@ -31,6 +31,11 @@ pub rest_is : (at : ℕ → Text → Listing) (n : ℕ) (ended : Option Ending) 
     at n (record { image = w; ending = e }) ≡ l → (xs : List ℕ) (stop : Stop) → at n (rest_of ended w p r xs stop) ≡ l
 rest_is at n ended w p r e l is same xs stop = rw is same
 
+-- the status of a run whose last listing was put so
+abbrev pub status_by : Result Status SinkFailed → Status
+status_by (Ok status) = status
+status_by (Err e) = outcome.WriteFault
+
 module _ {K : Type 0} (takes : K → List ℕ → Result ⊤ SinkFailed → K → Type 0) where
   -- puts, one after the other
   pub sink_calls-sink_calls : (u t : List (List ℕ)) (failed : Option (List ℕ)) (a b d : K) → SinkCalls takes u None a b → SinkCalls takes t failed b d → SinkCalls takes (u ++ t) failed a d
@@ -151,12 +156,9 @@ module _ {S K : Type 0} (gives : S → Got → S → Type 0) (takes : K → List
         (λ xs stop may. let f = beginning xs stop in (refl, (f.0.lines, ap (λ l. l.lines) (s.lists xs stop may ∙ ap (with_lines s.lines) f.1))))
 
     -- a last listing
-    abbrev pub ran_closed : (last : Listing) → ((xs : List ℕ) (stop : Stop) → at n (rest_of ended w p r xs stop) ≡ last) →
-        (status : Status) (m : K) → Closes takes last (Ok status) l m → Ran gives takes (at 0) max status a b k m
-    ran_closed last is status m closes =
+    abbrev pub ran_closes : (last : Listing) → ((xs : List ℕ) (stop : Stop) → at n (rest_of ended w p r xs stop) ≡ last) →
+        (result : Result Status SinkFailed) (m : K) → Closes takes last result l m → Ran gives takes (at 0) max (status_by result) a b k m
+    ran_closes last is (Ok status) m closes =
         ran status (s.lines ++ last.lines) None m (sink_calls-sink_calls takes s.lines last.lines None k l m s.sink_calls closes.1)
         (λ xs stop may. s.lists xs stop may ∙ ap (with_lines s.lines) (is xs stop) ∙ ap (λ st. record { lines = s.lines ++ last.lines; status = st }) (sym closes.0))
-
-    abbrev pub ran_unclosed : (last : Listing) → ((xs : List ℕ) (stop : Stop) → at n (rest_of ended w p r xs stop) ≡ last) →
-        (e : SinkFailed) (m : K) → Closes takes last (Err e) l m → Ran gives takes (at 0) max outcome.WriteFault a b k m
-    ran_unclosed last is e m closes = ran_failed closes.0 (λ xs stop. (record { lines = []; status = last.status }, is xs stop ∙ ap (λ ls. record { lines = ls; status = last.status }) closes.1)) e m closes.2
+    ran_closes last is (Err e) m closes = ran_failed closes.0 (λ xs stop. (record { lines = []; status = last.status }, is xs stop ∙ ap (λ ls. record { lines = ls; status = last.status }) closes.1)) e m closes.2

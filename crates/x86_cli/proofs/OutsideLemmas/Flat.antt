@@ -1,56 +1,61 @@
--- The calls of the writer after a buffer, and of the writer of a sink.
+-- The calls of the writer after a buffer, and of the writer of a sink over it.
 use Rattle.std.proofs.Common.{ℕ, List, [], ◌∷◌, ◌++◌, take, None, Some, Result, Ok, Err, sym, arith, append-nil, append_assoc}
 use Rattle.std.specs.Prelude.{⊤}
 use Rattle.std.specs.List.{concat}
 use Rattle.std.specs.declared.io.Error.{Error}
+use Rattle.x86_cli.specs.declared.outside.gathered.Gathered.{Gathered}
 use Rattle.x86_cli.specs.declared.outside.sink.SinkFailed.{SinkFailed}
+use Rattle.x86_cli.specs.declared.outside.std_sink.StdSink.{StdSink}
 use Rattle.x86_cli.specs.Commands.Run.{SinkCalls}
-use Rattle.x86_cli.specs.Outside.Writes.{Call, Write, Flush, taken_by, sent, AllContinue, Cause, WriterCalls, Caused, Forwards, PutSends, IsFinalWrite}
-use Rattle.x86_cli.proofs.OutsideLemmas.Writes.{caused_none, caused_join, caused_as, forwards_none, forwards_join, forwards_as, err_cause}
+use Rattle.x86_cli.specs.Outside.Seen.{sink_writer, buffer_writer, buffer_bytes}
+use Rattle.x86_cli.specs.Outside.Sink.{ReportsPut}
+use Rattle.x86_cli.specs.Outside.Writes.{Call, Write, Flush, taken_by, sent, sent_by, AllContinue, Cause, Does, WriterCalls, Caused, Forwards, FlushesOut, PutSends, IsFinalWrite}
+use Rattle.x86_cli.proofs.OutsideLemmas.Writes.{forwards_none, forwards_join, forwards_as, err_cause}
+
+rest_goes_on : {A E : Type 0} (r : Result A E) (c : Call) (cs : List Call) → Cause r (c ∷ cs) → AllContinue cs
+rest_goes_on r c cs cause = grind arith
 
 module _ {W : Type 0} (writes : W → List ℕ → Result ℕ Error → W → Type 0) (flushes : W → Result ⊤ Error → W → Type 0) where
-  module _ {G : Type 0} (gwrites : G → List ℕ → Result ℕ Error → G → Type 0) (gflushes : G → Result ⊤ Error → G → Type 0) (writer_of : G → W) (held : G → List ℕ)
-      (by_write : (s : G) (bytes : List ℕ) (r : Result ℕ Error) (t : G) → gwrites s bytes r t → Forwards writes flushes r (taken_by r bytes) (held s) (held t) (writer_of s) (writer_of t) × IsFinalWrite r bytes)
-      (by_flush : (s : G) (r : Result ⊤ Error) (t : G) → gflushes s r t → Forwards writes flushes r [] (held s) (held t) (writer_of s) (writer_of t)) where
-    flat_on : (cs : List Call) (a b : G) → WriterCalls gwrites gflushes cs a b → AllContinue cs → Forwards writes flushes {A = ⊤} {E = SinkFailed} (Ok tt) (sent cs) (held a) (held b) (writer_of a) (writer_of b)
-    flat_on [] a b e on = rw e (forwards_none writes flushes tt [] (held a) (held a) (writer_of a) (sym (append-nil (held a))))
-    flat_on (Write bytes (Ok n) ∷ cs) a b h on =
-        forwards_as writes flushes (Ok n) (Ok tt) _ _ _ _ _ (λ _ on. on) (forwards_join writes flushes tt (Ok n) _ _ _ _ _ _ _ _ (flat_on cs a h.0 h.1 on.1) (by_write h.0 bytes (Ok n) b h.2).0)
-    flat_on (Write bytes (Err e) ∷ cs) a b h on = absurd ((by_write h.0 bytes (Err e) b h.2).1 on.0)
-    flat_on (Flush (Ok done) ∷ cs) a b h on =
-        forwards_as writes flushes (Ok done) (Ok tt) _ _ _ _ _ (λ _ on. on) (forwards_join writes flushes tt (Ok done) _ _ _ _ _ _ _ _ (flat_on cs a h.0 h.1 on.1) (by_flush h.0 (Ok done) b h.2))
-    flat_on (Flush (Err e) ∷ cs) a b h on = absurd on.0
+  -- what the calls of a buffer say, and the puts of a sink over it
+  abbrev pub Sends : {A E : Type 0} → Result A E → List ℕ → Gathered W → Gathered W → Type 0
+  Sends r taken s t = Forwards writes flushes r taken (buffer_bytes s) (buffer_bytes t) (buffer_writer s) (buffer_writer t)
 
-    flat_fault : (f : SinkFailed) (cs : List Call) (a b : G) → WriterCalls gwrites gflushes cs a b → Cause {A = ⊤} {E = SinkFailed} (Err f) cs →
-        Forwards writes flushes {A = ⊤} {E = SinkFailed} (Err f) (sent cs) (held a) (held b) (writer_of a) (writer_of b)
-    flat_fault f [] a b h c = absurd c
-    flat_fault f (Write bytes (Ok n) ∷ cs) a b h c =
-        absurd (omega (arith, (by_write h.0 bytes (Ok n) b h.2).1 c.0.0, c.0.1))
-    flat_fault f (Write bytes (Err e) ∷ cs) a b h c =
-        forwards_as writes flushes (Err e) (Err f) _ _ _ _ _ (err_cause ℕ ⊤ e f) (forwards_join writes flushes tt (Err e) _ _ _ _ _ _ _ _ (flat_on cs a h.0 h.1 c.1) (by_write h.0 bytes (Err e) b h.2).0)
-    flat_fault f (Flush (Ok done) ∷ cs) a b h c = absurd c.0
-    flat_fault f (Flush (Err e) ∷ cs) a b h c =
-        forwards_as writes flushes (Err e) (Err f) _ _ _ _ _ (err_cause ⊤ ⊤ e f) (forwards_join writes flushes tt (Err e) _ _ _ _ _ _ _ _ (flat_on cs a h.0 h.1 c.1) (by_flush h.0 (Err e) b h.2))
+  abbrev pub BufferWrites : Gathered W → List ℕ → Result ℕ Error → Gathered W → Type 0
+  BufferWrites s bytes r t = Sends r (taken_by r bytes) s t × IsFinalWrite r bytes
 
-    -- What calls of the buffer sent, its writer took, but for what the buffer holds.
-    pub flat : (r : Result ⊤ SinkFailed) (bytes : List ℕ) (a b : G) → Caused gwrites gflushes r bytes a b → Forwards writes flushes r bytes (held a) (held b) (writer_of a) (writer_of b)
-    flat (Ok done) bytes a b h = rw h.sends at (flat_on h.calls a b h.did h.cause)
-    flat (Err f) bytes a b h = rw h.sends at (flat_fault f h.calls a b h.did h.cause)
+  abbrev pub BufferFlushes : {E : Type 0} → Gathered W → Result ⊤ E → Gathered W → Type 0
+  BufferFlushes s r t = FlushesOut writes flushes r (buffer_bytes s) (buffer_bytes t) (buffer_writer s) (buffer_writer t)
+
+  abbrev pub SinkTakes : StdSink (Gathered W) → List ℕ → Result ⊤ SinkFailed → StdSink (Gathered W) → Type 0
+  SinkTakes k piece r l = ReportsPut r piece None None k.faults l.faults × PutSends BufferWrites BufferFlushes r piece (sink_writer k) (sink_writer l)
+
+  call_sends : (r : Result ⊤ SinkFailed) (c : Call) (cs : List Call) (s t : Gathered W) → Does BufferWrites BufferFlushes c s t → Cause r (c ∷ cs) → Sends r (sent_by c) s t
+  call_sends (Ok done) (Write bytes (Ok n)) cs s t did on = forwards_as writes flushes (Ok n) (Ok done) _ _ _ _ _ (λ _ on. on) did.0
+  call_sends (Ok done) (Write bytes (Err e)) cs s t did on = absurd (did.1 on.0)
+  call_sends (Ok done) (Flush (Ok x)) cs s t did on = forwards_as writes flushes (Ok x) (Ok done) _ _ _ _ _ (λ _ on. on) did.0
+  call_sends (Err f) (Write bytes (Ok n)) cs s t did fails = absurd (omega (arith, did.1 fails.0.0, fails.0.1))
+  call_sends (Err f) (Write bytes (Err e)) cs s t did fails = forwards_as writes flushes (Err e) (Err f) _ _ _ _ _ (err_cause ℕ ⊤ e f) did.0
+  call_sends (Err f) (Flush (Err e)) cs s t did fails = forwards_as writes flushes (Err e) (Err f) _ _ _ _ _ (err_cause ⊤ ⊤ e f) did.0
+  call_sends r (Flush x) cs s t did cause = absurd (cause.0)
+
+  calls_send : (r : Result ⊤ SinkFailed) (cs : List Call) (s t : Gathered W) → WriterCalls BufferWrites BufferFlushes cs s t → Cause r cs → Sends r (sent cs) s t
+  calls_send (Ok done) [] s t e on = rw e (forwards_none writes flushes done [] _ _ _ (sym (append-nil _)))
+  calls_send (Err f) [] s t e cause = absurd cause
+  calls_send r (c ∷ cs) s t did cause =
+      forwards_join writes flushes tt r _ _ _ _ _ _ _ _ (calls_send (Ok tt) cs s did.0 did.1 (rest_goes_on r c cs cause)) (call_sends r c cs did.0 t did.2 cause)
+
+  -- What calls of the buffer sent, its writer took, but for what the buffer holds.
+  flat : (r : Result ⊤ SinkFailed) (bytes : List ℕ) (s t : Gathered W) → Caused BufferWrites BufferFlushes r bytes s t → Sends r bytes s t
+  flat r bytes s t h = rw h.sends at (calls_send r h.calls s t h.did h.cause)
 
   -- The puts of a run, one after the other.
-  module _ {K : Type 0} (takes : K → List ℕ → Result ⊤ SinkFailed → K → Type 0) (writer : K → W)
-      (puts : (s : K) (piece : List ℕ) (r : Result ⊤ SinkFailed) (t : K) → takes s piece r t → PutSends writes flushes r piece (writer s) (writer t)) where
-    pub took_on : (pieces : List (List ℕ)) (k l : K) → SinkCalls takes pieces None k l → Caused writes flushes {A = ⊤} {E = SinkFailed} (Ok tt) (concat pieces) (writer k) (writer l)
-    took_on [] k l e = rw e (caused_none writes flushes tt (writer k))
-    took_on (p ∷ ps) k l h = caused_join writes flushes tt (Ok tt) _ _ _ _ _ (puts k p (Ok tt) h.0 h.1) (took_on ps h.0 l h.2)
+  pub lines_send : (pieces : List (List ℕ)) (k l : StdSink (Gathered W)) → SinkCalls SinkTakes pieces None k l → Sends {A = ⊤} {E = SinkFailed} (Ok tt) (concat pieces) (sink_writer k) (sink_writer l)
+  lines_send [] k l e = rw e (forwards_none writes flushes tt [] _ _ _ (sym (append-nil _)))
+  lines_send (p ∷ ps) k l h = forwards_join writes flushes tt (Ok tt) p _ _ _ _ _ _ _ (flat (Ok tt) p _ _ h.1.1) (lines_send ps h.0 l h.2)
 
-    pub took_fault : (pieces : List (List ℕ)) (failed : List ℕ) (k l : K) → SinkCalls takes pieces (Some failed) k l →
-        (f : SinkFailed) × (n : ℕ) × Caused writes flushes {A = ⊤} {E = SinkFailed} (Err f) (concat pieces ++ take n failed) (writer k) (writer l)
-    took_fault [] failed k l h = let p = puts k failed (Err h.0) l h.1 in (h.0, p.0, p.1)
-    took_fault (p ∷ ps) failed k l h =
-        let more = took_fault ps failed h.0 l h.2 in (
-          more.0,
-          more.1,
-          caused_as writes flushes (Err more.0) _ _ _ _ _ (sym (append_assoc p (concat ps) (take more.1 failed))) (λ _ h. h)
-              (caused_join writes flushes tt (Err more.0) _ _ _ _ _ (puts k p (Ok tt) h.0 h.1) more.2),
-        )
+  pub failed_line_sends : (pieces : List (List ℕ)) (failed : List ℕ) (k l : StdSink (Gathered W)) → SinkCalls SinkTakes pieces (Some failed) k l →
+      (f : SinkFailed) × (n : ℕ) × Sends {A = ⊤} (Err f) (concat pieces ++ take n failed) (sink_writer k) (sink_writer l)
+  failed_line_sends [] failed k l h = (h.0, h.1.1.0, flat (Err h.0) (take h.1.1.0 failed) _ _ h.1.1.1)
+  failed_line_sends (p ∷ ps) failed k l h =
+      let more = failed_line_sends ps failed h.0 l h.2 in
+      (more.0, more.1, rw append_assoc (forwards_join writes flushes tt (Err more.0) p _ _ _ _ _ _ _ (flat (Ok tt) p _ _ h.1.1) more.2))

@@ -1,8 +1,8 @@
 -- How calls of a writer are put together.
 use Rattle.std.proofs.Common.{◌≡◌, ℕ, List, [], ◌∷◌, ◌++◌, take, drop, Result, Ok, Err, refl, ap, ◌∙◌, subst, sym, append_assoc, append-nil, take-append-drop, arith}
-use Rattle.std.specs.Prelude.{⊤}
+use Rattle.std.specs.Prelude.{OnOk, ⊤}
 use Rattle.std.specs.declared.io.Error.{Error}
-use Rattle.x86_cli.specs.Outside.Writes.{Call, Flush, sent_by, sent, AllContinue, Cause, Does, WriterCalls, Caused, Forwards, FlushesOut}
+use Rattle.x86_cli.specs.Outside.Writes.{Call, Flush, sent_by, sent, AllContinue, Cause, Does, WriterCalls, Caused, Forwards, EndsInFlush, FlushesOut}
 
 pub take_none : (n : ℕ) (xs : List ℕ) → n ≡ 0 → take n xs ≡ []
 take_none n xs none = grind arith
@@ -29,19 +29,17 @@ module _ {W : Type 0} (writes : W → List ℕ → Result ℕ Error → W → Ty
   pub caused_none : {A E : Type 0} (x : A) (a : W) → Caused writes flushes {A = A} {E = E} (Ok x) [] a a
   caused_none x a = record { calls = []; did = refl; cause = tt; sends = refl }
 
-  -- One more call.
-  abbrev pub caused_more : {A B E F : Type 0} (x : A) (r : Result B F) (bs all : List ℕ) (c : Call) (a b d : W) → Caused writes flushes {A = A} {E = E} (Ok x) bs a b → Does writes flushes c b d →
-      ((cs : List Call) → AllContinue cs → Cause r (c ∷ cs)) → bs ++ sent_by c ≡ all → Caused writes flushes r all a d
-  caused_more x r bs all c a b d before did cause sends =
-      record { calls = c ∷ before.calls; did = (b, before.did, did); cause = cause before.calls before.cause; sends = ap (λ s. s ++ sent_by c) before.sends ∙ sends }
+  -- one call
+  abbrev pub caused_call : {A E : Type 0} (r : Result A E) (c : Call) (a b : W) → Does writes flushes c a b → Cause r (c ∷ []) → Caused writes flushes r (sent_by c) a b
+  caused_call r c a b did cause = record { calls = c ∷ []; did = (a, refl, did); cause = cause; sends = refl }
 
-  abbrev pub caused_join : {A B E F : Type 0} (x : A) (r : Result B F) (bs cs : List ℕ) (a b d : W) → Caused writes flushes {A = A} {E = E} (Ok x) bs a b → Caused writes flushes r cs b d →
-      Caused writes flushes r (bs ++ cs) a d
-  caused_join x r bs cs a b d before after = record {
+  abbrev pub caused_join : {A B E F : Type 0} (x : A) (r : Result B F) (bs cs all : List ℕ) (a b d : W) → Caused writes flushes {A = A} {E = E} (Ok x) bs a b → Caused writes flushes r cs b d →
+      bs ++ cs ≡ all → Caused writes flushes r all a d
+  caused_join x r bs cs all a b d before after whole = record {
     calls = after.calls ++ before.calls;
     did = joined after.calls before.calls a b d before.did after.did;
     cause = joined_cause r after.calls before.calls after.cause before.cause;
-    sends = rw (sent_joined, before.sends, after.sends) refl;
+    sends = rw (sent_joined, before.sends, after.sends) whole;
   }
 
   -- the same calls, for another answer and where their bytes are known by another name
@@ -58,39 +56,23 @@ module _ {W : Type 0} (writes : W → List ℕ → Result ℕ Error → W → Ty
   forwards_held r n held held' a b is caused =
       record { bytes = take n held; caused = caused; order = ap (λ h. take n held ++ h) is ∙ take-append-drop n held ∙ sym (append-nil held) }
 
-  -- Then more is held.
-  pub forwards_more : {A B E F : Type 0} (x : A) (y : B) (taken held held' held'' : List ℕ) (a b : W) → held'' ≡ held' ++ taken → Forwards writes flushes {A = A} {E = E} (Ok x) [] held held' a b →
-      Forwards writes flushes {A = B} {E = F} (Ok y) taken held held'' a b
-  forwards_more x y taken held held' held'' a b is h = record {
-    bytes = h.bytes;
-    caused = caused_as (Ok x) (Ok y) h.bytes h.bytes a b refl (λ _ on. on) h.caused;
-    order = rw (is, ← append_assoc, h.order, append-nil) refl;
-  }
-
   -- for another answer
   abbrev pub forwards_as : {A B E F : Type 0} (q : Result A E) (r : Result B F) (taken held held' : List ℕ) (a b : W) → ((calls : List Call) → Cause q calls → Cause r calls) →
       Forwards writes flushes q taken held held' a b → Forwards writes flushes r taken held held' a b
   forwards_as q r taken held held' a b cause h = record { bytes = h.bytes; caused = caused_as q r h.bytes h.bytes a b refl cause h.caused; order = h.order }
 
-  -- Then the writer is flushed.
-  pub flushes_out : {A B E F : Type 0} (x : A) (y : B) (held held' : List ℕ) (a b d : W) → held' ≡ [] → Forwards writes flushes {A = A} {E = E} (Ok x) [] held held' a b → flushes b (Ok tt) d →
-      FlushesOut writes flushes {A = B} {E = F} (Ok y) held held' a d
-  flushes_out x y held held' a b d none h flushed =
-      (record { bytes = h.bytes; caused = caused_more x (Ok y) _ _ (Flush (Ok tt)) a b d h.caused flushed (λ cs on. (tt, on)) (append-nil h.bytes); order = h.order }, (none, tt))
-
-  pub flush_fails : {A B E F : Type 0} (x : A) (f : F) (e : Error) (held held' : List ℕ) (a b d : W) → Forwards writes flushes {A = A} {E = E} (Ok x) [] held held' a b → flushes b (Err e) d →
-      FlushesOut writes flushes {A = B} {E = F} (Err f) held held' a d
-  flush_fails x f e held held' a b d h flushed =
-      (record { bytes = h.bytes; caused = caused_more x (Err f) _ _ (Flush (Err e)) a b d h.caused flushed (λ cs on. (tt, on)) (append-nil h.bytes); order = h.order }, tt)
-
-  pub flushes_ok : {A B E F : Type 0} (x : A) (y : B) (held held' : List ℕ) (a b : W) → FlushesOut writes flushes {A = A} {E = E} (Ok x) held held' a b → FlushesOut writes flushes {A = B} {E = F} (Ok y) held held' a b
-  flushes_ok x y held held' a b h = (forwards_as (Ok x) (Ok y) [] held held' a b (λ _ on. on) h.0, h.1)
-
   -- one after the other
-  pub forwards_join : {A B E F : Type 0} (x : A) (r : Result B F) (t u h0 h1 h2 : List ℕ) (a b d : W) → Forwards writes flushes {A = A} {E = E} (Ok x) t h0 h1 a b → Forwards writes flushes r u h1 h2 b d →
+  abbrev pub forwards_join : {A B E F : Type 0} (x : A) (r : Result B F) (t u h0 h1 h2 : List ℕ) (a b d : W) → Forwards writes flushes {A = A} {E = E} (Ok x) t h0 h1 a b → Forwards writes flushes r u h1 h2 b d →
       Forwards writes flushes r (t ++ u) h0 h2 a d
   forwards_join x r t u h0 h1 h2 a b d f g = record {
     bytes = f.bytes ++ g.bytes;
-    caused = caused_join x r f.bytes g.bytes a b d f.caused g.caused;
+    caused = caused_join x r f.bytes g.bytes _ a b d f.caused g.caused refl;
     order = rw (append_assoc, g.order, ← append_assoc, f.order) (append_assoc h0 t u);
   }
+
+  -- Then the writer is flushed.
+  pub flushes_out : {A B E F : Type 0} (x : A) (r : Result B F) (q : Result ⊤ Error) (held held' : List ℕ) (a b d : W) → (f : Forwards writes flushes {A = A} {E = E} (Ok x) [] held held' a b) → flushes b q d →
+      Cause r (Flush q ∷ []) → OnOk r ((held' ≡ []) × EndsInFlush (Flush q ∷ f.caused.calls)) → FlushesOut writes flushes r held held' a d
+  flushes_out x r q held held' a b d f flushed cause ends =
+      let last : Forwards writes flushes r [] held' held' b d = record { bytes = []; caused = caused_call r (Flush q) b d flushed cause; order = sym (append-nil held') } in
+      (forwards_join x r [] [] held held' held' a b d f last, ends)

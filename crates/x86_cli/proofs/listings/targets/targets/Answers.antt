@@ -1,8 +1,8 @@
-use Rattle.std.proofs.Common.{Bool, None, List, [], refl, ◌≡◌, ℕ, ◌<◌, ap, arith, false, length, ◌+◌, slice_index_or}
+use Rattle.std.proofs.Common.{Bool, None, Ok, Err, List, [], refl, ◌≡◌, ℕ, ◌<◌, ap, arith, false, length, ◌+◌, slice_index_or}
 use Rattle.x86_layout.specs.Sweeps.Marks.{is_marked}
 use Rattle.x86_cli.specs.Text.{Text}
 use Rattle.x86_cli.specs.Listings.Targets.{lines_if, place_line, targets_at}
-use Rattle.x86_cli.proofs.ListingLemmas.Progress.{progress_whole, progress_step, ran_failed, ran_closed, ran_unclosed}
+use Rattle.x86_cli.proofs.ListingLemmas.Progress.{progress_whole, progress_step, ran_failed, ran_closes}
 use Rattle.x86_cli.proofs.ListingLemmas.Target.{targets-step, targets-end}
 use Rattle.x86_cli.proofs.listings.targets.targets.Goals as goal
 
@@ -37,11 +37,11 @@ returns-in-Ok-end g c =
     let strict = c.args.decoder.now.strict in
     let image : List ℕ = c.read_whole-text.result.image.items in
     let all : c.places.place ≡ length image = omega (arith, c.places-test.false, c.places.auto.place-end, ap length c.as_slice-image.ensures.value) in
-    ran_closed g.S.Source.gives g.K.Sink.takes (targets_at strict) None _ _ _ _ _ _ _ _ _ _ c.places.invariant _ (λ xs stop. targets-end strict c.places.place image c.read_whole-text.result.ending all) _ _ c.in-Ok-end.ensures
+    ran_closes g.S.Source.gives g.K.Sink.takes (targets_at strict) None _ _ _ _ _ _ _ _ _ _ c.places.invariant _ (λ xs stop. targets-end strict c.places.place image c.read_whole-text.result.ending all) (Ok _) _ c.in-Ok-end.ensures
 
 pub returns-in-Err-end : goal.returns-in-Err-end
 returns-in-Err-end g c =
     let strict = c.args.decoder.now.strict in
     let image : List ℕ = c.read_whole-text.result.image.items in
     let all : c.places.place ≡ length image = omega (arith, c.places-test.false, c.places.auto.place-end, ap length c.as_slice-image.ensures.value) in
-    ran_unclosed g.S.Source.gives g.K.Sink.takes (targets_at strict) None _ _ _ _ _ _ _ _ _ _ c.places.invariant _ (λ xs stop. targets-end strict c.places.place image c.read_whole-text.result.ending all) c.in-Err-end.field-0 _ c.in-Err-end.ensures
+    ran_closes g.S.Source.gives g.K.Sink.takes (targets_at strict) None _ _ _ _ _ _ _ _ _ _ c.places.invariant _ (λ xs stop. targets-end strict c.places.place image c.read_whole-text.result.ending all) (Err c.in-Err-end.field-0) _ c.in-Err-end.ensures

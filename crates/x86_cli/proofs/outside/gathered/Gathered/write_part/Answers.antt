@@ -1,11 +1,14 @@
+use Rattle.std.proofs.Common.{[]}
 use Rattle.x86_cli.specs.declared.outside.sink.SinkFailed.{SinkFailed}
-use Rattle.x86_cli.proofs.OutsideLemmas.Writes.{forwards_none, forwards_more}
+use Rattle.x86_cli.proofs.OutsideLemmas.Writes.{forwards_none, forwards_join}
 use Rattle.x86_cli.proofs.outside.gathered.Gathered.write_part.Goals as goal
 use Rattle.x86_cli.proofs.outside.gathered.Gathered.write_part.Goals.{then-left-eq0+in_ok-send, else-left-eq0}
 
 pub returns-clause-forwards : goal.returns-clause-forwards
 returns-clause-forwards g c =
     elim c.if-left-eq0.branch [
-      | then-left-eq0+in_ok-send w ↦ forwards_more _ _ {E = SinkFailed} w.in_ok-send.field-0 c.if-buf-room.count _ _ c.if-left-eq0.self.bytes.items _ _ _ c.extend.ensures.text (rw w.self-is w.in_ok-send.ensures.forwards)
+      | then-left-eq0+in_ok-send w ↦
+          forwards_join _ _ {E = SinkFailed} w.in_ok-send.field-0 _ [] _ _ c.if-left-eq0.self.bytes.items _ _ c.if-left-eq0.self.writer _
+          (rw w.self-is w.in_ok-send.ensures.forwards) (forwards_none _ _ c.if-buf-room.count _ _ _ _ c.extend.ensures.text)
       | else-left-eq0 w ↦ rw w.self-is (forwards_none _ _ c.if-buf-room.count _ _ _ _ (rw w.self-is at c.extend.ensures.text))
     ]
