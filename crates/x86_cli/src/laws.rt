@@ -78,6 +78,7 @@ pub fn values_are_equal()
 {}
 
 /// What the calls of a run say, where the bytes of the source and of the sink are known.
+#[tactic(auto, using(crate::proofs::OutsideLemmas::Reports::sink_calls_report))]
 pub fn reported<S: Source, K: Sink>()
     ensures source { (bytes : List ℕ) (stop : Option Stop) (a b : S)
         → SourceCalls S.gives bytes stop a b

@@ -19,21 +19,12 @@ use Rattle.x86_cli.proofs.ListingLemmas.Progress.{Progress, progress_step, statu
 abbrev pub window : Option ℕ
 window = Some 15
 
--- The image of a text is the same whatever stops it.
-image_same : (max : ℕ) (bytes : List ℕ) (s t : Stop) → (text_of max bytes s).image ≡ (text_of max bytes t).image
-unfolding text_at
-image_same max bytes s t = refl
-
 -- Where no more comes, the image of what is left is the window.
 rest_image : (ended : Option Ending) (w : List ℕ) (p r : ℕ) (stop : Stop) → (rest_of ended w p r [] stop).image ≡ w
-rest_image ended w p r End = grind (arith, append-nil {A = ℕ}, text-end p r)
-rest_image ended w p r Failed = grind (arith, append-nil {A = ℕ}, text-failed p r)
+rest_image ended w p r stop = grind (arith, append-nil {A = ℕ}, text-end p r, text-failed p r)
 
 rest_split : (ended : Option Ending) (w : List ℕ) (len p r : ℕ) (xs : List ℕ) (stop : Stop) → rest_of ended w p r xs stop ≡ with_bytes (take len w) (rest_of ended (drop len w) p r xs stop)
 rest_split ended w len p r xs stop = grind (arith, take-append-drop len w, append_assoc {A = ℕ})
-
-pub end_one : (e : Ending) → length (at_end e).lines ≤ 1
-end_one e = grind arith
 
 module _ {S K : Type 0} (gives : S → Got → S → Type 0) (takes : K → List ℕ → Result ⊤ SinkFailed → K → Type 0) (at : ℕ → Text → Listing)
     (max n : ℕ) (ended : Option Ending) (w : List ℕ) (p r : ℕ) (a b : S) (k l : K) (s : Progress gives takes at window max n ended w p r a b k l) where
@@ -43,10 +34,12 @@ module _ {S K : Type 0} (gives : S → Got → S → Type 0) (takes : K → List
   progress_line x len le step m put =
       progress_step gives takes at window max n ended w p r a b k l s (x ∷ []) (n + len) (drop len w) step (take len w) (rest_split ended w len p r) (λ walked is. simp length-append (omega (arith, length-take-le len w le, is))) m (m, put, refl)
 
+  -- the image is the same whatever stops the text
   image_taken : (text_of max s.bytes Failed).image ≡ s.walked ++ w
+  unfolding text_at
   image_taken =
       let stop = some_stop s.stop in
-      image_same max s.bytes Failed stop.0 ∙ rw append-nil at (ap (λ t. t.image) (s.beginning [] stop.0 stop.1)) ∙ ap (λ x. s.walked ++ x) (rest_image ended w p r stop.0)
+      rw append-nil at (ap (λ t. t.image) (s.beginning [] stop.0 stop.1)) ∙ ap (λ x. s.walked ++ x) (rest_image ended w p r stop.0)
 
   module _ (few : length w ≤ 15) where
     ahead : (lines last : List (List ℕ)) → lines ≡ s.lines ++ last → length last ≤ 1 → Ahead at (text_of max) s.bytes s.stop lines

@@ -39,16 +39,13 @@ module _ (strict : Bool) (text : ℕ → Instruction → List ℕ → List ℕ) 
 pub command_end : (c : Command) (t : Text) → (listing_for c t).status ≢ outcome.Refused → (listing_for c t).status ≡ (at_end t.ending).status
 command_end c t = grind (arith, listing_end)
 
-pub command_used : (c : Command) (t : Text) → (listing_for c t).status ≢ outcome.Usage
-command_used c t = let h = command_end c t in grind arith
+pub command_status : (c : Command) (t : Text) → ((listing_for c t).status ≢ outcome.Usage) × ((listing_for c t).status ≢ outcome.WriteFault)
+command_status c t = let h = command_end c t in (grind arith, grind arith)
 
 -- the bytes up to the end are no fault
 pub command_read : (c : Command) (max : ℕ) (bytes : List ℕ) → (listing_for c (text_of max bytes End)).status ≢ outcome.ReadFault
 unfolding text_at
 command_read c max bytes = let h = command_end c (text_of max bytes End) in grind arith
-
-pub command_written : (c : Command) (t : Text) → (listing_for c t).status ≢ outcome.WriteFault
-command_written c t = let h = command_end c t in grind arith
 
 -- a stop that may come after the bytes that were returned
 pub some_stop : (stop : Option Stop) → (s : Stop) × MayCome stop [] s
@@ -63,7 +60,7 @@ pub ran_used : {S K : Type 0} (gives : S → Got → S → Type 0) (takes : K �
     Ran gives takes (listing_for c) max status a b k l → status ≢ outcome.Usage
 ran_used gives takes c max status a b k l ran e =
     let s = some_stop ran.stop in
-    command_used c _ (lists_status status ran.lines ran.failed _ (λ f. cc) (ran.lists [] s.0 s.1) ∙ e)
+    (command_status c _).0 (lists_status status ran.lines ran.failed _ (λ f. cc) (ran.lists [] s.0 s.1) ∙ e)
 
 -- Commands that continue after refusals are never refused.
 past_refusals : (c : Command) (t : Text) → IsTrue (goes_past_refusals c) → (listing_for c t).status ≢ outcome.Refused
@@ -83,7 +80,7 @@ causes gives takes c max a b k l = (
   λ ran. fault_stop ran.stop (λ may. command_read c max (ran.bytes ++ []) (lists_status outcome.ReadFault ran.lines ran.failed _ (λ e. cc) (ran.lists [] End may))),
   λ ran e.
       let s = some_stop ran.stop in
-      command_written c _ (ap (λ l. l.status) (rw e at (ran.lists [] s.0 s.1))),
+      (command_status c _).1 (ap (λ l. l.status) (rw e at (ran.lists [] s.0 s.1))),
 )
 
 -- sequences of sentences

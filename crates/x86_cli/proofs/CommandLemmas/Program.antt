@@ -20,7 +20,7 @@ use Rattle.x86_cli.specs.Commands.Command.{listing_for, max_of}
 use Rattle.x86_cli.specs.Commands.Make.{made_listing}
 use Rattle.x86_cli.specs.Commands.Run.{SinkCalls, Lists, Wrote, Ran}
 use Rattle.x86_cli.specs.Commands.Program.{ending_of, fault_of, EndsAt, IsPrinted, Finishes, Performs, PerformsMake}
-use Rattle.x86_cli.proofs.CommandLemmas.Causes.{some_stop, causes, command_used, command_written, lists_status, ran_used}
+use Rattle.x86_cli.proofs.CommandLemmas.Causes.{some_stop, causes, command_status, lists_status, ran_used}
 use Rattle.x86_cli.proofs.CommandLemmas.Says.{written_part, end_stop, fault_status, called_failed}
 use Rattle.x86_cli.proofs.OutsideLemmas.Flat.{BufferFlushes, SinkTakes, lines_send, failed_line_sends}
 use Rattle.x86_cli.proofs.OutsideLemmas.Reads.{SourceGives, fetched}
@@ -106,7 +106,7 @@ module _ {W : Type 0} (writes : W → List ℕ → Result ℕ Error → W → Ty
     ran_performs reads left c s t none ran =
         let f = rw none at (fetched reads left (text_of (max_of c)) ran.bytes ran.stop s t ran.source_calls ran.called) in
         let one = some_stop ran.stop in
-        let p = run_printed ran.lines ran.failed _ (ran.lists [] one.0 one.1) (command_written c _) (command_used c _) ran.sink_calls in
+        let p = run_printed ran.lines ran.failed _ (ran.lists [] one.0 one.1) (command_status c _).1 (command_status c _).0 ran.sink_calls in
         record {
           pieces = f.pieces;
           stop = ran.stop;

@@ -25,7 +25,7 @@ use Rattle.x86_cli.specs.Commands.Make.{made_listing}
 use Rattle.x86_cli.specs.DecoderLaws.{DecoderLaws}
 use Rattle.x86_cli.specs.Commands.Says.{Streams, streams_of, full_listing, taken_listing, Writes, WritesPrefix, OfAll, OfTaken, Makes, Says}
 use Rattle.x86_cli.specs.Commands.Follows.{IsSound, IsExact, HasReadFault, Completes}
-use Rattle.x86_cli.proofs.CommandLemmas.Causes.{command_end, some_stop, fault_stop, command_used, command_read, command_written, text_done}
+use Rattle.x86_cli.proofs.CommandLemmas.Causes.{command_end, some_stop, fault_stop, command_status, command_read, text_done}
 use Rattle.x86_cli.proofs.OutsideLemmas.Reports.{source_calls_report, sink_calls_report}
 use Rattle.x86_cli.proofs.CommandLemmas.Stay.{refused_stays}
 
@@ -47,20 +47,14 @@ faults_unchanged stop a b bytes faults faults' t unfailed = grind arith
 
 -- texts and listings
 
-failed_unclean : (max : ℕ) (bytes : List ℕ) → (text_of max bytes Failed).ending ≢ Clean
-unfolding text_at
-failed_unclean max bytes = grind arith
-
-done_clean : (c : Command) (t : Text) → (listing_for c t).status ≡ Done → t.ending ≡ Clean
-done_clean c t done = let h = command_end c t in grind arith
-
 -- After a fault a listing ends as that, or in a refusal.
 pub fault_status : (c : Command) (t : Text) (status : Status) → t.ending ≡ Fault → status ≢ Refused → status ≢ ReadFault → (listing_for c t).status ≢ status
 fault_status c t status fault unrefused unread = let h = command_end c t in grind arith
 
 pub end_stop : (c : Command) (max : ℕ) (bytes : List ℕ) (stop : Option Stop) →
     ((xs : List ℕ) (s : Stop) → MayCome stop xs s → (listing_for c (text_of max (bytes ++ xs) s)).status ≡ Done) → stop ≡ Some End
-end_stop c max bytes stop done = grind (arith, failed_unclean max (bytes ++ []), done_clean c, done [] Failed)
+unfolding text_at
+end_stop c max bytes stop done = let h = command_end c (text_of max (bytes ++ []) Failed) in grind (arith, done [] Failed)
 
 -- the text whose last call failed was open
 called_open : (text : List ℕ → Stop → Text) (bytes : List ℕ) (stop : Stop) → CalledWhileOpen text bytes (Some stop) → (text bytes Failed).ending ≡ Fault
@@ -99,14 +93,6 @@ module _ (laws : (strict : Bool) → DecoderLaws strict) (c : Command) (old new 
     failed_listed : (status : Status) → AllListed status → stop ≡ Some Failed → listing_for c (text_of (max_of c) bytes Failed) ≡ record { lines = lines; status = status }
     failed_listed status lists failed = rw append-nil at (lists [] Failed (rw failed (refl, refl)))
 
-    -- a text that ends by itself
-    says_ended : (status : Status) → status ≢ Refused → status ≢ ReadFault → AllListed status →
-        IfSome old.left (λ b. Writes status old new (full_listing c b)) × (new.source_faults ≡ old.source_faults) × (new.sink_faults ≡ old.sink_faults)
-    says_ended status unrefused unread lists =
-        let unfailed : stop ≢ Some Failed = λ f.
-        fault_status c (text_of (max_of c) bytes Failed) status (fault f) unrefused unread (ap (λ l. l.status) (failed_listed status lists f)) in
-        (all_full status lists (λ f. absurd (unfailed f)), faults_unchanged stop old.left new.left bytes old.source_faults new.source_faults source_calls unfailed, wrote.1)
-
     says_all : (status : Status) → AllListed status → Says status c old new
     says_all Done lists =
         let end : stop ≡ Some End = end_stop c (max_of c) bytes stop (λ xs s may. ap (λ l. l.status) (lists xs s may)) in
@@ -122,9 +108,12 @@ module _ (laws : (strict : Bool) → DecoderLaws strict) (c : Command) (old new 
         let failed : stop ≡ Some Failed = fault_stop stop (λ may. command_read c (max_of c) (bytes ++ []) (ap (λ l. l.status) (lists [] End may))) in
         let reported : ReportsBytes bytes (Some Failed) old.left new.left old.source_faults new.source_faults = rw failed at source_calls in
         (record { taken = bytes; takes = reported.0; holds = writes ReadFault (taken_listing c bytes) (failed_listed ReadFault lists failed); cause = reported.1 }, wrote.1)
-    says_all Usage lists = let s = some_stop stop in absurd (command_used c _ (ap (λ l. l.status) (lists [] s.0 s.1)))
-    says_all WriteFault lists = let s = some_stop stop in absurd (command_written c _ (ap (λ l. l.status) (lists [] s.0 s.1)))
-    says_all status lists = says_ended status (λ f. cc) (λ f. cc) lists
+    says_all Usage lists = let s = some_stop stop in absurd ((command_status c _).0 (ap (λ l. l.status) (lists [] s.0 s.1)))
+    says_all WriteFault lists = let s = some_stop stop in absurd ((command_status c _).1 (ap (λ l. l.status) (lists [] s.0 s.1)))
+    says_all status lists =
+        let unfailed : stop ≢ Some Failed = λ f.
+        fault_status c (text_of (max_of c) bytes Failed) status (fault f) (λ f. cc) (λ f. cc) (ap (λ l. l.status) (failed_listed status lists f)) in
+        (all_full status lists (λ f. absurd (unfailed f)), faults_unchanged stop old.left new.left bytes old.source_faults new.source_faults source_calls unfailed, wrote.1)
 
   -- a run at which a put failed
   module _ (lines : List (List ℕ)) (failed : List ℕ) (wrote : ReportsPieces lines (Some failed) old.written new.written old.sink_faults new.sink_faults)

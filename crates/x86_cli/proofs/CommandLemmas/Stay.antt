@@ -67,15 +67,12 @@ module _ (strict : Bool) (laws : DecoderLaws strict) (text : ℕ → Instruction
   list_stays : (t t' : Text) → IsBeginning t.image t'.image → t.ending ≡ Fault → (listing_of strict text t).status ≡ outcome.Refused → listing_of strict text t' ≡ listing_of strict text t
   list_stays t t' beginning fault refused = rw (fault, beginning.whole) (listing_stays 0 0 t.image beginning.more t'.ending (rw fault at refused))
 
-unrefused : (t : Text) → t.ending ≡ Fault → (at_end t.ending).status ≢ outcome.Refused
-unrefused t fault = rw fault (λ f. cc)
-
 module _ (laws : (strict : Bool) → DecoderLaws strict) where
   command_stays : (c : Command) (t t' : Text) → IsBeginning t.image t'.image → t.ending ≡ Fault → (listing_for c t).status ≡ outcome.Refused → listing_for c t' ≡ listing_for c t
   command_stays (Listed strict) t t' beginning fault refused = list_stays strict (laws strict) _ t t' beginning fault refused
   command_stays Fielded t t' beginning fault refused = list_stays false (laws false) _ t t' beginning fault refused
   command_stays Tightened t t' beginning fault refused = list_stays false (laws false) _ t t' beginning fault refused
-  command_stays _ t t' beginning fault refused = absurd (unrefused t fault refused)
+  command_stays _ t t' beginning fault refused = let f : outcome.ReadFault ≡ outcome.Refused = rw fault at refused in cc
 
   pub refused_stays : (c : Command) (max : ℕ) (bytes xs : List ℕ) (s : Stop) → (text_of max bytes Failed).ending ≡ Fault → (listing_for c (text_of max bytes Failed)).status ≡ outcome.Refused →
       listing_for c (text_of max (bytes ++ xs) s) ≡ listing_for c (text_of max bytes Failed)

@@ -26,11 +26,6 @@ match_case (Some e) m f g = g m
 pub with_bytes-with_bytes : (a b : List ℕ) (t : Text) → with_bytes a (with_bytes b t) ≡ with_bytes (a ++ b) t
 with_bytes-with_bytes a b t = ap (λ i. record { image = i; ending = t.ending }) (sym (append_assoc a b t.image))
 
--- at an end, what is left is the window
-pub rest_is : (at : ℕ → Text → Listing) (n : ℕ) (ended : Option Ending) (w : List ℕ) (p r : ℕ) (e : Ending) (l : Listing) → ended ≡ Some e →
-    at n (record { image = w; ending = e }) ≡ l → (xs : List ℕ) (stop : Stop) → at n (rest_of ended w p r xs stop) ≡ l
-rest_is at n ended w p r e l is same xs stop = rw is same
-
 -- the status of a run whose last listing was put so
 abbrev pub status_by : Result Status SinkFailed → Status
 status_by (Ok status) = status
@@ -51,15 +46,6 @@ Walks (Some k) n walked = length walked ≡ n
 abbrev pub Needs : Option ℕ → List ℕ → Text → Type 0
 Needs None walked t = IsOpenText t
 Needs (Some k) walked t = NeedsMore (length walked + k) t
-
-needs_open : (window : Option ℕ) (walked : List ℕ) (t : Text) → Needs window walked t → IsOpenText t
-needs_open window walked t needs = grind arith
-
-needs_longer : (window : Option ℕ) (walked ahead : List ℕ) (t : Text) → Needs window walked t → Needs window (walked ++ ahead) t
-needs_longer window walked ahead t needs = grind (arith, length-append {A = ℕ})
-
-needs_after : (window : Option ℕ) (walked : List ℕ) (t : Text) → Needs window [] t → Needs window walked (with_bytes walked t)
-needs_after window walked t needs = grind (arith, length-append {A = ℕ})
 
 -- a window that fills
 pub window_needs : (k : ℕ) (walked : List ℕ) (t : Text) → NeedsMore k t → Needs (Some k) walked (with_bytes walked t)
@@ -118,7 +104,7 @@ module _ {S K : Type 0} (gives : S → Got → S → Type 0) (takes : K → List
   -- the text was read to its end
   pub progress_whole : Walks window 0 [] → (max : ℕ) (e : Ending) (w : List ℕ) (a b : S) (k : K) → Fills gives (Needs window []) (text_of max) (Some e) w 0 0 a b → Progress max 0 (Some e) w 0 0 a b k k
   progress_whole walks max e w a b k fills =
-      progress_fill (Needs window []) (needs_after window) max 0 [] 0 max a a k k (progress_new walks max a k) (Some e) w 0 0 b fills
+      progress_fill (Needs window []) (λ walked t h. grind (arith, length-append {A = ℕ})) max 0 [] 0 max a a k k (progress_new walks max a k) (Some e) w 0 0 b fills
 
   module _ (max n : ℕ) (ended : Option Ending) (w : List ℕ) (p r : ℕ) (a b : S) (k l : K) (s : Progress max n ended w p r a b k l) where
     pub progress_step : (ls : List (List ℕ)) (n' : ℕ) (w' : List ℕ) →
@@ -131,7 +117,7 @@ module _ {S K : Type 0} (gives : S → Got → S → Type 0) (takes : K → List
       source_calls = s.source_calls;
       walked = s.walked ++ ahead;
       called = called-where (Needs window s.walked) (Needs window (s.walked ++ ahead)) (text_of max) (text_of max) s.bytes s.stop
-          (λ xs. needs_longer window s.walked ahead (text_of max xs Failed)) s.called;
+          (λ xs h. grind (arith, length-append {A = ℕ})) s.called;
       continues = s.continues;
       walks = longer s.walked s.walks;
       beginning = λ xs stop may. s.beginning xs stop may ∙ ap (with_bytes s.walked) (split xs stop) ∙ with_bytes-with_bytes s.walked ahead (rest_of ended w' p r xs stop);
@@ -141,7 +127,7 @@ module _ {S K : Type 0} (gives : S → Got → S → Type 0) (takes : K → List
     }
 
     pub called_open : CalledWhere IsOpenText (text_of max) s.bytes s.stop
-    called_open = called-where (Needs window s.walked) IsOpenText (text_of max) (text_of max) s.bytes s.stop (λ xs. needs_open window s.walked (text_of max xs Failed)) s.called
+    called_open = called-where (Needs window s.walked) IsOpenText (text_of max) (text_of max) s.bytes s.stop (λ xs h. grind arith) s.called
 
     abbrev ran : (status : Status) (lines : List (List ℕ)) (failed : Option (List ℕ)) (m : K) → SinkCalls takes lines failed k m →
         ((xs : List ℕ) (stop : Stop) → MayCome s.stop xs stop → Lists status lines failed (at 0 (text_of max (s.bytes ++ xs) stop))) → Ran gives takes (at 0) max status a b k m

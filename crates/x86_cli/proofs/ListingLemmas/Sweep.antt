@@ -15,13 +15,7 @@ use Rattle.x86_layout.proofs.SweepLemmas.Cut.{first_and_rest, none_left}
 use Rattle.x86_cli.specs.Listings.Step.{IsStep}
 use Rattle.x86_cli.specs.declared.listings.listing.Step.TheVariants as step
 use Rattle.x86_cli.specs.Listings.Sweep.{cut_text, cut_line, sweep_at}
-use Rattle.x86_cli.proofs.ListingLemmas.Progress.{with-with, rest_is}
-
--- what a window shows of its first cut: the next cut has this answer, whatever follows
-record ShowsAnswer (strict : Bool) (a : Result Instruction DecodeError) (ended : Option Ending) (w : List ℕ) (p r : ℕ) : Type 0 where
-  some : 0 < cut_length a
-  fits : cut_length a ≤ length w
-  answers : (xs : List ℕ) (stop : Stop) → answer_of strict (rest_of ended w p r xs stop).image ≡ a
+use Rattle.x86_cli.proofs.ListingLemmas.Progress.{with-with}
 
 module _ (strict : Bool) where
   sweep-cut : (n len : ℕ) (xs : List ℕ) (e : Ending) (a : Result Instruction DecodeError) → answer_of strict xs ≡ a → cut_length a ≡ len → 0 < len → len ≤ length xs →
@@ -29,14 +23,15 @@ module _ (strict : Bool) where
   sweep-cut n len xs e a h same some le = grind (arith, first_and_rest strict len n xs, with-with (cut_line (cut_at strict n xs) ∷ []) (map cut_line (cuts_from strict (n + len) (drop len xs))) (at_end e))
 
   -- one cut of the rest
-  rest_cut : (ended : Option Ending) (n : ℕ) (w : List ℕ) (p r : ℕ) (a : Result Instruction DecodeError) → ShowsAnswer strict a ended w p r → (xs : List ℕ) (stop : Stop) →
+  rest_cut : (ended : Option Ending) (n : ℕ) (w : List ℕ) (p r : ℕ) (a : Result Instruction DecodeError) → 0 < cut_length a → cut_length a ≤ length w → (xs : List ℕ) (stop : Stop) →
+      answer_of strict (rest_of ended w p r xs stop).image ≡ a →
       sweep_at strict n (rest_of ended w p r xs stop) ≡ with_lines (line (cut_text n a) ∷ []) (sweep_at strict (n + cut_length a) (rest_of ended (drop (cut_length a) w) p r xs stop))
-  rest_cut ended n w p r a shows xs stop =
-      let cut = sweep-cut n (cut_length a) (rest_of ended w p r xs stop).image (rest_of ended w p r xs stop).ending a (shows.answers xs stop) refl shows.some in
-      grind (arith, shows.fits, drop-append-le (cut_length a) w, length-append {A = ℕ})
+  rest_cut ended n w p r a some fits xs stop answers =
+      let cut = sweep-cut n (cut_length a) (rest_of ended w p r xs stop).image (rest_of ended w p r xs stop).ending a answers refl some in
+      grind (arith, fits, drop-append-le (cut_length a) w, length-append {A = ℕ})
 
   pub sweep_end : (ended : Option Ending) (n : ℕ) (text w : List ℕ) (p r : ℕ) (e : Ending) → ended ≡ Some e → length w ≡ 0 → IsStep (sweep_at strict) (step.Ended e) n text ended w p r
-  sweep_end ended n text w p r e is none = rest_is (sweep_at strict) n ended w p r e (at_end e) is (ap (λ cs. with_lines (map cut_line cs) (at_end e)) (none_left strict n w none))
+  sweep_end ended n text w p r e is none xs stop = rw is (ap (λ cs. with_lines (map cut_line cs) (at_end e)) (none_left strict n w none))
 
 -- what a window that isn't empty shows
 module _ (strict : Bool) (laws : DecoderLaws strict) where
@@ -52,5 +47,4 @@ module _ (strict : Bool) (laws : DecoderLaws strict) where
   sweep_line ended n w s p r a full some answer same len text long is =
       let here : answer_of strict w ≡ a = sym (answer ∙ ap (answer_of strict) same) in
       let h = answer_shows a w here some in
-      let shows : ShowsAnswer strict a ended w p r = record { some = h.0; fits = h.1; answers = λ xs stop. same_answer ended w p r full xs stop ∙ here } in
-      rw (long, is) (h.0, h.1, λ xs stop. rest_cut strict ended n w p r a shows xs stop)
+      rw (long, is) (h.0, h.1, λ xs stop. rest_cut strict ended n w p r a h.0 h.1 xs stop (same_answer ended w p r full xs stop ∙ here))

@@ -12,23 +12,18 @@ use Rattle.x86_cli.specs.Text.Reading.{SourceCalls}
 use Rattle.x86_cli.specs.Commands.Run.{SinkCalls}
 use Rattle.x86_cli.specs.Outside.Reported.{ReportsBytes, ReportsPieces}
 
--- a byte, and the bytes after it
-byte_reports : (x : ℕ) (bs : List ℕ) (stop : Option Stop) (a b d : Option (List ℕ)) (i j k : ℕ) → ReportsGot (got.Byte x) a b i j → ReportsBytes bs stop b d j k → ReportsBytes (x ∷ bs) stop a d i k
-byte_reports x bs stop a b d i j k t more = grind arith
-
--- a piece, and the pieces after it
-piece_reports : (p : List ℕ) (ps : List (List ℕ)) (failed : Option (List ℕ)) (a b d : Option (List ℕ)) (i j k : ℕ) → ReportsPut (Ok tt) p a b i j → ReportsPieces ps failed b d j k → ReportsPieces (p ∷ ps) failed a d i k
-piece_reports p ps None a b d i j k t more = grind (arith, append_assoc {A = ℕ})
-piece_reports p ps (Some x) a b d i j k t more = ((more.0.0, grind (arith, append_assoc {A = ℕ})), grind arith)
-
 module _ {S : Type 0} (gives : S → Got → S → Type 0) (left : S → Option (List ℕ)) (faults : S → ℕ)
     (reports : (s : S) (g : Got) (t : S) → gives s g t → ReportsGot g (left s) (left t) (faults s) (faults t)) where
   pub source_calls_report : (bytes : List ℕ) (stop : Option Stop) (a b : S) → SourceCalls gives bytes stop a b → ReportsBytes bytes stop (left a) (left b) (faults a) (faults b)
   source_calls_report [] stop a b h = grind (arith, Consumes-nil, reports a got.End b, reports a got.Failed b)
-  source_calls_report (x ∷ bs) stop a b h = byte_reports x bs stop _ _ _ _ _ _ (reports a (got.Byte x) h.0 h.1) (source_calls_report bs stop h.0 b h.2)
+  source_calls_report (x ∷ bs) stop a b h = let first = reports a (got.Byte x) h.0 h.1 in let more = source_calls_report bs stop h.0 b h.2 in grind arith
 
 module _ {K : Type 0} (takes : K → List ℕ → Result ⊤ SinkFailed → K → Type 0) (written : K → Option (List ℕ)) (faults : K → ℕ)
     (reports : (s : K) (piece : List ℕ) (r : Result ⊤ SinkFailed) (t : K) → takes s piece r t → ReportsPut r piece (written s) (written t) (faults s) (faults t)) where
   pub sink_calls_report : (pieces : List (List ℕ)) (failed : Option (List ℕ)) (k l : K) → SinkCalls takes pieces failed k l → ReportsPieces pieces failed (written k) (written l) (faults k) (faults l)
   sink_calls_report [] failed k l h = grind (arith, Appends-nil, reports k)
-  sink_calls_report (p ∷ ps) failed k l h = piece_reports p ps failed _ _ _ _ _ _ (reports k p (Ok tt) h.0 h.1) (sink_calls_report ps failed h.0 l h.2)
+  sink_calls_report (p ∷ ps) None k l h =
+      let first = reports k p (Ok tt) h.0 h.1 in let more = sink_calls_report ps None h.0 l h.2 in grind (arith, append_assoc {A = ℕ})
+  sink_calls_report (p ∷ ps) (Some x) k l h =
+      let first = reports k p (Ok tt) h.0 h.1 in let more = sink_calls_report ps (Some x) h.0 l h.2 in
+      ((more.0.0, grind (arith, append_assoc {A = ℕ})), grind arith)

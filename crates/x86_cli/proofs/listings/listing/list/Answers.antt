@@ -2,7 +2,7 @@ use Rattle.std.proofs.Common.{Ok, Err, refl, arith, length, ap, length-drop}
 use Rattle.x86_cli.specs.Text.Reading.{NeedsMore}
 use Rattle.x86_cli.specs.Listings.Line.{line}
 use Rattle.x86_cli.proofs.ListingLemmas.Progress.{window_needs, progress_new, progress_refill}
-use Rattle.x86_cli.proofs.CommandLemmas.Ahead.{window, end_one, progress_line, window_failed, window_closes}
+use Rattle.x86_cli.proofs.CommandLemmas.Ahead.{window, progress_line, window_failed, window_closes}
 use Rattle.x86_cli.proofs.listings.listing.list.Goals as goal
 
 pub lines-init : goal.lines-init
@@ -45,9 +45,9 @@ returns-in-Err-refuse g c =
 pub returns-in-Ok-end : goal.returns-in-Ok-end
 returns-in-Ok-end g c =
     let s = progress_refill g.S.Source.gives g.K.Sink.takes (g.W.Course.lists c.args.course.now c.args.decoder.now.strict) window (NeedsMore 15) (window_needs 15) _ _ _ _ _ _ _ _ _ c.lines.invariant.progress c.refill.ensures.cases in
-    window_closes g.S.Source.gives g.K.Sink.takes (g.W.Course.lists c.args.course.now c.args.decoder.now.strict) _ _ _ _ _ _ _ _ _ _ s (c.refill.ensures.few c.lines.invariant.few) _ (end_one c.in-Ended.ending) c.in-Ended.ensures.next (Ok _) _ c.in-Ok-end.ensures
+    window_closes g.S.Source.gives g.K.Sink.takes (g.W.Course.lists c.args.course.now c.args.decoder.now.strict) _ _ _ _ _ _ _ _ _ _ s (c.refill.ensures.few c.lines.invariant.few) _ (grind arith) c.in-Ended.ensures.next (Ok _) _ c.in-Ok-end.ensures
 
 pub returns-in-Err-end : goal.returns-in-Err-end
 returns-in-Err-end g c =
     let s = progress_refill g.S.Source.gives g.K.Sink.takes (g.W.Course.lists c.args.course.now c.args.decoder.now.strict) window (NeedsMore 15) (window_needs 15) _ _ _ _ _ _ _ _ _ c.lines.invariant.progress c.refill.ensures.cases in
-    window_closes g.S.Source.gives g.K.Sink.takes (g.W.Course.lists c.args.course.now c.args.decoder.now.strict) _ _ _ _ _ _ _ _ _ _ s (c.refill.ensures.few c.lines.invariant.few) _ (end_one c.in-Ended.ending) c.in-Ended.ensures.next (Err c.in-Err-end.field-0) _ c.in-Err-end.ensures
+    window_closes g.S.Source.gives g.K.Sink.takes (g.W.Course.lists c.args.course.now c.args.decoder.now.strict) _ _ _ _ _ _ _ _ _ _ s (c.refill.ensures.few c.lines.invariant.few) _ (grind arith) c.in-Ended.ensures.next (Err c.in-Err-end.field-0) _ c.in-Err-end.ensures
