@@ -2,6 +2,6 @@
 pub mod Listing
 pub mod Grammar
 pub mod Progress
-pub mod NextStep
+pub mod NextEntry
 pub mod Sweep
 pub mod Target

@@ -2,7 +2,7 @@
 pub mod Line
 pub mod Status
 pub mod Listing
-pub mod Step
+pub mod Entry
 pub mod Grammar
 pub mod Sweep
 pub mod Targets

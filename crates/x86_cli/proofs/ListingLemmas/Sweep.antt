@@ -12,8 +12,8 @@ use Rattle.x86_cli.specs.Listings.Listing.{with_lines, at_end}
 use Rattle.x86_cli.specs.Text.Window.{rest_of}
 use Rattle.x86_layout.specs.Sweeps.Cuts.{cut_length, cut_at, cuts_from}
 use Rattle.x86_layout.proofs.SweepLemmas.Cut.{first_and_rest, none_left}
-use Rattle.x86_cli.specs.Listings.Step.{IsStep}
-use Rattle.x86_cli.specs.declared.listings.listing.Step.TheVariants as step
+use Rattle.x86_cli.specs.Listings.Entry.{IsEntry}
+use Rattle.x86_cli.specs.declared.listings.listing.Entry.TheVariants as entry
 use Rattle.x86_cli.specs.Listings.Sweep.{cut_text, cut_line, sweep_at}
 use Rattle.x86_cli.proofs.ListingLemmas.Progress.{with-with}
 
@@ -30,7 +30,7 @@ module _ (strict : Bool) where
       let cut = sweep-cut n (cut_length a) (rest_of ended w p r xs stop).image (rest_of ended w p r xs stop).ending a answers refl some in
       grind (arith, fits, drop-append-le (cut_length a) w, length-append {A = ℕ})
 
-  pub sweep_end : (ended : Option Ending) (n : ℕ) (text w : List ℕ) (p r : ℕ) (e : Ending) → ended ≡ Some e → length w ≡ 0 → IsStep (sweep_at strict) (step.Ended e) n text ended w p r
+  pub sweep_end : (ended : Option Ending) (n : ℕ) (text w : List ℕ) (p r : ℕ) (e : Ending) → ended ≡ Some e → length w ≡ 0 → IsEntry (sweep_at strict) (entry.Ended e) n text ended w p r
   sweep_end ended n text w p r e is none xs stop = rw is (ap (λ cs. with_lines (map cut_line cs) (at_end e)) (none_left strict n w none))
 
 -- what a window that isn't empty shows
@@ -43,7 +43,7 @@ module _ (strict : Bool) (laws : DecoderLaws strict) where
   same_answer ended w p r full xs stop = let ne = laws.enough w in let stay = laws.stay w in grind arith
 
   pub sweep_line : (ended : Option Ending) (n : ℕ) (w s : List ℕ) (p r : ℕ) (a : Result Instruction DecodeError) → (ended ≡ None → length w ≡ 15) → 0 < length w →
-      a ≡ answer_of strict s → s ≡ w → (len : ℕ) (text : List ℕ) → len ≡ cut_length a → text ≡ cut_text n a → IsStep (sweep_at strict) (step.Line len) n text ended w p r
+      a ≡ answer_of strict s → s ≡ w → (len : ℕ) (text : List ℕ) → len ≡ cut_length a → text ≡ cut_text n a → IsEntry (sweep_at strict) (entry.Line len) n text ended w p r
   sweep_line ended n w s p r a full some answer same len text long is =
       let here : answer_of strict w ≡ a = sym (answer ∙ ap (answer_of strict) same) in
       let h = answer_shows a w here some in

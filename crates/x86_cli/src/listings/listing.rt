@@ -7,7 +7,7 @@ ghost use Rattle.arrayvec.specs.ArrayVec.{array_vec_len};
 ghost use Rattle.x86_cli.specs.Listings.Line.{line};
 ghost use Rattle.x86_cli.specs.Text.{Text};
 ghost use Rattle.x86_cli.specs.Listings.Listing.{Listing, at_end, at_refusal, listing_at};
-ghost use Rattle.x86_cli.specs.Listings.Step.{IsStep};
+ghost use Rattle.x86_cli.specs.Listings.Entry.{IsEntry};
 ghost use Rattle.x86_cli.specs.Commands.Run.{RanInWindow, Closes};
 
 use crate::laws::decoder_laws;
@@ -77,8 +77,8 @@ fn length_of(instruction: &Instruction) -> u64
     instruction.len().to_const()
 }
 
-/// The next step of a listing: a line, or its end.
-pub enum Step {
+/// The next entry of a listing: a line, or its end.
+pub enum Entry {
     /// A line, and how many bytes of the image it is of.
     Line(u64),
     /// A refusal, which ends the listing.
@@ -92,7 +92,7 @@ pub trait Course {
     /// The listing of a text from a place on.
     ghost lists: { Self → Bool → ℕ → Text → Listing };
 
-    /// The next step at a place. A line is written over `line`, without its end.
+    /// The next entry at a place. A line is written over `line`, without its end.
     fn next(
         &self,
         decoder: &InstDecoder,
@@ -100,13 +100,13 @@ pub trait Course {
         place: &Place,
         inst: &mut Instruction,
         line: &mut Line,
-    ) -> Step
+    ) -> Entry
         requires { window.now.ended ≡ None → length window.now.bytes.items ≡ 15 }
-        ensures next { IsStep
+        ensures next { IsEntry
             (lists self.now (is_strict decoder.now)) result place.now line.new.items
             window.now.ended window.now.bytes.items window.now.reader.position
             window.now.reader.room }
-        ensures short { (n : ℕ) → result ≡ Step.Line n → array_vec_len line.new ≤ LINE_MAX };
+        ensures short { (n : ℕ) → result ≡ Entry.Line n → array_vec_len line.new ≤ LINE_MAX };
 }
 
 /// The listing that ends at a refusal, with these lines.
@@ -118,7 +118,7 @@ pub struct UpToRefusal<L: Lines + Drop> {
 impl<L: Lines + Drop> Course for UpToRefusal<L> {
     ghost lists = { λ s strict place text. listing_at strict (L.text s.lines strict) place text };
 
-    #[tactic(auto, using(crate::proofs::ListingLemmas::NextStep::step_refused))]
+    #[tactic(auto, using(crate::proofs::ListingLemmas::NextEntry::entry_refused))]
     #[inline(always)]
     fn next(
         &self,
@@ -127,17 +127,17 @@ impl<L: Lines + Drop> Course for UpToRefusal<L> {
         place: &Place,
         inst: &mut Instruction,
         line: &mut Line,
-    ) -> Step {
+    ) -> Entry {
         decoder_laws();
         match window.decode_next(decoder, inst) {
             Decoded::Whole(()) => {
                 let length = length_of(inst);
                 let bytes = window.first(length as usize);
                 self.lines.write(decoder, place, inst, bytes, line);
-                Step::Line(length)
+                Entry::Line(length)
             }
-            Decoded::Refused(error) => Step::Refused(error),
-            Decoded::Ended(ending) => Step::Ended(ending),
+            Decoded::Refused(error) => Entry::Refused(error),
+            Decoded::Ended(ending) => Entry::Ended(ending),
         }
     }
 }
@@ -162,7 +162,7 @@ pub fn list<W: Course, S: Source, K: Sink>(
     'lines: loop {
         window.refill(source);
         match course.next(decoder, &window, &place, &mut inst, &mut line) {
-            Step::Line(length) => {
+            Entry::Line(length) => {
                 match put_line(sink, &mut line) {
                     Ok(()) => {}
                     Err(_) => return Status::WriteFault,
@@ -170,11 +170,11 @@ pub fn list<W: Course, S: Source, K: Sink>(
                 window.leave(length as usize);
                 place.advance(length);
             }
-            Step::Refused(error) => match refuse(sink, place.number(), error) {
+            Entry::Refused(error) => match refuse(sink, place.number(), error) {
                 Ok(status) => return status,
                 Err(_) => return Status::WriteFault,
             },
-            Step::Ended(ending) => match end(sink, ending) {
+            Entry::Ended(ending) => match end(sink, ending) {
                 Ok(status) => return status,
                 Err(_) => return Status::WriteFault,
             },

@@ -7,7 +7,7 @@ ghost use Rattle.x86_decode.specs.Instruction.{holding};
 ghost use Rattle.x86_cli.specs.Listings.Sweep.{cut_text, sweep_at};
 
 use crate::laws::decoder_laws;
-use crate::listings::listing::{Course, Step};
+use crate::listings::listing::{Course, Entry};
 use crate::text::window::Window;
 use x86_decode::{InstDecoder, Instruction};
 use x86_fields::DecodeError;
@@ -49,15 +49,15 @@ impl Course for PastRefusals {
         place: &Place,
         inst: &mut Instruction,
         line: &mut Line,
-    ) -> Step {
+    ) -> Entry {
         if !window.bytes.is_empty() {
             decoder_laws();
             let answer = decoder.decode_slice_into(inst, window.bytes.as_slice());
             write_cut(line, place, inst, answer);
-            return Step::Line(cut_length(inst, answer));
+            return Entry::Line(cut_length(inst, answer));
         }
         match window.ended {
-            Some(ending) => Step::Ended(ending),
+            Some(ending) => Entry::Ended(ending),
             None => unreachable!(),
         }
     }

@@ -35,9 +35,9 @@ pub struct TextReader {
 impl Model for TextReader {
     ghost use Rattle.std.specs.Prelude.{ℕ, ◌≤◌, ◌+◌, ◌-◌};
     ghost use Rattle.std.proofs.Common.{arith, ap};
-    ghost use Rattle.x86_cli.specs.Text.Reader.{Reader};
+    ghost use Rattle.x86_cli.specs.Text.Reader.{TextPosition};
 
-    ghost Value = { Reader };
+    ghost Value = { TextPosition };
 
     ghost view = { λ r. record { position = r.position; room = r.end - r.position } };
 

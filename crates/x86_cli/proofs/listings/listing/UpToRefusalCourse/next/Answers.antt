@@ -1,16 +1,16 @@
 use Rattle.std.proofs.Common.{None, ap, ◌∙◌}
 use Rattle.x86_cli.proofs.TextLemmas.Decoded.{shown_answer}
-use Rattle.x86_cli.proofs.ListingLemmas.NextStep.{step_line, step_ended}
+use Rattle.x86_cli.proofs.ListingLemmas.NextEntry.{entry_line, entry_ended}
 use Rattle.x86_cli.proofs.listings.listing.UpToRefusalCourse.next.Goals as goal
 
 pub returns-in-Whole-clause-next : goal.returns-in-Whole-clause-next
 returns-in-Whole-clause-next g c =
     let shows = c.in-Whole.ensures.shows in
     let is = c.write.ensures.text ∙ ap (g.L.Lines.text c.args.self.now.lines c.args.decoder.now.strict c.args.place.now c.decode_next.new.inst) (rw c.length_of-length.ensures at c.first-bytes.ensures) in
-    step_line c.args.decoder.now.strict (g.L.Lines.text c.args.self.now.lines c.args.decoder.now.strict) _ _ _ _ _ c.decode_next.new.inst c.in-Whole.ensures.rest shows.0 shows.1 _ _ c.length_of-length.ensures is
+    entry_line c.args.decoder.now.strict (g.L.Lines.text c.args.self.now.lines c.args.decoder.now.strict) _ _ _ _ _ c.decode_next.new.inst c.in-Whole.ensures.rest shows.0 shows.1 _ _ c.length_of-length.ensures is
 
 pub returns-in-Ended-clause-next : goal.returns-in-Ended-clause-next
-returns-in-Ended-clause-next g c = step_ended c.args.decoder.now.strict (g.L.Lines.text c.args.self.now.lines c.args.decoder.now.strict) c.args.window.now.ended c.args.place.now c.args.window.now.bytes.items c.args.window.now.reader.position c.args.window.now.reader.room c.in-Ended.ending c.args.line.now.items c.in-Ended.ensures.rest
+returns-in-Ended-clause-next g c = entry_ended c.args.decoder.now.strict (g.L.Lines.text c.args.self.now.lines c.args.decoder.now.strict) c.args.window.now.ended c.args.place.now c.args.window.now.bytes.items c.args.window.now.reader.position c.args.window.now.reader.room c.in-Ended.ending c.args.line.now.items c.in-Ended.ensures.rest
 
 pub write-requires : goal.write-requires
 write-requires g c =

@@ -1,4 +1,4 @@
--- The next step of a listing that ends at a refusal.
+-- The next entry of a listing that ends at a refusal.
 use Rattle.std.proofs.Common.{◌≡◌, Bool, ℕ, ◌+◌, ◌<◌, ◌≤◌, List, [], ◌∷◌, ◌++◌, length, take, drop, Option, Some, None, arith, length-append}
 use Rattle.std.proofs.lemmas.List.{drop-append-le, take-append-le}
 use Rattle.x86_decode.specs.declared.instructions.Instruction.{Instruction}
@@ -8,10 +8,10 @@ use Rattle.x86_cli.specs.Outside.Stop.{Stop}
 use Rattle.x86_cli.specs.Text.{Text, text_at}
 use Rattle.x86_cli.specs.declared.text.window.Decoded.{Decoded}
 use Rattle.x86_cli.specs.declared.text.window.Decoded.TheVariants.{Whole, Refused, Ended}
-use Rattle.x86_cli.specs.declared.listings.listing.Step.TheVariants as step
+use Rattle.x86_cli.specs.declared.listings.listing.Entry.TheVariants as entry
 use Rattle.x86_cli.specs.Listings.Line.{line}
 use Rattle.x86_cli.specs.Listings.Listing.{Listing, with_lines, decoded_of, listing_at}
-use Rattle.x86_cli.specs.Listings.Step.{IsStep}
+use Rattle.x86_cli.specs.Listings.Entry.{IsEntry}
 use Rattle.x86_cli.specs.Text.Window.{with_bytes, rest_of}
 use Rattle.x86_cli.proofs.ListingLemmas.Listing.{listing-whole, listing-refused, listing-ended}
 
@@ -30,17 +30,17 @@ module _ (strict : Bool) (text : ℕ → Instruction → List ℕ → List ℕ) 
   rest_line None n w i p r xs stop h some le = line_after n w i (text_at p r xs stop) h some le
   rest_line (Some e) n w i p r xs stop h some le = listing-whole strict text n w e i h some le
 
-  -- the next step, by what is decoded
+  -- the next entry, by what is decoded
   module _ (ended : Option Ending) (n : ℕ) (w : List ℕ) (p r : ℕ) where
     abbrev pub DecodedIs : Decoded Instruction → Type 0
     DecodedIs beginning = (xs : List ℕ) (stop : Stop) → decoded_of strict (rest_of ended w p r xs stop).image (rest_of ended w p r xs stop).ending ≡ beginning
 
-    pub step_line : (i : Instruction) → DecodedIs (Whole i) → 0 < i.length → i.length ≤ length w → (len : ℕ) (written : List ℕ) → len ≡ i.length → written ≡ text n i (take i.length w) →
-        IsStep at (step.Line len) n written ended w p r
-    step_line i whole some le len written long is = rw (long, is) (some, le, λ xs stop. rest_line ended n w i p r xs stop (whole xs stop) some le)
+    pub entry_line : (i : Instruction) → DecodedIs (Whole i) → 0 < i.length → i.length ≤ length w → (len : ℕ) (written : List ℕ) → len ≡ i.length → written ≡ text n i (take i.length w) →
+        IsEntry at (entry.Line len) n written ended w p r
+    entry_line i whole some le len written long is = rw (long, is) (some, le, λ xs stop. rest_line ended n w i p r xs stop (whole xs stop) some le)
 
-    pub step_refused : (error : DecodeError) (written : List ℕ) → DecodedIs (Refused error) → IsStep at (step.Refused error) n written ended w p r
-    step_refused error written refused xs stop = listing-refused strict text n (rest_of ended w p r xs stop).image (rest_of ended w p r xs stop).ending error (refused xs stop)
+    pub entry_refused : (error : DecodeError) (written : List ℕ) → DecodedIs (Refused error) → IsEntry at (entry.Refused error) n written ended w p r
+    entry_refused error written refused xs stop = listing-refused strict text n (rest_of ended w p r xs stop).image (rest_of ended w p r xs stop).ending error (refused xs stop)
 
-    pub step_ended : (e : Ending) (written : List ℕ) → DecodedIs (Ended e) → IsStep at (step.Ended e) n written ended w p r
-    step_ended e written ends xs stop = listing-ended strict text n (rest_of ended w p r xs stop).image (rest_of ended w p r xs stop).ending e (ends xs stop)
+    pub entry_ended : (e : Ending) (written : List ℕ) → DecodedIs (Ended e) → IsEntry at (entry.Ended e) n written ended w p r
+    entry_ended e written ends xs stop = listing-ended strict text n (rest_of ended w p r xs stop).image (rest_of ended w p r xs stop).ending e (ends xs stop)
