@@ -23,16 +23,13 @@ window = Some 15
 rest_image : (ended : Option Ending) (w : List ℕ) (p r : ℕ) (stop : Stop) → (rest_of ended w p r [] stop).image ≡ w
 rest_image ended w p r stop = grind (arith, append-nil {A = ℕ}, text-end p r, text-failed p r)
 
-rest_split : (ended : Option Ending) (w : List ℕ) (len p r : ℕ) (xs : List ℕ) (stop : Stop) → rest_of ended w p r xs stop ≡ with_bytes (take len w) (rest_of ended (drop len w) p r xs stop)
-rest_split ended w len p r xs stop = grind (arith, take-append-drop len w, append_assoc {A = ℕ})
-
 module _ {S K : Type 0} (gives : S → Got → S → Type 0) (takes : K → List ℕ → Result ⊤ SinkFailed → K → Type 0) (at : ℕ → Text → Listing)
     (max n : ℕ) (ended : Option Ending) (w : List ℕ) (p r : ℕ) (a b : S) (k l : K) (s : Progress gives takes at window max n ended w p r a b k l) where
   pub progress_line : (x : List ℕ) (len : ℕ) → len ≤ length w →
       ((xs : List ℕ) (stop : Stop) → at n (rest_of ended w p r xs stop) ≡ with_lines (x ∷ []) (at (n + len) (rest_of ended (drop len w) p r xs stop))) →
       (m : K) → takes l x (Ok tt) m → Progress gives takes at window max (n + len) ended (drop len w) p r a b k m
   progress_line x len le step m put =
-      progress_step gives takes at window max n ended w p r a b k l s (x ∷ []) (n + len) (drop len w) step (take len w) (rest_split ended w len p r) (λ walked is. simp length-append (omega (arith, length-take-le len w le, is))) m (m, put, refl)
+      progress_step gives takes at window max n ended w p r a b k l s (x ∷ []) (n + len) (drop len w) step (take len w) (λ xs stop. grind (arith, take-append-drop len w, append_assoc {A = ℕ})) (λ walked is. simp length-append (omega (arith, length-take-le len w le, is))) m (m, put, refl)
 
   -- the image is the same whatever stops the text
   image_taken : (text_of max s.bytes Failed).image ≡ s.walked ++ w

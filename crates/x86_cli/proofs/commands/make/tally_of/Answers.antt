@@ -16,12 +16,11 @@ next i b r a l x y e long at_rip absolute = rw (add-one, ← e, long, at_rip, ab
 
 pub loop-i-preserved : goal.loop-i-preserved
 loop-i-preserved c =
-    let i : ℕ = c.loop-i.i in
-    let bytes : c.as_slice.result.now ≡ generate i = c.as_slice.ensures.value ∙ c.generate-encoding.ensures in
-    let answer : holding c.decode_slice_into-answer.new.inst c.decode_slice_into-answer.result ≡ answer_of false (generate i) =
+    let bytes : c.as_slice.result.now ≡ generate c.loop-i.i = c.as_slice.ensures.value ∙ c.generate-encoding.ensures in
+    let answer : holding c.decode_slice_into-answer.new.inst c.decode_slice_into-answer.result ≡ answer_of false (generate c.loop-i.i) =
     c.decode_slice_into-answer.ensures.value ∙ ap (λ s. answer_of s c.as_slice.result.now) c.default-decoder.ensures ∙ ap (answer_of false) bytes in
     record {
-      counted = next i c.loop-i.bytes c.loop-i.at_rip c.loop-i.absolute c.len.result c.one_at_rip-at_rip.result c.one_absolute-absolute.result c.loop-i.invariant.counted
+      counted = next c.loop-i.i c.loop-i.bytes c.loop-i.at_rip c.loop-i.absolute c.len.result c.one_at_rip-at_rip.result c.one_absolute-absolute.result c.loop-i.invariant.counted
           (c.len.ensures.value ∙ ap length c.generate-encoding.ensures)
           (c.one_at_rip-at_rip.ensures.value ∙ ap (λ a. one_if (answer_has is_at_rip a)) answer)
           (c.one_absolute-absolute.ensures.value ∙ ap (λ a. one_if (answer_has is_absolute a)) answer);

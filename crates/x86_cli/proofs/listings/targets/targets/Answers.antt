@@ -34,14 +34,12 @@ returns-in-Err g c =
 
 pub returns-in-Ok-end : goal.returns-in-Ok-end
 returns-in-Ok-end g c =
-    let strict = c.args.decoder.now.strict in
-    let image : List ℕ = c.read_whole-text.result.image.items in
-    let all : c.places.place ≡ length image = omega (arith, c.places-test.false, c.places.auto.place-end, ap length c.as_slice-image.ensures.value) in
-    ran_closes g.S.Source.gives g.K.Sink.takes (targets_at strict) None _ _ _ _ _ _ _ _ _ _ c.places.invariant _ (λ xs stop. targets-end strict c.places.place image c.read_whole-text.result.ending all) (Ok _) _ c.in-Ok-end.ensures
+    let all : c.places.place ≡ length c.read_whole-text.result.image.items = omega (arith, c.places-test.false, c.places.auto.place-end, ap length c.as_slice-image.ensures.value) in
+    ran_closes g.S.Source.gives g.K.Sink.takes (targets_at c.args.decoder.now.strict) None _ _ _ _ _ _ _ _ _ _ c.places.invariant _
+    (λ xs stop. targets-end c.args.decoder.now.strict c.places.place c.read_whole-text.result.image.items c.read_whole-text.result.ending all) (Ok _) _ c.in-Ok-end.ensures
 
 pub returns-in-Err-end : goal.returns-in-Err-end
 returns-in-Err-end g c =
-    let strict = c.args.decoder.now.strict in
-    let image : List ℕ = c.read_whole-text.result.image.items in
-    let all : c.places.place ≡ length image = omega (arith, c.places-test.false, c.places.auto.place-end, ap length c.as_slice-image.ensures.value) in
-    ran_closes g.S.Source.gives g.K.Sink.takes (targets_at strict) None _ _ _ _ _ _ _ _ _ _ c.places.invariant _ (λ xs stop. targets-end strict c.places.place image c.read_whole-text.result.ending all) (Err c.in-Err-end.field-0) _ c.in-Err-end.ensures
+    let all : c.places.place ≡ length c.read_whole-text.result.image.items = omega (arith, c.places-test.false, c.places.auto.place-end, ap length c.as_slice-image.ensures.value) in
+    ran_closes g.S.Source.gives g.K.Sink.takes (targets_at c.args.decoder.now.strict) None _ _ _ _ _ _ _ _ _ _ c.places.invariant _
+    (λ xs stop. targets-end c.args.decoder.now.strict c.places.place c.read_whole-text.result.image.items c.read_whole-text.result.ending all) (Err c.in-Err-end.field-0) _ c.in-Err-end.ensures
