@@ -4,12 +4,12 @@ use Rattle.std.specs.Prelude.{⊤}
 use Rattle.x86_cli.specs.declared.outside.source.Got.{Got}
 use Rattle.x86_cli.specs.declared.outside.sink.SinkFailed.{SinkFailed}
 use Rattle.x86_cli.specs.declared.text.reader.Ending.{Ending}
-use Rattle.x86_cli.specs.Outside.Stop.{Stop, End, Failed}
+use Rattle.x86_cli.specs.Outside.Stop.{Stop, Failed}
 use Rattle.x86_cli.specs.declared.listings.status.Status.{Status}
 use Rattle.x86_cli.specs.declared.listings.status.Status.TheVariants as outcome
 use Rattle.x86_cli.specs.Text.{Text, text_at, text_of}
-use Rattle.x86_cli.specs.Listings.Listing.{Listing, with_lines, at_end}
-use Rattle.x86_cli.specs.Text.Window.{with_bytes, rest_of}
+use Rattle.x86_cli.specs.Listings.Listing.{Listing, with_lines}
+use Rattle.x86_cli.specs.Text.Window.{rest_of}
 use Rattle.x86_cli.specs.Commands.Run.{Closes, Ahead, RanInWindow}
 use Rattle.x86_cli.proofs.TextLemmas.Text.{text-end, text-failed}
 use Rattle.x86_cli.proofs.CommandLemmas.Causes.{some_stop}

@@ -11,11 +11,6 @@ next_of zero l x t e = grind arith
 next_of (suc n) [] x t e = cc
 next_of (suc n) (y ∷ l) x t e = let more = next_of n l x t e in (ap (λ v. y ∷ v) more.0, more.1)
 
--- a part of a list that isn't empty
-pub begins_before_end : (l : List ℕ) (a b : ℕ) → 0 < length (slice_range l a b) → a < b
-begins_before_end l a b some =
-    omega (arith, some, length-take (b - a) (drop a l))
-
 module _ {S : Type 0} (gives : S → Got → S → Type 0) where
   -- n of the bytes ahead were taken, and these are ahead now
   pub record Skipped (ahead now : List ℕ) (n : ℕ) (old new : S) : Type 0 where
@@ -34,6 +29,7 @@ module _ {S : Type 0} (gives : S → Got → S → Type 0) where
         rest = rw count (sym more.1);
       }
 
-  -- a byte is left
-  pub some_left : (ahead now : List ℕ) (n : ℕ) (a b : S) → Skipped ahead now n a b → n < length ahead → 0 < length now
-  some_left ahead now n a b s fits = let left = ap length s.rest ∙ length-drop n ahead in omega (arith, left, fits)
+  -- a byte of a buffer is left
+  pub some_left : (ahead buffer : List ℕ) (position filled n : ℕ) (a b : S) → Skipped ahead (slice_range buffer position filled) n a b → n < length ahead → position < filled
+  some_left ahead buffer position filled n a b s fits =
+      let left = ap length s.rest ∙ length-drop n ahead in omega (arith, left, fits, length-take (filled - position) (drop position buffer))

@@ -4,9 +4,6 @@ use Rattle.std.specs.Prelude.{OnOk, ⊤}
 use Rattle.std.specs.declared.io.Error.{Error}
 use Rattle.x86_cli.specs.Outside.Writes.{Call, Flush, sent_by, sent, AllContinue, Cause, Does, WriterCalls, Caused, Forwards, EndsInFlush, FlushesOut}
 
-pub take_none : (n : ℕ) (xs : List ℕ) → n ≡ 0 → take n xs ≡ []
-take_none n xs none = grind arith
-
 all_go_on : (cs ds : List Call) → AllContinue cs → AllContinue ds → AllContinue (cs ++ ds)
 all_go_on [] ds c d = d
 all_go_on (x ∷ cs) ds c d = (c.0, all_go_on cs ds c.1 d)

@@ -1,11 +1,10 @@
 use Rattle.std.proofs.Common.{◌≡◌, arith, inl}
-use Rattle.x86_cli.proofs.OutsideLemmas.Skip.{begins_before_end, skipped_more, some_left}
+use Rattle.x86_cli.proofs.OutsideLemmas.Skip.{skipped_more, some_left}
 use Rattle.x86_cli.proofs.outside.std_source.StdSourceSource.skip.Goals as goal
 
 pub take-requires : goal.take-requires
 take-requires g c =
-    begins_before_end c.loop-taken.self.buffer c.loop-taken.self.position c.loop-taken.self.filled
-    (some_left _ _ _ _ _ _ c.loop-taken.invariant.skipped (omega (arith, c.requires, c.loop-taken-test.true)))
+    some_left _ _ c.loop-taken.self.buffer c.loop-taken.self.position c.loop-taken.self.filled _ _ _ c.loop-taken.invariant.skipped (omega (arith, c.requires, c.loop-taken-test.true))
 
 pub loop-taken-preserved : goal.loop-taken-preserved
 loop-taken-preserved g c = record {
