@@ -63,14 +63,11 @@ ran_used gives takes c max status a b k l ran e =
     (command_status c _).0 (lists_status status ran.lines ran.failed _ (λ f. cc) (ran.lists [] s.0 s.1) ∙ e)
 
 -- Commands that continue after refusals are never refused.
-past_refusals : (c : Command) (t : Text) → IsTrue (goes_past_refusals c) → (listing_for c t).status ≢ outcome.Refused
-past_refusals c t goes = grind arith
-
 pub ran_unrefused : {S K : Type 0} (gives : S → Got → S → Type 0) (takes : K → List ℕ → Result ⊤ SinkFailed → K → Type 0) (c : Command) (status : Status) (a b : S) (k l : K) →
     Runs gives takes c status a b k l → IsTrue (goes_past_refusals c) → status ≢ outcome.Refused
 ran_unrefused gives takes c status a b k l runs goes e =
     let s = some_stop runs.0.stop in
-    past_refusals c _ goes (lists_status status runs.0.lines runs.0.failed _ (λ f. cc) (runs.0.lists [] s.0 s.1) ∙ e)
+    let ends = lists_status status runs.0.lines runs.0.failed _ (λ f. cc) (runs.0.lists [] s.0 s.1) ∙ e in grind arith
 
 pub fault_stop : (stop : Option Stop) → (MayCome stop [] End → ⊥) → stop ≡ Some Failed
 fault_stop stop never = grind arith
