@@ -1,10 +1,9 @@
 -- What the program leaves, where the bytes that its reader has left and those that its writer has are known.
 use Rattle.std.proofs.Common.{◌≡◌, ◌≢◌, inl, inr, ℕ, Bool, List, [], ◌∷◌, ◌++◌, Option, Some, None, Result, Ok, refl, sym, subst, append-nil, arith}
 use Rattle.std.proofs.Math.Seq.{take-append_seam}
-use Rattle.std.specs.Prelude.{IfSome, ⊤}
+use Rattle.std.specs.Prelude.{⊤}
 use Rattle.std.specs.List.{concat}
 use Rattle.std.specs.declared.io.Error.{Error}
-use Rattle.std.specs.Io.{StartsWith}
 use Rattle.std.specs.Io.KnownBytes.{Keeps, Consumes, Appends, IsAtEnd, ReadConsumes, WriteAppends}
 use Rattle.std.proofs.KnownBytes.{Consumes-nil, Consumes-trans, Consumes-kept, Consumes-whole, Appends-nil, Appends-trans, Appends-kept}
 use Rattle.x86_cli.specs.declared.commands.command.Command.{Command}
@@ -36,9 +35,6 @@ module _ {R : Type 0} (left : R → Option (List ℕ)) where
   reads_end : (pieces : List (List ℕ)) (r r' : R) → ReaderCalls reports pieces (Some End) r r' → IsAtEnd (left r')
   reads_end [] r r' h = h.2.1 refl h.1
   reads_end (p ∷ ps) r r' h = reads_end ps h.0 r' h.2
-
-taken_beginning : (a b : Option (List ℕ)) (taken : List ℕ) → Consumes a b taken → IfSome a (λ xs. StartsWith xs taken)
-taken_beginning a b taken c = grind (arith, take-append_seam {A = ℕ})
 
 -- writers
 
@@ -88,7 +84,7 @@ module _ {R W : Type 0} (laws : (strict : Bool) → DecoderLaws strict) (left : 
     printed_taken is = rw append-nil at (h.lists [] Failed (rw is (refl, refl)))
 
     of_taken : h.stop ≡ Some Failed → HasOfTaken status c (left r) (written w) (written w')
-    of_taken is = (concat h.pieces, taken_beginning (left r) (left r') (concat h.pieces) consumed, (h.bytes, printed_taken is, wrote))
+    of_taken is = (concat h.pieces, grind (arith, consumed, take-append_seam {A = ℕ}), (h.bytes, printed_taken is, wrote))
 
   refused : (h : Performs (appends written) (keeps written) (reports left) c Refused r r' w w') (stop : Option Stop) → h.stop ≡ stop → HasOfAll Refused c (left r) (written w) (written w')
   refused h (Some Failed) is =

@@ -42,9 +42,6 @@ known_bytes : (stop : Option Stop) (a b : Option (List ℕ)) (bytes : List ℕ) 
     ((xs : List ℕ) → MayCome stop xs End → P (bytes ++ xs)) → (stop ≡ Some Failed → (xs : List ℕ) → P (bytes ++ xs)) → IfSome a P
 known_bytes stop a b bytes faults faults' P t h f = grind (arith, append-nil {A = ℕ})
 
-faults_unchanged : (stop : Option Stop) (a b : Option (List ℕ)) (bytes : List ℕ) (faults faults' : ℕ) → ReportsBytes bytes stop a b faults faults' → stop ≢ Some Failed → faults' ≡ faults
-faults_unchanged stop a b bytes faults faults' t unfailed = grind arith
-
 -- texts and listings
 
 -- After a fault a listing ends as that, or in a refusal.
@@ -113,7 +110,7 @@ module _ (laws : (strict : Bool) → DecoderLaws strict) (c : Command) (old new 
     says_all status lists =
         let unfailed : stop ≢ Some Failed = λ f.
         fault_status c (text_of (max_of c) bytes Failed) status (fault f) (λ f. cc) (λ f. cc) (ap (λ l. l.status) (failed_listed status lists f)) in
-        (all_full status lists (λ f. absurd (unfailed f)), faults_unchanged stop old.left new.left bytes old.source_faults new.source_faults source_calls unfailed, wrote.1)
+        (all_full status lists (λ f. absurd (unfailed f)), grind arith, wrote.1)
 
   -- a run at which a put failed
   module _ (lines : List (List ℕ)) (failed : List ℕ) (wrote : ReportsPieces lines (Some failed) old.written new.written old.sink_faults new.sink_faults)

@@ -9,11 +9,8 @@ use Rattle.x86_cli.specs.declared.outside.std_sink.StdSink.{StdSink}
 use Rattle.x86_cli.specs.Commands.Run.{SinkCalls}
 use Rattle.x86_cli.specs.Outside.Seen.{sink_writer, buffer_writer, buffer_bytes}
 use Rattle.x86_cli.specs.Outside.Sink.{ReportsPut}
-use Rattle.x86_cli.specs.Outside.Writes.{Call, Write, Flush, taken_by, sent, sent_by, AllContinue, Cause, Does, WriterCalls, Caused, Forwards, FlushesOut, PutSends, IsFinalWrite}
+use Rattle.x86_cli.specs.Outside.Writes.{Call, Write, Flush, taken_by, sent, sent_by, Cause, Does, WriterCalls, Caused, Forwards, FlushesOut, PutSends, IsFinalWrite}
 use Rattle.x86_cli.proofs.OutsideLemmas.Writes.{forwards_none, forwards_join, forwards_as, err_cause}
-
-rest_goes_on : {A E : Type 0} (r : Result A E) (c : Call) (cs : List Call) → Cause r (c ∷ cs) → AllContinue cs
-rest_goes_on r c cs cause = grind arith
 
 module _ {W : Type 0} (writes : W → List ℕ → Result ℕ Error → W → Type 0) (flushes : W → Result ⊤ Error → W → Type 0) where
   -- what the calls of a buffer say, and the puts of a sink over it
@@ -42,7 +39,7 @@ module _ {W : Type 0} (writes : W → List ℕ → Result ℕ Error → W → Ty
   calls_send (Ok done) [] s t e on = rw e (forwards_none writes flushes done [] _ _ _ (sym (append-nil _)))
   calls_send (Err f) [] s t e cause = absurd cause
   calls_send r (c ∷ cs) s t did cause =
-      forwards_join writes flushes tt r _ _ _ _ _ _ _ _ (calls_send (Ok tt) cs s did.0 did.1 (rest_goes_on r c cs cause)) (call_sends r c cs did.0 t did.2 cause)
+      forwards_join writes flushes tt r _ _ _ _ _ _ _ _ (calls_send (Ok tt) cs s did.0 did.1 (grind arith)) (call_sends r c cs did.0 t did.2 cause)
 
   -- What calls of the buffer sent, its writer took, but for what the buffer holds.
   flat : (r : Result ⊤ SinkFailed) (bytes : List ℕ) (s t : Gathered W) → Caused BufferWrites BufferFlushes r bytes s t → Sends r bytes s t

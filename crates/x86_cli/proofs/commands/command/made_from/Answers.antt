@@ -1,6 +1,5 @@
-use Rattle.std.proofs.Common.{◌≡◌, ◌≤◌, ◌∙◌, ℕ, List, [], ◌∷◌, Option, IfSome, map, decimal, ap, sym, get_or, length, ◌<◌, arith, codes, string_bytes}
+use Rattle.std.proofs.Common.{◌≡◌, ◌≤◌, ◌∙◌, ℕ, List, [], ◌∷◌, map, ap, sym, get_or, length, ◌<◌, arith, codes, string_bytes}
 use Rattle.std.specs.Cmp.Lexicographic.{same_text}
-use Rattle.x86_cli.specs.Commands.Make.{IsMake, make_max}
 use Rattle.x86_cli.proofs.commands.command.made_from.Goals as goal
 
 -- a list of two
@@ -8,14 +7,9 @@ two : {A : Type 0} (xs : List A) (a b : A) → 2 ≤ length xs → length xs < 3
 two (x ∷ y ∷ []) a b l m e f = cc
 two xs a b l m e f = absurd (omega arith)
 
--- the second argument is the count
-found : (arguments : List (List ℕ)) (first argument : List ℕ) (r : Option ℕ) → arguments ≡ first ∷ argument ∷ [] → first ≡ codes "make" → IfSome r (λ n. (1 ≤ n) × (n ≤ make_max) × (argument ≡ decimal n)) → IfSome r (IsMake arguments)
-found arguments first argument r e m h = grind arith
-
 pub returns-in-len2-clause-found : goal.returns-in-len2-clause-found
 returns-in-len2-clause-found c =
     let arguments : List (List ℕ) = map string_bytes c.args.arguments.now in
     let two : arguments ≡ string_bytes c.make-item.result ∷ string_bytes c.count-item.result ∷ [] = ap (map string_bytes) (two c.args.arguments.now c.make-item.result c.count-item.result (omega arith) (omega arith) c.make-item.is c.count-item.is) in
     let make : string_bytes c.make-item.result ≡ codes "make" = sym c.as_str.ensures.value ∙ same_text c.as_str.result.now (codes "make") c.if-eq.ensures in
-    found arguments (string_bytes c.make-item.result) (string_bytes c.count-item.result) c.count_from.result two make
-    (rw c.as_str-in-len2.ensures.value at c.count_from.ensures.found)
+    let found = rw c.as_str-in-len2.ensures.value at c.count_from.ensures.found in grind arith
