@@ -27,9 +27,6 @@ use Rattle.x86_cli.proofs.OutsideLemmas.Reads.{SourceGives, fetched}
 use Rattle.x86_cli.proofs.OutsideLemmas.Writes.{err_cause, forwards_join}
 
 -- a run that put all its lines, and the flush after it
-ending_cause : (status : Status) (r : Result ⊤ SinkFailed) (cs : List Call) → status ≢ WriteFault → Cause r cs → Cause (fault_of (ending_of status r)) cs
-ending_cause status r cs ne cause = grind arith
-
 all_sent : (status : Status) (r : Result ⊤ SinkFailed) (held : List ℕ) (cs ds : List Call) → OnOk r ((held ≡ []) × EndsInFlush cs) → ending_of status r ≢ WriteFault →
     EndsInFlush (cs ++ ds) × (held ++ [] ≡ []) × (ending_of status r ≡ status)
 all_sent status r held cs ds flushed ne = grind arith
@@ -86,7 +83,7 @@ module _ {W : Type 0} (writes : W → List ℕ → Result ℕ Error → W → Ty
         let flush = sends (λ e. used (ap (λ l. l.status) lists ∙ e)) ne in
         let j = forwards_join writes flushes tt r (concat lines) [] [] (buffer_bytes (sink_writer l)) (buffer_bytes g) _ _ _ f flush.0 in
         let all = all_sent status r (buffer_bytes g) flush.0.caused.calls f.caused.calls flush.1 in
-        printed status (ending_of status r) lines None r _ (buffer_bytes g) _ _ j (ending_cause status r j.caused.calls ne j.caused.cause) (λ e. (all e).0)
+        printed status (ending_of status r) lines None r _ (buffer_bytes g) _ _ j (grind (arith, j.caused.cause)) (λ e. (all e).0)
         (λ l is. ([], simp append-nil (ap (λ l. concat l.lines) is), λ e. ((all e).1, (all e).2 ∙ sym (ap (λ l. l.status) is))))
     run_printed lines (Some failed) first lists unfailed used calls =
         let t = failed_line_sends writes flushes lines failed k l calls in

@@ -8,7 +8,6 @@ use Rattle.x86_forms.specs.Words.{rows_of, packed}
 use Rattle.x86_decode.specs.Answer.{answer_of, count_of}
 use Rattle.x86_decode.specs.Grammar.{IsAnswer, IsAccepted, IsSentence}
 use Rattle.x86_cli.specs.declared.text.reader.Ending.{Ending}
-use Rattle.x86_cli.specs.declared.text.window.Decoded.TheVariants.{Whole}
 use Rattle.x86_cli.specs.Listings.Line.{line}
 use Rattle.x86_cli.specs.Listings.Listing.{Listing, with_lines, at_end, decoded_of, listing_from}
 use Rattle.x86_cli.specs.Listings.Grammar.{at_error, EndsListing, AreLines, IsListing}
@@ -37,19 +36,16 @@ module _ (strict : Bool) (laws : GrammarLaws strict) (text : ℕ → Instruction
   end_here n (x ∷ xs) e last ends = grind (arith, error_here n x xs e ends.0, laws.only (x ∷ xs) (Err ends.0))
 
   -- a sentence and the bytes after it
-  decoded_whole : (xs : List ℕ) (e : Ending) (i : Instruction) → answer_of strict xs ≡ Ok i → decoded_of strict xs e ≡ Whole i
-  unfolding decoded_of
-  decoded_whole xs e i h = let l = laws.lengths xs i h in grind arith
-
   sentence_here : (n : ℕ) (s rest : List ℕ) (e : Ending) (i : Instruction) → IsSentence (rows_of packed) strict s i →
       listing_from strict text n 0 (s ++ rest) e ≡ with_lines (line (text n i s) ∷ []) (listing_from strict text (n + length s) 0 rest e)
+  unfolding decoded_of
   sentence_here n s rest e i is =
       let all = s ++ rest in
       let accepted : IsAccepted (rows_of packed) strict all i (length s) = record { sentence = s; rest = rest; begins = refl; long = refl; is = is } in
       let ok : answer_of strict all ≡ Ok i = sym (laws.only all (Ok i) (length s) accepted) in
       let l = laws.lengths all i ok in
       let len : i.length ≡ length s = ap (λ i. i.length) is.yields in
-      let h = listing-whole strict text n all e i (decoded_whole all e i ok) l.0 l.1 in
+      let h = listing-whole strict text n all e i (grind arith) l.0 l.1 in
       grind (arith, take-append_seam s rest, drop-append_seam s rest)
 
   listing_is : (n : ℕ) (ss : List (List ℕ)) (left : List ℕ) (e : Ending) (lines : List (List ℕ)) (last : Listing) →
