@@ -111,7 +111,7 @@ impl LiveRex {
 }
 
 impl Prefixes {
-    /// The REX that is live is this byte, if it is a REX; else none is live. Answers whether it is a REX.
+    /// The REX that is live is this byte, if it is a REX; else none is live. It returns whether it is a REX.
     #[inline(always)]
     pub fn set_rex(&mut self, byte: u8) -> bool
         ensures is_rex { result ≡ is_rex byte }
