@@ -10,7 +10,7 @@ ghost use Rattle.x86_decode.specs.Lead.{lead_of};
 ghost use Rattle.x86_decode.specs.Walk.{Headed, head_from, head_at, head_step, read_escaped, found_word, read_word};
 
 use x86_arch::{ReadError, ReadIf, Reader};
-use x86_fields::{DecodeError, Prefixes, next_byte};
+use x86_fields::{DecodeError, Prefixes, Repeat, next_byte};
 use x86_forms::{Column, Map, Words};
 
 /// What a byte is at the beginning of an encoding.
@@ -155,14 +155,11 @@ fn read_escaped<T: Reader<u64, u8>>(reader: &mut T, byte: u8) -> Result<(Map, u8
 pub fn column_of(prefixes: &Prefixes) -> Column
     ensures { result ≡ column_of prefixes.now }
 {
-    if prefixes.repnz() {
-        Column::F2
-    } else if prefixes.rep() {
-        Column::F3
-    } else if prefixes.operand_size() {
-        Column::P66
-    } else {
-        Column::Plain
+    match prefixes.repeat() {
+        Some(Repeat::F2) => Column::F2,
+        Some(Repeat::F3) => Column::F3,
+        None if prefixes.operand_size() => Column::P66,
+        None => Column::Plain,
     }
 }
 

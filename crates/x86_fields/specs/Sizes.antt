@@ -6,8 +6,14 @@ use Rattle.x86_regs.specs.declared.RegisterClass.TheVariants.{B, W, D, RB, Q}
 use Rattle.x86_regs.specs.declared.RegSpec.{RegSpec}
 use Rattle.x86_regs.specs.Register.{reg_spec}
 use Rattle.x86_fields.specs.declared.prefixes.Prefixes.{Prefixes}
+use Rattle.x86_fields.specs.declared.sizes.SizePrefixes.{SizePrefixes}
+use Rattle.x86_fields.specs.declared.sizes.SizePrefixes.TheVariants as prefix
 use Rattle.x86_fields.specs.Raw.{has_w}
 pub use Rattle.x86_regs.specs.Class.{width_of}
+
+-- which of live W and 66 are in force
+abbrev pub size_prefixes : Prefixes → SizePrefixes
+size_prefixes p = if has_w p then (if p.operand_size then prefix.Both else prefix.W) else (if p.operand_size then prefix.OperandSize else prefix.Neither)
 
 -- Q under live W, else W under 66, else D
 abbrev pub v_class : Prefixes → RegisterClass

@@ -100,6 +100,14 @@ impl Prefixes {
         }
     }
 
+    /// Which of F2 and F3 is in force, if one is.
+    #[inline(always)]
+    pub fn repeat(&self) -> Option<Repeat>
+        ensures { result ≡ self.now.repeat }
+    {
+        self.repeat
+    }
+
     /// Whether F3 is in force.
     #[inline(always)]
     pub fn rep(&self) -> bool

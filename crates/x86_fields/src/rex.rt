@@ -166,7 +166,12 @@ impl Prefixes {
         ensures value { result ≡ extend (has_r self.now) (reg_field modrm) }
         ensures small { result < 16 }
     {
-        extend(self.rex.byte / 4 % 2 == 1, modrm.reg_field())
+        let num = modrm.reg_field();
+        if self.rex.byte / 4 % 2 == 1 {
+            num + 8
+        } else {
+            num
+        }
     }
 
     /// The number of rm, with B.
@@ -175,6 +180,7 @@ impl Prefixes {
         ensures value { result ≡ extend (has_b self.now) (rm_field modrm) }
         ensures small { result < 16 }
     {
-        extend(self.has_b(), modrm.rm_field())
+        let num = modrm.rm_field();
+        if self.rex.byte % 2 == 1 { num + 8 } else { num }
     }
 }

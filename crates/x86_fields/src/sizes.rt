@@ -3,12 +3,35 @@
 
 ghost use Rattle.std.specs.Prelude.{◌≡◌, ◌<◌, None};
 ghost use Rattle.x86_fields.specs.Prefixes.{rex};
-ghost use Rattle.x86_fields.specs.Sizes.{v_class, vq_class, vd_class, dq_class, byte_reg, register_of};
+ghost use Rattle.x86_fields.specs.Sizes.{size_prefixes, v_class, vq_class, vd_class, dq_class, byte_reg, register_of};
 
 use crate::prefixes::Prefixes;
 use x86_regs::{RegSpec, RegisterClass};
 
+/// Which of the two prefixes that choose the size of operands are in force: W of a live REX, and 66. As a number it
+/// is the index of a column of a table by them.
+#[derive(Clone, Copy, Drop)]
+pub enum SizePrefixes {
+    Neither,
+    W,
+    OperandSize,
+    Both,
+}
+
 impl Prefixes {
+    /// Which of W and 66 are in force.
+    #[inline(always)]
+    pub fn size_prefixes(&self) -> SizePrefixes
+        ensures { result ≡ size_prefixes self.now }
+    {
+        match (self.has_w(), self.operand_size) {
+            (false, false) => SizePrefixes::Neither,
+            (true, false) => SizePrefixes::W,
+            (false, true) => SizePrefixes::OperandSize,
+            (true, true) => SizePrefixes::Both,
+        }
+    }
+
     /// Q under a live W, else W under 66, else D.
     #[inline(always)]
     pub fn v_class(&self) -> RegisterClass

@@ -1,6 +1,8 @@
 //! What a line of the operand encodings says.
 
 ghost use Rattle.std.specs.Prelude.{◌≡◌, ◌<◌};
+ghost use Rattle.x86_fields.specs.declared.prefixes.Prefixes.{Prefixes};
+ghost use Rattle.x86_fields.specs.Sizes.{size_prefixes};
 ghost use Rattle.x86_operands.specs.FormSizes.{named_size};
 ghost use Rattle.x86_operands.specs.Encodings.{class_of, size_bytes, last_encoding, reg_encoding, rm_encoding, encoding_at, encodings_in, plan_of, use_of, is_described, allows, has_fields, size_at};
 
@@ -14,7 +16,7 @@ use crate::plans::{
     memory_only, reads, register_at, register_only,
 };
 use crate::sizing::{CLASSES, SIZES};
-use x86_fields::{ModRM, Prefixes};
+use x86_fields::{ModRM, Prefixes, SizePrefixes};
 use x86_opcodes::Opcode;
 use x86_regs::{RegSpec, RegisterClass};
 
@@ -150,39 +152,26 @@ pub struct FormEncoding {
     pub in_register: Size,
 }
 
-/// The column of CLASSES and SIZES.
-macro_rules! column {
-    ($prefixes:expr) => {
-        match ($prefixes.has_w(), $prefixes.operand_size()) {
-            (false, false) => 0,
-            (true, false) => 1,
-            (false, true) => 2,
-            (true, true) => 3,
-        }
-    };
-}
-
 impl Width {
+    /// The class of registers.
     #[inline(always)]
-    pub fn class(self, prefixes: &Prefixes) -> RegisterClass
-        ensures { result ≡ class_of self prefixes.now }
+    pub fn class(self, sizes: SizePrefixes) -> RegisterClass
+        ensures { (p : Prefixes) → sizes ≡ size_prefixes p → result ≡ class_of self p }
     {
-        let column = column!(prefixes);
-        CLASSES[self as usize][column]
+        CLASSES[self as usize][sizes as usize]
     }
 }
 
 impl Size {
     /// The size in bytes. From `Bare` on the operation alone decides it.
     #[inline(always)]
-    pub fn bytes(self, opcode: Opcode, prefixes: &Prefixes) -> u8
-        ensures { result ≡ size_bytes self opcode prefixes.now }
+    pub fn bytes(self, opcode: Opcode, sizes: SizePrefixes) -> u8
+        ensures { (p : Prefixes) → sizes ≡ size_prefixes p → result ≡ size_bytes self opcode p }
     {
         if self as usize >= Size::Bare as usize {
             return self.named(opcode);
         }
-        let column = column!(prefixes);
-        let size = SIZES[self as usize][column];
+        let size = SIZES[self as usize][sizes as usize];
         if matches!(self, Size::Call) && opcode != Opcode::CALL {
             0
         } else {
@@ -242,7 +231,7 @@ fn reg_encoding(
     requires { num < 8 }
     ensures { result ≡ reg_encoding after_opcode width num prefixes.now }
 {
-    let class = width.class(prefixes);
+    let class = width.class(prefixes.size_prefixes());
     match (after_opcode, width) {
         (AfterOpcode::Opcode, _) => OperandEncoding::Fixed(
             RegisterSlot::Reg,
@@ -257,12 +246,13 @@ fn reg_encoding(
 fn rm_encoding(after_opcode: AfterOpcode, width: Width, prefixes: &Prefixes) -> OperandEncoding
     ensures { result ≡ rm_encoding after_opcode width prefixes.now }
 {
+    let class = width.class(prefixes.size_prefixes());
     match (after_opcode, width) {
         (AfterOpcode::Memory, _) => OperandEncoding::M,
         (AfterOpcode::Registers, Width::Mm) => OperandEncoding::Umm,
-        (AfterOpcode::Registers, w) => OperandEncoding::U(w.class(prefixes)),
+        (AfterOpcode::Registers, _) => OperandEncoding::U(class),
         (_, Width::Mm) => OperandEncoding::Emm,
-        (_, w) => OperandEncoding::E(w.class(prefixes)),
+        _ => OperandEncoding::E(class),
     }
 }
 
@@ -385,7 +375,7 @@ impl FormEncoding {
         let plan = reads(
             opcode,
             encodings,
-            self.size_at(modrm).bytes(opcode, prefixes),
+            self.size_at(modrm).bytes(opcode, prefixes.size_prefixes()),
         );
         match self.after_opcode {
             AfterOpcode::Memory => memory_only(modrm, plan),

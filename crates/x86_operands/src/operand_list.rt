@@ -5,6 +5,7 @@ ghost use Rattle.x86_arch.specs.Reader.{State};
 ghost use Rattle.x86_fields.specs.Steps.{outcome};
 ghost use Rattle.x86_fields.specs.declared.prefixes.Prefixes.{Prefixes};
 ghost use Rattle.x86_fields.specs.declared.raw.Raw.{Raw};
+ghost use Rattle.x86_fields.specs.Sizes.{size_prefixes};
 ghost use Rattle.x86_operands.specs.declared.encodings.Last.TheVariants.{Absent};
 ghost use Rattle.x86_operands.specs.declared.order.Position.TheVariants.{Nowhere};
 ghost use Rattle.x86_operands.specs.PlanSteps.{memory_or, read_plan};
@@ -18,7 +19,8 @@ use crate::plans::{OperandEncoding, pointer_slot, register_at, register_slot};
 use crate::shapes::put_shape;
 use x86_arch::Reader;
 use x86_fields::{
-    DecodeError, ModRM, Prefixes, Raw, read_raw, read_u8, read_u16, read_u32, read_u64,
+    DecodeError, ModRM, Prefixes, Raw, SizePrefixes, read_raw, read_u8, read_u16, read_u32,
+    read_u64,
 };
 use x86_opcodes::Opcode;
 use x86_regs::{RegSpec, RegisterClass};
@@ -228,10 +230,12 @@ impl Operands {
         at: Position,
         reader: &mut T,
         width: Width,
+        sizes: SizePrefixes,
         prefixes: &Prefixes,
         modrm: ModRM,
     ) -> Result<(), DecodeError>
-        requires { at ≢ Nowhere }
+        requires index { at ≢ Nowhere }
+        requires sizes { sizes ≡ size_prefixes prefixes.now }
         ensures { outcome (value_if_ok result self.new) (T.state reader.new)
             ≡ rm_read at width prefixes.now modrm self.old (T.state reader.old) }
     {
@@ -242,7 +246,7 @@ impl Operands {
         }
         let reg = match width {
             Width::Mm => RegSpec::mm(modrm.rm_field()),
-            w => prefixes.register(w.class(prefixes), prefixes.rm_number(modrm)),
+            w => prefixes.register(w.class(sizes), prefixes.rm_number(modrm)),
         };
         self.put_at(at as usize, Slot::Rm, Operand::Register { reg });
         Ok(())
@@ -250,7 +254,15 @@ impl Operands {
 
     /// The register of reg, if it is an operand.
     #[inline(always)]
-    fn put_reg(&mut self, at: Position, width: Width, prefixes: &Prefixes, modrm: ModRM)
+    fn put_reg(
+        &mut self,
+        at: Position,
+        width: Width,
+        sizes: SizePrefixes,
+        prefixes: &Prefixes,
+        modrm: ModRM,
+    )
+        requires { sizes ≡ size_prefixes prefixes.now }
         ensures { self.new ≡ put_in at (reg_pair width prefixes.now modrm) self.old }
     {
         match at {
@@ -258,7 +270,7 @@ impl Operands {
             at => {
                 let reg = match width {
                     Width::Mm => RegSpec::mm(modrm.reg_field()),
-                    w => prefixes.register(w.class(prefixes), prefixes.reg_number(modrm)),
+                    w => prefixes.register(w.class(sizes), prefixes.reg_number(modrm)),
                 };
                 self.put_at(at as usize, Slot::Reg, Operand::Register { reg });
             }
@@ -267,15 +279,22 @@ impl Operands {
 
     /// The register of the opcode byte, or register 0, if it is an operand.
     #[inline(always)]
-    fn put_fixed(&mut self, encoding: &FormEncoding, num: u8, prefixes: &Prefixes)
-        requires { num < 8 }
+    fn put_fixed(
+        &mut self,
+        encoding: &FormEncoding,
+        num: u8,
+        sizes: SizePrefixes,
+        prefixes: &Prefixes,
+    )
+        requires small { num < 8 }
+        requires sizes { sizes ≡ size_prefixes prefixes.now }
         ensures { self.new ≡ put_in encoding.now.order.reg
             (fixed_pair encoding.now.after_opcode encoding.now.reg num prefixes.now) self.old }
     {
         match encoding.order.reg {
             Position::Nowhere => {}
             at => {
-                let class = encoding.reg.class(prefixes);
+                let class = encoding.reg.class(sizes);
                 let reg = match encoding.after_opcode {
                     AfterOpcode::Opcode => register_at(num, class, prefixes),
                     _ => prefixes.register(class, 0),
@@ -292,18 +311,20 @@ impl Operands {
         reader: &mut T,
         encoding: &FormEncoding,
         num: u8,
+        sizes: SizePrefixes,
         prefixes: &Prefixes,
         modrm: ModRM,
     ) -> Result<(), DecodeError>
-        requires { num < 8 }
+        requires small { num < 8 }
+        requires sizes { sizes ≡ size_prefixes prefixes.now }
         ensures { outcome (value_if_ok result self.new) (T.state reader.new)
             ≡ leading_read encoding.now num prefixes.now modrm self.old (T.state reader.old) }
     {
         match encoding.order.rm {
-            Position::Nowhere => self.put_fixed(encoding, num, prefixes),
+            Position::Nowhere => self.put_fixed(encoding, num, sizes, prefixes),
             at => {
-                self.read_rm(at, reader, encoding.rm, prefixes, modrm)?;
-                self.put_reg(encoding.order.reg, encoding.reg, prefixes, modrm);
+                self.read_rm(at, reader, encoding.rm, sizes, prefixes, modrm)?;
+                self.put_reg(encoding.order.reg, encoding.reg, sizes, prefixes, modrm);
             }
         }
         Ok(())
@@ -342,9 +363,10 @@ impl Operands {
             (T.state reader.new) ≡ read_plan (plan_of encoding.now num opcode prefixes.now modrm)
             prefixes.now modrm (T.state reader.old) }
     {
+        let sizes = prefixes.size_prefixes();
         self.count = encoding.order.count;
-        self.mem_size = encoding.size_at(modrm).bytes(opcode, prefixes);
-        self.read_leading(reader, encoding, num, prefixes, modrm)?;
+        self.mem_size = encoding.size_at(modrm).bytes(opcode, sizes);
+        self.read_leading(reader, encoding, num, sizes, prefixes, modrm)?;
         match encoding.order.last {
             Position::Nowhere => Ok(()),
             at => self.read_last(at, reader, encoding.last, prefixes),
