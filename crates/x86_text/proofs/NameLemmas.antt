@@ -1,9 +1,7 @@
 -- Tables of names.
 use Rattle.std.proofs.Common.{◌≡◌, ℕ, ◌<◌, ◌≤◌, Bool, true, false, List, [], length, map, get_or, nat_le, refl, sym, ap, ◌∙◌, arith}
-use Rattle.std.specs.List.{range_with_len}
 use Rattle.std.proofs.lemmas.List.{get_or-map}
 use Rattle.std.proofs.lemmas.List.Folds.{list_all_at}
-use Rattle.std.proofs.lemmas.List.FromFn.{get_or-map-range_with_len}
 use Rattle.std.proofs.lemmas.Bool.{leb-true}
 use Rattle.x86_text.specs.declared.names.Name.{Name}
 use Rattle.x86_text.specs.Names.{name_text, are_short}
@@ -12,12 +10,9 @@ abbrev pub nameless : {m : ℕ} → Name m
 nameless = record { bytes = []; len = 0 }
 
 module _ {m : ℕ} (names : List (Name m)) (n : ℕ) (inside : n < length names) where
-  -- a table that has the texts by number has them at each number
-  pub named : (text : ℕ → List ℕ) (count : ℕ) → map name_text names ≡ map text (range_with_len 0 count) → n < count → name_text (get_or names n nameless) ≡ text n
-  named text count table known =
-      sym (get_or-map name_text names n nameless [] inside)
-      ∙ ap (λ (texts : List (List ℕ)). get_or texts n []) table
-      ∙ get_or-map-range_with_len text 0 count n n [] known (omega arith)
+  -- where a table has the texts in their order, the name at a number has the text at that number
+  pub named : (texts : List (List ℕ)) → map name_text names ≡ texts → name_text (get_or names n nameless) ≡ get_or texts n []
+  named texts table = sym (get_or-map name_text names n nameless [] inside) ∙ ap (λ (ts : List (List ℕ)). get_or ts n []) table
 
   pub short : (max : ℕ) → are_short max names ≡ true → (get_or names n nameless).len ≤ max
   short max all =

@@ -29,20 +29,6 @@ fn put_other(cells: &mut [u8], at: usize, operand: &Operand) -> usize
     put_operand(cells, at, operand)
 }
 
-/// Writes operands, each after a comma and a space.
-#[inline(always)]
-fn put_others(cells: &mut [u8], at: usize, operands: &[Operand]) -> usize
-    requires { at + 32 * length operands.now ≤ length cells.old }
-    ensures text { take result cells.new ≡ take at cells.old ++ others_text operands.now }
-    ensures short { result ≤ at + 32 * length operands.now }
-{
-    let mut at = at;
-    for operand in operands {
-        at = put_other(cells, at, operand);
-    }
-    at
-}
-
 /// Writes the operands after the second, each after a comma and a space. Few instructions have any.
 #[inline(never)]
 fn put_after_second(cells: &mut [u8], at: usize, instruction: &Instruction) -> usize
@@ -52,7 +38,12 @@ fn put_after_second(cells: &mut [u8], at: usize, instruction: &Instruction) -> u
         take at cells.old ++ others_text (drop 2 (operands_of instruction.now)) }
     ensures short { result ≤ at + 64 }
 {
-    put_others(cells, at, &instruction.operands()[2..])
+    let others = &instruction.operands()[2..];
+    let mut at = at;
+    for operand in others {
+        at = put_other(cells, at, operand);
+    }
+    at
 }
 
 /// Writes the operands, after a space where there are any.

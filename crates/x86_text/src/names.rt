@@ -2,7 +2,8 @@
 
 ghost use Rattle.std.specs.Prelude.{◌≡◌, ◌+◌, ◌++◌, ◌≤◌, IsTrue, IfSome, IfNone, length, map, take, codes};
 ghost use Rattle.x86_opcodes.specs.Mnemonics.{mnemonic};
-ghost use Rattle.x86_regs.specs.Names.{name_of, names_of};
+ghost use Rattle.x86_regs.specs.Names.{names_of};
+ghost use Rattle.x86_text.specs.Operands.{register_text};
 ghost use Rattle.x86_text.specs.Names.{name_text, are_short};
 ghost use Rattle.x86_text.specs.Lines.{size_text};
 
@@ -11,10 +12,10 @@ use crate::mnemonics::MNEMONICS;
 use crate::registers;
 use crate::sizes::SIZES;
 use x86_opcodes::Opcode;
+use x86_opcodes::laws::names_are_in_the_order_of_their_numbers;
 use x86_regs::{RegSpec, RegisterClass};
 
 /// A text of at most `M` bytes: a block that begins with it, and its length.
-#[derive(Drop)]
 pub(crate) struct Name<const M: usize> {
     pub bytes: [u8; M],
     pub len: usize,
@@ -49,6 +50,7 @@ pub(crate) fn mnemonic(opcode: Opcode) -> &'static Name<16>
     ensures text { name_text result.now ≡ mnemonic opcode }
     ensures short { result.now.len ≤ 16 }
 {
+    names_are_in_the_order_of_their_numbers();
     &MNEMONICS[opcode.number() as usize]
 }
 
@@ -96,9 +98,10 @@ fn names_of(class: RegisterClass) -> &'static [Name<8>]
 
 /// Writes the name of a register, or nothing where its class has no such number.
 #[inline(always)]
-pub(crate) fn put_register_name(cells: &mut [u8], at: usize, register: &RegSpec) -> usize
+#[tactic(auto, unfolding(crate::specs::Operands::register_text))]
+pub(crate) fn put_register(cells: &mut [u8], at: usize, register: &RegSpec) -> usize
     requires { at + 8 ≤ length cells.old }
-    ensures text { take result cells.new ≡ take at cells.old ++ name_of register.now }
+    ensures text { take result cells.new ≡ take at cells.old ++ register_text register.now }
     ensures short { result ≤ at + 6 }
 {
     match names_of(register.class()).get(register.num() as usize) {

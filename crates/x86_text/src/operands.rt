@@ -7,7 +7,7 @@ ghost use Rattle.x86_text.specs.Operands.{operand_text, deref_text, moved_text, 
 
 use crate::cells::{put, put_bytes, put_first};
 use crate::digits::{put_signed, put_u8, put_u32, put_u64};
-use crate::names::put_register_name;
+use crate::names::put_register;
 use crate::room::{LINE_ROOM, Line};
 use x86_operands::Operand;
 use x86_regs::RegSpec;
@@ -35,16 +35,6 @@ fn put_unsigned(cells: &mut [u8], at: usize, label: &[u8; 4], count: usize, n: u
 {
     let at = put_first(cells, at, label, count);
     put_u64(cells, at, n)
-}
-
-#[inline(always)]
-#[tactic(auto, unfolding(crate::specs::Operands::register_text))]
-fn put_register(cells: &mut [u8], at: usize, register: &RegSpec) -> usize
-    requires { at + 8 ≤ length cells.old }
-    ensures text { take result cells.new ≡ take at cells.old ++ register_text register.now }
-    ensures short { result ≤ at + 6 }
-{
-    put_register_name(cells, at, register)
 }
 
 #[inline(always)]

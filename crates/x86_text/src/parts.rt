@@ -52,16 +52,17 @@ pub fn write_fields(line: &mut Line, place: &Place, parts: &Parts)
 {
     line.set(place.digits());
     let at = line.len;
-    let at = put(&mut line.cells, at, b' ');
-    let at = put_u64(&mut line.cells, at, parts_length(parts) as u64);
-    let at = put_part(&mut line.cells, at, parts.prefixes);
-    let at = put_part(&mut line.cells, at, parts.escape);
-    let at = put_part(&mut line.cells, at, parts.opcode);
-    let at = put_part(&mut line.cells, at, parts.modrm);
-    let at = put_part(&mut line.cells, at, parts.sib);
-    let at = put_part(&mut line.cells, at, parts.displacement);
-    let at = put_part(&mut line.cells, at, parts.immediate);
-    line.len = put_part(&mut line.cells, at, parts.suffix);
+    let cells: &mut [u8] = &mut line.cells;
+    let at = put(cells, at, b' ');
+    let at = put_u64(cells, at, parts_length(parts) as u64);
+    let at = put_part(cells, at, parts.prefixes);
+    let at = put_part(cells, at, parts.escape);
+    let at = put_part(cells, at, parts.opcode);
+    let at = put_part(cells, at, parts.modrm);
+    let at = put_part(cells, at, parts.sib);
+    let at = put_part(cells, at, parts.displacement);
+    let at = put_part(cells, at, parts.immediate);
+    line.len = put_part(cells, at, parts.suffix);
 }
 
 /// The line of the parts of an encoding at a place, without its end: the place, how many bytes the parts have

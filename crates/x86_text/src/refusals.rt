@@ -1,21 +1,12 @@
 //! The lines of refusals.
 
-ghost use Rattle.std.specs.Prelude.{◌≡◌, ◌+◌, ◌++◌, ◌≤◌};
+ghost use Rattle.std.specs.Prelude.{◌≡◌, ◌≤◌};
 ghost use Rattle.arrayvec.specs.ArrayVec.{array_vec_len};
-ghost use Rattle.x86_fields.specs.Errors.{description_of};
 ghost use Rattle.x86_text.specs.Lines.{refusal_of};
 
 use crate::place::Place;
-use crate::room::{LINE_MAX, LINE_ROOM, Line};
+use crate::room::{LINE_MAX, Line};
 use x86_fields::DecodeError;
-
-fn push_description(line: &mut Line, error: DecodeError)
-    requires { array_vec_len line.old + 26 ≤ LINE_ROOM }
-    ensures text { line.new.items ≡ line.old.items ++ description_of error }
-    ensures short { array_vec_len line.new ≤ array_vec_len line.old + 26 }
-{
-    line.extend(x86_arch::DecodeError::description(&error).as_bytes());
-}
 
 /// Writes the line of a refusal at a place over another, without its end, as `2 error: invalid opcode`.
 #[tactic(auto, unfolding(crate::specs::Lines::refusal_of))]
@@ -25,7 +16,7 @@ pub fn write_refusal(line: &mut Line, place: &Place, error: DecodeError)
 {
     line.set(place.digits());
     line.extend(b" error: ");
-    push_description(line, error);
+    line.extend(x86_arch::DecodeError::description(&error).as_bytes());
 }
 
 /// The line of a refusal at a place, without its end: the place, and the description of the error.
