@@ -10,14 +10,18 @@ use Rattle.x86_cli.specs.declared.listings.status.Status.TheVariants as outcome
 use Rattle.x86_cli.specs.Text.{Text, text_at, text_of}
 use Rattle.x86_cli.specs.Listings.Listing.{Listing, with_lines}
 use Rattle.x86_cli.specs.Text.Window.{rest_of}
-use Rattle.x86_cli.specs.Commands.Run.{Closes, Ahead, RanInWindow}
+use Rattle.x86_cli.specs.Commands.Run.{Lists, Wrote, Ahead, RanInWindow}
 use Rattle.x86_cli.proofs.TextLemmas.Text.{text-end, text-failed}
 use Rattle.x86_cli.proofs.CommandLemmas.Causes.{some_stop}
-use Rattle.x86_cli.proofs.ListingLemmas.Progress.{Progress, progress_step, status_by, ran_failed, ran_closes}
+use Rattle.x86_cli.proofs.ListingLemmas.Progress.{Progress, progress_step, ran_failed, ran_closes}
 
 -- the window of a run
 abbrev pub window : Option ℕ
 window = Some 15
+
+-- at most one line was put of a listing that has no more
+few_lines : (lines : List (List ℕ)) (failed : Option (List ℕ)) (status : Status) (l : Listing) → length l.lines ≤ 1 → Lists status lines failed l → length lines ≤ 1
+few_lines lines failed status l one h = grind (arith, length-append {A = List ℕ})
 
 -- Where no more comes, the image of what is left is the window.
 rest_image : (ended : Option Ending) (w : List ℕ) (p r : ℕ) (stop : Stop) → (rest_of ended w p r [] stop).image ≡ w
@@ -59,7 +63,8 @@ module _ {S K : Type 0} (gives : S → Got → S → Type 0) (takes : K → List
     window_failed x beginning e m failed = (ran_failed gives takes at window max n ended w p r a b k l s x beginning e m failed, none_more)
 
     pub window_closes : (last : Listing) → length last.lines ≤ 1 → ((xs : List ℕ) (stop : Stop) → at n (rest_of ended w p r xs stop) ≡ last) →
-        (result : Result Status SinkFailed) (m : K) → Closes takes last result l m → RanInWindow gives takes at max (status_by result) a b k m
-    window_closes last one is (Ok status) m closes =
-        (ran_closes gives takes at window max n ended w p r a b k l s last is (Ok status) m closes, ahead (s.lines ++ last.lines) last.lines refl one)
-    window_closes last one is (Err e) m closes = (ran_closes gives takes at window max n ended w p r a b k l s last is (Err e) m closes, none_more)
+        (status : Status) (m : K) → Wrote takes last status l m → RanInWindow gives takes at max status a b k m
+    window_closes last one is status m wrote = (
+      ran_closes gives takes at window max n ended w p r a b k l s last is status m wrote,
+      ahead (s.lines ++ wrote.lines) wrote.lines refl (few_lines wrote.lines wrote.failed status last one wrote.lists),
+    )

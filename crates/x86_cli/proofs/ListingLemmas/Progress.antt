@@ -1,5 +1,5 @@
 -- The state of a run of any listing between two lines.
-use Rattle.std.proofs.Common.{◌≡◌, ℕ, ◌+◌, List, [], ◌∷◌, ◌++◌, length, Option, Some, None, Result, Ok, Err, refl, arith, ap, ◌∙◌, sym, subst, append_assoc, append-nil, length-append}
+use Rattle.std.proofs.Common.{◌≡◌, ℕ, ◌+◌, List, [], ◌∷◌, ◌++◌, length, Option, Some, None, Result, Err, refl, arith, ap, ◌∙◌, sym, subst, append_assoc, append-nil, length-append}
 use Rattle.std.specs.Prelude.{MatchOption, ⊤}
 use Rattle.x86_cli.specs.declared.outside.source.Got.{Got}
 use Rattle.x86_cli.specs.declared.outside.sink.SinkFailed.{SinkFailed}
@@ -12,7 +12,7 @@ use Rattle.x86_cli.specs.Text.{Text, text_of}
 use Rattle.x86_cli.specs.Text.Reading.{IsOpenText, NeedsMore, CalledWhere, SourceCalls, MayCome}
 use Rattle.x86_cli.specs.Listings.Listing.{Listing, with_lines}
 use Rattle.x86_cli.specs.Text.Window.{with_bytes, rest_of, Open, Fills}
-use Rattle.x86_cli.specs.Commands.Run.{SinkCalls, Closes, Lists, Ran}
+use Rattle.x86_cli.specs.Commands.Run.{SinkCalls, Wrote, Lists, Ran}
 use Rattle.x86_cli.proofs.TextLemmas.Read.{source_calls-source_calls, called-called, called-where}
 use Rattle.x86_cli.proofs.TextLemmas.Fill.{more_after}
 
@@ -26,10 +26,10 @@ match_case (Some e) m f g = g m
 pub with_bytes-with_bytes : (a b : List ℕ) (t : Text) → with_bytes a (with_bytes b t) ≡ with_bytes (a ++ b) t
 with_bytes-with_bytes a b t = ap (λ i. record { image = i; ending = t.ending }) (sym (append_assoc a b t.image))
 
--- the status of a run whose last listing was put so
-abbrev pub status_by : Result Status SinkFailed → Status
-status_by (Ok status) = status
-status_by (Err e) = outcome.WriteFault
+-- a listing after the lines before it
+pub lists_after : (before lines : List (List ℕ)) (failed : Option (List ℕ)) (status : Status) (l : Listing) → Lists status lines failed l → Lists status (before ++ lines) failed (with_lines before l)
+lists_after before lines None status l is = ap (with_lines before) is
+lists_after before lines (Some x) status l h = (h.0, (h.1.0, ap (λ ls. before ++ ls) h.1.1 ∙ sym (append_assoc before lines (x ∷ h.1.0))))
 
 module _ {K : Type 0} (takes : K → List ℕ → Result ⊤ SinkFailed → K → Type 0) where
   -- puts, one after the other
@@ -143,8 +143,7 @@ module _ {S K : Type 0} (gives : S → Got → S → Type 0) (takes : K → List
 
     -- a last listing
     abbrev pub ran_closes : (last : Listing) → ((xs : List ℕ) (stop : Stop) → at n (rest_of ended w p r xs stop) ≡ last) →
-        (result : Result Status SinkFailed) (m : K) → Closes takes last result l m → Ran gives takes (at 0) max (status_by result) a b k m
-    ran_closes last is (Ok status) m closes =
-        ran status (s.lines ++ last.lines) None m (sink_calls-sink_calls takes s.lines last.lines None k l m s.sink_calls closes.1)
-        (λ xs stop may. s.lists xs stop may ∙ ap (with_lines s.lines) (is xs stop) ∙ ap (λ st. record { lines = s.lines ++ last.lines; status = st }) (sym closes.0))
-    ran_closes last is (Err e) m closes = ran_failed closes.0 (λ xs stop. (record { lines = []; status = last.status }, is xs stop ∙ ap (λ ls. record { lines = ls; status = last.status }) closes.1)) e m closes.2
+        (status : Status) (m : K) → Wrote takes last status l m → Ran gives takes (at 0) max status a b k m
+    ran_closes last is status m wrote =
+        ran status (s.lines ++ wrote.lines) wrote.failed m (sink_calls-sink_calls takes s.lines wrote.lines wrote.failed k l m s.sink_calls wrote.sink_calls)
+        (λ xs stop may. rw (s.lists xs stop may, is xs stop) (lists_after s.lines wrote.lines wrote.failed status last wrote.lists))

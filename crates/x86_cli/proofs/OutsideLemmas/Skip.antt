@@ -1,9 +1,19 @@
 -- Bytes that are taken of those ahead, one a call.
-use Rattle.std.proofs.Common.{◌≡◌, ℕ, zero, suc, ◌+◌, ◌-◌, ◌<◌, List, [], ◌∷◌, ◌++◌, length, take, drop, slice_range, None, refl, arith, ap, ◌∙◌, sym, length-take, length-drop}
+use Rattle.std.proofs.Common.{◌≡◌, ℕ, zero, suc, ◌+◌, ◌-◌, ◌<◌, ◌≤◌, List, [], ◌∷◌, ◌++◌, length, take, drop, slice_range, slice_index_or, Option, None, refl, arith, ap, ◌∙◌, sym, length-take, length-drop, drop-cons, add-one}
+use Rattle.std.specs.Io.KnownBytes.{Consumes, prepend_known}
 use Rattle.x86_cli.specs.declared.outside.source.Got.{Got}
 use Rattle.x86_cli.specs.declared.outside.source.Got.TheVariants as got
 use Rattle.x86_cli.specs.Text.Reading.{SourceCalls}
 use Rattle.x86_cli.proofs.TextLemmas.Read.{source_calls-source_calls}
+
+-- the first byte of a buffer
+pub first_taken : (buffer : List ℕ) (position filled : ℕ) → position < filled → filled ≤ length buffer →
+    slice_range buffer position filled ≡ slice_index_or buffer position 0 ∷ slice_range buffer (position + 1) filled
+first_taken buffer position filled some inside =
+    let more : filled - position ≡ suc (filled - (position + 1)) = omega arith in rw (more, drop-cons buffer position 0 (omega arith), add-one) refl
+
+pub byte_consumed : (held held' : List ℕ) (b : ℕ) (known : Option (List ℕ)) → held ≡ b ∷ held' → Consumes (prepend_known held known) (prepend_known held' known) (b ∷ [])
+byte_consumed held held' b known is = grind arith
 
 -- one byte more of a list
 next_of : (n : ℕ) (l : List ℕ) (x : ℕ) (t : List ℕ) → drop n l ≡ x ∷ t → (take (suc n) l ≡ take n l ++ x ∷ []) × (drop (suc n) l ≡ t)

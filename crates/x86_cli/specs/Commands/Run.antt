@@ -23,12 +23,7 @@ module _ {K : Type 0} (takes : K → List ℕ → Result ⊤ SinkFailed → K �
   SinkCalls [] (Some failed) k l = (e : SinkFailed) × takes k failed (Err e) l
   SinkCalls (piece ∷ pieces) failed k l = (m : K) × takes k piece (Ok tt) m × SinkCalls pieces failed m l
 
-  -- What a last line does: it is put, or the sink fails at it.
-  abbrev pub Closes : Listing → Result Status SinkFailed → K → K → Type 0
-  Closes l (Ok status) old new = (status ≡ l.status) × SinkCalls l.lines None old new
-  Closes l (Err e) old new = (failed : List ℕ) × (l.lines ≡ failed ∷ []) × takes old failed (Err e) new
-
-  -- a run that reads nothing
+  -- what a run that reads nothing writes, and what ends a listing
   pub record Wrote (listing : Listing) (status : Status) (old new : K) : Type 0 where
     pub lines : List (List ℕ)
     pub failed : Option (List ℕ)

@@ -30,7 +30,7 @@ pub const TARGETS_MAX: u64 = 16_384;
 pub const USAGE: &str = "usage: list [--strict] | make N | fields | tighten | sweep | targets";
 
 /// What the program does.
-#[derive(Clone, Copy, PartialEq, Eq, Debug, Drop)]
+#[derive(Clone, Copy, Drop)]
 pub enum Command {
     /// The listing, by the default choice or the strict one.
     List { strict: bool },
@@ -94,6 +94,7 @@ fn decoder(strict: bool) -> InstDecoder
 fn obey<S: Source, K: Sink>(command: Command, source: &mut S, sink: &mut K) -> Status
     ensures { Runs S.gives K.takes command result source.old source.new sink.old sink.new }
 {
+    let default = InstDecoder::default();
     match command {
         Command::List { strict } => list(
             &decoder(strict),
@@ -103,21 +104,21 @@ fn obey<S: Source, K: Sink>(command: Command, source: &mut S, sink: &mut K) -> S
             sink,
         ),
         Command::Fields => list(
-            &decoder(false),
+            &default,
             &UpToRefusal { lines: FieldLines },
             TEXT_MAX,
             source,
             sink,
         ),
         Command::Tighten => list(
-            &decoder(false),
+            &default,
             &UpToRefusal { lines: LeastLines },
             TEXT_MAX,
             source,
             sink,
         ),
-        Command::Sweep => list(&decoder(false), &PastRefusals, TEXT_MAX, source, sink),
-        Command::Targets => targets(&decoder(false), TARGETS_MAX, source, sink),
+        Command::Sweep => list(&default, &PastRefusals, TEXT_MAX, source, sink),
+        Command::Targets => targets(&default, TARGETS_MAX, source, sink),
     }
 }
 

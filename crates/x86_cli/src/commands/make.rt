@@ -2,13 +2,12 @@
 
 ghost use Rattle.std.specs.Prelude.{◌≡◌, ◌↔◌, IsTrue, ◌+◌, ◌≤◌, ◌++◌, ℕ, IfSome, Some, None, length, decimal};
 ghost use Rattle.arrayvec.specs.ArrayVec.{array_vec_len};
-ghost use Rattle.x86_regs.specs.Register.{class};
 ghost use Rattle.x86_decode.specs.Instruction.{holding};
 ghost use Rattle.x86_cli.specs.Commands.Run.{Wrote};
 ghost use Rattle.x86_layout.specs.Parts.Heads.{one_if};
-ghost use Rattle.x86_cli.specs.Commands.Make.{generate, has_long_displacement, is_rip, is_at_rip, is_absolute, has_operand, answer_has, tally_of, tally_text, make_max, made_listing};
+ghost use Rattle.x86_cli.specs.Commands.Make.{generate, has_long_displacement, is_at_rip, is_absolute, has_operand, answer_has, tally_of, tally_text, make_max, made_listing};
 
-use crate::listings::listing::put_line;
+use crate::listings::listing::put_last;
 use crate::listings::status::Status;
 use crate::outside::sink::Sink;
 use arrayvec::ArrayVec;
@@ -16,7 +15,7 @@ use itoa::Buffer;
 use x86_decode::{InstDecoder, Instruction};
 use x86_fields::{DecodeError, MEMORY_FORMS, ModRM, Sib};
 use x86_operands::Operand;
-use x86_regs::{RegSpec, RegisterClass};
+use x86_regs::RegisterClass;
 use x86_text::{LINE_MAX, Line};
 
 /// The most encodings that `make` makes.
@@ -68,12 +67,6 @@ pub fn generate(i: u32) -> ArrayVec<u8, 15>
     encoding
 }
 
-fn is_rip(register: RegSpec) -> bool
-    ensures { result ≡ is_rip (class register) }
-{
-    matches!(register.class(), RegisterClass::RIP)
-}
-
 fn is_at_rip(operand: Operand) -> bool
     ensures { result ≡ is_at_rip operand }
 {
@@ -81,7 +74,9 @@ fn is_at_rip(operand: Operand) -> bool
         Operand::MemDeref { base }
         | Operand::Disp { base, .. }
         | Operand::MemBaseIndexScale { base, .. }
-        | Operand::MemBaseIndexScaleDisp { base, .. } => is_rip(base),
+        | Operand::MemBaseIndexScaleDisp { base, .. } => {
+            matches!(base.class(), RegisterClass::RIP)
+        }
         _ => false,
     }
 }
@@ -154,7 +149,6 @@ fn tally_of(count: u32) -> Tally
     }
 }
 
-#[tactic(auto, unfolding(crate::specs::Commands::Make::tally_text))]
 fn tally_line(count: u32, tally: &Tally) -> Line
     ensures text { result.items ≡ tally_text count tally.now }
     ensures short { array_vec_len result ≤ LINE_MAX }
@@ -200,9 +194,5 @@ pub fn make<K: Sink>(count: u32, sink: &mut K) -> Status
     ensures { Wrote K.takes (made_listing count) result sink.old sink.new }
 {
     let tally = tally_of(count);
-    let mut line = tally_line(count, &tally);
-    match put_line(sink, &mut line) {
-        Ok(()) => Status::Done,
-        Err(_) => Status::WriteFault,
-    }
+    put_last(sink, &mut tally_line(count, &tally), Status::Done)
 }

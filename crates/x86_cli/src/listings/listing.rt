@@ -2,13 +2,13 @@
 
 ghost use Rattle.x86_decode.specs.Decoder.{is_strict};
 ghost use Rattle.x86_decode.specs.Instruction.{length_of};
-ghost use Rattle.std.specs.Prelude.{◌≡◌, ℕ, Bool, ◌<◌, ◌≤◌, ◌^◌, length, None};
+ghost use Rattle.std.specs.Prelude.{◌≡◌, ℕ, Bool, ◌<◌, ◌≤◌, ◌^◌, [], ◌∷◌, length, None};
 ghost use Rattle.arrayvec.specs.ArrayVec.{array_vec_len};
 ghost use Rattle.x86_cli.specs.Listings.Line.{line};
 ghost use Rattle.x86_cli.specs.Text.{Text};
 ghost use Rattle.x86_cli.specs.Listings.Listing.{Listing, at_end, at_refusal, listing_at};
 ghost use Rattle.x86_cli.specs.Listings.Entry.{IsEntry};
-ghost use Rattle.x86_cli.specs.Commands.Run.{RanInWindow, Closes};
+ghost use Rattle.x86_cli.specs.Commands.Run.{RanInWindow, Wrote};
 
 use crate::laws::decoder_laws;
 use crate::listings::line::{Lines, bad_text};
@@ -30,14 +30,23 @@ pub fn put_line<K: Sink>(sink: &mut K, text: &mut Line) -> Result<(), SinkFailed
     sink.put(text.as_slice())
 }
 
-fn refuse<K: Sink>(sink: &mut K, place: u64, error: DecodeError) -> Result<Status, SinkFailed>
-    ensures { Closes K.takes (at_refusal place error) result sink.old sink.new }
+/// Writes the last line of a listing that ends so. It returns how the run ends.
+pub fn put_last<K: Sink>(sink: &mut K, text: &mut Line, status: Status) -> Status
+    requires { array_vec_len text.old ≤ LINE_MAX }
+    ensures { Wrote K.takes (record { lines = line text.old.items ∷ []; status = status })
+        result sink.old sink.new }
+{
+    match put_line(sink, text) {
+        Ok(()) => status,
+        Err(_) => Status::WriteFault,
+    }
+}
+
+fn refuse<K: Sink>(sink: &mut K, place: u64, error: DecodeError) -> Status
+    ensures { Wrote K.takes (at_refusal place error) result sink.old sink.new }
 {
     let mut text = refusal_of(place, error);
-    match put_line(sink, &mut text) {
-        Ok(()) => Ok(Status::Refused),
-        Err(failed) => Err(failed),
-    }
+    put_last(sink, &mut text, Status::Refused)
 }
 
 fn constant(text: &[u8]) -> Line
@@ -50,24 +59,15 @@ fn constant(text: &[u8]) -> Line
     line
 }
 
-/// Writes the line of an end, if it has one.
-pub fn end<K: Sink>(sink: &mut K, ending: Ending) -> Result<Status, SinkFailed>
-    ensures { Closes K.takes (at_end ending) result sink.old sink.new }
+/// Writes the line of an end, if it has one. It returns how the run ends.
+pub fn end<K: Sink>(sink: &mut K, ending: Ending) -> Status
+    ensures { Wrote K.takes (at_end ending) result sink.old sink.new }
 {
     match ending {
-        Ending::Clean => Ok(Status::Done),
-        Ending::Bad(position) => match put_line(sink, &mut bad_text(position)) {
-            Ok(()) => Ok(Status::BadText),
-            Err(failed) => Err(failed),
-        },
-        Ending::Large => match put_line(sink, &mut constant(b"text too long")) {
-            Ok(()) => Ok(Status::TooLarge),
-            Err(failed) => Err(failed),
-        },
-        Ending::Fault => match put_line(sink, &mut constant(b"read fault")) {
-            Ok(()) => Ok(Status::ReadFault),
-            Err(failed) => Err(failed),
-        },
+        Ending::Clean => Status::Done,
+        Ending::Bad(position) => put_last(sink, &mut bad_text(position), Status::BadText),
+        Ending::Large => put_last(sink, &mut constant(b"text too long"), Status::TooLarge),
+        Ending::Fault => put_last(sink, &mut constant(b"read fault"), Status::ReadFault),
     }
 }
 
@@ -132,8 +132,9 @@ impl<L: Lines + Drop> Course for UpToRefusal<L> {
         match window.decode_next(decoder, inst) {
             Decoded::Whole(()) => {
                 let length = length_of(inst);
-                let bytes = window.first(length as usize);
-                self.lines.write(decoder, place, inst, bytes, line);
+                let bytes = window.bytes.as_slice();
+                self.lines
+                    .write(decoder, place, inst, &bytes[..length as usize], line);
                 Entry::Line(length)
             }
             Decoded::Refused(error) => Entry::Refused(error),
@@ -167,17 +168,11 @@ pub fn list<W: Course, S: Source, K: Sink>(
                     Ok(()) => {}
                     Err(_) => return Status::WriteFault,
                 }
-                window.leave(length as usize);
+                window.bytes.leave(length as usize);
                 place.advance(length);
             }
-            Entry::Refused(error) => match refuse(sink, place.number(), error) {
-                Ok(status) => return status,
-                Err(_) => return Status::WriteFault,
-            },
-            Entry::Ended(ending) => match end(sink, ending) {
-                Ok(status) => return status,
-                Err(_) => return Status::WriteFault,
-            },
+            Entry::Refused(error) => return refuse(sink, place.number(), error),
+            Entry::Ended(ending) => return end(sink, ending),
         }
     }
 }

@@ -1,7 +1,7 @@
 //! The places that the instructions of a sweep branch to.
 
 ghost use Rattle.x86_decode.specs.Decoder.{is_strict};
-ghost use Rattle.std.specs.Prelude.{◌≡◌, ℕ, ◌+◌, ◌*◌, ◌<◌, ◌≤◌, ◌++◌, length, slice_index_or, true, false, decimal, None, Some, Err, OnOk, IfErr};
+ghost use Rattle.std.specs.Prelude.{◌≡◌, ℕ, ◌+◌, ◌*◌, ◌<◌, ◌≤◌, ◌++◌, length, slice_index_or, true, false, None, Some, Err, OnOk, IfErr};
 ghost use Rattle.x86_cli.specs.Text.{text_of};
 ghost use Rattle.arrayvec.specs.ArrayVec.{array_vec_len};
 ghost use Rattle.x86_layout.specs.Sweeps.Marks.{is_marked};
@@ -19,7 +19,7 @@ use crate::text::window::Window;
 use arrayvec::ArrayVec;
 use x86_decode::InstDecoder;
 use x86_layout::mark_targets;
-use x86_text::{LINE_MAX, Line};
+use x86_text::Line;
 
 /// The most bytes of an image that is held whole.
 const IMAGE_MAX: usize = 8192;
@@ -57,7 +57,7 @@ fn read_whole<S: Source>(max: u64, source: &mut S) -> WholeText
         let count = append(&mut image, &window);
         match window.ended {
             Some(ending) => return WholeText { image, ending },
-            None => window.leave(count),
+            None => window.bytes.leave(count),
         }
     }
 }
@@ -71,15 +71,6 @@ fn mark(decoder: &InstDecoder, image: &[u8], marks: &mut [bool; IMAGE_MAX])
     mark_targets(decoder, image, &mut marks[..image.len()]);
 }
 
-fn decimal(place: u64) -> Line
-    ensures text { result.items ≡ decimal place }
-    ensures short { array_vec_len result ≤ LINE_MAX }
-{
-    let mut line = Line::new();
-    line.push_u64(place);
-    line
-}
-
 /// Writes the line of a place, where it is marked.
 fn put_if_marked<K: Sink>(sink: &mut K, marked: bool, place: u64) -> Result<(), SinkFailed>
     ensures ok { OnOk result (SinkCalls K.takes (lines_if marked place) None sink.old sink.new) }
@@ -87,7 +78,8 @@ fn put_if_marked<K: Sink>(sink: &mut K, marked: bool, place: u64) -> Result<(), 
         (λ e. (marked ≡ true) × K.takes sink.old (place_line place) (Err e) sink.new) }
 {
     if marked {
-        let mut line = decimal(place);
+        let mut line = Line::new();
+        line.push_u64(place);
         put_line(sink, &mut line)
     } else {
         Ok(())
@@ -115,8 +107,5 @@ pub fn targets<S: Source, K: Sink>(
             Err(_) => return Status::WriteFault,
         }
     }
-    match end(sink, text.ending) {
-        Ok(status) => status,
-        Err(_) => Status::WriteFault,
-    }
+    end(sink, text.ending)
 }

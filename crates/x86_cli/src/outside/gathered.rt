@@ -66,8 +66,7 @@ impl<W: Output + Drop> Gathered<W> {
         if self.bytes.left() == 0 {
             self.send()?;
         }
-        let room = self.bytes.left();
-        let count = if buf.len() < room { buf.len() } else { room };
+        let count = buf.len().min(self.bytes.left());
         self.bytes.extend(&buf[..count]);
         Ok(count)
     }

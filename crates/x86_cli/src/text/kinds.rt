@@ -3,7 +3,7 @@
 ghost use Rattle.x86_cli.specs.Text.Kinds.{IsKind};
 
 /// What a byte is in a text.
-#[derive(Clone, Copy, PartialEq, Eq, Debug, Drop)]
+#[derive(Clone, Copy, Drop)]
 pub enum Kind {
     /// A hex digit, and its value.
     Digit(u8),

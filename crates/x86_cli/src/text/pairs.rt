@@ -135,11 +135,10 @@ fn read_run(text: &[u8], at: usize, end: usize, values: &mut [u8], places: &mut 
 
 /// The place after the blanks at a place.
 #[inline(always)]
-#[tactic(auto, using(crate::proofs::TextLemmas::ImageAhead::blanks_more))]
+#[tactic(auto, using(crate::proofs::TextLemmas::ImageAhead::blanks_none, crate::proofs::TextLemmas::ImageAhead::blanks_more))]
 fn after_blanks(text: &[u8], from: usize) -> usize
     requires { from ≤ length text.now }
-    ensures inside { result ≤ length text.now }
-    ensures blanks { (start : ℕ) → AreBlanks text.now start from → AreBlanks text.now start result }
+    ensures { AreBlanks text.now from result }
 {
     let mut at = from;
     'blanks: while at < text.len() {
@@ -169,7 +168,6 @@ fn after_blank(text: &[u8], at: usize) -> usize
 /// Reads pairs from a place on, and the blanks between them, up to the end of the line. It returns how many bytes there
 /// are then, at most so many.
 #[inline(always)]
-#[tactic(auto, using(crate::proofs::TextLemmas::ImageAhead::blanks_none, crate::proofs::TextLemmas::ImageAhead::blanks_more, crate::proofs::TextLemmas::ImageAhead::byte_after, crate::proofs::TextLemmas::ImageAhead::bytes_push))]
 fn read_line(
     text: &[u8],
     at: usize,

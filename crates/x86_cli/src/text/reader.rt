@@ -9,7 +9,7 @@ use crate::text::kinds::{Kind, kind_of};
 use std::marker::Model;
 
 /// How a text ends.
-#[derive(Clone, Copy, PartialEq, Eq, Debug, Drop)]
+#[derive(Clone, Copy, Drop)]
 pub enum Ending {
     Clean,
     Bad(u64),
@@ -18,7 +18,7 @@ pub enum Ending {
 }
 
 /// The next byte of a text's image, or the text's end.
-#[derive(Clone, Copy, PartialEq, Eq, Debug, Drop)]
+#[derive(Clone, Copy, Drop)]
 pub enum Piece {
     Byte(u8),
     Stopped(Ending),
@@ -59,15 +59,6 @@ impl TextReader {
             position: 0,
             end: max,
         }
-    }
-
-    #[inline(always)]
-    fn advance(&mut self)
-        requires { 0 < self.old.room }
-        ensures position { self.new.position ≡ self.old.position + 1 }
-        ensures room { self.new.room + 1 ≡ self.old.room }
-    {
-        self.position += 1;
     }
 
     /// Whether no further byte may be taken.
@@ -129,7 +120,7 @@ impl TextReader {
                 }
                 match kind_of(byte) {
                     Kind::Digit(low) => {
-                        self.advance();
+                        self.advance_by(1);
                         Piece::Byte(16 * high + low)
                     }
                     Kind::Blank | Kind::Other => Piece::Stopped(Ending::Bad(self.position())),
@@ -156,10 +147,10 @@ impl TextReader {
                     }
                     match kind_of(byte) {
                         Kind::Digit(high) => {
-                            self.advance();
+                            self.advance_by(1);
                             return self.second(source, high);
                         }
-                        Kind::Blank => self.advance(),
+                        Kind::Blank => self.advance_by(1),
                         Kind::Other => return Piece::Stopped(Ending::Bad(self.position())),
                     }
                 }

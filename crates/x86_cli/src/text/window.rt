@@ -1,6 +1,6 @@
 //! The next bytes of an image.
 
-ghost use Rattle.std.specs.Prelude.{◌≡◌, ℕ, ◌+◌, ◌*◌, ◌<◌, ◌≤◌, List, [], length, take, drop, None, Some, MatchOption};
+ghost use Rattle.std.specs.Prelude.{◌≡◌, ℕ, ◌+◌, ◌*◌, ◌<◌, ◌≤◌, List, [], length, take, None, Some, MatchOption};
 ghost use Rattle.x86_cli.specs.Outside.Stop.{Stop};
 ghost use Rattle.x86_decode.specs.Decoder.{is_strict};
 ghost use Rattle.x86_decode.specs.declared.instructions.Instruction.{Instruction};
@@ -19,7 +19,7 @@ use x86_fields::DecodeError;
 
 /// What decoding the next bytes of an image yields. In contracts `I` is the instruction; in code it is `()`, and the
 /// instruction is written beside it.
-#[derive(Clone, Copy, Drop)]
+#[derive(Drop)]
 pub enum Decoded<I> {
     Whole(I),
     Refused(DecodeError),
@@ -205,24 +205,5 @@ impl Window {
                 }
             }
         }
-    }
-
-    /// The first bytes.
-    pub fn first(&self, count: usize) -> &[u8]
-        requires { count ≤ length self.now.bytes.items }
-        ensures { result.now ≡ take count self.now.bytes.items }
-    {
-        &self.bytes.as_slice()[..count]
-    }
-
-    /// Lets the first bytes go.
-    pub fn leave(&mut self, count: usize)
-        requires { count ≤ length self.old.bytes.items }
-        ensures bytes { self.new.bytes.items ≡ drop count self.old.bytes.items }
-        ensures reader { self.new.reader ≡ self.old.reader }
-        ensures ahead { self.new.bytes.ahead ≡ self.old.bytes.ahead }
-        ensures ended { self.new.ended ≡ self.old.ended }
-    {
-        self.bytes.leave(count);
     }
 }

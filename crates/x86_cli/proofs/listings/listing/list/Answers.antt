@@ -1,4 +1,4 @@
-use Rattle.std.proofs.Common.{Ok, Err, refl, arith, length, ap, length-drop}
+use Rattle.std.proofs.Common.{refl, arith, length, ap, length-drop}
 use Rattle.x86_cli.specs.Text.Reading.{NeedsMore}
 use Rattle.x86_cli.specs.Listings.Line.{line}
 use Rattle.x86_cli.proofs.ListingLemmas.Progress.{window_needs, progress_new, progress_refill}
@@ -20,11 +20,11 @@ lines-preserved g c =
     let s = progress_refill g.S.Source.gives g.K.Sink.takes (g.W.Course.lists c.args.course.now c.args.decoder.now.strict) window (NeedsMore 15) (window_needs 15) _ _ _ _ _ _ _ _ _ c.lines.invariant.progress c.refill.ensures.cases in
     let step = c.in-Line.ensures.next in
     record {
-      progress = rw (c.advance.ensures, c.leave.ensures.ended, c.leave.ensures.reader, c.leave.ensures.bytes)
+      progress = rw (c.advance.ensures, c.leave.ensures.items)
           (progress_line g.S.Source.gives g.K.Sink.takes (g.W.Course.lists c.args.course.now c.args.decoder.now.strict) _ _ _ _ _ _ _ _ _ _ s (line c.next.new.line.items) _ step.1 step.2 _ c.in-Ok.ensures);
-      ahead = rw (c.leave.ensures.reader, c.leave.ensures.ahead) c.refill.ensures.ahead;
-      few = omega (arith, simp length-drop at (ap length c.leave.ensures.bytes), c.refill.ensures.few c.lines.invariant.few);
-      fits = omega (arith, simp length-drop at (ap length c.leave.ensures.bytes), ap (λ r. r.room) c.leave.ensures.reader, c.refill.ensures.uses, c.lines.invariant.fits, step.1);
+      ahead = rw c.leave.ensures.ahead c.refill.ensures.ahead;
+      few = omega (arith, simp length-drop at (ap length c.leave.ensures.items), c.refill.ensures.few c.lines.invariant.few);
+      fits = omega (arith, simp length-drop at (ap length c.leave.ensures.items), c.refill.ensures.uses, c.lines.invariant.fits, step.1);
     }
 
 pub returns-in-Err : goal.returns-in-Err
@@ -32,22 +32,12 @@ returns-in-Err g c =
     let s = progress_refill g.S.Source.gives g.K.Sink.takes (g.W.Course.lists c.args.course.now c.args.decoder.now.strict) window (NeedsMore 15) (window_needs 15) _ _ _ _ _ _ _ _ _ c.lines.invariant.progress c.refill.ensures.cases in
     window_failed g.S.Source.gives g.K.Sink.takes (g.W.Course.lists c.args.course.now c.args.decoder.now.strict) _ _ _ _ _ _ _ _ _ _ s (c.refill.ensures.few c.lines.invariant.few) (line c.next.new.line.items) (λ xs stop. (_, c.in-Line.ensures.next.2 xs stop)) _ _ c.in-Err.ensures
 
-pub returns-in-Ok-refuse : goal.returns-in-Ok-refuse
-returns-in-Ok-refuse g c =
+pub returns-in-Refused : goal.returns-in-Refused
+returns-in-Refused g c =
     let s = progress_refill g.S.Source.gives g.K.Sink.takes (g.W.Course.lists c.args.course.now c.args.decoder.now.strict) window (NeedsMore 15) (window_needs 15) _ _ _ _ _ _ _ _ _ c.lines.invariant.progress c.refill.ensures.cases in
-    window_closes g.S.Source.gives g.K.Sink.takes (g.W.Course.lists c.args.course.now c.args.decoder.now.strict) _ _ _ _ _ _ _ _ _ _ s (c.refill.ensures.few c.lines.invariant.few) _ (omega arith) c.in-Refused.ensures.next (Ok _) _ (rw c.number.ensures at c.in-Ok-refuse.ensures)
+    window_closes g.S.Source.gives g.K.Sink.takes (g.W.Course.lists c.args.course.now c.args.decoder.now.strict) _ _ _ _ _ _ _ _ _ _ s (c.refill.ensures.few c.lines.invariant.few) _ (omega arith) c.in-Refused.ensures.next _ _ (rw c.number.ensures at c.refuse.ensures)
 
-pub returns-in-Err-refuse : goal.returns-in-Err-refuse
-returns-in-Err-refuse g c =
+pub returns-in-Ended : goal.returns-in-Ended
+returns-in-Ended g c =
     let s = progress_refill g.S.Source.gives g.K.Sink.takes (g.W.Course.lists c.args.course.now c.args.decoder.now.strict) window (NeedsMore 15) (window_needs 15) _ _ _ _ _ _ _ _ _ c.lines.invariant.progress c.refill.ensures.cases in
-    window_closes g.S.Source.gives g.K.Sink.takes (g.W.Course.lists c.args.course.now c.args.decoder.now.strict) _ _ _ _ _ _ _ _ _ _ s (c.refill.ensures.few c.lines.invariant.few) _ (omega arith) c.in-Refused.ensures.next (Err c.in-Err-refuse.field-0) _ (rw c.number.ensures at c.in-Err-refuse.ensures)
-
-pub returns-in-Ok-end : goal.returns-in-Ok-end
-returns-in-Ok-end g c =
-    let s = progress_refill g.S.Source.gives g.K.Sink.takes (g.W.Course.lists c.args.course.now c.args.decoder.now.strict) window (NeedsMore 15) (window_needs 15) _ _ _ _ _ _ _ _ _ c.lines.invariant.progress c.refill.ensures.cases in
-    window_closes g.S.Source.gives g.K.Sink.takes (g.W.Course.lists c.args.course.now c.args.decoder.now.strict) _ _ _ _ _ _ _ _ _ _ s (c.refill.ensures.few c.lines.invariant.few) _ (grind arith) c.in-Ended.ensures.next (Ok _) _ c.in-Ok-end.ensures
-
-pub returns-in-Err-end : goal.returns-in-Err-end
-returns-in-Err-end g c =
-    let s = progress_refill g.S.Source.gives g.K.Sink.takes (g.W.Course.lists c.args.course.now c.args.decoder.now.strict) window (NeedsMore 15) (window_needs 15) _ _ _ _ _ _ _ _ _ c.lines.invariant.progress c.refill.ensures.cases in
-    window_closes g.S.Source.gives g.K.Sink.takes (g.W.Course.lists c.args.course.now c.args.decoder.now.strict) _ _ _ _ _ _ _ _ _ _ s (c.refill.ensures.few c.lines.invariant.few) _ (grind arith) c.in-Ended.ensures.next (Err c.in-Err-end.field-0) _ c.in-Err-end.ensures
+    window_closes g.S.Source.gives g.K.Sink.takes (g.W.Course.lists c.args.course.now c.args.decoder.now.strict) _ _ _ _ _ _ _ _ _ _ s (c.refill.ensures.few c.lines.invariant.few) _ (grind arith) c.in-Ended.ensures.next _ _ c.end.ensures

@@ -22,12 +22,12 @@ windows-preserved g c =
     let w = c.refill.new.self in
     let fills = rw (i.ended, i.empty) at c.refill.ensures.cases in
     record {
-      filling = rw (c.append-count.ensures.image, c.leave.ensures.reader)
+      filling = rw c.append-count.ensures.image
           (filling_window g.S.Source.gives (text_of c.args.max) c.windows.image.items _ _ _ _ i.filling 15 w.ended w.bytes.items _ _ _ fills c.in-None.is);
-      ahead = rw (c.leave.ensures.reader, c.leave.ensures.ahead) c.refill.ensures.ahead;
-      ended = c.leave.ensures.ended ∙ c.in-None.is;
-      empty = c.leave.ensures.bytes ∙ drop_all c.append-count.result w.bytes.items (omega (arith, c.append-count.ensures.count));
-      fits = omega (arith, i.fits, ap length i.empty, c.refill.ensures.pairs, ap (λ r. r.room) c.leave.ensures.reader, simp length-append at (ap length c.append-count.ensures.image));
+      ahead = rw c.leave.ensures.ahead c.refill.ensures.ahead;
+      ended = c.in-None.is;
+      empty = c.leave.ensures.items ∙ drop_all c.append-count.result w.bytes.items (omega (arith, c.append-count.ensures.count));
+      fits = omega (arith, i.fits, ap length i.empty, c.refill.ensures.pairs, simp length-append at (ap length c.append-count.ensures.image));
     }
 
 pub returns-in-Some : goal.returns-in-Some

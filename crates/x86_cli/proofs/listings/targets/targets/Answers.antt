@@ -1,4 +1,4 @@
-use Rattle.std.proofs.Common.{Bool, None, Ok, Err, List, [], refl, ◌≡◌, ℕ, ◌<◌, ap, arith, false, length, ◌+◌, slice_index_or}
+use Rattle.std.proofs.Common.{Bool, None, List, [], refl, ◌≡◌, ℕ, ◌<◌, ap, arith, false, length, ◌+◌, slice_index_or}
 use Rattle.x86_layout.specs.Sweeps.Marks.{is_marked}
 use Rattle.x86_cli.specs.Text.{Text}
 use Rattle.x86_cli.specs.Listings.Targets.{lines_if, place_line, targets_at}
@@ -32,14 +32,8 @@ returns-in-Err g c =
     ran_failed g.S.Source.gives g.K.Sink.takes (targets_at strict) None _ _ _ _ _ _ _ _ _ _ c.places.invariant (place_line place)
     (λ xs stop. (targets_at strict (place + 1) text, grind (arith, targets-step strict place text m.0, m.1, c.in-Err.ensures.failed.0))) _ _ c.in-Err.ensures.failed.1
 
-pub returns-in-Ok-end : goal.returns-in-Ok-end
-returns-in-Ok-end g c =
+pub returns : goal.returns
+returns g c =
     let all : c.places.place ≡ length c.read_whole-text.result.image.items = omega (arith, c.places-test.false, c.places.auto.place-end, ap length c.as_slice-image.ensures.value) in
     ran_closes g.S.Source.gives g.K.Sink.takes (targets_at c.args.decoder.now.strict) None _ _ _ _ _ _ _ _ _ _ c.places.invariant _
-    (λ xs stop. targets-end c.args.decoder.now.strict c.places.place c.read_whole-text.result.image.items c.read_whole-text.result.ending all) (Ok _) _ c.in-Ok-end.ensures
-
-pub returns-in-Err-end : goal.returns-in-Err-end
-returns-in-Err-end g c =
-    let all : c.places.place ≡ length c.read_whole-text.result.image.items = omega (arith, c.places-test.false, c.places.auto.place-end, ap length c.as_slice-image.ensures.value) in
-    ran_closes g.S.Source.gives g.K.Sink.takes (targets_at c.args.decoder.now.strict) None _ _ _ _ _ _ _ _ _ _ c.places.invariant _
-    (λ xs stop. targets-end c.args.decoder.now.strict c.places.place c.read_whole-text.result.image.items c.read_whole-text.result.ending all) (Err c.in-Err-end.field-0) _ c.in-Err-end.ensures
+    (λ xs stop. targets-end c.args.decoder.now.strict c.places.place c.read_whole-text.result.image.items c.read_whole-text.result.ending all) _ _ c.end.ensures

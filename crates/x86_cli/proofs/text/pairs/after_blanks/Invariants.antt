@@ -1,12 +1,9 @@
-use Rattle.std.proofs.Common.{ℕ, ◌-◌, ◌≤◌, length}
+use Rattle.std.proofs.Common.{◌-◌, length}
 use Rattle.x86_cli.specs.Text.ImageAhead.{AreBlanks}
 use Rattle.x86_cli.proofs.text.pairs.after_blanks.Given as goal
 
 abbrev pub invariant-blanks : goal.invariant-blanks
-invariant-blanks l = record {
-  inside : l.at ≤ length l.text;
-  blanks : (start : ℕ) → AreBlanks l.text start l.from → AreBlanks l.text start l.at;
-}
+invariant-blanks l = AreBlanks l.text l.from l.at
 
 abbrev pub decreases-blanks : goal.decreases-blanks
 decreases-blanks l = length l.text - l.at

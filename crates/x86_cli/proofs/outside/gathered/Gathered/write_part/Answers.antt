@@ -9,6 +9,6 @@ returns-clause-forwards g c =
     elim c.if-left-eq0.branch [
       | then-left-eq0+in_ok-send w ↦
           forwards_join _ _ {E = SinkFailed} w.in_ok-send.field-0 _ [] _ _ c.if-left-eq0.self.bytes.items _ _ c.if-left-eq0.self.writer _
-          (rw w.self-is w.in_ok-send.ensures.forwards) (forwards_none _ _ c.if-buf-room.count _ _ _ _ c.extend.ensures.text)
-      | else-left-eq0 w ↦ rw w.self-is (forwards_none _ _ c.if-buf-room.count _ _ _ _ (rw w.self-is at c.extend.ensures.text))
+          (rw w.self-is w.in_ok-send.ensures.forwards) (forwards_none _ _ c.min-count.result _ _ _ _ c.extend.ensures.text)
+      | else-left-eq0 w ↦ rw w.self-is (forwards_none _ _ c.min-count.result _ _ _ _ (rw w.self-is at c.extend.ensures.text))
     ]

@@ -26,4 +26,4 @@ returns-in-Other-clause-reads g c =
 pub returns-in-Digit-clause-reads : goal.returns-in-Digit-clause-reads
 returns-in-Digit-clause-reads g c =
     reads_after g.S.Source.gives _ _ _ _ _ _ _ _ _ _ c.loop-byte.invariant.skips
-    (c.second.ensures.reads _ _ _ _ c.advance.ensures.position (sym c.advance.ensures.room) c.in-Digit.ensures.0 c.in-Digit.ensures.1 c.in-Byte.ensures)
+    (c.second.ensures.reads _ _ _ _ c.advance_by.ensures.position (sym c.advance_by.ensures.room) c.in-Digit.ensures.0 c.in-Digit.ensures.1 c.in-Byte.ensures)

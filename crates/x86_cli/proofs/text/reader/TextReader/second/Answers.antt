@@ -21,4 +21,4 @@ returns-in-Blank-clause-reads g c p r x a position room blank digit source_calls
 
 pub returns-in-Digit-clause-reads : goal.returns-in-Digit-clause-reads
 returns-in-Digit-clause-reads g c p r x a position room blank digit source_calls =
-    half_pair g.S.Source.gives p r _ _ _ _ x _ _ _ a _ _ (record { position = position; room = room; blank = blank; digit = digit; source_calls = source_calls }) c.in-Byte.ensures c.in-Digit.ensures.1 c.advance.ensures.position c.advance.ensures.room
+    half_pair g.S.Source.gives p r _ _ _ _ x _ _ _ a _ _ (record { position = position; room = room; blank = blank; digit = digit; source_calls = source_calls }) c.in-Byte.ensures c.in-Digit.ensures.1 c.advance_by.ensures.position c.advance_by.ensures.room
