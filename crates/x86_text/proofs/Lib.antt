@@ -1,4 +1,3 @@
--- The lemmas on texts of operands, on names and on places.
+-- The lemmas on texts of operands and on names.
 pub mod OperandLemmas
 pub mod NameLemmas
-pub mod PlaceLemmas

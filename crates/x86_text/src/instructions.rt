@@ -7,13 +7,12 @@ ghost use Rattle.x86_decode.specs.Instruction.{mem_size_number, operand_count, o
 ghost use Rattle.x86_text.specs.Operands.{operand_text, operands_text, others_text};
 ghost use Rattle.x86_text.specs.Lines.{size_text, instruction_text, line_of};
 
-use crate::cells::put;
-use crate::digits::{put_one, put_u8, put_u64};
 use crate::names::{mnemonic, put_name, size_name};
 use crate::operands::put_operand;
-use crate::place::Place;
-use crate::room::{LINE_MAX, LINE_ROOM, Line};
 use x86_decode::Instruction;
+use x86_lines::cells::put;
+use x86_lines::digits::{put_one, put_u8, put_u64};
+use x86_lines::{LINE_MAX, LINE_ROOM, Line, Place};
 use x86_operands::Operand;
 
 /// Writes an operand after a comma and a space.

@@ -11,22 +11,17 @@
 //! a caller's additional columns; those that begin with `write` write over it.
 #![tactic(auto)]
 
-mod cells;
-mod digits;
 mod instructions;
 mod mnemonics;
 mod names;
 mod operands;
 mod parts;
-mod place;
 mod refusals;
 mod registers;
-mod room;
 mod sizes;
 
 pub use instructions::{instruction_text, line_of, push_instruction, write_instruction};
 pub use operands::{operand_text, push_operand};
 pub use parts::{fields_line, write_fields};
-pub use place::Place;
 pub use refusals::{refusal_of, write_refusal};
-pub use room::{LINE_MAX, LINE_ROOM, Line, Room};
+pub use x86_lines::{LINE_MAX, LINE_ROOM, Line, Place, Room};

@@ -7,10 +7,10 @@ ghost use Rattle.x86_text.specs.Operands.{register_text};
 ghost use Rattle.x86_text.specs.Names.{name_text, are_short};
 ghost use Rattle.x86_text.specs.Lines.{size_text};
 
-use crate::cells::put_first;
 use crate::mnemonics::MNEMONICS;
 use crate::registers;
 use crate::sizes::SIZES;
+use x86_lines::cells::put_first;
 use x86_opcodes::Opcode;
 use x86_opcodes::laws::names_are_in_the_order_of_their_numbers;
 use x86_regs::{RegSpec, RegisterClass};

@@ -5,10 +5,10 @@ ghost use Rattle.std.specs.Fmt.{signed_decimal};
 ghost use Rattle.arrayvec.specs.ArrayVec.{array_vec_len};
 ghost use Rattle.x86_text.specs.Operands.{operand_text, deref_text, moved_text, index_text, moved_index_text, scaled_text, displacement_text, register_text, base_text, plus_text};
 
-use crate::cells::{put, put_bytes, put_first};
-use crate::digits::{put_signed, put_u8, put_u32, put_u64};
 use crate::names::put_register;
-use crate::room::{LINE_ROOM, Line};
+use x86_lines::cells::{put, put_bytes, put_first};
+use x86_lines::digits::{put_signed, put_u8, put_u32, put_u64};
+use x86_lines::{LINE_ROOM, Line};
 use x86_operands::Operand;
 use x86_regs::RegSpec;
 

@@ -7,11 +7,10 @@ ghost use Rattle.x86_layout.specs.Parts.Split.{lists_of};
 ghost use Rattle.x86_layout.specs.Parts.Fields.{HasFieldLengths};
 ghost use Rattle.x86_text.specs.Parts.{in_order, spaced, fields_line};
 
-use crate::cells::put;
-use crate::digits::{put_hex, put_u64};
-use crate::place::Place;
-use crate::room::{LINE_MAX, LINE_ROOM, Line};
 use x86_layout::Parts;
+use x86_lines::cells::put;
+use x86_lines::digits::{put_hex, put_u64};
+use x86_lines::{LINE_MAX, Line, Place};
 
 /// How many bytes the parts have together.
 fn parts_length(parts: &Parts) -> usize

@@ -4,9 +4,8 @@ ghost use Rattle.std.specs.Prelude.{◌≡◌, ◌≤◌};
 ghost use Rattle.arrayvec.specs.ArrayVec.{array_vec_len};
 ghost use Rattle.x86_text.specs.Lines.{refusal_of};
 
-use crate::place::Place;
-use crate::room::{LINE_MAX, Line};
 use x86_fields::DecodeError;
+use x86_lines::{LINE_MAX, Line, Place};
 
 /// Writes the line of a refusal at a place over another, without its end, as `2 error: invalid opcode`.
 #[tactic(auto, unfolding(crate::specs::Lines::refusal_of))]

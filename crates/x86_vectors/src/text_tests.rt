@@ -1,7 +1,8 @@
-//! Names of registers and opcodes, the order of registers, and errors as text.
+//! Names of registers and opcodes, the order of registers, errors as text, and lines without instructions.
 use std::test::Fail;
 use x86_fields::DecodeError;
 use x86_layout::{EmitError, TightenError};
+use x86_lines::{Line, Place};
 use x86_opcodes::Opcode;
 use x86_regs::{MergeMode, RegSpec, RegisterClass, SaeMode, register_class};
 
@@ -83,4 +84,32 @@ fn errors_of_emit_by_their_texts(rt: HostRuntime) -> Result<(), Fail> {
         assert!(rt; shown.as_str() == text);
     }
     Ok(())
+}
+
+/// A place, and bytes as hex digits.
+fn dumped(place: u64, bytes: &[u8; 4]) -> Line {
+    let mut line = Line::new();
+    line.push_u64(place);
+    line.extend(b": ");
+    line.push_hex(bytes);
+    line
+}
+
+#[test]
+fn lines_of_digits(rt: HostRuntime) -> Result<(), Fail> {
+    let shown = format!(in rt.alloc(); "{}", dumped(4096, &[0x7f, 0x45, 0x4c, 0x46]))?;
+    assert!(rt; shown.as_str() == "4096: 7f454c46");
+    let mut line = Line::new();
+    line.push_i64(i64::MIN);
+    assert!(rt; line.as_slice() == b"-9223372036854775808".as_slice());
+    Ok(())
+}
+
+#[test]
+fn a_place_counts_on(rt: HostRuntime) {
+    let mut place = Place::at(98);
+    place.advance(3);
+    assert!(rt; place.digits().as_slice() == b"101".as_slice());
+    place.advance(15);
+    assert!(rt; place.digits().as_slice() == b"116".as_slice());
 }

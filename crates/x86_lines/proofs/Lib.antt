@@ -1,0 +1,2 @@
+-- The lemmas on places.
+pub mod PlaceLemmas
