@@ -1,4 +1,5 @@
-//! Numbers as decimals and bytes as hex digits, two digits at a time.
+//! Numbers as decimals and bytes as hex digits, two digits at a time. Each call writes at a place in cells, and returns
+//! the place after what it wrote, as those of `cells`.
 
 ghost use Rattle.std.specs.Prelude.{◌≡◌, ℕ, List, ◌+◌, ◌*◌, ◌/◌, ◌%◌, ◌<◌, ◌≤◌, ◌++◌, ◌∷◌, [], length, take, decimal};
 ghost use Rattle.std.specs.Fmt.{signed_decimal};
@@ -210,7 +211,7 @@ pub fn put_u8(cells: &mut [u8], at: usize, n: u8) -> usize
     put_decimal(cells, at, n as u64)
 }
 
-/// Writes the decimal of a number with its sign.
+/// Writes the decimal of a number, after a minus where it is negative.
 #[inline(always)]
 pub fn put_signed(cells: &mut [u8], at: usize, n: i64) -> usize
     requires { at + 20 ≤ length cells.old }
@@ -224,7 +225,7 @@ pub fn put_signed(cells: &mut [u8], at: usize, n: i64) -> usize
     put_decimal(cells, at, n.unsigned_abs())
 }
 
-/// Writes the hex digits of some bytes.
+/// Writes the hex digits of some bytes, in lower case and without blanks.
 #[inline(always)]
 pub fn put_hex(cells: &mut [u8], at: usize, bytes: &[u8]) -> usize
     requires { at + 2 * length bytes.now ≤ length cells.old }

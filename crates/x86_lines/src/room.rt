@@ -14,7 +14,7 @@ use std::fmt::Display;
 use std::marker::Model;
 use std::str::from_utf8;
 
-/// How many bytes a line has room for, its end included.
+/// How many bytes a line has room for, its end included. The longest line of x86_text and its end have as many.
 pub const LINE_ROOM: usize = 192;
 
 /// The most bytes of a line without its end.
