@@ -23,7 +23,8 @@ pub fn put(cells: &mut [u8], at: usize, byte: u8) -> usize
     at + 1
 }
 
-/// Writes the first bytes of a block. The whole block is copied, which takes no loop.
+/// Writes the first bytes of a block. The whole block is copied, which takes no loop. Only blocks of a power of two, at
+/// most 64 bytes, can be compiled.
 #[inline(always)]
 pub fn put_first<const M: usize>(
     cells: &mut [u8],
@@ -40,7 +41,7 @@ pub fn put_first<const M: usize>(
     at + count
 }
 
-/// Writes bytes.
+/// Writes bytes. Where their number is known, and a power of two, `put_first` is quicker.
 #[inline(always)]
 pub fn put_bytes(cells: &mut [u8], at: usize, bytes: &[u8]) -> usize
     requires { at + length bytes.now ≤ length cells.old }
