@@ -1,5 +1,4 @@
--- The lemmas on sources and sinks, on text, on listings and on commands.
-pub mod OutsideLemmas
+-- The lemmas on the window, on listings and on commands.
 pub mod TextLemmas
 pub mod ListingLemmas
 pub mod CommandLemmas

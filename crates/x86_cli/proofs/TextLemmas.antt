@@ -1,10 +1,3 @@
--- Lemmas on texts, their reader and its window.
-pub mod Text
-pub mod Kind
-pub mod Read
-pub mod Pair
+-- Lemmas on the window over a text.
 pub mod Fill
-pub mod Begins
-pub mod ImageBytes
-pub mod ImageAhead
 pub mod Decoded

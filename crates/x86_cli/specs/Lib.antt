@@ -1,5 +1,4 @@
--- The definitions that the contracts cite: sources and sinks, text, listings and commands.
-pub mod Outside
+-- The definitions that the contracts cite: the window, listings and commands.
 pub mod Text
 pub mod DecoderLaws
 pub mod Listings

@@ -1,4 +1,5 @@
-//! Laws of the text and of the values of the outside, and those of the decoder on which the window rests.
+//! Laws of listings and runs, and those of the decoder on which the window rests. The laws of hex text, and of what
+//! calls of sources and sinks say, are those of x86_streams.
 
 ghost use Rattle.std.specs.Prelude.{◌≡◌, ◌≢◌, ◌↔◌, ℕ, Bool, IsTrue, List, Option};
 ghost use Rattle.x86_decode.specs.declared.instructions.Instruction.{Instruction};
@@ -10,36 +11,19 @@ ghost use Rattle.x86_cli.specs.Commands.Complete.{CompletesTexts};
 ghost use Rattle.x86_cli.specs.Commands.Follows.{IsExact, HasReadFault, Completes};
 ghost use Rattle.x86_cli.specs.Listings.Grammar.{IsListing};
 ghost use Rattle.x86_cli.specs.Listings.Listing.{Listing, LinesLeaveStatus, listing_at};
-ghost use Rattle.x86_cli.specs.Text.{Text};
-ghost use Rattle.x86_cli.specs.Text.Reading.{SourceCalls};
+ghost use Rattle.x86_streams.specs.Text.{Text};
 ghost use Rattle.x86_cli.specs.Commands.Make.{made_listing};
 ghost use Rattle.x86_cli.specs.Commands.Program.{Performs, PerformsMake, Has, Leaves};
-ghost use Rattle.x86_cli.specs.Commands.Run.{SinkCalls, Wrote};
+ghost use Rattle.x86_cli.specs.Commands.Run.{Wrote};
 ghost use Rattle.x86_cli.specs.Commands.Says.{Makes, Says, Streams};
-ghost use Rattle.x86_cli.specs.Outside.FaultCounts.{Rose};
-ghost use Rattle.x86_cli.specs.Outside.Stop.{Stop};
-ghost use Rattle.x86_cli.specs.Outside.Reported.{ReportsBytes, ReportsPieces};
-ghost use Rattle.x86_cli.specs.Text.Pairs.{SequencesAreSound, BadIsFirst};
+ghost use Rattle.x86_streams.specs.Outside.FaultCounts.{Rose};
 
 use crate::commands::command::Command;
 use crate::listings::status::Status;
-use crate::outside::input::Input;
-use crate::outside::output::Output;
-use crate::outside::sink::{Sink, SinkFailed};
-use crate::outside::source::{Got, Source};
 use std::io::{Read, Write};
 use x86_decode::laws;
-
-/// No byte is bad exactly in a sequence of blanks and pairs.
-#[tactic(auto, using(crate::proofs::TextLemmas::Pair::sequences_sound))]
-pub fn sequences()
-    ensures { SequencesAreSound }
-{}
-
-/// A bad place is the first: no beginning up to it has a bad byte.
-pub fn first()
-    ensures { BadIsFirst }
-{}
+pub use x86_streams::laws::{first, reported, sequences};
+use x86_streams::{Got, Input, Output, Sink, SinkFailed, Source};
 
 /// A listing ends with the same status whatever its lines are, as those of `list` and `fields` do.
 #[tactic(auto, using(crate::proofs::ListingLemmas::Listing::lines_leave_status))]
@@ -75,18 +59,9 @@ pub fn values_are_equal()
     ensures answers { (a b : Got) → IsTrue (⟦<Got as PartialEq>⟧.eq a b) ↔ (a ≡ b) }
     ensures refusals { (a b : SinkFailed) → IsTrue (⟦<SinkFailed as PartialEq>⟧.eq a b) ↔ (a ≡ b) }
     ensures statuses { (a b : Status) → IsTrue (⟦<Status as PartialEq>⟧.eq a b) ↔ (a ≡ b) }
-{}
-
-/// What the calls of a run say, where the bytes of the source and of the sink are known.
-#[tactic(auto, using(crate::proofs::OutsideLemmas::Reports::sink_calls_report))]
-pub fn reported<S: Source, K: Sink>()
-    ensures source { (bytes : List ℕ) (stop : Option Stop) (a b : S)
-        → SourceCalls S.gives bytes stop a b
-        → ReportsBytes bytes stop (S.left a) (S.left b) (S.faults a) (S.faults b) }
-    ensures sink { (pieces : List (List ℕ)) (failed : Option (List ℕ)) (k l : K)
-        → SinkCalls K.takes pieces failed k l
-        → ReportsPieces pieces failed (K.written k) (K.written l) (K.faults k) (K.faults l) }
-{}
+{
+    x86_streams::laws::values_are_equal();
+}
 
 /// A read fault comes only after a call of the source that failed, and a write fault only after a put that failed.
 pub fn causes<S: Source, K: Sink>()

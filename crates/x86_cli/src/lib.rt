@@ -1,4 +1,5 @@
 //! The program's parts: hex text in, listings out, over any source and sink, and over any reader and writer.
+//! Sources, sinks and the reader of hex text are those of x86_streams.
 //!
 //! `run` obeys words over a `Source` and a `Sink`, and `listed` over a reader and a writer of std:
 //!
@@ -13,7 +14,6 @@
 pub mod commands;
 pub mod laws;
 pub mod listings;
-pub mod outside;
 pub mod text;
 
 pub use commands::command::{TARGETS_MAX, TEXT_MAX, USAGE, run};
@@ -21,12 +21,8 @@ pub use commands::make::generate;
 pub use commands::process::{finish, words};
 pub use commands::program::{Finished, listed};
 pub use listings::status::Status;
-pub use outside::array_sink::ArraySink;
-pub use outside::null_sink::NullSink;
-pub use outside::sink::{Sink, SinkFailed};
-pub use outside::slice_source::SliceSource;
-pub use outside::sound_source::SoundSource;
-pub use outside::source::{Got, Source};
-pub use outside::std_sink::StdSink;
-pub use outside::std_source::StdSource;
+pub use x86_streams::{
+    ArraySink, Got, NullSink, Sink, SinkFailed, SliceSource, SoundSource, Source, StdSink,
+    StdSource, outside,
+};
 pub use x86_text::{fields_line, line_of, refusal_of};

@@ -1,7 +1,5 @@
-//! Hex text: its bytes by kind, its reader, and the window over its image.
+//! The window over the image of a hex text.
 
-pub mod image_bytes;
-mod kinds;
-mod pairs;
-pub mod reader;
 pub mod window;
+
+pub use x86_streams::text::{image_bytes, reader};

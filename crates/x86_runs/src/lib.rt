@@ -1,4 +1,5 @@
-//! Tests of x86_cli: commands, runs over sources and sinks, and the program over readers and writers.
+//! Tests of x86_cli and x86_streams: commands, runs over sources and sinks, the program over readers and writers, and
+//! hex text that is read without the decoder.
 #![tactic(auto)]
 
 #[cfg(test)]
@@ -17,3 +18,5 @@ mod program;
 mod streams;
 #[cfg(test)]
 pub mod support;
+#[cfg(test)]
+mod texts;

@@ -1,8 +1,8 @@
 //! What tests of runs have in common.
 
 ghost use Rattle.std.specs.Prelude.{None, []};
-ghost use Rattle.x86_cli.specs.Outside.Source.{ReportsGot};
-ghost use Rattle.x86_cli.specs.Outside.Sink.{ReportsPut};
+ghost use Rattle.x86_streams.specs.Outside.Source.{ReportsGot};
+ghost use Rattle.x86_streams.specs.Outside.Sink.{ReportsPut};
 
 use std::alloc::{AllocError, Global};
 use x86_cli::{ArraySink, Got, Sink, SinkFailed, SliceSource, Source, Status, run};

@@ -1,17 +1,17 @@
 -- How far ahead of its lines a run reads that holds a window.
 use Rattle.std.proofs.Common.{◌≡◌, ℕ, ◌+◌, ◌≤◌, List, [], ◌∷◌, ◌++◌, length, take, drop, Option, Some, Result, Ok, Err, refl, arith, ap, ◌∙◌, sym, append_assoc, append-nil, length-append, length-take-le, take-append-drop}
 use Rattle.std.specs.Prelude.{⊤}
-use Rattle.x86_cli.specs.declared.outside.source.Got.{Got}
-use Rattle.x86_cli.specs.declared.outside.sink.SinkFailed.{SinkFailed}
-use Rattle.x86_cli.specs.declared.text.reader.Ending.{Ending}
-use Rattle.x86_cli.specs.Outside.Stop.{Stop, Failed}
+use Rattle.x86_streams.specs.declared.outside.source.Got.{Got}
+use Rattle.x86_streams.specs.declared.outside.sink.SinkFailed.{SinkFailed}
+use Rattle.x86_streams.specs.declared.text.reader.Ending.{Ending}
+use Rattle.x86_streams.specs.Outside.Stop.{Stop, Failed}
 use Rattle.x86_cli.specs.declared.listings.status.Status.{Status}
 use Rattle.x86_cli.specs.declared.listings.status.Status.TheVariants as outcome
-use Rattle.x86_cli.specs.Text.{Text, text_at, text_of}
+use Rattle.x86_streams.specs.Text.{Text, text_at, text_of}
 use Rattle.x86_cli.specs.Listings.Listing.{Listing, with_lines}
 use Rattle.x86_cli.specs.Text.Window.{rest_of}
 use Rattle.x86_cli.specs.Commands.Run.{Lists, Wrote, Ahead, RanInWindow}
-use Rattle.x86_cli.proofs.TextLemmas.Text.{text-end, text-failed}
+use Rattle.x86_streams.proofs.TextLemmas.Text.{text-end, text-failed}
 use Rattle.x86_cli.proofs.CommandLemmas.Causes.{some_stop}
 use Rattle.x86_cli.proofs.ListingLemmas.Progress.{Progress, progress_step, ran_failed, ran_closes}
 

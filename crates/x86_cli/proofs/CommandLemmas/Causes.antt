@@ -6,19 +6,19 @@ use Rattle.std.specs.List.{concat}
 use Rattle.x86_decode.specs.declared.instructions.Instruction.{Instruction}
 use Rattle.x86_fields.specs.declared.errors.DecodeError.TheVariants.{ExhaustedInput}
 use Rattle.x86_decode.specs.Answer.{answer_of}
-use Rattle.x86_cli.specs.declared.outside.source.Got.{Got}
-use Rattle.x86_cli.specs.declared.outside.sink.SinkFailed.{SinkFailed}
-use Rattle.x86_cli.specs.declared.text.reader.Ending.{Ending}
-use Rattle.x86_cli.specs.declared.text.reader.Ending.TheVariants.{Clean}
-use Rattle.x86_cli.specs.Outside.Stop.{Stop, End, Failed}
+use Rattle.x86_streams.specs.declared.outside.source.Got.{Got}
+use Rattle.x86_streams.specs.declared.outside.sink.SinkFailed.{SinkFailed}
+use Rattle.x86_streams.specs.declared.text.reader.Ending.{Ending}
+use Rattle.x86_streams.specs.declared.text.reader.Ending.TheVariants.{Clean}
+use Rattle.x86_streams.specs.Outside.Stop.{Stop, End, Failed}
 use Rattle.x86_cli.specs.declared.text.window.Decoded.TheVariants.{Whole}
 use Rattle.x86_cli.specs.declared.listings.status.Status.{Status}
 use Rattle.x86_cli.specs.declared.listings.status.Status.TheVariants as outcome
 use Rattle.x86_cli.specs.declared.commands.command.Command.{Command}
 use Rattle.x86_cli.specs.declared.commands.command.Command.TheVariants.{List as Listed, Sweep as Swept, Targets as Targeted}
 use Rattle.x86_cli.specs.Commands.Command.{Runs, listing_for, goes_past_refusals}
-use Rattle.x86_cli.specs.Text.{Text, text_at, text_of}
-use Rattle.x86_cli.specs.Text.Reading.{MayCome}
+use Rattle.x86_streams.specs.Text.{Text, text_at, text_of}
+use Rattle.x86_streams.specs.Text.Reading.{MayCome}
 use Rattle.x86_cli.specs.Listings.Listing.{Listing, at_end, decoded_of, decoded_before_end, listing_from}
 use Rattle.x86_cli.specs.Commands.Run.{Lists, Ran}
 use Rattle.x86_cli.specs.Commands.Causes.{HaveCauses}

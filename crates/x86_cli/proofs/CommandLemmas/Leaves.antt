@@ -9,12 +9,12 @@ use Rattle.std.proofs.KnownBytes.{Consumes-nil, Consumes-trans, Consumes-kept, C
 use Rattle.x86_cli.specs.declared.commands.command.Command.{Command}
 use Rattle.x86_cli.specs.declared.listings.status.Status.{Status}
 use Rattle.x86_cli.specs.declared.listings.status.Status.TheVariants.{Done, Usage, Refused, ReadFault, WriteFault}
-use Rattle.x86_cli.specs.declared.text.reader.Ending.TheVariants.{Fault}
+use Rattle.x86_streams.specs.declared.text.reader.Ending.TheVariants.{Fault}
 use Rattle.x86_cli.specs.DecoderLaws.{DecoderLaws}
-use Rattle.x86_cli.specs.Outside.Stop.{Stop, End, Failed}
-use Rattle.x86_cli.specs.Outside.Reads.{ReaderCalls, ReadWhileOpen}
-use Rattle.x86_cli.specs.Outside.Writes.{Call, Write, sent, sent_by, Does, WriterCalls}
-use Rattle.x86_cli.specs.Text.{Text, text_of}
+use Rattle.x86_streams.specs.Outside.Stop.{Stop, End, Failed}
+use Rattle.x86_streams.specs.Outside.Reads.{ReaderCalls, ReadWhileOpen}
+use Rattle.x86_streams.specs.Outside.Writes.{Call, Write, sent, sent_by, Does, WriterCalls}
+use Rattle.x86_streams.specs.Text.{Text, text_of}
 use Rattle.x86_cli.specs.Commands.Command.{max_of}
 use Rattle.x86_cli.specs.Commands.Make.{made_listing}
 use Rattle.x86_cli.specs.Commands.Says.{full_listing, taken_listing}

@@ -3,28 +3,29 @@ use Rattle.std.proofs.Common.{◌≡◌, ◌≢◌, ℕ, List, [], ◌++◌, tak
 use Rattle.std.specs.Prelude.{OnOk, ⊤}
 use Rattle.std.specs.List.{concat}
 use Rattle.std.specs.declared.io.Error.{Error}
-use Rattle.x86_cli.specs.declared.outside.gathered.Gathered.{Gathered}
-use Rattle.x86_cli.specs.declared.outside.source.Got.{Got}
-use Rattle.x86_cli.specs.declared.outside.sink.SinkFailed.{SinkFailed}
-use Rattle.x86_cli.specs.declared.outside.std_sink.StdSink.{StdSink}
-use Rattle.x86_cli.specs.declared.outside.std_source.StdSource.{StdSource}
+use Rattle.x86_streams.specs.declared.outside.gathered.Gathered.{Gathered}
+use Rattle.x86_streams.specs.declared.outside.source.Got.{Got}
+use Rattle.x86_streams.specs.declared.outside.sink.SinkFailed.{SinkFailed}
+use Rattle.x86_streams.specs.declared.outside.std_sink.StdSink.{StdSink}
+use Rattle.x86_streams.specs.declared.outside.std_source.StdSource.{StdSource}
 use Rattle.x86_cli.specs.declared.commands.command.Command.{Command}
 use Rattle.x86_cli.specs.declared.listings.status.Status.{Status}
 use Rattle.x86_cli.specs.declared.listings.status.Status.TheVariants.{Done, Usage, Refused, ReadFault, WriteFault}
-use Rattle.x86_cli.specs.Outside.Seen.{sink_writer, buffer_writer, buffer_bytes, source_reader, source_bytes}
-use Rattle.x86_cli.specs.Outside.Stop.{Stop, Failed}
-use Rattle.x86_cli.specs.Outside.Writes.{Call, Cause, EndsInFlush, Forwards}
-use Rattle.x86_cli.specs.Text.{text_of}
+use Rattle.x86_streams.specs.Outside.Seen.{sink_writer, buffer_writer, buffer_bytes, source_reader, source_bytes}
+use Rattle.x86_streams.specs.Outside.Sink.{SinkCalls}
+use Rattle.x86_streams.specs.Outside.Stop.{Stop, Failed}
+use Rattle.x86_streams.specs.Outside.Writes.{Call, Cause, EndsInFlush, Forwards}
+use Rattle.x86_streams.specs.Text.{text_of}
 use Rattle.x86_cli.specs.Listings.Listing.{Listing}
 use Rattle.x86_cli.specs.Commands.Command.{listing_for, max_of}
 use Rattle.x86_cli.specs.Commands.Make.{made_listing}
-use Rattle.x86_cli.specs.Commands.Run.{SinkCalls, Lists, Wrote, Ran}
+use Rattle.x86_cli.specs.Commands.Run.{Lists, Wrote, Ran}
 use Rattle.x86_cli.specs.Commands.Program.{ending_of, fault_of, EndsAt, IsPrinted, Finishes, Performs, PerformsMake}
 use Rattle.x86_cli.proofs.CommandLemmas.Causes.{some_stop, causes, command_status, lists_status, ran_used}
 use Rattle.x86_cli.proofs.CommandLemmas.Says.{written_part, end_stop, fault_status, called_failed}
-use Rattle.x86_cli.proofs.OutsideLemmas.Flat.{BufferFlushes, SinkTakes, lines_send, failed_line_sends}
-use Rattle.x86_cli.proofs.OutsideLemmas.Reads.{SourceGives, fetched}
-use Rattle.x86_cli.proofs.OutsideLemmas.Writes.{err_cause, forwards_join}
+use Rattle.x86_streams.proofs.OutsideLemmas.Flat.{BufferFlushes, SinkTakes, lines_send, failed_line_sends}
+use Rattle.x86_streams.proofs.OutsideLemmas.Reads.{SourceGives, fetched}
+use Rattle.x86_streams.proofs.OutsideLemmas.Writes.{err_cause, forwards_join}
 
 -- a run that put all its lines, and the flush after it
 all_sent : (status : Status) (r : Result ⊤ SinkFailed) (held : List ℕ) (cs ds : List Call) → OnOk r ((held ≡ []) × EndsInFlush cs) → ending_of status r ≢ WriteFault →

@@ -6,27 +6,27 @@ use Rattle.std.proofs.lemmas.Option.{IfSome_then}
 use Rattle.std.specs.Prelude.{IfSome, Result, ⊤}
 use Rattle.std.specs.List.{concat}
 use Rattle.std.specs.Io.KnownBytes.{Consumes, Appends}
-use Rattle.x86_cli.specs.declared.outside.source.Got.{Got}
-use Rattle.x86_cli.specs.declared.outside.sink.SinkFailed.{SinkFailed}
-use Rattle.x86_cli.specs.declared.text.reader.Ending.TheVariants.{Fault}
-use Rattle.x86_cli.specs.Outside.Stop.{Stop, End, Failed}
+use Rattle.x86_streams.specs.declared.outside.source.Got.{Got}
+use Rattle.x86_streams.specs.declared.outside.sink.SinkFailed.{SinkFailed}
+use Rattle.x86_streams.specs.declared.text.reader.Ending.TheVariants.{Fault}
+use Rattle.x86_streams.specs.Outside.Stop.{Stop, End, Failed}
 use Rattle.x86_cli.specs.declared.commands.command.Command.{Command}
 use Rattle.x86_cli.specs.declared.listings.status.Status.{Status}
 use Rattle.x86_cli.specs.declared.listings.status.Status.TheVariants.{Done, Usage, Refused, ReadFault, WriteFault}
-use Rattle.x86_cli.specs.Text.{Text, text_at, text_of}
+use Rattle.x86_streams.specs.Text.{Text, text_at, text_of}
 use Rattle.x86_cli.specs.Listings.Listing.{Listing}
 use Rattle.x86_cli.specs.Commands.Command.{listing_for, max_of}
-use Rattle.x86_cli.specs.Outside.Source.{ReportsGot}
-use Rattle.x86_cli.specs.Outside.Sink.{ReportsPut}
-use Rattle.x86_cli.specs.Text.Reading.{CalledWhileOpen, MayCome}
+use Rattle.x86_streams.specs.Outside.Source.{ReportsGot}
+use Rattle.x86_streams.specs.Outside.Sink.{ReportsPut}
+use Rattle.x86_streams.specs.Text.Reading.{CalledWhileOpen, MayCome}
 use Rattle.x86_cli.specs.Commands.Run.{Lists, Wrote, Ran}
-use Rattle.x86_cli.specs.Outside.Reported.{ReportsBytes, ReportsPieces}
+use Rattle.x86_streams.specs.Outside.Reported.{ReportsBytes, ReportsPieces}
 use Rattle.x86_cli.specs.Commands.Make.{made_listing}
 use Rattle.x86_cli.specs.DecoderLaws.{DecoderLaws}
 use Rattle.x86_cli.specs.Commands.Says.{Streams, streams_of, full_listing, taken_listing, Writes, WritesPrefix, OfAll, OfTaken, Makes, Says}
 use Rattle.x86_cli.specs.Commands.Follows.{IsSound, IsExact, HasReadFault, Completes}
 use Rattle.x86_cli.proofs.CommandLemmas.Causes.{command_end, some_stop, fault_stop, command_status, command_read, text_done}
-use Rattle.x86_cli.proofs.OutsideLemmas.Reports.{source_calls_report, sink_calls_report}
+use Rattle.x86_streams.proofs.OutsideLemmas.Reports.{source_calls_report, sink_calls_report}
 use Rattle.x86_cli.proofs.CommandLemmas.Stay.{refused_stays}
 
 -- options that are known

@@ -3,14 +3,14 @@ use Rattle.std.proofs.Common.{◌≡◌, ℕ, zero, suc, ◌+◌, ◌*◌, ◌<�
 use Rattle.std.proofs.lemmas.List.{take-append-le}
 use Rattle.x86_decode.specs.declared.instructions.Instruction.{Instruction}
 use Rattle.x86_decode.specs.Answer.{answer_of}
-use Rattle.x86_cli.specs.declared.text.reader.Ending.{Ending}
-use Rattle.x86_cli.specs.declared.text.reader.Ending.TheVariants.{Fault}
-use Rattle.x86_cli.specs.Outside.Stop.{Stop, Failed}
+use Rattle.x86_streams.specs.declared.text.reader.Ending.{Ending}
+use Rattle.x86_streams.specs.declared.text.reader.Ending.TheVariants.{Fault}
+use Rattle.x86_streams.specs.Outside.Stop.{Stop, Failed}
 use Rattle.x86_cli.specs.declared.listings.status.Status.TheVariants as outcome
 use Rattle.x86_cli.specs.declared.commands.command.Command.{Command}
 use Rattle.x86_cli.specs.declared.commands.command.Command.TheVariants.{List as Listed, Fields as Fielded, Tighten as Tightened}
 use Rattle.x86_cli.specs.Commands.Command.{listing_for}
-use Rattle.x86_cli.specs.Text.{Text, is_blank, value_of, paired, image_of, text_at, text_of}
+use Rattle.x86_streams.specs.Text.{Text, is_blank, value_of, paired, image_of, text_at, text_of}
 use Rattle.x86_cli.specs.Listings.Listing.{Listing, decoded_of, listed, listing_from, listing_of}
 use Rattle.x86_cli.specs.DecoderLaws.{DecoderLaws}
 use Rattle.x86_cli.proofs.TextLemmas.Decoded.{decoded-stays, closed_rest}

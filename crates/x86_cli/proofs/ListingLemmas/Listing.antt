@@ -2,7 +2,7 @@
 use Rattle.std.proofs.Common.{Bool, ◌≡◌, ℕ, suc, zero, ◌+◌, ◌-◌, ◌<◌, ◌≤◌, List, [], ◌∷◌, length, take, drop, refl, arith}
 use Rattle.x86_decode.specs.declared.instructions.Instruction.{Instruction}
 use Rattle.x86_fields.specs.declared.errors.DecodeError.{DecodeError}
-use Rattle.x86_cli.specs.declared.text.reader.Ending.{Ending}
+use Rattle.x86_streams.specs.declared.text.reader.Ending.{Ending}
 use Rattle.x86_cli.specs.declared.text.window.Decoded.TheVariants.{Whole, Refused, Ended}
 use Rattle.x86_cli.specs.declared.listings.status.Status.TheVariants as status
 use Rattle.x86_text.specs.Lines.{refusal_of}

@@ -3,16 +3,17 @@ use Rattle.std.proofs.Common.{◌≡◌, Bool, ℕ, ◌+◌, ◌<◌, ◌≤◌,
 use Rattle.std.proofs.lemmas.List.{drop-append-le, take-append-le}
 use Rattle.x86_decode.specs.declared.instructions.Instruction.{Instruction}
 use Rattle.x86_fields.specs.declared.errors.DecodeError.{DecodeError}
-use Rattle.x86_cli.specs.declared.text.reader.Ending.{Ending}
-use Rattle.x86_cli.specs.Outside.Stop.{Stop}
-use Rattle.x86_cli.specs.Text.{Text, text_at}
+use Rattle.x86_streams.specs.declared.text.reader.Ending.{Ending}
+use Rattle.x86_streams.specs.Outside.Stop.{Stop}
+use Rattle.x86_streams.specs.Text.{Text, text_at}
 use Rattle.x86_cli.specs.declared.text.window.Decoded.{Decoded}
 use Rattle.x86_cli.specs.declared.text.window.Decoded.TheVariants.{Whole, Refused, Ended}
 use Rattle.x86_cli.specs.declared.listings.listing.Entry.TheVariants as entry
 use Rattle.x86_cli.specs.Listings.Line.{line}
 use Rattle.x86_cli.specs.Listings.Listing.{Listing, with_lines, decoded_of, listing_at}
 use Rattle.x86_cli.specs.Listings.Entry.{IsEntry}
-use Rattle.x86_cli.specs.Text.Window.{with_bytes, rest_of}
+use Rattle.x86_streams.specs.Text.Reading.{with_bytes}
+use Rattle.x86_cli.specs.Text.Window.{rest_of}
 use Rattle.x86_cli.proofs.ListingLemmas.Listing.{listing-whole, listing-refused, listing-ended}
 
 module _ (strict : Bool) (text : ℕ → Instruction → List ℕ → List ℕ) where

@@ -1,20 +1,20 @@
 -- The state of a run of any listing between two lines.
 use Rattle.std.proofs.Common.{◌≡◌, ℕ, ◌+◌, List, [], ◌∷◌, ◌++◌, length, Option, Some, None, Result, Err, refl, arith, ap, ◌∙◌, sym, subst, append_assoc, append-nil, length-append}
 use Rattle.std.specs.Prelude.{MatchOption, ⊤}
-use Rattle.x86_cli.specs.declared.outside.source.Got.{Got}
-use Rattle.x86_cli.specs.declared.outside.sink.SinkFailed.{SinkFailed}
-use Rattle.x86_cli.specs.declared.text.reader.Ending.{Ending}
-use Rattle.x86_cli.specs.Outside.Stop.{Stop, Failed}
+use Rattle.x86_streams.specs.declared.outside.source.Got.{Got}
+use Rattle.x86_streams.specs.declared.outside.sink.SinkFailed.{SinkFailed}
+use Rattle.x86_streams.specs.declared.text.reader.Ending.{Ending}
+use Rattle.x86_streams.specs.Outside.Stop.{Stop, Failed}
 use Rattle.x86_cli.specs.declared.listings.status.Status.{Status}
 use Rattle.x86_cli.specs.declared.listings.status.Status.TheVariants as outcome
 use Rattle.x86_cli.specs.declared.text.window.Window.{Window}
-use Rattle.x86_cli.specs.Text.{Text, text_of}
-use Rattle.x86_cli.specs.Text.Reading.{IsOpenText, NeedsMore, CalledWhere, SourceCalls, MayCome}
+use Rattle.x86_streams.specs.Text.{Text, text_of}
+use Rattle.x86_streams.specs.Text.Reading.{IsOpenText, NeedsMore, CalledWhere, SourceCalls, MayCome, with_bytes}
 use Rattle.x86_cli.specs.Listings.Listing.{Listing, with_lines}
-use Rattle.x86_cli.specs.Text.Window.{with_bytes, rest_of, Open, Fills}
-use Rattle.x86_cli.specs.Commands.Run.{SinkCalls, Wrote, Lists, Ran}
-use Rattle.x86_cli.proofs.TextLemmas.Read.{source_calls-source_calls, called-called, called-where}
-use Rattle.x86_cli.proofs.TextLemmas.Fill.{more_after}
+use Rattle.x86_cli.specs.Text.Window.{rest_of, Open, Fills}
+use Rattle.x86_streams.specs.Outside.Sink.{SinkCalls}
+use Rattle.x86_cli.specs.Commands.Run.{Wrote, Lists, Ran}
+use Rattle.x86_streams.proofs.TextLemmas.Read.{source_calls-source_calls, called-called, called-where, more_after}
 
 pub with-with : (a b : List (List ℕ)) (l : Listing) → with_lines a (with_lines b l) ≡ with_lines (a ++ b) l
 with-with a b l = ap (λ ls. record { lines = ls; status = l.status }) (sym (append_assoc a b l.lines))

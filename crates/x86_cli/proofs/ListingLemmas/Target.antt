@@ -2,8 +2,8 @@
 use Rattle.std.proofs.Common.{Bool, ◌≡◌, ℕ, suc, ◌+◌, ◌-◌, ◌<◌, List, [], ◌∷◌, ◌++◌, map, length, refl, arith, ap, ◌∙◌, sym, if◌then◌else◌}
 use Rattle.std.specs.List.{filter, range_with_len}
 use Rattle.x86_layout.specs.Sweeps.Marks.{is_marked}
-use Rattle.x86_cli.specs.declared.text.reader.Ending.{Ending}
-use Rattle.x86_cli.specs.Text.{Text}
+use Rattle.x86_streams.specs.declared.text.reader.Ending.{Ending}
+use Rattle.x86_streams.specs.Text.{Text}
 use Rattle.x86_cli.specs.Listings.Listing.{with_lines, at_end}
 use Rattle.x86_cli.specs.Listings.Targets.{marked_from, place_line, lines_if, targets_at}
 use Rattle.x86_cli.proofs.ListingLemmas.Progress.{with-with}

@@ -1,17 +1,14 @@
 -- What the window and the reader together have left.
-use Rattle.std.proofs.Common.{◌≡◌, ℕ, ◌+◌, ◌≤◌, List, [], ◌∷◌, ◌++◌, length, refl, arith, Option, Some, None, ap, ◌∙◌, sym, subst, append_assoc, append-nil, length-append}
-use Rattle.x86_cli.specs.declared.outside.source.Got.{Got}
-use Rattle.x86_cli.specs.declared.text.reader.Ending.{Ending}
-use Rattle.x86_cli.specs.Outside.Stop.{Stop, Failed}
-use Rattle.x86_cli.specs.declared.text.reader.Piece.TheVariants.{Byte, Stopped}
-use Rattle.x86_cli.specs.Text.{Text, text_at}
-use Rattle.x86_cli.specs.Text.Reading.{IsOpenText, NeedsMore, CalledWhere, SourceCalls, MayCome, Reads}
-use Rattle.x86_cli.specs.Text.Window.{with_bytes, rest_of, Fills}
-use Rattle.x86_cli.proofs.TextLemmas.Read.{source_calls-source_calls, called-called, called-where, called-same}
-
--- a text that begins with fewer than k bytes needs more of these
-pub more_after : (k n : ℕ) (w : List ℕ) (t : Text) → length w + n ≤ k → NeedsMore n t → NeedsMore k (with_bytes w t)
-more_after k n w t fits needs = (needs.0, simp length-append (omega (arith, needs.1)))
+use Rattle.std.proofs.Common.{◌≡◌, ℕ, ◌+◌, ◌≤◌, List, [], ◌∷◌, ◌++◌, length, refl, arith, Option, Some, None, ap, ◌∙◌, sym, subst, append_assoc, append-nil}
+use Rattle.x86_streams.specs.declared.outside.source.Got.{Got}
+use Rattle.x86_streams.specs.declared.text.reader.Ending.{Ending}
+use Rattle.x86_streams.specs.Outside.Stop.{Stop, Failed}
+use Rattle.x86_streams.specs.declared.text.reader.Piece.TheVariants.{Byte, Stopped}
+use Rattle.x86_streams.specs.Text.{Text, text_at}
+use Rattle.x86_streams.specs.Text.Reading.{IsOpenText, NeedsMore, CalledWhere, SourceCalls, MayCome, Reads, with_bytes}
+use Rattle.x86_streams.specs.Text.ImageAhead.{Begins}
+use Rattle.x86_cli.specs.Text.Window.{rest_of, Fills}
+use Rattle.x86_streams.proofs.TextLemmas.Read.{source_calls-source_calls, called-called, called-where, called-same, more_after}
 
 module _ {S : Type 0} (gives : S → Got → S → Type 0) (Holds : Text → Type 0) where
   -- so far, with the text not ended
@@ -103,3 +100,18 @@ module _ {S : Type 0} (gives : S → Got → S → Type 0) (old : List ℕ → S
     continues = tt;
     rest = λ xs s may. rw is at (window_rest xs s may);
   }
+
+module _ {S : Type 0} (gives : S → Got → S → Type 0) where
+  -- The bytes that a text begins with were taken into the window.
+  pub fills_begins : (most k : ℕ) (bs vs w : List ℕ) (p r p' r' : ℕ) (a b : S) → Begins most bs vs → length w + most ≤ k →
+      p' ≡ p + length bs → r ≡ length bs + r' → SourceCalls gives bs None a b →
+      Fills gives (NeedsMore k) (rest_of None w p r) None (w ++ vs) p' r' a b
+  fills_begins most k bs vs w p r p' r' a b begins fits position room source_calls = rw (position, room) (record {
+    bytes = bs;
+    stop = None;
+    source_calls = source_calls;
+    called = called-where (NeedsMore most) (NeedsMore k) (text_at p (length bs + r')) (rest_of None w p (length bs + r')) bs None
+        (λ xs h. more_after k most w (text_at p (length bs + r') xs Failed) fits h) (begins.called p r');
+    continues = refl;
+    rest = λ xs s may. simp (begins.rest p r' xs s, append_assoc);
+  })

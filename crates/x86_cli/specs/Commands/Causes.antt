@@ -1,8 +1,8 @@
 -- A read fault comes only after a call that failed, and a write fault only after a put that failed.
 use Rattle.std.specs.Prelude.{◌≡◌, ◌≢◌, ℕ, List, Some, None, Result, ⊤}
-use Rattle.x86_cli.specs.declared.outside.source.Got.{Got}
-use Rattle.x86_cli.specs.declared.outside.sink.SinkFailed.{SinkFailed}
-use Rattle.x86_cli.specs.Outside.Stop.{Failed}
+use Rattle.x86_streams.specs.declared.outside.source.Got.{Got}
+use Rattle.x86_streams.specs.declared.outside.sink.SinkFailed.{SinkFailed}
+use Rattle.x86_streams.specs.Outside.Stop.{Failed}
 use Rattle.x86_cli.specs.declared.listings.status.Status.TheVariants.{ReadFault, WriteFault}
 use Rattle.x86_cli.specs.declared.commands.command.Command.{Command}
 use Rattle.x86_cli.specs.Commands.Command.{listing_for}

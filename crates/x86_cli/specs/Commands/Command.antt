@@ -4,10 +4,10 @@ use Rattle.std.specs.declared.alloc.Global.{Global}
 use Rattle.x86_decode.specs.Instruction.{length_of}
 use Rattle.x86_cli.specs.declared.commands.command.Command.{Command}
 use Rattle.x86_cli.specs.declared.commands.command.Command.TheVariants.{List as Listed, Sweep as Swept, Targets as Targeted, Fields as Fielded, Tighten as Tightened}
-use Rattle.x86_cli.specs.declared.outside.source.Got.{Got}
-use Rattle.x86_cli.specs.declared.outside.sink.SinkFailed.{SinkFailed}
+use Rattle.x86_streams.specs.declared.outside.source.Got.{Got}
+use Rattle.x86_streams.specs.declared.outside.sink.SinkFailed.{SinkFailed}
 use Rattle.x86_cli.specs.declared.listings.status.Status.{Status}
-use Rattle.x86_cli.specs.Text.{Text, text_of}
+use Rattle.x86_streams.specs.Text.{Text, text_of}
 use Rattle.x86_cli.specs.Commands.Run.{Ran, Ahead}
 use Rattle.x86_layout.specs.Parts.OfBytes.{parts_of}
 use Rattle.x86_layout.specs.Tightening.Least.{shortest_length}

@@ -3,12 +3,12 @@ use Rattle.std.specs.Prelude.{◌≡◌, ◌↔◌, ℕ, List, IfSome}
 use Rattle.std.specs.List.{concat}
 use Rattle.std.specs.Io.KnownBytes.{Consumes, Appends}
 use Rattle.x86_cli.specs.declared.commands.command.Command.{Command}
-use Rattle.x86_cli.specs.declared.text.reader.Ending.TheVariants.{Clean}
-use Rattle.x86_cli.specs.Outside.Stop.{End}
+use Rattle.x86_streams.specs.declared.text.reader.Ending.TheVariants.{Clean}
+use Rattle.x86_streams.specs.Outside.Stop.{End}
 use Rattle.x86_cli.specs.declared.listings.status.Status.{Status}
 use Rattle.x86_cli.specs.declared.listings.status.Status.TheVariants.{Done, ReadFault}
-use Rattle.x86_cli.specs.Outside.FaultCounts.{Rose}
-use Rattle.x86_cli.specs.Text.{text_of}
+use Rattle.x86_streams.specs.Outside.FaultCounts.{Rose}
+use Rattle.x86_streams.specs.Text.{text_of}
 use Rattle.x86_cli.specs.Commands.Command.{max_of}
 use Rattle.x86_cli.specs.Commands.Complete.{GoesThrough}
 use Rattle.x86_cli.specs.Commands.Says.{Streams, full_listing, taken_listing}

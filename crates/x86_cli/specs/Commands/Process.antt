@@ -1,9 +1,9 @@
 -- What the process writes beside its listing.
 use Rattle.std.specs.Prelude.{ℕ, List, Result, ⊤, codes}
 use Rattle.std.specs.declared.io.Error.{Error}
-use Rattle.x86_cli.specs.declared.outside.sink.SinkFailed.{SinkFailed}
+use Rattle.x86_streams.specs.declared.outside.sink.SinkFailed.{SinkFailed}
 use Rattle.x86_cli.specs.Listings.Line.{line}
-use Rattle.x86_cli.specs.Outside.Writes.{PutSends}
+use Rattle.x86_streams.specs.Outside.Writes.{PutSends}
 
 abbrev pub usage_line : List ℕ
 usage_line = line (codes "usage: list [--strict] | make N | fields | tighten | sweep | targets")

@@ -7,11 +7,11 @@ use Rattle.std.specs.declared.io.Error.{Error}
 use Rattle.x86_cli.specs.declared.commands.command.Command.{Command}
 use Rattle.x86_cli.specs.declared.listings.status.Status.{Status}
 use Rattle.x86_cli.specs.declared.listings.status.Status.TheVariants.{Done, Usage, Refused, BadText, ReadFault, WriteFault, TooLarge}
-use Rattle.x86_cli.specs.Outside.Stop.{Stop, End, Failed}
-use Rattle.x86_cli.specs.Outside.Reads.{ReaderCalls, ReadWhileOpen}
-use Rattle.x86_cli.specs.Outside.Writes.{Caused, EndsInFlush}
-use Rattle.x86_cli.specs.Text.{text_of}
-use Rattle.x86_cli.specs.Text.Reading.{MayCome}
+use Rattle.x86_streams.specs.Outside.Stop.{Stop, End, Failed}
+use Rattle.x86_streams.specs.Outside.Reads.{ReaderCalls, ReadWhileOpen}
+use Rattle.x86_streams.specs.Outside.Writes.{Caused, EndsInFlush}
+use Rattle.x86_streams.specs.Text.{text_of}
+use Rattle.x86_streams.specs.Text.Reading.{MayCome}
 use Rattle.x86_cli.specs.Listings.Listing.{Listing}
 use Rattle.x86_cli.specs.Commands.Command.{listing_for, max_of}
 use Rattle.x86_cli.specs.Commands.Make.{made_listing}

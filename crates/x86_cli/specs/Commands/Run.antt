@@ -1,34 +1,27 @@
 -- A run by its calls.
-use Rattle.std.specs.Prelude.{◌≡◌, ◌≤◌, ◌+◌, ℕ, List, [], ◌∷◌, ◌++◌, length, Option, Some, None, Result, Ok, Err, ⊤}
-use Rattle.x86_cli.specs.declared.outside.source.Got.{Got}
-use Rattle.x86_cli.specs.declared.outside.sink.SinkFailed.{SinkFailed}
-use Rattle.x86_cli.specs.Outside.Stop.{Stop, Failed}
+use Rattle.std.specs.Prelude.{◌≡◌, ◌≤◌, ◌+◌, ℕ, List, ◌∷◌, ◌++◌, length, Option, Some, None, Result, ⊤}
+use Rattle.x86_streams.specs.declared.outside.source.Got.{Got}
+use Rattle.x86_streams.specs.declared.outside.sink.SinkFailed.{SinkFailed}
+use Rattle.x86_streams.specs.Outside.Sink.{SinkCalls}
+use Rattle.x86_streams.specs.Outside.Stop.{Stop, Failed}
 use Rattle.x86_cli.specs.declared.listings.status.Status.{Status}
 use Rattle.x86_cli.specs.declared.listings.status.Status.TheVariants.{WriteFault}
-use Rattle.x86_cli.specs.Text.{Text, text_of}
-use Rattle.x86_cli.specs.Text.Reading.{SourceCalls, CalledWhileOpen, CalledWhere, NeedsMore, MayCome}
+use Rattle.x86_streams.specs.Text.{Text, text_of}
+use Rattle.x86_streams.specs.Text.Reading.{SourceCalls, CalledWhileOpen, CalledWhere, NeedsMore, MayCome, with_bytes}
 use Rattle.x86_cli.specs.Listings.Listing.{Listing, with_lines}
-use Rattle.x86_cli.specs.Text.Window.{with_bytes}
 
 -- The run wrote these lines of the listing and ended so: all of them, or those before the one at which the sink failed.
 abbrev pub Lists : Status → List (List ℕ) → Option (List ℕ) → Listing → Type 0
 Lists status lines None l = l ≡ record { lines = lines; status = status }
 Lists status lines (Some failed) l = (status ≡ WriteFault) × ((more : List (List ℕ)) × (l.lines ≡ lines ++ failed ∷ more))
 
--- takes k piece answer l: a put of the piece at k may answer so, and leave l
-module _ {K : Type 0} (takes : K → List ℕ → Result ⊤ SinkFailed → K → Type 0) where
-  -- The sink took these pieces, one a put, and then, where there is one, failed at a piece. Nothing was put after it.
-  abbrev pub SinkCalls : List (List ℕ) → Option (List ℕ) → K → K → Type 0
-  SinkCalls [] None k l = l ≡ k
-  SinkCalls [] (Some failed) k l = (e : SinkFailed) × takes k failed (Err e) l
-  SinkCalls (piece ∷ pieces) failed k l = (m : K) × takes k piece (Ok tt) m × SinkCalls pieces failed m l
-
-  -- what a run that reads nothing writes, and what ends a listing
-  pub record Wrote (listing : Listing) (status : Status) (old new : K) : Type 0 where
-    pub lines : List (List ℕ)
-    pub failed : Option (List ℕ)
-    pub sink_calls : SinkCalls lines failed old new
-    pub lists : Lists status lines failed listing
+-- What a run that reads nothing writes, and what ends a listing. takes k piece answer l: a put of the piece at k may
+-- answer so, and leave l.
+pub record Wrote {K : Type 0} (takes : K → List ℕ → Result ⊤ SinkFailed → K → Type 0) (listing : Listing) (status : Status) (old new : K) : Type 0 where
+  pub lines : List (List ℕ)
+  pub failed : Option (List ℕ)
+  pub sink_calls : SinkCalls takes lines failed old new
+  pub lists : Lists status lines failed listing
 
 -- A run: the calls of the source and of the sink, and of every text that begins with what the source returned, the
 -- listing.

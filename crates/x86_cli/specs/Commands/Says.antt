@@ -3,11 +3,11 @@ use Rattle.std.specs.Prelude.{◌≡◌, ◌⊎◌, ℕ, List, [], ◌++◌, Opt
 use Rattle.std.specs.List.{concat}
 use Rattle.std.specs.Io.KnownBytes.{Consumes, Appends}
 use Rattle.x86_cli.specs.declared.commands.command.Command.{Command}
-use Rattle.x86_cli.specs.Outside.Stop.{End, Failed}
+use Rattle.x86_streams.specs.Outside.Stop.{End, Failed}
 use Rattle.x86_cli.specs.declared.listings.status.Status.{Status}
 use Rattle.x86_cli.specs.declared.listings.status.Status.TheVariants.{Done, Usage, Refused, BadText, ReadFault, WriteFault, TooLarge}
-use Rattle.x86_cli.specs.Outside.FaultCounts.{Rose}
-use Rattle.x86_cli.specs.Text.{text_of}
+use Rattle.x86_streams.specs.Outside.FaultCounts.{Rose}
+use Rattle.x86_streams.specs.Text.{text_of}
 use Rattle.x86_cli.specs.Listings.Listing.{Listing}
 use Rattle.x86_cli.specs.Commands.Command.{listing_for, max_of}
 use Rattle.x86_cli.specs.Commands.Make.{made_listing}

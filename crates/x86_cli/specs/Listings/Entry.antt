@@ -1,10 +1,10 @@
 -- The next entry of a listing.
 use Rattle.std.specs.Prelude.{◌≡◌, ℕ, ◌+◌, ◌<◌, ◌≤◌, List, [], ◌∷◌, length, drop, Option}
-use Rattle.x86_cli.specs.declared.text.reader.Ending.{Ending}
+use Rattle.x86_streams.specs.declared.text.reader.Ending.{Ending}
 use Rattle.x86_cli.specs.declared.listings.listing.Entry.{Entry}
 use Rattle.x86_cli.specs.declared.listings.listing.Entry.TheVariants.{Line, Refused, Ended}
-use Rattle.x86_cli.specs.Outside.Stop.{Stop}
-use Rattle.x86_cli.specs.Text.{Text}
+use Rattle.x86_streams.specs.Outside.Stop.{Stop}
+use Rattle.x86_streams.specs.Text.{Text}
 use Rattle.x86_cli.specs.Text.Window.{rest_of}
 use Rattle.x86_cli.specs.Listings.Line.{line}
 use Rattle.x86_cli.specs.Listings.Listing.{Listing, with_lines, at_end, at_refusal}

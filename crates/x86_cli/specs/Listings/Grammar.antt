@@ -6,8 +6,8 @@ use Rattle.x86_fields.specs.declared.errors.DecodeError.TheVariants.{ExhaustedIn
 use Rattle.x86_decode.specs.declared.instructions.Instruction.{Instruction}
 use Rattle.x86_decode.specs.Grammar.{IsSentence, IsAnswer}
 use Rattle.x86_decode.specs.Head.{Rows}
-use Rattle.x86_cli.specs.declared.text.reader.Ending.{Ending}
-use Rattle.x86_cli.specs.declared.text.reader.Ending.TheVariants.{Clean}
+use Rattle.x86_streams.specs.declared.text.reader.Ending.{Ending}
+use Rattle.x86_streams.specs.declared.text.reader.Ending.TheVariants.{Clean}
 use Rattle.x86_cli.specs.Listings.Line.{line}
 use Rattle.x86_cli.specs.Listings.Listing.{Listing, with_lines, at_end, at_refusal}
 

@@ -5,9 +5,9 @@ use Rattle.x86_fields.specs.declared.errors.DecodeError.{DecodeError}
 use Rattle.x86_fields.specs.declared.errors.DecodeError.TheVariants.{ExhaustedInput}
 use Rattle.x86_decode.specs.Instruction.{length_of}
 use Rattle.x86_decode.specs.Answer.{answer_of}
-use Rattle.x86_cli.specs.declared.text.reader.Ending.{Ending}
-use Rattle.x86_cli.specs.declared.text.reader.Ending.TheVariants.{Clean, Bad, Large, Fault}
-use Rattle.x86_cli.specs.Text.{Text}
+use Rattle.x86_streams.specs.declared.text.reader.Ending.{Ending}
+use Rattle.x86_streams.specs.declared.text.reader.Ending.TheVariants.{Clean, Bad, Large, Fault}
+use Rattle.x86_streams.specs.Text.{Text}
 use Rattle.x86_text.specs.Lines.{refusal_of}
 use Rattle.x86_cli.specs.Listings.Line.{line, bad_text}
 use Rattle.x86_cli.specs.declared.listings.status.Status.{Status}

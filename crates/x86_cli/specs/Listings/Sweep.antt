@@ -4,7 +4,7 @@ use Rattle.x86_decode.specs.declared.instructions.Instruction.{Instruction}
 use Rattle.x86_fields.specs.declared.errors.DecodeError.{DecodeError}
 use Rattle.x86_layout.specs.declared.sweeps.cuts.Cut.{Cut}
 use Rattle.x86_layout.specs.Sweeps.Cuts.{cuts_from}
-use Rattle.x86_cli.specs.Text.{Text}
+use Rattle.x86_streams.specs.Text.{Text}
 use Rattle.x86_text.specs.Lines.{line_of, refusal_of}
 use Rattle.x86_cli.specs.Listings.Line.{line}
 use Rattle.x86_cli.specs.Listings.Listing.{Listing, with_lines, at_end}

@@ -2,7 +2,7 @@
 use Rattle.std.specs.Prelude.{Bool, ℕ, ◌-◌, List, [], ◌∷◌, length, map, decimal, if◌then◌else◌}
 use Rattle.std.specs.List.{filter, range_with_len}
 use Rattle.x86_layout.specs.Sweeps.Marks.{is_marked}
-use Rattle.x86_cli.specs.Text.{Text}
+use Rattle.x86_streams.specs.Text.{Text}
 use Rattle.x86_cli.specs.Listings.Line.{line}
 use Rattle.x86_cli.specs.Listings.Listing.{Listing, with_lines, at_end}
 

@@ -1,21 +1,17 @@
 -- What a window has taken, and what it shows.
 use Rattle.std.specs.Prelude.{Bool, ◌≡◌, ◌≢◌, ℕ, ◌+◌, ◌<◌, ◌≤◌, List, ◌++◌, length, Option, Some, None, ⊤}
-use Rattle.x86_cli.specs.declared.outside.source.Got.{Got}
-use Rattle.x86_cli.specs.Text.Reading.{SourceCalls, CalledWhere, NeedsMore, MayCome}
+use Rattle.x86_streams.specs.declared.outside.source.Got.{Got}
+use Rattle.x86_streams.specs.Text.Reading.{SourceCalls, CalledWhere, MayCome, with_bytes}
 use Rattle.x86_decode.specs.declared.instructions.Instruction.{Instruction}
 use Rattle.x86_fields.specs.declared.errors.DecodeError.TheVariants.{ExhaustedInput}
 use Rattle.x86_decode.specs.Instruction.{length_of}
-use Rattle.x86_cli.specs.declared.text.reader.Ending.{Ending}
-use Rattle.x86_cli.specs.declared.text.reader.Ending.TheVariants.{Clean}
-use Rattle.x86_cli.specs.Outside.Stop.{Stop}
-use Rattle.x86_cli.specs.Text.{Text, text_at}
+use Rattle.x86_streams.specs.declared.text.reader.Ending.{Ending}
+use Rattle.x86_streams.specs.declared.text.reader.Ending.TheVariants.{Clean}
+use Rattle.x86_streams.specs.Outside.Stop.{Stop}
+use Rattle.x86_streams.specs.Text.{Text, text_at}
 use Rattle.x86_cli.specs.declared.text.window.Decoded.{Decoded}
 use Rattle.x86_cli.specs.declared.text.window.Decoded.TheVariants.{Whole, Refused, Ended}
 use Rattle.x86_cli.specs.Listings.Listing.{decoded_of}
-
--- a text with bytes before its image
-abbrev pub with_bytes : List ℕ → Text → Text
-with_bytes bytes t = record { image = bytes ++ t.image; ending = t.ending }
 
 -- The text that is left, where these bytes come and then stop: the window's, and what the reader makes of them.
 abbrev pub rest_of : Option Ending → List ℕ → ℕ → ℕ → List ℕ → Stop → Text
@@ -37,13 +33,6 @@ pub record Fills {S : Type 0} (gives : S → Got → S → Type 0) (Holds : Text
   pub called : CalledWhere Holds old bytes stop
   pub continues : Open ended stop
   pub rest : (xs : List ℕ) (s : Stop) → MayCome stop xs s → old (bytes ++ xs) s ≡ rest_of ended window position room xs s
-
--- What these bytes say of every text that begins with them: its image begins with the values, and the rest is the
--- text of what follows. Each was taken where the image so far had fewer values than these.
-pub record Begins (most : ℕ) (bytes values : List ℕ) : Type 0 where
-  pub called : (position room : ℕ) → CalledWhere (NeedsMore most) (text_at position (length bytes + room)) bytes None
-  pub rest : (position room : ℕ) (xs : List ℕ) (s : Stop) →
-      text_at position (length bytes + room) (bytes ++ xs) s ≡ with_bytes values (text_at (position + length bytes) room xs s)
 
 -- a result, where Whole holds this instruction
 abbrev pub decoded_with : Instruction → Decoded (Unit {0}) → Decoded Instruction

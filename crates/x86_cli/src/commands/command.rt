@@ -16,9 +16,8 @@ use crate::listings::status::Status;
 use crate::listings::sweep::PastRefusals;
 use crate::listings::targets::targets;
 use crate::listings::tightening::LeastLines;
-use crate::outside::sink::Sink;
-use crate::outside::source::Source;
 use x86_decode::InstDecoder;
+use x86_streams::{Sink, Source};
 
 /// The most bytes of a text.
 pub const TEXT_MAX: u64 = 67_108_864;

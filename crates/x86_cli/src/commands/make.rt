@@ -9,13 +9,13 @@ ghost use Rattle.x86_cli.specs.Commands.Make.{generate, has_long_displacement, i
 
 use crate::listings::listing::put_last;
 use crate::listings::status::Status;
-use crate::outside::sink::Sink;
 use arrayvec::ArrayVec;
 use itoa::Buffer;
 use x86_decode::{InstDecoder, Instruction};
 use x86_fields::{DecodeError, MEMORY_FORMS, ModRM, Sib};
 use x86_operands::Operand;
 use x86_regs::RegisterClass;
+use x86_streams::Sink;
 use x86_text::{LINE_MAX, Line};
 
 /// The most encodings that `make` makes.

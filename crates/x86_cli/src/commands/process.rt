@@ -10,10 +10,9 @@ ghost use Rattle.x86_cli.specs.Commands.Process.{PrintsUsage};
 use crate::commands::command::USAGE;
 use crate::listings::listing::put_line;
 use crate::listings::status::Status;
-use crate::outside::output::Output;
-use crate::outside::std_sink::StdSink;
 use std::alloc::{AllocError, Global};
 use std::process::ExitCode;
+use x86_streams::{Output, StdSink};
 use x86_text::Line;
 
 /// The words of a command: all arguments but the first, which is the program's name. It fails only where memory is

@@ -4,17 +4,12 @@ ghost use Rattle.std.specs.Prelude.{◌≡◌, ◌≢◌, ◌↔◌, ℕ, None, 
 ghost use Rattle.x86_cli.specs.Commands.Command.{IfCommand, command_of};
 ghost use Rattle.x86_cli.specs.Commands.Make.{IsMake, IsNoCommand};
 ghost use Rattle.x86_cli.specs.Commands.Program.{ending_of, Performs, PerformsMake};
-ghost use Rattle.x86_cli.specs.Outside.Writes.{FlushesOut};
-ghost use Rattle.x86_cli.specs.Outside.Seen.{buffer_writer, buffer_bytes};
+ghost use Rattle.x86_streams.specs.Outside.Writes.{FlushesOut};
+ghost use Rattle.x86_streams.specs.Outside.Seen.{buffer_writer, buffer_bytes};
 
 use crate::commands::command::run;
 use crate::listings::status::Status;
-use crate::outside::gathered::Gathered;
-use crate::outside::input::Input;
-use crate::outside::output::Output;
-use crate::outside::sink::SinkFailed;
-use crate::outside::std_sink::StdSink;
-use crate::outside::std_source::StdSource;
+use x86_streams::{Gathered, Input, Output, SinkFailed, StdSink, StdSource};
 
 /// How the program ended, and its reader and its writer, as it leaves them.
 #[derive(Drop)]

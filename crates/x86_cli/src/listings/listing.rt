@@ -5,7 +5,7 @@ ghost use Rattle.x86_decode.specs.Instruction.{length_of};
 ghost use Rattle.std.specs.Prelude.{◌≡◌, ℕ, Bool, ◌<◌, ◌≤◌, ◌^◌, [], ◌∷◌, length, None};
 ghost use Rattle.arrayvec.specs.ArrayVec.{array_vec_len};
 ghost use Rattle.x86_cli.specs.Listings.Line.{line};
-ghost use Rattle.x86_cli.specs.Text.{Text};
+ghost use Rattle.x86_streams.specs.Text.{Text};
 ghost use Rattle.x86_cli.specs.Listings.Listing.{Listing, at_end, at_refusal, listing_at};
 ghost use Rattle.x86_cli.specs.Listings.Entry.{IsEntry};
 ghost use Rattle.x86_cli.specs.Commands.Run.{RanInWindow, Wrote};
@@ -13,12 +13,10 @@ ghost use Rattle.x86_cli.specs.Commands.Run.{RanInWindow, Wrote};
 use crate::laws::decoder_laws;
 use crate::listings::line::{Lines, bad_text};
 use crate::listings::status::Status;
-use crate::outside::sink::{Sink, SinkFailed};
-use crate::outside::source::Source;
-use crate::text::reader::Ending;
 use crate::text::window::{Decoded, Window};
 use x86_decode::{InstDecoder, Instruction};
 use x86_fields::DecodeError;
+use x86_streams::{Ending, Sink, SinkFailed, Source};
 use x86_text::{LINE_MAX, Line, Place, refusal_of};
 
 /// Writes a line with its end.

@@ -2,23 +2,22 @@
 
 ghost use Rattle.x86_decode.specs.Decoder.{is_strict};
 ghost use Rattle.std.specs.Prelude.{◌≡◌, ℕ, ◌+◌, ◌*◌, ◌<◌, ◌≤◌, ◌++◌, length, slice_index_or, true, false, None, Some, Err, OnOk, IfErr};
-ghost use Rattle.x86_cli.specs.Text.{text_of};
+ghost use Rattle.x86_streams.specs.Text.{text_of};
 ghost use Rattle.arrayvec.specs.ArrayVec.{array_vec_len};
 ghost use Rattle.x86_layout.specs.Sweeps.Marks.{is_marked};
-ghost use Rattle.x86_cli.specs.Commands.Run.{Ran, SinkCalls};
+ghost use Rattle.x86_streams.specs.Outside.Sink.{SinkCalls};
+ghost use Rattle.x86_cli.specs.Commands.Run.{Ran};
 ghost use Rattle.x86_cli.specs.Listings.Targets.{place_line, lines_if, targets_at};
-ghost use Rattle.x86_cli.specs.Text.Reading.{IsOpenText};
+ghost use Rattle.x86_streams.specs.Text.Reading.{IsOpenText};
 ghost use Rattle.x86_cli.specs.Text.Window.{Fills};
 
 use crate::listings::listing::{end, put_line};
 use crate::listings::status::Status;
-use crate::outside::sink::{Sink, SinkFailed};
-use crate::outside::source::Source;
-use crate::text::reader::Ending;
 use crate::text::window::Window;
 use arrayvec::ArrayVec;
 use x86_decode::InstDecoder;
 use x86_layout::mark_targets;
+use x86_streams::{Ending, Sink, SinkFailed, Source};
 use x86_text::Line;
 
 /// The most bytes of an image that is held whole.

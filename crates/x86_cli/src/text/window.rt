@@ -1,21 +1,19 @@
 //! The next bytes of an image.
 
 ghost use Rattle.std.specs.Prelude.{◌≡◌, ℕ, ◌+◌, ◌*◌, ◌<◌, ◌≤◌, List, [], length, take, None, Some, MatchOption};
-ghost use Rattle.x86_cli.specs.Outside.Stop.{Stop};
+ghost use Rattle.x86_streams.specs.Outside.Stop.{Stop};
 ghost use Rattle.x86_decode.specs.Decoder.{is_strict};
 ghost use Rattle.x86_decode.specs.declared.instructions.Instruction.{Instruction};
 ghost use Rattle.x86_decode.specs.Instruction.{holding};
 ghost use Rattle.x86_cli.specs.Listings.Listing.{decoded_of, decoded_at_end, decoded_before_end};
-ghost use Rattle.x86_cli.specs.Text.Reading.{NeedsMore};
-ghost use Rattle.x86_cli.specs.Text.ImageAhead.{IsAheadIn, IsEmptyAhead};
+ghost use Rattle.x86_streams.specs.Text.Reading.{NeedsMore};
+ghost use Rattle.x86_streams.specs.Text.ImageAhead.{IsAheadIn, IsEmptyAhead};
 ghost use Rattle.x86_cli.specs.Text.Window.{rest_of, decoded_with, Fills, Shows};
 
 use crate::laws::decoder_laws;
-use crate::outside::source::Source;
-use crate::text::image_bytes::ImageBytes;
-use crate::text::reader::{Ending, Piece, TextReader};
 use x86_decode::{InstDecoder, Instruction};
 use x86_fields::DecodeError;
+use x86_streams::{Ending, ImageBytes, Piece, Source, TextReader};
 
 /// What decoding the next bytes of an image yields. In contracts `I` is the instruction; in code it is `()`, and the
 /// instruction is written beside it.
@@ -76,7 +74,7 @@ impl Window {
     /// Takes bytes of the image until the window is full or the text has ended.
     #[cold]
     #[inline(never)]
-    #[tactic(auto, using(crate::proofs::TextLemmas::ImageAhead::none_ahead))]
+    #[tactic(auto, using(x86_streams::proofs::TextLemmas::ImageAhead::none_ahead))]
     pub fn fill<S: Source>(&mut self, source: &mut S)
         requires ended { self.old.ended ≡ None }
         requires empty { IsEmptyAhead self.old.bytes.ahead }

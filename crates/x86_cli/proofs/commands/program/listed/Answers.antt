@@ -1,7 +1,7 @@
 use Rattle.std.proofs.Common.{◌≡◌, ◌∙◌, [], ap, sym, map, string_bytes}
 use Rattle.std.proofs.lemmas.Option.{IfSome_then}
 use Rattle.x86_cli.specs.Commands.Command.{command_of}
-use Rattle.x86_cli.specs.Outside.Seen.{buffer_writer, buffer_bytes}
+use Rattle.x86_streams.specs.Outside.Seen.{buffer_writer, buffer_bytes}
 use Rattle.x86_cli.proofs.CommandLemmas.Program.{ran_performs, wrote_performs}
 use Rattle.x86_cli.proofs.commands.program.listed.Goals as goal
 

@@ -1,5 +1,5 @@
 use Rattle.std.proofs.Common.{refl, arith, length, ap, length-drop}
-use Rattle.x86_cli.specs.Text.Reading.{NeedsMore}
+use Rattle.x86_streams.specs.Text.Reading.{NeedsMore}
 use Rattle.x86_cli.specs.Listings.Line.{line}
 use Rattle.x86_cli.proofs.ListingLemmas.Progress.{window_needs, progress_new, progress_refill}
 use Rattle.x86_cli.proofs.CommandLemmas.Ahead.{window, progress_line, window_failed, window_closes}

@@ -1,5 +1,5 @@
 use Rattle.std.proofs.Common.{◌≤◌, ◌+◌, length, take}
-use Rattle.x86_cli.specs.Text.ImageAhead.{IsAheadIn}
+use Rattle.x86_streams.specs.Text.ImageAhead.{IsAheadIn}
 use Rattle.x86_cli.proofs.ListingLemmas.Progress.{Progress}
 use Rattle.x86_cli.proofs.CommandLemmas.Ahead.{window}
 use Rattle.x86_cli.proofs.listings.listing.list.Given as goal

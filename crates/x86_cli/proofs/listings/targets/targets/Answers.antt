@@ -1,6 +1,6 @@
 use Rattle.std.proofs.Common.{Bool, None, List, [], refl, ◌≡◌, ℕ, ◌<◌, ap, arith, false, length, ◌+◌, slice_index_or}
 use Rattle.x86_layout.specs.Sweeps.Marks.{is_marked}
-use Rattle.x86_cli.specs.Text.{Text}
+use Rattle.x86_streams.specs.Text.{Text}
 use Rattle.x86_cli.specs.Listings.Targets.{lines_if, place_line, targets_at}
 use Rattle.x86_cli.proofs.ListingLemmas.Progress.{progress_whole, progress_step, ran_failed, ran_closes}
 use Rattle.x86_cli.proofs.ListingLemmas.Target.{targets-step, targets-end}

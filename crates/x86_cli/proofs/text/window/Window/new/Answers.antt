@@ -1,5 +1,5 @@
 use Rattle.std.proofs.Common.{refl}
-use Rattle.x86_cli.proofs.TextLemmas.ImageAhead.{none_ahead}
+use Rattle.x86_streams.proofs.TextLemmas.ImageAhead.{none_ahead}
 use Rattle.x86_cli.proofs.text.window.Window.new.Goals as goal
 
 pub returns-clause-ahead : goal.returns-clause-ahead

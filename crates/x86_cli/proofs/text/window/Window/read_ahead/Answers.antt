@@ -1,4 +1,4 @@
-use Rattle.x86_cli.specs.Text.Reading.{NeedsMore}
+use Rattle.x86_streams.specs.Text.Reading.{NeedsMore}
 use Rattle.x86_cli.proofs.TextLemmas.Fill.{fills_fills}
 use Rattle.x86_cli.proofs.text.window.Window.read_ahead.Goals as goal
 

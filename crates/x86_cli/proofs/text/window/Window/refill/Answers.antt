@@ -1,5 +1,5 @@
 use Rattle.std.proofs.Common.{◌≡◌, None, rules}
-use Rattle.x86_cli.specs.Text.Reading.{NeedsMore}
+use Rattle.x86_streams.specs.Text.Reading.{NeedsMore}
 use Rattle.x86_cli.proofs.TextLemmas.Fill.{fills_fills}
 use Rattle.x86_cli.proofs.text.window.Window.refill.Goals as goal
 

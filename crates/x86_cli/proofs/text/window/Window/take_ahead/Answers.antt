@@ -1,6 +1,6 @@
 use Rattle.std.proofs.Common.{take, arith, refl, length-take-le}
-use Rattle.x86_cli.proofs.TextLemmas.Begins.{fills_begins}
-use Rattle.x86_cli.proofs.TextLemmas.ImageAhead.{takes_bytes, rest_ahead}
+use Rattle.x86_cli.proofs.TextLemmas.Fill.{fills_begins}
+use Rattle.x86_streams.proofs.TextLemmas.ImageAhead.{takes_bytes, rest_ahead}
 use Rattle.x86_cli.proofs.text.window.Window.take_ahead.Goals as goal
 
 pub take-text-requires : goal.take-text-requires

@@ -1,5 +1,0 @@
-use Rattle.x86_cli.proofs.TextLemmas.Pair.{bad_is_first}
-use Rattle.x86_cli.proofs.laws.first.Goals as goal
-
-pub returns : goal.returns
-returns c = bad_is_first

@@ -1,9 +1,0 @@
-use Rattle.std.proofs.Common.{◌-◌, length}
-use Rattle.x86_cli.specs.Text.ImageAhead.{AreBlanks}
-use Rattle.x86_cli.proofs.text.pairs.after_blanks.Given as goal
-
-abbrev pub invariant-blanks : goal.invariant-blanks
-invariant-blanks l = AreBlanks l.text l.from l.at
-
-abbrev pub decreases-blanks : goal.decreases-blanks
-decreases-blanks l = length l.text - l.at

@@ -1,0 +1,14 @@
+use Rattle.std.proofs.Common.{◌-◌, ◌≤◌, length, take, Ok}
+use Rattle.std.specs.Prelude.{⊤}
+use Rattle.x86_streams.specs.declared.outside.sink.SinkFailed.{SinkFailed}
+use Rattle.x86_streams.specs.Outside.Writes.{Caused}
+use Rattle.x86_streams.proofs.outside.sending.send_out.Given as goal
+
+abbrev pub invariant-loop-sent : goal.invariant-loop-sent
+invariant-loop-sent g l = record {
+  within : l.sent ≤ length l.bytes;
+  caused : Caused g.W.Output.writes g.W.Output.flushes {A = ⊤} {E = SinkFailed} (Ok tt) (take l.sent l.bytes) l.initial.writer l.writer;
+}
+
+abbrev pub decreases-loop-sent : goal.decreases-loop-sent
+decreases-loop-sent g l = length l.bytes - l.sent

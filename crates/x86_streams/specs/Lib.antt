@@ -1,0 +1,3 @@
+-- The definitions that the contracts cite: sources and sinks, and hex text.
+pub mod Outside
+pub mod Text

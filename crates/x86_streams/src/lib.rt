@@ -1,0 +1,33 @@
+//! Where bytes come from and where they go, and hex text that is read from there. No decoder is needed.
+//!
+//! A `Source` returns its bytes one by one, and a `Sink` takes them piece by piece. Each is there over slices and
+//! arrays, with faults that the caller chooses, and over any reader or writer of std. `Gathered` is the buffer before a
+//! writer. Contracts name each call, so code that is generic over them can't make one up. `TextReader` reads a hex text
+//! from any source:
+//!
+//! ```
+//! let mut source = SoundSource::new(b"48 d8\n");
+//! let mut reader = TextReader::new(1024); // of a text of at most 1024 bytes
+//! reader.next(&mut source) // Piece::Byte(0x48)
+//! reader.next(&mut source) // Piece::Byte(0xd8)
+//! reader.next(&mut source) // Piece::Stopped(Ending::Clean)
+//! ```
+#![tactic(auto)]
+
+pub mod laws;
+pub mod outside;
+pub mod text;
+
+pub use outside::array_sink::ArraySink;
+pub use outside::gathered::Gathered;
+pub use outside::input::Input;
+pub use outside::null_sink::NullSink;
+pub use outside::output::Output;
+pub use outside::sink::{Sink, SinkFailed};
+pub use outside::slice_source::SliceSource;
+pub use outside::sound_source::SoundSource;
+pub use outside::source::{Got, Source};
+pub use outside::std_sink::StdSink;
+pub use outside::std_source::StdSource;
+pub use text::image_bytes::ImageBytes;
+pub use text::reader::{Ending, Piece, TextReader};

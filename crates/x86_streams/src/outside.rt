@@ -1,0 +1,14 @@
+//! What is outside of the code that reads and writes: sources, sinks, and the buffer before a writer.
+
+pub mod array_sink;
+pub mod gathered;
+pub mod input;
+pub mod null_sink;
+pub mod output;
+mod sending;
+pub mod sink;
+pub mod slice_source;
+pub mod sound_source;
+pub mod source;
+pub mod std_sink;
+pub mod std_source;

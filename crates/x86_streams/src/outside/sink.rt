@@ -1,0 +1,29 @@
+//! What a listing is written to.
+
+ghost use Rattle.std.specs.Prelude.{ℕ, List, Option, Result, ⊤};
+ghost use Rattle.x86_streams.specs.Outside.Sink.{ReportsPut};
+ghost use Rattle.x86_streams.specs.declared.outside.sink.SinkFailed.{SinkFailed};
+
+/// The sink took no more.
+#[derive(Clone, Copy, PartialEq, Eq, Debug, Drop)]
+pub struct SinkFailed;
+
+/// What is written to, piece by piece, and a count of faults that never falls and stops at `u64::MAX`.
+pub trait Sink {
+    /// The bytes written, where they are known.
+    ghost written: { Self → Option (List ℕ) };
+
+    /// How often the sink has failed.
+    ghost faults: { Self → ℕ };
+
+    /// What a put of a piece may answer, and what it may leave of the sink.
+    ghost takes: { Self → List ℕ → Result ⊤ SinkFailed → Self → Type 0 };
+
+    /// Appends the piece. A failed call appends a prefix of it.
+    fn put(&mut self, piece: &[u8]) -> Result<(), SinkFailed>
+        ensures { takes self.old piece.now result self.new };
+
+    /// What a put says, where the sink's bytes are known.
+    ghost reports: { (s : Self) (piece : List ℕ) (r : Result ⊤ SinkFailed) (t : Self) →
+        takes s piece r t → ReportsPut r piece (written s) (written t) (faults s) (faults t) };
+}

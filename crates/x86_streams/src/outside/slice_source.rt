@@ -1,0 +1,92 @@
+//! A source over a slice, of which chosen calls fail.
+
+ghost use Rattle.std.specs.Prelude.{[], ◌≡◌, ◌≤◌, Some, drop, length};
+ghost use Rattle.x86_streams.specs.Outside.Source.{ReportsGot};
+ghost use Rattle.x86_streams.specs.Outside.SliceSource.{ByNumber, is_listed};
+
+use crate::outside::source::{Got, Source};
+
+/// The bytes of a slice. The calls whose numbers, from 0, are in `fails` answer `Failed`; the number of a call stops
+/// at `u64::MAX`, and a call with that number doesn't fail.
+#[derive(Drop)]
+pub struct SliceSource<'a> {
+    bytes: &'a [u8],
+    fails: &'a [u64],
+    position: usize,
+    call: u64,
+    faults: u64,
+    ghost in_range: { position ≤ length bytes.now },
+}
+
+impl<'a> SliceSource<'a> {
+    ghost use Rattle.x86_streams.specs.Outside.Seen.{slice_call, slice_fails};
+
+    /// A source of these bytes, at its call 0.
+    pub fn new(bytes: &'a [u8], fails: &'a [u64]) -> SliceSource<'a>
+        ensures bytes { ⟦<SliceSource<'a> as Source>⟧.left result ≡ Some bytes.entry.now }
+        ensures sound { ⟦<SliceSource<'a> as Source>⟧.faults result ≡ 0 }
+        ensures fails { slice_fails result ≡ fails.entry.now }
+        ensures call { slice_call result ≡ 0 }
+    {
+        SliceSource {
+            bytes,
+            fails,
+            position: 0,
+            call: 0,
+            faults: 0,
+        }
+    }
+
+    /// How often a call has failed.
+    pub fn faults(&self) -> u64
+        ensures { result ≡ ⟦<SliceSource<'a> as Source>⟧.faults self.now }
+    {
+        self.faults
+    }
+
+    fn fails_now(&self) -> bool
+        ensures { result ≡ is_listed (slice_call self.now) (slice_fails self.now) }
+    {
+        let call = self.call;
+        call < u64::MAX && self.fails.contains(&call)
+    }
+}
+
+impl<'a> Source for SliceSource<'a> {
+    ghost use Rattle.x86_streams.specs.Outside.Seen.{slice_call, slice_fails};
+
+    ghost left = { λ s. Some (drop s.position s.bytes.now) };
+
+    ghost faults = { λ s. s.faults };
+
+    ghost gives = { λ s g t. ReportsGot g (Some (drop s.position s.bytes.now))
+        (Some (drop t.position t.bytes.now)) s.faults t.faults
+        × ByNumber g (drop s.position s.bytes.now) (slice_call s) (slice_call t) (slice_fails s)
+        (slice_fails t) };
+
+    ghost ahead = { λ s. [] };
+
+    ghost reports = { λ s g t h. h.0 };
+
+    fn next(&mut self) -> Got {
+        let failed = self.fails_now();
+        self.call = self.call.saturating_add(1);
+        if failed {
+            self.faults = self.faults.saturating_add(1);
+            return Got::Failed;
+        }
+        if self.position < self.bytes.len() {
+            let byte = self.bytes[self.position];
+            self.position += 1;
+            Got::Byte(byte)
+        } else {
+            Got::End
+        }
+    }
+
+    fn ahead(&self) -> &[u8] {
+        &[]
+    }
+
+    fn skip(&mut self, _count: usize) {}
+}

@@ -1,0 +1,68 @@
+//! A sink over a writer.
+
+ghost use Rattle.std.specs.Prelude.{◌≡◌};
+ghost use Rattle.x86_streams.specs.Outside.Sink.{ReportsPut};
+ghost use Rattle.x86_streams.specs.Outside.Writes.{PutSends};
+ghost use Rattle.x86_streams.specs.Outside.Seen.{sink_writer};
+
+use crate::outside::output::Output;
+use crate::outside::sink::{Sink, SinkFailed};
+
+/// Pieces that go to a writer. Its bytes are known where the writer's are. A write that takes none of a piece that
+/// isn't empty fails.
+#[derive(Drop)]
+pub struct StdSink<W: Output + Drop> {
+    writer: W,
+    faults: u64,
+}
+
+impl<W: Output + Drop> StdSink<W> {
+    /// A sink over the writer.
+    pub fn new(writer: W) -> StdSink<W>
+        ensures sound { ⟦<StdSink<W> as Sink>⟧.faults result ≡ 0 }
+        ensures writer { sink_writer result ≡ writer }
+    {
+        StdSink { writer, faults: 0 }
+    }
+
+    /// Returns the writer.
+    pub fn into_writer(self) -> W
+        ensures { result ≡ sink_writer self }
+    {
+        self.writer
+    }
+
+    /// How many writes have failed.
+    pub fn faults(&self) -> u64
+        ensures { result ≡ ⟦<StdSink<W> as Sink>⟧.faults self.now }
+    {
+        self.faults
+    }
+}
+
+impl<W: Output + Drop> Sink for StdSink<W> {
+    ghost written = { λ s. W.written s.writer };
+
+    ghost faults = { λ s. s.faults };
+
+    ghost takes = { λ s piece r t. ReportsPut r piece (W.written s.writer)
+        (W.written t.writer) s.faults t.faults
+        × PutSends W.writes W.flushes r piece s.writer t.writer };
+
+    ghost reports = { λ s piece r t h. h.0 };
+
+    #[tactic(auto, using(crate::proofs::OutsideLemmas::Sink::puts_none))]
+    fn put(&mut self, piece: &[u8]) -> Result<(), SinkFailed> {
+        let mut rest = piece;
+        while !rest.is_empty() {
+            match self.writer.write(rest) {
+                Ok(count) if count > 0 => rest = &rest[count..],
+                _ => {
+                    self.faults = self.faults.saturating_add(1);
+                    return Err(SinkFailed);
+                }
+            }
+        }
+        Ok(())
+    }
+}
