@@ -1,3 +1,2 @@
--- Lemmas on the window over a text.
-pub mod Fill
+-- Lemmas on what the window shows.
 pub mod Decoded

@@ -1,4 +1,4 @@
-//! The window over the image of a hex text.
+//! What the window over the image of a hex text decodes to.
 
 pub mod window;
 

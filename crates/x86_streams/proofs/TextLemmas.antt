@@ -1,4 +1,4 @@
--- Lemmas on texts, their reader, and the bytes that are read ahead.
+-- Lemmas on texts, their reader and its window.
 pub mod Text
 pub mod Kind
 pub mod Read
@@ -6,3 +6,4 @@ pub mod Pair
 pub mod Begins
 pub mod ImageBytes
 pub mod ImageAhead
+pub mod Fill

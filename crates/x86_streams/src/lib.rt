@@ -31,3 +31,4 @@ pub use outside::std_sink::StdSink;
 pub use outside::std_source::StdSource;
 pub use text::image_bytes::ImageBytes;
 pub use text::reader::{Ending, Piece, TextReader};
+pub use text::window::Window;

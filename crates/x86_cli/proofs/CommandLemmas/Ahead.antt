@@ -9,7 +9,7 @@ use Rattle.x86_cli.specs.declared.listings.status.Status.{Status}
 use Rattle.x86_cli.specs.declared.listings.status.Status.TheVariants as outcome
 use Rattle.x86_streams.specs.Text.{Text, text_at, text_of}
 use Rattle.x86_cli.specs.Listings.Listing.{Listing, with_lines}
-use Rattle.x86_cli.specs.Text.Window.{rest_of}
+use Rattle.x86_streams.specs.Text.Window.{rest_of}
 use Rattle.x86_cli.specs.Commands.Run.{Lists, Wrote, Ahead, RanInWindow}
 use Rattle.x86_streams.proofs.TextLemmas.Text.{text-end, text-failed}
 use Rattle.x86_cli.proofs.CommandLemmas.Causes.{some_stop}

@@ -13,7 +13,7 @@ use Rattle.x86_cli.specs.Listings.Line.{line}
 use Rattle.x86_cli.specs.Listings.Listing.{Listing, with_lines, decoded_of, listing_at}
 use Rattle.x86_cli.specs.Listings.Entry.{IsEntry}
 use Rattle.x86_streams.specs.Text.Reading.{with_bytes}
-use Rattle.x86_cli.specs.Text.Window.{rest_of}
+use Rattle.x86_streams.specs.Text.Window.{rest_of}
 use Rattle.x86_cli.proofs.ListingLemmas.Listing.{listing-whole, listing-refused, listing-ended}
 
 module _ (strict : Bool) (text : ℕ → Instruction → List ℕ → List ℕ) where

@@ -7,11 +7,11 @@ use Rattle.x86_streams.specs.declared.text.reader.Ending.{Ending}
 use Rattle.x86_streams.specs.Outside.Stop.{Stop, Failed}
 use Rattle.x86_cli.specs.declared.listings.status.Status.{Status}
 use Rattle.x86_cli.specs.declared.listings.status.Status.TheVariants as outcome
-use Rattle.x86_cli.specs.declared.text.window.Window.{Window}
+use Rattle.x86_streams.specs.declared.text.window.Window.{Window}
 use Rattle.x86_streams.specs.Text.{Text, text_of}
 use Rattle.x86_streams.specs.Text.Reading.{IsOpenText, NeedsMore, CalledWhere, SourceCalls, MayCome, with_bytes}
 use Rattle.x86_cli.specs.Listings.Listing.{Listing, with_lines}
-use Rattle.x86_cli.specs.Text.Window.{rest_of, Open, Fills}
+use Rattle.x86_streams.specs.Text.Window.{rest_of, Open, Fills}
 use Rattle.x86_streams.specs.Outside.Sink.{SinkCalls}
 use Rattle.x86_cli.specs.Commands.Run.{Wrote, Lists, Ran}
 use Rattle.x86_streams.proofs.TextLemmas.Read.{source_calls-source_calls, called-called, called-where, more_after}

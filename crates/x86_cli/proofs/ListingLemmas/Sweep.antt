@@ -9,7 +9,7 @@ use Rattle.x86_streams.specs.declared.text.reader.Ending.{Ending}
 use Rattle.x86_streams.specs.Outside.Stop.{Stop}
 use Rattle.x86_cli.specs.Listings.Line.{line}
 use Rattle.x86_cli.specs.Listings.Listing.{with_lines, at_end}
-use Rattle.x86_cli.specs.Text.Window.{rest_of}
+use Rattle.x86_streams.specs.Text.Window.{rest_of}
 use Rattle.x86_layout.specs.Sweeps.Cuts.{cut_length, cut_at, cuts_from}
 use Rattle.x86_layout.proofs.SweepLemmas.Place.{first_and_rest, none_left}
 use Rattle.x86_cli.specs.Listings.Entry.{IsEntry}

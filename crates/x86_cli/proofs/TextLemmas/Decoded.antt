@@ -11,7 +11,8 @@ use Rattle.x86_cli.specs.declared.text.window.Decoded.{Decoded}
 use Rattle.x86_cli.specs.declared.text.window.Decoded.TheVariants.{Whole, Ended}
 use Rattle.x86_cli.specs.Listings.Listing.{decoded_of, decoded_at_end, decoded_before_end}
 use Rattle.x86_cli.specs.DecoderLaws.{DecoderLaws}
-use Rattle.x86_cli.specs.Text.Window.{rest_of, Shows}
+use Rattle.x86_streams.specs.Text.Window.{rest_of}
+use Rattle.x86_cli.specs.Text.Window.{Shows}
 
 module _ (strict : Bool) (laws : DecoderLaws strict) where
   whole_answer : (w : List ℕ) (e : Ending) (i : Instruction) → decoded_of strict w e ≡ Whole i → answer_of strict w ≡ Ok i

@@ -5,7 +5,7 @@ use Rattle.x86_cli.specs.declared.listings.listing.Entry.{Entry}
 use Rattle.x86_cli.specs.declared.listings.listing.Entry.TheVariants.{Line, Refused, Ended}
 use Rattle.x86_streams.specs.Outside.Stop.{Stop}
 use Rattle.x86_streams.specs.Text.{Text}
-use Rattle.x86_cli.specs.Text.Window.{rest_of}
+use Rattle.x86_streams.specs.Text.Window.{rest_of}
 use Rattle.x86_cli.specs.Listings.Line.{line}
 use Rattle.x86_cli.specs.Listings.Listing.{Listing, with_lines, at_end, at_refusal}
 

@@ -13,10 +13,10 @@ ghost use Rattle.x86_cli.specs.Commands.Run.{RanInWindow, Wrote};
 use crate::laws::decoder_laws;
 use crate::listings::line::{Lines, bad_text};
 use crate::listings::status::Status;
-use crate::text::window::{Decoded, Window};
+use crate::text::window::{Decoded, decode_next};
 use x86_decode::{InstDecoder, Instruction};
 use x86_fields::DecodeError;
-use x86_streams::{Ending, Sink, SinkFailed, Source};
+use x86_streams::{Ending, Sink, SinkFailed, Source, Window};
 use x86_text::{LINE_MAX, Line, Place, refusal_of};
 
 /// Writes a line with its end.
@@ -127,7 +127,7 @@ impl<L: Lines + Drop> Course for UpToRefusal<L> {
         line: &mut Line,
     ) -> Entry {
         decoder_laws();
-        match window.decode_next(decoder, inst) {
+        match decode_next(window, decoder, inst) {
             Decoded::Whole(()) => {
                 let length = length_of(inst);
                 let bytes = window.bytes.as_slice();

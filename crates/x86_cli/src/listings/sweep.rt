@@ -8,9 +8,9 @@ ghost use Rattle.x86_cli.specs.Listings.Sweep.{cut_text, sweep_at};
 
 use crate::laws::decoder_laws;
 use crate::listings::listing::{Course, Entry};
-use crate::text::window::Window;
 use x86_decode::{InstDecoder, Instruction};
 use x86_fields::DecodeError;
+use x86_streams::Window;
 use x86_text::{LINE_MAX, Line, Place, write_instruction, write_refusal};
 
 /// The listing of `sweep`: a line for each cut.

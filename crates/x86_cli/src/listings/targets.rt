@@ -9,15 +9,14 @@ ghost use Rattle.x86_streams.specs.Outside.Sink.{SinkCalls};
 ghost use Rattle.x86_cli.specs.Commands.Run.{Ran};
 ghost use Rattle.x86_cli.specs.Listings.Targets.{place_line, lines_if, targets_at};
 ghost use Rattle.x86_streams.specs.Text.Reading.{IsOpenText};
-ghost use Rattle.x86_cli.specs.Text.Window.{Fills};
+ghost use Rattle.x86_streams.specs.Text.Window.{Fills};
 
 use crate::listings::listing::{end, put_line};
 use crate::listings::status::Status;
-use crate::text::window::Window;
 use arrayvec::ArrayVec;
 use x86_decode::InstDecoder;
 use x86_layout::mark_targets;
-use x86_streams::{Ending, Sink, SinkFailed, Source};
+use x86_streams::{Ending, Sink, SinkFailed, Source, Window};
 use x86_text::Line;
 
 /// The most bytes of an image that is held whole.

@@ -2,7 +2,7 @@ use Rattle.std.proofs.Common.{[], arith, ap, length, ◌∙◌, length-append}
 use Rattle.std.proofs.lemmas.List.{drop_all}
 use Rattle.x86_streams.specs.Text.{text_of}
 use Rattle.x86_streams.specs.Text.Reading.{IsOpenText}
-use Rattle.x86_cli.proofs.TextLemmas.Fill.{filling_none, filling_window, stopped_window}
+use Rattle.x86_streams.proofs.TextLemmas.Fill.{filling_none, filling_window, stopped_window}
 use Rattle.x86_cli.proofs.listings.targets.read_whole.Goals as goal
 
 pub windows-init : goal.windows-init

@@ -3,7 +3,7 @@ use Rattle.arrayvec.specs.ArrayVec.{array_vec_len}
 use Rattle.x86_streams.specs.Text.{text_of}
 use Rattle.x86_streams.specs.Text.Reading.{IsOpenText}
 use Rattle.x86_streams.specs.Text.ImageAhead.{IsAheadIn}
-use Rattle.x86_cli.proofs.TextLemmas.Fill.{Filling}
+use Rattle.x86_streams.proofs.TextLemmas.Fill.{Filling}
 use Rattle.x86_cli.proofs.listings.targets.read_whole.Given as goal
 
 abbrev pub invariant-windows : goal.invariant-windows

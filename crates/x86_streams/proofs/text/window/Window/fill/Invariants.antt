@@ -1,9 +1,9 @@
 use Rattle.std.proofs.Common.{◌≡◌, ◌≤◌, ◌+◌, ◌*◌, ◌-◌, length, None}
 use Rattle.x86_streams.specs.Text.Reading.{NeedsMore}
 use Rattle.x86_streams.specs.Text.ImageAhead.{IsEmptyAhead}
-use Rattle.x86_cli.specs.Text.Window.{rest_of}
-use Rattle.x86_cli.proofs.TextLemmas.Fill.{Filling}
-use Rattle.x86_cli.proofs.text.window.Window.fill.Given as goal
+use Rattle.x86_streams.specs.Text.Window.{rest_of}
+use Rattle.x86_streams.proofs.TextLemmas.Fill.{Filling}
+use Rattle.x86_streams.proofs.text.window.Window.fill.Given as goal
 
 abbrev pub invariant-loop-reader : goal.invariant-loop-reader
 invariant-loop-reader g l = record {

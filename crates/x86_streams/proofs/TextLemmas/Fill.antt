@@ -7,7 +7,7 @@ use Rattle.x86_streams.specs.declared.text.reader.Piece.TheVariants.{Byte, Stopp
 use Rattle.x86_streams.specs.Text.{Text, text_at}
 use Rattle.x86_streams.specs.Text.Reading.{IsOpenText, NeedsMore, CalledWhere, SourceCalls, MayCome, Reads, with_bytes}
 use Rattle.x86_streams.specs.Text.ImageAhead.{Begins}
-use Rattle.x86_cli.specs.Text.Window.{rest_of, Fills}
+use Rattle.x86_streams.specs.Text.Window.{rest_of, Fills}
 use Rattle.x86_streams.proofs.TextLemmas.Read.{source_calls-source_calls, called-called, called-where, called-same, more_after}
 
 module _ {S : Type 0} (gives : S → Got → S → Type 0) (Holds : Text → Type 0) where

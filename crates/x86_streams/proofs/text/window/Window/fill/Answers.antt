@@ -2,8 +2,8 @@ use Rattle.std.proofs.Common.{◌+◌, ◌≤◌, length, arith}
 use Rattle.std.proofs.lemmas.Bool.Decides.{nat_tests}
 use Rattle.x86_streams.specs.Text.Reading.{NeedsMore}
 use Rattle.x86_streams.proofs.TextLemmas.Read.{more_after}
-use Rattle.x86_cli.proofs.TextLemmas.Fill.{filling_byte, stopped, filled}
-use Rattle.x86_cli.proofs.text.window.Window.fill.Goals as goal
+use Rattle.x86_streams.proofs.TextLemmas.Fill.{filling_byte, stopped, filled}
+use Rattle.x86_streams.proofs.text.window.Window.fill.Goals as goal
 
 pub loop-reader-preserved : goal.loop-reader-preserved
 loop-reader-preserved g c =

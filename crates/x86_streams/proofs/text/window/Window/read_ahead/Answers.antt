@@ -1,6 +1,6 @@
 use Rattle.x86_streams.specs.Text.Reading.{NeedsMore}
-use Rattle.x86_cli.proofs.TextLemmas.Fill.{fills_fills}
-use Rattle.x86_cli.proofs.text.window.Window.read_ahead.Goals as goal
+use Rattle.x86_streams.proofs.TextLemmas.Fill.{fills_fills}
+use Rattle.x86_streams.proofs.text.window.Window.read_ahead.Goals as goal
 
 pub returns-then-not-is_full-clause-fills : goal.returns-then-not-is_full-clause-fills
 returns-then-not-is_full-clause-fills g c =

@@ -1,7 +1,7 @@
 use Rattle.std.proofs.Common.{take, arith, refl, length-take-le}
-use Rattle.x86_cli.proofs.TextLemmas.Fill.{fills_begins}
+use Rattle.x86_streams.proofs.TextLemmas.Fill.{fills_begins}
 use Rattle.x86_streams.proofs.TextLemmas.ImageAhead.{takes_bytes, rest_ahead}
-use Rattle.x86_cli.proofs.text.window.Window.take_ahead.Goals as goal
+use Rattle.x86_streams.proofs.text.window.Window.take_ahead.Goals as goal
 
 pub take-text-requires : goal.take-text-requires
 take-text-requires g c to from fits = (takes_bytes _ _ c.args.self.now.bytes.ahead to _ c.requires from fits refl).ordered

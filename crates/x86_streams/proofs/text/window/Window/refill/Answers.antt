@@ -1,7 +1,7 @@
 use Rattle.std.proofs.Common.{◌≡◌, None, rules}
 use Rattle.x86_streams.specs.Text.Reading.{NeedsMore}
-use Rattle.x86_cli.proofs.TextLemmas.Fill.{fills_fills}
-use Rattle.x86_cli.proofs.text.window.Window.refill.Goals as goal
+use Rattle.x86_streams.proofs.TextLemmas.Fill.{fills_fills}
+use Rattle.x86_streams.proofs.text.window.Window.refill.Goals as goal
 
 pub returns-then-not-is_full-clause-cases : goal.returns-then-not-is_full-clause-cases
 returns-then-not-is_full-clause-cases g c =
