@@ -11,9 +11,13 @@ use std::marker::Model;
 /// How a text ends.
 #[derive(Clone, Copy, Drop)]
 pub enum Ending {
+    /// At the source's end, and not inside a pair.
     Clean,
+    /// At the position of a byte that isn't allowed there, or at the source's end inside a pair.
     Bad(u64),
+    /// At a byte more than may be taken.
     Large,
+    /// At a failure of the source.
     Fault,
 }
 
