@@ -1,5 +1,5 @@
 -- What follows from the definition of the answer.
-use Rattle.std.proofs.Common.{◌≡◌, ◌≢◌, ℕ, suc, ◌+◌, ◌<◌, ◌≤◌, Bool, List, [], ◌∷◌, ◌++◌, length, drop, take, Result, Ok, Err, refl, sym, ap, subst, ◌∙◌, arith, length-append, append_assoc, length-take}
+use Rattle.std.proofs.Common.{◌≡◌, ◌≢◌, ℕ, ◌+◌, ◌<◌, ◌≤◌, Bool, List, [], ◌∷◌, ◌++◌, length, drop, take, Result, Ok, Err, refl, sym, ap, subst, ◌∙◌, arith, length-append, append_assoc, length-take}
 use Rattle.std.proofs.lemmas.List.{append-nil, take-append-drop, take-append-le}
 use Rattle.std.proofs.Math.Seq.{take-append_seam}
 use Rattle.x86_fields.proofs.StepLemmas.{fresh}
@@ -10,7 +10,6 @@ use Rattle.x86_operands.specs.declared.reader.Reading.{Reading}
 use Rattle.x86_decode.specs.declared.instructions.Instruction.{Instruction}
 use Rattle.x86_forms.specs.declared.Map.TheVariants.{One}
 use Rattle.x86_decode.specs.Head.{Rows}
-use Rattle.x86_decode.specs.Instruction.{instruction_of}
 use Rattle.x86_decode.specs.Grammar.{IsSentence, Decides, by_bytes, case_5, HasNoSentence, in_head, IsRefusal, IsAnswer}
 use Rattle.x86_decode.proofs.RowSteps.{same_error}
 use Rattle.x86_decode.proofs.BodyLemmas.{beginning_le, verdict, early, sentence_settles, out_nothing}
@@ -19,8 +18,7 @@ use Rattle.x86_decode.proofs.Theorem.{agree, not_both, some_answer, none_settles
 -- a prefix of a longer list that is short enough is a prefix of the list
 pub beginning_of : (input more q rest : List ℕ) → input ++ more ≡ q ++ rest → length q ≤ length input → input ≡ q ++ drop (length q) input
 beginning_of input more q rest h le =
-    let begins : take (length q) input ≡ q = sym (take-append-le (length q) input more le) ∙ ap (take (length q)) h ∙ take-append_seam q rest in
-    sym (take-append-drop (length q) input) ∙ ap (λ l. l ++ drop (length q) input) begins
+    sym (take-append-drop (length q) input) ∙ ap (λ l. l ++ drop (length q) input) (sym (take-append-le (length q) input more le) ∙ ap (take (length q)) h ∙ take-append_seam q rest)
 
 module _ (rows : Rows) (strict : Bool) where
   abbrev Answer : List ℕ → Result Instruction DecodeError → ℕ → Type 0
@@ -57,8 +55,7 @@ module _ (rows : Rows) (strict : Bool) where
   sentences_agree : (input s t x y : List ℕ) (a b : Instruction) → input ≡ s ++ x → input ≡ t ++ y → IsSentence rows strict s a → IsSentence rows strict t b → (a ≡ b) × (s ≡ t)
   sentences_agree input s t x y a b h k is js =
       let same = agree rows strict s t x y (Ok is.reading) (Ok js.reading) (sentence_settles rows strict s a is) (sentence_settles rows strict t b js) (sym h ∙ k) in
-      let r : is.reading ≡ js.reading = cc (same.0) in
-      (is.yields ∙ ap (λ x. instruction_of x (length s)) r ∙ ap (λ l. instruction_of js.reading (length l)) same.1 ∙ sym js.yields, same.1)
+      (cc (is.yields, js.yields, same.0, same.1), same.1)
 
   refusals_agree : (q : List ℕ) (e f : DecodeError) → Decides rows strict q e → Decides rows strict q f → e ≡ f
   refusals_agree q e f (by_bytes d) (by_bytes k) =
@@ -70,13 +67,10 @@ module _ (rows : Rows) (strict : Bool) where
   refusals_agree q e f (case_5 t) (by_bytes d) = absurd (t.undecided q [] f (sym (append-nil q)) d)
   refusals_agree q e f (case_5 t) (case_5 u) = refl
 
-  same_beginning : (a b x y : List ℕ) → a ++ x ≡ b ++ y → length a ≡ length b → a ≡ b
-  same_beginning a b x y e l = sym (take-append_seam a x) ∙ ap (λ n. take n (a ++ x)) l ∙ ap (take (length b)) e ∙ take-append_seam b y
-
   once_refused : (input : List ℕ) (e f : DecodeError) (n k : ℕ) → IsRefusal rows strict input e n → IsRefusal rows strict input f k → (e ≡ f) × (n ≡ k)
   once_refused input e f n k r s =
       let counts : n ≡ k = omega (arith, r.shortest s.beginning s.rest f s.begins s.decides, s.shortest r.beginning r.rest e r.begins r.decides, r.long, s.long) in
-      let beginnings : r.beginning ≡ s.beginning = same_beginning r.beginning s.beginning r.rest s.rest (sym r.begins ∙ s.begins) (r.long ∙ counts ∙ sym s.long) in
+      let beginnings : r.beginning ≡ s.beginning = sym (take-append_seam r.beginning r.rest) ∙ rw (r.long ∙ counts ∙ sym s.long, sym r.begins ∙ s.begins) (take-append_seam s.beginning s.rest) in
       (refusals_agree s.beginning e f (subst (λ q. Decides rows strict q e) beginnings r.decides) s.decides, counts)
 
   pub once : (input : List ℕ) (r s : Result Instruction DecodeError) (n k : ℕ) → Answer input r n → Answer input s k → (r ≡ s) × (n ≡ k)
@@ -86,8 +80,7 @@ module _ (rows : Rows) (strict : Bool) where
   once input (Ok a) (Err f) n k h g = absurd (g.no_sentence h.sentence h.rest a h.begins h.is)
   once input (Err ExhaustedInput) (Ok a) n k g h = absurd (g.no_sentence h.sentence h.rest a h.begins h.is)
   once input (Err ExhaustedInput) (Err ExhaustedInput) n k h g =
-      let a = h.taken in
-      let b = g.taken in
+      let a = h.taken in let b = g.taken in
       (refl, omega (arith, a.longest b.beginning b.rest b.begins b.between, b.longest a.beginning a.rest a.begins a.between, a.long, b.long))
   once input (Err ExhaustedInput) (Err e) n k g h = absurd (g.undecided h.beginning h.rest e h.begins h.decides)
   once input (Err e) (Ok a) n k g h = absurd (g.no_sentence h.sentence h.rest a h.begins h.is)
@@ -98,25 +91,18 @@ module _ (rows : Rows) (strict : Bool) where
 
   pub no_proper_beginning : (s : List ℕ) (c : ℕ) (rest : List ℕ) (a b : Instruction) → IsSentence rows strict s a → IsSentence rows strict (s ++ c ∷ rest) b → ⊥
   no_proper_beginning s c rest a b is js =
-      let same = (sentences_agree (s ++ c ∷ rest) s (s ++ c ∷ rest) (c ∷ rest) [] a b refl (sym (append-nil (s ++ c ∷ rest))) is js).1 in
-      absurd (let h : length s ≡ length s + suc (length rest) = ap length same ∙ length-append s (c ∷ rest) in omega arith)
-
-  sentence_answer : (s : List ℕ) (a : Instruction) → IsSentence rows strict s a → Answer s (Ok a) (length s)
-  sentence_answer s a is = record { sentence = s; rest = []; begins = sym (append-nil s); long = refl; is = is }
+      let same = (sentences_agree (s ++ c ∷ rest) s (s ++ c ∷ rest) (c ∷ rest) [] a b refl (sym (append-nil (s ++ c ∷ rest))) is js).1 in absurd (omega (arith, ap length same, length-append s (c ∷ rest)))
 
   count_within : (input : List ℕ) (r : Result Instruction DecodeError) (n : ℕ) → Answer input r n → n ≤ length input
   count_within input (Ok a) n h = omega (arith, beginning_le h.sentence h.rest input h.begins, h.long)
   count_within input (Err ExhaustedInput) n h = let t = h.taken in omega (arith, beginning_le t.beginning t.rest input t.begins, t.long)
   count_within input (Err e) n h = omega (arith, beginning_le h.beginning h.rest input h.begins, h.long)
 
-  too_late : (q : List ℕ) (c : ℕ) (rest : List ℕ) (a : Instruction) (r : Result Instruction DecodeError) (n : ℕ) → IsSentence rows strict (q ++ c ∷ rest) a → r ≢ Err ExhaustedInput → Answer q r n → ⊥
-  too_late q c rest a r n is d h =
-      let counts = (once (q ++ c ∷ rest) r (Ok a) n (length (q ++ c ∷ rest)) (stays q (c ∷ rest) r n d h) (sentence_answer (q ++ c ∷ rest) a is)).1 in
-      absurd (omega (arith, counts, count_within q r n h, length-append q (c ∷ rest)))
-
   beginning_by : (q : List ℕ) (c : ℕ) (rest : List ℕ) (a : Instruction) (r : Result Instruction DecodeError) (n : ℕ) → IsSentence rows strict (q ++ c ∷ rest) a → Answer q r n → (k : ℕ) × Answer q (Err ExhaustedInput) k
   beginning_by q c rest a (Err ExhaustedInput) n is h = (n, h)
-  beginning_by q c rest a r n is h = absurd (too_late q c rest a r n is (λ k. cc) h)
+  beginning_by q c rest a r n is h =
+      let whole : Answer (q ++ c ∷ rest) (Ok a) (length (q ++ c ∷ rest)) = record { sentence = q ++ c ∷ rest; rest = []; begins = sym (append-nil (q ++ c ∷ rest)); long = refl; is = is } in
+      absurd (omega (arith, (once (q ++ c ∷ rest) r (Ok a) n (length (q ++ c ∷ rest)) (stays q (c ∷ rest) r n (λ k. cc) h) whole).1, count_within q r n h, length-append q (c ∷ rest)))
 
   pub proper_beginning_open : (q : List ℕ) (c : ℕ) (rest : List ℕ) (a : Instruction) → IsSentence rows strict (q ++ c ∷ rest) a → (k : ℕ) × Answer q (Err ExhaustedInput) k
   proper_beginning_open q c rest a is = let o = some_answer rows strict q in beginning_by q c rest a o.0 o.1 is o.2
@@ -142,8 +128,7 @@ module _ (rows : Rows) (strict : Bool) where
 
   pub first_fifteen : (input : List ℕ) (r : Result Instruction DecodeError) (n : ℕ) → 15 ≤ length input → Answer (take 15 input) r n → Answer input r n
   first_fifteen input r n enough a =
-      subst (λ l. Answer l r n) (take-append-drop 15 input)
-      (stays (take 15 input) (drop 15 input) r n (λ e. never_open (take 15 input) n (omega (arith, length-take 15 input)) (subst (λ x. Answer (take 15 input) x n) e a)) a)
+      let kept = stays (take 15 input) (drop 15 input) r n (λ e. never_open (take 15 input) n (omega (arith, length-take 15 input)) (rw e at a)) a in rw (take-append-drop 15 input) at kept
 
   pub at_most_fifteen : (input : List ℕ) (r : Result Instruction DecodeError) (n : ℕ) → Answer input r n → n ≤ 15
   at_most_fifteen input r n a =
@@ -154,13 +139,10 @@ module _ (rows : Rows) (strict : Bool) where
   -- ---- lengths
 
   sentence_is_some : (s : List ℕ) (a : Instruction) → IsSentence rows strict s a → 0 < length s
-  sentence_is_some [] a is = absurd (none_settles rows strict [] [] (fresh []) [] refl (out_nothing rows strict (fresh []) refl) [] [] (Ok is.reading) refl (sentence_settles rows strict [] a is))
+  sentence_is_some [] a is = absurd (nothing_open.no_sentence [] [] a refl is)
   sentence_is_some (c ∷ s) a is = omega arith
 
   pub accepted_within : (input : List ℕ) (a : Instruction) (n : ℕ) → Answer input (Ok a) n → (0 < a.length) × (a.length ≤ 15) × (a.length ≤ length input) × (a.length ≡ n)
   accepted_within input a n h =
-      let is = h.is in
-      let counts : a.length ≡ length h.sentence = ap (λ i. i.length) is.yields in
-      let some : 0 < length h.sentence = sentence_is_some h.sentence a is in
-      let within : length h.sentence ≤ length input = beginning_le h.sentence h.rest input h.begins in
-      (omega arith, omega (arith, is.short), omega arith, counts ∙ h.long)
+      let counts : a.length ≡ length h.sentence = ap (λ i. i.length) h.is.yields in
+      (omega (arith, counts, sentence_is_some h.sentence a h.is), omega (arith, counts, h.is.short), omega (arith, counts, beginning_le h.sentence h.rest input h.begins), counts ∙ h.long)

@@ -16,11 +16,11 @@ use Rattle.x86_operands.specs.PlanSteps.{error_of}
 use Rattle.x86_forms.specs.declared.Map.{Map}
 use Rattle.x86_forms.specs.declared.Map.TheVariants.{One}
 use Rattle.x86_decode.specs.declared.instructions.Instruction.{Instruction}
-use Rattle.x86_decode.specs.Head.{Rows, is_run, column_of, escape_bytes, is_vex, is_opcode, vex_refusal, seen_by}
+use Rattle.x86_decode.specs.Head.{Rows, is_run, column_of, escape_bytes, is_opcode, vex_refusal, seen_by}
 use Rattle.x86_decode.specs.Walk.{head_step, opcode_step, some_row, row_step, walk_within}
 use Rattle.x86_decode.specs.Grammar.{IsRefusedByRecord, record_of, allows_lock, Whole, IsSentence, DecidesByBytes, case_1, case_2, case_3, case_4, EndsBetweenPieces, in_head, in_tail}
 use Rattle.x86_decode.proofs.RowSteps.{fault_error, RowYields, ends_row, takes_row, takes_row_refused, halts_row}
-use Rattle.x86_decode.proofs.HeadLemmas.{IsHead, IsRun, ends_head, takes_head, out_head, OpcodeYields, OpcodeBetween, ends_opcode, entry_byte, entry_rest, entry_is, entry_plain, takes_opcode, takes_vex, vex_plain, vex_final, escape_beginning, EscapeBeginning, none, one, two, out_one}
+use Rattle.x86_decode.proofs.HeadLemmas.{IsHead, IsRun, ends_head, takes_head, out_head, OpcodeYields, OpcodeBetween, ends_opcode, entry_byte, entry_rest, entry_is, entry_plain, takes_opcode, takes_vex, vex_plain, vex_final, escape_beginning, EscapeBeginning, none, escape}
 
 -- the answer of a reading where LOCK is checked
 abbrev pub verdict : Result Reading DecodeError → Result Reading DecodeError
@@ -75,13 +75,10 @@ module _ (rows : Rows) (strict : Bool) where
       (λ l e g. subst (DecidesByBytes rows strict (q ++ l)) (sym g.2) (case_1 (record { run = run; byte = c; spelled = joined l ∙ ap (λ k. run ++ c ∷ k) g.0; prefixes = is; vex = g.1 })))
       (λ l o g. ends_by_row run is q l o.0 o.1 (joined l ∙ ap (λ k. run ++ k) g.0) g.1 (rows o.0 (column_of (reading_of run)) o.1) refl)
 
-  by_reading : (q : List ℕ) (h : Prefixes × ℕ) → IsHead q h → EndsWell (λ l r. BodyYields (q ++ l) r) (λ l. BodyBetween (q ++ l)) (after_head h)
-  by_reading q h k = subst (λ p. EndsWell (λ l r. BodyYields (q ++ l) r) (λ l. BodyBetween (q ++ l)) (after_head (p, h.1))) (sym k.reading) (after_run q k.run h.1 k.spelled k.prefixes k.plain)
-
   pub ends_body : EndsWell BodyYields BodyBetween (walk_within rows strict)
   unfolding walk_within
   ends_body = ends_then IsHead IsRun BodyYields BodyBetween head_step after_head ends_head
-      (λ q is. in_head q One [] [] (sym (append-nil q)) is refl) by_reading
+      (λ q is. in_head q One [] [] (sym (append-nil q)) is refl) (λ q h k. rw k.reading (after_run q k.run h.1 k.spelled k.prefixes k.plain))
 
   -- ---- completeness
 
@@ -93,20 +90,14 @@ module _ (rows : Rows) (strict : Bool) where
       (takes_bind (opcode_step (reading_of run) (entry_byte map b)) (after_opcode (reading_of run)) (entry_rest map b) tail (map, b) r (takes_opcode (reading_of run) map b in_map) t))
 
   pub takes_whole : (s : List ℕ) (reading : Reading) → Whole rows strict s reading → Takes (walk_within rows strict) s (Ok reading)
-  takes_whole s reading w = subst (λ l. Takes (walk_within rows strict) l (Ok reading)) (sym w.spelled)
-      (takes_at w.run w.map w.opcode w.tail (Ok reading) w.prefixes w.in_map (rw w.has_row (takes_row (record_of strict w.row (seen_by w.map w.opcode (reading_of w.run))) (seen_by w.map w.opcode (reading_of w.run)) w.tail reading w.row_spelled)))
+  takes_whole s reading w =
+      let p : Prefixes = seen_by w.map w.opcode (reading_of w.run) in
+      rw w.spelled (takes_at w.run w.map w.opcode w.tail (Ok reading) w.prefixes w.in_map (rw w.has_row (takes_row (record_of strict w.row p) p w.tail reading w.row_spelled)))
 
   pub takes_refused : (q : List ℕ) (fault : Fault) → IsRefusedByRecord rows strict q fault → Takes (walk_within rows strict) q (Err (error_of fault))
   takes_refused q fault c =
       let p : Prefixes = seen_by c.map c.opcode (reading_of c.run) in
       rw c.spelled (takes_at c.run c.map c.opcode c.tail (Err (error_of fault)) c.prefixes c.in_map (rw c.has_row (takes_row_refused (record_of strict c.row p) p c.tail fault c.refuses)))
-
-  takes_no_map : (run : List ℕ) (c : ℕ) → is_run run ≡ true → is_vex c ≡ true → Takes (walk_within rows strict) (run ++ c ∷ []) (Err (vex_refusal (reading_of run)))
-  unfolding walk_within
-  takes_no_map run c is vex =
-      subst (λ l. Takes (head_step >>= after_head) l (Err (vex_refusal (reading_of run)))) (append-nil (run ++ c ∷ []))
-      (takes_bind head_step after_head (run ++ c ∷ []) [] (reading_of run, c) (Err (vex_refusal (reading_of run))) (takes_head run c is (vex_plain c vex))
-      (takes_err (opcode_step (reading_of run) c) (after_opcode (reading_of run)) [] (vex_refusal (reading_of run)) (takes_vex (reading_of run) c vex)))
 
   -- The body takes the bytes, with a final answer.
   pub record Settled (q : List ℕ) (r : Result Reading DecodeError) : Type 0 where
@@ -117,7 +108,10 @@ module _ (rows : Rows) (strict : Bool) where
   early_by {q} {e} t d = (Err e, record { takes = t; final = final_err e d }, refl)
 
   pub early : (q : List ℕ) (e : DecodeError) → DecidesByBytes rows strict q e → (r : Result Reading DecodeError) × Settled q r × (verdict r ≡ Err e)
-  early q e (case_1 c) = early_by (rw c.spelled (takes_no_map c.run c.byte c.prefixes c.vex)) (vex_final (reading_of c.run))
+  unfolding walk_within
+  early q e (case_1 c) = early_by (rw (c.spelled, sym (append-nil (c.run ++ c.byte ∷ [])))
+      (takes_bind head_step after_head (c.run ++ c.byte ∷ []) [] (reading_of c.run, c.byte) (Err (vex_refusal (reading_of c.run))) (takes_head c.run c.byte c.prefixes (vex_plain c.byte c.vex))
+      (takes_err (opcode_step (reading_of c.run) c.byte) (after_opcode (reading_of c.run)) [] (vex_refusal (reading_of c.run)) (takes_vex (reading_of c.run) c.byte c.vex)))) (vex_final (reading_of c.run))
   early q e (case_2 c) = early_by (rw c.spelled (takes_at c.run c.map c.opcode [] (Err InvalidOpcode) c.prefixes c.in_map (rw c.no_row (takes_pure (Err InvalidOpcode))))) (λ no. cc)
   early q e (case_3 fault c) = early_by (takes_refused q fault c) (fault_error fault)
   early q e (case_4 c) = (Ok c.reading, record { takes = takes_whole q c.reading c.whole; final = final_ok c.reading }, ap (λ t. if t then Ok c.reading else Err InvalidPrefixes) c.locked)
@@ -129,14 +123,9 @@ module _ (rows : Rows) (strict : Bool) where
 
   halts_beginning : (run beginning : List ℕ) → is_run run ≡ true → EscapeBeginning beginning → Halts (walk_within rows strict) (run ++ beginning)
   unfolding walk_within
-  halts_beginning run beginning is (none e) = subst (λ l. Halts (head_step >>= after_head) (run ++ l)) (sym e)
-      (subst (Halts (head_step >>= after_head)) (sym (append-nil run)) (out (out_bind head_step after_head run (out_head run is))))
-  halts_beginning run beginning is (one e) = subst (λ l. Halts (head_step >>= after_head) (run ++ l)) (sym e)
-      (subst (Halts (head_step >>= after_head)) (append-nil (run ++ 0x0f ∷ [])) (out (out_after head_step after_head (run ++ 0x0f ∷ []) [] (reading_of run, 0x0f) (takes_head run 0x0f is refl)
-      (out_bind (opcode_step (reading_of run) 0x0f) (after_opcode (reading_of run)) [] (out_one (reading_of run))))))
-  halts_beginning run beginning is (two d e u) = subst (λ l. Halts (head_step >>= after_head) (run ++ l)) (sym e)
-      (subst (Halts (head_step >>= after_head)) (append_assoc run (0x0f ∷ []) (d ∷ [])) (out (out_after head_step after_head (run ++ 0x0f ∷ []) (d ∷ []) (reading_of run, 0x0f) (takes_head run 0x0f is refl)
-      (out_bind (opcode_step (reading_of run) 0x0f) (after_opcode (reading_of run)) (d ∷ []) (u (reading_of run))))))
+  halts_beginning run beginning is (none e) = rw (e, append-nil run) (out (out_bind head_step after_head run (out_head run is)))
+  halts_beginning run beginning is (escape q e u) = rw e (subst (Halts (head_step >>= after_head)) (append_assoc run (0x0f ∷ []) q)
+      (out (out_after head_step after_head (run ++ 0x0f ∷ []) q (reading_of run, 0x0f) (takes_head run 0x0f is refl) (out_bind (opcode_step (reading_of run) 0x0f) (after_opcode (reading_of run)) q (u (reading_of run))))))
 
   halts_at : (run : List ℕ) (map : Map) (b : ℕ) (tail : List ℕ) → is_run run ≡ true → is_opcode map b ≡ true → Halts (after_opcode (reading_of run) (map, b)) tail → Halts (walk_within rows strict) (run ++ (escape_bytes map ++ b ∷ tail))
   unfolding walk_within
@@ -146,9 +135,9 @@ module _ (rows : Rows) (strict : Bool) where
       (halts_bind (opcode_step (reading_of run) (entry_byte map b)) (after_opcode (reading_of run)) (entry_rest map b) tail (map, b) (takes_opcode (reading_of run) map b in_map) t))
 
   pub halts_body : (q : List ℕ) → EndsBetweenPieces rows strict q → Halts (walk_within rows strict) q
-  halts_body q (in_head run map beginning back spelled is e) = subst (Halts (walk_within rows strict)) (sym spelled) (halts_beginning run beginning is (escape_beginning map beginning back e))
-  halts_body q (in_tail run map b row tail spelled is in_map has k) = subst (Halts (walk_within rows strict)) (sym spelled)
-      (halts_at run map b tail is in_map (rw has (halts_row (record_of strict row (seen_by map b (reading_of run))) (seen_by map b (reading_of run)) tail k)))
+  halts_body q (in_head run map beginning back spelled is e) = rw spelled (halts_beginning run beginning is (escape_beginning map beginning back e))
+  halts_body q (in_tail run map b row tail spelled is in_map has k) =
+      rw spelled (halts_at run map b tail is in_map (rw has (halts_row (record_of strict row (seen_by map b (reading_of run))) (seen_by map b (reading_of run)) tail k)))
 
   pub out_nothing : Out (walk_within rows strict) []
   unfolding walk_within

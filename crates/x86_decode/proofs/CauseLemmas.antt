@@ -1,14 +1,13 @@
 -- Each answer comes exactly where its case decides.
-use Rattle.std.proofs.Common.{◌≡◌, ◌≢◌, ◌↔◌, ℕ, inl, inr, Bool, true, false, if◌then◌else◌, List, length, Result, Ok, Err, IsOk, refl, subst, arith}
+use Rattle.std.proofs.Common.{◌≡◌, ◌≢◌, ◌↔◌, ℕ, inl, inr, Bool, if◌then◌else◌, List, length, Result, Ok, Err, IsOk, refl, subst, arith}
 use Rattle.x86_fields.specs.declared.errors.DecodeError.{DecodeError}
 use Rattle.x86_fields.specs.declared.errors.DecodeError.TheVariants.{ExhaustedInput, InvalidOpcode, InvalidOperand, InvalidPrefixes, TooLong, IncompleteDecoder}
 use Rattle.x86_fields.specs.Run.{reading_of}
-use Rattle.x86_operands.specs.declared.plans.Fault.{Fault}
 use Rattle.x86_operands.specs.declared.plans.Fault.TheVariants.{BadOpcode, BadOperand, Incomplete}
-use Rattle.x86_operands.specs.PlanSteps.{error_of}
+use Rattle.std.proofs.lemmas.Bool.{cond_both}
 use Rattle.x86_decode.specs.declared.instructions.Instruction.{Instruction}
 use Rattle.x86_decode.specs.Head.{Rows, bars_vex}
-use Rattle.x86_decode.specs.Grammar.{IsVexAfterRun, IsRefusedByRecord, case_1, case_2, case_3, case_4, Decides, by_bytes, case_5, IsRefusal, IsTooLong, IsAnswer}
+use Rattle.x86_decode.specs.Grammar.{case_1, case_2, case_3, case_4, Decides, by_bytes, case_5, IsRefusal, IsTooLong, IsAnswer}
 use Rattle.x86_decode.specs.Causes.{FaultsOpcode, FaultsOperand, FaultsPrefixes, LeavesOut, IsDecidedBy, IsUndecided, HasSentence}
 use Rattle.x86_decode.proofs.Theorem.{refusal_iff}
 use Rattle.x86_decode.proofs.AnswerLemmas.{once}
@@ -23,25 +22,15 @@ Faults rows strict TooLong q = IsTooLong rows strict q
 Faults rows strict IncompleteDecoder q = LeavesOut rows strict q
 
 module _ (rows : Rows) (strict : Bool) where
-  by_vex : (q : List ℕ) (c : IsVexAfterRun rows strict q) (t : Bool) → bars_vex (reading_of c.run) ≡ t → Faults rows strict (if t then InvalidPrefixes else IncompleteDecoder) q
-  by_vex q c true e = inl (c, e)
-  by_vex q c false e = inl (c, e)
-
-  by_record : (q : List ℕ) (f : Fault) → IsRefusedByRecord rows strict q f → Faults rows strict (error_of f) q
-  by_record q BadOpcode c = inr c
-  by_record q BadOperand c = c
-  by_record q Incomplete c = inr c
-
   -- what decides an error is one of its causes
   cause_of : (q : List ℕ) (e : DecodeError) → Decides rows strict q e → Faults rows strict e q
-  cause_of q e (by_bytes (case_1 c)) = by_vex q c (bars_vex (reading_of c.run)) refl
+  cause_of q e (by_bytes (case_1 c)) = cond_both (bars_vex (reading_of c.run)) InvalidPrefixes IncompleteDecoder (λ e. Faults rows strict e q) (λ t. inl (c, t)) (λ t. inl (c, t))
   cause_of q e (by_bytes (case_2 c)) = inl c
-  cause_of q e (by_bytes (case_3 f c)) = by_record q f c
+  cause_of q e (by_bytes (case_3 BadOpcode c)) = inr c
+  cause_of q e (by_bytes (case_3 BadOperand c)) = c
+  cause_of q e (by_bytes (case_3 Incomplete c)) = inr c
   cause_of q e (by_bytes (case_4 c)) = inr c
   cause_of q e (case_5 c) = c
-
-  vex_decides : (q : List ℕ) (c : IsVexAfterRun rows strict q) (t : Bool) → bars_vex (reading_of c.run) ≡ t → Decides rows strict q (if t then InvalidPrefixes else IncompleteDecoder)
-  vex_decides q c t e = subst (λ b. Decides rows strict q (if b then InvalidPrefixes else IncompleteDecoder)) e (by_bytes (case_1 c))
 
   -- and each of its causes decides it
   decided : (q : List ℕ) (e : DecodeError) → Faults rows strict e q → Decides rows strict q e
@@ -49,25 +38,19 @@ module _ (rows : Rows) (strict : Bool) where
   decided q InvalidOpcode (inl c) = by_bytes (case_2 c)
   decided q InvalidOpcode (inr c) = by_bytes (case_3 BadOpcode c)
   decided q InvalidOperand c = by_bytes (case_3 BadOperand c)
-  decided q InvalidPrefixes (inl c) = vex_decides q c.0 true c.1
+  decided q InvalidPrefixes (inl c) = subst (λ b. Decides rows strict q (if b then InvalidPrefixes else IncompleteDecoder)) c.1 (by_bytes (case_1 c.0))
   decided q InvalidPrefixes (inr c) = by_bytes (case_4 c)
   decided q TooLong c = case_5 c
-  decided q IncompleteDecoder (inl c) = vex_decides q c.0 false c.1
+  decided q IncompleteDecoder (inl c) = subst (λ b. Decides rows strict q (if b then InvalidPrefixes else IncompleteDecoder)) c.1 (by_bytes (case_1 c.0))
   decided q IncompleteDecoder (inr c) = by_bytes (case_3 Incomplete c)
 
-  module _ (input : List ℕ) (r : Result Instruction DecodeError) (n : ℕ) (a : IsAnswer rows strict input r n) where
-    refusal : (e : DecodeError) → e ≢ ExhaustedInput → r ≡ Err e → IsDecidedBy rows strict (Faults rows strict e) input
-    refusal e d same =
-        let k : IsRefusal rows strict input e n = (refusal_iff rows strict input n e d).1 (subst (λ x. IsAnswer rows strict input x n) same a) in
-        record { beginning = k.beginning; rest = k.rest; begins = k.begins; is = cause_of k.beginning e k.decides; shortest = λ q more f h g. omega (arith, k.shortest q more f h g, k.long); no_sentence = k.no_sentence }
-
-    refused : (e : DecodeError) → e ≢ ExhaustedInput → IsDecidedBy rows strict (Faults rows strict e) input → r ≡ Err e
-    refused e d k =
-        (once rows strict input r (Err e) n (length k.beginning) a ((refusal_iff rows strict input (length k.beginning) e d).0
-        (record { beginning = k.beginning; rest = k.rest; begins = k.begins; decides = decided k.beginning e k.is; long = refl; shortest = k.shortest; no_sentence = k.no_sentence }))).0
-
-    pub refused_for : (e : DecodeError) → e ≢ ExhaustedInput → (r ≡ Err e) ↔ IsDecidedBy rows strict (Faults rows strict e) input
-    refused_for e d = (refusal e d, refused e d)
+  pub refused_for : (input : List ℕ) (r : Result Instruction DecodeError) (n : ℕ) → IsAnswer rows strict input r n → (e : DecodeError) → e ≢ ExhaustedInput → (r ≡ Err e) ↔ IsDecidedBy rows strict (Faults rows strict e) input
+  refused_for input r n a e d = (
+    λ same. let k : IsRefusal rows strict input e n = (refusal_iff rows strict input n e d).1 (rw same at a) in
+        record { beginning = k.beginning; rest = k.rest; begins = k.begins; is = cause_of k.beginning e k.decides; shortest = λ q more f h g. omega (arith, k.shortest q more f h g, k.long); no_sentence = k.no_sentence },
+    λ k. (once rows strict input r (Err e) n (length k.beginning) a ((refusal_iff rows strict input (length k.beginning) e d).0
+        (record { beginning = k.beginning; rest = k.rest; begins = k.begins; decides = decided k.beginning e k.is; long = refl; shortest = k.shortest; no_sentence = k.no_sentence }))).0,
+  )
 
   pub exhausted : (input : List ℕ) (r : Result Instruction DecodeError) (n : ℕ) → IsAnswer rows strict input r n → (r ≡ Err ExhaustedInput) ↔ IsUndecided rows strict input
   exhausted input (Ok i) n a = (λ e. absurd cc, λ u. absurd (u.no_sentence a.sentence a.rest i a.begins a.is))

@@ -21,7 +21,7 @@ use Rattle.x86_operands.specs.Forms.{form_plan, form_record, modrm_use}
 use Rattle.x86_operands.specs.PlanSteps.{read_modrm, read_plan, record_step}
 use Rattle.x86_groups.specs.ByReg.{Chooses, reg_plan}
 use Rattle.x86_groups.specs.Groups.{group_plan, group_record}
-use Rattle.x86_groups.proofs.RegLemmas.{reg_record, reg_chosen, reg_group, reg_carries}
+use Rattle.x86_groups.proofs.RegLemmas.{reg_record, reg_chosen, reg_group}
 use Rattle.x86_decode.specs.Walk.{row_step, plan_at}
 
 -- what follows a ModRM byte that was read
@@ -77,10 +77,9 @@ row_without_modrm s strict row p m b belongs usage h may e = absurd cc
 
 -- ---- the line of a row
 
-pub reg_described : (strict : Bool) (row : TableRow) (p : Prefixes) (m o : ℕ) (b : AfterOpcode) (g : RegGroup) (e : FormEncoding) → b ≡ after_opcode.ByReg g → Belongs b row.form → Chooses g m o e → IsTrue (is_described e.after_opcode) → plan_of e (carried row.form) o p m ≡ plan_at strict row p m
-reg_described strict row p m o b g e is belongs d described =
-    let k = subst (λ x. Belongs x row.form) is belongs in
-    ap (λ n. plan_of e n o p m) (reg_carries g row.form k) ∙ d described p ∙ sym (chosen_plan g strict row p m k)
+pub reg_described : (strict : Bool) (row : TableRow) (n : ℕ) (p : Prefixes) (m o : ℕ) (b : AfterOpcode) (g : RegGroup) (e : FormEncoding) → b ≡ after_opcode.ByReg g → Belongs b row.form → Chooses g m o e → IsTrue (is_described e.after_opcode) → plan_of e n o p m ≡ plan_at strict row p m
+reg_described strict row n p m o b g e is belongs d described =
+    d described n p ∙ sym (chosen_plan g strict row p m (subst (λ x. Belongs x row.form) is belongs))
 
 described_plain : (b : AfterOpcode) (f : Form) → IsTrue (is_described b) → Belongs b f → is_group f ≡ false
 described_plain b f h belongs = grind arith

@@ -1,5 +1,5 @@
 -- The step of a row, by the law of what is read of it: it takes its pieces whatever follows, and runs out between them.
-use Rattle.std.proofs.Common.{◌≡◌, ◌≢◌, ℕ, ◌≤◌, List, [], ◌++◌, length, Result, Ok, Err, refl, sym, ap, subst, ◌∙◌, arith, length-append, append_assoc}
+use Rattle.std.proofs.Common.{◌≡◌, ◌≢◌, ℕ, List, [], ◌++◌, length, Result, Ok, Err, refl, sym, ap, subst, ◌∙◌, arith, length-append, append_assoc}
 use Rattle.std.proofs.lemmas.List.{append-nil}
 use Rattle.x86_arch.specs.Reader.{State, advanced}
 use Rattle.x86_fields.specs.declared.errors.DecodeError.{DecodeError}
@@ -45,42 +45,36 @@ module _ (r : RowRecord) (p : Prefixes) where
 
   -- ---- on a prefix of an input on which the row is open it is open at the same place
 
-  module _ (s : State ℕ) (opened : (step s).answer ≡ Err ExhaustedInput) (is : IsOpenRow r p s (step s).after) (t : State ℕ) (back : List ℕ) (beginning : s.left ≡ t.left ++ back) where
-    stays_open : (a : Result Reading DecodeError) → (step t).answer ≡ a → (step t).answer ≡ Err ExhaustedInput
-    stays_open (Ok reading) h =
+  module _ (s : State ℕ) (opened : (step s).answer ≡ Err ExhaustedInput) (is : IsOpenRow r p s (step s).after) where
+    stays_open : (t : State ℕ) (back : List ℕ) → s.left ≡ t.left ++ back → (a : Result Reading DecodeError) → (step t).answer ≡ a → (step t).answer ≡ Err ExhaustedInput
+    stays_open t back e (Ok reading) h =
         let read = row_read r p t reading h in
-        let here = row_wherever r p s read.bytes (read.rest ++ back) reading (beginning_of_more read.bytes read.rest back t.left s.left read.beginning beginning) read.spelled in
-        absurd (ok_apart reading ExhaustedInput (sym (ap (λ o. o.answer) here) ∙ opened))
-    stays_open (Err ExhaustedInput) h = h
-    stays_open (Err e) h =
-        let no = row_refused r p t e h (λ same. cc) in
-        let here = row_refuses r p s no.bytes (no.rest ++ back) no.fault (beginning_of_more no.bytes no.rest back t.left s.left no.beginning beginning) no.refuses in
-        absurd (fault_error no.fault (same_error {X = Reading} (error_of no.fault) ExhaustedInput (sym (ap (λ o. o.answer) here) ∙ opened)))
+        let here = ap (λ o. o.answer) (row_wherever r p s read.bytes (read.rest ++ back) reading (beginning_of_more read.bytes read.rest back t.left s.left read.beginning e) read.spelled) in cc
+    stays_open t back e (Err ExhaustedInput) h = h
+    stays_open t back e (Err d) h =
+        let no = row_refused r p t d h (λ same. cc) in
+        let here = ap (λ o. o.answer) (row_refuses r p s no.bytes (no.rest ++ back) no.fault (beginning_of_more no.bytes no.rest back t.left s.left no.beginning e) no.refuses) in
+        absurd (fault_error no.fault (cc))
 
-    same_place : (rest : List ℕ) → t.left ≡ is.bytes ++ rest → step t ≡ outcome (Err ExhaustedInput) (advanced (length is.bytes) t)
-    same_place rest begins =
-        let h : (step t).answer ≡ Err ExhaustedInput = stays_open (step t).answer refl in
+    open_on : OutOn step is.bytes is.rest
+    open_on beginning back split t left =
+        let e : s.left ≡ t.left ++ back = is.beginning ∙ ap (λ l. is.bytes ++ l) split ∙ sym (append_assoc is.bytes beginning back) ∙ ap (λ l. l ++ back) (sym left) in
+        let h : (step t).answer ≡ Err ExhaustedInput = stays_open t back e (step t).answer refl in
         let there = row_open r p t h in
-        let at_least : length is.bytes ≤ length there.bytes = there.longest is.bytes rest begins is.between in
-        let at_most : length there.bytes ≤ length is.bytes = is.longest there.bytes (there.rest ++ back) (beginning_of_more there.bytes there.rest back t.left s.left there.beginning beginning) there.between in
-        let same : length there.bytes ≡ length is.bytes = omega arith in
+        let at_most = is.longest there.bytes (there.rest ++ back) (beginning_of_more there.bytes there.rest back t.left s.left there.beginning e) there.between in
+        let same : length there.bytes ≡ length is.bytes = omega (arith, there.longest is.bytes beginning left is.between, at_most) in
         ap (λ a. outcome a (step t).after) h ∙ ap (outcome (Err ExhaustedInput)) (there.taken ∙ ap (λ n. advanced n t) same)
-
-  open_on : (s : State ℕ) → (step s).answer ≡ Err ExhaustedInput → (is : IsOpenRow r p s (step s).after) → OutOn step is.bytes is.rest
-  open_on s opened is beginning back split t left =
-      same_place s opened is t back (is.beginning ∙ ap (λ l. is.bytes ++ l) split ∙ sym (append_assoc is.bytes beginning back) ∙ ap (λ l. l ++ back) (sym left)) beginning left
 
   -- ---- what a row takes has the pieces of the row, or ends between them
 
-  module _ (s : State ℕ) where
-    ends_by : (a : Result Reading DecodeError) → (step s).answer ≡ a → Ends (RowYields r p) (BetweenRow r p) step s
-    ends_by (Ok reading) h =
-        let is = row_read r p s reading h in
-        settles is.bytes is.rest (Ok reading) is.beginning (takes_row is.bytes reading is.spelled) (final_ok reading) is.spelled
-    ends_by (Err ExhaustedInput) h = let is = row_open r p s h in runs_out is.bytes is.rest is.beginning is.between (open_on s h is)
-    ends_by (Err e) h =
-        let is = row_refused r p s e h (λ same. cc) in
-        settles is.bytes is.rest (Err e) is.beginning (subst (λ d. Takes step is.bytes (Err d)) (sym is.named) (takes_row_refused is.bytes is.fault is.refuses)) (final_err e (λ same. cc)) (is.fault, is.named, is.refuses)
+  ends_by : (s : State ℕ) (a : Result Reading DecodeError) → (step s).answer ≡ a → Ends (RowYields r p) (BetweenRow r p) step s
+  ends_by s (Ok reading) h =
+      let is = row_read r p s reading h in
+      settles is.bytes is.rest (Ok reading) is.beginning (takes_row is.bytes reading is.spelled) (final_ok reading) is.spelled
+  ends_by s (Err ExhaustedInput) h = let is = row_open r p s h in runs_out is.bytes is.rest is.beginning is.between (open_on s h is)
+  ends_by s (Err e) h =
+      let is = row_refused r p s e h (λ same. cc) in
+      settles is.bytes is.rest (Err e) is.beginning (subst (λ d. Takes step is.bytes (Err d)) (sym is.named) (takes_row_refused is.bytes is.fault is.refuses)) (final_err e (λ same. cc)) (is.fault, is.named, is.refuses)
 
   pub ends_row : EndsWell (RowYields r p) (BetweenRow r p) step
   ends_row s = ends_by s (step s).answer refl
@@ -89,18 +83,11 @@ module _ (r : RowRecord) (p : Prefixes) where
 
   halts_by : (q : List ℕ) → BetweenRow r p q → Ends (RowYields r p) (BetweenRow r p) step (fresh q) → Halts step q
   halts_by q between (settles bytes rest a beginning takes final _) = over bytes rest a beginning takes final
-  halts_by q between (runs_out bytes rest beginning _ ends) = by (row_open r p (fresh q) answer)
-    where
-      took : step (fresh q) ≡ outcome (Err ExhaustedInput) (advanced (length bytes) (fresh q))
-      took = ends rest [] (sym (append-nil rest)) (fresh q) beginning
-
-      answer : (step (fresh q)).answer ≡ Err ExhaustedInput
-      answer = ap (λ o. o.answer) took
-
-      by : IsOpenRow r p (fresh q) (step (fresh q)).after → Halts step q
-      by is =
-          let all : length is.bytes ≡ length q = let most : length q ≤ length is.bytes = is.longest q [] (sym (append-nil q)) between in omega (arith, length-append {A = ℕ}, ap length is.beginning) in
-          out (λ t left. open_on (fresh q) answer is is.rest [] (sym (append-nil is.rest)) t (left ∙ is.beginning) ∙ ap (λ n. outcome (Err ExhaustedInput) (advanced n t)) all)
+  halts_by q between (runs_out bytes rest beginning _ ends) =
+      let answer = ap (λ o. o.answer) (ends rest [] (sym (append-nil rest)) (fresh q) beginning) in
+      let is = row_open r p (fresh q) answer in
+      let all : length is.bytes ≡ length q = omega (arith, length-append {A = ℕ}, ap length is.beginning, is.longest q [] (sym (append-nil q)) between) in
+      out (λ t left. open_on (fresh q) answer is is.rest [] (sym (append-nil is.rest)) t (left ∙ is.beginning) ∙ ap (λ n. outcome (Err ExhaustedInput) (advanced n t)) all)
 
   pub halts_row : (q : List ℕ) → BetweenRow r p q → Halts step q
   halts_row q between = halts_by q between (ends_row (fresh q))

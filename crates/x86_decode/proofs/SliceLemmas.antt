@@ -9,6 +9,7 @@ use Rattle.x86_operands.specs.declared.reader.Reading.{Reading}
 use Rattle.x86_decode.specs.declared.instructions.Instruction.{Instruction}
 use Rattle.x86_decode.specs.Answer.{answer_of, outcome_of}
 use Rattle.x86_decode.specs.Instruction.{holding, reading_in}
+use Rattle.x86_decode.specs.Grammar.{allows_lock}
 use Rattle.x86_decode.specs.Walk.{walk_within, bounded_outcome, decode_step, judgement, error_at_limit}
 
 abbrev pub at_start : List ℕ → State ℕ
@@ -31,13 +32,13 @@ slice_is : (strict : Bool) (bytes : List ℕ) (r : Result Reading DecodeError) (
 unfolding answer_of outcome_of decode_step
 slice_is strict bytes r t u e h = ap (λ o. (bounded_outcome o.answer o.after.since_mark (at_start bytes)).answer) (h ∙ ap (walk_within (rows_of packed) strict) e)
 
-pub slice_ok : (strict : Bool) (bytes : List ℕ) (i : Instruction) (n : ℕ) (j : Result (Unit {0}) DecodeError) (t u : State ℕ) → u ≡ at_start (take 15 bytes) → outcome (Ok (reading_in i)) t ≡ walk_within (rows_of packed) strict u → n ≡ t.since_mark → j ≡ judgement (reading_in i) →
+pub slice_ok : (strict : Bool) (bytes : List ℕ) (i : Instruction) (n : ℕ) (j : Result (Unit {0}) DecodeError) (t u : State ℕ) → u ≡ at_start (take 15 bytes) → outcome (Ok (reading_in i)) t ≡ walk_within (rows_of packed) strict u → n ≡ t.since_mark → j ≡ judgement (allows_lock (reading_in i)) →
     holding (record i { length = n }) j ≡ answer_of strict bytes
 slice_ok strict bytes i n j t u e h k l =
     ap (holding (record i { length = n })) l ∙ same
     ∙ ap (λ m. (bounded_outcome (Ok (reading_in i)) m (at_start bytes)).answer) k ∙ slice_is strict bytes (Ok (reading_in i)) t u e h
   where
-    same : holding (record i { length = n }) (judgement (reading_in i)) ≡ (bounded_outcome (Ok (reading_in i)) n (at_start bytes)).answer
+    same : holding (record i { length = n }) (judgement (allows_lock (reading_in i))) ≡ (bounded_outcome (Ok (reading_in i)) n (at_start bytes)).answer
     same = grind arith
 
 full_test : (l : List ℕ) → (length (take 15 l) == 15) ≡ nat_le 15 (length l)

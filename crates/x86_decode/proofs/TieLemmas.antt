@@ -1,35 +1,26 @@
 -- What an instruction has from its reading: tied slots and operands, and the shape of the raw fields.
-use Rattle.std.proofs.Common.{◌≡◌, ℕ, ◌<◌, true, if◌then◌else◌, nat_lt, ap, ◌∙◌, arith}
-use Rattle.std.proofs.lemmas.Bool.Decides.{nat_tests}
+use Rattle.std.proofs.Common.{◌≡◌, ℕ, ◌<◌, ◌∙◌, refl}
+use Rattle.std.proofs.lemmas.Bool.{lt-ltb}
 use Rattle.x86_fields.specs.declared.raw.Raw.{Raw}
-use Rattle.x86_operands.specs.declared.operands.Slot.TheVariants as slots
-use Rattle.x86_operands.specs.declared.operands.Operand.TheVariants as operands
 use Rattle.x86_operands.specs.declared.reader.Reading.{Reading}
 use Rattle.x86_operands.specs.Shape.{shape}
-use Rattle.x86_operands.specs.Ties.{is_decoded, suits, slot_read, operand_read, AreTied, HasShapeAt}
+use Rattle.x86_operands.specs.Ties.{slot_read, operand_read, AreTied, HasShapeAt}
 use Rattle.x86_decode.specs.declared.instructions.Instruction.{Instruction}
 use Rattle.x86_decode.specs.Instruction.{instruction_of, slot_at, operand_at}
 use Rattle.x86_decode.specs.Ties.{HasTiedOperands}
-
-test_yes : (k n : ℕ) → k < n → nat_lt k n ≡ true
-test_yes k n h = grind (arith, nat_tests)
 
 module _ (reading : Reading) (n : ℕ) where
   abbrev made : Instruction
   made = instruction_of reading n
 
   slot_here : (k : ℕ) → k < reading.count → slot_at made k ≡ slot_read reading k
-  slot_here k below = ap (λ t. if t then slot_read reading k else slots.Nothing) (test_yes k reading.count below)
+  slot_here k below = rw (lt-ltb k reading.count below) refl
 
   operand_here : (k : ℕ) → k < reading.count → operand_at made k ≡ operand_read reading k
-  operand_here k below = ap (λ t. if t then operand_read reading k else operands.Nothing) (test_yes k reading.count below)
+  operand_here k below = rw (lt-ltb k reading.count below) refl
 
   pub tied_operands : AreTied reading → HasTiedOperands made
-  tied_operands tied = record {
-    few = tied.few;
-    decoded = λ k below. ap is_decoded (operand_here k below) ∙ tied.decoded k below;
-    suited = λ k below. ap (λ o. suits (slot_at made k) o) (operand_here k below) ∙ ap (λ s. suits s (operand_read reading k)) (slot_here k below) ∙ tied.suited k below;
-  }
+  tied_operands tied = record { few = tied.few; decoded = λ k below. rw (operand_here k below) (tied.decoded k below); suited = λ k below. rw (operand_here k below, slot_here k below) (tied.suited k below) }
 
   -- the slot and the operand are the shape of the raw fields
   pub is_shape : (k : ℕ) (raw : Raw) → HasShapeAt reading k raw → (slot_at made k ≡ (shape raw).0) × (operand_at made k ≡ (shape raw).1)

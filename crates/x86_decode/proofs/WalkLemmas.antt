@@ -1,5 +1,5 @@
 -- What the true reader has taken where the bounded one has ended.
-use Rattle.std.proofs.Common.{◌≡◌, ℕ, ◌+◌, ◌-◌, ◌≤◌, Bool, true, false, length, drop, Result, Ok, Err, refl, sym, ap, ◌∙◌, arith, length-take, length-drop, nat_le}
+use Rattle.std.proofs.Common.{◌≡◌, ℕ, List, [], ◌∷◌, get_or, ◌+◌, ◌-◌, ◌≤◌, Bool, true, false, length, drop, Result, Ok, Err, is_ok, refl, sym, ap, ◌∙◌, arith, length-take, length-drop, nat_le}
 use Rattle.std.proofs.lemmas.Bool.Decides.{nat_tests}
 use Rattle.x86_arch.specs.Reader.{State, advanced}
 use Rattle.x86_fields.specs.declared.errors.DecodeError.{DecodeError}
@@ -12,7 +12,10 @@ use Rattle.x86_decode.specs.Head.{Rows}
 use Rattle.x86_decode.specs.Instruction.{holding, reading_in}
 use Rattle.x86_decode.specs.Bound.{bounded, HasAdvanced}
 use Rattle.x86_fields.specs.Errors.{is_exhausted}
-use Rattle.x86_decode.specs.Walk.{walk_within, bounded_outcome, judgement, walk_bounded}
+use Rattle.x86_operands.specs.declared.operands.Slot.{Slot}
+use Rattle.x86_operands.specs.declared.operands.Slot.TheVariants.{Nothing}
+use Rattle.x86_decode.specs.Grammar.{allows_lock, first_slot}
+use Rattle.x86_decode.specs.Walk.{walk_within, bounded_outcome, judgement, takes_lock, walk_bounded}
 use Rattle.x86_decode.proofs.BoundLemmas.{same_state}
 use Rattle.x86_decode.proofs.BodyLemmas.{body_moves, Moves}
 
@@ -41,10 +44,22 @@ module _ (rows : Rows) (strict : Bool) (m t : State ℕ) (a : ℕ) (r : Result R
         is = ap (λ x. bounded_outcome x.answer x.after.since_mark m) (sym e) ∙ ap (λ n. bounded_outcome r n m) (sym (ap (λ x. x.since_mark) b));
       }
 
-pub ends_judged : (rows : Rows) (strict : Bool) (m t : State ℕ) (a n : ℕ) (i : Instruction) (j : Result (Unit {0}) DecodeError) → Walked rows strict m t a (Ok (reading_in i)) → n ≡ t.since_mark → j ≡ judgement (reading_in i) → outcome (holding (record i { length = n }) j) t ≡ walk_bounded rows strict m
+-- slots have a first one
+pub first_is : (slots : List Slot) → get_or slots 0 Nothing ≡ first_slot slots
+first_is [] = refl
+first_is (slot ∷ rest) = refl
+
+pub is_judged : (allowed : Bool) → is_ok (judgement allowed) ≡ allowed
+is_judged true = refl
+is_judged false = refl
+
+pub judged_first : (i : Instruction) (j : Result (Unit {0}) DecodeError) → j ≡ judgement (takes_lock i.prefixes i.opcode (get_or i.operand_list.slots 0 Nothing)) → j ≡ judgement (allows_lock (reading_in i))
+judged_first i j e = e ∙ ap (λ slot. judgement (takes_lock i.prefixes i.opcode slot)) (first_is i.operand_list.slots)
+
+pub ends_judged : (rows : Rows) (strict : Bool) (m t : State ℕ) (a n : ℕ) (i : Instruction) (j : Result (Unit {0}) DecodeError) → Walked rows strict m t a (Ok (reading_in i)) → n ≡ t.since_mark → j ≡ judgement (allows_lock (reading_in i)) → outcome (holding (record i { length = n }) j) t ≡ walk_bounded rows strict m
 ends_judged rows strict m t a n i j w e h = ap (λ k. outcome (holding (record i { length = n }) k) t) h ∙ same ∙ ap (λ k. bounded_outcome (Ok (reading_in i)) k m) e ∙ sym w.is
   where
-    same : outcome (holding (record i { length = n }) (judgement (reading_in i))) t ≡ bounded_outcome (Ok (reading_in i)) n m
+    same : outcome (holding (record i { length = n }) (judgement (allows_lock (reading_in i)))) t ≡ bounded_outcome (Ok (reading_in i)) n m
     same = let at : t ≡ advanced n m = w.at ∙ ap (λ k. advanced k m) (sym e) in grind arith
 
 pub ends_error : (rows : Rows) (strict : Bool) (m t : State ℕ) (a : ℕ) (e : DecodeError) → Walked rows strict m t a (Err e) → is_exhausted e ≡ false → outcome (Err e) t ≡ walk_bounded rows strict m

@@ -1,16 +1,20 @@
 -- The escape, the opcode byte and the word of its row.
-use Rattle.std.proofs.Common.{◌≡◌, ℕ, true, Result, Ok, Err, Option, refl, ap, ◌∙◌}
+use Rattle.std.proofs.Common.{◌≡◌, ℕ, Bool, true, false, Result, Ok, Err, Option, refl, sym, ap, ◌∙◌}
 use Rattle.x86_arch.specs.Reader.{State}
 use Rattle.x86_fields.specs.declared.errors.DecodeError.{DecodeError}
 use Rattle.x86_fields.specs.declared.prefixes.Prefixes.{Prefixes}
-use Rattle.x86_fields.specs.Steps.{Outcome, outcome, then_from, pure, next_byte}
+use Rattle.x86_fields.specs.Run.{is_prefix}
+use Rattle.x86_fields.specs.Steps.{Outcome, outcome, then_from, pure, ◌>>=◌, next_byte}
 use Rattle.x86_forms.specs.declared.Map.{Map}
 use Rattle.x86_forms.specs.declared.Map.TheVariants.{One}
 use Rattle.x86_forms.specs.declared.TableRow.{TableRow}
+use Rattle.x86_forms.specs.Words.{unpack}
+use Rattle.x86_operands.specs.declared.reader.Reading.{Reading}
 use Rattle.x86_decode.specs.declared.head.Lead.TheVariants.{Vex, Escape}
 use Rattle.x86_decode.specs.Head.{Rows, column_of, vex_refusal, seen_by}
 use Rattle.x86_decode.specs.Lead.{lead_of}
-use Rattle.x86_decode.specs.Walk.{read_escaped, opcode_step, read_word}
+use Rattle.x86_decode.specs.Walk.{Headed, body_step, found_word, head_step, opcode_step, read_escaped, read_word, row_step, some_row, walk_within}
+use Rattle.x86_decode.proofs.HeadWalk.{at_other}
 use Rattle.x86_decode.proofs.LeadLemmas.{vex_lead, escape_lead, plain_lead, is_plain}
 
 pub found_vex : (rows : Rows) (p : Prefixes) (b : ℕ) (s : State ℕ) → lead_of b ≡ Vex → outcome (Err (vex_refusal p)) s ≡ read_word rows p b s
@@ -32,3 +36,27 @@ pub found_escaped : (rows : Rows) (p : Prefixes) (b d : ℕ) (r : Result (Map ×
     then_from r u (λ o. pure (rows o.0 (column_of p) o.1, seen_by o.0 o.1 p)) ≡ read_word rows p b s
 found_escaped rows p b d r s t u h e f =
     ap (λ q. then_from q.answer q.after (λ o. pure (rows o.0 (column_of p) o.1, seen_by o.0 o.1 p))) f ∙ found_escape rows p b (Ok d) s t h e
+
+-- ---- what follows the row of a word
+
+after_row : Bool → Outcome (Option TableRow × Prefixes) → Outcome Reading
+after_row strict o = then_from o.answer o.after (λ x. some_row x.0 >>= λ row. row_step strict row x.1)
+
+module _ (rows : Rows) (strict : Bool) (b : ℕ) (p : Prefixes) (s start : State ℕ) where
+  row_follows : (r : Result (Map × ℕ) DecodeError) (t : State ℕ) → after_row strict (then_from r t (λ o. pure (rows o.0 (column_of p) o.1, seen_by o.0 o.1 p))) ≡ then_from r t (λ o. some_row (rows o.0 (column_of p) o.1) >>= λ row. row_step strict row (seen_by o.0 o.1 p))
+  unfolding after_row
+  row_follows (Ok o) t = refl
+  row_follows (Err e) t = refl
+
+  -- the walk after its head, by what follows the row
+  within : Headed (Ok b) p s (head_step start) → is_prefix b ≡ false → after_row strict (read_word rows p b s) ≡ walk_within rows strict start
+  unfolding walk_within
+  within head plain = row_follows (opcode_step p b s).answer (opcode_step p b s).after ∙ ap (λ q. body_step rows strict q b s) head.1 ∙ ap (λ o. then_from o.answer o.after (λ h. body_step rows strict h.0 h.1)) (at_other head.0 b s plain ∙ head.2)
+
+  pub refused_within : (e : DecodeError) (t : State ℕ) → Headed (Ok b) p s (head_step start) → is_prefix b ≡ false → outcome (Err e) t ≡ read_word rows p b s → outcome (Err e) t ≡ walk_within rows strict start
+  unfolding after_row
+  refused_within e t head plain h = ap (after_row strict) h ∙ within head plain
+
+  pub row_within : (q : Prefixes) (word : ℕ) (o : Option TableRow) (t : State ℕ) → Headed (Ok b) p s (head_step start) → is_prefix b ≡ false → found_word q word t ≡ read_word rows p b s → unpack word ≡ o → (some_row o >>= λ row. row_step strict row q) t ≡ walk_within rows strict start
+  unfolding after_row
+  row_within q word o t head plain h is = ap (λ o. (some_row o >>= λ row. row_step strict row q) t) (sym is) ∙ ap (after_row strict) h ∙ within head plain

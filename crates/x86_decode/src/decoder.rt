@@ -96,11 +96,11 @@ impl InstDecoder {
         ensures moved { HasMoved (T.state words.old) (T.state words.new) }
         ensures invalid { OnErr result (inst.new ≡ invalid_instruction) }
     {
-        *inst = Instruction::invalid();
+        *inst = Instruction::INVALID;
         match walk_into(self.strict, &Packed, words, inst) {
             Ok(()) => Ok(()),
             Err(error) => {
-                *inst = Instruction::invalid();
+                *inst = Instruction::INVALID;
                 Err(error)
             }
         }
@@ -117,7 +117,7 @@ impl InstDecoder {
             (count_of (is_strict self.now) bytes.now) }
         ensures value { result ≡ answer_of (is_strict self.now) bytes.now }
     {
-        let mut inst = Instruction::invalid();
+        let mut inst = Instruction::INVALID;
         match walk_slice(self.strict, bytes, &mut inst) {
             Ok(()) => Ok(inst),
             Err(error) => Err(error),
@@ -136,11 +136,11 @@ impl InstDecoder {
         ensures value { holding inst.new result ≡ answer_of (is_strict self.now) bytes.now }
         ensures invalid { OnErr result (inst.new ≡ invalid_instruction) }
     {
-        *inst = Instruction::invalid();
+        *inst = Instruction::INVALID;
         match walk_slice(self.strict, bytes, inst) {
             Ok(()) => Ok(()),
             Err(error) => {
-                *inst = Instruction::invalid();
+                *inst = Instruction::INVALID;
                 Err(error)
             }
         }

@@ -9,8 +9,8 @@ ghost use Rattle.x86_decode.specs.Head.{column_of, is_vex, vex_refusal, seen_by}
 ghost use Rattle.x86_decode.specs.Lead.{lead_of};
 ghost use Rattle.x86_decode.specs.Walk.{Headed, head_from, head_at, head_step, read_escaped, found_word, read_word};
 
-use x86_arch::{ReadError, ReadIf, Reader};
-use x86_fields::{DecodeError, Prefixes, Repeat, next_byte};
+use x86_arch::{ReadIf, Reader};
+use x86_fields::{DecodeError, Mandatory, Prefixes};
 use x86_forms::{Column, Map, Words};
 
 /// What a byte is at the beginning of an encoding.
@@ -82,7 +82,7 @@ pub fn read_on<T: Reader<u64, u8>>(
 {
     let mut prefixes = begin;
     'run: loop {
-        let byte = next_byte(reader)?;
+        let byte = reader.next()?;
         if !is_prefix(byte) {
             return Ok((prefixes, byte));
         }
@@ -99,10 +99,7 @@ fn read_rex<T: ReadIf>(reader: &mut T, prefixes: &mut Prefixes, byte: u8) -> Res
         Headed result prefixes.new (T.state reader.new) (head_at beginning byte (T.state reader.old)) }
 {
     let is_rex = prefixes.set_rex(byte);
-    match reader.next_if(is_rex, byte) {
-        Ok(next) => Ok(next),
-        Err(ReadError::ExhaustedInput) => Err(DecodeError::ExhaustedInput),
-    }
+    Ok(reader.next_if(is_rex, byte)?)
 }
 
 /// A run of at most one legacy prefix and a REX, as most are, and the byte after that.
@@ -111,11 +108,11 @@ pub fn read_head<T: ReadIf>(reader: &mut T, prefixes: &mut Prefixes) -> Result<u
     requires { prefixes.old ≡ reading_of [] }
     ensures { Headed result prefixes.new (T.state reader.new) (head_step (T.state reader.old)) }
 {
-    let first = next_byte(reader)?;
+    let first = reader.next()?;
     match lead_of(first) {
         Lead::Legacy => {
             *prefixes = prefixes.after(first);
-            let second = next_byte(reader)?;
+            let second = reader.next()?;
             read_rex(reader, prefixes, second)
         }
         _ => read_rex(reader, prefixes, first),
@@ -140,12 +137,13 @@ fn vex_refusal(prefixes: &Prefixes) -> DecodeError
 }
 
 #[inline(always)]
+#[tactic(auto, using(crate::proofs::HeadWalk::byte_is, crate::proofs::HeadWalk::none_is))]
 fn read_escaped<T: Reader<u64, u8>>(reader: &mut T, byte: u8) -> Result<(Map, u8), DecodeError>
     ensures { outcome result (T.state reader.new) ≡ read_escaped byte (T.state reader.old) }
 {
     match byte {
-        0x38 => Ok((Map::Of38, next_byte(reader)?)),
-        0x3a => Ok((Map::Of3a, next_byte(reader)?)),
+        0x38 => Ok((Map::Of38, reader.next()?)),
+        0x3a => Ok((Map::Of3a, reader.next()?)),
         _ => Ok((Map::Of, byte)),
     }
 }
@@ -155,11 +153,11 @@ fn read_escaped<T: Reader<u64, u8>>(reader: &mut T, byte: u8) -> Result<(Map, u8
 pub fn column_of(prefixes: &Prefixes) -> Column
     ensures { result ≡ column_of prefixes.now }
 {
-    match prefixes.repeat() {
-        Some(Repeat::F2) => Column::F2,
-        Some(Repeat::F3) => Column::F3,
-        None if prefixes.operand_size() => Column::P66,
-        None => Column::Plain,
+    match prefixes.mandatory() {
+        Mandatory::Absent => Column::Plain,
+        Mandatory::OperandSize => Column::P66,
+        Mandatory::F3 => Column::F3,
+        Mandatory::F2 => Column::F2,
     }
 }
 
@@ -190,7 +188,7 @@ pub fn read_word<W: Words, T: Reader<u64, u8>>(
 {
     match lead {
         Lead::Escape => {
-            let second = next_byte(reader)?;
+            let second = reader.next()?;
             let (map, opcode) = read_escaped(reader, second)?;
             let word = rows.word(map, column_of(prefixes), opcode);
             *prefixes = seen_by(map, opcode, *prefixes);

@@ -65,16 +65,19 @@ fn unless_ds(segment: Segment) -> Option<Segment>
 }
 
 impl Instruction {
+    /// `Instruction::invalid()` as a constant.
+    pub(crate) const INVALID: Instruction = Instruction {
+        prefixes: Prefixes::NONE,
+        opcode: Opcode::Invalid,
+        operand_list: Operands::NONE,
+        length: 0,
+    };
+
     /// No instruction: opcode `Invalid`, no prefixes, no operand, memory size 0 and length 0.
     pub fn invalid() -> Instruction
         ensures { result ≡ invalid_instruction }
     {
-        Instruction {
-            prefixes: Prefixes::none(),
-            opcode: Opcode::Invalid,
-            operand_list: Operands::none(),
-            length: 0,
-        }
+        Instruction::INVALID
     }
 
     /// The operation.

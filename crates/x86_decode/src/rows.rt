@@ -1,12 +1,12 @@
 //! What a row has after its opcode byte, written where it stays.
-ghost use Rattle.std.specs.Prelude.{◌≡◌, ℕ, Bool, IfOk, IsTrue, Some, true, false};
+ghost use Rattle.std.specs.Prelude.{◌≡◌, ℕ, Bool, IfOk, true, false};
 ghost use Rattle.x86_arch.specs.Reader.{State};
 ghost use Rattle.x86_fields.specs.Steps.{outcome, then_from};
 ghost use Rattle.x86_fields.specs.declared.prefixes.Prefixes.{Prefixes};
-ghost use Rattle.x86_forms.specs.Words.{IsForm, carried, unpack};
-ghost use Rattle.x86_operands.specs.Encodings.{Belongs, Describes, has_fields, value_if_ok, is_described, is_sound, no_operands, plan_of, use_of};
+ghost use Rattle.x86_forms.specs.Words.{IsForm, carried};
+ghost use Rattle.x86_operands.specs.Encodings.{Belongs, Describes, has_fields, value_if_ok, is_sound, no_operands, plan_of, use_of};
 ghost use Rattle.x86_operands.specs.Forms.{modrm_use};
-ghost use Rattle.x86_operands.specs.PlanSteps.{read_plan, record_step};
+ghost use Rattle.x86_operands.specs.PlanSteps.{record_step};
 ghost use Rattle.x86_decode.specs.declared.rows.Rest.TheVariants as Rest;
 ghost use Rattle.x86_decode.specs.declared.instructions.Instruction.{Instruction};
 ghost use Rattle.x86_decode.specs.Grammar.{record_of};
@@ -15,8 +15,8 @@ ghost use Rattle.x86_decode.specs.Walk.{IsFound, found_row_step, plan_at, rest_s
 
 use crate::instructions::Instruction;
 use x86_arch::Reader;
-use x86_fields::{DecodeError, ModRM, Prefixes, next_byte};
-use x86_forms::{TableRow, unpack, word_carried};
+use x86_fields::{DecodeError, ModRM, Prefixes};
+use x86_forms::{TableRow, WordRow, unpack};
 use x86_groups::{chosen, group_plan, read_group, read_group_into};
 use x86_opcodes::Opcode;
 use x86_operands::plans::Plan;
@@ -71,116 +71,97 @@ pub fn read_row<T: Reader<u64, u8>>(
 /// ModRM, and the line that describes the row there; else what is left of the row.
 #[inline(always)]
 fn read_line<'a, T: Reader<u64, u8>>(
-    word: u64,
-    row: &TableRow,
+    found: &WordRow,
     reader: &mut T,
 ) -> Result<Found<'a>, DecodeError>
-    requires form { IsForm row.now.form }
-    requires word { unpack word ≡ Some row.now }
     ensures read { (strict : Bool) (i : Instruction) →
-        then_from result (T.state reader.new) (found_row_step strict row.now i) ≡
-        row_step strict row.now i.prefixes (T.state reader.old) }
-    ensures found { IfOk result (IsFound row.now) }
+        then_from result (T.state reader.new) (found_row_step strict found.now.row i) ≡
+        row_step strict found.now.row i.prefixes (T.state reader.old) }
+    ensures found { IfOk result (IsFound found.now) }
 {
-    let encoding = word_encoding(word, row);
-    if !encoding.after_opcode.has_fields() {
-        return Ok(line_without_modrm(word, row, encoding));
+    let encoding = word_encoding(found);
+    let has_fields = matches!(
+        encoding.after_opcode,
+        AfterOpcode::EitherForm
+            | AfterOpcode::Memory
+            | AfterOpcode::Registers
+            | AfterOpcode::ByReg(_)
+    );
+    if !has_fields {
+        return Ok(line_without_modrm(found, encoding));
     }
-    let byte = next_byte(reader)?;
-    let modrm = ModRM::new(byte);
-    match encoding.after_opcode {
-        AfterOpcode::ByReg(group) => {
-            let (opcode, encoding) = chosen(group, modrm);
-            Ok(line_at(word, row, encoding, opcode, modrm))
-        }
-        _ => Ok(line_at(word, row, encoding, row.opcode, modrm)),
+    let modrm = ModRM::new(reader.next()?);
+    let (opcode, encoding) = match encoding.after_opcode {
+        AfterOpcode::ByReg(group) => chosen(group, modrm),
+        _ => (found.row.opcode, encoding),
+    };
+    let accepts = match encoding.after_opcode {
+        AfterOpcode::EitherForm => true,
+        other => other.allows(modrm),
+    };
+    if accepts {
+        Ok(Found::Line(RowLine {
+            encoding,
+            opcode,
+            modrm,
+        }))
+    } else {
+        Ok(Found::Left(Rest::AfterModRM(found.word, modrm)))
     }
 }
 
 /// The line of a row without ModRM; else all of the row.
 #[inline(always)]
-fn line_without_modrm<'a>(word: u64, row: &TableRow, encoding: &'a FormEncoding) -> Found<'a>
-    requires word { unpack word ≡ Some row.now }
+fn line_without_modrm<'a>(found: &WordRow, encoding: &'a FormEncoding) -> Found<'a>
     requires sound { is_sound encoding.now ≡ true }
     requires no_modrm { has_fields encoding.now.after_opcode ≡ false }
-    requires group { Belongs encoding.now.after_opcode row.now.form }
-    requires usage { modrm_use row.now.form ≡ use_of encoding.now.after_opcode }
-    requires describes { Describes encoding.now row.now.form }
-    ensures found { IsFound row.now result }
+    requires group { Belongs encoding.now.after_opcode found.now.row.form }
+    requires usage { modrm_use found.now.row.form ≡ use_of encoding.now.after_opcode }
+    requires describes { Describes encoding.now found.now.row.form }
+    requires numbered { (opcode modrm : ℕ) (p : Prefixes) →
+        plan_of encoding.now found.now.number opcode p modrm
+        ≡ plan_of encoding.now (carried found.now.row.form) opcode p modrm }
+    ensures found { IsFound found.now result }
     ensures read { (strict : Bool) (i : Instruction) (s : State ℕ) →
-        found_row_step strict row.now i result s ≡ row_step strict row.now i.prefixes s }
+        found_row_step strict found.now.row i result s
+        ≡ row_step strict found.now.row i.prefixes s }
 {
     let modrm = ModRM::absent();
     if encoding.after_opcode.allows(modrm) {
         Found::Line(RowLine {
             encoding,
-            opcode: row.opcode,
+            opcode: found.row.opcode,
             modrm,
         })
     } else {
-        Found::Left(Rest::Row(word))
-    }
-}
-
-/// The line, if it accepts at this ModRM byte; else what follows it.
-#[inline(always)]
-fn line_at<'a>(
-    word: u64,
-    row: &TableRow,
-    encoding: &'a FormEncoding,
-    opcode: Opcode,
-    modrm: ModRM,
-) -> Found<'a>
-    requires word { unpack word ≡ Some row.now }
-    requires sound { is_sound encoding.now ≡ true }
-    requires describes { (strict : Bool) (p : Prefixes) →
-        IsTrue (is_described encoding.now.after_opcode) →
-        plan_of encoding.now (carried row.now.form) opcode p modrm ≡
-        plan_at strict row.now p modrm }
-    ensures found { IsFound row.now result }
-    ensures read { (strict : Bool) (i : Instruction) →
-        found_row_step strict row.now i result ≡
-        read_plan (plan_at strict row.now i.prefixes modrm) i.prefixes modrm }
-{
-    if encoding.after_opcode.allows(modrm) {
-        Found::Line(RowLine {
-            encoding,
-            opcode,
-            modrm,
-        })
-    } else {
-        Found::Left(Rest::AfterModRM(word, modrm))
+        Found::Left(Rest::Row(found.word))
     }
 }
 
 /// What the row of a word has after its opcode byte, if a line of the operand encodings describes it.
 #[inline(always)]
 pub fn read_by_line<T: Reader<u64, u8>>(
-    word: u64,
-    row: TableRow,
+    found: &WordRow,
     reader: &mut T,
     inst: &mut Instruction,
 ) -> Result<Rest, DecodeError>
-    requires form { IsForm row.form }
-    requires word { unpack word ≡ Some row }
-    requires blank { inst.old.operand_list ≡ no_operands }
+    requires { inst.old.operand_list ≡ no_operands }
     ensures read { (strict : Bool) →
         then_from result (T.state reader.new) (rest_step strict inst.new) ≡
-        row_step strict row inst.old.prefixes (T.state reader.old) }
+        row_step strict found.now.row inst.old.prefixes (T.state reader.old) }
     ensures blank { IfOk result (λ rest. is_nothing rest ≡ false
         → inst.new.operand_list ≡ no_operands) }
 {
-    match read_line(word, &row, reader) {
+    match read_line(found, reader) {
         Err(error) => Err(error),
         Ok(Found::Left(rest)) => Ok(rest),
         Ok(Found::Line(line)) => {
             inst.opcode = line.opcode;
-            let num = word_carried(word);
             inst.operand_list.read(
                 reader,
                 line.encoding,
                 line.opcode,
-                num,
+                found.number,
                 &inst.prefixes,
                 line.modrm,
             )?;

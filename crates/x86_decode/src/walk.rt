@@ -1,7 +1,7 @@
 //! The walk over the bytes of an encoding, within fifteen of them.
-ghost use Rattle.std.specs.Prelude.{◌≡◌, ℕ, List, Bool, IfOk, true, false};
+ghost use Rattle.std.specs.Prelude.{◌≡◌, ℕ, List, Bool, IfOk, true};
 ghost use Rattle.x86_arch.specs.Reader.{marked};
-ghost use Rattle.x86_fields.specs.Steps.{Outcome, outcome, then_from};
+ghost use Rattle.x86_fields.specs.Steps.{Outcome, outcome};
 ghost use Rattle.x86_fields.specs.Run.{is_prefix, reading_of};
 ghost use Rattle.x86_forms.specs.Words.{rows_of};
 ghost use Rattle.x86_operands.specs.Encodings.{value_if_ok, no_operands};
@@ -11,7 +11,7 @@ ghost use Rattle.x86_decode.specs.Grammar.{allows_lock};
 ghost use Rattle.x86_decode.specs.Lead.{lead_of};
 ghost use Rattle.x86_decode.specs.Instruction.{holding, invalid_instruction, reading_in};
 ghost use Rattle.x86_fields.specs.Errors.{is_exhausted};
-ghost use Rattle.x86_decode.specs.Walk.{LeadsTo, ResultLeadsTo, IsReady, rest_step, body_step, long_step, walk_bounded, walk_within, decode_step, is_nothing, takes_lock, judgement, error_at_limit};
+ghost use Rattle.x86_decode.specs.Walk.{LeadsTo, ResultLeadsTo, IsReady, body_step, long_step, walk_bounded, walk_within, decode_step, takes_lock, judgement, error_at_limit};
 
 use crate::bounded::{Bounded, Start, takes_rest};
 use crate::head::{Lead, lead_of, read_head, read_on, read_word};
@@ -20,7 +20,7 @@ use crate::rows::{Rest, read_by_line, read_rest, read_row_into};
 use std::marker::{Brand, PhantomData};
 use x86_arch::{ReadIf, Reader, U8Reader};
 use x86_fields::{DecodeError, Prefixes};
-use x86_forms::{Packed, Words, unpack};
+use x86_forms::{Packed, Words, unpack, word_row};
 use x86_opcodes::Opcode;
 use x86_operands::{Reading, Slot};
 
@@ -28,39 +28,18 @@ use x86_operands::{Reading, Slot};
 pub fn allows_lock(reading: &Reading) -> bool
     ensures { result ≡ allows_lock reading.now }
 {
-    takes_lock(&reading.prefixes, reading.opcode, reading.slots[0])
+    judgement(&reading.prefixes, reading.opcode, reading.slots[0]).is_ok()
 }
 
-/// The same of the parts of a reading.
+/// The refusal of F0 where the operation doesn't take it, or its first operand isn't memory.
 #[inline(always)]
-fn takes_lock(prefixes: &Prefixes, opcode: Opcode, first: Slot) -> bool
-    ensures { result ≡ takes_lock prefixes.now opcode first }
+fn judgement(prefixes: &Prefixes, opcode: Opcode, first: Slot) -> Result<(), DecodeError>
+    ensures { result ≡ judgement (takes_lock prefixes.now opcode first) }
 {
-    !prefixes.lock() || (opcode.can_lock() && first.is_memory())
-}
-
-/// What follows the run, where this byte is the first of it.
-#[inline(always)]
-fn read_body<W: Words, T: Reader<u64, u8>>(
-    rows: &W,
-    reader: &mut T,
-    inst: &mut Instruction,
-    lead: Lead,
-    byte: u8,
-) -> Result<Rest, DecodeError>
-    requires lead { lead ≡ lead_of byte }
-    requires blank { inst.old.operand_list ≡ no_operands }
-    ensures read { (strict : Bool) →
-        then_from result (T.state reader.new) (rest_step strict inst.new)
-        ≡ body_step (rows_of (W.word rows.now)) strict inst.old.prefixes byte
-        (T.state reader.old) }
-    ensures blank { IfOk result (λ rest. is_nothing rest ≡ false
-        → inst.new.operand_list ≡ no_operands) }
-{
-    let word = read_word(rows, reader, &mut inst.prefixes, lead, byte)?;
-    match unpack(word) {
-        None => Err(DecodeError::InvalidOpcode),
-        Some(row) => read_by_line(word, row, reader, inst),
+    if prefixes.lock() && !(opcode.can_lock() && first.is_memory()) {
+        Err(DecodeError::InvalidPrefixes)
+    } else {
+        Ok(())
     }
 }
 
@@ -130,8 +109,11 @@ fn read_common<W: Words, T: ReadIf>(
     match lead_of(byte) {
         Lead::Legacy | Lead::Rex => Ok(Left::Run(byte)),
         lead => {
-            let rest = read_body(rows, reader, inst, lead, byte)?;
-            Ok(Left::Rest(rest))
+            let word = read_word(rows, reader, &mut inst.prefixes, lead, byte)?;
+            match word_row(word) {
+                None => Err(DecodeError::InvalidOpcode),
+                Some(found) => Ok(Left::Rest(read_by_line(&found, reader, inst)?)),
+            }
         }
     }
 }
@@ -187,18 +169,6 @@ fn is_exhausted(error: DecodeError) -> bool
     matches!(error, DecodeError::ExhaustedInput)
 }
 
-/// The refusal of F0 where it isn't allowed.
-#[inline(always)]
-fn judgement(inst: &Instruction) -> Result<(), DecodeError>
-    ensures { result ≡ judgement (reading_in inst.now) }
-{
-    if takes_lock(&inst.prefixes, inst.opcode, inst.operand_list.slots[0]) {
-        Ok(())
-    } else {
-        Err(DecodeError::InvalidPrefixes)
-    }
-}
-
 /// The walk within fifteen items. The reference comes back.
 fn walk_bounded<'a, W: Words, T: Reader<u64, u8>, K: Start>(
     strict: bool,
@@ -228,7 +198,10 @@ fn walk_bounded<'a, W: Words, T: Reader<u64, u8>, K: Start>(
         start: _,
     } = back;
     match result {
-        Ok(()) => (judgement(inst), reader),
+        Ok(()) => (
+            judgement(&inst.prefixes, inst.opcode, inst.operand_list.slots[0]),
+            reader,
+        ),
         Err(error) => {
             if !is_exhausted(error) {
                 (Err(error), reader)
@@ -262,7 +235,7 @@ pub fn walk_slice(strict: bool, bytes: &[u8], inst: &mut Instruction) -> Result<
     let mut back = back;
     inst.length = back.offset();
     match result {
-        Ok(()) => judgement(inst),
+        Ok(()) => judgement(&inst.prefixes, inst.opcode, inst.operand_list.slots[0]),
         Err(error) => Err(error_at_limit(error, within.len() == 15)),
     }
 }

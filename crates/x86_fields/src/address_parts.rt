@@ -9,7 +9,7 @@ use x86_regs::{RegSpec, RegisterClass};
 /// What an address is the sum of: a base, an index times a scale, and a displacement.
 ///
 /// Source: Intel SDM volume 1, section 3.7.5.
-#[derive(Clone, Copy, PartialEq, Eq, Debug, Drop)]
+#[derive(Clone, Copy, Drop)]
 pub struct AddressParts {
     /// Whether 67 is in force, so that the sum is taken modulo 2^32.
     pub address_size: bool,

@@ -1,10 +1,12 @@
 //! Why bytes don't begin with an instruction, and what such an error says.
 
 ghost use Rattle.std.specs.Prelude.{◌≡◌, Some};
+ghost use Rattle.x86_fields.specs.declared.errors.DecodeError.TheVariants.{ExhaustedInput};
 ghost use Rattle.x86_fields.specs.Errors.{is_exhausted, is_bad_opcode, is_bad_operand, description_of};
 
 use std::error::Error;
 use std::fmt;
+use x86_arch::ReadError;
 
 /// Why bytes don't begin with an instruction.
 #[derive(Clone, Copy, PartialEq, Eq, Debug, Drop)]
@@ -65,3 +67,12 @@ impl fmt::Display for DecodeError {
 }
 
 impl Error for DecodeError {}
+
+/// What a reader lacks, an encoding lacks.
+impl From<ReadError> for DecodeError {
+    ghost from_gives = { λ _ error. error ≡ ExhaustedInput };
+
+    fn from(_error: ReadError) -> DecodeError {
+        DecodeError::ExhaustedInput
+    }
+}

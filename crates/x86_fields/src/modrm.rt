@@ -2,14 +2,17 @@
 
 ghost use Rattle.std.specs.Prelude.{◌≡◌, ◌<◌, ℕ};
 ghost use Rattle.x86_fields.specs.ModRM.{absent_modrm, as_register, is_memory, mod_field, packed_byte, reg_field, rm_field};
+ghost use Rattle.x86_fields.specs.Sizes.{size_prefixes};
 
+use crate::prefixes::Prefixes;
+use crate::sizes::SizePrefixes;
 use std::marker::Model;
 
 /// A ModRM byte below this one is a memory form, and every other is a register form: mod is 11 from here on.
 pub const MEMORY_FORMS: u8 = 0xc0;
 
 /// A ModRM byte: the fields mod, reg and rm (Intel SDM volume 2, section 2.1.3). A clause sees its byte.
-#[derive(Clone, Copy, PartialEq, Eq, Debug)]
+#[derive(Clone, Copy)]
 pub struct ModRM {
     byte: u8,
 }
@@ -101,5 +104,33 @@ impl ModRM {
         ensures { result ≡ as_register self }
     {
         ModRM::of_fields(3, self.reg_field(), self.rm_field())
+    }
+}
+
+/// A ModRM byte under the prefixes of its encoding: which registers its fields name, and what chooses their sizes.
+#[derive(Drop)]
+pub struct PrefixedModRM<'a> {
+    pub prefixes: &'a Prefixes,
+    pub modrm: ModRM,
+    /// Which of W and 66 are in force.
+    pub sizes: SizePrefixes,
+    /// Whether it is a memory form.
+    pub in_memory: bool,
+    ghost sizes_are: { sizes ≡ size_prefixes prefixes.now },
+    ghost form_is: { in_memory ≡ is_memory modrm },
+}
+
+impl<'a> PrefixedModRM<'a> {
+    #[inline(always)]
+    pub fn of(prefixes: &'a Prefixes, modrm: ModRM) -> PrefixedModRM<'a>
+        ensures prefixes { result.prefixes.now ≡ prefixes.now }
+        ensures modrm { result.modrm ≡ modrm }
+    {
+        PrefixedModRM {
+            prefixes,
+            modrm,
+            sizes: prefixes.size_prefixes(),
+            in_memory: modrm.is_memory(),
+        }
     }
 }

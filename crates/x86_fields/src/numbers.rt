@@ -14,10 +14,7 @@ use x86_arch::Reader;
 pub fn next_byte<T: Reader<u64, u8>>(reader: &mut T) -> Result<u8, DecodeError>
     ensures { outcome result (T.state reader.new) ≡ next_byte (T.state reader.old) }
 {
-    match reader.next() {
-        Ok(byte) => Ok(byte),
-        Err(_) => Err(DecodeError::ExhaustedInput),
-    }
+    Ok(reader.next()?)
 }
 
 /// As many bytes as the array has.
@@ -29,10 +26,8 @@ pub fn next_bytes<const N: usize, T: Reader<u64, u8>>(
     ensures { outcome result (T.state reader.new) ≡ next_bytes N (T.state reader.old) }
 {
     let mut bytes = [0; N];
-    match reader.next_n(&mut bytes) {
-        Ok(()) => Ok(bytes),
-        Err(_) => Err(DecodeError::ExhaustedInput),
-    }
+    reader.next_n(&mut bytes)?;
+    Ok(bytes)
 }
 
 /// A number of one byte.
@@ -81,13 +76,12 @@ pub fn read_num<T: Reader<u64, u8>>(words: &mut T, width: u8) -> Result<u64, Dec
     requires { IsTrue (is_number_width width) }
     ensures { outcome result (T.state words.new) ≡ read_num width (T.state words.old) }
 {
-    let number = match width {
-        1 => read_u8(words)? as u64,
-        2 => read_u16(words)? as u64,
-        4 => read_u32(words)? as u64,
-        _ => read_u64(words)?,
-    };
-    Ok(number)
+    match width {
+        1 => Ok(read_u8(words)? as u64),
+        2 => Ok(read_u16(words)? as u64),
+        4 => Ok(read_u32(words)? as u64),
+        _ => read_u64(words),
+    }
 }
 
 /// A signed number of 1, 2 or 4 bytes. Where fewer are left, none is taken.
@@ -96,10 +90,9 @@ pub fn read_imm_signed<T: Reader<u64, u8>>(words: &mut T, width: u8) -> Result<i
     requires { IsTrue (is_signed_width width) }
     ensures { outcome result (T.state words.new) ≡ read_imm_signed width (T.state words.old) }
 {
-    let number = match width {
-        1 => read_u8(words)?.cast_signed() as i64,
-        2 => read_u16(words)?.cast_signed() as i64,
-        _ => read_u32(words)?.cast_signed() as i64,
-    };
-    Ok(number)
+    match width {
+        1 => Ok(read_u8(words)?.cast_signed() as i64),
+        2 => Ok(read_u16(words)?.cast_signed() as i64),
+        _ => Ok(read_u32(words)?.cast_signed() as i64),
+    }
 }

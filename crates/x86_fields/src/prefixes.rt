@@ -2,9 +2,9 @@
 
 ghost use Rattle.std.specs.Prelude.{◌≡◌, ◌↔◌, ℕ, ◌∷◌, ◌++◌, List, [], IsTrue};
 ghost use Rattle.x86_fields.specs.Prefixes.{operand_size, address_size, lock, segment, without_operand_size, with_es};
-ghost use Rattle.x86_fields.specs.Run.{repnz, rep, rep_any, reading_of, after_of, is_prefix};
+ghost use Rattle.x86_fields.specs.Run.{repnz, rep, rep_any, mandatory, reading_of, after_of, is_prefix};
 
-use crate::repeat::Repeat;
+use crate::repeat::{Mandatory, Repeat};
 use crate::rex::LiveRex;
 use x86_regs::Segment;
 
@@ -20,19 +20,22 @@ pub struct Prefixes {
 }
 
 impl Prefixes {
+    /// Nothing is set, and the segment is DS: `Prefixes::none()` as a constant.
+    pub const NONE: Prefixes = Prefixes {
+        operand_size: false,
+        address_size: false,
+        lock: false,
+        repeat: None,
+        segment: Segment::DS,
+        rex: LiveRex::NONE,
+    };
+
     /// Nothing is set, and the segment is DS.
     #[inline(always)]
     pub fn none() -> Prefixes
         ensures { result ≡ reading_of [] }
     {
-        Prefixes {
-            operand_size: false,
-            address_size: false,
-            lock: false,
-            repeat: None,
-            segment: Segment::DS,
-            rex: LiveRex::NONE,
-        }
+        Prefixes::NONE
     }
 
     /// The effect of one more prefix byte. A REX is live only as the last byte of a run.
@@ -43,39 +46,19 @@ impl Prefixes {
         ensures reading { (run : List ℕ) → self ≡ reading_of run →
             result ≡ reading_of (run ++ byte ∷ []) }
     {
-        let mut without = self;
-        without.set_rex(byte);
+        let mut prefixes = self;
+        prefixes.set_rex(byte);
         match byte {
-            0x66 => Prefixes {
-                operand_size: true,
-                ..without
-            },
-            0x67 => Prefixes {
-                address_size: true,
-                ..without
-            },
-            0xf0 => Prefixes {
-                lock: true,
-                ..without
-            },
-            0xf2 => Prefixes {
-                repeat: Some(Repeat::F2),
-                ..without
-            },
-            0xf3 => Prefixes {
-                repeat: Some(Repeat::F3),
-                ..without
-            },
-            0x64 => Prefixes {
-                segment: Segment::FS,
-                ..without
-            },
-            0x65 => Prefixes {
-                segment: Segment::GS,
-                ..without
-            },
-            _ => without,
+            0x66 => prefixes.operand_size = true,
+            0x67 => prefixes.address_size = true,
+            0xf0 => prefixes.lock = true,
+            0xf2 => prefixes.repeat = Some(Repeat::F2),
+            0xf3 => prefixes.repeat = Some(Repeat::F3),
+            0x64 => prefixes.segment = Segment::FS,
+            0x65 => prefixes.segment = Segment::GS,
+            _ => {}
         }
+        prefixes
     }
 
     /// 66 is cleared.
@@ -100,12 +83,17 @@ impl Prefixes {
         }
     }
 
-    /// Which of F2 and F3 is in force, if one is.
+    /// Which of F2, F3 and 66 chooses among the rows of an opcode byte: 66 does where neither F2 nor F3 is in force.
     #[inline(always)]
-    pub fn repeat(&self) -> Option<Repeat>
-        ensures { result ≡ self.now.repeat }
+    pub fn mandatory(&self) -> Mandatory
+        ensures { result ≡ mandatory self.now }
     {
-        self.repeat
+        match self.repeat {
+            Some(Repeat::F2) => Mandatory::F2,
+            Some(Repeat::F3) => Mandatory::F3,
+            None if self.operand_size => Mandatory::OperandSize,
+            None => Mandatory::Absent,
+        }
     }
 
     /// Whether F3 is in force.

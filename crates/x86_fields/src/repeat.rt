@@ -8,3 +8,13 @@ pub enum Repeat {
     /// REP and REPZ, or the mandatory prefix F3.
     F3,
 }
+
+/// Which prefix chooses among the rows of an opcode byte (Intel SDM volume 2, section 2.1.2, mandatory prefixes).
+#[derive(Clone, Copy, Drop)]
+pub enum Mandatory {
+    Absent,
+    /// 66.
+    OperandSize,
+    F3,
+    F2,
+}

@@ -6,7 +6,7 @@ ghost use Rattle.x86_fields.specs.ModRM.{base_field, index_field, packed_byte, s
 use std::marker::Model;
 
 /// A SIB byte: the fields scale, index and base (Intel SDM volume 2, section 2.1.5). A clause sees its byte.
-#[derive(Clone, Copy, PartialEq, Eq, Debug)]
+#[derive(Clone, Copy)]
 pub struct Sib {
     byte: u8,
 }

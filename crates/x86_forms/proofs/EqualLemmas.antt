@@ -1,87 +1,63 @@
--- Forms, rows, maps and columns that == finds equal are the same, and each equals itself.
-use Rattle.std.proofs.Common.{◌≡◌, ◌⊎◌, inl, inr, ℕ, ◌<◌, subst, Bool, true, false, true≢false, eqb, not, ◌&&◌, Some, List, [], ◌∷◌, zero, suc, slice_get, refl, arith, ap, sym, ◌∙◌}
-use Rattle.std.proofs.lemmas.Bool.{and_parts, eqb-true, not-true}
+-- Forms and rows that == finds equal are the same.
+use Rattle.std.proofs.Common.{◌≡◌, ℕ, true, eqb, Some, slice_get, refl, arith, ap, sym, ◌∙◌}
+use Rattle.std.proofs.lemmas.Bool.{and_parts, eqb-true}
 use Rattle.x86_forms.specs.declared.Form.{Form}
 use Rattle.x86_forms.specs.declared.Form.TheVariants as form
 use Rattle.x86_forms.specs.declared.TableRow.{TableRow}
-use Rattle.x86_forms.specs.contracts.FormPartialEq.TheImpl.Laws as laws
 use Rattle.x86_forms.specs.declared.ordinals.TheConstants.{FORMS}
 use Rattle.x86_forms.specs.Equality.{equal_forms, equal_rows}
-use Rattle.x86_forms.specs.Ordinals.{ordinal_of}
-use Rattle.x86_forms.specs.Words.{IsForm}
+use Rattle.x86_forms.specs.Ordinals.{first_ordinal_of, ordinal_of}
+use Rattle.x86_forms.specs.Words.{carried, IsForm}
 use Rattle.x86_forms.proofs.FormLemmas.{at_ordinal}
 
--- no form is equal to a later one
-abbrev none_equal : Form → List Form → Bool
-unfolding equal_forms
-none_equal f [] = true
-none_equal f (g ∷ gs) = not (equal_forms f g) && none_equal f gs
+-- the form with another number, if it carries one
+abbrev numbered : Form → ℕ → Form
+numbered (form.Zv_R m) n = form.Zv_R n
+numbered (form.Zv_AX_R m) n = form.Zv_AX_R n
+numbered (form.Zb_Ib_R m) n = form.Zb_Ib_R n
+numbered (form.Zv_Ivq_R m) n = form.Zv_Ivq_R n
+numbered (form.Zv_B m) n = form.Zv_B n
+numbered f n = f
 
-abbrev all_apart : List Form → Bool
-all_apart [] = true
-all_apart (f ∷ fs) = none_equal f fs && all_apart fs
+with_its_number : (f : Form) → numbered (numbered f 0) (carried f) ≡ f
+with_its_number (form.Zv_R n) = refl
+with_its_number (form.Zv_AX_R n) = refl
+with_its_number (form.Zb_Ib_R n) = refl
+with_its_number (form.Zv_Ivq_R n) = refl
+with_its_number (form.Zv_B n) = refl
+with_its_number f = refl
 
-forms_apart : all_apart FORMS.now ≡ true
-unfolding none_equal equal_forms
-forms_apart = refl
+zero_fits : (f : Form) → IsForm (numbered f 0)
+zero_fits (form.Zv_R n) = omega arith
+zero_fits (form.Zv_AX_R n) = omega arith
+zero_fits (form.Zb_Ib_R n) = omega arith
+zero_fits (form.Zv_Ivq_R n) = omega arith
+zero_fits (form.Zv_B n) = omega arith
+zero_fits f = omega arith
 
-not_equal_at : (f g : Form) (gs : List Form) (j : ℕ) → none_equal f gs ≡ true → slice_get gs j ≡ Some g → equal_forms f g ≡ false
-unfolding none_equal
-not_equal_at f g [] j e at = absurd cc
-not_equal_at f g (h ∷ gs) zero e at =
-    let same : h ≡ g = cc in
-    subst (λ x. equal_forms f x ≡ false) same (not-true (equal_forms f h) (and_parts (not (equal_forms f h)) (none_equal f gs) e).0)
-not_equal_at f g (h ∷ gs) (suc j) e at = not_equal_at f g gs j (and_parts (not (equal_forms f h)) (none_equal f gs) e).1 at
+zero_is_first : (f : Form) → ordinal_of (numbered f 0) ≡ first_ordinal_of f
+unfolding ordinal_of
+zero_is_first (form.Zv_R n) = refl
+zero_is_first (form.Zv_AX_R n) = refl
+zero_is_first (form.Zb_Ib_R n) = refl
+zero_is_first (form.Zv_Ivq_R n) = refl
+zero_is_first (form.Zv_B n) = refl
+zero_is_first f = refl
 
-apart_at : (fs : List Form) (i j : ℕ) (f g : Form) → all_apart fs ≡ true → slice_get fs i ≡ Some f → slice_get fs j ≡ Some g → i < j → equal_forms f g ≡ false
-apart_at [] i j f g e at_i at_j below = absurd cc
-apart_at (h ∷ fs) i zero f g e at_i at_j below = absurd (omega arith)
-apart_at (h ∷ fs) zero (suc j) f g e at_i at_j below =
-    let same : h ≡ f = cc in
-    subst (λ x. equal_forms x g ≡ false) same (not_equal_at h g fs j (and_parts (none_equal h fs) (all_apart fs) e).0 at_j)
-apart_at (h ∷ fs) (suc i) (suc j) f g e at_i at_j below =
-    apart_at fs i j f g (and_parts (none_equal h fs) (all_apart fs) e).1 at_i at_j (omega arith)
-
-not_below : (f g : Form) → IsForm f → IsForm g → equal_forms f g ≡ true → ordinal_of f < ordinal_of g → ⊥
-not_below f g fits_f fits_g e below =
-    true≢false (sym e ∙ apart_at FORMS.now (ordinal_of f) (ordinal_of g) f g forms_apart (at_ordinal f fits_f) (at_ordinal g fits_g) below)
-
-symmetric : (f g : Form) → equal_forms f g ≡ equal_forms g f
-unfolding equal_forms
-symmetric f g = (laws.laws-law).symm f g
-
-same_form : (f g : Form) → IsForm f → IsForm g → equal_forms f g ≡ true → f ≡ g
-same_form f g fits_f fits_g e =
-    let not_less : ordinal_of f < ordinal_of g → ⊥ = not_below f g fits_f fits_g e in
-    let not_more : ordinal_of g < ordinal_of f → ⊥ = not_below g f fits_g fits_f (symmetric g f ∙ e) in
-    let ordinal : ordinal_of f ≡ ordinal_of g = omega arith in
-    let both : Some f ≡ Some g = sym (at_ordinal f fits_f) ∙ (ap (slice_get FORMS.now) ordinal ∙ at_ordinal g fits_g) in
+same_variant : (f g : Form) → first_ordinal_of f ≡ first_ordinal_of g → numbered f 0 ≡ numbered g 0
+same_variant f g e =
+    let ordinal : ordinal_of (numbered f 0) ≡ ordinal_of (numbered g 0) = zero_is_first f ∙ (e ∙ sym (zero_is_first g)) in
+    let both : Some (numbered f 0) ≡ Some (numbered g 0) = sym (at_ordinal (numbered f 0) (zero_fits f)) ∙ (ap (slice_get FORMS.now) ordinal ∙ at_ordinal (numbered g 0) (zero_fits g)) in
     cc
-
--- an equal form is the same, or the form carries nothing
-same_or_fits : (f g : Form) → equal_forms f g ≡ true → (f ≡ g) ⊎ IsForm f
-unfolding equal_forms
-same_or_fits (form.Zv_R n) (form.Zv_R m) e = inl (ap form.Zv_R (eqb-true n m e))
-same_or_fits (form.Zv_AX_R n) (form.Zv_AX_R m) e = inl (ap form.Zv_AX_R (eqb-true n m e))
-same_or_fits (form.Zb_Ib_R n) (form.Zb_Ib_R m) e = inl (ap form.Zb_Ib_R (eqb-true n m e))
-same_or_fits (form.Zv_Ivq_R n) (form.Zv_Ivq_R m) e = inl (ap form.Zv_Ivq_R (eqb-true n m e))
-same_or_fits (form.Zv_B n) (form.Zv_B m) e = inl (ap form.Zv_B (eqb-true n m e))
-same_or_fits (form.Zv_R n) _ e = absurd (true≢false (sym e))
-same_or_fits (form.Zv_AX_R n) _ e = absurd (true≢false (sym e))
-same_or_fits (form.Zb_Ib_R n) _ e = absurd (true≢false (sym e))
-same_or_fits (form.Zv_Ivq_R n) _ e = absurd (true≢false (sym e))
-same_or_fits (form.Zv_B n) _ e = absurd (true≢false (sym e))
-same_or_fits f g e = inr (omega arith)
 
 -- equal forms are the same
 pub same_parts : (f g : Form) → equal_forms f g ≡ true → f ≡ g
-same_parts f g e = elim (same_or_fits f g e) [
-  | inl same ↦ same
-  | inr fits_f ↦ elim (same_or_fits g f (symmetric g f ∙ e)) [
-    | inl same ↦ sym same
-    | inr fits_g ↦ same_form f g fits_f fits_g e
-  ]
-]
+unfolding equal_forms
+same_parts f g e =
+    let parts = and_parts (eqb (first_ordinal_of f) (first_ordinal_of g)) (eqb (carried f) (carried g)) e in
+    let variant = same_variant f g (eqb-true (first_ordinal_of f) (first_ordinal_of g) parts.0) in
+    let number = eqb-true (carried f) (carried g) parts.1 in
+    sym (with_its_number f) ∙ (ap (λ h. numbered h (carried f)) variant ∙ (ap (numbered (numbered g 0)) number ∙ with_its_number g))
 
 pub same_rows : (r s : TableRow) → equal_rows r s ≡ true → r ≡ s
 unfolding equal_rows equal_forms

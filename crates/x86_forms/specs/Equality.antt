@@ -6,7 +6,7 @@ use Rattle.x86_forms.specs.declared.Form.{Form}
 use Rattle.x86_forms.specs.declared.TableRow.{TableRow}
 use Rattle.x86_forms.specs.contracts.MapPartialEq.TheImpl as map_eq
 use Rattle.x86_forms.specs.contracts.ColumnPartialEq.TheImpl as column_eq
-use Rattle.x86_forms.specs.contracts.FormPartialEq.TheImpl as form_eq
+use Rattle.x86_forms.specs.contracts.equality.FormPartialEq.TheImpl as form_eq
 use Rattle.x86_forms.specs.contracts.TableRowPartialEq.TheImpl as row_eq
 
 unfoldable pub equal_maps : Map → Map → Bool

@@ -41,7 +41,7 @@ reg_plan group.FF p m = plan_ff p m
 
 -- a line of the table is the plan of the group, unless it leaves it to a separate plan
 abbrev pub Chooses : RegGroup → ℕ → ℕ → FormEncoding → Type 0
-Chooses g m o e = IsTrue (is_described e.after_opcode) → (p : Prefixes) → plan_of e 0 o p m ≡ reg_plan g p m
+Chooses g m o e = IsTrue (is_described e.after_opcode) → (n : ℕ) (p : Prefixes) → plan_of e n o p m ≡ reg_plan g p m
 
 -- FF with reg 3 and 5, and 7, which is none
 abbrev pub far_plan : ℕ → Plan

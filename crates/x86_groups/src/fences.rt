@@ -5,13 +5,13 @@ ghost use Rattle.x86_groups.specs.Fences.{clears_operand_size, operand_size_0fae
 use crate::vocabulary::{
     bad_opcode, bad_operand, named_by_reg, on_memory, on_register, operandless,
 };
-use x86_fields::{ModRM, Prefixes};
+use x86_fields::{ModRM, PrefixedModRM, Prefixes};
 use x86_opcodes::Opcode;
 use x86_operands::UNDECIDED_SIZE;
 use x86_operands::plans::OperandEncoding::{E, Fixed};
 use x86_operands::plans::OperandEncodings::One;
 use x86_operands::plans::{Plan, PrefixChange, RegisterSlot, reads, size_by};
-use x86_regs::{RegSpec, RegisterClass};
+use x86_regs::RegisterClass;
 
 /// The answer's prefixes show 66 cleared.
 fn clears_operand_size(plan: Plan) -> Plan
@@ -41,7 +41,7 @@ fn f2_0fae(prefixes: &Prefixes, modrm: ModRM) -> Plan
     if modrm.is_memory() {
         bad_operand()
     } else if modrm.reg_field() == 6 {
-        let register = RegSpec::of(prefixes.rm_number(modrm), RegisterClass::D);
+        let register = PrefixedModRM::of(prefixes, modrm).rm(RegisterClass::D);
         let encoding = Fixed(RegisterSlot::Reg, register);
         reads(Opcode::UMWAIT, One(encoding), 0)
     } else {

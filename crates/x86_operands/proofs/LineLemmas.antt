@@ -1,13 +1,19 @@
 -- The line of each form in the table of operand encodings.
-use Rattle.std.proofs.Common.{◌≡◌, ◌<◌, ◌+◌, ℕ, true, rules, get_or, refl, sym, subst, arith}
+use Rattle.std.proofs.Common.{◌≡◌, ◌<◌, ◌+◌, ℕ, true, rules, get_or, refl, sym, ap, ◌∙◌, subst, arith}
 use Rattle.x86_forms.specs.declared.Form.{Form}
 use Rattle.x86_forms.specs.declared.Form.TheVariants as form
 use Rattle.x86_forms.specs.Ordinals.{first_ordinal_of, ordinal_of}
-use Rattle.x86_forms.specs.Words.{IsForm}
+use Rattle.x86_forms.specs.Words.{IsForm, carried}
 use Rattle.x86_forms.proofs.FormLemmas.{up_to_seven}
+use Rattle.x86_fields.specs.declared.prefixes.Prefixes.{Prefixes}
+use Rattle.x86_operands.specs.declared.encodings.AfterOpcode.{AfterOpcode}
+use Rattle.x86_operands.specs.declared.encodings.AfterOpcode.TheVariants as after_opcode
 use Rattle.x86_operands.specs.declared.encodings.FormEncoding.{FormEncoding}
+use Rattle.x86_operands.specs.declared.encodings.Width.{Width}
+use Rattle.x86_operands.specs.declared.encodings.Width.TheVariants as width
 use Rattle.x86_operands.specs.declared.form_encodings.TheConstants.{ENCODINGS}
-use Rattle.x86_operands.specs.Encodings.{Belongs, Describes, HasSeparatePlan, is_sound, use_of}
+use Rattle.x86_operands.specs.Encodings.{Belongs, Describes, HasSeparatePlan, encodings_in, is_sound, last_encoding, plan_of, reg_encoding, restricted_plan, rm_encoding, size_at, size_bytes, use_of}
+use Rattle.x86_operands.specs.Plans.{reads}
 use Rattle.x86_operands.specs.Forms.{modrm_use}
 
 pub record IsLine (e : FormEncoding) (f : Form) : Type 0 where
@@ -44,3 +50,34 @@ pub line_at : (f : Form) (n : ℕ) → IsForm f → n ≡ ordinal_of f → IsLin
 line_at f n below e d =
     subst (λ n. IsLine (get_or ENCODINGS.now n d) f) (sym e)
     (subst (λ line. IsLine line f) ((has_line f below).1 d) (first_line f d))
+
+-- the forms whose line has the register of the opcode byte carry a number
+opcode_carries : (f : Form) (d : FormEncoding) → IsForm f → (get_or ENCODINGS.now (first_ordinal_of f) d).after_opcode ≡ after_opcode.Opcode → ordinal_of f < 40
+unfolding ordinal_of
+opcode_carries (form.Zv_R n) d below is = omega (arith, below)
+opcode_carries (form.Zv_AX_R n) d below is = omega (arith, below)
+opcode_carries (form.Zb_Ib_R n) d below is = omega (arith, below)
+opcode_carries (form.Zv_Ivq_R n) d below is = omega (arith, below)
+opcode_carries (form.Zv_B n) d below is = omega (arith, below)
+opcode_carries _ d below is = absurd cc
+
+carries_at : (f : Form) (n : ℕ) (d : FormEncoding) → IsForm f → n ≡ ordinal_of f → (get_or ENCODINGS.now n d).after_opcode ≡ after_opcode.Opcode → n < 40
+carries_at f n d below e is =
+    let first : (get_or ENCODINGS.now (first_ordinal_of f) d).after_opcode ≡ after_opcode.Opcode = ap (λ line. line.after_opcode) ((has_line f below).1 d) ∙ (ap (λ k. (get_or ENCODINGS.now k d).after_opcode) (sym e) ∙ is) in
+    omega (arith, e, opcode_carries f d below first)
+
+-- the plan of a line looks at the number of the opcode byte only for the register of the opcode byte
+reg_by_number : (b : AfterOpcode) (w : Width) (n k : ℕ) (p : Prefixes) → (b ≡ after_opcode.Opcode → n ≡ k) → reg_encoding b w n p ≡ reg_encoding b w k p
+reg_by_number after_opcode.Opcode w n k p same = ap (λ x. reg_encoding after_opcode.Opcode w x p) (same refl)
+reg_by_number after_opcode.Accumulator w n k p same = refl
+reg_by_number b width.Mm n k p same = refl
+reg_by_number b w n k p same = refl
+
+plan_by_number : (e : FormEncoding) (n k o m : ℕ) (p : Prefixes) → (e.after_opcode ≡ after_opcode.Opcode → n ≡ k) → plan_of e n o p m ≡ plan_of e k o p m
+plan_by_number e n k o m p same =
+    ap (λ reg. restricted_plan e.after_opcode m (reads o (encodings_in e.order reg (rm_encoding e.after_opcode e.rm p) (last_encoding e.last p)) (size_bytes (size_at e m) o p)))
+    (reg_by_number e.after_opcode e.reg n k p same)
+
+pub numbered_at : (f : Form) (ordinal n : ℕ) (d : FormEncoding) → IsForm f → ordinal ≡ ordinal_of f → (ordinal < 40 → n ≡ carried f) → (o m : ℕ) (p : Prefixes) → plan_of (get_or ENCODINGS.now ordinal d) n o p m ≡ plan_of (get_or ENCODINGS.now ordinal d) (carried f) o p m
+numbered_at f ordinal n d below e number o m p =
+    plan_by_number (get_or ENCODINGS.now ordinal d) n (carried f) o m p (λ is. number (carries_at f ordinal d below e is))

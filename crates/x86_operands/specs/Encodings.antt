@@ -254,10 +254,6 @@ abbrev pub fixed_pair : AfterOpcode → Width → ℕ → Prefixes → Slot × O
 fixed_pair after_opcode.Opcode w n p = (slots.Reg, operands.Register (register_at n (class_of w p) p))
 fixed_pair b w n p = (slots.Reg, operands.Register (register_of (class_of w p) p 0))
 
--- the operand of rm, at a position
-abbrev pub rm_read : Position → Width → Prefixes → ℕ → Operands → Step Operands
-rm_read at w p m operand_list = read_memory p m >>= λ memory. pure (put_in at (rm_pair w p m memory) operand_list)
-
 -- the last operand
 abbrev pub last_read : Position → Last → Prefixes → Operands → Step Operands
 last_read Nowhere l p operand_list = pure operand_list

@@ -1,10 +1,11 @@
 //! What a line of the operand encodings says.
 
-ghost use Rattle.std.specs.Prelude.{◌≡◌, ◌<◌};
+ghost use Rattle.std.specs.Prelude.{◌≡◌, ◌<◌, ℕ};
 ghost use Rattle.x86_fields.specs.declared.prefixes.Prefixes.{Prefixes};
+ghost use Rattle.x86_fields.specs.ModRM.{is_memory};
 ghost use Rattle.x86_fields.specs.Sizes.{size_prefixes};
 ghost use Rattle.x86_operands.specs.FormSizes.{named_size};
-ghost use Rattle.x86_operands.specs.Encodings.{class_of, size_bytes, last_encoding, reg_encoding, rm_encoding, encoding_at, encodings_in, plan_of, use_of, is_described, allows, has_fields, size_at};
+ghost use Rattle.x86_operands.specs.Encodings.{class_of, size_bytes, last_encoding, reg_encoding, rm_encoding, encoding_at, encodings_in, plan_of, use_of, is_described, allows, size_at};
 
 use crate::form_sizes::{
     duplicate_size, extract_size, insert_size, nothing_size, push_immediate, return_size,
@@ -322,29 +323,15 @@ impl AfterOpcode {
             )
         }
     }
-
-    /// Whether a ModRM byte follows whose line is known, or chosen by reg.
-    #[inline(always)]
-    pub fn has_fields(self) -> bool
-        ensures { result ≡ has_fields self }
-    {
-        matches!(
-            self,
-            AfterOpcode::EitherForm
-                | AfterOpcode::Memory
-                | AfterOpcode::Registers
-                | AfterOpcode::ByReg(_)
-        )
-    }
 }
 
 impl FormEncoding {
-    /// The memory size at a ModRM byte.
+    /// The memory size in the memory form, or in the register form.
     #[inline(always)]
-    pub fn size_at(&self, modrm: ModRM) -> Size
-        ensures { result ≡ size_at self.now modrm }
+    pub fn size_at(&self, in_memory: bool) -> Size
+        ensures { (modrm : ℕ) → in_memory ≡ is_memory modrm → result ≡ size_at self.now modrm }
     {
-        if modrm.is_memory() {
+        if in_memory {
             self.in_memory
         } else {
             self.in_register
@@ -375,7 +362,8 @@ impl FormEncoding {
         let plan = reads(
             opcode,
             encodings,
-            self.size_at(modrm).bytes(opcode, prefixes.size_prefixes()),
+            self.size_at(modrm.is_memory())
+                .bytes(opcode, prefixes.size_prefixes()),
         );
         match self.after_opcode {
             AfterOpcode::Memory => memory_only(modrm, plan),

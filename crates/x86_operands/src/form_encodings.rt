@@ -4,16 +4,17 @@
 //! operand, and the memory size in the memory form and in the register form. A width or a size that no operand has is
 //! B or Zero.
 
-ghost use Rattle.std.specs.Prelude.{◌≡◌, ◌<◌, Some, true};
-ghost use Rattle.x86_forms.specs.Words.{IsForm, carried, unpack};
+ghost use Rattle.std.specs.Prelude.{◌≡◌, ◌<◌, ℕ, true};
+ghost use Rattle.x86_fields.specs.declared.prefixes.Prefixes.{Prefixes};
+ghost use Rattle.x86_forms.specs.Words.{IsForm, carried};
 ghost use Rattle.x86_operands.specs.Forms.{modrm_use};
-ghost use Rattle.x86_operands.specs.Encodings.{Belongs, Describes, HasSeparatePlan, is_sound, use_of};
+ghost use Rattle.x86_operands.specs.Encodings.{Belongs, Describes, HasSeparatePlan, is_sound, plan_of, use_of};
 
 use crate::encodings::AfterOpcode::{ByPlan, ByReg, Group};
 use crate::encodings::{FormEncoding, RegGroup};
 use crate::plans::ModrmUse;
 use crate::{encoded, other};
-use x86_forms::{Form, TableRow, word_ordinal};
+use x86_forms::{Form, WordRow};
 
 /// A line: what follows the opcode byte, the order of operands, the widths of reg and rm, the last operand, and
 /// the memory size in the memory form and in the register form.
@@ -272,19 +273,19 @@ pub fn form_encoding(form: Form) -> &'static FormEncoding
     &ENCODINGS[form.first_ordinal() as usize]
 }
 
-/// The operand encoding of the form that a word has: the row of this word is known. So the form need not be read to
-/// find its line.
+/// The operand encoding of the form that a word has. It is found by the ordinal, so the form need not be read.
 #[inline(always)]
-pub fn word_encoding(word: u64, row: &TableRow) -> &'static FormEncoding
-    requires form { IsForm row.now.form }
-    requires word { unpack word ≡ Some row.now }
-    ensures describes { Describes result.now row.now.form }
-    ensures separate { HasSeparatePlan result.now row.now.form }
-    ensures group { Belongs result.now.after_opcode row.now.form }
+pub fn word_encoding(found: &WordRow) -> &'static FormEncoding
+    ensures describes { Describes result.now found.now.row.form }
+    ensures separate { HasSeparatePlan result.now found.now.row.form }
+    ensures group { Belongs result.now.after_opcode found.now.row.form }
     ensures sound { is_sound result.now ≡ true }
-    ensures usage { modrm_use row.now.form ≡ use_of result.now.after_opcode }
+    ensures usage { modrm_use found.now.row.form ≡ use_of result.now.after_opcode }
+    ensures numbered { (opcode modrm : ℕ) (p : Prefixes) →
+        plan_of result.now found.now.number opcode p modrm
+        ≡ plan_of result.now (carried found.now.row.form) opcode p modrm }
 {
-    &ENCODINGS[word_ordinal(word) as usize]
+    &ENCODINGS[found.ordinal as usize]
 }
 
 /// The number that a form carries, or 0.
@@ -294,12 +295,5 @@ pub fn carried(form: Form) -> u8
     ensures value { result ≡ carried form }
     ensures small { result < 8 }
 {
-    match form {
-        Form::Zv_R(num)
-        | Form::Zv_AX_R(num)
-        | Form::Zb_Ib_R(num)
-        | Form::Zv_Ivq_R(num)
-        | Form::Zv_B(num) => num,
-        _ => 0,
-    }
+    form.carried()
 }

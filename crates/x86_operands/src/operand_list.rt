@@ -1,16 +1,13 @@
 //! The operands of an instruction: what their encodings yield, written where it stays.
 
 ghost use Rattle.std.specs.Prelude.{◌≡◌, ◌<◌, ◌≢◌, ℕ, Option, true};
-ghost use Rattle.x86_arch.specs.Reader.{State};
 ghost use Rattle.x86_fields.specs.Steps.{outcome};
 ghost use Rattle.x86_fields.specs.declared.prefixes.Prefixes.{Prefixes};
 ghost use Rattle.x86_fields.specs.declared.raw.Raw.{Raw};
-ghost use Rattle.x86_fields.specs.Sizes.{size_prefixes};
-ghost use Rattle.x86_operands.specs.declared.encodings.Last.TheVariants.{Absent};
 ghost use Rattle.x86_operands.specs.declared.order.Position.TheVariants.{Nowhere};
 ghost use Rattle.x86_operands.specs.PlanSteps.{memory_or, read_plan};
 ghost use Rattle.x86_operands.specs.LastEncodings.{is_last_encoding};
-ghost use Rattle.x86_operands.specs.Encodings.{rm_read, reg_pair, fixed_pair, no_operands, reading_with, plan_of, value_if_ok, put_in, put_at, put_encoded, last_encoding, encoded_read, leading_read, allows, is_sound, slot_in, operand_in};
+ghost use Rattle.x86_operands.specs.Encodings.{reg_pair, fixed_pair, no_operands, reading_with, plan_of, value_if_ok, put_in, put_at, put_encoded, last_encoding, encoded_read, leading_read, allows, is_sound, slot_in, operand_in};
 
 use crate::encodings::{AfterOpcode, FormEncoding, Last, Width};
 use crate::operands::{Operand, Slot};
@@ -19,7 +16,7 @@ use crate::plans::{OperandEncoding, pointer_slot, register_at, register_slot};
 use crate::shapes::put_shape;
 use x86_arch::Reader;
 use x86_fields::{
-    DecodeError, ModRM, Prefixes, Raw, SizePrefixes, read_raw, read_u8, read_u16, read_u32,
+    DecodeError, ModRM, PrefixedModRM, Prefixes, Raw, read_raw, read_u8, read_u16, read_u32,
     read_u64,
 };
 use x86_opcodes::Opcode;
@@ -165,15 +162,15 @@ impl Operands {
     {
         match encoding {
             OperandEncoding::G(class) => {
-                let reg = prefixes.register(class, prefixes.reg_number(modrm));
+                let reg = PrefixedModRM::of(prefixes, modrm).reg(class);
                 self.put_register(at, Slot::Reg, reg);
             }
             OperandEncoding::E(class) | OperandEncoding::U(class) => {
-                let reg = prefixes.register(class, prefixes.rm_number(modrm));
+                let reg = PrefixedModRM::of(prefixes, modrm).rm(class);
                 self.put_rm(at, memory, reg);
             }
             OperandEncoding::M => {
-                let reg = prefixes.register(RegisterClass::Q, prefixes.rm_number(modrm));
+                let reg = PrefixedModRM::of(prefixes, modrm).rm(RegisterClass::Q);
                 self.put_rm(at, memory, reg);
             }
             OperandEncoding::Gmm => self.put_register(
@@ -222,55 +219,18 @@ impl Operands {
         self.put_last(at as usize, reader, last.encoding(prefixes))
     }
 
-    /// The operand of rm.
-    #[tactic(auto, using(crate::proofs::OrderLemmas::rm_in_memory))]
-    #[inline(always)]
-    fn read_rm<T: Reader<u64, u8>>(
-        &mut self,
-        at: Position,
-        reader: &mut T,
-        width: Width,
-        sizes: SizePrefixes,
-        prefixes: &Prefixes,
-        modrm: ModRM,
-    ) -> Result<(), DecodeError>
-        requires index { at ≢ Nowhere }
-        requires sizes { sizes ≡ size_prefixes prefixes.now }
-        ensures { outcome (value_if_ok result self.new) (T.state reader.new)
-            ≡ rm_read at width prefixes.now modrm self.old (T.state reader.old) }
-    {
-        if modrm.is_memory() {
-            let raw = read_raw(reader, prefixes, modrm.byte())?;
-            put_shape(self, at as usize, &raw);
-            return Ok(());
-        }
-        let reg = match width {
-            Width::Mm => RegSpec::mm(modrm.rm_field()),
-            w => prefixes.register(w.class(sizes), prefixes.rm_number(modrm)),
-        };
-        self.put_at(at as usize, Slot::Rm, Operand::Register { reg });
-        Ok(())
-    }
-
     /// The register of reg, if it is an operand.
     #[inline(always)]
-    fn put_reg(
-        &mut self,
-        at: Position,
-        width: Width,
-        sizes: SizePrefixes,
-        prefixes: &Prefixes,
-        modrm: ModRM,
-    )
-        requires { sizes ≡ size_prefixes prefixes.now }
-        ensures { self.new ≡ put_in at (reg_pair width prefixes.now modrm) self.old }
+    fn put_reg(&mut self, at: Position, width: Width, fields: &PrefixedModRM<'_>)
+        ensures { self.new ≡ put_in at (reg_pair width fields.now.prefixes.now fields.now.modrm)
+            self.old }
     {
         match at {
             Position::Nowhere => {}
             at => {
                 let reg = match width {
-                    Width::Mm => RegSpec::mm(modrm.reg_field()),
-                    w => prefixes.register(w.class(sizes), prefixes.reg_number(modrm)),
+                    Width::Mm => RegSpec::mm(fields.modrm.reg_field()),
+                    w => fields.reg(w.class(fields.sizes)),
                 };
                 self.put_at(at as usize, Slot::Reg, Operand::Register { reg });
             }
@@ -279,25 +239,18 @@ impl Operands {
 
     /// The register of the opcode byte, or register 0, if it is an operand.
     #[inline(always)]
-    fn put_fixed(
-        &mut self,
-        encoding: &FormEncoding,
-        num: u8,
-        sizes: SizePrefixes,
-        prefixes: &Prefixes,
-    )
-        requires small { num < 8 }
-        requires sizes { sizes ≡ size_prefixes prefixes.now }
-        ensures { self.new ≡ put_in encoding.now.order.reg
-            (fixed_pair encoding.now.after_opcode encoding.now.reg num prefixes.now) self.old }
+    fn put_fixed(&mut self, encoding: &FormEncoding, num: u8, fields: &PrefixedModRM<'_>)
+        requires { num < 8 }
+        ensures { self.new ≡ put_in encoding.now.order.reg (fixed_pair encoding.now.after_opcode
+            encoding.now.reg num fields.now.prefixes.now) self.old }
     {
         match encoding.order.reg {
             Position::Nowhere => {}
             at => {
-                let class = encoding.reg.class(sizes);
+                let class = encoding.reg.class(fields.sizes);
                 let reg = match encoding.after_opcode {
-                    AfterOpcode::Opcode => register_at(num, class, prefixes),
-                    _ => prefixes.register(class, 0),
+                    AfterOpcode::Opcode => register_at(num, class, fields.prefixes),
+                    _ => fields.prefixes.register(class, 0),
                 };
                 self.put_at(at as usize, Slot::Reg, Operand::Register { reg });
             }
@@ -305,42 +258,55 @@ impl Operands {
     }
 
     /// The operands of ModRM, or a register that no ModRM names.
+    #[tactic(auto, using(crate::proofs::OrderLemmas::rm_in_memory))]
     #[inline(always)]
     fn read_leading<T: Reader<u64, u8>>(
         &mut self,
         reader: &mut T,
         encoding: &FormEncoding,
         num: u8,
-        sizes: SizePrefixes,
-        prefixes: &Prefixes,
-        modrm: ModRM,
+        fields: &PrefixedModRM<'_>,
     ) -> Result<(), DecodeError>
-        requires small { num < 8 }
-        requires sizes { sizes ≡ size_prefixes prefixes.now }
+        requires { num < 8 }
         ensures { outcome (value_if_ok result self.new) (T.state reader.new)
-            ≡ leading_read encoding.now num prefixes.now modrm self.old (T.state reader.old) }
+            ≡ leading_read encoding.now num fields.now.prefixes.now fields.now.modrm self.old
+            (T.state reader.old) }
     {
         match encoding.order.rm {
-            Position::Nowhere => self.put_fixed(encoding, num, sizes, prefixes),
+            Position::Nowhere => {
+                self.put_fixed(encoding, num, fields);
+                return Ok(());
+            }
+            at if fields.in_memory => {
+                let raw = read_raw(reader, fields.prefixes, fields.modrm.byte())?;
+                put_shape(self, at as usize, &raw);
+            }
             at => {
-                self.read_rm(at, reader, encoding.rm, sizes, prefixes, modrm)?;
-                self.put_reg(encoding.order.reg, encoding.reg, sizes, prefixes, modrm);
+                let reg = match encoding.rm {
+                    Width::Mm => RegSpec::mm(fields.modrm.rm_field()),
+                    w => fields.rm(w.class(fields.sizes)),
+                };
+                self.put_at(at as usize, Slot::Rm, Operand::Register { reg });
             }
         }
+        self.put_reg(encoding.order.reg, encoding.reg, fields);
         Ok(())
     }
+
+    /// No operands: `Operands::none()` as a constant.
+    pub const NONE: Operands = Operands {
+        slots: [Slot::Nothing; 4],
+        operands: [Operand::Nothing; 4],
+        count: 0,
+        mem_size: 0,
+    };
 
     /// No operands.
     #[inline(always)]
     pub fn none() -> Operands
         ensures { result ≡ no_operands }
     {
-        Operands {
-            slots: [Slot::Nothing; 4],
-            operands: [Operand::Nothing; 4],
-            count: 0,
-            mem_size: 0,
-        }
+        Operands::NONE
     }
 
     /// What an encoding has after ModRM, where it doesn't refuse.
@@ -363,10 +329,12 @@ impl Operands {
             (T.state reader.new) ≡ read_plan (plan_of encoding.now num opcode prefixes.now modrm)
             prefixes.now modrm (T.state reader.old) }
     {
-        let sizes = prefixes.size_prefixes();
+        let fields = PrefixedModRM::of(prefixes, modrm);
         self.count = encoding.order.count;
-        self.mem_size = encoding.size_at(modrm).bytes(opcode, sizes);
-        self.read_leading(reader, encoding, num, sizes, prefixes, modrm)?;
+        self.mem_size = encoding
+            .size_at(fields.in_memory)
+            .bytes(opcode, fields.sizes);
+        self.read_leading(reader, encoding, num, &fields)?;
         match encoding.order.last {
             Position::Nowhere => Ok(()),
             at => self.read_last(at, reader, encoding.last, prefixes),

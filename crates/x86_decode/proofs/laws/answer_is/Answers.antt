@@ -1,8 +1,5 @@
 use Rattle.x86_decode.proofs.PrintedLemmas.{is_answer, only_answer}
 use Rattle.x86_decode.proofs.laws.answer_is.Goals as goal
 
-pub returns-clause-there : goal.returns-clause-there
-returns-clause-there c = is_answer
-
-pub returns-clause-only : goal.returns-clause-only
-returns-clause-only c = only_answer
+pub returns : goal.returns
+returns c = record { there = is_answer; only = only_answer }

@@ -1,6 +1,6 @@
 use Rattle.std.proofs.Common.{ap, sym, ◌∙◌}
 use Rattle.x86_forms.specs.Equality.{equal_forms, equal_rows}
-use Rattle.x86_forms.specs.contracts.FormEq.TheImpl.Laws as form_laws
+use Rattle.x86_forms.specs.contracts.equality.FormEq.TheImpl.Laws as form_laws
 use Rattle.x86_forms.specs.contracts.TableRowEq.TheImpl.Laws as row_laws
 use Rattle.x86_forms.proofs.EqualLemmas.{same_parts, same_rows}
 use Rattle.x86_forms.proofs.laws.equality_is_of_all_parts.Goals as goal

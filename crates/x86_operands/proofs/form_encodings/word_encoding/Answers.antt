@@ -1,11 +1,20 @@
-use Rattle.x86_operands.proofs.LineLemmas.{line_at, ordinal_below}
+use Rattle.x86_operands.proofs.LineLemmas.{line_at, numbered_at, ordinal_below}
 use Rattle.x86_operands.proofs.form_encodings.word_encoding.Goals as goal
 
 pub returns : goal.returns
 returns c =
-    let line = line_at c.args.row.now.form c.word_ordinal.result c.requires.form (c.word_ordinal.ensures c.args.row.now c.requires.word) _ in
-    record { describes = line.describes; separate = line.separate; group = line.group; sound = line.sound; usage = line.usage }
+    let found = c.args.found.now in
+    let line = line_at found.row.form found.ordinal found.fits found.ordinal_is _ in
+    record {
+      describes = line.describes;
+      separate = line.separate;
+      group = line.group;
+      sound = line.sound;
+      usage = line.usage;
+      numbered = numbered_at found.row.form found.ordinal found.number _ found.fits found.ordinal_is found.number_is;
+    }
 
-pub bounds-word_ordinal : goal.bounds-word_ordinal
-bounds-word_ordinal c =
-    ordinal_below c.args.row.now.form c.word_ordinal.result c.requires.form (c.word_ordinal.ensures c.args.row.now c.requires.word)
+pub bounds-found : goal.bounds-found
+bounds-found c =
+    let found = c.args.found.now in
+    ordinal_below found.row.form found.ordinal found.fits found.ordinal_is
