@@ -1,5 +1,6 @@
 -- The line of each form in the table of operand encodings.
-use Rattle.std.proofs.Common.{◌≡◌, ◌<◌, ◌+◌, ℕ, true, rules, get_or, refl, sym, ap, ◌∙◌, subst, arith}
+use Rattle.std.proofs.Common.{◌≡◌, ◌<◌, ◌+◌, ℕ, Bool, true, false, not, ltb, ◌||◌, ◌&&◌, List, [], ◌∷◌, length, zero, suc, rules, get_or, refl, sym, ap, ◌∙◌, subst, arith}
+use Rattle.std.proofs.lemmas.Bool.{and_parts, ltb-true}
 use Rattle.x86_forms.specs.declared.Form.{Form}
 use Rattle.x86_forms.specs.declared.Form.TheVariants as form
 use Rattle.x86_forms.specs.Ordinals.{first_ordinal_of, ordinal_of}
@@ -51,20 +52,36 @@ line_at f n below e d =
     subst (λ n. IsLine (get_or ENCODINGS.now n d) f) (sym e)
     (subst (λ line. IsLine line f) ((has_line f below).1 d) (first_line f d))
 
--- the forms whose line has the register of the opcode byte carry a number
-opcode_carries : (f : Form) (d : FormEncoding) → IsForm f → (get_or ENCODINGS.now (first_ordinal_of f) d).after_opcode ≡ after_opcode.Opcode → ordinal_of f < 40
-unfolding ordinal_of
-opcode_carries (form.Zv_R n) d below is = omega (arith, below)
-opcode_carries (form.Zv_AX_R n) d below is = omega (arith, below)
-opcode_carries (form.Zb_Ib_R n) d below is = omega (arith, below)
-opcode_carries (form.Zv_Ivq_R n) d below is = omega (arith, below)
-opcode_carries (form.Zv_B n) d below is = omega (arith, below)
-opcode_carries _ d below is = absurd cc
+-- only the first 40 lines have the register of the opcode byte
+abbrev is_opcode : AfterOpcode → Bool
+is_opcode after_opcode.Opcode = true
+is_opcode b = false
+
+abbrev opcode_first : ℕ → List FormEncoding → Bool
+opcode_first k [] = true
+opcode_first k (e ∷ es) = (ltb k 40 || not (is_opcode e.after_opcode)) && opcode_first (suc k) es
+
+all_first : opcode_first 0 ENCODINGS.now ≡ true
+all_first = refl
+
+left : (a : Bool) → (a || false) ≡ true → a ≡ true
+left true h = refl
+left false h = h
+
+opcode_at : (es : List FormEncoding) (k i : ℕ) (d : FormEncoding) → opcode_first k es ≡ true → i < length es → (get_or es i d).after_opcode ≡ after_opcode.Opcode → i + k < 40
+opcode_at [] k i d e below is = absurd (omega arith)
+opcode_at (x ∷ es) k zero d e below is =
+    let here = subst (λ b. (ltb k 40 || not (is_opcode b)) ≡ true) is (and_parts (ltb k 40 || not (is_opcode x.after_opcode)) (opcode_first (suc k) es) e).0 in
+    let first : k < 40 = ltb-true k 40 (left (ltb k 40) here) in
+    omega (arith, first)
+opcode_at (x ∷ es) k (suc i) d e below is =
+    let there = opcode_at es (suc k) i d (and_parts (ltb k 40 || not (is_opcode x.after_opcode)) (opcode_first (suc k) es) e).1 (omega (arith, below)) is in
+    omega (arith, there)
 
 carries_at : (f : Form) (n : ℕ) (d : FormEncoding) → IsForm f → n ≡ ordinal_of f → (get_or ENCODINGS.now n d).after_opcode ≡ after_opcode.Opcode → n < 40
 carries_at f n d below e is =
-    let first : (get_or ENCODINGS.now (first_ordinal_of f) d).after_opcode ≡ after_opcode.Opcode = ap (λ line. line.after_opcode) ((has_line f below).1 d) ∙ (ap (λ k. (get_or ENCODINGS.now k d).after_opcode) (sym e) ∙ is) in
-    omega (arith, e, opcode_carries f d below first)
+    let first = opcode_at ENCODINGS.now 0 n d all_first (ordinal_below f n below e) is in
+    omega (arith, first)
 
 -- the plan of a line looks at the number of the opcode byte only for the register of the opcode byte
 reg_by_number : (b : AfterOpcode) (w : Width) (n k : ℕ) (p : Prefixes) → (b ≡ after_opcode.Opcode → n ≡ k) → reg_encoding b w n p ≡ reg_encoding b w k p
