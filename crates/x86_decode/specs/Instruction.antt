@@ -12,7 +12,7 @@ use Rattle.x86_operands.specs.declared.operands.Slot.TheVariants as slots
 use Rattle.x86_operands.specs.declared.operands.Operand.{Operand}
 use Rattle.x86_operands.specs.declared.operands.MemoryAccessSize.{MemoryAccessSize}
 use Rattle.x86_operands.specs.Operands.{access_size, is_memory_slot}
-use Rattle.x86_operands.specs.Encodings.{no_operands, reading_with, slot_in, operand_in}
+use Rattle.x86_operands.specs.OperandList.{no_operands, reading_with, slot_in, operand_in}
 use Rattle.x86_decode.specs.declared.instructions.Instruction.{Instruction}
 use Rattle.x86_decode.specs.declared.instructions.Shown.{Shown}
 

@@ -4,7 +4,7 @@ ghost use Rattle.x86_arch.specs.Reader.{marked};
 ghost use Rattle.x86_fields.specs.Steps.{Outcome, outcome};
 ghost use Rattle.x86_fields.specs.Run.{is_prefix, reading_of};
 ghost use Rattle.x86_forms.specs.Words.{rows_of};
-ghost use Rattle.x86_operands.specs.Encodings.{value_if_ok, no_operands};
+ghost use Rattle.x86_operands.specs.OperandList.{value_if_ok, no_operands};
 ghost use Rattle.x86_operands.specs.declared.reader.Reading.{Reading};
 ghost use Rattle.x86_decode.specs.Answer.{answer_of};
 ghost use Rattle.x86_decode.specs.Grammar.{allows_lock};

@@ -1,5 +1,3 @@
--- The lemmas on the plans of the groups, on what the groups have, and on the two choices.
-pub mod ChoiceLemmas
-pub mod GroupLemmas
-mod AskLemmas
+-- The lemmas on what is read of a group.
+pub mod GapLemmas
 pub mod RegLemmas

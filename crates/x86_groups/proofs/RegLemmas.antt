@@ -3,17 +3,17 @@ use Rattle.std.proofs.Common.{◌≡◌, ℕ, Bool, true, refl}
 use Rattle.x86_arch.specs.Reader.{State}
 use Rattle.x86_fields.specs.declared.prefixes.Prefixes.{Prefixes}
 use Rattle.x86_forms.specs.declared.TableRow.{TableRow}
-use Rattle.x86_operands.specs.declared.encodings.RegGroup.{RegGroup}
-use Rattle.x86_operands.specs.declared.encodings.RegGroup.TheVariants as group
+use Rattle.x86_plans.specs.declared.encodings.RegGroup.{RegGroup}
+use Rattle.x86_plans.specs.declared.encodings.RegGroup.TheVariants as group
 use Rattle.x86_fields.specs.Steps.{◌>>=◌}
 use Rattle.x86_forms.specs.Groups.{is_group}
 use Rattle.x86_forms.specs.declared.Form.{Form}
-use Rattle.x86_operands.specs.declared.plans.ModrmUse.TheVariants.{EitherForm}
+use Rattle.x86_plans.specs.declared.plans.ModrmUse.TheVariants.{EitherForm}
 use Rattle.x86_operands.specs.PlanSteps.{read_modrm, read_plan, record_step}
 use Rattle.x86_forms.specs.Words.{carried}
-use Rattle.x86_operands.specs.Encodings.{group_form}
-use Rattle.x86_groups.specs.Groups.{group_form_plan, group_plan, group_record}
-use Rattle.x86_groups.specs.ByReg.{reg_plan}
+use Rattle.x86_operands.specs.FormEncodings.{group_form}
+use Rattle.x86_group_plans.specs.Groups.{group_form_plan, group_plan, group_record}
+use Rattle.x86_group_plans.specs.ByReg.{reg_plan}
 
 pub reg_record : (g : RegGroup) (strict : Bool) (row : TableRow) (p : Prefixes) (s : State ℕ) → row.form ≡ group_form g → record_step (group_record strict row p) p s ≡ (read_modrm EitherForm >>= λ m. read_plan (reg_plan g p m) p m) s
 unfolding record_step group_record group_form_plan

@@ -14,23 +14,24 @@ use Rattle.x86_forms.specs.declared.Form.{Form}
 use Rattle.x86_forms.specs.declared.Form.TheVariants as form
 use Rattle.x86_forms.specs.declared.TableRow.{TableRow}
 use Rattle.x86_fields.specs.Prefixes.{operand_size, address_size}
-use Rattle.x86_operands.specs.declared.plans.RegisterSlot.{RegisterSlot}
-use Rattle.x86_operands.specs.declared.plans.RegisterSlot.TheVariants.{Reg, Rm, Third}
-use Rattle.x86_operands.specs.declared.plans.PointerSlot.{PointerSlot}
-use Rattle.x86_operands.specs.declared.plans.PointerSlot.TheVariants.{Deref, DerefEsi, DerefEdi, DerefRsi, DerefRdi}
-use Rattle.x86_operands.specs.declared.plans.OperandEncoding.{OperandEncoding}
-use Rattle.x86_operands.specs.declared.plans.OperandEncoding.TheVariants.{G, Gmm, E, Emm, M, U, Umm, Fixed, Pointer, I8, I32, U8, U16, X16, ConstantU8}
-use Rattle.x86_operands.specs.declared.plans.OperandEncodings.TheVariants.{Zero, One, Two, Three}
-use Rattle.x86_operands.specs.declared.plans.Fault.TheVariants.{BadOperand, Incomplete}
-use Rattle.x86_operands.specs.declared.plans.Moment.TheVariants.{AtModRM, AfterAddress, AfterSuffix}
-use Rattle.x86_operands.specs.declared.plans.PrefixChange.TheVariants.{SetsEs}
-use Rattle.x86_operands.specs.declared.plans.ModrmUse.{ModrmUse}
-use Rattle.x86_operands.specs.declared.plans.ModrmUse.TheVariants.{Absent, EitherForm}
-use Rattle.x86_operands.specs.declared.plans.Plan.{Plan}
+use Rattle.x86_plans.specs.declared.plans.RegisterSlot.{RegisterSlot}
+use Rattle.x86_plans.specs.declared.plans.RegisterSlot.TheVariants.{Reg, Rm}
+use Rattle.x86_plans.specs.declared.plans.PointerSlot.{PointerSlot}
+use Rattle.x86_plans.specs.declared.plans.PointerSlot.TheVariants.{Deref, DerefEsi, DerefEdi, DerefRsi, DerefRdi}
+use Rattle.x86_plans.specs.declared.plans.OperandEncoding.{OperandEncoding}
+use Rattle.x86_plans.specs.declared.plans.OperandEncoding.TheVariants.{G, Gmm, E, Emm, M, U, Umm, Fixed, Pointer, I8, I32, U8, U16, X16, ConstantU8}
+use Rattle.x86_plans.specs.declared.plans.OperandEncodings.TheVariants.{Zero, One, Two, Three}
+use Rattle.x86_plans.specs.declared.plans.Fault.TheVariants.{BadOperand, Incomplete}
+use Rattle.x86_plans.specs.declared.plans.Moment.TheVariants.{AtModRM, AfterAddress, AfterSuffix}
+use Rattle.x86_plans.specs.declared.plans.PrefixChange.TheVariants.{SetsEs}
+use Rattle.x86_plans.specs.declared.plans.ModrmUse.{ModrmUse}
+use Rattle.x86_plans.specs.declared.plans.ModrmUse.TheVariants.{Absent, EitherForm}
+use Rattle.x86_plans.specs.declared.plans.Plan.{Plan}
 use Rattle.x86_fields.specs.Sizes.{v_class, vq_class, vd_class, dq_class}
 use Rattle.x86_fields.specs.ModRM.{is_memory}
-use Rattle.x86_operands.specs.Plans.{RowRecord, reads, refuses, refused, memory_only, register_only, size_by, reg_number, register_at, accumulator_of, immediate_of}
-use Rattle.x86_operands.specs.FormSizes.{pointer_class, whole_immediate, push_immediate, address_encoding, widening, doubling, nothing_size, call_size, return_size, port_size, far_class, far_size, duplicate_size, stream_size, scalar_size, extend_size, is_half_load, extract_size, insert_size, unpack_size}
+use Rattle.x86_plans.specs.Plans.{RowRecord, reads, refuses, refused, memory_only, register_only, size_by, reg_number, register_at, accumulator_of, immediate_of}
+use Rattle.x86_plans.specs.FormSizes.{pointer_class, whole_immediate, push_immediate, address_encoding, widening, doubling, nothing_size, call_size, return_size, port_size, far_class, far_size, duplicate_size, stream_size, scalar_size, extend_size, is_half_load, extract_size, insert_size, unpack_size, v_size, or_v}
+use Rattle.x86_plans.specs.Encodings.{cl_third}
 
 -- ---- operand encodings of these forms
 
@@ -46,9 +47,6 @@ dl_in_reg = Fixed Reg (reg_spec 2 B)
 
 abbrev pub dx_in_reg : OperandEncoding
 dx_in_reg = Fixed Reg (reg_spec 2 W)
-
-abbrev pub cl_third : OperandEncoding
-cl_third = Fixed Third (reg_spec 1 B)
 
 abbrev pub segment_register : ℕ → OperandEncoding
 segment_register n = Fixed Reg (reg_spec n S)
@@ -76,14 +74,6 @@ wide_rdi = Pointer Deref (reg_spec 7 Q)
 
 abbrev pub sets_es : Plan → Plan
 sets_es plan = record plan { change = SetsEs }
-
--- the size of v
-abbrev pub v_size : Prefixes → ℕ
-v_size p = width_of (v_class p)
-
--- this size in the memory form, and that of v in the register form
-abbrev pub or_v : ℕ → Prefixes → ℕ → ℕ
-or_v memory p m = size_by m memory (v_size p)
 
 -- ---- mm registers
 abbrev pub mm_plan : Form → ℕ → Prefixes → ℕ → Plan

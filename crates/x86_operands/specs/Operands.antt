@@ -7,10 +7,7 @@ use Rattle.x86_operands.specs.declared.operands.Slot.{Slot}
 use Rattle.x86_operands.specs.declared.operands.Slot.TheVariants as slots
 use Rattle.x86_operands.specs.declared.operands.Operand.{Operand}
 use Rattle.x86_operands.specs.declared.operands.Operand.TheVariants as operands
-
--- the memory size where the processor decides it
-abbrev pub undecided_size : ℕ
-undecided_size = 63
+use Rattle.x86_plans.specs.Plans.{undecided_size}
 
 -- the memory size of a number, and the bytes that it has where the processor doesn't decide them
 abbrev pub access_size : ℕ → MemoryAccessSize

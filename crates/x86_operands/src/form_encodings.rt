@@ -8,46 +8,13 @@ ghost use Rattle.std.specs.Prelude.{◌≡◌, ◌<◌, ℕ, true};
 ghost use Rattle.x86_fields.specs.declared.prefixes.Prefixes.{Prefixes};
 ghost use Rattle.x86_forms.specs.Words.{IsForm, carried};
 ghost use Rattle.x86_operands.specs.Forms.{modrm_use};
-ghost use Rattle.x86_operands.specs.Encodings.{Belongs, Describes, HasSeparatePlan, is_sound, plan_of, use_of};
+ghost use Rattle.x86_operands.specs.FormEncodings.{Belongs, Describes, HasSeparatePlan};
+ghost use Rattle.x86_plans.specs.Encodings.{is_sound, plan_of, use_of};
 
-use crate::encodings::AfterOpcode::{ByPlan, ByReg, Group};
-use crate::encodings::{FormEncoding, RegGroup};
-use crate::plans::ModrmUse;
-use crate::{encoded, other};
 use x86_forms::{Form, WordRow};
-
-/// A line: what follows the opcode byte, the order of operands, the widths of reg and rm, the last operand, and
-/// the memory size in the memory form and in the register form.
-#[macro_export]
-macro_rules! encoded {
-    ($after_opcode:ident $order:ident $reg:ident $rm:ident $last:ident $memory:ident $register:ident) => {
-        $crate::FormEncoding {
-            after_opcode: $crate::AfterOpcode::$after_opcode,
-            order: $crate::order::$order,
-            reg: $crate::Width::$reg,
-            rm: $crate::Width::$rm,
-            last: $crate::Last::$last,
-            in_memory: $crate::Size::$memory,
-            in_register: $crate::Size::$register,
-        }
-    };
-}
-
-/// A form that no line describes.
-#[macro_export]
-macro_rules! other {
-    ($after_opcode:expr) => {
-        $crate::FormEncoding {
-            after_opcode: $after_opcode,
-            order: $crate::order::NO,
-            reg: $crate::Width::B,
-            rm: $crate::Width::B,
-            last: $crate::Last::Absent,
-            in_memory: $crate::Size::Zero,
-            in_register: $crate::Size::Zero,
-        }
-    };
-}
+use x86_plans::AfterOpcode::{ByPlan, ByReg, Group};
+use x86_plans::plans::ModrmUse;
+use x86_plans::{FormEncoding, RegGroup, encoded, other};
 
 const ZV_R: FormEncoding = encoded!(Opcode R Vq B Absent Eight Eight);
 

@@ -4,15 +4,13 @@ ghost use Rattle.std.specs.Prelude.{◌≡◌, ◌<◌, ◌≢◌, ℕ, Option, 
 ghost use Rattle.x86_fields.specs.Steps.{outcome};
 ghost use Rattle.x86_fields.specs.declared.prefixes.Prefixes.{Prefixes};
 ghost use Rattle.x86_fields.specs.declared.raw.Raw.{Raw};
-ghost use Rattle.x86_operands.specs.declared.order.Position.TheVariants.{Nowhere};
-ghost use Rattle.x86_operands.specs.PlanSteps.{memory_or, read_plan};
+ghost use Rattle.x86_plans.specs.declared.order.Position.TheVariants.{Nowhere};
+ghost use Rattle.x86_operands.specs.PlanSteps.{memory_or, pointer_slot, read_plan, register_slot};
 ghost use Rattle.x86_operands.specs.LastEncodings.{is_last_encoding};
-ghost use Rattle.x86_operands.specs.Encodings.{reg_pair, fixed_pair, no_operands, reading_with, plan_of, value_if_ok, put_in, put_at, put_encoded, last_encoding, encoded_read, leading_read, allows, is_sound, slot_in, operand_in};
+ghost use Rattle.x86_operands.specs.OperandList.{reg_pair, fixed_pair, no_operands, reading_with, value_if_ok, put_in, put_at, put_encoded, encoded_read, leading_read, slot_in, operand_in};
+ghost use Rattle.x86_plans.specs.Encodings.{plan_of, last_encoding, allows, is_sound};
 
-use crate::encodings::{AfterOpcode, FormEncoding, Last, Width};
 use crate::operands::{Operand, Slot};
-use crate::order::Position;
-use crate::plans::{OperandEncoding, pointer_slot, register_at, register_slot};
 use crate::shapes::put_shape;
 use x86_arch::Reader;
 use x86_fields::{
@@ -20,7 +18,34 @@ use x86_fields::{
     read_u64,
 };
 use x86_opcodes::Opcode;
+use x86_plans::order::Position;
+use x86_plans::plans::{OperandEncoding, PointerSlot, RegisterSlot, register_at};
+use x86_plans::{AfterOpcode, FormEncoding, Last, Width};
 use x86_regs::{RegSpec, RegisterClass};
+
+/// The slot of a register that the record names.
+fn register_slot(slot: RegisterSlot) -> Slot
+    ensures { result ≡ register_slot slot }
+{
+    match slot {
+        RegisterSlot::Reg => Slot::Reg,
+        RegisterSlot::Rm => Slot::Rm,
+        RegisterSlot::Third => Slot::Third,
+    }
+}
+
+/// The slot of a string operand, as an answer has it.
+fn pointer_slot(slot: PointerSlot) -> Slot
+    ensures { result ≡ pointer_slot slot }
+{
+    match slot {
+        PointerSlot::Deref => Slot::Deref,
+        PointerSlot::DerefEsi => Slot::DerefEsi,
+        PointerSlot::DerefEdi => Slot::DerefEdi,
+        PointerSlot::DerefRsi => Slot::DerefRsi,
+        PointerSlot::DerefRdi => Slot::DerefRdi,
+    }
+}
 
 /// The operands of an instruction, in the order in which a listing names them.
 #[derive(Clone, Copy, Debug, Drop)]
@@ -203,7 +228,7 @@ impl Operands {
     }
 
     /// The last operand, as its encoding yields it.
-    #[tactic(auto, using(crate::proofs::OrderLemmas::encoded_at_position))]
+    #[tactic(auto, using(crate::proofs::InPlaceLemmas::encoded_at_position))]
     #[inline(always)]
     fn read_last<T: Reader<u64, u8>>(
         &mut self,
@@ -258,7 +283,7 @@ impl Operands {
     }
 
     /// The operands of ModRM, or a register that no ModRM names.
-    #[tactic(auto, using(crate::proofs::OrderLemmas::rm_in_memory))]
+    #[tactic(auto, using(crate::proofs::InPlaceLemmas::rm_in_memory))]
     #[inline(always)]
     fn read_leading<T: Reader<u64, u8>>(
         &mut self,
@@ -310,7 +335,7 @@ impl Operands {
     }
 
     /// What an encoding has after ModRM, where it doesn't refuse.
-    #[tactic(auto, using(crate::proofs::OrderLemmas::plan_is_read, crate::proofs::OrderLemmas::last_there, crate::proofs::OrderLemmas::sound_parts))]
+    #[tactic(auto, using(crate::proofs::InPlaceLemmas::plan_is_read, x86_plans::proofs::OrderLemmas::last_there, x86_plans::proofs::OrderLemmas::sound_parts))]
     #[inline(always)]
     pub fn read<T: Reader<u64, u8>>(
         &mut self,

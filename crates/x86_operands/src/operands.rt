@@ -5,6 +5,7 @@ ghost use Rattle.x86_operands.specs.Linear.{operand_address};
 ghost use Rattle.x86_operands.specs.Operands.{is_memory_operand, is_memory_slot, operand_width, access_size, bytes_size};
 
 use x86_fields::{AddressParts, RegFile};
+use x86_plans::UNDECIDED_SIZE;
 use x86_regs::{MergeMode, RegSpec, SaeMode};
 
 /// An operand of an instruction. The examples are as a listing prints them: numbers are decimal.
@@ -204,9 +205,6 @@ pub enum Slot {
     /// Memory at a base, an index times its scale and a displacement other than 0.
     BaseIndexScaleDisp,
 }
-
-/// The memory size of an operation for which the processor decides it, as for the state that XSAVE stores.
-pub const UNDECIDED_SIZE: u8 = 63;
 
 /// A memory size in bytes, as the row of an instruction has it, whether or not an operand is memory.
 #[derive(Clone, Copy, PartialEq, Eq, Debug, Drop)]

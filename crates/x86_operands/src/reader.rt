@@ -1,21 +1,21 @@
 //! The one reader of plans: what a record has after its opcode byte.
-ghost use Rattle.x86_operands.specs.Encodings.{value_if_ok, no_operands, reading_with, filled_from, put_encoded};
+ghost use Rattle.x86_operands.specs.OperandList.{value_if_ok, no_operands, reading_with, filled_from, put_encoded};
 ghost use Rattle.std.specs.Prelude.{◌≡◌, ℕ, ◌<◌, ◌∷◌, []};
 ghost use Rattle.x86_arch.specs.Reader.{State};
 ghost use Rattle.x86_fields.specs.Steps.{outcome};
-ghost use Rattle.x86_operands.specs.Plans.{list_of};
+ghost use Rattle.x86_plans.specs.Plans.{list_of};
 ghost use Rattle.x86_operands.specs.Suffix.{suffix_opcode};
 ghost use Rattle.x86_operands.specs.PlanSteps.{filled_step, error_of, refuse_at, read_opcode, read_memory, changed, read_plan, read_modrm, refuse_fault};
 
-use crate::asks::used_modrm;
 use crate::operand_list::Operands;
 use crate::operands::{Operand, Slot};
-use crate::plans::{
-    Fault, ModrmUse, Moment, OperandEncoding, OperandEncodings, Plan, PrefixChange, Verdict,
-};
 use x86_arch::Reader;
 use x86_fields::{DecodeError, ModRM, Prefixes, Raw, next_byte, read_raw};
 use x86_opcodes::Opcode;
+use x86_plans::plans::{
+    Fault, ModrmUse, Moment, OperandEncoding, OperandEncodings, Plan, PrefixChange, Verdict,
+};
+use x86_plans::used_modrm;
 
 /// What was read after an opcode byte.
 #[derive(Clone, Copy, Drop)]

@@ -6,20 +6,20 @@ use Rattle.x86_fields.specs.declared.prefixes.Prefixes.{Prefixes}
 use Rattle.x86_fields.specs.declared.rex.PrefixRex.{PrefixRex}
 use Rattle.x86_fields.specs.ModRM.{reg_field, is_memory}
 use Rattle.x86_forms.specs.declared.Form.{Form}
-use Rattle.x86_operands.specs.declared.plans.ModrmUse.TheVariants.{EitherForm}
-use Rattle.x86_operands.specs.declared.plans.Plan.{Plan}
+use Rattle.x86_plans.specs.declared.plans.ModrmUse.TheVariants.{EitherForm}
+use Rattle.x86_plans.specs.declared.plans.Plan.{Plan}
 use Rattle.x86_forms.specs.declared.Form.TheVariants as form
 use Rattle.x86_forms.specs.declared.TableRow.{TableRow}
 use Rattle.x86_forms.specs.Groups.{is_group}
-use Rattle.x86_operands.specs.Plans.{RowRecord, list_of}
+use Rattle.x86_plans.specs.Plans.{RowRecord, list_of}
 use Rattle.x86_operands.specs.Pieces.{is_refusal}
 use Rattle.x86_operands.specs.Forms.{form_plan, form_record, modrm_use}
 use Rattle.x86_decode.specs.Grammar.{record_of}
 use Rattle.x86_decode.specs.Addresses.{is_modrm_encoding}
 use Rattle.x86_layout.specs.Tightening.Tighten.{bits_in}
-use Rattle.x86_groups.specs.Keys.{fault_f30f3af0}
-use Rattle.x86_groups.specs.Groups.{group_fault, group_modrm, group_record}
-use Rattle.x86_groups.specs.Groups as groups
+use Rattle.x86_group_plans.specs.Keys.{fault_f30f3af0}
+use Rattle.x86_group_plans.specs.Groups.{group_fault, group_modrm, group_record}
+use Rattle.x86_group_plans.specs.Groups as groups
 use Rattle.x86_layout.proofs.TightenLemmas.GroupPlans.{group_plans}
 
 -- ---- mod and rm

@@ -4,7 +4,7 @@ ghost use Rattle.std.specs.Prelude.{◌≡◌, Bool, true, length, take, drop, s
 ghost use Rattle.std.specs.List.{list_all, prefix_len};
 ghost use Rattle.x86_fields.specs.Run.{is_prefix};
 ghost use Rattle.x86_forms.specs.Words.{IsForm, rows_of, packed};
-ghost use Rattle.x86_operands.specs.Asks.{ask_of};
+ghost use Rattle.x86_plans.specs.Asks.{ask_of};
 ghost use Rattle.x86_decode.specs.Head.{column_of, escape_bytes, seen_by};
 ghost use Rattle.x86_decode.specs.Grammar.{record_of};
 ghost use Rattle.x86_layout.specs.Parts.Heads.{map_of, IsHead};

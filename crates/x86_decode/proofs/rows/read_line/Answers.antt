@@ -2,10 +2,10 @@ use Rattle.std.proofs.Common.{rules, ◌≡◌, ℕ, Bool, true, IsTrue, Bor, Ok
 use Rattle.x86_fields.specs.declared.errors.DecodeError.TheVariants.{ExhaustedInput}
 use Rattle.x86_fields.specs.declared.prefixes.Prefixes.{Prefixes}
 use Rattle.x86_fields.specs.Steps.{outcome, then_from, ◌>>=◌}
-use Rattle.x86_operands.specs.declared.encodings.FormEncoding.{FormEncoding}
-use Rattle.x86_operands.specs.Encodings.{allows, is_described, is_sound, plan_of}
+use Rattle.x86_plans.specs.declared.encodings.FormEncoding.{FormEncoding}
+use Rattle.x86_plans.specs.Encodings.{allows, is_described, is_sound, plan_of}
 use Rattle.x86_operands.specs.PlanSteps.{read_plan}
-use Rattle.x86_operands.proofs.OrderLemmas.{allowed_is_described}
+use Rattle.x86_plans.proofs.OrderLemmas.{allowed_is_described}
 use Rattle.x86_decode.specs.Walk.{found_row_step, plan_at, some_row}
 use Rattle.x86_decode.proofs.HeadWalk.{byte_is, none_is}
 use Rattle.x86_decode.proofs.LineLemmas.{form_described, row_with_modrm, reg_described}

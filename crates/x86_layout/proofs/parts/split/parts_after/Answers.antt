@@ -1,5 +1,5 @@
 use Rattle.std.proofs.Common.{◌≡◌, ℕ, ◌++◌, length, slice_index, ap, ◌∙◌, arith, length-take, take-append-drop}
-use Rattle.x86_operands.specs.Pieces.{modrm_of}
+use Rattle.x86_plans.specs.Asks.{modrm_of}
 use Rattle.x86_layout.specs.Parts.Heads.{one_if, has_sib}
 use Rattle.x86_layout.specs.Parts.Split.{sib_width}
 use Rattle.x86_layout.proofs.PartLemmas.Part.{from_is, cut_is, modrm_count, sib_count, immediate_count, address_count, sib_within}

@@ -1,0 +1,113 @@
+-- What the operands of an instruction are after each step that writes them.
+use Rattle.std.specs.Prelude.{ℕ, if◌then◌else◌}
+use Rattle.x86_regs.specs.declared.RegisterClass.TheVariants as class
+use Rattle.x86_fields.specs.declared.prefixes.Prefixes.{Prefixes}
+use Rattle.x86_plans.specs.declared.plans.OperandEncoding.{OperandEncoding}
+use Rattle.x86_plans.specs.declared.order.Position.{Position}
+use Rattle.x86_plans.specs.declared.order.Position.TheVariants.{First, Second, Third, Nowhere}
+use Rattle.x86_plans.specs.declared.encodings.AfterOpcode.{AfterOpcode}
+use Rattle.x86_plans.specs.declared.encodings.AfterOpcode.TheVariants as after_opcode
+use Rattle.x86_plans.specs.declared.encodings.Width.{Width}
+use Rattle.x86_plans.specs.declared.encodings.Width.TheVariants as width
+use Rattle.x86_plans.specs.declared.encodings.Last.{Last}
+use Rattle.x86_plans.specs.declared.encodings.FormEncoding.{FormEncoding}
+use Rattle.x86_fields.specs.declared.raw.Raw.{Raw}
+use Rattle.x86_fields.specs.ModRM.{reg_field, absent_modrm}
+use Rattle.x86_plans.specs.Plans.{reg_number, register_at}
+use Rattle.std.specs.Prelude.{Result, Ok, Err, Option, None, nat_lt, slice_index_or, slice_set, ◌∷◌, []}
+use Rattle.x86_regs.specs.Register.{reg_spec}
+use Rattle.x86_operands.specs.declared.operands.Slot.TheVariants as slots
+use Rattle.x86_operands.specs.declared.operands.Operand.TheVariants as operands
+use Rattle.x86_fields.specs.declared.errors.DecodeError.{DecodeError}
+use Rattle.x86_fields.specs.Steps.{Step, ◌>>=◌, pure}
+use Rattle.x86_fields.specs.Sizes.{register_of}
+use Rattle.x86_operands.specs.PlanSteps.{FilledOperands, operand_step, read_memory, rm_operand, rm_mm_operand}
+use Rattle.x86_operands.specs.declared.reader.Reading.{Reading}
+use Rattle.x86_operands.specs.declared.operands.Slot.{Slot}
+use Rattle.x86_operands.specs.declared.operands.Operand.{Operand}
+use Rattle.x86_operands.specs.declared.operand_list.Operands.{Operands}
+use Rattle.x86_plans.specs.Encodings.{class_of, last_encoding, somewhere}
+
+-- what was written, where the reading is Ok
+abbrev pub value_if_ok : {X : Type 0} → Result (Unit {0}) DecodeError → X → Result X DecodeError
+value_if_ok (Ok u) x = Ok x
+value_if_ok (Err e) x = Err e
+
+abbrev pub index_of_position : Position → ℕ
+index_of_position First = 0
+index_of_position Second = 1
+index_of_position Third = 2
+index_of_position Nowhere = 3
+
+abbrev pub put_at : ℕ → Slot × Operand → Operands → Operands
+put_at k x operand_list = record operand_list { slots = slice_set operand_list.slots k x.0; operands = slice_set operand_list.operands k x.1 }
+
+-- a pair at a position; Nowhere is none
+abbrev pub put_in : Position → Slot × Operand → Operands → Operands
+put_in First x operand_list = put_at 0 x operand_list
+put_in Second x operand_list = put_at 1 x operand_list
+put_in Third x operand_list = put_at 2 x operand_list
+put_in Nowhere x operand_list = operand_list
+
+-- the operand of an encoding that looks at no ModRM, at a position
+abbrev pub encoded_read : Position → OperandEncoding → Prefixes → Operands → Step Operands
+encoded_read at s p operand_list = operand_step s p absent_modrm None >>= λ x. pure (put_in at x operand_list)
+
+abbrev pub no_operands : Operands
+no_operands = record { slots = slots.Nothing ∷ slots.Nothing ∷ slots.Nothing ∷ slots.Nothing ∷ []; operands = operands.Nothing ∷ operands.Nothing ∷ operands.Nothing ∷ operands.Nothing ∷ []; count = 0; mem_size = 0 }
+
+abbrev pub reading_with : ℕ → Prefixes → Operands → Reading
+reading_with o p operand_list = record { opcode = o; count = operand_list.count; slots = operand_list.slots; operands = operand_list.operands; mem_size = operand_list.mem_size; prefixes = p }
+
+-- the operand of rm
+abbrev pub rm_pair : Width → Prefixes → ℕ → Option Raw → Slot × Operand
+rm_pair width.Mm p m memory = rm_mm_operand m memory
+rm_pair w p m memory = rm_operand (class_of w p) p m memory
+
+-- the register of reg
+abbrev pub reg_pair : Width → Prefixes → ℕ → Slot × Operand
+reg_pair width.Mm p m = (slots.Reg, operands.Register (reg_spec (reg_field m) class.MM))
+reg_pair w p m = (slots.Reg, operands.Register (register_of (class_of w p) p (reg_number m p)))
+
+-- the register of the opcode byte, or register 0
+abbrev pub fixed_pair : AfterOpcode → Width → ℕ → Prefixes → Slot × Operand
+fixed_pair after_opcode.Opcode w n p = (slots.Reg, operands.Register (register_at n (class_of w p) p))
+fixed_pair b w n p = (slots.Reg, operands.Register (register_of (class_of w p) p 0))
+
+-- the last operand
+abbrev pub last_read : Position → Last → Prefixes → Operands → Step Operands
+last_read Nowhere l p operand_list = pure operand_list
+last_read at l p operand_list = encoded_read at (last_encoding l p) p operand_list
+
+-- the operands of ModRM
+abbrev pub modrm_read : Position → Width → Position → Width → Prefixes → ℕ → Operands → Step Operands
+modrm_read at_reg wr at_rm we p m operand_list = read_memory p m >>= λ memory. pure (put_in at_reg (reg_pair wr p m) (put_in at_rm (rm_pair we p m memory) operand_list))
+
+-- the operands of ModRM, or a register that no ModRM names
+abbrev pub leading_read : FormEncoding → ℕ → Prefixes → ℕ → Operands → Step Operands
+leading_read e n p m operand_list = if somewhere e.order.rm then modrm_read e.order.reg e.reg e.order.rm e.rm p m operand_list else pure (put_in e.order.reg (fixed_pair e.after_opcode e.reg n p) operand_list)
+
+-- what an encoding writes
+abbrev pub operands_read : FormEncoding → ℕ → Prefixes → ℕ → Operands → Step Operands
+operands_read e n p m operand_list = leading_read e n p m operand_list >>= last_read e.order.last e.last p
+
+-- the slot and the operand at an index: nothing at the count and above
+abbrev pub slot_in : Operands → ℕ → Slot
+slot_in operand_list k = if nat_lt k operand_list.count then slice_index_or operand_list.slots k slots.Nothing else slots.Nothing
+
+abbrev pub operand_in : Operands → ℕ → Operand
+operand_in operand_list k = if nat_lt k operand_list.count then slice_index_or operand_list.operands k operands.Nothing else operands.Nothing
+
+-- no operand yet, of so many, with this memory size
+abbrev pub sized : ℕ → ℕ → Operands
+sized count size = record no_operands { count = count; mem_size = size }
+
+-- ---- plans, in place
+
+-- what an operand encoding yields, at an index
+abbrev pub put_encoded : ℕ → OperandEncoding → Prefixes → ℕ → Option Raw → Operands → Step Operands
+put_encoded k s p m memory operand_list = operand_step s p m memory >>= λ x. pure (put_at k x operand_list)
+
+-- the operands without their memory size
+abbrev pub filled_from : Operands → FilledOperands
+filled_from operand_list = record { count = operand_list.count; slots = operand_list.slots; operands = operand_list.operands }
