@@ -10,7 +10,7 @@ use Rattle.x86_fields.specs.Run.{reading_of}
 use Rattle.x86_fields.specs.Linear.{raw_form}
 use Rattle.x86_forms.specs.Words.{rows_of, packed}
 use Rattle.x86_operands.specs.Shape.{shape}
-use Rattle.x86_operands.specs.Linear.{operand_form}
+use Rattle.x86_operand_types.specs.Linear.{operand_form}
 use Rattle.x86_plans.specs.Plans.{RowRecord}
 use Rattle.x86_decode.specs.declared.instructions.Instruction.{Instruction}
 use Rattle.x86_decode.specs.Head.{Rows, escape_bytes, clears, column_of, seen_by}

@@ -12,7 +12,8 @@ use Rattle.x86_plans.specs.declared.plans.Fault.TheVariants.{BadOpcode, BadOpera
 use Rattle.x86_plans.specs.declared.plans.Moment.TheVariants.{AfterAddress}
 use Rattle.x86_plans.specs.declared.plans.Plan.{Plan}
 use Rattle.x86_fields.specs.ModRM.{reg_field, is_memory}
-use Rattle.x86_plans.specs.Plans.{undecided_size, reads, refuses, memory_only, size_by}
+use Rattle.x86_fields.specs.MemorySizes.{undecided_size}
+use Rattle.x86_plans.specs.Plans.{reads, refuses, memory_only, size_by}
 use Rattle.x86_opcodes.specs.Names.{BT, BTS, BTR, BTC, CMPXCHG16B, CMPXCHG8B, VMCLEAR, RDRAND, RDSEED, VMXON, SENDUIPI, RDPID, XRSTORS, XRSTORS64, XSAVEC, XSAVEC64, XSAVES, XSAVES64, VMPTRLD, VMPTRST}
 use Rattle.x86_fields.specs.Prefixes.{operand_size}
 use Rattle.x86_group_plans.specs.Vocabulary.{bad_opcode, bad_operand, name_at, on_memory, on_register}

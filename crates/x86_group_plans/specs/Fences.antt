@@ -12,7 +12,8 @@ use Rattle.x86_plans.specs.declared.plans.OperandEncodings.TheVariants.{One}
 use Rattle.x86_plans.specs.declared.plans.PrefixChange.TheVariants.{ClearsOperandSize}
 use Rattle.x86_plans.specs.declared.plans.Plan.{Plan}
 use Rattle.x86_fields.specs.ModRM.{reg_field, rm_field, is_memory}
-use Rattle.x86_plans.specs.Plans.{undecided_size, reads, size_by, rm_number}
+use Rattle.x86_fields.specs.MemorySizes.{undecided_size}
+use Rattle.x86_plans.specs.Plans.{reads, size_by, rm_number}
 use Rattle.x86_plans.specs.declared.plans.RegisterSlot.TheVariants as reg_slot
 use Rattle.x86_opcodes.specs.Names.{CLWB, CLFLUSH, CLFLUSHOPT, TPAUSE, UMWAIT, PTWRITE, RDFSBASE, RDGSBASE, WRFSBASE, WRGSBASE, INCSSP, UMONITOR, CLRSSBSY, FXSAVE, XSAVE, FXRSTOR, XRSTOR, LDMXCSR, STMXCSR, XSAVEOPT, LFENCE, MFENCE, SFENCE}
 use Rattle.x86_fields.specs.Prefixes.{operand_size}

@@ -8,7 +8,8 @@ use Rattle.x86_plans.specs.declared.plans.OperandEncoding.TheVariants.{M, Fixed}
 use Rattle.x86_plans.specs.declared.plans.OperandEncodings.TheVariants.{One, Two}
 use Rattle.x86_plans.specs.declared.plans.Plan.{Plan}
 use Rattle.x86_fields.specs.ModRM.{reg_field, rm_field, is_memory}
-use Rattle.x86_plans.specs.Plans.{undecided_size, reads}
+use Rattle.x86_fields.specs.MemorySizes.{undecided_size}
+use Rattle.x86_plans.specs.Plans.{reads}
 use Rattle.x86_plans.specs.declared.plans.RegisterSlot.TheVariants as reg_slot
 use Rattle.x86_opcodes.specs.Names.{FADD, FMUL, FCOM, FCOMP, FSUB, FSUBR, FDIV, FDIVR, FIADD, FIMUL, FICOM, FICOMP, FISUB, FISUBR, FIDIV, FIDIVR, FLD, FST, FSTP, FLDENV, FLDCW, FNSTENV, FNSTCW, FCHS, FABS, FTST, FXAM, FLD1, FLDL2T, FLDL2E, FLDPI, FLDLG2, FLDLN2, FLDZ, F2XM1, FYL2X, FPTAN, FPATAN, FXTRACT, FPREM, FPREM1, FDECSTP, FINCSTP, FYL2XP1, FSQRT, FSINCOS, FSIN, FRNDINT, FSCALE, FCOS, FXCH, FNOP, FSTPNCE, FCMOVB, FCMOVE, FCMOVBE, FCMOVU, FUCOM, FUCOMPP, FUCOMP, FILD, FISTTP, FIST, FISTP, FENI8087_NOP, FDISI8087_NOP, FNCLEX, FNINIT, FSETPM287_NOP, FCMOVNB, FCMOVNE, FCMOVNBE, FCMOVNU, FUCOMI, FCOMI, FRSTOR, FNSAVE, FNSTSW, FFREE, FADDP, FMULP, FCOMPP, FSUBRP, FSUBP, FDIVRP, FDIVP, FBLD, FBSTP, FFREEP, FUCOMIP, FCOMIP}
 use Rattle.x86_group_plans.specs.Vocabulary.{bad_opcode, bad_operand, operandless, name_at, named_by_reg, on_memory, on_register}

@@ -1,6 +1,7 @@
 //! Bit tests with an immediate, and 0F C7.
 ghost use Rattle.std.specs.Prelude.{◌≡◌};
-ghost use Rattle.x86_plans.specs.Plans.{undecided_size, memory_only};
+ghost use Rattle.x86_fields.specs.MemorySizes.{undecided_size};
+ghost use Rattle.x86_plans.specs.Plans.{memory_only};
 ghost use Rattle.x86_group_plans.specs.Vocabulary.{on_memory};
 ghost use Rattle.x86_group_plans.specs.Bits.{plan_0fba, by_w, compares_0fc7, operand_size_0fc7, f3_0fc7, plain_0fc7, plan_0fc7};
 

@@ -10,8 +10,8 @@ use Rattle.x86_fields.specs.declared.raw.Raw.{Raw}
 use Rattle.x86_fields.specs.Raw.{read_raw, has_w}
 use Rattle.x86_fields.specs.Sizes.{v_class}
 use Rattle.x86_fields.specs.Steps.{Step, Outcome, outcome, then_from, pure, ◌>>=◌}
-use Rattle.x86_operands.specs.declared.operands.Slot.{Slot}
-use Rattle.x86_operands.specs.declared.operands.Operand.{Operand}
+use Rattle.x86_operand_types.specs.declared.operands.Slot.{Slot}
+use Rattle.x86_operand_types.specs.declared.operands.Operand.{Operand}
 use Rattle.x86_plans.specs.declared.plans.OperandEncoding.{OperandEncoding}
 use Rattle.x86_plans.specs.declared.plans.OperandEncoding.TheVariants.{I16, I32}
 use Rattle.x86_plans.specs.declared.order.Position.{Position}

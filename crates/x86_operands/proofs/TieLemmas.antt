@@ -5,10 +5,10 @@ use Rattle.x86_arch.specs.Reader.{State}
 use Rattle.x86_fields.specs.declared.prefixes.Prefixes.{Prefixes}
 use Rattle.x86_fields.specs.declared.raw.Raw.{Raw}
 use Rattle.x86_fields.specs.Address.{base_of, index_of, scale_by}
-use Rattle.x86_operands.specs.declared.operands.Slot.{Slot}
-use Rattle.x86_operands.specs.declared.operands.Slot.TheVariants as slots
-use Rattle.x86_operands.specs.declared.operands.Operand.{Operand}
-use Rattle.x86_operands.specs.declared.operands.Operand.TheVariants as operands
+use Rattle.x86_operand_types.specs.declared.operands.Slot.{Slot}
+use Rattle.x86_operand_types.specs.declared.operands.Slot.TheVariants as slots
+use Rattle.x86_operand_types.specs.declared.operands.Operand.{Operand}
+use Rattle.x86_operand_types.specs.declared.operands.Operand.TheVariants as operands
 use Rattle.x86_plans.specs.declared.plans.RegisterSlot.TheVariants as reg_slot
 use Rattle.x86_plans.specs.declared.plans.PointerSlot.TheVariants as pointer
 use Rattle.x86_plans.specs.declared.plans.OperandEncoding.{OperandEncoding}

@@ -16,15 +16,15 @@ use Rattle.x86_fields.specs.ModRM.{reg_field, absent_modrm}
 use Rattle.x86_plans.specs.Plans.{reg_number, register_at}
 use Rattle.std.specs.Prelude.{Result, Ok, Err, Option, None, nat_lt, slice_index_or, slice_set, ◌∷◌, []}
 use Rattle.x86_regs.specs.Register.{reg_spec}
-use Rattle.x86_operands.specs.declared.operands.Slot.TheVariants as slots
-use Rattle.x86_operands.specs.declared.operands.Operand.TheVariants as operands
+use Rattle.x86_operand_types.specs.declared.operands.Slot.TheVariants as slots
+use Rattle.x86_operand_types.specs.declared.operands.Operand.TheVariants as operands
 use Rattle.x86_fields.specs.declared.errors.DecodeError.{DecodeError}
 use Rattle.x86_fields.specs.Steps.{Step, ◌>>=◌, pure}
 use Rattle.x86_fields.specs.Sizes.{register_of}
 use Rattle.x86_operands.specs.PlanSteps.{FilledOperands, operand_step, read_memory, rm_operand, rm_mm_operand}
 use Rattle.x86_operands.specs.declared.reader.Reading.{Reading}
-use Rattle.x86_operands.specs.declared.operands.Slot.{Slot}
-use Rattle.x86_operands.specs.declared.operands.Operand.{Operand}
+use Rattle.x86_operand_types.specs.declared.operands.Slot.{Slot}
+use Rattle.x86_operand_types.specs.declared.operands.Operand.{Operand}
 use Rattle.x86_operands.specs.declared.operand_list.Operands.{Operands}
 use Rattle.x86_plans.specs.Encodings.{class_of, last_encoding, somewhere}
 

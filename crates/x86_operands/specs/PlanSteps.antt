@@ -13,10 +13,10 @@ use Rattle.x86_fields.specs.Prefixes.{without_operand_size, with_es}
 use Rattle.x86_fields.specs.ModRM.{reg_field, rm_field, is_memory, absent_modrm, as_register}
 use Rattle.x86_fields.specs.Raw.{read_raw}
 use Rattle.x86_fields.specs.Steps.{Step, pure, refuse, ◌>>=◌, next_byte, number_step}
-use Rattle.x86_operands.specs.declared.operands.Slot.{Slot}
-use Rattle.x86_operands.specs.declared.operands.Slot.TheVariants as slots
-use Rattle.x86_operands.specs.declared.operands.Operand.{Operand}
-use Rattle.x86_operands.specs.declared.operands.Operand.TheVariants as operands
+use Rattle.x86_operand_types.specs.declared.operands.Slot.{Slot}
+use Rattle.x86_operand_types.specs.declared.operands.Slot.TheVariants as slots
+use Rattle.x86_operand_types.specs.declared.operands.Operand.{Operand}
+use Rattle.x86_operand_types.specs.declared.operands.Operand.TheVariants as operands
 use Rattle.x86_plans.specs.declared.plans.RegisterSlot.{RegisterSlot}
 use Rattle.x86_plans.specs.declared.plans.RegisterSlot.TheVariants as reg_slot
 use Rattle.x86_plans.specs.declared.plans.PointerSlot.{PointerSlot}

@@ -2,10 +2,10 @@
 use Rattle.std.specs.Prelude.{◌≡◌, ℕ, zero, suc, ◌<◌, ◌≤◌, Bool, true, false, List, [], ◌∷◌, slice_index_or}
 use Rattle.x86_fields.specs.declared.prefixes.Prefixes.{Prefixes}
 use Rattle.x86_fields.specs.declared.raw.Raw.{Raw}
-use Rattle.x86_operands.specs.declared.operands.Slot.{Slot}
-use Rattle.x86_operands.specs.declared.operands.Slot.TheVariants as slots
-use Rattle.x86_operands.specs.declared.operands.Operand.{Operand}
-use Rattle.x86_operands.specs.declared.operands.Operand.TheVariants as operands
+use Rattle.x86_operand_types.specs.declared.operands.Slot.{Slot}
+use Rattle.x86_operand_types.specs.declared.operands.Slot.TheVariants as slots
+use Rattle.x86_operand_types.specs.declared.operands.Operand.{Operand}
+use Rattle.x86_operand_types.specs.declared.operands.Operand.TheVariants as operands
 use Rattle.x86_plans.specs.declared.plans.OperandEncoding.{OperandEncoding}
 use Rattle.x86_plans.specs.declared.plans.OperandEncoding.TheVariants.{E, Emm, M}
 use Rattle.x86_operands.specs.declared.reader.Reading.{Reading}

@@ -19,7 +19,7 @@ ghost use Rattle.x86_plans.specs.declared.plans.Moment.{Moment};
 ghost use Rattle.x86_plans.specs.declared.plans.Verdict.TheVariants.{Refuses};
 ghost use Rattle.x86_operands.specs.declared.reader.Reading.{Reading};
 ghost use Rattle.x86_operands.specs.Forms.{form_record};
-ghost use Rattle.x86_operands.specs.Linear.{operand_form, operand_address};
+ghost use Rattle.x86_operand_types.specs.Linear.{operand_form, operand_address};
 ghost use Rattle.x86_operands.specs.Pieces.{SpellsRow, RefusesRow, IsReadRow, IsRefusedRow, IsOpenRow};
 ghost use Rattle.x86_plans.specs.Plans.{RowRecord};
 ghost use Rattle.x86_operands.specs.Shape.{shape};

@@ -10,7 +10,6 @@ ghost use Rattle.x86_operands.specs.LastEncodings.{is_last_encoding};
 ghost use Rattle.x86_operands.specs.OperandList.{reg_pair, fixed_pair, no_operands, reading_with, value_if_ok, put_in, put_at, put_encoded, encoded_read, leading_read, slot_in, operand_in};
 ghost use Rattle.x86_plans.specs.Encodings.{plan_of, last_encoding, allows, is_sound};
 
-use crate::operands::{Operand, Slot};
 use crate::shapes::put_shape;
 use x86_arch::Reader;
 use x86_fields::{
@@ -18,6 +17,7 @@ use x86_fields::{
     read_u64,
 };
 use x86_opcodes::Opcode;
+use x86_operand_types::{Operand, Slot};
 use x86_plans::order::Position;
 use x86_plans::plans::{OperandEncoding, PointerSlot, RegisterSlot, register_at};
 use x86_plans::{AfterOpcode, FormEncoding, Last, Width};

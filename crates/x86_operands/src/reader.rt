@@ -8,10 +8,10 @@ ghost use Rattle.x86_operands.specs.Suffix.{suffix_opcode};
 ghost use Rattle.x86_operands.specs.PlanSteps.{filled_step, error_of, refuse_at, read_opcode, read_memory, changed, read_plan, read_modrm, refuse_fault};
 
 use crate::operand_list::Operands;
-use crate::operands::{Operand, Slot};
 use x86_arch::Reader;
 use x86_fields::{DecodeError, ModRM, Prefixes, Raw, next_byte, read_raw};
 use x86_opcodes::Opcode;
+use x86_operand_types::{Operand, Slot};
 use x86_plans::plans::{
     Fault, ModrmUse, Moment, OperandEncoding, OperandEncodings, Plan, PrefixChange, Verdict,
 };

@@ -65,10 +65,6 @@ register_only modrm plan = refused (is_memory modrm) BadOperand AfterAddress pla
 
 -- ---- sizes and registers
 
--- the memory size where the processor decides it
-abbrev pub undecided_size : ℕ
-undecided_size = 63
-
 -- the size in the memory form, and in the register form
 abbrev pub size_by : ℕ → ℕ → ℕ → ℕ
 size_by modrm memory register = if is_memory modrm then memory else register

@@ -2,6 +2,7 @@
 ghost use Rattle.std.specs.Prelude.{◌≡◌, ◌<◌, ℕ};
 ghost use Rattle.x86_plans.specs.Plans.{with_verdict, reads, named_by_suffix, refused, refuses, memory_only, register_only, size_by, register_at, accumulator_of, immediate_of};
 
+pub use x86_fields::UNDECIDED_SIZE;
 use x86_fields::{ModRM, Prefixes, extend};
 use x86_opcodes::Opcode;
 use x86_regs::{RegSpec, RegisterClass};
@@ -131,9 +132,6 @@ pub enum ModrmUse {
     /// A ModRM byte of which every mod is a register form.
     Registers,
 }
-
-/// The memory size of an operation for which the processor decides it, as for the state that XSAVE stores.
-pub const UNDECIDED_SIZE: u8 = 63;
 
 /// What a record has after ModRM, and what it yields.
 #[derive(Clone, Copy, Drop)]

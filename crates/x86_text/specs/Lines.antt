@@ -1,7 +1,7 @@
 -- The text of instructions, and the lines of instructions and refusals.
 use Rattle.std.specs.Prelude.{ℕ, List, ◌++◌, ◌==◌, if◌then◌else◌, codes, decimal}
 use Rattle.x86_opcodes.specs.Mnemonics.{mnemonic}
-use Rattle.x86_plans.specs.Plans.{undecided_size}
+use Rattle.x86_fields.specs.MemorySizes.{undecided_size}
 use Rattle.x86_fields.specs.declared.errors.DecodeError.{DecodeError}
 use Rattle.x86_fields.specs.Errors.{description_of}
 use Rattle.x86_decode.specs.declared.instructions.Instruction.{Instruction}

@@ -12,8 +12,8 @@ use Rattle.x86_fields.specs.Pieces.{option_bytes, total}
 use Rattle.x86_fields.specs.declared.prefixes.Prefixes.{Prefixes}
 use Rattle.x86_fields.specs.declared.raw.Raw.{Raw}
 use Rattle.x86_forms.specs.declared.Map.{Map}
-use Rattle.x86_operands.specs.declared.operands.Slot.{Slot}
-use Rattle.x86_operands.specs.declared.operands.Operand.{Operand}
+use Rattle.x86_operand_types.specs.declared.operands.Slot.{Slot}
+use Rattle.x86_operand_types.specs.declared.operands.Operand.{Operand}
 use Rattle.x86_plans.specs.declared.plans.OperandEncoding.{OperandEncoding}
 use Rattle.x86_plans.specs.declared.plans.Verdict.{Verdict}
 use Rattle.x86_plans.specs.declared.plans.ModrmUse.{ModrmUse}

@@ -7,8 +7,8 @@ use Rattle.x86_fields.specs.declared.raw.Raw.{Raw}
 use Rattle.x86_fields.specs.ModRM.{rm_field, is_memory}
 use Rattle.x86_fields.specs.Raw.{displacement_width, has_b, has_x}
 use Rattle.x86_fields.specs.Pieces.{option_bytes, signed_by, total}
-use Rattle.x86_operands.specs.declared.operands.Slot.{Slot}
-use Rattle.x86_operands.specs.declared.operands.Operand.{Operand}
+use Rattle.x86_operand_types.specs.declared.operands.Slot.{Slot}
+use Rattle.x86_operand_types.specs.declared.operands.Operand.{Operand}
 use Rattle.x86_plans.specs.declared.plans.OperandEncoding.{OperandEncoding}
 use Rattle.x86_plans.specs.declared.plans.Verdict.{Verdict}
 use Rattle.x86_plans.specs.declared.plans.Verdict.TheVariants.{Accepts, NamedBySuffix, Refuses}

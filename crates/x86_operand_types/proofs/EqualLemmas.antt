@@ -9,9 +9,9 @@ use Rattle.x86_regs.specs.declared.SaeMode.{SaeMode}
 use Rattle.x86_regs.specs.contracts.RegSpecPartialEq.TheImpl as register
 use Rattle.x86_regs.specs.contracts.MergeModePartialEq.TheImpl as merge
 use Rattle.x86_regs.specs.contracts.SaeModePartialEq.TheImpl as rounding
-use Rattle.x86_operands.specs.declared.operands.Operand.{Operand}
-use Rattle.x86_operands.specs.declared.operands.Operand.TheVariants as operands
-use Rattle.x86_operands.specs.contracts.operands.OperandPartialEq.TheImpl as operand
+use Rattle.x86_operand_types.specs.declared.operands.Operand.{Operand}
+use Rattle.x86_operand_types.specs.declared.operands.Operand.TheVariants as operands
+use Rattle.x86_operand_types.specs.contracts.operands.OperandPartialEq.TheImpl as operand
 
 -- a constructor of equal parts, which are found equal one after another
 two : {A B R : Type 0} (f : A → B → R) {a a2 : A} {b b2 : B} {x y : Bool}

@@ -3,7 +3,7 @@ use Rattle.std.proofs.Common.{◌≡◌, ℕ, ◌+◌, ◌*◌, ◌%◌, Bool, t
 use Rattle.std.specs.Prelude.{slice_index}
 use Rattle.x86_fields.specs.Linear.{modulus_by, value_at}
 use Rattle.x86_fields.proofs.LinearLemmas.{sum_none}
-use Rattle.x86_operands.specs.Linear.{absolute_form}
+use Rattle.x86_operand_types.specs.Linear.{absolute_form}
 
 twice : (short : Bool) (n next : ℕ) → (0 + 0 * next + n % modulus_by short) % modulus_by short ≡ n % modulus_by short
 twice true n next = omega arith

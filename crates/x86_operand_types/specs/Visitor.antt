@@ -3,8 +3,8 @@ use Rattle.std.specs.Prelude.{ℕ, ℤ, Bool, true, false}
 use Rattle.x86_regs.specs.declared.RegSpec.{RegSpec}
 use Rattle.x86_regs.specs.declared.MergeMode.{MergeMode}
 use Rattle.x86_regs.specs.declared.SaeMode.{SaeMode}
-use Rattle.x86_operands.specs.declared.operands.Operand.{Operand}
-use Rattle.x86_operands.specs.declared.operands.Operand.TheVariants as operands
+use Rattle.x86_operand_types.specs.declared.operands.Operand.{Operand}
+use Rattle.x86_operand_types.specs.declared.operands.Operand.TheVariants as operands
 
 pub data Visit : Type 0 where
   visit_reg : RegSpec → Visit

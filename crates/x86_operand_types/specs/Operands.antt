@@ -2,12 +2,12 @@
 use Rattle.std.specs.Prelude.{ℕ, Bool, true, false, ◌==◌, if◌then◌else◌, Option, Some, None}
 use Rattle.x86_regs.specs.Register.{class}
 use Rattle.x86_regs.specs.Class.{width_of}
-use Rattle.x86_operands.specs.declared.operands.MemoryAccessSize.{MemoryAccessSize}
-use Rattle.x86_operands.specs.declared.operands.Slot.{Slot}
-use Rattle.x86_operands.specs.declared.operands.Slot.TheVariants as slots
-use Rattle.x86_operands.specs.declared.operands.Operand.{Operand}
-use Rattle.x86_operands.specs.declared.operands.Operand.TheVariants as operands
-use Rattle.x86_plans.specs.Plans.{undecided_size}
+use Rattle.x86_operand_types.specs.declared.operands.MemoryAccessSize.{MemoryAccessSize}
+use Rattle.x86_operand_types.specs.declared.operands.Slot.{Slot}
+use Rattle.x86_operand_types.specs.declared.operands.Slot.TheVariants as slots
+use Rattle.x86_operand_types.specs.declared.operands.Operand.{Operand}
+use Rattle.x86_operand_types.specs.declared.operands.Operand.TheVariants as operands
+use Rattle.x86_fields.specs.MemorySizes.{undecided_size}
 
 -- the memory size of a number, and the bytes that it has where the processor doesn't decide them
 abbrev pub access_size : ℕ → MemoryAccessSize

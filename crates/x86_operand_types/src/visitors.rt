@@ -1,6 +1,6 @@
 //! Visitors of operands.
 ghost use Rattle.std.specs.Prelude.{◌≡◌, Result, true};
-ghost use Rattle.x86_operands.specs.Visitor.{Visit, is_masked, visit_of, visit_reg, visit_deref, visit_disp, visit_index_scale, visit_index_scale_disp, visit_base_index_scale, visit_base_index_scale_disp, visit_i8, visit_u8, visit_i16, visit_u16, visit_i32, visit_u32, visit_i64, visit_u64, visit_abs_u32, visit_abs_u64, visit_reg_mask_merge, visit_reg_mask_merge_sae, visit_reg_mask_merge_sae_noround, visit_deref_masked, visit_disp_masked, visit_index_scale_masked, visit_index_scale_disp_masked, visit_base_index_masked, visit_base_index_disp_masked, visit_base_index_scale_masked, visit_base_index_scale_disp_masked, visit_other};
+ghost use Rattle.x86_operand_types.specs.Visitor.{Visit, is_masked, visit_of, visit_reg, visit_deref, visit_disp, visit_index_scale, visit_index_scale_disp, visit_base_index_scale, visit_base_index_scale_disp, visit_i8, visit_u8, visit_i16, visit_u16, visit_i32, visit_u32, visit_i64, visit_u64, visit_abs_u32, visit_abs_u64, visit_reg_mask_merge, visit_reg_mask_merge_sae, visit_reg_mask_merge_sae_noround, visit_deref_masked, visit_disp_masked, visit_index_scale_masked, visit_index_scale_disp_masked, visit_base_index_masked, visit_base_index_disp_masked, visit_base_index_scale_masked, visit_base_index_scale_disp_masked, visit_other};
 
 use crate::operands::Operand;
 use x86_regs::{MergeMode, RegSpec, SaeMode};

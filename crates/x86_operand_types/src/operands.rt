@@ -1,11 +1,10 @@
 //! Operands and where they come from.
 ghost use Rattle.std.specs.Prelude.{◌≡◌, ◌%◌};
 ghost use Rattle.x86_fields.specs.Linear.{modulus_by};
-ghost use Rattle.x86_operands.specs.Linear.{operand_address};
-ghost use Rattle.x86_operands.specs.Operands.{is_memory_operand, is_memory_slot, operand_width, access_size, bytes_size};
+ghost use Rattle.x86_operand_types.specs.Linear.{operand_address};
+ghost use Rattle.x86_operand_types.specs.Operands.{is_memory_operand, is_memory_slot, operand_width, access_size, bytes_size};
 
-use x86_fields::{AddressParts, RegFile};
-use x86_plans::UNDECIDED_SIZE;
+use x86_fields::{AddressParts, RegFile, UNDECIDED_SIZE};
 use x86_regs::{MergeMode, RegSpec, SaeMode};
 
 /// An operand of an instruction. The examples are as a listing prints them: numbers are decimal.

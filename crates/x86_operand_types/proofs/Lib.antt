@@ -1,0 +1,3 @@
+-- The lemmas on operands alone: their addresses, and their equality.
+pub mod AddressLemmas
+pub mod EqualLemmas
