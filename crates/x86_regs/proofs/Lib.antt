@@ -1,2 +1,3 @@
--- The lemmas on names of registers.
+-- The lemmas on names of registers, and on the order of classes.
 mod NameLemmas
+mod OrderLemmas
