@@ -42,21 +42,31 @@ found_escaped rows p b d r s t u h e f =
 after_row : Bool → Outcome (Option TableRow × Prefixes) → Outcome Reading
 after_row strict o = then_from o.answer o.after (λ x. some_row x.0 >>= λ row. row_step strict row x.1)
 
-module _ (rows : Rows) (strict : Bool) (b : ℕ) (p : Prefixes) (s start : State ℕ) where
+module _ (rows : Rows) (strict : Bool) (b : ℕ) (p : Prefixes) (s : State ℕ) where
   row_follows : (r : Result (Map × ℕ) DecodeError) (t : State ℕ) → after_row strict (then_from r t (λ o. pure (rows o.0 (column_of p) o.1, seen_by o.0 o.1 p))) ≡ then_from r t (λ o. some_row (rows o.0 (column_of p) o.1) >>= λ row. row_step strict row (seen_by o.0 o.1 p))
   unfolding after_row
   row_follows (Ok o) t = refl
   row_follows (Err e) t = refl
 
-  -- the walk after its head, by what follows the row
-  within : Headed (Ok b) p s (head_step start) → is_prefix b ≡ false → after_row strict (read_word rows p b s) ≡ walk_within rows strict start
-  unfolding walk_within
-  within head plain = row_follows (opcode_step p b s).answer (opcode_step p b s).after ∙ ap (λ q. body_step rows strict q b s) head.1 ∙ ap (λ o. then_from o.answer o.after (λ h. body_step rows strict h.0 h.1)) (at_other head.0 b s plain ∙ head.2)
+  body : after_row strict (read_word rows p b s) ≡ body_step rows strict p b s
+  body = row_follows (opcode_step p b s).answer (opcode_step p b s).after
 
-  pub refused_within : (e : DecodeError) (t : State ℕ) → Headed (Ok b) p s (head_step start) → is_prefix b ≡ false → outcome (Err e) t ≡ read_word rows p b s → outcome (Err e) t ≡ walk_within rows strict start
+  pub refused_after : (e : DecodeError) (t : State ℕ) → outcome (Err e) t ≡ read_word rows p b s → outcome (Err e) t ≡ body_step rows strict p b s
   unfolding after_row
-  refused_within e t head plain h = ap (after_row strict) h ∙ within head plain
+  refused_after e t h = ap (after_row strict) h ∙ body
 
-  pub row_within : (q : Prefixes) (word : ℕ) (o : Option TableRow) (t : State ℕ) → Headed (Ok b) p s (head_step start) → is_prefix b ≡ false → found_word q word t ≡ read_word rows p b s → unpack word ≡ o → (some_row o >>= λ row. row_step strict row q) t ≡ walk_within rows strict start
+  pub row_after : (q : Prefixes) (word : ℕ) (o : Option TableRow) (t : State ℕ) → found_word q word t ≡ read_word rows p b s → unpack word ≡ o → (some_row o >>= λ row. row_step strict row q) t ≡ body_step rows strict p b s
   unfolding after_row
-  row_within q word o t head plain h is = ap (λ o. (some_row o >>= λ row. row_step strict row q) t) (sym is) ∙ ap (after_row strict) h ∙ within head plain
+  row_after q word o t h is = ap (λ o. (some_row o >>= λ row. row_step strict row q) t) (sym is) ∙ ap (after_row strict) h ∙ body
+
+  module _ (start : State ℕ) (head : Headed (Ok b) p s (head_step start)) (plain : is_prefix b ≡ false) where
+    -- what follows the run is the walk after its head
+    within : body_step rows strict p b s ≡ walk_within rows strict start
+    unfolding walk_within
+    within = ap (λ q. body_step rows strict q b s) head.1 ∙ ap (λ o. then_from o.answer o.after (λ h. body_step rows strict h.0 h.1)) (at_other head.0 b s plain ∙ head.2)
+
+    pub refused_within : (e : DecodeError) (t : State ℕ) → outcome (Err e) t ≡ read_word rows p b s → outcome (Err e) t ≡ walk_within rows strict start
+    refused_within e t h = refused_after e t h ∙ within
+
+    pub row_within : (q : Prefixes) (word : ℕ) (o : Option TableRow) (t : State ℕ) → found_word q word t ≡ read_word rows p b s → unpack word ≡ o → (some_row o >>= λ row. row_step strict row q) t ≡ walk_within rows strict start
+    row_within q word o t h is = row_after q word o t h is ∙ within

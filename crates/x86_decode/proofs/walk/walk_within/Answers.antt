@@ -1,0 +1,4 @@
+use Rattle.x86_decode.proofs.walk.walk_within.Goals as goal
+
+pub returns-in-Err : goal.returns-in-Err
+returns-in-Err g c = (rw c.in-Err.is at c.read_common.ensures.read) c.args.strict
