@@ -28,6 +28,8 @@ impl Model for ModRM {
 }
 
 impl ModRM {
+    /// The ModRM with this byte: mod is in its bits 7 and 6, reg in its bits 5 to 3, and rm in its bits 2 to 0 (Intel
+    /// SDM volume 2, section 2.1.3).
     #[inline(always)]
     pub fn new(byte: u8) -> ModRM
         ensures { result ≡ byte }
@@ -56,6 +58,7 @@ impl ModRM {
         ModRM::of_fields(3, 0, 0)
     }
 
+    /// Its byte, which has the three fields (Intel SDM volume 2, section 2.1.3).
     #[inline(always)]
     pub fn byte(self) -> u8
         ensures { result ≡ self }
@@ -121,6 +124,7 @@ pub struct PrefixedModRM<'a> {
 }
 
 impl<'a> PrefixedModRM<'a> {
+    /// The ModRM byte under these prefixes, with its sizes and its form read once.
     #[inline(always)]
     pub fn of(prefixes: &'a Prefixes, modrm: ModRM) -> PrefixedModRM<'a>
         ensures prefixes { result.prefixes.now ≡ prefixes.now }

@@ -168,6 +168,7 @@ impl Prefixes {
         ensures value { result ≡ extend (has_r self.now) (reg_field modrm) }
         ensures small { result < 16 }
     {
+        // The fourth bit as a number, with no branch: this is faster than `extend`.
         self.rex.byte / 4 % 2 * 8 + modrm.reg_field()
     }
 }
@@ -190,6 +191,7 @@ impl PrefixedModRM<'_> {
             (extend (has_b self.now.prefixes.now) (rm_field self.now.modrm)) }
     {
         let prefixes = self.prefixes;
+        // The fourth bit as a number, with no branch: this is faster than `extend`.
         let num = prefixes.rex.byte % 2 * 8 + self.modrm.rm_field();
         prefixes.register(class, num)
     }

@@ -22,6 +22,8 @@ impl Model for Sib {
 }
 
 impl Sib {
+    /// The SIB with this byte: scale is in its bits 7 and 6, index in its bits 5 to 3, and base in its bits 2 to 0
+    /// (Intel SDM volume 2, section 2.1.3).
     #[inline(always)]
     pub fn new(byte: u8) -> Sib
         ensures { result ≡ byte }
@@ -42,6 +44,7 @@ impl Sib {
         }
     }
 
+    /// Its byte, which has the three fields (Intel SDM volume 2, section 2.1.3).
     #[inline(always)]
     pub fn byte(self) -> u8
         ensures { result ≡ self }
