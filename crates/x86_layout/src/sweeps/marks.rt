@@ -24,7 +24,6 @@ fn target(cut: &Cut) -> Option<u64>
 }
 
 /// Marks the target of a cut.
-#[tactic(auto, using(crate::proofs::SweepLemmas::Place::marked))]
 fn mark_target(cut: &Cut, marks: &mut [bool])
     requires { cut.now.place + cut.now.length < 2 ^ 64 }
     ensures { (p : ℕ) → p < length marks.old →
