@@ -11,7 +11,7 @@ ghost use Rattle.x86_layout.specs.Parts.Split.{Encoding, HasParts, joined};
 ghost use Rattle.x86_decode.specs.declared.instructions.Instruction.{Instruction};
 ghost use Rattle.x86_layout.specs.declared.parts.fields.Fields.{Fields};
 ghost use Rattle.x86_layout.specs.Parts.OfBytes.{parts_of};
-ghost use Rattle.x86_layout.specs.Parts.Fields.{lists_in, HasFieldLengths};
+ghost use Rattle.x86_layout.specs.Parts.Fields.{lists_in};
 ghost use Rattle.x86_layout.specs.Parts.Permitted.{IsPermitted, ArePartsOfSentence};
 ghost use Rattle.x86_forms.specs.Words.{rows_of, packed};
 ghost use Rattle.x86_decode.specs.Grammar.{IsSentence};
@@ -25,6 +25,7 @@ ghost use Rattle.x86_layout.specs.Tightening.Shortest.{shortest, address_length,
 ghost use Rattle.x86_fields.specs.declared.raw.Raw.{Raw};
 ghost use Rattle.x86_fields.specs.ModRM.{reg_field};
 ghost use Rattle.x86_fields.specs.Linear.{raw_form, IsSameAddress, IsRegFile};
+ghost use Rattle.x86_fields.specs.Parts.{HasFieldLengths};
 
 use crate::EmitError;
 use x86_decode::laws;

@@ -9,9 +9,10 @@ mod tightening;
 
 pub use parts::emit::{EmitError, emit};
 pub use parts::fields::Fields;
-pub use parts::split::{Parts, split, split_decoded};
+pub use parts::split::{split, split_decoded};
 pub use sweeps::branches::branch_target;
 pub use sweeps::cuts::Cut;
 pub use sweeps::marks::mark_targets;
 pub use sweeps::sweep::Sweep;
 pub use tightening::tighten::{TightenError, shortest_length, tighten};
+pub use x86_fields::Parts;

@@ -2,7 +2,7 @@
 use Rattle.std.specs.Prelude.{ℕ, List, [], ◌∷◌, ◌++◌, length, codes, decimal}
 use Rattle.std.specs.List.{flat_map, sum_by}
 use Rattle.hex.specs.Hex.{encode_lower}
-use Rattle.x86_layout.specs.Parts.Split.{PartLists}
+use Rattle.x86_fields.specs.Parts.{PartLists}
 
 -- the parts in their order
 abbrev pub in_order : PartLists → List (List ℕ)

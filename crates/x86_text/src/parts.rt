@@ -3,11 +3,10 @@
 ghost use Rattle.std.specs.Prelude.{◌≡◌, ◌+◌, ◌*◌, ◌≤◌, ◌++◌, length, take};
 ghost use Rattle.std.specs.List.{sum_by};
 ghost use Rattle.arrayvec.specs.ArrayVec.{array_vec_len};
-ghost use Rattle.x86_layout.specs.Parts.Split.{lists_of};
-ghost use Rattle.x86_layout.specs.Parts.Fields.{HasFieldLengths};
+ghost use Rattle.x86_fields.specs.Parts.{lists_of, HasFieldLengths};
 ghost use Rattle.x86_text.specs.Parts.{in_order, spaced, fields_line};
 
-use x86_layout::Parts;
+use x86_fields::Parts;
 use x86_lines::cells::put;
 use x86_lines::digits::{put_hex, put_u64};
 use x86_lines::{LINE_MAX, Line, Place};

@@ -5,6 +5,7 @@ use Rattle.x86_arch.specs.Reader.{State}
 use Rattle.x86_fields.specs.declared.errors.DecodeError.{DecodeError}
 use Rattle.x86_fields.specs.declared.prefixes.Prefixes.{Prefixes}
 use Rattle.x86_fields.specs.Run.{reading_of}
+use Rattle.x86_fields.specs.Parts.{HasFieldLengths}
 use Rattle.x86_forms.specs.declared.Map.{Map}
 use Rattle.x86_forms.specs.declared.TableRow.{TableRow}
 use Rattle.x86_forms.specs.Words.{rows_of, packed}
@@ -24,7 +25,7 @@ use Rattle.x86_layout.specs.declared.parts.emit.EmitError.{EmitError}
 use Rattle.x86_layout.specs.declared.parts.emit.EmitError.TheVariants as error
 use Rattle.x86_layout.specs.Parts.Split.{Encoding, record_in, HasParts, joined}
 use Rattle.x86_layout.specs.Parts.OfBytes.{parts_of}
-use Rattle.x86_layout.specs.Parts.Fields.{lists_in, HasFieldLengths}
+use Rattle.x86_layout.specs.Parts.Fields.{lists_in}
 use Rattle.x86_layout.specs.Parts.Permitted.{map_named, entry_by, entry_at, entry_of, record_by, has_legal_run, passes_record, has_row_parts, tail_of, answer_allows_lock, has_lawful_lock, is_short, unless, failing_at, first_failing, IsPermitted, ArePartsOfSentence}
 use Rattle.x86_layout.proofs.PartLemmas.Part.{cut_is}
 use Rattle.x86_layout.proofs.PartLemmas.OfBytes.{parts_are, parts_once, joined_is, lengths_of}

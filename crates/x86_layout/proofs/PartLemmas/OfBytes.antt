@@ -15,9 +15,10 @@ use Rattle.x86_plans.specs.Asks.{modrm_of, used_modrm, ask_of, immediates_width}
 use Rattle.x86_operands.specs.Pieces.{SpellsMemory, SpellsRow}
 use Rattle.x86_decode.specs.Head.{escape_bytes, seen_by}
 use Rattle.x86_layout.specs.declared.parts.heads.Head.{Head}
-use Rattle.x86_layout.specs.declared.parts.split.Parts.{Parts}
+use Rattle.x86_fields.specs.declared.parts.Parts.{Parts}
+use Rattle.x86_fields.specs.Parts.{PartLists, lists_of, HasFieldLengths}
 use Rattle.x86_layout.specs.Parts.Heads.{one_if, IsHead, IsTail}
-use Rattle.x86_layout.specs.Parts.Split.{PartLists, Encoding, record_in, sib_width, lists_of, HasParts, joined}
+use Rattle.x86_layout.specs.Parts.Split.{Encoding, record_in, sib_width, HasParts, joined}
 use Rattle.x86_layout.specs.Parts.OfBytes.{ask_by, ask_after_run, displacement_length_by, run_in, after_run, map_in, opcode_in, tail_in, ask_in, modrm_in, sib_in, displacement_in, immediate_in, suffix_in, parts_of}
 use Rattle.x86_layout.proofs.PartLemmas.Part.{cut_is, halves, run_length_is, map_is, as_it_is, read_as, modrm_count, sib_count, immediate_count, suffix_count, immediates_long}
 use Rattle.x86_forms.specs.Words.{rows_of, packed}
@@ -30,7 +31,6 @@ use Rattle.x86_operands.specs.Forms.{form_record}
 use Rattle.x86_operands.proofs.PlainLemmas.{plain_narrow}
 use Rattle.x86_group_plans.specs.Groups.{group_record}
 use Rattle.x86_group_plans.proofs.GroupLemmas.{group_narrow}
-use Rattle.x86_layout.specs.Parts.Fields.{HasFieldLengths}
 
 -- ---- SIB and displacement
 

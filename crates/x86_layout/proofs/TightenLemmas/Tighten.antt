@@ -9,9 +9,10 @@ use Rattle.x86_operands.specs.declared.reader.Reading.{Reading}
 use Rattle.x86_operands.specs.Pieces.{SpellsMemory}
 use Rattle.x86_plans.specs.Asks.{ask_of}
 use Rattle.x86_layout.specs.declared.parts.heads.Head.{Head}
-use Rattle.x86_layout.specs.declared.parts.split.Parts.{Parts}
+use Rattle.x86_fields.specs.declared.parts.Parts.{Parts}
+use Rattle.x86_fields.specs.Parts.{PartLists, lists_of}
 use Rattle.x86_layout.specs.Parts.Heads.{one_if, IsHead}
-use Rattle.x86_layout.specs.Parts.Split.{PartLists, Encoding, HasParts, lists_of}
+use Rattle.x86_layout.specs.Parts.Split.{Encoding, HasParts}
 use Rattle.x86_layout.specs.Tightening.Registers.{is_ip_relative}
 use Rattle.x86_layout.specs.Tightening.Shortest.{shortest, IsOfBytes, address_length}
 use Rattle.x86_layout.specs.Tightening.Tighten.{HasMemoryOperand, HasOperandForm, raw_of, respelled, respelled_length}

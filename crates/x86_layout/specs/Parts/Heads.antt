@@ -11,7 +11,7 @@ use Rattle.x86_operands.specs.Pieces.{SpellsRow}
 use Rattle.x86_plans.specs.Asks.{modrm_of, ask_of}
 use Rattle.x86_decode.specs.Head.{escape_bytes}
 use Rattle.x86_layout.specs.declared.parts.heads.Head.{Head}
-use Rattle.x86_layout.specs.declared.parts.split.Parts.{Parts}
+use Rattle.x86_fields.specs.declared.parts.Parts.{Parts}
 use Rattle.x86_layout.specs.Parts.Split.{Encoding, record_in, sib_width}
 
 abbrev pub map_of : ℕ → ℕ → Map

@@ -5,6 +5,7 @@ use Rattle.x86_fields.specs.declared.prefixes.Prefixes.{Prefixes}
 use Rattle.x86_fields.specs.Run.{is_prefix, reading_of}
 use Rattle.x86_fields.specs.Raw.{displacement_width}
 use Rattle.x86_fields.specs.Pieces.{first_byte}
+use Rattle.x86_fields.specs.Parts.{PartLists}
 use Rattle.x86_forms.specs.declared.Map.{Map}
 use Rattle.x86_forms.specs.declared.TableRow.{TableRow}
 use Rattle.x86_forms.specs.Words.{rows_of, packed}
@@ -13,7 +14,6 @@ use Rattle.x86_plans.specs.Asks.{ask_of}
 use Rattle.x86_decode.specs.Head.{column_of, escape_bytes, seen_by}
 use Rattle.x86_decode.specs.Grammar.{record_of}
 use Rattle.x86_layout.specs.Parts.Heads.{map_of, one_if, has_sib}
-use Rattle.x86_layout.specs.Parts.Split.{PartLists}
 
 -- what a row has at a ModRM byte; nothing where there is no row
 abbrev pub ask_by : Bool → Option TableRow → Prefixes → ℕ → Ask

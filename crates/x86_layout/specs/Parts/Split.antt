@@ -3,6 +3,8 @@ use Rattle.std.specs.Prelude.{◌≡◌, ℕ, ◌==◌, ◌&&◌, Bool, if◌the
 use Rattle.x86_forms.specs.Words.{rows_of, packed}
 use Rattle.x86_fields.specs.Run.{reading_of}
 use Rattle.x86_fields.specs.ModRM.{rm_field, is_memory}
+use Rattle.x86_fields.specs.declared.parts.Parts.{Parts}
+use Rattle.x86_fields.specs.Parts.{PartLists, lists_of}
 use Rattle.x86_operands.specs.declared.reader.Reading.{Reading}
 use Rattle.x86_plans.specs.Plans.{RowRecord}
 use Rattle.x86_plans.specs.Asks.{modrm_of}
@@ -11,31 +13,6 @@ use Rattle.x86_decode.specs.Instruction.{length_of}
 use Rattle.x86_decode.specs.Head.{escape_bytes, seen_by}
 use Rattle.x86_decode.specs.Grammar.{Whole, record_of}
 use Rattle.x86_decode.specs.Answer.{answer_of}
-use Rattle.x86_layout.specs.declared.parts.split.Parts.{Parts}
-
--- the parts of an encoding, as lists of bytes
-pub record PartLists : Type 0 where
-  pub prefixes : List ℕ
-  pub escape : List ℕ
-  pub opcode : List ℕ
-  pub modrm : List ℕ
-  pub sib : List ℕ
-  pub displacement : List ℕ
-  pub immediate : List ℕ
-  pub suffix : List ℕ
-
--- the bytes of the slices
-abbrev pub lists_of : Parts → PartLists
-lists_of p = record {
-  prefixes = p.prefixes.now;
-  escape = p.escape.now;
-  opcode = p.opcode.now;
-  modrm = p.modrm.now;
-  sib = p.sib.now;
-  displacement = p.displacement.now;
-  immediate = p.immediate.now;
-  suffix = p.suffix.now;
-}
 
 -- whole encodings by the printed rows
 abbrev pub Encoding : Bool → List ℕ → Reading → Type 0

@@ -17,11 +17,12 @@ use Rattle.x86_decode.specs.Head.{escape_bytes}
 use Rattle.x86_decode.specs.Grammar.{IsSentence}
 use Rattle.x86_decode.specs.Answer.{answer_of}
 use Rattle.x86_decode.specs.Addresses.{is_modrm_encoding, encodings_within}
-use Rattle.x86_layout.specs.declared.parts.split.Parts.{Parts}
+use Rattle.x86_fields.specs.declared.parts.Parts.{Parts}
+use Rattle.x86_fields.specs.Parts.{PartLists, lists_of}
 use Rattle.x86_layout.specs.declared.tightening.tighten.Addressed.{Addressed}
 use Rattle.x86_layout.specs.declared.tightening.tighten.TightenError.{TightenError}
 use Rattle.x86_layout.specs.declared.tightening.tighten.TightenError.TheVariants.{Refused, NoMemoryForm, IpRelative}
-use Rattle.x86_layout.specs.Parts.Split.{PartLists, Encoding, HasParts, lists_of}
+use Rattle.x86_layout.specs.Parts.Split.{Encoding, HasParts}
 use Rattle.x86_layout.specs.Tightening.Registers.{is_ip_relative}
 use Rattle.x86_layout.specs.Tightening.Shortest.{address_length}
 

@@ -2,12 +2,12 @@
 
 ghost use Rattle.std.specs.Prelude.{◌≡◌, ◌≤◌, length};
 ghost use Rattle.x86_fields.specs.Pieces.{option_bytes};
-ghost use Rattle.x86_layout.specs.Parts.Split.{lists_of};
-ghost use Rattle.x86_layout.specs.Parts.Fields.{lists_in, HasFieldLengths};
+ghost use Rattle.x86_fields.specs.Parts.{lists_of, HasFieldLengths};
+ghost use Rattle.x86_layout.specs.Parts.Fields.{lists_in};
 
 use crate::parts::heads::byte_at;
-use crate::parts::split::Parts;
 use arrayvec::ArrayVec;
+use x86_fields::Parts;
 
 /// The parts of an encoding, owned, so that one can be changed alone (Intel SDM volume 2, section 2.1).
 #[derive(Debug, Drop)]

@@ -2,6 +2,7 @@
 
 ghost use Rattle.std.specs.Prelude.{◌≡◌, ℕ, List, slice_index, MatchResult, IfOk, Ok, Err};
 ghost use Rattle.x86_fields.specs.declared.prefixes.Prefixes.{Prefixes};
+ghost use Rattle.x86_fields.specs.Parts.{lists_of, HasFieldLengths};
 ghost use Rattle.x86_operands.specs.declared.reader.Reading.{Reading};
 ghost use Rattle.x86_plans.specs.Plans.{RowRecord};
 ghost use Rattle.x86_operands.specs.Pieces.{SpellsRow};
@@ -9,35 +10,13 @@ ghost use Rattle.x86_plans.specs.Asks.{ask_of};
 ghost use Rattle.x86_decode.specs.Decoder.{is_strict};
 ghost use Rattle.x86_decode.specs.Answer.{answer_of};
 ghost use Rattle.x86_layout.specs.Parts.Heads.{has_sib, IsTail};
-ghost use Rattle.x86_layout.specs.Parts.Split.{lists_of, IsSplit};
+ghost use Rattle.x86_layout.specs.Parts.Split.{IsSplit};
 ghost use Rattle.x86_layout.specs.Parts.OfBytes.{parts_of};
-ghost use Rattle.x86_layout.specs.Parts.Fields.{HasFieldLengths};
 
 use crate::parts::heads::{Head, byte_at, head_of, split_at_most};
 use x86_decode::{InstDecoder, Instruction, laws};
-use x86_fields::{DecodeError, ModRM};
+use x86_fields::{DecodeError, ModRM, Parts};
 use x86_operands::Ask;
-
-/// The parts of an encoding, in order. Their concatenation is the encoding (Intel SDM volume 2, section 2.1).
-#[derive(Clone, Copy, Debug, Drop)]
-pub struct Parts<'a> {
-    /// The legacy prefixes and REX bytes.
-    pub prefixes: &'a [u8],
-    /// Nothing, or 0F, 0F 38 or 0F 3A.
-    pub escape: &'a [u8],
-    /// The opcode byte.
-    pub opcode: &'a [u8],
-    /// ModRM, where the row has one.
-    pub modrm: &'a [u8],
-    /// SIB, where rm of a memory form is 100.
-    pub sib: &'a [u8],
-    /// The displacement, little-endian: 1 or 4 bytes, or none.
-    pub displacement: &'a [u8],
-    /// The immediates in order. The absolute addresses of opcodes A0 to A3 count as immediates.
-    pub immediate: &'a [u8],
-    /// The byte that names the operation, as in 3DNow.
-    pub suffix: &'a [u8],
-}
 
 /// Whether there is a SIB at a ModRM byte.
 pub fn has_sib(ask: &Ask, modrm: ModRM) -> bool

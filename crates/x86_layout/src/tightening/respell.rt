@@ -11,9 +11,8 @@ ghost use Rattle.x86_layout.specs.Tightening.Tighten.{byte_with, run_with, raw_i
 
 use crate::parts::emit::{push, push_byte};
 use crate::parts::heads::byte_at;
-use crate::parts::split::Parts;
 use arrayvec::ArrayVec;
-use x86_fields::{Raw, displacement_width, is_rex, reading_of};
+use x86_fields::{Parts, Raw, displacement_width, is_rex, reading_of};
 
 /// The number of a displacement of one or four bytes, and 0 where there is none.
 fn signed(displacement: &[u8]) -> i32

@@ -10,14 +10,14 @@ ghost use Rattle.x86_decode.specs.Answer.{answer_of};
 ghost use Rattle.x86_layout.specs.Tightening.Tighten.{IsTightened, IsAddressed, HasNoRelative, IsSentenceOfSomeChoice, OfFirstSentence, IsNotTightened};
 
 use crate::parts::heads::{head_of, split_at_most};
-use crate::parts::split::{Parts, parts_after};
+use crate::parts::split::parts_after;
 use crate::tightening::registers::is_ip_relative;
 use crate::tightening::respell::{address_length, raw_in, respelled};
 use crate::tightening::shortest::shortest;
 use arrayvec::ArrayVec;
 use thiserror::Error;
 use x86_decode::{InstDecoder, Instruction, laws};
-use x86_fields::{DecodeError, Raw};
+use x86_fields::{DecodeError, Parts, Raw};
 
 /// Why `tighten` has no shorter encoding to seek.
 #[derive(Debug, Drop, Error)]

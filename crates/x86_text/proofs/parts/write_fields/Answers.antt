@@ -1,6 +1,6 @@
 use Rattle.std.proofs.Common.{◌≡◌, ℕ, List, ◌++◌, length, take, codes, decimal, ap, ◌∙◌, append_assoc, append-nil}
 use Rattle.std.specs.List.{flat_map, sum_by}
-use Rattle.x86_layout.specs.Parts.Split.{PartLists, lists_of}
+use Rattle.x86_fields.specs.Parts.{PartLists, lists_of}
 use Rattle.x86_text.specs.Parts.{in_order, spaced, fields_line}
 use Rattle.x86_text.proofs.parts.write_fields.Goals as goal
 

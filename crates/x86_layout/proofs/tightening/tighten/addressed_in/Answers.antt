@@ -4,9 +4,10 @@ use Rattle.x86_fields.specs.declared.raw.Raw.{Raw}
 use Rattle.x86_fields.specs.Run.{is_prefix}
 use Rattle.x86_operands.specs.declared.reader.Reading.{Reading}
 use Rattle.x86_layout.specs.declared.parts.heads.Head.{Head}
-use Rattle.x86_layout.specs.declared.parts.split.Parts.{Parts}
+use Rattle.x86_fields.specs.declared.parts.Parts.{Parts}
+use Rattle.x86_fields.specs.Parts.{lists_of}
 use Rattle.x86_layout.specs.Parts.Heads.{IsHead}
-use Rattle.x86_layout.specs.Parts.Split.{Encoding, HasParts, lists_of}
+use Rattle.x86_layout.specs.Parts.Split.{Encoding, HasParts}
 use Rattle.x86_layout.specs.Tightening.Tighten.{raw_of}
 use Rattle.x86_layout.proofs.PartLemmas.OfBytes.{Tails, has_parts}
 use Rattle.x86_layout.proofs.TightenLemmas.Relative.{Reads}
