@@ -2,12 +2,14 @@
 -- 1, section 3.6.1.
 use Rattle.std.specs.Prelude.{ℕ, nat_le, ◌&&◌, ◌||◌, not, if◌then◌else◌, is_some}
 use Rattle.x86_regs.specs.declared.RegisterClass.{RegisterClass}
-use Rattle.x86_regs.specs.declared.RegisterClass.TheVariants.{B, W, D, RB, Q}
+use Rattle.x86_regs.specs.declared.RegisterClass.TheVariants.{B, W, D, RB, Q, X, MM}
 use Rattle.x86_regs.specs.declared.RegSpec.{RegSpec}
 use Rattle.x86_regs.specs.Register.{reg_spec}
 use Rattle.x86_fields.specs.declared.prefixes.Prefixes.{Prefixes}
 use Rattle.x86_fields.specs.declared.sizes.SizePrefixes.{SizePrefixes}
 use Rattle.x86_fields.specs.declared.sizes.SizePrefixes.TheVariants as prefix
+use Rattle.x86_fields.specs.declared.sizes.Width.{Width}
+use Rattle.x86_fields.specs.declared.sizes.Width.TheVariants as width
 use Rattle.x86_fields.specs.Raw.{has_w}
 pub use Rattle.x86_regs.specs.Class.{width_of}
 
@@ -30,6 +32,19 @@ vd_class p = if has_w p || not p.operand_size then D else W
 -- Q under live W, else D
 abbrev pub dq_class : Prefixes → RegisterClass
 dq_class p = if has_w p then Q else D
+
+-- the class of a width
+abbrev pub class_of : Width → Prefixes → RegisterClass
+class_of width.B p = B
+class_of width.Mm p = MM
+class_of width.W p = W
+class_of width.D p = D
+class_of width.Q p = Q
+class_of width.X p = X
+class_of width.V p = v_class p
+class_of width.Vq p = vq_class p
+class_of width.Vd p = vd_class p
+class_of width.Dq p = dq_class p
 
 -- A byte register below 4 has class B; from 4 on it has class rB with a live REX, else class B.
 abbrev pub byte_reg : Prefixes → ℕ → RegSpec

@@ -2,11 +2,14 @@
 
 ghost use Rattle.std.specs.Prelude.{◌≡◌, ◌<◌, ℕ};
 ghost use Rattle.x86_fields.specs.ModRM.{absent_modrm, as_register, is_memory, mod_field, packed_byte, reg_field, rm_field};
-ghost use Rattle.x86_fields.specs.Sizes.{size_prefixes};
+ghost use Rattle.x86_fields.specs.Address.{extend};
+ghost use Rattle.x86_fields.specs.Raw.{has_b, has_r};
+ghost use Rattle.x86_fields.specs.Sizes.{class_of, register_of, size_prefixes};
 
 use crate::prefixes::Prefixes;
-use crate::sizes::SizePrefixes;
+use crate::sizes::{SizePrefixes, Width};
 use std::marker::Model;
+use x86_regs::RegSpec;
 
 /// A ModRM byte below this one is a memory form, and every other is a register form: mod is 11 from here on.
 pub const MEMORY_FORMS: u8 = 0xc0;
@@ -136,5 +139,31 @@ impl<'a> PrefixedModRM<'a> {
             sizes: prefixes.size_prefixes(),
             in_memory: modrm.is_memory(),
         }
+    }
+}
+
+impl PrefixedModRM<'_> {
+    /// The register of reg, with R, of a width.
+    #[inline(always)]
+    pub fn reg(&self, width: Width) -> RegSpec
+        ensures { result ≡ register_of (class_of width self.now.prefixes.now)
+            self.now.prefixes.now
+            (extend (has_r self.now.prefixes.now) (reg_field self.now.modrm)) }
+    {
+        let class = width.class(self.sizes);
+        self.prefixes
+            .register(class, self.prefixes.reg_number(self.modrm))
+    }
+
+    /// The register of rm, with B, of a width.
+    #[inline(always)]
+    pub fn rm(&self, width: Width) -> RegSpec
+        ensures { result ≡ register_of (class_of width self.now.prefixes.now)
+            self.now.prefixes.now
+            (extend (has_b self.now.prefixes.now) (rm_field self.now.modrm)) }
+    {
+        let class = width.class(self.sizes);
+        self.prefixes
+            .register(class, self.prefixes.rm_number(self.modrm))
     }
 }

@@ -6,12 +6,10 @@ ghost use Rattle.x86_fields.specs.ModRM.{reg_field, rm_field};
 ghost use Rattle.x86_fields.specs.Prefixes.{rex, with_rex};
 ghost use Rattle.x86_fields.specs.Raw.{has_w, has_r, has_x, has_b};
 ghost use Rattle.x86_fields.specs.Rex.{w, r, x, b, is_rex, rex_bits, rex_named};
-ghost use Rattle.x86_fields.specs.Sizes.{register_of};
 
-use crate::modrm::{ModRM, PrefixedModRM};
+use crate::modrm::ModRM;
 use crate::prefixes::Prefixes;
 use std::marker::Model;
-use x86_regs::{RegSpec, RegisterClass};
 
 /// Whether the byte is a REX.
 #[inline(always)]
@@ -171,28 +169,14 @@ impl Prefixes {
         // The fourth bit as a number, with no branch: this is faster than `extend`.
         self.rex.byte / 4 % 2 * 8 + modrm.reg_field()
     }
-}
 
-impl PrefixedModRM<'_> {
-    /// The register of reg, with R.
+    /// The number of rm, with B.
     #[inline(always)]
-    pub fn reg(&self, class: RegisterClass) -> RegSpec
-        ensures { result ≡ register_of class self.now.prefixes.now
-            (extend (has_r self.now.prefixes.now) (reg_field self.now.modrm)) }
+    pub fn rm_number(&self, modrm: ModRM) -> u8
+        ensures value { result ≡ extend (has_b self.now) (rm_field modrm) }
+        ensures small { result < 16 }
     {
-        self.prefixes
-            .register(class, self.prefixes.reg_number(self.modrm))
-    }
-
-    /// The register of rm, with B.
-    #[inline(always)]
-    pub fn rm(&self, class: RegisterClass) -> RegSpec
-        ensures { result ≡ register_of class self.now.prefixes.now
-            (extend (has_b self.now.prefixes.now) (rm_field self.now.modrm)) }
-    {
-        let prefixes = self.prefixes;
-        // The fourth bit as a number, with no branch: this is faster than `extend`.
-        let num = prefixes.rex.byte % 2 * 8 + self.modrm.rm_field();
-        prefixes.register(class, num)
+        // As in `reg_number`.
+        self.rex.byte % 2 * 8 + modrm.rm_field()
     }
 }

@@ -2,8 +2,9 @@
 //! 3.6.1.
 
 ghost use Rattle.std.specs.Prelude.{◌≡◌, ◌<◌, None};
+ghost use Rattle.x86_fields.specs.declared.prefixes.Prefixes.{Prefixes};
 ghost use Rattle.x86_fields.specs.Prefixes.{rex};
-ghost use Rattle.x86_fields.specs.Sizes.{size_prefixes, v_class, vq_class, vd_class, dq_class, byte_reg, register_of};
+ghost use Rattle.x86_fields.specs.Sizes.{size_prefixes, class_of, v_class, vq_class, vd_class, dq_class, byte_reg, register_of};
 
 use crate::prefixes::Prefixes;
 use x86_regs::{RegSpec, RegisterClass};
@@ -16,6 +17,62 @@ pub enum SizePrefixes {
     W,
     OperandSize,
     Both,
+}
+
+/// The small letter after G, E or Z: a class of registers, always the same or by W and 66 (Intel SDM volume 2,
+/// appendix A.2.2).
+#[derive(Clone, Copy, Drop)]
+pub enum Width {
+    B,
+    Mm,
+    W,
+    D,
+    Q,
+    X,
+    /// Q under REX.W, else W under 66, else D.
+    V,
+    /// W under 66, else Q.
+    Vq,
+    /// D under REX.W or without 66, else the class W.
+    Vd,
+    /// Q under REX.W, else D.
+    Dq,
+}
+
+const B: RegisterClass = RegisterClass::B;
+
+const MM: RegisterClass = RegisterClass::MM;
+
+const W: RegisterClass = RegisterClass::W;
+
+const D: RegisterClass = RegisterClass::D;
+
+const Q: RegisterClass = RegisterClass::Q;
+
+const X: RegisterClass = RegisterClass::X;
+
+/// The class of each width. The columns: neither, W, 66, both.
+const CLASSES: &[[RegisterClass; 4]; 10] = &[
+    [B, B, B, B], // B
+    [MM, MM, MM, MM], // Mm
+    [W, W, W, W], // W
+    [D, D, D, D], // D
+    [Q, Q, Q, Q], // Q
+    [X, X, X, X], // X
+    [D, Q, W, Q], // V
+    [Q, Q, W, W], // Vq
+    [D, D, W, D], // Vd
+    [D, Q, D, Q], // Dq
+];
+
+impl Width {
+    /// The class of registers.
+    #[inline(always)]
+    pub fn class(self, sizes: SizePrefixes) -> RegisterClass
+        ensures { (p : Prefixes) → sizes ≡ size_prefixes p → result ≡ class_of self p }
+    {
+        CLASSES[self as usize][sizes as usize]
+    }
 }
 
 impl Prefixes {

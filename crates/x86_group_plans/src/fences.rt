@@ -5,7 +5,7 @@ ghost use Rattle.x86_group_plans.specs.Fences.{clears_operand_size, operand_size
 use crate::vocabulary::{
     bad_opcode, bad_operand, named_by_reg, on_memory, on_register, operandless,
 };
-use x86_fields::{ModRM, PrefixedModRM, Prefixes};
+use x86_fields::{ModRM, Prefixes};
 use x86_opcodes::Opcode;
 use x86_plans::UNDECIDED_SIZE;
 use x86_plans::plans::OperandEncoding::{E, Fixed};
@@ -41,7 +41,7 @@ fn f2_0fae(prefixes: &Prefixes, modrm: ModRM) -> Plan
     if modrm.is_memory() {
         bad_operand()
     } else if modrm.reg_field() == 6 {
-        let register = PrefixedModRM::of(prefixes, modrm).rm(RegisterClass::D);
+        let register = prefixes.register(RegisterClass::D, prefixes.rm_number(modrm));
         let encoding = Fixed(RegisterSlot::Reg, register);
         reads(Opcode::UMWAIT, One(encoding), 0)
     } else {

@@ -10,8 +10,8 @@ use Rattle.x86_fields.specs.declared.prefixes.Prefixes.{Prefixes}
 use Rattle.x86_plans.specs.declared.encodings.AfterOpcode.{AfterOpcode}
 use Rattle.x86_plans.specs.declared.encodings.AfterOpcode.TheVariants as after_opcode
 use Rattle.x86_plans.specs.declared.encodings.FormEncoding.{FormEncoding}
-use Rattle.x86_plans.specs.declared.encodings.Width.{Width}
-use Rattle.x86_plans.specs.declared.encodings.Width.TheVariants as width
+use Rattle.x86_fields.specs.declared.sizes.Width.{Width}
+use Rattle.x86_fields.specs.declared.sizes.Width.TheVariants as width
 use Rattle.x86_operands.specs.declared.form_encodings.TheConstants.{ENCODINGS}
 use Rattle.x86_operands.specs.FormEncodings.{Belongs, Describes, HasSeparatePlan}
 use Rattle.x86_plans.specs.Encodings.{encodings_in, is_sound, last_encoding, plan_of, reg_encoding, restricted_plan, rm_encoding, size_at, size_bytes, use_of}

@@ -7,8 +7,8 @@ use Rattle.x86_plans.specs.declared.order.Position.{Position}
 use Rattle.x86_plans.specs.declared.order.Position.TheVariants.{First, Second, Third, Nowhere}
 use Rattle.x86_plans.specs.declared.encodings.AfterOpcode.{AfterOpcode}
 use Rattle.x86_plans.specs.declared.encodings.AfterOpcode.TheVariants as after_opcode
-use Rattle.x86_plans.specs.declared.encodings.Width.{Width}
-use Rattle.x86_plans.specs.declared.encodings.Width.TheVariants as width
+use Rattle.x86_fields.specs.declared.sizes.Width.{Width}
+use Rattle.x86_fields.specs.declared.sizes.Width.TheVariants as width
 use Rattle.x86_plans.specs.declared.encodings.Last.{Last}
 use Rattle.x86_plans.specs.declared.encodings.FormEncoding.{FormEncoding}
 use Rattle.x86_fields.specs.declared.raw.Raw.{Raw}
@@ -20,13 +20,13 @@ use Rattle.x86_operand_types.specs.declared.operands.Slot.TheVariants as slots
 use Rattle.x86_operand_types.specs.declared.operands.Operand.TheVariants as operands
 use Rattle.x86_fields.specs.declared.errors.DecodeError.{DecodeError}
 use Rattle.x86_fields.specs.Steps.{Step, ◌>>=◌, pure}
-use Rattle.x86_fields.specs.Sizes.{register_of}
+use Rattle.x86_fields.specs.Sizes.{class_of, register_of}
 use Rattle.x86_operands.specs.PlanSteps.{FilledOperands, operand_step, read_memory, rm_operand, rm_mm_operand}
 use Rattle.x86_operands.specs.declared.reader.Reading.{Reading}
 use Rattle.x86_operand_types.specs.declared.operands.Slot.{Slot}
 use Rattle.x86_operand_types.specs.declared.operands.Operand.{Operand}
 use Rattle.x86_operands.specs.declared.operand_list.Operands.{Operands}
-use Rattle.x86_plans.specs.Encodings.{class_of, last_encoding, somewhere}
+use Rattle.x86_plans.specs.Encodings.{last_encoding, somewhere}
 
 -- what was written, where the reading is Ok
 abbrev pub value_if_ok : {X : Type 0} → Result (Unit {0}) DecodeError → X → Result X DecodeError

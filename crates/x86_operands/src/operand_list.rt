@@ -13,14 +13,14 @@ ghost use Rattle.x86_plans.specs.Encodings.{plan_of, last_encoding, allows, is_s
 use crate::shapes::put_shape;
 use x86_arch::Reader;
 use x86_fields::{
-    DecodeError, ModRM, PrefixedModRM, Prefixes, Raw, read_raw, read_u8, read_u16, read_u32,
+    DecodeError, ModRM, PrefixedModRM, Prefixes, Raw, Width, read_raw, read_u8, read_u16, read_u32,
     read_u64,
 };
 use x86_opcodes::Opcode;
 use x86_operand_types::{Operand, Slot};
 use x86_plans::order::Position;
 use x86_plans::plans::{OperandEncoding, PointerSlot, RegisterSlot, register_at};
-use x86_plans::{AfterOpcode, FormEncoding, Last, Width};
+use x86_plans::{AfterOpcode, FormEncoding, Last};
 use x86_regs::{RegSpec, RegisterClass};
 
 /// The slot of a register that the record names.
@@ -187,15 +187,15 @@ impl Operands {
     {
         match encoding {
             OperandEncoding::G(class) => {
-                let reg = PrefixedModRM::of(prefixes, modrm).reg(class);
+                let reg = prefixes.register(class, prefixes.reg_number(modrm));
                 self.put_register(at, Slot::Reg, reg);
             }
             OperandEncoding::E(class) | OperandEncoding::U(class) => {
-                let reg = PrefixedModRM::of(prefixes, modrm).rm(class);
+                let reg = prefixes.register(class, prefixes.rm_number(modrm));
                 self.put_rm(at, memory, reg);
             }
             OperandEncoding::M => {
-                let reg = PrefixedModRM::of(prefixes, modrm).rm(RegisterClass::Q);
+                let reg = prefixes.register(RegisterClass::Q, prefixes.rm_number(modrm));
                 self.put_rm(at, memory, reg);
             }
             OperandEncoding::Gmm => self.put_register(
@@ -255,7 +255,7 @@ impl Operands {
             at => {
                 let reg = match width {
                     Width::Mm => RegSpec::mm(fields.modrm.reg_field()),
-                    w => fields.reg(w.class(fields.sizes)),
+                    width => fields.reg(width),
                 };
                 self.put_at(at as usize, Slot::Reg, Operand::Register { reg });
             }
@@ -309,7 +309,7 @@ impl Operands {
             at => {
                 let reg = match encoding.rm {
                     Width::Mm => RegSpec::mm(fields.modrm.rm_field()),
-                    w => fields.rm(w.class(fields.sizes)),
+                    width => fields.rm(width),
                 };
                 self.put_at(at as usize, Slot::Rm, Operand::Register { reg });
             }
@@ -356,9 +356,7 @@ impl Operands {
     {
         let fields = PrefixedModRM::of(prefixes, modrm);
         self.count = encoding.order.count;
-        self.mem_size = encoding
-            .size_at(fields.in_memory)
-            .bytes(opcode, fields.sizes);
+        self.mem_size = encoding.mem_size(fields.in_memory, opcode, fields.sizes);
         self.read_leading(reader, encoding, num, &fields)?;
         match encoding.order.last {
             Position::Nowhere => Ok(()),

@@ -5,8 +5,8 @@ use Rattle.x86_plans.specs.declared.asks.Ask.{Ask}
 use Rattle.x86_plans.specs.declared.encodings.AfterOpcode.{AfterOpcode}
 use Rattle.x86_plans.specs.declared.encodings.AfterOpcode.TheVariants as after_opcode
 use Rattle.x86_plans.specs.declared.encodings.FormEncoding.{FormEncoding}
-use Rattle.x86_plans.specs.declared.encodings.Width.{Width}
-use Rattle.x86_plans.specs.declared.encodings.Width.TheVariants as width
+use Rattle.x86_fields.specs.declared.sizes.Width.{Width}
+use Rattle.x86_fields.specs.declared.sizes.Width.TheVariants as width
 use Rattle.x86_plans.specs.declared.order.Order.{Order}
 use Rattle.x86_plans.specs.declared.plans.Fault.{Fault}
 use Rattle.x86_plans.specs.declared.plans.ModrmUse.{ModrmUse}

@@ -4,7 +4,7 @@ use Rattle.x86_regs.specs.declared.RegisterClass.{RegisterClass}
 use Rattle.x86_regs.specs.declared.RegisterClass.TheVariants as class
 use Rattle.x86_regs.specs.Class.{width_of}
 use Rattle.x86_fields.specs.declared.prefixes.Prefixes.{Prefixes}
-use Rattle.x86_fields.specs.Sizes.{v_class, vq_class, vd_class, dq_class}
+use Rattle.x86_fields.specs.Sizes.{class_of, v_class, dq_class}
 use Rattle.x86_plans.specs.declared.plans.OperandEncoding.{OperandEncoding}
 use Rattle.x86_plans.specs.declared.plans.OperandEncoding.TheVariants as encoding
 use Rattle.x86_plans.specs.declared.plans.OperandEncodings.{OperandEncodings}
@@ -16,8 +16,8 @@ use Rattle.x86_plans.specs.declared.order.Position.TheVariants.{First, Second, T
 use Rattle.x86_plans.specs.declared.order.Order.{Order}
 use Rattle.x86_plans.specs.declared.encodings.AfterOpcode.{AfterOpcode}
 use Rattle.x86_plans.specs.declared.encodings.AfterOpcode.TheVariants as after_opcode
-use Rattle.x86_plans.specs.declared.encodings.Width.{Width}
-use Rattle.x86_plans.specs.declared.encodings.Width.TheVariants as width
+use Rattle.x86_fields.specs.declared.sizes.Width.{Width}
+use Rattle.x86_fields.specs.declared.sizes.Width.TheVariants as width
 use Rattle.x86_plans.specs.declared.encodings.Last.{Last}
 use Rattle.x86_plans.specs.declared.encodings.Last.TheVariants as last
 use Rattle.x86_plans.specs.declared.encodings.Size.{Size}
@@ -31,19 +31,6 @@ use Rattle.x86_regs.specs.Register.{reg_spec}
 use Rattle.x86_fields.specs.Prefixes.{operand_size}
 use Rattle.x86_plans.specs.declared.plans.ModrmUse.{ModrmUse}
 use Rattle.x86_plans.specs.declared.plans.ModrmUse.TheVariants as use_as
-
--- the class of a width
-abbrev pub class_of : Width → Prefixes → RegisterClass
-class_of width.B p = class.B
-class_of width.Mm p = class.MM
-class_of width.W p = class.W
-class_of width.D p = class.D
-class_of width.Q p = class.Q
-class_of width.X p = class.X
-class_of width.V p = v_class p
-class_of width.Vq p = vq_class p
-class_of width.Vd p = vd_class p
-class_of width.Dq p = dq_class p
 
 -- the bytes of a size
 abbrev pub size_bytes : Size → ℕ → Prefixes → ℕ

@@ -5,7 +5,7 @@ ghost use Rattle.x86_fields.specs.declared.prefixes.Prefixes.{Prefixes};
 ghost use Rattle.x86_fields.specs.ModRM.{is_memory};
 ghost use Rattle.x86_fields.specs.Sizes.{size_prefixes};
 ghost use Rattle.x86_plans.specs.FormSizes.{named_size};
-ghost use Rattle.x86_plans.specs.Encodings.{class_of, size_bytes, last_encoding, reg_encoding, rm_encoding, encoding_at, encodings_in, plan_of, use_of, is_described, allows, size_at};
+ghost use Rattle.x86_plans.specs.Encodings.{size_bytes, last_encoding, reg_encoding, rm_encoding, encoding_at, encodings_in, plan_of, use_of, is_described, allows, size_at};
 
 use crate::form_sizes::{
     duplicate_size, extract_size, insert_size, nothing_size, push_immediate, return_size,
@@ -16,10 +16,10 @@ use crate::plans::{
     ModrmUse, OperandEncoding, OperandEncodings, Plan, RegisterSlot, accumulator_of, immediate_of,
     memory_only, reads, register_at, register_only,
 };
-use crate::sizing::{CLASSES, SIZES};
-use x86_fields::{ModRM, Prefixes, SizePrefixes};
+use crate::sizing::SIZES;
+use x86_fields::{ModRM, Prefixes, SizePrefixes, Width};
 use x86_opcodes::Opcode;
-use x86_regs::{RegSpec, RegisterClass};
+use x86_regs::RegSpec;
 
 /// The groups whose lines reg alone chooses, by their opcode byte.
 #[derive(Clone, Copy, Drop)]
@@ -62,26 +62,6 @@ pub enum AfterOpcode {
     ByPlan(ModrmUse),
     /// Another group.
     Group,
-}
-
-/// The small letter after G, E or Z: a class of registers, always the same or by W and 66 (Intel SDM volume 2,
-/// appendix A.2.2).
-#[derive(Clone, Copy, Drop)]
-pub enum Width {
-    B,
-    Mm,
-    W,
-    D,
-    Q,
-    X,
-    /// Q under REX.W, else W under 66, else D.
-    V,
-    /// W under 66, else Q.
-    Vq,
-    /// D under REX.W or without 66, else the class W.
-    Vd,
-    /// Q under REX.W, else D.
-    Dq,
 }
 
 /// The operand that is none of ModRM and no register of the opcode byte.
@@ -153,33 +133,7 @@ pub struct FormEncoding {
     pub in_register: Size,
 }
 
-impl Width {
-    /// The class of registers.
-    #[inline(always)]
-    pub fn class(self, sizes: SizePrefixes) -> RegisterClass
-        ensures { (p : Prefixes) → sizes ≡ size_prefixes p → result ≡ class_of self p }
-    {
-        CLASSES[self as usize][sizes as usize]
-    }
-}
-
 impl Size {
-    /// The size in bytes. From `Bare` on the operation alone decides it.
-    #[inline(always)]
-    pub fn bytes(self, opcode: Opcode, sizes: SizePrefixes) -> u8
-        ensures { (p : Prefixes) → sizes ≡ size_prefixes p → result ≡ size_bytes self opcode p }
-    {
-        if self as usize >= Size::Bare as usize {
-            return self.named(opcode);
-        }
-        let size = SIZES[self as usize][sizes as usize];
-        if matches!(self, Size::Call) && opcode != Opcode::CALL {
-            0
-        } else {
-            size
-        }
-    }
-
     /// The size that the operation alone decides; 0 for the sizes of the table.
     #[inline(never)]
     fn named(self, opcode: Opcode) -> u8
@@ -326,15 +280,26 @@ impl AfterOpcode {
 }
 
 impl FormEncoding {
-    /// The memory size in the memory form, or in the register form.
+    /// The size in bytes of what is read or written in memory, in the memory form or in the register form. From
+    /// `Size::Bare` on the operation alone decides it.
     #[inline(always)]
-    pub fn size_at(&self, in_memory: bool) -> Size
-        ensures { (modrm : ℕ) → in_memory ≡ is_memory modrm → result ≡ size_at self.now modrm }
+    pub fn mem_size(&self, in_memory: bool, opcode: Opcode, sizes: SizePrefixes) -> u8
+        ensures { (modrm : ℕ) (p : Prefixes) → in_memory ≡ is_memory modrm
+            → sizes ≡ size_prefixes p → result ≡ size_bytes (size_at self.now modrm) opcode p }
     {
-        if in_memory {
+        let size = if in_memory {
             self.in_memory
         } else {
             self.in_register
+        };
+        if size as usize >= Size::Bare as usize {
+            return size.named(opcode);
+        }
+        let bytes = SIZES[size as usize][sizes as usize];
+        if matches!(size, Size::Call) && opcode != Opcode::CALL {
+            0
+        } else {
+            bytes
         }
     }
 
@@ -362,8 +327,7 @@ impl FormEncoding {
         let plan = reads(
             opcode,
             encodings,
-            self.size_at(modrm.is_memory())
-                .bytes(opcode, prefixes.size_prefixes()),
+            self.mem_size(modrm.is_memory(), opcode, prefixes.size_prefixes()),
         );
         match self.after_opcode {
             AfterOpcode::Memory => memory_only(modrm, plan),

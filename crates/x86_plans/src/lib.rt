@@ -13,8 +13,9 @@ pub mod plans;
 mod sizing;
 
 pub use asks::{Ask, RecordAt, encoding_ask, plan_ask, used_modrm, used_or_none};
-pub use encodings::{AfterOpcode, FormEncoding, Last, RegGroup, Size, Width};
+pub use encodings::{AfterOpcode, FormEncoding, Last, RegGroup, Size};
 pub use plans::UNDECIDED_SIZE;
+pub use x86_fields::Width;
 
 /// A line: what follows the opcode byte, the order of operands, the widths of reg and rm, the last operand, and
 /// the memory size in the memory form and in the register form.
