@@ -2,7 +2,6 @@
 use Rattle.std.specs.Prelude.{ℕ, Bool, true, false, ◌≡◌, ◌==◌, if◌then◌else◌, IsTrue}
 use Rattle.x86_fields.specs.ModRM.{reg_field}
 use Rattle.x86_fields.specs.declared.prefixes.Prefixes.{Prefixes}
-use Rattle.x86_plans.specs.declared.plans.ModrmUse.TheVariants.{EitherForm}
 use Rattle.x86_plans.specs.declared.plans.Plan.{Plan}
 use Rattle.x86_plans.specs.declared.encodings.RegGroup.{RegGroup}
 use Rattle.x86_plans.specs.declared.encodings.RegGroup.TheVariants as group

@@ -1,10 +1,10 @@
 -- What the table of operand encodings says of each form, and the plans of the forms that no line describes.
-use Rattle.std.specs.Prelude.{ℕ, false, IsTrue, ◌≡◌}
-use Rattle.x86_fields.specs.declared.prefixes.Prefixes.{Prefixes}
+use Rattle.std.specs.Prelude.{ℕ, false, IsTrue, ◌≡◌, ⊤}
 use Rattle.x86_forms.specs.Groups.{is_group}
 use Rattle.x86_forms.specs.Words.{carried}
 use Rattle.x86_forms.specs.declared.Form.{Form}
 use Rattle.x86_forms.specs.declared.Form.TheVariants as form
+use Rattle.x86_fields.specs.declared.prefixes.Prefixes.{Prefixes}
 use Rattle.x86_plans.specs.declared.plans.Plan.{Plan}
 use Rattle.x86_plans.specs.declared.plans.Fault.TheVariants.{Incomplete}
 use Rattle.x86_plans.specs.declared.plans.Moment.TheVariants.{AtModRM}
@@ -14,9 +14,8 @@ use Rattle.x86_plans.specs.declared.encodings.RegGroup.{RegGroup}
 use Rattle.x86_plans.specs.declared.encodings.RegGroup.TheVariants as group
 use Rattle.x86_plans.specs.declared.encodings.FormEncoding.{FormEncoding}
 use Rattle.x86_plans.specs.Plans.{refuses}
-use Rattle.x86_operands.specs.Forms.{form_plan}
-use Rattle.std.specs.Prelude.{⊤}
 use Rattle.x86_plans.specs.Encodings.{is_described, plan_of}
+use Rattle.x86_operands.specs.Forms.{form_plan}
 
 -- the encoding says what the form's definition says, unless it leaves the form to a separate plan
 abbrev pub Describes : FormEncoding → Form → Type 0

@@ -1,5 +1,5 @@
 -- The orders of a sound line, and what follows where it accepts.
-use Rattle.std.proofs.Common.{◌≡◌, ℕ, true, false, not, if◌then◌else◌, ◌&&◌, ◌≢◌, IsTrue, refl}
+use Rattle.std.proofs.Common.{◌≡◌, ℕ, true, false, if◌then◌else◌, ◌&&◌, ◌≢◌, IsTrue, refl}
 use Rattle.std.proofs.lemmas.Bool.{and_parts, eqb-true, not-true}
 use Rattle.x86_plans.specs.declared.plans.OperandEncodings.{OperandEncodings}
 use Rattle.x86_plans.specs.declared.order.Position.{Position}

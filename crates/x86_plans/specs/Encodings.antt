@@ -1,10 +1,14 @@
 -- What a line of the operand encodings means.
-use Rattle.std.specs.Prelude.{ℕ, Bool, true, false, ◌==◌, if◌then◌else◌}
-use Rattle.x86_regs.specs.declared.RegisterClass.{RegisterClass}
+use Rattle.std.specs.Prelude.{ℕ, Bool, true, false, ◌==◌, if◌then◌else◌, not, pos, ◌&&◌}
 use Rattle.x86_regs.specs.declared.RegisterClass.TheVariants as class
 use Rattle.x86_regs.specs.Class.{width_of}
+use Rattle.x86_regs.specs.Register.{reg_spec}
 use Rattle.x86_fields.specs.declared.prefixes.Prefixes.{Prefixes}
 use Rattle.x86_fields.specs.Sizes.{class_of, v_class, dq_class}
+use Rattle.x86_fields.specs.declared.sizes.Width.{Width}
+use Rattle.x86_fields.specs.declared.sizes.Width.TheVariants as width
+use Rattle.x86_fields.specs.ModRM.{is_memory}
+use Rattle.x86_fields.specs.Prefixes.{operand_size}
 use Rattle.x86_plans.specs.declared.plans.OperandEncoding.{OperandEncoding}
 use Rattle.x86_plans.specs.declared.plans.OperandEncoding.TheVariants as encoding
 use Rattle.x86_plans.specs.declared.plans.OperandEncodings.{OperandEncodings}
@@ -16,19 +20,13 @@ use Rattle.x86_plans.specs.declared.order.Position.TheVariants.{First, Second, T
 use Rattle.x86_plans.specs.declared.order.Order.{Order}
 use Rattle.x86_plans.specs.declared.encodings.AfterOpcode.{AfterOpcode}
 use Rattle.x86_plans.specs.declared.encodings.AfterOpcode.TheVariants as after_opcode
-use Rattle.x86_fields.specs.declared.sizes.Width.{Width}
-use Rattle.x86_fields.specs.declared.sizes.Width.TheVariants as width
 use Rattle.x86_plans.specs.declared.encodings.Last.{Last}
 use Rattle.x86_plans.specs.declared.encodings.Last.TheVariants as last
 use Rattle.x86_plans.specs.declared.encodings.Size.{Size}
 use Rattle.x86_plans.specs.declared.encodings.Size.TheVariants as size
 use Rattle.x86_plans.specs.declared.encodings.FormEncoding.{FormEncoding}
-use Rattle.x86_fields.specs.ModRM.{is_memory}
 use Rattle.x86_plans.specs.Plans.{reads, memory_only, register_only, register_at, accumulator_of, immediate_of}
 use Rattle.x86_plans.specs.FormSizes.{whole_immediate, push_immediate, nothing_size, call_size, return_size, duplicate_size, stream_size, scalar_size, extract_size, insert_size, unpack_size, v_size}
-use Rattle.std.specs.Prelude.{not, pos, ◌&&◌}
-use Rattle.x86_regs.specs.Register.{reg_spec}
-use Rattle.x86_fields.specs.Prefixes.{operand_size}
 use Rattle.x86_plans.specs.declared.plans.ModrmUse.{ModrmUse}
 use Rattle.x86_plans.specs.declared.plans.ModrmUse.TheVariants as use_as
 

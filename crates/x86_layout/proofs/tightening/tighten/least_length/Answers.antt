@@ -1,5 +1,4 @@
 use Rattle.std.proofs.Common.{false, arith, sym}
-use Rattle.x86_layout.specs.Tightening.Shortest.{address_length}
 use Rattle.x86_layout.proofs.TightenLemmas.Tighten.{least_with}
 use Rattle.x86_layout.proofs.TightenLemmas.Relative.{length_is}
 use Rattle.x86_layout.proofs.tightening.tighten.least_length.Goals as goal
