@@ -109,14 +109,14 @@ pub fn read_head<T: ReadIf>(reader: &mut T, prefixes: &mut Prefixes) -> Result<u
     ensures { Headed result prefixes.new (T.state reader.new) (head_step (T.state reader.old)) }
 {
     let first = reader.next()?;
-    match lead_of(first) {
+    let byte = match lead_of(first) {
         Lead::Legacy => {
             *prefixes = prefixes.after(first);
-            let second = reader.next()?;
-            read_rex(reader, prefixes, second)
+            reader.next()?
         }
-        _ => read_rex(reader, prefixes, first),
-    }
+        _ => first,
+    };
+    read_rex(reader, prefixes, byte)
 }
 
 /// Whether the byte is C4, C5 or 62.

@@ -55,7 +55,7 @@ pub struct WordRow {
     pub word: u64,
     pub row: TableRow,
     /// The ordinal of the form: forms count from 0, each with every number that it may carry.
-    pub ordinal: u8,
+    pub ordinal: usize,
     /// The number that the form carries, if it carries one: the last three bits of the ordinal. The forms that carry
     /// one have the first 40 ordinals, eight each.
     pub number: u8,
@@ -67,10 +67,10 @@ pub struct WordRow {
 }
 
 #[inline(always)]
-fn nth_form(forms: &[Form], at: u64) -> Option<Form>
+fn nth_form(forms: &[Form], at: usize) -> Option<Form>
     ensures { result ≡ slice_get forms.now at }
 {
-    forms.get(at as usize).copied()
+    forms.get(at).copied()
 }
 
 /// The row whose word this is, with the word, or `None` for a word of no row.
@@ -83,15 +83,14 @@ pub fn word_row(word: u64) -> Option<WordRow>
     if number == 0 {
         return None;
     }
-    let ordinal = number - 1;
+    let ordinal = (number - 1) as usize;
     let form = nth_form(FORMS, ordinal)?;
     let opcode = Opcode::from_number(word / 256)?;
-    let ordinal = ordinal as u8;
     Some(WordRow {
         word,
         row: TableRow { opcode, form },
         ordinal,
-        number: ordinal % 8,
+        number: (ordinal % 8) as u8,
     })
 }
 

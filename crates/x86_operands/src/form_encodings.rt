@@ -252,7 +252,7 @@ pub fn word_encoding(found: &WordRow) -> &'static FormEncoding
         plan_of result.now found.now.number opcode p modrm
         ≡ plan_of result.now (carried found.now.row.form) opcode p modrm }
 {
-    &ENCODINGS[found.ordinal as usize]
+    &ENCODINGS[found.ordinal]
 }
 
 /// The number that a form carries, or 0.
