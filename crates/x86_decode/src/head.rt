@@ -56,6 +56,7 @@ const LEADS: &[Lead; 256] = &[
     LEG, OPC, LEG, LEG, OPC, OPC, OPC, OPC, OPC, OPC, OPC, OPC, OPC, OPC, OPC, OPC, // F0
 ];
 
+/// What a byte is at the beginning of an encoding, by the table.
 #[inline(always)]
 pub fn lead_of(byte: u8) -> Lead
     ensures { result ≡ lead_of byte }

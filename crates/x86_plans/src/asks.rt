@@ -27,9 +27,11 @@ pub struct Ask {
 pub struct RecordAt {
     /// The refusal at the opcode byte.
     pub at_opcode: Option<Fault>,
+    /// How the row uses a ModRM byte.
     pub usage: ModrmUse,
     /// ModRM as the row uses it.
     pub modrm: ModRM,
+    /// The plan of its operands, with the operation and the refusals after ModRM.
     pub plan: Plan,
 }
 
