@@ -225,7 +225,6 @@ fn error_at_limit(error: DecodeError, full: bool) -> DecodeError
 }
 
 /// The walk within the first fifteen bytes of a slice, into a blank instruction.
-#[inline(never)]
 pub fn walk_slice(strict: bool, bytes: &[u8], inst: &mut Instruction) -> Result<(), DecodeError>
     requires { inst.old ≡ invalid_instruction }
     ensures { holding inst.new result ≡ answer_of strict bytes.now }
