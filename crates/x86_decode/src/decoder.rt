@@ -25,6 +25,14 @@ pub struct InstDecoder {
     strict: bool,
 }
 
+/// Makes an instruction blank after a refusal. It is a call, so the path without a refusal has nothing of it.
+#[inline(never)]
+fn make_invalid(inst: &mut Instruction)
+    ensures { inst.new ≡ invalid_instruction }
+{
+    *inst = Instruction::INVALID;
+}
+
 impl InstDecoder {
     /// The decoder that refuses LFENCE, MFENCE and SFENCE with rm other than 0.
     pub fn strict() -> InstDecoder
@@ -100,7 +108,7 @@ impl InstDecoder {
         match walk_into(self.strict, &Packed, words, inst) {
             Ok(()) => Ok(()),
             Err(error) => {
-                *inst = Instruction::INVALID;
+                make_invalid(inst);
                 Err(error)
             }
         }
@@ -140,7 +148,7 @@ impl InstDecoder {
         match walk_slice(self.strict, bytes, inst) {
             Ok(()) => Ok(()),
             Err(error) => {
-                *inst = Instruction::INVALID;
+                make_invalid(inst);
                 Err(error)
             }
         }

@@ -1,5 +1,5 @@
 //! Words of rows, and tables of words. A word is 256 times the opcode's number, and the form's number.
-ghost use Rattle.std.specs.Prelude.{◌≡◌, ◌<◌, ℕ, IfSome, MatchOption, None, Some, slice_get};
+ghost use Rattle.std.specs.Prelude.{◌≡◌, ◌<◌, ◌+◌, ℕ, IfSome, MatchOption, None, Some, slice_get};
 ghost use Rattle.x86_forms.specs.declared.Column.{Column};
 ghost use Rattle.x86_forms.specs.declared.Map.{Map};
 ghost use Rattle.x86_forms.specs.declared.TableRow.{TableRow};
@@ -54,14 +54,13 @@ impl Words for Packed {
 pub struct WordRow {
     pub word: u64,
     pub row: TableRow,
-    /// The ordinal of the form: forms count from 0, each with every number that it may carry.
-    pub ordinal: usize,
-    /// The number that the form carries, if it carries one: the last three bits of the ordinal. The forms that carry
-    /// one have the first 40 ordinals, eight each.
+    /// The number that the word has for the form: forms count from 1, each with every number that it may carry.
+    pub form_number: usize,
+    /// The number that the form carries, if it carries one. The forms that carry one are the first 40, eight each.
     pub number: u8,
     ghost of_word: { unpack word ≡ Some row },
-    ghost ordinal_is: { ordinal ≡ ordinal_of row.form },
-    ghost number_is: { ordinal < 40 → number ≡ carried row.form },
+    ghost form_number_is: { form_number ≡ 1 + ordinal_of row.form },
+    ghost number_is: { form_number < 41 → number ≡ carried row.form },
     ghost small: { number < 8 },
     ghost fits: { IsForm row.form },
 }
@@ -79,17 +78,17 @@ fn nth_form(forms: &[Form], at: usize) -> Option<Form>
 pub fn word_row(word: u64) -> Option<WordRow>
     ensures { MatchOption result (unpack word ≡ None) (λ found. found.word ≡ word) }
 {
-    let number = word % 256;
-    if number == 0 {
+    let form_number = (word % 256) as usize;
+    if form_number == 0 {
         return None;
     }
-    let ordinal = (number - 1) as usize;
+    let ordinal = form_number - 1;
     let form = nth_form(FORMS, ordinal)?;
     let opcode = Opcode::from_number(word / 256)?;
     Some(WordRow {
         word,
         row: TableRow { opcode, form },
-        ordinal,
+        form_number,
         number: (ordinal % 8) as u8,
     })
 }

@@ -28,39 +28,39 @@ pub record IsLine (e : FormEncoding) (f : Form) : Type 0 where
 abbrev pub IsLineAt : ℕ → Form → Type 0
 IsLineAt n f = (d : FormEncoding) → IsLine (get_or ENCODINGS.now n d) f
 
-pub first_line : (f : Form) → IsLineAt (first_ordinal_of f) f
+pub first_line : (f : Form) → IsLineAt (first_ordinal_of f + 1) f
 first_line (form.Zv_R n) d = record { describes = search rules; separate = search rules; group = search rules; sound = refl; usage = refl }
 first_line _ d = record { describes = search rules; separate = search rules; group = search rules; sound = refl; usage = refl }
 
 abbrev HasLine : Form → Type 0
-HasLine f = (ordinal_of f < 198) × ((d : FormEncoding) → get_or ENCODINGS.now (first_ordinal_of f) d ≡ get_or ENCODINGS.now (ordinal_of f) d)
+HasLine f = (1 + ordinal_of f < 199) × ((d : FormEncoding) → get_or ENCODINGS.now (first_ordinal_of f + 1) d ≡ get_or ENCODINGS.now (1 + ordinal_of f) d)
 
 -- each number that a form carries has the same line
 has_line : (f : Form) → IsForm f → HasLine f
 unfolding ordinal_of
-has_line (form.Zv_R n) below = (omega arith, λ d. up_to_seven (λ n. get_or ENCODINGS.now 0 d ≡ get_or ENCODINGS.now (0 + n) d) refl refl refl refl refl refl refl refl n below)
-has_line (form.Zv_AX_R n) below = (omega arith, λ d. up_to_seven (λ n. get_or ENCODINGS.now 8 d ≡ get_or ENCODINGS.now (8 + n) d) refl refl refl refl refl refl refl refl n below)
-has_line (form.Zb_Ib_R n) below = (omega arith, λ d. up_to_seven (λ n. get_or ENCODINGS.now 16 d ≡ get_or ENCODINGS.now (16 + n) d) refl refl refl refl refl refl refl refl n below)
-has_line (form.Zv_Ivq_R n) below = (omega arith, λ d. up_to_seven (λ n. get_or ENCODINGS.now 24 d ≡ get_or ENCODINGS.now (24 + n) d) refl refl refl refl refl refl refl refl n below)
-has_line (form.Zv_B n) below = (omega arith, λ d. up_to_seven (λ n. get_or ENCODINGS.now 32 d ≡ get_or ENCODINGS.now (32 + n) d) refl refl refl refl refl refl refl refl n below)
+has_line (form.Zv_R n) below = (omega arith, λ d. up_to_seven (λ n. get_or ENCODINGS.now (1 + 0) d ≡ get_or ENCODINGS.now (1 + (0 + n)) d) refl refl refl refl refl refl refl refl n below)
+has_line (form.Zv_AX_R n) below = (omega arith, λ d. up_to_seven (λ n. get_or ENCODINGS.now (1 + 8) d ≡ get_or ENCODINGS.now (1 + (8 + n)) d) refl refl refl refl refl refl refl refl n below)
+has_line (form.Zb_Ib_R n) below = (omega arith, λ d. up_to_seven (λ n. get_or ENCODINGS.now (1 + 16) d ≡ get_or ENCODINGS.now (1 + (16 + n)) d) refl refl refl refl refl refl refl refl n below)
+has_line (form.Zv_Ivq_R n) below = (omega arith, λ d. up_to_seven (λ n. get_or ENCODINGS.now (1 + 24) d ≡ get_or ENCODINGS.now (1 + (24 + n)) d) refl refl refl refl refl refl refl refl n below)
+has_line (form.Zv_B n) below = (omega arith, λ d. up_to_seven (λ n. get_or ENCODINGS.now (1 + 32) d ≡ get_or ENCODINGS.now (1 + (32 + n)) d) refl refl refl refl refl refl refl refl n below)
 has_line _ below = (omega arith, λ d. refl)
 
-pub ordinal_below : (f : Form) (n : ℕ) → IsForm f → n ≡ ordinal_of f → n < 198
-ordinal_below f n below e = subst (λ n. n < 198) (sym e) (has_line f below).0
+pub number_below : (f : Form) (n : ℕ) → IsForm f → n ≡ 1 + ordinal_of f → n < 199
+number_below f n below e = subst (λ n. n < 199) (sym e) (has_line f below).0
 
-pub line_at : (f : Form) (n : ℕ) → IsForm f → n ≡ ordinal_of f → IsLineAt n f
+pub line_at : (f : Form) (n : ℕ) → IsForm f → n ≡ 1 + ordinal_of f → IsLineAt n f
 line_at f n below e d =
     subst (λ n. IsLine (get_or ENCODINGS.now n d) f) (sym e)
     (subst (λ line. IsLine line f) ((has_line f below).1 d) (first_line f d))
 
--- only the first 40 lines have the register of the opcode byte
+-- only the lines before 41 have the register of the opcode byte
 abbrev is_opcode : AfterOpcode → Bool
 is_opcode after_opcode.Opcode = true
 is_opcode b = false
 
 abbrev opcode_first : ℕ → List FormEncoding → Bool
 opcode_first k [] = true
-opcode_first k (e ∷ es) = (ltb k 40 || not (is_opcode e.after_opcode)) && opcode_first (suc k) es
+opcode_first k (e ∷ es) = (ltb k 41 || not (is_opcode e.after_opcode)) && opcode_first (suc k) es
 
 all_first : opcode_first 0 ENCODINGS.now ≡ true
 all_first = refl
@@ -69,19 +69,19 @@ left : (a : Bool) → (a || false) ≡ true → a ≡ true
 left true h = refl
 left false h = h
 
-opcode_at : (es : List FormEncoding) (k i : ℕ) (d : FormEncoding) → opcode_first k es ≡ true → i < length es → (get_or es i d).after_opcode ≡ after_opcode.Opcode → i + k < 40
+opcode_at : (es : List FormEncoding) (k i : ℕ) (d : FormEncoding) → opcode_first k es ≡ true → i < length es → (get_or es i d).after_opcode ≡ after_opcode.Opcode → i + k < 41
 opcode_at [] k i d e below is = absurd (omega arith)
 opcode_at (x ∷ es) k zero d e below is =
-    let here = subst (λ b. (ltb k 40 || not (is_opcode b)) ≡ true) is (and_parts (ltb k 40 || not (is_opcode x.after_opcode)) (opcode_first (suc k) es) e).0 in
-    let first : k < 40 = ltb-true k 40 (left (ltb k 40) here) in
+    let here = subst (λ b. (ltb k 41 || not (is_opcode b)) ≡ true) is (and_parts (ltb k 41 || not (is_opcode x.after_opcode)) (opcode_first (suc k) es) e).0 in
+    let first : k < 41 = ltb-true k 41 (left (ltb k 41) here) in
     omega (arith, first)
 opcode_at (x ∷ es) k (suc i) d e below is =
-    let there = opcode_at es (suc k) i d (and_parts (ltb k 40 || not (is_opcode x.after_opcode)) (opcode_first (suc k) es) e).1 (omega (arith, below)) is in
+    let there = opcode_at es (suc k) i d (and_parts (ltb k 41 || not (is_opcode x.after_opcode)) (opcode_first (suc k) es) e).1 (omega (arith, below)) is in
     omega (arith, there)
 
-carries_at : (f : Form) (n : ℕ) (d : FormEncoding) → IsForm f → n ≡ ordinal_of f → (get_or ENCODINGS.now n d).after_opcode ≡ after_opcode.Opcode → n < 40
+carries_at : (f : Form) (n : ℕ) (d : FormEncoding) → IsForm f → n ≡ 1 + ordinal_of f → (get_or ENCODINGS.now n d).after_opcode ≡ after_opcode.Opcode → n < 41
 carries_at f n d below e is =
-    let first = opcode_at ENCODINGS.now 0 n d all_first (ordinal_below f n below e) is in
+    let first = opcode_at ENCODINGS.now 0 n d all_first (number_below f n below e) is in
     omega (arith, first)
 
 -- the plan of a line looks at the number of the opcode byte only for the register of the opcode byte
@@ -96,6 +96,6 @@ plan_by_number e n k o m p same =
     ap (λ reg. restricted_plan e.after_opcode m (reads o (encodings_in e.order reg (rm_encoding e.after_opcode e.rm p) (last_encoding e.last p)) (size_bytes (size_at e m) o p)))
     (reg_by_number e.after_opcode e.reg n k p same)
 
-pub numbered_at : (f : Form) (ordinal n : ℕ) (d : FormEncoding) → IsForm f → ordinal ≡ ordinal_of f → (ordinal < 40 → n ≡ carried f) → (o m : ℕ) (p : Prefixes) → plan_of (get_or ENCODINGS.now ordinal d) n o p m ≡ plan_of (get_or ENCODINGS.now ordinal d) (carried f) o p m
-numbered_at f ordinal n d below e number o m p =
-    plan_by_number (get_or ENCODINGS.now ordinal d) n (carried f) o m p (λ is. number (carries_at f ordinal d below e is))
+pub numbered_at : (f : Form) (number n : ℕ) (d : FormEncoding) → IsForm f → number ≡ 1 + ordinal_of f → (number < 41 → n ≡ carried f) → (o m : ℕ) (p : Prefixes) → plan_of (get_or ENCODINGS.now number d) n o p m ≡ plan_of (get_or ENCODINGS.now number d) (carried f) o p m
+numbered_at f number n d below e carries o m p =
+    plan_by_number (get_or ENCODINGS.now number d) n (carried f) o m p (λ is. carries (carries_at f number d below e is))

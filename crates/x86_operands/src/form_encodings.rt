@@ -26,8 +26,12 @@ const ZV_IVQ_R: FormEncoding = encoded!(Opcode R_I V B Ivq Zero Zero);
 
 const ZV_B: FormEncoding = encoded!(Opcode R V B Absent Zero Zero);
 
-/// The operand encoding of each form by its ordinal. A form that carries a number has a line of eight.
-const ENCODINGS: &[FormEncoding; 198] = &[
+/// The line of the number 0, which no form has.
+const NONE: FormEncoding = other!(ByPlan(ModrmUse::Absent));
+
+/// The operand encoding of each form by the number that words have for it. A form that carries a number has eight lines.
+const ENCODINGS: &[FormEncoding; 199] = &[
+    NONE,
     ZV_R,
     ZV_R,
     ZV_R,
@@ -237,10 +241,10 @@ pub fn form_encoding(form: Form) -> &'static FormEncoding
     ensures sound { is_sound result.now ≡ true }
     ensures usage { modrm_use form ≡ use_of result.now.after_opcode }
 {
-    &ENCODINGS[form.first_ordinal() as usize]
+    &ENCODINGS[form.first_ordinal() as usize + 1]
 }
 
-/// The operand encoding of the form that a word has. It is found by the ordinal, so the form need not be read.
+/// The operand encoding of the form that a word has. It is found by the form's number, so the form need not be read.
 #[inline(always)]
 pub fn word_encoding(found: &WordRow) -> &'static FormEncoding
     ensures describes { Describes result.now found.now.row.form }
@@ -252,7 +256,7 @@ pub fn word_encoding(found: &WordRow) -> &'static FormEncoding
         plan_of result.now found.now.number opcode p modrm
         ≡ plan_of result.now (carried found.now.row.form) opcode p modrm }
 {
-    &ENCODINGS[found.ordinal]
+    &ENCODINGS[found.form_number]
 }
 
 /// The number that a form carries, or 0.
