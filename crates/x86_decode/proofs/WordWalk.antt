@@ -4,7 +4,7 @@ use Rattle.x86_arch.specs.Reader.{State}
 use Rattle.x86_fields.specs.declared.errors.DecodeError.{DecodeError}
 use Rattle.x86_fields.specs.declared.prefixes.Prefixes.{Prefixes}
 use Rattle.x86_fields.specs.Run.{is_prefix}
-use Rattle.x86_fields.specs.Steps.{Outcome, outcome, then_from, pure, ◌>>=◌, next_byte}
+use Rattle.x86_fields.specs.Steps.{Step, Outcome, outcome, then_from, pure, ◌>>=◌, next_byte}
 use Rattle.x86_forms.specs.declared.Map.{Map}
 use Rattle.x86_forms.specs.declared.Map.TheVariants.{One}
 use Rattle.x86_forms.specs.declared.TableRow.{TableRow}
@@ -13,7 +13,7 @@ use Rattle.x86_operands.specs.declared.reader.Reading.{Reading}
 use Rattle.x86_decode.specs.declared.head.Lead.TheVariants.{Vex, Escape}
 use Rattle.x86_decode.specs.Head.{Rows, column_of, vex_refusal, seen_by}
 use Rattle.x86_decode.specs.Lead.{lead_of}
-use Rattle.x86_decode.specs.Walk.{Headed, body_step, found_word, head_step, opcode_step, read_escaped, read_word, row_step, some_row, walk_within}
+use Rattle.x86_decode.specs.Walk.{Headed, body_step, escape_step, found_word, head_step, opcode_step, read_escaped, read_word, row_step, some_row, walk_within}
 use Rattle.x86_decode.proofs.HeadWalk.{at_other}
 use Rattle.x86_decode.proofs.LeadLemmas.{vex_lead, escape_lead, plain_lead, is_plain}
 
@@ -25,17 +25,21 @@ pub found_plain : (rows : Rows) (p : Prefixes) (b : ℕ) (s : State ℕ) → is_
 unfolding opcode_step
 found_plain rows p b s h = rw ((plain_lead b h).0, (plain_lead b h).1) refl
 
-abbrev following : Rows → Prefixes → Result ℕ DecodeError → State ℕ → Outcome (Option TableRow × Prefixes)
-following rows p r s = then_from (then_from r s (λ d. read_escaped d)).answer (then_from r s (λ d. read_escaped d)).after (λ o. pure (rows o.0 (column_of p) o.1, seen_by o.0 o.1 p))
-
-pub found_escape : (rows : Rows) (p : Prefixes) (b : ℕ) (r : Result ℕ DecodeError) (s t : State ℕ) → lead_of b ≡ Escape → outcome r t ≡ next_byte s → following rows p r t ≡ read_word rows p b s
+pub found_escaped : (rows : Rows) (p : Prefixes) (b : ℕ) (r : Result (Map × ℕ) DecodeError) (s t : State ℕ) → lead_of b ≡ Escape → outcome r t ≡ escape_step s →
+    then_from r t (λ o. pure (rows o.0 (column_of p) o.1, seen_by o.0 o.1 p)) ≡ read_word rows p b s
 unfolding opcode_step
-found_escape rows p b r s t h e = ap (λ o. following rows p o.answer o.after) e ∙ rw (escape_lead b h) refl
+found_escaped rows p b r s t h e = ap (λ q. then_from q.answer q.after (λ o. pure (rows o.0 (column_of p) o.1, seen_by o.0 o.1 p))) e ∙ rw (escape_lead b h) refl
 
-pub found_escaped : (rows : Rows) (p : Prefixes) (b d : ℕ) (r : Result (Map × ℕ) DecodeError) (s t u : State ℕ) → lead_of b ≡ Escape → outcome (Ok d) t ≡ next_byte s → outcome r u ≡ read_escaped d t →
-    then_from r u (λ o. pure (rows o.0 (column_of p) o.1, seen_by o.0 o.1 p)) ≡ read_word rows p b s
-found_escaped rows p b d r s t u h e f =
-    ap (λ q. then_from q.answer q.after (λ o. pure (rows o.0 (column_of p) o.1, seen_by o.0 o.1 p))) f ∙ found_escape rows p b (Ok d) s t h e
+-- ---- the bytes after 0F
+
+abbrev pub third_byte : Map → Step (Map × ℕ)
+third_byte map = next_byte >>= λ b. pure (map, b)
+
+pub then_escaped : (r : Result ℕ DecodeError) (s t : State ℕ) → outcome r t ≡ next_byte s → then_from r t (λ d. read_escaped d) ≡ escape_step s
+then_escaped r s t e = ap (λ o. then_from o.answer o.after (λ d. read_escaped d)) e
+
+pub then_third : (map : Map) (d : ℕ) (r : Result ℕ DecodeError) (s t u : State ℕ) → outcome (Ok d) t ≡ next_byte s → ((v : State ℕ) → third_byte map v ≡ read_escaped d v) → outcome r u ≡ next_byte t → then_from r u (λ b. pure (map, b)) ≡ escape_step s
+then_third map d r s t u first is e = ap (λ o. then_from o.answer o.after (λ b. pure (map, b))) e ∙ is t ∙ then_escaped (Ok d) s t first
 
 -- ---- what follows the row of a word
 

@@ -7,14 +7,14 @@ ghost use Rattle.x86_fields.specs.Run.{is_prefix, reading_of};
 ghost use Rattle.x86_forms.specs.Words.{rows_of};
 ghost use Rattle.x86_decode.specs.Head.{column_of, is_vex, vex_refusal, seen_by};
 ghost use Rattle.x86_decode.specs.Lead.{lead_of};
-ghost use Rattle.x86_decode.specs.Walk.{Headed, head_from, head_at, head_step, read_escaped, found_word, read_word};
+ghost use Rattle.x86_decode.specs.Walk.{Headed, head_from, head_at, head_step, escape_step, found_word, read_word};
 
 use x86_arch::{ReadIf, Reader};
 use x86_fields::{DecodeError, Mandatory, Prefixes};
 use x86_forms::{Column, Map, Words};
 
 /// What a byte is at the beginning of an encoding.
-#[derive(Clone, Copy, PartialEq, Eq, Debug, Drop)]
+#[derive(Clone, Copy, Drop)]
 pub enum Lead {
     /// A legacy prefix.
     Legacy,
@@ -137,16 +137,17 @@ fn vex_refusal(prefixes: &Prefixes) -> DecodeError
     }
 }
 
+/// The map and the opcode byte after 0F.
 #[inline(always)]
-#[tactic(auto, using(crate::proofs::HeadWalk::byte_is, crate::proofs::HeadWalk::none_is))]
-fn read_escaped<T: Reader<u64, u8>>(reader: &mut T, byte: u8) -> Result<(Map, u8), DecodeError>
-    ensures { outcome result (T.state reader.new) ≡ read_escaped byte (T.state reader.old) }
+fn read_escaped<T: Reader<u64, u8>>(reader: &mut T) -> Result<(Map, u8), DecodeError>
+    ensures { outcome result (T.state reader.new) ≡ escape_step (T.state reader.old) }
 {
-    match byte {
-        0x38 => Ok((Map::Of38, reader.next()?)),
-        0x3a => Ok((Map::Of3a, reader.next()?)),
-        _ => Ok((Map::Of, byte)),
-    }
+    let map = match reader.next()? {
+        0x38 => Map::Of38,
+        0x3a => Map::Of3a,
+        opcode => return Ok((Map::Of, opcode)),
+    };
+    Ok((map, reader.next()?))
 }
 
 /// The column of the opcode tables after a run that reads so.
@@ -189,8 +190,7 @@ pub fn read_word<W: Words, T: Reader<u64, u8>>(
 {
     match lead {
         Lead::Escape => {
-            let second = reader.next()?;
-            let (map, opcode) = read_escaped(reader, second)?;
+            let (map, opcode) = read_escaped(reader)?;
             let word = rows.word(map, column_of(prefixes), opcode);
             *prefixes = seen_by(map, opcode, *prefixes);
             Ok(word)

@@ -1,33 +1,25 @@
 use Rattle.std.proofs.Common.{rules, ◌≡◌, Err, true, sym, ap, ◌∙◌}
-use Rattle.x86_fields.specs.declared.errors.DecodeError.TheVariants.{ExhaustedInput}
 use Rattle.x86_fields.specs.Steps.{outcome, then_from}
 use Rattle.x86_forms.specs.Words.{rows_of}
 use Rattle.x86_forms.specs.declared.Map.TheVariants.{One}
 use Rattle.x86_decode.specs.Head.{seen_by}
 use Rattle.x86_decode.specs.Lead.{lead_of}
 use Rattle.x86_decode.specs.Walk.{found_word}
-use Rattle.x86_decode.proofs.HeadWalk.{byte_is, none_is}
 use Rattle.x86_decode.proofs.LeadLemmas.{is_plain, plain_not}
-use Rattle.x86_decode.proofs.WordWalk.{found_vex, found_plain, found_escape, found_escaped}
+use Rattle.x86_decode.proofs.WordWalk.{found_vex, found_plain, found_escaped}
 use Rattle.x86_decode.proofs.head.read_word.Goals as goal
-
-pub returns-in_err-second-in-Escape : goal.returns-in_err-second-in-Escape
-returns-in_err-second-in-Escape g c =
-    let r : c.from_residual.result ≡ Err ExhaustedInput = search rules in
-    ap (λ x. then_from x (g.T.Reader.state c.next.new.self) (found_word c.args.prefixes.now)) r
-    ∙ found_escape (rows_of (g.W.Words.word c.args.rows.now)) c.args.prefixes.now c.args.byte (Err ExhaustedInput) (g.T.Reader.state c.args.reader.now) (g.T.Reader.state c.next.new.self) (search rules) (none_is (g.T.Reader.state c.args.reader.now) (g.T.Reader.state c.next.new.self) c.in_err-second-in-Escape.ensures.none_left c.in_err-second-in-Escape.ensures.unmoved)
 
 pub returns-in_err-map-in-Escape : goal.returns-in_err-map-in-Escape
 returns-in_err-map-in-Escape g c =
-    let r : c.from_residual-in_err-map-in-Escape.result ≡ Err c.in_err-map-in-Escape.field-0.0 = search rules in
+    let r : c.from_residual.result ≡ Err c.in_err-map-in-Escape.field-0.0 = search rules in
     ap (λ x. then_from x (g.T.Reader.state c.read_escaped.new.reader) (found_word c.args.prefixes.now)) r
-    ∙ found_escaped (rows_of (g.W.Words.word c.args.rows.now)) c.args.prefixes.now c.args.byte c.in_ok-second-in-Escape.second (Err c.in_err-map-in-Escape.field-0.0) (g.T.Reader.state c.args.reader.now) (g.T.Reader.state c.next.new.self) (g.T.Reader.state c.read_escaped.new.reader) (search rules) (byte_is (g.T.Reader.state c.args.reader.now) (g.T.Reader.state c.next.new.self) c.in_ok-second-in-Escape.second c.in_ok-second-in-Escape.ensures.taken c.in_ok-second-in-Escape.ensures.moved) c.in_err-map-in-Escape.ensures
+    ∙ found_escaped (rows_of (g.W.Words.word c.args.rows.now)) c.args.prefixes.now c.args.byte _ _ _ (search rules) c.in_err-map-in-Escape.ensures
 
 pub returns-in_ok-map-in-Escape : goal.returns-in_ok-map-in-Escape
 returns-in_ok-map-in-Escape g c =
     ap (λ q. found_word q c.word-word.result (g.T.Reader.state c.read_escaped.new.reader)) c.seen_by.ensures
     ∙ ap (λ w. found_word (seen_by c.in_ok-map-in-Escape.map c.in_ok-map-in-Escape.opcode c.args.prefixes.now) w (g.T.Reader.state c.read_escaped.new.reader)) (c.word-word.ensures ∙ ap (λ k. g.W.Words.word c.args.rows.now c.in_ok-map-in-Escape.map k c.in_ok-map-in-Escape.opcode) c.column_of.ensures)
-    ∙ found_escaped (rows_of (g.W.Words.word c.args.rows.now)) c.args.prefixes.now c.args.byte c.in_ok-second-in-Escape.second _ (g.T.Reader.state c.args.reader.now) (g.T.Reader.state c.next.new.self) (g.T.Reader.state c.read_escaped.new.reader) (search rules) (byte_is (g.T.Reader.state c.args.reader.now) (g.T.Reader.state c.next.new.self) c.in_ok-second-in-Escape.second c.in_ok-second-in-Escape.ensures.taken c.in_ok-second-in-Escape.ensures.moved) c.in_ok-map-in-Escape.ensures
+    ∙ found_escaped (rows_of (g.W.Words.word c.args.rows.now)) c.args.prefixes.now c.args.byte _ _ _ (search rules) c.in_ok-map-in-Escape.ensures
 
 pub returns-in-Vex : goal.returns-in-Vex
 returns-in-Vex g c =
