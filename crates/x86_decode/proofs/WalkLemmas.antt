@@ -15,7 +15,7 @@ use Rattle.x86_fields.specs.Errors.{is_exhausted}
 use Rattle.x86_operand_types.specs.declared.operands.Slot.{Slot}
 use Rattle.x86_operand_types.specs.declared.operands.Slot.TheVariants.{Nothing}
 use Rattle.x86_decode.specs.Grammar.{allows_lock, first_slot}
-use Rattle.x86_decode.specs.Walk.{walk_within, bounded_outcome, judgement, takes_lock, walk_bounded}
+use Rattle.x86_decode.specs.Walk.{walk_within, bounded_outcome, judgement, limit_step, takes_lock, walk_bounded}
 use Rattle.x86_decode.proofs.BoundLemmas.{same_state}
 use Rattle.x86_decode.proofs.BodyLemmas.{body_moves, Moves}
 
@@ -62,9 +62,6 @@ ends_judged rows strict m t a n i j w e h = ap (λ k. outcome (holding (record i
     same : outcome (holding (record i { length = n }) (judgement (allows_lock (reading_in i)))) t ≡ bounded_outcome (Ok (reading_in i)) n m
     same = let at : t ≡ advanced n m = w.at ∙ ap (λ k. advanced k m) (sym e) in grind arith
 
-pub ends_error : (rows : Rows) (strict : Bool) (m t : State ℕ) (a : ℕ) (e : DecodeError) → Walked rows strict m t a (Err e) → is_exhausted e ≡ false → outcome (Err e) t ≡ walk_bounded rows strict m
-ends_error rows strict m t a e w k = ap (λ s. outcome (Err e) s) w.at ∙ sym (w.is ∙ rw k refl)
-
 -- the items still allowed are there exactly where there were fifteen
 there : (rows : Rows) (strict : Bool) (m t : State ℕ) (a : ℕ) (r : Result Reading DecodeError) → Walked rows strict m t a r → a ≤ 15 → nat_le a (length t.left) ≡ nat_le 15 (length m.left)
 there rows strict m t a r w few =
@@ -72,13 +69,14 @@ there rows strict m t a r w few =
     let left : length t.left ≡ length m.left - (15 - a) = ap (λ s. length s.left) w.at ∙ length-drop t.since_mark m.left ∙ ap (λ n. length m.left - n) w.count in
     grind (arith, nat_tests)
 
-pub ends_long : (rows : Rows) (strict : Bool) (m t after : State ℕ) (a : ℕ) (e : DecodeError) → Walked rows strict m t a (Err e) → is_exhausted e ≡ true → a ≤ 15 → nat_le a (length t.left) ≡ true → after ≡ advanced a t → outcome (Err TooLong) after ≡ walk_bounded rows strict m
-ends_long rows strict m t after a e w k few enough moved =
-    let all : t.since_mark + a ≡ 15 = let c = w.count in omega arith in
-    ap (λ s. outcome (Err TooLong) s) (moved ∙ ap (advanced a) w.at ∙ advanced_twice t.since_mark a m ∙ ap (λ n. advanced n m) all)
-    ∙ sym (w.is ∙ rw (k, sym (there rows strict m t a (Err e) w few) ∙ enough) refl)
-
-pub ends_open : (rows : Rows) (strict : Bool) (m t after : State ℕ) (a : ℕ) (e : DecodeError) → Walked rows strict m t a (Err e) → is_exhausted e ≡ true → a ≤ 15 → nat_le a (length t.left) ≡ false → after ≡ t → outcome (Err ExhaustedInput) after ≡ walk_bounded rows strict m
-ends_open rows strict m t after a e w k few short unmoved =
-    ap (λ s. outcome (Err ExhaustedInput) s) (unmoved ∙ w.at)
-    ∙ sym (w.is ∙ rw (k, sym (there rows strict m t a (Err e) w few) ∙ short) refl)
+pub ends_refused : (rows : Rows) (strict : Bool) (m t : State ℕ) (a : ℕ) (e : DecodeError) → Walked rows strict m t a (Err e) → a ≤ 15 → limit_step e a t ≡ walk_bounded rows strict m
+ends_refused rows strict m t a e w few = by (is_exhausted e) (nat_le 15 (length m.left)) refl refl
+  where
+    by : (exhausted full : Bool) → is_exhausted e ≡ exhausted → nat_le 15 (length m.left) ≡ full → limit_step e a t ≡ walk_bounded rows strict m
+    by false full k h = rw k (ap (λ s. outcome (Err e) s) w.at ∙ sym (w.is ∙ rw k refl))
+    by true true k h =
+        let all : t.since_mark + a ≡ 15 = let c = w.count in omega arith in
+        rw (k, there rows strict m t a (Err e) w few ∙ h) (ap (λ s. outcome (Err TooLong) s) (ap (advanced a) w.at ∙ advanced_twice t.since_mark a m ∙ ap (λ n. advanced n m) all) ∙ sym (w.is ∙ rw (k, h) refl))
+    by true false k h =
+        let same : is_exhausted e ≡ true → e ≡ ExhaustedInput = grind arith in
+        rw (k, there rows strict m t a (Err e) w few ∙ h) (ap (λ s. outcome (Err e) s) w.at ∙ ap (λ x. outcome (Err x) (advanced t.since_mark m)) (same k) ∙ sym (w.is ∙ rw (k, h) refl))

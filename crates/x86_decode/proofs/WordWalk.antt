@@ -65,12 +65,6 @@ module _ (rows : Rows) (strict : Bool) (b : ℕ) (p : Prefixes) (s : State ℕ) 
 
   module _ (start : State ℕ) (head : Headed (Ok b) p s (head_step start)) (plain : is_prefix b ≡ false) where
     -- what follows the run is the walk after its head
-    within : body_step rows strict p b s ≡ walk_within rows strict start
+    pub within : body_step rows strict p b s ≡ walk_within rows strict start
     unfolding walk_within
     within = ap (λ q. body_step rows strict q b s) head.1 ∙ ap (λ o. then_from o.answer o.after (λ h. body_step rows strict h.0 h.1)) (at_other head.0 b s plain ∙ head.2)
-
-    pub refused_within : (e : DecodeError) (t : State ℕ) → outcome (Err e) t ≡ read_word rows p b s → outcome (Err e) t ≡ walk_within rows strict start
-    refused_within e t h = refused_after e t h ∙ within
-
-    pub row_within : (q : Prefixes) (word : ℕ) (o : Option TableRow) (t : State ℕ) → found_word q word t ≡ read_word rows p b s → unpack word ≡ o → (some_row o >>= λ row. row_step strict row q) t ≡ walk_within rows strict start
-    row_within q word o t h is = row_after q word o t h is ∙ within

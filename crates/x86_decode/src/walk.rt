@@ -1,7 +1,7 @@
 //! The walk over the bytes of an encoding, within fifteen of them.
-ghost use Rattle.std.specs.Prelude.{◌≡◌, ℕ, List, Bool, IfOk, true};
+ghost use Rattle.std.specs.Prelude.{◌≡◌, ◌≤◌, ℕ, List, Bool, IfOk, Err, true};
 ghost use Rattle.x86_arch.specs.Reader.{marked};
-ghost use Rattle.x86_fields.specs.Steps.{Outcome, outcome};
+ghost use Rattle.x86_fields.specs.Steps.{Outcome, outcome, then_from};
 ghost use Rattle.x86_fields.specs.Run.{is_prefix, reading_of};
 ghost use Rattle.x86_forms.specs.Words.{rows_of};
 ghost use Rattle.x86_operands.specs.OperandList.{value_if_ok, no_operands};
@@ -10,17 +10,17 @@ ghost use Rattle.x86_decode.specs.Answer.{answer_of};
 ghost use Rattle.x86_decode.specs.Grammar.{allows_lock};
 ghost use Rattle.x86_decode.specs.Lead.{lead_of};
 ghost use Rattle.x86_decode.specs.Instruction.{holding, invalid_instruction, reading_in};
-ghost use Rattle.x86_fields.specs.Errors.{is_exhausted};
-ghost use Rattle.x86_decode.specs.Walk.{LeadsTo, ResultLeadsTo, IsReady, body_step, long_step, walk_bounded, walk_within, decode_step, takes_lock, judgement, error_at_limit};
+ghost use Rattle.x86_decode.specs.declared.walk.Left.TheVariants as Left;
+ghost use Rattle.x86_decode.specs.Walk.{LeadsTo, ResultLeadsTo, IsReady, body_step, limit_step, long_step, rest_step, walk_bounded, walk_within, decode_step, takes_lock, judgement, error_at_limit};
 
 use crate::bounded::{Bounded, Start, takes_rest};
 use crate::head::{Lead, lead_of, read_head, read_on, read_word};
 use crate::instructions::Instruction;
-use crate::rows::{Rest, read_by_line, read_rest, read_row_into};
+use crate::rows::{Rest, read_by_line, read_rest};
 use std::marker::{Brand, PhantomData};
 use x86_arch::{ReadIf, Reader, U8Reader};
 use x86_fields::{DecodeError, Prefixes};
-use x86_forms::{Packed, Words, unpack, word_row};
+use x86_forms::{Packed, Words, word_row};
 use x86_opcodes::Opcode;
 use x86_operands::{Reading, Slot};
 
@@ -58,10 +58,7 @@ fn read_by_plan<W: Words, T: Reader<u64, u8>>(
         (T.state reader.old) }
 {
     let word = read_word(rows, reader, &mut inst.prefixes, lead_of(byte), byte)?;
-    match unpack(word) {
-        None => Err(DecodeError::InvalidOpcode),
-        Some(row) => read_row_into(strict, row, reader, inst),
-    }
+    read_rest(strict, Rest::Row(word), reader, inst)
 }
 
 /// An encoding with a longer run, of which this is the next byte.
@@ -93,6 +90,29 @@ enum Left {
     Rest(Rest),
 }
 
+/// What follows the run, where this byte is the first of it, by the line of its row; else what is left of that.
+#[inline(always)]
+fn read_body<W: Words, T: Reader<u64, u8>>(
+    rows: &W,
+    reader: &mut T,
+    inst: &mut Instruction,
+    lead: Lead,
+    byte: u8,
+) -> Result<Rest, DecodeError>
+    requires lead { lead ≡ lead_of byte }
+    requires blank { inst.old.operand_list ≡ no_operands }
+    ensures ready { IfOk result (λ rest. IsReady inst.new (Left.Rest rest)) }
+    ensures read { (strict : Bool) →
+        then_from result (T.state reader.new) (rest_step strict inst.new)
+        ≡ body_step (rows_of (W.word rows.now)) strict inst.old.prefixes byte (T.state reader.old) }
+{
+    let word = read_word(rows, reader, &mut inst.prefixes, lead, byte)?;
+    match word_row(word) {
+        None => Err(DecodeError::InvalidOpcode),
+        Some(found) => read_by_line(&found, reader, inst),
+    }
+}
+
 /// The encoding up to what is left, into a blank instruction.
 #[inline(always)]
 fn read_common<W: Words, T: ReadIf>(
@@ -108,13 +128,7 @@ fn read_common<W: Words, T: ReadIf>(
     let byte = read_head(reader, &mut inst.prefixes)?;
     match lead_of(byte) {
         Lead::Legacy | Lead::Rex => Ok(Left::Run(byte)),
-        lead => {
-            let word = read_word(rows, reader, &mut inst.prefixes, lead, byte)?;
-            match word_row(word) {
-                None => Err(DecodeError::InvalidOpcode),
-                Some(found) => Ok(Left::Rest(read_by_line(&found, reader, inst)?)),
-            }
-        }
+        lead => Ok(Left::Rest(read_body(rows, reader, inst, lead, byte)?)),
     }
 }
 
@@ -163,10 +177,16 @@ fn walk_within<W: Words, T: ReadIf>(
     }
 }
 
-fn is_exhausted(error: DecodeError) -> bool
-    ensures { result ≡ is_exhausted error }
+/// The refusal of a walk within fifteen items, of which so many are still allowed. Where the input ended for the walk
+/// alone, these are taken too.
+fn error_within<T: Reader<u64, u8>>(error: DecodeError, reader: &mut T, allowed: u8) -> DecodeError
+    requires { allowed ≤ 15 }
+    ensures { outcome (Err result) (T.state reader.new) ≡ limit_step error allowed (T.state reader.old) }
 {
-    matches!(error, DecodeError::ExhaustedInput)
+    match error {
+        DecodeError::ExhaustedInput if takes_rest(reader, allowed) => DecodeError::TooLong,
+        other => other,
+    }
 }
 
 /// The walk within fifteen items. The reference comes back.
@@ -189,8 +209,7 @@ fn walk_bounded<'a, W: Words, T: Reader<u64, u8>, K: Start>(
         allowed: 15,
         start: PhantomData,
     };
-    let (result, back) = walk_within(strict, rows, bounded, inst);
-    let mut back = back;
+    let (result, mut back) = walk_within(strict, rows, bounded, inst);
     inst.length = back.offset();
     let Bounded {
         reader,
@@ -202,15 +221,7 @@ fn walk_bounded<'a, W: Words, T: Reader<u64, u8>, K: Start>(
             judgement(&inst.prefixes, inst.opcode, inst.operand_list.slots[0]),
             reader,
         ),
-        Err(error) => {
-            if !is_exhausted(error) {
-                (Err(error), reader)
-            } else if takes_rest(reader, allowed) {
-                (Err(DecodeError::TooLong), reader)
-            } else {
-                (Err(DecodeError::ExhaustedInput), reader)
-            }
-        }
+        Err(error) => (Err(error_within(error, reader, allowed)), reader),
     }
 }
 
@@ -230,8 +241,7 @@ pub fn walk_slice(strict: bool, bytes: &[u8], inst: &mut Instruction) -> Result<
     ensures { holding inst.new result ≡ answer_of strict bytes.now }
 {
     let within = &bytes[..bytes.len().min(15)];
-    let (result, back) = walk_within(strict, &Packed, U8Reader::new(within), inst);
-    let mut back = back;
+    let (result, mut back) = walk_within(strict, &Packed, U8Reader::new(within), inst);
     inst.length = back.offset();
     match result {
         Ok(()) => judgement(&inst.prefixes, inst.opcode, inst.operand_list.slots[0]),

@@ -4,7 +4,7 @@ use Rattle.x86_forms.specs.Words.{rows_of, unpack}
 use Rattle.x86_decode.specs.Walk.{body_step, walk_within}
 use Rattle.x86_decode.proofs.HeadWalk.{at_prefix}
 use Rattle.x86_decode.proofs.LeadLemmas.{no_prefix}
-use Rattle.x86_decode.proofs.WordWalk.{refused_within, row_within}
+use Rattle.x86_decode.proofs.WordWalk.{within}
 use Rattle.x86_decode.proofs.walk.read_common.Goals as goal
 
 pub returns-in_err-byte-clause-read : goal.returns-in_err-byte-clause-read
@@ -20,19 +20,11 @@ returns-in-Legacy-clause-read g c =
     let s = g.T.Reader.state c.read_head.new.reader in
     (c.in_ok-byte.ensures.0, c.in_ok-byte.ensures.1, λ strict. ap (λ o. then_from o.answer o.after (λ h. body_step (rows_of (g.W.Words.word c.args.rows.now)) strict h.0 h.1)) (at_prefix c.in_ok-byte.ensures.0 c.in_ok-byte.byte s (search rules) ∙ c.in_ok-byte.ensures.2))
 
-pub returns-in_err-word-in_default-clause-read : goal.returns-in_err-word-in_default-clause-read
-returns-in_err-word-in_default-clause-read g c =
-    let r : c.from_residual-in_err-word-in_default.result ≡ Err c.in_err-word-in_default.field-0.0 = search rules in
-    rw r (λ strict. refused_within (rows_of (g.W.Words.word c.args.rows.now)) strict c.in_ok-byte.byte c.read_head.new.prefixes _ _ c.in_ok-byte.ensures (no_prefix c.in_ok-byte.byte _ c.lead_of.ensures c.in_default.not-Legacy c.in_default.not-Rex) _ _ c.in_err-word-in_default.ensures)
+pub returns-in_err-read_body-in_default-clause-read : goal.returns-in_err-read_body-in_default-clause-read
+returns-in_err-read_body-in_default-clause-read g c =
+    let r : c.from_residual-in_err-read_body-in_default.result ≡ Err c.in_err-read_body-in_default.field-0.0 = search rules in
+    rw r (λ strict. c.in_err-read_body-in_default.ensures.read strict ∙ within (rows_of (g.W.Words.word c.args.rows.now)) strict c.in_ok-byte.byte c.read_head.new.prefixes _ _ c.in_ok-byte.ensures (no_prefix c.in_ok-byte.byte _ c.lead_of.ensures c.in_default.not-Legacy c.in_default.not-Rex))
 
-pub returns-in-None-clause-read : goal.returns-in-None-clause-read
-returns-in-None-clause-read g c = λ strict. row_within (rows_of (g.W.Words.word c.args.rows.now)) strict c.in_ok-byte.byte c.read_head.new.prefixes _ _ c.in_ok-byte.ensures (no_prefix c.in_ok-byte.byte _ c.lead_of.ensures c.in_default.not-Legacy c.in_default.not-Rex) _ _ _ _ c.in_ok-word-in_default.ensures c.in-None.ensures
-
-pub returns-in_err-read_by_line-in-Some-clause-read : goal.returns-in_err-read_by_line-in-Some-clause-read
-returns-in_err-read_by_line-in-Some-clause-read g c =
-    let r : c.from_residual-in_err-read_by_line-in-Some.result ≡ Err c.in_err-read_by_line-in-Some.field-0.0 = search rules in
-    rw r (λ strict. c.in_err-read_by_line-in-Some.ensures.read strict ∙ row_within (rows_of (g.W.Words.word c.args.rows.now)) strict c.in_ok-byte.byte c.read_head.new.prefixes _ _ c.in_ok-byte.ensures (no_prefix c.in_ok-byte.byte _ c.lead_of.ensures c.in_default.not-Legacy c.in_default.not-Rex) _ _ _ _ c.in_ok-word-in_default.ensures (ap unpack (sym c.in-Some.ensures) ∙ c.in-Some.found.of_word))
-
-pub returns-in_ok-read_by_line-in-Some-clause-read : goal.returns-in_ok-read_by_line-in-Some-clause-read
-returns-in_ok-read_by_line-in-Some-clause-read g c = λ strict. c.in_ok-read_by_line-in-Some.ensures.read strict
-    ∙ row_within (rows_of (g.W.Words.word c.args.rows.now)) strict c.in_ok-byte.byte c.read_head.new.prefixes _ _ c.in_ok-byte.ensures (no_prefix c.in_ok-byte.byte _ c.lead_of.ensures c.in_default.not-Legacy c.in_default.not-Rex) _ _ _ _ c.in_ok-word-in_default.ensures (ap unpack (sym c.in-Some.ensures) ∙ c.in-Some.found.of_word)
+pub returns-in_ok-read_body-in_default-clause-read : goal.returns-in_ok-read_body-in_default-clause-read
+returns-in_ok-read_body-in_default-clause-read g c = λ strict. c.in_ok-read_body-in_default.ensures.read strict
+    ∙ within (rows_of (g.W.Words.word c.args.rows.now)) strict c.in_ok-byte.byte c.read_head.new.prefixes _ _ c.in_ok-byte.ensures (no_prefix c.in_ok-byte.byte _ c.lead_of.ensures c.in_default.not-Legacy c.in_default.not-Rex)
