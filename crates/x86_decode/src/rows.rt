@@ -2,18 +2,15 @@
 ghost use Rattle.std.specs.Prelude.{◌≡◌, ℕ, Bool, IfOk, true, false};
 ghost use Rattle.x86_arch.specs.Reader.{State};
 ghost use Rattle.x86_fields.specs.Steps.{outcome, then_from};
-ghost use Rattle.x86_fields.specs.declared.prefixes.Prefixes.{Prefixes};
-ghost use Rattle.x86_forms.specs.Words.{IsForm, carried};
-ghost use Rattle.x86_operands.specs.FormEncodings.{Belongs, Describes};
-ghost use Rattle.x86_plans.specs.Encodings.{has_fields, is_sound, plan_of, use_of};
+ghost use Rattle.x86_forms.specs.Words.{IsForm};
+ghost use Rattle.x86_plans.specs.Encodings.{has_fields};
 ghost use Rattle.x86_operands.specs.OperandList.{value_if_ok, no_operands};
-ghost use Rattle.x86_operands.specs.Forms.{modrm_use};
-ghost use Rattle.x86_operands.specs.PlanSteps.{record_step};
+ghost use Rattle.x86_operands.specs.PlanSteps.{read_plan, record_step};
 ghost use Rattle.x86_decode.specs.declared.rows.Rest.TheVariants as Rest;
 ghost use Rattle.x86_decode.specs.declared.instructions.Instruction.{Instruction};
 ghost use Rattle.x86_decode.specs.Grammar.{record_of};
 ghost use Rattle.x86_decode.specs.Instruction.{reading_in};
-ghost use Rattle.x86_decode.specs.Walk.{IsFound, found_row_step, plan_at, rest_step, row_step, is_nothing};
+ghost use Rattle.x86_decode.specs.Walk.{IsFound, IsLineOf, found_row_step, plan_at, rest_step, row_step, is_nothing};
 
 use crate::instructions::Instruction;
 use x86_arch::Reader;
@@ -89,10 +86,23 @@ fn read_line<'a, T: Reader<u64, u8>>(
             | AfterOpcode::Registers
             | AfterOpcode::ByReg(_)
     );
-    if !has_fields {
-        return Ok(line_without_modrm(found, encoding));
+    if has_fields {
+        let modrm = ModRM::new(reader.next()?);
+        Ok(line_at(found, encoding, modrm))
+    } else {
+        Ok(line_without_modrm(found, encoding))
     }
-    let modrm = ModRM::new(reader.next()?);
+}
+
+/// The line of a row at this ModRM byte; else what is left after that byte.
+#[inline(always)]
+fn line_at<'a>(found: &WordRow, encoding: &'a FormEncoding, modrm: ModRM) -> Found<'a>
+    requires { IsLineOf encoding.now found.now }
+    ensures found { IsFound found.now result }
+    ensures read { (strict : Bool) (i : Instruction) (s : State ℕ) →
+        found_row_step strict found.now.row i result s
+        ≡ read_plan (plan_at strict found.now.row i.prefixes modrm) i.prefixes modrm s }
+{
     let (opcode, encoding) = match encoding.after_opcode {
         AfterOpcode::ByReg(group) => chosen(group, modrm),
         _ => (found.row.opcode, encoding),
@@ -102,27 +112,21 @@ fn read_line<'a, T: Reader<u64, u8>>(
         other => other.allows(modrm),
     };
     if accepts {
-        Ok(Found::Line(RowLine {
+        Found::Line(RowLine {
             encoding,
             opcode,
             modrm,
-        }))
+        })
     } else {
-        Ok(Found::Left(Rest::AfterModRM(found.word, modrm)))
+        Found::Left(Rest::AfterModRM(found.word, modrm))
     }
 }
 
 /// The line of a row without ModRM; else all of the row.
 #[inline(always)]
 fn line_without_modrm<'a>(found: &WordRow, encoding: &'a FormEncoding) -> Found<'a>
-    requires sound { is_sound encoding.now ≡ true }
+    requires line { IsLineOf encoding.now found.now }
     requires no_modrm { has_fields encoding.now.after_opcode ≡ false }
-    requires group { Belongs encoding.now.after_opcode found.now.row.form }
-    requires usage { modrm_use found.now.row.form ≡ use_of encoding.now.after_opcode }
-    requires describes { Describes encoding.now found.now.row.form }
-    requires numbered { (opcode modrm : ℕ) (p : Prefixes) →
-        plan_of encoding.now found.now.number opcode p modrm
-        ≡ plan_of encoding.now (carried found.now.row.form) opcode p modrm }
     ensures found { IsFound found.now result }
     ensures read { (strict : Bool) (i : Instruction) (s : State ℕ) →
         found_row_step strict found.now.row i result s

@@ -1,6 +1,6 @@
-use Rattle.std.proofs.Common.{rules, ◌≡◌, Err, sym, ap, ◌∙◌}
+use Rattle.std.proofs.Common.{rules, ◌≡◌, Err, ap, ◌∙◌}
 use Rattle.x86_fields.specs.Steps.{then_from}
-use Rattle.x86_forms.specs.Words.{rows_of, unpack}
+use Rattle.x86_forms.specs.Words.{rows_of}
 use Rattle.x86_decode.specs.Walk.{body_step, walk_within}
 use Rattle.x86_decode.proofs.HeadWalk.{at_prefix}
 use Rattle.x86_decode.proofs.LeadLemmas.{no_prefix}
