@@ -1,4 +1,4 @@
-use Rattle.std.proofs.Common.{arith, refl, sym, ◌<◌}
+use Rattle.std.proofs.Common.{arith, refl, sym, ◌<◌, rules}
 use Rattle.x86_streams.proofs.TextLemmas.Read.{reads_after, reads_end, reads_failed, reads_large, reads_bad}
 use Rattle.x86_streams.proofs.text.reader.TextReader.next.Goals as goal
 
@@ -27,3 +27,18 @@ pub returns-in-Digit-clause-reads : goal.returns-in-Digit-clause-reads
 returns-in-Digit-clause-reads g c =
     reads_after g.S.Source.gives _ _ _ _ _ _ _ _ _ _ c.loop-byte.invariant.skips
     (c.second.ensures.reads _ _ _ _ c.advance_by.ensures.position (sym c.advance_by.ensures.room) c.in-Digit.ensures.0 c.in-Digit.ensures.1 c.in-Byte.ensures)
+
+pub returns-in-End-clause-uses : goal.returns-in-End-clause-uses
+returns-in-End-clause-uses g c = search rules
+
+pub returns-in-Failed-clause-uses : goal.returns-in-Failed-clause-uses
+returns-in-Failed-clause-uses g c = search rules
+
+pub returns-then-is_at_end-clause-uses : goal.returns-then-is_at_end-clause-uses
+returns-then-is_at_end-clause-uses g c = search rules
+
+pub returns-in-Digit-clause-uses : goal.returns-in-Digit-clause-uses
+returns-in-Digit-clause-uses g c = search rules
+
+pub returns-in-Other-clause-uses : goal.returns-in-Other-clause-uses
+returns-in-Other-clause-uses g c = search rules
