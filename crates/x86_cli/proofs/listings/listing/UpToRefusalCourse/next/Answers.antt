@@ -1,4 +1,4 @@
-use Rattle.std.proofs.Common.{None}
+use Rattle.std.proofs.Common.{None, rules}
 use Rattle.x86_cli.proofs.TextLemmas.Decoded.{shown_answer}
 use Rattle.x86_cli.proofs.ListingLemmas.NextEntry.{entry_line, entry_ended}
 use Rattle.x86_cli.proofs.listings.listing.UpToRefusalCourse.next.Goals as goal
@@ -18,3 +18,12 @@ pub write-requires : goal.write-requires
 write-requires g c =
     rw (c.length_of-length.ensures, c.as_slice-bytes.ensures.value)
     (shown_answer c.args.decoder.now.strict (c.decoder_laws.ensures _) None c.args.window.now.bytes.items c.decode_next.new.inst c.in-Whole.ensures.shows)
+
+pub returns-in-Whole-clause-short : goal.returns-in-Whole-clause-short
+returns-in-Whole-clause-short g c = search rules
+
+pub returns-in-Refused-clause-short : goal.returns-in-Refused-clause-short
+returns-in-Refused-clause-short g c = search rules
+
+pub returns-in-Ended-clause-short : goal.returns-in-Ended-clause-short
+returns-in-Ended-clause-short g c = search rules
