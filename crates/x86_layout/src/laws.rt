@@ -115,7 +115,6 @@ pub fn accepted_encodings_are_emitted_again()
 ///
 /// This is said of raw fields that aren't relative to the next instruction. Source: Intel SDM volume 2, sections
 /// 2.1.5 and 2.2.1.
-#[tactic(auto, using(crate::proofs::TightenLemmas::Shortest::shortest_laws))]
 pub fn shortest_raw_fields()
     ensures of_bytes { (raw : Raw) → IsOfBytes raw → IsOfBytes (shortest raw) }
     ensures same_address { (raw : Raw) → IsOfBytes raw → is_ip_relative raw ≡ false →
