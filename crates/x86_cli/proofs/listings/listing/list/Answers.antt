@@ -41,12 +41,3 @@ pub returns-in-Ended : goal.returns-in-Ended
 returns-in-Ended g c =
     let s = progress_refill g.S.Source.gives g.K.Sink.takes (g.W.Course.lists c.args.course.now c.args.decoder.now.strict) window (NeedsMore 15) (window_needs 15) _ _ _ _ _ _ _ _ _ c.lines.invariant.progress c.refill.ensures.cases in
     window_closes g.S.Source.gives g.K.Sink.takes (g.W.Course.lists c.args.course.now c.args.decoder.now.strict) _ _ _ _ _ _ _ _ _ _ s (c.refill.ensures.few c.lines.invariant.few) _ (grind arith) c.in-Ended.ensures.next _ _ c.end.ensures
-
-pub next-requires : goal.next-requires
-next-requires g c = c.refill.ensures.full
-
-pub leave-requires : goal.leave-requires
-leave-requires g c = c.in-Line.ensures.next.1
-
-pub advance-requires : goal.advance-requires
-advance-requires g c = omega (arith, c.lines.invariant.fits, c.refill.ensures.uses, c.in-Line.ensures.next.1)
