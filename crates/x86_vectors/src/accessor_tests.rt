@@ -33,22 +33,38 @@ fn lock_hints(rt: HostRuntime) {
     assert!(rt; hints(&[0xf3, 0xc7, 0, 0, 0, 0, 0]) == Some((false, true)));
 }
 
+/// The segment that each of the first three operands takes where it isn't DS.
+fn segments_of(bytes: &[u8]) -> Option<[Option<Segment>; 3]> {
+    match InstDecoder::default().decode_slice(bytes) {
+        Ok(instruction) => Some([
+            instruction.segment_override_for_op(0),
+            instruction.segment_override_for_op(1),
+            instruction.segment_override_for_op(2),
+        ]),
+        Err(_) => None,
+    }
+}
+
 #[test]
 fn segments(rt: HostRuntime) {
-    let decoder = InstDecoder::default();
-    let moved = decoder.decode_slice(&[0x64, 0xa4]);
-    assert!(rt; moved.is_ok());
-    if let Ok(moves) = moved {
-        assert!(rt; moves.segment_override_for_op(0) == Some(Segment::ES));
-        assert!(rt; moves.segment_override_for_op(1) == Some(Segment::FS));
-        assert!(rt; moves.segment_override_for_op(2).is_none());
+    let moved = Some([Some(Segment::ES), Some(Segment::FS), None]);
+    assert!(rt; segments_of(&[0x64, 0xa4]) == moved);
+}
+
+/// Whether an instruction goes by ES.
+fn goes_by_es(bytes: &[u8]) -> bool {
+    match InstDecoder::default().decode_slice(bytes) {
+        Ok(instruction) => {
+            instruction.prefixes.es() && instruction.prefixes.segment() == Segment::ES
+        }
+        Err(_) => false,
     }
-    // The store of STOS goes by ES, whatever the prefixes say.
-    let stored = decoder.decode_slice(&[0x64, 0xab]);
-    assert!(rt; stored.is_ok());
-    if let Ok(stores) = stored {
-        assert!(rt; stores.prefixes.es() && stores.prefixes.segment() == Segment::ES);
-    }
+}
+
+#[test]
+fn the_store_of_stos_goes_by_es(rt: HostRuntime) {
+    // Whatever the prefixes say.
+    assert!(rt; goes_by_es(&[0x64, 0xab]));
 }
 
 #[test]

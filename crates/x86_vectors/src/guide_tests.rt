@@ -92,17 +92,22 @@ fn first_register(operand: Operand) -> Option<&'static str> {
     }
 }
 
+/// Whether an instruction names memory, and the first register of each of its first three operands.
+fn operands_of(bytes: &[u8]) -> Result<(bool, [Option<&'static str>; 3]), DecodeError> {
+    let instruction = InstDecoder::default().decode_slice(bytes)?;
+    let names = [
+        first_register(instruction.operand(0)),
+        first_register(instruction.operand(1)),
+        first_register(instruction.operand(2)),
+    ];
+    Ok((has_memory(&instruction), names))
+}
+
 #[test]
 fn match_an_operand(rt: HostRuntime) {
     // add [rax + 8], ebx
-    let decoded = InstDecoder::default().decode_slice(&[0x01, 0x58, 0x08]);
-    assert!(rt; decoded.is_ok());
-    if let Ok(instruction) = decoded {
-        assert!(rt; has_memory(&instruction));
-        assert!(rt; first_register(instruction.operand(0)) == Some("rax"));
-        assert!(rt; first_register(instruction.operand(1)) == Some("ebx"));
-        assert!(rt; first_register(instruction.operand(2)).is_none());
-    }
+    let operands = operands_of(&[0x01, 0x58, 0x08]);
+    assert!(rt; operands == Ok((true, [Some("rax"), Some("ebx"), None])));
 }
 
 /// Answers the name of the register that an operand is, or else of the first one of its memory.
@@ -313,18 +318,22 @@ impl OperandVisitor for FirstRegister {
     }
 }
 
+/// How many operands there are, and what the visitor answers of each of the first three.
+fn visited(bytes: &[u8]) -> Result<(u8, [Result<Option<&'static str>, ()>; 3]), DecodeError> {
+    let instruction = InstDecoder::default().decode_slice(bytes)?;
+    let names = [
+        instruction.visit_operand(0, &mut FirstRegister),
+        instruction.visit_operand(1, &mut FirstRegister),
+        instruction.visit_operand(2, &mut FirstRegister),
+    ];
+    Ok((instruction.operand_count(), names))
+}
+
 #[test]
 fn walk_the_operands(rt: HostRuntime) {
     // add [rax + 8], ebx
-    let decoded = InstDecoder::default().decode_slice(&[0x01, 0x58, 0x08]);
-    assert!(rt; decoded.is_ok());
-    if let Ok(instruction) = decoded {
-        assert!(rt; instruction.operand_count() == 2);
-        let mut visitor = FirstRegister;
-        assert!(rt; instruction.visit_operand(0, &mut visitor) == Ok(Some("rax")));
-        assert!(rt; instruction.visit_operand(1, &mut visitor) == Ok(Some("ebx")));
-        assert!(rt; instruction.visit_operand(2, &mut visitor) == Ok(None));
-    }
+    let walked = visited(&[0x01, 0x58, 0x08]);
+    assert!(rt; walked == Ok((2, [Ok(Some("rax")), Ok(Some("ebx")), Ok(None)])));
 }
 
 /// The encoding at the beginning without its prefixes, where that is one.

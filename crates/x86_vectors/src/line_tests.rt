@@ -7,21 +7,23 @@ use x86_decode::{DecodeError, InstDecoder};
 use x86_text::line_of;
 
 /// The tables of worked lines, `HEX => LINE`.
-const TABLES: &[&str] = &[
-    plain_table::PART_1,
-    plain_table::PART_2,
-    plain_table::PART_3,
-    plain_table::PART_4,
-    group_table::PART_1,
-    group_table::PART_2,
-    group_table::PART_3,
-    group_table::PART_4,
-    group_table::PART_5,
-    x87_table::PART_1,
-    x87_table::PART_2,
-    mixed_table::PART_1,
-    mixed_table::PART_2,
-];
+fn tables() -> [&'static str; 13] {
+    [
+        plain_table::PART_1,
+        plain_table::PART_2,
+        plain_table::PART_3,
+        plain_table::PART_4,
+        group_table::PART_1,
+        group_table::PART_2,
+        group_table::PART_3,
+        group_table::PART_4,
+        group_table::PART_5,
+        x87_table::PART_1,
+        x87_table::PART_2,
+        mixed_table::PART_1,
+        mixed_table::PART_2,
+    ]
+}
 
 /// The bytes of hex digits, in groups with a blank between them.
 pub fn bytes_of(digits: &str) -> Option<ArrayVec<u8, 24>> {
@@ -99,7 +101,7 @@ fn wrong_row(table: &str) -> Option<&str> {
 
 #[test]
 fn worked_lines(rt: HostRuntime) {
-    for table in TABLES {
+    for table in tables() {
         assert_eq!(rt; wrong_row(table), None);
     }
 }

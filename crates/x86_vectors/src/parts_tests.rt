@@ -94,19 +94,29 @@ fn fields_are_written(rt: HostRuntime) {
     assert!(rt; refusal(add_after(&run)) == Some(EmitError::Length));
 }
 
+/// The fields of `ADD` without their SIB.
+fn without_sib() -> Option<Fields> {
+    let mut fields = fields_of(&ADD)?;
+    fields.sib = None;
+    Some(fields)
+}
+
+/// The fields of a 3DNow encoding, with another suffix.
+fn with_suffix(suffix: u8) -> Option<Fields> {
+    let mut fields = fields_of(&[0x0f, 0x0f, 0xc1, 0x9e])?;
+    fields.suffix = Some(suffix);
+    Some(fields)
+}
+
 #[test]
 fn fields_are_refused(rt: HostRuntime) {
     assert!(rt; refusal(add_after(&[0x90])) == Some(EmitError::Prefixes));
     assert!(rt; refusal(add_after(&[0xf0])) == Some(EmitError::Lock));
-    let mut fields = fields_of(&ADD).expect(&rt, "fields");
-    fields.sib = None;
-    assert!(rt; refusal(Some(fields)) == Some(EmitError::Shape));
+    assert!(rt; refusal(without_sib()) == Some(EmitError::Shape));
     assert!(rt; refusal(with_opcode(0x06, 0x44)) == Some(EmitError::Row));
     // the row of FE refuses /2, and the displacement is missing
     assert!(rt; refusal(with_opcode(0xfe, 0x54)) == Some(EmitError::Row));
-    let mut fields = fields_of(&[0x0f, 0x0f, 0xc1, 0x9e]).expect(&rt, "fields");
-    fields.suffix = Some(0x06);
-    assert!(rt; refusal(Some(fields)) == Some(EmitError::Row));
+    assert!(rt; refusal(with_suffix(0x06)) == Some(EmitError::Row));
 }
 
 #[test]

@@ -37,30 +37,37 @@ fn a_number_lies_across_the_seam(rt: HostRuntime) {
     assert!(rt; reader.next() == Err(ReadError::ExhaustedInput));
 }
 
+/// Whether the next encoding is refused, and leaves the instruction blank.
+fn is_refused(instruction: &mut Instruction, reader: &mut U8Reader<'_>) -> bool {
+    let refused = InstDecoder::default().decode_into(instruction, reader);
+    refused == Err(DecodeError::InvalidOpcode) && *instruction == Instruction::invalid()
+}
+
 #[test]
 fn one_instruction_used_again(rt: HostRuntime) {
     let decoder = InstDecoder::default();
     let mut instruction = Instruction::default();
     let mut reader = U8Reader::new(&[0xf0, 0x01, 0x18, 0x06, 0x90]);
     assert!(rt; decoder.decode_into(&mut instruction, &mut reader).is_ok());
-    let refused = decoder.decode_into(&mut instruction, &mut reader);
-    assert!(rt; refused == Err(DecodeError::InvalidOpcode));
-    assert!(rt; instruction == Instruction::invalid());
+    assert!(rt; is_refused(&mut instruction, &mut reader));
     assert!(rt; decoder.decode_into(&mut instruction, &mut reader).is_ok());
     assert!(rt; decoder.decode_slice(&[0x90]) == Ok(instruction));
 }
 
+/// What is read into an instruction from a slice: its opcode and its length.
+fn read_into(instruction: &mut Instruction, bytes: &[u8]) -> Result<(Opcode, u64), DecodeError> {
+    InstDecoder::default().decode_slice_into(instruction, bytes)?;
+    Ok((instruction.opcode(), instruction.len().to_const()))
+}
+
 #[test]
 fn one_instruction_over_slices(rt: HostRuntime) {
-    let decoder = InstDecoder::default();
     let mut instruction = Instruction::default();
-    let added = decoder.decode_slice_into(&mut instruction, &[0x48, 0x01, 0xd8, 0x90]);
-    assert!(rt; added.is_ok());
-    assert!(rt; instruction.opcode() == Opcode::ADD && instruction.len().to_const() == 3);
-    let refused = decoder.decode_slice_into(&mut instruction, &[0x06]);
+    let added = read_into(&mut instruction, &[0x48, 0x01, 0xd8, 0x90]);
+    assert!(rt; added == Ok((Opcode::ADD, 3)));
+    let refused = read_into(&mut instruction, &[0x06]);
     assert!(rt; refused == Err(DecodeError::InvalidOpcode));
-    assert!(rt; instruction == Instruction::invalid());
-    assert!(rt; instruction.len().to_const() == 0);
+    assert!(rt; instruction == Instruction::invalid() && instruction.len().to_const() == 0);
 }
 
 #[test]

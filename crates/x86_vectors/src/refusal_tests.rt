@@ -6,12 +6,14 @@ use x86_arch::{Reader, U8Reader};
 use x86_decode::InstDecoder;
 
 /// The tables of refusals, `HEX => TAKEN REASON`.
-const TABLES: &[&str] = &[
-    refusal_table::PART_1,
-    refusal_table::PART_2,
-    refusal_table::PART_3,
-    refusal_table::PART_4,
-];
+fn tables() -> [&'static str; 4] {
+    [
+        refusal_table::PART_1,
+        refusal_table::PART_2,
+        refusal_table::PART_3,
+        refusal_table::PART_4,
+    ]
+}
 
 /// Whether bytes are refused with the error of this description, and so many of them are taken.
 fn is_refused(bytes: &[u8], taken: &str, reason: &str) -> bool {
@@ -54,7 +56,7 @@ fn wrong_row(table: &str) -> Option<&str> {
 
 #[test]
 fn worked_refusals(rt: HostRuntime) {
-    for table in TABLES {
+    for table in tables() {
         assert_eq!(rt; wrong_row(table), None);
     }
 }

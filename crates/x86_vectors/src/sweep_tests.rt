@@ -21,18 +21,22 @@ fn branches(rt: HostRuntime) {
     assert!(rt; target(&[0x6a, 0x01], 2).is_none());
 }
 
+/// Whether the next cut is of the one byte at this place, with this answer.
+fn cuts_one(sweep: &mut Sweep<'_>, place: usize, answer: Result<Opcode, DecodeError>) -> bool {
+    match sweep.next() {
+        Some(cut) => {
+            cut.place == place && cut.length == 1 && cut.answer.map(|read| read.opcode()) == answer
+        }
+        None => false,
+    }
+}
+
 #[test]
 fn a_sweep_continues_after_a_refusal(rt: HostRuntime) {
     let mut sweep = Sweep::new(InstDecoder::default(), &[0x06, 0x90, 0x48]);
-    let first = sweep.next().expect(&rt, "a cut");
-    assert!(rt; first.place == 0 && first.length == 1);
-    assert!(rt; matches!(first.answer, Err(DecodeError::InvalidOpcode)));
-    let second = sweep.next().expect(&rt, "a cut");
-    assert!(rt; second.place == 1 && second.length == 1);
-    assert!(rt; matches!(second.answer, Ok(read) if read.opcode() == Opcode::NOP));
-    let third = sweep.next().expect(&rt, "a cut");
-    assert!(rt; third.place == 2 && third.length == 1);
-    assert!(rt; matches!(third.answer, Err(DecodeError::ExhaustedInput)));
+    assert!(rt; cuts_one(&mut sweep, 0, Err(DecodeError::InvalidOpcode)));
+    assert!(rt; cuts_one(&mut sweep, 1, Ok(Opcode::NOP)));
+    assert!(rt; cuts_one(&mut sweep, 2, Err(DecodeError::ExhaustedInput)));
     assert!(rt; sweep.next().is_none());
 }
 

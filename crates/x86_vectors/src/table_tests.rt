@@ -30,33 +30,40 @@ fn answer_by<W: Words>(rows: &W, bytes: &[u8]) -> Result<(&'static str, u64), De
     ))
 }
 
+/// The printed table with this word at a byte of the first map.
+fn patched(byte: u8, word: u64) -> Patched {
+    Patched {
+        map: Map::One,
+        column: Column::Plain,
+        byte,
+        word,
+    }
+}
+
+/// The printed table with the word of NOP at this byte.
+fn nop_at(byte: u8) -> Patched {
+    patched(byte, packed(Map::One, Column::Plain, 0x90))
+}
+
 #[test]
-fn patched_tables(rt: HostRuntime) {
-    let nop = packed(Map::One, Column::Plain, 0x90);
+fn a_row_more(rt: HostRuntime) {
     assert!(rt; answer_by(&Packed, &[0x06]) == Err(DecodeError::InvalidOpcode));
-    let patched = Patched {
-        map: Map::One,
-        column: Column::Plain,
-        byte: 0x06,
-        word: nop,
-    };
-    assert!(rt; answer_by(&patched, &[0x06]) == Ok(("NOP", 1)));
-    assert!(rt; answer_by(&patched, &[0x41, 0x06]) == Ok(("XCHG", 2)));
-    assert!(rt; answer_by(&patched, &[0x66, 0x06]) == Err(DecodeError::InvalidOpcode));
-    assert!(rt; answer_by(&patched, &[0x90]) == Ok(("NOP", 1)));
-    let unprinted = Patched {
-        map: Map::One,
-        column: Column::Plain,
-        byte: 0x90,
-        word: 0,
-    };
-    assert!(rt; answer_by(&unprinted, &[0x90]) == Err(DecodeError::InvalidOpcode));
-    assert!(rt; answer_by(&unprinted, &[0x66, 0x90]) == Ok(("NOP", 2)));
-    let vex = Patched {
-        map: Map::One,
-        column: Column::Plain,
-        byte: 0xc5,
-        word: nop,
-    };
-    assert!(rt; answer_by(&vex, &[0xc5]) == Err(DecodeError::IncompleteDecoder));
+    let table = nop_at(0x06);
+    assert!(rt; answer_by(&table, &[0x06]) == Ok(("NOP", 1)));
+    assert!(rt; answer_by(&table, &[0x41, 0x06]) == Ok(("XCHG", 2)));
+    assert!(rt; answer_by(&table, &[0x66, 0x06]) == Err(DecodeError::InvalidOpcode));
+    assert!(rt; answer_by(&table, &[0x90]) == Ok(("NOP", 1)));
+}
+
+#[test]
+fn a_row_less(rt: HostRuntime) {
+    let table = patched(0x90, 0);
+    assert!(rt; answer_by(&table, &[0x90]) == Err(DecodeError::InvalidOpcode));
+    assert!(rt; answer_by(&table, &[0x66, 0x90]) == Ok(("NOP", 2)));
+}
+
+#[test]
+fn vex_has_no_row(rt: HostRuntime) {
+    let answer = answer_by(&nop_at(0xc5), &[0xc5]);
+    assert!(rt; answer == Err(DecodeError::IncompleteDecoder));
 }
