@@ -1,105 +1,52 @@
-//! Worked runs of the commands beside `list`.
+//! Worked runs of the commands.
 
-use crate::support::{Repeated, all_run, ending, ends_with, is_usage, runs};
-use x86_cli::{ArraySink, SoundSource, Status, TARGETS_MAX, USAGE};
+use crate::run_table;
+use crate::support::{ending, shows};
+use std::alloc::Global;
+use x86_cli::{ArraySink, SliceSource};
 
-#[test]
-fn arguments_matched_whole(rt: HostRuntime) {
-    assert!(&rt; is_usage(rt.alloc(), &[]));
-    assert!(&rt; is_usage(rt.alloc(), &["List"]));
-    assert!(&rt; is_usage(rt.alloc(), &["list", "strict"]));
-    assert!(&rt; is_usage(rt.alloc(), &["list", "--strict", ""]));
-    assert!(&rt; is_usage(rt.alloc(), &["--strict", "list"]));
-    assert!(&rt; USAGE == "usage: list [--strict] | make N | fields | tighten | sweep | targets");
+/// Whether a run over a text, some of whose calls fail, writes this and ends so.
+fn runs(alloc: Global, command: &str, text: &str, fails: &[u64], wanted: &str) -> bool {
+    let mut source = SliceSource::new(text.as_bytes(), fails);
+    let mut sink = ArraySink::<256>::new(u64::MAX);
+    let ended = ending(alloc, command, &mut source, &mut sink);
+    shows(alloc, sink.written(), ended, wanted)
+}
+
+/// Whether this is so of a run, at whichever of these calls its source fails.
+fn is_run(alloc: Global, command: &str, text: &str, calls: &str, wanted: &str) -> bool {
+    for call in calls.split(" ") {
+        let call = call.parse::<u64>().unwrap_or(u64::MAX);
+        if !runs(alloc, command, text, &[call], wanted) {
+            return false;
+        }
+    }
+    true
+}
+
+/// Whether a line of a table is so.
+fn is_worked(alloc: Global, row: &str) -> Option<bool> {
+    let (given, wanted) = row.split_once(" => ")?;
+    let (run, calls) = given.rsplit_once(" | ")?;
+    let (command, text) = run.split_once(" | ")?;
+    Some(is_run(alloc, command, text, calls, wanted))
 }
 
 #[test]
-fn sweeps(rt: HostRuntime) {
-    let cuts = "0 error: invalid opcode\n1 2 ADD eax, ebx m4\n3 error: exhausted input\n";
-    let half = "0 2 ADD eax, ebx m4\ntext error at 7\n";
-    let worked = [
-        ("", "", Status::Done),
-        ("06 01 d8 01", cuts, Status::Done),
-        ("01 d8 4", half, Status::BadText),
-    ];
-    assert!(&rt; all_run(rt.alloc(), "sweep", &worked));
+fn worked_runs(rt: HostRuntime) {
+    for row in run_table::RUNS.lines() {
+        assert!(&rt; is_worked(rt.alloc(), row) == Some(true), "{row}");
+    }
 }
 
 #[test]
-fn fields(rt: HostRuntime) {
-    let worked = [
-        (
-            "48 03 44 25 00 90",
-            "0 5 48 - 03 44 25 00 - -\n5 1 - - 90 - - - - -\n",
-            Status::Done,
-        ),
-        (
-            "48 a1 88 77 66 55 44 33 22 11",
-            "0 10 48 - a1 - - - 8877665544332211 -\n",
-            Status::Done,
-        ),
-        (
-            "0f 0f c1 9e 06",
-            "0 4 - 0f 0f c1 - - - 9e\n4 error: invalid opcode\n",
-            Status::Refused,
-        ),
-    ];
-    assert!(&rt; all_run(rt.alloc(), "fields", &worked));
-    let (words, one) = (&["fields"], b"0 1 - - 90 - - - - -\nread fault\n");
-    assert!(&rt; runs(rt.alloc(), words, b"90 90", &[3], one, Status::ReadFault));
+fn blanks_of_all_kinds(rt: HostRuntime) {
+    let both = "0 2 ADD eax, ebx m4 / 2 2 ADD eax, ebx m4 / Done";
+    assert!(&rt; runs(rt.alloc(), "list", "01D8\t01\r\nd8", &[], both));
 }
 
 #[test]
-fn tighten(rt: HostRuntime) {
-    let worked = [
-        (
-            "48 8b 84 25 00 00 00 00 8b c0",
-            "0 8 4\n8 2 2\n",
-            Status::Done,
-        ),
-        (
-            "8b 05 00 00 00 00 8b 04 45 00 00 00 00",
-            "0 6 6\n6 7 3\n",
-            Status::Done,
-        ),
-        ("06", "0 error: invalid opcode\n", Status::Refused),
-    ];
-    assert!(&rt; all_run(rt.alloc(), "tighten", &worked));
-}
-
-#[test]
-fn targets(rt: HostRuntime) {
-    let worked = [
-        ("eb fe", "0\n", Status::Done),
-        ("74 01 06 eb fb 90", "0\n3\n", Status::Done),
-        ("eb ff 90", "", Status::Done),
-        ("eb 7f", "", Status::Done),
-        ("eb fe 9", "0\ntext error at 7\n", Status::BadText),
-    ];
-    assert!(&rt; all_run(rt.alloc(), "targets", &worked));
-}
-
-#[test]
-fn targets_of_long_texts(rt: HostRuntime) {
-    assert!(&rt; TARGETS_MAX == 16384);
-    let blanks = Repeated::new(b" ", 16385, b"");
-    let line = b"text too long\n";
-    assert!(&rt; ends_with(rt.alloc(), "targets", blanks, 1, line, Status::TooLarge));
-    let pairs = Repeated::new(b"90", 8190, b"ebfe");
-    assert!(&rt; ends_with(rt.alloc(), "targets", pairs, 1, b"8190\n", Status::Done));
-    let pairs = Repeated::new(b"90", 8190, b"ebfe9");
-    assert!(&rt; ends_with(rt.alloc(), "targets", pairs, 2, line, Status::TooLarge));
-}
-
-#[test]
-fn failing_targets(rt: HostRuntime) {
-    let (words, text) = (&["targets"], b"eb fe");
-    let (none, one) = (b"read fault\n", b"0\nread fault\n");
-    assert!(&rt; runs(rt.alloc(), words, text, &[4], none, Status::ReadFault));
-    assert!(&rt; runs(rt.alloc(), words, text, &[5], one, Status::ReadFault));
-    let mut sink = ArraySink::<64>::new(1);
-    let mut source = SoundSource::new(b"74 01 06 eb fb 90");
-    let ended = ending(rt.alloc(), &["targets"], &mut source, &mut sink);
-    assert!(&rt; ended == Some(Status::WriteFault));
-    assert!(&rt; sink.written() == b"0\n".as_slice());
+fn no_call_follows_the_end(rt: HostRuntime) {
+    let line = "0 2 ADD eax, ebx m4 / Done";
+    assert!(&rt; runs(rt.alloc(), "list", "01 d8", &[6, 7, 8], line));
 }

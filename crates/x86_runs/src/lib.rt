@@ -7,13 +7,11 @@ mod commands;
 #[cfg(test)]
 mod limits;
 #[cfg(test)]
-mod list;
-#[cfg(test)]
-mod make;
-#[cfg(test)]
 mod process;
 #[cfg(test)]
 mod program;
+#[cfg(test)]
+mod run_table;
 #[cfg(test)]
 mod streams;
 #[cfg(test)]

@@ -1,32 +1,46 @@
 //! What `main` does around the program: its words, and how the process ends.
 
 use crate::support::arguments;
+use std::alloc::Global;
 use std::process::ExitCode;
-use x86_cli::{Status, finish, words};
+use x86_cli::{Status, USAGE, finish, words};
 
 #[test]
 fn words_are_all_arguments_but_the_first(rt: HostRuntime) {
-    let given = arguments(rt.alloc(), &["x86", "list", "--strict"]).expect(&rt, "memory");
-    let words = words(rt.alloc(), given.into_iter()).expect(&rt, "memory");
-    let [list, strict] = words.as_slice() else {
-        assert!(&rt; false);
-        return;
-    };
-    assert!(&rt; list.as_str() == "list" && strict.as_str() == "--strict");
+    for (given, wanted) in [("x86 list --strict", "list --strict"), ("", "")] {
+        let given = arguments(rt.alloc(), given).expect(&rt, "memory");
+        let words = words(rt.alloc(), given.into_iter());
+        assert!(&rt; words == arguments(rt.alloc(), wanted));
+    }
+}
+
+/// Whether the process ends with this code, and this is in its third stream.
+fn finishes(alloc: Global, status: Status, code: u8, written: &str) -> bool {
+    let (ended, errors) = finish(status, Vec::new(alloc));
+    ended == ExitCode::from(code) && errors.as_slice() == written.as_bytes()
 }
 
 #[test]
-fn a_process_without_arguments_has_no_words(rt: HostRuntime) {
-    let none = arguments(rt.alloc(), &[]).expect(&rt, "memory");
-    let words = words(rt.alloc(), none.into_iter()).expect(&rt, "memory");
-    assert!(&rt; words.is_empty());
+fn the_usage_line_is_written_at_usage(rt: HostRuntime) {
+    let usage = "usage: list [--strict] | make N | fields | tighten | sweep | targets\n";
+    assert!(&rt; finishes(rt.alloc(), Status::Usage, 2, usage));
 }
 
 #[test]
-fn the_usage_line_is_written_at_usage_alone(rt: HostRuntime) {
-    let (code, errors) = finish(Status::Usage, Vec::new(rt.alloc()));
-    let usage = b"usage: list [--strict] | make N | fields | tighten | sweep | targets\n";
-    assert!(&rt; code == ExitCode::from(2) && errors.as_slice() == usage.as_slice());
-    let (code, errors) = finish(Status::Refused, Vec::new(rt.alloc()));
-    assert!(&rt; code == ExitCode::from(3) && errors.is_empty());
+fn nothing_is_written_at_other_statuses(rt: HostRuntime) {
+    let codes = [
+        (Status::Done, 0),
+        (Status::Refused, 3),
+        (Status::BadText, 4),
+        (Status::ReadFault, 5),
+        (Status::WriteFault, 6),
+    ];
+    for (status, code) in codes {
+        assert!(&rt; finishes(rt.alloc(), status, code, ""));
+    }
+}
+
+#[test]
+fn the_usage_line(rt: HostRuntime) {
+    assert!(&rt; USAGE == "usage: list [--strict] | make N | fields | tighten | sweep | targets");
 }

@@ -1,6 +1,6 @@
 //! The whole program, over readers and writers that are slow, that are short, and that fail.
 
-use crate::support::arguments;
+use crate::support::{arguments, shows};
 use std::alloc::{AllocError, Global};
 use std::io;
 use std::io::{ErrorKind, Read, Write};
@@ -58,37 +58,57 @@ impl Write for Short {
     }
 }
 
-/// So many instructions of two bytes, and then of one: their text, and their listing.
-fn long_text(alloc: Global, pairs: u64, singles: u64) -> Result<(Vec<u8>, String), AllocError> {
-    let mut text = Vec::new(alloc);
-    let mut listing = String::new(alloc);
-    for i in 0..pairs {
-        text.extend_from_slice(b"01 d8 ")?;
-        let line = format!(in alloc; "{} 2 ADD eax, ebx m4\n", i.wrapping_mul(2))?;
-        listing.push_str(line.as_str())?;
-    }
-    for i in 0..singles {
-        text.extend_from_slice(b"90\n")?;
-        let place = pairs.wrapping_mul(2).wrapping_add(i);
-        let line = format!(in alloc; "{place} 1 NOP m0\n")?;
-        listing.push_str(line.as_str())?;
-    }
-    Ok((text, listing))
-}
-
-/// How the program ends with `list` over these; `None` where its argument finds no memory.
+/// How the program ends with `list` over these.
 fn program_ending<R: Read + Drop, W: Write + Drop>(
     alloc: Global,
     reader: R,
     writer: W,
-) -> Option<Finished<R, W>> {
-    let arguments = arguments(alloc, &["list"]).ok()?;
-    Some(listed(arguments.as_slice(), reader, writer))
+) -> Result<Finished<R, W>, AllocError> {
+    let arguments = arguments(alloc, "list")?;
+    Ok(listed(arguments.as_slice(), reader, writer))
+}
+
+/// A long text, its listing, and the place after it.
+#[derive(Drop)]
+struct Long {
+    text: Vec<u8>,
+    listing: String,
+    place: u64,
+}
+
+impl Long {
+    /// Appends an instruction so many times: its text, its length, and its line after the place.
+    fn append(
+        &mut self,
+        times: u64,
+        text: &[u8],
+        length: u64,
+        line: &str,
+    ) -> Result<(), AllocError> {
+        for _ in 0..times {
+            self.text.extend_from_slice(text)?;
+            write!(self.listing, "{} {line}\n", self.place)?;
+            self.place = self.place.wrapping_add(length);
+        }
+        Ok(())
+    }
+}
+
+/// So many instructions of two bytes, and then of one.
+fn long_text(alloc: Global, pairs: u64, singles: u64) -> Result<Long, AllocError> {
+    let mut long = Long {
+        text: Vec::new(alloc),
+        listing: String::new(alloc),
+        place: 0,
+    };
+    long.append(pairs, b"01 d8 ", 2, "2 ADD eax, ebx m4")?;
+    long.append(singles, b"90\n", 1, "1 NOP m0")?;
+    Ok(long)
 }
 
 /// Whether a long text is listed whole, byte for byte, in writes of at most so many bytes.
 fn lists_whole(alloc: Global, pairs: u64, singles: u64, most: usize) -> bool {
-    let Ok((text, listing)) = long_text(alloc, pairs, singles) else {
+    let Ok(long) = long_text(alloc, pairs, singles) else {
         return false;
     };
     let writer = Short {
@@ -97,82 +117,99 @@ fn lists_whole(alloc: Global, pairs: u64, singles: u64, most: usize) -> bool {
         write: 0,
         flushes: true,
     };
-    match program_ending(alloc, text.as_slice(), writer) {
-        Some(end) => {
-            end.status == Status::Done && end.writer.kept.as_slice() == listing.as_bytes()
+    match program_ending(alloc, long.text.as_slice(), writer) {
+        Ok(end) => {
+            end.status == Status::Done && end.writer.kept.as_slice() == long.listing.as_bytes()
         }
-        None => false,
+        Err(_) => false,
     }
 }
 
 #[test]
 fn long_outputs(rt: HostRuntime) {
-    // 65,536 bytes of output end at the last line; the next of these is a line longer.
-    assert!(&rt; lists_whole(rt.alloc(), 4, 4753, usize::MAX));
-    assert!(&rt; lists_whole(rt.alloc(), 4, 4754, usize::MAX));
-    assert!(&rt; lists_whole(rt.alloc(), 0, 24000, 1000));
-    assert!(&rt; lists_whole(rt.alloc(), 0, 24000, 65535));
-}
-
-/// Whether the program over this reader writes this and ends with this code.
-fn ends<R: Read + Drop>(alloc: Global, reader: R, written: &str, code: u8) -> bool {
-    match program_ending(alloc, reader, Vec::new(alloc)) {
-        Some(end) => { end.status.code() == code && end.writer.as_slice() == written.as_bytes() }
-        None => false,
+    // 65,536 bytes of output end at the last line of the first; the second is a line longer.
+    let worked = [
+        (4, 4753, usize::MAX),
+        (4, 4754, usize::MAX),
+        (0, 24000, 1000),
+        (0, 24000, 65535),
+    ];
+    for (pairs, singles, most) in worked {
+        assert!(&rt; lists_whole(rt.alloc(), pairs, singles, most));
     }
 }
 
-/// Whether the listing of a text is this and ends with this code, where a read returns at most so many bytes, and the read
-/// with a number fails.
-fn fails_at(
-    alloc: Global,
-    (most, fails): (usize, u64),
-    error: ErrorKind,
-    written: &str,
-    code: u8,
-) -> bool {
-    let reader = Few {
+/// Whether the program over a reader writes these lines, and ends so.
+fn program_shows<R: Read + Drop>(alloc: Global, reader: R, wanted: &str) -> bool {
+    match program_ending(alloc, reader, Vec::new(alloc)) {
+        Ok(end) => shows(alloc, end.writer.as_slice(), Ok(end.status), wanted),
+        Err(_) => false,
+    }
+}
+
+/// A reader of two instructions that returns at most so many bytes a read, and whose read with a number fails.
+fn two_singles(most: usize, fails: u64, error: ErrorKind) -> Few<'static> {
+    Few {
         bytes: b"90 90",
         most,
         read: 0,
         fails,
         error,
-    };
-    ends(alloc, reader, written, code)
+    }
 }
 
 #[test]
 fn readers_that_fail(rt: HostRuntime) {
-    let one = "0 1 NOP m0\nread fault\n";
-    let both = "0 1 NOP m0\n1 1 NOP m0\nread fault\n";
-    let whole = "0 1 NOP m0\n1 1 NOP m0\n";
+    let none = "read fault / ReadFault";
+    let one = "0 1 NOP m0 / read fault / ReadFault";
+    let both = "0 1 NOP m0 / 1 1 NOP m0 / read fault / ReadFault";
+    let whole = "0 1 NOP m0 / 1 1 NOP m0 / Done";
     let worked = [
-        (1, 0, "read fault\n", 5),
-        (1, 1, "read fault\n", 5),
-        (1, 2, one, 5),
-        (1, 3, one, 5),
-        (1, 4, one, 5),
-        (1, 5, both, 5),
-        (1, 6, whole, 0),
+        (1, 0, none),
+        (1, 1, none),
+        (1, 2, one),
+        (1, 3, one),
+        (1, 4, one),
+        (1, 5, both),
+        (1, 6, whole),
         // Reads of more than one byte, after which bytes are ahead.
-        (2, 1, one, 5),
-        (2, 2, one, 5),
-        (2, 3, both, 5),
-        (2, 4, whole, 0),
-        (4, 1, one, 5),
-        (4, 2, both, 5),
-        (4, 3, whole, 0),
-        (64, 0, "read fault\n", 5),
-        (64, 1, both, 5),
-        (64, 2, whole, 0),
+        (2, 1, one),
+        (2, 2, one),
+        (2, 3, both),
+        (2, 4, whole),
+        (4, 1, one),
+        (4, 2, both),
+        (4, 3, whole),
+        (64, 0, none),
+        (64, 1, both),
+        (64, 2, whole),
     ];
-    for (most, fails, written, code) in worked {
-        assert!(&rt; fails_at(rt.alloc(), (most, fails), ErrorKind::Other, written, code));
+    for (most, fails, wanted) in worked {
+        let reader = two_singles(most, fails, ErrorKind::Other);
+        assert!(&rt; program_shows(rt.alloc(), reader, wanted));
     }
 }
 
+#[test]
+fn ends_of_the_program(rt: HostRuntime) {
+    let worked = [
+        ("90", "0 1 NOP m0 / Done"),
+        ("90 06 90", "0 1 NOP m0 / 1 error: invalid opcode / Refused"),
+        ("90 4", "0 1 NOP m0 / text error at 4 / BadText"),
+    ];
+    for (text, wanted) in worked {
+        assert!(&rt; program_shows(rt.alloc(), text.as_bytes(), wanted));
+    }
+}
+
+#[test]
+fn an_interrupted_read_is_a_fault_too(rt: HostRuntime) {
+    let reader = two_singles(1, 0, ErrorKind::Interrupted);
+    assert!(&rt; program_shows(rt.alloc(), reader, "read fault / ReadFault"));
+}
+
 /// How many reads the listing of this text makes, where each returns one byte.
-fn reads_of(alloc: Global, text: &[u8]) -> Option<u64> {
+fn reads_of(alloc: Global, text: &[u8]) -> Result<u64, AllocError> {
     let reader = Few {
         bytes: text,
         most: 1,
@@ -180,19 +217,23 @@ fn reads_of(alloc: Global, text: &[u8]) -> Option<u64> {
         fails: u64::MAX,
         error: ErrorKind::Other,
     };
-    Some(program_ending(alloc, reader, Vec::new(alloc))?.reader.read)
+    Ok(program_ending(alloc, reader, Vec::new(alloc))?.reader.read)
 }
 
 #[test]
 fn the_end_is_read_once(rt: HostRuntime) {
-    // A read for each byte of the text, and one that returns none.
-    assert!(&rt; reads_of(rt.alloc(), b"") == Some(1));
-    assert!(&rt; reads_of(rt.alloc(), b"90 90") == Some(6));
-    // After a byte that isn't allowed at its place, nothing is read.
-    assert!(&rt; reads_of(rt.alloc(), b"90 9z90") == Some(5));
-    // A refusal is listed when 15 bytes of the image are held.
-    let refused = b"06 90909090909090909090909090909090909090909090";
-    assert!(&rt; reads_of(rt.alloc(), refused) == Some(31));
+    let worked = [
+        // A read for each byte of the text, and one that returns none.
+        ("", 1),
+        ("90 90", 6),
+        // After a byte that isn't allowed at its place, nothing is read.
+        ("90 9z90", 5),
+        // A refusal is listed when 15 bytes of the image are held.
+        ("06 90909090909090909090909090909090909090909090", 31),
+    ];
+    for (text, reads) in worked {
+        assert!(&rt; reads_of(rt.alloc(), text.as_bytes()) == Ok(reads));
+    }
 }
 
 /// Fails at each write, and counts them.
@@ -213,60 +254,46 @@ impl Write for Failing {
     }
 }
 
-#[test]
-fn a_failed_write_is_not_tried_again(rt: HostRuntime) {
-    let errors = [
-        ErrorKind::Other,
-        ErrorKind::BrokenPipe,
-        ErrorKind::OutOfMemory,
-    ];
-    for error in errors {
-        let text: &[u8] = b"90";
-        let end = program_ending(rt.alloc(), text, Failing { writes: 0, error });
-        assert!(&rt; matches!(end, Some(end) if end.status.code() == 6 && end.writer.writes == 1));
+/// Whether the writer is called once, and the run ends so.
+fn fails_once(alloc: Global, error: ErrorKind) -> bool {
+    let text: &[u8] = b"90";
+    match program_ending(alloc, text, Failing { writes: 0, error }) {
+        Ok(end) => end.status == Status::WriteFault && end.writer.writes == 1,
+        Err(_) => false,
     }
 }
 
 #[test]
-fn an_interrupted_read_is_a_fault_too(rt: HostRuntime) {
-    assert!(&rt;
-        fails_at(
-            rt.alloc(),
-            (1, 0),
-            ErrorKind::Interrupted,
-            "read fault\n",
-            5
-        )
-    );
+fn a_failed_write_is_not_tried_again(rt: HostRuntime) {
+    assert!(&rt; fails_once(rt.alloc(), ErrorKind::Other));
+    assert!(&rt; fails_once(rt.alloc(), ErrorKind::BrokenPipe));
+    assert!(&rt; fails_once(rt.alloc(), ErrorKind::OutOfMemory));
 }
 
-#[test]
-fn flushes_that_fail(rt: HostRuntime) {
+/// Whether the program over a writer whose flush fails writes these lines, and ends so.
+fn unflushed_shows(alloc: Global, wanted: &str) -> bool {
+    let text: &[u8] = b"90";
     let writer = Short {
-        kept: Vec::new(rt.alloc()),
+        kept: Vec::new(alloc),
         most: usize::MAX,
         write: 0,
         flushes: false,
     };
-    let text: &[u8] = b"90";
-    let end = program_ending(rt.alloc(), text, writer).expect(&rt, "memory");
-    assert!(&rt; end.status.code() == 6);
-    assert!(&rt; end.writer.kept.as_slice() == b"0 1 NOP m0\n".as_slice());
+    match program_ending(alloc, text, writer) {
+        Ok(end) => shows(alloc, end.writer.kept.as_slice(), Ok(end.status), wanted),
+        Err(_) => false,
+    }
 }
 
 #[test]
-fn exit_codes(rt: HostRuntime) {
-    let refused = "0 1 NOP m0\n1 error: invalid opcode\n";
-    let worked = [
-        ("90", "0 1 NOP m0\n", 0),
-        ("90 06 90", refused, 3),
-        ("90 4", "0 1 NOP m0\ntext error at 4\n", 4),
-    ];
-    for (text, written, code) in worked {
-        assert!(&rt; ends(rt.alloc(), text.as_bytes(), written, code));
-    }
+fn flushes_that_fail(rt: HostRuntime) {
+    assert!(&rt; unflushed_shows(rt.alloc(), "0 1 NOP m0 / WriteFault"));
+}
+
+#[test]
+fn without_words_nothing_is_read(rt: HostRuntime) {
     let text: &[u8] = b"90";
     let end = listed(&[], text, Vec::new(rt.alloc()));
-    assert!(&rt; end.status.code() == 2 && end.writer.as_slice().is_empty());
+    assert!(&rt; end.status == Status::Usage && end.writer.as_slice().is_empty());
     assert!(&rt; end.reader == text);
 }

@@ -1,6 +1,6 @@
 //! Runs over sources and sinks that fail, and over readers and writers.
 
-use crate::support::{ending, runs};
+use crate::support::ending;
 use std::alloc::Global;
 use std::io;
 use std::io::{ErrorKind, Read, Write};
@@ -10,65 +10,20 @@ use x86_cli::{ArraySink, NullSink, Sink, SoundSource, Status, StdSink, StdSource
 /// Two instructions.
 const TEXT: &[u8] = b"01 d8 01 d8";
 
-/// Whether the listing of a text is this and ends so, at whichever of these calls its source fails.
-fn fails_at(alloc: Global, text: &str, calls: (u64, u64), written: &str, status: Status) -> bool {
-    let (first, last) = calls;
-    let (text, written) = (text.as_bytes(), written.as_bytes());
-    (first..=last).all(|call| runs(alloc, &["list"], text, &[call], written, status))
-}
+/// Their listing.
+const WHOLE: &str = "0 2 ADD eax, ebx m4\n2 2 ADD eax, ebx m4\n";
 
-#[test]
-fn failing_sources(rt: HostRuntime) {
-    let one = "0 2 ADD eax, ebx m4\nread fault\n";
-    let both = "0 2 ADD eax, ebx m4\n2 2 ADD eax, ebx m4\nread fault\n";
-    let whole = "0 2 ADD eax, ebx m4\n2 2 ADD eax, ebx m4\n";
-    let worked = [
-        ("01 d8", (0, 0), "read fault\n", Status::ReadFault),
-        ("01 d8", (5, 5), one, Status::ReadFault),
-        ("01 d8 01 d8", (0, 4), "read fault\n", Status::ReadFault),
-        ("01 d8 01 d8", (5, 10), one, Status::ReadFault),
-        ("01 d8 01 d8", (11, 11), both, Status::ReadFault),
-        ("01 d8 01 d8", (12, 12), whole, Status::Done),
-        ("01", (2, 2), "read fault\n", Status::ReadFault),
-    ];
-    for (text, calls, written, status) in worked {
-        assert!(&rt; fails_at(rt.alloc(), text, calls, written, status));
-    }
-}
-
-#[test]
-fn sources_that_fail_between_instructions_of_one_byte(rt: HostRuntime) {
-    let one = "0 1 NOP m0\nread fault\n";
-    let both = "0 1 NOP m0\n1 1 NOP m0\nread fault\n";
-    let worked = [
-        ("90", (2, 2), one, Status::ReadFault),
-        ("90 90", (0, 1), "read fault\n", Status::ReadFault),
-        ("90 90", (2, 4), one, Status::ReadFault),
-        ("90 90", (5, 5), both, Status::ReadFault),
-        ("90 90", (6, 6), "0 1 NOP m0\n1 1 NOP m0\n", Status::Done),
-        ("03", (2, 2), "read fault\n", Status::ReadFault),
-    ];
-    for (text, calls, written, status) in worked {
-        assert!(&rt; fails_at(rt.alloc(), text, calls, written, status));
-    }
-}
-
-#[test]
-fn no_call_follows_the_end(rt: HostRuntime) {
-    let (text, line) = (b"01 d8", b"0 2 ADD eax, ebx m4\n");
-    assert!(&rt; runs(rt.alloc(), &["list"], text, &[6, 7, 8], line, Status::Done));
-}
-
-/// Whether a listing to a sink writes this to it and ends so.
+/// Whether a run over a sink writes this to it and ends so.
 fn stops_at<const N: usize>(
     alloc: Global,
+    command: &str,
     text: &[u8],
     mut sink: ArraySink<N>,
     written: &str,
     status: Status,
 ) -> bool {
-    let ended = ending(alloc, &["list"], &mut SoundSource::new(text), &mut sink);
-    ended == Some(status) && sink.written() == written.as_bytes()
+    let ended = ending(alloc, command, &mut SoundSource::new(text), &mut sink);
+    ended == Ok(status) && sink.written() == written.as_bytes()
 }
 
 #[test]
@@ -76,35 +31,46 @@ fn failing_sinks(rt: HostRuntime) {
     let worked = [
         (0, "", Status::WriteFault),
         (1, "0 2 ADD eax, ebx m4\n", Status::WriteFault),
-        (
-            2,
-            "0 2 ADD eax, ebx m4\n2 2 ADD eax, ebx m4\n",
-            Status::Done,
-        ),
+        (2, WHOLE, Status::Done),
     ];
     for (fails, written, status) in worked {
         let sink = ArraySink::<64>::new(fails);
-        assert!(&rt; stops_at(rt.alloc(), TEXT, sink, written, status));
+        assert!(&rt; stops_at(rt.alloc(), "list", TEXT, sink, written, status));
     }
+}
+
+#[test]
+fn a_sink_that_fails_at_a_target(rt: HostRuntime) {
+    let (text, sink) = (b"74 01 06 eb fb 90", ArraySink::<64>::new(1));
+    assert!(&rt; stops_at(rt.alloc(), "targets", text, sink, "0\n", Status::WriteFault));
 }
 
 #[test]
 fn sinks_without_room(rt: HostRuntime) {
     let (never, status) = (u64::MAX, Status::WriteFault);
     let small = ArraySink::<5>::new(never);
-    assert!(&rt; stops_at(rt.alloc(), TEXT, small, "0 2 A", status));
+    assert!(&rt; stops_at(rt.alloc(), "list", TEXT, small, "0 2 A", status));
     let between = ArraySink::<24>::new(never);
     let written = "0 2 ADD eax, ebx m4\n2 2 ";
-    assert!(&rt; stops_at(rt.alloc(), TEXT, between, written, status));
+    assert!(&rt; stops_at(rt.alloc(), "list", TEXT, between, written, status));
     let narrow = ArraySink::<15>::new(never);
-    assert!(&rt; stops_at(rt.alloc(), b"90 90", narrow, "0 1 NOP m0\n1 1 ", status));
+    assert!(&rt;
+        stops_at(
+            rt.alloc(),
+            "list",
+            b"90 90",
+            narrow,
+            "0 1 NOP m0\n1 1 ",
+            status
+        )
+    );
 }
 
 #[test]
 fn a_sink_that_keeps_nothing(rt: HostRuntime) {
     let mut source = SoundSource::new(TEXT);
-    let ended = ending(rt.alloc(), &["list"], &mut source, &mut NullSink::new());
-    assert!(&rt; ended == Some(Status::Done));
+    let ended = ending(rt.alloc(), "list", &mut source, &mut NullSink::new());
+    assert!(&rt; ended == Ok(Status::Done));
 }
 
 /// Returns its bytes in two reads, and fails at the third.
@@ -145,41 +111,42 @@ impl Write for NarrowWriter {
     }
 }
 
-/// How a listing of two instructions to this writer ends, and how many of the sink's calls failed.
-fn listed_to<W: Write + Drop>(alloc: Global, writer: W) -> (Option<Status>, u64) {
+/// Whether a listing of two instructions to this writer ends so, where so many of the sink's calls failed.
+fn ends_so<W: Write + Drop>(alloc: Global, writer: W, status: Status, faults: u64) -> bool {
     let mut sink = StdSink::new(writer);
-    let ended = ending(alloc, &["list"], &mut StdSource::new(TEXT), &mut sink);
-    (ended, sink.faults())
+    let ended = ending(alloc, "list", &mut StdSource::new(TEXT), &mut sink);
+    ended == Ok(status) && sink.faults() == faults
 }
 
 #[test]
 fn writers_that_do(rt: HostRuntime) {
     let mut written = [0; 40];
     let mut room: &mut [u8] = &mut written;
-    assert!(&rt; listed_to(rt.alloc(), &mut room) == (Some(Status::Done), 0));
-    assert!(&rt; written.as_slice() == b"0 2 ADD eax, ebx m4\n2 2 ADD eax, ebx m4\n".as_slice());
+    assert!(&rt; ends_so(rt.alloc(), &mut room, Status::Done, 0));
+    assert!(&rt; written.as_slice() == WHOLE.as_bytes());
 }
 
 #[test]
 fn writers_that_fail(rt: HostRuntime) {
     let narrow = NarrowWriter { room: 30 };
-    assert!(&rt; listed_to(rt.alloc(), narrow) == (Some(Status::WriteFault), 1));
+    assert!(&rt; ends_so(rt.alloc(), narrow, Status::WriteFault, 1));
 }
 
 #[test]
 fn a_long_piece(rt: HostRuntime) {
+    let long = [b'x'; 200];
     let mut written = [0; 200];
     let mut room: &mut [u8] = &mut written;
     let mut sink = StdSink::new(&mut room);
-    assert!(&rt; sink.put(&[b'x'; 200]).is_ok() && sink.faults() == 0);
-    assert!(&rt; written == [b'x'; 200]);
+    assert!(&rt; sink.put(&long).is_ok() && sink.faults() == 0);
+    assert!(&rt; written == long);
 }
 
 #[test]
 fn a_flush_that_fails(rt: HostRuntime) {
     let mut sink = StdSink::new(Gathered::new(NarrowWriter { room: 30 }));
-    let ended = ending(rt.alloc(), &["list"], &mut StdSource::new(TEXT), &mut sink);
-    assert!(&rt; ended == Some(Status::Done) && sink.faults() == 0);
+    let ended = ending(rt.alloc(), "list", &mut StdSource::new(TEXT), &mut sink);
+    assert!(&rt; ended == Ok(Status::Done) && sink.faults() == 0);
     assert!(&rt; sink.into_writer().send_all().is_err());
 }
 
@@ -189,6 +156,6 @@ fn readers_that_fail(rt: HostRuntime) {
         bytes: TEXT,
         reads: 0,
     });
-    let ended = ending(rt.alloc(), &["list"], &mut source, &mut NullSink::new());
-    assert!(&rt; ended == Some(Status::ReadFault) && source.faults() == 1);
+    let ended = ending(rt.alloc(), "list", &mut source, &mut NullSink::new());
+    assert!(&rt; ended == Ok(Status::ReadFault) && source.faults() == 1);
 }
