@@ -1,6 +1,6 @@
 //! What the accessors of an instruction return.
 use x86_arch::AddressDiff;
-use x86_decode::{ConditionCode, InstDecoder, Opcode, Operand, Segment, Slot};
+use x86_decode::{ConditionCode, InstDecoder, Instruction, Opcode, Operand, Segment, Slot};
 
 fn condition(bytes: &[u8]) -> Option<ConditionCode> {
     match InstDecoder::default().decode_slice(bytes) {
@@ -15,6 +15,10 @@ fn conditions(rt: HostRuntime) {
     assert!(rt; condition(&[0x0f, 0x96, 0xc0]) == Some(ConditionCode::BE));
     assert!(rt; condition(&[0x0f, 0x46, 0xc0]) == Some(ConditionCode::BE));
     assert!(rt; condition(&[0x89, 0xc0]).is_none());
+}
+
+#[test]
+fn kinds_of_conditional_operations(rt: HostRuntime) {
     assert!(rt; Opcode::JNB.is_jcc() && !Opcode::JNB.is_setcc());
 }
 
@@ -67,17 +71,19 @@ fn the_store_of_stos_goes_by_es(rt: HostRuntime) {
     assert!(rt; goes_by_es(&[0x64, 0xab]));
 }
 
+/// Whether an instruction has what `01 d8` has: two operands, the first of rm, and two bytes.
+fn is_sum(sum: &Instruction) -> bool {
+    sum.operand_count() == 2
+        && sum.slot(0) == Slot::Rm
+        && sum.operand(3) == Operand::Nothing
+        && !sum.operand_present(3)
+        && sum.len() == AddressDiff::from_const(2)
+}
+
 #[test]
 fn operands_by_their_index(rt: HostRuntime) {
     let added = InstDecoder::default().decode_slice(&[0x01, 0xd8]);
-    assert!(rt; added.is_ok());
-    if let Ok(instruction) = added {
-        assert!(rt; instruction.operand_count() == 2);
-        assert!(rt; instruction.slot(0) == Slot::Rm);
-        assert!(rt; instruction.operand(3) == Operand::Nothing);
-        assert!(rt; !instruction.operand_present(3));
-        assert!(rt; instruction.len() == AddressDiff::from_const(2));
-    }
+    assert!(rt; matches!(added, Ok(sum) if is_sum(&sum)));
 }
 
 #[test]

@@ -87,22 +87,28 @@ fn operand_of<A: Arch>(operand: A::Operand) -> A::Operand {
     operand
 }
 
+/// Whether an instruction adds to rax.
+fn adds_to_rax(inst: &Instruction) -> bool {
+    let rax = Operand::Register {
+        reg: RegSpec::rax(),
+    };
+    inst.opcode() == Opcode::ADD && operand_of::<x86_decode::Arch>(inst.operand(0)) == rax
+}
+
+/// The operation that is read into an instruction.
+fn read_opcode(inst: &mut Instruction, words: &mut U8Reader<'_>) -> Result<Opcode, DecodeError> {
+    read_into::<x86_decode::Arch, U8Reader>(&InstDecoder::default(), inst, words)?;
+    Ok(inst.opcode())
+}
+
 #[test]
 fn instructions_of_x86_through_the_bounds(rt: HostRuntime) {
     let decoder = InstDecoder::default();
     let mut words = U8Reader::new(&[0x48, 0x01, 0xd8, 0x90, 0xfe, 0xd0]);
     let added = first::<x86_decode::Arch, InstDecoder, U8Reader>(&decoder, &mut words);
-    assert!(rt; added.is_ok());
     let mut inst = added.unwrap_or(Instruction::invalid());
-    assert!(rt; inst.opcode() == Opcode::ADD);
-    let operand = operand_of::<x86_decode::Arch>(inst.operand(0));
-    let rax = Operand::Register {
-        reg: RegSpec::rax(),
-    };
-    assert!(rt; operand == rax);
-    assert!(rt; read_into::<x86_decode::Arch, U8Reader>(&decoder, &mut inst, &mut words).is_ok());
-    assert!(rt; inst.opcode() == Opcode::NOP);
-    let refused = read_into::<x86_decode::Arch, U8Reader>(&decoder, &mut inst, &mut words);
-    assert!(rt; refused == Err(DecodeError::InvalidOpcode));
+    assert!(rt; adds_to_rax(&inst));
+    assert!(rt; read_opcode(&mut inst, &mut words) == Ok(Opcode::NOP));
+    assert!(rt; read_opcode(&mut inst, &mut words) == Err(DecodeError::InvalidOpcode));
     assert!(rt; inst == Instruction::invalid());
 }

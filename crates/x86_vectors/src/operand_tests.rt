@@ -147,30 +147,31 @@ fn raw_address(prefixes: &Prefixes, modrm: u8, bytes: &[u8], regs: &RegFile) -> 
     }
 }
 
-#[test]
-fn addresses_by_hand(rt: HostRuntime) {
+/// Registers of which few aren't 0.
+fn few_registers() -> RegFile {
     let mut regs = [0; 16];
     regs[1] = 0x1000;
     regs[4] = 0x2000;
     regs[12] = 0x0fff_ffff_ffff_ffff;
     regs[13] = 7;
-    let regs = RegFile { regs };
-    let cases: [(&[u8], u8, &[u8], u64); 7] = [
-        (
-            &[],
-            0x04,
-            &[0x25, 0x00, 0x00, 0x00, 0x80],
-            0xffff_ffff_8000_0000,
-        ),
-        (&[0x67], 0x04, &[0x25, 0x00, 0x00, 0x00, 0x80], 0x8000_0000),
-        (&[], 0x04, &[0x8d, 0x10, 0x00, 0x00, 0x00], 0x4010),
-        (&[], 0x05, &[0x00, 0x00, 0x00, 0x00], 0x40_0000),
-        (&[0x67], 0x05, &[0x01, 0x00, 0x00, 0x00], 0x40_0001),
-        (&[0x43], 0x44, &[0x25, 0x00], 0x1000_0000_0000_0006),
-        (&[0x41], 0x04, &[0x24], 0x0fff_ffff_ffff_ffff),
-    ];
-    for (run, modrm, bytes, sum) in cases {
-        let address = raw_address(&reading_of(run), modrm, bytes, &regs);
-        assert!(rt; address == Some(sum));
+    RegFile { regs }
+}
+
+/// The run of prefixes, ModRM, what is after it, and the address.
+const ADDRESSES: &[(&[u8], u8, &[u8], u64)] = &[
+    (&[], 0x04, &[0x25, 0, 0, 0, 0x80], 0xffff_ffff_8000_0000),
+    (&[0x67], 0x04, &[0x25, 0, 0, 0, 0x80], 0x8000_0000),
+    (&[], 0x04, &[0x8d, 0x10, 0, 0, 0], 0x4010),
+    (&[], 0x05, &[0, 0, 0, 0], 0x40_0000),
+    (&[0x67], 0x05, &[0x01, 0, 0, 0], 0x40_0001),
+    (&[0x43], 0x44, &[0x25, 0], 0x1000_0000_0000_0006),
+    (&[0x41], 0x04, &[0x24], 0x0fff_ffff_ffff_ffff),
+];
+
+#[test]
+fn addresses_by_hand(rt: HostRuntime) {
+    let regs = few_registers();
+    for (run, modrm, bytes, sum) in ADDRESSES {
+        assert!(rt; raw_address(&reading_of(run), *modrm, bytes, &regs) == Some(*sum));
     }
 }

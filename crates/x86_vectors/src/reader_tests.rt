@@ -23,16 +23,21 @@ fn split_input(rt: HostRuntime) {
     }
 }
 
+/// Whether the next three bytes are these, and so many are taken since the mark and since the beginning.
+fn reads_three(reader: &mut ChunkReader<'_>, wanted: [u8; 3], since: u64, total: u64) -> bool {
+    let mut buf = [0; 3];
+    reader.next_n(&mut buf).is_ok()
+        && buf == wanted
+        && reader.offset() == since
+        && reader.total_offset() == total
+}
+
 #[test]
 fn a_number_lies_across_the_seam(rt: HostRuntime) {
     let mut reader = ChunkReader::new(&[1, 2], &[3, 4, 5]);
-    let mut buf = [0; 3];
     assert!(rt; reader.next() == Ok(1));
     reader.mark();
-    assert!(rt; reader.next_n(&mut buf).is_ok());
-    assert!(rt; buf == [2, 3, 4]);
-    assert!(rt; reader.offset() == 3);
-    assert!(rt; reader.total_offset() == 4);
+    assert!(rt; reads_three(&mut reader, [2, 3, 4], 3, 4));
     assert!(rt; reader.next() == Ok(5));
     assert!(rt; reader.next() == Err(ReadError::ExhaustedInput));
 }
