@@ -132,22 +132,30 @@ fn writers_that_fail(rt: HostRuntime) {
     assert!(&rt; ends_so(rt.alloc(), narrow, Status::WriteFault, 1));
 }
 
+/// Whether a sink over a writer takes a piece.
+fn takes<W: Write + Drop>(writer: W, piece: &[u8]) -> bool {
+    let mut sink = StdSink::new(writer);
+    sink.put(piece).is_ok() && sink.faults() == 0
+}
+
 #[test]
 fn a_long_piece(rt: HostRuntime) {
-    let long = [b'x'; 200];
     let mut written = [0; 200];
     let mut room: &mut [u8] = &mut written;
-    let mut sink = StdSink::new(&mut room);
-    assert!(&rt; sink.put(&long).is_ok() && sink.faults() == 0);
-    assert!(&rt; written == long);
+    assert!(&rt; takes(&mut room, &[b'x'; 200]));
+    assert!(&rt; written == [b'x'; 200]);
+}
+
+/// Whether all calls of a sink succeed where its writer has less room than the listing, and the flush fails.
+fn fails_at_its_flush(alloc: Global) -> bool {
+    let mut sink = StdSink::new(Gathered::new(NarrowWriter { room: 30 }));
+    let ended = ending(alloc, "list", &mut StdSource::new(TEXT), &mut sink);
+    ended == Ok(Status::Done) && sink.faults() == 0 && sink.into_writer().send_all().is_err()
 }
 
 #[test]
 fn a_flush_that_fails(rt: HostRuntime) {
-    let mut sink = StdSink::new(Gathered::new(NarrowWriter { room: 30 }));
-    let ended = ending(rt.alloc(), "list", &mut StdSource::new(TEXT), &mut sink);
-    assert!(&rt; ended == Ok(Status::Done) && sink.faults() == 0);
-    assert!(&rt; sink.into_writer().send_all().is_err());
+    assert!(&rt; fails_at_its_flush(rt.alloc()));
 }
 
 #[test]
