@@ -1,22 +1,27 @@
 -- The line of each form in the table of operand encodings.
-use Rattle.std.proofs.Common.{◌≡◌, ◌<◌, ◌+◌, ℕ, Bool, true, false, not, ltb, ◌||◌, ◌&&◌, List, [], ◌∷◌, length, zero, suc, rules, get_or, refl, sym, ap, subst, arith}
+use Rattle.std.proofs.Common.{◌≡◌, ◌<◌, ◌+◌, ℕ, Bool, true, false, not, if◌then◌else◌, ltb, ◌||◌, ◌&&◌, List, [], ◌∷◌, length, zero, suc, rules, get_or, refl, sym, ap, subst, ◌∙◌, arith}
 use Rattle.std.proofs.lemmas.Bool.{and_parts, ltb-true}
 use Rattle.x86_forms.specs.declared.Form.{Form}
 use Rattle.x86_forms.specs.declared.Form.TheVariants as form
 use Rattle.x86_forms.specs.Ordinals.{first_ordinal_of, ordinal_of}
 use Rattle.x86_forms.specs.Words.{IsForm, carried}
 use Rattle.x86_forms.proofs.FormLemmas.{up_to_seven}
+use denote.Enum.Bare.{sameb, same_true}
 use Rattle.x86_fields.specs.declared.prefixes.Prefixes.{Prefixes}
+use Rattle.x86_fields.specs.ModRM.{is_memory}
 use Rattle.x86_plans.specs.declared.encodings.AfterOpcode.{AfterOpcode}
 use Rattle.x86_plans.specs.declared.encodings.AfterOpcode.TheVariants as after_opcode
 use Rattle.x86_plans.specs.declared.encodings.FormEncoding.{FormEncoding}
+use Rattle.x86_plans.specs.declared.encodings.Size.{Size}
+use Rattle.x86_plans.specs.contracts.encodings.Size.{the_type}
+use Rattle.x86_plans.specs.declared.plans.Plan.{Plan}
 use Rattle.x86_fields.specs.declared.sizes.Width.{Width}
 use Rattle.x86_fields.specs.declared.sizes.Width.TheVariants as width
 use Rattle.x86_operands.specs.declared.form_encodings.TheConstants.{ENCODINGS}
-use Rattle.x86_operands.specs.FormEncodings.{Belongs, Describes, HasSeparatePlan}
-use Rattle.x86_plans.specs.Encodings.{encodings_in, is_sound, last_encoding, plan_of, reg_encoding, restricted_plan, rm_encoding, size_at, size_bytes, use_of}
+use Rattle.x86_operands.specs.FormEncodings.{Belongs, Describes, HasSeparatePlan, separate_plan}
+use Rattle.x86_plans.specs.Encodings.{encodings_in, is_described, is_sound, last_encoding, plan_of, reg_encoding, restricted_plan, rm_encoding, size_at, size_bytes, use_of}
 use Rattle.x86_plans.specs.Plans.{reads}
-use Rattle.x86_operands.specs.Forms.{modrm_use}
+use Rattle.x86_operands.specs.Forms.{form_plan, modrm_use}
 
 pub record IsLine (e : FormEncoding) (f : Form) : Type 0 where
   pub describes : Describes e f
@@ -25,12 +30,42 @@ pub record IsLine (e : FormEncoding) (f : Form) : Type 0 where
   pub sound : is_sound e ≡ true
   pub usage : modrm_use f ≡ use_of e.after_opcode
 
+-- ---- the plan of a form, by its line
+
+-- the bytes of a line's sizes, with no test of ModRM where both are the same
+abbrev bytes_by : Bool → Size → Size → ℕ → Prefixes → ℕ
+bytes_by memory x y o p = if sameb the_type x y then size_bytes x o p else (if memory then size_bytes x o p else size_bytes y o p)
+
+bytes_are : (memory : Bool) (x y : Size) (o : ℕ) (p : Prefixes) → size_bytes (if memory then x else y) o p ≡ bytes_by memory x y o p
+bytes_are memory x y o p = by memory (sameb the_type x y) refl
+  where
+    by : (memory same : Bool) → sameb the_type x y ≡ same → size_bytes (if memory then x else y) o p ≡ (if same then size_bytes x o p else (if memory then size_bytes x o p else size_bytes y o p))
+    by false true e = ap (λ z. size_bytes z o p) (sym (same_true the_type tt x y e))
+    by true true e = refl
+    by memory same e = refl
+
+abbrev plan_with : FormEncoding → Form → ℕ → Prefixes → ℕ → ℕ → Plan
+plan_with e f o p m size = restricted_plan e.after_opcode m (reads o (encodings_in e.order (reg_encoding e.after_opcode e.reg (carried f) p) (rm_encoding e.after_opcode e.rm p) (last_encoding e.last p)) size)
+
+-- as the line describes it, or else the separate plan: at each form of the table this computes to the form's plan
+abbrev plan_by : FormEncoding → Form → ℕ → Prefixes → ℕ → Plan
+plan_by e f o p m = if is_described e.after_opcode then plan_with e f o p m (bytes_by (is_memory m) e.in_memory e.in_register o p) else separate_plan f o p m
+
+line_by : (e : FormEncoding) (f : Form) → ((o m : ℕ) (p : Prefixes) → plan_by e f o p m ≡ form_plan f o p m) → Belongs e.after_opcode f → is_sound e ≡ true → modrm_use f ≡ use_of e.after_opcode → IsLine e f
+line_by e f same group sound usage = record {
+  describes = λ is o m p. ap (plan_with e f o p m) (bytes_are (is_memory m) e.in_memory e.in_register o p) ∙ rw is at (same o m p);
+  separate = λ is o m p. sym (rw is at (same o m p));
+  group = group;
+  sound = sound;
+  usage = usage;
+}
+
 abbrev pub IsLineAt : ℕ → Form → Type 0
 IsLineAt n f = (d : FormEncoding) → IsLine (get_or ENCODINGS.now n d) f
 
 pub first_line : (f : Form) → IsLineAt (first_ordinal_of f + 1) f
-first_line (form.Zv_R n) d = record { describes = search rules; separate = search rules; group = search rules; sound = refl; usage = refl }
-first_line _ d = record { describes = search rules; separate = search rules; group = search rules; sound = refl; usage = refl }
+first_line (form.Zv_R n) d = line_by _ _ (λ o m p. refl) (search rules) refl refl
+first_line _ d = line_by _ _ (λ o m p. refl) (search rules) refl refl
 
 abbrev HasLine : Form → Type 0
 HasLine f = (1 + ordinal_of f < 199) × ((d : FormEncoding) → get_or ENCODINGS.now (first_ordinal_of f + 1) d ≡ get_or ENCODINGS.now (1 + ordinal_of f) d)
