@@ -181,7 +181,8 @@ fn walk_within<W: Words, T: ReadIf>(
 /// alone, these are taken too.
 fn error_within<T: Reader<u64, u8>>(error: DecodeError, reader: &mut T, allowed: u8) -> DecodeError
     requires { allowed ≤ 15 }
-    ensures { outcome (Err result) (T.state reader.new) ≡ limit_step error allowed (T.state reader.old) }
+    ensures { outcome (Err result) (T.state reader.new)
+        ≡ limit_step error allowed (T.state reader.old) }
 {
     match error {
         DecodeError::ExhaustedInput if takes_rest(reader, allowed) => DecodeError::TooLong,

@@ -25,5 +25,8 @@ returns-in_err-read_body-in_default g c =
     rw r record { ready = tt; read = λ strict. c.in_err-read_body-in_default.ensures.read strict ∙ within (rows_of (g.W.Words.word c.args.rows.now)) strict c.in_ok-byte.byte c.read_head.new.prefixes _ _ c.in_ok-byte.ensures (no_prefix c.in_ok-byte.byte _ c.lead_of.ensures c.in_default.not-Legacy c.in_default.not-Rex) }
 
 pub returns-in_ok-read_body-in_default : goal.returns-in_ok-read_body-in_default
-returns-in_ok-read_body-in_default g c = record { ready = c.in_ok-read_body-in_default.ensures.ready; read = λ strict. c.in_ok-read_body-in_default.ensures.read strict
-    ∙ within (rows_of (g.W.Words.word c.args.rows.now)) strict c.in_ok-byte.byte c.read_head.new.prefixes _ _ c.in_ok-byte.ensures (no_prefix c.in_ok-byte.byte _ c.lead_of.ensures c.in_default.not-Legacy c.in_default.not-Rex) }
+returns-in_ok-read_body-in_default g c = record {
+  ready = c.in_ok-read_body-in_default.ensures.ready;
+  read = λ strict. c.in_ok-read_body-in_default.ensures.read strict
+      ∙ within (rows_of (g.W.Words.word c.args.rows.now)) strict c.in_ok-byte.byte c.read_head.new.prefixes _ _ c.in_ok-byte.ensures (no_prefix c.in_ok-byte.byte _ c.lead_of.ensures c.in_default.not-Legacy c.in_default.not-Rex);
+}
