@@ -142,12 +142,11 @@ fn vex_refusal(prefixes: &Prefixes) -> DecodeError
 fn read_escaped<T: Reader<u64, u8>>(reader: &mut T) -> Result<(Map, u8), DecodeError>
     ensures { outcome result (T.state reader.new) ≡ escape_step (T.state reader.old) }
 {
-    let map = match reader.next()? {
-        0x38 => Map::Of38,
-        0x3a => Map::Of3a,
-        opcode => return Ok((Map::Of, opcode)),
-    };
-    Ok((map, reader.next()?))
+    match reader.next()? {
+        0x38 => Ok((Map::Of38, reader.next()?)),
+        0x3a => Ok((Map::Of3a, reader.next()?)),
+        opcode => Ok((Map::Of, opcode)),
+    }
 }
 
 /// The column of the opcode tables after a run that reads so.
