@@ -13,15 +13,17 @@ fn runs(alloc: Global, command: &str, text: &str, fails: &[u64], wanted: &str) -
     shows(alloc, sink.written(), ended, wanted)
 }
 
-/// Whether this is so of a run, at whichever of these calls its source fails.
-fn is_run(alloc: Global, command: &str, text: &str, calls: &str, wanted: &str) -> bool {
+/// Whether this is so of a run, at whichever of these calls its source fails: `-` is no call.
+fn is_run(alloc: Global, command: &str, text: &str, calls: &str, wanted: &str) -> Option<bool> {
+    if calls == "-" {
+        return Some(runs(alloc, command, text, &[], wanted));
+    }
     for call in calls.split(" ") {
-        let call = call.parse::<u64>().unwrap_or(u64::MAX);
-        if !runs(alloc, command, text, &[call], wanted) {
-            return false;
+        if !runs(alloc, command, text, &[call.parse().ok()?], wanted) {
+            return Some(false);
         }
     }
-    true
+    Some(true)
 }
 
 /// Whether a line of a table is so.
@@ -29,7 +31,7 @@ fn is_worked(alloc: Global, row: &str) -> Option<bool> {
     let (given, wanted) = row.split_once(" => ")?;
     let (run, calls) = given.rsplit_once(" | ")?;
     let (command, text) = run.split_once(" | ")?;
-    Some(is_run(alloc, command, text, calls, wanted))
+    is_run(alloc, command, text, calls, wanted)
 }
 
 #[test]
