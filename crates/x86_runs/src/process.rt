@@ -34,6 +34,7 @@ fn nothing_is_written_at_other_statuses(rt: HostRuntime) {
         (Status::BadText, 4),
         (Status::ReadFault, 5),
         (Status::WriteFault, 6),
+        (Status::TooLarge, 7),
     ];
     for (status, code) in codes {
         assert!(&rt; finishes(rt.alloc(), status, code, ""));
