@@ -30,6 +30,7 @@ MAPS = ["One", "Of", "Of38", "Of3a"]
 COLUMNS = ["Plain", "P66", "F3", "F2"]
 UNDECIDED = 63  # the size that means one that the processor decides
 CARRIED = 8  # how many numbers a form with a field can carry
+PART = 128  # how many spellings a table has: a proof over a table of texts takes time by the square of its length
 NOTE = ["Written by tools/tables.py from {}.", "The proof doesn't rest on that script: a wrong entry is refused."]
 
 
@@ -131,8 +132,12 @@ def names_rt():
     lines += ["", "/// How many names there are, `Invalid` among them.", f"pub(crate) const OPCODES: u16 = {count};"]
     lines += ["", "/// The numbers of the constants, each by its name.", f"pub(crate) const NUMBERS: &[u16; {count}] = &["]
     lines += [f"    Opcode::{name}.number," for name in names()] + ["];", ""]
-    lines += ["/// The spellings in the order of the numbers.", f"pub(crate) const MNEMONICS: [&str; {count}] = ["]
-    return lines + [f'    "{spelling}",' for _, spelling in spellings()] + ["];"]
+    lines += ["/// How many spellings a table has. The last one has what is left.", f"pub(crate) const PART: u16 = {PART};", ""]
+    for part in range(0, count, PART):
+        texts = [spelling for _, spelling in spellings()[part : part + PART]]
+        lines += [f"/// The spellings of the numbers from {part} on.", f"pub(crate) const MNEMONICS_{part // PART}: [&str; {len(texts)}] = ["]
+        lines += [f'    "{text}", // {number}' for number, text in enumerate(texts, part)] + ["];", ""]
+    return lines[:-1]
 
 
 def ordinals_antt():

@@ -1,6 +1,7 @@
 -- The list of the names: its order, and how long each is.
-use Rattle.std.proofs.Common.{◌≡◌, ℕ, ◌+◌, ◌<◌, Bool, true, eqb, List, [], ◌∷◌, length, map, get_or, ◌&&◌, zero, suc, ◌≤◌, leb, ltb, Some, slice_get, sym, ap, ◌∙◌, arith}
+use Rattle.std.proofs.Common.{◌≡◌, ℕ, ◌+◌, ◌*◌, ◌/◌, ◌%◌, ◌<◌, Bool, true, eqb, List, [], ◌∷◌, length, map, get_or, take, drop, ◌&&◌, zero, suc, ◌≤◌, leb, ltb, Some, slice_get, sym, ap, ◌∙◌, arith}
 use Rattle.x86_opcodes.specs.Mnemonics.{Named, spelled_in}
+use Rattle.std.proofs.lemmas.List.{get_or-take, get_or-drop, length-take, length-drop}
 use Rattle.std.proofs.lemmas.Bool.{and_parts, eqb-true, eq-eqb, ne_eqb, cond-true, cond-false, cond_both, leb-true, ltb-true}
 
 -- the records are in the order of their numbers, from k on
@@ -55,3 +56,16 @@ pub long : (ns : List Named) (n : ℕ) → all_named ns ≡ true → n < length 
 long [] n e h = absurd (omega arith)
 long (r ∷ ns) zero e h = ltb-true 0 (length r.spelled) (and_parts (ltb 0 (length r.spelled)) (all_named ns) e).0
 long (r ∷ ns) (suc n) e h = long ns n (and_parts (ltb 0 (length r.spelled)) (all_named ns) e).1 (omega arith)
+
+-- a text of the part of a number is the text with that number
+pub in_part : (texts part : List (List ℕ)) (n : ℕ) (text : List ℕ) → part ≡ take 128 (drop (128 * (n / 128)) texts) → text ≡ get_or part (n % 128) [] → text ≡ get_or texts n []
+in_part texts part n text is_part at =
+    let number : 128 * (n / 128) + n % 128 ≡ n = omega arith in
+    at
+    ∙ ap (λ (p : List (List ℕ)). get_or p (n % 128) []) is_part
+    ∙ get_or-take 128 (drop (128 * (n / 128)) texts) (n % 128) [] (omega arith)
+    ∙ get_or-drop (128 * (n / 128)) texts (n % 128) []
+    ∙ ap (λ k. get_or texts k []) number
+
+pub within_part : (texts : List (List ℕ)) (n : ℕ) → n < length texts → n % 128 < length (take 128 (drop (128 * (n / 128)) texts))
+within_part texts n below = simp (length-take, length-drop) (omega arith)

@@ -2086,697 +2086,720 @@ pub(crate) const NUMBERS: &[u16; 691] = &[
     Opcode::XTEST.number,
 ];
 
-/// The spellings in the order of the numbers.
-pub(crate) const MNEMONICS: [&str; 691] = [
-    "Invalid",
-    "ADD",
-    "OR",
-    "ADC",
-    "SBB",
-    "AND",
-    "SUB",
-    "XOR",
-    "CMP",
-    "PUSH",
-    "POP",
-    "MOVSXD",
-    "IMUL",
-    "INS",
-    "OUTS",
-    "JO",
-    "JNO",
-    "JB",
-    "JNB",
-    "JZ",
-    "JNZ",
-    "JNA",
-    "JA",
-    "JS",
-    "JNS",
-    "JP",
-    "JNP",
-    "JL",
-    "JGE",
-    "JLE",
-    "JG",
-    "TEST",
-    "XCHG",
-    "MOV",
-    "LEA",
-    "WAIT",
-    "PUSHF",
-    "POPF",
-    "SAHF",
-    "LAHF",
-    "MOVS",
-    "CMPS",
-    "STOS",
-    "LODS",
-    "SCAS",
-    "RETURN",
-    "ENTER",
-    "LEAVE",
-    "RETF",
-    "INT",
-    "XLAT",
-    "LOOPNZ",
-    "LOOPZ",
-    "LOOP",
-    "JMP",
-    "JRCXZ",
-    "IN",
-    "OUT",
-    "CALL",
-    "HLT",
-    "CMC",
-    "CLC",
-    "STC",
-    "CLI",
-    "STI",
-    "CLD",
-    "STD",
-    "LAR",
-    "LSL",
-    "SYSCALL",
-    "CLTS",
-    "SYSRET",
-    "INVD",
-    "WBINVD",
-    "UD2",
-    "FEMMS",
-    "NOP",
-    "WRMSR",
-    "RDTSC",
-    "RDMSR",
-    "RDPMC",
-    "SYSENTER",
-    "SYSEXIT",
-    "GETSEC",
-    "CMOVO",
-    "CMOVNO",
-    "CMOVB",
-    "CMOVNB",
-    "CMOVZ",
-    "CMOVNZ",
-    "CMOVNA",
-    "CMOVA",
-    "CMOVS",
-    "CMOVNS",
-    "CMOVP",
-    "CMOVNP",
-    "CMOVL",
-    "CMOVGE",
-    "CMOVLE",
-    "CMOVG",
-    "SETO",
-    "SETNO",
-    "SETB",
-    "SETAE",
-    "SETZ",
-    "SETNZ",
-    "SETBE",
-    "SETA",
-    "SETS",
-    "SETNS",
-    "SETP",
-    "SETNP",
-    "SETL",
-    "SETGE",
-    "SETLE",
-    "SETG",
-    "CPUID",
-    "RSM",
-    "BT",
-    "BTS",
-    "BTR",
-    "BTC",
-    "SHLD",
-    "SHRD",
-    "UD1",
-    "CMPXCHG",
-    "XADD",
-    "LSS",
-    "LFS",
-    "LGS",
-    "MOVZX",
-    "MOVSX",
-    "BSF",
-    "BSR",
-    "BSWAP",
-    "UD0",
-    "PUNPCKLBW",
-    "PUNPCKLWD",
-    "PUNPCKLDQ",
-    "PACKSSWB",
-    "PCMPGTB",
-    "PCMPGTW",
-    "PCMPGTD",
-    "PACKUSWB",
-    "PUNPCKHBW",
-    "PUNPCKHWD",
-    "PUNPCKHDQ",
-    "PACKSSDW",
-    "PCMPEQB",
-    "PCMPEQW",
-    "PCMPEQD",
-    "PSRLW",
-    "PSRLD",
-    "PSRLQ",
-    "PADDQ",
-    "PMULLW",
-    "PSUBUSB",
-    "PSUBUSW",
-    "PMINUB",
-    "PAND",
-    "PADDUSB",
-    "PADDUSW",
-    "PMAXUB",
-    "PANDN",
-    "PAVGB",
-    "PSRAW",
-    "PSRAD",
-    "PAVGW",
-    "PMULHUW",
-    "PMULHW",
-    "PSUBSB",
-    "PSUBSW",
-    "PMINSW",
-    "POR",
-    "PADDSB",
-    "PADDSW",
-    "PMAXSW",
-    "PXOR",
-    "PSLLW",
-    "PSLLD",
-    "PSLLQ",
-    "PMULUDQ",
-    "PMADDWD",
-    "PSADBW",
-    "PSUBB",
-    "PSUBW",
-    "PSUBD",
-    "PSUBQ",
-    "PADDB",
-    "PADDW",
-    "PADDD",
-    "MOVUPS",
-    "UNPCKLPS",
-    "UNPCKHPS",
-    "MOVAPS",
-    "MOVLPS",
-    "MOVHPS",
-    "MOVNTPS",
-    "CVTPI2PS",
-    "CVTTPS2PI",
-    "CVTPS2PI",
-    "UCOMISS",
-    "COMISS",
-    "CVTPS2PD",
-    "MOVMSKPS",
-    "SQRTPS",
-    "RSQRTPS",
-    "RCPPS",
-    "ANDPS",
-    "ANDNPS",
-    "ORPS",
-    "XORPS",
-    "ADDPS",
-    "MULPS",
-    "CVTDQ2PS",
-    "SUBPS",
-    "MINPS",
-    "DIVPS",
-    "MAXPS",
-    "MOVD",
-    "MOVQ",
-    "PSHUFW",
-    "EMMS",
-    "VMREAD",
-    "VMWRITE",
-    "CMPPS",
-    "SHUFPS",
-    "MOVNTI",
-    "PINSRW",
-    "PEXTRW",
-    "PMOVMSKB",
-    "MOVNTQ",
-    "MASKMOVQ",
-    "MOVUPD",
-    "UNPCKLPD",
-    "UNPCKHPD",
-    "MOVAPD",
-    "MOVLPD",
-    "MOVHPD",
-    "UCOMISD",
-    "COMISD",
-    "MOVNTPD",
-    "MOVNTDQ",
-    "CVTPI2PD",
-    "CVTTPD2PI",
-    "CVTPD2PI",
-    "MOVMSKPD",
-    "SQRTPD",
-    "ANDPD",
-    "ANDNPD",
-    "ORPD",
-    "XORPD",
-    "ADDPD",
-    "MULPD",
-    "CVTPD2PS",
-    "CVTPS2DQ",
-    "SUBPD",
-    "MINPD",
-    "DIVPD",
-    "MAXPD",
-    "PUNPCKLQDQ",
-    "PUNPCKHQDQ",
-    "MOVDQA",
-    "HADDPD",
-    "HSUBPD",
-    "ADDSUBPD",
-    "CVTTPD2DQ",
-    "PSHUFD",
-    "CMPPD",
-    "SHUFPD",
-    "EXTRQ",
-    "MASKMOVDQU",
-    "MOVSS",
-    "SQRTSS",
-    "RSQRTSS",
-    "RCPSS",
-    "ADDSS",
-    "MULSS",
-    "SUBSS",
-    "MINSS",
-    "DIVSS",
-    "MAXSS",
-    "MOVSLDUP",
-    "MOVSHDUP",
-    "CVTTPS2DQ",
-    "MOVDQU",
-    "CVTSI2SS",
-    "MOVNTSS",
-    "CVTTSS2SI",
-    "CVTSS2SI",
-    "CVTSS2SD",
-    "CVTDQ2PD",
-    "PSHUFHW",
-    "CMPSS",
-    "POPCNT",
-    "TZCNT",
-    "LZCNT",
-    "MOVQ2DQ",
-    "MOVSD",
-    "SQRTSD",
-    "ADDSD",
-    "MULSD",
-    "CVTSD2SS",
-    "SUBSD",
-    "MINSD",
-    "DIVSD",
-    "MAXSD",
-    "MOVDDUP",
-    "HADDPS",
-    "HSUBPS",
-    "ADDSUBPS",
-    "CVTPD2DQ",
-    "CVTSI2SD",
-    "MOVNTSD",
-    "CVTTSD2SI",
-    "CVTSD2SI",
-    "PSHUFLW",
-    "CMPSD",
-    "INSERTQ",
-    "MOVDQ2Q",
-    "LDDQU",
-    "PSHUFB",
-    "PHADDW",
-    "PHADDD",
-    "PHADDSW",
-    "PMADDUBSW",
-    "PHSUBW",
-    "PHSUBD",
-    "PHSUBSW",
-    "PSIGNB",
-    "PSIGNW",
-    "PSIGND",
-    "PMULHRSW",
-    "PABSB",
-    "PABSW",
-    "PABSD",
-    "MOVBE",
-    "SHA1NEXTE",
-    "SHA1MSG1",
-    "SHA1MSG2",
-    "SHA256RNDS2",
-    "SHA256MSG1",
-    "SHA256MSG2",
-    "WRSS",
-    "MOVDIRI",
-    "PBLENDVB",
-    "BLENDVPS",
-    "BLENDVPD",
-    "PTEST",
-    "PMULDQ",
-    "PCMPEQQ",
-    "PACKUSDW",
-    "PCMPGTQ",
-    "PMINSB",
-    "PMINSD",
-    "PMINUW",
-    "PMINUD",
-    "PMAXSB",
-    "PMAXSD",
-    "PMAXUW",
-    "PMAXUD",
-    "PMULLD",
-    "PHMINPOSUW",
-    "GF2P8MULB",
-    "AESIMC",
-    "AESENC",
-    "AESENCLAST",
-    "AESDEC",
-    "AESDECLAST",
-    "PMOVSXBW",
-    "PMOVSXBD",
-    "PMOVSXBQ",
-    "PMOVSXWD",
-    "PMOVSXWQ",
-    "PMOVSXDQ",
-    "PMOVZXBW",
-    "PMOVZXBD",
-    "PMOVZXBQ",
-    "PMOVZXWD",
-    "PMOVZXWQ",
-    "PMOVZXDQ",
-    "MOVNTDQA",
-    "INVEPT",
-    "INVVPID",
-    "INVPCID",
-    "WRUSS",
-    "ADCX",
-    "MOVDIR64B",
-    "ADOX",
-    "ENQCMDS",
-    "CRC32",
-    "ENQCMD",
-    "PALIGNR",
-    "SHA1RNDS4",
-    "ROUNDPS",
-    "ROUNDPD",
-    "ROUNDSS",
-    "ROUNDSD",
-    "BLENDPS",
-    "BLENDPD",
-    "PBLENDW",
-    "DPPS",
-    "DPPD",
-    "MPSADBW",
-    "PCLMULQDQ",
-    "PCMPESTRM",
-    "PCMPESTRI",
-    "PCMPISTRM",
-    "PCMPISTRI",
-    "PEXTRB",
-    "EXTRACTPS",
-    "PEXTRD",
-    "PINSRB",
-    "INSERTPS",
-    "PINSRD",
-    "GF2P8AFFINEQB",
-    "GF2P8AFFINEINVQB",
-    "AESKEYGENASSIST",
-    "AESDEC128KL",
-    "AESDEC256KL",
-    "AESDECWIDE128KL",
-    "AESDECWIDE256KL",
-    "AESENC128KL",
-    "AESENC256KL",
-    "AESENCWIDE128KL",
-    "AESENCWIDE256KL",
-    "CALLF",
-    "CBW",
-    "CDQ",
-    "CDQE",
-    "CLAC",
-    "CLFLUSH",
-    "CLFLUSHOPT",
-    "CLGI",
-    "CLRSSBSY",
-    "CLUI",
-    "CLWB",
-    "CLZERO",
-    "CMPXCHG16B",
-    "CMPXCHG8B",
-    "CQO",
-    "CWD",
-    "CWDE",
-    "DEC",
-    "DIV",
-    "ENCLS",
-    "ENCLU",
-    "ENCLV",
-    "ENCODEKEY128",
-    "ENCODEKEY256",
-    "ENDBR32",
-    "ENDBR64",
-    "F2XM1",
-    "FABS",
-    "FADD",
-    "FADDP",
-    "FBLD",
-    "FBSTP",
-    "FCHS",
-    "FCMOVB",
-    "FCMOVBE",
-    "FCMOVE",
-    "FCMOVNB",
-    "FCMOVNBE",
-    "FCMOVNE",
-    "FCMOVNU",
-    "FCMOVU",
-    "FCOM",
-    "FCOMI",
-    "FCOMIP",
-    "FCOMP",
-    "FCOMPP",
-    "FCOS",
-    "FDECSTP",
-    "FDISI8087_NOP",
-    "FDIV",
-    "FDIVP",
-    "FDIVR",
-    "FDIVRP",
-    "FENI8087_NOP",
-    "FFREE",
-    "FFREEP",
-    "FIADD",
-    "FICOM",
-    "FICOMP",
-    "FIDIV",
-    "FIDIVR",
-    "FILD",
-    "FIMUL",
-    "FINCSTP",
-    "FIST",
-    "FISTP",
-    "FISTTP",
-    "FISUB",
-    "FISUBR",
-    "FLD",
-    "FLD1",
-    "FLDCW",
-    "FLDENV",
-    "FLDL2E",
-    "FLDL2T",
-    "FLDLG2",
-    "FLDLN2",
-    "FLDPI",
-    "FLDZ",
-    "FMUL",
-    "FMULP",
-    "FNCLEX",
-    "FNINIT",
-    "FNOP",
-    "FNSAVE",
-    "FNSTCW",
-    "FNSTENV",
-    "FNSTSW",
-    "FPATAN",
-    "FPREM",
-    "FPREM1",
-    "FPTAN",
-    "FRNDINT",
-    "FRSTOR",
-    "FSCALE",
-    "FSETPM287_NOP",
-    "FSIN",
-    "FSINCOS",
-    "FSQRT",
-    "FST",
-    "FSTP",
-    "FSTPNCE",
-    "FSUB",
-    "FSUBP",
-    "FSUBR",
-    "FSUBRP",
-    "FTST",
-    "FUCOM",
-    "FUCOMI",
-    "FUCOMIP",
-    "FUCOMP",
-    "FUCOMPP",
-    "FXAM",
-    "FXCH",
-    "FXRSTOR",
-    "FXSAVE",
-    "FXTRACT",
-    "FYL2X",
-    "FYL2XP1",
-    "HRESET",
-    "IDIV",
-    "INC",
-    "INCSSP",
-    "INVLPG",
-    "INVLPGA",
-    "INVLPGB",
-    "IRET",
-    "IRETD",
-    "IRETQ",
-    "JECXZ",
-    "JMPF",
-    "LDMXCSR",
-    "LFENCE",
-    "LGDT",
-    "LIDT",
-    "LLDT",
-    "LMSW",
-    "LOADIWKEY",
-    "LTR",
-    "MFENCE",
-    "MONITOR",
-    "MONITORX",
-    "MOVHLPS",
-    "MOVLHPS",
-    "MUL",
-    "MWAIT",
-    "MWAITX",
-    "NEG",
-    "NOT",
-    "PAVGUSB",
-    "PCONFIG",
-    "PEXTRQ",
-    "PF2ID",
-    "PF2IW",
-    "PFACC",
-    "PFADD",
-    "PFCMPEQ",
-    "PFCMPGE",
-    "PFCMPGT",
-    "PFMAX",
-    "PFMIN",
-    "PFMUL",
-    "PFNACC",
-    "PFPNACC",
-    "PFRCP",
-    "PFRCPIT1",
-    "PFRCPIT2",
-    "PFRSQIT1",
-    "PFRSQRT",
-    "PFSUB",
-    "PFSUBR",
-    "PI2FD",
-    "PI2FW",
-    "PINSRQ",
-    "PMULHRW",
-    "PREFETCH0",
-    "PREFETCH1",
-    "PREFETCH2",
-    "PREFETCHNTA",
-    "PREFETCHW",
-    "PSLLDQ",
-    "PSMASH",
-    "PSRLDQ",
-    "PSWAPD",
-    "PTWRITE",
-    "PVALIDATE",
-    "RCL",
-    "RCR",
-    "RDFSBASE",
-    "RDGSBASE",
-    "RDPID",
-    "RDPKRU",
-    "RDPRU",
-    "RDRAND",
-    "RDSEED",
-    "RDTSCP",
-    "RMPADJUST",
-    "RMPUPDATE",
-    "ROL",
-    "ROR",
-    "RSTORSSP",
-    "SAL",
-    "SAR",
-    "SAVEPREVSSP",
-    "SEAMCALL",
-    "SEAMOPS",
-    "SEAMRET",
-    "SENDUIPI",
-    "SETSSBSY",
-    "SFENCE",
-    "SGDT",
-    "SHL",
-    "SHR",
-    "SIDT",
-    "SKINIT",
-    "SLDT",
-    "SMSW",
-    "STAC",
-    "STGI",
-    "STMXCSR",
-    "STR",
-    "STUI",
-    "SWAPGS",
-    "TDCALL",
-    "TESTUI",
-    "TLBSYNC",
-    "TPAUSE",
-    "UIRET",
-    "UMONITOR",
-    "UMWAIT",
-    "VERR",
-    "VERW",
-    "VMCALL",
-    "VMCLEAR",
-    "VMFUNC",
-    "VMLAUNCH",
-    "VMLOAD",
-    "VMMCALL",
-    "VMPTRLD",
-    "VMPTRST",
-    "VMRESUME",
-    "VMRUN",
-    "VMSAVE",
-    "VMXOFF",
-    "VMXON",
-    "WRFSBASE",
-    "WRGSBASE",
-    "WRPKRU",
-    "XABORT",
-    "XBEGIN",
-    "XEND",
-    "XGETBV",
-    "XRESLDTRK",
-    "XRSTOR",
-    "XRSTORS",
-    "XRSTORS64",
-    "XSAVE",
-    "XSAVEC",
-    "XSAVEC64",
-    "XSAVEOPT",
-    "XSAVES",
-    "XSAVES64",
-    "XSETBV",
-    "XSUSLDTRK",
-    "XTEST",
+/// How many spellings a table has. The last one has what is left.
+pub(crate) const PART: u16 = 128;
+
+/// The spellings of the numbers from 0 on.
+pub(crate) const MNEMONICS_0: [&str; 128] = [
+    "Invalid", // 0
+    "ADD", // 1
+    "OR", // 2
+    "ADC", // 3
+    "SBB", // 4
+    "AND", // 5
+    "SUB", // 6
+    "XOR", // 7
+    "CMP", // 8
+    "PUSH", // 9
+    "POP", // 10
+    "MOVSXD", // 11
+    "IMUL", // 12
+    "INS", // 13
+    "OUTS", // 14
+    "JO", // 15
+    "JNO", // 16
+    "JB", // 17
+    "JNB", // 18
+    "JZ", // 19
+    "JNZ", // 20
+    "JNA", // 21
+    "JA", // 22
+    "JS", // 23
+    "JNS", // 24
+    "JP", // 25
+    "JNP", // 26
+    "JL", // 27
+    "JGE", // 28
+    "JLE", // 29
+    "JG", // 30
+    "TEST", // 31
+    "XCHG", // 32
+    "MOV", // 33
+    "LEA", // 34
+    "WAIT", // 35
+    "PUSHF", // 36
+    "POPF", // 37
+    "SAHF", // 38
+    "LAHF", // 39
+    "MOVS", // 40
+    "CMPS", // 41
+    "STOS", // 42
+    "LODS", // 43
+    "SCAS", // 44
+    "RETURN", // 45
+    "ENTER", // 46
+    "LEAVE", // 47
+    "RETF", // 48
+    "INT", // 49
+    "XLAT", // 50
+    "LOOPNZ", // 51
+    "LOOPZ", // 52
+    "LOOP", // 53
+    "JMP", // 54
+    "JRCXZ", // 55
+    "IN", // 56
+    "OUT", // 57
+    "CALL", // 58
+    "HLT", // 59
+    "CMC", // 60
+    "CLC", // 61
+    "STC", // 62
+    "CLI", // 63
+    "STI", // 64
+    "CLD", // 65
+    "STD", // 66
+    "LAR", // 67
+    "LSL", // 68
+    "SYSCALL", // 69
+    "CLTS", // 70
+    "SYSRET", // 71
+    "INVD", // 72
+    "WBINVD", // 73
+    "UD2", // 74
+    "FEMMS", // 75
+    "NOP", // 76
+    "WRMSR", // 77
+    "RDTSC", // 78
+    "RDMSR", // 79
+    "RDPMC", // 80
+    "SYSENTER", // 81
+    "SYSEXIT", // 82
+    "GETSEC", // 83
+    "CMOVO", // 84
+    "CMOVNO", // 85
+    "CMOVB", // 86
+    "CMOVNB", // 87
+    "CMOVZ", // 88
+    "CMOVNZ", // 89
+    "CMOVNA", // 90
+    "CMOVA", // 91
+    "CMOVS", // 92
+    "CMOVNS", // 93
+    "CMOVP", // 94
+    "CMOVNP", // 95
+    "CMOVL", // 96
+    "CMOVGE", // 97
+    "CMOVLE", // 98
+    "CMOVG", // 99
+    "SETO", // 100
+    "SETNO", // 101
+    "SETB", // 102
+    "SETAE", // 103
+    "SETZ", // 104
+    "SETNZ", // 105
+    "SETBE", // 106
+    "SETA", // 107
+    "SETS", // 108
+    "SETNS", // 109
+    "SETP", // 110
+    "SETNP", // 111
+    "SETL", // 112
+    "SETGE", // 113
+    "SETLE", // 114
+    "SETG", // 115
+    "CPUID", // 116
+    "RSM", // 117
+    "BT", // 118
+    "BTS", // 119
+    "BTR", // 120
+    "BTC", // 121
+    "SHLD", // 122
+    "SHRD", // 123
+    "UD1", // 124
+    "CMPXCHG", // 125
+    "XADD", // 126
+    "LSS", // 127
+];
+
+/// The spellings of the numbers from 128 on.
+pub(crate) const MNEMONICS_1: [&str; 128] = [
+    "LFS", // 128
+    "LGS", // 129
+    "MOVZX", // 130
+    "MOVSX", // 131
+    "BSF", // 132
+    "BSR", // 133
+    "BSWAP", // 134
+    "UD0", // 135
+    "PUNPCKLBW", // 136
+    "PUNPCKLWD", // 137
+    "PUNPCKLDQ", // 138
+    "PACKSSWB", // 139
+    "PCMPGTB", // 140
+    "PCMPGTW", // 141
+    "PCMPGTD", // 142
+    "PACKUSWB", // 143
+    "PUNPCKHBW", // 144
+    "PUNPCKHWD", // 145
+    "PUNPCKHDQ", // 146
+    "PACKSSDW", // 147
+    "PCMPEQB", // 148
+    "PCMPEQW", // 149
+    "PCMPEQD", // 150
+    "PSRLW", // 151
+    "PSRLD", // 152
+    "PSRLQ", // 153
+    "PADDQ", // 154
+    "PMULLW", // 155
+    "PSUBUSB", // 156
+    "PSUBUSW", // 157
+    "PMINUB", // 158
+    "PAND", // 159
+    "PADDUSB", // 160
+    "PADDUSW", // 161
+    "PMAXUB", // 162
+    "PANDN", // 163
+    "PAVGB", // 164
+    "PSRAW", // 165
+    "PSRAD", // 166
+    "PAVGW", // 167
+    "PMULHUW", // 168
+    "PMULHW", // 169
+    "PSUBSB", // 170
+    "PSUBSW", // 171
+    "PMINSW", // 172
+    "POR", // 173
+    "PADDSB", // 174
+    "PADDSW", // 175
+    "PMAXSW", // 176
+    "PXOR", // 177
+    "PSLLW", // 178
+    "PSLLD", // 179
+    "PSLLQ", // 180
+    "PMULUDQ", // 181
+    "PMADDWD", // 182
+    "PSADBW", // 183
+    "PSUBB", // 184
+    "PSUBW", // 185
+    "PSUBD", // 186
+    "PSUBQ", // 187
+    "PADDB", // 188
+    "PADDW", // 189
+    "PADDD", // 190
+    "MOVUPS", // 191
+    "UNPCKLPS", // 192
+    "UNPCKHPS", // 193
+    "MOVAPS", // 194
+    "MOVLPS", // 195
+    "MOVHPS", // 196
+    "MOVNTPS", // 197
+    "CVTPI2PS", // 198
+    "CVTTPS2PI", // 199
+    "CVTPS2PI", // 200
+    "UCOMISS", // 201
+    "COMISS", // 202
+    "CVTPS2PD", // 203
+    "MOVMSKPS", // 204
+    "SQRTPS", // 205
+    "RSQRTPS", // 206
+    "RCPPS", // 207
+    "ANDPS", // 208
+    "ANDNPS", // 209
+    "ORPS", // 210
+    "XORPS", // 211
+    "ADDPS", // 212
+    "MULPS", // 213
+    "CVTDQ2PS", // 214
+    "SUBPS", // 215
+    "MINPS", // 216
+    "DIVPS", // 217
+    "MAXPS", // 218
+    "MOVD", // 219
+    "MOVQ", // 220
+    "PSHUFW", // 221
+    "EMMS", // 222
+    "VMREAD", // 223
+    "VMWRITE", // 224
+    "CMPPS", // 225
+    "SHUFPS", // 226
+    "MOVNTI", // 227
+    "PINSRW", // 228
+    "PEXTRW", // 229
+    "PMOVMSKB", // 230
+    "MOVNTQ", // 231
+    "MASKMOVQ", // 232
+    "MOVUPD", // 233
+    "UNPCKLPD", // 234
+    "UNPCKHPD", // 235
+    "MOVAPD", // 236
+    "MOVLPD", // 237
+    "MOVHPD", // 238
+    "UCOMISD", // 239
+    "COMISD", // 240
+    "MOVNTPD", // 241
+    "MOVNTDQ", // 242
+    "CVTPI2PD", // 243
+    "CVTTPD2PI", // 244
+    "CVTPD2PI", // 245
+    "MOVMSKPD", // 246
+    "SQRTPD", // 247
+    "ANDPD", // 248
+    "ANDNPD", // 249
+    "ORPD", // 250
+    "XORPD", // 251
+    "ADDPD", // 252
+    "MULPD", // 253
+    "CVTPD2PS", // 254
+    "CVTPS2DQ", // 255
+];
+
+/// The spellings of the numbers from 256 on.
+pub(crate) const MNEMONICS_2: [&str; 128] = [
+    "SUBPD", // 256
+    "MINPD", // 257
+    "DIVPD", // 258
+    "MAXPD", // 259
+    "PUNPCKLQDQ", // 260
+    "PUNPCKHQDQ", // 261
+    "MOVDQA", // 262
+    "HADDPD", // 263
+    "HSUBPD", // 264
+    "ADDSUBPD", // 265
+    "CVTTPD2DQ", // 266
+    "PSHUFD", // 267
+    "CMPPD", // 268
+    "SHUFPD", // 269
+    "EXTRQ", // 270
+    "MASKMOVDQU", // 271
+    "MOVSS", // 272
+    "SQRTSS", // 273
+    "RSQRTSS", // 274
+    "RCPSS", // 275
+    "ADDSS", // 276
+    "MULSS", // 277
+    "SUBSS", // 278
+    "MINSS", // 279
+    "DIVSS", // 280
+    "MAXSS", // 281
+    "MOVSLDUP", // 282
+    "MOVSHDUP", // 283
+    "CVTTPS2DQ", // 284
+    "MOVDQU", // 285
+    "CVTSI2SS", // 286
+    "MOVNTSS", // 287
+    "CVTTSS2SI", // 288
+    "CVTSS2SI", // 289
+    "CVTSS2SD", // 290
+    "CVTDQ2PD", // 291
+    "PSHUFHW", // 292
+    "CMPSS", // 293
+    "POPCNT", // 294
+    "TZCNT", // 295
+    "LZCNT", // 296
+    "MOVQ2DQ", // 297
+    "MOVSD", // 298
+    "SQRTSD", // 299
+    "ADDSD", // 300
+    "MULSD", // 301
+    "CVTSD2SS", // 302
+    "SUBSD", // 303
+    "MINSD", // 304
+    "DIVSD", // 305
+    "MAXSD", // 306
+    "MOVDDUP", // 307
+    "HADDPS", // 308
+    "HSUBPS", // 309
+    "ADDSUBPS", // 310
+    "CVTPD2DQ", // 311
+    "CVTSI2SD", // 312
+    "MOVNTSD", // 313
+    "CVTTSD2SI", // 314
+    "CVTSD2SI", // 315
+    "PSHUFLW", // 316
+    "CMPSD", // 317
+    "INSERTQ", // 318
+    "MOVDQ2Q", // 319
+    "LDDQU", // 320
+    "PSHUFB", // 321
+    "PHADDW", // 322
+    "PHADDD", // 323
+    "PHADDSW", // 324
+    "PMADDUBSW", // 325
+    "PHSUBW", // 326
+    "PHSUBD", // 327
+    "PHSUBSW", // 328
+    "PSIGNB", // 329
+    "PSIGNW", // 330
+    "PSIGND", // 331
+    "PMULHRSW", // 332
+    "PABSB", // 333
+    "PABSW", // 334
+    "PABSD", // 335
+    "MOVBE", // 336
+    "SHA1NEXTE", // 337
+    "SHA1MSG1", // 338
+    "SHA1MSG2", // 339
+    "SHA256RNDS2", // 340
+    "SHA256MSG1", // 341
+    "SHA256MSG2", // 342
+    "WRSS", // 343
+    "MOVDIRI", // 344
+    "PBLENDVB", // 345
+    "BLENDVPS", // 346
+    "BLENDVPD", // 347
+    "PTEST", // 348
+    "PMULDQ", // 349
+    "PCMPEQQ", // 350
+    "PACKUSDW", // 351
+    "PCMPGTQ", // 352
+    "PMINSB", // 353
+    "PMINSD", // 354
+    "PMINUW", // 355
+    "PMINUD", // 356
+    "PMAXSB", // 357
+    "PMAXSD", // 358
+    "PMAXUW", // 359
+    "PMAXUD", // 360
+    "PMULLD", // 361
+    "PHMINPOSUW", // 362
+    "GF2P8MULB", // 363
+    "AESIMC", // 364
+    "AESENC", // 365
+    "AESENCLAST", // 366
+    "AESDEC", // 367
+    "AESDECLAST", // 368
+    "PMOVSXBW", // 369
+    "PMOVSXBD", // 370
+    "PMOVSXBQ", // 371
+    "PMOVSXWD", // 372
+    "PMOVSXWQ", // 373
+    "PMOVSXDQ", // 374
+    "PMOVZXBW", // 375
+    "PMOVZXBD", // 376
+    "PMOVZXBQ", // 377
+    "PMOVZXWD", // 378
+    "PMOVZXWQ", // 379
+    "PMOVZXDQ", // 380
+    "MOVNTDQA", // 381
+    "INVEPT", // 382
+    "INVVPID", // 383
+];
+
+/// The spellings of the numbers from 384 on.
+pub(crate) const MNEMONICS_3: [&str; 128] = [
+    "INVPCID", // 384
+    "WRUSS", // 385
+    "ADCX", // 386
+    "MOVDIR64B", // 387
+    "ADOX", // 388
+    "ENQCMDS", // 389
+    "CRC32", // 390
+    "ENQCMD", // 391
+    "PALIGNR", // 392
+    "SHA1RNDS4", // 393
+    "ROUNDPS", // 394
+    "ROUNDPD", // 395
+    "ROUNDSS", // 396
+    "ROUNDSD", // 397
+    "BLENDPS", // 398
+    "BLENDPD", // 399
+    "PBLENDW", // 400
+    "DPPS", // 401
+    "DPPD", // 402
+    "MPSADBW", // 403
+    "PCLMULQDQ", // 404
+    "PCMPESTRM", // 405
+    "PCMPESTRI", // 406
+    "PCMPISTRM", // 407
+    "PCMPISTRI", // 408
+    "PEXTRB", // 409
+    "EXTRACTPS", // 410
+    "PEXTRD", // 411
+    "PINSRB", // 412
+    "INSERTPS", // 413
+    "PINSRD", // 414
+    "GF2P8AFFINEQB", // 415
+    "GF2P8AFFINEINVQB", // 416
+    "AESKEYGENASSIST", // 417
+    "AESDEC128KL", // 418
+    "AESDEC256KL", // 419
+    "AESDECWIDE128KL", // 420
+    "AESDECWIDE256KL", // 421
+    "AESENC128KL", // 422
+    "AESENC256KL", // 423
+    "AESENCWIDE128KL", // 424
+    "AESENCWIDE256KL", // 425
+    "CALLF", // 426
+    "CBW", // 427
+    "CDQ", // 428
+    "CDQE", // 429
+    "CLAC", // 430
+    "CLFLUSH", // 431
+    "CLFLUSHOPT", // 432
+    "CLGI", // 433
+    "CLRSSBSY", // 434
+    "CLUI", // 435
+    "CLWB", // 436
+    "CLZERO", // 437
+    "CMPXCHG16B", // 438
+    "CMPXCHG8B", // 439
+    "CQO", // 440
+    "CWD", // 441
+    "CWDE", // 442
+    "DEC", // 443
+    "DIV", // 444
+    "ENCLS", // 445
+    "ENCLU", // 446
+    "ENCLV", // 447
+    "ENCODEKEY128", // 448
+    "ENCODEKEY256", // 449
+    "ENDBR32", // 450
+    "ENDBR64", // 451
+    "F2XM1", // 452
+    "FABS", // 453
+    "FADD", // 454
+    "FADDP", // 455
+    "FBLD", // 456
+    "FBSTP", // 457
+    "FCHS", // 458
+    "FCMOVB", // 459
+    "FCMOVBE", // 460
+    "FCMOVE", // 461
+    "FCMOVNB", // 462
+    "FCMOVNBE", // 463
+    "FCMOVNE", // 464
+    "FCMOVNU", // 465
+    "FCMOVU", // 466
+    "FCOM", // 467
+    "FCOMI", // 468
+    "FCOMIP", // 469
+    "FCOMP", // 470
+    "FCOMPP", // 471
+    "FCOS", // 472
+    "FDECSTP", // 473
+    "FDISI8087_NOP", // 474
+    "FDIV", // 475
+    "FDIVP", // 476
+    "FDIVR", // 477
+    "FDIVRP", // 478
+    "FENI8087_NOP", // 479
+    "FFREE", // 480
+    "FFREEP", // 481
+    "FIADD", // 482
+    "FICOM", // 483
+    "FICOMP", // 484
+    "FIDIV", // 485
+    "FIDIVR", // 486
+    "FILD", // 487
+    "FIMUL", // 488
+    "FINCSTP", // 489
+    "FIST", // 490
+    "FISTP", // 491
+    "FISTTP", // 492
+    "FISUB", // 493
+    "FISUBR", // 494
+    "FLD", // 495
+    "FLD1", // 496
+    "FLDCW", // 497
+    "FLDENV", // 498
+    "FLDL2E", // 499
+    "FLDL2T", // 500
+    "FLDLG2", // 501
+    "FLDLN2", // 502
+    "FLDPI", // 503
+    "FLDZ", // 504
+    "FMUL", // 505
+    "FMULP", // 506
+    "FNCLEX", // 507
+    "FNINIT", // 508
+    "FNOP", // 509
+    "FNSAVE", // 510
+    "FNSTCW", // 511
+];
+
+/// The spellings of the numbers from 512 on.
+pub(crate) const MNEMONICS_4: [&str; 128] = [
+    "FNSTENV", // 512
+    "FNSTSW", // 513
+    "FPATAN", // 514
+    "FPREM", // 515
+    "FPREM1", // 516
+    "FPTAN", // 517
+    "FRNDINT", // 518
+    "FRSTOR", // 519
+    "FSCALE", // 520
+    "FSETPM287_NOP", // 521
+    "FSIN", // 522
+    "FSINCOS", // 523
+    "FSQRT", // 524
+    "FST", // 525
+    "FSTP", // 526
+    "FSTPNCE", // 527
+    "FSUB", // 528
+    "FSUBP", // 529
+    "FSUBR", // 530
+    "FSUBRP", // 531
+    "FTST", // 532
+    "FUCOM", // 533
+    "FUCOMI", // 534
+    "FUCOMIP", // 535
+    "FUCOMP", // 536
+    "FUCOMPP", // 537
+    "FXAM", // 538
+    "FXCH", // 539
+    "FXRSTOR", // 540
+    "FXSAVE", // 541
+    "FXTRACT", // 542
+    "FYL2X", // 543
+    "FYL2XP1", // 544
+    "HRESET", // 545
+    "IDIV", // 546
+    "INC", // 547
+    "INCSSP", // 548
+    "INVLPG", // 549
+    "INVLPGA", // 550
+    "INVLPGB", // 551
+    "IRET", // 552
+    "IRETD", // 553
+    "IRETQ", // 554
+    "JECXZ", // 555
+    "JMPF", // 556
+    "LDMXCSR", // 557
+    "LFENCE", // 558
+    "LGDT", // 559
+    "LIDT", // 560
+    "LLDT", // 561
+    "LMSW", // 562
+    "LOADIWKEY", // 563
+    "LTR", // 564
+    "MFENCE", // 565
+    "MONITOR", // 566
+    "MONITORX", // 567
+    "MOVHLPS", // 568
+    "MOVLHPS", // 569
+    "MUL", // 570
+    "MWAIT", // 571
+    "MWAITX", // 572
+    "NEG", // 573
+    "NOT", // 574
+    "PAVGUSB", // 575
+    "PCONFIG", // 576
+    "PEXTRQ", // 577
+    "PF2ID", // 578
+    "PF2IW", // 579
+    "PFACC", // 580
+    "PFADD", // 581
+    "PFCMPEQ", // 582
+    "PFCMPGE", // 583
+    "PFCMPGT", // 584
+    "PFMAX", // 585
+    "PFMIN", // 586
+    "PFMUL", // 587
+    "PFNACC", // 588
+    "PFPNACC", // 589
+    "PFRCP", // 590
+    "PFRCPIT1", // 591
+    "PFRCPIT2", // 592
+    "PFRSQIT1", // 593
+    "PFRSQRT", // 594
+    "PFSUB", // 595
+    "PFSUBR", // 596
+    "PI2FD", // 597
+    "PI2FW", // 598
+    "PINSRQ", // 599
+    "PMULHRW", // 600
+    "PREFETCH0", // 601
+    "PREFETCH1", // 602
+    "PREFETCH2", // 603
+    "PREFETCHNTA", // 604
+    "PREFETCHW", // 605
+    "PSLLDQ", // 606
+    "PSMASH", // 607
+    "PSRLDQ", // 608
+    "PSWAPD", // 609
+    "PTWRITE", // 610
+    "PVALIDATE", // 611
+    "RCL", // 612
+    "RCR", // 613
+    "RDFSBASE", // 614
+    "RDGSBASE", // 615
+    "RDPID", // 616
+    "RDPKRU", // 617
+    "RDPRU", // 618
+    "RDRAND", // 619
+    "RDSEED", // 620
+    "RDTSCP", // 621
+    "RMPADJUST", // 622
+    "RMPUPDATE", // 623
+    "ROL", // 624
+    "ROR", // 625
+    "RSTORSSP", // 626
+    "SAL", // 627
+    "SAR", // 628
+    "SAVEPREVSSP", // 629
+    "SEAMCALL", // 630
+    "SEAMOPS", // 631
+    "SEAMRET", // 632
+    "SENDUIPI", // 633
+    "SETSSBSY", // 634
+    "SFENCE", // 635
+    "SGDT", // 636
+    "SHL", // 637
+    "SHR", // 638
+    "SIDT", // 639
+];
+
+/// The spellings of the numbers from 640 on.
+pub(crate) const MNEMONICS_5: [&str; 51] = [
+    "SKINIT", // 640
+    "SLDT", // 641
+    "SMSW", // 642
+    "STAC", // 643
+    "STGI", // 644
+    "STMXCSR", // 645
+    "STR", // 646
+    "STUI", // 647
+    "SWAPGS", // 648
+    "TDCALL", // 649
+    "TESTUI", // 650
+    "TLBSYNC", // 651
+    "TPAUSE", // 652
+    "UIRET", // 653
+    "UMONITOR", // 654
+    "UMWAIT", // 655
+    "VERR", // 656
+    "VERW", // 657
+    "VMCALL", // 658
+    "VMCLEAR", // 659
+    "VMFUNC", // 660
+    "VMLAUNCH", // 661
+    "VMLOAD", // 662
+    "VMMCALL", // 663
+    "VMPTRLD", // 664
+    "VMPTRST", // 665
+    "VMRESUME", // 666
+    "VMRUN", // 667
+    "VMSAVE", // 668
+    "VMXOFF", // 669
+    "VMXON", // 670
+    "WRFSBASE", // 671
+    "WRGSBASE", // 672
+    "WRPKRU", // 673
+    "XABORT", // 674
+    "XBEGIN", // 675
+    "XEND", // 676
+    "XGETBV", // 677
+    "XRESLDTRK", // 678
+    "XRSTOR", // 679
+    "XRSTORS", // 680
+    "XRSTORS64", // 681
+    "XSAVE", // 682
+    "XSAVEC", // 683
+    "XSAVEC64", // 684
+    "XSAVEOPT", // 685
+    "XSAVES", // 686
+    "XSAVES64", // 687
+    "XSETBV", // 688
+    "XSUSLDTRK", // 689
+    "XTEST", // 690
 ];
