@@ -97,7 +97,6 @@ pub fn word_row(word: u64) -> Option<WordRow>
 ///
 /// A word is read by itself: it may be one of the tables' or any other. So `unpack(packed(map, column, byte))` is
 /// `row(map, column, byte)`.
-#[tactic(auto, using(crate::proofs::WordLemmas::row_of_its_word, crate::proofs::WordLemmas::word_found))]
 pub fn unpack(word: u64) -> Option<TableRow>
     ensures row { result ≡ unpack word }
     ensures found { IfSome result (λ r. HasWord r × (word ≡ word_of r)) }
