@@ -56,7 +56,7 @@ pub fn group_sizes_are_small()
 
 /// The default and the strict choice differ on LFENCE, MFENCE and SFENCE with rm other than 0, and on nothing else:
 /// there the default reads the fence, without an operand, and the strict choice refuses its operand after ModRM.
-#[tactic(auto, using(x86_group_plans::proofs::ChoiceLemmas::same_elsewhere, x86_group_plans::proofs::ChoiceLemmas::fence_strictly), unfolding(x86_group_plans::specs::Groups::group_record))]
+#[tactic(auto, unfolding(x86_group_plans::specs::Groups::group_record))]
 pub fn choices_differ_on_fences()
     ensures at_opcode { (row : TableRow) (p : Prefixes) →
         (group_record true row p).at_opcode ≡ (group_record false row p).at_opcode }
@@ -72,7 +72,6 @@ pub fn choices_differ_on_fences()
 
 /// A group that reg alone chooses is read by its ModRM byte and the plan of its line there, under both choices. Its
 /// form carries no number.
-#[tactic(auto, using(crate::proofs::RegLemmas::reg_chosen, crate::proofs::RegLemmas::reg_group, crate::proofs::RegLemmas::reg_carries))]
 pub fn reg_groups_are_chosen()
     ensures group { (g : RegGroup) (f : Form) → f ≡ group_form g → is_group f ≡ true }
     ensures carries { (g : RegGroup) (f : Form) → f ≡ group_form g → carried f ≡ 0 }
