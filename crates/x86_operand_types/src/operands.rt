@@ -329,7 +329,6 @@ impl Operand {
     /// address after the instruction. `None` where the operand isn't memory or is masked.
     ///
     /// Segment bases are not added. Source: Intel SDM volume 1, section 3.7.5.
-    #[tactic(auto, using(crate::proofs::AddressLemmas::absolute_value))]
     pub fn address(&self, address_size: bool, regs: &RegFile, next: u64) -> Option<u64>
         ensures { result ≡ operand_address address_size self.now regs.now.regs next }
     {
