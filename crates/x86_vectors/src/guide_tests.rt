@@ -1,11 +1,8 @@
 //! The examples of docs/GUIDE.md, as they are there.
-ghost use Rattle.std.specs.Prelude.{⊤};
-
+use crate::decoding::decoded;
+use crate::rebuilder::Rebuilder;
 use arrayvec::ArrayVec;
-use x86_decode::{
-    DecodeError, InstDecoder, Instruction, MergeMode, Opcode, Operand, OperandVisitor, RegSpec,
-    SaeMode,
-};
+use x86_decode::{DecodeError, InstDecoder, Instruction, Opcode, Operand, RegSpec};
 use x86_fields::RegFile;
 use x86_layout::{Fields, Sweep, TightenError, branch_target, emit, mark_targets, split, tighten};
 use x86_text::{Line, line_of, operand_text, push_instruction, refusal_of};
@@ -17,11 +14,12 @@ fn opcode_and_length(bytes: &[u8]) -> Result<(Opcode, u64), DecodeError> {
 
 #[test]
 fn decode_a_slice(rt: HostRuntime) {
-    assert!(rt; opcode_and_length(&[0x48, 0x01, 0xd8, 0x90]) == Ok((Opcode::ADD, 3)));
+    let read = opcode_and_length(&[0x48, 0x01, 0xd8, 0x90]);
+    assert!(rt; matches!(read, Ok((opcode, 3)) if opcode == Opcode::ADD));
 }
 
 /// What a tool does about bytes that are no instruction.
-#[derive(Clone, Copy, PartialEq, Eq, Debug, Drop)]
+#[derive(PartialEq, Eq, Drop)]
 enum Advice {
     Decoded,
     ReadMore,
@@ -62,12 +60,8 @@ fn compute_an_address(rt: HostRuntime) {
     let mut regs = RegFile { regs: [0; 16] };
     regs.regs[5] = 0x7fff_0000;
     // mov eax, [rbp - 4]
-    let decoded = InstDecoder::default().decode_slice(&[0x8b, 0x45, 0xfc]);
-    assert!(rt; decoded.is_ok());
-    if let Ok(instruction) = decoded {
-        let address = address_of_operand(&instruction, &regs, 0x40_1000);
-        assert!(rt; address == Some(0x7ffe_fffc));
-    }
+    let address = address_of_operand(&decoded(&[0x8b, 0x45, 0xfc]), &regs, 0x40_1000);
+    assert!(rt; matches!(address, Some(0x7ffe_fffc)));
 }
 
 /// Whether an operand is memory.
@@ -92,248 +86,41 @@ fn first_register(operand: Operand) -> Option<&'static str> {
     }
 }
 
-/// Whether an instruction names memory, and the first register of each of its first three operands.
-fn operands_of(bytes: &[u8]) -> Result<(bool, [Option<&'static str>; 3]), DecodeError> {
-    let instruction = InstDecoder::default().decode_slice(bytes)?;
-    let names = [
-        first_register(instruction.operand(0)),
-        first_register(instruction.operand(1)),
-        first_register(instruction.operand(2)),
-    ];
-    Ok((has_memory(&instruction), names))
+/// Whether this is the first register of an operand.
+fn is_first(instruction: &Instruction, index: u8, name: Option<&str>) -> bool {
+    index < 4 && first_register(instruction.operand(index)) == name
 }
 
 #[test]
 fn match_an_operand(rt: HostRuntime) {
     // add [rax + 8], ebx
-    let operands = operands_of(&[0x01, 0x58, 0x08]);
-    assert!(rt; operands == Ok((true, [Some("rax"), Some("ebx"), None])));
+    let sum = decoded(&[0x01, 0x58, 0x08]);
+    assert!(rt; has_memory(&sum));
+    assert!(rt; is_first(&sum, 0, Some("rax")));
+    assert!(rt; is_first(&sum, 1, Some("ebx")));
+    assert!(rt; is_first(&sum, 2, None));
 }
 
-/// Answers the name of the register that an operand is, or else of the first one of its memory.
-#[derive(Drop)]
-struct FirstRegister;
-
-fn named(reg: RegSpec) -> Result<Option<&'static str>, ()> {
-    Ok(Some(reg.name()))
-}
-
-impl OperandVisitor for FirstRegister {
-    type Ok = Option<&'static str>;
-
-    type Error = ();
-
-    ghost answers = { λ call old new result. ⊤ };
-
-    fn visit_reg(&mut self, reg: RegSpec) -> Result<Option<&'static str>, ()> {
-        named(reg)
+/// Whether the visitor answers this operand.
+fn visits(instruction: &Instruction, index: u8, operand: Operand) -> bool {
+    if index >= 4 {
+        return false;
     }
-
-    fn visit_deref(&mut self, reg: RegSpec) -> Result<Option<&'static str>, ()> {
-        named(reg)
+    match &instruction.visit_operand(index, &mut Rebuilder) {
+        Ok(rebuilt) => *rebuilt == operand,
+        Err(_) => false,
     }
-
-    fn visit_disp(&mut self, reg: RegSpec, _disp: i32) -> Result<Option<&'static str>, ()> {
-        named(reg)
-    }
-
-    fn visit_index_scale(&mut self, reg: RegSpec, _scale: u8) -> Result<Option<&'static str>, ()> {
-        named(reg)
-    }
-
-    fn visit_index_scale_disp(
-        &mut self,
-        reg: RegSpec,
-        _scale: u8,
-        _disp: i32,
-    ) -> Result<Option<&'static str>, ()> {
-        named(reg)
-    }
-
-    fn visit_base_index_scale(
-        &mut self,
-        base: RegSpec,
-        _index: RegSpec,
-        _scale: u8,
-    ) -> Result<Option<&'static str>, ()> {
-        named(base)
-    }
-
-    fn visit_base_index_scale_disp(
-        &mut self,
-        base: RegSpec,
-        _index: RegSpec,
-        _scale: u8,
-        _disp: i32,
-    ) -> Result<Option<&'static str>, ()> {
-        named(base)
-    }
-
-    fn visit_i8(&mut self, _imm: i8) -> Result<Option<&'static str>, ()> {
-        Ok(None)
-    }
-
-    fn visit_u8(&mut self, _imm: u8) -> Result<Option<&'static str>, ()> {
-        Ok(None)
-    }
-
-    fn visit_i16(&mut self, _imm: i16) -> Result<Option<&'static str>, ()> {
-        Ok(None)
-    }
-
-    fn visit_u16(&mut self, _imm: u16) -> Result<Option<&'static str>, ()> {
-        Ok(None)
-    }
-
-    fn visit_i32(&mut self, _imm: i32) -> Result<Option<&'static str>, ()> {
-        Ok(None)
-    }
-
-    fn visit_u32(&mut self, _imm: u32) -> Result<Option<&'static str>, ()> {
-        Ok(None)
-    }
-
-    fn visit_i64(&mut self, _imm: i64) -> Result<Option<&'static str>, ()> {
-        Ok(None)
-    }
-
-    fn visit_u64(&mut self, _imm: u64) -> Result<Option<&'static str>, ()> {
-        Ok(None)
-    }
-
-    fn visit_abs_u32(&mut self, _imm: u32) -> Result<Option<&'static str>, ()> {
-        Ok(None)
-    }
-
-    fn visit_abs_u64(&mut self, _imm: u64) -> Result<Option<&'static str>, ()> {
-        Ok(None)
-    }
-
-    fn visit_reg_mask_merge(
-        &mut self,
-        base: RegSpec,
-        _mask: RegSpec,
-        _merge_mode: MergeMode,
-    ) -> Result<Option<&'static str>, ()> {
-        named(base)
-    }
-
-    fn visit_reg_mask_merge_sae(
-        &mut self,
-        base: RegSpec,
-        _mask: RegSpec,
-        _merge_mode: MergeMode,
-        _sae_mode: SaeMode,
-    ) -> Result<Option<&'static str>, ()> {
-        named(base)
-    }
-
-    fn visit_reg_mask_merge_sae_noround(
-        &mut self,
-        base: RegSpec,
-        _mask: RegSpec,
-        _merge_mode: MergeMode,
-    ) -> Result<Option<&'static str>, ()> {
-        named(base)
-    }
-
-    fn visit_deref_masked(
-        &mut self,
-        base: RegSpec,
-        _mask_reg: RegSpec,
-    ) -> Result<Option<&'static str>, ()> {
-        named(base)
-    }
-
-    fn visit_disp_masked(
-        &mut self,
-        base: RegSpec,
-        _disp: i32,
-        _mask_reg: RegSpec,
-    ) -> Result<Option<&'static str>, ()> {
-        named(base)
-    }
-
-    fn visit_index_scale_masked(
-        &mut self,
-        base: RegSpec,
-        _scale: u8,
-        _mask_reg: RegSpec,
-    ) -> Result<Option<&'static str>, ()> {
-        named(base)
-    }
-
-    fn visit_index_scale_disp_masked(
-        &mut self,
-        base: RegSpec,
-        _scale: u8,
-        _disp: i32,
-        _mask_reg: RegSpec,
-    ) -> Result<Option<&'static str>, ()> {
-        named(base)
-    }
-
-    fn visit_base_index_masked(
-        &mut self,
-        base: RegSpec,
-        _index: RegSpec,
-        _mask_reg: RegSpec,
-    ) -> Result<Option<&'static str>, ()> {
-        named(base)
-    }
-
-    fn visit_base_index_disp_masked(
-        &mut self,
-        base: RegSpec,
-        _index: RegSpec,
-        _disp: i32,
-        _mask_reg: RegSpec,
-    ) -> Result<Option<&'static str>, ()> {
-        named(base)
-    }
-
-    fn visit_base_index_scale_masked(
-        &mut self,
-        base: RegSpec,
-        _index: RegSpec,
-        _scale: u8,
-        _mask_reg: RegSpec,
-    ) -> Result<Option<&'static str>, ()> {
-        named(base)
-    }
-
-    fn visit_base_index_scale_disp_masked(
-        &mut self,
-        base: RegSpec,
-        _index: RegSpec,
-        _scale: u8,
-        _disp: i32,
-        _mask_reg: RegSpec,
-    ) -> Result<Option<&'static str>, ()> {
-        named(base)
-    }
-
-    fn visit_other(&mut self) -> Result<Option<&'static str>, ()> {
-        Ok(None)
-    }
-}
-
-/// How many operands there are, and what the visitor answers of each of the first three.
-fn visited(bytes: &[u8]) -> Result<(u8, [Result<Option<&'static str>, ()>; 3]), DecodeError> {
-    let instruction = InstDecoder::default().decode_slice(bytes)?;
-    let names = [
-        instruction.visit_operand(0, &mut FirstRegister),
-        instruction.visit_operand(1, &mut FirstRegister),
-        instruction.visit_operand(2, &mut FirstRegister),
-    ];
-    Ok((instruction.operand_count(), names))
 }
 
 #[test]
 fn walk_the_operands(rt: HostRuntime) {
     // add [rax + 8], ebx
-    let walked = visited(&[0x01, 0x58, 0x08]);
-    assert!(rt; walked == Ok((2, [Ok(Some("rax")), Ok(Some("ebx")), Ok(None)])));
+    let sum = decoded(&[0x01, 0x58, 0x08]);
+    let (base, reg) = (RegSpec::rax(), RegSpec::ebx());
+    assert!(rt; visits(&sum, 0, Operand::Disp { base, disp: 8 }));
+    assert!(rt; visits(&sum, 1, Operand::Register { reg }));
+    assert!(rt; visits(&sum, 2, Operand::Nothing));
+    assert!(rt; sum.operand_count() == 2);
 }
 
 /// The encoding at the beginning without its prefixes, where that is one.
@@ -365,10 +152,7 @@ fn spared(bytes: &[u8]) -> Result<u64, TightenError> {
 
 #[test]
 fn take_the_shortest_address(rt: HostRuntime) {
-    let bytes = [0x48, 0x8b, 0x84, 0x25, 0, 0, 0, 0];
-    let short = tighten(&InstDecoder::default(), &bytes).expect(&rt, "an encoding");
-    assert!(rt; short.as_slice() == [0x48, 0x8b, 0x45, 0x00].as_slice());
-    assert!(rt; matches!(spared(&bytes), Ok(4)));
+    assert!(rt; matches!(spared(&[0x48, 0x8b, 0x84, 0x25, 0, 0, 0, 0]), Ok(4)));
     assert!(rt; matches!(spared(&[0x8b, 0xc0]), Err(TightenError::NoMemoryForm)));
 }
 
@@ -407,8 +191,8 @@ fn marked(bytes: &[u8; 6]) -> [bool; 6] {
 fn go_over_any_bytes(rt: HostRuntime) {
     assert!(rt; last_place(&[0x06, 0x90, 0xc3, 0x06]) == Some(2));
     assert!(rt; target(&[0xeb, 0xfe], 0x40_1000) == Some(0x40_1000));
-    let marks = marked(&[0x74, 0x01, 0x06, 0xeb, 0xfb, 0x90]);
-    assert!(rt; marks == [true, false, false, true, false, false]);
+    let [a, b, c, d, e, f] = marked(&[0x74, 0x01, 0x06, 0xeb, 0xfb, 0x90]);
+    assert!(rt; a && !b && !c && d && !e && !f);
 }
 
 /// The line of the instruction at the beginning, or of its refusal. The bytes are at `place`.
@@ -434,19 +218,14 @@ fn print(rt: HostRuntime) {
     assert!(rt; line_at(&[0x06], 7).as_slice() == b"7 error: invalid opcode".as_slice());
 }
 
-/// Whether these are the columns of the first instruction, and this the text of its operand 1.
-fn is_printed(bytes: &[u8], line: &[u8], operand: &[u8]) -> bool {
-    match InstDecoder::default().decode_slice(bytes) {
-        Ok(instruction) => {
-            columns(&instruction).as_slice() == line
-                && operand_text(&instruction.operand(1)).as_slice() == operand
-        }
-        Err(_) => false,
-    }
+/// Whether these are the columns of an instruction, and this the text of its operand 1.
+fn is_printed(instruction: &Instruction, line: &[u8], operand: &[u8]) -> bool {
+    columns(instruction).as_slice() == line
+        && operand_text(&instruction.operand(1)).as_slice() == operand
 }
 
 #[test]
 fn print_other_columns(rt: HostRuntime) {
     let (line, operand) = (b"4\tADD eax, [rbx+rcx*4-16] m4", b"[rbx+rcx*4-16]");
-    assert!(rt; is_printed(&[0x03, 0x44, 0x8b, 0xf0], line, operand));
+    assert!(rt; is_printed(&decoded(&[0x03, 0x44, 0x8b, 0xf0]), line, operand));
 }

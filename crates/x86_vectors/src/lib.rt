@@ -6,6 +6,8 @@ mod accessor_tests;
 #[cfg(test)]
 mod bound_tests;
 #[cfg(test)]
+mod decoding;
+#[cfg(test)]
 mod group_table;
 #[cfg(test)]
 mod guide_tests;

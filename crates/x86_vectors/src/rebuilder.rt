@@ -1,8 +1,7 @@
-//! A visitor that puts the operand together again, from the call that was made on it.
+//! The visitor of docs/GUIDE.md: it puts the operand together again, from the call that was made on it.
 ghost use Rattle.std.specs.Prelude.{⊤};
 
-use x86_operands::{Operand, OperandVisitor};
-use x86_regs::{MergeMode, RegSpec, SaeMode};
+use x86_decode::{MergeMode, Operand, OperandVisitor, RegSpec, SaeMode};
 
 /// Answers the operand whose call this is, with the fields of the call.
 #[derive(Drop)]
