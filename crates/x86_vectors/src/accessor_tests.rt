@@ -1,20 +1,19 @@
 //! What the accessors of an instruction return.
+use crate::decoding::decoded;
 use x86_arch::AddressDiff;
 use x86_decode::{ConditionCode, InstDecoder, Instruction, Opcode, Operand, Segment, Slot};
 
-fn condition(bytes: &[u8]) -> Option<ConditionCode> {
-    match InstDecoder::default().decode_slice(bytes) {
-        Ok(instruction) => instruction.opcode().condition(),
-        Err(_) => None,
-    }
+/// Whether this is what an operation tests.
+fn tests(bytes: &[u8], wanted: Option<ConditionCode>) -> bool {
+    decoded(bytes).opcode().condition() == wanted
 }
 
 #[test]
 fn conditions(rt: HostRuntime) {
-    assert!(rt; condition(&[0x73, 0x00]) == Some(ConditionCode::AE));
-    assert!(rt; condition(&[0x0f, 0x96, 0xc0]) == Some(ConditionCode::BE));
-    assert!(rt; condition(&[0x0f, 0x46, 0xc0]) == Some(ConditionCode::BE));
-    assert!(rt; condition(&[0x89, 0xc0]).is_none());
+    assert!(rt; tests(&[0x73, 0x00], Some(ConditionCode::AE)));
+    assert!(rt; tests(&[0x0f, 0x96, 0xc0], Some(ConditionCode::BE)));
+    assert!(rt; tests(&[0x0f, 0x46, 0xc0], Some(ConditionCode::BE)));
+    assert!(rt; tests(&[0x89, 0xc0], None));
 }
 
 #[test]
@@ -22,53 +21,37 @@ fn kinds_of_conditional_operations(rt: HostRuntime) {
     assert!(rt; Opcode::JNB.is_jcc() && !Opcode::JNB.is_setcc());
 }
 
-fn hints(bytes: &[u8]) -> Option<(bool, bool)> {
-    match InstDecoder::default().decode_slice(bytes) {
-        Ok(instruction) => Some((instruction.xacquire(), instruction.xrelease())),
-        Err(_) => None,
-    }
+/// Whether the hints of an instruction are these.
+fn hints(bytes: &[u8], acquire: bool, release: bool) -> bool {
+    let instruction = decoded(bytes);
+    instruction.xacquire() == acquire && instruction.xrelease() == release
 }
 
 #[test]
 fn lock_hints(rt: HostRuntime) {
-    assert!(rt; hints(&[0xf2, 0xf0, 0x01, 0x18]) == Some((true, false)));
-    assert!(rt; hints(&[0xf2, 0x87, 0x08]) == Some((true, false)));
-    assert!(rt; hints(&[0xf2, 0x87, 0xc8]) == Some((false, false)));
-    assert!(rt; hints(&[0xf3, 0xc7, 0, 0, 0, 0, 0]) == Some((false, true)));
+    assert!(rt; hints(&[0xf2, 0xf0, 0x01, 0x18], true, false));
+    assert!(rt; hints(&[0xf2, 0x87, 0x08], true, false));
+    assert!(rt; hints(&[0xf2, 0x87, 0xc8], false, false));
+    assert!(rt; hints(&[0xf3, 0xc7, 0, 0, 0, 0, 0], false, true));
 }
 
-/// The segment that each of the first three operands takes where it isn't DS.
-fn segments_of(bytes: &[u8]) -> Option<[Option<Segment>; 3]> {
-    match InstDecoder::default().decode_slice(bytes) {
-        Ok(instruction) => Some([
-            instruction.segment_override_for_op(0),
-            instruction.segment_override_for_op(1),
-            instruction.segment_override_for_op(2),
-        ]),
-        Err(_) => None,
-    }
+/// Whether an instruction of two operands takes these segments where they aren't DS.
+fn goes_by(instruction: &Instruction, first: Segment, second: Segment) -> bool {
+    instruction.segment_override_for_op(0) == Some(first)
+        && instruction.segment_override_for_op(1) == Some(second)
+        && instruction.segment_override_for_op(2).is_none()
 }
 
 #[test]
 fn segments(rt: HostRuntime) {
-    let moved = Some([Some(Segment::ES), Some(Segment::FS), None]);
-    assert!(rt; segments_of(&[0x64, 0xa4]) == moved);
-}
-
-/// Whether an instruction goes by ES.
-fn goes_by_es(bytes: &[u8]) -> bool {
-    match InstDecoder::default().decode_slice(bytes) {
-        Ok(instruction) => {
-            instruction.prefixes.es() && instruction.prefixes.segment() == Segment::ES
-        }
-        Err(_) => false,
-    }
+    assert!(rt; goes_by(&decoded(&[0x64, 0xa4]), Segment::ES, Segment::FS));
 }
 
 #[test]
 fn the_store_of_stos_goes_by_es(rt: HostRuntime) {
     // Whatever the prefixes say.
-    assert!(rt; goes_by_es(&[0x64, 0xab]));
+    let prefixes = decoded(&[0x64, 0xab]).prefixes;
+    assert!(rt; prefixes.es() && prefixes.segment() == Segment::ES);
 }
 
 /// Whether an instruction has what `01 d8` has: two operands, the first of rm, and two bytes.
@@ -82,8 +65,7 @@ fn is_sum(sum: &Instruction) -> bool {
 
 #[test]
 fn operands_by_their_index(rt: HostRuntime) {
-    let added = InstDecoder::default().decode_slice(&[0x01, 0xd8]);
-    assert!(rt; matches!(added, Ok(sum) if is_sum(&sum)));
+    assert!(rt; is_sum(&decoded(&[0x01, 0xd8])));
 }
 
 #[test]
@@ -91,17 +73,15 @@ fn the_strict_decoder_is_below(rt: HostRuntime) {
     assert!(rt; InstDecoder::strict() < InstDecoder::default());
 }
 
-/// Whether 66 is left in the prefixes of an instruction.
-fn keeps_operand_size(bytes: &[u8]) -> Option<bool> {
-    match InstDecoder::default().decode_slice(bytes) {
-        Ok(instruction) => Some(instruction.prefixes.operand_size()),
-        Err(_) => None,
-    }
+/// Whether an instruction is read, and this is whether 66 is left in its prefixes.
+fn keeps_operand_size(bytes: &[u8], kept: bool) -> bool {
+    let instruction = decoded(bytes);
+    instruction.len().to_const() > 0 && instruction.prefixes.operand_size() == kept
 }
 
 #[test]
 fn cleared_prefixes(rt: HostRuntime) {
-    assert!(rt; keeps_operand_size(&[0x66, 0x0f, 0xae, 0xf1, 0x00]) == Some(false));
-    assert!(rt; keeps_operand_size(&[0x66, 0x0f, 0x38, 0x00, 0xc1]) == Some(false));
-    assert!(rt; keeps_operand_size(&[0x66, 0x0f, 0x38, 0xf1, 0x00]) == Some(true));
+    assert!(rt; keeps_operand_size(&[0x66, 0x0f, 0xae, 0xf1, 0x00], false));
+    assert!(rt; keeps_operand_size(&[0x66, 0x0f, 0x38, 0x00, 0xc1], false));
+    assert!(rt; keeps_operand_size(&[0x66, 0x0f, 0x38, 0xf1, 0x00], true));
 }

@@ -1,9 +1,10 @@
 //! Lines of instructions, worked by hand from the rows.
+use crate::decoding::decoded;
 use crate::plain_tests::agree_on;
 use crate::{group_table, mixed_table, plain_table, x87_table};
 use arrayvec::ArrayVec;
 use x86_arch::{ChunkReader, Reader};
-use x86_decode::{DecodeError, InstDecoder};
+use x86_decode::{DecodeError, InstDecoder, Instruction};
 use x86_text::line_of;
 
 /// The tables of worked lines, `HEX => LINE`.
@@ -31,11 +32,12 @@ pub fn bytes_of(digits: &str) -> Option<ArrayVec<u8, 24>> {
     for group in digits.split(" ") {
         let mut room = [0; 24];
         let count = group.len() / 2;
-        if count > room.len() {
+        if count > room.len() || hex::decode_to_slice(group, &mut room[..count]).is_err() {
             return None;
         }
-        hex::decode_to_slice(group, &mut room[..count]).ok()?;
-        bytes.try_extend_from_slice(&room[..count]).ok()?;
+        if bytes.try_extend_from_slice(&room[..count]).is_err() {
+            return None;
+        }
     }
     Some(bytes)
 }
@@ -43,65 +45,57 @@ pub fn bytes_of(digits: &str) -> Option<ArrayVec<u8, 24>> {
 /// Whether each proper prefix of an encoding answers `ExhaustedInput`.
 fn is_open_before_its_end(bytes: &[u8]) -> bool {
     for end in 0..bytes.len() {
-        if InstDecoder::default().decode_slice(&bytes[..end]) != Err(DecodeError::ExhaustedInput) {
-            return false;
+        match &InstDecoder::default().decode_slice(&bytes[..end]) {
+            Err(DecodeError::ExhaustedInput) => {}
+            _ => return false,
         }
     }
     true
 }
 
-/// Whether an encoding with FF after it, in another slice, has the same answer as alone.
-fn stays(bytes: &[u8]) -> bool {
+/// Whether an encoding with FF after it, in another slice, is this instruction too.
+fn stays(instruction: &Instruction, bytes: &[u8]) -> bool {
     if bytes.len() > 15 {
         return false;
     }
     let mut reader = ChunkReader::new(bytes, &[0xff]);
-    let decoder = InstDecoder::default();
-    decoder.decode(&mut reader) == decoder.decode_slice(bytes)
-        && reader.offset() == bytes.len() as u64
-}
-
-/// Whether the bytes are one instruction, and this is its line at place 0.
-fn is_worked(bytes: &[u8], line: &str) -> bool {
-    match InstDecoder::default().decode_slice(bytes) {
-        Ok(instruction) => {
-            instruction.len().to_const() == bytes.len() as u64
-                && line_of(0, &instruction).as_slice() == line.as_bytes()
-        }
+    match &InstDecoder::default().decode(&mut reader) {
+        Ok(read) => *read == *instruction && reader.offset() == bytes.len() as u64,
         Err(_) => false,
     }
 }
 
-/// Whether a line of a table is so.
-fn is_worked_row(row: &str) -> bool {
-    let Some((digits, line)) = row.split_once(" => ") else {
-        return false;
-    };
-    match bytes_of(digits) {
-        Some(bytes) => {
-            let bytes = bytes.as_slice();
-            is_worked(bytes, line)
-                && is_open_before_its_end(bytes)
-                && stays(bytes)
-                && agree_on(bytes)
-        }
-        None => false,
-    }
+/// Whether an instruction has all of these bytes, and this is its line at place 0.
+fn is_listed(instruction: &Instruction, bytes: &[u8], line: &str) -> bool {
+    instruction.len().to_const() == bytes.len() as u64
+        && line_of(0, instruction).as_slice() == line.as_bytes()
 }
 
-/// The first line of a table that isn't so.
-fn wrong_row(table: &str) -> Option<&str> {
-    for row in table.lines() {
-        if !is_worked_row(row) {
-            return Some(row);
-        }
+/// Whether the bytes are one instruction, with this line.
+fn is_worked(bytes: &[u8], line: &str) -> bool {
+    let instruction = decoded(bytes);
+    is_listed(&instruction, bytes, line)
+        && is_open_before_its_end(bytes)
+        && stays(&instruction, bytes)
+        && agree_on(bytes)
+}
+
+/// Whether a line of a table is so.
+fn is_worked_row(row: &str) -> bool {
+    match row.split_once(" => ") {
+        Some((digits, line)) => match bytes_of(digits) {
+            Some(bytes) => is_worked(bytes.as_slice(), line),
+            None => false,
+        },
+        None => false,
     }
-    None
 }
 
 #[test]
 fn worked_lines(rt: HostRuntime) {
     for table in tables() {
-        assert_eq!(rt; wrong_row(table), None);
+        for row in table.lines() {
+            assert!(rt; is_worked_row(row), "{row}");
+        }
     }
 }

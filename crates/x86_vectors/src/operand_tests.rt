@@ -9,7 +9,10 @@ use x86_regs::{MergeMode, RegSpec, SaeMode};
 
 /// Whether the call that an operand makes on a visitor names its variant, with its fields.
 fn is_decoded(operand: Operand) -> bool {
-    operand.visit(&mut Rebuilder).ok() == Some(operand)
+    match &operand.visit(&mut Rebuilder) {
+        Ok(rebuilt) => *rebuilt == operand,
+        Err(_) => false,
+    }
 }
 
 #[test]
@@ -106,14 +109,19 @@ fn address(bytes: &[u8], next: u64) -> Option<u64> {
 #[test]
 fn addresses(rt: HostRuntime) {
     let negative = [0x03, 0x04, 0x25, 0x00, 0x00, 0x00, 0x80];
-    assert!(rt; address(&negative, 0) == Some(0xffff_ffff_8000_0000));
+    assert!(rt; matches!(address(&negative, 0), Some(0xffff_ffff_8000_0000)));
     let short = [0x67, 0x03, 0x04, 0x25, 0x00, 0x00, 0x00, 0x80];
-    assert!(rt; address(&short, 0) == Some(0x8000_0000));
+    assert!(rt; matches!(address(&short, 0), Some(0x8000_0000)));
     let long = [0x48, 0xa1, 0x88, 0x77, 0x66, 0x55, 0x44, 0x33, 0x22, 0x11];
-    assert!(rt; address(&long, 0) == Some(0x1122_3344_5566_7788));
+    assert!(rt; matches!(address(&long, 0), Some(0x1122_3344_5566_7788)));
     // rip is the address of the next instruction.
-    assert!(rt; address(&[0x03, 0x05, 0xff, 0xff, 0xff, 0xff], 0x1000) == Some(0xfff));
-    assert!(rt; address(&[0x03, 0xc0], 0).is_none());
+    assert!(rt;
+        matches!(
+            address(&[0x03, 0x05, 0xff, 0xff, 0xff, 0xff], 0x1000),
+            Some(0xfff)
+        )
+    );
+    assert!(rt; matches!(address(&[0x03, 0xc0], 0), None));
 }
 
 #[test]
@@ -136,14 +144,14 @@ fn sib_address_by_hand(rt: HostRuntime) {
     }
 }
 
-/// The address of the raw fields after a ModRM byte, with the next instruction at 400000.
-fn raw_address(prefixes: &Prefixes, modrm: u8, bytes: &[u8], regs: &RegFile) -> Option<u64> {
+/// Whether the raw fields after a ModRM byte have this address, with the next instruction at 400000.
+fn adds_up(prefixes: &Prefixes, modrm: u8, bytes: &[u8], regs: &RegFile, sum: u64) -> bool {
     if !ModRM::new(modrm).is_memory() {
-        return None;
+        return false;
     }
     match read_raw(&mut U8Reader::new(bytes), prefixes, modrm) {
-        Ok(raw) => Some(address_of(&raw, regs, 0x40_0000)),
-        Err(_) => None,
+        Ok(raw) => address_of(&raw, regs, 0x40_0000) == sum,
+        Err(_) => false,
     }
 }
 
@@ -172,6 +180,6 @@ const ADDRESSES: &[(&[u8], u8, &[u8], u64)] = &[
 fn addresses_by_hand(rt: HostRuntime) {
     let regs = few_registers();
     for (run, modrm, bytes, sum) in ADDRESSES {
-        assert!(rt; raw_address(&reading_of(run), *modrm, bytes, &regs) == Some(*sum));
+        assert!(rt; adds_up(&reading_of(run), *modrm, bytes, &regs, *sum));
     }
 }

@@ -25,84 +25,82 @@ fn opcode<T: Reader<u64, u8>>(reader: &mut T, byte: u8) -> Result<(Map, u8), Dec
         return Ok((Map::One, byte));
     }
     let second = next_byte(reader)?;
-    match second {
-        0x38 => {
-            let third = next_byte(reader)?;
-            Ok((Map::Of38, third))
-        }
-        0x3a => {
-            let third = next_byte(reader)?;
-            Ok((Map::Of3a, third))
-        }
-        _ => Ok((Map::Of, second)),
+    let map = match second {
+        0x38 => Map::Of38,
+        0x3a => Map::Of3a,
+        _ => return Ok((Map::Of, second)),
+    };
+    Ok((map, next_byte(reader)?))
+}
+
+/// Why no opcode may begin with a byte of VEX or EVEX after these prefixes.
+fn vex_refusal(prefixes: &Prefixes) -> DecodeError {
+    if prefixes.operand_size() || prefixes.lock() || prefixes.rex().is_some() {
+        DecodeError::InvalidPrefixes
+    } else {
+        DecodeError::IncompleteDecoder
     }
 }
 
-fn refuse_vex(prefixes: &Prefixes, byte: u8) -> Result<(), DecodeError> {
-    if byte != 0xc4 && byte != 0xc5 && byte != 0x62 {
-        Ok(())
-    } else if prefixes.operand_size() || prefixes.lock() || prefixes.rex().is_some() {
-        Err(DecodeError::InvalidPrefixes)
+/// The prefixes that a row sees.
+fn seen(prefixes: Prefixes, map: Map, byte: u8) -> Prefixes {
+    if map == Map::Of38 && byte != 0xf0 && byte != 0xf1 {
+        prefixes.without_operand_size()
     } else {
-        Err(DecodeError::IncompleteDecoder)
+        prefixes
     }
 }
 
 fn read_row<T: Reader<u64, u8>>(
     reader: &mut T,
     prefixes: Prefixes,
+    map: Map,
     byte: u8,
     strict: bool,
 ) -> Result<Reading, DecodeError> {
-    let (map, byte) = opcode(reader, byte)?;
     let column = column(&prefixes);
-    let Some(found) = row(map, column, byte) else {
-        return Err(DecodeError::InvalidOpcode);
-    };
-    let clears = map == Map::Of38 && column == Column::P66 && byte != 0xf0 && byte != 0xf1;
-    let seen = if clears {
-        prefixes.without_operand_size()
+    let seen = if column == Column::P66 {
+        seen(prefixes, map, byte)
     } else {
         prefixes
     };
-    if found.form.is_group() {
-        read_group(reader, found, seen, strict)
-    } else {
-        read_form(reader, found, seen)
+    match row(map, column, byte) {
+        None => Err(DecodeError::InvalidOpcode),
+        Some(found) if found.form.is_group() => read_group(reader, found, seen, strict),
+        Some(found) => read_form(reader, found, seen),
+    }
+}
+
+fn read_after<T: Reader<u64, u8>>(
+    reader: &mut T,
+    prefixes: Prefixes,
+    byte: u8,
+    strict: bool,
+) -> Result<Reading, DecodeError> {
+    if byte == 0xc4 || byte == 0xc5 || byte == 0x62 {
+        return Err(vex_refusal(&prefixes));
+    }
+    match opcode(reader, byte) {
+        Ok((map, byte)) => read_row(reader, prefixes, map, byte, strict),
+        Err(error) => Err(error),
     }
 }
 
 fn read_all<T: Reader<u64, u8>>(reader: &mut T, strict: bool) -> Result<Reading, DecodeError> {
     let mut prefixes = Prefixes::none();
     for _ in 0..16u8 {
-        let byte = next_byte(reader)?;
-        if is_legacy(byte) || is_rex(byte) {
-            prefixes = prefixes.after(byte);
-        } else {
-            refuse_vex(&prefixes, byte)?;
-            return read_row(reader, prefixes, byte, strict);
+        match next_byte(reader) {
+            Ok(byte) if is_legacy(byte) || is_rex(byte) => prefixes = prefixes.after(byte),
+            Ok(byte) => return read_after(reader, prefixes, byte, strict),
+            Err(error) => return Err(error),
         }
     }
     Err(DecodeError::TooLong)
 }
 
-/// The answer of the loop, and the bytes that it takes.
-fn plain(bytes: &[u8], strict: bool) -> (Result<Reading, DecodeError>, u64) {
-    let room = if bytes.len() < 15 { bytes.len() } else { 15 };
-    let mut reader = U8Reader::new(&bytes[..room]);
-    let answer = read_all(&mut reader, strict);
-    let taken = reader.offset();
-    match answer {
-        Err(DecodeError::ExhaustedInput) if room == 15 => (Err(DecodeError::TooLong), 15),
-        Ok(reading) if reading.prefixes.lock() => {
-            if reading.opcode.can_lock() && reading.slots[0].is_memory() {
-                (Ok(reading), taken)
-            } else {
-                (Err(DecodeError::InvalidPrefixes), taken)
-            }
-        }
-        other => (other, taken),
-    }
+/// Whether F0 is there and isn't allowed.
+fn refuses_lock(reading: &Reading) -> bool {
+    reading.prefixes.lock() && !(reading.opcode.can_lock() && reading.slots[0].is_memory())
 }
 
 /// The memory size in bytes: 0 for none, and 63 where the processor decides.
@@ -113,40 +111,63 @@ fn size_of(instruction: &Instruction) -> u8 {
     }
 }
 
-fn is_same(instruction: &Instruction, reading: &Reading, taken: u64) -> bool {
-    let indices = [0u8, 1, 2, 3];
-    instruction.opcode() == reading.opcode
-        && size_of(instruction) == reading.mem_size
-        && instruction.len().to_const() == taken
-        && instruction.prefixes == reading.prefixes
-        && instruction.operand_count() == reading.count
-        && indices.iter().all(|i| {
-            *i >= 4
-                || (instruction.operand(*i) == reading.operands[*i as usize]
-                    && instruction.slot(*i) == reading.slots[*i as usize])
-        })
+fn has_operands(instruction: &Instruction, reading: &Reading) -> bool {
+    for i in 0..4u8 {
+        let same = instruction.operand(i) == reading.operands[i as usize]
+            && instruction.slot(i) == reading.slots[i as usize];
+        if !same {
+            return false;
+        }
+    }
+    instruction.operand_count() == reading.count
 }
 
-fn agree(bytes: &[u8], strict: bool) -> bool {
-    let decoder = if strict {
-        InstDecoder::strict()
-    } else {
-        InstDecoder::default()
-    };
+/// Whether an instruction is what the loop reads.
+fn is_same(instruction: &Instruction, reading: &Reading) -> bool {
+    instruction.opcode() == reading.opcode
+        && size_of(instruction) == reading.mem_size
+        && instruction.prefixes == reading.prefixes
+        && has_operands(instruction, reading)
+}
+
+/// Whether an instruction of so many bytes is what the loop reads of as many.
+fn is_read(instruction: &Instruction, strict: bool, bytes: &[u8]) -> bool {
     let mut reader = U8Reader::new(bytes);
-    let answer = decoder.decode(&mut reader);
-    let (expected, taken) = plain(bytes, strict);
-    let same = match (&answer, &expected) {
-        (Ok(instruction), Ok(reading)) => is_same(instruction, reading, taken),
-        (Err(left), Err(right)) => left == right,
-        _ => false,
-    };
-    same && reader.offset() == taken
+    match &read_all(&mut reader, strict) {
+        Ok(reading) => is_same(instruction, reading)
+            && !refuses_lock(reading)
+            && instruction.len().to_const() == reader.offset(),
+        Err(_) => false,
+    }
+}
+
+/// Why the loop refuses the bytes, and how many it takes.
+fn refusal(bytes: &[u8], strict: bool) -> Option<(DecodeError, u64)> {
+    let mut reader = U8Reader::new(bytes);
+    match &read_all(&mut reader, strict) {
+        Ok(reading) if refuses_lock(reading) => Some((
+            DecodeError::InvalidPrefixes,
+            reader.offset(),
+        )),
+        Ok(_) => None,
+        Err(DecodeError::ExhaustedInput) if bytes.len() == 15 => Some((DecodeError::TooLong, 15)),
+        Err(error) => Some((*error, reader.offset())),
+    }
+}
+
+fn agree(decoder: &InstDecoder, strict: bool, bytes: &[u8]) -> bool {
+    let mut reader = U8Reader::new(bytes);
+    let read = &bytes[..bytes.len().min(15)];
+    match &decoder.decode(&mut reader) {
+        Ok(instruction) => instruction.len().to_const() == reader.offset()
+            && is_read(instruction, strict, read),
+        Err(error) => refusal(read, strict) == Some((*error, reader.offset())),
+    }
 }
 
 /// Whether decoder and loop answer the same for these bytes, under both choices.
 pub fn agree_on(bytes: &[u8]) -> bool {
-    agree(bytes, false) && agree(bytes, true)
+    agree(&InstDecoder::default(), false, bytes) && agree(&InstDecoder::strict(), true, bytes)
 }
 
 /// Every opcode byte of a map, with a register form and with a memory form after it.

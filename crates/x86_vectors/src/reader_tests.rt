@@ -1,4 +1,5 @@
 //! Readers, and one instruction used again.
+use crate::decoding::decoded;
 use x86_arch::{ChunkReader, ReadError, Reader, U8Reader};
 use x86_decode::{InstDecoder, Instruction, Opcode};
 use x86_fields::DecodeError;
@@ -9,17 +10,28 @@ fn a_number_that_is_too_long_takes_nothing(rt: HostRuntime) {
     let mut four = [0; 4];
     assert!(rt; reader.next_n(&mut four).is_err());
     assert!(rt; reader.offset() == 0);
-    assert!(rt; reader.next() == Ok(1));
+    assert!(rt; matches!(reader.next(), Ok(1)));
+}
+
+/// Whether this is the instruction that is read.
+fn reads<T: Reader<u64, u8>>(reader: &mut T, wanted: &Instruction) -> bool {
+    match &InstDecoder::default().decode(reader) {
+        Ok(instruction) => *instruction == *wanted,
+        Err(_) => false,
+    }
 }
 
 #[test]
 fn split_input(rt: HostRuntime) {
     let bytes = [0x03, 0x05, 0x00, 0x00, 0x00, 0x00];
-    let whole = InstDecoder::default().decode_slice(&bytes);
-    assert!(rt; whole.is_ok());
+    let whole = decoded(&bytes);
     for seam in 0..=6usize {
-        let mut reader = ChunkReader::new(&bytes[..seam], &bytes[seam..]);
-        assert!(rt; InstDecoder::default().decode(&mut reader) == whole);
+        assert!(rt;
+            reads(
+                &mut ChunkReader::new(&bytes[..seam], &bytes[seam..]),
+                &whole
+            )
+        );
     }
 }
 
@@ -35,17 +47,17 @@ fn reads_three(reader: &mut ChunkReader<'_>, wanted: [u8; 3], since: u64, total:
 #[test]
 fn a_number_lies_across_the_seam(rt: HostRuntime) {
     let mut reader = ChunkReader::new(&[1, 2], &[3, 4, 5]);
-    assert!(rt; reader.next() == Ok(1));
+    assert!(rt; matches!(reader.next(), Ok(1)));
     reader.mark();
     assert!(rt; reads_three(&mut reader, [2, 3, 4], 3, 4));
-    assert!(rt; reader.next() == Ok(5));
-    assert!(rt; reader.next() == Err(ReadError::ExhaustedInput));
+    assert!(rt; matches!(reader.next(), Ok(5)));
+    assert!(rt; matches!(reader.next(), Err(ReadError::ExhaustedInput)));
 }
 
 /// Whether the next encoding is refused, and leaves the instruction blank.
 fn is_refused(instruction: &mut Instruction, reader: &mut U8Reader<'_>) -> bool {
     let refused = InstDecoder::default().decode_into(instruction, reader);
-    refused == Err(DecodeError::InvalidOpcode) && *instruction == Instruction::invalid()
+    matches!(refused, Err(DecodeError::InvalidOpcode)) && *instruction == Instruction::invalid()
 }
 
 #[test]
@@ -56,43 +68,38 @@ fn one_instruction_used_again(rt: HostRuntime) {
     assert!(rt; decoder.decode_into(&mut instruction, &mut reader).is_ok());
     assert!(rt; is_refused(&mut instruction, &mut reader));
     assert!(rt; decoder.decode_into(&mut instruction, &mut reader).is_ok());
-    assert!(rt; decoder.decode_slice(&[0x90]) == Ok(instruction));
+    assert!(rt; instruction == decoded(&[0x90]));
 }
 
-/// What is read into an instruction from a slice: its opcode and its length.
-fn read_into(instruction: &mut Instruction, bytes: &[u8]) -> Result<(Opcode, u64), DecodeError> {
-    InstDecoder::default().decode_slice_into(instruction, bytes)?;
-    Ok((instruction.opcode(), instruction.len().to_const()))
+/// Whether the instruction at the beginning is read, of this operation and so many bytes.
+fn takes(instruction: &mut Instruction, bytes: &[u8], opcode: Opcode, length: u64) -> bool {
+    let read = InstDecoder::default().decode_slice_into(instruction, bytes);
+    read.is_ok() && instruction.opcode() == opcode && instruction.len().to_const() == length
 }
 
 #[test]
 fn one_instruction_over_slices(rt: HostRuntime) {
     let mut instruction = Instruction::default();
-    let added = read_into(&mut instruction, &[0x48, 0x01, 0xd8, 0x90]);
-    assert!(rt; added == Ok((Opcode::ADD, 3)));
-    let refused = read_into(&mut instruction, &[0x06]);
-    assert!(rt; refused == Err(DecodeError::InvalidOpcode));
+    assert!(rt; takes(&mut instruction, &[0x48, 0x01, 0xd8, 0x90], Opcode::ADD, 3));
+    let refused = InstDecoder::default().decode_slice_into(&mut instruction, &[0x06]);
+    assert!(rt; matches!(refused, Err(DecodeError::InvalidOpcode)));
     assert!(rt; instruction == Instruction::invalid() && instruction.len().to_const() == 0);
 }
 
 #[test]
 fn equality_looks_at_slots(rt: HostRuntime) {
-    let decoder = InstDecoder::default();
-    let to_rm = decoder.decode_slice(&[0x01, 0xd8]);
-    let to_reg = decoder.decode_slice(&[0x03, 0xc3]);
-    assert!(rt; to_rm.is_ok() && to_reg.is_ok());
-    assert!(rt; to_rm != to_reg);
+    let to_rm = decoded(&[0x01, 0xd8]);
+    let to_reg = decoded(&[0x03, 0xc3]);
+    assert!(rt; to_rm.opcode() == Opcode::ADD && to_reg.opcode() == Opcode::ADD);
+    assert!(rt; !(to_rm == to_reg));
     // The length is not looked at.
-    assert!(rt; decoder.decode_slice(&[0x2e, 0x01, 0xd8]) == to_rm);
+    assert!(rt; to_rm == decoded(&[0x2e, 0x01, 0xd8]));
 }
 
 #[test]
 fn strict_fences(rt: HostRuntime) {
-    let strict = InstDecoder::strict().decode_slice(&[0x0f, 0xae, 0xe9]);
-    assert!(rt; strict == Err(DecodeError::InvalidOperand));
-    assert!(rt;
-        InstDecoder::strict()
-            .decode_slice(&[0x41, 0x0f, 0xae, 0xe8])
-            .is_ok()
-    );
+    let strict = InstDecoder::strict();
+    let refused = strict.decode_slice(&[0x0f, 0xae, 0xe9]);
+    assert!(rt; matches!(refused, Err(DecodeError::InvalidOperand)));
+    assert!(rt; matches!(strict.decode_slice(&[0x41, 0x0f, 0xae, 0xe8]), Ok(_)));
 }

@@ -7,21 +7,24 @@ use x86_lines::{Line, Place};
 use x86_opcodes::Opcode;
 use x86_regs::{MergeMode, RegSpec, RegisterClass, SaeMode, register_class};
 
+fn is_named(register: RegSpec, name: &str) -> bool {
+    register.name() == name
+}
+
 #[test]
 fn registers_by_name(rt: HostRuntime) {
-    let cases = [
-        (RegSpec::rb(4), "spl"),
-        (RegSpec::b(4), "ah"),
-        (RegSpec::r13w(), "r13w"),
-        (RegSpec::zmm(31), "zmm31"),
-        (RegSpec::st0(), "st(0)"),
-        (RegSpec::mask(7), "k7"),
-        (RegSpec::gs(), "gs"),
-        (RegSpec::RIP, "rip"),
-    ];
-    for (register, name) in cases {
-        assert!(rt; register.name() == name);
-    }
+    assert!(rt; is_named(RegSpec::rb(4), "spl"));
+    assert!(rt; is_named(RegSpec::b(4), "ah"));
+    assert!(rt; is_named(RegSpec::r13w(), "r13w"));
+    assert!(rt; is_named(RegSpec::zmm(31), "zmm31"));
+    assert!(rt; is_named(RegSpec::st0(), "st(0)"));
+    assert!(rt; is_named(RegSpec::mask(7), "k7"));
+    assert!(rt; is_named(RegSpec::gs(), "gs"));
+    assert!(rt; is_named(RegSpec::RIP, "rip"));
+}
+
+#[test]
+fn classes_by_name(rt: HostRuntime) {
     assert!(rt; RegSpec::zmm0().width() == 64);
     assert!(rt; register_class::RFLAGS.name() == "rflags");
 }
@@ -62,34 +65,20 @@ fn refusals_by_their_descriptions(rt: HostRuntime) {
 
 #[test]
 fn errors_of_tighten_by_their_texts(rt: HostRuntime) {
-    let texts = [
-        (
-            TightenError::Refused(DecodeError::InvalidOpcode),
-            "invalid opcode",
-        ),
-        (TightenError::NoMemoryForm, "no memory form"),
-        (TightenError::IpRelative, "ip-relative form"),
-    ];
-    for (error, text) in texts {
-        assert!(&rt; is_shown(rt.alloc(), &error, text));
-    }
+    let refused = TightenError::Refused(DecodeError::InvalidOpcode);
+    assert!(&rt; is_shown(rt.alloc(), &refused, "invalid opcode"));
+    assert!(&rt; is_shown(rt.alloc(), &TightenError::NoMemoryForm, "no memory form"));
+    assert!(&rt; is_shown(rt.alloc(), &TightenError::IpRelative, "ip-relative form"));
 }
 
 #[test]
 fn errors_of_emit_by_their_texts(rt: HostRuntime) {
-    let texts = [
-        (EmitError::Prefixes, "not a prefix byte"),
-        (EmitError::Row, "no row for these fields"),
-        (
-            EmitError::Shape,
-            "a part is missing, extra or of the wrong length",
-        ),
-        (EmitError::Lock, "lock prefix not allowed"),
-        (EmitError::Length, "more than 15 bytes"),
-    ];
-    for (error, text) in texts {
-        assert!(&rt; is_shown(rt.alloc(), &error, text));
-    }
+    assert!(&rt; is_shown(rt.alloc(), &EmitError::Prefixes, "not a prefix byte"));
+    assert!(&rt; is_shown(rt.alloc(), &EmitError::Row, "no row for these fields"));
+    let shape = "a part is missing, extra or of the wrong length";
+    assert!(&rt; is_shown(rt.alloc(), &EmitError::Shape, shape));
+    assert!(&rt; is_shown(rt.alloc(), &EmitError::Lock, "lock prefix not allowed"));
+    assert!(&rt; is_shown(rt.alloc(), &EmitError::Length, "more than 15 bytes"));
 }
 
 /// A place, and bytes as hex digits.
@@ -105,16 +94,25 @@ fn dumped(place: u64, bytes: &[u8; 4]) -> Line {
 fn lines_of_digits(rt: HostRuntime) {
     let dump = dumped(4096, &[0x7f, 0x45, 0x4c, 0x46]);
     assert!(&rt; is_shown(rt.alloc(), &dump, "4096: 7f454c46"));
+}
+
+#[test]
+fn a_number_below_zero(rt: HostRuntime) {
     let mut line = Line::new();
     line.push_i64(i64::MIN);
-    assert!(&rt; line.as_slice() == b"-9223372036854775808".as_slice());
+    assert!(rt; line.as_slice() == b"-9223372036854775808".as_slice());
+}
+
+/// Whether a place has these digits.
+fn has_digits(place: &Place, digits: &[u8]) -> bool {
+    place.digits().as_slice() == digits
 }
 
 #[test]
 fn a_place_counts_on(rt: HostRuntime) {
     let mut place = Place::at(98);
     place.advance(3);
-    assert!(rt; place.digits().as_slice() == b"101".as_slice());
+    assert!(rt; has_digits(&place, b"101"));
     place.advance(15);
-    assert!(rt; place.digits().as_slice() == b"116".as_slice());
+    assert!(rt; has_digits(&place, b"116"));
 }

@@ -15,18 +15,20 @@ fn becomes(pairs: &str, wanted: &str) -> bool {
     }
 }
 
+/// Encodings, each with a shortest one.
+const SHORTEST: &[(&str, &str)] = &[
+    ("48 8b 84 25 00 00 00 00", "48 8b 45 00"),
+    ("43 8b 44 25 00", "43 8b 04 2c"),
+    ("8b 44 05 00", "8b 04 28"),
+    ("8b 44 24 00", "8b 04 24"),
+    ("8b 04 45 00 00 00 00", "8b 04 00"),
+    ("8b 84 85 fc ff ff ff 90", "8b 44 85 fc"),
+    ("67 8b 80 80 00 00 00", "67 8b 80 80 00 00 00"),
+];
+
 #[test]
 fn the_shortest_addresses(rt: HostRuntime) {
-    let worked = [
-        ("48 8b 84 25 00 00 00 00", "48 8b 45 00"),
-        ("43 8b 44 25 00", "43 8b 04 2c"),
-        ("8b 44 05 00", "8b 04 28"),
-        ("8b 44 24 00", "8b 04 24"),
-        ("8b 04 45 00 00 00 00", "8b 04 00"),
-        ("8b 84 85 fc ff ff ff 90", "8b 44 85 fc"),
-        ("67 8b 80 80 00 00 00", "67 8b 80 80 00 00 00"),
-    ];
-    for (pairs, wanted) in worked {
+    for (pairs, wanted) in SHORTEST {
         assert!(rt; becomes(pairs, wanted));
     }
 }
