@@ -39,7 +39,8 @@ mod table_tests;
 mod text_tests;
 #[cfg(test)]
 mod tighten_tests;
-pub mod two_buffers;
+#[cfg(test)]
+mod two_buffers;
 #[cfg(test)]
 mod walk_tests;
 #[cfg(test)]
