@@ -1,7 +1,7 @@
 //! Every memory form, at three register files, against the sum written out.
 
+use crate::decoding::decoded;
 use arrayvec::ArrayVec;
-use x86_decode::InstDecoder;
 use x86_fields::{ModRM, RegFile, Sib};
 
 /// Whether there is a SIB after a ModRM of the memory form.
@@ -110,18 +110,15 @@ impl MemoryForm {
     }
 
     fn is_right(&self) -> bool {
-        let bytes = self.bytes();
-        match InstDecoder::default().decode_slice(bytes.as_slice()) {
-            Err(_) => false,
-            Ok(instruction) => {
-                let next = 0xffff_ffff_0000_1000;
-                let memory = instruction.operand(1);
-                files().iter().all(|regs| {
-                    let file = RegFile { regs: *regs };
-                    memory.address(self.address_size, &file, next) == Some(self.sum(regs, next))
-                })
+        let memory = decoded(self.bytes().as_slice()).operand(1);
+        let next = 0xffff_ffff_0000_1000;
+        for regs in files() {
+            let address = memory.address(self.address_size, &RegFile { regs }, next);
+            if address != Some(self.sum(&regs, next)) {
+                return false;
             }
         }
+        true
     }
 }
 
@@ -140,32 +137,41 @@ fn files() -> [[u64; 16]; 3] {
 
 /// The form with each REX bit, 67 or none, and three displacements.
 fn variants_are_right(modrm: ModRM, sib: Sib) -> bool {
-    (0..8u8).all(|bits| {
-        [0, 5, -3].iter().all(|disp| {
+    for bits in 0..8u8 {
+        for disp in [0, 5, -3] {
             let form = MemoryForm {
                 rex_x: bits % 2 == 1,
                 rex_b: bits / 2 % 2 == 1,
                 address_size: bits / 4 == 1,
                 modrm,
                 sib,
-                disp: *disp,
+                disp,
             };
-            form.is_right()
-        })
-    })
+            if !form.is_right() {
+                return false;
+            }
+        }
+    }
+    true
+}
+
+/// The forms of a ModRM, with each SIB where there is one.
+fn forms_are_right(modrm: ModRM) -> bool {
+    if !requires_sib(modrm) {
+        return variants_are_right(modrm, Sib::new(0));
+    }
+    for sib in 0..=255u8 {
+        if !variants_are_right(modrm, Sib::new(sib)) {
+            return false;
+        }
+    }
+    true
 }
 
 #[test]
 fn every_memory_form(rt: HostRuntime) {
     for byte in 0..=255u8 {
         let modrm = ModRM::new(byte);
-        if !modrm.is_memory() {
-            continue;
-        }
-        if requires_sib(modrm) {
-            assert!(rt; (0..=255u8).all(|sib| variants_are_right(modrm, Sib::new(sib))));
-        } else {
-            assert!(rt; variants_are_right(modrm, Sib::new(0)));
-        }
+        assert!(rt; !modrm.is_memory() || forms_are_right(modrm), "{byte}");
     }
 }
