@@ -1,34 +1,10 @@
 //! The whole program, over readers and writers that are slow, that are short, and that fail.
 
-use crate::support::{arguments, shows};
+use crate::support::{Few, arguments, shows};
 use std::alloc::{AllocError, Global};
 use std::io;
 use std::io::{ErrorKind, Read, Write};
 use x86_cli::{Finished, Status, listed};
-
-/// Returns at most so many bytes a read, and fails at the read with a number, from 0.
-#[derive(Drop)]
-struct Few<'a> {
-    bytes: &'a [u8],
-    most: usize,
-    read: u64,
-    fails: u64,
-    error: ErrorKind,
-}
-
-impl Read for Few<'_> {
-    fn read(&mut self, buf: &mut [u8]) -> io::Result<usize> {
-        let read = self.read;
-        self.read = read.saturating_add(1);
-        if read == self.fails {
-            return Err(io::Error::from(self.error));
-        }
-        let count = self.most.min(buf.len()).min(self.bytes.len());
-        buf[..count].copy_from_slice(&self.bytes[..count]);
-        self.bytes = &self.bytes[count..];
-        Ok(count)
-    }
-}
 
 /// Keeps what it takes, at most so many bytes a write. Each third write is interrupted, and a flush fails if it is to.
 #[derive(Drop)]
@@ -125,17 +101,19 @@ fn lists_whole(alloc: Global, pairs: u64, singles: u64, most: usize) -> bool {
     }
 }
 
+/// Long texts: pairs, singles, and how many bytes a write takes. 65,536 bytes of output end at the last line of the
+/// first; the second is a line longer.
+const LONG: &[(u64, u64, usize)] = &[
+    (4, 4753, usize::MAX),
+    (4, 4754, usize::MAX),
+    (0, 24000, 1000),
+    (0, 24000, 65535),
+];
+
 #[test]
 fn long_outputs(rt: HostRuntime) {
-    // 65,536 bytes of output end at the last line of the first; the second is a line longer.
-    let worked = [
-        (4, 4753, usize::MAX),
-        (4, 4754, usize::MAX),
-        (0, 24000, 1000),
-        (0, 24000, 65535),
-    ];
-    for (pairs, singles, most) in worked {
-        assert!(&rt; lists_whole(rt.alloc(), pairs, singles, most));
+    for (pairs, singles, most) in LONG {
+        assert!(&rt; lists_whole(rt.alloc(), *pairs, *singles, *most));
     }
 }
 
@@ -158,46 +136,55 @@ fn two_singles(most: usize, fails: u64, error: ErrorKind) -> Few<'static> {
     }
 }
 
+// Listings of `90 90`: none of the two is listed before a fault, one is, both are, and all is read.
+const NONE: &str = "read fault / ReadFault";
+
+const ONE: &str = "0 1 NOP m0 / read fault / ReadFault";
+
+const BOTH: &str = "0 1 NOP m0 / 1 1 NOP m0 / read fault / ReadFault";
+
+const WHOLE: &str = "0 1 NOP m0 / 1 1 NOP m0 / Done";
+
+/// How many bytes a read returns, which read fails, and what the listing is.
+const FAILING: &[(usize, u64, &str)] = &[
+    (1, 0, NONE),
+    (1, 1, NONE),
+    (1, 2, ONE),
+    (1, 3, ONE),
+    (1, 4, ONE),
+    (1, 5, BOTH),
+    (1, 6, WHOLE),
+    // Reads of more than one byte, after which bytes are ahead.
+    (2, 1, ONE),
+    (2, 2, ONE),
+    (2, 3, BOTH),
+    (2, 4, WHOLE),
+    (4, 1, ONE),
+    (4, 2, BOTH),
+    (4, 3, WHOLE),
+    (64, 0, NONE),
+    (64, 1, BOTH),
+    (64, 2, WHOLE),
+];
+
 #[test]
 fn readers_that_fail(rt: HostRuntime) {
-    let none = "read fault / ReadFault";
-    let one = "0 1 NOP m0 / read fault / ReadFault";
-    let both = "0 1 NOP m0 / 1 1 NOP m0 / read fault / ReadFault";
-    let whole = "0 1 NOP m0 / 1 1 NOP m0 / Done";
-    let worked = [
-        (1, 0, none),
-        (1, 1, none),
-        (1, 2, one),
-        (1, 3, one),
-        (1, 4, one),
-        (1, 5, both),
-        (1, 6, whole),
-        // Reads of more than one byte, after which bytes are ahead.
-        (2, 1, one),
-        (2, 2, one),
-        (2, 3, both),
-        (2, 4, whole),
-        (4, 1, one),
-        (4, 2, both),
-        (4, 3, whole),
-        (64, 0, none),
-        (64, 1, both),
-        (64, 2, whole),
-    ];
-    for (most, fails, wanted) in worked {
-        let reader = two_singles(most, fails, ErrorKind::Other);
+    for (most, fails, wanted) in FAILING {
+        let reader = two_singles(*most, *fails, ErrorKind::Other);
         assert!(&rt; program_shows(rt.alloc(), reader, wanted));
     }
 }
 
+/// Texts, each with its listing.
+const ENDS: &[(&str, &str)] = &[
+    ("90", "0 1 NOP m0 / Done"),
+    ("90 06 90", "0 1 NOP m0 / 1 error: invalid opcode / Refused"),
+    ("90 4", "0 1 NOP m0 / text error at 4 / BadText"),
+];
+
 #[test]
 fn ends_of_the_program(rt: HostRuntime) {
-    let worked = [
-        ("90", "0 1 NOP m0 / Done"),
-        ("90 06 90", "0 1 NOP m0 / 1 error: invalid opcode / Refused"),
-        ("90 4", "0 1 NOP m0 / text error at 4 / BadText"),
-    ];
-    for (text, wanted) in worked {
+    for (text, wanted) in ENDS {
         assert!(&rt; program_shows(rt.alloc(), text.as_bytes(), wanted));
     }
 }
@@ -208,8 +195,8 @@ fn an_interrupted_read_is_a_fault_too(rt: HostRuntime) {
     assert!(&rt; program_shows(rt.alloc(), reader, "read fault / ReadFault"));
 }
 
-/// How many reads the listing of this text makes, where each returns one byte.
-fn reads_of(alloc: Global, text: &[u8]) -> Result<u64, AllocError> {
+/// Whether the listing of this text makes so many reads, where each returns one byte.
+fn makes_reads(alloc: Global, text: &[u8], reads: u64) -> bool {
     let reader = Few {
         bytes: text,
         most: 1,
@@ -217,22 +204,27 @@ fn reads_of(alloc: Global, text: &[u8]) -> Result<u64, AllocError> {
         fails: u64::MAX,
         error: ErrorKind::Other,
     };
-    Ok(program_ending(alloc, reader, Vec::new(alloc))?.reader.read)
+    match program_ending(alloc, reader, Vec::new(alloc)) {
+        Ok(end) => end.reader.read == reads,
+        Err(_) => false,
+    }
 }
+
+/// Texts, each with how many reads its listing makes.
+const READS: &[(&str, u64)] = &[
+    // A read for each byte of the text, and one that returns none.
+    ("", 1),
+    ("90 90", 6),
+    // After a byte that isn't allowed at its place, nothing is read.
+    ("90 9z90", 5),
+    // A refusal is listed when 15 bytes of the image are held.
+    ("06 90909090909090909090909090909090909090909090", 31),
+];
 
 #[test]
 fn the_end_is_read_once(rt: HostRuntime) {
-    let worked = [
-        // A read for each byte of the text, and one that returns none.
-        ("", 1),
-        ("90 90", 6),
-        // After a byte that isn't allowed at its place, nothing is read.
-        ("90 9z90", 5),
-        // A refusal is listed when 15 bytes of the image are held.
-        ("06 90909090909090909090909090909090909090909090", 31),
-    ];
-    for (text, reads) in worked {
-        assert!(&rt; reads_of(rt.alloc(), text.as_bytes()) == Ok(reads));
+    for (text, reads) in READS {
+        assert!(&rt; makes_reads(rt.alloc(), text.as_bytes(), *reads));
     }
 }
 

@@ -41,6 +41,7 @@ make 192 | 01 d8 | - => 192 instructions 760 bytes 8 rip 0 abs / Done
 make 7296 | 01 d8 | - => 7296 instructions 29040 bytes 304 rip 8 abs / Done
 list | 01 d8 | 0 => read fault / ReadFault
 list | 01 d8 | 5 => 0 2 ADD eax, ebx m4 / read fault / ReadFault
+list | 01 d8 | 6 7 8 => 0 2 ADD eax, ebx m4 / Done
 list | 01 d8 01 d8 | 0 1 2 3 4 => read fault / ReadFault
 list | 01 d8 01 d8 | 5 6 7 8 9 10 => 0 2 ADD eax, ebx m4 / read fault / ReadFault
 list | 01 d8 01 d8 | 11 => 0 2 ADD eax, ebx m4 / 2 2 ADD eax, ebx m4 / read fault / ReadFault

@@ -1,9 +1,9 @@
 //! Runs over sources and sinks that fail, and over readers and writers.
 
-use crate::support::ending;
+use crate::support::{Few, ending};
 use std::alloc::Global;
 use std::io;
-use std::io::{ErrorKind, Read, Write};
+use std::io::{ErrorKind, Write};
 use x86_cli::outside::gathered::Gathered;
 use x86_cli::{ArraySink, NullSink, Sink, SoundSource, Status, StdSink, StdSource};
 
@@ -26,16 +26,18 @@ fn stops_at<const N: usize>(
     ended == Ok(status) && sink.written() == written.as_bytes()
 }
 
+/// Which call of the sink fails, what is written, and the status.
+const FAILING: &[(u64, &str, Status)] = &[
+    (0, "", Status::WriteFault),
+    (1, "0 2 ADD eax, ebx m4\n", Status::WriteFault),
+    (2, WHOLE, Status::Done),
+];
+
 #[test]
 fn failing_sinks(rt: HostRuntime) {
-    let worked = [
-        (0, "", Status::WriteFault),
-        (1, "0 2 ADD eax, ebx m4\n", Status::WriteFault),
-        (2, WHOLE, Status::Done),
-    ];
-    for (fails, written, status) in worked {
-        let sink = ArraySink::<64>::new(fails);
-        assert!(&rt; stops_at(rt.alloc(), "list", TEXT, sink, written, status));
+    for (fails, written, status) in FAILING {
+        let sink = ArraySink::<64>::new(*fails);
+        assert!(&rt; stops_at(rt.alloc(), "list", TEXT, sink, written, *status));
     }
 }
 
@@ -71,26 +73,6 @@ fn a_sink_that_keeps_nothing(rt: HostRuntime) {
     let mut source = SoundSource::new(TEXT);
     let ended = ending(rt.alloc(), "list", &mut source, &mut NullSink::new());
     assert!(&rt; ended == Ok(Status::Done));
-}
-
-/// Returns its bytes in two reads, and fails at the third.
-#[derive(Drop)]
-struct FailingReader<'a> {
-    bytes: &'a [u8],
-    reads: u8,
-}
-
-impl Read for FailingReader<'_> {
-    fn read(&mut self, buf: &mut [u8]) -> io::Result<usize> {
-        self.reads = self.reads.saturating_add(1);
-        if self.reads > 2 {
-            return Err(io::Error::from(ErrorKind::Other));
-        }
-        let half = self.bytes.len().div_ceil(2);
-        let mut part = &self.bytes[..half];
-        self.bytes = &self.bytes[half..];
-        part.read(buf)
-    }
 }
 
 /// Takes so many bytes, and then none.
@@ -160,9 +142,12 @@ fn a_flush_that_fails(rt: HostRuntime) {
 
 #[test]
 fn readers_that_fail(rt: HostRuntime) {
-    let mut source = StdSource::new(FailingReader {
+    let mut source = StdSource::new(Few {
         bytes: TEXT,
-        reads: 0,
+        most: 6,
+        read: 0,
+        fails: 2,
+        error: ErrorKind::Other,
     });
     let ended = ending(rt.alloc(), "list", &mut source, &mut NullSink::new());
     assert!(&rt; ended == Ok(Status::ReadFault) && source.faults() == 1);

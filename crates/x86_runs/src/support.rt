@@ -1,13 +1,19 @@
 //! What tests of runs have in common.
 
 use std::alloc::{AllocError, Global};
+use std::io;
+use std::io::{ErrorKind, Read};
 use x86_cli::{Sink, Source, Status, run};
+
+fn push_word(arguments: &mut Vec<String>, alloc: Global, word: &str) -> Result<(), AllocError> {
+    Ok(arguments.push(String::from_str(alloc, word)?)?)
+}
 
 /// The words of a command, as `main` collects them. There is a blank after each but the last, where that is not empty.
 pub fn arguments(alloc: Global, command: &str) -> Result<Vec<String>, AllocError> {
     let mut arguments = Vec::new(alloc);
     for word in command.split_terminator(" ") {
-        arguments.push(String::from_str(alloc, word)?)?;
+        push_word(&mut arguments, alloc, word)?;
     }
     Ok(arguments)
 }
@@ -39,5 +45,29 @@ pub fn shows(
     match ended {
         Ok(status) => shown(alloc, written, status) == wanted.replace(alloc, " / ", "\n"),
         Err(_) => false,
+    }
+}
+
+/// Returns at most so many bytes a read, and fails at the read with a number, from 0.
+#[derive(Drop)]
+pub struct Few<'a> {
+    pub bytes: &'a [u8],
+    pub most: usize,
+    pub read: u64,
+    pub fails: u64,
+    pub error: ErrorKind,
+}
+
+impl Read for Few<'_> {
+    fn read(&mut self, buf: &mut [u8]) -> io::Result<usize> {
+        let read = self.read;
+        self.read = read.saturating_add(1);
+        if read == self.fails {
+            return Err(io::Error::from(self.error));
+        }
+        let count = self.most.min(buf.len()).min(self.bytes.len());
+        buf[..count].copy_from_slice(&self.bytes[..count]);
+        self.bytes = &self.bytes[count..];
+        Ok(count)
     }
 }
