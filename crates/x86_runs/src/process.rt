@@ -32,6 +32,7 @@ fn finishes(alloc: Global, status: Status, code: u8, written: &str) -> bool {
 fn the_usage_line_is_written_at_usage(rt: HostRuntime) {
     let usage = "usage: list [--strict] | make N | fields | tighten | sweep | targets\n";
     assert!(&rt; finishes(rt.alloc(), Status::Usage, 2, usage));
+    assert!(&rt; usage.lines().next() == Some(USAGE));
 }
 
 /// The other statuses, each with its code.
@@ -49,9 +50,4 @@ fn nothing_is_written_at_other_statuses(rt: HostRuntime) {
     for (status, code) in CODES {
         assert!(&rt; finishes(rt.alloc(), *status, *code, ""));
     }
-}
-
-#[test]
-fn the_usage_line(rt: HostRuntime) {
-    assert!(&rt; USAGE == "usage: list [--strict] | make N | fields | tighten | sweep | targets");
 }

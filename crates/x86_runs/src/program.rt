@@ -1,6 +1,6 @@
 //! The whole program, over readers and writers that are slow, that are short, and that fail.
 
-use crate::support::{Few, arguments, shows};
+use crate::support::{ShortReader, arguments, shows};
 use std::alloc::{AllocError, Global};
 use std::io;
 use std::io::{ErrorKind, Read, Write};
@@ -8,14 +8,14 @@ use x86_cli::{Finished, Status, listed};
 
 /// Keeps what it takes, at most so many bytes a write. Each third write is interrupted, and a flush fails if it is to.
 #[derive(Drop)]
-struct Short {
+struct ShortWriter {
     kept: Vec<u8>,
     most: usize,
     write: u64,
     flushes: bool,
 }
 
-impl Write for Short {
+impl Write for ShortWriter {
     fn write(&mut self, buf: &[u8]) -> io::Result<usize> {
         self.write = self.write.saturating_add(1);
         if self.write % 3 == 0 {
@@ -87,7 +87,7 @@ fn lists_whole(alloc: Global, pairs: u64, singles: u64, most: usize) -> bool {
     let Ok(long) = long_text(alloc, pairs, singles) else {
         return false;
     };
-    let writer = Short {
+    let writer = ShortWriter {
         kept: Vec::new(alloc),
         most,
         write: 0,
@@ -126,8 +126,8 @@ fn program_shows<R: Read + Drop>(alloc: Global, reader: R, wanted: &str) -> bool
 }
 
 /// A reader of two instructions that returns at most so many bytes a read, and whose read with a number fails.
-fn two_singles(most: usize, fails: u64, error: ErrorKind) -> Few<'static> {
-    Few {
+fn two_singles(most: usize, fails: u64, error: ErrorKind) -> ShortReader<'static> {
+    ShortReader {
         bytes: b"90 90",
         most,
         read: 0,
@@ -197,7 +197,7 @@ fn an_interrupted_read_is_a_fault_too(rt: HostRuntime) {
 
 /// Whether the listing of this text makes so many reads, where each returns one byte.
 fn makes_reads(alloc: Global, text: &[u8], reads: u64) -> bool {
-    let reader = Few {
+    let reader = ShortReader {
         bytes: text,
         most: 1,
         read: 0,
@@ -230,12 +230,12 @@ fn the_end_is_read_once(rt: HostRuntime) {
 
 /// Fails at each write, and counts them.
 #[derive(Drop)]
-struct Failing {
+struct FailingWriter {
     writes: u64,
     error: ErrorKind,
 }
 
-impl Write for Failing {
+impl Write for FailingWriter {
     fn write(&mut self, _buf: &[u8]) -> io::Result<usize> {
         self.writes = self.writes.saturating_add(1);
         Err(io::Error::from(self.error))
@@ -249,7 +249,7 @@ impl Write for Failing {
 /// Whether the writer is called once, and the run ends so.
 fn fails_once(alloc: Global, error: ErrorKind) -> bool {
     let text: &[u8] = b"90";
-    match program_ending(alloc, text, Failing { writes: 0, error }) {
+    match program_ending(alloc, text, FailingWriter { writes: 0, error }) {
         Ok(end) => end.status == Status::WriteFault && end.writer.writes == 1,
         Err(_) => false,
     }
@@ -265,7 +265,7 @@ fn a_failed_write_is_not_tried_again(rt: HostRuntime) {
 /// Whether the program over a writer whose flush fails writes these lines, and ends so.
 fn unflushed_shows(alloc: Global, wanted: &str) -> bool {
     let text: &[u8] = b"90";
-    let writer = Short {
+    let writer = ShortWriter {
         kept: Vec::new(alloc),
         most: usize::MAX,
         write: 0,

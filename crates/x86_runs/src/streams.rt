@@ -1,6 +1,6 @@
 //! Runs over sources and sinks that fail, and over readers and writers.
 
-use crate::support::{Few, ending};
+use crate::support::{ShortReader, ending};
 use std::alloc::Global;
 use std::io;
 use std::io::{ErrorKind, Write};
@@ -142,7 +142,7 @@ fn a_flush_that_fails(rt: HostRuntime) {
 
 #[test]
 fn readers_that_fail(rt: HostRuntime) {
-    let mut source = StdSource::new(Few {
+    let mut source = StdSource::new(ShortReader {
         bytes: TEXT,
         most: 6,
         read: 0,

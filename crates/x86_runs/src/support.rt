@@ -50,7 +50,7 @@ pub fn shows(
 
 /// Returns at most so many bytes a read, and fails at the read with a number, from 0.
 #[derive(Drop)]
-pub struct Few<'a> {
+pub struct ShortReader<'a> {
     pub bytes: &'a [u8],
     pub most: usize,
     pub read: u64,
@@ -58,7 +58,7 @@ pub struct Few<'a> {
     pub error: ErrorKind,
 }
 
-impl Read for Few<'_> {
+impl Read for ShortReader<'_> {
     fn read(&mut self, buf: &mut [u8]) -> io::Result<usize> {
         let read = self.read;
         self.read = read.saturating_add(1);

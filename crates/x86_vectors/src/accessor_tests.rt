@@ -3,9 +3,10 @@ use crate::decoding::decoded;
 use x86_arch::AddressDiff;
 use x86_decode::{ConditionCode, InstDecoder, Instruction, Opcode, Operand, Segment, Slot};
 
-/// Whether this is what an operation tests.
+/// Whether an instruction is read, and this is what its operation tests.
 fn tests(bytes: &[u8], wanted: Option<ConditionCode>) -> bool {
-    decoded(bytes).opcode().condition() == wanted
+    let instruction = decoded(bytes);
+    instruction.len().to_const() > 0 && instruction.opcode().condition() == wanted
 }
 
 #[test]
@@ -21,10 +22,12 @@ fn kinds_of_conditional_operations(rt: HostRuntime) {
     assert!(rt; Opcode::JNB.is_jcc() && !Opcode::JNB.is_setcc());
 }
 
-/// Whether the hints of an instruction are these.
+/// Whether an instruction is read, and its hints are these.
 fn hints(bytes: &[u8], acquire: bool, release: bool) -> bool {
     let instruction = decoded(bytes);
-    instruction.xacquire() == acquire && instruction.xrelease() == release
+    instruction.len().to_const() > 0
+        && instruction.xacquire() == acquire
+        && instruction.xrelease() == release
 }
 
 #[test]
