@@ -21,7 +21,7 @@ The table has the first thing that the prover names. `returns-clause-short` is t
 returns; what is before `clause` is the path through the body: a branch, an arm, or a call. A lemma is named where an edit
 turns a table that a lemma computes. Written by `python3 tools/edits.py LOG`.
 """
-TRIED = re.compile(r"must-fail (\w+)/(\w+)\.edit: refused, as it must be: (?:note: )?(?:\./)?([\w./]+):(\d+):\d+: (.*)")
+TRIED = re.compile(r"must-fail (\w+)/(\w+)\.edit: refused, as it must be: (?:note: )?(?:\./)?([\w./+]+):(\d+):\d+: (.*)")
 
 
 def there():

@@ -1,7 +1,11 @@
 use Rattle.std.proofs.Common.{◌≤◌, ◌+◌, arith}
+use Rattle.std.proofs.lemmas.Grind.{common_steps}
 use Rattle.std.proofs.lemmas.Fmt.{length-decimal-le}
 use Rattle.x86_lines.proofs.digits.put_signed.Goals.{then-n-lt0, else-n-lt0}
 use Rattle.x86_lines.proofs.digits.put_signed.Goals as goal
+
+pub returns-clause-text : goal.returns-clause-text
+returns-clause-text c = grind (arith, common_steps)
 
 -- a sign at most, and at most 19 digits
 
