@@ -39,8 +39,7 @@ mod table_tests;
 mod text_tests;
 #[cfg(test)]
 mod tighten_tests;
-#[cfg(test)]
-mod two_buffers;
+pub mod two_buffers;
 #[cfg(test)]
 mod walk_tests;
 #[cfg(test)]
