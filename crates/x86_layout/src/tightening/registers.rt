@@ -7,7 +7,7 @@ use x86_fields::{ModRM, Raw};
 use x86_regs::RegSpec;
 
 /// What an index is multiplied by.
-#[derive(Clone, Copy, PartialEq, Eq, Debug, Drop)]
+#[derive(Clone, Copy, Drop)]
 pub enum Scale {
     One,
     Two,
@@ -16,7 +16,7 @@ pub enum Scale {
 }
 
 /// The base and the index of an address, by their numbers from 0 to 15.
-#[derive(Clone, Copy, PartialEq, Eq, Debug, Drop)]
+#[derive(Clone, Copy, Drop)]
 pub struct AddressRegisters {
     pub base: Option<u8>,
     pub index: Option<u8>,
