@@ -37,7 +37,7 @@ impl<'a> SliceSource<'a> {
         }
     }
 
-    /// How often a call has failed.
+    /// A count that rises with each call that fails, and stops at `u64::MAX`.
     pub fn faults(&self) -> u64
         ensures { result ≡ ⟦<SliceSource<'a> as Source>⟧.faults self.now }
     {

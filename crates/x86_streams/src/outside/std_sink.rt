@@ -32,7 +32,7 @@ impl<W: Output + Drop> StdSink<W> {
         self.writer
     }
 
-    /// How many writes have failed.
+    /// A count that rises with each write that fails, and stops at `u64::MAX`.
     pub fn faults(&self) -> u64
         ensures { result ≡ ⟦<StdSink<W> as Sink>⟧.faults self.now }
     {

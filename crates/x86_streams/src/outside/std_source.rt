@@ -50,7 +50,7 @@ impl<R: Input + Drop> StdSource<R> {
         self.reader
     }
 
-    /// How many reads have failed.
+    /// A count that rises with each read that fails, and stops at `u64::MAX`.
     pub fn faults(&self) -> u64
         ensures { result ≡ ⟦<StdSource<R> as Source>⟧.faults self.now }
     {
