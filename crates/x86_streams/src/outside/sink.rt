@@ -13,7 +13,7 @@ pub trait Sink {
     /// The bytes written, where they are known.
     ghost written: { Self → Option (List ℕ) };
 
-    /// How often the sink has failed.
+    /// The count of faults.
     ghost faults: { Self → ℕ };
 
     /// What a put of a piece may answer, and what it may leave of the sink.

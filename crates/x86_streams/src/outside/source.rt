@@ -18,7 +18,7 @@ pub trait Source {
     /// The bytes left, where they are known.
     ghost left: { Self → Option (List ℕ) };
 
-    /// How often the source has failed.
+    /// The count of faults.
     ghost faults: { Self → ℕ };
 
     /// What a call may answer, and what it may leave of the source.
