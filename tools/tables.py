@@ -11,13 +11,14 @@ The lists, which people edit:
     crates/x86_forms/specs/Rows.antt           the rows of each map, a line for each row
     crates/x86_regs/specs/Names.antt           the registers of each class
 
-Nothing rests on this script. What it writes is checked like all other code: that the constants have the numbers of the
-names, that each form is at its ordinal, and that each table has the words of the rows, is proved, and a wrong entry is
-refused, whether the script or a hand wrote it.
+Nothing rests on this script. What it writes is checked like all other code: that the constants have the numbers and
+spellings of their names, that each form is at its ordinal, and that each table has the words of the rows, is proved.
+A wrong entry is refused, whether the script or a hand wrote it.
 """
 
 import re
 import sys
+import textwrap
 from pathlib import Path
 
 TOP = Path(__file__).resolve().parent.parent
@@ -30,8 +31,14 @@ MAPS = ["One", "Of", "Of38", "Of3a"]
 COLUMNS = ["Plain", "P66", "F3", "F2"]
 UNDECIDED = 63  # the size that means one that the processor decides
 CARRIED = 8  # how many numbers a form with a field can carry
-PART = 128  # how many spellings a table has: a proof over a table of texts takes time by the square of its length
+PART = 128  # how many constants a table has: a proof over a table of texts takes time by the square of its length
 NOTE = ["Written by tools/tables.py from {}.", "The proof doesn't rest on that script: a wrong entry is refused."]
+NAMED = """/// Constants, each by its number and its name. One word yields both, so a constant can't have another's name.
+macro_rules! named {
+    ($($name:ident)*) => {
+        [$((Opcode::$name.number, stringify!($name))),*]
+    };
+}""".splitlines()
 
 
 def note(mark, source):
@@ -51,14 +58,10 @@ def lines_of(text, first, last, pattern):
         yield read.groups()
 
 
-def spellings():
-    """The opcodes in the order of their numbers, each with its spelling."""
-    text = (OPCODES / "specs" / "Mnemonics.antt").read_text()
-    return list(lines_of(text, "all_names =", r"    \[\]", r'    is opcode\.(\w+) \(codes "(\w+)"\) ∷'))
-
-
 def names():
-    return [name for name, _ in spellings()]
+    """The opcodes in the order of their numbers, each named as it is spelled."""
+    text = (OPCODES / "specs" / "Mnemonics.antt").read_text()
+    return [name for (name,) in lines_of(text, "all_names =", r"    \[\]", r'    is opcode\.(\w+) \(codes "\1"\) ∷')]
 
 
 def forms():
@@ -122,6 +125,13 @@ def names_antt():
     return lines
 
 
+def named_table(first, of):
+    """A table of the constants from a number on, each by the word that names it."""
+    lines = ["", f"/// The constants of the numbers from {first} on, by their names."]
+    lines += [f"pub(crate) const NAMED_{first // PART}: [(u16, &str); {len(of)}] = named!["]
+    return lines + textwrap.wrap(" ".join(of), 100, initial_indent="    ", subsequent_indent="    ") + ["];"]
+
+
 def names_rt():
     count = len(names())
     lines = ["//! The constants of the opcodes, their numbers and their spellings.", "//!"]
@@ -130,14 +140,11 @@ def names_rt():
         lines += [f"    pub const {name}: Opcode = Opcode {{ number: {number} }};", ""]
     lines[-1] = "}"
     lines += ["", "/// How many names there are, `Invalid` among them.", f"pub(crate) const OPCODES: u16 = {count};"]
-    lines += ["", "/// The numbers of the constants, each by its name.", f"pub(crate) const NUMBERS: &[u16; {count}] = &["]
-    lines += [f"    Opcode::{name}.number," for name in names()] + ["];", ""]
-    lines += ["/// How many spellings a table has. The last one has what is left.", f"pub(crate) const PART: u16 = {PART};", ""]
+    lines += ["", "/// How many constants a table has. The last one has what is left.", f"pub(crate) const PART: u16 = {PART};"]
+    lines += ["", *NAMED]
     for part in range(0, count, PART):
-        texts = [spelling for _, spelling in spellings()[part : part + PART]]
-        lines += [f"/// The spellings of the numbers from {part} on.", f"pub(crate) const MNEMONICS_{part // PART}: [&str; {len(texts)}] = ["]
-        lines += [f'    "{text}", // {number}' for number, text in enumerate(texts, part)] + ["];", ""]
-    return lines[:-1]
+        lines += named_table(part, names()[part : part + PART])
+    return lines
 
 
 def ordinals_antt():
@@ -205,7 +212,7 @@ def name_table(name, size, texts):
 def mnemonics_rt():
     lines = ["//! The mnemonics as names, in the order of the opcodes' numbers.", "//!"]
     lines += note("//!", "x86_opcodes/specs/Mnemonics.antt") + ["use crate::names::{Name, name};", ""]
-    return lines + name_table("MNEMONICS", 16, [spelling for _, spelling in spellings()])
+    return lines + name_table("MNEMONICS", 16, names())
 
 
 def registers_rt():
