@@ -2,7 +2,7 @@
 
 ghost use Rattle.std.specs.Prelude.{◌≡◌, ◌↔◌, ℕ, ◌+◌, ◌<◌, ◌∷◌, [], length, take, IsTrue, IfOk, OnOk, OnErr};
 
-use crate::{AddressDiff, ReadError, Reader, U8Reader};
+use crate::{Address, AddressDiff, ReadError, Reader, U8Reader};
 
 /// Over any reader `next` returns what it returns over a slice with the same bytes left: the same answer, and the
 /// same count taken.
@@ -45,6 +45,11 @@ pub fn next_n_is_that_of_a_slice<T: Reader<u64, u8>>(
     let answer_over_slice = slice.next_n(over_slice);
     (answer, answer_over_slice, slice.total_offset())
 }
+
+/// A number of 64 bits counts as many items as it says.
+pub fn addresses_are_their_numbers()
+    ensures { (n : ℕ) → ⟦<u64 as Address>⟧.to_u64 n ≡ n }
+{}
 
 /// Distances are equal exactly where their numbers are, and any two refusals of a reader are equal.
 pub fn values_are_equal()

@@ -59,7 +59,7 @@ length_of i = i.length
 abbrev pub with_length : Instruction → ℕ → Instruction
 with_length i length = record i { length = length }
 
--- the memory size: 0 where none is named, 63 where the processor decides
+-- the memory size: 0 where the row has none, 63 where the processor decides
 abbrev pub mem_size_number : Instruction → ℕ
 mem_size_number i = i.operand_list.mem_size
 
@@ -74,7 +74,7 @@ operand_at i k = operand_in i.operand_list k
 abbrev pub operands_of : Instruction → List Operand
 operands_of i = take (operand_count i) (operand_at i 0 ∷ operand_at i 1 ∷ operand_at i 2 ∷ operand_at i 3 ∷ [])
 
--- the size of what is read or written in memory, where one is named
+-- the memory size, where the row has one
 abbrev pub mem_size_of : Instruction → Option MemoryAccessSize
 mem_size_of i = if mem_size_number i == 0 then None else Some (access_size (mem_size_number i))
 

@@ -14,8 +14,8 @@ use x86_opcodes::Opcode;
 use x86_operands::{MemoryAccessSize, Operand, OperandVisitor, Operands, Slot};
 use x86_regs::Segment;
 
-/// An instruction: prefixes, opcode, at most four operands with the slots that they come from, the size of what is
-/// read or written in memory, and the length of the encoding.
+/// An instruction: prefixes, opcode, at most four operands with the slots that they come from, the memory size that its
+/// row has, and the length of the encoding.
 ///
 /// Two instructions are equal where all of this but the length is, so instructions from encodings of different length
 /// may be equal.

@@ -1,10 +1,11 @@
 //! What prefixes, address forms and equality say, over the definitions alone.
 
-ghost use Rattle.std.specs.Prelude.{◌≡◌, ◌↔◌, ◌≤◌, ◌++◌, ◌||◌, ℕ, List, [], ◌∷◌, length, IsTrue, false, FitsSigned, Ok, Err};
+ghost use Rattle.std.specs.Prelude.{◌≡◌, ◌↔◌, ◌≤◌, ◌++◌, ◌||◌, ℕ, List, [], ◌∷◌, length, IsTrue, false, FitsSigned, Ok, Err, Some};
 ghost use Rattle.std.specs.Int.{w32};
 ghost use Rattle.std.specs.List.{fold};
 ghost use Rattle.x86_arch.specs.Reader.{State, advanced};
 ghost use Rattle.x86_fields.specs.Address.{scale_by};
+ghost use Rattle.x86_fields.specs.Errors.{is_exhausted, is_bad_opcode, is_bad_operand, description_of};
 ghost use Rattle.x86_fields.specs.Linear.{Linear, raw_form, IsSameAddress, IsReduced, AgreeEverywhere, AgreeAtUnits};
 ghost use Rattle.x86_fields.specs.Pieces.{SpellsRaw, IsReadRaw, sib_taken};
 ghost use Rattle.x86_fields.specs.Raw.{read_raw};
@@ -12,6 +13,24 @@ ghost use Rattle.x86_fields.specs.Steps.{outcome};
 ghost use Rattle.x86_fields.specs.Run.{repnz, rep, rep_any, reading_of, after_of};
 
 use crate::{DecodeError, PrefixRex, Prefixes, Raw};
+use std::fmt::Display;
+use x86_arch::ReadError;
+
+/// What code over any instruction set learns of an error: its kind and its description, which is its text too.
+pub fn errors_through_the_traits()
+    ensures exhausted { (e : DecodeError) →
+        ⟦<DecodeError as x86_arch::DecodeError>⟧.data_exhausted e ≡ is_exhausted e }
+    ensures opcode { (e : DecodeError) →
+        ⟦<DecodeError as x86_arch::DecodeError>⟧.bad_opcode e ≡ is_bad_opcode e }
+    ensures operand { (e : DecodeError) →
+        ⟦<DecodeError as x86_arch::DecodeError>⟧.bad_operand e ≡ is_bad_operand e }
+    ensures description { (e : DecodeError) →
+        ⟦<DecodeError as x86_arch::DecodeError>⟧.description e ≡ description_of e }
+    ensures text { (e : DecodeError) →
+        ⟦<DecodeError as Display>⟧.output e ≡ Some (description_of e) }
+    ensures of_reader { (lack : ReadError) (e : DecodeError) →
+        ⟦<DecodeError as From<ReadError>>⟧.from_gives lack e ↔ (e ≡ DecodeError.ExhaustedInput) }
+{}
 
 /// The reading of a run is what its bytes do one after another, from no prefix on.
 #[tactic(auto, using(crate::proofs::RunLemmas::reading_folds, crate::proofs::RunLemmas::reading_push))]

@@ -4,9 +4,22 @@ ghost use Rattle.x86_forms.specs.declared.Map.{Map};
 ghost use Rattle.x86_forms.specs.declared.Column.{Column};
 ghost use Rattle.x86_forms.specs.declared.Form.{Form};
 ghost use Rattle.x86_forms.specs.declared.TableRow.{TableRow};
+ghost use Rattle.x86_forms.specs.declared.patching.Patched.{Patched};
+ghost use Rattle.x86_forms.specs.declared.words.Packed.{Packed};
+ghost use Rattle.x86_forms.specs.Patch.{patched_word};
 ghost use Rattle.x86_forms.specs.Equality.{equal_columns, equal_forms, equal_maps, equal_rows};
 ghost use Rattle.x86_forms.specs.Rows.{printed_row};
 ghost use Rattle.x86_forms.specs.Words.{HasWord, unpack, rows_of, packed, word_of};
+
+use crate::{Packed, Patched, Words};
+
+/// The words of the two tables: the printed ones, and those with another word in one cell.
+pub fn tables_have_their_words()
+    ensures packed { (t : Packed) (map : Map) (column : Column) (byte : ℕ) →
+        ⟦<Packed as Words>⟧.word t map column byte ≡ packed map column byte }
+    ensures patched { (t : Patched) (map : Map) (column : Column) (byte : ℕ) →
+        ⟦<Patched as Words>⟧.word t map column byte ≡ patched_word t map column byte }
+{}
 
 /// The words of rows: none is 0, and different rows have different words.
 #[tactic(auto, using(crate::proofs::WordLemmas::not_zero))]

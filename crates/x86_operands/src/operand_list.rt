@@ -55,7 +55,8 @@ pub struct Operands {
     pub operands: [Operand; 4],
     /// How many there are, at most 4. At this index and above it there is no operand.
     pub count: u8,
-    /// The size in bytes of what is read or written in memory: 0 for none, and 63 where the processor decides.
+    /// The memory size in bytes, which the row has for the operation: 0 where it has none, and 63 where the processor
+    /// decides.
     pub mem_size: u8,
 }
 

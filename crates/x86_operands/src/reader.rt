@@ -27,7 +27,8 @@ pub struct Reading {
     /// Where each operand comes from.
     pub slots: [Slot; 4],
     pub operands: [Operand; 4],
-    /// The size in bytes of what is read or written in memory: 0 for none, and 63 where the processor decides.
+    /// The memory size in bytes, which the row has for the operation: 0 where it has none, and 63 where the processor
+    /// decides.
     pub mem_size: u8,
     /// The prefixes with the changes that the operation makes.
     pub prefixes: Prefixes,

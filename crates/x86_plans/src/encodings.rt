@@ -127,7 +127,7 @@ pub struct FormEncoding {
     pub rm: Width,
     /// The operand that is none of these.
     pub last: Last,
-    /// The size of what is read or written in memory, in the memory form.
+    /// The memory size, in the memory form.
     pub in_memory: Size,
     /// The same in the register form, and without ModRM.
     pub in_register: Size,
@@ -280,8 +280,8 @@ impl AfterOpcode {
 }
 
 impl FormEncoding {
-    /// The size in bytes of what is read or written in memory, in the memory form or in the register form. From
-    /// `Size::Bare` on the operation alone decides it.
+    /// The memory size in bytes, in the memory form or in the register form. From `Size::Bare` on the operation alone
+    /// decides it.
     #[inline(always)]
     pub fn mem_size(&self, in_memory: bool, opcode: Opcode, sizes: SizePrefixes) -> u8
         ensures { (modrm : ℕ) (p : Prefixes) → in_memory ≡ is_memory modrm

@@ -140,7 +140,8 @@ pub struct Plan {
     pub opcode: Opcode,
     /// What each operand is, in their order, which is that of their immediates too.
     pub encodings: OperandEncodings,
-    /// The size in bytes of what is read or written in memory: 0 for none, and 63 where the processor decides.
+    /// The memory size in bytes, which the row has for the operation: 0 where it has none, and 63 where the processor
+    /// decides.
     pub size: u8,
     /// What changes in the prefixes of the answer.
     pub change: PrefixChange,

@@ -1,6 +1,6 @@
 //! What equality, order and hash of registers and classes say.
 
-ghost use Rattle.std.specs.Prelude.{◌≡◌, ◌↔◌, ◌∷◌, [], IsTrue};
+ghost use Rattle.std.specs.Prelude.{◌≡◌, ◌↔◌, ◌∷◌, [], Bool, IsTrue, if◌then◌else◌};
 ghost use Rattle.std.specs.Ordering.{ordering_then, nat_cmp};
 ghost use Rattle.std.specs.Cmp.{IsTotalOrder};
 ghost use Rattle.x86_regs.specs.Class.{class_code};
@@ -58,6 +58,14 @@ pub fn modes_are_equal()
         ⟦<Segment as Hash>⟧.hash_input a ≡ ⟦<Segment as Hash>⟧.hash_input b }
     ensures merging { (a b : MergeMode) → IsTrue (⟦<MergeMode as PartialEq>⟧.eq a b) ↔ (a ≡ b) }
     ensures rounding { (a b : SaeMode) → IsTrue (⟦<SaeMode as PartialEq>⟧.eq a b) ↔ (a ≡ b) }
+{}
+
+/// The mode of a bit is zeroing where the bit is set, and merging where it is clear (Intel SDM volume 2, section
+/// 2.7.4, the bit z of EVEX).
+pub fn merge_modes_are_of_the_bit_z()
+    ensures { (zeroes : Bool) (mode : MergeMode) →
+        ⟦<MergeMode as From<bool>>⟧.from_gives zeroes mode
+        ↔ (mode ≡ (if zeroes then MergeMode.Zero else MergeMode.Merge)) }
 {}
 
 /// The constants are the classes of their names.

@@ -8,7 +8,7 @@ use Rattle.x86_decode.specs.declared.instructions.Instruction.{Instruction}
 use Rattle.x86_decode.specs.Instruction.{opcode, length_of, mem_size_number, operands_of}
 use Rattle.x86_text.specs.Operands.{operands_text}
 
--- the memory size: 0 for none, and a question mark where the processor decides
+-- the memory size: 0 where the row has none, and a question mark where the processor decides
 abbrev pub size_text : ℕ → List ℕ
 size_text size = if size == undecided_size then codes "?" else decimal size
 

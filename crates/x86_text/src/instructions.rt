@@ -74,8 +74,7 @@ fn put_operands(cells: &mut [u8], at: usize, instruction: &Instruction) -> usize
     }
 }
 
-/// The number of bytes of memory that an instruction reads or writes: 0 where it has none, and 63 where the processor
-/// decides.
+/// The memory size of an instruction in bytes: 0 where its row has none, and 63 where the processor decides.
 #[inline(always)]
 fn size_number(instruction: &Instruction) -> u8
     ensures { result ≡ mem_size_number instruction.now }
@@ -171,8 +170,8 @@ pub fn push_instruction(line: &mut Line, instruction: &Instruction)
 }
 
 /// The text of an instruction without its place and length: the mnemonic, a space and the operands, joined by a comma
-/// and a space, and an m with the number of bytes of memory that it reads or writes. That is 0 where it has none, and
-/// `?` where the processor decides. For `48 01 d8` this is `ADD rax, rbx m8`.
+/// and a space, and an m with the memory size in bytes. That is 0 where its row has none, and `?` where the processor
+/// decides. For `48 01 d8` this is `ADD rax, rbx m8`.
 pub fn instruction_text(instruction: &Instruction) -> Line
     ensures text { result.items ≡ instruction_text instruction.now }
     ensures short { array_vec_len result ≤ 149 }
