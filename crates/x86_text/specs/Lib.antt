@@ -1,4 +1,5 @@
 -- The definitions that the contracts cite: texts of operands, instructions, refusals and parts.
+pub mod Widths
 pub mod Operands
 pub mod Lines
 pub mod Parts

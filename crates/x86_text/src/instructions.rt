@@ -4,6 +4,7 @@ ghost use Rattle.std.specs.Prelude.{◌≡◌, ◌+◌, ◌*◌, ◌++◌, lengt
 ghost use Rattle.arrayvec.specs.ArrayVec.{array_vec_len};
 ghost use Rattle.x86_opcodes.specs.Mnemonics.{mnemonic};
 ghost use Rattle.x86_decode.specs.Instruction.{mem_size_number, operand_count, operands_of};
+ghost use Rattle.x86_text.specs.Widths.{instruction_text_width, line_room, line_width};
 ghost use Rattle.x86_text.specs.Operands.{operand_text, operands_text, others_text};
 ghost use Rattle.x86_text.specs.Lines.{size_text, instruction_text, line_of};
 
@@ -12,7 +13,7 @@ use crate::operands::put_operand;
 use x86_decode::Instruction;
 use x86_lines::cells::put;
 use x86_lines::digits::{put_one, put_u8, put_u64};
-use x86_lines::{LINE_MAX, LINE_ROOM, Line, Place};
+use x86_lines::{Line, Place};
 use x86_operands::Operand;
 
 /// Writes an operand after a comma and a space.
@@ -151,9 +152,9 @@ fn put_long_length(cells: &mut [u8], at: usize, n: u64) -> usize
 #[inline(always)]
 #[tactic(auto, unfolding(crate::specs::Lines::instruction_text))]
 fn put_instruction(cells: &mut [u8], at: usize, instruction: &Instruction) -> usize
-    requires { at + 149 ≤ length cells.old }
+    requires { at + instruction_text_width ≤ length cells.old }
     ensures text { take result cells.new ≡ take at cells.old ++ instruction_text instruction.now }
-    ensures short { result ≤ at + 149 }
+    ensures short { result ≤ at + instruction_text_width }
 {
     let at = put_name(cells, at, mnemonic(instruction.opcode()));
     let at = put_operands(cells, at, instruction);
@@ -162,9 +163,9 @@ fn put_instruction(cells: &mut [u8], at: usize, instruction: &Instruction) -> us
 
 /// Appends the text of an instruction without its place and length, at most 149 bytes, as `ADD rax, rbx m8`.
 pub fn push_instruction(line: &mut Line, instruction: &Instruction)
-    requires { array_vec_len line.old + 149 ≤ LINE_ROOM }
+    requires { array_vec_len line.old + instruction_text_width ≤ line_room }
     ensures text { line.new.items ≡ line.old.items ++ instruction_text instruction.now }
-    ensures short { array_vec_len line.new ≤ array_vec_len line.old + 149 }
+    ensures short { array_vec_len line.new ≤ array_vec_len line.old + instruction_text_width }
 {
     line.len = put_instruction(&mut line.cells, line.len, instruction);
 }
@@ -174,7 +175,7 @@ pub fn push_instruction(line: &mut Line, instruction: &Instruction)
 /// decides. For `48 01 d8` this is `ADD rax, rbx m8`.
 pub fn instruction_text(instruction: &Instruction) -> Line
     ensures text { result.items ≡ instruction_text instruction.now }
-    ensures short { array_vec_len result ≤ 149 }
+    ensures short { array_vec_len result ≤ instruction_text_width }
 {
     let mut line = Line::new();
     push_instruction(&mut line, instruction);
@@ -186,7 +187,7 @@ pub fn instruction_text(instruction: &Instruction) -> Line
 #[tactic(auto, unfolding(crate::specs::Lines::line_of))]
 pub fn write_instruction(line: &mut Line, place: &Place, instruction: &Instruction)
     ensures text { line.new.items ≡ line_of place.now instruction.now }
-    ensures short { array_vec_len line.new ≤ LINE_MAX }
+    ensures short { array_vec_len line.new ≤ line_width }
 {
     line.set(place.digits());
     let at = line.len;
@@ -200,7 +201,7 @@ pub fn write_instruction(line: &mut Line, place: &Place, instruction: &Instructi
 /// For `48 01 d8` at place 4 this is `4 3 ADD rax, rbx m8`.
 pub fn line_of(place: u64, instruction: &Instruction) -> Line
     ensures text { result.items ≡ line_of place instruction.now }
-    ensures short { array_vec_len result ≤ LINE_MAX }
+    ensures short { array_vec_len result ≤ line_width }
 {
     let mut line = Line::new();
     write_instruction(&mut line, &Place::at(place), instruction);

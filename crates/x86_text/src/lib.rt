@@ -12,6 +12,7 @@
 #![tactic(auto)]
 
 mod instructions;
+pub mod laws;
 mod mnemonics;
 mod names;
 mod operands;

@@ -3,12 +3,13 @@
 ghost use Rattle.std.specs.Prelude.{◌≡◌, ◌+◌, ◌++◌, length, take, decimal, codes, ◌≤◌};
 ghost use Rattle.std.specs.Fmt.{signed_decimal};
 ghost use Rattle.arrayvec.specs.ArrayVec.{array_vec_len};
+ghost use Rattle.x86_text.specs.Widths.{line_room, operand_text_width};
 ghost use Rattle.x86_text.specs.Operands.{operand_text, deref_text, moved_text, index_text, moved_index_text, scaled_text, displacement_text, register_text, base_text, plus_text};
 
 use crate::names::put_register;
+use x86_lines::Line;
 use x86_lines::cells::{put, put_bytes, put_first};
 use x86_lines::digits::{put_signed, put_u8, put_u32, put_u64};
-use x86_lines::{LINE_ROOM, Line};
 use x86_operands::Operand;
 use x86_regs::RegSpec;
 
@@ -212,9 +213,9 @@ pub(crate) fn put_operand(cells: &mut [u8], at: usize, operand: &Operand) -> usi
 
 /// Appends the text of an operand, at most 30 bytes, as `operand_text` returns it.
 pub fn push_operand(line: &mut Line, operand: &Operand)
-    requires { array_vec_len line.old + 30 ≤ LINE_ROOM }
+    requires { array_vec_len line.old + operand_text_width ≤ line_room }
     ensures text { line.new.items ≡ line.old.items ++ operand_text operand.now }
-    ensures short { array_vec_len line.new ≤ array_vec_len line.old + 30 }
+    ensures short { array_vec_len line.new ≤ array_vec_len line.old + operand_text_width }
 {
     line.len = put_operand(&mut line.cells, line.len, operand);
 }
@@ -226,7 +227,7 @@ pub fn push_operand(line: &mut Line, operand: &Operand)
 /// Examples are `rax`, `i8:-1`, `[rbx+rcx*4-16]` and `[abs32:4096]`.
 pub fn operand_text(operand: &Operand) -> Line
     ensures text { result.items ≡ operand_text operand.now }
-    ensures short { array_vec_len result ≤ 30 }
+    ensures short { array_vec_len result ≤ operand_text_width }
 {
     let mut line = Line::new();
     push_operand(&mut line, operand);

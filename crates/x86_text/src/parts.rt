@@ -4,12 +4,13 @@ ghost use Rattle.std.specs.Prelude.{◌≡◌, ◌+◌, ◌*◌, ◌≤◌, ◌+
 ghost use Rattle.std.specs.List.{sum_by};
 ghost use Rattle.arrayvec.specs.ArrayVec.{array_vec_len};
 ghost use Rattle.x86_fields.specs.Parts.{lists_of, HasFieldLengths};
+ghost use Rattle.x86_text.specs.Widths.{line_width};
 ghost use Rattle.x86_text.specs.Parts.{in_order, spaced, fields_line};
 
 use x86_fields::Parts;
 use x86_lines::cells::put;
 use x86_lines::digits::{put_hex, put_u64};
-use x86_lines::{LINE_MAX, Line, Place};
+use x86_lines::{Line, Place};
 
 /// How many bytes the parts have together.
 fn parts_length(parts: &Parts) -> usize
@@ -46,7 +47,7 @@ fn put_part(cells: &mut [u8], at: usize, part: &[u8]) -> usize
 pub fn write_fields(line: &mut Line, place: &Place, parts: &Parts)
     requires { HasFieldLengths (lists_of parts.now) }
     ensures text { line.new.items ≡ fields_line place.now (lists_of parts.now) }
-    ensures short { array_vec_len line.new ≤ LINE_MAX }
+    ensures short { array_vec_len line.new ≤ line_width }
 {
     line.set(place.digits());
     let at = line.len;
@@ -71,7 +72,7 @@ pub fn write_fields(line: &mut Line, place: &Place, parts: &Parts)
 pub fn fields_line(place: u64, parts: &Parts) -> Line
     requires { HasFieldLengths (lists_of parts.now) }
     ensures text { result.items ≡ fields_line place (lists_of parts.now) }
-    ensures short { array_vec_len result ≤ LINE_MAX }
+    ensures short { array_vec_len result ≤ line_width }
 {
     let mut line = Line::new();
     write_fields(&mut line, &Place::at(place), parts);

@@ -2,16 +2,17 @@
 
 ghost use Rattle.std.specs.Prelude.{◌≡◌, ◌≤◌};
 ghost use Rattle.arrayvec.specs.ArrayVec.{array_vec_len};
+ghost use Rattle.x86_text.specs.Widths.{line_width};
 ghost use Rattle.x86_text.specs.Lines.{refusal_of};
 
 use x86_fields::DecodeError;
-use x86_lines::{LINE_MAX, Line, Place};
+use x86_lines::{Line, Place};
 
 /// Writes the line of a refusal at a place over another, without its end, as `2 error: invalid opcode`.
 #[tactic(auto, unfolding(crate::specs::Lines::refusal_of))]
 pub fn write_refusal(line: &mut Line, place: &Place, error: DecodeError)
     ensures text { line.new.items ≡ refusal_of place.now error }
-    ensures short { array_vec_len line.new ≤ LINE_MAX }
+    ensures short { array_vec_len line.new ≤ line_width }
 {
     line.set(place.digits());
     line.extend(b" error: ");
@@ -23,7 +24,7 @@ pub fn write_refusal(line: &mut Line, place: &Place, error: DecodeError)
 /// For `InvalidOpcode` at place 2 this is `2 error: invalid opcode`.
 pub fn refusal_of(place: u64, error: DecodeError) -> Line
     ensures text { result.items ≡ refusal_of place error }
-    ensures short { array_vec_len result ≤ LINE_MAX }
+    ensures short { array_vec_len result ≤ line_width }
 {
     let mut line = Line::new();
     write_refusal(&mut line, &Place::at(place), error);
