@@ -1,10 +1,15 @@
 //! What follows from the definitions of the cuts, of the parts, of the shortest raw fields, and of relatives.
 
-ghost use Rattle.std.specs.Prelude.{◌≡◌, ◌↔◌, ℕ, ◌+◌, ◌^◌, ◌<◌, ◌≤◌, Bool, false, IsTrue, List, [], ◌∷◌, ◌++◌, length, take, drop, Ok};
+ghost use Rattle.std.specs.Prelude.{◌≡◌, ◌↔◌, ℕ, ◌+◌, ◌^◌, ◌<◌, ◌≤◌, Bool, false, IsTrue, List, [], ◌∷◌, ◌++◌, length, take, drop, Ok, Option, Some, true};
+ghost use Rattle.std.specs.Iterator.{YieldsFirst, item_count};
 ghost use Rattle.std.specs.List.{sum_by, All};
+ghost use Rattle.x86_decode.specs.Addresses.{names_modrm, encodings_within, raw_within};
 ghost use Rattle.x86_decode.specs.Answer.{answer_of};
 ghost use Rattle.x86_layout.specs.Sweeps.Pieces.{CutsGoOn, CutsOfMore};
+ghost use Rattle.x86_layout.specs.declared.sweeps.cuts.Cut.{Cut};
+ghost use Rattle.x86_layout.specs.declared.sweeps.sweep.Sweep.{Sweep};
 ghost use Rattle.x86_layout.specs.Sweeps.Cuts.{cut_length, cut_at, cuts_from, cuts_of};
+ghost use Rattle.x86_layout.specs.Sweeps.Sweep.{cuts_left};
 ghost use Rattle.x86_layout.specs.Sweeps.Lengths.{IsWithin};
 ghost use Rattle.x86_operands.specs.declared.reader.Reading.{Reading};
 ghost use Rattle.x86_layout.specs.Parts.Split.{Encoding, HasParts, joined};
@@ -24,10 +29,10 @@ ghost use Rattle.x86_layout.specs.Tightening.Registers.{is_ip_relative};
 ghost use Rattle.x86_layout.specs.Tightening.Shortest.{shortest, address_length, IsOfBytes};
 ghost use Rattle.x86_fields.specs.declared.raw.Raw.{Raw};
 ghost use Rattle.x86_fields.specs.ModRM.{reg_field};
-ghost use Rattle.x86_fields.specs.Linear.{raw_form, IsSameAddress, IsRegFile};
+ghost use Rattle.x86_fields.specs.Linear.{raw_form, value_at, IsSameAddress, IsRegFile};
 ghost use Rattle.x86_fields.specs.Parts.{HasFieldLengths};
 
-use crate::EmitError;
+use crate::{EmitError, Sweep};
 use x86_decode::laws;
 
 /// Where bytes are left, a cut begins at the first, and the next cut after it; where none is left there is no cut.
@@ -65,6 +70,13 @@ pub fn cuts_cover()
 {
     laws::lengths();
 }
+
+/// A sweep as an iterator: it yields the first of the cuts that it has left, and no more items come than these.
+pub fn sweeps_yield_their_cuts<'a>()
+    ensures first { (old new : Sweep) (cut : Option Cut) →
+        ⟦<Sweep<'a> as Iterator>⟧.next_gives old cut new ↔ YieldsFirst cuts_left old cut new }
+    ensures no_more { (s : Sweep) → ⟦<Sweep<'a> as Iterator>⟧.remaining s ≡ item_count cuts_left s }
+{}
 
 /// The pieces of every whole encoding at the beginning of bytes are the parts of those bytes, whatever follows it.
 pub fn parts_are_those_of_the_bytes()
@@ -126,6 +138,20 @@ pub fn shortest_raw_fields()
         is_ip_relative raw ≡ false → IsSameAddress (raw_form other) (raw_form raw) →
         address_length (shortest raw) ≤ address_length other }
 {}
+
+/// A memory operand that ModRM spells has the address of its raw fields, by the address size of its instruction, at every
+/// register file and next pointer. Source: Intel SDM volume 2, section 2.1.5.
+pub fn memory_operands_have_their_address()
+    ensures { (strict : Bool) (s : List ℕ) (a : Instruction)
+        (is : IsSentence (rows_of packed) strict s a) (raw : Raw) (k : ℕ) →
+        raw_within (rows_of packed) strict s is.reading is.whole ≡ Some raw →
+        names_modrm (encodings_within (rows_of packed) strict s is.reading is.whole) k ≡ true →
+        All (λ byte. byte < 256) s → (regs : List ℕ) (next : ℕ) →
+        address_at a k regs next ≡ Some (value_at (raw_form raw) regs next) }
+{
+    laws::memory_operands_denote_their_raw_fields();
+    x86_operands::laws::shapes_have_the_address();
+}
 
 /// An encoding with a memory operand of ModRM that isn't relative to the next instruction has a shortest relative,
 /// and its length is the one that `shortest_length` computes from the bytes.

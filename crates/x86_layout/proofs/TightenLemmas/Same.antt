@@ -166,6 +166,13 @@ same_67 is read =
     ∙ mark_67 _ (Seen is.whole)
     ∙ sym (ap (λ r. r.address_size) (spells is.whole read).1.fields)
 
+-- The operand that ModRM spells as memory is the shape of its raw fields, so it has their address.
+pub operand_has_address : HaveTheAddress → (strict : Bool) (s : List ℕ) (a : Instruction) (is : IsSentence (rows_of packed) strict s a) (raw : Raw) (k : ℕ) → Reads is.whole raw → operand_at a k ≡ (shape raw).1 → All (λ byte. byte < 256) s → (regs : List ℕ) (next : ℕ) → address_at a k regs next ≡ Some (value_at (raw_form raw) regs next)
+operand_has_address have strict s a is raw k read shaped bytes regs next =
+    ap (λ t. operand_address t (operand_at a k) regs next) (same_67 is read)
+    ∙ ap (λ o. operand_address raw.address_size o regs next) shaped
+    ∙ have raw regs next (raw_of_bytes is.whole raw read (bytes_of s bytes)).disp
+
 module _ (have : HaveTheAddress) (reduced : AreReduced) (values : AreTheirValues) (from to : Raw) (from_bytes : IsOfBytes from) (to_bytes : IsOfBytes to) (regs : List ℕ) (next : ℕ) (file : IsRegFile regs) (small : next < 2 ^ 64) where
   reduced_of : (raw : Raw) → IsOfBytes raw → IsReduced (raw_form raw)
   reduced_of raw h = reduced raw (scale_small raw.sib h.sib) h.disp
