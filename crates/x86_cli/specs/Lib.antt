@@ -2,4 +2,6 @@
 pub mod Text
 pub mod DecoderLaws
 pub mod Listings
+pub mod Headline
+pub mod Worked
 pub mod Commands

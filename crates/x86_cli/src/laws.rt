@@ -1,29 +1,121 @@
 //! Laws of listings and runs, and those of the decoder on which the window rests. The laws of hex text, and of what
 //! calls of sources and sinks say, are those of x86_streams.
 
-ghost use Rattle.std.specs.Prelude.{◌≡◌, ◌≢◌, ◌↔◌, ℕ, Bool, IsTrue, List, Option};
+ghost use Rattle.std.specs.Prelude.{◌≡◌, ◌≢◌, ◌↔◌, ◌++◌, ℕ, Bool, IsTrue, List, Option, Ok};
 ghost use Rattle.x86_decode.specs.declared.instructions.Instruction.{Instruction};
+ghost use Rattle.x86_decode.specs.Answer.{answer_of};
+ghost use Rattle.x86_decode.specs.Instruction.{instruction_of, length_of};
 ghost use Rattle.x86_forms.specs.Words.{rows_of, packed};
+ghost use Rattle.x86_layout.specs.Parts.OfBytes.{parts_of};
+ghost use Rattle.x86_layout.specs.Tightening.Least.{shortest_length};
+ghost use Rattle.x86_text.specs.Lines.{line_of};
+ghost use Rattle.x86_text.specs.Parts.{fields_line};
 ghost use Rattle.x86_cli.specs.DecoderLaws.{DecoderLaws};
 ghost use Rattle.x86_cli.specs.Commands.Causes.{HaveCauses};
 ghost use Rattle.x86_cli.specs.Commands.Command.{Runs, goes_past_refusals};
 ghost use Rattle.x86_cli.specs.Commands.Complete.{CompletesTexts};
 ghost use Rattle.x86_cli.specs.Commands.Follows.{IsExact, HasReadFault, Completes};
 ghost use Rattle.x86_cli.specs.Listings.Grammar.{IsListing};
+ghost use Rattle.x86_cli.specs.Headline.{Headline, Sentence};
+ghost use Rattle.x86_cli.specs.Worked.{add_rax_rbx, bytes_48_01_d8, mov_rax_at_rbp, bytes_48_8b_45_00};
+ghost use Rattle.x86_cli.specs.declared.listings.fields.FieldLines.{FieldLines};
+ghost use Rattle.x86_cli.specs.declared.listings.line.Plain.{Plain};
+ghost use Rattle.x86_cli.specs.declared.listings.listing.UpToRefusal.{UpToRefusal};
+ghost use Rattle.x86_cli.specs.declared.listings.sweep.PastRefusals.{PastRefusals};
+ghost use Rattle.x86_cli.specs.declared.listings.tightening.LeastLines.{LeastLines};
 ghost use Rattle.x86_cli.specs.Listings.Listing.{Listing, LinesLeaveStatus, listing_at};
+ghost use Rattle.x86_cli.specs.Listings.Sweep.{sweep_at};
+ghost use Rattle.x86_cli.specs.Listings.Tighten.{least_text};
 ghost use Rattle.x86_streams.specs.Text.{Text};
 ghost use Rattle.x86_cli.specs.Commands.Make.{made_listing};
 ghost use Rattle.x86_cli.specs.Commands.Program.{Performs, PerformsMake, Has, Leaves};
 ghost use Rattle.x86_cli.specs.Commands.Run.{Wrote};
-ghost use Rattle.x86_cli.specs.Commands.Says.{Makes, Says, Streams};
+ghost use Rattle.x86_cli.specs.Commands.Says.{Makes, Says, Streams, streams_of};
 ghost use Rattle.x86_streams.specs.Outside.FaultCounts.{Rose};
 
 use crate::commands::command::Command;
+use crate::listings::fields::FieldLines;
+use crate::listings::line::{Lines, Plain};
+use crate::listings::listing::{Course, UpToRefusal};
 use crate::listings::status::Status;
+use crate::listings::sweep::PastRefusals;
+use crate::listings::tightening::LeastLines;
 use std::io::{Read, Write};
 use x86_decode::laws;
 pub use x86_streams::laws::{first, reported, sequences};
 use x86_streams::{Got, Input, Output, Sink, SinkFailed, Source};
+
+/// The headline, under either choice: what is proved of every byte string, of every run over a source and a sink, and of
+/// what the program leaves of a reader and a writer whose bytes are known.
+pub fn headline<S: Source, K: Sink, R: Read, W: Write>()
+    ensures bytes { (strict : Bool) → Headline strict }
+    ensures runs { (c : Command) (status : Status) (a b : S) (k l : K)
+        → Runs S.gives K.takes c status a b k l
+        → Says status c (streams_of S.left S.faults K.written K.faults a k)
+        (streams_of S.left S.faults K.written K.faults b l) }
+    ensures program { (c : Command) (status : Status) (r r' : R) (w w' : W) →
+        Performs ⟦<W as Output>⟧.writes ⟦<W as Output>⟧.flushes ⟦<R as Input>⟧.reads
+        c status r r' w w' → Leaves status c (R.remaining r) (W.contents w) (W.contents w') }
+{
+    headline_of_bytes();
+    decoder_laws();
+    program::<R, W>();
+}
+
+/// The headline, as far as it is of bytes.
+fn headline_of_bytes()
+    ensures { (strict : Bool) → Headline strict }
+{
+    laws::answer_is();
+    laws::one_answer();
+    laws::answers_of_more();
+    x86_forms::laws::printed_words_are_the_printed_rows();
+    x86_layout::laws::memory_operands_have_their_address();
+    x86_layout::laws::parts_are_those_of_the_bytes();
+    x86_layout::laws::permitted_fields_are_the_parts_of_sentences();
+    x86_layout::laws::permitted_fields_are_split_again();
+    x86_layout::laws::accepted_encodings_are_emitted_again();
+    x86_layout::laws::shortest_relatives_have_the_least_length();
+    x86_layout::laws::relatives_are_the_same_instruction();
+    by_grammar();
+}
+
+/// `48 01 d8` is ADD rax, rbx, with a memory size of 8 bytes, whatever follows it.
+pub fn worked_add()
+    ensures sentence { (strict : Bool) →
+        Sentence strict bytes_48_01_d8 (instruction_of add_rax_rbx 3) }
+    ensures answer { (strict : Bool) (rest : List ℕ) →
+        answer_of strict (bytes_48_01_d8 ++ rest) ≡ Ok (instruction_of add_rax_rbx 3) }
+{
+    headline_of_bytes();
+}
+
+/// `48 8b 45 00` is MOV rax, [rbp], with a memory size of 8 bytes, whatever follows it.
+pub fn worked_load()
+    ensures sentence { (strict : Bool) →
+        Sentence strict bytes_48_8b_45_00 (instruction_of mov_rax_at_rbp 4) }
+    ensures answer { (strict : Bool) (rest : List ℕ) →
+        answer_of strict (bytes_48_8b_45_00 ++ rest) ≡ Ok (instruction_of mov_rax_at_rbp 4) }
+{
+    headline_of_bytes();
+}
+
+/// The lines of the commands, and the listings of the two courses.
+pub fn commands_have_their_lines<L: Lines + Drop>()
+    ensures list { (l : Plain) (strict : Bool) (place : ℕ) (i : Instruction) (bytes : List ℕ) →
+        ⟦<Plain as Lines>⟧.text l strict place i bytes ≡ line_of place i }
+    ensures fields { (l : FieldLines) (strict : Bool) (place : ℕ) (i : Instruction)
+        (bytes : List ℕ) → ⟦<FieldLines as Lines>⟧.text l strict place i bytes
+        ≡ fields_line place (parts_of strict bytes) }
+    ensures tighten { (l : LeastLines) (strict : Bool) (place : ℕ) (i : Instruction)
+        (bytes : List ℕ) → ⟦<LeastLines as Lines>⟧.text l strict place i bytes
+        ≡ least_text place (length_of i) (shortest_length strict bytes) }
+    ensures up_to_refusal { (c : UpToRefusal L) (strict : Bool) (place : ℕ) (t : Text) →
+        ⟦<UpToRefusal<L> as Course>⟧.lists c strict place t
+        ≡ listing_at strict (L.text c.lines strict) place t }
+    ensures past_refusals { (c : PastRefusals) (strict : Bool) (place : ℕ) (t : Text) →
+        ⟦<PastRefusals as Course>⟧.lists c strict place t ≡ sweep_at strict place t }
+{}
 
 /// A listing ends with the same status whatever its lines are, as those of `list` and `fields` do.
 #[tactic(auto, using(crate::proofs::ListingLemmas::Listing::lines_leave_status))]

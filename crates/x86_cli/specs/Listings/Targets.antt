@@ -6,6 +6,10 @@ use Rattle.x86_streams.specs.Text.{Text}
 use Rattle.x86_cli.specs.Listings.Line.{line}
 use Rattle.x86_cli.specs.Listings.Listing.{Listing, with_lines, at_end}
 
+-- the most bytes of an image that is held whole
+abbrev pub image_max : ℕ
+image_max = 8192
+
 -- the marked places of an image from one on, in increasing order
 unfoldable pub marked_from : Bool → ℕ → List ℕ → List ℕ
 marked_from strict place image = filter (is_marked strict image) (range_with_len place (length image - place))

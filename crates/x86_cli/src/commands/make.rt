@@ -3,6 +3,7 @@
 ghost use Rattle.std.specs.Prelude.{◌≡◌, ◌↔◌, IsTrue, ◌+◌, ◌≤◌, ◌++◌, ℕ, IfSome, Some, None, length, decimal};
 ghost use Rattle.arrayvec.specs.ArrayVec.{array_vec_len};
 ghost use Rattle.x86_decode.specs.Instruction.{holding};
+ghost use Rattle.x86_text.specs.Widths.{line_width};
 ghost use Rattle.x86_cli.specs.Commands.Run.{Wrote};
 ghost use Rattle.x86_layout.specs.Parts.Heads.{one_if};
 ghost use Rattle.x86_cli.specs.Commands.Make.{generate, has_long_displacement, is_at_rip, is_absolute, has_operand, answer_has, tally_of, tally_text, make_max, made_listing};
@@ -16,7 +17,7 @@ use x86_fields::{DecodeError, MEMORY_FORMS, ModRM, Sib};
 use x86_operands::Operand;
 use x86_regs::RegisterClass;
 use x86_streams::Sink;
-use x86_text::{LINE_MAX, Line};
+use x86_text::Line;
 
 /// The most encodings that `make` makes.
 pub const MAKE_MAX: u32 = 1_000_000;
@@ -151,7 +152,7 @@ fn tally_of(count: u32) -> Tally
 
 fn tally_line(count: u32, tally: &Tally) -> Line
     ensures text { result.items ≡ tally_text count tally.now }
-    ensures short { array_vec_len result ≤ LINE_MAX }
+    ensures short { array_vec_len result ≤ line_width }
 {
     let mut line = Line::new();
     line.push_u32(count);

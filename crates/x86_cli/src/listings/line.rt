@@ -6,10 +6,11 @@ ghost use Rattle.x86_decode.specs.Decoder.{is_strict};
 ghost use Rattle.x86_decode.specs.declared.instructions.Instruction.{Instruction};
 ghost use Rattle.x86_decode.specs.Answer.{answer_of};
 ghost use Rattle.x86_text.specs.Lines.{line_of};
+ghost use Rattle.x86_text.specs.Widths.{line_width};
 ghost use Rattle.x86_cli.specs.Listings.Line.{bad_text};
 
 use x86_decode::{InstDecoder, Instruction};
-use x86_text::{LINE_MAX, Line, Place, write_instruction};
+use x86_text::{Line, Place, write_instruction};
 
 /// What a command writes for an instruction.
 pub trait Lines {
@@ -28,7 +29,7 @@ pub trait Lines {
         requires { answer_of (is_strict decoder.now) bytes.now ≡ Ok instruction.now }
         ensures text { line.new.items
             ≡ text self.now (is_strict decoder.now) place.now instruction.now bytes.now }
-        ensures short { array_vec_len line.new ≤ LINE_MAX };
+        ensures short { array_vec_len line.new ≤ line_width };
 }
 
 /// The lines of `list`, which don't look at the bytes.
@@ -54,7 +55,7 @@ impl Lines for Plain {
 #[tactic(auto, unfolding(crate::specs::Listings::Line::bad_text))]
 pub fn bad_text(position: u64) -> Line
     ensures text { result.items ≡ bad_text position }
-    ensures short { array_vec_len result ≤ LINE_MAX }
+    ensures short { array_vec_len result ≤ line_width }
 {
     let mut line = Line::new();
     line.extend(b"text error at ");

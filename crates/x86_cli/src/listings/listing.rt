@@ -4,6 +4,7 @@ ghost use Rattle.x86_decode.specs.Decoder.{is_strict};
 ghost use Rattle.x86_decode.specs.Instruction.{length_of};
 ghost use Rattle.std.specs.Prelude.{◌≡◌, ℕ, Bool, ◌<◌, ◌≤◌, ◌^◌, [], ◌∷◌, length, None};
 ghost use Rattle.arrayvec.specs.ArrayVec.{array_vec_len};
+ghost use Rattle.x86_text.specs.Widths.{line_width};
 ghost use Rattle.x86_cli.specs.Listings.Line.{line};
 ghost use Rattle.x86_streams.specs.Text.{Text};
 ghost use Rattle.x86_cli.specs.Listings.Listing.{Listing, at_end, at_refusal, listing_at};
@@ -17,11 +18,11 @@ use crate::text::window::{Decoded, decode_next};
 use x86_decode::{InstDecoder, Instruction};
 use x86_fields::DecodeError;
 use x86_streams::{Ending, Sink, SinkFailed, Source, Window};
-use x86_text::{LINE_MAX, Line, Place, refusal_of};
+use x86_text::{Line, Place, refusal_of};
 
 /// Writes a line with its end.
 pub fn put_line<K: Sink>(sink: &mut K, text: &mut Line) -> Result<(), SinkFailed>
-    requires { array_vec_len text.old ≤ LINE_MAX }
+    requires { array_vec_len text.old ≤ line_width }
     ensures { K.takes sink.old (line text.old.items) result sink.new }
 {
     text.push(b'\n');
@@ -30,7 +31,7 @@ pub fn put_line<K: Sink>(sink: &mut K, text: &mut Line) -> Result<(), SinkFailed
 
 /// Writes the last line of a listing that ends so. It returns how the run ends.
 pub fn put_last<K: Sink>(sink: &mut K, text: &mut Line, status: Status) -> Status
-    requires { array_vec_len text.old ≤ LINE_MAX }
+    requires { array_vec_len text.old ≤ line_width }
     ensures { Wrote K.takes (record { lines = line text.old.items ∷ []; status = status })
         result sink.old sink.new }
 {
@@ -48,9 +49,9 @@ fn refuse<K: Sink>(sink: &mut K, place: u64, error: DecodeError) -> Status
 }
 
 fn constant(text: &[u8]) -> Line
-    requires { length text.now ≤ LINE_MAX }
+    requires { length text.now ≤ line_width }
     ensures text { result.items ≡ text.now }
-    ensures short { array_vec_len result ≤ LINE_MAX }
+    ensures short { array_vec_len result ≤ line_width }
 {
     let mut line = Line::new();
     line.extend(text);
@@ -104,7 +105,7 @@ pub trait Course {
             (lists self.now (is_strict decoder.now)) result place.now line.new.items
             window.now.ended window.now.bytes.items window.now.reader.position
             window.now.reader.room }
-        ensures short { (n : ℕ) → result ≡ Entry.Line n → array_vec_len line.new ≤ LINE_MAX };
+        ensures short { (n : ℕ) → result ≡ Entry.Line n → array_vec_len line.new ≤ line_width };
 }
 
 /// The listing that ends at a refusal, with these lines.

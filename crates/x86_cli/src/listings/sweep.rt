@@ -4,6 +4,7 @@ ghost use Rattle.std.specs.Prelude.{◌≡◌, ◌≤◌};
 ghost use Rattle.arrayvec.specs.ArrayVec.{array_vec_len};
 ghost use Rattle.x86_layout.specs.Sweeps.Cuts.{cut_length};
 ghost use Rattle.x86_decode.specs.Instruction.{holding};
+ghost use Rattle.x86_text.specs.Widths.{line_width};
 ghost use Rattle.x86_cli.specs.Listings.Sweep.{cut_text, sweep_at};
 
 use crate::laws::decoder_laws;
@@ -11,7 +12,7 @@ use crate::listings::listing::{Course, Entry};
 use x86_decode::{InstDecoder, Instruction};
 use x86_fields::DecodeError;
 use x86_streams::Window;
-use x86_text::{LINE_MAX, Line, Place, write_instruction, write_refusal};
+use x86_text::{Line, Place, write_instruction, write_refusal};
 
 /// The listing of `sweep`: a line for each cut.
 pub struct PastRefusals;
@@ -20,7 +21,7 @@ pub struct PastRefusals;
 /// answer.
 fn write_cut(line: &mut Line, place: &Place, inst: &Instruction, answer: Result<(), DecodeError>)
     ensures text { line.new.items ≡ cut_text place.now (holding inst.now answer) }
-    ensures short { array_vec_len line.new ≤ LINE_MAX }
+    ensures short { array_vec_len line.new ≤ line_width }
 {
     match answer {
         Ok(()) => write_instruction(line, place, inst),

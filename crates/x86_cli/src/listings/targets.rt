@@ -7,7 +7,7 @@ ghost use Rattle.arrayvec.specs.ArrayVec.{array_vec_len};
 ghost use Rattle.x86_layout.specs.Sweeps.Marks.{is_marked};
 ghost use Rattle.x86_streams.specs.Outside.Sink.{SinkCalls};
 ghost use Rattle.x86_cli.specs.Commands.Run.{Ran};
-ghost use Rattle.x86_cli.specs.Listings.Targets.{place_line, lines_if, targets_at};
+ghost use Rattle.x86_cli.specs.Listings.Targets.{image_max, place_line, lines_if, targets_at};
 ghost use Rattle.x86_streams.specs.Text.Reading.{IsOpenText};
 ghost use Rattle.x86_streams.specs.Text.Window.{Fills};
 
@@ -31,7 +31,7 @@ struct WholeText {
 
 /// Appends the bytes of a window to an image. It returns how many they are.
 fn append(image: &mut ArrayVec<u8, IMAGE_MAX>, window: &Window) -> usize
-    requires { array_vec_len image.old + length window.now.bytes.items ≤ IMAGE_MAX }
+    requires { array_vec_len image.old + length window.now.bytes.items ≤ image_max }
     ensures image { image.new.items ≡ image.old.items ++ window.now.bytes.items }
     ensures count { result ≡ length window.now.bytes.items }
 {
@@ -44,7 +44,7 @@ fn append(image: &mut ArrayVec<u8, IMAGE_MAX>, window: &Window) -> usize
 
 /// Reads a text to its end. Each byte of the image takes at least two bytes of text.
 fn read_whole<S: Source>(max: u64, source: &mut S) -> WholeText
-    requires { max ≤ 2 * IMAGE_MAX }
+    requires { max ≤ 2 * image_max }
     ensures { Fills S.gives IsOpenText (text_of max)
         (Some result.ending) result.image.items 0 0 source.old source.new }
 {
@@ -62,7 +62,7 @@ fn read_whole<S: Source>(max: u64, source: &mut S) -> WholeText
 
 /// Marks the places of an image that the instructions of its sweep branch to.
 fn mark(decoder: &InstDecoder, image: &[u8], marks: &mut [bool; IMAGE_MAX])
-    requires { length image.now ≤ IMAGE_MAX }
+    requires { length image.now ≤ image_max }
     ensures { (p : ℕ) → p < length image.now →
         slice_index_or marks.new p false ≡ is_marked (is_strict decoder.now) image.now p }
 {
@@ -91,7 +91,7 @@ pub fn targets<S: Source, K: Sink>(
     source: &mut S,
     sink: &mut K,
 ) -> Status
-    requires { max ≤ 2 * IMAGE_MAX }
+    requires { max ≤ 2 * image_max }
     ensures { Ran S.gives K.takes
         (targets_at (is_strict decoder.now) 0) max result source.old source.new sink.old sink.new }
 {

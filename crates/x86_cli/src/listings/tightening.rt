@@ -4,12 +4,13 @@ ghost use Rattle.std.specs.Prelude.{◌≡◌, ◌+◌, ◌≤◌, ◌++◌, len
 ghost use Rattle.arrayvec.specs.ArrayVec.{array_vec_len};
 ghost use Rattle.x86_decode.specs.Instruction.{length_of};
 ghost use Rattle.x86_layout.specs.Tightening.Least.{shortest_length};
+ghost use Rattle.x86_text.specs.Widths.{line_width};
 ghost use Rattle.x86_cli.specs.Listings.Tighten.{least_text};
 
 use crate::listings::line::Lines;
 use x86_decode::{InstDecoder, Instruction};
 use x86_layout::shortest_length;
-use x86_text::{LINE_MAX, Line, Place};
+use x86_text::{Line, Place};
 
 /// The lines of `tighten`, which show how short each encoding could be.
 #[derive(Clone, Copy, Drop)]
@@ -39,7 +40,7 @@ impl Lines for LeastLines {
 #[tactic(auto, unfolding(crate::specs::Listings::Tighten::least_text))]
 fn write_least(line: &mut Line, place: &Place, length: u64, least: u64)
     ensures text { line.new.items ≡ least_text place.now length least }
-    ensures short { array_vec_len line.new ≤ LINE_MAX }
+    ensures short { array_vec_len line.new ≤ line_width }
 {
     line.set(place.digits());
     line.push(b' ');

@@ -1,0 +1,51 @@
+use Rattle.std.proofs.Common.{arith, ◌≡◌, ◌↔◌, ℕ, Bool, List, ◌++◌, length, Ok, Err, refl, sym, ap, subst}
+use Rattle.std.proofs.Math.Seq.{take-append_seam}
+use Rattle.x86_decode.specs.declared.instructions.Instruction.{Instruction}
+use Rattle.x86_forms.specs.Words.{rows_of, packed}
+use Rattle.x86_decode.specs.Answer.{answer_of, count_of}
+use Rattle.x86_decode.specs.Grammar.{IsAnswer, IsAccepted, IsSentence}
+use Rattle.x86_decode.specs.Instruction.{length_of}
+use Rattle.x86_cli.specs.Headline.{Headline, BeginsWith}
+use Rattle.x86_cli.proofs.laws.headline_of_bytes.Goals as goal
+
+module _ (strict : Bool) (s rest : List ℕ) (i : Instruction) (is : IsSentence (rows_of packed) strict s i) where
+  -- a sentence at the beginning is an answer of the bytes
+  accepts : IsAnswer (rows_of packed) strict (s ++ rest) (Ok i) (length s)
+  accepts = record { sentence = s; rest = rest; begins = refl; long = refl; is = is }
+
+  accepts_in : (bytes : List ℕ) → bytes ≡ s ++ rest → IsAnswer (rows_of packed) strict bytes (Ok i) (length s)
+  accepts_in bytes begins = subst (λ b. IsAnswer (rows_of packed) strict b (Ok i) (length s)) (sym begins) accepts
+
+begins_with : (strict : Bool) (bytes : List ℕ) (i : Instruction) (n : ℕ) → IsAccepted (rows_of packed) strict bytes i n → BeginsWith strict bytes i
+begins_with strict bytes i n a = (a.sentence, a.rest, a.begins, a.is)
+
+pub returns : goal.returns
+returns c strict =
+    let there = c.answer_is.ensures.there strict in
+    let only = c.answer_is.ensures.only strict in
+    record {
+      rows = c.printed_words_are_the_printed_rows.ensures.rows;
+      accepted = λ bytes i. (
+        (λ e. begins_with strict bytes i (count_of strict bytes) (rw e at (there bytes))),
+        (λ h. sym (only bytes (Ok i) (length h.0) (accepts_in strict h.0 h.1 i h.3 bytes h.2)).0),
+      );
+      unique = λ s rest t more i j same is other.
+          let both = c.one_answer.ensures.once (rows_of packed) strict (s ++ rest) (Ok i) (Ok j) (length s) (length t)
+          (accepts strict s rest i is) (accepts_in strict t more j other (s ++ rest) same) in
+          (grind (arith, take-append_seam s rest, take-append_seam t more, both.1, same), cc both.0);
+      fixed = λ s i is. ap length_of is.yields;
+      refused = λ bytes e. (
+        (λ h. (count_of strict bytes, rw h at (there bytes))),
+        (λ h. sym (only bytes (Err e) h.0 h.1).0),
+      );
+      stays = c.answers_of_more.ensures.answer strict;
+      addresses = λ s i is k raw has bytes. c.memory_operands_have_their_address.ensures strict s i is raw k has.0 has.1 bytes;
+      listing = c.by_grammar.ensures strict;
+      parts = λ s rest i is. c.parts_are_those_of_the_bytes.ensures strict s rest is.reading is.whole;
+      permitted = c.permitted_fields_are_the_parts_of_sentences.ensures strict;
+      split_again = c.permitted_fields_are_split_again.ensures strict;
+      emitted_again = c.accepted_encodings_are_emitted_again.ensures strict;
+      shortest = c.shortest_relatives_have_the_least_length.ensures strict;
+      same_address = λ s t i j is other r s_bytes t_bytes.
+          c.relatives_are_the_same_instruction.ensures.address strict s i is t j other r s_bytes t_bytes;
+    }

@@ -1,0 +1,87 @@
+use Rattle.std.proofs.Common.{arith, ◌≡◌, ◌≤◌, ℕ, Bool, List, [], ◌∷◌, ◌++◌, length, Ok, Some, None, refl, ◌∙◌}
+use Rattle.x86_forms.specs.declared.Map.TheVariants.{One}
+use Rattle.x86_forms.specs.declared.Column.TheVariants.{Plain}
+use Rattle.x86_forms.specs.declared.Form.TheVariants.{Ev_Gv}
+use Rattle.x86_forms.specs.declared.TableRow.{TableRow}
+use Rattle.x86_forms.specs.Rows.{printed_row}
+use Rattle.x86_forms.specs.Words.{rows_of, packed}
+use Rattle.x86_opcodes.specs.Names.{ADD}
+use Rattle.x86_operands.specs.Forms.{form_record}
+use Rattle.x86_decode.specs.Grammar.{Whole, IsSentence}
+use Rattle.x86_decode.specs.Instruction.{instruction_of}
+use Rattle.x86_cli.specs.Worked.{add_rax_rbx, bytes_48_01_d8}
+use Rattle.x86_cli.proofs.laws.worked_add.Goals as goal
+
+abbrev row_of_01 : TableRow
+row_of_01 = record { opcode = ADD; form = Ev_Gv }
+
+-- the second line of the rows of map One
+printed : printed_row One Plain 0x01 ≡ Some row_of_01
+unfolding printed_row
+printed = refl
+
+-- the run 48, no escape, the opcode byte 01 and its row, ModRM d8, and nothing after it
+whole : (strict : Bool) → rows_of packed One Plain 0x01 ≡ Some row_of_01 → Whole (rows_of packed) strict bytes_48_01_d8 add_rax_rbx
+unfolding form_record
+whole strict row = record {
+  run = 0x48 ∷ [];
+  map = One;
+  opcode = 0x01;
+  row = row_of_01;
+  tail = 0xd8 ∷ [];
+  spelled = refl;
+  prefixes = refl;
+  in_map = refl;
+  has_row = row;
+  row_spelled = record {
+    modrm = 0xd8 ∷ [];
+    tail = [];
+    passed = refl;
+    spelled = refl;
+    modrm_length = refl;
+    tail_spelled = record {
+      pieces = record {
+        memory = None;
+        address = [];
+        immediates = [];
+        suffix = [];
+        operand_pairs = _;
+        spelled = refl;
+        address_spelled = (refl, refl);
+        suffix_length = refl;
+        immediates_spelled = record {
+          immediate = [];
+          tail = [];
+          others = _;
+          spelled = refl;
+          immediate_length = refl;
+          yields = refl;
+          tail_spelled = record {
+            immediate = [];
+            tail = [];
+            others = [];
+            spelled = refl;
+            immediate_length = refl;
+            yields = refl;
+            tail_spelled = (refl, refl);
+          };
+        };
+      };
+      opcode = ADD;
+      named = refl;
+      accepted = refl;
+      yields = refl;
+    };
+  };
+}
+
+sentence : (strict : Bool) → rows_of packed One Plain 0x01 ≡ Some row_of_01 → IsSentence (rows_of packed) strict bytes_48_01_d8 (instruction_of add_rax_rbx 3)
+sentence strict row = record { reading = add_rax_rbx; whole = whole strict row; lock = refl; short = omega arith; yields = refl }
+
+pub returns-clause-sentence : goal.returns-clause-sentence
+returns-clause-sentence c strict = sentence strict ((c.headline_of_bytes.ensures strict).rows One Plain 0x01 ∙ printed)
+
+pub returns-clause-answer : goal.returns-clause-answer
+returns-clause-answer c strict rest =
+    ((c.headline_of_bytes.ensures strict).accepted (bytes_48_01_d8 ++ rest) (instruction_of add_rax_rbx 3)).1
+    (bytes_48_01_d8, rest, refl, sentence strict ((c.headline_of_bytes.ensures strict).rows One Plain 0x01 ∙ printed))
