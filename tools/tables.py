@@ -1,5 +1,5 @@
 #!/usr/bin/env python3
-"""Writes the files that only repeat what four lists say, so that a name, a form or a row is edited in one place.
+"""Writes the files that only repeat what five lists say, so that a name, a form or a row is edited in one place.
 
     python3 tools/tables.py            writes them
     python3 tools/tables.py --check    changes nothing; says which are not what it would write, and then ends with status 1
@@ -10,6 +10,7 @@ The lists, which people edit:
     crates/x86_forms/src/lib.rt                the forms, the variants of `Form`
     crates/x86_forms/specs/Rows.antt           the rows of each map, a line for each row
     crates/x86_regs/specs/Names.antt           the registers of each class
+    crates/x86_group_plans/specs/Rows.antt     the rows of the groups, a line for each row (tools/group_rows.py)
 
 Nothing rests on this script. What it writes is checked like all other code: that the constants have the numbers and
 spellings of their names, that each form is at its ordinal, and that each table has the words of the rows, is proved.
@@ -21,10 +22,13 @@ import sys
 import textwrap
 from pathlib import Path
 
+import group_rows
+
 TOP = Path(__file__).resolve().parent.parent
 OPCODES = TOP / "crates" / "x86_opcodes"
 FORMS = TOP / "crates" / "x86_forms"
 REGS = TOP / "crates" / "x86_regs"
+GROUP_PLANS = TOP / "crates" / "x86_group_plans"
 TEXT = TOP / "crates" / "x86_text"
 
 MAPS = ["One", "Of", "Of38", "Of3a"]
@@ -229,6 +233,11 @@ def sizes_rt():
     return lines + name_table("SIZES", 4, [" m?" if size == UNDECIDED else f" m{size}" for size in range(65)])
 
 
+def group_tables_rt():
+    numbers = {name: number for number, name in enumerate(names())}
+    return group_rows.tables(note("//!", "specs/Rows.antt"), numbers)
+
+
 def written():
     """Each file with its lines."""
     return {
@@ -237,6 +246,7 @@ def written():
         FORMS / "specs" / "Ordinals.antt": ordinals_antt(),
         FORMS / "src" / "ordinals.rt": ordinals_rt(),
         FORMS / "src" / "tables.rt": tables_rt(),
+        GROUP_PLANS / "src" / "tables.rt": group_tables_rt(),
         TEXT / "src" / "mnemonics.rt": mnemonics_rt(),
         TEXT / "src" / "registers.rt": registers_rt(),
         TEXT / "src" / "sizes.rt": sizes_rt(),

@@ -1,4 +1,8 @@
--- The lemmas on the plans of the groups, on what the groups have, and on the two choices.
+-- The lemmas on the rows of groups, and on their records.
+pub mod RowLemmas
+pub mod FactLemmas
+pub mod PlanLemmas
 pub mod ChoiceLemmas
+pub mod AskLemmas
 pub mod GroupLemmas
-mod AskLemmas
+pub mod RegLemmas

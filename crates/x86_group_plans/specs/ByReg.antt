@@ -1,61 +1,60 @@
--- Groups whose lines reg alone chooses.
-use Rattle.std.specs.Prelude.{ℕ, Bool, true, false, ◌≡◌, ◌==◌, if◌then◌else◌, IsTrue}
-use Rattle.x86_fields.specs.ModRM.{reg_field}
+-- Groups of which reg alone chooses rows.
+use Rattle.std.specs.Prelude.{ℕ, Bool, true, false, ◌≡◌, IsTrue, List}
 use Rattle.x86_fields.specs.declared.prefixes.Prefixes.{Prefixes}
+use Rattle.x86_opcodes.specs.Names.{Invalid}
 use Rattle.x86_plans.specs.declared.plans.Plan.{Plan}
 use Rattle.x86_plans.specs.declared.encodings.RegGroup.{RegGroup}
 use Rattle.x86_plans.specs.declared.encodings.RegGroup.TheVariants as group
 use Rattle.x86_plans.specs.declared.encodings.FormEncoding.{FormEncoding}
-use Rattle.x86_opcodes.specs.Names.{CALLF, JMPF}
 use Rattle.x86_plans.specs.declared.encodings.AfterOpcode.{AfterOpcode}
 use Rattle.x86_plans.specs.declared.encodings.AfterOpcode.TheVariants as after_opcode
-use Rattle.x86_plans.specs.declared.plans.Fault.TheVariants.{BadOpcode}
-use Rattle.x86_plans.specs.declared.plans.Moment.TheVariants.{AfterAddress}
-use Rattle.x86_plans.specs.Plans.{refuses, memory_only}
 use Rattle.x86_plans.specs.Encodings.{plan_of, is_described}
-use Rattle.x86_group_plans.specs.Arithmetic.{plan_80, plan_81, plan_83, plan_c0, plan_c1, plan_d0, plan_d1, plan_d2, plan_d3, plan_f6, plan_f7}
-use Rattle.x86_group_plans.specs.Operations.{abort_plan, begin_plan, plan_c6, plan_c7, plan_fe, plan_ff}
-use Rattle.x86_group_plans.specs.Vocabulary.{on_memory}
+use Rattle.x86_group_plans.specs.declared.rows.GroupRow.{GroupRow}
+use Rattle.x86_group_plans.specs.Groups.{rows_plan}
+use Rattle.x86_group_plans.specs.Rows.{rows_80, rows_81, rows_83, rows_c0, rows_c1, rows_c6, rows_c7, rows_d0, rows_d1, rows_d2, rows_d3, rows_f6, rows_f7, rows_fe, rows_ff}
 
--- the plan of a group
+abbrev pub reg_rows : RegGroup → List GroupRow
+reg_rows group.G80 = rows_80
+reg_rows group.G81 = rows_81
+reg_rows group.G83 = rows_83
+reg_rows group.C0 = rows_c0
+reg_rows group.C1 = rows_c1
+reg_rows group.C6 = rows_c6
+reg_rows group.C7 = rows_c7
+reg_rows group.D0 = rows_d0
+reg_rows group.D1 = rows_d1
+reg_rows group.D2 = rows_d2
+reg_rows group.D3 = rows_d3
+reg_rows group.F6 = rows_f6
+reg_rows group.F7 = rows_f7
+reg_rows group.FE = rows_fe
+reg_rows group.FF = rows_ff
+
+-- the place of a group in tables by groups
+abbrev pub place_of : RegGroup → ℕ
+place_of group.G80 = 0
+place_of group.G81 = 1
+place_of group.G83 = 2
+place_of group.C0 = 3
+place_of group.C1 = 4
+place_of group.C6 = 5
+place_of group.C7 = 6
+place_of group.D0 = 7
+place_of group.D1 = 8
+place_of group.D2 = 9
+place_of group.D3 = 10
+place_of group.F6 = 11
+place_of group.F7 = 12
+place_of group.FE = 13
+place_of group.FF = 14
+
+-- the plan of a group, which goes neither by the opcode of the row in the opcode map nor by the choice
 abbrev pub reg_plan : RegGroup → Prefixes → ℕ → Plan
-reg_plan group.G80 p m = plan_80 m
-reg_plan group.G81 p m = plan_81 p m
-reg_plan group.G83 p m = plan_83 p m
-reg_plan group.C0 p m = plan_c0 m
-reg_plan group.C1 p m = plan_c1 p m
-reg_plan group.C6 p m = plan_c6 m
-reg_plan group.C7 p m = plan_c7 p m
-reg_plan group.D0 p m = plan_d0 m
-reg_plan group.D1 p m = plan_d1 p m
-reg_plan group.D2 p m = plan_d2 m
-reg_plan group.D3 p m = plan_d3 p m
-reg_plan group.F6 p m = plan_f6 m
-reg_plan group.F7 p m = plan_f7 p m
-reg_plan group.FE p m = plan_fe m
-reg_plan group.FF p m = plan_ff p m
+reg_plan g p m = rows_plan (reg_rows g) Invalid false p m
 
--- a line of the table is the plan of the group, unless it leaves it to a separate plan
+-- a line of the table is the plan of the group, unless it leaves it to the rows
 abbrev pub Chooses : RegGroup → ℕ → ℕ → FormEncoding → Type 0
 Chooses g m o e = IsTrue (is_described e.after_opcode) → (n : ℕ) (p : Prefixes) → plan_of e n o p m ≡ reg_plan g p m
-
--- FF with reg 3 and 5, and 7, which is none
-abbrev pub far_plan : ℕ → Plan
-far_plan m =
-    if reg_field m == 3 then memory_only m (on_memory CALLF 10)
-    else (if reg_field m == 5 then memory_only m (on_memory JMPF 10)
-    else refuses BadOpcode AfterAddress)
-
--- the plans that no line describes
-abbrev pub other_plan : RegGroup → Prefixes → ℕ → Plan
-other_plan group.C6 p m = abort_plan m
-other_plan group.C7 p m = begin_plan p m
-other_plan group.FF p m = far_plan m
-other_plan g p m = refuses BadOpcode AfterAddress
-
--- where no line describes what reg chooses, the group has one of these plans
-abbrev pub LeavesOther : RegGroup → ℕ → FormEncoding → Type 0
-LeavesOther g m e = is_described e.after_opcode ≡ false → (p : Prefixes) → reg_plan g p m ≡ other_plan g p m
 
 -- a line of a group has a ModRM byte of either form
 abbrev pub has_either_form : AfterOpcode → Bool

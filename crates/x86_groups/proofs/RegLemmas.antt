@@ -1,29 +1,50 @@
 -- The records of groups whose lines reg alone chooses.
-use Rattle.std.proofs.Common.{◌≡◌, ℕ, Bool, true, refl}
+use Rattle.std.proofs.Common.{◌≡◌, ℕ, Bool, true, None, Result, Ok, Err, refl, ap, ◌∙◌}
 use Rattle.x86_arch.specs.Reader.{State}
 use Rattle.x86_fields.specs.declared.prefixes.Prefixes.{Prefixes}
 use Rattle.x86_forms.specs.declared.TableRow.{TableRow}
 use Rattle.x86_plans.specs.declared.encodings.RegGroup.{RegGroup}
 use Rattle.x86_plans.specs.declared.encodings.RegGroup.TheVariants as group
-use Rattle.x86_fields.specs.Steps.{◌>>=◌}
+use Rattle.x86_fields.specs.declared.errors.DecodeError.{DecodeError}
+use Rattle.x86_fields.specs.Steps.{then_from, ◌>>=◌}
 use Rattle.x86_forms.specs.Groups.{is_group}
 use Rattle.x86_forms.specs.declared.Form.{Form}
 use Rattle.x86_plans.specs.declared.plans.ModrmUse.TheVariants.{EitherForm}
 use Rattle.x86_operands.specs.PlanSteps.{read_modrm, read_plan, record_step}
 use Rattle.x86_forms.specs.Words.{carried}
 use Rattle.x86_operands.specs.FormEncodings.{group_form}
-use Rattle.x86_group_plans.specs.Groups.{group_form_plan, group_plan, group_record}
-use Rattle.x86_group_plans.specs.ByReg.{reg_plan}
+use Rattle.x86_group_plans.specs.Groups.{group_fault, group_form_plan, group_modrm, group_plan, group_record, group_rows, rows_plan}
+use Rattle.x86_group_plans.specs.ByReg.{reg_plan, reg_rows}
+use Rattle.x86_group_plans.proofs.RegLemmas.{rows_reg_plan}
+use Rattle.x86_plans.specs.declared.plans.Plan.{Plan}
 
-pub reg_record : (g : RegGroup) (strict : Bool) (row : TableRow) (p : Prefixes) (s : State ℕ) → row.form ≡ group_form g → record_step (group_record strict row p) p s ≡ (read_modrm EitherForm >>= λ m. read_plan (reg_plan g p m) p m) s
-unfolding record_step group_record group_form_plan
-reg_record group.G80 strict row p s e = rw e refl
-reg_record g strict row p s e = rw e refl
+form_rows : (g : RegGroup) → group_rows (group_form g) ≡ reg_rows g
+unfolding group_rows
+form_rows group.G80 = refl
+form_rows g = refl
 
 pub reg_chosen : (g : RegGroup) (strict : Bool) (row : TableRow) (p : Prefixes) (m : ℕ) → row.form ≡ group_form g → group_plan row p m strict ≡ reg_plan g p m
 unfolding group_form_plan
-reg_chosen group.G80 strict row p m e = rw e refl
-reg_chosen g strict row p m e = rw e refl
+reg_chosen g strict row p m e =
+    ap (λ f. rows_plan (group_rows f) row.opcode strict p m) e ∙ ap (λ rows. rows_plan rows row.opcode strict p m) (form_rows g) ∙ rows_reg_plan g row.opcode strict p m
+
+modrm_of_form : (g : RegGroup) (f : Form) → f ≡ group_form g → group_modrm f ≡ EitherForm
+modrm_of_form group.G80 f e = rw e refl
+modrm_of_form g f e = rw e refl
+
+fault_of_form : (g : RegGroup) (f : Form) (p : Prefixes) → f ≡ group_form g → group_fault f p ≡ None
+fault_of_form group.G80 f p e = rw e refl
+fault_of_form g f p e = rw e refl
+
+same_following : (r : Result ℕ DecodeError) (s : State ℕ) (p : Prefixes) (a b : ℕ → Plan) → ((m : ℕ) → a m ≡ b m) → then_from r s (λ m. read_plan (a m) p m) ≡ then_from r s (λ m. read_plan (b m) p m)
+same_following (Ok m) s p a b same = ap (λ plan. read_plan plan p m s) (same m)
+same_following (Err x) s p a b same = refl
+
+pub reg_record : (g : RegGroup) (strict : Bool) (row : TableRow) (p : Prefixes) (s : State ℕ) → row.form ≡ group_form g → record_step (group_record strict row p) p s ≡ (read_modrm EitherForm >>= λ m. read_plan (reg_plan g p m) p m) s
+unfolding record_step group_record
+reg_record g strict row p s e =
+    rw (fault_of_form g row.form p e, modrm_of_form g row.form e)
+    (same_following (read_modrm EitherForm s).answer (read_modrm EitherForm s).after p (λ m. group_plan row p m strict) (λ m. reg_plan g p m) (λ m. reg_chosen g strict row p m e))
 
 pub reg_group : (g : RegGroup) (f : Form) → f ≡ group_form g → is_group f ≡ true
 reg_group group.G80 f e = rw e refl

@@ -18,9 +18,8 @@ ghost use Rattle.x86_operands.specs.PlanSteps.{record_step};
 ghost use Rattle.x86_plans.specs.declared.encodings.RegGroup.{RegGroup};
 ghost use Rattle.x86_group_plans.specs.ByReg.{reg_plan};
 ghost use Rattle.x86_groups.specs.RegSteps.{reg_step};
-ghost use Rattle.x86_group_plans.specs.Vocabulary.{operandless, bad_operand};
 ghost use Rattle.x86_group_plans.specs.Choices.{IsFenceWithRm};
-ghost use Rattle.x86_group_plans.specs.Groups.{group_record, group_plan};
+ghost use Rattle.x86_group_plans.specs.Groups.{group_record, group_plan, operandless, bad_operand};
 
 use x86_forms::Form;
 

@@ -4,7 +4,6 @@ pub mod Shortest
 pub mod Address
 pub mod Rex
 pub mod Respell
-pub mod GroupPlans
 pub mod PlanAlike
 pub mod Relative
 pub mod Tighten

@@ -1,0 +1,213 @@
+"""The rows of the groups, as crates/x86_group_plans/specs/Rows.antt has them: for tools/tables.py, which writes their tables.
+
+It also says with the row what the proof doesn't: a row that is never reached, and a group whose rows leave a gap.
+"""
+
+import re
+import sys
+from dataclasses import dataclass
+from itertools import product
+from pathlib import Path
+
+GROUPS = Path(__file__).resolve().parent.parent / "crates" / "x86_group_plans" / "specs"
+PLACES = {"M": "Memory", "R": "Register", "MR": "Either"}
+BYTES = {"0": "Zero", "1": "One", "2": "Two", "4": "Four", "8": "Eight", "16": "Sixteen"}
+LASTS = {"Ib": "I8", "Iv": "Iv", "one": "SignedOne", "cl": "Cl"}
+UNDECIDED = "63"  # the size that means one that the processor decides
+# the groups that reg chooses, in the order of `RegGroup`
+BY_REG = ["80", "81", "83", "c0", "c1", "c6", "c7", "d0", "d1", "d2", "d3", "f6", "f7", "fe", "ff"]
+
+
+@dataclass
+class Row:
+    text: str
+    kind: str
+    place: str
+    first: int
+    last: int
+    rm: str
+    when: str
+    rest: list  # names, operands and sizes of a row that is read; fault and moment of one that is refused
+
+    def where(self):
+        return f"{PLACES[self.place]} {self.first} {self.last} {self.rm}; {self.when}"
+
+    def is_named(self, reg, rm):
+        if self.kind == "refusal" or isinstance(self.rest[0], str):
+            return True
+        word, *names = self.rest[0]
+        return {"Name": True, "by_reg": names[reg % len(names)] != "none", "by_rm": names[rm % len(names)] != "none"}[word]
+
+    def holds(self, memory, reg, rm, f2, f3, word, w, r, strict):
+        placed = {"M": memory, "R": not memory, "MR": True}[self.place]
+        zero = rm == 0 or not strict
+        fits = {"Any": True, "ZeroIfStrict": zero}.get(self.rm, self.rm == f"Is({rm})")
+        prefixed = {
+            "Always": True, "NoPrefix": not (f2 or f3 or word), "NoRepeat": not (f2 or f3), "Only66": word and not (f2 or f3),
+            "F2": f2, "F3": f3, "With66": word, "F3With66": f3 and word, "RexW": w, "RexR": r,
+        }[self.when]
+        return placed and self.first <= reg <= self.last and fits and prefixed and self.is_named(reg, rm)
+
+
+def parsed(tokens):
+    """The words of a row; those in parentheses are a list."""
+    words = []
+    while tokens:
+        token = tokens.pop(0)
+        if token == ")":
+            break
+        words.append(parsed(tokens) if token == "(" else token)
+    return words
+
+
+def where(words):
+    """The form of ModRM, the first and the last reg, and rm."""
+    word, *numbers = [words] if isinstance(words, str) else words
+    place = word.split("_")[0]
+    if word in PLACES:
+        return place, 0, 7, "Any"
+    ranges = {"_reg": [0, 0], "_regs": [0, -1]}.get(word[len(place) :])
+    if ranges:
+        return place, int(numbers[ranges[0]]), int(numbers[ranges[1]]), "Any"
+    if word == "R_zero":
+        return place, 0, 7, "ZeroIfStrict"
+    reg = (int(numbers[0]), int(numbers[0])) if word == "R_rm" else (0, 7)
+    return place, *reg, f"Is({numbers[-1]})"
+
+
+def row(line):
+    kind, *words = parsed(re.findall(r"[()]|[^\s()]+", line))
+    if kind == "otherwise":
+        return Row(line, "refusal", "MR", 0, 7, "Any", "Always", words)
+    return Row(line, kind, *where(words[0]), words[1], words[2:])
+
+
+def groups():
+    """The rows of each group."""
+    answer, name = {}, None
+    for line in (GROUPS / "Rows.antt").read_text().splitlines():
+        head = re.fullmatch(r"rows_(\w+) =", line)
+        if head:
+            name = head[1]
+            answer[name] = []
+        elif name and line == "    []":
+            name = None
+        elif name:
+            answer[name].append(row(line.strip().removesuffix(" ∷")))
+    return answer
+
+
+def checked(name, rows):
+    """The rows of a group, if each is reached and there is always one."""
+    reached, gap = set(), False
+    choices = [(False, False), (True, False), (False, True)]
+    for memory, reg, rm, (f2, f3), word, w, r, strict in product([True, False], range(8), range(8), choices, *[[True, False]] * 4):
+        here = [at for at, each in enumerate(rows) if each.holds(memory, reg, rm, f2, f3, word, w, r, strict)]
+        reached.update(here[:1])
+        gap = gap or not here
+    for at, each in enumerate(rows):
+        if at not in reached:
+            sys.exit(f"tables.py: rows_{name}: never reached: {each.text}")
+    if gap:
+        sys.exit(f"tables.py: rows_{name} leaves a gap: end it with `otherwise`")
+    return rows
+
+
+def letters():
+    """The words for operands, each with its letter."""
+    text = (GROUPS / "Words.antt").read_text()
+    kinds = [("letter.", "Letter::"), ("width.", "Width::"), ("slot.", "RegisterSlot::"), ("class.", "RegisterClass::")]
+    for word, meaning in re.findall(r"^(\w+) = (letter\..*)$", text, re.M):
+        for old, new in kinds:
+            meaning = meaning.replace(old, new)
+        letter, *parts = meaning.split()
+        yield word.upper(), f"{letter}({', '.join(parts)})" if parts else letter
+
+
+def size(word):
+    return f"Bytes({word[1]})" if isinstance(word, list) else word.upper()
+
+
+def sizes(words):
+    """The memory size in the memory form, and in the register form."""
+    if isinstance(words, str):
+        return {"size_v": ["V"] * 2, "undecided": [f"Bytes({UNDECIDED})"] * 2}[words]
+    return [size(word) for word in words[1:]] if words[0] == "sizes" else [f"Bytes({words[1]})"] * 2
+
+
+def names(words, numbers):
+    if isinstance(words, str):
+        return words
+    listed = ", ".join("0" if name == "none" else str(numbers[name]) for name in words[1:])
+    return {"Name": f"Name({listed})", "by_reg": f"ByReg([{listed}])", "by_rm": f"ByRm([{listed}])"}[words[0]]
+
+
+def entry(each, numbers):
+    """A row as the table has it."""
+    if each.kind == "refusal":
+        return f"refusal!({each.where()}; {' '.join(each.rest)})"
+    named, operands, sized = each.rest
+    operands = operands if isinstance(operands, str) else f"{operands[0]}({', '.join(word.upper() for word in operands[1:])})"
+    return f"{each.kind}!({each.where()}; {names(named, numbers)}; {operands}; {'; '.join(sizes(sized))})"
+
+
+def encoding(operands, sized):
+    """The words of `encoded!` for a row by reg: rm, and for a second operand one that ModRM doesn't give."""
+    order, last = ("E_I", LASTS[operands[2]]) if len(operands) == 3 else ("E", "Absent")
+    line_sizes = ["V" if word == "V" else BYTES[word[6:-1]] for word in sized]
+    return f"EitherForm {order} B {operands[1][1:].upper()} {last} {' '.join(line_sizes)}"
+
+
+def reg_line(rows, reg, numbers):
+    """The line of a reg, if reg alone chooses its row, or if 66 chooses between the two sizes of PUSH."""
+    here = [each for each in rows if each.first <= reg <= each.last and each.is_named(reg, 0)]
+    first = here[0]
+    if first.kind != "read" or first.place != "MR":
+        return "rows_alone!()"
+    named, operands, sized = first.rest
+    number = numbers[named[1 + reg] if named[0] == "by_reg" else named[1]]
+    if first.when == "Always":
+        return f"line!({number} {encoding(operands, sizes(sized))})"
+    if first.when == "With66" and here[1].when == "Always" and [sized, here[1].rest[2]] == [["size", "2"], ["size", "8"]]:
+        return f"line!({number} EitherForm E B {operands[1][1:].upper()} Absent Push Push)"
+    return "rows_alone!()"
+
+
+HEAD = """
+use crate::by_reg::{RegLine, line, rows_alone};
+use crate::letters::Letters::{Four, One, Three, Two, Zero};
+use crate::letters::RowSize::{Bytes, Of};
+use crate::letters::{Letter, RowSize};
+use crate::rows::Names::{ByReg, ByRm, BySuffix, Name, Own};
+use crate::rows::Rm::{Any, Is, ZeroIfStrict};
+use crate::rows::{Content, GroupRow, Place, When, read, read_without_66, refusal};
+use x86_fields::Width;
+use x86_plans::AfterOpcode::ByPlan;
+use x86_plans::plans::{Fault, ModrmUse, Moment, PrefixChange, RegisterSlot};
+use x86_plans::{encoded, other};
+use x86_regs::RegisterClass;
+
+const V: RowSize = Of(Width::V);
+
+const Y: RowSize = Of(Width::Dq);
+
+const VQ: RowSize = Of(Width::Vq);
+"""
+
+
+def tables(note, numbers):
+    """The lines of src/tables.rt."""
+    lines = ["//! The rows of the groups: where, the prefixes, and what is there. A name is the number of an opcode, and 0 is none.", "//!"]
+    lines += note + HEAD.strip("\n").splitlines()
+    for word, letter in letters():
+        lines += ["", f"const {word}: Letter = {letter};"]
+    every = groups()
+    for name, rows in every.items():
+        lines += ["", f"pub(crate) const ROWS_{name.upper()}: &[GroupRow; {len(rows)}] = &["]
+        lines += [f"    {entry(each, numbers)}," for each in checked(name, rows)] + ["];"]
+    lines += ["", "/// The line of each reg, for the groups in the order of `RegGroup`."]
+    lines += [f"pub(crate) const REG_LINES: &[[RegLine; 8]; {len(BY_REG)}] = &["]
+    for name in BY_REG:
+        lines += ["    ["] + [f"        {reg_line(every[name], reg, numbers)}," for reg in range(8)] + [f"    ], // {name.upper()}"]
+    lines += ["];", "", "/// The rows of a form that has none."]
+    return lines + ["pub(crate) const LEFT_OUT: &[GroupRow; 1] = &[refusal!(Either 0 7 Any; Always; Incomplete AtModRM)];"]
