@@ -3,8 +3,10 @@
 pub mod array_sink;
 pub mod gathered;
 pub mod input;
+mod interruptions;
 pub mod null_sink;
 pub mod output;
+mod reading;
 mod sending;
 pub mod sink;
 pub mod slice_source;

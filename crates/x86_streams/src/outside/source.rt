@@ -13,7 +13,7 @@ pub enum Got {
     Failed,
 }
 
-/// Bytes that are taken one by one, and a count of faults that never falls and stops at `u64::MAX`.
+/// Bytes that are taken one by one, and a count of the calls that failed, which stops at `u64::MAX`.
 pub trait Source {
     /// The bytes left, where they are known.
     ghost left: { Self → Option (List ℕ) };

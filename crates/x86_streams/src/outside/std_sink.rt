@@ -6,10 +6,11 @@ ghost use Rattle.x86_streams.specs.Outside.Writes.{PutSends};
 ghost use Rattle.x86_streams.specs.Outside.Seen.{sink_writer};
 
 use crate::outside::output::Output;
+use crate::outside::sending::send_out;
 use crate::outside::sink::{Sink, SinkFailed};
 
 /// Pieces that go to a writer. Its bytes are known where the writer's are. A write that takes none of a piece that
-/// isn't empty fails.
+/// isn't empty fails, and one that a signal interrupts is made again.
 #[derive(Drop)]
 pub struct StdSink<W: Output + Drop> {
     writer: W,
@@ -32,7 +33,7 @@ impl<W: Output + Drop> StdSink<W> {
         self.writer
     }
 
-    /// A count that rises with each write that fails, and stops at `u64::MAX`.
+    /// A count that rises by one with each put that fails, and stops at `u64::MAX`.
     pub fn faults(&self) -> u64
         ensures { result ≡ ⟦<StdSink<W> as Sink>⟧.faults self.now }
     {
@@ -51,18 +52,12 @@ impl<W: Output + Drop> Sink for StdSink<W> {
 
     ghost reports = { λ s piece r t h. h.0 };
 
-    #[tactic(auto, using(crate::proofs::OutsideLemmas::Sink::puts_none))]
+    #[inline(always)]
     fn put(&mut self, piece: &[u8]) -> Result<(), SinkFailed> {
-        let mut rest = piece;
-        while !rest.is_empty() {
-            match self.writer.write(rest) {
-                Ok(count) if count > 0 => rest = &rest[count..],
-                _ => {
-                    self.faults = self.faults.saturating_add(1);
-                    return Err(SinkFailed);
-                }
-            }
+        let (_, result) = send_out(&mut self.writer, piece);
+        if result.is_err() {
+            self.faults = self.faults.saturating_add(1);
         }
-        Ok(())
+        result
     }
 }
