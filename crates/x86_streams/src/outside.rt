@@ -8,6 +8,7 @@ pub mod null_sink;
 pub mod output;
 mod reading;
 mod sending;
+pub mod settling;
 pub mod sink;
 pub mod slice_source;
 pub mod sound_source;

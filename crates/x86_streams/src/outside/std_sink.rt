@@ -2,9 +2,10 @@
 
 ghost use Rattle.std.specs.Prelude.{◌≡◌};
 ghost use Rattle.x86_streams.specs.Outside.Sink.{ReportsPut};
-ghost use Rattle.x86_streams.specs.Outside.Writes.{PutSends};
-ghost use Rattle.x86_streams.specs.Outside.Seen.{sink_writer};
+ghost use Rattle.x86_streams.specs.Outside.Writes.{FlushesOut, PutSends};
+ghost use Rattle.x86_streams.specs.Outside.Seen.{buffer_bytes, buffer_writer, sink_writer};
 
+use crate::outside::gathered::Gathered;
 use crate::outside::output::Output;
 use crate::outside::sending::send_out;
 use crate::outside::sink::{Sink, SinkFailed};
@@ -38,6 +39,23 @@ impl<W: Output + Drop> StdSink<W> {
         ensures { result ≡ ⟦<StdSink<W> as Sink>⟧.faults self.now }
     {
         self.faults
+    }
+}
+
+impl<W: Output + Drop> StdSink<Gathered<W>> {
+    /// Sends what the buffer holds, and flushes its writer.
+    #[cold]
+    #[inline(never)]
+    pub fn send_all(&mut self) -> Result<(), SinkFailed>
+        ensures { FlushesOut W.writes W.flushes result
+            (buffer_bytes (sink_writer self.old)) (buffer_bytes (sink_writer self.new))
+            (buffer_writer (sink_writer self.old)) (buffer_writer (sink_writer self.new)) }
+    {
+        let result = self.writer.send_all();
+        if result.is_err() {
+            self.faults = self.faults.saturating_add(1);
+        }
+        result
     }
 }
 
