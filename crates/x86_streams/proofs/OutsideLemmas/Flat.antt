@@ -47,7 +47,7 @@ module _ {W : Type 0} (writes : W → List ℕ → Result ℕ Error → W → Ty
       forwards_join writes flushes tt r _ _ _ _ _ _ _ _ (calls_send (Ok tt) cs s did.0 did.1 (grind arith)) (call_sends r c cs did.0 t did.2 cause)
 
   -- What calls of the buffer sent, its writer took, but for what the buffer holds.
-  flat : (r : Result ⊤ SinkFailed) (bytes : List ℕ) (s t : Gathered W) → Caused BufferWrites BufferFlushes r bytes s t → Sends r bytes s t
+  pub flat : (r : Result ⊤ SinkFailed) (bytes : List ℕ) (s t : Gathered W) → Caused BufferWrites BufferFlushes r bytes s t → Sends r bytes s t
   flat r bytes s t h = rw h.sends at (calls_send r h.calls s t h.did h.cause)
 
   -- The puts of a run, one after the other.

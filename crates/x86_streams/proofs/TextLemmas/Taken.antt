@@ -18,6 +18,7 @@ module _ {S : Type 0} (gives : S → Got → S → Type 0) (ahead : S → List �
     values = [];
     begins = begins_none 0;
     few = omega arith;
+    fewer = omega arith;
     items = sym (append-nil w);
     position_is = omega arith;
     room_is = omega arith;
@@ -32,6 +33,7 @@ module _ {S : Type 0} (gives : S → Got → S → Type 0) (ahead : S → List �
     values = f.values ++ g.values;
     begins = begins_append f.most g.most f.bytes g.bytes f.values g.values f.begins g.begins f.few;
     few = simp length-append (omega (arith, f.few, g.few));
+    fewer = simp length-append (omega (arith, f.fewer, g.fewer));
     items = g.items ∙ ap (λ l. l ++ g.values) f.items ∙ append_assoc w f.values g.values;
     position_is = simp length-append (omega (arith, f.position_is, g.position_is));
     room_is = simp length-append (omega (arith, f.room_is, g.room_is));

@@ -27,6 +27,7 @@ pub record TakesBytes {S : Type 0} (gives : S → Got → S → Type 0) (ahead :
   pub values : List ℕ
   pub begins : Begins most bytes values
   pub few : length values ≤ most
+  pub fewer : length values ≤ length bytes
   pub items : window' ≡ window ++ values
   pub position_is : position' ≡ position + length bytes
   pub room_is : room ≡ length bytes + room'

@@ -182,7 +182,8 @@ impl Window {
         ensures empty { self.old.ended ≡ None → length self.new.bytes.items < 15 →
             IsEmptyAhead self.new.bytes.ahead }
         ensures ended { self.new.ended ≡ self.old.ended }
-        ensures closed { (e : Ending) → self.old.ended ≡ Some e → self.new ≡ self.old }
+        ensures closed { (e : Ending) → self.old.ended ≡ Some e →
+            (self.new ≡ self.old) × (source.new ≡ source.old) }
         ensures few { length self.old.bytes.items ≤ 15 → length self.new.bytes.items ≤ 15 }
     {
         if self.ended.is_none() {

@@ -1,4 +1,4 @@
-use Rattle.std.proofs.Common.{take, arith, refl, length-take-le}
+use Rattle.std.proofs.Common.{take, drop, ◌-◌, arith, refl, length-take-le}
 use Rattle.x86_streams.proofs.OutsideLemmas.Skip.{takes_calls}
 use Rattle.x86_streams.proofs.TextLemmas.Taken.{taken_few}
 use Rattle.x86_streams.proofs.TextLemmas.Fill.{fills_begins}
@@ -39,6 +39,7 @@ returns-clause-takes g c =
       values = _;
       begins = takes.begins;
       few = taken_few _ _;
+      fewer = omega (arith, taken_few (c.take-text.new.self.ahead.start - c.args.self.now.bytes.ahead.start) (drop c.args.self.now.bytes.ahead.start c.args.self.now.bytes.ahead.values), takes.uses, bytes);
       items = e.items;
       position_is = omega (arith, bytes, c.advance_by.ensures.position);
       room_is = omega (arith, bytes, c.advance_by.ensures.room);
