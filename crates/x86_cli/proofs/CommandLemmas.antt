@@ -4,4 +4,4 @@ pub mod Stay
 pub mod Says
 pub mod Program
 pub mod Leaves
-pub mod Ahead
+pub mod Obeys

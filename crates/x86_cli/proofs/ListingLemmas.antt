@@ -5,3 +5,4 @@ pub mod Progress
 pub mod NextEntry
 pub mod Sweep
 pub mod Target
+pub mod Live

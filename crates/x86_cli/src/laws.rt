@@ -193,7 +193,7 @@ pub fn write_faults()
 /// `sweep` and `targets` are never refused.
 pub fn unrefused<S: Source, K: Sink>()
     ensures { (c : Command) (status : Status) (a b : S) (k l : K)
-        → Runs S.gives K.takes c status a b k l → IsTrue (goes_past_refusals c)
+        → Runs S.gives S.ahead K.takes c status a b k l → IsTrue (goes_past_refusals c)
         → status ≢ Status.Refused }
 {}
 

@@ -15,6 +15,7 @@
 
 pub mod cells;
 pub mod digits;
+pub mod laws;
 mod place;
 mod room;
 

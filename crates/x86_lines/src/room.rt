@@ -221,10 +221,14 @@ impl<const N: usize> Clone for Room<N> {
 
 impl<const N: usize> Display for Room<N> {
     ghost use Rattle.std.specs.Prelude.{Some};
+    ghost use Rattle.std.specs.Fmt.{padded};
 
     ghost output = { λ room. Some room.items };
 
-    /// Writes the bytes as text. Where they aren't UTF-8, this is an error of the formatter.
+    ghost styled_output = { λ room spec. Some (padded spec room.items) };
+
+    /// Writes the bytes as text, with the width, fill and precision of the format. Where they aren't UTF-8, this is an
+    /// error of the formatter.
     fn fmt<W: fmt::Write>(&self, f: &mut fmt::Formatter<W>) -> fmt::Result {
         match self.as_str() {
             Some(text) => f.pad(text),

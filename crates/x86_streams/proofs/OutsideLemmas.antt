@@ -1,5 +1,4 @@
 -- Lemmas on sources and sinks.
-pub mod Sink
 pub mod Reports
 pub mod Writes
 pub mod Reads

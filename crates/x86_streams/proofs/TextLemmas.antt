@@ -7,3 +7,4 @@ pub mod Begins
 pub mod ImageBytes
 pub mod ImageAhead
 pub mod Fill
+pub mod Taken

@@ -23,6 +23,7 @@ pub use outside::gathered::Gathered;
 pub use outside::input::Input;
 pub use outside::null_sink::NullSink;
 pub use outside::output::Output;
+pub use outside::settling::{AtOnce, Buffered, Settling};
 pub use outside::sink::{Sink, SinkFailed};
 pub use outside::slice_source::SliceSource;
 pub use outside::sound_source::SoundSource;

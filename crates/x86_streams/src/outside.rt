@@ -3,9 +3,12 @@
 pub mod array_sink;
 pub mod gathered;
 pub mod input;
+mod interruptions;
 pub mod null_sink;
 pub mod output;
+mod reading;
 mod sending;
+pub mod settling;
 pub mod sink;
 pub mod slice_source;
 pub mod sound_source;

@@ -16,7 +16,7 @@ use Rattle.x86_cli.specs.declared.listings.status.Status.{Status}
 use Rattle.x86_cli.specs.declared.listings.status.Status.TheVariants as outcome
 use Rattle.x86_cli.specs.declared.commands.command.Command.{Command}
 use Rattle.x86_cli.specs.declared.commands.command.Command.TheVariants.{List as Listed, Sweep as Swept, Targets as Targeted}
-use Rattle.x86_cli.specs.Commands.Command.{Runs, listing_for, goes_past_refusals}
+use Rattle.x86_cli.specs.Commands.Command.{listing_for, max_of, goes_past_refusals}
 use Rattle.x86_streams.specs.Text.{Text, text_at, text_of}
 use Rattle.x86_streams.specs.Text.Reading.{MayCome}
 use Rattle.x86_cli.specs.Listings.Listing.{Listing, at_end, decoded_of, decoded_before_end, listing_from}
@@ -64,10 +64,10 @@ ran_used gives takes c max status a b k l ran e =
 
 -- Commands that continue after refusals are never refused.
 pub ran_unrefused : {S K : Type 0} (gives : S → Got → S → Type 0) (takes : K → List ℕ → Result ⊤ SinkFailed → K → Type 0) (c : Command) (status : Status) (a b : S) (k l : K) →
-    Runs gives takes c status a b k l → IsTrue (goes_past_refusals c) → status ≢ outcome.Refused
-ran_unrefused gives takes c status a b k l runs goes e =
-    let s = some_stop runs.0.stop in
-    let ends = lists_status status runs.0.lines runs.0.failed _ (λ f. cc) (runs.0.lists [] s.0 s.1) ∙ e in grind arith
+    Ran gives takes (listing_for c) (max_of c) status a b k l → IsTrue (goes_past_refusals c) → status ≢ outcome.Refused
+ran_unrefused gives takes c status a b k l ran goes e =
+    let s = some_stop ran.stop in
+    let ends = lists_status status ran.lines ran.failed _ (λ f. cc) (ran.lists [] s.0 s.1) ∙ e in grind arith
 
 pub fault_stop : (stop : Option Stop) → (MayCome stop [] End → ⊥) → stop ≡ Some Failed
 fault_stop stop never = grind arith

@@ -1,24 +1,25 @@
 -- What the program leaves, where the bytes that its reader has left and those that its writer has are known.
-use Rattle.std.proofs.Common.{◌≡◌, ◌≢◌, inl, inr, ℕ, Bool, List, [], ◌∷◌, ◌++◌, Option, Some, None, Result, Ok, refl, sym, subst, append-nil, arith}
+use Rattle.std.proofs.Common.{◌≡◌, ◌≢◌, inl, inr, ℕ, zero, suc, Bool, List, [], ◌∷◌, ◌++◌, Option, Some, None, Result, Ok, Err, refl, sym, subst, append-nil, arith}
 use Rattle.std.proofs.Math.Seq.{take-append_seam}
 use Rattle.std.specs.Prelude.{⊤}
 use Rattle.std.specs.List.{concat}
 use Rattle.std.specs.declared.io.Error.{Error}
 use Rattle.std.specs.Io.KnownBytes.{Keeps, Consumes, Appends, IsAtEnd, ReadConsumes, WriteAppends}
-use Rattle.std.proofs.KnownBytes.{Consumes-nil, Consumes-trans, Consumes-kept, Consumes-whole, Appends-nil, Appends-trans, Appends-kept}
+use Rattle.std.proofs.KnownBytes.{Keeps-refl, Keeps-trans, Consumes-nil, Consumes-trans, Consumes-kept, Consumes-whole, Appends-nil, Appends-trans, Appends-kept}
 use Rattle.x86_cli.specs.declared.commands.command.Command.{Command}
 use Rattle.x86_cli.specs.declared.listings.status.Status.{Status}
 use Rattle.x86_cli.specs.declared.listings.status.Status.TheVariants.{Done, Usage, Refused, ReadFault, WriteFault}
 use Rattle.x86_streams.specs.declared.text.reader.Ending.TheVariants.{Fault}
 use Rattle.x86_cli.specs.DecoderLaws.{DecoderLaws}
 use Rattle.x86_streams.specs.Outside.Stop.{Stop, End, Failed}
-use Rattle.x86_streams.specs.Outside.Reads.{ReaderCalls, ReadWhileOpen}
+use Rattle.x86_streams.specs.Outside.Reads.{Interruptions, ReadsUninterrupted, ReaderCalls, ReadWhileOpen}
 use Rattle.x86_streams.specs.Outside.Writes.{Call, Write, sent, sent_by, Does, WriterCalls}
 use Rattle.x86_streams.specs.Text.{Text, text_of}
 use Rattle.x86_cli.specs.Commands.Command.{max_of}
 use Rattle.x86_cli.specs.Commands.Make.{made_listing}
 use Rattle.x86_cli.specs.Commands.Says.{full_listing, taken_listing}
 use Rattle.x86_cli.specs.Commands.Program.{IsPrinted, Performs, PerformsMake, Has, HasOfAll, HasOfTaken, Leaves}
+use Rattle.x86_streams.proofs.OutsideLemmas.Reads.{kept_read}
 use Rattle.x86_cli.proofs.CommandLemmas.Says.{some_left}
 use Rattle.x86_cli.proofs.CommandLemmas.Stay.{refused_stays}
 
@@ -28,12 +29,22 @@ module _ {R : Type 0} (left : R → Option (List ℕ)) where
   abbrev reports : R → List ℕ → Result ℕ Error → R → Type 0
   reports s buffer r t = ReadConsumes (left s) (left t) r buffer
 
+  interrupted_keep : (n : ℕ) (r v : R) → Interruptions reports n r v → Keeps (left r) (left v)
+  interrupted_keep zero r v h = rw h (Keeps-refl (left r))
+  interrupted_keep (suc n) r v h = Keeps-trans (left r) (left h.0) (left v) (interrupted_keep n r h.0 h.1) h.2.2
+
+  read_consumes : (buffer : List ℕ) (answer : Result ℕ Error) (r r' : R) → ReadsUninterrupted reports buffer answer r r' → ReadConsumes (left r) (left r') answer buffer
+  read_consumes buffer answer r r' h = kept_read (left r) (left h.before) (left r') answer buffer (interrupted_keep h.count r h.before h.interrupted) h.read
+
   reads_consume : (pieces : List (List ℕ)) (stop : Option Stop) (r r' : R) → ReaderCalls reports pieces stop r r' → Consumes (left r) (left r') (concat pieces)
-  reads_consume [] stop r r' h = grind (arith, Consumes-nil, Consumes-kept)
-  reads_consume (p ∷ ps) stop r r' h = Consumes-trans (left r) (left h.0) (left r') p (concat ps) (subst (Consumes (left r) (left h.0)) h.1.4 h.1.3.0) (reads_consume ps stop h.0 r' h.2)
+  reads_consume [] None r r' h = rw h (Consumes-nil (left r))
+  reads_consume [] (Some End) r r' h = (read_consumes h.0 (Ok 0) r r' h.2).0
+  reads_consume [] (Some Failed) r r' h = Consumes-kept (left r) (left r) (left r') [] (Consumes-nil (left r)) (read_consumes h.0 (Err h.1) r r' h.2)
+  reads_consume (p ∷ ps) stop r r' h =
+      Consumes-trans (left r) (left h.0) (left r') p (concat ps) (subst (Consumes (left r) (left h.0)) h.1.4 (read_consumes h.1.0 (Ok h.1.1) r h.0 h.1.3).0) (reads_consume ps stop h.0 r' h.2)
 
   reads_end : (pieces : List (List ℕ)) (r r' : R) → ReaderCalls reports pieces (Some End) r r' → IsAtEnd (left r')
-  reads_end [] r r' h = h.2.1 refl h.1
+  reads_end [] r r' h = (read_consumes h.0 (Ok 0) r r' h.2).1 refl h.1
   reads_end (p ∷ ps) r r' h = reads_end ps h.0 r' h.2
 
 -- writers

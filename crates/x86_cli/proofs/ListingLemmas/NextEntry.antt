@@ -1,18 +1,22 @@
 -- The next entry of a listing that ends at a refusal.
-use Rattle.std.proofs.Common.{◌≡◌, Bool, ℕ, ◌+◌, ◌<◌, ◌≤◌, List, [], ◌∷◌, ◌++◌, length, take, drop, Option, Some, None, arith, length-append}
+use Rattle.std.proofs.Common.{◌≡◌, Bool, ℕ, ◌+◌, ◌<◌, ◌≤◌, List, [], ◌∷◌, ◌++◌, length, take, drop, Option, Some, None, Err, refl, arith, append-nil, length-append}
 use Rattle.std.proofs.lemmas.List.{drop-append-le, take-append-le}
 use Rattle.x86_decode.specs.declared.instructions.Instruction.{Instruction}
+use Rattle.x86_decode.specs.Answer.{answer_of}
 use Rattle.x86_fields.specs.declared.errors.DecodeError.{DecodeError}
+use Rattle.x86_fields.specs.declared.errors.DecodeError.TheVariants.{ExhaustedInput}
 use Rattle.x86_streams.specs.declared.text.reader.Ending.{Ending}
+use Rattle.x86_streams.specs.declared.text.reader.Ending.TheVariants.{Fault}
 use Rattle.x86_streams.specs.Outside.Stop.{Stop}
 use Rattle.x86_streams.specs.Text.{Text, text_at}
 use Rattle.x86_cli.specs.declared.text.window.Decoded.{Decoded}
 use Rattle.x86_cli.specs.declared.text.window.Decoded.TheVariants.{Whole, Refused, Ended}
 use Rattle.x86_cli.specs.declared.listings.listing.Entry.TheVariants as entry
 use Rattle.x86_cli.specs.Listings.Line.{line}
-use Rattle.x86_cli.specs.Listings.Listing.{Listing, with_lines, decoded_of, listing_at}
+use Rattle.x86_cli.specs.Listings.Listing.{Listing, with_lines, at_end, decoded_of, listing_at}
+use Rattle.x86_cli.specs.DecoderLaws.{DecoderLaws}
 use Rattle.x86_cli.specs.Listings.Entry.{IsEntry}
-use Rattle.x86_streams.specs.Text.Reading.{with_bytes}
+use Rattle.x86_streams.specs.Text.Reading.{NeedsMore, with_bytes}
 use Rattle.x86_streams.specs.Text.Window.{rest_of}
 use Rattle.x86_cli.proofs.ListingLemmas.Listing.{listing-whole, listing-refused, listing-ended}
 
@@ -37,11 +41,34 @@ module _ (strict : Bool) (text : ℕ → Instruction → List ℕ → List ℕ) 
     DecodedIs beginning = (xs : List ℕ) (stop : Stop) → decoded_of strict (rest_of ended w p r xs stop).image (rest_of ended w p r xs stop).ending ≡ beginning
 
     pub entry_line : (i : Instruction) → DecodedIs (Whole i) → 0 < i.length → i.length ≤ length w → (len : ℕ) (written : List ℕ) → len ≡ i.length → written ≡ text n i (take i.length w) →
-        IsEntry at (entry.Line len) n written ended w p r
-    entry_line i whole some le len written long is = rw (long, is) (some, le, λ xs stop. rest_line ended n w i p r xs stop (whole xs stop) some le)
+        IsEntry at at (entry.Line len) n written ended w p r
+    entry_line i whole some le len written long is =
+        rw (long, is) (some, le, (λ xs stop. rest_line ended n w i p r xs stop (whole xs stop) some le), λ _ xs stop. rest_line ended n w i p r xs stop (whole xs stop) some le)
 
-    pub entry_refused : (error : DecodeError) (written : List ℕ) → DecodedIs (Refused error) → IsEntry at (entry.Refused error) n written ended w p r
+    pub entry_refused : (error : DecodeError) (written : List ℕ) → DecodedIs (Refused error) → IsEntry at at (entry.Refused error) n written ended w p r
     entry_refused error written refused xs stop = listing-refused strict text n (rest_of ended w p r xs stop).image (rest_of ended w p r xs stop).ending error (refused xs stop)
 
-    pub entry_ended : (e : Ending) (written : List ℕ) → DecodedIs (Ended e) → IsEntry at (entry.Ended e) n written ended w p r
+    pub entry_ended : (e : Ending) (written : List ℕ) → DecodedIs (Ended e) → IsEntry at at (entry.Ended e) n written ended w p r
     entry_ended e written ends xs stop = listing-ended strict text n (rest_of ended w p r xs stop).image (rest_of ended w p r xs stop).ending e (ends xs stop)
+
+pub no_bytes : (xs : List ℕ) → length xs < 1 → xs ≡ []
+no_bytes [] h = refl
+no_bytes (x ∷ xs) h = absurd (omega (arith, h))
+
+-- a window that decides no more
+module _ (strict : Bool) (laws : DecoderLaws strict) where
+  pub few_undecided : (w : List ℕ) → answer_of strict w ≡ Err ExhaustedInput → length w < 15
+  few_undecided w h = let enough = laws.enough w in grind arith
+
+  decoded_fault : (w : List ℕ) → answer_of strict w ≡ Err ExhaustedInput → decoded_of strict w Fault ≡ Ended Fault
+  unfolding decoded_of
+  decoded_fault [] h = refl
+  decoded_fault (x ∷ w) h = rw h refl
+
+  -- With a failure next, nothing but that is listed.
+  undecided : (text : ℕ → Instruction → List ℕ → List ℕ) (n : ℕ) (w : List ℕ) (t : Text) → answer_of strict w ≡ Err ExhaustedInput → NeedsMore 1 t → listing_at strict text n (with_bytes w t) ≡ at_end Fault
+  undecided text n w t h needs = rw (no_bytes t.image needs.1, needs.0, append-nil) (listing-ended strict text n w Fault Fault (decoded_fault w h))
+
+  pub entry_undecided : (text : ℕ → Instruction → List ℕ → List ℕ) (ended : Option Ending) (n : ℕ) (written w : List ℕ) (p r : ℕ) → ended ≡ None → answer_of strict w ≡ Err ExhaustedInput →
+      IsEntry (listing_at strict text) (listing_at strict text) entry.Undecided n written ended w p r
+  entry_undecided text ended n written w p r is h = (is, few_undecided w h, λ t needs. undecided text n w t h needs)

@@ -46,14 +46,12 @@ module _ (strict : Bool) (laws : DecoderLaws strict) where
     answered : a ≡ answer_of strict w
     answered = answer ∙ ap (answer_of strict) bytes
 
-    pub decoded_open : (ended ≡ None → length w ≡ 15) → ended ≡ None → result ≡ decoded_before_end a → (p r : ℕ) (xs : List ℕ) (stop : Stop) →
+    pub decoded_sure : a ≢ Err ExhaustedInput → ended ≡ None → result ≡ decoded_before_end a → (p r : ℕ) (xs : List ℕ) (stop : Stop) →
         decoded_of strict (rest_of ended w p r xs stop).image (rest_of ended w p r xs stop).ending ≡ result
-    decoded_open full is res p r xs stop =
-        let ne = laws.enough w (omega (arith, full is)) in
-        rw (is, res, answered) (decoded-stays w (rest_of None [] p r xs stop).image (rest_of None w p r xs stop).ending ne)
+    decoded_sure sure is res p r xs stop = rw (is, res, answered) (decoded-stays w (rest_of None [] p r xs stop).image (rest_of None w p r xs stop).ending (λ f. sure (answered ∙ f)))
 
-    pub shows_open : (ended ≡ None → length w ≡ 15) → ended ≡ None → result ≡ decoded_before_end a → Shows strict result ended w
-    shows_open full is res = let ne = laws.enough w (omega (arith, full is)) in rw res (shows-sure w a ended (sym answered) (λ f. ne (sym answered ∙ f)))
+    pub shows_sure : a ≢ Err ExhaustedInput → ended ≡ None → result ≡ decoded_before_end a → Shows strict result ended w
+    shows_sure sure is res = rw res (shows-sure w a ended (sym answered) sure)
 
     pub decoded_closed : (e : Ending) → ended ≡ Some e → 0 < length w → result ≡ decoded_at_end a e → (p r : ℕ) (xs : List ℕ) (stop : Stop) →
         decoded_of strict (rest_of ended w p r xs stop).image (rest_of ended w p r xs stop).ending ≡ result

@@ -1,5 +1,5 @@
 -- Commands: their arguments, listings and limits.
-use Rattle.std.specs.Prelude.{ℕ, Bool, true, false, List, [], ◌∷◌, Option, Some, None, ◌&&◌, if◌then◌else◌, IfSome, IsTrue, Result, ⊤, map, codes, bytes_eq, String, string_bytes}
+use Rattle.std.specs.Prelude.{◌≡◌, Ok, ℕ, Bool, true, false, List, [], ◌∷◌, Option, Some, None, ◌&&◌, if◌then◌else◌, IfSome, IsTrue, Result, ⊤, map, codes, bytes_eq, String, string_bytes}
 use Rattle.std.specs.declared.alloc.Global.{Global}
 use Rattle.x86_decode.specs.Instruction.{length_of}
 use Rattle.x86_cli.specs.declared.commands.command.Command.{Command}
@@ -8,14 +8,15 @@ use Rattle.x86_streams.specs.declared.outside.source.Got.{Got}
 use Rattle.x86_streams.specs.declared.outside.sink.SinkFailed.{SinkFailed}
 use Rattle.x86_cli.specs.declared.listings.status.Status.{Status}
 use Rattle.x86_streams.specs.Text.{Text, text_of}
-use Rattle.x86_cli.specs.Commands.Run.{Ran, Ahead}
+use Rattle.x86_cli.specs.Commands.Run.{Ran}
 use Rattle.x86_layout.specs.Parts.OfBytes.{parts_of}
 use Rattle.x86_layout.specs.Tightening.Least.{shortest_length}
 use Rattle.x86_text.specs.Lines.{line_of}
 use Rattle.x86_text.specs.Parts.{fields_line}
 use Rattle.x86_cli.specs.Listings.Tighten.{least_text}
 use Rattle.x86_cli.specs.Listings.Listing.{Listing, listing_at}
-use Rattle.x86_cli.specs.Listings.Sweep.{sweep_at}
+use Rattle.x86_cli.specs.Listings.Sweep.{sweep_at, known_sweep_at}
+use Rattle.x86_cli.specs.Listings.Calls.{Lives}
 use Rattle.x86_cli.specs.Listings.Targets.{targets_at}
 
 -- the command of one argument
@@ -73,16 +74,34 @@ goes_past_refusals Swept = true
 goes_past_refusals Targeted = true
 
 -- All commands but `targets` list as they read.
-abbrev pub holds_window : Command → Bool
-holds_window (Listed strict) = true
-holds_window Fielded = true
-holds_window Tightened = true
-holds_window Swept = true
-holds_window Targeted = false
+abbrev pub lists_as_it_reads : Command → Bool
+lists_as_it_reads (Listed strict) = true
+lists_as_it_reads Fielded = true
+lists_as_it_reads Tightened = true
+lists_as_it_reads Swept = true
+lists_as_it_reads Targeted = false
 
--- A run of a command: its calls and its listing, and how far ahead of its lines it read.
-abbrev pub Runs : {S K : Type 0} → (S → Got → S → Type 0) → (K → List ℕ → Result ⊤ SinkFailed → K → Type 0) →
+-- what is listed of a text whatever follows it, and its end
+abbrev pub known_for : Command → Text → Listing
+known_for Swept t = known_sweep_at false 0 t
+known_for c t = listing_for c t
+
+-- What a command does with a source and a sink that is settled: its calls in one order. `targets` reads all first.
+abbrev pub Obeys : {S K : Type 0} → (S → Got → S → Type 0) → (S → List ℕ) → (K → List ℕ → Result ⊤ SinkFailed → K → Type 0) → (K → Result ⊤ SinkFailed → K → Type 0) →
     Command → Status → S → S → K → K → Type 0
-Runs gives takes c status source source' sink sink' =
-    (ran : Ran gives takes (listing_for c) (max_of c) status source source' sink sink')
-    × (IsTrue (holds_window c) → Ahead (listed_at c) (text_of (max_of c)) ran.bytes ran.stop ran.lines)
+Obeys gives ahead takes settles Targeted status source source' sink sink' =
+    Ran gives takes (listing_for Targeted) (max_of Targeted) status source source' sink sink'
+Obeys gives ahead takes settles c status source source' sink sink' =
+    Lives gives ahead takes settles (known_for c) (listing_for c) (text_of (max_of c)) status source source' sink sink'
+
+-- A sink that holds nothing back is left as it is.
+abbrev pub Stays : {K : Type 0} → K → Result ⊤ SinkFailed → K → Type 0
+Stays k r l = (r ≡ Ok tt) × (l ≡ k)
+
+-- A run of a command: its calls and its listing; and where it lists as it reads, the calls in one order, by the rule of
+-- reading.
+abbrev pub Runs : {S K : Type 0} → (S → Got → S → Type 0) → (S → List ℕ) → (K → List ℕ → Result ⊤ SinkFailed → K → Type 0) →
+    Command → Status → S → S → K → K → Type 0
+Runs gives ahead takes c status source source' sink sink' =
+    Ran gives takes (listing_for c) (max_of c) status source source' sink sink'
+    × (IsTrue (lists_as_it_reads c) → Lives gives ahead takes Stays (known_for c) (listing_for c) (text_of (max_of c)) status source source' sink sink')

@@ -1,7 +1,8 @@
 -- The listing of a sweep.
-use Rattle.std.specs.Prelude.{Bool, ℕ, List, map, Result, Ok, Err}
+use Rattle.std.specs.Prelude.{Bool, ℕ, List, [], ◌∷◌, map, Result, Ok, Err}
 use Rattle.x86_decode.specs.declared.instructions.Instruction.{Instruction}
 use Rattle.x86_fields.specs.declared.errors.DecodeError.{DecodeError}
+use Rattle.x86_fields.specs.declared.errors.DecodeError.TheVariants.{ExhaustedInput}
 use Rattle.x86_layout.specs.declared.sweeps.cuts.Cut.{Cut}
 use Rattle.x86_layout.specs.Sweeps.Cuts.{cuts_from}
 use Rattle.x86_streams.specs.Text.{Text}
@@ -22,3 +23,17 @@ cut_line c = line (cut_text c.place c.answer)
 -- end's.
 abbrev pub sweep_at : Bool → ℕ → Text → Listing
 sweep_at strict place t = with_lines (map cut_line (cuts_from strict place t.image)) (at_end t.ending)
+
+-- the lines of cuts up to the first that more bytes may change
+abbrev pub before_open : Result Instruction DecodeError → List (List ℕ) → List (List ℕ)
+before_open (Ok i) lines = lines
+before_open (Err ExhaustedInput) lines = []
+before_open (Err error) lines = lines
+
+abbrev pub decided : List Cut → List (List ℕ)
+decided [] = []
+decided (c ∷ cs) = before_open c.answer (cut_line c ∷ decided cs)
+
+-- what is listed of a text whatever follows it, and its end
+abbrev pub known_sweep_at : Bool → ℕ → Text → Listing
+known_sweep_at strict place t = with_lines (decided (cuts_from strict place t.image)) (at_end t.ending)

@@ -2,7 +2,7 @@
 
 ghost use Rattle.x86_decode.specs.Decoder.{is_strict};
 ghost use Rattle.std.specs.Prelude.{◌≡◌, ◌↔◌, ℕ, IfSome, Some, None, map, string_bytes};
-ghost use Rattle.x86_cli.specs.Commands.Command.{command_by, command_of, IfCommand, Runs};
+ghost use Rattle.x86_cli.specs.Commands.Command.{command_by, command_of, IfCommand, Obeys, Runs};
 ghost use Rattle.x86_cli.specs.Commands.Make.{IsMake, IsNoCommand, made_listing};
 ghost use Rattle.x86_cli.specs.Commands.Run.{Wrote};
 ghost use Rattle.x86_cli.specs.Commands.Says.{Says, streams_of};
@@ -17,7 +17,7 @@ use crate::listings::sweep::PastRefusals;
 use crate::listings::targets::targets;
 use crate::listings::tightening::LeastLines;
 use x86_decode::InstDecoder;
-use x86_streams::{Sink, Source};
+use x86_streams::{AtOnce, Settling, Sink, Source};
 
 /// The most bytes of a text.
 pub const TEXT_MAX: u64 = 67_108_864;
@@ -90,14 +90,21 @@ fn decoder(strict: bool) -> InstDecoder
     }
 }
 
-fn obey<S: Source, K: Sink>(command: Command, source: &mut S, sink: &mut K) -> Status
-    ensures { Runs S.gives K.takes command result source.old source.new sink.old sink.new }
+fn obey<S: Source, K: Sink, T: Settling<K>>(
+    command: Command,
+    settling: &T,
+    source: &mut S,
+    sink: &mut K,
+) -> Status
+    ensures { Obeys S.gives S.ahead K.takes T.settles command result
+        source.old source.new sink.old sink.new }
 {
     let default = InstDecoder::default();
     match command {
         Command::List { strict } => list(
             &decoder(strict),
             &UpToRefusal { lines: Plain },
+            settling,
             TEXT_MAX,
             source,
             sink,
@@ -105,6 +112,7 @@ fn obey<S: Source, K: Sink>(command: Command, source: &mut S, sink: &mut K) -> S
         Command::Fields => list(
             &default,
             &UpToRefusal { lines: FieldLines },
+            settling,
             TEXT_MAX,
             source,
             sink,
@@ -112,11 +120,12 @@ fn obey<S: Source, K: Sink>(command: Command, source: &mut S, sink: &mut K) -> S
         Command::Tighten => list(
             &default,
             &UpToRefusal { lines: LeastLines },
+            settling,
             TEXT_MAX,
             source,
             sink,
         ),
-        Command::Sweep => list(&default, &PastRefusals, TEXT_MAX, source, sink),
+        Command::Sweep => list(&default, &PastRefusals, settling, TEXT_MAX, source, sink),
         Command::Targets => targets(&default, TARGETS_MAX, source, sink),
     }
 }
@@ -142,7 +151,7 @@ fn obey<S: Source, K: Sink>(command: Command, source: &mut S, sink: &mut K) -> S
 /// listed).
 pub fn run<S: Source, K: Sink>(words: &[String], source: &mut S, sink: &mut K) -> Status
     ensures ran { IfCommand words.now (λ c.
-        Runs S.gives K.takes c result source.old source.new sink.old sink.new) }
+        Runs S.gives S.ahead K.takes c result source.old source.new sink.old sink.new) }
     ensures made { (n : ℕ) → IsMake (map string_bytes words.now) n
         → Wrote K.takes (made_listing n) result sink.old sink.new }
     ensures usage { (result ≡ Status.Usage) ↔ IsNoCommand (map string_bytes words.now) }
@@ -154,8 +163,27 @@ pub fn run<S: Source, K: Sink>(words: &[String], source: &mut S, sink: &mut K) -
         (streams_of S.left S.faults K.written K.faults source.new sink.new)) }
 {
     decoder_laws();
+    run_settling(words, &AtOnce, source, sink)
+}
+
+/// The same over a sink that holds back what was put, and is settled before the source is called.
+pub fn run_settling<S: Source, K: Sink, T: Settling<K>>(
+    words: &[String],
+    settling: &T,
+    source: &mut S,
+    sink: &mut K,
+) -> Status
+    ensures obeyed { IfCommand words.now (λ c. Obeys S.gives S.ahead K.takes T.settles c result
+        source.old source.new sink.old sink.new) }
+    ensures made { (n : ℕ) → IsMake (map string_bytes words.now) n
+        → Wrote K.takes (made_listing n) result sink.old sink.new }
+    ensures usage { (result ≡ Status.Usage) ↔ IsNoCommand (map string_bytes words.now) }
+    ensures reads_nothing { command_of (map string_bytes words.now) ≡ None
+        → source.new ≡ source.old }
+    ensures writes_nothing { result ≡ Status.Usage → sink.new ≡ sink.old }
+{
     match command_of(words) {
-        Some(command) => obey(command, source, sink),
+        Some(command) => obey(command, settling, source, sink),
         None => match made_from(words) {
             Some(count) => make(count, sink),
             None => Status::Usage,

@@ -7,9 +7,9 @@ ghost use Rattle.x86_cli.specs.Commands.Program.{ending_of, Performs, PerformsMa
 ghost use Rattle.x86_streams.specs.Outside.Writes.{FlushesOut};
 ghost use Rattle.x86_streams.specs.Outside.Seen.{buffer_writer, buffer_bytes};
 
-use crate::commands::command::run;
+use crate::commands::command::run_settling;
 use crate::listings::status::Status;
-use x86_streams::{Gathered, Input, Output, SinkFailed, StdSink, StdSource};
+use x86_streams::{Buffered, Gathered, Input, Output, SinkFailed, StdSink, StdSource};
 
 /// How the program ended, and its reader and its writer, as it leaves them.
 #[derive(Drop)]
@@ -73,7 +73,7 @@ pub fn listed<R: Input + Drop, W: Output + Drop>(
 {
     let mut source = StdSource::new(reader);
     let mut sink = StdSink::new(Gathered::new(writer));
-    let status = run(arguments, &mut source, &mut sink);
+    let status = run_settling(arguments, &Buffered, &mut source, &mut sink);
     let mut out = sink.into_writer();
     let flushed = send_rest(status, &mut out);
     Finished {

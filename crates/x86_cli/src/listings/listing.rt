@@ -2,14 +2,15 @@
 
 ghost use Rattle.x86_decode.specs.Decoder.{is_strict};
 ghost use Rattle.x86_decode.specs.Instruction.{length_of};
-ghost use Rattle.std.specs.Prelude.{◌≡◌, ℕ, Bool, ◌<◌, ◌≤◌, ◌^◌, [], ◌∷◌, length, None};
+ghost use Rattle.std.specs.Prelude.{◌≡◌, ℕ, Bool, ◌<◌, ◌≤◌, ◌^◌, [], ◌∷◌, length};
 ghost use Rattle.arrayvec.specs.ArrayVec.{array_vec_len};
 ghost use Rattle.x86_text.specs.Widths.{line_width};
 ghost use Rattle.x86_cli.specs.Listings.Line.{line};
-ghost use Rattle.x86_streams.specs.Text.{Text};
+ghost use Rattle.x86_streams.specs.Text.{Text, text_of};
 ghost use Rattle.x86_cli.specs.Listings.Listing.{Listing, at_end, at_refusal, listing_at};
 ghost use Rattle.x86_cli.specs.Listings.Entry.{IsEntry};
-ghost use Rattle.x86_cli.specs.Commands.Run.{RanInWindow, Wrote};
+ghost use Rattle.x86_cli.specs.Commands.Run.{Wrote};
+ghost use Rattle.x86_cli.specs.Listings.Calls.{Lives};
 
 use crate::laws::decoder_laws;
 use crate::listings::line::{Lines, bad_text};
@@ -17,7 +18,7 @@ use crate::listings::status::Status;
 use crate::text::window::{Decoded, decode_next};
 use x86_decode::{InstDecoder, Instruction};
 use x86_fields::DecodeError;
-use x86_streams::{Ending, Sink, SinkFailed, Source, Window};
+use x86_streams::{Ending, Settling, Sink, SinkFailed, Source, Window};
 use x86_text::{Line, Place, refusal_of};
 
 /// Writes a line with its end.
@@ -84,12 +85,17 @@ pub enum Entry {
     Refused(DecodeError),
     /// The end of the text.
     Ended(Ending),
+    /// Nothing yet: what was read decides no more.
+    Undecided,
 }
 
 /// How a listing goes through an image.
 pub trait Course {
     /// The listing of a text from a place on.
     ghost lists: { Self → Bool → ℕ → Text → Listing };
+
+    /// What is listed of a text from a place on whatever follows it, and its end.
+    ghost knows: { Self → Bool → ℕ → Text → Listing };
 
     /// The next entry at a place. A line is written over `line`, without its end.
     fn next(
@@ -100,9 +106,9 @@ pub trait Course {
         inst: &mut Instruction,
         line: &mut Line,
     ) -> Entry
-        requires { window.now.ended ≡ None → length window.now.bytes.items ≡ 15 }
         ensures next { IsEntry
-            (lists self.now (is_strict decoder.now)) result place.now line.new.items
+            (lists self.now (is_strict decoder.now)) (knows self.now (is_strict decoder.now))
+            result place.now line.new.items
             window.now.ended window.now.bytes.items window.now.reader.position
             window.now.reader.room }
         ensures short { (n : ℕ) → result ≡ Entry.Line n → array_vec_len line.new ≤ line_width };
@@ -117,6 +123,8 @@ pub struct UpToRefusal<L: Lines + Drop> {
 impl<L: Lines + Drop> Course for UpToRefusal<L> {
     ghost lists = { λ s strict place text. listing_at strict (L.text s.lines strict) place text };
 
+    ghost knows = { λ s strict place text. listing_at strict (L.text s.lines strict) place text };
+
     #[tactic(auto, using(crate::proofs::ListingLemmas::NextEntry::entry_refused))]
     #[inline(always)]
     fn next(
@@ -129,38 +137,42 @@ impl<L: Lines + Drop> Course for UpToRefusal<L> {
     ) -> Entry {
         decoder_laws();
         match decode_next(window, decoder, inst) {
-            Decoded::Whole(()) => {
+            None => Entry::Undecided,
+            Some(Decoded::Whole(())) => {
                 let length = length_of(inst);
                 let bytes = window.bytes.as_slice();
                 self.lines
                     .write(decoder, place, inst, &bytes[..length as usize], line);
                 Entry::Line(length)
             }
-            Decoded::Refused(error) => Entry::Refused(error),
-            Decoded::Ended(ending) => Entry::Ended(ending),
+            Some(Decoded::Refused(error)) => Entry::Refused(error),
+            Some(Decoded::Ended(ending)) => Entry::Ended(ending),
         }
     }
 }
 
-/// Writes the listing of the source's text.
-pub fn list<W: Course, S: Source, K: Sink>(
+/// Writes the listing of the source's text. Each line is put as soon as it is decided, and the source is called only
+/// where what was read decides no more, once the sink is settled.
+pub fn list<W: Course, S: Source, K: Sink, T: Settling<K>>(
     decoder: &InstDecoder,
     course: &W,
+    settling: &T,
     max: u64,
     source: &mut S,
     sink: &mut K,
 ) -> Status
     requires { max < 2 ^ 62 }
-    ensures { RanInWindow S.gives K.takes
-        (W.lists course.now (is_strict decoder.now)) max result source.old source.new sink.old
-        sink.new }
+    ensures { Lives S.gives S.ahead K.takes T.settles
+        (W.knows course.now (is_strict decoder.now) 0)
+        (W.lists course.now (is_strict decoder.now) 0)
+        (text_of max) result source.old source.new sink.old sink.new }
 {
     let mut window = Window::new(max);
     let mut inst = Instruction::invalid();
     let mut line = Line::new();
     let mut place = Place::at(0);
     'lines: loop {
-        window.refill(source);
+        window.take_known(source);
         match course.next(decoder, &window, &place, &mut inst, &mut line) {
             Entry::Line(length) => {
                 match put_line(sink, &mut line) {
@@ -169,6 +181,13 @@ pub fn list<W: Course, S: Source, K: Sink>(
                 }
                 window.bytes.leave(length as usize);
                 place.advance(length);
+            }
+            Entry::Undecided => {
+                match settling.settle(sink) {
+                    Ok(()) => {}
+                    Err(_) => return Status::WriteFault,
+                }
+                window.read_on(source);
             }
             Entry::Refused(error) => return refuse(sink, place.number(), error),
             Entry::Ended(ending) => return end(sink, ending),

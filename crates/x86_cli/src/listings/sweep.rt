@@ -5,10 +5,12 @@ ghost use Rattle.arrayvec.specs.ArrayVec.{array_vec_len};
 ghost use Rattle.x86_layout.specs.Sweeps.Cuts.{cut_length};
 ghost use Rattle.x86_decode.specs.Instruction.{holding};
 ghost use Rattle.x86_text.specs.Widths.{line_width};
-ghost use Rattle.x86_cli.specs.Listings.Sweep.{cut_text, sweep_at};
+ghost use Rattle.x86_cli.specs.declared.listings.listing.Entry.{Entry};
+ghost use Rattle.x86_cli.specs.Listings.Sweep.{cut_text, known_sweep_at, sweep_at};
 
 use crate::laws::decoder_laws;
 use crate::listings::listing::{Course, Entry};
+use crate::text::window::is_exhausted;
 use x86_decode::{InstDecoder, Instruction};
 use x86_fields::DecodeError;
 use x86_streams::Window;
@@ -38,11 +40,28 @@ fn cut_length(inst: &Instruction, answer: Result<(), DecodeError>) -> u64
     }
 }
 
+/// The entry of a cut, whose line is written over another.
+#[inline(always)]
+fn entry_of_cut(
+    line: &mut Line,
+    place: &Place,
+    inst: &Instruction,
+    answer: Result<(), DecodeError>,
+) -> Entry
+    ensures entry { result ≡ Entry.Line (cut_length (holding inst.now answer)) }
+    ensures text { line.new.items ≡ cut_text place.now (holding inst.now answer) }
+    ensures short { array_vec_len line.new ≤ LINE_MAX }
+{
+    write_cut(line, place, inst, answer);
+    Entry::Line(cut_length(inst, answer))
+}
+
 impl Course for PastRefusals {
     ghost lists = { λ s strict place text. sweep_at strict place text };
 
+    ghost knows = { λ s strict place text. known_sweep_at strict place text };
+
     #[inline(always)]
-    #[tactic(auto, using(crate::proofs::ListingLemmas::Sweep::sweep_end))]
     fn next(
         &self,
         decoder: &InstDecoder,
@@ -51,15 +70,23 @@ impl Course for PastRefusals {
         inst: &mut Instruction,
         line: &mut Line,
     ) -> Entry {
-        if !window.bytes.is_empty() {
-            decoder_laws();
-            let answer = decoder.decode_slice_into(inst, window.bytes.as_slice());
-            write_cut(line, place, inst, answer);
-            return Entry::Line(cut_length(inst, answer));
-        }
+        decoder_laws();
+        let answer = decoder.decode_slice_into(inst, window.bytes.as_slice());
         match window.ended {
-            Some(ending) => Entry::Ended(ending),
-            None => unreachable!(),
+            None => {
+                if is_exhausted(answer) {
+                    Entry::Undecided
+                } else {
+                    entry_of_cut(line, place, inst, answer)
+                }
+            }
+            Some(ending) => {
+                if window.bytes.is_empty() {
+                    Entry::Ended(ending)
+                } else {
+                    entry_of_cut(line, place, inst, answer)
+                }
+            }
         }
     }
 }

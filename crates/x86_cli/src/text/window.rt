@@ -1,6 +1,8 @@
 //! What the next bytes of an image decode to.
 
-ghost use Rattle.std.specs.Prelude.{◌≡◌, ℕ, List, length, None};
+ghost use Rattle.std.specs.Prelude.{◌≡◌, ◌≢◌, ℕ, List, None, Err, IfSome, true, false};
+ghost use Rattle.x86_fields.specs.declared.errors.DecodeError.TheVariants.{ExhaustedInput};
+ghost use Rattle.x86_decode.specs.Answer.{answer_of};
 ghost use Rattle.x86_decode.specs.Decoder.{is_strict};
 ghost use Rattle.x86_decode.specs.declared.instructions.Instruction.{Instruction};
 ghost use Rattle.x86_decode.specs.Instruction.{holding};
@@ -48,25 +50,49 @@ fn decoded_at_end(answer: Result<(), DecodeError>, ending: Ending) -> Decoded<()
     }
 }
 
-/// What decoding the image that a window has left yields. An instruction is written to `inst`.
-pub fn decode_next(window: &Window, decoder: &InstDecoder, inst: &mut Instruction) -> Decoded<()>
-    requires { window.now.ended ≡ None → length window.now.bytes.items ≡ 15 }
-    ensures rest { (xs : List ℕ) (stop : Stop) →
+/// Whether more bytes may lift a refusal.
+pub fn is_exhausted(answer: Result<(), DecodeError>) -> bool
+    ensures more { result ≡ true → answer ≡ Err ExhaustedInput }
+    ensures sure { (i : Instruction) → result ≡ false → holding i answer ≢ Err ExhaustedInput }
+{
+    match answer {
+        Err(DecodeError::ExhaustedInput) => true,
+        _ => false,
+    }
+}
+
+/// What decoding the image that a window has left yields, or `None` where more bytes decide that. An instruction is
+/// written to `inst`.
+pub fn decode_next(
+    window: &Window,
+    decoder: &InstDecoder,
+    inst: &mut Instruction,
+) -> Option<Decoded<()>>
+    ensures rest { IfSome result (λ decoded. (xs : List ℕ) (stop : Stop) →
         let rest = rest_of window.now.ended window.now.bytes.items window.now.reader.position
         window.now.reader.room xs stop in decoded_of (is_strict decoder.now) rest.image rest.ending
-        ≡ decoded_with inst.new result }
-    ensures shows { Shows (is_strict decoder.now)
-        (decoded_with inst.new result) window.now.ended window.now.bytes.items }
+        ≡ decoded_with inst.new decoded) }
+    ensures shows { IfSome result (λ decoded. Shows (is_strict decoder.now)
+        (decoded_with inst.new decoded) window.now.ended window.now.bytes.items) }
+    ensures open { result ≡ None → window.now.ended ≡ None }
+    ensures more { result ≡ None →
+        answer_of (is_strict decoder.now) window.now.bytes.items ≡ Err ExhaustedInput }
 {
     decoder_laws();
     let answer = decoder.decode_slice_into(inst, window.bytes.as_slice());
     match window.ended {
-        None => decoded_before_end(answer),
+        None => {
+            if is_exhausted(answer) {
+                None
+            } else {
+                Some(decoded_before_end(answer))
+            }
+        }
         Some(ending) => {
             if window.bytes.is_empty() {
-                Decoded::Ended(ending)
+                Some(Decoded::Ended(ending))
             } else {
-                decoded_at_end(answer, ending)
+                Some(decoded_at_end(answer, ending))
             }
         }
     }

@@ -1,19 +1,28 @@
 -- What calls of a source say of the reads of its reader.
-use Rattle.std.proofs.Common.{arith, ◌≡◌, ℕ, List, [], ◌∷◌, ◌++◌, Option, Some, None, Result, refl, ap, sym, inl, inr, ◌⊎◌, append-nil}
+use Rattle.std.proofs.Common.{arith, ◌≡◌, ℕ, suc, ◌+◌, Err, List, [], ◌∷◌, ◌++◌, Option, Some, None, Result, refl, ap, sym, inl, inr, ◌⊎◌, append-nil}
 use Rattle.std.specs.List.{concat}
-use Rattle.std.specs.Io.KnownBytes.{prepend_known}
+use Rattle.std.specs.Io.KnownBytes.{Keeps, ReadConsumes, prepend_known}
+use Rattle.std.specs.declared.io.ErrorKind.TheVariants.{Interrupted}
+use Rattle.std.specs.IoError.{error_kind}
 use Rattle.std.specs.declared.io.Error.{Error}
 use Rattle.x86_streams.specs.declared.outside.source.Got.{Got}
 use Rattle.x86_streams.specs.declared.outside.std_source.StdSource.{StdSource}
 use Rattle.x86_streams.specs.Outside.Seen.{source_bytes, source_reader}
 use Rattle.x86_streams.specs.Outside.Source.{ReportsGot}
 use Rattle.x86_streams.specs.Outside.Stop.{Stop}
-use Rattle.x86_streams.specs.Outside.Reads.{ReadsBytes, ReaderCalls, ReadWhileOpen}
+use Rattle.x86_streams.specs.Outside.Reads.{Interruptions, ReadsBytes, ReaderCalls, ReadWhileOpen}
 use Rattle.x86_streams.specs.Outside.StdSource.{Fetches}
 use Rattle.x86_streams.specs.Text.{Text}
 use Rattle.x86_streams.specs.Text.Reading.{HasNotEnded, CalledWhileOpen, MayCome, SourceCalls, got_of}
 
+-- a read after others that kept what is left
+pub kept_read : (a b d : Option (List ℕ)) (answer : Result ℕ Error) (buffer : List ℕ) → Keeps a b → ReadConsumes b d answer buffer → ReadConsumes a d answer buffer
+kept_read a b d answer buffer kept h = grind arith
+
 module _ {R : Type 0} (reads : R → List ℕ → Result ℕ Error → R → Type 0) where
+  pub interrupted_more : (n : ℕ) (buffer : List ℕ) (e : Error) (a b d : R) → Interruptions reads n a b → reads b buffer (Err e) d → error_kind e ≡ Interrupted → Interruptions reads (n + 1) a d
+  interrupted_more n buffer e a b d before read is = let more : n + 1 ≡ suc n = omega arith in rw more (b, before, (buffer, e, read, is))
+
   -- The reads that were made for bytes of a text: all that was read is what was held and taken, and what is held then,
   -- which comes before what may come.
   pub record Fetched (text : List ℕ → Stop → Text) (bytes : List ℕ) (stop : Option Stop) (held held' : List ℕ) (r r' : R) : Type 0 where

@@ -3,8 +3,7 @@ use Rattle.std.proofs.Common.{◌≡◌, ℕ, zero, suc, ◌+◌, ◌-◌, ◌<�
 use Rattle.std.specs.Io.KnownBytes.{Consumes, prepend_known}
 use Rattle.x86_streams.specs.declared.outside.source.Got.{Got}
 use Rattle.x86_streams.specs.declared.outside.source.Got.TheVariants as got
-use Rattle.x86_streams.specs.Text.Reading.{SourceCalls}
-use Rattle.x86_streams.proofs.TextLemmas.Read.{source_calls-source_calls}
+use Rattle.x86_streams.specs.Text.Reading.{SourceCalls, TakesAhead}
 
 -- the first byte of a buffer
 pub first_taken : (buffer : List ℕ) (position filled : ℕ) → position < filled → filled ≤ length buffer →
@@ -21,25 +20,34 @@ next_of zero l x t e = grind arith
 next_of (suc n) [] x t e = cc
 next_of (suc n) (y ∷ l) x t e = let more = next_of n l x t e in (ap (λ v. y ∷ v) more.0, more.1)
 
-module _ {S : Type 0} (gives : S → Got → S → Type 0) where
+module _ {S : Type 0} (gives : S → Got → S → Type 0) (ahead : S → List ℕ) where
+  -- calls that take bytes ahead
+  pub takes_calls : (bs : List ℕ) (a b : S) → TakesAhead gives ahead bs a b → SourceCalls gives bs None a b
+  takes_calls [] a b h = h
+  takes_calls (x ∷ bs) a b h = (h.0, h.1, takes_calls bs h.0 b h.3)
+
+  pub takes-takes : (bs cs : List ℕ) (a b d : S) → TakesAhead gives ahead bs a b → TakesAhead gives ahead cs b d → TakesAhead gives ahead (bs ++ cs) a d
+  takes-takes [] cs a b d h k = rw h at k
+  takes-takes (x ∷ bs) cs a b d h k = (h.0, h.1, h.2, takes-takes bs cs h.0 b d h.3 k)
+
   -- n of the bytes ahead were taken, and these are ahead now
-  pub record Skipped (ahead now : List ℕ) (n : ℕ) (old new : S) : Type 0 where
-    pub source_calls : SourceCalls gives (take n ahead) None old new
-    pub rest : now ≡ drop n ahead
+  pub record Skipped (n : ℕ) (old new : S) : Type 0 where
+    pub takes : TakesAhead gives ahead (take n (ahead old)) old new
+    pub rest : ahead new ≡ drop n (ahead old)
 
-  pub skipped_none : (ahead : List ℕ) (s : S) → Skipped ahead ahead 0 s s
-  skipped_none ahead s = record { source_calls = refl; rest = refl }
+  pub skipped_none : (s : S) → Skipped 0 s s
+  skipped_none s = record { takes = refl; rest = refl }
 
-  pub skipped_more : (ahead now now' : List ℕ) (n x : ℕ) (a b d : S) → Skipped ahead now n a b → now ≡ x ∷ now' → gives b (got.Byte x) d → Skipped ahead now' (n + 1) a d
-  skipped_more ahead now now' n x a b d s next call =
-      let more = next_of n ahead x now' (sym s.rest ∙ next) in
+  pub skipped_more : (n x : ℕ) (a b d : S) → Skipped n a b → ahead b ≡ x ∷ ahead d → gives b (got.Byte x) d → Skipped (n + 1) a d
+  skipped_more n x a b d s next call =
+      let more = next_of n (ahead a) x (ahead d) (sym s.rest ∙ next) in
       let count : n + 1 ≡ suc n = omega arith in
       record {
-        source_calls = rw (count, more.0) (source_calls-source_calls gives (take n ahead) (x ∷ []) None a b d s.source_calls (d, call, refl));
+        takes = rw (count, more.0) (takes-takes (take n (ahead a)) (x ∷ []) a b d s.takes (d, call, next, refl));
         rest = rw count (sym more.1);
       }
 
   -- a byte of a buffer is left
-  pub some_left : (ahead buffer : List ℕ) (position filled n : ℕ) (a b : S) → Skipped ahead (slice_range buffer position filled) n a b → n < length ahead → position < filled
-  some_left ahead buffer position filled n a b s fits =
-      let left = ap length s.rest ∙ length-drop n ahead in omega (arith, left, fits, length-take (filled - position) (drop position buffer))
+  pub some_left : (buffer : List ℕ) (position filled n : ℕ) (a b : S) → ahead b ≡ slice_range buffer position filled → Skipped n a b → n < length (ahead a) → position < filled
+  some_left buffer position filled n a b is s fits =
+      let left = ap length (sym is ∙ s.rest) ∙ length-drop n (ahead a) in omega (arith, left, fits, length-take (filled - position) (drop position buffer))

@@ -1,15 +1,53 @@
 -- How calls of a writer are put together.
-use Rattle.std.proofs.Common.{◌≡◌, ℕ, List, [], ◌∷◌, ◌++◌, take, drop, Result, Ok, Err, refl, ap, ◌∙◌, subst, sym, append_assoc, append-nil, take-append-drop, arith}
+use Rattle.std.proofs.Common.{◌≡◌, ℕ, List, [], ◌∷◌, ◌++◌, take, drop, Result, Ok, Err, refl, ap, ◌∙◌, subst, sym, append_assoc, append-nil, take-append-drop, arith, length, length-append, ◌+◌, ◌≤◌, inl, inr, Option}
 use Rattle.std.specs.Prelude.{OnOk, ⊤}
 use Rattle.std.specs.declared.io.Error.{Error}
-use Rattle.x86_streams.specs.Outside.Writes.{Call, Flush, sent_by, sent, AllContinue, Cause, Does, WriterCalls, Caused, Forwards, EndsInFlush, FlushesOut}
+use Rattle.std.specs.Io.KnownBytes.{Keeps}
+use Rattle.std.proofs.KnownBytes.{Keeps-refl, Keeps-trans}
+use Rattle.x86_streams.specs.declared.outside.sink.SinkFailed.{SinkFailed}
+use Rattle.x86_streams.specs.Outside.Writes.{Call, Write, Flush, sent_by, sent, IsInterrupted, Continues, AllContinue, FailsLast, Cause, Does, WriterCalls, Caused, Forwards, EndsInFlush, Flushes, FlushesOut}
 
 all_go_on : (cs ds : List Call) → AllContinue cs → AllContinue ds → AllContinue (cs ++ ds)
 all_go_on [] ds c d = d
 all_go_on (x ∷ cs) ds c d = (c.0, all_go_on cs ds c.1 d)
 
+-- interrupted calls
+
+abbrev pub AreInterrupted : List Call → Type 0
+AreInterrupted [] = ⊤
+AreInterrupted (c ∷ cs) = IsInterrupted c × AreInterrupted cs
+
+continues : (c : Call) → IsInterrupted c → Continues c
+continues (Write bytes (Ok n)) h = absurd h
+continues (Write bytes (Err e)) h = h
+continues (Flush (Ok done)) h = tt
+continues (Flush (Err e)) h = h
+
+all_interrupted : (cs : List Call) → AreInterrupted cs → AllContinue cs
+all_interrupted [] h = tt
+all_interrupted (c ∷ cs) h = (continues c h.0, all_interrupted cs h.1)
+
+interrupted_sends : (c : Call) → IsInterrupted c → sent_by c ≡ []
+interrupted_sends (Write bytes (Ok n)) h = absurd h
+interrupted_sends (Write bytes (Err e)) h = refl
+interrupted_sends (Flush r) h = refl
+
+none_sent : (cs : List Call) → AreInterrupted cs → sent cs ≡ []
+none_sent [] h = refl
+none_sent (c ∷ cs) h = rw (none_sent cs h.1, interrupted_sends c h.0) refl
+
+given_up : (A : Type 0) {E : Type 0} (e : E) (cs : List Call) → AreInterrupted cs → 18446744073709551615 ≤ length cs → Cause {A = A} (Err e) cs
+given_up A e [] h many = absurd (omega (arith, many))
+given_up A e (c ∷ cs) h many = (inr (h.0, many), all_interrupted cs h.1)
+
+longer : (c : Call) (n m : ℕ) → n ≤ m → FailsLast c n → FailsLast c m
+longer c n m more (inl fails) = inl fails
+longer c n m more (inr h) = inr (h.0, omega (arith, h.1, more))
+
 pub joined_cause : {A E : Type 0} (r : Result A E) (cs ds : List Call) → Cause r cs → AllContinue ds → Cause r (cs ++ ds)
-joined_cause r cs ds c d = grind (arith, all_go_on)
+joined_cause (Ok x) cs ds c d = all_go_on cs ds c d
+joined_cause {A = A} {E = E} (Err e) [] ds c d = elim c [ ]
+joined_cause (Err e) (x ∷ cs) ds c d = (longer x (length (x ∷ cs)) (length ((x ∷ cs) ++ ds)) (simp length-append (omega arith)) c.0, all_go_on cs ds c.1 d)
 
 pub err_cause : (A B : Type 0) {E F : Type 0} (e : E) (f : F) (cs : List Call) → Cause {A = A} {E = E} (Err e) cs → Cause {A = B} {E = F} (Err f) cs
 err_cause A B e f cs c = grind arith
@@ -17,6 +55,16 @@ err_cause A B e f cs c = grind arith
 pub sent_joined : (cs ds : List Call) → sent (cs ++ ds) ≡ sent ds ++ sent cs
 sent_joined [] ds = sym (append-nil (sent ds))
 sent_joined (c ∷ cs) ds = ap (λ bs. bs ++ sent_by c) (sent_joined cs ds) ∙ append_assoc (sent ds) (sent cs) (sent_by c)
+
+flush_last : (cs ds : List Call) → EndsInFlush cs → EndsInFlush (cs ++ ds)
+flush_last [] ds e = absurd e
+flush_last (Write bytes answer ∷ cs) ds e = absurd e
+flush_last (Flush (Ok done) ∷ cs) ds e = tt
+flush_last (Flush (Err f) ∷ cs) ds e = absurd e
+
+both : {A E : Type 0} (r : Result A E) (P Q : Type 0) {R : Type 0} → (R → P) → OnOk r Q → OnOk r R → OnOk r (Q × P)
+both (Ok x) P Q f q p = (q, f p)
+both (Err e) P Q f q p = tt
 
 module _ {W : Type 0} (writes : W → List ℕ → Result ℕ Error → W → Type 0) (flushes : W → Result ⊤ Error → W → Type 0) where
   pub joined : (cs ds : List Call) (a b d : W) → WriterCalls writes flushes ds a b → WriterCalls writes flushes cs b d → WriterCalls writes flushes (cs ++ ds) a d
@@ -38,6 +86,28 @@ module _ {W : Type 0} (writes : W → List ℕ → Result ℕ Error → W → Ty
     cause = joined_cause r after.calls before.calls after.cause before.cause;
     sends = rw (sent_joined, before.sends, after.sends) whole;
   }
+
+  module _ (written : W → Option (List ℕ)) where
+    -- So many calls were made, each of which a signal interrupted.
+    pub record Tried (count : ℕ) (old new : W) : Type 0 where
+      pub calls : List Call
+      pub did : WriterCalls writes flushes calls old new
+      pub each : AreInterrupted calls
+      pub many : length calls ≡ count
+      pub kept : Keeps (written old) (written new)
+
+    pub tried_none : (a : W) → Tried 0 a a
+    tried_none a = record { calls = []; did = refl; each = tt; many = refl; kept = Keeps-refl (written a) }
+
+    pub tried_more : (count : ℕ) (a b d : W) (c : Call) → Tried count a b → Does writes flushes c b d → IsInterrupted c → Keeps (written b) (written d) → Tried (count + 1) a d
+    tried_more count a b d c t did is kept =
+        record { calls = c ∷ t.calls; did = (b, t.did, did); each = (is, t.each); many = omega (arith, t.many); kept = Keeps-trans (written a) (written b) (written d) t.kept kept }
+
+    pub tried_caused : (count : ℕ) (a b : W) → Tried count a b → Caused writes flushes {A = ⊤} {E = SinkFailed} (Ok tt) [] a b
+    tried_caused count a b t = record { calls = t.calls; did = t.did; cause = all_interrupted t.calls t.each; sends = none_sent t.calls t.each }
+
+    pub tried_failed : (A : Type 0) {E : Type 0} (e : E) (count : ℕ) (a b : W) → Tried count a b → 18446744073709551615 ≤ count → Caused writes flushes {A = A} (Err e) [] a b
+    tried_failed A e count a b t many = record { calls = t.calls; did = t.did; cause = given_up A e t.calls t.each (omega (arith, many, t.many)); sends = none_sent t.calls t.each }
 
   -- the same calls, for another answer and where their bytes are known by another name
   abbrev pub caused_as : {A B E F : Type 0} (q : Result A E) (r : Result B F) (bs cs : List ℕ) (a b : W) → bs ≡ cs → ((calls : List Call) → Cause q calls → Cause r calls) →
@@ -68,8 +138,8 @@ module _ {W : Type 0} (writes : W → List ℕ → Result ℕ Error → W → Ty
   }
 
   -- Then the writer is flushed.
-  pub flushes_out : {A B E F : Type 0} (x : A) (r : Result B F) (q : Result ⊤ Error) (held held' : List ℕ) (a b d : W) → (f : Forwards writes flushes {A = A} {E = E} (Ok x) [] held held' a b) → flushes b q d →
-      Cause r (Flush q ∷ []) → OnOk r ((held' ≡ []) × EndsInFlush (Flush q ∷ f.caused.calls)) → FlushesOut writes flushes r held held' a d
-  flushes_out x r q held held' a b d f flushed cause ends =
-      let last : Forwards writes flushes r [] held' held' b d = record { bytes = []; caused = caused_call r (Flush q) b d flushed cause; order = sym (append-nil held') } in
-      (forwards_join x r [] [] held held' held' a b d f last, ends)
+  pub flushes_out : {A B E : Type 0} (x : A) (r : Result B E) (held held' : List ℕ) (a b d : W) → Forwards writes flushes {A = A} {E = E} (Ok x) [] held held' a b →
+      Flushes writes flushes r b d → (OnOk r (held' ≡ [])) → FlushesOut writes flushes r held held' a d
+  flushes_out x r held held' a b d f flushed empty =
+      let last : Forwards writes flushes r [] held' held' b d = record { bytes = []; caused = flushed.0; order = sym (append-nil held') } in
+      (forwards_join x r [] [] held held' held' a b d f last, both r _ (held' ≡ []) (λ e. flush_last flushed.0.calls f.caused.calls e) empty flushed.1)

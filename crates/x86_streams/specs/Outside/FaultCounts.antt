@@ -1,7 +1,7 @@
 -- Counts of faults.
-use Rattle.std.specs.Prelude.{◌≢◌, ℕ, ◌<◌, ◌≤◌}
+use Rattle.std.specs.Prelude.{◌≡◌, ℕ}
+use Rattle.x86_streams.specs.Outside.Calls.{next_call}
 
--- A count that never falls rose, or is the largest u64, where it stops.
-pub record Rose (old new : ℕ) : Type 0 where
-  pub never_falls : old ≤ new
-  pub rose : old ≢ 18446744073709551615 → old < new
+-- A count rose by one, or is the largest u64, where it stops.
+abbrev pub Rose : ℕ → ℕ → Type 0
+Rose old new = new ≡ next_call old

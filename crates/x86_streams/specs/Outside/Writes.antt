@@ -1,5 +1,5 @@
 -- The calls of a writer.
-use Rattle.std.specs.Prelude.{◌≡◌, ◌≢◌, ℕ, ◌<◌, List, [], ◌∷◌, ◌++◌, length, take, Result, Ok, Err, OnOk, ⊤}
+use Rattle.std.specs.Prelude.{◌≡◌, ◌≢◌, ◌⊎◌, ℕ, ◌+◌, ◌<◌, ◌≤◌, List, [], ◌∷◌, ◌++◌, length, take, Result, Ok, Err, OnOk, ⊤}
 use Rattle.std.specs.declared.io.Error.{Error}
 use Rattle.std.specs.declared.io.ErrorKind.TheVariants.{Interrupted}
 use Rattle.std.specs.IoError.{error_kind}
@@ -23,34 +23,54 @@ abbrev pub sent : List Call → List ℕ
 sent [] = []
 sent (c ∷ cs) = sent cs ++ sent_by c
 
--- A call after which the next is made: it took a byte at least, or a signal interrupted it.
+-- A call that a signal interrupted.
+abbrev pub IsInterrupted : Call → Type 0
+IsInterrupted (Write bytes (Ok n)) = ⊥
+IsInterrupted (Write bytes (Err e)) = error_kind e ≡ Interrupted
+IsInterrupted (Flush (Ok done)) = ⊥
+IsInterrupted (Flush (Err e)) = error_kind e ≡ Interrupted
+
+-- A call after which the next is made: it took a byte at least, or flushed, or was interrupted.
 abbrev pub Continues : Call → Type 0
 Continues (Write bytes (Ok n)) = 0 < n
-Continues (Write bytes (Err e)) = error_kind e ≡ Interrupted
 Continues (Flush (Ok done)) = ⊤
-Continues (Flush (Err e)) = ⊥
+Continues c = IsInterrupted c
 
--- A call that failed: its answer is an error, or it took none of bytes that aren't empty.
+-- A call that failed: its answer is an error and no interruption, or it took none of bytes that aren't empty.
 abbrev pub Fails : Call → Type 0
 Fails (Write bytes (Ok n)) = (n ≡ 0) × (0 < length bytes)
-Fails (Write bytes (Err e)) = ⊤
+Fails (Write bytes (Err e)) = error_kind e ≢ Interrupted
 Fails (Flush (Ok done)) = ⊥
-Fails (Flush (Err e)) = ⊤
+Fails (Flush (Err e)) = error_kind e ≢ Interrupted
 
 abbrev pub AllContinue : List Call → Type 0
 AllContinue [] = ⊤
 AllContinue (c ∷ cs) = Continues c × AllContinue cs
 
+-- The last of so many calls failed. An interrupted one counts as failed from the call 2^64 - 1 on.
+abbrev pub FailsLast : Call → ℕ → Type 0
+FailsLast c count = Fails c ⊎ (IsInterrupted c × (18446744073709551615 ≤ count))
+
 -- An error comes only where the last call failed, and success only where none did.
 abbrev pub Cause : {A E : Type 0} → Result A E → List Call → Type 0
 Cause (Ok x) cs = AllContinue cs
 Cause (Err e) [] = ⊥
-Cause (Err e) (c ∷ cs) = Fails c × AllContinue cs
+Cause (Err e) (c ∷ cs) = FailsLast c (length (c ∷ cs)) × AllContinue cs
 
 -- A write of a buffer is never to be tried again. It takes a byte of bytes that aren't empty, or fails.
 abbrev pub IsFinalWrite : Result ℕ Error → List ℕ → Type 0
 IsFinalWrite (Ok n) bytes = n ≡ 0 → length bytes ≡ 0
 IsFinalWrite (Err e) bytes = error_kind e ≢ Interrupted
+
+-- Nor is a flush of a buffer.
+abbrev pub IsFinalFlush : Result ⊤ Error → Type 0
+IsFinalFlush (Ok done) = ⊤
+IsFinalFlush (Err e) = error_kind e ≢ Interrupted
+
+-- A buffer of 64 KiB that has room for more bytes holds them, and leaves its writer.
+abbrev pub Gathers : {W : Type 0} → Result ℕ Error → (bytes held held' : List ℕ) → (old new : W) → Type 0
+Gathers r bytes held held' old new =
+    length held + length bytes ≤ 65536 → (r ≡ Ok (length bytes)) × (held' ≡ held ++ bytes) × (new ≡ old)
 
 -- The last call was a flush that succeeded.
 abbrev pub EndsInFlush : List Call → Type 0
@@ -82,6 +102,10 @@ module _ {W : Type 0} (writes : W → List ℕ → Result ℕ Error → W → Ty
     pub bytes : List ℕ
     pub caused : Caused answer bytes old new
     pub order : bytes ++ held' ≡ held ++ taken
+
+  -- The writer was flushed, and the last call was a flush that succeeded where the answer says so.
+  abbrev pub Flushes : {A E : Type 0} → Result A E → W → W → Type 0
+  Flushes answer old new = (caused : Caused answer [] old new) × OnOk answer (EndsInFlush caused.calls)
 
   -- What a flush of a buffer did: where it succeeds, all is sent, and the last call was a flush of the writer.
   abbrev pub FlushesOut : {A E : Type 0} → Result A E → List ℕ → List ℕ → W → W → Type 0

@@ -76,6 +76,11 @@ module _ {S : Type 0} (gives : S → Got → S → Type 0) where
   SourceCalls [] (Some stop) s t = gives s (got_of stop) t
   SourceCalls (b ∷ bs) stop s t = (u : S) × gives s (got.Byte b) u × SourceCalls bs stop u t
 
+  -- The source had these bytes ahead, and they were taken of it, one a call.
+  abbrev pub TakesAhead : (S → List ℕ) → List ℕ → S → S → Type 0
+  TakesAhead ahead [] s t = t ≡ s
+  TakesAhead ahead (b ∷ bs) s t = (u : S) × gives s (got.Byte b) u × (ahead s ≡ b ∷ ahead u) × TakesAhead ahead bs u t
+
   -- what was returned for a piece, and what that says of every text that begins so
   pub record Reads (result : Piece) (position room position' room' : ℕ) (old new : S) : Type 0 where
     pub bytes : List ℕ

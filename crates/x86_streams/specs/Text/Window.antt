@@ -1,10 +1,12 @@
 -- What a window has taken of a text.
-use Rattle.std.specs.Prelude.{◌≡◌, ℕ, List, ◌++◌, Option, Some, None, ⊤}
+use Rattle.std.specs.Prelude.{◌≡◌, ℕ, ◌+◌, ◌≤◌, List, [], ◌∷◌, ◌++◌, length, Option, Some, None, ⊤}
 use Rattle.x86_streams.specs.declared.outside.source.Got.{Got}
 use Rattle.x86_streams.specs.declared.text.reader.Ending.{Ending}
 use Rattle.x86_streams.specs.Outside.Stop.{Stop}
 use Rattle.x86_streams.specs.Text.{Text, text_at}
-use Rattle.x86_streams.specs.Text.Reading.{SourceCalls, CalledWhere, MayCome, with_bytes}
+use Rattle.x86_streams.specs.declared.text.reader.Piece.TheVariants.{Byte, Stopped}
+use Rattle.x86_streams.specs.Text.ImageAhead.{Begins}
+use Rattle.x86_streams.specs.Text.Reading.{SourceCalls, TakesAhead, Reads, CalledWhere, MayCome, with_bytes}
 
 -- The text that is left, where these bytes come and then stop: the window's, and what the reader makes of them.
 abbrev pub rest_of : Option Ending → List ℕ → ℕ → ℕ → List ℕ → Stop → Text
@@ -15,6 +17,28 @@ rest_of (Some e) window position room xs stop = record { image = window; ending 
 abbrev pub Open : Option Ending → Option Stop → Type 0
 Open None stop = stop ≡ None
 Open (Some e) stop = ⊤
+
+-- Bytes that the source had ahead came into the window, and the reader advanced by them.
+pub record TakesBytes {S : Type 0} (gives : S → Got → S → Type 0) (ahead : S → List ℕ) (window : List ℕ) (position room : ℕ)
+    (window' : List ℕ) (position' room' : ℕ) (before after : S) : Type 0 where
+  pub bytes : List ℕ
+  pub takes : TakesAhead gives ahead bytes before after
+  pub most : ℕ
+  pub values : List ℕ
+  pub begins : Begins most bytes values
+  pub few : length values ≤ most
+  pub fewer : length values ≤ length bytes
+  pub items : window' ≡ window ++ values
+  pub position_is : position' ≡ position + length bytes
+  pub room_is : room ≡ length bytes + room'
+
+-- A byte of the image came into the window, or the text ended.
+abbrev pub ReadsOn : {S : Type 0} → (S → Got → S → Type 0) → (window : List ℕ) → (position room : ℕ) →
+    (ended : Option Ending) → (window' : List ℕ) → (position' room' : ℕ) → S → S → Type 0
+ReadsOn gives window position room None window' position' room' before after =
+    (v : ℕ) × (window' ≡ window ++ v ∷ []) × (room' + 2 ≤ room) × Reads gives (Byte v) position room position' room' before after
+ReadsOn gives window position room (Some e) window' position' room' before after =
+    (window' ≡ window) × (room' ≤ room) × Reads gives (Stopped e) position room position' room' before after
 
 -- What taking bytes into the window keeps: the text that is left, for all that may come. Each call was made where this
 -- holds of the text so far, after the window's bytes.

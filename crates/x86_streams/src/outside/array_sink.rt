@@ -41,7 +41,7 @@ impl<const N: usize> ArraySink<N> {
         self.bytes.as_slice()
     }
 
-    /// A count that rises with each call that fails, and stops at `u64::MAX`.
+    /// A count that rises by one with each call that fails, and stops at `u64::MAX`.
     pub fn faults(&self) -> u64
         ensures { result ≡ ⟦<ArraySink<N> as Sink>⟧.faults self.now }
     {

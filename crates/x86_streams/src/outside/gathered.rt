@@ -2,11 +2,11 @@
 
 ghost use Rattle.std.specs.Prelude.{◌≡◌, None, [], length, OnOk, IfOk};
 ghost use Rattle.std.specs.Io.{WritesAtMost};
-ghost use Rattle.x86_streams.specs.Outside.Writes.{Forwards, FlushesOut, IsFinalWrite, taken_by};
+ghost use Rattle.x86_streams.specs.Outside.Writes.{Forwards, FlushesOut, Gathers, IsFinalFlush, IsFinalWrite, taken_by};
 ghost use Rattle.x86_streams.specs.Outside.Seen.{buffer_writer, buffer_bytes};
 
 use crate::outside::output::Output;
-use crate::outside::sending::send_out;
+use crate::outside::sending::{flush_out, send_out};
 use crate::outside::sink::SinkFailed;
 use std::io;
 use std::io::{Error, ErrorKind};
@@ -14,7 +14,7 @@ use x86_lines::Room;
 
 const SIZE: usize = 65536;
 
-/// A writer that gathers bytes in a buffer of 64 KiB, and sends it when that is full or at a flush. What a
+/// A writer that gathers bytes in a buffer of 64 KiB, and sends it where the next don't fit or at a flush. What a
 /// failed write leaves unsent stays in the buffer, so no byte is sent twice. An error says that the writer failed, and
 /// not how, since a sink needs no more.
 #[derive(Drop)]
@@ -78,10 +78,7 @@ impl<W: Output + Drop> Gathered<W> {
             (buffer_writer self.old) (buffer_writer self.new) }
     {
         self.send()?;
-        match self.writer.flush() {
-            Ok(()) => Ok(()),
-            Err(_) => Err(SinkFailed),
-        }
+        flush_out(&mut self.writer)
     }
 }
 
@@ -91,10 +88,12 @@ impl<W: Output + Drop> Output for Gathered<W> {
 
     ghost writes = { λ s buf r t. Forwards W.writes W.flushes r (taken_by r buf)
         (buffer_bytes s) (buffer_bytes t) (buffer_writer s) (buffer_writer t)
-        × IsFinalWrite r buf };
+        × IsFinalWrite r buf
+        × Gathers r buf (buffer_bytes s) (buffer_bytes t) (buffer_writer s) (buffer_writer t) };
 
     ghost flushes = { λ s r t. FlushesOut W.writes W.flushes r
-        (buffer_bytes s) (buffer_bytes t) (buffer_writer s) (buffer_writer t) };
+        (buffer_bytes s) (buffer_bytes t) (buffer_writer s) (buffer_writer t)
+        × IsFinalFlush r };
 
     fn write(&mut self, buf: &[u8]) -> io::Result<usize> {
         if buf.len() <= self.bytes.left() {

@@ -1,42 +1,45 @@
-//! Bytes that are sent to a writer whole.
+//! Bytes that are sent to a writer whole, and its flush.
 
 ghost use Rattle.std.specs.Prelude.{◌≡◌, ◌<◌, ◌≤◌, length, take, OnOk, IfOk};
 ghost use Rattle.std.specs.Io.{WritesAtMost};
-ghost use Rattle.x86_streams.specs.Outside.Writes.{Caused, taken_by};
+ghost use Rattle.std.specs.Io.KnownBytes.{Appends, Keeps, WriteAppends};
+ghost use Rattle.x86_streams.specs.Outside.Writes.{Caused, Flushes, taken_by};
 
+use crate::outside::interruptions::{TRIES, is_interrupted};
 use crate::outside::output::Output;
 use crate::outside::sink::SinkFailed;
-use std::io::ErrorKind;
 
-/// One write, which is tried again where a signal interrupts it. It takes a byte at least, or fails.
+/// One write, which is made again where a signal interrupts it. It takes a byte at least, or fails.
+#[inline(always)]
 fn write_some<W: Output>(writer: &mut W, bytes: &[u8]) -> Result<usize, SinkFailed>
     requires { 0 < length bytes.now }
     ensures bound { WritesAtMost result bytes.now }
     ensures some { IfOk result (λ n. 0 < n) }
+    ensures bytes { WriteAppends (W.written writer.old) (W.written writer.new) result bytes.now }
     ensures caused { Caused W.writes W.flushes result
         (taken_by result bytes.now) writer.old writer.new }
 {
-    for _ in 0..u64::MAX {
+    for tried in 0..TRIES {
         match writer.write(bytes) {
             Ok(0) => return Err(SinkFailed),
             Ok(count) => return Ok(count),
             Err(error) => {
-                if error.kind() != ErrorKind::Interrupted {
+                if !is_interrupted(&error) {
                     return Err(SinkFailed);
                 }
             }
         }
     }
-    match writer.write(bytes) {
-        Ok(count) if count > 0 => Ok(count),
-        _ => Err(SinkFailed),
-    }
+    Err(SinkFailed)
 }
 
 /// Writes the bytes until all are written or a write fails, and returns how many were written.
+#[inline(always)]
 pub fn send_out<W: Output>(writer: &mut W, bytes: &[u8]) -> (usize, Result<(), SinkFailed>)
     ensures bound { result.0 ≤ length bytes.now }
     ensures all { OnOk result.1 (result.0 ≡ length bytes.now) }
+    ensures bytes { Appends (W.written writer.old) (W.written writer.new)
+        (take result.0 bytes.now) }
     ensures caused { Caused W.writes W.flushes result.1
         (take result.0 bytes.now) writer.old writer.new }
 {
@@ -48,4 +51,22 @@ pub fn send_out<W: Output>(writer: &mut W, bytes: &[u8]) -> (usize, Result<(), S
         }
     }
     (sent, Ok(()))
+}
+
+/// One flush, which is made again where a signal interrupts it.
+pub fn flush_out<W: Output>(writer: &mut W) -> Result<(), SinkFailed>
+    ensures bytes { Keeps (W.written writer.old) (W.written writer.new) }
+    ensures flushed { Flushes W.writes W.flushes result writer.old writer.new }
+{
+    for tried in 0..TRIES {
+        match writer.flush() {
+            Ok(()) => return Ok(()),
+            Err(error) => {
+                if !is_interrupted(&error) {
+                    return Err(SinkFailed);
+                }
+            }
+        }
+    }
+    Err(SinkFailed)
 }

@@ -8,7 +8,7 @@ ghost use Rattle.x86_streams.specs.declared.outside.sink.SinkFailed.{SinkFailed}
 #[derive(Clone, Copy, PartialEq, Eq, Debug, Drop)]
 pub struct SinkFailed;
 
-/// What is written to, piece by piece, and a count of faults that never falls and stops at `u64::MAX`.
+/// What is written to, piece by piece, and a count of the calls that failed, which stops at `u64::MAX`.
 pub trait Sink {
     /// The bytes written, where they are known.
     ghost written: { Self → Option (List ℕ) };

@@ -37,7 +37,7 @@ impl<'a> SliceSource<'a> {
         }
     }
 
-    /// A count that rises with each call that fails, and stops at `u64::MAX`.
+    /// A count that rises by one with each call that fails, and stops at `u64::MAX`.
     pub fn faults(&self) -> u64
         ensures { result ≡ ⟦<SliceSource<'a> as Source>⟧.faults self.now }
     {

@@ -1,8 +1,8 @@
 //! What a text is read from.
 
-ghost use Rattle.std.specs.Prelude.{◌≡◌, ◌≤◌, ℕ, List, Option, None, length, take, drop};
+ghost use Rattle.std.specs.Prelude.{◌≡◌, ◌≤◌, ℕ, List, Option, length, take, drop};
 ghost use Rattle.x86_streams.specs.Outside.Source.{ReportsGot};
-ghost use Rattle.x86_streams.specs.Text.Reading.{SourceCalls};
+ghost use Rattle.x86_streams.specs.Text.Reading.{TakesAhead};
 ghost use Rattle.x86_streams.specs.declared.outside.source.Got.{Got};
 
 /// What a call of a source returns.
@@ -13,7 +13,7 @@ pub enum Got {
     Failed,
 }
 
-/// Bytes that are taken one by one, and a count of faults that never falls and stops at `u64::MAX`.
+/// Bytes that are taken one by one, and a count of the calls that failed, which stops at `u64::MAX`.
 pub trait Source {
     /// The bytes left, where they are known.
     ghost left: { Self → Option (List ℕ) };
@@ -38,8 +38,7 @@ pub trait Source {
     /// Takes so many of the bytes ahead: as many calls of `next`, each of which returns its byte.
     fn skip(&mut self, count: usize)
         requires { count ≤ length (ahead self.old) }
-        ensures source_calls { SourceCalls gives
-            (take count (ahead self.old)) None self.old self.new }
+        ensures takes { TakesAhead gives ahead (take count (ahead self.old)) self.old self.new }
         ensures rest { ahead self.new ≡ drop count (ahead self.old) };
 
     /// What a call says, where the source's bytes are known.

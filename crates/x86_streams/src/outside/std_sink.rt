@@ -2,14 +2,16 @@
 
 ghost use Rattle.std.specs.Prelude.{◌≡◌};
 ghost use Rattle.x86_streams.specs.Outside.Sink.{ReportsPut};
-ghost use Rattle.x86_streams.specs.Outside.Writes.{PutSends};
-ghost use Rattle.x86_streams.specs.Outside.Seen.{sink_writer};
+ghost use Rattle.x86_streams.specs.Outside.Writes.{FlushesOut, PutSends};
+ghost use Rattle.x86_streams.specs.Outside.Seen.{buffer_bytes, buffer_writer, sink_writer};
 
+use crate::outside::gathered::Gathered;
 use crate::outside::output::Output;
+use crate::outside::sending::send_out;
 use crate::outside::sink::{Sink, SinkFailed};
 
 /// Pieces that go to a writer. Its bytes are known where the writer's are. A write that takes none of a piece that
-/// isn't empty fails.
+/// isn't empty fails, and one that a signal interrupts is made again.
 #[derive(Drop)]
 pub struct StdSink<W: Output + Drop> {
     writer: W,
@@ -32,11 +34,28 @@ impl<W: Output + Drop> StdSink<W> {
         self.writer
     }
 
-    /// A count that rises with each write that fails, and stops at `u64::MAX`.
+    /// A count that rises by one with each put that fails, and stops at `u64::MAX`.
     pub fn faults(&self) -> u64
         ensures { result ≡ ⟦<StdSink<W> as Sink>⟧.faults self.now }
     {
         self.faults
+    }
+}
+
+impl<W: Output + Drop> StdSink<Gathered<W>> {
+    /// Sends what the buffer holds, and flushes its writer.
+    #[cold]
+    #[inline(never)]
+    pub fn send_all(&mut self) -> Result<(), SinkFailed>
+        ensures { FlushesOut W.writes W.flushes result
+            (buffer_bytes (sink_writer self.old)) (buffer_bytes (sink_writer self.new))
+            (buffer_writer (sink_writer self.old)) (buffer_writer (sink_writer self.new)) }
+    {
+        let result = self.writer.send_all();
+        if result.is_err() {
+            self.faults = self.faults.saturating_add(1);
+        }
+        result
     }
 }
 
@@ -51,18 +70,12 @@ impl<W: Output + Drop> Sink for StdSink<W> {
 
     ghost reports = { λ s piece r t h. h.0 };
 
-    #[tactic(auto, using(crate::proofs::OutsideLemmas::Sink::puts_none))]
+    #[inline(always)]
     fn put(&mut self, piece: &[u8]) -> Result<(), SinkFailed> {
-        let mut rest = piece;
-        while !rest.is_empty() {
-            match self.writer.write(rest) {
-                Ok(count) if count > 0 => rest = &rest[count..],
-                _ => {
-                    self.faults = self.faults.saturating_add(1);
-                    return Err(SinkFailed);
-                }
-            }
+        let (_, result) = send_out(&mut self.writer, piece);
+        if result.is_err() {
+            self.faults = self.faults.saturating_add(1);
         }
-        Ok(())
+        result
     }
 }

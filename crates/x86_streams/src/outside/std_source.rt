@@ -6,13 +6,14 @@ ghost use Rattle.x86_streams.specs.Outside.Source.{ReportsGot};
 ghost use Rattle.x86_streams.specs.Outside.StdSource.{ReportsRefill, Fetches, Refills};
 
 use crate::outside::input::Input;
+use crate::outside::reading::read_some;
 use crate::outside::source::{Got, Source};
 
 /// How many bytes one read may return.
 const BUFFER: usize = 65536;
 
 /// The bytes of a reader, one read a buffer. Its bytes are known where the reader's are: first what is buffered, then
-/// those of the reader. A read that returns no byte is the end.
+/// those of the reader. A read that returns no byte is the end. One that a signal interrupts is made again.
 #[derive(Drop)]
 pub struct StdSource<R: Input + Drop> {
     reader: R,
@@ -50,7 +51,7 @@ impl<R: Input + Drop> StdSource<R> {
         self.reader
     }
 
-    /// A count that rises with each read that fails, and stops at `u64::MAX`.
+    /// A count that rises by one with each read that fails, and stops at `u64::MAX`.
     pub fn faults(&self) -> u64
         ensures { result ≡ ⟦<StdSource<R> as Source>⟧.faults self.now }
     {
@@ -81,7 +82,7 @@ impl<R: Input + Drop> StdSource<R> {
         ensures refills { Refills R.reads result self.old.reader
             (slice_range self.new.buffer self.new.position self.new.filled) self.new.reader }
     {
-        match self.reader.read(&mut self.buffer) {
+        match read_some(&mut self.reader, &mut self.buffer) {
             Ok(0) => Refill::Nothing,
             Ok(count) => {
                 self.position = 0;

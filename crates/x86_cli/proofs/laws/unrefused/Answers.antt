@@ -2,4 +2,4 @@ use Rattle.x86_cli.proofs.CommandLemmas.Causes.{ran_unrefused}
 use Rattle.x86_cli.proofs.laws.unrefused.Goals as goal
 
 pub returns : goal.returns
-returns g c = ran_unrefused g.S.Source.gives g.K.Sink.takes
+returns g c command status a b k l runs goes e = ran_unrefused g.S.Source.gives g.K.Sink.takes command status a b k l runs.0 goes e

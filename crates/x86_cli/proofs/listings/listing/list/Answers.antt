@@ -1,43 +1,65 @@
-use Rattle.std.proofs.Common.{refl, arith, length, ap, length-drop}
-use Rattle.x86_streams.specs.Text.Reading.{NeedsMore}
-use Rattle.x86_cli.specs.Listings.Line.{line}
-use Rattle.x86_cli.proofs.ListingLemmas.Progress.{window_needs, progress_new, progress_refill}
-use Rattle.x86_cli.proofs.CommandLemmas.Ahead.{window, progress_line, window_failed, window_closes}
+use Rattle.std.proofs.Common.{◌<◌, refl, arith, ap, sym, ◌∙◌, length, length-drop, rules}
+use Rattle.x86_streams.proofs.TextLemmas.ImageAhead.{none_ahead}
+use Rattle.x86_cli.proofs.ListingLemmas.Live.{turns, live_new, live_take, live_line, live_unput, live_unsettled, live_closes, live_read, reads_less, takes_less}
 use Rattle.x86_cli.proofs.listings.listing.list.Goals as goal
 
 pub lines-init : goal.lines-init
 lines-init g c =
     let e = c.new-window.ensures in
     record {
-      progress = rw (e.ended, e.bytes, e.position, e.room, c.at-place.ensures) (progress_new g.S.Source.gives g.K.Sink.takes (g.W.Course.lists c.args.course.now c.args.decoder.now.strict) window refl c.args.max _ _);
+      live = rw (e.ended, e.bytes, e.position, e.room, c.at-place.ensures) (live_new g.S.Source.gives g.S.Source.ahead g.K.Sink.takes g.T.Settling.settles (g.W.Course.lists c.args.course.now c.args.decoder.now.strict) (g.W.Course.knows c.args.course.now c.args.decoder.now.strict) c.args.max _ _);
       ahead = e.ahead _;
       few = omega (arith, ap length e.bytes);
       fits = omega (arith, ap length e.bytes, e.room);
     }
 
-pub lines-preserved : goal.lines-preserved
-lines-preserved g c =
-    let s = progress_refill g.S.Source.gives g.K.Sink.takes (g.W.Course.lists c.args.course.now c.args.decoder.now.strict) window (NeedsMore 15) (window_needs 15) _ _ _ _ _ _ _ _ _ c.lines.invariant.progress c.refill.ensures.cases in
+pub lines-preserved-in-Line : goal.lines-preserved-in-Line
+lines-preserved-in-Line g c =
+    let s = live_take g.S.Source.gives g.S.Source.ahead g.K.Sink.takes g.T.Settling.settles (g.W.Course.lists c.args.course.now c.args.decoder.now.strict) (g.W.Course.knows c.args.course.now c.args.decoder.now.strict) c.args.max _ _ _ _ _ _ _ _ _ refl c.lines.invariant.live c.take_known.ensures.ended c.take_known.ensures.takes c.take_known.ensures.closed in
+    let less = takes_less g.S.Source.gives g.S.Source.ahead _ _ _ _ _ _ _ _ c.take_known.ensures.takes in
     let step = c.in-Line.ensures.next in
     record {
-      progress = rw (c.advance.ensures, c.leave.ensures.items)
-          (progress_line g.S.Source.gives g.K.Sink.takes (g.W.Course.lists c.args.course.now c.args.decoder.now.strict) _ _ _ _ _ _ _ _ _ _ s (line c.next.new.line.items) _ step.1 step.2 _ c.in-Ok.ensures);
-      ahead = rw c.leave.ensures.ahead c.refill.ensures.ahead;
-      few = omega (arith, simp length-drop at (ap length c.leave.ensures.items), c.refill.ensures.few c.lines.invariant.few);
-      fits = omega (arith, simp length-drop at (ap length c.leave.ensures.items), c.refill.ensures.uses, c.lines.invariant.fits, step.1);
+      live = rw (c.advance.ensures, c.leave.ensures.items) (live_line g.S.Source.gives g.S.Source.ahead g.K.Sink.takes g.T.Settling.settles (g.W.Course.lists c.args.course.now c.args.decoder.now.strict) (g.W.Course.knows c.args.course.now c.args.decoder.now.strict) c.args.max _ _ _ _ _ _ _ _ _ s _ _ step.2 step.3 _ c.in-Ok.ensures);
+      ahead = rw c.leave.ensures.ahead c.take_known.ensures.ahead;
+      few = omega (arith, simp length-drop at (ap length c.leave.ensures.items), c.take_known.ensures.few c.lines.invariant.few);
+      fits = omega (arith, simp length-drop at (ap length c.leave.ensures.items), less, c.lines.invariant.fits, step.1, c.advance.ensures);
     }
 
 pub returns-in-Err : goal.returns-in-Err
 returns-in-Err g c =
-    let s = progress_refill g.S.Source.gives g.K.Sink.takes (g.W.Course.lists c.args.course.now c.args.decoder.now.strict) window (NeedsMore 15) (window_needs 15) _ _ _ _ _ _ _ _ _ c.lines.invariant.progress c.refill.ensures.cases in
-    window_failed g.S.Source.gives g.K.Sink.takes (g.W.Course.lists c.args.course.now c.args.decoder.now.strict) _ _ _ _ _ _ _ _ _ _ s (c.refill.ensures.few c.lines.invariant.few) (line c.next.new.line.items) (λ xs stop. (_, c.in-Line.ensures.next.2 xs stop)) _ _ c.in-Err.ensures
+    let s = live_take g.S.Source.gives g.S.Source.ahead g.K.Sink.takes g.T.Settling.settles (g.W.Course.lists c.args.course.now c.args.decoder.now.strict) (g.W.Course.knows c.args.course.now c.args.decoder.now.strict) c.args.max _ _ _ _ _ _ _ _ _ refl c.lines.invariant.live c.take_known.ensures.ended c.take_known.ensures.takes c.take_known.ensures.closed in
+    live_unput g.S.Source.gives g.S.Source.ahead g.K.Sink.takes g.T.Settling.settles (g.W.Course.lists c.args.course.now c.args.decoder.now.strict) (g.W.Course.knows c.args.course.now c.args.decoder.now.strict) c.args.max _ _ _ _ _ _ _ _ _ s _ _ c.in-Line.ensures.next.2 _ _ c.in-Err.ensures
+
+pub returns-in-Err-settle : goal.returns-in-Err-settle
+returns-in-Err-settle g c =
+    let s = live_take g.S.Source.gives g.S.Source.ahead g.K.Sink.takes g.T.Settling.settles (g.W.Course.lists c.args.course.now c.args.decoder.now.strict) (g.W.Course.knows c.args.course.now c.args.decoder.now.strict) c.args.max _ _ _ _ _ _ _ _ _ refl c.lines.invariant.live c.take_known.ensures.ended c.take_known.ensures.takes c.take_known.ensures.closed in
+    live_unsettled g.S.Source.gives g.S.Source.ahead g.K.Sink.takes g.T.Settling.settles (g.W.Course.lists c.args.course.now c.args.decoder.now.strict) (g.W.Course.knows c.args.course.now c.args.decoder.now.strict) c.args.max _ _ _ _ _ _ _ _ _ s _ _ c.in-Err-settle.ensures
+
+pub lines-preserved : goal.lines-preserved
+lines-preserved g c =
+    let s = live_take g.S.Source.gives g.S.Source.ahead g.K.Sink.takes g.T.Settling.settles (g.W.Course.lists c.args.course.now c.args.decoder.now.strict) (g.W.Course.knows c.args.course.now c.args.decoder.now.strict) c.args.max _ _ _ _ _ _ _ _ _ refl c.lines.invariant.live c.take_known.ensures.ended c.take_known.ensures.takes c.take_known.ensures.closed in
+    let step = c.in-Undecided.ensures.next in
+    let less = takes_less g.S.Source.gives g.S.Source.ahead _ _ _ _ _ _ _ _ c.take_known.ensures.takes in
+    let on = reads_less g.S.Source.gives _ _ _ _ _ _ _ _ _ c.read_on.ensures.reads in
+    record {
+      live = live_read g.S.Source.gives g.S.Source.ahead g.K.Sink.takes g.T.Settling.settles (g.W.Course.lists c.args.course.now c.args.decoder.now.strict) (g.W.Course.knows c.args.course.now c.args.decoder.now.strict) c.args.max _ _ _ _ _ _ _ _ _ _ (rw step.0 at s) c.in-Ok-settle.ensures step.2 _ _ _ _ c.read_on.ensures.reads;
+      ahead = none_ahead _ _ c.read_on.ensures.empty;
+      few = c.read_on.ensures.few;
+      fits = omega (arith, less, on.0, c.lines.invariant.fits);
+    }
+
+pub lines-smaller : goal.lines-smaller
+lines-smaller g c =
+    let less = takes_less g.S.Source.gives g.S.Source.ahead _ _ _ _ _ _ _ _ c.take_known.ensures.takes in
+    let on = reads_less g.S.Source.gives _ _ _ _ _ _ _ _ _ c.read_on.ensures.reads in
+    omega (arith, less, on.1, ap turns (sym c.take_known.ensures.ended ∙ c.in-Undecided.ensures.next.0))
 
 pub returns-in-Refused : goal.returns-in-Refused
 returns-in-Refused g c =
-    let s = progress_refill g.S.Source.gives g.K.Sink.takes (g.W.Course.lists c.args.course.now c.args.decoder.now.strict) window (NeedsMore 15) (window_needs 15) _ _ _ _ _ _ _ _ _ c.lines.invariant.progress c.refill.ensures.cases in
-    window_closes g.S.Source.gives g.K.Sink.takes (g.W.Course.lists c.args.course.now c.args.decoder.now.strict) _ _ _ _ _ _ _ _ _ _ s (c.refill.ensures.few c.lines.invariant.few) _ (omega arith) c.in-Refused.ensures.next _ _ (rw c.number.ensures at c.refuse.ensures)
+    let s = live_take g.S.Source.gives g.S.Source.ahead g.K.Sink.takes g.T.Settling.settles (g.W.Course.lists c.args.course.now c.args.decoder.now.strict) (g.W.Course.knows c.args.course.now c.args.decoder.now.strict) c.args.max _ _ _ _ _ _ _ _ _ refl c.lines.invariant.live c.take_known.ensures.ended c.take_known.ensures.takes c.take_known.ensures.closed in
+    live_closes g.S.Source.gives g.S.Source.ahead g.K.Sink.takes g.T.Settling.settles (g.W.Course.lists c.args.course.now c.args.decoder.now.strict) (g.W.Course.knows c.args.course.now c.args.decoder.now.strict) c.args.max _ _ _ _ _ _ _ _ _ s _ c.in-Refused.ensures.next _ _ (rw c.number.ensures at c.refuse.ensures)
 
 pub returns-in-Ended : goal.returns-in-Ended
 returns-in-Ended g c =
-    let s = progress_refill g.S.Source.gives g.K.Sink.takes (g.W.Course.lists c.args.course.now c.args.decoder.now.strict) window (NeedsMore 15) (window_needs 15) _ _ _ _ _ _ _ _ _ c.lines.invariant.progress c.refill.ensures.cases in
-    window_closes g.S.Source.gives g.K.Sink.takes (g.W.Course.lists c.args.course.now c.args.decoder.now.strict) _ _ _ _ _ _ _ _ _ _ s (c.refill.ensures.few c.lines.invariant.few) _ (grind arith) c.in-Ended.ensures.next _ _ c.end.ensures
+    let s = live_take g.S.Source.gives g.S.Source.ahead g.K.Sink.takes g.T.Settling.settles (g.W.Course.lists c.args.course.now c.args.decoder.now.strict) (g.W.Course.knows c.args.course.now c.args.decoder.now.strict) c.args.max _ _ _ _ _ _ _ _ _ refl c.lines.invariant.live c.take_known.ensures.ended c.take_known.ensures.takes c.take_known.ensures.closed in
+    live_closes g.S.Source.gives g.S.Source.ahead g.K.Sink.takes g.T.Settling.settles (g.W.Course.lists c.args.course.now c.args.decoder.now.strict) (g.W.Course.knows c.args.course.now c.args.decoder.now.strict) c.args.max _ _ _ _ _ _ _ _ _ s _ c.in-Ended.ensures.next _ _ c.end.ensures

@@ -1,5 +1,6 @@
 use Rattle.std.proofs.Common.{◌-◌, ◌≤◌, length, take, Ok}
 use Rattle.std.specs.Prelude.{⊤}
+use Rattle.std.specs.Io.KnownBytes.{Appends}
 use Rattle.x86_streams.specs.declared.outside.sink.SinkFailed.{SinkFailed}
 use Rattle.x86_streams.specs.Outside.Writes.{Caused}
 use Rattle.x86_streams.proofs.outside.sending.send_out.Given as goal
@@ -7,6 +8,7 @@ use Rattle.x86_streams.proofs.outside.sending.send_out.Given as goal
 abbrev pub invariant-loop-sent : goal.invariant-loop-sent
 invariant-loop-sent g l = record {
   within : l.sent ≤ length l.bytes;
+  bytes : Appends (g.W.Output.written l.initial.writer) (g.W.Output.written l.writer) (take l.sent l.bytes);
   caused : Caused g.W.Output.writes g.W.Output.flushes {A = ⊤} {E = SinkFailed} (Ok tt) (take l.sent l.bytes) l.initial.writer l.writer;
 }
 

@@ -6,8 +6,7 @@ use Rattle.x86_streams.proofs.outside.std_source.StdSourceSource.skip.Given as g
 abbrev pub invariant-loop-taken : goal.invariant-loop-taken
 invariant-loop-taken g l = record {
   inside : l.taken ≤ l.count;
-  skipped : Skipped (SourceGives g.R.Input.reads {g = g.R.Input} g.R.Input.left) (slice_range l.fn.self.buffer l.fn.self.position l.fn.self.filled)
-      (slice_range l.self.buffer l.self.position l.self.filled) l.taken l.fn.self l.self;
+  skipped : Skipped (SourceGives g.R.Input.reads {g = g.R.Input} g.R.Input.left) (λ s. slice_range s.buffer s.position s.filled) l.taken l.fn.self l.self;
 }
 
 abbrev pub decreases-loop-taken : goal.decreases-loop-taken

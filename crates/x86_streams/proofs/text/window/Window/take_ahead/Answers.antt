@@ -1,4 +1,6 @@
-use Rattle.std.proofs.Common.{take, arith, refl, length-take-le}
+use Rattle.std.proofs.Common.{take, drop, ◌-◌, arith, refl, length-take-le}
+use Rattle.x86_streams.proofs.OutsideLemmas.Skip.{takes_calls}
+use Rattle.x86_streams.proofs.TextLemmas.Taken.{taken_few}
 use Rattle.x86_streams.proofs.TextLemmas.Fill.{fills_begins}
 use Rattle.x86_streams.proofs.TextLemmas.ImageAhead.{takes_bytes, rest_ahead}
 use Rattle.x86_streams.proofs.text.window.Window.take_ahead.Goals as goal
@@ -21,7 +23,27 @@ returns-clause-fills g c =
     let bytes = length-take-le used text takes.inside in
     rw e.items (fills_begins g.S.Source.gives _ 15 (take used text) _ c.args.self.now.bytes.items
     _ _ _ _ _ _ takes.begins (omega (arith, e.len, e.few)) (omega (arith, bytes, c.advance_by.ensures.position))
-    (omega (arith, bytes, c.advance_by.ensures.room)) c.skip.ensures.source_calls)
+    (omega (arith, bytes, c.advance_by.ensures.room)) (takes_calls g.S.Source.gives g.S.Source.ahead _ _ _ c.skip.ensures.takes))
+
+pub returns-clause-takes : goal.returns-clause-takes
+returns-clause-takes g c =
+    let e = c.take-text.ensures in
+    let used = c.take-text.result in
+    let text = g.S.Source.ahead c.args.source.now in
+    let takes = takes_bytes c.args.self.now.reader.room text c.args.self.now.bytes.ahead _ used c.requires e.more e.there e.text in
+    let bytes = length-take-le used text takes.inside in
+    record {
+      bytes = take used text;
+      takes = c.skip.ensures.takes;
+      most = _;
+      values = _;
+      begins = takes.begins;
+      few = taken_few _ _;
+      fewer = omega (arith, taken_few (c.take-text.new.self.ahead.start - c.args.self.now.bytes.ahead.start) (drop c.args.self.now.bytes.ahead.start c.args.self.now.bytes.ahead.values), takes.uses, bytes);
+      items = e.items;
+      position_is = omega (arith, bytes, c.advance_by.ensures.position);
+      room_is = omega (arith, bytes, c.advance_by.ensures.room);
+    }
 
 pub returns-clause-ahead : goal.returns-clause-ahead
 returns-clause-ahead g c =

@@ -1,0 +1,131 @@
+-- What the calls of a run in one order say of the source, and of the sink.
+use Rattle.std.proofs.Common.{◌≡◌, ◌≢◌, ◌⊎◌, inl, inr, ℕ, List, [], ◌∷◌, ◌++◌, Option, Some, None, Result, Ok, Err, refl, ap, ◌∙◌, sym, subst, append-nil}
+use Rattle.std.specs.Prelude.{⊤}
+use Rattle.x86_streams.specs.declared.outside.source.Got.{Got}
+use Rattle.x86_streams.specs.declared.outside.source.Got.TheVariants as got
+use Rattle.x86_streams.specs.declared.outside.sink.SinkFailed.{SinkFailed}
+use Rattle.x86_streams.specs.Outside.Sink.{SinkCalls}
+use Rattle.x86_streams.specs.Outside.Stop.{Stop, End, Failed}
+use Rattle.x86_streams.specs.Text.{Text, text_of}
+use Rattle.x86_streams.specs.Text.Reading.{IsOpenText, CalledWhere, SourceCalls, MayCome}
+use Rattle.x86_streams.proofs.TextLemmas.Read.{source_calls-source_calls, called-called}
+use Rattle.x86_cli.specs.declared.commands.command.Command.{Command}
+use Rattle.x86_cli.specs.declared.commands.command.Command.TheVariants.{List as Listed, Sweep as Swept, Targets as Targeted, Fields as Fielded, Tighten as Tightened}
+use Rattle.x86_cli.specs.declared.listings.status.Status.{Status}
+use Rattle.x86_cli.specs.declared.listings.status.Status.TheVariants.{Usage, WriteFault}
+use Rattle.x86_cli.specs.Commands.Command.{Obeys, Runs, Stays, listing_for, max_of}
+use Rattle.x86_cli.specs.Commands.Run.{Ran}
+use Rattle.x86_cli.specs.Listings.Calls.{Call, Next, Take, Put, Settle, bytes_of, lines_of, stop_of, Unfailed, Waits, AreListed, Calls, Lives}
+use Rattle.x86_cli.specs.Listings.Listing.{Listing}
+use Rattle.x86_cli.proofs.CommandLemmas.Causes.{some_stop, command_status, ran_used}
+use Rattle.x86_cli.proofs.ListingLemmas.Progress.{sink_calls-sink_calls}
+
+-- a run whose last call didn't fail ends as its listing
+pub listed_status : (status : Status) (cs : List Call) (l : Listing) → status ≢ WriteFault → AreListed status cs l → l.status ≡ status
+listed_status status [] l ne is = ap (λ l. l.status) is
+listed_status status (Next g ∷ cs) l ne is = ap (λ l. l.status) is
+listed_status status (Take b ∷ cs) l ne is = ap (λ l. l.status) is
+listed_status status (Put piece (Ok done) ∷ cs) l ne is = ap (λ l. l.status) is
+listed_status status (Put piece (Err e) ∷ cs) l ne is = absurd (ne is.0)
+listed_status status (Settle (Ok done) ∷ cs) l ne is = ap (λ l. l.status) is
+listed_status status (Settle (Err e) ∷ cs) l ne is = absurd (ne is.0)
+
+module _ {S K : Type 0} (gives : S → Got → S → Type 0) (ahead : S → List ℕ) (takes : K → List ℕ → Result ⊤ SinkFailed → K → Type 0) (settles : K → Result ⊤ SinkFailed → K → Type 0) where
+  module _ (known : Text → Listing) (text : List ℕ → Stop → Text) where
+    -- one call more of the source
+    next_byte : (cs : List Call) (b : ℕ) (s u t : S) → SourceCalls gives (bytes_of cs) (stop_of cs) s u → stop_of cs ≡ None → gives u (got.Byte b) t → SourceCalls gives (bytes_of cs ++ b ∷ []) (stop_of cs) s t
+    next_byte cs b s u t before none call = rw none (source_calls-source_calls gives (bytes_of cs) (b ∷ []) None s u t (rw none at before) (t, call, refl))
+
+    pub source_part : (cs : List Call) (s t : S) (k l : K) → Calls gives ahead takes settles cs s t k l → Waits known text cs → SourceCalls gives (bytes_of cs) (stop_of cs) s t
+    source_part [] s t k l c w = c.0
+    source_part (Next (got.Byte b) ∷ cs) s t k l c w = next_byte cs b s c.0 t (source_part cs s c.0 k l c.1 w.0) w.1.1 c.2
+    source_part (Next got.End ∷ cs) s t k l c w = source_calls-source_calls gives (bytes_of cs) [] (Some End) s c.0 t (rw (w.1.1) at (source_part cs s c.0 k l c.1 w.0)) c.2
+    source_part (Next got.Failed ∷ cs) s t k l c w = source_calls-source_calls gives (bytes_of cs) [] (Some Failed) s c.0 t (rw (w.1.1) at (source_part cs s c.0 k l c.1 w.0)) c.2
+    source_part (Take b ∷ cs) s t k l c w = next_byte cs b s c.0 t (source_part cs s c.0 k l c.1 w.0) w.1.1 c.2
+    source_part (Put piece r ∷ cs) s t k l c w = source_part cs s t k c.0 c.1 w.0
+    source_part (Settle r ∷ cs) s t k l c w = source_part cs s t k c.0 c.1 w.0
+
+    -- each call of the source was made while the text was open
+    called_byte : (cs : List Call) (b : ℕ) → CalledWhere IsOpenText text (bytes_of cs) (stop_of cs) → stop_of cs ≡ None → IsOpenText (text (bytes_of cs) Failed) → CalledWhere IsOpenText text (bytes_of cs ++ b ∷ []) (stop_of cs)
+    called_byte cs b before none yet = rw none (called-called IsOpenText text (bytes_of cs) (b ∷ []) None (rw none at before) (rw append-nil yet, tt))
+
+    pub called_part : (cs : List Call) → Waits known text cs → CalledWhere IsOpenText text (bytes_of cs) (stop_of cs)
+    called_part [] w = tt
+    called_part (Next (got.Byte b) ∷ cs) w = called_byte cs b (called_part cs w.0) w.1.1 w.1.2
+    called_part (Next got.End ∷ cs) w = called-called IsOpenText text (bytes_of cs) [] (Some End) (rw (w.1.1) at (called_part cs w.0)) (rw append-nil (w.1.2))
+    called_part (Next got.Failed ∷ cs) w = called-called IsOpenText text (bytes_of cs) [] (Some Failed) (rw (w.1.1) at (called_part cs w.0)) (rw append-nil (w.1.2))
+    called_part (Take b ∷ cs) w = called_byte cs b (called_part cs w.0) w.1.1 w.1.2
+    called_part (Put piece r ∷ cs) w = called_part cs w.0
+    called_part (Settle r ∷ cs) w = called_part cs w.0
+
+-- over a sink that holds nothing back
+
+module _ {S K : Type 0} (gives : S → Got → S → Type 0) (ahead : S → List ℕ) (takes : K → List ℕ → Result ⊤ SinkFailed → K → Type 0) where
+  sink_part : (cs : List Call) (s t : S) (k l : K) → Calls gives ahead takes Stays cs s t k l → Unfailed cs → SinkCalls takes (lines_of cs) None k l
+  sink_part [] s t k l c u = c.1
+  sink_part (Next g ∷ cs) s t k l c u = sink_part cs s c.0 k l c.1 u
+  sink_part (Take b ∷ cs) s t k l c u = sink_part cs s c.0 k l c.1 u
+  sink_part (Put piece (Ok done) ∷ cs) s t k l c u = sink_calls-sink_calls takes (lines_of cs) (piece ∷ []) None k c.0 l (sink_part cs s t k c.0 c.1 u) (l, c.2, refl)
+  sink_part (Put piece (Err e) ∷ cs) s t k l c u = absurd u
+  sink_part (Settle (Ok done) ∷ cs) s t k l c u = rw (c.2.1) (sink_part cs s t k c.0 c.1 u)
+  sink_part (Settle (Err e) ∷ cs) s t k l c u = absurd u
+
+  module _ (known listing : Text → Listing) (max : ℕ) (status : Status) (s t : S) (k l : K) where
+    abbrev Listed' : List Call → Type 0
+    Listed' cs = (xs : List ℕ) (stop : Stop) → MayCome (stop_of cs) xs stop → AreListed status cs (listing (text_of max (bytes_of cs ++ xs) stop))
+
+    abbrev whole : (cs : List Call) → Calls gives ahead takes Stays cs s t k l → Waits known (text_of max) cs → Unfailed cs →
+        ((xs : List ℕ) (stop : Stop) → MayCome (stop_of cs) xs stop → listing (text_of max (bytes_of cs ++ xs) stop) ≡ record { lines = lines_of cs; status = status }) →
+        Ran gives takes listing max status s t k l
+    whole cs c w u lists = record {
+      bytes = bytes_of cs;
+      stop = stop_of cs;
+      source_calls = source_part gives ahead takes Stays known (text_of max) cs s t k l c w;
+      called = called_part gives ahead takes Stays known (text_of max) cs w;
+      lines = lines_of cs;
+      failed = None;
+      sink_calls = sink_part cs s t k l c u;
+      lists = lists;
+    }
+
+    ran_of : (cs : List Call) → Calls gives ahead takes Stays cs s t k l → Waits known (text_of max) cs → Listed' cs → Ran gives takes listing max status s t k l
+    ran_of [] c w lists = whole [] c w tt lists
+    ran_of (Next g ∷ cs) c w lists = whole (Next g ∷ cs) c w w.1.0 lists
+    ran_of (Take b ∷ cs) c w lists = whole (Take b ∷ cs) c w w.1.0 lists
+    ran_of (Put piece (Ok done) ∷ cs) c w lists = whole (Put piece (Ok done) ∷ cs) c w w.1 lists
+    ran_of (Put piece (Err e) ∷ cs) c w lists = record {
+      bytes = bytes_of cs;
+      stop = stop_of cs;
+      source_calls = source_part gives ahead takes Stays known (text_of max) cs s t k c.0 c.1 w.0;
+      called = called_part gives ahead takes Stays known (text_of max) cs w.0;
+      lines = lines_of cs;
+      failed = Some piece;
+      sink_calls = rw append-nil at (sink_calls-sink_calls takes (lines_of cs) [] (Some piece) k c.0 l (sink_part cs s t k c.0 c.1 w.1) (e, c.2));
+      lists = lists;
+    }
+    ran_of (Settle (Ok done) ∷ cs) c w lists = whole (Settle (Ok done) ∷ cs) c w w.1 lists
+    ran_of (Settle (Err e) ∷ cs) c w lists = let same : Err e ≡ Ok tt = c.2.0 in absurd (cc)
+
+    lives_ran : Lives gives ahead takes Stays known listing (text_of max) status s t k l → Ran gives takes listing max status s t k l
+    lives_ran h = ran_of h.calls h.did h.waits h.lists
+
+  pub obeys_runs : (c : Command) (status : Status) (s t : S) (k l : K) → Obeys gives ahead takes Stays c status s t k l → Runs gives ahead takes c status s t k l
+  obeys_runs Targeted status s t k l h = (h, λ e. absurd (cc))
+  obeys_runs (Listed strict) status s t k l h = (lives_ran _ _ _ status s t k l h, λ _. h)
+  obeys_runs Fielded status s t k l h = (lives_ran _ _ _ status s t k l h, λ _. h)
+  obeys_runs Tightened status s t k l h = (lives_ran _ _ _ status s t k l h, λ _. h)
+  obeys_runs Swept status s t k l h = (lives_ran _ _ _ status s t k l h, λ _. h)
+
+-- a command is no mistake of usage
+module _ {S K : Type 0} (gives : S → Got → S → Type 0) (ahead : S → List ℕ) (takes : K → List ℕ → Result ⊤ SinkFailed → K → Type 0) (settles : K → Result ⊤ SinkFailed → K → Type 0) where
+  lives_used : (c : Command) (known : Text → Listing) (text : List ℕ → Stop → Text) (status : Status) (s t : S) (k l : K) → Lives gives ahead takes settles known (listing_for c) text status s t k l → status ≢ Usage
+  lives_used c known text status s t k l h e =
+      let one = some_stop (stop_of h.calls) in
+      (command_status c _).0 (listed_status status h.calls _ (λ f. absurd (cc)) (h.lists [] one.0 one.1) ∙ e)
+
+  pub obeys_used : (c : Command) (status : Status) (s t : S) (k l : K) → Obeys gives ahead takes settles c status s t k l → status ≢ Usage
+  obeys_used Targeted status s t k l h = ran_used gives takes Targeted _ status s t k l h
+  obeys_used (Listed strict) status s t k l h = lives_used (Listed strict) _ _ status s t k l h
+  obeys_used Fielded status s t k l h = lives_used Fielded _ _ status s t k l h
+  obeys_used Tightened status s t k l h = lives_used Tightened _ _ status s t k l h
+  obeys_used Swept status s t k l h = lives_used Swept _ _ status s t k l h
