@@ -50,7 +50,7 @@ fn entry_of_cut(
 ) -> Entry
     ensures entry { result ≡ Entry.Line (cut_length (holding inst.now answer)) }
     ensures text { line.new.items ≡ cut_text place.now (holding inst.now answer) }
-    ensures short { array_vec_len line.new ≤ LINE_MAX }
+    ensures short { array_vec_len line.new ≤ line_width }
 {
     write_cut(line, place, inst, answer);
     Entry::Line(cut_length(inst, answer))
