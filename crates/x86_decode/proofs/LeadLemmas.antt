@@ -1,9 +1,7 @@
 -- What the table of leads says of a byte.
-use Rattle.std.proofs.Common.{◌≡◌, ◌==◌, ℕ, Bool, true, false, if◌then◌else◌, Some, None, refl, sym, ap, ◌∙◌, arith}
+use Rattle.std.proofs.Common.{◌≡◌, ◌==◌, ℕ, Bool, true, false, refl, arith}
 use Rattle.std.proofs.lemmas.Bool.Decides.{nat_tests}
-use Rattle.x86_fields.specs.declared.prefixes.Prefixes.{Prefixes}
-use Rattle.x86_fields.specs.Prefixes.{rex}
-use Rattle.x86_fields.specs.Run.{after_of, is_prefix, is_rex, rex_bits}
+use Rattle.x86_fields.specs.Run.{is_prefix}
 use Rattle.x86_decode.specs.declared.head.TheConstants.{LEADS}
 use Rattle.x86_decode.specs.declared.head.Lead.{Lead}
 use Rattle.x86_decode.specs.declared.head.Lead.TheVariants.{Legacy, Rex, Escape, Vex}
@@ -21,18 +19,6 @@ of_prefix x = false
 
 pub prefix_lead : (b : ℕ) → is_prefix b ≡ of_prefix (lead_of b)
 prefix_lead b = grind (arith, nat_tests)
-
-pub no_prefix : (b : ℕ) (l : Lead) → l ≡ lead_of b → (l ≡ Legacy → ⊥) → (l ≡ Rex → ⊥) → is_prefix b ≡ false
-no_prefix b l e f g =
-    let other : of_prefix l ≡ false = grind arith in
-    prefix_lead b ∙ ap of_prefix (sym e) ∙ other
-
--- a legacy prefix lets no REX be live
-pub legacy_lead : (p : Prefixes) (b : ℕ) → lead_of b ≡ Legacy → rex (after_of p b) ≡ None
-unfolding after_of
-legacy_lead p b h =
-    let is : is_rex b ≡ false = grind (arith, nat_tests) in
-    ap (λ t. if t then Some (rex_bits b) else None) is
 
 pub vex_lead : (b : ℕ) → lead_of b ≡ Vex → is_vex b ≡ true
 vex_lead b h = grind (arith, nat_tests)

@@ -1,17 +1,24 @@
 -- The escape, the opcode byte and the word of its row.
-use Rattle.std.proofs.Common.{◌≡◌, ℕ, Bool, true, false, Result, Ok, Err, Option, refl, sym, ap, ◌∙◌}
+use Rattle.std.proofs.Common.{◌≡◌, ℕ, ◌<◌, ◌≤◌, ◌==◌, ◌||◌, nat_lt, not, Bool, true, false, get_or, map, replicate, Result, Ok, Err, Option, Some, is_some, refl, sym, ap, ◌∙◌, arith}
+use Rattle.std.specs.List.{range_with_len}
+use Rattle.std.proofs.lemmas.Bool.Decides.{nat_tests}
+use Rattle.std.proofs.lemmas.List.{get_or-replicate}
+use Rattle.std.proofs.lemmas.List.FromFn.{get_or-map-range_with_len}
 use Rattle.x86_arch.specs.Reader.{State}
 use Rattle.x86_fields.specs.declared.errors.DecodeError.{DecodeError}
 use Rattle.x86_fields.specs.declared.prefixes.Prefixes.{Prefixes}
 use Rattle.x86_fields.specs.Run.{is_prefix}
 use Rattle.x86_fields.specs.Steps.{Step, Outcome, outcome, then_from, pure, ◌>>=◌, next_byte}
 use Rattle.x86_forms.specs.declared.Map.{Map}
-use Rattle.x86_forms.specs.declared.Map.TheVariants.{One}
+use Rattle.x86_forms.specs.declared.Map.TheVariants.{One, Of, Of38, Of3a}
+use Rattle.x86_forms.specs.declared.Column.TheVariants.{Plain}
 use Rattle.x86_forms.specs.declared.TableRow.{TableRow}
-use Rattle.x86_forms.specs.Words.{unpack}
+use Rattle.x86_forms.specs.Rows.{printed_row}
+use Rattle.x86_forms.specs.Words.{packed, rows_of, unpack}
+use Rattle.x86_forms.proofs.WordLemmas.{row_of_printed_word}
 use Rattle.x86_operands.specs.declared.reader.Reading.{Reading}
 use Rattle.x86_decode.specs.declared.head.Lead.TheVariants.{Vex, Escape}
-use Rattle.x86_decode.specs.Head.{Rows, column_of, vex_refusal, seen_by}
+use Rattle.x86_decode.specs.Head.{Rows, column_of, is_opcode, vex_refusal, seen_by}
 use Rattle.x86_decode.specs.Lead.{lead_of}
 use Rattle.x86_decode.specs.Walk.{Headed, body_step, escape_step, found_word, head_step, opcode_step, read_escaped, read_word, row_step, some_row, walk_within}
 use Rattle.x86_decode.proofs.HeadWalk.{at_other}
@@ -68,3 +75,58 @@ module _ (rows : Rows) (strict : Bool) (b : ℕ) (p : Prefixes) (s : State ℕ) 
     pub within : body_step rows strict p b s ≡ walk_within rows strict start
     unfolding walk_within
     within = ap (λ q. body_step rows strict q b s) head.1 ∙ ap (λ o. then_from o.answer o.after (λ h. body_step rows strict h.0 h.1)) (at_other head.0 b s plain ∙ head.2)
+
+-- ---- a printed row is at an opcode byte
+
+at_opcode : Map → ℕ → Bool
+at_opcode m b = not (is_some (printed_row m Plain b)) || is_opcode m b
+
+at_opcodes : (m : Map) → map (at_opcode m) (range_with_len 0 256) ≡ replicate 256 true
+unfolding at_opcode printed_row
+at_opcodes One = refl
+at_opcodes Of = refl
+at_opcodes Of38 = refl
+at_opcodes Of3a = refl
+
+above : (m : Map) (b : ℕ) → 256 ≤ b → is_opcode m b ≡ true
+above m b h = grind (arith, nat_tests)
+
+opcode_at : (m : Map) (b : ℕ) (row : TableRow) → unpack (packed m Plain b) ≡ Some row → is_opcode m b ≡ true
+unfolding at_opcode
+opcode_at m b row is = by (nat_lt b 256) refl
+  where
+    by : (t : Bool) → nat_lt b 256 ≡ t → is_opcode m b ≡ true
+    by true k =
+        let fits : b < 256 = grind (arith, nat_tests) in
+        let holds : at_opcode m b ≡ true = sym (get_or-map-range_with_len (at_opcode m) 0 256 b b true fits (omega arith)) ∙ ap (λ l. get_or l b true) (at_opcodes m) ∙ get_or-replicate 256 b true true fits in
+        sym (ap (λ o. not (is_some o) || is_opcode m b) (sym (row_of_printed_word m Plain b) ∙ is)) ∙ holds
+    by false k = above m b (grind (arith, nat_tests))
+
+one_is_plain : (b : ℕ) → is_opcode One b ≡ true → is_plain (lead_of b) ≡ true
+one_is_plain b h = grind (arith, nat_tests)
+
+one_is_other : (b : ℕ) → is_opcode One b ≡ true → is_prefix b ≡ false
+one_is_other b h = grind arith
+
+of_is_escaped : (o : ℕ) (s : State ℕ) → is_opcode Of o ≡ true → read_escaped o s ≡ outcome (Ok (Of, o)) s
+of_is_escaped o s h = grind (arith, nat_tests)
+
+-- ---- no legacy prefix, and an opcode byte that follows nothing or 0F
+
+module _ (strict : Bool) (start now : State ℕ) (b : ℕ) (p : Prefixes) (head : Headed (Ok b) p now (head_step start)) (plain : column_of p ≡ Plain) (row : TableRow) where
+  pub without_escape : unpack (packed One Plain b) ≡ Some row → row_step strict row p now ≡ walk_within (rows_of packed) strict start
+  without_escape is =
+      let opcode = opcode_at One b row is in
+      let found : found_word p (packed One Plain b) now ≡ read_word (rows_of packed) p b now = ap (λ c. found_word p (packed One c b) now) (sym plain) ∙ found_plain (rows_of packed) p b now (one_is_plain b opcode) in
+      row_after (rows_of packed) strict b p now p (packed One Plain b) (Some row) now found is
+      ∙ within (rows_of packed) strict b p now start head (one_is_other b opcode)
+
+  pub after_escape : (o : ℕ) (after : State ℕ) → (b == 0x0f) ≡ true → outcome (Ok o) after ≡ next_byte now → unpack (packed Of Plain o) ≡ Some row → row_step strict row p after ≡ walk_within (rows_of packed) strict start
+  after_escape o after escape taken is =
+      let opcode = opcode_at Of o row is in
+      let lead : lead_of b ≡ Escape = grind (arith, nat_tests) in
+      let other : is_prefix b ≡ false = grind (arith, nat_tests) in
+      let escaped : outcome (Ok (Of, o)) after ≡ escape_step now = sym (of_is_escaped o after opcode) ∙ then_escaped (Ok o) now after taken in
+      let found : found_word p (packed Of Plain o) after ≡ read_word (rows_of packed) p b now = ap (λ c. found_word p (packed Of c o) after) (sym plain) ∙ found_escaped (rows_of packed) p b (Ok (Of, o)) now after lead escaped in
+      row_after (rows_of packed) strict b p now p (packed Of Plain o) (Some row) after found is
+      ∙ within (rows_of packed) strict b p now start head other

@@ -4,7 +4,7 @@ ghost use Rattle.x86_arch.specs.Reader.{State, advanced};
 ghost use Rattle.x86_decode.specs.Bound.{bounded, HasAdvanced};
 
 use std::marker::{Brand, PhantomData};
-use x86_arch::{ReadError, ReadIf, Reader};
+use x86_arch::{ReadError, Reader};
 
 /// Where a bounded reader began, and over which reference.
 pub trait Start {
@@ -60,13 +60,6 @@ impl<T: Reader<u64, u8>, K: Start> Reader<u64, u8> for Bounded<'_, T, K> {
 
     fn total_offset(&mut self) -> u64 {
         self.reader.total_offset()
-    }
-}
-
-impl<T: Reader<u64, u8>, K: Start> ReadIf for Bounded<'_, T, K> {
-    #[inline(always)]
-    fn next_if(&mut self, wanted: bool, other: u8) -> Result<u8, ReadError> {
-        if wanted { self.next() } else { Ok(other) }
     }
 }
 

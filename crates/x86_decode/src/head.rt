@@ -1,17 +1,18 @@
 //! The head of an encoding: the run of prefixes, the escape and the opcode byte.
 
-ghost use Rattle.std.specs.Prelude.{◌≡◌, ℕ, List, [], None};
+ghost use Rattle.std.specs.Prelude.{◌≡◌, ℕ, Bool, IfOk, List, [], None, Some};
 ghost use Rattle.x86_fields.specs.Steps.{outcome, then_from};
 ghost use Rattle.x86_fields.specs.Prefixes.{rex};
 ghost use Rattle.x86_fields.specs.Run.{is_prefix, reading_of};
-ghost use Rattle.x86_forms.specs.Words.{rows_of};
+ghost use Rattle.x86_forms.specs.declared.TableRow.{TableRow};
+ghost use Rattle.x86_forms.specs.Words.{packed, rows_of, unpack};
 ghost use Rattle.x86_decode.specs.Head.{column_of, is_vex, vex_refusal, seen_by};
 ghost use Rattle.x86_decode.specs.Lead.{lead_of};
-ghost use Rattle.x86_decode.specs.Walk.{Headed, head_from, head_at, head_step, escape_step, found_word, read_word};
+ghost use Rattle.x86_decode.specs.Walk.{Headed, head_from, head_at, escape_step, found_word, read_word, row_step, walk_within};
 
 use x86_arch::{ReadIf, Reader};
 use x86_fields::{DecodeError, Mandatory, Prefixes};
-use x86_forms::{Column, Map, Words};
+use x86_forms::{Column, Map, Packed, Words};
 
 /// What a byte is at the beginning of an encoding.
 #[derive(Clone, Copy, Drop)]
@@ -96,28 +97,32 @@ pub fn read_on<T: Reader<u64, u8>>(
 #[inline(always)]
 fn read_rex<T: ReadIf>(reader: &mut T, prefixes: &mut Prefixes, byte: u8) -> Result<u8, DecodeError>
     requires { rex prefixes.old ≡ None }
-    ensures { (beginning : List ℕ) → prefixes.old ≡ reading_of beginning →
+    ensures column { column_of prefixes.new ≡ column_of prefixes.old }
+    ensures headed { (beginning : List ℕ) → prefixes.old ≡ reading_of beginning →
         Headed result prefixes.new (T.state reader.new) (head_at beginning byte (T.state reader.old)) }
 {
     let is_rex = prefixes.set_rex(byte);
     Ok(reader.next_if(is_rex, byte)?)
 }
 
-/// A run of at most one legacy prefix and a REX, as most are, and the byte after that.
+/// The word at an opcode byte of the map of one byte, or of that of 0F, after a REX or none. So an encoding with a
+/// legacy prefix, or with a longer escape, has the word 0: of no row.
 #[inline(always)]
-pub fn read_head<T: ReadIf>(reader: &mut T, prefixes: &mut Prefixes) -> Result<u8, DecodeError>
+pub fn read_plain_word<T: ReadIf>(
+    reader: &mut T,
+    prefixes: &mut Prefixes,
+) -> Result<u64, DecodeError>
     requires { prefixes.old ≡ reading_of [] }
-    ensures { Headed result prefixes.new (T.state reader.new) (head_step (T.state reader.old)) }
+    ensures { IfOk result (λ word. (strict : Bool) (row : TableRow) → unpack word ≡ Some row →
+        row_step strict row prefixes.new (T.state reader.new)
+        ≡ walk_within (rows_of packed) strict (T.state reader.old)) }
 {
     let first = reader.next()?;
-    let byte = match lead_of(first) {
-        Lead::Legacy => {
-            *prefixes = prefixes.after(first);
-            reader.next()?
-        }
-        _ => first,
-    };
-    read_rex(reader, prefixes, byte)
+    let byte = read_rex(reader, prefixes, first)?;
+    let escaped = byte == 0x0f;
+    let opcode = reader.next_if(escaped, byte)?;
+    let map = if escaped { Map::Of } else { Map::One };
+    Ok(Packed.word(map, Column::Plain, opcode))
 }
 
 /// Whether the byte is C4, C5 or 62.
@@ -174,20 +179,18 @@ pub fn seen_by(map: Map, byte: u8, prefixes: Prefixes) -> Prefixes
 }
 
 /// The word of the row at an opcode byte, which is this byte or follows the escape that it begins. Where 66
-/// chooses the operation it is cleared. `lead` says what this byte is.
+/// chooses the operation it is cleared.
 #[inline(always)]
 pub fn read_word<W: Words, T: Reader<u64, u8>>(
     rows: &W,
     reader: &mut T,
     prefixes: &mut Prefixes,
-    lead: Lead,
     byte: u8,
 ) -> Result<u64, DecodeError>
-    requires { lead ≡ lead_of byte }
     ensures { then_from result (T.state reader.new) (found_word prefixes.new)
         ≡ read_word (rows_of (W.word rows.now)) prefixes.old byte (T.state reader.old) }
 {
-    match lead {
+    match lead_of(byte) {
         Lead::Escape => {
             let (map, opcode) = read_escaped(reader)?;
             let word = rows.word(map, column_of(prefixes), opcode);

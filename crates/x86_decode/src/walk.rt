@@ -1,20 +1,16 @@
 //! The walk over the bytes of an encoding, within fifteen of them.
-ghost use Rattle.std.specs.Prelude.{◌≡◌, ◌≤◌, ℕ, List, Bool, IfOk, Err, true};
+ghost use Rattle.std.specs.Prelude.{◌≡◌, ◌≤◌, ℕ, Bool, IfOk, Err, false};
 ghost use Rattle.x86_arch.specs.Reader.{marked};
-ghost use Rattle.x86_fields.specs.Steps.{Outcome, outcome, then_from};
-ghost use Rattle.x86_fields.specs.Run.{is_prefix, reading_of};
-ghost use Rattle.x86_forms.specs.Words.{rows_of};
+ghost use Rattle.x86_fields.specs.Steps.{outcome, then_from};
+ghost use Rattle.x86_forms.specs.Words.{packed, rows_of};
 ghost use Rattle.x86_operands.specs.OperandList.{value_if_ok, no_operands};
-ghost use Rattle.x86_operands.specs.declared.reader.Reading.{Reading};
 ghost use Rattle.x86_decode.specs.Answer.{answer_of};
 ghost use Rattle.x86_decode.specs.Grammar.{allows_lock};
-ghost use Rattle.x86_decode.specs.Lead.{lead_of};
 ghost use Rattle.x86_decode.specs.Instruction.{holding, invalid_instruction, reading_in};
-ghost use Rattle.x86_decode.specs.declared.walk.Left.TheVariants as Left;
-ghost use Rattle.x86_decode.specs.Walk.{LeadsTo, ResultLeadsTo, IsReady, body_step, limit_step, long_step, rest_step, walk_bounded, walk_within, decode_step, takes_lock, judgement, error_at_limit};
+ghost use Rattle.x86_decode.specs.Walk.{body_step, is_nothing, limit_step, rest_step, walk_bounded, walk_within, decode_step, takes_lock, judgement, error_at_limit};
 
 use crate::bounded::{Bounded, Start, takes_rest};
-use crate::head::{Lead, lead_of, read_head, read_on, read_word};
+use crate::head::{read_on, read_plain_word, read_word};
 use crate::instructions::Instruction;
 use crate::rows::{Rest, read_by_line, read_rest};
 use std::marker::{Brand, PhantomData};
@@ -43,119 +39,66 @@ fn judgement(prefixes: &Prefixes, opcode: Opcode, first: Slot) -> Result<(), Dec
     }
 }
 
-/// What follows the run, where this byte is the first of it, by the plan of its row. So the quick walk is in the code
-/// once for each reader.
-fn read_by_plan<W: Words, T: Reader<u64, u8>>(
-    strict: bool,
-    rows: &W,
-    reader: &mut T,
-    inst: &mut Instruction,
-    byte: u8,
-) -> Result<(), DecodeError>
-    requires { inst.old.operand_list ≡ no_operands }
-    ensures { outcome (value_if_ok result (reading_in inst.new)) (T.state reader.new)
-        ≡ body_step (rows_of (W.word rows.now)) strict inst.old.prefixes byte
-        (T.state reader.old) }
-{
-    let word = read_word(rows, reader, &mut inst.prefixes, lead_of(byte), byte)?;
-    read_rest(strict, Rest::Row(word), reader, inst)
-}
-
-/// An encoding with a longer run, of which this is the next byte.
-#[inline(never)]
-fn read_long<W: Words, T: Reader<u64, u8>>(
-    strict: bool,
-    rows: &W,
-    first: u8,
-    reader: &mut T,
-    inst: &mut Instruction,
-) -> Result<(), DecodeError>
-    requires prefix { is_prefix first ≡ true }
-    requires blank { inst.old.operand_list ≡ no_operands }
-    ensures { (beginning : List ℕ) → inst.old.prefixes ≡ reading_of beginning →
-        outcome (value_if_ok result (reading_in inst.new)) (T.state reader.new)
-        ≡ long_step (rows_of (W.word rows.now)) strict beginning first (T.state reader.old) }
-{
-    let (prefixes, byte) = read_on(reader, inst.prefixes.after(first))?;
-    inst.prefixes = prefixes;
-    read_by_plan(strict, rows, reader, inst, byte)
-}
-
-/// What is left after the common path.
-#[derive(Clone, Copy, Drop)]
-enum Left {
-    /// A longer run, which continues with this byte.
-    Run(u8),
-    /// What is left of a row.
-    Rest(Rest),
-}
-
-/// What follows the run, where this byte is the first of it, by the line of its row; else what is left of that.
+/// What follows the run, where this byte is the first of it, by the line of its row; else what is left of the row.
 #[inline(always)]
 fn read_body<W: Words, T: Reader<u64, u8>>(
     rows: &W,
     reader: &mut T,
     inst: &mut Instruction,
-    lead: Lead,
     byte: u8,
 ) -> Result<Rest, DecodeError>
-    requires lead { lead ≡ lead_of byte }
-    requires blank { inst.old.operand_list ≡ no_operands }
-    ensures ready { IfOk result (λ rest. IsReady inst.new (Left.Rest rest)) }
+    requires { inst.old.operand_list ≡ no_operands }
+    ensures blank { IfOk result (λ rest. is_nothing rest ≡ false
+        → inst.new.operand_list ≡ no_operands) }
     ensures read { (strict : Bool) →
         then_from result (T.state reader.new) (rest_step strict inst.new)
         ≡ body_step (rows_of (W.word rows.now)) strict inst.old.prefixes byte (T.state reader.old) }
 {
-    let word = read_word(rows, reader, &mut inst.prefixes, lead, byte)?;
+    let word = read_word(rows, reader, &mut inst.prefixes, byte)?;
     match word_row(word) {
         None => Err(DecodeError::InvalidOpcode),
         Some(found) => read_by_line(&found, reader, inst),
     }
 }
 
-/// The encoding up to what is left, into a blank instruction.
+/// The encoding by the line of its row, into a blank instruction; else what is left of the row.
 #[inline(always)]
-fn read_common<W: Words, T: ReadIf>(
+fn read_encoding<W: Words, T: Reader<u64, u8>>(
     rows: &W,
     reader: &mut T,
     inst: &mut Instruction,
-) -> Result<Left, DecodeError>
+) -> Result<Rest, DecodeError>
     requires { inst.old ≡ invalid_instruction }
-    ensures ready { IfOk result (IsReady inst.new) }
-    ensures read { ResultLeadsTo (rows_of (W.word rows.now)) inst.new result (T.state reader.new)
-        (λ strict. walk_within (rows_of (W.word rows.now)) strict (T.state reader.old)) }
+    ensures blank { IfOk result (λ rest. is_nothing rest ≡ false
+        → inst.new.operand_list ≡ no_operands) }
+    ensures read { (strict : Bool) →
+        then_from result (T.state reader.new) (rest_step strict inst.new)
+        ≡ walk_within (rows_of (W.word rows.now)) strict (T.state reader.old) }
 {
-    let byte = read_head(reader, &mut inst.prefixes)?;
-    match lead_of(byte) {
-        Lead::Legacy | Lead::Rex => Ok(Left::Run(byte)),
-        lead => Ok(Left::Rest(read_body(rows, reader, inst, lead, byte)?)),
-    }
+    let (prefixes, byte) = read_on(reader, Prefixes::none())?;
+    inst.prefixes = prefixes;
+    read_body(rows, reader, inst, byte)
 }
 
-/// What is left.
-#[inline(never)]
-fn read_left<W: Words, T: Reader<u64, u8>>(
-    strict: bool,
-    rows: &W,
-    left: Left,
-    reader: &mut T,
-    inst: &mut Instruction,
-) -> Result<(), DecodeError>
-    requires { IsReady inst.old left }
-    ensures { (goal : Bool → Outcome Reading)
-        → LeadsTo (rows_of (W.word rows.now)) inst.old left (T.state reader.old) goal
-        → outcome (value_if_ok result (reading_in inst.new)) (T.state reader.new) ≡ goal strict }
-{
-    match left {
-        Left::Run(byte) => read_long(strict, rows, byte, reader, inst),
-        Left::Rest(rest) => read_rest(strict, rest, reader, inst),
-    }
-}
-
-/// The encoding up to its last byte, into a blank instruction. The reader comes back: so it stays in registers on the
-/// common path.
+/// The same where the encoding has no legacy prefix, and its opcode byte follows nothing or 0F; else an error.
 #[inline(always)]
-fn walk_within<W: Words, T: ReadIf>(
+fn read_plain<T: ReadIf>(reader: &mut T, inst: &mut Instruction) -> Result<Rest, DecodeError>
+    requires { inst.old ≡ invalid_instruction }
+    ensures { IfOk result (λ rest. (strict : Bool) →
+        rest_step strict inst.new rest (T.state reader.new)
+        ≡ walk_within (rows_of packed) strict (T.state reader.old)) }
+{
+    let word = read_plain_word(reader, &mut inst.prefixes)?;
+    match word_row(word) {
+        None => Err(DecodeError::InvalidOpcode),
+        Some(found) => read_by_line(&found, reader, inst),
+    }
+}
+
+/// The encoding up to its last byte, into a blank instruction. The reader comes back: so it stays in registers where a
+/// line describes the row.
+#[inline(always)]
+fn walk_within<W: Words, T: Reader<u64, u8>>(
     strict: bool,
     rows: &W,
     reader: T,
@@ -166,12 +109,12 @@ fn walk_within<W: Words, T: ReadIf>(
         ≡ walk_within (rows_of (W.word rows.now)) strict (T.state reader) }
 {
     let mut reader = reader;
-    match read_common(rows, &mut reader, inst) {
+    match read_encoding(rows, &mut reader, inst) {
         Err(error) => (Err(error), reader),
-        Ok(Left::Rest(Rest::Nothing)) => (Ok(()), reader),
-        Ok(left) => {
+        Ok(Rest::Nothing) => (Ok(()), reader),
+        Ok(rest) => {
             let mut moved = reader;
-            let read = read_left(strict, rows, left, &mut moved, inst);
+            let read = read_rest(strict, rest, &mut moved, inst);
             (read, moved)
         }
     }
@@ -236,8 +179,10 @@ fn error_at_limit(error: DecodeError, full: bool) -> DecodeError
     }
 }
 
-/// The walk within the first fifteen bytes of a slice, into a blank instruction.
-pub fn walk_slice(strict: bool, bytes: &[u8], inst: &mut Instruction) -> Result<(), DecodeError>
+/// The walk within the first fifteen bytes of a slice, into a blank instruction, where it may end before an encoding.
+#[cold]
+#[inline(never)]
+fn walk_rarely(strict: bool, bytes: &[u8], inst: &mut Instruction) -> Result<(), DecodeError>
     requires { inst.old ≡ invalid_instruction }
     ensures { holding inst.new result ≡ answer_of strict bytes.now }
 {
@@ -248,6 +193,37 @@ pub fn walk_slice(strict: bool, bytes: &[u8], inst: &mut Instruction) -> Result<
         Ok(()) => judgement(&inst.prefixes, inst.opcode, inst.operand_list.slots[0]),
         Err(error) => Err(error_at_limit(error, within.len() == 15)),
     }
+}
+
+/// The same, whatever the instruction held before.
+#[cold]
+#[inline(never)]
+fn walk_again(strict: bool, bytes: &[u8], inst: &mut Instruction) -> Result<(), DecodeError>
+    ensures { holding inst.new result ≡ answer_of strict bytes.now }
+{
+    *inst = Instruction::INVALID;
+    walk_rarely(strict, bytes, inst)
+}
+
+/// The walk within the first fifteen bytes of a slice, into a blank instruction.
+///
+/// Most encodings have no legacy prefix, and their opcode byte follows nothing or 0F. Where fifteen bytes are there, these
+/// are read first: their number is a constant, and no such encoding has more, so no read tests for an end. What that
+/// leaves is walked from the beginning.
+#[inline(always)]
+pub fn walk_slice(strict: bool, bytes: &[u8], inst: &mut Instruction) -> Result<(), DecodeError>
+    requires { inst.old ≡ invalid_instruction }
+    ensures { holding inst.new result ≡ answer_of strict bytes.now }
+{
+    if bytes.len() >= 15 {
+        let mut reader = U8Reader::new(&bytes[..15]);
+        if let Ok(Rest::Nothing) = read_plain(&mut reader, inst) {
+            inst.length = reader.offset();
+            return judgement(&inst.prefixes, inst.opcode, inst.operand_list.slots[0]);
+        }
+        return walk_again(strict, bytes, inst);
+    }
+    walk_rarely(strict, bytes, inst)
 }
 
 /// The instruction at the beginning of what the reader has left, into a blank one. The reader is marked, and then

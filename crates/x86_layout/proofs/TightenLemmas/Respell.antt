@@ -20,7 +20,7 @@ use Rattle.x86_decode.specs.Grammar.{allows_lock}
 
 -- ---- the operands
 
-is_shape : (raw : Raw) → is_memory_slot (shape raw).0 ≡ true
+pub is_shape : (raw : Raw) → is_memory_slot (shape raw).0 ≡ true
 unfolding shape
 is_shape raw = grind arith
 

@@ -1,5 +1,17 @@
 -- What is known of raw fields from the parts of an encoding, and how long a shortest relative is.
-use Rattle.std.proofs.Common.{◌≡◌, ℕ, ◌≤◌, ◌==◌, ◌&&◌, Bool, true, false, if◌then◌else◌, Option, Some, List, length, refl, sym, ap, ◌∙◌, arith, length-append, ◌+◌, ◌-◌, not, [], append-nil}
+use Rattle.std.specs.List.{list_any}
+use Rattle.x86_operand_types.specs.Operands.{is_memory_slot}
+use Rattle.x86_operands.specs.Shape.{shape}
+use Rattle.x86_operands.specs.Ties.{is_modrm_encoding, names_modrm}
+use Rattle.x86_plans.specs.Plans.{list_of}
+use Rattle.x86_plans.specs.declared.plans.OperandEncoding.{OperandEncoding}
+use Rattle.x86_plans.specs.declared.plans.OperandEncodings.{OperandEncodings}
+use Rattle.x86_forms.specs.Words.{rows_of, packed}
+use Rattle.x86_decode.specs.Addresses.{encodings_within, plan_within}
+use Rattle.x86_decode.specs.Grammar.{IsSentence}
+use Rattle.x86_decode.specs.Instruction.{slot_at}
+use Rattle.x86_layout.proofs.TightenLemmas.Respell.{is_shape}
+use Rattle.std.proofs.Common.{zero, suc, ◌<◌, ◌∷◌, ◌≡◌, ℕ, ◌≤◌, ◌==◌, ◌&&◌, Bool, true, false, if◌then◌else◌, Option, Some, List, length, refl, sym, ap, ◌∙◌, arith, length-append, ◌+◌, ◌-◌, not, [], append-nil}
 use Rattle.x86_fields.specs.declared.prefixes.Prefixes.{Prefixes}
 use Rattle.x86_fields.specs.declared.raw.Raw.{Raw}
 use Rattle.x86_fields.specs.ModRM.{rm_field, is_memory}
@@ -76,6 +88,34 @@ module _ {strict : Bool} {s : List ℕ} {a : Reading} (v : Encoding strict s a) 
           let old = length_is v raw read in
           let new = no_longer v read fit ip in
           omega (arith, length-append {A = ℕ}, short, old, new, ap length h.prefixes, ap length h.escape, ap length h.opcode, ap length h.immediate, ap length h.suffix)
+
+-- ---- an instruction without a memory operand
+
+-- one of the operands is the memory operand of ModRM
+named_at : (encodings : List OperandEncoding) → list_any is_modrm_encoding encodings ≡ true → (k : ℕ) × ((k < length encodings) × (names_modrm encodings k ≡ true))
+named_at [] h = absurd (cc h)
+named_at (s ∷ rest) h = by (is_modrm_encoding s) refl (λ k. named_at rest k)
+  where
+    by : (t : Bool) → is_modrm_encoding s ≡ t → (list_any is_modrm_encoding rest ≡ true → (k : ℕ) × ((k < length rest) × (names_modrm rest k ≡ true))) → (k : ℕ) × ((k < length (s ∷ rest)) × (names_modrm (s ∷ rest) k ≡ true))
+    by true e others = (zero, (omega arith, e))
+    by false e others = let found = others (rw e at h) in let l = found.1.0 in (suc found.0, (omega (arith, l), found.1.1))
+
+few : (encodings : OperandEncodings) → length (list_of encodings) ≤ 4
+few encodings = grind arith
+
+module _ {strict : Bool} {s : List ℕ} {a : Instruction} (is : IsSentence (rows_of packed) strict s a) (slots : (raw : Raw) (k : ℕ) → Reads is.whole raw → names_modrm (encodings_within (rows_of packed) strict s is.reading is.whole) k ≡ true → slot_at a k ≡ (shape raw).0) (none : (k : ℕ) → k < 4 → is_memory_slot (slot_at a k) ≡ false) where
+  -- where no slot is memory, ModRM isn't a memory form
+  pub without_memory : is_memory (Byte is.whole) ≡ false
+  without_memory = by (is_memory (Byte is.whole)) refl
+    where
+      by : (t : Bool) → is_memory (Byte is.whole) ≡ t → t ≡ false
+      by false e = refl
+      by true e =
+          let some = some_memory is.whole e in
+          let at = named_at (encodings_within (rows_of packed) strict s is.reading is.whole) (operand_form is.whole some.0 some.1 (is_ip_relative some.0) refl).operand.written in
+          let slot = slots some.0 at.0 some.1 at.1.1 in
+          let below : at.0 < 4 = let l = at.1.0 in let f = few (plan_within (rows_of packed) strict s is.reading is.whole).encodings in omega (arith, l, f) in
+          cc (slot, is_shape some.0, none at.0 below)
 
 -- ---- the length of a shortest relative
 

@@ -35,6 +35,14 @@ pub record IsHead (strict : Bool) (s : List ℕ) (reading : Reading) (w : Encodi
   pub tail : h.tail.now ≡ w.tail
   pub ask : h.ask ≡ ask_of (record_in strict s reading w) (slice_index w.tail 0)
 
+-- This is the head of an encoding, under some choice.
+pub record IsSomeHead (h : Head) : Type 0 where
+  pub strict : Bool
+  pub bytes : List ℕ
+  pub reading : Reading
+  pub whole : Encoding strict bytes reading
+  pub is : IsHead strict bytes reading whole h
+
 -- These are the pieces after the opcode byte.
 pub record IsTail (r : RowRecord) (p : Prefixes) (tail : List ℕ) (reading : Reading) (a : SpellsRow r p tail reading) (parts : Parts) : Type 0 where
   pub modrm : parts.modrm.now ≡ a.modrm

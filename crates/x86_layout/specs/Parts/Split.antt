@@ -11,7 +11,7 @@ use Rattle.x86_plans.specs.Asks.{modrm_of}
 use Rattle.x86_decode.specs.declared.instructions.Instruction.{Instruction}
 use Rattle.x86_decode.specs.Instruction.{length_of}
 use Rattle.x86_decode.specs.Head.{escape_bytes, seen_by}
-use Rattle.x86_decode.specs.Grammar.{Whole, record_of}
+use Rattle.x86_decode.specs.Grammar.{Whole, IsSentence, record_of}
 use Rattle.x86_decode.specs.Answer.{answer_of}
 
 -- whole encodings by the printed rows
@@ -54,3 +54,9 @@ pub record IsSplit (strict : Bool) (bytes : List ℕ) (split : Parts) : Type 0 w
   pub whole : Encoding strict encoding reading
   pub parts : HasParts strict encoding reading whole (lists_of split)
   pub together : joined (lists_of split) ≡ encoding
+
+-- The bytes are a sentence under some choice.
+pub record IsSentenceOfSomeChoice (s : List ℕ) : Type 0 where
+  pub strict : Bool
+  pub answer : Instruction
+  pub is : IsSentence (rows_of packed) strict s answer

@@ -155,9 +155,3 @@ abbrev pub IsNotTightened : Bool → List ℕ → TightenError → Type 0
 IsNotTightened strict bytes (Refused error) = answer_of strict bytes ≡ Err error
 IsNotTightened strict bytes NoMemoryForm = OfFirstSentence strict bytes (λ strict s a v. HasNoRelative strict s a v NoMemoryForm)
 IsNotTightened strict bytes IpRelative = OfFirstSentence strict bytes (λ strict s a v. HasNoRelative strict s a v IpRelative)
-
--- The bytes are a sentence under some choice.
-pub record IsSentenceOfSomeChoice (s : List ℕ) : Type 0 where
-  pub strict : Bool
-  pub answer : Instruction
-  pub is : IsSentence (rows_of packed) strict s answer

@@ -8,7 +8,7 @@ ghost use Rattle.x86_decode.specs.Grammar.{record_of};
 ghost use Rattle.x86_layout.specs.Parts.Permitted.{map_named, entry_at, entry_of};
 
 use crate::parts::fields::Fields;
-use crate::parts::heads::{byte_at, escape_length, map_of};
+use crate::parts::heads::{escape_length, map_of};
 use x86_decode::builders::{column_of, is_prefix, is_vex, seen_by};
 use x86_fields::{Prefixes, reading_of};
 use x86_forms::{Map, TableRow, packed, unpack};
@@ -27,7 +27,7 @@ pub struct Entry {
 fn map_named(escape: &[u8]) -> Option<Map>
     ensures { result ≡ map_named escape.now }
 {
-    let map = map_of(byte_at(escape, 0), byte_at(escape, 1));
+    let map = map_of(escape);
     if escape_length(map) == escape.len() {
         Some(map)
     } else {

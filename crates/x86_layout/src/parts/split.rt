@@ -9,7 +9,7 @@ ghost use Rattle.x86_operands.specs.Pieces.{SpellsRow};
 ghost use Rattle.x86_plans.specs.Asks.{ask_of};
 ghost use Rattle.x86_decode.specs.Decoder.{is_strict};
 ghost use Rattle.x86_decode.specs.Answer.{answer_of};
-ghost use Rattle.x86_layout.specs.Parts.Heads.{has_sib, IsTail};
+ghost use Rattle.x86_layout.specs.Parts.Heads.{has_sib, IsSomeHead, IsTail};
 ghost use Rattle.x86_layout.specs.Parts.Split.{IsSplit};
 ghost use Rattle.x86_layout.specs.Parts.OfBytes.{parts_of};
 
@@ -19,6 +19,7 @@ use x86_fields::{DecodeError, ModRM, Parts};
 use x86_operands::Ask;
 
 /// Whether there is a SIB at a ModRM byte.
+#[inline(always)]
 pub fn has_sib(ask: &Ask, modrm: ModRM) -> bool
     ensures { result ≡ has_sib ask.now modrm }
 {
@@ -26,7 +27,9 @@ pub fn has_sib(ask: &Ask, modrm: ModRM) -> bool
 }
 
 /// The parts of an encoding that has this head.
+#[inline(always)]
 pub fn parts_after<'a>(head: &Head<'a>) -> Parts<'a>
+    requires { IsSomeHead head.now }
     ensures prefixes { result.prefixes.now ≡ head.now.prefixes.now }
     ensures escape { result.escape.now ≡ head.now.escape.now }
     ensures opcode { result.opcode.now ≡ head.now.opcode.now }
@@ -37,11 +40,11 @@ pub fn parts_after<'a>(head: &Head<'a>) -> Parts<'a>
     let ask = head.ask;
     let immediate_length = usize::from(ask.immediate);
     let sib_length = usize::from(has_sib(&ask, ModRM::new(byte_at(head.tail, 0))));
-    let (modrm, rest) = split_at_most(head.tail, usize::from(ask.modrm));
-    let before_suffix = rest.len().saturating_sub(usize::from(ask.suffix));
-    let (address, rest) = split_at_most(rest, before_suffix.saturating_sub(immediate_length));
-    let (sib, displacement) = split_at_most(address, sib_length);
-    let (immediate, suffix) = split_at_most(rest, immediate_length);
+    let (modrm, rest) = head.tail.split_at(usize::from(ask.modrm));
+    let before_suffix = rest.len() - usize::from(ask.suffix);
+    let (address, rest) = rest.split_at(before_suffix - immediate_length);
+    let (sib, displacement) = address.split_at(sib_length);
+    let (immediate, suffix) = rest.split_at(immediate_length);
     Parts {
         prefixes: head.prefixes,
         escape: head.escape,
@@ -58,6 +61,7 @@ pub fn parts_after<'a>(head: &Head<'a>) -> Parts<'a>
 /// the decoder answers for the bytes.
 ///
 /// For `48 03 44 25 00` and its instruction the displacement is 00 (Intel SDM volume 2, section 2.1).
+#[inline(always)]
 pub fn split_decoded<'a>(
     decoder: &InstDecoder,
     instruction: &Instruction,

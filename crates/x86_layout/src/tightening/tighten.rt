@@ -1,13 +1,16 @@
 //! The shortest encoding of an address. Source: Intel SDM volume 2, sections 2.1.5 and 2.2.1.
 
-ghost use Rattle.std.specs.Prelude.{◌≡◌, ◌≤◌, Bool, length, MatchResult, IfErr, Ok};
+ghost use Rattle.std.specs.Prelude.{◌≡◌, ◌≤◌, ◌<◌, ℕ, Bool, false, length, MatchResult, IfErr, Ok};
 ghost use Rattle.x86_forms.specs.Words.{rows_of, packed};
+ghost use Rattle.x86_operand_types.specs.Operands.{is_memory_slot};
 ghost use Rattle.x86_decode.specs.Decoder.{is_strict};
 ghost use Rattle.x86_decode.specs.declared.instructions.Instruction.{Instruction};
 ghost use Rattle.x86_decode.specs.Grammar.{IsSentence};
+ghost use Rattle.x86_decode.specs.Instruction.{slot_at};
+ghost use Rattle.x86_layout.specs.Parts.Split.{IsSentenceOfSomeChoice};
 ghost use Rattle.x86_layout.specs.Tightening.Least.{least_length, shortest_length, HasShortestLength};
 ghost use Rattle.x86_decode.specs.Answer.{answer_of};
-ghost use Rattle.x86_layout.specs.Tightening.Tighten.{IsTightened, IsAddressed, HasNoRelative, IsSentenceOfSomeChoice, OfFirstSentence, IsNotTightened};
+ghost use Rattle.x86_layout.specs.Tightening.Tighten.{IsTightened, IsAddressed, HasNoRelative, OfFirstSentence, IsNotTightened};
 
 use crate::parts::heads::{head_of, split_at_most};
 use crate::parts::split::parts_after;
@@ -97,6 +100,20 @@ fn least_length(encoding: &[u8]) -> usize
     }
 }
 
+/// Whether an operand is in memory.
+#[inline(always)]
+fn names_memory(instruction: &Instruction) -> bool
+    ensures { result ≡ false → (k : ℕ) → k < 4 →
+        is_memory_slot (slot_at instruction.now k) ≡ false }
+{
+    for i in 0..4 {
+        if instruction.slot(i).is_memory() {
+            return true;
+        }
+    }
+    false
+}
+
 /// How many bytes a shortest relative of an encoding has that was decoded, and the encoding itself where it has none
 /// to seek: the length of what [`tighten`] answers, with no second decode. `instruction` is what the decoder answers
 /// for the bytes.
@@ -108,7 +125,12 @@ pub fn shortest_length(decoder: &InstDecoder, instruction: &Instruction, bytes: 
 {
     laws::lengths();
     laws::answer_is();
-    let (encoding, _) = split_at_most(bytes, instruction.len().to_const() as usize);
+    laws::memory_operands_denote_their_raw_fields();
+    let length = instruction.len().to_const();
+    if !names_memory(instruction) {
+        return length;
+    }
+    let (encoding, _) = split_at_most(bytes, length as usize);
     least_length(encoding) as u64
 }
 

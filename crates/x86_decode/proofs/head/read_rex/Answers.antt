@@ -3,8 +3,8 @@ use Rattle.x86_fields.specs.declared.errors.DecodeError.TheVariants.{ExhaustedIn
 use Rattle.x86_decode.proofs.HeadWalk.{byte_is, none_is, if_wanted, headed_rex}
 use Rattle.x86_decode.proofs.head.read_rex.Goals as goal
 
-pub returns-in_err-next_if : goal.returns-in_err-next_if
-returns-in_err-next_if g c = λ beginning e.
+pub returns-in_err-next_if-clause-headed : goal.returns-in_err-next_if-clause-headed
+returns-in_err-next_if-clause-headed g c = λ beginning e.
     let r : c.from_residual.result ≡ Err ExhaustedInput = search rules in
     let none = c.in_err-next_if.ensures.none_left in
     let now = g.T.Reader.state c.args.reader.now in
@@ -15,8 +15,8 @@ returns-in_err-next_if g c = λ beginning e.
     (λ w. none_is now after none.1 c.in_err-next_if.ensures.refused)
     (λ w. absurd (cc (none.0, w)))))
 
-pub returns : goal.returns
-returns g c = λ beginning e.
+pub returns-clause-headed : goal.returns-clause-headed
+returns-clause-headed g c = λ beginning e.
     let now = g.T.Reader.state c.args.reader.now in
     let after = g.T.Reader.state c.next_if.new.self in
     let next = c.in_ok-next_if.field-0 in

@@ -28,6 +28,6 @@ returns-in-Vex g c =
 
 pub returns-in_default : goal.returns-in_default
 returns-in_default g c =
-    let plain : is_plain (lead_of c.args.byte) ≡ true = ap is_plain (sym c.requires) ∙ plain_not c.args.lead c.in_default.not-Escape c.in_default.not-Vex in
+    let plain : is_plain (lead_of c.args.byte) ≡ true = ap is_plain (sym c.lead_of.ensures) ∙ plain_not c.lead_of.result c.in_default.not-Escape c.in_default.not-Vex in
     ap (λ w. found_word c.args.prefixes.now w (g.T.Reader.state c.args.reader.now)) (c.word.ensures ∙ ap (λ k. g.W.Words.word c.args.rows.now One k c.args.byte) c.column_of-in_default.ensures)
     ∙ found_plain (rows_of (g.W.Words.word c.args.rows.now)) c.args.prefixes.now c.args.byte (g.T.Reader.state c.args.reader.now) plain

@@ -6,7 +6,7 @@ use Rattle.x86_decode.proofs.walk.read_body.Goals as goal
 pub returns-in_err-word : goal.returns-in_err-word
 returns-in_err-word g c =
     let r : c.from_residual.result ≡ Err c.in_err-word.field-0.0 = search rules in
-    rw r record { ready = tt; read = λ strict. refused_after (rows_of (g.W.Words.word c.args.rows.now)) strict c.args.byte c.args.inst.now.prefixes _ _ _ c.in_err-word.ensures }
+    rw r record { blank = tt; read = λ strict. refused_after (rows_of (g.W.Words.word c.args.rows.now)) strict c.args.byte c.args.inst.now.prefixes _ _ _ c.in_err-word.ensures }
 
 pub returns-in-None-clause-read : goal.returns-in-None-clause-read
 returns-in-None-clause-read g c = λ strict. row_after (rows_of (g.W.Words.word c.args.rows.now)) strict c.args.byte c.args.inst.now.prefixes _ _ _ _ _ c.in_ok-word.ensures c.in-None.ensures

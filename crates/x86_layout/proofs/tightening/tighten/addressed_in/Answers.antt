@@ -32,6 +32,11 @@ returns-then-not-head c = record {
       least_without is.whole (memory_in_head is.whole head ∙ c.if-not-head.true);
 }
 
+pub parts_after-parts-requires : goal.parts_after-parts-requires
+parts_after-parts-requires c =
+    let is = c.requires.is in
+    record { strict = c.requires.strict; bytes = c.args.encoding.now; reading = is.reading; whole = is.whole; is = c.head_of-head.ensures c.requires.strict is.reading is.whole }
+
 pub raw_in-raw-requires : goal.raw_in-raw-requires
 raw_in-raw-requires c =
     let is = c.requires.is in
