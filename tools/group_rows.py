@@ -10,9 +10,9 @@ from itertools import product
 from pathlib import Path
 
 GROUPS = Path(__file__).resolve().parent.parent / "crates" / "x86_group_plans" / "specs"
-PLACES = {"M": "Memory", "R": "Register", "MR": "Either"}
+PLACES = {"mem": "Memory", "reg": "Register", "both": "Either"}
 BYTES = {"0": "Zero", "1": "One", "2": "Two", "4": "Four", "8": "Eight", "16": "Sixteen"}
-LASTS = {"Ib": "I8", "Iv": "Iv", "one": "SignedOne", "cl": "Cl"}
+SIZES = {"v": "Of(V)", "y": "Of(Dq)", "vq": "Of(Vq)"}
 UNDECIDED = "63"  # the size that means one that the processor decides
 # the groups that reg chooses, in the order of `RegGroup`
 BY_REG = ["80", "81", "83", "c0", "c1", "c6", "c7", "d0", "d1", "d2", "d3", "f6", "f7", "fe", "ff"]
@@ -39,7 +39,7 @@ class Row:
         return {"Name": True, "by_reg": names[reg % len(names)] != "none", "by_rm": names[rm % len(names)] != "none"}[word]
 
     def holds(self, memory, reg, rm, f2, f3, word, w, r, strict):
-        placed = {"M": memory, "R": not memory, "MR": True}[self.place]
+        placed = {"mem": memory, "reg": not memory, "both": True}[self.place]
         zero = rm == 0 or not strict
         fits = {"Any": True, "ZeroIfStrict": zero}.get(self.rm, self.rm == f"Is({rm})")
         prefixed = {
@@ -64,36 +64,28 @@ def where(words):
     """The form of ModRM, the first and the last reg, and rm."""
     word, *numbers = [words] if isinstance(words, str) else words
     place = word.split("_")[0]
-    if word in PLACES:
-        return place, 0, 7, "Any"
-    ranges = {"_reg": [0, 0], "_regs": [0, -1]}.get(word[len(place) :])
-    if ranges:
-        return place, int(numbers[ranges[0]]), int(numbers[ranges[1]]), "Any"
-    if word == "R_zero":
-        return place, 0, 7, "ZeroIfStrict"
-    reg = (int(numbers[0]), int(numbers[0])) if word == "R_rm" else (0, 7)
-    return place, *reg, f"Is({numbers[-1]})"
+    numbers = [int(number) for number in numbers]
+    first, last = {"reg_from": numbers, "reg_rm": numbers[:1] * 2}.get(word, numbers * 2 if word.endswith("_at") else [0, 7])
+    rm = "ZeroIfStrict" if word == "reg_zero" else f"Is({numbers[-1]})" if word.endswith("_rm") else "Any"
+    return place, first, last, rm
 
 
 def row(line):
     kind, *words = parsed(re.findall(r"[()]|[^\s()]+", line))
     if kind == "otherwise":
-        return Row(line, "refusal", "MR", 0, 7, "Any", "Always", words)
+        return Row(line, "refusal", "both", 0, 7, "Any", "Always", words)
     return Row(line, kind, *where(words[0]), words[1], words[2:])
 
 
 def groups():
-    """The rows of each group."""
-    answer, name = {}, None
+    """The rows of each group by its name: the opcode bytes in the name of its form, or that name."""
+    answer, rows = {}, []
     for line in (GROUPS / "Rows.antt").read_text().splitlines():
-        head = re.fullmatch(r"rows_(\w+) =", line)
+        head = re.match(r"\w+ form\.(?:ModRM_0x|x87_)?(\w+) =", line)
         if head:
-            name = head[1]
-            answer[name] = []
-        elif name and line == "    []":
-            name = None
-        elif name:
-            answer[name].append(row(line.strip().removesuffix(" ∷")))
+            rows = answer.setdefault(head[1], [])
+        for text in re.findall(r"(?:(?<=    )|(?<= = ))((?:read|read_without_66|refusal|otherwise) .*?) ∷", line if head or line.startswith("    ") else ""):
+            rows.append(row(text))
     return answer
 
 
@@ -107,31 +99,33 @@ def checked(name, rows):
         gap = gap or not here
     for at, each in enumerate(rows):
         if at not in reached:
-            sys.exit(f"tables.py: rows_{name}: never reached: {each.text}")
+            sys.exit(f"tables.py: group {name}: never reached: {each.text}")
     if gap:
-        sys.exit(f"tables.py: rows_{name} leaves a gap: end it with `otherwise`")
+        sys.exit(f"tables.py: group {name} leaves a gap: end it with `otherwise`")
     return rows
 
 
-def letters():
-    """The words for operands, each with its letter."""
+def implied():
+    """The words for registers that a name implies."""
     text = (GROUPS / "Words.antt").read_text()
-    kinds = [("letter.", "Letter::"), ("width.", "Width::"), ("slot.", "RegisterSlot::"), ("class.", "RegisterClass::")]
-    for word, meaning in re.findall(r"^(\w+) = (letter\..*)$", text, re.M):
-        for old, new in kinds:
-            meaning = meaning.replace(old, new)
-        letter, *parts = meaning.split()
-        yield word.upper(), f"{letter}({', '.join(parts)})" if parts else letter
+    for word, slot, number, of in re.findall(r"^(\w+) = letter\.Implied slot\.(\w+) (\d+) class\.(\w+)$", text, re.M):
+        yield word.upper(), f"Letter::Implied(RegisterSlot::{slot}, {number}, RegisterClass::{of})"
+
+
+def letter(word):
+    if isinstance(word, list):
+        return f"{word[0]}({word[1]})"
+    return word.upper() if word.islower() or "_" in word else word
 
 
 def size(word):
-    return f"Bytes({word[1]})" if isinstance(word, list) else word.upper()
+    return f"Bytes({word[1]})" if isinstance(word, list) else SIZES[word]
 
 
 def sizes(words):
     """The memory size in the memory form, and in the register form."""
     if isinstance(words, str):
-        return {"size_v": ["V"] * 2, "undecided": [f"Bytes({UNDECIDED})"] * 2}[words]
+        return {"size_v": ["Of(V)"] * 2, "undecided": [f"Bytes({UNDECIDED})"] * 2}[words]
     return [size(word) for word in words[1:]] if words[0] == "sizes" else [f"Bytes({words[1]})"] * 2
 
 
@@ -147,51 +141,48 @@ def entry(each, numbers):
     if each.kind == "refusal":
         return f"refusal!({each.where()}; {' '.join(each.rest)})"
     named, operands, sized = each.rest
-    operands = operands if isinstance(operands, str) else f"{operands[0]}({', '.join(word.upper() for word in operands[1:])})"
+    operands = operands if isinstance(operands, str) else f"{operands[0]}({', '.join(map(letter, operands[1:]))})"
     return f"{each.kind}!({each.where()}; {names(named, numbers)}; {operands}; {'; '.join(sizes(sized))})"
 
 
 def encoding(operands, sized):
     """The words of `encoded!` for a row by reg: rm, and for a second operand one that ModRM doesn't give."""
-    order, last = ("E_I", LASTS[operands[2]]) if len(operands) == 3 else ("E", "Absent")
-    line_sizes = ["V" if word == "V" else BYTES[word[6:-1]] for word in sized]
-    return f"EitherForm {order} B {operands[1][1:].upper()} {last} {' '.join(line_sizes)}"
+    order, last = ("E_I", operands[2].replace("cl", "Cl")) if len(operands) == 3 else ("E", "Absent")
+    line_sizes = [word[3:-1] if word.startswith("Of") else BYTES[word[6:-1]] for word in sized]
+    return f"EitherForm {order} B {operands[1][1]} {last} {' '.join(line_sizes)}"
 
 
 def reg_line(rows, reg, numbers):
     """The line of a reg, if reg alone chooses its row, or if 66 chooses between the two sizes of PUSH."""
     here = [each for each in rows if each.first <= reg <= each.last and each.is_named(reg, 0)]
     first = here[0]
-    if first.kind != "read" or first.place != "MR":
+    if first.kind != "read" or first.place != "both":
         return "rows_alone!()"
     named, operands, sized = first.rest
     number = numbers[named[1 + reg] if named[0] == "by_reg" else named[1]]
     if first.when == "Always":
         return f"line!({number} {encoding(operands, sizes(sized))})"
     if first.when == "With66" and here[1].when == "Always" and [sized, here[1].rest[2]] == [["size", "2"], ["size", "8"]]:
-        return f"line!({number} EitherForm E B {operands[1][1:].upper()} Absent Push Push)"
+        return f"line!({number} EitherForm E B {operands[1][1]} Absent Push Push)"
     return "rows_alone!()"
 
 
 HEAD = """
 use crate::by_reg::{RegLine, line, rows_alone};
+use crate::letters::Letter;
+use crate::letters::Letter::{
+    Cr, Dr, E, Emm, G, Gmm, I8, Iv, Jv, M, RdInReg, SignedOne, StRm, U, U8, Umm, X8,
+};
 use crate::letters::Letters::{Four, One, Three, Two, Zero};
 use crate::letters::RowSize::{Bytes, Of};
-use crate::letters::{Letter, RowSize};
 use crate::rows::Names::{ByReg, ByRm, BySuffix, Name, Own};
 use crate::rows::Rm::{Any, Is, ZeroIfStrict};
 use crate::rows::{Content, GroupRow, Place, When, read, read_without_66, refusal};
-use x86_fields::Width;
+use x86_fields::Width::{B, D, Dq, Q, V, Vq, W, X};
 use x86_plans::AfterOpcode::ByPlan;
 use x86_plans::plans::{Fault, ModrmUse, Moment, PrefixChange, RegisterSlot};
 use x86_plans::{encoded, other};
 use x86_regs::RegisterClass;
-
-const V: RowSize = Of(Width::V);
-
-const Y: RowSize = Of(Width::Dq);
-
-const VQ: RowSize = Of(Width::Vq);
 """
 
 
@@ -199,8 +190,8 @@ def tables(note, numbers):
     """The lines of src/tables.rt."""
     lines = ["//! The rows of the groups: where, the prefixes, and what is there. A name is the number of an opcode, and 0 is none.", "//!"]
     lines += note + HEAD.strip("\n").splitlines()
-    for word, letter in letters():
-        lines += ["", f"const {word}: Letter = {letter};"]
+    for word, register in implied():
+        lines += ["", f"const {word}: Letter = {register};"]
     every = groups()
     for name, rows in every.items():
         lines += ["", f"pub(crate) const ROWS_{name.upper()}: &[GroupRow; {len(rows)}] = &["]

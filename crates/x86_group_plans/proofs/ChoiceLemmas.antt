@@ -21,10 +21,10 @@ use Rattle.x86_group_plans.specs.declared.rows.Content.{Content}
 use Rattle.x86_group_plans.specs.declared.rows.Content.TheVariants.{Refuses}
 use Rattle.x86_group_plans.specs.declared.rows.GroupRow.{GroupRow}
 use Rattle.x86_group_plans.specs.Columns.{Seen, choose, is_there, is_placed, is_rm, is_prefixed, is_named, name_at, named, none, plan_of_row, seen_at}
-use Rattle.x86_group_plans.specs.Words.{R, R_regs, R_zero, by_reg, eight, read, refusal, otherwise, size}
-use Rattle.x86_group_plans.specs.Rows.{rows_0fae}
+use Rattle.x86_group_plans.specs.Words.{reg_from, reg_zero, by_reg, eight, read, refusal, otherwise, size}
 use Rattle.x86_group_plans.specs.Choices.{NamesFence, lfence, mfence, sfence, IsFenceWithRm}
-use Rattle.x86_group_plans.specs.Groups.{group_rows, two_byte_rows, three_byte_rows, group_form_plan, group_plan, operandless, bad_operand}
+use Rattle.x86_group_plans.specs.Groups.{group_form_plan, group_plan, operandless, bad_operand}
+use Rattle.x86_group_plans.specs.Rows.{group_rows, two_byte_rows, three_byte_rows}
 use Rattle.x86_group_plans.proofs.RowLemmas.{chosen_alike, chosen_before, chosen_after, same_if, chosen_by, by_no_choice, held_by_choice}
 
 -- ---- the last rows of 0F AE
@@ -33,10 +33,10 @@ abbrev fences : List ℕ
 fences = eight none none none none none LFENCE MFENCE SFENCE
 
 abbrev fence_row : GroupRow
-fence_row = read R_zero when.NoPrefix (by_reg none none none none none LFENCE MFENCE SFENCE) Zero (size 0)
+fence_row = read reg_zero when.NoPrefix (by_reg none none none none none LFENCE MFENCE SFENCE) Zero (size 0)
 
 abbrev fence_refusal : GroupRow
-fence_refusal = refusal (R_regs 5 7) when.NoPrefix BadOperand AtModRM
+fence_refusal = refusal (reg_from 5 7) when.NoPrefix BadOperand AtModRM
 
 abbrev last_rows : List GroupRow
 last_rows = fence_refusal ∷ otherwise BadOpcode AtModRM ∷ []
@@ -107,9 +107,10 @@ module _ (seen : Seen) where
   -- ---- the rows before them
 
   abbrev before : List GroupRow
-  before = take 14 rows_0fae
+  before = take 14 (group_rows form.ModRM_0x0fae)
 
-  choices_of_0fae : (choose rows_0fae strictly ≡ choose rows_0fae loosely) ⊎ HasFence seen
+  choices_of_0fae : (choose (group_rows form.ModRM_0x0fae) strictly ≡ choose (group_rows form.ModRM_0x0fae) loosely) ⊎ HasFence seen
+  unfolding group_rows two_byte_rows
   choices_of_0fae = elim (tail_other (seen.rm == 0) (holds_but_rm seen) refl refl) [
     | inl e ↦ inl (chosen_before by_no_choice strictly loosely (λ row h. held_by_choice row seen true false h) before (fence_row ∷ last_rows) refl e)
     | inr h ↦ inr h
@@ -160,18 +161,19 @@ module _ (strict : Bool) (seen : Seen) (fence : HasFence seen) where
     | inr e ↦ rw (prefix_absent row.when chosen fence_chosen e) (fifth_absent (is_placed row.place chosen) (nat_le row.first seen.reg) (nat_le seen.reg row.last) (is_rm row.rm chosen) (is_named row.content chosen))
   ]
 
-  from_fences : choose rows_0fae chosen ≡ choose (fence_row ∷ last_rows) chosen
-  from_fences = chosen_after is_no_fence chosen absent (take 14 rows_0fae) (fence_row ∷ last_rows) refl
+  from_fences : choose (group_rows form.ModRM_0x0fae) chosen ≡ choose (fence_row ∷ last_rows) chosen
+  unfolding group_rows two_byte_rows
+  from_fences = chosen_after is_no_fence chosen absent (take 14 (group_rows form.ModRM_0x0fae)) (fence_row ∷ last_rows) refl
 
 row_held : (memory f2 f3 word from named : Bool) → memory ≡ false → f2 ≡ false → f3 ≡ false → word ≡ false → from ≡ true → named ≡ true → (to : Bool) → to ≡ true → (not memory && (from && (to && (true && ((not f2 && (not f3 && not word)) && named))))) ≡ true
 row_held memory f2 f3 word from named a b c d e f to g = rw (a, b, c, d, e, f, g) refl
 
-fence_content : (seen : Seen) → HasFence seen → choose rows_0fae (loosely seen) ≡ fence_row.content
+fence_content : (seen : Seen) → HasFence seen → choose (group_rows form.ModRM_0x0fae) (loosely seen) ≡ fence_row.content
 fence_content seen h =
     from_fences false seen h
     ∙ ap (λ b. if b then fence_row.content else choose last_rows (loosely seen)) (row_held seen.memory seen.f2 seen.f3 seen.operand_size (nat_le 0 seen.reg) (not (name_at fences seen.reg == 0)) h.register h.no_f2 h.no_f3 h.no_66 (le-leb 0 seen.reg (omega arith)) h.named (nat_le seen.reg 7) h.at_most_7)
 
-fence_refused : (seen : Seen) → HasFence seen → choose rows_0fae (strictly seen) ≡ Refuses BadOperand AtModRM
+fence_refused : (seen : Seen) → HasFence seen → choose (group_rows form.ModRM_0x0fae) (strictly seen) ≡ Refuses BadOperand AtModRM
 fence_refused seen h =
     from_fences true seen h
     ∙ ap (λ b. if b then fence_row.content else choose last_rows (strictly seen)) (strict_absent seen h.other_rm)

@@ -15,7 +15,7 @@ use Rattle.x86_group_plans.specs.declared.letters.RowSize.TheVariants.{Bytes, Of
 use Rattle.x86_group_plans.specs.declared.rows.Content.{Content}
 use Rattle.x86_group_plans.specs.declared.rows.Content.TheVariants.{Reads, Refuses}
 use Rattle.x86_group_plans.specs.declared.rows.GroupRow.{GroupRow}
-use Rattle.x86_group_plans.specs.Groups.{group_rows, two_byte_rows, three_byte_rows}
+use Rattle.x86_group_plans.specs.Rows.{group_rows, two_byte_rows, three_byte_rows}
 use Rattle.x86_group_plans.proofs.RowLemmas.{is_register, no_rm_names, rm_free}
 
 abbrev pub letters_list : Letters → List Letter
@@ -41,9 +41,9 @@ small_bytes (Of w) = true
 
 -- how many bytes of immediate a letter has at most
 abbrev pub most : Letter → ℕ
-most letter.Ib = 1
-most letter.Ub = 1
-most letter.Xb = 1
+most letter.I8 = 1
+most letter.U8 = 1
+most letter.X8 = 1
 most letter.Iv = 4
 most letter.Jv = 4
 most l = 0
@@ -63,14 +63,14 @@ rows_fit f = refl
 -- ---- the memory form
 
 abbrev pub rm_free_letter : Letter → Bool
-rm_free_letter letter.St = false
+rm_free_letter letter.StRm = false
 rm_free_letter letter.RdInReg = false
 rm_free_letter l = true
 
 abbrev pub is_memory_letter : Letter → Bool
 is_memory_letter (letter.E w) = true
 is_memory_letter letter.M = true
-is_memory_letter letter.Q = true
+is_memory_letter letter.Emm = true
 is_memory_letter l = false
 
 -- it refuses, or has a memory operand and nothing that rm chooses

@@ -20,7 +20,8 @@ use Rattle.x86_group_plans.specs.declared.letters.RowSize.{RowSize}
 use Rattle.x86_group_plans.specs.declared.rows.Names.TheVariants.{Name}
 use Rattle.x86_group_plans.specs.declared.rows.Content.TheVariants as content
 use Rattle.x86_group_plans.specs.Columns.{plan_of_row}
-use Rattle.x86_group_plans.specs.Groups.{is_f3_alone, fault_f30f3af0, group_fault, group_form_plan, group_rows, group_record}
+use Rattle.x86_group_plans.specs.Groups.{is_f3_alone, fault_f30f3af0, group_fault, group_form_plan, group_record}
+use Rattle.x86_group_plans.specs.Rows.{group_rows}
 use Rattle.x86_group_plans.proofs.FactLemmas.{is_8f, may_have_gap}
 use Rattle.x86_group_plans.proofs.PlanLemmas.{group_passes}
 

@@ -35,7 +35,8 @@ use Rattle.x86_group_plans.specs.declared.rows.Content.{Content}
 use Rattle.x86_group_plans.specs.declared.rows.Content.TheVariants.{Reads, Refuses}
 use Rattle.x86_group_plans.specs.declared.rows.GroupRow.{GroupRow}
 use Rattle.x86_group_plans.specs.Columns.{Seen, choose, is_there, seen_at, distance_of, letter_encoding, operand_encodings, row_bytes, verdict_of, opcode_of, named, name_at, plan_of_row}
-use Rattle.x86_group_plans.specs.Groups.{group_form_plan, group_rows}
+use Rattle.x86_group_plans.specs.Groups.{group_form_plan}
+use Rattle.x86_group_plans.specs.Rows.{group_rows}
 use Rattle.x86_group_plans.proofs.RowLemmas.{AreAlike, chosen_has, chosen_alike, held_in_memory, is_register, no_rm_names, rm_free, row_absent}
 use Rattle.x86_group_plans.proofs.FactLemmas.{letters_list, may_have_gap, most, small_bytes, fits, row_fits, rows_fit, rm_free_letter, is_memory_letter, in_memory, row_in_memory, rows_rm_free, rows_in_memory}
 
@@ -118,10 +119,10 @@ module _ (p q : Prefixes) (m n : ℕ) (h : SamePrefixes p q) where
   encoding_alike : (l : Letter) → rm_free_letter l ≡ true → letter_encoding l p m ≡ letter_encoding l q n
   encoding_alike (letter.E w) e = rw (class_alike w p q h) refl
   encoding_alike (letter.G w) e = rw (class_alike w p q h) refl
-  encoding_alike (letter.R w) e = rw (class_alike w p q h) refl
+  encoding_alike (letter.U w) e = rw (class_alike w p q h) refl
   encoding_alike letter.Iv e = ap immediate_of (class_alike width.V p q h)
   encoding_alike letter.Jv e = ap distance_of (class_alike width.V p q h)
-  encoding_alike letter.St e = absurd (true≢false (sym e))
+  encoding_alike letter.StRm e = absurd (true≢false (sym e))
   encoding_alike letter.RdInReg e = absurd (true≢false (sym e))
   encoding_alike l e = refl
 

@@ -20,6 +20,7 @@ use Rattle.x86_group_plans.specs.declared.rows.Content.TheVariants.{Reads, Refus
 use Rattle.x86_group_plans.specs.declared.rows.GroupRow.{GroupRow}
 use Rattle.x86_group_plans.specs.Columns.{choose, named, opcode_of, seen_at, plan_of_row}
 use Rattle.x86_group_plans.specs.Groups.{rows_plan}
+use Rattle.x86_group_plans.specs.Rows.{group_rows}
 use Rattle.x86_group_plans.specs.ByReg.{Chooses, has_either_form, place_of, reg_plan, reg_rows}
 use Rattle.x86_group_plans.proofs.RowLemmas.{chosen_has}
 
@@ -48,6 +49,7 @@ below_8 P a b c d e f g h (suc (suc (suc (suc (suc (suc (suc (suc k)))))))) low 
 
 -- PUSH has two rows, between which 66 chooses
 push_by : (word memory : Bool) (d : RegLine) (m n : ℕ) (p : Prefixes) → reg_field m ≡ 6 → p.operand_size ≡ word → is_memory m ≡ memory → plan_of (line_at 14 6 d).encoding n (named (line_at 14 6 d).number) p m ≡ reg_plan group.FF p m
+unfolding group_rows
 push_by true true d m n p r w e = rw (r, w, e) (rw e refl)
 push_by true false d m n p r w e = rw (r, w, e) (rw e refl)
 push_by false true d m n p r w e = rw (r, w, e) (rw e refl)
@@ -55,10 +57,12 @@ push_by false false d m n p r w e = rw (r, w, e) (rw e refl)
 
 -- at JMP the rows of CALLF are looked at first, which are there in the memory form alone
 jump_by : (memory : Bool) (d : RegLine) (m n : ℕ) (p : Prefixes) → reg_field m ≡ 4 → is_memory m ≡ memory → plan_of (line_at 14 4 d).encoding n (named (line_at 14 4 d).number) p m ≡ reg_plan group.FF p m
+unfolding group_rows
 jump_by true d m n p r e = rw (r, e) (rw e refl)
 jump_by false d m n p r e = rw (r, e) (rw e refl)
 
 cells : (g : RegGroup) (d : RegLine) (k : ℕ) → k < 8 → Cell g d k
+unfolding group_rows
 cells group.C6 d = below_8 (Cell group.C6 d) (λ m r is n p. rw (sized, r) refl) (λ m r is n p. absurd (true≢false (sym is))) (λ m r is n p. absurd (true≢false (sym is))) (λ m r is n p. absurd (true≢false (sym is))) (λ m r is n p. absurd (true≢false (sym is))) (λ m r is n p. absurd (true≢false (sym is))) (λ m r is n p. absurd (true≢false (sym is))) (λ m r is n p. absurd (true≢false (sym is)))
 cells group.C7 d = below_8 (Cell group.C7 d) (λ m r is n p. rw (sized, r) refl) (λ m r is n p. absurd (true≢false (sym is))) (λ m r is n p. absurd (true≢false (sym is))) (λ m r is n p. absurd (true≢false (sym is))) (λ m r is n p. absurd (true≢false (sym is))) (λ m r is n p. absurd (true≢false (sym is))) (λ m r is n p. absurd (true≢false (sym is))) (λ m r is n p. absurd (true≢false (sym is)))
 cells group.FE d = below_8 (Cell group.FE d) (λ m r is n p. rw (sized, r) (rw r refl)) (λ m r is n p. rw (sized, r) (rw r refl)) (λ m r is n p. absurd (true≢false (sym is))) (λ m r is n p. absurd (true≢false (sym is))) (λ m r is n p. absurd (true≢false (sym is))) (λ m r is n p. absurd (true≢false (sym is))) (λ m r is n p. absurd (true≢false (sym is))) (λ m r is n p. absurd (true≢false (sym is)))
@@ -108,10 +112,12 @@ own_free (Reads names operands memory register change) a b p m h = rw (own_names
 own_free (Refuses fault moment) a b p m h = refl
 
 rows_no_own : (g : RegGroup) → list_all (λ row. no_own_content row.content) (reg_rows g) ≡ true
+unfolding group_rows
 rows_no_own group.G80 = refl
 rows_no_own g = refl
 
 rows_choice : (g : RegGroup) (strict : Bool) (p : Prefixes) (m : ℕ) → choose (reg_rows g) (seen_at strict p m) ≡ choose (reg_rows g) (seen_at false p m)
+unfolding group_rows
 rows_choice group.G80 strict p m = refl
 rows_choice g strict p m = refl
 

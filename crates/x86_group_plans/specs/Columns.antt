@@ -129,21 +129,21 @@ distance_of c = encoding.I32
 abbrev pub letter_encoding : Letter → Prefixes → ℕ → OperandEncoding
 letter_encoding (letter.E w) p m = encoding.E (class_of w p)
 letter_encoding (letter.G w) p m = encoding.G (class_of w p)
-letter_encoding (letter.R w) p m = encoding.U (class_of w p)
+letter_encoding (letter.U w) p m = encoding.U (class_of w p)
 letter_encoding letter.M p m = encoding.M
-letter_encoding letter.P p m = encoding.Gmm
-letter_encoding letter.Q p m = encoding.Emm
-letter_encoding letter.N p m = encoding.Umm
-letter_encoding letter.C p m = encoding.G class.CR
-letter_encoding letter.D p m = encoding.G class.DR
-letter_encoding letter.Ib p m = encoding.I8
-letter_encoding letter.Ub p m = encoding.U8
-letter_encoding letter.Xb p m = encoding.X8
+letter_encoding letter.Gmm p m = encoding.Gmm
+letter_encoding letter.Emm p m = encoding.Emm
+letter_encoding letter.Umm p m = encoding.Umm
+letter_encoding letter.Cr p m = encoding.G class.CR
+letter_encoding letter.Dr p m = encoding.G class.DR
+letter_encoding letter.I8 p m = encoding.I8
+letter_encoding letter.U8 p m = encoding.U8
+letter_encoding letter.X8 p m = encoding.X8
 letter_encoding letter.Iv p m = immediate_of (v_class p)
 letter_encoding letter.Jv p m = distance_of (v_class p)
-letter_encoding letter.One p m = encoding.ConstantI8 (pos 1)
+letter_encoding letter.SignedOne p m = encoding.ConstantI8 (pos 1)
 letter_encoding (letter.Implied at n c) p m = encoding.Fixed at (reg_spec n c)
-letter_encoding letter.St p m = encoding.Fixed slot.Rm (reg_spec (rm_field m) class.ST)
+letter_encoding letter.StRm p m = encoding.Fixed slot.Rm (reg_spec (rm_field m) class.ST)
 letter_encoding letter.RdInReg p m = encoding.Fixed slot.Reg (reg_spec (rm_number m p) class.D)
 
 abbrev pub operand_encodings : Letters → Prefixes → ℕ → OperandEncodings

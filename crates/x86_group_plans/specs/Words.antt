@@ -36,40 +36,40 @@ abbrev pub at : Place → ℕ → ℕ → Rm → Where
 at place first last rm = record { place = place; first = first; last = last; rm = rm }
 
 -- the memory forms, the register forms, and both, at every reg
-abbrev pub M : Where
-M = at Memory 0 7 Any
+abbrev pub mem : Where
+mem = at Memory 0 7 Any
 
-abbrev pub R : Where
-R = at Register 0 7 Any
+abbrev pub reg : Where
+reg = at Register 0 7 Any
 
-abbrev pub MR : Where
-MR = at Either 0 7 Any
+abbrev pub both : Where
+both = at Either 0 7 Any
 
 -- at one reg
-abbrev pub M_reg : ℕ → Where
-M_reg reg = at Memory reg reg Any
+abbrev pub mem_at : ℕ → Where
+mem_at n = at Memory n n Any
 
-abbrev pub R_reg : ℕ → Where
-R_reg reg = at Register reg reg Any
+abbrev pub reg_at : ℕ → Where
+reg_at n = at Register n n Any
 
-abbrev pub MR_reg : ℕ → Where
-MR_reg reg = at Either reg reg Any
+abbrev pub both_at : ℕ → Where
+both_at n = at Either n n Any
 
 -- at these and what is between
-abbrev pub R_regs : ℕ → ℕ → Where
-R_regs first last = at Register first last Any
+abbrev pub reg_from : ℕ → ℕ → Where
+reg_from first last = at Register first last Any
 
 -- at one reg and one rm
-abbrev pub R_rm : ℕ → ℕ → Where
-R_rm reg rm = at Register reg reg (Is rm)
+abbrev pub reg_rm : ℕ → ℕ → Where
+reg_rm n rm = at Register n n (Is rm)
 
 -- at one rm and every reg
-abbrev pub R_any_rm : ℕ → Where
-R_any_rm rm = at Register 0 7 (Is rm)
+abbrev pub reg_any_rm : ℕ → Where
+reg_any_rm rm = at Register 0 7 (Is rm)
 
 -- with rm 0, and unless the choice is strict with any other
-abbrev pub R_zero : Where
-R_zero = at Register 0 7 ZeroIfStrict
+abbrev pub reg_zero : Where
+reg_zero = at Register 0 7 ZeroIfStrict
 
 -- ---- names
 
@@ -83,97 +83,6 @@ abbrev pub by_rm : ℕ → ℕ → ℕ → ℕ → ℕ → ℕ → ℕ → ℕ �
 by_rm a b c d e f g h = ByRm (eight a b c d e f g h)
 
 -- ---- operands
-
-abbrev pub Eb : Letter
-Eb = letter.E width.B
-
-abbrev pub Ew : Letter
-Ew = letter.E width.W
-
-abbrev pub Eq : Letter
-Eq = letter.E width.Q
-
-abbrev pub Ev : Letter
-Ev = letter.E width.V
-
-abbrev pub Ey : Letter
-Ey = letter.E width.Dq
-
--- W under 66, else Q
-abbrev pub Evq : Letter
-Evq = letter.E width.Vq
-
-abbrev pub Wx : Letter
-Wx = letter.E width.X
-
-abbrev pub Gd : Letter
-Gd = letter.G width.D
-
-abbrev pub Gv : Letter
-Gv = letter.G width.V
-
-abbrev pub Vx : Letter
-Vx = letter.G width.X
-
-abbrev pub Rw : Letter
-Rw = letter.R width.W
-
-abbrev pub Rd : Letter
-Rd = letter.R width.D
-
-abbrev pub Rq : Letter
-Rq = letter.R width.Q
-
-abbrev pub Rv : Letter
-Rv = letter.R width.V
-
-abbrev pub Ry : Letter
-Ry = letter.R width.Dq
-
-abbrev pub Ux : Letter
-Ux = letter.R width.X
-
-abbrev pub Mem : Letter
-Mem = letter.M
-
-abbrev pub Pq : Letter
-Pq = letter.P
-
-abbrev pub Qq : Letter
-Qq = letter.Q
-
-abbrev pub Nq : Letter
-Nq = letter.N
-
-abbrev pub Cq : Letter
-Cq = letter.C
-
-abbrev pub Dq : Letter
-Dq = letter.D
-
-abbrev pub Ib : Letter
-Ib = letter.Ib
-
-abbrev pub Ub : Letter
-Ub = letter.Ub
-
-abbrev pub Xb : Letter
-Xb = letter.Xb
-
-abbrev pub Iv : Letter
-Iv = letter.Iv
-
-abbrev pub Jv : Letter
-Jv = letter.Jv
-
-abbrev pub one : Letter
-one = letter.One
-
-abbrev pub st_rm : Letter
-st_rm = letter.St
-
-abbrev pub rd_in_reg : Letter
-rd_in_reg = letter.RdInReg
 
 -- registers that the name implies, in the slot of reg
 abbrev pub cl : Letter
@@ -253,4 +162,4 @@ refusal at when fault moment = record { place = at.place; first = at.first; last
 
 -- wherever no row before it is
 abbrev pub otherwise : Fault → Moment → GroupRow
-otherwise fault moment = refusal MR Always fault moment
+otherwise fault moment = refusal both Always fault moment

@@ -16,35 +16,35 @@ pub enum Letter {
     /// The register of reg.
     G(Width),
     /// The register of rm, where a row is of register forms alone.
-    R(Width),
+    U(Width),
     /// Memory, where a row is of memory forms alone.
     M,
     /// The mm register of reg.
-    P,
+    Gmm,
     /// The mm register of rm, or memory.
-    Q,
+    Emm,
     /// The mm register of rm.
-    N,
+    Umm,
     /// The control register of reg.
-    C,
+    Cr,
     /// The debug register of reg.
-    D,
+    Dr,
     /// A signed byte.
-    Ib,
+    I8,
     /// An unsigned byte.
-    Ub,
+    U8,
     /// An unsigned byte as a number of 16 bits.
-    Xb,
+    X8,
     /// A number of v, at most 4 bytes.
     Iv,
     /// A distance of v, at most 4 bytes.
     Jv,
     /// 1, which no byte spells.
-    One,
+    SignedOne,
     /// A register that the name implies: its slot, number and class.
     Implied(RegisterSlot, u8, RegisterClass),
     /// st(rm).
-    St,
+    StRm,
     /// The register of 4 bytes of rm, in the slot of reg.
     RdInReg,
 }
@@ -90,24 +90,24 @@ impl Letter {
         match self {
             Letter::E(width) => OperandEncoding::E(class_of(width, prefixes)),
             Letter::G(width) => OperandEncoding::G(class_of(width, prefixes)),
-            Letter::R(width) => OperandEncoding::U(class_of(width, prefixes)),
+            Letter::U(width) => OperandEncoding::U(class_of(width, prefixes)),
             Letter::M => OperandEncoding::M,
-            Letter::P => OperandEncoding::Gmm,
-            Letter::Q => OperandEncoding::Emm,
-            Letter::N => OperandEncoding::Umm,
-            Letter::C => OperandEncoding::G(RegisterClass::CR),
-            Letter::D => OperandEncoding::G(RegisterClass::DR),
-            Letter::Ib => OperandEncoding::I8,
-            Letter::Ub => OperandEncoding::U8,
-            Letter::Xb => OperandEncoding::X8,
+            Letter::Gmm => OperandEncoding::Gmm,
+            Letter::Emm => OperandEncoding::Emm,
+            Letter::Umm => OperandEncoding::Umm,
+            Letter::Cr => OperandEncoding::G(RegisterClass::CR),
+            Letter::Dr => OperandEncoding::G(RegisterClass::DR),
+            Letter::I8 => OperandEncoding::I8,
+            Letter::U8 => OperandEncoding::U8,
+            Letter::X8 => OperandEncoding::X8,
             Letter::Iv => immediate_of(prefixes.v_class()),
             Letter::Jv => distance_of(prefixes.v_class()),
-            Letter::One => OperandEncoding::ConstantI8(1),
+            Letter::SignedOne => OperandEncoding::ConstantI8(1),
             Letter::Implied(slot, num, class) => OperandEncoding::Fixed(
                 slot,
                 RegSpec::of(num, class),
             ),
-            Letter::St => {
+            Letter::StRm => {
                 let register = RegSpec::of(modrm.rm_field(), RegisterClass::ST);
                 OperandEncoding::Fixed(RegisterSlot::Rm, register)
             }

@@ -7,7 +7,8 @@
 ghost use Rattle.std.specs.Prelude.{◌≡◌, Bool, true};
 ghost use Rattle.x86_forms.specs.Groups.{is_group};
 ghost use Rattle.x86_plans.specs.Asks.{ask_of, record_at};
-ghost use Rattle.x86_group_plans.specs.Groups.{fault_f30f3af0, is_f3_alone, group_form_plan, three_byte_rows, two_byte_rows, group_rows, group_fault, group_modrm, group_plan, group_record};
+ghost use Rattle.x86_group_plans.specs.Rows.{three_byte_rows, two_byte_rows, group_rows};
+ghost use Rattle.x86_group_plans.specs.Groups.{fault_f30f3af0, is_f3_alone, group_form_plan, group_fault, group_modrm, group_plan, group_record};
 
 mod by_reg;
 mod letters;
@@ -57,7 +58,7 @@ pub fn group_modrm(form: Form) -> ModrmUse
 }
 
 /// Maps 0F38 and 0F3A.
-#[tactic(auto, unfolding(crate::specs::Groups::three_byte_rows))]
+#[tactic(auto, unfolding(crate::specs::Rows::three_byte_rows))]
 fn three_byte_rows(form: Form) -> &'static [GroupRow]
     ensures { result.now ≡ three_byte_rows form }
 {
@@ -75,7 +76,7 @@ fn three_byte_rows(form: Form) -> &'static [GroupRow]
 }
 
 /// Map 0F.
-#[tactic(auto, unfolding(crate::specs::Groups::two_byte_rows))]
+#[tactic(auto, unfolding(crate::specs::Rows::two_byte_rows))]
 fn two_byte_rows(form: Form) -> &'static [GroupRow]
     ensures { result.now ≡ two_byte_rows form }
 {
@@ -87,10 +88,10 @@ fn two_byte_rows(form: Form) -> &'static [GroupRow]
         Form::ModRM_0x0f12 => tables::ROWS_0F12,
         Form::ModRM_0x0f16 => tables::ROWS_0F16,
         Form::ModRM_0x0f18 => tables::ROWS_0F18,
-        Form::Rq_Cq_0 => tables::ROWS_0F20,
-        Form::Cq_Rq_0 => tables::ROWS_0F22,
-        Form::Rq_Dq_0 => tables::ROWS_0F21,
-        Form::Dq_Rq_0 => tables::ROWS_0F23,
+        Form::Rq_Cq_0 => tables::ROWS_RQ_CQ_0,
+        Form::Cq_Rq_0 => tables::ROWS_CQ_RQ_0,
+        Form::Rq_Dq_0 => tables::ROWS_RQ_DQ_0,
+        Form::Dq_Rq_0 => tables::ROWS_DQ_RQ_0,
         Form::ModRM_0x0f71 => tables::ROWS_0F71,
         Form::ModRM_0x0f72 => tables::ROWS_0F72,
         Form::ModRM_0x0f73 => tables::ROWS_0F73,
@@ -105,7 +106,7 @@ fn two_byte_rows(form: Form) -> &'static [GroupRow]
 }
 
 /// The rows of a form.
-#[tactic(auto, unfolding(crate::specs::Groups::group_rows))]
+#[tactic(auto, unfolding(crate::specs::Rows::group_rows))]
 fn group_rows(form: Form) -> &'static [GroupRow]
     ensures { result.now ≡ group_rows form }
 {

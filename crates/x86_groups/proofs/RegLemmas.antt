@@ -13,13 +13,13 @@ use Rattle.x86_plans.specs.declared.plans.ModrmUse.TheVariants.{EitherForm}
 use Rattle.x86_operands.specs.PlanSteps.{read_modrm, read_plan, record_step}
 use Rattle.x86_forms.specs.Words.{carried}
 use Rattle.x86_operands.specs.FormEncodings.{group_form}
-use Rattle.x86_group_plans.specs.Groups.{group_fault, group_form_plan, group_modrm, group_plan, group_record, group_rows, rows_plan}
+use Rattle.x86_group_plans.specs.Groups.{group_fault, group_form_plan, group_modrm, group_plan, group_record, rows_plan}
+use Rattle.x86_group_plans.specs.Rows.{group_rows}
 use Rattle.x86_group_plans.specs.ByReg.{reg_plan, reg_rows}
 use Rattle.x86_group_plans.proofs.RegLemmas.{rows_reg_plan}
 use Rattle.x86_plans.specs.declared.plans.Plan.{Plan}
 
 form_rows : (g : RegGroup) → group_rows (group_form g) ≡ reg_rows g
-unfolding group_rows
 form_rows group.G80 = refl
 form_rows g = refl
 
