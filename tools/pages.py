@@ -36,7 +36,7 @@ TOP = Path(__file__).resolve().parent.parent
 CRATE = re.search(r"^PROGRAM_CRATE=(\w+)$", (TOP / "tools" / "program.sh").read_text(), re.M)[1]
 PROGRAM = Path(os.environ.get("PROGRAM") or TOP / "crates" / CRATE / "out" / CRATE).resolve()
 SECONDS = 60
-CODE = [*(f"crates/x86_vectors/src/{name}.rt" for name in ("guide_tests", "rebuilder", "two_buffers")), "examples/own", "tools/own_test"]
+CODE = [*(f"crates/x86_vectors/src/{name}.rt" for name in ("guide_tests", "rebuilder", "two_buffers")), "examples/own"]
 TESTS = ["crates/x86_vectors/src", "crates/x86_runs/src"]
 QUOTING = ["docs/ROWS.md", "docs/ENCODING.md", "docs/ARCHITECTURE.md", "CONTRIBUTING.md"]
 TOOLS = ["objcopy", "objdump", "nm", "xxd", "hexdump", "od", "paste", "xargs", "perl"]
