@@ -8,7 +8,6 @@ processors of AMD do ("another length"). Anything else is unexplained.
 """
 
 import collections
-import functools
 import re
 import subprocess
 import sys
@@ -53,6 +52,9 @@ KINDS = ["same", "one refuses", "a prefix apart", "another length", "another nam
 
 # The bytes from a place, and NOPs up to the next one: so many that any instruction ends before it.
 ROOM = 48
+
+# How many lines are held at once.
+BLOCK = 100000
 
 
 def run_at(code, at):
@@ -115,15 +117,15 @@ def may_differ(ours, lengths, run, row):
     return is_of("(?:e8|e9|0f8.)/.", row) and 0x66 in run and lengths[0] == lengths[1] + 2
 
 
-def dumped(code, work):
-    """What objdump answers at each place at which it begins a line: the length and the name, and whether a REX was a separate line before it."""
+def dumped(code, work, first=0):
+    """What objdump answers at each place at which it begins a line, counted from `first`: the length and the name, and whether a REX was a separate
+    line before it."""
     (work / "raw").write_bytes(code)
     words = "objdump -D -b binary -m i386:x86-64 -M intel -w -z --insn-width=24".split()
-    dump = subprocess.run([*words, work / "raw"], stdout=subprocess.PIPE, text=True, check=True).stdout
-    found = re.findall(r"^\s*([0-9a-f]+):\t([0-9a-f ]+?)\s*\t(.*)", dump, re.M)
+    dump = subprocess.run([*words, work / "raw"], stdout=subprocess.PIPE, text=True).stdout
     answers = {}
-    for place, code, text in reversed(found):
-        place, length, name = int(place, 16), len(code.split()), name_of(text)
+    for place, code, text in reversed(re.findall(r"^\s*([0-9a-f]+):\t([0-9a-f ]+?)\s*\t(.*)", dump, re.M)):
+        place, length, name = first + int(place, 16), len(code.split()), name_of(text)
         following = answers.get(place + length)
         answers[place] = (length + following[0], following[1], True) if name.startswith("rex") and following else (length, name, False)
     return answers
@@ -154,45 +156,58 @@ def kind_of(code, place, ours, answer):
 
 
 class Judge:
-    """Judges sweeps over some bytes."""
+    """Judges lines of sweeps over some bytes, beside what objdump answers of them from one place up to another."""
 
-    def __init__(self, code, work):
-        self.code, self.work, self.theirs = code, work, dumped(code, work)
+    def __init__(self, code, work, first=0, last=None):
+        self.code, self.work, self.theirs, self.known = code, work, dumped(code[first:last], work, first), {}
 
     def look_at(self, places):
         """Has objdump begin at places at which it began no line: at the bytes from each, with NOPs after them."""
         found = dumped(b"".join(self.code[place : place + 16].ljust(ROOM, b"\x90") for place in places), self.work)
         self.theirs |= {place: found.get(ROOM * k, (0, "(none)", False)) for k, place in enumerate(places)}
 
-    @functools.cache
-    def read(self, line):
-        """Of a line: its place, the place after it, what is so of it, and what of it has no reason."""
-        place, error, length, name = LINE.fullmatch(line).groups()
+    def read(self, form):
+        """Of the parts of a line: its place, the place after it, what is so of it, and what of it has no reason."""
+        place, error, length, name = form.groups()
         place, length = int(place), int(length or 1)
         return place, place + length, *kind_of(self.code, place, (error, length, name), self.theirs[place])
 
-    def judge(self, sweep):
-        """How many lines of a sweep are of each kind, and what has no reason with how often."""
-        counts, unlike, end = dict.fromkeys(KINDS, 0), collections.Counter(), 0
-        *lines, rest = sweep.split("\n")
-        forms = {line: LINE.fullmatch(line) for line in lines}
-        places = {int(form[1]) for form in forms.values() if form}
-        if places - self.theirs.keys():
-            self.look_at(sorted(places - self.theirs.keys()))
+    def learn(self, lines):
+        """Reads the lines that weren't read before."""
+        forms = {line: LINE.fullmatch(line) for line in lines if line not in self.known}
+        places = {int(form[1]) for form in forms.values() if form} - self.theirs.keys()
+        if places:
+            self.look_at(sorted(places))
+        self.known |= {line: form and self.read(form) for line, form in forms.items()}
+
+    def count(self, lines, end, counts, unlike):
+        """Counts how many lines are of each kind, and what has no reason, where the line before ends at `end`. Returns where the last one ends."""
+        self.learn(lines)
         for line in lines:
-            if forms[line] is None:
+            if self.known[line] is None:
                 unlike[f"the line {line!r}", "a line of a sweep"] += 1
                 continue
-            place, after, kind, pair = self.read(line)
+            place, after, kind, pair = self.known[line]
             if place != end:
                 unlike["a line at another place", "a line where the one before ends"] += 1
             counts[kind] += 1
             end = after
             if pair is not None:
                 unlike[pair] += 1
-        if end != len(self.code) or rest:
-            unlike[f"an end of the sweep at {end}", f"an end of the bytes at {len(self.code)}"] += 1
-        return counts, unlike
+        return end
+
+
+def judged(code, sweep, work, judge=None):
+    """How many lines of a sweep are of each kind, and what has no reason with how often: by one judge, or by one for each block of lines."""
+    counts, unlike, end = dict.fromkeys(KINDS, 0), collections.Counter(), 0
+    *lines, rest = sweep.split("\n")
+    for at in range(0, len(lines), BLOCK):
+        block = lines[at : at + BLOCK]
+        last = max((int(line.split(" ")[0]) for line in block if re.match(r"\d+ ", line)), default=end)
+        end = (judge or Judge(code, work, end, last + 16)).count(block, end, counts, unlike)
+    if end != len(code) or rest:
+        unlike[f"an end of the sweep at {end}", f"an end of the bytes at {len(code)}"] += 1
+    return counts, unlike
 
 
 def sweep_of(program, code):
@@ -208,10 +223,11 @@ def self_test(program, code):
     there = [kind for kind in kinds if kinds[kind] != text]
     with tempfile.TemporaryDirectory() as work:
         judge = Judge(code, Path(work))
-        if status != 0 or judge.judge(text)[1]:
-            report(judge.judge(text)[1])
+        unlike = judged(code, text, Path(work), judge)[1]
+        if status != 0 or unlike:
+            report(unlike)
             sys.exit("compare: the sweep without a planted difference isn't explained by objdump")
-        seen = [kind for kind in there if judge.judge(kinds[kind])[1]]
+        seen = [kind for kind in there if judged(code, kinds[kind], Path(work), judge)[1]]
     missed = [kind for kind in there if kind not in seen and not re.search(UNSEEN, kind)]
     for kind in missed:
         print(f"compare: not seen beside objdump: {kind}", file=sys.stderr)
@@ -232,7 +248,7 @@ def main(program, pieces):
     with tempfile.TemporaryDirectory() as work:
         for name, code in pieces:
             text, status = sweep_of(program, code)
-            counts, unlike = Judge(code, Path(work)).judge(text)
+            counts, unlike = judged(code, text, Path(work))
             print("| " + " | ".join([name, f"{len(code):,}", *(f"{count:,}" for count in counts.values())]) + " |", flush=True)
             unexplained += unlike
             if status != 0:
