@@ -13,7 +13,7 @@ The examples of docs/USAGE.md are run again with other addresses in place of the
 that comes in pieces; and its recipes over code of bash of one and of two megabytes: with twice the text no command may take more than three
 times the processor time, and a second, or 8 MB more memory.
 
-Examples of docs/GUIDE.md and docs/CRATES.md: each indented block is in one of the files of `CODE`, or of `TESTS`, line by line, only
+Examples of README.md, docs/GUIDE.md and docs/CRATES.md: each indented block is in one of the files of `CODE`, or of `TESTS`, line by line, only
 further to the right.
 
 Quoted code of the pages of `QUOTING`: each indented line that isn't a command, nor of a drawing, is a line of some file of crates/, letter
@@ -42,10 +42,14 @@ CRATE = re.search(r"^PROGRAM_CRATE=(\w+)$", (TOP / "tools" / "program.sh").read_
 PROGRAM = Path(os.environ.get("PROGRAM") or TOP / "crates" / CRATE / "out" / CRATE).resolve()
 SECONDS = 60
 BASE, LIBRARY, KERNEL = 0x401000, 0x7FFFF7A00000, 0xFFFFFFFF81000000
+IN_ONE = """#!/bin/sh
+[ "$1" != try ] || shift
+exec "PROGRAM" "$@"
+"""
 # A program of the same answers whose text comes in pieces.
 IN_PIECES = """#!/bin/sh
-[ "$1" != make ] || exec "%s" "$@"
-{ head -c 5; sleep 0.02; dd bs=11 status=none; } | "%s" "$@"
+[ "$1" != make ] || exec "PROGRAM" "$@"
+{ head -c 5; sleep 0.02; dd bs=11 status=none; } | "PROGRAM" "$@"
 """
 BIG = 1000000
 TIMES, SPARE_SECONDS, SPARE_KILOBYTES = 3, 1, 8192
@@ -104,12 +108,11 @@ def differs(page, command, what, got, wanted):
 
 
 def program_in(folder, in_pieces=False):
-    """Puts the program into a folder, or one of the same answers whose text comes in pieces, and the examples."""
-    if in_pieces:
-        (Path(folder) / "x86").write_text(IN_PIECES % (PROGRAM, PROGRAM))
-        (Path(folder) / "x86").chmod(0o755)
-    else:
-        os.symlink(PROGRAM, Path(folder) / "x86")
+    """Puts the program into a folder, or one of the same answers whose text comes in pieces, and the examples. As with the script `x86`, the word
+    `try` changes nothing once the program is built."""
+    script = IN_PIECES if in_pieces else IN_ONE
+    (Path(folder) / "x86").write_text(script.replace("PROGRAM", str(PROGRAM)))
+    (Path(folder) / "x86").chmod(0o755)
     shutil.copytree(TOP / "examples", Path(folder) / "examples")
 
 
@@ -298,7 +301,7 @@ def read_reasons(page):
 
 
 def main():
-    wrong = read_guide("docs/GUIDE.md", CODE) + read_guide("docs/CRATES.md", TESTS) + sum(read_quotes(page) for page in QUOTING)
+    wrong = read_guide("docs/GUIDE.md", CODE) + read_guide("README.md", CODE) + read_guide("docs/CRATES.md", TESTS) + sum(read_quotes(page) for page in QUOTING)
     wrong += read_definitions("docs/THEOREM.md") + read_chart() + read_reasons("docs/DIFFERENCES.md")
     if os.access(PROGRAM, os.X_OK):
         wrong += run_examples("README.md") + run_examples("docs/USAGE.md") + run_statuses("docs/USAGE.md") + run_texts("docs/USAGE.md")
