@@ -9,7 +9,11 @@ example of a row must end with its status, and in the table of texts it must pri
 usage line at status 2. Each run must end within a minute. The program is the built one, or the one that PROGRAM names; where there is
 none, or a tool of an example is missing, these examples are skipped with a line.
 
-Examples of docs/GUIDE.md and docs/CRATES.md: each indented block is in one of the files of `CODE`, or of `TESTS`, line by line, only
+The examples of docs/USAGE.md are run again with other addresses in place of theirs, those of a library and of a kernel, and then with a text
+that comes in pieces; and its recipes over code of bash of one and of two megabytes: with twice the text no command may take more than three
+times the processor time, and a second, or 8 MB more memory.
+
+Examples of README.md, docs/GUIDE.md and docs/CRATES.md: each indented block is in one of the files of `CODE`, or of `TESTS`, line by line, only
 further to the right.
 
 Quoted code of the pages of `QUOTING`: each indented line that isn't a command, nor of a drawing, is a line of some file of crates/, letter
@@ -27,6 +31,7 @@ import signal
 import subprocess
 import sys
 import tempfile
+import time
 from pathlib import Path
 
 sys.dont_write_bytecode = True
@@ -36,16 +41,30 @@ TOP = Path(__file__).resolve().parent.parent
 CRATE = re.search(r"^PROGRAM_CRATE=(\w+)$", (TOP / "tools" / "program.sh").read_text(), re.M)[1]
 PROGRAM = Path(os.environ.get("PROGRAM") or TOP / "crates" / CRATE / "out" / CRATE).resolve()
 SECONDS = 60
-CODE = [*(f"crates/x86_vectors/src/{name}.rt" for name in ("guide_tests", "rebuilder", "two_buffers")), "examples/own", "tools/own_test"]
+BASE, LIBRARY, KERNEL = 0x401000, 0x7FFFF7A00000, 0xFFFFFFFF81000000
+IN_ONE = """#!/bin/sh
+[ "$1" != try ] || shift
+exec "PROGRAM" "$@"
+"""
+# A program of the same answers whose text comes in pieces.
+IN_PIECES = """#!/bin/sh
+[ "$1" != make ] || exec "PROGRAM" "$@"
+{ head -c 5; sleep 0.02; dd bs=11 status=none; } | "PROGRAM" "$@"
+"""
+BIG = 1000000
+TIMES, SPARE_SECONDS, SPARE_KILOBYTES = 3, 1, 8192
+CODE = [*(f"crates/x86_vectors/src/{name}.rt" for name in ("guide_tests", "rebuilder", "two_buffers")), "examples/own"]
 TESTS = ["crates/x86_vectors/src", "crates/x86_runs/src"]
 QUOTING = ["docs/ROWS.md", "docs/ENCODING.md", "docs/ARCHITECTURE.md", "CONTRIBUTING.md"]
-TOOLS = ["objcopy", "objdump", "nm", "xxd", "hexdump", "od", "paste", "xargs", "perl"]
+TOOLS = ["objcopy", "objdump", "nm", "readelf", "xxd", "hexdump", "od", "paste", "xargs", "perl"]
 
 
-def blocks(page):
-    """The blocks of indented lines of a page, each as its lines."""
-    block = []
-    for line in [*(TOP / page).read_text().splitlines(), "end"]:
+def blocks(page, section=""):
+    """The blocks of indented lines of a page, or of its section with a heading, each as its lines."""
+    block, text = [], (TOP / page).read_text()
+    if section:
+        text = text.split(section + "\n")[1].split("\n## ")[0]
+    for line in [*text.splitlines(), "end"]:
         if line.startswith("    "):
             block.append(line[4:])
         elif line == "" and block:
@@ -55,9 +74,9 @@ def blocks(page):
             block = []
 
 
-def examples(page):
+def examples(page, section=""):
     """The commands of a page, each with the text that it prints. A command continues in lines after `> `."""
-    for block in blocks(page):
+    for block in blocks(page, section):
         if block[0].startswith("$ "):
             for part in re.split(r"^\$ ", "\n".join(block), flags=re.M)[1:]:
                 command, *rest = part.split("\n")
@@ -88,20 +107,44 @@ def differs(page, command, what, got, wanted):
     return got != wanted
 
 
-def run_examples(page):
+def program_in(folder, in_pieces=False):
+    """Puts the program into a folder, or one of the same answers whose text comes in pieces, and the examples. As with the script `x86`, the word
+    `try` changes nothing once the program is built."""
+    script = IN_PIECES if in_pieces else IN_ONE
+    (Path(folder) / "x86").write_text(script.replace("PROGRAM", str(PROGRAM)))
+    (Path(folder) / "x86").chmod(0o755)
+    shutil.copytree(TOP / "examples", Path(folder) / "examples")
+
+
+def moved(text, base):
+    """A command, or what it prints, with other addresses: those from BASE on, and those of the sections of a file."""
+    text = re.sub(r"\b(?:0x)?(40[01][0-9a-f]{3})\b", lambda it: it[0].replace(it[1], f"{base - BASE + int(it[1], 16):x}"), text)
+    return re.sub(r"\bobjdump ", f"objdump --adjust-vma={base:#x} ", text)
+
+
+def run_examples(page, base=BASE, in_pieces=False):
     """Runs the examples of a page, and answers how many print something else."""
-    wrong = 0
+    wrong, how = 0, page + (f" at {base:#x}" if base != BASE else "") + (" with a text in pieces" if in_pieces else "")
     with tempfile.TemporaryDirectory() as folder:
-        os.symlink(PROGRAM, Path(folder) / "x86")
-        shutil.copytree(TOP / "examples", Path(folder) / "examples")
+        program_in(folder, in_pieces)
         for command, wanted in examples(page):
             if lacking(command):
                 print(f"pages: skipped, {lacking(command)[0]} is missing: {command}", file=sys.stderr)
                 continue
+            if base != BASE:
+                command, wanted = moved(command, base), moved(wanted, base)
             printed, said, status = run(command, folder)
-            wrong += status is None and differs(page, command, "status", status, 0)
-            wrong += wanted != "..." and differs(page, command, "output", printed.rstrip("\n"), wanted)
-            wrong += differs(page, command, "standard error", said, "")
+            wrong += status is None and differs(how, command, "status", status, 0)
+            wrong += wanted != "..." and differs(how, command, "output", printed.rstrip("\n"), wanted)
+            wrong += differs(how, command, "standard error", said, "")
+    return wrong
+
+
+def run_statuses(page):
+    """Runs the examples of the table of statuses, and answers how many end otherwise."""
+    wrong = 0
+    with tempfile.TemporaryDirectory() as folder:
+        program_in(folder)
         for status, command in re.findall(r"^\| (\d+) \|.*\| `(.*)` \|$", (TOP / page).read_text(), re.M):
             command = command.replace("\\|", "|")
             printed, said, got = run(command, folder)
@@ -111,11 +154,54 @@ def run_examples(page):
     return wrong
 
 
+def costs(command, folder):
+    """The processor seconds and the most kilobytes of any process of a command, or None where it took too long."""
+    silent = {"stdin": subprocess.DEVNULL, "stdout": subprocess.DEVNULL, "stderr": subprocess.DEVNULL}
+    started, ends = subprocess.Popen(["sh", "-c", command], cwd=folder, start_new_session=True, **silent), time.monotonic() + SECONDS
+    while time.monotonic() < ends:
+        pid, started.returncode, usage = os.wait4(started.pid, os.WNOHANG)
+        if pid:
+            return usage.ru_utime + usage.ru_stime, usage.ru_maxrss
+        started.returncode = None
+        time.sleep(0.02)
+    os.killpg(started.pid, signal.SIGKILL)
+    started.wait()
+    return None
+
+
+def costs_of_recipes(page, code):
+    """What each command of the recipes of a page costs over the text of some code in place of its own."""
+    with tempfile.TemporaryDirectory() as folder:
+        program_in(folder)
+        (Path(folder) / "big.hex").write_text(re.sub("(.{60})", "\\1\n", code.hex()))
+        for command, _ in examples(page, "## Recipes"):
+            command = re.sub(r"printf '[0-9a-f ]+'", "cat big.hex", command)
+            command = re.sub(r"examples/\w+\.hex", "big.hex", re.sub(r" \| head -n \d+", "", command))
+            yield command, costs(command, folder)
+
+
+def measure_recipes(page):
+    """Compares what the recipes cost over some code and over twice as much, and answers how many cost more than in proportion."""
+    if lacking("objcopy xxd readelf perl") or not os.access("/bin/bash", os.R_OK):
+        print("pages: skipped, objcopy, xxd, readelf, perl or /bin/bash is missing: what the recipes cost", file=sys.stderr)
+        return 0
+    with tempfile.TemporaryDirectory() as folder:
+        subprocess.run(["objcopy", "-O", "binary", "-j", ".text", "/bin/bash", "code"], cwd=folder, check=True)
+        code = (Path(folder) / "code").read_bytes() * 3
+    wrong = 0
+    for (command, once), (_, twice) in zip(costs_of_recipes(page, code[:BIG]), costs_of_recipes(page, code[: 2 * BIG])):
+        is_well = once and twice and twice[0] <= TIMES * once[0] + SPARE_SECONDS and twice[1] <= once[1] + SPARE_KILOBYTES
+        if not is_well:
+            print(f"pages: {page}: seconds and kilobytes over {BIG} bytes {once}, over twice as many {twice}: {command}", file=sys.stderr)
+            wrong += 1
+    return wrong
+
+
 def run_texts(page):
     """Runs the examples of the table of texts, and answers how many print another last line."""
     wrong = 0
     with tempfile.TemporaryDirectory() as folder:
-        os.symlink(PROGRAM, Path(folder) / "x86")
+        program_in(folder)
         for command, last in re.findall(r"^\| [^|]* \| `(.*)` \| `(.*)` \| [^|]* \|$", (TOP / page).read_text(), re.M):
             printed, _, _ = run(command.replace("\\|", "|"), folder)
             wrong += differs(page, command, "last line", printed.rstrip("\n").split("\n")[-1], last)
@@ -215,11 +301,12 @@ def read_reasons(page):
 
 
 def main():
-    wrong = read_guide("docs/GUIDE.md", CODE) + read_guide("docs/CRATES.md", TESTS) + sum(read_quotes(page) for page in QUOTING)
+    wrong = read_guide("docs/GUIDE.md", CODE) + read_guide("README.md", CODE) + read_guide("docs/CRATES.md", TESTS) + sum(read_quotes(page) for page in QUOTING)
     wrong += read_definitions("docs/THEOREM.md") + read_chart() + read_reasons("docs/DIFFERENCES.md")
     if os.access(PROGRAM, os.X_OK):
-        wrong += sum(run_examples(page) for page in ("README.md", "docs/USAGE.md"))
-        wrong += run_texts("docs/USAGE.md")
+        wrong += run_examples("README.md") + run_examples("docs/USAGE.md") + run_statuses("docs/USAGE.md") + run_texts("docs/USAGE.md")
+        wrong += run_examples("docs/USAGE.md", LIBRARY, in_pieces=True) + run_examples("docs/USAGE.md", KERNEL)
+        wrong += measure_recipes("docs/USAGE.md")
     else:
         print(f"pages: the examples are skipped, {PROGRAM} is missing", file=sys.stderr)
     if wrong == 0:

@@ -1,5 +1,5 @@
-# What the script `x86`, the gate and the tests share: where the program is, and of which sources it was built. They read this file by
-# `. tools/program.sh`, where `top` is the folder of the repository.
+# What the script `x86`, the gate and the tools share: where the program is, of which sources it was built, and which crates a program is made
+# of. They read this file by `. tools/program.sh`, where `top` is the folder of the repository.
 
 # The crate of the program, and the folder of the sources that say which words are its commands.
 PROGRAM_CRATE=x86
@@ -8,27 +8,32 @@ command_sources=$top/crates/x86_cli/src/commands
 out=$top/crates/$PROGRAM_CRATE/out
 program=$out/$PROGRAM_CRATE
 
-# The sums of the sources that this user's gates passed on this machine, one a line. It says where a look at what the kit kept pays, and no
-# proof rests on it.
-passed=${XDG_CACHE_HOME:-$HOME/.cache}/x86/passed
-
-# The program's crates that are of this repository, lowest first.
+# crates NAME..: the crates of this repository among these and what they use, lowest first.
 crates() {
-    for name in $(sed -n "s/^$PROGRAM_CRATE://p" "$top/crates.txt") "$PROGRAM_CRATE"; do
-        [ ! -d "$top/crates/$name" ] || echo "$name"
-    done
+    for name in "$@"; do echo "$(sed -n "s/^$name://p" "$top/crates.txt") $name"; done | tr ' ' '\n' | while read -r name; do
+        [ -z "$name" ] || [ ! -d "$top/crates/$name" ] || echo "$name"
+    done | awk '!seen[$0]++'
 }
 
 # The files of these crates, seen from the top, without what was built and without must-fail edits.
 source_files() {
-    for name in $(crates); do
+    for name in $(crates "$@"); do
         (cd "$top" && find "crates/$name" \( -name out -o -name must-fail \) -prune -o -type f -print)
     done
 }
 
-# A sum over names and contents of all sources.
+# copy_crates FOLDER NAME..: copies the sources of these crates, as a repository of their own.
+copy_crates() (
+    folder=$1
+    shift
+    mkdir -p "$folder/.git" && cp "$top/HANDLES" "$folder"
+    for name in $(crates "$@"); do grep "^$name:" "$top/crates.txt"; done >"$folder/crates.txt"
+    source_files "$@" | tar -cf - -C "$top" -T - | tar -xf - -C "$folder"
+)
+
+# A sum over names and contents of all sources of the program.
 sources() {
-    { echo crates.txt && source_files; } | LC_ALL=C sort | tr '\n' '\0' | (cd "$top" && xargs -0 cksum) | cksum
+    { echo crates.txt && source_files $PROGRAM_CRATE; } | LC_ALL=C sort | tr '\n' '\0' | (cd "$top" && xargs -0 cksum) | cksum
 }
 
 is_built() {
@@ -38,16 +43,6 @@ is_built() {
 # note_built SUM: notes of which sources the program was built.
 note_built() {
     echo "$1" >"$out/built"
-}
-
-# has_passed SUM: whether the gate passed these sources.
-has_passed() {
-    grep -qxF -e "$1" "$passed" 2>/dev/null
-}
-
-# note_passed SUM: notes that the gate passed these sources.
-note_passed() {
-    has_passed "$1" || { mkdir -p "$(dirname "$passed")" && echo "$1" >>"$passed"; }
 }
 
 # The line that the program prints where its words are no command.

@@ -103,6 +103,17 @@ def registers():
     return [(of, [re.sub(r'codes "(.*)"|\[\]', r"\1", name) for name in names.split(" ∷ ")]) for of, names in classes]
 
 
+def strangers():
+    """The rows that have a name or a form that its list hasn't, a line for each."""
+    known, ordinal = {*names()}, ordinals()
+    for of, map_rows in rows().items():
+        for _, byte, opcode, form, _ in map_rows:
+            if opcode not in known:
+                yield f"rows_of_{of} has opcode.{opcode} at 0x{byte:02X}, a name that specs/Mnemonics.antt of x86_opcodes hasn't"
+            if form not in ordinal:
+                yield f"rows_of_{of} has form.{form} at 0x{byte:02X}, a form that src/lib.rt of x86_forms hasn't"
+
+
 def has_column(columns, column):
     return columns == "all" or column.lower() in columns.split("_")
 
@@ -257,6 +268,9 @@ def main():
     check = sys.argv[1:] == ["--check"]
     if sys.argv[1:] and not check:
         sys.exit(__doc__)
+    found = [*strangers()]
+    if found:
+        sys.exit("\n".join(f"tables.py: {line}" for line in found))
     stale = False
     for path, lines in written().items():
         text = "\n".join(lines) + "\n"

@@ -1,10 +1,10 @@
 #!/usr/bin/env python3
-"""A program whose output differs from that of another in one line.
+"""A program whose output differs from that of another, in one line or in all lines of a kind.
 
     plant.py PROGRAM KIND WORDS..
 
-runs PROGRAM WORDS and prints what it prints, but for one line, which is changed as KIND says. It ends with status 9 where no line can be changed
-so. `tools/compare --self-test` runs it with each kind.
+runs PROGRAM WORDS and prints what it prints, changed as KIND says. It ends with status 9 where nothing can be changed so. `tools/compare
+--self-test` runs it with each kind, and holds `planted` against the second judge.
 """
 
 import random
@@ -191,10 +191,20 @@ MOVES = {
     "an empty line": lambda lines, at: lines[:at] + [""] + lines[at:],
     "an empty line at the end": lambda lines, at: lines + [""],
     "two lines in one": lambda lines, at: lines[:at] + [lines[at] + lines[at + 1]] + lines[at + 2 :],
+    "every second line missing": lambda lines, at: lines[::2],
     "a line after the end": lambda lines, at: lines + ["999999999 1 NOP m0"],
     "the end of the text after the lines": lambda lines, at: lines + ["text error at 7"],
     "a byte 0 at the end of a line": lambda lines, at: lines[:at] + [lines[at] + "\0"] + lines[at + 1 :],
 }
+
+# The kind, and what becomes of each line.
+ALL = [
+    ("every place higher by one", r"^(\d+) ", lambda m: f"{int(m[1]) + 1} "),
+    ("every length of CALL and JMP higher by one", r"^(\d+) (\d+) (?=CALL|JMP)", lambda m: f"{m[1]} {int(m[2]) + 1} "),
+    ("every MOV refused as VEX is", r"^(\d+) \d+ MOV .*", r"\1 error: the decoder is incomplete"),
+    ("every MOV refused for its operand", r"^(\d+) \d+ MOV .*", r"\1 error: invalid operand"),
+    ("every CALL as a far one", "CALL (?!F)", "CALLF "),
+]
 
 ENDS = {"the last line cut short": lambda text: text[:-4], "the last line without its end": lambda text: text[:-1]}
 
@@ -224,20 +234,30 @@ def edit(pattern, text):
     return changed
 
 
+def edit_all(pattern, text):
+    """Changes each line with a pattern."""
+    return lambda lines, _: [re.sub(pattern, text, line, count=1) for line in lines]
+
+
 KINDS = {kind: edit(pattern, text) for kind, pattern, text in EDITS}
+KINDS |= {kind: edit_all(pattern, text) for kind, pattern, text in ALL}
 KINDS |= MOVES
 KINDS |= {f"any byte of any line as another one, {seed}": any_byte(seed) for seed in range(1, 11)}
 KINDS |= dict.fromkeys(ENDS)
 
 
+def planted(kind, text):
+    """The text of a sweep, changed as a kind says."""
+    if kind in ENDS:
+        return ENDS[kind](text)
+    lines = text.split("\n")[:-1]
+    return "".join(line + "\n" for line in KINDS[kind](lines, len(lines) // 2))
+
+
 def main(program, kind, words):
     answer = subprocess.run([program, *words], stdin=sys.stdin, stdout=subprocess.PIPE)
     text = answer.stdout.decode()
-    if kind in ENDS:
-        changed = ENDS[kind](text)
-    else:
-        lines = text.split("\n")[:-1]
-        changed = "".join(line + "\n" for line in KINDS[kind](lines, len(lines) // 2))
+    changed = planted(kind, text)
     sys.stdout.buffer.write(changed.encode())
     return 9 if changed == text else answer.returncode
 
