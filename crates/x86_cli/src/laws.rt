@@ -24,7 +24,7 @@ ghost use Rattle.x86_cli.specs.declared.listings.listing.UpToRefusal.{UpToRefusa
 ghost use Rattle.x86_cli.specs.declared.listings.sweep.PastRefusals.{PastRefusals};
 ghost use Rattle.x86_cli.specs.declared.listings.tightening.LeastLines.{LeastLines};
 ghost use Rattle.x86_cli.specs.Listings.Listing.{Listing, LinesLeaveStatus, listing_at};
-ghost use Rattle.x86_cli.specs.Listings.Sweep.{sweep_at};
+ghost use Rattle.x86_cli.specs.Listings.Sweep.{known_sweep_at, sweep_at};
 ghost use Rattle.x86_cli.specs.Listings.Tighten.{least_text};
 ghost use Rattle.x86_streams.specs.Text.{Text};
 ghost use Rattle.x86_cli.specs.Commands.Make.{made_listing};
@@ -50,7 +50,7 @@ use x86_streams::{Got, Input, Output, Sink, SinkFailed, Source};
 pub fn headline<S: Source, K: Sink, R: Read, W: Write>()
     ensures bytes { (strict : Bool) → Headline strict }
     ensures runs { (c : Command) (status : Status) (a b : S) (k l : K)
-        → Runs S.gives K.takes c status a b k l
+        → Runs S.gives S.ahead K.takes c status a b k l
         → Says status c (streams_of S.left S.faults K.written K.faults a k)
         (streams_of S.left S.faults K.written K.faults b l) }
     ensures program { (c : Command) (status : Status) (r r' : R) (w w' : W) →
@@ -100,7 +100,7 @@ pub fn worked_load()
     headline_of_bytes();
 }
 
-/// The lines of the commands, and the listings of the two courses.
+/// The lines of the commands, and of the two courses the listings, and what is known of them as the text is read.
 pub fn commands_have_their_lines<L: Lines + Drop>()
     ensures list { (l : Plain) (strict : Bool) (place : ℕ) (i : Instruction) (bytes : List ℕ) →
         ⟦<Plain as Lines>⟧.text l strict place i bytes ≡ line_of place i }
@@ -113,8 +113,13 @@ pub fn commands_have_their_lines<L: Lines + Drop>()
     ensures up_to_refusal { (c : UpToRefusal L) (strict : Bool) (place : ℕ) (t : Text) →
         ⟦<UpToRefusal<L> as Course>⟧.lists c strict place t
         ≡ listing_at strict (L.text c.lines strict) place t }
+    ensures known_up_to_refusal { (c : UpToRefusal L) (strict : Bool) (place : ℕ) (t : Text) →
+        ⟦<UpToRefusal<L> as Course>⟧.knows c strict place t
+        ≡ listing_at strict (L.text c.lines strict) place t }
     ensures past_refusals { (c : PastRefusals) (strict : Bool) (place : ℕ) (t : Text) →
         ⟦<PastRefusals as Course>⟧.lists c strict place t ≡ sweep_at strict place t }
+    ensures known_past_refusals { (c : PastRefusals) (strict : Bool) (place : ℕ) (t : Text) →
+        ⟦<PastRefusals as Course>⟧.knows c strict place t ≡ known_sweep_at strict place t }
 {}
 
 /// A listing ends with the same status whatever its lines are, as those of `list` and `fields` do.
