@@ -63,6 +63,7 @@ pub fn is_exhausted(answer: Result<(), DecodeError>) -> bool
 
 /// What decoding the image that a window has left yields, or `None` where more bytes decide that. An instruction is
 /// written to `inst`.
+#[inline(always)]
 pub fn decode_next(
     window: &Window,
     decoder: &InstDecoder,
