@@ -89,6 +89,13 @@ def groups():
     return answer
 
 
+def opcodes():
+    """Each opcode that a row has, with the group of the row."""
+    for name, rows in groups().items():
+        named = [each.rest[0] for each in rows if each.kind != "refusal" and isinstance(each.rest[0], list)]
+        yield from ((name, opcode) for _, *listed in named for opcode in listed if opcode != "none")
+
+
 def checked(name, rows):
     """The rows of a group, if each is reached and there is always one."""
     reached, gap = set(), False

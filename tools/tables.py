@@ -112,6 +112,9 @@ def strangers():
                 yield f"rows_of_{of} has opcode.{opcode} at 0x{byte:02X}, a name that specs/Mnemonics.antt of x86_opcodes hasn't"
             if form not in ordinal:
                 yield f"rows_of_{of} has form.{form} at 0x{byte:02X}, a form that src/lib.rt of x86_forms hasn't"
+    for group, opcode in group_rows.opcodes():
+        if opcode not in known:
+            yield f"rows_{group} has {opcode}, a name that specs/Mnemonics.antt of x86_opcodes hasn't"
 
 
 def has_column(columns, column):
