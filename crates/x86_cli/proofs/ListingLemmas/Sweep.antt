@@ -16,6 +16,8 @@ use Rattle.x86_streams.specs.Text.Window.{rest_of}
 use Rattle.x86_layout.specs.Sweeps.Cuts.{cut_length, cut_at, cuts_from}
 use Rattle.x86_layout.proofs.SweepLemmas.Place.{first_and_rest, none_left}
 use Rattle.x86_cli.specs.Listings.Entry.{IsEntry}
+use Rattle.x86_cli.specs.Text.Window.{IsAtCut}
+use Rattle.x86_cli.specs.declared.text.window.AtRefusal.TheVariants as refusal
 use Rattle.x86_cli.specs.declared.listings.listing.Entry.{Entry}
 use Rattle.x86_cli.specs.declared.listings.listing.Entry.TheVariants as entry
 use Rattle.x86_cli.specs.Listings.Sweep.{cut_text, cut_line, sweep_at, before_open, decided, known_sweep_at}
@@ -80,6 +82,10 @@ module _ (strict : Bool) (laws : DecoderLaws strict) where
   pub some_bytes : (w s : List ℕ) (a : Result Instruction DecodeError) → a ≢ Err ExhaustedInput → a ≡ answer_of strict s → s ≡ w → 0 < length w
   some_bytes [] s a sure answer same = absurd (sure (answer ∙ ap (answer_of strict) same ∙ laws.empty))
   some_bytes (x ∷ w) s a sure answer same = omega arith
+
+  pub some_refused : (w s : List ℕ) (error : DecodeError) (ended : Option Ending) → Err error ≡ answer_of strict s → s ≡ w → IsAtCut refusal.Refused error ended w → 0 < length w
+  some_refused w s error None answer same h = some_bytes w s (Err error) (λ f. h.0 refl (cc)) answer same
+  some_refused w s error (Some e) answer same h = h.1 e refl
 
   pub sweep_undecided : (ended : Option Ending) (n : ℕ) (text w s : List ℕ) (p r : ℕ) (a : Result Instruction DecodeError) → ended ≡ None → a ≡ Err ExhaustedInput → a ≡ answer_of strict s → s ≡ w →
       IsEntry (sweep_at strict) (known_sweep_at strict) entry.Undecided n text ended w p r

@@ -1,10 +1,13 @@
 -- What a window shows.
-use Rattle.std.specs.Prelude.{Bool, ◌≡◌, ◌≢◌, ℕ, ◌<◌, ◌≤◌, List, ◌++◌, length, Option, Some}
+use Rattle.std.specs.Prelude.{Bool, true, false, ◌≡◌, ◌≢◌, ◌⊎◌, ℕ, ◌<◌, ◌≤◌, List, ◌++◌, length, Option, Some, None}
 use Rattle.x86_decode.specs.declared.instructions.Instruction.{Instruction}
+use Rattle.x86_fields.specs.declared.errors.DecodeError.{DecodeError}
 use Rattle.x86_fields.specs.declared.errors.DecodeError.TheVariants.{ExhaustedInput}
 use Rattle.x86_decode.specs.Instruction.{length_of}
 use Rattle.x86_streams.specs.declared.text.reader.Ending.{Ending}
 use Rattle.x86_streams.specs.declared.text.reader.Ending.TheVariants.{Clean}
+use Rattle.x86_cli.specs.declared.text.window.AtRefusal.{AtRefusal}
+use Rattle.x86_cli.specs.declared.text.window.AtRefusal.TheVariants as refusal
 use Rattle.x86_cli.specs.declared.text.window.Decoded.{Decoded}
 use Rattle.x86_cli.specs.declared.text.window.Decoded.TheVariants.{Whole, Refused, Ended}
 use Rattle.x86_cli.specs.Listings.Listing.{decoded_of}
@@ -21,3 +24,22 @@ Shows strict (Whole i) ended window = (0 < length_of i) × (length_of i ≤ leng
 Shows strict (Refused error) ended window =
     (error ≡ ExhaustedInput → ended ≡ Some Clean) × (error ≢ ExhaustedInput → (ys : List ℕ) (e : Ending) → decoded_of strict (window ++ ys) e ≡ Refused error)
 Shows strict (Ended e) ended window = ended ≡ Some e
+
+-- An end that isn't clean overrules a refusal that more bytes could lift.
+abbrev pub is_overruled : DecodeError → Ending → Bool
+is_overruled ExhaustedInput Clean = false
+is_overruled ExhaustedInput e = true
+is_overruled error e = false
+
+-- What comes after these bytes, which begin with no instruction.
+abbrev pub IsAtRefusal : AtRefusal → DecodeError → Option Ending → List ℕ → Type 0
+IsAtRefusal refusal.Undecided error ended window = (ended ≡ None) × (error ≡ ExhaustedInput)
+IsAtRefusal refusal.Refused error ended window =
+    (ended ≡ None → error ≢ ExhaustedInput) × ((e : Ending) → ended ≡ Some e → (0 < length window) × (is_overruled error e ≡ false))
+IsAtRefusal (refusal.Ended e) error ended window = (ended ≡ Some e) × ((length window ≡ 0) ⊎ (is_overruled error e ≡ true))
+
+-- The same for a sweep, which a refusal doesn't end.
+abbrev pub IsAtCut : AtRefusal → DecodeError → Option Ending → List ℕ → Type 0
+IsAtCut refusal.Undecided error ended window = (ended ≡ None) × (error ≡ ExhaustedInput)
+IsAtCut refusal.Refused error ended window = (ended ≡ None → error ≢ ExhaustedInput) × ((e : Ending) → ended ≡ Some e → 0 < length window)
+IsAtCut (refusal.Ended e) error ended window = (ended ≡ Some e) × (length window ≡ 0)

@@ -71,7 +71,7 @@ pub fn end<K: Sink>(sink: &mut K, ending: Ending) -> Status
     }
 }
 
-fn length_of(instruction: &Instruction) -> u64
+pub fn length_of(instruction: &Instruction) -> u64
     ensures { result ≡ length_of instruction.now }
 {
     instruction.len().to_const()

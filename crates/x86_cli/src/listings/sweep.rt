@@ -1,16 +1,11 @@
 //! The sweep: a listing that continues after a refusal.
 
-ghost use Rattle.std.specs.Prelude.{◌≡◌, ◌≤◌};
-ghost use Rattle.arrayvec.specs.ArrayVec.{array_vec_len};
-ghost use Rattle.x86_layout.specs.Sweeps.Cuts.{cut_length};
-ghost use Rattle.x86_decode.specs.Instruction.{holding};
-ghost use Rattle.x86_text.specs.Widths.{line_width};
-ghost use Rattle.x86_cli.specs.declared.listings.listing.Entry.{Entry};
-ghost use Rattle.x86_cli.specs.Listings.Sweep.{cut_text, known_sweep_at, sweep_at};
+ghost use Rattle.x86_cli.specs.Listings.Sweep.{known_sweep_at, sweep_at};
+ghost use Rattle.x86_cli.specs.Text.Window.{IsAtCut};
 
 use crate::laws::decoder_laws;
-use crate::listings::listing::{Course, Entry};
-use crate::text::window::is_exhausted;
+use crate::listings::listing::{Course, Entry, length_of};
+use crate::text::window::AtRefusal;
 use x86_decode::{InstDecoder, Instruction};
 use x86_fields::DecodeError;
 use x86_streams::Window;
@@ -19,41 +14,25 @@ use x86_text::{Line, Place, write_instruction, write_refusal};
 /// The listing of `sweep`: a line for each cut.
 pub struct PastRefusals;
 
-/// Writes the line of a cut at a place over another, without its end. The instruction of a cut is beside its
-/// answer.
-fn write_cut(line: &mut Line, place: &Place, inst: &Instruction, answer: Result<(), DecodeError>)
-    ensures text { line.new.items ≡ cut_text place.now (holding inst.now answer) }
-    ensures short { array_vec_len line.new ≤ line_width }
+/// What the window shows where its bytes begin with no instruction: a refusal that more bytes can't lift is a cut.
+#[cold]
+#[inline(never)]
+fn shown_at(window: &Window, error: DecodeError) -> AtRefusal
+    ensures { IsAtCut result error window.now.ended window.now.bytes.items }
 {
-    match answer {
-        Ok(()) => write_instruction(line, place, inst),
-        Err(error) => write_refusal(line, place, error),
+    match window.ended {
+        None => match error {
+            DecodeError::ExhaustedInput => AtRefusal::Undecided,
+            _ => AtRefusal::Refused,
+        },
+        Some(ending) => {
+            if window.bytes.is_empty() {
+                AtRefusal::Ended(ending)
+            } else {
+                AtRefusal::Refused
+            }
+        }
     }
-}
-
-fn cut_length(inst: &Instruction, answer: Result<(), DecodeError>) -> u64
-    ensures { result ≡ cut_length (holding inst.now answer) }
-{
-    match answer {
-        Ok(()) => inst.len().to_const(),
-        Err(_) => 1,
-    }
-}
-
-/// The entry of a cut, whose line is written over another.
-#[inline(always)]
-fn entry_of_cut(
-    line: &mut Line,
-    place: &Place,
-    inst: &Instruction,
-    answer: Result<(), DecodeError>,
-) -> Entry
-    ensures entry { result ≡ Entry.Line (cut_length (holding inst.now answer)) }
-    ensures text { line.new.items ≡ cut_text place.now (holding inst.now answer) }
-    ensures short { array_vec_len line.new ≤ line_width }
-{
-    write_cut(line, place, inst, answer);
-    Entry::Line(cut_length(inst, answer))
 }
 
 impl Course for PastRefusals {
@@ -71,22 +50,19 @@ impl Course for PastRefusals {
         line: &mut Line,
     ) -> Entry {
         decoder_laws();
-        let answer = decoder.decode_slice_into(inst, window.bytes.as_slice());
-        match window.ended {
-            None => {
-                if is_exhausted(answer) {
-                    Entry::Undecided
-                } else {
-                    entry_of_cut(line, place, inst, answer)
-                }
+        match decoder.decode_slice_into(inst, window.bytes.as_slice()) {
+            Ok(()) => {
+                write_instruction(line, place, inst);
+                Entry::Line(length_of(inst))
             }
-            Some(ending) => {
-                if window.bytes.is_empty() {
-                    Entry::Ended(ending)
-                } else {
-                    entry_of_cut(line, place, inst, answer)
+            Err(error) => match shown_at(window, error) {
+                AtRefusal::Undecided => Entry::Undecided,
+                AtRefusal::Ended(ending) => Entry::Ended(ending),
+                AtRefusal::Refused => {
+                    write_refusal(line, place, error);
+                    Entry::Line(1)
                 }
-            }
+            },
         }
     }
 }

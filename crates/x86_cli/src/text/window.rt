@@ -1,15 +1,13 @@
 //! What the next bytes of an image decode to.
 
-ghost use Rattle.std.specs.Prelude.{◌≡◌, ◌≢◌, ℕ, List, None, Err, IfSome, true, false};
+ghost use Rattle.std.specs.Prelude.{◌≡◌, ℕ, List, None, Err, IfSome};
 ghost use Rattle.x86_fields.specs.declared.errors.DecodeError.TheVariants.{ExhaustedInput};
 ghost use Rattle.x86_decode.specs.Answer.{answer_of};
 ghost use Rattle.x86_decode.specs.Decoder.{is_strict};
-ghost use Rattle.x86_decode.specs.declared.instructions.Instruction.{Instruction};
-ghost use Rattle.x86_decode.specs.Instruction.{holding};
 ghost use Rattle.x86_streams.specs.Outside.Stop.{Stop};
 ghost use Rattle.x86_streams.specs.Text.Window.{rest_of};
-ghost use Rattle.x86_cli.specs.Listings.Listing.{decoded_of, decoded_at_end, decoded_before_end};
-ghost use Rattle.x86_cli.specs.Text.Window.{decoded_with, Shows};
+ghost use Rattle.x86_cli.specs.Listings.Listing.{decoded_of};
+ghost use Rattle.x86_cli.specs.Text.Window.{decoded_with, is_overruled, IsAtRefusal, Shows};
 
 use crate::laws::decoder_laws;
 use x86_decode::{InstDecoder, Instruction};
@@ -26,38 +24,46 @@ pub enum Decoded<I> {
     Ended(Ending),
 }
 
-fn decoded_before_end(answer: Result<(), DecodeError>) -> Decoded<()>
-    ensures { (i : Instruction) → decoded_with i result ≡ decoded_before_end (holding i answer) }
-{
-    match answer {
-        Ok(()) => Decoded::Whole(()),
-        Err(error) => Decoded::Refused(error),
-    }
+/// What comes where the bytes that are held begin with no instruction.
+#[derive(Drop)]
+pub enum AtRefusal {
+    /// More bytes decide that.
+    Undecided,
+    /// The refusal.
+    Refused,
+    /// The end of the text.
+    Ended(Ending),
 }
 
-fn decoded_at_end(answer: Result<(), DecodeError>, ending: Ending) -> Decoded<()>
-    ensures { (i : Instruction) → decoded_with i result ≡ decoded_at_end (holding i answer) ending }
+/// Whether an end overrules a refusal, as one that isn't clean does where more bytes could lift the refusal.
+fn is_overruled(error: DecodeError, ending: Ending) -> bool
+    ensures { result ≡ is_overruled error ending }
 {
-    match answer {
-        Ok(()) => Decoded::Whole(()),
-        Err(DecodeError::ExhaustedInput) => match ending {
-            Ending::Clean => Decoded::Refused(DecodeError::ExhaustedInput),
-            Ending::Bad(position) => Decoded::Ended(Ending::Bad(position)),
-            Ending::Large => Decoded::Ended(Ending::Large),
-            Ending::Fault => Decoded::Ended(Ending::Fault),
-        },
-        Err(error) => Decoded::Refused(error),
-    }
-}
-
-/// Whether more bytes may lift a refusal.
-pub fn is_exhausted(answer: Result<(), DecodeError>) -> bool
-    ensures more { result ≡ true → answer ≡ Err ExhaustedInput }
-    ensures sure { (i : Instruction) → result ≡ false → holding i answer ≢ Err ExhaustedInput }
-{
-    match answer {
-        Err(DecodeError::ExhaustedInput) => true,
+    match (error, ending) {
+        (DecodeError::ExhaustedInput, Ending::Clean) => false,
+        (DecodeError::ExhaustedInput, _) => true,
         _ => false,
+    }
+}
+
+/// What the window shows where its bytes begin with no instruction.
+#[cold]
+#[inline(never)]
+fn shown_at(window: &Window, error: DecodeError) -> AtRefusal
+    ensures { IsAtRefusal result error window.now.ended window.now.bytes.items }
+{
+    match window.ended {
+        None => match error {
+            DecodeError::ExhaustedInput => AtRefusal::Undecided,
+            _ => AtRefusal::Refused,
+        },
+        Some(ending) => {
+            if window.bytes.is_empty() || is_overruled(error, ending) {
+                AtRefusal::Ended(ending)
+            } else {
+                AtRefusal::Refused
+            }
+        }
     }
 }
 
@@ -80,21 +86,12 @@ pub fn decode_next(
         answer_of (is_strict decoder.now) window.now.bytes.items ≡ Err ExhaustedInput }
 {
     decoder_laws();
-    let answer = decoder.decode_slice_into(inst, window.bytes.as_slice());
-    match window.ended {
-        None => {
-            if is_exhausted(answer) {
-                None
-            } else {
-                Some(decoded_before_end(answer))
-            }
-        }
-        Some(ending) => {
-            if window.bytes.is_empty() {
-                Some(Decoded::Ended(ending))
-            } else {
-                Some(decoded_at_end(answer, ending))
-            }
-        }
+    match decoder.decode_slice_into(inst, window.bytes.as_slice()) {
+        Ok(()) => Some(Decoded::Whole(())),
+        Err(error) => match shown_at(window, error) {
+            AtRefusal::Undecided => None,
+            AtRefusal::Refused => Some(Decoded::Refused(error)),
+            AtRefusal::Ended(ending) => Some(Decoded::Ended(ending)),
+        },
     }
 }
