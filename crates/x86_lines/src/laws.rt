@@ -9,7 +9,8 @@ use std::fmt::Display;
 
 /// A clone of a room is the room, and is always made.
 pub fn clones<const N: usize>()
-    ensures same { (room copy : ArrayVec ℕ) → ⟦<Room<N> as Clone>⟧.is_clone room copy → copy ≡ room }
+    ensures same { (room copy : ArrayVec ℕ) →
+        ⟦<Room<N> as Clone>⟧.is_clone room copy → copy ≡ room }
     ensures made { (room : ArrayVec ℕ) → ⟦<Room<N> as Clone>⟧.is_infallible room }
 {}
 

@@ -15,13 +15,13 @@ use Rattle.x86_cli.specs.declared.listings.status.Status.{Status}
 use Rattle.x86_cli.specs.declared.listings.status.Status.TheVariants.{Usage, WriteFault}
 use Rattle.x86_cli.specs.Commands.Command.{Obeys, Runs, Stays, listing_for, max_of}
 use Rattle.x86_cli.specs.Commands.Run.{Ran}
-use Rattle.x86_cli.specs.Listings.Calls.{Call, Next, Take, Put, Settle, bytes_of, lines_of, stop_of, Unfailed, Waits, AreListed, Calls, Lives}
+use Rattle.x86_cli.specs.Listings.Calls.{OutsideCall, Next, Take, Put, Settle, returned, lines_of, stop_of, Unfailed, Waits, AreListed, Calls, Lives}
 use Rattle.x86_cli.specs.Listings.Listing.{Listing}
 use Rattle.x86_cli.proofs.CommandLemmas.Causes.{some_stop, command_status, ran_used}
 use Rattle.x86_cli.proofs.ListingLemmas.Progress.{sink_calls-sink_calls}
 
 -- a run whose last call didn't fail ends as its listing
-pub listed_status : (status : Status) (cs : List Call) (l : Listing) → status ≢ WriteFault → AreListed status cs l → l.status ≡ status
+pub listed_status : (status : Status) (cs : List OutsideCall) (l : Listing) → status ≢ WriteFault → AreListed status cs l → l.status ≡ status
 listed_status status [] l ne is = ap (λ l. l.status) is
 listed_status status (Next g ∷ cs) l ne is = ap (λ l. l.status) is
 listed_status status (Take b ∷ cs) l ne is = ap (λ l. l.status) is
@@ -33,27 +33,27 @@ listed_status status (Settle (Err e) ∷ cs) l ne is = absurd (ne is.0)
 module _ {S K : Type 0} (gives : S → Got → S → Type 0) (ahead : S → List ℕ) (takes : K → List ℕ → Result ⊤ SinkFailed → K → Type 0) (settles : K → Result ⊤ SinkFailed → K → Type 0) where
   module _ (known : Text → Listing) (text : List ℕ → Stop → Text) where
     -- one call more of the source
-    next_byte : (cs : List Call) (b : ℕ) (s u t : S) → SourceCalls gives (bytes_of cs) (stop_of cs) s u → stop_of cs ≡ None → gives u (got.Byte b) t → SourceCalls gives (bytes_of cs ++ b ∷ []) (stop_of cs) s t
-    next_byte cs b s u t before none call = rw none (source_calls-source_calls gives (bytes_of cs) (b ∷ []) None s u t (rw none at before) (t, call, refl))
+    next_byte : (cs : List OutsideCall) (b : ℕ) (s u t : S) → SourceCalls gives (returned cs) (stop_of cs) s u → stop_of cs ≡ None → gives u (got.Byte b) t → SourceCalls gives (returned cs ++ b ∷ []) (stop_of cs) s t
+    next_byte cs b s u t before none call = rw none (source_calls-source_calls gives (returned cs) (b ∷ []) None s u t (rw none at before) (t, call, refl))
 
-    pub source_part : (cs : List Call) (s t : S) (k l : K) → Calls gives ahead takes settles cs s t k l → Waits known text cs → SourceCalls gives (bytes_of cs) (stop_of cs) s t
+    pub source_part : (cs : List OutsideCall) (s t : S) (k l : K) → Calls gives ahead takes settles cs s t k l → Waits known text cs → SourceCalls gives (returned cs) (stop_of cs) s t
     source_part [] s t k l c w = c.0
     source_part (Next (got.Byte b) ∷ cs) s t k l c w = next_byte cs b s c.0 t (source_part cs s c.0 k l c.1 w.0) w.1.1 c.2
-    source_part (Next got.End ∷ cs) s t k l c w = source_calls-source_calls gives (bytes_of cs) [] (Some End) s c.0 t (rw (w.1.1) at (source_part cs s c.0 k l c.1 w.0)) c.2
-    source_part (Next got.Failed ∷ cs) s t k l c w = source_calls-source_calls gives (bytes_of cs) [] (Some Failed) s c.0 t (rw (w.1.1) at (source_part cs s c.0 k l c.1 w.0)) c.2
+    source_part (Next got.End ∷ cs) s t k l c w = source_calls-source_calls gives (returned cs) [] (Some End) s c.0 t (rw (w.1.1) at (source_part cs s c.0 k l c.1 w.0)) c.2
+    source_part (Next got.Failed ∷ cs) s t k l c w = source_calls-source_calls gives (returned cs) [] (Some Failed) s c.0 t (rw (w.1.1) at (source_part cs s c.0 k l c.1 w.0)) c.2
     source_part (Take b ∷ cs) s t k l c w = next_byte cs b s c.0 t (source_part cs s c.0 k l c.1 w.0) w.1.1 c.2
     source_part (Put piece r ∷ cs) s t k l c w = source_part cs s t k c.0 c.1 w.0
     source_part (Settle r ∷ cs) s t k l c w = source_part cs s t k c.0 c.1 w.0
 
     -- each call of the source was made while the text was open
-    called_byte : (cs : List Call) (b : ℕ) → CalledWhere IsOpenText text (bytes_of cs) (stop_of cs) → stop_of cs ≡ None → IsOpenText (text (bytes_of cs) Failed) → CalledWhere IsOpenText text (bytes_of cs ++ b ∷ []) (stop_of cs)
-    called_byte cs b before none yet = rw none (called-called IsOpenText text (bytes_of cs) (b ∷ []) None (rw none at before) (rw append-nil yet, tt))
+    called_byte : (cs : List OutsideCall) (b : ℕ) → CalledWhere IsOpenText text (returned cs) (stop_of cs) → stop_of cs ≡ None → IsOpenText (text (returned cs) Failed) → CalledWhere IsOpenText text (returned cs ++ b ∷ []) (stop_of cs)
+    called_byte cs b before none yet = rw none (called-called IsOpenText text (returned cs) (b ∷ []) None (rw none at before) (rw append-nil yet, tt))
 
-    pub called_part : (cs : List Call) → Waits known text cs → CalledWhere IsOpenText text (bytes_of cs) (stop_of cs)
+    pub called_part : (cs : List OutsideCall) → Waits known text cs → CalledWhere IsOpenText text (returned cs) (stop_of cs)
     called_part [] w = tt
     called_part (Next (got.Byte b) ∷ cs) w = called_byte cs b (called_part cs w.0) w.1.1 w.1.2
-    called_part (Next got.End ∷ cs) w = called-called IsOpenText text (bytes_of cs) [] (Some End) (rw (w.1.1) at (called_part cs w.0)) (rw append-nil (w.1.2))
-    called_part (Next got.Failed ∷ cs) w = called-called IsOpenText text (bytes_of cs) [] (Some Failed) (rw (w.1.1) at (called_part cs w.0)) (rw append-nil (w.1.2))
+    called_part (Next got.End ∷ cs) w = called-called IsOpenText text (returned cs) [] (Some End) (rw (w.1.1) at (called_part cs w.0)) (rw append-nil (w.1.2))
+    called_part (Next got.Failed ∷ cs) w = called-called IsOpenText text (returned cs) [] (Some Failed) (rw (w.1.1) at (called_part cs w.0)) (rw append-nil (w.1.2))
     called_part (Take b ∷ cs) w = called_byte cs b (called_part cs w.0) w.1.1 w.1.2
     called_part (Put piece r ∷ cs) w = called_part cs w.0
     called_part (Settle r ∷ cs) w = called_part cs w.0
@@ -61,7 +61,7 @@ module _ {S K : Type 0} (gives : S → Got → S → Type 0) (ahead : S → List
 -- over a sink that holds nothing back
 
 module _ {S K : Type 0} (gives : S → Got → S → Type 0) (ahead : S → List ℕ) (takes : K → List ℕ → Result ⊤ SinkFailed → K → Type 0) where
-  sink_part : (cs : List Call) (s t : S) (k l : K) → Calls gives ahead takes Stays cs s t k l → Unfailed cs → SinkCalls takes (lines_of cs) None k l
+  sink_part : (cs : List OutsideCall) (s t : S) (k l : K) → Calls gives ahead takes Stays cs s t k l → Unfailed cs → SinkCalls takes (lines_of cs) None k l
   sink_part [] s t k l c u = c.1
   sink_part (Next g ∷ cs) s t k l c u = sink_part cs s c.0 k l c.1 u
   sink_part (Take b ∷ cs) s t k l c u = sink_part cs s c.0 k l c.1 u
@@ -71,14 +71,14 @@ module _ {S K : Type 0} (gives : S → Got → S → Type 0) (ahead : S → List
   sink_part (Settle (Err e) ∷ cs) s t k l c u = absurd u
 
   module _ (known listing : Text → Listing) (max : ℕ) (status : Status) (s t : S) (k l : K) where
-    abbrev Listed' : List Call → Type 0
-    Listed' cs = (xs : List ℕ) (stop : Stop) → MayCome (stop_of cs) xs stop → AreListed status cs (listing (text_of max (bytes_of cs ++ xs) stop))
+    abbrev Listed' : List OutsideCall → Type 0
+    Listed' cs = (xs : List ℕ) (stop : Stop) → MayCome (stop_of cs) xs stop → AreListed status cs (listing (text_of max (returned cs ++ xs) stop))
 
-    abbrev whole : (cs : List Call) → Calls gives ahead takes Stays cs s t k l → Waits known (text_of max) cs → Unfailed cs →
-        ((xs : List ℕ) (stop : Stop) → MayCome (stop_of cs) xs stop → listing (text_of max (bytes_of cs ++ xs) stop) ≡ record { lines = lines_of cs; status = status }) →
+    abbrev whole : (cs : List OutsideCall) → Calls gives ahead takes Stays cs s t k l → Waits known (text_of max) cs → Unfailed cs →
+        ((xs : List ℕ) (stop : Stop) → MayCome (stop_of cs) xs stop → listing (text_of max (returned cs ++ xs) stop) ≡ record { lines = lines_of cs; status = status }) →
         Ran gives takes listing max status s t k l
     whole cs c w u lists = record {
-      bytes = bytes_of cs;
+      bytes = returned cs;
       stop = stop_of cs;
       source_calls = source_part gives ahead takes Stays known (text_of max) cs s t k l c w;
       called = called_part gives ahead takes Stays known (text_of max) cs w;
@@ -88,13 +88,13 @@ module _ {S K : Type 0} (gives : S → Got → S → Type 0) (ahead : S → List
       lists = lists;
     }
 
-    ran_of : (cs : List Call) → Calls gives ahead takes Stays cs s t k l → Waits known (text_of max) cs → Listed' cs → Ran gives takes listing max status s t k l
+    ran_of : (cs : List OutsideCall) → Calls gives ahead takes Stays cs s t k l → Waits known (text_of max) cs → Listed' cs → Ran gives takes listing max status s t k l
     ran_of [] c w lists = whole [] c w tt lists
     ran_of (Next g ∷ cs) c w lists = whole (Next g ∷ cs) c w w.1.0 lists
     ran_of (Take b ∷ cs) c w lists = whole (Take b ∷ cs) c w w.1.0 lists
     ran_of (Put piece (Ok done) ∷ cs) c w lists = whole (Put piece (Ok done) ∷ cs) c w w.1 lists
     ran_of (Put piece (Err e) ∷ cs) c w lists = record {
-      bytes = bytes_of cs;
+      bytes = returned cs;
       stop = stop_of cs;
       source_calls = source_part gives ahead takes Stays known (text_of max) cs s t k c.0 c.1 w.0;
       called = called_part gives ahead takes Stays known (text_of max) cs w.0;

@@ -22,7 +22,7 @@ use Rattle.x86_streams.specs.Text.{Text, text_of}
 use Rattle.x86_streams.specs.Text.Reading.{CalledWhileOpen, MayCome, SourceCalls}
 use Rattle.x86_cli.specs.Listings.Listing.{Listing}
 use Rattle.x86_cli.specs.Commands.Command.{Obeys, listing_for, max_of}
-use Rattle.x86_cli.specs.Listings.Calls.{Call, Next, Take, Put, Settle, bytes_of, lines_of, stop_of, Unfailed, Waits, AreListed, Calls, Lives}
+use Rattle.x86_cli.specs.Listings.Calls.{OutsideCall, Next, Take, Put, Settle, returned, lines_of, stop_of, Unfailed, Waits, AreListed, Calls, Lives}
 use Rattle.x86_cli.specs.Commands.Make.{made_listing}
 use Rattle.x86_cli.specs.Commands.Run.{Lists, Wrote, Ran}
 use Rattle.x86_cli.specs.Commands.Program.{ending_of, fault_of, EndsAt, IsPrinted, Finishes, Performs, PerformsMake}
@@ -160,7 +160,7 @@ module _ {W : Type 0} (writes : W → List ℕ → Result ℕ Error → W → Ty
       Settles m q n = BufferSends writes flushes (sink_writer m) q (sink_writer n)
 
       module _ (ahead : StdSource R h → List ℕ) where
-        sends_part : (cs : List Call) (t : StdSource R h) (l : StdSink (Gathered W)) → Calls Gives ahead (SinkTakes writes flushes) Settles cs s t k l → Unfailed cs → KSends {A = ⊤} {E = SinkFailed} (Ok tt) (concat (lines_of cs)) k l
+        sends_part : (cs : List OutsideCall) (t : StdSource R h) (l : StdSink (Gathered W)) → Calls Gives ahead (SinkTakes writes flushes) Settles cs s t k l → Unfailed cs → KSends {A = ⊤} {E = SinkFailed} (Ok tt) (concat (lines_of cs)) k l
         sends_part [] t l d u = rw (d.1) (forwards_none writes flushes tt [] _ _ _ (sym (append-nil _)))
         sends_part (Next g ∷ cs) t l d u = sends_part cs d.0 l d.1 u
         sends_part (Take b ∷ cs) t l d u = sends_part cs d.0 l d.1 u
@@ -170,13 +170,13 @@ module _ {W : Type 0} (writes : W → List ℕ → Result ℕ Error → W → Ty
         sends_part (Settle (Ok done) ∷ cs) t l d u = rw append-nil at (forwards_join writes flushes tt (Ok tt) (concat (lines_of cs)) [] _ _ _ _ _ _ (sends_part cs t d.0 d.1 u) d.2.0)
         sends_part (Settle (Err e) ∷ cs) t l d u = absurd u
 
-        whole_printed : (cs : List Call) → Calls Gives ahead (SinkTakes writes flushes) Settles cs s t k l → Unfailed cs → ((l : Listing) → AreListed status cs l → l ≡ record { lines = lines_of cs; status = status }) →
+        whole_printed : (cs : List OutsideCall) → Calls Gives ahead (SinkTakes writes flushes) Settles cs s t k l → Unfailed cs → ((l : Listing) → AreListed status cs l → l ≡ record { lines = lines_of cs; status = status }) →
             (first : Listing) → AreListed status cs first → first.status ≢ WriteFault → first.status ≢ Usage → RunPrinted (AreListed status cs)
         whole_printed cs d u to first is unfailed used =
             all_printed (lines_of cs) (AreListed status cs) to (λ e. unfailed (ap (λ l. l.status) (to first is) ∙ e)) (λ e. used (ap (λ l. l.status) (to first is) ∙ e)) (sends_part cs t l d u)
 
         module _ (known : Text → Listing) where
-          calls_printed : (cs : List Call) → Calls Gives ahead (SinkTakes writes flushes) Settles cs s t k l → Waits known (text_of (max_of c)) cs →
+          calls_printed : (cs : List OutsideCall) → Calls Gives ahead (SinkTakes writes flushes) Settles cs s t k l → Waits known (text_of (max_of c)) cs →
               (first : Listing) → AreListed status cs first → first.status ≢ WriteFault → first.status ≢ Usage → RunPrinted (AreListed status cs)
           calls_printed [] d w first is unfailed used = whole_printed [] d tt (λ l h. h) first is unfailed used
           calls_printed (Next q ∷ cs) d w first is unfailed used = whole_printed (Next q ∷ cs) d w.1.0 (λ l h. h) first is unfailed used
@@ -198,7 +198,7 @@ module _ {W : Type 0} (writes : W → List ℕ → Result ℕ Error → W → Ty
           lives_performs h =
               let one = some_stop (stop_of h.calls) in
               let first = h.lists [] one.0 one.1 in
-              performs (bytes_of h.calls) (stop_of h.calls) (AreListed status h.calls)
+              performs (returned h.calls) (stop_of h.calls) (AreListed status h.calls)
               (source_part Gives ahead (SinkTakes writes flushes) Settles known (text_of (max_of c)) h.calls s t k l h.did h.waits)
               (called_part Gives ahead (SinkTakes writes flushes) Settles known (text_of (max_of c)) h.calls h.waits)
               (λ e. (command_status c _).0 (listed_status status h.calls _ (λ f. absurd (cc)) first ∙ e))

@@ -15,7 +15,7 @@ use Rattle.x86_streams.specs.Text.Window.{rest_of, Open, ReadsOn, TakesBytes}
 use Rattle.x86_cli.specs.declared.listings.status.Status.{Status}
 use Rattle.x86_cli.specs.declared.listings.status.Status.TheVariants as outcome
 use Rattle.x86_cli.specs.Commands.Run.{Wrote, Lists}
-use Rattle.x86_cli.specs.Listings.Calls.{Call, Next, Take, Put, Settle, bytes_of, lines_of, stop_of, Unfailed, IsSettled, Continues, Waits, AreListed, Calls, Lives}
+use Rattle.x86_cli.specs.Listings.Calls.{OutsideCall, Next, Take, Put, Settle, returned, lines_of, stop_of, Unfailed, IsSettled, MayRead, Waits, AreListed, Calls, Lives}
 use Rattle.x86_cli.specs.Listings.Entry.{IsLine}
 use Rattle.x86_cli.specs.Listings.Line.{line}
 use Rattle.x86_cli.specs.Listings.Listing.{Listing, with_lines, at_end}
@@ -28,65 +28,65 @@ turns (Some e) = 0
 
 -- calls of the source after others
 
-abbrev nexts : List ℕ → Option Stop → List Call → List Call
+abbrev nexts : List ℕ → Option Stop → List OutsideCall → List OutsideCall
 nexts [] None cs = cs
 nexts [] (Some stop) cs = Next (got_of stop) ∷ cs
 nexts (b ∷ bs) stop cs = nexts bs stop (Next (got.Byte b) ∷ cs)
 
-nexts_bytes : (bs : List ℕ) (stop : Option Stop) (cs : List Call) → bytes_of (nexts bs stop cs) ≡ bytes_of cs ++ bs
-nexts_bytes [] None cs = sym (append-nil (bytes_of cs))
+nexts_bytes : (bs : List ℕ) (stop : Option Stop) (cs : List OutsideCall) → returned (nexts bs stop cs) ≡ returned cs ++ bs
+nexts_bytes [] None cs = sym (append-nil (returned cs))
 nexts_bytes [] (Some End) cs = refl
 nexts_bytes [] (Some Failed) cs = refl
-nexts_bytes (b ∷ bs) stop cs = nexts_bytes bs stop (Next (got.Byte b) ∷ cs) ∙ append_assoc (bytes_of cs) (b ∷ []) bs
+nexts_bytes (b ∷ bs) stop cs = nexts_bytes bs stop (Next (got.Byte b) ∷ cs) ∙ append_assoc (returned cs) (b ∷ []) bs
 
-nexts_lines : (bs : List ℕ) (stop : Option Stop) (cs : List Call) → lines_of (nexts bs stop cs) ≡ lines_of cs
+nexts_lines : (bs : List ℕ) (stop : Option Stop) (cs : List OutsideCall) → lines_of (nexts bs stop cs) ≡ lines_of cs
 nexts_lines [] None cs = refl
 nexts_lines [] (Some stop) cs = refl
 nexts_lines (b ∷ bs) stop cs = nexts_lines bs stop (Next (got.Byte b) ∷ cs)
 
-nexts_unfailed : (bs : List ℕ) (stop : Option Stop) (cs : List Call) → Unfailed cs → Unfailed (nexts bs stop cs)
+nexts_unfailed : (bs : List ℕ) (stop : Option Stop) (cs : List OutsideCall) → Unfailed cs → Unfailed (nexts bs stop cs)
 nexts_unfailed [] None cs h = h
 nexts_unfailed [] (Some stop) cs h = h
 nexts_unfailed (b ∷ bs) stop cs h = nexts_unfailed bs stop (Next (got.Byte b) ∷ cs) h
 
-nexts_stop : (bs : List ℕ) (stop : Option Stop) (cs : List Call) → stop_of cs ≡ None → stop_of (nexts bs stop cs) ≡ stop
+nexts_stop : (bs : List ℕ) (stop : Option Stop) (cs : List OutsideCall) → stop_of cs ≡ None → stop_of (nexts bs stop cs) ≡ stop
 nexts_stop [] None cs h = h
 nexts_stop [] (Some End) cs h = refl
 nexts_stop [] (Some Failed) cs h = refl
 nexts_stop (b ∷ bs) stop cs h = nexts_stop bs stop (Next (got.Byte b) ∷ cs) h
 
-abbrev takens : List ℕ → List Call → List Call
+abbrev takens : List ℕ → List OutsideCall → List OutsideCall
 takens [] cs = cs
 takens (b ∷ bs) cs = takens bs (Take b ∷ cs)
 
-takens_bytes : (bs : List ℕ) (cs : List Call) → bytes_of (takens bs cs) ≡ bytes_of cs ++ bs
-takens_bytes [] cs = sym (append-nil (bytes_of cs))
-takens_bytes (b ∷ bs) cs = takens_bytes bs (Take b ∷ cs) ∙ append_assoc (bytes_of cs) (b ∷ []) bs
+takens_bytes : (bs : List ℕ) (cs : List OutsideCall) → returned (takens bs cs) ≡ returned cs ++ bs
+takens_bytes [] cs = sym (append-nil (returned cs))
+takens_bytes (b ∷ bs) cs = takens_bytes bs (Take b ∷ cs) ∙ append_assoc (returned cs) (b ∷ []) bs
 
-takens_lines : (bs : List ℕ) (cs : List Call) → lines_of (takens bs cs) ≡ lines_of cs
+takens_lines : (bs : List ℕ) (cs : List OutsideCall) → lines_of (takens bs cs) ≡ lines_of cs
 takens_lines [] cs = refl
 takens_lines (b ∷ bs) cs = takens_lines bs (Take b ∷ cs)
 
-takens_unfailed : (bs : List ℕ) (cs : List Call) → Unfailed cs → Unfailed (takens bs cs)
+takens_unfailed : (bs : List ℕ) (cs : List OutsideCall) → Unfailed cs → Unfailed (takens bs cs)
 takens_unfailed [] cs h = h
 takens_unfailed (b ∷ bs) cs h = takens_unfailed bs (Take b ∷ cs) h
 
-takens_stop : (bs : List ℕ) (cs : List Call) → stop_of cs ≡ None → stop_of (takens bs cs) ≡ None
+takens_stop : (bs : List ℕ) (cs : List OutsideCall) → stop_of cs ≡ None → stop_of (takens bs cs) ≡ None
 takens_stop [] cs h = h
 takens_stop (b ∷ bs) cs h = takens_stop bs (Take b ∷ cs) h
 
 module _ (known : Text → Listing) (text : List ℕ → Stop → Text) (Holds : Text → Type 0) where
-  takens_waits : (other : List ℕ → Stop → Text) (bs : List ℕ) (cs : List Call) → Waits known text cs → Unfailed cs → stop_of cs ≡ None → CalledWhere Holds other bs None →
-      ((xs : List ℕ) → Holds (other xs Failed) → IsOpenText (text (bytes_of cs ++ xs) Failed)) → Waits known text (takens bs cs)
+  takens_waits : (other : List ℕ → Stop → Text) (bs : List ℕ) (cs : List OutsideCall) → Waits known text cs → Unfailed cs → stop_of cs ≡ None → CalledWhere Holds other bs None →
+      ((xs : List ℕ) → Holds (other xs Failed) → IsOpenText (text (returned cs ++ xs) Failed)) → Waits known text (takens bs cs)
   takens_waits other [] cs waits unfailed none called e = waits
   takens_waits other (b ∷ bs) cs waits unfailed none called e =
       takens_waits (λ xs s. other (b ∷ xs) s) bs (Take b ∷ cs) (waits, (unfailed, none, rw append-nil at (e [] called.0))) unfailed none called.1
-      (λ xs h. rw (append_assoc (bytes_of cs) (b ∷ []) xs) (e (b ∷ xs) h))
+      (λ xs h. rw (append_assoc (returned cs) (b ∷ []) xs) (e (b ∷ xs) h))
 
-  nexts_waits : (other : List ℕ → Stop → Text) (bs : List ℕ) (stop : Option Stop) (cs : List Call) →
+  nexts_waits : (other : List ℕ → Stop → Text) (bs : List ℕ) (stop : Option Stop) (cs : List OutsideCall) →
       Waits known text cs → Unfailed cs → stop_of cs ≡ None → IsSettled cs → CalledWhere Holds other bs stop →
-      ((xs : List ℕ) → Holds (other xs Failed) → IsOpenText (text (bytes_of cs ++ xs) Failed)) →
-      ((xs : List ℕ) → Holds (other xs Failed) → known (text (bytes_of cs ++ xs) Failed) ≡ with_lines (lines_of cs) (at_end Fault)) →
+      ((xs : List ℕ) → Holds (other xs Failed) → IsOpenText (text (returned cs ++ xs) Failed)) →
+      ((xs : List ℕ) → Holds (other xs Failed) → known (text (returned cs ++ xs) Failed) ≡ with_lines (lines_of cs) (at_end Fault)) →
       Waits known text (nexts bs stop cs)
   nexts_waits other [] None cs waits unfailed none settled called e f = waits
   nexts_waits other [] (Some stop) cs waits unfailed none settled called e f =
@@ -94,11 +94,11 @@ module _ (known : Text → Listing) (text : List ℕ → Stop → Text) (Holds :
   nexts_waits other (b ∷ bs) stop cs waits unfailed none settled called e f =
       nexts_waits (λ xs s. other (b ∷ xs) s) bs stop (Next (got.Byte b) ∷ cs)
       (waits, (unfailed, none, rw append-nil at (e [] called.0)), settled, rw append-nil at (f [] called.0)) unfailed none settled called.1
-      (λ xs h. rw (append_assoc (bytes_of cs) (b ∷ []) xs) (e (b ∷ xs) h))
-      (λ xs h. rw (append_assoc (bytes_of cs) (b ∷ []) xs) (f (b ∷ xs) h))
+      (λ xs h. rw (append_assoc (returned cs) (b ∷ []) xs) (e (b ∷ xs) h))
+      (λ xs h. rw (append_assoc (returned cs) (b ∷ []) xs) (f (b ∷ xs) h))
 
 -- where no call failed, all lines are put
-all_listed : (status : Status) (cs : List Call) (l : Listing) → Unfailed cs → l ≡ record { lines = lines_of cs; status = status } → AreListed status cs l
+all_listed : (status : Status) (cs : List OutsideCall) (l : Listing) → Unfailed cs → l ≡ record { lines = lines_of cs; status = status } → AreListed status cs l
 all_listed status [] l h is = is
 all_listed status (Next g ∷ cs) l h is = is
 all_listed status (Take b ∷ cs) l h is = is
@@ -108,20 +108,20 @@ all_listed status (Settle (Ok done) ∷ cs) l h is = is
 all_listed status (Settle (Err e) ∷ cs) l h is = absurd h
 
 module _ {S K : Type 0} (gives : S → Got → S → Type 0) (ahead : S → List ℕ) (takes : K → List ℕ → Result ⊤ SinkFailed → K → Type 0) (settles : K → Result ⊤ SinkFailed → K → Type 0) where
-  nexts_calls : (bs : List ℕ) (stop : Option Stop) (cs : List Call) (a u v : S) (k l : K) → Calls gives ahead takes settles cs a u k l → SourceCalls gives bs stop u v → Calls gives ahead takes settles (nexts bs stop cs) a v k l
+  nexts_calls : (bs : List ℕ) (stop : Option Stop) (cs : List OutsideCall) (a u v : S) (k l : K) → Calls gives ahead takes settles cs a u k l → SourceCalls gives bs stop u v → Calls gives ahead takes settles (nexts bs stop cs) a v k l
   nexts_calls [] None cs a u v k l c e = rw e c
   nexts_calls [] (Some stop) cs a u v k l c e = (u, c, e)
   nexts_calls (b ∷ bs) stop cs a u v k l c e = nexts_calls bs stop (Next (got.Byte b) ∷ cs) a e.0 v k l (u, c, e.1) e.2
 
-  takens_calls : (bs : List ℕ) (cs : List Call) (a u v : S) (k l : K) → Calls gives ahead takes settles cs a u k l → TakesAhead gives ahead bs u v → Calls gives ahead takes settles (takens bs cs) a v k l
+  takens_calls : (bs : List ℕ) (cs : List OutsideCall) (a u v : S) (k l : K) → Calls gives ahead takes settles cs a u k l → TakesAhead gives ahead bs u v → Calls gives ahead takes settles (takens bs cs) a v k l
   takens_calls [] cs a u v k l c e = rw e c
   takens_calls (b ∷ bs) cs a u v k l c e = takens_calls bs (Take b ∷ cs) a e.0 v k l (u, c, e.1, e.2) e.3
 
   -- the last lines, after other calls
   module _ (known listing : Text → Listing) (text : List ℕ → Stop → Text) (status : Status) (a v : S) (k m : K) where
-    close : (ls : List (List ℕ)) (failed : Option (List ℕ)) (cs : List Call) (l : K) (last : Listing) → Calls gives ahead takes settles cs a v k l → Waits known text cs → Unfailed cs →
+    close : (ls : List (List ℕ)) (failed : Option (List ℕ)) (cs : List OutsideCall) (l : K) (last : Listing) → Calls gives ahead takes settles cs a v k l → Waits known text cs → Unfailed cs →
         SinkCalls takes ls failed l m → Lists status ls failed last →
-        ((xs : List ℕ) (s : Stop) → MayCome (stop_of cs) xs s → listing (text (bytes_of cs ++ xs) s) ≡ with_lines (lines_of cs) last) →
+        ((xs : List ℕ) (s : Stop) → MayCome (stop_of cs) xs s → listing (text (returned cs ++ xs) s) ≡ with_lines (lines_of cs) last) →
         Lives gives ahead takes settles known listing text status a v k m
     close [] None cs l last c waits unfailed calls lists is = record {
       calls = cs;
@@ -146,17 +146,17 @@ module _ {S K : Type 0} (gives : S → Got → S → Type 0) (ahead : S → List
   -- at place text: the listing of a text from a place on; knows place text: what is listed of it whatever follows
   module _ (at knows : ℕ → Text → Listing) (max : ℕ) where
     pub record Live (n : ℕ) (ended : Option Ending) (w : List ℕ) (p r : ℕ) (old new : S) (before after : K) : Type 0 where
-      pub calls : List Call
+      pub calls : List OutsideCall
       pub did : Calls gives ahead takes settles calls old new before after
       pub waits : Waits (knows 0) (text_of max) calls
       pub unfailed : Unfailed calls
       pub continues : Open ended (stop_of calls)
       pub walked : List ℕ
-      pub beginning : (xs : List ℕ) (s : Stop) → MayCome (stop_of calls) xs s → text_of max (bytes_of calls ++ xs) s ≡ with_bytes walked (rest_of ended w p r xs s)
+      pub beginning : (xs : List ℕ) (s : Stop) → MayCome (stop_of calls) xs s → text_of max (returned calls ++ xs) s ≡ with_bytes walked (rest_of ended w p r xs s)
       pub lists : (xs : List ℕ) (s : Stop) → MayCome (stop_of calls) xs s →
-          at 0 (text_of max (bytes_of calls ++ xs) s) ≡ with_lines (lines_of calls) (at n (rest_of ended w p r xs s))
+          at 0 (text_of max (returned calls ++ xs) s) ≡ with_lines (lines_of calls) (at n (rest_of ended w p r xs s))
       pub decided : ended ≡ None → (xs : List ℕ) (s : Stop) →
-          knows 0 (text_of max (bytes_of calls ++ xs) s) ≡ with_lines (lines_of calls) (knows n (rest_of ended w p r xs s))
+          knows 0 (text_of max (returned calls ++ xs) s) ≡ with_lines (lines_of calls) (knows n (rest_of ended w p r xs s))
 
     pub live_new : (a : S) (k : K) → Live 0 None [] 0 max a a k k
     live_new a k = record { calls = []; did = (refl, refl); waits = tt; unfailed = tt; continues = refl; walked = []; beginning = λ xs s _. refl; lists = λ xs s _. refl; decided = λ _ xs s. refl }
@@ -214,11 +214,11 @@ module _ {S K : Type 0} (gives : S → Got → S → Type 0) (ahead : S → List
           unfailed = takens_unfailed t.bytes s.calls s.unfailed;
           continues = takens_stop t.bytes s.calls s.continues;
           walked = s.walked;
-          beginning = λ xs stop may. rw (takens_bytes t.bytes s.calls, append_assoc (bytes_of s.calls) t.bytes xs)
+          beginning = λ xs stop may. rw (takens_bytes t.bytes s.calls, append_assoc (returned s.calls) t.bytes xs)
               (s.beginning (t.bytes ++ xs) stop (rw s.continues tt) ∙ ap (with_bytes s.walked) (came xs stop));
-          lists = λ xs stop may. rw (takens_bytes t.bytes s.calls, takens_lines t.bytes s.calls, append_assoc (bytes_of s.calls) t.bytes xs)
+          lists = λ xs stop may. rw (takens_bytes t.bytes s.calls, takens_lines t.bytes s.calls, append_assoc (returned s.calls) t.bytes xs)
               (s.lists (t.bytes ++ xs) stop (rw s.continues tt) ∙ ap (λ t. with_lines (lines_of s.calls) (at n t)) (came xs stop));
-          decided = λ is xs stop. rw (takens_bytes t.bytes s.calls, takens_lines t.bytes s.calls, append_assoc (bytes_of s.calls) t.bytes xs)
+          decided = λ is xs stop. rw (takens_bytes t.bytes s.calls, takens_lines t.bytes s.calls, append_assoc (returned s.calls) t.bytes xs)
               (s.decided refl (t.bytes ++ xs) stop ∙ ap (λ t. with_lines (lines_of s.calls) (knows n t)) (came xs stop));
         }
 
@@ -233,7 +233,7 @@ module _ {S K : Type 0} (gives : S → Got → S → Type 0) (ahead : S → List
     -- the sink was settled, and the source was called for a piece, where the window decides no more
     module _ (n : ℕ) (w : List ℕ) (p r : ℕ) (a u v : S) (k l m : K) (s : Live n None w p r a u k l) (settled : settles l (Ok tt) m)
         (more : (t : Text) → NeedsMore 1 t → knows n (with_bytes w t) ≡ at_end Fault) where
-      after : List Call
+      after : List OutsideCall
       after = Settle (Ok tt) ∷ s.calls
 
       asked : (bs : List ℕ) (stop : Option Stop) → CalledWhere (NeedsMore 1) (text_at p r) bs stop → Waits (knows 0) (text_of max) (nexts bs stop (Settle (Ok tt) ∷ s.calls))
@@ -256,11 +256,11 @@ module _ {S K : Type 0} (gives : S → Got → S → Type 0) (ahead : S → List
             unfailed = nexts_unfailed reads.bytes reads.stop (Settle (Ok tt) ∷ s.calls) s.unfailed;
             continues = nexts_stop reads.bytes reads.stop (Settle (Ok tt) ∷ s.calls) s.continues ∙ reads.continues;
             walked = s.walked;
-            beginning = λ xs stop may. rw (nexts_bytes reads.bytes reads.stop (Settle (Ok tt) ∷ s.calls), append_assoc (bytes_of s.calls) reads.bytes xs)
+            beginning = λ xs stop may. rw (nexts_bytes reads.bytes reads.stop (Settle (Ok tt) ∷ s.calls), append_assoc (returned s.calls) reads.bytes xs)
                 (s.beginning (reads.bytes ++ xs) stop (rw s.continues tt) ∙ ap (with_bytes s.walked) (rest xs stop));
-            lists = λ xs stop may. rw (nexts_bytes reads.bytes reads.stop (Settle (Ok tt) ∷ s.calls), nexts_lines reads.bytes reads.stop (Settle (Ok tt) ∷ s.calls), append_assoc (bytes_of s.calls) reads.bytes xs)
+            lists = λ xs stop may. rw (nexts_bytes reads.bytes reads.stop (Settle (Ok tt) ∷ s.calls), nexts_lines reads.bytes reads.stop (Settle (Ok tt) ∷ s.calls), append_assoc (returned s.calls) reads.bytes xs)
                 (s.lists (reads.bytes ++ xs) stop (rw s.continues tt) ∙ ap (λ t. with_lines (lines_of s.calls) (at n t)) (rest xs stop));
-            decided = λ is xs stop. rw (nexts_bytes reads.bytes reads.stop (Settle (Ok tt) ∷ s.calls), nexts_lines reads.bytes reads.stop (Settle (Ok tt) ∷ s.calls), append_assoc (bytes_of s.calls) reads.bytes xs)
+            decided = λ is xs stop. rw (nexts_bytes reads.bytes reads.stop (Settle (Ok tt) ∷ s.calls), nexts_lines reads.bytes reads.stop (Settle (Ok tt) ∷ s.calls), append_assoc (returned s.calls) reads.bytes xs)
                 (s.decided refl (reads.bytes ++ xs) stop ∙ ap (λ t. with_lines (lines_of s.calls) (knows n t)) (rest xs stop));
           }
       live_read (Some e) w' p' r' h =
@@ -274,9 +274,9 @@ module _ {S K : Type 0} (gives : S → Got → S → Type 0) (ahead : S → List
             unfailed = nexts_unfailed reads.bytes reads.stop (Settle (Ok tt) ∷ s.calls) s.unfailed;
             continues = tt;
             walked = s.walked;
-            beginning = λ xs stop may. rw (nexts_bytes reads.bytes reads.stop (Settle (Ok tt) ∷ s.calls), append_assoc (bytes_of s.calls) reads.bytes xs)
+            beginning = λ xs stop may. rw (nexts_bytes reads.bytes reads.stop (Settle (Ok tt) ∷ s.calls), append_assoc (returned s.calls) reads.bytes xs)
                 (s.beginning (reads.bytes ++ xs) stop (rw s.continues tt) ∙ ap (with_bytes s.walked) (rest xs stop (rw (sym stopped) may)));
-            lists = λ xs stop may. rw (nexts_bytes reads.bytes reads.stop (Settle (Ok tt) ∷ s.calls), nexts_lines reads.bytes reads.stop (Settle (Ok tt) ∷ s.calls), append_assoc (bytes_of s.calls) reads.bytes xs)
+            lists = λ xs stop may. rw (nexts_bytes reads.bytes reads.stop (Settle (Ok tt) ∷ s.calls), nexts_lines reads.bytes reads.stop (Settle (Ok tt) ∷ s.calls), append_assoc (returned s.calls) reads.bytes xs)
                 (s.lists (reads.bytes ++ xs) stop (rw s.continues tt) ∙ ap (λ t. with_lines (lines_of s.calls) (at n t)) (rest xs stop (rw (sym stopped) may)));
             decided = λ is. absurd (cc);
           }

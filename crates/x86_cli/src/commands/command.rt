@@ -144,11 +144,10 @@ fn obey<S: Source, K: Sink, T: Settling<K>>(
 /// - `WriteFault`: the sink failed at the last put. What was written is a prefix of the listing.
 /// - `TooLarge`: the whole listing was put, of the bytes that may be read; its last line is `text too long`.
 ///
-/// `ran` and `made` hold for every source and sink and name each call; `says` is about those whose bytes are known.
-/// What follows
-/// from the clauses is a law: `laws::reported` and `made` (what calls say of bytes and faults), `causes`, `read_faults` and
-/// `write_faults` (what a fault comes from), `exact` and `unrefused` (where a status comes), `complete` (where all is
-/// listed).
+/// `ran` and `made` hold for every source and sink and name each call, and `ran` says when the source is called: never
+/// before a line that is decided. `says` is about those whose bytes are known. What follows from the clauses is a law:
+/// `laws::reported` and `made` (what calls say of bytes and faults), `causes`, `read_faults` and `write_faults` (what a
+/// fault comes from), `exact` and `unrefused` (where a status comes), `complete` (where all is listed).
 pub fn run<S: Source, K: Sink>(words: &[String], source: &mut S, sink: &mut K) -> Status
     ensures ran { IfCommand words.now (λ c.
         Runs S.gives S.ahead K.takes c result source.old source.new sink.old sink.new) }

@@ -55,8 +55,9 @@ fn ending_of(status: Status, flushed: &Result<(), SinkFailed>) -> Status
 /// - `WriteFault`: the writer's last call failed: a write or a flush answered an error, or a write took none of bytes
 ///   that aren't empty. The writer took a prefix of the listing.
 ///
-/// At every status but `WriteFault` and `Usage` the writer's last call was a flush that succeeded. Only a write that a
-/// signal interrupted is tried again. No read follows the end of the input, an error, or the end of the text.
+/// At every status but `WriteFault` and `Usage` the writer's last call was a flush that succeeded. Only a call that a
+/// signal interrupted is made again. No read follows the end of the input, an error, or the end of the text. What is
+/// gathered is sent and flushed before each read (`run_settling`).
 pub fn listed<R: Input + Drop, W: Output + Drop>(
     arguments: &[String],
     reader: R,

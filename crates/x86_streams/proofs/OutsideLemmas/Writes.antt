@@ -3,7 +3,7 @@ use Rattle.std.proofs.Common.{◌≡◌, ℕ, List, [], ◌∷◌, ◌++◌, tak
 use Rattle.std.specs.Prelude.{OnOk, ⊤}
 use Rattle.std.specs.declared.io.Error.{Error}
 use Rattle.std.specs.Io.KnownBytes.{Keeps}
-use Rattle.std.proofs.KnownBytes.{Keeps-refl, Keeps-trans}
+use Rattle.std.proofs.KnownBytes.{Keeps-trans}
 use Rattle.x86_streams.specs.declared.outside.sink.SinkFailed.{SinkFailed}
 use Rattle.x86_streams.specs.Outside.Writes.{Call, Write, Flush, sent_by, sent, IsInterrupted, Continues, AllContinue, FailsLast, Cause, Does, WriterCalls, Caused, Forwards, EndsInFlush, Flushes, FlushesOut}
 
@@ -95,9 +95,6 @@ module _ {W : Type 0} (writes : W → List ℕ → Result ℕ Error → W → Ty
       pub each : AreInterrupted calls
       pub many : length calls ≡ count
       pub kept : Keeps (written old) (written new)
-
-    pub tried_none : (a : W) → Tried 0 a a
-    tried_none a = record { calls = []; did = refl; each = tt; many = refl; kept = Keeps-refl (written a) }
 
     pub tried_more : (count : ℕ) (a b d : W) (c : Call) → Tried count a b → Does writes flushes c b d → IsInterrupted c → Keeps (written b) (written d) → Tried (count + 1) a d
     tried_more count a b d c t did is kept =

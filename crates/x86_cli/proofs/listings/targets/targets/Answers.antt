@@ -1,4 +1,4 @@
-use Rattle.std.proofs.Common.{Bool, None, List, [], refl, ◌≡◌, ℕ, ◌<◌, ap, arith, false, length, ◌+◌, slice_index_or}
+use Rattle.std.proofs.Common.{Bool, List, ◌≡◌, ℕ, ◌<◌, ap, arith, false, length, ◌+◌, slice_index_or}
 use Rattle.x86_layout.specs.Sweeps.Marks.{is_marked}
 use Rattle.x86_streams.specs.Text.{Text}
 use Rattle.x86_cli.specs.Listings.Targets.{lines_if, place_line, targets_at}
@@ -12,7 +12,7 @@ marked_at : (strict : Bool) (image shown : List ℕ) (marks : List Bool) (place 
 marked_at strict image shown marks place same lt all = grind (arith, all place)
 
 pub places-init : goal.places-init
-places-init g c = progress_whole g.S.Source.gives g.K.Sink.takes (targets_at c.args.decoder.now.strict) None tt c.args.max c.read_whole-text.result.ending c.read_whole-text.result.image.items _ _ _ c.read_whole-text.ensures
+places-init g c = progress_whole g.S.Source.gives g.K.Sink.takes (targets_at c.args.decoder.now.strict) c.args.max c.read_whole-text.result.ending c.read_whole-text.result.image.items _ _ _ c.read_whole-text.ensures
 
 pub places-preserved : goal.places-preserved
 places-preserved g c =
@@ -20,8 +20,8 @@ places-preserved g c =
     let place = c.places.place in
     let text : Text = record { image = c.read_whole-text.result.image.items; ending = c.read_whole-text.result.ending } in
     let m = marked_at strict text.image c.as_slice-image.result.now c.mark.new.marks place c.as_slice-image.ensures.value c.places-test.true c.mark.ensures in
-    progress_step g.S.Source.gives g.K.Sink.takes (targets_at strict) None _ _ _ _ _ _ _ _ _ _ c.places.invariant (lines_if (is_marked strict text.image place) place) (place + 1) text.image
-    (λ xs stop. targets-step strict place text m.0) [] (λ xs stop. refl) (λ walked any. tt) _ (rw m.1 at c.in-Ok.ensures.ok)
+    progress_step g.S.Source.gives g.K.Sink.takes (targets_at strict) _ _ text _ _ _ _ c.places.invariant (lines_if (is_marked strict text.image place) place) (place + 1)
+    (targets-step strict place text m.0) _ (rw m.1 at c.in-Ok.ensures.ok)
 
 pub returns-in-Err : goal.returns-in-Err
 returns-in-Err g c =
@@ -29,11 +29,11 @@ returns-in-Err g c =
     let place = c.places.place in
     let text : Text = record { image = c.read_whole-text.result.image.items; ending = c.read_whole-text.result.ending } in
     let m = marked_at strict text.image c.as_slice-image.result.now c.mark.new.marks place c.as_slice-image.ensures.value c.places-test.true c.mark.ensures in
-    ran_failed g.S.Source.gives g.K.Sink.takes (targets_at strict) None _ _ _ _ _ _ _ _ _ _ c.places.invariant (place_line place)
-    (λ xs stop. (targets_at strict (place + 1) text, grind (arith, targets-step strict place text m.0, m.1, c.in-Err.ensures.failed.0))) _ _ c.in-Err.ensures.failed.1
+    ran_failed g.S.Source.gives g.K.Sink.takes (targets_at strict) _ _ text _ _ _ _ c.places.invariant (place_line place) (targets_at strict (place + 1) text)
+    (grind (arith, targets-step strict place text m.0, m.1, c.in-Err.ensures.failed.0)) _ _ c.in-Err.ensures.failed.1
 
 pub returns : goal.returns
 returns g c =
     let all : c.places.place ≡ length c.read_whole-text.result.image.items = omega (arith, c.places-test.false, c.places.auto.place-end, ap length c.as_slice-image.ensures.value) in
-    ran_closes g.S.Source.gives g.K.Sink.takes (targets_at c.args.decoder.now.strict) None _ _ _ _ _ _ _ _ _ _ c.places.invariant _
-    (λ xs stop. targets-end c.args.decoder.now.strict c.places.place c.read_whole-text.result.image.items c.read_whole-text.result.ending all) _ _ c.end.ensures
+    ran_closes g.S.Source.gives g.K.Sink.takes (targets_at c.args.decoder.now.strict) _ _ _ _ _ _ _ c.places.invariant _
+    (targets-end c.args.decoder.now.strict c.places.place c.read_whole-text.result.image.items c.read_whole-text.result.ending all) _ _ c.end.ensures
