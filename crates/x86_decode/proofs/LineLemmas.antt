@@ -20,8 +20,8 @@ use Rattle.x86_operands.specs.FormEncodings.{Belongs, Describes, group_form}
 use Rattle.x86_fields.specs.ModRM.{absent_modrm}
 use Rattle.x86_operands.specs.Forms.{form_plan, form_record, modrm_use}
 use Rattle.x86_operands.specs.PlanSteps.{read_modrm, read_plan, record_step}
-use Rattle.x86_group_plans.specs.ByReg.{Chooses, reg_plan}
-use Rattle.x86_group_plans.specs.Groups.{group_plan, group_record}
+use Rattle.x86_groups.specs.ByReg.{Chooses, reg_plan}
+use Rattle.x86_groups.specs.Groups.{group_plan, group_record}
 use Rattle.x86_groups.proofs.RegLemmas.{reg_record, reg_chosen, reg_group}
 use Rattle.x86_decode.specs.Walk.{row_step, plan_at}
 

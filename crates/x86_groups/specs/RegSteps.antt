@@ -5,7 +5,7 @@ use Rattle.x86_plans.specs.declared.plans.ModrmUse.TheVariants.{EitherForm}
 use Rattle.x86_operands.specs.declared.reader.Reading.{Reading}
 use Rattle.x86_operands.specs.PlanSteps.{read_modrm, read_plan}
 use Rattle.x86_plans.specs.declared.encodings.RegGroup.{RegGroup}
-use Rattle.x86_group_plans.specs.ByReg.{reg_plan}
+use Rattle.x86_groups.specs.ByReg.{reg_plan}
 
 -- what a group reads after its opcode byte: ModRM, and what its line has there
 abbrev pub reg_step : RegGroup → Prefixes → Step Reading

@@ -29,8 +29,8 @@ use Rattle.x86_forms.specs.declared.TableRow.{TableRow}
 use Rattle.x86_forms.specs.Groups.{is_group}
 use Rattle.x86_operands.specs.Forms.{form_record}
 use Rattle.x86_operands.proofs.PlainLemmas.{plain_narrow}
-use Rattle.x86_group_plans.specs.Groups.{group_record}
-use Rattle.x86_group_plans.proofs.GroupLemmas.{group_narrow}
+use Rattle.x86_groups.specs.Groups.{group_record}
+use Rattle.x86_groups.proofs.GroupLemmas.{group_narrow}
 
 -- ---- SIB and displacement
 

@@ -15,15 +15,15 @@ use Rattle.x86_plans.specs.declared.plans.PrefixChange.TheVariants.{Keeps}
 use Rattle.x86_plans.specs.declared.plans.Verdict.TheVariants.{Refuses}
 use Rattle.x86_plans.specs.Asks.{immediates_width}
 use Rattle.x86_plans.proofs.PlanTests.{passes, without_gap, at_most_64, at_most_8}
-use Rattle.x86_group_plans.specs.declared.letters.Letters.{Letters}
-use Rattle.x86_group_plans.specs.declared.letters.RowSize.{RowSize}
-use Rattle.x86_group_plans.specs.declared.rows.Names.TheVariants.{Name}
-use Rattle.x86_group_plans.specs.declared.rows.Content.TheVariants as content
-use Rattle.x86_group_plans.specs.Columns.{plan_of_row}
-use Rattle.x86_group_plans.specs.Groups.{is_f3_alone, fault_f30f3af0, group_fault, group_form_plan, group_record}
-use Rattle.x86_group_plans.specs.Rows.{group_rows}
-use Rattle.x86_group_plans.proofs.FactLemmas.{is_8f, may_have_gap}
-use Rattle.x86_group_plans.proofs.PlanLemmas.{group_passes}
+use Rattle.x86_groups.specs.declared.letters.Letters.{Letters}
+use Rattle.x86_groups.specs.declared.letters.RowSize.{RowSize}
+use Rattle.x86_groups.specs.declared.rows.Names.TheVariants.{Name}
+use Rattle.x86_groups.specs.declared.rows.Content.TheVariants as content
+use Rattle.x86_groups.specs.Columns.{plan_of_row}
+use Rattle.x86_groups.specs.Groups.{is_f3_alone, fault_f30f3af0, group_fault, group_form_plan, group_record}
+use Rattle.x86_groups.specs.Rows.{group_rows}
+use Rattle.x86_groups.proofs.FactLemmas.{is_8f, may_have_gap}
+use Rattle.x86_groups.proofs.PlanLemmas.{group_passes}
 
 pub group_small : (strict : Bool) (row : TableRow) (p : Prefixes) (m : ℕ) → ((group_record strict row p).plan m).size ≤ 64
 unfolding group_record

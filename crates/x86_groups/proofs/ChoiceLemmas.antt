@@ -12,20 +12,20 @@ use Rattle.x86_fields.specs.ModRM.{reg_field, rm_field, is_memory}
 use Rattle.x86_opcodes.specs.Names.{LFENCE, MFENCE, SFENCE}
 use Rattle.x86_plans.specs.declared.plans.Fault.TheVariants.{BadOperand, BadOpcode}
 use Rattle.x86_plans.specs.declared.plans.Moment.TheVariants.{AtModRM}
-use Rattle.x86_group_plans.specs.declared.letters.Letters.TheVariants.{Zero}
-use Rattle.x86_group_plans.specs.declared.rows.Place.{Place}
-use Rattle.x86_group_plans.specs.declared.rows.Place.TheVariants.{Memory}
-use Rattle.x86_group_plans.specs.declared.rows.When.{When}
-use Rattle.x86_group_plans.specs.declared.rows.When.TheVariants as when
-use Rattle.x86_group_plans.specs.declared.rows.Content.{Content}
-use Rattle.x86_group_plans.specs.declared.rows.Content.TheVariants.{Refuses}
-use Rattle.x86_group_plans.specs.declared.rows.GroupRow.{GroupRow}
-use Rattle.x86_group_plans.specs.Columns.{Seen, choose, is_there, is_placed, is_rm, is_prefixed, is_named, name_at, named, none, plan_of_row, seen_at}
-use Rattle.x86_group_plans.specs.Words.{reg_from, reg_zero, by_reg, eight, read, refusal, otherwise, size}
-use Rattle.x86_group_plans.specs.Choices.{NamesFence, lfence, mfence, sfence, IsFenceWithRm}
-use Rattle.x86_group_plans.specs.Groups.{group_form_plan, group_plan, operandless, bad_operand}
-use Rattle.x86_group_plans.specs.Rows.{group_rows, two_byte_rows, three_byte_rows}
-use Rattle.x86_group_plans.proofs.RowLemmas.{chosen_alike, chosen_before, chosen_after, same_if, chosen_by, by_no_choice, held_by_choice}
+use Rattle.x86_groups.specs.declared.letters.Letters.TheVariants.{Zero}
+use Rattle.x86_groups.specs.declared.rows.Place.{Place}
+use Rattle.x86_groups.specs.declared.rows.Place.TheVariants.{Memory}
+use Rattle.x86_groups.specs.declared.rows.When.{When}
+use Rattle.x86_groups.specs.declared.rows.When.TheVariants as when
+use Rattle.x86_groups.specs.declared.rows.Content.{Content}
+use Rattle.x86_groups.specs.declared.rows.Content.TheVariants.{Refuses}
+use Rattle.x86_groups.specs.declared.rows.GroupRow.{GroupRow}
+use Rattle.x86_groups.specs.Columns.{Seen, choose, is_there, is_placed, is_rm, is_prefixed, is_named, name_at, named, none, plan_of_row, seen_at}
+use Rattle.x86_groups.specs.Words.{reg_from, reg_zero, by_reg, eight, read, refusal, otherwise, size}
+use Rattle.x86_groups.specs.Choices.{NamesFence, lfence, mfence, sfence, IsFenceWithRm}
+use Rattle.x86_groups.specs.Groups.{group_form_plan, group_plan, operandless, bad_operand}
+use Rattle.x86_groups.specs.Rows.{group_rows, two_byte_rows, three_byte_rows}
+use Rattle.x86_groups.proofs.RowLemmas.{chosen_alike, chosen_before, chosen_after, same_if, chosen_by, by_no_choice, held_by_choice}
 
 -- ---- the last rows of 0F AE
 

@@ -1,22 +1,13 @@
-//! The plans of groups: of the forms of which ModRM or a suffix chooses the operation.
-//!
-//! Each group has rows, of which the first that holds counts, and so a plan at each ModRM byte, under the prefixes.
-//! No function here reads bytes: `x86_groups` reads by these plans.
-#![tactic(auto)]
+//! The plan of a form at a ModRM byte: that of the first of its rows that holds. No function here reads bytes.
 
 ghost use Rattle.std.specs.Prelude.{◌≡◌, Bool, true};
 ghost use Rattle.x86_forms.specs.Groups.{is_group};
 ghost use Rattle.x86_plans.specs.Asks.{ask_of, record_at};
-ghost use Rattle.x86_group_plans.specs.Rows.{three_byte_rows, two_byte_rows, group_rows};
-ghost use Rattle.x86_group_plans.specs.Groups.{fault_f30f3af0, is_f3_alone, group_form_plan, group_fault, group_modrm, group_plan, group_record};
+ghost use Rattle.x86_groups.specs.Rows.{three_byte_rows, two_byte_rows, group_rows};
+ghost use Rattle.x86_groups.specs.Groups.{fault_f30f3af0, is_f3_alone, group_form_plan, group_fault, group_modrm, group_plan, group_record};
 
-mod by_reg;
-mod letters;
-mod rows;
-mod tables;
-
-pub use by_reg::chosen;
-use rows::{GroupRow, Seen, choose};
+use crate::rows::{GroupRow, Seen, choose};
+use crate::tables;
 use x86_fields::{ModRM, Prefixes};
 use x86_forms::{Form, TableRow};
 use x86_opcodes::Opcode;

@@ -9,27 +9,13 @@ use Rattle.x86_plans.specs.declared.encodings.FormEncoding.{FormEncoding}
 use Rattle.x86_plans.specs.declared.encodings.AfterOpcode.{AfterOpcode}
 use Rattle.x86_plans.specs.declared.encodings.AfterOpcode.TheVariants as after_opcode
 use Rattle.x86_plans.specs.Encodings.{plan_of, is_described}
-use Rattle.x86_group_plans.specs.declared.rows.GroupRow.{GroupRow}
-use Rattle.x86_group_plans.specs.Groups.{rows_plan}
-use Rattle.x86_group_plans.specs.Rows.{group_rows}
-use Rattle.x86_forms.specs.declared.Form.TheVariants as form
+use Rattle.x86_groups.specs.declared.rows.GroupRow.{GroupRow}
+use Rattle.x86_groups.specs.Groups.{rows_plan}
+use Rattle.x86_groups.specs.Rows.{group_rows}
+use Rattle.x86_operands.specs.FormEncodings.{group_form}
 
 abbrev pub reg_rows : RegGroup → List GroupRow
-reg_rows group.G80 = group_rows form.ModRM_0x80
-reg_rows group.G81 = group_rows form.ModRM_0x81
-reg_rows group.G83 = group_rows form.ModRM_0x83
-reg_rows group.C0 = group_rows form.ModRM_0xc0
-reg_rows group.C1 = group_rows form.ModRM_0xc1
-reg_rows group.C6 = group_rows form.ModRM_0xc6
-reg_rows group.C7 = group_rows form.ModRM_0xc7
-reg_rows group.D0 = group_rows form.ModRM_0xd0
-reg_rows group.D1 = group_rows form.ModRM_0xd1
-reg_rows group.D2 = group_rows form.ModRM_0xd2
-reg_rows group.D3 = group_rows form.ModRM_0xd3
-reg_rows group.F6 = group_rows form.ModRM_0xf6
-reg_rows group.F7 = group_rows form.ModRM_0xf7
-reg_rows group.FE = group_rows form.ModRM_0xfe
-reg_rows group.FF = group_rows form.ModRM_0xff
+reg_rows g = group_rows (group_form g)
 
 -- the place of a group in tables by groups
 abbrev pub place_of : RegGroup → ℕ

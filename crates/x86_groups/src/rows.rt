@@ -1,7 +1,7 @@
 //! Rows of groups: where each is, and what it has there. The first row that holds counts.
 ghost use Rattle.std.specs.Prelude.{◌≡◌};
 ghost use Rattle.x86_fields.specs.Raw.{has_r};
-ghost use Rattle.x86_group_plans.specs.Columns.{choose, is_there, is_placed, is_prefixed, is_rm, is_named, name_at, named, opcode_of, plan_of_row, seen_at, verdict_of};
+ghost use Rattle.x86_groups.specs.Columns.{choose, is_there, is_placed, is_prefixed, is_rm, is_named, name_at, named, opcode_of, plan_of_row, seen_at, verdict_of};
 
 use crate::letters::{Letters, RowSize};
 use x86_fields::{ModRM, Prefixes};

@@ -2,7 +2,7 @@
 ghost use Rattle.std.specs.Prelude.{◌≡◌};
 ghost use Rattle.x86_regs.specs.Class.{width_of};
 ghost use Rattle.x86_fields.specs.Sizes.{class_of};
-ghost use Rattle.x86_group_plans.specs.Columns.{distance_of, letter_encoding, operand_encodings, row_bytes};
+ghost use Rattle.x86_groups.specs.Columns.{distance_of, letter_encoding, operand_encodings, row_bytes};
 
 use x86_fields::{ModRM, Prefixes, Width};
 use x86_plans::plans::{OperandEncoding, OperandEncodings, RegisterSlot, immediate_of};

@@ -6,17 +6,17 @@ use Rattle.x86_forms.specs.declared.Form.{Form}
 use Rattle.x86_forms.specs.declared.Form.TheVariants as form
 use Rattle.x86_forms.specs.Groups.{is_group}
 use Rattle.x86_plans.proofs.PlanTests.{is_gap}
-use Rattle.x86_group_plans.specs.declared.letters.Letter.{Letter}
-use Rattle.x86_group_plans.specs.declared.letters.Letter.TheVariants as letter
-use Rattle.x86_group_plans.specs.declared.letters.Letters.{Letters}
-use Rattle.x86_group_plans.specs.declared.letters.Letters.TheVariants as letters
-use Rattle.x86_group_plans.specs.declared.letters.RowSize.{RowSize}
-use Rattle.x86_group_plans.specs.declared.letters.RowSize.TheVariants.{Bytes, Of}
-use Rattle.x86_group_plans.specs.declared.rows.Content.{Content}
-use Rattle.x86_group_plans.specs.declared.rows.Content.TheVariants.{Reads, Refuses}
-use Rattle.x86_group_plans.specs.declared.rows.GroupRow.{GroupRow}
-use Rattle.x86_group_plans.specs.Rows.{group_rows, two_byte_rows, three_byte_rows}
-use Rattle.x86_group_plans.proofs.RowLemmas.{is_register, no_rm_names, rm_free}
+use Rattle.x86_groups.specs.declared.letters.Letter.{Letter}
+use Rattle.x86_groups.specs.declared.letters.Letter.TheVariants as letter
+use Rattle.x86_groups.specs.declared.letters.Letters.{Letters}
+use Rattle.x86_groups.specs.declared.letters.Letters.TheVariants as letters
+use Rattle.x86_groups.specs.declared.letters.RowSize.{RowSize}
+use Rattle.x86_groups.specs.declared.letters.RowSize.TheVariants.{Bytes, Of}
+use Rattle.x86_groups.specs.declared.rows.Content.{Content}
+use Rattle.x86_groups.specs.declared.rows.Content.TheVariants.{Reads, Refuses}
+use Rattle.x86_groups.specs.declared.rows.GroupRow.{GroupRow}
+use Rattle.x86_groups.specs.Rows.{group_rows, two_byte_rows, three_byte_rows}
+use Rattle.x86_groups.proofs.RowLemmas.{is_register, no_rm_names, rm_free}
 
 abbrev pub letters_list : Letters → List Letter
 letters_list letters.Zero = []

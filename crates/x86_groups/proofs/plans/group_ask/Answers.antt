@@ -1,7 +1,7 @@
 use Rattle.x86_plans.specs.Asks.{ask_of, used_modrm}
-use Rattle.x86_group_plans.specs.Groups.{group_record, group_modrm}
-use Rattle.x86_group_plans.proofs.AskLemmas.{same_ask}
-use Rattle.x86_group_plans.proofs.group_ask.Goals as goal
+use Rattle.x86_groups.specs.Groups.{group_record, group_modrm}
+use Rattle.x86_groups.proofs.AskLemmas.{same_ask}
+use Rattle.x86_groups.proofs.plans.group_ask.Goals as goal
 
 pub returns : goal.returns
 unfolding ask_of group_record

@@ -23,22 +23,22 @@ use Rattle.x86_plans.specs.declared.plans.Verdict.{Verdict}
 use Rattle.x86_plans.specs.Asks.{immediate_width}
 use Rattle.x86_plans.specs.Plans.{immediate_of, size_by}
 use Rattle.x86_plans.proofs.PlanTests.{passes, narrow, has_gap, is_gap, small_if, small_width, both, plan_passes, narrow_by}
-use Rattle.x86_group_plans.specs.declared.letters.Letter.{Letter}
-use Rattle.x86_group_plans.specs.declared.letters.Letter.TheVariants as letter
-use Rattle.x86_group_plans.specs.declared.letters.Letters.{Letters}
-use Rattle.x86_group_plans.specs.declared.letters.Letters.TheVariants as letters
-use Rattle.x86_group_plans.specs.declared.letters.RowSize.{RowSize}
-use Rattle.x86_group_plans.specs.declared.letters.RowSize.TheVariants.{Bytes, Of}
-use Rattle.x86_group_plans.specs.declared.rows.Names.{Names}
-use Rattle.x86_group_plans.specs.declared.rows.Names.TheVariants.{BySuffix, ByReg, ByRm}
-use Rattle.x86_group_plans.specs.declared.rows.Content.{Content}
-use Rattle.x86_group_plans.specs.declared.rows.Content.TheVariants.{Reads, Refuses}
-use Rattle.x86_group_plans.specs.declared.rows.GroupRow.{GroupRow}
-use Rattle.x86_group_plans.specs.Columns.{Seen, choose, is_there, seen_at, distance_of, letter_encoding, operand_encodings, row_bytes, verdict_of, opcode_of, named, name_at, plan_of_row}
-use Rattle.x86_group_plans.specs.Groups.{group_form_plan}
-use Rattle.x86_group_plans.specs.Rows.{group_rows}
-use Rattle.x86_group_plans.proofs.RowLemmas.{AreAlike, chosen_has, chosen_alike, held_in_memory, is_register, no_rm_names, rm_free, row_absent}
-use Rattle.x86_group_plans.proofs.FactLemmas.{letters_list, may_have_gap, most, small_bytes, fits, row_fits, rows_fit, rm_free_letter, is_memory_letter, in_memory, row_in_memory, rows_rm_free, rows_in_memory}
+use Rattle.x86_groups.specs.declared.letters.Letter.{Letter}
+use Rattle.x86_groups.specs.declared.letters.Letter.TheVariants as letter
+use Rattle.x86_groups.specs.declared.letters.Letters.{Letters}
+use Rattle.x86_groups.specs.declared.letters.Letters.TheVariants as letters
+use Rattle.x86_groups.specs.declared.letters.RowSize.{RowSize}
+use Rattle.x86_groups.specs.declared.letters.RowSize.TheVariants.{Bytes, Of}
+use Rattle.x86_groups.specs.declared.rows.Names.{Names}
+use Rattle.x86_groups.specs.declared.rows.Names.TheVariants.{BySuffix, ByReg, ByRm}
+use Rattle.x86_groups.specs.declared.rows.Content.{Content}
+use Rattle.x86_groups.specs.declared.rows.Content.TheVariants.{Reads, Refuses}
+use Rattle.x86_groups.specs.declared.rows.GroupRow.{GroupRow}
+use Rattle.x86_groups.specs.Columns.{Seen, choose, is_there, seen_at, distance_of, letter_encoding, operand_encodings, row_bytes, verdict_of, opcode_of, named, name_at, plan_of_row}
+use Rattle.x86_groups.specs.Groups.{group_form_plan}
+use Rattle.x86_groups.specs.Rows.{group_rows}
+use Rattle.x86_groups.proofs.RowLemmas.{AreAlike, chosen_has, chosen_alike, held_in_memory, is_register, no_rm_names, rm_free, row_absent}
+use Rattle.x86_groups.proofs.FactLemmas.{letters_list, may_have_gap, most, small_bytes, fits, row_fits, rows_fit, rm_free_letter, is_memory_letter, in_memory, row_in_memory, rows_rm_free, rows_in_memory}
 
 -- ---- the tests of plans
 

@@ -17,9 +17,9 @@ use Rattle.x86_plans.specs.Plans.{RowRecord, reads, refuses}
 use Rattle.x86_forms.specs.declared.Form.{Form}
 use Rattle.x86_forms.specs.declared.Form.TheVariants as form
 use Rattle.x86_forms.specs.declared.TableRow.{TableRow}
-use Rattle.x86_group_plans.specs.declared.rows.GroupRow.{GroupRow}
-use Rattle.x86_group_plans.specs.Columns.{choose, plan_of_row, seen_at}
-use Rattle.x86_group_plans.specs.Rows.{group_rows}
+use Rattle.x86_groups.specs.declared.rows.GroupRow.{GroupRow}
+use Rattle.x86_groups.specs.Columns.{choose, plan_of_row, seen_at}
+use Rattle.x86_groups.specs.Rows.{group_rows}
 
 -- ---- at the opcode, and ModRM
 

@@ -11,18 +11,18 @@ use Rattle.x86_plans.specs.declared.encodings.RegGroup.TheVariants as group
 use Rattle.x86_plans.specs.declared.encodings.Size.{Size}
 use Rattle.x86_plans.specs.declared.encodings.FormEncoding.{FormEncoding}
 use Rattle.x86_plans.specs.Encodings.{is_sound, size_bytes, is_described, plan_of}
-use Rattle.x86_group_plans.specs.declared.by_reg.RegLine.{RegLine}
-use Rattle.x86_group_plans.specs.declared.tables.TheConstants.{REG_LINES}
-use Rattle.x86_group_plans.specs.declared.rows.Names.{Names}
-use Rattle.x86_group_plans.specs.declared.rows.Names.TheVariants.{Own}
-use Rattle.x86_group_plans.specs.declared.rows.Content.{Content}
-use Rattle.x86_group_plans.specs.declared.rows.Content.TheVariants.{Reads, Refuses}
-use Rattle.x86_group_plans.specs.declared.rows.GroupRow.{GroupRow}
-use Rattle.x86_group_plans.specs.Columns.{choose, named, opcode_of, seen_at, plan_of_row}
-use Rattle.x86_group_plans.specs.Groups.{rows_plan}
-use Rattle.x86_group_plans.specs.Rows.{group_rows}
-use Rattle.x86_group_plans.specs.ByReg.{Chooses, has_either_form, place_of, reg_plan, reg_rows}
-use Rattle.x86_group_plans.proofs.RowLemmas.{chosen_has}
+use Rattle.x86_groups.specs.declared.by_reg.RegLine.{RegLine}
+use Rattle.x86_groups.specs.declared.tables.TheConstants.{REG_LINES}
+use Rattle.x86_groups.specs.declared.rows.Names.{Names}
+use Rattle.x86_groups.specs.declared.rows.Names.TheVariants.{Own}
+use Rattle.x86_groups.specs.declared.rows.Content.{Content}
+use Rattle.x86_groups.specs.declared.rows.Content.TheVariants.{Reads, Refuses}
+use Rattle.x86_groups.specs.declared.rows.GroupRow.{GroupRow}
+use Rattle.x86_groups.specs.Columns.{choose, named, opcode_of, seen_at, plan_of_row}
+use Rattle.x86_groups.specs.Groups.{rows_plan}
+use Rattle.x86_groups.specs.Rows.{group_rows}
+use Rattle.x86_groups.specs.ByReg.{Chooses, has_either_form, place_of, reg_plan, reg_rows}
+use Rattle.x86_groups.proofs.RowLemmas.{chosen_has}
 
 -- ---- the lines
 

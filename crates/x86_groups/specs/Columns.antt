@@ -30,24 +30,24 @@ use Rattle.x86_plans.specs.declared.plans.RegisterSlot.TheVariants as slot
 use Rattle.x86_plans.specs.declared.plans.Verdict.{Verdict}
 use Rattle.x86_plans.specs.declared.plans.Verdict.TheVariants as verdict
 use Rattle.x86_plans.specs.Plans.{refuses, rm_number, size_by, immediate_of}
-use Rattle.x86_group_plans.specs.declared.letters.Letter.{Letter}
-use Rattle.x86_group_plans.specs.declared.letters.Letter.TheVariants as letter
-use Rattle.x86_group_plans.specs.declared.letters.Letters.{Letters}
-use Rattle.x86_group_plans.specs.declared.letters.Letters.TheVariants as letters
-use Rattle.x86_group_plans.specs.declared.letters.RowSize.{RowSize}
-use Rattle.x86_group_plans.specs.declared.letters.RowSize.TheVariants.{Bytes, Of}
-use Rattle.x86_group_plans.specs.declared.rows.Place.{Place}
-use Rattle.x86_group_plans.specs.declared.rows.Place.TheVariants.{Memory, Register, Either}
-use Rattle.x86_group_plans.specs.declared.rows.When.{When}
-use Rattle.x86_group_plans.specs.declared.rows.When.TheVariants as when
-use Rattle.x86_group_plans.specs.declared.rows.Rm.{Rm}
-use Rattle.x86_group_plans.specs.declared.rows.Rm.TheVariants as rms
-use Rattle.x86_group_plans.specs.declared.rows.Names.{Names}
-use Rattle.x86_group_plans.specs.declared.rows.Names.TheVariants.{Own, BySuffix, Name, ByReg, ByRm}
-use Rattle.x86_group_plans.specs.declared.rows.Content.{Content}
-use Rattle.x86_group_plans.specs.declared.rows.Content.TheVariants.{Reads, Refuses}
-use Rattle.x86_group_plans.specs.declared.rows.GroupRow.{GroupRow}
-pub use Rattle.x86_group_plans.specs.declared.rows.Seen.{Seen}
+use Rattle.x86_groups.specs.declared.letters.Letter.{Letter}
+use Rattle.x86_groups.specs.declared.letters.Letter.TheVariants as letter
+use Rattle.x86_groups.specs.declared.letters.Letters.{Letters}
+use Rattle.x86_groups.specs.declared.letters.Letters.TheVariants as letters
+use Rattle.x86_groups.specs.declared.letters.RowSize.{RowSize}
+use Rattle.x86_groups.specs.declared.letters.RowSize.TheVariants.{Bytes, Of}
+use Rattle.x86_groups.specs.declared.rows.Place.{Place}
+use Rattle.x86_groups.specs.declared.rows.Place.TheVariants.{Memory, Register, Either}
+use Rattle.x86_groups.specs.declared.rows.When.{When}
+use Rattle.x86_groups.specs.declared.rows.When.TheVariants as when
+use Rattle.x86_groups.specs.declared.rows.Rm.{Rm}
+use Rattle.x86_groups.specs.declared.rows.Rm.TheVariants as rms
+use Rattle.x86_groups.specs.declared.rows.Names.{Names}
+use Rattle.x86_groups.specs.declared.rows.Names.TheVariants.{Own, BySuffix, Name, ByReg, ByRm}
+use Rattle.x86_groups.specs.declared.rows.Content.{Content}
+use Rattle.x86_groups.specs.declared.rows.Content.TheVariants.{Reads, Refuses}
+use Rattle.x86_groups.specs.declared.rows.GroupRow.{GroupRow}
+pub use Rattle.x86_groups.specs.declared.rows.Seen.{Seen}
 
 -- ---- where a row is
 

@@ -1,5 +1,5 @@
-use Rattle.x86_group_plans.proofs.RegLemmas.{line_chooses, line_fields, line_sound}
-use Rattle.x86_group_plans.proofs.by_reg.chosen.Goals as goal
+use Rattle.x86_groups.proofs.LineLemmas.{line_chooses, line_fields, line_sound}
+use Rattle.x86_groups.proofs.by_reg.chosen.Goals as goal
 
 pub returns-clause-chooses : goal.returns-clause-chooses
 returns-clause-chooses c =

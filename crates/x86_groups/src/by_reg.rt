@@ -2,7 +2,7 @@
 
 ghost use Rattle.std.specs.Prelude.{◌≡◌, ◌<◌, IsTrue, true};
 ghost use Rattle.x86_plans.specs.Encodings.{is_sound, is_described};
-ghost use Rattle.x86_group_plans.specs.ByReg.{place_of, Chooses, has_either_form};
+ghost use Rattle.x86_groups.specs.ByReg.{place_of, Chooses, has_either_form};
 
 use crate::rows::named;
 use crate::tables::REG_LINES;

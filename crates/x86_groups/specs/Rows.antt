@@ -11,13 +11,13 @@ use Rattle.x86_forms.specs.declared.Form.{Form}
 use Rattle.x86_forms.specs.declared.Form.TheVariants as form
 use Rattle.x86_plans.specs.declared.plans.Fault.TheVariants.{BadOpcode, BadOperand, Incomplete}
 use Rattle.x86_plans.specs.declared.plans.Moment.TheVariants.{AtModRM, AfterAddress}
-use Rattle.x86_group_plans.specs.declared.letters.Letter.TheVariants.{E, G, U, M, Gmm, Emm, Umm, Cr, Dr, I8, U8, X8, Iv, Jv, SignedOne, StRm, RdInReg}
-use Rattle.x86_group_plans.specs.declared.letters.Letters.TheVariants.{Zero, One, Two, Three, Four}
-use Rattle.x86_group_plans.specs.declared.rows.When.TheVariants.{Always, NoPrefix, NoRepeat, Only66, F2, F3, With66, F3With66, RexW, RexR}
-use Rattle.x86_group_plans.specs.declared.rows.Names.TheVariants.{Own, BySuffix, Name}
-use Rattle.x86_group_plans.specs.declared.rows.GroupRow.{GroupRow}
-use Rattle.x86_group_plans.specs.Columns.{none}
-use Rattle.x86_group_plans.specs.Words.{mem, reg, both, mem_at, reg_at, both_at, reg_from, reg_rm, reg_any_rm, reg_zero, by_reg, by_rm, cl, rax, eax, ecx, st0, ecx_in_rm, edx_in_rm, ecx_third, sizes, bytes, v, y, vq, size, size_v, undecided, read, read_without_66, refusal, otherwise}
+use Rattle.x86_groups.specs.declared.letters.Letter.TheVariants.{E, G, U, M, Gmm, Emm, Umm, Cr, Dr, I8, U8, X8, Iv, Jv, SignedOne, StRm, RdInReg}
+use Rattle.x86_groups.specs.declared.letters.Letters.TheVariants.{Zero, One, Two, Three, Four}
+use Rattle.x86_groups.specs.declared.rows.When.TheVariants.{Always, NoPrefix, NoRepeat, Only66, F2, F3, With66, F3With66, RexW, RexR}
+use Rattle.x86_groups.specs.declared.rows.Names.TheVariants.{Own, BySuffix, Name}
+use Rattle.x86_groups.specs.declared.rows.GroupRow.{GroupRow}
+use Rattle.x86_groups.specs.Columns.{none}
+use Rattle.x86_groups.specs.Words.{mem, reg, both, mem_at, reg_at, both_at, reg_from, reg_rm, reg_any_rm, reg_zero, by_reg, by_rm, cl, rax, eax, ecx, st0, ecx_in_rm, edx_in_rm, ecx_third, sizes, bytes, v, y, vq, size, size_v, undecided, read, read_without_66, refusal, otherwise}
 
 -- ---- maps 0F38 and 0F3A. Of the groups none is left to the last line, for forms that have no rows
 

@@ -4,8 +4,8 @@ use Rattle.x86_fields.specs.declared.prefixes.Prefixes.{Prefixes}
 use Rattle.x86_forms.specs.declared.Form.{Form}
 use Rattle.x86_plans.specs.declared.plans.ModrmUse.{ModrmUse}
 use Rattle.x86_plans.specs.Asks.{plan_ask}
-use Rattle.x86_group_plans.specs.Groups.{group_form_plan}
-use Rattle.x86_group_plans.proofs.ChoiceLemmas.{form_other, fence_at, refused_at}
+use Rattle.x86_groups.specs.Groups.{group_form_plan}
+use Rattle.x86_groups.proofs.ChoiceLemmas.{form_other, fence_at, refused_at}
 
 pub same_ask : (usage : ModrmUse) (at : ℕ) (f : Form) (o : ℕ) (strict : Bool) (p : Prefixes) (m : ℕ) → plan_ask usage at (group_form_plan f o strict p m) ≡ plan_ask usage at (group_form_plan f o false p m)
 same_ask usage at f o false p m = refl
