@@ -186,9 +186,9 @@ use crate::rows::Names::{ByReg, ByRm, BySuffix, Name, Own};
 use crate::rows::Rm::{Any, Is, ZeroIfStrict};
 use crate::rows::{Content, GroupRow, Place, When, read, read_without_66, refusal};
 use x86_fields::Width::{B, D, Dq, Q, V, Vq, W, X};
-use x86_plans::AfterOpcode::ByPlan;
-use x86_plans::plans::{Fault, ModrmUse, Moment, PrefixChange, RegisterSlot};
-use x86_plans::{encoded, other};
+use x86_operands::AfterOpcode::ByPlan;
+use x86_operands::plans::{Fault, ModrmUse, Moment, PrefixChange, RegisterSlot};
+use x86_operands::{encoded, other};
 use x86_regs::RegisterClass;
 """
 

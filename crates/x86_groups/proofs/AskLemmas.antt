@@ -2,8 +2,8 @@
 use Rattle.std.proofs.Common.{◌≡◌, inl, inr, ℕ, Bool, true, false, refl, sym, ap, ◌∙◌}
 use Rattle.x86_fields.specs.declared.prefixes.Prefixes.{Prefixes}
 use Rattle.x86_forms.specs.declared.Form.{Form}
-use Rattle.x86_plans.specs.declared.plans.ModrmUse.{ModrmUse}
-use Rattle.x86_plans.specs.Asks.{plan_ask}
+use Rattle.x86_operands.specs.declared.plans.ModrmUse.{ModrmUse}
+use Rattle.x86_operands.specs.Asks.{plan_ask}
 use Rattle.x86_groups.specs.Groups.{group_form_plan}
 use Rattle.x86_groups.proofs.ChoiceLemmas.{form_other, fence_at, refused_at}
 

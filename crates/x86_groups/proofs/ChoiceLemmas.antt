@@ -10,8 +10,8 @@ use Rattle.x86_forms.specs.declared.Form.{Form}
 use Rattle.x86_forms.specs.declared.Form.TheVariants as form
 use Rattle.x86_fields.specs.ModRM.{reg_field, rm_field, is_memory}
 use Rattle.x86_opcodes.specs.Names.{LFENCE, MFENCE, SFENCE}
-use Rattle.x86_plans.specs.declared.plans.Fault.TheVariants.{BadOperand, BadOpcode}
-use Rattle.x86_plans.specs.declared.plans.Moment.TheVariants.{AtModRM}
+use Rattle.x86_operands.specs.declared.plans.Fault.TheVariants.{BadOperand, BadOpcode}
+use Rattle.x86_operands.specs.declared.plans.Moment.TheVariants.{AtModRM}
 use Rattle.x86_groups.specs.declared.letters.Letters.TheVariants.{Zero}
 use Rattle.x86_groups.specs.declared.rows.Place.{Place}
 use Rattle.x86_groups.specs.declared.rows.Place.TheVariants.{Memory}

@@ -5,7 +5,7 @@ use Rattle.x86_fields.specs.Pieces.{total}
 use Rattle.x86_forms.specs.declared.Form.{Form}
 use Rattle.x86_forms.specs.declared.Form.TheVariants as form
 use Rattle.x86_forms.specs.Groups.{is_group}
-use Rattle.x86_plans.proofs.PlanTests.{is_gap}
+use Rattle.x86_operands.proofs.PlanTests.{is_gap}
 use Rattle.x86_groups.specs.declared.letters.Letter.{Letter}
 use Rattle.x86_groups.specs.declared.letters.Letter.TheVariants as letter
 use Rattle.x86_groups.specs.declared.letters.Letters.{Letters}

@@ -7,14 +7,14 @@ use Rattle.x86_forms.specs.declared.Form.TheVariants as form
 use Rattle.x86_forms.specs.declared.TableRow.{TableRow}
 use Rattle.x86_forms.specs.Groups.{is_group}
 use Rattle.x86_opcodes.specs.Names.{POP}
-use Rattle.x86_plans.specs.declared.plans.Fault.TheVariants.{BadOpcode, Incomplete}
-use Rattle.x86_plans.specs.declared.plans.Plan.{Plan}
-use Rattle.x86_plans.specs.declared.plans.Moment.{Moment}
-use Rattle.x86_plans.specs.declared.plans.Moment.TheVariants.{AfterAddress, AtModRM}
-use Rattle.x86_plans.specs.declared.plans.PrefixChange.TheVariants.{Keeps}
-use Rattle.x86_plans.specs.declared.plans.Verdict.TheVariants.{Refuses}
-use Rattle.x86_plans.specs.Asks.{immediates_width}
-use Rattle.x86_plans.proofs.PlanTests.{passes, without_gap, at_most_64, at_most_8}
+use Rattle.x86_operands.specs.declared.plans.Fault.TheVariants.{BadOpcode, Incomplete}
+use Rattle.x86_operands.specs.declared.plans.Plan.{Plan}
+use Rattle.x86_operands.specs.declared.plans.Moment.{Moment}
+use Rattle.x86_operands.specs.declared.plans.Moment.TheVariants.{AfterAddress, AtModRM}
+use Rattle.x86_operands.specs.declared.plans.PrefixChange.TheVariants.{Keeps}
+use Rattle.x86_operands.specs.declared.plans.Verdict.TheVariants.{Refuses}
+use Rattle.x86_operands.specs.Asks.{immediates_width}
+use Rattle.x86_operands.proofs.PlanTests.{passes, without_gap, at_most_64, at_most_8}
 use Rattle.x86_groups.specs.declared.letters.Letters.{Letters}
 use Rattle.x86_groups.specs.declared.letters.RowSize.{RowSize}
 use Rattle.x86_groups.specs.declared.rows.Names.TheVariants.{Name}

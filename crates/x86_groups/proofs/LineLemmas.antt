@@ -5,12 +5,12 @@ use Rattle.std.proofs.lemmas.Bool.{and_parts}
 use Rattle.x86_fields.specs.declared.prefixes.Prefixes.{Prefixes}
 use Rattle.x86_fields.specs.ModRM.{reg_field, is_memory}
 use Rattle.x86_opcodes.specs.Names.{Invalid}
-use Rattle.x86_plans.specs.declared.plans.Plan.{Plan}
-use Rattle.x86_plans.specs.declared.encodings.RegGroup.{RegGroup}
-use Rattle.x86_plans.specs.declared.encodings.RegGroup.TheVariants as group
-use Rattle.x86_plans.specs.declared.encodings.Size.{Size}
-use Rattle.x86_plans.specs.declared.encodings.FormEncoding.{FormEncoding}
-use Rattle.x86_plans.specs.Encodings.{is_sound, size_bytes, is_described, plan_of}
+use Rattle.x86_operands.specs.declared.plans.Plan.{Plan}
+use Rattle.x86_operands.specs.declared.encodings.RegGroup.{RegGroup}
+use Rattle.x86_operands.specs.declared.encodings.RegGroup.TheVariants as group
+use Rattle.x86_operands.specs.declared.encodings.Size.{Size}
+use Rattle.x86_operands.specs.declared.encodings.FormEncoding.{FormEncoding}
+use Rattle.x86_operands.specs.Encodings.{is_sound, size_bytes, is_described, plan_of}
 use Rattle.x86_groups.specs.declared.by_reg.RegLine.{RegLine}
 use Rattle.x86_groups.specs.declared.tables.TheConstants.{REG_LINES}
 use Rattle.x86_groups.specs.declared.rows.Names.{Names}

@@ -14,15 +14,15 @@ use Rattle.x86_fields.specs.Raw.{has_r, has_w}
 use Rattle.x86_fields.specs.Run.{repnz, rep}
 use Rattle.x86_fields.specs.Sizes.{class_of, v_class}
 use Rattle.x86_forms.specs.declared.Form.{Form}
-use Rattle.x86_plans.specs.declared.plans.Fault.TheVariants.{BadOpcode}
-use Rattle.x86_plans.specs.declared.plans.Moment.TheVariants.{AtModRM}
-use Rattle.x86_plans.specs.declared.plans.OperandEncodings.{OperandEncodings}
-use Rattle.x86_plans.specs.declared.plans.OperandEncodings.TheVariants as coded
-use Rattle.x86_plans.specs.declared.plans.Plan.{Plan}
-use Rattle.x86_plans.specs.declared.plans.Verdict.{Verdict}
-use Rattle.x86_plans.specs.Asks.{immediate_width}
-use Rattle.x86_plans.specs.Plans.{immediate_of, size_by}
-use Rattle.x86_plans.proofs.PlanTests.{passes, narrow, has_gap, is_gap, small_if, small_width, both, plan_passes, narrow_by}
+use Rattle.x86_operands.specs.declared.plans.Fault.TheVariants.{BadOpcode}
+use Rattle.x86_operands.specs.declared.plans.Moment.TheVariants.{AtModRM}
+use Rattle.x86_operands.specs.declared.plans.OperandEncodings.{OperandEncodings}
+use Rattle.x86_operands.specs.declared.plans.OperandEncodings.TheVariants as coded
+use Rattle.x86_operands.specs.declared.plans.Plan.{Plan}
+use Rattle.x86_operands.specs.declared.plans.Verdict.{Verdict}
+use Rattle.x86_operands.specs.Asks.{immediate_width}
+use Rattle.x86_operands.specs.Plans.{immediate_of, size_by}
+use Rattle.x86_operands.proofs.PlanTests.{passes, narrow, has_gap, is_gap, small_if, small_width, both, plan_passes, narrow_by}
 use Rattle.x86_groups.specs.declared.letters.Letter.{Letter}
 use Rattle.x86_groups.specs.declared.letters.Letter.TheVariants as letter
 use Rattle.x86_groups.specs.declared.letters.Letters.{Letters}

@@ -2,8 +2,8 @@
 use Rattle.std.proofs.Common.{◌≡◌, ◌⊎◌, inl, inr, ℕ, nat_le, ◌==◌, Bool, true, false, not, ◌&&◌, ◌||◌, if◌then◌else◌, List, [], ◌∷◌, ◌++◌, refl, sym, ap, ◌∙◌, true≢false}
 use Rattle.std.specs.List.{list_all}
 use Rattle.std.proofs.lemmas.Bool.{and_parts, or_cases, and_left, and_right}
-use Rattle.x86_plans.specs.declared.plans.Fault.TheVariants.{BadOpcode}
-use Rattle.x86_plans.specs.declared.plans.Moment.TheVariants.{AtModRM}
+use Rattle.x86_operands.specs.declared.plans.Fault.TheVariants.{BadOpcode}
+use Rattle.x86_operands.specs.declared.plans.Moment.TheVariants.{AtModRM}
 use Rattle.x86_groups.specs.declared.rows.Place.{Place}
 use Rattle.x86_groups.specs.declared.rows.Place.TheVariants.{Memory, Register, Either}
 use Rattle.x86_groups.specs.declared.rows.When.{When}

@@ -2,13 +2,13 @@
 use Rattle.std.specs.Prelude.{ℕ, Bool, true, false, ◌≡◌, IsTrue, List}
 use Rattle.x86_fields.specs.declared.prefixes.Prefixes.{Prefixes}
 use Rattle.x86_opcodes.specs.Names.{Invalid}
-use Rattle.x86_plans.specs.declared.plans.Plan.{Plan}
-use Rattle.x86_plans.specs.declared.encodings.RegGroup.{RegGroup}
-use Rattle.x86_plans.specs.declared.encodings.RegGroup.TheVariants as group
-use Rattle.x86_plans.specs.declared.encodings.FormEncoding.{FormEncoding}
-use Rattle.x86_plans.specs.declared.encodings.AfterOpcode.{AfterOpcode}
-use Rattle.x86_plans.specs.declared.encodings.AfterOpcode.TheVariants as after_opcode
-use Rattle.x86_plans.specs.Encodings.{plan_of, is_described}
+use Rattle.x86_operands.specs.declared.plans.Plan.{Plan}
+use Rattle.x86_operands.specs.declared.encodings.RegGroup.{RegGroup}
+use Rattle.x86_operands.specs.declared.encodings.RegGroup.TheVariants as group
+use Rattle.x86_operands.specs.declared.encodings.FormEncoding.{FormEncoding}
+use Rattle.x86_operands.specs.declared.encodings.AfterOpcode.{AfterOpcode}
+use Rattle.x86_operands.specs.declared.encodings.AfterOpcode.TheVariants as after_opcode
+use Rattle.x86_operands.specs.Encodings.{plan_of, is_described}
 use Rattle.x86_groups.specs.declared.rows.GroupRow.{GroupRow}
 use Rattle.x86_groups.specs.Groups.{rows_plan}
 use Rattle.x86_groups.specs.Rows.{group_rows}

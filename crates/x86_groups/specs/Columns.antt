@@ -16,20 +16,20 @@ use Rattle.x86_fields.specs.Run.{repnz, rep}
 use Rattle.x86_fields.specs.Sizes.{class_of, v_class}
 use Rattle.x86_opcodes.specs.Names.{Invalid}
 use Rattle.x86_opcodes.specs.Numbers.{opcode_numbered}
-use Rattle.x86_plans.specs.declared.plans.Fault.{Fault}
-use Rattle.x86_plans.specs.declared.plans.Fault.TheVariants.{BadOpcode}
-use Rattle.x86_plans.specs.declared.plans.Moment.{Moment}
-use Rattle.x86_plans.specs.declared.plans.Moment.TheVariants.{AtModRM}
-use Rattle.x86_plans.specs.declared.plans.OperandEncoding.{OperandEncoding}
-use Rattle.x86_plans.specs.declared.plans.OperandEncoding.TheVariants as encoding
-use Rattle.x86_plans.specs.declared.plans.OperandEncodings.{OperandEncodings}
-use Rattle.x86_plans.specs.declared.plans.OperandEncodings.TheVariants as coded
-use Rattle.x86_plans.specs.declared.plans.Plan.{Plan}
-use Rattle.x86_plans.specs.declared.plans.PrefixChange.{PrefixChange}
-use Rattle.x86_plans.specs.declared.plans.RegisterSlot.TheVariants as slot
-use Rattle.x86_plans.specs.declared.plans.Verdict.{Verdict}
-use Rattle.x86_plans.specs.declared.plans.Verdict.TheVariants as verdict
-use Rattle.x86_plans.specs.Plans.{refuses, rm_number, size_by, immediate_of}
+use Rattle.x86_operands.specs.declared.plans.Fault.{Fault}
+use Rattle.x86_operands.specs.declared.plans.Fault.TheVariants.{BadOpcode}
+use Rattle.x86_operands.specs.declared.plans.Moment.{Moment}
+use Rattle.x86_operands.specs.declared.plans.Moment.TheVariants.{AtModRM}
+use Rattle.x86_operands.specs.declared.plans.OperandEncoding.{OperandEncoding}
+use Rattle.x86_operands.specs.declared.plans.OperandEncoding.TheVariants as encoding
+use Rattle.x86_operands.specs.declared.plans.OperandEncodings.{OperandEncodings}
+use Rattle.x86_operands.specs.declared.plans.OperandEncodings.TheVariants as coded
+use Rattle.x86_operands.specs.declared.plans.Plan.{Plan}
+use Rattle.x86_operands.specs.declared.plans.PrefixChange.{PrefixChange}
+use Rattle.x86_operands.specs.declared.plans.RegisterSlot.TheVariants as slot
+use Rattle.x86_operands.specs.declared.plans.Verdict.{Verdict}
+use Rattle.x86_operands.specs.declared.plans.Verdict.TheVariants as verdict
+use Rattle.x86_operands.specs.Plans.{refuses, rm_number, size_by, immediate_of}
 use Rattle.x86_groups.specs.declared.letters.Letter.{Letter}
 use Rattle.x86_groups.specs.declared.letters.Letter.TheVariants as letter
 use Rattle.x86_groups.specs.declared.letters.Letters.{Letters}

@@ -6,14 +6,14 @@ use Rattle.x86_regs.specs.declared.Segment.TheVariants.{DS}
 use Rattle.x86_fields.specs.declared.prefixes.Prefixes.{Prefixes}
 use Rattle.x86_fields.specs.Prefixes.{operand_size, address_size, lock, segment, rex}
 use Rattle.x86_fields.specs.Run.{rep}
-use Rattle.x86_plans.specs.declared.plans.Fault.{Fault}
-use Rattle.x86_plans.specs.declared.plans.Fault.TheVariants.{BadOpcode, BadOperand, Incomplete}
-use Rattle.x86_plans.specs.declared.plans.Moment.TheVariants.{AtModRM}
-use Rattle.x86_plans.specs.declared.plans.ModrmUse.{ModrmUse}
-use Rattle.x86_plans.specs.declared.plans.ModrmUse.TheVariants.{EitherForm, Registers}
-use Rattle.x86_plans.specs.declared.plans.OperandEncodings.TheVariants.{Zero}
-use Rattle.x86_plans.specs.declared.plans.Plan.{Plan}
-use Rattle.x86_plans.specs.Plans.{RowRecord, reads, refuses}
+use Rattle.x86_operands.specs.declared.plans.Fault.{Fault}
+use Rattle.x86_operands.specs.declared.plans.Fault.TheVariants.{BadOpcode, BadOperand, Incomplete}
+use Rattle.x86_operands.specs.declared.plans.Moment.TheVariants.{AtModRM}
+use Rattle.x86_operands.specs.declared.plans.ModrmUse.{ModrmUse}
+use Rattle.x86_operands.specs.declared.plans.ModrmUse.TheVariants.{EitherForm, Registers}
+use Rattle.x86_operands.specs.declared.plans.OperandEncodings.TheVariants.{Zero}
+use Rattle.x86_operands.specs.declared.plans.Plan.{Plan}
+use Rattle.x86_operands.specs.Plans.{RowRecord, reads, refuses}
 use Rattle.x86_forms.specs.declared.Form.{Form}
 use Rattle.x86_forms.specs.declared.Form.TheVariants as form
 use Rattle.x86_forms.specs.declared.TableRow.{TableRow}

@@ -9,8 +9,8 @@ use Rattle.x86_opcodes.specs.Names.{ADC, ADD, AESDEC128KL, AESDEC256KL, AESDECWI
 use Rattle.x86_fields.specs.declared.sizes.Width.TheVariants.{B, W, D, Q, X, V, Vq, Dq}
 use Rattle.x86_forms.specs.declared.Form.{Form}
 use Rattle.x86_forms.specs.declared.Form.TheVariants as form
-use Rattle.x86_plans.specs.declared.plans.Fault.TheVariants.{BadOpcode, BadOperand, Incomplete}
-use Rattle.x86_plans.specs.declared.plans.Moment.TheVariants.{AtModRM, AfterAddress}
+use Rattle.x86_operands.specs.declared.plans.Fault.TheVariants.{BadOpcode, BadOperand, Incomplete}
+use Rattle.x86_operands.specs.declared.plans.Moment.TheVariants.{AtModRM, AfterAddress}
 use Rattle.x86_groups.specs.declared.letters.Letter.TheVariants.{E, G, U, M, Gmm, Emm, Umm, Cr, Dr, I8, U8, X8, Iv, Jv, SignedOne, StRm, RdInReg}
 use Rattle.x86_groups.specs.declared.letters.Letters.TheVariants.{Zero, One, Two, Three, Four}
 use Rattle.x86_groups.specs.declared.rows.When.TheVariants.{Always, NoPrefix, NoRepeat, Only66, F2, F3, With66, F3With66, RexW, RexR}

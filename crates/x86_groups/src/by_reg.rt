@@ -1,14 +1,14 @@
 //! Groups of which reg alone chooses rows: the operation and a line for each reg.
 
 ghost use Rattle.std.specs.Prelude.{◌≡◌, ◌<◌, IsTrue, true};
-ghost use Rattle.x86_plans.specs.Encodings.{is_sound, is_described};
+ghost use Rattle.x86_operands.specs.Encodings.{is_sound, is_described};
 ghost use Rattle.x86_groups.specs.ByReg.{place_of, Chooses, has_either_form};
 
 use crate::rows::named;
 use crate::tables::REG_LINES;
 use x86_fields::ModRM;
 use x86_opcodes::Opcode;
-use x86_plans::{FormEncoding, RegGroup};
+use x86_operands::{FormEncoding, RegGroup};
 
 /// What a reg chooses: the number of the operation, and the encoding of its operands.
 #[derive(Clone, Copy, Drop)]

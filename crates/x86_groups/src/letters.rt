@@ -5,7 +5,7 @@ ghost use Rattle.x86_fields.specs.Sizes.{class_of};
 ghost use Rattle.x86_groups.specs.Columns.{distance_of, letter_encoding, operand_encodings, row_bytes};
 
 use x86_fields::{ModRM, Prefixes, Width};
-use x86_plans::plans::{OperandEncoding, OperandEncodings, RegisterSlot, immediate_of};
+use x86_operands::plans::{OperandEncoding, OperandEncodings, RegisterSlot, immediate_of};
 use x86_regs::{RegSpec, RegisterClass};
 
 /// An operand of a row, in the letters of the Intel SDM, volume 2, appendix A.2.

@@ -2,7 +2,7 @@
 
 ghost use Rattle.std.specs.Prelude.{◌≡◌, Bool, true};
 ghost use Rattle.x86_forms.specs.Groups.{is_group};
-ghost use Rattle.x86_plans.specs.Asks.{ask_of, record_at};
+ghost use Rattle.x86_operands.specs.Asks.{ask_of, record_at};
 ghost use Rattle.x86_groups.specs.Rows.{three_byte_rows, two_byte_rows, group_rows};
 ghost use Rattle.x86_groups.specs.Groups.{fault_f30f3af0, is_f3_alone, group_form_plan, group_fault, group_modrm, group_plan, group_record};
 
@@ -11,8 +11,8 @@ use crate::tables;
 use x86_fields::{ModRM, Prefixes};
 use x86_forms::{Form, TableRow};
 use x86_opcodes::Opcode;
-use x86_plans::plans::{Fault, ModrmUse, Plan};
-use x86_plans::{Ask, RecordAt, plan_ask, used_modrm, used_or_none};
+use x86_operands::plans::{Fault, ModrmUse, Plan};
+use x86_operands::{Ask, RecordAt, plan_ask, used_modrm, used_or_none};
 use x86_regs::Segment;
 
 /// Whether F3 is in force, and nothing else.
@@ -167,7 +167,7 @@ pub fn group_ask(row: TableRow, prefixes: Prefixes, modrm: u8) -> Ask
 }
 
 /// The record of a row whose form is a group, at a ModRM byte.
-#[tactic(auto, unfolding(crate::specs::Groups::group_record, x86_plans::specs::Asks::record_at))]
+#[tactic(auto, unfolding(crate::specs::Groups::group_record, x86_operands::specs::Asks::record_at))]
 pub fn group_at(row: TableRow, prefixes: Prefixes, modrm: Option<u8>, strict: bool) -> RecordAt
     requires { is_group row.form ≡ true }
     ensures { result ≡ record_at (group_record strict row prefixes) modrm }

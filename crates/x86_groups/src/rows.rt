@@ -6,7 +6,7 @@ ghost use Rattle.x86_groups.specs.Columns.{choose, is_there, is_placed, is_prefi
 use crate::letters::{Letters, RowSize};
 use x86_fields::{ModRM, Prefixes};
 use x86_opcodes::Opcode;
-use x86_plans::plans::{Fault, Moment, Plan, PrefixChange, Verdict, refuses, size_by};
+use x86_operands::plans::{Fault, Moment, Plan, PrefixChange, Verdict, refuses, size_by};
 
 /// In which forms of ModRM a row is.
 #[derive(Clone, Copy, Drop)]

@@ -11,12 +11,12 @@ use Rattle.x86_fields.specs.ModRM.{reg_field, is_memory}
 use Rattle.x86_fields.specs.Raw.{has_r, has_w}
 use Rattle.x86_fields.specs.Sizes.{v_class}
 use Rattle.x86_forms.specs.declared.Form.{Form}
-use Rattle.x86_plans.specs.declared.plans.ModrmUse.TheVariants.{EitherForm}
-use Rattle.x86_plans.specs.declared.plans.Plan.{Plan}
+use Rattle.x86_operands.specs.declared.plans.ModrmUse.TheVariants.{EitherForm}
+use Rattle.x86_operands.specs.declared.plans.Plan.{Plan}
 use Rattle.x86_forms.specs.declared.Form.TheVariants as form
 use Rattle.x86_forms.specs.declared.TableRow.{TableRow}
 use Rattle.x86_forms.specs.Groups.{is_group}
-use Rattle.x86_plans.specs.Plans.{RowRecord, immediate_of, list_of}
+use Rattle.x86_operands.specs.Plans.{RowRecord, immediate_of, list_of}
 use Rattle.x86_operands.specs.Pieces.{is_refusal}
 use Rattle.x86_operands.specs.Forms.{form_plan, form_record, modrm_use}
 use Rattle.x86_decode.specs.Grammar.{record_of}

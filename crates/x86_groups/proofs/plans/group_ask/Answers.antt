@@ -1,4 +1,4 @@
-use Rattle.x86_plans.specs.Asks.{ask_of, used_modrm}
+use Rattle.x86_operands.specs.Asks.{ask_of, used_modrm}
 use Rattle.x86_groups.specs.Groups.{group_record, group_modrm}
 use Rattle.x86_groups.proofs.AskLemmas.{same_ask}
 use Rattle.x86_groups.proofs.plans.group_ask.Goals as goal
