@@ -1,4 +1,4 @@
-"""The rows of the groups, as crates/x86_group_plans/specs/Rows.antt has them: for tools/tables.py, which writes their tables.
+"""The rows of the groups, as crates/x86_groups/specs/Rows.antt has them: for tools/tables.py, which writes their tables.
 
 It also says with the row what the proof doesn't: a row that is never reached, and a group whose rows leave a gap.
 """
@@ -9,7 +9,7 @@ from dataclasses import dataclass
 from itertools import product
 from pathlib import Path
 
-GROUPS = Path(__file__).resolve().parent.parent / "crates" / "x86_group_plans" / "specs"
+GROUPS = Path(__file__).resolve().parent.parent / "crates" / "x86_groups" / "specs"
 PLACES = {"mem": "Memory", "reg": "Register", "both": "Either"}
 BYTES = {"0": "Zero", "1": "One", "2": "Two", "4": "Four", "8": "Eight", "16": "Sixteen"}
 SIZES = {"v": "Of(V)", "y": "Of(Dq)", "vq": "Of(Vq)"}
@@ -186,9 +186,9 @@ use crate::rows::Names::{ByReg, ByRm, BySuffix, Name, Own};
 use crate::rows::Rm::{Any, Is, ZeroIfStrict};
 use crate::rows::{Content, GroupRow, Place, When, read, read_without_66, refusal};
 use x86_fields::Width::{B, D, Dq, Q, V, Vq, W, X};
-use x86_plans::AfterOpcode::ByPlan;
-use x86_plans::plans::{Fault, ModrmUse, Moment, PrefixChange, RegisterSlot};
-use x86_plans::{encoded, other};
+use x86_operands::AfterOpcode::ByPlan;
+use x86_operands::plans::{Fault, ModrmUse, Moment, PrefixChange, RegisterSlot};
+use x86_operands::{encoded, other};
 use x86_regs::RegisterClass;
 """
 

@@ -10,7 +10,7 @@ The lists, which people edit:
     crates/x86_forms/src/lib.rt                the forms, the variants of `Form`
     crates/x86_forms/specs/Rows.antt           the rows of each map, a line for each row
     crates/x86_regs/specs/Names.antt           the registers of each class
-    crates/x86_group_plans/specs/Rows.antt     the rows of the groups, a line for each row (tools/group_rows.py)
+    crates/x86_groups/specs/Rows.antt     the rows of the groups, a line for each row (tools/group_rows.py)
 
 Nothing rests on this script. What it writes is checked like all other code: that the constants have the numbers and
 spellings of their names, that each form is at its ordinal, and that each table has the words of the rows, is proved.
@@ -28,7 +28,7 @@ TOP = Path(__file__).resolve().parent.parent
 OPCODES = TOP / "crates" / "x86_opcodes"
 FORMS = TOP / "crates" / "x86_forms"
 REGS = TOP / "crates" / "x86_regs"
-GROUP_PLANS = TOP / "crates" / "x86_group_plans"
+GROUP_PLANS = TOP / "crates" / "x86_groups"
 TEXT = TOP / "crates" / "x86_text"
 
 MAPS = ["One", "Of", "Of38", "Of3a"]

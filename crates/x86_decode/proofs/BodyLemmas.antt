@@ -10,7 +10,7 @@ use Rattle.x86_fields.specs.Steps.{Step, Outcome, ◌>>=◌}
 use Rattle.x86_fields.proofs.StepLemmas.{Takes, takes_pure, takes_bind, takes_err}
 use Rattle.x86_fields.proofs.EndLemmas.{EndsWell, Ends, settles, runs_out, ends_refuse, ends_bind, ends_then, weaken, IsFinal, final_ok, final_err, Out, out_bind, out_after, Halts, out, halts_bind}
 use Rattle.x86_forms.specs.declared.TableRow.{TableRow}
-use Rattle.x86_plans.specs.declared.plans.Fault.{Fault}
+use Rattle.x86_operands.specs.declared.plans.Fault.{Fault}
 use Rattle.x86_operands.specs.declared.reader.Reading.{Reading}
 use Rattle.x86_operands.specs.PlanSteps.{error_of}
 use Rattle.x86_forms.specs.declared.Map.{Map}

@@ -14,17 +14,17 @@ use Rattle.x86_fields.proofs.EndLemmas.{Ends, settles, runs_out}
 use Rattle.x86_forms.specs.declared.TableRow.{TableRow}
 use Rattle.x86_forms.specs.Groups.{is_group}
 use Rattle.x86_forms.specs.Words.{rows_of, packed}
-use Rattle.x86_plans.specs.declared.plans.Fault.TheVariants.{BadOperand}
-use Rattle.x86_plans.specs.declared.plans.ModrmUse.{ModrmUse}
-use Rattle.x86_plans.specs.declared.plans.ModrmUse.TheVariants.{EitherForm}
+use Rattle.x86_operands.specs.declared.plans.Fault.TheVariants.{BadOperand}
+use Rattle.x86_operands.specs.declared.plans.ModrmUse.{ModrmUse}
+use Rattle.x86_operands.specs.declared.plans.ModrmUse.TheVariants.{EitherForm}
 use Rattle.x86_operands.specs.declared.reader.Reading.{Reading}
 use Rattle.x86_fields.specs.ModRM.{is_memory}
 use Rattle.x86_operands.specs.PlanSteps.{read_plan, record_step, filled_step, operands_step, read_modrm, refuse_fault, four_of, reading_from}
 use Rattle.x86_operands.specs.Forms.{form_record}
 use Rattle.x86_operands.specs.Pieces.{SpellsTail, at_modrm, SpellsRow, past_opcode, modrm_width}
-use Rattle.x86_plans.specs.Asks.{modrm_of}
-use Rattle.x86_group_plans.specs.Choices.{IsFenceWithRm}
-use Rattle.x86_group_plans.specs.Groups.{group_fault, group_modrm, group_plan, group_record, operandless, bad_operand}
+use Rattle.x86_operands.specs.Asks.{modrm_of}
+use Rattle.x86_groups.specs.Choices.{IsFenceWithRm}
+use Rattle.x86_groups.specs.Groups.{group_fault, group_modrm, group_plan, group_record, operandless, bad_operand}
 use Rattle.x86_decode.specs.declared.instructions.Instruction.{Instruction}
 use Rattle.x86_decode.specs.Head.{Rows, column_of, escape_bytes, clears, seen_by}
 use Rattle.x86_decode.specs.Instruction.{instruction_of}

@@ -5,10 +5,10 @@ use Rattle.std.proofs.lemmas.Bool.Decides.{Decides-eqb}
 use Rattle.std.proofs.lemmas.Slice.Eq.{slice_eq-Decides}
 use Rattle.x86_fields.specs.declared.prefixes.Prefixes.{Prefixes}
 use Rattle.x86_fields.specs.contracts.prefixes.PrefixesPartialEq.TheImpl as prefixes
-use Rattle.x86_operand_types.specs.declared.operands.Slot.{Slot}
-use Rattle.x86_operand_types.specs.declared.operands.Operand.{Operand}
-use Rattle.x86_operand_types.specs.contracts.operands.SlotPartialEq.TheImpl as slot
-use Rattle.x86_operand_types.specs.contracts.operands.OperandPartialEq.TheImpl as operand
+use Rattle.x86_operands.specs.declared.operands.Slot.{Slot}
+use Rattle.x86_operands.specs.declared.operands.Operand.{Operand}
+use Rattle.x86_operands.specs.contracts.operands.SlotPartialEq.TheImpl as slot
+use Rattle.x86_operands.specs.contracts.operands.OperandPartialEq.TheImpl as operand
 use Rattle.x86_decode.specs.declared.instructions.Instruction.{Instruction}
 use Rattle.x86_decode.specs.Instruction.{slot_at, operand_at, shown_of, IsSameInstruction}
 use Rattle.x86_decode.specs.contracts.instructions.ShownPartialEq.TheImpl as shown

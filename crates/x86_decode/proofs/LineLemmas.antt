@@ -7,21 +7,21 @@ use Rattle.x86_fields.specs.Steps.{Outcome, outcome, then_from, pure, next_byte}
 use Rattle.x86_forms.specs.Groups.{is_group}
 use Rattle.x86_forms.specs.declared.Form.{Form}
 use Rattle.x86_forms.specs.declared.TableRow.{TableRow}
-use Rattle.x86_plans.specs.declared.encodings.AfterOpcode.{AfterOpcode}
-use Rattle.x86_plans.specs.declared.encodings.AfterOpcode.TheVariants as after_opcode
-use Rattle.x86_plans.specs.declared.encodings.FormEncoding.{FormEncoding}
-use Rattle.x86_plans.specs.declared.encodings.RegGroup.{RegGroup}
-use Rattle.x86_plans.specs.declared.plans.ModrmUse.{ModrmUse}
-use Rattle.x86_plans.specs.declared.plans.ModrmUse.TheVariants.{Absent, EitherForm}
+use Rattle.x86_operands.specs.declared.encodings.AfterOpcode.{AfterOpcode}
+use Rattle.x86_operands.specs.declared.encodings.AfterOpcode.TheVariants as after_opcode
+use Rattle.x86_operands.specs.declared.encodings.FormEncoding.{FormEncoding}
+use Rattle.x86_operands.specs.declared.encodings.RegGroup.{RegGroup}
+use Rattle.x86_operands.specs.declared.plans.ModrmUse.{ModrmUse}
+use Rattle.x86_operands.specs.declared.plans.ModrmUse.TheVariants.{Absent, EitherForm}
 use Rattle.x86_operands.specs.declared.reader.Reading.{Reading}
 use Rattle.x86_forms.specs.Words.{carried}
-use Rattle.x86_plans.specs.Encodings.{allows, has_fields, is_described, plan_of, use_of}
+use Rattle.x86_operands.specs.Encodings.{allows, has_fields, is_described, plan_of, use_of}
 use Rattle.x86_operands.specs.FormEncodings.{Belongs, Describes, group_form}
 use Rattle.x86_fields.specs.ModRM.{absent_modrm}
 use Rattle.x86_operands.specs.Forms.{form_plan, form_record, modrm_use}
 use Rattle.x86_operands.specs.PlanSteps.{read_modrm, read_plan, record_step}
-use Rattle.x86_group_plans.specs.ByReg.{Chooses, reg_plan}
-use Rattle.x86_group_plans.specs.Groups.{group_plan, group_record}
+use Rattle.x86_groups.specs.ByReg.{Chooses, reg_plan}
+use Rattle.x86_groups.specs.Groups.{group_plan, group_record}
 use Rattle.x86_groups.proofs.RegLemmas.{reg_record, reg_chosen, reg_group}
 use Rattle.x86_decode.specs.Walk.{row_step, plan_at}
 

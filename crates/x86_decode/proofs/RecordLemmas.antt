@@ -14,13 +14,13 @@ use Rattle.x86_forms.specs.Rows.{Row, printed_rows, row_in, has_column, printed_
 use Rattle.x86_forms.specs.declared.TableRow.{TableRow}
 use Rattle.x86_forms.specs.Groups.{is_group}
 use Rattle.x86_forms.specs.Words.{rows_of, packed}
-use Rattle.x86_plans.specs.declared.plans.Fault.TheVariants.{Incomplete}
-use Rattle.x86_plans.specs.declared.plans.Moment.{Moment}
-use Rattle.x86_plans.specs.declared.plans.Verdict.TheVariants.{Refuses}
+use Rattle.x86_operands.specs.declared.plans.Fault.TheVariants.{Incomplete}
+use Rattle.x86_operands.specs.declared.plans.Moment.{Moment}
+use Rattle.x86_operands.specs.declared.plans.Verdict.TheVariants.{Refuses}
 use Rattle.x86_operands.specs.Forms.{form_record}
-use Rattle.x86_plans.specs.Asks.{modrm_of}
+use Rattle.x86_operands.specs.Asks.{modrm_of}
 use Rattle.x86_operands.specs.Pieces.{at_modrm, after_address, after_suffix, no_name, RefusesRow, at_opcode, past_opcode}
-use Rattle.x86_group_plans.specs.Groups.{group_record}
+use Rattle.x86_groups.specs.Groups.{group_record}
 use Rattle.x86_decode.specs.declared.instructions.Instruction.{Instruction}
 use Rattle.x86_decode.specs.Head.{Rows, column_of, seen_by}
 use Rattle.x86_decode.specs.Grammar.{record_of, IsRefusedByRecord, IsAnswer}

@@ -8,9 +8,9 @@ use Rattle.x86_fields.specs.declared.prefixes.Prefixes.{Prefixes}
 use Rattle.x86_fields.specs.Steps.{Step, outcome}
 use Rattle.x86_fields.proofs.StepLemmas.{Takes, fresh}
 use Rattle.x86_fields.proofs.EndLemmas.{EndsWell, Ends, settles, runs_out, OutOn, final_ok, final_err, Halts, out, over}
-use Rattle.x86_plans.specs.declared.plans.Fault.{Fault}
+use Rattle.x86_operands.specs.declared.plans.Fault.{Fault}
 use Rattle.x86_operands.specs.declared.reader.Reading.{Reading}
-use Rattle.x86_plans.specs.Plans.{RowRecord}
+use Rattle.x86_operands.specs.Plans.{RowRecord}
 use Rattle.x86_operands.specs.PlanSteps.{record_step, error_of}
 use Rattle.x86_operands.specs.Pieces.{SpellsRow, RefusesRow, BetweenRow, IsOpenRow}
 use Rattle.x86_operands.proofs.RowLemmas.{row_read, row_refused, row_open, row_wherever, row_refuses}

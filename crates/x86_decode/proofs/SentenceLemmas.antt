@@ -10,8 +10,8 @@ use Rattle.x86_fields.specs.Run.{reading_of}
 use Rattle.x86_fields.specs.Linear.{raw_form}
 use Rattle.x86_forms.specs.Words.{rows_of, packed}
 use Rattle.x86_operands.specs.Shape.{shape}
-use Rattle.x86_operand_types.specs.Linear.{operand_form}
-use Rattle.x86_plans.specs.Plans.{RowRecord}
+use Rattle.x86_operands.specs.Linear.{operand_form}
+use Rattle.x86_operands.specs.Plans.{RowRecord}
 use Rattle.x86_decode.specs.declared.instructions.Instruction.{Instruction}
 use Rattle.x86_decode.specs.Head.{Rows, escape_bytes, clears, column_of, seen_by}
 use Rattle.x86_decode.specs.Instruction.{slot_at, operand_at}
@@ -20,7 +20,7 @@ use Rattle.x86_decode.specs.Addresses.{encodings_within, raw_within}
 use Rattle.x86_decode.specs.Grammar.{record_of, IsSentence, IsAnswer}
 use Rattle.x86_decode.specs.Answer.{answer_of, count_of}
 use Rattle.x86_operands.specs.declared.reader.Reading.{Reading}
-use Rattle.x86_plans.specs.Asks.{modrm_of}
+use Rattle.x86_operands.specs.Asks.{modrm_of}
 use Rattle.x86_operands.specs.Pieces.{SpellsRow}
 use Rattle.x86_operands.specs.Ties.{names_modrm, encodings_of, HasShapeAt}
 use Rattle.x86_decode.proofs.ByteLemmas.{Bytes, bytes_of, bytes_after, bytes_before, memory_fits}

@@ -12,8 +12,8 @@ use Rattle.x86_decode.specs.Head.{Rows}
 use Rattle.x86_decode.specs.Instruction.{holding, reading_in}
 use Rattle.x86_decode.specs.Bound.{bounded, HasAdvanced}
 use Rattle.x86_fields.specs.Errors.{is_exhausted}
-use Rattle.x86_operand_types.specs.declared.operands.Slot.{Slot}
-use Rattle.x86_operand_types.specs.declared.operands.Slot.TheVariants.{Nothing}
+use Rattle.x86_operands.specs.declared.operands.Slot.{Slot}
+use Rattle.x86_operands.specs.declared.operands.Slot.TheVariants.{Nothing}
 use Rattle.x86_decode.specs.Grammar.{allows_lock, first_slot}
 use Rattle.x86_decode.specs.Walk.{walk_within, bounded_outcome, judgement, limit_step, takes_lock, walk_bounded}
 use Rattle.x86_decode.proofs.BoundLemmas.{same_state}

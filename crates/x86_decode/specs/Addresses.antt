@@ -2,11 +2,11 @@
 use Rattle.std.specs.Prelude.{ℕ, Bool, Option, List}
 use Rattle.x86_fields.specs.declared.raw.Raw.{Raw}
 use Rattle.x86_fields.specs.Run.{reading_of}
-use Rattle.x86_plans.specs.declared.plans.OperandEncoding.{OperandEncoding}
-use Rattle.x86_plans.specs.declared.plans.Plan.{Plan}
+use Rattle.x86_operands.specs.declared.plans.OperandEncoding.{OperandEncoding}
+use Rattle.x86_operands.specs.declared.plans.Plan.{Plan}
 use Rattle.x86_operands.specs.declared.reader.Reading.{Reading}
-use Rattle.x86_plans.specs.Plans.{list_of}
-use Rattle.x86_plans.specs.Asks.{modrm_of}
+use Rattle.x86_operands.specs.Plans.{list_of}
+use Rattle.x86_operands.specs.Asks.{modrm_of}
 use Rattle.x86_decode.specs.Head.{Rows, seen_by}
 use Rattle.x86_decode.specs.Grammar.{record_of, Whole}
 pub use Rattle.x86_operands.specs.Ties.{is_modrm_encoding, names_modrm}

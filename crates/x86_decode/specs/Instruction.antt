@@ -7,11 +7,11 @@ use Rattle.x86_fields.specs.declared.errors.DecodeError.{DecodeError}
 use Rattle.x86_fields.specs.Prefixes.{lock, segment}
 use Rattle.x86_fields.specs.Run.{reading_of, repnz, rep}
 use Rattle.x86_operands.specs.declared.reader.Reading.{Reading}
-use Rattle.x86_operand_types.specs.declared.operands.Slot.{Slot}
-use Rattle.x86_operand_types.specs.declared.operands.Slot.TheVariants as slots
-use Rattle.x86_operand_types.specs.declared.operands.Operand.{Operand}
-use Rattle.x86_operand_types.specs.declared.operands.MemoryAccessSize.{MemoryAccessSize}
-use Rattle.x86_operand_types.specs.Operands.{access_size, is_memory_slot}
+use Rattle.x86_operands.specs.declared.operands.Slot.{Slot}
+use Rattle.x86_operands.specs.declared.operands.Slot.TheVariants as slots
+use Rattle.x86_operands.specs.declared.operands.Operand.{Operand}
+use Rattle.x86_operands.specs.declared.operands.MemoryAccessSize.{MemoryAccessSize}
+use Rattle.x86_operands.specs.Operands.{access_size, is_memory_slot}
 use Rattle.x86_operands.specs.OperandList.{no_operands, reading_with, slot_in, operand_in}
 use Rattle.x86_decode.specs.declared.instructions.Instruction.{Instruction}
 use Rattle.x86_decode.specs.declared.instructions.Shown.{Shown}

@@ -3,7 +3,7 @@ ghost use Rattle.std.specs.Prelude.{◌≡◌, ℕ, Bool, IfOk, true, false};
 ghost use Rattle.x86_arch.specs.Reader.{State};
 ghost use Rattle.x86_fields.specs.Steps.{outcome, then_from};
 ghost use Rattle.x86_forms.specs.Words.{IsForm};
-ghost use Rattle.x86_plans.specs.Encodings.{has_fields};
+ghost use Rattle.x86_operands.specs.Encodings.{has_fields};
 ghost use Rattle.x86_operands.specs.OperandList.{value_if_ok, no_operands};
 ghost use Rattle.x86_operands.specs.PlanSteps.{read_plan, record_step};
 ghost use Rattle.x86_decode.specs.declared.rows.Rest.TheVariants as Rest;

@@ -7,9 +7,9 @@ use Rattle.x86_forms.specs.declared.TableRow.{TableRow}
 use Rattle.x86_forms.specs.Groups.{is_group}
 use Rattle.x86_operands.specs.PlanSteps.{record_step}
 use Rattle.x86_operands.proofs.RowLemmas.{HasGap, row_left_out}
-use Rattle.x86_group_plans.specs.Groups.{group_record}
+use Rattle.x86_groups.specs.Groups.{group_record}
 use Rattle.x86_forms.specs.declared.Form.TheVariants as form
-use Rattle.x86_group_plans.proofs.GroupLemmas.{no_fault, gap_form}
+use Rattle.x86_groups.proofs.GroupLemmas.{no_fault, gap_form}
 
 -- a row of a group is left out where it is 8F alone
 pub group_left_out : (strict : Bool) (row : TableRow) (p : Prefixes) (s : State ℕ) → is_group row.form ≡ true → (record_step (group_record strict row p) p s).answer ≡ Err IncompleteDecoder → row.form ≡ form.ModRM_0x8f

@@ -1,3 +1,10 @@
--- The lemmas on what is read of a group.
+-- The lemmas on the rows of groups, and on what is read of a group.
+pub mod RowLemmas
+pub mod FactLemmas
+pub mod PlanLemmas
+pub mod ChoiceLemmas
+pub mod AskLemmas
+pub mod GroupLemmas
+pub mod LineLemmas
 pub mod GapLemmas
 pub mod RegLemmas

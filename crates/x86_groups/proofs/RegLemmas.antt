@@ -3,30 +3,26 @@ use Rattle.std.proofs.Common.{◌≡◌, ℕ, Bool, true, None, Result, Ok, Err,
 use Rattle.x86_arch.specs.Reader.{State}
 use Rattle.x86_fields.specs.declared.prefixes.Prefixes.{Prefixes}
 use Rattle.x86_forms.specs.declared.TableRow.{TableRow}
-use Rattle.x86_plans.specs.declared.encodings.RegGroup.{RegGroup}
-use Rattle.x86_plans.specs.declared.encodings.RegGroup.TheVariants as group
+use Rattle.x86_operands.specs.declared.encodings.RegGroup.{RegGroup}
+use Rattle.x86_operands.specs.declared.encodings.RegGroup.TheVariants as group
 use Rattle.x86_fields.specs.declared.errors.DecodeError.{DecodeError}
 use Rattle.x86_fields.specs.Steps.{then_from, ◌>>=◌}
 use Rattle.x86_forms.specs.Groups.{is_group}
 use Rattle.x86_forms.specs.declared.Form.{Form}
-use Rattle.x86_plans.specs.declared.plans.ModrmUse.TheVariants.{EitherForm}
+use Rattle.x86_operands.specs.declared.plans.ModrmUse.TheVariants.{EitherForm}
 use Rattle.x86_operands.specs.PlanSteps.{read_modrm, read_plan, record_step}
 use Rattle.x86_forms.specs.Words.{carried}
 use Rattle.x86_operands.specs.FormEncodings.{group_form}
-use Rattle.x86_group_plans.specs.Groups.{group_fault, group_form_plan, group_modrm, group_plan, group_record, rows_plan}
-use Rattle.x86_group_plans.specs.Rows.{group_rows}
-use Rattle.x86_group_plans.specs.ByReg.{reg_plan, reg_rows}
-use Rattle.x86_group_plans.proofs.RegLemmas.{rows_reg_plan}
-use Rattle.x86_plans.specs.declared.plans.Plan.{Plan}
-
-form_rows : (g : RegGroup) → group_rows (group_form g) ≡ reg_rows g
-form_rows group.G80 = refl
-form_rows g = refl
+use Rattle.x86_groups.specs.Groups.{group_fault, group_form_plan, group_modrm, group_plan, group_record, rows_plan}
+use Rattle.x86_groups.specs.Rows.{group_rows}
+use Rattle.x86_groups.specs.ByReg.{reg_plan}
+use Rattle.x86_groups.proofs.LineLemmas.{rows_reg_plan}
+use Rattle.x86_operands.specs.declared.plans.Plan.{Plan}
 
 pub reg_chosen : (g : RegGroup) (strict : Bool) (row : TableRow) (p : Prefixes) (m : ℕ) → row.form ≡ group_form g → group_plan row p m strict ≡ reg_plan g p m
 unfolding group_form_plan
 reg_chosen g strict row p m e =
-    ap (λ f. rows_plan (group_rows f) row.opcode strict p m) e ∙ ap (λ rows. rows_plan rows row.opcode strict p m) (form_rows g) ∙ rows_reg_plan g row.opcode strict p m
+    ap (λ f. rows_plan (group_rows f) row.opcode strict p m) e ∙ rows_reg_plan g row.opcode strict p m
 
 modrm_of_form : (g : RegGroup) (f : Form) → f ≡ group_form g → group_modrm f ≡ EitherForm
 modrm_of_form group.G80 f e = rw e refl

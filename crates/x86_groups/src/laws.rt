@@ -8,25 +8,25 @@ ghost use Rattle.x86_fields.specs.declared.prefixes.Prefixes.{Prefixes};
 ghost use Rattle.x86_fields.specs.ModRM.{reg_field};
 ghost use Rattle.x86_forms.specs.declared.TableRow.{TableRow};
 ghost use Rattle.x86_forms.specs.Groups.{is_group};
-ghost use Rattle.x86_plans.specs.declared.plans.Fault.TheVariants.{Incomplete};
-ghost use Rattle.x86_plans.specs.declared.plans.Moment.{Moment};
-ghost use Rattle.x86_plans.specs.declared.plans.Moment.TheVariants.{AfterAddress};
-ghost use Rattle.x86_plans.specs.declared.plans.Verdict.TheVariants.{Refuses};
+ghost use Rattle.x86_operands.specs.declared.plans.Fault.TheVariants.{Incomplete};
+ghost use Rattle.x86_operands.specs.declared.plans.Moment.{Moment};
+ghost use Rattle.x86_operands.specs.declared.plans.Moment.TheVariants.{AfterAddress};
+ghost use Rattle.x86_operands.specs.declared.plans.Verdict.TheVariants.{Refuses};
 ghost use Rattle.x86_forms.specs.Words.{carried};
 ghost use Rattle.x86_operands.specs.FormEncodings.{group_form};
 ghost use Rattle.x86_operands.specs.PlanSteps.{record_step};
-ghost use Rattle.x86_plans.specs.declared.encodings.RegGroup.{RegGroup};
-ghost use Rattle.x86_group_plans.specs.ByReg.{reg_plan};
+ghost use Rattle.x86_operands.specs.declared.encodings.RegGroup.{RegGroup};
+ghost use Rattle.x86_groups.specs.ByReg.{reg_plan};
 ghost use Rattle.x86_groups.specs.RegSteps.{reg_step};
-ghost use Rattle.x86_group_plans.specs.Choices.{IsFenceWithRm};
-ghost use Rattle.x86_group_plans.specs.Groups.{group_record, group_plan, operandless, bad_operand};
+ghost use Rattle.x86_groups.specs.Choices.{IsFenceWithRm};
+ghost use Rattle.x86_groups.specs.Groups.{group_record, group_plan, operandless, bad_operand};
 
 use x86_forms::Form;
 
 /// Every group has a plan, and of the groups only 8F with a reg other than 0 isn't built: no other plan of a record
 /// refuses as `Incomplete`, and no record does so at the opcode byte. So `read_group` answers `IncompleteDecoder` for
 /// 8F alone. Source: Intel SDM volume 2, appendix A.4, group 1A.
-#[tactic(auto, using(x86_group_plans::proofs::GroupLemmas::no_fault, x86_group_plans::proofs::GroupLemmas::gap_form, x86_group_plans::proofs::GroupLemmas::gap_reg, x86_group_plans::proofs::GroupLemmas::gap_moment, crate::proofs::GapLemmas::group_left_out))]
+#[tactic(auto, using(crate::proofs::GroupLemmas::no_fault, crate::proofs::GroupLemmas::gap_form, crate::proofs::GroupLemmas::gap_reg, crate::proofs::GroupLemmas::gap_moment, crate::proofs::GapLemmas::group_left_out))]
 pub fn groups_are_built()
     ensures at_opcode { (strict : Bool) (row : TableRow) (p : Prefixes) →
         (group_record strict row p).at_opcode ≢ Some Incomplete }
@@ -47,7 +47,7 @@ pub fn groups_are_built()
 {}
 
 /// The memory size of each plan is at most 64 bytes.
-#[tactic(auto, using(x86_group_plans::proofs::GroupLemmas::group_small))]
+#[tactic(auto, using(crate::proofs::GroupLemmas::group_small))]
 pub fn group_sizes_are_small()
     ensures { (strict : Bool) (row : TableRow) (p : Prefixes) (m : ℕ) →
         ((group_record strict row p).plan m).size ≤ 64 }
@@ -55,7 +55,7 @@ pub fn group_sizes_are_small()
 
 /// The default and the strict choice differ on LFENCE, MFENCE and SFENCE with rm other than 0, and on nothing else:
 /// there the default reads the fence, without an operand, and the strict choice refuses its operand after ModRM.
-#[tactic(auto, unfolding(x86_group_plans::specs::Groups::group_record))]
+#[tactic(auto, unfolding(crate::specs::Groups::group_record))]
 pub fn choices_differ_on_fences()
     ensures at_opcode { (row : TableRow) (p : Prefixes) →
         (group_record true row p).at_opcode ≡ (group_record false row p).at_opcode }

@@ -1,6 +1,7 @@
-//! Groups: the forms of which ModRM or a suffix chooses the operation, read by their plans.
+//! Groups: the forms of which ModRM or a suffix chooses the operation.
 //!
-//! The plans themselves are in `x86_group_plans`.
+//! Each group has rows, of which the first that holds counts, and so a plan at each ModRM byte, under the prefixes. The
+//! definitions have them as the manual prints them (specs/Rows.antt). Here they are read by these plans.
 #![tactic(auto)]
 
 ghost use Rattle.std.specs.Prelude.{◌≡◌, true};
@@ -9,21 +10,27 @@ ghost use Rattle.x86_fields.specs.Steps.{outcome};
 ghost use Rattle.x86_forms.specs.Groups.{is_group};
 ghost use Rattle.x86_operands.specs.PlanSteps.{record_step};
 ghost use Rattle.x86_operands.specs.OperandList.{value_if_ok, no_operands, reading_with};
-ghost use Rattle.x86_group_plans.specs.Groups.{group_record};
+ghost use Rattle.x86_groups.specs.Groups.{group_record};
 
+mod by_reg;
 pub mod laws;
+mod letters;
+mod plans;
+mod rows;
+mod tables;
 
+pub use by_reg::chosen;
+pub use plans::{group_ask, group_at, group_plan};
+use plans::{group_fault, group_form_plan, group_modrm};
 use x86_arch::Reader;
 use x86_fields::{DecodeError, Prefixes};
 use x86_forms::TableRow;
-pub use x86_group_plans::{chosen, group_ask, group_at, group_plan};
-use x86_group_plans::{group_fault, group_form_plan, group_modrm};
 use x86_opcodes::Opcode;
 use x86_operands::{Operands, Reading, read_modrm, read_plan, read_plan_into, refuse_fault};
 
 /// What a row has whose form is a group, written into blank operands.
 #[inline(never)]
-#[tactic(auto, unfolding(x86_group_plans::specs::Groups::group_record, x86_operands::specs::PlanSteps::record_step))]
+#[tactic(auto, unfolding(crate::specs::Groups::group_record, x86_operands::specs::PlanSteps::record_step))]
 pub fn read_group_into<T: Reader<u64, u8>>(
     reader: &mut T,
     row: TableRow,
@@ -49,7 +56,7 @@ pub fn read_group_into<T: Reader<u64, u8>>(
 /// the errors come `InvalidOpcode` and `InvalidOperand` where the row's record refuses, `IncompleteDecoder` for 8F
 /// with a reg other than 0, and `ExhaustedInput`. After a refusal the bytes up to its moment are taken: none, ModRM,
 /// the address, or all.
-#[tactic(auto, unfolding(x86_group_plans::specs::Groups::group_record, x86_operands::specs::PlanSteps::record_step))]
+#[tactic(auto, unfolding(crate::specs::Groups::group_record, x86_operands::specs::PlanSteps::record_step))]
 pub fn read_group<T: Reader<u64, u8>>(
     words: &mut T,
     row: TableRow,

@@ -10,31 +10,31 @@ use Rattle.x86_fields.specs.declared.raw.Raw.{Raw}
 use Rattle.x86_fields.specs.Raw.{read_raw, has_w}
 use Rattle.x86_fields.specs.Sizes.{v_class}
 use Rattle.x86_fields.specs.Steps.{Step, Outcome, outcome, then_from, pure, ◌>>=◌}
-use Rattle.x86_operand_types.specs.declared.operands.Slot.{Slot}
-use Rattle.x86_operand_types.specs.declared.operands.Operand.{Operand}
-use Rattle.x86_plans.specs.declared.plans.OperandEncoding.{OperandEncoding}
-use Rattle.x86_plans.specs.declared.plans.OperandEncoding.TheVariants.{I16, I32}
-use Rattle.x86_plans.specs.declared.order.Position.{Position}
-use Rattle.x86_plans.specs.declared.order.Position.TheVariants.{First, Second, Nowhere}
-use Rattle.x86_plans.specs.declared.order.Order.{Order}
-use Rattle.x86_plans.specs.declared.encodings.AfterOpcode.{AfterOpcode}
-use Rattle.x86_plans.specs.declared.encodings.AfterOpcode.TheVariants as after_opcode
+use Rattle.x86_operands.specs.declared.operands.Slot.{Slot}
+use Rattle.x86_operands.specs.declared.operands.Operand.{Operand}
+use Rattle.x86_operands.specs.declared.plans.OperandEncoding.{OperandEncoding}
+use Rattle.x86_operands.specs.declared.plans.OperandEncoding.TheVariants.{I16, I32}
+use Rattle.x86_operands.specs.declared.order.Position.{Position}
+use Rattle.x86_operands.specs.declared.order.Position.TheVariants.{First, Second, Nowhere}
+use Rattle.x86_operands.specs.declared.order.Order.{Order}
+use Rattle.x86_operands.specs.declared.encodings.AfterOpcode.{AfterOpcode}
+use Rattle.x86_operands.specs.declared.encodings.AfterOpcode.TheVariants as after_opcode
 use Rattle.x86_fields.specs.declared.sizes.Width.{Width}
 use Rattle.x86_fields.specs.declared.sizes.Width.TheVariants as width
-use Rattle.x86_plans.specs.declared.encodings.Last.{Last}
-use Rattle.x86_plans.specs.declared.encodings.Last.TheVariants as last
-use Rattle.x86_plans.specs.declared.encodings.FormEncoding.{FormEncoding}
-use Rattle.x86_plans.specs.declared.encodings.Size.{Size}
+use Rattle.x86_operands.specs.declared.encodings.Last.{Last}
+use Rattle.x86_operands.specs.declared.encodings.Last.TheVariants as last
+use Rattle.x86_operands.specs.declared.encodings.FormEncoding.{FormEncoding}
+use Rattle.x86_operands.specs.declared.encodings.Size.{Size}
 use Rattle.x86_operands.specs.declared.reader.Reading.{Reading}
 use Rattle.x86_operands.specs.declared.operand_list.Operands.{Operands}
 use Rattle.x86_operands.specs.PlanSteps.{read_plan, read_memory, filled_step, operands_step, operand_step, reading_from, rm_operand}
 use Rattle.x86_fields.specs.ModRM.{is_memory, absent_modrm}
-use Rattle.x86_plans.specs.Plans.{list_of, reads, immediate_of}
-use Rattle.x86_plans.specs.FormSizes.{whole_immediate}
+use Rattle.x86_operands.specs.Plans.{list_of, reads, immediate_of}
+use Rattle.x86_operands.specs.FormSizes.{whole_immediate}
 use Rattle.x86_operands.specs.Shape.{shape}
-use Rattle.x86_plans.specs.Encodings.{last_encoding, reg_encoding, rm_encoding, encodings_in, plan_of, size_bytes, size_at, is_order, has_modrm, has_register, order_fits, allows}
+use Rattle.x86_operands.specs.Encodings.{last_encoding, reg_encoding, rm_encoding, encodings_in, plan_of, size_bytes, size_at, is_order, has_modrm, has_register, order_fits, allows}
 use Rattle.x86_operands.specs.OperandList.{modrm_read, index_of_position, encoded_read, put_encoded, put_in, rm_pair, reg_pair, fixed_pair, reading_with, sized, last_read, operands_read}
-use Rattle.x86_plans.proofs.OrderLemmas.{Named, no_named, i_named, r_named, r_i_named, i_r_named, named_of, accepted, no_memory, no_modrm}
+use Rattle.x86_operands.proofs.OrderLemmas.{Named, no_named, i_named, r_named, r_i_named, i_r_named, named_of, accepted, no_memory, no_modrm}
 
 abbrev Pair : Type 0
 Pair = Slot × Operand

@@ -9,18 +9,18 @@ use Rattle.x86_forms.proofs.FormLemmas.{up_to_seven}
 use denote.Enum.Bare.{sameb, same_true}
 use Rattle.x86_fields.specs.declared.prefixes.Prefixes.{Prefixes}
 use Rattle.x86_fields.specs.ModRM.{is_memory}
-use Rattle.x86_plans.specs.declared.encodings.AfterOpcode.{AfterOpcode}
-use Rattle.x86_plans.specs.declared.encodings.AfterOpcode.TheVariants as after_opcode
-use Rattle.x86_plans.specs.declared.encodings.FormEncoding.{FormEncoding}
-use Rattle.x86_plans.specs.declared.encodings.Size.{Size}
-use Rattle.x86_plans.specs.contracts.encodings.Size.{the_type}
-use Rattle.x86_plans.specs.declared.plans.Plan.{Plan}
+use Rattle.x86_operands.specs.declared.encodings.AfterOpcode.{AfterOpcode}
+use Rattle.x86_operands.specs.declared.encodings.AfterOpcode.TheVariants as after_opcode
+use Rattle.x86_operands.specs.declared.encodings.FormEncoding.{FormEncoding}
+use Rattle.x86_operands.specs.declared.encodings.Size.{Size}
+use Rattle.x86_operands.specs.contracts.encodings.Size.{the_type}
+use Rattle.x86_operands.specs.declared.plans.Plan.{Plan}
 use Rattle.x86_fields.specs.declared.sizes.Width.{Width}
 use Rattle.x86_fields.specs.declared.sizes.Width.TheVariants as width
 use Rattle.x86_operands.specs.declared.form_encodings.TheConstants.{ENCODINGS}
 use Rattle.x86_operands.specs.FormEncodings.{Belongs, Describes, HasSeparatePlan, separate_plan}
-use Rattle.x86_plans.specs.Encodings.{encodings_in, is_described, is_sound, last_encoding, plan_of, reg_encoding, restricted_plan, rm_encoding, size_at, size_bytes, use_of}
-use Rattle.x86_plans.specs.Plans.{reads}
+use Rattle.x86_operands.specs.Encodings.{encodings_in, is_described, is_sound, last_encoding, plan_of, reg_encoding, restricted_plan, rm_encoding, size_at, size_bytes, use_of}
+use Rattle.x86_operands.specs.Plans.{reads}
 use Rattle.x86_operands.specs.Forms.{form_plan, modrm_use}
 
 pub record IsLine (e : FormEncoding) (f : Form) : Type 0 where

@@ -6,15 +6,15 @@ use Rattle.x86_fields.specs.declared.prefixes.Prefixes.{Prefixes}
 use Rattle.x86_forms.specs.declared.Form.{Form}
 use Rattle.x86_forms.specs.declared.Form.TheVariants as form
 use Rattle.x86_forms.specs.Groups.{is_group}
-use Rattle.x86_plans.specs.declared.plans.Fault.TheVariants.{Incomplete}
-use Rattle.x86_plans.specs.declared.plans.Moment.{Moment}
-use Rattle.x86_plans.specs.declared.plans.Verdict.TheVariants.{Refuses}
+use Rattle.x86_operands.specs.declared.plans.Fault.TheVariants.{Incomplete}
+use Rattle.x86_operands.specs.declared.plans.Moment.{Moment}
+use Rattle.x86_operands.specs.declared.plans.Verdict.TheVariants.{Refuses}
 use Rattle.x86_forms.specs.declared.TableRow.{TableRow}
 use Rattle.x86_operands.specs.PlanSteps.{record_step}
-use Rattle.x86_plans.specs.Asks.{immediates_width}
+use Rattle.x86_operands.specs.Asks.{immediates_width}
 use Rattle.x86_operands.specs.Forms.{form_plan, form_record}
 use Rattle.x86_operands.proofs.RowLemmas.{HasGap, row_left_out}
-use Rattle.x86_plans.proofs.PlanTests.{passes, small_steps, without_gap, at_most_64, at_most_8}
+use Rattle.x86_operands.proofs.PlanTests.{passes, small_steps, without_gap, at_most_64, at_most_8}
 
 -- by the form
 plain_passes : (f : Form) (o : ℕ) (p : Prefixes) (m : ℕ) → passes (is_group f) (form_plan f o p m) ≡ true

@@ -10,21 +10,21 @@ use Rattle.x86_fields.specs.Pieces.{SpellsRaw, EndsBetween, raw_widths, total}
 use Rattle.x86_fields.proofs.StepLemmas.{Takes, takes_pure, takes_bind, takes_err}
 use Rattle.x86_fields.proofs.EndLemmas.{EndsWell, IsEmpty, Only, ends_pure, ends_bind, ends_then, ends_map, weaken, Halts, halts_bind, halts_empty, halts_same, over, final_err, bind_assoc}
 use Rattle.x86_fields.proofs.PieceLemmas.{takes_map, ends_raw, takes_raw, halts_raw, raw_long, none_there, more_missing, more_there, FirstPiece, nothing, piece, first_piece, between_nil}
-use Rattle.x86_operand_types.specs.declared.operands.Slot.{Slot}
-use Rattle.x86_operand_types.specs.declared.operands.Operand.{Operand}
-use Rattle.x86_plans.specs.declared.plans.OperandEncoding.{OperandEncoding}
-use Rattle.x86_plans.specs.declared.plans.Moment.{Moment}
-use Rattle.x86_plans.specs.declared.plans.Moment.TheVariants.{AtModRM, AfterAddress, AfterSuffix}
-use Rattle.x86_plans.specs.declared.plans.Fault.{Fault}
-use Rattle.x86_plans.specs.declared.plans.Fault.TheVariants.{BadOpcode}
-use Rattle.x86_plans.specs.declared.plans.Verdict.{Verdict}
-use Rattle.x86_plans.specs.declared.plans.Verdict.TheVariants.{NamedBySuffix, Refuses}
-use Rattle.x86_plans.specs.declared.plans.Plan.{Plan}
+use Rattle.x86_operands.specs.declared.operands.Slot.{Slot}
+use Rattle.x86_operands.specs.declared.operands.Operand.{Operand}
+use Rattle.x86_operands.specs.declared.plans.OperandEncoding.{OperandEncoding}
+use Rattle.x86_operands.specs.declared.plans.Moment.{Moment}
+use Rattle.x86_operands.specs.declared.plans.Moment.TheVariants.{AtModRM, AfterAddress, AfterSuffix}
+use Rattle.x86_operands.specs.declared.plans.Fault.{Fault}
+use Rattle.x86_operands.specs.declared.plans.Fault.TheVariants.{BadOpcode}
+use Rattle.x86_operands.specs.declared.plans.Verdict.{Verdict}
+use Rattle.x86_operands.specs.declared.plans.Verdict.TheVariants.{NamedBySuffix, Refuses}
+use Rattle.x86_operands.specs.declared.plans.Plan.{Plan}
 use Rattle.x86_operands.specs.declared.reader.Reading.{Reading}
 use Rattle.x86_fields.specs.ModRM.{is_memory}
-use Rattle.x86_plans.specs.Plans.{list_of}
+use Rattle.x86_operands.specs.Plans.{list_of}
 use Rattle.x86_operands.specs.PlanSteps.{FilledOperands, operands_step, filled_step, four_of, refuse_at, read_opcode, read_memory, read_plan, reading_from, error_of}
-use Rattle.x86_plans.specs.Asks.{immediate_width}
+use Rattle.x86_operands.specs.Asks.{immediate_width}
 use Rattle.x86_operands.specs.Pieces.{SpellsOperands, SpellsMemory, SpellsPieces, SpellsTail, RefusesTail, at_modrm, after_address, after_suffix, no_name, is_refusal, suffix_width, opcode_by, memory_widths, plan_widths, tail_widths}
 use Rattle.x86_operands.proofs.OperandLemmas.{ends_operands, takes_operands, halts_operands}
 use Rattle.x86_operands.proofs.VerdictLemmas.{Faults, Never, refuses_at, IsVerdict, ends_verdict, takes_passed, takes_refused, halts_verdict, passed_other, passed_suffix, fault_error, IsNamed, ends_opcode, takes_opcode, takes_unnamed}

@@ -8,14 +8,14 @@ use Rattle.x86_fields.specs.Pieces.{EndsBetween}
 use Rattle.x86_fields.proofs.StepLemmas.{Takes, takes_pure, takes_bind, takes_err, takes_byte}
 use Rattle.x86_fields.proofs.EndLemmas.{EndsWell, IsEmpty, Only, IsByte, ends_byte, ends_pure, ends_refuse, ends_bind, ends_then, ends_map, weaken, Halts, halts_bind, halts_empty, halts_refused}
 use Rattle.x86_fields.proofs.PieceLemmas.{takes_map}
-use Rattle.x86_plans.specs.declared.plans.Fault.{Fault}
-use Rattle.x86_plans.specs.declared.plans.ModrmUse.{ModrmUse}
-use Rattle.x86_plans.specs.declared.plans.ModrmUse.TheVariants.{Absent, EitherForm, Registers}
+use Rattle.x86_operands.specs.declared.plans.Fault.{Fault}
+use Rattle.x86_operands.specs.declared.plans.ModrmUse.{ModrmUse}
+use Rattle.x86_operands.specs.declared.plans.ModrmUse.TheVariants.{Absent, EitherForm, Registers}
 use Rattle.x86_operands.specs.declared.reader.Reading.{Reading}
-use Rattle.x86_plans.specs.Plans.{RowRecord}
+use Rattle.x86_operands.specs.Plans.{RowRecord}
 use Rattle.x86_operands.specs.PlanSteps.{read_modrm, refuse_fault, read_plan, record_step, error_of}
 use Rattle.x86_operands.specs.Pieces.{SpellsTail, RefusesTail, tail_widths, modrm_width, SpellsRow, RefusesRow, at_opcode, past_opcode, BetweenRow, before, with_modrm}
-use Rattle.x86_plans.specs.Asks.{modrm_of}
+use Rattle.x86_operands.specs.Asks.{modrm_of}
 use Rattle.x86_operands.proofs.VerdictLemmas.{Faults, Never, fault_error}
 use Rattle.x86_operands.proofs.PlanLemmas.{PlanYields, ends_plan, takes_tail, takes_tail_refused, halts_plan}
 

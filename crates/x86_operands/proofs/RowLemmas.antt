@@ -7,15 +7,15 @@ use Rattle.x86_fields.specs.declared.errors.DecodeError.TheVariants.{ExhaustedIn
 use Rattle.x86_fields.specs.declared.prefixes.Prefixes.{Prefixes}
 use Rattle.x86_fields.specs.Steps.{outcome}
 use Rattle.x86_fields.proofs.EndLemmas.{Ends, settles, runs_out, longest}
-use Rattle.x86_plans.specs.declared.plans.Fault.{Fault}
-use Rattle.x86_plans.specs.declared.plans.Fault.TheVariants.{BadOpcode, Incomplete}
-use Rattle.x86_plans.specs.declared.plans.Moment.{Moment}
-use Rattle.x86_plans.specs.declared.plans.Moment.TheVariants.{AtModRM, AfterAddress, AfterSuffix}
-use Rattle.x86_plans.specs.declared.plans.Verdict.TheVariants.{Refuses}
+use Rattle.x86_operands.specs.declared.plans.Fault.{Fault}
+use Rattle.x86_operands.specs.declared.plans.Fault.TheVariants.{BadOpcode, Incomplete}
+use Rattle.x86_operands.specs.declared.plans.Moment.{Moment}
+use Rattle.x86_operands.specs.declared.plans.Moment.TheVariants.{AtModRM, AfterAddress, AfterSuffix}
+use Rattle.x86_operands.specs.declared.plans.Verdict.TheVariants.{Refuses}
 use Rattle.x86_operands.specs.declared.reader.Reading.{Reading}
-use Rattle.x86_plans.specs.Plans.{RowRecord}
+use Rattle.x86_operands.specs.Plans.{RowRecord}
 use Rattle.x86_operands.specs.PlanSteps.{record_step, error_of}
-use Rattle.x86_plans.specs.Asks.{modrm_of}
+use Rattle.x86_operands.specs.Asks.{modrm_of}
 use Rattle.x86_operands.specs.Pieces.{SpellsRow, RefusesTail, at_modrm, after_address, after_suffix, no_name, RefusesRow, at_opcode, past_opcode, BetweenRow, IsReadRow, IsRefusedRow, IsOpenRow}
 use Rattle.x86_operands.proofs.RecordLemmas.{RowYields, ends_row, takes_row, takes_row_refused, halts_row}
 

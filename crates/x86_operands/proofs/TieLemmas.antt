@@ -5,24 +5,24 @@ use Rattle.x86_arch.specs.Reader.{State}
 use Rattle.x86_fields.specs.declared.prefixes.Prefixes.{Prefixes}
 use Rattle.x86_fields.specs.declared.raw.Raw.{Raw}
 use Rattle.x86_fields.specs.Address.{base_of, index_of, scale_by}
-use Rattle.x86_operand_types.specs.declared.operands.Slot.{Slot}
-use Rattle.x86_operand_types.specs.declared.operands.Slot.TheVariants as slots
-use Rattle.x86_operand_types.specs.declared.operands.Operand.{Operand}
-use Rattle.x86_operand_types.specs.declared.operands.Operand.TheVariants as operands
-use Rattle.x86_plans.specs.declared.plans.RegisterSlot.TheVariants as reg_slot
-use Rattle.x86_plans.specs.declared.plans.PointerSlot.TheVariants as pointer
-use Rattle.x86_plans.specs.declared.plans.OperandEncoding.{OperandEncoding}
-use Rattle.x86_plans.specs.declared.plans.OperandEncoding.TheVariants.{E, Emm, M, U, Umm, Fixed, Pointer}
-use Rattle.x86_plans.specs.declared.plans.OperandEncodings.{OperandEncodings}
-use Rattle.x86_plans.specs.declared.plans.OperandEncodings.TheVariants.{Zero}
-use Rattle.x86_plans.specs.declared.plans.Plan.{Plan}
+use Rattle.x86_operands.specs.declared.operands.Slot.{Slot}
+use Rattle.x86_operands.specs.declared.operands.Slot.TheVariants as slots
+use Rattle.x86_operands.specs.declared.operands.Operand.{Operand}
+use Rattle.x86_operands.specs.declared.operands.Operand.TheVariants as operands
+use Rattle.x86_operands.specs.declared.plans.RegisterSlot.TheVariants as reg_slot
+use Rattle.x86_operands.specs.declared.plans.PointerSlot.TheVariants as pointer
+use Rattle.x86_operands.specs.declared.plans.OperandEncoding.{OperandEncoding}
+use Rattle.x86_operands.specs.declared.plans.OperandEncoding.TheVariants.{E, Emm, M, U, Umm, Fixed, Pointer}
+use Rattle.x86_operands.specs.declared.plans.OperandEncodings.{OperandEncodings}
+use Rattle.x86_operands.specs.declared.plans.OperandEncodings.TheVariants.{Zero}
+use Rattle.x86_operands.specs.declared.plans.Plan.{Plan}
 use Rattle.x86_operands.specs.declared.reader.Reading.{Reading}
 use Rattle.x86_fields.specs.Raw.{is_zero}
 use Rattle.x86_operands.specs.Shape.{shape_by, shape}
-use Rattle.x86_plans.specs.Plans.{RowRecord, list_of}
+use Rattle.x86_operands.specs.Plans.{RowRecord, list_of}
 use Rattle.x86_operands.specs.PlanSteps.{pair_at, four_of, record_step}
 use Rattle.x86_operands.specs.Ties.{is_decoded, suits, slot_read, operand_read, AreTied, is_modrm_encoding, names_modrm, encodings_of, HasShapeAt}
-use Rattle.x86_plans.specs.Asks.{modrm_of}
+use Rattle.x86_operands.specs.Asks.{modrm_of}
 use Rattle.x86_operands.specs.Pieces.{operand_from, SpellsOperands, SpellsMemory, SpellsRow}
 use Rattle.x86_operands.proofs.RowLemmas.{row_read}
 

@@ -6,12 +6,12 @@ use Rattle.x86_fields.specs.declared.errors.DecodeError.TheVariants.{ExhaustedIn
 use Rattle.x86_fields.specs.Steps.{Step, pure, refuse, ◌>>=◌, next_byte}
 use Rattle.x86_fields.proofs.StepLemmas.{Takes, takes_pure, takes_bind, takes_byte}
 use Rattle.x86_fields.proofs.EndLemmas.{EndsWell, IsEmpty, IsByte, ends_byte, ends_pure, ends_refuse, ends_then, Halts, halts_bind, halts_refused}
-use Rattle.x86_plans.specs.declared.plans.Moment.{Moment}
-use Rattle.x86_plans.specs.declared.plans.Moment.TheVariants.{AtModRM, AfterAddress, AfterSuffix}
-use Rattle.x86_plans.specs.declared.plans.Fault.{Fault}
-use Rattle.x86_plans.specs.declared.plans.Fault.TheVariants.{BadOpcode}
-use Rattle.x86_plans.specs.declared.plans.Verdict.{Verdict}
-use Rattle.x86_plans.specs.declared.plans.Verdict.TheVariants.{Accepts, NamedBySuffix, Refuses}
+use Rattle.x86_operands.specs.declared.plans.Moment.{Moment}
+use Rattle.x86_operands.specs.declared.plans.Moment.TheVariants.{AtModRM, AfterAddress, AfterSuffix}
+use Rattle.x86_operands.specs.declared.plans.Fault.{Fault}
+use Rattle.x86_operands.specs.declared.plans.Fault.TheVariants.{BadOpcode}
+use Rattle.x86_operands.specs.declared.plans.Verdict.{Verdict}
+use Rattle.x86_operands.specs.declared.plans.Verdict.TheVariants.{Accepts, NamedBySuffix, Refuses}
 use Rattle.x86_operands.specs.Suffix.{suffix_opcode}
 use Rattle.x86_operands.specs.PlanSteps.{refuse_at, read_opcode, named_step, same_moment, error_of}
 use Rattle.x86_operands.specs.Pieces.{suffix_width, opcode_by}

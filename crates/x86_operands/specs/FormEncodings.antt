@@ -5,16 +5,16 @@ use Rattle.x86_forms.specs.Words.{carried}
 use Rattle.x86_forms.specs.declared.Form.{Form}
 use Rattle.x86_forms.specs.declared.Form.TheVariants as form
 use Rattle.x86_fields.specs.declared.prefixes.Prefixes.{Prefixes}
-use Rattle.x86_plans.specs.declared.plans.Plan.{Plan}
-use Rattle.x86_plans.specs.declared.plans.Fault.TheVariants.{Incomplete}
-use Rattle.x86_plans.specs.declared.plans.Moment.TheVariants.{AtModRM}
-use Rattle.x86_plans.specs.declared.encodings.AfterOpcode.{AfterOpcode}
-use Rattle.x86_plans.specs.declared.encodings.AfterOpcode.TheVariants as after_opcode
-use Rattle.x86_plans.specs.declared.encodings.RegGroup.{RegGroup}
-use Rattle.x86_plans.specs.declared.encodings.RegGroup.TheVariants as group
-use Rattle.x86_plans.specs.declared.encodings.FormEncoding.{FormEncoding}
-use Rattle.x86_plans.specs.Plans.{refuses}
-use Rattle.x86_plans.specs.Encodings.{is_described, plan_of}
+use Rattle.x86_operands.specs.declared.plans.Plan.{Plan}
+use Rattle.x86_operands.specs.declared.plans.Fault.TheVariants.{Incomplete}
+use Rattle.x86_operands.specs.declared.plans.Moment.TheVariants.{AtModRM}
+use Rattle.x86_operands.specs.declared.encodings.AfterOpcode.{AfterOpcode}
+use Rattle.x86_operands.specs.declared.encodings.AfterOpcode.TheVariants as after_opcode
+use Rattle.x86_operands.specs.declared.encodings.RegGroup.{RegGroup}
+use Rattle.x86_operands.specs.declared.encodings.RegGroup.TheVariants as group
+use Rattle.x86_operands.specs.declared.encodings.FormEncoding.{FormEncoding}
+use Rattle.x86_operands.specs.Plans.{refuses}
+use Rattle.x86_operands.specs.Encodings.{is_described, plan_of}
 use Rattle.x86_operands.specs.Forms.{form_plan}
 
 -- the encoding says what the form's definition says, unless it leaves the form to a separate plan

@@ -14,24 +14,24 @@ use Rattle.x86_forms.specs.declared.Form.{Form}
 use Rattle.x86_forms.specs.declared.Form.TheVariants as form
 use Rattle.x86_forms.specs.declared.TableRow.{TableRow}
 use Rattle.x86_fields.specs.Prefixes.{operand_size, address_size}
-use Rattle.x86_plans.specs.declared.plans.RegisterSlot.{RegisterSlot}
-use Rattle.x86_plans.specs.declared.plans.RegisterSlot.TheVariants.{Reg, Rm}
-use Rattle.x86_plans.specs.declared.plans.PointerSlot.{PointerSlot}
-use Rattle.x86_plans.specs.declared.plans.PointerSlot.TheVariants.{Deref, DerefEsi, DerefEdi, DerefRsi, DerefRdi}
-use Rattle.x86_plans.specs.declared.plans.OperandEncoding.{OperandEncoding}
-use Rattle.x86_plans.specs.declared.plans.OperandEncoding.TheVariants.{G, Gmm, E, Emm, M, U, Umm, Fixed, Pointer, I8, I32, U8, U16, X16, ConstantU8}
-use Rattle.x86_plans.specs.declared.plans.OperandEncodings.TheVariants.{Zero, One, Two, Three}
-use Rattle.x86_plans.specs.declared.plans.Fault.TheVariants.{BadOperand, Incomplete}
-use Rattle.x86_plans.specs.declared.plans.Moment.TheVariants.{AtModRM, AfterAddress, AfterSuffix}
-use Rattle.x86_plans.specs.declared.plans.PrefixChange.TheVariants.{SetsEs}
-use Rattle.x86_plans.specs.declared.plans.ModrmUse.{ModrmUse}
-use Rattle.x86_plans.specs.declared.plans.ModrmUse.TheVariants.{Absent, EitherForm}
-use Rattle.x86_plans.specs.declared.plans.Plan.{Plan}
+use Rattle.x86_operands.specs.declared.plans.RegisterSlot.{RegisterSlot}
+use Rattle.x86_operands.specs.declared.plans.RegisterSlot.TheVariants.{Reg, Rm}
+use Rattle.x86_operands.specs.declared.plans.PointerSlot.{PointerSlot}
+use Rattle.x86_operands.specs.declared.plans.PointerSlot.TheVariants.{Deref, DerefEsi, DerefEdi, DerefRsi, DerefRdi}
+use Rattle.x86_operands.specs.declared.plans.OperandEncoding.{OperandEncoding}
+use Rattle.x86_operands.specs.declared.plans.OperandEncoding.TheVariants.{G, Gmm, E, Emm, M, U, Umm, Fixed, Pointer, I8, I32, U8, U16, X16, ConstantU8}
+use Rattle.x86_operands.specs.declared.plans.OperandEncodings.TheVariants.{Zero, One, Two, Three}
+use Rattle.x86_operands.specs.declared.plans.Fault.TheVariants.{BadOperand, Incomplete}
+use Rattle.x86_operands.specs.declared.plans.Moment.TheVariants.{AtModRM, AfterAddress, AfterSuffix}
+use Rattle.x86_operands.specs.declared.plans.PrefixChange.TheVariants.{SetsEs}
+use Rattle.x86_operands.specs.declared.plans.ModrmUse.{ModrmUse}
+use Rattle.x86_operands.specs.declared.plans.ModrmUse.TheVariants.{Absent, EitherForm}
+use Rattle.x86_operands.specs.declared.plans.Plan.{Plan}
 use Rattle.x86_fields.specs.Sizes.{v_class, vq_class, vd_class, dq_class}
 use Rattle.x86_fields.specs.ModRM.{is_memory}
-use Rattle.x86_plans.specs.Plans.{RowRecord, reads, refuses, refused, memory_only, register_only, size_by, reg_number, register_at, accumulator_of, immediate_of}
-use Rattle.x86_plans.specs.FormSizes.{pointer_class, whole_immediate, push_immediate, address_encoding, widening, doubling, nothing_size, call_size, return_size, port_size, far_class, far_size, duplicate_size, stream_size, scalar_size, extend_size, is_half_load, extract_size, insert_size, unpack_size, v_size, or_v}
-use Rattle.x86_plans.specs.Encodings.{cl_third}
+use Rattle.x86_operands.specs.Plans.{RowRecord, reads, refuses, refused, memory_only, register_only, size_by, reg_number, register_at, accumulator_of, immediate_of}
+use Rattle.x86_operands.specs.FormSizes.{pointer_class, whole_immediate, push_immediate, address_encoding, widening, doubling, nothing_size, call_size, return_size, port_size, far_class, far_size, duplicate_size, stream_size, scalar_size, extend_size, is_half_load, extract_size, insert_size, unpack_size, v_size, or_v}
+use Rattle.x86_operands.specs.Encodings.{cl_third}
 
 -- ---- operand encodings of these forms
 

@@ -1,7 +1,7 @@
 -- The encodings that the last operand of a line can have.
 use Rattle.std.specs.Prelude.{Bool, true, false}
-use Rattle.x86_plans.specs.declared.plans.OperandEncoding.{OperandEncoding}
-use Rattle.x86_plans.specs.declared.plans.OperandEncoding.TheVariants as encoding
+use Rattle.x86_operands.specs.declared.plans.OperandEncoding.{OperandEncoding}
+use Rattle.x86_operands.specs.declared.plans.OperandEncoding.TheVariants as encoding
 
 -- an immediate, or what neither a byte nor ModRM names
 abbrev pub is_last_encoding : OperandEncoding → Bool

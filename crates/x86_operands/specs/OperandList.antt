@@ -10,19 +10,19 @@ use Rattle.x86_fields.specs.ModRM.{reg_field, absent_modrm}
 use Rattle.x86_fields.specs.declared.errors.DecodeError.{DecodeError}
 use Rattle.x86_fields.specs.Steps.{Step, ◌>>=◌, pure}
 use Rattle.x86_fields.specs.Sizes.{class_of, register_of}
-use Rattle.x86_plans.specs.declared.plans.OperandEncoding.{OperandEncoding}
-use Rattle.x86_plans.specs.declared.order.Position.{Position}
-use Rattle.x86_plans.specs.declared.order.Position.TheVariants.{First, Second, Third, Nowhere}
-use Rattle.x86_plans.specs.declared.encodings.AfterOpcode.{AfterOpcode}
-use Rattle.x86_plans.specs.declared.encodings.AfterOpcode.TheVariants as after_opcode
-use Rattle.x86_plans.specs.declared.encodings.Last.{Last}
-use Rattle.x86_plans.specs.declared.encodings.FormEncoding.{FormEncoding}
-use Rattle.x86_plans.specs.Plans.{reg_number, register_at}
-use Rattle.x86_plans.specs.Encodings.{last_encoding, somewhere}
-use Rattle.x86_operand_types.specs.declared.operands.Slot.TheVariants as slots
-use Rattle.x86_operand_types.specs.declared.operands.Operand.TheVariants as operands
-use Rattle.x86_operand_types.specs.declared.operands.Slot.{Slot}
-use Rattle.x86_operand_types.specs.declared.operands.Operand.{Operand}
+use Rattle.x86_operands.specs.declared.plans.OperandEncoding.{OperandEncoding}
+use Rattle.x86_operands.specs.declared.order.Position.{Position}
+use Rattle.x86_operands.specs.declared.order.Position.TheVariants.{First, Second, Third, Nowhere}
+use Rattle.x86_operands.specs.declared.encodings.AfterOpcode.{AfterOpcode}
+use Rattle.x86_operands.specs.declared.encodings.AfterOpcode.TheVariants as after_opcode
+use Rattle.x86_operands.specs.declared.encodings.Last.{Last}
+use Rattle.x86_operands.specs.declared.encodings.FormEncoding.{FormEncoding}
+use Rattle.x86_operands.specs.Plans.{reg_number, register_at}
+use Rattle.x86_operands.specs.Encodings.{last_encoding, somewhere}
+use Rattle.x86_operands.specs.declared.operands.Slot.TheVariants as slots
+use Rattle.x86_operands.specs.declared.operands.Operand.TheVariants as operands
+use Rattle.x86_operands.specs.declared.operands.Slot.{Slot}
+use Rattle.x86_operands.specs.declared.operands.Operand.{Operand}
 use Rattle.x86_operands.specs.PlanSteps.{FilledOperands, operand_step, read_memory, rm_operand, rm_mm_operand}
 use Rattle.x86_operands.specs.declared.reader.Reading.{Reading}
 use Rattle.x86_operands.specs.declared.operand_list.Operands.{Operands}

@@ -9,12 +9,12 @@ ghost use Rattle.x86_fields.specs.declared.prefixes.Prefixes.{Prefixes};
 ghost use Rattle.x86_forms.specs.Words.{IsForm, carried};
 ghost use Rattle.x86_operands.specs.Forms.{modrm_use};
 ghost use Rattle.x86_operands.specs.FormEncodings.{Belongs, Describes, HasSeparatePlan};
-ghost use Rattle.x86_plans.specs.Encodings.{is_sound, plan_of, use_of};
+ghost use Rattle.x86_operands.specs.Encodings.{is_sound, plan_of, use_of};
 
+use crate::AfterOpcode::{ByPlan, ByReg, Group};
+use crate::plans::ModrmUse;
+use crate::{FormEncoding, RegGroup};
 use x86_forms::{Form, WordRow};
-use x86_plans::AfterOpcode::{ByPlan, ByReg, Group};
-use x86_plans::plans::ModrmUse;
-use x86_plans::{FormEncoding, RegGroup, encoded, other};
 
 const ZV_R: FormEncoding = encoded!(Opcode R Vq B Absent Eight Eight);
 

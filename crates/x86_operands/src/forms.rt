@@ -4,21 +4,21 @@ ghost use Rattle.x86_arch.specs.Reader.{State};
 ghost use Rattle.x86_fields.specs.Steps.{outcome};
 ghost use Rattle.x86_forms.specs.Groups.{is_group};
 ghost use Rattle.x86_forms.specs.Words.{IsForm};
-ghost use Rattle.x86_plans.specs.Asks.{ask_of, record_at};
+ghost use Rattle.x86_operands.specs.Asks.{ask_of, record_at};
 ghost use Rattle.x86_operands.specs.OperandList.{value_if_ok, no_operands, reading_with};
 ghost use Rattle.x86_operands.specs.Forms.{form_plan, form_record, modrm_use};
 ghost use Rattle.x86_operands.specs.PlanSteps.{record_step};
 
 use crate::form_encodings::{carried, form_encoding};
 use crate::operand_list::Operands;
+use crate::plans::{ModrmUse, Plan};
 use crate::reader::{Reading, read_modrm, read_plan, read_plan_into};
 use crate::separate_plans::separate_plan;
+use crate::{Ask, RecordAt, encoding_ask, plan_ask, used_modrm, used_or_none};
 use x86_arch::Reader;
 use x86_fields::{DecodeError, ModRM, Prefixes};
 use x86_forms::{Form, TableRow};
 use x86_opcodes::Opcode;
-use x86_plans::plans::{ModrmUse, Plan};
-use x86_plans::{Ask, RecordAt, encoding_ask, plan_ask, used_modrm, used_or_none};
 
 fn modrm_use(form: Form) -> ModrmUse
     ensures { result ≡ modrm_use form }
@@ -85,7 +85,7 @@ pub fn read_form<T: Reader<u64, u8>>(
 /// ModRM. Where the row refuses with every suffix, the answer is open.
 ///
 /// For the row of 03, which is ADD, at ModRM 44 this is a ModRM of the memory form, and nothing else.
-#[tactic(auto, using(x86_plans::proofs::AskLemmas::encoding_has_ask), unfolding(crate::specs::Forms::form_record, x86_plans::specs::Asks::ask_of))]
+#[tactic(auto, using(crate::proofs::AskLemmas::encoding_has_ask), unfolding(crate::specs::Forms::form_record, crate::specs::Asks::ask_of))]
 pub fn form_ask(row: TableRow, prefixes: Prefixes, modrm: u8) -> Ask
     requires plain { is_group row.form ≡ false }
     requires carried { IsForm row.form }
@@ -103,7 +103,7 @@ pub fn form_ask(row: TableRow, prefixes: Prefixes, modrm: u8) -> Ask
 }
 
 /// The record of a row whose form is a plain form, at a ModRM byte.
-#[tactic(auto, unfolding(crate::specs::Forms::form_record, x86_plans::specs::Asks::record_at))]
+#[tactic(auto, unfolding(crate::specs::Forms::form_record, crate::specs::Asks::record_at))]
 pub fn form_at(row: TableRow, prefixes: Prefixes, modrm: Option<u8>) -> RecordAt
     requires plain { is_group row.form ≡ false }
     requires carried { IsForm row.form }

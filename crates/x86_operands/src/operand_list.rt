@@ -4,23 +4,22 @@ ghost use Rattle.std.specs.Prelude.{◌≡◌, ◌<◌, ◌≢◌, ℕ, Option, 
 ghost use Rattle.x86_fields.specs.Steps.{outcome};
 ghost use Rattle.x86_fields.specs.declared.prefixes.Prefixes.{Prefixes};
 ghost use Rattle.x86_fields.specs.declared.raw.Raw.{Raw};
-ghost use Rattle.x86_plans.specs.declared.order.Position.TheVariants.{Nowhere};
+ghost use Rattle.x86_operands.specs.declared.order.Position.TheVariants.{Nowhere};
 ghost use Rattle.x86_operands.specs.PlanSteps.{memory_or, pointer_slot, read_plan, register_slot};
 ghost use Rattle.x86_operands.specs.LastEncodings.{is_last_encoding};
 ghost use Rattle.x86_operands.specs.OperandList.{reg_pair, fixed_pair, no_operands, reading_with, value_if_ok, put_in, put_at, put_encoded, encoded_read, leading_read, slot_in, operand_in};
-ghost use Rattle.x86_plans.specs.Encodings.{plan_of, last_encoding, allows, is_sound};
+ghost use Rattle.x86_operands.specs.Encodings.{plan_of, last_encoding, allows, is_sound};
 
+use crate::order::Position;
+use crate::plans::{OperandEncoding, PointerSlot, RegisterSlot, register_at};
 use crate::shapes::put_shape;
+use crate::{AfterOpcode, FormEncoding, Last, Operand, Slot};
 use x86_arch::Reader;
 use x86_fields::{
     DecodeError, ModRM, PrefixedModRM, Prefixes, Raw, Width, read_raw, read_u8, read_u16, read_u32,
     read_u64,
 };
 use x86_opcodes::Opcode;
-use x86_operand_types::{Operand, Slot};
-use x86_plans::order::Position;
-use x86_plans::plans::{OperandEncoding, PointerSlot, RegisterSlot, register_at};
-use x86_plans::{AfterOpcode, FormEncoding, Last};
 use x86_regs::{RegSpec, RegisterClass};
 
 /// The slot of a register that the record names.
@@ -336,7 +335,7 @@ impl Operands {
     }
 
     /// What an encoding has after ModRM, where it doesn't refuse.
-    #[tactic(auto, using(crate::proofs::InPlaceLemmas::plan_is_read, x86_plans::proofs::OrderLemmas::last_there, x86_plans::proofs::OrderLemmas::sound_parts))]
+    #[tactic(auto, using(crate::proofs::InPlaceLemmas::plan_is_read, crate::proofs::OrderLemmas::last_there, crate::proofs::OrderLemmas::sound_parts))]
     #[inline(always)]
     pub fn read<T: Reader<u64, u8>>(
         &mut self,

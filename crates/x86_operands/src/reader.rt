@@ -3,19 +3,18 @@ ghost use Rattle.x86_operands.specs.OperandList.{value_if_ok, no_operands, readi
 ghost use Rattle.std.specs.Prelude.{◌≡◌, ℕ, ◌<◌, ◌∷◌, []};
 ghost use Rattle.x86_arch.specs.Reader.{State};
 ghost use Rattle.x86_fields.specs.Steps.{outcome};
-ghost use Rattle.x86_plans.specs.Plans.{list_of};
+ghost use Rattle.x86_operands.specs.Plans.{list_of};
 ghost use Rattle.x86_operands.specs.Suffix.{suffix_opcode};
 ghost use Rattle.x86_operands.specs.PlanSteps.{filled_step, error_of, refuse_at, read_opcode, read_memory, changed, read_plan, read_modrm, refuse_fault};
 
 use crate::operand_list::Operands;
+use crate::plans::{
+    Fault, ModrmUse, Moment, OperandEncoding, OperandEncodings, Plan, PrefixChange, Verdict,
+};
+use crate::{Operand, Slot, used_modrm};
 use x86_arch::Reader;
 use x86_fields::{DecodeError, ModRM, Prefixes, Raw, next_byte, read_raw};
 use x86_opcodes::Opcode;
-use x86_operand_types::{Operand, Slot};
-use x86_plans::plans::{
-    Fault, ModrmUse, Moment, OperandEncoding, OperandEncodings, Plan, PrefixChange, Verdict,
-};
-use x86_plans::used_modrm;
 
 /// What was read after an opcode byte.
 #[derive(Clone, Copy, Drop)]

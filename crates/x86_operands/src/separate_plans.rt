@@ -7,19 +7,19 @@ ghost use Rattle.x86_opcodes.specs.Names.{JECXZ, IRET, IRETD, IRETQ};
 ghost use Rattle.x86_operands.specs.Forms.{exchange_plan, z_in, dx_port, dl_in_reg, dx_in_reg, segment_register, at_rsi, at_rdi, source_string, target_string, wide_rsi, wide_rdi, sets_es};
 ghost use Rattle.x86_operands.specs.FormEncodings.{separate_plan, string_plan};
 
-use x86_fields::{ModRM, Prefixes};
-use x86_forms::Form;
-use x86_opcodes::Opcode;
-use x86_plans::form_sizes::{
+use crate::form_sizes::{
     address, doubling, extend_size, far_class, far_size, is_half_load, or_v, pointer_class,
     port_size, v_size, widening,
 };
-use x86_plans::plans::OperandEncoding::{E, Fixed, G, I8, M, Pointer, U8, Umm, X16};
-use x86_plans::plans::OperandEncodings::{One, Three, Two, Zero};
-use x86_plans::plans::{
+use crate::plans::OperandEncoding::{E, Fixed, G, I8, M, Pointer, U8, Umm, X16};
+use crate::plans::OperandEncodings::{One, Three, Two, Zero};
+use crate::plans::{
     Fault, Moment, OperandEncoding, Plan, PointerSlot, PrefixChange, RegisterSlot, accumulator_of,
     memory_only, reads, refused, refuses, register_at,
 };
+use x86_fields::{ModRM, Prefixes};
+use x86_forms::Form;
+use x86_opcodes::Opcode;
 use x86_regs::RegSpec;
 use x86_regs::RegisterClass::{B, D, Q, S, W, X};
 

@@ -4,8 +4,8 @@ ghost use Rattle.x86_operands.specs.OperandList.{put_at};
 ghost use Rattle.x86_operands.specs.Shape.{shape};
 
 use crate::operand_list::Operands;
+use crate::{Operand, Slot};
 use x86_fields::Raw;
-use x86_operand_types::{Operand, Slot};
 
 /// The memory operand of raw fields, with the parts that are present.
 pub fn shape(raw: &Raw) -> (Slot, Operand)

@@ -2,7 +2,7 @@
 use Rattle.std.proofs.Common.{◌≡◌, ℕ, suc, zero, ◌≤◌, length, refl, arith, ◌∙◌, Option, Some, None}
 use Rattle.std.proofs.Math.Dec.{eqb-suc-zero}
 use Rattle.std.specs.Prelude.{◌==◌, if◌then◌else◌}
-use Rattle.x86_operand_types.specs.declared.operands.MemoryAccessSize.{MemoryAccessSize}
+use Rattle.x86_operands.specs.declared.operands.MemoryAccessSize.{MemoryAccessSize}
 use Rattle.x86_fields.specs.declared.errors.DecodeError.{DecodeError}
 use Rattle.x86_fields.specs.declared.errors.DecodeError.TheVariants.{ExhaustedInput, InvalidOpcode, InvalidOperand, InvalidPrefixes, TooLong, IncompleteDecoder}
 use Rattle.x86_fields.specs.Errors.{description_of}

@@ -5,8 +5,8 @@ use Rattle.std.specs.Int.{is_negative}
 use Rattle.std.specs.List.{flat_map}
 use Rattle.x86_regs.specs.declared.RegSpec.{RegSpec}
 use Rattle.x86_regs.specs.Names.{name_of}
-use Rattle.x86_operand_types.specs.declared.operands.Operand.{Operand}
-use Rattle.x86_operand_types.specs.declared.operands.Operand.TheVariants as operand
+use Rattle.x86_operands.specs.declared.operands.Operand.{Operand}
+use Rattle.x86_operands.specs.declared.operands.Operand.TheVariants as operand
 
 -- the parts of a memory operand: a base, an index with its scale, a displacement; each where it is named
 

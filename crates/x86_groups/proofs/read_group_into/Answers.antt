@@ -1,5 +1,5 @@
 use Rattle.std.proofs.Common.{rules}
-use Rattle.x86_group_plans.specs.Groups.{group_record}
+use Rattle.x86_groups.specs.Groups.{group_record}
 use Rattle.x86_operands.specs.PlanSteps.{record_step}
 use Rattle.x86_groups.proofs.read_group_into.Goals as goal
 

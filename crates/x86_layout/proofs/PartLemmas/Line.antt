@@ -5,18 +5,18 @@ use Rattle.x86_forms.specs.Groups.{is_group}
 use Rattle.x86_forms.specs.Words.{carried}
 use Rattle.x86_forms.specs.declared.Form.{Form}
 use Rattle.x86_forms.specs.declared.TableRow.{TableRow}
-use Rattle.x86_plans.specs.Asks.{ask_of, encoding_ask, plan_ask, used_modrm}
-use Rattle.x86_plans.specs.Encodings.{is_described, is_sound, plan_of, use_of}
-use Rattle.x86_plans.specs.declared.encodings.AfterOpcode.{AfterOpcode}
-use Rattle.x86_plans.specs.declared.encodings.FormEncoding.{FormEncoding}
-use Rattle.x86_plans.specs.declared.encodings.RegGroup.{RegGroup}
-use Rattle.x86_plans.specs.declared.encodings.RegGroup.TheVariants as group
-use Rattle.x86_plans.specs.declared.plans.ModrmUse.TheVariants.{EitherForm}
-use Rattle.x86_plans.proofs.AskLemmas.{encoding_has_ask}
+use Rattle.x86_operands.specs.Asks.{ask_of, encoding_ask, plan_ask, used_modrm}
+use Rattle.x86_operands.specs.Encodings.{is_described, is_sound, plan_of, use_of}
+use Rattle.x86_operands.specs.declared.encodings.AfterOpcode.{AfterOpcode}
+use Rattle.x86_operands.specs.declared.encodings.FormEncoding.{FormEncoding}
+use Rattle.x86_operands.specs.declared.encodings.RegGroup.{RegGroup}
+use Rattle.x86_operands.specs.declared.encodings.RegGroup.TheVariants as group
+use Rattle.x86_operands.specs.declared.plans.ModrmUse.TheVariants.{EitherForm}
+use Rattle.x86_operands.proofs.AskLemmas.{encoding_has_ask}
 use Rattle.x86_operands.specs.FormEncodings.{Belongs, Describes, group_form}
 use Rattle.x86_operands.specs.Forms.{form_plan, form_record, modrm_use}
-use Rattle.x86_group_plans.specs.ByReg.{Chooses, has_either_form, reg_plan}
-use Rattle.x86_group_plans.specs.Groups.{group_modrm, group_plan, group_record}
+use Rattle.x86_groups.specs.ByReg.{Chooses, has_either_form, reg_plan}
+use Rattle.x86_groups.specs.Groups.{group_modrm, group_plan, group_record}
 use Rattle.x86_decode.specs.Grammar.{record_of}
 
 -- ---- a plain form

@@ -8,10 +8,10 @@ use Rattle.x86_fields.specs.Run.{is_prefix, reading_of}
 use Rattle.x86_fields.specs.ModRM.{is_memory}
 use Rattle.x86_fields.specs.Raw.{displacement_width}
 use Rattle.x86_fields.specs.Pieces.{option_bytes, first_byte}
-use Rattle.x86_plans.specs.declared.asks.Ask.{Ask}
+use Rattle.x86_operands.specs.declared.asks.Ask.{Ask}
 use Rattle.x86_operands.specs.declared.reader.Reading.{Reading}
-use Rattle.x86_plans.specs.Plans.{RowRecord}
-use Rattle.x86_plans.specs.Asks.{modrm_of, used_modrm, ask_of, immediates_width}
+use Rattle.x86_operands.specs.Plans.{RowRecord}
+use Rattle.x86_operands.specs.Asks.{modrm_of, used_modrm, ask_of, immediates_width}
 use Rattle.x86_operands.specs.Pieces.{SpellsMemory, SpellsRow}
 use Rattle.x86_decode.specs.Head.{escape_bytes, seen_by}
 use Rattle.x86_layout.specs.declared.parts.heads.Head.{Head}
@@ -29,8 +29,8 @@ use Rattle.x86_forms.specs.declared.TableRow.{TableRow}
 use Rattle.x86_forms.specs.Groups.{is_group}
 use Rattle.x86_operands.specs.Forms.{form_record}
 use Rattle.x86_operands.proofs.PlainLemmas.{plain_narrow}
-use Rattle.x86_group_plans.specs.Groups.{group_record}
-use Rattle.x86_group_plans.proofs.GroupLemmas.{group_narrow}
+use Rattle.x86_groups.specs.Groups.{group_record}
+use Rattle.x86_groups.proofs.GroupLemmas.{group_narrow}
 
 -- ---- SIB and displacement
 

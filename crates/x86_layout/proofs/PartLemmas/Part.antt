@@ -12,16 +12,16 @@ use Rattle.x86_fields.specs.Pieces.{option_bytes, total}
 use Rattle.x86_fields.specs.declared.prefixes.Prefixes.{Prefixes}
 use Rattle.x86_fields.specs.declared.raw.Raw.{Raw}
 use Rattle.x86_forms.specs.declared.Map.{Map}
-use Rattle.x86_operand_types.specs.declared.operands.Slot.{Slot}
-use Rattle.x86_operand_types.specs.declared.operands.Operand.{Operand}
-use Rattle.x86_plans.specs.declared.plans.OperandEncoding.{OperandEncoding}
-use Rattle.x86_plans.specs.declared.plans.Verdict.{Verdict}
-use Rattle.x86_plans.specs.declared.plans.ModrmUse.{ModrmUse}
-use Rattle.x86_plans.specs.Plans.{RowRecord}
-use Rattle.x86_plans.specs.Asks.{immediate_width, modrm_of, immediates_width, uses_modrm, uses_suffix, used_modrm, ask_of}
+use Rattle.x86_operands.specs.declared.operands.Slot.{Slot}
+use Rattle.x86_operands.specs.declared.operands.Operand.{Operand}
+use Rattle.x86_operands.specs.declared.plans.OperandEncoding.{OperandEncoding}
+use Rattle.x86_operands.specs.declared.plans.Verdict.{Verdict}
+use Rattle.x86_operands.specs.declared.plans.ModrmUse.{ModrmUse}
+use Rattle.x86_operands.specs.Plans.{RowRecord}
+use Rattle.x86_operands.specs.Asks.{immediate_width, modrm_of, immediates_width, uses_modrm, uses_suffix, used_modrm, ask_of}
 use Rattle.x86_operands.specs.Pieces.{modrm_width, suffix_width, SpellsOperands, SpellsMemory, SpellsRow}
 use Rattle.x86_decode.specs.Head.{is_run, escape_bytes, is_opcode}
-use Rattle.x86_plans.specs.declared.asks.Ask.{Ask}
+use Rattle.x86_operands.specs.declared.asks.Ask.{Ask}
 use Rattle.x86_operands.specs.declared.reader.Reading.{Reading}
 use Rattle.x86_layout.specs.Parts.Heads.{map_of, one_if, has_sib}
 use Rattle.x86_layout.specs.Parts.Split.{sib_width}

@@ -7,14 +7,14 @@ use Rattle.x86_fields.specs.declared.raw.Raw.{Raw}
 use Rattle.x86_fields.specs.ModRM.{rm_field, is_memory}
 use Rattle.x86_fields.specs.Raw.{displacement_width, has_b, has_x}
 use Rattle.x86_fields.specs.Pieces.{option_bytes, signed_by, total}
-use Rattle.x86_operand_types.specs.declared.operands.Slot.{Slot}
-use Rattle.x86_operand_types.specs.declared.operands.Operand.{Operand}
-use Rattle.x86_plans.specs.declared.plans.OperandEncoding.{OperandEncoding}
-use Rattle.x86_plans.specs.declared.plans.Verdict.{Verdict}
-use Rattle.x86_plans.specs.declared.plans.Verdict.TheVariants.{Accepts, NamedBySuffix, Refuses}
+use Rattle.x86_operands.specs.declared.operands.Slot.{Slot}
+use Rattle.x86_operands.specs.declared.operands.Operand.{Operand}
+use Rattle.x86_operands.specs.declared.plans.OperandEncoding.{OperandEncoding}
+use Rattle.x86_operands.specs.declared.plans.Verdict.{Verdict}
+use Rattle.x86_operands.specs.declared.plans.Verdict.TheVariants.{Accepts, NamedBySuffix, Refuses}
 use Rattle.x86_operands.specs.declared.reader.Reading.{Reading}
-use Rattle.x86_plans.specs.Plans.{RowRecord, list_of}
-use Rattle.x86_plans.specs.Asks.{immediate_width, modrm_of, uses_modrm, uses_suffix, immediates_width, record_at}
+use Rattle.x86_operands.specs.Plans.{RowRecord, list_of}
+use Rattle.x86_operands.specs.Asks.{immediate_width, modrm_of, uses_modrm, uses_suffix, immediates_width, record_at}
 use Rattle.x86_operands.specs.Pieces.{operand_from, opcode_by, is_refusal, SpellsOperands, SpellsMemory, SpellsRow}
 use Rattle.x86_operands.specs.PlanSteps.{four_of, reading_from}
 use Rattle.x86_operands.specs.Suffix.{suffix_opcode}

@@ -11,29 +11,29 @@ use Rattle.x86_fields.specs.ModRM.{reg_field, is_memory}
 use Rattle.x86_fields.specs.Raw.{has_r, has_w}
 use Rattle.x86_fields.specs.Sizes.{v_class}
 use Rattle.x86_forms.specs.declared.Form.{Form}
-use Rattle.x86_plans.specs.declared.plans.ModrmUse.TheVariants.{EitherForm}
-use Rattle.x86_plans.specs.declared.plans.Plan.{Plan}
+use Rattle.x86_operands.specs.declared.plans.ModrmUse.TheVariants.{EitherForm}
+use Rattle.x86_operands.specs.declared.plans.Plan.{Plan}
 use Rattle.x86_forms.specs.declared.Form.TheVariants as form
 use Rattle.x86_forms.specs.declared.TableRow.{TableRow}
 use Rattle.x86_forms.specs.Groups.{is_group}
-use Rattle.x86_plans.specs.Plans.{RowRecord, immediate_of, list_of}
+use Rattle.x86_operands.specs.Plans.{RowRecord, immediate_of, list_of}
 use Rattle.x86_operands.specs.Pieces.{is_refusal}
 use Rattle.x86_operands.specs.Forms.{form_plan, form_record, modrm_use}
 use Rattle.x86_decode.specs.Grammar.{record_of}
 use Rattle.x86_decode.specs.Addresses.{is_modrm_encoding}
 use Rattle.x86_layout.specs.Tightening.Tighten.{bits_in}
-use Rattle.x86_group_plans.specs.declared.letters.Letter.{Letter}
-use Rattle.x86_group_plans.specs.declared.letters.Letter.TheVariants as letter
-use Rattle.x86_group_plans.specs.declared.letters.Letters.{Letters}
-use Rattle.x86_group_plans.specs.declared.letters.Letters.TheVariants as letters
-use Rattle.x86_group_plans.specs.declared.rows.Content.{Content}
-use Rattle.x86_group_plans.specs.declared.rows.Content.TheVariants.{Reads, Refuses}
-use Rattle.x86_group_plans.specs.Columns.{choose, distance_of, letter_encoding, operand_encodings, plan_of_row, seen_at, verdict_of}
-use Rattle.x86_group_plans.specs.Groups.{fault_f30f3af0, group_fault, group_form_plan, group_modrm, group_record}
-use Rattle.x86_group_plans.specs.Rows.{group_rows}
-use Rattle.x86_group_plans.proofs.RowLemmas.{no_rm_names}
-use Rattle.x86_group_plans.proofs.FactLemmas.{in_memory, is_memory_letter, letters_list, rm_free_letter}
-use Rattle.x86_group_plans.proofs.PlanLemmas.{SamePrefixes, first_in_memory, plan_alike}
+use Rattle.x86_groups.specs.declared.letters.Letter.{Letter}
+use Rattle.x86_groups.specs.declared.letters.Letter.TheVariants as letter
+use Rattle.x86_groups.specs.declared.letters.Letters.{Letters}
+use Rattle.x86_groups.specs.declared.letters.Letters.TheVariants as letters
+use Rattle.x86_groups.specs.declared.rows.Content.{Content}
+use Rattle.x86_groups.specs.declared.rows.Content.TheVariants.{Reads, Refuses}
+use Rattle.x86_groups.specs.Columns.{choose, distance_of, letter_encoding, operand_encodings, plan_of_row, seen_at, verdict_of}
+use Rattle.x86_groups.specs.Groups.{fault_f30f3af0, group_fault, group_form_plan, group_modrm, group_record}
+use Rattle.x86_groups.specs.Rows.{group_rows}
+use Rattle.x86_groups.proofs.RowLemmas.{no_rm_names}
+use Rattle.x86_groups.proofs.FactLemmas.{in_memory, is_memory_letter, letters_list, rm_free_letter}
+use Rattle.x86_groups.proofs.PlanLemmas.{SamePrefixes, first_in_memory, plan_alike}
 
 -- ---- mod and rm
 

@@ -9,12 +9,12 @@ use Rattle.x86_fields.specs.Raw.{has_b, has_x}
 use Rattle.x86_fields.specs.Run.{reading_of}
 use Rattle.x86_fields.specs.Linear.{raw_form, IsSameAddress}
 use Rattle.x86_forms.specs.Words.{rows_of, packed}
-use Rattle.x86_plans.specs.declared.plans.ModrmUse.{ModrmUse}
-use Rattle.x86_plans.specs.declared.plans.ModrmUse.TheVariants.{EitherForm}
+use Rattle.x86_operands.specs.declared.plans.ModrmUse.{ModrmUse}
+use Rattle.x86_operands.specs.declared.plans.ModrmUse.TheVariants.{EitherForm}
 use Rattle.x86_operands.specs.declared.reader.Reading.{Reading}
-use Rattle.x86_plans.specs.Plans.{RowRecord}
+use Rattle.x86_operands.specs.Plans.{RowRecord}
 use Rattle.x86_operands.specs.Pieces.{SpellsMemory, modrm_width}
-use Rattle.x86_plans.specs.Asks.{modrm_of}
+use Rattle.x86_operands.specs.Asks.{modrm_of}
 use Rattle.x86_decode.specs.Head.{escape_bytes, seen_by}
 use Rattle.x86_decode.specs.Instruction.{instruction_of}
 use Rattle.x86_decode.specs.Grammar.{record_of, allows_lock, IsSentence}

@@ -9,20 +9,20 @@ use Rattle.x86_fields.specs.Address.{scale_by}
 use Rattle.x86_fields.specs.Sizes.{register_of}
 use Rattle.x86_fields.specs.Linear.{Linear, raw_form, value_at, IsSameAddress, IsReduced, IsRegFile, AgreeEverywhere}
 use Rattle.x86_forms.specs.Words.{rows_of, packed}
-use Rattle.x86_operand_types.specs.declared.operands.Slot.{Slot}
-use Rattle.x86_operand_types.specs.declared.operands.Slot.TheVariants as slots
-use Rattle.x86_operand_types.specs.declared.operands.Operand.{Operand}
-use Rattle.x86_operand_types.specs.declared.operands.Operand.TheVariants as operands
-use Rattle.x86_plans.specs.declared.plans.OperandEncoding.{OperandEncoding}
-use Rattle.x86_plans.specs.declared.plans.PrefixChange.{PrefixChange}
-use Rattle.x86_plans.specs.declared.plans.Plan.{Plan}
+use Rattle.x86_operands.specs.declared.operands.Slot.{Slot}
+use Rattle.x86_operands.specs.declared.operands.Slot.TheVariants as slots
+use Rattle.x86_operands.specs.declared.operands.Operand.{Operand}
+use Rattle.x86_operands.specs.declared.operands.Operand.TheVariants as operands
+use Rattle.x86_operands.specs.declared.plans.OperandEncoding.{OperandEncoding}
+use Rattle.x86_operands.specs.declared.plans.PrefixChange.{PrefixChange}
+use Rattle.x86_operands.specs.declared.plans.Plan.{Plan}
 use Rattle.x86_operands.specs.declared.reader.Reading.{Reading}
 use Rattle.x86_operands.specs.Shape.{shape}
-use Rattle.x86_operand_types.specs.Linear.{operand_address}
-use Rattle.x86_plans.specs.Plans.{list_of, reg_number}
+use Rattle.x86_operands.specs.Linear.{operand_address}
+use Rattle.x86_operands.specs.Plans.{list_of, reg_number}
 use Rattle.x86_operands.specs.PlanSteps.{pair_at, four_of, changed, reading_from}
 use Rattle.x86_operands.specs.Pieces.{operand_from, SpellsOperands, SpellsTail}
-use Rattle.x86_plans.specs.Asks.{first_or}
+use Rattle.x86_operands.specs.Asks.{first_or}
 use Rattle.x86_decode.specs.declared.instructions.Instruction.{Instruction}
 use Rattle.x86_decode.specs.Instruction.{instruction_of, operand_at}
 use Rattle.x86_decode.specs.Grammar.{IsSentence}

@@ -1,11 +1,11 @@
 -- What is known of raw fields from the parts of an encoding, and how long a shortest relative is.
 use Rattle.std.specs.List.{list_any}
-use Rattle.x86_operand_types.specs.Operands.{is_memory_slot}
+use Rattle.x86_operands.specs.Operands.{is_memory_slot}
 use Rattle.x86_operands.specs.Shape.{shape}
 use Rattle.x86_operands.specs.Ties.{is_modrm_encoding, names_modrm}
-use Rattle.x86_plans.specs.Plans.{list_of}
-use Rattle.x86_plans.specs.declared.plans.OperandEncoding.{OperandEncoding}
-use Rattle.x86_plans.specs.declared.plans.OperandEncodings.{OperandEncodings}
+use Rattle.x86_operands.specs.Plans.{list_of}
+use Rattle.x86_operands.specs.declared.plans.OperandEncoding.{OperandEncoding}
+use Rattle.x86_operands.specs.declared.plans.OperandEncodings.{OperandEncodings}
 use Rattle.x86_forms.specs.Words.{rows_of, packed}
 use Rattle.x86_decode.specs.Addresses.{encodings_within, plan_within}
 use Rattle.x86_decode.specs.Grammar.{IsSentence}
@@ -19,7 +19,7 @@ use Rattle.x86_fields.specs.Run.{reading_of}
 use Rattle.x86_fields.specs.Pieces.{option_bytes}
 use Rattle.x86_operands.specs.declared.reader.Reading.{Reading}
 use Rattle.x86_operands.specs.Pieces.{SpellsMemory}
-use Rattle.x86_plans.specs.Asks.{ask_of}
+use Rattle.x86_operands.specs.Asks.{ask_of}
 use Rattle.x86_layout.specs.declared.parts.heads.Head.{Head}
 use Rattle.x86_fields.specs.declared.parts.Parts.{Parts}
 use Rattle.x86_fields.specs.Parts.{PartLists, lists_of}

@@ -4,11 +4,11 @@ use Rattle.x86_fields.specs.declared.prefixes.Prefixes.{Prefixes}
 use Rattle.x86_fields.specs.ModRM.{rm_field}
 use Rattle.x86_forms.specs.declared.Map.{Map}
 use Rattle.x86_forms.specs.declared.Map.TheVariants.{One, Of, Of38, Of3a}
-use Rattle.x86_plans.specs.declared.asks.Ask.{Ask}
+use Rattle.x86_operands.specs.declared.asks.Ask.{Ask}
 use Rattle.x86_operands.specs.declared.reader.Reading.{Reading}
-use Rattle.x86_plans.specs.Plans.{RowRecord}
+use Rattle.x86_operands.specs.Plans.{RowRecord}
 use Rattle.x86_operands.specs.Pieces.{SpellsRow}
-use Rattle.x86_plans.specs.Asks.{modrm_of, ask_of}
+use Rattle.x86_operands.specs.Asks.{modrm_of, ask_of}
 use Rattle.x86_decode.specs.Head.{escape_bytes}
 use Rattle.x86_layout.specs.declared.parts.heads.Head.{Head}
 use Rattle.x86_fields.specs.declared.parts.Parts.{Parts}

@@ -9,8 +9,8 @@ use Rattle.x86_fields.specs.Parts.{PartLists}
 use Rattle.x86_forms.specs.declared.Map.{Map}
 use Rattle.x86_forms.specs.declared.TableRow.{TableRow}
 use Rattle.x86_forms.specs.Words.{rows_of, packed}
-use Rattle.x86_plans.specs.declared.asks.Ask.{Ask}
-use Rattle.x86_plans.specs.Asks.{ask_of}
+use Rattle.x86_operands.specs.declared.asks.Ask.{Ask}
+use Rattle.x86_operands.specs.Asks.{ask_of}
 use Rattle.x86_decode.specs.Head.{column_of, escape_bytes, seen_by}
 use Rattle.x86_decode.specs.Grammar.{record_of}
 use Rattle.x86_layout.specs.Parts.Heads.{map_of, one_if, has_sib}

@@ -6,8 +6,8 @@ use Rattle.x86_fields.specs.ModRM.{rm_field, is_memory}
 use Rattle.x86_fields.specs.declared.parts.Parts.{Parts}
 use Rattle.x86_fields.specs.Parts.{PartLists, lists_of}
 use Rattle.x86_operands.specs.declared.reader.Reading.{Reading}
-use Rattle.x86_plans.specs.Plans.{RowRecord}
-use Rattle.x86_plans.specs.Asks.{modrm_of}
+use Rattle.x86_operands.specs.Plans.{RowRecord}
+use Rattle.x86_operands.specs.Asks.{modrm_of}
 use Rattle.x86_decode.specs.declared.instructions.Instruction.{Instruction}
 use Rattle.x86_decode.specs.Instruction.{length_of}
 use Rattle.x86_decode.specs.Head.{escape_bytes, seen_by}

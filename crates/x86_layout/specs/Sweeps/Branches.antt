@@ -3,10 +3,10 @@ use Rattle.std.specs.Prelude.{ℕ, ◌+◌, ◌%◌, ◌^◌, ◌&&◌, ◌||◌
 use Rattle.std.specs.Int.{w64, cast_unsigned}
 use Rattle.x86_opcodes.specs.Kinds.{is_among, jumps}
 use Rattle.x86_opcodes.specs.Names.{CALL, JMP, LOOPNZ, LOOPZ, LOOP, JRCXZ, JECXZ}
-use Rattle.x86_operand_types.specs.declared.operands.Slot.{Slot}
-use Rattle.x86_operand_types.specs.declared.operands.Slot.TheVariants.{ImmI8, ImmI32}
-use Rattle.x86_operand_types.specs.declared.operands.Operand.{Operand}
-use Rattle.x86_operand_types.specs.declared.operands.Operand.TheVariants.{ImmediateI8, ImmediateI32}
+use Rattle.x86_operands.specs.declared.operands.Slot.{Slot}
+use Rattle.x86_operands.specs.declared.operands.Slot.TheVariants.{ImmI8, ImmI32}
+use Rattle.x86_operands.specs.declared.operands.Operand.{Operand}
+use Rattle.x86_operands.specs.declared.operands.Operand.TheVariants.{ImmediateI8, ImmediateI32}
 use Rattle.x86_decode.specs.declared.instructions.Instruction.{Instruction}
 use Rattle.x86_decode.specs.Instruction.{opcode, slot_at, operand_at}
 

@@ -2,7 +2,7 @@
 
 ghost use Rattle.std.specs.Prelude.{◌≡◌, Some, IfSome, IsTrue};
 ghost use Rattle.x86_forms.specs.Words.{IsForm};
-ghost use Rattle.x86_plans.specs.Asks.{record_at};
+ghost use Rattle.x86_operands.specs.Asks.{record_at};
 ghost use Rattle.x86_decode.specs.Head.{is_run, is_opcode};
 ghost use Rattle.x86_decode.specs.Grammar.{record_of};
 ghost use Rattle.x86_layout.specs.Parts.Permitted.{map_named, entry_at, entry_of};

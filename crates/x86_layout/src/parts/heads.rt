@@ -5,8 +5,8 @@ ghost use Rattle.std.specs.List.{prefix_len};
 ghost use Rattle.x86_fields.specs.declared.prefixes.Prefixes.{Prefixes};
 ghost use Rattle.x86_fields.specs.Run.{is_prefix, reading_of};
 ghost use Rattle.x86_forms.specs.Words.{IsForm, rows_of, packed};
-ghost use Rattle.x86_plans.specs.Asks.{ask_of, encoding_ask, used_modrm};
-ghost use Rattle.x86_plans.specs.Encodings.{is_described, use_of};
+ghost use Rattle.x86_operands.specs.Asks.{ask_of, encoding_ask, used_modrm};
+ghost use Rattle.x86_operands.specs.Encodings.{is_described, use_of};
 ghost use Rattle.x86_decode.specs.Head.{column_of, escape_bytes, seen_by};
 ghost use Rattle.x86_decode.specs.Grammar.{record_of};
 ghost use Rattle.x86_layout.specs.Parts.Heads.{map_of, IsHead};
@@ -18,8 +18,9 @@ use x86_fields::{ModRM, Prefixes};
 use x86_forms::{Map, Packed, TableRow, WordRow, Words, word_row};
 use x86_groups::laws::reg_groups_are_chosen;
 use x86_groups::{chosen, group_ask};
-use x86_operands::{AfterOpcode, Ask, FormEncoding, form_ask, word_encoding};
-use x86_plans::{encoding_ask, used_modrm};
+use x86_operands::{
+    AfterOpcode, Ask, FormEncoding, encoding_ask, form_ask, used_modrm, word_encoding,
+};
 
 /// An encoding up to its opcode byte, what follows it, and what its row has there.
 #[derive(Clone, Copy, Drop)]

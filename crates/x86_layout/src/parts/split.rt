@@ -4,9 +4,9 @@ ghost use Rattle.std.specs.Prelude.{◌≡◌, ℕ, List, slice_index, MatchResu
 ghost use Rattle.x86_fields.specs.declared.prefixes.Prefixes.{Prefixes};
 ghost use Rattle.x86_fields.specs.Parts.{lists_of, HasFieldLengths};
 ghost use Rattle.x86_operands.specs.declared.reader.Reading.{Reading};
-ghost use Rattle.x86_plans.specs.Plans.{RowRecord};
+ghost use Rattle.x86_operands.specs.Plans.{RowRecord};
 ghost use Rattle.x86_operands.specs.Pieces.{SpellsRow};
-ghost use Rattle.x86_plans.specs.Asks.{ask_of};
+ghost use Rattle.x86_operands.specs.Asks.{ask_of};
 ghost use Rattle.x86_decode.specs.Decoder.{is_strict};
 ghost use Rattle.x86_decode.specs.Answer.{answer_of};
 ghost use Rattle.x86_layout.specs.Parts.Heads.{has_sib, IsSomeHead, IsTail};

@@ -2,7 +2,7 @@
 
 ghost use Rattle.std.specs.Prelude.{◌≡◌, ◌≤◌, ◌<◌, ℕ, Bool, false, length, MatchResult, IfErr, Ok};
 ghost use Rattle.x86_forms.specs.Words.{rows_of, packed};
-ghost use Rattle.x86_operand_types.specs.Operands.{is_memory_slot};
+ghost use Rattle.x86_operands.specs.Operands.{is_memory_slot};
 ghost use Rattle.x86_decode.specs.Decoder.{is_strict};
 ghost use Rattle.x86_decode.specs.declared.instructions.Instruction.{Instruction};
 ghost use Rattle.x86_decode.specs.Grammar.{IsSentence};

@@ -1,10 +1,10 @@
 use Rattle.std.proofs.Common.{rules, ◌≡◌, ℕ, Bool, true, IsTrue, Bor, sym, ap, ◌∙◌, subst}
 use Rattle.x86_fields.specs.declared.prefixes.Prefixes.{Prefixes}
 use Rattle.x86_fields.specs.Steps.{◌>>=◌}
-use Rattle.x86_plans.specs.declared.encodings.FormEncoding.{FormEncoding}
-use Rattle.x86_plans.specs.Encodings.{allows, is_described, is_sound, plan_of}
+use Rattle.x86_operands.specs.declared.encodings.FormEncoding.{FormEncoding}
+use Rattle.x86_operands.specs.Encodings.{allows, is_described, is_sound, plan_of}
 use Rattle.x86_operands.specs.PlanSteps.{read_plan}
-use Rattle.x86_plans.proofs.OrderLemmas.{allowed_is_described}
+use Rattle.x86_operands.proofs.OrderLemmas.{allowed_is_described}
 use Rattle.x86_decode.specs.Walk.{plan_at, some_row}
 use Rattle.x86_decode.proofs.LineLemmas.{form_described, reg_described}
 use Rattle.x86_decode.proofs.rows.line_at.Goals.{in-ByReg, in_default}

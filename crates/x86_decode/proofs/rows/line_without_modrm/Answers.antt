@@ -1,6 +1,6 @@
-use Rattle.x86_plans.proofs.OrderLemmas.{allowed_is_described}
+use Rattle.x86_operands.proofs.OrderLemmas.{allowed_is_described}
 use Rattle.std.proofs.Common.{rules, ◌≡◌, true, ◌∙◌}
-use Rattle.x86_plans.specs.Encodings.{allows}
+use Rattle.x86_operands.specs.Encodings.{allows}
 use Rattle.x86_decode.proofs.LineLemmas.{row_without_modrm, form_described}
 use Rattle.x86_decode.proofs.rows.line_without_modrm.Goals as goal
 

@@ -1,4 +1,4 @@
-use Rattle.x86_group_plans.proofs.ChoiceLemmas.{same_elsewhere, fence_by_default, fence_strictly}
+use Rattle.x86_groups.proofs.ChoiceLemmas.{same_elsewhere, fence_by_default, fence_strictly}
 use Rattle.x86_groups.proofs.laws.choices_differ_on_fences.Goals as goal
 
 pub returns-clause-elsewhere : goal.returns-clause-elsewhere

@@ -1,9 +1,9 @@
 use denote.Enum.Bare.{same_true, true_same}
 use Rattle.std.proofs.Common.{rules, ap, sym, ◌∙◌}
-use Rattle.x86_operand_types.proofs.EqualLemmas.{same_operands}
-use Rattle.x86_operand_types.specs.contracts.operands.OperandPartialEq.TheImpl as operand
-use Rattle.x86_operand_types.specs.contracts.operands.OperandEq.TheImpl.Laws as operand_laws
-use Rattle.x86_operand_types.specs.contracts.operands.Slot.{the_type}
+use Rattle.x86_operands.proofs.EqualLemmas.{same_operands}
+use Rattle.x86_operands.specs.contracts.operands.OperandPartialEq.TheImpl as operand
+use Rattle.x86_operands.specs.contracts.operands.OperandEq.TheImpl.Laws as operand_laws
+use Rattle.x86_operands.specs.contracts.operands.Slot.{the_type}
 use Rattle.x86_operands.proofs.laws.values_are_equal.Goals as goal
 
 pub returns-clause-operands : goal.returns-clause-operands

@@ -1,9 +1,9 @@
 use Rattle.std.proofs.Common.{◌≡◌, ℕ, ◌-◌, ◌+◌, ◌≤◌, ◌++◌, List, length, take, drop, slice_index, ap, ◌∙◌, arith, length-append, length-take, take-append-drop}
 use Rattle.std.specs.Int.{from_bool}
 use Rattle.x86_fields.specs.declared.prefixes.Prefixes.{Prefixes}
-use Rattle.x86_plans.specs.Asks.{ask_of, modrm_of}
-use Rattle.x86_plans.specs.Plans.{RowRecord}
-use Rattle.x86_plans.specs.declared.asks.Ask.{Ask}
+use Rattle.x86_operands.specs.Asks.{ask_of, modrm_of}
+use Rattle.x86_operands.specs.Plans.{RowRecord}
+use Rattle.x86_operands.specs.declared.asks.Ask.{Ask}
 use Rattle.x86_operands.specs.Pieces.{SpellsRow}
 use Rattle.x86_operands.specs.declared.reader.Reading.{Reading}
 use Rattle.x86_layout.specs.Parts.Heads.{one_if, has_sib}

@@ -1,5 +1,5 @@
 use Rattle.std.proofs.Common.{◌≡◌, ℕ, ◌<◌, false}
-use Rattle.x86_operand_types.specs.Operands.{is_memory_slot}
+use Rattle.x86_operands.specs.Operands.{is_memory_slot}
 use Rattle.x86_decode.specs.Instruction.{slot_at}
 use Rattle.x86_layout.proofs.tightening.tighten.names_memory.Given as goal
 

@@ -1,6 +1,0 @@
-use Rattle.std.proofs.Common.{◌≡◌, drop}
-use Rattle.x86_group_plans.specs.Columns.{choose}
-use Rattle.x86_group_plans.proofs.rows.choose.Given as goal
-
-abbrev pub invariant-loop-row : goal.invariant-loop-row
-invariant-loop-row l = choose l.rows l.seen ≡ choose (drop l.row-index l.rows) l.seen

@@ -1,7 +1,0 @@
--- The definitions that the contracts cite: the rows of the groups, what their columns mean, and their records.
-pub mod Columns
-pub mod Words
-pub mod Rows
-pub mod Groups
-pub mod Choices
-pub mod ByReg

@@ -1,0 +1,128 @@
+-- The line of each reg has the plan of its rows.
+use Rattle.std.proofs.Common.{◌≡◌, IsTrue, ℕ, zero, suc, ◌<◌, ◌+◌, ◌-◌, Bool, true, false, not, ◌&&◌, ◌||◌, if◌then◌else◌, List, [], ◌∷◌, slice_index_or, refl, sym, ap, ◌∙◌, subst, arith, true≢false}
+use Rattle.std.specs.List.{list_all}
+use Rattle.std.proofs.lemmas.Bool.{and_parts}
+use Rattle.x86_fields.specs.declared.prefixes.Prefixes.{Prefixes}
+use Rattle.x86_fields.specs.ModRM.{reg_field, is_memory}
+use Rattle.x86_opcodes.specs.Names.{Invalid}
+use Rattle.x86_operands.specs.declared.plans.Plan.{Plan}
+use Rattle.x86_operands.specs.declared.encodings.RegGroup.{RegGroup}
+use Rattle.x86_operands.specs.declared.encodings.RegGroup.TheVariants as group
+use Rattle.x86_operands.specs.declared.encodings.Size.{Size}
+use Rattle.x86_operands.specs.declared.encodings.FormEncoding.{FormEncoding}
+use Rattle.x86_operands.specs.Encodings.{is_sound, size_bytes, is_described, plan_of}
+use Rattle.x86_groups.specs.declared.by_reg.RegLine.{RegLine}
+use Rattle.x86_groups.specs.declared.tables.TheConstants.{REG_LINES}
+use Rattle.x86_groups.specs.declared.rows.Names.{Names}
+use Rattle.x86_groups.specs.declared.rows.Names.TheVariants.{Own}
+use Rattle.x86_groups.specs.declared.rows.Content.{Content}
+use Rattle.x86_groups.specs.declared.rows.Content.TheVariants.{Reads, Refuses}
+use Rattle.x86_groups.specs.declared.rows.GroupRow.{GroupRow}
+use Rattle.x86_groups.specs.Columns.{choose, named, opcode_of, seen_at, plan_of_row}
+use Rattle.x86_groups.specs.Groups.{rows_plan}
+use Rattle.x86_groups.specs.Rows.{group_rows}
+use Rattle.x86_groups.specs.ByReg.{Chooses, has_either_form, place_of, reg_plan, reg_rows}
+use Rattle.x86_groups.proofs.RowLemmas.{chosen_has}
+
+-- ---- the lines
+
+abbrev pub line_at : ℕ → ℕ → RegLine → RegLine
+line_at i k d = slice_index_or (slice_index_or REG_LINES.now i []) k d
+
+abbrev Cell : RegGroup → RegLine → ℕ → Type 0
+Cell g d k = (m : ℕ) → reg_field m ≡ k → Chooses g m (named (line_at (place_of g) k d).number) (line_at (place_of g) k d).encoding
+
+sized : (b : Bool) (x y : Size) (o : ℕ) (p : Prefixes) → size_bytes (if b then x else y) o p ≡ (if b then size_bytes x o p else size_bytes y o p)
+sized true x y o p = refl
+sized false x y o p = refl
+
+below_8 : (P : ℕ → Type 0) → P 0 → P 1 → P 2 → P 3 → P 4 → P 5 → P 6 → P 7 → (k : ℕ) → k < 8 → P k
+below_8 P a b c d e f g h zero low = a
+below_8 P a b c d e f g h (suc zero) low = b
+below_8 P a b c d e f g h (suc (suc zero)) low = c
+below_8 P a b c d e f g h (suc (suc (suc zero))) low = d
+below_8 P a b c d e f g h (suc (suc (suc (suc zero)))) low = e
+below_8 P a b c d e f g h (suc (suc (suc (suc (suc zero))))) low = f
+below_8 P a b c d e f g h (suc (suc (suc (suc (suc (suc zero)))))) low = g
+below_8 P a b c d e f g h (suc (suc (suc (suc (suc (suc (suc zero))))))) low = h
+below_8 P a b c d e f g h (suc (suc (suc (suc (suc (suc (suc (suc k)))))))) low = absurd (omega (arith, low))
+
+-- PUSH has two rows, between which 66 chooses
+push_by : (word memory : Bool) (d : RegLine) (m n : ℕ) (p : Prefixes) → reg_field m ≡ 6 → p.operand_size ≡ word → is_memory m ≡ memory → plan_of (line_at 14 6 d).encoding n (named (line_at 14 6 d).number) p m ≡ reg_plan group.FF p m
+unfolding group_rows
+push_by true true d m n p r w e = rw (r, w, e) (rw e refl)
+push_by true false d m n p r w e = rw (r, w, e) (rw e refl)
+push_by false true d m n p r w e = rw (r, w, e) (rw e refl)
+push_by false false d m n p r w e = rw (r, w, e) (rw e refl)
+
+-- at JMP the rows of CALLF are looked at first, which are there in the memory form alone
+jump_by : (memory : Bool) (d : RegLine) (m n : ℕ) (p : Prefixes) → reg_field m ≡ 4 → is_memory m ≡ memory → plan_of (line_at 14 4 d).encoding n (named (line_at 14 4 d).number) p m ≡ reg_plan group.FF p m
+unfolding group_rows
+jump_by true d m n p r e = rw (r, e) (rw e refl)
+jump_by false d m n p r e = rw (r, e) (rw e refl)
+
+cells : (g : RegGroup) (d : RegLine) (k : ℕ) → k < 8 → Cell g d k
+unfolding group_rows
+cells group.C6 d = below_8 (Cell group.C6 d) (λ m r is n p. rw (sized, r) refl) (λ m r is n p. absurd (true≢false (sym is))) (λ m r is n p. absurd (true≢false (sym is))) (λ m r is n p. absurd (true≢false (sym is))) (λ m r is n p. absurd (true≢false (sym is))) (λ m r is n p. absurd (true≢false (sym is))) (λ m r is n p. absurd (true≢false (sym is))) (λ m r is n p. absurd (true≢false (sym is)))
+cells group.C7 d = below_8 (Cell group.C7 d) (λ m r is n p. rw (sized, r) refl) (λ m r is n p. absurd (true≢false (sym is))) (λ m r is n p. absurd (true≢false (sym is))) (λ m r is n p. absurd (true≢false (sym is))) (λ m r is n p. absurd (true≢false (sym is))) (λ m r is n p. absurd (true≢false (sym is))) (λ m r is n p. absurd (true≢false (sym is))) (λ m r is n p. absurd (true≢false (sym is)))
+cells group.FE d = below_8 (Cell group.FE d) (λ m r is n p. rw (sized, r) (rw r refl)) (λ m r is n p. rw (sized, r) (rw r refl)) (λ m r is n p. absurd (true≢false (sym is))) (λ m r is n p. absurd (true≢false (sym is))) (λ m r is n p. absurd (true≢false (sym is))) (λ m r is n p. absurd (true≢false (sym is))) (λ m r is n p. absurd (true≢false (sym is))) (λ m r is n p. absurd (true≢false (sym is)))
+cells group.FF d = below_8 (Cell group.FF d) (λ m r is n p. rw (sized, r) (rw r refl)) (λ m r is n p. rw (sized, r) (rw r refl)) (λ m r is n p. rw (sized, r) refl) (λ m r is n p. absurd (true≢false (sym is))) (λ m r is n p. jump_by (is_memory m) d m n p r refl) (λ m r is n p. absurd (true≢false (sym is))) (λ m r is n p. push_by p.operand_size (is_memory m) d m n p r refl refl) (λ m r is n p. absurd (true≢false (sym is)))
+cells g d = below_8 (Cell g d) (λ m r is n p. rw (sized, r) (rw r refl)) (λ m r is n p. rw (sized, r) (rw r refl)) (λ m r is n p. rw (sized, r) (rw r refl)) (λ m r is n p. rw (sized, r) (rw r refl)) (λ m r is n p. rw (sized, r) (rw r refl)) (λ m r is n p. rw (sized, r) (rw r refl)) (λ m r is n p. rw (sized, r) (rw r refl)) (λ m r is n p. rw (sized, r) (rw r refl))
+
+pub line_chooses : (g : RegGroup) (m i k : ℕ) (d : RegLine) → i ≡ place_of g → k ≡ reg_field m → k < 8 → Chooses g m (named (line_at i k d).number) (line_at i k d).encoding
+line_chooses g m i k d at e low = subst (λ j. Chooses g m (named (line_at j k d).number) (line_at j k d).encoding) (sym at) (cells g d k low m (sym e))
+
+-- each line is sound, and has a ModRM byte of either form unless it leaves all to the rows
+abbrev is_good : RegLine → Bool
+is_good line = is_sound line.encoding && (not (is_described line.encoding.after_opcode) || has_either_form line.encoding.after_opcode)
+
+good_cells : (g : RegGroup) (d : RegLine) (k : ℕ) → k < 8 → is_good (line_at (place_of g) k d) ≡ true
+good_cells group.G80 d = below_8 (λ k. is_good (line_at (place_of group.G80) k d) ≡ true) refl refl refl refl refl refl refl refl
+good_cells g d = below_8 (λ k. is_good (line_at (place_of g) k d) ≡ true) refl refl refl refl refl refl refl refl
+
+good_line : (g : RegGroup) (i k : ℕ) (d : RegLine) → i ≡ place_of g → k < 8 → is_good (line_at i k d) ≡ true
+good_line g i k d at low = subst (λ j. is_good (line_at j k d) ≡ true) (sym at) (good_cells g d k low)
+
+pub line_sound : (g : RegGroup) (i k : ℕ) (d : RegLine) → i ≡ place_of g → k < 8 → is_sound (line_at i k d).encoding ≡ true
+line_sound g i k d at low = (and_parts (is_sound (line_at i k d).encoding) _ (good_line g i k d at low)).0
+
+described_form : (described form : Bool) → (not described || form) ≡ true → described ≡ true → form ≡ true
+described_form true form h e = h
+described_form false form h e = absurd (true≢false (sym e))
+
+pub line_fields : (g : RegGroup) (i k : ℕ) (d : RegLine) → i ≡ place_of g → k < 8 → IsTrue (is_described (line_at i k d).encoding.after_opcode) → has_either_form (line_at i k d).encoding.after_opcode ≡ true
+line_fields g i k d at low e = described_form (is_described (line_at i k d).encoding.after_opcode) (has_either_form (line_at i k d).encoding.after_opcode) (and_parts (is_sound (line_at i k d).encoding) _ (good_line g i k d at low)).1 e
+
+-- ---- the plan of a group goes neither by the opcode of the row in the opcode map nor by the choice
+
+abbrev no_own : Names → Bool
+no_own Own = false
+no_own names = true
+
+abbrev no_own_content : Content → Bool
+no_own_content (Reads names operands memory register change) = no_own names
+no_own_content (Refuses fault moment) = true
+
+own_names : (names : Names) (a b m : ℕ) → no_own names ≡ true → opcode_of names a m ≡ opcode_of names b m
+own_names Own a b m h = absurd (true≢false (sym h))
+own_names names a b m h = refl
+
+own_free : (content : Content) (a b : ℕ) (p : Prefixes) (m : ℕ) → no_own_content content ≡ true → plan_of_row content a p m ≡ plan_of_row content b p m
+own_free (Reads names operands memory register change) a b p m h = rw (own_names names a b m h) refl
+own_free (Refuses fault moment) a b p m h = refl
+
+rows_no_own : (g : RegGroup) → list_all (λ row. no_own_content row.content) (reg_rows g) ≡ true
+unfolding group_rows
+rows_no_own group.G80 = refl
+rows_no_own g = refl
+
+rows_choice : (g : RegGroup) (strict : Bool) (p : Prefixes) (m : ℕ) → choose (reg_rows g) (seen_at strict p m) ≡ choose (reg_rows g) (seen_at false p m)
+unfolding group_rows
+rows_choice group.G80 strict p m = refl
+rows_choice g strict p m = refl
+
+pub rows_reg_plan : (g : RegGroup) (o : ℕ) (strict : Bool) (p : Prefixes) (m : ℕ) → rows_plan (reg_rows g) o strict p m ≡ reg_plan g p m
+rows_reg_plan g o strict p m =
+    ap (λ content. plan_of_row content o p m) (rows_choice g strict p m)
+    ∙ own_free (choose (reg_rows g) (seen_at false p m)) o Invalid p m
+    (chosen_has (λ content. no_own_content content ≡ true) (λ row. no_own_content row.content) (seen_at false p m) refl (λ row e h. e) (reg_rows g) (rows_no_own g))

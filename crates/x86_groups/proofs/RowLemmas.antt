@@ -1,0 +1,161 @@
+-- What holds of the first row that holds.
+use Rattle.std.proofs.Common.{◌≡◌, ◌⊎◌, inl, inr, ℕ, nat_le, ◌==◌, Bool, true, false, not, ◌&&◌, ◌||◌, if◌then◌else◌, List, [], ◌∷◌, ◌++◌, refl, sym, ap, ◌∙◌, true≢false}
+use Rattle.std.specs.List.{list_all}
+use Rattle.std.proofs.lemmas.Bool.{and_parts, or_cases, and_left, and_right}
+use Rattle.x86_operands.specs.declared.plans.Fault.TheVariants.{BadOpcode}
+use Rattle.x86_operands.specs.declared.plans.Moment.TheVariants.{AtModRM}
+use Rattle.x86_groups.specs.declared.rows.Place.{Place}
+use Rattle.x86_groups.specs.declared.rows.Place.TheVariants.{Memory, Register, Either}
+use Rattle.x86_groups.specs.declared.rows.When.{When}
+use Rattle.x86_groups.specs.declared.rows.When.TheVariants as when
+use Rattle.x86_groups.specs.declared.rows.Rm.{Rm}
+use Rattle.x86_groups.specs.declared.rows.Rm.TheVariants as rms
+use Rattle.x86_groups.specs.declared.rows.Names.{Names}
+use Rattle.x86_groups.specs.declared.rows.Names.TheVariants.{ByReg, ByRm}
+use Rattle.x86_groups.specs.declared.rows.Content.{Content}
+use Rattle.x86_groups.specs.declared.rows.Content.TheVariants.{Reads, Refuses}
+use Rattle.x86_groups.specs.declared.rows.GroupRow.{GroupRow}
+use Rattle.x86_groups.specs.Columns.{Seen, choose, is_there, is_placed, is_rm, is_prefixed, is_named_by, is_named, name_at}
+
+-- ---- what each row has, the first has
+
+if_has : (P : Content → Type 0) (b : Bool) (x y : Content) → (b ≡ true → P x) → P y → P (if b then x else y)
+if_has P true x y f g = f refl
+if_has P false x y f g = g
+
+pub chosen_has : (P : Content → Type 0) (test : GroupRow → Bool) (seen : Seen) → P (Refuses BadOpcode AtModRM) → ((row : GroupRow) → test row ≡ true → is_there row seen ≡ true → P row.content) → (rows : List GroupRow) → list_all test rows ≡ true → P (choose rows seen)
+chosen_has P test seen blank each [] h = blank
+chosen_has P test seen blank each (row ∷ rest) h =
+    let parts = and_parts (test row) (list_all test rest) h in
+    if_has P (is_there row seen) row.content (choose rest seen) (λ e. each row parts.0 e) (chosen_has P test seen blank each rest parts.1)
+
+-- ---- what holds alike is chosen alike
+
+pub same_if : (a b : Bool) (x y z : Content) → a ≡ b → y ≡ z → (if a then x else y) ≡ (if b then x else z)
+same_if a b x y z e f = rw (e, f) refl
+
+pub chosen_alike : (test : GroupRow → Bool) (s t : Seen) → ((row : GroupRow) → test row ≡ true → is_there row s ≡ is_there row t) → (rows : List GroupRow) → list_all test rows ≡ true → choose rows s ≡ choose rows t
+chosen_alike test s t same [] h = refl
+chosen_alike test s t same (row ∷ rest) h =
+    let parts = and_parts (test row) (list_all test rest) h in
+    same_if (is_there row s) (is_there row t) row.content (choose rest s) (choose rest t) (same row parts.0) (chosen_alike test s t same rest parts.1)
+
+-- and so are rows before others
+pub chosen_before : (test : GroupRow → Bool) (s t : Seen) → ((row : GroupRow) → test row ≡ true → is_there row s ≡ is_there row t) → (before rest : List GroupRow) → list_all test before ≡ true → choose rest s ≡ choose rest t → choose (before ++ rest) s ≡ choose (before ++ rest) t
+chosen_before test s t same [] rest h e = e
+chosen_before test s t same (row ∷ before) rest h e =
+    let parts = and_parts (test row) (list_all test before) h in
+    same_if (is_there row s) (is_there row t) row.content (choose (before ++ rest) s) (choose (before ++ rest) t) (same row parts.0) (chosen_before test s t same before rest parts.1 e)
+
+-- rows that aren't there are passed over
+pub chosen_after : (test : GroupRow → Bool) (seen : Seen) → ((row : GroupRow) → test row ≡ true → is_there row seen ≡ false) → (before rest : List GroupRow) → list_all test before ≡ true → choose (before ++ rest) seen ≡ choose rest seen
+chosen_after test seen absent [] rest h = refl
+chosen_after test seen absent (row ∷ before) rest h =
+    let parts = and_parts (test row) (list_all test before) h in
+    ap (λ b. if b then row.content else choose (before ++ rest) seen) (absent row parts.0) ∙ chosen_after test seen absent before rest parts.1
+
+-- ---- two things that are seen alike but for rm and the choice
+
+pub record AreAlike (s t : Seen) : Type 0 where
+  pub f2 : s.f2 ≡ t.f2
+  pub f3 : s.f3 ≡ t.f3
+  pub operand_size : s.operand_size ≡ t.operand_size
+  pub w : s.w ≡ t.w
+  pub r : s.r ≡ t.r
+  pub memory : s.memory ≡ t.memory
+  pub reg : s.reg ≡ t.reg
+
+placed_alike : (place : Place) (s t : Seen) → AreAlike s t → is_placed place s ≡ is_placed place t
+placed_alike Memory s t h = h.memory
+placed_alike Register s t h = ap not h.memory
+placed_alike Either s t h = refl
+
+prefixed_alike : (w : When) (s t : Seen) → AreAlike s t → is_prefixed w s ≡ is_prefixed w t
+prefixed_alike when.Always s t h = refl
+prefixed_alike w s t h = cc
+
+-- a row that isn't chosen by rm
+abbrev pub no_rm : Rm → Bool
+no_rm rms.Any = true
+no_rm m = false
+
+abbrev pub no_rm_names : Names → Bool
+no_rm_names (ByRm names) = false
+no_rm_names names = true
+
+abbrev pub no_rm_content : Content → Bool
+no_rm_content (Reads names operands memory register change) = no_rm_names names
+no_rm_content (Refuses fault moment) = true
+
+rm_alike : (m : Rm) (s t : Seen) → no_rm m ≡ true → is_rm m s ≡ is_rm m t
+rm_alike rms.Any s t h = refl
+rm_alike m s t h = absurd (true≢false (sym h))
+
+names_alike : (names : Names) (s t : Seen) → AreAlike s t → no_rm_names names ≡ true → is_named_by names s ≡ is_named_by names t
+names_alike (ByReg names) s t h e = ap (λ n. not (name_at names n == 0)) h.reg
+names_alike (ByRm names) s t h e = absurd (true≢false (sym e))
+names_alike names s t h e = refl
+
+named_alike : (content : Content) (s t : Seen) → AreAlike s t → no_rm_content content ≡ true → is_named content s ≡ is_named content t
+named_alike (Reads names operands memory register change) s t h e = names_alike names s t h e
+named_alike (Refuses fault moment) s t h e = refl
+
+holds_by : (row : GroupRow) (s t : Seen) → AreAlike s t → is_rm row.rm s ≡ is_rm row.rm t → is_named row.content s ≡ is_named row.content t → is_there row s ≡ is_there row t
+holds_by row s t h m n =
+    let placed = placed_alike row.place s t h in
+    let prefixed = prefixed_alike row.when s t h in
+    let reg = h.reg in
+    rw (placed, prefixed, m, n, reg) refl
+
+-- ---- the memory form
+
+abbrev pub is_register : Place → Bool
+is_register Register = true
+is_register place = false
+
+register_absent : (place : Place) (seen : Seen) → is_register place ≡ true → seen.memory ≡ true → is_placed place seen ≡ false
+register_absent Register seen h e = ap not e
+register_absent place seen h e = absurd (true≢false (sym h))
+
+pub row_absent : (row : GroupRow) (seen : Seen) → is_register row.place ≡ true → seen.memory ≡ true → is_there row seen ≡ false
+row_absent row seen h e = and_left (is_placed row.place seen) _ (register_absent row.place seen h e)
+
+-- a row of the register form, or one that isn't chosen by rm
+abbrev pub rm_free : GroupRow → Bool
+rm_free row = is_register row.place || (no_rm row.rm && no_rm_content row.content)
+
+pub held_in_memory : (row : GroupRow) (s t : Seen) → AreAlike s t → t.memory ≡ true → rm_free row ≡ true → is_there row s ≡ is_there row t
+held_in_memory row s t h e free = elim (or_cases (is_register row.place) (no_rm row.rm && no_rm_content row.content) free) [
+  | inl is ↦ row_absent row s is (h.memory ∙ e) ∙ sym (row_absent row t is e)
+  | inr rest ↦ let parts = and_parts (no_rm row.rm) (no_rm_content row.content) rest in holds_by row s t h (rm_alike row.rm s t parts.0) (named_alike row.content s t h parts.1)
+]
+
+-- ---- the choice
+
+abbrev pub no_strict : Rm → Bool
+no_strict rms.ZeroIfStrict = false
+no_strict m = true
+
+abbrev pub by_no_choice : GroupRow → Bool
+by_no_choice row = no_strict row.rm
+
+abbrev pub chosen_by : Bool → Seen → Seen
+chosen_by strict seen = record seen { strict = strict }
+
+rm_choice : (m : Rm) (seen : Seen) (a b : Bool) → no_strict m ≡ true → is_rm m (chosen_by a seen) ≡ is_rm m (chosen_by b seen)
+rm_choice rms.ZeroIfStrict seen a b h = absurd (true≢false (sym h))
+rm_choice m seen a b h = refl
+
+names_choice : (names : Names) (seen : Seen) (a b : Bool) → is_named_by names (chosen_by a seen) ≡ is_named_by names (chosen_by b seen)
+names_choice (ByReg names) seen a b = refl
+names_choice names seen a b = refl
+
+named_choice : (content : Content) (seen : Seen) (a b : Bool) → is_named content (chosen_by a seen) ≡ is_named content (chosen_by b seen)
+named_choice (Reads names operands memory register change) seen a b = names_choice names seen a b
+named_choice (Refuses fault moment) seen a b = refl
+
+abbrev pub choices_alike : (seen : Seen) (a b : Bool) → AreAlike (chosen_by a seen) (chosen_by b seen)
+choices_alike seen a b = record { f2 = refl; f3 = refl; operand_size = refl; w = refl; r = refl; memory = refl; reg = refl }
+
+pub held_by_choice : (row : GroupRow) (seen : Seen) (a b : Bool) → by_no_choice row ≡ true → is_there row (chosen_by a seen) ≡ is_there row (chosen_by b seen)
+held_by_choice row seen a b h = holds_by row (chosen_by a seen) (chosen_by b seen) (choices_alike seen a b) (rm_choice row.rm seen a b h) (named_choice row.content seen a b)

@@ -1,0 +1,165 @@
+-- The words that rows of groups are written in.
+use Rattle.std.specs.Prelude.{ℕ, List, [], ◌∷◌}
+use Rattle.x86_regs.specs.declared.RegisterClass.TheVariants as class
+use Rattle.x86_fields.specs.MemorySizes.{undecided_size}
+use Rattle.x86_fields.specs.declared.sizes.Width.TheVariants as width
+use Rattle.x86_operands.specs.declared.plans.Fault.{Fault}
+use Rattle.x86_operands.specs.declared.plans.Moment.{Moment}
+use Rattle.x86_operands.specs.declared.plans.PrefixChange.{PrefixChange}
+use Rattle.x86_operands.specs.declared.plans.PrefixChange.TheVariants.{Keeps, ClearsOperandSize}
+use Rattle.x86_operands.specs.declared.plans.RegisterSlot.TheVariants as slot
+use Rattle.x86_groups.specs.declared.letters.Letter.{Letter}
+use Rattle.x86_groups.specs.declared.letters.Letter.TheVariants as letter
+use Rattle.x86_groups.specs.declared.letters.Letters.{Letters}
+use Rattle.x86_groups.specs.declared.letters.RowSize.{RowSize}
+use Rattle.x86_groups.specs.declared.letters.RowSize.TheVariants.{Bytes, Of}
+use Rattle.x86_groups.specs.declared.rows.Place.{Place}
+use Rattle.x86_groups.specs.declared.rows.Place.TheVariants.{Memory, Register, Either}
+use Rattle.x86_groups.specs.declared.rows.When.{When}
+use Rattle.x86_groups.specs.declared.rows.When.TheVariants.{Always}
+use Rattle.x86_groups.specs.declared.rows.Rm.{Rm}
+use Rattle.x86_groups.specs.declared.rows.Rm.TheVariants.{Any, Is, ZeroIfStrict}
+use Rattle.x86_groups.specs.declared.rows.Names.{Names}
+use Rattle.x86_groups.specs.declared.rows.Names.TheVariants.{ByReg, ByRm}
+use Rattle.x86_groups.specs.declared.rows.Content.TheVariants.{Reads, Refuses}
+use Rattle.x86_groups.specs.declared.rows.GroupRow.{GroupRow}
+
+-- ---- where
+
+pub record Where : Type 0 where
+  pub place : Place
+  pub first : ℕ
+  pub last : ℕ
+  pub rm : Rm
+
+abbrev pub at : Place → ℕ → ℕ → Rm → Where
+at place first last rm = record { place = place; first = first; last = last; rm = rm }
+
+-- the memory forms, the register forms, and both, at every reg
+abbrev pub mem : Where
+mem = at Memory 0 7 Any
+
+abbrev pub reg : Where
+reg = at Register 0 7 Any
+
+abbrev pub both : Where
+both = at Either 0 7 Any
+
+-- at one reg
+abbrev pub mem_at : ℕ → Where
+mem_at n = at Memory n n Any
+
+abbrev pub reg_at : ℕ → Where
+reg_at n = at Register n n Any
+
+abbrev pub both_at : ℕ → Where
+both_at n = at Either n n Any
+
+-- at these and what is between
+abbrev pub reg_from : ℕ → ℕ → Where
+reg_from first last = at Register first last Any
+
+-- at one reg and one rm
+abbrev pub reg_rm : ℕ → ℕ → Where
+reg_rm n rm = at Register n n (Is rm)
+
+-- at one rm and every reg
+abbrev pub reg_any_rm : ℕ → Where
+reg_any_rm rm = at Register 0 7 (Is rm)
+
+-- with rm 0, and unless the choice is strict with any other
+abbrev pub reg_zero : Where
+reg_zero = at Register 0 7 ZeroIfStrict
+
+-- ---- names
+
+abbrev pub eight : ℕ → ℕ → ℕ → ℕ → ℕ → ℕ → ℕ → ℕ → List ℕ
+eight a b c d e f g h = a ∷ b ∷ c ∷ d ∷ e ∷ f ∷ g ∷ h ∷ []
+
+abbrev pub by_reg : ℕ → ℕ → ℕ → ℕ → ℕ → ℕ → ℕ → ℕ → Names
+by_reg a b c d e f g h = ByReg (eight a b c d e f g h)
+
+abbrev pub by_rm : ℕ → ℕ → ℕ → ℕ → ℕ → ℕ → ℕ → ℕ → Names
+by_rm a b c d e f g h = ByRm (eight a b c d e f g h)
+
+-- ---- operands
+
+-- registers that the name implies, in the slot of reg
+abbrev pub cl : Letter
+cl = letter.Implied slot.Reg 1 class.B
+
+abbrev pub rax : Letter
+rax = letter.Implied slot.Reg 0 class.Q
+
+abbrev pub eax : Letter
+eax = letter.Implied slot.Reg 0 class.D
+
+abbrev pub ecx : Letter
+ecx = letter.Implied slot.Reg 1 class.D
+
+abbrev pub st0 : Letter
+st0 = letter.Implied slot.Reg 0 class.ST
+
+-- and in the other slots
+abbrev pub ecx_in_rm : Letter
+ecx_in_rm = letter.Implied slot.Rm 1 class.D
+
+abbrev pub edx_in_rm : Letter
+edx_in_rm = letter.Implied slot.Rm 2 class.D
+
+abbrev pub ecx_third : Letter
+ecx_third = letter.Implied slot.Third 1 class.D
+
+-- ---- memory sizes
+
+pub record Sizes : Type 0 where
+  pub memory : RowSize
+  pub register : RowSize
+
+-- in the memory form, and in the register form
+abbrev pub sizes : RowSize → RowSize → Sizes
+sizes memory register = record { memory = memory; register = register }
+
+abbrev pub bytes : ℕ → RowSize
+bytes n = Bytes n
+
+abbrev pub v : RowSize
+v = Of width.V
+
+abbrev pub y : RowSize
+y = Of width.Dq
+
+abbrev pub vq : RowSize
+vq = Of width.Vq
+
+-- the same in both forms
+abbrev pub size : ℕ → Sizes
+size n = sizes (bytes n) (bytes n)
+
+abbrev pub size_v : Sizes
+size_v = sizes v v
+
+-- the processor decides
+abbrev pub undecided : Sizes
+undecided = size undecided_size
+
+-- ---- rows
+
+abbrev pub changing : PrefixChange → Where → When → Names → Letters → Sizes → GroupRow
+changing change at when names operands size = record { place = at.place; first = at.first; last = at.last; rm = at.rm; when = when; content = Reads names operands size.memory size.register change }
+
+-- a row that is read: where, the prefixes, the name, the operands and the memory size
+abbrev pub read : Where → When → Names → Letters → Sizes → GroupRow
+read at when names operands size = changing Keeps at when names operands size
+
+-- the same, where the answer's prefixes show 66 cleared
+abbrev pub read_without_66 : Where → When → Names → Letters → Sizes → GroupRow
+read_without_66 at when names operands size = changing ClearsOperandSize at when names operands size
+
+-- a row that is refused, and after which byte
+abbrev pub refusal : Where → When → Fault → Moment → GroupRow
+refusal at when fault moment = record { place = at.place; first = at.first; last = at.last; rm = at.rm; when = when; content = Refuses fault moment }
+
+-- wherever no row before it is
+abbrev pub otherwise : Fault → Moment → GroupRow
+otherwise fault moment = refusal both Always fault moment

@@ -1,0 +1,86 @@
+-- The orders of a sound line, and what follows where it accepts.
+use Rattle.std.proofs.Common.{◌≡◌, ℕ, true, false, if◌then◌else◌, ◌&&◌, ◌≢◌, IsTrue, refl}
+use Rattle.std.proofs.lemmas.Bool.{and_parts, eqb-true, not-true}
+use Rattle.x86_operands.specs.declared.plans.OperandEncodings.{OperandEncodings}
+use Rattle.x86_operands.specs.declared.order.Position.{Position}
+use Rattle.x86_operands.specs.declared.order.Position.TheVariants.{First, Second, Third, Nowhere}
+use Rattle.x86_operands.specs.declared.order.Order.{Order}
+use Rattle.x86_operands.specs.declared.encodings.AfterOpcode.{AfterOpcode}
+use Rattle.x86_operands.specs.declared.encodings.AfterOpcode.TheVariants as after_opcode
+use Rattle.x86_operands.specs.declared.encodings.Last.{Last}
+use Rattle.x86_operands.specs.declared.encodings.Last.TheVariants as last
+use Rattle.x86_operands.specs.declared.encodings.FormEncoding.{FormEncoding}
+use Rattle.x86_fields.specs.ModRM.{is_memory}
+use Rattle.x86_operands.specs.Plans.{reads}
+use Rattle.x86_operands.specs.Encodings.{restricted_plan, is_last, has_last, somewhere, is_described, is_sound, is_order_of, is_order, has_modrm, has_register, order_fits, allows}
+
+-- ---- the orders
+
+pub data Named : Order → Type 0 where
+  no_named : Named (record { count = 0; reg = Nowhere; rm = Nowhere; last = Nowhere })
+  i_named : Named (record { count = 1; reg = Nowhere; rm = Nowhere; last = First })
+  r_named : Named (record { count = 1; reg = First; rm = Nowhere; last = Nowhere })
+  r_i_named : Named (record { count = 2; reg = First; rm = Nowhere; last = Second })
+  i_r_named : Named (record { count = 2; reg = Second; rm = Nowhere; last = First })
+  e_named : Named (record { count = 1; reg = Nowhere; rm = First; last = Nowhere })
+  e_i_named : Named (record { count = 2; reg = Nowhere; rm = First; last = Second })
+  e_g_named : Named (record { count = 2; reg = Second; rm = First; last = Nowhere })
+  g_e_named : Named (record { count = 2; reg = First; rm = Second; last = Nowhere })
+  e_g_i_named : Named (record { count = 3; reg = Second; rm = First; last = Third })
+  g_e_i_named : Named (record { count = 3; reg = First; rm = Second; last = Third })
+
+pub named_of : (a b c : Position) (n : ℕ) → is_order_of a b c n ≡ true → Named (record { count = n; reg = a; rm = b; last = c })
+named_of Nowhere Nowhere Nowhere n h = rw (eqb-true n 0 h) no_named
+named_of Nowhere Nowhere First n h = rw (eqb-true n 1 h) i_named
+named_of First Nowhere Nowhere n h = rw (eqb-true n 1 h) r_named
+named_of First Nowhere Second n h = rw (eqb-true n 2 h) r_i_named
+named_of Second Nowhere First n h = rw (eqb-true n 2 h) i_r_named
+named_of Nowhere First Nowhere n h = rw (eqb-true n 1 h) e_named
+named_of Nowhere First Second n h = rw (eqb-true n 2 h) e_i_named
+named_of Second First Nowhere n h = rw (eqb-true n 2 h) e_g_named
+named_of First Second Nowhere n h = rw (eqb-true n 2 h) g_e_named
+named_of Second First Third n h = rw (eqb-true n 3 h) e_g_i_named
+named_of First Second Third n h = rw (eqb-true n 3 h) g_e_i_named
+named_of a b c n h = cc
+
+-- ---- the verdict
+
+pub accepted : (b : AfterOpcode) (m o size : ℕ) (encodings : OperandEncodings) → allows b m ≡ true → restricted_plan b m (reads o encodings size) ≡ reads o encodings size
+accepted after_opcode.Memory m o size encodings h = rw h refl
+accepted after_opcode.Registers m o size encodings h = rw (not-true (is_memory m) h) refl
+accepted b m o size encodings h = refl
+
+pub no_memory : (b : AfterOpcode) (m : ℕ) → has_modrm b ≡ false → allows b m ≡ true → is_memory m ≡ false
+no_memory after_opcode.EitherForm m h a = cc
+no_memory after_opcode.Memory m h a = cc
+no_memory (after_opcode.ByReg g) m h a = cc
+no_memory (after_opcode.ByPlan u) m h a = cc
+no_memory after_opcode.Group m h a = cc
+no_memory b m h a = not-true (is_memory m) a
+
+pub no_modrm : (b : AfterOpcode) → has_register b ≡ true → has_modrm b ≡ false
+no_modrm after_opcode.Opcode h = refl
+no_modrm after_opcode.Accumulator h = refl
+no_modrm b h = cc
+
+pub last_there : (e : FormEncoding) → has_last e.order e.last ≡ true → e.order.last ≢ Nowhere → e.last ≢ last.Absent
+last_there e h k = ends_at e.order.last e.last h k
+  where
+    ends_at : (at : Position) (l : Last) → (if somewhere at then is_last l else true) ≡ true → at ≢ Nowhere → l ≢ last.Absent
+    ends_at Nowhere l h k = absurd (k refl)
+    ends_at at last.Absent h k = cc
+    ends_at at l h k = λ e. cc
+
+-- ---- a sound line
+
+pub sound_parts : (e : FormEncoding) → is_sound e ≡ true → (is_order e.order ≡ true) × (order_fits e.after_opcode e.order ≡ true) × (has_last e.order e.last ≡ true)
+sound_parts e h =
+    let parts = and_parts (is_order e.order) (order_fits e.after_opcode e.order && has_last e.order e.last) h in
+    let rest = and_parts (order_fits e.after_opcode e.order) (has_last e.order e.last) parts.1 in
+    (parts.0, rest.0, rest.1)
+
+pub allowed_is_described : (b : AfterOpcode) (m : ℕ) → allows b m ≡ true → IsTrue (is_described b)
+allowed_is_described (after_opcode.ByReg g) m h = cc
+allowed_is_described (after_opcode.ByPlan u) m h = cc
+allowed_is_described after_opcode.Group m h = cc
+allowed_is_described b m h = refl

@@ -1,0 +1,92 @@
+-- What a row has after its opcode byte, known from a ModRM byte alone.
+use Rattle.std.specs.Prelude.{ℕ, Bool, true, false, if◌then◌else◌, Option, List, [], ◌∷◌, map}
+use Rattle.x86_fields.specs.declared.prefixes.Prefixes.{Prefixes}
+use Rattle.x86_fields.specs.Pieces.{total, option_bytes}
+use Rattle.x86_operands.specs.declared.plans.Verdict.{Verdict}
+use Rattle.x86_operands.specs.declared.plans.Verdict.TheVariants.{NamedBySuffix}
+use Rattle.x86_operands.specs.declared.plans.OperandEncodings.{OperandEncodings}
+use Rattle.x86_operands.specs.declared.plans.ModrmUse.{ModrmUse}
+use Rattle.x86_operands.specs.declared.plans.ModrmUse.TheVariants.{Absent, EitherForm, Registers}
+use Rattle.x86_operands.specs.declared.plans.Plan.{Plan}
+use Rattle.x86_operands.specs.declared.asks.Ask.{Ask}
+use Rattle.x86_operands.specs.declared.asks.RecordAt.{RecordAt}
+use Rattle.x86_operands.specs.declared.encodings.FormEncoding.{FormEncoding}
+use Rattle.x86_operands.specs.Encodings.{last_encoding, somewhere, use_of}
+use Rattle.x86_operands.specs.Plans.{RowRecord, list_of}
+use Rattle.x86_fields.specs.ModRM.{is_memory, absent_modrm, as_register}
+use Rattle.x86_operands.specs.declared.plans.OperandEncoding.{OperandEncoding}
+use Rattle.x86_operands.specs.declared.plans.OperandEncoding.TheVariants.{I8, I16, I32, I64, I32From16, I64Whole, U8, U16, X8, X16, Address32, Address64}
+
+abbrev pub uses_modrm : ModrmUse → Bool
+uses_modrm Absent = false
+uses_modrm usage = true
+
+abbrev pub uses_suffix : Verdict → Bool
+uses_suffix NamedBySuffix = true
+uses_suffix verdict = false
+
+-- how many bytes of immediate an operand encoding has
+abbrev pub immediate_width : OperandEncoding → ℕ
+immediate_width I8 = 1
+immediate_width I16 = 2
+immediate_width I32 = 4
+immediate_width I64 = 4
+immediate_width I32From16 = 2
+immediate_width I64Whole = 8
+immediate_width U8 = 1
+immediate_width U16 = 2
+immediate_width X8 = 1
+immediate_width X16 = 2
+immediate_width Address32 = 4
+immediate_width Address64 = 8
+immediate_width s = 0
+
+-- how many bytes the immediates have together; those of an absolute address count
+abbrev pub immediates_width : OperandEncodings → ℕ
+immediates_width encodings = total (map immediate_width (list_of encodings))
+
+abbrev pub first_or : ℕ → List ℕ → ℕ
+first_or n [] = n
+first_or n (b ∷ rest) = b
+
+-- ModRM as the row uses it: C0 where there is none, and mod 11 where mod isn't looked at
+abbrev pub modrm_of : ModrmUse → List ℕ → ℕ
+modrm_of Absent bytes = absent_modrm
+modrm_of EitherForm bytes = first_or absent_modrm bytes
+modrm_of Registers bytes = as_register (first_or absent_modrm bytes)
+
+-- a ModRM byte as the row uses it
+abbrev pub used_modrm : ModrmUse → ℕ → ℕ
+used_modrm usage m = modrm_of usage (m ∷ [])
+
+-- what a plan has at a ModRM byte that is used so
+abbrev pub plan_ask : ModrmUse → ℕ → Plan → Ask
+plan_ask usage m plan = record {
+  modrm = uses_modrm usage;
+  memory = is_memory m;
+  immediate = immediates_width plan.encodings;
+  suffix = uses_suffix plan.verdict;
+}
+
+-- what a line of the operand encodings has at a ModRM byte that is used so: its last operand alone can be an
+-- immediate
+abbrev pub encoding_ask : FormEncoding → Prefixes → ℕ → Ask
+encoding_ask e p m = record {
+  modrm = uses_modrm (use_of e.after_opcode);
+  memory = is_memory m;
+  immediate = if somewhere e.order.last then immediate_width (last_encoding e.last p) else 0;
+  suffix = false;
+}
+
+-- what a row has at a ModRM byte
+unfoldable pub ask_of : RowRecord → ℕ → Ask
+ask_of r m = plan_ask r.modrm (used_modrm r.modrm m) (r.plan (used_modrm r.modrm m))
+
+-- a record at a ModRM byte; one that isn't there reads as C0
+unfoldable pub record_at : RowRecord → Option ℕ → RecordAt
+record_at r modrm = record {
+  at_opcode = r.at_opcode;
+  usage = r.modrm;
+  modrm = modrm_of r.modrm (option_bytes modrm);
+  plan = r.plan (modrm_of r.modrm (option_bytes modrm));
+}

@@ -1,0 +1,191 @@
+-- What a line of the operand encodings means.
+use Rattle.std.specs.Prelude.{ℕ, Bool, true, false, ◌==◌, if◌then◌else◌, not, pos, ◌&&◌}
+use Rattle.x86_regs.specs.declared.RegisterClass.TheVariants as class
+use Rattle.x86_regs.specs.Class.{width_of}
+use Rattle.x86_regs.specs.Register.{reg_spec}
+use Rattle.x86_fields.specs.declared.prefixes.Prefixes.{Prefixes}
+use Rattle.x86_fields.specs.Sizes.{class_of, v_class, dq_class}
+use Rattle.x86_fields.specs.declared.sizes.Width.{Width}
+use Rattle.x86_fields.specs.declared.sizes.Width.TheVariants as width
+use Rattle.x86_fields.specs.ModRM.{is_memory}
+use Rattle.x86_fields.specs.Prefixes.{operand_size}
+use Rattle.x86_operands.specs.declared.plans.OperandEncoding.{OperandEncoding}
+use Rattle.x86_operands.specs.declared.plans.OperandEncoding.TheVariants as encoding
+use Rattle.x86_operands.specs.declared.plans.OperandEncodings.{OperandEncodings}
+use Rattle.x86_operands.specs.declared.plans.OperandEncodings.TheVariants.{Zero, One, Two, Three}
+use Rattle.x86_operands.specs.declared.plans.RegisterSlot.TheVariants as slot
+use Rattle.x86_operands.specs.declared.plans.Plan.{Plan}
+use Rattle.x86_operands.specs.declared.order.Position.{Position}
+use Rattle.x86_operands.specs.declared.order.Position.TheVariants.{First, Second, Third, Nowhere}
+use Rattle.x86_operands.specs.declared.order.Order.{Order}
+use Rattle.x86_operands.specs.declared.encodings.AfterOpcode.{AfterOpcode}
+use Rattle.x86_operands.specs.declared.encodings.AfterOpcode.TheVariants as after_opcode
+use Rattle.x86_operands.specs.declared.encodings.Last.{Last}
+use Rattle.x86_operands.specs.declared.encodings.Last.TheVariants as last
+use Rattle.x86_operands.specs.declared.encodings.Size.{Size}
+use Rattle.x86_operands.specs.declared.encodings.Size.TheVariants as size
+use Rattle.x86_operands.specs.declared.encodings.FormEncoding.{FormEncoding}
+use Rattle.x86_operands.specs.Plans.{reads, memory_only, register_only, register_at, accumulator_of, immediate_of}
+use Rattle.x86_operands.specs.FormSizes.{whole_immediate, push_immediate, nothing_size, call_size, return_size, duplicate_size, stream_size, scalar_size, extract_size, insert_size, unpack_size, v_size}
+use Rattle.x86_operands.specs.declared.plans.ModrmUse.{ModrmUse}
+use Rattle.x86_operands.specs.declared.plans.ModrmUse.TheVariants as use_as
+
+-- the bytes of a size
+abbrev pub size_bytes : Size → ℕ → Prefixes → ℕ
+size_bytes size.Zero o p = 0
+size_bytes size.One o p = 1
+size_bytes size.Two o p = 2
+size_bytes size.Four o p = 4
+size_bytes size.Eight o p = 8
+size_bytes size.Sixteen o p = 16
+size_bytes size.V o p = v_size p
+size_bytes size.Dq o p = width_of (dq_class p)
+size_bytes size.Push o p = if operand_size p then 2 else 8
+size_bytes size.Call o p = call_size o
+size_bytes size.Bare o p = nothing_size o
+size_bytes size.Return o p = return_size o
+size_bytes size.Duplicate o p = duplicate_size o
+size_bytes size.Stream o p = stream_size o
+size_bytes size.Scalar o p = scalar_size o
+size_bytes size.Extract o p = extract_size o
+size_bytes size.Insert o p = insert_size o
+size_bytes size.Unpack o p = unpack_size o
+
+-- the register CL, as a third operand
+abbrev pub cl_third : OperandEncoding
+cl_third = encoding.Fixed slot.Third (reg_spec 1 class.B)
+
+abbrev pub last_encoding : Last → Prefixes → OperandEncoding
+last_encoding last.Absent p = encoding.ConstantU8 0
+last_encoding last.I8 p = encoding.I8
+last_encoding last.U8 p = encoding.U8
+last_encoding last.U16 p = encoding.U16
+last_encoding last.I32 p = encoding.I32
+last_encoding last.Iv p = immediate_of (v_class p)
+last_encoding last.Ivq p = whole_immediate (v_class p)
+last_encoding last.Ip p = push_immediate p
+last_encoding last.SignedOne p = encoding.ConstantI8 (pos 1)
+last_encoding last.UnsignedOne p = encoding.ConstantU8 1
+last_encoding last.Three p = encoding.ConstantU8 3
+last_encoding last.Cl p = encoding.Fixed slot.Reg (reg_spec 1 class.B)
+last_encoding last.ClThird p = cl_third
+
+abbrev pub reg_encoding : AfterOpcode → Width → ℕ → Prefixes → OperandEncoding
+reg_encoding after_opcode.Opcode w n p = encoding.Fixed slot.Reg (register_at n (class_of w p) p)
+reg_encoding after_opcode.Accumulator w n p = accumulator_of (class_of w p) p
+reg_encoding b width.Mm n p = encoding.Gmm
+reg_encoding b w n p = encoding.G (class_of w p)
+
+abbrev pub rm_encoding : AfterOpcode → Width → Prefixes → OperandEncoding
+rm_encoding after_opcode.Memory w p = encoding.M
+rm_encoding after_opcode.Registers width.Mm p = encoding.Umm
+rm_encoding after_opcode.Registers w p = encoding.U (class_of w p)
+rm_encoding b width.Mm p = encoding.Emm
+rm_encoding b w p = encoding.E (class_of w p)
+
+abbrev pub same_position : Position → Position → Bool
+same_position First First = true
+same_position Second Second = true
+same_position Third Third = true
+same_position Nowhere Nowhere = true
+same_position a b = false
+
+abbrev pub encoding_at : Order → Position → OperandEncoding → OperandEncoding → OperandEncoding → OperandEncoding
+encoding_at o k reg rm last = if same_position o.reg k then reg else (if same_position o.rm k then rm else last)
+
+abbrev pub encodings_in : Order → OperandEncoding → OperandEncoding → OperandEncoding → OperandEncodings
+encodings_in o reg rm last =
+    if o.count == 0 then Zero
+    else (if o.count == 1 then One (encoding_at o First reg rm last)
+    else (if o.count == 2 then Two (encoding_at o First reg rm last) (encoding_at o Second reg rm last)
+    else Three (encoding_at o First reg rm last) (encoding_at o Second reg rm last) (encoding_at o Third reg rm last)))
+
+-- the memory size at a ModRM byte
+abbrev pub size_at : FormEncoding → ℕ → Size
+size_at e m = if is_memory m then e.in_memory else e.in_register
+
+abbrev pub restricted_plan : AfterOpcode → ℕ → Plan → Plan
+restricted_plan after_opcode.Memory m plan = memory_only m plan
+restricted_plan after_opcode.Registers m plan = register_only m plan
+restricted_plan b m plan = plan
+
+-- the plan of a form with this encoding, whose opcode byte carries n
+abbrev pub plan_of : FormEncoding → ℕ → ℕ → Prefixes → ℕ → Plan
+plan_of e n o p m = restricted_plan e.after_opcode m (reads o (encodings_in e.order (reg_encoding e.after_opcode e.reg n p) (rm_encoding e.after_opcode e.rm p) (last_encoding e.last p)) (size_bytes (size_at e m) o p))
+
+abbrev pub is_described : AfterOpcode → Bool
+is_described (after_opcode.ByReg g) = false
+is_described (after_opcode.ByPlan u) = false
+is_described after_opcode.Group = false
+is_described b = true
+
+abbrev pub somewhere : Position → Bool
+somewhere Nowhere = false
+somewhere at = true
+
+-- ---- lines that are sound
+
+abbrev pub is_order_of : Position → Position → Position → ℕ → Bool
+is_order_of Nowhere Nowhere Nowhere n = n == 0
+is_order_of Nowhere Nowhere First n = n == 1
+is_order_of First Nowhere Nowhere n = n == 1
+is_order_of First Nowhere Second n = n == 2
+is_order_of Second Nowhere First n = n == 2
+is_order_of Nowhere First Nowhere n = n == 1
+is_order_of Nowhere First Second n = n == 2
+is_order_of Second First Nowhere n = n == 2
+is_order_of First Second Nowhere n = n == 2
+is_order_of Second First Third n = n == 3
+is_order_of First Second Third n = n == 3
+is_order_of a b c n = false
+
+abbrev pub is_order : Order → Bool
+is_order o = is_order_of o.reg o.rm o.last o.count
+
+abbrev pub has_modrm : AfterOpcode → Bool
+has_modrm after_opcode.EitherForm = true
+has_modrm after_opcode.Memory = true
+has_modrm after_opcode.Registers = true
+has_modrm b = false
+
+-- whether a ModRM byte follows whose line is known, or chosen by reg
+abbrev pub has_fields : AfterOpcode → Bool
+has_fields (after_opcode.ByReg g) = true
+has_fields b = has_modrm b
+
+abbrev pub has_register : AfterOpcode → Bool
+has_register after_opcode.Opcode = true
+has_register after_opcode.Accumulator = true
+has_register b = false
+
+-- reg and rm come from what follows the opcode byte
+abbrev pub order_fits : AfterOpcode → Order → Bool
+order_fits b o = if somewhere o.rm then has_modrm b else (if somewhere o.reg then has_register b else not (has_modrm b))
+
+abbrev pub is_last : Last → Bool
+is_last last.Absent = false
+is_last l = true
+
+abbrev pub has_last : Order → Last → Bool
+has_last o l = if somewhere o.last then is_last l else true
+
+-- the ModRM bytes at which a line accepts; one that isn't there reads as C0
+abbrev pub allows : AfterOpcode → ℕ → Bool
+allows after_opcode.EitherForm m = true
+allows after_opcode.Memory m = is_memory m
+allows (after_opcode.ByReg g) m = false
+allows (after_opcode.ByPlan u) m = false
+allows after_opcode.Group m = false
+allows b m = not (is_memory m)
+
+abbrev pub is_sound : FormEncoding → Bool
+is_sound e = is_order e.order && (order_fits e.after_opcode e.order && has_last e.order e.last)
+
+-- ---- a whole line
+
+abbrev pub use_of : AfterOpcode → ModrmUse
+use_of after_opcode.Nothing = use_as.Absent
+use_of after_opcode.Opcode = use_as.Absent
+use_of after_opcode.Accumulator = use_as.Absent
+use_of (after_opcode.ByPlan u) = u
+use_of b = use_as.EitherForm

@@ -1,0 +1,115 @@
+-- Sizes and classes by the opcode, or by a separate form. In a form that has sizes for named opcodes
+-- alone, any other opcode has size 0.
+use Rattle.std.specs.Prelude.{ℕ, ◌&&◌, ◌==◌, not, Bool, if◌then◌else◌, [], ◌∷◌}
+use Rattle.x86_regs.specs.declared.RegisterClass.{RegisterClass}
+use Rattle.x86_regs.specs.declared.RegisterClass.TheVariants.{W, D, Q}
+use Rattle.x86_fields.specs.declared.prefixes.Prefixes.{Prefixes}
+use Rattle.x86_fields.specs.Raw.{has_w}
+use Rattle.x86_opcodes.specs.Kinds.{is_among}
+use Rattle.x86_opcodes.specs.Names.{CALL, CMPSD, CMPSS, ROUNDSS, ROUNDSD, LFS, LGS, LSS, ENQCMD, ENQCMDS, MOVDDUP, MOVNTSS, MOVNTPS, MOVNTPD, MOVNTDQ, PEXTRB, PEXTRW, EXTRACTPS, PINSRB, INSERTPS, PMOVSXBQ, PMOVZXBQ, PMOVSXBD, PMOVZXBD, PMOVSXWQ, PMOVZXWQ, UCOMISS, COMISS, CVTSS2SD, MOVLPD, MOVHPD, PUNPCKLBW, PUNPCKLWD, PUNPCKLDQ, RETURN, RETF, PUSHF, POPF, LEAVE, XLAT, CBW, CWDE, CDQE, CWD, CDQ, CQO}
+use Rattle.x86_fields.specs.Prefixes.{operand_size, address_size}
+use Rattle.x86_operands.specs.declared.encodings.Size.{Size}
+use Rattle.x86_operands.specs.declared.encodings.Size.TheVariants as size
+use Rattle.x86_operands.specs.declared.plans.OperandEncoding.{OperandEncoding}
+use Rattle.x86_operands.specs.declared.plans.OperandEncoding.TheVariants.{I16, I32, I64Whole, Address32, Address64}
+use Rattle.x86_fields.specs.Sizes.{v_class}
+use Rattle.x86_regs.specs.Class.{width_of}
+use Rattle.x86_operands.specs.Plans.{size_by}
+
+-- the class of an address register
+abbrev pub pointer_class : Prefixes → RegisterClass
+pointer_class p = if address_size p then D else Q
+
+-- the size of v
+abbrev pub v_size : Prefixes → ℕ
+v_size p = width_of (v_class p)
+
+-- this size in the memory form, and that of v in the register form
+abbrev pub or_v : ℕ → Prefixes → ℕ → ℕ
+or_v memory p m = size_by m memory (v_size p)
+
+-- the immediate of a class v that has its whole width
+abbrev pub whole_immediate : RegisterClass → OperandEncoding
+whole_immediate W = I16
+whole_immediate Q = I64Whole
+whole_immediate c = I32
+
+-- the immediate of PUSH
+abbrev pub push_immediate : Prefixes → OperandEncoding
+push_immediate p = if operand_size p && not (has_w p) then I16 else I32
+
+-- an absolute address
+abbrev pub address_encoding : Prefixes → OperandEncoding
+address_encoding p = if address_size p then Address32 else Address64
+
+-- the opcode of 98 and of 99, by the class v
+abbrev pub widening : RegisterClass → ℕ
+widening W = CBW
+widening Q = CDQE
+widening c = CWDE
+
+abbrev pub doubling : RegisterClass → ℕ
+doubling W = CWD
+doubling Q = CQO
+doubling c = CDQ
+
+abbrev pub nothing_size : ℕ → ℕ
+nothing_size o = if is_among (RETURN ∷ PUSHF ∷ POPF ∷ LEAVE ∷ []) o then 8 else (if o == RETF then 10 else (if o == XLAT then 1 else 0))
+
+abbrev pub call_size : ℕ → ℕ
+call_size o = if o == CALL then 8 else 0
+
+abbrev pub return_size : ℕ → ℕ
+return_size o = if o == RETURN then 8 else (if o == RETF then 10 else 0)
+
+abbrev pub port_size : Prefixes → ℕ
+port_size p = if operand_size p then 2 else 4
+
+abbrev pub is_far_load : ℕ → Bool
+is_far_load o = is_among (LFS ∷ LGS ∷ LSS ∷ []) o
+
+abbrev pub far_class : ℕ → Prefixes → RegisterClass
+far_class o p = if is_far_load o then v_class p else Q
+
+abbrev pub far_size : ℕ → Prefixes → ℕ
+far_size o p =
+    if is_far_load o then (if has_w p then 10 else (if operand_size p then 4 else 6))
+    else (if is_among (ENQCMD ∷ ENQCMDS ∷ []) o then 64 else 16)
+
+abbrev pub duplicate_size : ℕ → ℕ
+duplicate_size o = if o == MOVDDUP then 8 else 16
+
+abbrev pub stream_size : ℕ → ℕ
+stream_size o = if o == MOVNTSS then 4 else (if is_among (MOVNTPS ∷ MOVNTPD ∷ MOVNTDQ ∷ []) o then 16 else 8)
+
+abbrev pub scalar_size : ℕ → ℕ
+scalar_size o = if is_among (CMPSS ∷ ROUNDSS ∷ []) o then 4 else (if is_among (CMPSD ∷ ROUNDSD ∷ []) o then 8 else 16)
+
+abbrev pub extend_size : ℕ → ℕ
+extend_size o =
+    if is_among (PMOVSXBQ ∷ PMOVZXBQ ∷ []) o then 2
+    else (if is_among (PMOVSXBD ∷ PMOVZXBD ∷ PMOVSXWQ ∷ PMOVZXWQ ∷ UCOMISS ∷ COMISS ∷ CVTSS2SD ∷ []) o then 4 else 8)
+
+abbrev pub is_half_load : ℕ → Bool
+is_half_load o = is_among (MOVLPD ∷ MOVHPD ∷ []) o
+
+abbrev pub extract_size : ℕ → ℕ
+extract_size o = if o == PEXTRB then 1 else (if o == PEXTRW then 2 else (if o == EXTRACTPS then 4 else 0))
+
+abbrev pub insert_size : ℕ → ℕ
+insert_size o = if o == PINSRB then 1 else (if o == INSERTPS then 4 else 0)
+
+abbrev pub unpack_size : ℕ → ℕ
+unpack_size o = if is_among (PUNPCKLBW ∷ PUNPCKLWD ∷ PUNPCKLDQ ∷ []) o then 4 else 8
+
+-- a size that the operation alone decides, and 0 for the others
+abbrev pub named_size : Size → ℕ → ℕ
+named_size size.Bare o = nothing_size o
+named_size size.Return o = return_size o
+named_size size.Duplicate o = duplicate_size o
+named_size size.Stream o = stream_size o
+named_size size.Scalar o = scalar_size o
+named_size size.Extract o = extract_size o
+named_size size.Insert o = insert_size o
+named_size size.Unpack o = unpack_size o
+named_size s o = 0

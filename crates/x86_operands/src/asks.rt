@@ -1,0 +1,119 @@
+//! What a row has after its opcode byte, known from a ModRM byte alone.
+ghost use Rattle.std.specs.Prelude.{◌≡◌, ◌≤◌};
+ghost use Rattle.x86_fields.specs.Pieces.{option_bytes};
+ghost use Rattle.x86_operands.specs.Asks.{immediate_width, modrm_of, encoding_ask, immediates_width, used_modrm, plan_ask};
+
+use crate::encodings::FormEncoding;
+use crate::order::Position;
+use crate::plans::{Fault, ModrmUse, OperandEncoding, OperandEncodings, Plan, Verdict};
+use x86_fields::{ModRM, Prefixes};
+
+/// Which parts of an encoding a row has after its opcode byte. Whether there is a SIB, and how long the displacement
+/// of a memory form is, is known from ModRM and SIB (Intel SDM volume 2, section 2.1.5).
+#[derive(Clone, Copy, PartialEq, Eq, Debug, Drop)]
+pub struct Ask {
+    /// Whether there is a ModRM byte.
+    pub modrm: bool,
+    /// Whether ModRM is a memory form that is read as such.
+    pub memory: bool,
+    /// How many bytes the immediates have together. The absolute addresses of opcodes A0 to A3 count as immediates.
+    pub immediate: u8,
+    /// Whether a last byte names the operation.
+    pub suffix: bool,
+}
+
+/// A row's record at one ModRM byte. One that isn't there reads as C0.
+#[derive(Clone, Copy, Drop)]
+pub struct RecordAt {
+    /// The refusal at the opcode byte.
+    pub at_opcode: Option<Fault>,
+    /// How the row uses a ModRM byte.
+    pub usage: ModrmUse,
+    /// ModRM as the row uses it.
+    pub modrm: ModRM,
+    /// The plan of its operands, with the operation and the refusals after ModRM.
+    pub plan: Plan,
+}
+
+fn immediate_width(encoding: OperandEncoding) -> u8
+    ensures value { result ≡ immediate_width encoding }
+    ensures small { result ≤ 8 }
+{
+    match encoding {
+        OperandEncoding::I8 | OperandEncoding::U8 | OperandEncoding::X8 => 1,
+        OperandEncoding::I16
+        | OperandEncoding::I32From16
+        | OperandEncoding::U16
+        | OperandEncoding::X16 => 2,
+        OperandEncoding::I32 | OperandEncoding::I64 | OperandEncoding::Address32 => 4,
+        OperandEncoding::I64Whole | OperandEncoding::Address64 => 8,
+        _ => 0,
+    }
+}
+
+fn immediates_width(encodings: OperandEncodings) -> u8
+    ensures { result ≡ immediates_width encodings }
+{
+    match encodings {
+        OperandEncodings::Zero => 0,
+        OperandEncodings::One(a) => immediate_width(a),
+        OperandEncodings::Two(a, b) => immediate_width(a) + immediate_width(b),
+        OperandEncodings::Three(a, b, c) => immediate_width(a)
+            + immediate_width(b)
+            + immediate_width(c),
+        OperandEncodings::Four(a, b, c, d) => immediate_width(a)
+            + immediate_width(b)
+            + immediate_width(c)
+            + immediate_width(d),
+    }
+}
+
+/// A ModRM byte as a row uses it.
+pub fn used_modrm(usage: ModrmUse, modrm: ModRM) -> ModRM
+    ensures { result ≡ used_modrm usage modrm }
+{
+    match usage {
+        ModrmUse::Absent => ModRM::absent(),
+        ModrmUse::EitherForm => modrm,
+        ModrmUse::Registers => modrm.as_register(),
+    }
+}
+
+/// A ModRM byte as a row uses it, or C0 where there is none.
+pub fn used_or_none(usage: ModrmUse, modrm: Option<u8>) -> ModRM
+    ensures { result ≡ modrm_of usage (option_bytes modrm) }
+{
+    match modrm {
+        Some(modrm) => used_modrm(usage, ModRM::new(modrm)),
+        None => ModRM::absent(),
+    }
+}
+
+/// What a plan has at a ModRM byte that is used so.
+pub fn plan_ask(usage: ModrmUse, modrm: ModRM, plan: &Plan) -> Ask
+    ensures { result ≡ plan_ask usage modrm plan.now }
+{
+    Ask {
+        modrm: !matches!(usage, ModrmUse::Absent),
+        memory: modrm.is_memory(),
+        immediate: immediates_width(plan.encodings),
+        suffix: matches!(plan.verdict, Verdict::NamedBySuffix),
+    }
+}
+
+/// What a line of the operand encodings has at a ModRM byte that is used so.
+#[inline(always)]
+pub fn encoding_ask(encoding: &FormEncoding, prefixes: &Prefixes, modrm: ModRM) -> Ask
+    ensures { result ≡ encoding_ask encoding.now prefixes.now modrm }
+{
+    let immediate = match encoding.order.last {
+        Position::Nowhere => 0,
+        _ => immediate_width(encoding.last.encoding(prefixes)),
+    };
+    Ask {
+        modrm: !matches!(encoding.modrm_use(), ModrmUse::Absent),
+        memory: modrm.is_memory(),
+        immediate,
+        suffix: false,
+    }
+}

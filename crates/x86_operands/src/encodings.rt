@@ -1,0 +1,338 @@
+//! What a line of the operand encodings says.
+
+ghost use Rattle.std.specs.Prelude.{◌≡◌, ◌<◌, ℕ};
+ghost use Rattle.x86_fields.specs.declared.prefixes.Prefixes.{Prefixes};
+ghost use Rattle.x86_fields.specs.ModRM.{is_memory};
+ghost use Rattle.x86_fields.specs.Sizes.{size_prefixes};
+ghost use Rattle.x86_operands.specs.FormSizes.{named_size};
+ghost use Rattle.x86_operands.specs.Encodings.{size_bytes, last_encoding, reg_encoding, rm_encoding, encoding_at, encodings_in, plan_of, use_of, is_described, allows, size_at};
+
+use crate::form_sizes::{
+    duplicate_size, extract_size, insert_size, nothing_size, push_immediate, return_size,
+    scalar_size, stream_size, unpack_size, whole_immediate,
+};
+use crate::order::{Order, Position};
+use crate::plans::{
+    ModrmUse, OperandEncoding, OperandEncodings, Plan, RegisterSlot, accumulator_of, immediate_of,
+    memory_only, reads, register_at, register_only,
+};
+use crate::sizing::SIZES;
+use x86_fields::{ModRM, Prefixes, SizePrefixes, Width};
+use x86_opcodes::Opcode;
+use x86_regs::RegSpec;
+
+/// The groups whose lines reg alone chooses, by their opcode byte.
+#[derive(Clone, Copy, Drop)]
+pub enum RegGroup {
+    G80,
+    G81,
+    G83,
+    C0,
+    C1,
+    C6,
+    C7,
+    D0,
+    D1,
+    D2,
+    D3,
+    F6,
+    F7,
+    FE,
+    FF,
+}
+
+/// What follows the opcode byte.
+#[derive(Clone, Copy, Drop)]
+pub enum AfterOpcode {
+    /// A ModRM of either form.
+    EitherForm,
+    /// A ModRM of the memory form; the register form is refused.
+    Memory,
+    /// A ModRM of the register form; the memory form is refused.
+    Registers,
+    /// A ModRM whose reg chooses the line.
+    ByReg(RegGroup),
+    /// No ModRM, and no register.
+    Nothing,
+    /// No ModRM: the opcode byte carries the number of a register.
+    Opcode,
+    /// No ModRM: register 0 is an operand.
+    Accumulator,
+    /// A form with a separate plan.
+    ByPlan(ModrmUse),
+    /// Another group.
+    Group,
+}
+
+/// The operand that is none of ModRM and no register of the opcode byte.
+#[derive(Clone, Copy, Drop)]
+pub enum Last {
+    Absent,
+    I8,
+    U8,
+    U16,
+    I32,
+    /// Of v, at most 4 bytes.
+    Iv,
+    /// Of v, with its whole width.
+    Ivq,
+    /// Of PUSH.
+    Ip,
+    /// 1 as a signed byte, which no byte spells.
+    SignedOne,
+    /// 1, which no byte spells.
+    UnsignedOne,
+    /// 3, which no byte spells.
+    Three,
+    /// The register CL.
+    Cl,
+    /// The register CL, after two others.
+    ClThird,
+}
+
+/// A memory size in bytes: by itself, by W and 66, or by the operation.
+#[derive(Clone, Copy, Drop)]
+pub enum Size {
+    Zero,
+    One,
+    Two,
+    Four,
+    Eight,
+    Sixteen,
+    V,
+    Dq,
+    /// 2 under 66, else 8.
+    Push,
+    Call,
+    Bare,
+    Return,
+    Duplicate,
+    Stream,
+    Scalar,
+    Extract,
+    Insert,
+    Unpack,
+}
+
+/// How the operands of a form are encoded.
+#[derive(Clone, Copy, Drop)]
+pub struct FormEncoding {
+    /// What follows the opcode byte.
+    pub after_opcode: AfterOpcode,
+    /// The order of reg, rm and the last operand.
+    pub order: Order,
+    /// The width of the register of the field reg, of the opcode byte, or of the accumulator.
+    pub reg: Width,
+    /// The width of the register of the field rm.
+    pub rm: Width,
+    /// The operand that is none of these.
+    pub last: Last,
+    /// The memory size, in the memory form.
+    pub in_memory: Size,
+    /// The same in the register form, and without ModRM.
+    pub in_register: Size,
+}
+
+impl Size {
+    /// The size that the operation alone decides; 0 for the sizes of the table.
+    #[inline(never)]
+    fn named(self, opcode: Opcode) -> u8
+        ensures { result ≡ named_size self opcode }
+    {
+        match self {
+            Size::Bare => nothing_size(opcode),
+            Size::Return => return_size(opcode),
+            Size::Duplicate => duplicate_size(opcode),
+            Size::Stream => stream_size(opcode),
+            Size::Scalar => scalar_size(opcode),
+            Size::Extract => extract_size(opcode),
+            Size::Insert => insert_size(opcode),
+            Size::Unpack => unpack_size(opcode),
+            _ => 0,
+        }
+    }
+}
+
+impl Last {
+    /// The encoding of the last operand.
+    #[inline(always)]
+    pub fn encoding(self, prefixes: &Prefixes) -> OperandEncoding
+        ensures { result ≡ last_encoding self prefixes.now }
+    {
+        match self {
+            Last::Absent => OperandEncoding::ConstantU8(0),
+            Last::I8 => OperandEncoding::I8,
+            Last::U8 => OperandEncoding::U8,
+            Last::U16 => OperandEncoding::U16,
+            Last::I32 => OperandEncoding::I32,
+            Last::Iv => immediate_of(prefixes.v_class()),
+            Last::Ivq => whole_immediate(prefixes.v_class()),
+            Last::Ip => push_immediate(prefixes),
+            Last::SignedOne => OperandEncoding::ConstantI8(1),
+            Last::UnsignedOne => OperandEncoding::ConstantU8(1),
+            Last::Three => OperandEncoding::ConstantU8(3),
+            Last::Cl => OperandEncoding::Fixed(RegisterSlot::Reg, RegSpec::b(1)),
+            Last::ClThird => OperandEncoding::Fixed(RegisterSlot::Third, RegSpec::b(1)),
+        }
+    }
+}
+
+fn reg_encoding(
+    after_opcode: AfterOpcode,
+    width: Width,
+    num: u8,
+    prefixes: &Prefixes,
+) -> OperandEncoding
+    requires { num < 8 }
+    ensures { result ≡ reg_encoding after_opcode width num prefixes.now }
+{
+    let class = width.class(prefixes.size_prefixes());
+    match (after_opcode, width) {
+        (AfterOpcode::Opcode, _) => OperandEncoding::Fixed(
+            RegisterSlot::Reg,
+            register_at(num, class, prefixes),
+        ),
+        (AfterOpcode::Accumulator, _) => accumulator_of(class, prefixes),
+        (_, Width::Mm) => OperandEncoding::Gmm,
+        _ => OperandEncoding::G(class),
+    }
+}
+
+fn rm_encoding(after_opcode: AfterOpcode, width: Width, prefixes: &Prefixes) -> OperandEncoding
+    ensures { result ≡ rm_encoding after_opcode width prefixes.now }
+{
+    let class = width.class(prefixes.size_prefixes());
+    match (after_opcode, width) {
+        (AfterOpcode::Memory, _) => OperandEncoding::M,
+        (AfterOpcode::Registers, Width::Mm) => OperandEncoding::Umm,
+        (AfterOpcode::Registers, _) => OperandEncoding::U(class),
+        (_, Width::Mm) => OperandEncoding::Emm,
+        _ => OperandEncoding::E(class),
+    }
+}
+
+fn encoding_at(
+    order: &Order,
+    k: Position,
+    reg: OperandEncoding,
+    rm: OperandEncoding,
+    last: OperandEncoding,
+) -> OperandEncoding
+    ensures { result ≡ encoding_at order.now k reg rm last }
+{
+    if order.reg == k {
+        reg
+    } else if order.rm == k {
+        rm
+    } else {
+        last
+    }
+}
+
+fn encodings_in(
+    order: &Order,
+    reg: OperandEncoding,
+    rm: OperandEncoding,
+    last: OperandEncoding,
+) -> OperandEncodings
+    ensures { result ≡ encodings_in order.now reg rm last }
+{
+    let first = encoding_at(order, Position::First, reg, rm, last);
+    let second = encoding_at(order, Position::Second, reg, rm, last);
+    let third = encoding_at(order, Position::Third, reg, rm, last);
+    match order.count {
+        0 => OperandEncodings::Zero,
+        1 => OperandEncodings::One(first),
+        2 => OperandEncodings::Two(first, second),
+        _ => OperandEncodings::Three(first, second, third),
+    }
+}
+
+impl AfterOpcode {
+    /// Whether a line describes the form.
+    #[inline(always)]
+    pub fn is_described(self) -> bool
+        ensures { result ≡ is_described self }
+    {
+        match self {
+            AfterOpcode::ByReg(_) | AfterOpcode::ByPlan(_) | AfterOpcode::Group => false,
+            _ => true,
+        }
+    }
+
+    /// Whether a line accepts at this ModRM byte; one that isn't there reads as C0.
+    #[inline(always)]
+    pub fn allows(self, modrm: ModRM) -> bool
+        ensures { result ≡ allows self modrm }
+    {
+        if modrm.is_memory() {
+            matches!(self, AfterOpcode::EitherForm | AfterOpcode::Memory)
+        } else {
+            !matches!(
+                self,
+                AfterOpcode::Memory
+                    | AfterOpcode::ByReg(_)
+                    | AfterOpcode::ByPlan(_)
+                    | AfterOpcode::Group
+            )
+        }
+    }
+}
+
+impl FormEncoding {
+    /// The memory size in bytes, in the memory form or in the register form. From `Size::Bare` on the operation alone
+    /// decides it.
+    #[inline(always)]
+    pub fn mem_size(&self, in_memory: bool, opcode: Opcode, sizes: SizePrefixes) -> u8
+        ensures { (modrm : ℕ) (p : Prefixes) → in_memory ≡ is_memory modrm
+            → sizes ≡ size_prefixes p → result ≡ size_bytes (size_at self.now modrm) opcode p }
+    {
+        let size = if in_memory {
+            self.in_memory
+        } else {
+            self.in_register
+        };
+        if size as usize >= Size::Bare as usize {
+            return size.named(opcode);
+        }
+        let bytes = SIZES[size as usize][sizes as usize];
+        if matches!(size, Size::Call) && opcode != Opcode::CALL {
+            0
+        } else {
+            bytes
+        }
+    }
+
+    /// How a form with this encoding uses a ModRM byte.
+    #[inline(always)]
+    pub fn modrm_use(&self) -> ModrmUse
+        ensures { result ≡ use_of self.now.after_opcode }
+    {
+        match self.after_opcode {
+            AfterOpcode::Nothing | AfterOpcode::Opcode | AfterOpcode::Accumulator =>
+                ModrmUse::Absent,
+            AfterOpcode::ByPlan(usage) => usage,
+            _ => ModrmUse::EitherForm,
+        }
+    }
+
+    /// The plan of a form with this encoding, whose opcode byte carries `num`.
+    pub fn plan(&self, opcode: Opcode, num: u8, prefixes: &Prefixes, modrm: ModRM) -> Plan
+        requires { num < 8 }
+        ensures { result ≡ plan_of self.now num opcode prefixes.now modrm }
+    {
+        let reg = reg_encoding(self.after_opcode, self.reg, num, prefixes);
+        let rm = rm_encoding(self.after_opcode, self.rm, prefixes);
+        let encodings = encodings_in(&self.order, reg, rm, self.last.encoding(prefixes));
+        let plan = reads(
+            opcode,
+            encodings,
+            self.mem_size(modrm.is_memory(), opcode, prefixes.size_prefixes()),
+        );
+        match self.after_opcode {
+            AfterOpcode::Memory => memory_only(modrm, plan),
+            AfterOpcode::Registers => register_only(modrm, plan),
+            _ => plan,
+        }
+    }
+}

@@ -1,0 +1,251 @@
+//! Sizes and classes by the opcode, or by a separate form.
+ghost use Rattle.std.specs.Prelude.{◌≡◌, if◌then◌else◌};
+ghost use Rattle.x86_fields.specs.Prefixes.{operand_size};
+ghost use Rattle.x86_fields.specs.Raw.{has_w};
+ghost use Rattle.x86_operands.specs.FormSizes.{v_size, or_v, pointer_class, whole_immediate, push_immediate, address_encoding, widening, doubling, nothing_size, return_size, port_size, is_far_load, far_class, far_size, duplicate_size, stream_size, scalar_size, extend_size, is_half_load, extract_size, insert_size, unpack_size};
+
+use crate::plans::{OperandEncoding, size_by};
+use x86_fields::{ModRM, Prefixes};
+use x86_opcodes::Opcode;
+use x86_regs::RegisterClass;
+
+/// The class of an address register.
+pub fn pointer_class(prefixes: &Prefixes) -> RegisterClass
+    ensures { result ≡ pointer_class prefixes.now }
+{
+    if prefixes.address_size() {
+        RegisterClass::D
+    } else {
+        RegisterClass::Q
+    }
+}
+
+/// The width of v.
+pub fn v_size(prefixes: &Prefixes) -> u8
+    ensures { result ≡ v_size prefixes.now }
+{
+    prefixes.v_class().width()
+}
+
+/// The size in the memory form, and that of v in the register form.
+pub fn or_v(memory: u8, prefixes: &Prefixes, modrm: ModRM) -> u8
+    ensures { result ≡ or_v memory prefixes.now modrm }
+{
+    size_by(modrm, memory, v_size(prefixes))
+}
+
+/// The immediate of a class v that has its whole width.
+#[inline(always)]
+pub fn whole_immediate(class: RegisterClass) -> OperandEncoding
+    ensures { result ≡ whole_immediate class }
+{
+    match class {
+        RegisterClass::W => OperandEncoding::I16,
+        RegisterClass::Q => OperandEncoding::I64Whole,
+        _ => OperandEncoding::I32,
+    }
+}
+
+/// The immediate of PUSH.
+#[inline(always)]
+pub fn push_immediate(prefixes: &Prefixes) -> OperandEncoding
+    ensures { result ≡ push_immediate prefixes.now }
+{
+    if prefixes.operand_size() && !prefixes.has_w() {
+        OperandEncoding::I16
+    } else {
+        OperandEncoding::I32
+    }
+}
+
+/// An absolute address.
+pub fn address(prefixes: &Prefixes) -> OperandEncoding
+    ensures { result ≡ address_encoding prefixes.now }
+{
+    if prefixes.address_size() {
+        OperandEncoding::Address32
+    } else {
+        OperandEncoding::Address64
+    }
+}
+
+/// The opcode of 98.
+pub fn widening(class: RegisterClass) -> Opcode
+    ensures { result ≡ widening class }
+{
+    match class {
+        RegisterClass::W => Opcode::CBW,
+        RegisterClass::Q => Opcode::CDQE,
+        _ => Opcode::CWDE,
+    }
+}
+
+/// The opcode of 99.
+pub fn doubling(class: RegisterClass) -> Opcode
+    ensures { result ≡ doubling class }
+{
+    match class {
+        RegisterClass::W => Opcode::CWD,
+        RegisterClass::Q => Opcode::CQO,
+        _ => Opcode::CDQ,
+    }
+}
+
+/// The size of a row without operands.
+pub fn nothing_size(opcode: Opcode) -> u8
+    ensures { result ≡ nothing_size opcode }
+{
+    match opcode {
+        Opcode::RETURN | Opcode::PUSHF | Opcode::POPF | Opcode::LEAVE => 8,
+        Opcode::RETF => 10,
+        Opcode::XLAT => 1,
+        _ => 0,
+    }
+}
+
+/// The size of a return with an immediate.
+pub fn return_size(opcode: Opcode) -> u8
+    ensures { result ≡ return_size opcode }
+{
+    match opcode {
+        Opcode::RETURN => 8,
+        Opcode::RETF => 10,
+        _ => 0,
+    }
+}
+
+/// The size of INS and OUTS.
+pub fn port_size(prefixes: &Prefixes) -> u8
+    ensures { result ≡ port_size prefixes.now }
+{
+    if prefixes.operand_size() { 2 } else { 4 }
+}
+
+fn is_far_load(opcode: Opcode) -> bool
+    ensures { result ≡ is_far_load opcode }
+{
+    matches!(opcode, Opcode::LFS | Opcode::LGS | Opcode::LSS)
+}
+
+/// The class of the register of a far load, or of a row of the same form.
+pub fn far_class(opcode: Opcode, prefixes: &Prefixes) -> RegisterClass
+    ensures { result ≡ far_class opcode prefixes.now }
+{
+    if is_far_load(opcode) {
+        prefixes.v_class()
+    } else {
+        RegisterClass::Q
+    }
+}
+
+fn far_pointer_size(prefixes: &Prefixes) -> u8
+    ensures { result
+        ≡ if has_w prefixes.now then 10 else (if operand_size prefixes.now then 4 else 6) }
+{
+    if prefixes.has_w() {
+        10
+    } else if prefixes.operand_size() {
+        4
+    } else {
+        6
+    }
+}
+
+/// The size of a far load, or of a row of the same form.
+pub fn far_size(opcode: Opcode, prefixes: &Prefixes) -> u8
+    ensures { result ≡ far_size opcode prefixes.now }
+{
+    if is_far_load(opcode) {
+        return far_pointer_size(prefixes);
+    }
+    match opcode {
+        Opcode::ENQCMD | Opcode::ENQCMDS => 64,
+        _ => 16,
+    }
+}
+
+/// The size of a whole xmm operand, halved for MOVDDUP.
+pub fn duplicate_size(opcode: Opcode) -> u8
+    ensures { result ≡ duplicate_size opcode }
+{
+    if opcode == Opcode::MOVDDUP { 8 } else { 16 }
+}
+
+/// The size of a store from an xmm register.
+pub fn stream_size(opcode: Opcode) -> u8
+    ensures { result ≡ stream_size opcode }
+{
+    match opcode {
+        Opcode::MOVNTSS => 4,
+        Opcode::MOVNTPS | Opcode::MOVNTPD | Opcode::MOVNTDQ => 16,
+        _ => 8,
+    }
+}
+
+/// The size of an xmm operand before an immediate.
+pub fn scalar_size(opcode: Opcode) -> u8
+    ensures { result ≡ scalar_size opcode }
+{
+    match opcode {
+        Opcode::CMPSS | Opcode::ROUNDSS => 4,
+        Opcode::CMPSD | Opcode::ROUNDSD => 8,
+        _ => 16,
+    }
+}
+
+/// The size of an operand that is extended.
+pub fn extend_size(opcode: Opcode) -> u8
+    ensures { result ≡ extend_size opcode }
+{
+    match opcode {
+        Opcode::PMOVSXBQ | Opcode::PMOVZXBQ => 2,
+        Opcode::PMOVSXBD
+        | Opcode::PMOVZXBD
+        | Opcode::PMOVSXWQ
+        | Opcode::PMOVZXWQ
+        | Opcode::UCOMISS
+        | Opcode::COMISS
+        | Opcode::CVTSS2SD => 4,
+        _ => 8,
+    }
+}
+
+/// Whether the opcode loads half an xmm register.
+pub fn is_half_load(opcode: Opcode) -> bool
+    ensures { result ≡ is_half_load opcode }
+{
+    matches!(opcode, Opcode::MOVLPD | Opcode::MOVHPD)
+}
+
+/// The size of an element that is extracted.
+pub fn extract_size(opcode: Opcode) -> u8
+    ensures { result ≡ extract_size opcode }
+{
+    match opcode {
+        Opcode::PEXTRB => 1,
+        Opcode::PEXTRW => 2,
+        Opcode::EXTRACTPS => 4,
+        _ => 0,
+    }
+}
+
+/// The size of an element that is inserted.
+pub fn insert_size(opcode: Opcode) -> u8
+    ensures { result ≡ insert_size opcode }
+{
+    match opcode {
+        Opcode::PINSRB => 1,
+        Opcode::INSERTPS => 4,
+        _ => 0,
+    }
+}
+
+/// The size of an mm operand, halved for the unpacking of low elements.
+pub fn unpack_size(opcode: Opcode) -> u8
+    ensures { result ≡ unpack_size opcode }
+{
+    match opcode {
+        Opcode::PUNPCKLBW | Opcode::PUNPCKLWD | Opcode::PUNPCKLDQ => 4,
+        _ => 8,
+    }
+}

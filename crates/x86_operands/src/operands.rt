@@ -1,0 +1,359 @@
+//! Operands and where they come from.
+ghost use Rattle.std.specs.Prelude.{◌≡◌, ◌%◌};
+ghost use Rattle.x86_fields.specs.Linear.{modulus_by};
+ghost use Rattle.x86_operands.specs.Linear.{operand_address};
+ghost use Rattle.x86_operands.specs.Operands.{is_memory_operand, is_memory_slot, operand_width, access_size, bytes_size};
+
+use x86_fields::{AddressParts, RegFile, UNDECIDED_SIZE};
+use x86_regs::{MergeMode, RegSpec, SaeMode};
+
+/// An operand of an instruction. The examples are as a listing prints them: numbers are decimal.
+#[derive(Clone, Copy, PartialEq, Eq, Debug, Drop)]
+pub enum Operand {
+    /// No operand. It is the first variant, so that the blank operands of an instruction are zeros.
+    Nothing,
+    /// A signed immediate of 1 byte, as `i8:-1` of `83 c0 ff`.
+    ImmediateI8 {
+        imm: i8,
+    },
+    /// An unsigned immediate of 1 byte, as `u8:128` of `cd 80`.
+    ImmediateU8 {
+        imm: u8,
+    },
+    /// A signed immediate of 2 bytes, as `i16:-2` of `66 05 fe ff`.
+    ImmediateI16 {
+        imm: i16,
+    },
+    /// An unsigned immediate of 2 bytes, as `u16:8` of `c2 08 00`.
+    ImmediateU16 {
+        imm: u16,
+    },
+    /// A signed immediate of 32 bits, as `i32:-2` of `05 fe ff ff ff`, or from 2 bytes in XBEGIN under 66.
+    ImmediateI32 {
+        imm: i32,
+    },
+    /// An unsigned immediate of 32 bits, printed as `u32:7`. No instruction here has one.
+    ImmediateU32 {
+        imm: u32,
+    },
+    /// A signed immediate of 64 bits, from 8 bytes or from 4, as `i64:-1` of `48 c7 c0 ff ff ff ff`.
+    ImmediateI64 {
+        imm: i64,
+    },
+    /// An unsigned immediate of 64 bits, printed as `u64:7`. No instruction here has one.
+    ImmediateU64 {
+        imm: u64,
+    },
+    /// A register, as `eax` of `01 d8`.
+    Register {
+        reg: RegSpec,
+    },
+    /// A register under a mask register, printed as the register. No instruction here has one.
+    RegisterMaskMerge {
+        reg: RegSpec,
+        mask: RegSpec,
+        merge: MergeMode,
+    },
+    /// The same with a rounding mode. No instruction here has one.
+    RegisterMaskMergeSae {
+        reg: RegSpec,
+        mask: RegSpec,
+        merge: MergeMode,
+        sae: SaeMode,
+    },
+    /// The same where exceptions are suppressed and the rounding mode is that of MXCSR. No instruction here has
+    /// one.
+    RegisterMaskMergeSaeNoround {
+        reg: RegSpec,
+        mask: RegSpec,
+        merge: MergeMode,
+    },
+    /// Memory at an address of 32 bits without a register, as `[abs32:16]` of `8b 04 25 10 00 00 00`.
+    AbsoluteU32 {
+        addr: u32,
+    },
+    /// Memory at an address of 64 bits, as `[abs64:16]` of `a1 10 00 00 00 00 00 00 00`.
+    AbsoluteU64 {
+        addr: u64,
+    },
+    /// Memory at a register, as `[rax]` of `8b 00`.
+    MemDeref {
+        base: RegSpec,
+    },
+    /// Memory at a register and a displacement other than 0, as `[rax-8]` of `8b 40 f8`.
+    Disp {
+        base: RegSpec,
+        disp: i32,
+    },
+    /// Memory at an index times its scale, as `[rcx*4]` of `8b 04 8d 00 00 00 00`.
+    MemIndexScale {
+        index: RegSpec,
+        scale: u8,
+    },
+    /// The same with a displacement other than 0, as `[rcx*4+16]` of `8b 04 8d 10 00 00 00`.
+    MemIndexScaleDisp {
+        index: RegSpec,
+        scale: u8,
+        disp: i32,
+    },
+    /// Memory at a base and an index times its scale, as `[rax+rcx*4]` of `8b 04 88`.
+    MemBaseIndexScale {
+        base: RegSpec,
+        index: RegSpec,
+        scale: u8,
+    },
+    /// The same with a displacement other than 0, as `[rax+rcx*4-8]` of `8b 44 88 f8`.
+    MemBaseIndexScaleDisp {
+        base: RegSpec,
+        index: RegSpec,
+        scale: u8,
+        disp: i32,
+    },
+    /// `MemDeref` under a mask register, printed without it. No instruction here has one, nor one of the five
+    /// below.
+    MemDerefMasked {
+        base: RegSpec,
+        mask: RegSpec,
+    },
+    /// `Disp` under a mask register.
+    DispMasked {
+        base: RegSpec,
+        disp: i32,
+        mask: RegSpec,
+    },
+    /// `MemIndexScale` under a mask register.
+    MemIndexScaleMasked {
+        index: RegSpec,
+        scale: u8,
+        mask: RegSpec,
+    },
+    /// `MemIndexScaleDisp` under a mask register.
+    MemIndexScaleDispMasked {
+        index: RegSpec,
+        scale: u8,
+        disp: i32,
+        mask: RegSpec,
+    },
+    /// `MemBaseIndexScale` under a mask register.
+    MemBaseIndexScaleMasked {
+        base: RegSpec,
+        index: RegSpec,
+        scale: u8,
+        mask: RegSpec,
+    },
+    /// `MemBaseIndexScaleDisp` under a mask register.
+    MemBaseIndexScaleDispMasked {
+        base: RegSpec,
+        index: RegSpec,
+        scale: u8,
+        disp: i32,
+        mask: RegSpec,
+    },
+}
+
+/// Where in the encoding an operand comes from. Immediates and displacements are little-endian.
+///
+/// Source: Intel SDM volume 2, sections 2.1.3 to 2.1.5.
+#[derive(Clone, Copy, PartialEq, Eq, Debug, Drop)]
+pub enum Slot {
+    /// No operand.
+    Nothing,
+    /// A register of the field reg or of the opcode byte, or one that the operation names, as the accumulator.
+    Reg,
+    /// The register of the field rm, that of the opcode byte of XCHG, or one that the operation names, as the port dx.
+    Rm,
+    /// A register that the operation names after two others, as cl of SHLD.
+    Third,
+    /// A signed immediate of 1 byte. The 1 of a shift by one, which no byte spells, is one too.
+    ImmI8,
+    /// An unsigned immediate of 1 byte. The 1 of F1 and the 3 of CC, which no byte spells, are such too.
+    ImmU8,
+    /// A signed immediate of 2 bytes.
+    ImmI16,
+    /// An unsigned immediate of 2 bytes.
+    ImmU16,
+    /// A signed immediate of 4 bytes, or of 2 where it is the distance of XBEGIN under 66.
+    ImmI32,
+    /// A signed immediate of 8 bytes, or of 4 that are extended to 64 bits.
+    ImmI64,
+    /// An unsigned immediate beside another one: the first of ENTER, of 2 bytes, and the last of EXTRQ and INSERTQ,
+    /// of 1 byte.
+    ImmInDisp,
+    /// An address of 4 bytes: a displacement without base and index, or that of A0 to A3 under 67.
+    DispU32,
+    /// An address of 8 bytes, that of A0 to A3.
+    DispU64,
+    /// Memory at a base, or at the register of a string operation with one memory operand.
+    Deref,
+    /// Memory at esi: of MOVS and CMPS under 67.
+    DerefEsi,
+    /// Memory at edi: of MOVS and CMPS under 67.
+    DerefEdi,
+    /// Memory at rsi: of MOVS and CMPS.
+    DerefRsi,
+    /// Memory at rdi: of MOVS and CMPS.
+    DerefRdi,
+    /// Memory at a base and a displacement other than 0.
+    Disp,
+    /// Memory at an index times its scale.
+    IndexScale,
+    /// Memory at an index times its scale and a displacement other than 0.
+    IndexScaleDisp,
+    /// Memory at a base and an index times its scale.
+    BaseIndexScale,
+    /// Memory at a base, an index times its scale and a displacement other than 0.
+    BaseIndexScaleDisp,
+}
+
+/// A memory size in bytes, as the row of an instruction has it, whether or not an operand is memory.
+#[derive(Clone, Copy, PartialEq, Eq, Debug, Drop)]
+pub struct MemoryAccessSize {
+    size: u8,
+}
+
+impl MemoryAccessSize {
+    /// The size of so many bytes, which are at most 64 in what is decoded; 63 means one that the processor
+    /// decides.
+    pub fn new(size: u8) -> MemoryAccessSize
+        ensures { result ≡ access_size size }
+    {
+        MemoryAccessSize { size }
+    }
+
+    /// The size in bytes, or `None` where the processor decides it, as for the state that XSAVE stores.
+    pub fn bytes_size(&self) -> Option<u8>
+        ensures { result ≡ bytes_size self.now }
+    {
+        if self.size == UNDECIDED_SIZE {
+            None
+        } else {
+            Some(self.size)
+        }
+    }
+}
+
+impl Slot {
+    /// Whether the slot is one of memory.
+    pub fn is_memory(&self) -> bool
+        ensures { result ≡ is_memory_slot self.now }
+    {
+        matches!(
+            *self,
+            Slot::DispU32
+                | Slot::DispU64
+                | Slot::Deref
+                | Slot::DerefEsi
+                | Slot::DerefEdi
+                | Slot::DerefRsi
+                | Slot::DerefRdi
+                | Slot::Disp
+                | Slot::IndexScale
+                | Slot::IndexScaleDisp
+                | Slot::BaseIndexScale
+                | Slot::BaseIndexScaleDisp
+        )
+    }
+}
+
+/// The parts of an address, whose index counts as often as its scale says.
+fn parts(
+    address_size: bool,
+    base: Option<RegSpec>,
+    index: Option<RegSpec>,
+    scale: u8,
+    disp: i32,
+) -> AddressParts
+    ensures { result ≡ record
+        { address_size = address_size; base = base; index = index; scale = scale; disp = disp } }
+{
+    AddressParts {
+        address_size,
+        base,
+        index,
+        scale,
+        disp,
+    }
+}
+
+/// A number of 64 bits, or its low 32 bits.
+fn shortened(address: u64, address_size: bool) -> u64
+    ensures { result ≡ address % modulus_by address_size }
+{
+    if address_size {
+        address % 0x1_0000_0000
+    } else {
+        address
+    }
+}
+
+impl Operand {
+    /// Whether the operand is memory, masked memory among it.
+    pub fn is_memory(&self) -> bool
+        ensures { result ≡ is_memory_operand self.now }
+    {
+        matches!(
+            *self,
+            Operand::AbsoluteU32 { .. }
+                | Operand::AbsoluteU64 { .. }
+                | Operand::MemDeref { .. }
+                | Operand::Disp { .. }
+                | Operand::MemIndexScale { .. }
+                | Operand::MemIndexScaleDisp { .. }
+                | Operand::MemBaseIndexScale { .. }
+                | Operand::MemBaseIndexScaleDisp { .. }
+                | Operand::MemDerefMasked { .. }
+                | Operand::DispMasked { .. }
+                | Operand::MemIndexScaleMasked { .. }
+                | Operand::MemIndexScaleDispMasked { .. }
+                | Operand::MemBaseIndexScaleMasked { .. }
+                | Operand::MemBaseIndexScaleDispMasked { .. }
+        )
+    }
+
+    /// The width in bytes of a register or an immediate. Memory has none: its size is the instruction's.
+    pub fn width(&self) -> Option<u8>
+        ensures { result ≡ operand_width self.now }
+    {
+        match *self {
+            Operand::Register { reg } => Some(reg.width()),
+            Operand::RegisterMaskMerge { reg, .. } => Some(reg.width()),
+            Operand::ImmediateI8 { .. } | Operand::ImmediateU8 { .. } => Some(1),
+            Operand::ImmediateI16 { .. } | Operand::ImmediateU16 { .. } => Some(2),
+            Operand::ImmediateI32 { .. } | Operand::ImmediateU32 { .. } => Some(4),
+            Operand::ImmediateI64 { .. } | Operand::ImmediateU64 { .. } => Some(8),
+            _ => None,
+        }
+    }
+
+    /// The address of a memory operand, modulo 2^64, or modulo 2^32 where `address_size` (67) holds; `next` is the
+    /// address after the instruction. `None` where the operand isn't memory or is masked.
+    ///
+    /// Segment bases are not added. Source: Intel SDM volume 1, section 3.7.5.
+    pub fn address(&self, address_size: bool, regs: &RegFile, next: u64) -> Option<u64>
+        ensures { result ≡ operand_address address_size self.now regs.now.regs next }
+    {
+        let parts = match *self {
+            Operand::AbsoluteU64 { addr } => return Some(shortened(addr, address_size)),
+            Operand::AbsoluteU32 { addr } => parts(address_size, None, None, 1, addr.cast_signed()),
+            Operand::MemDeref { base } => parts(address_size, Some(base), None, 1, 0),
+            Operand::Disp { base, disp } => parts(address_size, Some(base), None, 1, disp),
+            Operand::MemIndexScale { index, scale } => {
+                parts(address_size, None, Some(index), scale, 0)
+            }
+            Operand::MemIndexScaleDisp { index, scale, disp } => {
+                parts(address_size, None, Some(index), scale, disp)
+            }
+            Operand::MemBaseIndexScale { base, index, scale } => {
+                parts(address_size, Some(base), Some(index), scale, 0)
+            }
+            Operand::MemBaseIndexScaleDisp {
+                base,
+                index,
+                scale,
+                disp,
+            } => parts(address_size, Some(base), Some(index), scale, disp),
+            _ => return None,
+        };
+        Some(parts.value(regs, next))
+    }
+}

@@ -1,0 +1,252 @@
+//! The vocabulary of the rows' records.
+ghost use Rattle.std.specs.Prelude.{◌≡◌, ◌<◌, ℕ};
+ghost use Rattle.x86_operands.specs.Plans.{with_verdict, reads, named_by_suffix, refused, refuses, memory_only, register_only, size_by, register_at, accumulator_of, immediate_of};
+
+pub use x86_fields::UNDECIDED_SIZE;
+use x86_fields::{ModRM, Prefixes, extend};
+use x86_opcodes::Opcode;
+use x86_regs::{RegSpec, RegisterClass};
+
+/// The slot of a register that isn't known from the encoding of its operand.
+#[derive(Clone, Copy, Drop)]
+pub enum RegisterSlot {
+    Reg,
+    Rm,
+    Third,
+}
+
+/// The slot of a string operand.
+#[derive(Clone, Copy, Drop)]
+pub enum PointerSlot {
+    Deref,
+    DerefEsi,
+    DerefEdi,
+    DerefRsi,
+    DerefRdi,
+}
+
+/// What a record has for one operand, in the letters of the Intel SDM, volume 2, appendix A.2.
+#[derive(Clone, Copy, Drop)]
+pub enum OperandEncoding {
+    /// The register of reg, with R.
+    G(RegisterClass),
+    /// The mm register of reg, without R.
+    Gmm,
+    /// The register of rm with B, or the memory operand.
+    E(RegisterClass),
+    /// The mm register of rm without B, or the memory operand.
+    Emm,
+    /// `E` in the memory form.
+    M,
+    /// `E` in the register form.
+    U(RegisterClass),
+    /// `Emm` in the register form.
+    Umm,
+    /// A register that the record names.
+    Fixed(RegisterSlot, RegSpec),
+    /// Memory at a register that the record names.
+    Pointer(PointerSlot, RegSpec),
+    /// A signed immediate of 1 byte.
+    I8,
+    /// A signed immediate of 2 bytes.
+    I16,
+    /// A signed immediate of 4 bytes.
+    I32,
+    /// A signed immediate of 4 bytes, extended to 64 bits.
+    I64,
+    /// A signed immediate of 2 bytes, extended to 32 bits.
+    I32From16,
+    /// A signed immediate of 8 bytes.
+    I64Whole,
+    /// An unsigned immediate of 1 byte.
+    U8,
+    /// An unsigned immediate of 2 bytes.
+    U16,
+    /// An unsigned number of 16 bits in slot `ImmInDisp`, from 1 byte.
+    X8,
+    /// An unsigned number of 16 bits in slot `ImmInDisp`, from 2 bytes.
+    X16,
+    /// An immediate that no byte spells.
+    ConstantI8(i8),
+    /// An unsigned immediate that no byte spells.
+    ConstantU8(u8),
+    /// An address of 4 bytes.
+    Address32,
+    /// An address of 8 bytes.
+    Address64,
+}
+
+/// The operand encodings of a record, at most four.
+#[derive(Clone, Copy, Drop)]
+pub enum OperandEncodings {
+    Zero,
+    One(OperandEncoding),
+    Two(OperandEncoding, OperandEncoding),
+    Three(OperandEncoding, OperandEncoding, OperandEncoding),
+    Four(OperandEncoding, OperandEncoding, OperandEncoding, OperandEncoding),
+}
+
+/// After which byte a record refuses.
+#[derive(Clone, Copy, Drop)]
+pub enum Moment {
+    /// After ModRM.
+    AtModRM,
+    /// After SIB and displacement.
+    AfterAddress,
+    /// After the last byte that the row has.
+    AfterSuffix,
+}
+
+/// Why a record refuses. No record refuses for want of bytes or for length.
+#[derive(Clone, Copy, Drop)]
+pub enum Fault {
+    BadOpcode,
+    BadOperand,
+    Incomplete,
+}
+
+/// Whether a record accepts or refuses.
+#[derive(Clone, Copy, Drop)]
+pub enum Verdict {
+    Accepts,
+    /// A last byte names the opcode, as in 3DNow, or is refused.
+    NamedBySuffix,
+    Refuses(Fault, Moment),
+}
+
+/// What a record changes in the prefixes of its answer.
+#[derive(Clone, Copy, Drop)]
+pub enum PrefixChange {
+    Keeps,
+    ClearsOperandSize,
+    SetsEs,
+}
+
+/// Whether a row has a ModRM byte, and how it is read.
+#[derive(Clone, Copy, Drop)]
+pub enum ModrmUse {
+    /// No ModRM byte.
+    Absent,
+    /// A ModRM byte, whose memory forms have SIB and displacement.
+    EitherForm,
+    /// A ModRM byte of which every mod is a register form.
+    Registers,
+}
+
+/// What a record has after ModRM, and what it yields.
+#[derive(Clone, Copy, Drop)]
+pub struct Plan {
+    /// The operation, unless a suffix names it.
+    pub opcode: Opcode,
+    /// What each operand is, in their order, which is that of their immediates too.
+    pub encodings: OperandEncodings,
+    /// The memory size in bytes, which the row has for the operation: 0 where it has none, and 63 where the processor
+    /// decides.
+    pub size: u8,
+    /// What changes in the prefixes of the answer.
+    pub change: PrefixChange,
+    /// Whether there is an answer.
+    pub verdict: Verdict,
+}
+
+fn with_verdict(verdict: Verdict, opcode: Opcode, encodings: OperandEncodings, size: u8) -> Plan
+    ensures { result ≡ with_verdict verdict opcode encodings size }
+{
+    Plan {
+        opcode,
+        encodings,
+        size,
+        change: PrefixChange::Keeps,
+        verdict,
+    }
+}
+
+/// The plan that accepts.
+pub fn reads(opcode: Opcode, encodings: OperandEncodings, size: u8) -> Plan
+    ensures { result ≡ reads opcode encodings size }
+{
+    with_verdict(Verdict::Accepts, opcode, encodings, size)
+}
+
+/// The plan whose opcode is named by a last byte.
+pub fn named_by_suffix(encodings: OperandEncodings, size: u8) -> Plan
+    ensures { result ≡ named_by_suffix encodings size }
+{
+    with_verdict(Verdict::NamedBySuffix, Opcode::Invalid, encodings, size)
+}
+
+/// The plan that refuses.
+pub fn refuses(fault: Fault, moment: Moment) -> Plan
+    ensures { result ≡ refuses fault moment }
+{
+    with_verdict(
+        Verdict::Refuses(fault, moment),
+        Opcode::Invalid,
+        OperandEncodings::Zero,
+        0,
+    )
+}
+
+/// The plan, refused where the test holds.
+pub fn refused(test: bool, fault: Fault, moment: Moment, plan: Plan) -> Plan
+    ensures { result ≡ refused test fault moment plan }
+{
+    if test {
+        Plan {
+            verdict: Verdict::Refuses(fault, moment),
+            ..plan
+        }
+    } else {
+        plan
+    }
+}
+
+/// The plan, for which a register form is refused at ModRM.
+pub fn memory_only(modrm: ModRM, plan: Plan) -> Plan
+    ensures { result ≡ memory_only modrm plan }
+{
+    let register = !modrm.is_memory();
+    refused(register, Fault::BadOperand, Moment::AtModRM, plan)
+}
+
+/// The plan, with a refusal of the memory form after the address.
+pub fn register_only(modrm: ModRM, plan: Plan) -> Plan
+    ensures { result ≡ register_only modrm plan }
+{
+    let memory = modrm.is_memory();
+    refused(memory, Fault::BadOperand, Moment::AfterAddress, plan)
+}
+
+/// The size in the memory form, or in the register form.
+pub fn size_by(modrm: ModRM, memory: u8, register: u8) -> u8
+    ensures { result ≡ size_by modrm memory register }
+{
+    if modrm.is_memory() { memory } else { register }
+}
+
+/// The register that an opcode byte carries, with B.
+pub fn register_at(num: u8, class: RegisterClass, prefixes: &Prefixes) -> RegSpec
+    requires { num < 8 }
+    ensures { result ≡ register_at num class prefixes.now }
+{
+    prefixes.register(class, extend(prefixes.has_b(), num))
+}
+
+/// Register 0 of a class.
+pub fn accumulator_of(class: RegisterClass, prefixes: &Prefixes) -> OperandEncoding
+    ensures { result ≡ accumulator_of class prefixes.now }
+{
+    OperandEncoding::Fixed(RegisterSlot::Reg, prefixes.register(class, 0))
+}
+
+/// The immediate of a class v.
+#[inline(always)]
+pub fn immediate_of(class: RegisterClass) -> OperandEncoding
+    ensures { result ≡ immediate_of class }
+{
+    match class {
+        RegisterClass::W => OperandEncoding::I16,
+        RegisterClass::Q => OperandEncoding::I64,
+        _ => OperandEncoding::I32,
+    }
+}
