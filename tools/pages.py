@@ -17,8 +17,7 @@ Examples of README.md, docs/GUIDE.md and docs/CRATES.md: each indented block is 
 further to the right.
 
 Quoted code of the pages of `QUOTING`: each indented line that isn't a command, nor of a drawing, is a line of some file of crates/, letter
-by letter. Definitions of docs/THEOREM.md: each indented paragraph is in a file of specs/ or src/, line by line, and is whole there: a
-definition from its first line to its last, and a signature up to its body. Its links are to files that are there.
+by letter. The links of the pages of `LINKING` are to files and headings that are there (tools/theorem.py writes their code).
 
 Reasons of tools/compare: those of tools/judge/reasons.c are the rows of their section of docs/DIFFERENCES.md. The picture docs/speed.svg is
 what tools/chart.py draws.
@@ -56,6 +55,7 @@ TIMES, SPARE_SECONDS, SPARE_KILOBYTES = 3, 1, 8192
 CODE = [*(f"crates/x86_vectors/src/{name}.rt" for name in ("guide_tests", "rebuilder", "two_buffers")), "examples/own"]
 TESTS = ["crates/x86_vectors/src", "crates/x86_runs/src"]
 QUOTING = ["docs/ROWS.md", "docs/ENCODING.md", "docs/ARCHITECTURE.md", "CONTRIBUTING.md"]
+LINKING = ["docs/THEOREM.md", "docs/DEFINITIONS.md"]
 TOOLS = ["objcopy", "objdump", "nm", "readelf", "xxd", "hexdump", "od", "paste", "xargs", "perl"]
 
 
@@ -246,38 +246,19 @@ def read_quotes(page):
     return len(missing)
 
 
-def is_whole(lines, start, end):
-    """Whether nothing is left out of what these lines have: of a definition none of its equations, of a signature none of its clauses."""
-    before, after = ([lines[start - 1].strip()] if start else [""]), ([lines[end].strip()] if end < len(lines) else [""])
-    begins = before[0] == "" or before[0].startswith(("--", "//", "#[")) or before[0].endswith("{")
-    return begins and (after[0] in ("", "{", "{}") or lines[end - 1].strip() in ("}", "};"))
+def anchors(page):
+    """What a link may name of a page: its headings, in small letters, with hyphens for blanks."""
+    headings = re.findall(r"^#+ (.*)$", (TOP / page).read_text(), re.M)
+    return {re.sub(r"[^\w\- ]", "", heading.lower()).replace(" ", "-") for heading in headings}
 
 
-def is_quoted(block, texts):
-    """Whether a file has these lines, one below the other, and whole."""
-    for text in texts:
-        if block[0].strip() in text:
-            lines = text.split("\n")
-            for at in range(len(lines) - len(block) + 1):
-                if lines[at].strip() == block[0].strip() and dedent(lines[at : at + len(block)]) == dedent(block):
-                    if is_whole(lines, at, at + len(block)):
-                        return True
-    return False
-
-
-def read_definitions(page):
-    """Looks for the paragraphs of indented lines of a page in the specs/ and src/ of all crates, and answers how many aren't whole there."""
-    files = [file for part in ("specs/**/*.antt", "src/**/*.rt") for file in (TOP / "crates").glob(f"*/{part}")]
-    texts = [file.read_text() for file in files]
+def read_links(page):
+    """Looks for what the links of a page of docs/ name, and answers how many name nothing."""
     wrong = 0
-    for block in blocks(page):
-        for part in "\n".join(block).split("\n\n"):
-            if not is_quoted(part.split("\n"), texts):
-                print(f"pages: {page}: no source has these lines, whole:\n{part}", file=sys.stderr)
-                wrong += 1
-    for link in re.findall(r"\]\(\.\./([^)#]+)\)", (TOP / page).read_text()):
-        if not (TOP / link).exists():
-            print(f"pages: {page}: a link to nothing: {link}", file=sys.stderr)
+    for link, heading in re.findall(r"\]\((?!https?:)([^)#]+)#?([^)]*)\)", (TOP / page).read_text()):
+        target = TOP / "docs" / link
+        if not target.exists() or (heading and heading not in anchors(target)):
+            print(f"pages: {page}: a link to nothing: {link} {heading}", file=sys.stderr)
             wrong += 1
     return wrong
 
@@ -302,7 +283,7 @@ def read_reasons(page):
 
 def main():
     wrong = read_guide("docs/GUIDE.md", CODE) + read_guide("README.md", CODE) + read_guide("docs/CRATES.md", TESTS) + sum(read_quotes(page) for page in QUOTING)
-    wrong += read_definitions("docs/THEOREM.md") + read_chart() + read_reasons("docs/DIFFERENCES.md")
+    wrong += sum(read_links(page) for page in LINKING) + read_chart() + read_reasons("docs/DIFFERENCES.md")
     if os.access(PROGRAM, os.X_OK):
         wrong += run_examples("README.md") + run_examples("docs/USAGE.md") + run_statuses("docs/USAGE.md") + run_texts("docs/USAGE.md")
         wrong += run_examples("docs/USAGE.md", LIBRARY, in_pieces=True) + run_examples("docs/USAGE.md", KERNEL)

@@ -1,93 +1,281 @@
 #!/usr/bin/env python3
-"""Writes docs/THEOREM.md from tools/theorem.txt and the sources.
+"""Writes docs/THEOREM.md and docs/DEFINITIONS.md from tools/theorem.txt, tools/definitions.txt and the sources.
 
-    python3 tools/theorem.py            writes the page
-    python3 tools/theorem.py --check    says whether the page is what it would write
+    python3 tools/theorem.py            writes the pages
+    python3 tools/theorem.py --check    says whether the pages are what it would write
 
-tools/theorem.txt is the page with two kinds of lines in place of code, whose paths are below crates/:
+The templates are the pages with four kinds of lines in place of code, whose paths are below crates/:
 
-    @@ PATH NAME..     each paragraph of the file that defines one of the names
-    @! PATH BEGINNING  the item whose first line begins so: a function up to its body, any other item up to its closing brace
+    @@ PATH NAME..       the definitions with these names, in this order
+    @@ PATH *            those of the file that a definition of the pages uses, and that THEOREM.md doesn't show
+    @! PATH BEGINNING    the item whose first line begins so: a function up to its body, any other item up to its closing brace
+    @- PATH NAME.. | ..  a row of a table: names that are linked and not shown, and what they are. `*` are all of the file
+    @index               where each name of both pages is
+
+A name that a definition or a clause uses must be shown, linked, or explained in Notation, and has one definition; a name in
+the text of a page must be one of these too. A clause of the table of THEOREM.md must be one of the call that it names.
 """
 
 import re
 import sys
-from pathlib import Path
 
-TOP = Path(__file__).resolve().parent.parent
-TEMPLATE = TOP / "tools" / "theorem.txt"
-PAGE = TOP / "docs" / "THEOREM.md"
+sys.dont_write_bytecode = True
+from sources import CRATES, TOP, Missing, clause_uses, definition, indent, module, uses
+
+PAGES = {"docs/THEOREM.md": "tools/theorem.txt", "docs/DEFINITIONS.md": "tools/definitions.txt"}
+MOST = 550
+# Words of the text that are no names of crates/.
+OTHER = set("strict data record run rows x86 list main h p f e x y r c d n k s t m v w i l unfolding".split())
 
 
 def fail(message):
     sys.exit(f"theorem: {message}")
 
 
-def indented(lines):
-    """The lines as a block of code. The definitions of a module keep their indentation."""
-    least = min(len(line) - len(line.lstrip()) for line in lines if line)
-    cut = least if least > 2 else 0
-    return "\n".join(("    " + line[cut:]).rstrip() for line in lines)
+def anchor(heading):
+    return re.sub(r"[^\w\- ]", "", heading.lower()).replace(" ", "-")
 
 
-def paragraphs(path):
-    return [part.split("\n") for part in re.split(r"\n(?:[ ]*\n)+", (TOP / "crates" / path).read_text().strip("\n"))]
-
-
-def definitions(path, names):
-    """The paragraphs that define these names, each once."""
-    parts = paragraphs(path)
+def aliases(path, names):
+    """What the file calls otherwise than where it is defined, as far as these definitions do."""
     found = []
+    text = "\n".join(line for name in names for line in module(path).text(name))
+    for name, (words, own) in module(path).imports.items():
+        if own == "*" and re.search(rf"(?<![\w.]){name}\.", text):
+            found.append(f"{words[-2] if words[-1] == 'TheVariants' else words[-1]} as {name}")
+        elif own not in ("*", name) and re.search(rf"(?<![\w.]){name}(?![\w])", text):
+            found.append(f"{words[-2] + '.' if words[-1] == 'TheVariants' else ''}{own} as {name}")
+    return [f"use {', '.join(found)}"] if found else []
+
+
+def without_comments(lines):
+    """The lines without the comments above a definition. Those of a record's fields stay."""
+    kept = next(at for at, line in enumerate(lines) if not line.lstrip().startswith("--"))
+    return lines[kept:]
+
+
+def block(path, names, brief):
+    """The definitions, with the heads of the modules that they are in; where it is brief, without the comments above them."""
+    file, out, inside = module(path), [], []
     for name in names:
-        head = re.compile(rf"\s*(abbrev |unfoldable )?(pub )?(record |data )?{re.escape(name)}( :|\s[({{]| =)")
-        hits = [part for part in parts if any(head.match(line) for line in part)]
-        if not hits:
-            fail(f"{path} doesn't define {name}")
-        if hits[0] not in found:
-            found.append(hits[0])
-    return "\n\n".join(indented(part) for part in found)
+        lines = file.text(name)
+        above = file.heads_above(file.spans[name][1])
+        out += [""] if out and not brief and (len(lines) > 4 or not lines[0].lstrip().startswith("--")) else []
+        for head in above:
+            if head not in inside:
+                out += without_comments(head) if brief else head
+        inside = above
+        out += without_comments(lines) if brief else lines
+    return out + aliases(path, names)
+
+
+def joined(lines):
+    """The lines of a value, of which short ones are in one line as far as there is room."""
+    out = []
+    for line in lines:
+        if out and line.endswith(";") and out[-1].endswith(";") and indent(line) == indent(out[-1]) and len(out[-1]) + len(line.strip()) < 114:
+            out[-1] += " " + line.strip()
+        else:
+            out.append(line)
+    return out
 
 
 def item(path, beginning):
-    """A function without its body, or another item whole."""
-    lines = (TOP / "crates" / path).read_text().split("\n")
+    """The lines of a function without its body, or of another item whole."""
+    lines = (CRATES / path).read_text().split("\n")
     starts = [at for at, line in enumerate(lines) if line.strip().startswith(beginning)]
-    if not starts:
-        fail(f"{path} has no line that begins with: {beginning}")
-    first = starts[0]
-    margin = " " * (len(lines[first]) - len(lines[first].lstrip()))
+    if len(starts) != 1:
+        fail(f"{path} has {len(starts)} lines that begin with: {beginning}")
+    margin = " " * indent(lines[starts[0]])
     if beginning.startswith("pub fn"):
-        end = next(at for at in range(first, len(lines)) if lines[at].strip() in ("{", "{}"))
+        end = next(at for at in range(starts[0], len(lines)) if lines[at].strip() in ("{", "{}"))
     else:
-        end = lines.index(margin + "}", first) + 1
-    return indented(lines[first:end])
+        end = lines.index(margin + "}", starts[0]) + 1
+    return [line[len(margin) :] for line in lines[starts[0] : end]]
 
 
-def page():
-    out = []
-    source = None
-    for line in TEMPLATE.read_text().splitlines():
-        if line.startswith("#"):
-            source = None
-        if not line.startswith(("@@ ", "@! ")):
-            out.append(line)
-            continue
-        kind, path, rest = line.split(" ", 2)
-        if path != source:
-            out.append(f"From [{path}](../crates/{path}):\n")
-        source = path
-        out.append(definitions(path, rest.split()) if kind == "@@" else item(path, rest))
-    return "\n".join(out) + "\n"
+class Pages:
+    def __init__(self):
+        self.templates = {page: (TOP / template).read_text().splitlines() for page, template in PAGES.items()}
+        # where each definition is shown or linked: its file and name to a link
+        self.places, self.linked, self.all_of, self.types, self.std, self.headings = {}, {}, {}, {}, set(), {}
+        for page in PAGES:
+            self.read(page)
+        self.follow()
+
+    def commands(self, page):
+        heading = ""
+        for line in self.templates[page]:
+            heading = line.lstrip("# ") if line.startswith("#") else heading
+            if re.match(r"@[@!-] ", line):
+                kind, path, rest = line.split(" ", 2)
+                link = f"{page.split('/')[1]}#{anchor(heading)}"
+                self.headings[link] = f"{page[5:-3]}: {heading}".replace("`", "")
+                yield kind, path, rest, link
+
+    def read(self, page):
+        for kind, path, rest, link in self.commands(page):
+            names = rest.split(" | ")[0].split()
+            if kind == "@!":
+                if found := re.match(r"pub (?:struct|enum|trait) (\w+)", rest):
+                    self.types[path, found[1]] = link
+            elif kind == "@-" or names == ["*"]:
+                for name in names:
+                    (self.linked if kind == "@-" else self.all_of)[path, name] = link
+            else:
+                for name in names:
+                    module(path).text(name)
+                    if (path, name) in self.places:
+                        fail(f"{name} of {path} is shown twice")
+                    self.places[path, name] = link
+        for path, name in self.linked:
+            if name != "*":
+                module(path).text(name)
+
+    def follow(self):
+        """Finds what the shown definitions use, until all is shown or linked."""
+        todo, seen = list(self.places), set()
+        users = {key: "docs/THEOREM.md" for key in todo}
+        for page in PAGES:
+            for kind, path, rest, _ in self.commands(page):
+                if kind == "@!" and path.endswith(".rt"):
+                    todo += self.note(clause_uses(path, item(path, rest)))
+        while todo:
+            path, name = key = todo.pop()
+            if key in seen:
+                continue
+            seen.add(key)
+            if key not in self.places:
+                link = self.linked.get(key) or self.linked.get((path, "*"))
+                if link:
+                    self.places[key] = None
+                    continue
+                if (path, "*") not in self.all_of:
+                    fail(f"{name} is neither shown nor linked: {path}, used by {users.get(key, 'a clause')}")
+                self.places[key] = self.all_of[path, "*"]
+            for other in (found := self.note(uses(path, name))):
+                users.setdefault(other, name)
+            todo += found
+
+    def note(self, found):
+        """The definitions among what was found; types and names of std are kept."""
+        for at in found:
+            if at[0] == "type":
+                self.types.setdefault(at[1:], None)
+            elif at[0] == "std":
+                self.std.add(at[1])
+        return [at[1:] for at in found if at[0] == "spec"]
+
+    def index(self):
+        """A row for each name: where it is shown, and its file."""
+        rows = ["| name | shown in | source |", "|---|---|---|"]
+        keys = {*self.places, *self.types, *(key for key in self.linked if key[1] != "*")}
+        for path, name in sorted(keys, key=lambda key: (key[1].lower(), key)):
+            place = self.places.get((path, name)) or self.types.get((path, name))
+            shown = f"[{self.headings[place]}]({place})" if place else "linked"
+            rows.append(f"| `{name}` | {shown} | [{path}](../crates/{path}) |")
+        return "\n".join(rows)
+
+    def code(self, kind, path, rest, brief):
+        """The lines that stand for a command."""
+        if kind != "@@":
+            lines = item(path, rest)
+            return joined(lines) if path.endswith(".antt") else lines
+        names = rest.split() if rest != "*" else [n for n in module(path).spans if self.places.get((path, n)) == self.all_of[path, "*"]]
+        if not names:
+            fail(f"nothing uses what {path} defines: take its line out of tools/definitions.txt")
+        return block(path, names, brief)
+
+    def text(self, page):
+        out, source, brief = [], None, page == "docs/THEOREM.md"
+        for line in self.templates[page]:
+            source = None if line.startswith("#") else source
+            if line == "@index":
+                out.append(self.index())
+            elif not re.match(r"@[@!-] ", line):
+                out.append(line)
+            elif line.startswith("@- "):
+                _, path, rest = line.split(" ", 2)
+                names, _, what = rest.partition(" | ")
+                shown = ", ".join(f"`{name}`" for name in names.split()) if names != "*" else "all"
+                out.append(f"| [{path}](../crates/{path}) | {shown} | {what} |")
+            else:
+                kind, path, rest = line.split(" ", 2)
+                if path != source and not brief:
+                    out.append(f"From [{path}](../crates/{path}):\n")
+                source = path
+                out += [("    " + it).rstrip() for it in self.code(kind, path, rest, brief)]
+        return "\n".join(out) + "\n"
+
+    # ---- what a page must have
+
+    def names(self):
+        whole = [path for path, name in self.linked if name == "*"]
+        return {name for _, name in [*self.places, *self.types, *self.linked]} | {name for path in whole for name in module(path).spans}
+
+    def check(self, texts):
+        twice = {}
+        for path, name in {*self.places, *self.types}:
+            twice.setdefault(name, []).append(path)
+        for name, paths in sorted(twice.items()):
+            if len(paths) > 1:
+                fail(f"{name} has two definitions: {' and '.join(sorted(paths))}")
+        explained = set(re.findall(r"[\w\-]+", "".join(re.findall(r"`[^`]*`", "".join(section(text, "Notation") for text in texts.values())))))
+        for name in sorted(self.std - explained):
+            fail(f"Notation doesn't explain {name}, a name of std")
+        self.check_text(texts, explained)
+        check_clauses(texts["docs/THEOREM.md"])
+        if len(texts["docs/THEOREM.md"].splitlines()) > MOST:
+            fail(f"docs/THEOREM.md has {len(texts['docs/THEOREM.md'].splitlines())} lines, and may have {MOST}")
+
+    def check_text(self, texts, explained):
+        known = self.names() | explained | OTHER | fields_and_functions(texts)
+        for page, text in texts.items():
+            prose = "\n".join(line for line in text.splitlines() if not line.startswith("    "))
+            for word in re.findall(r"`([A-Za-z_][\w\-]*)(?:`| )", prose):
+                if word not in known:
+                    fail(f"{page} has the name {word} in its text, which is neither shown nor linked")
+
+
+def section(text, heading):
+    parts = re.split(rf"^## {heading}.*\n", text, maxsplit=1, flags=re.M)
+    return parts[1].split("\n## ")[0] if len(parts) > 1 else ""
+
+
+def fields_and_functions(texts):
+    """The fields and cases of what the pages show, the functions of src/, and the crates."""
+    code = "\n".join(line for text in texts.values() for line in text.splitlines() if line.startswith("    "))
+    found = set(re.findall(r"(?:pub )?(\w+) ?: ", code)) | {path.name for path in CRATES.iterdir()}
+    for path in CRATES.glob("*/src/**/*.rt"):
+        found |= set(re.findall(r"(?:\b(?:fn|trait|struct|enum|const) |^    )(\w+)", path.read_text(), re.M))
+    return found
+
+
+def check_clauses(text):
+    """Each `call.clause` of the page is a clause of a public function of that name."""
+    clauses = set()
+    for path in CRATES.glob("*/src/**/*.rt"):
+        for name, contract in re.findall(r"\bfn (\w+)\b([^;{]*(?:ensures \w* ?\{.*?)?)\n *\{", path.read_text(), re.S):
+            clauses |= {f"{name}.{clause}" for clause in re.findall(r"ensures (\w+) \{", contract)}
+    for call in re.findall(r"`([a-z_]+\.[a-z_]+)`", "\n".join(line for line in text.splitlines() if line.startswith("|"))):
+        if call not in clauses:
+            fail(f"docs/THEOREM.md names {call}, and no call has that clause")
 
 
 def main():
-    if sys.argv[1:] == ["--check"]:
-        if PAGE.read_text() != page():
-            fail("docs/THEOREM.md isn't what tools/theorem.py writes")
-    elif sys.argv[1:]:
+    if sys.argv[1:] not in ([], ["--check"]):
         sys.exit(__doc__)
-    else:
-        PAGE.write_text(page())
+    try:
+        pages = Pages()
+        texts = {page: pages.text(page) for page in PAGES}
+    except Missing as missing:
+        fail(missing)
+    pages.check(texts)
+    for page, text in texts.items():
+        if not sys.argv[1:]:
+            (TOP / page).write_text(text)
+        elif (TOP / page).read_text() != text:
+            fail(f"{page} isn't what tools/theorem.py writes")
 
 
 main()

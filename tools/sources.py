@@ -1,0 +1,216 @@
+"""What the definitions of crates/ are called, where they are, and which names each of them uses. tools/theorem.py reads it."""
+
+import functools
+import re
+from pathlib import Path
+
+TOP = Path(__file__).resolve().parent.parent
+CRATES = TOP / "crates"
+WORD = re.compile(r"(?<![\w.\-'])[A-Za-z_][\w\-']*(?:\.[A-Za-z_][\w\-']*)*")
+KINDS = r"(?:abbrev|unfoldable|pub|record|data)"
+# The first line of a definition: its kinds, its name, and its arguments or its type.
+HEAD = re.compile(rf"( *)((?:{KINDS} )*)([A-Za-z_][\w\-']*)(?= :| [({{])")
+BINDER = re.compile(r"[({]([A-Za-z_][\w\-' ]*?) : ")
+KEYWORDS = set("abbrev unfoldable pub record data module where let in use as if then else λ _ Type fn ensures ghost impl trait type".split())
+
+
+class Missing(Exception):
+    """A name that the sources don't define as they should."""
+
+
+def indent(line):
+    return len(line) - len(line.lstrip(" "))
+
+
+def module_file(words):
+    """The file of a module of specs/, or None for a library's."""
+    crate, rest = words[0], words[2:]
+    return f"{crate}/specs/{'/'.join(rest)}.antt" if (CRATES / crate).is_dir() else None
+
+
+@functools.cache
+def type_file(crate, name):
+    """The file of src/ that has a type."""
+    for path in sorted((CRATES / crate / "src").rglob("*.rt")):
+        if re.search(rf"^(?:pub(?:\([a-z]+\))? )?(?:struct|enum|trait|type) {name}\b", path.read_text(), re.M):
+            return str(path.relative_to(CRATES))
+    raise Missing(f"{crate}/src has no type {name}")
+
+
+class Module:
+    """A file of specs/ or src/: what it imports, and what it defines, each with its lines."""
+
+    def __init__(self, path):
+        self.path = path
+        if not (CRATES / path).is_file():
+            raise Missing(f"there is no file {path}")
+        self.lines = (CRATES / path).read_text().split("\n")
+        self.imports = {}
+        self.passed_on = set()
+        self.read_imports("\n".join(self.lines))
+        self.spans = self.find_definitions() if path.endswith(".antt") else {}
+        self.cases = self.find_cases()
+
+    def read_imports(self, text):
+        for kind, target, names, alias in re.findall(r"^(pub |ghost )?use Rattle\.([\w.]+?)(?:\.\{([^}]*)\}| as (\w+));?$", text, re.M):
+            words = target.split(".")
+            if alias:
+                self.imports[alias] = (words, "*")
+            for name in re.split(r",\s*", names.strip().rstrip(",")) if names else []:
+                own, _, renamed = name.partition(" as ")
+                self.imports[renamed or own] = (words, own)
+                if kind == "pub ":
+                    self.passed_on.add(own)
+
+    def fields_above(self, number):
+        """Whether the line is in a record or a data, which make it a field or a case."""
+        for line in reversed(self.lines[:number]):
+            if line.strip() and not line.lstrip().startswith("--") and indent(line) < indent(self.lines[number]):
+                return bool(re.match(r" *(pub )?(record|data) ", line)) and line.rstrip().endswith("where")
+        return False
+
+    def find_definitions(self):
+        """The first and the last line of each definition, with the comment above it and the module that it is in."""
+        spans = {}
+        for number, line in enumerate(self.lines):
+            head = HEAD.match(line)
+            if not head or head[3] in KEYWORDS or not head[2] or self.fields_above(number):
+                continue
+            if head[3] in spans:
+                raise Missing(f"{self.path} defines {head[3]} twice")
+            end = number + 1
+            while end < len(self.lines) and self.lines[end].strip() and self.continues(head, end):
+                end += 1
+            start = number
+            while start and self.lines[start - 1].lstrip().startswith("--") and not self.lines[start - 1].lstrip().startswith("-- ----"):
+                start -= 1
+            spans[head[3]] = (start, number, end)
+        return spans
+
+    def find_cases(self):
+        """The data that each case is of."""
+        found = {}
+        for name, (_, first, end) in self.spans.items():
+            if re.search(r"\bdata ", self.lines[first]):
+                found |= {match[1]: name for line in self.lines[first + 1 : end] if (match := re.match(r" *(\w+) : ", line))}
+        return found
+
+    def continues(self, head, number):
+        """Whether a line belongs to the definition above it: it is indented more, closes it, or is an equation of it, or a comment before such a line."""
+        line = self.lines[number]
+        if line.lstrip().startswith("--") and indent(line) == len(head[1]):
+            return number + 1 < len(self.lines) and self.continues(head, number + 1)
+        return indent(line) > len(head[1]) or line.strip() == "}" or re.match(rf" *{re.escape(head[3])}(?![\w\-'])", line)
+
+    def heads_above(self, number):
+        """The heads of the modules that a line is in, the outermost first, each with the comment above it."""
+        depth, found = indent(self.lines[number]), []
+        for at in range(number - 1, -1, -1):
+            if self.lines[at].strip() and not self.lines[at].lstrip().startswith("--") and indent(self.lines[at]) < depth:
+                depth = indent(self.lines[at])
+                start, end = at, at + 1
+                if self.lines[start].lstrip().startswith("module _"):
+                    while not self.lines[end - 1].endswith(" where"):
+                        end += 1
+                    while start and self.lines[start - 1].lstrip().startswith("-- ") and not self.lines[start - 1].lstrip().startswith("-- ----"):
+                        start -= 1
+                    found.append(self.lines[start:end])
+        return list(reversed(found))
+
+    def text(self, name):
+        if name not in self.spans:
+            raise Missing(f"{self.path} doesn't define {name}")
+        start, _, end = self.spans[name]
+        return self.lines[start:end]
+
+
+@functools.cache
+def module(path):
+    return Module(path)
+
+
+@functools.cache
+def definition(path, name):
+    """Where a name is defined that a module exports: in its file, or in one that it passes on."""
+    file = module(path)
+    name = file.cases.get(name, name)
+    if name in file.spans:
+        return path, name
+    if name in file.passed_on:
+        words, own = file.imports[name]
+        return definition(module_file(words), own)
+    raise Missing(f"{path} doesn't define {name}")
+
+
+def resolved(path, word):
+    """What a word of a file is: ('spec', file, name), ('type', file, name), ('std', name), or None for a variable."""
+    first, _, rest = word.partition(".")
+    file = module(path)
+    if first in file.spans or first in file.cases:
+        return "spec", path, file.cases.get(first, first)
+    if first not in file.imports:
+        return None
+    words, own = file.imports[first]
+    if not (CRATES / words[0]).is_dir():
+        return "std", own
+    if "declared" in words or "contracts" in words:
+        name = words[-2] if words[-1].startswith("The") else own
+        return ("type", type_file(words[0], name), name) if words[-1] != "TheConstants" else ("type", path, own)
+    if own == "*":
+        return ("spec", *definition(module_file(words), rest.split(".")[0])) if rest else None
+    return ("spec", *definition(module_file(words), own))
+
+
+def is_constructor(path, word):
+    found = resolved(path, word)
+    if found is None:
+        return False
+    if found[0] == "spec":
+        return word.split(".")[-1] != found[2]
+    return found[0] == "type" or found[1] in ("true", "false", "zero", "suc", "pos", "negsuc", "Some", "None", "Ok", "Err", "tt")
+
+
+def bound(path, lines, name):
+    """The variables of a definition: its arguments, and those of binders, λ and let. A field of a record is one in the fields after it."""
+    text, found = "\n".join(lines), set()
+    for names in BINDER.findall(text):
+        found |= set(names.split())
+    for names in re.findall(r"λ ([^.]*)\.", text):
+        found |= set(names.split())
+    found |= set(re.findall(r"\blet (\w+) =", text))
+    found |= {match[1] for match in re.finditer(r"^ +(?:pub )?(\w+) : ", text, re.M)}
+    for line in lines:
+        equation = re.match(rf" *{re.escape(name)} (.*?) =(?: |$)", line)
+        if equation:
+            found |= {word for word in WORD.findall(equation[1]) if not is_constructor(path, word)}
+    return found
+
+
+def uses(path, name):
+    """What a definition of specs/ uses, without its variables and the fields of its records."""
+    file = module(path)
+    lines = [re.sub(r"(^|\s)--.*", r"\1", line) for line in file.text(name)]
+    variables = bound(path, lines, name) | {name}
+    for head in file.heads_above(file.spans[name][1]):
+        arguments = [line for line in head if not line.lstrip().startswith("--")]
+        for names in BINDER.findall("\n".join(arguments)):
+            variables |= set(names.split())
+        lines += arguments
+    text = re.sub(r'"[^"]*"', "", "\n".join(lines))
+    text = re.sub(r"(?<=[{;])\s*(\w+) = ", " ", text)
+    found = []
+    for word in WORD.findall(text):
+        first = word.split(".")[0]
+        if first in KEYWORDS or first in variables:
+            continue
+        at = resolved(path, word)
+        if at and at not in found:
+            found.append(at)
+    return found
+
+
+def clause_uses(path, lines):
+    """What the clauses of a function of src/ use."""
+    text = re.sub(r"//.*", "", "\n".join(lines))
+    words = {word.split(".")[0] for word in WORD.findall(text)}
+    return [at for word in sorted(words) if word in module(path).imports and (at := resolved(path, word))]
