@@ -60,13 +60,13 @@ def block(path, names, brief):
     for name in names:
         lines = file.text(name)
         above = file.heads_above(file.spans[name][1])
-        out += [""] if out and not brief and (len(lines) > 4 or not lines[0].lstrip().startswith("--")) else []
+        out += [""] if out and not brief else []
         for head in above:
             if head not in inside:
                 out += without_comments(head) if brief else head
         inside = above
         out += without_comments(lines) if brief else lines
-    return out + aliases(path, names)
+    return out + ([] if brief or not aliases(path, names) else [""]) + aliases(path, names)
 
 
 def joined(lines):
