@@ -66,7 +66,7 @@ class Module:
         """Whether the line is in a record or a data, which make it a field or a case."""
         for line in reversed(self.lines[:number]):
             if line.strip() and not line.lstrip().startswith("--") and indent(line) < indent(self.lines[number]):
-                return bool(re.match(r" *(pub )?(record|data) ", line)) and line.rstrip().endswith("where")
+                return bool(re.match(r" *(pub )?(record|data) ", line))
         return False
 
     def find_definitions(self):

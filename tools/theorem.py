@@ -214,10 +214,7 @@ class Pages:
         return {name for _, name in [*self.places, *self.types, *self.linked]} | {name for path in whole for name in module(path).spans}
 
     def check(self, texts):
-        twice = {}
-        for path, name in {*self.places, *self.types}:
-            twice.setdefault(name, []).append(path)
-        for name, paths in sorted(twice.items()):
+        for name, paths in sorted(all_definitions({*self.places, *self.types}).items()):
             if len(paths) > 1:
                 fail(f"{name} has two definitions: {' and '.join(sorted(paths))}")
         explained = set(re.findall(r"[\w\-]+", "".join(re.findall(r"`[^`]*`", "".join(section(text, "Notation") for text in texts.values())))))
@@ -235,6 +232,19 @@ class Pages:
             for word in re.findall(r"`([A-Za-z_][\w\-]*)(?:`| )", prose):
                 if word not in known:
                     fail(f"{page} has the name {word} in its text, which is neither shown nor linked")
+
+
+def all_definitions(shown):
+    """Where each of these names is defined: in the files that the pages have, and in any other file of specs/ that makes it visible."""
+    found = {name: set() for _, name in shown}
+    for path, name in shown:
+        found[name].add(path)
+    for file in CRATES.glob("*/specs/**/*.antt"):
+        path = str(file.relative_to(CRATES))
+        for name, (_, first, _) in module(path).spans.items():
+            if name in found and re.search(r"\bpub\b", module(path).lines[first]):
+                found[name].add(path)
+    return found
 
 
 def section(text, heading):
