@@ -49,6 +49,21 @@ fn spellings(rt: HostRuntime) {
     assert!(rt; Opcode::from_number(u64::MAX).is_none());
 }
 
+/// Whether this is a line where the format has a width of 6.
+fn is_padded(alloc: Global, line: &Line, text: &str) -> bool {
+    match format!(in alloc; "{line:>6}|{line:<6}|{line:.2}") {
+        Ok(shown) => shown.as_str() == text,
+        Err(_) => false,
+    }
+}
+
+#[test]
+fn lines_with_a_width(rt: HostRuntime) {
+    let mut line = Line::new();
+    line.extend(b"rax");
+    assert!(rt; is_padded(rt.alloc(), &line, "   rax|rax   |ra"));
+}
+
 /// Whether this is the text of a value.
 fn is_shown<T: Display>(alloc: Global, value: &T, text: &str) -> bool {
     match format!(in alloc; "{value}") {

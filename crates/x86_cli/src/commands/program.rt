@@ -57,7 +57,8 @@ fn ending_of(status: Status, flushed: &Result<(), SinkFailed>) -> Status
 ///
 /// At every status but `WriteFault` and `Usage` the writer's last call was a flush that succeeded. Only a call that a
 /// signal interrupted is made again. No read follows the end of the input, an error, or the end of the text. What is
-/// gathered is sent and flushed before each read (`run_settling`).
+/// gathered is sent and flushed before each read (`run_settling`). That `Input` and `Output` pass each call on to std's is
+/// checked by inspection.
 pub fn listed<R: Input + Drop, W: Output + Drop>(
     arguments: &[String],
     reader: R,

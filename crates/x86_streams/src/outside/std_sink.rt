@@ -1,6 +1,7 @@
 //! A sink over a writer.
 
-ghost use Rattle.std.specs.Prelude.{◌≡◌};
+ghost use Rattle.std.specs.Prelude.{◌≡◌, OnOk, IfErr};
+ghost use Rattle.x86_streams.specs.Outside.FaultCounts.{Rose};
 ghost use Rattle.x86_streams.specs.Outside.Sink.{ReportsPut};
 ghost use Rattle.x86_streams.specs.Outside.Writes.{FlushesOut, PutSends};
 ghost use Rattle.x86_streams.specs.Outside.Seen.{buffer_bytes, buffer_writer, sink_writer};
@@ -47,9 +48,11 @@ impl<W: Output + Drop> StdSink<Gathered<W>> {
     #[cold]
     #[inline(never)]
     pub fn send_all(&mut self) -> Result<(), SinkFailed>
-        ensures { FlushesOut W.writes W.flushes result
+        ensures flushes { FlushesOut W.writes W.flushes result
             (buffer_bytes (sink_writer self.old)) (buffer_bytes (sink_writer self.new))
             (buffer_writer (sink_writer self.old)) (buffer_writer (sink_writer self.new)) }
+        ensures kept { OnOk result (self.new.faults ≡ self.old.faults) }
+        ensures counted { IfErr result (λ e. Rose self.old.faults self.new.faults) }
     {
         let result = self.writer.send_all();
         if result.is_err() {
