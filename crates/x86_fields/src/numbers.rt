@@ -10,7 +10,6 @@ use x86_arch::Reader;
 
 /// One byte.
 #[tactic(auto, unfolding(crate::specs::Steps::next_byte))]
-#[inline(always)]
 pub fn next_byte<T: Reader<u64, u8>>(reader: &mut T) -> Result<u8, DecodeError>
     ensures { outcome result (T.state reader.new) ≡ next_byte (T.state reader.old) }
 {
@@ -19,7 +18,6 @@ pub fn next_byte<T: Reader<u64, u8>>(reader: &mut T) -> Result<u8, DecodeError>
 
 /// As many bytes as the array has.
 #[tactic(auto, unfolding(crate::specs::Steps::next_bytes))]
-#[inline(always)]
 pub fn next_bytes<const N: usize, T: Reader<u64, u8>>(
     reader: &mut T,
 ) -> Result<[u8; N], DecodeError>
@@ -32,7 +30,6 @@ pub fn next_bytes<const N: usize, T: Reader<u64, u8>>(
 
 /// A number of one byte.
 #[tactic(auto, unfolding(crate::specs::Steps::number_step))]
-#[inline(always)]
 pub fn read_u8<T: Reader<u64, u8>>(reader: &mut T) -> Result<u8, DecodeError>
     ensures { outcome result (T.state reader.new) ≡ number_step w8 (T.state reader.old) }
 {
@@ -42,7 +39,6 @@ pub fn read_u8<T: Reader<u64, u8>>(reader: &mut T) -> Result<u8, DecodeError>
 
 /// A number of two bytes.
 #[tactic(auto, unfolding(crate::specs::Steps::number_step))]
-#[inline(always)]
 pub fn read_u16<T: Reader<u64, u8>>(reader: &mut T) -> Result<u16, DecodeError>
     ensures { outcome result (T.state reader.new) ≡ number_step w16 (T.state reader.old) }
 {
@@ -52,7 +48,6 @@ pub fn read_u16<T: Reader<u64, u8>>(reader: &mut T) -> Result<u16, DecodeError>
 
 /// A number of four bytes.
 #[tactic(auto, unfolding(crate::specs::Steps::number_step))]
-#[inline(always)]
 pub fn read_u32<T: Reader<u64, u8>>(reader: &mut T) -> Result<u32, DecodeError>
     ensures { outcome result (T.state reader.new) ≡ number_step w32 (T.state reader.old) }
 {
@@ -62,7 +57,6 @@ pub fn read_u32<T: Reader<u64, u8>>(reader: &mut T) -> Result<u32, DecodeError>
 
 /// A number of eight bytes.
 #[tactic(auto, unfolding(crate::specs::Steps::number_step))]
-#[inline(always)]
 pub fn read_u64<T: Reader<u64, u8>>(reader: &mut T) -> Result<u64, DecodeError>
     ensures { outcome result (T.state reader.new) ≡ number_step w64 (T.state reader.old) }
 {

@@ -61,7 +61,6 @@ pub struct Operands {
 
 impl Operands {
     /// Writes a slot and its operand at an index.
-    #[inline(always)]
     pub(crate) fn put_at(&mut self, at: usize, slot: Slot, operand: Operand)
         requires { at < 4 }
         ensures { self.new ≡ put_at at (slot, operand) self.old }
@@ -70,7 +69,6 @@ impl Operands {
         self.operands[at] = operand;
     }
 
-    #[inline(always)]
     fn put_register(&mut self, at: usize, slot: Slot, reg: RegSpec)
         requires { at < 4 }
         ensures { self.new ≡ put_at at (slot, Operand.Register reg) self.old }
@@ -89,7 +87,6 @@ impl Operands {
         }
     }
 
-    #[inline(always)]
     fn put_i8(&mut self, at: usize, imm: i8)
         requires { at < 4 }
         ensures { self.new ≡ put_at at (Slot.ImmI8, Operand.ImmediateI8 imm) self.old }
@@ -97,7 +94,6 @@ impl Operands {
         self.put_at(at, Slot::ImmI8, Operand::ImmediateI8 { imm });
     }
 
-    #[inline(always)]
     fn put_u8(&mut self, at: usize, imm: u8)
         requires { at < 4 }
         ensures { self.new ≡ put_at at (Slot.ImmU8, Operand.ImmediateU8 imm) self.old }
@@ -105,7 +101,6 @@ impl Operands {
         self.put_at(at, Slot::ImmU8, Operand::ImmediateU8 { imm });
     }
 
-    #[inline(always)]
     fn put_i16(&mut self, at: usize, imm: i16)
         requires { at < 4 }
         ensures { self.new ≡ put_at at (Slot.ImmI16, Operand.ImmediateI16 imm) self.old }
@@ -113,7 +108,6 @@ impl Operands {
         self.put_at(at, Slot::ImmI16, Operand::ImmediateI16 { imm });
     }
 
-    #[inline(always)]
     fn put_u16(&mut self, at: usize, slot: Slot, imm: u16)
         requires { at < 4 }
         ensures { self.new ≡ put_at at (slot, Operand.ImmediateU16 imm) self.old }
@@ -121,7 +115,6 @@ impl Operands {
         self.put_at(at, slot, Operand::ImmediateU16 { imm });
     }
 
-    #[inline(always)]
     fn put_i32(&mut self, at: usize, imm: i32)
         requires { at < 4 }
         ensures { self.new ≡ put_at at (Slot.ImmI32, Operand.ImmediateI32 imm) self.old }
@@ -129,7 +122,6 @@ impl Operands {
         self.put_at(at, Slot::ImmI32, Operand::ImmediateI32 { imm });
     }
 
-    #[inline(always)]
     fn put_i64(&mut self, at: usize, imm: i64)
         requires { at < 4 }
         ensures { self.new ≡ put_at at (Slot.ImmI64, Operand.ImmediateI64 imm) self.old }

@@ -69,7 +69,6 @@ pub(crate) fn size_name(size: u8) -> Option<&'static Name<4>>
 }
 
 /// The names of the registers of a class, by number.
-#[inline(always)]
 fn names_of(class: RegisterClass) -> &'static [Name<8>]
     ensures text { map name_text result.now ≡ names_of class }
     ensures short { IsTrue (are_short 6 result.now) }

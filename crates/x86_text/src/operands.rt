@@ -14,7 +14,6 @@ use x86_operands::Operand;
 use x86_regs::RegSpec;
 
 /// Writes an immediate after the first bytes of a block, which name its type.
-#[inline(always)]
 fn put_immediate(cells: &mut [u8], at: usize, label: &[u8; 4], count: usize, n: i64) -> usize
     requires room { at + 24 ≤ length cells.old }
     requires count { count ≤ 4 }
