@@ -1,5 +1,5 @@
 -- The walk over the first fifteen bytes of a slice.
-use Rattle.std.proofs.Common.{◌≡◌, ◌==◌, ◌≤◌, ◌<◌, ℕ, Bool, true, false, List, length, take, min, nat_le, Result, Ok, Err, refl, sym, ap, ◌∙◌, arith, length-take, take_all}
+use Rattle.std.proofs.Common.{◌≡◌, ◌==◌, ℕ, Bool, List, length, take, nat_le, Result, Ok, Err, ap, ◌∙◌, arith, length-take}
 use Rattle.std.proofs.lemmas.Bool.Decides.{nat_tests}
 use Rattle.x86_arch.specs.Reader.{State}
 use Rattle.x86_fields.specs.declared.errors.DecodeError.{DecodeError}
@@ -14,19 +14,6 @@ use Rattle.x86_decode.specs.Walk.{walk_within, bounded_outcome, decode_step, jud
 
 abbrev pub at_start : List ℕ → State ℕ
 at_start bytes = record { left = bytes; since_mark = 0; since_made = 0 }
-
-pub first_fifteen : (n : ℕ) (l : List ℕ) → n ≡ min (length l) 15 → take n l ≡ take 15 l
-first_fifteen n l e = by (nat_le (length l) 15) refl
-  where
-    by : (test : Bool) → nat_le (length l) 15 ≡ test → take n l ≡ take 15 l
-    by true h =
-        let short : length l ≤ 15 = grind (arith, nat_tests) in
-        let all : length l ≤ n = omega (arith, e, short) in
-        take_all n l all ∙ sym (take_all 15 l short)
-    by false h =
-        let long : 15 < length l = grind (arith, nat_tests) in
-        let same : n ≡ 15 = omega (arith, e, long) in
-        rw same refl
 
 slice_is : (strict : Bool) (bytes : List ℕ) (r : Result Reading DecodeError) (t u : State ℕ) → u ≡ at_start (take 15 bytes) → outcome r t ≡ walk_within (rows_of packed) strict u → (bounded_outcome r t.since_mark (at_start bytes)).answer ≡ answer_of strict bytes
 unfolding answer_of outcome_of decode_step

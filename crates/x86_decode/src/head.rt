@@ -1,7 +1,7 @@
 //! The head of an encoding: the run of prefixes, the escape and the opcode byte.
 
 ghost use Rattle.std.specs.Prelude.{◌≡◌, ℕ, Bool, IfOk, List, [], None, Some};
-ghost use Rattle.x86_fields.specs.Steps.{outcome, then_from};
+ghost use Rattle.x86_fields.specs.Steps.{outcome, pure, then_from};
 ghost use Rattle.x86_fields.specs.Prefixes.{rex};
 ghost use Rattle.x86_fields.specs.Run.{is_prefix, reading_of};
 ghost use Rattle.x86_forms.specs.declared.TableRow.{TableRow};
@@ -74,21 +74,22 @@ pub fn is_prefix(byte: u8) -> bool
     matches!(lead_of(byte), Lead::Legacy | Lead::Rex)
 }
 
-/// The rest of a run of which some bytes were read, and the byte after it.
+/// The rest of a run of which some bytes were read, and the byte after it. The prefixes stay where they are: by value
+/// they would be packed and taken apart again.
 pub fn read_on<T: Reader<u64, u8>>(
     reader: &mut T,
-    begin: Prefixes,
-) -> Result<(Prefixes, u8), DecodeError>
-    ensures { (beginning : List ℕ) → begin ≡ reading_of beginning →
-        outcome result (T.state reader.new) ≡ head_from beginning (T.state reader.old) }
+    prefixes: &mut Prefixes,
+) -> Result<u8, DecodeError>
+    ensures { (beginning : List ℕ) → prefixes.old ≡ reading_of beginning →
+        then_from result (T.state reader.new) (λ byte. pure (prefixes.new, byte))
+        ≡ head_from beginning (T.state reader.old) }
 {
-    let mut prefixes = begin;
     'run: loop {
         let byte = reader.next()?;
         if !is_prefix(byte) {
-            return Ok((prefixes, byte));
+            return Ok(byte);
         }
-        prefixes = prefixes.after(byte);
+        *prefixes = prefixes.after(byte);
     }
 }
 

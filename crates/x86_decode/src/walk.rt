@@ -1,5 +1,5 @@
 //! The walk over the bytes of an encoding, within fifteen of them.
-ghost use Rattle.std.specs.Prelude.{◌≡◌, ◌≤◌, ℕ, Bool, IfOk, Err, false};
+ghost use Rattle.std.specs.Prelude.{◌≡◌, ◌≤◌, ℕ, Bool, List, IfOk, Err, false, take};
 ghost use Rattle.x86_arch.specs.Reader.{marked};
 ghost use Rattle.x86_fields.specs.Steps.{outcome, then_from};
 ghost use Rattle.x86_forms.specs.Words.{packed, rows_of};
@@ -75,8 +75,7 @@ fn read_encoding<W: Words, T: Reader<u64, u8>>(
         then_from result (T.state reader.new) (rest_step strict inst.new)
         ≡ walk_within (rows_of (W.word rows.now)) strict (T.state reader.old) }
 {
-    let (prefixes, byte) = read_on(reader, Prefixes::none())?;
-    inst.prefixes = prefixes;
+    let byte = read_on(reader, &mut inst.prefixes)?;
     read_body(rows, reader, inst, byte)
 }
 
@@ -179,30 +178,19 @@ fn error_at_limit(error: DecodeError, full: bool) -> DecodeError
     }
 }
 
-/// The walk within the first fifteen bytes of a slice, into a blank instruction, where it may end before an encoding.
-#[cold]
+/// The walk within fifteen bytes or fewer, whatever the instruction held before. They are the first of any bytes.
 #[inline(never)]
-fn walk_rarely(strict: bool, bytes: &[u8], inst: &mut Instruction) -> Result<(), DecodeError>
-    requires { inst.old ≡ invalid_instruction }
-    ensures { holding inst.new result ≡ answer_of strict bytes.now }
+fn walk_rarely(strict: bool, within: &[u8], inst: &mut Instruction) -> Result<(), DecodeError>
+    ensures { (bytes : List ℕ) → within.now ≡ take 15 bytes →
+        holding inst.new result ≡ answer_of strict bytes }
 {
-    let within = &bytes[..bytes.len().min(15)];
+    *inst = Instruction::INVALID;
     let (result, mut back) = walk_within(strict, &Packed, U8Reader::new(within), inst);
     inst.length = back.offset();
     match result {
         Ok(()) => judgement(&inst.prefixes, inst.opcode, inst.operand_list.slots[0]),
         Err(error) => Err(error_at_limit(error, within.len() == 15)),
     }
-}
-
-/// The same, whatever the instruction held before.
-#[cold]
-#[inline(never)]
-fn walk_again(strict: bool, bytes: &[u8], inst: &mut Instruction) -> Result<(), DecodeError>
-    ensures { holding inst.new result ≡ answer_of strict bytes.now }
-{
-    *inst = Instruction::INVALID;
-    walk_rarely(strict, bytes, inst)
 }
 
 /// The walk within the first fifteen bytes of a slice, into a blank instruction.
@@ -215,15 +203,16 @@ pub fn walk_slice(strict: bool, bytes: &[u8], inst: &mut Instruction) -> Result<
     requires { inst.old ≡ invalid_instruction }
     ensures { holding inst.new result ≡ answer_of strict bytes.now }
 {
-    if bytes.len() >= 15 {
-        let mut reader = U8Reader::new(&bytes[..15]);
-        if let Ok(Rest::Nothing) = read_plain(&mut reader, inst) {
-            inst.length = reader.offset();
-            return judgement(&inst.prefixes, inst.opcode, inst.operand_list.slots[0]);
-        }
-        return walk_again(strict, bytes, inst);
+    if bytes.len() < 15 {
+        return walk_rarely(strict, bytes, inst);
     }
-    walk_rarely(strict, bytes, inst)
+    let within = &bytes[..15];
+    let mut reader = U8Reader::new(within);
+    if let Ok(Rest::Nothing) = read_plain(&mut reader, inst) {
+        inst.length = reader.offset();
+        return judgement(&inst.prefixes, inst.opcode, inst.operand_list.slots[0]);
+    }
+    walk_rarely(strict, within, inst)
 }
 
 /// The instruction at the beginning of what the reader has left, into a blank one. The reader is marked, and then
