@@ -18,6 +18,19 @@ UNDECIDED = "63"  # the size that means one that the processor decides
 BY_REG = ["80", "81", "83", "c0", "c1", "c6", "c7", "d0", "d1", "d2", "d3", "f6", "f7", "fe", "ff"]
 
 
+HEAD_OF_ROWS = re.compile(r"(\w+) form\.(\w+) =")
+# the functions of rows, each with the forms that it has, and the one that has those that it hasn't
+LOOKUPS = {
+    "three_byte_rows": ("Maps 0F38 and 0F3A.", "LEFT_OUT"),
+    "two_byte_rows": ("Map 0F.", "three_byte_rows(form)"),
+    "group_rows": ("The rows of a form.", "two_byte_rows(form)"),
+}
+
+
+def name_of(form):
+    return re.sub(r"^(ModRM_0x|x87_)", "", form)
+
+
 @dataclass
 class Row:
     text: str
@@ -81,9 +94,9 @@ def groups():
     """The rows of each group by its name: the opcode bytes in the name of its form, or that name."""
     answer, rows = {}, []
     for line in (GROUPS / "Rows.antt").read_text().splitlines():
-        head = re.match(r"\w+ form\.(?:ModRM_0x|x87_)?(\w+) =", line)
+        head = HEAD_OF_ROWS.match(line)
         if head:
-            rows = answer.setdefault(head[1], [])
+            rows = answer.setdefault(name_of(head[2]), [])
         for text in re.findall(r"(?:(?<=    )|(?<= = ))((?:read|read_without_66|refusal|otherwise) .*?) ∷", line if head or line.startswith("    ") else ""):
             rows.append(row(text))
     return answer
@@ -149,7 +162,8 @@ def entry(each, numbers):
         return f"refusal!({each.where()}; {' '.join(each.rest)})"
     named, operands, sized = each.rest
     operands = operands if isinstance(operands, str) else f"{operands[0]}({', '.join(map(letter, operands[1:]))})"
-    return f"{each.kind}!({each.where()}; {names(named, numbers)}; {operands}; {'; '.join(sizes(sized))})"
+    change = "; ClearsOperandSize" if each.kind == "read_without_66" else ""
+    return f"read!({each.where()}; {names(named, numbers)}; {operands}; {'; '.join(sizes(sized))}{change})"
 
 
 def encoding(operands, sized):
@@ -175,6 +189,9 @@ def reg_line(rows, reg, numbers):
 
 
 HEAD = """
+ghost use Rattle.std.specs.Prelude.{◌≡◌};
+ghost use Rattle.x86_groups.specs.Rows.{group_rows, three_byte_rows, two_byte_rows};
+
 use crate::by_reg::{RegLine, line, rows_alone};
 use crate::letters::Letter;
 use crate::letters::Letter::{
@@ -184,13 +201,25 @@ use crate::letters::Letters::{Four, One, Three, Two, Zero};
 use crate::letters::RowSize::{Bytes, Of};
 use crate::rows::Names::{ByReg, ByRm, BySuffix, Name, Own};
 use crate::rows::Rm::{Any, Is, ZeroIfStrict};
-use crate::rows::{Content, GroupRow, Place, When, read, read_without_66, refusal};
+use crate::rows::{Content, GroupRow, Place, When, read, refusal};
 use x86_fields::Width::{B, D, Dq, Q, V, Vq, W, X};
+use x86_forms::Form;
 use x86_operands::AfterOpcode::ByPlan;
 use x86_operands::plans::{Fault, ModrmUse, Moment, PrefixChange, RegisterSlot};
 use x86_operands::{encoded, other};
 use x86_regs::RegisterClass;
 """
+
+
+def lookups():
+    """The functions from a form to its rows, as specs/Rows.antt has them."""
+    forms = [head.groups() for head in map(HEAD_OF_ROWS.match, (GROUPS / "Rows.antt").read_text().splitlines()) if head]
+    for function, (words, others) in LOOKUPS.items():
+        scope = "pub(crate) fn" if function == "group_rows" else "fn"
+        yield from ["", f"/// {words}", f"#[tactic(auto, unfolding(crate::specs::Rows::{function}))]"]
+        yield from [f"{scope} {function}(form: Form) -> &'static [GroupRow]", f"    ensures {{ result.now ≡ {function} form }}", "{"]
+        yield from ["    match form {", *(f"        Form::{form} => ROWS_{name_of(form).upper()}," for of, form in forms if of == function)]
+        yield from [f"        _ => {others},", "    }", "}"]
 
 
 def tables(note, numbers):
@@ -201,11 +230,12 @@ def tables(note, numbers):
         lines += ["", f"const {word}: Letter = {register};"]
     every = groups()
     for name, rows in every.items():
-        lines += ["", f"pub(crate) const ROWS_{name.upper()}: &[GroupRow; {len(rows)}] = &["]
+        lines += ["", f"const ROWS_{name.upper()}: &[GroupRow; {len(rows)}] = &["]
         lines += [f"    {entry(each, numbers)}," for each in checked(name, rows)] + ["];"]
     lines += ["", "/// The line of each reg, for the groups in the order of `RegGroup`."]
     lines += [f"pub(crate) const REG_LINES: &[[RegLine; 8]; {len(BY_REG)}] = &["]
     for name in BY_REG:
         lines += ["    ["] + [f"        {reg_line(every[name], reg, numbers)}," for reg in range(8)] + [f"    ], // {name.upper()}"]
     lines += ["];", "", "/// The rows of a form that has none."]
-    return lines + ["pub(crate) const LEFT_OUT: &[GroupRow; 1] = &[refusal!(Either 0 7 Any; Always; Incomplete AtModRM)];"]
+    lines += ["const LEFT_OUT: &[GroupRow; 1] = &[refusal!(Either 0 7 Any; Always; Incomplete AtModRM)];"]
+    return lines + [*lookups()]

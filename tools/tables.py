@@ -1,5 +1,5 @@
 #!/usr/bin/env python3
-"""Writes the files that only repeat what five lists say, so that a name, a form or a row is edited in one place.
+"""Writes the files that only repeat what six lists say, so that a name, a form or a row is edited in one place.
 
     python3 tools/tables.py            writes them
     python3 tools/tables.py --check    changes nothing; says which are not what it would write, and then ends with status 1
@@ -10,7 +10,8 @@ The lists, which people edit:
     crates/x86_forms/src/lib.rt                the forms, the variants of `Form`
     crates/x86_forms/specs/Rows.antt           the rows of each map, a line for each row
     crates/x86_regs/specs/Names.antt           the registers of each class
-    crates/x86_groups/specs/Rows.antt     the rows of the groups, a line for each row (tools/group_rows.py)
+    crates/x86_operands/specs/Forms.antt       the plans of the plain forms, a line for each form (tools/form_lines.py)
+    crates/x86_groups/specs/Rows.antt          the rows of the groups, a line for each row (tools/group_rows.py)
 
 Nothing rests on this script. What it writes is checked like all other code: that the constants have the numbers and
 spellings of their names, that each form is at its ordinal, and that each table has the words of the rows, is proved.
@@ -22,13 +23,15 @@ import sys
 import textwrap
 from pathlib import Path
 
+import form_lines
 import group_rows
 
 TOP = Path(__file__).resolve().parent.parent
 OPCODES = TOP / "crates" / "x86_opcodes"
 FORMS = TOP / "crates" / "x86_forms"
 REGS = TOP / "crates" / "x86_regs"
-GROUP_PLANS = TOP / "crates" / "x86_groups"
+OPERANDS = TOP / "crates" / "x86_operands"
+GROUPS = TOP / "crates" / "x86_groups"
 TEXT = TOP / "crates" / "x86_text"
 
 MAPS = ["One", "Of", "Of38", "Of3a"]
@@ -247,6 +250,14 @@ def sizes_rt():
     return lines + name_table("SIZES", 4, [" m?" if size == UNDECIDED else f" m{size}" for size in range(65)])
 
 
+def form_lines_rt():
+    lines = ["//! The operand encodings of the forms: a line a form, in the order of the variants of `Form`.", "//!"]
+    lines += note("//!", "specs/Forms.antt") + ["use crate::AfterOpcode::{ByPlan, ByReg, Group};", "use crate::plans::ModrmUse;"]
+    lines += ["use crate::{FormEncoding, RegGroup};", "", "/// The line of each form by the number that words have for it. A form that carries a number has eight."]
+    entries = form_lines.lines(forms())
+    return lines + [f"pub(crate) const ENCODINGS: &[FormEncoding; {len(entries)}] = &[", *entries, "];"]
+
+
 def group_tables_rt():
     numbers = {name: number for number, name in enumerate(names())}
     return group_rows.tables(note("//!", "specs/Rows.antt"), numbers)
@@ -260,7 +271,8 @@ def written():
         FORMS / "specs" / "Ordinals.antt": ordinals_antt(),
         FORMS / "src" / "ordinals.rt": ordinals_rt(),
         FORMS / "src" / "tables.rt": tables_rt(),
-        GROUP_PLANS / "src" / "tables.rt": group_tables_rt(),
+        OPERANDS / "src" / "lines.rt": form_lines_rt(),
+        GROUPS / "src" / "tables.rt": group_tables_rt(),
         TEXT / "src" / "mnemonics.rt": mnemonics_rt(),
         TEXT / "src" / "registers.rt": registers_rt(),
         TEXT / "src" / "sizes.rt": sizes_rt(),

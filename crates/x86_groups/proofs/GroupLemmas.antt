@@ -1,5 +1,7 @@
 -- What holds of the records of all groups.
-use Rattle.std.proofs.Common.{◌≡◌, ◌≢◌, ◌≤◌, ℕ, nat_le, Bool, true, false, not, ◌&&◌, ◌||◌, Some, None, if◌then◌else◌, refl, sym, subst, ap, ◌∙◌, true≢false}
+use Rattle.std.proofs.Common.{◌≡◌, ◌≢◌, ◌≤◌, inl, inr, Err, ℕ, nat_le, Bool, true, false, not, ◌&&◌, ◌||◌, Some, None, if◌then◌else◌, refl, sym, subst, ap, ◌∙◌, true≢false}
+use Rattle.x86_arch.specs.Reader.{State}
+use Rattle.x86_fields.specs.declared.errors.DecodeError.TheVariants.{IncompleteDecoder}
 use Rattle.x86_fields.specs.declared.prefixes.Prefixes.{Prefixes}
 use Rattle.x86_fields.specs.ModRM.{reg_field}
 use Rattle.x86_forms.specs.declared.Form.{Form}
@@ -14,6 +16,8 @@ use Rattle.x86_operands.specs.declared.plans.Moment.TheVariants.{AfterAddress, A
 use Rattle.x86_operands.specs.declared.plans.PrefixChange.TheVariants.{Keeps}
 use Rattle.x86_operands.specs.declared.plans.Verdict.TheVariants.{Refuses}
 use Rattle.x86_operands.specs.Asks.{immediates_width}
+use Rattle.x86_operands.specs.PlanSteps.{record_step}
+use Rattle.x86_operands.proofs.RowLemmas.{HasGap, row_left_out}
 use Rattle.x86_operands.proofs.PlanTests.{passes, without_gap, at_most_64, at_most_8}
 use Rattle.x86_groups.specs.declared.letters.Letters.{Letters}
 use Rattle.x86_groups.specs.declared.letters.RowSize.{RowSize}
@@ -92,3 +96,11 @@ gap_reg strict row p m w group e z = absurd (true≢false (sym (ap is_reg_0 z) �
 
 pub gap_moment : (strict : Bool) (row : TableRow) (p : Prefixes) (m : ℕ) (w : Moment) → is_group row.form ≡ true → ((group_record strict row p).plan m).verdict ≡ Refuses Incomplete w → w ≡ AfterAddress
 gap_moment strict row p m w group e = (gap_in_8f strict row p m w group e).1
+
+-- a row of a group is left out where it is 8F alone
+pub group_left_out : (strict : Bool) (row : TableRow) (p : Prefixes) (s : State ℕ) → is_group row.form ≡ true → (record_step (group_record strict row p) p s).answer ≡ Err IncompleteDecoder → row.form ≡ form.ModRM_0x8f
+group_left_out strict row p s group h = by (row_left_out (group_record strict row p) p s h)
+  where
+    by : HasGap (group_record strict row p) p → row.form ≡ form.ModRM_0x8f
+    by (inl e) = absurd (no_fault strict row p e)
+    by (inr (m, w, e)) = gap_form strict row p m w group e

@@ -3,8 +3,6 @@ pub mod RowLemmas
 pub mod FactLemmas
 pub mod PlanLemmas
 pub mod ChoiceLemmas
-pub mod AskLemmas
 pub mod GroupLemmas
 pub mod LineLemmas
-pub mod GapLemmas
 pub mod RegLemmas

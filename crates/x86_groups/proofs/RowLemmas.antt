@@ -40,20 +40,6 @@ chosen_alike test s t same (row ∷ rest) h =
     let parts = and_parts (test row) (list_all test rest) h in
     same_if (is_there row s) (is_there row t) row.content (choose rest s) (choose rest t) (same row parts.0) (chosen_alike test s t same rest parts.1)
 
--- and so are rows before others
-pub chosen_before : (test : GroupRow → Bool) (s t : Seen) → ((row : GroupRow) → test row ≡ true → is_there row s ≡ is_there row t) → (before rest : List GroupRow) → list_all test before ≡ true → choose rest s ≡ choose rest t → choose (before ++ rest) s ≡ choose (before ++ rest) t
-chosen_before test s t same [] rest h e = e
-chosen_before test s t same (row ∷ before) rest h e =
-    let parts = and_parts (test row) (list_all test before) h in
-    same_if (is_there row s) (is_there row t) row.content (choose (before ++ rest) s) (choose (before ++ rest) t) (same row parts.0) (chosen_before test s t same before rest parts.1 e)
-
--- rows that aren't there are passed over
-pub chosen_after : (test : GroupRow → Bool) (seen : Seen) → ((row : GroupRow) → test row ≡ true → is_there row seen ≡ false) → (before rest : List GroupRow) → list_all test before ≡ true → choose (before ++ rest) seen ≡ choose rest seen
-chosen_after test seen absent [] rest h = refl
-chosen_after test seen absent (row ∷ before) rest h =
-    let parts = and_parts (test row) (list_all test before) h in
-    ap (λ b. if b then row.content else choose (before ++ rest) seen) (absent row parts.0) ∙ chosen_after test seen absent before rest parts.1
-
 -- ---- two things that are seen alike but for rm and the choice
 
 pub record AreAlike (s t : Seen) : Type 0 where
@@ -129,33 +115,3 @@ held_in_memory row s t h e free = elim (or_cases (is_register row.place) (no_rm 
   | inl is ↦ row_absent row s is (h.memory ∙ e) ∙ sym (row_absent row t is e)
   | inr rest ↦ let parts = and_parts (no_rm row.rm) (no_rm_content row.content) rest in holds_by row s t h (rm_alike row.rm s t parts.0) (named_alike row.content s t h parts.1)
 ]
-
--- ---- the choice
-
-abbrev pub no_strict : Rm → Bool
-no_strict rms.ZeroIfStrict = false
-no_strict m = true
-
-abbrev pub by_no_choice : GroupRow → Bool
-by_no_choice row = no_strict row.rm
-
-abbrev pub chosen_by : Bool → Seen → Seen
-chosen_by strict seen = record seen { strict = strict }
-
-rm_choice : (m : Rm) (seen : Seen) (a b : Bool) → no_strict m ≡ true → is_rm m (chosen_by a seen) ≡ is_rm m (chosen_by b seen)
-rm_choice rms.ZeroIfStrict seen a b h = absurd (true≢false (sym h))
-rm_choice m seen a b h = refl
-
-names_choice : (names : Names) (seen : Seen) (a b : Bool) → is_named_by names (chosen_by a seen) ≡ is_named_by names (chosen_by b seen)
-names_choice (ByReg names) seen a b = refl
-names_choice names seen a b = refl
-
-named_choice : (content : Content) (seen : Seen) (a b : Bool) → is_named content (chosen_by a seen) ≡ is_named content (chosen_by b seen)
-named_choice (Reads names operands memory register change) seen a b = names_choice names seen a b
-named_choice (Refuses fault moment) seen a b = refl
-
-abbrev pub choices_alike : (seen : Seen) (a b : Bool) → AreAlike (chosen_by a seen) (chosen_by b seen)
-choices_alike seen a b = record { f2 = refl; f3 = refl; operand_size = refl; w = refl; r = refl; memory = refl; reg = refl }
-
-pub held_by_choice : (row : GroupRow) (seen : Seen) (a b : Bool) → by_no_choice row ≡ true → is_there row (chosen_by a seen) ≡ is_there row (chosen_by b seen)
-held_by_choice row seen a b h = holds_by row (chosen_by a seen) (chosen_by b seen) (choices_alike seen a b) (rm_choice row.rm seen a b h) (named_choice row.content seen a b)

@@ -21,7 +21,7 @@ mod tables;
 
 pub use by_reg::chosen;
 pub use plans::{group_ask, group_at, group_plan};
-use plans::{group_fault, group_form_plan, group_modrm};
+use plans::{group_fault, group_modrm};
 use x86_arch::Reader;
 use x86_fields::{DecodeError, Prefixes};
 use x86_forms::TableRow;
@@ -46,7 +46,7 @@ pub fn read_group_into<T: Reader<u64, u8>>(
 {
     refuse_fault(group_fault(row.form, prefixes))?;
     let modrm = read_modrm(reader, group_modrm(row.form))?;
-    let plan = group_form_plan(row.form, row.opcode, strict, prefixes, modrm);
+    let plan = group_plan(row, strict, prefixes, modrm);
     read_plan_into(reader, &plan, modrm, prefixes, opcode, operand_list)
 }
 
@@ -69,6 +69,6 @@ pub fn read_group<T: Reader<u64, u8>>(
 {
     refuse_fault(group_fault(row.form, &prefixes))?;
     let modrm = read_modrm(words, group_modrm(row.form))?;
-    let plan = group_form_plan(row.form, row.opcode, strict, &prefixes, modrm);
+    let plan = group_plan(row, strict, &prefixes, modrm);
     read_plan(words, &plan, prefixes, modrm)
 }

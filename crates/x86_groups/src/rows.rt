@@ -90,9 +90,13 @@ pub struct GroupRow {
     pub content: Content,
 }
 
-/// A row that is read: where it is, the prefixes, the names, the operands, and the two memory sizes.
+/// A row that is read: where it is, the prefixes, the names, the operands, and the two memory sizes; and, where it is
+/// not none, the change of the answer's prefixes.
 macro_rules! read {
     ($place:ident $first:literal $last:literal $rm:expr; $when:ident; $names:expr; $operands:expr; $memory:expr; $register:expr) => {
+        read!($place $first $last $rm; $when; $names; $operands; $memory; $register; Keeps)
+    };
+    ($place:ident $first:literal $last:literal $rm:expr; $when:ident; $names:expr; $operands:expr; $memory:expr; $register:expr; $change:ident) => {
         GroupRow {
             place: Place::$place,
             first: $first,
@@ -104,35 +108,13 @@ macro_rules! read {
                 operands: $operands,
                 in_memory: $memory,
                 in_register: $register,
-                change: PrefixChange::Keeps,
+                change: PrefixChange::$change,
             },
         }
     };
 }
 
 pub(crate) use read;
-
-/// The same, where the answer's prefixes show 66 cleared.
-macro_rules! read_without_66 {
-    ($place:ident $first:literal $last:literal $rm:expr; $when:ident; $names:expr; $operands:expr; $memory:expr; $register:expr) => {
-        GroupRow {
-            place: Place::$place,
-            first: $first,
-            last: $last,
-            rm: $rm,
-            when: When::$when,
-            content: Content::Reads {
-                names: $names,
-                operands: $operands,
-                in_memory: $memory,
-                in_register: $register,
-                change: PrefixChange::ClearsOperandSize,
-            },
-        }
-    };
-}
-
-pub(crate) use read_without_66;
 
 /// A row that is refused: where it is, the prefixes, the error and its moment.
 macro_rules! refusal {

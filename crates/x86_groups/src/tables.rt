@@ -2,6 +2,9 @@
 //!
 //! Written by tools/tables.py from specs/Rows.antt.
 //! The proof doesn't rest on that script: a wrong entry is refused.
+ghost use Rattle.std.specs.Prelude.{◌≡◌};
+ghost use Rattle.x86_groups.specs.Rows.{group_rows, three_byte_rows, two_byte_rows};
+
 use crate::by_reg::{RegLine, line, rows_alone};
 use crate::letters::Letter;
 use crate::letters::Letter::{
@@ -11,8 +14,9 @@ use crate::letters::Letters::{Four, One, Three, Two, Zero};
 use crate::letters::RowSize::{Bytes, Of};
 use crate::rows::Names::{ByReg, ByRm, BySuffix, Name, Own};
 use crate::rows::Rm::{Any, Is, ZeroIfStrict};
-use crate::rows::{Content, GroupRow, Place, When, read, read_without_66, refusal};
+use crate::rows::{Content, GroupRow, Place, When, read, refusal};
 use x86_fields::Width::{B, D, Dq, Q, V, Vq, W, X};
+use x86_forms::Form;
 use x86_operands::AfterOpcode::ByPlan;
 use x86_operands::plans::{Fault, ModrmUse, Moment, PrefixChange, RegisterSlot};
 use x86_operands::{encoded, other};
@@ -34,54 +38,54 @@ const EDX_IN_RM: Letter = Letter::Implied(RegisterSlot::Rm, 2, RegisterClass::D)
 
 const ECX_THIRD: Letter = Letter::Implied(RegisterSlot::Third, 1, RegisterClass::D);
 
-pub(crate) const ROWS_F30F38D8: &[GroupRow; 4] = &[
+const ROWS_F30F38D8: &[GroupRow; 4] = &[
     read!(Memory 0 7 Any; Always; ByReg([424, 420, 0, 0, 0, 0, 0, 0]); One(M); Bytes(48); Bytes(48)),
     read!(Memory 0 7 Any; Always; ByReg([0, 0, 425, 421, 0, 0, 0, 0]); One(M); Bytes(64); Bytes(64)),
     refusal!(Memory 0 7 Any; Always; BadOpcode AfterAddress),
     refusal!(Either 0 7 Any; Always; BadOperand AtModRM),
 ];
 
-pub(crate) const ROWS_F30F38DC: &[GroupRow; 2] = &[
+const ROWS_F30F38DC: &[GroupRow; 2] = &[
     read!(Memory 0 7 Any; Always; Name(422); Two(G(X), E(X)); Bytes(48); Bytes(48)),
     read!(Register 0 7 Any; Always; Name(563); Two(G(X), E(X)); Of(V); Of(V)),
 ];
 
-pub(crate) const ROWS_F30F38DD: &[GroupRow; 2] = &[
+const ROWS_F30F38DD: &[GroupRow; 2] = &[
     read!(Memory 0 7 Any; Always; Name(418); Two(G(X), M); Bytes(48); Bytes(48)),
     refusal!(Either 0 7 Any; Always; BadOperand AtModRM),
 ];
 
-pub(crate) const ROWS_F30F38DE: &[GroupRow; 2] = &[
+const ROWS_F30F38DE: &[GroupRow; 2] = &[
     read!(Memory 0 7 Any; Always; Name(423); Two(G(X), M); Bytes(64); Bytes(64)),
     refusal!(Either 0 7 Any; Always; BadOperand AtModRM),
 ];
 
-pub(crate) const ROWS_F30F38DF: &[GroupRow; 2] = &[
+const ROWS_F30F38DF: &[GroupRow; 2] = &[
     read!(Memory 0 7 Any; Always; Name(419); Two(G(X), M); Bytes(64); Bytes(64)),
     refusal!(Either 0 7 Any; Always; BadOperand AtModRM),
 ];
 
-pub(crate) const ROWS_F30F38FA: &[GroupRow; 2] = &[
+const ROWS_F30F38FA: &[GroupRow; 2] = &[
     read!(Register 0 7 Any; Always; Name(448); Two(G(D), U(D)); Of(V); Of(V)),
     refusal!(Either 0 7 Any; Always; BadOpcode AfterAddress),
 ];
 
-pub(crate) const ROWS_F30F38FB: &[GroupRow; 2] = &[
+const ROWS_F30F38FB: &[GroupRow; 2] = &[
     read!(Register 0 7 Any; Always; Name(449); Two(G(D), U(D)); Of(V); Of(V)),
     refusal!(Either 0 7 Any; Always; BadOpcode AfterAddress),
 ];
 
-pub(crate) const ROWS_F30F3AF0: &[GroupRow; 2] = &[
+const ROWS_F30F3AF0: &[GroupRow; 2] = &[
     read!(Register 0 7 Any; Always; Name(545); One(U8); Bytes(0); Bytes(0)),
     refusal!(Either 0 7 Any; Always; BadOpcode AtModRM),
 ];
 
-pub(crate) const ROWS_0F00: &[GroupRow; 2] = &[
+const ROWS_0F00: &[GroupRow; 2] = &[
     read!(Either 0 7 Any; Always; ByReg([641, 646, 561, 564, 656, 657, 0, 0]); One(E(W)); Bytes(2); Bytes(0)),
     refusal!(Either 0 7 Any; Always; BadOperand AtModRM),
 ];
 
-pub(crate) const ROWS_0F01: &[GroupRow; 36] = &[
+const ROWS_0F01: &[GroupRow; 36] = &[
     read!(Memory 0 0 Any; Always; Name(636); One(M); Bytes(10); Bytes(10)),
     read!(Memory 1 1 Any; Always; Name(639); One(M); Bytes(10); Bytes(10)),
     read!(Memory 2 2 Any; Always; Name(559); One(M); Bytes(10); Bytes(10)),
@@ -120,72 +124,72 @@ pub(crate) const ROWS_0F01: &[GroupRow; 36] = &[
     refusal!(Either 0 7 Any; Always; BadOpcode AtModRM),
 ];
 
-pub(crate) const ROWS_0F0D: &[GroupRow; 3] = &[
+const ROWS_0F0D: &[GroupRow; 3] = &[
     read!(Memory 1 1 Any; Always; Name(605); One(M); Bytes(64); Bytes(64)),
     read!(Memory 0 7 Any; Always; Name(76); One(M); Bytes(64); Bytes(64)),
     refusal!(Either 0 7 Any; Always; BadOperand AtModRM),
 ];
 
-pub(crate) const ROWS_0F0F: &[GroupRow; 1] = &[
+const ROWS_0F0F: &[GroupRow; 1] = &[
     read!(Either 0 7 Any; Always; BySuffix; Two(Gmm, Emm); Bytes(8); Of(V)),
 ];
 
-pub(crate) const ROWS_0F12: &[GroupRow; 2] = &[
+const ROWS_0F12: &[GroupRow; 2] = &[
     read!(Memory 0 7 Any; Always; Name(195); Two(G(X), E(X)); Bytes(8); Bytes(8)),
     read!(Register 0 7 Any; Always; Name(568); Two(G(X), E(X)); Of(V); Of(V)),
 ];
 
-pub(crate) const ROWS_0F16: &[GroupRow; 2] = &[
+const ROWS_0F16: &[GroupRow; 2] = &[
     read!(Memory 0 7 Any; Always; Name(196); Two(G(X), E(X)); Bytes(8); Bytes(8)),
     read!(Register 0 7 Any; Always; Name(569); Two(G(X), E(X)); Of(V); Of(V)),
 ];
 
-pub(crate) const ROWS_0F18: &[GroupRow; 2] = &[
+const ROWS_0F18: &[GroupRow; 2] = &[
     read!(Memory 0 7 Any; Always; ByReg([604, 601, 602, 603, 0, 0, 0, 0]); One(E(V)); Bytes(64); Bytes(64)),
     read!(Either 0 7 Any; Always; Name(76); One(E(V)); Bytes(64); Of(V)),
 ];
 
-pub(crate) const ROWS_RQ_CQ_0: &[GroupRow; 4] = &[
+const ROWS_RQ_CQ_0: &[GroupRow; 4] = &[
     read!(Register 0 0 Any; Always; Own; Two(U(Q), Cr); Bytes(0); Bytes(0)),
     refusal!(Register 2 4 Any; RexR; BadOperand AtModRM),
     read!(Register 2 4 Any; Always; Own; Two(U(Q), Cr); Bytes(0); Bytes(0)),
     refusal!(Either 0 7 Any; Always; BadOperand AtModRM),
 ];
 
-pub(crate) const ROWS_CQ_RQ_0: &[GroupRow; 4] = &[
+const ROWS_CQ_RQ_0: &[GroupRow; 4] = &[
     read!(Register 0 0 Any; Always; Own; Two(Cr, U(Q)); Bytes(0); Bytes(0)),
     refusal!(Register 2 4 Any; RexR; BadOperand AtModRM),
     read!(Register 2 4 Any; Always; Own; Two(Cr, U(Q)); Bytes(0); Bytes(0)),
     refusal!(Either 0 7 Any; Always; BadOperand AtModRM),
 ];
 
-pub(crate) const ROWS_RQ_DQ_0: &[GroupRow; 3] = &[
+const ROWS_RQ_DQ_0: &[GroupRow; 3] = &[
     refusal!(Register 0 7 Any; RexR; BadOperand AtModRM),
     read!(Register 0 7 Any; Always; Own; Two(U(Q), Dr); Bytes(0); Bytes(0)),
     refusal!(Either 0 7 Any; Always; BadOperand AtModRM),
 ];
 
-pub(crate) const ROWS_DQ_RQ_0: &[GroupRow; 3] = &[
+const ROWS_DQ_RQ_0: &[GroupRow; 3] = &[
     refusal!(Register 0 7 Any; RexR; BadOperand AtModRM),
     read!(Register 0 7 Any; Always; Own; Two(Dr, U(Q)); Bytes(0); Bytes(0)),
     refusal!(Either 0 7 Any; Always; BadOperand AtModRM),
 ];
 
-pub(crate) const ROWS_0F71: &[GroupRow; 4] = &[
+const ROWS_0F71: &[GroupRow; 4] = &[
     read!(Register 0 7 Any; Only66; ByReg([0, 0, 151, 0, 165, 0, 178, 0]); Two(U(X), U8); Of(V); Of(V)),
     read!(Register 0 7 Any; NoPrefix; ByReg([0, 0, 151, 0, 165, 0, 178, 0]); Two(Umm, U8); Of(V); Of(V)),
     refusal!(Register 0 7 Any; NoRepeat; BadOpcode AfterAddress),
     refusal!(Either 0 7 Any; Always; BadOperand AfterAddress),
 ];
 
-pub(crate) const ROWS_0F72: &[GroupRow; 4] = &[
+const ROWS_0F72: &[GroupRow; 4] = &[
     read!(Register 0 7 Any; Only66; ByReg([0, 0, 152, 0, 166, 0, 179, 0]); Two(U(X), U8); Of(V); Of(V)),
     read!(Register 0 7 Any; NoPrefix; ByReg([0, 0, 152, 0, 166, 0, 179, 0]); Two(Umm, U8); Of(V); Of(V)),
     refusal!(Register 0 7 Any; NoRepeat; BadOpcode AfterAddress),
     refusal!(Either 0 7 Any; Always; BadOperand AfterAddress),
 ];
 
-pub(crate) const ROWS_0F73: &[GroupRow; 6] = &[
+const ROWS_0F73: &[GroupRow; 6] = &[
     read!(Register 0 7 Any; Only66; ByReg([0, 0, 153, 608, 0, 0, 180, 606]); Two(U(X), U8); Of(V); Of(V)),
     read!(Register 0 7 Any; NoPrefix; ByReg([0, 0, 153, 0, 0, 0, 180, 0]); Two(Umm, U8); Of(V); Of(V)),
     refusal!(Register 3 3 Any; NoPrefix; BadOperand AfterAddress),
@@ -194,7 +198,7 @@ pub(crate) const ROWS_0F73: &[GroupRow; 6] = &[
     refusal!(Either 0 7 Any; Always; BadOperand AfterAddress),
 ];
 
-pub(crate) const ROWS_0FAE: &[GroupRow; 17] = &[
+const ROWS_0FAE: &[GroupRow; 17] = &[
     read!(Register 6 6 Any; F2; Name(655); One(RdInReg); Bytes(0); Bytes(0)),
     refusal!(Memory 0 7 Any; F2; BadOperand AtModRM),
     refusal!(Either 4 4 Any; F3With66; BadOpcode AtModRM),
@@ -203,9 +207,9 @@ pub(crate) const ROWS_0FAE: &[GroupRow; 17] = &[
     refusal!(Memory 0 7 Any; F3; BadOperand AtModRM),
     read!(Register 0 7 Any; F3; ByReg([614, 615, 671, 672, 0, 548, 0, 0]); One(U(Dq)); Bytes(0); Bytes(0)),
     read!(Register 6 6 Any; F3; Name(654); One(U(Q)); Bytes(0); Bytes(0)),
-    read_without_66!(Memory 6 6 Any; Only66; Name(436); One(M); Bytes(64); Bytes(64)),
-    read_without_66!(Memory 7 7 Any; Only66; Name(432); One(M); Bytes(64); Bytes(64)),
-    read_without_66!(Register 6 6 Any; Only66; Name(652); One(U(D)); Bytes(0); Bytes(0)),
+    read!(Memory 6 6 Any; Only66; Name(436); One(M); Bytes(64); Bytes(64); ClearsOperandSize),
+    read!(Memory 7 7 Any; Only66; Name(432); One(M); Bytes(64); Bytes(64); ClearsOperandSize),
+    read!(Register 6 6 Any; Only66; Name(652); One(U(D)); Bytes(0); Bytes(0); ClearsOperandSize),
     read!(Memory 0 7 Any; NoPrefix; ByReg([541, 540, 0, 0, 682, 679, 685, 0]); One(M); Bytes(63); Bytes(63)),
     read!(Memory 0 7 Any; NoPrefix; ByReg([0, 0, 557, 645, 0, 0, 0, 0]); One(M); Bytes(4); Bytes(4)),
     read!(Memory 7 7 Any; NoPrefix; Name(431); One(M); Bytes(64); Bytes(64)),
@@ -214,12 +218,12 @@ pub(crate) const ROWS_0FAE: &[GroupRow; 17] = &[
     refusal!(Either 0 7 Any; Always; BadOpcode AtModRM),
 ];
 
-pub(crate) const ROWS_0FBA: &[GroupRow; 2] = &[
+const ROWS_0FBA: &[GroupRow; 2] = &[
     read!(Either 0 7 Any; Always; ByReg([0, 0, 0, 0, 118, 119, 120, 121]); Two(E(Vq), I8); Of(Vq); Bytes(0)),
     refusal!(Either 0 7 Any; Always; BadOpcode AtModRM),
 ];
 
-pub(crate) const ROWS_0FC7: &[GroupRow; 17] = &[
+const ROWS_0FC7: &[GroupRow; 17] = &[
     read!(Memory 1 1 Any; RexW; Name(438); One(M); Bytes(16); Bytes(16)),
     read!(Memory 1 1 Any; Always; Name(439); One(M); Bytes(8); Bytes(8)),
     refusal!(Either 1 1 Any; Always; BadOperand AtModRM),
@@ -239,92 +243,92 @@ pub(crate) const ROWS_0FC7: &[GroupRow; 17] = &[
     refusal!(Either 0 7 Any; Always; BadOperand AtModRM),
 ];
 
-pub(crate) const ROWS_660F78: &[GroupRow; 2] = &[
+const ROWS_660F78: &[GroupRow; 2] = &[
     read!(Register 0 0 Any; Always; Name(270); Three(U(X), U8, X8); Bytes(0); Bytes(0)),
     refusal!(Either 0 7 Any; Always; BadOperand AtModRM),
 ];
 
-pub(crate) const ROWS_F20F78: &[GroupRow; 2] = &[
+const ROWS_F20F78: &[GroupRow; 2] = &[
     read!(Register 0 7 Any; Always; Name(318); Four(G(X), U(X), U8, X8); Bytes(0); Bytes(0)),
     refusal!(Either 0 7 Any; Always; BadOperand AtModRM),
 ];
 
-pub(crate) const ROWS_F30F1E: &[GroupRow; 3] = &[
+const ROWS_F30F1E: &[GroupRow; 3] = &[
     read!(Register 7 7 Is(2); Always; Name(451); Zero; Bytes(0); Bytes(0)),
     read!(Register 7 7 Is(3); Always; Name(450); Zero; Bytes(0); Bytes(0)),
     read!(Either 0 7 Any; Always; Name(76); Two(E(V), G(V)); Of(V); Of(V)),
 ];
 
-pub(crate) const ROWS_80: &[GroupRow; 1] = &[
+const ROWS_80: &[GroupRow; 1] = &[
     read!(Either 0 7 Any; Always; ByReg([1, 2, 3, 4, 5, 6, 7, 8]); Two(E(B), I8); Bytes(1); Bytes(1)),
 ];
 
-pub(crate) const ROWS_81: &[GroupRow; 1] = &[
+const ROWS_81: &[GroupRow; 1] = &[
     read!(Either 0 7 Any; Always; ByReg([1, 2, 3, 4, 5, 6, 7, 8]); Two(E(V), Iv); Of(V); Of(V)),
 ];
 
-pub(crate) const ROWS_83: &[GroupRow; 1] = &[
+const ROWS_83: &[GroupRow; 1] = &[
     read!(Either 0 7 Any; Always; ByReg([1, 2, 3, 4, 5, 6, 7, 8]); Two(E(V), I8); Of(V); Of(V)),
 ];
 
-pub(crate) const ROWS_8F: &[GroupRow; 3] = &[
+const ROWS_8F: &[GroupRow; 3] = &[
     read!(Either 0 0 Any; With66; Name(10); One(E(V)); Of(V); Of(V)),
     read!(Either 0 0 Any; Always; Name(10); One(E(V)); Bytes(8); Of(V)),
     refusal!(Either 0 7 Any; Always; Incomplete AfterAddress),
 ];
 
-pub(crate) const ROWS_C0: &[GroupRow; 1] = &[
+const ROWS_C0: &[GroupRow; 1] = &[
     read!(Either 0 7 Any; Always; ByReg([624, 625, 612, 613, 637, 638, 627, 628]); Two(E(B), I8); Bytes(1); Bytes(1)),
 ];
 
-pub(crate) const ROWS_C1: &[GroupRow; 1] = &[
+const ROWS_C1: &[GroupRow; 1] = &[
     read!(Either 0 7 Any; Always; ByReg([624, 625, 612, 613, 637, 638, 627, 628]); Two(E(V), I8); Of(V); Of(V)),
 ];
 
-pub(crate) const ROWS_D0: &[GroupRow; 1] = &[
+const ROWS_D0: &[GroupRow; 1] = &[
     read!(Either 0 7 Any; Always; ByReg([624, 625, 612, 613, 637, 638, 627, 628]); Two(E(B), SignedOne); Bytes(1); Bytes(1)),
 ];
 
-pub(crate) const ROWS_D1: &[GroupRow; 1] = &[
+const ROWS_D1: &[GroupRow; 1] = &[
     read!(Either 0 7 Any; Always; ByReg([624, 625, 612, 613, 637, 638, 627, 628]); Two(E(V), SignedOne); Of(V); Of(V)),
 ];
 
-pub(crate) const ROWS_D2: &[GroupRow; 1] = &[
+const ROWS_D2: &[GroupRow; 1] = &[
     read!(Either 0 7 Any; Always; ByReg([624, 625, 612, 613, 637, 638, 627, 628]); Two(E(B), CL); Bytes(1); Bytes(1)),
 ];
 
-pub(crate) const ROWS_D3: &[GroupRow; 1] = &[
+const ROWS_D3: &[GroupRow; 1] = &[
     read!(Either 0 7 Any; Always; ByReg([624, 625, 612, 613, 637, 638, 627, 628]); Two(E(V), CL); Of(V); Of(V)),
 ];
 
-pub(crate) const ROWS_C6: &[GroupRow; 3] = &[
+const ROWS_C6: &[GroupRow; 3] = &[
     read!(Either 0 0 Any; Always; Name(33); Two(E(B), I8); Bytes(1); Bytes(1)),
     read!(Register 0 7 Is(0); Always; Name(674); One(I8); Bytes(1); Bytes(1)),
     refusal!(Either 0 7 Any; Always; BadOperand AfterAddress),
 ];
 
-pub(crate) const ROWS_C7: &[GroupRow; 3] = &[
+const ROWS_C7: &[GroupRow; 3] = &[
     read!(Either 0 0 Any; Always; Name(33); Two(E(V), Iv); Of(V); Of(V)),
     read!(Register 0 7 Is(0); Always; Name(675); One(Jv); Of(V); Of(V)),
     refusal!(Either 0 7 Any; Always; BadOperand AfterAddress),
 ];
 
-pub(crate) const ROWS_F6: &[GroupRow; 2] = &[
+const ROWS_F6: &[GroupRow; 2] = &[
     read!(Either 0 7 Any; Always; ByReg([31, 31, 0, 0, 0, 0, 0, 0]); Two(E(B), I8); Bytes(1); Bytes(1)),
     read!(Either 0 7 Any; Always; ByReg([0, 0, 574, 573, 570, 12, 444, 546]); One(E(B)); Bytes(1); Bytes(1)),
 ];
 
-pub(crate) const ROWS_F7: &[GroupRow; 2] = &[
+const ROWS_F7: &[GroupRow; 2] = &[
     read!(Either 0 7 Any; Always; ByReg([31, 31, 0, 0, 0, 0, 0, 0]); Two(E(V), Iv); Of(V); Of(V)),
     read!(Either 0 7 Any; Always; ByReg([0, 0, 574, 573, 570, 12, 444, 546]); One(E(V)); Of(V); Of(V)),
 ];
 
-pub(crate) const ROWS_FE: &[GroupRow; 2] = &[
+const ROWS_FE: &[GroupRow; 2] = &[
     read!(Either 0 7 Any; Always; ByReg([547, 443, 0, 0, 0, 0, 0, 0]); One(E(B)); Bytes(1); Bytes(1)),
     refusal!(Either 0 7 Any; Always; BadOpcode AfterAddress),
 ];
 
-pub(crate) const ROWS_FF: &[GroupRow; 10] = &[
+const ROWS_FF: &[GroupRow; 10] = &[
     read!(Either 0 7 Any; Always; ByReg([547, 443, 0, 0, 0, 0, 0, 0]); One(E(V)); Of(V); Of(V)),
     read!(Either 2 2 Any; Always; Name(58); One(E(Q)); Bytes(8); Bytes(8)),
     read!(Memory 3 3 Any; Always; Name(426); One(M); Bytes(10); Bytes(10)),
@@ -337,12 +341,12 @@ pub(crate) const ROWS_FF: &[GroupRow; 10] = &[
     refusal!(Either 0 7 Any; Always; BadOpcode AfterAddress),
 ];
 
-pub(crate) const ROWS_D8: &[GroupRow; 2] = &[
+const ROWS_D8: &[GroupRow; 2] = &[
     read!(Memory 0 7 Any; Always; ByReg([454, 505, 467, 470, 528, 530, 475, 477]); Two(ST0, M); Bytes(4); Bytes(4)),
     read!(Register 0 7 Any; Always; ByReg([454, 505, 467, 470, 528, 530, 475, 477]); Two(ST0, StRm); Bytes(0); Bytes(0)),
 ];
 
-pub(crate) const ROWS_D9: &[GroupRow; 13] = &[
+const ROWS_D9: &[GroupRow; 13] = &[
     read!(Memory 0 0 Any; Always; Name(495); Two(ST0, M); Bytes(4); Bytes(4)),
     read!(Memory 2 2 Any; Always; Name(525); Two(M, ST0); Bytes(4); Bytes(4)),
     read!(Memory 3 3 Any; Always; Name(526); Two(M, ST0); Bytes(4); Bytes(4)),
@@ -358,14 +362,14 @@ pub(crate) const ROWS_D9: &[GroupRow; 13] = &[
     refusal!(Either 0 7 Any; Always; BadOpcode AtModRM),
 ];
 
-pub(crate) const ROWS_DA: &[GroupRow; 4] = &[
+const ROWS_DA: &[GroupRow; 4] = &[
     read!(Memory 0 7 Any; Always; ByReg([482, 488, 483, 484, 493, 494, 485, 486]); Two(ST0, M); Bytes(4); Bytes(4)),
     read!(Register 0 7 Any; Always; ByReg([459, 461, 460, 466, 0, 0, 0, 0]); Two(ST0, StRm); Bytes(0); Bytes(0)),
     read!(Register 5 5 Is(1); Always; Name(537); Zero; Bytes(0); Bytes(0)),
     refusal!(Either 0 7 Any; Always; BadOpcode AtModRM),
 ];
 
-pub(crate) const ROWS_DB: &[GroupRow; 7] = &[
+const ROWS_DB: &[GroupRow; 7] = &[
     read!(Memory 0 0 Any; Always; Name(487); Two(ST0, M); Bytes(4); Bytes(4)),
     read!(Memory 0 7 Any; Always; ByReg([0, 492, 490, 491, 0, 0, 0, 0]); Two(M, ST0); Bytes(4); Bytes(4)),
     read!(Memory 5 5 Any; Always; Name(495); Two(ST0, M); Bytes(10); Bytes(10)),
@@ -375,13 +379,13 @@ pub(crate) const ROWS_DB: &[GroupRow; 7] = &[
     refusal!(Either 0 7 Any; Always; BadOpcode AtModRM),
 ];
 
-pub(crate) const ROWS_DC: &[GroupRow; 3] = &[
+const ROWS_DC: &[GroupRow; 3] = &[
     read!(Memory 0 7 Any; Always; ByReg([454, 505, 467, 470, 528, 530, 475, 477]); Two(ST0, M); Bytes(8); Bytes(8)),
     read!(Register 0 7 Any; Always; ByReg([0, 0, 467, 470, 0, 0, 0, 0]); Two(ST0, StRm); Bytes(0); Bytes(0)),
     read!(Register 0 7 Any; Always; ByReg([454, 505, 0, 0, 530, 528, 477, 475]); Two(StRm, ST0); Bytes(0); Bytes(0)),
 ];
 
-pub(crate) const ROWS_DD: &[GroupRow; 8] = &[
+const ROWS_DD: &[GroupRow; 8] = &[
     read!(Memory 0 0 Any; Always; Name(495); Two(ST0, M); Bytes(8); Bytes(8)),
     read!(Memory 0 7 Any; Always; ByReg([0, 492, 525, 526, 0, 0, 0, 0]); Two(M, ST0); Bytes(8); Bytes(8)),
     read!(Memory 0 7 Any; Always; ByReg([0, 0, 0, 0, 519, 0, 510, 0]); One(M); Bytes(63); Bytes(63)),
@@ -392,7 +396,7 @@ pub(crate) const ROWS_DD: &[GroupRow; 8] = &[
     refusal!(Either 0 7 Any; Always; BadOpcode AtModRM),
 ];
 
-pub(crate) const ROWS_DE: &[GroupRow; 5] = &[
+const ROWS_DE: &[GroupRow; 5] = &[
     read!(Memory 0 7 Any; Always; ByReg([482, 488, 483, 484, 493, 494, 485, 486]); Two(ST0, M); Bytes(2); Bytes(2)),
     read!(Register 2 2 Any; Always; Name(470); Two(ST0, StRm); Bytes(0); Bytes(0)),
     read!(Register 3 3 Is(1); Always; Name(471); Zero; Bytes(0); Bytes(0)),
@@ -400,7 +404,7 @@ pub(crate) const ROWS_DE: &[GroupRow; 5] = &[
     refusal!(Either 0 7 Any; Always; BadOperand AtModRM),
 ];
 
-pub(crate) const ROWS_DF: &[GroupRow; 11] = &[
+const ROWS_DF: &[GroupRow; 11] = &[
     read!(Memory 0 0 Any; Always; Name(487); Two(ST0, M); Bytes(2); Bytes(2)),
     read!(Memory 0 7 Any; Always; ByReg([0, 492, 490, 491, 0, 0, 0, 0]); Two(M, ST0); Bytes(2); Bytes(2)),
     read!(Memory 4 4 Any; Always; Name(456); Two(ST0, M); Bytes(10); Bytes(10)),
@@ -569,4 +573,86 @@ pub(crate) const REG_LINES: &[[RegLine; 8]; 15] = &[
 ];
 
 /// The rows of a form that has none.
-pub(crate) const LEFT_OUT: &[GroupRow; 1] = &[refusal!(Either 0 7 Any; Always; Incomplete AtModRM)];
+const LEFT_OUT: &[GroupRow; 1] = &[refusal!(Either 0 7 Any; Always; Incomplete AtModRM)];
+
+/// Maps 0F38 and 0F3A.
+#[tactic(auto, unfolding(crate::specs::Rows::three_byte_rows))]
+fn three_byte_rows(form: Form) -> &'static [GroupRow]
+    ensures { result.now ≡ three_byte_rows form }
+{
+    match form {
+        Form::ModRM_0xf30f38d8 => ROWS_F30F38D8,
+        Form::ModRM_0xf30f38dc => ROWS_F30F38DC,
+        Form::ModRM_0xf30f38dd => ROWS_F30F38DD,
+        Form::ModRM_0xf30f38de => ROWS_F30F38DE,
+        Form::ModRM_0xf30f38df => ROWS_F30F38DF,
+        Form::ModRM_0xf30f38fa => ROWS_F30F38FA,
+        Form::ModRM_0xf30f38fb => ROWS_F30F38FB,
+        Form::ModRM_0xf30f3af0 => ROWS_F30F3AF0,
+        _ => LEFT_OUT,
+    }
+}
+
+/// Map 0F.
+#[tactic(auto, unfolding(crate::specs::Rows::two_byte_rows))]
+fn two_byte_rows(form: Form) -> &'static [GroupRow]
+    ensures { result.now ≡ two_byte_rows form }
+{
+    match form {
+        Form::ModRM_0x0f00 => ROWS_0F00,
+        Form::ModRM_0x0f01 => ROWS_0F01,
+        Form::ModRM_0x0f0d => ROWS_0F0D,
+        Form::ModRM_0x0f0f => ROWS_0F0F,
+        Form::ModRM_0x0f12 => ROWS_0F12,
+        Form::ModRM_0x0f16 => ROWS_0F16,
+        Form::ModRM_0x0f18 => ROWS_0F18,
+        Form::Rq_Cq_0 => ROWS_RQ_CQ_0,
+        Form::Cq_Rq_0 => ROWS_CQ_RQ_0,
+        Form::Rq_Dq_0 => ROWS_RQ_DQ_0,
+        Form::Dq_Rq_0 => ROWS_DQ_RQ_0,
+        Form::ModRM_0x0f71 => ROWS_0F71,
+        Form::ModRM_0x0f72 => ROWS_0F72,
+        Form::ModRM_0x0f73 => ROWS_0F73,
+        Form::ModRM_0x0fae => ROWS_0FAE,
+        Form::ModRM_0x0fba => ROWS_0FBA,
+        Form::ModRM_0x0fc7 => ROWS_0FC7,
+        Form::ModRM_0x660f78 => ROWS_660F78,
+        Form::ModRM_0xf20f78 => ROWS_F20F78,
+        Form::ModRM_0xf30f1e => ROWS_F30F1E,
+        _ => three_byte_rows(form),
+    }
+}
+
+/// The rows of a form.
+#[tactic(auto, unfolding(crate::specs::Rows::group_rows))]
+pub(crate) fn group_rows(form: Form) -> &'static [GroupRow]
+    ensures { result.now ≡ group_rows form }
+{
+    match form {
+        Form::ModRM_0x80 => ROWS_80,
+        Form::ModRM_0x81 => ROWS_81,
+        Form::ModRM_0x83 => ROWS_83,
+        Form::ModRM_0x8f => ROWS_8F,
+        Form::ModRM_0xc0 => ROWS_C0,
+        Form::ModRM_0xc1 => ROWS_C1,
+        Form::ModRM_0xd0 => ROWS_D0,
+        Form::ModRM_0xd1 => ROWS_D1,
+        Form::ModRM_0xd2 => ROWS_D2,
+        Form::ModRM_0xd3 => ROWS_D3,
+        Form::ModRM_0xc6 => ROWS_C6,
+        Form::ModRM_0xc7 => ROWS_C7,
+        Form::ModRM_0xf6 => ROWS_F6,
+        Form::ModRM_0xf7 => ROWS_F7,
+        Form::ModRM_0xfe => ROWS_FE,
+        Form::ModRM_0xff => ROWS_FF,
+        Form::x87_d8 => ROWS_D8,
+        Form::x87_d9 => ROWS_D9,
+        Form::x87_da => ROWS_DA,
+        Form::x87_db => ROWS_DB,
+        Form::x87_dc => ROWS_DC,
+        Form::x87_dd => ROWS_DD,
+        Form::x87_de => ROWS_DE,
+        Form::x87_df => ROWS_DF,
+        _ => two_byte_rows(form),
+    }
+}

@@ -17,11 +17,11 @@ use Rattle.x86_operands.specs.contracts.encodings.Size.{the_type}
 use Rattle.x86_operands.specs.declared.plans.Plan.{Plan}
 use Rattle.x86_fields.specs.declared.sizes.Width.{Width}
 use Rattle.x86_fields.specs.declared.sizes.Width.TheVariants as width
-use Rattle.x86_operands.specs.declared.form_encodings.TheConstants.{ENCODINGS}
-use Rattle.x86_operands.specs.FormEncodings.{Belongs, Describes, HasSeparatePlan, separate_plan}
+use Rattle.x86_operands.specs.declared.lines.TheConstants.{ENCODINGS}
+use Rattle.x86_operands.specs.FormEncodings.{Belongs, Describes, HasSeparatePlan}
 use Rattle.x86_operands.specs.Encodings.{encodings_in, is_described, is_sound, last_encoding, plan_of, reg_encoding, restricted_plan, rm_encoding, size_at, size_bytes, use_of}
 use Rattle.x86_operands.specs.Plans.{reads}
-use Rattle.x86_operands.specs.Forms.{form_plan, modrm_use}
+use Rattle.x86_operands.specs.Forms.{form_plan, modrm_use, separate_plan}
 
 pub record IsLine (e : FormEncoding) (f : Form) : Type 0 where
   pub describes : Describes e f

@@ -26,7 +26,7 @@ use Rattle.x86_operands.specs.declared.encodings.Size.{Size}
 use Rattle.x86_operands.specs.declared.encodings.Size.TheVariants as size
 use Rattle.x86_operands.specs.declared.encodings.FormEncoding.{FormEncoding}
 use Rattle.x86_operands.specs.Plans.{reads, memory_only, register_only, register_at, accumulator_of, immediate_of}
-use Rattle.x86_operands.specs.FormSizes.{whole_immediate, push_immediate, nothing_size, call_size, return_size, duplicate_size, stream_size, scalar_size, extract_size, insert_size, unpack_size, v_size}
+use Rattle.x86_operands.specs.FormSizes.{whole_immediate, push_immediate, call_size, named_size, v_size}
 use Rattle.x86_operands.specs.declared.plans.ModrmUse.{ModrmUse}
 use Rattle.x86_operands.specs.declared.plans.ModrmUse.TheVariants as use_as
 
@@ -42,14 +42,7 @@ size_bytes size.V o p = v_size p
 size_bytes size.Dq o p = width_of (dq_class p)
 size_bytes size.Push o p = if operand_size p then 2 else 8
 size_bytes size.Call o p = call_size o
-size_bytes size.Bare o p = nothing_size o
-size_bytes size.Return o p = return_size o
-size_bytes size.Duplicate o p = duplicate_size o
-size_bytes size.Stream o p = stream_size o
-size_bytes size.Scalar o p = scalar_size o
-size_bytes size.Extract o p = extract_size o
-size_bytes size.Insert o p = insert_size o
-size_bytes size.Unpack o p = unpack_size o
+size_bytes s o p = named_size s o
 
 -- the register CL, as a third operand
 abbrev pub cl_third : OperandEncoding

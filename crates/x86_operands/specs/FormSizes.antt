@@ -53,14 +53,8 @@ doubling W = CWD
 doubling Q = CQO
 doubling c = CDQ
 
-abbrev pub nothing_size : ℕ → ℕ
-nothing_size o = if is_among (RETURN ∷ PUSHF ∷ POPF ∷ LEAVE ∷ []) o then 8 else (if o == RETF then 10 else (if o == XLAT then 1 else 0))
-
 abbrev pub call_size : ℕ → ℕ
 call_size o = if o == CALL then 8 else 0
-
-abbrev pub return_size : ℕ → ℕ
-return_size o = if o == RETURN then 8 else (if o == RETF then 10 else 0)
 
 abbrev pub port_size : Prefixes → ℕ
 port_size p = if operand_size p then 2 else 4
@@ -76,15 +70,6 @@ far_size o p =
     if is_far_load o then (if has_w p then 10 else (if operand_size p then 4 else 6))
     else (if is_among (ENQCMD ∷ ENQCMDS ∷ []) o then 64 else 16)
 
-abbrev pub duplicate_size : ℕ → ℕ
-duplicate_size o = if o == MOVDDUP then 8 else 16
-
-abbrev pub stream_size : ℕ → ℕ
-stream_size o = if o == MOVNTSS then 4 else (if is_among (MOVNTPS ∷ MOVNTPD ∷ MOVNTDQ ∷ []) o then 16 else 8)
-
-abbrev pub scalar_size : ℕ → ℕ
-scalar_size o = if is_among (CMPSS ∷ ROUNDSS ∷ []) o then 4 else (if is_among (CMPSD ∷ ROUNDSD ∷ []) o then 8 else 16)
-
 abbrev pub extend_size : ℕ → ℕ
 extend_size o =
     if is_among (PMOVSXBQ ∷ PMOVZXBQ ∷ []) o then 2
@@ -93,23 +78,14 @@ extend_size o =
 abbrev pub is_half_load : ℕ → Bool
 is_half_load o = is_among (MOVLPD ∷ MOVHPD ∷ []) o
 
-abbrev pub extract_size : ℕ → ℕ
-extract_size o = if o == PEXTRB then 1 else (if o == PEXTRW then 2 else (if o == EXTRACTPS then 4 else 0))
-
-abbrev pub insert_size : ℕ → ℕ
-insert_size o = if o == PINSRB then 1 else (if o == INSERTPS then 4 else 0)
-
-abbrev pub unpack_size : ℕ → ℕ
-unpack_size o = if is_among (PUNPCKLBW ∷ PUNPCKLWD ∷ PUNPCKLDQ ∷ []) o then 4 else 8
-
 -- a size that the operation alone decides, and 0 for the others
 abbrev pub named_size : Size → ℕ → ℕ
-named_size size.Bare o = nothing_size o
-named_size size.Return o = return_size o
-named_size size.Duplicate o = duplicate_size o
-named_size size.Stream o = stream_size o
-named_size size.Scalar o = scalar_size o
-named_size size.Extract o = extract_size o
-named_size size.Insert o = insert_size o
-named_size size.Unpack o = unpack_size o
+named_size size.Bare o = if is_among (RETURN ∷ PUSHF ∷ POPF ∷ LEAVE ∷ []) o then 8 else (if o == RETF then 10 else (if o == XLAT then 1 else 0))
+named_size size.Return o = if o == RETURN then 8 else (if o == RETF then 10 else 0)
+named_size size.Duplicate o = if o == MOVDDUP then 8 else 16
+named_size size.Stream o = if o == MOVNTSS then 4 else (if is_among (MOVNTPS ∷ MOVNTPD ∷ MOVNTDQ ∷ []) o then 16 else 8)
+named_size size.Scalar o = if is_among (CMPSS ∷ ROUNDSS ∷ []) o then 4 else (if is_among (CMPSD ∷ ROUNDSD ∷ []) o then 8 else 16)
+named_size size.Extract o = if o == PEXTRB then 1 else (if o == PEXTRW then 2 else (if o == EXTRACTPS then 4 else 0))
+named_size size.Insert o = if o == PINSRB then 1 else (if o == INSERTPS then 4 else 0)
+named_size size.Unpack o = if is_among (PUNPCKLBW ∷ PUNPCKLWD ∷ PUNPCKLDQ ∷ []) o then 4 else 8
 named_size s o = 0

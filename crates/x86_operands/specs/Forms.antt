@@ -20,17 +20,19 @@ use Rattle.x86_operands.specs.declared.plans.PointerSlot.{PointerSlot}
 use Rattle.x86_operands.specs.declared.plans.PointerSlot.TheVariants.{Deref, DerefEsi, DerefEdi, DerefRsi, DerefRdi}
 use Rattle.x86_operands.specs.declared.plans.OperandEncoding.{OperandEncoding}
 use Rattle.x86_operands.specs.declared.plans.OperandEncoding.TheVariants.{G, Gmm, E, Emm, M, U, Umm, Fixed, Pointer, I8, I32, U8, U16, X16, ConstantU8}
+use Rattle.x86_operands.specs.declared.plans.OperandEncodings.{OperandEncodings}
 use Rattle.x86_operands.specs.declared.plans.OperandEncodings.TheVariants.{Zero, One, Two, Three}
 use Rattle.x86_operands.specs.declared.plans.Fault.TheVariants.{BadOperand, Incomplete}
 use Rattle.x86_operands.specs.declared.plans.Moment.TheVariants.{AtModRM, AfterAddress, AfterSuffix}
 use Rattle.x86_operands.specs.declared.plans.PrefixChange.TheVariants.{SetsEs}
+use Rattle.x86_operands.specs.declared.encodings.Size.TheVariants as size
 use Rattle.x86_operands.specs.declared.plans.ModrmUse.{ModrmUse}
 use Rattle.x86_operands.specs.declared.plans.ModrmUse.TheVariants.{Absent, EitherForm}
 use Rattle.x86_operands.specs.declared.plans.Plan.{Plan}
 use Rattle.x86_fields.specs.Sizes.{v_class, vq_class, vd_class, dq_class}
 use Rattle.x86_fields.specs.ModRM.{is_memory}
 use Rattle.x86_operands.specs.Plans.{RowRecord, reads, refuses, refused, memory_only, register_only, size_by, reg_number, register_at, accumulator_of, immediate_of}
-use Rattle.x86_operands.specs.FormSizes.{pointer_class, whole_immediate, push_immediate, address_encoding, widening, doubling, nothing_size, call_size, return_size, port_size, far_class, far_size, duplicate_size, stream_size, scalar_size, extend_size, is_half_load, extract_size, insert_size, unpack_size, v_size, or_v}
+use Rattle.x86_operands.specs.FormSizes.{pointer_class, whole_immediate, push_immediate, address_encoding, widening, doubling, call_size, named_size, port_size, far_class, far_size, extend_size, is_half_load, v_size, or_v}
 use Rattle.x86_operands.specs.Encodings.{cl_third}
 
 -- ---- operand encodings of these forms
@@ -39,41 +41,72 @@ use Rattle.x86_operands.specs.Encodings.{cl_third}
 abbrev pub z_in : RegisterSlot → ℕ → RegisterClass → Prefixes → OperandEncoding
 z_in slot n c p = Fixed slot (register_at n c p)
 
-abbrev pub dx_port : OperandEncoding
-dx_port = Fixed Rm (reg_spec 2 W)
+-- dl or dx, in a slot
+abbrev pub dx_in : RegisterSlot → RegisterClass → OperandEncoding
+dx_in slot c = Fixed slot (reg_spec 2 c)
 
-abbrev pub dl_in_reg : OperandEncoding
-dl_in_reg = Fixed Reg (reg_spec 2 B)
+-- memory at the register si or di of a class, in a slot
+abbrev pub at_si : PointerSlot → RegisterClass → OperandEncoding
+at_si slot c = Pointer slot (reg_spec 6 c)
 
-abbrev pub dx_in_reg : OperandEncoding
-dx_in_reg = Fixed Reg (reg_spec 2 W)
+abbrev pub at_di : PointerSlot → RegisterClass → OperandEncoding
+at_di slot c = Pointer slot (reg_spec 7 c)
 
-abbrev pub segment_register : ℕ → OperandEncoding
-segment_register n = Fixed Reg (reg_spec n S)
-
--- memory at rsi or esi, and at rdi or edi
-abbrev pub at_rsi : PointerSlot → Prefixes → OperandEncoding
-at_rsi slot p = Pointer slot (reg_spec 6 (pointer_class p))
-
-abbrev pub at_rdi : PointerSlot → Prefixes → OperandEncoding
-at_rdi slot p = Pointer slot (reg_spec 7 (pointer_class p))
-
--- the same in a separate slot
-abbrev pub source_string : Prefixes → OperandEncoding
-source_string p = at_rsi (if address_size p then DerefEsi else DerefRsi) p
-
-abbrev pub target_string : Prefixes → OperandEncoding
-target_string p = at_rdi (if address_size p then DerefEdi else DerefRdi) p
-
--- the strings of INS and OUTS, which 67 doesn't shorten
-abbrev pub wide_rsi : OperandEncoding
-wide_rsi = Pointer Deref (reg_spec 6 Q)
-
-abbrev pub wide_rdi : OperandEncoding
-wide_rdi = Pointer Deref (reg_spec 7 Q)
+-- the strings of MOVS and CMPS, each in a slot that shows the class
+abbrev pub strings : Prefixes → OperandEncodings
+strings p =
+    if address_size p then Two (at_di DerefEdi D) (at_si DerefEsi D) else Two (at_di DerefRdi Q) (at_si DerefRsi Q)
 
 abbrev pub sets_es : Plan → Plan
 sets_es plan = record plan { change = SetsEs }
+
+-- XCHG with the accumulator; field 0 without B is NOP
+abbrev pub exchange_plan : ℕ → ℕ → Prefixes → Plan
+exchange_plan n o p = if (n == 0) && not (has_b p) then reads NOP Zero 0 else reads o (Two (accumulator_of (v_class p) p) (z_in Rm n (v_class p) p)) 0
+
+-- ---- forms that no line of the table describes: what they have goes by more than W and 66
+
+-- ports, absolute addresses and strings; 67 doesn't shorten those of INS and OUTS
+abbrev pub string_plan : Form → ℕ → Prefixes → ℕ → Plan
+string_plan form.AL_DX o p m = reads o (Two (accumulator_of B p) (dx_in Rm W)) 0
+string_plan form.AX_DX o p m = reads o (Two (accumulator_of (vd_class p) p) (dx_in Rm W)) 0
+string_plan form.DX_AL o p m = reads o (Two (dx_in Rm W) (accumulator_of B p)) 0
+string_plan form.DX_AX o p m = reads o (Two (dx_in Rm W) (accumulator_of (vd_class p) p)) 0
+string_plan form.AL_Ob o p m = reads o (Two (accumulator_of B p) (address_encoding p)) 1
+string_plan form.AX_Ov o p m = reads o (Two (accumulator_of (v_class p) p) (address_encoding p)) (v_size p)
+string_plan form.Ob_AL o p m = reads o (Two (address_encoding p) (accumulator_of B p)) 1
+string_plan form.Ov_AX o p m = reads o (Two (address_encoding p) (accumulator_of (v_class p) p)) (v_size p)
+string_plan form.AL_Xb o p m = reads o (Two (accumulator_of B p) (at_si Deref (pointer_class p))) 1
+string_plan form.AX_Xv o p m = reads o (Two (accumulator_of (v_class p) p) (at_si Deref (pointer_class p))) (v_size p)
+string_plan form.Yb_AL o p m = sets_es (reads o (Two (at_di Deref (pointer_class p)) (accumulator_of B p)) 1)
+string_plan form.Yv_AX o p m = sets_es (reads o (Two (at_di Deref (pointer_class p)) (accumulator_of (v_class p) p)) (v_size p))
+string_plan form.Yb_Xb o p m = reads o (strings p) 1
+string_plan form.Yv_Xv o p m = reads o (strings p) (v_size p)
+string_plan form.Yb_DX o p m = reads o (Two (at_di Deref Q) (dx_in Reg B)) 1
+string_plan form.Yv_DX o p m = reads o (Two (at_di Deref Q) (dx_in Reg W)) (port_size p)
+string_plan form.DX_Xb o p m = reads o (Two (dx_in Reg B) (at_si Deref Q)) 1
+string_plan form.DX_Xv o p m = reads o (Two (dx_in Reg W) (at_si Deref Q)) (port_size p)
+string_plan f o p m = refuses Incomplete AtModRM
+
+abbrev pub separate_plan : Form → ℕ → Prefixes → ℕ → Plan
+separate_plan (form.Zv_AX_R n) o p m = exchange_plan n o p
+separate_plan form.Iw_Ib o p m = reads o (Two X16 U8) 8
+separate_plan form.CXZ o p m = reads (if address_size p then JECXZ else o) (One I8) 0
+separate_plan form.CVT_AA o p m = reads (widening (v_class p)) Zero 0
+separate_plan form.CVT_DA o p m = reads (doubling (v_class p)) Zero 0
+separate_plan form.Fw o p m = reads (if has_w p then IRETQ else (if operand_size p then IRET else IRETD)) Zero 0
+separate_plan form.FS o p m = reads o (One (Fixed Reg (reg_spec 4 S))) 8
+separate_plan form.GS o p m = reads o (One (Fixed Reg (reg_spec 5 S))) 8
+separate_plan form.Ew_Sw o p m = refused (nat_lt 5 (reg_number m p)) BadOperand AfterAddress (reads o (Two (E D) (G S)) (or_v 2 p m))
+separate_plan form.Sw_Ew o p m = refused (nat_lt 5 (reg_number m p) || (reg_number m p == 1)) BadOperand AfterAddress (reads o (Two (G S) (E W)) (or_v 2 p m))
+separate_plan form.INV_Gv_M o p m = memory_only m (reads o (Two (G (far_class o p)) M) (far_size o p))
+separate_plan form.MOVDIR64B o p m = memory_only m (reads o (Two (G (pointer_class p)) M) 64)
+separate_plan form.PMOVX_G_E_xmm o p m = refused (is_half_load o && not (is_memory m)) BadOperand AtModRM (reads o (Two (G X) (E X)) (or_v (extend_size o) p m))
+separate_plan form.Pextr_dq o p m = reads (if has_w p then PEXTRQ else PEXTRD) (Three (E (v_class p)) (G X) U8) (if has_w p then 8 else 4)
+separate_plan form.Pinsr_dq o p m = reads (if has_w p then PINSRQ else PINSRD) (Three (G X) (E X) U8) (or_v (if has_w p then 8 else 4) p m)
+separate_plan form.Edq_G_xmm o p m = reads (if has_w p then MOVQ else o) (Two (E (dq_class p)) (G X)) (or_v (width_of (dq_class p)) p m)
+separate_plan form.Rv_Gmm_Ib o p m = refused (is_memory m) BadOperand AfterSuffix (reads o (Three (G D) Umm U8) (v_size p))
+separate_plan f o p m = string_plan f o p m
 
 -- ---- mm registers
 abbrev pub mm_plan : Form → ℕ → Prefixes → ℕ → Plan
@@ -82,7 +115,7 @@ mm_plan form.G_mm_E_xmm o p m = reads o (Two Gmm (E X)) (or_v 16 p m)
 mm_plan form.G_xmm_U_mm o p m = register_only m (reads o (Two (G X) Umm) (v_size p))
 mm_plan form.G_mm_U_xmm o p m = register_only m (reads o (Two Gmm (U X)) (v_size p))
 mm_plan form.G_U_mm o p m = register_only m (reads o (Two (G D) Umm) (v_size p))
-mm_plan form.G_E_mm o p m = reads o (Two Gmm Emm) (or_v (unpack_size o) p m)
+mm_plan form.G_E_mm o p m = reads o (Two Gmm Emm) (or_v (named_size size.Unpack o) p m)
 mm_plan form.G_mm_E o p m = reads o (Two Gmm Emm) (or_v 8 p m)
 mm_plan form.E_G_mm o p m = reads o (Two Emm Gmm) (or_v 8 p m)
 mm_plan form.G_E_mm_Ib o p m = reads o (Three Gmm Emm I8) (size_by m 8 0)
@@ -90,21 +123,19 @@ mm_plan form.G_mm_Edq o p m = reads o (Two Gmm (E (dq_class p))) (v_size p)
 mm_plan form.Edq_G_mm o p m = reads o (Two (E (dq_class p)) Gmm) (or_v (width_of (dq_class p)) p m)
 mm_plan form.G_Mq_mm o p m = memory_only m (reads o (Two M Gmm) 8)
 mm_plan form.G_mm_U_mm o p m = register_only m (reads o (Two Gmm Umm) 8)
-mm_plan form.Rv_Gmm_Ib o p m = refused (is_memory m) BadOperand AfterSuffix (reads o (Three (G D) Umm U8) (v_size p))
 mm_plan form.G_mm_Ew_Ib o p m = reads o (Three Gmm (E D) I8) (or_v 2 p m)
-mm_plan f o p m = refuses Incomplete AtModRM
+mm_plan f o p m = separate_plan f o p m
 
 -- ---- xmm registers
 abbrev pub xmm_plan : Form → ℕ → Prefixes → ℕ → Plan
-xmm_plan form.G_E_xmm o p m = reads o (Two (G X) (E X)) (or_v (duplicate_size o) p m)
+xmm_plan form.G_E_xmm o p m = reads o (Two (G X) (E X)) (or_v (named_size size.Duplicate o) p m)
 xmm_plan form.E_G_xmm o p m = reads o (Two (E X) (G X)) (or_v 16 p m)
 xmm_plan form.G_Ed_xmm o p m = reads o (Two (G X) (E X)) (or_v 4 p m)
 xmm_plan form.Ed_G_xmm o p m = reads o (Two (E X) (G X)) (or_v 4 p m)
 xmm_plan form.G_M_xmm o p m = memory_only m (reads o (Two (G X) M) 16)
-xmm_plan form.M_G_xmm o p m = memory_only m (reads o (Two M (G X)) (stream_size o))
-xmm_plan form.G_E_xmm_Ib o p m = reads o (Three (G X) (E X) I8) (or_v (scalar_size o) p m)
+xmm_plan form.M_G_xmm o p m = memory_only m (reads o (Two M (G X)) (named_size size.Stream o))
+xmm_plan form.G_E_xmm_Ib o p m = reads o (Three (G X) (E X) I8) (or_v (named_size size.Scalar o) p m)
 xmm_plan form.G_E_xmm_Ub o p m = reads o (Three (G X) (E X) U8) (or_v 16 p m)
-xmm_plan form.PMOVX_G_E_xmm o p m = refused (is_half_load o && not (is_memory m)) BadOperand AtModRM (reads o (Two (G X) (E X)) (or_v (extend_size o) p m))
 xmm_plan form.PMOVX_E_G_xmm o p m = reads o (Two (E X) (G X)) (or_v 8 p m)
 xmm_plan form.MOVQ_f30f o p m = reads o (Two (G X) (E X)) (or_v 8 p m)
 xmm_plan form.Gdq_Eq_xmm o p m = reads o (Two (G (v_class p)) (E X)) (or_v 8 p m)
@@ -113,13 +144,10 @@ xmm_plan form.Gd_U_xmm o p m = register_only m (reads o (Two (G D) (U X)) (v_siz
 xmm_plan form.G_U_xmm o p m = register_only m (reads o (Two (G X) (U X)) (v_size p))
 xmm_plan form.MASKMOVDQU o p m = register_only m (reads o (Two (G X) (U X)) 16)
 xmm_plan form.G_U_xmm_Ub o p m = register_only m (reads o (Three (G D) (U X) U8) (v_size p))
-xmm_plan form.Ev_G_xmm_Ib o p m = reads o (Three (E (v_class p)) (G X) U8) (extract_size o)
-xmm_plan form.Pextr_dq o p m = reads (if has_w p then PEXTRQ else PEXTRD) (Three (E (v_class p)) (G X) U8) (if has_w p then 8 else 4)
-xmm_plan form.G_Ev_xmm_Ib o p m = reads o (Three (G X) (E X) U8) (or_v (insert_size o) p m)
-xmm_plan form.Pinsr_dq o p m = reads (if has_w p then PINSRQ else PINSRD) (Three (G X) (E X) U8) (or_v (if has_w p then 8 else 4) p m)
+xmm_plan form.Ev_G_xmm_Ib o p m = reads o (Three (E (v_class p)) (G X) U8) (named_size size.Extract o)
+xmm_plan form.G_Ev_xmm_Ib o p m = reads o (Three (G X) (E X) U8) (or_v (named_size size.Insert o) p m)
 xmm_plan form.G_xmm_Ew_Ib o p m = reads o (Three (G X) (E D) U8) (or_v 2 p m)
 xmm_plan form.G_xmm_Edq o p m = reads o (Two (G X) (E (dq_class p))) (v_size p)
-xmm_plan form.Edq_G_xmm o p m = reads (if has_w p then MOVQ else o) (Two (E (dq_class p)) (G X)) (or_v (width_of (dq_class p)) p m)
 xmm_plan f o p m = mm_plan f o p m
 
 -- ---- general registers
@@ -143,56 +171,18 @@ general_plan form.Ev_Gv_Ib o p m = reads o (Three (E (v_class p)) (G (v_class p)
 general_plan form.Ev_Gv_CL o p m = reads o (Three (E (v_class p)) (G (v_class p)) cl_third) (v_size p)
 general_plan form.Gv_Ew_LAR o p m = reads o (Two (G (v_class p)) (E (v_class p))) (or_v 2 p m)
 general_plan form.Gv_Ew_LSL o p m = reads o (Two (G (v_class p)) (E (vd_class p))) (or_v 2 p m)
-general_plan form.Ew_Sw o p m = refused (nat_lt 5 (reg_number m p)) BadOperand AfterAddress (reads o (Two (E D) (G S)) (or_v 2 p m))
-general_plan form.Sw_Ew o p m = refused (nat_lt 5 (reg_number m p) || (reg_number m p == 1)) BadOperand AfterAddress (reads o (Two (G S) (E W)) (or_v 2 p m))
-general_plan form.INV_Gv_M o p m = memory_only m (reads o (Two (G (far_class o p)) M) (far_size o p))
-general_plan form.MOVDIR64B o p m = memory_only m (reads o (Two (G (pointer_class p)) M) 64)
 general_plan form.Mdq_Gdq o p m = memory_only m (reads o (Two M (G (dq_class p))) (width_of (dq_class p)))
 general_plan form.G_E_q o p m = reads o (Two (G Q) (E Q)) (or_v 8 p m)
 general_plan form.E_G_q o p m = reads o (Two (E Q) (G Q)) (or_v 8 p m)
 general_plan f o p m = xmm_plan f o p m
 
--- ---- no ModRM: accumulators, addresses and strings
-abbrev pub accumulator_plan : Form → ℕ → Prefixes → ℕ → Plan
-accumulator_plan form.AL_Ibs o p m = reads o (Two (accumulator_of B p) I8) 0
-accumulator_plan form.AX_Ivd o p m = reads o (Two (accumulator_of (v_class p) p) (immediate_of (v_class p))) 0
-accumulator_plan form.AL_Ib o p m = reads o (Two (accumulator_of B p) U8) 0
-accumulator_plan form.AX_Ib o p m = reads o (Two (accumulator_of (vd_class p) p) U8) 0
-accumulator_plan form.Ib_AL o p m = reads o (Two U8 (accumulator_of B p)) 0
-accumulator_plan form.Ib_AX o p m = reads o (Two U8 (accumulator_of (vd_class p) p)) 0
-accumulator_plan form.AL_DX o p m = reads o (Two (accumulator_of B p) dx_port) 0
-accumulator_plan form.AX_DX o p m = reads o (Two (accumulator_of (vd_class p) p) dx_port) 0
-accumulator_plan form.DX_AL o p m = reads o (Two dx_port (accumulator_of B p)) 0
-accumulator_plan form.DX_AX o p m = reads o (Two dx_port (accumulator_of (vd_class p) p)) 0
-accumulator_plan form.AL_Ob o p m = reads o (Two (accumulator_of B p) (address_encoding p)) 1
-accumulator_plan form.AX_Ov o p m = reads o (Two (accumulator_of (v_class p) p) (address_encoding p)) (v_size p)
-accumulator_plan form.Ob_AL o p m = reads o (Two (address_encoding p) (accumulator_of B p)) 1
-accumulator_plan form.Ov_AX o p m = reads o (Two (address_encoding p) (accumulator_of (v_class p) p)) (v_size p)
-accumulator_plan form.AL_Xb o p m = reads o (Two (accumulator_of B p) (at_rsi Deref p)) 1
-accumulator_plan form.AX_Xv o p m = reads o (Two (accumulator_of (v_class p) p) (at_rsi Deref p)) (v_size p)
-accumulator_plan form.Yb_AL o p m = sets_es (reads o (Two (at_rdi Deref p) (accumulator_of B p)) 1)
-accumulator_plan form.Yv_AX o p m = sets_es (reads o (Two (at_rdi Deref p) (accumulator_of (v_class p) p)) (v_size p))
-accumulator_plan form.Yb_Xb o p m = reads o (Two (target_string p) (source_string p)) 1
-accumulator_plan form.Yv_Xv o p m = reads o (Two (target_string p) (source_string p)) (v_size p)
-accumulator_plan form.Yb_DX o p m = reads o (Two wide_rdi dl_in_reg) 1
-accumulator_plan form.Yv_DX o p m = reads o (Two wide_rdi dx_in_reg) (port_size p)
-accumulator_plan form.DX_Xb o p m = reads o (Two dl_in_reg wide_rsi) 1
-accumulator_plan form.DX_Xv o p m = reads o (Two dx_in_reg wide_rsi) (port_size p)
-accumulator_plan f o p m = general_plan f o p m
-
 -- ---- no ModRM: the register of the opcode byte, immediates, and nothing
-
--- XCHG with the accumulator; field 0 without B is NOP
-abbrev pub exchange_plan : ℕ → ℕ → Prefixes → Plan
-exchange_plan n o p = if (n == 0) && not (has_b p) then reads NOP Zero 0 else reads o (Two (accumulator_of (v_class p) p) (z_in Rm n (v_class p) p)) 0
-
 abbrev pub form_plan : Form → ℕ → Prefixes → ℕ → Plan
 form_plan (form.Zv_R n) o p m = reads o (One (z_in Reg n (vq_class p) p)) 8
-form_plan (form.Zv_AX_R n) o p m = exchange_plan n o p
 form_plan (form.Zb_Ib_R n) o p m = reads o (Two (z_in Reg n B p) U8) 0
 form_plan (form.Zv_Ivq_R n) o p m = reads o (Two (z_in Reg n (v_class p) p) (whole_immediate (v_class p))) 0
 form_plan (form.Zv_B n) o p m = reads o (One (z_in Reg n (v_class p) p)) 0
-form_plan form.Nothing o p m = reads o Zero (nothing_size o)
+form_plan form.Nothing o p m = reads o Zero (named_size size.Bare o)
 form_plan form.Ibs o p m = reads o (One I8) 0
 form_plan form.Jvds o p m = reads o (One I32) (call_size o)
 form_plan form.PushIbs o p m = reads o (One I8) 8
@@ -200,16 +190,15 @@ form_plan form.PushIvs o p m = reads o (One (push_immediate p)) 8
 form_plan form.Ib o p m = reads o (One U8) 0
 form_plan form.I_3 o p m = reads o (One (ConstantU8 3)) 0
 form_plan form.I_1 o p m = reads o (One (ConstantU8 1)) 0
-form_plan form.Iw o p m = reads o (One U16) (return_size o)
-form_plan form.Iw_Ib o p m = reads o (Two X16 U8) 8
-form_plan form.CXZ o p m = reads (if address_size p then JECXZ else o) (One I8) 0
-form_plan form.CVT_AA o p m = reads (widening (v_class p)) Zero 0
-form_plan form.CVT_DA o p m = reads (doubling (v_class p)) Zero 0
-form_plan form.Fw o p m = reads (if has_w p then IRETQ else (if operand_size p then IRET else IRETD)) Zero 0
-form_plan form.FS o p m = reads o (One (segment_register 4)) 8
-form_plan form.GS o p m = reads o (One (segment_register 5)) 8
+form_plan form.Iw o p m = reads o (One U16) (named_size size.Return o)
 form_plan form.AH o p m = reads o Zero 0
-form_plan f o p m = accumulator_plan f o p m
+form_plan form.AL_Ibs o p m = reads o (Two (accumulator_of B p) I8) 0
+form_plan form.AX_Ivd o p m = reads o (Two (accumulator_of (v_class p) p) (immediate_of (v_class p))) 0
+form_plan form.AL_Ib o p m = reads o (Two (accumulator_of B p) U8) 0
+form_plan form.AX_Ib o p m = reads o (Two (accumulator_of (vd_class p) p) U8) 0
+form_plan form.Ib_AL o p m = reads o (Two U8 (accumulator_of B p)) 0
+form_plan form.Ib_AX o p m = reads o (Two U8 (accumulator_of (vd_class p) p)) 0
+form_plan f o p m = general_plan f o p m
 
 -- the plain forms that have no ModRM byte
 abbrev pub modrm_use : Form → ModrmUse

@@ -4,13 +4,9 @@ ghost use Rattle.std.specs.Prelude.{◌≡◌, ◌<◌, ℕ};
 ghost use Rattle.x86_fields.specs.declared.prefixes.Prefixes.{Prefixes};
 ghost use Rattle.x86_fields.specs.ModRM.{is_memory};
 ghost use Rattle.x86_fields.specs.Sizes.{size_prefixes};
-ghost use Rattle.x86_operands.specs.FormSizes.{named_size};
 ghost use Rattle.x86_operands.specs.Encodings.{size_bytes, last_encoding, reg_encoding, rm_encoding, encoding_at, encodings_in, plan_of, use_of, is_described, allows, size_at};
 
-use crate::form_sizes::{
-    duplicate_size, extract_size, insert_size, nothing_size, push_immediate, return_size,
-    scalar_size, stream_size, unpack_size, whole_immediate,
-};
+use crate::form_sizes::{named_size, push_immediate, whole_immediate};
 use crate::order::{Order, Position};
 use crate::plans::{
     ModrmUse, OperandEncoding, OperandEncodings, Plan, RegisterSlot, accumulator_of, immediate_of,
@@ -131,26 +127,6 @@ pub struct FormEncoding {
     pub in_memory: Size,
     /// The same in the register form, and without ModRM.
     pub in_register: Size,
-}
-
-impl Size {
-    /// The size that the operation alone decides; 0 for the sizes of the table.
-    #[inline(never)]
-    fn named(self, opcode: Opcode) -> u8
-        ensures { result ≡ named_size self opcode }
-    {
-        match self {
-            Size::Bare => nothing_size(opcode),
-            Size::Return => return_size(opcode),
-            Size::Duplicate => duplicate_size(opcode),
-            Size::Stream => stream_size(opcode),
-            Size::Scalar => scalar_size(opcode),
-            Size::Extract => extract_size(opcode),
-            Size::Insert => insert_size(opcode),
-            Size::Unpack => unpack_size(opcode),
-            _ => 0,
-        }
-    }
 }
 
 impl Last {
@@ -293,7 +269,7 @@ impl FormEncoding {
             self.in_register
         };
         if size as usize >= Size::Bare as usize {
-            return size.named(opcode);
+            return named_size(size, opcode);
         }
         let bytes = SIZES[size as usize][sizes as usize];
         if matches!(size, Size::Call) && opcode != Opcode::CALL {

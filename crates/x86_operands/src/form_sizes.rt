@@ -2,8 +2,9 @@
 ghost use Rattle.std.specs.Prelude.{◌≡◌, if◌then◌else◌};
 ghost use Rattle.x86_fields.specs.Prefixes.{operand_size};
 ghost use Rattle.x86_fields.specs.Raw.{has_w};
-ghost use Rattle.x86_operands.specs.FormSizes.{v_size, or_v, pointer_class, whole_immediate, push_immediate, address_encoding, widening, doubling, nothing_size, return_size, port_size, is_far_load, far_class, far_size, duplicate_size, stream_size, scalar_size, extend_size, is_half_load, extract_size, insert_size, unpack_size};
+ghost use Rattle.x86_operands.specs.FormSizes.{v_size, or_v, pointer_class, whole_immediate, push_immediate, address_encoding, widening, doubling, port_size, is_far_load, far_class, far_size, extend_size, is_half_load, named_size};
 
+use crate::encodings::Size;
 use crate::plans::{OperandEncoding, size_by};
 use x86_fields::{ModRM, Prefixes};
 use x86_opcodes::Opcode;
@@ -91,29 +92,6 @@ pub fn doubling(class: RegisterClass) -> Opcode
     }
 }
 
-/// The size of a row without operands.
-pub fn nothing_size(opcode: Opcode) -> u8
-    ensures { result ≡ nothing_size opcode }
-{
-    match opcode {
-        Opcode::RETURN | Opcode::PUSHF | Opcode::POPF | Opcode::LEAVE => 8,
-        Opcode::RETF => 10,
-        Opcode::XLAT => 1,
-        _ => 0,
-    }
-}
-
-/// The size of a return with an immediate.
-pub fn return_size(opcode: Opcode) -> u8
-    ensures { result ≡ return_size opcode }
-{
-    match opcode {
-        Opcode::RETURN => 8,
-        Opcode::RETF => 10,
-        _ => 0,
-    }
-}
-
 /// The size of INS and OUTS.
 pub fn port_size(prefixes: &Prefixes) -> u8
     ensures { result ≡ port_size prefixes.now }
@@ -164,35 +142,6 @@ pub fn far_size(opcode: Opcode, prefixes: &Prefixes) -> u8
     }
 }
 
-/// The size of a whole xmm operand, halved for MOVDDUP.
-pub fn duplicate_size(opcode: Opcode) -> u8
-    ensures { result ≡ duplicate_size opcode }
-{
-    if opcode == Opcode::MOVDDUP { 8 } else { 16 }
-}
-
-/// The size of a store from an xmm register.
-pub fn stream_size(opcode: Opcode) -> u8
-    ensures { result ≡ stream_size opcode }
-{
-    match opcode {
-        Opcode::MOVNTSS => 4,
-        Opcode::MOVNTPS | Opcode::MOVNTPD | Opcode::MOVNTDQ => 16,
-        _ => 8,
-    }
-}
-
-/// The size of an xmm operand before an immediate.
-pub fn scalar_size(opcode: Opcode) -> u8
-    ensures { result ≡ scalar_size opcode }
-{
-    match opcode {
-        Opcode::CMPSS | Opcode::ROUNDSS => 4,
-        Opcode::CMPSD | Opcode::ROUNDSD => 8,
-        _ => 16,
-    }
-}
-
 /// The size of an operand that is extended.
 pub fn extend_size(opcode: Opcode) -> u8
     ensures { result ≡ extend_size opcode }
@@ -217,35 +166,52 @@ pub fn is_half_load(opcode: Opcode) -> bool
     matches!(opcode, Opcode::MOVLPD | Opcode::MOVHPD)
 }
 
-/// The size of an element that is extracted.
-pub fn extract_size(opcode: Opcode) -> u8
-    ensures { result ≡ extract_size opcode }
+/// A size that the operation alone decides, and 0 for the others.
+#[inline(never)]
+pub fn named_size(size: Size, opcode: Opcode) -> u8
+    ensures { result ≡ named_size size opcode }
 {
-    match opcode {
-        Opcode::PEXTRB => 1,
-        Opcode::PEXTRW => 2,
-        Opcode::EXTRACTPS => 4,
+    match size {
+        Size::Bare => match opcode {
+            Opcode::RETURN | Opcode::PUSHF | Opcode::POPF | Opcode::LEAVE => 8,
+            Opcode::RETF => 10,
+            Opcode::XLAT => 1,
+            _ => 0,
+        },
+        Size::Return => match opcode {
+            Opcode::RETURN => 8,
+            Opcode::RETF => 10,
+            _ => 0,
+        },
+        Size::Duplicate => match opcode {
+            Opcode::MOVDDUP => 8,
+            _ => 16,
+        },
+        Size::Stream => match opcode {
+            Opcode::MOVNTSS => 4,
+            Opcode::MOVNTPS | Opcode::MOVNTPD | Opcode::MOVNTDQ => 16,
+            _ => 8,
+        },
+        Size::Scalar => match opcode {
+            Opcode::CMPSS | Opcode::ROUNDSS => 4,
+            Opcode::CMPSD | Opcode::ROUNDSD => 8,
+            _ => 16,
+        },
+        Size::Extract => match opcode {
+            Opcode::PEXTRB => 1,
+            Opcode::PEXTRW => 2,
+            Opcode::EXTRACTPS => 4,
+            _ => 0,
+        },
+        Size::Insert => match opcode {
+            Opcode::PINSRB => 1,
+            Opcode::INSERTPS => 4,
+            _ => 0,
+        },
+        Size::Unpack => match opcode {
+            Opcode::PUNPCKLBW | Opcode::PUNPCKLWD | Opcode::PUNPCKLDQ => 4,
+            _ => 8,
+        },
         _ => 0,
-    }
-}
-
-/// The size of an element that is inserted.
-pub fn insert_size(opcode: Opcode) -> u8
-    ensures { result ≡ insert_size opcode }
-{
-    match opcode {
-        Opcode::PINSRB => 1,
-        Opcode::INSERTPS => 4,
-        _ => 0,
-    }
-}
-
-/// The size of an mm operand, halved for the unpacking of low elements.
-pub fn unpack_size(opcode: Opcode) -> u8
-    ensures { result ≡ unpack_size opcode }
-{
-    match opcode {
-        Opcode::PUNPCKLBW | Opcode::PUNPCKLWD | Opcode::PUNPCKLDQ => 4,
-        _ => 8,
     }
 }

@@ -237,21 +237,7 @@ impl Slot {
     pub fn is_memory(&self) -> bool
         ensures { result ≡ is_memory_slot self.now }
     {
-        matches!(
-            *self,
-            Slot::DispU32
-                | Slot::DispU64
-                | Slot::Deref
-                | Slot::DerefEsi
-                | Slot::DerefEdi
-                | Slot::DerefRsi
-                | Slot::DerefRdi
-                | Slot::Disp
-                | Slot::IndexScale
-                | Slot::IndexScaleDisp
-                | Slot::BaseIndexScale
-                | Slot::BaseIndexScaleDisp
-        )
+        *self as usize >= Slot::DispU32 as usize
     }
 }
 

@@ -23,80 +23,36 @@ pub struct Order {
     pub last: Position,
 }
 
+macro_rules! order_of {
+    ($count:literal $reg:ident $rm:ident $last:ident) => {
+        Order {
+            count: $count,
+            reg: Position::$reg,
+            rm: Position::$rm,
+            last: Position::$last,
+        }
+    };
+}
+
 /// No operand.
-pub const NO: Order = Order {
-    count: 0,
-    reg: Position::Nowhere,
-    rm: Position::Nowhere,
-    last: Position::Nowhere,
-};
+pub const NO: Order = order_of!(0 Nowhere Nowhere Nowhere);
 /// The last one alone.
-pub const I: Order = Order {
-    count: 1,
-    reg: Position::Nowhere,
-    rm: Position::Nowhere,
-    last: Position::First,
-};
+pub const I: Order = order_of!(1 Nowhere Nowhere First);
 /// The register of reg, that of the opcode byte, or the accumulator.
-pub const R: Order = Order {
-    count: 1,
-    reg: Position::First,
-    rm: Position::Nowhere,
-    last: Position::Nowhere,
-};
+pub const R: Order = order_of!(1 First Nowhere Nowhere);
 /// That register, then the last one.
-pub const R_I: Order = Order {
-    count: 2,
-    reg: Position::First,
-    rm: Position::Nowhere,
-    last: Position::Second,
-};
+pub const R_I: Order = order_of!(2 First Nowhere Second);
 /// The last one, then that register.
-pub const I_R: Order = Order {
-    count: 2,
-    reg: Position::Second,
-    rm: Position::Nowhere,
-    last: Position::First,
-};
+pub const I_R: Order = order_of!(2 Second Nowhere First);
 /// The operand of rm.
-pub const E: Order = Order {
-    count: 1,
-    reg: Position::Nowhere,
-    rm: Position::First,
-    last: Position::Nowhere,
-};
+pub const E: Order = order_of!(1 Nowhere First Nowhere);
 /// The operand of rm, then the last one.
-pub const E_I: Order = Order {
-    count: 2,
-    reg: Position::Nowhere,
-    rm: Position::First,
-    last: Position::Second,
-};
+pub const E_I: Order = order_of!(2 Nowhere First Second);
 /// The operand of rm, then the register of reg.
-pub const E_G: Order = Order {
-    count: 2,
-    reg: Position::Second,
-    rm: Position::First,
-    last: Position::Nowhere,
-};
+pub const E_G: Order = order_of!(2 Second First Nowhere);
 /// The register of reg, then the operand of rm.
-pub const G_E: Order = Order {
-    count: 2,
-    reg: Position::First,
-    rm: Position::Second,
-    last: Position::Nowhere,
-};
+pub const G_E: Order = order_of!(2 First Second Nowhere);
 /// `E_G`, then the last one.
-pub const E_G_I: Order = Order {
-    count: 3,
-    reg: Position::Second,
-    rm: Position::First,
-    last: Position::Third,
-};
+pub const E_G_I: Order = order_of!(3 Second First Third);
 /// `G_E`, then the last one.
-pub const G_E_I: Order = Order {
-    count: 3,
-    reg: Position::First,
-    rm: Position::Second,
-    last: Position::Third,
-};
+pub const G_E_I: Order = order_of!(3 First Second Third);

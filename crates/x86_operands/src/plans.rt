@@ -1,6 +1,6 @@
 //! The vocabulary of the rows' records.
 ghost use Rattle.std.specs.Prelude.{◌≡◌, ◌<◌, ℕ};
-ghost use Rattle.x86_operands.specs.Plans.{with_verdict, reads, named_by_suffix, refused, refuses, memory_only, register_only, size_by, register_at, accumulator_of, immediate_of};
+ghost use Rattle.x86_operands.specs.Plans.{reads, refused, refuses, memory_only, register_only, size_by, register_at, accumulator_of, immediate_of};
 
 pub use x86_fields::UNDECIDED_SIZE;
 use x86_fields::{ModRM, Prefixes, extend};
@@ -149,42 +149,27 @@ pub struct Plan {
     pub verdict: Verdict,
 }
 
-fn with_verdict(verdict: Verdict, opcode: Opcode, encodings: OperandEncodings, size: u8) -> Plan
-    ensures { result ≡ with_verdict verdict opcode encodings size }
+/// The plan that accepts.
+pub fn reads(opcode: Opcode, encodings: OperandEncodings, size: u8) -> Plan
+    ensures { result ≡ reads opcode encodings size }
 {
     Plan {
         opcode,
         encodings,
         size,
         change: PrefixChange::Keeps,
-        verdict,
+        verdict: Verdict::Accepts,
     }
-}
-
-/// The plan that accepts.
-pub fn reads(opcode: Opcode, encodings: OperandEncodings, size: u8) -> Plan
-    ensures { result ≡ reads opcode encodings size }
-{
-    with_verdict(Verdict::Accepts, opcode, encodings, size)
-}
-
-/// The plan whose opcode is named by a last byte.
-pub fn named_by_suffix(encodings: OperandEncodings, size: u8) -> Plan
-    ensures { result ≡ named_by_suffix encodings size }
-{
-    with_verdict(Verdict::NamedBySuffix, Opcode::Invalid, encodings, size)
 }
 
 /// The plan that refuses.
 pub fn refuses(fault: Fault, moment: Moment) -> Plan
     ensures { result ≡ refuses fault moment }
 {
-    with_verdict(
-        Verdict::Refuses(fault, moment),
-        Opcode::Invalid,
-        OperandEncodings::Zero,
-        0,
-    )
+    Plan {
+        verdict: Verdict::Refuses(fault, moment),
+        ..reads(Opcode::Invalid, OperandEncodings::Zero, 0)
+    }
 }
 
 /// The plan, refused where the test holds.
