@@ -49,20 +49,10 @@ listed_at Targeted place t = targets_at false place t
 abbrev pub listing_for : Command → Text → Listing
 listing_for c t = listed_at c 0 t
 
--- the most bytes of a text, and of one whose image is held whole
-abbrev pub text_max : ℕ
-text_max = 67108864
-
-abbrev pub targets_max : ℕ
-targets_max = 16384
-
--- the most bytes of a text that a command reads
+-- the most bytes of a text that a command reads: fewer of one whose image is held whole
 abbrev pub max_of : Command → ℕ
-max_of (Listed strict) = text_max
-max_of Fielded = text_max
-max_of Tightened = text_max
-max_of Swept = text_max
-max_of Targeted = targets_max
+max_of Targeted = 16384
+max_of c = 67108864
 
 -- A command that continues after refusals is never refused.
 abbrev pub goes_past_refusals : Command → Bool

@@ -51,14 +51,11 @@ bytes_read (Read buffer answer ∷ cs) = bytes_read cs ++ taken_by answer buffer
 bytes_read (Send call ∷ cs) = bytes_read cs
 
 -- what stopped them: a read that returned no byte, or an error
-abbrev pub stop_after : Result ℕ Error → Option Stop
-stop_after (Ok zero) = Some End
-stop_after (Ok (suc n)) = None
-stop_after (Err e) = Some Failed
-
 abbrev pub read_stop : List StreamCall → Option Stop
 read_stop [] = None
-read_stop (Read buffer answer ∷ cs) = stop_after answer
+read_stop (Read buffer (Ok zero) ∷ cs) = Some End
+read_stop (Read buffer (Ok (suc n)) ∷ cs) = None
+read_stop (Read buffer (Err e) ∷ cs) = Some Failed
 read_stop (Send call ∷ cs) = read_stop cs
 
 abbrev pub writer_calls : List StreamCall → List Call
