@@ -20,27 +20,18 @@ use Rattle.x86_cli.specs.Listings.Listing.{Listing}
 
 -- ---- encoding i: opcode 03, a ModRM of the memory form, SIB where ModRM requires one, and a displacement
 
--- the memory forms are the ModRM bytes below 192, whose mod is 00, 01 or 10
-abbrev pub made_modrm : ℕ → ℕ
-made_modrm i = i % 192
-
-abbrev pub made_sib : ℕ → ℕ
-made_sib i = (i / 192) % 256
-
 -- mod 10; mod 00 with rm 101; mod 00 with rm 100 and base 101
 abbrev pub has_long_displacement : ℕ → ℕ → Bool
 has_long_displacement m s = (mod_field m == 2) || ((mod_field m == 0) && ((rm_field m == 5) || ((rm_field m == 4) && (base_field s == 5))))
 
-abbrev pub sib_bytes : ℕ → ℕ → List ℕ
-sib_bytes m s = if rm_field m == 4 then s ∷ [] else []
-
-abbrev pub displacement_bytes : ℕ → ℕ → ℕ → List ℕ
-displacement_bytes m s i =
-    if mod_field m == 1 then (i % 256) ∷ []
-    else (if has_long_displacement m s then to_le_bytes w32 i else [])
-
+-- the memory forms are the ModRM bytes below 192, whose mod is 00, 01 or 10
 unfoldable pub generate : ℕ → List ℕ
-generate i = (0x03 ∷ made_modrm i ∷ []) ++ sib_bytes (made_modrm i) (made_sib i) ++ displacement_bytes (made_modrm i) (made_sib i) i
+generate i =
+    let modrm = i % 192 in
+    let sib = (i / 192) % 256 in
+    (0x03 ∷ modrm ∷ []) ++ (if rm_field modrm == 4 then sib ∷ [] else [])
+    ++ (if mod_field modrm == 1 then (i % 256) ∷ []
+    else (if has_long_displacement modrm sib then to_le_bytes w32 i else []))
 
 -- ---- counting
 

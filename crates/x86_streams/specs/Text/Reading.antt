@@ -3,7 +3,7 @@ use Rattle.std.specs.Prelude.{◌≡◌, ℕ, ◌+◌, ◌<◌, ◌≤◌, List,
 use Rattle.x86_streams.specs.declared.outside.source.Got.{Got}
 use Rattle.x86_streams.specs.declared.outside.source.Got.TheVariants as got
 use Rattle.x86_streams.specs.declared.text.reader.Ending.{Ending}
-use Rattle.x86_streams.specs.declared.text.reader.Ending.TheVariants.{Fault}
+use Rattle.x86_streams.specs.declared.text.reader.Ending.TheVariants.{Bad, Large, Fault}
 use Rattle.x86_streams.specs.Outside.Stop.{Stop, End, Failed}
 use Rattle.x86_streams.specs.declared.text.reader.Piece.{Piece}
 use Rattle.x86_streams.specs.declared.text.reader.Piece.TheVariants.{Byte, Stopped}
@@ -45,6 +45,12 @@ abbrev pub UsesRoom : Piece → ℕ → ℕ → Type 0
 UsesRoom (Byte v) old new = new + 2 ≤ old
 UsesRoom (Stopped e) old new = new ≤ old
 
+-- Where a reader is once it has stopped: at the byte that isn't allowed there, or where no more may be taken.
+abbrev pub StaysAt : Piece → ℕ → ℕ → Type 0
+StaysAt (Stopped (Bad n)) position room = position ≡ n
+StaysAt (Stopped Large) position room = room ≡ 0
+StaysAt piece position room = ⊤
+
 -- The text of bytes after which their source failed: it had not ended before, so that the failure is its end.
 abbrev pub IsOpenText : Text → Type 0
 IsOpenText t = t.ending ≡ Fault
@@ -52,10 +58,6 @@ IsOpenText t = t.ending ≡ Fault
 -- The same, with fewer than k bytes in its image.
 abbrev pub NeedsMore : ℕ → Text → Type 0
 NeedsMore k t = IsOpenText t × (length t.image < k)
-
--- The bytes returned so far had not ended their text: a failure in place of the next would be a fault.
-abbrev pub HasNotEnded : (List ℕ → Stop → Text) → Type 0
-HasNotEnded text = IsOpenText (text [] Failed)
 
 -- Each of these bytes, and the stop where there is one, was returned by a call at which this holds of the text of
 -- those before it, with a failure in place of the next.
