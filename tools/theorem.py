@@ -8,7 +8,8 @@ The templates are the pages with four kinds of lines in place of code, whose pat
 
     @@ PATH NAME..       the definitions with these names, in this order
     @@ PATH *            those of the file that a definition of the pages uses, and that THEOREM.md doesn't show
-    @! PATH BEGINNING    the item whose first line begins so: a function up to its body, any other item up to its closing brace
+    @! PATH BEGINNING    the item whose first line begins so: a function of src/ up to its body, a definition of proofs/ up to the next empty
+                         line, any other item up to its closing brace
     @- PATH NAME.. | ..  a row of a table: names that are linked and not shown, and what they are. `*` are all of the file
     @index               where each name of both pages is
 
@@ -24,8 +25,8 @@ from sources import CRATES, TOP, Missing, clause_uses, definition, indent, modul
 
 PAGES = {"docs/THEOREM.md": "tools/theorem.txt", "docs/DEFINITIONS.md": "tools/definitions.txt"}
 MOST = 550
-# Words of the text that are no names of crates/.
-OTHER = set("strict data record run rows x86 list main h p f e x y r c d n k s t m v w i l unfolding".split())
+# Words of the text that are no names of src/ or specs/.
+OTHER = set("strict data record run rows x86 list main h p f e x y r c d n k s t m v w i l unfolding no_immediate".split())
 
 
 def fail(message):
@@ -81,13 +82,15 @@ def joined(lines):
 
 
 def item(path, beginning):
-    """The lines of a function without its body, or of another item whole."""
+    """The lines of a function of src/ without its body, or of another item whole."""
     lines = (CRATES / path).read_text().split("\n")
     starts = [at for at, line in enumerate(lines) if line.strip().startswith(beginning)]
     if len(starts) != 1:
         fail(f"{path} has {len(starts)} lines that begin with: {beginning}")
     margin = " " * indent(lines[starts[0]])
-    if beginning.startswith("pub fn"):
+    if path.endswith(".antt"):
+        end = lines.index("", starts[0])
+    elif beginning.startswith("pub fn"):
         end = next(at for at in range(starts[0], len(lines)) if lines[at].strip() in ("{", "{}"))
     else:
         end = lines.index(margin + "}", starts[0]) + 1
@@ -230,7 +233,7 @@ class Pages:
         for page, text in texts.items():
             prose = "\n".join(line for line in text.splitlines() if not line.startswith("    "))
             for word in re.findall(r"`([A-Za-z_][\w\-]*)(?:`| )", prose):
-                if word not in known:
+                if word not in known and not re.fullmatch(r"[0-9a-f]{2}", word):
                     fail(f"{page} has the name {word} in its text, which is neither shown nor linked")
 
 
