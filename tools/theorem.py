@@ -26,7 +26,7 @@ from sources import CRATES, TOP, Missing, clause_uses, definition, indent, modul
 PAGES = {"docs/THEOREM.md": "tools/theorem.txt", "docs/DEFINITIONS.md": "tools/definitions.txt"}
 MOST = 550
 # Words of the text that are no names of src/ or specs/.
-OTHER = set("strict data record run rows x86 list main h p f e x y r c d n k s t m v w i l unfolding no_immediate".split())
+OTHER = set("strict data record run rows x86 list main h p f e x y r c d n k s t m v w i l unfolding".split())
 
 
 def fail(message):
@@ -141,7 +141,7 @@ class Pages:
         users = {key: "docs/THEOREM.md" for key in todo}
         for page in PAGES:
             for kind, path, rest, _ in self.commands(page):
-                if kind == "@!" and path.endswith(".rt"):
+                if kind == "@!":
                     todo += self.note(clause_uses(path, item(path, rest)))
         while todo:
             path, name = key = todo.pop()
