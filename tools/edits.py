@@ -2,11 +2,11 @@
 """edits.py: what refuses each must-fail edit, which its line `# expect: PLACE: GOAL` says.
 
     python3 tools/edits.py LOG..            writes these lines by logs of `rt must-fail` or `rt ci`; an edit that they don't have keeps its line
-    python3 tools/edits.py --check LOG..    names each edit without such a line, and each that was refused elsewhere by the logs
+    python3 tools/edits.py --check LOG..    names each edit without such a line, and fails where there is one. It also names each that was refused
+                                            elsewhere by the logs, and doesn't fail for that: which of two open goals comes first isn't fixed
 
-PLACE is a function, with its file where the goal is in src/, or else a file of proofs/. GOAL is the first goal or lemma that the prover names:
-`returns-clause-short` is the clause `short` where the function returns, and what is before `clause` is the path through the body. Where a proof
-file names what the edit took away, the line says so, since that shows little of the contract.
+PLACE is a function, or a file of proofs/. GOAL is the first goal or lemma that the prover names: `returns-clause-short` is the clause `short` where
+the function returns, and what is before `clause` is the path through the body.
 """
 
 import re
@@ -35,7 +35,7 @@ def place(crate, file, number):
     # a function begins with its attributes
     above = [] if lines[number - 1].lstrip().startswith("#[") else lines[number - 1 :: -1]
     function = next((m for line in [*above, *lines[number - 1 :]] if (m := re.search(r"\bfn (\w+)", line))), None)
-    return f"{function[1]}, {file}" if function else file
+    return function[1] if function else file
 
 
 def refusals(logs):
@@ -53,14 +53,17 @@ def write(path, said):
     path.write_text("\n".join([MARK + said, *lines]))
 
 
-def faults(logs):
-    found = refusals(logs)
+def look(logs):
+    """Names what differs, and answers how many edits have no line."""
+    found, lacking = refusals(logs), 0
     for key, path in edits().items():
         said = expected(path)
         if said is None:
-            yield f"{path.relative_to(ROOT)} has no line `{MARK.strip()}`: python3 tools/edits.py LOG writes it"
+            print(f"edits.py: {path.relative_to(ROOT)} has no line `{MARK.strip()}`: python3 tools/edits.py LOG writes it", file=sys.stderr)
+            lacking += 1
         elif found.get(key, said) != said:
-            yield f"{path.relative_to(ROOT)} expects {said}, and was refused at {found[key]}"
+            print(f"edits.py: note: {path.relative_to(ROOT)} expects {said}, and was refused at {found[key]}", file=sys.stderr)
+    return lacking
 
 
 def main(words):
@@ -71,10 +74,7 @@ def main(words):
             if key in edits():
                 write(edits()[key], said)
         return
-    wrong = list(faults(words[1:]))
-    for line in wrong:
-        print(f"edits.py: {line}", file=sys.stderr)
-    sys.exit(1 if wrong else 0)
+    sys.exit(1 if look(words[1:]) else 0)
 
 
 if __name__ == "__main__":
