@@ -1,4 +1,4 @@
-use Rattle.std.proofs.Common.{arith, ◌≡◌, ◌≤◌, ℕ, Bool, List, [], ◌∷◌, ◌++◌, length, Ok, Some, None, refl, ◌∙◌}
+use Rattle.std.proofs.Common.{arith, ◌≡◌, Bool, [], ◌∷◌, Some, None, refl, ◌∙◌}
 use Rattle.x86_forms.specs.declared.Map.TheVariants.{Of38}
 use Rattle.x86_forms.specs.declared.Column.TheVariants.{P66}
 use Rattle.x86_forms.specs.declared.Form.TheVariants.{G_E_xmm}

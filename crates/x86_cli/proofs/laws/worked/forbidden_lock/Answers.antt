@@ -1,4 +1,4 @@
-use Rattle.std.proofs.Common.{arith, ◌≡◌, ◌≤◌, ℕ, Bool, List, [], ◌∷◌, ◌++◌, length, Some, None, refl, ◌∙◌}
+use Rattle.std.proofs.Common.{arith, ◌≡◌, Bool, [], ◌∷◌, Some, None, refl, ◌∙◌}
 use Rattle.x86_fields.specs.declared.errors.DecodeError.TheVariants.{InvalidPrefixes}
 use Rattle.x86_forms.specs.declared.Map.TheVariants.{One}
 use Rattle.x86_forms.specs.declared.Column.TheVariants.{Plain}

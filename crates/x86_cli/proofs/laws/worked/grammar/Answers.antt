@@ -1,4 +1,4 @@
-use Rattle.std.proofs.Common.{◌≡◌, ◌≤◌, ℕ, Bool, List, ◌++◌, length, Ok, Err, refl, sym}
+use Rattle.std.proofs.Common.{◌++◌, length, Ok, Err, refl, sym}
 use Rattle.x86_forms.specs.Words.{rows_of, packed}
 use Rattle.x86_cli.proofs.laws.worked.grammar.Goals as goal
 

@@ -1,4 +1,4 @@
-use Rattle.std.proofs.Common.{arith, ◌≡◌, ◌≤◌, ℕ, Bool, List, [], ◌∷◌, ◌++◌, length, Ok, Some, None, pos, false, refl, ◌∙◌}
+use Rattle.std.proofs.Common.{arith, ◌≡◌, Bool, [], ◌∷◌, Some, None, pos, false, refl, ◌∙◌}
 use Rattle.x86_forms.specs.declared.Map.TheVariants.{One}
 use Rattle.x86_forms.specs.declared.Column.TheVariants.{Plain}
 use Rattle.x86_forms.specs.declared.Form.TheVariants.{Ev_Gv}
