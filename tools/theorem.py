@@ -14,7 +14,7 @@ The templates are the pages with four kinds of lines in place of code, whose pat
     @index               where each name of both pages is
 
 A name that a definition or a clause uses must be shown, linked, or explained in Notation, and has one definition; a name in
-the text of a page must be one of these too. A clause of the table of THEOREM.md must be one of the call that it names.
+the text of a page must be one of these too. A clause of a table of THEOREM.md, PROVED.md or README.md must be one of the call that it names.
 """
 
 import re
@@ -224,7 +224,7 @@ class Pages:
         for name in sorted(self.std - explained):
             fail(f"Notation doesn't explain {name}, a name of std")
         self.check_text(texts, explained)
-        check_clauses(texts["docs/THEOREM.md"])
+        check_clauses({page: texts.get(page) or (TOP / page).read_text() for page in ("docs/THEOREM.md", "docs/PROVED.md", "README.md")})
         if len(texts["docs/THEOREM.md"].splitlines()) > MOST:
             fail(f"docs/THEOREM.md has {len(texts['docs/THEOREM.md'].splitlines())} lines, and may have {MOST}")
 
@@ -264,15 +264,30 @@ def fields_and_functions(texts):
     return found
 
 
-def check_clauses(text):
-    """Each `call.clause` of the page is a clause of a public function of that name."""
-    clauses = set()
+def clauses():
+    """The clauses of each function of src/, by its name."""
+    found = {}
     for path in CRATES.glob("*/src/**/*.rt"):
-        for name, contract in re.findall(r"\bfn (\w+)\b([^;{]*(?:ensures \w* ?\{.*?)?)\n *\{", path.read_text(), re.S):
-            clauses |= {f"{name}.{clause}" for clause in re.findall(r"ensures (\w+) \{", contract)}
-    for call in re.findall(r"`([a-z_]+\.[a-z_]+)`", "\n".join(line for line in text.splitlines() if line.startswith("|"))):
-        if call not in clauses:
-            fail(f"docs/THEOREM.md names {call}, and no call has that clause")
+        name = None
+        for line in path.read_text().splitlines():
+            if start := re.search(r"\bfn (\w+)", line):
+                name = start[1]
+                found.setdefault(name, set())
+            if name and (clause := re.match(r" *ensures (\w+) \{", line)):
+                found[name].add(clause[1])
+            name = None if line.strip() in ("{", "{}") else name
+    return found
+
+
+def check_clauses(texts):
+    """Each `call.clause` in a table of these pages is a clause of a function of that name."""
+    of = clauses()
+    for page, text in texts.items():
+        table = "\n".join(line for line in text.splitlines() if line.startswith("|"))
+        for call, clause in re.findall(r"`([a-z_]+)\.([a-z_]+)`", table):
+            # `answers.accepted` is a field of the clause `answers`, and no function with clauses
+            if clause not in (of.get(call) or ({clause} if page != "docs/THEOREM.md" else ())):
+                fail(f"{page} names {call}.{clause}, and no call has that clause")
 
 
 def main():
