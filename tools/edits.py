@@ -1,8 +1,12 @@
 #!/usr/bin/env python3
-"""edits.py: what refuses each must-fail edit.
+"""edits.py: what refuses each must-fail edit, which its line `# expect: PLACE: GOAL` says.
 
-    python3 tools/edits.py LOG..     writes docs/EDITS.md by logs of `rt must-fail` or `rt ci`; an edit that they didn't try keeps its line
-    python3 tools/edits.py --check   names an edit that the page lacks, and one of the page that isn't there
+    python3 tools/edits.py LOG..            writes these lines by logs of `rt must-fail` or `rt ci`; an edit that they don't have keeps its line
+    python3 tools/edits.py --check LOG..    names each edit without such a line, and fails where there is one. It also names each that was refused
+                                            elsewhere by the logs, and doesn't fail for that: which of two open goals comes first isn't fixed
+
+PLACE is a function, or a file of proofs/. GOAL is the first goal or lemma that the prover names: `returns-clause-short` is the clause `short` where
+the function returns, and what is before `clause` is the path through the body.
 """
 
 import re
@@ -10,59 +14,67 @@ import sys
 from pathlib import Path
 
 ROOT = Path(__file__).resolve().parent.parent
-PAGE = ROOT / "docs" / "EDITS.md"
-HEAD = """# What each must-fail edit shows
-
-For readers who ask whether the contracts say enough. After this page you know, for each wrong body that was tried, what
-refuses it.
-
-A must-fail edit (crates/NAME/must-fail) changes a meaning of the code, compiles, and must be refused (CONTRIBUTING.md).
-The table has the first thing that the prover names. `returns-clause-short` is the clause `short` where the function
-returns; what is before `clause` is the path through the body: a branch, an arm, or a call. A lemma is named where an edit
-turns a table that a lemma computes. Written by `python3 tools/edits.py LOG`.
-"""
-TRIED = re.compile(r"must-fail (\w+)/(\w+)\.edit: refused, as it must be: (?:note: )?(?:\./)?([\w./+]+):(\d+):\d+: (.*)")
+MARK = "# expect: "
+TRIED = re.compile(r"must-fail (\w+)/(\w+)\.edit: refused, as it must be(?: \([^)]*\))?: (?:note: )?(?:\./)?([\w./+]+):(\d+):\d+: (.*)")
 
 
-def there():
-    return {(path.parent.parent.name, path.stem) for path in ROOT.glob("crates/*/must-fail/*.edit")}
+def edits():
+    return {(path.parent.parent.name, path.stem): path for path in sorted(ROOT.glob("crates/*/must-fail/*.edit"))}
+
+
+def expected(path):
+    """What the edit's line says, or None where it has none."""
+    return next((line[len(MARK) :] for line in path.read_text().split("\n") if line.startswith(MARK)), None)
 
 
 def place(crate, file, number):
     """The function of a line of code, or the one whose answers a proof file has; else the file."""
     if not file.startswith("src/"):
-        return f"`{file.split('/')[-2]}`" if file.endswith("/Answers.antt") else file
+        return file.split("/")[-2] if file.endswith("/Answers.antt") else file
     lines = (ROOT / "crates" / crate / file).read_text().splitlines()
     # a function begins with its attributes
     above = [] if lines[number - 1].lstrip().startswith("#[") else lines[number - 1 :: -1]
     function = next((m for line in [*above, *lines[number - 1 :]] if (m := re.search(r"\bfn (\w+)", line))), None)
-    return f"`{function[1]}`, {file}" if function else file
+    return function[1] if function else file
 
 
 def refusals(logs):
+    """What the logs say of each edit."""
     found = {}
     for log in logs:
         for crate, edit, file, number, said in TRIED.findall(Path(log).read_text()):
             goal = re.search(r"\(`([^`]+)", said) or re.search(r"`([^`]+)", said)
-            found[crate, edit] = f"{place(crate, file, int(number))} | {f'`{goal[1]}`' if goal else ''}"
+            found[crate, edit] = f"{place(crate, file, int(number))}: {goal[1] if goal else said.strip()}"
     return found
 
 
-def rows():
-    """What the page has for each edit."""
-    return {(crate, edit): rest for crate, edit, rest in re.findall(r"^\| (x86\w*) \| (\w+) \| (.*) \|$", PAGE.read_text(), re.M)}
+def write(path, said):
+    lines = [line for line in path.read_text().split("\n") if not line.startswith(MARK)]
+    path.write_text("\n".join([MARK + said, *lines]))
+
+
+def look(logs):
+    """Names what differs, and answers how many edits have no line."""
+    found, lacking = refusals(logs), 0
+    for key, path in edits().items():
+        said = expected(path)
+        if said is None:
+            print(f"edits.py: {path.relative_to(ROOT)} has no line `{MARK.strip()}`: python3 tools/edits.py LOG writes it", file=sys.stderr)
+            lacking += 1
+        elif found.get(key, said) != said:
+            print(f"edits.py: note: {path.relative_to(ROOT)} expects {said}, and was refused at {found[key]}", file=sys.stderr)
+    return lacking
 
 
 def main(words):
-    edits = there()
-    if words == ["--check"]:
-        wrong = sorted(edits ^ rows().keys())
-        for crate, edit in wrong:
-            print(f"edits.py: {crate}/must-fail/{edit}.edit is in one of the folder and docs/EDITS.md alone", file=sys.stderr)
-        sys.exit(1 if wrong else 0)
-    found = rows() | refusals(words)
-    lines = [f"| {crate} | {edit} | {found.get((crate, edit), 'not tried |')} |" for crate, edit in sorted(edits)]
-    PAGE.write_text(HEAD + "\n| crate | edit | where it is refused | goal or lemma |\n|---|---|---|---|\n" + "\n".join(lines) + "\n")
+    if words[:1] != ["--check"]:
+        if not words:
+            sys.exit(__doc__)
+        for key, said in refusals(words).items():
+            if key in edits():
+                write(edits()[key], said)
+        return
+    sys.exit(1 if look(words[1:]) else 0)
 
 
 if __name__ == "__main__":

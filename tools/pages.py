@@ -13,8 +13,8 @@ The examples of docs/USAGE.md are run again with other addresses in place of the
 that comes in pieces; and its recipes over code of bash of one and of two megabytes: with twice the text no command may take more than three
 times the processor time, and a second, or 8 MB more memory.
 
-Examples of README.md, docs/GUIDE.md and docs/CRATES.md: each indented block is in one of the files of `CODE`, or of `TESTS`, line by line, only
-further to the right.
+Examples of README.md, docs/GUIDE.md and crates/*/README.md: each indented block is in one of the files of `CODE`, or of `TESTS`, line by line,
+only further to the right. Each crate of crates.txt has a README.md, of ten to thirty lines.
 
 Quoted code of the pages of `QUOTING`: each indented line that isn't a command, nor of a drawing, is a line of some file of crates/, letter
 by letter. The links of the pages of `LINKING` are to files and headings that are there (tools/theorem.py writes their code).
@@ -246,6 +246,14 @@ def read_quotes(page):
     return len(missing)
 
 
+def read_size(page):
+    """Whether a crate's page is missing, or hasn't ten to thirty lines."""
+    lines = len((TOP / page).read_text().splitlines()) if (TOP / page).exists() else 0
+    if not 10 <= lines <= 30:
+        print(f"pages: {page} has {lines} lines, and not ten to thirty", file=sys.stderr)
+    return not 10 <= lines <= 30
+
+
 def anchors(page):
     """What a link may name of a page: its headings, in small letters, with hyphens for blanks."""
     headings = re.findall(r"^#+ (.*)$", (TOP / page).read_text(), re.M)
@@ -282,10 +290,13 @@ def read_reasons(page):
 
 
 def main():
-    wrong = read_guide("docs/GUIDE.md", CODE) + read_guide("README.md", CODE) + read_guide("docs/CRATES.md", TESTS) + sum(read_quotes(page) for page in QUOTING)
+    readmes = [f"crates/{crate}/README.md" for crate in re.findall(r"^(\w+)\b.*:", (TOP / "crates.txt").read_text(), re.M)]
+    wrong = read_guide("docs/GUIDE.md", CODE) + read_guide("README.md", CODE) + sum(read_quotes(page) for page in QUOTING)
+    wrong += sum(read_size(page) or read_guide(page, TESTS) for page in readmes)
     wrong += sum(read_links(page) for page in LINKING) + read_chart() + read_reasons("docs/DIFFERENCES.md")
     if os.access(PROGRAM, os.X_OK):
-        wrong += run_examples("README.md") + run_examples("docs/USAGE.md") + run_statuses("docs/USAGE.md") + run_texts("docs/USAGE.md")
+        wrong += run_examples("README.md") + sum(run_examples(page) for page in readmes if (TOP / page).exists())
+        wrong += run_examples("docs/USAGE.md") + run_statuses("docs/USAGE.md") + run_texts("docs/USAGE.md")
         wrong += run_examples("docs/USAGE.md", LIBRARY, in_pieces=True) + run_examples("docs/USAGE.md", KERNEL)
         wrong += measure_recipes("docs/USAGE.md")
     else:

@@ -31,9 +31,9 @@ copy_crates() (
     source_files "$@" | tar -cf - -C "$top" -T - | tar -xf - -C "$folder"
 )
 
-# A sum over names and contents of all sources of the program.
+# A sum over names and contents of all sources of the program, without the crates' README.md.
 sources() {
-    { echo crates.txt && source_files $PROGRAM_CRATE; } | LC_ALL=C sort | tr '\n' '\0' | (cd "$top" && xargs -0 cksum) | cksum
+    { echo crates.txt && source_files $PROGRAM_CRATE | grep -v '/README\.md$'; } | LC_ALL=C sort | tr '\n' '\0' | (cd "$top" && xargs -0 cksum) | cksum
 }
 
 is_built() {

@@ -23,9 +23,9 @@ def indent(line):
 
 
 def module_file(words):
-    """The file of a module of specs/, or None for a library's."""
-    crate, rest = words[0], words[2:]
-    return f"{crate}/specs/{'/'.join(rest)}.antt" if (CRATES / crate).is_dir() else None
+    """The file of a module of specs/ or of proofs/, or None for a library's."""
+    crate, folder, rest = words[0], words[1], words[2:]
+    return f"{crate}/{folder}/{'/'.join(rest)}.antt" if (CRATES / crate).is_dir() else None
 
 
 @functools.cache
@@ -210,7 +210,7 @@ def uses(path, name):
 
 
 def clause_uses(path, lines):
-    """What the clauses of a function of src/ use."""
-    text = re.sub(r"//.*", "", "\n".join(lines))
+    """What the clauses of a function of src/ use, or a definition of proofs/."""
+    text, file = re.sub(r"//.*", "", "\n".join(lines)), module(path)
     words = {word.split(".")[0] for word in WORD.findall(text)}
-    return [at for word in sorted(words) if word in module(path).imports and (at := resolved(path, word))]
+    return [at for word in sorted(words) if (word in file.imports or word in file.spans) and (at := resolved(path, word))]

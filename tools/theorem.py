@@ -8,12 +8,13 @@ The templates are the pages with four kinds of lines in place of code, whose pat
 
     @@ PATH NAME..       the definitions with these names, in this order
     @@ PATH *            those of the file that a definition of the pages uses, and that THEOREM.md doesn't show
-    @! PATH BEGINNING    the item whose first line begins so: a function up to its body, any other item up to its closing brace
+    @! PATH BEGINNING    the item whose first line begins so: a function of src/ up to its body, a definition of proofs/ up to the next empty
+                         line, any other item up to its closing brace
     @- PATH NAME.. | ..  a row of a table: names that are linked and not shown, and what they are. `*` are all of the file
     @index               where each name of both pages is
 
 A name that a definition or a clause uses must be shown, linked, or explained in Notation, and has one definition; a name in
-the text of a page must be one of these too. A clause of the table of THEOREM.md must be one of the call that it names.
+the text of a page must be one of these too. A clause of a table of THEOREM.md, PROVED.md or README.md must be one of the call that it names.
 """
 
 import re
@@ -24,7 +25,7 @@ from sources import CRATES, TOP, Missing, clause_uses, definition, indent, modul
 
 PAGES = {"docs/THEOREM.md": "tools/theorem.txt", "docs/DEFINITIONS.md": "tools/definitions.txt"}
 MOST = 550
-# Words of the text that are no names of crates/.
+# Words of the text that are no names of src/ or specs/.
 OTHER = set("strict data record run rows x86 list main h p f e x y r c d n k s t m v w i l unfolding".split())
 
 
@@ -81,13 +82,15 @@ def joined(lines):
 
 
 def item(path, beginning):
-    """The lines of a function without its body, or of another item whole."""
+    """The lines of a function of src/ without its body, or of another item whole."""
     lines = (CRATES / path).read_text().split("\n")
     starts = [at for at, line in enumerate(lines) if line.strip().startswith(beginning)]
     if len(starts) != 1:
         fail(f"{path} has {len(starts)} lines that begin with: {beginning}")
     margin = " " * indent(lines[starts[0]])
-    if beginning.startswith("pub fn"):
+    if path.endswith(".antt"):
+        end = lines.index("", starts[0])
+    elif beginning.startswith("pub fn"):
         end = next(at for at in range(starts[0], len(lines)) if lines[at].strip() in ("{", "{}"))
     else:
         end = lines.index(margin + "}", starts[0]) + 1
@@ -138,7 +141,7 @@ class Pages:
         users = {key: "docs/THEOREM.md" for key in todo}
         for page in PAGES:
             for kind, path, rest, _ in self.commands(page):
-                if kind == "@!" and path.endswith(".rt"):
+                if kind == "@!":
                     todo += self.note(clause_uses(path, item(path, rest)))
         while todo:
             path, name = key = todo.pop()
@@ -221,7 +224,7 @@ class Pages:
         for name in sorted(self.std - explained):
             fail(f"Notation doesn't explain {name}, a name of std")
         self.check_text(texts, explained)
-        check_clauses(texts["docs/THEOREM.md"])
+        check_clauses({page: texts.get(page) or (TOP / page).read_text() for page in ("docs/THEOREM.md", "docs/PROVED.md", "README.md")})
         if len(texts["docs/THEOREM.md"].splitlines()) > MOST:
             fail(f"docs/THEOREM.md has {len(texts['docs/THEOREM.md'].splitlines())} lines, and may have {MOST}")
 
@@ -230,7 +233,7 @@ class Pages:
         for page, text in texts.items():
             prose = "\n".join(line for line in text.splitlines() if not line.startswith("    "))
             for word in re.findall(r"`([A-Za-z_][\w\-]*)(?:`| )", prose):
-                if word not in known:
+                if word not in known and not re.fullmatch(r"[0-9a-f]{2}", word):
                     fail(f"{page} has the name {word} in its text, which is neither shown nor linked")
 
 
@@ -261,15 +264,30 @@ def fields_and_functions(texts):
     return found
 
 
-def check_clauses(text):
-    """Each `call.clause` of the page is a clause of a public function of that name."""
-    clauses = set()
+def clauses():
+    """The clauses of each function of src/, by its name."""
+    found = {}
     for path in CRATES.glob("*/src/**/*.rt"):
-        for name, contract in re.findall(r"\bfn (\w+)\b([^;{]*(?:ensures \w* ?\{.*?)?)\n *\{", path.read_text(), re.S):
-            clauses |= {f"{name}.{clause}" for clause in re.findall(r"ensures (\w+) \{", contract)}
-    for call in re.findall(r"`([a-z_]+\.[a-z_]+)`", "\n".join(line for line in text.splitlines() if line.startswith("|"))):
-        if call not in clauses:
-            fail(f"docs/THEOREM.md names {call}, and no call has that clause")
+        name = None
+        for line in path.read_text().splitlines():
+            if start := re.search(r"\bfn (\w+)", line):
+                name = start[1]
+                found.setdefault(name, set())
+            if name and (clause := re.match(r" *ensures (\w+) \{", line)):
+                found[name].add(clause[1])
+            name = None if line.strip() in ("{", "{}") else name
+    return found
+
+
+def check_clauses(texts):
+    """Each `call.clause` in a table of these pages is a clause of a function of that name."""
+    of = clauses()
+    for page, text in texts.items():
+        table = "\n".join(line for line in text.splitlines() if line.startswith("|"))
+        for call, clause in re.findall(r"`([a-z_]+)\.([a-z_]+)`", table):
+            # `answers.accepted` is a field of the clause `answers`, and no function with clauses
+            if clause not in (of.get(call) or ({clause} if page != "docs/THEOREM.md" else ())):
+                fail(f"{page} names {call}.{clause}, and no call has that clause")
 
 
 def main():

@@ -1,10 +1,9 @@
 //! Laws of listings and runs, and those of the decoder on which the window rests. The laws of hex text, and of what
 //! calls of sources and sinks say, are those of x86_streams.
 
-ghost use Rattle.std.specs.Prelude.{◌≡◌, ◌≢◌, ◌↔◌, ◌++◌, ℕ, Bool, IsTrue, List, Option, Ok};
+ghost use Rattle.std.specs.Prelude.{◌≡◌, ◌≢◌, ◌↔◌, ℕ, Bool, IsTrue, List, Option};
 ghost use Rattle.x86_decode.specs.declared.instructions.Instruction.{Instruction};
-ghost use Rattle.x86_decode.specs.Answer.{answer_of};
-ghost use Rattle.x86_decode.specs.Instruction.{instruction_of, length_of};
+ghost use Rattle.x86_decode.specs.Instruction.{length_of};
 ghost use Rattle.x86_forms.specs.Words.{rows_of, packed};
 ghost use Rattle.x86_layout.specs.Parts.OfBytes.{parts_of};
 ghost use Rattle.x86_layout.specs.Tightening.Least.{shortest_length};
@@ -16,8 +15,7 @@ ghost use Rattle.x86_cli.specs.Commands.Command.{Runs, goes_past_refusals};
 ghost use Rattle.x86_cli.specs.Commands.Complete.{CompletesTexts};
 ghost use Rattle.x86_cli.specs.Commands.Follows.{IsExact, HasReadFault, Completes};
 ghost use Rattle.x86_cli.specs.Listings.Grammar.{IsListing};
-ghost use Rattle.x86_cli.specs.Headline.{Headline, Sentence};
-ghost use Rattle.x86_cli.specs.Worked.{add_rax_rbx, bytes_48_01_d8, mov_rax_at_rbp, bytes_48_8b_45_00};
+ghost use Rattle.x86_cli.specs.Headline.{Headline};
 ghost use Rattle.x86_cli.specs.declared.listings.fields.FieldLines.{FieldLines};
 ghost use Rattle.x86_cli.specs.declared.listings.line.Plain.{Plain};
 ghost use Rattle.x86_cli.specs.declared.listings.listing.UpToRefusal.{UpToRefusal};
@@ -32,6 +30,8 @@ ghost use Rattle.x86_cli.specs.Commands.Program.{Performs, EndsAt, Has, Leaves, 
 ghost use Rattle.x86_cli.specs.Commands.Run.{Wrote};
 ghost use Rattle.x86_cli.specs.Commands.Says.{Makes, Says, Streams, streams_of};
 ghost use Rattle.x86_streams.specs.Outside.FaultCounts.{Rose};
+
+pub mod worked;
 
 use crate::commands::command::Command;
 use crate::listings::fields::FieldLines;
@@ -79,26 +79,6 @@ fn headline_of_bytes()
     x86_layout::laws::shortest_relatives_have_the_least_length();
     x86_layout::laws::relatives_are_the_same_instruction();
     by_grammar();
-}
-
-/// `48 01 d8` is ADD rax, rbx, with a memory size of 8 bytes, whatever follows it.
-pub fn worked_add()
-    ensures sentence { (strict : Bool) →
-        Sentence strict bytes_48_01_d8 (instruction_of add_rax_rbx 3) }
-    ensures answer { (strict : Bool) (rest : List ℕ) →
-        answer_of strict (bytes_48_01_d8 ++ rest) ≡ Ok (instruction_of add_rax_rbx 3) }
-{
-    headline_of_bytes();
-}
-
-/// `48 8b 45 00` is MOV rax, [rbp], with a memory size of 8 bytes, whatever follows it.
-pub fn worked_load()
-    ensures sentence { (strict : Bool) →
-        Sentence strict bytes_48_8b_45_00 (instruction_of mov_rax_at_rbp 4) }
-    ensures answer { (strict : Bool) (rest : List ℕ) →
-        answer_of strict (bytes_48_8b_45_00 ++ rest) ≡ Ok (instruction_of mov_rax_at_rbp 4) }
-{
-    headline_of_bytes();
 }
 
 /// The lines of the commands, and of the two courses the listings, and what is known of them as the text is read.

@@ -6,14 +6,16 @@ use Rattle.x86_fields.proofs.StepLemmas.{fresh}
 use Rattle.x86_fields.specs.declared.errors.DecodeError.{DecodeError}
 use Rattle.x86_fields.specs.declared.errors.DecodeError.TheVariants.{ExhaustedInput, TooLong}
 use Rattle.x86_fields.proofs.EndLemmas.{no_beginning}
+use Rattle.x86_fields.specs.Run.{reading_of}
 use Rattle.x86_operands.specs.declared.reader.Reading.{Reading}
 use Rattle.x86_decode.specs.declared.instructions.Instruction.{Instruction}
 use Rattle.x86_forms.specs.declared.Map.TheVariants.{One}
 use Rattle.x86_decode.specs.Head.{Rows}
-use Rattle.x86_decode.specs.Grammar.{IsSentence, Decides, by_bytes, case_5, HasNoSentence, in_head, IsRefusal, IsAnswer}
-use Rattle.x86_decode.proofs.RowSteps.{same_error}
+use Rattle.x86_decode.specs.Grammar.{IsSentence, DecidesByBytes, case_1, case_2, case_3, case_4, IsTooLong, Decides, by_bytes, case_5, HasNoSentence, in_head, IsRefusal, IsAnswer}
+use Rattle.x86_decode.proofs.RowSteps.{same_error, fault_error}
+use Rattle.x86_decode.proofs.HeadLemmas.{vex_final}
 use Rattle.x86_decode.proofs.BodyLemmas.{beginning_le, verdict, early, sentence_settles, out_nothing}
-use Rattle.x86_decode.proofs.Theorem.{agree, not_both, some_answer, none_settles, open_answer}
+use Rattle.x86_decode.proofs.Theorem.{agree, not_both, refusal_iff, refusal, some_answer, none_settles, open_answer}
 
 -- a prefix of a longer list that is short enough is a prefix of the list
 pub beginning_of : (input more q rest : List ℕ) → input ++ more ≡ q ++ rest → length q ≤ length input → input ≡ q ++ drop (length q) input
@@ -49,6 +51,32 @@ module _ (rows : Rows) (strict : Bool) where
   stays input more (Ok a) n d h = record { sentence = h.sentence; rest = h.rest ++ more; begins = ap (λ l. l ++ more) h.begins ∙ append_assoc h.sentence h.rest more; long = h.long; is = h.is }
   stays input more (Err ExhaustedInput) n d h = absurd (d refl)
   stays input more (Err e) n d h = refusal_stays input more e n h
+
+  -- ---- bytes that decide an error
+
+  decided_error : (q : List ℕ) (e : DecodeError) → DecidesByBytes rows strict q e → e ≢ ExhaustedInput
+  decided_error q e (case_1 c) = vex_final (reading_of c.run)
+  decided_error q e (case_2 c) = λ no. cc
+  decided_error q e (case_3 fault c) = fault_error fault
+  decided_error q e (case_4 c) = λ no. cc
+
+  decided_late : (q p more : List ℕ) (f : DecodeError) → IsTooLong rows strict q → q ≡ p ++ more → Decides rows strict p f → length q ≤ length p
+  decided_late q p more f t h (by_bytes d) = absurd (t.undecided p more f h d)
+  decided_late q p more f t h (case_5 u) = omega (arith, t.long, u.long)
+
+  pub decided_answer : (q rest : List ℕ) (e : DecodeError) → length q ≤ 15 → Decides rows strict q e → Answer (q ++ rest) (Err e) (length q)
+  decided_answer q rest e short (by_bytes d) =
+      let o = early rows strict q e d in
+      (refusal_iff rows strict (q ++ rest) (length q) e (decided_error q e d)).0 (refusal rows strict (q ++ rest) q rest e o.0 refl short o.1 o.2 d)
+  decided_answer q rest e short (case_5 t) = stays q rest (Err TooLong) (length q) (λ no. cc) (record {
+    beginning = q;
+    rest = [];
+    begins = sym (append-nil q);
+    decides = case_5 t;
+    long = refl;
+    shortest = λ p more f h d. decided_late q p more f t h d;
+    no_sentence = t.no_sentence;
+  })
 
   -- ---- one answer
 

@@ -1,4 +1,4 @@
-use Rattle.std.proofs.Common.{arith, ◌≡◌, ◌≤◌, ℕ, Bool, List, [], ◌∷◌, ◌++◌, length, Ok, Some, None, refl, ◌∙◌}
+use Rattle.std.proofs.Common.{arith, ◌≡◌, Bool, [], ◌∷◌, Some, None, refl, ◌∙◌}
 use Rattle.x86_forms.specs.declared.Map.TheVariants.{One}
 use Rattle.x86_forms.specs.declared.Column.TheVariants.{Plain}
 use Rattle.x86_forms.specs.declared.Form.TheVariants.{Ev_Gv}
@@ -10,7 +10,8 @@ use Rattle.x86_operands.specs.Forms.{form_record}
 use Rattle.x86_decode.specs.Grammar.{Whole, IsSentence}
 use Rattle.x86_decode.specs.Instruction.{instruction_of}
 use Rattle.x86_cli.specs.Worked.{add_rax_rbx, bytes_48_01_d8}
-use Rattle.x86_cli.proofs.laws.worked_add.Goals as goal
+use Rattle.x86_cli.proofs.WorkedLemmas.{no_immediate}
+use Rattle.x86_cli.proofs.laws.worked.add.Goals as goal
 
 abbrev row_of_01 : TableRow
 row_of_01 = record { opcode = ADD; form = Ev_Gv }
@@ -49,23 +50,7 @@ whole strict row = record {
         spelled = refl;
         address_spelled = (refl, refl);
         suffix_length = refl;
-        immediates_spelled = record {
-          immediate = [];
-          tail = [];
-          others = _;
-          spelled = refl;
-          immediate_length = refl;
-          yields = refl;
-          tail_spelled = record {
-            immediate = [];
-            tail = [];
-            others = [];
-            spelled = refl;
-            immediate_length = refl;
-            yields = refl;
-            tail_spelled = (refl, refl);
-          };
-        };
+        immediates_spelled = no_immediate refl (no_immediate refl (refl, refl));
       };
       opcode = ADD;
       named = refl;
@@ -79,9 +64,7 @@ sentence : (strict : Bool) → rows_of packed One Plain 0x01 ≡ Some row_of_01 
 sentence strict row = record { reading = add_rax_rbx; whole = whole strict row; lock = refl; short = omega arith; yields = refl }
 
 pub returns-clause-sentence : goal.returns-clause-sentence
-returns-clause-sentence c strict = sentence strict ((c.headline_of_bytes.ensures strict).rows One Plain 0x01 ∙ printed)
+returns-clause-sentence c strict = sentence strict (c.grammar.ensures.rows One Plain 0x01 ∙ printed)
 
 pub returns-clause-answer : goal.returns-clause-answer
-returns-clause-answer c strict rest =
-    ((c.headline_of_bytes.ensures strict).accepted (bytes_48_01_d8 ++ rest) (instruction_of add_rax_rbx 3)).1
-    (bytes_48_01_d8, rest, refl, sentence strict ((c.headline_of_bytes.ensures strict).rows One Plain 0x01 ∙ printed))
+returns-clause-answer c strict rest = c.grammar.ensures.accepted strict bytes_48_01_d8 rest (instruction_of add_rax_rbx 3) (sentence strict (c.grammar.ensures.rows One Plain 0x01 ∙ printed))

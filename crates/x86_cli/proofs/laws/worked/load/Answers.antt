@@ -1,4 +1,4 @@
-use Rattle.std.proofs.Common.{arith, ◌≡◌, ◌≤◌, ℕ, Bool, List, [], ◌∷◌, ◌++◌, length, Ok, Some, None, pos, false, refl, ◌∙◌}
+use Rattle.std.proofs.Common.{arith, ◌≡◌, Bool, [], ◌∷◌, Some, None, pos, false, refl, ◌∙◌}
 use Rattle.x86_forms.specs.declared.Map.TheVariants.{One}
 use Rattle.x86_forms.specs.declared.Column.TheVariants.{Plain}
 use Rattle.x86_forms.specs.declared.Form.TheVariants.{Gv_Ev}
@@ -12,12 +12,13 @@ use Rattle.x86_fields.specs.declared.raw.Raw.{Raw}
 use Rattle.x86_decode.specs.Grammar.{Whole, IsSentence}
 use Rattle.x86_decode.specs.Instruction.{instruction_of}
 use Rattle.x86_cli.specs.Worked.{mov_rax_at_rbp, bytes_48_8b_45_00}
-use Rattle.x86_cli.proofs.laws.worked_load.Goals as goal
+use Rattle.x86_cli.proofs.WorkedLemmas.{no_immediate}
+use Rattle.x86_cli.proofs.laws.worked.load.Goals as goal
 
 abbrev row_of_8b : TableRow
 row_of_8b = record { opcode = MOV; form = Gv_Ev }
 
--- the second line of the rows of map One
+-- the line of the rows of map One with this byte
 printed : printed_row One Plain 0x8b ≡ Some row_of_8b
 unfolding printed_row
 printed = refl
@@ -55,23 +56,7 @@ whole strict row = record {
         spelled = refl;
         address_spelled = (refl, record { sib = None; disp = 0x00 ∷ []; spelled = refl; sib_present = refl; disp_length = refl; fields = refl });
         suffix_length = refl;
-        immediates_spelled = record {
-          immediate = [];
-          tail = [];
-          others = _;
-          spelled = refl;
-          immediate_length = refl;
-          yields = refl;
-          tail_spelled = record {
-            immediate = [];
-            tail = [];
-            others = [];
-            spelled = refl;
-            immediate_length = refl;
-            yields = refl;
-            tail_spelled = (refl, refl);
-          };
-        };
+        immediates_spelled = no_immediate refl (no_immediate refl (refl, refl));
       };
       opcode = MOV;
       named = refl;
@@ -85,9 +70,7 @@ sentence : (strict : Bool) → rows_of packed One Plain 0x8b ≡ Some row_of_8b 
 sentence strict row = record { reading = mov_rax_at_rbp; whole = whole strict row; lock = refl; short = omega arith; yields = refl }
 
 pub returns-clause-sentence : goal.returns-clause-sentence
-returns-clause-sentence c strict = sentence strict ((c.headline_of_bytes.ensures strict).rows One Plain 0x8b ∙ printed)
+returns-clause-sentence c strict = sentence strict (c.grammar.ensures.rows One Plain 0x8b ∙ printed)
 
 pub returns-clause-answer : goal.returns-clause-answer
-returns-clause-answer c strict rest =
-    ((c.headline_of_bytes.ensures strict).accepted (bytes_48_8b_45_00 ++ rest) (instruction_of mov_rax_at_rbp 4)).1
-    (bytes_48_8b_45_00, rest, refl, sentence strict ((c.headline_of_bytes.ensures strict).rows One Plain 0x8b ∙ printed))
+returns-clause-answer c strict rest = c.grammar.ensures.accepted strict bytes_48_8b_45_00 rest (instruction_of mov_rax_at_rbp 4) (sentence strict (c.grammar.ensures.rows One Plain 0x8b ∙ printed))
