@@ -66,7 +66,7 @@ goes_past_refusals Targeted = true
 abbrev pub known_for : Command → Text → Listing
 known_for Swept t = known_sweep_at false 0 t
 known_for Targeted t = at_end t.ending
-known_for c t = listing_for c t
+known_for c t = listed_at c 0 t
 
 -- What a command does with a source and a sink that is settled: its calls in one order, by the rule of reading.
 abbrev pub Obeys : {S K : Type 0} → (S → Got → S → Type 0) → (S → List ℕ) → (K → List ℕ → Result ⊤ SinkFailed → K → Type 0) → (K → Result ⊤ SinkFailed → K → Type 0) →

@@ -58,17 +58,15 @@ abbrev pub answer_has : (Operand → Bool) → Result Instruction DecodeError �
 answer_has test (Ok i) = has_operand test i
 answer_has test (Err e) = false
 
-abbrev pub counted : Tally → List ℕ → Result Instruction DecodeError → Tally
-counted t bytes answer = record {
-  bytes = t.bytes + length bytes;
-  at_rip = t.at_rip + one_if (answer_has is_at_rip answer);
-  absolute = t.absolute + one_if (answer_has is_absolute answer);
-}
-
 -- the bytes of the first n encodings, and how many of their answers have an operand at rip, and an absolute one
 unfoldable pub tally_of : ℕ → Tally
 tally_of zero = record { bytes = 0; at_rip = 0; absolute = 0 }
-tally_of (suc n) = counted (tally_of n) (generate n) (answer_of false (generate n))
+tally_of (suc n) =
+    let answer = answer_of false (generate n) in record {
+      bytes = (tally_of n).bytes + length (generate n);
+      at_rip = (tally_of n).at_rip + one_if (answer_has is_at_rip answer);
+      absolute = (tally_of n).absolute + one_if (answer_has is_absolute answer);
+    }
 
 unfoldable pub tally_text : ℕ → Tally → List ℕ
 tally_text n t =
