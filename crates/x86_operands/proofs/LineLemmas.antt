@@ -68,20 +68,23 @@ first_line (form.Zv_R n) d = line_by _ _ (λ o m p. refl) (search rules) refl re
 first_line _ d = line_by _ _ (λ o m p. refl) (search rules) refl refl
 
 abbrev HasLine : Form → Type 0
-HasLine f = (1 + ordinal_of f < 199) × ((d : FormEncoding) → get_or ENCODINGS.now (first_ordinal_of f + 1) d ≡ get_or ENCODINGS.now (1 + ordinal_of f) d)
+HasLine f = (1 + ordinal_of f < length ENCODINGS.now) × ((d : FormEncoding) → get_or ENCODINGS.now (first_ordinal_of f + 1) d ≡ get_or ENCODINGS.now (1 + ordinal_of f) d)
+
+first_lines : 40 < length ENCODINGS.now
+first_lines = ltb-true 40 (length ENCODINGS.now) refl
 
 -- each number that a form carries has the same line
 has_line : (f : Form) → IsForm f → HasLine f
 unfolding ordinal_of
-has_line (form.Zv_R n) below = (omega arith, λ d. up_to_seven (λ n. get_or ENCODINGS.now (1 + 0) d ≡ get_or ENCODINGS.now (1 + (0 + n)) d) refl refl refl refl refl refl refl refl n below)
-has_line (form.Zv_AX_R n) below = (omega arith, λ d. up_to_seven (λ n. get_or ENCODINGS.now (1 + 8) d ≡ get_or ENCODINGS.now (1 + (8 + n)) d) refl refl refl refl refl refl refl refl n below)
-has_line (form.Zb_Ib_R n) below = (omega arith, λ d. up_to_seven (λ n. get_or ENCODINGS.now (1 + 16) d ≡ get_or ENCODINGS.now (1 + (16 + n)) d) refl refl refl refl refl refl refl refl n below)
-has_line (form.Zv_Ivq_R n) below = (omega arith, λ d. up_to_seven (λ n. get_or ENCODINGS.now (1 + 24) d ≡ get_or ENCODINGS.now (1 + (24 + n)) d) refl refl refl refl refl refl refl refl n below)
-has_line (form.Zv_B n) below = (omega arith, λ d. up_to_seven (λ n. get_or ENCODINGS.now (1 + 32) d ≡ get_or ENCODINGS.now (1 + (32 + n)) d) refl refl refl refl refl refl refl refl n below)
-has_line _ below = (omega arith, λ d. refl)
+has_line (form.Zv_R n) below = (omega (arith, first_lines, below), λ d. up_to_seven (λ n. get_or ENCODINGS.now (1 + 0) d ≡ get_or ENCODINGS.now (1 + (0 + n)) d) refl refl refl refl refl refl refl refl n below)
+has_line (form.Zv_AX_R n) below = (omega (arith, first_lines, below), λ d. up_to_seven (λ n. get_or ENCODINGS.now (1 + 8) d ≡ get_or ENCODINGS.now (1 + (8 + n)) d) refl refl refl refl refl refl refl refl n below)
+has_line (form.Zb_Ib_R n) below = (omega (arith, first_lines, below), λ d. up_to_seven (λ n. get_or ENCODINGS.now (1 + 16) d ≡ get_or ENCODINGS.now (1 + (16 + n)) d) refl refl refl refl refl refl refl refl n below)
+has_line (form.Zv_Ivq_R n) below = (omega (arith, first_lines, below), λ d. up_to_seven (λ n. get_or ENCODINGS.now (1 + 24) d ≡ get_or ENCODINGS.now (1 + (24 + n)) d) refl refl refl refl refl refl refl refl n below)
+has_line (form.Zv_B n) below = (omega (arith, first_lines, below), λ d. up_to_seven (λ n. get_or ENCODINGS.now (1 + 32) d ≡ get_or ENCODINGS.now (1 + (32 + n)) d) refl refl refl refl refl refl refl refl n below)
+has_line _ below = (ltb-true _ _ refl, λ d. refl)
 
-pub number_below : (f : Form) (n : ℕ) → IsForm f → n ≡ 1 + ordinal_of f → n < 199
-number_below f n below e = subst (λ n. n < 199) (sym e) (has_line f below).0
+pub number_below : (f : Form) (n : ℕ) → IsForm f → n ≡ 1 + ordinal_of f → n < length ENCODINGS.now
+number_below f n below e = subst (λ n. n < length ENCODINGS.now) (sym e) (has_line f below).0
 
 pub line_at : (f : Form) (n : ℕ) → IsForm f → n ≡ 1 + ordinal_of f → IsLineAt n f
 line_at f n below e d =
