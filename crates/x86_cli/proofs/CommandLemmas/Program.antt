@@ -18,16 +18,17 @@ use Rattle.x86_streams.specs.Outside.Sink.{SinkCalls}
 use Rattle.x86_streams.specs.Outside.Stop.{Stop, End, Failed}
 use Rattle.x86_streams.specs.Outside.Writes.{Call as WriterCall}
 use Rattle.x86_streams.specs.Outside.Writes.{Cause, EndsInFlush, Forwards}
-use Rattle.x86_streams.specs.Text.{Text, text_of}
+use Rattle.x86_streams.specs.Text.{Text, text_at, text_of}
 use Rattle.x86_streams.specs.Text.Reading.{CalledWhileOpen, MayCome, SourceCalls}
-use Rattle.x86_cli.specs.Listings.Listing.{Listing}
+use Rattle.x86_streams.specs.declared.text.reader.Ending.TheVariants.{Fault}
+use Rattle.x86_cli.specs.Listings.Listing.{Listing, at_end}
 use Rattle.x86_cli.specs.Commands.Command.{Obeys, listing_for, max_of}
 use Rattle.x86_cli.specs.Listings.Calls.{OutsideCall, Next, Take, Put, Settle, returned, lines_of, stop_of, Unfailed, Waits, AreListed, Calls, Lives}
 use Rattle.x86_cli.specs.Commands.Make.{made_listing}
 use Rattle.x86_cli.specs.Commands.Run.{Lists, Wrote, Ran}
-use Rattle.x86_cli.specs.Commands.Program.{ending_of, fault_of, EndsAt, IsPrinted, Finishes, Performs, PerformsMake}
-use Rattle.x86_cli.proofs.CommandLemmas.Causes.{some_stop, fault_stop, command_read, command_status, lists_status, ran_used}
-use Rattle.x86_cli.proofs.CommandLemmas.Says.{written_part, end_stop, fault_status, called_failed}
+use Rattle.x86_cli.specs.Commands.Program.{ending_of, fault_of, EndsAt, IsPrinted, Finishes, Prints, Performs, PerformsMake}
+use Rattle.x86_cli.proofs.CommandLemmas.Causes.{some_stop, fault_stop, command_end, lists_status}
+use Rattle.x86_cli.proofs.CommandLemmas.Says.{written_part, called_failed}
 use Rattle.x86_cli.proofs.CommandLemmas.Obeys.{listed_status, source_part, called_part}
 use Rattle.x86_streams.proofs.OutsideLemmas.Flat.{BufferSends, SinkTakes, flat, lines_send, failed_line_sends}
 use Rattle.x86_streams.proofs.OutsideLemmas.Reads.{SourceGives, fetched}
@@ -44,17 +45,36 @@ all_sent status r held cs ds flushed ne = grind arith
 ending_failed : (r : Result ⊤ SinkFailed) → ending_of WriteFault r ≡ WriteFault
 ending_failed r = grind arith
 
--- how the reads of a run ended, by its status: of every text that begins with these bytes, the listing ends so
-module _ (c : Command) (bytes : List ℕ) (stop : Option Stop) (called : CalledWhileOpen (text_of (max_of c)) bytes stop) where
-  run_ends : (status : Status) → ((xs : List ℕ) (s : Stop) → MayCome stop xs s → status ≢ WriteFault → (listing_for c (text_of (max_of c) (bytes ++ xs) s)).status ≡ status) → EndsAt status stop
-  run_ends Done ends = end_stop c (max_of c) bytes stop (λ xs s may. ends xs s may (λ e. cc))
-  run_ends Usage ends = let one = some_stop stop in absurd ((command_status c _).0 (ends [] one.0 one.1 (λ e. cc)))
-  run_ends Refused ends = tt
-  run_ends ReadFault ends = fault_stop stop (λ may. command_read c (max_of c) (bytes ++ []) (ends [] End may (λ e. cc)))
-  run_ends WriteFault ends = tt
-  run_ends status ends = λ failed.
-      let is = rw append-nil at (ends [] Failed (rw failed (refl, refl)) (λ e. cc)) in
-      fault_status c (text_of (max_of c) bytes Failed) status (called_failed (max_of c) bytes stop called failed) (λ e. cc) (λ e. cc) is
+-- a listing that isn't refused ends as its text
+abbrev pub EndsAsText : (Text → Listing) → Type 0
+EndsAsText listing = (t : Text) → (listing t).status ≢ Refused → (listing t).status ≡ (at_end t.ending).status
+
+module _ (listing : Text → Listing) (max : ℕ) (as_text : EndsAsText listing) where
+  listing_status : (t : Text) → ((listing t).status ≢ Usage) × ((listing t).status ≢ WriteFault)
+  listing_status t = let h = as_text t in (grind arith, grind arith)
+
+  listing_read : (bytes : List ℕ) → (listing (text_of max bytes End)).status ≢ ReadFault
+  unfolding text_at
+  listing_read bytes = let h = as_text (text_of max bytes End) in grind arith
+
+  listing_fault : (t : Text) (status : Status) → t.ending ≡ Fault → status ≢ Refused → status ≢ ReadFault → (listing t).status ≢ status
+  listing_fault t status fault unrefused unread = let h = as_text t in grind arith
+
+  listing_stop : (bytes : List ℕ) (stop : Option Stop) → ((xs : List ℕ) (s : Stop) → MayCome stop xs s → (listing (text_of max (bytes ++ xs) s)).status ≡ Done) → stop ≡ Some End
+  unfolding text_at
+  listing_stop bytes stop done = let h = as_text (text_of max (bytes ++ []) Failed) in grind (arith, done [] Failed)
+
+  -- how the reads of a run ended, by its status: of every text that begins with these bytes, the listing ends so
+  module _ (bytes : List ℕ) (stop : Option Stop) (called : CalledWhileOpen (text_of max) bytes stop) where
+    run_ends : (status : Status) → ((xs : List ℕ) (s : Stop) → MayCome stop xs s → status ≢ WriteFault → (listing (text_of max (bytes ++ xs) s)).status ≡ status) → EndsAt status stop
+    run_ends Done ends = listing_stop bytes stop (λ xs s may. ends xs s may (λ e. cc))
+    run_ends Usage ends = let one = some_stop stop in absurd ((listing_status _).0 (ends [] one.0 one.1 (λ e. cc)))
+    run_ends Refused ends = tt
+    run_ends ReadFault ends = fault_stop stop (λ may. listing_read (bytes ++ []) (ends [] End may (λ e. cc)))
+    run_ends WriteFault ends = tt
+    run_ends status ends = λ failed.
+        let is = rw append-nil at (ends [] Failed (rw failed (refl, refl)) (λ e. cc)) in
+        listing_fault (text_of max bytes Failed) status (called_failed max bytes stop called failed) (λ e. cc) (λ e. cc) is
 
 program_ends : {E : Type 0} (status : Status) (r : Result ⊤ E) (stop : Option Stop) → status ≢ Usage → EndsAt status stop → EndsAt (ending_of status r) stop
 program_ends status r stop used h = grind arith
@@ -126,31 +146,32 @@ module _ {W : Type 0} (writes : W → List ℕ → Result ℕ Error → W → Ty
         record { bytes = p.bytes; wrote = p.wrote; lists = p.prints (made_listing n) w.lists }
 
     -- over a reader
-    module _ {R : Type 0} {h : _} (reads : R → List ℕ → Result ℕ Error → R → Type 0) (left : R → Option (List ℕ)) (c : Command) (s t : StdSource R h) (none : source_bytes s ≡ []) where
-      performs : (bytes : List ℕ) (stop : Option Stop) (Holds : Listing → Type 0) → SourceCalls (SourceGives reads left) bytes stop s t → CalledWhileOpen (text_of (max_of c)) bytes stop → status ≢ Usage →
+    module _ {R : Type 0} {h : _} (reads : R → List ℕ → Result ℕ Error → R → Type 0) (left : R → Option (List ℕ)) (listing : Text → Listing) (max : ℕ) (as_text : EndsAsText listing)
+        (s t : StdSource R h) (none : source_bytes s ≡ []) where
+      performs : (bytes : List ℕ) (stop : Option Stop) (Holds : Listing → Type 0) → SourceCalls (SourceGives reads left) bytes stop s t → CalledWhileOpen (text_of max) bytes stop → status ≢ Usage →
           ((l : Listing) → status ≢ WriteFault → Holds l → l.status ≡ status) →
-          ((xs : List ℕ) (s : Stop) → MayCome stop xs s → Holds (listing_for c (text_of (max_of c) (bytes ++ xs) s))) → RunPrinted Holds →
-          Performs writes flushes reads c (ending_of status r) (source_reader s) (source_reader t) (buffer_writer (sink_writer k)) (buffer_writer g)
+          ((xs : List ℕ) (s : Stop) → MayCome stop xs s → Holds (listing (text_of max (bytes ++ xs) s))) → RunPrinted Holds →
+          Prints writes flushes reads listing max (ending_of status r) (source_reader s) (source_reader t) (buffer_writer (sink_writer k)) (buffer_writer g)
       performs bytes stop Holds calls called used ends lists p =
-          let f = rw none at (fetched reads left (text_of (max_of c)) bytes stop s t calls called) in
+          let f = rw none at (fetched reads left (text_of max) bytes stop s t calls called) in
           record {
             pieces = f.pieces;
             stop = stop;
             read = f.read;
             open_yet = f.open_yet;
-            ends = program_ends status r stop used (run_ends c bytes stop called status (λ xs s may ne. ends _ ne (lists xs s may)));
+            ends = program_ends status r stop used (run_ends listing max as_text bytes stop called status (λ xs s may ne. ends _ ne (lists xs s may)));
             bytes = p.bytes;
             wrote = p.wrote;
             lists = λ xs stop may. p.prints _ (rw (f.order, append_assoc) (lists (source_bytes t ++ xs) stop (f.later xs stop may)));
           }
 
-      ran_performs : Ran (SourceGives reads left) (SinkTakes writes flushes) (listing_for c) (max_of c) status s t k l →
-          Performs writes flushes reads c (ending_of status r) (source_reader s) (source_reader t) (buffer_writer (sink_writer k)) (buffer_writer g)
+      ran_performs : Ran (SourceGives reads left) (SinkTakes writes flushes) listing max status s t k l →
+          Prints writes flushes reads listing max (ending_of status r) (source_reader s) (source_reader t) (buffer_writer (sink_writer k)) (buffer_writer g)
       ran_performs ran =
           let one = some_stop ran.stop in
-          performs ran.bytes ran.stop (Lists status ran.lines ran.failed) ran.source_calls ran.called (ran_used _ _ c _ status s t k l ran)
+          performs ran.bytes ran.stop (Lists status ran.lines ran.failed) ran.source_calls ran.called (λ e. (listing_status listing max as_text _).0 (lists_status status ran.lines ran.failed _ (λ f. absurd (cc)) (ran.lists [] one.0 one.1) ∙ e))
           (λ l ne is. lists_status status ran.lines ran.failed l ne is) ran.lists
-          (run_printed ran.lines ran.failed _ (ran.lists [] one.0 one.1) (command_status c _).1 (command_status c _).0 ran.sink_calls)
+          (run_printed ran.lines ran.failed _ (ran.lists [] one.0 one.1) (listing_status listing max as_text _).1 (listing_status listing max as_text _).0 ran.sink_calls)
 
       -- the calls in one order
       abbrev Gives : StdSource R h → Got → StdSource R h → Type 0
@@ -176,7 +197,7 @@ module _ {W : Type 0} (writes : W → List ℕ → Result ℕ Error → W → Ty
             all_printed (lines_of cs) (AreListed status cs) to (λ e. unfailed (ap (λ l. l.status) (to first is) ∙ e)) (λ e. used (ap (λ l. l.status) (to first is) ∙ e)) (sends_part cs t l d u)
 
         module _ (known : Text → Listing) where
-          calls_printed : (cs : List OutsideCall) → Calls Gives ahead (SinkTakes writes flushes) Settles cs s t k l → Waits known (text_of (max_of c)) cs →
+          calls_printed : (cs : List OutsideCall) → Calls Gives ahead (SinkTakes writes flushes) Settles cs s t k l → Waits known (text_of max) cs →
               (first : Listing) → AreListed status cs first → first.status ≢ WriteFault → first.status ≢ Usage → RunPrinted (AreListed status cs)
           calls_printed [] d w first is unfailed used = whole_printed [] d tt (λ l h. h) first is unfailed used
           calls_printed (Next q ∷ cs) d w first is unfailed used = whole_printed (Next q ∷ cs) d w.1.0 (λ l h. h) first is unfailed used
@@ -193,23 +214,23 @@ module _ {W : Type 0} (writes : W → List ℕ → Result ℕ Error → W → Ty
               (λ l h. (concat h.1.0, ap concat h.1.1 ∙ concat-append (lines_of cs) h.1.0)) e
               (rw append-nil at (forwards_join writes flushes tt (Err e) (concat (lines_of cs)) [] _ _ _ _ _ _ (sends_part cs t d.0 d.1 w.1) d.2.0))
 
-          lives_performs : Lives Gives ahead (SinkTakes writes flushes) Settles known (listing_for c) (text_of (max_of c)) status s t k l →
-              Performs writes flushes reads c (ending_of status r) (source_reader s) (source_reader t) (buffer_writer (sink_writer k)) (buffer_writer g)
+          pub lives_performs : Lives Gives ahead (SinkTakes writes flushes) Settles known listing (text_of max) status s t k l →
+              Prints writes flushes reads listing max (ending_of status r) (source_reader s) (source_reader t) (buffer_writer (sink_writer k)) (buffer_writer g)
           lives_performs h =
               let one = some_stop (stop_of h.calls) in
               let first = h.lists [] one.0 one.1 in
               performs (returned h.calls) (stop_of h.calls) (AreListed status h.calls)
-              (source_part Gives ahead (SinkTakes writes flushes) Settles known (text_of (max_of c)) h.calls s t k l h.did h.waits)
-              (called_part Gives ahead (SinkTakes writes flushes) Settles known (text_of (max_of c)) h.calls h.waits)
-              (λ e. (command_status c _).0 (listed_status status h.calls _ (λ f. absurd (cc)) first ∙ e))
+              (source_part Gives ahead (SinkTakes writes flushes) Settles known (text_of max) h.calls s t k l h.did h.waits)
+              (called_part Gives ahead (SinkTakes writes flushes) Settles known (text_of max) h.calls h.waits)
+              (λ e. (listing_status listing max as_text _).0 (listed_status status h.calls _ (λ f. absurd (cc)) first ∙ e))
               (λ l ne is. listed_status status h.calls l ne is) h.lists
-              (calls_printed h.calls h.did h.waits _ first (command_status c _).1 (command_status c _).0)
+              (calls_printed h.calls h.did h.waits _ first (listing_status listing max as_text _).1 (listing_status listing max as_text _).0)
 
     pub obeys_performs : {R : Type 0} {h : _} (reads : R → List ℕ → Result ℕ Error → R → Type 0) (left : R → Option (List ℕ)) (ahead : StdSource R h → List ℕ) (c : Command) (s t : StdSource R h) → source_bytes s ≡ [] →
         Obeys (SourceGives reads left) ahead (SinkTakes writes flushes) (λ m q n. BufferSends writes flushes (sink_writer m) q (sink_writer n)) c status s t k l →
         Performs writes flushes reads c (ending_of status r) (source_reader s) (source_reader t) (buffer_writer (sink_writer k)) (buffer_writer g)
-    obeys_performs reads left ahead Targeted s t none o = ran_performs reads left Targeted s t none o
-    obeys_performs reads left ahead (Listed strict) s t none o = lives_performs reads left (Listed strict) s t none ahead _ o
-    obeys_performs reads left ahead Fielded s t none o = lives_performs reads left Fielded s t none ahead _ o
-    obeys_performs reads left ahead Tightened s t none o = lives_performs reads left Tightened s t none ahead _ o
-    obeys_performs reads left ahead Swept s t none o = lives_performs reads left Swept s t none ahead _ o
+    obeys_performs reads left ahead Targeted s t none o = ran_performs reads left (listing_for Targeted) (max_of Targeted) (command_end Targeted) s t none o
+    obeys_performs reads left ahead (Listed strict) s t none o = lives_performs reads left (listing_for (Listed strict)) (max_of (Listed strict)) (command_end (Listed strict)) s t none ahead _ o
+    obeys_performs reads left ahead Fielded s t none o = lives_performs reads left (listing_for Fielded) (max_of Fielded) (command_end Fielded) s t none ahead _ o
+    obeys_performs reads left ahead Tightened s t none o = lives_performs reads left (listing_for Tightened) (max_of Tightened) (command_end Tightened) s t none ahead _ o
+    obeys_performs reads left ahead Swept s t none o = lives_performs reads left (listing_for Swept) (max_of Swept) (command_end Swept) s t none ahead _ o

@@ -10,7 +10,7 @@ use Rattle.x86_cli.specs.declared.listings.status.Status.TheVariants.{Done, Usag
 use Rattle.x86_streams.specs.Outside.Stop.{Stop, End, Failed}
 use Rattle.x86_streams.specs.Outside.Reads.{ReaderCalls, ReadWhileOpen}
 use Rattle.x86_streams.specs.Outside.Writes.{Caused, EndsInFlush}
-use Rattle.x86_streams.specs.Text.{text_of}
+use Rattle.x86_streams.specs.Text.{Text, text_of}
 use Rattle.x86_streams.specs.Text.Reading.{MayCome}
 use Rattle.x86_cli.specs.Listings.Listing.{Listing}
 use Rattle.x86_cli.specs.Commands.Command.{listing_for, max_of}
@@ -56,17 +56,21 @@ module _ {W : Type 0} (writes : W → List ℕ → Result ℕ Error → W → Ty
     pub lists : IsPrinted status bytes (made_listing n)
 
   module _ {R : Type 0} (reads : R → List ℕ → Result ℕ Error → R → Type 0) where
-    -- The program obeyed a command: the reads that it made, each where the text had not ended, the bytes that the
-    -- writer took, and that these are the listing of every text that begins with the bytes read.
-    pub record Performs (c : Command) (status : Status) (reader reader' : R) (writer writer' : W) : Type 0 where
+    -- The program printed a listing of what it read: the reads that it made, each where the text had not ended, the
+    -- bytes that the writer took, and that these are the listing of every text that begins with the bytes read.
+    pub record Prints (listing : Text → Listing) (max : ℕ) (status : Status) (reader reader' : R) (writer writer' : W) : Type 0 where
       pub pieces : List (List ℕ)
       pub stop : Option Stop
       pub read : ReaderCalls reads pieces stop reader reader'
-      pub open_yet : ReadWhileOpen (text_of (max_of c)) pieces stop
+      pub open_yet : ReadWhileOpen (text_of max) pieces stop
       pub ends : EndsAt status stop
       pub bytes : List ℕ
       pub wrote : Finishes status bytes writer writer'
-      pub lists : (xs : List ℕ) (s : Stop) → MayCome stop xs s → IsPrinted status bytes (listing_for c (text_of (max_of c) (concat pieces ++ xs) s))
+      pub lists : (xs : List ℕ) (s : Stop) → MayCome stop xs s → IsPrinted status bytes (listing (text_of max (concat pieces ++ xs) s))
+
+    -- The program obeyed a command.
+    abbrev pub Performs : Command → Status → R → R → W → W → Type 0
+    Performs c status reader reader' writer writer' = Prints (listing_for c) (max_of c) status reader reader' writer writer'
 
 -- ---- what that says where the bytes that the reader has left and those that the writer has are known
 
