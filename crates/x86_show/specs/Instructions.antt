@@ -6,7 +6,7 @@ use Rattle.x86_regs.specs.Class.{width_of}
 use Rattle.x86_regs.specs.Register.{class}
 use Rattle.x86_opcodes.specs.Kinds.{is_among}
 use Rattle.x86_opcodes.specs.Mnemonics.{mnemonic}
-use Rattle.x86_opcodes.specs.Names.{MOVS, CMPS, STOS, LODS, SCAS, INS, OUTS}
+use Rattle.x86_opcodes.specs.Names.{MOVS, CMPS, STOS, LODS, SCAS, INS, OUTS, XBEGIN}
 use Rattle.x86_fields.specs.Prefixes.{lock, segment}
 use Rattle.x86_fields.specs.Run.{repnz, rep}
 use Rattle.x86_operands.specs.declared.operands.Slot.{Slot}
@@ -18,7 +18,7 @@ use Rattle.x86_decode.specs.declared.instructions.Instruction.{Instruction}
 use Rattle.x86_decode.specs.Instruction.{opcode, length_of, mem_size_number, operand_count, operand_at, slot_at}
 use Rattle.x86_layout.specs.Sweeps.Branches.{branch_target}
 use Rattle.x86_lines.specs.Hexadecimal.{prefixed}
-use Rattle.x86_show.specs.Operands.{value_text, memory_text}
+use Rattle.x86_show.specs.Operands.{moved, value_text, memory_text}
 
 -- the string operations (Intel SDM volume 1, section 7.3.9)
 abbrev pub is_string : ℕ → Bool
@@ -73,11 +73,15 @@ segment_name FS = codes "fs:"
 segment_name GS = codes "gs:"
 segment_name SS = codes "ss:"
 
--- what MOVS and CMPS name by rdi is in ES, all else in the segment of the prefixes
+-- MOVS and CMPS name by rdi what is in ES
 abbrev pub segment_at : Slot → Segment → Segment
 segment_at DerefRdi s = ES
 segment_at DerefEdi s = ES
 segment_at slot s = s
+
+-- the segment of an operand: INS stores to ES too
+abbrev pub segment_of : Instruction → ℕ → Segment
+segment_of i k = if opcode i == INS then ES else segment_at (slot_at i k) (segment i.prefixes)
 
 -- the segment of a string operation, and each that isn't DS
 abbrev pub shown_segment : Bool → Segment → List ℕ
@@ -85,7 +89,7 @@ shown_segment string DS = if string then segment_name DS else []
 shown_segment string s = segment_name s
 
 abbrev pub segment_text : Instruction → ℕ → List ℕ
-segment_text i k = shown_segment (is_string (opcode i)) (segment_at (slot_at i k) (segment i.prefixes))
+segment_text i k = shown_segment (is_string (opcode i)) (segment_of i k)
 
 -- ---- operands
 
@@ -96,9 +100,17 @@ plain_operand i next k =
     then size_text i ++ segment_text i k ++ codes "[" ++ memory_text next (operand_at i k) ++ codes "]"
     else value_text (operand_at i k)
 
--- the target of a relative branch, which its first operand says
+-- the address that XBEGIN leads to where its transaction aborts
+abbrev pub abort_target : ℕ → Operand → Option ℕ
+abort_target next (operand.ImmediateI32 imm) = Some (moved next imm)
+abort_target next o = None
+
+-- the target of a relative branch or of XBEGIN, which the first operand says
+abbrev pub first_target : Instruction → ℕ → Option ℕ
+first_target i next = if opcode i == XBEGIN then abort_target next (operand_at i 0) else branch_target i next
+
 abbrev pub target_of : Instruction → ℕ → ℕ → Option ℕ
-target_of i next k = if k == 0 then branch_target i next else None
+target_of i next k = if k == 0 then first_target i next else None
 
 abbrev pub target_or : Option ℕ → List ℕ → List ℕ
 target_or (Some target) text = prefixed target

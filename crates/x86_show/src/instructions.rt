@@ -2,10 +2,10 @@
 
 ghost use Rattle.std.specs.Prelude.{◌≡◌, ◌+◌, ◌*◌, ◌++◌, ◌<◌, ◌≤◌, length, take, codes, min};
 ghost use Rattle.x86_decode.specs.Instruction.{operand_count};
-ghost use Rattle.x86_show.specs.Instructions.{is_string, compares, rep_text, repeat_text, lock_text, size_word, is_register_of, tells_size, size_text, segment_name, segment_at, shown_segment, segment_text, plain_operand, target_of, operand_text, separator, first_operands, instruction_text, next_of};
+ghost use Rattle.x86_show.specs.Instructions.{is_string, compares, rep_text, repeat_text, lock_text, size_word, is_register_of, tells_size, size_text, segment_name, segment_at, segment_of, shown_segment, segment_text, plain_operand, abort_target, target_of, operand_text, separator, first_operands, instruction_text, next_of};
 ghost use Rattle.x86_show.specs.Operands.{memory_text};
 
-use crate::operands::{put_memory, put_value};
+use crate::operands::{moved, put_memory, put_value};
 use x86_decode::Instruction;
 use x86_layout::branch_target;
 use x86_lines::cells::{put, put_bytes};
@@ -144,6 +144,18 @@ fn segment_at(slot: Slot, segment: Segment) -> Segment
     }
 }
 
+/// The segment of an operand: INS stores to ES too.
+fn segment_of(instruction: &Instruction, k: u8) -> Segment
+    requires { k < 4 }
+    ensures { result ≡ segment_of instruction.now k }
+{
+    if instruction.opcode() == Opcode::INS {
+        Segment::ES
+    } else {
+        segment_at(instruction.slot(k), instruction.prefixes.segment())
+    }
+}
+
 /// Writes a segment, but DS of string operations alone.
 fn put_segment(cells: &mut [u8], at: usize, string: bool, segment: Segment) -> usize
     requires { at + 3 ≤ length cells.old }
@@ -173,8 +185,8 @@ fn put_place(
     ensures short { result ≤ at + 49 }
 {
     let at = put_bytes(cells, at, shown_size(instruction));
-    let segment = segment_at(instruction.slot(k), instruction.prefixes.segment());
-    let at = put_segment(cells, at, is_string(instruction.opcode()), segment);
+    let string = is_string(instruction.opcode());
+    let at = put_segment(cells, at, string, segment_of(instruction, k));
     let at = put(cells, at, b'[');
     let at = put_memory(cells, at, operand, next);
     put(cells, at, b']')
@@ -202,14 +214,26 @@ fn put_plain_operand(
     }
 }
 
-/// The target of a relative branch, which its first operand says.
+/// The address that XBEGIN leads to where its transaction aborts.
+fn abort_target(operand: Operand, next: u64) -> Option<u64>
+    ensures { result ≡ abort_target next operand }
+{
+    match operand {
+        Operand::ImmediateI32 { imm } => Some(moved(next, imm)),
+        _ => None,
+    }
+}
+
+/// The target of a relative branch or of XBEGIN, which the first operand says.
 fn target_of(instruction: &Instruction, next: u64, k: u8) -> Option<u64>
     ensures { result ≡ target_of instruction.now next k }
 {
-    if k == 0 {
-        branch_target(instruction, next)
-    } else {
+    if k != 0 {
         None
+    } else if instruction.opcode() == Opcode::XBEGIN {
+        abort_target(instruction.operand(0), next)
+    } else {
+        branch_target(instruction, next)
     }
 }
 

@@ -68,7 +68,7 @@ fn put_displacement(cells: &mut [u8], at: usize, disp: i32) -> usize
 }
 
 /// So far after an address, modulo 2^64.
-fn moved(next: u64, disp: i32) -> u64
+pub(crate) fn moved(next: u64, disp: i32) -> u64
     ensures { result ≡ moved next disp }
 {
     next.wrapping_add_signed(i64::from(disp))
