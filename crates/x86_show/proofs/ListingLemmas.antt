@@ -22,7 +22,7 @@ use Rattle.x86_cli.specs.Listings.Listing.{Listing, with_lines, at_end}
 use Rattle.x86_cli.specs.Listings.Sweep.{before_open}
 use Rattle.x86_cli.proofs.ListingLemmas.NextEntry.{no_bytes, few_undecided}
 use Rattle.x86_cli.proofs.ListingLemmas.Sweep.{before_sure, answer_shows, same_answer}
-use Rattle.x86_show.specs.Listing.{address_of, answer_text, lines_of, decided_of, shown_at, known_at}
+use Rattle.x86_show.specs.Listing.{address_of, answer_text, cut_lines, decided_of, shown_at, known_at}
 
 module _ (strict : Bool) (base : ℕ) where
   abbrev text_at_place : ℕ → List ℕ → Result Instruction DecodeError → List ℕ
@@ -35,8 +35,8 @@ module _ (strict : Bool) (base : ℕ) where
 
   shown_steps : (a : Result Instruction DecodeError) → Steps (shown_at strict base) a
   shown_steps a n xs e h some le =
-      ap (λ (cs : List Cut). with_lines (lines_of base cs xs) (at_end e)) (first_and_rest strict (cut_length a) n xs (ap cut_length h) some (omega (arith, some, le)))
-      ∙ ap (λ (b : Result Instruction DecodeError). with_lines (line (text_at_place n (take (cut_length b) xs) b) ∷ lines_of base (cuts_from strict (n + cut_length a) (drop (cut_length a) xs)) (drop (cut_length b) xs)) (at_end e)) h
+      ap (λ (cs : List Cut). with_lines (cut_lines base cs xs) (at_end e)) (first_and_rest strict (cut_length a) n xs (ap cut_length h) some (omega (arith, some, le)))
+      ∙ ap (λ (b : Result Instruction DecodeError). with_lines (line (text_at_place n (take (cut_length b) xs) b) ∷ cut_lines base (cuts_from strict (n + cut_length a) (drop (cut_length a) xs)) (drop (cut_length b) xs)) (at_end e)) h
 
   known_steps : (a : Result Instruction DecodeError) → a ≢ Err ExhaustedInput → Steps (known_at strict base) a
   known_steps a sure n xs e h some le =
@@ -60,7 +60,7 @@ module _ (strict : Bool) (base : ℕ) where
   open_cut n (x ∷ w) h = rw (first_and_rest strict 1 n (x ∷ w) (ap cut_length h) (omega arith) (omega arith), h) refl
 
   pub entry_ended : (ended : Option Ending) (n : ℕ) (text w : List ℕ) (p r : ℕ) (e : Ending) → ended ≡ Some e → length w ≡ 0 → IsEntry (shown_at strict base) (known_at strict base) (entry.Ended e) n text ended w p r
-  entry_ended ended n text w p r e is none xs stop = rw is (ap (λ (cs : List Cut). with_lines (lines_of base cs w) (at_end e)) (none_left strict n w none))
+  entry_ended ended n text w p r e is none xs stop = rw is (ap (λ (cs : List Cut). with_lines (cut_lines base cs w) (at_end e)) (none_left strict n w none))
 
   module _ (laws : DecoderLaws strict) where
     pub entry_line : (ended : Option Ending) (n : ℕ) (w s : List ℕ) (p r : ℕ) (a : Result Instruction DecodeError) → (ended ≡ None → a ≢ Err ExhaustedInput) → 0 < length w →

@@ -14,9 +14,9 @@ number_after (Some n) [] = Some n
 number_after (Some n) (c ∷ digits) = number_after (with_digit n (hex_digit_value c)) digits
 
 -- the number of one to sixteen digits
-abbrev pub number_of : List ℕ → Option ℕ
-number_of [] = None
-number_of (c ∷ digits) = if nat_lt 15 (length digits) then None else number_after (Some 0) (c ∷ digits)
+abbrev pub base_number : List ℕ → Option ℕ
+base_number [] = None
+base_number (c ∷ digits) = if nat_lt 15 (length digits) then None else number_after (Some 0) (c ∷ digits)
 
 -- without 0x or 0X
 abbrev pub without_prefix : List ℕ → List ℕ
@@ -27,5 +27,5 @@ without_prefix (a ∷ b ∷ digits) = if a == 48 && (b == 120 || b == 88) then d
 -- the base: 0 where there is no word
 abbrev pub base_of : List (List ℕ) → Option ℕ
 base_of [] = Some 0
-base_of (word ∷ []) = number_of (without_prefix word)
+base_of (word ∷ []) = base_number (without_prefix word)
 base_of (a ∷ b ∷ words) = None

@@ -62,8 +62,8 @@ tells_size i =
     || (is_register_of (mem_size_number i) (operand_at i 2) || is_register_of (mem_size_number i) (operand_at i 3)))
 
 -- the size of the memory, where no register tells it
-abbrev pub size_text : Instruction → List ℕ
-size_text i = if tells_size i then [] else size_word (mem_size_number i)
+abbrev pub shown_size : Instruction → List ℕ
+shown_size i = if tells_size i then [] else size_word (mem_size_number i)
 
 abbrev pub segment_name : Segment → List ℕ
 segment_name DS = codes "ds:"
@@ -97,7 +97,7 @@ segment_text i k = shown_segment (is_string (opcode i)) (segment_of i k)
 abbrev pub plain_operand : Instruction → ℕ → ℕ → List ℕ
 plain_operand i next k =
     if is_memory_operand (operand_at i k)
-    then size_text i ++ segment_text i k ++ codes "[" ++ memory_text next (operand_at i k) ++ codes "]"
+    then shown_size i ++ segment_text i k ++ codes "[" ++ memory_text next (operand_at i k) ++ codes "]"
     else value_text (operand_at i k)
 
 -- the address that XBEGIN leads to where its transaction aborts
@@ -116,8 +116,8 @@ abbrev pub target_or : Option ℕ → List ℕ → List ℕ
 target_or (Some target) text = prefixed target
 target_or None text = text
 
-unfoldable pub operand_text : Instruction → ℕ → ℕ → List ℕ
-operand_text i next k = target_or (target_of i next k) (plain_operand i next k)
+unfoldable pub shown_operand : Instruction → ℕ → ℕ → List ℕ
+shown_operand i next k = target_or (target_of i next k) (plain_operand i next k)
 
 abbrev pub separator : ℕ → List ℕ
 separator k = if k == 0 then codes " " else codes ", "
@@ -125,11 +125,11 @@ separator k = if k == 0 then codes " " else codes ", "
 -- the first operands, after a space and joined by commas
 abbrev pub first_operands : Instruction → ℕ → ℕ → List ℕ
 first_operands i next zero = []
-first_operands i next (suc k) = first_operands i next k ++ separator k ++ operand_text i next k
+first_operands i next (suc k) = first_operands i next k ++ separator k ++ shown_operand i next k
 
 -- the prefixes that count, the mnemonic and the operands
-unfoldable pub instruction_text : Instruction → ℕ → List ℕ
-instruction_text i next =
+unfoldable pub shown_instruction : Instruction → ℕ → List ℕ
+shown_instruction i next =
     lock_text (lock i.prefixes) ++ repeat_text i ++ mnemonic (opcode i) ++ first_operands i next (min (operand_count i) 4)
 
 -- the address after an instruction

@@ -4,11 +4,11 @@ use Rattle.x86_fields.specs.declared.errors.DecodeError.{DecodeError}
 use Rattle.x86_fields.specs.Errors.{description_of}
 use Rattle.x86_decode.specs.declared.instructions.Instruction.{Instruction}
 use Rattle.x86_lines.specs.Hexadecimal.{hexadecimal, spaced_bytes}
-use Rattle.x86_show.specs.Instructions.{instruction_text, next_of}
+use Rattle.x86_show.specs.Instructions.{shown_instruction, next_of}
 
 -- a line without its end and its room, as the code names it
-abbrev pub line_room : ℕ
-line_room = 320
+abbrev pub shown_room : ℕ
+shown_room = 320
 
 -- the address, and the bytes in a column that is as wide as eight of them
 unfoldable pub beginning : ℕ → List ℕ → List ℕ
@@ -17,7 +17,7 @@ beginning address bytes =
 
 -- ADDRESS  BYTES  INSTRUCTION
 abbrev pub shown_text : ℕ → List ℕ → Instruction → List ℕ
-shown_text address bytes i = beginning address bytes ++ instruction_text i (next_of address i)
+shown_text address bytes i = beginning address bytes ++ shown_instruction i (next_of address i)
 
 -- ADDRESS  BYTES  (bad: DESCRIPTION)
 abbrev pub bad_text : ℕ → List ℕ → DecodeError → List ℕ

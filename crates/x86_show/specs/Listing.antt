@@ -11,8 +11,8 @@ use Rattle.x86_cli.specs.Listings.Sweep.{before_open}
 use Rattle.x86_show.specs.Lines.{shown_text, bad_text}
 
 -- the most bytes of a text: more than any has
-abbrev pub text_max : ℕ
-text_max = 2 ^ 62 - 1
+abbrev pub shown_max : ℕ
+shown_max = 2 ^ 62 - 1
 
 -- the address of a place, where the image begins at a base
 abbrev pub address_of : ℕ → ℕ → ℕ
@@ -28,14 +28,14 @@ cut_line base c bytes = line (answer_text (address_of base c.place) bytes c.answ
 
 -- The lines of cuts one after the other: the bytes of the first begin the image, and those of the others what is left of
 -- it.
-abbrev pub lines_of : ℕ → List Cut → List ℕ → List (List ℕ)
-lines_of base [] image = []
-lines_of base (c ∷ cs) image = cut_line base c (take c.length image) ∷ lines_of base cs (drop c.length image)
+abbrev pub cut_lines : ℕ → List Cut → List ℕ → List (List ℕ)
+cut_lines base [] image = []
+cut_lines base (c ∷ cs) image = cut_line base c (take c.length image) ∷ cut_lines base cs (drop c.length image)
 
 -- What is shown of a text whose image begins at a place: a line for each cut of the image, in order, and then the
 -- end's.
 abbrev pub shown_at : Bool → ℕ → ℕ → Text → Listing
-shown_at strict base place t = with_lines (lines_of base (cuts_from strict place t.image) t.image) (at_end t.ending)
+shown_at strict base place t = with_lines (cut_lines base (cuts_from strict place t.image) t.image) (at_end t.ending)
 
 -- the lines of cuts up to the first that more bytes may change
 abbrev pub decided_of : ℕ → List Cut → List ℕ → List (List ℕ)

@@ -27,47 +27,47 @@ value_text (operand.RegisterMaskMergeSaeNoround reg _ _) = register_text reg
 value_text o = []
 
 -- a sign and a number
-abbrev pub displacement_text : ℤ → List ℕ
-displacement_text disp = sign_text disp ++ prefixed (unsigned_abs disp)
+abbrev pub distance_text : ℤ → List ℕ
+distance_text disp = sign_text disp ++ prefixed (unsigned_abs disp)
 
 -- so far after an address, modulo 2^64
 abbrev pub moved : ℕ → ℤ → ℕ
 moved next disp = (next + cast_unsigned w64 disp) % 2 ^ 64
 
 -- The address at a base, where the base is the address of the next instruction: rip, or eip, where it has 32 bits.
-abbrev pub address_at : RegisterClass → ℕ → ℤ → Option ℕ
-address_at RIP next disp = Some (moved next disp)
-address_at EIP next disp = Some (moved next disp % 2 ^ 32)
-address_at c next disp = None
+abbrev pub relative_address : RegisterClass → ℕ → ℤ → Option ℕ
+relative_address RIP next disp = Some (moved next disp)
+relative_address EIP next disp = Some (moved next disp % 2 ^ 32)
+relative_address c next disp = None
 
 -- that address, or else the base and what is after it
 abbrev pub at_base : Option ℕ → List ℕ → List ℕ
 at_base (Some address) text = prefixed address
 at_base None text = text
 
-abbrev pub deref_text : ℕ → RegSpec → List ℕ
-deref_text next base = at_base (address_at (class base) next (pos 0)) (register_text base)
+abbrev pub deref_place : ℕ → RegSpec → List ℕ
+deref_place next base = at_base (relative_address (class base) next (pos 0)) (register_text base)
 
-abbrev pub moved_text : ℕ → RegSpec → ℤ → List ℕ
-moved_text next base disp = at_base (address_at (class base) next disp) (register_text base ++ displacement_text disp)
+abbrev pub moved_place : ℕ → RegSpec → ℤ → List ℕ
+moved_place next base disp = at_base (relative_address (class base) next disp) (register_text base ++ distance_text disp)
 
-abbrev pub index_text : Option RegSpec → RegSpec → ℕ → List ℕ
-index_text base index scale = base_text base ++ plus_text base ++ scaled_text index scale
+abbrev pub indexed_place : Option RegSpec → RegSpec → ℕ → List ℕ
+indexed_place base index scale = base_text base ++ plus_text base ++ scaled_text index scale
 
 -- Where memory is, of an instruction that is before this address.
 unfoldable pub memory_text : ℕ → Operand → List ℕ
 memory_text next (operand.AbsoluteU32 addr) = codes "abs32:" ++ prefixed addr
 memory_text next (operand.AbsoluteU64 addr) = codes "abs64:" ++ prefixed addr
-memory_text next (operand.MemDeref base) = deref_text next base
-memory_text next (operand.Disp base disp) = moved_text next base disp
-memory_text next (operand.MemIndexScale index scale) = index_text None index scale
-memory_text next (operand.MemIndexScaleDisp index scale disp) = index_text None index scale ++ displacement_text disp
-memory_text next (operand.MemBaseIndexScale base index scale) = index_text (Some base) index scale
-memory_text next (operand.MemBaseIndexScaleDisp base index scale disp) = index_text (Some base) index scale ++ displacement_text disp
-memory_text next (operand.MemDerefMasked base _) = deref_text next base
-memory_text next (operand.DispMasked base disp _) = moved_text next base disp
-memory_text next (operand.MemIndexScaleMasked index scale _) = index_text None index scale
-memory_text next (operand.MemIndexScaleDispMasked index scale disp _) = index_text None index scale ++ displacement_text disp
-memory_text next (operand.MemBaseIndexScaleMasked base index scale _) = index_text (Some base) index scale
-memory_text next (operand.MemBaseIndexScaleDispMasked base index scale disp _) = index_text (Some base) index scale ++ displacement_text disp
+memory_text next (operand.MemDeref base) = deref_place next base
+memory_text next (operand.Disp base disp) = moved_place next base disp
+memory_text next (operand.MemIndexScale index scale) = indexed_place None index scale
+memory_text next (operand.MemIndexScaleDisp index scale disp) = indexed_place None index scale ++ distance_text disp
+memory_text next (operand.MemBaseIndexScale base index scale) = indexed_place (Some base) index scale
+memory_text next (operand.MemBaseIndexScaleDisp base index scale disp) = indexed_place (Some base) index scale ++ distance_text disp
+memory_text next (operand.MemDerefMasked base _) = deref_place next base
+memory_text next (operand.DispMasked base disp _) = moved_place next base disp
+memory_text next (operand.MemIndexScaleMasked index scale _) = indexed_place None index scale
+memory_text next (operand.MemIndexScaleDispMasked index scale disp _) = indexed_place None index scale ++ distance_text disp
+memory_text next (operand.MemBaseIndexScaleMasked base index scale _) = indexed_place (Some base) index scale
+memory_text next (operand.MemBaseIndexScaleDispMasked base index scale disp _) = indexed_place (Some base) index scale ++ distance_text disp
 memory_text next o = []

@@ -2,7 +2,7 @@
 
 ghost use Rattle.std.specs.Prelude.{◌≡◌, ◌<◌, ℕ, Some, IfSome, map, string_bytes};
 ghost use Rattle.hex.specs.Hex.{hex_digit_value};
-ghost use Rattle.x86_show.specs.Base.{with_digit, number_after, number_of, without_prefix, base_of};
+ghost use Rattle.x86_show.specs.Base.{with_digit, number_after, base_number, without_prefix, base_of};
 
 /// The value of a hexadecimal digit.
 fn digit_of(byte: u8) -> Option<u64>
@@ -42,8 +42,8 @@ fn number_after(digits: &[u8]) -> Option<u64>
 }
 
 /// The number of one to sixteen digits.
-fn number_of(digits: &[u8]) -> Option<u64>
-    ensures { result ≡ number_of digits.now }
+fn base_number(digits: &[u8]) -> Option<u64>
+    ensures { result ≡ base_number digits.now }
 {
     match digits {
         [] => None,
@@ -70,7 +70,7 @@ pub fn base_of(words: &[String]) -> Option<u64>
 {
     match words {
         [] => Some(0),
-        [word] => number_of(without_prefix(word.as_str().as_bytes())),
+        [word] => base_number(without_prefix(word.as_str().as_bytes())),
         _ => None,
     }
 }

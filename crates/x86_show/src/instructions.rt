@@ -2,7 +2,7 @@
 
 ghost use Rattle.std.specs.Prelude.{◌≡◌, ◌+◌, ◌*◌, ◌++◌, ◌<◌, ◌≤◌, length, take, codes, min};
 ghost use Rattle.x86_decode.specs.Instruction.{operand_count};
-ghost use Rattle.x86_show.specs.Instructions.{is_string, compares, rep_text, repeat_text, lock_text, size_word, is_register_of, tells_size, size_text, segment_name, segment_at, segment_of, shown_segment, segment_text, plain_operand, abort_target, target_of, operand_text, separator, first_operands, instruction_text, next_of};
+ghost use Rattle.x86_show.specs.Instructions.{is_string, compares, rep_text, repeat_text, lock_text, size_word, is_register_of, tells_size, shown_size, segment_name, segment_at, segment_of, shown_segment, segment_text, plain_operand, abort_target, target_of, shown_operand, separator, first_operands, shown_instruction, next_of};
 ghost use Rattle.x86_show.specs.Operands.{memory_text};
 
 use crate::operands::{moved, put_memory, put_value};
@@ -111,7 +111,7 @@ fn tells_size(instruction: &Instruction) -> bool
 
 /// The size of the memory, where no register tells it.
 fn shown_size(instruction: &Instruction) -> &'static [u8]
-    ensures text { result.now ≡ size_text instruction.now }
+    ensures text { result.now ≡ shown_size instruction.now }
     ensures short { length result.now ≤ 8 }
 {
     if tells_size(instruction) {
@@ -180,7 +180,7 @@ fn put_place(
 ) -> usize
     requires room { at + 64 ≤ length cells.old }
     requires there { k < 4 }
-    ensures text { take result cells.new ≡ take at cells.old ++ size_text instruction.now
+    ensures text { take result cells.new ≡ take at cells.old ++ shown_size instruction.now
         ++ segment_text instruction.now k ++ codes "[" ++ memory_text next operand.now ++ codes "]" }
     ensures short { result ≤ at + 49 }
 {
@@ -238,12 +238,12 @@ fn target_of(instruction: &Instruction, next: u64, k: u8) -> Option<u64>
 }
 
 /// Writes an operand, or the target that it says.
-#[tactic(auto, unfolding(crate::specs::Instructions::operand_text))]
+#[tactic(auto, unfolding(crate::specs::Instructions::shown_operand))]
 fn put_operand(cells: &mut [u8], at: usize, instruction: &Instruction, next: u64, k: u8) -> usize
     requires room { at + 64 ≤ length cells.old }
     requires there { k < 4 }
     ensures text { take result cells.new ≡
-        take at cells.old ++ operand_text instruction.now next k }
+        take at cells.old ++ shown_operand instruction.now next k }
     ensures short { result ≤ at + 49 }
 {
     match target_of(instruction, next, k) {
@@ -280,7 +280,7 @@ fn put_operands(cells: &mut [u8], at: usize, instruction: &Instruction, next: u6
 }
 
 /// Writes the prefixes that count, the mnemonic and the operands, where the next instruction is at the address `next`.
-#[tactic(auto, unfolding(crate::specs::Instructions::instruction_text))]
+#[tactic(auto, unfolding(crate::specs::Instructions::shown_instruction))]
 pub(crate) fn put_instruction(
     cells: &mut [u8],
     at: usize,
@@ -289,7 +289,7 @@ pub(crate) fn put_instruction(
 ) -> usize
     requires { at + 247 ≤ length cells.old }
     ensures text { take result cells.new ≡
-        take at cells.old ++ instruction_text instruction.now next }
+        take at cells.old ++ shown_instruction instruction.now next }
     ensures short { result ≤ at + 231 }
 {
     let at = put_bytes(cells, at, lock_word(instruction.prefixes.lock()));

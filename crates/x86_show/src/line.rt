@@ -2,7 +2,7 @@
 
 ghost use Rattle.std.specs.Prelude.{◌≡◌, ◌+◌, ◌<◌, ◌≤◌, ◌++◌, ◌*◌, ◌-◌, length, take, replicate};
 ghost use Rattle.arrayvec.specs.ArrayVec.{array_vec_len};
-ghost use Rattle.x86_show.specs.Lines.{line_room, beginning, shown_text, bad_text};
+ghost use Rattle.x86_show.specs.Lines.{shown_room, beginning, shown_text, bad_text};
 
 use crate::instructions::{next_of, put_instruction};
 use x86_decode::{DecodeError, Instruction};
@@ -47,7 +47,7 @@ fn put_blanks(cells: &mut [u8], at: usize, pairs: usize) -> usize
 pub fn write_shown(line: &mut ShownLine, address: u64, instruction: &Instruction, bytes: &[u8])
     requires { length bytes.now ≤ 15 }
     ensures text { line.new.items ≡ shown_text address bytes.now instruction.now }
-    ensures short { array_vec_len line.new < line_room }
+    ensures short { array_vec_len line.new < shown_room }
 {
     let cells: &mut [u8] = &mut line.cells;
     let at = put_beginning(cells, 0, address, bytes);
@@ -60,7 +60,7 @@ pub fn write_shown(line: &mut ShownLine, address: u64, instruction: &Instruction
 pub fn write_bad(line: &mut ShownLine, address: u64, error: DecodeError, bytes: &[u8])
     requires { length bytes.now ≤ 15 }
     ensures text { line.new.items ≡ bad_text address bytes.now error }
-    ensures short { array_vec_len line.new < line_room }
+    ensures short { array_vec_len line.new < shown_room }
 {
     let cells: &mut [u8] = &mut line.cells;
     let at = put_beginning(cells, 0, address, bytes);

@@ -3,7 +3,7 @@
 ghost use Rattle.std.specs.Prelude.{◌≡◌, false};
 ghost use Rattle.x86_streams.specs.Text.{text_of};
 ghost use Rattle.x86_cli.specs.Listings.Calls.{Lives};
-ghost use Rattle.x86_show.specs.Listing.{text_max, shown_at, known_at};
+ghost use Rattle.x86_show.specs.Listing.{shown_max, shown_at, known_at};
 
 use crate::line::{SHOWN_ROOM, ShownLine, write_bad, write_shown};
 use x86_cli::Status;
@@ -74,7 +74,7 @@ pub fn show<S: Source, K: Sink, T: Settling<K>>(
     sink: &mut K,
 ) -> Status
     ensures { Lives S.gives S.ahead K.takes T.settles (known_at false base 0)
-        (shown_at false base 0) (text_of text_max) result source.old source.new sink.old sink.new }
+        (shown_at false base 0) (text_of shown_max) result source.old source.new sink.old sink.new }
 {
     let decoder = InstDecoder::default();
     list(&decoder, &ShowAt { base }, settling, TEXT_MAX, source, sink)

@@ -3,7 +3,7 @@
 ghost use Rattle.std.specs.Prelude.{◌≡◌, ℤ, pos, ◌+◌, ◌++◌, ◌≤◌, length, take, codes};
 ghost use Rattle.x86_regs.specs.Register.{class};
 ghost use Rattle.x86_lines.specs.Hexadecimal.{prefixed, signed_hexadecimal};
-ghost use Rattle.x86_show.specs.Operands.{value_text, memory_text, displacement_text, deref_text, moved_text, index_text, moved, address_at};
+ghost use Rattle.x86_show.specs.Operands.{value_text, memory_text, distance_text, deref_place, moved_place, indexed_place, moved, relative_address};
 
 use x86_lines::cells::{put, put_bytes, put_first};
 use x86_lines::hexadecimal::{put_prefixed, put_signed_hexadecimal};
@@ -60,7 +60,7 @@ pub(crate) fn put_value(cells: &mut [u8], at: usize, operand: &Operand) -> usize
 
 fn put_displacement(cells: &mut [u8], at: usize, disp: i32) -> usize
     requires { at + 19 ≤ length cells.old }
-    ensures text { take result cells.new ≡ take at cells.old ++ displacement_text disp }
+    ensures text { take result cells.new ≡ take at cells.old ++ distance_text disp }
     ensures short { result ≤ at + 19 }
 {
     let at = put(cells, at, if disp < 0 { b'-' } else { b'+' });
@@ -75,8 +75,8 @@ pub(crate) fn moved(next: u64, disp: i32) -> u64
 }
 
 /// The address at a base and a displacement, where the base is the address of the next instruction.
-fn address_at(base: &RegSpec, next: u64, disp: i32) -> Option<u64>
-    ensures { result ≡ address_at (class base.now) next disp }
+fn relative_address(base: &RegSpec, next: u64, disp: i32) -> Option<u64>
+    ensures { result ≡ relative_address (class base.now) next disp }
 {
     match base.class() {
         RegisterClass::RIP => Some(moved(next, disp)),
@@ -87,10 +87,10 @@ fn address_at(base: &RegSpec, next: u64, disp: i32) -> Option<u64>
 
 fn put_deref(cells: &mut [u8], at: usize, base: &RegSpec, next: u64) -> usize
     requires { at + 40 ≤ length cells.old }
-    ensures text { take result cells.new ≡ take at cells.old ++ deref_text next base.now }
+    ensures text { take result cells.new ≡ take at cells.old ++ deref_place next base.now }
     ensures short { result ≤ at + 36 }
 {
-    match address_at(base, next, 0) {
+    match relative_address(base, next, 0) {
         Some(address) => put_prefixed(cells, at, address),
         None => put_register(cells, at, base),
     }
@@ -98,10 +98,10 @@ fn put_deref(cells: &mut [u8], at: usize, base: &RegSpec, next: u64) -> usize
 
 fn put_moved(cells: &mut [u8], at: usize, base: &RegSpec, disp: i32, next: u64) -> usize
     requires { at + 40 ≤ length cells.old }
-    ensures text { take result cells.new ≡ take at cells.old ++ moved_text next base.now disp }
+    ensures text { take result cells.new ≡ take at cells.old ++ moved_place next base.now disp }
     ensures short { result ≤ at + 36 }
 {
-    match address_at(base, next, disp) {
+    match relative_address(base, next, disp) {
         Some(address) => put_prefixed(cells, at, address),
         None => {
             let at = put_register(cells, at, base);
@@ -122,7 +122,7 @@ fn put_moved_index(
 ) -> usize
     requires { at + 40 ≤ length cells.old }
     ensures text { take result cells.new ≡
-        take at cells.old ++ index_text base index.now scale ++ displacement_text disp }
+        take at cells.old ++ indexed_place base index.now scale ++ distance_text disp }
     ensures short { result ≤ at + 36 }
 {
     let at = put_scaled(cells, at, base, index, scale);

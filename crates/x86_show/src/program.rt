@@ -5,7 +5,7 @@ ghost use Rattle.x86_cli.specs.Commands.Program.{Prints};
 ghost use Rattle.x86_cli.specs.Listings.Status.{code};
 ghost use Rattle.std.specs.Process.{exit_status};
 ghost use Rattle.x86_show.specs.Base.{base_of};
-ghost use Rattle.x86_show.specs.Listing.{shown_at, text_max};
+ghost use Rattle.x86_show.specs.Listing.{shown_at, shown_max};
 
 use crate::base::base_of;
 use crate::listing::show;
@@ -22,7 +22,7 @@ const USAGE: &str = "usage: show [BASE]";
 /// Shows the hex text of a reader, whose image begins at an address. What is written is gathered in a buffer, and sent
 /// and flushed before each read and at the end. A status says how that ended, as of `show`.
 fn show_from<R: Input + Drop, W: Output + Drop>(base: u64, reader: R, writer: W) -> Finished<R, W>
-    ensures { Prints W.writes W.flushes R.reads (shown_at false base 0) text_max
+    ensures { Prints W.writes W.flushes R.reads (shown_at false base 0) shown_max
         result.status reader result.reader writer result.writer }
 {
     let mut source = StdSource::new(reader);
@@ -45,7 +45,7 @@ pub fn shown<R: Input + Drop, W: Output + Drop>(
     writer: W,
 ) -> Finished<R, W>
     ensures prints { IfSome (base_of (map string_bytes words.now))
-        (λ base. Prints W.writes W.flushes R.reads (shown_at false base 0) text_max
+        (λ base. Prints W.writes W.flushes R.reads (shown_at false base 0) shown_max
         result.status reader result.reader writer result.writer) }
     ensures usage { (result.status ≡ Status.Usage) ↔ (base_of (map string_bytes words.now) ≡ None) }
     ensures reads_nothing { result.status ≡ Status.Usage → result.reader ≡ reader }
