@@ -15,7 +15,7 @@ fn main(rt: HostRuntime) -> ExitCode {
         Err(_) => ExitCode::from(1),
         Ok(words) => {
             let finished = listed(words.as_slice(), rt.reader(), io::writer(&rt));
-            finish(finished.status, rt.stderr()).0
+            finish(finished.status, finished.gone, rt.stderr()).0
         }
     }
 }

@@ -2,6 +2,7 @@
 pub mod Causes
 pub mod Stay
 pub mod Says
+pub mod Ends
 pub mod Program
 pub mod Leaves
 pub mod Obeys

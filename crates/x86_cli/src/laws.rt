@@ -28,7 +28,7 @@ ghost use Rattle.x86_cli.specs.Listings.Sweep.{known_sweep_at, sweep_at};
 ghost use Rattle.x86_cli.specs.Listings.Tighten.{least_text};
 ghost use Rattle.x86_streams.specs.Text.{Text};
 ghost use Rattle.x86_cli.specs.Commands.Make.{made_listing};
-ghost use Rattle.x86_cli.specs.Commands.Program.{Performs, PerformsMake, Has, Leaves};
+ghost use Rattle.x86_cli.specs.Commands.Program.{Performs, EndsAt, Has, Leaves, making, read_stop, task_of};
 ghost use Rattle.x86_cli.specs.Commands.Run.{Wrote};
 ghost use Rattle.x86_cli.specs.Commands.Says.{Makes, Says, Streams, streams_of};
 ghost use Rattle.x86_streams.specs.Outside.FaultCounts.{Rose};
@@ -54,9 +54,10 @@ pub fn headline<S: Source, K: Sink, R: Read, W: Write>()
         → Runs S.gives S.ahead K.takes c status a b k l
         → Says status c (streams_of S.left S.faults K.written K.faults a k)
         (streams_of S.left S.faults K.written K.faults b l) }
-    ensures program { (c : Command) (status : Status) (r r' : R) (w w' : W) →
-        Performs ⟦<W as Output>⟧.writes ⟦<W as Output>⟧.flushes ⟦<R as Input>⟧.reads
-        c status r r' w w' → Leaves status c (R.remaining r) (W.contents w) (W.contents w') }
+    ensures program { (c : Command) (status : Status) (gone : Bool) (r r' : R) (w w' : W) →
+        Performs ⟦<R as Input>⟧.reads ⟦<W as Output>⟧.writes ⟦<W as Output>⟧.flushes
+        (task_of c) status gone r r' w w'
+        → Leaves status c (R.remaining r) (W.contents w) (W.contents w') }
 {
     headline_of_bytes();
     decoder_laws();
@@ -120,7 +121,8 @@ pub fn commands_have_their_lines<L: Lines + Drop>()
     ensures past_refusals { (c : PastRefusals) (strict : Bool) (place : ℕ) (t : Text) →
         ⟦<PastRefusals as Course<LINE_ROOM>>⟧.lists c strict place t ≡ sweep_at strict place t }
     ensures known_past_refusals { (c : PastRefusals) (strict : Bool) (place : ℕ) (t : Text) →
-        ⟦<PastRefusals as Course<LINE_ROOM>>⟧.knows c strict place t ≡ known_sweep_at strict place t }
+        ⟦<PastRefusals as Course<LINE_ROOM>>⟧.knows c strict place t
+        ≡ known_sweep_at strict place t }
 {}
 
 /// A listing ends with the same status whatever its lines are, as those of `list` and `fields` do.
@@ -163,7 +165,7 @@ pub fn values_are_equal()
 
 /// A read fault comes only after a call of the source that failed, and a write fault only after a put that failed.
 pub fn causes<S: Source, K: Sink>()
-    ensures { HaveCauses S.gives K.takes }
+    ensures { HaveCauses S.gives S.ahead K.takes }
 {}
 
 /// What a run of `make` says, where the sink's bytes are known.
@@ -214,15 +216,25 @@ pub fn complete()
     decoder_laws();
 }
 
+/// How the reads of `listed` ended, by its status: `Done` comes only after a read that returned no byte, `ReadFault` only
+/// where the last read answered an error, `BadText` and `TooLarge` only where none did.
+pub fn ends<R: Input, W: Output>()
+    ensures { (c : Command) (status : Status) (gone : Bool) (r r' : R) (w w' : W)
+        → (h : Performs R.reads W.writes W.flushes (task_of c) status gone r r' w w')
+        → EndsAt status (read_stop h.calls) }
+{}
+
 /// What `listed` leaves, where the bytes that the reader has left and those that the writer has are known: the
 /// writer has what it had and then the listing of these bytes, or a prefix of that where a write failed.
 pub fn program<R: Read, W: Write>()
-    ensures lists { (c : Command) (status : Status) (r r' : R) (w w' : W) →
-        Performs ⟦<W as Output>⟧.writes ⟦<W as Output>⟧.flushes ⟦<R as Input>⟧.reads
-        c status r r' w w' → Leaves status c (R.remaining r) (W.contents w) (W.contents w') }
-    ensures made { (n : ℕ) (status : Status) (w w' : W) →
-        PerformsMake ⟦<W as Output>⟧.writes ⟦<W as Output>⟧.flushes n status w w' →
-        Has status (made_listing n) (W.contents w) (W.contents w') }
+    ensures lists { (c : Command) (status : Status) (gone : Bool) (r r' : R) (w w' : W) →
+        Performs ⟦<R as Input>⟧.reads ⟦<W as Output>⟧.writes ⟦<W as Output>⟧.flushes
+        (task_of c) status gone r r' w w'
+        → Leaves status c (R.remaining r) (W.contents w) (W.contents w') }
+    ensures made { (n : ℕ) (status : Status) (gone : Bool) (r r' : R) (w w' : W) →
+        Performs ⟦<R as Input>⟧.reads ⟦<W as Output>⟧.writes ⟦<W as Output>⟧.flushes
+        (making n) status gone r r' w w'
+        → Has status (made_listing n) (W.contents w) (W.contents w') }
 {
     decoder_laws();
 }

@@ -22,17 +22,23 @@ fn words_are_all_arguments_but_the_first(rt: HostRuntime) {
     assert!(&rt; has_words(rt.alloc(), "", ""));
 }
 
-/// Whether the process ends with this code, and this is in its third stream.
-fn finishes(alloc: Global, status: Status, code: u8, written: &str) -> bool {
-    let (ended, errors) = finish(status, Vec::new(alloc));
+/// Whether the process ends with this code, and this is in its third stream. The output may be gone.
+fn finishes(alloc: Global, status: Status, gone: bool, code: u8, written: &str) -> bool {
+    let (ended, errors) = finish(status, gone, Vec::new(alloc));
     ended == ExitCode::from(code) && errors.as_slice() == written.as_bytes()
 }
 
 #[test]
 fn the_usage_line_is_written_at_usage(rt: HostRuntime) {
     let usage = "usage: list [--strict] | make N | fields | tighten | sweep | targets\n";
-    assert!(&rt; finishes(rt.alloc(), Status::Usage, 2, usage));
+    assert!(&rt; finishes(rt.alloc(), Status::Usage, false, 2, usage));
     assert!(&rt; usage.lines().next() == Some(USAGE));
+}
+
+#[test]
+fn a_write_fault_is_said_unless_nobody_reads(rt: HostRuntime) {
+    assert!(&rt; finishes(rt.alloc(), Status::WriteFault, false, 6, "write fault\n"));
+    assert!(&rt; finishes(rt.alloc(), Status::WriteFault, true, 6, ""));
 }
 
 /// The other statuses, each with its code.
@@ -41,13 +47,12 @@ const CODES: &[(Status, u8)] = &[
     (Status::Refused, 3),
     (Status::BadText, 4),
     (Status::ReadFault, 5),
-    (Status::WriteFault, 6),
     (Status::TooLarge, 7),
 ];
 
 #[test]
 fn nothing_is_written_at_other_statuses(rt: HostRuntime) {
     for (status, code) in CODES {
-        assert!(&rt; finishes(rt.alloc(), *status, *code, ""));
+        assert!(&rt; finishes(rt.alloc(), *status, false, *code, ""));
     }
 }

@@ -25,7 +25,7 @@ without_prefix (a ∷ []) = a ∷ []
 without_prefix (a ∷ b ∷ digits) = if a == 48 && (b == 120 || b == 88) then digits else a ∷ b ∷ digits
 
 -- the base: 0 where there is no word
-abbrev pub base_of : List (List ℕ) → Option ℕ
-base_of [] = Some 0
-base_of (word ∷ []) = base_number (without_prefix word)
-base_of (a ∷ b ∷ words) = None
+abbrev pub base_in : List (List ℕ) → Option ℕ
+base_in [] = Some 0
+base_in (word ∷ []) = base_number (without_prefix word)
+base_in (a ∷ b ∷ words) = None

@@ -20,5 +20,5 @@ abbrev pub shown_text : ℕ → List ℕ → Instruction → List ℕ
 shown_text address bytes i = beginning address bytes ++ shown_instruction i (next_of address i)
 
 -- ADDRESS  BYTES  (bad: DESCRIPTION)
-abbrev pub bad_text : ℕ → List ℕ → DecodeError → List ℕ
-bad_text address bytes error = beginning address bytes ++ codes "(bad: " ++ description_of error ++ codes ")"
+abbrev pub refused_text : ℕ → List ℕ → DecodeError → List ℕ
+refused_text address bytes error = beginning address bytes ++ codes "(bad: " ++ description_of error ++ codes ")"

@@ -2,7 +2,7 @@
 
 ghost use Rattle.std.specs.Prelude.{◌≡◌, ◌<◌, ℕ, Some, IfSome, map, string_bytes};
 ghost use Rattle.hex.specs.Hex.{hex_digit_value};
-ghost use Rattle.x86_show.specs.Base.{with_digit, number_after, base_number, without_prefix, base_of};
+ghost use Rattle.x86_show.specs.Base.{with_digit, number_after, base_number, without_prefix, base_in};
 
 /// The value of a hexadecimal digit.
 fn digit_of(byte: u8) -> Option<u64>
@@ -65,8 +65,8 @@ fn without_prefix(word: &[u8]) -> &[u8]
 }
 
 /// The address that the words say, 0 where there is none, or `None` where they are no address.
-pub fn base_of(words: &[String]) -> Option<u64>
-    ensures { result ≡ base_of (map string_bytes words.now) }
+pub fn base_in(words: &[String]) -> Option<u64>
+    ensures { result ≡ base_in (map string_bytes words.now) }
 {
     match words {
         [] => Some(0),

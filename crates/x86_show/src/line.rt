@@ -2,7 +2,7 @@
 
 ghost use Rattle.std.specs.Prelude.{◌≡◌, ◌+◌, ◌<◌, ◌≤◌, ◌++◌, ◌*◌, ◌-◌, length, take, replicate};
 ghost use Rattle.arrayvec.specs.ArrayVec.{array_vec_len};
-ghost use Rattle.x86_show.specs.Lines.{shown_room, beginning, shown_text, bad_text};
+ghost use Rattle.x86_show.specs.Lines.{shown_room, beginning, shown_text, refused_text};
 
 use crate::instructions::{next_of, put_instruction};
 use x86_decode::{DecodeError, Instruction};
@@ -59,7 +59,7 @@ pub fn write_shown(line: &mut ShownLine, address: u64, instruction: &Instruction
 /// For `06` at 0x401000 this is `401000  06                       (bad: invalid opcode)`.
 pub fn write_bad(line: &mut ShownLine, address: u64, error: DecodeError, bytes: &[u8])
     requires { length bytes.now ≤ 15 }
-    ensures text { line.new.items ≡ bad_text address bytes.now error }
+    ensures text { line.new.items ≡ refused_text address bytes.now error }
     ensures short { array_vec_len line.new < shown_room }
 {
     let cells: &mut [u8] = &mut line.cells;

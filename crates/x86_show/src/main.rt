@@ -26,7 +26,7 @@ fn main(rt: HostRuntime) -> ExitCode {
         Err(_) => ExitCode::from(1),
         Ok(words) => {
             let finished = shown(words.as_slice(), rt.reader(), io::writer(&rt));
-            finish(finished.status, rt.stderr())
+            finish(finished.status, finished.gone, rt.stderr()).0
         }
     }
 }

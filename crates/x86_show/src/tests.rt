@@ -1,6 +1,6 @@
 //! Lines as a user of `objdump -d -M intel` expects them.
 
-use crate::base::base_of;
+use crate::base::base_in;
 use crate::listing::show;
 use x86_cli::{ArraySink, SoundSource, Status};
 use x86_streams::AtOnce;
@@ -83,14 +83,14 @@ fn after_a_refusal(rt: HostRuntime) {
 /// The base that a word says.
 fn base(rt: &HostRuntime, word: &str) -> Option<u64> {
     match String::from_str(rt.alloc(), word) {
-        Ok(word) => base_of(&[word]),
+        Ok(word) => base_in(&[word]),
         Err(_) => None,
     }
 }
 
 #[test]
 fn bases(rt: HostRuntime) {
-    assert!(&rt; base_of(&[]) == Some(0));
+    assert!(&rt; base_in(&[]) == Some(0));
     assert!(&rt; base(&rt, "0x401000") == Some(0x401000));
     assert!(&rt; base(&rt, "ffffffffffffFFFF") == Some(u64::MAX));
     assert!(&rt; base(&rt, "10000000000000000") == None);

@@ -5,13 +5,13 @@ ghost use Rattle.std.specs.Io.KnownBytes.{Keeps, ReadConsumes, WriteAppends};
 ghost use Rattle.std.specs.declared.io.Error.{Error};
 ghost use Rattle.x86_streams.specs.Outside.ArraySink.{PutByNumber};
 ghost use Rattle.x86_streams.specs.Outside.Reported.{ReportsBytes, ReportsPieces};
-ghost use Rattle.x86_streams.specs.Outside.Seen.{slice_call, slice_fails, array_call, array_fails, buffer_writer, buffer_bytes, sink_writer, source_reader, source_bytes};
+ghost use Rattle.x86_streams.specs.Outside.Seen.{slice_call, slice_fails, array_call, array_fails, buffer_writer, buffer_bytes, is_gone, sink_writer, source_reader, source_bytes, watched_writer};
 ghost use Rattle.x86_streams.specs.Outside.Sink.{ReportsPut, SinkCalls};
 ghost use Rattle.x86_streams.specs.Outside.SliceSource.{ByNumber};
 ghost use Rattle.x86_streams.specs.Outside.Source.{ReportsGot};
 ghost use Rattle.x86_streams.specs.Outside.StdSource.{Fetches};
 ghost use Rattle.x86_streams.specs.Outside.Stop.{Stop};
-ghost use Rattle.x86_streams.specs.Outside.Writes.{FlushesOut, Gathers, PutSends};
+ghost use Rattle.x86_streams.specs.Outside.Writes.{FlushesOut, Gathers, IsGone, PutSends};
 ghost use Rattle.x86_streams.specs.Text.Pairs.{SequencesAreSound, BadIsFirst};
 ghost use Rattle.x86_streams.specs.Text.Reading.{SourceCalls};
 
@@ -27,6 +27,7 @@ use crate::outside::sound_source::SoundSource;
 use crate::outside::source::{Got, Source};
 use crate::outside::std_sink::StdSink;
 use crate::outside::std_source::StdSource;
+use crate::outside::watched::Watched;
 use std::io::{Read, Write};
 
 /// No byte is bad exactly in a sequence of blanks and pairs.
@@ -128,6 +129,18 @@ pub fn gathered<W: Output + Drop>()
     ensures gathers { (s t : Gathered W) (bytes : List ℕ) (r : Result ℕ Error) →
         ⟦<Gathered<W> as Output>⟧.writes s bytes r t →
         Gathers r bytes (buffer_bytes s) (buffer_bytes t) (buffer_writer s) (buffer_writer t) }
+{}
+
+/// A watched writer makes the calls of its writer, one each, and is gone where the last of them answered so.
+pub fn watched<W: Output + Drop>()
+    ensures written { (s : Watched W) →
+        ⟦<Watched<W> as Output>⟧.written s ≡ W.written (watched_writer s) }
+    ensures writes { (s t : Watched W) (bytes : List ℕ) (r : Result ℕ Error) →
+        ⟦<Watched<W> as Output>⟧.writes s bytes r t →
+        W.writes (watched_writer s) bytes r (watched_writer t) × (IsTrue (is_gone t) ↔ IsGone r) }
+    ensures flushes { (s t : Watched W) (r : Result ⊤ Error) →
+        ⟦<Watched<W> as Output>⟧.flushes s r t →
+        W.flushes (watched_writer s) r (watched_writer t) × (IsTrue (is_gone t) ↔ IsGone r) }
 {}
 
 /// To settle a sink that holds nothing back leaves it, and to settle one over a buffer flushes the buffer.

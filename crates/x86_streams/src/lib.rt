@@ -30,6 +30,7 @@ pub use outside::sound_source::SoundSource;
 pub use outside::source::{Got, Source};
 pub use outside::std_sink::StdSink;
 pub use outside::std_source::StdSource;
+pub use outside::watched::Watched;
 pub use text::image_bytes::ImageBytes;
 pub use text::reader::{Ending, Piece, TextReader};
 pub use text::window::Window;

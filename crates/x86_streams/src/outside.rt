@@ -15,3 +15,4 @@ pub mod sound_source;
 pub mod source;
 pub mod std_sink;
 pub mod std_source;
+pub mod watched;

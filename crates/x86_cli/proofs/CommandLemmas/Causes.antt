@@ -21,7 +21,6 @@ use Rattle.x86_streams.specs.Text.{Text, text_at, text_of}
 use Rattle.x86_streams.specs.Text.Reading.{MayCome}
 use Rattle.x86_cli.specs.Listings.Listing.{Listing, at_end, decoded_of, decoded_before_end, listing_from}
 use Rattle.x86_cli.specs.Commands.Run.{Lists, Ran}
-use Rattle.x86_cli.specs.Commands.Causes.{HaveCauses}
 use Rattle.x86_cli.specs.Commands.Complete.{IsOneInstruction, AreSentences, CompletesTexts}
 use Rattle.x86_cli.specs.DecoderLaws.{DecoderLaws}
 use Rattle.x86_cli.proofs.TextLemmas.Decoded.{decoded-stays}
@@ -56,12 +55,6 @@ some_stop (Some given) = (given, (refl, refl))
 pub lists_status : (status : Status) (lines : List (List ℕ)) (failed : Option (List ℕ)) (l : Listing) → status ≢ outcome.WriteFault → Lists status lines failed l → l.status ≡ status
 lists_status status lines failed l ne h = grind arith
 
-pub ran_used : {S K : Type 0} (gives : S → Got → S → Type 0) (takes : K → List ℕ → Result ⊤ SinkFailed → K → Type 0) (c : Command) (max : ℕ) (status : Status) (a b : S) (k l : K) →
-    Ran gives takes (listing_for c) max status a b k l → status ≢ outcome.Usage
-ran_used gives takes c max status a b k l ran e =
-    let s = some_stop ran.stop in
-    (command_status c _).0 (lists_status status ran.lines ran.failed _ (λ f. cc) (ran.lists [] s.0 s.1) ∙ e)
-
 -- Commands that continue after refusals are never refused.
 pub ran_unrefused : {S K : Type 0} (gives : S → Got → S → Type 0) (takes : K → List ℕ → Result ⊤ SinkFailed → K → Type 0) (c : Command) (status : Status) (a b : S) (k l : K) →
     Ran gives takes (listing_for c) (max_of c) status a b k l → IsTrue (goes_past_refusals c) → status ≢ outcome.Refused
@@ -71,14 +64,6 @@ ran_unrefused gives takes c status a b k l ran goes e =
 
 pub fault_stop : (stop : Option Stop) → (MayCome stop [] End → ⊥) → stop ≡ Some Failed
 fault_stop stop never = grind arith
-
-pub causes : {S K : Type 0} (gives : S → Got → S → Type 0) (takes : K → List ℕ → Result ⊤ SinkFailed → K → Type 0) → HaveCauses gives takes
-causes gives takes c max a b k l = (
-  λ ran. fault_stop ran.stop (λ may. command_read c max (ran.bytes ++ []) (lists_status outcome.ReadFault ran.lines ran.failed _ (λ e. cc) (ran.lists [] End may))),
-  λ ran e.
-      let s = some_stop ran.stop in
-      (command_status c _).1 (ap (λ l. l.status) (rw e at (ran.lists [] s.0 s.1))),
-)
 
 -- sequences of sentences
 

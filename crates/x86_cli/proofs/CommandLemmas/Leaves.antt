@@ -1,25 +1,26 @@
 -- What the program leaves, where the bytes that its reader has left and those that its writer has are known.
-use Rattle.std.proofs.Common.{◌≡◌, ◌≢◌, inl, inr, ℕ, zero, suc, Bool, List, [], ◌∷◌, ◌++◌, Option, Some, None, Result, Ok, Err, refl, sym, subst, append-nil, arith}
+use Rattle.std.proofs.Common.{◌≡◌, ◌≢◌, inl, inr, ℕ, zero, suc, Bool, List, [], ◌∷◌, take, Option, Some, None, Result, Ok, Err, refl, sym, append-nil, arith}
 use Rattle.std.proofs.Math.Seq.{take-append_seam}
 use Rattle.std.specs.Prelude.{⊤}
-use Rattle.std.specs.List.{concat}
 use Rattle.std.specs.declared.io.Error.{Error}
 use Rattle.std.specs.Io.KnownBytes.{Keeps, Consumes, Appends, IsAtEnd, ReadConsumes, WriteAppends}
 use Rattle.std.proofs.KnownBytes.{Keeps-refl, Keeps-trans, Consumes-nil, Consumes-trans, Consumes-kept, Consumes-whole, Appends-nil, Appends-trans, Appends-kept}
 use Rattle.x86_cli.specs.declared.commands.command.Command.{Command}
 use Rattle.x86_cli.specs.declared.listings.status.Status.{Status}
 use Rattle.x86_cli.specs.declared.listings.status.Status.TheVariants.{Done, Usage, Refused, ReadFault, WriteFault}
-use Rattle.x86_streams.specs.declared.text.reader.Ending.TheVariants.{Fault}
 use Rattle.x86_cli.specs.DecoderLaws.{DecoderLaws}
 use Rattle.x86_streams.specs.Outside.Stop.{Stop, End, Failed}
-use Rattle.x86_streams.specs.Outside.Reads.{Interruptions, ReadsUninterrupted, ReaderCalls, ReadWhileOpen}
-use Rattle.x86_streams.specs.Outside.Writes.{Call, Write, sent, sent_by, Does, WriterCalls}
+use Rattle.x86_streams.specs.Outside.Reads.{Interruptions, ReadsUninterrupted}
+use Rattle.x86_streams.specs.Outside.Writes.{Call, Write, sent, sent_by, Does}
 use Rattle.x86_streams.specs.Text.{Text, text_of}
-use Rattle.x86_cli.specs.Commands.Command.{max_of}
+use Rattle.x86_cli.specs.Listings.Listing.{Listing}
+use Rattle.x86_cli.specs.Commands.Command.{known_for, max_of}
 use Rattle.x86_cli.specs.Commands.Make.{made_listing}
 use Rattle.x86_cli.specs.Commands.Says.{full_listing, taken_listing}
-use Rattle.x86_cli.specs.Commands.Program.{IsPrinted, Performs, PerformsMake, Has, HasOfAll, HasOfTaken, Leaves}
+use Rattle.x86_cli.specs.Commands.Program.{StreamCall, Read, Send, bytes_read, read_stop, writer_calls, task_of, making, ReadsByRule, IsPrinted, StreamCalls, Performs, Has, HasOfAll, HasOfTaken, Leaves}
 use Rattle.x86_streams.proofs.OutsideLemmas.Reads.{kept_read}
+use Rattle.x86_cli.proofs.CommandLemmas.Causes.{some_stop}
+use Rattle.x86_cli.proofs.CommandLemmas.Ends.{fault_text, ends_at}
 use Rattle.x86_cli.proofs.CommandLemmas.Says.{some_left}
 use Rattle.x86_cli.proofs.CommandLemmas.Stay.{refused_stays}
 
@@ -36,17 +37,6 @@ module _ {R : Type 0} (left : R → Option (List ℕ)) where
   read_consumes : (buffer : List ℕ) (answer : Result ℕ Error) (r r' : R) → ReadsUninterrupted reports buffer answer r r' → ReadConsumes (left r) (left r') answer buffer
   read_consumes buffer answer r r' h = kept_read (left r) (left h.before) (left r') answer buffer (interrupted_keep h.count r h.before h.interrupted) h.read
 
-  reads_consume : (pieces : List (List ℕ)) (stop : Option Stop) (r r' : R) → ReaderCalls reports pieces stop r r' → Consumes (left r) (left r') (concat pieces)
-  reads_consume [] None r r' h = rw h (Consumes-nil (left r))
-  reads_consume [] (Some End) r r' h = (read_consumes h.0 (Ok 0) r r' h.2).0
-  reads_consume [] (Some Failed) r r' h = Consumes-kept (left r) (left r) (left r') [] (Consumes-nil (left r)) (read_consumes h.0 (Err h.1) r r' h.2)
-  reads_consume (p ∷ ps) stop r r' h =
-      Consumes-trans (left r) (left h.0) (left r') p (concat ps) (subst (Consumes (left r) (left h.0)) h.1.4 (read_consumes h.1.0 (Ok h.1.1) r h.0 h.1.3).0) (reads_consume ps stop h.0 r' h.2)
-
-  reads_end : (pieces : List (List ℕ)) (r r' : R) → ReaderCalls reports pieces (Some End) r r' → IsAtEnd (left r')
-  reads_end [] r r' h = (read_consumes h.0 (Ok 0) r r' h.2).1 refl h.1
-  reads_end (p ∷ ps) r r' h = reads_end ps h.0 r' h.2
-
 -- writers
 
 module _ {W : Type 0} (written : W → Option (List ℕ)) where
@@ -60,60 +50,76 @@ module _ {W : Type 0} (written : W → Option (List ℕ)) where
   call_appends (Write bytes (Ok n)) v w h = h
   call_appends c v w h = Appends-kept (written v) (written v) (written w) [] (Appends-nil (written v)) h
 
-  calls_append : (cs : List Call) (w w' : W) → WriterCalls appends keeps cs w w' → Appends (written w) (written w') (sent cs)
-  calls_append [] w w' e = rw e (Appends-nil (written w))
-  calls_append (c ∷ cs) w w' h = Appends-trans (written w) (written h.0) (written w') (sent cs) (sent_by c) (calls_append cs w h.0 h.1) (call_appends c h.0 w' h.2)
+-- both
 
-  pub make_leaves : (n : ℕ) (status : Status) (w w' : W) → PerformsMake appends keeps n status w w' → Has status (made_listing n) (written w) (written w')
-  make_leaves n status w w' h =
-      (h.bytes, h.lists, rw h.wrote.caused.sends at (calls_append h.wrote.caused.calls w w' h.wrote.caused.did))
+module _ {R W : Type 0} (left : R → Option (List ℕ)) (written : W → Option (List ℕ)) where
+  abbrev Does' : List StreamCall → R → R → W → W → Type 0
+  Does' = StreamCalls (reports left) (appends written) (keeps written)
 
--- texts
+  consumed : (cs : List StreamCall) (r r' : R) (w w' : W) → Does' cs r r' w w' → Consumes (left r) (left r') (bytes_read cs)
+  consumed [] r r' w w' d = rw (d.0) (Consumes-nil (left r))
+  consumed (Read buffer (Ok n) ∷ cs) r r' w w' d = Consumes-trans (left r) (left d.0) (left r') (bytes_read cs) (take n buffer) (consumed cs r d.0 w w' d.1) (read_consumes left buffer (Ok n) d.0 r' d.2).0
+  consumed (Read buffer (Err e) ∷ cs) r r' w w' d = rw append-nil (Consumes-kept (left r) (left d.0) (left r') (bytes_read cs) (consumed cs r d.0 w w' d.1) (read_consumes left buffer (Err e) d.0 r' d.2))
+  consumed (Send call ∷ cs) r r' w w' d = consumed cs r r' w d.0 d.1
 
-open_failed : (text : List ℕ → Stop → Text) (pieces : List (List ℕ)) (stop : Stop) → ReadWhileOpen text pieces (Some stop) → (text (concat pieces) Failed).ending ≡ Fault
-open_failed text [] stop h = h
-open_failed text (p ∷ ps) stop h = open_failed (λ xs s. text (p ++ xs) s) ps stop h.1
+  appended : (cs : List StreamCall) (r r' : R) (w w' : W) → Does' cs r r' w w' → Appends (written w) (written w') (sent (writer_calls cs))
+  appended [] r r' w w' d = rw (d.1) (Appends-nil (written w))
+  appended (Read buffer answer ∷ cs) r r' w w' d = appended cs r d.0 w w' d.1
+  appended (Send call ∷ cs) r r' w w' d = Appends-trans (written w) (written d.0) (written w') (sent (writer_calls cs)) (sent_by call) (appended cs r r' w d.0 d.1) (call_appends written call d.0 w' d.2)
 
-module _ {R W : Type 0} (laws : (strict : Bool) → DecoderLaws strict) (left : R → Option (List ℕ)) (written : W → Option (List ℕ)) (c : Command) (r r' : R) (w w' : W) where
-  module _ (status : Status) (h : Performs (appends written) (keeps written) (reports left) c status r r' w w') where
-    wrote : Appends (written w) (written w') h.bytes
-    wrote = rw h.wrote.caused.sends at (calls_append written h.wrote.caused.calls w w' h.wrote.caused.did)
+  at_end_of : (known : Text → Listing) (text : List ℕ → Stop → Text) (cs : List StreamCall) (r r' : R) (w w' : W) → Does' cs r r' w w' → ReadsByRule known text cs → read_stop cs ≡ Some End → IsAtEnd (left r')
+  at_end_of known text [] r r' w w' d rule e = cc
+  at_end_of known text (Read buffer (Ok zero) ∷ cs) r r' w w' d rule e = (read_consumes left buffer (Ok zero) d.0 r' d.2).1 refl rule.1
+  at_end_of known text (Read buffer (Ok (suc n)) ∷ cs) r r' w w' d rule e = cc
+  at_end_of known text (Read buffer (Err f) ∷ cs) r r' w w' d rule e = cc
+  at_end_of known text (Send call ∷ cs) r r' w w' d rule e = at_end_of known text cs r r' w d.0 d.1 rule e
 
-    consumed : Consumes (left r) (left r') (concat h.pieces)
-    consumed = reads_consume left h.pieces h.stop r r' h.read
+  pub make_leaves : (n : ℕ) (status : Status) (gone : Bool) (r r' : R) (w w' : W) → Performs (reports left) (appends written) (keeps written) (making n) status gone r r' w w' → Has status (made_listing n) (written w) (written w')
+  make_leaves n status gone r r' w w' h =
+      let one = some_stop (read_stop h.calls) in
+      (sent (writer_calls h.calls), h.lists [] one.0 one.1, appended h.calls r r' w w' h.did)
 
-    of_all : (stop : Option Stop) → h.stop ≡ stop → stop ≢ Some Failed → HasOfAll status c (left r) (written w) (written w')
+module _ {R W : Type 0} (laws : (strict : Bool) → DecoderLaws strict) (left : R → Option (List ℕ)) (written : W → Option (List ℕ)) (c : Command) (gone : Bool) (r r' : R) (w w' : W) where
+  module _ (status : Status) (h : Performs (reports left) (appends written) (keeps written) (task_of c) status gone r r' w w') where
+    wrote : Appends (written w) (written w') (sent (writer_calls h.calls))
+    wrote = appended left written h.calls r r' w w' h.did
+
+    read : Consumes (left r) (left r') (bytes_read h.calls)
+    read = consumed left written h.calls r r' w w' h.did
+
+    of_all : (stop : Option Stop) → read_stop h.calls ≡ stop → stop ≢ Some Failed → HasOfAll status c (left r) (written w) (written w')
     of_all None is ne =
-        some_left (left r) (left r') (concat h.pieces) (λ b. Has status (full_listing c b) (written w) (written w')) consumed
-        (λ xs. (h.bytes, h.lists xs End (rw is tt), wrote))
+        some_left (left r) (left r') (bytes_read h.calls) (λ b. Has status (full_listing c b) (written w) (written w')) read
+        (λ xs. (sent (writer_calls h.calls), h.lists xs End (rw is tt), wrote))
     of_all (Some End) is ne =
-        Consumes-whole (left r) (left r') (concat h.pieces) (λ b. Has status (full_listing c b) (written w) (written w')) consumed (reads_end left h.pieces r r' (rw is at h.read))
-        (h.bytes, rw append-nil at (h.lists [] End (rw is (refl, refl))), wrote)
+        Consumes-whole (left r) (left r') (bytes_read h.calls) (λ b. Has status (full_listing c b) (written w) (written w')) read
+        (at_end_of left written (known_for c) (text_of (max_of c)) h.calls r r' w w' h.did h.rule is)
+        (sent (writer_calls h.calls), rw append-nil at (h.lists [] End (rw is (refl, refl))), wrote)
     of_all (Some Failed) is ne = absurd (ne refl)
 
-    printed_taken : h.stop ≡ Some Failed → IsPrinted status h.bytes (taken_listing c (concat h.pieces))
+    printed_taken : read_stop h.calls ≡ Some Failed → IsPrinted status (sent (writer_calls h.calls)) (taken_listing c (bytes_read h.calls))
     printed_taken is = rw append-nil at (h.lists [] Failed (rw is (refl, refl)))
 
-    of_taken : h.stop ≡ Some Failed → HasOfTaken status c (left r) (written w) (written w')
-    of_taken is = (concat h.pieces, grind (arith, consumed, take-append_seam {A = ℕ}), (h.bytes, printed_taken is, wrote))
+    of_taken : read_stop h.calls ≡ Some Failed → HasOfTaken status c (left r) (written w) (written w')
+    of_taken is = (bytes_read h.calls, grind (arith, read, take-append_seam {A = ℕ}), (sent (writer_calls h.calls), printed_taken is, wrote))
 
-  refused : (h : Performs (appends written) (keeps written) (reports left) c Refused r r' w w') (stop : Option Stop) → h.stop ≡ stop → HasOfAll Refused c (left r) (written w) (written w')
+  refused : (h : Performs (reports left) (appends written) (keeps written) (task_of c) Refused gone r r' w w') (stop : Option Stop) → read_stop h.calls ≡ stop → HasOfAll Refused c (left r) (written w) (written w')
   refused h (Some Failed) is =
-      let bytes : List ℕ = concat h.pieces in
-      let fault = open_failed (text_of (max_of c)) h.pieces Failed (rw is at h.open_yet) in
+      let bytes : List ℕ = bytes_read h.calls in
+      let fault = fault_text c h.calls h.rule is in
       let p = printed_taken Refused h is in
-      some_left (left r) (left r') bytes (λ b. Has Refused (full_listing c b) (written w) (written w')) (consumed Refused h)
-      (λ xs. (h.bytes, rw (refused_stays laws c (max_of c) bytes xs End fault (sym (p.all (λ e. cc)).1)) p, wrote Refused h))
+      some_left (left r) (left r') bytes (λ b. Has Refused (full_listing c b) (written w) (written w')) (read Refused h)
+      (λ xs. (sent (writer_calls h.calls), rw (refused_stays laws c (max_of c) bytes xs End fault (sym (p.all (λ e. cc)).1)) p, wrote Refused h))
   refused h stop is = of_all Refused h stop is (λ e. absurd (cc))
 
-  written_fault : (h : Performs (appends written) (keeps written) (reports left) c WriteFault r r' w w') (stop : Option Stop) → h.stop ≡ stop → Leaves WriteFault c (left r) (written w) (written w')
+  written_fault : (h : Performs (reports left) (appends written) (keeps written) (task_of c) WriteFault gone r r' w w') (stop : Option Stop) → read_stop h.calls ≡ stop → Leaves WriteFault c (left r) (written w) (written w')
   written_fault h (Some Failed) is = inr (of_taken WriteFault h is)
   written_fault h stop is = inl (of_all WriteFault h stop is (λ e. absurd (cc)))
 
-  pub leaves : (status : Status) → Performs (appends written) (keeps written) (reports left) c status r r' w w' → Leaves status c (left r) (written w) (written w')
-  leaves Done h = of_all Done h (Some End) h.ends (λ e. cc)
-  leaves Usage h = absurd h.ends
-  leaves Refused h = refused h h.stop refl
-  leaves ReadFault h = of_taken ReadFault h h.ends
-  leaves WriteFault h = written_fault h h.stop refl
-  leaves status h = of_all status h h.stop refl h.ends
+  pub leaves : (status : Status) → Performs (reports left) (appends written) (keeps written) (task_of c) status gone r r' w w' → Leaves status c (left r) (written w) (written w')
+  leaves Done h = of_all Done h (Some End) (ends_at _ _ _ c Done gone r r' w w' h) (λ e. cc)
+  leaves Usage h = absurd (ends_at _ _ _ c Usage gone r r' w w' h)
+  leaves Refused h = refused h (read_stop h.calls) refl
+  leaves ReadFault h = of_taken ReadFault h (ends_at _ _ _ c ReadFault gone r r' w w' h)
+  leaves WriteFault h = written_fault h (read_stop h.calls) refl
+  leaves status h = of_all status h (read_stop h.calls) refl (ends_at _ _ _ c status gone r r' w w' h)

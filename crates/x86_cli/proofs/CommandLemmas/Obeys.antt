@@ -1,5 +1,5 @@
 -- What the calls of a run in one order say of the source, and of the sink.
-use Rattle.std.proofs.Common.{◌≡◌, ◌≢◌, ◌⊎◌, inl, inr, ℕ, List, [], ◌∷◌, ◌++◌, Option, Some, None, Result, Ok, Err, refl, ap, ◌∙◌, sym, subst, append-nil}
+use Rattle.std.proofs.Common.{◌≡◌, ◌≢◌, ℕ, List, [], ◌∷◌, ◌++◌, Some, None, Result, Ok, Err, refl, ap, ◌∙◌, append-nil}
 use Rattle.std.specs.Prelude.{⊤}
 use Rattle.x86_streams.specs.declared.outside.source.Got.{Got}
 use Rattle.x86_streams.specs.declared.outside.source.Got.TheVariants as got
@@ -10,15 +10,25 @@ use Rattle.x86_streams.specs.Text.{Text, text_of}
 use Rattle.x86_streams.specs.Text.Reading.{IsOpenText, CalledWhere, SourceCalls, MayCome}
 use Rattle.x86_streams.proofs.TextLemmas.Read.{source_calls-source_calls, called-called}
 use Rattle.x86_cli.specs.declared.commands.command.Command.{Command}
-use Rattle.x86_cli.specs.declared.commands.command.Command.TheVariants.{List as Listed, Sweep as Swept, Targets as Targeted, Fields as Fielded, Tighten as Tightened}
 use Rattle.x86_cli.specs.declared.listings.status.Status.{Status}
-use Rattle.x86_cli.specs.declared.listings.status.Status.TheVariants.{Usage, WriteFault}
-use Rattle.x86_cli.specs.Commands.Command.{Obeys, Runs, Stays, listing_for, max_of}
+use Rattle.x86_cli.specs.declared.listings.status.Status.TheVariants.{Usage, ReadFault, WriteFault}
+use Rattle.x86_cli.specs.Commands.Command.{Obeys, Stays, max_of}
+use Rattle.x86_cli.specs.Commands.Causes.{HaveCauses}
 use Rattle.x86_cli.specs.Commands.Run.{Ran}
 use Rattle.x86_cli.specs.Listings.Calls.{OutsideCall, Next, Take, Put, Settle, returned, lines_of, stop_of, Unfailed, Waits, AreListed, Calls, Lives}
 use Rattle.x86_cli.specs.Listings.Listing.{Listing}
-use Rattle.x86_cli.proofs.CommandLemmas.Causes.{some_stop, command_status, ran_used}
+use Rattle.x86_cli.proofs.CommandLemmas.Causes.{some_stop, fault_stop, command_read, command_status}
 use Rattle.x86_cli.proofs.ListingLemmas.Progress.{sink_calls-sink_calls}
+
+-- a run at which no call of the sink failed
+pub whole_listed : (status : Status) (cs : List OutsideCall) (l : Listing) → Unfailed cs → AreListed status cs l → l ≡ record { lines = lines_of cs; status = status }
+whole_listed status [] l h is = is
+whole_listed status (Next g ∷ cs) l h is = is
+whole_listed status (Take b ∷ cs) l h is = is
+whole_listed status (Put piece (Ok done) ∷ cs) l h is = is
+whole_listed status (Put piece (Err e) ∷ cs) l h is = absurd h
+whole_listed status (Settle (Ok done) ∷ cs) l h is = is
+whole_listed status (Settle (Err e) ∷ cs) l h is = absurd h
 
 -- a run whose last call didn't fail ends as its listing
 pub listed_status : (status : Status) (cs : List OutsideCall) (l : Listing) → status ≢ WriteFault → AreListed status cs l → l.status ≡ status
@@ -106,26 +116,21 @@ module _ {S K : Type 0} (gives : S → Got → S → Type 0) (ahead : S → List
     ran_of (Settle (Ok done) ∷ cs) c w lists = whole (Settle (Ok done) ∷ cs) c w w.1 lists
     ran_of (Settle (Err e) ∷ cs) c w lists = let same : Err e ≡ Ok tt = c.2.0 in absurd (cc)
 
-    lives_ran : Lives gives ahead takes Stays known listing (text_of max) status s t k l → Ran gives takes listing max status s t k l
+    pub lives_ran : Lives gives ahead takes Stays known listing (text_of max) status s t k l → Ran gives takes listing max status s t k l
     lives_ran h = ran_of h.calls h.did h.waits h.lists
 
-  pub obeys_runs : (c : Command) (status : Status) (s t : S) (k l : K) → Obeys gives ahead takes Stays c status s t k l → Runs gives ahead takes c status s t k l
-  obeys_runs Targeted status s t k l h = (h, λ e. absurd (cc))
-  obeys_runs (Listed strict) status s t k l h = (lives_ran _ _ _ status s t k l h, λ _. h)
-  obeys_runs Fielded status s t k l h = (lives_ran _ _ _ status s t k l h, λ _. h)
-  obeys_runs Tightened status s t k l h = (lives_ran _ _ _ status s t k l h, λ _. h)
-  obeys_runs Swept status s t k l h = (lives_ran _ _ _ status s t k l h, λ _. h)
-
 -- a command is no mistake of usage
-module _ {S K : Type 0} (gives : S → Got → S → Type 0) (ahead : S → List ℕ) (takes : K → List ℕ → Result ⊤ SinkFailed → K → Type 0) (settles : K → Result ⊤ SinkFailed → K → Type 0) where
-  lives_used : (c : Command) (known : Text → Listing) (text : List ℕ → Stop → Text) (status : Status) (s t : S) (k l : K) → Lives gives ahead takes settles known (listing_for c) text status s t k l → status ≢ Usage
-  lives_used c known text status s t k l h e =
-      let one = some_stop (stop_of h.calls) in
-      (command_status c _).0 (listed_status status h.calls _ (λ f. absurd (cc)) (h.lists [] one.0 one.1) ∙ e)
+pub obeys_used : {S K : Type 0} (gives : S → Got → S → Type 0) (ahead : S → List ℕ) (takes : K → List ℕ → Result ⊤ SinkFailed → K → Type 0) (settles : K → Result ⊤ SinkFailed → K → Type 0) (c : Command) (status : Status) (s t : S) (k l : K) →
+    Obeys gives ahead takes settles c status s t k l → status ≢ Usage
+obeys_used gives ahead takes settles c status s t k l h e =
+    let one = some_stop (stop_of h.calls) in
+    (command_status c _).0 (listed_status status h.calls _ (λ f. absurd (cc)) (h.lists [] one.0 one.1) ∙ e)
 
-  pub obeys_used : (c : Command) (status : Status) (s t : S) (k l : K) → Obeys gives ahead takes settles c status s t k l → status ≢ Usage
-  obeys_used Targeted status s t k l h = ran_used gives takes Targeted _ status s t k l h
-  obeys_used (Listed strict) status s t k l h = lives_used (Listed strict) _ _ status s t k l h
-  obeys_used Fielded status s t k l h = lives_used Fielded _ _ status s t k l h
-  obeys_used Tightened status s t k l h = lives_used Tightened _ _ status s t k l h
-  obeys_used Swept status s t k l h = lives_used Swept _ _ status s t k l h
+-- what a run's faults come from
+pub causes : {S K : Type 0} (gives : S → Got → S → Type 0) (ahead : S → List ℕ) (takes : K → List ℕ → Result ⊤ SinkFailed → K → Type 0) → HaveCauses gives ahead takes
+causes gives ahead takes c a b k l = (
+  λ h. fault_stop (stop_of h.calls) (λ may. command_read c (max_of c) (returned h.calls ++ []) (listed_status ReadFault h.calls _ (λ e. cc) (h.lists [] End may))),
+  λ h unfailed.
+      let one = some_stop (stop_of h.calls) in
+      (command_status c _).1 (ap (λ l. l.status) (whole_listed WriteFault h.calls _ unfailed (h.lists [] one.0 one.1))),
+)

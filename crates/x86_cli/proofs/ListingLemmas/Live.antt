@@ -1,5 +1,5 @@
 -- The state of a run that calls the source only where what was read decides no more.
-use Rattle.std.proofs.Common.{◌≡◌, ◌≢◌, ℕ, ◌+◌, ◌<◌, ◌≤◌, List, [], ◌∷◌, ◌++◌, length, drop, take, Option, Some, None, Result, Ok, Err, refl, arith, ap, ◌∙◌, sym, subst, append_assoc, append-nil, length-append, take-append-drop}
+use Rattle.std.proofs.Common.{◌≡◌, ℕ, ◌+◌, ◌<◌, ◌≤◌, List, [], ◌∷◌, ◌++◌, length, drop, take, Option, Some, None, Result, Ok, Err, refl, arith, ap, ◌∙◌, sym, append_assoc, append-nil, length-append, take-append-drop}
 use Rattle.std.specs.Prelude.{⊤}
 use Rattle.x86_streams.specs.declared.outside.source.Got.{Got}
 use Rattle.x86_streams.specs.declared.outside.source.Got.TheVariants as got
@@ -14,8 +14,8 @@ use Rattle.x86_streams.specs.declared.text.window.Window.{Window}
 use Rattle.x86_streams.specs.Text.Window.{rest_of, Open, ReadsOn, TakesBytes}
 use Rattle.x86_cli.specs.declared.listings.status.Status.{Status}
 use Rattle.x86_cli.specs.declared.listings.status.Status.TheVariants as outcome
-use Rattle.x86_cli.specs.Commands.Run.{Wrote, Lists}
-use Rattle.x86_cli.specs.Listings.Calls.{OutsideCall, Next, Take, Put, Settle, returned, lines_of, stop_of, Unfailed, IsSettled, MayRead, Waits, AreListed, Calls, Lives}
+use Rattle.x86_cli.specs.Commands.Run.{Wrote, Lists, Ran}
+use Rattle.x86_cli.specs.Listings.Calls.{OutsideCall, Next, Take, Put, Settle, returned, lines_of, stop_of, Unfailed, IsSettled, Waits, AreListed, Calls, Lives}
 use Rattle.x86_cli.specs.Listings.Entry.{IsLine}
 use Rattle.x86_cli.specs.Listings.Line.{line}
 use Rattle.x86_cli.specs.Listings.Listing.{Listing, with_lines, at_end}
@@ -107,6 +107,12 @@ all_listed status (Put piece (Err e) ∷ cs) l h is = absurd h
 all_listed status (Settle (Ok done) ∷ cs) l h is = is
 all_listed status (Settle (Err e) ∷ cs) l h is = absurd h
 
+-- lines after others
+lists_after : (status : Status) (lines ls : List (List ℕ)) (failed : Option (List ℕ)) (last l : Listing) → l ≡ with_lines lines last → Lists status ls failed last → Lists status (lines ++ ls) failed l
+lists_after status lines ls None last l is lists = is ∙ ap (with_lines lines) lists
+lists_after status lines ls (Some x) last l is lists =
+    (lists.0, (lists.1.0, ap (λ l. l.lines) is ∙ ap (λ more. lines ++ more) lists.1.1 ∙ sym (append_assoc lines ls (x ∷ lists.1.0))))
+
 module _ {S K : Type 0} (gives : S → Got → S → Type 0) (ahead : S → List ℕ) (takes : K → List ℕ → Result ⊤ SinkFailed → K → Type 0) (settles : K → Result ⊤ SinkFailed → K → Type 0) where
   nexts_calls : (bs : List ℕ) (stop : Option Stop) (cs : List OutsideCall) (a u v : S) (k l : K) → Calls gives ahead takes settles cs a u k l → SourceCalls gives bs stop u v → Calls gives ahead takes settles (nexts bs stop cs) a v k l
   nexts_calls [] None cs a u v k l c e = rw e c
@@ -119,29 +125,41 @@ module _ {S K : Type 0} (gives : S → Got → S → Type 0) (ahead : S → List
 
   -- the last lines, after other calls
   module _ (known listing : Text → Listing) (text : List ℕ → Stop → Text) (status : Status) (a v : S) (k m : K) where
-    close : (ls : List (List ℕ)) (failed : Option (List ℕ)) (cs : List OutsideCall) (l : K) (last : Listing) → Calls gives ahead takes settles cs a v k l → Waits known text cs → Unfailed cs →
-        SinkCalls takes ls failed l m → Lists status ls failed last →
-        ((xs : List ℕ) (s : Stop) → MayCome (stop_of cs) xs s → listing (text (returned cs ++ xs) s) ≡ with_lines (lines_of cs) last) →
+    pub close : (ls : List (List ℕ)) (failed : Option (List ℕ)) (cs : List OutsideCall) (l : K) → Calls gives ahead takes settles cs a v k l → Waits known text cs → Unfailed cs → SinkCalls takes ls failed l m →
+        ((xs : List ℕ) (s : Stop) → MayCome (stop_of cs) xs s → Lists status (lines_of cs ++ ls) failed (listing (text (returned cs ++ xs) s))) →
         Lives gives ahead takes settles known listing text status a v k m
-    close [] None cs l last c waits unfailed calls lists is = record {
+    close [] None cs l c waits unfailed calls lists = record {
       calls = cs;
       did = rw calls c;
       waits = waits;
-      lists = λ xs s may. all_listed status cs _ unfailed (is xs s may ∙ ap (with_lines (lines_of cs)) lists ∙ ap (λ ls. record { lines = ls; status = status }) (append-nil (lines_of cs)));
+      lists = λ xs s may. all_listed status cs _ unfailed (rw append-nil at (lists xs s may));
     }
-    close [] (Some x) cs l last c waits unfailed calls lists is = record {
+    close [] (Some x) cs l c waits unfailed calls lists = record {
       calls = Put x (Err calls.0) ∷ cs;
       did = (l, c, calls.1);
       waits = (waits, unfailed);
-      lists = λ xs s may. (lists.0, (lists.1.0, ap (λ l. l.lines) (is xs s may) ∙ ap (λ ls. lines_of cs ++ ls) lists.1.1));
+      lists = λ xs s may. rw append-nil at (lists xs s may);
     }
-    close (x ∷ ls) None cs l last c waits unfailed calls lists is =
-        close ls None (Put x (Ok tt) ∷ cs) calls.0 (record { lines = ls; status = status }) (l, c, calls.1) (waits, unfailed) unfailed calls.2 refl
-        (λ xs s may. is xs s may ∙ ap (with_lines (lines_of cs)) lists ∙ with-with (lines_of cs) (x ∷ []) (record { lines = ls; status = status }))
-    close (x ∷ ls) (Some f) cs l last c waits unfailed calls lists is =
-        let rest : Listing = record { lines = ls ++ f ∷ lists.1.0; status = last.status } in
-        close ls (Some f) (Put x (Ok tt) ∷ cs) calls.0 rest (l, c, calls.1) (waits, unfailed) unfailed calls.2 (lists.0, (lists.1.0, refl))
-        (λ xs s may. is xs s may ∙ ap (λ ls. record { lines = lines_of cs ++ ls; status = last.status }) lists.1.1 ∙ with-with (lines_of cs) (x ∷ []) rest)
+    close (x ∷ ls) failed cs l c waits unfailed calls lists =
+        close ls failed (Put x (Ok tt) ∷ cs) calls.0 (l, c, calls.1) (waits, unfailed) unfailed calls.2
+        (λ xs s may. rw (append_assoc (lines_of cs) (x ∷ []) ls) (lists xs s may))
+
+  -- A run that reads its text to the end, and then writes its listing, is one by the rule of reading: nothing of the
+  -- listing is known before.
+  pub ran_lives : (listing : Text → Listing) (max : ℕ) (status : Status) (a b : S) (k l : K) → Ran gives takes listing max status a b k l →
+      Lives gives ahead takes settles (λ t. at_end t.ending) listing (text_of max) status a b k l
+  ran_lives listing max status a b k l ran =
+      let known : Text → Listing = λ t. at_end t.ending in
+      close known listing (text_of max) status a b k l ran.lines ran.failed (nexts ran.bytes ran.stop []) k (nexts_calls ran.bytes ran.stop [] a a b k k (refl, refl) ran.source_calls)
+      (nexts_waits known (text_of max) IsOpenText (text_of max) ran.bytes ran.stop [] tt tt refl tt ran.called (λ xs h. h) (λ xs h. ap at_end h))
+      (nexts_unfailed ran.bytes ran.stop [] tt) ran.sink_calls
+      (λ xs s may. rw (nexts_bytes ran.bytes ran.stop [], nexts_lines ran.bytes ran.stop []) (ran.lists xs s (rw (nexts_stop ran.bytes ran.stop [] refl) at may)))
+
+  -- So is one that reads nothing.
+  pub wrote_lives : (listing : Listing) (text : List ℕ → Stop → Text) (status : Status) (a b : S) (k l : K) → b ≡ a → Wrote takes listing status k l →
+      Lives gives ahead takes settles (λ t. listing) (λ t. listing) text status a b k l
+  wrote_lives listing text status a b k l same wrote =
+      close (λ t. listing) (λ t. listing) text status a b k l wrote.lines wrote.failed [] k (same, refl) tt tt wrote.sink_calls (λ xs s may. wrote.lists)
 
   -- at place text: the listing of a text from a place on; knows place text: what is listed of it whatever follows
   module _ (at knows : ℕ → Text → Listing) (max : ℕ) where
@@ -199,8 +217,8 @@ module _ {S K : Type 0} (gives : S → Got → S → Type 0) (ahead : S → List
       pub live_closes : (last : Listing) → ((xs : List ℕ) (stop : Stop) → at n (rest_of ended w p r xs stop) ≡ last) → (status : Status) (m : K) → Wrote takes last status l m →
           Lives gives ahead takes settles (knows 0) (at 0) (text_of max) status a u k m
       live_closes last is status m wrote =
-          close (knows 0) (at 0) (text_of max) status a u k m wrote.lines wrote.failed s.calls l last s.did s.waits s.unfailed wrote.sink_calls wrote.lists
-          (λ xs stop may. s.lists xs stop may ∙ ap (with_lines (lines_of s.calls)) (is xs stop))
+          close (knows 0) (at 0) (text_of max) status a u k m wrote.lines wrote.failed s.calls l s.did s.waits s.unfailed wrote.sink_calls
+          (λ xs stop may. lists_after status (lines_of s.calls) wrote.lines wrote.failed last _ (s.lists xs stop may ∙ ap (with_lines (lines_of s.calls)) (is xs stop)) wrote.lists)
 
     -- bytes that were ahead came into the window
     live_took : (n : ℕ) (w : List ℕ) (p r : ℕ) (a u v : S) (k l : K) → Live n None w p r a u k l → (w' : List ℕ) (p' r' : ℕ) → TakesBytes gives ahead w p r w' p' r' u v → Live n None w' p' r' a v k l

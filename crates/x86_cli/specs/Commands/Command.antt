@@ -1,5 +1,5 @@
 -- Commands: their arguments, listings and limits.
-use Rattle.std.specs.Prelude.{◌≡◌, Ok, ℕ, Bool, true, false, List, [], ◌∷◌, Option, Some, None, ◌&&◌, if◌then◌else◌, IfSome, IsTrue, Result, ⊤, map, codes, bytes_eq, String, string_bytes}
+use Rattle.std.specs.Prelude.{◌≡◌, Ok, ℕ, Bool, true, false, List, [], ◌∷◌, Option, Some, None, ◌&&◌, if◌then◌else◌, IfSome, Result, ⊤, map, codes, bytes_eq, String, string_bytes}
 use Rattle.std.specs.declared.alloc.Global.{Global}
 use Rattle.x86_decode.specs.Instruction.{length_of}
 use Rattle.x86_cli.specs.declared.commands.command.Command.{Command}
@@ -8,13 +8,12 @@ use Rattle.x86_streams.specs.declared.outside.source.Got.{Got}
 use Rattle.x86_streams.specs.declared.outside.sink.SinkFailed.{SinkFailed}
 use Rattle.x86_cli.specs.declared.listings.status.Status.{Status}
 use Rattle.x86_streams.specs.Text.{Text, text_of}
-use Rattle.x86_cli.specs.Commands.Run.{Ran}
 use Rattle.x86_layout.specs.Parts.OfBytes.{parts_of}
 use Rattle.x86_layout.specs.Tightening.Least.{shortest_length}
 use Rattle.x86_text.specs.Lines.{line_of}
 use Rattle.x86_text.specs.Parts.{fields_line}
 use Rattle.x86_cli.specs.Listings.Tighten.{least_text}
-use Rattle.x86_cli.specs.Listings.Listing.{Listing, listing_at}
+use Rattle.x86_cli.specs.Listings.Listing.{Listing, at_end, listing_at}
 use Rattle.x86_cli.specs.Listings.Sweep.{sweep_at, known_sweep_at}
 use Rattle.x86_cli.specs.Listings.Calls.{Lives}
 use Rattle.x86_cli.specs.Listings.Targets.{targets_at}
@@ -73,24 +72,15 @@ goes_past_refusals Tightened = false
 goes_past_refusals Swept = true
 goes_past_refusals Targeted = true
 
--- All commands but `targets` list as they read.
-abbrev pub lists_as_it_reads : Command → Bool
-lists_as_it_reads (Listed strict) = true
-lists_as_it_reads Fielded = true
-lists_as_it_reads Tightened = true
-lists_as_it_reads Swept = true
-lists_as_it_reads Targeted = false
-
--- what is listed of a text whatever follows it, and its end
+-- what is listed of a text whatever follows it, and its end: of `targets`, which lists once all is read, only that
 abbrev pub known_for : Command → Text → Listing
 known_for Swept t = known_sweep_at false 0 t
+known_for Targeted t = at_end t.ending
 known_for c t = listing_for c t
 
--- What a command does with a source and a sink that is settled: its calls in one order. `targets` reads all first.
+-- What a command does with a source and a sink that is settled: its calls in one order, by the rule of reading.
 abbrev pub Obeys : {S K : Type 0} → (S → Got → S → Type 0) → (S → List ℕ) → (K → List ℕ → Result ⊤ SinkFailed → K → Type 0) → (K → Result ⊤ SinkFailed → K → Type 0) →
     Command → Status → S → S → K → K → Type 0
-Obeys gives ahead takes settles Targeted status source source' sink sink' =
-    Ran gives takes (listing_for Targeted) (max_of Targeted) status source source' sink sink'
 Obeys gives ahead takes settles c status source source' sink sink' =
     Lives gives ahead takes settles (known_for c) (listing_for c) (text_of (max_of c)) status source source' sink sink'
 
@@ -98,10 +88,7 @@ Obeys gives ahead takes settles c status source source' sink sink' =
 abbrev pub Stays : {K : Type 0} → K → Result ⊤ SinkFailed → K → Type 0
 Stays k r l = (r ≡ Ok tt) × (l ≡ k)
 
--- A run of a command: its calls and its listing; and where it lists as it reads, the calls in one order, by the rule of
--- reading.
+-- A run of a command over such a sink.
 abbrev pub Runs : {S K : Type 0} → (S → Got → S → Type 0) → (S → List ℕ) → (K → List ℕ → Result ⊤ SinkFailed → K → Type 0) →
     Command → Status → S → S → K → K → Type 0
-Runs gives ahead takes c status source source' sink sink' =
-    Ran gives takes (listing_for c) (max_of c) status source source' sink sink'
-    × (IsTrue (lists_as_it_reads c) → Lives gives ahead takes Stays (known_for c) (listing_for c) (text_of (max_of c)) status source source' sink sink')
+Runs gives ahead takes c status source source' sink sink' = Obeys gives ahead takes Stays c status source source' sink sink'

@@ -1,13 +1,19 @@
--- What the process writes beside its listing.
-use Rattle.std.specs.Prelude.{ℕ, List, Result, ⊤, codes}
+-- What the process says beside its listing.
+use Rattle.std.specs.Prelude.{◌≡◌, ℕ, Bool, false, List, Option, Some, None, Result, ⊤, codes}
 use Rattle.std.specs.declared.io.Error.{Error}
+use Rattle.x86_cli.specs.declared.listings.status.Status.{Status}
+use Rattle.x86_cli.specs.declared.listings.status.Status.TheVariants.{Usage, WriteFault}
 use Rattle.x86_streams.specs.declared.outside.sink.SinkFailed.{SinkFailed}
 use Rattle.x86_cli.specs.Listings.Line.{line}
 use Rattle.x86_streams.specs.Outside.Writes.{PutSends}
 
-abbrev pub usage_line : List ℕ
-usage_line = line (codes "usage: list [--strict] | make N | fields | tighten | sweep | targets")
+-- what is said at a status: where the words are no command, and where the output failed, unless nobody reads it
+abbrev pub said_at : Status → Bool → Option (List ℕ)
+said_at Usage gone = Some (line (codes "usage: list [--strict] | make N | fields | tighten | sweep | targets"))
+said_at WriteFault false = Some (line (codes "write fault"))
+said_at status gone = None
 
--- The writer took the usage line, or where a write failed the beginning of it.
-abbrev pub PrintsUsage : {W : Type 0} → (W → List ℕ → Result ℕ Error → W → Type 0) → (W → Result ⊤ Error → W → Type 0) → W → W → Type 0
-PrintsUsage writes flushes old new = (r : Result ⊤ SinkFailed) × PutSends writes flushes r usage_line old new
+-- The writer took the line that is said, or where a write failed the beginning of it. Where none is, it is left.
+abbrev pub Reports : {W : Type 0} → (W → List ℕ → Result ℕ Error → W → Type 0) → (W → Result ⊤ Error → W → Type 0) → Option (List ℕ) → W → W → Type 0
+Reports writes flushes None old new = new ≡ old
+Reports writes flushes (Some said) old new = (r : Result ⊤ SinkFailed) × PutSends writes flushes r said old new

@@ -1,5 +1,5 @@
 -- What the program does with its reader and its writer.
-use Rattle.std.specs.Prelude.{◌≡◌, ◌≢◌, ◌⊎◌, ℕ, List, [], ◌++◌, Option, Some, IfSome, Result, Ok, Err, ⊤}
+use Rattle.std.specs.Prelude.{◌≡◌, ◌≢◌, ◌⊎◌, ◌↔◌, ℕ, zero, suc, ◌<◌, Bool, IsTrue, List, [], ◌∷◌, ◌++◌, length, Option, Some, None, IfSome, Result, Ok, Err, ⊤}
 use Rattle.std.specs.List.{concat}
 use Rattle.std.specs.Io.{StartsWith}
 use Rattle.std.specs.Io.KnownBytes.{Appends}
@@ -7,15 +7,84 @@ use Rattle.std.specs.declared.io.Error.{Error}
 use Rattle.x86_cli.specs.declared.commands.command.Command.{Command}
 use Rattle.x86_cli.specs.declared.listings.status.Status.{Status}
 use Rattle.x86_cli.specs.declared.listings.status.Status.TheVariants.{Done, Usage, Refused, BadText, ReadFault, WriteFault, TooLarge}
+use Rattle.x86_streams.specs.declared.text.reader.Ending.TheVariants.{Fault}
 use Rattle.x86_streams.specs.Outside.Stop.{Stop, End, Failed}
-use Rattle.x86_streams.specs.Outside.Reads.{ReaderCalls, ReadWhileOpen}
-use Rattle.x86_streams.specs.Outside.Writes.{Caused, EndsInFlush}
+use Rattle.x86_streams.specs.Outside.Reads.{ReadsUninterrupted}
+use Rattle.x86_streams.specs.Outside.Writes.{Call, Cause, Does, EndsInFlush, EndsGone, sent, taken_by}
 use Rattle.x86_streams.specs.Text.{Text, text_of}
 use Rattle.x86_streams.specs.Text.Reading.{MayCome}
-use Rattle.x86_cli.specs.Listings.Listing.{Listing}
-use Rattle.x86_cli.specs.Commands.Command.{listing_for, max_of}
-use Rattle.x86_cli.specs.Commands.Make.{made_listing}
+use Rattle.x86_cli.specs.Listings.Listing.{Listing, with_lines, at_end}
+use Rattle.x86_cli.specs.Commands.Command.{listing_for, known_for, max_of, command_of}
+use Rattle.x86_cli.specs.Commands.Make.{IsMake, made_listing}
 use Rattle.x86_cli.specs.Commands.Says.{full_listing, taken_listing}
+
+-- ---- what words denote
+
+-- What is listed of a text, what of that is known whatever follows the text, and the most bytes of it that are read.
+pub record Task : Type 0 where
+  pub max : ℕ
+  pub known : Text → Listing
+  pub lists : Text → Listing
+
+abbrev pub task_of : Command → Task
+task_of c = record { max = max_of c; known = known_for c; lists = listing_for c }
+
+-- `make` lists its line, whatever the text is
+abbrev pub making : ℕ → Task
+making n = record { max = 0; known = λ t. made_listing n; lists = λ t. made_listing n }
+
+-- Where the words denote a task, this is so of it.
+abbrev pub IfTask : List (List ℕ) → (Task → Type 0) → Type 0
+IfTask words says = IfSome (command_of words) (λ c. says (task_of c)) × ((n : ℕ) → IsMake words n → says (making n))
+
+-- ---- calls
+
+-- A read, made again where a signal interrupts it, with what is in its buffer then; or a call of the writer.
+pub data StreamCall : Type 0 where
+  Read : List ℕ → Result ℕ Error → StreamCall
+  Send : Call → StreamCall
+
+-- what the reads returned, the last call first
+abbrev pub bytes_read : List StreamCall → List ℕ
+bytes_read [] = []
+bytes_read (Read buffer answer ∷ cs) = bytes_read cs ++ taken_by answer buffer
+bytes_read (Send call ∷ cs) = bytes_read cs
+
+-- what stopped them: a read that returned no byte, or an error
+abbrev pub stop_after : Result ℕ Error → Option Stop
+stop_after (Ok zero) = Some End
+stop_after (Ok (suc n)) = None
+stop_after (Err e) = Some Failed
+
+abbrev pub read_stop : List StreamCall → Option Stop
+read_stop [] = None
+read_stop (Read buffer answer ∷ cs) = stop_after answer
+read_stop (Send call ∷ cs) = read_stop cs
+
+abbrev pub writer_calls : List StreamCall → List Call
+writer_calls [] = []
+writer_calls (Read buffer answer ∷ cs) = writer_calls cs
+writer_calls (Send call ∷ cs) = call ∷ writer_calls cs
+
+-- Nothing was written after the last flush, which succeeded.
+abbrev pub IsFlushed : List Call → Type 0
+IsFlushed [] = ⊤
+IsFlushed (c ∷ cs) = EndsInFlush (c ∷ cs)
+
+-- The listing is these bytes, and then the line of a read fault.
+abbrev pub AreBeforeFault : List ℕ → Listing → Type 0
+AreBeforeFault bytes l = (lines : List (List ℕ)) × (l ≡ with_lines lines (at_end Fault)) × (concat lines ≡ bytes)
+
+-- The rule of reading. Each read was made where, should it fail, nothing were left to write but the line of a read
+-- fault: what was read so far decides no more, and all that it decides was written and flushed. None follows the end of
+-- the input, or an error.
+abbrev pub ReadsByRule : (known : Text → Listing) → (List ℕ → Stop → Text) → List StreamCall → Type 0
+ReadsByRule known text [] = ⊤
+ReadsByRule known text (Send call ∷ cs) = ReadsByRule known text cs
+ReadsByRule known text (Read buffer answer ∷ cs) = ReadsByRule known text cs × (0 < length buffer) × (read_stop cs ≡ None)
+    × IsFlushed (writer_calls cs) × AreBeforeFault (sent (writer_calls cs)) (known (text (bytes_read cs) Failed))
+
+-- ---- how the program ends
 
 -- the status of a run, or that of a write fault where the last flush failed
 abbrev pub ending_of : {E : Type 0} → Status → Result ⊤ E → Status
@@ -27,6 +96,35 @@ abbrev pub fault_of : Status → Result ⊤ ⊤
 fault_of WriteFault = Err tt
 fault_of status = Ok tt
 
+-- The bytes are a prefix of the listing, and all of it unless a write failed; then the listing ends with this status.
+pub record IsPrinted (status : Status) (bytes : List ℕ) (l : Listing) : Type 0 where
+  pub unsent : List ℕ
+  pub whole : concat l.lines ≡ bytes ++ unsent
+  pub all : status ≢ WriteFault → (unsent ≡ []) × (status ≡ l.status)
+
+module _ {R W : Type 0} (reads : R → List ℕ → Result ℕ Error → R → Type 0) (writes : W → List ℕ → Result ℕ Error → W → Type 0)
+    (flushes : W → Result ⊤ Error → W → Type 0) where
+  -- These calls, the last first, led from the one state of reader and writer to the other.
+  abbrev pub StreamCalls : List StreamCall → R → R → W → W → Type 0
+  StreamCalls [] r r' w w' = (r' ≡ r) × (w' ≡ w)
+  StreamCalls (Read buffer answer ∷ cs) r r' w w' = (u : R) × StreamCalls cs r u w w' × ReadsUninterrupted reads buffer answer u r'
+  StreamCalls (Send call ∷ cs) r r' w w' = (v : W) × StreamCalls cs r r' w v × Does writes flushes call v w'
+
+  -- The program did its task: its calls in one order, by the rule of reading. The writer took the listing of every text
+  -- that begins with what was read. At a write fault its last call failed, at every other status that is a flush. It is
+  -- gone where its last call answered so.
+  pub record Performs (task : Task) (status : Status) (gone : Bool) (r r' : R) (w w' : W) : Type 0 where
+    pub calls : List StreamCall
+    pub did : StreamCalls calls r r' w w'
+    pub rule : ReadsByRule task.known (text_of task.max) calls
+    pub cause : Cause (fault_of status) (writer_calls calls)
+    pub flushed : status ≢ WriteFault → EndsInFlush (writer_calls calls)
+    pub answered : IsTrue gone ↔ EndsGone (writer_calls calls)
+    pub lists : (xs : List ℕ) (s : Stop) → MayCome (read_stop calls) xs s →
+        IsPrinted status (sent (writer_calls calls)) (task.lists (text_of task.max (bytes_read calls ++ xs) s))
+
+-- ---- what follows
+
 -- How the reads ended, by the status. A reader may fail while bytes are read ahead of a refusal.
 abbrev pub EndsAt : Status → Option Stop → Type 0
 EndsAt Done stop = stop ≡ Some End
@@ -36,41 +134,6 @@ EndsAt TooLarge stop = stop ≢ Some Failed
 EndsAt Refused stop = ⊤
 EndsAt WriteFault stop = ⊤
 EndsAt Usage stop = ⊥
-
--- The bytes are a prefix of the listing, and all of it unless a write failed; then the listing ends with this status.
-pub record IsPrinted (status : Status) (bytes : List ℕ) (l : Listing) : Type 0 where
-  pub unsent : List ℕ
-  pub whole : concat l.lines ≡ bytes ++ unsent
-  pub all : status ≢ WriteFault → (unsent ≡ []) × (status ≡ l.status)
-
-module _ {W : Type 0} (writes : W → List ℕ → Result ℕ Error → W → Type 0) (flushes : W → Result ⊤ Error → W → Type 0) where
-  -- The writer took these bytes. At a write fault its last call failed, at every other status that is a flush.
-  pub record Finishes (status : Status) (bytes : List ℕ) (old new : W) : Type 0 where
-    pub caused : Caused writes flushes (fault_of status) bytes old new
-    pub flushed : status ≢ WriteFault → EndsInFlush caused.calls
-
-  -- The program made the encodings of `make`, and wrote the line of them.
-  pub record PerformsMake (n : ℕ) (status : Status) (writer writer' : W) : Type 0 where
-    pub bytes : List ℕ
-    pub wrote : Finishes status bytes writer writer'
-    pub lists : IsPrinted status bytes (made_listing n)
-
-  module _ {R : Type 0} (reads : R → List ℕ → Result ℕ Error → R → Type 0) where
-    -- The program printed a listing of what it read: the reads that it made, each where the text had not ended, the
-    -- bytes that the writer took, and that these are the listing of every text that begins with the bytes read.
-    pub record Prints (listing : Text → Listing) (max : ℕ) (status : Status) (reader reader' : R) (writer writer' : W) : Type 0 where
-      pub pieces : List (List ℕ)
-      pub stop : Option Stop
-      pub read : ReaderCalls reads pieces stop reader reader'
-      pub open_yet : ReadWhileOpen (text_of max) pieces stop
-      pub ends : EndsAt status stop
-      pub bytes : List ℕ
-      pub wrote : Finishes status bytes writer writer'
-      pub lists : (xs : List ℕ) (s : Stop) → MayCome stop xs s → IsPrinted status bytes (listing (text_of max (concat pieces ++ xs) s))
-
-    -- The program obeyed a command.
-    abbrev pub Performs : Command → Status → R → R → W → W → Type 0
-    Performs c status reader reader' writer writer' = Prints (listing_for c) (max_of c) status reader reader' writer writer'
 
 -- ---- what that says where the bytes that the reader has left and those that the writer has are known
 

@@ -1,14 +1,12 @@
 //! Commands, and what each of them writes.
 
 ghost use Rattle.x86_decode.specs.Decoder.{is_strict};
-ghost use Rattle.std.specs.Prelude.{◌≡◌, ◌↔◌, ℕ, IfSome, Some, None, map, string_bytes};
+ghost use Rattle.std.specs.Prelude.{◌≡◌, ◌↔◌, ℕ, IfSome, Some, map, string_bytes};
 ghost use Rattle.x86_cli.specs.Commands.Command.{command_by, command_of, IfCommand, Obeys, Runs};
 ghost use Rattle.x86_cli.specs.Commands.Make.{IsMake, IsNoCommand, made_listing};
 ghost use Rattle.x86_cli.specs.Commands.Run.{Wrote};
-ghost use Rattle.x86_cli.specs.Commands.Says.{Says, streams_of};
 
 use crate::commands::make::{count_from, make};
-use crate::laws::decoder_laws;
 use crate::listings::fields::FieldLines;
 use crate::listings::line::Plain;
 use crate::listings::listing::{UpToRefusal, list};
@@ -145,23 +143,18 @@ fn obey<S: Source, K: Sink, T: Settling<K>>(
 /// - `TooLarge`: the whole listing was put, of the bytes that may be read; its last line is `text too long`.
 ///
 /// `ran` and `made` hold for every source and sink and name each call, and `ran` says when the source is called: never
-/// before a line that is decided. `says` is about those whose bytes are known. What follows from the clauses is a law:
-/// `laws::reported` and `made` (what calls say of bytes and faults), `causes`, `read_faults` and `write_faults` (what a
+/// before a line that is decided. What follows from the clauses is a law: `laws::headline` (of sources and sinks
+/// whose bytes are known, by its clause `runs`), `laws::reported` and `made` (what calls say of bytes and faults), `causes`, `read_faults` and `write_faults` (what a
 /// fault comes from), `exact` and `unrefused` (where a status comes), `complete` (where all is listed).
 pub fn run<S: Source, K: Sink>(words: &[String], source: &mut S, sink: &mut K) -> Status
     ensures ran { IfCommand words.now (λ c.
         Runs S.gives S.ahead K.takes c result source.old source.new sink.old sink.new) }
     ensures made { (n : ℕ) → IsMake (map string_bytes words.now) n
-        → Wrote K.takes (made_listing n) result sink.old sink.new }
+        → Wrote K.takes (made_listing n) result sink.old sink.new × (source.new ≡ source.old) }
     ensures usage { (result ≡ Status.Usage) ↔ IsNoCommand (map string_bytes words.now) }
-    ensures reads_nothing { command_of (map string_bytes words.now) ≡ None
-        → source.new ≡ source.old }
-    ensures writes_nothing { result ≡ Status.Usage → sink.new ≡ sink.old }
-    ensures says { IfCommand words.now (λ c. Says result c
-        (streams_of S.left S.faults K.written K.faults source.old sink.old)
-        (streams_of S.left S.faults K.written K.faults source.new sink.new)) }
+    ensures nothing { result ≡ Status.Usage
+        → (source.new ≡ source.old) × (sink.new ≡ sink.old) }
 {
-    decoder_laws();
     run_settling(words, &AtOnce, source, sink)
 }
 
@@ -175,11 +168,10 @@ pub fn run_settling<S: Source, K: Sink, T: Settling<K>>(
     ensures obeyed { IfCommand words.now (λ c. Obeys S.gives S.ahead K.takes T.settles c result
         source.old source.new sink.old sink.new) }
     ensures made { (n : ℕ) → IsMake (map string_bytes words.now) n
-        → Wrote K.takes (made_listing n) result sink.old sink.new }
+        → Wrote K.takes (made_listing n) result sink.old sink.new × (source.new ≡ source.old) }
     ensures usage { (result ≡ Status.Usage) ↔ IsNoCommand (map string_bytes words.now) }
-    ensures reads_nothing { command_of (map string_bytes words.now) ≡ None
-        → source.new ≡ source.old }
-    ensures writes_nothing { result ≡ Status.Usage → sink.new ≡ sink.old }
+    ensures nothing { result ≡ Status.Usage
+        → (source.new ≡ source.old) × (sink.new ≡ sink.old) }
 {
     match command_of(words) {
         Some(command) => obey(command, settling, source, sink),

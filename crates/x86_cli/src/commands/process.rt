@@ -1,11 +1,13 @@
 //! What `main` does before and after `listed`: its words, and how the process ends.
 
-ghost use Rattle.std.specs.Prelude.{◌≡◌, ◌≢◌, IfOk, drop};
+ghost use Rattle.std.specs.Prelude.{◌≡◌, ◌≤◌, IfOk, Some, drop, length};
 ghost use Rattle.std.specs.Iterator.{IsFinite};
 ghost use Rattle.std.specs.Iterator.Runs.{WholeRun};
 ghost use Rattle.std.specs.Process.{exit_status};
 ghost use Rattle.x86_cli.specs.Listings.Status.{code};
-ghost use Rattle.x86_cli.specs.Commands.Process.{PrintsUsage};
+ghost use Rattle.x86_text.specs.Widths.{line_width};
+ghost use Rattle.x86_cli.specs.Listings.Line.{line};
+ghost use Rattle.x86_cli.specs.Commands.Process.{Reports, said_at};
 
 use crate::commands::command::USAGE;
 use crate::listings::listing::put_line;
@@ -33,27 +35,29 @@ pub fn words<I: Iterator<Item = String> + Drop>(
     Ok(words)
 }
 
-/// Writes the usage line.
-fn report_usage<E: Output + Drop>(errors: E) -> E
-    ensures { PrintsUsage E.writes E.flushes errors result }
+/// Writes a line.
+pub fn report<E: Output + Drop>(said: &str, errors: E) -> E
+    requires { length said.now ≤ line_width }
+    ensures { Reports E.writes E.flushes (Some (line said.now)) errors result }
 {
     let mut line = Line::new();
-    line.extend(USAGE.as_bytes());
+    line.extend(said.as_bytes());
     let mut sink = StdSink::new(errors);
     let _ = put_line(&mut sink, &mut line);
     sink.into_writer()
 }
 
 /// How the process ends: with the number of the status. Where the arguments are no command, the usage line is written
-/// to `errors`, as far as that takes it; at every other status nothing is.
-pub fn finish<E: Output + Drop>(status: Status, errors: E) -> (ExitCode, E)
+/// to `errors`, and where the output failed the line `write fault`, as far as `errors` takes it. Nothing is where the
+/// output is `gone`: who closed the other end of its pipe wants no more. At every other status nothing is either.
+pub fn finish<E: Output + Drop>(status: Status, gone: bool, errors: E) -> (ExitCode, E)
     ensures code { exit_status result.0 ≡ code status }
-    ensures usage { status ≡ Status.Usage → PrintsUsage E.writes E.flushes errors result.1 }
-    ensures silent { status ≢ Status.Usage → result.1 ≡ errors }
+    ensures says { Reports E.writes E.flushes (said_at status gone) errors result.1 }
 {
     let code = ExitCode::from(status.code());
     match status {
-        Status::Usage => (code, report_usage(errors)),
+        Status::Usage => (code, report(USAGE, errors)),
+        Status::WriteFault if !gone => (code, report("write fault", errors)),
         _ => (code, errors),
     }
 }

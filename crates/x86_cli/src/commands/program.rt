@@ -1,20 +1,21 @@
 //! The program over a reader and a writer.
 
-ghost use Rattle.std.specs.Prelude.{◌≡◌, ◌≢◌, ◌↔◌, ℕ, None, IsOk, map, string_bytes};
-ghost use Rattle.x86_cli.specs.Commands.Command.{IfCommand, command_of};
-ghost use Rattle.x86_cli.specs.Commands.Make.{IsMake, IsNoCommand};
-ghost use Rattle.x86_cli.specs.Commands.Program.{ending_of, Performs, PerformsMake};
+ghost use Rattle.std.specs.Prelude.{◌≡◌, ◌≢◌, ◌↔◌, IsOk, map, string_bytes};
+ghost use Rattle.x86_cli.specs.Commands.Make.{IsNoCommand};
+ghost use Rattle.x86_cli.specs.Commands.Program.{ending_of, IfTask, Performs};
 ghost use Rattle.x86_streams.specs.Outside.Writes.{FlushesOut};
 ghost use Rattle.x86_streams.specs.Outside.Seen.{buffer_writer, buffer_bytes};
 
 use crate::commands::command::run_settling;
 use crate::listings::status::Status;
-use x86_streams::{Buffered, Gathered, Input, Output, SinkFailed, StdSink, StdSource};
+use x86_streams::{Buffered, Gathered, Input, Output, SinkFailed, StdSink, StdSource, Watched};
 
 /// How the program ended, and its reader and its writer, as it leaves them.
 #[derive(Drop)]
 pub struct Finished<R: Drop, W: Drop> {
     pub status: Status,
+    /// Whether the writer's last call answered that nobody reads what is written.
+    pub gone: bool,
     pub reader: R,
     pub writer: W,
 }
@@ -64,23 +65,22 @@ pub fn listed<R: Input + Drop, W: Output + Drop>(
     reader: R,
     writer: W,
 ) -> Finished<R, W>
-    ensures lists { IfCommand arguments.now (λ c. Performs W.writes W.flushes R.reads c
-        result.status reader result.reader writer result.writer) }
-    ensures made { (n : ℕ) → IsMake (map string_bytes arguments.now) n →
-        PerformsMake W.writes W.flushes n result.status writer result.writer }
+    ensures lists { IfTask (map string_bytes arguments.now) (λ task. Performs R.reads W.writes
+        W.flushes task result.status result.gone reader result.reader writer result.writer) }
     ensures usage { (result.status ≡ Status.Usage) ↔ IsNoCommand (map string_bytes arguments.now) }
-    ensures reads_nothing { command_of (map string_bytes arguments.now) ≡ None →
-        result.reader ≡ reader }
-    ensures writes_nothing { result.status ≡ Status.Usage → result.writer ≡ writer }
+    ensures nothing { result.status ≡ Status.Usage
+        → (result.reader ≡ reader) × (result.writer ≡ writer) }
 {
     let mut source = StdSource::new(reader);
-    let mut sink = StdSink::new(Gathered::new(writer));
+    let mut sink = StdSink::new(Gathered::new(Watched::new(writer)));
     let status = run_settling(arguments, &Buffered, &mut source, &mut sink);
     let mut out = sink.into_writer();
     let flushed = send_rest(status, &mut out);
+    let watched = out.into_writer();
     Finished {
         status: ending_of(status, &flushed),
+        gone: watched.is_gone(),
         reader: source.into_reader(),
-        writer: out.into_writer(),
+        writer: watched.into_writer(),
     }
 }

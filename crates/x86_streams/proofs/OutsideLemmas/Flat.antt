@@ -1,13 +1,12 @@
 -- The calls of the writer after a buffer, and of the writer of a sink over it.
-use Rattle.std.proofs.Common.{ℕ, List, [], ◌∷◌, ◌++◌, take, None, Some, Result, Ok, Err, sym, arith, append-nil, append_assoc, inl, inr}
+use Rattle.std.proofs.Common.{ℕ, List, [], ◌∷◌, None, Result, Ok, Err, sym, arith, append-nil, inl, inr}
 use Rattle.std.specs.Prelude.{⊤}
-use Rattle.std.specs.List.{concat}
 use Rattle.std.specs.declared.io.Error.{Error}
 use Rattle.x86_streams.specs.declared.outside.gathered.Gathered.{Gathered}
 use Rattle.x86_streams.specs.declared.outside.sink.SinkFailed.{SinkFailed}
 use Rattle.x86_streams.specs.declared.outside.std_sink.StdSink.{StdSink}
 use Rattle.x86_streams.specs.Outside.Seen.{sink_writer, buffer_writer, buffer_bytes}
-use Rattle.x86_streams.specs.Outside.Sink.{ReportsPut, SinkCalls}
+use Rattle.x86_streams.specs.Outside.Sink.{ReportsPut}
 use Rattle.x86_streams.specs.Outside.Writes.{Call, Write, Flush, taken_by, sent, sent_by, Cause, Does, WriterCalls, Caused, Forwards, FlushesOut, PutSends, IsFinalWrite, IsFinalFlush, Gathers}
 use Rattle.x86_streams.proofs.OutsideLemmas.Writes.{forwards_none, forwards_join, forwards_as, err_cause}
 
@@ -49,15 +48,3 @@ module _ {W : Type 0} (writes : W → List ℕ → Result ℕ Error → W → Ty
   -- What calls of the buffer sent, its writer took, but for what the buffer holds.
   pub flat : (r : Result ⊤ SinkFailed) (bytes : List ℕ) (s t : Gathered W) → Caused BufferWrites BufferFlushes r bytes s t → Sends r bytes s t
   flat r bytes s t h = rw h.sends at (calls_send r h.calls s t h.did h.cause)
-
-  -- The puts of a run, one after the other.
-  pub lines_send : (pieces : List (List ℕ)) (k l : StdSink (Gathered W)) → SinkCalls SinkTakes pieces None k l → Sends {A = ⊤} {E = SinkFailed} (Ok tt) (concat pieces) (sink_writer k) (sink_writer l)
-  lines_send [] k l e = rw e (forwards_none writes flushes tt [] _ _ _ (sym (append-nil _)))
-  lines_send (p ∷ ps) k l h = forwards_join writes flushes tt (Ok tt) p _ _ _ _ _ _ _ (flat (Ok tt) p _ _ h.1.1) (lines_send ps h.0 l h.2)
-
-  pub failed_line_sends : (pieces : List (List ℕ)) (failed : List ℕ) (k l : StdSink (Gathered W)) → SinkCalls SinkTakes pieces (Some failed) k l →
-      (f : SinkFailed) × (n : ℕ) × Sends {A = ⊤} (Err f) (concat pieces ++ take n failed) (sink_writer k) (sink_writer l)
-  failed_line_sends [] failed k l h = (h.0, h.1.1.0, flat (Err h.0) (take h.1.1.0 failed) _ _ h.1.1.1)
-  failed_line_sends (p ∷ ps) failed k l h =
-      let more = failed_line_sends ps failed h.0 l h.2 in
-      (more.0, more.1, rw append_assoc (forwards_join writes flushes tt (Err more.0) p _ _ _ _ _ _ _ (flat (Ok tt) p _ _ h.1.1) more.2))

@@ -56,7 +56,7 @@ pub sent_joined : (cs ds : List Call) → sent (cs ++ ds) ≡ sent ds ++ sent cs
 sent_joined [] ds = sym (append-nil (sent ds))
 sent_joined (c ∷ cs) ds = ap (λ bs. bs ++ sent_by c) (sent_joined cs ds) ∙ append_assoc (sent ds) (sent cs) (sent_by c)
 
-flush_last : (cs ds : List Call) → EndsInFlush cs → EndsInFlush (cs ++ ds)
+pub flush_last : (cs ds : List Call) → EndsInFlush cs → EndsInFlush (cs ++ ds)
 flush_last [] ds e = absurd e
 flush_last (Write bytes answer ∷ cs) ds e = absurd e
 flush_last (Flush (Ok done) ∷ cs) ds e = tt

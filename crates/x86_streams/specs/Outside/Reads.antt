@@ -1,11 +1,8 @@
--- The reads of a reader.
-use Rattle.std.specs.Prelude.{◌≡◌, ℕ, zero, suc, ◌<◌, ◌≤◌, List, [], ◌∷◌, ◌++◌, length, take, Option, Some, None, Result, Ok, Err, IfErr, ⊤}
+-- A read of a reader.
+use Rattle.std.specs.Prelude.{◌≡◌, ℕ, zero, suc, ◌<◌, ◌≤◌, List, length, take, Result, Ok, Err, IfErr}
 use Rattle.std.specs.declared.io.Error.{Error}
 use Rattle.std.specs.declared.io.ErrorKind.TheVariants.{Interrupted}
 use Rattle.std.specs.IoError.{error_kind}
-use Rattle.x86_streams.specs.Outside.Stop.{Stop, End, Failed}
-use Rattle.x86_streams.specs.Text.{Text}
-use Rattle.x86_streams.specs.Text.Reading.{HasNotEnded}
 
 -- reads r buffer answer r': a read of r may answer so, with this in its buffer, and leave r'
 module _ {R : Type 0} (reads : R → List ℕ → Result ℕ Error → R → Type 0) where
@@ -32,19 +29,6 @@ module _ {R : Type 0} (reads : R → List ℕ → Result ℕ Error → R → Typ
   abbrev pub ReadsEnd : R → R → Type 0
   ReadsEnd r r' = (buffer : List ℕ) × (0 < length buffer) × ReadsUninterrupted buffer (Ok 0) r r'
 
-  -- A read answered an error.
+  -- A read, into a buffer with room, answered an error.
   abbrev pub ReadsFault : R → R → Type 0
-  ReadsFault r r' = (buffer : List ℕ) × (e : Error) × ReadsUninterrupted buffer (Err e) r r'
-
-  -- Reads, one after the other, returned these pieces and then, where there is one, the stop. No read followed it.
-  abbrev pub ReaderCalls : List (List ℕ) → Option Stop → R → R → Type 0
-  ReaderCalls [] None r r' = r' ≡ r
-  ReaderCalls [] (Some End) r r' = ReadsEnd r r'
-  ReaderCalls [] (Some Failed) r r' = ReadsFault r r'
-  ReaderCalls (piece ∷ pieces) stop r r' = (v : R) × ReadsBytes piece r v × ReaderCalls pieces stop v r'
-
--- Each of these reads was made where the text had not ended.
-abbrev pub ReadWhileOpen : (List ℕ → Stop → Text) → List (List ℕ) → Option Stop → Type 0
-ReadWhileOpen text [] None = ⊤
-ReadWhileOpen text [] (Some stop) = HasNotEnded text
-ReadWhileOpen text (piece ∷ pieces) stop = HasNotEnded text × ReadWhileOpen (λ xs s. text (piece ++ xs) s) pieces stop
+  ReadsFault r r' = (buffer : List ℕ) × (e : Error) × (0 < length buffer) × ReadsUninterrupted buffer (Err e) r r'

@@ -1,7 +1,7 @@
 -- The calls of a writer.
 use Rattle.std.specs.Prelude.{◌≡◌, ◌≢◌, ◌⊎◌, ℕ, ◌+◌, ◌<◌, ◌≤◌, List, [], ◌∷◌, ◌++◌, length, take, Result, Ok, Err, OnOk, ⊤}
 use Rattle.std.specs.declared.io.Error.{Error}
-use Rattle.std.specs.declared.io.ErrorKind.TheVariants.{Interrupted}
+use Rattle.std.specs.declared.io.ErrorKind.TheVariants.{Interrupted, BrokenPipe}
 use Rattle.std.specs.IoError.{error_kind}
 
 -- a call, and its answer
@@ -71,6 +71,17 @@ IsFinalFlush (Err e) = error_kind e ≢ Interrupted
 abbrev pub Gathers : {W : Type 0} → Result ℕ Error → (bytes held held' : List ℕ) → (old new : W) → Type 0
 Gathers r bytes held held' old new =
     length held + length bytes ≤ 65536 → (r ≡ Ok (length bytes)) × (held' ≡ held ++ bytes) × (new ≡ old)
+
+-- An answer that says that the other end of a pipe is closed.
+abbrev pub IsGone : {A : Type 0} → Result A Error → Type 0
+IsGone (Ok x) = ⊥
+IsGone (Err e) = error_kind e ≡ BrokenPipe
+
+-- The last call answered so.
+abbrev pub EndsGone : List Call → Type 0
+EndsGone [] = ⊥
+EndsGone (Write bytes answer ∷ cs) = IsGone answer
+EndsGone (Flush answer ∷ cs) = IsGone answer
 
 -- The last call was a flush that succeeded.
 abbrev pub EndsInFlush : List Call → Type 0

@@ -53,10 +53,6 @@ IsOpenText t = t.ending ≡ Fault
 abbrev pub NeedsMore : ℕ → Text → Type 0
 NeedsMore k t = IsOpenText t × (length t.image < k)
 
--- The bytes returned so far had not ended their text: a failure in place of the next would be a fault.
-abbrev pub HasNotEnded : (List ℕ → Stop → Text) → Type 0
-HasNotEnded text = IsOpenText (text [] Failed)
-
 -- Each of these bytes, and the stop where there is one, was returned by a call at which this holds of the text of
 -- those before it, with a failure in place of the next.
 abbrev pub CalledWhere : (Text → Type 0) → (List ℕ → Stop → Text) → List ℕ → Option Stop → Type 0

@@ -1,3 +1,4 @@
+use Rattle.x86_cli.proofs.ListingLemmas.Live.{ran_lives}
 use Rattle.x86_cli.proofs.commands.command.obey.Goals as goal
 
 pub returns-in-List : goal.returns-in-List
@@ -11,3 +12,7 @@ returns-in-Tighten g c = rw c.in-Tighten.is (rw c.default-default.ensures at c.l
 
 pub returns-in-Sweep : goal.returns-in-Sweep
 returns-in-Sweep g c = rw c.in-Sweep.is (rw c.default-default.ensures at c.list-in-Sweep.ensures)
+
+pub returns-in-Targets : goal.returns-in-Targets
+returns-in-Targets g c =
+    rw c.in-Targets.is (ran_lives g.S.Source.gives g.S.Source.ahead g.K.Sink.takes g.T.Settling.settles _ _ _ _ _ _ _ (rw c.default-default.ensures at c.targets.ensures))

@@ -1,4 +1,4 @@
-use Rattle.std.proofs.Common.{rules, arith, ◌≡◌, ◌+◌, suc, Ok, Err}
+use Rattle.std.proofs.Common.{rules, Ok, Err}
 use Rattle.std.proofs.KnownBytes.{Keeps-trans}
 use Rattle.x86_streams.proofs.OutsideLemmas.Reads.{kept_read, interrupted_more}
 use Rattle.x86_streams.proofs.outside.reading.read_some.Goals as goal

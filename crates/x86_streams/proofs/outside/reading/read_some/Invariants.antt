@@ -1,4 +1,3 @@
-use Rattle.std.proofs.Common.{◌≡◌, length}
 use Rattle.std.specs.Io.KnownBytes.{Keeps}
 use Rattle.x86_streams.specs.Outside.Reads.{Interruptions}
 use Rattle.x86_streams.proofs.outside.reading.read_some.Given as goal
