@@ -23,7 +23,7 @@ use Rattle.x86_streams.specs.Text.{Text, text_of}
 use Rattle.x86_streams.specs.Text.Reading.{MayCome}
 use Rattle.x86_cli.specs.Listings.Listing.{Listing, with_lines, at_end}
 use Rattle.x86_cli.specs.Listings.Calls.{OutsideCall, Next, Take, Put, Settle, returned, lines_of, stop_of, Unfailed, IsSettled, Waits, AreListed, Calls, Lives}
-use Rattle.x86_cli.specs.Commands.Program.{Task, StreamCall, Read, Send, bytes_read, stop_after, read_stop, writer_calls, IsFlushed, AreBeforeFault, ReadsByRule, ending_of, fault_of, StreamCalls, Performs}
+use Rattle.x86_cli.specs.Commands.Program.{Task, StreamCall, Read, Send, bytes_read, read_stop, writer_calls, IsFlushed, AreBeforeFault, ReadsByRule, ending_of, fault_of, StreamCalls, Performs}
 use Rattle.x86_cli.proofs.CommandLemmas.Causes.{some_stop}
 use Rattle.x86_cli.proofs.CommandLemmas.Obeys.{whole_listed}
 use Rattle.x86_cli.proofs.CommandLemmas.Says.{written_part}
@@ -60,9 +60,9 @@ ends_flushed [] h = tt
 ends_flushed (c ∷ cs) h = h
 
 -- reads that return bytes
-read_on : (n : ℕ) → 0 < n → stop_after (Ok n) ≡ None
-read_on zero some = absurd (omega (arith, some))
-read_on (suc n) some = refl
+read_on : (n : ℕ) (buffer : List ℕ) (ds : List StreamCall) → 0 < n → read_stop (Read buffer (Ok n) ∷ ds) ≡ None
+read_on zero buffer ds some = absurd (omega (arith, some))
+read_on (suc n) buffer ds some = refl
 
 has_room : (n : ℕ) (buffer : List ℕ) (b : ℕ) (rest : List ℕ) → take n buffer ≡ b ∷ rest → 0 < length buffer
 has_room zero [] b rest e = cc
@@ -169,7 +169,7 @@ module _ {R W : Type 0} {h : _} (reads : R → List ℕ → Result ℕ Error →
     fetched : (cs cs' : List OutsideCall) (t t' : StdSource R h) (l : StdSink (Gathered W)) (buffer : List ℕ) (answer : Result ℕ Error) → Streamed cs t l → 0 < length buffer →
         ReadsUninterrupted reads buffer answer (source_reader t) (source_reader t') → source_bytes t ≡ [] → stop_of cs ≡ None → IsSettled cs →
         task.known (text_of task.max (returned cs) Failed) ≡ with_lines (lines_of cs) (at_end Fault) →
-        returned cs ++ taken_by answer buffer ≡ returned cs' ++ source_bytes t' → stop_after answer ≡ stop_of cs' →
+        returned cs ++ taken_by answer buffer ≡ returned cs' ++ source_bytes t' → ((ds : List StreamCall) → read_stop (Read buffer answer ∷ ds) ≡ stop_of cs') →
         ((xs : List ℕ) (e : Stop) → MayCome (stop_of cs') xs e → MayCome (stop_of cs') (source_bytes t' ++ xs) e) → lines_of cs' ≡ lines_of cs → Streamed cs' t' l
     fetched cs cs' t t' l buffer answer i room read gone unstopped settled known more stop held lines =
         let all : bytes_read i.calls ≡ returned cs = i.read ∙ ap (λ bs. returned cs ++ bs) gone ∙ append-nil (returned cs) in
@@ -183,7 +183,7 @@ module _ {R W : Type 0} {h : _} (reads : R → List ℕ → Result ℕ Error →
           rule = (i.rule, room, i.stop ∙ unstopped, flushed.1, before);
           unfailed = i.unfailed;
           read = ap (λ bs. bs ++ taken_by answer buffer) all ∙ more;
-          stop = stop;
+          stop = stop i.calls;
           held = held;
           put = i.put ∙ ap concat (sym lines);
           settled = λ is. flushed;
@@ -194,7 +194,7 @@ module _ {R W : Type 0} {h : _} (reads : R → List ℕ → Result ℕ Error →
     fetched_byte cs b t t' l i w (inl same) = released cs (Next (got.Byte b) ∷ cs) b t t' l i same.0 same.1 refl refl w.1.1 refl (λ is. is)
     fetched_byte cs b t t' l i w (inr read) =
         fetched cs (Next (got.Byte b) ∷ cs) t t' l read.1.0 (Ok read.1.1) i (has_room read.1.1 read.1.0 b (source_bytes t') read.1.4) read.1.3 read.0 w.1.1 w.2 w.3
-        (ap (λ bs. returned cs ++ bs) read.1.4 ∙ sym (append_assoc (returned cs) (b ∷ []) (source_bytes t'))) (read_on read.1.1 read.1.2 ∙ sym w.1.1) (λ xs e may. rw (w.1.1) tt) refl
+        (ap (λ bs. returned cs ++ bs) read.1.4 ∙ sym (append_assoc (returned cs) (b ∷ []) (source_bytes t'))) (λ ds. read_on read.1.1 read.1.0 ds read.1.2 ∙ sym w.1.1) (λ xs e may. rw (w.1.1) tt) refl
 
     taken_byte : (cs : List OutsideCall) (b : ℕ) (t t' : StdSource R h) (l : StdSink (Gathered W)) → Streamed cs t l → stop_of cs ≡ None → source_bytes t ≡ b ∷ source_bytes t' →
         Fetches reads (got.Byte b) (source_bytes t) (source_reader t) (source_bytes t') (source_reader t') → Streamed (Take b ∷ cs) t' l
@@ -207,11 +207,11 @@ module _ {R W : Type 0} {h : _} (reads : R → List ℕ → Result ℕ Error →
     streamed (Next got.End ∷ cs) t l d w u =
         let read = d.2.1 in
         fetched cs (Next got.End ∷ cs) d.0 t l read.2.0 (Ok 0) (streamed cs d.0 l d.1 w.0 u) read.2.1 read.2.2 read.0 w.1.1 w.2 w.3
-        (rw (read.1) (sym (append-nil (returned cs ++ [])))) refl (λ xs e may. rw (read.1) may) refl
+        (rw (read.1) (sym (append-nil (returned cs ++ [])))) (λ ds. refl) (λ xs e may. rw (read.1) may) refl
     streamed (Next got.Failed ∷ cs) t l d w u =
         let read = d.2.1 in
         fetched cs (Next got.Failed ∷ cs) d.0 t l read.2.0 (Err read.2.1) (streamed cs d.0 l d.1 w.0 u) read.2.2 read.2.3 read.0 w.1.1 w.2 w.3
-        (rw (read.1) (sym (append-nil (returned cs ++ [])))) refl (λ xs e may. rw (read.1) may) refl
+        (rw (read.1) (sym (append-nil (returned cs ++ [])))) (λ ds. refl) (λ xs e may. rw (read.1) may) refl
     streamed (Take b ∷ cs) t l d w u = taken_byte cs b d.0 t l (streamed cs d.0 l d.1 w.0 u) w.1.1 d.3 d.2.1
     streamed (Put piece (Ok done) ∷ cs) t l d w u =
         forwarded tt piece cs (Put piece (Ok done) ∷ cs) t d.0 l (streamed cs t d.0 d.1 w.0 u) (flat writes flushes (Ok tt) piece _ _ d.2.1) refl refl (concat_snoc (lines_of cs) piece) (λ e. absurd e)

@@ -49,20 +49,10 @@ listed_at Targeted place t = targets_at false place t
 abbrev pub listing_for : Command → Text → Listing
 listing_for c t = listed_at c 0 t
 
--- the most bytes of a text, and of one whose image is held whole
-abbrev pub text_max : ℕ
-text_max = 67108864
-
-abbrev pub targets_max : ℕ
-targets_max = 16384
-
--- the most bytes of a text that a command reads
+-- the most bytes of a text that a command reads: fewer of one whose image is held whole
 abbrev pub max_of : Command → ℕ
-max_of (Listed strict) = text_max
-max_of Fielded = text_max
-max_of Tightened = text_max
-max_of Swept = text_max
-max_of Targeted = targets_max
+max_of Targeted = 16384
+max_of c = 67108864
 
 -- A command that continues after refusals is never refused.
 abbrev pub goes_past_refusals : Command → Bool
@@ -76,7 +66,7 @@ goes_past_refusals Targeted = true
 abbrev pub known_for : Command → Text → Listing
 known_for Swept t = known_sweep_at false 0 t
 known_for Targeted t = at_end t.ending
-known_for c t = listing_for c t
+known_for c t = listed_at c 0 t
 
 -- What a command does with a source and a sink that is settled: its calls in one order, by the rule of reading.
 abbrev pub Obeys : {S K : Type 0} → (S → Got → S → Type 0) → (S → List ℕ) → (K → List ℕ → Result ⊤ SinkFailed → K → Type 0) → (K → Result ⊤ SinkFailed → K → Type 0) →

@@ -20,27 +20,18 @@ use Rattle.x86_cli.specs.Listings.Listing.{Listing}
 
 -- ---- encoding i: opcode 03, a ModRM of the memory form, SIB where ModRM requires one, and a displacement
 
--- the memory forms are the ModRM bytes below 192, whose mod is 00, 01 or 10
-abbrev pub made_modrm : ℕ → ℕ
-made_modrm i = i % 192
-
-abbrev pub made_sib : ℕ → ℕ
-made_sib i = (i / 192) % 256
-
 -- mod 10; mod 00 with rm 101; mod 00 with rm 100 and base 101
 abbrev pub has_long_displacement : ℕ → ℕ → Bool
 has_long_displacement m s = (mod_field m == 2) || ((mod_field m == 0) && ((rm_field m == 5) || ((rm_field m == 4) && (base_field s == 5))))
 
-abbrev pub sib_bytes : ℕ → ℕ → List ℕ
-sib_bytes m s = if rm_field m == 4 then s ∷ [] else []
-
-abbrev pub displacement_bytes : ℕ → ℕ → ℕ → List ℕ
-displacement_bytes m s i =
-    if mod_field m == 1 then (i % 256) ∷ []
-    else (if has_long_displacement m s then to_le_bytes w32 i else [])
-
+-- the memory forms are the ModRM bytes below 192, whose mod is 00, 01 or 10
 unfoldable pub generate : ℕ → List ℕ
-generate i = (0x03 ∷ made_modrm i ∷ []) ++ sib_bytes (made_modrm i) (made_sib i) ++ displacement_bytes (made_modrm i) (made_sib i) i
+generate i =
+    let modrm = i % 192 in
+    let sib = (i / 192) % 256 in
+    (0x03 ∷ modrm ∷ []) ++ (if rm_field modrm == 4 then sib ∷ [] else [])
+    ++ (if mod_field modrm == 1 then (i % 256) ∷ []
+    else (if has_long_displacement modrm sib then to_le_bytes w32 i else []))
 
 -- ---- counting
 
@@ -67,17 +58,15 @@ abbrev pub answer_has : (Operand → Bool) → Result Instruction DecodeError �
 answer_has test (Ok i) = has_operand test i
 answer_has test (Err e) = false
 
-abbrev pub counted : Tally → List ℕ → Result Instruction DecodeError → Tally
-counted t bytes answer = record {
-  bytes = t.bytes + length bytes;
-  at_rip = t.at_rip + one_if (answer_has is_at_rip answer);
-  absolute = t.absolute + one_if (answer_has is_absolute answer);
-}
-
 -- the bytes of the first n encodings, and how many of their answers have an operand at rip, and an absolute one
 unfoldable pub tally_of : ℕ → Tally
 tally_of zero = record { bytes = 0; at_rip = 0; absolute = 0 }
-tally_of (suc n) = counted (tally_of n) (generate n) (answer_of false (generate n))
+tally_of (suc n) =
+    let answer = answer_of false (generate n) in record {
+      bytes = (tally_of n).bytes + length (generate n);
+      at_rip = (tally_of n).at_rip + one_if (answer_has is_at_rip answer);
+      absolute = (tally_of n).absolute + one_if (answer_has is_absolute answer);
+    }
 
 unfoldable pub tally_text : ℕ → Tally → List ℕ
 tally_text n t =

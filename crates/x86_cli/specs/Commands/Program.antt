@@ -14,7 +14,7 @@ use Rattle.x86_streams.specs.Outside.Writes.{Call, Cause, Does, EndsInFlush, End
 use Rattle.x86_streams.specs.Text.{Text, text_of}
 use Rattle.x86_streams.specs.Text.Reading.{MayCome}
 use Rattle.x86_cli.specs.Listings.Listing.{Listing, with_lines, at_end}
-use Rattle.x86_cli.specs.Commands.Command.{listing_for, known_for, max_of, command_of}
+use Rattle.x86_cli.specs.Commands.Command.{listed_at, known_for, max_of, command_of}
 use Rattle.x86_cli.specs.Commands.Make.{IsMake, made_listing}
 use Rattle.x86_cli.specs.Commands.Says.{full_listing, taken_listing}
 
@@ -27,7 +27,7 @@ pub record Task : Type 0 where
   pub lists : Text → Listing
 
 abbrev pub task_of : Command → Task
-task_of c = record { max = max_of c; known = known_for c; lists = listing_for c }
+task_of c = record { max = max_of c; known = known_for c; lists = listed_at c 0 }
 
 -- `make` lists its line, whatever the text is
 abbrev pub making : ℕ → Task
@@ -51,14 +51,11 @@ bytes_read (Read buffer answer ∷ cs) = bytes_read cs ++ taken_by answer buffer
 bytes_read (Send call ∷ cs) = bytes_read cs
 
 -- what stopped them: a read that returned no byte, or an error
-abbrev pub stop_after : Result ℕ Error → Option Stop
-stop_after (Ok zero) = Some End
-stop_after (Ok (suc n)) = None
-stop_after (Err e) = Some Failed
-
 abbrev pub read_stop : List StreamCall → Option Stop
 read_stop [] = None
-read_stop (Read buffer answer ∷ cs) = stop_after answer
+read_stop (Read buffer (Ok zero) ∷ cs) = Some End
+read_stop (Read buffer (Ok (suc n)) ∷ cs) = None
+read_stop (Read buffer (Err e) ∷ cs) = Some Failed
 read_stop (Send call ∷ cs) = read_stop cs
 
 abbrev pub writer_calls : List StreamCall → List Call

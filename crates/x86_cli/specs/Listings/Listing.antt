@@ -56,7 +56,7 @@ decoded_of strict (x ∷ xs) e = decoded_at_end (answer_of strict (x ∷ xs)) e
 module _ (strict : Bool) (text : ℕ → Instruction → List ℕ → List ℕ) where
   abbrev pub listed : Decoded Instruction → ℕ → List ℕ → (ℕ → Listing) → Listing
   listed (Whole i) place bytes after = with_lines (line (text place i (take (length_of i) bytes)) ∷ []) (after (length_of i - 1))
-  listed (Refused error) place bytes after = at_refusal place error
+  listed (Refused error) place bytes after = record { lines = line (refusal_of place error) ∷ []; status = status.Refused }
   listed (Ended e) place bytes after = at_end e
 
   -- the listing of an image from a place on, without its first bytes that belong to an instruction before

@@ -57,9 +57,9 @@ pub fn ending_of(status: Status, flushed: &Result<(), SinkFailed>) -> Status
 ///   that aren't empty. The writer took a prefix of the listing.
 ///
 /// At every status but `WriteFault` and `Usage` the writer's last call was a flush that succeeded. Only a call that a
-/// signal interrupted is made again. No read follows the end of the input, an error, or the end of the text. What is
-/// gathered is sent and flushed before each read (`run_settling`). That `Input` and `Output` pass each call on to std's is
-/// checked by inspection.
+/// signal interrupted is made again. A read is made only where what was read decides no more, and all that it decides
+/// was written and flushed: none before a line that is decided, after a refusal, the end, an error or a failed write.
+/// That `Input` and `Output` pass each call on to std's is checked by inspection.
 pub fn listed<R: Input + Drop, W: Output + Drop>(
     arguments: &[String],
     reader: R,

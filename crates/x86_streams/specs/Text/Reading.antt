@@ -3,7 +3,7 @@ use Rattle.std.specs.Prelude.{◌≡◌, ℕ, ◌+◌, ◌<◌, ◌≤◌, List,
 use Rattle.x86_streams.specs.declared.outside.source.Got.{Got}
 use Rattle.x86_streams.specs.declared.outside.source.Got.TheVariants as got
 use Rattle.x86_streams.specs.declared.text.reader.Ending.{Ending}
-use Rattle.x86_streams.specs.declared.text.reader.Ending.TheVariants.{Fault}
+use Rattle.x86_streams.specs.declared.text.reader.Ending.TheVariants.{Bad, Large, Fault}
 use Rattle.x86_streams.specs.Outside.Stop.{Stop, End, Failed}
 use Rattle.x86_streams.specs.declared.text.reader.Piece.{Piece}
 use Rattle.x86_streams.specs.declared.text.reader.Piece.TheVariants.{Byte, Stopped}
@@ -44,6 +44,12 @@ HasNoStop (Stopped e) stop = ⊤
 abbrev pub UsesRoom : Piece → ℕ → ℕ → Type 0
 UsesRoom (Byte v) old new = new + 2 ≤ old
 UsesRoom (Stopped e) old new = new ≤ old
+
+-- Where a reader is once it has stopped: at the byte that isn't allowed there, or where no more may be taken.
+abbrev pub StaysAt : Piece → ℕ → ℕ → Type 0
+StaysAt (Stopped (Bad n)) position room = position ≡ n
+StaysAt (Stopped Large) position room = room ≡ 0
+StaysAt piece position room = ⊤
 
 -- The text of bytes after which their source failed: it had not ended before, so that the failure is its end.
 abbrev pub IsOpenText : Text → Type 0

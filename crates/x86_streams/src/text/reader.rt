@@ -2,7 +2,7 @@
 
 ghost use Rattle.std.specs.Prelude.{◌≡◌, ℕ, ◌+◌, ◌<◌, ◌≤◌, take, true, false};
 ghost use Rattle.x86_streams.specs.Text.{is_blank, value_of};
-ghost use Rattle.x86_streams.specs.Text.Reading.{Reads, UsesRoom};
+ghost use Rattle.x86_streams.specs.Text.Reading.{Reads, StaysAt, UsesRoom};
 
 use crate::outside::source::{Got, Source};
 use crate::text::kinds::{Kind, kind_of};
@@ -114,6 +114,7 @@ impl TextReader {
             S.gives before (Got.Byte x) source.old →
             Reads S.gives result position room self.new.position self.new.room before source.new }
         ensures uses { UsesRoom result (self.old.room + 1) self.new.room }
+        ensures stays { StaysAt result self.new.position self.new.room }
     {
         match source.next() {
             Got::End => Piece::Stopped(Ending::Bad(self.position())),
@@ -133,13 +134,15 @@ impl TextReader {
         }
     }
 
-    /// Takes bytes up to the next pair, or the end of the text.
+    /// Takes bytes up to the next pair, or the end of the text. Where the text ends at a byte that isn't allowed, the
+    /// reader stays at its place, and where it is too long after the bytes that may be taken.
     #[inline(always)]
     #[tactic(auto, using(crate::proofs::TextLemmas::Read::skips_blank))]
     pub fn next<S: Source>(&mut self, source: &mut S) -> Piece
         ensures reads { Reads S.gives result self.old.position self.old.room self.new.position
             self.new.room source.old source.new }
         ensures uses { UsesRoom result self.old.room self.new.room }
+        ensures stays { StaysAt result self.new.position self.new.room }
     {
         loop {
             match source.next() {
