@@ -44,6 +44,7 @@ use std::io::{Read, Write};
 use x86_decode::laws;
 pub use x86_streams::laws::{first, reported, sequences};
 use x86_streams::{Got, Input, Output, Sink, SinkFailed, Source};
+use x86_text::LINE_ROOM;
 
 /// The headline, under either choice: what is proved of every byte string, of every run over a source and a sink, and of
 /// what the program leaves of a reader and a writer whose bytes are known.
@@ -92,15 +93,16 @@ pub fn commands_have_their_lines<L: Lines + Drop>()
         (bytes : List ℕ) → ⟦<LeastLines as Lines>⟧.text l strict place i bytes
         ≡ least_text place (length_of i) (shortest_length strict bytes) }
     ensures up_to_refusal { (c : UpToRefusal L) (strict : Bool) (place : ℕ) (t : Text) →
-        ⟦<UpToRefusal<L> as Course>⟧.lists c strict place t
+        ⟦<UpToRefusal<L> as Course<LINE_ROOM>>⟧.lists c strict place t
         ≡ listing_at strict (L.text c.lines strict) place t }
     ensures known_up_to_refusal { (c : UpToRefusal L) (strict : Bool) (place : ℕ) (t : Text) →
-        ⟦<UpToRefusal<L> as Course>⟧.knows c strict place t
+        ⟦<UpToRefusal<L> as Course<LINE_ROOM>>⟧.knows c strict place t
         ≡ listing_at strict (L.text c.lines strict) place t }
     ensures past_refusals { (c : PastRefusals) (strict : Bool) (place : ℕ) (t : Text) →
-        ⟦<PastRefusals as Course>⟧.lists c strict place t ≡ sweep_at strict place t }
+        ⟦<PastRefusals as Course<LINE_ROOM>>⟧.lists c strict place t ≡ sweep_at strict place t }
     ensures known_past_refusals { (c : PastRefusals) (strict : Bool) (place : ℕ) (t : Text) →
-        ⟦<PastRefusals as Course>⟧.knows c strict place t ≡ known_sweep_at strict place t }
+        ⟦<PastRefusals as Course<LINE_ROOM>>⟧.knows c strict place t
+        ≡ known_sweep_at strict place t }
 {}
 
 /// A listing ends with the same status whatever its lines are, as those of `list` and `fields` do.

@@ -1,2 +1,3 @@
--- The lemmas on places.
+-- The lemmas on places, and on digits in hexadecimal.
 pub mod PlaceLemmas
+pub mod HexadecimalLemmas

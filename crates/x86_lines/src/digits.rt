@@ -57,7 +57,7 @@ static HEX: [[u8; 2]; 256] = [
 
 /// The two hex digits of a byte.
 #[inline(always)]
-fn hex_of(byte: u8) -> &'static [u8; 2]
+pub(crate) fn hex_of(byte: u8) -> &'static [u8; 2]
     ensures { result.now ≡ encode_lower (byte ∷ []) }
 {
     &HEX[byte as usize]

@@ -10,11 +10,12 @@
 //! ```
 //!
 //! A `Room` takes no memory, and its calls require room where they append. A `Place` counts on, and keeps its decimal.
-//! The modules `cells` and `digits` write a text by its pieces, without a length that is kept at each one.
+//! The modules `cells`, `digits` and `hexadecimal` write a text by its pieces, without a length that is kept at each one.
 #![tactic(auto)]
 
 pub mod cells;
 pub mod digits;
+pub mod hexadecimal;
 pub mod laws;
 mod place;
 mod room;

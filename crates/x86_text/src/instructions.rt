@@ -77,7 +77,7 @@ fn put_operands(cells: &mut [u8], at: usize, instruction: &Instruction) -> usize
 
 /// The memory size of an instruction in bytes: 0 where its row has none, and 63 where the processor decides.
 #[inline(always)]
-fn size_number(instruction: &Instruction) -> u8
+pub fn size_number(instruction: &Instruction) -> u8
     ensures { result ≡ mem_size_number instruction.now }
 {
     match instruction.mem_size() {

@@ -8,7 +8,8 @@
 //! ```
 //!
 //! Each text is a `Line`, which takes no memory. The calls that begin with `push` append to a line that is there, for
-//! a caller's additional columns; those that begin with `write` write over it.
+//! a caller's additional columns; those that begin with `write` write over it. Those that begin with `put` write a part
+//! of a text at a place in cells, as the calls of x86_lines do, for lines of a caller's own.
 #![tactic(auto)]
 
 mod instructions;
@@ -21,8 +22,11 @@ mod refusals;
 mod registers;
 mod sizes;
 
-pub use instructions::{instruction_text, line_of, push_instruction, write_instruction};
-pub use operands::{operand_text, push_operand};
+pub use instructions::{
+    instruction_text, line_of, push_instruction, size_number, write_instruction,
+};
+pub use names::{put_mnemonic, put_register};
+pub use operands::{operand_text, push_operand, put_scaled};
 pub use parts::{fields_line, write_fields};
 pub use refusals::{refusal_of, write_refusal};
 pub use x86_lines::{LINE_MAX, LINE_ROOM, Line, Place, Room};

@@ -54,6 +54,16 @@ pub(crate) fn mnemonic(opcode: Opcode) -> &'static Name<16>
     &MNEMONICS[opcode.number() as usize]
 }
 
+/// Writes the mnemonic of an opcode.
+#[inline(always)]
+pub fn put_mnemonic(cells: &mut [u8], at: usize, opcode: Opcode) -> usize
+    requires { at + 16 ≤ length cells.old }
+    ensures text { take result cells.new ≡ take at cells.old ++ mnemonic opcode }
+    ensures short { result ≤ at + 16 }
+{
+    put_name(cells, at, mnemonic(opcode))
+}
+
 /// A size after a space and an m, of the sizes that instructions have. With `inline(always)` this would be three tests in
 /// the caller, in place of one.
 pub(crate) fn size_name(size: u8) -> Option<&'static Name<4>>
@@ -98,7 +108,7 @@ fn names_of(class: RegisterClass) -> &'static [Name<8>]
 /// Writes the name of a register, or nothing where its class has no such number.
 #[inline(always)]
 #[tactic(auto, unfolding(crate::specs::Operands::register_text))]
-pub(crate) fn put_register(cells: &mut [u8], at: usize, register: &RegSpec) -> usize
+pub fn put_register(cells: &mut [u8], at: usize, register: &RegSpec) -> usize
     requires { at + 8 ≤ length cells.old }
     ensures text { take result cells.new ≡ take at cells.old ++ register_text register.now }
     ensures short { result ≤ at + 6 }

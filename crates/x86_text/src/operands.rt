@@ -47,8 +47,9 @@ fn put_displacement(cells: &mut [u8], at: usize, disp: i32) -> usize
     put_u32(cells, at, disp.unsigned_abs())
 }
 
+/// Writes a base and a plus, where there is a base, and an index with its scale.
 #[inline(always)]
-fn put_scaled(
+pub fn put_scaled(
     cells: &mut [u8],
     at: usize,
     base: Option<RegSpec>,

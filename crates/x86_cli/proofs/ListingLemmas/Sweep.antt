@@ -38,7 +38,7 @@ module _ (strict : Bool) where
       grind (arith, fits, drop-append-le (cut_length a) w, length-append {A = ℕ})
 
   -- a cut that more bytes don't change
-  before_sure : (a : Result Instruction DecodeError) (lines : List (List ℕ)) → a ≢ Err ExhaustedInput → before_open a lines ≡ lines
+  pub before_sure : (a : Result Instruction DecodeError) (lines : List (List ℕ)) → a ≢ Err ExhaustedInput → before_open a lines ≡ lines
   before_sure a lines ne = grind arith
 
   known-cut : (n len : ℕ) (xs : List ℕ) (e : Ending) (a : Result Instruction DecodeError) → answer_of strict xs ≡ a → a ≢ Err ExhaustedInput → cut_length a ≡ len → 0 < len → len ≤ length xs →
@@ -62,11 +62,11 @@ module _ (strict : Bool) where
 
 -- what a window that isn't empty shows
 module _ (strict : Bool) (laws : DecoderLaws strict) where
-  answer_shows : (a : Result Instruction DecodeError) (w : List ℕ) → answer_of strict w ≡ a → 0 < length w → (0 < cut_length a) × (cut_length a ≤ length w)
+  pub answer_shows : (a : Result Instruction DecodeError) (w : List ℕ) → answer_of strict w ≡ a → 0 < length w → (0 < cut_length a) × (cut_length a ≤ length w)
   answer_shows a w h some = let l = laws.lengths w in grind arith
 
   -- a window whose answer stays, or after which nothing comes
-  same_answer : (ended : Option Ending) (w : List ℕ) (p r : ℕ) → (ended ≡ None → answer_of strict w ≢ Err ExhaustedInput) → (xs : List ℕ) (stop : Stop) →
+  pub same_answer : (ended : Option Ending) (w : List ℕ) (p r : ℕ) → (ended ≡ None → answer_of strict w ≢ Err ExhaustedInput) → (xs : List ℕ) (stop : Stop) →
       answer_of strict (rest_of ended w p r xs stop).image ≡ answer_of strict w
   same_answer None w p r sure xs stop = laws.stay w (text_at p r xs stop).image (sure refl)
   same_answer (Some e) w p r sure xs stop = refl

@@ -36,7 +36,7 @@ pub fn words<I: Iterator<Item = String> + Drop>(
 }
 
 /// Writes a line.
-fn report<E: Output + Drop>(said: &str, errors: E) -> E
+pub fn report<E: Output + Drop>(said: &str, errors: E) -> E
     requires { length said.now ≤ line_width }
     ensures { Reports E.writes E.flushes (Some (line said.now)) errors result }
 {

@@ -22,7 +22,7 @@ pub struct Finished<R: Drop, W: Drop> {
 
 /// Flushes what a run gathered. After a failed write nothing more is sent, and where the arguments are no command there
 /// is nothing to send.
-fn send_rest<W: Output + Drop>(status: Status, out: &mut Gathered<W>) -> Result<(), SinkFailed>
+pub fn send_rest<W: Output + Drop>(status: Status, out: &mut Gathered<W>) -> Result<(), SinkFailed>
     ensures usage { status ≡ Status.Usage → out.new ≡ out.old }
     ensures failed { status ≡ Status.WriteFault → out.new ≡ out.old }
     ensures sends { status ≢ Status.Usage → status ≢ Status.WriteFault →
@@ -37,7 +37,7 @@ fn send_rest<W: Output + Drop>(status: Status, out: &mut Gathered<W>) -> Result<
 }
 
 /// How the program ends, where its run ended so and the flush after it answered this.
-fn ending_of(status: Status, flushed: &Result<(), SinkFailed>) -> Status
+pub fn ending_of(status: Status, flushed: &Result<(), SinkFailed>) -> Status
     ensures { result ≡ ending_of status flushed.now }
 {
     match flushed {

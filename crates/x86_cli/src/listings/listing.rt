@@ -19,11 +19,11 @@ use crate::text::window::{Decoded, decode_next};
 use x86_decode::{InstDecoder, Instruction};
 use x86_fields::DecodeError;
 use x86_streams::{Ending, Settling, Sink, SinkFailed, Source, Window};
-use x86_text::{Line, Place, refusal_of};
+use x86_text::{LINE_ROOM, Line, Place, Room, refusal_of};
 
 /// Writes a line with its end.
-pub fn put_line<K: Sink>(sink: &mut K, text: &mut Line) -> Result<(), SinkFailed>
-    requires { array_vec_len text.old ≤ line_width }
+pub fn put_line<const N: usize, K: Sink>(sink: &mut K, text: &mut Room<N>) -> Result<(), SinkFailed>
+    requires { array_vec_len text.old < N }
     ensures { K.takes sink.old (line text.old.items) result sink.new }
 {
     text.push(b'\n');
@@ -89,8 +89,8 @@ pub enum Entry {
     Undecided,
 }
 
-/// How a listing goes through an image.
-pub trait Course {
+/// How a listing goes through an image, with room for `N` bytes in a line.
+pub trait Course<const N: usize> {
     /// The listing of a text from a place on.
     ghost lists: { Self → Bool → ℕ → Text → Listing };
 
@@ -104,14 +104,14 @@ pub trait Course {
         window: &Window,
         place: &Place,
         inst: &mut Instruction,
-        line: &mut Line,
+        line: &mut Room<N>,
     ) -> Entry
         ensures next { IsEntry
             (lists self.now (is_strict decoder.now)) (knows self.now (is_strict decoder.now))
             result place.now line.new.items
             window.now.ended window.now.bytes.items window.now.reader.position
             window.now.reader.room }
-        ensures short { (n : ℕ) → result ≡ Entry.Line n → array_vec_len line.new ≤ line_width };
+        ensures short { (n : ℕ) → result ≡ Entry.Line n → array_vec_len line.new < N };
 }
 
 /// The listing that ends at a refusal, with these lines.
@@ -120,7 +120,7 @@ pub struct UpToRefusal<L: Lines + Drop> {
     pub lines: L,
 }
 
-impl<L: Lines + Drop> Course for UpToRefusal<L> {
+impl<L: Lines + Drop> Course<LINE_ROOM> for UpToRefusal<L> {
     ghost lists = { λ s strict place text. listing_at strict (L.text s.lines strict) place text };
 
     ghost knows = { λ s strict place text. listing_at strict (L.text s.lines strict) place text };
@@ -153,7 +153,7 @@ impl<L: Lines + Drop> Course for UpToRefusal<L> {
 
 /// Writes the listing of the source's text. Each line is put as soon as it is decided, and the source is called only
 /// where what was read decides no more, once the sink is settled.
-pub fn list<W: Course, S: Source, K: Sink, T: Settling<K>>(
+pub fn list<const N: usize, W: Course<N>, S: Source, K: Sink, T: Settling<K>>(
     decoder: &InstDecoder,
     course: &W,
     settling: &T,
@@ -161,7 +161,8 @@ pub fn list<W: Course, S: Source, K: Sink, T: Settling<K>>(
     source: &mut S,
     sink: &mut K,
 ) -> Status
-    requires { max < 2 ^ 62 }
+    requires size { N < 2 ^ 32 }
+    requires max { max < 2 ^ 62 }
     ensures { Lives S.gives S.ahead K.takes T.settles
         (W.knows course.now (is_strict decoder.now) 0)
         (W.lists course.now (is_strict decoder.now) 0)
@@ -169,7 +170,7 @@ pub fn list<W: Course, S: Source, K: Sink, T: Settling<K>>(
 {
     let mut window = Window::new(max);
     let mut inst = Instruction::invalid();
-    let mut line = Line::new();
+    let mut line: Room<N> = Room::new();
     let mut place = Place::at(0);
     'lines: loop {
         window.take_known(source);

@@ -9,7 +9,7 @@ use crate::text::window::AtRefusal;
 use x86_decode::{InstDecoder, Instruction};
 use x86_fields::DecodeError;
 use x86_streams::Window;
-use x86_text::{Line, Place, write_instruction, write_refusal};
+use x86_text::{LINE_ROOM, Line, Place, write_instruction, write_refusal};
 
 /// The listing of `sweep`: a line for each cut.
 pub struct PastRefusals;
@@ -17,7 +17,7 @@ pub struct PastRefusals;
 /// What the window shows where its bytes begin with no instruction: a refusal that more bytes can't lift is a cut.
 #[cold]
 #[inline(never)]
-fn shown_at(window: &Window, error: DecodeError) -> AtRefusal
+pub fn shown_at(window: &Window, error: DecodeError) -> AtRefusal
     ensures { IsAtCut result error window.now.ended window.now.bytes.items }
 {
     match window.ended {
@@ -35,7 +35,7 @@ fn shown_at(window: &Window, error: DecodeError) -> AtRefusal
     }
 }
 
-impl Course for PastRefusals {
+impl Course<LINE_ROOM> for PastRefusals {
     ghost lists = { λ s strict place text. sweep_at strict place text };
 
     ghost knows = { λ s strict place text. known_sweep_at strict place text };

@@ -1,7 +1,7 @@
-use Rattle.std.proofs.Common.{None, refl, rules}
+use Rattle.std.proofs.Common.{None, refl}
 use Rattle.x86_cli.proofs.TextLemmas.Decoded.{shown_answer}
 use Rattle.x86_cli.proofs.ListingLemmas.NextEntry.{entry_line, entry_refused, entry_ended, entry_undecided}
-use Rattle.x86_cli.proofs.listings.listing.UpToRefusalCourse.next.Goals as goal
+use Rattle.x86_cli.proofs.listings.listing.UpToRefusalCourseLINE_ROOM.next.Goals as goal
 
 pub returns-in-None-clause-next : goal.returns-in-None-clause-next
 returns-in-None-clause-next g c =

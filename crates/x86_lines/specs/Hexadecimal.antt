@@ -1,0 +1,26 @@
+-- Numbers in hexadecimal, and bytes as pairs of digits.
+use Rattle.std.specs.Prelude.{ℕ, suc, ℤ, pos, negsuc, List, [], ◌∷◌, ◌++◌, ◌==◌, if◌then◌else◌, map, slice_index, codes}
+use Rattle.std.specs.Int.Digits.{digits_of}
+use Rattle.std.specs.List.{flat_map}
+use Rattle.hex.specs.Hex.{lower_digits, encode_lower}
+
+-- a number in lower case, without leading zeros
+unfoldable pub hexadecimal : ℕ → List ℕ
+hexadecimal n = if n == 0 then codes "0" else map (slice_index lower_digits) (digits_of 16 n)
+
+-- after 0x
+abbrev pub prefixed : ℕ → List ℕ
+prefixed n = codes "0x" ++ hexadecimal n
+
+-- after 0x, and after a minus where it is negative
+abbrev pub signed_hexadecimal : ℤ → List ℕ
+signed_hexadecimal (pos n) = prefixed n
+signed_hexadecimal (negsuc n) = codes "-" ++ prefixed (suc n)
+
+-- a byte as two digits, and a space
+abbrev pub spaced_byte : ℕ → List ℕ
+spaced_byte byte = encode_lower (byte ∷ []) ++ codes " "
+
+-- bytes as pairs of digits, with a space after each
+abbrev pub spaced_bytes : List ℕ → List ℕ
+spaced_bytes bytes = flat_map spaced_byte bytes

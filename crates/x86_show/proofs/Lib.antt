@@ -1,0 +1,2 @@
+-- The lemmas on the listing.
+pub mod ListingLemmas

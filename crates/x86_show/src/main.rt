@@ -1,0 +1,32 @@
+//! A listing for people of the x86-64 instructions of a hex text: a line has the address, the bytes, and the instruction
+//! with hexadecimal numbers, segments, and the targets of branches.
+#![tactic(auto)]
+
+mod base;
+mod instructions;
+mod line;
+mod listing;
+mod operands;
+mod program;
+#[cfg(test)]
+mod tests;
+
+use program::{finish, shown};
+use std::process::ExitCode;
+use std::{env, io};
+use x86_cli::words;
+
+/// The words after the program's name.
+fn arguments(rt: &HostRuntime) -> io::Result<Vec<String>> {
+    Ok(words(rt.alloc(), env::args(rt)?)?)
+}
+
+fn main(rt: HostRuntime) -> ExitCode {
+    match arguments(&rt) {
+        Err(_) => ExitCode::from(1),
+        Ok(words) => {
+            let finished = shown(words.as_slice(), rt.reader(), io::writer(&rt));
+            finish(finished.status, finished.gone, rt.stderr()).0
+        }
+    }
+}
