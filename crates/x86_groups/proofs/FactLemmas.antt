@@ -1,5 +1,5 @@
 -- What holds of all rows of all groups.
-use Rattle.std.proofs.Common.{◌≡◌, ◌≤◌, ◌+◌, ℕ, nat_lt, Bool, true, false, not, ◌&&◌, ◌||◌, List, [], ◌∷◌, map, refl, arith}
+use Rattle.std.proofs.Common.{◌≡◌, ℕ, nat_lt, Bool, true, false, not, ◌&&◌, ◌||◌, List, [], ◌∷◌, map, refl}
 use Rattle.std.specs.List.{list_all, list_any}
 use Rattle.x86_fields.specs.Pieces.{total}
 use Rattle.x86_forms.specs.declared.Form.{Form}

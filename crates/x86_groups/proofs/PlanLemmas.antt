@@ -1,6 +1,6 @@
 -- The plan of a row: that it passes the tests of plans, and what it goes by in the memory form.
-use Rattle.std.proofs.Common.{◌≡◌, inl, inr, ◌≤◌, ◌+◌, ℕ, nat_lt, Bool, true, false, not, ◌&&◌, ◌||◌, if◌then◌else◌, List, [], ◌∷◌, map, refl, sym, ap, ◌∙◌, arith, true≢false}
-use Rattle.std.specs.List.{list_all, list_any}
+use Rattle.std.proofs.Common.{◌≡◌, inl, inr, ◌≤◌, ℕ, nat_lt, Bool, true, false, not, ◌&&◌, ◌||◌, map, refl, sym, ap, ◌∙◌, arith, true≢false}
+use Rattle.std.specs.List.{list_all}
 use Rattle.std.proofs.lemmas.Bool.{and_parts, or_cases}
 use Rattle.std.proofs.lemmas.Bool.Decides.{nat_tests}
 use Rattle.x86_regs.specs.declared.RegisterClass.{RegisterClass}
@@ -16,13 +16,9 @@ use Rattle.x86_fields.specs.Sizes.{class_of, v_class}
 use Rattle.x86_forms.specs.declared.Form.{Form}
 use Rattle.x86_operands.specs.declared.plans.Fault.TheVariants.{BadOpcode}
 use Rattle.x86_operands.specs.declared.plans.Moment.TheVariants.{AtModRM}
-use Rattle.x86_operands.specs.declared.plans.OperandEncodings.{OperandEncodings}
-use Rattle.x86_operands.specs.declared.plans.OperandEncodings.TheVariants as coded
-use Rattle.x86_operands.specs.declared.plans.Plan.{Plan}
-use Rattle.x86_operands.specs.declared.plans.Verdict.{Verdict}
 use Rattle.x86_operands.specs.Asks.{immediate_width}
 use Rattle.x86_operands.specs.Plans.{immediate_of, size_by}
-use Rattle.x86_operands.proofs.PlanTests.{passes, narrow, has_gap, is_gap, small_if, small_width, both, plan_passes, narrow_by}
+use Rattle.x86_operands.proofs.PlanTests.{passes, narrow, has_gap, is_gap, small_if, small_width, plan_passes}
 use Rattle.x86_groups.specs.declared.letters.Letter.{Letter}
 use Rattle.x86_groups.specs.declared.letters.Letter.TheVariants as letter
 use Rattle.x86_groups.specs.declared.letters.Letters.{Letters}
@@ -33,12 +29,11 @@ use Rattle.x86_groups.specs.declared.rows.Names.{Names}
 use Rattle.x86_groups.specs.declared.rows.Names.TheVariants.{BySuffix, ByReg, ByRm}
 use Rattle.x86_groups.specs.declared.rows.Content.{Content}
 use Rattle.x86_groups.specs.declared.rows.Content.TheVariants.{Reads, Refuses}
-use Rattle.x86_groups.specs.declared.rows.GroupRow.{GroupRow}
-use Rattle.x86_groups.specs.Columns.{Seen, choose, is_there, seen_at, distance_of, letter_encoding, operand_encodings, row_bytes, verdict_of, opcode_of, named, name_at, plan_of_row}
+use Rattle.x86_groups.specs.Columns.{choose, seen_at, distance_of, letter_encoding, operand_encodings, row_bytes, verdict_of, opcode_of, named, name_at, plan_of_row}
 use Rattle.x86_groups.specs.Groups.{group_form_plan}
 use Rattle.x86_groups.specs.Rows.{group_rows}
 use Rattle.x86_groups.proofs.RowLemmas.{AreAlike, chosen_has, chosen_alike, held_in_memory, is_register, no_rm_names, rm_free, row_absent}
-use Rattle.x86_groups.proofs.FactLemmas.{letters_list, may_have_gap, most, small_bytes, fits, row_fits, rows_fit, rm_free_letter, is_memory_letter, in_memory, row_in_memory, rows_rm_free, rows_in_memory}
+use Rattle.x86_groups.proofs.FactLemmas.{letters_list, may_have_gap, most, small_bytes, fits, row_fits, rows_fit, rm_free_letter, in_memory, row_in_memory, rows_rm_free, rows_in_memory}
 
 -- ---- the tests of plans
 

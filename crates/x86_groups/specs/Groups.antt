@@ -1,13 +1,13 @@
 -- The records of the groups: forms of which ModRM or a suffix chooses the operation. Source: Intel SDM volume 2,
 -- appendix A.4.
-use Rattle.std.specs.Prelude.{ℕ, Bool, true, false, not, ◌&&◌, if◌then◌else◌, Option, Some, None, is_some, List, [], ◌∷◌}
+use Rattle.std.specs.Prelude.{ℕ, Bool, true, false, not, ◌&&◌, if◌then◌else◌, Option, Some, None, is_some, List}
 use Rattle.x86_regs.specs.declared.Segment.{Segment}
 use Rattle.x86_regs.specs.declared.Segment.TheVariants.{DS}
 use Rattle.x86_fields.specs.declared.prefixes.Prefixes.{Prefixes}
 use Rattle.x86_fields.specs.Prefixes.{operand_size, address_size, lock, segment, rex}
 use Rattle.x86_fields.specs.Run.{rep}
 use Rattle.x86_operands.specs.declared.plans.Fault.{Fault}
-use Rattle.x86_operands.specs.declared.plans.Fault.TheVariants.{BadOpcode, BadOperand, Incomplete}
+use Rattle.x86_operands.specs.declared.plans.Fault.TheVariants.{BadOpcode, BadOperand}
 use Rattle.x86_operands.specs.declared.plans.Moment.TheVariants.{AtModRM}
 use Rattle.x86_operands.specs.declared.plans.ModrmUse.{ModrmUse}
 use Rattle.x86_operands.specs.declared.plans.ModrmUse.TheVariants.{EitherForm, Registers}
