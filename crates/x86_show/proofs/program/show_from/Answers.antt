@@ -1,8 +1,7 @@
-use Rattle.std.proofs.Common.{◌≡◌, ◌≢◌, ◌∙◌, [], Bool, List, ℕ, Result, ap, sym, false, arith}
+use Rattle.std.proofs.Common.{◌≡◌, ◌≢◌, ◌∙◌, [], Bool, List, ℕ, Result, ap, sym, false}
 use Rattle.std.specs.Prelude.{⊤}
 use Rattle.std.specs.declared.io.Error.{Error}
 use Rattle.x86_streams.specs.Outside.Seen.{sink_writer, buffer_writer, buffer_bytes, is_gone, watched_writer}
-use Rattle.x86_streams.specs.Text.{Text}
 use Rattle.x86_streams.specs.declared.text.reader.Ending.{Ending}
 use Rattle.x86_streams.specs.declared.text.reader.Ending.TheVariants.{Clean, Bad, Large, Fault}
 use Rattle.x86_cli.specs.declared.listings.status.Status.{Status}
