@@ -17,6 +17,8 @@ use Rattle.x86_layout.specs.Tightening.Tighten.{run_with, byte_with, spelled_dis
 use Rattle.x86_layout.proofs.TightenLemmas.Relative.{Reads, Last, Bytes'}
 use Rattle.x86_layout.proofs.TightenLemmas.Shortest.{shortest_is_of_bytes}
 
+-- ---- lists of bytes
+
 pub all_of : (l : List ℕ) → Bytes l → All (λ b. b < 256) l
 all_of [] h k d below = omega (arith, below)
 all_of (b ∷ l) h zero d below = h.0
@@ -30,6 +32,8 @@ taken : (n : ℕ) (l : List ℕ) → Bytes l → Bytes (take n l)
 taken zero l h = tt
 taken (suc n) [] h = tt
 taken (suc n) (b ∷ l) h = (h.0, taken n l h.1)
+
+-- ---- the pieces that change
 
 byte_stays : (x b : Bool) (byte : ℕ) → byte < 256 → byte_with x b byte < 256
 byte_stays x b byte h = grind (arith, nat_tests)
@@ -53,6 +57,8 @@ address_of_bytes raw h = both (option_bytes raw.sib) (spelled_displacement raw) 
 
 memory_is_byte : (m : ℕ) → is_memory m ≡ true → m < 256
 memory_is_byte m h = grind (arith, nat_tests)
+
+-- ---- the relative
 
 module _ {strict : Bool} {s : List ℕ} {a : Reading} (v : Encoding strict s a) {raw : Raw} (read : Reads v raw) (fit : IsOfBytes raw) where
   pub relative_of_bytes : Bytes s → Bytes (Bytes' v read fit)
