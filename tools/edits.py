@@ -2,8 +2,9 @@
 """edits.py: what refuses each must-fail edit, which its line `# expect: PLACE: GOAL` says.
 
     python3 tools/edits.py LOG..            writes these lines by logs of `rt must-fail` or `rt ci`; an edit that they don't have keeps its line
-    python3 tools/edits.py --check LOG..    names each edit without such a line, and fails where there is one. It also names each that was refused
-                                            elsewhere by the logs, and doesn't fail for that: which of two open goals comes first isn't fixed
+    python3 tools/edits.py --check          names each edit without such a line, and fails where there is one: the gate does this
+    python3 tools/edits.py --check LOG..    the same; with logs that were saved, it also names each edit that they say was refused elsewhere, and
+                                            doesn't fail for that: which of two open goals comes first isn't fixed
 
 PLACE is a function, or a file of proofs/. GOAL is the first goal or lemma that the prover names: `returns-clause-short` is the clause `short` where
 the function returns, and what is before `clause` is the path through the body.

@@ -9,7 +9,7 @@ The templates are the pages with four kinds of lines in place of code, whose pat
     @@ PATH NAME..       the definitions with these names, in this order
     @@ PATH *            those of the file that a definition of the pages uses, and that THEOREM.md doesn't show
     @! PATH BEGINNING    the item whose first line begins so: a function of src/ up to its body, a definition of proofs/ up to the next empty
-                         line, any other item up to its closing brace
+                         line, any other item up to its closing brace. After ` | ` the clauses of a function that are shown, or all
     @- PATH NAME.. | ..  a row of a table: names that are linked and not shown, and what they are. `*` are all of the file
     @index               where each name of both pages is
 
@@ -25,6 +25,8 @@ from sources import CRATES, TOP, Missing, clause_uses, definition, indent, modul
 
 PAGES = {"docs/THEOREM.md": "tools/theorem.txt", "docs/DEFINITIONS.md": "tools/definitions.txt"}
 MOST = 550
+# The longest line of code in THEOREM.md, which breaks longer ones of the sources.
+WIDE = 136
 # Words of the text that are no names of src/ or specs/.
 OTHER = set("strict data record run rows x86 list main h p f e x y r c d n k s t m v w i l unfolding".split())
 
@@ -70,6 +72,23 @@ def block(path, names, brief):
     return out + ([] if brief or not aliases(path, names) else [""]) + aliases(path, names)
 
 
+def wrapped(line):
+    """A line of code, in two or more where it is long: broken where the fewest brackets are open, at an arrow, a product or the like."""
+    if len(line) <= WIDE:
+        return [line]
+    depth, places = 0, []
+    for at, letter in enumerate(line[:WIDE]):
+        depth += (letter in "({") - (letter in ")}")
+        if at > WIDE // 3 and (line[at - 1 : at + 1] in ("→ ", "; ") or re.match(r" (×|\+\+|&&|else|then) ", line[at:])):
+            places.append((depth, -at))
+        elif at > WIDE // 3 and line[at - 2 : at + 1] == ") (":
+            places.append((depth - 0.5, -at))
+    if not places:
+        return [line]
+    at = -min(places)[1]
+    return [line[:at].rstrip(), *wrapped(" " * (indent(line) + 4) + line[at:].strip())]
+
+
 def joined(lines):
     """The lines of a value, of which short ones are in one line as far as there is room."""
     out = []
@@ -81,8 +100,19 @@ def joined(lines):
     return out
 
 
-def item(path, beginning):
+def only(clauses, lines):
+    """The lines of a function, of whose clauses these are left."""
+    kept, keep = [], True
+    for line in lines:
+        clause = re.match(r" *ensures (?:(\w+) )?\{", line)
+        keep = clause[1] in clauses if clause else keep
+        kept += [line] if keep else []
+    return kept
+
+
+def item(path, words):
     """The lines of a function of src/ without its body, or of another item whole."""
+    beginning, _, clauses = words.partition(" | ")
     lines = (CRATES / path).read_text().split("\n")
     starts = [at for at, line in enumerate(lines) if line.strip().startswith(beginning)]
     if len(starts) != 1:
@@ -94,7 +124,11 @@ def item(path, beginning):
         end = next(at for at in range(starts[0], len(lines)) if lines[at].strip() in ("{", "{}"))
     else:
         end = lines.index(margin + "}", starts[0]) + 1
-    return [line[len(margin) :] for line in lines[starts[0] : end]]
+    found = [line[len(margin) :] for line in lines[starts[0] : end]]
+    for name in clauses.split():
+        if not any(line.strip().startswith(f"ensures {name} {{") for line in found):
+            fail(f"{path} has no clause {name} after: {beginning}")
+    return only(clauses.split(), found) if clauses else found
 
 
 class Pages:
@@ -207,7 +241,8 @@ class Pages:
                 if path != source and not brief:
                     out.append(f"From [{path}](../crates/{path}):\n")
                 source = path
-                out += [("    " + it).rstrip() for it in self.code(kind, path, rest, brief)]
+                code = self.code(kind, path, rest, brief)
+                out += [("    " + part).rstrip() for it in code for part in (wrapped(it) if brief else [it])]
         return "\n".join(out) + "\n"
 
     # ---- what a page must have

@@ -19,7 +19,7 @@ use Rattle.x86_layout.specs.Parts.OfBytes.{parts_of}
 use Rattle.x86_layout.specs.Parts.Permitted.{IsPermitted, ArePartsOfSentence}
 use Rattle.x86_layout.specs.Parts.Split.{HasParts, joined}
 use Rattle.x86_layout.specs.Tightening.Least.{least_length}
-use Rattle.x86_layout.specs.Tightening.Same.{address_at}
+use Rattle.x86_layout.specs.Tightening.Same.{address_at, IsSameButInMemory}
 use Rattle.x86_layout.specs.Tightening.Tighten.{HasOperandForm, IsShortest, IsRelative}
 use Rattle.x86_streams.specs.Text.{Text}
 use Rattle.x86_cli.specs.Listings.Grammar.{IsListing}
@@ -82,10 +82,13 @@ module _ (strict : Bool) where
         × (parts_of strict (joined (lists_in f) ++ rest) ≡ lists_in f)
     pub emitted_again : (bytes : List ℕ) (i : Instruction) (f : Fields) → answer_of strict bytes ≡ Ok i →
         lists_in f ≡ parts_of strict bytes → IsPermitted strict f × (joined (lists_in f) ≡ take (length_of i) bytes)
-    -- An address has a shortest spelling, of this length, and all its spellings have the same value.
+    -- An address has a shortest spelling, of this length, but for one that is relative to the next instruction. All its
+    -- spellings are the same instruction but for the bits X and B of a REX and memory, and have the same value.
     pub shortest : (s : List ℕ) (i : Instruction) (is : Sentence s i) → IsByteString s →
-        HasOperandForm strict s is.reading is.whole false →
-        (t : List ℕ) × IsShortest strict s is.reading is.whole t × (length t ≡ least_length strict s)
+        HasOperandForm strict s is.reading is.whole false → (t : List ℕ) × IsByteString t
+        × IsShortest strict s is.reading is.whole t × (length t ≡ least_length strict s)
+    pub same_instruction : (s t : List ℕ) (i j : Instruction) (is : Sentence s i) (other : Sentence t j) →
+        (h : AreRelatives is other) → IsSameButInMemory h.address.from h.address.to i j
     pub same_address : (s t : List ℕ) (i j : Instruction) (is : Sentence s i) (other : Sentence t j) →
         AreRelatives is other → IsByteString s → IsByteString t → (k : ℕ) (regs : List ℕ) (next : ℕ) →
         IsRegFile regs → next < 2 ^ 64 → address_at j k regs next ≡ address_at i k regs next

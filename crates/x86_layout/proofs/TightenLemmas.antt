@@ -6,5 +6,6 @@ pub mod Rex
 pub mod Respell
 pub mod PlanAlike
 pub mod Relative
+pub mod Bytes
 pub mod Tighten
 pub mod Same

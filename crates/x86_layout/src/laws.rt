@@ -153,14 +153,14 @@ pub fn memory_operands_have_their_address()
     x86_operands::laws::shapes_have_the_address();
 }
 
-/// An encoding with a memory operand of ModRM that isn't relative to the next instruction has a shortest relative,
-/// and its length is the one that `shortest_length` computes from the bytes.
+/// An encoding with a memory operand of ModRM that isn't relative to the next instruction has a shortest relative, of
+/// bytes, and its length is the one that `shortest_length` computes from the bytes.
 pub fn shortest_relatives_have_the_least_length()
     ensures { (strict : Bool) (s : List ℕ) (a : Instruction)
         (is : IsSentence (rows_of packed) strict s a) → All (λ byte. byte < 256) s →
         HasOperandForm strict s is.reading is.whole false →
-        (t : List ℕ) × IsShortest strict s is.reading is.whole t
-        × (length t ≡ least_length strict s) }
+        (t : List ℕ) × All (λ byte. byte < 256) t
+        × IsShortest strict s is.reading is.whole t × (length t ≡ least_length strict s) }
 {}
 
 /// An encoding that has no relative to seek, for want of a memory operand of ModRM or since that is relative to the

@@ -29,7 +29,7 @@ use Rattle.x86_groups.specs.declared.letters.Letters.TheVariants as letters
 use Rattle.x86_groups.specs.declared.rows.Content.{Content}
 use Rattle.x86_groups.specs.declared.rows.Content.TheVariants.{Reads, Refuses}
 use Rattle.x86_groups.specs.Columns.{choose, distance_of, letter_encoding, operand_encodings, plan_of_row, seen_at, verdict_of}
-use Rattle.x86_groups.specs.Groups.{fault_f30f3af0, group_fault, group_form_plan, group_modrm, group_record}
+use Rattle.x86_groups.specs.Groups.{fault_f30f3af0, group_fault, group_form_plan, group_record}
 use Rattle.x86_groups.specs.Rows.{group_rows}
 use Rattle.x86_groups.proofs.RowLemmas.{no_rm_names}
 use Rattle.x86_groups.proofs.FactLemmas.{in_memory, is_memory_letter, letters_list, rm_free_letter}

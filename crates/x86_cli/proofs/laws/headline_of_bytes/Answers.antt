@@ -46,6 +46,7 @@ returns c strict =
       split_again = c.permitted_fields_are_split_again.ensures strict;
       emitted_again = c.accepted_encodings_are_emitted_again.ensures strict;
       shortest = c.shortest_relatives_have_the_least_length.ensures strict;
+      same_instruction = λ s t i j is other h. c.relatives_are_the_same_instruction.ensures.but_in_memory strict s i is t j other h;
       same_address = λ s t i j is other r s_bytes t_bytes.
           c.relatives_are_the_same_instruction.ensures.address strict s i is t j other r s_bytes t_bytes;
     }
