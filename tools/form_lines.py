@@ -11,7 +11,7 @@ from group_rows import BY_REG, parsed
 
 OPERANDS = Path(__file__).resolve().parent.parent / "crates" / "x86_operands"
 FORMS = Path(__file__).resolve().parent.parent / "crates" / "x86_forms"
-RESTRICTED = {"memory_only": "Memory", "register_only": "Registers"}
+RESTRICTED = {"memory_only": "Memory", "register_only": "Registers", "form_by_opcode": "FormByOpcode"}
 CLASSES = {"v_class": "V", "vq_class": "Vq", "vd_class": "Vd", "dq_class": "Dq"}
 LASTS = {"I8": "I8", "U8": "U8", "U16": "U16", "I32": "I32", "cl_third": "ClThird"}
 LASTS_BY = {"immediate_of": "Iv", "whole_immediate": "Ivq", "push_immediate": "Ip"}

@@ -84,6 +84,7 @@ fn read_line<'a, T: Reader<u64, u8>>(
         AfterOpcode::EitherForm
             | AfterOpcode::Memory
             | AfterOpcode::Registers
+            | AfterOpcode::FormByOpcode
             | AfterOpcode::ByReg(_)
     );
     if has_fields {
@@ -109,7 +110,7 @@ fn line_at<'a>(found: &WordRow, encoding: &'a FormEncoding, modrm: ModRM) -> Fou
     };
     let accepts = match encoding.after_opcode {
         AfterOpcode::EitherForm => true,
-        other => other.allows(modrm),
+        other => other.allows(opcode, modrm),
     };
     if accepts {
         Found::Line(RowLine {
@@ -133,7 +134,7 @@ fn line_without_modrm<'a>(found: &WordRow, encoding: &'a FormEncoding) -> Found<
         ≡ row_step strict found.now.row i.prefixes s }
 {
     let modrm = ModRM::absent();
-    if encoding.after_opcode.allows(modrm) {
+    if encoding.after_opcode.allows(found.row.opcode, modrm) {
         Found::Line(RowLine {
             encoding,
             opcode: found.row.opcode,

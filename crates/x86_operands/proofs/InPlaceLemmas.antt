@@ -143,13 +143,14 @@ same_reg : (b : AfterOpcode) (w : Width) (n : ℕ) (p : Prefixes) (m : ℕ) → 
 same_reg after_opcode.EitherForm w n p m h = refl
 same_reg after_opcode.Memory w n p m h = refl
 same_reg after_opcode.Registers w n p m h = refl
+same_reg after_opcode.FormByOpcode w n p m h = refl
 same_reg b w n p m h = cc
 
-same_rm : (b : AfterOpcode) (w : Width) (p : Prefixes) (m : ℕ) (memory : Option Raw) → has_modrm b ≡ true → allows b m ≡ true → Suits memory (is_memory m) → rm_pair w p m memory ≡ rm_pair_of b w p m memory
-same_rm after_opcode.Memory w p m None h a e = cc
-same_rm after_opcode.Memory width.Mm p m (Some raw) h a e = refl
-same_rm after_opcode.Memory w p m (Some raw) h a e = refl
-same_rm b w p m memory h a e = refl
+same_rm : (b : AfterOpcode) (w : Width) (p : Prefixes) (opcode m : ℕ) (memory : Option Raw) → has_modrm b ≡ true → allows b opcode m ≡ true → Suits memory (is_memory m) → rm_pair w p m memory ≡ rm_pair_of b w p m memory
+same_rm after_opcode.Memory w p opcode m None h a e = cc
+same_rm after_opcode.Memory width.Mm p opcode m (Some raw) h a e = refl
+same_rm after_opcode.Memory w p opcode m (Some raw) h a e = refl
+same_rm b w p opcode m memory h a e = refl
 
 module _ (b : AfterOpcode) (o : Order) (wr we : Width) (l : Last) (n size opcode : ℕ) (p : Prefixes) (m : ℕ) where
   abbrev placing : Result (Option Raw) DecodeError → State ℕ → Outcome Reading
@@ -158,13 +159,13 @@ module _ (b : AfterOpcode) (o : Order) (wr we : Width) (l : Last) (n size opcode
   abbrev planned : Result (Option Raw) DecodeError → State ℕ → Outcome Reading
   planned r t = ((λ _. outcome r t) >>= λ memory. filled_step (list_of (encodings_in o (reg_encoding b wr n p) (rm_encoding b we p) (last_encoding l p))) p m memory >>= λ operand_list. pure (reading_from (reads opcode (encodings_in o (reg_encoding b wr n p) (rm_encoding b we p) (last_encoding l p)) size) p opcode operand_list)) t
 
-  there : Named o → has_modrm b ≡ true → allows b m ≡ true → (memory : Option Raw) (t : State ℕ) → Suits memory (is_memory m) → placing (Ok memory) t ≡ planned (Ok memory) t
+  there : Named o → has_modrm b ≡ true → allows b opcode m ≡ true → (memory : Option Raw) (t : State ℕ) → Suits memory (is_memory m) → placing (Ok memory) t ≡ planned (Ok memory) t
   there h modrm may memory t e =
       ap (λ x. (last_read o.last l p (put_in o.reg x (put_in o.rm (rm_pair we p m memory) (sized o.count size))) >>= λ operand_list. pure (reading_with opcode p operand_list)) t) (same_reg b wr n p m modrm)
-      ∙ ap (λ y. (last_read o.last l p (put_in o.reg (reg_pair_of b wr n p m) (put_in o.rm y (sized o.count size))) >>= λ operand_list. pure (reading_with opcode p operand_list)) t) (same_rm b we p m memory modrm may e)
+      ∙ ap (λ y. (last_read o.last l p (put_in o.reg (reg_pair_of b wr n p m) (put_in o.rm y (sized o.count size))) >>= λ operand_list. pure (reading_with opcode p operand_list)) t) (same_rm b we p opcode m memory modrm may e)
       ∙ sym (memory_following b o wr we l n size opcode p m memory h t)
 
-  modrm_plan : (s : State ℕ) → Named o → has_modrm b ≡ true → allows b m ≡ true →
+  modrm_plan : (s : State ℕ) → Named o → has_modrm b ≡ true → allows b opcode m ≡ true →
       ((modrm_read o.reg wr o.rm we p m (sized o.count size) >>= last_read o.last l p) >>= λ operand_list. pure (reading_with opcode p operand_list)) s
       ≡ read_plan (reads opcode (encodings_in o (reg_encoding b wr n p) (rm_encoding b we p) (last_encoding l p)) size) p m s
   unfolding read_plan
@@ -177,13 +178,13 @@ same_fixed after_opcode.Opcode w n p m h = refl
 same_fixed after_opcode.Accumulator w n p m h = refl
 same_fixed b w n p m h = cc
 
-fixed_plan : (b : AfterOpcode) (o : Order) (wr we : Width) (l : Last) (n size opcode : ℕ) (p : Prefixes) (m : ℕ) (s : State ℕ) (operand_list : Operands) → Named o → has_modrm b ≡ false → allows b m ≡ true →
+fixed_plan : (b : AfterOpcode) (o : Order) (wr we : Width) (l : Last) (n size opcode : ℕ) (p : Prefixes) (m : ℕ) (s : State ℕ) (operand_list : Operands) → Named o → has_modrm b ≡ false → allows b opcode m ≡ true →
     operand_list ≡ put_in o.reg (reg_pair_of b wr n p m) (put_in o.rm (rm_pair_of b we p m None) (sized o.count size)) →
     (last_read o.last l p operand_list >>= λ x. pure (reading_with opcode p x)) s
     ≡ read_plan (reads opcode (encodings_in o (reg_encoding b wr n p) (rm_encoding b we p) (last_encoding l p)) size) p m s
 unfolding read_plan
 fixed_plan b o wr we l n size opcode p m s operand_list h none may e =
-    ap (λ g. (last_read o.last l p g >>= λ x. pure (reading_with opcode p x)) s) e ∙ sym (memory_following b o wr we l n size opcode p m None h s) ∙ (rw (no_memory b m none may) refl)
+    ap (λ g. (last_read o.last l p g >>= λ x. pure (reading_with opcode p x)) s) e ∙ sym (memory_following b o wr we l n size opcode p m None h s) ∙ (rw (no_memory b opcode m none may) refl)
 
 -- ---- the whole encoding
 
@@ -193,7 +194,7 @@ Written o b wr we l x y size n opcode p m s =
     (operands_read e n p m (sized o.count size) >>= λ operand_list. pure (reading_with opcode p operand_list)) s
     ≡ read_plan (reads opcode (encodings_in o (reg_encoding b wr n p) (rm_encoding b we p) (last_encoding l p)) size) p m s
 
-written : {o : Order} → Named o → (b : AfterOpcode) (wr we : Width) (l : Last) (x y : Size) (size n opcode : ℕ) (p : Prefixes) (m : ℕ) (s : State ℕ) → order_fits b o ≡ true → allows b m ≡ true → Written o b wr we l x y size n opcode p m s
+written : {o : Order} → Named o → (b : AfterOpcode) (wr we : Width) (l : Last) (x y : Size) (size n opcode : ℕ) (p : Prefixes) (m : ℕ) (s : State ℕ) → order_fits b o ≡ true → allows b opcode m ≡ true → Written o b wr we l x y size n opcode p m s
 written no_named b wr we l x y size n opcode p m s f a = fixed_plan b _ wr we l n size opcode p m s (sized 0 size) no_named (not-true (has_modrm b) f) a refl
 written i_named b wr we l x y size n opcode p m s f a = fixed_plan b _ wr we l n size opcode p m s (sized 1 size) i_named (not-true (has_modrm b) f) a refl
 written r_named b wr we l x y size n opcode p m s f a = fixed_plan b _ wr we l n size opcode p m s (put_in First (fixed_pair b wr n p) (sized 1 size)) r_named (no_modrm b f) a (ap (λ r. put_in First r (sized 1 size)) (same_fixed b wr n p m f))
@@ -201,7 +202,7 @@ written r_i_named b wr we l x y size n opcode p m s f a = fixed_plan b _ wr we l
 written i_r_named b wr we l x y size n opcode p m s f a = fixed_plan b _ wr we l n size opcode p m s (put_in Second (fixed_pair b wr n p) (sized 2 size)) i_r_named (no_modrm b f) a (ap (λ r. put_in Second r (sized 2 size)) (same_fixed b wr n p m f))
 written h b wr we l x y size n opcode p m s f a = modrm_plan b _ wr we l n size opcode p m s h f a
 
-pub plan_is_read : (e : FormEncoding) (n opcode : ℕ) (p : Prefixes) (m : ℕ) (s : State ℕ) → is_order e.order ≡ true → order_fits e.after_opcode e.order ≡ true → allows e.after_opcode m ≡ true →
+pub plan_is_read : (e : FormEncoding) (n opcode : ℕ) (p : Prefixes) (m : ℕ) (s : State ℕ) → is_order e.order ≡ true → order_fits e.after_opcode e.order ≡ true → allows e.after_opcode opcode m ≡ true →
     read_plan (plan_of e n opcode p m) p m s
     ≡ (operands_read e n p m (sized e.order.count (size_bytes (size_at e m) opcode p)) >>= λ operand_list. pure (reading_with opcode p operand_list)) s
 plan_is_read e n opcode p m s h f a =

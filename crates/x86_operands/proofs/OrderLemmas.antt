@@ -11,6 +11,7 @@ use Rattle.x86_operands.specs.declared.encodings.Last.{Last}
 use Rattle.x86_operands.specs.declared.encodings.Last.TheVariants as last
 use Rattle.x86_operands.specs.declared.encodings.FormEncoding.{FormEncoding}
 use Rattle.x86_fields.specs.ModRM.{is_memory}
+use Rattle.x86_operands.specs.FormSizes.{lacks_memory}
 use Rattle.x86_operands.specs.Plans.{reads}
 use Rattle.x86_operands.specs.Encodings.{restricted_plan, is_last, has_last, somewhere, is_described, is_sound, is_order_of, is_order, has_modrm, has_register, order_fits, allows}
 
@@ -45,18 +46,20 @@ named_of a b c n h = cc
 
 -- ---- the verdict
 
-pub accepted : (b : AfterOpcode) (m o size : ℕ) (encodings : OperandEncodings) → allows b m ≡ true → restricted_plan b m (reads o encodings size) ≡ reads o encodings size
+pub accepted : (b : AfterOpcode) (m o size : ℕ) (encodings : OperandEncodings) → allows b o m ≡ true → restricted_plan b m (reads o encodings size) ≡ reads o encodings size
 accepted after_opcode.Memory m o size encodings h = rw h refl
 accepted after_opcode.Registers m o size encodings h = rw (not-true (is_memory m) h) refl
+accepted after_opcode.FormByOpcode m o size encodings h = rw (not-true (lacks_memory o m) h) refl
 accepted b m o size encodings h = refl
 
-pub no_memory : (b : AfterOpcode) (m : ℕ) → has_modrm b ≡ false → allows b m ≡ true → is_memory m ≡ false
-no_memory after_opcode.EitherForm m h a = cc
-no_memory after_opcode.Memory m h a = cc
-no_memory (after_opcode.ByReg g) m h a = cc
-no_memory (after_opcode.ByPlan u) m h a = cc
-no_memory after_opcode.Group m h a = cc
-no_memory b m h a = not-true (is_memory m) a
+pub no_memory : (b : AfterOpcode) (o m : ℕ) → has_modrm b ≡ false → allows b o m ≡ true → is_memory m ≡ false
+no_memory after_opcode.EitherForm o m h a = cc
+no_memory after_opcode.Memory o m h a = cc
+no_memory after_opcode.FormByOpcode o m h a = cc
+no_memory (after_opcode.ByReg g) o m h a = cc
+no_memory (after_opcode.ByPlan u) o m h a = cc
+no_memory after_opcode.Group o m h a = cc
+no_memory b o m h a = not-true (is_memory m) a
 
 pub no_modrm : (b : AfterOpcode) → has_register b ≡ true → has_modrm b ≡ false
 no_modrm after_opcode.Opcode h = refl
@@ -79,8 +82,8 @@ sound_parts e h =
     let rest = and_parts (order_fits e.after_opcode e.order) (has_last e.order e.last) parts.1 in
     (parts.0, rest.0, rest.1)
 
-pub allowed_is_described : (b : AfterOpcode) (m : ℕ) → allows b m ≡ true → IsTrue (is_described b)
-allowed_is_described (after_opcode.ByReg g) m h = cc
-allowed_is_described (after_opcode.ByPlan u) m h = cc
-allowed_is_described after_opcode.Group m h = cc
-allowed_is_described b m h = refl
+pub allowed_is_described : (b : AfterOpcode) (o m : ℕ) → allows b o m ≡ true → IsTrue (is_described b)
+allowed_is_described (after_opcode.ByReg g) o m h = cc
+allowed_is_described (after_opcode.ByPlan u) o m h = cc
+allowed_is_described after_opcode.Group o m h = cc
+allowed_is_described b o m h = refl

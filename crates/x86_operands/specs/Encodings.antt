@@ -26,7 +26,7 @@ use Rattle.x86_operands.specs.declared.encodings.Size.{Size}
 use Rattle.x86_operands.specs.declared.encodings.Size.TheVariants as size
 use Rattle.x86_operands.specs.declared.encodings.FormEncoding.{FormEncoding}
 use Rattle.x86_operands.specs.Plans.{reads, memory_only, register_only, register_at, accumulator_of, immediate_of}
-use Rattle.x86_operands.specs.FormSizes.{whole_immediate, push_immediate, call_size, named_size, v_size}
+use Rattle.x86_operands.specs.FormSizes.{whole_immediate, push_immediate, call_size, form_by_opcode, lacks_memory, named_size, v_size}
 use Rattle.x86_operands.specs.declared.plans.ModrmUse.{ModrmUse}
 use Rattle.x86_operands.specs.declared.plans.ModrmUse.TheVariants as use_as
 
@@ -100,6 +100,7 @@ size_at e m = if is_memory m then e.in_memory else e.in_register
 abbrev pub restricted_plan : AfterOpcode → ℕ → Plan → Plan
 restricted_plan after_opcode.Memory m plan = memory_only m plan
 restricted_plan after_opcode.Registers m plan = register_only m plan
+restricted_plan after_opcode.FormByOpcode m plan = form_by_opcode m plan
 restricted_plan b m plan = plan
 
 -- the plan of a form with this encoding, whose opcode byte carries n
@@ -139,6 +140,7 @@ abbrev pub has_modrm : AfterOpcode → Bool
 has_modrm after_opcode.EitherForm = true
 has_modrm after_opcode.Memory = true
 has_modrm after_opcode.Registers = true
+has_modrm after_opcode.FormByOpcode = true
 has_modrm b = false
 
 -- whether a ModRM byte follows whose line is known, or chosen by reg
@@ -162,14 +164,15 @@ is_last l = true
 abbrev pub has_last : Order → Last → Bool
 has_last o l = if somewhere o.last then is_last l else true
 
--- the ModRM bytes at which a line accepts; one that isn't there reads as C0
-abbrev pub allows : AfterOpcode → ℕ → Bool
-allows after_opcode.EitherForm m = true
-allows after_opcode.Memory m = is_memory m
-allows (after_opcode.ByReg g) m = false
-allows (after_opcode.ByPlan u) m = false
-allows after_opcode.Group m = false
-allows b m = not (is_memory m)
+-- the operations and ModRM bytes that a line accepts; a ModRM byte that isn't there reads as C0
+abbrev pub allows : AfterOpcode → ℕ → ℕ → Bool
+allows after_opcode.EitherForm o m = true
+allows after_opcode.Memory o m = is_memory m
+allows after_opcode.FormByOpcode o m = not (lacks_memory o m)
+allows (after_opcode.ByReg g) o m = false
+allows (after_opcode.ByPlan u) o m = false
+allows after_opcode.Group o m = false
+allows b o m = not (is_memory m)
 
 abbrev pub is_sound : FormEncoding → Bool
 is_sound e = is_order e.order && (order_fits e.after_opcode e.order && has_last e.order e.last)

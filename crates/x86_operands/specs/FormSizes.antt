@@ -14,7 +14,11 @@ use Rattle.x86_operands.specs.declared.plans.OperandEncoding.{OperandEncoding}
 use Rattle.x86_operands.specs.declared.plans.OperandEncoding.TheVariants.{I16, I32, I64Whole, Address32, Address64}
 use Rattle.x86_fields.specs.Sizes.{v_class}
 use Rattle.x86_regs.specs.Class.{width_of}
-use Rattle.x86_operands.specs.Plans.{size_by}
+use Rattle.x86_fields.specs.ModRM.{is_memory}
+use Rattle.x86_operands.specs.declared.plans.Plan.{Plan}
+use Rattle.x86_operands.specs.declared.plans.Fault.TheVariants.{BadOperand}
+use Rattle.x86_operands.specs.declared.plans.Moment.TheVariants.{AtModRM}
+use Rattle.x86_operands.specs.Plans.{refused, size_by}
 
 -- the class of an address register
 abbrev pub pointer_class : Prefixes → RegisterClass
@@ -70,13 +74,12 @@ far_size o p =
     if is_far_load o then (if has_w p then 10 else (if operand_size p then 4 else 6))
     else (if is_among (ENQCMD ∷ ENQCMDS ∷ []) o then 64 else 16)
 
-abbrev pub extend_size : ℕ → ℕ
-extend_size o =
-    if is_among (PMOVSXBQ ∷ PMOVZXBQ ∷ []) o then 2
-    else (if is_among (PMOVSXBD ∷ PMOVZXBD ∷ PMOVSXWQ ∷ PMOVZXWQ ∷ UCOMISS ∷ COMISS ∷ CVTSS2SD ∷ []) o then 4 else 8)
+-- a load of half an xmm register, at a ModRM byte of the register form
+abbrev pub lacks_memory : ℕ → ℕ → Bool
+lacks_memory o m = is_among (MOVLPD ∷ MOVHPD ∷ []) o && not (is_memory m)
 
-abbrev pub is_half_load : ℕ → Bool
-is_half_load o = is_among (MOVLPD ∷ MOVHPD ∷ []) o
+abbrev pub form_by_opcode : ℕ → Plan → Plan
+form_by_opcode m plan = refused (lacks_memory plan.opcode m) BadOperand AtModRM plan
 
 -- a size that the operation alone decides, and 0 for the others
 abbrev pub named_size : Size → ℕ → ℕ
@@ -88,4 +91,7 @@ named_size size.Scalar o = if is_among (CMPSS ∷ ROUNDSS ∷ []) o then 4 else 
 named_size size.Extract o = if o == PEXTRB then 1 else (if o == PEXTRW then 2 else (if o == EXTRACTPS then 4 else 0))
 named_size size.Insert o = if o == PINSRB then 1 else (if o == INSERTPS then 4 else 0)
 named_size size.Unpack o = if is_among (PUNPCKLBW ∷ PUNPCKLWD ∷ PUNPCKLDQ ∷ []) o then 4 else 8
+named_size size.Extend o =
+    if is_among (PMOVSXBQ ∷ PMOVZXBQ ∷ []) o then 2
+    else (if is_among (PMOVSXBD ∷ PMOVZXBD ∷ PMOVSXWQ ∷ PMOVZXWQ ∷ UCOMISS ∷ COMISS ∷ CVTSS2SD ∷ []) o then 4 else 8)
 named_size s o = 0

@@ -32,7 +32,7 @@ use Rattle.x86_operands.specs.declared.plans.Plan.{Plan}
 use Rattle.x86_fields.specs.Sizes.{v_class, vq_class, vd_class, dq_class}
 use Rattle.x86_fields.specs.ModRM.{is_memory}
 use Rattle.x86_operands.specs.Plans.{RowRecord, reads, refuses, refused, memory_only, register_only, size_by, reg_number, register_at, accumulator_of, immediate_of}
-use Rattle.x86_operands.specs.FormSizes.{pointer_class, whole_immediate, push_immediate, address_encoding, widening, doubling, call_size, named_size, port_size, far_class, far_size, extend_size, is_half_load, v_size, or_v}
+use Rattle.x86_operands.specs.FormSizes.{pointer_class, whole_immediate, push_immediate, address_encoding, widening, doubling, call_size, named_size, port_size, far_class, far_size, form_by_opcode, v_size, or_v}
 use Rattle.x86_operands.specs.Encodings.{cl_third}
 
 -- ---- operand encodings of these forms
@@ -101,7 +101,6 @@ separate_plan form.Ew_Sw o p m = refused (nat_lt 5 (reg_number m p)) BadOperand 
 separate_plan form.Sw_Ew o p m = refused (nat_lt 5 (reg_number m p) || (reg_number m p == 1)) BadOperand AfterAddress (reads o (Two (G S) (E W)) (or_v 2 p m))
 separate_plan form.INV_Gv_M o p m = memory_only m (reads o (Two (G (far_class o p)) M) (far_size o p))
 separate_plan form.MOVDIR64B o p m = memory_only m (reads o (Two (G (pointer_class p)) M) 64)
-separate_plan form.PMOVX_G_E_xmm o p m = refused (is_half_load o && not (is_memory m)) BadOperand AtModRM (reads o (Two (G X) (E X)) (or_v (extend_size o) p m))
 separate_plan form.Pextr_dq o p m = reads (if has_w p then PEXTRQ else PEXTRD) (Three (E (v_class p)) (G X) U8) (if has_w p then 8 else 4)
 separate_plan form.Pinsr_dq o p m = reads (if has_w p then PINSRQ else PINSRD) (Three (G X) (E X) U8) (or_v (if has_w p then 8 else 4) p m)
 separate_plan form.Edq_G_xmm o p m = reads (if has_w p then MOVQ else o) (Two (E (dq_class p)) (G X)) (or_v (width_of (dq_class p)) p m)
@@ -136,6 +135,7 @@ xmm_plan form.G_M_xmm o p m = memory_only m (reads o (Two (G X) M) 16)
 xmm_plan form.M_G_xmm o p m = memory_only m (reads o (Two M (G X)) (named_size size.Stream o))
 xmm_plan form.G_E_xmm_Ib o p m = reads o (Three (G X) (E X) I8) (or_v (named_size size.Scalar o) p m)
 xmm_plan form.G_E_xmm_Ub o p m = reads o (Three (G X) (E X) U8) (or_v 16 p m)
+xmm_plan form.PMOVX_G_E_xmm o p m = form_by_opcode m (reads o (Two (G X) (E X)) (or_v (named_size size.Extend o) p m))
 xmm_plan form.PMOVX_E_G_xmm o p m = reads o (Two (E X) (G X)) (or_v 8 p m)
 xmm_plan form.MOVQ_f30f o p m = reads o (Two (G X) (E X)) (or_v 8 p m)
 xmm_plan form.Gdq_Eq_xmm o p m = reads o (Two (G (v_class p)) (E X)) (or_v 8 p m)

@@ -6,7 +6,9 @@ ghost use Rattle.x86_fields.specs.ModRM.{is_memory};
 ghost use Rattle.x86_fields.specs.Sizes.{size_prefixes};
 ghost use Rattle.x86_operands.specs.Encodings.{size_bytes, last_encoding, reg_encoding, rm_encoding, encoding_at, encodings_in, plan_of, use_of, is_described, allows, size_at};
 
-use crate::form_sizes::{named_size, push_immediate, whole_immediate};
+use crate::form_sizes::{
+    form_by_opcode, lacks_memory, named_size, push_immediate, whole_immediate,
+};
 use crate::order::{Order, Position};
 use crate::plans::{
     ModrmUse, OperandEncoding, OperandEncodings, Plan, RegisterSlot, accumulator_of, immediate_of,
@@ -46,6 +48,8 @@ pub enum AfterOpcode {
     Memory,
     /// A ModRM of the register form; the memory form is refused.
     Registers,
+    /// A ModRM of either form; a load of half a register refuses the register form.
+    FormByOpcode,
     /// A ModRM whose reg chooses the line.
     ByReg(RegGroup),
     /// No ModRM, and no register.
@@ -108,6 +112,7 @@ pub enum Size {
     Extract,
     Insert,
     Unpack,
+    Extend,
 }
 
 /// How the operands of a form are encoded.
@@ -236,21 +241,17 @@ impl AfterOpcode {
         }
     }
 
-    /// Whether a line accepts at this ModRM byte; one that isn't there reads as C0.
+    /// Whether a line accepts an operation at this ModRM byte; one that isn't there reads as C0.
     #[inline(always)]
-    pub fn allows(self, modrm: ModRM) -> bool
-        ensures { result ≡ allows self modrm }
+    pub fn allows(self, opcode: Opcode, modrm: ModRM) -> bool
+        ensures { result ≡ allows self opcode modrm }
     {
-        if modrm.is_memory() {
-            matches!(self, AfterOpcode::EitherForm | AfterOpcode::Memory)
-        } else {
-            !matches!(
-                self,
-                AfterOpcode::Memory
-                    | AfterOpcode::ByReg(_)
-                    | AfterOpcode::ByPlan(_)
-                    | AfterOpcode::Group
-            )
+        match self {
+            AfterOpcode::EitherForm => true,
+            AfterOpcode::Memory => modrm.is_memory(),
+            AfterOpcode::FormByOpcode => !lacks_memory(opcode, modrm),
+            AfterOpcode::ByReg(_) | AfterOpcode::ByPlan(_) | AfterOpcode::Group => false,
+            _ => !modrm.is_memory(),
         }
     }
 }
@@ -308,6 +309,7 @@ impl FormEncoding {
         match self.after_opcode {
             AfterOpcode::Memory => memory_only(modrm, plan),
             AfterOpcode::Registers => register_only(modrm, plan),
+            AfterOpcode::FormByOpcode => form_by_opcode(modrm, plan),
             _ => plan,
         }
     }

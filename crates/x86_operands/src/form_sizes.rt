@@ -2,10 +2,10 @@
 ghost use Rattle.std.specs.Prelude.{◌≡◌, if◌then◌else◌};
 ghost use Rattle.x86_fields.specs.Prefixes.{operand_size};
 ghost use Rattle.x86_fields.specs.Raw.{has_w};
-ghost use Rattle.x86_operands.specs.FormSizes.{v_size, or_v, pointer_class, whole_immediate, push_immediate, address_encoding, widening, doubling, port_size, is_far_load, far_class, far_size, extend_size, is_half_load, named_size};
+ghost use Rattle.x86_operands.specs.FormSizes.{v_size, or_v, pointer_class, whole_immediate, push_immediate, address_encoding, widening, doubling, port_size, is_far_load, far_class, far_size, form_by_opcode, lacks_memory, named_size};
 
 use crate::encodings::Size;
-use crate::plans::{OperandEncoding, size_by};
+use crate::plans::{Fault, Moment, OperandEncoding, Plan, refused, size_by};
 use x86_fields::{ModRM, Prefixes};
 use x86_opcodes::Opcode;
 use x86_regs::RegisterClass;
@@ -142,28 +142,20 @@ pub fn far_size(opcode: Opcode, prefixes: &Prefixes) -> u8
     }
 }
 
-/// The size of an operand that is extended.
-pub fn extend_size(opcode: Opcode) -> u8
-    ensures { result ≡ extend_size opcode }
+/// Whether the opcode loads half an xmm register, and ModRM is of the register form.
+#[inline(always)]
+pub fn lacks_memory(opcode: Opcode, modrm: ModRM) -> bool
+    ensures { result ≡ lacks_memory opcode modrm }
 {
-    match opcode {
-        Opcode::PMOVSXBQ | Opcode::PMOVZXBQ => 2,
-        Opcode::PMOVSXBD
-        | Opcode::PMOVZXBD
-        | Opcode::PMOVSXWQ
-        | Opcode::PMOVZXWQ
-        | Opcode::UCOMISS
-        | Opcode::COMISS
-        | Opcode::CVTSS2SD => 4,
-        _ => 8,
-    }
+    matches!(opcode, Opcode::MOVLPD | Opcode::MOVHPD) && !modrm.is_memory()
 }
 
-/// Whether the opcode loads half an xmm register.
-pub fn is_half_load(opcode: Opcode) -> bool
-    ensures { result ≡ is_half_load opcode }
+/// The plan, for which a half load is refused in the register form.
+pub fn form_by_opcode(modrm: ModRM, plan: Plan) -> Plan
+    ensures { result ≡ form_by_opcode modrm plan }
 {
-    matches!(opcode, Opcode::MOVLPD | Opcode::MOVHPD)
+    let lacks_memory = lacks_memory(plan.opcode, modrm);
+    refused(lacks_memory, Fault::BadOperand, Moment::AtModRM, plan)
 }
 
 /// A size that the operation alone decides, and 0 for the others.
@@ -210,6 +202,17 @@ pub fn named_size(size: Size, opcode: Opcode) -> u8
         },
         Size::Unpack => match opcode {
             Opcode::PUNPCKLBW | Opcode::PUNPCKLWD | Opcode::PUNPCKLDQ => 4,
+            _ => 8,
+        },
+        Size::Extend => match opcode {
+            Opcode::PMOVSXBQ | Opcode::PMOVZXBQ => 2,
+            Opcode::PMOVSXBD
+            | Opcode::PMOVZXBD
+            | Opcode::PMOVSXWQ
+            | Opcode::PMOVZXWQ
+            | Opcode::UCOMISS
+            | Opcode::COMISS
+            | Opcode::CVTSS2SD => 4,
             _ => 8,
         },
         _ => 0,

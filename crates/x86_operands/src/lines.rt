@@ -157,7 +157,7 @@ pub(crate) const ENCODINGS: &[FormEncoding; 199] = &[
     encoded!(Memory E_G X B Absent Stream Stream), // M_G_xmm
     encoded!(EitherForm G_E X Mm Absent Eight V), // G_xmm_E_mm
     encoded!(EitherForm G_E Mm X Absent Sixteen V), // G_mm_E_xmm
-    other!(ByPlan(ModrmUse::EitherForm)), // PMOVX_G_E_xmm
+    encoded!(FormByOpcode G_E X X Absent Extend V), // PMOVX_G_E_xmm
     encoded!(Registers G_E D X Absent V V), // Gd_U_xmm
     encoded!(EitherForm G_E Mm Dq Absent V V), // G_mm_Edq
     encoded!(EitherForm G_E Mm Mm Absent Eight V), // G_mm_E

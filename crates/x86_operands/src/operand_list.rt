@@ -341,7 +341,7 @@ impl Operands {
         requires blank { self.old ≡ no_operands }
         requires small { num < 8 }
         requires sound { is_sound encoding.now ≡ true }
-        requires allowed { allows encoding.now.after_opcode modrm ≡ true }
+        requires allowed { allows encoding.now.after_opcode opcode modrm ≡ true }
         ensures { outcome (value_if_ok result (reading_with opcode prefixes.now self.new))
             (T.state reader.new) ≡ read_plan (plan_of encoding.now num opcode prefixes.now modrm)
             prefixes.now modrm (T.state reader.old) }

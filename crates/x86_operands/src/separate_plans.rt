@@ -5,8 +5,7 @@ ghost use Rattle.x86_forms.specs.Words.{IsForm};
 ghost use Rattle.x86_operands.specs.Forms.{exchange_plan, separate_plan, sets_es, string_plan, strings};
 
 use crate::form_sizes::{
-    address, doubling, extend_size, far_class, far_size, is_half_load, or_v, pointer_class,
-    port_size, v_size, widening,
+    address, doubling, far_class, far_size, or_v, pointer_class, port_size, v_size, widening,
 };
 use crate::plans::OperandEncoding::{E, Fixed, G, I8, M, Pointer, U8, Umm, X16};
 use crate::plans::OperandEncodings::{One, Three, Two, Zero};
@@ -152,12 +151,6 @@ pub fn separate_plan(form: Form, opcode: Opcode, prefixes: &Prefixes, modrm: Mod
         Form::MOVDIR64B => {
             let plan = reads(opcode, Two(G(pointer_class(prefixes)), M), 64);
             memory_only(modrm, plan)
-        }
-        Form::PMOVX_G_E_xmm => {
-            let size = or_v(extend_size(opcode), prefixes, modrm);
-            let refuses = is_half_load(opcode) && !modrm.is_memory();
-            let plan = reads(opcode, Two(G(X), E(X)), size);
-            refused(refuses, Fault::BadOperand, Moment::AtModRM, plan)
         }
         Form::Pextr_dq => {
             let opcode = opcode_by(w, Opcode::PEXTRQ, Opcode::PEXTRD);
