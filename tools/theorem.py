@@ -15,7 +15,8 @@ The templates are the pages with five kinds of lines in place of code, whose pat
     @index               where each name of both pages is
 
 A name that a definition or a clause uses must be shown, linked, or explained in Notation, and has one definition; a name in
-the text of a page must be one of these too. A field that is shown has the name of a definition only where Notation says so. A clause of a table of THEOREM.md, PROVED.md or README.md must be one of the call that it names.
+the text of a page must be one of these too. A field that is shown has the name of a definition only where Notation says so.
+A clause of a table of THEOREM.md, PROVED.md or README.md must be one of the call that it names.
 """
 
 import re
