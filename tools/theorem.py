@@ -4,17 +4,19 @@
     python3 tools/theorem.py            writes the pages
     python3 tools/theorem.py --check    says whether the pages are what it would write
 
-The templates are the pages with four kinds of lines in place of code, whose paths are below crates/:
+The templates are the pages with five kinds of lines in place of code, whose paths are below crates/:
 
     @@ PATH NAME..       the definitions with these names, in this order
     @@ PATH *            those of the file that a definition of the pages uses, and that THEOREM.md doesn't show
     @! PATH BEGINNING    the item whose first line begins so: a function of src/ up to its body, a definition of proofs/ up to the next empty
                          line, any other item up to its closing brace. After ` | ` the clauses of a function that are shown, or all
+    @= PATH BEGINNING    the line that begins so
     @- PATH NAME.. | ..  a row of a table: names that are linked and not shown, and what they are. `*` are all of the file
     @index               where each name of both pages is
 
 A name that a definition or a clause uses must be shown, linked, or explained in Notation, and has one definition; a name in
-the text of a page must be one of these too. A clause of a table of THEOREM.md, PROVED.md or README.md must be one of the call that it names.
+the text of a page must be one of these too. A field that is shown has the name of a definition only where Notation says so.
+A clause of a table of THEOREM.md, PROVED.md or README.md must be one of the call that it names.
 """
 
 import re
@@ -27,6 +29,8 @@ PAGES = {"docs/THEOREM.md": "tools/theorem.txt", "docs/DEFINITIONS.md": "tools/d
 MOST = 550
 # The longest line of code in THEOREM.md, which breaks longer ones of the sources.
 WIDE = 136
+# Where Notation says which fields have the name of a function.
+TWICE = re.compile(r"Fields that have the name of a function: ([^.]*)\.")
 # Words of the text that are no names of src/ or specs/.
 OTHER = set("strict data record run rows x86 list main h p f e x y r c d n k s t m v w i l unfolding".split())
 
@@ -100,6 +104,17 @@ def joined(lines):
     return out
 
 
+def owner(path, rest):
+    """The type whose method this is, or nothing."""
+    above = re.split(rf"^ +{re.escape(rest.split(' | ')[0])}", (CRATES / path).read_text(), maxsplit=1, flags=re.M)
+    return re.findall(r"^impl(?:<.*?>)? (\w+)", above[0], re.M)[-1] + "::" if len(above) > 1 else ""
+
+
+def in_one_line(lines):
+    """The lines of a function, whose arguments are in one line."""
+    return re.sub(r"\(\n((?: +.*,\n)+) *\) ->", lambda found: "(" + " ".join(found[1].split()).rstrip(",") + ") ->", "\n".join(lines)).split("\n")
+
+
 def only(clauses, lines):
     """The lines of a function, of whose clauses these are left."""
     kept, keep = [], True
@@ -110,13 +125,15 @@ def only(clauses, lines):
     return kept
 
 
-def item(path, words):
-    """The lines of a function of src/ without its body, or of another item whole."""
+def item(path, words, is_line=False):
+    """The lines of a function of src/ without its body, of another item whole, or of one line alone."""
     beginning, _, clauses = words.partition(" | ")
     lines = (CRATES / path).read_text().split("\n")
     starts = [at for at, line in enumerate(lines) if line.strip().startswith(beginning)]
     if len(starts) != 1:
         fail(f"{path} has {len(starts)} lines that begin with: {beginning}")
+    if is_line:
+        return [lines[starts[0]].strip()]
     margin = " " * indent(lines[starts[0]])
     if path.endswith(".antt"):
         end = lines.index("", starts[0])
@@ -136,6 +153,8 @@ class Pages:
         self.templates = {page: (TOP / template).read_text().splitlines() for page, template in PAGES.items()}
         # where each definition is shown or linked: its file and name to a link
         self.places, self.linked, self.all_of, self.types, self.std, self.headings = {}, {}, {}, {}, set(), {}
+        # the members of shown traits and the functions, to a link; the fields of shown records and structs
+        self.members, self.fields = {}, set()
         for page in PAGES:
             self.read(page)
         self.follow()
@@ -144,7 +163,7 @@ class Pages:
         heading = ""
         for line in self.templates[page]:
             heading = line.lstrip("# ") if line.startswith("#") else heading
-            if re.match(r"@[@!-] ", line):
+            if re.match(r"@[@!=-] ", line):
                 kind, path, rest = line.split(" ", 2)
                 link = f"{page.split('/')[1]}#{anchor(heading)}"
                 self.headings[link] = f"{page[5:-3]}: {heading}".replace("`", "")
@@ -154,8 +173,9 @@ class Pages:
         for kind, path, rest, link in self.commands(page):
             names = rest.split(" | ")[0].split()
             if kind == "@!":
-                if found := re.match(r"pub (?:struct|enum|trait) (\w+)", rest):
-                    self.types[path, found[1]] = link
+                self.read_item(path, rest, link)
+            elif kind == "@=":
+                continue
             elif kind == "@-" or names == ["*"]:
                 for name in names:
                     (self.linked if kind == "@-" else self.all_of)[path, name] = link
@@ -169,14 +189,25 @@ class Pages:
             if name != "*":
                 module(path).text(name)
 
+    def read_item(self, path, rest, link):
+        if function := re.match(r"pub fn (\w+)", rest):
+            self.members.setdefault((path, owner(path, rest) + function[1]), link)
+        if found := re.match(r"pub (struct|enum|trait) (\w+)", rest):
+            self.types[path, found[2]] = link
+            text = "\n".join(item(path, rest))
+            if found[1] == "struct":
+                self.fields |= set(re.findall(r"^    pub(?:\(\w+\))? (\w+):", text, re.M))
+            for name in re.findall(r"^    (?:ghost|fn) (\w+)", text, re.M) if found[1] == "trait" else []:
+                self.members.setdefault((path, f"{found[2]}.{name}"), link)
+
     def follow(self):
         """Finds what the shown definitions use, until all is shown or linked."""
         todo, seen = list(self.places), set()
         users = {key: "docs/THEOREM.md" for key in todo}
         for page in PAGES:
             for kind, path, rest, _ in self.commands(page):
-                if kind == "@!":
-                    todo += self.note(clause_uses(path, item(path, rest)))
+                if kind in ("@!", "@="):
+                    todo += self.note(clause_uses(path, item(path, rest, kind == "@=")))
         while todo:
             path, name = key = todo.pop()
             if key in seen:
@@ -190,6 +221,8 @@ class Pages:
                 if (path, "*") not in self.all_of:
                     fail(f"{name} is neither shown nor linked: {path}, used by {users.get(key, 'a clause')}")
                 self.places[key] = self.all_of[path, "*"]
+            if re.match(r" *(pub )?record ", module(path).lines[module(path).spans[name][1]]):
+                self.fields |= {match[1] for line in module(path).text(name) if (match := re.match(r" +(?:pub )?(\w+) : ", line))}
             for other in (found := self.note(uses(path, name))):
                 users.setdefault(other, name)
             todo += found
@@ -206,9 +239,9 @@ class Pages:
     def index(self):
         """A row for each name: where it is shown, and its file."""
         rows = ["| name | shown in | source |", "|---|---|---|"]
-        keys = {*self.places, *self.types, *(key for key in self.linked if key[1] != "*")}
+        keys = {*self.places, *self.types, *self.members, *(key for key in self.linked if key[1] != "*")}
         for path, name in sorted(keys, key=lambda key: (key[1].lower(), key)):
-            place = self.places.get((path, name)) or self.types.get((path, name))
+            place = self.places.get((path, name)) or self.types.get((path, name)) or self.members.get((path, name))
             shown = f"[{self.headings[place]}]({place})" if place else "linked"
             rows.append(f"| `{name}` | {shown} | [{path}](../crates/{path}) |")
         return "\n".join(rows)
@@ -216,12 +249,12 @@ class Pages:
     def code(self, kind, path, rest, brief):
         """The lines that stand for a command."""
         if kind != "@@":
-            lines = item(path, rest)
-            return joined(lines) if path.endswith(".antt") else lines
+            lines = item(path, rest, kind == "@=")
+            return joined(lines) if path.endswith(".antt") else in_one_line(lines)
         names = rest.split() if rest != "*" else [n for n in module(path).spans if self.places.get((path, n)) == self.all_of[path, "*"]]
         if not names:
             fail(f"nothing uses what {path} defines: take its line out of tools/definitions.txt")
-        return block(path, names, brief)
+        return joined(block(path, names, brief)) if brief else block(path, names, brief)
 
     def text(self, page):
         out, source, brief = [], None, page == "docs/THEOREM.md"
@@ -229,7 +262,7 @@ class Pages:
             source = None if line.startswith("#") else source
             if line == "@index":
                 out.append(self.index())
-            elif not re.match(r"@[@!-] ", line):
+            elif not re.match(r"@[@!=-] ", line):
                 out.append(line)
             elif line.startswith("@- "):
                 _, path, rest = line.split(" ", 2)
@@ -255,6 +288,7 @@ class Pages:
         for name, paths in sorted(all_definitions({*self.places, *self.types}).items()):
             if len(paths) > 1:
                 fail(f"{name} has two definitions: {' and '.join(sorted(paths))}")
+        self.check_fields("".join(section(text, "Notation") for text in texts.values()))
         explained = set(re.findall(r"[\w\-]+", "".join(re.findall(r"`[^`]*`", "".join(section(text, "Notation") for text in texts.values())))))
         for name in sorted(self.std - explained):
             fail(f"Notation doesn't explain {name}, a name of std")
@@ -262,6 +296,14 @@ class Pages:
         check_clauses({page: texts.get(page) or (TOP / page).read_text() for page in ("docs/THEOREM.md", "docs/PROVED.md", "README.md")})
         if len(texts["docs/THEOREM.md"].splitlines()) > MOST:
             fail(f"docs/THEOREM.md has {len(texts['docs/THEOREM.md'].splitlines())} lines, and may have {MOST}")
+
+    def check_fields(self, notation):
+        said = set(re.findall(r"`(\w+)`", "".join(TWICE.findall(notation))))
+        twice = self.fields & (self.names() | self.std)
+        for name in sorted(twice - said):
+            fail(f"a field has the name of a definition, {name}, and Notation doesn't say so")
+        for name in sorted(said - twice):
+            fail(f"Notation says that fields have the name of a function {name}, and none has")
 
     def check_text(self, texts, explained):
         known = self.names() | explained | OTHER | fields_and_functions(texts)
