@@ -3,18 +3,19 @@
 
     python3 tools/pages.py
 
-Examples of README.md and docs/USAGE.md: in a block of indented lines, each line after `$ ` is run by the shell, in a folder with `x86`
-and examples/, and what it prints must be the lines below it. Where these are `...`, anything may be printed. In the table of statuses the
+Examples of README.md and docs/USAGE.md: in a block of indented lines, each line after `$ ` is run by the shell, in a folder with `x86`,
+`show` and examples/, and what it prints must be the lines below it. Where these are `...`, anything may be printed. In the table of statuses the
 example of a row must end with its status, and in the table of texts it must print its last line. Standard error must be empty, but for the
-usage line at status 2. Each run must end within a minute. The program is the built one, or the one that PROGRAM names; where there is
-none, or a tool of an example is missing, these examples are skipped with a line.
+usage line at status 2. Each run must end within a minute. The programs are the built ones, or those that PROGRAM and SHOW name; where one,
+or a tool of an example, is missing, the examples that need it are skipped with a line.
 
 The examples of docs/USAGE.md are run again with other addresses in place of theirs, those of a library and of a kernel, and then with a text
 that comes in pieces; and its recipes over code of bash of one and of two megabytes: with twice the text no command may take more than three
 times the processor time, and a second, or 8 MB more memory.
 
 Examples of README.md, docs/GUIDE.md and crates/*/README.md: each indented block is in one of the files of `CODE`, or of `TESTS`, line by line,
-only further to the right. Each crate of crates.txt has a README.md, of ten to thirty lines.
+only further to the right, and so is what docs/GUIDE.md prints after a command (tools/own_test compares it with what the programs print).
+Each crate of crates.txt has a README.md, of ten to thirty lines.
 
 Quoted code of the pages of `QUOTING`: each indented line that isn't a command, nor of a drawing, is a line of some file of crates/, letter
 by letter. The links of the pages of `LINKING` are to files and headings that are there (tools/theorem.py writes their code).
@@ -39,6 +40,7 @@ import chart
 TOP = Path(__file__).resolve().parent.parent
 CRATE = re.search(r"^PROGRAM_CRATE=(\w+)$", (TOP / "tools" / "program.sh").read_text(), re.M)[1]
 PROGRAM = Path(os.environ.get("PROGRAM") or TOP / "crates" / CRATE / "out" / CRATE).resolve()
+SHOW = Path(os.environ.get("SHOW") or TOP / "crates" / "x86_show" / "out" / "x86_show").resolve()
 SECONDS = 60
 BASE, LIBRARY, KERNEL = 0x401000, 0x7FFFF7A00000, 0xFFFFFFFF81000000
 IN_ONE = """#!/bin/sh
@@ -86,7 +88,8 @@ def examples(page, section=""):
 
 
 def lacking(command):
-    return [tool for tool in TOOLS if re.search(rf"\b{tool}\b", command) and shutil.which(tool) is None]
+    lacks_show = "./show" in command and not os.access(SHOW, os.X_OK)
+    return [tool for tool in TOOLS if re.search(rf"\b{tool}\b", command) and shutil.which(tool) is None] + ["x86_show"] * lacks_show
 
 
 def run(command, folder):
@@ -108,18 +111,20 @@ def differs(page, command, what, got, wanted):
 
 
 def program_in(folder, in_pieces=False):
-    """Puts the program into a folder, or one of the same answers whose text comes in pieces, and the examples. As with the script `x86`, the word
-    `try` changes nothing once the program is built."""
+    """Puts the programs into a folder, or some of the same answers whose text comes in pieces, and the examples. As with the scripts `x86` and
+    `show`, the word `try` changes nothing once the program is built."""
     script = IN_PIECES if in_pieces else IN_ONE
-    (Path(folder) / "x86").write_text(script.replace("PROGRAM", str(PROGRAM)))
-    (Path(folder) / "x86").chmod(0o755)
+    for name, program in (("x86", PROGRAM), ("show", SHOW)):
+        (Path(folder) / name).write_text(script.replace("PROGRAM", str(program)))
+        (Path(folder) / name).chmod(0o755)
     shutil.copytree(TOP / "examples", Path(folder) / "examples")
 
 
 def moved(text, base):
-    """A command, or what it prints, with other addresses: those from BASE on, and those of the sections of a file."""
+    """A command, or what it prints, with other addresses: those from BASE on, and those of the sections of a file, but not where objdump seeks
+    a symbol, which it then doesn't find."""
     text = re.sub(r"\b(?:0x)?(40[01][0-9a-f]{3})\b", lambda it: it[0].replace(it[1], f"{base - BASE + int(it[1], 16):x}"), text)
-    return re.sub(r"\bobjdump ", f"objdump --adjust-vma={base:#x} ", text)
+    return re.sub(r"\bobjdump (?!.*--disassemble=)", f"objdump --adjust-vma={base:#x} ", text)
 
 
 def run_examples(page, base=BASE, in_pieces=False):
@@ -175,6 +180,8 @@ def costs_of_recipes(page, code):
         program_in(folder)
         (Path(folder) / "big.hex").write_text(re.sub("(.{60})", "\\1\n", code.hex()))
         for command, _ in examples(page, "## Recipes"):
+            if lacking(command):
+                continue
             command = re.sub(r"printf '[0-9a-f ]+'", "cat big.hex", command)
             command = re.sub(r"examples/\w+\.hex", "big.hex", re.sub(r" \| head -n \d+", "", command))
             yield command, costs(command, folder)
@@ -223,13 +230,15 @@ def occurs_in(block, text):
     return False
 
 
-def read_guide(page, code):
-    """Looks for the examples of a page in the files of code, and answers how many aren't there."""
+def read_guide(page, code, has_outputs=False):
+    """Looks for the examples of a page in the files of code, and perhaps for what it prints after commands. It answers how many aren't there."""
     files = [file for name in code for file in ([TOP / name] if (TOP / name).is_file() else sorted((TOP / name).rglob("*"))) if file.is_file()]
     texts = [file.read_text() for file in files]
     wrong = 0
-    for block in blocks(page):
-        if not block[0].startswith("$ ") and not any(occurs_in(block, text) for text in texts):
+    wanted = [block for block in blocks(page) if not block[0].startswith("$ ")]
+    wanted += [printed.split("\n") for _, printed in examples(page) if has_outputs and printed]
+    for block in wanted:
+        if not any(occurs_in(block, text) for text in texts):
             print(f"pages: {page}: no test has these lines:\n" + "\n".join(block), file=sys.stderr)
             wrong += 1
     return wrong
@@ -291,7 +300,7 @@ def read_reasons(page):
 
 def main():
     readmes = [f"crates/{crate}/README.md" for crate in re.findall(r"^(\w+)\b.*:", (TOP / "crates.txt").read_text(), re.M)]
-    wrong = read_guide("docs/GUIDE.md", CODE) + read_guide("README.md", CODE) + sum(read_quotes(page) for page in QUOTING)
+    wrong = read_guide("docs/GUIDE.md", CODE, has_outputs=True) + read_guide("README.md", CODE) + sum(read_quotes(page) for page in QUOTING)
     wrong += sum(read_size(page) or read_guide(page, TESTS) for page in readmes)
     wrong += sum(read_links(page) for page in LINKING) + read_chart() + read_reasons("docs/DIFFERENCES.md")
     if os.access(PROGRAM, os.X_OK):

@@ -74,31 +74,30 @@ fn has_memory(instruction: &Instruction) -> bool {
     false
 }
 
-/// The name of the register that an operand is, or of the base of its memory.
-fn first_register(operand: Operand) -> Option<&'static str> {
+/// The base and the index of memory.
+fn registers_of(operand: Operand) -> (Option<RegSpec>, Option<RegSpec>) {
     match operand {
-        Operand::Register { reg } => Some(reg.name()),
-        Operand::MemDeref { base } => Some(base.name()),
-        Operand::Disp { base, .. } => Some(base.name()),
-        Operand::MemBaseIndexScale { base, .. } => Some(base.name()),
-        Operand::MemBaseIndexScaleDisp { base, .. } => Some(base.name()),
-        _ => None,
+        Operand::MemDeref { base } | Operand::Disp { base, .. } => (Some(base), None),
+        Operand::MemIndexScale { index, .. } | Operand::MemIndexScaleDisp { index, .. } => {
+            (None, Some(index))
+        }
+        Operand::MemBaseIndexScale { base, index, .. }
+        | Operand::MemBaseIndexScaleDisp { base, index, .. } => (Some(base), Some(index)),
+        _ => (None, None),
     }
-}
-
-/// Whether this is the first register of an operand.
-fn is_first(instruction: &Instruction, index: u8, name: Option<&str>) -> bool {
-    index < 4 && first_register(instruction.operand(index)) == name
 }
 
 #[test]
 fn match_an_operand(rt: HostRuntime) {
-    // add [rax + 8], ebx
+    // add [rax + 8], ebx; add eax, [rbx + rcx * 4 - 16]; add rax, [r12 * 1]
     let sum = decoded(&[0x01, 0x58, 0x08]);
     assert!(rt; has_memory(&sum));
-    assert!(rt; is_first(&sum, 0, Some("rax")));
-    assert!(rt; is_first(&sum, 1, Some("ebx")));
-    assert!(rt; is_first(&sum, 2, None));
+    assert!(rt; registers_of(sum.operand(0)) == (Some(RegSpec::rax()), None));
+    assert!(rt; registers_of(sum.operand(1)) == (None, None));
+    let (base, index) = registers_of(decoded(&[0x03, 0x44, 0x8b, 0xf0]).operand(1));
+    assert!(rt; base == Some(RegSpec::rbx()) && index == Some(RegSpec::rcx()));
+    let (base, index) = registers_of(decoded(&[0x4a, 0x03, 0x04, 0x25, 0, 0, 0, 0]).operand(1));
+    assert!(rt; base.is_none() && matches!(index, Some(index) if index.num() == 12));
 }
 
 /// Whether the visitor answers this operand.
