@@ -54,8 +54,8 @@ IMPLIED = [
 ]
 
 
-# Planted kinds at which this judge doesn't look: which refusal it is.
-UNSEEN = "refusal with another text"
+# Planted kinds that objdump has nothing to show: which refusal it is, and how many bits an immediate has.
+UNSEEN = "refusal with another text|immediate of another width"
 
 
 def width_of(name):
@@ -131,10 +131,10 @@ class Pair:
 
     def sizes_agree(self, ours, theirs):
         ours, theirs = BITS.get(ours, 0), BITS.get((theirs or "").lower(), 0)
-        if ours == theirs != 0:
-            return True
-        self.used.add("sizes")
         told = [width_of(it) for it in self.operands]
+        if ours == theirs != 0:
+            return ours not in told
+        self.used.add("sizes")
         return ours == 0 and (theirs in told or theirs == 0) or self.name in SIZES
 
     def places_agree(self, ours, theirs):
@@ -206,14 +206,14 @@ class Judge:
 
     def rules_of(self, at, end, form, their_end, text):
         """The rules that make a line the same as objdump's, or None."""
+        if text == "apart":
+            return {"lengths"}
         run = second.run_at(self.code, at)
         row = second.row_at(self.code, run, at + len(run))
         is_bad = second.name_of(text) == "(bad)"
         if form[4] or is_bad:
             is_known = is_bad or form[4] == "exhausted input" or second.may_refuse(form[4], run, row)
             return ({"refusals"} if not (form[4] and is_bad) else set()) if is_known and (form[4] or form[6] in second.REFUSED_THERE) else None
-        if text == "apart":
-            return {"lengths"}
         if end != their_end:
             return {"lengths"} if second.may_differ(form[6], (end - at, their_end - at), run, row) else None
         pair = Pair(form, text, run, row)
