@@ -286,7 +286,9 @@ ENDS = {"the last line cut short": lambda text: text[:-4], "the last line withou
 
 def off_after_refusal(lines, _):
     """The address of the line after a refusal higher by one."""
-    at = [at for at, line in enumerate(lines[:-1]) if "(bad" in line and "(bad" not in lines[at + 1]][0] + 1
+    at = next((at + 1 for at, line in enumerate(lines[:-1]) if "(bad" in line and "(bad" not in lines[at + 1]), None)
+    if at is None:
+        return lines
     address, rest = lines[at].split(" ", 1)
     return lines[:at] + [f"{int(address, 16) + 1:x} {rest}"] + lines[at + 1 :]
 
