@@ -37,15 +37,23 @@ static void widen(struct operand *operand, int bytes)
     if (operand->kind == REGISTER) operand->reg = ZydisRegisterEncode(classes[bytes], (ZyanU8)ZydisRegisterGetId(operand->reg));
 }
 
-/* The first operand that zydis doesn't show of those that a letter names: D and S are memory at rdi and rsi, A the accumulator. */
-static struct operand hidden(const struct reading *reading, char letter)
+/* Memory at rdi or rsi that zydis doesn't show, by the letter D or S; or NULL. */
+static const ZydisDecodedOperand *hidden_memory(const struct reading *reading, char letter)
 {
     for (int k = reading->read.operand_count_visible; k < reading->read.operand_count; k++) {
         const ZydisDecodedOperand *it = &reading->of[k];
-        if (it->type == ZYDIS_OPERAND_TYPE_MEMORY && letter != 'A') {
-            int id = ZydisRegisterGetId(it->mem.base);
-            if (id == (letter == 'D' ? 7 : 6)) return (struct operand){.kind = MEMORY, .reg = it->mem.base};
-        }
+        if (it->type == ZYDIS_OPERAND_TYPE_MEMORY && ZydisRegisterGetId(it->mem.base) == (letter == 'D' ? 7 : 6)) return it;
+    }
+    return NULL;
+}
+
+/* The first operand that zydis doesn't show of those that a letter names: D and S are memory at rdi and rsi, A the accumulator. */
+static struct operand hidden(const struct reading *reading, char letter)
+{
+    const ZydisDecodedOperand *memory = hidden_memory(reading, letter);
+    if (memory && letter != 'A') return (struct operand){.kind = MEMORY, .reg = memory->mem.base, .from = memory};
+    for (int k = reading->read.operand_count_visible; k < reading->read.operand_count; k++) {
+        const ZydisDecodedOperand *it = &reading->of[k];
         if (it->type == ZYDIS_OPERAND_TYPE_REGISTER && letter == 'A' && ZydisRegisterGetId(it->reg.value) == 0)
             return (struct operand){.kind = REGISTER, .reg = it->reg.value};
     }
@@ -86,7 +94,10 @@ static void put_texts(struct reading *reading, const char *word, size_t length)
     for (const char *end = word + length; word < end;) {
         size_t size = strcspn(word, ",; ");
         for (size_t k = 0; k < sizeof texts / sizeof *texts; k++)
-            if (has(word, size, texts[k])) put(reading, reading->count, (struct operand){.kind = TEXT, .text = texts[k]});
+            if (has(word, size, texts[k])) {
+                const ZydisDecodedOperand *from = hidden_memory(reading, *texts[k] == '[' ? texts[k][2] - 32 : 'D');
+                put(reading, reading->count, (struct operand){.kind = TEXT, .text = texts[k], .from = from});
+            }
         word += size + 1;
     }
 }

@@ -41,6 +41,12 @@ bool has_w(const struct code *code)
     return code->rex & 8;
 }
 
+/* INS, OUTS, MOVS, CMPS, STOS, LODS and SCAS. */
+bool is_string(const struct code *code)
+{
+    return code->map == 0 && ((code->opcode & 0xfc) == 0x6c || (code->opcode & 0xfc) == 0xa4 || (code->opcode >= 0xaa && code->opcode <= 0xaf));
+}
+
 /* The class v in bytes. Where 66 chooses the operation in map 0F38, and at 0F AE, it doesn't choose a size. */
 int v_bytes(const struct code *code)
 {

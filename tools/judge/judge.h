@@ -32,6 +32,7 @@ struct operand {
     bool is_signed;
     int bits;                        /* the width of an immediate, or of an absolute address */
     const char *text;
+    const ZydisDecodedOperand *from;  /* what it is in zydis's answer, or NULL */
 };
 
 /* A line of the listing, as it is expected. */
@@ -50,6 +51,7 @@ enum { UNDECIDED = 63 };
 /* code.c */
 struct code code_of(const unsigned char *bytes, size_t left);
 bool has_w(const struct code *code);
+bool is_string(const struct code *code);
 int v_bytes(const struct code *code);
 size_t spell(const struct code *code, unsigned char *out, size_t *front);
 const char *row_name(int map, int opcode, enum column column);
@@ -57,7 +59,12 @@ const char *row_name(int map, int opcode, enum column column);
 /* reading.c */
 bool decode(const ZydisDecoder *decoder, const unsigned char *bytes, size_t left, struct reading *reading, ZyanStatus *status);
 void read_as_here(struct reading *reading);
+int put_register(char *text, size_t room, ZydisRegister reg);
 int reading_text(size_t place, const struct reading *reading, char *text, size_t room);
+
+/* shown.c */
+int shown_text(unsigned long long address, const struct code *code, const struct reading *reading, char *text);
+void print_shown_reason(void);
 
 /* rules.c */
 void prepare_rules(void);

@@ -1,6 +1,6 @@
-/* judge RAW < SWEEP: holds the lines of the program's `sweep` over the bytes of the file RAW against what zydis answers in the mode of 64 bits
+/* judge RAW [BASE] < LINES: holds the lines of the program's `sweep` over the bytes of the file RAW against what zydis answers in the mode of 64 bits
  * with default settings. At each place the line is worked out from zydis's answer and the reasons of reasons.c, and must be the program's
- * line, byte for byte. It prints:
+ * line, byte for byte. With BASE, a hexadecimal number, the lines are those of `show BASE`. It prints:
  *
  *     unexplained PLACE BYTES | LINE | EXPECTED      for the first twenty lines that differ
  *     reason COUNT ROW REASON                        for each reason at each row
@@ -43,10 +43,11 @@ static void report(const unsigned char *bytes, size_t count, size_t at, const ch
 
 /* Holds the lines of standard input against what is expected over some bytes. A line of a later place means that one is missing, and one of an
  * earlier place is one too many. */
-static void judge(const unsigned char *bytes, size_t count)
+static void judge(const unsigned char *bytes, size_t count, const char *base)
 {
     static struct reading reading;
     size_t at = 0, lines = 0, refusals = 0, room = 0;
+    unsigned long long first = base ? strtoull(base, NULL, 16) : 0;
     char *line = NULL, text[512];
     ssize_t length = getline(&line, &room, stdin);
     ZydisDecoder decoder;
@@ -55,8 +56,8 @@ static void judge(const unsigned char *bytes, size_t count)
         struct code code = code_of(bytes + at, count - at);
         reading.refusal = NULL;
         expect(&decoder, &code, &reading);
-        int size = reading_text(at, &reading, text, sizeof text);
-        size_t place = length > 0 ? strtoull(line, NULL, 10) : count, next = at + (reading.refusal ? 1 : reading.length);
+        int size = base ? shown_text(first + at, &code, &reading, text) : reading_text(at, &reading, text, sizeof text);
+        size_t place = length > 0 ? strtoull(line, NULL, base ? 16 : 10) - first : count, next = at + (reading.refusal ? 1 : reading.length);
         lines++;
         refusals += reading.refusal != NULL;
         if (length != size || memcmp(line, text, (size_t)size) != 0) report(bytes, count, at, line, length, text);
@@ -65,6 +66,7 @@ static void judge(const unsigned char *bytes, size_t count)
     }
     for (; length > 0; length = getline(&line, &room, stdin)) report(bytes, count, count, line, length, "");
     print_reasons();
+    if (base) print_shown_reason();
     printf("counts\t%zu\t%zu\t%zu\t%zu\n", lines, lines - refusals, refusals, unexplained);
     free(line);
 }
@@ -76,13 +78,13 @@ int main(int argc, char **argv)
         ZyanU64 v = ZydisGetVersion();
         printf("zydis %d.%d.%d\n", (int)ZYDIS_VERSION_MAJOR(v), (int)ZYDIS_VERSION_MINOR(v), (int)ZYDIS_VERSION_PATCH(v));
     } else if (argc == 2 && strcmp(argv[1], "reasons") == 0) print_names();
-    else if (argc == 2) {
+    else if (argc == 2 || argc == 3) {
         prepare_rules();
         unsigned char *bytes = contents(argv[1], &count);
-        judge(bytes, count);
+        judge(bytes, count, argv[2]);
         free(bytes);
     } else {
-        fprintf(stderr, "usage: judge RAW < SWEEP | judge reasons | judge version\n");
+        fprintf(stderr, "usage: judge RAW [BASE] < LINES | judge reasons | judge version\n");
         return 2;
     }
     return 0;

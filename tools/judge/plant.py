@@ -3,7 +3,7 @@
 
     plant.py PROGRAM KIND WORDS..
 
-runs PROGRAM WORDS and prints what it prints, changed as KIND says. It ends with status 9 where nothing can be changed so. `tools/compare
+runs PROGRAM WORDS and prints what it prints, changed as KIND says, of `KINDS` for `sweep` and of `SHOWN` for `show`. It ends with status 9 where nothing can be changed so. `tools/compare
 --self-test` runs it with each kind, and holds `planted` against the second judge.
 """
 
@@ -176,6 +176,81 @@ EDITS = [
     ("refusal with another text", "invalid operand", "bad operand"),
 ]
 
+def after(change):
+    """Puts another number in place of the address in a match: what `change` says of the address after the instruction, of its length, and of it."""
+    def changed(m):
+        length = len(m[2].split())
+        return f"{m[1]}{m[2]}{m[3]}0x{change(int(m[1], 16) + length, length, int(m[4], 16)):x}"
+
+    return changed
+
+
+# The line of a branch, and of memory relative to rip, up to the address in it.
+BRANCH = r"^(\w+)(  (?:\w\w )+)( *J\w+ )0x(\w+)"
+RELATIVE = r"^(\w+)(  (?:\w\w )+)( *\w.*\[)0x(\w+)(?=\])"
+
+# As EDITS, of the lines of `show`.
+SHOWN_EDITS = [
+    ("address higher by one", r"^(\w+)(?=  .* MOV)", lambda m: f"{int(m[1], 16) + 1:x}"),
+    ("address without the base", r"^\w+(?=  .* ADD)", lambda m: f"{int(m[0], 16) % 4096:x}"),
+    ("address with a leading zero", r"^(?=\w+  .* SUB)", "0"),
+    ("address in capital letters", r"^(\d*[a-f]\w*)(?=  )", lambda m: m[1].upper()),
+    ("address without wrap", r"^(\w{1,8})(?=  )", lambda m: f"1{m[1]:0>16}"),
+    ("a byte left out", r"(?<=\w  )(\w\w) \w\w (?=.* MOV)", r"\1 "),
+    ("the first byte left out", r"(?<=\w  )\w\w (?=.* CMP)", ""),
+    ("a byte more", r"^(\w+  (?:\w\w )+)(?= *LEA)", r"\g<1>90 "),
+    ("another byte", r"(?<=\w  )(\w\w)(?= .* MOV)", lambda m: f"{int(m[1], 16) ^ 1:02x}"),
+    ("bytes without a blank", r"(?<=\w  )(\w\w) (?=\w\w )", r"\1"),
+    ("a narrower column", r"^(\w+  (?:\w\w )+ *) (?=XOR)", r"\1"),
+    ("target with the wrong sign", BRANCH, after(lambda next, length, there: (2 * next - there) % 2**64)),
+    ("target off by the length", BRANCH, after(lambda next, length, there: (there - length) % 2**64)),
+    ("target higher by one", BRANCH, after(lambda next, length, there: there + 1)),
+    ("target as distance", BRANCH, after(lambda next, length, there: (there - next) % 2**64)),
+    ("target of CALL", r"(?<=CALL 0x)(\w+)", lambda m: f"{int(m[1], 16) ^ 2**12:x}"),
+    ("rip address with the wrong sign", RELATIVE, after(lambda next, length, there: (2 * next - there) % 2**64)),
+    ("rip address off by the length", RELATIVE, after(lambda next, length, there: (there - length) % 2**64)),
+    ("rip address without wrap", RELATIVE, after(lambda next, length, there: there + 2**64)),
+    ("rip address of 32 bits", RELATIVE.replace("0x(", "0x(f{8}"), after(lambda next, length, there: there % 2**32)),
+    ("rip as a base", RELATIVE, lambda m: f"{m[1]}{m[2]}{m[3]}rip+0x{m[4]}"),
+    ("eip address of 64 bits", RELATIVE.replace("(  (", "(  67 ("), after(lambda next, length, there: there + 2**32)),
+    ("segment missing", r"[fg]s:(?=\[)", ""),
+    ("another segment", r"fs:(?=\[)", "gs:"),
+    ("segment that isn't there", r"(?<= MOV )(?=\[)", "fs:"),
+    ("segment DS of a MOV", r"(?<= MOV )(?=\[)", "ds:"),
+    ("segment ES of a string operation missing", r"es:(?=\[)", ""),
+    ("segment DS of a string operation missing", r"ds:(?=\[)", ""),
+    ("segment ES as DS", r"es:(?=\[)", "ds:"),
+    ("segment DS as ES", r"ds:(?=\[)", "es:"),
+    ("REP on a MOV", r"(?<= )MOV (?=\[)", "REP MOV "),
+    ("REP that isn't there", r"(?<= )(?<!REP )(?=STOS)", "REP "),
+    ("REP missing", "REP ", ""),
+    ("REP as REPE", "REP ", "REPE "),
+    ("REPE as REP", "REPE ", "REP "),
+    ("REPNE as REPE", "REPNE ", "REPE "),
+    ("LOCK missing", "LOCK ", ""),
+    ("LOCK that isn't there", r"(?<= )ADD (?=\[)", "LOCK ADD "),
+    ("size word wrong", "dword ", "qword "),
+    ("size word of a byte", "byte ", "word "),
+    ("size word missing", "qword ", ""),
+    ("size word that a register tells", r"(?<= MOV )(?=\[.*, r..$)", "qword "),
+    ("size word in capital letters", "dword ", "DWORD "),
+    ("immediate with the other sign", "i8:-", "i8:"),
+    ("immediate in decimal", r"i32:0x(\w\w+)", lambda m: f"i32:{int(m[1], 16)}"),
+    ("immediate of another width", r"i8:(?=0x)", "i32:"),
+    ("digits in capital letters", r"0x(\d*[a-f]\w*)", lambda m: f"0x{m[1].upper()}"),
+    ("displacement with the other sign", r"(?<=[a-z])-(?=0x)", "+"),
+    ("displacement higher by one", r"(?<=[a-z]\+0x)(\w+)(?=\])", lambda m: f"{int(m[1], 16) + 1:x}"),
+    ("displacement in decimal", r"(?<=[a-z]\+)0x(\w\w+)(?=\])", lambda m: f"{int(m[1], 16)}"),
+    ("absolute address of another value", r"(?<=abs32:0x)(\w+)", lambda m: f"{int(m[1], 16) ^ 1:x}"),
+    ("name of the opposite condition", " JZ ", " JNZ "),
+    ("register with another number", " rcx,", " rdx,"),
+    ("operands exchanged", r"( MOV) (\S+), (r\S+)$", r"\1 \3, \2"),
+    ("refusal of two bytes", r"^(\w+  \w\w)    (?=.*\(bad)", r"\1 90 "),
+    ("refusal with another text", "invalid opcode", "invalid operand"),
+    ("refusal as instruction", r"\(bad: invalid opcode\)", "NOP"),
+    ("instruction as refusal", r"(?<= )MOV .*", "(bad: invalid opcode)"),
+]
+
 # The kind, and what becomes of the list of all lines and the number of one in the middle.
 MOVES = {
     "a line missing": lambda lines, at: lines[:at] + lines[at + 1 :],
@@ -207,6 +282,15 @@ ALL = [
 ]
 
 ENDS = {"the last line cut short": lambda text: text[:-4], "the last line without its end": lambda text: text[:-1]}
+
+
+def off_after_refusal(lines, _):
+    """The address of the line after a refusal higher by one."""
+    at = next((at + 1 for at, line in enumerate(lines[:-1]) if "(bad" in line and "(bad" not in lines[at + 1]), None)
+    if at is None:
+        return lines
+    address, rest = lines[at].split(" ", 1)
+    return lines[:at] + [f"{int(address, 16) + 1:x} {rest}"] + lines[at + 1 :]
 
 
 def any_byte(seed):
@@ -245,13 +329,17 @@ KINDS |= MOVES
 KINDS |= {f"any byte of any line as another one, {seed}": any_byte(seed) for seed in range(1, 11)}
 KINDS |= dict.fromkeys(ENDS)
 
+SHOWN = {f"show: {kind}": edit(pattern, text) for kind, pattern, text in SHOWN_EDITS}
+SHOWN |= {f"show: {kind}": change for kind, change in MOVES.items()}
+SHOWN["show: address off by one after a refusal"] = off_after_refusal
+
 
 def planted(kind, text):
-    """The text of a sweep, changed as a kind says."""
+    """The text of a listing, changed as a kind says."""
     if kind in ENDS:
         return ENDS[kind](text)
     lines = text.split("\n")[:-1]
-    return "".join(line + "\n" for line in KINDS[kind](lines, len(lines) // 2))
+    return "".join(line + "\n" for line in (KINDS | SHOWN)[kind](lines, len(lines) // 2))
 
 
 def main(program, kind, words):

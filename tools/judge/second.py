@@ -30,7 +30,7 @@ NAMES = [
     for pair in r"""ret=RETURN retf=RETF je=JZ jne=JNZ jae=JNB jbe=JNA sete=SETZ setne=SETNZ cmove=CMOVZ cmovne=CMOVNZ cmovae=CMOVNB
     cmovbe=CMOVNA loope=LOOPZ loopne=LOOPNZ movabs=MOV int3=INT int1=INT fwait=WAIT xlatb=XLAT prefetcht0=PREFETCH0 prefetcht1=PREFETCH1
     prefetcht2=PREFETCH2 prefetch=NOP prefetchwt1=NOP pause=NOP cldemote=NOP iret=IRETD fxsave64=FXSAVE fxrstor64=FXRSTOR xsave64=XSAVE
-    xrstor64=XRSTOR xsaveopt64=XSAVEOPT incsspd=INCSSP incsspq=INCSSP rdsspd=NOP rdsspq=NOP wrssd=WRSS wrssq=WRSS wrussd=WRUSS
+    xrstor64=XRSTOR xsaveopt64=XSAVEOPT incsspd=INCSSP incsspq=INCSSP rdsspd=NOP rdsspq=NOP fldenvw=FLDENV fnstenvw=FNSTENV frstorw=FRSTOR fnsavew=FNSAVE wrssd=WRSS wrssq=WRSS wrussd=WRUSS
     wrussq=WRUSS sysretl=SYSRET sysretq=SYSRET sysexitl=SYSEXIT sysexitq=SYSEXIT movq=MOVD@0f6e/.
     movq=MOVD@(?<!66.4..)(?<!f3.)(?<!f3.4..)0f7e/. call=CALLF@ff/3 jmp=JMPF@ff/5 shl=SAL@(?:c[01]|d[0-3])/6 xchg=NOP@(?<!4[13579bdf].)90/. pushw=PUSH popw=POP iretw=IRET retw=RETURN retfw=RETF retfq=RETF pushfw=PUSHF popfw=POPF leavew=LEAVE
     enterw=ENTER sysretd=SYSRET sysexitd=SYSEXIT wbnoinvd=WBINVD fneni(8087=FENI8087_NOP fndisi(8087=FDISI8087_NOP
