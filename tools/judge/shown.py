@@ -39,7 +39,7 @@ THEIR_PLACE = re.compile(r"(?:([A-Z0-9]+) PTR )?(?:([a-z]s):)?(?:\[(.*)\]|(0x[0-
 BITS = {"byte": 8, "word": 16, "dword": 32, "fword": 48, "qword": 64, "tbyte": 80, "xmmword": 128, "oword": 128, "zmmword": 512}
 
 # Operations of another size than objdump's, or whose size objdump doesn't have; and those with registers of another width.
-SIZES = """LEA NOP MOVD PREFETCHW PREFETCHNTA PREFETCH0 PREFETCH1 PREFETCH2 CLFLUSH CLFLUSHOPT CLWB CALL CALLF JMP JMPF BT BTS BTR BTC SGDT SIDT
+SIZES = """LEA NOP MOVD PREFETCHW PREFETCHNTA PREFETCH0 PREFETCH1 PREFETCH2 CLFLUSH CLFLUSHOPT CLWB CALLF JMPF BT BTS BTR BTC SGDT SIDT
 LGDT LIDT LFS LGS LSS ENQCMD ENQCMDS UD0 CVTPS2PI CVTTPS2PI""".split()
 WIDTHS = "INS OUTS MOVSXD BT BTS BTR BTC PUSH POP PINSRD SLDT STR UD0".split()
 
@@ -135,7 +135,8 @@ class Pair:
         if ours == theirs != 0:
             return ours not in told
         self.used.add("sizes")
-        return ours == 0 and (theirs in told or theirs == 0) or self.name in SIZES
+        is_other = self.name in SIZES or self.name in ("CALL", "JMP") and 0x66 in self.run
+        return ours == 0 and (theirs in told or theirs == 0) or is_other and self.their_name != "nop"
 
     def places_agree(self, ours, theirs):
         (size, segment, inside), (their_size, their_segment, their_inside, absolute) = ours.groups(), theirs.groups()
