@@ -1,6 +1,6 @@
 use Rattle.std.proofs.Common.{◌≡◌, ◌≤◌, ◌+◌, ◌*◌, ◌++◌, take}
 use Rattle.x86_show.specs.Instructions.{first_operands}
-use Rattle.x86_show.proofs.instructions.put_operands.Given as goal
+use Rattle.x86_show.proofs.text.put_operands.Given as goal
 
 abbrev pub invariant-loop-k : goal.invariant-loop-k
 invariant-loop-k l = record {
