@@ -15,7 +15,7 @@ use Rattle.x86_operands.specs.declared.operands.Operand.{Operand}
 use Rattle.x86_operands.specs.declared.operands.Operand.TheVariants as operand
 use Rattle.x86_operands.specs.Operands.{is_memory_operand}
 use Rattle.x86_decode.specs.declared.instructions.Instruction.{Instruction}
-use Rattle.x86_decode.specs.Instruction.{opcode, length_of, mem_size_number, operand_count, operand_at, slot_at}
+use Rattle.x86_decode.specs.Instruction.{opcode, length_of, mem_size_number, operand_count, operand_at, operands_of, slot_at}
 use Rattle.x86_layout.specs.Sweeps.Branches.{branch_target}
 use Rattle.x86_lines.specs.Hexadecimal.{prefixed}
 use Rattle.x86_show.specs.Operands.{moved, value_text, memory_text}
@@ -56,14 +56,13 @@ is_register_of size (operand.Register reg) = width_of (class reg) == size
 is_register_of size o = false
 
 -- A register operand has this size.
-abbrev pub tells_size : Instruction → ℕ → Bool
-tells_size i size =
-    is_register_of size (operand_at i 0) || (is_register_of size (operand_at i 1)
-    || (is_register_of size (operand_at i 2) || is_register_of size (operand_at i 3)))
+abbrev pub tells_size : ℕ → List Operand → Bool
+tells_size size [] = false
+tells_size size (o ∷ os) = is_register_of size o || tells_size size os
 
 -- the size of the memory, where no register operand has it
 abbrev pub shown_size : Instruction → List ℕ
-shown_size i = if tells_size i (mem_size_number i) then [] else size_word (mem_size_number i)
+shown_size i = if tells_size (mem_size_number i) (operands_of i) then [] else size_word (mem_size_number i)
 
 abbrev pub segment_name : Segment → List ℕ
 segment_name DS = codes "ds:"
@@ -94,19 +93,19 @@ segment_text i k = shown_segment (is_string (opcode i)) (segment_of i k)
 -- ---- operands
 
 -- an operand, where the next instruction is at an address: a value, or memory with its size and its segment
-unfoldable pub shown_operand : Instruction → ℕ → ℕ → List ℕ
-shown_operand i next k =
+abbrev pub operand_text : Instruction → ℕ → ℕ → List ℕ
+operand_text i next k =
     if is_memory_operand (operand_at i k)
     then shown_size i ++ segment_text i k ++ codes "[" ++ memory_text next (operand_at i k) ++ codes "]"
     else value_text (operand_at i k)
 
-abbrev pub separator : ℕ → List ℕ
-separator k = if k == 0 then codes " " else codes ", "
+-- an operand after a space, or after a comma and a space
+unfoldable pub shown_operand : Instruction → ℕ → ℕ → List ℕ
+shown_operand i next k = (if k == 0 then codes " " else codes ", ") ++ operand_text i next k
 
--- the first operands, after a space and joined by commas
 abbrev pub first_operands : Instruction → ℕ → ℕ → List ℕ
 first_operands i next zero = []
-first_operands i next (suc k) = first_operands i next k ++ separator k ++ shown_operand i next k
+first_operands i next (suc k) = first_operands i next k ++ shown_operand i next k
 
 -- the address that XBEGIN leads to where its transaction aborts
 abbrev pub abort_target : ℕ → Operand → Option ℕ

@@ -21,9 +21,6 @@ value_text (operand.ImmediateU32 n) = codes "u32:" ++ prefixed n
 value_text (operand.ImmediateI64 n) = codes "i64:" ++ signed_hexadecimal n
 value_text (operand.ImmediateU64 n) = codes "u64:" ++ prefixed n
 value_text (operand.Register reg) = register_text reg
-value_text (operand.RegisterMaskMerge reg _ _) = register_text reg
-value_text (operand.RegisterMaskMergeSae reg _ _ _) = register_text reg
-value_text (operand.RegisterMaskMergeSaeNoround reg _ _) = register_text reg
 value_text o = []
 
 -- a sign and a number, but 0

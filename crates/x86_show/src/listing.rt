@@ -20,9 +20,6 @@ use x86_lines::hexadecimal::{put_hexadecimal, put_spaced_bytes};
 use x86_lines::{Place, Room};
 use x86_streams::{Settling, Sink, Source, Window};
 
-/// The most bytes of a text: more than any has.
-const TEXT_MAX: u64 = 4_611_686_018_427_387_903;
-
 /// How many bytes a line has room for, its end included.
 const ROOM: usize = 320;
 
@@ -47,10 +44,9 @@ fn write_shown(line: &mut Room<ROOM>, address: u64, instruction: &Instruction, b
     ensures text { line.new.items ≡ shown_text address bytes.now instruction.now }
     ensures short { array_vec_len line.new < shown_room }
 {
-    let cells: &mut [u8] = &mut line.cells;
-    let at = put_beginning(cells, address, bytes);
+    let at = put_beginning(&mut line.cells, address, bytes);
     let next = address.wrapping_add(length_of(instruction));
-    line.len = put_instruction(cells, at, instruction, next);
+    line.len = put_instruction(&mut line.cells, at, instruction, next);
 }
 
 /// Writes the line of a byte that begins no instruction over another, without its end.
@@ -59,11 +55,10 @@ fn write_bad(line: &mut Room<ROOM>, address: u64, error: DecodeError, bytes: &[u
     ensures text { line.new.items ≡ refused_text address bytes.now error }
     ensures short { array_vec_len line.new < shown_room }
 {
-    let cells: &mut [u8] = &mut line.cells;
-    let at = put_beginning(cells, address, bytes);
-    let at = put_bytes(cells, at, b"(bad: ");
-    let at = put_bytes(cells, at, error.description().as_bytes());
-    line.len = put_bytes(cells, at, b")");
+    let at = put_beginning(&mut line.cells, address, bytes);
+    let at = put_bytes(&mut line.cells, at, b"(bad: ");
+    let at = put_bytes(&mut line.cells, at, error.description().as_bytes());
+    line.len = put_bytes(&mut line.cells, at, b")");
 }
 
 /// The listing of an image that begins at an address.
@@ -119,5 +114,6 @@ pub fn show<S: Source, K: Sink, T: Settling<K>>(
         (shown_at false base 0) (text_of shown_max) result source.old source.new sink.old sink.new }
 {
     let decoder = InstDecoder::default();
-    list(&decoder, &ShowAt { base }, settling, TEXT_MAX, source, sink)
+    let course = ShowAt { base };
+    list(&decoder, &course, settling, u64::MAX / 4, source, sink)
 }

@@ -16,7 +16,6 @@ use x86_cli::{Finished, Status};
 use x86_lines::cells::put_bytes;
 use x86_streams::{Buffered, Gathered, Input, Output, StdSink, StdSource, Watched};
 
-/// The number of one to sixteen hexadecimal digits.
 fn base_number(digits: &[u8]) -> Option<u64>
     ensures { result ≡ base_number digits.now }
 {
@@ -86,10 +85,7 @@ pub fn finish<E: Output + Drop>(status: Status, gone: bool, errors: E) -> (ExitC
     ensures says { Reports E.writes E.flushes (said status gone) errors result.1 }
 {
     match status {
-        Status::Usage => (
-            ExitCode::from(status.code()),
-            report("usage: show [BASE]", errors),
-        ),
+        Status::Usage => (ExitCode::from(2), report("usage: show [BASE]", errors)),
         _ => x86_cli::finish(status, gone, errors),
     }
 }

@@ -2,21 +2,18 @@
 
 use crate::program::base_in;
 
-/// Words, and the base that each says.
-static BASES: [(&str, Option<u64>); 7] = [
-    ("0x401000", Some(0x401000)),
-    ("0X1f", Some(31)),
-    ("ffffffffffffFFFF", Some(u64::MAX)),
-    ("10000000000000000", None),
-    ("0x", None),
-    ("4g", None),
-    ("+1", None),
-];
-
 #[test]
 fn bases(rt: HostRuntime) {
     assert!(&rt; base_in(&[]) == Some(0));
-    for (word, base) in BASES {
+    for (word, base) in [
+        ("0x401000", Some(0x401000)),
+        ("0X1f", Some(31)),
+        ("ffffffffffffFFFF", Some(u64::MAX)),
+        ("10000000000000000", None),
+        ("0x", None),
+        ("4g", None),
+        ("+1", None),
+    ] {
         let word = String::from_str(rt.alloc(), word).expect(&rt, "memory");
         assert!(&rt; base_in(&[word]) == base);
     }

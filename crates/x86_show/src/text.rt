@@ -1,15 +1,15 @@
 //! The text of instructions, with numbers in hexadecimal.
 
-ghost use Rattle.std.specs.Prelude.{◌≡◌, ◌+◌, ◌++◌, ◌<◌, ◌≤◌, length, take, min};
-ghost use Rattle.x86_decode.specs.Instruction.{operand_count};
-ghost use Rattle.x86_lines.specs.Hexadecimal.{prefixed, signed_hexadecimal};
-ghost use Rattle.x86_show.specs.Instructions.{is_string, prefixes_text, is_register_of, tells_size, shown_size, segment_of, segment_text, separator, shown_operand, target_of, first_operands, shown_instruction};
+ghost use Rattle.std.specs.Prelude.{◌≡◌, ◌+◌, ◌++◌, ◌^◌, ◌<◌, ◌≤◌, length, take, unsigned_abs};
+ghost use Rattle.x86_decode.specs.Instruction.{operands_of};
+ghost use Rattle.x86_lines.specs.Hexadecimal.{signed_hexadecimal};
+ghost use Rattle.x86_show.specs.Instructions.{is_string, prefixes_text, tells_size, shown_size, segment_text, shown_operand, target_of, shown_instruction};
 ghost use Rattle.x86_show.specs.Operands.{distance_text, moved_place, value_text, memory_text};
 
 use x86_decode::Instruction;
 use x86_layout::branch_target;
 use x86_lines::cells::{put, put_bytes, put_first};
-use x86_lines::hexadecimal::{put_prefixed, put_signed_hexadecimal};
+use x86_lines::hexadecimal::put_prefixed;
 use x86_opcodes::Opcode;
 use x86_operands::{Operand, Slot};
 use x86_regs::{RegSpec, RegisterClass, Segment};
@@ -25,15 +25,14 @@ fn is_string(opcode: Opcode) -> bool
     }
 }
 
-/// Writes LOCK, and how F2 and F3 repeat a string operation.
-fn put_prefixes(cells: &mut [u8], at: usize, instruction: &Instruction) -> usize
+fn put_prefixes(cells: &mut [u8], at: usize, inst: &Instruction) -> usize
     requires { at + 11 ≤ length cells.old }
-    ensures text { take result cells.new ≡ take at cells.old ++ prefixes_text instruction.now }
+    ensures text { take result cells.new ≡ take at cells.old ++ prefixes_text inst.now }
     ensures short { result ≤ at + 11 }
 {
-    let prefixes = &instruction.prefixes;
+    let prefixes = &inst.prefixes;
     let at = put_first(cells, at, b"LOCK    ", if prefixes.lock() { 5 } else { 0 });
-    match instruction.opcode() {
+    match inst.opcode() {
         opcode if !is_string(opcode) => at,
         Opcode::CMPS | Opcode::SCAS if prefixes.rep() => put_bytes(cells, at, b"REPE "),
         _ if prefixes.rep() => put_bytes(cells, at, b"REP "),
@@ -42,28 +41,23 @@ fn put_prefixes(cells: &mut [u8], at: usize, instruction: &Instruction) -> usize
     }
 }
 
-fn is_register_of(size: u8, operand: Operand) -> bool
-    ensures { result ≡ is_register_of size operand }
+fn tells_size(inst: &Instruction, size: u8) -> bool
+    ensures { result ≡ tells_size size (operands_of inst.now) }
 {
-    matches!(operand, Operand::Register { reg } if reg.width() == size)
+    for operand in inst.operands() {
+        if matches!(operand, Operand::Register { reg } if reg.width() == size) {
+            return true;
+        }
+    }
+    false
 }
 
-/// Whether a register operand has the size of the memory.
-fn tells_size(instruction: &Instruction, size: u8) -> bool
-    ensures { result ≡ tells_size instruction.now size }
-{
-    is_register_of(size, instruction.operand(0))
-        || is_register_of(size, instruction.operand(1))
-        || is_register_of(size, instruction.operand(2))
-        || is_register_of(size, instruction.operand(3))
-}
-
-fn shown_size(instruction: &Instruction) -> &'static [u8]
-    ensures text { result.now ≡ shown_size instruction.now }
+fn shown_size(inst: &Instruction) -> &'static [u8]
+    ensures text { result.now ≡ shown_size inst.now }
     ensures short { length result.now ≤ 8 }
 {
-    match size_number(instruction) {
-        size if tells_size(instruction, size) => b"",
+    match size_number(inst) {
+        size if tells_size(inst, size) => b"",
         1 => b"byte ",
         2 => b"word ",
         4 => b"dword ",
@@ -80,80 +74,59 @@ fn shown_size(instruction: &Instruction) -> &'static [u8]
 /// The segments in their order.
 static SEGMENTS: [[u8; 4]; 6] = [*b"ds: ", *b"cs: ", *b"es: ", *b"fs: ", *b"gs: ", *b"ss: "];
 
-/// The segment of a memory operand: what MOVS and CMPS name by rdi, and INS stores to, is in ES.
-fn segment_of(instruction: &Instruction, k: u8) -> Segment
-    requires { k < 4 }
-    ensures { result ≡ segment_of instruction.now k }
-{
-    match instruction.slot(k) {
-        Slot::DerefRdi | Slot::DerefEdi => Segment::ES,
-        _ if instruction.opcode() == Opcode::INS => Segment::ES,
-        _ => instruction.prefixes.segment(),
-    }
-}
-
-/// Writes the segment of a memory operand, but DS of string operations alone.
-fn put_segment(cells: &mut [u8], at: usize, instruction: &Instruction, k: u8) -> usize
+/// Writes the segment of a memory operand, but DS of string operations alone. What MOVS and CMPS name by rdi, and INS
+/// stores to, is in ES.
+fn put_segment(cells: &mut [u8], at: usize, inst: &Instruction, k: u8) -> usize
     requires room { at + 4 ≤ length cells.old }
     requires there { k < 4 }
-    ensures text { take result cells.new ≡ take at cells.old ++ segment_text instruction.now k }
+    ensures text { take result cells.new ≡ take at cells.old ++ segment_text inst.now k }
     ensures short { result ≤ at + 3 }
 {
-    let segment = segment_of(instruction, k);
-    if matches!(segment, Segment::DS) && !is_string(instruction.opcode()) {
-        at
-    } else {
-        put_first(cells, at, &SEGMENTS[segment as usize], 3)
+    let segment = match inst.slot(k) {
+        Slot::DerefRdi | Slot::DerefEdi => Segment::ES,
+        _ if inst.opcode() == Opcode::INS => Segment::ES,
+        _ => inst.prefixes.segment(),
+    };
+    if matches!(segment, Segment::DS) && !is_string(inst.opcode()) {
+        return at;
     }
+    put_first(cells, at, &SEGMENTS[segment as usize], 3)
 }
 
 /// Writes a number after the first bytes of a block.
-fn put_number(cells: &mut [u8], at: usize, label: &[u8; 8], count: usize, n: u64) -> usize
-    requires room { at + 26 ≤ length cells.old }
+fn put_number(cells: &mut [u8], at: usize, label: &[u8; 8], count: usize, n: i128) -> usize
+    requires room { at + 27 ≤ length cells.old }
     requires count { count ≤ 6 }
-    ensures text { take result cells.new ≡ take at cells.old ++ take count label.now ++ prefixed n }
-    ensures short { result ≤ at + 24 }
-{
-    let at = put_first(cells, at, label, count);
-    put_prefixed(cells, at, n)
-}
-
-fn put_signed(cells: &mut [u8], at: usize, label: &[u8; 4], count: usize, n: i64) -> usize
-    requires room { at + 23 ≤ length cells.old }
-    requires count { count ≤ 4 }
+    requires small { unsigned_abs n < 2 ^ 64 }
     ensures text { take result cells.new ≡
         take at cells.old ++ take count label.now ++ signed_hexadecimal n }
-    ensures short { result ≤ at + 23 }
+    ensures short { result ≤ at + 25 }
 {
     let at = put_first(cells, at, label, count);
-    put_signed_hexadecimal(cells, at, n)
+    let at = if n < 0 { put(cells, at, b'-') } else { at };
+    put_prefixed(cells, at, n.unsigned_abs() as u64)
 }
 
-/// Writes an operand that isn't memory.
 #[tactic(auto, unfolding(crate::specs::Operands::value_text))]
 fn put_value(cells: &mut [u8], at: usize, operand: &Operand) -> usize
-    requires { at + 26 ≤ length cells.old }
+    requires { at + 27 ≤ length cells.old }
     ensures text { take result cells.new ≡ take at cells.old ++ value_text operand.now }
-    ensures short { result ≤ at + 24 }
+    ensures short { result ≤ at + 25 }
 {
     match operand {
-        Operand::ImmediateI8 { imm } => put_signed(cells, at, b"i8: ", 3, *imm as i64),
-        Operand::ImmediateU8 { imm } => put_number(cells, at, b"u8:     ", 3, *imm as u64),
-        Operand::ImmediateI16 { imm } => put_signed(cells, at, b"i16:", 4, *imm as i64),
-        Operand::ImmediateU16 { imm } => put_number(cells, at, b"u16:    ", 4, *imm as u64),
-        Operand::ImmediateI32 { imm } => put_signed(cells, at, b"i32:", 4, *imm as i64),
-        Operand::ImmediateU32 { imm } => put_number(cells, at, b"u32:    ", 4, *imm as u64),
-        Operand::ImmediateI64 { imm } => put_signed(cells, at, b"i64:", 4, *imm),
-        Operand::ImmediateU64 { imm } => put_number(cells, at, b"u64:    ", 4, *imm),
-        Operand::Register { reg }
-        | Operand::RegisterMaskMerge { reg, .. }
-        | Operand::RegisterMaskMergeSae { reg, .. }
-        | Operand::RegisterMaskMergeSaeNoround { reg, .. } => put_register(cells, at, reg),
+        Operand::ImmediateI8 { imm } => put_number(cells, at, b"i8:     ", 3, *imm as i128),
+        Operand::ImmediateU8 { imm } => put_number(cells, at, b"u8:     ", 3, *imm as i128),
+        Operand::ImmediateI16 { imm } => put_number(cells, at, b"i16:    ", 4, *imm as i128),
+        Operand::ImmediateU16 { imm } => put_number(cells, at, b"u16:    ", 4, *imm as i128),
+        Operand::ImmediateI32 { imm } => put_number(cells, at, b"i32:    ", 4, *imm as i128),
+        Operand::ImmediateU32 { imm } => put_number(cells, at, b"u32:    ", 4, *imm as i128),
+        Operand::ImmediateI64 { imm } => put_number(cells, at, b"i64:    ", 4, *imm as i128),
+        Operand::ImmediateU64 { imm } => put_number(cells, at, b"u64:    ", 4, *imm as i128),
+        Operand::Register { reg } => put_register(cells, at, reg),
         _ => at,
     }
 }
 
-/// Writes a displacement, but 0.
 fn put_distance(cells: &mut [u8], at: usize, disp: i32) -> usize
     requires { at + 19 ≤ length cells.old }
     ensures text { take result cells.new ≡ take at cells.old ++ distance_text disp }
@@ -191,8 +164,8 @@ fn put_memory(cells: &mut [u8], at: usize, operand: &Operand, next: u64) -> usiz
     ensures short { result ≤ at + 36 }
 {
     match operand {
-        Operand::AbsoluteU32 { addr } => put_number(cells, at, b"abs32:  ", 6, *addr as u64),
-        Operand::AbsoluteU64 { addr } => put_number(cells, at, b"abs64:  ", 6, *addr),
+        Operand::AbsoluteU32 { addr } => put_number(cells, at, b"abs32:  ", 6, *addr as i128),
+        Operand::AbsoluteU64 { addr } => put_number(cells, at, b"abs64:  ", 6, *addr as i128),
         Operand::MemDeref { base } => put_moved(cells, at, base, 0, next),
         Operand::Disp { base, disp } => put_moved(cells, at, base, *disp, next),
         Operand::MemIndexScale { index, scale } => put_scaled(cells, at, None, index, *scale),
@@ -217,73 +190,52 @@ fn put_memory(cells: &mut [u8], at: usize, operand: &Operand, next: u64) -> usiz
 }
 
 /// The target of a relative branch, or of XBEGIN where its transaction aborts.
-fn target_of(instruction: &Instruction, next: u64) -> Option<u64>
-    ensures { result ≡ target_of instruction.now next }
+fn target_of(inst: &Instruction, next: u64) -> Option<u64>
+    ensures { result ≡ target_of inst.now next }
 {
-    match instruction.operand(0) {
-        Operand::ImmediateI32 { imm } if instruction.opcode() == Opcode::XBEGIN => {
+    match inst.operand(0) {
+        Operand::ImmediateI32 { imm } if inst.opcode() == Opcode::XBEGIN => {
             Some(next.wrapping_add_signed(imm as i64))
         }
-        _ => branch_target(instruction, next),
+        _ => branch_target(inst, next),
     }
 }
 
-/// Writes an operand after a space, or after a comma and a space: memory with its size and its segment, or a value.
 #[tactic(auto, unfolding(crate::specs::Instructions::shown_operand))]
-fn put_operand(cells: &mut [u8], at: usize, instruction: &Instruction, next: u64, k: u8) -> usize
+fn put_operand(cells: &mut [u8], at: usize, inst: &Instruction, next: u64, k: u8) -> usize
     requires room { at + 66 ≤ length cells.old }
     requires there { k < 4 }
-    ensures text { take result cells.new ≡
-        take at cells.old ++ separator k ++ shown_operand instruction.now next k }
+    ensures text { take result cells.new ≡ take at cells.old ++ shown_operand inst.now next k }
     ensures short { result ≤ at + 51 }
 {
     let at = if k == 0 { at } else { put(cells, at, b',') };
     let at = put(cells, at, b' ');
-    let operand = instruction.operand(k);
+    let operand = inst.operand(k);
     if !operand.is_memory() {
         return put_value(cells, at, &operand);
     }
-    let at = put_bytes(cells, at, shown_size(instruction));
-    let at = put_segment(cells, at, instruction, k);
+    let at = put_bytes(cells, at, shown_size(inst));
+    let at = put_segment(cells, at, inst, k);
     let at = put(cells, at, b'[');
     let at = put_memory(cells, at, &operand, next);
     put(cells, at, b']')
 }
 
-/// Writes the operands.
-fn put_operands(cells: &mut [u8], at: usize, instruction: &Instruction, next: u64) -> usize
-    requires { at + 220 ≤ length cells.old }
-    ensures text { take result cells.new ≡ take at cells.old
-        ++ first_operands instruction.now next (min (operand_count instruction.now) 4) }
-    ensures short { result ≤ at + 204 }
-{
-    let mut at = at;
-    for k in 0..instruction.operand_count().min(4) {
-        at = put_operand(cells, at, instruction, next, k);
-    }
-    at
-}
-
-/// Writes the prefixes that count, the mnemonic and the operands, where the next instruction is at the address `next`.
+/// Writes the prefixes that count, the mnemonic, and the target or the operands, where the next instruction is at `next`.
 #[tactic(auto, unfolding(crate::specs::Instructions::shown_instruction))]
-pub(crate) fn put_instruction(
-    cells: &mut [u8],
-    at: usize,
-    instruction: &Instruction,
-    next: u64,
-) -> usize
+pub fn put_instruction(cells: &mut [u8], at: usize, inst: &Instruction, next: u64) -> usize
     requires { at + 247 ≤ length cells.old }
-    ensures text { take result cells.new ≡
-        take at cells.old ++ shown_instruction instruction.now next }
+    ensures text { take result cells.new ≡ take at cells.old ++ shown_instruction inst.now next }
     ensures short { result ≤ at + 231 }
 {
-    let at = put_prefixes(cells, at, instruction);
-    let at = put_mnemonic(cells, at, instruction.opcode());
-    match target_of(instruction, next) {
-        Some(target) => {
-            let at = put(cells, at, b' ');
-            put_prefixed(cells, at, target)
-        }
-        None => put_operands(cells, at, instruction, next),
+    let at = put_prefixes(cells, at, inst);
+    let mut at = put_mnemonic(cells, at, inst.opcode());
+    if let Some(target) = target_of(inst, next) {
+        at = put(cells, at, b' ');
+        return put_prefixed(cells, at, target);
     }
+    for k in 0..inst.operand_count().min(4) {
+        at = put_operand(cells, at, inst, next, k);
+    }
+    at
 }
