@@ -1,2 +1,3 @@
 -- The lemmas on the listing.
+pub mod Blanks
 pub mod ListingLemmas

@@ -15,7 +15,7 @@ use Rattle.x86_operands.specs.declared.operands.Operand.{Operand}
 use Rattle.x86_operands.specs.declared.operands.Operand.TheVariants as operand
 use Rattle.x86_operands.specs.Operands.{is_memory_operand}
 use Rattle.x86_decode.specs.declared.instructions.Instruction.{Instruction}
-use Rattle.x86_decode.specs.Instruction.{opcode, length_of, mem_size_number, operand_count, operand_at, slot_at}
+use Rattle.x86_decode.specs.Instruction.{opcode, length_of, mem_size_number, operand_count, operand_at, operands_of, slot_at}
 use Rattle.x86_layout.specs.Sweeps.Branches.{branch_target}
 use Rattle.x86_lines.specs.Hexadecimal.{prefixed}
 use Rattle.x86_show.specs.Operands.{moved, value_text, memory_text}
@@ -33,15 +33,15 @@ compares o = is_among (CMPS ∷ SCAS ∷ []) o
 abbrev pub lock_text : Bool → List ℕ
 lock_text locks = if locks then codes "LOCK " else []
 
-abbrev pub rep_text : Bool → List ℕ
-rep_text comparing = if comparing then codes "REPE " else codes "REP "
-
 -- F2 and F3 repeat string operations alone.
 abbrev pub repeat_text : Instruction → List ℕ
 repeat_text i =
     if is_string (opcode i)
-    then (if rep i.prefixes then rep_text (compares (opcode i)) else (if repnz i.prefixes then codes "REPNE " else []))
+    then (if rep i.prefixes then (if compares (opcode i) then codes "REPE " else codes "REP ") else (if repnz i.prefixes then codes "REPNE " else []))
     else []
+
+abbrev pub prefixes_text : Instruction → List ℕ
+prefixes_text i = lock_text (lock i.prefixes) ++ repeat_text i
 
 -- ---- memory
 
@@ -55,15 +55,14 @@ abbrev pub is_register_of : ℕ → Operand → Bool
 is_register_of size (operand.Register reg) = width_of (class reg) == size
 is_register_of size o = false
 
--- A register operand has the size of the memory.
-abbrev pub tells_size : Instruction → Bool
-tells_size i =
-    is_register_of (mem_size_number i) (operand_at i 0) || (is_register_of (mem_size_number i) (operand_at i 1)
-    || (is_register_of (mem_size_number i) (operand_at i 2) || is_register_of (mem_size_number i) (operand_at i 3)))
+-- A register operand has this size.
+abbrev pub tells_size : ℕ → List Operand → Bool
+tells_size size [] = false
+tells_size size (o ∷ os) = is_register_of size o || tells_size size os
 
--- the size of the memory, where no register tells it
+-- the size of the memory, where no register operand has it
 abbrev pub shown_size : Instruction → List ℕ
-shown_size i = if tells_size i then [] else size_word (mem_size_number i)
+shown_size i = if tells_size (mem_size_number i) (operands_of i) then [] else size_word (mem_size_number i)
 
 abbrev pub segment_name : Segment → List ℕ
 segment_name DS = codes "ds:"
@@ -93,44 +92,39 @@ segment_text i k = shown_segment (is_string (opcode i)) (segment_of i k)
 
 -- ---- operands
 
--- an operand, where the next instruction is at an address
-abbrev pub plain_operand : Instruction → ℕ → ℕ → List ℕ
-plain_operand i next k =
+-- an operand, where the next instruction is at an address: a value, or memory with its size and its segment
+abbrev pub operand_text : Instruction → ℕ → ℕ → List ℕ
+operand_text i next k =
     if is_memory_operand (operand_at i k)
     then shown_size i ++ segment_text i k ++ codes "[" ++ memory_text next (operand_at i k) ++ codes "]"
     else value_text (operand_at i k)
+
+-- an operand after a space, or after a comma and a space
+unfoldable pub shown_operand : Instruction → ℕ → ℕ → List ℕ
+shown_operand i next k = (if k == 0 then codes " " else codes ", ") ++ operand_text i next k
+
+abbrev pub first_operands : Instruction → ℕ → ℕ → List ℕ
+first_operands i next zero = []
+first_operands i next (suc k) = first_operands i next k ++ shown_operand i next k
 
 -- the address that XBEGIN leads to where its transaction aborts
 abbrev pub abort_target : ℕ → Operand → Option ℕ
 abort_target next (operand.ImmediateI32 imm) = Some (moved next imm)
 abort_target next o = None
 
--- the target of a relative branch or of XBEGIN, which the first operand says
-abbrev pub first_target : Instruction → ℕ → Option ℕ
-first_target i next = if opcode i == XBEGIN then abort_target next (operand_at i 0) else branch_target i next
+-- the target of a relative branch or of XBEGIN
+abbrev pub target_of : Instruction → ℕ → Option ℕ
+target_of i next = if opcode i == XBEGIN then abort_target next (operand_at i 0) else branch_target i next
 
-abbrev pub target_of : Instruction → ℕ → ℕ → Option ℕ
-target_of i next k = if k == 0 then first_target i next else None
-
+-- a target in place of operands
 abbrev pub target_or : Option ℕ → List ℕ → List ℕ
-target_or (Some target) text = prefixed target
+target_or (Some target) text = codes " " ++ prefixed target
 target_or None text = text
 
-unfoldable pub shown_operand : Instruction → ℕ → ℕ → List ℕ
-shown_operand i next k = target_or (target_of i next k) (plain_operand i next k)
-
-abbrev pub separator : ℕ → List ℕ
-separator k = if k == 0 then codes " " else codes ", "
-
--- the first operands, after a space and joined by commas
-abbrev pub first_operands : Instruction → ℕ → ℕ → List ℕ
-first_operands i next zero = []
-first_operands i next (suc k) = first_operands i next k ++ separator k ++ shown_operand i next k
-
--- the prefixes that count, the mnemonic and the operands
+-- the prefixes that count, the mnemonic, and the target or the operands
 unfoldable pub shown_instruction : Instruction → ℕ → List ℕ
 shown_instruction i next =
-    lock_text (lock i.prefixes) ++ repeat_text i ++ mnemonic (opcode i) ++ first_operands i next (min (operand_count i) 4)
+    prefixes_text i ++ mnemonic (opcode i) ++ target_or (target_of i next) (first_operands i next (min (operand_count i) 4))
 
 -- the address after an instruction
 abbrev pub next_of : ℕ → Instruction → ℕ

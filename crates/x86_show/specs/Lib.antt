@@ -3,4 +3,4 @@ pub mod Operands
 pub mod Instructions
 pub mod Lines
 pub mod Listing
-pub mod Base
+pub mod Program

@@ -1,30 +1,73 @@
 //! The listing of a text, line by line.
 
-ghost use Rattle.std.specs.Prelude.{◌≡◌, false};
+ghost use Rattle.std.specs.Prelude.{◌≡◌, ◌<◌, ◌≤◌, false, length, take};
+ghost use Rattle.arrayvec.specs.ArrayVec.{array_vec_len};
 ghost use Rattle.x86_streams.specs.Text.{text_of};
 ghost use Rattle.x86_cli.specs.Listings.Calls.{Lives};
+ghost use Rattle.x86_show.specs.Lines.{shown_room, beginning, shown_text, refused_text};
 ghost use Rattle.x86_show.specs.Listing.{shown_max, shown_at, known_at};
 
-use crate::line::{SHOWN_ROOM, ShownLine, write_bad, write_shown};
+use crate::text::put_instruction;
+use x86_arch::DecodeError as _;
 use x86_cli::Status;
 use x86_cli::laws::decoder_laws;
 use x86_cli::listings::listing::{Course, Entry, length_of, list};
 use x86_cli::listings::sweep::shown_at;
 use x86_cli::text::window::AtRefusal;
-use x86_decode::{InstDecoder, Instruction};
-use x86_lines::Place;
+use x86_decode::{DecodeError, InstDecoder, Instruction};
+use x86_lines::cells::{put_bytes, put_first};
+use x86_lines::hexadecimal::{put_hexadecimal, put_spaced_bytes};
+use x86_lines::{Place, Room};
 use x86_streams::{Settling, Sink, Source, Window};
 
-/// The most bytes of a text: more than any has.
-const TEXT_MAX: u64 = 4_611_686_018_427_387_903;
+/// How many bytes a line has room for, its end included.
+const ROOM: usize = 320;
 
-/// The listing that shows an image which begins at an address.
+/// Writes the address, and the bytes in a column that is as wide as eight of them.
+#[tactic(auto, unfolding(crate::specs::Lines::beginning), using(crate::proofs::Blanks::first_blanks))]
+fn put_beginning(cells: &mut [u8], address: u64, bytes: &[u8]) -> usize
+    requires room { 96 ≤ length cells.old }
+    requires few { length bytes.now ≤ 15 }
+    ensures text { take result cells.new ≡ beginning address bytes.now }
+    ensures short { result ≤ 64 }
+{
+    let at = put_hexadecimal(cells, 0, address);
+    let at = put_bytes(cells, at, b"  ");
+    let at = put_spaced_bytes(cells, at, bytes);
+    let blanks = 1 + 3 * 8usize.saturating_sub(bytes.len());
+    put_first(cells, at, b"                                ", blanks)
+}
+
+/// Writes the line of an instruction over another, without its end.
+fn write_shown(line: &mut Room<ROOM>, address: u64, instruction: &Instruction, bytes: &[u8])
+    requires { length bytes.now ≤ 15 }
+    ensures text { line.new.items ≡ shown_text address bytes.now instruction.now }
+    ensures short { array_vec_len line.new < shown_room }
+{
+    let at = put_beginning(&mut line.cells, address, bytes);
+    let next = address.wrapping_add(length_of(instruction));
+    line.len = put_instruction(&mut line.cells, at, instruction, next);
+}
+
+/// Writes the line of a byte that begins no instruction over another, without its end.
+fn write_bad(line: &mut Room<ROOM>, address: u64, error: DecodeError, bytes: &[u8])
+    requires { length bytes.now ≤ 15 }
+    ensures text { line.new.items ≡ refused_text address bytes.now error }
+    ensures short { array_vec_len line.new < shown_room }
+{
+    let at = put_beginning(&mut line.cells, address, bytes);
+    let at = put_bytes(&mut line.cells, at, b"(bad: ");
+    let at = put_bytes(&mut line.cells, at, error.description().as_bytes());
+    line.len = put_bytes(&mut line.cells, at, b")");
+}
+
+/// The listing of an image that begins at an address.
 #[derive(Drop)]
 pub struct ShowAt {
     pub base: u64,
 }
 
-impl Course<SHOWN_ROOM> for ShowAt {
+impl Course<ROOM> for ShowAt {
     ghost lists = { λ s strict place text. shown_at strict s.base place text };
 
     ghost knows = { λ s strict place text. known_at strict s.base place text };
@@ -36,7 +79,7 @@ impl Course<SHOWN_ROOM> for ShowAt {
         window: &Window,
         place: &Place,
         inst: &mut Instruction,
-        line: &mut ShownLine,
+        line: &mut Room<ROOM>,
     ) -> Entry {
         decoder_laws();
         let bytes = window.bytes.as_slice();
@@ -59,14 +102,8 @@ impl Course<SHOWN_ROOM> for ShowAt {
     }
 }
 
-/// Shows the hex text of a source: a line for each instruction, and for each byte that begins none. The image of the
-/// text begins at the address `base`. A line is put as soon as it is decided, and the source is called only where what
-/// was read decides no more, once the sink is settled. The status says how that ended:
-///
-/// - `Done`: the source was read to its end, and all lines were put.
-/// - `BadText`: the last line has the position of a byte of the text that can't be where it is.
-/// - `ReadFault`: the source failed. The lines of the bytes taken before were put, and then `read fault`.
-/// - `WriteFault`: the sink failed at the last call.
+/// Shows the hex text of a source, whose image begins at an address: a line for each instruction, and for each byte that
+/// begins none, as soon as it is decided. The status is as of `sweep`.
 pub fn show<S: Source, K: Sink, T: Settling<K>>(
     base: u64,
     settling: &T,
@@ -77,5 +114,6 @@ pub fn show<S: Source, K: Sink, T: Settling<K>>(
         (shown_at false base 0) (text_of shown_max) result source.old source.new sink.old sink.new }
 {
     let decoder = InstDecoder::default();
-    list(&decoder, &ShowAt { base }, settling, TEXT_MAX, source, sink)
+    let course = ShowAt { base };
+    list(&decoder, &course, settling, u64::MAX / 4, source, sink)
 }

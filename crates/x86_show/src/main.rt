@@ -2,14 +2,11 @@
 //! with hexadecimal numbers, segments, and the targets of branches.
 #![tactic(auto)]
 
-mod base;
-mod instructions;
-mod line;
 mod listing;
-mod operands;
 mod program;
 #[cfg(test)]
 mod tests;
+mod text;
 
 use program::{finish, shown};
 use std::process::ExitCode;

@@ -1,4 +1,4 @@
-use Rattle.std.proofs.Common.{◌≡◌, ◌≢◌, ◌∙◌, [], Bool, List, ℕ, Result, ap, sym, false}
+use Rattle.std.proofs.Common.{◌≡◌, ◌≢◌, ◌∙◌, [], Bool, List, ℕ, Result, ap, sym, false, Option, Some, None}
 use Rattle.std.specs.Prelude.{⊤}
 use Rattle.std.specs.declared.io.Error.{Error}
 use Rattle.x86_streams.specs.Outside.Seen.{sink_writer, buffer_writer, buffer_bytes, is_gone, watched_writer}
@@ -11,7 +11,7 @@ use Rattle.x86_cli.specs.Listings.Listing.{at_end}
 use Rattle.x86_cli.proofs.CommandLemmas.Causes.{some_stop}
 use Rattle.x86_cli.proofs.CommandLemmas.Program.{performs}
 use Rattle.x86_show.specs.Listing.{showing}
-use Rattle.x86_show.proofs.program.show_from.Goals as goal
+use Rattle.x86_show.proofs.program.shown.Goals as goal
 
 end_status : (e : Ending) → ((at_end e).status ≢ Usage) × ((at_end e).status ≢ WriteFault)
 end_status Clean = (λ e. cc, λ e. cc)
@@ -26,6 +26,9 @@ performs_used reads writes flushes base status gone r r' w w' h e =
     let same = (h.lists [] one.0 one.1).all (λ f. absurd (cc)) in
     (end_status _).0 (sym same.1 ∙ e)
 
+usage : {o : Option ℕ} {base : ℕ} {status : Status} → o ≡ Some base → status ≢ Usage → (status ≡ Usage → o ≡ None) × (o ≡ None → status ≡ Usage)
+usage is used = (λ e. absurd (used e), λ e. absurd (cc))
+
 pub returns-clause-performs : goal.returns-clause-performs
 returns-clause-performs g c =
     let out = sink_writer c.new-sink.result in
@@ -33,9 +36,12 @@ returns-clause-performs g c =
     let watched : buffer_writer out ≡ c.new.result = ap (λ o. buffer_writer o) c.new-sink.ensures.writer ∙ c.new-2.ensures.writer in
     let still : is_gone (buffer_writer out) ≡ false = ap (λ o. is_gone o) watched ∙ c.new.ensures.open in
     let writer : watched_writer (buffer_writer out) ≡ c.args.writer = ap (λ o. watched_writer o) watched ∙ c.new.ensures.writer in
-    rw (c.ending_of.ensures, c.is_gone.ensures, c.into_reader.ensures, c.into_writer.ensures, c.into_writer-watched.ensures, sym c.new-source.ensures.reader, sym writer)
-    (performs g.R.Input.reads g.W.Output.writes g.W.Output.flushes g.R.Input.left (showing c.args.base) _ _ c.new-source.ensures.empty fresh still _ _ _ _ _
+    rw (← c.base_in.ensures, c.in-Some.is, c.ending_of.ensures, c.is_gone.ensures, c.into_reader.ensures, c.into_writer.ensures, c.into_writer-watched.ensures, sym c.new-source.ensures.reader, sym writer)
+    (performs g.R.Input.reads g.W.Output.writes g.W.Output.flushes g.R.Input.left (showing c.in-Some.base) _ _ c.new-source.ensures.empty fresh still _ _ _ _ _
     (λ e. c.send_rest-flushed.ensures.failed e ∙ c.into_writer-out.ensures) (λ u w. rw c.into_writer-out.ensures at (c.send_rest-flushed.ensures.sends u w)) (λ t. end_status t.ending) c.show-status.ensures)
 
-pub returns-clause-used : goal.returns-clause-used
-returns-clause-used g c = performs_used _ _ _ _ _ _ _ _ _ _ (returns-clause-performs g c)
+pub returns-clause-usage : goal.returns-clause-usage
+returns-clause-usage g c = usage (sym c.base_in.ensures ∙ c.in-Some.is) (performs_used _ _ _ _ _ _ _ _ _ _ (rw (← c.base_in.ensures, c.in-Some.is) at (returns-clause-performs g c)))
+
+pub returns-clause-nothing : goal.returns-clause-nothing
+returns-clause-nothing g c = λ e. absurd (performs_used _ _ _ _ _ _ _ _ _ _ (rw (← c.base_in.ensures, c.in-Some.is) at (returns-clause-performs g c)) e)

@@ -2,7 +2,7 @@ use Rattle.std.proofs.Common.{◌≤◌, length, Ok, Err, ap, refl, arith, lengt
 use Rattle.x86_cli.specs.declared.listings.listing.Entry.TheVariants as entry
 use Rattle.x86_cli.proofs.ListingLemmas.Sweep.{some_bytes, some_refused}
 use Rattle.x86_show.proofs.ListingLemmas.{entry_line, entry_ended, entry_undecided}
-use Rattle.x86_show.proofs.listing.ShowAtCourseSHOWN_ROOM.next.Goals as goal
+use Rattle.x86_show.proofs.listing.ShowAtCourseROOM.next.Goals as goal
 
 pub slice_bounds-write_bad-end : goal.slice_bounds-write_bad-end
 slice_bounds-write_bad-end c =
