@@ -93,15 +93,15 @@ segment_text i k = shown_segment (is_string (opcode i)) (segment_of i k)
 -- ---- operands
 
 -- an operand, where the next instruction is at an address: a value, or memory with its size and its segment
-abbrev pub operand_text : Instruction → ℕ → ℕ → List ℕ
-operand_text i next k =
+abbrev pub text_of_operand : Instruction → ℕ → ℕ → List ℕ
+text_of_operand i next k =
     if is_memory_operand (operand_at i k)
     then shown_size i ++ segment_text i k ++ codes "[" ++ memory_text next (operand_at i k) ++ codes "]"
     else value_text (operand_at i k)
 
 -- an operand after a space, or after a comma and a space
 unfoldable pub shown_operand : Instruction → ℕ → ℕ → List ℕ
-shown_operand i next k = (if k == 0 then codes " " else codes ", ") ++ operand_text i next k
+shown_operand i next k = (if k == 0 then codes " " else codes ", ") ++ text_of_operand i next k
 
 abbrev pub first_operands : Instruction → ℕ → ℕ → List ℕ
 first_operands i next zero = []

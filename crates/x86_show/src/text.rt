@@ -74,7 +74,7 @@ fn shown_size(inst: &Instruction) -> &'static [u8]
 /// The segments in their order.
 static SEGMENTS: [[u8; 4]; 6] = [*b"ds: ", *b"cs: ", *b"es: ", *b"fs: ", *b"gs: ", *b"ss: "];
 
-/// Writes the segment of a memory operand, but DS of string operations alone. What MOVS and CMPS name by rdi, and INS
+/// Writes the segment of a memory operand, and DS in string operations alone. What MOVS and CMPS name by rdi, and INS
 /// stores to, is in ES.
 fn put_segment(cells: &mut [u8], at: usize, inst: &Instruction, k: u8) -> usize
     requires room { at + 4 ≤ length cells.old }
