@@ -1,6 +1,5 @@
 -- Lemmas on runs of commands.
 pub mod Causes
-pub mod Stay
 pub mod Says
 pub mod Ends
 pub mod Program

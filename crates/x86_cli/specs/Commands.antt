@@ -3,6 +3,7 @@ pub mod Run
 pub mod Command
 pub mod Complete
 pub mod Make
+pub mod Request
 pub mod Causes
 pub mod Says
 pub mod Follows

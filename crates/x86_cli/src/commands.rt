@@ -1,6 +1,7 @@
-//! Commands, what their runs answer, and the program.
+//! Commands, what words request, and the program.
 
 pub mod command;
 pub mod make;
 pub mod process;
 pub mod program;
+pub mod request;

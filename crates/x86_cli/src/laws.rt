@@ -11,7 +11,8 @@ ghost use Rattle.x86_text.specs.Lines.{line_of};
 ghost use Rattle.x86_text.specs.Parts.{fields_line};
 ghost use Rattle.x86_cli.specs.DecoderLaws.{DecoderLaws};
 ghost use Rattle.x86_cli.specs.Commands.Causes.{HaveCauses};
-ghost use Rattle.x86_cli.specs.Commands.Command.{Runs, goes_past_refusals};
+ghost use Rattle.x86_cli.specs.Commands.Command.{goes_past_refusals};
+ghost use Rattle.x86_cli.specs.Commands.Request.{Runs, task_of};
 ghost use Rattle.x86_cli.specs.Commands.Complete.{CompletesTexts};
 ghost use Rattle.x86_cli.specs.Commands.Follows.{IsExact, HasReadFault, Completes};
 ghost use Rattle.x86_cli.specs.Listings.Grammar.{IsListing};
@@ -26,14 +27,14 @@ ghost use Rattle.x86_cli.specs.Listings.Sweep.{known_sweep_at, sweep_at};
 ghost use Rattle.x86_cli.specs.Listings.Tighten.{least_text};
 ghost use Rattle.x86_streams.specs.Text.{Text};
 ghost use Rattle.x86_cli.specs.Commands.Make.{made_listing};
-ghost use Rattle.x86_cli.specs.Commands.Program.{Performs, EndsAt, Has, Leaves, making, read_stop, task_of};
-ghost use Rattle.x86_cli.specs.Commands.Run.{Wrote};
+ghost use Rattle.x86_cli.specs.Commands.Program.{Performs, EndsAt, Has, Leaves, read_stop};
 ghost use Rattle.x86_cli.specs.Commands.Says.{Makes, Says, Streams, streams_of};
 ghost use Rattle.x86_streams.specs.Outside.FaultCounts.{Rose};
 
 pub mod worked;
 
 use crate::commands::command::Command;
+use crate::commands::request::Request;
 use crate::listings::fields::FieldLines;
 use crate::listings::line::{Lines, Plain};
 use crate::listings::listing::{Course, UpToRefusal};
@@ -51,12 +52,12 @@ use x86_text::LINE_ROOM;
 pub fn headline<S: Source, K: Sink, R: Read, W: Write>()
     ensures bytes { (strict : Bool) → Headline strict }
     ensures runs { (c : Command) (status : Status) (a b : S) (k l : K)
-        → Runs S.gives S.ahead K.takes c status a b k l
+        → Runs S.gives S.ahead K.takes (Request.Reads c) status a b k l
         → Says status c (streams_of S.left S.faults K.written K.faults a k)
         (streams_of S.left S.faults K.written K.faults b l) }
     ensures program { (c : Command) (status : Status) (gone : Bool) (r r' : R) (w w' : W) →
         Performs ⟦<R as Input>⟧.reads ⟦<W as Output>⟧.writes ⟦<W as Output>⟧.flushes
-        (task_of c) status gone r r' w w'
+        (task_of (Request.Reads c)) status gone r r' w w'
         → Leaves status c (R.remaining r) (W.contents w) (W.contents w') }
 {
     headline_of_bytes();
@@ -149,9 +150,9 @@ pub fn causes<S: Source, K: Sink>()
 {}
 
 /// What a run of `make` says, where the sink's bytes are known.
-pub fn made<K: Sink>()
-    ensures { (n : ℕ) (status : Status) (k l : K)
-        → Wrote K.takes (made_listing n) status k l
+pub fn made<S: Source, K: Sink>()
+    ensures { (n : ℕ) (status : Status) (a b : S) (k l : K)
+        → Runs S.gives S.ahead K.takes (Request.Makes n) status a b k l
         → Makes n status (K.written k) (K.written l) (K.faults k) (K.faults l) }
 {}
 
@@ -181,8 +182,8 @@ pub fn write_faults()
 /// `sweep` and `targets` are never refused.
 pub fn unrefused<S: Source, K: Sink>()
     ensures { (c : Command) (status : Status) (a b : S) (k l : K)
-        → Runs S.gives S.ahead K.takes c status a b k l → IsTrue (goes_past_refusals c)
-        → status ≢ Status.Refused }
+        → Runs S.gives S.ahead K.takes (Request.Reads c) status a b k l
+        → IsTrue (goes_past_refusals c) → status ≢ Status.Refused }
 {}
 
 /// Where a command goes through the image of a clean text, its listing ends as done. So where the source is known to
@@ -197,10 +198,11 @@ pub fn complete()
 }
 
 /// How the reads of `listed` ended, by its status: `Done` comes only after a read that returned no byte, `ReadFault` only
-/// where the last read answered an error, `BadText` and `TooLarge` only where none did.
+/// where the last read answered an error, `Refused`, `BadText` and `TooLarge` only where none did.
 pub fn ends<R: Input, W: Output>()
     ensures { (c : Command) (status : Status) (gone : Bool) (r r' : R) (w w' : W)
-        → (h : Performs R.reads W.writes W.flushes (task_of c) status gone r r' w w')
+        → (h : Performs R.reads W.writes W.flushes (task_of (Request.Reads c)) status gone
+            r r' w w')
         → EndsAt status (read_stop h.calls) }
 {}
 
@@ -209,11 +211,11 @@ pub fn ends<R: Input, W: Output>()
 pub fn program<R: Read, W: Write>()
     ensures lists { (c : Command) (status : Status) (gone : Bool) (r r' : R) (w w' : W) →
         Performs ⟦<R as Input>⟧.reads ⟦<W as Output>⟧.writes ⟦<W as Output>⟧.flushes
-        (task_of c) status gone r r' w w'
+        (task_of (Request.Reads c)) status gone r r' w w'
         → Leaves status c (R.remaining r) (W.contents w) (W.contents w') }
     ensures made { (n : ℕ) (status : Status) (gone : Bool) (r r' : R) (w w' : W) →
         Performs ⟦<R as Input>⟧.reads ⟦<W as Output>⟧.writes ⟦<W as Output>⟧.flushes
-        (making n) status gone r r' w w'
+        (task_of (Request.Makes n)) status gone r r' w w'
         → Has status (made_listing n) (W.contents w) (W.contents w') }
 {
     decoder_laws();

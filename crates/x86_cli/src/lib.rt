@@ -16,10 +16,11 @@ pub mod laws;
 pub mod listings;
 pub mod text;
 
-pub use commands::command::{TARGETS_MAX, TEXT_MAX, USAGE, run};
+pub use commands::command::{TARGETS_MAX, TEXT_MAX};
 pub use commands::make::generate;
 pub use commands::process::{finish, words};
 pub use commands::program::{Finished, listed};
+pub use commands::request::{USAGE, run};
 pub use listings::status::Status;
 pub use x86_streams::{
     ArraySink, Got, NullSink, Sink, SinkFailed, SliceSource, SoundSource, Source, StdSink,

@@ -16,7 +16,7 @@ use Rattle.x86_cli.specs.declared.listings.status.Status.{Status}
 use Rattle.x86_cli.specs.declared.listings.status.Status.TheVariants as outcome
 use Rattle.x86_cli.specs.declared.commands.command.Command.{Command}
 use Rattle.x86_cli.specs.declared.commands.command.Command.TheVariants.{List as Listed, Sweep as Swept, Targets as Targeted}
-use Rattle.x86_cli.specs.Commands.Command.{listing_for, max_of, goes_past_refusals}
+use Rattle.x86_cli.specs.Commands.Command.{listing_for, known_for, max_of, goes_past_refusals}
 use Rattle.x86_streams.specs.Text.{Text, text_at, text_of}
 use Rattle.x86_streams.specs.Text.Reading.{MayCome}
 use Rattle.x86_cli.specs.Listings.Listing.{Listing, at_end, decoded_of, decoded_before_end, listing_from}
@@ -50,6 +50,12 @@ command_read c max bytes = let h = command_end c (text_of max bytes End) in grin
 pub some_stop : (stop : Option Stop) → (s : Stop) × MayCome stop [] s
 some_stop None = (End, tt)
 some_stop (Some given) = (given, (refl, refl))
+
+-- Where nothing is known but a read fault, the listing ends in that.
+pub known_fault : (c : Command) (t : Text) → (known_for c t).status ≡ outcome.ReadFault → (listing_for c t).status ≡ outcome.ReadFault
+known_fault Swept t h = h
+known_fault Targeted t h = h
+known_fault c t h = h
 
 -- a run at which no put failed ends as its listing
 pub lists_status : (status : Status) (lines : List (List ℕ)) (failed : Option (List ℕ)) (l : Listing) → status ≢ outcome.WriteFault → Lists status lines failed l → l.status ≡ status

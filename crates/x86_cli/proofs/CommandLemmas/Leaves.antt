@@ -8,7 +8,6 @@ use Rattle.std.proofs.KnownBytes.{Keeps-refl, Keeps-trans, Consumes-nil, Consume
 use Rattle.x86_cli.specs.declared.commands.command.Command.{Command}
 use Rattle.x86_cli.specs.declared.listings.status.Status.{Status}
 use Rattle.x86_cli.specs.declared.listings.status.Status.TheVariants.{Done, Usage, Refused, ReadFault, WriteFault}
-use Rattle.x86_cli.specs.DecoderLaws.{DecoderLaws}
 use Rattle.x86_streams.specs.Outside.Stop.{Stop, End, Failed}
 use Rattle.x86_streams.specs.Outside.Reads.{Interruptions, ReadsUninterrupted}
 use Rattle.x86_streams.specs.Outside.Writes.{Call, Write, sent, sent_by, Does}
@@ -16,13 +15,14 @@ use Rattle.x86_streams.specs.Text.{Text, text_of}
 use Rattle.x86_cli.specs.Listings.Listing.{Listing}
 use Rattle.x86_cli.specs.Commands.Command.{known_for, max_of}
 use Rattle.x86_cli.specs.Commands.Make.{made_listing}
+use Rattle.x86_cli.specs.declared.commands.request.Request.TheVariants.{Reads, Makes}
+use Rattle.x86_cli.specs.Commands.Request.{task_of}
 use Rattle.x86_cli.specs.Commands.Says.{full_listing, taken_listing}
-use Rattle.x86_cli.specs.Commands.Program.{StreamCall, Read, Send, bytes_read, read_stop, writer_calls, task_of, making, ReadsByRule, IsPrinted, StreamCalls, Performs, Has, HasOfAll, HasOfTaken, Leaves}
+use Rattle.x86_cli.specs.Commands.Program.{StreamCall, Read, Send, bytes_read, read_stop, writer_calls, ReadsByRule, IsPrinted, StreamCalls, Performs, Has, HasOfAll, HasOfTaken, Leaves}
 use Rattle.x86_streams.proofs.OutsideLemmas.Reads.{kept_read}
 use Rattle.x86_cli.proofs.CommandLemmas.Causes.{some_stop}
-use Rattle.x86_cli.proofs.CommandLemmas.Ends.{fault_text, ends_at}
+use Rattle.x86_cli.proofs.CommandLemmas.Ends.{ends_at}
 use Rattle.x86_cli.proofs.CommandLemmas.Says.{some_left}
-use Rattle.x86_cli.proofs.CommandLemmas.Stay.{refused_stays}
 
 -- readers
 
@@ -74,13 +74,13 @@ module _ {R W : Type 0} (left : R → Option (List ℕ)) (written : W → Option
   at_end_of known text (Read buffer (Err f) ∷ cs) r r' w w' d rule e = cc
   at_end_of known text (Send call ∷ cs) r r' w w' d rule e = at_end_of known text cs r r' w d.0 d.1 rule e
 
-  pub make_leaves : (n : ℕ) (status : Status) (gone : Bool) (r r' : R) (w w' : W) → Performs (reports left) (appends written) (keeps written) (making n) status gone r r' w w' → Has status (made_listing n) (written w) (written w')
+  pub make_leaves : (n : ℕ) (status : Status) (gone : Bool) (r r' : R) (w w' : W) → Performs (reports left) (appends written) (keeps written) (task_of (Makes n)) status gone r r' w w' → Has status (made_listing n) (written w) (written w')
   make_leaves n status gone r r' w w' h =
       let one = some_stop (read_stop h.calls) in
       (sent (writer_calls h.calls), h.lists [] one.0 one.1, appended h.calls r r' w w' h.did)
 
-module _ {R W : Type 0} (laws : (strict : Bool) → DecoderLaws strict) (left : R → Option (List ℕ)) (written : W → Option (List ℕ)) (c : Command) (gone : Bool) (r r' : R) (w w' : W) where
-  module _ (status : Status) (h : Performs (reports left) (appends written) (keeps written) (task_of c) status gone r r' w w') where
+module _ {R W : Type 0} (left : R → Option (List ℕ)) (written : W → Option (List ℕ)) (c : Command) (gone : Bool) (r r' : R) (w w' : W) where
+  module _ (status : Status) (h : Performs (reports left) (appends written) (keeps written) (task_of (Reads c)) status gone r r' w w') where
     wrote : Appends (written w) (written w') (sent (writer_calls h.calls))
     wrote = appended left written h.calls r r' w w' h.did
 
@@ -103,23 +103,13 @@ module _ {R W : Type 0} (laws : (strict : Bool) → DecoderLaws strict) (left : 
     of_taken : read_stop h.calls ≡ Some Failed → HasOfTaken status c (left r) (written w) (written w')
     of_taken is = (bytes_read h.calls, grind (arith, read, take-append_seam {A = ℕ}), (sent (writer_calls h.calls), printed_taken is, wrote))
 
-  refused : (h : Performs (reports left) (appends written) (keeps written) (task_of c) Refused gone r r' w w') (stop : Option Stop) → read_stop h.calls ≡ stop → HasOfAll Refused c (left r) (written w) (written w')
-  refused h (Some Failed) is =
-      let bytes : List ℕ = bytes_read h.calls in
-      let fault = fault_text c h.calls h.rule is in
-      let p = printed_taken Refused h is in
-      some_left (left r) (left r') bytes (λ b. Has Refused (full_listing c b) (written w) (written w')) (read Refused h)
-      (λ xs. (sent (writer_calls h.calls), rw (refused_stays laws c (max_of c) bytes xs End fault (sym (p.all (λ e. cc)).1)) p, wrote Refused h))
-  refused h stop is = of_all Refused h stop is (λ e. absurd (cc))
-
-  written_fault : (h : Performs (reports left) (appends written) (keeps written) (task_of c) WriteFault gone r r' w w') (stop : Option Stop) → read_stop h.calls ≡ stop → Leaves WriteFault c (left r) (written w) (written w')
+  written_fault : (h : Performs (reports left) (appends written) (keeps written) (task_of (Reads c)) WriteFault gone r r' w w') (stop : Option Stop) → read_stop h.calls ≡ stop → Leaves WriteFault c (left r) (written w) (written w')
   written_fault h (Some Failed) is = inr (of_taken WriteFault h is)
   written_fault h stop is = inl (of_all WriteFault h stop is (λ e. absurd (cc)))
 
-  pub leaves : (status : Status) → Performs (reports left) (appends written) (keeps written) (task_of c) status gone r r' w w' → Leaves status c (left r) (written w) (written w')
+  pub leaves : (status : Status) → Performs (reports left) (appends written) (keeps written) (task_of (Reads c)) status gone r r' w w' → Leaves status c (left r) (written w) (written w')
   leaves Done h = of_all Done h (Some End) (ends_at _ _ _ c Done gone r r' w w' h) (λ e. cc)
   leaves Usage h = absurd (ends_at _ _ _ c Usage gone r r' w w' h)
-  leaves Refused h = refused h (read_stop h.calls) refl
   leaves ReadFault h = of_taken ReadFault h (ends_at _ _ _ c ReadFault gone r r' w w' h)
   leaves WriteFault h = written_fault h (read_stop h.calls) refl
   leaves status h = of_all status h (read_stop h.calls) refl (ends_at _ _ _ c status gone r r' w w' h)

@@ -23,7 +23,8 @@ use Rattle.x86_streams.specs.Text.{Text, text_of}
 use Rattle.x86_streams.specs.Text.Reading.{MayCome}
 use Rattle.x86_cli.specs.Listings.Listing.{Listing, with_lines, at_end}
 use Rattle.x86_cli.specs.Listings.Calls.{OutsideCall, Next, Take, Put, Settle, returned, lines_of, stop_of, Unfailed, IsSettled, Waits, AreListed, Calls, Lives}
-use Rattle.x86_cli.specs.Commands.Program.{Task, StreamCall, Read, Send, bytes_read, read_stop, writer_calls, IsFlushed, AreBeforeFault, ReadsByRule, ending_of, fault_of, StreamCalls, Performs}
+use Rattle.x86_cli.specs.Commands.Request.{Task}
+use Rattle.x86_cli.specs.Commands.Program.{StreamCall, Read, Send, bytes_read, read_stop, writer_calls, IsFlushed, AreBeforeFault, ReadsByRule, ending_of, fault_of, StreamCalls, Performs}
 use Rattle.x86_cli.proofs.CommandLemmas.Causes.{some_stop}
 use Rattle.x86_cli.proofs.CommandLemmas.Obeys.{whole_listed}
 use Rattle.x86_cli.proofs.CommandLemmas.Says.{written_part}

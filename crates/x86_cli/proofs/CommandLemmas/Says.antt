@@ -27,7 +27,6 @@ use Rattle.x86_cli.specs.Commands.Says.{Streams, streams_of, full_listing, taken
 use Rattle.x86_cli.specs.Commands.Follows.{IsSound, IsExact, HasReadFault, Completes}
 use Rattle.x86_cli.proofs.CommandLemmas.Causes.{command_end, some_stop, fault_stop, command_status, command_read, text_done}
 use Rattle.x86_streams.proofs.OutsideLemmas.Reports.{source_calls_report, sink_calls_report}
-use Rattle.x86_cli.proofs.CommandLemmas.Stay.{refused_stays}
 
 -- options that are known
 
@@ -44,22 +43,10 @@ known_bytes stop a b bytes faults faults' P t h f = grind (arith, append-nil {A 
 
 -- texts and listings
 
--- After a fault a listing ends as that, or in a refusal.
-pub fault_status : (c : Command) (t : Text) (status : Status) → t.ending ≡ Fault → status ≢ Refused → status ≢ ReadFault → (listing_for c t).status ≢ status
-fault_status c t status fault unrefused unread = let h = command_end c t in grind arith
-
 pub end_stop : (c : Command) (max : ℕ) (bytes : List ℕ) (stop : Option Stop) →
     ((xs : List ℕ) (s : Stop) → MayCome stop xs s → (listing_for c (text_of max (bytes ++ xs) s)).status ≡ Done) → stop ≡ Some End
 unfolding text_at
 end_stop c max bytes stop done = let h = command_end c (text_of max (bytes ++ []) Failed) in grind (arith, done [] Failed)
-
--- the text whose last call failed was open
-called_open : (text : List ℕ → Stop → Text) (bytes : List ℕ) (stop : Stop) → CalledWhileOpen text bytes (Some stop) → (text bytes Failed).ending ≡ Fault
-called_open text [] stop a = a
-called_open text (x ∷ bytes) stop a = called_open (λ xs s. text (x ∷ xs) s) bytes stop a.1
-
-pub called_failed : (max : ℕ) (bytes : List ℕ) (stop : Option Stop) → CalledWhileOpen (text_of max) bytes stop → stop ≡ Some Failed → (text_of max bytes Failed).ending ≡ Fault
-called_failed max bytes stop called failed = called_open (text_of max) bytes Failed (rw failed at called)
 
 -- lines, what was written of one more, and what was not
 pub written_part : (lines : List (List ℕ)) (failed : List ℕ) (n : ℕ) (more : List (List ℕ)) → concat (lines ++ failed ∷ more) ≡ (concat lines ++ take n failed) ++ (drop n failed ++ concat more)
@@ -70,9 +57,9 @@ prefix_written : (written written' : Option (List ℕ)) (l : Listing) (lines : L
 prefix_written written written' l lines failed more n is wrote =
     record { part = concat lines ++ take n failed; more = drop n failed ++ concat more; whole = ap concat is ∙ written_part lines failed n more; wrote = wrote }
 
-module _ (laws : (strict : Bool) → DecoderLaws strict) (c : Command) (old new : Streams) (bytes : List ℕ) (stop : Option Stop)
+module _ (c : Command) (old new : Streams) (bytes : List ℕ) (stop : Option Stop)
     (source_calls : ReportsBytes bytes stop old.left new.left old.source_faults new.source_faults)
-    (fault : stop ≡ Some Failed → (text_of (max_of c) bytes Failed).ending ≡ Fault) where
+    (fault : stop ≡ Some Failed → (taken_listing c bytes).status ≡ ReadFault) where
   -- a run at which no put failed
   module _ (lines : List (List ℕ)) (wrote : ReportsPieces lines None old.written new.written old.sink_faults new.sink_faults) where
     abbrev AllListed : Status → Type 0
@@ -95,12 +82,6 @@ module _ (laws : (strict : Bool) → DecoderLaws strict) (c : Command) (old new 
         let end : stop ≡ Some End = end_stop c (max_of c) bytes stop (λ xs s may. ap (λ l. l.status) (lists xs s may)) in
         let ended : ReportsBytes bytes (Some End) old.left new.left old.source_faults new.source_faults = rw end at source_calls in
         (all_full Done lists (λ f. absurd (cc)), ended.1.1, wrote.1, none_left old.left new.left bytes ended.0 ended.1.0)
-    says_all Refused lists = (
-      all_full Refused lists (λ f xs.
-          let divided = failed_listed Refused lists f in
-          writes Refused (full_listing c (bytes ++ xs)) (refused_stays laws c (max_of c) bytes xs End (fault f) (ap (λ l. l.status) divided) ∙ divided)),
-      wrote.1,
-    )
     says_all ReadFault lists =
         let failed : stop ≡ Some Failed = fault_stop stop (λ may. command_read c (max_of c) (bytes ++ []) (ap (λ l. l.status) (lists [] End may))) in
         let reported : ReportsBytes bytes (Some Failed) old.left new.left old.source_faults new.source_faults = rw failed at source_calls in
@@ -108,8 +89,7 @@ module _ (laws : (strict : Bool) → DecoderLaws strict) (c : Command) (old new 
     says_all Usage lists = let s = some_stop stop in absurd ((command_status c _).0 (ap (λ l. l.status) (lists [] s.0 s.1)))
     says_all WriteFault lists = let s = some_stop stop in absurd ((command_status c _).1 (ap (λ l. l.status) (lists [] s.0 s.1)))
     says_all status lists =
-        let unfailed : stop ≢ Some Failed = λ f.
-        fault_status c (text_of (max_of c) bytes Failed) status (fault f) (λ f. cc) (λ f. cc) (ap (λ l. l.status) (failed_listed status lists f)) in
+        let unfailed : stop ≢ Some Failed = λ f. let same : ReadFault ≡ status = sym (fault f) ∙ ap (λ l. l.status) (failed_listed status lists f) in cc in
         (all_full status lists (λ f. absurd (unfailed f)), grind arith, wrote.1)
 
   -- a run at which a put failed
@@ -140,13 +120,13 @@ pub ran_says : {S K : Type 0} (gives : S → Got → S → Type 0) (takes : K �
     (left : S → Option (List ℕ)) (faults : S → ℕ) (written : K → Option (List ℕ)) (others : K → ℕ) →
     ((s : S) (g : Got) (t : S) → gives s g t → ReportsGot g (left s) (left t) (faults s) (faults t)) →
     ((s : K) (piece : List ℕ) (r : Result ⊤ SinkFailed) (t : K) → takes s piece r t → ReportsPut r piece (written s) (written t) (others s) (others t)) →
-    ((strict : Bool) → DecoderLaws strict) → (c : Command) (status : Status) (a b : S) (k l : K) → Ran gives takes (listing_for c) (max_of c) status a b k l →
+    (c : Command) (status : Status) (a b : S) (k l : K) (ran : Ran gives takes (listing_for c) (max_of c) status a b k l) → (ran.stop ≡ Some Failed → (taken_listing c ran.bytes).status ≡ ReadFault) →
     Says status c (streams_of left faults written others a k) (streams_of left faults written others b l)
-ran_says gives takes left faults written others source sink laws c status a b k l ran =
+ran_says gives takes left faults written others source sink c status a b k l ran fault =
     let source_calls = source_calls_report gives left faults source ran.bytes ran.stop a b ran.source_calls in
     let sink_calls = sink_calls_report takes written others sink ran.lines ran.failed k l ran.sink_calls in
-    says_by laws c (streams_of left faults written others a k) (streams_of left faults written others b l) ran.bytes ran.stop source_calls
-    (called_failed (max_of c) ran.bytes ran.stop ran.called) status ran.lines ran.failed sink_calls ran.lists
+    says_by c (streams_of left faults written others a k) (streams_of left faults written others b l) ran.bytes ran.stop source_calls
+    fault status ran.lines ran.failed sink_calls ran.lists
 
 -- `make`
 

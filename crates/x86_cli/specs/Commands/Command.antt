@@ -1,13 +1,9 @@
 -- Commands: their arguments, listings and limits.
-use Rattle.std.specs.Prelude.{◌≡◌, Ok, ℕ, Bool, true, false, List, [], ◌∷◌, Option, Some, None, ◌&&◌, if◌then◌else◌, IfSome, Result, ⊤, map, codes, bytes_eq, String, string_bytes}
-use Rattle.std.specs.declared.alloc.Global.{Global}
+use Rattle.std.specs.Prelude.{ℕ, Bool, true, false, List, [], ◌∷◌, Option, Some, None, ◌&&◌, if◌then◌else◌, codes, bytes_eq}
 use Rattle.x86_decode.specs.Instruction.{length_of}
 use Rattle.x86_cli.specs.declared.commands.command.Command.{Command}
 use Rattle.x86_cli.specs.declared.commands.command.Command.TheVariants.{List as Listed, Sweep as Swept, Targets as Targeted, Fields as Fielded, Tighten as Tightened}
-use Rattle.x86_streams.specs.declared.outside.source.Got.{Got}
-use Rattle.x86_streams.specs.declared.outside.sink.SinkFailed.{SinkFailed}
-use Rattle.x86_cli.specs.declared.listings.status.Status.{Status}
-use Rattle.x86_streams.specs.Text.{Text, text_of}
+use Rattle.x86_streams.specs.Text.{Text}
 use Rattle.x86_layout.specs.Parts.OfBytes.{parts_of}
 use Rattle.x86_layout.specs.Tightening.Least.{shortest_length}
 use Rattle.x86_text.specs.Lines.{line_of}
@@ -15,7 +11,6 @@ use Rattle.x86_text.specs.Parts.{fields_line}
 use Rattle.x86_cli.specs.Listings.Tighten.{least_text}
 use Rattle.x86_cli.specs.Listings.Listing.{Listing, at_end, listing_at}
 use Rattle.x86_cli.specs.Listings.Sweep.{sweep_at, known_sweep_at}
-use Rattle.x86_cli.specs.Listings.Calls.{Lives}
 use Rattle.x86_cli.specs.Listings.Targets.{targets_at}
 
 -- the command of one argument
@@ -33,10 +28,6 @@ command_of [] = None
 command_of (a ∷ []) = command_by a
 command_of (a ∷ b ∷ []) = if bytes_eq a (codes "list") && bytes_eq b (codes "--strict") then Some (Listed true) else None
 command_of (a ∷ b ∷ c ∷ arguments) = None
-
--- Where the arguments are a command that reads, this is so of it.
-abbrev pub IfCommand : List (String Global) → (Command → Type 0) → Type 0
-IfCommand arguments says = IfSome (command_of (map string_bytes arguments)) says
 
 -- what a command lists of a text from a place on, and of a whole text
 abbrev pub listed_at : Command → ℕ → Text → Listing
@@ -67,18 +58,3 @@ abbrev pub known_for : Command → Text → Listing
 known_for Swept t = known_sweep_at false 0 t
 known_for Targeted t = at_end t.ending
 known_for c t = listed_at c 0 t
-
--- What a command does with a source and a sink that is settled: its calls in one order, by the rule of reading.
-abbrev pub Obeys : {S K : Type 0} → (S → Got → S → Type 0) → (S → List ℕ) → (K → List ℕ → Result ⊤ SinkFailed → K → Type 0) → (K → Result ⊤ SinkFailed → K → Type 0) →
-    Command → Status → S → S → K → K → Type 0
-Obeys gives ahead takes settles c status source source' sink sink' =
-    Lives gives ahead takes settles (known_for c) (listing_for c) (text_of (max_of c)) status source source' sink sink'
-
--- A sink that holds nothing back is left as it is.
-abbrev pub Stays : {K : Type 0} → K → Result ⊤ SinkFailed → K → Type 0
-Stays k r l = (r ≡ Ok tt) × (l ≡ k)
-
--- A run of a command over such a sink.
-abbrev pub Runs : {S K : Type 0} → (S → Got → S → Type 0) → (S → List ℕ) → (K → List ℕ → Result ⊤ SinkFailed → K → Type 0) →
-    Command → Status → S → S → K → K → Type 0
-Runs gives ahead takes c status source source' sink sink' = Obeys gives ahead takes Stays c status source source' sink sink'

@@ -1,11 +1,12 @@
 -- The encodings that `make` makes, and what it counts of their answers.
-use Rattle.std.specs.Prelude.{◌≡◌, ℕ, zero, suc, ◌+◌, ◌/◌, ◌%◌, ◌≤◌, ◌==◌, ◌&&◌, ◌||◌, Bool, true, false, if◌then◌else◌, List, [], ◌∷◌, ◌++◌, length, Result, Ok, Err, None, codes, decimal}
+use Rattle.std.specs.Prelude.{ℕ, zero, suc, ◌+◌, ◌/◌, ◌%◌, ◌==◌, ◌||◌, Bool, true, false, if◌then◌else◌, List, [], ◌∷◌, ◌++◌, length, take, Result, Ok, Err, Some, None, option_to_list, codes, decimal}
 use Rattle.std.specs.Int.{w32, to_le_bytes}
 use Rattle.x86_regs.specs.declared.RegisterClass.{RegisterClass}
 use Rattle.x86_regs.specs.declared.RegisterClass.TheVariants.{RIP}
 use Rattle.x86_regs.specs.Register.{class}
 use Rattle.x86_fields.specs.declared.errors.DecodeError.{DecodeError}
-use Rattle.x86_fields.specs.ModRM.{mod_field, rm_field, base_field}
+use Rattle.x86_fields.specs.ModRM.{rm_field}
+use Rattle.x86_fields.specs.Raw.{displacement_width}
 use Rattle.x86_operands.specs.declared.operands.Operand.{Operand}
 use Rattle.x86_operands.specs.declared.operands.Operand.TheVariants as operand
 use Rattle.x86_decode.specs.declared.instructions.Instruction.{Instruction}
@@ -14,27 +15,18 @@ use Rattle.x86_decode.specs.Answer.{answer_of}
 use Rattle.x86_layout.specs.Parts.Heads.{one_if}
 use Rattle.x86_cli.specs.declared.commands.make.Tally.{Tally}
 use Rattle.x86_cli.specs.declared.listings.status.Status.TheVariants.{Done}
-use Rattle.x86_cli.specs.Commands.Command.{command_of}
 use Rattle.x86_cli.specs.Listings.Line.{line}
 use Rattle.x86_cli.specs.Listings.Listing.{Listing}
 
--- ---- encoding i: opcode 03, a ModRM of the memory form, SIB where ModRM requires one, and a displacement
-
--- mod 10; mod 00 with rm 101; mod 00 with rm 100 and base 101
-abbrev pub has_long_displacement : ℕ → ℕ → Bool
-has_long_displacement m s = (mod_field m == 2) || ((mod_field m == 0) && ((rm_field m == 5) || ((rm_field m == 4) && (base_field s == 5))))
-
--- the memory forms are the ModRM bytes below 192, whose mod is 00, 01 or 10
+-- encoding i: opcode 03, a ModRM of the memory form, SIB where ModRM requires one, and a displacement of i's first bytes
+-- (the memory forms are the ModRM bytes below 192, whose mod is 00, 01 or 10)
 unfoldable pub generate : ℕ → List ℕ
 generate i =
     let modrm = i % 192 in
-    let sib = (i / 192) % 256 in
-    (0x03 ∷ modrm ∷ []) ++ (if rm_field modrm == 4 then sib ∷ [] else [])
-    ++ (if mod_field modrm == 1 then (i % 256) ∷ []
-    else (if has_long_displacement modrm sib then to_le_bytes w32 i else []))
+    let sib = if rm_field modrm == 4 then Some ((i / 192) % 256) else None in
+    (0x03 ∷ modrm ∷ []) ++ option_to_list sib ++ take (displacement_width modrm sib) (to_le_bytes w32 i)
 
--- ---- counting
-
+-- what is counted of an answer
 abbrev pub is_rip : RegisterClass → Bool
 is_rip RIP = true
 is_rip c = false
@@ -72,21 +64,6 @@ unfoldable pub tally_text : ℕ → Tally → List ℕ
 tally_text n t =
     decimal n ++ codes " instructions " ++ decimal t.bytes ++ codes " bytes " ++ decimal t.at_rip ++ codes " rip " ++ decimal t.absolute ++ codes " abs"
 
--- ---- the command
-
--- the most encodings that are made
-abbrev pub make_max : ℕ
-make_max = 1000000
-
--- the arguments `make` and a decimal from 1 to that number, without a sign or a leading zero
-pub record IsMake (arguments : List (List ℕ)) (n : ℕ) : Type 0 where
-  pub matched : arguments ≡ codes "make" ∷ decimal n ∷ []
-  pub least : 1 ≤ n
-  pub most : n ≤ make_max
-
--- the arguments are neither a command that reads nor `make`
-abbrev pub IsNoCommand : List (List ℕ) → Type 0
-IsNoCommand arguments = (command_of arguments ≡ None) × ((n : ℕ) → IsMake arguments n → ⊥)
-
+-- what `make` lists
 abbrev pub made_listing : ℕ → Listing
 made_listing n = record { lines = line (tally_text n (tally_of n)) ∷ []; status = Done }

@@ -14,28 +14,8 @@ use Rattle.x86_streams.specs.Outside.Writes.{Call, Cause, Does, EndsInFlush, End
 use Rattle.x86_streams.specs.Text.{Text, text_of}
 use Rattle.x86_streams.specs.Text.Reading.{MayCome}
 use Rattle.x86_cli.specs.Listings.Listing.{Listing, with_lines, at_end}
-use Rattle.x86_cli.specs.Commands.Command.{listed_at, known_for, max_of, command_of}
-use Rattle.x86_cli.specs.Commands.Make.{IsMake, made_listing}
+use Rattle.x86_cli.specs.Commands.Request.{Task}
 use Rattle.x86_cli.specs.Commands.Says.{full_listing, taken_listing}
-
--- ---- what words denote
-
--- What is listed of a text, what of that is known whatever follows the text, and the most bytes of it that are read.
-pub record Task : Type 0 where
-  pub max : ℕ
-  pub known : Text → Listing
-  pub lists : Text → Listing
-
-abbrev pub task_of : Command → Task
-task_of c = record { max = max_of c; known = known_for c; lists = listed_at c 0 }
-
--- `make` lists its line, whatever the text is
-abbrev pub making : ℕ → Task
-making n = record { max = 0; known = λ t. made_listing n; lists = λ t. made_listing n }
-
--- Where the words denote a task, this is so of it.
-abbrev pub IfTask : List (List ℕ) → (Task → Type 0) → Type 0
-IfTask words says = IfSome (command_of words) (λ c. says (task_of c)) × ((n : ℕ) → IsMake words n → says (making n))
 
 -- ---- calls
 
@@ -122,13 +102,13 @@ module _ {R W : Type 0} (reads : R → List ℕ → Result ℕ Error → R → T
 
 -- ---- what follows
 
--- How the reads ended, by the status. A reader may fail while bytes are read ahead of a refusal.
+-- How the reads ended, by the status.
 abbrev pub EndsAt : Status → Option Stop → Type 0
 EndsAt Done stop = stop ≡ Some End
 EndsAt ReadFault stop = stop ≡ Some Failed
 EndsAt BadText stop = stop ≢ Some Failed
 EndsAt TooLarge stop = stop ≢ Some Failed
-EndsAt Refused stop = ⊤
+EndsAt Refused stop = stop ≢ Some Failed
 EndsAt WriteFault stop = ⊤
 EndsAt Usage stop = ⊥
 

@@ -58,7 +58,8 @@ Says Usage c old new = ⊥
 Says Done c old new =
     OfAll (Writes Done old new) c old × (new.source_faults ≡ old.source_faults) × (new.sink_faults ≡ old.sink_faults)
     × IfSome old.left (λ b. new.left ≡ Some [])
-Says Refused c old new = OfAll (Writes Refused old new) c old × (new.sink_faults ≡ old.sink_faults)
+Says Refused c old new =
+    OfAll (Writes Refused old new) c old × (new.source_faults ≡ old.source_faults) × (new.sink_faults ≡ old.sink_faults)
 Says BadText c old new =
     OfAll (Writes BadText old new) c old × (new.source_faults ≡ old.source_faults) × (new.sink_faults ≡ old.sink_faults)
 Says TooLarge c old new =

@@ -6,14 +6,14 @@ ghost use Rattle.x86_decode.specs.Instruction.{holding};
 ghost use Rattle.x86_text.specs.Widths.{line_width};
 ghost use Rattle.x86_cli.specs.Commands.Run.{Wrote};
 ghost use Rattle.x86_layout.specs.Parts.Heads.{one_if};
-ghost use Rattle.x86_cli.specs.Commands.Make.{generate, has_long_displacement, is_at_rip, is_absolute, has_operand, answer_has, tally_of, tally_text, make_max, made_listing};
+ghost use Rattle.x86_cli.specs.Commands.Make.{generate, is_at_rip, is_absolute, has_operand, answer_has, tally_of, tally_text, made_listing};
 
 use crate::listings::listing::put_last;
 use crate::listings::status::Status;
 use arrayvec::ArrayVec;
 use itoa::Buffer;
 use x86_decode::{InstDecoder, Instruction};
-use x86_fields::{DecodeError, MEMORY_FORMS, ModRM, Sib};
+use x86_fields::{DecodeError, MEMORY_FORMS, ModRM, displacement_width};
 use x86_operands::Operand;
 use x86_regs::RegisterClass;
 use x86_streams::Sink;
@@ -38,33 +38,24 @@ fn push(encoding: &mut ArrayVec<u8, 15>, bytes: &[u8])
     let _ = encoding.try_extend_from_slice(bytes);
 }
 
-fn has_long_displacement(modrm: ModRM, sib: Sib) -> bool
-    ensures { result ≡ has_long_displacement modrm sib }
-{
-    match (modrm.mod_field(), modrm.rm_field()) {
-        (2, _) | (0, 5) => true,
-        (0, 4) => sib.base_field() == 5,
-        _ => false,
-    }
-}
-
 /// Encoding `i` of `make`: `ADD r32, m32` with ModRM `i` modulo `MEMORY_FORMS`.
 #[tactic(auto, unfolding(crate::specs::Commands::Make::generate))]
 pub fn generate(i: u32) -> ArrayVec<u8, 15>
     ensures { result.items ≡ generate i }
 {
-    let modrm = ModRM::new((i % MEMORY_FORMS as u32) as u8);
-    let sib = Sib::new((i / MEMORY_FORMS as u32 % 256) as u8);
+    let modrm = (i % MEMORY_FORMS as u32) as u8;
+    let sib = if ModRM::new(modrm).rm_field() == 4 {
+        Some((i / MEMORY_FORMS as u32 % 256) as u8)
+    } else {
+        None
+    };
     let mut encoding = ArrayVec::new();
-    push(&mut encoding, &[0x03, modrm.byte()]);
-    if modrm.rm_field() == 4 {
-        push(&mut encoding, &[sib.byte()]);
+    push(&mut encoding, &[0x03, modrm]);
+    if let Some(sib) = sib {
+        push(&mut encoding, &[sib]);
     }
-    if modrm.mod_field() == 1 {
-        push(&mut encoding, &[(i % 256) as u8]);
-    } else if has_long_displacement(modrm, sib) {
-        push(&mut encoding, &i.to_le_bytes());
-    }
+    let width = displacement_width(modrm, sib);
+    push(&mut encoding, &i.to_le_bytes()[..usize::from(width)]);
     encoding
 }
 
@@ -176,8 +167,8 @@ fn is_decimal(argument: &str, count: u32) -> bool
 
 /// The count that an argument spells: a decimal from 1 to `MAKE_MAX`, without a sign or a leading zero.
 pub fn count_from(argument: &str) -> Option<u32>
-    ensures found { IfSome result (λ n. (1 ≤ n) × (n ≤ make_max) × (argument.now ≡ decimal n)) }
-    ensures every { (n : ℕ) → 1 ≤ n → n ≤ make_max → argument.now ≡ decimal n → result ≡ Some n }
+    ensures found { IfSome result (λ n. (1 ≤ n) × (n ≤ 1000000) × (argument.now ≡ decimal n)) }
+    ensures every { (n : ℕ) → 1 ≤ n → n ≤ 1000000 → argument.now ≡ decimal n → result ≡ Some n }
 {
     let count = argument.parse::<u32>().ok()?;
     if count == 0 || count > MAKE_MAX {

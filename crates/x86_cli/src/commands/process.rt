@@ -9,7 +9,7 @@ ghost use Rattle.x86_text.specs.Widths.{line_width};
 ghost use Rattle.x86_cli.specs.Listings.Line.{line};
 ghost use Rattle.x86_cli.specs.Commands.Process.{Reports, said_at};
 
-use crate::commands::command::USAGE;
+use crate::commands::request::USAGE;
 use crate::listings::listing::put_line;
 use crate::listings::status::Status;
 use std::alloc::{AllocError, Global};

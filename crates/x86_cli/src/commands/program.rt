@@ -1,12 +1,12 @@
 //! The program over a reader and a writer.
 
 ghost use Rattle.std.specs.Prelude.{◌≡◌, ◌≢◌, ◌↔◌, IsOk, map, string_bytes};
-ghost use Rattle.x86_cli.specs.Commands.Make.{IsNoCommand};
-ghost use Rattle.x86_cli.specs.Commands.Program.{ending_of, IfTask, Performs};
+ghost use Rattle.x86_cli.specs.Commands.Program.{ending_of, Performs};
+ghost use Rattle.x86_cli.specs.Commands.Request.{Denotes, DenoteNothing, task_of};
 ghost use Rattle.x86_streams.specs.Outside.Writes.{FlushesOut};
 ghost use Rattle.x86_streams.specs.Outside.Seen.{buffer_writer, buffer_bytes};
 
-use crate::commands::command::run_settling;
+use crate::commands::request::{Request, run_settling};
 use crate::listings::status::Status;
 use x86_streams::{Buffered, Gathered, Input, Output, SinkFailed, StdSink, StdSource, Watched};
 
@@ -50,7 +50,7 @@ pub fn ending_of(status: Status, flushed: &Result<(), SinkFailed>) -> Status
 /// flushed at the end. It holds for every reader and writer, files and pipes too, and says each call that was made:
 ///
 /// - `Done`: the reads end with one that returned no byte, and the writer took the whole listing.
-/// - `Usage`: the arguments are no command. Nothing was read or written.
+/// - `Usage`: the arguments request nothing. Nothing was read or written.
 /// - `Refused`, `BadText`, `TooLarge`: the listing ends so, and the writer took all of it.
 /// - `ReadFault`: the last read answered an error. The writer took the listing of the bytes read before.
 /// - `WriteFault`: the writer's last call failed: a write or a flush answered an error, or a write took none of bytes
@@ -65,9 +65,11 @@ pub fn listed<R: Input + Drop, W: Output + Drop>(
     reader: R,
     writer: W,
 ) -> Finished<R, W>
-    ensures lists { IfTask (map string_bytes arguments.now) (λ task. Performs R.reads W.writes
-        W.flushes task result.status result.gone reader result.reader writer result.writer) }
-    ensures usage { (result.status ≡ Status.Usage) ↔ IsNoCommand (map string_bytes arguments.now) }
+    ensures lists { (request : Request) → Denotes (map string_bytes arguments.now) request
+        → Performs R.reads W.writes W.flushes (task_of request) result.status result.gone
+        reader result.reader writer result.writer }
+    ensures usage { (result.status ≡ Status.Usage)
+        ↔ DenoteNothing (map string_bytes arguments.now) }
     ensures nothing { result.status ≡ Status.Usage
         → (result.reader ≡ reader) × (result.writer ≡ writer) }
 {

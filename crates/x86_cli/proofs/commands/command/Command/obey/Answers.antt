@@ -1,5 +1,5 @@
 use Rattle.x86_cli.proofs.ListingLemmas.Live.{ran_lives}
-use Rattle.x86_cli.proofs.commands.command.obey.Goals as goal
+use Rattle.x86_cli.proofs.commands.command.Command.obey.Goals as goal
 
 pub returns-in-List : goal.returns-in-List
 returns-in-List g c = rw c.in-List.is (rw c.decoder.ensures at c.list.ensures)

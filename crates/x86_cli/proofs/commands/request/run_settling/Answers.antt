@@ -1,0 +1,9 @@
+use Rattle.std.proofs.Common.{arith, sym, ◌∙◌}
+use Rattle.x86_cli.proofs.commands.request.run_settling.Goals as goal
+
+pub returns-in-Some-clause-obeyed : goal.returns-in-Some-clause-obeyed
+returns-in-Some-clause-obeyed g c request denotes =
+    let same = c.request_of.ensures.every request denotes in grind (arith, c.obey.ensures.obeys)
+
+pub returns-in-Some-clause-nothing : goal.returns-in-Some-clause-nothing
+returns-in-Some-clause-nothing g c e = absurd (c.obey.ensures.used e)
