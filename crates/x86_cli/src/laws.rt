@@ -202,7 +202,7 @@ pub fn complete()
 pub fn ends<R: Input, W: Output>()
     ensures { (c : Command) (status : Status) (gone : Bool) (r r' : R) (w w' : W)
         → (h : Performs R.reads W.writes W.flushes (task_of (Request.Reads c)) status gone
-            r r' w w')
+        r r' w w')
         → EndsAt status (read_stop h.calls) }
 {}
 

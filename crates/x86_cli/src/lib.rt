@@ -19,7 +19,7 @@ pub mod text;
 pub use commands::command::{TARGETS_MAX, TEXT_MAX};
 pub use commands::make::generate;
 pub use commands::process::{finish, words};
-pub use commands::program::{Finished, listed};
+pub use commands::program::{Finished, Program, listed, over_streams};
 pub use commands::request::{USAGE, run};
 pub use listings::status::Status;
 pub use x86_streams::{

@@ -1,19 +1,17 @@
 //! The listing of a text, line by line.
 
-ghost use Rattle.std.specs.Prelude.{◌≡◌, ◌<◌, ◌≤◌, false, length, take};
+ghost use Rattle.std.specs.Prelude.{◌≡◌, ◌<◌, ◌≤◌, length, take};
 ghost use Rattle.arrayvec.specs.ArrayVec.{array_vec_len};
-ghost use Rattle.x86_streams.specs.Text.{text_of};
-ghost use Rattle.x86_cli.specs.Listings.Calls.{Lives};
 ghost use Rattle.x86_show.specs.Lines.{shown_room, beginning, shown_text, refused_text};
-ghost use Rattle.x86_show.specs.Listing.{shown_max, shown_at, known_at};
+ghost use Rattle.x86_show.specs.Listing.{shown_at, known_at, showing};
 
 use crate::text::put_instruction;
 use x86_arch::DecodeError as _;
-use x86_cli::Status;
 use x86_cli::laws::decoder_laws;
 use x86_cli::listings::listing::{Course, Entry, length_of, list};
 use x86_cli::listings::sweep::shown_at;
 use x86_cli::text::window::AtRefusal;
+use x86_cli::{Program, Status};
 use x86_decode::{DecodeError, InstDecoder, Instruction};
 use x86_lines::cells::{put_bytes, put_first};
 use x86_lines::hexadecimal::{put_hexadecimal, put_spaced_bytes};
@@ -102,18 +100,18 @@ impl Course<ROOM> for ShowAt {
     }
 }
 
-/// Shows the hex text of a source, whose image begins at an address: a line for each instruction, and for each byte that
-/// begins none, as soon as it is decided. The status is as of `sweep`.
-pub fn show<S: Source, K: Sink, T: Settling<K>>(
-    base: u64,
-    settling: &T,
-    source: &mut S,
-    sink: &mut K,
-) -> Status
-    ensures { Lives S.gives S.ahead K.takes T.settles (known_at false base 0)
-        (shown_at false base 0) (text_of shown_max) result source.old source.new sink.old sink.new }
-{
-    let decoder = InstDecoder::default();
-    let course = ShowAt { base };
-    list(&decoder, &course, settling, u64::MAX / 4, source, sink)
+/// It shows the hex text of a source, whose image begins at an address: a line for each instruction, and for each byte
+/// that begins none, as soon as it is decided. The status is as of `sweep`.
+impl Program for ShowAt {
+    ghost task = { λ s. showing s.base };
+
+    fn run<S: Source, K: Sink, T: Settling<K>>(
+        &self,
+        settling: &T,
+        source: &mut S,
+        sink: &mut K,
+    ) -> Status {
+        let decoder = InstDecoder::default();
+        list(&decoder, self, settling, u64::MAX / 4, source, sink)
+    }
 }

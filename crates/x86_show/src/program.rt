@@ -8,13 +8,12 @@ ghost use Rattle.x86_cli.specs.Listings.Status.{code};
 ghost use Rattle.x86_show.specs.Program.{base_number, base_in, said};
 ghost use Rattle.x86_show.specs.Listing.{showing};
 
-use crate::listing::show;
+use crate::listing::ShowAt;
 use std::process::ExitCode;
 use x86_cli::commands::process::report;
-use x86_cli::commands::program::{ending_of, send_rest};
-use x86_cli::{Finished, Status};
+use x86_cli::{Finished, Status, over_streams};
 use x86_lines::cells::put_bytes;
-use x86_streams::{Buffered, Gathered, Input, Output, StdSink, StdSource, Watched};
+use x86_streams::{Input, Output};
 
 fn base_number(digits: &[u8]) -> Option<u64>
     ensures { result ≡ base_number digits.now }
@@ -57,25 +56,14 @@ pub fn shown<R: Input + Drop, W: Output + Drop>(
     ensures nothing { result.status ≡ Status.Usage
         → (result.reader ≡ reader) × (result.writer ≡ writer) }
 {
-    let Some(base) = base_in(words) else {
-        return Finished {
+    match base_in(words) {
+        Some(base) => over_streams(&ShowAt { base }, reader, writer),
+        None => Finished {
             status: Status::Usage,
             gone: false,
             reader,
             writer,
-        };
-    };
-    let mut source = StdSource::new(reader);
-    let mut sink = StdSink::new(Gathered::new(Watched::new(writer)));
-    let status = show(base, &Buffered, &mut source, &mut sink);
-    let mut out = sink.into_writer();
-    let flushed = send_rest(status, &mut out);
-    let watched = out.into_writer();
-    Finished {
-        status: ending_of(status, &flushed),
-        gone: watched.is_gone(),
-        reader: source.into_reader(),
-        writer: watched.into_writer(),
+        },
     }
 }
 

@@ -18,6 +18,7 @@ use Rattle.x86_cli.specs.Commands.Command.{max_of}
 use Rattle.x86_cli.specs.Commands.Make.{made_listing}
 use Rattle.x86_cli.specs.Commands.Request.{Obeys, Stays, task_of}
 use Rattle.x86_cli.specs.Commands.Causes.{HaveCauses}
+use Rattle.x86_cli.specs.Commands.Program.{IsEnd}
 use Rattle.x86_cli.specs.Commands.Run.{Lists, Wrote, Ran}
 use Rattle.x86_cli.specs.Listings.Calls.{OutsideCall, Next, Take, Put, Settle, returned, lines_of, stop_of, Unfailed, Waits, AreListed, Calls, Lives}
 use Rattle.x86_cli.specs.Listings.Listing.{Listing}
@@ -106,32 +107,38 @@ module _ {S K : Type 0} (gives : S → Got → S → Type 0) (ahead : S → List
     abbrev whole : (cs : List OutsideCall) → Calls gives ahead takes Stays cs s t k l → Waits known (text_of max) cs → Unfailed cs →
         ((xs : List ℕ) (stop : Stop) → MayCome (stop_of cs) xs stop → listing (text_of max (returned cs ++ xs) stop) ≡ record { lines = lines_of cs; status = status }) →
         Ran'
-    whole cs c w u lists = (record {
-      bytes = returned cs;
-      stop = stop_of cs;
-      source_calls = source_part gives ahead takes Stays known (text_of max) cs s t k l c w;
-      called = called_part gives ahead takes Stays known (text_of max) cs w;
-      lines = lines_of cs;
-      failed = None;
-      sink_calls = sink_part cs s t k l c u;
-      lists = lists;
-    }, known_read gives ahead takes Stays known (text_of max) cs w)
+    whole cs c w u lists = (
+      record {
+        bytes = returned cs;
+        stop = stop_of cs;
+        source_calls = source_part gives ahead takes Stays known (text_of max) cs s t k l c w;
+        called = called_part gives ahead takes Stays known (text_of max) cs w;
+        lines = lines_of cs;
+        failed = None;
+        sink_calls = sink_part cs s t k l c u;
+        lists = lists;
+      },
+      known_read gives ahead takes Stays known (text_of max) cs w,
+    )
 
     ran_of : (cs : List OutsideCall) → Calls gives ahead takes Stays cs s t k l → Waits known (text_of max) cs → Listed' cs → Ran'
     ran_of [] c w lists = whole [] c w tt lists
     ran_of (Next g ∷ cs) c w lists = whole (Next g ∷ cs) c w w.1.0 lists
     ran_of (Take b ∷ cs) c w lists = whole (Take b ∷ cs) c w w.1.0 lists
     ran_of (Put piece (Ok done) ∷ cs) c w lists = whole (Put piece (Ok done) ∷ cs) c w w.1 lists
-    ran_of (Put piece (Err e) ∷ cs) c w lists = (record {
-      bytes = returned cs;
-      stop = stop_of cs;
-      source_calls = source_part gives ahead takes Stays known (text_of max) cs s t k c.0 c.1 w.0;
-      called = called_part gives ahead takes Stays known (text_of max) cs w.0;
-      lines = lines_of cs;
-      failed = Some piece;
-      sink_calls = rw append-nil at (sink_calls-sink_calls takes (lines_of cs) [] (Some piece) k c.0 l (sink_part cs s t k c.0 c.1 w.1) (e, c.2));
-      lists = lists;
-    }, known_read gives ahead takes Stays known (text_of max) cs w.0)
+    ran_of (Put piece (Err e) ∷ cs) c w lists = (
+      record {
+        bytes = returned cs;
+        stop = stop_of cs;
+        source_calls = source_part gives ahead takes Stays known (text_of max) cs s t k c.0 c.1 w.0;
+        called = called_part gives ahead takes Stays known (text_of max) cs w.0;
+        lines = lines_of cs;
+        failed = Some piece;
+        sink_calls = rw append-nil at (sink_calls-sink_calls takes (lines_of cs) [] (Some piece) k c.0 l (sink_part cs s t k c.0 c.1 w.1) (e, c.2));
+        lists = lists;
+      },
+      known_read gives ahead takes Stays known (text_of max) cs w.0,
+    )
     ran_of (Settle (Ok done) ∷ cs) c w lists = whole (Settle (Ok done) ∷ cs) c w w.1 lists
     ran_of (Settle (Err e) ∷ cs) c w lists = let same : Err e ≡ Ok tt = c.2.0 in absurd (cc)
 
@@ -160,7 +167,7 @@ obeys_lives gives ahead takes settles (Reads c) status s t k l h = h
 obeys_lives gives ahead takes settles (Makes n) status s t k l h = wrote_lives gives ahead takes settles (made_listing n) (text_of 0) status s t k l h.0 h.1
 
 -- its listing ends in neither of these
-pub task_ends : (request : Request) (t : Text) → (((task_of request).lists t).status ≢ Usage) × (((task_of request).lists t).status ≢ WriteFault)
+pub task_ends : (request : Request) (t : Text) → IsEnd ((task_of request).lists t).status
 task_ends (Reads c) t = command_status c t
 task_ends (Makes n) t = (λ e. cc, λ e. cc)
 

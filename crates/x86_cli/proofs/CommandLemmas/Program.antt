@@ -24,7 +24,7 @@ use Rattle.x86_streams.specs.Text.Reading.{MayCome}
 use Rattle.x86_cli.specs.Listings.Listing.{Listing, with_lines, at_end}
 use Rattle.x86_cli.specs.Listings.Calls.{OutsideCall, Next, Take, Put, Settle, returned, lines_of, stop_of, Unfailed, IsSettled, Waits, AreListed, Calls, Lives}
 use Rattle.x86_cli.specs.Commands.Request.{Task}
-use Rattle.x86_cli.specs.Commands.Program.{StreamCall, Read, Send, bytes_read, read_stop, writer_calls, IsFlushed, AreBeforeFault, ReadsByRule, ending_of, fault_of, StreamCalls, Performs}
+use Rattle.x86_cli.specs.Commands.Program.{StreamCall, Read, Send, bytes_read, read_stop, writer_calls, IsFlushed, AreBeforeFault, ReadsByRule, IsEnd, ending_of, fault_of, StreamCalls, Performs}
 use Rattle.x86_cli.proofs.CommandLemmas.Causes.{some_stop}
 use Rattle.x86_cli.proofs.CommandLemmas.Obeys.{whole_listed}
 use Rattle.x86_cli.proofs.CommandLemmas.Says.{written_part}
@@ -254,8 +254,8 @@ module _ {R W : Type 0} {h : _} (reads : R → List ℕ → Result ℕ Error →
 
     -- a run and the flush after it
     module _ (status : Status) (t : StdSource R h) (l : StdSink (Gathered W)) (r : Result ⊤ SinkFailed) (g : Gathered W) (stays : status ≡ WriteFault → g ≡ sink_writer l)
-        (rest : status ≢ Usage → status ≢ WriteFault → BufferSends writes flushes (sink_writer l) r g) (gone : Bool) (answers : Answers gone t (buffer_writer g))
-        (ends : (text : Text) → ((task.lists text).status ≢ Usage) × ((task.lists text).status ≢ WriteFault)) where
+        (rest : status ≢ WriteFault → BufferSends writes flushes (sink_writer l) r g) (gone : Bool) (answers : Answers gone t (buffer_writer g))
+        (ends : (text : Text) → IsEnd (task.lists text).status) where
       abbrev Ends : Type 0
       Ends = Performs reads writes flushes task (ending_of status r) gone (source_reader s) (source_reader t) (buffer_writer (sink_writer k)) (buffer_writer g)
 
@@ -268,9 +268,8 @@ module _ {R W : Type 0} {h : _} (reads : R → List ℕ → Result ℕ Error →
           let one = some_stop (stop_of cs) in
           let is : (xs : List ℕ) (e : Stop) → MayCome (stop_of cs) xs e → task.lists (text_of task.max (returned cs ++ xs) e) ≡ record { lines = lines_of cs; status = status } = λ xs e may. whole_listed status cs _ u (lists xs e may) in
           let first = ap (λ l. l.status) (is [] one.0 one.1) in
-          let used : status ≢ Usage = λ e. (ends _).0 (first ∙ e) in
           let ne : status ≢ WriteFault = λ e. (ends _).1 (first ∙ e) in
-          let f = rest used ne in
+          let f = rest ne in
           closes r (ending_of status r) gone [] (buffer_bytes g) cs t l (buffer_writer g) i f.0 (λ ds c. cause_of status r ds ne c) (λ e. (ending_ok status r _ f.1 e).0.1) answers
           (λ xs e may.
           let same = is xs e may in (
@@ -344,9 +343,17 @@ module _ {R W : Type 0} (reads : R → List ℕ → Result ℕ Error → R → T
   -- a run over the buffer before a watched writer, and the flush after it
   pub performs : {h : _} (left : R → Option (List ℕ)) (task : Task) (s : StdSource R h) (k : StdSink (Gathered (Watched W))) → source_bytes s ≡ [] → buffer_bytes (sink_writer k) ≡ [] → is_gone (buffer_writer (sink_writer k)) ≡ false →
       (status : Status) (t : StdSource R h) (l : StdSink (Gathered (Watched W))) (r : Result ⊤ SinkFailed) (g : Gathered (Watched W)) → (status ≡ WriteFault → g ≡ sink_writer l) →
-      (status ≢ Usage → status ≢ WriteFault → BufferSends WatchedWrites WatchedFlushes (sink_writer l) r g) → ((text : Text) → ((task.lists text).status ≢ Usage) × ((task.lists text).status ≢ WriteFault)) →
+      (status ≢ WriteFault → BufferSends WatchedWrites WatchedFlushes (sink_writer l) r g) → ((text : Text) → IsEnd (task.lists text).status) →
       Lives (SourceGives reads left) source_bytes (SinkTakes WatchedWrites WatchedFlushes) (λ m q n. BufferSends WatchedWrites WatchedFlushes (sink_writer m) q (sink_writer n)) task.known task.lists (text_of task.max) status s t k l →
       Performs reads writes flushes task (ending_of status r) (is_gone (buffer_writer g)) (source_reader s) (source_reader t) (watched_writer (buffer_writer (sink_writer k))) (watched_writer (buffer_writer g))
   performs left task s k none empty still status t l r g stays rest ends lives =
       unwatched_performs task (ending_of status r) (is_gone (buffer_writer g)) (source_reader s) (source_reader t) (buffer_writer (sink_writer k)) (buffer_writer g)
       (lives_performs reads left WatchedWrites WatchedFlushes task s k none empty status t l r g stays rest (is_gone (buffer_writer g)) (λ ds d. last_answers ds _ _ _ _ still d) ends lives)
+
+-- what ends with a listing's status is no mistake of usage
+pub performs_used : {R W : Type 0} (reads : R → List ℕ → Result ℕ Error → R → Type 0) (writes : W → List ℕ → Result ℕ Error → W → Type 0) (flushes : W → Result ⊤ Error → W → Type 0) (task : Task) (status : Status) (gone : Bool) (r r' : R) (w w' : W) →
+    ((text : Text) → IsEnd (task.lists text).status) → Performs reads writes flushes task status gone r r' w w' → status ≢ Usage
+performs_used reads writes flushes task status gone r r' w w' ends h e =
+    let one = some_stop (read_stop h.calls) in
+    let same = ((h.lists [] one.0 one.1).all (λ f. let g : Usage ≡ WriteFault = sym e ∙ f in absurd (cc))).1 in
+    (ends _).0 (sym same ∙ e)

@@ -63,6 +63,10 @@ ReadsByRule known text (Read buffer answer ∷ cs) = ReadsByRule known text cs �
 
 -- ---- how the program ends
 
+-- A listing ends neither in a mistake of usage nor in a failed write.
+abbrev pub IsEnd : Status → Type 0
+IsEnd status = (status ≢ Usage) × (status ≢ WriteFault)
+
 -- the status of a run, or that of a write fault where the last flush failed
 abbrev pub ending_of : {E : Type 0} → Status → Result ⊤ E → Status
 ending_of status (Ok done) = status

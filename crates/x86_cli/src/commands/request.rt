@@ -34,7 +34,7 @@ fn made_from(words: &[String]) -> Option<u32>
 }
 
 /// What the words request.
-fn request_of(words: &[String]) -> Option<Request>
+pub fn request_of(words: &[String]) -> Option<Request>
     ensures found { IfSome result (λ request. Denotes (map string_bytes words.now) request) }
     ensures every { (request : Request) → Denotes (map string_bytes words.now) request
         → result ≡ Some request }
@@ -50,17 +50,17 @@ fn request_of(words: &[String]) -> Option<Request>
 
 impl Request {
     /// Does what is requested, over a sink that is settled before the source is called.
-    fn obey<S: Source, K: Sink, T: Settling<K>>(
-        self,
+    pub fn obey<S: Source, K: Sink, T: Settling<K>>(
+        &self,
         settling: &T,
         source: &mut S,
         sink: &mut K,
     ) -> Status
-        ensures obeys { Obeys S.gives S.ahead K.takes T.settles self result
+        ensures obeys { Obeys S.gives S.ahead K.takes T.settles self.now result
             source.old source.new sink.old sink.new }
         ensures used { result ≢ Status.Usage }
     {
-        match self {
+        match *self {
             Request::Reads(command) => command.obey(settling, source, sink),
             Request::Makes(count) => make(count, sink),
         }
@@ -93,25 +93,8 @@ pub fn run<S: Source, K: Sink>(words: &[String], source: &mut S, sink: &mut K) -
     ensures nothing { result ≡ Status.Usage
         → (source.new ≡ source.old) × (sink.new ≡ sink.old) }
 {
-    run_settling(words, &AtOnce, source, sink)
-}
-
-/// The same over a sink that holds back what was put, and is settled before the source is called.
-pub fn run_settling<S: Source, K: Sink, T: Settling<K>>(
-    words: &[String],
-    settling: &T,
-    source: &mut S,
-    sink: &mut K,
-) -> Status
-    ensures obeyed { (request : Request) → Denotes (map string_bytes words.now) request
-        → Obeys S.gives S.ahead K.takes T.settles request result
-        source.old source.new sink.old sink.new }
-    ensures usage { (result ≡ Status.Usage) ↔ DenoteNothing (map string_bytes words.now) }
-    ensures nothing { result ≡ Status.Usage
-        → (source.new ≡ source.old) × (sink.new ≡ sink.old) }
-{
     match request_of(words) {
-        Some(request) => request.obey(settling, source, sink),
+        Some(request) => request.obey(&AtOnce, source, sink),
         None => Status::Usage,
     }
 }

@@ -1,18 +1,9 @@
-use Rattle.std.proofs.Common.{◌≡◌, ◌∙◌, [], ap, sym, false, map, string_bytes}
-use Rattle.x86_streams.specs.Outside.Seen.{sink_writer, buffer_writer, buffer_bytes, is_gone, watched_writer}
-use Rattle.x86_cli.specs.Commands.Request.{task_of}
-use Rattle.x86_cli.proofs.CommandLemmas.Program.{performs}
-use Rattle.x86_cli.proofs.CommandLemmas.Obeys.{obeys_lives, task_ends}
+use Rattle.std.proofs.Common.{arith}
 use Rattle.x86_cli.proofs.commands.program.listed.Goals as goal
 
-pub returns-clause-lists : goal.returns-clause-lists
-returns-clause-lists g c request denotes =
-    let out = sink_writer c.new-sink.result in
-    let fresh : buffer_bytes out ≡ [] = ap (λ o. buffer_bytes o) c.new-sink.ensures.writer ∙ c.new-2.ensures.empty in
-    let watched : buffer_writer out ≡ c.new.result = ap (λ o. buffer_writer o) c.new-sink.ensures.writer ∙ c.new-2.ensures.writer in
-    let still : is_gone (buffer_writer out) ≡ false = ap (λ o. is_gone o) watched ∙ c.new.ensures.open in
-    let writer : watched_writer (buffer_writer out) ≡ c.args.writer = ap (λ o. watched_writer o) watched ∙ c.new.ensures.writer in
-    rw (c.ending_of.ensures, c.is_gone.ensures, c.into_reader.ensures, c.into_writer.ensures, c.into_writer-watched.ensures, sym c.new-source.ensures.reader, sym writer)
-    (performs g.R.Input.reads g.W.Output.writes g.W.Output.flushes g.R.Input.left (task_of request) _ _ c.new-source.ensures.empty fresh still _ _ _ _ _
-    (λ e. c.send_rest-flushed.ensures.failed e ∙ c.into_writer-out.ensures) (λ u w. rw c.into_writer-out.ensures at (c.send_rest-flushed.ensures.sends u w)) (task_ends request)
-    (obeys_lives _ _ _ _ request _ _ _ _ _ (c.run_settling-status.ensures.obeyed request denotes)))
+pub returns-in-Some-clause-lists : goal.returns-in-Some-clause-lists
+returns-in-Some-clause-lists g c request denotes =
+    let same = c.request_of.ensures.every request denotes in grind (arith, c.over_streams.ensures.performs)
+
+pub returns-in-Some-clause-nothing : goal.returns-in-Some-clause-nothing
+returns-in-Some-clause-nothing g c e = absurd (c.over_streams.ensures.used e)

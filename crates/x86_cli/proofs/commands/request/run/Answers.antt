@@ -1,8 +1,8 @@
 use Rattle.std.proofs.Common.{arith, sym, ◌∙◌}
-use Rattle.x86_cli.proofs.commands.request.run_settling.Goals as goal
+use Rattle.x86_cli.proofs.commands.request.run.Goals as goal
 
-pub returns-in-Some-clause-obeyed : goal.returns-in-Some-clause-obeyed
-returns-in-Some-clause-obeyed g c request denotes =
+pub returns-in-Some-clause-ran : goal.returns-in-Some-clause-ran
+returns-in-Some-clause-ran g c request denotes =
     let same = c.request_of.ensures.every request denotes in grind (arith, c.obey.ensures.obeys)
 
 pub returns-in-Some-clause-nothing : goal.returns-in-Some-clause-nothing
