@@ -53,9 +53,9 @@ note_built() {
     echo "$1" >"$out/built"
 }
 
-# The line that the program prints where its words are no command.
+# usage_line FILE: the line that a program prints where its words request nothing. The file has it.
 usage_line() {
-    sed -n '/^pub const USAGE: &str =/{;/$/!N;s/.*"\(.*\)";$/\1/p;}' "$command_sources/command.rt"
+    sed -n '/^pub const USAGE: &str =/{;/$/!N;s/.*"\(.*\)";$/\1/p;}' "$1"
 }
 
 say() {

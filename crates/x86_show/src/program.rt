@@ -15,6 +15,9 @@ use x86_cli::{Finished, Status, over_streams};
 use x86_lines::cells::put_bytes;
 use x86_streams::{Input, Output};
 
+/// What is printed where the words are no address.
+pub const USAGE: &str = "usage: show [BASE]";
+
 fn base_number(digits: &[u8]) -> Option<u64>
     ensures { result ≡ base_number digits.now }
 {
@@ -73,7 +76,7 @@ pub fn finish<E: Output + Drop>(status: Status, gone: bool, errors: E) -> (ExitC
     ensures says { Reports E.writes E.flushes (said status gone) errors result.1 }
 {
     match status {
-        Status::Usage => (ExitCode::from(2), report("usage: show [BASE]", errors)),
+        Status::Usage => (ExitCode::from(2), report(USAGE, errors)),
         _ => x86_cli::finish(status, gone, errors),
     }
 }

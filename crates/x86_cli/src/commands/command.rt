@@ -4,6 +4,7 @@ ghost use Rattle.x86_decode.specs.Decoder.{is_strict};
 ghost use Rattle.std.specs.Prelude.{◌≡◌, map, string_bytes};
 ghost use Rattle.x86_cli.specs.Commands.Command.{command_by, command_of};
 ghost use Rattle.x86_cli.specs.Commands.Request.{Obeys};
+ghost use Rattle.x86_cli.specs.declared.commands.request.Request.TheVariants.{Reads};
 
 use crate::listings::fields::FieldLines;
 use crate::listings::line::Plain;
@@ -81,7 +82,7 @@ impl Command {
         source: &mut S,
         sink: &mut K,
     ) -> Status
-        ensures { Obeys S.gives S.ahead K.takes T.settles (Request.Reads self) result
+        ensures { Obeys S.gives S.ahead K.takes T.settles (Reads self) result
             source.old source.new sink.old sink.new }
     {
         let default = InstDecoder::default();

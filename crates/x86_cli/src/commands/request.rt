@@ -1,6 +1,6 @@
 //! What words request, and the run of that over a source and a sink.
 
-ghost use Rattle.std.specs.Prelude.{◌≡◌, ◌↔◌, ◌≢◌, IfSome, Some, map, string_bytes};
+ghost use Rattle.std.specs.Prelude.{◌≡◌, ◌↔◌, ◌≢◌, ℕ, IfSome, Some, map, string_bytes};
 ghost use Rattle.x86_cli.specs.Commands.Request.{Denotes, DenoteNothing, Obeys, Runs};
 
 use crate::commands::command::{Command, command_of};
