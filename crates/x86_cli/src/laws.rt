@@ -34,6 +34,7 @@ ghost use Rattle.x86_streams.specs.Outside.FaultCounts.{Rose};
 pub mod worked;
 
 use crate::commands::command::Command;
+use crate::commands::program::Program;
 use crate::commands::request::Request;
 use crate::listings::fields::FieldLines;
 use crate::listings::line::{Lines, Plain};
@@ -83,7 +84,8 @@ fn headline_of_bytes()
     by_grammar();
 }
 
-/// The lines of the commands, and of the two courses the listings, and what is known of them as the text is read.
+/// The lines of the commands, of the two courses the listings, and what is known of them as the text is read; and of
+/// what is requested the task.
 pub fn commands_have_their_lines<L: Lines + Drop>()
     ensures list { (l : Plain) (strict : Bool) (place : ℕ) (i : Instruction) (bytes : List ℕ) →
         ⟦<Plain as Lines>⟧.text l strict place i bytes ≡ line_of place i }
@@ -104,6 +106,7 @@ pub fn commands_have_their_lines<L: Lines + Drop>()
     ensures known_past_refusals { (c : PastRefusals) (strict : Bool) (place : ℕ) (t : Text) →
         ⟦<PastRefusals as Course<LINE_ROOM>>⟧.knows c strict place t
         ≡ known_sweep_at strict place t }
+    ensures tasks { (request : Request) → ⟦<Request as Program>⟧.task request ≡ task_of request }
 {}
 
 /// A listing ends with the same status whatever its lines are, as those of `list` and `fields` do.
