@@ -64,10 +64,9 @@ module _ (strict : Bool) (fit : (xs : List ℕ) → 0 < length xs → (0 < size 
     pub join : CutsJoin strict
     join place skip xs ys before after passed rest c d first final other meet =
         let n : ℕ = total_length passed in
-        let same : skip + n ≡ total_length before =
         let one = begins place xs before after c first in
         let two = begins (place + skip) (drop skip (xs ++ ys)) passed rest d other in
-        omega (arith, one, two, meet) in
+        let same : skip + n ≡ total_length before = omega (arith, one, two, meet) in
         let left = go_on (place + skip) (drop skip (xs ++ ys)) passed (d ∷ rest) other in
         of_more place xs ys before (c ∷ after) first final
         ∙ ap (λ m. before ++ cuts_from strict (place + m) (drop m (xs ++ ys))) (sym same)
