@@ -5,7 +5,7 @@ ghost use Rattle.std.specs.Iterator.{YieldsFirst, item_count};
 ghost use Rattle.std.specs.List.{sum_by, All};
 ghost use Rattle.x86_decode.specs.Addresses.{names_modrm, encodings_within, raw_within};
 ghost use Rattle.x86_decode.specs.Answer.{answer_of};
-ghost use Rattle.x86_layout.specs.Sweeps.Pieces.{CutsGoOn, CutsOfMore};
+ghost use Rattle.x86_layout.specs.Sweeps.Pieces.{CutsGoOn, CutsOfMore, CutsJoin};
 ghost use Rattle.x86_layout.specs.declared.sweeps.cuts.Cut.{Cut};
 ghost use Rattle.x86_layout.specs.declared.sweeps.sweep.Sweep.{Sweep};
 ghost use Rattle.x86_layout.specs.Sweeps.Cuts.{cut_length, cut_at, cuts_from, cuts_of};
@@ -53,6 +53,17 @@ pub fn cuts_in_order()
 pub fn cuts_by_pieces()
     ensures rest { (strict : Bool) → CutsGoOn strict }
     ensures more { (strict : Bool) → CutsOfMore strict }
+{
+    laws::lengths();
+    laws::answers_of_more();
+}
+
+/// An input may be swept in pieces that begin anywhere. From a place on at which two sweeps have a cut their cuts are the
+/// same. So the cuts of a piece hold up to the first place at which the next piece has a cut too, if none of them answers
+/// `ExhaustedInput`, and the cuts of the next piece hold from there on. Pieces are joined from the last to the first.
+#[tactic(auto, using(crate::proofs::SweepLemmas::Pieces::piece_laws))]
+pub fn cuts_of_pieces_join()
+    ensures { (strict : Bool) → CutsJoin strict }
 {
     laws::lengths();
     laws::answers_of_more();

@@ -5,7 +5,7 @@ use Rattle.x86_fields.specs.declared.errors.DecodeError.TheVariants.{ExhaustedIn
 use Rattle.x86_decode.specs.Answer.{answer_of}
 use Rattle.x86_layout.specs.declared.sweeps.cuts.Cut.{Cut}
 use Rattle.x86_layout.specs.Sweeps.Cuts.{cut_length, cut_at, cuts_from}
-use Rattle.x86_layout.specs.Sweeps.Pieces.{total_length, CutsGoOn, CutsOfMore}
+use Rattle.x86_layout.specs.Sweeps.Pieces.{total_length, CutsGoOn, CutsOfMore, CutsJoin}
 use Rattle.x86_layout.proofs.SweepLemmas.Place.{none_left, first_and_rest, fits}
 
 abbrev size : Bool → List ℕ → ℕ
@@ -39,6 +39,12 @@ module _ (strict : Bool) (fit : (xs : List ℕ) → 0 < length xs → (0 < size 
       let rest = go_on (place + size strict xs) (drop (size strict xs) xs) cs after d.1 in
       cc (rest, moved place (size strict xs) (total_length cs) xs, long)
 
+  -- cuts that follow others begin where these end
+  begins : (place : ℕ) (xs : List ℕ) (before after : List Cut) (c : Cut) → cuts_from strict place xs ≡ before ++ c ∷ after → place + total_length before ≡ c.place
+  begins place xs before after c e =
+      let n : ℕ = total_length before in
+      ap (λ c. c.place) (divided (place + n) (drop n xs) c after (sym (go_on place xs before (c ∷ after) e))).0
+
   module _ (stays : (xs ys : List ℕ) → answer_of strict xs ≢ Err ExhaustedInput → answer_of strict (xs ++ ys) ≡ answer_of strict xs) where
     pub of_more : CutsOfMore strict
     of_more place xs ys [] after e final = ap (λ p. cuts_from strict p (xs ++ ys)) (omega arith)
@@ -55,5 +61,16 @@ module _ (strict : Bool) (fit : (xs : List ℕ) → 0 < length xs → (0 < size 
         let tail = of_more (place + n) (drop n xs) ys cs after d.1 final.1 in
         cc (next place (xs ++ ys) more, first, long, rest, tail, moved place n (total_length cs) (xs ++ ys), d.0)
 
--- what the law of pieces says
-pub ruleset piece_laws = (fits, go_on, of_more)
+    pub join : CutsJoin strict
+    join place skip xs ys before after passed rest c d first final other meet =
+        let n : ℕ = total_length passed in
+        let one = begins place xs before after c first in
+        let two = begins (place + skip) (drop skip (xs ++ ys)) passed rest d other in
+        let same : skip + n ≡ total_length before = omega (arith, one, two, meet) in
+        let left = go_on (place + skip) (drop skip (xs ++ ys)) passed (d ∷ rest) other in
+        of_more place xs ys before (c ∷ after) first final
+        ∙ ap (λ m. before ++ cuts_from strict (place + m) (drop m (xs ++ ys))) (sym same)
+        ∙ ap (λ l. before ++ l) (sym (left ∙ moved place skip n (xs ++ ys)))
+
+-- what the laws of pieces say
+pub ruleset piece_laws = (fits, go_on, of_more, join)

@@ -24,3 +24,11 @@ CutsGoOn strict = (place : ℕ) (xs : List ℕ) (before after : List Cut) → cu
 abbrev pub CutsOfMore : Bool → Type 0
 CutsOfMore strict = (place : ℕ) (xs ys : List ℕ) (before after : List Cut) → cuts_from strict place xs ≡ before ++ after → AreFinal before →
     cuts_from strict place (xs ++ ys) ≡ before ++ cuts_from strict (place + total_length before) (drop (total_length before) (xs ++ ys))
+
+-- Of two sweeps, one of a piece and one that begins inside it or at its end, each has a cut at one place. The cuts of the
+-- piece before that place, none of which needs more bytes, and the cuts of the other from there on are those of the whole.
+abbrev pub CutsJoin : Bool → Type 0
+CutsJoin strict = (place skip : ℕ) (xs ys : List ℕ) (before after passed rest : List Cut) (c d : Cut) →
+    cuts_from strict place xs ≡ before ++ c ∷ after → AreFinal before →
+    cuts_from strict (place + skip) (drop skip (xs ++ ys)) ≡ passed ++ d ∷ rest → c.place ≡ d.place →
+    cuts_from strict place (xs ++ ys) ≡ before ++ d ∷ rest
