@@ -6,7 +6,7 @@
 //! ```
 //! let mut source = SoundSource::new(b"48 01 d8");
 //! let mut sink = ArraySink::<64>::new(u64::MAX);
-//! run(words, &mut source, &mut sink)   // Status::Done, where `words` is the word `list`
+//! run(words, &mut source, &mut sink)   // Status::Done, where `words` is `["list"]`
 //! sink.written()                       // b"0 3 ADD rax, rbx m8\n"
 //! ```
 #![tactic(auto)]

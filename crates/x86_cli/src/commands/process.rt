@@ -47,9 +47,9 @@ pub fn report<E: Output + Drop>(said: &str, errors: E) -> E
     sink.into_writer()
 }
 
-/// How the process ends: with the number of the status. Where the arguments are no command, the usage line is written
-/// to `errors`, and where the output failed the line `write fault`, as far as `errors` takes it. Nothing is where the
-/// output is `gone`: who closed the other end of its pipe wants no more. At every other status nothing is either.
+/// How the process ends: with the number of the status. To `errors` it writes the usage line at `Usage`, and `write
+/// fault` at `WriteFault` unless the output is `gone` (the reader of its pipe closed it), as far as `errors` takes them;
+/// at every other status nothing.
 pub fn finish<E: Output + Drop>(status: Status, gone: bool, errors: E) -> (ExitCode, E)
     ensures code { exit_status result.0 ≡ code status }
     ensures says { Reports E.writes E.flushes (said_at status gone) errors result.1 }

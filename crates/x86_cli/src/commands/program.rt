@@ -80,7 +80,7 @@ fn ending_of(status: Status, flushed: &Result<(), SinkFailed>) -> Status
 }
 
 /// Runs a program over a reader and a writer. What is written is gathered in a buffer of 64 KiB, and flushed before each
-/// read and at the end. It holds for every reader and writer, files and pipes too, and says each call that was made.
+/// read and at the end. The clause `performs` names each call, for every reader and writer, files and pipes too.
 pub fn over_streams<P: Program, R: Input + Drop, W: Output + Drop>(
     program: &P,
     reader: R,
@@ -104,8 +104,8 @@ pub fn over_streams<P: Program, R: Input + Drop, W: Output + Drop>(
     }
 }
 
-/// Does what the arguments say, over a reader and a writer. What is written is gathered in a buffer of 64 KiB, and
-/// flushed at the end. It holds for every reader and writer, files and pipes too, and says each call that was made:
+/// Does what the arguments request, over a reader and a writer, as `over_streams` does. The clause `lists` names each
+/// call, for every reader and writer, files and pipes too:
 ///
 /// - `Done`: the reads end with one that returned no byte, and the writer took the whole listing.
 /// - `Usage`: the arguments request nothing. Nothing was read or written.
@@ -115,9 +115,9 @@ pub fn over_streams<P: Program, R: Input + Drop, W: Output + Drop>(
 ///   that aren't empty. The writer took a prefix of the listing.
 ///
 /// At every status but `WriteFault` and `Usage` the writer's last call was a flush that succeeded. Only a call that a
-/// signal interrupted is made again. A read is made only where what was read decides no more, and all that it decides
-/// was written and flushed: none before a line that is decided, after a refusal, the end, an error or a failed write.
-/// That `Input` and `Output` pass each call on to std's is checked by inspection.
+/// signal interrupted is made again. Before each read, all lines that the bytes so far decide were written and flushed.
+/// After a refusal, the end, an error or a failed write nothing is read. That `Input` and `Output` pass each call on to
+/// std's is checked by inspection.
 pub fn listed<R: Input + Drop, W: Output + Drop>(
     arguments: &[String],
     reader: R,

@@ -81,11 +81,9 @@ impl Request {
 /// - `WriteFault`: the sink failed at the last put. What was written is a prefix of the listing.
 /// - `TooLarge`: the whole listing was put, of the bytes that may be read; its last line is `text too long`.
 ///
-/// `ran` holds for every source and sink. It names each call, and says when the source is called: never before a line
-/// that is decided. What follows from it is a law: `laws::headline` (of sources and sinks whose bytes are known, by its
-/// clause `runs`), `laws::reported` and `made` (what calls say of bytes and faults), `causes`, `read_faults` and
-/// `write_faults` (what a fault comes from), `exact` and `unrefused` (where a status comes), `complete` (where all is
-/// listed).
+/// `ran` names each call, for every source and sink: the source is called only once every line that is decided was put.
+/// The laws of this crate say what follows: `headline` where bytes are known, `made` of `make`, `causes`, `read_faults`
+/// and `write_faults` of faults, `exact`, `unrefused` and `complete` of statuses.
 pub fn run<S: Source, K: Sink>(words: &[String], source: &mut S, sink: &mut K) -> Status
     ensures ran { (request : Request) → Denotes (map string_bytes words.now) request
         → Runs S.gives S.ahead K.takes request result source.old source.new sink.old sink.new }

@@ -30,7 +30,7 @@ pub fn put_line<const N: usize, K: Sink>(sink: &mut K, text: &mut Room<N>) -> Re
     sink.put(text.as_slice())
 }
 
-/// Writes the last line of a listing that ends so. It returns how the run ends.
+/// Writes the last line of a listing. It returns `status`, or `WriteFault` where that failed.
 pub fn put_last<K: Sink>(sink: &mut K, text: &mut Line, status: Status) -> Status
     requires { array_vec_len text.old ≤ line_width }
     ensures { Wrote K.takes (record { lines = line text.old.items ∷ []; status = status })
@@ -89,7 +89,7 @@ pub enum Entry {
     Undecided,
 }
 
-/// How a listing goes through an image, with room for `N` bytes in a line.
+/// What comes next in a listing, place by place, with room for `N` bytes in a line.
 pub trait Course<const N: usize> {
     /// The listing of a text from a place on.
     ghost lists: { Self → Bool → ℕ → Text → Listing };
