@@ -35,9 +35,6 @@ module _ (bs vs : List ℕ) (b : Begins bs vs) where
     rest = λ p r xs s. grind (arith, append_assoc {A = ℕ}, length-append bs (x ∷ y ∷ []), b.rest p (suc (suc r)) (x ∷ y ∷ xs) s, text-pair (p + length bs) r x y v w xs s blank high low);
   }
 
-pub spells_none : (text : List ℕ) → Spells text 0 []
-spells_none text = record { inside = omega arith; pairs = omega arith; begins = begins_none }
-
 pub spells_blank : (text : List ℕ) (at : ℕ) (vs : List ℕ) → Spells text at vs → at < length text → is_blank (slice_index_or text at 0) ≡ true → Spells text (at + 1) vs
 spells_blank text at vs s inside blank = record {
   inside = omega (arith, inside);
