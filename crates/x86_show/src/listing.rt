@@ -12,6 +12,7 @@ use x86_cli::listings::listing::{Course, Entry, length_of, list};
 use x86_cli::listings::sweep::shown_at;
 use x86_cli::text::window::AtRefusal;
 use x86_cli::{Program, Status};
+use x86_decode::laws::lengths;
 use x86_decode::{DecodeError, InstDecoder, Instruction};
 use x86_lines::cells::{put_bytes, put_first};
 use x86_lines::hexadecimal::{put_hexadecimal, put_spaced_bytes};
@@ -80,6 +81,7 @@ impl Course<ROOM> for ShowAt {
         line: &mut Room<ROOM>,
     ) -> Entry {
         decoder_laws();
+        lengths();
         let bytes = window.bytes.as_slice();
         let address = self.base.wrapping_add(place.number());
         match decoder.decode_slice_into(inst, bytes) {

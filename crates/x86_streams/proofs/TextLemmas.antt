@@ -3,8 +3,6 @@ pub mod Text
 pub mod Kind
 pub mod Read
 pub mod Pair
-pub mod Begins
+pub mod Spells
 pub mod ImageBytes
-pub mod ImageAhead
 pub mod Fill
-pub mod Taken

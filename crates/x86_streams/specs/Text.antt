@@ -3,7 +3,7 @@ pub mod Kinds
 pub mod Reader
 pub mod Reading
 pub mod Pairs
-pub mod ImageAhead
+pub mod Spells
 pub mod Window
 use Rattle.std.specs.Prelude.{ℕ, ◌+◌, ◌-◌, ◌*◌, List, [], ◌∷◌, length, take, drop, Option, Some, None, ◌==◌, ◌||◌, ◌&&◌, nat_le, Bool, true, false, if◌then◌else◌, is_some}
 use Rattle.std.specs.Option.{option_map}

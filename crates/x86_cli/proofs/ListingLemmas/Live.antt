@@ -19,7 +19,8 @@ use Rattle.x86_cli.specs.Listings.Calls.{OutsideCall, Next, Take, Put, Settle, r
 use Rattle.x86_cli.specs.Listings.Entry.{IsLine}
 use Rattle.x86_cli.specs.Listings.Line.{line}
 use Rattle.x86_cli.specs.Listings.Listing.{Listing, with_lines, at_end}
-use Rattle.x86_cli.proofs.ListingLemmas.Progress.{with-with, with_bytes-with_bytes}
+use Rattle.x86_streams.proofs.TextLemmas.Fill.{with_bytes-with_bytes}
+use Rattle.x86_cli.proofs.ListingLemmas.Progress.{with-with}
 
 -- one more turn may come where the text has not ended
 abbrev pub turns : Option Ending → ℕ
@@ -227,8 +228,8 @@ module _ {S K : Type 0} (gives : S → Got → S → Type 0) (ahead : S → List
         record {
           calls = takens t.bytes s.calls;
           did = takens_calls t.bytes s.calls a u v k l s.did t.takes;
-          waits = takens_waits (knows 0) (text_of max) (NeedsMore t.most) (text_at p (length t.bytes + r')) t.bytes s.calls s.waits s.unfailed s.continues (t.begins.called p r')
-              (λ xs h. ap (λ t. t.ending) (s.beginning xs Failed (rw s.continues tt)) ∙ rw t.room_is (h.0));
+          waits = takens_waits (knows 0) (text_of max) IsOpenText (text_at p (length t.bytes + r')) t.bytes s.calls s.waits s.unfailed s.continues (t.begins.called p r')
+              (λ xs h. ap (λ t. t.ending) (s.beginning xs Failed (rw s.continues tt)) ∙ rw t.room_is h);
           unfailed = takens_unfailed t.bytes s.calls s.unfailed;
           continues = takens_stop t.bytes s.calls s.continues;
           walked = s.walked;
@@ -307,4 +308,4 @@ reads_less gives w p r (Some e) w' p' r' a b h = let l : length w' ≡ length w 
 
 -- so does taking what is ahead
 pub takes_less : {S : Type 0} (gives : S → Got → S → Type 0) (ahead : S → List ℕ) (w : List ℕ) (p r : ℕ) (w' : List ℕ) (p' r' : ℕ) (a b : S) → TakesBytes gives ahead w p r w' p' r' a b → length w' + r' ≤ length w + r
-takes_less gives ahead w p r w' p' r' a b t = let l : length w' ≡ length w + length t.values = rw t.items (length-append w t.values) in omega (arith, l, t.room_is, t.fewer)
+takes_less gives ahead w p r w' p' r' a b t = let l : length w' ≡ length w + length t.values = rw t.items (length-append w t.values) in omega (arith, l, t.room_is, t.pairs)

@@ -8,7 +8,7 @@ use Rattle.x86_streams.specs.Outside.Stop.{Stop}
 use Rattle.x86_cli.specs.declared.listings.status.Status.{Status}
 use Rattle.x86_cli.specs.declared.listings.status.Status.TheVariants as outcome
 use Rattle.x86_streams.specs.Text.{Text, text_of}
-use Rattle.x86_streams.specs.Text.Reading.{IsOpenText, CalledWhileOpen, SourceCalls, MayCome, with_bytes}
+use Rattle.x86_streams.specs.Text.Reading.{CalledWhileOpen, SourceCalls, MayCome}
 use Rattle.x86_cli.specs.Listings.Listing.{Listing, with_lines}
 use Rattle.x86_streams.specs.Text.Window.{Fills}
 use Rattle.x86_streams.specs.Outside.Sink.{SinkCalls}
@@ -16,9 +16,6 @@ use Rattle.x86_cli.specs.Commands.Run.{Wrote, Lists, Ran}
 
 pub with-with : (a b : List (List ℕ)) (l : Listing) → with_lines a (with_lines b l) ≡ with_lines (a ++ b) l
 with-with a b l = ap (λ ls. record { lines = ls; status = l.status }) (sym (append_assoc a b l.lines))
-
-pub with_bytes-with_bytes : (a b : List ℕ) (t : Text) → with_bytes a (with_bytes b t) ≡ with_bytes (a ++ b) t
-with_bytes-with_bytes a b t = ap (λ i. record { image = i; ending = t.ending }) (sym (append_assoc a b t.image))
 
 -- a listing after the lines before it
 pub lists_after : (before lines : List (List ℕ)) (failed : Option (List ℕ)) (status : Status) (l : Listing) → Lists status lines failed l → Lists status (before ++ lines) failed (with_lines before l)
@@ -44,7 +41,7 @@ module _ {S K : Type 0} (gives : S → Got → S → Type 0) (takes : K → List
     pub lists : (xs : List ℕ) (s : Stop) → MayCome stop xs s → at 0 (text_of max (bytes ++ xs) s) ≡ with_lines lines (at n text)
 
   -- the text was read to its end
-  pub progress_whole : (max : ℕ) (e : Ending) (image : List ℕ) (a b : S) (k : K) → Fills gives IsOpenText (text_of max) (Some e) image 0 0 a b → Progress max 0 (record { image = image; ending = e }) a b k k
+  pub progress_whole : (max : ℕ) (e : Ending) (image : List ℕ) (a b : S) (k : K) → Fills gives (text_of max) (Some e) image 0 0 a b → Progress max 0 (record { image = image; ending = e }) a b k k
   progress_whole max e image a b k fills =
       record { bytes = fills.bytes; stop = fills.stop; source_calls = fills.source_calls; called = fills.called; lines = []; sink_calls = refl; lists = λ xs s may. ap (at 0) (fills.rest xs s may) }
 

@@ -22,6 +22,7 @@ use x86_streams::{Ending, Settling, Sink, SinkFailed, Source, Window};
 use x86_text::{LINE_ROOM, Line, Place, Room, refusal_of};
 
 /// Writes a line with its end.
+#[inline(always)]
 pub fn put_line<const N: usize, K: Sink>(sink: &mut K, text: &mut Room<N>) -> Result<(), SinkFailed>
     requires { array_vec_len text.old < N }
     ensures { K.takes sink.old (line text.old.items) result sink.new }

@@ -8,7 +8,6 @@ ghost use Rattle.x86_layout.specs.Sweeps.Marks.{is_marked};
 ghost use Rattle.x86_streams.specs.Outside.Sink.{SinkCalls};
 ghost use Rattle.x86_cli.specs.Commands.Run.{Ran};
 ghost use Rattle.x86_cli.specs.Listings.Targets.{image_max, place_line, lines_if, targets_at};
-ghost use Rattle.x86_streams.specs.Text.Reading.{IsOpenText};
 ghost use Rattle.x86_streams.specs.Text.Window.{Fills};
 
 use crate::listings::listing::{end, put_line};
@@ -45,17 +44,18 @@ fn append(image: &mut ArrayVec<u8, IMAGE_MAX>, window: &Window) -> usize
 /// Reads a text to its end. Each byte of the image takes at least two bytes of text.
 fn read_whole<S: Source>(max: u64, source: &mut S) -> WholeText
     requires { max ≤ 2 * image_max }
-    ensures { Fills S.gives IsOpenText (text_of max)
+    ensures { Fills S.gives (text_of max)
         (Some result.ending) result.image.items 0 0 source.old source.new }
 {
     let mut image = ArrayVec::new();
     let mut window = Window::new(max);
     'windows: loop {
-        window.refill(source);
+        window.take_known(source);
         let count = append(&mut image, &window);
-        match window.ended {
-            Some(ending) => return WholeText { image, ending },
-            None => window.bytes.leave(count),
+        window.bytes.leave(count);
+        window.read_on(source);
+        if let Some(ending) = window.ended {
+            return WholeText { image, ending };
         }
     }
 }

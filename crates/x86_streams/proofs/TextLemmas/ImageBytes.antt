@@ -1,17 +1,17 @@
--- The cells of the bytes that are held.
-use Rattle.std.proofs.Common.{◌≡◌, ℕ, ◌-◌, ◌≤◌, List, ◌++◌, length, take, drop, slice_range, arith, length-take-le, length-drop}
+-- The cells of the bytes of an image.
+use Rattle.std.proofs.Common.{◌≡◌, ℕ, ◌+◌, ◌-◌, ◌≤◌, List, ◌++◌, length, take, drop, arith, ◌∙◌, length-take-le, length-drop}
 use Rattle.std.proofs.Math.Seq.{take-add, take-append-le}
-use Rattle.std.proofs.lemmas.List.{drop-append-le, drop-take, take-take}
+use Rattle.std.proofs.lemmas.List.{drop-take, take-take, take_at, drop_at}
 use Rattle.std.specs.List.{copy_within}
 
--- those from an index up to another are held too
-pub more_held : (cells : List ℕ) (start held to : ℕ) → start ≤ held → held ≤ to → to ≤ length cells →
-    drop start (take to cells) ≡ drop start (take held cells) ++ slice_range cells held to
-more_held cells start held to ordered more inside =
-    grind (arith, length-take-le held cells, take-add held (to - held) cells, drop-append-le start (take held cells) (slice_range cells held to))
+-- the bytes are at the beginning after they were moved there
+pub moved : (cells : List ℕ) (start end : ℕ) → start ≤ end → end ≤ length cells →
+    take (end - start) (copy_within cells start end 0) ≡ drop start (take end cells)
+moved cells start end ordered inside =
+    grind (arith, drop-take start (end - start) cells, length-drop start cells, length-take-le (end - start) (drop start cells), take-append-le (end - start) (take (end - start) (drop start cells)), take-take (end - start) (end - start) (drop start cells))
 
--- they are at the beginning after they were moved there
-pub moved : (cells : List ℕ) (start held : ℕ) → start ≤ held → held ≤ length cells →
-    take (held - start) (copy_within cells start held 0) ≡ drop start (take held cells)
-moved cells start held ordered inside =
-    grind (arith, drop-take start (held - start) cells, length-drop start cells, length-take-le (held - start) (drop start cells), take-append-le (held - start) (take (held - start) (drop start cells)), take-take (held - start) (held - start) (drop start cells))
+-- the first of some values, put after others
+pub put_after : (before values after items : List ℕ) (count n : ℕ) → length before ≡ count → before ≡ items → n ≤ length values →
+    take (count + n) (before ++ (values ++ after)) ≡ items ++ take n values
+put_after before values after items count n is same inside =
+    take-add count n (before ++ (values ++ after)) ∙ grind (arith, take_at before (values ++ after) count, drop_at before (values ++ after) count, take-append-le n values after)

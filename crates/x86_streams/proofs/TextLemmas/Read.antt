@@ -37,10 +37,6 @@ more_new p r = rw (text-failed p r) (refl, omega arith)
 pub more_half : (p r x v : ℕ) → is_blank x ≡ false → value_of x ≡ Some v → NeedsMore 1 (text_at p (suc r) (x ∷ []) Failed)
 more_half p r x v blank digit = rw (text-half_failed p r x v blank digit) (refl, omega arith)
 
--- a text that begins with fewer than k bytes needs more of these
-pub more_after : (k n : ℕ) (w : List ℕ) (t : Text) → length w + n ≤ k → NeedsMore n t → NeedsMore k (with_bytes w t)
-more_after k n w t fits needs = (needs.0, simp length-append (omega (arith, needs.1)))
-
 module _ {S : Type 0} (gives : S → Got → S → Type 0) where
   -- calls, one after the other
   pub source_calls-source_calls : (u t : List ℕ) (stop : Option Stop) (a b d : S) → SourceCalls gives u None a b → SourceCalls gives t stop b d → SourceCalls gives (u ++ t) stop a d

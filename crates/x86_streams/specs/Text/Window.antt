@@ -1,12 +1,16 @@
 -- What a window has taken of a text.
-use Rattle.std.specs.Prelude.{◌≡◌, ℕ, ◌+◌, ◌≤◌, List, [], ◌∷◌, ◌++◌, length, Option, Some, None, ⊤}
+use Rattle.std.specs.Prelude.{◌≡◌, ℕ, ◌+◌, ◌*◌, ◌≤◌, List, [], ◌∷◌, ◌++◌, length, Option, Some, None, ⊤}
 use Rattle.x86_streams.specs.declared.outside.source.Got.{Got}
 use Rattle.x86_streams.specs.declared.text.reader.Ending.{Ending}
 use Rattle.x86_streams.specs.Outside.Stop.{Stop}
 use Rattle.x86_streams.specs.Text.{Text, text_at}
 use Rattle.x86_streams.specs.declared.text.reader.Piece.TheVariants.{Byte, Stopped}
-use Rattle.x86_streams.specs.Text.ImageAhead.{Begins}
-use Rattle.x86_streams.specs.Text.Reading.{SourceCalls, TakesAhead, Reads, CalledWhere, MayCome, with_bytes}
+use Rattle.x86_streams.specs.Text.Spells.{Begins}
+use Rattle.x86_streams.specs.Text.Reading.{SourceCalls, TakesAhead, Reads, CalledWhileOpen, MayCome, with_bytes}
+
+-- the bytes that a window holds
+pub record WindowBytes : Type 0 where
+  pub items : List ℕ
 
 -- The text that is left, where these bytes come and then stop: the window's, and what the reader makes of them.
 abbrev pub rest_of : Option Ending → List ℕ → ℕ → ℕ → List ℕ → Stop → Text
@@ -23,11 +27,9 @@ pub record TakesBytes {S : Type 0} (gives : S → Got → S → Type 0) (ahead :
     (window' : List ℕ) (position' room' : ℕ) (before after : S) : Type 0 where
   pub bytes : List ℕ
   pub takes : TakesAhead gives ahead bytes before after
-  pub most : ℕ
   pub values : List ℕ
-  pub begins : Begins most bytes values
-  pub few : length values ≤ most
-  pub fewer : length values ≤ length bytes
+  pub begins : Begins bytes values
+  pub pairs : 2 * length values ≤ length bytes
   pub items : window' ≡ window ++ values
   pub position_is : position' ≡ position + length bytes
   pub room_is : room ≡ length bytes + room'
@@ -40,13 +42,13 @@ ReadsOn gives window position room None window' position' room' before after =
 ReadsOn gives window position room (Some e) window' position' room' before after =
     (window' ≡ window) × (room' ≤ room) × Reads gives (Stopped e) position room position' room' before after
 
--- What taking bytes into the window keeps: the text that is left, for all that may come. Each call was made where this
--- holds of the text so far, after the window's bytes.
-pub record Fills {S : Type 0} (gives : S → Got → S → Type 0) (Holds : Text → Type 0) (old : List ℕ → Stop → Text)
+-- What reading into a window keeps: the text that is left, for all that may come. Each call was made while the text was
+-- open.
+pub record Fills {S : Type 0} (gives : S → Got → S → Type 0) (old : List ℕ → Stop → Text)
     (ended : Option Ending) (window : List ℕ) (position room : ℕ) (before after : S) : Type 0 where
   pub bytes : List ℕ
   pub stop : Option Stop
   pub source_calls : SourceCalls gives bytes stop before after
-  pub called : CalledWhere Holds old bytes stop
+  pub called : CalledWhileOpen old bytes stop
   pub continues : Open ended stop
   pub rest : (xs : List ℕ) (s : Stop) → MayCome stop xs s → old (bytes ++ xs) s ≡ rest_of ended window position room xs s

@@ -1,9 +1,10 @@
 //! Bytes that are sent to a writer whole, and its flush.
 
-ghost use Rattle.std.specs.Prelude.{◌≡◌, ◌<◌, ◌≤◌, length, take, OnOk, IfOk};
+ghost use Rattle.std.specs.Prelude.{◌≡◌, ◌<◌, ◌≤◌, length, take, OnOk, IfOk, Ok, ⊤};
 ghost use Rattle.std.specs.Io.{WritesAtMost};
 ghost use Rattle.std.specs.Io.KnownBytes.{Appends, Keeps, WriteAppends};
 ghost use Rattle.x86_streams.specs.Outside.Writes.{Caused, Flushes, taken_by};
+ghost use Rattle.x86_streams.specs.declared.outside.sink.SinkFailed.{SinkFailed};
 
 use crate::outside::interruptions::{TRIES, is_interrupted};
 use crate::outside::output::Output;
@@ -33,7 +34,38 @@ fn write_some<W: Output>(writer: &mut W, bytes: &[u8]) -> Result<usize, SinkFail
     Err(SinkFailed)
 }
 
-/// Writes the bytes until all are written or a write fails, and returns how many were written.
+/// Writes the bytes that follow the first, until all are written or a write fails, and returns how many were written
+/// with the first.
+#[cold]
+#[inline(never)]
+fn send_rest<W: Output>(
+    writer: &mut W,
+    bytes: &[u8],
+    first: usize,
+) -> (usize, Result<(), SinkFailed>)
+    requires { first ≤ length bytes.now }
+    ensures bound { result.0 ≤ length bytes.now }
+    ensures all { OnOk result.1 (result.0 ≡ length bytes.now) }
+    ensures bytes { (w : W) →
+        Appends (W.written w) (W.written writer.old) (take first bytes.now) →
+        Appends (W.written w) (W.written writer.new) (take result.0 bytes.now) }
+    ensures caused { (w : W) →
+        Caused W.writes W.flushes {A = ⊤} {E = SinkFailed} (Ok tt)
+        (take first bytes.now) w writer.old →
+        Caused W.writes W.flushes result.1 (take result.0 bytes.now) w writer.new }
+{
+    let mut sent = first;
+    while sent < bytes.len() {
+        match write_some(writer, &bytes[sent..]) {
+            Ok(count) => sent += count,
+            Err(failed) => return (sent, Err(failed)),
+        }
+    }
+    (sent, Ok(()))
+}
+
+/// Writes the bytes until all are written or a write fails, and returns how many were written. Mostly one write takes
+/// all.
 #[inline(always)]
 pub fn send_out<W: Output>(writer: &mut W, bytes: &[u8]) -> (usize, Result<(), SinkFailed>)
     ensures bound { result.0 ≤ length bytes.now }
@@ -43,14 +75,14 @@ pub fn send_out<W: Output>(writer: &mut W, bytes: &[u8]) -> (usize, Result<(), S
     ensures caused { Caused W.writes W.flushes result.1
         (take result.0 bytes.now) writer.old writer.new }
 {
-    let mut sent = 0;
-    while sent < bytes.len() {
-        match write_some(writer, &bytes[sent..]) {
-            Ok(count) => sent += count,
-            Err(failed) => return (sent, Err(failed)),
-        }
+    if bytes.is_empty() {
+        return (0, Ok(()));
     }
-    (sent, Ok(()))
+    match write_some(writer, bytes) {
+        Ok(count) if count == bytes.len() => (count, Ok(())),
+        Ok(count) => send_rest(writer, bytes, count),
+        Err(failed) => (0, Err(failed)),
+    }
 }
 
 /// One flush, which is made again where a signal interrupts it.

@@ -1,8 +1,8 @@
 //! Pairs of digits, read many at once.
 
-ghost use Rattle.std.specs.Prelude.{◌≡◌, ℕ, ◌+◌, ◌*◌, ◌%◌, ◌^◌, ◌<◌, ◌≤◌, length, slice_index_or, Some, true};
+ghost use Rattle.std.specs.Prelude.{◌≡◌, ℕ, ◌+◌, ◌*◌, ◌%◌, ◌^◌, ◌<◌, ◌≤◌, length, slice_index_or, take, List, Some, true};
 ghost use Rattle.x86_streams.specs.Text.{value_of};
-ghost use Rattle.x86_streams.specs.Text.ImageAhead.{AreBlanks, AreBytes};
+ghost use Rattle.x86_streams.specs.Text.Spells.{Spells};
 
 use crate::text::kinds::{Kind, kind_of};
 
@@ -33,7 +33,7 @@ fn digit_of(byte: u8) -> u8
 
 /// The values of the digits from a place on.
 #[inline(always)]
-#[tactic(auto, using(crate::proofs::TextLemmas::ImageAhead::more_set))]
+#[tactic(auto, using(crate::proofs::TextLemmas::Spells::more_set))]
 fn digits_at(text: &[u8], at: usize) -> [u8; DIGITS]
     requires { at + 32 ≤ length text.now }
     ensures { (k : ℕ) → k < 32 → slice_index_or result k 0 < 16 →
@@ -78,67 +78,46 @@ fn run_of(digits: &[u8; DIGITS]) -> usize
 
 /// Writes the values of pairs.
 #[inline(always)]
-fn put_values(digits: &[u8; DIGITS], end: usize, values: &mut [u8])
-    requires { end + 16 ≤ length values.old }
-    ensures before { (k : ℕ) → k < end →
-        slice_index_or values.new k 0 ≡ slice_index_or values.old k 0 }
-    ensures values { (k : ℕ) → k < 16 → slice_index_or values.new (end + k) 0
+fn put_values(digits: &[u8; DIGITS], values: &mut [u8], count: usize)
+    requires { count + 16 ≤ length values.old }
+    ensures before { take count values.new ≡ take count values.old }
+    ensures values { (k : ℕ) → k < 16 → slice_index_or values.new (count + k) 0
         ≡ 16 * (slice_index_or digits.now (2 * k) 0 % 16)
         + slice_index_or digits.now (2 * k + 1) 0 % 16 }
 {
     for i in 0..BLOCK {
-        values[end + i] = 16 * (digits[2 * i] % 16) + digits[2 * i + 1] % 16;
+        values[count + i] = 16 * (digits[2 * i] % 16) + digits[2 * i + 1] % 16;
     }
 }
 
-/// Writes the places at which pairs end, of which the first begins at one.
+/// Reads the pairs at a position as one block, where enough of them are whole. It returns how many.
 #[inline(always)]
-fn put_places(at: usize, end: usize, places: &mut [usize])
-    requires fits { at + 32 < 2 ^ 64 }
-    requires room { end + 16 < length places.old }
-    ensures before { (k : ℕ) → k ≤ end →
-        slice_index_or places.new k 0 ≡ slice_index_or places.old k 0 }
-    ensures places { (k : ℕ) → k < 16 →
-        slice_index_or places.new (end + k + 1) 0 ≡ at + 2 * k + 2 }
-{
-    for i in 0..BLOCK {
-        places[end + i + 1] = at + 2 * i + 2;
-    }
-}
-
-/// Reads the pairs at a place as one block, where enough of them are whole. It returns how many bytes there are then.
-#[inline(always)]
-fn read_run(text: &[u8], at: usize, end: usize, values: &mut [u8], places: &mut [usize]) -> usize
-    requires values { end + 16 ≤ length values.old }
-    requires places { end + 16 < length places.old }
-    requires bytes { AreBytes text.now end values.old places.old }
-    requires blanks { AreBlanks text.now (slice_index_or places.old end 0) at }
-    ensures more { end ≤ result }
-    ensures fits { result ≤ end + 16 }
-    ensures before { (k : ℕ) → k ≤ end →
-        slice_index_or places.new k 0 ≡ slice_index_or places.old k 0 }
-    ensures bytes { AreBytes text.now result values.new places.new }
-    ensures inside { slice_index_or places.new result 0 ≤ length text.now }
+fn read_run(text: &[u8], at: usize, values: &mut [u8], count: usize) -> usize
+    requires room { count + 16 ≤ length values.old }
+    requires spells { Spells text.now at (take count values.old) }
+    ensures few { result ≤ 16 }
+    ensures spells { Spells text.now (at + 2 * result) (take (count + result) values.new) }
 {
     if text.len() - at < DIGITS {
-        return end;
+        return 0;
     }
     let digits = digits_at(text, at);
     let run = run_of(&digits);
     if run < RUN_MIN {
-        return end;
+        return 0;
     }
-    put_values(&digits, end, values);
-    put_places(at, end, places);
-    end + run
+    put_values(&digits, values, count);
+    run
 }
 
-/// The place after the blanks at a place.
+/// The position after the blanks at a position.
 #[inline(always)]
-#[tactic(auto, using(crate::proofs::TextLemmas::ImageAhead::blanks_none, crate::proofs::TextLemmas::ImageAhead::blanks_more))]
+#[tactic(auto, using(crate::proofs::TextLemmas::Spells::spells_blank))]
 fn after_blanks(text: &[u8], from: usize) -> usize
     requires { from ≤ length text.now }
-    ensures { AreBlanks text.now from result }
+    ensures inside { result ≤ length text.now }
+    ensures spells { (values : List ℕ) → Spells text.now from values →
+        Spells text.now result values }
 {
     let mut at = from;
     'blanks: while at < text.len() {
@@ -150,14 +129,15 @@ fn after_blanks(text: &[u8], from: usize) -> usize
     at
 }
 
-/// The place after the one blank at a place, or that place.
+/// The position after the one blank at a position, or that position.
 #[inline(always)]
-#[tactic(auto, using(crate::proofs::TextLemmas::ImageAhead::blanks_more))]
+#[tactic(auto, using(crate::proofs::TextLemmas::Spells::spells_blank))]
 fn after_blank(text: &[u8], at: usize) -> usize
     requires { at < length text.now }
     ensures ordered { at ≤ result }
     ensures near { result ≤ at + 1 }
-    ensures blanks { (start : ℕ) → AreBlanks text.now start at → AreBlanks text.now start result }
+    ensures spells { (values : List ℕ) → Spells text.now at values →
+        Spells text.now result values }
 {
     match kind_of(text[at]) {
         Kind::Blank => at + 1,
@@ -165,68 +145,57 @@ fn after_blank(text: &[u8], at: usize) -> usize
     }
 }
 
-/// Reads pairs from a place on, and the blanks between them, up to the end of the line. It returns how many bytes there
-/// are then, at most so many.
+/// Reads pairs from a position on, and the blanks between them, up to the end of the line. It returns how many bytes
+/// there are then, at most so many, and the position.
 #[inline(always)]
 fn read_line(
     text: &[u8],
-    at: usize,
-    end: usize,
-    most: usize,
+    from: usize,
     values: &mut [u8],
-    places: &mut [usize],
-) -> usize
-    requires most { end ≤ most }
-    requires values { most ≤ length values.old }
-    requires places { most < length places.old }
-    requires bytes { AreBytes text.now end values.old places.old }
-    requires blanks { AreBlanks text.now (slice_index_or places.old end 0) at }
-    ensures more { end ≤ result }
-    ensures fits { result ≤ most }
-    ensures before { (k : ℕ) → k ≤ end →
-        slice_index_or places.new k 0 ≡ slice_index_or places.old k 0 }
-    ensures bytes { AreBytes text.now result values.new places.new }
-    ensures inside { slice_index_or places.new result 0 ≤ length text.now }
+    before: usize,
+    most: usize,
+) -> (usize, usize)
+    requires most { before ≤ most }
+    requires room { most ≤ length values.old }
+    requires spells { Spells text.now from (take before values.old) }
+    ensures more { before ≤ result.0 }
+    ensures fits { result.0 ≤ most }
+    ensures spells { Spells text.now result.1 (take result.0 values.new) }
 {
-    let mut read = at;
-    let mut count = end;
-    'pairs: while count < most && read + 2 < text.len() && text[read] != b'\n' {
-        let first = after_blank(text, read);
+    let mut at = from;
+    let mut count = before;
+    'pairs: while count < most && at + 2 < text.len() && text[at] != b'\n' {
+        let first = after_blank(text, at);
         match kind_of(text[first]) {
-            Kind::Blank => read = first + 1,
+            Kind::Blank => at = first + 1,
             Kind::Other => break 'pairs,
             Kind::Digit(high) => match kind_of(text[first + 1]) {
                 Kind::Blank | Kind::Other => break 'pairs,
                 Kind::Digit(low) => {
                     values[count] = 16 * high + low;
-                    read = first + 2;
+                    at = first + 2;
                     count += 1;
-                    places[count] = read;
                 }
             },
         }
     }
-    count
+    (count, at)
 }
 
-/// Reads more bytes of a text, after those that there are. It returns how many there are then.
+/// Reads more pairs from a position on, after the bytes that there are. It returns how many bytes there are then, and
+/// the position.
 #[inline(always)]
-pub fn read_more(text: &[u8], end: usize, values: &mut [u8], places: &mut [usize]) -> usize
-    requires values { end + 48 ≤ length values.old }
-    requires places { end + 48 < length places.old }
-    requires bytes { AreBytes text.now end values.old places.old }
-    requires inside { slice_index_or places.old end 0 ≤ length text.now }
-    ensures more { end ≤ result }
-    ensures fits { result ≤ end + 48 }
-    ensures before { (k : ℕ) → k ≤ end →
-        slice_index_or places.new k 0 ≡ slice_index_or places.old k 0 }
-    ensures bytes { AreBytes text.now result values.new places.new }
-    ensures inside { slice_index_or places.new result 0 ≤ length text.now }
+pub fn read_more(text: &[u8], from: usize, values: &mut [u8], count: usize) -> (usize, usize)
+    requires room { count + 48 ≤ length values.old }
+    requires spells { Spells text.now from (take count values.old) }
+    ensures more { count ≤ result.0 }
+    ensures fits { result.0 ≤ count + 48 }
+    ensures spells { Spells text.now result.1 (take result.0 values.new) }
 {
-    let at = after_blanks(text, places[end]);
-    let run = read_run(text, at, end, values, places);
-    if run == end {
-        return read_line(text, at, end, end + LINE, values, places);
+    let at = after_blanks(text, from);
+    let run = read_run(text, at, values, count);
+    if run == 0 {
+        return read_line(text, at, values, count, count + LINE);
     }
-    run
+    (count + run, at + 2 * run)
 }

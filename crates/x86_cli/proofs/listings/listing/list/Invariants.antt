@@ -1,5 +1,4 @@
-use Rattle.std.proofs.Common.{◌≤◌, ◌+◌, length, take}
-use Rattle.x86_streams.specs.Text.ImageAhead.{IsAheadIn}
+use Rattle.std.proofs.Common.{◌≤◌, ◌+◌, length}
 use Rattle.x86_cli.proofs.ListingLemmas.Live.{Live, turns}
 use Rattle.x86_cli.proofs.listings.listing.list.Given as goal
 
@@ -7,8 +6,6 @@ abbrev pub invariant-lines : goal.invariant-lines
 invariant-lines g l = record {
   live : Live g.S.Source.gives g.S.Source.ahead g.K.Sink.takes g.T.Settling.settles (g.W.Course.lists l.course l.decoder.strict) (g.W.Course.knows l.course l.decoder.strict) l.fn.max l.place
       l.window.ended l.window.bytes.items l.window.reader.position l.window.reader.room l.fn.source l.source l.fn.sink l.sink;
-  ahead : IsAheadIn (take l.window.reader.room (g.S.Source.ahead l.source)) l.window.bytes.ahead;
-  few : length l.window.bytes.items ≤ 15;
   fits : l.place + length l.window.bytes.items + l.window.reader.room ≤ l.fn.max;
 }
 

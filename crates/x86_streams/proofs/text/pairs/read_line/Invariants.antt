@@ -1,16 +1,9 @@
-use Rattle.std.proofs.Common.{◌≡◌, ℕ, ◌-◌, ◌≤◌, length, slice_index_or}
-use Rattle.x86_streams.specs.Text.ImageAhead.{AreBlanks, AreBytes}
+use Rattle.std.proofs.Common.{◌-◌, ◌≤◌, length, take}
+use Rattle.x86_streams.specs.Text.Spells.{Spells}
 use Rattle.x86_streams.proofs.text.pairs.read_line.Given as goal
 
 abbrev pub invariant-pairs : goal.invariant-pairs
-invariant-pairs l = record {
-  more : l.end ≤ l.count;
-  fits : l.count ≤ l.most;
-  inside : l.read ≤ length l.text;
-  before : (k : ℕ) → k ≤ l.end → slice_index_or l.places k 0 ≡ slice_index_or l.fn.places k 0;
-  bytes : AreBytes l.text l.count l.values l.places;
-  blanks : AreBlanks l.text (slice_index_or l.places l.count 0) l.read;
-}
+invariant-pairs l = record { more : l.before ≤ l.count; fits : l.count ≤ l.most; spells : Spells l.text l.at (take l.count l.values) }
 
 abbrev pub decreases-pairs : goal.decreases-pairs
-decreases-pairs l = length l.text - l.read
+decreases-pairs l = length l.text - l.at

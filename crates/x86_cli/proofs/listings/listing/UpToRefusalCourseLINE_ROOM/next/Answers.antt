@@ -12,7 +12,7 @@ returns-in-Some-Whole-clause-next g c =
     let shows = rw c.in-Some-Whole.field-0-is at c.in-Some-Whole.ensures.shows in
     let long = c.length_of-length.ensures in
     let text = g.L.Lines.text c.args.self.now.lines c.args.decoder.now.strict in
-    let is = rw (long, c.as_slice-bytes.ensures.value) at c.write.ensures.text in
+    let is = rw (long, c.as_slice-bytes.ensures) at c.write.ensures.text in
     entry_line c.args.decoder.now.strict text _ _ _ _ _ c.decode_next.new.inst (rw c.in-Some-Whole.field-0-is at c.in-Some-Whole.ensures.rest) shows.0 shows.1 _ _ long is
 
 pub returns-in-Some-Refused-clause-next : goal.returns-in-Some-Refused-clause-next
@@ -23,5 +23,5 @@ returns-in-Some-Ended-clause-next g c = entry_ended c.args.decoder.now.strict (g
 
 pub write-requires : goal.write-requires
 write-requires g c =
-    rw (c.length_of-length.ensures, c.as_slice-bytes.ensures.value)
+    rw (c.length_of-length.ensures, c.as_slice-bytes.ensures)
     (shown_answer c.args.decoder.now.strict (c.decoder_laws.ensures _) None c.args.window.now.bytes.items c.decode_next.new.inst (rw c.in-Some-Whole.field-0-is at c.in-Some-Whole.ensures.shows))

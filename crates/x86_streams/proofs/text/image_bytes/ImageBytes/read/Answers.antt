@@ -1,10 +1,16 @@
-use Rattle.std.proofs.Common.{arith, ap, length-take-le}
-use Rattle.x86_streams.proofs.TextLemmas.ImageAhead.{read_ahead}
+use Rattle.std.proofs.Common.{◌≡◌, ◌<◌, take, length, arith, ap, ◌∙◌, length-take-le}
+use Rattle.x86_streams.proofs.TextLemmas.ImageBytes.{put_after}
 use Rattle.x86_streams.proofs.text.image_bytes.ImageBytes.read.Goals as goal
 
-pub returns-clause-ahead : goal.returns-clause-ahead
-returns-clause-ahead c =
-    let e = c.read_bytes-count.ensures in
-    let there = ap (λ b. b.ahead.start) c.self.view_is in
-    read_ahead c.args.text.now _ c.read_bytes-count.new.values _ _ c.read_bytes-count.new.places _ c.self.inside.held c.read_bytes-count.result e.bytes e.first
-    (omega (arith, e.fits, there, c.move_to_beginning.ensures.few)) (omega (arith, e.fits, there, c.move_to_beginning.ensures.few)) (length-take-le _ _ (omega arith)) (length-take-le _ _ (omega arith))
+pub returns : goal.returns
+returns c =
+    let before = c.move_to_beginning-before in
+    let pairs = c.read_pairs-count in
+    let moved : take before.result before.new.values ≡ c.args.self.now.items = before.ensures.bytes ∙ ap (λ b. b.items) c.self.view_is in
+    let count : length (take before.result before.new.values) ≡ before.result = length-take-le _ _ (omega arith) in
+    let few : before.result < 15 = omega (arith, c.requires, ap length moved, count) in
+    record {
+      values = take pairs.result.0 pairs.new.values;
+      spells = pairs.ensures.spells;
+      items = put_after (take before.result before.new.values) pairs.new.values _ _ before.result pairs.result.0 count moved (omega (arith, few));
+    }

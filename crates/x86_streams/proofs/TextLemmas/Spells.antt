@@ -1,0 +1,76 @@
+-- What blanks and pairs at the beginning of a text say of it.
+use Rattle.std.proofs.Common.{zero-add, add-zero, ◌≡◌, ℕ, zero, suc, ◌+◌, ◌*◌, ◌%◌, ◌<◌, ◌≤◌, List, [], ◌∷◌, ◌++◌, length, take, set, slice_index_or, arith, Some, None, true, false, append_assoc, length-append, length-take-le}
+use Rattle.std.proofs.lemmas.List.{take_more, take_more_set, get_or-set_same, get_or-set_other}
+use Rattle.x86_streams.specs.Outside.Stop.{Failed}
+use Rattle.x86_streams.specs.Text.{is_blank, value_of, text_at}
+use Rattle.x86_streams.specs.Text.Reading.{IsOpenText}
+use Rattle.x86_streams.specs.Text.Spells.{Begins, Spells}
+use Rattle.x86_streams.proofs.TextLemmas.Text.{text-blank, text-pair, value-blank}
+use Rattle.x86_streams.proofs.TextLemmas.Read.{more_new, more_half, called-called}
+
+pub begins_none : Begins [] []
+begins_none = record { called = λ p r. tt; rest = λ p r xs s. simp (zero-add, add-zero) }
+
+module _ (bs vs : List ℕ) (b : Begins bs vs) where
+  -- a text so begun is open where that of the bytes after it is
+  opens : (p r : ℕ) (ys : List ℕ) → IsOpenText (text_at (p + length bs) r ys Failed) → IsOpenText (text_at p (length bs + r) (bs ++ ys) Failed)
+  opens p r ys h = rw (b.rest p r ys Failed) h
+
+  begins_blank : (x : ℕ) → is_blank x ≡ true → Begins (bs ++ x ∷ []) vs
+  begins_blank x blank = record {
+    called = λ p r.
+        let room : length (bs ++ x ∷ []) + r ≡ length bs + suc r = simp length-append (omega arith) in
+        rw room (called-called IsOpenText (text_at p (length bs + suc r)) bs (x ∷ []) None (b.called p (suc r)) (opens p (suc r) [] (more_new (p + length bs) (suc r)).0, tt));
+    rest = λ p r xs s. grind (arith, append_assoc {A = ℕ}, length-append bs (x ∷ []), b.rest p (suc r) (x ∷ xs) s, text-blank (p + length bs) r x xs s blank);
+  }
+
+  begins_pair : (x y v w : ℕ) → is_blank x ≡ false → value_of x ≡ Some v → value_of y ≡ Some w → Begins (bs ++ x ∷ y ∷ []) (vs ++ (16 * v + w) ∷ [])
+  begins_pair x y v w blank high low = record {
+    called = λ p r.
+        let room : length (bs ++ x ∷ y ∷ []) + r ≡ length bs + suc (suc r) = simp length-append (omega arith) in
+        rw room (called-called IsOpenText (text_at p (length bs + suc (suc r))) bs (x ∷ y ∷ []) None (b.called p (suc (suc r))) (
+          opens p (suc (suc r)) [] (more_new (p + length bs) (suc (suc r))).0,
+          (opens p (suc (suc r)) (x ∷ []) (more_half (p + length bs) (suc r) x v blank high).0, tt),
+        ));
+    rest = λ p r xs s. grind (arith, append_assoc {A = ℕ}, length-append bs (x ∷ y ∷ []), b.rest p (suc (suc r)) (x ∷ y ∷ xs) s, text-pair (p + length bs) r x y v w xs s blank high low);
+  }
+
+pub spells_blank : (text : List ℕ) (at : ℕ) (vs : List ℕ) → Spells text at vs → at < length text → is_blank (slice_index_or text at 0) ≡ true → Spells text (at + 1) vs
+spells_blank text at vs s inside blank = record {
+  inside = omega (arith, inside);
+  pairs = omega (arith, s.pairs);
+  begins = rw (take_more text at 0 inside) (begins_blank (take at text) vs s.begins (slice_index_or text at 0) blank);
+}
+
+pub spells_pair : (text : List ℕ) (at v w : ℕ) (vs : List ℕ) → Spells text at vs → at + 1 < length text → is_blank (slice_index_or text at 0) ≡ false →
+    value_of (slice_index_or text at 0) ≡ Some v → value_of (slice_index_or text (at + 1) 0) ≡ Some w → Spells text (at + 2) (vs ++ (16 * v + w) ∷ [])
+spells_pair text at v w vs s inside blank high low =
+    let begins = begins_pair (take at text) vs s.begins (slice_index_or text at 0) (slice_index_or text (at + 1) 0) v w blank high low in
+    record {
+      inside = omega (arith, inside);
+      pairs = simp length-append (omega (arith, s.pairs));
+      begins = grind (arith, begins, take_more text at 0, take_more text (at + 1) 0, append_assoc {A = ℕ});
+    }
+
+-- one more cell, of which something holds
+pub more_set : (P : ℕ → ℕ → Type 0) (xs : List ℕ) (i v : ℕ) → ((k : ℕ) → k < i → P k (slice_index_or xs k 0)) → i < length xs → P i v →
+    (k : ℕ) → k < i + 1 → P k (slice_index_or (set xs i v) k 0)
+more_set P xs i v before inside one k lt = grind (arith, get_or-set_other xs i k v 0, get_or-set_same xs i v 0, before k)
+
+-- a block of pairs after bytes
+module _ (text values values' digits : List ℕ) (at count run : ℕ) (s : Spells text at (take count values))
+    (inside : at + 32 ≤ length text) (room : count + 16 ≤ length values') (few : run ≤ 16)
+    (shown : (k : ℕ) → k < 32 → slice_index_or digits k 0 < 16 → value_of (slice_index_or text (at + k) 0) ≡ Some (slice_index_or digits k 0))
+    (small : (k : ℕ) → k < 2 * run → slice_index_or digits k 0 < 16)
+    (before : take count values' ≡ take count values)
+    (put : (k : ℕ) → k < 16 → slice_index_or values' (count + k) 0 ≡ 16 * (slice_index_or digits (2 * k) 0 % 16) + slice_index_or digits (2 * k + 1) 0 % 16) where
+  pub spells_run : (j : ℕ) → j ≤ run → Spells text (at + 2 * j) (take (count + j) values')
+  spells_run zero le = rw (add-zero, add-zero, before) s
+  spells_run (suc j) le =
+      let v = slice_index_or digits (2 * j) 0 in
+      let w = slice_index_or digits (2 * j + 1) 0 in
+      let so_far = spells_run j (omega (arith, le)) in
+      let high = shown (2 * j) (omega (arith, le, few)) (small (2 * j) (omega (arith, le))) in
+      let low = shown (2 * j + 1) (omega (arith, le, few)) (small (2 * j + 1) (omega (arith, le))) in
+      let pair = spells_pair text (at + 2 * j) v w (take (count + j) values') so_far (omega (arith, le, few, inside)) in
+      grind (arith, pair, high, low, value-blank (slice_index_or text (at + 2 * j) 0), small (2 * j), small (2 * j + 1), put j, take_more values' (count + j) 0)
