@@ -25,7 +25,7 @@ use Rattle.x86_groups.specs.Groups.{group_plan, group_record}
 use Rattle.x86_groups.proofs.RegLemmas.{reg_record, reg_chosen, reg_group}
 use Rattle.x86_operands.proofs.OrderLemmas.{allowed_is_described}
 use Rattle.x86_forms.specs.declared.words.WordRow.{WordRow}
-use Rattle.x86_decode.specs.Walk.{IsLineOf, row_step, plan_at}
+use Rattle.x86_decode.specs.Walk.{IsLineAt, IsLineOf, row_step, plan_at}
 
 -- what follows a ModRM byte that was read
 abbrev after_modrm : Bool → TableRow → Prefixes → Result ℕ DecodeError → State ℕ → Outcome Reading
@@ -92,6 +92,10 @@ pub form_described : (strict : Bool) (row : TableRow) (p : Prefixes) (m : ℕ) (
 form_described strict row p m e belongs d is =
     d is row.opcode m p
     ∙ ap (λ t. if t then group_plan row p m strict else form_plan row.form row.opcode p m) (sym (described_plain e.after_opcode row.form is belongs))
+
+-- what a line reads of a row after its ModRM byte
+pub line_with_modrm : {t : State ℕ} (s : State ℕ) (strict : Bool) (found : WordRow) (p : Prefixes) (byte m o : ℕ) (b : AfterOpcode) (e : FormEncoding) → Belongs b found.row.form → modrm_use found.row.form ≡ use_of b → has_fields b ≡ true → m ≡ byte → outcome (Ok byte) t ≡ next_byte s → IsLineAt found m o e → allows e.after_opcode o m ≡ true → read_plan (plan_of e found.number o p m) p m t ≡ row_step strict found.row p s
+line_with_modrm {t} s strict found p byte m o b e belongs usage h same took line accepts = ap (λ plan. read_plan plan p m t) (line.describes accepts strict p) ∙ row_with_modrm s strict found.row p b belongs usage h (ap (λ m. outcome (Ok m) t) same ∙ took)
 
 -- what a line reads of a row without ModRM
 pub line_without_modrm : (s : State ℕ) (strict : Bool) (found : WordRow) (p : Prefixes) (m : ℕ) (e : FormEncoding) → IsLineOf e found → has_fields e.after_opcode ≡ false → allows e.after_opcode found.row.opcode m ≡ true → m ≡ absent_modrm → read_plan (plan_of e found.number found.row.opcode p m) p m s ≡ row_step strict found.row p s

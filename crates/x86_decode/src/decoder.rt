@@ -28,7 +28,7 @@ pub struct InstDecoder {
     strict: bool,
 }
 
-/// Makes an instruction blank after a refusal. It is a call, so the path without a refusal has nothing of it.
+/// Makes an instruction blank again. It is a call, so the common path has nothing of it.
 #[inline(never)]
 fn make_invalid(inst: &mut Instruction)
     ensures { inst.new ≡ invalid_instruction }
@@ -81,6 +81,7 @@ fn walk_slice(strict: bool, bytes: &[u8], inst: &mut Instruction) -> Result<(), 
         inst.length = reader.offset();
         return Ok(());
     }
+    make_invalid(inst);
     walk_rarely(strict, within, inst)
 }
 

@@ -163,13 +163,13 @@ fn error_at_limit(error: DecodeError, full: bool) -> DecodeError
     }
 }
 
-/// The walk within fifteen bytes or fewer, whatever the instruction held before. They are the first of any bytes.
+/// The walk within fifteen bytes or fewer, into a blank instruction. They are the first of any bytes.
 #[inline(never)]
 pub fn walk_rarely(strict: bool, within: &[u8], inst: &mut Instruction) -> Result<(), DecodeError>
+    requires { inst.old ≡ invalid_instruction }
     ensures { (bytes : List ℕ) → within.now ≡ take 15 bytes →
         holding inst.new result ≡ answer_of strict bytes }
 {
-    *inst = Instruction::INVALID;
     let (result, mut back) = walk_within(strict, &Packed, U8Reader::new(within), inst);
     inst.length = back.offset();
     match result {

@@ -1,18 +1,18 @@
-use Rattle.std.proofs.Common.{◌≡◌, ◌==◌, ℕ, Bool, true, false, Result, Ok, Err, Some, IfOk, refl, sym, ap, ◌∙◌}
-use Rattle.std.proofs.lemmas.Bool.{eq-eqb, ne_eqb}
+use Rattle.std.proofs.Common.{◌≡◌, ℕ, Bool, [], Result, Ok, Err, Some, IfOk, sym, ap, ◌∙◌}
+use Rattle.std.proofs.lemmas.Bool.{eq-eqb}
 use Rattle.x86_arch.specs.Reader.{State}
 use Rattle.x86_fields.specs.declared.errors.DecodeError.{DecodeError}
 use Rattle.x86_fields.specs.Prefixes.{with_rex}
-use Rattle.x86_fields.specs.Rex.{rex_named}
-use Rattle.x86_fields.specs.Steps.{Outcome, outcome, then_from}
+use Rattle.x86_fields.specs.Run.{reading_of, rex_named}
+use Rattle.x86_fields.specs.Steps.{Outcome, then_from}
 use Rattle.x86_forms.specs.declared.Column.TheVariants.{Plain}
 use Rattle.x86_forms.specs.Words.{packed, rows_of, unpack}
 use Rattle.x86_operands.specs.declared.reader.Reading.{Reading}
 use Rattle.x86_decode.specs.declared.instructions.Instruction.{Instruction}
 use Rattle.x86_decode.specs.declared.rows.Rest.{Rest}
 use Rattle.x86_decode.specs.Head.{column_of}
-use Rattle.x86_decode.specs.Walk.{Headed, head_step, next_byte_if, rest_step, row_step, walk_within}
-use Rattle.x86_decode.proofs.HeadWalk.{byte_is, headed_first, if_wanted}
+use Rattle.x86_decode.specs.Walk.{head_step, rest_step, row_step, walk_within}
+use Rattle.x86_decode.proofs.HeadWalk.{Headed, byte_is, headed_first}
 use Rattle.x86_decode.proofs.WordWalk.{after_escape, without_escape}
 use Rattle.x86_decode.proofs.decoder.read_plain.Goals.{then-escaped+in_ok-next, else-escaped}
 use Rattle.x86_decode.proofs.decoder.read_plain.Goals as goal
@@ -28,16 +28,14 @@ returns-in-Some-clause-read g c =
     let now = g.T.Reader.state c.next_if.new.self in
     let first = c.in_ok-first.first in
     let b = c.in_ok-byte.byte in
-    let wanted = c.set_rex-is_rex.result in
     let p = c.set_rex-is_rex.new.self in
     let row = c.in-Some.found.row in
-    let set : p ≡ with_rex c.args.inst.now.prefixes (rex_named (Some first)) = c.set_rex-is_rex.ensures.live in
-    let took : outcome (Ok b) now ≡ next_byte_if wanted first second =
-    if_wanted wanted first second now (Ok b)
+    let set : p ≡ with_rex (reading_of []) (rex_named (Some first)) = c.set_rex-is_rex.ensures.live ∙ ap (λ i. with_rex i.prefixes (rex_named (Some first))) c.requires in
+    let head : Headed b p now (head_step start) =
+    headed_first start second now first b c.set_rex-is_rex.result p (sym c.set_rex-is_rex.ensures.is_rex) set (byte_is start second first c.in_ok-first.ensures.taken c.in_ok-first.ensures.moved)
     (λ w. byte_is second now b (c.in_ok-byte.ensures.taken w) (c.in_ok-byte.ensures.moved w))
-    (λ w. let same : b ≡ first = cc (c.in_ok-byte.ensures.other w) in rw (same, c.in_ok-byte.ensures.unmoved w) refl) in
-    let head : Headed (Ok b) p now (head_step start) = headed_first start second now first b wanted p (sym c.set_rex-is_rex.ensures.is_rex) (set ∙ ap (λ i. with_rex i.prefixes (rex_named (Some first))) c.requires) (byte_is start second first c.in_ok-first.ensures.taken c.in_ok-first.ensures.moved) took in
-    let plain : column_of p ≡ Plain = ap column_of set ∙ ap (λ i. column_of (with_rex i.prefixes (rex_named (Some first)))) c.requires in
+    (λ w. let same : b ≡ first = cc (c.in_ok-byte.ensures.other w) in (same, c.in_ok-byte.ensures.unmoved w)) in
+    let plain : column_of p ≡ Plain = ap column_of set in
     let of_word = ap unpack (sym c.in-Some.ensures) ∙ c.in-Some.found.of_word in
     let after = g.T.Reader.state c.if-escaped.reader in
     let walked : (strict : Bool) → row_step strict row p after ≡ walk_within (rows_of packed) strict start = λ strict. elim c.if-escaped.branch [
