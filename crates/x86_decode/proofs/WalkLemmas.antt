@@ -16,6 +16,7 @@ use Rattle.x86_operands.specs.declared.operands.Slot.{Slot}
 use Rattle.x86_operands.specs.declared.operands.Slot.TheVariants.{Nothing}
 use Rattle.x86_decode.specs.Grammar.{allows_lock, first_slot}
 use Rattle.x86_decode.specs.Walk.{walk_within, bounded_outcome, judgement, limit_step, takes_lock, walk_bounded}
+use Rattle.x86_fields.specs.Prefixes.{lock}
 use Rattle.x86_decode.proofs.BoundLemmas.{same_state}
 use Rattle.x86_decode.proofs.BodyLemmas.{body_moves, Moves}
 
@@ -55,6 +56,10 @@ is_judged false = refl
 
 pub judged_first : (i : Instruction) (j : Result (Unit {0}) DecodeError) → j ≡ judgement (takes_lock i.prefixes i.opcode (get_or i.operand_list.slots 0 Nothing)) → j ≡ judgement (allows_lock (reading_in i))
 judged_first i j e = e ∙ ap (λ slot. judgement (takes_lock i.prefixes i.opcode slot)) (first_is i.operand_list.slots)
+
+-- no judgement where F0 is absent
+pub unlocked : (i : Instruction) → lock i.prefixes ≡ false → ◌≡◌ {A = Result (Unit {0}) DecodeError} (Ok tt) (judgement (allows_lock (reading_in i)))
+unlocked i absent = rw absent refl
 
 pub ends_judged : (rows : Rows) (strict : Bool) (m t : State ℕ) (a n : ℕ) (i : Instruction) (j : Result (Unit {0}) DecodeError) → Walked rows strict m t a (Ok (reading_in i)) → n ≡ t.since_mark → j ≡ judgement (allows_lock (reading_in i)) → outcome (holding (record i { length = n }) j) t ≡ walk_bounded rows strict m
 ends_judged rows strict m t a n i j w e h = ap (λ k. outcome (holding (record i { length = n }) k) t) h ∙ same ∙ ap (λ k. bounded_outcome (Ok (reading_in i)) k m) e ∙ sym w.is

@@ -20,8 +20,8 @@ use Rattle.x86_operands.specs.declared.reader.Reading.{Reading}
 use Rattle.x86_decode.specs.declared.head.Lead.TheVariants.{Vex, Escape}
 use Rattle.x86_decode.specs.Head.{Rows, column_of, is_opcode, vex_refusal, seen_by}
 use Rattle.x86_decode.specs.Lead.{lead_of}
-use Rattle.x86_decode.specs.Walk.{Headed, body_step, escape_step, found_word, head_step, opcode_step, read_escaped, read_word, row_step, some_row, walk_within}
-use Rattle.x86_decode.proofs.HeadWalk.{at_other}
+use Rattle.x86_decode.specs.Walk.{body_step, escape_step, found_word, head_step, opcode_step, read_escaped, read_word, row_step, some_row, walk_within}
+use Rattle.x86_decode.proofs.HeadWalk.{Headed, at_other}
 use Rattle.x86_decode.proofs.LeadLemmas.{vex_lead, escape_lead, plain_lead, is_plain}
 
 pub found_vex : (rows : Rows) (p : Prefixes) (b : ℕ) (s : State ℕ) → lead_of b ≡ Vex → outcome (Err (vex_refusal p)) s ≡ read_word rows p b s
@@ -70,7 +70,7 @@ module _ (rows : Rows) (strict : Bool) (b : ℕ) (p : Prefixes) (s : State ℕ) 
   unfolding after_row
   row_after q word o t h is = ap (λ o. (some_row o >>= λ row. row_step strict row q) t) (sym is) ∙ ap (after_row strict) h ∙ body
 
-  module _ (start : State ℕ) (head : Headed (Ok b) p s (head_step start)) (plain : is_prefix b ≡ false) where
+  module _ (start : State ℕ) (head : Headed b p s (head_step start)) (plain : is_prefix b ≡ false) where
     -- what follows the run is the walk after its head
     pub within : body_step rows strict p b s ≡ walk_within rows strict start
     unfolding walk_within
@@ -113,7 +113,7 @@ of_is_escaped o s h = grind (arith, nat_tests)
 
 -- ---- no legacy prefix, and an opcode byte that follows nothing or 0F
 
-module _ (strict : Bool) (start now : State ℕ) (b : ℕ) (p : Prefixes) (head : Headed (Ok b) p now (head_step start)) (plain : column_of p ≡ Plain) (row : TableRow) where
+module _ (strict : Bool) (start now : State ℕ) (b : ℕ) (p : Prefixes) (head : Headed b p now (head_step start)) (plain : column_of p ≡ Plain) (row : TableRow) where
   pub without_escape : unpack (packed One Plain b) ≡ Some row → row_step strict row p now ≡ walk_within (rows_of packed) strict start
   without_escape is =
       let opcode = opcode_at One b row is in

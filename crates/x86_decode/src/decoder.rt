@@ -1,22 +1,25 @@
 //! The five calls that decode.
 
-ghost use Rattle.std.specs.Prelude.{◌≡◌, true, false, OnErr};
+ghost use Rattle.std.specs.Prelude.{◌≡◌, Bool, true, false, IfOk, OnErr};
 ghost use Rattle.std.proofs.Common.{rules};
 ghost use Rattle.std.specs.Cmp.{partial_order_from_own_ties};
 ghost use Rattle.std.specs.Cmp.Rules.{comparing};
 ghost use Rattle.std.specs.Ordering.{on, bool_cmp, flip_args, as_partial_cmp};
+ghost use Rattle.x86_fields.specs.Prefixes.{lock};
 ghost use Rattle.x86_forms.specs.Words.{rows_of, packed};
 ghost use Rattle.x86_decode.specs.Decoder.{is_strict};
 ghost use Rattle.x86_decode.specs.Answer.{answer_of, count_of};
 ghost use Rattle.x86_decode.specs.Answers.{Answers, HasMoved};
 ghost use Rattle.x86_decode.specs.Instruction.{holding, invalid_instruction};
+ghost use Rattle.x86_decode.specs.Walk.{rest_step, walk_within};
 
 use crate::instructions::Instruction;
-use crate::walk::{walk, walk_into, walk_slice};
+use crate::rows::{Rest, read_by_line};
+use crate::walk::{walk, walk_into, walk_rarely};
 use std::cmp::Ordering;
-use x86_arch::Reader;
+use x86_arch::{ReadIf, Reader, U8Reader};
 use x86_fields::DecodeError;
-use x86_forms::{Packed, Words};
+use x86_forms::{Column, Map, Packed, Words, word_row};
 
 /// How instructions are read. By default the fences LFENCE, MFENCE and SFENCE are read whatever rm is; a strict
 /// decoder refuses them where rm isn't 0.
@@ -25,12 +28,61 @@ pub struct InstDecoder {
     strict: bool,
 }
 
-/// Makes an instruction blank after a refusal. It is a call, so the path without a refusal has nothing of it.
+/// Makes an instruction blank again. It is a call, so the common path has nothing of it.
 #[inline(never)]
 fn make_invalid(inst: &mut Instruction)
     ensures { inst.new ≡ invalid_instruction }
 {
     *inst = Instruction::INVALID;
+}
+
+/// The encoding by the line of its row, where it has no legacy prefix and its opcode byte follows nothing or 0F; else
+/// what is left of the row, or an error. A legacy prefix and the beginning of a longer escape have no row.
+#[inline(always)]
+fn read_plain<T: ReadIf>(reader: &mut T, inst: &mut Instruction) -> Result<Rest, DecodeError>
+    requires { inst.old ≡ invalid_instruction }
+    ensures read { IfOk result (λ rest. (strict : Bool) →
+        rest_step strict inst.new rest (T.state reader.new)
+        ≡ walk_within (rows_of packed) strict (T.state reader.old)) }
+    ensures no_lock { lock inst.new.prefixes ≡ false }
+{
+    let first = reader.next()?;
+    // Most encodings have a REX, and many have none: so no branch depends on it.
+    let is_rex = inst.prefixes.set_rex(first);
+    let byte = reader.next_if(is_rex, first)?;
+    let escaped = byte == 0x0f;
+    let word = if escaped {
+        Packed.word(Map::Of, Column::Plain, reader.next()?)
+    } else {
+        Packed.word(Map::One, Column::Plain, byte)
+    };
+    match word_row(word) {
+        None => Err(DecodeError::InvalidOpcode),
+        Some(found) => read_by_line(&found, reader, inst),
+    }
+}
+
+/// The walk within the first fifteen bytes of a slice, into a blank instruction.
+///
+/// Most encodings have no legacy prefix, and their opcode byte follows nothing or 0F. Where fifteen bytes are there, these
+/// are read first: their number is a constant, and no such encoding has more, so no read tests for an end. What that
+/// leaves is walked from the beginning.
+#[inline(always)]
+fn walk_slice(strict: bool, bytes: &[u8], inst: &mut Instruction) -> Result<(), DecodeError>
+    requires { inst.old ≡ invalid_instruction }
+    ensures { holding inst.new result ≡ answer_of strict bytes.now }
+{
+    if bytes.len() < 15 {
+        return walk_rarely(strict, bytes, inst);
+    }
+    let within = &bytes[..15];
+    let mut reader = U8Reader::new(within);
+    if let Ok(Rest::Nothing) = read_plain(&mut reader, inst) {
+        inst.length = reader.offset();
+        return Ok(());
+    }
+    make_invalid(inst);
+    walk_rarely(strict, within, inst)
 }
 
 impl InstDecoder {

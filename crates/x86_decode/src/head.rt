@@ -1,18 +1,16 @@
 //! The head of an encoding: the run of prefixes, the escape and the opcode byte.
 
-ghost use Rattle.std.specs.Prelude.{◌≡◌, ℕ, Bool, IfOk, List, [], None, Some};
+ghost use Rattle.std.specs.Prelude.{◌≡◌, ℕ, List};
 ghost use Rattle.x86_fields.specs.Steps.{outcome, pure, then_from};
-ghost use Rattle.x86_fields.specs.Prefixes.{rex};
 ghost use Rattle.x86_fields.specs.Run.{is_prefix, reading_of};
-ghost use Rattle.x86_forms.specs.declared.TableRow.{TableRow};
-ghost use Rattle.x86_forms.specs.Words.{packed, rows_of, unpack};
+ghost use Rattle.x86_forms.specs.Words.{rows_of};
 ghost use Rattle.x86_decode.specs.Head.{column_of, is_vex, vex_refusal, seen_by};
 ghost use Rattle.x86_decode.specs.Lead.{lead_of};
-ghost use Rattle.x86_decode.specs.Walk.{Headed, head_from, head_at, escape_step, found_word, read_word, row_step, walk_within};
+ghost use Rattle.x86_decode.specs.Walk.{head_from, escape_step, found_word, read_word};
 
-use x86_arch::{ReadIf, Reader};
+use x86_arch::Reader;
 use x86_fields::{DecodeError, Mandatory, Prefixes};
-use x86_forms::{Column, Map, Packed, Words};
+use x86_forms::{Column, Map, Words};
 
 /// What a byte is at the beginning of an encoding.
 #[derive(Clone, Copy, Drop)]
@@ -91,39 +89,6 @@ pub fn read_on<T: Reader<u64, u8>>(
         }
         *prefixes = prefixes.after(byte);
     }
-}
-
-/// The byte after a run so far, or after that and a REX. Most encodings have a REX, and many have none: so no branch
-/// depends on it.
-#[inline(always)]
-fn read_rex<T: ReadIf>(reader: &mut T, prefixes: &mut Prefixes, byte: u8) -> Result<u8, DecodeError>
-    requires { rex prefixes.old ≡ None }
-    ensures column { column_of prefixes.new ≡ column_of prefixes.old }
-    ensures headed { (beginning : List ℕ) → prefixes.old ≡ reading_of beginning →
-        Headed result prefixes.new (T.state reader.new) (head_at beginning byte (T.state reader.old)) }
-{
-    let is_rex = prefixes.set_rex(byte);
-    Ok(reader.next_if(is_rex, byte)?)
-}
-
-/// The word at an opcode byte of the map of one byte, or of that of 0F, after a REX or none. So an encoding with a
-/// legacy prefix, or with a longer escape, has the word 0: of no row.
-#[inline(always)]
-pub fn read_plain_word<T: ReadIf>(
-    reader: &mut T,
-    prefixes: &mut Prefixes,
-) -> Result<u64, DecodeError>
-    requires { prefixes.old ≡ reading_of [] }
-    ensures { IfOk result (λ word. (strict : Bool) (row : TableRow) → unpack word ≡ Some row →
-        row_step strict row prefixes.new (T.state reader.new)
-        ≡ walk_within (rows_of packed) strict (T.state reader.old)) }
-{
-    let first = reader.next()?;
-    let byte = read_rex(reader, prefixes, first)?;
-    let escaped = byte == 0x0f;
-    let opcode = reader.next_if(escaped, byte)?;
-    let map = if escaped { Map::Of } else { Map::One };
-    Ok(Packed.word(map, Column::Plain, opcode))
 }
 
 /// Whether the byte is C4, C5 or 62.

@@ -2,7 +2,7 @@
 ghost use Rattle.std.specs.Prelude.{◌≡◌, ◌≤◌, ℕ, Bool, List, IfOk, Err, false, take};
 ghost use Rattle.x86_arch.specs.Reader.{marked};
 ghost use Rattle.x86_fields.specs.Steps.{outcome, then_from};
-ghost use Rattle.x86_forms.specs.Words.{packed, rows_of};
+ghost use Rattle.x86_forms.specs.Words.{rows_of};
 ghost use Rattle.x86_operands.specs.OperandList.{value_if_ok, no_operands};
 ghost use Rattle.x86_decode.specs.Answer.{answer_of};
 ghost use Rattle.x86_decode.specs.Grammar.{allows_lock};
@@ -10,11 +10,11 @@ ghost use Rattle.x86_decode.specs.Instruction.{holding, invalid_instruction, rea
 ghost use Rattle.x86_decode.specs.Walk.{body_step, is_nothing, limit_step, rest_step, walk_bounded, walk_within, decode_step, takes_lock, judgement, error_at_limit};
 
 use crate::bounded::{Bounded, Start, takes_rest};
-use crate::head::{read_on, read_plain_word, read_word};
+use crate::head::{read_on, read_word};
 use crate::instructions::Instruction;
 use crate::rows::{Rest, read_by_line, read_rest};
 use std::marker::{Brand, PhantomData};
-use x86_arch::{ReadIf, Reader, U8Reader};
+use x86_arch::{Reader, U8Reader};
 use x86_fields::{DecodeError, Prefixes};
 use x86_forms::{Packed, Words, word_row};
 use x86_opcodes::Opcode;
@@ -77,21 +77,6 @@ fn read_encoding<W: Words, T: Reader<u64, u8>>(
 {
     let byte = read_on(reader, &mut inst.prefixes)?;
     read_body(rows, reader, inst, byte)
-}
-
-/// The same where the encoding has no legacy prefix, and its opcode byte follows nothing or 0F; else an error.
-#[inline(always)]
-fn read_plain<T: ReadIf>(reader: &mut T, inst: &mut Instruction) -> Result<Rest, DecodeError>
-    requires { inst.old ≡ invalid_instruction }
-    ensures { IfOk result (λ rest. (strict : Bool) →
-        rest_step strict inst.new rest (T.state reader.new)
-        ≡ walk_within (rows_of packed) strict (T.state reader.old)) }
-{
-    let word = read_plain_word(reader, &mut inst.prefixes)?;
-    match word_row(word) {
-        None => Err(DecodeError::InvalidOpcode),
-        Some(found) => read_by_line(&found, reader, inst),
-    }
 }
 
 /// The encoding up to its last byte, into a blank instruction. The reader comes back: so it stays in registers where a
@@ -178,41 +163,19 @@ fn error_at_limit(error: DecodeError, full: bool) -> DecodeError
     }
 }
 
-/// The walk within fifteen bytes or fewer, whatever the instruction held before. They are the first of any bytes.
+/// The walk within fifteen bytes or fewer, into a blank instruction. They are the first of any bytes.
 #[inline(never)]
-fn walk_rarely(strict: bool, within: &[u8], inst: &mut Instruction) -> Result<(), DecodeError>
+pub fn walk_rarely(strict: bool, within: &[u8], inst: &mut Instruction) -> Result<(), DecodeError>
+    requires { inst.old ≡ invalid_instruction }
     ensures { (bytes : List ℕ) → within.now ≡ take 15 bytes →
         holding inst.new result ≡ answer_of strict bytes }
 {
-    *inst = Instruction::INVALID;
     let (result, mut back) = walk_within(strict, &Packed, U8Reader::new(within), inst);
     inst.length = back.offset();
     match result {
         Ok(()) => judgement(&inst.prefixes, inst.opcode, inst.operand_list.slots[0]),
         Err(error) => Err(error_at_limit(error, within.len() == 15)),
     }
-}
-
-/// The walk within the first fifteen bytes of a slice, into a blank instruction.
-///
-/// Most encodings have no legacy prefix, and their opcode byte follows nothing or 0F. Where fifteen bytes are there, these
-/// are read first: their number is a constant, and no such encoding has more, so no read tests for an end. What that
-/// leaves is walked from the beginning.
-#[inline(always)]
-pub fn walk_slice(strict: bool, bytes: &[u8], inst: &mut Instruction) -> Result<(), DecodeError>
-    requires { inst.old ≡ invalid_instruction }
-    ensures { holding inst.new result ≡ answer_of strict bytes.now }
-{
-    if bytes.len() < 15 {
-        return walk_rarely(strict, bytes, inst);
-    }
-    let within = &bytes[..15];
-    let mut reader = U8Reader::new(within);
-    if let Ok(Rest::Nothing) = read_plain(&mut reader, inst) {
-        inst.length = reader.offset();
-        return judgement(&inst.prefixes, inst.opcode, inst.operand_list.slots[0]);
-    }
-    walk_rarely(strict, within, inst)
 }
 
 /// The instruction at the beginning of what the reader has left, into a blank one. The reader is marked, and then
