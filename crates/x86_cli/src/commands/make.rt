@@ -54,8 +54,11 @@ pub fn generate(i: u32) -> ArrayVec<u8, 15>
     if let Some(sib) = sib {
         push(&mut encoding, &[sib]);
     }
-    let width = displacement_width(modrm, sib);
-    push(&mut encoding, &i.to_le_bytes()[..usize::from(width)]);
+    match displacement_width(modrm, sib) {
+        1 => push(&mut encoding, &[(i % 256) as u8]),
+        4 => push(&mut encoding, &i.to_le_bytes()),
+        _ => {}
+    }
     encoding
 }
 
