@@ -23,9 +23,7 @@ use Rattle.x86_operands.specs.PlanSteps.{read_modrm, read_plan, record_step}
 use Rattle.x86_groups.specs.ByReg.{Chooses, reg_plan}
 use Rattle.x86_groups.specs.Groups.{group_plan, group_record}
 use Rattle.x86_groups.proofs.RegLemmas.{reg_record, reg_chosen, reg_group}
-use Rattle.x86_operands.proofs.OrderLemmas.{allowed_is_described}
-use Rattle.x86_forms.specs.declared.words.WordRow.{WordRow}
-use Rattle.x86_decode.specs.Walk.{IsLineAt, IsLineOf, row_step, plan_at}
+use Rattle.x86_decode.specs.Walk.{row_step, plan_at}
 
 -- what follows a ModRM byte that was read
 abbrev after_modrm : Bool → TableRow → Prefixes → Result ℕ DecodeError → State ℕ → Outcome Reading
@@ -73,7 +71,7 @@ pub row_with_modrm : {r : Result ℕ DecodeError} {t : State ℕ} (s : State ℕ
 row_with_modrm s strict row p b belongs usage h e = with_modrm s strict row p b belongs usage h (e ∙ sym (read_either s))
 
 -- no ModRM byte, where a line describes the form
-row_without_modrm : (s : State ℕ) (strict : Bool) (row : TableRow) (p : Prefixes) (m : ℕ) (b : AfterOpcode) → Belongs b row.form → modrm_use row.form ≡ use_of b → has_fields b ≡ false → allows b row.opcode m ≡ true → m ≡ absent_modrm → read_plan (plan_at strict row p m) p m s ≡ row_step strict row p s
+pub row_without_modrm : (s : State ℕ) (strict : Bool) (row : TableRow) (p : Prefixes) (m : ℕ) (b : AfterOpcode) → Belongs b row.form → modrm_use row.form ≡ use_of b → has_fields b ≡ false → allows b row.opcode m ≡ true → m ≡ absent_modrm → read_plan (plan_at strict row p m) p m s ≡ row_step strict row p s
 row_without_modrm s strict row p m after_opcode.Nothing plain usage h may e = form_row {r = Ok m} {t = s} s strict row p Absent usage plain (ap (λ x. outcome (Ok x) s) e)
 row_without_modrm s strict row p m after_opcode.Opcode plain usage h may e = form_row {r = Ok m} {t = s} s strict row p Absent usage plain (ap (λ x. outcome (Ok x) s) e)
 row_without_modrm s strict row p m after_opcode.Accumulator plain usage h may e = form_row {r = Ok m} {t = s} s strict row p Absent usage plain (ap (λ x. outcome (Ok x) s) e)
@@ -92,13 +90,3 @@ pub form_described : (strict : Bool) (row : TableRow) (p : Prefixes) (m : ℕ) (
 form_described strict row p m e belongs d is =
     d is row.opcode m p
     ∙ ap (λ t. if t then group_plan row p m strict else form_plan row.form row.opcode p m) (sym (described_plain e.after_opcode row.form is belongs))
-
--- what a line reads of a row after its ModRM byte
-pub line_with_modrm : {t : State ℕ} (s : State ℕ) (strict : Bool) (found : WordRow) (p : Prefixes) (byte m o : ℕ) (b : AfterOpcode) (e : FormEncoding) → Belongs b found.row.form → modrm_use found.row.form ≡ use_of b → has_fields b ≡ true → m ≡ byte → outcome (Ok byte) t ≡ next_byte s → IsLineAt found m o e → allows e.after_opcode o m ≡ true → read_plan (plan_of e found.number o p m) p m t ≡ row_step strict found.row p s
-line_with_modrm {t} s strict found p byte m o b e belongs usage h same took line accepts = ap (λ plan. read_plan plan p m t) (line.describes accepts strict p) ∙ row_with_modrm s strict found.row p b belongs usage h (ap (λ m. outcome (Ok m) t) same ∙ took)
-
--- what a line reads of a row without ModRM
-pub line_without_modrm : (s : State ℕ) (strict : Bool) (found : WordRow) (p : Prefixes) (m : ℕ) (e : FormEncoding) → IsLineOf e found → has_fields e.after_opcode ≡ false → allows e.after_opcode found.row.opcode m ≡ true → m ≡ absent_modrm → read_plan (plan_of e found.number found.row.opcode p m) p m s ≡ row_step strict found.row p s
-line_without_modrm s strict found p m e line none accepts absent =
-    ap (λ plan. read_plan plan p m s) (line.numbered found.row.opcode m p ∙ form_described strict found.row p m e line.group line.describes (allowed_is_described e.after_opcode found.row.opcode m accepts))
-    ∙ row_without_modrm s strict found.row p m e.after_opcode line.group line.usage none accepts absent

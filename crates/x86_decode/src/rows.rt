@@ -1,14 +1,16 @@
 //! What a row has after its opcode byte, written where it stays.
-ghost use Rattle.std.specs.Prelude.{◌≡◌, Bool, IfOk, false};
+ghost use Rattle.std.specs.Prelude.{◌≡◌, ℕ, Bool, IfOk, true, false};
+ghost use Rattle.x86_arch.specs.Reader.{State};
 ghost use Rattle.x86_fields.specs.Steps.{outcome, then_from};
 ghost use Rattle.x86_forms.specs.Words.{IsForm};
 ghost use Rattle.x86_operands.specs.Encodings.{has_fields};
 ghost use Rattle.x86_operands.specs.OperandList.{value_if_ok, no_operands};
-ghost use Rattle.x86_operands.specs.PlanSteps.{record_step};
+ghost use Rattle.x86_operands.specs.PlanSteps.{read_plan, record_step};
 ghost use Rattle.x86_decode.specs.declared.rows.Rest.TheVariants as Rest;
+ghost use Rattle.x86_decode.specs.declared.instructions.Instruction.{Instruction};
 ghost use Rattle.x86_decode.specs.Grammar.{record_of};
 ghost use Rattle.x86_decode.specs.Instruction.{reading_in};
-ghost use Rattle.x86_decode.specs.Walk.{IsLineAt, IsLineOf, plan_at, rest_step, row_step, is_nothing};
+ghost use Rattle.x86_decode.specs.Walk.{IsFound, IsLineOf, found_row_step, plan_at, rest_step, row_step, is_nothing};
 
 use crate::instructions::Instruction;
 use x86_arch::Reader;
@@ -32,6 +34,21 @@ pub enum Rest {
     AfterModRM(u64, ModRM),
 }
 
+/// The line of the operand encodings for a row, with the operation, and the ModRM byte; one that isn't there is C0.
+#[derive(Clone, Copy, Drop)]
+struct RowLine<'a> {
+    opcode: Opcode,
+    encoding: &'a FormEncoding,
+    modrm: ModRM,
+}
+
+/// The line of a row after its ModRM byte, if it has one; else what is left of the row.
+#[derive(Clone, Copy, Drop)]
+enum Found<'a> {
+    Line(RowLine<'a>),
+    Rest(Rest),
+}
+
 /// What a row has after its opcode byte.
 pub fn read_row<T: Reader<u64, u8>>(
     strict: bool,
@@ -50,59 +67,72 @@ pub fn read_row<T: Reader<u64, u8>>(
     }
 }
 
-/// The operation of a row and the line that describes it, at this ModRM byte.
+/// The line of a row without ModRM; else all of the row.
 #[inline(always)]
-fn line_at<'a>(
-    found: &WordRow,
-    encoding: &'a FormEncoding,
-    modrm: ModRM,
-) -> (Opcode, &'a FormEncoding)
-    requires { IsLineOf encoding.now found.now }
-    ensures { IsLineAt found.now modrm result.0 result.1.now }
-{
-    match encoding.after_opcode {
-        AfterOpcode::ByReg(group) => chosen(group, modrm),
-        _ => (found.row.opcode, encoding),
-    }
-}
-
-/// What a row without ModRM has, by the line that describes it; else all of the row is left.
-#[inline(always)]
-fn read_without_modrm<T: Reader<u64, u8>>(
-    found: &WordRow,
-    encoding: &FormEncoding,
-    reader: &mut T,
-    inst: &mut Instruction,
-) -> Result<Rest, DecodeError>
+fn line_without_modrm<'a>(found: &WordRow, encoding: &'a FormEncoding) -> Found<'a>
     requires line { IsLineOf encoding.now found.now }
     requires no_modrm { has_fields encoding.now.after_opcode ≡ false }
-    requires blank { inst.old.operand_list ≡ no_operands }
-    ensures read { (strict : Bool) →
-        then_from result (T.state reader.new) (rest_step strict inst.new)
-        ≡ row_step strict found.now.row inst.old.prefixes (T.state reader.old) }
-    ensures blank { IfOk result (λ rest. is_nothing rest ≡ false
-        → inst.new.operand_list ≡ no_operands) }
-    ensures same_prefixes { inst.new.prefixes ≡ inst.old.prefixes }
+    ensures found { IsFound found.now result }
+    ensures read { (strict : Bool) (i : Instruction) (s : State ℕ) →
+        found_row_step strict found.now.row i result s
+        ≡ row_step strict found.now.row i.prefixes s }
 {
-    let opcode = found.row.opcode;
     let modrm = ModRM::absent();
-    if !encoding.after_opcode.allows(opcode, modrm) {
-        return Ok(Rest::Row(found.word));
+    if encoding.after_opcode.allows(found.row.opcode, modrm) {
+        Found::Line(RowLine {
+            encoding,
+            opcode: found.row.opcode,
+            modrm,
+        })
+    } else {
+        Found::Rest(Rest::Row(found.word))
     }
-    inst.opcode = opcode;
-    inst.operand_list.read(
-        reader,
-        encoding,
-        opcode,
-        found.number,
-        &inst.prefixes,
-        modrm,
-    )?;
-    Ok(Rest::Nothing)
 }
 
-/// What the row of a word has after its opcode byte, if a line of the operand encodings describes it; else what is left
-/// of the row.
+/// ModRM, and the line that describes the row there; else what is left of the row.
+#[inline(always)]
+fn read_line<'a, T: Reader<u64, u8>>(
+    found: &WordRow,
+    reader: &mut T,
+) -> Result<Found<'a>, DecodeError>
+    ensures read { (strict : Bool) (i : Instruction) →
+        then_from result (T.state reader.new) (found_row_step strict found.now.row i) ≡
+        row_step strict found.now.row i.prefixes (T.state reader.old) }
+    ensures found { IfOk result (IsFound found.now) }
+{
+    let encoding = word_encoding(found);
+    let has_fields = matches!(
+        encoding.after_opcode,
+        AfterOpcode::EitherForm
+            | AfterOpcode::Memory
+            | AfterOpcode::Registers
+            | AfterOpcode::FormByOpcode
+            | AfterOpcode::ByReg(_)
+    );
+    if !has_fields {
+        return Ok(line_without_modrm(found, encoding));
+    }
+    let modrm = ModRM::new(reader.next()?);
+    let (opcode, encoding) = match encoding.after_opcode {
+        AfterOpcode::ByReg(group) => chosen(group, modrm),
+        _ => (found.row.opcode, encoding),
+    };
+    let accepts = match encoding.after_opcode {
+        AfterOpcode::EitherForm => true,
+        other => other.allows(opcode, modrm),
+    };
+    if accepts {
+        Ok(Found::Line(RowLine {
+            encoding,
+            opcode,
+            modrm,
+        }))
+    } else {
+        Ok(Found::Rest(Rest::AfterModRM(found.word, modrm)))
+    }
+}
+
+/// What the row of a word has after its opcode byte, if a line of the operand encodings describes it.
 #[inline(always)]
 pub fn read_by_line<T: Reader<u64, u8>>(
     found: &WordRow,
@@ -117,37 +147,22 @@ pub fn read_by_line<T: Reader<u64, u8>>(
         → inst.new.operand_list ≡ no_operands) }
     ensures same_prefixes { inst.new.prefixes ≡ inst.old.prefixes }
 {
-    let encoding = word_encoding(found);
-    let has_fields = matches!(
-        encoding.after_opcode,
-        AfterOpcode::EitherForm
-            | AfterOpcode::Memory
-            | AfterOpcode::Registers
-            | AfterOpcode::FormByOpcode
-            | AfterOpcode::ByReg(_)
-    );
-    if !has_fields {
-        return read_without_modrm(found, encoding, reader, inst);
+    match read_line(found, reader) {
+        Err(error) => Err(error),
+        Ok(Found::Rest(rest)) => Ok(rest),
+        Ok(Found::Line(line)) => {
+            inst.opcode = line.opcode;
+            inst.operand_list.read(
+                reader,
+                line.encoding,
+                line.opcode,
+                found.number,
+                &inst.prefixes,
+                line.modrm,
+            )?;
+            Ok(Rest::Nothing)
+        }
     }
-    let modrm = ModRM::new(reader.next()?);
-    let (opcode, encoding) = line_at(found, encoding, modrm);
-    let accepts = match encoding.after_opcode {
-        AfterOpcode::EitherForm => true,
-        other => other.allows(opcode, modrm),
-    };
-    if !accepts {
-        return Ok(Rest::AfterModRM(found.word, modrm));
-    }
-    inst.opcode = opcode;
-    inst.operand_list.read(
-        reader,
-        encoding,
-        opcode,
-        found.number,
-        &inst.prefixes,
-        modrm,
-    )?;
-    Ok(Rest::Nothing)
 }
 
 fn plan_at(strict: bool, row: TableRow, prefixes: &Prefixes, modrm: ModRM) -> Plan
