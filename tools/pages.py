@@ -14,7 +14,7 @@ that comes in pieces; and its recipes over code of bash of one and of two megaby
 times the processor time, and a second, or 8 MB more memory.
 
 Examples of README.md, docs/GUIDE.md and crates/*/README.md: each indented block is in one of the files of `CODE`, or of `TESTS`, line by line,
-only further to the right, and so is what docs/GUIDE.md prints after a command (tools/own_test compares it with what the programs print).
+only further to the right, and so is what docs/GUIDE.md prints after a command (the gate compares it with what the programs print).
 Each crate of crates.txt has a README.md, of ten to thirty lines.
 
 Quoted code of the pages of `QUOTING`: each indented line that isn't a command, nor of a drawing, is a line of some file of crates/, letter
@@ -54,7 +54,8 @@ IN_PIECES = """#!/bin/sh
 """
 BIG = 1000000
 TIMES, SPARE_SECONDS, SPARE_KILOBYTES = 3, 1, 8192
-CODE = [*(f"crates/x86_vectors/src/{name}.rt" for name in ("guide_tests", "rebuilder", "two_buffers")), "examples/own"]
+CODE = [f"crates/x86_vectors/src/{name}.rt" for name in ("guide_tests", "rebuilder", "two_buffers")]
+CODE += [f"crates/{name}/{file}" for name in ("guide_first", "guide_listing") for file in ("src", "stdout")]
 TESTS = ["crates/x86_vectors/src", "crates/x86_runs/src"]
 QUOTING = ["docs/ROWS.md", "docs/ENCODING.md", "docs/ARCHITECTURE.md", "CONTRIBUTING.md"]
 LINKING = ["docs/THEOREM.md", "docs/DEFINITIONS.md"]
