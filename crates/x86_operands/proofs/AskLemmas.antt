@@ -1,39 +1,19 @@
 -- What a line of the operand encodings has is what its plan has.
 use Rattle.std.proofs.Common.{◌≡◌, ℕ, Bool, true, false, not, if◌then◌else◌, refl, ap, ◌∙◌, arith}
-use Rattle.x86_fields.specs.declared.prefixes.Prefixes.{Prefixes}
-use Rattle.x86_operands.specs.declared.asks.Ask.{Ask}
-use Rattle.x86_operands.specs.declared.encodings.AfterOpcode.{AfterOpcode}
+use Rattle.x86_operands.specs.Vocabulary.{Prefixes, Ask, AfterOpcode, FormEncoding, Width, Order, Fault, ModrmUse, Moment, OperandEncoding, OperandEncodings, Accepts, Refuses, is_memory}
 use Rattle.x86_operands.specs.declared.encodings.AfterOpcode.TheVariants as after_opcode
-use Rattle.x86_operands.specs.declared.encodings.FormEncoding.{FormEncoding}
-use Rattle.x86_fields.specs.declared.sizes.Width.{Width}
-use Rattle.x86_fields.specs.declared.sizes.Width.TheVariants as width
-use Rattle.x86_operands.specs.declared.order.Order.{Order}
-use Rattle.x86_operands.specs.declared.plans.Fault.{Fault}
-use Rattle.x86_operands.specs.declared.plans.ModrmUse.{ModrmUse}
-use Rattle.x86_operands.specs.declared.plans.Moment.{Moment}
-use Rattle.x86_operands.specs.declared.plans.OperandEncoding.{OperandEncoding}
-use Rattle.x86_operands.specs.declared.plans.OperandEncodings.{OperandEncodings}
-use Rattle.x86_operands.specs.declared.plans.Verdict.TheVariants.{Accepts, Refuses}
 use Rattle.x86_operands.specs.Asks.{uses_modrm, uses_suffix, immediates_width, plan_ask, encoding_ask, immediate_width}
 use Rattle.x86_operands.specs.Encodings.{size_bytes, is_sound, restricted_plan, last_encoding, plan_of, reg_encoding, rm_encoding, encodings_in, size_at, somewhere, use_of}
-use Rattle.x86_fields.specs.ModRM.{is_memory}
 use Rattle.x86_operands.specs.FormSizes.{lacks_memory}
 use Rattle.x86_operands.specs.Plans.{reads}
 use Rattle.x86_operands.proofs.OrderLemmas.{Named, named_of, sound_parts, no_named}
 
 -- the operands of reg and rm have no immediate
 reg_width : (b : AfterOpcode) (w : Width) (n : ℕ) (p : Prefixes) → immediate_width (reg_encoding b w n p) ≡ 0
-reg_width after_opcode.Opcode w n p = refl
-reg_width after_opcode.Accumulator w n p = refl
-reg_width b width.Mm n p = refl
-reg_width b w n p = refl
+reg_width b w n p = grind arith
 
 rm_width : (b : AfterOpcode) (w : Width) (p : Prefixes) → immediate_width (rm_encoding b w p) ≡ 0
-rm_width after_opcode.Memory w p = refl
-rm_width after_opcode.Registers width.Mm p = refl
-rm_width after_opcode.Registers w p = refl
-rm_width b width.Mm p = refl
-rm_width b w p = refl
+rm_width b w p = grind arith
 
 -- so the last operand has all of it
 width_in : {o : Order} → Named o → (a b c : OperandEncoding) → immediate_width a ≡ 0 → immediate_width b ≡ 0 → immediates_width (encodings_in o a b c) ≡ (if somewhere o.last then immediate_width c else 0)

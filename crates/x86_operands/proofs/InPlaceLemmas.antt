@@ -1,34 +1,15 @@
 -- What an encoding writes in place is what its plan yields.
-use Rattle.std.proofs.Common.{◌≡◌, ℕ, Bool, true, false, not, if◌then◌else◌, ◌&&◌, ◌≢◌, refl, sym, ap, ◌∙◌, Ok, Err, Result, None, Some, Option, is_some}
+use Rattle.std.proofs.Common.{◌≡◌, ℕ, Bool, true, false, not, if◌then◌else◌, ◌&&◌, ◌≢◌, refl, sym, ap, ◌∙◌, Ok, Err, Result, None, Some, Option, is_some, arith}
 use Rattle.std.proofs.lemmas.Bool.{not-true}
 use Rattle.x86_arch.specs.Reader.{State}
-use Rattle.x86_regs.specs.declared.RegisterClass.{RegisterClass}
+use Rattle.x86_operands.specs.Vocabulary.{RegisterClass, DecodeError, Prefixes, Raw, Slot, Operand, OperandEncoding, I16, I32, Position, First, Second, Nowhere, Order, AfterOpcode, Width, Last, FormEncoding, Size, Reading, Operands, v_class, is_memory, absent_modrm}
 use Rattle.x86_regs.specs.declared.RegisterClass.TheVariants as class
-use Rattle.x86_fields.specs.declared.errors.DecodeError.{DecodeError}
-use Rattle.x86_fields.specs.declared.prefixes.Prefixes.{Prefixes}
-use Rattle.x86_fields.specs.declared.raw.Raw.{Raw}
 use Rattle.x86_fields.specs.Raw.{read_raw, has_w}
-use Rattle.x86_fields.specs.Sizes.{v_class}
 use Rattle.x86_fields.specs.Steps.{Step, Outcome, outcome, then_from, pure, ◌>>=◌}
-use Rattle.x86_operands.specs.declared.operands.Slot.{Slot}
-use Rattle.x86_operands.specs.declared.operands.Operand.{Operand}
-use Rattle.x86_operands.specs.declared.plans.OperandEncoding.{OperandEncoding}
-use Rattle.x86_operands.specs.declared.plans.OperandEncoding.TheVariants.{I16, I32}
-use Rattle.x86_operands.specs.declared.order.Position.{Position}
-use Rattle.x86_operands.specs.declared.order.Position.TheVariants.{First, Second, Nowhere}
-use Rattle.x86_operands.specs.declared.order.Order.{Order}
-use Rattle.x86_operands.specs.declared.encodings.AfterOpcode.{AfterOpcode}
 use Rattle.x86_operands.specs.declared.encodings.AfterOpcode.TheVariants as after_opcode
-use Rattle.x86_fields.specs.declared.sizes.Width.{Width}
 use Rattle.x86_fields.specs.declared.sizes.Width.TheVariants as width
-use Rattle.x86_operands.specs.declared.encodings.Last.{Last}
 use Rattle.x86_operands.specs.declared.encodings.Last.TheVariants as last
-use Rattle.x86_operands.specs.declared.encodings.FormEncoding.{FormEncoding}
-use Rattle.x86_operands.specs.declared.encodings.Size.{Size}
-use Rattle.x86_operands.specs.declared.reader.Reading.{Reading}
-use Rattle.x86_operands.specs.declared.operand_list.Operands.{Operands}
 use Rattle.x86_operands.specs.PlanSteps.{read_plan, read_memory, filled_step, operands_step, operand_step, reading_from, rm_operand}
-use Rattle.x86_fields.specs.ModRM.{is_memory, absent_modrm}
 use Rattle.x86_operands.specs.Plans.{list_of, reads, immediate_of}
 use Rattle.x86_operands.specs.FormSizes.{whole_immediate}
 use Rattle.x86_operands.specs.Shape.{shape}
@@ -140,11 +121,7 @@ by_memory false p m K L ok err s u e = rw e (ok None s refl)
 -- ---- ModRM's operands
 
 same_reg : (b : AfterOpcode) (w : Width) (n : ℕ) (p : Prefixes) (m : ℕ) → has_modrm b ≡ true → reg_pair w p m ≡ reg_pair_of b w n p m
-same_reg after_opcode.EitherForm w n p m h = refl
-same_reg after_opcode.Memory w n p m h = refl
-same_reg after_opcode.Registers w n p m h = refl
-same_reg after_opcode.FormByOpcode w n p m h = refl
-same_reg b w n p m h = cc
+same_reg b w n p m h = grind arith
 
 same_rm : (b : AfterOpcode) (w : Width) (p : Prefixes) (opcode m : ℕ) (memory : Option Raw) → has_modrm b ≡ true → allows b opcode m ≡ true → Suits memory (is_memory m) → rm_pair w p m memory ≡ rm_pair_of b w p m memory
 same_rm after_opcode.Memory w p opcode m None h a e = cc
@@ -174,9 +151,7 @@ module _ (b : AfterOpcode) (o : Order) (wr we : Width) (l : Last) (n size opcode
 -- ---- operands with no ModRM
 
 same_fixed : (b : AfterOpcode) (w : Width) (n : ℕ) (p : Prefixes) (m : ℕ) → has_register b ≡ true → fixed_pair b w n p ≡ reg_pair_of b w n p m
-same_fixed after_opcode.Opcode w n p m h = refl
-same_fixed after_opcode.Accumulator w n p m h = refl
-same_fixed b w n p m h = cc
+same_fixed b w n p m h = grind arith
 
 fixed_plan : (b : AfterOpcode) (o : Order) (wr we : Width) (l : Last) (n size opcode : ℕ) (p : Prefixes) (m : ℕ) (s : State ℕ) (operand_list : Operands) → Named o → has_modrm b ≡ false → allows b opcode m ≡ true →
     operand_list ≡ put_in o.reg (reg_pair_of b wr n p m) (put_in o.rm (rm_pair_of b we p m None) (sized o.count size)) →

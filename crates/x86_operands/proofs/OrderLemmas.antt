@@ -1,16 +1,9 @@
 -- The orders of a sound line, and what follows where it accepts.
-use Rattle.std.proofs.Common.{◌≡◌, ℕ, true, false, if◌then◌else◌, ◌&&◌, ◌≢◌, IsTrue, refl}
+use Rattle.std.proofs.Common.{◌≡◌, ℕ, true, false, if◌then◌else◌, ◌&&◌, ◌≢◌, IsTrue, refl, arith}
 use Rattle.std.proofs.lemmas.Bool.{and_parts, eqb-true, not-true}
-use Rattle.x86_operands.specs.declared.plans.OperandEncodings.{OperandEncodings}
-use Rattle.x86_operands.specs.declared.order.Position.{Position}
-use Rattle.x86_operands.specs.declared.order.Position.TheVariants.{First, Second, Third, Nowhere}
-use Rattle.x86_operands.specs.declared.order.Order.{Order}
-use Rattle.x86_operands.specs.declared.encodings.AfterOpcode.{AfterOpcode}
+use Rattle.x86_operands.specs.Vocabulary.{OperandEncodings, Position, First, Second, Third, Nowhere, Order, AfterOpcode, Last, FormEncoding, is_memory}
 use Rattle.x86_operands.specs.declared.encodings.AfterOpcode.TheVariants as after_opcode
-use Rattle.x86_operands.specs.declared.encodings.Last.{Last}
 use Rattle.x86_operands.specs.declared.encodings.Last.TheVariants as last
-use Rattle.x86_operands.specs.declared.encodings.FormEncoding.{FormEncoding}
-use Rattle.x86_fields.specs.ModRM.{is_memory}
 use Rattle.x86_operands.specs.FormSizes.{lacks_memory}
 use Rattle.x86_operands.specs.Plans.{reads}
 use Rattle.x86_operands.specs.Encodings.{restricted_plan, is_last, has_last, somewhere, is_described, is_sound, is_order_of, is_order, has_modrm, has_register, order_fits, allows}
@@ -62,9 +55,7 @@ no_memory after_opcode.Group o m h a = cc
 no_memory b o m h a = not-true (is_memory m) a
 
 pub no_modrm : (b : AfterOpcode) → has_register b ≡ true → has_modrm b ≡ false
-no_modrm after_opcode.Opcode h = refl
-no_modrm after_opcode.Accumulator h = refl
-no_modrm b h = cc
+no_modrm b h = grind arith
 
 pub last_there : (e : FormEncoding) → has_last e.order e.last ≡ true → e.order.last ≢ Nowhere → e.last ≢ last.Absent
 last_there e h k = ends_at e.order.last e.last h k
@@ -83,7 +74,4 @@ sound_parts e h =
     (parts.0, rest.0, rest.1)
 
 pub allowed_is_described : (b : AfterOpcode) (o m : ℕ) → allows b o m ≡ true → IsTrue (is_described b)
-allowed_is_described (after_opcode.ByReg g) o m h = cc
-allowed_is_described (after_opcode.ByPlan u) o m h = cc
-allowed_is_described after_opcode.Group o m h = cc
-allowed_is_described b o m h = refl
+allowed_is_described b o m h = grind arith

@@ -2,14 +2,9 @@
 use Rattle.std.proofs.Common.{◌≡◌, ◌≢◌, ◌≤◌, inl, inr, ℕ, Err, true, false, rules, sym, ap, ◌∙◌}
 use Rattle.x86_arch.specs.Reader.{State}
 use Rattle.x86_fields.specs.declared.errors.DecodeError.TheVariants.{IncompleteDecoder}
-use Rattle.x86_fields.specs.declared.prefixes.Prefixes.{Prefixes}
-use Rattle.x86_forms.specs.declared.Form.{Form}
+use Rattle.x86_operands.specs.Vocabulary.{Prefixes, Form, Incomplete, Moment, Refuses, TableRow}
 use Rattle.x86_forms.specs.declared.Form.TheVariants as form
 use Rattle.x86_forms.specs.Groups.{is_group}
-use Rattle.x86_operands.specs.declared.plans.Fault.TheVariants.{Incomplete}
-use Rattle.x86_operands.specs.declared.plans.Moment.{Moment}
-use Rattle.x86_operands.specs.declared.plans.Verdict.TheVariants.{Refuses}
-use Rattle.x86_forms.specs.declared.TableRow.{TableRow}
 use Rattle.x86_operands.specs.PlanSteps.{record_step}
 use Rattle.x86_operands.specs.Asks.{immediates_width}
 use Rattle.x86_operands.specs.Forms.{form_plan, form_record}

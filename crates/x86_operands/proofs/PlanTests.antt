@@ -2,19 +2,7 @@
 use Rattle.std.proofs.Common.{◌≡◌, ◌≢◌, ◌≤◌, ◌+◌, ℕ, nat_lt, Bool, true, false, not, ◌&&◌, ◌||◌, if◌then◌else◌, rules, arith, refl, ap}
 use Rattle.std.proofs.lemmas.Bool.{and_parts}
 use Rattle.std.proofs.lemmas.Bool.Decides.{nat_tests}
-use Rattle.x86_regs.specs.declared.RegisterClass.{RegisterClass}
-use Rattle.x86_regs.specs.Class.{width_of}
-use Rattle.x86_operands.specs.declared.plans.Fault.{Fault}
-use Rattle.x86_operands.specs.declared.plans.Fault.TheVariants.{Incomplete}
-use Rattle.x86_operands.specs.declared.plans.Moment.{Moment}
-use Rattle.x86_operands.specs.declared.plans.Verdict.{Verdict}
-use Rattle.x86_operands.specs.declared.plans.Verdict.TheVariants.{Refuses}
-use Rattle.x86_operands.specs.declared.plans.Plan.{Plan}
-use Rattle.x86_operands.specs.declared.plans.PrefixChange.{PrefixChange}
-use Rattle.x86_operands.specs.declared.plans.OperandEncoding.{OperandEncoding}
-use Rattle.x86_operands.specs.declared.plans.OperandEncoding.TheVariants.{I8}
-use Rattle.x86_operands.specs.declared.plans.OperandEncodings.{OperandEncodings}
-use Rattle.x86_operands.specs.declared.plans.OperandEncodings.TheVariants.{One, Two, Three}
+use Rattle.x86_operands.specs.Vocabulary.{RegisterClass, Fault, Incomplete, Moment, Verdict, Refuses, Plan, PrefixChange, OperandEncoding, I8, OperandEncodings, One, Two, Three, width_of}
 use Rattle.x86_operands.specs.Asks.{immediate_width, immediates_width}
 use Rattle.x86_opcodes.specs.declared.Opcode.{Opcode}
 
@@ -39,14 +27,8 @@ width_small : (s : OperandEncoding) → nat_lt (immediate_width s) 9 ≡ true
 width_small I8 = refl
 width_small s = refl
 
-alone : (w : ℕ) → nat_lt w 9 ≡ true → nat_lt (w + 0) 9 ≡ true
-alone w h = grind (arith, nat_tests)
-
-after_none : (x w : ℕ) → x ≡ 0 → nat_lt w 9 ≡ true → nat_lt (x + w) 9 ≡ true
-after_none x w e h = grind (arith, nat_tests)
-
-before_none : (w x : ℕ) → x ≡ 0 → nat_lt w 9 ≡ true → nat_lt (w + (x + 0)) 9 ≡ true
-before_none w x e h = grind (arith, nat_tests)
+small_sum : (n w : ℕ) → n ≡ w → nat_lt w 9 ≡ true → nat_lt n 9 ≡ true
+small_sum n w e h = rw e h
 
 pub narrow_by : (encodings : OperandEncodings) → nat_lt (immediates_width encodings) 9 ≡ true → narrow encodings ≡ true
 unfolding narrow
@@ -54,27 +36,30 @@ narrow_by encodings h = h
 
 pub narrow_one : (a : OperandEncoding) → narrow (One a) ≡ true
 unfolding narrow
-narrow_one a = alone (immediate_width a) (width_small a)
+narrow_one a = small_sum (immediate_width a + 0) (immediate_width a) (omega arith) (width_small a)
 
 pub narrow_second : (a b : OperandEncoding) → immediate_width a ≡ 0 → narrow (Two a b) ≡ true
 unfolding narrow
-narrow_second a b e = after_none (immediate_width a) (immediate_width b + 0) e (alone (immediate_width b) (width_small b))
+narrow_second a b e = small_sum (immediate_width a + (immediate_width b + 0)) (immediate_width b) (omega arith) (width_small b)
 
 pub narrow_first : (a b : OperandEncoding) → immediate_width b ≡ 0 → narrow (Two a b) ≡ true
 unfolding narrow
-narrow_first a b e = before_none (immediate_width a) (immediate_width b) e (width_small a)
+narrow_first a b e = small_sum (immediate_width a + (immediate_width b + 0)) (immediate_width a) (omega arith) (width_small a)
 
 pub narrow_third : (a b c : OperandEncoding) → immediate_width a ≡ 0 → immediate_width b ≡ 0 → narrow (Three a b c) ≡ true
 unfolding narrow
-narrow_third a b c e h = after_none (immediate_width a) (immediate_width b + (immediate_width c + 0)) e (after_none (immediate_width b) (immediate_width c + 0) h (alone (immediate_width c) (width_small c)))
+narrow_third a b c e h = small_sum (immediate_width a + (immediate_width b + (immediate_width c + 0))) (immediate_width c) (omega arith) (width_small c)
+
+-- what passes a test in both cases passes it
+either_has : {A : Type 0} (test : A → Bool) (b : Bool) (x y : A) → test x ≡ true → test y ≡ true → test (if b then x else y) ≡ true
+either_has test true x y h k = h
+either_has test false x y h k = k
 
 pub narrow_if : (b : Bool) (x y : OperandEncodings) → narrow x ≡ true → narrow y ≡ true → narrow (if b then x else y) ≡ true
-narrow_if true x y h k = h
-narrow_if false x y h k = k
+narrow_if = either_has narrow
 
 pub small_if : (b : Bool) (x y : ℕ) → nat_lt x 65 ≡ true → nat_lt y 65 ≡ true → nat_lt (if b then x else y) 65 ≡ true
-small_if true x y h k = h
-small_if false x y h k = k
+small_if = either_has (λ n. nat_lt n 65)
 
 pub small_width : (c : RegisterClass) → nat_lt (width_of c) 65 ≡ true
 small_width c = search rules
@@ -87,12 +72,10 @@ pub both : (a b : Bool) → a ≡ true → b ≡ true → (a && b) ≡ true
 both a b p q = cc
 
 pub no_gap_if : (b : Bool) (x y : Verdict) → not (has_gap x) ≡ true → not (has_gap y) ≡ true → not (has_gap (if b then x else y)) ≡ true
-no_gap_if true x y h k = h
-no_gap_if false x y h k = k
+no_gap_if = either_has (λ v. not (has_gap v))
 
 pub either_passes : (gaps b : Bool) (x y : Plan) → passes gaps x ≡ true → passes gaps y ≡ true → passes gaps (if b then x else y) ≡ true
-either_passes gaps true x y h k = h
-either_passes gaps false x y h k = k
+either_passes gaps = either_has (passes gaps)
 
 pub plan_passes : (gaps : Bool) (opcode : Opcode) (encodings : OperandEncodings) (n : ℕ) (change : PrefixChange) (verdict : Verdict) → not (has_gap verdict) ≡ true → nat_lt n 65 ≡ true → narrow encodings ≡ true → passes gaps (record { opcode = opcode; encodings = encodings; size = n; change = change; verdict = verdict }) ≡ true
 unfolding passes

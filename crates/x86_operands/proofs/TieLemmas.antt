@@ -1,23 +1,12 @@
 -- What the pieces of a row yield: tied slots and operands, and the shape of the raw fields.
 use Rattle.std.proofs.Common.{◌≡◌, ℕ, zero, suc, ◌<◌, ◌≤◌, Bool, true, false, if◌then◌else◌, List, [], ◌∷◌, length, Option, Some, None, ℤ, Ok, slice_index_or, refl, sym, ap, subst, ◌∙◌, arith}
-use Rattle.x86_regs.specs.declared.RegSpec.{RegSpec}
+use Rattle.x86_operands.specs.Vocabulary.{RegSpec, Prefixes, Raw, Slot, Operand, OperandEncoding, E, Emm, M, U, Umm, Fixed, Pointer, OperandEncodings, Zero, Plan, Reading, is_zero}
 use Rattle.x86_arch.specs.Reader.{State}
-use Rattle.x86_fields.specs.declared.prefixes.Prefixes.{Prefixes}
-use Rattle.x86_fields.specs.declared.raw.Raw.{Raw}
 use Rattle.x86_fields.specs.Address.{base_of, index_of, scale_by}
-use Rattle.x86_operands.specs.declared.operands.Slot.{Slot}
 use Rattle.x86_operands.specs.declared.operands.Slot.TheVariants as slots
-use Rattle.x86_operands.specs.declared.operands.Operand.{Operand}
 use Rattle.x86_operands.specs.declared.operands.Operand.TheVariants as operands
 use Rattle.x86_operands.specs.declared.plans.RegisterSlot.TheVariants as reg_slot
 use Rattle.x86_operands.specs.declared.plans.PointerSlot.TheVariants as pointer
-use Rattle.x86_operands.specs.declared.plans.OperandEncoding.{OperandEncoding}
-use Rattle.x86_operands.specs.declared.plans.OperandEncoding.TheVariants.{E, Emm, M, U, Umm, Fixed, Pointer}
-use Rattle.x86_operands.specs.declared.plans.OperandEncodings.{OperandEncodings}
-use Rattle.x86_operands.specs.declared.plans.OperandEncodings.TheVariants.{Zero}
-use Rattle.x86_operands.specs.declared.plans.Plan.{Plan}
-use Rattle.x86_operands.specs.declared.reader.Reading.{Reading}
-use Rattle.x86_fields.specs.Raw.{is_zero}
 use Rattle.x86_operands.specs.Shape.{shape_by, shape}
 use Rattle.x86_operands.specs.Plans.{RowRecord, list_of}
 use Rattle.x86_operands.specs.PlanSteps.{pair_at, four_of, record_step}

@@ -1,17 +1,11 @@
 -- The refusal of a plan at its moment, and the opcode that a suffix names.
 use Rattle.std.proofs.Common.{◌≡◌, ◌≢◌, ℕ, Bool, true, false, if◌then◌else◌, List, [], ◌∷◌, ◌++◌, length, Option, Some, None, Result, Ok, Err, refl, sym, ap, subst, ◌∙◌, arith}
 use Rattle.std.proofs.lemmas.List.{append-nil, nil_from_length}
-use Rattle.x86_fields.specs.declared.errors.DecodeError.{DecodeError}
+use Rattle.x86_operands.specs.Vocabulary.{DecodeError, Moment, AtModRM, AfterAddress, AfterSuffix, Fault, BadOpcode, Verdict, Accepts, NamedBySuffix, Refuses}
 use Rattle.x86_fields.specs.declared.errors.DecodeError.TheVariants.{ExhaustedInput}
 use Rattle.x86_fields.specs.Steps.{Step, pure, refuse, ◌>>=◌, next_byte}
 use Rattle.x86_fields.proofs.StepLemmas.{Takes, takes_pure, takes_bind, takes_byte}
 use Rattle.x86_fields.proofs.EndLemmas.{EndsWell, IsEmpty, IsByte, ends_byte, ends_pure, ends_refuse, ends_then, Halts, halts_bind, halts_refused}
-use Rattle.x86_operands.specs.declared.plans.Moment.{Moment}
-use Rattle.x86_operands.specs.declared.plans.Moment.TheVariants.{AtModRM, AfterAddress, AfterSuffix}
-use Rattle.x86_operands.specs.declared.plans.Fault.{Fault}
-use Rattle.x86_operands.specs.declared.plans.Fault.TheVariants.{BadOpcode}
-use Rattle.x86_operands.specs.declared.plans.Verdict.{Verdict}
-use Rattle.x86_operands.specs.declared.plans.Verdict.TheVariants.{Accepts, NamedBySuffix, Refuses}
 use Rattle.x86_operands.specs.Suffix.{suffix_opcode}
 use Rattle.x86_operands.specs.PlanSteps.{refuse_at, read_opcode, named_step, same_moment, error_of}
 use Rattle.x86_operands.specs.Pieces.{suffix_width, opcode_by}
@@ -53,11 +47,7 @@ ends_verdict (Refuses f moment) at = verdict_by (same_moment moment at) f moment
 ends_verdict v at = ends_pure (IsVerdict v at) Never tt (refl, refl)
 
 pub takes_passed : (v : Verdict) (at : Moment) → refuses_at v at ≡ false → Takes (refuse_at v at) [] (Ok tt)
-takes_passed (Refuses f moment) at e = by (same_moment moment at) e
-  where
-    by : (test : Bool) → test ≡ false → Takes {X = Unit {0}} (if test then refuse (error_of f) else pure tt) [] (Ok tt)
-    by false e = takes_pure (Ok tt)
-    by true e = absurd cc
+takes_passed (Refuses f moment) at e = rw e (takes_pure (Ok tt))
 takes_passed v at e = takes_pure (Ok tt)
 
 same_self : (at : Moment) → same_moment at at ≡ true
@@ -65,11 +55,7 @@ same_self AtModRM = refl
 same_self at = refl
 
 pub takes_refused : (v : Verdict) (f : Fault) (at : Moment) → v ≡ Refuses f at → Takes (refuse_at v at) [] (Err (error_of f))
-takes_refused v f at e = subst (λ o. Takes (refuse_at o at) [] (Err (error_of f))) (sym e) (by (same_moment at at) (same_self at))
-  where
-    by : (test : Bool) → test ≡ true → Takes {X = Unit {0}} (if test then refuse (error_of f) else pure tt) [] (Err (error_of f))
-    by true e = takes_pure (Err (error_of f))
-    by false e = absurd cc
+takes_refused v f at e = rw (e, same_self at) (takes_pure (Err (error_of f)))
 
 -- a step after a moment halts where it is reached, or the verdict refuses before it
 pub halts_verdict : {Y : Type 0} (v : Verdict) (at : Moment) (f : Unit {0} → Step Y) (q : List ℕ)

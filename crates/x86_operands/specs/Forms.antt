@@ -3,34 +3,12 @@
 -- register form, I an immediate, J a branch, O an address, X and Y the strings at rsi and rdi, Z the register of the
 -- opcode byte.
 use Rattle.std.specs.Prelude.{ℕ, ◌==◌, ◌&&◌, ◌||◌, nat_lt, not, if◌then◌else◌, None}
-use Rattle.x86_regs.specs.declared.RegisterClass.{RegisterClass}
+use Rattle.x86_operands.specs.Vocabulary.{RegisterClass, Prefixes, Form, TableRow, RegisterSlot, PointerSlot, Deref, DerefEsi, DerefEdi, DerefRsi, DerefRdi, OperandEncoding, G, Gmm, E, Emm, M, U, Umm, Fixed, Pointer, I8, I32, U8, U16, X16, ConstantU8, OperandEncodings, Zero, One, Two, Three, BadOperand, Incomplete, AtModRM, AfterAddress, AfterSuffix, SetsEs, ModrmUse, Absent, EitherForm, Plan, reg_spec, width_of, has_w, has_b, operand_size, address_size, v_class, vq_class, vd_class, dq_class, is_memory}
 use Rattle.x86_regs.specs.declared.RegisterClass.TheVariants.{B, W, D, Q, S, X}
-use Rattle.x86_regs.specs.Register.{reg_spec}
-use Rattle.x86_regs.specs.Class.{width_of}
-use Rattle.x86_fields.specs.declared.prefixes.Prefixes.{Prefixes}
-use Rattle.x86_fields.specs.Raw.{has_w, has_b}
 use Rattle.x86_opcodes.specs.Names.{NOP, JECXZ, IRET, IRETD, IRETQ, MOVQ, PEXTRD, PEXTRQ, PINSRD, PINSRQ}
-use Rattle.x86_forms.specs.declared.Form.{Form}
 use Rattle.x86_forms.specs.declared.Form.TheVariants as form
-use Rattle.x86_forms.specs.declared.TableRow.{TableRow}
-use Rattle.x86_fields.specs.Prefixes.{operand_size, address_size}
-use Rattle.x86_operands.specs.declared.plans.RegisterSlot.{RegisterSlot}
 use Rattle.x86_operands.specs.declared.plans.RegisterSlot.TheVariants.{Reg, Rm}
-use Rattle.x86_operands.specs.declared.plans.PointerSlot.{PointerSlot}
-use Rattle.x86_operands.specs.declared.plans.PointerSlot.TheVariants.{Deref, DerefEsi, DerefEdi, DerefRsi, DerefRdi}
-use Rattle.x86_operands.specs.declared.plans.OperandEncoding.{OperandEncoding}
-use Rattle.x86_operands.specs.declared.plans.OperandEncoding.TheVariants.{G, Gmm, E, Emm, M, U, Umm, Fixed, Pointer, I8, I32, U8, U16, X16, ConstantU8}
-use Rattle.x86_operands.specs.declared.plans.OperandEncodings.{OperandEncodings}
-use Rattle.x86_operands.specs.declared.plans.OperandEncodings.TheVariants.{Zero, One, Two, Three}
-use Rattle.x86_operands.specs.declared.plans.Fault.TheVariants.{BadOperand, Incomplete}
-use Rattle.x86_operands.specs.declared.plans.Moment.TheVariants.{AtModRM, AfterAddress, AfterSuffix}
-use Rattle.x86_operands.specs.declared.plans.PrefixChange.TheVariants.{SetsEs}
 use Rattle.x86_operands.specs.declared.encodings.Size.TheVariants as size
-use Rattle.x86_operands.specs.declared.plans.ModrmUse.{ModrmUse}
-use Rattle.x86_operands.specs.declared.plans.ModrmUse.TheVariants.{Absent, EitherForm}
-use Rattle.x86_operands.specs.declared.plans.Plan.{Plan}
-use Rattle.x86_fields.specs.Sizes.{v_class, vq_class, vd_class, dq_class}
-use Rattle.x86_fields.specs.ModRM.{is_memory}
 use Rattle.x86_operands.specs.Plans.{RowRecord, reads, refuses, refused, memory_only, register_only, size_by, reg_number, register_at, accumulator_of, immediate_of}
 use Rattle.x86_operands.specs.FormSizes.{pointer_class, whole_immediate, push_immediate, address_encoding, widening, doubling, call_size, named_size, port_size, far_class, far_size, form_by_opcode, v_size, or_v}
 use Rattle.x86_operands.specs.Encodings.{cl_third}
