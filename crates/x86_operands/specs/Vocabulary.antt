@@ -1,5 +1,5 @@
--- The types and the words on prefixes, ModRM and registers that this crate and those above it speak of most, and the
--- variants of plans.
+-- The types that definitions and proofs of this crate import, with the variants of plans, and the words on prefixes, ModRM
+-- and registers. A crate above sees only what is of crates below this one.
 pub use Rattle.x86_regs.specs.declared.RegSpec.{RegSpec}
 pub use Rattle.x86_regs.specs.declared.RegisterClass.{RegisterClass}
 pub use Rattle.x86_fields.specs.declared.prefixes.Prefixes.{Prefixes}
