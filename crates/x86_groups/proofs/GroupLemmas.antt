@@ -2,28 +2,17 @@
 use Rattle.std.proofs.Common.{◌≡◌, ◌≢◌, ◌≤◌, inl, inr, Err, ℕ, nat_le, Bool, true, false, not, ◌&&◌, ◌||◌, Some, None, if◌then◌else◌, refl, sym, subst, ap, ◌∙◌, true≢false}
 use Rattle.x86_arch.specs.Reader.{State}
 use Rattle.x86_fields.specs.declared.errors.DecodeError.TheVariants.{IncompleteDecoder}
-use Rattle.x86_fields.specs.declared.prefixes.Prefixes.{Prefixes}
-use Rattle.x86_fields.specs.ModRM.{reg_field}
-use Rattle.x86_forms.specs.declared.Form.{Form}
+use Rattle.x86_groups.specs.Vocabulary.{Prefixes, Form, TableRow, BadOpcode, Incomplete, Plan, Moment, AfterAddress, AtModRM, Keeps, reg_field, Letters, RowSize, Name}
+use Rattle.x86_operands.specs.declared.plans.Verdict.TheVariants.{Refuses}
 use Rattle.x86_forms.specs.declared.Form.TheVariants as form
-use Rattle.x86_forms.specs.declared.TableRow.{TableRow}
 use Rattle.x86_forms.specs.Groups.{is_group}
 use Rattle.x86_opcodes.specs.Names.{POP}
-use Rattle.x86_operands.specs.declared.plans.Fault.TheVariants.{BadOpcode, Incomplete}
-use Rattle.x86_operands.specs.declared.plans.Plan.{Plan}
-use Rattle.x86_operands.specs.declared.plans.Moment.{Moment}
-use Rattle.x86_operands.specs.declared.plans.Moment.TheVariants.{AfterAddress, AtModRM}
-use Rattle.x86_operands.specs.declared.plans.PrefixChange.TheVariants.{Keeps}
-use Rattle.x86_operands.specs.declared.plans.Verdict.TheVariants.{Refuses}
 use Rattle.x86_operands.specs.Asks.{immediates_width}
 use Rattle.x86_operands.specs.PlanSteps.{record_step}
 use Rattle.x86_operands.proofs.RowLemmas.{HasGap, row_left_out}
 use Rattle.x86_operands.proofs.PlanTests.{passes, without_gap, at_most_64, at_most_8}
-use Rattle.x86_groups.specs.declared.letters.Letters.{Letters}
-use Rattle.x86_groups.specs.declared.letters.RowSize.{RowSize}
-use Rattle.x86_groups.specs.declared.rows.Names.TheVariants.{Name}
-use Rattle.x86_groups.specs.declared.rows.Content.TheVariants as content
 use Rattle.x86_groups.specs.Columns.{plan_of_row}
+use Rattle.x86_groups.specs.declared.rows.Content.TheVariants as content
 use Rattle.x86_groups.specs.Groups.{is_f3_alone, fault_f30f3af0, group_fault, group_form_plan, group_record}
 use Rattle.x86_groups.specs.Rows.{group_rows}
 use Rattle.x86_groups.proofs.FactLemmas.{is_8f, may_have_gap}

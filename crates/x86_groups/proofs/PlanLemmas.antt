@@ -3,33 +3,16 @@ use Rattle.std.proofs.Common.{◌≡◌, inl, inr, ◌≤◌, ℕ, nat_lt, Bool,
 use Rattle.std.specs.List.{list_all}
 use Rattle.std.proofs.lemmas.Bool.{and_parts, or_cases}
 use Rattle.std.proofs.lemmas.Bool.Decides.{nat_tests}
-use Rattle.x86_regs.specs.declared.RegisterClass.{RegisterClass}
+use Rattle.x86_groups.specs.Vocabulary.{RegisterClass, Prefixes, Width, Form, BadOpcode, AtModRM, reg_field, is_memory, has_r, has_w, repnz, rep, class_of, v_class, Letter, Letters, RowSize, Bytes, Of, Names, BySuffix, ByReg, ByRm, Content, Reads, Refuses}
 use Rattle.x86_regs.specs.declared.RegisterClass.TheVariants as class
-use Rattle.x86_fields.specs.declared.prefixes.Prefixes.{Prefixes}
-use Rattle.x86_fields.specs.declared.sizes.Width.{Width}
 use Rattle.x86_fields.specs.declared.sizes.Width.TheVariants as width
-use Rattle.x86_fields.specs.ModRM.{reg_field, is_memory}
 use Rattle.x86_fields.specs.Pieces.{total}
-use Rattle.x86_fields.specs.Raw.{has_r, has_w}
-use Rattle.x86_fields.specs.Run.{repnz, rep}
-use Rattle.x86_fields.specs.Sizes.{class_of, v_class}
-use Rattle.x86_forms.specs.declared.Form.{Form}
-use Rattle.x86_operands.specs.declared.plans.Fault.TheVariants.{BadOpcode}
-use Rattle.x86_operands.specs.declared.plans.Moment.TheVariants.{AtModRM}
 use Rattle.x86_operands.specs.Asks.{immediate_width}
 use Rattle.x86_operands.specs.Plans.{immediate_of, size_by}
 use Rattle.x86_operands.proofs.PlanTests.{passes, narrow, has_gap, is_gap, small_if, small_width, plan_passes}
-use Rattle.x86_groups.specs.declared.letters.Letter.{Letter}
-use Rattle.x86_groups.specs.declared.letters.Letter.TheVariants as letter
-use Rattle.x86_groups.specs.declared.letters.Letters.{Letters}
-use Rattle.x86_groups.specs.declared.letters.Letters.TheVariants as letters
-use Rattle.x86_groups.specs.declared.letters.RowSize.{RowSize}
-use Rattle.x86_groups.specs.declared.letters.RowSize.TheVariants.{Bytes, Of}
-use Rattle.x86_groups.specs.declared.rows.Names.{Names}
-use Rattle.x86_groups.specs.declared.rows.Names.TheVariants.{BySuffix, ByReg, ByRm}
-use Rattle.x86_groups.specs.declared.rows.Content.{Content}
-use Rattle.x86_groups.specs.declared.rows.Content.TheVariants.{Reads, Refuses}
 use Rattle.x86_groups.specs.Columns.{choose, seen_at, distance_of, letter_encoding, operand_encodings, row_bytes, verdict_of, opcode_of, named, name_at, plan_of_row}
+use Rattle.x86_groups.specs.declared.letters.Letter.TheVariants as letter
+use Rattle.x86_groups.specs.declared.letters.Letters.TheVariants as letters
 use Rattle.x86_groups.specs.Groups.{group_form_plan}
 use Rattle.x86_groups.specs.Rows.{group_rows}
 use Rattle.x86_groups.proofs.RowLemmas.{AreAlike, chosen_has, chosen_alike, held_in_memory, is_register, no_rm_names, rm_free, row_absent}
@@ -54,14 +37,10 @@ encoding_most l p m = omega arith
 encodings_narrow : (operands : Letters) (p : Prefixes) (m : ℕ) → nat_lt (total (map most (letters_list operands))) 9 ≡ true → narrow (operand_encodings operands p m) ≡ true
 unfolding narrow
 encodings_narrow letters.Zero p m h = refl
-encodings_narrow (letters.One a) p m h =
-    let x = encoding_most a p m in grind (arith, nat_tests)
-encodings_narrow (letters.Two a b) p m h =
-    let x = encoding_most a p m in let y = encoding_most b p m in grind (arith, nat_tests)
-encodings_narrow (letters.Three a b c) p m h =
-    let x = encoding_most a p m in let y = encoding_most b p m in let z = encoding_most c p m in grind (arith, nat_tests)
-encodings_narrow (letters.Four a b c d) p m h =
-    let x = encoding_most a p m in let y = encoding_most b p m in let z = encoding_most c p m in let w = encoding_most d p m in grind (arith, nat_tests)
+encodings_narrow (letters.One a) p m h = let x = encoding_most a p m in grind (arith, nat_tests)
+encodings_narrow (letters.Two a b) p m h = let x = encoding_most a p m in let y = encoding_most b p m in grind (arith, nat_tests)
+encodings_narrow (letters.Three a b c) p m h = let x = encoding_most a p m in let y = encoding_most b p m in let z = encoding_most c p m in grind (arith, nat_tests)
+encodings_narrow (letters.Four a b c d) p m h = let x = encoding_most a p m in let y = encoding_most b p m in let z = encoding_most c p m in let w = encoding_most d p m in grind (arith, nat_tests)
 
 bytes_small : (s : RowSize) (p : Prefixes) → small_bytes s ≡ true → nat_lt (row_bytes s p) 65 ≡ true
 bytes_small (Bytes n) p h = h
@@ -121,26 +100,21 @@ module _ (p q : Prefixes) (m n : ℕ) (h : SamePrefixes p q) where
   encoding_alike letter.RdInReg e = absurd (true≢false (sym e))
   encoding_alike l e = refl
 
+  first_alike : (l : Letter) (rest : Bool) → (rm_free_letter l && rest) ≡ true → letter_encoding l p m ≡ letter_encoding l q n
+  first_alike l rest e = encoding_alike l (and_parts (rm_free_letter l) rest e).0
+
+  following : (l : Letter) (rest : Bool) → (rm_free_letter l && rest) ≡ true → rest ≡ true
+  following l rest e = (and_parts (rm_free_letter l) rest e).1
+
   encodings_alike : (operands : Letters) → list_all rm_free_letter (letters_list operands) ≡ true → operand_encodings operands p m ≡ operand_encodings operands q n
   encodings_alike letters.Zero e = refl
-  encodings_alike (letters.One a) e =
-      let x = and_parts (rm_free_letter a) _ e in
-      rw (encoding_alike a x.0) refl
-  encodings_alike (letters.Two a b) e =
-      let x = and_parts (rm_free_letter a) _ e in
-      let y = and_parts (rm_free_letter b) _ x.1 in
-      rw (encoding_alike a x.0, encoding_alike b y.0) refl
-  encodings_alike (letters.Three a b c) e =
-      let x = and_parts (rm_free_letter a) _ e in
-      let y = and_parts (rm_free_letter b) _ x.1 in
-      let z = and_parts (rm_free_letter c) _ y.1 in
-      rw (encoding_alike a x.0, encoding_alike b y.0, encoding_alike c z.0) refl
+  encodings_alike (letters.One a) e = rw (first_alike a _ e) refl
+  encodings_alike (letters.Two a b) e = rw (first_alike a _ e, first_alike b _ (following a _ e)) refl
+  encodings_alike (letters.Three a b c) e = let f = following a _ e in rw (first_alike a _ e, first_alike b _ f, first_alike c _ (following b _ f)) refl
   encodings_alike (letters.Four a b c d) e =
-      let x = and_parts (rm_free_letter a) _ e in
-      let y = and_parts (rm_free_letter b) _ x.1 in
-      let z = and_parts (rm_free_letter c) _ y.1 in
-      let w = and_parts (rm_free_letter d) _ z.1 in
-      rw (encoding_alike a x.0, encoding_alike b y.0, encoding_alike c z.0, encoding_alike d w.0) refl
+      let f = following a _ e in
+      let g = following b _ f in
+      rw (first_alike a _ e, first_alike b _ f, first_alike c _ g, first_alike d _ (following c _ g)) refl
 
   bytes_alike : (s : RowSize) → row_bytes s p ≡ row_bytes s q
   bytes_alike (Bytes k) = refl

@@ -2,20 +2,10 @@
 use Rattle.std.proofs.Common.{◌≡◌, inl, inr, ◌==◌, Bool, true, false, not, ◌&&◌, ◌||◌, if◌then◌else◌, List, [], ◌∷◌, refl, sym, ap, ◌∙◌, true≢false}
 use Rattle.std.specs.List.{list_all}
 use Rattle.std.proofs.lemmas.Bool.{and_parts, or_cases, and_left}
-use Rattle.x86_operands.specs.declared.plans.Fault.TheVariants.{BadOpcode}
-use Rattle.x86_operands.specs.declared.plans.Moment.TheVariants.{AtModRM}
-use Rattle.x86_groups.specs.declared.rows.Place.{Place}
-use Rattle.x86_groups.specs.declared.rows.Place.TheVariants.{Memory, Register, Either}
-use Rattle.x86_groups.specs.declared.rows.When.{When}
+use Rattle.x86_groups.specs.Vocabulary.{BadOpcode, AtModRM, Place, Memory, Register, Either, When, Rm, Names, ByReg, ByRm, Content, Reads, Refuses, GroupRow, Seen}
+use Rattle.x86_groups.specs.Columns.{choose, is_there, is_placed, is_rm, is_prefixed, is_named_by, is_named, name_at}
 use Rattle.x86_groups.specs.declared.rows.When.TheVariants as when
-use Rattle.x86_groups.specs.declared.rows.Rm.{Rm}
 use Rattle.x86_groups.specs.declared.rows.Rm.TheVariants as rms
-use Rattle.x86_groups.specs.declared.rows.Names.{Names}
-use Rattle.x86_groups.specs.declared.rows.Names.TheVariants.{ByReg, ByRm}
-use Rattle.x86_groups.specs.declared.rows.Content.{Content}
-use Rattle.x86_groups.specs.declared.rows.Content.TheVariants.{Reads, Refuses}
-use Rattle.x86_groups.specs.declared.rows.GroupRow.{GroupRow}
-use Rattle.x86_groups.specs.Columns.{Seen, choose, is_there, is_placed, is_rm, is_prefixed, is_named_by, is_named, name_at}
 
 -- ---- what each row has, the first has
 

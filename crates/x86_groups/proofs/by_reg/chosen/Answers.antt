@@ -3,10 +3,10 @@ use Rattle.x86_groups.proofs.by_reg.chosen.Goals as goal
 
 pub returns-clause-chooses : goal.returns-clause-chooses
 returns-clause-chooses c =
-    rw c.named.ensures (line_chooses c.args.group c.args.modrm c.place_of.result c.reg_field.result _ c.place_of.ensures.value c.reg_field.ensures.value c.reg_field.ensures.small)
+    rw c.named.ensures (line_chooses c.args.group c.args.modrm c.reg_field.result _ c.reg_field.ensures.value c.reg_field.ensures.small)
 
 pub returns-clause-sound : goal.returns-clause-sound
-returns-clause-sound c = line_sound c.args.group c.place_of.result c.reg_field.result _ c.place_of.ensures.value c.reg_field.ensures.small
+returns-clause-sound c = line_sound c.args.group c.reg_field.result _ c.reg_field.ensures.small
 
 pub returns-clause-fields : goal.returns-clause-fields
-returns-clause-fields c = line_fields c.args.group c.place_of.result c.reg_field.result _ c.place_of.ensures.value c.reg_field.ensures.small
+returns-clause-fields c = line_fields c.args.group c.reg_field.result _ c.reg_field.ensures.small
