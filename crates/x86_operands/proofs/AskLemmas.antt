@@ -25,8 +25,7 @@ abbrev AskWith : ModrmUse → ℕ → ℕ → Ask
 AskWith usage m n = record { modrm = uses_modrm usage; memory = is_memory m; immediate = n; suffix = false }
 
 no_suffix : (test : Bool) (fault : Fault) (moment : Moment) → uses_suffix (if test then Refuses fault moment else Accepts) ≡ false
-no_suffix true fault moment = refl
-no_suffix false fault moment = refl
+no_suffix test fault moment = grind arith
 
 restricted_ask : (b : AfterOpcode) (usage : ModrmUse) (m opcode size : ℕ) (encodings : OperandEncodings) → plan_ask usage m (restricted_plan b m (reads opcode encodings size)) ≡ AskWith usage m (immediates_width encodings)
 restricted_ask after_opcode.Memory usage m opcode size encodings = ap (λ s. record { modrm = uses_modrm usage; memory = is_memory m; immediate = immediates_width encodings; suffix = s }) (no_suffix (not (is_memory m)) _ _)

@@ -1,17 +1,14 @@
 -- What an encoding writes in place is what its plan yields.
-use Rattle.std.proofs.Common.{◌≡◌, ℕ, Bool, true, false, not, if◌then◌else◌, ◌&&◌, ◌≢◌, refl, sym, ap, ◌∙◌, Ok, Err, Result, None, Some, Option, is_some, arith}
+use Rattle.std.proofs.Common.{◌≡◌, ℕ, Bool, true, false, not, if◌then◌else◌, ◌≢◌, refl, sym, ap, ◌∙◌, Ok, Err, Result, None, Some, Option, is_some, arith}
 use Rattle.std.proofs.lemmas.Bool.{not-true}
 use Rattle.x86_arch.specs.Reader.{State}
-use Rattle.x86_operands.specs.Vocabulary.{RegisterClass, DecodeError, Prefixes, Raw, Slot, Operand, OperandEncoding, I16, I32, Position, First, Second, Nowhere, Order, AfterOpcode, Width, Last, FormEncoding, Size, Reading, Operands, v_class, is_memory, absent_modrm}
+use Rattle.x86_operands.specs.Vocabulary.{DecodeError, Prefixes, Raw, Slot, Operand, OperandEncoding, Position, First, Second, Nowhere, Order, AfterOpcode, Width, Last, FormEncoding, Size, Reading, Operands, is_memory, absent_modrm}
 use Rattle.x86_regs.specs.declared.RegisterClass.TheVariants as class
-use Rattle.x86_fields.specs.Raw.{read_raw, has_w}
+use Rattle.x86_fields.specs.Raw.{read_raw}
 use Rattle.x86_fields.specs.Steps.{Step, Outcome, outcome, then_from, pure, ◌>>=◌}
 use Rattle.x86_operands.specs.declared.encodings.AfterOpcode.TheVariants as after_opcode
-use Rattle.x86_fields.specs.declared.sizes.Width.TheVariants as width
-use Rattle.x86_operands.specs.declared.encodings.Last.TheVariants as last
 use Rattle.x86_operands.specs.PlanSteps.{read_plan, read_memory, filled_step, operands_step, operand_step, reading_from, rm_operand}
-use Rattle.x86_operands.specs.Plans.{list_of, reads, immediate_of}
-use Rattle.x86_operands.specs.FormSizes.{whole_immediate}
+use Rattle.x86_operands.specs.Plans.{list_of, reads}
 use Rattle.x86_operands.specs.Shape.{shape}
 use Rattle.x86_operands.specs.Encodings.{last_encoding, reg_encoding, rm_encoding, encodings_in, plan_of, size_bytes, size_at, is_order, has_modrm, has_register, order_fits, allows}
 use Rattle.x86_operands.specs.OperandList.{modrm_read, index_of_position, encoded_read, put_encoded, put_in, rm_pair, reg_pair, fixed_pair, reading_with, sized, last_read, operands_read}
@@ -29,10 +26,7 @@ reg_pair_of b w n p m = reg_pair w p m
 
 reg_yields : (b : AfterOpcode) (w : Width) (n : ℕ) (p : Prefixes) (m : ℕ) (memory : Option Raw) (s : State ℕ) → operand_step (reg_encoding b w n p) p m memory s ≡ outcome (Ok (reg_pair_of b w n p m)) s
 unfolding operand_step
-reg_yields after_opcode.Opcode w n p m memory s = refl
-reg_yields after_opcode.Accumulator w n p m memory s = refl
-reg_yields b width.Mm n p m memory s = refl
-reg_yields b w n p m memory s = refl
+reg_yields b w n p m memory s = grind arith
 
 abbrev rm_pair_of : AfterOpcode → Width → Prefixes → ℕ → Option Raw → Pair
 rm_pair_of after_opcode.Memory w p m memory = rm_operand class.Q p m memory
@@ -40,38 +34,16 @@ rm_pair_of b w p m memory = rm_pair w p m memory
 
 rm_yields : (b : AfterOpcode) (w : Width) (p : Prefixes) (m : ℕ) (memory : Option Raw) (s : State ℕ) → operand_step (rm_encoding b w p) p m memory s ≡ outcome (Ok (rm_pair_of b w p m memory)) s
 unfolding operand_step
-rm_yields after_opcode.Memory w p m memory s = refl
-rm_yields b width.Mm p m memory s = refl
-rm_yields b w p m memory s = refl
+rm_yields b w p m memory s = grind arith
 
 -- ---- the last operand, which looks at no ModRM
 
 abbrev IsPlain : OperandEncoding → Type 0
 IsPlain c = (p : Prefixes) (m : ℕ) (memory : Option Raw) (s : State ℕ) → operand_step c p m memory s ≡ operand_step c p absent_modrm None s
 
-immediate_plain : (c : RegisterClass) → IsPlain (immediate_of c)
-unfolding operand_step
-immediate_plain class.W p m memory s = refl
-immediate_plain class.Q p m memory s = refl
-immediate_plain c p m memory s = refl
-
-whole_plain : (c : RegisterClass) → IsPlain (whole_immediate c)
-unfolding operand_step
-whole_plain class.W p m memory s = refl
-whole_plain class.Q p m memory s = refl
-whole_plain c p m memory s = refl
-
-push_plain : (b : Bool) → IsPlain (if b then I16 else I32)
-unfolding operand_step
-push_plain true p m memory s = refl
-push_plain false p m memory s = refl
-
 last_plain : (l : Last) (p : Prefixes) → IsPlain (last_encoding l p)
 unfolding operand_step
-last_plain last.Iv p q m memory s = immediate_plain (v_class p) q m memory s
-last_plain last.Ivq p q m memory s = whole_plain (v_class p) q m memory s
-last_plain last.Ip p q m memory s = push_plain (p.operand_size && not (has_w p)) q m memory s
-last_plain l p q m memory s = refl
+last_plain l p q m memory s = grind arith
 
 -- ---- the operands in their order
 
@@ -124,10 +96,7 @@ same_reg : (b : AfterOpcode) (w : Width) (n : ℕ) (p : Prefixes) (m : ℕ) → 
 same_reg b w n p m h = grind arith
 
 same_rm : (b : AfterOpcode) (w : Width) (p : Prefixes) (opcode m : ℕ) (memory : Option Raw) → has_modrm b ≡ true → allows b opcode m ≡ true → Suits memory (is_memory m) → rm_pair w p m memory ≡ rm_pair_of b w p m memory
-same_rm after_opcode.Memory w p opcode m None h a e = cc
-same_rm after_opcode.Memory width.Mm p opcode m (Some raw) h a e = refl
-same_rm after_opcode.Memory w p opcode m (Some raw) h a e = refl
-same_rm b w p opcode m memory h a e = refl
+same_rm b w p opcode m memory h a e = grind arith
 
 module _ (b : AfterOpcode) (o : Order) (wr we : Width) (l : Last) (n size opcode : ℕ) (p : Prefixes) (m : ℕ) where
   abbrev placing : Result (Option Raw) DecodeError → State ℕ → Outcome Reading
@@ -191,5 +160,4 @@ encoded_at_position Nowhere n l p operand_list s e h = absurd (h refl)
 encoded_at_position at n l p operand_list s e h = rw e refl
 
 pub rm_in_memory : (w : Width) (p : Prefixes) (m : ℕ) (raw : Raw) → rm_pair w p m (Some raw) ≡ shape raw
-rm_in_memory width.Mm p m raw = refl
-rm_in_memory w p m raw = refl
+rm_in_memory w p m raw = grind arith

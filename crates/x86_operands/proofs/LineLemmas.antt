@@ -9,7 +9,6 @@ use Rattle.x86_forms.proofs.FormLemmas.{up_to_seven}
 use denote.Enum.Bare.{sameb, same_true}
 use Rattle.x86_operands.specs.declared.encodings.AfterOpcode.TheVariants as after_opcode
 use Rattle.x86_operands.specs.contracts.encodings.Size.{the_type}
-use Rattle.x86_fields.specs.declared.sizes.Width.TheVariants as width
 use Rattle.x86_operands.specs.declared.lines.TheConstants.{ENCODINGS}
 use Rattle.x86_operands.specs.FormEncodings.{Belongs, Describes, HasSeparatePlan}
 use Rattle.x86_operands.specs.Encodings.{encodings_in, is_described, is_sound, last_encoding, plan_of, reg_encoding, restricted_plan, rm_encoding, size_at, size_bytes, use_of}
@@ -95,10 +94,7 @@ line_at f n below e d =
 
 -- the plan of a line looks at the number of the opcode byte only for the register of the opcode byte
 reg_by_number : (b : AfterOpcode) (w : Width) (n k : ℕ) (p : Prefixes) → (b ≡ after_opcode.Opcode → n ≡ k) → reg_encoding b w n p ≡ reg_encoding b w k p
-reg_by_number after_opcode.Opcode w n k p same = ap (λ x. reg_encoding after_opcode.Opcode w x p) (same refl)
-reg_by_number after_opcode.Accumulator w n k p same = refl
-reg_by_number b width.Mm n k p same = refl
-reg_by_number b w n k p same = refl
+reg_by_number b w n k p same = grind arith
 
 plan_by_number : (e : FormEncoding) (n k o m : ℕ) (p : Prefixes) → (e.after_opcode ≡ after_opcode.Opcode → n ≡ k) → plan_of e n o p m ≡ plan_of e k o p m
 plan_by_number e n k o m p same =

@@ -1,10 +1,8 @@
 -- The orders of a sound line, and what follows where it accepts.
 use Rattle.std.proofs.Common.{◌≡◌, ℕ, true, false, if◌then◌else◌, ◌&&◌, ◌≢◌, IsTrue, refl, arith}
-use Rattle.std.proofs.lemmas.Bool.{and_parts, eqb-true, not-true}
+use Rattle.std.proofs.lemmas.Bool.{and_parts, eqb-true}
 use Rattle.x86_operands.specs.Vocabulary.{OperandEncodings, Position, First, Second, Third, Nowhere, Order, AfterOpcode, Last, FormEncoding, is_memory}
-use Rattle.x86_operands.specs.declared.encodings.AfterOpcode.TheVariants as after_opcode
 use Rattle.x86_operands.specs.declared.encodings.Last.TheVariants as last
-use Rattle.x86_operands.specs.FormSizes.{lacks_memory}
 use Rattle.x86_operands.specs.Plans.{reads}
 use Rattle.x86_operands.specs.Encodings.{restricted_plan, is_last, has_last, somewhere, is_described, is_sound, is_order_of, is_order, has_modrm, has_register, order_fits, allows}
 
@@ -40,19 +38,10 @@ named_of a b c n h = cc
 -- ---- the verdict
 
 pub accepted : (b : AfterOpcode) (m o size : ℕ) (encodings : OperandEncodings) → allows b o m ≡ true → restricted_plan b m (reads o encodings size) ≡ reads o encodings size
-accepted after_opcode.Memory m o size encodings h = rw h refl
-accepted after_opcode.Registers m o size encodings h = rw (not-true (is_memory m) h) refl
-accepted after_opcode.FormByOpcode m o size encodings h = rw (not-true (lacks_memory o m) h) refl
-accepted b m o size encodings h = refl
+accepted b m o size encodings h = grind arith
 
 pub no_memory : (b : AfterOpcode) (o m : ℕ) → has_modrm b ≡ false → allows b o m ≡ true → is_memory m ≡ false
-no_memory after_opcode.EitherForm o m h a = cc
-no_memory after_opcode.Memory o m h a = cc
-no_memory after_opcode.FormByOpcode o m h a = cc
-no_memory (after_opcode.ByReg g) o m h a = cc
-no_memory (after_opcode.ByPlan u) o m h a = cc
-no_memory after_opcode.Group o m h a = cc
-no_memory b o m h a = not-true (is_memory m) a
+no_memory b o m h a = grind arith
 
 pub no_modrm : (b : AfterOpcode) → has_register b ≡ true → has_modrm b ≡ false
 no_modrm b h = grind arith

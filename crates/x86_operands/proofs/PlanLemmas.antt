@@ -1,5 +1,5 @@
 -- What a plan takes, and where it ends: its pieces, one after another.
-use Rattle.std.proofs.Common.{◌≡◌, ℕ, ◌+◌, Bool, true, false, if◌then◌else◌, List, [], ◌∷◌, ◌++◌, length, map, Option, Some, None, Result, Ok, Err, refl, sym, ap, subst, ◌∙◌, length-append, true≢false}
+use Rattle.std.proofs.Common.{◌≡◌, ℕ, ◌+◌, Bool, true, false, if◌then◌else◌, List, [], ◌∷◌, ◌++◌, length, map, Option, Some, None, Result, Ok, Err, refl, sym, ap, subst, ◌∙◌, length-append, arith}
 use Rattle.std.proofs.lemmas.List.{append-nil}
 use Rattle.x86_operands.specs.Vocabulary.{DecodeError, Prefixes, Raw, Slot, Operand, OperandEncoding, Moment, AtModRM, AfterAddress, AfterSuffix, Fault, BadOpcode, Verdict, NamedBySuffix, Refuses, Plan, Reading, is_memory}
 use Rattle.x86_fields.specs.Raw.{read_raw}
@@ -24,14 +24,9 @@ memory_by false p m is = ends_pure (Only (SpellsMemory p m)) (λ q. EndsBetween 
 ends_memory : (p : Prefixes) (m : ℕ) → EndsWell (Only (SpellsMemory p m)) (λ q. EndsBetween (memory_widths m q) q) (read_memory p m)
 ends_memory p m = memory_by (is_memory m) p m refl
 
-takes_memory_by : (test : Bool) (p : Prefixes) (m : ℕ) (q : List ℕ) (memory : Option Raw) → is_memory m ≡ test → SpellsMemory p m q memory → Takes (if test then (read_raw p m >>= λ raw. pure (Some raw)) else pure None) q (Ok memory)
-takes_memory_by true p m q (Some raw) is h = takes_map (read_raw p m) Some q raw (takes_raw p m q raw h.1)
-takes_memory_by false p m q None is h = subst (λ l. Takes {X = Option Raw} (pure None) l (Ok None)) (sym h.1) (takes_pure (Ok None))
-takes_memory_by true p m q None is h = absurd (true≢false (sym is ∙ h.0))
-takes_memory_by false p m q (Some raw) is h = absurd (true≢false (sym h.0 ∙ is))
-
 takes_memory : (p : Prefixes) (m : ℕ) (q : List ℕ) (memory : Option Raw) → SpellsMemory p m q memory → Takes (read_memory p m) q (Ok memory)
-takes_memory p m q memory h = takes_memory_by (is_memory m) p m q memory refl h
+takes_memory p m q (Some raw) h = rw h.0 (takes_map (read_raw p m) Some q raw (takes_raw p m q raw h.1))
+takes_memory p m q None h = rw h.0 (subst (λ l. Takes {X = Option Raw} (pure None) l (Ok None)) (sym h.1) (takes_pure (Ok None)))
 
 memory_long : (p : Prefixes) (m : ℕ) (q rest : List ℕ) (memory : Option Raw) → SpellsMemory p m q memory → length q ≡ total (memory_widths m (q ++ rest))
 memory_long p m q rest (Some raw) h = raw_long p m q rest raw h.1 ∙ ap (λ b. total (if b then raw_widths m (q ++ rest) else [])) (sym h.0)
@@ -53,12 +48,10 @@ PlanBetween plan m q = EndsBetween (tail_widths plan m q) q
 
 -- a verdict refuses at none of the three moments
 never : (v : Verdict) → refuses_at v AtModRM ≡ false → refuses_at v AfterAddress ≡ false → refuses_at v AfterSuffix ≡ false → is_refusal v ≡ false
-never (Refuses f AtModRM) a b c = cc
-never v a b c = cc
+never v a b c = grind arith
 
 passed : (v : Verdict) (at : Moment) → is_refusal v ≡ false → refuses_at v at ≡ false
-passed (Refuses f moment) at e = cc
-passed v at e = refl
+passed v at e = grind arith
 
 no_suffix_opcode : (v : Verdict) (f : Fault) (at : Moment) (opcode : ℕ) (q : List ℕ) → v ≡ Refuses f at → opcode_by v opcode q ≡ Some opcode
 no_suffix_opcode v f at opcode q e = ap (λ o. opcode_by o opcode q) e

@@ -67,10 +67,7 @@ at_most_four ss = omega arith
 -- ---- ModRM's memory operand
 
 modrm_yields : (s : OperandEncoding) (p : Prefixes) (m : ℕ) (raw : Raw) (bytes : List ℕ) → is_modrm_encoding s ≡ true → operand_from s p m (Some raw) bytes ≡ shape raw
-modrm_yields (E c) p m raw bytes e = refl
-modrm_yields Emm p m raw bytes e = refl
-modrm_yields M p m raw bytes e = refl
-modrm_yields s p m raw bytes e = absurd cc
+modrm_yields s p m raw bytes e = grind arith
 
 abbrev HasShape : List (Slot × Operand) → ℕ → Raw → Type 0
 HasShape xs k raw = (k < length xs) × (pair_at xs k ≡ shape raw)

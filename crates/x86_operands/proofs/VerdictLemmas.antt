@@ -1,7 +1,7 @@
 -- The refusal of a plan at its moment, and the opcode that a suffix names.
 use Rattle.std.proofs.Common.{◌≡◌, ◌≢◌, ℕ, Bool, true, false, if◌then◌else◌, List, [], ◌∷◌, ◌++◌, length, Option, Some, None, Result, Ok, Err, refl, sym, ap, subst, ◌∙◌, arith}
 use Rattle.std.proofs.lemmas.List.{append-nil, nil_from_length}
-use Rattle.x86_operands.specs.Vocabulary.{DecodeError, Moment, AtModRM, AfterAddress, AfterSuffix, Fault, BadOpcode, Verdict, Accepts, NamedBySuffix, Refuses}
+use Rattle.x86_operands.specs.Vocabulary.{DecodeError, Moment, AtModRM, Fault, BadOpcode, Verdict, Accepts, NamedBySuffix, Refuses}
 use Rattle.x86_fields.specs.declared.errors.DecodeError.TheVariants.{ExhaustedInput}
 use Rattle.x86_fields.specs.Steps.{Step, pure, refuse, ◌>>=◌, next_byte}
 use Rattle.x86_fields.proofs.StepLemmas.{Takes, takes_pure, takes_bind, takes_byte}
@@ -11,8 +11,7 @@ use Rattle.x86_operands.specs.PlanSteps.{refuse_at, read_opcode, named_step, sam
 use Rattle.x86_operands.specs.Pieces.{suffix_width, opcode_by}
 
 pub fault_error : (f : Fault) → error_of f ≢ ExhaustedInput
-fault_error BadOpcode e = cc
-fault_error _ e = cc
+fault_error f e = grind arith
 
 -- the error is a fault, and the fault has this property
 abbrev pub Faults : (Fault → Type 0) → DecodeError → Type 0
@@ -33,10 +32,7 @@ IsVerdict v at q (Ok x) = (q ≡ []) × (refuses_at v at ≡ false)
 IsVerdict v at q (Err e) = (q ≡ []) × Faults (λ fault. v ≡ Refuses fault at) e
 
 one_moment : (a b : Moment) → same_moment a b ≡ true → a ≡ b
-one_moment AtModRM AtModRM e = refl
-one_moment AfterAddress AfterAddress e = refl
-one_moment AfterSuffix AfterSuffix e = refl
-one_moment _ _ e = cc
+one_moment a b e = grind arith
 
 verdict_by : (test : Bool) (f : Fault) (moment at : Moment) → same_moment moment at ≡ test → EndsWell (IsVerdict (Refuses f moment) at) Never (if test then refuse (error_of f) else pure tt)
 verdict_by true f moment at e = ends_refuse (IsVerdict (Refuses f moment) at) Never (error_of f) (fault_error f) (refl, (f, refl, ap (λ a. Refuses f a) (one_moment moment at e)))
