@@ -1,5 +1,5 @@
 -- What holds of the records of all groups.
-use Rattle.std.proofs.Common.{◌≡◌, ◌≢◌, ◌≤◌, inl, inr, Err, ℕ, nat_le, Bool, true, false, not, ◌&&◌, ◌||◌, Some, None, if◌then◌else◌, refl, sym, subst, ap, ◌∙◌, true≢false}
+use Rattle.std.proofs.Common.{◌≡◌, ◌≢◌, ◌≤◌, inl, inr, Err, ℕ, nat_le, Bool, true, false, not, ◌&&◌, ◌||◌, Some, None, if◌then◌else◌, refl, sym, subst, ap, ◌∙◌, true≢false, arith}
 use Rattle.x86_arch.specs.Reader.{State}
 use Rattle.x86_fields.specs.declared.errors.DecodeError.TheVariants.{IncompleteDecoder}
 use Rattle.x86_groups.specs.Vocabulary.{Prefixes, Form, TableRow, BadOpcode, Incomplete, Plan, Moment, AfterAddress, AtModRM, Keeps, reg_field, Letters, RowSize, Name}
@@ -27,8 +27,7 @@ unfolding group_record
 group_narrow strict row p m = at_most_8 (may_have_gap row.form) (group_form_plan row.form row.opcode strict p m) (group_passes row.form row.opcode strict p m)
 
 opcode_fault : (b : Bool) → (if b then None else Some BadOpcode) ≢ Some Incomplete
-opcode_fault true e = absurd cc
-opcode_fault false e = absurd cc
+opcode_fault b e = grind arith
 
 fault_of : (f : Form) (p : Prefixes) → group_fault f p ≢ Some Incomplete
 unfolding fault_f30f3af0
@@ -63,10 +62,7 @@ gap_form strict row p m w group e =
 last_of_8f : (first second third : Bool) (a b : Letters) (x y z w : RowSize) (o : ℕ) (p : Prefixes) (m : ℕ) (at : Moment) →
     (plan_of_row (if first then content.Reads (Name POP) a x y Keeps else (if second then content.Reads (Name POP) b z w Keeps else (if third then content.Refuses Incomplete AfterAddress else content.Refuses BadOpcode AtModRM))) o p m).verdict ≡ Refuses Incomplete at
     → (second ≡ false) × (at ≡ AfterAddress)
-last_of_8f true second third a b x y z w o p m at e = absurd cc
-last_of_8f false true third a b x y z w o p m at e = absurd cc
-last_of_8f false false true a b x y z w o p m at e = (refl, cc)
-last_of_8f false false false a b x y z w o p m at e = absurd cc
+last_of_8f first second third a b x y z w o p m at e = (grind arith, grind arith)
 
 abbrev is_reg_0 : ℕ → Bool
 is_reg_0 reg = nat_le 0 reg && (nat_le reg 0 && true)

@@ -29,8 +29,7 @@ abbrev Cell : RegGroup → RegLine → ℕ → Type 0
 Cell g d k = (m : ℕ) → reg_field m ≡ k → Chooses g m (named (line_at (place_of g) k d).number) (line_at (place_of g) k d).encoding
 
 sized : (b : Bool) (x y : Size) (o : ℕ) (p : Prefixes) → size_bytes (if b then x else y) o p ≡ (if b then size_bytes x o p else size_bytes y o p)
-sized true x y o p = refl
-sized false x y o p = refl
+sized b x y o p = grind arith
 
 below_8 : (P : ℕ → Type 0) → P 0 → P 1 → P 2 → P 3 → P 4 → P 5 → P 6 → P 7 → (k : ℕ) → k < 8 → P k
 below_8 P a b c d e f g h zero low = a
@@ -93,8 +92,7 @@ no_own_content (Reads names operands memory register change) = no_own names
 no_own_content (Refuses fault moment) = true
 
 own_names : (names : Names) (a b m : ℕ) → no_own names ≡ true → opcode_of names a m ≡ opcode_of names b m
-own_names Own a b m h = absurd (true≢false (sym h))
-own_names names a b m h = refl
+own_names names a b m h = grind arith
 
 own_free : (content : Content) (a b : ℕ) (p : Prefixes) (m : ℕ) → no_own_content content ≡ true → plan_of_row content a p m ≡ plan_of_row content b p m
 own_free (Reads names operands memory register change) a b p m h = rw (own_names names a b m h) refl

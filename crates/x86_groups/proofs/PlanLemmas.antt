@@ -3,14 +3,13 @@ use Rattle.std.proofs.Common.{◌≡◌, inl, inr, ◌≤◌, ℕ, nat_lt, Bool,
 use Rattle.std.specs.List.{list_all}
 use Rattle.std.proofs.lemmas.Bool.{and_parts, or_cases}
 use Rattle.std.proofs.lemmas.Bool.Decides.{nat_tests}
-use Rattle.x86_groups.specs.Vocabulary.{RegisterClass, Prefixes, Width, Form, BadOpcode, AtModRM, reg_field, is_memory, has_r, has_w, repnz, rep, class_of, v_class, Letter, Letters, RowSize, Bytes, Of, Names, BySuffix, ByReg, ByRm, Content, Reads, Refuses}
-use Rattle.x86_regs.specs.declared.RegisterClass.TheVariants as class
+use Rattle.x86_groups.specs.Vocabulary.{RegisterClass, Prefixes, Width, Form, BadOpcode, AtModRM, reg_field, is_memory, has_r, has_w, repnz, rep, class_of, v_class, Letter, Letters, RowSize, Bytes, Of, Names, Content, Reads, Refuses}
 use Rattle.x86_fields.specs.declared.sizes.Width.TheVariants as width
 use Rattle.x86_fields.specs.Pieces.{total}
 use Rattle.x86_operands.specs.Asks.{immediate_width}
 use Rattle.x86_operands.specs.Plans.{immediate_of, size_by}
 use Rattle.x86_operands.proofs.PlanTests.{passes, narrow, has_gap, is_gap, small_if, small_width, plan_passes}
-use Rattle.x86_groups.specs.Columns.{choose, seen_at, distance_of, letter_encoding, operand_encodings, row_bytes, verdict_of, opcode_of, named, name_at, plan_of_row}
+use Rattle.x86_groups.specs.Columns.{choose, seen_at, distance_of, letter_encoding, operand_encodings, row_bytes, verdict_of, opcode_of, plan_of_row}
 use Rattle.x86_groups.specs.declared.letters.Letter.TheVariants as letter
 use Rattle.x86_groups.specs.declared.letters.Letters.TheVariants as letters
 use Rattle.x86_groups.specs.Groups.{group_form_plan}
@@ -21,13 +20,10 @@ use Rattle.x86_groups.proofs.FactLemmas.{letters_list, may_have_gap, most, small
 -- ---- the tests of plans
 
 immediate_most : (c : RegisterClass) → immediate_width (immediate_of c) ≤ 4
-immediate_most class.W = omega arith
-immediate_most class.Q = omega arith
-immediate_most c = omega arith
+immediate_most c = grind arith
 
 distance_most : (c : RegisterClass) → immediate_width (distance_of c) ≤ 4
-distance_most class.W = omega arith
-distance_most c = omega arith
+distance_most c = grind arith
 
 encoding_most : (l : Letter) (p : Prefixes) (m : ℕ) → immediate_width (letter_encoding l p m) ≤ most l
 encoding_most letter.Iv p m = immediate_most (v_class p)
@@ -47,8 +43,7 @@ bytes_small (Bytes n) p h = h
 bytes_small (Of w) p h = small_width (class_of w p)
 
 no_gap_named : (names : Names) → not (has_gap (verdict_of names)) ≡ true
-no_gap_named BySuffix = refl
-no_gap_named names = refl
+no_gap_named names = grind arith
 
 refusal_passes : (gaps gap : Bool) → (gaps || not gap) ≡ true → (((gaps || not gap) && true) && true) ≡ true
 refusal_passes gaps gap h = rw h refl
@@ -83,11 +78,7 @@ pub record SamePrefixes (p q : Prefixes) : Type 0 where
   pub r : has_r p ≡ has_r q
 
 class_alike : (w : Width) (p q : Prefixes) → SamePrefixes p q → class_of w p ≡ class_of w q
-class_alike width.V p q h = rw (h.w, h.operand_size) refl
-class_alike width.Vq p q h = rw (h.operand_size) refl
-class_alike width.Vd p q h = rw (h.w, h.operand_size) refl
-class_alike width.Dq p q h = rw (h.w) refl
-class_alike w p q h = refl
+class_alike w p q h = grind arith
 
 module _ (p q : Prefixes) (m n : ℕ) (h : SamePrefixes p q) where
   encoding_alike : (l : Letter) → rm_free_letter l ≡ true → letter_encoding l p m ≡ letter_encoding l q n
@@ -121,9 +112,7 @@ module _ (p q : Prefixes) (m n : ℕ) (h : SamePrefixes p q) where
   bytes_alike (Of w) = rw (class_alike w p q h) refl
 
   opcode_alike : (names : Names) (own : ℕ) → reg_field m ≡ reg_field n → no_rm_names names ≡ true → opcode_of names own m ≡ opcode_of names own n
-  opcode_alike (ByReg names) own same e = ap (λ k. named (name_at names k)) same
-  opcode_alike (ByRm names) own same e = absurd (true≢false (sym e))
-  opcode_alike names own same e = refl
+  opcode_alike names own same e = grind arith
 
   content_alike : (content : Content) (own : ℕ) → reg_field m ≡ reg_field n → is_memory m ≡ is_memory n → in_memory content ≡ true → plan_of_row content own p m ≡ plan_of_row content own q n
   content_alike (Reads names operands memory register change) own same mem e =
