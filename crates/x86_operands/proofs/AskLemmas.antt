@@ -1,10 +1,8 @@
 -- What a line of the operand encodings has is what its plan has.
-use Rattle.std.proofs.Common.{◌≡◌, ℕ, Bool, true, false, not, if◌then◌else◌, refl, ap, ◌∙◌, arith}
-use Rattle.x86_operands.specs.Vocabulary.{Prefixes, Ask, AfterOpcode, FormEncoding, Width, Order, Fault, ModrmUse, Moment, OperandEncoding, OperandEncodings, Accepts, Refuses, is_memory}
-use Rattle.x86_operands.specs.declared.encodings.AfterOpcode.TheVariants as after_opcode
-use Rattle.x86_operands.specs.Asks.{uses_modrm, uses_suffix, immediates_width, plan_ask, encoding_ask, immediate_width}
+use Rattle.std.proofs.Common.{◌≡◌, ℕ, true, false, if◌then◌else◌, ap, ◌∙◌, arith}
+use Rattle.x86_operands.specs.Vocabulary.{Prefixes, Ask, AfterOpcode, FormEncoding, Width, Order, ModrmUse, OperandEncoding, OperandEncodings, is_memory}
+use Rattle.x86_operands.specs.Asks.{uses_modrm, immediates_width, plan_ask, encoding_ask, immediate_width}
 use Rattle.x86_operands.specs.Encodings.{size_bytes, is_sound, restricted_plan, last_encoding, plan_of, reg_encoding, rm_encoding, encodings_in, size_at, somewhere, use_of}
-use Rattle.x86_operands.specs.FormSizes.{lacks_memory}
 use Rattle.x86_operands.specs.Plans.{reads}
 use Rattle.x86_operands.proofs.OrderLemmas.{Named, named_of, sound_parts, no_named}
 
@@ -24,14 +22,8 @@ width_in h a b c ha hb = omega arith
 abbrev AskWith : ModrmUse → ℕ → ℕ → Ask
 AskWith usage m n = record { modrm = uses_modrm usage; memory = is_memory m; immediate = n; suffix = false }
 
-no_suffix : (test : Bool) (fault : Fault) (moment : Moment) → uses_suffix (if test then Refuses fault moment else Accepts) ≡ false
-no_suffix test fault moment = grind arith
-
 restricted_ask : (b : AfterOpcode) (usage : ModrmUse) (m opcode size : ℕ) (encodings : OperandEncodings) → plan_ask usage m (restricted_plan b m (reads opcode encodings size)) ≡ AskWith usage m (immediates_width encodings)
-restricted_ask after_opcode.Memory usage m opcode size encodings = ap (λ s. record { modrm = uses_modrm usage; memory = is_memory m; immediate = immediates_width encodings; suffix = s }) (no_suffix (not (is_memory m)) _ _)
-restricted_ask after_opcode.Registers usage m opcode size encodings = ap (λ s. record { modrm = uses_modrm usage; memory = is_memory m; immediate = immediates_width encodings; suffix = s }) (no_suffix (is_memory m) _ _)
-restricted_ask after_opcode.FormByOpcode usage m opcode size encodings = ap (λ s. record { modrm = uses_modrm usage; memory = is_memory m; immediate = immediates_width encodings; suffix = s }) (no_suffix (lacks_memory opcode m) _ _)
-restricted_ask b usage m opcode size encodings = refl
+restricted_ask b usage m opcode size encodings = grind arith
 
 pub encoding_has_ask : (e : FormEncoding) (n opcode : ℕ) (p : Prefixes) (m : ℕ) → is_sound e ≡ true → plan_ask (use_of e.after_opcode) m (plan_of e n opcode p m) ≡ encoding_ask e p m
 encoding_has_ask e n opcode p m h =

@@ -63,8 +63,7 @@ in_order (Err e) no_named t a b c x y size opcode p m memory ha hb s hc = refl
 in_order r h t a b c x y size opcode p m memory ha hb s hc = simp (ha, hb, hc)
 
 last_is : (at : Position) (l : Last) (p : Prefixes) (operand_list : Operands) (s : State ℕ) → last_put at (operand_step (last_encoding l p) p absent_modrm None s).answer (operand_step (last_encoding l p) p absent_modrm None s).after operand_list s ≡ last_read at l p operand_list s
-last_is Nowhere l p operand_list s = refl
-last_is at l p operand_list s = refl
+last_is at l p operand_list s = grind arith
 
 -- the operands after memory, at any encoding
 memory_following : (b : AfterOpcode) (o : Order) (wr we : Width) (l : Last) (n size opcode : ℕ) (p : Prefixes) (m : ℕ) (memory : Option Raw) → Named o → (s : State ℕ) →

@@ -1,8 +1,7 @@
 -- Tests of plans, that hold of a choice where they hold of both sides.
-use Rattle.std.proofs.Common.{◌≡◌, ◌≢◌, ◌≤◌, ◌+◌, ℕ, nat_lt, Bool, true, false, not, ◌&&◌, ◌||◌, if◌then◌else◌, rules, arith, refl, ap}
-use Rattle.std.proofs.lemmas.Bool.{and_parts}
+use Rattle.std.proofs.Common.{◌≡◌, ◌≢◌, ◌≤◌, ◌+◌, ℕ, nat_lt, Bool, true, false, not, ◌&&◌, ◌||◌, if◌then◌else◌, rules, arith, ap}
 use Rattle.std.proofs.lemmas.Bool.Decides.{nat_tests}
-use Rattle.x86_operands.specs.Vocabulary.{RegisterClass, Fault, Incomplete, Moment, Verdict, Refuses, Plan, PrefixChange, OperandEncoding, I8, OperandEncodings, One, Two, Three, width_of}
+use Rattle.x86_operands.specs.Vocabulary.{RegisterClass, Fault, Incomplete, Moment, Verdict, Refuses, Plan, PrefixChange, OperandEncoding, OperandEncodings, One, Two, Three, width_of}
 use Rattle.x86_operands.specs.Asks.{immediate_width, immediates_width}
 use Rattle.x86_opcodes.specs.declared.Opcode.{Opcode}
 
@@ -24,8 +23,7 @@ unfoldable pub passes : Bool → Plan → Bool
 passes gaps plan = ((gaps || not (has_gap plan.verdict)) && nat_lt plan.size 65) && narrow plan.encodings
 
 width_small : (s : OperandEncoding) → nat_lt (immediate_width s) 9 ≡ true
-width_small I8 = refl
-width_small s = refl
+width_small s = grind arith
 
 small_sum : (n w : ℕ) → n ≡ w → nat_lt w 9 ≡ true → nat_lt n 9 ≡ true
 small_sum n w e h = rw e h
@@ -65,8 +63,7 @@ pub small_width : (c : RegisterClass) → nat_lt (width_of c) 65 ≡ true
 small_width c = search rules
 
 or_true : (a b : Bool) → b ≡ true → (a || b) ≡ true
-or_true true b h = refl
-or_true false b h = h
+or_true a b h = grind arith
 
 pub both : (a b : Bool) → a ≡ true → b ≡ true → (a && b) ≡ true
 both a b p q = cc
@@ -86,26 +83,16 @@ pub ruleset small_steps = (either_passes, plan_passes, small_if, small_width, no
 
 -- the three tests that a plan passes
 module _ (gaps : Bool) (plan : Plan) (h : passes gaps plan ≡ true) where
-  first_two : ((gaps || not (has_gap plan.verdict)) && nat_lt plan.size 65) ≡ true
-  unfolding passes
-  first_two = (and_parts ((gaps || not (has_gap plan.verdict)) && nat_lt plan.size 65) (narrow plan.encodings) h).0
-
-  closed_gap : (gaps || not (has_gap plan.verdict)) ≡ true
-  closed_gap = (and_parts (gaps || not (has_gap plan.verdict)) (nat_lt plan.size 65) first_two).0
-
   pub at_most_64 : plan.size ≤ 64
-  at_most_64 =
-      let small : nat_lt plan.size 65 ≡ true = (and_parts (gaps || not (has_gap plan.verdict)) (nat_lt plan.size 65) first_two).1 in
-      grind (arith, nat_tests)
+  unfolding passes
+  at_most_64 = grind (arith, nat_tests)
 
   pub at_most_8 : immediates_width plan.encodings ≤ 8
   unfolding passes narrow
-  at_most_8 =
-      let small : nat_lt (immediates_width plan.encodings) 9 ≡ true = (and_parts ((gaps || not (has_gap plan.verdict)) && nat_lt plan.size 65) (narrow plan.encodings) h).1 in
-      grind (arith, nat_tests)
+  at_most_8 = grind (arith, nat_tests)
 
 pub without_gap : (plan : Plan) (w : Moment) → passes false plan ≡ true → plan.verdict ≢ Refuses Incomplete w
+unfolding passes
 without_gap plan w h e =
     let gap : has_gap plan.verdict ≡ true = ap has_gap e in
-    let none : not (has_gap plan.verdict) ≡ true = closed_gap false plan h in
-    absurd cc
+    grind arith

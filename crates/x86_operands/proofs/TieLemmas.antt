@@ -1,6 +1,6 @@
 -- What the pieces of a row yield: tied slots and operands, and the shape of the raw fields.
-use Rattle.std.proofs.Common.{◌≡◌, ℕ, zero, suc, ◌<◌, ◌≤◌, Bool, true, false, if◌then◌else◌, List, [], ◌∷◌, length, Option, Some, None, ℤ, Ok, slice_index_or, refl, sym, ap, subst, ◌∙◌, arith}
-use Rattle.x86_operands.specs.Vocabulary.{RegSpec, Prefixes, Raw, Slot, Operand, OperandEncoding, E, Emm, M, U, Umm, Fixed, Pointer, OperandEncodings, Zero, Plan, Reading, is_zero}
+use Rattle.std.proofs.Common.{◌≡◌, ℕ, zero, suc, ◌<◌, ◌≤◌, true, List, [], ◌∷◌, length, Option, Some, None, ℤ, Ok, slice_index_or, refl, sym, ap, subst, ◌∙◌, arith}
+use Rattle.x86_operands.specs.Vocabulary.{RegSpec, Prefixes, Raw, Slot, Operand, OperandEncoding, E, Emm, M, U, Umm, Fixed, Pointer, OperandEncodings, Plan, Reading}
 use Rattle.x86_arch.specs.Reader.{State}
 use Rattle.x86_fields.specs.Address.{base_of, index_of, scale_by}
 use Rattle.x86_operands.specs.declared.operands.Slot.TheVariants as slots
@@ -20,15 +20,8 @@ use Rattle.x86_operands.proofs.RowLemmas.{row_read}
 abbrev IsTied : Slot × Operand → Type 0
 IsTied x = (is_decoded x.1 ≡ true) × (suits x.0 x.1 ≡ true)
 
-by_zero : (t : Bool) (x y : Slot × Operand) → IsTied x → IsTied y → IsTied (if t then x else y)
-by_zero true x y h k = h
-by_zero false x y h k = k
-
 shape_by_tied : (b i : Option RegSpec) (s : ℕ) (d : ℤ) → IsTied (shape_by b i s d)
-shape_by_tied (Some b) (Some i) s d = by_zero (is_zero d) _ _ (refl, refl) (refl, refl)
-shape_by_tied (Some b) None s d = by_zero (is_zero d) _ _ (refl, refl) (refl, refl)
-shape_by_tied None (Some i) s d = by_zero (is_zero d) _ _ (refl, refl) (refl, refl)
-shape_by_tied None None s d = (refl, refl)
+shape_by_tied b i s d = (grind arith, grind arith)
 
 shape_tied : (raw : Raw) → IsTied (shape raw)
 unfolding shape
@@ -61,8 +54,7 @@ operands_tied (s ∷ rest) p m memory bytes operand_pairs h =
     (ap length h.yields ∙ omega arith, subst pairs_tied (sym h.yields) (cons_tied (operand_from s p m memory h.immediate) h.others (operand_tied s p m memory h.immediate) t.1))
 
 at_most_four : (ss : OperandEncodings) → length (list_of ss) ≤ 4
-at_most_four Zero = omega arith
-at_most_four ss = omega arith
+at_most_four ss = grind arith
 
 -- ---- ModRM's memory operand
 

@@ -1,7 +1,7 @@
 -- The refusal of a plan at its moment, and the opcode that a suffix names.
 use Rattle.std.proofs.Common.{◌≡◌, ◌≢◌, ℕ, Bool, true, false, if◌then◌else◌, List, [], ◌∷◌, ◌++◌, length, Option, Some, None, Result, Ok, Err, refl, sym, ap, subst, ◌∙◌, arith}
 use Rattle.std.proofs.lemmas.List.{append-nil, nil_from_length}
-use Rattle.x86_operands.specs.Vocabulary.{DecodeError, Moment, AtModRM, Fault, BadOpcode, Verdict, Accepts, NamedBySuffix, Refuses}
+use Rattle.x86_operands.specs.Vocabulary.{DecodeError, Moment, Fault, BadOpcode, Verdict, Accepts, NamedBySuffix, Refuses}
 use Rattle.x86_fields.specs.declared.errors.DecodeError.TheVariants.{ExhaustedInput}
 use Rattle.x86_fields.specs.Steps.{Step, pure, refuse, ◌>>=◌, next_byte}
 use Rattle.x86_fields.proofs.StepLemmas.{Takes, takes_pure, takes_bind, takes_byte}
@@ -47,8 +47,7 @@ takes_passed (Refuses f moment) at e = rw e (takes_pure (Ok tt))
 takes_passed v at e = takes_pure (Ok tt)
 
 same_self : (at : Moment) → same_moment at at ≡ true
-same_self AtModRM = refl
-same_self at = refl
+same_self at = grind arith
 
 pub takes_refused : (v : Verdict) (f : Fault) (at : Moment) → v ≡ Refuses f at → Takes (refuse_at v at) [] (Err (error_of f))
 takes_refused v f at e = rw (e, same_self at) (takes_pure (Err (error_of f)))
