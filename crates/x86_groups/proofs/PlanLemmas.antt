@@ -3,14 +3,12 @@ use Rattle.std.proofs.Common.{◌≡◌, inl, inr, ◌≤◌, ℕ, nat_lt, Bool,
 use Rattle.std.specs.List.{list_all}
 use Rattle.std.proofs.lemmas.Bool.{and_parts, or_cases}
 use Rattle.std.proofs.lemmas.Bool.Decides.{nat_tests}
-use Rattle.x86_groups.specs.Vocabulary.{RegisterClass, Prefixes, Width, Form, BadOpcode, AtModRM, reg_field, is_memory, has_r, has_w, repnz, rep, class_of, v_class, Letter, Letters, RowSize, Bytes, Of, Names, Content, Reads, Refuses}
-use Rattle.x86_fields.specs.declared.sizes.Width.TheVariants as width
+use Rattle.x86_groups.specs.Vocabulary.{Prefixes, Width, Form, BadOpcode, AtModRM, reg_field, is_memory, has_r, has_w, repnz, rep, class_of, Letter, Letters, RowSize, Bytes, Of, Names, Content, Reads, Refuses}
 use Rattle.x86_fields.specs.Pieces.{total}
 use Rattle.x86_operands.specs.Asks.{immediate_width}
-use Rattle.x86_operands.specs.Plans.{immediate_of, size_by}
+use Rattle.x86_operands.specs.Plans.{size_by}
 use Rattle.x86_operands.proofs.PlanTests.{passes, narrow, has_gap, is_gap, small_if, small_width, plan_passes}
-use Rattle.x86_groups.specs.Columns.{choose, seen_at, distance_of, letter_encoding, operand_encodings, row_bytes, verdict_of, opcode_of, plan_of_row}
-use Rattle.x86_groups.specs.declared.letters.Letter.TheVariants as letter
+use Rattle.x86_groups.specs.Columns.{choose, seen_at, letter_encoding, operand_encodings, row_bytes, verdict_of, opcode_of, plan_of_row}
 use Rattle.x86_groups.specs.declared.letters.Letters.TheVariants as letters
 use Rattle.x86_groups.specs.Groups.{group_form_plan}
 use Rattle.x86_groups.specs.Rows.{group_rows}
@@ -19,16 +17,8 @@ use Rattle.x86_groups.proofs.FactLemmas.{letters_list, may_have_gap, most, small
 
 -- ---- the tests of plans
 
-immediate_most : (c : RegisterClass) → immediate_width (immediate_of c) ≤ 4
-immediate_most c = grind arith
-
-distance_most : (c : RegisterClass) → immediate_width (distance_of c) ≤ 4
-distance_most c = grind arith
-
 encoding_most : (l : Letter) (p : Prefixes) (m : ℕ) → immediate_width (letter_encoding l p m) ≤ most l
-encoding_most letter.Iv p m = immediate_most (v_class p)
-encoding_most letter.Jv p m = distance_most (v_class p)
-encoding_most l p m = omega arith
+encoding_most l p m = grind arith
 
 encodings_narrow : (operands : Letters) (p : Prefixes) (m : ℕ) → nat_lt (total (map most (letters_list operands))) 9 ≡ true → narrow (operand_encodings operands p m) ≡ true
 unfolding narrow
@@ -59,8 +49,7 @@ content_passes gaps (Reads names operands memory register change) own p m h =
 content_passes gaps (Refuses fault moment) own p m h = refusal_passes gaps (is_gap fault) h
 
 blank_fits : (gaps : Bool) → fits gaps (Refuses BadOpcode AtModRM) ≡ true
-blank_fits true = refl
-blank_fits false = refl
+blank_fits gaps = grind arith
 
 pub group_passes : (f : Form) (o : ℕ) (strict : Bool) (p : Prefixes) (m : ℕ) → passes (may_have_gap f) (group_form_plan f o strict p m) ≡ true
 unfolding group_form_plan
@@ -82,14 +71,7 @@ class_alike w p q h = grind arith
 
 module _ (p q : Prefixes) (m n : ℕ) (h : SamePrefixes p q) where
   encoding_alike : (l : Letter) → rm_free_letter l ≡ true → letter_encoding l p m ≡ letter_encoding l q n
-  encoding_alike (letter.E w) e = rw (class_alike w p q h) refl
-  encoding_alike (letter.G w) e = rw (class_alike w p q h) refl
-  encoding_alike (letter.U w) e = rw (class_alike w p q h) refl
-  encoding_alike letter.Iv e = ap immediate_of (class_alike width.V p q h)
-  encoding_alike letter.Jv e = ap distance_of (class_alike width.V p q h)
-  encoding_alike letter.StRm e = absurd (true≢false (sym e))
-  encoding_alike letter.RdInReg e = absurd (true≢false (sym e))
-  encoding_alike l e = refl
+  encoding_alike l e = grind (arith, class_alike)
 
   first_alike : (l : Letter) (rest : Bool) → (rm_free_letter l && rest) ≡ true → letter_encoding l p m ≡ letter_encoding l q n
   first_alike l rest e = encoding_alike l (and_parts (rm_free_letter l) rest e).0

@@ -1,5 +1,5 @@
 -- The records of groups whose lines reg alone chooses.
-use Rattle.std.proofs.Common.{◌≡◌, ℕ, Bool, true, None, Result, Ok, Err, refl, ap, ◌∙◌}
+use Rattle.std.proofs.Common.{◌≡◌, ℕ, Bool, true, None, Result, Ok, Err, refl, ap, ◌∙◌, arith}
 use Rattle.x86_arch.specs.Reader.{State}
 use Rattle.x86_groups.specs.Vocabulary.{Prefixes, TableRow, RegGroup, DecodeError, Form, EitherForm, Plan}
 use Rattle.x86_operands.specs.declared.encodings.RegGroup.TheVariants as group
@@ -23,8 +23,7 @@ reg_form group.G80 f e = rw e (refl, refl, refl)
 reg_form g f e = rw e (refl, refl, refl)
 
 fault_of_form : (g : RegGroup) (f : Form) (p : Prefixes) → f ≡ group_form g → group_fault f p ≡ None
-fault_of_form group.G80 f p e = rw e refl
-fault_of_form g f p e = rw e refl
+fault_of_form g f p e = grind arith
 
 same_following : (r : Result ℕ DecodeError) (s : State ℕ) (p : Prefixes) (a b : ℕ → Plan) → ((m : ℕ) → a m ≡ b m) → then_from r s (λ m. read_plan (a m) p m) ≡ then_from r s (λ m. read_plan (b m) p m)
 same_following (Ok m) s p a b same = ap (λ plan. read_plan plan p m s) (same m)

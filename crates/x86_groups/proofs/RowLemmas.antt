@@ -66,8 +66,7 @@ names_alike : (names : Names) (s t : Seen) → AreAlike s t → no_rm_names name
 names_alike names s t h e = grind arith
 
 named_alike : (content : Content) (s t : Seen) → AreAlike s t → no_rm_content content ≡ true → is_named content s ≡ is_named content t
-named_alike (Reads names operands memory register change) s t h e = names_alike names s t h e
-named_alike (Refuses fault moment) s t h e = refl
+named_alike content s t h e = grind (arith, names_alike)
 
 holds_by : (row : GroupRow) (s t : Seen) → AreAlike s t → is_rm row.rm s ≡ is_rm row.rm t → is_named row.content s ≡ is_named row.content t → is_there row s ≡ is_there row t
 holds_by row s t h m n =
