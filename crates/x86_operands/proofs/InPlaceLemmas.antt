@@ -75,12 +75,8 @@ memory_following b o wr we l n size opcode p m memory h s =
 
 -- ---- the memory operand
 
--- a memory operand that fits ModRM
-abbrev Suits : Option Raw → Bool → Type 0
-Suits memory test = is_some memory ≡ test
-
 by_memory : (test : Bool) (p : Prefixes) (m : ℕ) (K L : Result (Option Raw) DecodeError → State ℕ → Outcome Reading) →
-    ((memory : Option Raw) (s : State ℕ) → Suits memory test → K (Ok memory) s ≡ L (Ok memory) s) → ((e : DecodeError) (s : State ℕ) → K (Err e) s ≡ L (Err e) s) → (s : State ℕ) →
+    ((memory : Option Raw) (s : State ℕ) → is_some memory ≡ test → K (Ok memory) s ≡ L (Ok memory) s) → ((e : DecodeError) (s : State ℕ) → K (Err e) s ≡ L (Err e) s) → (s : State ℕ) →
     (u : Outcome (Option Raw)) → u ≡ (if test then (read_raw p m >>= λ raw. pure (Some raw)) else pure None) s → K u.answer u.after ≡ L u.answer u.after
 by_memory true p m K L ok err s u e = rw e (from_raw (read_raw p m s).answer (read_raw p m s).after)
   where
@@ -94,7 +90,7 @@ by_memory false p m K L ok err s u e = rw e (ok None s refl)
 same_reg : (b : AfterOpcode) (w : Width) (n : ℕ) (p : Prefixes) (m : ℕ) → has_modrm b ≡ true → reg_pair w p m ≡ reg_pair_of b w n p m
 same_reg b w n p m h = grind arith
 
-same_rm : (b : AfterOpcode) (w : Width) (p : Prefixes) (opcode m : ℕ) (memory : Option Raw) → has_modrm b ≡ true → allows b opcode m ≡ true → Suits memory (is_memory m) → rm_pair w p m memory ≡ rm_pair_of b w p m memory
+same_rm : (b : AfterOpcode) (w : Width) (p : Prefixes) (opcode m : ℕ) (memory : Option Raw) → has_modrm b ≡ true → allows b opcode m ≡ true → is_some memory ≡ is_memory m → rm_pair w p m memory ≡ rm_pair_of b w p m memory
 same_rm b w p opcode m memory h a e = grind arith
 
 module _ (b : AfterOpcode) (o : Order) (wr we : Width) (l : Last) (n size opcode : ℕ) (p : Prefixes) (m : ℕ) where
@@ -104,7 +100,7 @@ module _ (b : AfterOpcode) (o : Order) (wr we : Width) (l : Last) (n size opcode
   abbrev planned : Result (Option Raw) DecodeError → State ℕ → Outcome Reading
   planned r t = ((λ _. outcome r t) >>= λ memory. filled_step (list_of (encodings_in o (reg_encoding b wr n p) (rm_encoding b we p) (last_encoding l p))) p m memory >>= λ operand_list. pure (reading_from (reads opcode (encodings_in o (reg_encoding b wr n p) (rm_encoding b we p) (last_encoding l p)) size) p opcode operand_list)) t
 
-  there : Named o → has_modrm b ≡ true → allows b opcode m ≡ true → (memory : Option Raw) (t : State ℕ) → Suits memory (is_memory m) → placing (Ok memory) t ≡ planned (Ok memory) t
+  there : Named o → has_modrm b ≡ true → allows b opcode m ≡ true → (memory : Option Raw) (t : State ℕ) → is_some memory ≡ is_memory m → placing (Ok memory) t ≡ planned (Ok memory) t
   there h modrm may memory t e =
       ap (λ x. (last_read o.last l p (put_in o.reg x (put_in o.rm (rm_pair we p m memory) (sized o.count size))) >>= λ operand_list. pure (reading_with opcode p operand_list)) t) (same_reg b wr n p m modrm)
       ∙ ap (λ y. (last_read o.last l p (put_in o.reg (reg_pair_of b wr n p m) (put_in o.rm y (sized o.count size))) >>= λ operand_list. pure (reading_with opcode p operand_list)) t) (same_rm b we p opcode m memory modrm may e)
@@ -155,8 +151,7 @@ plan_is_read e n opcode p m s h f a =
 -- ---- in place
 
 pub encoded_at_position : (at : Position) (n : ℕ) (l : OperandEncoding) (p : Prefixes) (operand_list : Operands) (s : State ℕ) → n ≡ index_of_position at → at ≢ Nowhere → put_encoded n l p absent_modrm None operand_list s ≡ encoded_read at l p operand_list s
-encoded_at_position Nowhere n l p operand_list s e h = absurd (h refl)
-encoded_at_position at n l p operand_list s e h = rw e refl
+encoded_at_position at n l p operand_list s e h = grind arith
 
 pub rm_in_memory : (w : Width) (p : Prefixes) (m : ℕ) (raw : Raw) → rm_pair w p m (Some raw) ≡ shape raw
 rm_in_memory w p m raw = grind arith

@@ -29,12 +29,7 @@ abbrev bytes_by : Bool → Size → Size → ℕ → Prefixes → ℕ
 bytes_by memory x y o p = if sameb the_type x y then size_bytes x o p else (if memory then size_bytes x o p else size_bytes y o p)
 
 bytes_are : (memory : Bool) (x y : Size) (o : ℕ) (p : Prefixes) → size_bytes (if memory then x else y) o p ≡ bytes_by memory x y o p
-bytes_are memory x y o p = by memory (sameb the_type x y) refl
-  where
-    by : (memory same : Bool) → sameb the_type x y ≡ same → size_bytes (if memory then x else y) o p ≡ (if same then size_bytes x o p else (if memory then size_bytes x o p else size_bytes y o p))
-    by false true e = ap (λ z. size_bytes z o p) (sym (same_true the_type tt x y e))
-    by true true e = refl
-    by memory same e = refl
+bytes_are memory x y o p = grind (arith, same_true the_type tt)
 
 abbrev plan_with : FormEncoding → Form → ℕ → Prefixes → ℕ → ℕ → Plan
 plan_with e f o p m size = restricted_plan e.after_opcode m (reads o (encodings_in e.order (reg_encoding e.after_opcode e.reg (carried f) p) (rm_encoding e.after_opcode e.rm p) (last_encoding e.last p)) size)

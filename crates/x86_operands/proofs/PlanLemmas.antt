@@ -13,7 +13,7 @@ use Rattle.x86_operands.specs.PlanSteps.{FilledOperands, operands_step, filled_s
 use Rattle.x86_operands.specs.Asks.{immediate_width}
 use Rattle.x86_operands.specs.Pieces.{SpellsOperands, SpellsMemory, SpellsPieces, SpellsTail, RefusesTail, at_modrm, after_address, after_suffix, no_name, is_refusal, suffix_width, opcode_by, memory_widths, plan_widths, tail_widths}
 use Rattle.x86_operands.proofs.OperandLemmas.{ends_operands, takes_operands, halts_operands}
-use Rattle.x86_operands.proofs.VerdictLemmas.{Faults, Never, refuses_at, IsVerdict, ends_verdict, takes_passed, takes_refused, halts_verdict, passed_other, passed_suffix, fault_error, IsNamed, ends_opcode, takes_opcode, takes_unnamed}
+use Rattle.x86_operands.proofs.VerdictLemmas.{Faults, Never, refuses_at, IsVerdict, ends_verdict, takes_passed, takes_refused, halts_verdict, fault_error, IsNamed, ends_opcode, takes_opcode, takes_unnamed}
 
 -- ---- the memory operand
 
@@ -52,9 +52,6 @@ never v a b c = grind arith
 
 passed : (v : Verdict) (at : Moment) → is_refusal v ≡ false → refuses_at v at ≡ false
 passed v at e = grind arith
-
-no_suffix_opcode : (v : Verdict) (f : Fault) (at : Moment) (opcode : ℕ) (q : List ℕ) → v ≡ Refuses f at → opcode_by v opcode q ≡ Some opcode
-no_suffix_opcode v f at opcode q e = ap (λ o. opcode_by o opcode q) e
 
 module _ (plan : Plan) (p : Prefixes) (m : ℕ) where
   abbrev v : Verdict
@@ -164,8 +161,8 @@ module _ (plan : Plan) (p : Prefixes) (m : ℕ) where
   takes_after_suffix fault tail is s =
       let operand_pairs : FilledOperands = four_of s.operand_pairs in
       let last : Takes (finish_step operand_pairs plan.opcode) [] (Err (error_of fault)) = takes_err (refuse_at v AfterSuffix) (λ _. pure (reading_from plan p plan.opcode operand_pairs)) [] (error_of fault) (takes_refused v fault AfterSuffix is) in
-      let named : Takes (after_operands operand_pairs) (s.suffix ++ []) (Err (error_of fault)) = takes_bind (read_opcode v plan.opcode) (finish_step operand_pairs) s.suffix [] plan.opcode (Err (error_of fault)) (takes_opcode v plan.opcode plan.opcode s.suffix s.suffix_length (no_suffix_opcode v fault AfterSuffix plan.opcode s.suffix is)) last in
-      takes_pieces tail (Err (error_of fault)) s (passed_other v fault AfterSuffix AtModRM is refl) (passed_other v fault AfterSuffix AfterAddress is refl)
+      let named : Takes (after_operands operand_pairs) (s.suffix ++ []) (Err (error_of fault)) = takes_bind (read_opcode v plan.opcode) (finish_step operand_pairs) s.suffix [] plan.opcode (Err (error_of fault)) (takes_opcode v plan.opcode plan.opcode s.suffix s.suffix_length (ap (λ o. opcode_by o plan.opcode s.suffix) is)) last in
+      takes_pieces tail (Err (error_of fault)) s (ap (λ o. refuses_at o AtModRM) is) (ap (λ o. refuses_at o AfterAddress) is)
       (subst (λ l. Takes (after_operands operand_pairs) l (Err (error_of fault))) (append-nil s.suffix) named)
 
   pub takes_tail_refused : (tail : List ℕ) (fault : Fault) → RefusesTail plan p m tail fault → Takes (read_plan plan p m) tail (Err (error_of fault))
@@ -173,13 +170,13 @@ module _ (plan : Plan) (p : Prefixes) (m : ℕ) where
   takes_tail_refused tail fault (at_modrm is none) = subst (λ l. Takes (read_plan plan p m) l (Err (error_of fault))) (sym none)
       (takes_err (refuse_at v AtModRM) (λ _. read_memory p m >>= after_memory) [] (error_of fault) (takes_refused v fault AtModRM is))
   takes_tail_refused tail fault (after_address memory is h) = subst (λ l. Takes (read_plan plan p m) l (Err (error_of fault))) (append-nil tail)
-      (takes_first memory tail [] (Err (error_of fault)) h (passed_other v fault AfterAddress AtModRM is refl)
+      (takes_first memory tail [] (Err (error_of fault)) h (ap (λ o. refuses_at o AtModRM) is)
       (takes_err (refuse_at v AfterAddress) (λ _. after_address_step memory) [] (error_of fault) (takes_refused v fault AfterAddress is)))
   takes_tail_refused tail fault (after_suffix is s) = takes_after_suffix fault tail is s
   takes_tail_refused tail fault (no_name s is none same) =
       let operand_pairs : FilledOperands = four_of s.operand_pairs in
       subst (λ e. Takes (read_plan plan p m) tail (Err e)) (ap error_of (sym same))
-      (takes_pieces tail (Err (error_of BadOpcode)) s (passed_suffix v AtModRM is) (passed_suffix v AfterAddress is)
+      (takes_pieces tail (Err (error_of BadOpcode)) s (ap (λ o. refuses_at o AtModRM) is) (ap (λ o. refuses_at o AfterAddress) is)
       (takes_err (read_opcode v plan.opcode) (finish_step operand_pairs) s.suffix (error_of BadOpcode) (takes_unnamed v plan.opcode s.suffix is s.suffix_length none)))
 
   -- ---- bytes that end between the pieces

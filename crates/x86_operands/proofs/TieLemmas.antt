@@ -1,13 +1,10 @@
 -- What the pieces of a row yield: tied slots and operands, and the shape of the raw fields.
-use Rattle.std.proofs.Common.{◌≡◌, ℕ, zero, suc, ◌<◌, ◌≤◌, true, List, [], ◌∷◌, length, Option, Some, None, ℤ, Ok, slice_index_or, refl, sym, ap, subst, ◌∙◌, arith}
-use Rattle.x86_operands.specs.Vocabulary.{RegSpec, Prefixes, Raw, Slot, Operand, OperandEncoding, E, Emm, M, U, Umm, Fixed, Pointer, OperandEncodings, Plan, Reading}
+use Rattle.std.proofs.Common.{◌≡◌, ℕ, zero, suc, ◌<◌, ◌≤◌, true, List, [], ◌∷◌, length, Option, Some, None, Ok, slice_index_or, refl, sym, ap, subst, ◌∙◌, arith}
+use Rattle.x86_operands.specs.Vocabulary.{Prefixes, Raw, Slot, Operand, OperandEncoding, OperandEncodings, Plan, Reading}
 use Rattle.x86_arch.specs.Reader.{State}
-use Rattle.x86_fields.specs.Address.{base_of, index_of, scale_by}
 use Rattle.x86_operands.specs.declared.operands.Slot.TheVariants as slots
 use Rattle.x86_operands.specs.declared.operands.Operand.TheVariants as operands
-use Rattle.x86_operands.specs.declared.plans.RegisterSlot.TheVariants as reg_slot
-use Rattle.x86_operands.specs.declared.plans.PointerSlot.TheVariants as pointer
-use Rattle.x86_operands.specs.Shape.{shape_by, shape}
+use Rattle.x86_operands.specs.Shape.{shape}
 use Rattle.x86_operands.specs.Plans.{RowRecord, list_of}
 use Rattle.x86_operands.specs.PlanSteps.{pair_at, four_of, record_step}
 use Rattle.x86_operands.specs.Ties.{is_decoded, suits, slot_read, operand_read, AreTied, is_modrm_encoding, names_modrm, encodings_of, HasShapeAt}
@@ -20,22 +17,16 @@ use Rattle.x86_operands.proofs.RowLemmas.{row_read}
 abbrev IsTied : Slot × Operand → Type 0
 IsTied x = (is_decoded x.1 ≡ true) × (suits x.0 x.1 ≡ true)
 
-shape_by_tied : (b i : Option RegSpec) (s : ℕ) (d : ℤ) → IsTied (shape_by b i s d)
-shape_by_tied b i s d = (grind arith, grind arith)
-
-shape_tied : (raw : Raw) → IsTied (shape raw)
+shape_decoded : (raw : Raw) → is_decoded (shape raw).1 ≡ true
 unfolding shape
-shape_tied raw = shape_by_tied (base_of raw) (index_of raw) (scale_by raw.sib) raw.disp
+shape_decoded raw = grind arith
+
+shape_suits : (raw : Raw) → suits (shape raw).0 (shape raw).1 ≡ true
+unfolding shape
+shape_suits raw = grind arith
 
 operand_tied : (s : OperandEncoding) (p : Prefixes) (m : ℕ) (memory : Option Raw) (bytes : List ℕ) → IsTied (operand_from s p m memory bytes)
-operand_tied (E c) p m (Some raw) bytes = shape_tied raw
-operand_tied Emm p m (Some raw) bytes = shape_tied raw
-operand_tied M p m (Some raw) bytes = shape_tied raw
-operand_tied (U c) p m (Some raw) bytes = shape_tied raw
-operand_tied Umm p m (Some raw) bytes = shape_tied raw
-operand_tied (Fixed reg_slot.Reg reg) p m memory bytes = (refl, refl)
-operand_tied (Pointer pointer.Deref reg) p m memory bytes = (refl, refl)
-operand_tied s p m memory bytes = (refl, refl)
+operand_tied s p m memory bytes = (grind (arith, shape_decoded), grind (arith, shape_suits))
 
 -- ---- the operands of a plan
 

@@ -67,12 +67,6 @@ halts_verdict (Refuses fault moment) at f q go = by (same_moment moment at) refl
     by false e = halts_bind (refuse_at v at) f [] q tt (takes_passed v at e) (go e)
 halts_verdict v at f q go = halts_bind (refuse_at v at) f [] q tt (takes_passed v at refl) (go refl)
 
-pub passed_other : (v : Verdict) (f : Fault) (moment at : Moment) → v ≡ Refuses f moment → same_moment moment at ≡ false → refuses_at v at ≡ false
-passed_other v f moment at e d = ap (λ o. refuses_at o at) e ∙ d
-
-pub passed_suffix : (v : Verdict) (at : Moment) → v ≡ NamedBySuffix → refuses_at v at ≡ false
-passed_suffix v at e = ap (λ o. refuses_at o at) e
-
 -- ---- the opcode
 
 abbrev pub IsNamed : Verdict → ℕ → List ℕ → Result ℕ DecodeError → Type 0
@@ -90,23 +84,21 @@ ends_opcode NamedBySuffix opcode = ends_then IsByte IsEmpty (IsNamed NamedBySuff
     (λ q b h. named opcode b q h (suffix_opcode b) refl)
 ends_opcode v opcode = ends_pure (IsNamed v opcode) IsEmpty opcode (refl, refl)
 
-takes_name : (o : Option ℕ) (opcode : ℕ) → o ≡ Some opcode → Takes (named_step o) [] (Ok opcode)
-takes_name o opcode e = subst (λ x. Takes (named_step x) [] (Ok opcode)) (sym e) (takes_pure (Ok opcode))
-
-takes_no_name : (o : Option ℕ) → o ≡ None → Takes (named_step o) [] (Err (error_of BadOpcode))
-takes_no_name o e = subst (λ x. Takes (named_step x) [] (Err (error_of BadOpcode))) (sym e) (takes_pure (Err (error_of BadOpcode)))
-
 takes_itself : (opcode o : ℕ) (q : List ℕ) → length q ≡ 0 → Some opcode ≡ Some o → Takes (pure opcode) q (Ok o)
 takes_itself opcode o q none e =
     let same : opcode ≡ o = cc in
     subst (λ l. Takes (pure opcode) l (Ok o)) (sym (nil_from_length q none)) (subst (λ x. Takes (pure opcode) [] (Ok x)) same (takes_pure (Ok opcode)))
 
 pub takes_opcode : (v : Verdict) (opcode o : ℕ) (q : List ℕ) → length q ≡ suffix_width v → opcode_by v opcode q ≡ Some o → Takes (read_opcode v opcode) q (Ok o)
-takes_opcode NamedBySuffix opcode o (b ∷ []) e h = takes_bind next_byte (λ b. named_step (suffix_opcode b)) (b ∷ []) [] b (Ok o) (takes_byte b) (takes_name (suffix_opcode b) o h)
+takes_opcode NamedBySuffix opcode o (b ∷ []) e h =
+    let name : suffix_opcode b ≡ Some o = h in
+    takes_bind next_byte (λ b. named_step (suffix_opcode b)) (b ∷ []) [] b (Ok o) (takes_byte b) (rw name (takes_pure (Ok o)))
 takes_opcode NamedBySuffix opcode o q e h = absurd (omega arith)
 takes_opcode v opcode o q e h = takes_itself opcode o q e h
 
 pub takes_unnamed : (v : Verdict) (opcode : ℕ) (q : List ℕ) → v ≡ NamedBySuffix → length q ≡ suffix_width v → opcode_by v opcode q ≡ None → Takes (read_opcode v opcode) q (Err (error_of BadOpcode))
-takes_unnamed NamedBySuffix opcode (b ∷ []) is e h = takes_bind next_byte (λ b. named_step (suffix_opcode b)) (b ∷ []) [] b (Err (error_of BadOpcode)) (takes_byte b) (takes_no_name (suffix_opcode b) h)
+takes_unnamed NamedBySuffix opcode (b ∷ []) is e h =
+    let none : suffix_opcode b ≡ None = h in
+    takes_bind next_byte (λ b. named_step (suffix_opcode b)) (b ∷ []) [] b (Err (error_of BadOpcode)) (takes_byte b) (rw none (takes_pure (Err (error_of BadOpcode))))
 takes_unnamed NamedBySuffix opcode q is e h = absurd (omega arith)
 takes_unnamed v opcode q is e h = cc
