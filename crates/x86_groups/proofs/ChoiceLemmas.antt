@@ -1,5 +1,5 @@
 -- The default and the strict choice differ on fences whose rm isn't 0, and on nothing else.
-use Rattle.std.proofs.Common.{◌≡◌, ◌≢◌, ℕ, zero, suc, ◌⊎◌, inl, inr, Bool, true, false, refl, sym, ap, ◌∙◌}
+use Rattle.std.proofs.Common.{◌≡◌, ◌≢◌, ℕ, zero, suc, ◌⊎◌, inl, inr, Bool, true, false, refl, sym, ap, ◌∙◌, arith}
 use Rattle.std.proofs.Math.Dec.{eqb-suc-zero}
 use Rattle.x86_groups.specs.Vocabulary.{Prefixes, TableRow, Form, BadOperand, ModrmUse, AtModRM, has_r, has_w, repnz, rep, reg_field, rm_field, is_memory, Content, Refuses}
 use Rattle.x86_forms.specs.declared.Form.TheVariants as form
@@ -41,10 +41,7 @@ same_or_fence zero _ _ _ _ _ _ _ = inl refl
 
 refused_by : (rm : ℕ) (f2 f3 word memory : Bool) (reg : ℕ) (w r : Bool) → f2 ≡ false → f3 ≡ false → word ≡ false → memory ≡ false → rm ≢ 0 → NamesOne reg → chosen_by true rm f2 f3 word memory reg w r ≡ Refuses BadOperand AtModRM
 unfolding group_rows two_byte_rows
-refused_by zero f2 f3 word memory reg w r a b c d other named = absurd (other refl)
-refused_by (suc n) f2 f3 word memory reg w r a b c d other (inl e) = rw (a, b, c, d, e, eqb-suc-zero n) refl
-refused_by (suc n) f2 f3 word memory reg w r a b c d other (inr (inl e)) = rw (a, b, c, d, e, eqb-suc-zero n) refl
-refused_by (suc n) f2 f3 word memory reg w r a b c d other (inr (inr e)) = rw (a, b, c, d, e, eqb-suc-zero n) refl
+refused_by rm f2 f3 word memory reg w r a b c d other named = grind arith
 
 -- ---- in the words of the contracts
 

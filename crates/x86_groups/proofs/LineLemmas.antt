@@ -25,7 +25,7 @@ place_of g = tag_of the_type g
 abbrev pub line_at : ℕ → ℕ → RegLine → RegLine
 line_at i k d = slice_index_or (slice_index_or REG_LINES.now i []) k d
 
-abbrev Cell : RegGroup → RegLine → ℕ → Type 0
+abbrev pub Cell : RegGroup → RegLine → ℕ → Type 0
 Cell g d k = (m : ℕ) → reg_field m ≡ k → Chooses g m (named (line_at (place_of g) k d).number) (line_at (place_of g) k d).encoding
 
 sized : (b : Bool) (x y : Size) (o : ℕ) (p : Prefixes) → size_bytes (if b then x else y) o p ≡ (if b then size_bytes x o p else size_bytes y o p)
@@ -56,16 +56,13 @@ unfolding group_rows
 jump_by true d m n p r e = rw (r, e) (rw e refl)
 jump_by false d m n p r e = rw (r, e) (rw e refl)
 
-cells : (g : RegGroup) (d : RegLine) (k : ℕ) → k < 8 → Cell g d k
+pub cells : (g : RegGroup) (d : RegLine) (k : ℕ) → k < 8 → Cell g d k
 unfolding group_rows
 cells group.C6 d = below_8 (Cell group.C6 d) (λ m r is n p. rw (sized, r) refl) (λ m r is n p. absurd (true≢false (sym is))) (λ m r is n p. absurd (true≢false (sym is))) (λ m r is n p. absurd (true≢false (sym is))) (λ m r is n p. absurd (true≢false (sym is))) (λ m r is n p. absurd (true≢false (sym is))) (λ m r is n p. absurd (true≢false (sym is))) (λ m r is n p. absurd (true≢false (sym is)))
 cells group.C7 d = below_8 (Cell group.C7 d) (λ m r is n p. rw (sized, r) refl) (λ m r is n p. absurd (true≢false (sym is))) (λ m r is n p. absurd (true≢false (sym is))) (λ m r is n p. absurd (true≢false (sym is))) (λ m r is n p. absurd (true≢false (sym is))) (λ m r is n p. absurd (true≢false (sym is))) (λ m r is n p. absurd (true≢false (sym is))) (λ m r is n p. absurd (true≢false (sym is)))
 cells group.FE d = below_8 (Cell group.FE d) (λ m r is n p. rw (sized, r) (rw r refl)) (λ m r is n p. rw (sized, r) (rw r refl)) (λ m r is n p. absurd (true≢false (sym is))) (λ m r is n p. absurd (true≢false (sym is))) (λ m r is n p. absurd (true≢false (sym is))) (λ m r is n p. absurd (true≢false (sym is))) (λ m r is n p. absurd (true≢false (sym is))) (λ m r is n p. absurd (true≢false (sym is)))
 cells group.FF d = below_8 (Cell group.FF d) (λ m r is n p. rw (sized, r) (rw r refl)) (λ m r is n p. rw (sized, r) (rw r refl)) (λ m r is n p. rw (sized, r) refl) (λ m r is n p. absurd (true≢false (sym is))) (λ m r is n p. jump_by (is_memory m) d m n p r refl) (λ m r is n p. absurd (true≢false (sym is))) (λ m r is n p. push_by p.operand_size (is_memory m) d m n p r refl refl) (λ m r is n p. absurd (true≢false (sym is)))
 cells g d = below_8 (Cell g d) (λ m r is n p. rw (sized, r) (rw r refl)) (λ m r is n p. rw (sized, r) (rw r refl)) (λ m r is n p. rw (sized, r) (rw r refl)) (λ m r is n p. rw (sized, r) (rw r refl)) (λ m r is n p. rw (sized, r) (rw r refl)) (λ m r is n p. rw (sized, r) (rw r refl)) (λ m r is n p. rw (sized, r) (rw r refl)) (λ m r is n p. rw (sized, r) (rw r refl))
-
-pub line_chooses : (g : RegGroup) (m k : ℕ) (d : RegLine) → k ≡ reg_field m → k < 8 → Chooses g m (named (line_at (place_of g) k d).number) (line_at (place_of g) k d).encoding
-line_chooses g m k d e low = cells g d k low m (sym e)
 
 -- each line is sound, and has a ModRM byte of either form unless it leaves all to the rows
 abbrev is_good : RegLine → Bool

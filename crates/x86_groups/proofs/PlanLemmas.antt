@@ -1,15 +1,15 @@
 -- The plan of a row: that it passes the tests of plans, and what it goes by in the memory form.
-use Rattle.std.proofs.Common.{◌≡◌, inl, inr, ◌≤◌, ℕ, nat_lt, Bool, true, false, not, ◌&&◌, ◌||◌, map, refl, sym, ap, ◌∙◌, arith, true≢false}
+use Rattle.std.proofs.Common.{◌&&◌, ◌≡◌, inl, inr, ◌≤◌, ℕ, nat_lt, Bool, true, false, not, ◌||◌, map, refl, sym, ap, ◌∙◌, arith, true≢false}
 use Rattle.std.specs.List.{list_all}
 use Rattle.std.proofs.lemmas.Bool.{and_parts, or_cases}
 use Rattle.std.proofs.lemmas.Bool.Decides.{nat_tests}
-use Rattle.x86_groups.specs.Vocabulary.{Prefixes, Width, Form, BadOpcode, AtModRM, reg_field, is_memory, has_r, has_w, repnz, rep, class_of, Letter, Letters, RowSize, Bytes, Of, Names, Content, Reads, Refuses}
+use Rattle.x86_groups.specs.Vocabulary.{Prefixes, Width, Form, BadOpcode, AtModRM, reg_field, is_memory, has_r, has_w, repnz, rep, class_of, Letter, Letters, RowSize, Names, Content, Reads, Refuses}
 use Rattle.x86_fields.specs.Pieces.{total}
 use Rattle.x86_operands.specs.Asks.{immediate_width}
 use Rattle.x86_operands.specs.Plans.{size_by}
 use Rattle.x86_operands.proofs.PlanTests.{passes, narrow, has_gap, is_gap, small_if, small_width, plan_passes}
-use Rattle.x86_groups.specs.Columns.{choose, seen_at, letter_encoding, operand_encodings, row_bytes, verdict_of, opcode_of, plan_of_row}
 use Rattle.x86_groups.specs.declared.letters.Letters.TheVariants as letters
+use Rattle.x86_groups.specs.Columns.{choose, seen_at, letter_encoding, operand_encodings, row_bytes, verdict_of, opcode_of, plan_of_row}
 use Rattle.x86_groups.specs.Groups.{group_form_plan}
 use Rattle.x86_groups.specs.Rows.{group_rows}
 use Rattle.x86_groups.proofs.RowLemmas.{AreAlike, chosen_has, chosen_alike, held_in_memory, is_register, no_rm_names, rm_free, row_absent}
@@ -22,21 +22,13 @@ encoding_most l p m = grind arith
 
 encodings_narrow : (operands : Letters) (p : Prefixes) (m : ℕ) → nat_lt (total (map most (letters_list operands))) 9 ≡ true → narrow (operand_encodings operands p m) ≡ true
 unfolding narrow
-encodings_narrow letters.Zero p m h = refl
-encodings_narrow (letters.One a) p m h = let x = encoding_most a p m in grind (arith, nat_tests)
-encodings_narrow (letters.Two a b) p m h = let x = encoding_most a p m in let y = encoding_most b p m in grind (arith, nat_tests)
-encodings_narrow (letters.Three a b c) p m h = let x = encoding_most a p m in let y = encoding_most b p m in let z = encoding_most c p m in grind (arith, nat_tests)
-encodings_narrow (letters.Four a b c d) p m h = let x = encoding_most a p m in let y = encoding_most b p m in let z = encoding_most c p m in let w = encoding_most d p m in grind (arith, nat_tests)
+encodings_narrow operands p m h = grind (arith, nat_tests, encoding_most)
 
 bytes_small : (s : RowSize) (p : Prefixes) → small_bytes s ≡ true → nat_lt (row_bytes s p) 65 ≡ true
-bytes_small (Bytes n) p h = h
-bytes_small (Of w) p h = small_width (class_of w p)
+bytes_small s p h = grind (arith, small_width)
 
 no_gap_named : (names : Names) → not (has_gap (verdict_of names)) ≡ true
 no_gap_named names = grind arith
-
-refusal_passes : (gaps gap : Bool) → (gaps || not gap) ≡ true → (((gaps || not gap) && true) && true) ≡ true
-refusal_passes gaps gap h = rw h refl
 
 content_passes : (gaps : Bool) (content : Content) (own : ℕ) (p : Prefixes) (m : ℕ) → fits gaps content ≡ true → passes gaps (plan_of_row content own p m) ≡ true
 unfolding passes narrow
@@ -46,7 +38,7 @@ content_passes gaps (Reads names operands memory register change) own p m h =
     plan_passes gaps (opcode_of names own m) (operand_encodings operands p m) (size_by m (row_bytes memory p) (row_bytes register p)) change (verdict_of names) (no_gap_named names)
     (small_if (is_memory m) (row_bytes memory p) (row_bytes register p) (bytes_small memory p parts.0) (bytes_small register p rest.0))
     (encodings_narrow operands p m rest.1)
-content_passes gaps (Refuses fault moment) own p m h = refusal_passes gaps (is_gap fault) h
+content_passes gaps (Refuses fault moment) own p m h = let fits_here : (gaps || not (is_gap fault)) ≡ true = h in rw fits_here refl
 
 blank_fits : (gaps : Bool) → fits gaps (Refuses BadOpcode AtModRM) ≡ true
 blank_fits gaps = grind arith
@@ -90,8 +82,7 @@ module _ (p q : Prefixes) (m n : ℕ) (h : SamePrefixes p q) where
       rw (first_alike a _ e, first_alike b _ f, first_alike c _ g, first_alike d _ (following c _ g)) refl
 
   bytes_alike : (s : RowSize) → row_bytes s p ≡ row_bytes s q
-  bytes_alike (Bytes k) = refl
-  bytes_alike (Of w) = rw (class_alike w p q h) refl
+  bytes_alike s = grind (arith, class_alike)
 
   opcode_alike : (names : Names) (own : ℕ) → reg_field m ≡ reg_field n → no_rm_names names ≡ true → opcode_of names own m ≡ opcode_of names own n
   opcode_alike names own same e = grind arith

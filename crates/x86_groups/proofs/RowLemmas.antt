@@ -69,11 +69,7 @@ named_alike : (content : Content) (s t : Seen) → AreAlike s t → no_rm_conten
 named_alike content s t h e = grind (arith, names_alike)
 
 holds_by : (row : GroupRow) (s t : Seen) → AreAlike s t → is_rm row.rm s ≡ is_rm row.rm t → is_named row.content s ≡ is_named row.content t → is_there row s ≡ is_there row t
-holds_by row s t h m n =
-    let placed = placed_alike row.place s t h in
-    let prefixed = prefixed_alike row.when s t h in
-    let reg = h.reg in
-    rw (placed, prefixed, m, n, reg) refl
+holds_by row s t h m n = grind (arith, placed_alike, prefixed_alike)
 
 -- ---- the memory form
 
