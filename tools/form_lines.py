@@ -84,8 +84,9 @@ def line(plan, use):
 def lines(forms):
     """The lines of src/lines.rt, for the forms in their order, each with whether it carries a number."""
     text = (OPERANDS / "specs" / "Forms.antt").read_text()
-    plans = dict(re.findall(r"^\w+_plan \(?form\.(\w+)(?: n\))? o p m = (.*)$", text, re.M))
-    bare = {*re.findall(r"^modrm_use \(?form\.(\w+)(?: n\))? = Absent$", text, re.M)}
+    rows = re.findall(r"^\w+_row \(?form\.(\w+)(?: n\))? = (\w+)_modrm \(λ [^.]*\. (.*)\)$", text, re.M)
+    plans = {form: plan for form, _, plan in rows}
+    bare = {form for form, kind, _ in rows if kind == "without"}
     groups = {*re.findall(r"^is_group form\.(\w+) = true$", (FORMS / "specs" / "Groups.antt").read_text(), re.M)}
     answer = [f"    {NONE}, // the number 0, which no form has"]
     for form, carries in forms:

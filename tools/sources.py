@@ -158,7 +158,8 @@ def resolved(path, word):
         return ("type", type_file(words[0], name), name) if words[-1] != "TheConstants" else ("type", path, own)
     if own == "*":
         return ("spec", *definition(module_file(words), rest.split(".")[0])) if rest else None
-    return ("spec", *definition(module_file(words), own))
+    target = module_file(words)
+    return resolved(target, own) if own in module(target).passed_on else ("spec", *definition(target, own))
 
 
 def is_constructor(path, word):

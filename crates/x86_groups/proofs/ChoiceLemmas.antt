@@ -1,20 +1,10 @@
 -- The default and the strict choice differ on fences whose rm isn't 0, and on nothing else.
-use Rattle.std.proofs.Common.{◌≡◌, ◌≢◌, ℕ, zero, suc, ◌⊎◌, inl, inr, Bool, true, false, refl, sym, ap, ◌∙◌}
+use Rattle.std.proofs.Common.{◌≡◌, ◌≢◌, ℕ, zero, suc, ◌⊎◌, inl, inr, Bool, true, false, refl, sym, ap, ◌∙◌, arith}
 use Rattle.std.proofs.Math.Dec.{eqb-suc-zero}
-use Rattle.x86_fields.specs.declared.prefixes.Prefixes.{Prefixes}
-use Rattle.x86_fields.specs.Raw.{has_r, has_w}
-use Rattle.x86_fields.specs.Run.{repnz, rep}
-use Rattle.x86_forms.specs.declared.TableRow.{TableRow}
-use Rattle.x86_forms.specs.declared.Form.{Form}
+use Rattle.x86_groups.specs.Vocabulary.{Prefixes, TableRow, Form, BadOperand, ModrmUse, AtModRM, has_r, has_w, repnz, rep, reg_field, rm_field, is_memory, Content, Refuses}
 use Rattle.x86_forms.specs.declared.Form.TheVariants as form
-use Rattle.x86_fields.specs.ModRM.{reg_field, rm_field, is_memory}
 use Rattle.x86_opcodes.specs.Names.{LFENCE, MFENCE, SFENCE}
-use Rattle.x86_operands.specs.declared.plans.Fault.TheVariants.{BadOperand}
-use Rattle.x86_operands.specs.declared.plans.ModrmUse.{ModrmUse}
-use Rattle.x86_operands.specs.declared.plans.Moment.TheVariants.{AtModRM}
 use Rattle.x86_operands.specs.Asks.{plan_ask}
-use Rattle.x86_groups.specs.declared.rows.Content.{Content}
-use Rattle.x86_groups.specs.declared.rows.Content.TheVariants.{Refuses}
 use Rattle.x86_groups.specs.Columns.{choose, plan_of_row}
 use Rattle.x86_groups.specs.Choices.{NamesFence, lfence, mfence, sfence, IsFenceWithRm}
 use Rattle.x86_groups.specs.Groups.{group_form_plan, group_plan, operandless, bad_operand}
@@ -51,10 +41,7 @@ same_or_fence zero _ _ _ _ _ _ _ = inl refl
 
 refused_by : (rm : ℕ) (f2 f3 word memory : Bool) (reg : ℕ) (w r : Bool) → f2 ≡ false → f3 ≡ false → word ≡ false → memory ≡ false → rm ≢ 0 → NamesOne reg → chosen_by true rm f2 f3 word memory reg w r ≡ Refuses BadOperand AtModRM
 unfolding group_rows two_byte_rows
-refused_by zero f2 f3 word memory reg w r a b c d other named = absurd (other refl)
-refused_by (suc n) f2 f3 word memory reg w r a b c d other (inl e) = rw (a, b, c, d, e, eqb-suc-zero n) refl
-refused_by (suc n) f2 f3 word memory reg w r a b c d other (inr (inl e)) = rw (a, b, c, d, e, eqb-suc-zero n) refl
-refused_by (suc n) f2 f3 word memory reg w r a b c d other (inr (inr e)) = rw (a, b, c, d, e, eqb-suc-zero n) refl
+refused_by rm f2 f3 word memory reg w r a b c d other named = grind arith
 
 -- ---- in the words of the contracts
 

@@ -2,19 +2,12 @@
 use Rattle.std.proofs.Common.{◌≡◌, ℕ, nat_lt, Bool, true, false, not, ◌&&◌, ◌||◌, List, [], ◌∷◌, map, refl}
 use Rattle.std.specs.List.{list_all, list_any}
 use Rattle.x86_fields.specs.Pieces.{total}
-use Rattle.x86_forms.specs.declared.Form.{Form}
+use Rattle.x86_groups.specs.Vocabulary.{Form, Letter, Letters, RowSize, Bytes, Of, Content, Reads, Refuses, GroupRow}
 use Rattle.x86_forms.specs.declared.Form.TheVariants as form
 use Rattle.x86_forms.specs.Groups.{is_group}
 use Rattle.x86_operands.proofs.PlanTests.{is_gap}
-use Rattle.x86_groups.specs.declared.letters.Letter.{Letter}
 use Rattle.x86_groups.specs.declared.letters.Letter.TheVariants as letter
-use Rattle.x86_groups.specs.declared.letters.Letters.{Letters}
 use Rattle.x86_groups.specs.declared.letters.Letters.TheVariants as letters
-use Rattle.x86_groups.specs.declared.letters.RowSize.{RowSize}
-use Rattle.x86_groups.specs.declared.letters.RowSize.TheVariants.{Bytes, Of}
-use Rattle.x86_groups.specs.declared.rows.Content.{Content}
-use Rattle.x86_groups.specs.declared.rows.Content.TheVariants.{Reads, Refuses}
-use Rattle.x86_groups.specs.declared.rows.GroupRow.{GroupRow}
 use Rattle.x86_groups.specs.Rows.{group_rows, two_byte_rows, three_byte_rows}
 use Rattle.x86_groups.proofs.RowLemmas.{is_register, no_rm_names, rm_free}
 

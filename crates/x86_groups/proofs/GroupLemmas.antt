@@ -1,30 +1,16 @@
 -- What holds of the records of all groups.
-use Rattle.std.proofs.Common.{◌≡◌, ◌≢◌, ◌≤◌, inl, inr, Err, ℕ, nat_le, Bool, true, false, not, ◌&&◌, ◌||◌, Some, None, if◌then◌else◌, refl, sym, subst, ap, ◌∙◌, true≢false}
+use Rattle.std.proofs.Common.{◌≡◌, ◌≢◌, ◌≤◌, inl, inr, Err, ℕ, nat_le, Bool, true, false, not, ◌&&◌, ◌||◌, Some, refl, sym, subst, ap, ◌∙◌, true≢false, arith}
 use Rattle.x86_arch.specs.Reader.{State}
 use Rattle.x86_fields.specs.declared.errors.DecodeError.TheVariants.{IncompleteDecoder}
-use Rattle.x86_fields.specs.declared.prefixes.Prefixes.{Prefixes}
-use Rattle.x86_fields.specs.ModRM.{reg_field}
-use Rattle.x86_forms.specs.declared.Form.{Form}
-use Rattle.x86_forms.specs.declared.Form.TheVariants as form
-use Rattle.x86_forms.specs.declared.TableRow.{TableRow}
-use Rattle.x86_forms.specs.Groups.{is_group}
-use Rattle.x86_opcodes.specs.Names.{POP}
-use Rattle.x86_operands.specs.declared.plans.Fault.TheVariants.{BadOpcode, Incomplete}
-use Rattle.x86_operands.specs.declared.plans.Plan.{Plan}
-use Rattle.x86_operands.specs.declared.plans.Moment.{Moment}
-use Rattle.x86_operands.specs.declared.plans.Moment.TheVariants.{AfterAddress, AtModRM}
-use Rattle.x86_operands.specs.declared.plans.PrefixChange.TheVariants.{Keeps}
+use Rattle.x86_groups.specs.Vocabulary.{Prefixes, Form, TableRow, Incomplete, Plan, Moment, AfterAddress, reg_field}
 use Rattle.x86_operands.specs.declared.plans.Verdict.TheVariants.{Refuses}
+use Rattle.x86_forms.specs.declared.Form.TheVariants as form
+use Rattle.x86_forms.specs.Groups.{is_group}
 use Rattle.x86_operands.specs.Asks.{immediates_width}
 use Rattle.x86_operands.specs.PlanSteps.{record_step}
 use Rattle.x86_operands.proofs.RowLemmas.{HasGap, row_left_out}
 use Rattle.x86_operands.proofs.PlanTests.{passes, without_gap, at_most_64, at_most_8}
-use Rattle.x86_groups.specs.declared.letters.Letters.{Letters}
-use Rattle.x86_groups.specs.declared.letters.RowSize.{RowSize}
-use Rattle.x86_groups.specs.declared.rows.Names.TheVariants.{Name}
-use Rattle.x86_groups.specs.declared.rows.Content.TheVariants as content
-use Rattle.x86_groups.specs.Columns.{plan_of_row}
-use Rattle.x86_groups.specs.Groups.{is_f3_alone, fault_f30f3af0, group_fault, group_form_plan, group_record}
+use Rattle.x86_groups.specs.Groups.{fault_f30f3af0, group_fault, group_form_plan, group_record}
 use Rattle.x86_groups.specs.Rows.{group_rows}
 use Rattle.x86_groups.proofs.FactLemmas.{is_8f, may_have_gap}
 use Rattle.x86_groups.proofs.PlanLemmas.{group_passes}
@@ -37,14 +23,9 @@ pub group_narrow : (strict : Bool) (row : TableRow) (p : Prefixes) (m : ℕ) →
 unfolding group_record
 group_narrow strict row p m = at_most_8 (may_have_gap row.form) (group_form_plan row.form row.opcode strict p m) (group_passes row.form row.opcode strict p m)
 
-opcode_fault : (b : Bool) → (if b then None else Some BadOpcode) ≢ Some Incomplete
-opcode_fault true e = absurd cc
-opcode_fault false e = absurd cc
-
 fault_of : (f : Form) (p : Prefixes) → group_fault f p ≢ Some Incomplete
 unfolding fault_f30f3af0
-fault_of form.ModRM_0xf30f3af0 p e = opcode_fault (is_f3_alone p) e
-fault_of _ p e = opcode_fault true e
+fault_of f p e = grind arith
 
 pub no_fault : (strict : Bool) (row : TableRow) (p : Prefixes) → (group_record strict row p).at_opcode ≢ Some Incomplete
 unfolding group_record
@@ -56,10 +37,6 @@ waits : (gaps : Bool) (plan : Plan) (w : Moment) → passes gaps plan ≡ true �
 waits true plan w h e = refl
 waits false plan w h e = absurd (without_gap plan w h e)
 
-group_waits : (group wait : Bool) → group ≡ true → (not group || wait) ≡ true → wait ≡ true
-group_waits true wait is h = h
-group_waits false wait is h = absurd (true≢false (sym is))
-
 eight_f : (f : Form) → is_8f f ≡ true → f ≡ form.ModRM_0x8f
 eight_f form.ModRM_0x8f h = refl
 eight_f _ h = absurd (true≢false (sym h))
@@ -67,24 +44,15 @@ eight_f _ h = absurd (true≢false (sym h))
 pub gap_form : (strict : Bool) (row : TableRow) (p : Prefixes) (m : ℕ) (w : Moment) → is_group row.form ≡ true → ((group_record strict row p).plan m).verdict ≡ Refuses Incomplete w → row.form ≡ form.ModRM_0x8f
 unfolding group_record
 gap_form strict row p m w group e =
-    eight_f row.form (group_waits (is_group row.form) (is_8f row.form) group
-    (waits (may_have_gap row.form) (group_form_plan row.form row.opcode strict p m) w (group_passes row.form row.opcode strict p m) e))
-
--- the last row of 8F: the others are there at reg 0
-last_of_8f : (first second third : Bool) (a b : Letters) (x y z w : RowSize) (o : ℕ) (p : Prefixes) (m : ℕ) (at : Moment) →
-    (plan_of_row (if first then content.Reads (Name POP) a x y Keeps else (if second then content.Reads (Name POP) b z w Keeps else (if third then content.Refuses Incomplete AfterAddress else content.Refuses BadOpcode AtModRM))) o p m).verdict ≡ Refuses Incomplete at
-    → (second ≡ false) × (at ≡ AfterAddress)
-last_of_8f true second third a b x y z w o p m at e = absurd cc
-last_of_8f false true third a b x y z w o p m at e = absurd cc
-last_of_8f false false true a b x y z w o p m at e = (refl, cc)
-last_of_8f false false false a b x y z w o p m at e = absurd cc
+    let h : (not (is_group row.form) || is_8f row.form) ≡ true = waits (may_have_gap row.form) (group_form_plan row.form row.opcode strict p m) w (group_passes row.form row.opcode strict p m) e in
+    eight_f row.form (rw group at h)
 
 abbrev is_reg_0 : ℕ → Bool
 is_reg_0 reg = nat_le 0 reg && (nat_le reg 0 && true)
 
 gap_8f : (o : ℕ) (strict : Bool) (p : Prefixes) (m : ℕ) (w : Moment) → (group_form_plan form.ModRM_0x8f o strict p m).verdict ≡ Refuses Incomplete w → (is_reg_0 (reg_field m) ≡ false) × (w ≡ AfterAddress)
 unfolding group_form_plan group_rows
-gap_8f o strict p m w e = last_of_8f (nat_le 0 (reg_field m) && (nat_le (reg_field m) 0 && (p.operand_size && true))) (is_reg_0 (reg_field m)) (nat_le 0 (reg_field m) && (nat_le (reg_field m) 7 && true)) _ _ _ _ _ _ o p m w e
+gap_8f o strict p m w e = (grind arith, grind arith)
 
 gap_in_8f : (strict : Bool) (row : TableRow) (p : Prefixes) (m : ℕ) (w : Moment) → is_group row.form ≡ true → ((group_record strict row p).plan m).verdict ≡ Refuses Incomplete w → (is_reg_0 (reg_field m) ≡ false) × (w ≡ AfterAddress)
 unfolding group_record

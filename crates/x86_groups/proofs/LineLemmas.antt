@@ -1,37 +1,35 @@
 -- The line of each reg has the plan of its rows.
-use Rattle.std.proofs.Common.{◌≡◌, IsTrue, ℕ, zero, suc, ◌<◌, Bool, true, false, not, ◌&&◌, ◌||◌, if◌then◌else◌, [], slice_index_or, refl, sym, ap, ◌∙◌, subst, arith, true≢false}
+use Rattle.std.proofs.Common.{◌≡◌, IsTrue, ℕ, zero, suc, ◌<◌, Bool, true, false, ◌&&◌, if◌then◌else◌, [], slice_index_or, refl, sym, ap, ◌∙◌, arith, true≢false}
 use Rattle.std.specs.List.{list_all}
+use denote.Enum.Declared.{tag_of}
+use Rattle.x86_operands.specs.contracts.encodings.RegGroup.{the_type}
 use Rattle.std.proofs.lemmas.Bool.{and_parts}
-use Rattle.x86_fields.specs.declared.prefixes.Prefixes.{Prefixes}
-use Rattle.x86_fields.specs.ModRM.{reg_field, is_memory}
+use Rattle.x86_groups.specs.Vocabulary.{Prefixes, RegGroup, Size, reg_field, is_memory, Names, Own, Content, Reads, Refuses}
 use Rattle.x86_opcodes.specs.Names.{Invalid}
-use Rattle.x86_operands.specs.declared.encodings.RegGroup.{RegGroup}
 use Rattle.x86_operands.specs.declared.encodings.RegGroup.TheVariants as group
-use Rattle.x86_operands.specs.declared.encodings.Size.{Size}
 use Rattle.x86_operands.specs.Encodings.{is_sound, size_bytes, is_described, plan_of}
 use Rattle.x86_groups.specs.declared.by_reg.RegLine.{RegLine}
 use Rattle.x86_groups.specs.declared.tables.TheConstants.{REG_LINES}
-use Rattle.x86_groups.specs.declared.rows.Names.{Names}
-use Rattle.x86_groups.specs.declared.rows.Names.TheVariants.{Own}
-use Rattle.x86_groups.specs.declared.rows.Content.{Content}
-use Rattle.x86_groups.specs.declared.rows.Content.TheVariants.{Reads, Refuses}
 use Rattle.x86_groups.specs.Columns.{choose, named, opcode_of, seen_at, plan_of_row}
 use Rattle.x86_groups.specs.Groups.{rows_plan}
 use Rattle.x86_groups.specs.Rows.{group_rows}
-use Rattle.x86_groups.specs.ByReg.{Chooses, has_either_form, place_of, reg_plan, reg_rows}
+use Rattle.x86_groups.specs.ByReg.{Chooses, has_either_form, reg_plan, reg_rows}
 use Rattle.x86_groups.proofs.RowLemmas.{chosen_has}
 
 -- ---- the lines
 
+-- the place of a group in the table
+abbrev pub place_of : RegGroup → ℕ
+place_of g = tag_of the_type g
+
 abbrev pub line_at : ℕ → ℕ → RegLine → RegLine
 line_at i k d = slice_index_or (slice_index_or REG_LINES.now i []) k d
 
-abbrev Cell : RegGroup → RegLine → ℕ → Type 0
+abbrev pub Cell : RegGroup → RegLine → ℕ → Type 0
 Cell g d k = (m : ℕ) → reg_field m ≡ k → Chooses g m (named (line_at (place_of g) k d).number) (line_at (place_of g) k d).encoding
 
 sized : (b : Bool) (x y : Size) (o : ℕ) (p : Prefixes) → size_bytes (if b then x else y) o p ≡ (if b then size_bytes x o p else size_bytes y o p)
-sized true x y o p = refl
-sized false x y o p = refl
+sized b x y o p = grind arith
 
 below_8 : (P : ℕ → Type 0) → P 0 → P 1 → P 2 → P 3 → P 4 → P 5 → P 6 → P 7 → (k : ℕ) → k < 8 → P k
 below_8 P a b c d e f g h zero low = a
@@ -58,7 +56,7 @@ unfolding group_rows
 jump_by true d m n p r e = rw (r, e) (rw e refl)
 jump_by false d m n p r e = rw (r, e) (rw e refl)
 
-cells : (g : RegGroup) (d : RegLine) (k : ℕ) → k < 8 → Cell g d k
+pub cells : (g : RegGroup) (d : RegLine) (k : ℕ) → k < 8 → Cell g d k
 unfolding group_rows
 cells group.C6 d = below_8 (Cell group.C6 d) (λ m r is n p. rw (sized, r) refl) (λ m r is n p. absurd (true≢false (sym is))) (λ m r is n p. absurd (true≢false (sym is))) (λ m r is n p. absurd (true≢false (sym is))) (λ m r is n p. absurd (true≢false (sym is))) (λ m r is n p. absurd (true≢false (sym is))) (λ m r is n p. absurd (true≢false (sym is))) (λ m r is n p. absurd (true≢false (sym is)))
 cells group.C7 d = below_8 (Cell group.C7 d) (λ m r is n p. rw (sized, r) refl) (λ m r is n p. absurd (true≢false (sym is))) (λ m r is n p. absurd (true≢false (sym is))) (λ m r is n p. absurd (true≢false (sym is))) (λ m r is n p. absurd (true≢false (sym is))) (λ m r is n p. absurd (true≢false (sym is))) (λ m r is n p. absurd (true≢false (sym is))) (λ m r is n p. absurd (true≢false (sym is)))
@@ -66,29 +64,19 @@ cells group.FE d = below_8 (Cell group.FE d) (λ m r is n p. rw (sized, r) (rw r
 cells group.FF d = below_8 (Cell group.FF d) (λ m r is n p. rw (sized, r) (rw r refl)) (λ m r is n p. rw (sized, r) (rw r refl)) (λ m r is n p. rw (sized, r) refl) (λ m r is n p. absurd (true≢false (sym is))) (λ m r is n p. jump_by (is_memory m) d m n p r refl) (λ m r is n p. absurd (true≢false (sym is))) (λ m r is n p. push_by p.operand_size (is_memory m) d m n p r refl refl) (λ m r is n p. absurd (true≢false (sym is)))
 cells g d = below_8 (Cell g d) (λ m r is n p. rw (sized, r) (rw r refl)) (λ m r is n p. rw (sized, r) (rw r refl)) (λ m r is n p. rw (sized, r) (rw r refl)) (λ m r is n p. rw (sized, r) (rw r refl)) (λ m r is n p. rw (sized, r) (rw r refl)) (λ m r is n p. rw (sized, r) (rw r refl)) (λ m r is n p. rw (sized, r) (rw r refl)) (λ m r is n p. rw (sized, r) (rw r refl))
 
-pub line_chooses : (g : RegGroup) (m i k : ℕ) (d : RegLine) → i ≡ place_of g → k ≡ reg_field m → k < 8 → Chooses g m (named (line_at i k d).number) (line_at i k d).encoding
-line_chooses g m i k d at e low = subst (λ j. Chooses g m (named (line_at j k d).number) (line_at j k d).encoding) (sym at) (cells g d k low m (sym e))
-
 -- each line is sound, and has a ModRM byte of either form unless it leaves all to the rows
 abbrev is_good : RegLine → Bool
-is_good line = is_sound line.encoding && (not (is_described line.encoding.after_opcode) || has_either_form line.encoding.after_opcode)
+is_good line = is_sound line.encoding && (if is_described line.encoding.after_opcode then has_either_form line.encoding.after_opcode else true)
 
 good_cells : (g : RegGroup) (d : RegLine) (k : ℕ) → k < 8 → is_good (line_at (place_of g) k d) ≡ true
 good_cells group.G80 d = below_8 (λ k. is_good (line_at (place_of group.G80) k d) ≡ true) refl refl refl refl refl refl refl refl
 good_cells g d = below_8 (λ k. is_good (line_at (place_of g) k d) ≡ true) refl refl refl refl refl refl refl refl
 
-good_line : (g : RegGroup) (i k : ℕ) (d : RegLine) → i ≡ place_of g → k < 8 → is_good (line_at i k d) ≡ true
-good_line g i k d at low = subst (λ j. is_good (line_at j k d) ≡ true) (sym at) (good_cells g d k low)
+pub line_sound : (g : RegGroup) (k : ℕ) (d : RegLine) → k < 8 → is_sound (line_at (place_of g) k d).encoding ≡ true
+line_sound g k d low = (and_parts (is_sound (line_at (place_of g) k d).encoding) _ (good_cells g d k low)).0
 
-pub line_sound : (g : RegGroup) (i k : ℕ) (d : RegLine) → i ≡ place_of g → k < 8 → is_sound (line_at i k d).encoding ≡ true
-line_sound g i k d at low = (and_parts (is_sound (line_at i k d).encoding) _ (good_line g i k d at low)).0
-
-described_form : (described form : Bool) → (not described || form) ≡ true → described ≡ true → form ≡ true
-described_form true form h e = h
-described_form false form h e = absurd (true≢false (sym e))
-
-pub line_fields : (g : RegGroup) (i k : ℕ) (d : RegLine) → i ≡ place_of g → k < 8 → IsTrue (is_described (line_at i k d).encoding.after_opcode) → has_either_form (line_at i k d).encoding.after_opcode ≡ true
-line_fields g i k d at low e = described_form (is_described (line_at i k d).encoding.after_opcode) (has_either_form (line_at i k d).encoding.after_opcode) (and_parts (is_sound (line_at i k d).encoding) _ (good_line g i k d at low)).1 e
+pub line_fields : (g : RegGroup) (k : ℕ) (d : RegLine) → k < 8 → IsTrue (is_described (line_at (place_of g) k d).encoding.after_opcode) → has_either_form (line_at (place_of g) k d).encoding.after_opcode ≡ true
+line_fields g k d low e = rw e at (and_parts (is_sound (line_at (place_of g) k d).encoding) _ (good_cells g d k low)).1
 
 -- ---- the plan of a group goes neither by the opcode of the row in the opcode map nor by the choice
 
@@ -101,8 +89,7 @@ no_own_content (Reads names operands memory register change) = no_own names
 no_own_content (Refuses fault moment) = true
 
 own_names : (names : Names) (a b m : ℕ) → no_own names ≡ true → opcode_of names a m ≡ opcode_of names b m
-own_names Own a b m h = absurd (true≢false (sym h))
-own_names names a b m h = refl
+own_names names a b m h = grind arith
 
 own_free : (content : Content) (a b : ℕ) (p : Prefixes) (m : ℕ) → no_own_content content ≡ true → plan_of_row content a p m ≡ plan_of_row content b p m
 own_free (Reads names operands memory register change) a b p m h = rw (own_names names a b m h) refl

@@ -1,35 +1,15 @@
 -- The plan of a row: that it passes the tests of plans, and what it goes by in the memory form.
-use Rattle.std.proofs.Common.{◌≡◌, inl, inr, ◌≤◌, ℕ, nat_lt, Bool, true, false, not, ◌&&◌, ◌||◌, map, refl, sym, ap, ◌∙◌, arith, true≢false}
+use Rattle.std.proofs.Common.{◌&&◌, ◌≡◌, inl, inr, ◌≤◌, ℕ, nat_lt, Bool, true, false, not, ◌||◌, map, refl, sym, ap, ◌∙◌, arith, true≢false}
 use Rattle.std.specs.List.{list_all}
 use Rattle.std.proofs.lemmas.Bool.{and_parts, or_cases}
 use Rattle.std.proofs.lemmas.Bool.Decides.{nat_tests}
-use Rattle.x86_regs.specs.declared.RegisterClass.{RegisterClass}
-use Rattle.x86_regs.specs.declared.RegisterClass.TheVariants as class
-use Rattle.x86_fields.specs.declared.prefixes.Prefixes.{Prefixes}
-use Rattle.x86_fields.specs.declared.sizes.Width.{Width}
-use Rattle.x86_fields.specs.declared.sizes.Width.TheVariants as width
-use Rattle.x86_fields.specs.ModRM.{reg_field, is_memory}
+use Rattle.x86_groups.specs.Vocabulary.{Prefixes, Width, Form, BadOpcode, AtModRM, reg_field, is_memory, has_r, has_w, repnz, rep, class_of, Letter, Letters, RowSize, Names, Content, Reads, Refuses}
 use Rattle.x86_fields.specs.Pieces.{total}
-use Rattle.x86_fields.specs.Raw.{has_r, has_w}
-use Rattle.x86_fields.specs.Run.{repnz, rep}
-use Rattle.x86_fields.specs.Sizes.{class_of, v_class}
-use Rattle.x86_forms.specs.declared.Form.{Form}
-use Rattle.x86_operands.specs.declared.plans.Fault.TheVariants.{BadOpcode}
-use Rattle.x86_operands.specs.declared.plans.Moment.TheVariants.{AtModRM}
 use Rattle.x86_operands.specs.Asks.{immediate_width}
-use Rattle.x86_operands.specs.Plans.{immediate_of, size_by}
+use Rattle.x86_operands.specs.Plans.{size_by}
 use Rattle.x86_operands.proofs.PlanTests.{passes, narrow, has_gap, is_gap, small_if, small_width, plan_passes}
-use Rattle.x86_groups.specs.declared.letters.Letter.{Letter}
-use Rattle.x86_groups.specs.declared.letters.Letter.TheVariants as letter
-use Rattle.x86_groups.specs.declared.letters.Letters.{Letters}
 use Rattle.x86_groups.specs.declared.letters.Letters.TheVariants as letters
-use Rattle.x86_groups.specs.declared.letters.RowSize.{RowSize}
-use Rattle.x86_groups.specs.declared.letters.RowSize.TheVariants.{Bytes, Of}
-use Rattle.x86_groups.specs.declared.rows.Names.{Names}
-use Rattle.x86_groups.specs.declared.rows.Names.TheVariants.{BySuffix, ByReg, ByRm}
-use Rattle.x86_groups.specs.declared.rows.Content.{Content}
-use Rattle.x86_groups.specs.declared.rows.Content.TheVariants.{Reads, Refuses}
-use Rattle.x86_groups.specs.Columns.{choose, seen_at, distance_of, letter_encoding, operand_encodings, row_bytes, verdict_of, opcode_of, named, name_at, plan_of_row}
+use Rattle.x86_groups.specs.Columns.{choose, seen_at, letter_encoding, operand_encodings, row_bytes, verdict_of, opcode_of, plan_of_row}
 use Rattle.x86_groups.specs.Groups.{group_form_plan}
 use Rattle.x86_groups.specs.Rows.{group_rows}
 use Rattle.x86_groups.proofs.RowLemmas.{AreAlike, chosen_has, chosen_alike, held_in_memory, is_register, no_rm_names, rm_free, row_absent}
@@ -37,42 +17,18 @@ use Rattle.x86_groups.proofs.FactLemmas.{letters_list, may_have_gap, most, small
 
 -- ---- the tests of plans
 
-immediate_most : (c : RegisterClass) → immediate_width (immediate_of c) ≤ 4
-immediate_most class.W = omega arith
-immediate_most class.Q = omega arith
-immediate_most c = omega arith
-
-distance_most : (c : RegisterClass) → immediate_width (distance_of c) ≤ 4
-distance_most class.W = omega arith
-distance_most c = omega arith
-
 encoding_most : (l : Letter) (p : Prefixes) (m : ℕ) → immediate_width (letter_encoding l p m) ≤ most l
-encoding_most letter.Iv p m = immediate_most (v_class p)
-encoding_most letter.Jv p m = distance_most (v_class p)
-encoding_most l p m = omega arith
+encoding_most l p m = grind arith
 
 encodings_narrow : (operands : Letters) (p : Prefixes) (m : ℕ) → nat_lt (total (map most (letters_list operands))) 9 ≡ true → narrow (operand_encodings operands p m) ≡ true
 unfolding narrow
-encodings_narrow letters.Zero p m h = refl
-encodings_narrow (letters.One a) p m h =
-    let x = encoding_most a p m in grind (arith, nat_tests)
-encodings_narrow (letters.Two a b) p m h =
-    let x = encoding_most a p m in let y = encoding_most b p m in grind (arith, nat_tests)
-encodings_narrow (letters.Three a b c) p m h =
-    let x = encoding_most a p m in let y = encoding_most b p m in let z = encoding_most c p m in grind (arith, nat_tests)
-encodings_narrow (letters.Four a b c d) p m h =
-    let x = encoding_most a p m in let y = encoding_most b p m in let z = encoding_most c p m in let w = encoding_most d p m in grind (arith, nat_tests)
+encodings_narrow operands p m h = grind (arith, nat_tests, encoding_most)
 
 bytes_small : (s : RowSize) (p : Prefixes) → small_bytes s ≡ true → nat_lt (row_bytes s p) 65 ≡ true
-bytes_small (Bytes n) p h = h
-bytes_small (Of w) p h = small_width (class_of w p)
+bytes_small s p h = grind (arith, small_width)
 
 no_gap_named : (names : Names) → not (has_gap (verdict_of names)) ≡ true
-no_gap_named BySuffix = refl
-no_gap_named names = refl
-
-refusal_passes : (gaps gap : Bool) → (gaps || not gap) ≡ true → (((gaps || not gap) && true) && true) ≡ true
-refusal_passes gaps gap h = rw h refl
+no_gap_named names = grind arith
 
 content_passes : (gaps : Bool) (content : Content) (own : ℕ) (p : Prefixes) (m : ℕ) → fits gaps content ≡ true → passes gaps (plan_of_row content own p m) ≡ true
 unfolding passes narrow
@@ -82,11 +38,10 @@ content_passes gaps (Reads names operands memory register change) own p m h =
     plan_passes gaps (opcode_of names own m) (operand_encodings operands p m) (size_by m (row_bytes memory p) (row_bytes register p)) change (verdict_of names) (no_gap_named names)
     (small_if (is_memory m) (row_bytes memory p) (row_bytes register p) (bytes_small memory p parts.0) (bytes_small register p rest.0))
     (encodings_narrow operands p m rest.1)
-content_passes gaps (Refuses fault moment) own p m h = refusal_passes gaps (is_gap fault) h
+content_passes gaps (Refuses fault moment) own p m h = let fits_here : (gaps || not (is_gap fault)) ≡ true = h in rw fits_here refl
 
 blank_fits : (gaps : Bool) → fits gaps (Refuses BadOpcode AtModRM) ≡ true
-blank_fits true = refl
-blank_fits false = refl
+blank_fits gaps = grind arith
 
 pub group_passes : (f : Form) (o : ℕ) (strict : Bool) (p : Prefixes) (m : ℕ) → passes (may_have_gap f) (group_form_plan f o strict p m) ≡ true
 unfolding group_form_plan
@@ -104,52 +59,33 @@ pub record SamePrefixes (p q : Prefixes) : Type 0 where
   pub r : has_r p ≡ has_r q
 
 class_alike : (w : Width) (p q : Prefixes) → SamePrefixes p q → class_of w p ≡ class_of w q
-class_alike width.V p q h = rw (h.w, h.operand_size) refl
-class_alike width.Vq p q h = rw (h.operand_size) refl
-class_alike width.Vd p q h = rw (h.w, h.operand_size) refl
-class_alike width.Dq p q h = rw (h.w) refl
-class_alike w p q h = refl
+class_alike w p q h = grind arith
 
 module _ (p q : Prefixes) (m n : ℕ) (h : SamePrefixes p q) where
   encoding_alike : (l : Letter) → rm_free_letter l ≡ true → letter_encoding l p m ≡ letter_encoding l q n
-  encoding_alike (letter.E w) e = rw (class_alike w p q h) refl
-  encoding_alike (letter.G w) e = rw (class_alike w p q h) refl
-  encoding_alike (letter.U w) e = rw (class_alike w p q h) refl
-  encoding_alike letter.Iv e = ap immediate_of (class_alike width.V p q h)
-  encoding_alike letter.Jv e = ap distance_of (class_alike width.V p q h)
-  encoding_alike letter.StRm e = absurd (true≢false (sym e))
-  encoding_alike letter.RdInReg e = absurd (true≢false (sym e))
-  encoding_alike l e = refl
+  encoding_alike l e = grind (arith, class_alike)
+
+  first_alike : (l : Letter) (rest : Bool) → (rm_free_letter l && rest) ≡ true → letter_encoding l p m ≡ letter_encoding l q n
+  first_alike l rest e = encoding_alike l (and_parts (rm_free_letter l) rest e).0
+
+  following : (l : Letter) (rest : Bool) → (rm_free_letter l && rest) ≡ true → rest ≡ true
+  following l rest e = (and_parts (rm_free_letter l) rest e).1
 
   encodings_alike : (operands : Letters) → list_all rm_free_letter (letters_list operands) ≡ true → operand_encodings operands p m ≡ operand_encodings operands q n
   encodings_alike letters.Zero e = refl
-  encodings_alike (letters.One a) e =
-      let x = and_parts (rm_free_letter a) _ e in
-      rw (encoding_alike a x.0) refl
-  encodings_alike (letters.Two a b) e =
-      let x = and_parts (rm_free_letter a) _ e in
-      let y = and_parts (rm_free_letter b) _ x.1 in
-      rw (encoding_alike a x.0, encoding_alike b y.0) refl
-  encodings_alike (letters.Three a b c) e =
-      let x = and_parts (rm_free_letter a) _ e in
-      let y = and_parts (rm_free_letter b) _ x.1 in
-      let z = and_parts (rm_free_letter c) _ y.1 in
-      rw (encoding_alike a x.0, encoding_alike b y.0, encoding_alike c z.0) refl
+  encodings_alike (letters.One a) e = rw (first_alike a _ e) refl
+  encodings_alike (letters.Two a b) e = rw (first_alike a _ e, first_alike b _ (following a _ e)) refl
+  encodings_alike (letters.Three a b c) e = let f = following a _ e in rw (first_alike a _ e, first_alike b _ f, first_alike c _ (following b _ f)) refl
   encodings_alike (letters.Four a b c d) e =
-      let x = and_parts (rm_free_letter a) _ e in
-      let y = and_parts (rm_free_letter b) _ x.1 in
-      let z = and_parts (rm_free_letter c) _ y.1 in
-      let w = and_parts (rm_free_letter d) _ z.1 in
-      rw (encoding_alike a x.0, encoding_alike b y.0, encoding_alike c z.0, encoding_alike d w.0) refl
+      let f = following a _ e in
+      let g = following b _ f in
+      rw (first_alike a _ e, first_alike b _ f, first_alike c _ g, first_alike d _ (following c _ g)) refl
 
   bytes_alike : (s : RowSize) → row_bytes s p ≡ row_bytes s q
-  bytes_alike (Bytes k) = refl
-  bytes_alike (Of w) = rw (class_alike w p q h) refl
+  bytes_alike s = grind (arith, class_alike)
 
   opcode_alike : (names : Names) (own : ℕ) → reg_field m ≡ reg_field n → no_rm_names names ≡ true → opcode_of names own m ≡ opcode_of names own n
-  opcode_alike (ByReg names) own same e = ap (λ k. named (name_at names k)) same
-  opcode_alike (ByRm names) own same e = absurd (true≢false (sym e))
-  opcode_alike names own same e = refl
+  opcode_alike names own same e = grind arith
 
   content_alike : (content : Content) (own : ℕ) → reg_field m ≡ reg_field n → is_memory m ≡ is_memory n → in_memory content ≡ true → plan_of_row content own p m ≡ plan_of_row content own q n
   content_alike (Reads names operands memory register change) own same mem e =

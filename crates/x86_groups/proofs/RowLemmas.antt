@@ -1,21 +1,10 @@
 -- What holds of the first row that holds.
-use Rattle.std.proofs.Common.{◌≡◌, inl, inr, ◌==◌, Bool, true, false, not, ◌&&◌, ◌||◌, if◌then◌else◌, List, [], ◌∷◌, refl, sym, ap, ◌∙◌, true≢false}
+use Rattle.std.proofs.Common.{◌≡◌, inl, inr, Bool, true, false, ◌&&◌, ◌||◌, if◌then◌else◌, List, [], ◌∷◌, refl, sym, ◌∙◌, arith}
 use Rattle.std.specs.List.{list_all}
 use Rattle.std.proofs.lemmas.Bool.{and_parts, or_cases, and_left}
-use Rattle.x86_operands.specs.declared.plans.Fault.TheVariants.{BadOpcode}
-use Rattle.x86_operands.specs.declared.plans.Moment.TheVariants.{AtModRM}
-use Rattle.x86_groups.specs.declared.rows.Place.{Place}
-use Rattle.x86_groups.specs.declared.rows.Place.TheVariants.{Memory, Register, Either}
-use Rattle.x86_groups.specs.declared.rows.When.{When}
-use Rattle.x86_groups.specs.declared.rows.When.TheVariants as when
-use Rattle.x86_groups.specs.declared.rows.Rm.{Rm}
+use Rattle.x86_groups.specs.Vocabulary.{BadOpcode, AtModRM, Place, Register, When, Rm, Names, ByRm, Content, Reads, Refuses, GroupRow, Seen}
+use Rattle.x86_groups.specs.Columns.{choose, is_there, is_placed, is_rm, is_prefixed, is_named_by, is_named}
 use Rattle.x86_groups.specs.declared.rows.Rm.TheVariants as rms
-use Rattle.x86_groups.specs.declared.rows.Names.{Names}
-use Rattle.x86_groups.specs.declared.rows.Names.TheVariants.{ByReg, ByRm}
-use Rattle.x86_groups.specs.declared.rows.Content.{Content}
-use Rattle.x86_groups.specs.declared.rows.Content.TheVariants.{Reads, Refuses}
-use Rattle.x86_groups.specs.declared.rows.GroupRow.{GroupRow}
-use Rattle.x86_groups.specs.Columns.{Seen, choose, is_there, is_placed, is_rm, is_prefixed, is_named_by, is_named, name_at}
 
 -- ---- what each row has, the first has
 
@@ -52,13 +41,10 @@ pub record AreAlike (s t : Seen) : Type 0 where
   pub reg : s.reg ≡ t.reg
 
 placed_alike : (place : Place) (s t : Seen) → AreAlike s t → is_placed place s ≡ is_placed place t
-placed_alike Memory s t h = h.memory
-placed_alike Register s t h = ap not h.memory
-placed_alike Either s t h = refl
+placed_alike place s t h = grind arith
 
 prefixed_alike : (w : When) (s t : Seen) → AreAlike s t → is_prefixed w s ≡ is_prefixed w t
-prefixed_alike when.Always s t h = refl
-prefixed_alike w s t h = cc
+prefixed_alike w s t h = grind arith
 
 -- a row that isn't chosen by rm
 abbrev pub no_rm : Rm → Bool
@@ -74,24 +60,16 @@ no_rm_content (Reads names operands memory register change) = no_rm_names names
 no_rm_content (Refuses fault moment) = true
 
 rm_alike : (m : Rm) (s t : Seen) → no_rm m ≡ true → is_rm m s ≡ is_rm m t
-rm_alike rms.Any s t h = refl
-rm_alike m s t h = absurd (true≢false (sym h))
+rm_alike m s t h = grind arith
 
 names_alike : (names : Names) (s t : Seen) → AreAlike s t → no_rm_names names ≡ true → is_named_by names s ≡ is_named_by names t
-names_alike (ByReg names) s t h e = ap (λ n. not (name_at names n == 0)) h.reg
-names_alike (ByRm names) s t h e = absurd (true≢false (sym e))
-names_alike names s t h e = refl
+names_alike names s t h e = grind arith
 
 named_alike : (content : Content) (s t : Seen) → AreAlike s t → no_rm_content content ≡ true → is_named content s ≡ is_named content t
-named_alike (Reads names operands memory register change) s t h e = names_alike names s t h e
-named_alike (Refuses fault moment) s t h e = refl
+named_alike content s t h e = grind (arith, names_alike)
 
 holds_by : (row : GroupRow) (s t : Seen) → AreAlike s t → is_rm row.rm s ≡ is_rm row.rm t → is_named row.content s ≡ is_named row.content t → is_there row s ≡ is_there row t
-holds_by row s t h m n =
-    let placed = placed_alike row.place s t h in
-    let prefixed = prefixed_alike row.when s t h in
-    let reg = h.reg in
-    rw (placed, prefixed, m, n, reg) refl
+holds_by row s t h m n = grind (arith, placed_alike, prefixed_alike)
 
 -- ---- the memory form
 
@@ -100,8 +78,7 @@ is_register Register = true
 is_register place = false
 
 register_absent : (place : Place) (seen : Seen) → is_register place ≡ true → seen.memory ≡ true → is_placed place seen ≡ false
-register_absent Register seen h e = ap not e
-register_absent place seen h e = absurd (true≢false (sym h))
+register_absent place seen h e = grind arith
 
 pub row_absent : (row : GroupRow) (seen : Seen) → is_register row.place ≡ true → seen.memory ≡ true → is_there row seen ≡ false
 row_absent row seen h e = and_left (is_placed row.place seen) _ (register_absent row.place seen h e)

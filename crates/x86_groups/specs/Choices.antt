@@ -1,12 +1,8 @@
 -- Where the default and the strict choice differ. Source: Intel SDM volume 2, appendix A.4, group 15.
 use Rattle.std.specs.Prelude.{◌≡◌, ◌≢◌, ℕ, false}
-use Rattle.x86_fields.specs.declared.prefixes.Prefixes.{Prefixes}
-use Rattle.x86_fields.specs.Run.{repnz, rep}
-use Rattle.x86_fields.specs.ModRM.{reg_field, rm_field, is_memory}
+use Rattle.x86_groups.specs.Vocabulary.{Prefixes, Form, repnz, rep, reg_field, rm_field, is_memory, operand_size}
 use Rattle.x86_opcodes.specs.Names.{LFENCE, MFENCE, SFENCE}
-use Rattle.x86_forms.specs.declared.Form.{Form}
 use Rattle.x86_forms.specs.declared.Form.TheVariants as form
-use Rattle.x86_fields.specs.Prefixes.{operand_size}
 
 -- The fence that reg names.
 pub data NamesFence (m : ℕ) : ℕ → Type 0 where

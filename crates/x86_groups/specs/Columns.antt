@@ -2,47 +2,19 @@
 -- there: a name and operands, or a refusal. The first row that holds counts. Source: Intel SDM volume 2, appendix A.2
 -- (the letters of operands) and A.4 (the columns of its tables of opcode extensions).
 use Rattle.std.specs.Prelude.{ℕ, nat_le, ◌==◌, Bool, true, not, ◌&&◌, ◌||◌, if◌then◌else◌, List, [], ◌∷◌, slice_index_or, unwrap_or, pos}
-use Rattle.x86_regs.specs.declared.RegisterClass.{RegisterClass}
+use Rattle.x86_groups.specs.Vocabulary.{RegisterClass, Prefixes, BadOpcode, AtModRM, OperandEncoding, OperandEncodings, Plan, Verdict, width_of, reg_spec, reg_field, rm_field, is_memory, operand_size, has_r, has_w, repnz, rep, class_of, v_class, ByReg, ByRm, BySuffix, Bytes, Content, Either, GroupRow, Letter, Letters, Memory, Name, Names, Of, Own, Place, Reads, Refuses, Register, Rm, RowSize, Seen, When}
 use Rattle.x86_regs.specs.declared.RegisterClass.TheVariants as class
-use Rattle.x86_regs.specs.Class.{width_of}
-use Rattle.x86_regs.specs.Register.{reg_spec}
-use Rattle.x86_fields.specs.declared.prefixes.Prefixes.{Prefixes}
-use Rattle.x86_fields.specs.ModRM.{reg_field, rm_field, is_memory}
-use Rattle.x86_fields.specs.Prefixes.{operand_size}
-use Rattle.x86_fields.specs.Raw.{has_r, has_w}
-use Rattle.x86_fields.specs.Run.{repnz, rep}
-use Rattle.x86_fields.specs.Sizes.{class_of, v_class}
 use Rattle.x86_opcodes.specs.Names.{Invalid}
 use Rattle.x86_opcodes.specs.Numbers.{opcode_numbered}
-use Rattle.x86_operands.specs.declared.plans.Fault.TheVariants.{BadOpcode}
-use Rattle.x86_operands.specs.declared.plans.Moment.TheVariants.{AtModRM}
-use Rattle.x86_operands.specs.declared.plans.OperandEncoding.{OperandEncoding}
 use Rattle.x86_operands.specs.declared.plans.OperandEncoding.TheVariants as encoding
-use Rattle.x86_operands.specs.declared.plans.OperandEncodings.{OperandEncodings}
 use Rattle.x86_operands.specs.declared.plans.OperandEncodings.TheVariants as coded
-use Rattle.x86_operands.specs.declared.plans.Plan.{Plan}
 use Rattle.x86_operands.specs.declared.plans.RegisterSlot.TheVariants as slot
-use Rattle.x86_operands.specs.declared.plans.Verdict.{Verdict}
 use Rattle.x86_operands.specs.declared.plans.Verdict.TheVariants as verdict
 use Rattle.x86_operands.specs.Plans.{refuses, rm_number, size_by, immediate_of}
-use Rattle.x86_groups.specs.declared.letters.Letter.{Letter}
 use Rattle.x86_groups.specs.declared.letters.Letter.TheVariants as letter
-use Rattle.x86_groups.specs.declared.letters.Letters.{Letters}
 use Rattle.x86_groups.specs.declared.letters.Letters.TheVariants as letters
-use Rattle.x86_groups.specs.declared.letters.RowSize.{RowSize}
-use Rattle.x86_groups.specs.declared.letters.RowSize.TheVariants.{Bytes, Of}
-use Rattle.x86_groups.specs.declared.rows.Place.{Place}
-use Rattle.x86_groups.specs.declared.rows.Place.TheVariants.{Memory, Register, Either}
-use Rattle.x86_groups.specs.declared.rows.When.{When}
 use Rattle.x86_groups.specs.declared.rows.When.TheVariants as when
-use Rattle.x86_groups.specs.declared.rows.Rm.{Rm}
 use Rattle.x86_groups.specs.declared.rows.Rm.TheVariants as rms
-use Rattle.x86_groups.specs.declared.rows.Names.{Names}
-use Rattle.x86_groups.specs.declared.rows.Names.TheVariants.{Own, BySuffix, Name, ByReg, ByRm}
-use Rattle.x86_groups.specs.declared.rows.Content.{Content}
-use Rattle.x86_groups.specs.declared.rows.Content.TheVariants.{Reads, Refuses}
-use Rattle.x86_groups.specs.declared.rows.GroupRow.{GroupRow}
-pub use Rattle.x86_groups.specs.declared.rows.Seen.{Seen}
 
 -- ---- where a row is
 

@@ -3,21 +3,10 @@
 use Rattle.std.specs.Prelude.{ℕ, Bool, true, false, not, ◌&&◌, if◌then◌else◌, Option, Some, None, is_some, List}
 use Rattle.x86_regs.specs.declared.Segment.{Segment}
 use Rattle.x86_regs.specs.declared.Segment.TheVariants.{DS}
-use Rattle.x86_fields.specs.declared.prefixes.Prefixes.{Prefixes}
+use Rattle.x86_groups.specs.Vocabulary.{Prefixes, Fault, BadOpcode, BadOperand, AtModRM, ModrmUse, EitherForm, Registers, Zero, Plan, Form, TableRow, rep, GroupRow}
 use Rattle.x86_fields.specs.Prefixes.{operand_size, address_size, lock, segment, rex}
-use Rattle.x86_fields.specs.Run.{rep}
-use Rattle.x86_operands.specs.declared.plans.Fault.{Fault}
-use Rattle.x86_operands.specs.declared.plans.Fault.TheVariants.{BadOpcode, BadOperand}
-use Rattle.x86_operands.specs.declared.plans.Moment.TheVariants.{AtModRM}
-use Rattle.x86_operands.specs.declared.plans.ModrmUse.{ModrmUse}
-use Rattle.x86_operands.specs.declared.plans.ModrmUse.TheVariants.{EitherForm, Registers}
-use Rattle.x86_operands.specs.declared.plans.OperandEncodings.TheVariants.{Zero}
-use Rattle.x86_operands.specs.declared.plans.Plan.{Plan}
 use Rattle.x86_operands.specs.Plans.{RowRecord, reads, refuses}
-use Rattle.x86_forms.specs.declared.Form.{Form}
 use Rattle.x86_forms.specs.declared.Form.TheVariants as form
-use Rattle.x86_forms.specs.declared.TableRow.{TableRow}
-use Rattle.x86_groups.specs.declared.rows.GroupRow.{GroupRow}
 use Rattle.x86_groups.specs.Columns.{choose, plan_of_row, seen_at}
 use Rattle.x86_groups.specs.Rows.{group_rows}
 

@@ -3,26 +3,11 @@ use Rattle.std.specs.Prelude.{ℕ, List, [], ◌∷◌}
 use Rattle.x86_regs.specs.declared.RegisterClass.TheVariants as class
 use Rattle.x86_fields.specs.MemorySizes.{undecided_size}
 use Rattle.x86_fields.specs.declared.sizes.Width.TheVariants as width
-use Rattle.x86_operands.specs.declared.plans.Fault.{Fault}
-use Rattle.x86_operands.specs.declared.plans.Moment.{Moment}
-use Rattle.x86_operands.specs.declared.plans.PrefixChange.{PrefixChange}
-use Rattle.x86_operands.specs.declared.plans.PrefixChange.TheVariants.{Keeps, ClearsOperandSize}
+use Rattle.x86_groups.specs.Vocabulary.{Fault, Moment, PrefixChange, Keeps, ClearsOperandSize, Letter, Letters, RowSize, Bytes, Of, Place, Memory, Register, Either, When, Rm, Names, ByReg, ByRm, Reads, Refuses, GroupRow}
 use Rattle.x86_operands.specs.declared.plans.RegisterSlot.TheVariants as slot
-use Rattle.x86_groups.specs.declared.letters.Letter.{Letter}
 use Rattle.x86_groups.specs.declared.letters.Letter.TheVariants as letter
-use Rattle.x86_groups.specs.declared.letters.Letters.{Letters}
-use Rattle.x86_groups.specs.declared.letters.RowSize.{RowSize}
-use Rattle.x86_groups.specs.declared.letters.RowSize.TheVariants.{Bytes, Of}
-use Rattle.x86_groups.specs.declared.rows.Place.{Place}
-use Rattle.x86_groups.specs.declared.rows.Place.TheVariants.{Memory, Register, Either}
-use Rattle.x86_groups.specs.declared.rows.When.{When}
 use Rattle.x86_groups.specs.declared.rows.When.TheVariants.{Always}
-use Rattle.x86_groups.specs.declared.rows.Rm.{Rm}
 use Rattle.x86_groups.specs.declared.rows.Rm.TheVariants.{Any, Is, ZeroIfStrict}
-use Rattle.x86_groups.specs.declared.rows.Names.{Names}
-use Rattle.x86_groups.specs.declared.rows.Names.TheVariants.{ByReg, ByRm}
-use Rattle.x86_groups.specs.declared.rows.Content.TheVariants.{Reads, Refuses}
-use Rattle.x86_groups.specs.declared.rows.GroupRow.{GroupRow}
 
 -- ---- where
 

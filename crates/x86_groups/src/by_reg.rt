@@ -1,8 +1,8 @@
 //! Groups of which reg alone chooses rows: the operation and a line for each reg.
 
-ghost use Rattle.std.specs.Prelude.{◌≡◌, ◌<◌, IsTrue, true};
+ghost use Rattle.std.specs.Prelude.{◌≡◌, IsTrue, true};
 ghost use Rattle.x86_operands.specs.Encodings.{is_sound, is_described};
-ghost use Rattle.x86_groups.specs.ByReg.{place_of, Chooses, has_either_form};
+ghost use Rattle.x86_groups.specs.ByReg.{Chooses, has_either_form};
 
 use crate::rows::named;
 use crate::tables::REG_LINES;
@@ -41,15 +41,6 @@ macro_rules! rows_alone {
 
 pub(crate) use rows_alone;
 
-/// The place of a group in tables by groups.
-#[inline(always)]
-fn place_of(group: RegGroup) -> usize
-    ensures value { result ≡ place_of group }
-    ensures small { result < 15 }
-{
-    group as usize
-}
-
 /// What reg chooses: the operation, and the encoding of its operands, which leaves other rows to `group_plan`.
 #[inline(always)]
 pub fn chosen(group: RegGroup, modrm: ModRM) -> (Opcode, &'static FormEncoding)
@@ -58,6 +49,6 @@ pub fn chosen(group: RegGroup, modrm: ModRM) -> (Opcode, &'static FormEncoding)
     ensures fields { IsTrue (is_described result.1.now.after_opcode) →
         has_either_form result.1.now.after_opcode ≡ true }
 {
-    let line = &REG_LINES[place_of(group)][modrm.reg_field() as usize];
+    let line = &REG_LINES[group as usize][modrm.reg_field() as usize];
     (named(line.number), &line.encoding)
 }

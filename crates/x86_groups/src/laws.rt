@@ -16,8 +16,7 @@ ghost use Rattle.x86_forms.specs.Words.{carried};
 ghost use Rattle.x86_operands.specs.FormEncodings.{group_form};
 ghost use Rattle.x86_operands.specs.PlanSteps.{record_step};
 ghost use Rattle.x86_operands.specs.declared.encodings.RegGroup.{RegGroup};
-ghost use Rattle.x86_groups.specs.ByReg.{reg_plan};
-ghost use Rattle.x86_groups.specs.RegSteps.{reg_step};
+ghost use Rattle.x86_groups.specs.ByReg.{reg_plan, reg_step};
 ghost use Rattle.x86_groups.specs.Choices.{IsFenceWithRm};
 ghost use Rattle.x86_groups.specs.Groups.{group_record, group_plan, operandless, bad_operand};
 

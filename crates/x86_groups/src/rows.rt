@@ -274,10 +274,7 @@ pub fn choose(rows: &[GroupRow], seen: &Seen) -> Content
 pub fn named(number: u16) -> Opcode
     ensures { result ≡ named number }
 {
-    match Opcode::from_number(number as u64) {
-        Some(opcode) => opcode,
-        None => Opcode::Invalid,
-    }
+    Opcode::from_number(number as u64).unwrap_or(Opcode::Invalid)
 }
 
 impl Names {

@@ -1,39 +1,17 @@
 -- What a line of the operand encodings has is what its plan has.
-use Rattle.std.proofs.Common.{◌≡◌, ℕ, Bool, true, false, not, if◌then◌else◌, refl, ap, ◌∙◌, arith}
-use Rattle.x86_fields.specs.declared.prefixes.Prefixes.{Prefixes}
-use Rattle.x86_operands.specs.declared.asks.Ask.{Ask}
-use Rattle.x86_operands.specs.declared.encodings.AfterOpcode.{AfterOpcode}
-use Rattle.x86_operands.specs.declared.encodings.AfterOpcode.TheVariants as after_opcode
-use Rattle.x86_operands.specs.declared.encodings.FormEncoding.{FormEncoding}
-use Rattle.x86_fields.specs.declared.sizes.Width.{Width}
-use Rattle.x86_fields.specs.declared.sizes.Width.TheVariants as width
-use Rattle.x86_operands.specs.declared.order.Order.{Order}
-use Rattle.x86_operands.specs.declared.plans.Fault.{Fault}
-use Rattle.x86_operands.specs.declared.plans.ModrmUse.{ModrmUse}
-use Rattle.x86_operands.specs.declared.plans.Moment.{Moment}
-use Rattle.x86_operands.specs.declared.plans.OperandEncoding.{OperandEncoding}
-use Rattle.x86_operands.specs.declared.plans.OperandEncodings.{OperandEncodings}
-use Rattle.x86_operands.specs.declared.plans.Verdict.TheVariants.{Accepts, Refuses}
-use Rattle.x86_operands.specs.Asks.{uses_modrm, uses_suffix, immediates_width, plan_ask, encoding_ask, immediate_width}
+use Rattle.std.proofs.Common.{◌≡◌, ℕ, true, false, if◌then◌else◌, ap, ◌∙◌, arith}
+use Rattle.x86_operands.specs.Vocabulary.{Prefixes, Ask, AfterOpcode, FormEncoding, Width, Order, ModrmUse, OperandEncoding, OperandEncodings, is_memory}
+use Rattle.x86_operands.specs.Asks.{uses_modrm, immediates_width, plan_ask, encoding_ask, immediate_width}
 use Rattle.x86_operands.specs.Encodings.{size_bytes, is_sound, restricted_plan, last_encoding, plan_of, reg_encoding, rm_encoding, encodings_in, size_at, somewhere, use_of}
-use Rattle.x86_fields.specs.ModRM.{is_memory}
-use Rattle.x86_operands.specs.FormSizes.{lacks_memory}
 use Rattle.x86_operands.specs.Plans.{reads}
 use Rattle.x86_operands.proofs.OrderLemmas.{Named, named_of, sound_parts, no_named}
 
 -- the operands of reg and rm have no immediate
 reg_width : (b : AfterOpcode) (w : Width) (n : ℕ) (p : Prefixes) → immediate_width (reg_encoding b w n p) ≡ 0
-reg_width after_opcode.Opcode w n p = refl
-reg_width after_opcode.Accumulator w n p = refl
-reg_width b width.Mm n p = refl
-reg_width b w n p = refl
+reg_width b w n p = grind arith
 
 rm_width : (b : AfterOpcode) (w : Width) (p : Prefixes) → immediate_width (rm_encoding b w p) ≡ 0
-rm_width after_opcode.Memory w p = refl
-rm_width after_opcode.Registers width.Mm p = refl
-rm_width after_opcode.Registers w p = refl
-rm_width b width.Mm p = refl
-rm_width b w p = refl
+rm_width b w p = grind arith
 
 -- so the last operand has all of it
 width_in : {o : Order} → Named o → (a b c : OperandEncoding) → immediate_width a ≡ 0 → immediate_width b ≡ 0 → immediates_width (encodings_in o a b c) ≡ (if somewhere o.last then immediate_width c else 0)
@@ -44,15 +22,8 @@ width_in h a b c ha hb = omega arith
 abbrev AskWith : ModrmUse → ℕ → ℕ → Ask
 AskWith usage m n = record { modrm = uses_modrm usage; memory = is_memory m; immediate = n; suffix = false }
 
-no_suffix : (test : Bool) (fault : Fault) (moment : Moment) → uses_suffix (if test then Refuses fault moment else Accepts) ≡ false
-no_suffix true fault moment = refl
-no_suffix false fault moment = refl
-
 restricted_ask : (b : AfterOpcode) (usage : ModrmUse) (m opcode size : ℕ) (encodings : OperandEncodings) → plan_ask usage m (restricted_plan b m (reads opcode encodings size)) ≡ AskWith usage m (immediates_width encodings)
-restricted_ask after_opcode.Memory usage m opcode size encodings = ap (λ s. record { modrm = uses_modrm usage; memory = is_memory m; immediate = immediates_width encodings; suffix = s }) (no_suffix (not (is_memory m)) _ _)
-restricted_ask after_opcode.Registers usage m opcode size encodings = ap (λ s. record { modrm = uses_modrm usage; memory = is_memory m; immediate = immediates_width encodings; suffix = s }) (no_suffix (is_memory m) _ _)
-restricted_ask after_opcode.FormByOpcode usage m opcode size encodings = ap (λ s. record { modrm = uses_modrm usage; memory = is_memory m; immediate = immediates_width encodings; suffix = s }) (no_suffix (lacks_memory opcode m) _ _)
-restricted_ask b usage m opcode size encodings = refl
+restricted_ask b usage m opcode size encodings = grind arith
 
 pub encoding_has_ask : (e : FormEncoding) (n opcode : ℕ) (p : Prefixes) (m : ℕ) → is_sound e ≡ true → plan_ask (use_of e.after_opcode) m (plan_of e n opcode p m) ≡ encoding_ask e p m
 encoding_has_ask e n opcode p m h =

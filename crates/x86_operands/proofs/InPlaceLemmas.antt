@@ -1,36 +1,14 @@
 -- What an encoding writes in place is what its plan yields.
-use Rattle.std.proofs.Common.{◌≡◌, ℕ, Bool, true, false, not, if◌then◌else◌, ◌&&◌, ◌≢◌, refl, sym, ap, ◌∙◌, Ok, Err, Result, None, Some, Option, is_some}
+use Rattle.std.proofs.Common.{◌≡◌, ℕ, Bool, true, false, not, if◌then◌else◌, ◌≢◌, refl, sym, ap, ◌∙◌, Ok, Err, Result, None, Some, Option, is_some, arith}
 use Rattle.std.proofs.lemmas.Bool.{not-true}
 use Rattle.x86_arch.specs.Reader.{State}
-use Rattle.x86_regs.specs.declared.RegisterClass.{RegisterClass}
+use Rattle.x86_operands.specs.Vocabulary.{DecodeError, Prefixes, Raw, Slot, Operand, OperandEncoding, Position, First, Second, Nowhere, Order, AfterOpcode, Width, Last, FormEncoding, Size, Reading, Operands, is_memory, absent_modrm}
 use Rattle.x86_regs.specs.declared.RegisterClass.TheVariants as class
-use Rattle.x86_fields.specs.declared.errors.DecodeError.{DecodeError}
-use Rattle.x86_fields.specs.declared.prefixes.Prefixes.{Prefixes}
-use Rattle.x86_fields.specs.declared.raw.Raw.{Raw}
-use Rattle.x86_fields.specs.Raw.{read_raw, has_w}
-use Rattle.x86_fields.specs.Sizes.{v_class}
+use Rattle.x86_fields.specs.Raw.{read_raw}
 use Rattle.x86_fields.specs.Steps.{Step, Outcome, outcome, then_from, pure, ◌>>=◌}
-use Rattle.x86_operands.specs.declared.operands.Slot.{Slot}
-use Rattle.x86_operands.specs.declared.operands.Operand.{Operand}
-use Rattle.x86_operands.specs.declared.plans.OperandEncoding.{OperandEncoding}
-use Rattle.x86_operands.specs.declared.plans.OperandEncoding.TheVariants.{I16, I32}
-use Rattle.x86_operands.specs.declared.order.Position.{Position}
-use Rattle.x86_operands.specs.declared.order.Position.TheVariants.{First, Second, Nowhere}
-use Rattle.x86_operands.specs.declared.order.Order.{Order}
-use Rattle.x86_operands.specs.declared.encodings.AfterOpcode.{AfterOpcode}
 use Rattle.x86_operands.specs.declared.encodings.AfterOpcode.TheVariants as after_opcode
-use Rattle.x86_fields.specs.declared.sizes.Width.{Width}
-use Rattle.x86_fields.specs.declared.sizes.Width.TheVariants as width
-use Rattle.x86_operands.specs.declared.encodings.Last.{Last}
-use Rattle.x86_operands.specs.declared.encodings.Last.TheVariants as last
-use Rattle.x86_operands.specs.declared.encodings.FormEncoding.{FormEncoding}
-use Rattle.x86_operands.specs.declared.encodings.Size.{Size}
-use Rattle.x86_operands.specs.declared.reader.Reading.{Reading}
-use Rattle.x86_operands.specs.declared.operand_list.Operands.{Operands}
 use Rattle.x86_operands.specs.PlanSteps.{read_plan, read_memory, filled_step, operands_step, operand_step, reading_from, rm_operand}
-use Rattle.x86_fields.specs.ModRM.{is_memory, absent_modrm}
-use Rattle.x86_operands.specs.Plans.{list_of, reads, immediate_of}
-use Rattle.x86_operands.specs.FormSizes.{whole_immediate}
+use Rattle.x86_operands.specs.Plans.{list_of, reads}
 use Rattle.x86_operands.specs.Shape.{shape}
 use Rattle.x86_operands.specs.Encodings.{last_encoding, reg_encoding, rm_encoding, encodings_in, plan_of, size_bytes, size_at, is_order, has_modrm, has_register, order_fits, allows}
 use Rattle.x86_operands.specs.OperandList.{modrm_read, index_of_position, encoded_read, put_encoded, put_in, rm_pair, reg_pair, fixed_pair, reading_with, sized, last_read, operands_read}
@@ -48,10 +26,7 @@ reg_pair_of b w n p m = reg_pair w p m
 
 reg_yields : (b : AfterOpcode) (w : Width) (n : ℕ) (p : Prefixes) (m : ℕ) (memory : Option Raw) (s : State ℕ) → operand_step (reg_encoding b w n p) p m memory s ≡ outcome (Ok (reg_pair_of b w n p m)) s
 unfolding operand_step
-reg_yields after_opcode.Opcode w n p m memory s = refl
-reg_yields after_opcode.Accumulator w n p m memory s = refl
-reg_yields b width.Mm n p m memory s = refl
-reg_yields b w n p m memory s = refl
+reg_yields b w n p m memory s = grind arith
 
 abbrev rm_pair_of : AfterOpcode → Width → Prefixes → ℕ → Option Raw → Pair
 rm_pair_of after_opcode.Memory w p m memory = rm_operand class.Q p m memory
@@ -59,38 +34,16 @@ rm_pair_of b w p m memory = rm_pair w p m memory
 
 rm_yields : (b : AfterOpcode) (w : Width) (p : Prefixes) (m : ℕ) (memory : Option Raw) (s : State ℕ) → operand_step (rm_encoding b w p) p m memory s ≡ outcome (Ok (rm_pair_of b w p m memory)) s
 unfolding operand_step
-rm_yields after_opcode.Memory w p m memory s = refl
-rm_yields b width.Mm p m memory s = refl
-rm_yields b w p m memory s = refl
+rm_yields b w p m memory s = grind arith
 
 -- ---- the last operand, which looks at no ModRM
 
 abbrev IsPlain : OperandEncoding → Type 0
 IsPlain c = (p : Prefixes) (m : ℕ) (memory : Option Raw) (s : State ℕ) → operand_step c p m memory s ≡ operand_step c p absent_modrm None s
 
-immediate_plain : (c : RegisterClass) → IsPlain (immediate_of c)
-unfolding operand_step
-immediate_plain class.W p m memory s = refl
-immediate_plain class.Q p m memory s = refl
-immediate_plain c p m memory s = refl
-
-whole_plain : (c : RegisterClass) → IsPlain (whole_immediate c)
-unfolding operand_step
-whole_plain class.W p m memory s = refl
-whole_plain class.Q p m memory s = refl
-whole_plain c p m memory s = refl
-
-push_plain : (b : Bool) → IsPlain (if b then I16 else I32)
-unfolding operand_step
-push_plain true p m memory s = refl
-push_plain false p m memory s = refl
-
 last_plain : (l : Last) (p : Prefixes) → IsPlain (last_encoding l p)
 unfolding operand_step
-last_plain last.Iv p q m memory s = immediate_plain (v_class p) q m memory s
-last_plain last.Ivq p q m memory s = whole_plain (v_class p) q m memory s
-last_plain last.Ip p q m memory s = push_plain (p.operand_size && not (has_w p)) q m memory s
-last_plain l p q m memory s = refl
+last_plain l p q m memory s = grind arith
 
 -- ---- the operands in their order
 
@@ -110,8 +63,7 @@ in_order (Err e) no_named t a b c x y size opcode p m memory ha hb s hc = refl
 in_order r h t a b c x y size opcode p m memory ha hb s hc = simp (ha, hb, hc)
 
 last_is : (at : Position) (l : Last) (p : Prefixes) (operand_list : Operands) (s : State ℕ) → last_put at (operand_step (last_encoding l p) p absent_modrm None s).answer (operand_step (last_encoding l p) p absent_modrm None s).after operand_list s ≡ last_read at l p operand_list s
-last_is Nowhere l p operand_list s = refl
-last_is at l p operand_list s = refl
+last_is at l p operand_list s = grind arith
 
 -- the operands after memory, at any encoding
 memory_following : (b : AfterOpcode) (o : Order) (wr we : Width) (l : Last) (n size opcode : ℕ) (p : Prefixes) (m : ℕ) (memory : Option Raw) → Named o → (s : State ℕ) →
@@ -123,12 +75,8 @@ memory_following b o wr we l n size opcode p m memory h s =
 
 -- ---- the memory operand
 
--- a memory operand that fits ModRM
-abbrev Suits : Option Raw → Bool → Type 0
-Suits memory test = is_some memory ≡ test
-
 by_memory : (test : Bool) (p : Prefixes) (m : ℕ) (K L : Result (Option Raw) DecodeError → State ℕ → Outcome Reading) →
-    ((memory : Option Raw) (s : State ℕ) → Suits memory test → K (Ok memory) s ≡ L (Ok memory) s) → ((e : DecodeError) (s : State ℕ) → K (Err e) s ≡ L (Err e) s) → (s : State ℕ) →
+    ((memory : Option Raw) (s : State ℕ) → is_some memory ≡ test → K (Ok memory) s ≡ L (Ok memory) s) → ((e : DecodeError) (s : State ℕ) → K (Err e) s ≡ L (Err e) s) → (s : State ℕ) →
     (u : Outcome (Option Raw)) → u ≡ (if test then (read_raw p m >>= λ raw. pure (Some raw)) else pure None) s → K u.answer u.after ≡ L u.answer u.after
 by_memory true p m K L ok err s u e = rw e (from_raw (read_raw p m s).answer (read_raw p m s).after)
   where
@@ -140,17 +88,10 @@ by_memory false p m K L ok err s u e = rw e (ok None s refl)
 -- ---- ModRM's operands
 
 same_reg : (b : AfterOpcode) (w : Width) (n : ℕ) (p : Prefixes) (m : ℕ) → has_modrm b ≡ true → reg_pair w p m ≡ reg_pair_of b w n p m
-same_reg after_opcode.EitherForm w n p m h = refl
-same_reg after_opcode.Memory w n p m h = refl
-same_reg after_opcode.Registers w n p m h = refl
-same_reg after_opcode.FormByOpcode w n p m h = refl
-same_reg b w n p m h = cc
+same_reg b w n p m h = grind arith
 
-same_rm : (b : AfterOpcode) (w : Width) (p : Prefixes) (opcode m : ℕ) (memory : Option Raw) → has_modrm b ≡ true → allows b opcode m ≡ true → Suits memory (is_memory m) → rm_pair w p m memory ≡ rm_pair_of b w p m memory
-same_rm after_opcode.Memory w p opcode m None h a e = cc
-same_rm after_opcode.Memory width.Mm p opcode m (Some raw) h a e = refl
-same_rm after_opcode.Memory w p opcode m (Some raw) h a e = refl
-same_rm b w p opcode m memory h a e = refl
+same_rm : (b : AfterOpcode) (w : Width) (p : Prefixes) (opcode m : ℕ) (memory : Option Raw) → has_modrm b ≡ true → allows b opcode m ≡ true → is_some memory ≡ is_memory m → rm_pair w p m memory ≡ rm_pair_of b w p m memory
+same_rm b w p opcode m memory h a e = grind arith
 
 module _ (b : AfterOpcode) (o : Order) (wr we : Width) (l : Last) (n size opcode : ℕ) (p : Prefixes) (m : ℕ) where
   abbrev placing : Result (Option Raw) DecodeError → State ℕ → Outcome Reading
@@ -159,7 +100,7 @@ module _ (b : AfterOpcode) (o : Order) (wr we : Width) (l : Last) (n size opcode
   abbrev planned : Result (Option Raw) DecodeError → State ℕ → Outcome Reading
   planned r t = ((λ _. outcome r t) >>= λ memory. filled_step (list_of (encodings_in o (reg_encoding b wr n p) (rm_encoding b we p) (last_encoding l p))) p m memory >>= λ operand_list. pure (reading_from (reads opcode (encodings_in o (reg_encoding b wr n p) (rm_encoding b we p) (last_encoding l p)) size) p opcode operand_list)) t
 
-  there : Named o → has_modrm b ≡ true → allows b opcode m ≡ true → (memory : Option Raw) (t : State ℕ) → Suits memory (is_memory m) → placing (Ok memory) t ≡ planned (Ok memory) t
+  there : Named o → has_modrm b ≡ true → allows b opcode m ≡ true → (memory : Option Raw) (t : State ℕ) → is_some memory ≡ is_memory m → placing (Ok memory) t ≡ planned (Ok memory) t
   there h modrm may memory t e =
       ap (λ x. (last_read o.last l p (put_in o.reg x (put_in o.rm (rm_pair we p m memory) (sized o.count size))) >>= λ operand_list. pure (reading_with opcode p operand_list)) t) (same_reg b wr n p m modrm)
       ∙ ap (λ y. (last_read o.last l p (put_in o.reg (reg_pair_of b wr n p m) (put_in o.rm y (sized o.count size))) >>= λ operand_list. pure (reading_with opcode p operand_list)) t) (same_rm b we p opcode m memory modrm may e)
@@ -174,9 +115,7 @@ module _ (b : AfterOpcode) (o : Order) (wr we : Width) (l : Last) (n size opcode
 -- ---- operands with no ModRM
 
 same_fixed : (b : AfterOpcode) (w : Width) (n : ℕ) (p : Prefixes) (m : ℕ) → has_register b ≡ true → fixed_pair b w n p ≡ reg_pair_of b w n p m
-same_fixed after_opcode.Opcode w n p m h = refl
-same_fixed after_opcode.Accumulator w n p m h = refl
-same_fixed b w n p m h = cc
+same_fixed b w n p m h = grind arith
 
 fixed_plan : (b : AfterOpcode) (o : Order) (wr we : Width) (l : Last) (n size opcode : ℕ) (p : Prefixes) (m : ℕ) (s : State ℕ) (operand_list : Operands) → Named o → has_modrm b ≡ false → allows b opcode m ≡ true →
     operand_list ≡ put_in o.reg (reg_pair_of b wr n p m) (put_in o.rm (rm_pair_of b we p m None) (sized o.count size)) →
@@ -212,9 +151,7 @@ plan_is_read e n opcode p m s h f a =
 -- ---- in place
 
 pub encoded_at_position : (at : Position) (n : ℕ) (l : OperandEncoding) (p : Prefixes) (operand_list : Operands) (s : State ℕ) → n ≡ index_of_position at → at ≢ Nowhere → put_encoded n l p absent_modrm None operand_list s ≡ encoded_read at l p operand_list s
-encoded_at_position Nowhere n l p operand_list s e h = absurd (h refl)
-encoded_at_position at n l p operand_list s e h = rw e refl
+encoded_at_position at n l p operand_list s e h = grind arith
 
 pub rm_in_memory : (w : Width) (p : Prefixes) (m : ℕ) (raw : Raw) → rm_pair w p m (Some raw) ≡ shape raw
-rm_in_memory width.Mm p m raw = refl
-rm_in_memory w p m raw = refl
+rm_in_memory w p m raw = grind arith

@@ -1,22 +1,14 @@
 -- The line of each form in the table of operand encodings.
-use Rattle.std.proofs.Common.{◌≡◌, ◌<◌, ◌+◌, ℕ, Bool, true, false, not, if◌then◌else◌, ltb, ◌||◌, ◌&&◌, List, [], ◌∷◌, length, zero, suc, rules, get_or, refl, sym, ap, subst, ◌∙◌, arith}
-use Rattle.std.proofs.lemmas.Bool.{and_parts, ltb-true}
-use Rattle.x86_forms.specs.declared.Form.{Form}
+use Rattle.std.proofs.Common.{◌≡◌, ◌<◌, ◌+◌, ℕ, Bool, true, false, if◌then◌else◌, length, rules, get_or, refl, sym, ap, subst, ◌∙◌, arith}
+use Rattle.std.proofs.lemmas.Bool.{ltb-true}
+use Rattle.x86_operands.specs.Vocabulary.{Form, Prefixes, AfterOpcode, FormEncoding, Size, Plan, Width, is_memory}
 use Rattle.x86_forms.specs.declared.Form.TheVariants as form
 use Rattle.x86_forms.specs.Ordinals.{first_ordinal_of, ordinal_of}
 use Rattle.x86_forms.specs.Words.{IsForm, carried}
 use Rattle.x86_forms.proofs.FormLemmas.{up_to_seven}
 use denote.Enum.Bare.{sameb, same_true}
-use Rattle.x86_fields.specs.declared.prefixes.Prefixes.{Prefixes}
-use Rattle.x86_fields.specs.ModRM.{is_memory}
-use Rattle.x86_operands.specs.declared.encodings.AfterOpcode.{AfterOpcode}
 use Rattle.x86_operands.specs.declared.encodings.AfterOpcode.TheVariants as after_opcode
-use Rattle.x86_operands.specs.declared.encodings.FormEncoding.{FormEncoding}
-use Rattle.x86_operands.specs.declared.encodings.Size.{Size}
 use Rattle.x86_operands.specs.contracts.encodings.Size.{the_type}
-use Rattle.x86_operands.specs.declared.plans.Plan.{Plan}
-use Rattle.x86_fields.specs.declared.sizes.Width.{Width}
-use Rattle.x86_fields.specs.declared.sizes.Width.TheVariants as width
 use Rattle.x86_operands.specs.declared.lines.TheConstants.{ENCODINGS}
 use Rattle.x86_operands.specs.FormEncodings.{Belongs, Describes, HasSeparatePlan}
 use Rattle.x86_operands.specs.Encodings.{encodings_in, is_described, is_sound, last_encoding, plan_of, reg_encoding, restricted_plan, rm_encoding, size_at, size_bytes, use_of}
@@ -37,12 +29,7 @@ abbrev bytes_by : Bool → Size → Size → ℕ → Prefixes → ℕ
 bytes_by memory x y o p = if sameb the_type x y then size_bytes x o p else (if memory then size_bytes x o p else size_bytes y o p)
 
 bytes_are : (memory : Bool) (x y : Size) (o : ℕ) (p : Prefixes) → size_bytes (if memory then x else y) o p ≡ bytes_by memory x y o p
-bytes_are memory x y o p = by memory (sameb the_type x y) refl
-  where
-    by : (memory same : Bool) → sameb the_type x y ≡ same → size_bytes (if memory then x else y) o p ≡ (if same then size_bytes x o p else (if memory then size_bytes x o p else size_bytes y o p))
-    by false true e = ap (λ z. size_bytes z o p) (sym (same_true the_type tt x y e))
-    by true true e = refl
-    by memory same e = refl
+bytes_are memory x y o p = grind (arith, same_true the_type tt)
 
 abbrev plan_with : FormEncoding → Form → ℕ → Prefixes → ℕ → ℕ → Plan
 plan_with e f o p m size = restricted_plan e.after_opcode m (reads o (encodings_in e.order (reg_encoding e.after_opcode e.reg (carried f) p) (rm_encoding e.after_opcode e.rm p) (last_encoding e.last p)) size)
@@ -67,8 +54,17 @@ pub first_line : (f : Form) → IsLineAt (first_ordinal_of f + 1) f
 first_line (form.Zv_R n) d = line_by _ _ (λ o m p. refl) (search rules) refl refl
 first_line _ d = line_by _ _ (λ o m p. refl) (search rules) refl refl
 
+abbrev is_opcode : AfterOpcode → Bool
+is_opcode after_opcode.Opcode = true
+is_opcode b = false
+
+-- the line is in the table, it is that of the form's first number, and the register of the opcode byte is in the first 40
+-- alone
 abbrev HasLine : Form → Type 0
-HasLine f = (1 + ordinal_of f < length ENCODINGS.now) × ((d : FormEncoding) → get_or ENCODINGS.now (first_ordinal_of f + 1) d ≡ get_or ENCODINGS.now (1 + ordinal_of f) d)
+HasLine f =
+    (1 + ordinal_of f < length ENCODINGS.now)
+    × ((d : FormEncoding) → get_or ENCODINGS.now (first_ordinal_of f + 1) d ≡ get_or ENCODINGS.now (1 + ordinal_of f) d)
+    × ((d : FormEncoding) → is_opcode (get_or ENCODINGS.now (first_ordinal_of f + 1) d).after_opcode ≡ true → 1 + ordinal_of f < 41)
 
 first_lines : 40 < length ENCODINGS.now
 first_lines = ltb-true 40 (length ENCODINGS.now) refl
@@ -76,12 +72,12 @@ first_lines = ltb-true 40 (length ENCODINGS.now) refl
 -- each number that a form carries has the same line
 has_line : (f : Form) → IsForm f → HasLine f
 unfolding ordinal_of
-has_line (form.Zv_R n) below = (omega (arith, first_lines, below), λ d. up_to_seven (λ n. get_or ENCODINGS.now (1 + 0) d ≡ get_or ENCODINGS.now (1 + (0 + n)) d) refl refl refl refl refl refl refl refl n below)
-has_line (form.Zv_AX_R n) below = (omega (arith, first_lines, below), λ d. up_to_seven (λ n. get_or ENCODINGS.now (1 + 8) d ≡ get_or ENCODINGS.now (1 + (8 + n)) d) refl refl refl refl refl refl refl refl n below)
-has_line (form.Zb_Ib_R n) below = (omega (arith, first_lines, below), λ d. up_to_seven (λ n. get_or ENCODINGS.now (1 + 16) d ≡ get_or ENCODINGS.now (1 + (16 + n)) d) refl refl refl refl refl refl refl refl n below)
-has_line (form.Zv_Ivq_R n) below = (omega (arith, first_lines, below), λ d. up_to_seven (λ n. get_or ENCODINGS.now (1 + 24) d ≡ get_or ENCODINGS.now (1 + (24 + n)) d) refl refl refl refl refl refl refl refl n below)
-has_line (form.Zv_B n) below = (omega (arith, first_lines, below), λ d. up_to_seven (λ n. get_or ENCODINGS.now (1 + 32) d ≡ get_or ENCODINGS.now (1 + (32 + n)) d) refl refl refl refl refl refl refl refl n below)
-has_line _ below = (ltb-true _ _ refl, λ d. refl)
+has_line (form.Zv_R n) below = (omega (arith, first_lines, below), λ d. up_to_seven (λ n. get_or ENCODINGS.now (1 + 0) d ≡ get_or ENCODINGS.now (1 + (0 + n)) d) refl refl refl refl refl refl refl refl n below, λ d is. omega (arith, below))
+has_line (form.Zv_AX_R n) below = (omega (arith, first_lines, below), λ d. up_to_seven (λ n. get_or ENCODINGS.now (1 + 8) d ≡ get_or ENCODINGS.now (1 + (8 + n)) d) refl refl refl refl refl refl refl refl n below, λ d is. omega (arith, below))
+has_line (form.Zb_Ib_R n) below = (omega (arith, first_lines, below), λ d. up_to_seven (λ n. get_or ENCODINGS.now (1 + 16) d ≡ get_or ENCODINGS.now (1 + (16 + n)) d) refl refl refl refl refl refl refl refl n below, λ d is. omega (arith, below))
+has_line (form.Zv_Ivq_R n) below = (omega (arith, first_lines, below), λ d. up_to_seven (λ n. get_or ENCODINGS.now (1 + 24) d ≡ get_or ENCODINGS.now (1 + (24 + n)) d) refl refl refl refl refl refl refl refl n below, λ d is. omega (arith, below))
+has_line (form.Zv_B n) below = (omega (arith, first_lines, below), λ d. up_to_seven (λ n. get_or ENCODINGS.now (1 + 32) d ≡ get_or ENCODINGS.now (1 + (32 + n)) d) refl refl refl refl refl refl refl refl n below, λ d is. omega (arith, below))
+has_line _ below = (ltb-true _ _ refl, λ d. refl, λ d is. absurd cc)
 
 pub number_below : (f : Form) (n : ℕ) → IsForm f → n ≡ 1 + ordinal_of f → n < length ENCODINGS.now
 number_below f n below e = subst (λ n. n < length ENCODINGS.now) (sym e) (has_line f below).0
@@ -91,43 +87,9 @@ line_at f n below e d =
     subst (λ n. IsLine (get_or ENCODINGS.now n d) f) (sym e)
     (subst (λ line. IsLine line f) ((has_line f below).1 d) (first_line f d))
 
--- only the lines before 41 have the register of the opcode byte
-abbrev is_opcode : AfterOpcode → Bool
-is_opcode after_opcode.Opcode = true
-is_opcode b = false
-
-abbrev opcode_first : ℕ → List FormEncoding → Bool
-opcode_first k [] = true
-opcode_first k (e ∷ es) = (ltb k 41 || not (is_opcode e.after_opcode)) && opcode_first (suc k) es
-
-all_first : opcode_first 0 ENCODINGS.now ≡ true
-all_first = refl
-
-left : (a : Bool) → (a || false) ≡ true → a ≡ true
-left true h = refl
-left false h = h
-
-opcode_at : (es : List FormEncoding) (k i : ℕ) (d : FormEncoding) → opcode_first k es ≡ true → i < length es → (get_or es i d).after_opcode ≡ after_opcode.Opcode → i + k < 41
-opcode_at [] k i d e below is = absurd (omega arith)
-opcode_at (x ∷ es) k zero d e below is =
-    let here = subst (λ b. (ltb k 41 || not (is_opcode b)) ≡ true) is (and_parts (ltb k 41 || not (is_opcode x.after_opcode)) (opcode_first (suc k) es) e).0 in
-    let first : k < 41 = ltb-true k 41 (left (ltb k 41) here) in
-    omega (arith, first)
-opcode_at (x ∷ es) k (suc i) d e below is =
-    let there = opcode_at es (suc k) i d (and_parts (ltb k 41 || not (is_opcode x.after_opcode)) (opcode_first (suc k) es) e).1 (omega (arith, below)) is in
-    omega (arith, there)
-
-carries_at : (f : Form) (n : ℕ) (d : FormEncoding) → IsForm f → n ≡ 1 + ordinal_of f → (get_or ENCODINGS.now n d).after_opcode ≡ after_opcode.Opcode → n < 41
-carries_at f n d below e is =
-    let first = opcode_at ENCODINGS.now 0 n d all_first (number_below f n below e) is in
-    omega (arith, first)
-
 -- the plan of a line looks at the number of the opcode byte only for the register of the opcode byte
 reg_by_number : (b : AfterOpcode) (w : Width) (n k : ℕ) (p : Prefixes) → (b ≡ after_opcode.Opcode → n ≡ k) → reg_encoding b w n p ≡ reg_encoding b w k p
-reg_by_number after_opcode.Opcode w n k p same = ap (λ x. reg_encoding after_opcode.Opcode w x p) (same refl)
-reg_by_number after_opcode.Accumulator w n k p same = refl
-reg_by_number b width.Mm n k p same = refl
-reg_by_number b w n k p same = refl
+reg_by_number b w n k p same = grind arith
 
 plan_by_number : (e : FormEncoding) (n k o m : ℕ) (p : Prefixes) → (e.after_opcode ≡ after_opcode.Opcode → n ≡ k) → plan_of e n o p m ≡ plan_of e k o p m
 plan_by_number e n k o m p same =
@@ -136,4 +98,6 @@ plan_by_number e n k o m p same =
 
 pub numbered_at : (f : Form) (number n : ℕ) (d : FormEncoding) → IsForm f → number ≡ 1 + ordinal_of f → (number < 41 → n ≡ carried f) → (o m : ℕ) (p : Prefixes) → plan_of (get_or ENCODINGS.now number d) n o p m ≡ plan_of (get_or ENCODINGS.now number d) (carried f) o p m
 numbered_at f number n d below e carries o m p =
-    plan_by_number (get_or ENCODINGS.now number d) n (carried f) o m p (λ is. carries (carries_at f number d below e is))
+    let line = has_line f below in
+    plan_by_number (get_or ENCODINGS.now number d) n (carried f) o m p (λ is. carries (subst (λ k. k < 41) (sym e)
+    (line.2 d (ap (λ l. is_opcode l.after_opcode) (line.1 d ∙ ap (λ k. get_or ENCODINGS.now k d) (sym e)) ∙ ap is_opcode is))))

@@ -1,19 +1,10 @@
 -- The orders of a sound line, and what follows where it accepts.
-use Rattle.std.proofs.Common.{◌≡◌, ℕ, true, false, if◌then◌else◌, ◌&&◌, ◌≢◌, IsTrue, refl}
-use Rattle.std.proofs.lemmas.Bool.{and_parts, eqb-true, not-true}
-use Rattle.x86_operands.specs.declared.plans.OperandEncodings.{OperandEncodings}
-use Rattle.x86_operands.specs.declared.order.Position.{Position}
-use Rattle.x86_operands.specs.declared.order.Position.TheVariants.{First, Second, Third, Nowhere}
-use Rattle.x86_operands.specs.declared.order.Order.{Order}
-use Rattle.x86_operands.specs.declared.encodings.AfterOpcode.{AfterOpcode}
-use Rattle.x86_operands.specs.declared.encodings.AfterOpcode.TheVariants as after_opcode
-use Rattle.x86_operands.specs.declared.encodings.Last.{Last}
+use Rattle.std.proofs.Common.{◌≡◌, ℕ, true, false, ◌≢◌, IsTrue, arith}
+use Rattle.std.proofs.lemmas.Bool.{eqb-true}
+use Rattle.x86_operands.specs.Vocabulary.{OperandEncodings, Position, First, Second, Third, Nowhere, Order, AfterOpcode, FormEncoding, is_memory}
 use Rattle.x86_operands.specs.declared.encodings.Last.TheVariants as last
-use Rattle.x86_operands.specs.declared.encodings.FormEncoding.{FormEncoding}
-use Rattle.x86_fields.specs.ModRM.{is_memory}
-use Rattle.x86_operands.specs.FormSizes.{lacks_memory}
 use Rattle.x86_operands.specs.Plans.{reads}
-use Rattle.x86_operands.specs.Encodings.{restricted_plan, is_last, has_last, somewhere, is_described, is_sound, is_order_of, is_order, has_modrm, has_register, order_fits, allows}
+use Rattle.x86_operands.specs.Encodings.{restricted_plan, has_last, is_described, is_sound, is_order_of, is_order, has_modrm, has_register, order_fits, allows}
 
 -- ---- the orders
 
@@ -47,43 +38,21 @@ named_of a b c n h = cc
 -- ---- the verdict
 
 pub accepted : (b : AfterOpcode) (m o size : ℕ) (encodings : OperandEncodings) → allows b o m ≡ true → restricted_plan b m (reads o encodings size) ≡ reads o encodings size
-accepted after_opcode.Memory m o size encodings h = rw h refl
-accepted after_opcode.Registers m o size encodings h = rw (not-true (is_memory m) h) refl
-accepted after_opcode.FormByOpcode m o size encodings h = rw (not-true (lacks_memory o m) h) refl
-accepted b m o size encodings h = refl
+accepted b m o size encodings h = grind arith
 
 pub no_memory : (b : AfterOpcode) (o m : ℕ) → has_modrm b ≡ false → allows b o m ≡ true → is_memory m ≡ false
-no_memory after_opcode.EitherForm o m h a = cc
-no_memory after_opcode.Memory o m h a = cc
-no_memory after_opcode.FormByOpcode o m h a = cc
-no_memory (after_opcode.ByReg g) o m h a = cc
-no_memory (after_opcode.ByPlan u) o m h a = cc
-no_memory after_opcode.Group o m h a = cc
-no_memory b o m h a = not-true (is_memory m) a
+no_memory b o m h a = grind arith
 
 pub no_modrm : (b : AfterOpcode) → has_register b ≡ true → has_modrm b ≡ false
-no_modrm after_opcode.Opcode h = refl
-no_modrm after_opcode.Accumulator h = refl
-no_modrm b h = cc
+no_modrm b h = grind arith
 
 pub last_there : (e : FormEncoding) → has_last e.order e.last ≡ true → e.order.last ≢ Nowhere → e.last ≢ last.Absent
-last_there e h k = ends_at e.order.last e.last h k
-  where
-    ends_at : (at : Position) (l : Last) → (if somewhere at then is_last l else true) ≡ true → at ≢ Nowhere → l ≢ last.Absent
-    ends_at Nowhere l h k = absurd (k refl)
-    ends_at at last.Absent h k = cc
-    ends_at at l h k = λ e. cc
+last_there e h k is = grind arith
 
 -- ---- a sound line
 
 pub sound_parts : (e : FormEncoding) → is_sound e ≡ true → (is_order e.order ≡ true) × (order_fits e.after_opcode e.order ≡ true) × (has_last e.order e.last ≡ true)
-sound_parts e h =
-    let parts = and_parts (is_order e.order) (order_fits e.after_opcode e.order && has_last e.order e.last) h in
-    let rest = and_parts (order_fits e.after_opcode e.order) (has_last e.order e.last) parts.1 in
-    (parts.0, rest.0, rest.1)
+sound_parts e h = (grind arith, grind arith, grind arith)
 
 pub allowed_is_described : (b : AfterOpcode) (o m : ℕ) → allows b o m ≡ true → IsTrue (is_described b)
-allowed_is_described (after_opcode.ByReg g) o m h = cc
-allowed_is_described (after_opcode.ByPlan u) o m h = cc
-allowed_is_described after_opcode.Group o m h = cc
-allowed_is_described b o m h = refl
+allowed_is_described b o m h = grind arith

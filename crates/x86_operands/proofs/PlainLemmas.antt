@@ -1,26 +1,22 @@
 -- What holds of the plans of all plain forms.
-use Rattle.std.proofs.Common.{◌≡◌, ◌≢◌, ◌≤◌, inl, inr, ℕ, Err, true, false, rules, sym, ap, ◌∙◌}
+use Rattle.std.proofs.Common.{◌≡◌, ◌≢◌, ◌≤◌, inl, inr, ℕ, Err, true, false, sym, ap, ◌∙◌, arith}
+use Rattle.std.proofs.lemmas.Bool.Decides.{nat_tests}
 use Rattle.x86_arch.specs.Reader.{State}
 use Rattle.x86_fields.specs.declared.errors.DecodeError.TheVariants.{IncompleteDecoder}
-use Rattle.x86_fields.specs.declared.prefixes.Prefixes.{Prefixes}
-use Rattle.x86_forms.specs.declared.Form.{Form}
+use Rattle.x86_operands.specs.Vocabulary.{Prefixes, Form, Incomplete, Moment, Refuses, TableRow}
 use Rattle.x86_forms.specs.declared.Form.TheVariants as form
 use Rattle.x86_forms.specs.Groups.{is_group}
-use Rattle.x86_operands.specs.declared.plans.Fault.TheVariants.{Incomplete}
-use Rattle.x86_operands.specs.declared.plans.Moment.{Moment}
-use Rattle.x86_operands.specs.declared.plans.Verdict.TheVariants.{Refuses}
-use Rattle.x86_forms.specs.declared.TableRow.{TableRow}
 use Rattle.x86_operands.specs.PlanSteps.{record_step}
 use Rattle.x86_operands.specs.Asks.{immediates_width}
 use Rattle.x86_operands.specs.Forms.{form_plan, form_record}
 use Rattle.x86_operands.proofs.RowLemmas.{HasGap, row_left_out}
-use Rattle.x86_operands.proofs.PlanTests.{passes, small_steps, without_gap, at_most_64, at_most_8}
+use Rattle.x86_operands.proofs.PlanTests.{passes, narrow, without_gap, at_most_64, at_most_8}
 
 -- by the form
 plain_passes : (f : Form) (o : ℕ) (p : Prefixes) (m : ℕ) → passes (is_group f) (form_plan f o p m) ≡ true
-unfolding passes
-plain_passes (form.Zv_R n) o p m = search (rules, small_steps)
-plain_passes _ o p m = search (rules, small_steps)
+unfolding passes narrow
+plain_passes (form.Zv_R n) o p m = grind (arith, nat_tests)
+plain_passes _ o p m = grind (arith, nat_tests)
 
 pub plain_built : (row : TableRow) (p : Prefixes) (m : ℕ) (w : Moment) → is_group row.form ≡ false → ((form_record row p).plan m).verdict ≢ Refuses Incomplete w
 unfolding form_record

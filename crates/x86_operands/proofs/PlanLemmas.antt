@@ -1,33 +1,19 @@
 -- What a plan takes, and where it ends: its pieces, one after another.
-use Rattle.std.proofs.Common.{◌≡◌, ℕ, ◌+◌, Bool, true, false, if◌then◌else◌, List, [], ◌∷◌, ◌++◌, length, map, Option, Some, None, Result, Ok, Err, refl, sym, ap, subst, ◌∙◌, length-append, true≢false}
+use Rattle.std.proofs.Common.{◌≡◌, ℕ, ◌+◌, Bool, true, false, if◌then◌else◌, List, [], ◌∷◌, ◌++◌, length, map, Option, Some, None, Result, Ok, Err, refl, sym, ap, subst, ◌∙◌, length-append, arith}
 use Rattle.std.proofs.lemmas.List.{append-nil}
-use Rattle.x86_fields.specs.declared.errors.DecodeError.{DecodeError}
-use Rattle.x86_fields.specs.declared.prefixes.Prefixes.{Prefixes}
-use Rattle.x86_fields.specs.declared.raw.Raw.{Raw}
+use Rattle.x86_operands.specs.Vocabulary.{DecodeError, Prefixes, Raw, Slot, Operand, OperandEncoding, Moment, AtModRM, AfterAddress, AfterSuffix, Fault, BadOpcode, Verdict, NamedBySuffix, Refuses, Plan, Reading, is_memory}
 use Rattle.x86_fields.specs.Raw.{read_raw}
 use Rattle.x86_fields.specs.Steps.{Step, pure, ◌>>=◌}
 use Rattle.x86_fields.specs.Pieces.{SpellsRaw, EndsBetween, raw_widths, total}
 use Rattle.x86_fields.proofs.StepLemmas.{Takes, takes_pure, takes_bind, takes_err}
 use Rattle.x86_fields.proofs.EndLemmas.{EndsWell, IsEmpty, Only, ends_pure, ends_bind, ends_then, ends_map, weaken, Halts, halts_bind, halts_empty, halts_same, over, final_err, bind_assoc}
 use Rattle.x86_fields.proofs.PieceLemmas.{takes_map, ends_raw, takes_raw, halts_raw, raw_long, none_there, more_missing, more_there, FirstPiece, nothing, piece, first_piece, between_nil}
-use Rattle.x86_operands.specs.declared.operands.Slot.{Slot}
-use Rattle.x86_operands.specs.declared.operands.Operand.{Operand}
-use Rattle.x86_operands.specs.declared.plans.OperandEncoding.{OperandEncoding}
-use Rattle.x86_operands.specs.declared.plans.Moment.{Moment}
-use Rattle.x86_operands.specs.declared.plans.Moment.TheVariants.{AtModRM, AfterAddress, AfterSuffix}
-use Rattle.x86_operands.specs.declared.plans.Fault.{Fault}
-use Rattle.x86_operands.specs.declared.plans.Fault.TheVariants.{BadOpcode}
-use Rattle.x86_operands.specs.declared.plans.Verdict.{Verdict}
-use Rattle.x86_operands.specs.declared.plans.Verdict.TheVariants.{NamedBySuffix, Refuses}
-use Rattle.x86_operands.specs.declared.plans.Plan.{Plan}
-use Rattle.x86_operands.specs.declared.reader.Reading.{Reading}
-use Rattle.x86_fields.specs.ModRM.{is_memory}
 use Rattle.x86_operands.specs.Plans.{list_of}
 use Rattle.x86_operands.specs.PlanSteps.{FilledOperands, operands_step, filled_step, four_of, refuse_at, read_opcode, read_memory, read_plan, reading_from, error_of}
 use Rattle.x86_operands.specs.Asks.{immediate_width}
 use Rattle.x86_operands.specs.Pieces.{SpellsOperands, SpellsMemory, SpellsPieces, SpellsTail, RefusesTail, at_modrm, after_address, after_suffix, no_name, is_refusal, suffix_width, opcode_by, memory_widths, plan_widths, tail_widths}
 use Rattle.x86_operands.proofs.OperandLemmas.{ends_operands, takes_operands, halts_operands}
-use Rattle.x86_operands.proofs.VerdictLemmas.{Faults, Never, refuses_at, IsVerdict, ends_verdict, takes_passed, takes_refused, halts_verdict, passed_other, passed_suffix, fault_error, IsNamed, ends_opcode, takes_opcode, takes_unnamed}
+use Rattle.x86_operands.proofs.VerdictLemmas.{Faults, Never, refuses_at, IsVerdict, ends_verdict, takes_passed, takes_refused, halts_verdict, fault_error, IsNamed, ends_opcode, takes_opcode, takes_unnamed}
 
 -- ---- the memory operand
 
@@ -38,14 +24,9 @@ memory_by false p m is = ends_pure (Only (SpellsMemory p m)) (λ q. EndsBetween 
 ends_memory : (p : Prefixes) (m : ℕ) → EndsWell (Only (SpellsMemory p m)) (λ q. EndsBetween (memory_widths m q) q) (read_memory p m)
 ends_memory p m = memory_by (is_memory m) p m refl
 
-takes_memory_by : (test : Bool) (p : Prefixes) (m : ℕ) (q : List ℕ) (memory : Option Raw) → is_memory m ≡ test → SpellsMemory p m q memory → Takes (if test then (read_raw p m >>= λ raw. pure (Some raw)) else pure None) q (Ok memory)
-takes_memory_by true p m q (Some raw) is h = takes_map (read_raw p m) Some q raw (takes_raw p m q raw h.1)
-takes_memory_by false p m q None is h = subst (λ l. Takes {X = Option Raw} (pure None) l (Ok None)) (sym h.1) (takes_pure (Ok None))
-takes_memory_by true p m q None is h = absurd (true≢false (sym is ∙ h.0))
-takes_memory_by false p m q (Some raw) is h = absurd (true≢false (sym h.0 ∙ is))
-
 takes_memory : (p : Prefixes) (m : ℕ) (q : List ℕ) (memory : Option Raw) → SpellsMemory p m q memory → Takes (read_memory p m) q (Ok memory)
-takes_memory p m q memory h = takes_memory_by (is_memory m) p m q memory refl h
+takes_memory p m q (Some raw) h = rw h.0 (takes_map (read_raw p m) Some q raw (takes_raw p m q raw h.1))
+takes_memory p m q None h = rw h.0 (subst (λ l. Takes {X = Option Raw} (pure None) l (Ok None)) (sym h.1) (takes_pure (Ok None)))
 
 memory_long : (p : Prefixes) (m : ℕ) (q rest : List ℕ) (memory : Option Raw) → SpellsMemory p m q memory → length q ≡ total (memory_widths m (q ++ rest))
 memory_long p m q rest (Some raw) h = raw_long p m q rest raw h.1 ∙ ap (λ b. total (if b then raw_widths m (q ++ rest) else [])) (sym h.0)
@@ -67,15 +48,10 @@ PlanBetween plan m q = EndsBetween (tail_widths plan m q) q
 
 -- a verdict refuses at none of the three moments
 never : (v : Verdict) → refuses_at v AtModRM ≡ false → refuses_at v AfterAddress ≡ false → refuses_at v AfterSuffix ≡ false → is_refusal v ≡ false
-never (Refuses f AtModRM) a b c = cc
-never v a b c = cc
+never v a b c = grind arith
 
 passed : (v : Verdict) (at : Moment) → is_refusal v ≡ false → refuses_at v at ≡ false
-passed (Refuses f moment) at e = cc
-passed v at e = refl
-
-no_suffix_opcode : (v : Verdict) (f : Fault) (at : Moment) (opcode : ℕ) (q : List ℕ) → v ≡ Refuses f at → opcode_by v opcode q ≡ Some opcode
-no_suffix_opcode v f at opcode q e = ap (λ o. opcode_by o opcode q) e
+passed v at e = grind arith
 
 module _ (plan : Plan) (p : Prefixes) (m : ℕ) where
   abbrev v : Verdict
@@ -185,8 +161,8 @@ module _ (plan : Plan) (p : Prefixes) (m : ℕ) where
   takes_after_suffix fault tail is s =
       let operand_pairs : FilledOperands = four_of s.operand_pairs in
       let last : Takes (finish_step operand_pairs plan.opcode) [] (Err (error_of fault)) = takes_err (refuse_at v AfterSuffix) (λ _. pure (reading_from plan p plan.opcode operand_pairs)) [] (error_of fault) (takes_refused v fault AfterSuffix is) in
-      let named : Takes (after_operands operand_pairs) (s.suffix ++ []) (Err (error_of fault)) = takes_bind (read_opcode v plan.opcode) (finish_step operand_pairs) s.suffix [] plan.opcode (Err (error_of fault)) (takes_opcode v plan.opcode plan.opcode s.suffix s.suffix_length (no_suffix_opcode v fault AfterSuffix plan.opcode s.suffix is)) last in
-      takes_pieces tail (Err (error_of fault)) s (passed_other v fault AfterSuffix AtModRM is refl) (passed_other v fault AfterSuffix AfterAddress is refl)
+      let named : Takes (after_operands operand_pairs) (s.suffix ++ []) (Err (error_of fault)) = takes_bind (read_opcode v plan.opcode) (finish_step operand_pairs) s.suffix [] plan.opcode (Err (error_of fault)) (takes_opcode v plan.opcode plan.opcode s.suffix s.suffix_length (ap (λ o. opcode_by o plan.opcode s.suffix) is)) last in
+      takes_pieces tail (Err (error_of fault)) s (ap (λ o. refuses_at o AtModRM) is) (ap (λ o. refuses_at o AfterAddress) is)
       (subst (λ l. Takes (after_operands operand_pairs) l (Err (error_of fault))) (append-nil s.suffix) named)
 
   pub takes_tail_refused : (tail : List ℕ) (fault : Fault) → RefusesTail plan p m tail fault → Takes (read_plan plan p m) tail (Err (error_of fault))
@@ -194,13 +170,13 @@ module _ (plan : Plan) (p : Prefixes) (m : ℕ) where
   takes_tail_refused tail fault (at_modrm is none) = subst (λ l. Takes (read_plan plan p m) l (Err (error_of fault))) (sym none)
       (takes_err (refuse_at v AtModRM) (λ _. read_memory p m >>= after_memory) [] (error_of fault) (takes_refused v fault AtModRM is))
   takes_tail_refused tail fault (after_address memory is h) = subst (λ l. Takes (read_plan plan p m) l (Err (error_of fault))) (append-nil tail)
-      (takes_first memory tail [] (Err (error_of fault)) h (passed_other v fault AfterAddress AtModRM is refl)
+      (takes_first memory tail [] (Err (error_of fault)) h (ap (λ o. refuses_at o AtModRM) is)
       (takes_err (refuse_at v AfterAddress) (λ _. after_address_step memory) [] (error_of fault) (takes_refused v fault AfterAddress is)))
   takes_tail_refused tail fault (after_suffix is s) = takes_after_suffix fault tail is s
   takes_tail_refused tail fault (no_name s is none same) =
       let operand_pairs : FilledOperands = four_of s.operand_pairs in
       subst (λ e. Takes (read_plan plan p m) tail (Err e)) (ap error_of (sym same))
-      (takes_pieces tail (Err (error_of BadOpcode)) s (passed_suffix v AtModRM is) (passed_suffix v AfterAddress is)
+      (takes_pieces tail (Err (error_of BadOpcode)) s (ap (λ o. refuses_at o AtModRM) is) (ap (λ o. refuses_at o AfterAddress) is)
       (takes_err (read_opcode v plan.opcode) (finish_step operand_pairs) s.suffix (error_of BadOpcode) (takes_unnamed v plan.opcode s.suffix is s.suffix_length none)))
 
   -- ---- bytes that end between the pieces

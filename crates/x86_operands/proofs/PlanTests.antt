@@ -1,21 +1,8 @@
 -- Tests of plans, that hold of a choice where they hold of both sides.
-use Rattle.std.proofs.Common.{◌≡◌, ◌≢◌, ◌≤◌, ◌+◌, ℕ, nat_lt, Bool, true, false, not, ◌&&◌, ◌||◌, if◌then◌else◌, rules, arith, refl, ap}
-use Rattle.std.proofs.lemmas.Bool.{and_parts}
+use Rattle.std.proofs.Common.{◌≡◌, ◌≢◌, ◌≤◌, ℕ, nat_lt, Bool, true, false, not, ◌&&◌, ◌||◌, if◌then◌else◌, rules, arith, ap}
 use Rattle.std.proofs.lemmas.Bool.Decides.{nat_tests}
-use Rattle.x86_regs.specs.declared.RegisterClass.{RegisterClass}
-use Rattle.x86_regs.specs.Class.{width_of}
-use Rattle.x86_operands.specs.declared.plans.Fault.{Fault}
-use Rattle.x86_operands.specs.declared.plans.Fault.TheVariants.{Incomplete}
-use Rattle.x86_operands.specs.declared.plans.Moment.{Moment}
-use Rattle.x86_operands.specs.declared.plans.Verdict.{Verdict}
-use Rattle.x86_operands.specs.declared.plans.Verdict.TheVariants.{Refuses}
-use Rattle.x86_operands.specs.declared.plans.Plan.{Plan}
-use Rattle.x86_operands.specs.declared.plans.PrefixChange.{PrefixChange}
-use Rattle.x86_operands.specs.declared.plans.OperandEncoding.{OperandEncoding}
-use Rattle.x86_operands.specs.declared.plans.OperandEncoding.TheVariants.{I8}
-use Rattle.x86_operands.specs.declared.plans.OperandEncodings.{OperandEncodings}
-use Rattle.x86_operands.specs.declared.plans.OperandEncodings.TheVariants.{One, Two, Three}
-use Rattle.x86_operands.specs.Asks.{immediate_width, immediates_width}
+use Rattle.x86_operands.specs.Vocabulary.{RegisterClass, Fault, Incomplete, Moment, Verdict, Refuses, Plan, PrefixChange, OperandEncodings, width_of}
+use Rattle.x86_operands.specs.Asks.{immediates_width}
 use Rattle.x86_opcodes.specs.declared.Opcode.{Opcode}
 
 -- a refusal for a form that isn't built
@@ -35,94 +22,28 @@ narrow encodings = nat_lt (immediates_width encodings) 9
 unfoldable pub passes : Bool → Plan → Bool
 passes gaps plan = ((gaps || not (has_gap plan.verdict)) && nat_lt plan.size 65) && narrow plan.encodings
 
-width_small : (s : OperandEncoding) → nat_lt (immediate_width s) 9 ≡ true
-width_small I8 = refl
-width_small s = refl
-
-alone : (w : ℕ) → nat_lt w 9 ≡ true → nat_lt (w + 0) 9 ≡ true
-alone w h = grind (arith, nat_tests)
-
-after_none : (x w : ℕ) → x ≡ 0 → nat_lt w 9 ≡ true → nat_lt (x + w) 9 ≡ true
-after_none x w e h = grind (arith, nat_tests)
-
-before_none : (w x : ℕ) → x ≡ 0 → nat_lt w 9 ≡ true → nat_lt (w + (x + 0)) 9 ≡ true
-before_none w x e h = grind (arith, nat_tests)
-
-pub narrow_by : (encodings : OperandEncodings) → nat_lt (immediates_width encodings) 9 ≡ true → narrow encodings ≡ true
-unfolding narrow
-narrow_by encodings h = h
-
-pub narrow_one : (a : OperandEncoding) → narrow (One a) ≡ true
-unfolding narrow
-narrow_one a = alone (immediate_width a) (width_small a)
-
-pub narrow_second : (a b : OperandEncoding) → immediate_width a ≡ 0 → narrow (Two a b) ≡ true
-unfolding narrow
-narrow_second a b e = after_none (immediate_width a) (immediate_width b + 0) e (alone (immediate_width b) (width_small b))
-
-pub narrow_first : (a b : OperandEncoding) → immediate_width b ≡ 0 → narrow (Two a b) ≡ true
-unfolding narrow
-narrow_first a b e = before_none (immediate_width a) (immediate_width b) e (width_small a)
-
-pub narrow_third : (a b c : OperandEncoding) → immediate_width a ≡ 0 → immediate_width b ≡ 0 → narrow (Three a b c) ≡ true
-unfolding narrow
-narrow_third a b c e h = after_none (immediate_width a) (immediate_width b + (immediate_width c + 0)) e (after_none (immediate_width b) (immediate_width c + 0) h (alone (immediate_width c) (width_small c)))
-
-pub narrow_if : (b : Bool) (x y : OperandEncodings) → narrow x ≡ true → narrow y ≡ true → narrow (if b then x else y) ≡ true
-narrow_if true x y h k = h
-narrow_if false x y h k = k
-
 pub small_if : (b : Bool) (x y : ℕ) → nat_lt x 65 ≡ true → nat_lt y 65 ≡ true → nat_lt (if b then x else y) 65 ≡ true
-small_if true x y h k = h
-small_if false x y h k = k
+small_if b x y h k = grind arith
 
 pub small_width : (c : RegisterClass) → nat_lt (width_of c) 65 ≡ true
 small_width c = search rules
 
-or_true : (a b : Bool) → b ≡ true → (a || b) ≡ true
-or_true true b h = refl
-or_true false b h = h
-
-pub both : (a b : Bool) → a ≡ true → b ≡ true → (a && b) ≡ true
-both a b p q = cc
-
-pub no_gap_if : (b : Bool) (x y : Verdict) → not (has_gap x) ≡ true → not (has_gap y) ≡ true → not (has_gap (if b then x else y)) ≡ true
-no_gap_if true x y h k = h
-no_gap_if false x y h k = k
-
-pub either_passes : (gaps b : Bool) (x y : Plan) → passes gaps x ≡ true → passes gaps y ≡ true → passes gaps (if b then x else y) ≡ true
-either_passes gaps true x y h k = h
-either_passes gaps false x y h k = k
-
 pub plan_passes : (gaps : Bool) (opcode : Opcode) (encodings : OperandEncodings) (n : ℕ) (change : PrefixChange) (verdict : Verdict) → not (has_gap verdict) ≡ true → nat_lt n 65 ≡ true → narrow encodings ≡ true → passes gaps (record { opcode = opcode; encodings = encodings; size = n; change = change; verdict = verdict }) ≡ true
 unfolding passes
-plan_passes gaps opcode encodings n change verdict v k w =
-    both ((gaps || not (has_gap verdict)) && nat_lt n 65) (narrow encodings) (both (gaps || not (has_gap verdict)) (nat_lt n 65) (or_true gaps _ v) k) w
-
-pub ruleset small_steps = (either_passes, plan_passes, small_if, small_width, no_gap_if, narrow_by, narrow_one, narrow_second, narrow_first, narrow_third, narrow_if)
+plan_passes gaps opcode encodings n change verdict v k w = grind arith
 
 -- the three tests that a plan passes
 module _ (gaps : Bool) (plan : Plan) (h : passes gaps plan ≡ true) where
-  first_two : ((gaps || not (has_gap plan.verdict)) && nat_lt plan.size 65) ≡ true
-  unfolding passes
-  first_two = (and_parts ((gaps || not (has_gap plan.verdict)) && nat_lt plan.size 65) (narrow plan.encodings) h).0
-
-  closed_gap : (gaps || not (has_gap plan.verdict)) ≡ true
-  closed_gap = (and_parts (gaps || not (has_gap plan.verdict)) (nat_lt plan.size 65) first_two).0
-
   pub at_most_64 : plan.size ≤ 64
-  at_most_64 =
-      let small : nat_lt plan.size 65 ≡ true = (and_parts (gaps || not (has_gap plan.verdict)) (nat_lt plan.size 65) first_two).1 in
-      grind (arith, nat_tests)
+  unfolding passes
+  at_most_64 = grind (arith, nat_tests)
 
   pub at_most_8 : immediates_width plan.encodings ≤ 8
   unfolding passes narrow
-  at_most_8 =
-      let small : nat_lt (immediates_width plan.encodings) 9 ≡ true = (and_parts ((gaps || not (has_gap plan.verdict)) && nat_lt plan.size 65) (narrow plan.encodings) h).1 in
-      grind (arith, nat_tests)
+  at_most_8 = grind (arith, nat_tests)
 
 pub without_gap : (plan : Plan) (w : Moment) → passes false plan ≡ true → plan.verdict ≢ Refuses Incomplete w
+unfolding passes
 without_gap plan w h e =
     let gap : has_gap plan.verdict ≡ true = ap has_gap e in
-    let none : not (has_gap plan.verdict) ≡ true = closed_gap false plan h in
-    absurd cc
+    grind arith

@@ -1,17 +1,11 @@
 -- What a row has after its opcode byte, where it ends, and that its pieces are taken.
 use Rattle.std.proofs.Common.{◌≡◌, ℕ, List, [], ◌∷◌, ◌++◌, length, Option, Some, None, Result, Ok, Err, refl, sym, ap, subst, arith}
-use Rattle.x86_fields.specs.declared.errors.DecodeError.{DecodeError}
-use Rattle.x86_fields.specs.declared.prefixes.Prefixes.{Prefixes}
+use Rattle.x86_operands.specs.Vocabulary.{DecodeError, Prefixes, Fault, ModrmUse, Absent, EitherForm, Registers, Reading, absent_modrm, as_register}
 use Rattle.x86_fields.specs.Steps.{Step, ◌>>=◌, next_byte}
-use Rattle.x86_fields.specs.ModRM.{absent_modrm, as_register}
 use Rattle.x86_fields.specs.Pieces.{EndsBetween}
 use Rattle.x86_fields.proofs.StepLemmas.{Takes, takes_pure, takes_bind, takes_err, takes_byte}
 use Rattle.x86_fields.proofs.EndLemmas.{EndsWell, IsEmpty, Only, IsByte, ends_byte, ends_pure, ends_refuse, ends_bind, ends_then, ends_map, weaken, Halts, halts_bind, halts_empty, halts_refused}
 use Rattle.x86_fields.proofs.PieceLemmas.{takes_map}
-use Rattle.x86_operands.specs.declared.plans.Fault.{Fault}
-use Rattle.x86_operands.specs.declared.plans.ModrmUse.{ModrmUse}
-use Rattle.x86_operands.specs.declared.plans.ModrmUse.TheVariants.{Absent, EitherForm, Registers}
-use Rattle.x86_operands.specs.declared.reader.Reading.{Reading}
 use Rattle.x86_operands.specs.Plans.{RowRecord}
 use Rattle.x86_operands.specs.PlanSteps.{read_modrm, refuse_fault, read_plan, record_step, error_of}
 use Rattle.x86_operands.specs.Pieces.{SpellsTail, RefusesTail, tail_widths, modrm_width, SpellsRow, RefusesRow, at_opcode, past_opcode, BetweenRow, before, with_modrm}
@@ -32,12 +26,6 @@ IsFault o q (Err e) = (q ≡ []) × Faults (λ fault. o ≡ Some fault) e
 ends_fault : (o : Option Fault) → EndsWell (IsFault o) Never (refuse_fault o)
 ends_fault None = ends_pure (IsFault None) Never tt (refl, refl)
 ends_fault (Some f) = ends_refuse (IsFault (Some f)) Never (error_of f) (fault_error f) (refl, (f, refl, refl))
-
-takes_no_fault : (o : Option Fault) → o ≡ None → Takes (refuse_fault o) [] (Ok tt)
-takes_no_fault o e = subst (λ x. Takes (refuse_fault x) [] (Ok tt)) (sym e) (takes_pure (Ok tt))
-
-takes_fault : (o : Option Fault) (f : Fault) → o ≡ Some f → Takes (refuse_fault o) [] (Err (error_of f))
-takes_fault o f e = subst (λ x. Takes (refuse_fault x) [] (Err (error_of f))) (sym e) (takes_pure (Err (error_of f)))
 
 -- ---- ModRM
 
@@ -95,7 +83,7 @@ module _ (r : RowRecord) (p : Prefixes) where
 
   takes_row_by : (modrm q : List ℕ) (a : Result Reading DecodeError) → r.at_opcode ≡ None → length modrm ≡ modrm_width u → Takes (after_modrm (modrm_of u modrm)) q a → Takes (record_step r p) (modrm ++ q) a
   unfolding record_step
-  takes_row_by modrm q a passed e t = takes_bind (refuse_fault r.at_opcode) (λ _. after_fault) [] (modrm ++ q) tt a (takes_no_fault r.at_opcode passed)
+  takes_row_by modrm q a passed e t = takes_bind (refuse_fault r.at_opcode) (λ _. after_fault) [] (modrm ++ q) tt a (rw passed (takes_pure (Ok tt)))
       (takes_bind (read_modrm u) after_modrm modrm q (modrm_of u modrm) a (takes_modrm u modrm e) t)
 
   -- the pieces of a row are taken
@@ -106,14 +94,14 @@ module _ (r : RowRecord) (p : Prefixes) where
   pub takes_row_refused : (q : List ℕ) (fault : Fault) → RefusesRow r p q fault → Takes (record_step r p) q (Err (error_of fault))
   unfolding record_step
   takes_row_refused q fault (at_opcode is none) = subst (λ l. Takes (record_step r p) l (Err (error_of fault))) (sym none)
-      (takes_err (refuse_fault r.at_opcode) (λ _. after_fault) [] (error_of fault) (takes_fault r.at_opcode fault is))
+      (takes_err (refuse_fault r.at_opcode) (λ _. after_fault) [] (error_of fault) (rw is (takes_pure (Err (error_of fault)))))
   takes_row_refused q fault (past_opcode modrm tail passed h long s) = subst (λ l. Takes (record_step r p) l (Err (error_of fault))) (sym h)
       (takes_row_by modrm tail (Err (error_of fault)) passed long (takes_tail_refused (r.plan (modrm_of u modrm)) p (modrm_of u modrm) tail fault s))
 
   halts_by : (q : List ℕ) → Halts after_fault q → (o : Option Fault) → r.at_opcode ≡ o → Halts (record_step r p) q
   unfolding record_step
-  halts_by q t None passed = halts_bind (refuse_fault r.at_opcode) (λ _. after_fault) [] q tt (takes_no_fault r.at_opcode passed) t
-  halts_by q t (Some f) e = halts_refused (refuse_fault r.at_opcode) (λ _. after_fault) q (error_of f) (fault_error f) (takes_fault r.at_opcode f e)
+  halts_by q t None passed = halts_bind (refuse_fault r.at_opcode) (λ _. after_fault) [] q tt (rw passed (takes_pure (Ok tt))) t
+  halts_by q t (Some f) e = halts_refused (refuse_fault r.at_opcode) (λ _. after_fault) q (error_of f) (fault_error f) (rw e (takes_pure (Err (error_of f))))
 
   -- the row halts on bytes that end between its pieces
   pub halts_row : (q : List ℕ) → Between q → Halts (record_step r p) q

@@ -1,18 +1,11 @@
 -- What is read of a row, over any record: what it takes with each answer, and which answers come.
-use Rattle.std.proofs.Common.{◌≡◌, ◌≢◌, ℕ, ◌⊎◌, inl, inr, List, [], ◌++◌, length, Some, Result, Ok, Err, sym, ap, subst, ◌∙◌}
+use Rattle.std.proofs.Common.{◌≡◌, ◌≢◌, ℕ, ◌⊎◌, inl, inr, List, [], ◌++◌, length, Some, Result, Ok, Err, sym, ap, subst, ◌∙◌, arith}
 use Rattle.std.proofs.lemmas.List.{append-nil}
 use Rattle.x86_arch.specs.Reader.{State, advanced}
-use Rattle.x86_fields.specs.declared.errors.DecodeError.{DecodeError}
+use Rattle.x86_operands.specs.Vocabulary.{DecodeError, Prefixes, Fault, BadOpcode, Incomplete, Moment, AtModRM, AfterAddress, AfterSuffix, Refuses, Reading}
 use Rattle.x86_fields.specs.declared.errors.DecodeError.TheVariants.{ExhaustedInput, InvalidPrefixes, TooLong, IncompleteDecoder}
-use Rattle.x86_fields.specs.declared.prefixes.Prefixes.{Prefixes}
 use Rattle.x86_fields.specs.Steps.{outcome}
 use Rattle.x86_fields.proofs.EndLemmas.{Ends, settles, runs_out, longest}
-use Rattle.x86_operands.specs.declared.plans.Fault.{Fault}
-use Rattle.x86_operands.specs.declared.plans.Fault.TheVariants.{BadOpcode, Incomplete}
-use Rattle.x86_operands.specs.declared.plans.Moment.{Moment}
-use Rattle.x86_operands.specs.declared.plans.Moment.TheVariants.{AtModRM, AfterAddress, AfterSuffix}
-use Rattle.x86_operands.specs.declared.plans.Verdict.TheVariants.{Refuses}
-use Rattle.x86_operands.specs.declared.reader.Reading.{Reading}
 use Rattle.x86_operands.specs.Plans.{RowRecord}
 use Rattle.x86_operands.specs.PlanSteps.{record_step, error_of}
 use Rattle.x86_operands.specs.Asks.{modrm_of}
@@ -21,16 +14,13 @@ use Rattle.x86_operands.proofs.RecordLemmas.{RowYields, ends_row, takes_row, tak
 
 -- none of the faults is one of these errors
 not_prefixes : (f : Fault) → error_of f ≢ InvalidPrefixes
-not_prefixes BadOpcode e = cc
-not_prefixes _ e = cc
+not_prefixes f e = grind arith
 
 not_long : (f : Fault) → error_of f ≢ TooLong
-not_long BadOpcode e = cc
-not_long _ e = cc
+not_long f e = grind arith
 
 one_gap : (f : Fault) → error_of f ≡ IncompleteDecoder → f ≡ Incomplete
-one_gap BadOpcode e = cc
-one_gap _ e = cc
+one_gap f e = grind arith
 
 module _ (r : RowRecord) (p : Prefixes) where
   -- a record or one of its plans refuses as left out

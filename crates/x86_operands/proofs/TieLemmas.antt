@@ -1,24 +1,10 @@
 -- What the pieces of a row yield: tied slots and operands, and the shape of the raw fields.
-use Rattle.std.proofs.Common.{◌≡◌, ℕ, zero, suc, ◌<◌, ◌≤◌, Bool, true, false, if◌then◌else◌, List, [], ◌∷◌, length, Option, Some, None, ℤ, Ok, slice_index_or, refl, sym, ap, subst, ◌∙◌, arith}
-use Rattle.x86_regs.specs.declared.RegSpec.{RegSpec}
+use Rattle.std.proofs.Common.{◌≡◌, ℕ, zero, suc, ◌<◌, ◌≤◌, true, List, [], ◌∷◌, length, Option, Some, None, Ok, slice_index_or, refl, sym, ap, subst, ◌∙◌, arith}
+use Rattle.x86_operands.specs.Vocabulary.{Prefixes, Raw, Slot, Operand, OperandEncoding, OperandEncodings, Plan, Reading}
 use Rattle.x86_arch.specs.Reader.{State}
-use Rattle.x86_fields.specs.declared.prefixes.Prefixes.{Prefixes}
-use Rattle.x86_fields.specs.declared.raw.Raw.{Raw}
-use Rattle.x86_fields.specs.Address.{base_of, index_of, scale_by}
-use Rattle.x86_operands.specs.declared.operands.Slot.{Slot}
 use Rattle.x86_operands.specs.declared.operands.Slot.TheVariants as slots
-use Rattle.x86_operands.specs.declared.operands.Operand.{Operand}
 use Rattle.x86_operands.specs.declared.operands.Operand.TheVariants as operands
-use Rattle.x86_operands.specs.declared.plans.RegisterSlot.TheVariants as reg_slot
-use Rattle.x86_operands.specs.declared.plans.PointerSlot.TheVariants as pointer
-use Rattle.x86_operands.specs.declared.plans.OperandEncoding.{OperandEncoding}
-use Rattle.x86_operands.specs.declared.plans.OperandEncoding.TheVariants.{E, Emm, M, U, Umm, Fixed, Pointer}
-use Rattle.x86_operands.specs.declared.plans.OperandEncodings.{OperandEncodings}
-use Rattle.x86_operands.specs.declared.plans.OperandEncodings.TheVariants.{Zero}
-use Rattle.x86_operands.specs.declared.plans.Plan.{Plan}
-use Rattle.x86_operands.specs.declared.reader.Reading.{Reading}
-use Rattle.x86_fields.specs.Raw.{is_zero}
-use Rattle.x86_operands.specs.Shape.{shape_by, shape}
+use Rattle.x86_operands.specs.Shape.{shape}
 use Rattle.x86_operands.specs.Plans.{RowRecord, list_of}
 use Rattle.x86_operands.specs.PlanSteps.{pair_at, four_of, record_step}
 use Rattle.x86_operands.specs.Ties.{is_decoded, suits, slot_read, operand_read, AreTied, is_modrm_encoding, names_modrm, encodings_of, HasShapeAt}
@@ -31,29 +17,16 @@ use Rattle.x86_operands.proofs.RowLemmas.{row_read}
 abbrev IsTied : Slot × Operand → Type 0
 IsTied x = (is_decoded x.1 ≡ true) × (suits x.0 x.1 ≡ true)
 
-by_zero : (t : Bool) (x y : Slot × Operand) → IsTied x → IsTied y → IsTied (if t then x else y)
-by_zero true x y h k = h
-by_zero false x y h k = k
-
-shape_by_tied : (b i : Option RegSpec) (s : ℕ) (d : ℤ) → IsTied (shape_by b i s d)
-shape_by_tied (Some b) (Some i) s d = by_zero (is_zero d) _ _ (refl, refl) (refl, refl)
-shape_by_tied (Some b) None s d = by_zero (is_zero d) _ _ (refl, refl) (refl, refl)
-shape_by_tied None (Some i) s d = by_zero (is_zero d) _ _ (refl, refl) (refl, refl)
-shape_by_tied None None s d = (refl, refl)
-
-shape_tied : (raw : Raw) → IsTied (shape raw)
+shape_decoded : (raw : Raw) → is_decoded (shape raw).1 ≡ true
 unfolding shape
-shape_tied raw = shape_by_tied (base_of raw) (index_of raw) (scale_by raw.sib) raw.disp
+shape_decoded raw = grind arith
+
+shape_suits : (raw : Raw) → suits (shape raw).0 (shape raw).1 ≡ true
+unfolding shape
+shape_suits raw = grind arith
 
 operand_tied : (s : OperandEncoding) (p : Prefixes) (m : ℕ) (memory : Option Raw) (bytes : List ℕ) → IsTied (operand_from s p m memory bytes)
-operand_tied (E c) p m (Some raw) bytes = shape_tied raw
-operand_tied Emm p m (Some raw) bytes = shape_tied raw
-operand_tied M p m (Some raw) bytes = shape_tied raw
-operand_tied (U c) p m (Some raw) bytes = shape_tied raw
-operand_tied Umm p m (Some raw) bytes = shape_tied raw
-operand_tied (Fixed reg_slot.Reg reg) p m memory bytes = (refl, refl)
-operand_tied (Pointer pointer.Deref reg) p m memory bytes = (refl, refl)
-operand_tied s p m memory bytes = (refl, refl)
+operand_tied s p m memory bytes = (grind (arith, shape_decoded), grind (arith, shape_suits))
 
 -- ---- the operands of a plan
 
@@ -72,16 +45,12 @@ operands_tied (s ∷ rest) p m memory bytes operand_pairs h =
     (ap length h.yields ∙ omega arith, subst pairs_tied (sym h.yields) (cons_tied (operand_from s p m memory h.immediate) h.others (operand_tied s p m memory h.immediate) t.1))
 
 at_most_four : (ss : OperandEncodings) → length (list_of ss) ≤ 4
-at_most_four Zero = omega arith
-at_most_four ss = omega arith
+at_most_four ss = grind arith
 
 -- ---- ModRM's memory operand
 
 modrm_yields : (s : OperandEncoding) (p : Prefixes) (m : ℕ) (raw : Raw) (bytes : List ℕ) → is_modrm_encoding s ≡ true → operand_from s p m (Some raw) bytes ≡ shape raw
-modrm_yields (E c) p m raw bytes e = refl
-modrm_yields Emm p m raw bytes e = refl
-modrm_yields M p m raw bytes e = refl
-modrm_yields s p m raw bytes e = absurd cc
+modrm_yields s p m raw bytes e = grind arith
 
 abbrev HasShape : List (Slot × Operand) → ℕ → Raw → Type 0
 HasShape xs k raw = (k < length xs) × (pair_at xs k ≡ shape raw)

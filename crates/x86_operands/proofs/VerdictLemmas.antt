@@ -1,24 +1,17 @@
 -- The refusal of a plan at its moment, and the opcode that a suffix names.
 use Rattle.std.proofs.Common.{◌≡◌, ◌≢◌, ℕ, Bool, true, false, if◌then◌else◌, List, [], ◌∷◌, ◌++◌, length, Option, Some, None, Result, Ok, Err, refl, sym, ap, subst, ◌∙◌, arith}
 use Rattle.std.proofs.lemmas.List.{append-nil, nil_from_length}
-use Rattle.x86_fields.specs.declared.errors.DecodeError.{DecodeError}
+use Rattle.x86_operands.specs.Vocabulary.{DecodeError, Moment, Fault, BadOpcode, Verdict, Accepts, NamedBySuffix, Refuses}
 use Rattle.x86_fields.specs.declared.errors.DecodeError.TheVariants.{ExhaustedInput}
 use Rattle.x86_fields.specs.Steps.{Step, pure, refuse, ◌>>=◌, next_byte}
 use Rattle.x86_fields.proofs.StepLemmas.{Takes, takes_pure, takes_bind, takes_byte}
 use Rattle.x86_fields.proofs.EndLemmas.{EndsWell, IsEmpty, IsByte, ends_byte, ends_pure, ends_refuse, ends_then, Halts, halts_bind, halts_refused}
-use Rattle.x86_operands.specs.declared.plans.Moment.{Moment}
-use Rattle.x86_operands.specs.declared.plans.Moment.TheVariants.{AtModRM, AfterAddress, AfterSuffix}
-use Rattle.x86_operands.specs.declared.plans.Fault.{Fault}
-use Rattle.x86_operands.specs.declared.plans.Fault.TheVariants.{BadOpcode}
-use Rattle.x86_operands.specs.declared.plans.Verdict.{Verdict}
-use Rattle.x86_operands.specs.declared.plans.Verdict.TheVariants.{Accepts, NamedBySuffix, Refuses}
 use Rattle.x86_operands.specs.Suffix.{suffix_opcode}
 use Rattle.x86_operands.specs.PlanSteps.{refuse_at, read_opcode, named_step, same_moment, error_of}
 use Rattle.x86_operands.specs.Pieces.{suffix_width, opcode_by}
 
 pub fault_error : (f : Fault) → error_of f ≢ ExhaustedInput
-fault_error BadOpcode e = cc
-fault_error _ e = cc
+fault_error f e = grind arith
 
 -- the error is a fault, and the fault has this property
 abbrev pub Faults : (Fault → Type 0) → DecodeError → Type 0
@@ -39,10 +32,7 @@ IsVerdict v at q (Ok x) = (q ≡ []) × (refuses_at v at ≡ false)
 IsVerdict v at q (Err e) = (q ≡ []) × Faults (λ fault. v ≡ Refuses fault at) e
 
 one_moment : (a b : Moment) → same_moment a b ≡ true → a ≡ b
-one_moment AtModRM AtModRM e = refl
-one_moment AfterAddress AfterAddress e = refl
-one_moment AfterSuffix AfterSuffix e = refl
-one_moment _ _ e = cc
+one_moment a b e = grind arith
 
 verdict_by : (test : Bool) (f : Fault) (moment at : Moment) → same_moment moment at ≡ test → EndsWell (IsVerdict (Refuses f moment) at) Never (if test then refuse (error_of f) else pure tt)
 verdict_by true f moment at e = ends_refuse (IsVerdict (Refuses f moment) at) Never (error_of f) (fault_error f) (refl, (f, refl, ap (λ a. Refuses f a) (one_moment moment at e)))
@@ -53,23 +43,14 @@ ends_verdict (Refuses f moment) at = verdict_by (same_moment moment at) f moment
 ends_verdict v at = ends_pure (IsVerdict v at) Never tt (refl, refl)
 
 pub takes_passed : (v : Verdict) (at : Moment) → refuses_at v at ≡ false → Takes (refuse_at v at) [] (Ok tt)
-takes_passed (Refuses f moment) at e = by (same_moment moment at) e
-  where
-    by : (test : Bool) → test ≡ false → Takes {X = Unit {0}} (if test then refuse (error_of f) else pure tt) [] (Ok tt)
-    by false e = takes_pure (Ok tt)
-    by true e = absurd cc
+takes_passed (Refuses f moment) at e = rw e (takes_pure (Ok tt))
 takes_passed v at e = takes_pure (Ok tt)
 
 same_self : (at : Moment) → same_moment at at ≡ true
-same_self AtModRM = refl
-same_self at = refl
+same_self at = grind arith
 
 pub takes_refused : (v : Verdict) (f : Fault) (at : Moment) → v ≡ Refuses f at → Takes (refuse_at v at) [] (Err (error_of f))
-takes_refused v f at e = subst (λ o. Takes (refuse_at o at) [] (Err (error_of f))) (sym e) (by (same_moment at at) (same_self at))
-  where
-    by : (test : Bool) → test ≡ true → Takes {X = Unit {0}} (if test then refuse (error_of f) else pure tt) [] (Err (error_of f))
-    by true e = takes_pure (Err (error_of f))
-    by false e = absurd cc
+takes_refused v f at e = rw (e, same_self at) (takes_pure (Err (error_of f)))
 
 -- a step after a moment halts where it is reached, or the verdict refuses before it
 pub halts_verdict : {Y : Type 0} (v : Verdict) (at : Moment) (f : Unit {0} → Step Y) (q : List ℕ)
@@ -85,12 +66,6 @@ halts_verdict (Refuses fault moment) at f q go = by (same_moment moment at) refl
         halts_refused (refuse_at v at) f q (error_of fault) (fault_error fault) (takes_refused v fault at is)
     by false e = halts_bind (refuse_at v at) f [] q tt (takes_passed v at e) (go e)
 halts_verdict v at f q go = halts_bind (refuse_at v at) f [] q tt (takes_passed v at refl) (go refl)
-
-pub passed_other : (v : Verdict) (f : Fault) (moment at : Moment) → v ≡ Refuses f moment → same_moment moment at ≡ false → refuses_at v at ≡ false
-passed_other v f moment at e d = ap (λ o. refuses_at o at) e ∙ d
-
-pub passed_suffix : (v : Verdict) (at : Moment) → v ≡ NamedBySuffix → refuses_at v at ≡ false
-passed_suffix v at e = ap (λ o. refuses_at o at) e
 
 -- ---- the opcode
 
@@ -109,23 +84,21 @@ ends_opcode NamedBySuffix opcode = ends_then IsByte IsEmpty (IsNamed NamedBySuff
     (λ q b h. named opcode b q h (suffix_opcode b) refl)
 ends_opcode v opcode = ends_pure (IsNamed v opcode) IsEmpty opcode (refl, refl)
 
-takes_name : (o : Option ℕ) (opcode : ℕ) → o ≡ Some opcode → Takes (named_step o) [] (Ok opcode)
-takes_name o opcode e = subst (λ x. Takes (named_step x) [] (Ok opcode)) (sym e) (takes_pure (Ok opcode))
-
-takes_no_name : (o : Option ℕ) → o ≡ None → Takes (named_step o) [] (Err (error_of BadOpcode))
-takes_no_name o e = subst (λ x. Takes (named_step x) [] (Err (error_of BadOpcode))) (sym e) (takes_pure (Err (error_of BadOpcode)))
-
 takes_itself : (opcode o : ℕ) (q : List ℕ) → length q ≡ 0 → Some opcode ≡ Some o → Takes (pure opcode) q (Ok o)
 takes_itself opcode o q none e =
     let same : opcode ≡ o = cc in
     subst (λ l. Takes (pure opcode) l (Ok o)) (sym (nil_from_length q none)) (subst (λ x. Takes (pure opcode) [] (Ok x)) same (takes_pure (Ok opcode)))
 
 pub takes_opcode : (v : Verdict) (opcode o : ℕ) (q : List ℕ) → length q ≡ suffix_width v → opcode_by v opcode q ≡ Some o → Takes (read_opcode v opcode) q (Ok o)
-takes_opcode NamedBySuffix opcode o (b ∷ []) e h = takes_bind next_byte (λ b. named_step (suffix_opcode b)) (b ∷ []) [] b (Ok o) (takes_byte b) (takes_name (suffix_opcode b) o h)
+takes_opcode NamedBySuffix opcode o (b ∷ []) e h =
+    let name : suffix_opcode b ≡ Some o = h in
+    takes_bind next_byte (λ b. named_step (suffix_opcode b)) (b ∷ []) [] b (Ok o) (takes_byte b) (rw name (takes_pure (Ok o)))
 takes_opcode NamedBySuffix opcode o q e h = absurd (omega arith)
 takes_opcode v opcode o q e h = takes_itself opcode o q e h
 
 pub takes_unnamed : (v : Verdict) (opcode : ℕ) (q : List ℕ) → v ≡ NamedBySuffix → length q ≡ suffix_width v → opcode_by v opcode q ≡ None → Takes (read_opcode v opcode) q (Err (error_of BadOpcode))
-takes_unnamed NamedBySuffix opcode (b ∷ []) is e h = takes_bind next_byte (λ b. named_step (suffix_opcode b)) (b ∷ []) [] b (Err (error_of BadOpcode)) (takes_byte b) (takes_no_name (suffix_opcode b) h)
+takes_unnamed NamedBySuffix opcode (b ∷ []) is e h =
+    let none : suffix_opcode b ≡ None = h in
+    takes_bind next_byte (λ b. named_step (suffix_opcode b)) (b ∷ []) [] b (Err (error_of BadOpcode)) (takes_byte b) (rw none (takes_pure (Err (error_of BadOpcode))))
 takes_unnamed NamedBySuffix opcode q is e h = absurd (omega arith)
 takes_unnamed v opcode q is e h = cc

@@ -1,21 +1,9 @@
 -- What a row has after its opcode byte, known from a ModRM byte alone.
 use Rattle.std.specs.Prelude.{ℕ, Bool, true, false, if◌then◌else◌, Option, List, [], ◌∷◌, map}
-use Rattle.x86_fields.specs.declared.prefixes.Prefixes.{Prefixes}
+use Rattle.x86_operands.specs.Vocabulary.{Prefixes, Verdict, NamedBySuffix, OperandEncodings, ModrmUse, Absent, EitherForm, Registers, Plan, Ask, RecordAt, FormEncoding, OperandEncoding, I8, I16, I32, I64, I32From16, I64Whole, U8, U16, X8, X16, Address32, Address64, is_memory, absent_modrm, as_register}
 use Rattle.x86_fields.specs.Pieces.{total, option_bytes}
-use Rattle.x86_operands.specs.declared.plans.Verdict.{Verdict}
-use Rattle.x86_operands.specs.declared.plans.Verdict.TheVariants.{NamedBySuffix}
-use Rattle.x86_operands.specs.declared.plans.OperandEncodings.{OperandEncodings}
-use Rattle.x86_operands.specs.declared.plans.ModrmUse.{ModrmUse}
-use Rattle.x86_operands.specs.declared.plans.ModrmUse.TheVariants.{Absent, EitherForm, Registers}
-use Rattle.x86_operands.specs.declared.plans.Plan.{Plan}
-use Rattle.x86_operands.specs.declared.asks.Ask.{Ask}
-use Rattle.x86_operands.specs.declared.asks.RecordAt.{RecordAt}
-use Rattle.x86_operands.specs.declared.encodings.FormEncoding.{FormEncoding}
 use Rattle.x86_operands.specs.Encodings.{last_encoding, somewhere, use_of}
 use Rattle.x86_operands.specs.Plans.{RowRecord, list_of}
-use Rattle.x86_fields.specs.ModRM.{is_memory, absent_modrm, as_register}
-use Rattle.x86_operands.specs.declared.plans.OperandEncoding.{OperandEncoding}
-use Rattle.x86_operands.specs.declared.plans.OperandEncoding.TheVariants.{I8, I16, I32, I64, I32From16, I64Whole, U8, U16, X8, X16, Address32, Address64}
 
 abbrev pub uses_modrm : ModrmUse → Bool
 uses_modrm Absent = false

@@ -1,33 +1,15 @@
 -- What a line of the operand encodings means.
 use Rattle.std.specs.Prelude.{ℕ, Bool, true, false, ◌==◌, if◌then◌else◌, not, pos, ◌&&◌}
 use Rattle.x86_regs.specs.declared.RegisterClass.TheVariants as class
-use Rattle.x86_regs.specs.Class.{width_of}
-use Rattle.x86_regs.specs.Register.{reg_spec}
-use Rattle.x86_fields.specs.declared.prefixes.Prefixes.{Prefixes}
-use Rattle.x86_fields.specs.Sizes.{class_of, v_class, dq_class}
-use Rattle.x86_fields.specs.declared.sizes.Width.{Width}
+use Rattle.x86_operands.specs.Vocabulary.{width_of, reg_spec, Prefixes, Width, OperandEncoding, OperandEncodings, Zero, One, Two, Three, Plan, Position, First, Second, Third, Nowhere, Order, AfterOpcode, Last, Size, FormEncoding, ModrmUse, class_of, v_class, dq_class, is_memory, operand_size}
 use Rattle.x86_fields.specs.declared.sizes.Width.TheVariants as width
-use Rattle.x86_fields.specs.ModRM.{is_memory}
-use Rattle.x86_fields.specs.Prefixes.{operand_size}
-use Rattle.x86_operands.specs.declared.plans.OperandEncoding.{OperandEncoding}
 use Rattle.x86_operands.specs.declared.plans.OperandEncoding.TheVariants as encoding
-use Rattle.x86_operands.specs.declared.plans.OperandEncodings.{OperandEncodings}
-use Rattle.x86_operands.specs.declared.plans.OperandEncodings.TheVariants.{Zero, One, Two, Three}
 use Rattle.x86_operands.specs.declared.plans.RegisterSlot.TheVariants as slot
-use Rattle.x86_operands.specs.declared.plans.Plan.{Plan}
-use Rattle.x86_operands.specs.declared.order.Position.{Position}
-use Rattle.x86_operands.specs.declared.order.Position.TheVariants.{First, Second, Third, Nowhere}
-use Rattle.x86_operands.specs.declared.order.Order.{Order}
-use Rattle.x86_operands.specs.declared.encodings.AfterOpcode.{AfterOpcode}
 use Rattle.x86_operands.specs.declared.encodings.AfterOpcode.TheVariants as after_opcode
-use Rattle.x86_operands.specs.declared.encodings.Last.{Last}
 use Rattle.x86_operands.specs.declared.encodings.Last.TheVariants as last
-use Rattle.x86_operands.specs.declared.encodings.Size.{Size}
 use Rattle.x86_operands.specs.declared.encodings.Size.TheVariants as size
-use Rattle.x86_operands.specs.declared.encodings.FormEncoding.{FormEncoding}
 use Rattle.x86_operands.specs.Plans.{reads, memory_only, register_only, register_at, accumulator_of, immediate_of}
 use Rattle.x86_operands.specs.FormSizes.{whole_immediate, push_immediate, call_size, form_by_opcode, lacks_memory, named_size, v_size}
-use Rattle.x86_operands.specs.declared.plans.ModrmUse.{ModrmUse}
 use Rattle.x86_operands.specs.declared.plans.ModrmUse.TheVariants as use_as
 
 -- the bytes of a size

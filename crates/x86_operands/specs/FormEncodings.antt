@@ -2,14 +2,10 @@
 use Rattle.std.specs.Prelude.{ℕ, false, IsTrue, ◌≡◌, ⊤}
 use Rattle.x86_forms.specs.Groups.{is_group}
 use Rattle.x86_forms.specs.Words.{carried}
-use Rattle.x86_forms.specs.declared.Form.{Form}
+use Rattle.x86_operands.specs.Vocabulary.{Form, Prefixes, AfterOpcode, RegGroup, FormEncoding}
 use Rattle.x86_forms.specs.declared.Form.TheVariants as form
-use Rattle.x86_fields.specs.declared.prefixes.Prefixes.{Prefixes}
-use Rattle.x86_operands.specs.declared.encodings.AfterOpcode.{AfterOpcode}
 use Rattle.x86_operands.specs.declared.encodings.AfterOpcode.TheVariants as after_opcode
-use Rattle.x86_operands.specs.declared.encodings.RegGroup.{RegGroup}
 use Rattle.x86_operands.specs.declared.encodings.RegGroup.TheVariants as group
-use Rattle.x86_operands.specs.declared.encodings.FormEncoding.{FormEncoding}
 use Rattle.x86_operands.specs.Encodings.{is_described, plan_of}
 use Rattle.x86_operands.specs.Forms.{form_plan, separate_plan}
 

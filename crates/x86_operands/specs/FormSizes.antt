@@ -1,23 +1,11 @@
 -- Sizes and classes by the opcode, or by a separate form. In a form that has sizes for named opcodes
 -- alone, any other opcode has size 0.
 use Rattle.std.specs.Prelude.{ℕ, ◌&&◌, ◌==◌, not, Bool, if◌then◌else◌, [], ◌∷◌}
-use Rattle.x86_regs.specs.declared.RegisterClass.{RegisterClass}
+use Rattle.x86_operands.specs.Vocabulary.{RegisterClass, Prefixes, Size, OperandEncoding, I16, I32, I64Whole, Address32, Address64, Plan, BadOperand, AtModRM, has_w, operand_size, address_size, v_class, width_of, is_memory}
 use Rattle.x86_regs.specs.declared.RegisterClass.TheVariants.{W, D, Q}
-use Rattle.x86_fields.specs.declared.prefixes.Prefixes.{Prefixes}
-use Rattle.x86_fields.specs.Raw.{has_w}
 use Rattle.x86_opcodes.specs.Kinds.{is_among}
 use Rattle.x86_opcodes.specs.Names.{CALL, CMPSD, CMPSS, ROUNDSS, ROUNDSD, LFS, LGS, LSS, ENQCMD, ENQCMDS, MOVDDUP, MOVNTSS, MOVNTPS, MOVNTPD, MOVNTDQ, PEXTRB, PEXTRW, EXTRACTPS, PINSRB, INSERTPS, PMOVSXBQ, PMOVZXBQ, PMOVSXBD, PMOVZXBD, PMOVSXWQ, PMOVZXWQ, UCOMISS, COMISS, CVTSS2SD, MOVLPD, MOVHPD, PUNPCKLBW, PUNPCKLWD, PUNPCKLDQ, RETURN, RETF, PUSHF, POPF, LEAVE, XLAT, CBW, CWDE, CDQE, CWD, CDQ, CQO}
-use Rattle.x86_fields.specs.Prefixes.{operand_size, address_size}
-use Rattle.x86_operands.specs.declared.encodings.Size.{Size}
 use Rattle.x86_operands.specs.declared.encodings.Size.TheVariants as size
-use Rattle.x86_operands.specs.declared.plans.OperandEncoding.{OperandEncoding}
-use Rattle.x86_operands.specs.declared.plans.OperandEncoding.TheVariants.{I16, I32, I64Whole, Address32, Address64}
-use Rattle.x86_fields.specs.Sizes.{v_class}
-use Rattle.x86_regs.specs.Class.{width_of}
-use Rattle.x86_fields.specs.ModRM.{is_memory}
-use Rattle.x86_operands.specs.declared.plans.Plan.{Plan}
-use Rattle.x86_operands.specs.declared.plans.Fault.TheVariants.{BadOperand}
-use Rattle.x86_operands.specs.declared.plans.Moment.TheVariants.{AtModRM}
 use Rattle.x86_operands.specs.Plans.{refused, size_by}
 
 -- the class of an address register

@@ -1,31 +1,15 @@
 -- What the operands of an instruction are after each step that writes them.
-use Rattle.std.specs.Prelude.{ℕ, if◌then◌else◌, Result, Ok, Err, Option, None, nat_lt, slice_index_or, slice_set, ◌∷◌, []}
+use Rattle.std.specs.Prelude.{ℕ, Bool, true, false, if◌then◌else◌, Result, Ok, Err, Option, None, nat_lt, slice_index_or, slice_set, ◌∷◌, []}
 use Rattle.x86_regs.specs.declared.RegisterClass.TheVariants as class
-use Rattle.x86_regs.specs.Register.{reg_spec}
-use Rattle.x86_fields.specs.declared.prefixes.Prefixes.{Prefixes}
-use Rattle.x86_fields.specs.declared.sizes.Width.{Width}
+use Rattle.x86_operands.specs.Vocabulary.{reg_spec, Prefixes, Width, Raw, DecodeError, OperandEncoding, I8, U8, I16, U16, I32, I64, I64Whole, ConstantI8, ConstantU8, Fixed, Position, First, Second, Third, Nowhere, AfterOpcode, Last, FormEncoding, Slot, Operand, Reading, Operands, reg_field, absent_modrm, class_of, register_of}
 use Rattle.x86_fields.specs.declared.sizes.Width.TheVariants as width
-use Rattle.x86_fields.specs.declared.raw.Raw.{Raw}
-use Rattle.x86_fields.specs.ModRM.{reg_field, absent_modrm}
-use Rattle.x86_fields.specs.declared.errors.DecodeError.{DecodeError}
 use Rattle.x86_fields.specs.Steps.{Step, ◌>>=◌, pure}
-use Rattle.x86_fields.specs.Sizes.{class_of, register_of}
-use Rattle.x86_operands.specs.declared.plans.OperandEncoding.{OperandEncoding}
-use Rattle.x86_operands.specs.declared.order.Position.{Position}
-use Rattle.x86_operands.specs.declared.order.Position.TheVariants.{First, Second, Third, Nowhere}
-use Rattle.x86_operands.specs.declared.encodings.AfterOpcode.{AfterOpcode}
 use Rattle.x86_operands.specs.declared.encodings.AfterOpcode.TheVariants as after_opcode
-use Rattle.x86_operands.specs.declared.encodings.Last.{Last}
-use Rattle.x86_operands.specs.declared.encodings.FormEncoding.{FormEncoding}
 use Rattle.x86_operands.specs.Plans.{reg_number, register_at}
 use Rattle.x86_operands.specs.Encodings.{last_encoding, somewhere}
 use Rattle.x86_operands.specs.declared.operands.Slot.TheVariants as slots
 use Rattle.x86_operands.specs.declared.operands.Operand.TheVariants as operands
-use Rattle.x86_operands.specs.declared.operands.Slot.{Slot}
-use Rattle.x86_operands.specs.declared.operands.Operand.{Operand}
 use Rattle.x86_operands.specs.PlanSteps.{FilledOperands, operand_step, read_memory, rm_operand, rm_mm_operand}
-use Rattle.x86_operands.specs.declared.reader.Reading.{Reading}
-use Rattle.x86_operands.specs.declared.operand_list.Operands.{Operands}
 
 -- what was written, where the reading is Ok
 abbrev pub value_if_ok : {X : Type 0} → Result (Unit {0}) DecodeError → X → Result X DecodeError
@@ -110,3 +94,19 @@ put_encoded k s p m memory operand_list = operand_step s p m memory >>= λ x. pu
 -- the operands without their memory size
 abbrev pub filled_from : Operands → FilledOperands
 filled_from operand_list = record { count = operand_list.count; slots = operand_list.slots; operands = operand_list.operands }
+
+-- ---- the last operand
+
+-- an immediate, or what neither a byte nor ModRM names
+abbrev pub is_last_encoding : OperandEncoding → Bool
+is_last_encoding I8 = true
+is_last_encoding U8 = true
+is_last_encoding I16 = true
+is_last_encoding U16 = true
+is_last_encoding I32 = true
+is_last_encoding I64 = true
+is_last_encoding I64Whole = true
+is_last_encoding (ConstantI8 imm) = true
+is_last_encoding (ConstantU8 imm) = true
+is_last_encoding (Fixed slot reg) = true
+is_last_encoding e = false

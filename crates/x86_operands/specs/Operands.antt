@@ -1,11 +1,9 @@
 -- What is known of an operand and a slot by themselves.
 use Rattle.std.specs.Prelude.{ℕ, Bool, true, false, ◌==◌, if◌then◌else◌, Option, Some, None}
 use Rattle.x86_regs.specs.Register.{class}
-use Rattle.x86_regs.specs.Class.{width_of}
+use Rattle.x86_operands.specs.Vocabulary.{width_of, Slot, Operand}
 use Rattle.x86_operands.specs.declared.operands.MemoryAccessSize.{MemoryAccessSize}
-use Rattle.x86_operands.specs.declared.operands.Slot.{Slot}
 use Rattle.x86_operands.specs.declared.operands.Slot.TheVariants as slots
-use Rattle.x86_operands.specs.declared.operands.Operand.{Operand}
 use Rattle.x86_operands.specs.declared.operands.Operand.TheVariants as operands
 use Rattle.x86_fields.specs.MemorySizes.{undecided_size}
 

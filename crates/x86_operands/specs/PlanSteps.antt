@@ -1,41 +1,16 @@
 -- The walk after an opcode byte, as steps.
 use Rattle.std.specs.Prelude.{ℕ, Bool, true, false, if◌then◌else◌, Option, Some, None, List, [], ◌∷◌, length, zero, suc}
 use Rattle.std.specs.Int.{w8, w16, w32, w64, cast_signed}
-use Rattle.x86_regs.specs.declared.RegisterClass.{RegisterClass}
-use Rattle.x86_regs.specs.declared.RegSpec.{RegSpec}
+use Rattle.x86_operands.specs.Vocabulary.{RegisterClass, RegSpec, DecodeError, Prefixes, Raw, Slot, Operand, RegisterSlot, PointerSlot, OperandEncoding, G, Gmm, E, Emm, M, U, Umm, Fixed, Pointer, I8, I16, I32, I64, I32From16, I64Whole, U8, U16, X8, X16, ConstantI8, ConstantU8, Address32, Address64, Moment, AtModRM, AfterAddress, AfterSuffix, Fault, BadOpcode, BadOperand, Incomplete, Verdict, Accepts, NamedBySuffix, Refuses, PrefixChange, Keeps, ClearsOperandSize, SetsEs, ModrmUse, Absent, EitherForm, Registers, Plan, Reading, reg_spec, reg_field, rm_field, is_memory, absent_modrm, as_register, register_of}
 use Rattle.x86_regs.specs.declared.RegisterClass.TheVariants.{Q, MM}
-use Rattle.x86_regs.specs.Register.{reg_spec}
-use Rattle.x86_fields.specs.declared.errors.DecodeError.{DecodeError}
 use Rattle.x86_fields.specs.declared.errors.DecodeError.TheVariants.{InvalidOpcode, InvalidOperand, IncompleteDecoder}
-use Rattle.x86_fields.specs.declared.prefixes.Prefixes.{Prefixes}
-use Rattle.x86_fields.specs.declared.raw.Raw.{Raw}
 use Rattle.x86_fields.specs.Prefixes.{without_operand_size, with_es}
-use Rattle.x86_fields.specs.ModRM.{reg_field, rm_field, is_memory, absent_modrm, as_register}
 use Rattle.x86_fields.specs.Raw.{read_raw}
 use Rattle.x86_fields.specs.Steps.{Step, pure, refuse, ◌>>=◌, next_byte, number_step}
-use Rattle.x86_operands.specs.declared.operands.Slot.{Slot}
 use Rattle.x86_operands.specs.declared.operands.Slot.TheVariants as slots
-use Rattle.x86_operands.specs.declared.operands.Operand.{Operand}
 use Rattle.x86_operands.specs.declared.operands.Operand.TheVariants as operands
-use Rattle.x86_operands.specs.declared.plans.RegisterSlot.{RegisterSlot}
 use Rattle.x86_operands.specs.declared.plans.RegisterSlot.TheVariants as reg_slot
-use Rattle.x86_operands.specs.declared.plans.PointerSlot.{PointerSlot}
 use Rattle.x86_operands.specs.declared.plans.PointerSlot.TheVariants as pointer
-use Rattle.x86_operands.specs.declared.plans.OperandEncoding.{OperandEncoding}
-use Rattle.x86_operands.specs.declared.plans.OperandEncoding.TheVariants.{G, Gmm, E, Emm, M, U, Umm, Fixed, Pointer, I8, I16, I32, I64, I32From16, I64Whole, U8, U16, X8, X16, ConstantI8, ConstantU8, Address32, Address64}
-use Rattle.x86_operands.specs.declared.plans.Moment.{Moment}
-use Rattle.x86_operands.specs.declared.plans.Moment.TheVariants.{AtModRM, AfterAddress, AfterSuffix}
-use Rattle.x86_operands.specs.declared.plans.Fault.{Fault}
-use Rattle.x86_operands.specs.declared.plans.Fault.TheVariants.{BadOpcode, BadOperand, Incomplete}
-use Rattle.x86_operands.specs.declared.plans.Verdict.{Verdict}
-use Rattle.x86_operands.specs.declared.plans.Verdict.TheVariants.{Accepts, NamedBySuffix, Refuses}
-use Rattle.x86_operands.specs.declared.plans.PrefixChange.{PrefixChange}
-use Rattle.x86_operands.specs.declared.plans.PrefixChange.TheVariants.{Keeps, ClearsOperandSize, SetsEs}
-use Rattle.x86_operands.specs.declared.plans.ModrmUse.{ModrmUse}
-use Rattle.x86_operands.specs.declared.plans.ModrmUse.TheVariants.{Absent, EitherForm, Registers}
-use Rattle.x86_operands.specs.declared.plans.Plan.{Plan}
-use Rattle.x86_operands.specs.declared.reader.Reading.{Reading}
-use Rattle.x86_fields.specs.Sizes.{register_of}
 use Rattle.x86_operands.specs.Shape.{shape}
 use Rattle.x86_operands.specs.Suffix.{suffix_opcode}
 use Rattle.x86_operands.specs.Plans.{RowRecord, list_of, reg_number, rm_number}

@@ -1,9 +1,8 @@
 -- The calls of a visitor, each with its fields.
 use Rattle.std.specs.Prelude.{ℕ, ℤ, Bool, true, false}
-use Rattle.x86_regs.specs.declared.RegSpec.{RegSpec}
+use Rattle.x86_operands.specs.Vocabulary.{RegSpec, Operand}
 use Rattle.x86_regs.specs.declared.MergeMode.{MergeMode}
 use Rattle.x86_regs.specs.declared.SaeMode.{SaeMode}
-use Rattle.x86_operands.specs.declared.operands.Operand.{Operand}
 use Rattle.x86_operands.specs.declared.operands.Operand.TheVariants as operands
 
 pub data Visit : Type 0 where

@@ -3,9 +3,9 @@
 //! A line reads: what follows the opcode byte, the order of operands, the widths of reg and rm, the last operand, and
 //! the memory size in the memory form and in the register form. A width or a size that no operand has is B or Zero.
 
-ghost use Rattle.std.specs.Prelude.{◌≡◌, ◌<◌, ℕ, true};
+ghost use Rattle.std.specs.Prelude.{◌≡◌, ℕ, true};
 ghost use Rattle.x86_fields.specs.declared.prefixes.Prefixes.{Prefixes};
-ghost use Rattle.x86_forms.specs.Words.{IsForm, carried};
+ghost use Rattle.x86_forms.specs.Words.{carried};
 ghost use Rattle.x86_operands.specs.Forms.{modrm_use};
 ghost use Rattle.x86_operands.specs.FormEncodings.{Belongs, Describes, HasSeparatePlan};
 ghost use Rattle.x86_operands.specs.Encodings.{is_sound, plan_of, use_of};
@@ -39,14 +39,4 @@ pub fn word_encoding(found: &WordRow) -> &'static FormEncoding
         ≡ plan_of result.now (carried found.now.row.form) opcode p modrm }
 {
     &ENCODINGS[found.form_number]
-}
-
-/// The number that a form carries, or 0.
-#[inline(always)]
-pub fn carried(form: Form) -> u8
-    requires { IsForm form }
-    ensures value { result ≡ carried form }
-    ensures small { result < 8 }
-{
-    form.carried()
 }

@@ -9,7 +9,7 @@ ghost use Rattle.x86_operands.specs.OperandList.{value_if_ok, no_operands, readi
 ghost use Rattle.x86_operands.specs.Forms.{form_plan, form_record, modrm_use};
 ghost use Rattle.x86_operands.specs.PlanSteps.{record_step};
 
-use crate::form_encodings::{carried, form_encoding};
+use crate::form_encodings::form_encoding;
 use crate::operand_list::Operands;
 use crate::plans::{ModrmUse, Plan};
 use crate::reader::{Reading, read_modrm, read_plan, read_plan_into};
@@ -33,7 +33,7 @@ pub fn form_plan(form: Form, opcode: Opcode, prefixes: &Prefixes, modrm: ModRM) 
 {
     let encoding = form_encoding(form);
     if encoding.after_opcode.is_described() {
-        encoding.plan(opcode, carried(form), prefixes, modrm)
+        encoding.plan(opcode, form.carried(), prefixes, modrm)
     } else {
         separate_plan(form, opcode, prefixes, modrm)
     }

@@ -6,8 +6,7 @@ ghost use Rattle.x86_fields.specs.declared.prefixes.Prefixes.{Prefixes};
 ghost use Rattle.x86_fields.specs.declared.raw.Raw.{Raw};
 ghost use Rattle.x86_operands.specs.declared.order.Position.TheVariants.{Nowhere};
 ghost use Rattle.x86_operands.specs.PlanSteps.{memory_or, pointer_slot, read_plan, register_slot};
-ghost use Rattle.x86_operands.specs.LastEncodings.{is_last_encoding};
-ghost use Rattle.x86_operands.specs.OperandList.{reg_pair, fixed_pair, no_operands, reading_with, value_if_ok, put_in, put_at, put_encoded, encoded_read, leading_read, slot_in, operand_in};
+ghost use Rattle.x86_operands.specs.OperandList.{is_last_encoding, reg_pair, fixed_pair, no_operands, reading_with, value_if_ok, put_in, put_at, put_encoded, encoded_read, leading_read, slot_in, operand_in};
 ghost use Rattle.x86_operands.specs.Encodings.{plan_of, last_encoding, allows, is_sound};
 
 use crate::order::Position;
@@ -161,9 +160,9 @@ impl Operands {
         Ok(())
     }
 
-    /// What an operand encoding yields, at an index.
+    /// What an operand encoding yields, at an index: one call, since it is large.
     #[tactic(auto, unfolding(crate::specs::PlanSteps::operand_step))]
-    #[inline(always)]
+    #[inline(never)]
     pub(crate) fn put_encoded<T: Reader<u64, u8>>(
         &mut self,
         at: usize,

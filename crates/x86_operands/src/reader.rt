@@ -1,5 +1,5 @@
 //! The one reader of plans: what a record has after its opcode byte.
-ghost use Rattle.x86_operands.specs.OperandList.{value_if_ok, no_operands, reading_with, filled_from, put_encoded};
+ghost use Rattle.x86_operands.specs.OperandList.{value_if_ok, no_operands, reading_with, filled_from};
 ghost use Rattle.std.specs.Prelude.{◌≡◌, ℕ, ◌<◌, ◌∷◌, []};
 ghost use Rattle.x86_arch.specs.Reader.{State};
 ghost use Rattle.x86_fields.specs.Steps.{outcome};
@@ -8,9 +8,7 @@ ghost use Rattle.x86_operands.specs.Suffix.{suffix_opcode};
 ghost use Rattle.x86_operands.specs.PlanSteps.{filled_step, error_of, refuse_at, read_opcode, read_memory, changed, read_plan, read_modrm, refuse_fault};
 
 use crate::operand_list::Operands;
-use crate::plans::{
-    Fault, ModrmUse, Moment, OperandEncoding, OperandEncodings, Plan, PrefixChange, Verdict,
-};
+use crate::plans::{Fault, ModrmUse, Moment, OperandEncodings, Plan, PrefixChange, Verdict};
 use crate::{Operand, Slot, used_modrm};
 use x86_arch::Reader;
 use x86_fields::{DecodeError, ModRM, Prefixes, Raw, next_byte, read_raw};
@@ -143,24 +141,6 @@ fn changed(change: PrefixChange, prefixes: Prefixes) -> Prefixes
 }
 
 impl Operands {
-    /// What an operand encoding yields, at an index: `put_encoded` as one call, since it is large.
-    #[inline(never)]
-    fn put_operand<T: Reader<u64, u8>>(
-        &mut self,
-        at: usize,
-        reader: &mut T,
-        encoding: OperandEncoding,
-        prefixes: &Prefixes,
-        modrm: ModRM,
-        memory: Option<Raw>,
-    ) -> Result<(), DecodeError>
-        requires { at < 4 }
-        ensures { outcome (value_if_ok result self.new) (T.state reader.new)
-            ≡ put_encoded at encoding prefixes.now modrm memory self.old (T.state reader.old) }
-    {
-        self.put_encoded(at, reader, encoding, prefixes, modrm, memory)
-    }
-
     /// The operands in order, each with its immediate.
     #[tactic(auto, unfolding(crate::specs::PlanSteps::filled_step, crate::specs::PlanSteps::operands_step))]
     fn put_operands<T: Reader<u64, u8>>(
@@ -179,25 +159,25 @@ impl Operands {
             OperandEncodings::Zero => Ok(()),
             OperandEncodings::One(a) => {
                 self.count = 1;
-                self.put_operand(0, reader, a, prefixes, modrm, memory)
+                self.put_encoded(0, reader, a, prefixes, modrm, memory)
             }
             OperandEncodings::Two(a, b) => {
                 self.count = 2;
-                self.put_operand(0, reader, a, prefixes, modrm, memory)?;
-                self.put_operand(1, reader, b, prefixes, modrm, memory)
+                self.put_encoded(0, reader, a, prefixes, modrm, memory)?;
+                self.put_encoded(1, reader, b, prefixes, modrm, memory)
             }
             OperandEncodings::Three(a, b, c) => {
                 self.count = 3;
-                self.put_operand(0, reader, a, prefixes, modrm, memory)?;
-                self.put_operand(1, reader, b, prefixes, modrm, memory)?;
-                self.put_operand(2, reader, c, prefixes, modrm, memory)
+                self.put_encoded(0, reader, a, prefixes, modrm, memory)?;
+                self.put_encoded(1, reader, b, prefixes, modrm, memory)?;
+                self.put_encoded(2, reader, c, prefixes, modrm, memory)
             }
             OperandEncodings::Four(a, b, c, d) => {
                 self.count = 4;
-                self.put_operand(0, reader, a, prefixes, modrm, memory)?;
-                self.put_operand(1, reader, b, prefixes, modrm, memory)?;
-                self.put_operand(2, reader, c, prefixes, modrm, memory)?;
-                self.put_operand(3, reader, d, prefixes, modrm, memory)
+                self.put_encoded(0, reader, a, prefixes, modrm, memory)?;
+                self.put_encoded(1, reader, b, prefixes, modrm, memory)?;
+                self.put_encoded(2, reader, c, prefixes, modrm, memory)?;
+                self.put_encoded(3, reader, d, prefixes, modrm, memory)
             }
         }
     }

@@ -1,0 +1,35 @@
+-- The types that definitions and proofs of this crate import, with variants of them, and the words on prefixes, ModRM and
+-- registers.
+pub use Rattle.x86_operands.specs.Vocabulary.{DecodeError, Form, Prefixes, RegisterClass, TableRow, Width, class_of, has_r, has_w, is_memory, operand_size, reg_field, reg_spec, rep, repnz, rm_field, v_class, width_of}
+pub use Rattle.x86_operands.specs.declared.plans.OperandEncoding.{OperandEncoding}
+pub use Rattle.x86_operands.specs.declared.plans.OperandEncodings.{OperandEncodings}
+pub use Rattle.x86_operands.specs.declared.plans.Fault.{Fault}
+pub use Rattle.x86_operands.specs.declared.plans.Moment.{Moment}
+pub use Rattle.x86_operands.specs.declared.plans.Verdict.{Verdict}
+pub use Rattle.x86_operands.specs.declared.plans.PrefixChange.{PrefixChange}
+pub use Rattle.x86_operands.specs.declared.plans.ModrmUse.{ModrmUse}
+pub use Rattle.x86_operands.specs.declared.plans.Plan.{Plan}
+pub use Rattle.x86_operands.specs.declared.encodings.AfterOpcode.{AfterOpcode}
+pub use Rattle.x86_operands.specs.declared.encodings.Size.{Size}
+pub use Rattle.x86_operands.specs.declared.encodings.FormEncoding.{FormEncoding}
+pub use Rattle.x86_operands.specs.declared.encodings.RegGroup.{RegGroup}
+pub use Rattle.x86_operands.specs.declared.reader.Reading.{Reading}
+pub use Rattle.x86_operands.specs.declared.plans.OperandEncodings.TheVariants.{Zero}
+pub use Rattle.x86_operands.specs.declared.plans.Fault.TheVariants.{BadOpcode, BadOperand, Incomplete}
+pub use Rattle.x86_operands.specs.declared.plans.Moment.TheVariants.{AtModRM, AfterAddress}
+pub use Rattle.x86_operands.specs.declared.plans.PrefixChange.TheVariants.{Keeps, ClearsOperandSize}
+pub use Rattle.x86_operands.specs.declared.plans.ModrmUse.TheVariants.{EitherForm, Registers}
+pub use Rattle.x86_groups.specs.declared.letters.Letter.{Letter}
+pub use Rattle.x86_groups.specs.declared.letters.Letters.{Letters}
+pub use Rattle.x86_groups.specs.declared.letters.RowSize.{RowSize}
+pub use Rattle.x86_groups.specs.declared.rows.Place.{Place}
+pub use Rattle.x86_groups.specs.declared.rows.When.{When}
+pub use Rattle.x86_groups.specs.declared.rows.Rm.{Rm}
+pub use Rattle.x86_groups.specs.declared.rows.Names.{Names}
+pub use Rattle.x86_groups.specs.declared.rows.Content.{Content}
+pub use Rattle.x86_groups.specs.declared.rows.GroupRow.{GroupRow}
+pub use Rattle.x86_groups.specs.declared.rows.Seen.{Seen}
+pub use Rattle.x86_groups.specs.declared.letters.RowSize.TheVariants.{Bytes, Of}
+pub use Rattle.x86_groups.specs.declared.rows.Place.TheVariants.{Memory, Register, Either}
+pub use Rattle.x86_groups.specs.declared.rows.Names.TheVariants.{Own, BySuffix, Name, ByReg, ByRm}
+pub use Rattle.x86_groups.specs.declared.rows.Content.TheVariants.{Reads, Refuses}
