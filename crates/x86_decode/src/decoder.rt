@@ -1,4 +1,4 @@
-//! The five calls that decode.
+//! The five calls that decode, and the short walk over a slice.
 
 ghost use Rattle.std.specs.Prelude.{◌≡◌, Bool, true, false, IfOk, OnErr};
 ghost use Rattle.std.proofs.Common.{rules};
