@@ -176,7 +176,7 @@ fn plan_at(strict: bool, row: TableRow, prefixes: &Prefixes, modrm: ModRM) -> Pl
     }
 }
 
-/// All of a row, by its plan.
+/// Reads all of a row, by its plan.
 pub fn read_row_into<T: Reader<u64, u8>>(
     strict: bool,
     row: TableRow,
@@ -201,7 +201,7 @@ pub fn read_row_into<T: Reader<u64, u8>>(
     }
 }
 
-/// What follows a ModRM byte in the row of a word, by its plan.
+/// Reads what follows a ModRM byte in the row of a word, by its plan.
 fn read_after_modrm<T: Reader<u64, u8>>(
     strict: bool,
     word: u64,
@@ -226,7 +226,7 @@ fn read_after_modrm<T: Reader<u64, u8>>(
     read_plan_into(reader, &plan, modrm, prefixes, opcode, operand_list)
 }
 
-/// What is left of a row.
+/// Reads what is left of a row.
 #[inline(never)]
 pub fn read_rest<T: Reader<u64, u8>>(
     strict: bool,

@@ -27,7 +27,7 @@ pub fn allows_lock(reading: &Reading) -> bool
     judgement(&reading.prefixes, reading.opcode, reading.slots[0]).is_ok()
 }
 
-/// The refusal of F0 where the operation doesn't take it, or its first operand isn't memory.
+/// Refuses F0 where the operation doesn't take it, or its first operand isn't memory.
 #[inline(always)]
 fn judgement(prefixes: &Prefixes, opcode: Opcode, first: Slot) -> Result<(), DecodeError>
     ensures { result ≡ judgement (takes_lock prefixes.now opcode first) }
@@ -39,7 +39,8 @@ fn judgement(prefixes: &Prefixes, opcode: Opcode, first: Slot) -> Result<(), Dec
     }
 }
 
-/// What follows the run, where this byte is the first of it, by the line of its row; else what is left of the row.
+/// Reads what follows the prefixes, by the line of its row; `byte` is the first byte after them. Else it returns what is
+/// left of the row.
 #[inline(always)]
 fn read_body<W: Words, T: Reader<u64, u8>>(
     rows: &W,
@@ -104,8 +105,8 @@ fn walk_within<W: Words, T: Reader<u64, u8>>(
     }
 }
 
-/// The refusal of a walk within fifteen items, of which so many are still allowed. Where the input ended for the walk
-/// alone, these are taken too.
+/// The error of a walk that may take `allowed` more items. Where the walk met its limit, and not the end of the input, it
+/// takes these items, and the error is `TooLong`.
 fn error_within<T: Reader<u64, u8>>(error: DecodeError, reader: &mut T, allowed: u8) -> DecodeError
     requires { allowed ≤ 15 }
     ensures { outcome (Err result) (T.state reader.new)

@@ -70,7 +70,7 @@ pub fn address(prefixes: &Prefixes) -> OperandEncoding
     }
 }
 
-/// The opcode of 98.
+/// The operation of the opcode byte 98: CBW, CWDE or CDQE, by the class.
 pub fn widening(class: RegisterClass) -> Opcode
     ensures { result ≡ widening class }
 {
@@ -81,7 +81,7 @@ pub fn widening(class: RegisterClass) -> Opcode
     }
 }
 
-/// The opcode of 99.
+/// The operation of the opcode byte 99: CWD, CDQ or CQO, by the class.
 pub fn doubling(class: RegisterClass) -> Opcode
     ensures { result ≡ doubling class }
 {

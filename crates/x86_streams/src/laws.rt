@@ -52,14 +52,14 @@ pub fn reported<S: Source, K: Sink>()
         → ReportsPieces pieces failed (K.written k) (K.written l) (K.faults k) (K.faults l) }
 {}
 
-/// Of a slice the calls fail whose numbers were chosen, and the others return its bytes and then its end.
+/// A call of a source over a slice fails where its number was chosen; the others return the bytes, and then the end.
 pub fn slices<'a>()
     ensures { (s t : SliceSource) (g : Got) → ⟦<SliceSource<'a> as Source>⟧.gives s g t →
         ByNumber g (drop s.position s.bytes.now) (slice_call s) (slice_call t)
         (slice_fails s) (slice_fails t) }
 {}
 
-/// Of an array the put fails whose number was chosen, and each that doesn't fit. The others append their piece.
+/// A put to an array fails where its number was chosen or its piece doesn't fit; any other appends its piece.
 pub fn arrays<const N: usize>()
     ensures { (s t : ArraySink N) (piece : List ℕ) (r : Result ⊤ SinkFailed) →
         ⟦<ArraySink<N> as Sink>⟧.takes s piece r t →
@@ -67,7 +67,7 @@ pub fn arrays<const N: usize>()
         (array_fails s) (array_fails t) }
 {}
 
-/// No source of these shows a byte that it has ahead, and of a sound one no call fails.
+/// Sources over slices show no bytes ahead, and no call of a `SoundSource` fails.
 pub fn sources_of_slices<'a>()
     ensures none_ahead { (s : SliceSource) → ⟦<SliceSource<'a> as Source>⟧.ahead s ≡ [] }
     ensures none_of_sound { (s : SoundSource) → ⟦<SoundSource<'a> as Source>⟧.ahead s ≡ [] }
@@ -110,7 +110,7 @@ pub fn sinks_of_writers<W: Output + Drop>()
         PutSends W.writes W.flushes r piece (sink_writer k) (sink_writer l) }
 {}
 
-/// Of the sink that keeps nothing no bytes are known, and no put fails.
+/// The bytes of a `NullSink` aren't known, and none of its puts fails.
 pub fn sinks_of_nothing()
     ensures unknown { (k : NullSink) → ⟦<NullSink as Sink>⟧.written k ≡ None }
     ensures no_faults { (k : NullSink) → ⟦<NullSink as Sink>⟧.faults k ≡ 0 }
@@ -131,7 +131,7 @@ pub fn gathered<W: Output + Drop>()
         Gathers r bytes (buffer_bytes s) (buffer_bytes t) (buffer_writer s) (buffer_writer t) }
 {}
 
-/// A watched writer makes the calls of its writer, one each, and is gone where the last of them answered so.
+/// A watched writer makes the calls of its writer, one each. `is_gone` is true where the last one answered `BrokenPipe`.
 pub fn watched<W: Output + Drop>()
     ensures written { (s : Watched W) →
         ⟦<Watched<W> as Output>⟧.written s ≡ W.written (watched_writer s) }

@@ -134,8 +134,8 @@ impl TextReader {
         }
     }
 
-    /// Takes bytes up to the next pair, or the end of the text. Where the text ends at a byte that isn't allowed, the
-    /// reader stays at its place, and where it is too long after the bytes that may be taken.
+    /// Takes bytes up to the end of the next pair, or of the text. At a byte that isn't allowed the reader stays before
+    /// it, and in a text that is too long after the last byte that may be taken.
     #[inline(always)]
     #[tactic(auto, using(crate::proofs::TextLemmas::Read::skips_blank))]
     pub fn next<S: Source>(&mut self, source: &mut S) -> Piece
