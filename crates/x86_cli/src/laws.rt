@@ -84,8 +84,8 @@ fn headline_of_bytes()
     by_grammar();
 }
 
-/// The lines of the commands, of the two courses the listings, and what is known of them as the text is read; and of
-/// what is requested the task.
+/// The line of each command, the listing of each of the two courses, what is known of that as the text is read, and the
+/// task of each request.
 pub fn commands_have_their_lines<L: Lines + Drop>()
     ensures list { (l : Plain) (strict : Bool) (place : ℕ) (i : Instruction) (bytes : List ℕ) →
         ⟦<Plain as Lines>⟧.text l strict place i bytes ≡ line_of place i }
@@ -200,8 +200,8 @@ pub fn complete()
     decoder_laws();
 }
 
-/// How the reads of `listed` ended, by its status: `Done` comes only after a read that returned no byte, `ReadFault` only
-/// where the last read answered an error, `Refused`, `BadText` and `TooLarge` only where none did.
+/// How the reads of `listed` ended, where a command was requested: `Done` comes only after a read that returned no byte,
+/// `ReadFault` only where the last read answered an error, `Refused`, `BadText` and `TooLarge` only where none did.
 pub fn ends<R: Input, W: Output>()
     ensures { (c : Command) (status : Status) (gone : Bool) (r r' : R) (w w' : W)
         → (h : Performs R.reads W.writes W.flushes (task_of (Request.Reads c)) status gone

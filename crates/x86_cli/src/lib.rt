@@ -9,6 +9,8 @@
 //! run(words, &mut source, &mut sink)   // Status::Done, where `words` is `["list"]`
 //! sink.written()                       // b"0 3 ADD rax, rbx m8\n"
 //! ```
+//!
+//! `over_streams` runs a `Program` of yours over a reader and a writer, as x86_show does.
 #![tactic(auto)]
 
 pub mod commands;

@@ -102,8 +102,8 @@ impl Course<ROOM> for ShowAt {
     }
 }
 
-/// It shows the hex text of a source, whose image begins at an address: a line for each instruction, and for each byte
-/// that begins none, as soon as it is decided. The status is as of `sweep`.
+/// Shows the hex text of a source, whose image begins at the address `base`: a line for each instruction, and for each
+/// byte that begins none, as soon as it is decided. The status is as of `sweep`.
 impl Program for ShowAt {
     ghost task = { λ s. showing s.base };
 

@@ -7,7 +7,7 @@ use Rattle.x86_streams.specs.declared.outside.sink.SinkFailed.{SinkFailed}
 use Rattle.x86_cli.specs.Listings.Line.{line}
 use Rattle.x86_streams.specs.Outside.Writes.{PutSends}
 
--- what is said at a status: where the words are no command, and where the output failed, unless nobody reads it
+-- what is said at a status: where the words request nothing, and where the output failed, unless nobody reads it
 abbrev pub said_at : Status → Bool → Option (List ℕ)
 said_at Usage gone = Some (line (codes "usage: list [--strict] | make N | fields | tighten | sweep | targets"))
 said_at WriteFault false = Some (line (codes "write fault"))

@@ -17,8 +17,7 @@ use std::process::ExitCode;
 use x86_streams::{Output, StdSink};
 use x86_text::Line;
 
-/// The words of a command: all arguments but the first, which is the program's name. It fails only where memory is
-/// refused.
+/// The words of a program: all arguments but the first, which is its name. It fails only where memory is refused.
 pub fn words<I: Iterator<Item = String> + Drop>(
     alloc: Global,
     arguments: I,

@@ -69,7 +69,7 @@ fn send_rest<W: Output + Drop>(status: Status, out: &mut Gathered<W>) -> Result<
     }
 }
 
-/// How the program ends, where its run ended so and the flush after it answered this.
+/// The status of the program: that of its run, or `WriteFault` where the flush after it failed.
 fn ending_of(status: Status, flushed: &Result<(), SinkFailed>) -> Status
     ensures { result ≡ ending_of status flushed.now }
 {
@@ -107,7 +107,8 @@ pub fn over_streams<P: Program, R: Input + Drop, W: Output + Drop>(
 /// Does what the arguments request, over a reader and a writer, as `over_streams` does. The clause `lists` names each
 /// call, for every reader and writer, files and pipes too:
 ///
-/// - `Done`: the reads end with one that returned no byte, and the writer took the whole listing.
+/// - `Done`: the writer took the whole listing. The reads of a command end with one that returned no byte; `make` makes
+///   none.
 /// - `Usage`: the arguments request nothing. Nothing was read or written.
 /// - `Refused`, `BadText`, `TooLarge`: the listing ends so, and the writer took all of it.
 /// - `ReadFault`: the last read answered an error. The writer took the listing of the bytes read before.

@@ -73,7 +73,7 @@ impl Request {
 /// `TEXT_MAX` bytes of it (`TARGETS_MAX` for `targets`), and put its listing to the sink, a call for each line. `make`
 /// with a number from 1 to `MAKE_MAX` reads nothing and puts one line.
 ///
-/// - `Done`: the source was read to its end, and the whole listing was put.
+/// - `Done`: the source was read to its end, but for `make`, and the whole listing was put.
 /// - `Usage`: the words request nothing. Nothing was read or put.
 /// - `Refused`: the whole listing was put; it ends in the line of a refusal. `sweep` and `targets` never end so.
 /// - `BadText`: the whole listing was put; its last line has the position of a byte that can't be where it is.

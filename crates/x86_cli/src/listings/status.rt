@@ -6,9 +6,9 @@ ghost use Rattle.x86_cli.specs.Listings.Status.{code};
 /// How a run ended.
 #[derive(Clone, Copy, PartialEq, Eq, Debug, Drop)]
 pub enum Status {
-    /// The text was read to its end, and all that its listing says was written.
+    /// All that is listed was written. A text was read to its end.
     Done,
-    /// The arguments are no command. Nothing was read or written.
+    /// The arguments request nothing. Nothing was read or written.
     Usage,
     /// The listing ended in a refusal.
     Refused,
