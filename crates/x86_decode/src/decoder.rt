@@ -36,9 +36,8 @@ fn make_invalid(inst: &mut Instruction)
     *inst = Instruction::INVALID;
 }
 
-/// Reads an encoding without a legacy prefix, whose opcode byte follows nothing or 0F, by the line of its row. Else it
-/// returns what is left of the row, or an error, which says only that this walk can't go on: at a legacy prefix and at a
-/// longer escape too the word is that of no row.
+/// The encoding by the line of its row, where it has no legacy prefix and its opcode byte follows nothing or 0F; else
+/// what is left of the row, or an error. A legacy prefix and the beginning of a longer escape have no row.
 #[inline(always)]
 fn read_plain<T: ReadIf>(reader: &mut T, inst: &mut Instruction) -> Result<Rest, DecodeError>
     requires { inst.old ≡ invalid_instruction }
@@ -65,8 +64,9 @@ fn read_plain<T: ReadIf>(reader: &mut T, inst: &mut Instruction) -> Result<Rest,
 
 /// The walk within the first fifteen bytes of a slice, into a blank instruction.
 ///
-/// Where fifteen bytes are there, `read_plain` is tried first: their number is a constant, and no encoding that it reads
-/// has more, so no read tests for an end. Where it doesn't read a whole encoding, the walk begins again (`walk_rarely`).
+/// Most encodings have no legacy prefix, and their opcode byte follows nothing or 0F. Where fifteen bytes are there, these
+/// are read first: their number is a constant, and no such encoding has more, so no read tests for an end. What that
+/// leaves is walked from the beginning.
 #[inline(always)]
 fn walk_slice(strict: bool, bytes: &[u8], inst: &mut Instruction) -> Result<(), DecodeError>
     requires { inst.old ≡ invalid_instruction }

@@ -154,7 +154,7 @@ fn walk_bounded<'a, W: Words, T: Reader<u64, u8>, K: Start>(
     }
 }
 
-/// The error of a walk over the first fifteen bytes of an input, or all of them. `full`: there are fifteen.
+/// The refusal where fifteen bytes were there, or fewer.
 fn error_at_limit(error: DecodeError, full: bool) -> DecodeError
     ensures { result ≡ error_at_limit error full }
 {
@@ -164,7 +164,7 @@ fn error_at_limit(error: DecodeError, full: bool) -> DecodeError
     }
 }
 
-/// The whole walk, into a blank instruction, over a slice that has the first fifteen bytes of an input, or all of them.
+/// The walk within fifteen bytes or fewer, into a blank instruction. They are the first of any bytes.
 #[inline(never)]
 pub fn walk_rarely(strict: bool, within: &[u8], inst: &mut Instruction) -> Result<(), DecodeError>
     requires { inst.old ≡ invalid_instruction }
