@@ -1,6 +1,11 @@
 -- The line of each form in the table of operand encodings.
-use Rattle.std.proofs.Common.{◌≡◌, ◌<◌, ◌+◌, ℕ, Bool, true, false, if◌then◌else◌, length, rules, get_or, refl, sym, ap, subst, ◌∙◌, arith}
+use Rattle.std.proofs.Common.{◌≡◌, ◌<◌, ◌≤◌, ◌+◌, ◌-◌, ℕ, Bool, true, false, not, if◌then◌else◌, List, length, drop, rules, get_or, refl, sym, ap, subst, ◌∙◌, arith, length-drop}
+use Rattle.std.specs.List.{list_all}
+use Rattle.std.proofs.Math.Nat.{lt_of_not-le}
 use Rattle.std.proofs.lemmas.Bool.{ltb-true}
+use Rattle.std.proofs.lemmas.List.{get_or-drop}
+use Rattle.std.proofs.lemmas.List.Elements.{All-get_or}
+use Rattle.std.proofs.lemmas.List.Sums.{AllPass-from_list_all}
 use Rattle.x86_operands.specs.Vocabulary.{Form, Prefixes, AfterOpcode, FormEncoding, Size, Plan, Width, is_memory}
 use Rattle.x86_forms.specs.declared.Form.TheVariants as form
 use Rattle.x86_forms.specs.Ordinals.{first_ordinal_of, ordinal_of}
@@ -54,17 +59,9 @@ pub first_line : (f : Form) → IsLineAt (first_ordinal_of f + 1) f
 first_line (form.Zv_R n) d = line_by _ _ (λ o m p. refl) (search rules) refl refl
 first_line _ d = line_by _ _ (λ o m p. refl) (search rules) refl refl
 
-abbrev is_opcode : AfterOpcode → Bool
-is_opcode after_opcode.Opcode = true
-is_opcode b = false
-
--- the line is in the table, it is that of the form's first number, and the register of the opcode byte is in the first 40
--- alone
+-- the line is in the table, and is that of the form's first number
 abbrev HasLine : Form → Type 0
-HasLine f =
-    (1 + ordinal_of f < length ENCODINGS.now)
-    × ((d : FormEncoding) → get_or ENCODINGS.now (first_ordinal_of f + 1) d ≡ get_or ENCODINGS.now (1 + ordinal_of f) d)
-    × ((d : FormEncoding) → is_opcode (get_or ENCODINGS.now (first_ordinal_of f + 1) d).after_opcode ≡ true → 1 + ordinal_of f < 41)
+HasLine f = (1 + ordinal_of f < length ENCODINGS.now) × ((d : FormEncoding) → get_or ENCODINGS.now (first_ordinal_of f + 1) d ≡ get_or ENCODINGS.now (1 + ordinal_of f) d)
 
 first_lines : 40 < length ENCODINGS.now
 first_lines = ltb-true 40 (length ENCODINGS.now) refl
@@ -72,12 +69,12 @@ first_lines = ltb-true 40 (length ENCODINGS.now) refl
 -- each number that a form carries has the same line
 has_line : (f : Form) → IsForm f → HasLine f
 unfolding ordinal_of
-has_line (form.Zv_R n) below = (omega (arith, first_lines, below), λ d. up_to_seven (λ n. get_or ENCODINGS.now (1 + 0) d ≡ get_or ENCODINGS.now (1 + (0 + n)) d) refl refl refl refl refl refl refl refl n below, λ d is. omega (arith, below))
-has_line (form.Zv_AX_R n) below = (omega (arith, first_lines, below), λ d. up_to_seven (λ n. get_or ENCODINGS.now (1 + 8) d ≡ get_or ENCODINGS.now (1 + (8 + n)) d) refl refl refl refl refl refl refl refl n below, λ d is. omega (arith, below))
-has_line (form.Zb_Ib_R n) below = (omega (arith, first_lines, below), λ d. up_to_seven (λ n. get_or ENCODINGS.now (1 + 16) d ≡ get_or ENCODINGS.now (1 + (16 + n)) d) refl refl refl refl refl refl refl refl n below, λ d is. omega (arith, below))
-has_line (form.Zv_Ivq_R n) below = (omega (arith, first_lines, below), λ d. up_to_seven (λ n. get_or ENCODINGS.now (1 + 24) d ≡ get_or ENCODINGS.now (1 + (24 + n)) d) refl refl refl refl refl refl refl refl n below, λ d is. omega (arith, below))
-has_line (form.Zv_B n) below = (omega (arith, first_lines, below), λ d. up_to_seven (λ n. get_or ENCODINGS.now (1 + 32) d ≡ get_or ENCODINGS.now (1 + (32 + n)) d) refl refl refl refl refl refl refl refl n below, λ d is. omega (arith, below))
-has_line _ below = (ltb-true _ _ refl, λ d. refl, λ d is. absurd cc)
+has_line (form.Zv_R n) below = (omega (arith, first_lines, below), λ d. up_to_seven (λ n. get_or ENCODINGS.now (1 + 0) d ≡ get_or ENCODINGS.now (1 + (0 + n)) d) refl refl refl refl refl refl refl refl n below)
+has_line (form.Zv_AX_R n) below = (omega (arith, first_lines, below), λ d. up_to_seven (λ n. get_or ENCODINGS.now (1 + 8) d ≡ get_or ENCODINGS.now (1 + (8 + n)) d) refl refl refl refl refl refl refl refl n below)
+has_line (form.Zb_Ib_R n) below = (omega (arith, first_lines, below), λ d. up_to_seven (λ n. get_or ENCODINGS.now (1 + 16) d ≡ get_or ENCODINGS.now (1 + (16 + n)) d) refl refl refl refl refl refl refl refl n below)
+has_line (form.Zv_Ivq_R n) below = (omega (arith, first_lines, below), λ d. up_to_seven (λ n. get_or ENCODINGS.now (1 + 24) d ≡ get_or ENCODINGS.now (1 + (24 + n)) d) refl refl refl refl refl refl refl refl n below)
+has_line (form.Zv_B n) below = (omega (arith, first_lines, below), λ d. up_to_seven (λ n. get_or ENCODINGS.now (1 + 32) d ≡ get_or ENCODINGS.now (1 + (32 + n)) d) refl refl refl refl refl refl refl refl n below)
+has_line _ below = (ltb-true _ _ refl, λ d. refl)
 
 pub number_below : (f : Form) (n : ℕ) → IsForm f → n ≡ 1 + ordinal_of f → n < length ENCODINGS.now
 number_below f n below e = subst (λ n. n < length ENCODINGS.now) (sym e) (has_line f below).0
@@ -86,6 +83,28 @@ pub line_at : (f : Form) (n : ℕ) → IsForm f → n ≡ 1 + ordinal_of f → I
 line_at f n below e d =
     subst (λ n. IsLine (get_or ENCODINGS.now n d) f) (sym e)
     (subst (λ line. IsLine line f) ((has_line f below).1 d) (first_line f d))
+
+-- ---- the number of the opcode byte
+
+abbrev is_opcode : AfterOpcode → Bool
+is_opcode after_opcode.Opcode = true
+is_opcode b = false
+
+passes_from : {X : Type 0} (test : X → Bool) (xs : List X) (k i : ℕ) (d : X) → list_all test (drop k xs) ≡ true → k ≤ i → i < length xs → test (get_or xs i d) ≡ true
+passes_from test xs k i d all after below =
+    let same : get_or (drop k xs) (i - k) d ≡ get_or xs i d = get_or-drop k xs (i - k) d ∙ ap (λ j. get_or xs j d) (omega (arith, after)) in
+    let inside : i - k < length (drop k xs) = omega (arith, length-drop k xs, after, below) in
+    sym (ap test same) ∙ All-get_or (λ x. test x ≡ true) (drop k xs) (i - k) d inside (AllPass-from_list_all test (drop k xs) all)
+
+-- only the lines before 41 have the register of the opcode byte
+opcode_first : list_all (λ e. not (is_opcode e.after_opcode)) (drop 41 ENCODINGS.now) ≡ true
+opcode_first = refl
+
+carries_at : (f : Form) (n : ℕ) (d : FormEncoding) → IsForm f → n ≡ 1 + ordinal_of f → (get_or ENCODINGS.now n d).after_opcode ≡ after_opcode.Opcode → n < 41
+carries_at f n d below e is = lt_of_not-le (λ after.
+    let other = passes_from (λ e. not (is_opcode e.after_opcode)) ENCODINGS.now 41 n d opcode_first after (number_below f n below e) in
+    let never : false ≡ true = rw is at other in
+    absurd cc)
 
 -- the plan of a line looks at the number of the opcode byte only for the register of the opcode byte
 reg_by_number : (b : AfterOpcode) (w : Width) (n k : ℕ) (p : Prefixes) → (b ≡ after_opcode.Opcode → n ≡ k) → reg_encoding b w n p ≡ reg_encoding b w k p
@@ -98,6 +117,4 @@ plan_by_number e n k o m p same =
 
 pub numbered_at : (f : Form) (number n : ℕ) (d : FormEncoding) → IsForm f → number ≡ 1 + ordinal_of f → (number < 41 → n ≡ carried f) → (o m : ℕ) (p : Prefixes) → plan_of (get_or ENCODINGS.now number d) n o p m ≡ plan_of (get_or ENCODINGS.now number d) (carried f) o p m
 numbered_at f number n d below e carries o m p =
-    let line = has_line f below in
-    plan_by_number (get_or ENCODINGS.now number d) n (carried f) o m p (λ is. carries (subst (λ k. k < 41) (sym e)
-    (line.2 d (ap (λ l. is_opcode l.after_opcode) (line.1 d ∙ ap (λ k. get_or ENCODINGS.now k d) (sym e)) ∙ ap is_opcode is))))
+    plan_by_number (get_or ENCODINGS.now number d) n (carried f) o m p (λ is. carries (carries_at f number d below e is))
