@@ -10,8 +10,8 @@ use Rattle.x86_operands.specs.declared.encodings.AfterOpcode.TheVariants as afte
 use Rattle.x86_operands.specs.PlanSteps.{read_plan, read_memory, filled_step, operands_step, operand_step, reading_from, rm_operand}
 use Rattle.x86_operands.specs.Plans.{list_of, reads}
 use Rattle.x86_operands.specs.Shape.{shape}
-use Rattle.x86_operands.specs.Encodings.{last_encoding, reg_encoding, rm_encoding, encodings_in, plan_of, size_bytes, size_at, is_order, has_modrm, has_register, order_fits, allows}
-use Rattle.x86_operands.specs.OperandList.{modrm_read, index_of_position, encoded_read, put_encoded, put_in, rm_pair, reg_pair, fixed_pair, reading_with, sized, last_read, operands_read}
+use Rattle.x86_operands.specs.Encodings.{index_of_position, last_encoding, reg_encoding, rm_encoding, encodings_in, plan_of, size_bytes, size_at, is_order, has_modrm, has_register, order_fits, allows}
+use Rattle.x86_operands.specs.OperandList.{modrm_read, encoded_read, put_encoded, put_in, rm_pair, reg_pair, fixed_pair, reading_with, sized, last_read, operands_read}
 use Rattle.x86_operands.proofs.OrderLemmas.{Named, no_named, i_named, r_named, r_i_named, i_r_named, named_of, accepted, no_memory, no_modrm}
 
 abbrev Pair : Type 0

@@ -1,16 +1,15 @@
 -- What the operand encodings of a record take, and where they end: their immediates, one after another.
-use Rattle.std.proofs.Common.{◌≡◌, ℕ, List, [], ◌∷◌, ◌++◌, length, map, Option, Ok, refl, sym, ap, subst, ◌∙◌}
+use Rattle.std.proofs.Common.{◌≡◌, ℕ, List, [], ◌∷◌, ◌++◌, length, map, Option, Some, None, Ok, refl, sym, ap, subst, ◌∙◌}
 use Rattle.std.proofs.lemmas.List.{append-nil, nil_from_length}
-use Rattle.std.specs.Int.{Width, w8, w16, w32, w64, byte_len, from_le_bytes, cast_signed}
-use Rattle.x86_operands.specs.Vocabulary.{Prefixes, Raw, Slot, Operand, OperandEncoding, I8, I16, I32, I64, I32From16, I64Whole, U8, U16, X8, X16, Address32, Address64}
+use Rattle.std.specs.Int.{byte_len, from_le_bytes}
+use Rattle.std.specs.Option.{option_map_or}
+use Rattle.x86_operands.specs.Vocabulary.{Prefixes, Raw, Slot, Operand, OperandEncoding}
 use Rattle.x86_fields.specs.Steps.{Step, pure, ◌>>=◌, number_step}
 use Rattle.x86_fields.specs.Pieces.{EndsBetween}
 use Rattle.x86_fields.proofs.StepLemmas.{Takes, takes_pure, takes_bind}
 use Rattle.x86_fields.proofs.EndLemmas.{EndsWell, IsEmpty, Only, ends_pure, ends_then, ends_map, Halts, halts_bind, halts_same, bind_assoc}
 use Rattle.x86_fields.proofs.PieceLemmas.{IsNumber, ends_number, takes_number, takes_map, HaltsOn, one_there, none_there, halts_piece}
-use Rattle.x86_operands.specs.declared.operands.Slot.TheVariants as slots
-use Rattle.x86_operands.specs.declared.operands.Operand.TheVariants as operands
-use Rattle.x86_operands.specs.PlanSteps.{operand_step, operands_step}
+use Rattle.x86_operands.specs.PlanSteps.{Immediate, immediate_read, known_operand, number_or, operand_step, operands_step}
 use Rattle.x86_operands.specs.Asks.{immediate_width}
 use Rattle.x86_operands.specs.Pieces.{operand_from, SpellsOperands}
 
@@ -20,33 +19,23 @@ module _ (p : Prefixes) (m : ℕ) (memory : Option Raw) where
   abbrev pub IsOperand : OperandEncoding → List ℕ → Slot × Operand → Type 0
   IsOperand s q x = (x ≡ operand_from s p m memory q) × (length q ≡ immediate_width s)
 
-  abbrev ReadsOperand : OperandEncoding → Step (Slot × Operand) → Type 0
-  ReadsOperand s step = EndsWell (Only (IsOperand s)) IsEmpty step × ((q : List ℕ) → length q ≡ immediate_width s → Takes step q (Ok (operand_from s p m memory q)))
+  plain : (x : Slot × Operand) (q : List ℕ) → length q ≡ 0 → Takes (pure x) q (Ok x)
+  plain x q none = subst (λ l. Takes (pure x) l (Ok x)) (sym (nil_from_length q none)) (takes_pure (Ok x))
 
-  number : (s : OperandEncoding) (w : Width) (g : ℕ → Slot × Operand) → byte_len w ≡ immediate_width s → ((q : List ℕ) → g (from_le_bytes w q) ≡ operand_from s p m memory q) → ReadsOperand s (number_step w >>= λ n. pure (g n))
-  number s w g wide yields = (
-    ends_map (IsNumber w) IsEmpty (IsOperand s) (number_step w) g (ends_number w) (λ q n h. (ap g h.0 ∙ yields q, h.1 ∙ wide)),
-    λ q e. subst (λ x. Takes (number_step w >>= λ n. pure (g n)) q (Ok x)) (yields q) (takes_map (number_step w) g q (from_le_bytes w q) (takes_number w q (e ∙ sym wide))),
+  abbrev IsRead : Option Immediate → Slot × Operand → List ℕ → Slot × Operand → Type 0
+  IsRead i known q x = (x ≡ option_map_or (λ j. j.1 (from_le_bytes j.0 q)) i known) × (length q ≡ option_map_or (λ j. byte_len j.0) i 0)
+
+  reads : (i : Option Immediate) (known : Slot × Operand) → EndsWell (Only (IsRead i known)) IsEmpty (number_or i known)
+      × ((q : List ℕ) → length q ≡ option_map_or (λ j. byte_len j.0) i 0 → Takes (number_or i known) q (Ok (option_map_or (λ j. j.1 (from_le_bytes j.0 q)) i known)))
+  reads None known = (ends_pure (Only (IsRead None known)) IsEmpty known (refl, refl), plain known)
+  reads (Some (w, g)) known = (
+    ends_map (IsNumber w) IsEmpty (IsRead (Some (w, g)) known) (number_step w) g (ends_number w) (λ q n h. (ap g h.0, h.1)),
+    λ q e. takes_map (number_step w) g q (from_le_bytes w q) (takes_number w q e),
   )
 
-  plain : (y : Slot × Operand) (q : List ℕ) → length q ≡ 0 → Takes (pure y) q (Ok y)
-  plain y q none = subst (λ l. Takes (pure y) l (Ok y)) (sym (nil_from_length q none)) (takes_pure (Ok y))
-
-  reads_operand : (s : OperandEncoding) → ReadsOperand s (operand_step s p m memory)
+  reads_operand : (s : OperandEncoding) → EndsWell (Only (IsOperand s)) IsEmpty (operand_step s p m memory) × ((q : List ℕ) → length q ≡ immediate_width s → Takes (operand_step s p m memory) q (Ok (operand_from s p m memory q)))
   unfolding operand_step
-  reads_operand I8 = number I8 w8 (λ n. (slots.ImmI8, operands.ImmediateI8 (cast_signed w8 n))) refl (λ q. refl)
-  reads_operand I16 = number I16 w16 (λ n. (slots.ImmI16, operands.ImmediateI16 (cast_signed w16 n))) refl (λ q. refl)
-  reads_operand I32 = number I32 w32 (λ n. (slots.ImmI32, operands.ImmediateI32 (cast_signed w32 n))) refl (λ q. refl)
-  reads_operand I64 = number I64 w32 (λ n. (slots.ImmI64, operands.ImmediateI64 (cast_signed w32 n))) refl (λ q. refl)
-  reads_operand I32From16 = number I32From16 w16 (λ n. (slots.ImmI32, operands.ImmediateI32 (cast_signed w16 n))) refl (λ q. refl)
-  reads_operand I64Whole = number I64Whole w64 (λ n. (slots.ImmI64, operands.ImmediateI64 (cast_signed w64 n))) refl (λ q. refl)
-  reads_operand U8 = number U8 w8 (λ n. (slots.ImmU8, operands.ImmediateU8 n)) refl (λ q. refl)
-  reads_operand U16 = number U16 w16 (λ n. (slots.ImmU16, operands.ImmediateU16 n)) refl (λ q. refl)
-  reads_operand X8 = number X8 w8 (λ n. (slots.ImmInDisp, operands.ImmediateU16 n)) refl (λ q. refl)
-  reads_operand X16 = number X16 w16 (λ n. (slots.ImmInDisp, operands.ImmediateU16 n)) refl (λ q. refl)
-  reads_operand Address32 = number Address32 w32 (λ n. (slots.DispU32, operands.AbsoluteU32 n)) refl (λ q. refl)
-  reads_operand Address64 = number Address64 w64 (λ n. (slots.DispU64, operands.AbsoluteU64 n)) refl (λ q. refl)
-  reads_operand s = (ends_pure (Only (IsOperand s)) IsEmpty _ (refl, refl), λ q e. plain _ q e)
+  reads_operand s = reads (immediate_read s) (known_operand s p m memory)
 
   -- ---- the operands in order
 

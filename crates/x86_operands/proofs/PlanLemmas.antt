@@ -1,7 +1,7 @@
 -- What a plan takes, and where it ends: its pieces, one after another.
 use Rattle.std.proofs.Common.{◌≡◌, ℕ, ◌+◌, Bool, true, false, if◌then◌else◌, List, [], ◌∷◌, ◌++◌, length, map, Option, Some, None, Result, Ok, Err, refl, sym, ap, subst, ◌∙◌, length-append, arith}
 use Rattle.std.proofs.lemmas.List.{append-nil}
-use Rattle.x86_operands.specs.Vocabulary.{DecodeError, Prefixes, Raw, Slot, Operand, OperandEncoding, Moment, AtModRM, AfterAddress, AfterSuffix, Fault, BadOpcode, Verdict, NamedBySuffix, Refuses, Plan, Reading, is_memory}
+use Rattle.x86_operands.specs.Vocabulary.{DecodeError, Prefixes, Raw, Slot, Operand, OperandEncoding, Moment, AtModRM, AfterAddress, AfterSuffix, Fault, BadOpcode, Verdict, NamedBySuffix, Refuses, Plan, Reading, Operands, is_memory}
 use Rattle.x86_fields.specs.Raw.{read_raw}
 use Rattle.x86_fields.specs.Steps.{Step, pure, ◌>>=◌}
 use Rattle.x86_fields.specs.Pieces.{SpellsRaw, EndsBetween, raw_widths, total}
@@ -9,7 +9,7 @@ use Rattle.x86_fields.proofs.StepLemmas.{Takes, takes_pure, takes_bind, takes_er
 use Rattle.x86_fields.proofs.EndLemmas.{EndsWell, IsEmpty, Only, ends_pure, ends_bind, ends_then, ends_map, weaken, Halts, halts_bind, halts_empty, halts_same, over, final_err, bind_assoc}
 use Rattle.x86_fields.proofs.PieceLemmas.{takes_map, ends_raw, takes_raw, halts_raw, raw_long, none_there, more_missing, more_there, FirstPiece, nothing, piece, first_piece, between_nil}
 use Rattle.x86_operands.specs.Plans.{list_of}
-use Rattle.x86_operands.specs.PlanSteps.{FilledOperands, operands_step, filled_step, four_of, refuse_at, read_opcode, read_memory, read_plan, reading_from, error_of}
+use Rattle.x86_operands.specs.PlanSteps.{operands_step, filled_step, four_of, refuse_at, read_opcode, read_memory, read_plan, reading_from, error_of}
 use Rattle.x86_operands.specs.Asks.{immediate_width}
 use Rattle.x86_operands.specs.Pieces.{SpellsOperands, SpellsMemory, SpellsPieces, SpellsTail, RefusesTail, at_modrm, after_address, after_suffix, no_name, is_refusal, suffix_width, opcode_by, memory_widths, plan_widths, tail_widths}
 use Rattle.x86_operands.proofs.OperandLemmas.{ends_operands, takes_operands, halts_operands}
@@ -69,10 +69,10 @@ module _ (plan : Plan) (p : Prefixes) (m : ℕ) where
   abbrev Between : List ℕ → Type 0
   Between q = PlanBetween plan m q
 
-  abbrev finish_step : FilledOperands → ℕ → Step Reading
+  abbrev finish_step : Operands → ℕ → Step Reading
   finish_step operand_pairs opcode = refuse_at v AfterSuffix >>= λ _. pure (reading_from plan p opcode operand_pairs)
 
-  abbrev after_operands : FilledOperands → Step Reading
+  abbrev after_operands : Operands → Step Reading
   after_operands operand_pairs = read_opcode v plan.opcode >>= finish_step operand_pairs
 
   abbrev after_address_step : Option Raw → Step Reading
@@ -150,7 +150,7 @@ module _ (plan : Plan) (p : Prefixes) (m : ℕ) where
 
   pub takes_tail : (tail : List ℕ) (reading : Reading) → SpellsTail plan p m tail reading → Takes (read_plan plan p m) tail (Ok reading)
   takes_tail tail reading s =
-      let operand_pairs : FilledOperands = four_of s.pieces.operand_pairs in
+      let operand_pairs : Operands = four_of s.pieces.operand_pairs in
       let last : Takes (finish_step operand_pairs s.opcode) [] (Ok (reading_from plan p s.opcode operand_pairs)) = takes_bind (refuse_at v AfterSuffix) (λ _. pure (reading_from plan p s.opcode operand_pairs)) [] [] tt (Ok (reading_from plan p s.opcode operand_pairs)) (takes_passed v AfterSuffix (passed v AfterSuffix s.accepted)) (takes_pure (Ok (reading_from plan p s.opcode operand_pairs))) in
       let named : Takes (after_operands operand_pairs) (s.pieces.suffix ++ []) (Ok (reading_from plan p s.opcode operand_pairs)) = takes_bind (read_opcode v plan.opcode) (finish_step operand_pairs) s.pieces.suffix [] s.opcode (Ok (reading_from plan p s.opcode operand_pairs)) (takes_opcode v plan.opcode s.opcode s.pieces.suffix s.pieces.suffix_length s.named) last in
       subst (λ x. Takes (read_plan plan p m) tail (Ok x)) (sym s.yields)
@@ -159,7 +159,7 @@ module _ (plan : Plan) (p : Prefixes) (m : ℕ) where
 
   takes_after_suffix : (fault : Fault) (tail : List ℕ) → v ≡ Refuses fault AfterSuffix → SpellsPieces plan p m tail → Takes (read_plan plan p m) tail (Err (error_of fault))
   takes_after_suffix fault tail is s =
-      let operand_pairs : FilledOperands = four_of s.operand_pairs in
+      let operand_pairs : Operands = four_of s.operand_pairs in
       let last : Takes (finish_step operand_pairs plan.opcode) [] (Err (error_of fault)) = takes_err (refuse_at v AfterSuffix) (λ _. pure (reading_from plan p plan.opcode operand_pairs)) [] (error_of fault) (takes_refused v fault AfterSuffix is) in
       let named : Takes (after_operands operand_pairs) (s.suffix ++ []) (Err (error_of fault)) = takes_bind (read_opcode v plan.opcode) (finish_step operand_pairs) s.suffix [] plan.opcode (Err (error_of fault)) (takes_opcode v plan.opcode plan.opcode s.suffix s.suffix_length (ap (λ o. opcode_by o plan.opcode s.suffix) is)) last in
       takes_pieces tail (Err (error_of fault)) s (ap (λ o. refuses_at o AtModRM) is) (ap (λ o. refuses_at o AfterAddress) is)
@@ -174,20 +174,20 @@ module _ (plan : Plan) (p : Prefixes) (m : ℕ) where
       (takes_err (refuse_at v AfterAddress) (λ _. after_address_step memory) [] (error_of fault) (takes_refused v fault AfterAddress is)))
   takes_tail_refused tail fault (after_suffix is s) = takes_after_suffix fault tail is s
   takes_tail_refused tail fault (no_name s is none same) =
-      let operand_pairs : FilledOperands = four_of s.operand_pairs in
+      let operand_pairs : Operands = four_of s.operand_pairs in
       subst (λ e. Takes (read_plan plan p m) tail (Err e)) (ap error_of (sym same))
       (takes_pieces tail (Err (error_of BadOpcode)) s (ap (λ o. refuses_at o AtModRM) is) (ap (λ o. refuses_at o AfterAddress) is)
       (takes_err (read_opcode v plan.opcode) (finish_step operand_pairs) s.suffix (error_of BadOpcode) (takes_unnamed v plan.opcode s.suffix is s.suffix_length none)))
 
   -- ---- bytes that end between the pieces
 
-  ends_finish : (operand_pairs : FilledOperands) (opcode : ℕ) → EndsWell (λ q r. Unit {0}) (λ q. Unit {0}) (finish_step operand_pairs opcode)
+  ends_finish : (operand_pairs : Operands) (opcode : ℕ) → EndsWell (λ q r. Unit {0}) (λ q. Unit {0}) (finish_step operand_pairs opcode)
   ends_finish operand_pairs opcode = ends_bind (IsVerdict v AfterSuffix) Never (λ q r. Unit {0}) (λ q. Unit {0}) (refuse_at v AfterSuffix) (λ _. pure (reading_from plan p opcode operand_pairs)) (ends_verdict v AfterSuffix) (λ q h. tt) (λ q e h. tt) (λ q x h. ends_pure (λ q r. Unit {0}) (λ q. Unit {0}) (reading_from plan p opcode operand_pairs) tt)
 
-  ends_named : (operand_pairs : FilledOperands) → EndsWell (λ q r. Unit {0}) (λ q. Unit {0}) (after_operands operand_pairs)
+  ends_named : (operand_pairs : Operands) → EndsWell (λ q r. Unit {0}) (λ q. Unit {0}) (after_operands operand_pairs)
   ends_named operand_pairs = ends_bind (IsNamed v plan.opcode) IsEmpty (λ q r. Unit {0}) (λ q. Unit {0}) (read_opcode v plan.opcode) (finish_step operand_pairs) (ends_opcode v plan.opcode) (λ q h. tt) (λ q e h. tt) (λ q opcode h. ends_finish operand_pairs opcode)
 
-  settled : (operand_pairs : FilledOperands) (q : List ℕ) → length q ≡ suffix_width v → (o : Option ℕ) → opcode_by v plan.opcode q ≡ o → Halts (after_operands operand_pairs) q
+  settled : (operand_pairs : Operands) (q : List ℕ) → length q ≡ suffix_width v → (o : Option ℕ) → opcode_by v plan.opcode q ≡ o → Halts (after_operands operand_pairs) q
   settled operand_pairs q w (Some o) e = subst (Halts (after_operands operand_pairs)) (append-nil q) (halts_bind (read_opcode v plan.opcode) (finish_step operand_pairs) q [] o (takes_opcode v plan.opcode o q w e) (halts_empty (finish_step operand_pairs o) (ends_finish operand_pairs o)))
   settled operand_pairs q w None e = over q [] (Err (error_of BadOpcode)) (sym (append-nil q)) (takes_err (read_opcode v plan.opcode) (finish_step operand_pairs) q (error_of BadOpcode) (takes_unnamed v plan.opcode q (unnamed v e) w e)) (final_err (error_of BadOpcode) (fault_error BadOpcode))
     where
@@ -195,7 +195,7 @@ module _ (plan : Plan) (p : Prefixes) (m : ℕ) where
       unnamed NamedBySuffix e = refl
       unnamed v e = cc
 
-  halts_after_operands : (operand_pairs : FilledOperands) (q : List ℕ) → EndsBetween (suffix_width v ∷ []) q → Halts (after_operands operand_pairs) q
+  halts_after_operands : (operand_pairs : Operands) (q : List ℕ) → EndsBetween (suffix_width v ∷ []) q → Halts (after_operands operand_pairs) q
   halts_after_operands operand_pairs q k = by (first_piece (suffix_width v) [] q k)
     where
       by : FirstPiece (suffix_width v) [] q → Halts (after_operands operand_pairs) q

@@ -1,9 +1,12 @@
 -- What a row has after its opcode byte, known from a ModRM byte alone.
 use Rattle.std.specs.Prelude.{ℕ, Bool, true, false, if◌then◌else◌, Option, List, [], ◌∷◌, map}
-use Rattle.x86_operands.specs.Vocabulary.{Prefixes, Verdict, NamedBySuffix, OperandEncodings, ModrmUse, Absent, EitherForm, Registers, Plan, Ask, RecordAt, FormEncoding, OperandEncoding, I8, I16, I32, I64, I32From16, I64Whole, U8, U16, X8, X16, Address32, Address64, is_memory, absent_modrm, as_register}
+use Rattle.std.specs.Int.{byte_len}
+use Rattle.std.specs.Option.{option_map_or}
+use Rattle.x86_operands.specs.Vocabulary.{Prefixes, Verdict, NamedBySuffix, OperandEncodings, ModrmUse, Absent, EitherForm, Registers, Plan, Ask, RecordAt, FormEncoding, OperandEncoding, is_memory, absent_modrm, as_register}
 use Rattle.x86_fields.specs.Pieces.{total, option_bytes}
 use Rattle.x86_operands.specs.Encodings.{last_encoding, somewhere, use_of}
 use Rattle.x86_operands.specs.Plans.{RowRecord, list_of}
+use Rattle.x86_operands.specs.PlanSteps.{immediate_read}
 
 abbrev pub uses_modrm : ModrmUse → Bool
 uses_modrm Absent = false
@@ -15,19 +18,7 @@ uses_suffix verdict = false
 
 -- how many bytes of immediate an operand encoding has
 abbrev pub immediate_width : OperandEncoding → ℕ
-immediate_width I8 = 1
-immediate_width I16 = 2
-immediate_width I32 = 4
-immediate_width I64 = 4
-immediate_width I32From16 = 2
-immediate_width I64Whole = 8
-immediate_width U8 = 1
-immediate_width U16 = 2
-immediate_width X8 = 1
-immediate_width X16 = 2
-immediate_width Address32 = 4
-immediate_width Address64 = 8
-immediate_width s = 0
+immediate_width s = option_map_or (λ i. byte_len i.0) (immediate_read s) 0
 
 -- how many bytes the immediates have together; those of an absolute address count
 abbrev pub immediates_width : OperandEncodings → ℕ

@@ -58,22 +58,23 @@ rm_encoding after_opcode.Registers w p = encoding.U (class_of w p)
 rm_encoding b width.Mm p = encoding.Emm
 rm_encoding b w p = encoding.E (class_of w p)
 
-abbrev pub same_position : Position → Position → Bool
-same_position First First = true
-same_position Second Second = true
-same_position Third Third = true
-same_position Nowhere Nowhere = true
-same_position a b = false
+abbrev pub index_of_position : Position → ℕ
+index_of_position First = 0
+index_of_position Second = 1
+index_of_position Third = 2
+index_of_position Nowhere = 3
 
-abbrev pub encoding_at : Order → Position → OperandEncoding → OperandEncoding → OperandEncoding → OperandEncoding
-encoding_at o k reg rm last = if same_position o.reg k then reg else (if same_position o.rm k then rm else last)
+-- the operand encoding at an index
+abbrev pub encoding_at : Order → ℕ → OperandEncoding → OperandEncoding → OperandEncoding → OperandEncoding
+encoding_at o k reg rm last =
+    if index_of_position o.reg == k then reg else (if index_of_position o.rm == k then rm else last)
 
 abbrev pub encodings_in : Order → OperandEncoding → OperandEncoding → OperandEncoding → OperandEncodings
 encodings_in o reg rm last =
     if o.count == 0 then Zero
-    else (if o.count == 1 then One (encoding_at o First reg rm last)
-    else (if o.count == 2 then Two (encoding_at o First reg rm last) (encoding_at o Second reg rm last)
-    else Three (encoding_at o First reg rm last) (encoding_at o Second reg rm last) (encoding_at o Third reg rm last)))
+    else (if o.count == 1 then One (encoding_at o 0 reg rm last)
+    else (if o.count == 2 then Two (encoding_at o 0 reg rm last) (encoding_at o 1 reg rm last)
+    else Three (encoding_at o 0 reg rm last) (encoding_at o 1 reg rm last) (encoding_at o 2 reg rm last)))
 
 -- the memory size at a ModRM byte
 abbrev pub size_at : FormEncoding → ℕ → Size

@@ -2,11 +2,11 @@
 -- alone, any other opcode has size 0.
 use Rattle.std.specs.Prelude.{ℕ, ◌&&◌, ◌==◌, not, Bool, if◌then◌else◌, [], ◌∷◌}
 use Rattle.x86_operands.specs.Vocabulary.{RegisterClass, Prefixes, Size, OperandEncoding, I16, I32, I64Whole, Address32, Address64, Plan, BadOperand, AtModRM, has_w, operand_size, address_size, v_class, width_of, is_memory}
-use Rattle.x86_regs.specs.declared.RegisterClass.TheVariants.{W, D, Q}
+use Rattle.x86_regs.specs.declared.RegisterClass.TheVariants.{D, Q}
 use Rattle.x86_opcodes.specs.Kinds.{is_among}
-use Rattle.x86_opcodes.specs.Names.{CALL, CMPSD, CMPSS, ROUNDSS, ROUNDSD, LFS, LGS, LSS, ENQCMD, ENQCMDS, MOVDDUP, MOVNTSS, MOVNTPS, MOVNTPD, MOVNTDQ, PEXTRB, PEXTRW, EXTRACTPS, PINSRB, INSERTPS, PMOVSXBQ, PMOVZXBQ, PMOVSXBD, PMOVZXBD, PMOVSXWQ, PMOVZXWQ, UCOMISS, COMISS, CVTSS2SD, MOVLPD, MOVHPD, PUNPCKLBW, PUNPCKLWD, PUNPCKLDQ, RETURN, RETF, PUSHF, POPF, LEAVE, XLAT, CBW, CWDE, CDQE, CWD, CDQ, CQO}
+use Rattle.x86_opcodes.specs.Names.{CALL, CMPSD, CMPSS, ROUNDSS, ROUNDSD, LFS, LGS, LSS, ENQCMD, ENQCMDS, MOVDDUP, MOVNTSS, MOVNTPS, MOVNTPD, MOVNTDQ, PEXTRB, PEXTRW, EXTRACTPS, PINSRB, INSERTPS, PMOVSXBQ, PMOVZXBQ, PMOVSXBD, PMOVZXBD, PMOVSXWQ, PMOVZXWQ, UCOMISS, COMISS, CVTSS2SD, MOVLPD, MOVHPD, PUNPCKLBW, PUNPCKLWD, PUNPCKLDQ, RETURN, RETF, PUSHF, POPF, LEAVE, XLAT}
 use Rattle.x86_operands.specs.declared.encodings.Size.TheVariants as size
-use Rattle.x86_operands.specs.Plans.{refused, size_by}
+use Rattle.x86_operands.specs.Plans.{refused, size_by, by_class}
 
 -- the class of an address register
 abbrev pub pointer_class : Prefixes → RegisterClass
@@ -22,9 +22,7 @@ or_v memory p m = size_by m memory (v_size p)
 
 -- the immediate of a class v that has its whole width
 abbrev pub whole_immediate : RegisterClass → OperandEncoding
-whole_immediate W = I16
-whole_immediate Q = I64Whole
-whole_immediate c = I32
+whole_immediate c = by_class c I16 I32 I64Whole
 
 -- the immediate of PUSH
 abbrev pub push_immediate : Prefixes → OperandEncoding
@@ -34,33 +32,17 @@ push_immediate p = if operand_size p && not (has_w p) then I16 else I32
 abbrev pub address_encoding : Prefixes → OperandEncoding
 address_encoding p = if address_size p then Address32 else Address64
 
--- the opcode of 98 and of 99, by the class v
-abbrev pub widening : RegisterClass → ℕ
-widening W = CBW
-widening Q = CDQE
-widening c = CWDE
-
-abbrev pub doubling : RegisterClass → ℕ
-doubling W = CWD
-doubling Q = CQO
-doubling c = CDQ
-
 abbrev pub call_size : ℕ → ℕ
 call_size o = if o == CALL then 8 else 0
 
 abbrev pub port_size : Prefixes → ℕ
 port_size p = if operand_size p then 2 else 4
 
-abbrev pub is_far_load : ℕ → Bool
-is_far_load o = is_among (LFS ∷ LGS ∷ LSS ∷ []) o
-
-abbrev pub far_class : ℕ → Prefixes → RegisterClass
-far_class o p = if is_far_load o then v_class p else Q
-
-abbrev pub far_size : ℕ → Prefixes → ℕ
-far_size o p =
-    if is_far_load o then (if has_w p then 10 else (if operand_size p then 4 else 6))
-    else (if is_among (ENQCMD ∷ ENQCMDS ∷ []) o then 64 else 16)
+-- The class of the register and the size of the form INV_Gv_M: a far load, or a row of the same form.
+abbrev pub pointer_load : ℕ → Prefixes → RegisterClass × ℕ
+pointer_load o p =
+    if is_among (LFS ∷ LGS ∷ LSS ∷ []) o then (v_class p, by_class (v_class p) 4 6 10)
+    else (Q, if is_among (ENQCMD ∷ ENQCMDS ∷ []) o then 64 else 16)
 
 -- a load of half an xmm register, at a ModRM byte of the register form
 abbrev pub lacks_memory : ℕ → ℕ → Bool

@@ -3,14 +3,14 @@
 -- register form, I an immediate, J a branch, O an address, X and Y the strings at rsi and rdi, Z the register of the
 -- opcode byte.
 use Rattle.std.specs.Prelude.{ℕ, ◌==◌, ◌&&◌, ◌||◌, nat_lt, not, if◌then◌else◌, None}
-use Rattle.x86_operands.specs.Vocabulary.{RegisterClass, Prefixes, Form, TableRow, RegisterSlot, PointerSlot, Deref, DerefEsi, DerefEdi, DerefRsi, DerefRdi, OperandEncoding, G, Gmm, E, Emm, M, U, Umm, Fixed, Pointer, I8, I32, U8, U16, X16, ConstantU8, OperandEncodings, Zero, One, Two, Three, BadOperand, Incomplete, AtModRM, AfterAddress, AfterSuffix, SetsEs, ModrmUse, Absent, EitherForm, Plan, reg_spec, width_of, has_w, has_b, operand_size, address_size, v_class, vq_class, vd_class, dq_class, is_memory}
+use Rattle.x86_operands.specs.Vocabulary.{RegisterClass, Prefixes, Form, TableRow, RegisterSlot, PointerSlot, Deref, DerefEsi, DerefEdi, DerefRsi, DerefRdi, OperandEncoding, G, Gmm, E, Emm, M, U, Umm, Fixed, Pointer, I8, I32, U8, U16, X16, ConstantU8, OperandEncodings, Zero, One, Two, Three, BadOperand, Incomplete, AtModRM, AfterAddress, AfterSuffix, SetsEs, ModrmUse, Absent, EitherForm, Plan, reg_spec, width_of, has_w, has_b, address_size, v_class, vq_class, vd_class, dq_class, is_memory}
 use Rattle.x86_regs.specs.declared.RegisterClass.TheVariants.{B, W, D, Q, S, X}
-use Rattle.x86_opcodes.specs.Names.{NOP, JECXZ, IRET, IRETD, IRETQ, MOVQ, PEXTRD, PEXTRQ, PINSRD, PINSRQ}
+use Rattle.x86_opcodes.specs.Names.{NOP, CBW, CWDE, CDQE, CWD, CDQ, CQO, JECXZ, IRET, IRETD, IRETQ, MOVQ, PEXTRD, PEXTRQ, PINSRD, PINSRQ}
 use Rattle.x86_forms.specs.declared.Form.TheVariants as form
 use Rattle.x86_operands.specs.declared.plans.RegisterSlot.TheVariants.{Reg, Rm}
 use Rattle.x86_operands.specs.declared.encodings.Size.TheVariants as size
-use Rattle.x86_operands.specs.Plans.{RowRecord, reads, refuses, refused, memory_only, register_only, size_by, reg_number, register_at, accumulator_of, immediate_of}
-use Rattle.x86_operands.specs.FormSizes.{pointer_class, whole_immediate, push_immediate, address_encoding, widening, doubling, call_size, named_size, port_size, far_class, far_size, form_by_opcode, v_size, or_v}
+use Rattle.x86_operands.specs.Plans.{RowRecord, reads, refuses, refused, memory_only, register_only, size_by, reg_number, register_at, accumulator_of, by_class, immediate_of}
+use Rattle.x86_operands.specs.FormSizes.{pointer_class, whole_immediate, push_immediate, address_encoding, call_size, named_size, port_size, pointer_load, form_by_opcode, v_size, or_v}
 use Rattle.x86_operands.specs.Encodings.{cl_third}
 
 -- ---- operand encodings of these forms
@@ -75,92 +75,25 @@ abbrev pub separate_row : Form → FormRow
 separate_row (form.Zv_AX_R n) = without_modrm (λ o p. exchange_plan n o p)
 separate_row form.Iw_Ib = without_modrm (λ o p. reads o (Two X16 U8) 8)
 separate_row form.CXZ = without_modrm (λ o p. reads (if address_size p then JECXZ else o) (One I8) 0)
-separate_row form.CVT_AA = without_modrm (λ o p. reads (widening (v_class p)) Zero 0)
-separate_row form.CVT_DA = without_modrm (λ o p. reads (doubling (v_class p)) Zero 0)
-separate_row form.Fw = without_modrm (λ o p. reads (if has_w p then IRETQ else (if operand_size p then IRET else IRETD)) Zero 0)
+separate_row form.CVT_AA = without_modrm (λ o p. reads (by_class (v_class p) CBW CWDE CDQE) Zero 0)
+separate_row form.CVT_DA = without_modrm (λ o p. reads (by_class (v_class p) CWD CDQ CQO) Zero 0)
+separate_row form.Fw = without_modrm (λ o p. reads (by_class (v_class p) IRET IRETD IRETQ) Zero 0)
 separate_row form.FS = without_modrm (λ o p. reads o (One (Fixed Reg (reg_spec 4 S))) 8)
 separate_row form.GS = without_modrm (λ o p. reads o (One (Fixed Reg (reg_spec 5 S))) 8)
 separate_row form.Ew_Sw = with_modrm (λ o p m. refused (nat_lt 5 (reg_number m p)) BadOperand AfterAddress (reads o (Two (E D) (G S)) (or_v 2 p m)))
 separate_row form.Sw_Ew = with_modrm (λ o p m. refused (nat_lt 5 (reg_number m p) || (reg_number m p == 1)) BadOperand AfterAddress (reads o (Two (G S) (E W)) (or_v 2 p m)))
-separate_row form.INV_Gv_M = with_modrm (λ o p m. memory_only m (reads o (Two (G (far_class o p)) M) (far_size o p)))
+separate_row form.INV_Gv_M = with_modrm (λ o p m. memory_only m (reads o (Two (G (pointer_load o p).0) M) (pointer_load o p).1))
 separate_row form.MOVDIR64B = with_modrm (λ o p m. memory_only m (reads o (Two (G (pointer_class p)) M) 64))
-separate_row form.Pextr_dq = with_modrm (λ o p m. reads (if has_w p then PEXTRQ else PEXTRD) (Three (E (v_class p)) (G X) U8) (if has_w p then 8 else 4))
-separate_row form.Pinsr_dq = with_modrm (λ o p m. reads (if has_w p then PINSRQ else PINSRD) (Three (G X) (E X) U8) (or_v (if has_w p then 8 else 4) p m))
+separate_row form.Pextr_dq = with_modrm (λ o p m. reads (if has_w p then PEXTRQ else PEXTRD) (Three (E (v_class p)) (G X) U8) (width_of (dq_class p)))
+separate_row form.Pinsr_dq = with_modrm (λ o p m. reads (if has_w p then PINSRQ else PINSRD) (Three (G X) (E X) U8) (or_v (width_of (dq_class p)) p m))
 separate_row form.Edq_G_xmm = with_modrm (λ o p m. reads (if has_w p then MOVQ else o) (Two (E (dq_class p)) (G X)) (or_v (width_of (dq_class p)) p m))
 separate_row form.Rv_Gmm_Ib = with_modrm (λ o p m. refused (is_memory m) BadOperand AfterSuffix (reads o (Three (G D) Umm U8) (v_size p)))
 separate_row f = string_row f
 
--- ---- mm registers
-abbrev pub mm_row : Form → FormRow
-mm_row form.G_xmm_E_mm = with_modrm (λ o p m. reads o (Two (G X) Emm) (or_v 8 p m))
-mm_row form.G_mm_E_xmm = with_modrm (λ o p m. reads o (Two Gmm (E X)) (or_v 16 p m))
-mm_row form.G_xmm_U_mm = with_modrm (λ o p m. register_only m (reads o (Two (G X) Umm) (v_size p)))
-mm_row form.G_mm_U_xmm = with_modrm (λ o p m. register_only m (reads o (Two Gmm (U X)) (v_size p)))
-mm_row form.G_U_mm = with_modrm (λ o p m. register_only m (reads o (Two (G D) Umm) (v_size p)))
-mm_row form.G_E_mm = with_modrm (λ o p m. reads o (Two Gmm Emm) (or_v (named_size size.Unpack o) p m))
-mm_row form.G_mm_E = with_modrm (λ o p m. reads o (Two Gmm Emm) (or_v 8 p m))
-mm_row form.E_G_mm = with_modrm (λ o p m. reads o (Two Emm Gmm) (or_v 8 p m))
-mm_row form.G_E_mm_Ib = with_modrm (λ o p m. reads o (Three Gmm Emm I8) (size_by m 8 0))
-mm_row form.G_mm_Edq = with_modrm (λ o p m. reads o (Two Gmm (E (dq_class p))) (v_size p))
-mm_row form.Edq_G_mm = with_modrm (λ o p m. reads o (Two (E (dq_class p)) Gmm) (or_v (width_of (dq_class p)) p m))
-mm_row form.G_Mq_mm = with_modrm (λ o p m. memory_only m (reads o (Two M Gmm) 8))
-mm_row form.G_mm_U_mm = with_modrm (λ o p m. register_only m (reads o (Two Gmm Umm) 8))
-mm_row form.G_mm_Ew_Ib = with_modrm (λ o p m. reads o (Three Gmm (E D) I8) (or_v 2 p m))
-mm_row f = separate_row f
+-- ---- all forms
 
--- ---- xmm registers
-abbrev pub xmm_row : Form → FormRow
-xmm_row form.G_E_xmm = with_modrm (λ o p m. reads o (Two (G X) (E X)) (or_v (named_size size.Duplicate o) p m))
-xmm_row form.E_G_xmm = with_modrm (λ o p m. reads o (Two (E X) (G X)) (or_v 16 p m))
-xmm_row form.G_Ed_xmm = with_modrm (λ o p m. reads o (Two (G X) (E X)) (or_v 4 p m))
-xmm_row form.Ed_G_xmm = with_modrm (λ o p m. reads o (Two (E X) (G X)) (or_v 4 p m))
-xmm_row form.G_M_xmm = with_modrm (λ o p m. memory_only m (reads o (Two (G X) M) 16))
-xmm_row form.M_G_xmm = with_modrm (λ o p m. memory_only m (reads o (Two M (G X)) (named_size size.Stream o)))
-xmm_row form.G_E_xmm_Ib = with_modrm (λ o p m. reads o (Three (G X) (E X) I8) (or_v (named_size size.Scalar o) p m))
-xmm_row form.G_E_xmm_Ub = with_modrm (λ o p m. reads o (Three (G X) (E X) U8) (or_v 16 p m))
-xmm_row form.PMOVX_G_E_xmm = with_modrm (λ o p m. form_by_opcode m (reads o (Two (G X) (E X)) (or_v (named_size size.Extend o) p m)))
-xmm_row form.PMOVX_E_G_xmm = with_modrm (λ o p m. reads o (Two (E X) (G X)) (or_v 8 p m))
-xmm_row form.MOVQ_f30f = with_modrm (λ o p m. reads o (Two (G X) (E X)) (or_v 8 p m))
-xmm_row form.Gdq_Eq_xmm = with_modrm (λ o p m. reads o (Two (G (v_class p)) (E X)) (or_v 8 p m))
-xmm_row form.Gv_E_xmm = with_modrm (λ o p m. reads o (Two (G (v_class p)) (E X)) (or_v 4 p m))
-xmm_row form.Gd_U_xmm = with_modrm (λ o p m. register_only m (reads o (Two (G D) (U X)) (v_size p)))
-xmm_row form.G_U_xmm = with_modrm (λ o p m. register_only m (reads o (Two (G X) (U X)) (v_size p)))
-xmm_row form.MASKMOVDQU = with_modrm (λ o p m. register_only m (reads o (Two (G X) (U X)) 16))
-xmm_row form.G_U_xmm_Ub = with_modrm (λ o p m. register_only m (reads o (Three (G D) (U X) U8) (v_size p)))
-xmm_row form.Ev_G_xmm_Ib = with_modrm (λ o p m. reads o (Three (E (v_class p)) (G X) U8) (named_size size.Extract o))
-xmm_row form.G_Ev_xmm_Ib = with_modrm (λ o p m. reads o (Three (G X) (E X) U8) (or_v (named_size size.Insert o) p m))
-xmm_row form.G_xmm_Ew_Ib = with_modrm (λ o p m. reads o (Three (G X) (E D) U8) (or_v 2 p m))
-xmm_row form.G_xmm_Edq = with_modrm (λ o p m. reads o (Two (G X) (E (dq_class p))) (v_size p))
-xmm_row f = mm_row f
-
--- ---- general registers
-abbrev pub general_row : Form → FormRow
-general_row form.Eb_Gb = with_modrm (λ o p m. reads o (Two (E B) (G B)) 1)
-general_row form.Gb_Eb = with_modrm (λ o p m. reads o (Two (G B) (E B)) 1)
-general_row form.Ev_Gv = with_modrm (λ o p m. reads o (Two (E (v_class p)) (G (v_class p))) (v_size p))
-general_row form.Gv_Ev = with_modrm (λ o p m. reads o (Two (G (v_class p)) (E (v_class p))) (v_size p))
-general_row form.Gv_M = with_modrm (λ o p m. memory_only m (reads o (Two (G (v_class p)) M) (v_size p)))
-general_row form.M_Gv = with_modrm (λ o p m. memory_only m (reads o (Two M (G (v_class p))) (v_size p)))
-general_row form.Eb_R0 = with_modrm (λ o p m. reads o (One (E B)) 1)
-general_row form.Ev = with_modrm (λ o p m. reads o (One (E (v_class p))) (v_size p))
-general_row form.Gv_Eb = with_modrm (λ o p m. reads o (Two (G (v_class p)) (E B)) (size_by m 1 0))
-general_row form.Gv_Ew = with_modrm (λ o p m. reads o (Two (G (v_class p)) (E W)) (size_by m 2 0))
-general_row form.Gdq_Ed = with_modrm (λ o p m. reads o (Two (G Q) (E D)) (or_v 4 p m))
-general_row form.Gd_Ed = with_modrm (λ o p m. reads o (Two (G D) (E D)) (or_v 4 p m))
-general_row form.Gdq_Ev = with_modrm (λ o p m. reads o (Two (G (dq_class p)) (E (v_class p))) (or_v 4 p m))
-general_row form.Gv_Ev_Ib = with_modrm (λ o p m. reads o (Three (G (v_class p)) (E (v_class p)) I8) (v_size p))
-general_row form.Gv_Ev_Iv = with_modrm (λ o p m. reads o (Three (G (v_class p)) (E (v_class p)) (immediate_of (v_class p))) (v_size p))
-general_row form.Ev_Gv_Ib = with_modrm (λ o p m. reads o (Three (E (v_class p)) (G (v_class p)) I8) (v_size p))
-general_row form.Ev_Gv_CL = with_modrm (λ o p m. reads o (Three (E (v_class p)) (G (v_class p)) cl_third) (v_size p))
-general_row form.Gv_Ew_LAR = with_modrm (λ o p m. reads o (Two (G (v_class p)) (E (v_class p))) (or_v 2 p m))
-general_row form.Gv_Ew_LSL = with_modrm (λ o p m. reads o (Two (G (v_class p)) (E (vd_class p))) (or_v 2 p m))
-general_row form.Mdq_Gdq = with_modrm (λ o p m. memory_only m (reads o (Two M (G (dq_class p))) (width_of (dq_class p))))
-general_row form.G_E_q = with_modrm (λ o p m. reads o (Two (G Q) (E Q)) (or_v 8 p m))
-general_row form.E_G_q = with_modrm (λ o p m. reads o (Two (E Q) (G Q)) (or_v 8 p m))
-general_row f = xmm_row f
-
--- ---- no ModRM: the register of the opcode byte, immediates, and nothing
 abbrev pub form_row : Form → FormRow
+-- no ModRM: the register of the opcode byte, immediates, and nothing
 form_row (form.Zv_R n) = without_modrm (λ o p. reads o (One (z_in Reg n (vq_class p) p)) 8)
 form_row (form.Zb_Ib_R n) = without_modrm (λ o p. reads o (Two (z_in Reg n B p) U8) 0)
 form_row (form.Zv_Ivq_R n) = without_modrm (λ o p. reads o (Two (z_in Reg n (v_class p) p) (whole_immediate (v_class p))) 0)
@@ -181,7 +114,67 @@ form_row form.AL_Ib = without_modrm (λ o p. reads o (Two (accumulator_of B p) U
 form_row form.AX_Ib = without_modrm (λ o p. reads o (Two (accumulator_of (vd_class p) p) U8) 0)
 form_row form.Ib_AL = without_modrm (λ o p. reads o (Two U8 (accumulator_of B p)) 0)
 form_row form.Ib_AX = without_modrm (λ o p. reads o (Two U8 (accumulator_of (vd_class p) p)) 0)
-form_row f = general_row f
+-- general registers
+form_row form.Eb_Gb = with_modrm (λ o p m. reads o (Two (E B) (G B)) 1)
+form_row form.Gb_Eb = with_modrm (λ o p m. reads o (Two (G B) (E B)) 1)
+form_row form.Ev_Gv = with_modrm (λ o p m. reads o (Two (E (v_class p)) (G (v_class p))) (v_size p))
+form_row form.Gv_Ev = with_modrm (λ o p m. reads o (Two (G (v_class p)) (E (v_class p))) (v_size p))
+form_row form.Gv_M = with_modrm (λ o p m. memory_only m (reads o (Two (G (v_class p)) M) (v_size p)))
+form_row form.M_Gv = with_modrm (λ o p m. memory_only m (reads o (Two M (G (v_class p))) (v_size p)))
+form_row form.Eb_R0 = with_modrm (λ o p m. reads o (One (E B)) 1)
+form_row form.Ev = with_modrm (λ o p m. reads o (One (E (v_class p))) (v_size p))
+form_row form.Gv_Eb = with_modrm (λ o p m. reads o (Two (G (v_class p)) (E B)) (size_by m 1 0))
+form_row form.Gv_Ew = with_modrm (λ o p m. reads o (Two (G (v_class p)) (E W)) (size_by m 2 0))
+form_row form.Gdq_Ed = with_modrm (λ o p m. reads o (Two (G Q) (E D)) (or_v 4 p m))
+form_row form.Gd_Ed = with_modrm (λ o p m. reads o (Two (G D) (E D)) (or_v 4 p m))
+form_row form.Gdq_Ev = with_modrm (λ o p m. reads o (Two (G (dq_class p)) (E (v_class p))) (or_v 4 p m))
+form_row form.Gv_Ev_Ib = with_modrm (λ o p m. reads o (Three (G (v_class p)) (E (v_class p)) I8) (v_size p))
+form_row form.Gv_Ev_Iv = with_modrm (λ o p m. reads o (Three (G (v_class p)) (E (v_class p)) (immediate_of (v_class p))) (v_size p))
+form_row form.Ev_Gv_Ib = with_modrm (λ o p m. reads o (Three (E (v_class p)) (G (v_class p)) I8) (v_size p))
+form_row form.Ev_Gv_CL = with_modrm (λ o p m. reads o (Three (E (v_class p)) (G (v_class p)) cl_third) (v_size p))
+form_row form.Gv_Ew_LAR = with_modrm (λ o p m. reads o (Two (G (v_class p)) (E (v_class p))) (or_v 2 p m))
+form_row form.Gv_Ew_LSL = with_modrm (λ o p m. reads o (Two (G (v_class p)) (E (vd_class p))) (or_v 2 p m))
+form_row form.Mdq_Gdq = with_modrm (λ o p m. memory_only m (reads o (Two M (G (dq_class p))) (width_of (dq_class p))))
+form_row form.G_E_q = with_modrm (λ o p m. reads o (Two (G Q) (E Q)) (or_v 8 p m))
+form_row form.E_G_q = with_modrm (λ o p m. reads o (Two (E Q) (G Q)) (or_v 8 p m))
+-- xmm registers
+form_row form.G_E_xmm = with_modrm (λ o p m. reads o (Two (G X) (E X)) (or_v (named_size size.Duplicate o) p m))
+form_row form.E_G_xmm = with_modrm (λ o p m. reads o (Two (E X) (G X)) (or_v 16 p m))
+form_row form.G_Ed_xmm = with_modrm (λ o p m. reads o (Two (G X) (E X)) (or_v 4 p m))
+form_row form.Ed_G_xmm = with_modrm (λ o p m. reads o (Two (E X) (G X)) (or_v 4 p m))
+form_row form.G_M_xmm = with_modrm (λ o p m. memory_only m (reads o (Two (G X) M) 16))
+form_row form.M_G_xmm = with_modrm (λ o p m. memory_only m (reads o (Two M (G X)) (named_size size.Stream o)))
+form_row form.G_E_xmm_Ib = with_modrm (λ o p m. reads o (Three (G X) (E X) I8) (or_v (named_size size.Scalar o) p m))
+form_row form.G_E_xmm_Ub = with_modrm (λ o p m. reads o (Three (G X) (E X) U8) (or_v 16 p m))
+form_row form.PMOVX_G_E_xmm = with_modrm (λ o p m. form_by_opcode m (reads o (Two (G X) (E X)) (or_v (named_size size.Extend o) p m)))
+form_row form.PMOVX_E_G_xmm = with_modrm (λ o p m. reads o (Two (E X) (G X)) (or_v 8 p m))
+form_row form.MOVQ_f30f = with_modrm (λ o p m. reads o (Two (G X) (E X)) (or_v 8 p m))
+form_row form.Gdq_Eq_xmm = with_modrm (λ o p m. reads o (Two (G (v_class p)) (E X)) (or_v 8 p m))
+form_row form.Gv_E_xmm = with_modrm (λ o p m. reads o (Two (G (v_class p)) (E X)) (or_v 4 p m))
+form_row form.Gd_U_xmm = with_modrm (λ o p m. register_only m (reads o (Two (G D) (U X)) (v_size p)))
+form_row form.G_U_xmm = with_modrm (λ o p m. register_only m (reads o (Two (G X) (U X)) (v_size p)))
+form_row form.MASKMOVDQU = with_modrm (λ o p m. register_only m (reads o (Two (G X) (U X)) 16))
+form_row form.G_U_xmm_Ub = with_modrm (λ o p m. register_only m (reads o (Three (G D) (U X) U8) (v_size p)))
+form_row form.Ev_G_xmm_Ib = with_modrm (λ o p m. reads o (Three (E (v_class p)) (G X) U8) (named_size size.Extract o))
+form_row form.G_Ev_xmm_Ib = with_modrm (λ o p m. reads o (Three (G X) (E X) U8) (or_v (named_size size.Insert o) p m))
+form_row form.G_xmm_Ew_Ib = with_modrm (λ o p m. reads o (Three (G X) (E D) U8) (or_v 2 p m))
+form_row form.G_xmm_Edq = with_modrm (λ o p m. reads o (Two (G X) (E (dq_class p))) (v_size p))
+-- mm registers
+form_row form.G_xmm_E_mm = with_modrm (λ o p m. reads o (Two (G X) Emm) (or_v 8 p m))
+form_row form.G_mm_E_xmm = with_modrm (λ o p m. reads o (Two Gmm (E X)) (or_v 16 p m))
+form_row form.G_xmm_U_mm = with_modrm (λ o p m. register_only m (reads o (Two (G X) Umm) (v_size p)))
+form_row form.G_mm_U_xmm = with_modrm (λ o p m. register_only m (reads o (Two Gmm (U X)) (v_size p)))
+form_row form.G_U_mm = with_modrm (λ o p m. register_only m (reads o (Two (G D) Umm) (v_size p)))
+form_row form.G_E_mm = with_modrm (λ o p m. reads o (Two Gmm Emm) (or_v (named_size size.Unpack o) p m))
+form_row form.G_mm_E = with_modrm (λ o p m. reads o (Two Gmm Emm) (or_v 8 p m))
+form_row form.E_G_mm = with_modrm (λ o p m. reads o (Two Emm Gmm) (or_v 8 p m))
+form_row form.G_E_mm_Ib = with_modrm (λ o p m. reads o (Three Gmm Emm I8) (size_by m 8 0))
+form_row form.G_mm_Edq = with_modrm (λ o p m. reads o (Two Gmm (E (dq_class p))) (v_size p))
+form_row form.Edq_G_mm = with_modrm (λ o p m. reads o (Two (E (dq_class p)) Gmm) (or_v (width_of (dq_class p)) p m))
+form_row form.G_Mq_mm = with_modrm (λ o p m. memory_only m (reads o (Two M Gmm) 8))
+form_row form.G_mm_U_mm = with_modrm (λ o p m. register_only m (reads o (Two Gmm Umm) 8))
+form_row form.G_mm_Ew_Ib = with_modrm (λ o p m. reads o (Three Gmm (E D) I8) (or_v 2 p m))
+form_row f = separate_row f
 
 abbrev pub row_plan : FormRow → ℕ → Prefixes → ℕ → Plan
 row_plan (without_modrm plan) o p m = plan o p

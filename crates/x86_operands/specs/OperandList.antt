@@ -6,38 +6,29 @@ use Rattle.x86_fields.specs.declared.sizes.Width.TheVariants as width
 use Rattle.x86_fields.specs.Steps.{Step, ◌>>=◌, pure}
 use Rattle.x86_operands.specs.declared.encodings.AfterOpcode.TheVariants as after_opcode
 use Rattle.x86_operands.specs.Plans.{reg_number, register_at}
-use Rattle.x86_operands.specs.Encodings.{last_encoding, somewhere}
+use Rattle.x86_operands.specs.Encodings.{index_of_position, last_encoding, somewhere}
 use Rattle.x86_operands.specs.declared.operands.Slot.TheVariants as slots
 use Rattle.x86_operands.specs.declared.operands.Operand.TheVariants as operands
-use Rattle.x86_operands.specs.PlanSteps.{FilledOperands, operand_step, read_memory, rm_operand, rm_mm_operand}
+use Rattle.x86_operands.specs.PlanSteps.{four_of, operand_step, read_memory, rm_operand, rm_mm_operand}
 
 -- what was written, where the reading is Ok
 abbrev pub value_if_ok : {X : Type 0} → Result (Unit {0}) DecodeError → X → Result X DecodeError
 value_if_ok (Ok u) x = Ok x
 value_if_ok (Err e) x = Err e
 
-abbrev pub index_of_position : Position → ℕ
-index_of_position First = 0
-index_of_position Second = 1
-index_of_position Third = 2
-index_of_position Nowhere = 3
-
 abbrev pub put_at : ℕ → Slot × Operand → Operands → Operands
 put_at k x operand_list = record operand_list { slots = slice_set operand_list.slots k x.0; operands = slice_set operand_list.operands k x.1 }
 
 -- a pair at a position; Nowhere is none
 abbrev pub put_in : Position → Slot × Operand → Operands → Operands
-put_in First x operand_list = put_at 0 x operand_list
-put_in Second x operand_list = put_at 1 x operand_list
-put_in Third x operand_list = put_at 2 x operand_list
-put_in Nowhere x operand_list = operand_list
+put_in at x operand_list = if somewhere at then put_at (index_of_position at) x operand_list else operand_list
 
 -- the operand of an encoding that looks at no ModRM, at a position
 abbrev pub encoded_read : Position → OperandEncoding → Prefixes → Operands → Step Operands
 encoded_read at s p operand_list = operand_step s p absent_modrm None >>= λ x. pure (put_in at x operand_list)
 
 abbrev pub no_operands : Operands
-no_operands = record { slots = slots.Nothing ∷ slots.Nothing ∷ slots.Nothing ∷ slots.Nothing ∷ []; operands = operands.Nothing ∷ operands.Nothing ∷ operands.Nothing ∷ operands.Nothing ∷ []; count = 0; mem_size = 0 }
+no_operands = four_of []
 
 abbrev pub reading_with : ℕ → Prefixes → Operands → Reading
 reading_with o p operand_list = record { opcode = o; count = operand_list.count; slots = operand_list.slots; operands = operand_list.operands; mem_size = operand_list.mem_size; prefixes = p }
@@ -90,10 +81,6 @@ sized count size = record no_operands { count = count; mem_size = size }
 -- what an operand encoding yields, at an index
 abbrev pub put_encoded : ℕ → OperandEncoding → Prefixes → ℕ → Option Raw → Operands → Step Operands
 put_encoded k s p m memory operand_list = operand_step s p m memory >>= λ x. pure (put_at k x operand_list)
-
--- the operands without their memory size
-abbrev pub filled_from : Operands → FilledOperands
-filled_from operand_list = record { count = operand_list.count; slots = operand_list.slots; operands = operand_list.operands }
 
 -- ---- the last operand
 

@@ -1,11 +1,12 @@
 -- What is known of an operand and a slot by themselves.
-use Rattle.std.specs.Prelude.{ℕ, Bool, true, false, ◌==◌, if◌then◌else◌, Option, Some, None}
+use Rattle.std.specs.Prelude.{ℕ, Bool, true, false, ◌||◌, ◌==◌, if◌then◌else◌, Option, Some, None, is_some}
 use Rattle.x86_regs.specs.Register.{class}
 use Rattle.x86_operands.specs.Vocabulary.{width_of, Slot, Operand}
 use Rattle.x86_operands.specs.declared.operands.MemoryAccessSize.{MemoryAccessSize}
 use Rattle.x86_operands.specs.declared.operands.Slot.TheVariants as slots
 use Rattle.x86_operands.specs.declared.operands.Operand.TheVariants as operands
 use Rattle.x86_fields.specs.MemorySizes.{undecided_size}
+use Rattle.x86_operands.specs.Linear.{operand_form}
 
 -- the memory size of a number, and the bytes that it has where the processor doesn't decide them
 abbrev pub access_size : ℕ → MemoryAccessSize
@@ -14,22 +15,26 @@ access_size n = record { size = n }
 abbrev pub bytes_size : MemoryAccessSize → Option ℕ
 bytes_size s = if s.size == undecided_size then None else Some s.size
 
+-- memory under a mask register
+abbrev pub is_masked_memory : Operand → Bool
+is_masked_memory (operands.MemDerefMasked b k) = true
+is_masked_memory (operands.DispMasked b d k) = true
+is_masked_memory (operands.MemIndexScaleMasked i s k) = true
+is_masked_memory (operands.MemIndexScaleDispMasked i s d k) = true
+is_masked_memory (operands.MemBaseIndexScaleMasked b i s k) = true
+is_masked_memory (operands.MemBaseIndexScaleDispMasked b i s d k) = true
+is_masked_memory op = false
+
+-- a register or memory under a mask register
+abbrev pub is_masked : Operand → Bool
+is_masked (operands.RegisterMaskMerge reg k m) = true
+is_masked (operands.RegisterMaskMergeSae reg k m sae) = true
+is_masked (operands.RegisterMaskMergeSaeNoround reg k m) = true
+is_masked op = is_masked_memory op
+
+-- memory has an address, unless a mask register hides it
 abbrev pub is_memory_operand : Operand → Bool
-is_memory_operand (operands.AbsoluteU32 n) = true
-is_memory_operand (operands.AbsoluteU64 n) = true
-is_memory_operand (operands.MemDeref b) = true
-is_memory_operand (operands.Disp b d) = true
-is_memory_operand (operands.MemIndexScale i s) = true
-is_memory_operand (operands.MemIndexScaleDisp i s d) = true
-is_memory_operand (operands.MemBaseIndexScale b i s) = true
-is_memory_operand (operands.MemBaseIndexScaleDisp b i s d) = true
-is_memory_operand (operands.MemDerefMasked b k) = true
-is_memory_operand (operands.DispMasked b d k) = true
-is_memory_operand (operands.MemIndexScaleMasked i s k) = true
-is_memory_operand (operands.MemIndexScaleDispMasked i s d k) = true
-is_memory_operand (operands.MemBaseIndexScaleMasked b i s k) = true
-is_memory_operand (operands.MemBaseIndexScaleDispMasked b i s d k) = true
-is_memory_operand op = false
+is_memory_operand op = is_masked_memory op || is_some (operand_form false op)
 
 abbrev pub is_memory_slot : Slot → Bool
 is_memory_slot slots.DispU32 = true

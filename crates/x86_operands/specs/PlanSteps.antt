@@ -1,7 +1,7 @@
 -- The walk after an opcode byte, as steps.
 use Rattle.std.specs.Prelude.{ℕ, Bool, true, false, if◌then◌else◌, Option, Some, None, List, [], ◌∷◌, length, zero, suc}
-use Rattle.std.specs.Int.{w8, w16, w32, w64, cast_signed}
-use Rattle.x86_operands.specs.Vocabulary.{RegisterClass, RegSpec, DecodeError, Prefixes, Raw, Slot, Operand, RegisterSlot, PointerSlot, OperandEncoding, G, Gmm, E, Emm, M, U, Umm, Fixed, Pointer, I8, I16, I32, I64, I32From16, I64Whole, U8, U16, X8, X16, ConstantI8, ConstantU8, Address32, Address64, Moment, AtModRM, AfterAddress, AfterSuffix, Fault, BadOpcode, BadOperand, Incomplete, Verdict, Accepts, NamedBySuffix, Refuses, PrefixChange, Keeps, ClearsOperandSize, SetsEs, ModrmUse, Absent, EitherForm, Registers, Plan, Reading, reg_spec, reg_field, rm_field, is_memory, absent_modrm, as_register, register_of}
+use Rattle.std.specs.Int.{Width, w8, w16, w32, w64, cast_signed}
+use Rattle.x86_operands.specs.Vocabulary.{RegisterClass, RegSpec, DecodeError, Prefixes, Raw, Slot, Operand, RegisterSlot, PointerSlot, OperandEncoding, G, Gmm, E, Emm, M, U, Umm, Fixed, Pointer, I8, I16, I32, I64, I32From16, I64Whole, U8, U16, X8, X16, ConstantI8, ConstantU8, Address32, Address64, Moment, AtModRM, AfterAddress, AfterSuffix, Fault, BadOpcode, BadOperand, Incomplete, Verdict, Accepts, NamedBySuffix, Refuses, PrefixChange, Keeps, ClearsOperandSize, SetsEs, ModrmUse, Absent, EitherForm, Registers, Plan, Reading, Operands, reg_spec, reg_field, rm_field, is_memory, absent_modrm, as_register, register_of}
 use Rattle.x86_regs.specs.declared.RegisterClass.TheVariants.{Q, MM}
 use Rattle.x86_fields.specs.declared.errors.DecodeError.TheVariants.{InvalidOpcode, InvalidOperand, IncompleteDecoder}
 use Rattle.x86_fields.specs.Prefixes.{without_operand_size, with_es}
@@ -41,42 +41,53 @@ rm_operand c p m memory = memory_or (register_of c p (rm_number m p)) memory
 abbrev pub rm_mm_operand : ℕ → Option Raw → Slot × Operand
 rm_mm_operand m memory = memory_or (reg_spec (rm_field m) MM) memory
 
+-- a number that is read, and what it yields
+abbrev pub Immediate : Type 0
+Immediate = Width × (ℕ → Slot × Operand)
+
+-- the immediate of an operand encoding; None where no byte is read
+abbrev pub immediate_read : OperandEncoding → Option Immediate
+immediate_read I8 = Some (w8, λ n. (slots.ImmI8, operands.ImmediateI8 (cast_signed w8 n)))
+immediate_read I16 = Some (w16, λ n. (slots.ImmI16, operands.ImmediateI16 (cast_signed w16 n)))
+immediate_read I32 = Some (w32, λ n. (slots.ImmI32, operands.ImmediateI32 (cast_signed w32 n)))
+immediate_read I64 = Some (w32, λ n. (slots.ImmI64, operands.ImmediateI64 (cast_signed w32 n)))
+immediate_read I32From16 = Some (w16, λ n. (slots.ImmI32, operands.ImmediateI32 (cast_signed w16 n)))
+immediate_read I64Whole = Some (w64, λ n. (slots.ImmI64, operands.ImmediateI64 (cast_signed w64 n)))
+immediate_read U8 = Some (w8, λ n. (slots.ImmU8, operands.ImmediateU8 n))
+immediate_read U16 = Some (w16, λ n. (slots.ImmU16, operands.ImmediateU16 n))
+immediate_read X8 = Some (w8, λ n. (slots.ImmInDisp, operands.ImmediateU16 n))
+immediate_read X16 = Some (w16, λ n. (slots.ImmInDisp, operands.ImmediateU16 n))
+immediate_read Address32 = Some (w32, λ n. (slots.DispU32, operands.AbsoluteU32 n))
+immediate_read Address64 = Some (w64, λ n. (slots.DispU64, operands.AbsoluteU64 n))
+immediate_read s = None
+
+-- the slot and the operand of an operand encoding for which no byte is read
+abbrev pub known_operand : OperandEncoding → Prefixes → ℕ → Option Raw → Slot × Operand
+known_operand (G c) p m memory = (slots.Reg, operands.Register (register_of c p (reg_number m p)))
+known_operand Gmm p m memory = (slots.Reg, operands.Register (reg_spec (reg_field m) MM))
+known_operand (E c) p m memory = rm_operand c p m memory
+known_operand Emm p m memory = rm_mm_operand m memory
+known_operand M p m memory = rm_operand Q p m memory
+known_operand (U c) p m memory = rm_operand c p m memory
+known_operand Umm p m memory = rm_mm_operand m memory
+known_operand (Fixed slot reg) p m memory = (register_slot slot, operands.Register reg)
+known_operand (Pointer slot reg) p m memory = (pointer_slot slot, operands.MemDeref reg)
+known_operand (ConstantI8 z) p m memory = (slots.ImmI8, operands.ImmediateI8 z)
+known_operand (ConstantU8 n) p m memory = (slots.ImmU8, operands.ImmediateU8 n)
+known_operand s p m memory = (slots.Nothing, operands.Nothing)
+
+abbrev pub number_or : Option Immediate → Slot × Operand → Step (Slot × Operand)
+number_or None x = pure x
+number_or (Some (w, yields)) x = number_step w >>= λ n. pure (yields n)
+
 -- What an operand encoding yields: its slot and its operand.
 unfoldable pub operand_step : OperandEncoding → Prefixes → ℕ → Option Raw → Step (Slot × Operand)
-operand_step (G c) p m memory = pure (slots.Reg, operands.Register (register_of c p (reg_number m p)))
-operand_step Gmm p m memory = pure (slots.Reg, operands.Register (reg_spec (reg_field m) MM))
-operand_step (E c) p m memory = pure (rm_operand c p m memory)
-operand_step Emm p m memory = pure (rm_mm_operand m memory)
-operand_step M p m memory = pure (rm_operand Q p m memory)
-operand_step (U c) p m memory = pure (rm_operand c p m memory)
-operand_step Umm p m memory = pure (rm_mm_operand m memory)
-operand_step (Fixed slot reg) p m memory = pure (register_slot slot, operands.Register reg)
-operand_step (Pointer slot reg) p m memory = pure (pointer_slot slot, operands.MemDeref reg)
-operand_step I8 p m memory = number_step w8 >>= λ n. pure (slots.ImmI8, operands.ImmediateI8 (cast_signed w8 n))
-operand_step I16 p m memory = number_step w16 >>= λ n. pure (slots.ImmI16, operands.ImmediateI16 (cast_signed w16 n))
-operand_step I32 p m memory = number_step w32 >>= λ n. pure (slots.ImmI32, operands.ImmediateI32 (cast_signed w32 n))
-operand_step I64 p m memory = number_step w32 >>= λ n. pure (slots.ImmI64, operands.ImmediateI64 (cast_signed w32 n))
-operand_step I32From16 p m memory = number_step w16 >>= λ n. pure (slots.ImmI32, operands.ImmediateI32 (cast_signed w16 n))
-operand_step I64Whole p m memory = number_step w64 >>= λ n. pure (slots.ImmI64, operands.ImmediateI64 (cast_signed w64 n))
-operand_step U8 p m memory = number_step w8 >>= λ n. pure (slots.ImmU8, operands.ImmediateU8 n)
-operand_step U16 p m memory = number_step w16 >>= λ n. pure (slots.ImmU16, operands.ImmediateU16 n)
-operand_step X8 p m memory = number_step w8 >>= λ n. pure (slots.ImmInDisp, operands.ImmediateU16 n)
-operand_step X16 p m memory = number_step w16 >>= λ n. pure (slots.ImmInDisp, operands.ImmediateU16 n)
-operand_step (ConstantI8 z) p m memory = pure (slots.ImmI8, operands.ImmediateI8 z)
-operand_step (ConstantU8 n) p m memory = pure (slots.ImmU8, operands.ImmediateU8 n)
-operand_step Address32 p m memory = number_step w32 >>= λ n. pure (slots.DispU32, operands.AbsoluteU32 n)
-operand_step Address64 p m memory = number_step w64 >>= λ n. pure (slots.DispU64, operands.AbsoluteU64 n)
+operand_step s p m memory = number_or (immediate_read s) (known_operand s p m memory)
 
 -- the pairs in order
 unfoldable pub operands_step : List OperandEncoding → Prefixes → ℕ → Option Raw → Step (List (Slot × Operand))
 operands_step [] p m memory = pure []
 operands_step (s ∷ rest) p m memory = operand_step s p m memory >>= λ first. operands_step rest p m memory >>= λ others. pure (first ∷ others)
-
--- what the operand encodings of a record yielded
-pub record FilledOperands : Type 0 where
-  pub count : ℕ
-  pub slots : List Slot
-  pub operands : List Operand
 
 -- the pair at an index, and beyond the last one nothing
 abbrev pub pair_at : List (Slot × Operand) → ℕ → Slot × Operand
@@ -84,15 +95,17 @@ pair_at [] n = (slots.Nothing, operands.Nothing)
 pair_at (x ∷ rest) zero = x
 pair_at (x ∷ rest) (suc n) = pair_at rest n
 
-abbrev pub four_of : List (Slot × Operand) → FilledOperands
+-- the pairs as operands, without a memory size
+abbrev pub four_of : List (Slot × Operand) → Operands
 four_of xs = record {
   count = length xs;
   slots = (pair_at xs 0).0 ∷ (pair_at xs 1).0 ∷ (pair_at xs 2).0 ∷ (pair_at xs 3).0 ∷ [];
   operands = (pair_at xs 0).1 ∷ (pair_at xs 1).1 ∷ (pair_at xs 2).1 ∷ (pair_at xs 3).1 ∷ [];
+  mem_size = 0;
 }
 
 -- the pairs, filled up to four
-unfoldable pub filled_step : List OperandEncoding → Prefixes → ℕ → Option Raw → Step FilledOperands
+unfoldable pub filled_step : List OperandEncoding → Prefixes → ℕ → Option Raw → Step Operands
 filled_step encodings p m memory = operands_step encodings p m memory >>= λ xs. pure (four_of xs)
 
 -- ---- refusals
@@ -110,9 +123,8 @@ same_moment a b = false
 
 -- a refusal at its moment
 abbrev pub refuse_at : Verdict → Moment → Step (Unit {0})
-refuse_at Accepts at = pure tt
-refuse_at NamedBySuffix at = pure tt
 refuse_at (Refuses fault moment) at = if same_moment moment at then refuse (error_of fault) else pure tt
+refuse_at verdict at = pure tt
 
 -- ---- the opcode
 
@@ -136,7 +148,7 @@ changed Keeps p = p
 changed ClearsOperandSize p = without_operand_size p
 changed SetsEs p = with_es p
 
-abbrev pub reading_from : Plan → Prefixes → ℕ → FilledOperands → Reading
+abbrev pub reading_from : Plan → Prefixes → ℕ → Operands → Reading
 reading_from plan p opcode operand_pairs = record { opcode = opcode; count = operand_pairs.count; slots = operand_pairs.slots; operands = operand_pairs.operands; mem_size = plan.size; prefixes = changed plan.change p }
 
 -- what a record has after its ModRM

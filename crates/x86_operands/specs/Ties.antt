@@ -1,5 +1,5 @@
 -- What the slots and operands of a reading have in common, and which of them is the memory operand of ModRM.
-use Rattle.std.specs.Prelude.{◌≡◌, ℕ, zero, suc, ◌<◌, ◌≤◌, Bool, true, false, List, [], ◌∷◌, slice_index_or}
+use Rattle.std.specs.Prelude.{◌≡◌, ℕ, zero, suc, ◌<◌, ◌≤◌, Bool, true, false, not, List, [], ◌∷◌, slice_index_or}
 use Rattle.x86_operands.specs.Vocabulary.{Prefixes, Raw, Slot, Operand, OperandEncoding, E, Emm, M, Reading}
 use Rattle.x86_operands.specs.declared.operands.Slot.TheVariants as slots
 use Rattle.x86_operands.specs.declared.operands.Operand.TheVariants as operands
@@ -7,25 +7,14 @@ use Rattle.x86_operands.specs.Shape.{shape}
 use Rattle.x86_operands.specs.Plans.{RowRecord, list_of}
 use Rattle.x86_operands.specs.Pieces.{SpellsRow}
 use Rattle.x86_operands.specs.Asks.{modrm_of}
+use Rattle.x86_operands.specs.Operands.{is_masked}
 
 -- the operands that are decoded: not Nothing, no unsigned immediate of 32 or 64 bits, and nothing masked or rounded
 abbrev pub is_decoded : Operand → Bool
-is_decoded (operands.ImmediateI8 z) = true
-is_decoded (operands.ImmediateU8 n) = true
-is_decoded (operands.ImmediateI16 z) = true
-is_decoded (operands.ImmediateU16 n) = true
-is_decoded (operands.ImmediateI32 z) = true
-is_decoded (operands.ImmediateI64 z) = true
-is_decoded (operands.Register reg) = true
-is_decoded (operands.AbsoluteU32 n) = true
-is_decoded (operands.AbsoluteU64 n) = true
-is_decoded (operands.MemDeref b) = true
-is_decoded (operands.Disp b d) = true
-is_decoded (operands.MemIndexScale i s) = true
-is_decoded (operands.MemIndexScaleDisp i s d) = true
-is_decoded (operands.MemBaseIndexScale b i s) = true
-is_decoded (operands.MemBaseIndexScaleDisp b i s d) = true
-is_decoded op = false
+is_decoded operands.Nothing = false
+is_decoded (operands.ImmediateU32 n) = false
+is_decoded (operands.ImmediateU64 n) = false
+is_decoded op = not (is_masked op)
 
 -- the slot of an immediate has that immediate
 abbrev pub suits : Slot → Operand → Bool

@@ -1,15 +1,14 @@
 //! What a line of the operand encodings says.
 
 ghost use Rattle.std.specs.Prelude.{◌≡◌, ◌<◌, ℕ};
-ghost use Rattle.x86_fields.specs.declared.prefixes.Prefixes.{Prefixes};
-ghost use Rattle.x86_fields.specs.ModRM.{is_memory};
+ghost use Rattle.x86_operands.specs.Vocabulary.{Prefixes, is_memory};
 ghost use Rattle.x86_fields.specs.Sizes.{size_prefixes};
 ghost use Rattle.x86_operands.specs.Encodings.{size_bytes, last_encoding, reg_encoding, rm_encoding, encoding_at, encodings_in, plan_of, use_of, is_described, allows, size_at};
 
 use crate::form_sizes::{
     form_by_opcode, lacks_memory, named_size, push_immediate, whole_immediate,
 };
-use crate::order::{Order, Position};
+use crate::order::Order;
 use crate::plans::{
     ModrmUse, OperandEncoding, OperandEncodings, Plan, RegisterSlot, accumulator_of, immediate_of,
     memory_only, reads, register_at, register_only,
@@ -194,16 +193,16 @@ fn rm_encoding(after_opcode: AfterOpcode, width: Width, prefixes: &Prefixes) -> 
 
 fn encoding_at(
     order: &Order,
-    k: Position,
+    k: usize,
     reg: OperandEncoding,
     rm: OperandEncoding,
     last: OperandEncoding,
 ) -> OperandEncoding
     ensures { result ≡ encoding_at order.now k reg rm last }
 {
-    if order.reg == k {
+    if order.reg as usize == k {
         reg
-    } else if order.rm == k {
+    } else if order.rm as usize == k {
         rm
     } else {
         last
@@ -218,9 +217,9 @@ fn encodings_in(
 ) -> OperandEncodings
     ensures { result ≡ encodings_in order.now reg rm last }
 {
-    let first = encoding_at(order, Position::First, reg, rm, last);
-    let second = encoding_at(order, Position::Second, reg, rm, last);
-    let third = encoding_at(order, Position::Third, reg, rm, last);
+    let first = encoding_at(order, 0, reg, rm, last);
+    let second = encoding_at(order, 1, reg, rm, last);
+    let third = encoding_at(order, 2, reg, rm, last);
     match order.count {
         0 => OperandEncodings::Zero,
         1 => OperandEncodings::One(first),

@@ -1,8 +1,7 @@
 //! Sizes and classes by the opcode, or by a separate form.
-ghost use Rattle.std.specs.Prelude.{◌≡◌, if◌then◌else◌};
-ghost use Rattle.x86_fields.specs.Prefixes.{operand_size};
-ghost use Rattle.x86_fields.specs.Raw.{has_w};
-ghost use Rattle.x86_operands.specs.FormSizes.{v_size, or_v, pointer_class, whole_immediate, push_immediate, address_encoding, widening, doubling, port_size, is_far_load, far_class, far_size, form_by_opcode, lacks_memory, named_size};
+ghost use Rattle.std.specs.Prelude.{◌≡◌};
+ghost use Rattle.x86_operands.specs.Plans.{by_class};
+ghost use Rattle.x86_operands.specs.FormSizes.{v_size, or_v, pointer_class, whole_immediate, push_immediate, address_encoding, port_size, pointer_load, form_by_opcode, lacks_memory, named_size};
 
 use crate::encodings::Size;
 use crate::plans::{Fault, Moment, OperandEncoding, Plan, refused, size_by};
@@ -70,25 +69,14 @@ pub fn address(prefixes: &Prefixes) -> OperandEncoding
     }
 }
 
-/// The operation of the opcode byte 98: CBW, CWDE or CDQE, by the class.
-pub fn widening(class: RegisterClass) -> Opcode
-    ensures { result ≡ widening class }
+/// What goes by a class of v: of a word, of a doubleword or of a quadword.
+pub fn by_class<T: Copy>(class: RegisterClass, word: T, double: T, quad: T) -> T
+    ensures { result ≡ by_class class word double quad }
 {
     match class {
-        RegisterClass::W => Opcode::CBW,
-        RegisterClass::Q => Opcode::CDQE,
-        _ => Opcode::CWDE,
-    }
-}
-
-/// The operation of the opcode byte 99: CWD, CDQ or CQO, by the class.
-pub fn doubling(class: RegisterClass) -> Opcode
-    ensures { result ≡ doubling class }
-{
-    match class {
-        RegisterClass::W => Opcode::CWD,
-        RegisterClass::Q => Opcode::CQO,
-        _ => Opcode::CDQ,
+        RegisterClass::W => word,
+        RegisterClass::Q => quad,
+        _ => double,
     }
 }
 
@@ -99,46 +87,15 @@ pub fn port_size(prefixes: &Prefixes) -> u8
     if prefixes.operand_size() { 2 } else { 4 }
 }
 
-fn is_far_load(opcode: Opcode) -> bool
-    ensures { result ≡ is_far_load opcode }
+/// The class of the register and the size of a far load, or of a row of the same form.
+pub fn pointer_load(opcode: Opcode, prefixes: &Prefixes) -> (RegisterClass, u8)
+    ensures { result ≡ pointer_load opcode prefixes.now }
 {
-    matches!(opcode, Opcode::LFS | Opcode::LGS | Opcode::LSS)
-}
-
-/// The class of the register of a far load, or of a row of the same form.
-pub fn far_class(opcode: Opcode, prefixes: &Prefixes) -> RegisterClass
-    ensures { result ≡ far_class opcode prefixes.now }
-{
-    if is_far_load(opcode) {
-        prefixes.v_class()
-    } else {
-        RegisterClass::Q
-    }
-}
-
-fn far_pointer_size(prefixes: &Prefixes) -> u8
-    ensures { result
-        ≡ if has_w prefixes.now then 10 else (if operand_size prefixes.now then 4 else 6) }
-{
-    if prefixes.has_w() {
-        10
-    } else if prefixes.operand_size() {
-        4
-    } else {
-        6
-    }
-}
-
-/// The size of a far load, or of a row of the same form.
-pub fn far_size(opcode: Opcode, prefixes: &Prefixes) -> u8
-    ensures { result ≡ far_size opcode prefixes.now }
-{
-    if is_far_load(opcode) {
-        return far_pointer_size(prefixes);
-    }
+    let v = prefixes.v_class();
     match opcode {
-        Opcode::ENQCMD | Opcode::ENQCMDS => 64,
-        _ => 16,
+        Opcode::LFS | Opcode::LGS | Opcode::LSS => (v, by_class(v, 4, 6, 10)),
+        Opcode::ENQCMD | Opcode::ENQCMDS => (RegisterClass::Q, 64),
+        _ => (RegisterClass::Q, 16),
     }
 }
 

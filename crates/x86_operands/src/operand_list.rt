@@ -2,9 +2,7 @@
 
 ghost use Rattle.std.specs.Prelude.{◌≡◌, ◌<◌, ◌≢◌, ℕ, Option, true};
 ghost use Rattle.x86_fields.specs.Steps.{outcome};
-ghost use Rattle.x86_fields.specs.declared.prefixes.Prefixes.{Prefixes};
-ghost use Rattle.x86_fields.specs.declared.raw.Raw.{Raw};
-ghost use Rattle.x86_operands.specs.declared.order.Position.TheVariants.{Nowhere};
+ghost use Rattle.x86_operands.specs.Vocabulary.{Nowhere, Prefixes, Raw};
 ghost use Rattle.x86_operands.specs.PlanSteps.{memory_or, pointer_slot, read_plan, register_slot};
 ghost use Rattle.x86_operands.specs.OperandList.{is_last_encoding, reg_pair, fixed_pair, no_operands, reading_with, value_if_ok, put_in, put_at, put_encoded, encoded_read, leading_read, slot_in, operand_in};
 ghost use Rattle.x86_operands.specs.Encodings.{plan_of, last_encoding, allows, is_sound};

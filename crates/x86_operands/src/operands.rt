@@ -1,6 +1,5 @@
 //! Operands and where they come from.
-ghost use Rattle.std.specs.Prelude.{◌≡◌, ◌%◌};
-ghost use Rattle.x86_fields.specs.Linear.{modulus_by};
+ghost use Rattle.std.specs.Prelude.{◌≡◌};
 ghost use Rattle.x86_operands.specs.Linear.{operand_address};
 ghost use Rattle.x86_operands.specs.Operands.{is_memory_operand, is_memory_slot, operand_width, access_size, bytes_size};
 
@@ -261,17 +260,6 @@ fn parts(
     }
 }
 
-/// A number of 64 bits, or its low 32 bits.
-fn shortened(address: u64, address_size: bool) -> u64
-    ensures { result ≡ address % modulus_by address_size }
-{
-    if address_size {
-        address % 0x1_0000_0000
-    } else {
-        address
-    }
-}
-
 impl Operand {
     /// Whether the operand is memory, masked memory among it.
     pub fn is_memory(&self) -> bool
@@ -319,7 +307,8 @@ impl Operand {
         ensures { result ≡ operand_address address_size self.now regs.now.regs next }
     {
         let parts = match *self {
-            Operand::AbsoluteU64 { addr } => return Some(shortened(addr, address_size)),
+            Operand::AbsoluteU64 { addr } if address_size => return Some(addr % 0x1_0000_0000),
+            Operand::AbsoluteU64 { addr } => return Some(addr),
             Operand::AbsoluteU32 { addr } => parts(address_size, None, None, 1, addr.cast_signed()),
             Operand::MemDeref { base } => parts(address_size, Some(base), None, 1, 0),
             Operand::Disp { base, disp } => parts(address_size, Some(base), None, 1, disp),

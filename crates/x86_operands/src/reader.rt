@@ -1,5 +1,5 @@
 //! The one reader of plans: what a record has after its opcode byte.
-ghost use Rattle.x86_operands.specs.OperandList.{value_if_ok, no_operands, reading_with, filled_from};
+ghost use Rattle.x86_operands.specs.OperandList.{value_if_ok, no_operands, reading_with};
 ghost use Rattle.std.specs.Prelude.{◌≡◌, ℕ, ◌<◌, ◌∷◌, []};
 ghost use Rattle.x86_arch.specs.Reader.{State};
 ghost use Rattle.x86_fields.specs.Steps.{outcome};
@@ -152,7 +152,7 @@ impl Operands {
         memory: Option<Raw>,
     ) -> Result<(), DecodeError>
         requires { self.old ≡ no_operands }
-        ensures { outcome (value_if_ok result (filled_from self.new)) (T.state reader.new)
+        ensures { outcome (value_if_ok result self.new) (T.state reader.new)
             ≡ filled_step (list_of encodings) prefixes.now modrm memory (T.state reader.old) }
     {
         match encodings {

@@ -1,12 +1,9 @@
 //! Plans of the forms that no line describes: their operation, their class or their refusal goes by more than W and 66.
 ghost use Rattle.std.specs.Prelude.{◌≡◌, ◌<◌, if◌then◌else◌};
-ghost use Rattle.x86_fields.specs.Raw.{has_w};
 ghost use Rattle.x86_forms.specs.Words.{IsForm};
 ghost use Rattle.x86_operands.specs.Forms.{exchange_plan, separate_plan, sets_es, string_plan, strings};
 
-use crate::form_sizes::{
-    address, doubling, far_class, far_size, or_v, pointer_class, port_size, v_size, widening,
-};
+use crate::form_sizes::{address, by_class, or_v, pointer_class, pointer_load, port_size, v_size};
 use crate::plans::OperandEncoding::{E, Fixed, G, I8, M, Pointer, U8, Umm, X16};
 use crate::plans::OperandEncodings::{One, Three, Two, Zero};
 use crate::plans::PointerSlot::{Deref, DerefEdi, DerefEsi, DerefRdi, DerefRsi};
@@ -66,12 +63,6 @@ fn opcode_by(test: bool, one: Opcode, other: Opcode) -> Opcode
     if test { one } else { other }
 }
 
-fn size_by_w(prefixes: &Prefixes) -> u8
-    ensures { result ≡ if has_w prefixes.now then 8 else 4 }
-{
-    if prefixes.has_w() { 8 } else { 4 }
-}
-
 /// Accumulators with ports and absolute addresses, and strings.
 fn string_plan(form: Form, opcode: Opcode, prefixes: &Prefixes, modrm: ModRM) -> Plan
     ensures { result ≡ string_plan form opcode prefixes.now modrm }
@@ -119,12 +110,17 @@ pub fn separate_plan(form: Form, opcode: Opcode, prefixes: &Prefixes, modrm: Mod
     let w = prefixes.has_w();
     match form {
         Form::Zv_AX_R(num) => exchange_plan(opcode, num, prefixes),
-        Form::CVT_AA => reads(widening(v), Zero, 0),
-        Form::CVT_DA => reads(doubling(v), Zero, 0),
-        Form::Fw => {
-            let narrow = opcode_by(prefixes.operand_size(), Opcode::IRET, Opcode::IRETD);
-            reads(opcode_by(w, Opcode::IRETQ, narrow), Zero, 0)
-        }
+        Form::CVT_AA => reads(
+            by_class(v, Opcode::CBW, Opcode::CWDE, Opcode::CDQE),
+            Zero,
+            0,
+        ),
+        Form::CVT_DA => reads(by_class(v, Opcode::CWD, Opcode::CDQ, Opcode::CQO), Zero, 0),
+        Form::Fw => reads(
+            by_class(v, Opcode::IRET, Opcode::IRETD, Opcode::IRETQ),
+            Zero,
+            0,
+        ),
         Form::FS => reads(opcode, One(Fixed(Reg, RegSpec::seg(4))), 8),
         Form::GS => reads(opcode, One(Fixed(Reg, RegSpec::seg(5))), 8),
         Form::Iw_Ib => reads(opcode, Two(X16, U8), 8),
@@ -144,9 +140,8 @@ pub fn separate_plan(form: Form, opcode: Opcode, prefixes: &Prefixes, modrm: Mod
             refused(no_target, Fault::BadOperand, Moment::AfterAddress, plan)
         }
         Form::INV_Gv_M => {
-            let class = far_class(opcode, prefixes);
-            let plan = reads(opcode, Two(G(class), M), far_size(opcode, prefixes));
-            memory_only(modrm, plan)
+            let (class, size) = pointer_load(opcode, prefixes);
+            memory_only(modrm, reads(opcode, Two(G(class), M), size))
         }
         Form::MOVDIR64B => {
             let plan = reads(opcode, Two(G(pointer_class(prefixes)), M), 64);
@@ -154,12 +149,15 @@ pub fn separate_plan(form: Form, opcode: Opcode, prefixes: &Prefixes, modrm: Mod
         }
         Form::Pextr_dq => {
             let opcode = opcode_by(w, Opcode::PEXTRQ, Opcode::PEXTRD);
-            reads(opcode, Three(E(v), G(X), U8), size_by_w(prefixes))
+            reads(opcode, Three(E(v), G(X), U8), dq.width())
         }
         Form::Pinsr_dq => {
             let opcode = opcode_by(w, Opcode::PINSRQ, Opcode::PINSRD);
-            let size = or_v(size_by_w(prefixes), prefixes, modrm);
-            reads(opcode, Three(G(X), E(X), U8), size)
+            reads(
+                opcode,
+                Three(G(X), E(X), U8),
+                or_v(dq.width(), prefixes, modrm),
+            )
         }
         Form::Edq_G_xmm => {
             let opcode = opcode_by(w, Opcode::MOVQ, opcode);

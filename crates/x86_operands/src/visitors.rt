@@ -1,6 +1,7 @@
 //! Visitors of operands.
 ghost use Rattle.std.specs.Prelude.{◌≡◌, Result, true};
-ghost use Rattle.x86_operands.specs.Visitor.{Visit, is_masked, visit_of, visit_reg, visit_deref, visit_disp, visit_index_scale, visit_index_scale_disp, visit_base_index_scale, visit_base_index_scale_disp, visit_i8, visit_u8, visit_i16, visit_u16, visit_i32, visit_u32, visit_i64, visit_u64, visit_abs_u32, visit_abs_u64, visit_reg_mask_merge, visit_reg_mask_merge_sae, visit_reg_mask_merge_sae_noround, visit_deref_masked, visit_disp_masked, visit_index_scale_masked, visit_index_scale_disp_masked, visit_base_index_masked, visit_base_index_disp_masked, visit_base_index_scale_masked, visit_base_index_scale_disp_masked, visit_other};
+ghost use Rattle.x86_operands.specs.Operands.{is_masked};
+ghost use Rattle.x86_operands.specs.Visitor.{Visit, visit_of, visit_base_index_masked, visit_base_index_disp_masked};
 
 use crate::operands::Operand;
 use x86_regs::{MergeMode, RegSpec, SaeMode};
@@ -17,16 +18,16 @@ pub trait OperandVisitor {
     ghost answers: { Visit → Self → Self → Result Self.Ok Self.Error → Type 0 };
 
     fn visit_reg(&mut self, reg: RegSpec) -> Result<Self::Ok, Self::Error>
-        ensures { answers (visit_reg reg) self.old self.new result };
+        ensures { answers (visit_of (Operand.Register reg)) self.old self.new result };
 
     fn visit_deref(&mut self, reg: RegSpec) -> Result<Self::Ok, Self::Error>
-        ensures { answers (visit_deref reg) self.old self.new result };
+        ensures { answers (visit_of (Operand.MemDeref reg)) self.old self.new result };
 
     fn visit_disp(&mut self, reg: RegSpec, disp: i32) -> Result<Self::Ok, Self::Error>
-        ensures { answers (visit_disp reg disp) self.old self.new result };
+        ensures { answers (visit_of (Operand.Disp reg disp)) self.old self.new result };
 
     fn visit_index_scale(&mut self, reg: RegSpec, scale: u8) -> Result<Self::Ok, Self::Error>
-        ensures { answers (visit_index_scale reg scale) self.old self.new result };
+        ensures { answers (visit_of (Operand.MemIndexScale reg scale)) self.old self.new result };
 
     fn visit_index_scale_disp(
         &mut self,
@@ -34,7 +35,8 @@ pub trait OperandVisitor {
         scale: u8,
         disp: i32,
     ) -> Result<Self::Ok, Self::Error>
-        ensures { answers (visit_index_scale_disp reg scale disp) self.old self.new result };
+        ensures { answers (visit_of (Operand.MemIndexScaleDisp reg scale disp))
+            self.old self.new result };
 
     fn visit_base_index_scale(
         &mut self,
@@ -42,7 +44,8 @@ pub trait OperandVisitor {
         index: RegSpec,
         scale: u8,
     ) -> Result<Self::Ok, Self::Error>
-        ensures { answers (visit_base_index_scale base index scale) self.old self.new result };
+        ensures { answers (visit_of (Operand.MemBaseIndexScale base index scale))
+            self.old self.new result };
 
     fn visit_base_index_scale_disp(
         &mut self,
@@ -51,38 +54,38 @@ pub trait OperandVisitor {
         scale: u8,
         disp: i32,
     ) -> Result<Self::Ok, Self::Error>
-        ensures { answers (visit_base_index_scale_disp base index scale disp)
+        ensures { answers (visit_of (Operand.MemBaseIndexScaleDisp base index scale disp))
             self.old self.new result };
 
     fn visit_i8(&mut self, imm: i8) -> Result<Self::Ok, Self::Error>
-        ensures { answers (visit_i8 imm) self.old self.new result };
+        ensures { answers (visit_of (Operand.ImmediateI8 imm)) self.old self.new result };
 
     fn visit_u8(&mut self, imm: u8) -> Result<Self::Ok, Self::Error>
-        ensures { answers (visit_u8 imm) self.old self.new result };
+        ensures { answers (visit_of (Operand.ImmediateU8 imm)) self.old self.new result };
 
     fn visit_i16(&mut self, imm: i16) -> Result<Self::Ok, Self::Error>
-        ensures { answers (visit_i16 imm) self.old self.new result };
+        ensures { answers (visit_of (Operand.ImmediateI16 imm)) self.old self.new result };
 
     fn visit_u16(&mut self, imm: u16) -> Result<Self::Ok, Self::Error>
-        ensures { answers (visit_u16 imm) self.old self.new result };
+        ensures { answers (visit_of (Operand.ImmediateU16 imm)) self.old self.new result };
 
     fn visit_i32(&mut self, imm: i32) -> Result<Self::Ok, Self::Error>
-        ensures { answers (visit_i32 imm) self.old self.new result };
+        ensures { answers (visit_of (Operand.ImmediateI32 imm)) self.old self.new result };
 
     fn visit_u32(&mut self, imm: u32) -> Result<Self::Ok, Self::Error>
-        ensures { answers (visit_u32 imm) self.old self.new result };
+        ensures { answers (visit_of (Operand.ImmediateU32 imm)) self.old self.new result };
 
     fn visit_i64(&mut self, imm: i64) -> Result<Self::Ok, Self::Error>
-        ensures { answers (visit_i64 imm) self.old self.new result };
+        ensures { answers (visit_of (Operand.ImmediateI64 imm)) self.old self.new result };
 
     fn visit_u64(&mut self, imm: u64) -> Result<Self::Ok, Self::Error>
-        ensures { answers (visit_u64 imm) self.old self.new result };
+        ensures { answers (visit_of (Operand.ImmediateU64 imm)) self.old self.new result };
 
     fn visit_abs_u32(&mut self, imm: u32) -> Result<Self::Ok, Self::Error>
-        ensures { answers (visit_abs_u32 imm) self.old self.new result };
+        ensures { answers (visit_of (Operand.AbsoluteU32 imm)) self.old self.new result };
 
     fn visit_abs_u64(&mut self, imm: u64) -> Result<Self::Ok, Self::Error>
-        ensures { answers (visit_abs_u64 imm) self.old self.new result };
+        ensures { answers (visit_of (Operand.AbsoluteU64 imm)) self.old self.new result };
 
     fn visit_reg_mask_merge(
         &mut self,
@@ -90,7 +93,8 @@ pub trait OperandVisitor {
         mask: RegSpec,
         merge_mode: MergeMode,
     ) -> Result<Self::Ok, Self::Error>
-        ensures { answers (visit_reg_mask_merge base mask merge_mode) self.old self.new result };
+        ensures { answers (visit_of (Operand.RegisterMaskMerge base mask merge_mode))
+            self.old self.new result };
 
     fn visit_reg_mask_merge_sae(
         &mut self,
@@ -99,7 +103,7 @@ pub trait OperandVisitor {
         merge_mode: MergeMode,
         sae_mode: SaeMode,
     ) -> Result<Self::Ok, Self::Error>
-        ensures { answers (visit_reg_mask_merge_sae base mask merge_mode sae_mode)
+        ensures { answers (visit_of (Operand.RegisterMaskMergeSae base mask merge_mode sae_mode))
             self.old self.new result };
 
     fn visit_reg_mask_merge_sae_noround(
@@ -108,7 +112,7 @@ pub trait OperandVisitor {
         mask: RegSpec,
         merge_mode: MergeMode,
     ) -> Result<Self::Ok, Self::Error>
-        ensures { answers (visit_reg_mask_merge_sae_noround base mask merge_mode)
+        ensures { answers (visit_of (Operand.RegisterMaskMergeSaeNoround base mask merge_mode))
             self.old self.new result };
 
     fn visit_deref_masked(
@@ -116,7 +120,8 @@ pub trait OperandVisitor {
         base: RegSpec,
         mask_reg: RegSpec,
     ) -> Result<Self::Ok, Self::Error>
-        ensures { answers (visit_deref_masked base mask_reg) self.old self.new result };
+        ensures { answers (visit_of (Operand.MemDerefMasked base mask_reg))
+            self.old self.new result };
 
     fn visit_disp_masked(
         &mut self,
@@ -124,7 +129,8 @@ pub trait OperandVisitor {
         disp: i32,
         mask_reg: RegSpec,
     ) -> Result<Self::Ok, Self::Error>
-        ensures { answers (visit_disp_masked base disp mask_reg) self.old self.new result };
+        ensures { answers (visit_of (Operand.DispMasked base disp mask_reg))
+            self.old self.new result };
 
     fn visit_index_scale_masked(
         &mut self,
@@ -132,7 +138,8 @@ pub trait OperandVisitor {
         scale: u8,
         mask_reg: RegSpec,
     ) -> Result<Self::Ok, Self::Error>
-        ensures { answers (visit_index_scale_masked base scale mask_reg) self.old self.new result };
+        ensures { answers (visit_of (Operand.MemIndexScaleMasked base scale mask_reg))
+            self.old self.new result };
 
     fn visit_index_scale_disp_masked(
         &mut self,
@@ -141,7 +148,7 @@ pub trait OperandVisitor {
         disp: i32,
         mask_reg: RegSpec,
     ) -> Result<Self::Ok, Self::Error>
-        ensures { answers (visit_index_scale_disp_masked base scale disp mask_reg)
+        ensures { answers (visit_of (Operand.MemIndexScaleDispMasked base scale disp mask_reg))
             self.old self.new result };
 
     fn visit_base_index_masked(
@@ -169,7 +176,7 @@ pub trait OperandVisitor {
         scale: u8,
         mask_reg: RegSpec,
     ) -> Result<Self::Ok, Self::Error>
-        ensures { answers (visit_base_index_scale_masked base index scale mask_reg)
+        ensures { answers (visit_of (Operand.MemBaseIndexScaleMasked base index scale mask_reg))
             self.old self.new result };
 
     fn visit_base_index_scale_disp_masked(
@@ -180,11 +187,12 @@ pub trait OperandVisitor {
         disp: i32,
         mask_reg: RegSpec,
     ) -> Result<Self::Ok, Self::Error>
-        ensures { answers (visit_base_index_scale_disp_masked base index scale disp mask_reg)
+        ensures { answers
+            (visit_of (Operand.MemBaseIndexScaleDispMasked base index scale disp mask_reg))
             self.old self.new result };
 
     fn visit_other(&mut self) -> Result<Self::Ok, Self::Error>
-        ensures { answers visit_other self.old self.new result };
+        ensures { answers (visit_of Operand.Nothing) self.old self.new result };
 }
 
 impl Operand {
