@@ -1,5 +1,5 @@
 -- The orders of a sound line, and what follows where it accepts.
-use Rattle.std.proofs.Common.{◌≡◌, ℕ, true, false, ◌≢◌, IsTrue, arith}
+use Rattle.std.proofs.Common.{◌≡◌, ℕ, Bool, true, false, not, if◌then◌else◌, ◌≢◌, IsTrue, arith}
 use Rattle.std.proofs.lemmas.Bool.{eqb-true}
 use Rattle.x86_operands.specs.Vocabulary.{OperandEncodings, Position, First, Second, Third, Nowhere, Order, AfterOpcode, FormEncoding, is_memory}
 use Rattle.x86_operands.specs.declared.encodings.Last.TheVariants as last
@@ -43,8 +43,8 @@ accepted b m o size encodings h = grind arith
 pub no_memory : (b : AfterOpcode) (o m : ℕ) → has_modrm b ≡ false → allows b o m ≡ true → is_memory m ≡ false
 no_memory b o m h a = grind arith
 
-pub no_modrm : (b : AfterOpcode) → has_register b ≡ true → has_modrm b ≡ false
-no_modrm b h = grind arith
+pub no_modrm : (b : AfterOpcode) (register : Bool) → (if register then has_register b else not (has_modrm b)) ≡ true → has_modrm b ≡ false
+no_modrm b register h = grind arith
 
 pub last_there : (e : FormEncoding) → has_last e.order e.last ≡ true → e.order.last ≢ Nowhere → e.last ≢ last.Absent
 last_there e h k is = grind arith

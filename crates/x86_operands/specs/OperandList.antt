@@ -6,10 +6,10 @@ use Rattle.x86_fields.specs.declared.sizes.Width.TheVariants as width
 use Rattle.x86_fields.specs.Steps.{Step, ◌>>=◌, pure}
 use Rattle.x86_operands.specs.declared.encodings.AfterOpcode.TheVariants as after_opcode
 use Rattle.x86_operands.specs.Plans.{reg_number, register_at}
-use Rattle.x86_operands.specs.Encodings.{index_of_position, last_encoding, somewhere}
+use Rattle.x86_operands.specs.Encodings.{index_of_position, last_encoding, reg_encoding, rm_encoding, somewhere}
 use Rattle.x86_operands.specs.declared.operands.Slot.TheVariants as slots
 use Rattle.x86_operands.specs.declared.operands.Operand.TheVariants as operands
-use Rattle.x86_operands.specs.PlanSteps.{four_of, operand_step, read_memory, rm_operand, rm_mm_operand}
+use Rattle.x86_operands.specs.PlanSteps.{four_of, known_operand, operand_step, read_memory}
 
 -- what was written, where the reading is Ok
 abbrev pub value_if_ok : {X : Type 0} → Result (Unit {0}) DecodeError → X → Result X DecodeError
@@ -33,11 +33,6 @@ no_operands = four_of []
 abbrev pub reading_with : ℕ → Prefixes → Operands → Reading
 reading_with o p operand_list = record { opcode = o; count = operand_list.count; slots = operand_list.slots; operands = operand_list.operands; mem_size = operand_list.mem_size; prefixes = p }
 
--- the operand of rm
-abbrev pub rm_pair : Width → Prefixes → ℕ → Option Raw → Slot × Operand
-rm_pair width.Mm p m memory = rm_mm_operand m memory
-rm_pair w p m memory = rm_operand (class_of w p) p m memory
-
 -- the register of reg
 abbrev pub reg_pair : Width → Prefixes → ℕ → Slot × Operand
 reg_pair width.Mm p m = (slots.Reg, operands.Register (reg_spec (reg_field m) class.MM))
@@ -53,13 +48,15 @@ abbrev pub last_read : Position → Last → Prefixes → Operands → Step Oper
 last_read Nowhere l p operand_list = pure operand_list
 last_read at l p operand_list = encoded_read at (last_encoding l p) p operand_list
 
--- the operands of ModRM
-abbrev pub modrm_read : Position → Width → Position → Width → Prefixes → ℕ → Operands → Step Operands
-modrm_read at_reg wr at_rm we p m operand_list = read_memory p m >>= λ memory. pure (put_in at_reg (reg_pair wr p m) (put_in at_rm (rm_pair we p m memory) operand_list))
+-- the operands of reg and rm, each at its position: of ModRM, or a register that no ModRM names
+abbrev pub placed : FormEncoding → ℕ → Prefixes → ℕ → Option Raw → Operands → Operands
+placed e n p m memory operand_list =
+    put_in e.order.reg (known_operand (reg_encoding e.after_opcode e.reg n p) p m memory)
+    (put_in e.order.rm (known_operand (rm_encoding e.after_opcode e.rm p) p m memory) operand_list)
 
--- the operands of ModRM, or a register that no ModRM names
 abbrev pub leading_read : FormEncoding → ℕ → Prefixes → ℕ → Operands → Step Operands
-leading_read e n p m operand_list = if somewhere e.order.rm then modrm_read e.order.reg e.reg e.order.rm e.rm p m operand_list else pure (put_in e.order.reg (fixed_pair e.after_opcode e.reg n p) operand_list)
+leading_read e n p m operand_list =
+    (if somewhere e.order.rm then read_memory p m else pure None) >>= λ memory. pure (placed e n p m memory operand_list)
 
 -- what an encoding writes
 abbrev pub operands_read : FormEncoding → ℕ → Prefixes → ℕ → Operands → Step Operands

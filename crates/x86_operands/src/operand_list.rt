@@ -5,7 +5,7 @@ ghost use Rattle.x86_fields.specs.Steps.{outcome};
 ghost use Rattle.x86_operands.specs.Vocabulary.{Nowhere, Prefixes, Raw};
 ghost use Rattle.x86_operands.specs.PlanSteps.{memory_or, pointer_slot, read_plan, register_slot};
 ghost use Rattle.x86_operands.specs.OperandList.{is_last_encoding, reg_pair, fixed_pair, no_operands, reading_with, value_if_ok, put_in, put_at, put_encoded, encoded_read, leading_read, slot_in, operand_in};
-ghost use Rattle.x86_operands.specs.Encodings.{plan_of, last_encoding, allows, is_sound};
+ghost use Rattle.x86_operands.specs.Encodings.{plan_of, last_encoding, allows, is_sound, order_fits};
 
 use crate::order::Position;
 use crate::plans::{OperandEncoding, PointerSlot, RegisterSlot, register_at};
@@ -272,7 +272,7 @@ impl Operands {
     }
 
     /// The operands of ModRM, or a register that no ModRM names.
-    #[tactic(auto, using(crate::proofs::InPlaceLemmas::rm_in_memory))]
+    #[tactic(auto, using(crate::proofs::InPlaceLemmas::reg_placed, crate::proofs::InPlaceLemmas::fixed_placed, crate::proofs::InPlaceLemmas::rm_in_memory, crate::proofs::InPlaceLemmas::rm_in_register))]
     #[inline(always)]
     fn read_leading<T: Reader<u64, u8>>(
         &mut self,
@@ -281,7 +281,10 @@ impl Operands {
         num: u8,
         fields: &PrefixedModRM<'_>,
     ) -> Result<(), DecodeError>
-        requires { num < 8 }
+        requires small { num < 8 }
+        requires fits { order_fits encoding.now.after_opcode encoding.now.order ≡ true }
+        requires allowed { (opcode : ℕ) ×
+            (allows encoding.now.after_opcode opcode fields.now.modrm ≡ true) }
         ensures { outcome (value_if_ok result self.new) (T.state reader.new)
             ≡ leading_read encoding.now num fields.now.prefixes.now fields.now.modrm self.old
             (T.state reader.old) }
