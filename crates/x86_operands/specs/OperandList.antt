@@ -1,7 +1,7 @@
 -- What the operands of an instruction are after each step that writes them.
-use Rattle.std.specs.Prelude.{ℕ, Bool, true, false, if◌then◌else◌, Result, Ok, Err, Option, None, nat_lt, slice_index_or, slice_set, ◌∷◌, []}
+use Rattle.std.specs.Prelude.{ℕ, Bool, true, false, if◌then◌else◌, Result, Ok, Err, Option, None, nat_lt, slice_index_or, slice_set, []}
 use Rattle.x86_regs.specs.declared.RegisterClass.TheVariants as class
-use Rattle.x86_operands.specs.Vocabulary.{reg_spec, Prefixes, Width, Raw, DecodeError, OperandEncoding, I8, U8, I16, U16, I32, I64, I64Whole, ConstantI8, ConstantU8, Fixed, Position, First, Second, Third, Nowhere, AfterOpcode, Last, FormEncoding, Slot, Operand, Reading, Operands, reg_field, absent_modrm, class_of, register_of}
+use Rattle.x86_operands.specs.Vocabulary.{reg_spec, Prefixes, Width, Raw, DecodeError, OperandEncoding, I8, U8, I16, U16, I32, I64, I64Whole, ConstantI8, ConstantU8, Fixed, Position, Nowhere, AfterOpcode, Last, FormEncoding, Slot, Operand, Reading, Operands, reg_field, absent_modrm, class_of, register_of}
 use Rattle.x86_fields.specs.declared.sizes.Width.TheVariants as width
 use Rattle.x86_fields.specs.Steps.{Step, ◌>>=◌, pure}
 use Rattle.x86_operands.specs.declared.encodings.AfterOpcode.TheVariants as after_opcode
