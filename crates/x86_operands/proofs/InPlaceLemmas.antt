@@ -1,11 +1,12 @@
 -- What an encoding writes in place is what its plan yields.
 use Rattle.std.proofs.Common.{◌≡◌, ℕ, Bool, true, false, if◌then◌else◌, ◌≢◌, refl, ap, ◌∙◌, Ok, Err, Result, None, Some, Option, arith}
 use Rattle.x86_arch.specs.Reader.{State}
-use Rattle.x86_operands.specs.Vocabulary.{DecodeError, Prefixes, Raw, Slot, Operand, OperandEncoding, OperandEncodings, Position, Nowhere, Order, AfterOpcode, Width, Last, FormEncoding, Reading, Operands, is_memory, absent_modrm, class_of}
+use Rattle.x86_operands.specs.Vocabulary.{DecodeError, Prefixes, Raw, Slot, Operand, OperandEncoding, OperandEncodings, Position, Nowhere, Order, AfterOpcode, Width, Last, FormEncoding, Reading, Operands, is_memory, absent_modrm, class_of, register_of, reg_spec, rm_field}
 use Rattle.x86_fields.specs.declared.sizes.Width.TheVariants as width
+use Rattle.x86_regs.specs.declared.RegisterClass.TheVariants as class
 use Rattle.x86_fields.specs.Steps.{Step, Outcome, outcome, then_from, pure, ◌>>=◌}
-use Rattle.x86_operands.specs.PlanSteps.{read_plan, read_memory, filled_step, operands_step, operand_step, reading_from, known_operand, rm_operand, rm_mm_operand}
-use Rattle.x86_operands.specs.Plans.{list_of, reads}
+use Rattle.x86_operands.specs.PlanSteps.{read_plan, read_memory, filled_step, operands_step, operand_step, reading_from, known_operand, memory_or}
+use Rattle.x86_operands.specs.Plans.{list_of, reads, rm_number}
 use Rattle.x86_operands.specs.Shape.{shape}
 use Rattle.x86_operands.specs.Encodings.{index_of_position, last_encoding, somewhere, reg_encoding, rm_encoding, encodings_in, plan_of, size_bytes, size_at, is_order, has_modrm, has_register, order_fits, allows}
 use Rattle.x86_operands.specs.OperandList.{encoded_read, put_encoded, put_in, placed, reg_pair, fixed_pair, reading_with, sized, last_read, operands_read}
@@ -118,8 +119,8 @@ pub rm_in_memory : (b : AfterOpcode) (w : Width) (p : Prefixes) (m : ℕ) (raw :
 rm_in_memory b w p m raw h = grind arith
 
 abbrev pub rm_pair : Width → Prefixes → ℕ → Pair
-rm_pair width.Mm p m = rm_mm_operand m None
-rm_pair w p m = rm_operand (class_of w p) p m None
+rm_pair width.Mm p m = memory_or (reg_spec (rm_field m) class.MM) None
+rm_pair w p m = memory_or (register_of (class_of w p) p (rm_number m p)) None
 
 pub rm_in_register : (b : AfterOpcode) (w : Width) (p : Prefixes) (m : ℕ) → has_modrm b ≡ true → ((opcode : ℕ) × (allows b opcode m ≡ true)) → is_memory m ≡ false → known_operand (rm_encoding b w p) p m None ≡ rm_pair w p m
 rm_in_register b w p m h a e = let may = a.1 in grind arith

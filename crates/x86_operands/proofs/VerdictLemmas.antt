@@ -1,13 +1,14 @@
 -- The refusal of a plan at its moment, and the opcode that a suffix names.
 use Rattle.std.proofs.Common.{◌≡◌, ◌≢◌, ℕ, Bool, true, false, if◌then◌else◌, List, [], ◌∷◌, ◌++◌, length, Option, Some, None, Result, Ok, Err, refl, sym, ap, subst, ◌∙◌, arith}
 use Rattle.std.proofs.lemmas.List.{append-nil, nil_from_length}
+use Rattle.std.specs.Option.{option_map_or}
 use Rattle.x86_operands.specs.Vocabulary.{DecodeError, Moment, Fault, BadOpcode, Verdict, Accepts, NamedBySuffix, Refuses}
-use Rattle.x86_fields.specs.declared.errors.DecodeError.TheVariants.{ExhaustedInput}
+use Rattle.x86_fields.specs.declared.errors.DecodeError.TheVariants.{ExhaustedInput, InvalidOpcode}
 use Rattle.x86_fields.specs.Steps.{Step, pure, refuse, ◌>>=◌, next_byte}
 use Rattle.x86_fields.proofs.StepLemmas.{Takes, takes_pure, takes_bind, takes_byte}
 use Rattle.x86_fields.proofs.EndLemmas.{EndsWell, IsEmpty, IsByte, ends_byte, ends_pure, ends_refuse, ends_then, Halts, halts_bind, halts_refused}
 use Rattle.x86_operands.specs.Suffix.{suffix_opcode}
-use Rattle.x86_operands.specs.PlanSteps.{refuse_at, read_opcode, named_step, same_moment, error_of}
+use Rattle.x86_operands.specs.PlanSteps.{refuse_at, read_opcode, same_moment, error_of}
 use Rattle.x86_operands.specs.Pieces.{suffix_width, opcode_by}
 
 pub fault_error : (f : Fault) → error_of f ≢ ExhaustedInput
@@ -73,14 +74,14 @@ abbrev pub IsNamed : Verdict → ℕ → List ℕ → Result ℕ DecodeError →
 IsNamed v opcode q (Ok o) = (length q ≡ suffix_width v) × (opcode_by v opcode q ≡ Some o)
 IsNamed v opcode q (Err e) = (length q ≡ suffix_width v) × (e ≡ error_of BadOpcode) × (v ≡ NamedBySuffix) × (opcode_by v opcode q ≡ None)
 
-named : (opcode : ℕ) (b : ℕ) (q : List ℕ) → q ≡ b ∷ [] → (o : Option ℕ) → suffix_opcode b ≡ o → EndsWell (λ l r. IsNamed NamedBySuffix opcode (q ++ l) r) (λ l. IsEmpty (q ++ l)) (named_step o)
+named : (opcode : ℕ) (b : ℕ) (q : List ℕ) → q ≡ b ∷ [] → (o : Option ℕ) → suffix_opcode b ≡ o → EndsWell (λ l r. IsNamed NamedBySuffix opcode (q ++ l) r) (λ l. IsEmpty (q ++ l)) (option_map_or pure o (refuse InvalidOpcode))
 named opcode b q h None e = ends_refuse (λ l r. IsNamed NamedBySuffix opcode (q ++ l) r) (λ l. IsEmpty (q ++ l)) (error_of BadOpcode) (fault_error BadOpcode)
     (let whole : q ++ [] ≡ b ∷ [] = append-nil q ∙ h in (ap length whole, refl, refl, ap (opcode_by NamedBySuffix opcode) whole ∙ e))
 named opcode b q h (Some o) e = ends_pure (λ l r. IsNamed NamedBySuffix opcode (q ++ l) r) (λ l. IsEmpty (q ++ l)) o
     (let whole : q ++ [] ≡ b ∷ [] = append-nil q ∙ h in (ap length whole, ap (opcode_by NamedBySuffix opcode) whole ∙ e))
 
 pub ends_opcode : (v : Verdict) (opcode : ℕ) → EndsWell (IsNamed v opcode) IsEmpty (read_opcode v opcode)
-ends_opcode NamedBySuffix opcode = ends_then IsByte IsEmpty (IsNamed NamedBySuffix opcode) IsEmpty next_byte (λ b. named_step (suffix_opcode b)) ends_byte (λ q e. e)
+ends_opcode NamedBySuffix opcode = ends_then IsByte IsEmpty (IsNamed NamedBySuffix opcode) IsEmpty next_byte (λ b. option_map_or pure (suffix_opcode b) (refuse InvalidOpcode)) ends_byte (λ q e. e)
     (λ q b h. named opcode b q h (suffix_opcode b) refl)
 ends_opcode v opcode = ends_pure (IsNamed v opcode) IsEmpty opcode (refl, refl)
 
@@ -92,13 +93,13 @@ takes_itself opcode o q none e =
 pub takes_opcode : (v : Verdict) (opcode o : ℕ) (q : List ℕ) → length q ≡ suffix_width v → opcode_by v opcode q ≡ Some o → Takes (read_opcode v opcode) q (Ok o)
 takes_opcode NamedBySuffix opcode o (b ∷ []) e h =
     let name : suffix_opcode b ≡ Some o = h in
-    takes_bind next_byte (λ b. named_step (suffix_opcode b)) (b ∷ []) [] b (Ok o) (takes_byte b) (rw name (takes_pure (Ok o)))
+    takes_bind next_byte (λ b. option_map_or pure (suffix_opcode b) (refuse InvalidOpcode)) (b ∷ []) [] b (Ok o) (takes_byte b) (rw name (takes_pure (Ok o)))
 takes_opcode NamedBySuffix opcode o q e h = absurd (omega arith)
 takes_opcode v opcode o q e h = takes_itself opcode o q e h
 
 pub takes_unnamed : (v : Verdict) (opcode : ℕ) (q : List ℕ) → v ≡ NamedBySuffix → length q ≡ suffix_width v → opcode_by v opcode q ≡ None → Takes (read_opcode v opcode) q (Err (error_of BadOpcode))
 takes_unnamed NamedBySuffix opcode (b ∷ []) is e h =
     let none : suffix_opcode b ≡ None = h in
-    takes_bind next_byte (λ b. named_step (suffix_opcode b)) (b ∷ []) [] b (Err (error_of BadOpcode)) (takes_byte b) (rw none (takes_pure (Err (error_of BadOpcode))))
+    takes_bind next_byte (λ b. option_map_or pure (suffix_opcode b) (refuse InvalidOpcode)) (b ∷ []) [] b (Err (error_of BadOpcode)) (takes_byte b) (rw none (takes_pure (Err (error_of BadOpcode))))
 takes_unnamed NamedBySuffix opcode q is e h = absurd (omega arith)
 takes_unnamed v opcode q is e h = cc

@@ -140,12 +140,9 @@ has_register b = false
 abbrev pub order_fits : AfterOpcode → Order → Bool
 order_fits b o = if somewhere o.rm then has_modrm b else (if somewhere o.reg then has_register b else not (has_modrm b))
 
-abbrev pub is_last : Last → Bool
-is_last last.Absent = false
-is_last l = true
-
 abbrev pub has_last : Order → Last → Bool
-has_last o l = if somewhere o.last then is_last l else true
+has_last o last.Absent = not (somewhere o.last)
+has_last o l = true
 
 -- the operations and ModRM bytes that a line accepts; a ModRM byte that isn't there reads as C0
 abbrev pub allows : AfterOpcode → ℕ → ℕ → Bool

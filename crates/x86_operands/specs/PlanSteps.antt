@@ -1,6 +1,7 @@
 -- The walk after an opcode byte, as steps.
-use Rattle.std.specs.Prelude.{ℕ, Bool, true, false, if◌then◌else◌, Option, Some, None, List, [], ◌∷◌, length, zero, suc}
+use Rattle.std.specs.Prelude.{ℕ, Bool, true, false, if◌then◌else◌, Option, Some, None, List, [], ◌∷◌, length, slice_index_or}
 use Rattle.std.specs.Int.{Width, w8, w16, w32, w64, cast_signed}
+use Rattle.std.specs.Option.{option_map_or}
 use Rattle.x86_operands.specs.Vocabulary.{RegisterClass, RegSpec, DecodeError, Prefixes, Raw, Slot, Operand, RegisterSlot, PointerSlot, OperandEncoding, G, Gmm, E, Emm, M, U, Umm, Fixed, Pointer, I8, I16, I32, I64, I32From16, I64Whole, U8, U16, X8, X16, ConstantI8, ConstantU8, Address32, Address64, Moment, AtModRM, AfterAddress, AfterSuffix, Fault, BadOpcode, BadOperand, Incomplete, Verdict, NamedBySuffix, Refuses, PrefixChange, Keeps, ClearsOperandSize, SetsEs, ModrmUse, Absent, EitherForm, Registers, Plan, Reading, Operands, reg_spec, reg_field, rm_field, is_memory, absent_modrm, as_register, register_of}
 use Rattle.x86_regs.specs.declared.RegisterClass.TheVariants.{Q, MM}
 use Rattle.x86_fields.specs.declared.errors.DecodeError.TheVariants.{InvalidOpcode, InvalidOperand, IncompleteDecoder}
@@ -34,13 +35,6 @@ abbrev pub memory_or : RegSpec → Option Raw → Slot × Operand
 memory_or reg None = (slots.Rm, operands.Register reg)
 memory_or reg (Some raw) = shape raw
 
-abbrev pub rm_operand : RegisterClass → Prefixes → ℕ → Option Raw → Slot × Operand
-rm_operand c p m memory = memory_or (register_of c p (rm_number m p)) memory
-
--- the same for an mm register, which no B extends
-abbrev pub rm_mm_operand : ℕ → Option Raw → Slot × Operand
-rm_mm_operand m memory = memory_or (reg_spec (rm_field m) MM) memory
-
 -- a number that is read, and what it yields
 abbrev pub Immediate : Type 0
 Immediate = Width × (ℕ → Slot × Operand)
@@ -65,11 +59,11 @@ immediate_read s = None
 abbrev pub known_operand : OperandEncoding → Prefixes → ℕ → Option Raw → Slot × Operand
 known_operand (G c) p m memory = (slots.Reg, operands.Register (register_of c p (reg_number m p)))
 known_operand Gmm p m memory = (slots.Reg, operands.Register (reg_spec (reg_field m) MM))
-known_operand (E c) p m memory = rm_operand c p m memory
-known_operand Emm p m memory = rm_mm_operand m memory
-known_operand M p m memory = rm_operand Q p m memory
-known_operand (U c) p m memory = rm_operand c p m memory
-known_operand Umm p m memory = rm_mm_operand m memory
+known_operand (E c) p m memory = memory_or (register_of c p (rm_number m p)) memory
+known_operand Emm p m memory = memory_or (reg_spec (rm_field m) MM) memory
+known_operand M p m memory = memory_or (register_of Q p (rm_number m p)) memory
+known_operand (U c) p m memory = memory_or (register_of c p (rm_number m p)) memory
+known_operand Umm p m memory = memory_or (reg_spec (rm_field m) MM) memory
 known_operand (Fixed slot reg) p m memory = (register_slot slot, operands.Register reg)
 known_operand (Pointer slot reg) p m memory = (pointer_slot slot, operands.MemDeref reg)
 known_operand (ConstantI8 z) p m memory = (slots.ImmI8, operands.ImmediateI8 z)
@@ -91,9 +85,7 @@ operands_step (s ∷ rest) p m memory = operand_step s p m memory >>= λ first. 
 
 -- the pair at an index, and beyond the last one nothing
 abbrev pub pair_at : List (Slot × Operand) → ℕ → Slot × Operand
-pair_at [] n = (slots.Nothing, operands.Nothing)
-pair_at (x ∷ rest) zero = x
-pair_at (x ∷ rest) (suc n) = pair_at rest n
+pair_at xs n = slice_index_or xs n (slots.Nothing, operands.Nothing)
 
 -- the pairs as operands, without a memory size
 abbrev pub four_of : List (Slot × Operand) → Operands
@@ -128,12 +120,8 @@ refuse_at verdict at = pure tt
 
 -- ---- the opcode
 
-abbrev pub named_step : Option ℕ → Step ℕ
-named_step None = refuse InvalidOpcode
-named_step (Some opcode) = pure opcode
-
 abbrev pub read_opcode : Verdict → ℕ → Step ℕ
-read_opcode NamedBySuffix opcode = next_byte >>= λ b. named_step (suffix_opcode b)
+read_opcode NamedBySuffix opcode = next_byte >>= λ b. option_map_or pure (suffix_opcode b) (refuse InvalidOpcode)
 read_opcode verdict opcode = pure opcode
 
 -- ---- the whole record
@@ -169,8 +157,7 @@ read_modrm EitherForm = next_byte >>= λ m. pure m
 read_modrm Registers = next_byte >>= λ m. pure (as_register m)
 
 abbrev pub refuse_fault : Option Fault → Step (Unit {0})
-refuse_fault None = pure tt
-refuse_fault (Some fault) = refuse (error_of fault)
+refuse_fault fault = option_map_or (λ f. refuse (error_of f)) fault (pure tt)
 
 -- what a row has after its opcode
 unfoldable pub record_step : RowRecord → Prefixes → Step Reading

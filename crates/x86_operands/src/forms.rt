@@ -6,12 +6,12 @@ ghost use Rattle.x86_forms.specs.Groups.{is_group};
 ghost use Rattle.x86_forms.specs.Words.{IsForm};
 ghost use Rattle.x86_operands.specs.Asks.{ask_of, record_at};
 ghost use Rattle.x86_operands.specs.OperandList.{value_if_ok, no_operands, reading_with};
-ghost use Rattle.x86_operands.specs.Forms.{form_plan, form_record, modrm_use};
+ghost use Rattle.x86_operands.specs.Forms.{form_plan, form_record};
 ghost use Rattle.x86_operands.specs.PlanSteps.{record_step};
 
 use crate::form_encodings::form_encoding;
 use crate::operand_list::Operands;
-use crate::plans::{ModrmUse, Plan};
+use crate::plans::Plan;
 use crate::reader::{Reading, read_modrm, read_plan, read_plan_into};
 use crate::separate_plans::separate_plan;
 use crate::{Ask, RecordAt, encoding_ask, plan_ask, used_modrm, used_or_none};
@@ -19,12 +19,6 @@ use x86_arch::Reader;
 use x86_fields::{DecodeError, ModRM, Prefixes};
 use x86_forms::{Form, TableRow};
 use x86_opcodes::Opcode;
-
-fn modrm_use(form: Form) -> ModrmUse
-    ensures { result ≡ modrm_use form }
-{
-    form_encoding(form).modrm_use()
-}
 
 /// The plan of a plain form.
 pub fn form_plan(form: Form, opcode: Opcode, prefixes: &Prefixes, modrm: ModRM) -> Plan
@@ -55,7 +49,7 @@ pub fn read_form_into<T: Reader<u64, u8>>(
         (value_if_ok result (reading_with opcode.new prefixes.new operand_list.new)) (T.state reader.new)
         ≡ record_step (form_record row prefixes.old) prefixes.old (T.state reader.old) }
 {
-    let modrm = read_modrm(reader, modrm_use(row.form))?;
+    let modrm = read_modrm(reader, form_encoding(row.form).modrm_use())?;
     let plan = form_plan(row.form, row.opcode, prefixes, modrm);
     read_plan_into(reader, &plan, modrm, prefixes, opcode, operand_list)
 }
@@ -67,18 +61,18 @@ pub fn read_form_into<T: Reader<u64, u8>>(
 /// `ExhaustedInput`, the pieces before the first that isn't whole.
 #[tactic(auto, unfolding(crate::specs::Forms::form_record, crate::specs::PlanSteps::record_step))]
 pub fn read_form<T: Reader<u64, u8>>(
-    words: &mut T,
+    reader: &mut T,
     row: TableRow,
     prefixes: Prefixes,
 ) -> Result<Reading, DecodeError>
     requires plain { is_group row.form ≡ false }
     requires carried { IsForm row.form }
-    ensures { outcome result (T.state words.new)
-        ≡ record_step (form_record row prefixes) prefixes (T.state words.old) }
+    ensures { outcome result (T.state reader.new)
+        ≡ record_step (form_record row prefixes) prefixes (T.state reader.old) }
 {
-    let modrm = read_modrm(words, modrm_use(row.form))?;
+    let modrm = read_modrm(reader, form_encoding(row.form).modrm_use())?;
     let plan = form_plan(row.form, row.opcode, &prefixes, modrm);
-    read_plan(words, &plan, prefixes, modrm)
+    read_plan(reader, &plan, prefixes, modrm)
 }
 
 /// Which parts a row has whose form is a plain form, at a ModRM byte. `modrm` is read only where the row has a
@@ -109,7 +103,7 @@ pub fn form_at(row: TableRow, prefixes: Prefixes, modrm: Option<u8>) -> RecordAt
     requires carried { IsForm row.form }
     ensures { result ≡ record_at (form_record row prefixes) modrm }
 {
-    let usage = modrm_use(row.form);
+    let usage = form_encoding(row.form).modrm_use();
     let modrm = used_or_none(usage, modrm);
     RecordAt {
         at_opcode: None,
