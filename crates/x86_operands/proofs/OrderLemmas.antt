@@ -1,8 +1,7 @@
 -- The orders of a sound line, and what follows where it accepts.
-use Rattle.std.proofs.Common.{◌≡◌, ℕ, Bool, true, false, not, if◌then◌else◌, ◌≢◌, IsTrue, arith}
+use Rattle.std.proofs.Common.{◌≡◌, ℕ, Bool, true, false, not, if◌then◌else◌, IsTrue, arith}
 use Rattle.std.proofs.lemmas.Bool.{eqb-true}
 use Rattle.x86_operands.specs.Vocabulary.{OperandEncodings, Position, First, Second, Third, Nowhere, Order, AfterOpcode, FormEncoding, is_memory}
-use Rattle.x86_operands.specs.declared.encodings.Last.TheVariants as last
 use Rattle.x86_operands.specs.Plans.{reads}
 use Rattle.x86_operands.specs.Encodings.{restricted_plan, has_last, is_described, is_sound, is_order_of, is_order, has_modrm, has_register, order_fits, allows}
 
@@ -45,9 +44,6 @@ no_memory b o m h a = grind arith
 
 pub no_modrm : (b : AfterOpcode) (register : Bool) → (if register then has_register b else not (has_modrm b)) ≡ true → has_modrm b ≡ false
 no_modrm b register h = grind arith
-
-pub last_there : (e : FormEncoding) → has_last e.order e.last ≡ true → e.order.last ≢ Nowhere → e.last ≢ last.Absent
-last_there e h k is = grind arith
 
 -- ---- a sound line
 

@@ -17,8 +17,6 @@ Describes e f = IsTrue (is_described e.after_opcode) → (o m : ℕ) (p : Prefix
 abbrev pub HasSeparatePlan : FormEncoding → Form → Type 0
 HasSeparatePlan e f = is_described e.after_opcode ≡ false → (o m : ℕ) (p : Prefixes) → form_plan f o p m ≡ separate_plan f o p m
 
--- ---- groups by reg
-
 -- the form of a group
 abbrev pub group_form : RegGroup → Form
 group_form group.G80 = form.ModRM_0x80

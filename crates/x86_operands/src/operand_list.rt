@@ -327,7 +327,7 @@ impl Operands {
     }
 
     /// What an encoding has after ModRM, where it doesn't refuse.
-    #[tactic(auto, using(crate::proofs::InPlaceLemmas::plan_is_read, crate::proofs::OrderLemmas::last_there, crate::proofs::OrderLemmas::sound_parts))]
+    #[tactic(auto, using(crate::proofs::InPlaceLemmas::plan_is_read, crate::proofs::OrderLemmas::sound_parts))]
     #[inline(always)]
     pub fn read<T: Reader<u64, u8>>(
         &mut self,
