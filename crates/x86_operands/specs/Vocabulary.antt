@@ -9,6 +9,7 @@ pub use Rattle.x86_fields.specs.declared.sizes.Width.{Width}
 pub use Rattle.x86_fields.specs.ModRM.{reg_field, rm_field, is_memory, absent_modrm, as_register}
 pub use Rattle.x86_fields.specs.Raw.{has_w, has_r, has_b, is_zero}
 pub use Rattle.x86_fields.specs.Prefixes.{operand_size, address_size}
+pub use Rattle.x86_fields.specs.Run.{repnz, rep}
 pub use Rattle.x86_fields.specs.Sizes.{v_class, vq_class, vd_class, dq_class, class_of, register_of}
 pub use Rattle.x86_regs.specs.Register.{reg_spec}
 pub use Rattle.x86_regs.specs.Class.{width_of}
