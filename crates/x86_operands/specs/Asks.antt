@@ -1,5 +1,5 @@
 -- What a row has after its opcode byte, known from a ModRM byte alone.
-use Rattle.std.specs.Prelude.{ℕ, Bool, true, false, if◌then◌else◌, Option, List, [], ◌∷◌, map, slice_index_or}
+use Rattle.std.specs.Prelude.{ℕ, Bool, true, false, if◌then◌else◌, Option, List, [], ◌∷◌, map}
 use Rattle.std.specs.Int.{byte_len}
 use Rattle.std.specs.Option.{option_map_or}
 use Rattle.x86_operands.specs.Vocabulary.{Prefixes, Verdict, NamedBySuffix, OperandEncodings, ModrmUse, Absent, EitherForm, Registers, Plan, Ask, RecordAt, FormEncoding, OperandEncoding, is_memory, absent_modrm, as_register}
@@ -25,7 +25,8 @@ abbrev pub immediates_width : OperandEncodings → ℕ
 immediates_width encodings = total (map immediate_width (list_of encodings))
 
 abbrev pub first_or : ℕ → List ℕ → ℕ
-first_or n bytes = slice_index_or bytes 0 n
+first_or n [] = n
+first_or n (b ∷ rest) = b
 
 -- ModRM as the row uses it: C0 where there is none, and mod 11 where mod isn't looked at
 abbrev pub modrm_of : ModrmUse → List ℕ → ℕ

@@ -157,8 +157,7 @@ allows b o m = not (is_memory m)
 abbrev pub is_sound : FormEncoding → Bool
 is_sound e = is_order e.order && (order_fits e.after_opcode e.order && has_last e.order e.last)
 
--- ---- a whole line
-
+-- how a form with this encoding uses a ModRM byte
 abbrev pub use_of : AfterOpcode → ModrmUse
 use_of after_opcode.Nothing = use_as.Absent
 use_of after_opcode.Opcode = use_as.Absent
