@@ -2,7 +2,7 @@
 use Rattle.std.specs.Prelude.{ℕ, Bool, true, false, if◌then◌else◌, Option, Some, None, List, [], ◌∷◌, length, slice_index_or}
 use Rattle.std.specs.Int.{Width, w8, w16, w32, w64, cast_signed}
 use Rattle.std.specs.Option.{option_map_or}
-use Rattle.x86_operands.specs.Vocabulary.{RegisterClass, RegSpec, DecodeError, Prefixes, Raw, Slot, Operand, RegisterSlot, PointerSlot, OperandEncoding, G, Gmm, E, Emm, M, U, Umm, Fixed, Pointer, I8, I16, I32, I64, I32From16, I64Whole, U8, U16, X8, X16, ConstantI8, ConstantU8, Address32, Address64, Moment, AtModRM, AfterAddress, AfterSuffix, Fault, BadOpcode, BadOperand, Incomplete, Verdict, NamedBySuffix, Refuses, PrefixChange, Keeps, ClearsOperandSize, SetsEs, ModrmUse, Absent, EitherForm, Registers, Plan, Reading, Operands, reg_spec, reg_field, rm_field, is_memory, absent_modrm, as_register, register_of}
+use Rattle.x86_operands.specs.Vocabulary.{RegSpec, DecodeError, Prefixes, Raw, Slot, Operand, RegisterSlot, PointerSlot, OperandEncoding, G, Gmm, E, Emm, M, U, Umm, Fixed, Pointer, I8, I16, I32, I64, I32From16, I64Whole, U8, U16, X8, X16, ConstantI8, ConstantU8, Address32, Address64, Moment, AtModRM, AfterAddress, AfterSuffix, Fault, BadOpcode, BadOperand, Incomplete, Verdict, NamedBySuffix, Refuses, PrefixChange, Keeps, ClearsOperandSize, SetsEs, ModrmUse, Absent, EitherForm, Registers, Plan, Reading, Operands, reg_spec, reg_field, rm_field, is_memory, absent_modrm, as_register, register_of}
 use Rattle.x86_regs.specs.declared.RegisterClass.TheVariants.{Q, MM}
 use Rattle.x86_fields.specs.declared.errors.DecodeError.TheVariants.{InvalidOpcode, InvalidOperand, IncompleteDecoder}
 use Rattle.x86_fields.specs.Prefixes.{without_operand_size, with_es}
