@@ -12,7 +12,6 @@ from pathlib import Path
 GROUPS = Path(__file__).resolve().parent.parent / "crates" / "x86_groups" / "specs"
 PLACES = {"mem": "Memory", "reg": "Register", "both": "Either"}
 BYTES = {"0": "Zero", "1": "One", "2": "Two", "4": "Four", "8": "Eight", "16": "Sixteen"}
-SIZES = {"v": "Of(V)", "y": "Of(Dq)", "vq": "Of(Vq)"}
 UNDECIDED = "63"  # the size that means one that the processor decides
 # the groups that reg chooses, in the order of `RegGroup`
 BY_REG = ["80", "81", "83", "c0", "c1", "c6", "c7", "d0", "d1", "d2", "d3", "f6", "f7", "fe", "ff"]
@@ -43,7 +42,7 @@ class Row:
     rest: list  # names, operands and sizes of a row that is read; fault and moment of one that is refused
 
     def where(self):
-        return f"{PLACES[self.place]} {self.first} {self.last} {self.rm}; {self.when}"
+        return f"{self.place} {self.first} {self.last} {self.rm}; {self.when}"
 
     def is_named(self, reg, rm):
         if self.kind == "refusal" or isinstance(self.rest[0], str):
@@ -52,7 +51,7 @@ class Row:
         return {"Name": True, "by_reg": names[reg % len(names)] != "none", "by_rm": names[rm % len(names)] != "none"}[word]
 
     def holds(self, memory, reg, rm, f2, f3, word, w, r, strict):
-        placed = {"mem": memory, "reg": not memory, "both": True}[self.place]
+        placed = {"Memory": memory, "Register": not memory, "Either": True}[self.place]
         zero = rm == 0 or not strict
         fits = {"Any": True, "ZeroIfStrict": zero}.get(self.rm, self.rm == f"Is({rm})")
         prefixed = {
@@ -73,20 +72,25 @@ def parsed(tokens):
     return words
 
 
+def called(word):
+    """A word, or a call of one, as the table has it."""
+    return word if isinstance(word, str) else f"{word[0]}({word[1]})"
+
+
 def where(words):
     """The form of ModRM, the first and the last reg, and rm."""
     word, *numbers = [words] if isinstance(words, str) else words
-    place = word.split("_")[0]
-    numbers = [int(number) for number in numbers]
-    first, last = {"reg_from": numbers, "reg_rm": numbers[:1] * 2}.get(word, numbers * 2 if word.endswith("_at") else [0, 7])
-    rm = "ZeroIfStrict" if word == "reg_zero" else f"Is({numbers[-1]})" if word.endswith("_rm") else "Any"
-    return place, first, last, rm
+    if word == "at":
+        place, first, last, rm = numbers
+        return place, int(first), int(last), called(rm)
+    first, last = [int(numbers[0])] * 2 if numbers else [0, 7]
+    return PLACES[word.split("_")[0]], first, last, f"Is({numbers[1]})" if word == "reg_rm" else "Any"
 
 
 def row(line):
     kind, *words = parsed(re.findall(r"[()]|[^\s()]+", line))
     if kind == "otherwise":
-        return Row(line, "refusal", "both", 0, 7, "Any", "Always", words)
+        return Row(line, "refusal", "Either", 0, 7, "Any", "Always", words)
     return Row(line, kind, *where(words[0]), words[1], words[2:])
 
 
@@ -133,20 +137,14 @@ def implied():
 
 
 def letter(word):
-    if isinstance(word, list):
-        return f"{word[0]}({word[1]})"
-    return word.upper() if word.islower() or "_" in word else word
-
-
-def size(word):
-    return f"Bytes({word[1]})" if isinstance(word, list) else SIZES[word]
+    return word.upper() if isinstance(word, str) and (word.islower() or "_" in word) else called(word)
 
 
 def sizes(words):
     """The memory size in the memory form, and in the register form."""
     if isinstance(words, str):
         return {"size_v": ["Of(V)"] * 2, "undecided": [f"Bytes({UNDECIDED})"] * 2}[words]
-    return [size(word) for word in words[1:]] if words[0] == "sizes" else [f"Bytes({words[1]})"] * 2
+    return [called(word) for word in words[1:]] if words[0] == "sizes" else [f"Bytes({words[1]})"] * 2
 
 
 def names(words, numbers):
@@ -177,7 +175,7 @@ def reg_line(rows, reg, numbers):
     """The line of a reg, if reg alone chooses its row, or if 66 chooses between the two sizes of PUSH."""
     here = [each for each in rows if each.first <= reg <= each.last and each.is_named(reg, 0)]
     first = here[0]
-    if first.kind != "read" or first.place != "both":
+    if first.kind != "read" or first.place != "Either":
         return "rows_alone!()"
     named, operands, sized = first.rest
     number = numbers[named[1 + reg] if named[0] == "by_reg" else named[1]]

@@ -7,13 +7,14 @@ use Rattle.std.proofs.lemmas.Bool.{and_parts}
 use Rattle.x86_groups.specs.Vocabulary.{Prefixes, RegGroup, Size, reg_field, is_memory, Names, Own, Content, Reads, Refuses}
 use Rattle.x86_opcodes.specs.Names.{Invalid}
 use Rattle.x86_operands.specs.declared.encodings.RegGroup.TheVariants as group
+use Rattle.x86_operands.specs.FormEncodings.{group_form}
 use Rattle.x86_operands.specs.Encodings.{is_sound, size_bytes, is_described, plan_of}
 use Rattle.x86_groups.specs.declared.by_reg.RegLine.{RegLine}
 use Rattle.x86_groups.specs.declared.tables.TheConstants.{REG_LINES}
-use Rattle.x86_groups.specs.Columns.{choose, named, opcode_of, seen_at, plan_of_row}
-use Rattle.x86_groups.specs.Groups.{rows_plan}
+use Rattle.x86_groups.specs.Columns.{choose, named, opcode_of, plan_of_row}
+use Rattle.x86_groups.specs.Groups.{group_form_plan}
 use Rattle.x86_groups.specs.Rows.{group_rows}
-use Rattle.x86_groups.specs.ByReg.{Chooses, has_either_form, reg_plan, reg_rows}
+use Rattle.x86_groups.specs.ByReg.{Chooses, has_either_form, reg_plan}
 use Rattle.x86_groups.proofs.RowLemmas.{chosen_has}
 
 -- ---- the lines
@@ -95,18 +96,19 @@ own_free : (content : Content) (a b : ℕ) (p : Prefixes) (m : ℕ) → no_own_c
 own_free (Reads names operands memory register change) a b p m h = rw (own_names names a b m h) refl
 own_free (Refuses fault moment) a b p m h = refl
 
-rows_no_own : (g : RegGroup) → list_all (λ row. no_own_content row.content) (reg_rows g) ≡ true
+rows_no_own : (g : RegGroup) → list_all (λ row. no_own_content row.content) (group_rows (group_form g)) ≡ true
 unfolding group_rows
 rows_no_own group.G80 = refl
 rows_no_own g = refl
 
-rows_choice : (g : RegGroup) (strict : Bool) (p : Prefixes) (m : ℕ) → choose (reg_rows g) (seen_at strict p m) ≡ choose (reg_rows g) (seen_at false p m)
+rows_choice : (g : RegGroup) (strict : Bool) (p : Prefixes) (m : ℕ) → choose (group_rows (group_form g)) strict p m ≡ choose (group_rows (group_form g)) false p m
 unfolding group_rows
 rows_choice group.G80 strict p m = refl
 rows_choice g strict p m = refl
 
-pub rows_reg_plan : (g : RegGroup) (o : ℕ) (strict : Bool) (p : Prefixes) (m : ℕ) → rows_plan (reg_rows g) o strict p m ≡ reg_plan g p m
-rows_reg_plan g o strict p m =
+pub plan_is : (g : RegGroup) (o : ℕ) (strict : Bool) (p : Prefixes) (m : ℕ) → group_form_plan (group_form g) o strict p m ≡ reg_plan g p m
+unfolding group_form_plan
+plan_is g o strict p m =
     ap (λ content. plan_of_row content o p m) (rows_choice g strict p m)
-    ∙ own_free (choose (reg_rows g) (seen_at false p m)) o Invalid p m
-    (chosen_has (λ content. no_own_content content ≡ true) (λ row. no_own_content row.content) (seen_at false p m) refl (λ row e h. e) (reg_rows g) (rows_no_own g))
+    ∙ own_free (choose (group_rows (group_form g)) false p m) o Invalid p m
+    (chosen_has (λ content. no_own_content content ≡ true) (λ row. no_own_content row.content) false p m refl (λ row e h. e) (group_rows (group_form g)) (rows_no_own g))

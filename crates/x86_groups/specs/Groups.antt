@@ -1,13 +1,13 @@
 -- The records of the groups: forms of which ModRM or a suffix chooses the operation. Source: Intel SDM volume 2,
 -- appendix A.4.
-use Rattle.std.specs.Prelude.{ℕ, Bool, true, false, not, ◌&&◌, if◌then◌else◌, Option, Some, None, is_some, List}
+use Rattle.std.specs.Prelude.{ℕ, Bool, true, false, not, ◌&&◌, if◌then◌else◌, Option, Some, None, is_some}
 use Rattle.x86_regs.specs.declared.Segment.{Segment}
 use Rattle.x86_regs.specs.declared.Segment.TheVariants.{DS}
-use Rattle.x86_groups.specs.Vocabulary.{Prefixes, Fault, BadOpcode, BadOperand, AtModRM, ModrmUse, EitherForm, Registers, Zero, Plan, Form, TableRow, rep, GroupRow}
+use Rattle.x86_groups.specs.Vocabulary.{Prefixes, Fault, BadOpcode, BadOperand, AtModRM, ModrmUse, EitherForm, Registers, Zero, Plan, Form, TableRow, rep}
 use Rattle.x86_fields.specs.Prefixes.{operand_size, address_size, lock, segment, rex}
 use Rattle.x86_operands.specs.Plans.{RowRecord, reads, refuses}
 use Rattle.x86_forms.specs.declared.Form.TheVariants as form
-use Rattle.x86_groups.specs.Columns.{choose, plan_of_row, seen_at}
+use Rattle.x86_groups.specs.Columns.{choose, plan_of_row}
 use Rattle.x86_groups.specs.Rows.{group_rows}
 
 -- ---- at the opcode, and ModRM
@@ -41,12 +41,9 @@ group_modrm f = EitherForm
 
 -- ---- the plan of a form under the prefixes, at a ModRM byte
 
--- what a group has by its rows, with the opcode of the row in the opcode map and the choice
-abbrev pub rows_plan : List GroupRow → ℕ → Bool → Prefixes → ℕ → Plan
-rows_plan rows o strict p m = plan_of_row (choose rows (seen_at strict p m)) o p m
-
+-- by the rows of the form, with the opcode of the row in the opcode map and the choice
 unfoldable pub group_form_plan : Form → ℕ → Bool → Prefixes → ℕ → Plan
-group_form_plan f o strict p m = rows_plan (group_rows f) o strict p m
+group_form_plan f o strict p m = plan_of_row (choose (group_rows f) strict p m) o p m
 
 abbrev pub group_plan : TableRow → Prefixes → ℕ → Bool → Plan
 group_plan row p m strict = group_form_plan row.form row.opcode strict p m

@@ -1,13 +1,13 @@
 -- The words that rows of groups are written in.
-use Rattle.std.specs.Prelude.{ℕ, List, [], ◌∷◌}
+use Rattle.std.specs.Prelude.{ℕ, [], ◌∷◌}
 use Rattle.x86_regs.specs.declared.RegisterClass.TheVariants as class
 use Rattle.x86_fields.specs.MemorySizes.{undecided_size}
-use Rattle.x86_fields.specs.declared.sizes.Width.TheVariants as width
+use Rattle.x86_fields.specs.declared.sizes.Width.TheVariants.{V}
 use Rattle.x86_groups.specs.Vocabulary.{Fault, Moment, PrefixChange, Keeps, ClearsOperandSize, Letter, Letters, RowSize, Bytes, Of, Place, Memory, Register, Either, When, Rm, Names, ByReg, ByRm, Reads, Refuses, GroupRow}
 use Rattle.x86_operands.specs.declared.plans.RegisterSlot.TheVariants as slot
 use Rattle.x86_groups.specs.declared.letters.Letter.TheVariants as letter
 use Rattle.x86_groups.specs.declared.rows.When.TheVariants.{Always}
-use Rattle.x86_groups.specs.declared.rows.Rm.TheVariants.{Any, Is, ZeroIfStrict}
+use Rattle.x86_groups.specs.declared.rows.Rm.TheVariants.{Any, Is}
 
 -- ---- where
 
@@ -40,32 +40,17 @@ reg_at n = at Register n n Any
 abbrev pub both_at : ℕ → Where
 both_at n = at Either n n Any
 
--- at these and what is between
-abbrev pub reg_from : ℕ → ℕ → Where
-reg_from first last = at Register first last Any
-
 -- at one reg and one rm
 abbrev pub reg_rm : ℕ → ℕ → Where
 reg_rm n rm = at Register n n (Is rm)
 
--- at one rm and every reg
-abbrev pub reg_any_rm : ℕ → Where
-reg_any_rm rm = at Register 0 7 (Is rm)
-
--- with rm 0, and unless the choice is strict with any other
-abbrev pub reg_zero : Where
-reg_zero = at Register 0 7 ZeroIfStrict
-
 -- ---- names
 
-abbrev pub eight : ℕ → ℕ → ℕ → ℕ → ℕ → ℕ → ℕ → ℕ → List ℕ
-eight a b c d e f g h = a ∷ b ∷ c ∷ d ∷ e ∷ f ∷ g ∷ h ∷ []
-
 abbrev pub by_reg : ℕ → ℕ → ℕ → ℕ → ℕ → ℕ → ℕ → ℕ → Names
-by_reg a b c d e f g h = ByReg (eight a b c d e f g h)
+by_reg a b c d e f g h = ByReg (a ∷ b ∷ c ∷ d ∷ e ∷ f ∷ g ∷ h ∷ [])
 
 abbrev pub by_rm : ℕ → ℕ → ℕ → ℕ → ℕ → ℕ → ℕ → ℕ → Names
-by_rm a b c d e f g h = ByRm (eight a b c d e f g h)
+by_rm a b c d e f g h = ByRm (a ∷ b ∷ c ∷ d ∷ e ∷ f ∷ g ∷ h ∷ [])
 
 -- ---- operands
 
@@ -95,34 +80,21 @@ edx_in_rm = letter.Implied slot.Rm 2 class.D
 abbrev pub ecx_third : Letter
 ecx_third = letter.Implied slot.Third 1 class.D
 
--- ---- memory sizes
+-- ---- memory sizes, in the memory form and in the register form
 
 pub record Sizes : Type 0 where
   pub memory : RowSize
   pub register : RowSize
 
--- in the memory form, and in the register form
 abbrev pub sizes : RowSize → RowSize → Sizes
 sizes memory register = record { memory = memory; register = register }
 
-abbrev pub bytes : ℕ → RowSize
-bytes n = Bytes n
-
-abbrev pub v : RowSize
-v = Of width.V
-
-abbrev pub y : RowSize
-y = Of width.Dq
-
-abbrev pub vq : RowSize
-vq = Of width.Vq
-
 -- the same in both forms
 abbrev pub size : ℕ → Sizes
-size n = sizes (bytes n) (bytes n)
+size n = sizes (Bytes n) (Bytes n)
 
 abbrev pub size_v : Sizes
-size_v = sizes v v
+size_v = sizes (Of V) (Of V)
 
 -- the processor decides
 abbrev pub undecided : Sizes

@@ -5,7 +5,7 @@ ghost use Rattle.x86_forms.specs.Groups.{is_group};
 ghost use Rattle.x86_operands.specs.Asks.{ask_of, record_at};
 ghost use Rattle.x86_groups.specs.Groups.{fault_f30f3af0, is_f3_alone, group_fault, group_modrm, group_plan, group_record};
 
-use crate::rows::{Seen, choose};
+use crate::rows::choose;
 use crate::tables::group_rows;
 use x86_fields::{ModRM, Prefixes};
 use x86_forms::{Form, TableRow};
@@ -51,8 +51,7 @@ pub fn group_modrm(form: Form) -> ModrmUse
 pub fn group_plan(row: TableRow, strict: bool, prefixes: &Prefixes, modrm: ModRM) -> Plan
     ensures { result ≡ group_plan row prefixes.now modrm strict }
 {
-    let seen = Seen::at(strict, prefixes, modrm);
-    choose(group_rows(row.form), &seen).plan(row.opcode, prefixes, modrm)
+    choose(group_rows(row.form), strict, prefixes, modrm).plan(row.opcode, prefixes, modrm)
 }
 
 /// Which parts a row has whose form is a group, at a ModRM byte: the same under both choices. Where the row refuses

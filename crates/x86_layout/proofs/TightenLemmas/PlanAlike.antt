@@ -28,12 +28,12 @@ use Rattle.x86_groups.specs.declared.letters.Letters.{Letters}
 use Rattle.x86_groups.specs.declared.letters.Letters.TheVariants as letters
 use Rattle.x86_groups.specs.declared.rows.Content.{Content}
 use Rattle.x86_groups.specs.declared.rows.Content.TheVariants.{Reads, Refuses}
-use Rattle.x86_groups.specs.Columns.{choose, distance_of, letter_encoding, operand_encodings, plan_of_row, seen_at, verdict_of}
+use Rattle.x86_groups.specs.Columns.{choose, distance_of, letter_encoding, operand_encodings, plan_of_row, verdict_of}
 use Rattle.x86_groups.specs.Groups.{fault_f30f3af0, group_fault, group_form_plan, group_record}
 use Rattle.x86_groups.specs.Rows.{group_rows}
-use Rattle.x86_groups.proofs.RowLemmas.{no_rm_names}
+use Rattle.x86_groups.proofs.RowLemmas.{SamePrefixes, no_rm_names}
 use Rattle.x86_groups.proofs.FactLemmas.{in_memory, is_memory_letter, letters_list, rm_free_letter}
-use Rattle.x86_groups.proofs.PlanLemmas.{SamePrefixes, first_in_memory, plan_alike}
+use Rattle.x86_groups.proofs.PlanLemmas.{first_in_memory, plan_alike}
 
 -- ---- mod and rm
 
@@ -139,7 +139,7 @@ module _ (p : Prefixes) (m : ℕ) (mm : is_memory m ≡ true) where
 
   group_writes : (f : Form) (o : ℕ) (strict : Bool) → writes (group_form_plan f o strict p m) ≡ true
   unfolding group_form_plan
-  group_writes f o strict = content_writes p m (choose (group_rows f) (seen_at strict p m)) o (first_in_memory f strict p m mm)
+  group_writes f o strict = content_writes p m (choose (group_rows f) strict p m) o (first_in_memory f strict p m mm)
 
 module _ (strict : Bool) (row : TableRow) (p : Prefixes) (m : ℕ) (mm : is_memory m ≡ true) where
   by_kind : (group : Bool) → (By strict row group p).modrm ≡ EitherForm → writes ((By strict row group p).plan m) ≡ true
