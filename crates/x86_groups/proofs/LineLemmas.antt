@@ -12,7 +12,6 @@ use Rattle.x86_operands.specs.Encodings.{is_sound, size_bytes, is_described, pla
 use Rattle.x86_groups.specs.declared.by_reg.RegLine.{RegLine}
 use Rattle.x86_groups.specs.declared.tables.TheConstants.{REG_LINES}
 use Rattle.x86_groups.specs.Columns.{choose, named, opcode_of, plan_of_row}
-use Rattle.x86_groups.specs.Groups.{group_form_plan}
 use Rattle.x86_groups.specs.Rows.{group_rows}
 use Rattle.x86_groups.specs.ByReg.{Chooses, has_either_form, reg_plan}
 use Rattle.x86_groups.proofs.RowLemmas.{chosen_has}
@@ -106,9 +105,9 @@ unfolding group_rows
 rows_choice group.G80 strict p m = refl
 rows_choice g strict p m = refl
 
-pub plan_is : (g : RegGroup) (o : ℕ) (strict : Bool) (p : Prefixes) (m : ℕ) → group_form_plan (group_form g) o strict p m ≡ reg_plan g p m
-unfolding group_form_plan
+pub plan_is : (g : RegGroup) (o : ℕ) (strict : Bool) (p : Prefixes) (m : ℕ) → plan_of_row (choose (group_rows (group_form g)) strict p m) o p m ≡ reg_plan g p m
 plan_is g o strict p m =
+    let rows = group_rows (group_form g) in
     ap (λ content. plan_of_row content o p m) (rows_choice g strict p m)
-    ∙ own_free (choose (group_rows (group_form g)) false p m) o Invalid p m
-    (chosen_has (λ content. no_own_content content ≡ true) (λ row. no_own_content row.content) false p m refl (λ row e h. e) (group_rows (group_form g)) (rows_no_own g))
+    ∙ own_free (choose rows false p m) o Invalid p m
+    (chosen_has (λ content. no_own_content content ≡ true) (λ row. no_own_content row.content) false p m refl (λ row e h. e) rows (rows_no_own g))

@@ -3,14 +3,14 @@ use Rattle.std.proofs.Common.{◌&&◌, ◌≡◌, inl, inr, ◌≤◌, ℕ, nat
 use Rattle.std.specs.List.{list_all}
 use Rattle.std.proofs.lemmas.Bool.{and_parts, or_cases}
 use Rattle.std.proofs.lemmas.Bool.Decides.{nat_tests}
-use Rattle.x86_groups.specs.Vocabulary.{Prefixes, Width, Form, BadOpcode, AtModRM, reg_field, is_memory, class_of, Letter, Letters, RowSize, Names, Content, Reads, Refuses}
+use Rattle.x86_groups.specs.Vocabulary.{Prefixes, Width, Form, TableRow, BadOpcode, AtModRM, reg_field, is_memory, class_of, Letter, Letters, RowSize, Names, Content, Reads, Refuses}
 use Rattle.x86_fields.specs.Pieces.{total}
 use Rattle.x86_operands.specs.Asks.{immediate_width}
 use Rattle.x86_operands.specs.Plans.{size_by}
 use Rattle.x86_operands.proofs.PlanTests.{passes, narrow, has_gap, is_gap, small_if, small_width, plan_passes}
 use Rattle.x86_groups.specs.declared.letters.Letters.TheVariants as letters
 use Rattle.x86_groups.specs.Columns.{choose, letter_encoding, operand_encodings, row_bytes, verdict_of, opcode_of, plan_of_row}
-use Rattle.x86_groups.specs.Groups.{group_form_plan}
+use Rattle.x86_groups.specs.Groups.{group_plan}
 use Rattle.x86_groups.specs.Rows.{group_rows}
 use Rattle.x86_groups.proofs.RowLemmas.{SamePrefixes, chosen_has, chosen_alike, there_alike, is_register, no_rm_names, rm_free, row_absent}
 use Rattle.x86_groups.proofs.FactLemmas.{letters_list, may_have_gap, most, small_bytes, fits, row_fits, rows_fit, rm_free_letter, in_memory, row_in_memory, rows_rm_free, rows_in_memory}
@@ -43,11 +43,12 @@ content_passes gaps (Refuses fault moment) own p m h = let fits_here : (gaps || 
 blank_fits : (gaps : Bool) → fits gaps (Refuses BadOpcode AtModRM) ≡ true
 blank_fits gaps = grind arith
 
-pub group_passes : (f : Form) (o : ℕ) (strict : Bool) (p : Prefixes) (m : ℕ) → passes (may_have_gap f) (group_form_plan f o strict p m) ≡ true
-unfolding group_form_plan
-group_passes f o strict p m =
-    content_passes (may_have_gap f) (choose (group_rows f) strict p m) o p m
-    (chosen_has (λ content. fits (may_have_gap f) content ≡ true) (row_fits (may_have_gap f)) strict p m (blank_fits (may_have_gap f)) (λ row e h. e) (group_rows f) (rows_fit f))
+pub group_passes : (row : TableRow) (strict : Bool) (p : Prefixes) (m : ℕ) → passes (may_have_gap row.form) (group_plan row p m strict) ≡ true
+unfolding group_plan
+group_passes row strict p m =
+    let gaps = may_have_gap row.form in
+    content_passes gaps (choose (group_rows row.form) strict p m) row.opcode p m
+    (chosen_has (λ content. fits gaps content ≡ true) (row_fits gaps) strict p m (blank_fits gaps) (λ row e h. e) (group_rows row.form) (rows_fit row.form))
 
 -- ---- two ModRM bytes of the memory form that have the same reg, under prefixes that differ in X and B alone
 
@@ -96,8 +97,9 @@ first_in_memory f strict p m mem =
       | inr e ↦ e
     ]) (group_rows f) (rows_in_memory f)
 
-pub plan_alike : (f : Form) (o : ℕ) (strict : Bool) (p q : Prefixes) (m n : ℕ) → SamePrefixes p q → is_memory m ≡ true → is_memory n ≡ true → reg_field m ≡ reg_field n → group_form_plan f o strict p m ≡ group_form_plan f o strict q n
-unfolding group_form_plan
-plan_alike f o strict p q m n h mm nm same =
-    content_alike p q m n h (choose (group_rows f) strict p m) o same (mm ∙ sym nm) (first_in_memory f strict p m mm)
-    ∙ ap (λ content. plan_of_row content o q n) (chosen_alike rm_free strict strict p q m n (there_alike p q m n h mm nm same strict) (group_rows f) (rows_rm_free f))
+pub plan_alike : (row : TableRow) (strict : Bool) (p q : Prefixes) (m n : ℕ) → SamePrefixes p q → is_memory m ≡ true → is_memory n ≡ true → reg_field m ≡ reg_field n → group_plan row p m strict ≡ group_plan row q n strict
+unfolding group_plan
+plan_alike row strict p q m n h mm nm same =
+    let rows = group_rows row.form in
+    content_alike p q m n h (choose rows strict p m) row.opcode same (mm ∙ sym nm) (first_in_memory row.form strict p m mm)
+    ∙ ap (λ content. plan_of_row content row.opcode q n) (chosen_alike rm_free strict strict p q m n (there_alike p q m n h mm nm same strict) rows (rows_rm_free row.form))

@@ -2,7 +2,7 @@
 -- there: a name and operands, or a refusal. The first row that holds counts. Source: Intel SDM volume 2, appendix A.2
 -- (the letters of operands) and A.4 (the columns of its tables of opcode extensions).
 use Rattle.std.specs.Prelude.{ℕ, nat_le, ◌==◌, Bool, true, not, ◌&&◌, ◌||◌, if◌then◌else◌, List, [], ◌∷◌, slice_index_or, unwrap_or, pos}
-use Rattle.x86_groups.specs.Vocabulary.{RegisterClass, Prefixes, BadOpcode, AtModRM, OperandEncoding, OperandEncodings, Plan, Verdict, width_of, reg_spec, reg_field, rm_field, is_memory, operand_size, has_r, has_w, repnz, rep, class_of, v_class, ByReg, ByRm, BySuffix, Bytes, Content, Either, GroupRow, Letter, Letters, Memory, Name, Names, Of, Own, Place, Reads, Refuses, Register, Rm, RowSize, When}
+use Rattle.x86_groups.specs.Vocabulary.{Prefixes, BadOpcode, AtModRM, OperandEncoding, OperandEncodings, Plan, Verdict, width_of, reg_spec, reg_field, rm_field, is_memory, operand_size, has_r, has_w, repnz, rep, class_of, v_class, ByReg, ByRm, BySuffix, Bytes, Content, Either, GroupRow, Letter, Letters, Memory, Name, Names, Of, Own, Place, Reads, Refuses, Register, Rm, RowSize, When}
 use Rattle.x86_regs.specs.declared.RegisterClass.TheVariants as class
 use Rattle.x86_opcodes.specs.Names.{Invalid}
 use Rattle.x86_opcodes.specs.Numbers.{opcode_numbered}
@@ -80,11 +80,6 @@ opcode_of (ByRm names) own m = named (name_at names (rm_field m))
 
 -- ---- operands
 
--- a distance of v: 2 bytes, or 4
-abbrev pub distance_of : RegisterClass → OperandEncoding
-distance_of class.W = encoding.I32From16
-distance_of c = encoding.I32
-
 abbrev pub letter_encoding : Letter → Prefixes → ℕ → OperandEncoding
 letter_encoding (letter.E w) p m = encoding.E (class_of w p)
 letter_encoding (letter.G w) p m = encoding.G (class_of w p)
@@ -99,7 +94,7 @@ letter_encoding letter.I8 p m = encoding.I8
 letter_encoding letter.U8 p m = encoding.U8
 letter_encoding letter.X8 p m = encoding.X8
 letter_encoding letter.Iv p m = immediate_of (v_class p)
-letter_encoding letter.Jv p m = distance_of (v_class p)
+letter_encoding letter.Jv p m = if operand_size p && not (has_w p) then encoding.I32From16 else encoding.I32
 letter_encoding letter.SignedOne p m = encoding.ConstantI8 (pos 1)
 letter_encoding (letter.Implied at n c) p m = encoding.Fixed at (reg_spec n c)
 letter_encoding letter.StRm p m = encoding.Fixed slot.Rm (reg_spec (rm_field m) class.ST)
