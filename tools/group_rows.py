@@ -40,6 +40,7 @@ class Row:
     rm: str
     when: str
     rest: list  # names, operands and sizes of a row that is read; fault and moment of one that is refused
+    change: str = None  # of the answer's prefixes
 
     def where(self):
         return f"{self.place} {self.first} {self.last} {self.rm}; {self.when}"
@@ -91,7 +92,8 @@ def row(line):
     kind, *words = parsed(re.findall(r"[()]|[^\s()]+", line))
     if kind == "otherwise":
         return Row(line, "refusal", "Either", 0, 7, "Any", "Always", words)
-    return Row(line, kind, *where(words[0]), words[1], words[2:])
+    change = words.pop(0) if kind == "changing" else None
+    return Row(line, kind, *where(words[0]), words[1], words[2:], change)
 
 
 def groups():
@@ -101,7 +103,7 @@ def groups():
         head = HEAD_OF_ROWS.match(line)
         if head:
             rows = answer.setdefault(name_of(head[2]), [])
-        for text in re.findall(r"(?:(?<=    )|(?<= = ))((?:read|read_without_66|refusal|otherwise) .*?) ∷", line if head or line.startswith("    ") else ""):
+        for text in re.findall(r"(?:(?<=    )|(?<= = ))((?:read|changing|refusal|otherwise) .*?) ∷", line if head or line.startswith("    ") else ""):
             rows.append(row(text))
     return answer
 
@@ -144,7 +146,9 @@ def sizes(words):
     """The memory size in the memory form, and in the register form."""
     if isinstance(words, str):
         return {"size_v": ["Of(V)"] * 2, "undecided": [f"Bytes({UNDECIDED})"] * 2}[words]
-    return [called(word) for word in words[1:]] if words[0] == "sizes" else [f"Bytes({words[1]})"] * 2
+    if words[0] == "size":
+        return [f"Bytes({words[1]})"] * 2
+    return [called(pair.split()) for pair in " ".join(words).split(", ")]
 
 
 def names(words, numbers):
@@ -160,7 +164,7 @@ def entry(each, numbers):
         return f"refusal!({each.where()}; {' '.join(each.rest)})"
     named, operands, sized = each.rest
     operands = operands if isinstance(operands, str) else f"{operands[0]}({', '.join(map(letter, operands[1:]))})"
-    change = "; ClearsOperandSize" if each.kind == "read_without_66" else ""
+    change = f"; {each.change}" if each.change else ""
     return f"read!({each.where()}; {names(named, numbers)}; {operands}; {'; '.join(sizes(sized))}{change})"
 
 

@@ -3,7 +3,7 @@ use Rattle.std.specs.Prelude.{ℕ, [], ◌∷◌}
 use Rattle.x86_regs.specs.declared.RegisterClass.TheVariants as class
 use Rattle.x86_fields.specs.MemorySizes.{undecided_size}
 use Rattle.x86_fields.specs.declared.sizes.Width.TheVariants.{V}
-use Rattle.x86_groups.specs.Vocabulary.{Fault, Moment, PrefixChange, Keeps, ClearsOperandSize, Letter, Letters, RowSize, Bytes, Of, Place, Memory, Register, Either, When, Rm, Names, ByReg, ByRm, Reads, Refuses, GroupRow}
+use Rattle.x86_groups.specs.Vocabulary.{Fault, Moment, PrefixChange, Keeps, Letter, Letters, RowSize, Bytes, Of, Place, Memory, Register, Either, When, Rm, Names, ByReg, ByRm, Reads, Refuses, GroupRow}
 use Rattle.x86_operands.specs.declared.plans.RegisterSlot.TheVariants as slot
 use Rattle.x86_groups.specs.declared.letters.Letter.TheVariants as letter
 use Rattle.x86_groups.specs.declared.rows.When.TheVariants.{Always}
@@ -82,36 +82,25 @@ ecx_third = letter.Implied slot.Third 1 class.D
 
 -- ---- memory sizes, in the memory form and in the register form
 
-pub record Sizes : Type 0 where
-  pub memory : RowSize
-  pub register : RowSize
-
-abbrev pub sizes : RowSize → RowSize → Sizes
-sizes memory register = record { memory = memory; register = register }
-
 -- the same in both forms
-abbrev pub size : ℕ → Sizes
-size n = sizes (Bytes n) (Bytes n)
+abbrev pub size : ℕ → RowSize × RowSize
+size n = (Bytes n, Bytes n)
 
-abbrev pub size_v : Sizes
-size_v = sizes (Of V) (Of V)
+abbrev pub size_v : RowSize × RowSize
+size_v = (Of V, Of V)
 
 -- the processor decides
-abbrev pub undecided : Sizes
+abbrev pub undecided : RowSize × RowSize
 undecided = size undecided_size
 
 -- ---- rows
 
-abbrev pub changing : PrefixChange → Where → When → Names → Letters → Sizes → GroupRow
-changing change at when names operands size = record { place = at.place; first = at.first; last = at.last; rm = at.rm; when = when; content = Reads names operands size.memory size.register change }
+-- a row that is read, and the change of the answer's prefixes: where, the prefixes, the name, the operands and the size
+abbrev pub changing : PrefixChange → Where → When → Names → Letters → RowSize × RowSize → GroupRow
+changing change at when names operands size = record { place = at.place; first = at.first; last = at.last; rm = at.rm; when = when; content = Reads names operands size.0 size.1 change }
 
--- a row that is read: where, the prefixes, the name, the operands and the memory size
-abbrev pub read : Where → When → Names → Letters → Sizes → GroupRow
+abbrev pub read : Where → When → Names → Letters → RowSize × RowSize → GroupRow
 read at when names operands size = changing Keeps at when names operands size
-
--- the same, where the answer's prefixes show 66 cleared
-abbrev pub read_without_66 : Where → When → Names → Letters → Sizes → GroupRow
-read_without_66 at when names operands size = changing ClearsOperandSize at when names operands size
 
 -- a row that is refused, and after which byte
 abbrev pub refusal : Where → When → Fault → Moment → GroupRow
