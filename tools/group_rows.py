@@ -17,13 +17,7 @@ UNDECIDED = "63"  # the size that means one that the processor decides
 BY_REG = ["80", "81", "83", "c0", "c1", "c6", "c7", "d0", "d1", "d2", "d3", "f6", "f7", "fe", "ff"]
 
 
-HEAD_OF_ROWS = re.compile(r"(\w+) form\.(\w+) =")
-# the functions of rows, each with the forms that it has, and the one that has those that it hasn't
-LOOKUPS = {
-    "three_byte_rows": ("Maps 0F38 and 0F3A.", "LEFT_OUT"),
-    "two_byte_rows": ("Map 0F.", "three_byte_rows(form)"),
-    "group_rows": ("The rows of a form.", "two_byte_rows(form)"),
-}
+HEAD_OF_ROWS = re.compile(r"group_rows form\.(\w+) =")
 
 
 def name_of(form):
@@ -102,7 +96,7 @@ def groups():
     for line in (GROUPS / "Rows.antt").read_text().splitlines():
         head = HEAD_OF_ROWS.match(line)
         if head:
-            rows = answer.setdefault(name_of(head[2]), [])
+            rows = answer.setdefault(name_of(head[1]), [])
         for text in re.findall(r"(?:(?<=    )|(?<= = ))((?:read|changing|refusal|otherwise) .*?) ∷", line if head or line.startswith("    ") else ""):
             rows.append(row(text))
     return answer
@@ -192,7 +186,7 @@ def reg_line(rows, reg, numbers):
 
 HEAD = """
 ghost use Rattle.std.specs.Prelude.{◌≡◌};
-ghost use Rattle.x86_groups.specs.Rows.{group_rows, three_byte_rows, two_byte_rows};
+ghost use Rattle.x86_groups.specs.Rows.{group_rows};
 
 use crate::by_reg::{RegLine, line, rows_alone};
 use crate::letters::Letter;
@@ -213,15 +207,13 @@ use x86_regs::RegisterClass;
 """
 
 
-def lookups():
-    """The functions from a form to its rows, as specs/Rows.antt has them."""
-    forms = [head.groups() for head in map(HEAD_OF_ROWS.match, (GROUPS / "Rows.antt").read_text().splitlines()) if head]
-    for function, (words, others) in LOOKUPS.items():
-        scope = "pub(crate) fn" if function == "group_rows" else "fn"
-        yield from ["", f"/// {words}", f"#[tactic(auto, unfolding(crate::specs::Rows::{function}))]"]
-        yield from [f"{scope} {function}(form: Form) -> &'static [GroupRow]", f"    ensures {{ result.now ≡ {function} form }}", "{"]
-        yield from ["    match form {", *(f"        Form::{form} => ROWS_{name_of(form).upper()}," for of, form in forms if of == function)]
-        yield from [f"        _ => {others},", "    }", "}"]
+def lookup():
+    """The function from a form to its rows."""
+    forms = [head[1] for head in map(HEAD_OF_ROWS.match, (GROUPS / "Rows.antt").read_text().splitlines()) if head]
+    yield from ["", "/// The rows of a form.", "#[tactic(auto, unfolding(crate::specs::Rows::group_rows))]"]
+    yield from ["pub(crate) fn group_rows(form: Form) -> &'static [GroupRow]", "    ensures { result.now ≡ group_rows form }", "{"]
+    yield from ["    match form {", *(f"        Form::{form} => ROWS_{name_of(form).upper()}," for form in forms)]
+    yield from ["        _ => LEFT_OUT,", "    }", "}"]
 
 
 def tables(note, numbers):
@@ -240,4 +232,4 @@ def tables(note, numbers):
         lines += ["    ["] + [f"        {reg_line(every[name], reg, numbers)}," for reg in range(8)] + [f"    ], // {name.upper()}"]
     lines += ["];", "", "/// The rows of a form that has none."]
     lines += ["const LEFT_OUT: &[GroupRow; 1] = &[refusal!(Either 0 7 Any; Always; Incomplete AtModRM)];"]
-    return lines + [*lookups()]
+    return lines + [*lookup()]

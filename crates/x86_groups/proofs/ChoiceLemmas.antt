@@ -10,7 +10,7 @@ use Rattle.x86_groups.specs.declared.rows.Rm.TheVariants as rms
 use Rattle.x86_groups.specs.Columns.{choose, is_there, name_at, plan_of_row}
 use Rattle.x86_groups.specs.Choices.{NamesFence, lfence, mfence, sfence, IsFenceWithRm}
 use Rattle.x86_groups.specs.Groups.{group_plan, operandless, bad_operand}
-use Rattle.x86_groups.specs.Rows.{group_rows, two_byte_rows, three_byte_rows}
+use Rattle.x86_groups.specs.Rows.{group_rows}
 use Rattle.x86_groups.proofs.RowLemmas.{chosen_alike}
 
 -- ---- the rows of 0F AE
@@ -35,13 +35,13 @@ module _ (p : Prefixes) (m : ℕ) where
   row_same row h = grind arith
 
   fence_of : list_all same_row (group_rows form.ModRM_0x0fae) ≡ false → IsFenceWithRm form.ModRM_0x0fae p m
-  unfolding group_rows two_byte_rows
+  unfolding group_rows
   fence_of h =
       let names = fence_named m (reg_field m) refl (grind arith) in
       record { opcode = names.0; group = refl; no_f2 = grind arith; no_f3 = grind arith; no_66 = grind arith; register = grind arith; named = names.1; other_rm = grind arith }
 
 same_or_fence : (f : Form) (p : Prefixes) (m : ℕ) → (choose (group_rows f) true p m ≡ choose (group_rows f) false p m) ⊎ IsFenceWithRm f p m
-unfolding group_rows two_byte_rows three_byte_rows
+unfolding group_rows
 same_or_fence form.ModRM_0x0fae p m = elim (cases_Bool (list_all (same_row p m) (group_rows form.ModRM_0x0fae))) [
   | inl e ↦ inl (chosen_alike (same_row p m) true false p p m m (row_same p m) (group_rows form.ModRM_0x0fae) e)
   | inr e ↦ inr (fence_of p m e)
@@ -59,13 +59,13 @@ same_elsewhere row p m = elim (same_or_fence row.form p m) [
 
 module _ (row : TableRow) (p : Prefixes) (m : ℕ) (h : IsFenceWithRm row.form p m) where
   by_default : (o : ℕ) → NamesFence m o → plan_of_row (choose (group_rows form.ModRM_0x0fae) false p m) row.opcode p m ≡ operandless o
-  unfolding group_rows two_byte_rows
+  unfolding group_rows
   by_default o (lfence e) = rw (h.no_f2, h.no_f3, h.no_66, h.register, e) (rw (h.register, e) refl)
   by_default o (mfence e) = rw (h.no_f2, h.no_f3, h.no_66, h.register, e) (rw (h.register, e) refl)
   by_default o (sfence e) = rw (h.no_f2, h.no_f3, h.no_66, h.register, e) (rw (h.register, e) refl)
 
   strictly : (o : ℕ) → NamesFence m o → choose (group_rows form.ModRM_0x0fae) true p m ≡ Refuses BadOperand AtModRM
-  unfolding group_rows two_byte_rows
+  unfolding group_rows
   strictly o (lfence e) = rw (h.no_f2, h.no_f3, h.no_66, h.register, ne_eqb (rm_field m) 0 h.other_rm, e) refl
   strictly o (mfence e) = rw (h.no_f2, h.no_f3, h.no_66, h.register, ne_eqb (rm_field m) 0 h.other_rm, e) refl
   strictly o (sfence e) = rw (h.no_f2, h.no_f3, h.no_66, h.register, ne_eqb (rm_field m) 0 h.other_rm, e) refl

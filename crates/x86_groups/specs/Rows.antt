@@ -15,47 +15,42 @@ use Rattle.x86_groups.specs.declared.rows.Rm.TheVariants.{Any, Is, ZeroIfStrict}
 use Rattle.x86_groups.specs.Columns.{none}
 use Rattle.x86_groups.specs.Words.{at, mem, reg, both, mem_at, reg_at, both_at, reg_rm, by_reg, by_rm, cl, rax, eax, ecx, st0, ecx_in_rm, edx_in_rm, ecx_third, size, size_v, undecided, read, changing, refusal, otherwise}
 
--- ---- maps 0F38 and 0F3A: Key Locker and HRESET. Of the groups none is left to the last line, for forms without rows
-
-unfoldable pub three_byte_rows : Form → List GroupRow
-three_byte_rows form.ModRM_0xf30f38d8 =
+-- of the groups none is left to the last line, for forms that have no rows
+unfoldable pub group_rows : Form → List GroupRow
+-- maps 0F38 and 0F3A: Key Locker
+group_rows form.ModRM_0xf30f38d8 =
     read mem Always (by_reg AESENCWIDE128KL AESDECWIDE128KL none none none none none none) (One M) (size 48) ∷
     read mem Always (by_reg none none AESENCWIDE256KL AESDECWIDE256KL none none none none) (One M) (size 64) ∷
     refusal mem Always BadOpcode AfterAddress ∷
     otherwise BadOperand AtModRM ∷ []
-three_byte_rows form.ModRM_0xf30f38dc =
+group_rows form.ModRM_0xf30f38dc =
     read mem Always (Name AESENC128KL) (Two (G X) (E X)) (size 48) ∷
     read reg Always (Name LOADIWKEY) (Two (G X) (E X)) size_v ∷ []
-three_byte_rows form.ModRM_0xf30f38dd =
+group_rows form.ModRM_0xf30f38dd =
     read mem Always (Name AESDEC128KL) (Two (G X) M) (size 48) ∷
     otherwise BadOperand AtModRM ∷ []
-three_byte_rows form.ModRM_0xf30f38de =
+group_rows form.ModRM_0xf30f38de =
     read mem Always (Name AESENC256KL) (Two (G X) M) (size 64) ∷
     otherwise BadOperand AtModRM ∷ []
-three_byte_rows form.ModRM_0xf30f38df =
+group_rows form.ModRM_0xf30f38df =
     read mem Always (Name AESDEC256KL) (Two (G X) M) (size 64) ∷
     otherwise BadOperand AtModRM ∷ []
-three_byte_rows form.ModRM_0xf30f38fa =
+group_rows form.ModRM_0xf30f38fa =
     read reg Always (Name ENCODEKEY128) (Two (G D) (U D)) size_v ∷
     otherwise BadOpcode AfterAddress ∷ []
-three_byte_rows form.ModRM_0xf30f38fb =
+group_rows form.ModRM_0xf30f38fb =
     read reg Always (Name ENCODEKEY256) (Two (G D) (U D)) size_v ∷
     otherwise BadOpcode AfterAddress ∷ []
 -- HRESET, which needs F3 as the only prefix (group_fault)
-three_byte_rows form.ModRM_0xf30f3af0 =
+group_rows form.ModRM_0xf30f3af0 =
     read reg Always (Name HRESET) (One U8) (size 0) ∷
     otherwise BadOpcode AtModRM ∷ []
-three_byte_rows f = otherwise Incomplete AtModRM ∷ []
-
--- ---- map 0F
-
-unfoldable pub two_byte_rows : Form → List GroupRow
--- group 6
-two_byte_rows form.ModRM_0x0f00 =
+-- map 0F: group 6
+group_rows form.ModRM_0x0f00 =
     read both Always (by_reg SLDT STR LLDT LTR VERR VERW none none) (One (E W)) (Bytes 2, Bytes 0) ∷
     otherwise BadOperand AtModRM ∷ []
 -- group 7, and AMD APM volume 3, appendix A
-two_byte_rows form.ModRM_0x0f01 =
+group_rows form.ModRM_0x0f01 =
     read (mem_at 0) Always (Name SGDT) (One M) (size 10) ∷
     read (mem_at 1) Always (Name SIDT) (One M) (size 10) ∷
     read (mem_at 2) Always (Name LGDT) (One M) (size 10) ∷
@@ -93,55 +88,55 @@ two_byte_rows form.ModRM_0x0f01 =
     read (reg_rm 7 7) Always (Name TLBSYNC) Zero (size 0) ∷
     otherwise BadOpcode AtModRM ∷ []
 -- AMD APM volume 3, PREFETCH
-two_byte_rows form.ModRM_0x0f0d =
+group_rows form.ModRM_0x0f0d =
     read (mem_at 1) Always (Name PREFETCHW) (One M) (size 64) ∷
     read mem Always (Name NOP) (One M) (size 64) ∷
     otherwise BadOperand AtModRM ∷ []
 -- 3DNow, whose last byte names the operation. AMD APM volume 3, appendix A.1.2
-two_byte_rows form.ModRM_0x0f0f = read both Always BySuffix (Two Gmm Emm) (Bytes 8, Of V) ∷ []
+group_rows form.ModRM_0x0f0f = read both Always BySuffix (Two Gmm Emm) (Bytes 8, Of V) ∷ []
 -- 0F 12 and 0F 16 without a prefix
-two_byte_rows form.ModRM_0x0f12 =
+group_rows form.ModRM_0x0f12 =
     read mem Always (Name MOVLPS) (Two (G X) (E X)) (size 8) ∷
     read reg Always (Name MOVHLPS) (Two (G X) (E X)) size_v ∷ []
-two_byte_rows form.ModRM_0x0f16 =
+group_rows form.ModRM_0x0f16 =
     read mem Always (Name MOVHPS) (Two (G X) (E X)) (size 8) ∷
     read reg Always (Name MOVLHPS) (Two (G X) (E X)) size_v ∷ []
 -- group 16
-two_byte_rows form.ModRM_0x0f18 =
+group_rows form.ModRM_0x0f18 =
     read mem Always (by_reg PREFETCHNTA PREFETCH0 PREFETCH1 PREFETCH2 none none none none) (One (E V)) (size 64) ∷
     read both Always (Name NOP) (One (E V)) (Bytes 64, Of V) ∷ []
 -- MOV-Move to/from Control Registers, to/from Debug Registers. Their ModRM is a register form at
 -- every mod. There are the control registers 0, 2, 3, 4 and 8, and the debug registers below 8
-two_byte_rows form.Rq_Cq_0 =
+group_rows form.Rq_Cq_0 =
     read (reg_at 0) Always Own (Two (U Q) Cr) (size 0) ∷
     refusal (at Register 2 4 Any) RexR BadOperand AtModRM ∷
     read (at Register 2 4 Any) Always Own (Two (U Q) Cr) (size 0) ∷
     otherwise BadOperand AtModRM ∷ []
-two_byte_rows form.Cq_Rq_0 =
+group_rows form.Cq_Rq_0 =
     read (reg_at 0) Always Own (Two Cr (U Q)) (size 0) ∷
     refusal (at Register 2 4 Any) RexR BadOperand AtModRM ∷
     read (at Register 2 4 Any) Always Own (Two Cr (U Q)) (size 0) ∷
     otherwise BadOperand AtModRM ∷ []
-two_byte_rows form.Rq_Dq_0 =
+group_rows form.Rq_Dq_0 =
     refusal reg RexR BadOperand AtModRM ∷
     read reg Always Own (Two (U Q) Dr) (size 0) ∷
     otherwise BadOperand AtModRM ∷ []
-two_byte_rows form.Dq_Rq_0 =
+group_rows form.Dq_Rq_0 =
     refusal reg RexR BadOperand AtModRM ∷
     read reg Always Own (Two Dr (U Q)) (size 0) ∷
     otherwise BadOperand AtModRM ∷ []
 -- groups 12, 13 and 14
-two_byte_rows form.ModRM_0x0f71 =
+group_rows form.ModRM_0x0f71 =
     read reg Only66 (by_reg none none PSRLW none PSRAW none PSLLW none) (Two (U X) U8) size_v ∷
     read reg NoPrefix (by_reg none none PSRLW none PSRAW none PSLLW none) (Two Umm U8) size_v ∷
     refusal reg NoRepeat BadOpcode AfterAddress ∷
     otherwise BadOperand AfterAddress ∷ []
-two_byte_rows form.ModRM_0x0f72 =
+group_rows form.ModRM_0x0f72 =
     read reg Only66 (by_reg none none PSRLD none PSRAD none PSLLD none) (Two (U X) U8) size_v ∷
     read reg NoPrefix (by_reg none none PSRLD none PSRAD none PSLLD none) (Two Umm U8) size_v ∷
     refusal reg NoRepeat BadOpcode AfterAddress ∷
     otherwise BadOperand AfterAddress ∷ []
-two_byte_rows form.ModRM_0x0f73 =
+group_rows form.ModRM_0x0f73 =
     read reg Only66 (by_reg none none PSRLQ PSRLDQ none none PSLLQ PSLLDQ) (Two (U X) U8) size_v ∷
     read reg NoPrefix (by_reg none none PSRLQ none none none PSLLQ none) (Two Umm U8) size_v ∷
     refusal (reg_at 3) NoPrefix BadOperand AfterAddress ∷
@@ -149,7 +144,7 @@ two_byte_rows form.ModRM_0x0f73 =
     refusal reg NoRepeat BadOpcode AfterAddress ∷
     otherwise BadOperand AfterAddress ∷ []
 -- group 15
-two_byte_rows form.ModRM_0x0fae =
+group_rows form.ModRM_0x0fae =
     read (reg_at 6) F2 (Name UMWAIT) (One RdInReg) (size 0) ∷
     refusal mem F2 BadOperand AtModRM ∷
     refusal (both_at 4) F3With66 BadOpcode AtModRM ∷
@@ -168,11 +163,11 @@ two_byte_rows form.ModRM_0x0fae =
     refusal (at Register 5 7 Any) NoPrefix BadOperand AtModRM ∷
     otherwise BadOpcode AtModRM ∷ []
 -- group 8
-two_byte_rows form.ModRM_0x0fba =
+group_rows form.ModRM_0x0fba =
     read both Always (by_reg none none none none BT BTS BTR BTC) (Two (E Vq) I8) (Of Vq, Bytes 0) ∷
     otherwise BadOpcode AtModRM ∷ []
 -- group 9
-two_byte_rows form.ModRM_0x0fc7 =
+group_rows form.ModRM_0x0fc7 =
     read (mem_at 1) RexW (Name CMPXCHG16B) (One M) (size 16) ∷
     read (mem_at 1) Always (Name CMPXCHG8B) (One M) (size 8) ∷
     refusal (both_at 1) Always BadOperand AtModRM ∷
@@ -191,23 +186,18 @@ two_byte_rows form.ModRM_0x0fc7 =
     read reg Always (by_reg none none none none none none RDRAND RDSEED) (One (U V)) (size 0) ∷
     otherwise BadOperand AtModRM ∷ []
 -- AMD APM volume 4, EXTRQ and INSERTQ
-two_byte_rows form.ModRM_0x660f78 =
+group_rows form.ModRM_0x660f78 =
     read (reg_at 0) Always (Name EXTRQ) (Three (U X) U8 X8) (size 0) ∷
     otherwise BadOperand AtModRM ∷ []
-two_byte_rows form.ModRM_0xf20f78 =
+group_rows form.ModRM_0xf20f78 =
     read reg Always (Name INSERTQ) (Four (G X) (U X) U8 X8) (size 0) ∷
     otherwise BadOperand AtModRM ∷ []
 -- Intel SDM volume 2, ENDBR32 and ENDBR64
-two_byte_rows form.ModRM_0xf30f1e =
+group_rows form.ModRM_0xf30f1e =
     read (reg_rm 7 2) Always (Name ENDBR64) Zero (size 0) ∷
     read (reg_rm 7 3) Always (Name ENDBR32) Zero (size 0) ∷
     read both Always (Name NOP) (Two (E V) (G V)) size_v ∷ []
-two_byte_rows f = three_byte_rows f
-
--- ---- the one-byte map
-
-unfoldable pub group_rows : Form → List GroupRow
--- group 1
+-- the one-byte map: group 1
 group_rows form.ModRM_0x80 = read both Always (by_reg ADD OR ADC SBB AND SUB XOR CMP) (Two (E B) I8) (size 1) ∷ []
 group_rows form.ModRM_0x81 = read both Always (by_reg ADD OR ADC SBB AND SUB XOR CMP) (Two (E V) Iv) size_v ∷ []
 group_rows form.ModRM_0x83 = read both Always (by_reg ADD OR ADC SBB AND SUB XOR CMP) (Two (E V) I8) size_v ∷ []
@@ -316,4 +306,4 @@ group_rows form.x87_df =
     read reg Always (by_reg none none FSTP FSTP none none none none) (Two StRm st0) (size 0) ∷
     read (reg_rm 4 0) Always (Name FNSTSW) (One (U W)) (size 0) ∷
     otherwise BadOpcode AtModRM ∷ []
-group_rows f = two_byte_rows f
+group_rows f = otherwise Incomplete AtModRM ∷ []
