@@ -56,12 +56,16 @@ unfolding group_rows
 jump_by true d m n p r e = rw (r, e) (rw e refl)
 jump_by false d m n p r e = rw (r, e) (rw e refl)
 
+-- a line that leaves all to the rows
+by_rows : (g : RegGroup) (d : RegLine) (k : ℕ) → is_described (line_at (place_of g) k d).encoding.after_opcode ≡ false → Cell g d k
+by_rows g d k e m r is n p = absurd (true≢false (sym is ∙ e))
+
 pub cells : (g : RegGroup) (d : RegLine) (k : ℕ) → k < 8 → Cell g d k
 unfolding group_rows
-cells group.C6 d = below_8 (Cell group.C6 d) (λ m r is n p. rw (sized, r) refl) (λ m r is n p. absurd (true≢false (sym is))) (λ m r is n p. absurd (true≢false (sym is))) (λ m r is n p. absurd (true≢false (sym is))) (λ m r is n p. absurd (true≢false (sym is))) (λ m r is n p. absurd (true≢false (sym is))) (λ m r is n p. absurd (true≢false (sym is))) (λ m r is n p. absurd (true≢false (sym is)))
-cells group.C7 d = below_8 (Cell group.C7 d) (λ m r is n p. rw (sized, r) refl) (λ m r is n p. absurd (true≢false (sym is))) (λ m r is n p. absurd (true≢false (sym is))) (λ m r is n p. absurd (true≢false (sym is))) (λ m r is n p. absurd (true≢false (sym is))) (λ m r is n p. absurd (true≢false (sym is))) (λ m r is n p. absurd (true≢false (sym is))) (λ m r is n p. absurd (true≢false (sym is)))
-cells group.FE d = below_8 (Cell group.FE d) (λ m r is n p. rw (sized, r) (rw r refl)) (λ m r is n p. rw (sized, r) (rw r refl)) (λ m r is n p. absurd (true≢false (sym is))) (λ m r is n p. absurd (true≢false (sym is))) (λ m r is n p. absurd (true≢false (sym is))) (λ m r is n p. absurd (true≢false (sym is))) (λ m r is n p. absurd (true≢false (sym is))) (λ m r is n p. absurd (true≢false (sym is)))
-cells group.FF d = below_8 (Cell group.FF d) (λ m r is n p. rw (sized, r) (rw r refl)) (λ m r is n p. rw (sized, r) (rw r refl)) (λ m r is n p. rw (sized, r) refl) (λ m r is n p. absurd (true≢false (sym is))) (λ m r is n p. jump_by (is_memory m) d m n p r refl) (λ m r is n p. absurd (true≢false (sym is))) (λ m r is n p. push_by p.operand_size (is_memory m) d m n p r refl refl) (λ m r is n p. absurd (true≢false (sym is)))
+cells group.C6 d = below_8 (Cell group.C6 d) (λ m r is n p. rw (sized, r) refl) (by_rows group.C6 d 1 refl) (by_rows group.C6 d 2 refl) (by_rows group.C6 d 3 refl) (by_rows group.C6 d 4 refl) (by_rows group.C6 d 5 refl) (by_rows group.C6 d 6 refl) (by_rows group.C6 d 7 refl)
+cells group.C7 d = below_8 (Cell group.C7 d) (λ m r is n p. rw (sized, r) refl) (by_rows group.C7 d 1 refl) (by_rows group.C7 d 2 refl) (by_rows group.C7 d 3 refl) (by_rows group.C7 d 4 refl) (by_rows group.C7 d 5 refl) (by_rows group.C7 d 6 refl) (by_rows group.C7 d 7 refl)
+cells group.FE d = below_8 (Cell group.FE d) (λ m r is n p. rw (sized, r) (rw r refl)) (λ m r is n p. rw (sized, r) (rw r refl)) (by_rows group.FE d 2 refl) (by_rows group.FE d 3 refl) (by_rows group.FE d 4 refl) (by_rows group.FE d 5 refl) (by_rows group.FE d 6 refl) (by_rows group.FE d 7 refl)
+cells group.FF d = below_8 (Cell group.FF d) (λ m r is n p. rw (sized, r) (rw r refl)) (λ m r is n p. rw (sized, r) (rw r refl)) (λ m r is n p. rw (sized, r) refl) (by_rows group.FF d 3 refl) (λ m r is n p. jump_by (is_memory m) d m n p r refl) (by_rows group.FF d 5 refl) (λ m r is n p. push_by p.operand_size (is_memory m) d m n p r refl refl) (by_rows group.FF d 7 refl)
 cells g d = below_8 (Cell g d) (λ m r is n p. rw (sized, r) (rw r refl)) (λ m r is n p. rw (sized, r) (rw r refl)) (λ m r is n p. rw (sized, r) (rw r refl)) (λ m r is n p. rw (sized, r) (rw r refl)) (λ m r is n p. rw (sized, r) (rw r refl)) (λ m r is n p. rw (sized, r) (rw r refl)) (λ m r is n p. rw (sized, r) (rw r refl)) (λ m r is n p. rw (sized, r) (rw r refl))
 
 -- each line is sound, and has a ModRM byte of either form unless it leaves all to the rows
