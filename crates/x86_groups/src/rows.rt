@@ -1,6 +1,6 @@
 //! Rows of groups: where each is, and what it has there. The first row that holds counts.
 ghost use Rattle.std.specs.Prelude.{◌≡◌};
-ghost use Rattle.x86_groups.specs.Columns.{choose, is_there, is_placed, is_prefixed, is_rm, is_named, name_at, named, opcode_of, plan_of_row, verdict_of};
+ghost use Rattle.x86_groups.specs.Columns.{choose, is_there, is_placed, is_prefixed, is_rm, is_named, name_at, named, opcode_of, plan_of_row};
 
 use crate::letters::{Letters, RowSize};
 use x86_fields::{ModRM, Prefixes};
@@ -246,15 +246,6 @@ impl Names {
             Names::ByRm(names) => named(name_at(names, modrm.rm_field())),
         }
     }
-
-    fn verdict(&self) -> Verdict
-        ensures { result ≡ verdict_of self.now }
-    {
-        match self {
-            Names::BySuffix => Verdict::NamedBySuffix,
-            _ => Verdict::Accepts,
-        }
-    }
 }
 
 impl Content {
@@ -278,7 +269,10 @@ impl Content {
                     in_register.bytes(prefixes),
                 ),
                 change: *change,
-                verdict: names.verdict(),
+                verdict: match names {
+                    Names::BySuffix => Verdict::NamedBySuffix,
+                    _ => Verdict::Accepts,
+                },
             },
             Content::Refuses { fault, moment } => refuses(*fault, *moment),
         }
