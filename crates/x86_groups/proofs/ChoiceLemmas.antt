@@ -29,7 +29,7 @@ fence_named m _ e h = absurd (true≢false (sym h))
 module _ (p : Prefixes) (m : ℕ) where
   -- a row that is there under both choices or under neither
   abbrev same_row : GroupRow → Bool
-  same_row row = not (by_choice row.rm) || ((rm_field m == 0) || not (is_there row false p m))
+  same_row row = not (by_choice row.at.rm) || ((rm_field m == 0) || not (is_there row false p m))
 
   row_same : (row : GroupRow) → same_row row ≡ true → is_there row true p m ≡ is_there row false p m
   row_same row h = grind arith

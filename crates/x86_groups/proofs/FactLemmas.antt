@@ -72,7 +72,7 @@ in_memory (Reads names operands memory register change) = no_rm_names names && (
 in_memory (Refuses fault moment) = true
 
 abbrev pub row_in_memory : GroupRow → Bool
-row_in_memory row = is_register row.place || in_memory row.content
+row_in_memory row = is_register row.at.place || in_memory row.content
 
 pub rows_rm_free : (f : Form) → list_all rm_free (group_rows f) ≡ true
 unfolding group_rows

@@ -92,7 +92,7 @@ module _ (p q : Prefixes) (m n : ℕ) (h : SamePrefixes p q) where
 pub first_in_memory : (f : Form) (strict : Bool) (p : Prefixes) (m : ℕ) → is_memory m ≡ true → in_memory (choose (group_rows f) strict p m) ≡ true
 first_in_memory f strict p m mem =
     chosen_has (λ content. in_memory content ≡ true) row_in_memory strict p m refl
-    (λ row test held. elim (or_cases (is_register row.place) (in_memory row.content) test) [
+    (λ row test held. elim (or_cases (is_register row.at.place) (in_memory row.content) test) [
       | inl is ↦ absurd (true≢false (sym held ∙ row_absent row strict p m is mem))
       | inr e ↦ e
     ]) (group_rows f) (rows_in_memory f)

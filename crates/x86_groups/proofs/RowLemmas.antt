@@ -49,8 +49,8 @@ is_register place = false
 register_absent : (place : Place) (m : ℕ) → is_register place ≡ true → is_memory m ≡ true → is_placed place m ≡ false
 register_absent place m h e = grind arith
 
-pub row_absent : (row : GroupRow) (strict : Bool) (p : Prefixes) (m : ℕ) → is_register row.place ≡ true → is_memory m ≡ true → is_there row strict p m ≡ false
-row_absent row strict p m h e = and_left (is_placed row.place m) _ (register_absent row.place m h e)
+pub row_absent : (row : GroupRow) (strict : Bool) (p : Prefixes) (m : ℕ) → is_register row.at.place ≡ true → is_memory m ≡ true → is_there row strict p m ≡ false
+row_absent row strict p m h e = and_left (is_placed row.at.place m) _ (register_absent row.at.place m h e)
 
 -- a row that isn't chosen by rm
 abbrev pub no_rm : Rm → Bool
@@ -67,7 +67,7 @@ no_rm_content (Refuses fault moment) = true
 
 -- a row of the register form, or one that isn't chosen by rm
 abbrev pub rm_free : GroupRow → Bool
-rm_free row = is_register row.place || (no_rm row.rm && no_rm_content row.content)
+rm_free row = is_register row.at.place || (no_rm row.at.rm && no_rm_content row.content)
 
 module _ (p q : Prefixes) (m n : ℕ) (h : SamePrefixes p q) (mm : is_memory m ≡ true) (nm : is_memory n ≡ true) (same : reg_field m ≡ reg_field n) where
   rm_alike : (r : Rm) (strict : Bool) → no_rm r ≡ true → is_rm r strict m ≡ is_rm r strict n
@@ -80,9 +80,9 @@ module _ (p q : Prefixes) (m n : ℕ) (h : SamePrefixes p q) (mm : is_memory m �
   placed_alike place = grind arith
 
   pub there_alike : (strict : Bool) (row : GroupRow) → rm_free row ≡ true → is_there row strict p m ≡ is_there row strict q n
-  there_alike strict row free = elim (or_cases (is_register row.place) (no_rm row.rm && no_rm_content row.content) free) [
+  there_alike strict row free = elim (or_cases (is_register row.at.place) (no_rm row.at.rm && no_rm_content row.content) free) [
     | inl is ↦ row_absent row strict p m is mm ∙ sym (row_absent row strict q n is nm)
     | inr rest ↦
-        let parts = and_parts (no_rm row.rm) (no_rm_content row.content) rest in
-        rw (placed_alike row.place, same, rm_alike row.rm strict parts.0, prefixed_alike row.when p q h, named_alike row.content parts.1) refl
+        let parts = and_parts (no_rm row.at.rm) (no_rm_content row.content) rest in
+        rw (placed_alike row.at.place, same, rm_alike row.at.rm strict parts.0, prefixed_alike row.when p q h, named_alike row.content parts.1) refl
   ]

@@ -56,10 +56,10 @@ is_named content m = true
 
 abbrev pub is_there : GroupRow → Bool → Prefixes → ℕ → Bool
 is_there row strict p m =
-    is_placed row.place m
-    && (nat_le row.first (reg_field m)
-    && (nat_le (reg_field m) row.last
-    && (is_rm row.rm strict m
+    is_placed row.at.place m
+    && (nat_le row.at.first (reg_field m)
+    && (nat_le (reg_field m) row.at.last
+    && (is_rm row.at.rm strict m
     && (is_prefixed row.when p
     && is_named row.content m))))
 

@@ -3,19 +3,13 @@ use Rattle.std.specs.Prelude.{ℕ, [], ◌∷◌}
 use Rattle.x86_regs.specs.declared.RegisterClass.TheVariants as class
 use Rattle.x86_fields.specs.MemorySizes.{undecided_size}
 use Rattle.x86_fields.specs.declared.sizes.Width.TheVariants.{V}
-use Rattle.x86_groups.specs.Vocabulary.{Fault, Moment, PrefixChange, Keeps, Letter, Letters, RowSize, Bytes, Of, Place, Memory, Register, Either, When, Rm, Names, ByReg, ByRm, Reads, Refuses, GroupRow}
+use Rattle.x86_groups.specs.Vocabulary.{Fault, Moment, PrefixChange, Keeps, Letter, Letters, RowSize, Bytes, Of, Place, Memory, Register, Either, When, Where, Rm, Names, ByReg, ByRm, Reads, Refuses, GroupRow}
 use Rattle.x86_operands.specs.declared.plans.RegisterSlot.TheVariants as slot
 use Rattle.x86_groups.specs.declared.letters.Letter.TheVariants as letter
 use Rattle.x86_groups.specs.declared.rows.When.TheVariants.{Always}
 use Rattle.x86_groups.specs.declared.rows.Rm.TheVariants.{Any, Is}
 
 -- ---- where
-
-pub record Where : Type 0 where
-  pub place : Place
-  pub first : ℕ
-  pub last : ℕ
-  pub rm : Rm
 
 abbrev pub at : Place → ℕ → ℕ → Rm → Where
 at place first last rm = record { place = place; first = first; last = last; rm = rm }
@@ -97,14 +91,14 @@ undecided = size undecided_size
 
 -- a row that is read, and the change of the answer's prefixes: where, the prefixes, the name, the operands and the size
 abbrev pub changing : PrefixChange → Where → When → Names → Letters → RowSize × RowSize → GroupRow
-changing change at when names operands size = record { place = at.place; first = at.first; last = at.last; rm = at.rm; when = when; content = Reads names operands size.0 size.1 change }
+changing change at when names operands size = record { at = at; when = when; content = Reads names operands size.0 size.1 change }
 
 abbrev pub read : Where → When → Names → Letters → RowSize × RowSize → GroupRow
 read at when names operands size = changing Keeps at when names operands size
 
 -- a row that is refused, and after which byte
 abbrev pub refusal : Where → When → Fault → Moment → GroupRow
-refusal at when fault moment = record { place = at.place; first = at.first; last = at.last; rm = at.rm; when = when; content = Refuses fault moment }
+refusal at when fault moment = record { at = at; when = when; content = Refuses fault moment }
 
 -- wherever no row before it is
 abbrev pub otherwise : Fault → Moment → GroupRow

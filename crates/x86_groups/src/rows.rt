@@ -77,14 +77,20 @@ pub enum Content {
     },
 }
 
-/// A row of a group.
+/// With which ModRM bytes a row is.
 #[derive(Clone, Copy, Drop)]
-pub struct GroupRow {
+pub struct Where {
     pub place: Place,
     /// The first and the last reg.
     pub first: u8,
     pub last: u8,
     pub rm: Rm,
+}
+
+/// A row of a group.
+#[derive(Clone, Copy, Drop)]
+pub struct GroupRow {
+    pub at: Where,
     pub when: When,
     pub content: Content,
 }
@@ -97,10 +103,12 @@ macro_rules! read {
     };
     ($place:ident $first:literal $last:literal $rm:expr; $when:ident; $names:expr; $operands:expr; $memory:expr; $register:expr; $change:ident) => {
         GroupRow {
-            place: Place::$place,
-            first: $first,
-            last: $last,
-            rm: $rm,
+            at: Where {
+                place: Place::$place,
+                first: $first,
+                last: $last,
+                rm: $rm,
+            },
             when: When::$when,
             content: Content::Reads {
                 names: $names,
@@ -119,10 +127,12 @@ pub(crate) use read;
 macro_rules! refusal {
     ($place:ident $first:literal $last:literal $rm:expr; $when:ident; $fault:ident $moment:ident) => {
         GroupRow {
-            place: Place::$place,
-            first: $first,
-            last: $last,
-            rm: $rm,
+            at: Where {
+                place: Place::$place,
+                first: $first,
+                last: $last,
+                rm: $rm,
+            },
             when: When::$when,
             content: Content::Refuses {
                 fault: Fault::$fault,
@@ -143,9 +153,9 @@ fn name_at(names: &[u16], index: u8) -> u16
 
 impl GroupRow {
     fn is_placed(&self, modrm: ModRM) -> bool
-        ensures { result ≡ is_placed self.now.place modrm }
+        ensures { result ≡ is_placed self.now.at.place modrm }
     {
-        match self.place {
+        match self.at.place {
             Place::Memory => modrm.is_memory(),
             Place::Register => !modrm.is_memory(),
             Place::Either => true,
@@ -153,9 +163,9 @@ impl GroupRow {
     }
 
     fn has_rm(&self, strict: bool, modrm: ModRM) -> bool
-        ensures { result ≡ is_rm self.now.rm strict modrm }
+        ensures { result ≡ is_rm self.now.at.rm strict modrm }
     {
-        match self.rm {
+        match self.at.rm {
             Rm::Any => true,
             Rm::Is(rm) => modrm.rm_field() == rm,
             Rm::ZeroIfStrict => !strict || modrm.rm_field() == 0,
@@ -203,8 +213,8 @@ impl GroupRow {
         ensures { result ≡ is_there self.now strict prefixes.now modrm }
     {
         self.is_placed(modrm)
-            && self.first <= modrm.reg_field()
-            && modrm.reg_field() <= self.last
+            && self.at.first <= modrm.reg_field()
+            && modrm.reg_field() <= self.at.last
             && self.has_rm(strict, modrm)
             && self.has_prefixes(prefixes)
             && self.has_name(modrm)

@@ -14,7 +14,7 @@ use crate::letters::Letters::{Four, One, Three, Two, Zero};
 use crate::letters::RowSize::{Bytes, Of};
 use crate::rows::Names::{ByReg, ByRm, BySuffix, Name, Own};
 use crate::rows::Rm::{Any, Is, ZeroIfStrict};
-use crate::rows::{Content, GroupRow, Place, When, read, refusal};
+use crate::rows::{Content, GroupRow, Place, When, Where, read, refusal};
 use x86_fields::Width::{B, D, Dq, Q, V, Vq, W, X};
 use x86_forms::Form;
 use x86_operands::AfterOpcode::ByPlan;
