@@ -12,19 +12,12 @@ from pathlib import Path
 GROUPS = Path(__file__).resolve().parent.parent / "crates" / "x86_groups" / "specs"
 PLACES = {"mem": "Memory", "reg": "Register", "both": "Either"}
 BYTES = {"0": "Zero", "1": "One", "2": "Two", "4": "Four", "8": "Eight", "16": "Sixteen"}
-SIZES = {"v": "Of(V)", "y": "Of(Dq)", "vq": "Of(Vq)"}
 UNDECIDED = "63"  # the size that means one that the processor decides
 # the groups that reg chooses, in the order of `RegGroup`
 BY_REG = ["80", "81", "83", "c0", "c1", "c6", "c7", "d0", "d1", "d2", "d3", "f6", "f7", "fe", "ff"]
 
 
-HEAD_OF_ROWS = re.compile(r"(\w+) form\.(\w+) =")
-# the functions of rows, each with the forms that it has, and the one that has those that it hasn't
-LOOKUPS = {
-    "three_byte_rows": ("Maps 0F38 and 0F3A.", "LEFT_OUT"),
-    "two_byte_rows": ("Map 0F.", "three_byte_rows(form)"),
-    "group_rows": ("The rows of a form.", "two_byte_rows(form)"),
-}
+HEAD_OF_ROWS = re.compile(r"group_rows form\.(\w+) =")
 
 
 def name_of(form):
@@ -41,9 +34,10 @@ class Row:
     rm: str
     when: str
     rest: list  # names, operands and sizes of a row that is read; fault and moment of one that is refused
+    change: str = None  # of the answer's prefixes
 
     def where(self):
-        return f"{PLACES[self.place]} {self.first} {self.last} {self.rm}; {self.when}"
+        return f"{self.place} {self.first} {self.last} {self.rm}; {self.when}"
 
     def is_named(self, reg, rm):
         if self.kind == "refusal" or isinstance(self.rest[0], str):
@@ -52,7 +46,7 @@ class Row:
         return {"Name": True, "by_reg": names[reg % len(names)] != "none", "by_rm": names[rm % len(names)] != "none"}[word]
 
     def holds(self, memory, reg, rm, f2, f3, word, w, r, strict):
-        placed = {"mem": memory, "reg": not memory, "both": True}[self.place]
+        placed = {"Memory": memory, "Register": not memory, "Either": True}[self.place]
         zero = rm == 0 or not strict
         fits = {"Any": True, "ZeroIfStrict": zero}.get(self.rm, self.rm == f"Is({rm})")
         prefixed = {
@@ -73,21 +67,27 @@ def parsed(tokens):
     return words
 
 
+def called(word):
+    """A word, or a call of one, as the table has it."""
+    return word if isinstance(word, str) else f"{word[0]}({word[1]})"
+
+
 def where(words):
     """The form of ModRM, the first and the last reg, and rm."""
     word, *numbers = [words] if isinstance(words, str) else words
-    place = word.split("_")[0]
-    numbers = [int(number) for number in numbers]
-    first, last = {"reg_from": numbers, "reg_rm": numbers[:1] * 2}.get(word, numbers * 2 if word.endswith("_at") else [0, 7])
-    rm = "ZeroIfStrict" if word == "reg_zero" else f"Is({numbers[-1]})" if word.endswith("_rm") else "Any"
-    return place, first, last, rm
+    if word == "at":
+        place, first, last, rm = numbers
+        return place, int(first), int(last), called(rm)
+    first, last = [int(numbers[0])] * 2 if numbers else [0, 7]
+    return PLACES[word.split("_")[0]], first, last, f"Is({numbers[1]})" if word == "reg_rm" else "Any"
 
 
 def row(line):
     kind, *words = parsed(re.findall(r"[()]|[^\s()]+", line))
     if kind == "otherwise":
-        return Row(line, "refusal", "both", 0, 7, "Any", "Always", words)
-    return Row(line, kind, *where(words[0]), words[1], words[2:])
+        return Row(line, "refusal", "Either", 0, 7, "Any", "Always", words)
+    change = words.pop(0) if kind == "changing" else None
+    return Row(line, kind, *where(words[0]), words[1], words[2:], change)
 
 
 def groups():
@@ -96,8 +96,8 @@ def groups():
     for line in (GROUPS / "Rows.antt").read_text().splitlines():
         head = HEAD_OF_ROWS.match(line)
         if head:
-            rows = answer.setdefault(name_of(head[2]), [])
-        for text in re.findall(r"(?:(?<=    )|(?<= = ))((?:read|read_without_66|refusal|otherwise) .*?) ∷", line if head or line.startswith("    ") else ""):
+            rows = answer.setdefault(name_of(head[1]), [])
+        for text in re.findall(r"(?:(?<=    )|(?<= = ))((?:read|changing|refusal|otherwise) .*?) ∷", line if head or line.startswith("    ") else ""):
             rows.append(row(text))
     return answer
 
@@ -133,20 +133,16 @@ def implied():
 
 
 def letter(word):
-    if isinstance(word, list):
-        return f"{word[0]}({word[1]})"
-    return word.upper() if word.islower() or "_" in word else word
-
-
-def size(word):
-    return f"Bytes({word[1]})" if isinstance(word, list) else SIZES[word]
+    return word.upper() if isinstance(word, str) and (word.islower() or "_" in word) else called(word)
 
 
 def sizes(words):
     """The memory size in the memory form, and in the register form."""
     if isinstance(words, str):
         return {"size_v": ["Of(V)"] * 2, "undecided": [f"Bytes({UNDECIDED})"] * 2}[words]
-    return [size(word) for word in words[1:]] if words[0] == "sizes" else [f"Bytes({words[1]})"] * 2
+    if words[0] == "size":
+        return [f"Bytes({words[1]})"] * 2
+    return [called(pair.split()) for pair in " ".join(words).split(", ")]
 
 
 def names(words, numbers):
@@ -162,7 +158,7 @@ def entry(each, numbers):
         return f"refusal!({each.where()}; {' '.join(each.rest)})"
     named, operands, sized = each.rest
     operands = operands if isinstance(operands, str) else f"{operands[0]}({', '.join(map(letter, operands[1:]))})"
-    change = "; ClearsOperandSize" if each.kind == "read_without_66" else ""
+    change = f"; {each.change}" if each.change else ""
     return f"read!({each.where()}; {names(named, numbers)}; {operands}; {'; '.join(sizes(sized))}{change})"
 
 
@@ -177,7 +173,7 @@ def reg_line(rows, reg, numbers):
     """The line of a reg, if reg alone chooses its row, or if 66 chooses between the two sizes of PUSH."""
     here = [each for each in rows if each.first <= reg <= each.last and each.is_named(reg, 0)]
     first = here[0]
-    if first.kind != "read" or first.place != "both":
+    if first.kind != "read" or first.place != "Either":
         return "rows_alone!()"
     named, operands, sized = first.rest
     number = numbers[named[1 + reg] if named[0] == "by_reg" else named[1]]
@@ -190,7 +186,7 @@ def reg_line(rows, reg, numbers):
 
 HEAD = """
 ghost use Rattle.std.specs.Prelude.{◌≡◌};
-ghost use Rattle.x86_groups.specs.Rows.{group_rows, three_byte_rows, two_byte_rows};
+ghost use Rattle.x86_groups.specs.Rows.{group_rows};
 
 use crate::by_reg::{RegLine, line, rows_alone};
 use crate::letters::Letter;
@@ -201,7 +197,7 @@ use crate::letters::Letters::{Four, One, Three, Two, Zero};
 use crate::letters::RowSize::{Bytes, Of};
 use crate::rows::Names::{ByReg, ByRm, BySuffix, Name, Own};
 use crate::rows::Rm::{Any, Is, ZeroIfStrict};
-use crate::rows::{Content, GroupRow, Place, When, read, refusal};
+use crate::rows::{Content, GroupRow, Place, When, Where, read, refusal};
 use x86_fields::Width::{B, D, Dq, Q, V, Vq, W, X};
 use x86_forms::Form;
 use x86_operands::AfterOpcode::ByPlan;
@@ -211,15 +207,13 @@ use x86_regs::RegisterClass;
 """
 
 
-def lookups():
-    """The functions from a form to its rows, as specs/Rows.antt has them."""
-    forms = [head.groups() for head in map(HEAD_OF_ROWS.match, (GROUPS / "Rows.antt").read_text().splitlines()) if head]
-    for function, (words, others) in LOOKUPS.items():
-        scope = "pub(crate) fn" if function == "group_rows" else "fn"
-        yield from ["", f"/// {words}", f"#[tactic(auto, unfolding(crate::specs::Rows::{function}))]"]
-        yield from [f"{scope} {function}(form: Form) -> &'static [GroupRow]", f"    ensures {{ result.now ≡ {function} form }}", "{"]
-        yield from ["    match form {", *(f"        Form::{form} => ROWS_{name_of(form).upper()}," for of, form in forms if of == function)]
-        yield from [f"        _ => {others},", "    }", "}"]
+def lookup():
+    """The function from a form to its rows."""
+    forms = [head[1] for head in map(HEAD_OF_ROWS.match, (GROUPS / "Rows.antt").read_text().splitlines()) if head]
+    yield from ["", "/// The rows of a form.", "#[tactic(auto, unfolding(crate::specs::Rows::group_rows))]"]
+    yield from ["pub(crate) fn group_rows(form: Form) -> &'static [GroupRow]", "    ensures { result.now ≡ group_rows form }", "{"]
+    yield from ["    match form {", *(f"        Form::{form} => ROWS_{name_of(form).upper()}," for form in forms)]
+    yield from ["        _ => LEFT_OUT,", "    }", "}"]
 
 
 def tables(note, numbers):
@@ -238,4 +232,4 @@ def tables(note, numbers):
         lines += ["    ["] + [f"        {reg_line(every[name], reg, numbers)}," for reg in range(8)] + [f"    ], // {name.upper()}"]
     lines += ["];", "", "/// The rows of a form that has none."]
     lines += ["const LEFT_OUT: &[GroupRow; 1] = &[refusal!(Either 0 7 Any; Always; Incomplete AtModRM)];"]
-    return lines + [*lookups()]
+    return lines + [*lookup()]

@@ -1,100 +1,87 @@
 -- The default and the strict choice differ on fences whose rm isn't 0, and on nothing else.
-use Rattle.std.proofs.Common.{◌≡◌, ◌≢◌, ℕ, zero, suc, ◌⊎◌, inl, inr, Bool, true, false, refl, sym, ap, ◌∙◌, arith}
-use Rattle.std.proofs.Math.Dec.{eqb-suc-zero}
-use Rattle.x86_groups.specs.Vocabulary.{Prefixes, TableRow, Form, BadOperand, ModrmUse, AtModRM, has_r, has_w, repnz, rep, reg_field, rm_field, is_memory, Content, Refuses}
+use Rattle.std.proofs.Common.{◌≡◌, ℕ, zero, suc, ◌==◌, ◌⊎◌, inl, inr, Bool, true, false, not, ◌||◌, [], ◌∷◌, refl, sym, ap, ◌∙◌, arith, true≢false}
+use Rattle.std.specs.List.{list_all}
+use Rattle.std.proofs.lemmas.Bool.{cases_Bool, ne_eqb}
+use Rattle.x86_groups.specs.Vocabulary.{Prefixes, TableRow, Form, ModrmUse, BadOperand, AtModRM, reg_field, rm_field, Rm, Refuses, GroupRow}
 use Rattle.x86_forms.specs.declared.Form.TheVariants as form
 use Rattle.x86_opcodes.specs.Names.{LFENCE, MFENCE, SFENCE}
 use Rattle.x86_operands.specs.Asks.{plan_ask}
-use Rattle.x86_groups.specs.Columns.{choose, plan_of_row}
+use Rattle.x86_groups.specs.declared.rows.Rm.TheVariants as rms
+use Rattle.x86_groups.specs.Columns.{choose, is_there, name_at, plan_of_row}
 use Rattle.x86_groups.specs.Choices.{NamesFence, lfence, mfence, sfence, IsFenceWithRm}
-use Rattle.x86_groups.specs.Groups.{group_form_plan, group_plan, operandless, bad_operand}
-use Rattle.x86_groups.specs.Rows.{group_rows, two_byte_rows, three_byte_rows}
+use Rattle.x86_groups.specs.Groups.{group_plan, operandless, bad_operand}
+use Rattle.x86_groups.specs.Rows.{group_rows}
+use Rattle.x86_groups.proofs.RowLemmas.{chosen_alike}
 
--- ---- what the rows of 0F AE have, by what they go by
+-- ---- the rows of 0F AE
 
-abbrev NamesOne : ℕ → Type 0
-NamesOne reg = (reg ≡ 5) ⊎ ((reg ≡ 6) ⊎ (reg ≡ 7))
+-- a row that is chosen with rm 0, and unless the choice is strict with any other
+abbrev by_choice : Rm → Bool
+by_choice rms.ZeroIfStrict = true
+by_choice rm = false
 
-abbrev chosen_by : Bool → ℕ → Bool → Bool → Bool → Bool → ℕ → Bool → Bool → Content
-chosen_by strict rm f2 f3 word memory reg w r = choose (group_rows form.ModRM_0x0fae) (record { f2 = f2; f3 = f3; operand_size = word; w = w; r = r; strict = strict; memory = memory; reg = reg; rm = rm })
+fence_named : (m reg : ℕ) → reg_field m ≡ reg → not (name_at (0 ∷ 0 ∷ 0 ∷ 0 ∷ 0 ∷ LFENCE ∷ MFENCE ∷ SFENCE ∷ []) reg == 0) ≡ true → (o : ℕ) × NamesFence m o
+fence_named m (suc (suc (suc (suc (suc zero))))) e h = (LFENCE, lfence e)
+fence_named m (suc (suc (suc (suc (suc (suc zero)))))) e h = (MFENCE, mfence e)
+fence_named m (suc (suc (suc (suc (suc (suc (suc zero))))))) e h = (SFENCE, sfence e)
+fence_named m _ e h = absurd (true≢false (sym h))
 
--- a fence whose rm isn't 0
-record HasFence (rm : ℕ) (f2 f3 word memory : Bool) (reg : ℕ) : Type 0 where
-  no_f2 : f2 ≡ false
-  no_f3 : f3 ≡ false
-  no_66 : word ≡ false
-  register : memory ≡ false
-  named : NamesOne reg
-  other_rm : rm ≢ 0
+module _ (p : Prefixes) (m : ℕ) where
+  -- a row that is there under both choices or under neither
+  abbrev same_row : GroupRow → Bool
+  same_row row = not (by_choice row.at.rm) || ((rm_field m == 0) || not (is_there row false p m))
 
-fence_by : (n reg : ℕ) → NamesOne reg → HasFence (suc n) false false false false reg
-fence_by n reg named = record { no_f2 = refl; no_f3 = refl; no_66 = refl; register = refl; named = named; other_rm = λ e. cc }
+  row_same : (row : GroupRow) → same_row row ≡ true → is_there row true p m ≡ is_there row false p m
+  row_same row h = grind arith
 
-same_or_fence : (rm : ℕ) (f2 f3 word memory : Bool) (reg : ℕ) (w r : Bool) → (chosen_by true rm f2 f3 word memory reg w r ≡ chosen_by false rm f2 f3 word memory reg w r) ⊎ HasFence rm f2 f3 word memory reg
-unfolding group_rows two_byte_rows
-same_or_fence (suc n) false false false false (suc (suc (suc (suc (suc zero))))) w r = inr (fence_by n 5 (inl refl))
-same_or_fence (suc n) false false false false (suc (suc (suc (suc (suc (suc zero)))))) w r = inr (fence_by n 6 (inr (inl refl)))
-same_or_fence (suc n) false false false false (suc (suc (suc (suc (suc (suc (suc zero))))))) w r = inr (fence_by n 7 (inr (inr refl)))
-same_or_fence (suc n) false false false true _ _ _ = inl refl
-same_or_fence (suc n) _ _ _ _ _ _ _ = inl (rw (eqb-suc-zero n) refl)
-same_or_fence zero _ _ _ _ _ _ _ = inl refl
+  fence_of : list_all same_row (group_rows form.ModRM_0x0fae) ≡ false → IsFenceWithRm form.ModRM_0x0fae p m
+  unfolding group_rows
+  fence_of h =
+      let names = fence_named m (reg_field m) refl (grind arith) in
+      record { opcode = names.0; group = refl; no_f2 = grind arith; no_f3 = grind arith; no_66 = grind arith; register = grind arith; named = names.1; other_rm = grind arith }
 
-refused_by : (rm : ℕ) (f2 f3 word memory : Bool) (reg : ℕ) (w r : Bool) → f2 ≡ false → f3 ≡ false → word ≡ false → memory ≡ false → rm ≢ 0 → NamesOne reg → chosen_by true rm f2 f3 word memory reg w r ≡ Refuses BadOperand AtModRM
-unfolding group_rows two_byte_rows
-refused_by rm f2 f3 word memory reg w r a b c d other named = grind arith
-
--- ---- in the words of the contracts
-
-names_fence : (m : ℕ) → NamesOne (reg_field m) → (o : ℕ) × NamesFence m o
-names_fence m (inl e) = (LFENCE, lfence e)
-names_fence m (inr (inl e)) = (MFENCE, mfence e)
-names_fence m (inr (inr e)) = (SFENCE, sfence e)
-
-names_one : (m o : ℕ) → NamesFence m o → NamesOne (reg_field m)
-names_one m o (lfence e) = inl e
-names_one m o (mfence e) = inr (inl e)
-names_one m o (sfence e) = inr (inr e)
-
-pub form_other : (f : Form) (o : ℕ) (p : Prefixes) (m : ℕ) → (group_form_plan f o true p m ≡ group_form_plan f o false p m) ⊎ IsFenceWithRm f p m
-unfolding group_form_plan group_rows two_byte_rows three_byte_rows
-form_other form.ModRM_0x0fae o p m = elim (same_or_fence (rm_field m) (repnz p) (rep p) p.operand_size (is_memory m) (reg_field m) (has_w p) (has_r p)) [
-  | inl e ↦ inl (ap (λ content. plan_of_row content o p m) e)
-  | inr h ↦ let names = names_fence m h.named in inr (record { opcode = names.0; group = refl; no_f2 = h.no_f2; no_f3 = h.no_f3; no_66 = h.no_66; register = h.register; named = names.1; other_rm = h.other_rm })
+same_or_fence : (f : Form) (p : Prefixes) (m : ℕ) → (choose (group_rows f) true p m ≡ choose (group_rows f) false p m) ⊎ IsFenceWithRm f p m
+unfolding group_rows
+same_or_fence form.ModRM_0x0fae p m = elim (cases_Bool (list_all (same_row p m) (group_rows form.ModRM_0x0fae))) [
+  | inl e ↦ inl (chosen_alike (same_row p m) true false p p m m (row_same p m) (group_rows form.ModRM_0x0fae) e)
+  | inr e ↦ inr (fence_of p m e)
 ]
-form_other f o p m = inl refl
+same_or_fence f p m = inl refl
 
-module _ (f : Form) (own : ℕ) (p : Prefixes) (m : ℕ) (h : IsFenceWithRm f p m) where
-  by_name : (o : ℕ) → NamesFence m o → group_form_plan form.ModRM_0x0fae own false p m ≡ operandless o
-  unfolding group_form_plan group_rows two_byte_rows
-  by_name o (lfence e) = rw (h.no_f2, h.no_f3, h.no_66, h.register, e) (rw (h.register, e) refl)
-  by_name o (mfence e) = rw (h.no_f2, h.no_f3, h.no_66, h.register, e) (rw (h.register, e) refl)
-  by_name o (sfence e) = rw (h.no_f2, h.no_f3, h.no_66, h.register, e) (rw (h.register, e) refl)
-
-  pub fence_at : group_form_plan f own false p m ≡ operandless h.opcode
-  fence_at = ap (λ g. group_form_plan g own false p m) h.group ∙ by_name h.opcode h.named
-
-  pub refused_at : group_form_plan f own true p m ≡ bad_operand
-  unfolding group_form_plan
-  refused_at =
-      ap (λ g. group_form_plan g own true p m) h.group
-      ∙ ap (λ content. plan_of_row content own p m) (refused_by (rm_field m) (repnz p) (rep p) p.operand_size (is_memory m) (reg_field m) (has_w p) (has_r p) h.no_f2 h.no_f3 h.no_66 h.register h.other_rm (names_one m h.opcode h.named))
-
--- ---- rows
+-- ---- plans
 
 pub same_elsewhere : (row : TableRow) (p : Prefixes) (m : ℕ) → (group_plan row p m true ≡ group_plan row p m false) ⊎ IsFenceWithRm row.form p m
-same_elsewhere row p m = form_other row.form row.opcode p m
+unfolding group_plan
+same_elsewhere row p m = elim (same_or_fence row.form p m) [
+  | inl e ↦ inl (ap (λ content. plan_of_row content row.opcode p m) e)
+  | inr h ↦ inr h
+]
 
-pub fence_by_default : (row : TableRow) (p : Prefixes) (m : ℕ) (h : IsFenceWithRm row.form p m) → group_plan row p m false ≡ operandless h.opcode
-fence_by_default row p m h = fence_at row.form row.opcode p m h
+module _ (row : TableRow) (p : Prefixes) (m : ℕ) (h : IsFenceWithRm row.form p m) where
+  by_default : (o : ℕ) → NamesFence m o → plan_of_row (choose (group_rows form.ModRM_0x0fae) false p m) row.opcode p m ≡ operandless o
+  unfolding group_rows
+  by_default o (lfence e) = rw (h.no_f2, h.no_f3, h.no_66, h.register, e) (rw (h.register, e) refl)
+  by_default o (mfence e) = rw (h.no_f2, h.no_f3, h.no_66, h.register, e) (rw (h.register, e) refl)
+  by_default o (sfence e) = rw (h.no_f2, h.no_f3, h.no_66, h.register, e) (rw (h.register, e) refl)
 
-pub fence_strictly : (row : TableRow) (p : Prefixes) (m : ℕ) → IsFenceWithRm row.form p m → group_plan row p m true ≡ bad_operand
-fence_strictly row p m h = refused_at row.form row.opcode p m h
+  strictly : (o : ℕ) → NamesFence m o → choose (group_rows form.ModRM_0x0fae) true p m ≡ Refuses BadOperand AtModRM
+  unfolding group_rows
+  strictly o (lfence e) = rw (h.no_f2, h.no_f3, h.no_66, h.register, ne_eqb (rm_field m) 0 h.other_rm, e) refl
+  strictly o (mfence e) = rw (h.no_f2, h.no_f3, h.no_66, h.register, ne_eqb (rm_field m) 0 h.other_rm, e) refl
+  strictly o (sfence e) = rw (h.no_f2, h.no_f3, h.no_66, h.register, ne_eqb (rm_field m) 0 h.other_rm, e) refl
 
--- ---- what a group has is the same under both choices
+  pub fence_by_default : group_plan row p m false ≡ operandless h.opcode
+  unfolding group_plan
+  fence_by_default = ap (λ f. plan_of_row (choose (group_rows f) false p m) row.opcode p m) h.group ∙ by_default h.opcode h.named
 
-pub same_ask : (usage : ModrmUse) (at : ℕ) (f : Form) (o : ℕ) (strict : Bool) (p : Prefixes) (m : ℕ) → plan_ask usage at (group_form_plan f o strict p m) ≡ plan_ask usage at (group_form_plan f o false p m)
-same_ask usage at f o false p m = refl
-same_ask usage at f o true p m = elim (form_other f o p m) [
+  pub fence_strictly : group_plan row p m true ≡ bad_operand
+  unfolding group_plan
+  fence_strictly = ap (λ f. plan_of_row (choose (group_rows f) true p m) row.opcode p m) h.group ∙ ap (λ content. plan_of_row content row.opcode p m) (strictly h.opcode h.named)
+
+-- what a group has is the same under both choices
+pub same_ask : (usage : ModrmUse) (at : ℕ) (row : TableRow) (strict : Bool) (p : Prefixes) (m : ℕ) → plan_ask usage at (group_plan row p m strict) ≡ plan_ask usage at (group_plan row p m false)
+same_ask usage at row false p m = refl
+same_ask usage at row true p m = elim (same_elsewhere row p m) [
   | inl e ↦ ap (plan_ask usage at) e
-  | inr h ↦ ap (plan_ask usage at) (refused_at f o p m h) ∙ sym (ap (plan_ask usage at) (fence_at f o p m h))
+  | inr h ↦ ap (plan_ask usage at) (fence_strictly row p m h) ∙ sym (ap (plan_ask usage at) (fence_by_default row p m h))
 ]

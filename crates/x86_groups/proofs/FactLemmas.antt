@@ -8,7 +8,7 @@ use Rattle.x86_forms.specs.Groups.{is_group}
 use Rattle.x86_operands.proofs.PlanTests.{is_gap}
 use Rattle.x86_groups.specs.declared.letters.Letter.TheVariants as letter
 use Rattle.x86_groups.specs.declared.letters.Letters.TheVariants as letters
-use Rattle.x86_groups.specs.Rows.{group_rows, two_byte_rows, three_byte_rows}
+use Rattle.x86_groups.specs.Rows.{group_rows}
 use Rattle.x86_groups.proofs.RowLemmas.{is_register, no_rm_names, rm_free}
 
 abbrev pub letters_list : Letters → List Letter
@@ -49,7 +49,7 @@ abbrev pub row_fits : Bool → GroupRow → Bool
 row_fits gaps row = fits gaps row.content
 
 pub rows_fit : (f : Form) → list_all (row_fits (may_have_gap f)) (group_rows f) ≡ true
-unfolding group_rows two_byte_rows three_byte_rows
+unfolding group_rows
 rows_fit (form.Zv_R n) = refl
 rows_fit f = refl
 
@@ -72,14 +72,14 @@ in_memory (Reads names operands memory register change) = no_rm_names names && (
 in_memory (Refuses fault moment) = true
 
 abbrev pub row_in_memory : GroupRow → Bool
-row_in_memory row = is_register row.place || in_memory row.content
+row_in_memory row = is_register row.at.place || in_memory row.content
 
 pub rows_rm_free : (f : Form) → list_all rm_free (group_rows f) ≡ true
-unfolding group_rows two_byte_rows three_byte_rows
+unfolding group_rows
 rows_rm_free (form.Zv_R n) = refl
 rows_rm_free f = refl
 
 pub rows_in_memory : (f : Form) → list_all row_in_memory (group_rows f) ≡ true
-unfolding group_rows two_byte_rows three_byte_rows
+unfolding group_rows
 rows_in_memory (form.Zv_R n) = refl
 rows_in_memory f = refl

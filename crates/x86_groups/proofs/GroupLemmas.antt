@@ -10,21 +10,21 @@ use Rattle.x86_operands.specs.Asks.{immediates_width}
 use Rattle.x86_operands.specs.PlanSteps.{record_step}
 use Rattle.x86_operands.proofs.RowLemmas.{HasGap, row_left_out}
 use Rattle.x86_operands.proofs.PlanTests.{passes, without_gap, at_most_64, at_most_8}
-use Rattle.x86_groups.specs.Groups.{fault_f30f3af0, group_fault, group_form_plan, group_record}
+use Rattle.x86_groups.specs.Columns.{choose, plan_of_row}
+use Rattle.x86_groups.specs.Groups.{group_fault, group_plan, group_record}
 use Rattle.x86_groups.specs.Rows.{group_rows}
 use Rattle.x86_groups.proofs.FactLemmas.{is_8f, may_have_gap}
 use Rattle.x86_groups.proofs.PlanLemmas.{group_passes}
 
 pub group_small : (strict : Bool) (row : TableRow) (p : Prefixes) (m : ℕ) → ((group_record strict row p).plan m).size ≤ 64
 unfolding group_record
-group_small strict row p m = at_most_64 (may_have_gap row.form) (group_form_plan row.form row.opcode strict p m) (group_passes row.form row.opcode strict p m)
+group_small strict row p m = at_most_64 (may_have_gap row.form) (group_plan row p m strict) (group_passes row strict p m)
 
 pub group_narrow : (strict : Bool) (row : TableRow) (p : Prefixes) (m : ℕ) → immediates_width ((group_record strict row p).plan m).encodings ≤ 8
 unfolding group_record
-group_narrow strict row p m = at_most_8 (may_have_gap row.form) (group_form_plan row.form row.opcode strict p m) (group_passes row.form row.opcode strict p m)
+group_narrow strict row p m = at_most_8 (may_have_gap row.form) (group_plan row p m strict) (group_passes row strict p m)
 
 fault_of : (f : Form) (p : Prefixes) → group_fault f p ≢ Some Incomplete
-unfolding fault_f30f3af0
 fault_of f p e = grind arith
 
 pub no_fault : (strict : Bool) (row : TableRow) (p : Prefixes) → (group_record strict row p).at_opcode ≢ Some Incomplete
@@ -44,20 +44,20 @@ eight_f _ h = absurd (true≢false (sym h))
 pub gap_form : (strict : Bool) (row : TableRow) (p : Prefixes) (m : ℕ) (w : Moment) → is_group row.form ≡ true → ((group_record strict row p).plan m).verdict ≡ Refuses Incomplete w → row.form ≡ form.ModRM_0x8f
 unfolding group_record
 gap_form strict row p m w group e =
-    let h : (not (is_group row.form) || is_8f row.form) ≡ true = waits (may_have_gap row.form) (group_form_plan row.form row.opcode strict p m) w (group_passes row.form row.opcode strict p m) e in
+    let h : (not (is_group row.form) || is_8f row.form) ≡ true = waits (may_have_gap row.form) (group_plan row p m strict) w (group_passes row strict p m) e in
     eight_f row.form (rw group at h)
 
 abbrev is_reg_0 : ℕ → Bool
 is_reg_0 reg = nat_le 0 reg && (nat_le reg 0 && true)
 
-gap_8f : (o : ℕ) (strict : Bool) (p : Prefixes) (m : ℕ) (w : Moment) → (group_form_plan form.ModRM_0x8f o strict p m).verdict ≡ Refuses Incomplete w → (is_reg_0 (reg_field m) ≡ false) × (w ≡ AfterAddress)
-unfolding group_form_plan group_rows
+gap_8f : (o : ℕ) (strict : Bool) (p : Prefixes) (m : ℕ) (w : Moment) → (plan_of_row (choose (group_rows form.ModRM_0x8f) strict p m) o p m).verdict ≡ Refuses Incomplete w → (is_reg_0 (reg_field m) ≡ false) × (w ≡ AfterAddress)
+unfolding group_rows
 gap_8f o strict p m w e = (grind arith, grind arith)
 
 gap_in_8f : (strict : Bool) (row : TableRow) (p : Prefixes) (m : ℕ) (w : Moment) → is_group row.form ≡ true → ((group_record strict row p).plan m).verdict ≡ Refuses Incomplete w → (is_reg_0 (reg_field m) ≡ false) × (w ≡ AfterAddress)
-unfolding group_record
+unfolding group_record group_plan
 gap_in_8f strict row p m w group e =
-    gap_8f row.opcode strict p m w (subst (λ f. (group_form_plan f row.opcode strict p m).verdict ≡ Refuses Incomplete w) (gap_form strict row p m w group e) e)
+    gap_8f row.opcode strict p m w (subst (λ f. (plan_of_row (choose (group_rows f) strict p m) row.opcode p m).verdict ≡ Refuses Incomplete w) (gap_form strict row p m w group e) e)
 
 pub gap_reg : (strict : Bool) (row : TableRow) (p : Prefixes) (m : ℕ) (w : Moment) → is_group row.form ≡ true → ((group_record strict row p).plan m).verdict ≡ Refuses Incomplete w → reg_field m ≢ 0
 gap_reg strict row p m w group e z = absurd (true≢false (sym (ap is_reg_0 z) ∙ (gap_in_8f strict row p m w group e).0))

@@ -7,13 +7,13 @@ use Rattle.std.proofs.lemmas.Bool.{and_parts}
 use Rattle.x86_groups.specs.Vocabulary.{Prefixes, RegGroup, Size, reg_field, is_memory, Names, Own, Content, Reads, Refuses}
 use Rattle.x86_opcodes.specs.Names.{Invalid}
 use Rattle.x86_operands.specs.declared.encodings.RegGroup.TheVariants as group
+use Rattle.x86_operands.specs.FormEncodings.{group_form}
 use Rattle.x86_operands.specs.Encodings.{is_sound, size_bytes, is_described, plan_of}
 use Rattle.x86_groups.specs.declared.by_reg.RegLine.{RegLine}
 use Rattle.x86_groups.specs.declared.tables.TheConstants.{REG_LINES}
-use Rattle.x86_groups.specs.Columns.{choose, named, opcode_of, seen_at, plan_of_row}
-use Rattle.x86_groups.specs.Groups.{rows_plan}
+use Rattle.x86_groups.specs.Columns.{choose, named, opcode_of, plan_of_row}
 use Rattle.x86_groups.specs.Rows.{group_rows}
-use Rattle.x86_groups.specs.ByReg.{Chooses, has_either_form, reg_plan, reg_rows}
+use Rattle.x86_groups.specs.ByReg.{Chooses, has_either_form, reg_plan}
 use Rattle.x86_groups.proofs.RowLemmas.{chosen_has}
 
 -- ---- the lines
@@ -56,12 +56,16 @@ unfolding group_rows
 jump_by true d m n p r e = rw (r, e) (rw e refl)
 jump_by false d m n p r e = rw (r, e) (rw e refl)
 
+-- a line that leaves all to the rows
+by_rows : (g : RegGroup) (d : RegLine) (k : ℕ) → is_described (line_at (place_of g) k d).encoding.after_opcode ≡ false → Cell g d k
+by_rows g d k e m r is n p = absurd (true≢false (sym is ∙ e))
+
 pub cells : (g : RegGroup) (d : RegLine) (k : ℕ) → k < 8 → Cell g d k
 unfolding group_rows
-cells group.C6 d = below_8 (Cell group.C6 d) (λ m r is n p. rw (sized, r) refl) (λ m r is n p. absurd (true≢false (sym is))) (λ m r is n p. absurd (true≢false (sym is))) (λ m r is n p. absurd (true≢false (sym is))) (λ m r is n p. absurd (true≢false (sym is))) (λ m r is n p. absurd (true≢false (sym is))) (λ m r is n p. absurd (true≢false (sym is))) (λ m r is n p. absurd (true≢false (sym is)))
-cells group.C7 d = below_8 (Cell group.C7 d) (λ m r is n p. rw (sized, r) refl) (λ m r is n p. absurd (true≢false (sym is))) (λ m r is n p. absurd (true≢false (sym is))) (λ m r is n p. absurd (true≢false (sym is))) (λ m r is n p. absurd (true≢false (sym is))) (λ m r is n p. absurd (true≢false (sym is))) (λ m r is n p. absurd (true≢false (sym is))) (λ m r is n p. absurd (true≢false (sym is)))
-cells group.FE d = below_8 (Cell group.FE d) (λ m r is n p. rw (sized, r) (rw r refl)) (λ m r is n p. rw (sized, r) (rw r refl)) (λ m r is n p. absurd (true≢false (sym is))) (λ m r is n p. absurd (true≢false (sym is))) (λ m r is n p. absurd (true≢false (sym is))) (λ m r is n p. absurd (true≢false (sym is))) (λ m r is n p. absurd (true≢false (sym is))) (λ m r is n p. absurd (true≢false (sym is)))
-cells group.FF d = below_8 (Cell group.FF d) (λ m r is n p. rw (sized, r) (rw r refl)) (λ m r is n p. rw (sized, r) (rw r refl)) (λ m r is n p. rw (sized, r) refl) (λ m r is n p. absurd (true≢false (sym is))) (λ m r is n p. jump_by (is_memory m) d m n p r refl) (λ m r is n p. absurd (true≢false (sym is))) (λ m r is n p. push_by p.operand_size (is_memory m) d m n p r refl refl) (λ m r is n p. absurd (true≢false (sym is)))
+cells group.C6 d = below_8 (Cell group.C6 d) (λ m r is n p. rw (sized, r) refl) (by_rows group.C6 d 1 refl) (by_rows group.C6 d 2 refl) (by_rows group.C6 d 3 refl) (by_rows group.C6 d 4 refl) (by_rows group.C6 d 5 refl) (by_rows group.C6 d 6 refl) (by_rows group.C6 d 7 refl)
+cells group.C7 d = below_8 (Cell group.C7 d) (λ m r is n p. rw (sized, r) refl) (by_rows group.C7 d 1 refl) (by_rows group.C7 d 2 refl) (by_rows group.C7 d 3 refl) (by_rows group.C7 d 4 refl) (by_rows group.C7 d 5 refl) (by_rows group.C7 d 6 refl) (by_rows group.C7 d 7 refl)
+cells group.FE d = below_8 (Cell group.FE d) (λ m r is n p. rw (sized, r) (rw r refl)) (λ m r is n p. rw (sized, r) (rw r refl)) (by_rows group.FE d 2 refl) (by_rows group.FE d 3 refl) (by_rows group.FE d 4 refl) (by_rows group.FE d 5 refl) (by_rows group.FE d 6 refl) (by_rows group.FE d 7 refl)
+cells group.FF d = below_8 (Cell group.FF d) (λ m r is n p. rw (sized, r) (rw r refl)) (λ m r is n p. rw (sized, r) (rw r refl)) (λ m r is n p. rw (sized, r) refl) (by_rows group.FF d 3 refl) (λ m r is n p. jump_by (is_memory m) d m n p r refl) (by_rows group.FF d 5 refl) (λ m r is n p. push_by p.operand_size (is_memory m) d m n p r refl refl) (by_rows group.FF d 7 refl)
 cells g d = below_8 (Cell g d) (λ m r is n p. rw (sized, r) (rw r refl)) (λ m r is n p. rw (sized, r) (rw r refl)) (λ m r is n p. rw (sized, r) (rw r refl)) (λ m r is n p. rw (sized, r) (rw r refl)) (λ m r is n p. rw (sized, r) (rw r refl)) (λ m r is n p. rw (sized, r) (rw r refl)) (λ m r is n p. rw (sized, r) (rw r refl)) (λ m r is n p. rw (sized, r) (rw r refl))
 
 -- each line is sound, and has a ModRM byte of either form unless it leaves all to the rows
@@ -95,18 +99,19 @@ own_free : (content : Content) (a b : ℕ) (p : Prefixes) (m : ℕ) → no_own_c
 own_free (Reads names operands memory register change) a b p m h = rw (own_names names a b m h) refl
 own_free (Refuses fault moment) a b p m h = refl
 
-rows_no_own : (g : RegGroup) → list_all (λ row. no_own_content row.content) (reg_rows g) ≡ true
+rows_no_own : (g : RegGroup) → list_all (λ row. no_own_content row.content) (group_rows (group_form g)) ≡ true
 unfolding group_rows
 rows_no_own group.G80 = refl
 rows_no_own g = refl
 
-rows_choice : (g : RegGroup) (strict : Bool) (p : Prefixes) (m : ℕ) → choose (reg_rows g) (seen_at strict p m) ≡ choose (reg_rows g) (seen_at false p m)
+rows_choice : (g : RegGroup) (strict : Bool) (p : Prefixes) (m : ℕ) → choose (group_rows (group_form g)) strict p m ≡ choose (group_rows (group_form g)) false p m
 unfolding group_rows
 rows_choice group.G80 strict p m = refl
 rows_choice g strict p m = refl
 
-pub rows_reg_plan : (g : RegGroup) (o : ℕ) (strict : Bool) (p : Prefixes) (m : ℕ) → rows_plan (reg_rows g) o strict p m ≡ reg_plan g p m
-rows_reg_plan g o strict p m =
+pub plan_is : (g : RegGroup) (o : ℕ) (strict : Bool) (p : Prefixes) (m : ℕ) → plan_of_row (choose (group_rows (group_form g)) strict p m) o p m ≡ reg_plan g p m
+plan_is g o strict p m =
+    let rows = group_rows (group_form g) in
     ap (λ content. plan_of_row content o p m) (rows_choice g strict p m)
-    ∙ own_free (choose (reg_rows g) (seen_at false p m)) o Invalid p m
-    (chosen_has (λ content. no_own_content content ≡ true) (λ row. no_own_content row.content) (seen_at false p m) refl (λ row e h. e) (reg_rows g) (rows_no_own g))
+    ∙ own_free (choose rows false p m) o Invalid p m
+    (chosen_has (λ content. no_own_content content ≡ true) (λ row. no_own_content row.content) false p m refl (λ row e h. e) rows (rows_no_own g))

@@ -1,18 +1,18 @@
 -- The plan of a row: that it passes the tests of plans, and what it goes by in the memory form.
-use Rattle.std.proofs.Common.{◌&&◌, ◌≡◌, inl, inr, ◌≤◌, ℕ, nat_lt, Bool, true, false, not, ◌||◌, map, refl, sym, ap, ◌∙◌, arith, true≢false}
+use Rattle.std.proofs.Common.{◌&&◌, ◌≡◌, inl, inr, ◌≤◌, ℕ, nat_lt, Bool, true, not, ◌||◌, map, refl, sym, ap, ◌∙◌, arith, true≢false}
 use Rattle.std.specs.List.{list_all}
 use Rattle.std.proofs.lemmas.Bool.{and_parts, or_cases}
 use Rattle.std.proofs.lemmas.Bool.Decides.{nat_tests}
-use Rattle.x86_groups.specs.Vocabulary.{Prefixes, Width, Form, BadOpcode, AtModRM, reg_field, is_memory, has_r, has_w, repnz, rep, class_of, Letter, Letters, RowSize, Names, Content, Reads, Refuses}
+use Rattle.x86_groups.specs.Vocabulary.{Prefixes, Width, Form, TableRow, BadOpcode, AtModRM, reg_field, is_memory, class_of, Letter, Letters, RowSize, Names, Content, Reads, Refuses}
 use Rattle.x86_fields.specs.Pieces.{total}
 use Rattle.x86_operands.specs.Asks.{immediate_width}
 use Rattle.x86_operands.specs.Plans.{size_by}
 use Rattle.x86_operands.proofs.PlanTests.{passes, narrow, has_gap, is_gap, small_if, small_width, plan_passes}
 use Rattle.x86_groups.specs.declared.letters.Letters.TheVariants as letters
-use Rattle.x86_groups.specs.Columns.{choose, seen_at, letter_encoding, operand_encodings, row_bytes, verdict_of, opcode_of, plan_of_row}
-use Rattle.x86_groups.specs.Groups.{group_form_plan}
+use Rattle.x86_groups.specs.Columns.{choose, letter_encoding, operand_encodings, row_bytes, verdict_of, opcode_of, plan_of_row}
+use Rattle.x86_groups.specs.Groups.{group_plan}
 use Rattle.x86_groups.specs.Rows.{group_rows}
-use Rattle.x86_groups.proofs.RowLemmas.{AreAlike, chosen_has, chosen_alike, held_in_memory, is_register, no_rm_names, rm_free, row_absent}
+use Rattle.x86_groups.proofs.RowLemmas.{SamePrefixes, chosen_has, chosen_alike, there_alike, is_register, no_rm_names, rm_free, row_absent}
 use Rattle.x86_groups.proofs.FactLemmas.{letters_list, may_have_gap, most, small_bytes, fits, row_fits, rows_fit, rm_free_letter, in_memory, row_in_memory, rows_rm_free, rows_in_memory}
 
 -- ---- the tests of plans
@@ -43,20 +43,14 @@ content_passes gaps (Refuses fault moment) own p m h = let fits_here : (gaps || 
 blank_fits : (gaps : Bool) → fits gaps (Refuses BadOpcode AtModRM) ≡ true
 blank_fits gaps = grind arith
 
-pub group_passes : (f : Form) (o : ℕ) (strict : Bool) (p : Prefixes) (m : ℕ) → passes (may_have_gap f) (group_form_plan f o strict p m) ≡ true
-unfolding group_form_plan
-group_passes f o strict p m =
-    content_passes (may_have_gap f) (choose (group_rows f) (seen_at strict p m)) o p m
-    (chosen_has (λ content. fits (may_have_gap f) content ≡ true) (row_fits (may_have_gap f)) (seen_at strict p m) (blank_fits (may_have_gap f)) (λ row e h. e) (group_rows f) (rows_fit f))
+pub group_passes : (row : TableRow) (strict : Bool) (p : Prefixes) (m : ℕ) → passes (may_have_gap row.form) (group_plan row p m strict) ≡ true
+unfolding group_plan
+group_passes row strict p m =
+    let gaps = may_have_gap row.form in
+    content_passes gaps (choose (group_rows row.form) strict p m) row.opcode p m
+    (chosen_has (λ content. fits gaps content ≡ true) (row_fits gaps) strict p m (blank_fits gaps) (λ row e h. e) (group_rows row.form) (rows_fit row.form))
 
 -- ---- two ModRM bytes of the memory form that have the same reg, under prefixes that differ in X and B alone
-
-pub record SamePrefixes (p q : Prefixes) : Type 0 where
-  pub f2 : repnz p ≡ repnz q
-  pub f3 : rep p ≡ rep q
-  pub operand_size : p.operand_size ≡ q.operand_size
-  pub w : has_w p ≡ has_w q
-  pub r : has_r p ≡ has_r q
 
 class_alike : (w : Width) (p q : Prefixes) → SamePrefixes p q → class_of w p ≡ class_of w q
 class_alike w p q h = grind arith
@@ -95,17 +89,17 @@ module _ (p q : Prefixes) (m n : ℕ) (h : SamePrefixes p q) where
   content_alike (Refuses fault moment) own same mem e = refl
 
 -- in the memory form the first row refuses, or has a memory operand
-pub first_in_memory : (f : Form) (strict : Bool) (p : Prefixes) (m : ℕ) → is_memory m ≡ true → in_memory (choose (group_rows f) (seen_at strict p m)) ≡ true
+pub first_in_memory : (f : Form) (strict : Bool) (p : Prefixes) (m : ℕ) → is_memory m ≡ true → in_memory (choose (group_rows f) strict p m) ≡ true
 first_in_memory f strict p m mem =
-    chosen_has (λ content. in_memory content ≡ true) row_in_memory (seen_at strict p m) refl
-    (λ row test held. elim (or_cases (is_register row.place) (in_memory row.content) test) [
-      | inl is ↦ absurd (true≢false (sym held ∙ row_absent row (seen_at strict p m) is mem))
+    chosen_has (λ content. in_memory content ≡ true) row_in_memory strict p m refl
+    (λ row test held. elim (or_cases (is_register row.at.place) (in_memory row.content) test) [
+      | inl is ↦ absurd (true≢false (sym held ∙ row_absent row strict p m is mem))
       | inr e ↦ e
     ]) (group_rows f) (rows_in_memory f)
 
-pub plan_alike : (f : Form) (o : ℕ) (strict : Bool) (p q : Prefixes) (m n : ℕ) → SamePrefixes p q → is_memory m ≡ true → is_memory n ≡ true → reg_field m ≡ reg_field n → group_form_plan f o strict p m ≡ group_form_plan f o strict q n
-unfolding group_form_plan
-plan_alike f o strict p q m n h mm nm same =
-    let alike : AreAlike (seen_at strict p m) (seen_at strict q n) = record { f2 = h.f2; f3 = h.f3; operand_size = h.operand_size; w = h.w; r = h.r; memory = mm ∙ sym nm; reg = same } in
-    content_alike p q m n h (choose (group_rows f) (seen_at strict p m)) o same (mm ∙ sym nm) (first_in_memory f strict p m mm)
-    ∙ ap (λ content. plan_of_row content o q n) (chosen_alike rm_free (seen_at strict p m) (seen_at strict q n) (λ row free. held_in_memory row (seen_at strict p m) (seen_at strict q n) alike nm free) (group_rows f) (rows_rm_free f))
+pub plan_alike : (row : TableRow) (strict : Bool) (p q : Prefixes) (m n : ℕ) → SamePrefixes p q → is_memory m ≡ true → is_memory n ≡ true → reg_field m ≡ reg_field n → group_plan row p m strict ≡ group_plan row q n strict
+unfolding group_plan
+plan_alike row strict p q m n h mm nm same =
+    let rows = group_rows row.form in
+    content_alike p q m n h (choose rows strict p m) row.opcode same (mm ∙ sym nm) (first_in_memory row.form strict p m mm)
+    ∙ ap (λ content. plan_of_row content row.opcode q n) (chosen_alike rm_free strict strict p q m n (there_alike p q m n h mm nm same strict) rows (rows_rm_free row.form))

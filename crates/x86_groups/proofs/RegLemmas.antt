@@ -8,15 +8,15 @@ use Rattle.x86_forms.specs.Groups.{is_group}
 use Rattle.x86_operands.specs.PlanSteps.{read_modrm, read_plan, record_step}
 use Rattle.x86_forms.specs.Words.{carried}
 use Rattle.x86_operands.specs.FormEncodings.{group_form}
-use Rattle.x86_groups.specs.Groups.{group_fault, group_form_plan, group_modrm, group_plan, group_record, rows_plan}
+use Rattle.x86_groups.specs.Groups.{group_fault, group_modrm, group_plan, group_record}
+use Rattle.x86_groups.specs.Columns.{choose, plan_of_row}
 use Rattle.x86_groups.specs.Rows.{group_rows}
 use Rattle.x86_groups.specs.ByReg.{reg_plan}
-use Rattle.x86_groups.proofs.LineLemmas.{rows_reg_plan}
+use Rattle.x86_groups.proofs.LineLemmas.{plan_is}
 
 pub reg_chosen : (g : RegGroup) (strict : Bool) (row : TableRow) (p : Prefixes) (m : ℕ) → row.form ≡ group_form g → group_plan row p m strict ≡ reg_plan g p m
-unfolding group_form_plan
-reg_chosen g strict row p m e =
-    ap (λ f. rows_plan (group_rows f) row.opcode strict p m) e ∙ rows_reg_plan g row.opcode strict p m
+unfolding group_plan
+reg_chosen g strict row p m e = ap (λ f. plan_of_row (choose (group_rows f) strict p m) row.opcode p m) e ∙ plan_is g row.opcode strict p m
 
 pub reg_form : (g : RegGroup) (f : Form) → f ≡ group_form g → (is_group f ≡ true) × (carried f ≡ 0) × (group_modrm f ≡ EitherForm)
 reg_form group.G80 f e = rw e (refl, refl, refl)

@@ -1,21 +1,18 @@
 -- Groups of which reg alone chooses rows.
-use Rattle.std.specs.Prelude.{ℕ, Bool, true, false, ◌≡◌, IsTrue, List}
-use Rattle.x86_groups.specs.Vocabulary.{EitherForm, Reading, Prefixes, Plan, RegGroup, FormEncoding, AfterOpcode, GroupRow}
+use Rattle.std.specs.Prelude.{ℕ, Bool, true, false, ◌≡◌, IsTrue}
+use Rattle.x86_groups.specs.Vocabulary.{EitherForm, Reading, Prefixes, Plan, RegGroup, FormEncoding, AfterOpcode}
 use Rattle.x86_opcodes.specs.Names.{Invalid}
 use Rattle.x86_fields.specs.Steps.{Step, ◌>>=◌}
 use Rattle.x86_operands.specs.PlanSteps.{read_modrm, read_plan}
 use Rattle.x86_operands.specs.declared.encodings.AfterOpcode.TheVariants as after_opcode
 use Rattle.x86_operands.specs.Encodings.{plan_of, is_described}
-use Rattle.x86_groups.specs.Groups.{rows_plan}
+use Rattle.x86_groups.specs.Columns.{choose, plan_of_row}
 use Rattle.x86_groups.specs.Rows.{group_rows}
 use Rattle.x86_operands.specs.FormEncodings.{group_form}
 
-abbrev pub reg_rows : RegGroup → List GroupRow
-reg_rows g = group_rows (group_form g)
-
 -- the plan of a group, which goes neither by the opcode of the row in the opcode map nor by the choice
 abbrev pub reg_plan : RegGroup → Prefixes → ℕ → Plan
-reg_plan g p m = rows_plan (reg_rows g) Invalid false p m
+reg_plan g p m = plan_of_row (choose (group_rows (group_form g)) false p m) Invalid p m
 
 -- a line of the table is the plan of the group, unless it leaves it to the rows
 abbrev pub Chooses : RegGroup → ℕ → ℕ → FormEncoding → Type 0

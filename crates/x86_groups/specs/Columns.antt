@@ -2,7 +2,7 @@
 -- there: a name and operands, or a refusal. The first row that holds counts. Source: Intel SDM volume 2, appendix A.2
 -- (the letters of operands) and A.4 (the columns of its tables of opcode extensions).
 use Rattle.std.specs.Prelude.{ℕ, nat_le, ◌==◌, Bool, true, not, ◌&&◌, ◌||◌, if◌then◌else◌, List, [], ◌∷◌, slice_index_or, unwrap_or, pos}
-use Rattle.x86_groups.specs.Vocabulary.{RegisterClass, Prefixes, BadOpcode, AtModRM, OperandEncoding, OperandEncodings, Plan, Verdict, width_of, reg_spec, reg_field, rm_field, is_memory, operand_size, has_r, has_w, repnz, rep, class_of, v_class, ByReg, ByRm, BySuffix, Bytes, Content, Either, GroupRow, Letter, Letters, Memory, Name, Names, Of, Own, Place, Reads, Refuses, Register, Rm, RowSize, Seen, When}
+use Rattle.x86_groups.specs.Vocabulary.{Prefixes, BadOpcode, AtModRM, OperandEncoding, OperandEncodings, Plan, Verdict, width_of, reg_spec, reg_field, rm_field, is_memory, operand_size, has_r, has_w, repnz, rep, class_of, v_class, ByReg, ByRm, BySuffix, Bytes, Content, Either, GroupRow, Letter, Letters, Memory, Name, Names, Of, Own, Place, Reads, Refuses, Register, Rm, RowSize, When}
 use Rattle.x86_regs.specs.declared.RegisterClass.TheVariants as class
 use Rattle.x86_opcodes.specs.Names.{Invalid}
 use Rattle.x86_opcodes.specs.Numbers.{opcode_numbered}
@@ -18,51 +18,57 @@ use Rattle.x86_groups.specs.declared.rows.Rm.TheVariants as rms
 
 -- ---- where a row is
 
--- what rows go by
-abbrev pub seen_at : Bool → Prefixes → ℕ → Seen
-seen_at strict p m = record { f2 = repnz p; f3 = rep p; operand_size = operand_size p; w = has_w p; r = has_r p; strict = strict; memory = is_memory m; reg = reg_field m; rm = rm_field m }
+-- the memory forms of ModRM, the register forms, and both
+abbrev pub is_placed : Place → ℕ → Bool
+is_placed Memory m = is_memory m
+is_placed Register m = not (is_memory m)
+is_placed Either m = true
 
--- M: the memory forms of ModRM, R: the register forms, neither letter: both
-abbrev pub is_placed : Place → Seen → Bool
-is_placed Memory seen = seen.memory
-is_placed Register seen = not seen.memory
-is_placed Either seen = true
-
-abbrev pub is_rm : Rm → Seen → Bool
-is_rm rms.Any seen = true
-is_rm (rms.Is n) seen = seen.rm == n
-is_rm rms.ZeroIfStrict seen = not seen.strict || (seen.rm == 0)
+abbrev pub is_rm : Rm → Bool → ℕ → Bool
+is_rm rms.Any strict m = true
+is_rm (rms.Is n) strict m = rm_field m == n
+is_rm rms.ZeroIfStrict strict m = not strict || (rm_field m == 0)
 
 -- Intel's columns of the mandatory prefix, and three more for rows that 66, W or R chooses alone
-abbrev pub is_prefixed : When → Seen → Bool
-is_prefixed when.Always seen = true
-is_prefixed when.NoPrefix seen = not seen.f2 && (not seen.f3 && not seen.operand_size)
-is_prefixed when.NoRepeat seen = not seen.f2 && not seen.f3
-is_prefixed when.Only66 seen = not seen.f2 && (not seen.f3 && seen.operand_size)
-is_prefixed when.F2 seen = seen.f2
-is_prefixed when.F3 seen = seen.f3
-is_prefixed when.With66 seen = seen.operand_size
-is_prefixed when.F3With66 seen = seen.f3 && seen.operand_size
-is_prefixed when.RexW seen = seen.w
-is_prefixed when.RexR seen = seen.r
+abbrev pub is_prefixed : When → Prefixes → Bool
+is_prefixed when.Always p = true
+is_prefixed when.NoPrefix p = not (repnz p) && (not (rep p) && not (operand_size p))
+is_prefixed when.NoRepeat p = not (repnz p) && not (rep p)
+is_prefixed when.Only66 p = not (repnz p) && (not (rep p) && operand_size p)
+is_prefixed when.F2 p = repnz p
+is_prefixed when.F3 p = rep p
+is_prefixed when.With66 p = operand_size p
+is_prefixed when.F3With66 p = rep p && operand_size p
+is_prefixed when.RexW p = has_w p
+is_prefixed when.RexR p = has_r p
 
--- ---- names
-
-abbrev pub name_at : List ℕ → ℕ → ℕ
-name_at names n = slice_index_or names n 0
-
--- a list of eight names has none at `none`, and there its row isn't
+-- the name at an index; a list of eight names has `none` where the row isn't
 abbrev pub none : ℕ
 none = 0
 
-abbrev pub is_named_by : Names → Seen → Bool
-is_named_by (ByReg names) seen = not (name_at names seen.reg == 0)
-is_named_by (ByRm names) seen = not (name_at names seen.rm == 0)
-is_named_by names seen = true
+abbrev pub name_at : List ℕ → ℕ → ℕ
+name_at names n = slice_index_or names n none
 
-abbrev pub is_named : Content → Seen → Bool
-is_named (Reads names operands memory register change) seen = is_named_by names seen
-is_named (Refuses fault moment) seen = true
+abbrev pub is_named : Content → ℕ → Bool
+is_named (Reads (ByReg names) operands memory register change) m = not (name_at names (reg_field m) == none)
+is_named (Reads (ByRm names) operands memory register change) m = not (name_at names (rm_field m) == none)
+is_named content m = true
+
+abbrev pub is_there : GroupRow → Bool → Prefixes → ℕ → Bool
+is_there row strict p m =
+    is_placed row.at.place m
+    && (nat_le row.at.first (reg_field m)
+    && (nat_le (reg_field m) row.at.last
+    && (is_rm row.at.rm strict m
+    && (is_prefixed row.when p
+    && is_named row.content m))))
+
+-- what the first row has that is there; where none is, the opcode is refused
+abbrev pub choose : List GroupRow → Bool → Prefixes → ℕ → Content
+choose [] strict p m = Refuses BadOpcode AtModRM
+choose (row ∷ rest) strict p m = if is_there row strict p m then row.content else choose rest strict p m
+
+-- ---- the opcode
 
 -- the opcode of a number in a table; one that no name has is Invalid
 abbrev pub named : ℕ → ℕ
@@ -76,22 +82,7 @@ opcode_of (Name n) own m = named n
 opcode_of (ByReg names) own m = named (name_at names (reg_field m))
 opcode_of (ByRm names) own m = named (name_at names (rm_field m))
 
--- ---- the first row that holds
-
-abbrev pub is_there : GroupRow → Seen → Bool
-is_there row seen = is_placed row.place seen && (nat_le row.first seen.reg && (nat_le seen.reg row.last && (is_rm row.rm seen && (is_prefixed row.when seen && is_named row.content seen))))
-
--- where no row holds, the opcode is refused
-abbrev pub choose : List GroupRow → Seen → Content
-choose [] seen = Refuses BadOpcode AtModRM
-choose (row ∷ rest) seen = if is_there row seen then row.content else choose rest seen
-
 -- ---- operands
-
--- a distance of v: 2 bytes, or 4
-abbrev pub distance_of : RegisterClass → OperandEncoding
-distance_of class.W = encoding.I32From16
-distance_of c = encoding.I32
 
 abbrev pub letter_encoding : Letter → Prefixes → ℕ → OperandEncoding
 letter_encoding (letter.E w) p m = encoding.E (class_of w p)
@@ -107,7 +98,7 @@ letter_encoding letter.I8 p m = encoding.I8
 letter_encoding letter.U8 p m = encoding.U8
 letter_encoding letter.X8 p m = encoding.X8
 letter_encoding letter.Iv p m = immediate_of (v_class p)
-letter_encoding letter.Jv p m = distance_of (v_class p)
+letter_encoding letter.Jv p m = if operand_size p && not (has_w p) then encoding.I32From16 else encoding.I32
 letter_encoding letter.SignedOne p m = encoding.ConstantI8 (pos 1)
 letter_encoding (letter.Implied at n c) p m = encoding.Fixed at (reg_spec n c)
 letter_encoding letter.StRm p m = encoding.Fixed slot.Rm (reg_spec (rm_field m) class.ST)

@@ -1,13 +1,13 @@
 -- The records of the groups: forms of which ModRM or a suffix chooses the operation. Source: Intel SDM volume 2,
 -- appendix A.4.
-use Rattle.std.specs.Prelude.{ℕ, Bool, true, false, not, ◌&&◌, if◌then◌else◌, Option, Some, None, is_some, List}
+use Rattle.std.specs.Prelude.{ℕ, Bool, true, false, not, ◌&&◌, if◌then◌else◌, Option, Some, None, is_some}
 use Rattle.x86_regs.specs.declared.Segment.{Segment}
 use Rattle.x86_regs.specs.declared.Segment.TheVariants.{DS}
-use Rattle.x86_groups.specs.Vocabulary.{Prefixes, Fault, BadOpcode, BadOperand, AtModRM, ModrmUse, EitherForm, Registers, Zero, Plan, Form, TableRow, rep, GroupRow}
+use Rattle.x86_groups.specs.Vocabulary.{Prefixes, Fault, BadOpcode, BadOperand, AtModRM, ModrmUse, EitherForm, Registers, Zero, Plan, Form, TableRow, rep}
 use Rattle.x86_fields.specs.Prefixes.{operand_size, address_size, lock, segment, rex}
 use Rattle.x86_operands.specs.Plans.{RowRecord, reads, refuses}
 use Rattle.x86_forms.specs.declared.Form.TheVariants as form
-use Rattle.x86_groups.specs.Columns.{choose, plan_of_row, seen_at}
+use Rattle.x86_groups.specs.Columns.{choose, plan_of_row}
 use Rattle.x86_groups.specs.Rows.{group_rows}
 
 -- ---- at the opcode, and ModRM
@@ -18,17 +18,13 @@ is_no_override DS = true
 is_no_override s = false
 
 -- F3 is in force, and nothing else: no 66, 67, LOCK, FS, GS or live REX
-abbrev pub is_f3_alone : Prefixes → Bool
+unfoldable pub is_f3_alone : Prefixes → Bool
 is_f3_alone p =
     rep p && not (operand_size p) && not (address_size p) && not (lock p) && is_no_override (segment p) && not (is_some (rex p))
 
--- Source: Intel SDM volume 2, HRESET
-unfoldable pub fault_f30f3af0 : Prefixes → Option Fault
-fault_f30f3af0 p = if is_f3_alone p then None else Some BadOpcode
-
--- HRESET alone refuses at the opcode
+-- HRESET alone refuses at the opcode. Source: Intel SDM volume 2, HRESET
 abbrev pub group_fault : Form → Prefixes → Option Fault
-group_fault form.ModRM_0xf30f3af0 p = fault_f30f3af0 p
+group_fault form.ModRM_0xf30f3af0 p = if is_f3_alone p then None else Some BadOpcode
 group_fault f p = None
 
 -- mod isn't looked at in moves from and to control and debug registers
@@ -39,19 +35,12 @@ group_modrm form.Cq_Rq_0 = Registers
 group_modrm form.Dq_Rq_0 = Registers
 group_modrm f = EitherForm
 
--- ---- the plan of a form under the prefixes, at a ModRM byte
+-- ---- the plan and the record of a row whose form is a group
 
--- what a group has by its rows, with the opcode of the row in the opcode map and the choice
-abbrev pub rows_plan : List GroupRow → ℕ → Bool → Prefixes → ℕ → Plan
-rows_plan rows o strict p m = plan_of_row (choose rows (seen_at strict p m)) o p m
+-- under the prefixes, at a ModRM byte and under the choice
+unfoldable pub group_plan : TableRow → Prefixes → ℕ → Bool → Plan
+group_plan row p m strict = plan_of_row (choose (group_rows row.form) strict p m) row.opcode p m
 
-unfoldable pub group_form_plan : Form → ℕ → Bool → Prefixes → ℕ → Plan
-group_form_plan f o strict p m = rows_plan (group_rows f) o strict p m
-
-abbrev pub group_plan : TableRow → Prefixes → ℕ → Bool → Plan
-group_plan row p m strict = group_form_plan row.form row.opcode strict p m
-
--- the record of a row whose form is a group, under the choice
 unfoldable pub group_record : Bool → TableRow → Prefixes → RowRecord
 group_record strict row p = record { at_opcode = group_fault row.form p; modrm = group_modrm row.form; plan = λ m. group_plan row p m strict }
 

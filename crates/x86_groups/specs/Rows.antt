@@ -1,68 +1,56 @@
--- The groups: a row a line, as Intel SDM volume 2, appendix A.4 prints them; where another source has a group, it is
--- named. The first row that holds counts. The columns: where (mem the memory forms of ModRM, reg the register forms,
--- both; at a reg, or at a reg and an rm), the prefixes, the name or the names of eight regs or rms (`none` where the row
--- isn't), the operands, and the memory size (in the memory form, and in the register form). A row that is refused has
--- the error and the moment after which it comes.
--- specs/Words.antt has the words, and specs/Columns.antt what they mean.
+-- The groups: a row a line, as Intel SDM volume 2, appendix A.4 prints them, or the source that is named. The first row
+-- that is there counts. The columns: where (mem the memory forms of ModRM, reg the register forms, both; at a reg, or at
+-- a reg and an rm), the prefixes, the name or the names of eight regs or rms (`none` where the row isn't), the operands,
+-- and the memory size (of the memory form, and of the register form). A row that is refused has the error and the moment
+-- after which it comes. specs/Words.antt has the words, and specs/Columns.antt what they mean.
 use Rattle.std.specs.Prelude.{List, [], ◌∷◌}
 use Rattle.x86_opcodes.specs.Names.{ADC, ADD, AESDEC128KL, AESDEC256KL, AESDECWIDE128KL, AESDECWIDE256KL, AESENC128KL, AESENC256KL, AESENCWIDE128KL, AESENCWIDE256KL, AND, BT, BTC, BTR, BTS, CALL, CALLF, CLAC, CLFLUSH, CLFLUSHOPT, CLGI, CLRSSBSY, CLUI, CLWB, CLZERO, CMP, CMPXCHG16B, CMPXCHG8B, DEC, DIV, ENCLS, ENCLU, ENCLV, ENCODEKEY128, ENCODEKEY256, ENDBR32, ENDBR64, EXTRQ, F2XM1, FABS, FADD, FADDP, FBLD, FBSTP, FCHS, FCMOVB, FCMOVBE, FCMOVE, FCMOVNB, FCMOVNBE, FCMOVNE, FCMOVNU, FCMOVU, FCOM, FCOMI, FCOMIP, FCOMP, FCOMPP, FCOS, FDECSTP, FDISI8087_NOP, FDIV, FDIVP, FDIVR, FDIVRP, FENI8087_NOP, FFREE, FFREEP, FIADD, FICOM, FICOMP, FIDIV, FIDIVR, FILD, FIMUL, FINCSTP, FIST, FISTP, FISTTP, FISUB, FISUBR, FLD, FLD1, FLDCW, FLDENV, FLDL2E, FLDL2T, FLDLG2, FLDLN2, FLDPI, FLDZ, FMUL, FMULP, FNCLEX, FNINIT, FNOP, FNSAVE, FNSTCW, FNSTENV, FNSTSW, FPATAN, FPREM, FPREM1, FPTAN, FRNDINT, FRSTOR, FSCALE, FSETPM287_NOP, FSIN, FSINCOS, FSQRT, FST, FSTP, FSTPNCE, FSUB, FSUBP, FSUBR, FSUBRP, FTST, FUCOM, FUCOMI, FUCOMIP, FUCOMP, FUCOMPP, FXAM, FXCH, FXRSTOR, FXSAVE, FXTRACT, FYL2X, FYL2XP1, HRESET, IDIV, IMUL, INC, INCSSP, INSERTQ, INVLPG, INVLPGA, INVLPGB, JMP, JMPF, LDMXCSR, LFENCE, LGDT, LIDT, LLDT, LMSW, LOADIWKEY, LTR, MFENCE, MONITOR, MONITORX, MOV, MOVHLPS, MOVHPS, MOVLHPS, MOVLPS, MUL, MWAIT, MWAITX, NEG, NOP, NOT, OR, PCONFIG, POP, PREFETCH0, PREFETCH1, PREFETCH2, PREFETCHNTA, PREFETCHW, PSLLD, PSLLDQ, PSLLQ, PSLLW, PSMASH, PSRAD, PSRAW, PSRLD, PSRLDQ, PSRLQ, PSRLW, PTWRITE, PUSH, PVALIDATE, RCL, RCR, RDFSBASE, RDGSBASE, RDPID, RDPKRU, RDPRU, RDRAND, RDSEED, RDTSCP, RMPADJUST, RMPUPDATE, ROL, ROR, RSTORSSP, SAL, SAR, SAVEPREVSSP, SBB, SEAMCALL, SEAMOPS, SEAMRET, SENDUIPI, SETSSBSY, SFENCE, SGDT, SHL, SHR, SIDT, SKINIT, SLDT, SMSW, STAC, STGI, STMXCSR, STR, STUI, SUB, SWAPGS, TDCALL, TEST, TESTUI, TLBSYNC, TPAUSE, UIRET, UMONITOR, UMWAIT, VERR, VERW, VMCALL, VMCLEAR, VMFUNC, VMLAUNCH, VMLOAD, VMMCALL, VMPTRLD, VMPTRST, VMRESUME, VMRUN, VMSAVE, VMXOFF, VMXON, WRFSBASE, WRGSBASE, WRPKRU, XABORT, XBEGIN, XEND, XGETBV, XOR, XRESLDTRK, XRSTOR, XRSTORS, XRSTORS64, XSAVE, XSAVEC, XSAVEC64, XSAVEOPT, XSAVES, XSAVES64, XSETBV, XSUSLDTRK, XTEST}
 use Rattle.x86_fields.specs.declared.sizes.Width.TheVariants.{B, W, D, Q, X, V, Vq, Dq}
-use Rattle.x86_groups.specs.Vocabulary.{Form, BadOpcode, BadOperand, Incomplete, AtModRM, AfterAddress, Own, BySuffix, Name, GroupRow}
+use Rattle.x86_groups.specs.Vocabulary.{Form, BadOpcode, BadOperand, Incomplete, AtModRM, AfterAddress, ClearsOperandSize, Register, Own, BySuffix, Name, Bytes, Of, GroupRow}
 use Rattle.x86_forms.specs.declared.Form.TheVariants as form
 use Rattle.x86_groups.specs.declared.letters.Letter.TheVariants.{E, G, U, M, Gmm, Emm, Umm, Cr, Dr, I8, U8, X8, Iv, Jv, SignedOne, StRm, RdInReg}
 use Rattle.x86_groups.specs.declared.letters.Letters.TheVariants.{Zero, One, Two, Three, Four}
 use Rattle.x86_groups.specs.declared.rows.When.TheVariants.{Always, NoPrefix, NoRepeat, Only66, F2, F3, With66, F3With66, RexW, RexR}
+use Rattle.x86_groups.specs.declared.rows.Rm.TheVariants.{Any, Is, ZeroIfStrict}
 use Rattle.x86_groups.specs.Columns.{none}
-use Rattle.x86_groups.specs.Words.{mem, reg, both, mem_at, reg_at, both_at, reg_from, reg_rm, reg_any_rm, reg_zero, by_reg, by_rm, cl, rax, eax, ecx, st0, ecx_in_rm, edx_in_rm, ecx_third, sizes, bytes, v, y, vq, size, size_v, undecided, read, read_without_66, refusal, otherwise}
+use Rattle.x86_groups.specs.Words.{at, mem, reg, both, mem_at, reg_at, both_at, reg_rm, by_reg, by_rm, cl, rax, eax, ecx, st0, ecx_in_rm, edx_in_rm, ecx_third, size, size_v, undecided, read, changing, refusal, otherwise}
 
--- ---- maps 0F38 and 0F3A. Of the groups none is left to the last line, for forms that have no rows
-
-unfoldable pub three_byte_rows : Form → List GroupRow
--- F3 0F 38 D8: Key Locker, AESENCWIDE128KL and its neighbours
-three_byte_rows form.ModRM_0xf30f38d8 =
+-- of the groups none is left to the last line, for forms that have no rows
+unfoldable pub group_rows : Form → List GroupRow
+-- maps 0F38 and 0F3A: Key Locker
+group_rows form.ModRM_0xf30f38d8 =
     read mem Always (by_reg AESENCWIDE128KL AESDECWIDE128KL none none none none none none) (One M) (size 48) ∷
     read mem Always (by_reg none none AESENCWIDE256KL AESDECWIDE256KL none none none none) (One M) (size 64) ∷
     refusal mem Always BadOpcode AfterAddress ∷
     otherwise BadOperand AtModRM ∷ []
--- F3 0F 38 DC: AESENC128KL, LOADIWKEY
-three_byte_rows form.ModRM_0xf30f38dc =
+group_rows form.ModRM_0xf30f38dc =
     read mem Always (Name AESENC128KL) (Two (G X) (E X)) (size 48) ∷
     read reg Always (Name LOADIWKEY) (Two (G X) (E X)) size_v ∷ []
--- F3 0F 38 DD: AESDEC128KL
-three_byte_rows form.ModRM_0xf30f38dd =
+group_rows form.ModRM_0xf30f38dd =
     read mem Always (Name AESDEC128KL) (Two (G X) M) (size 48) ∷
     otherwise BadOperand AtModRM ∷ []
--- F3 0F 38 DE: AESENC256KL
-three_byte_rows form.ModRM_0xf30f38de =
+group_rows form.ModRM_0xf30f38de =
     read mem Always (Name AESENC256KL) (Two (G X) M) (size 64) ∷
     otherwise BadOperand AtModRM ∷ []
--- F3 0F 38 DF: AESDEC256KL
-three_byte_rows form.ModRM_0xf30f38df =
+group_rows form.ModRM_0xf30f38df =
     read mem Always (Name AESDEC256KL) (Two (G X) M) (size 64) ∷
     otherwise BadOperand AtModRM ∷ []
--- F3 0F 38 FA: ENCODEKEY128
-three_byte_rows form.ModRM_0xf30f38fa =
+group_rows form.ModRM_0xf30f38fa =
     read reg Always (Name ENCODEKEY128) (Two (G D) (U D)) size_v ∷
     otherwise BadOpcode AfterAddress ∷ []
--- F3 0F 38 FB: ENCODEKEY256
-three_byte_rows form.ModRM_0xf30f38fb =
+group_rows form.ModRM_0xf30f38fb =
     read reg Always (Name ENCODEKEY256) (Two (G D) (U D)) size_v ∷
     otherwise BadOpcode AfterAddress ∷ []
--- F3 0F 3A F0: HRESET, which needs F3 as the only prefix (group_fault)
-three_byte_rows form.ModRM_0xf30f3af0 =
+-- HRESET, which needs F3 as the only prefix (group_fault)
+group_rows form.ModRM_0xf30f3af0 =
     read reg Always (Name HRESET) (One U8) (size 0) ∷
     otherwise BadOpcode AtModRM ∷ []
-three_byte_rows f = otherwise Incomplete AtModRM ∷ []
-
--- ---- map 0F
-
-unfoldable pub two_byte_rows : Form → List GroupRow
--- 0F 00: group 6
-two_byte_rows form.ModRM_0x0f00 =
-    read both Always (by_reg SLDT STR LLDT LTR VERR VERW none none) (One (E W)) (sizes (bytes 2) (bytes 0)) ∷
+-- map 0F: group 6
+group_rows form.ModRM_0x0f00 =
+    read both Always (by_reg SLDT STR LLDT LTR VERR VERW none none) (One (E W)) (Bytes 2, Bytes 0) ∷
     otherwise BadOperand AtModRM ∷ []
--- 0F 01: group 7, and AMD APM volume 3, appendix A
-two_byte_rows form.ModRM_0x0f01 =
+-- group 7, and AMD APM volume 3, appendix A
+group_rows form.ModRM_0x0f01 =
     read (mem_at 0) Always (Name SGDT) (One M) (size 10) ∷
     read (mem_at 1) Always (Name SIDT) (One M) (size 10) ∷
     read (mem_at 2) Always (Name LGDT) (One M) (size 10) ∷
@@ -99,90 +87,87 @@ two_byte_rows form.ModRM_0x0f01 =
     read (reg_rm 7 6) Always (Name INVLPGB) (Three rax edx_in_rm ecx_third) (size 0) ∷
     read (reg_rm 7 7) Always (Name TLBSYNC) Zero (size 0) ∷
     otherwise BadOpcode AtModRM ∷ []
--- 0F 0D: AMD APM volume 3, PREFETCH
-two_byte_rows form.ModRM_0x0f0d =
+-- AMD APM volume 3, PREFETCH
+group_rows form.ModRM_0x0f0d =
     read (mem_at 1) Always (Name PREFETCHW) (One M) (size 64) ∷
     read mem Always (Name NOP) (One M) (size 64) ∷
     otherwise BadOperand AtModRM ∷ []
--- 0F 0F: 3DNow, whose last byte names the operation. AMD APM volume 3, appendix A.1.2
-two_byte_rows form.ModRM_0x0f0f = read both Always BySuffix (Two Gmm Emm) (sizes (bytes 8) v) ∷ []
--- 0F 12 without a prefix: MOVLPS, MOVHLPS
-two_byte_rows form.ModRM_0x0f12 =
+-- 3DNow, whose last byte names the operation. AMD APM volume 3, appendix A.1.2
+group_rows form.ModRM_0x0f0f = read both Always BySuffix (Two Gmm Emm) (Bytes 8, Of V) ∷ []
+-- 0F 12 and 0F 16 without a prefix
+group_rows form.ModRM_0x0f12 =
     read mem Always (Name MOVLPS) (Two (G X) (E X)) (size 8) ∷
     read reg Always (Name MOVHLPS) (Two (G X) (E X)) size_v ∷ []
--- 0F 16 without a prefix: MOVHPS, MOVLHPS
-two_byte_rows form.ModRM_0x0f16 =
+group_rows form.ModRM_0x0f16 =
     read mem Always (Name MOVHPS) (Two (G X) (E X)) (size 8) ∷
     read reg Always (Name MOVLHPS) (Two (G X) (E X)) size_v ∷ []
--- 0F 18: group 16
-two_byte_rows form.ModRM_0x0f18 =
+-- group 16
+group_rows form.ModRM_0x0f18 =
     read mem Always (by_reg PREFETCHNTA PREFETCH0 PREFETCH1 PREFETCH2 none none none none) (One (E V)) (size 64) ∷
-    read both Always (Name NOP) (One (E V)) (sizes (bytes 64) v) ∷ []
--- 0F 20 to 0F 23: MOV-Move to/from Control Registers, to/from Debug Registers. Their ModRM is a register form at
+    read both Always (Name NOP) (One (E V)) (Bytes 64, Of V) ∷ []
+-- MOV-Move to/from Control Registers, to/from Debug Registers. Their ModRM is a register form at
 -- every mod. There are the control registers 0, 2, 3, 4 and 8, and the debug registers below 8
-two_byte_rows form.Rq_Cq_0 =
+group_rows form.Rq_Cq_0 =
     read (reg_at 0) Always Own (Two (U Q) Cr) (size 0) ∷
-    refusal (reg_from 2 4) RexR BadOperand AtModRM ∷
-    read (reg_from 2 4) Always Own (Two (U Q) Cr) (size 0) ∷
+    refusal (at Register 2 4 Any) RexR BadOperand AtModRM ∷
+    read (at Register 2 4 Any) Always Own (Two (U Q) Cr) (size 0) ∷
     otherwise BadOperand AtModRM ∷ []
-two_byte_rows form.Cq_Rq_0 =
+group_rows form.Cq_Rq_0 =
     read (reg_at 0) Always Own (Two Cr (U Q)) (size 0) ∷
-    refusal (reg_from 2 4) RexR BadOperand AtModRM ∷
-    read (reg_from 2 4) Always Own (Two Cr (U Q)) (size 0) ∷
+    refusal (at Register 2 4 Any) RexR BadOperand AtModRM ∷
+    read (at Register 2 4 Any) Always Own (Two Cr (U Q)) (size 0) ∷
     otherwise BadOperand AtModRM ∷ []
-two_byte_rows form.Rq_Dq_0 =
+group_rows form.Rq_Dq_0 =
     refusal reg RexR BadOperand AtModRM ∷
     read reg Always Own (Two (U Q) Dr) (size 0) ∷
     otherwise BadOperand AtModRM ∷ []
-two_byte_rows form.Dq_Rq_0 =
+group_rows form.Dq_Rq_0 =
     refusal reg RexR BadOperand AtModRM ∷
     read reg Always Own (Two Dr (U Q)) (size 0) ∷
     otherwise BadOperand AtModRM ∷ []
--- 0F 71: group 12
-two_byte_rows form.ModRM_0x0f71 =
+-- groups 12, 13 and 14
+group_rows form.ModRM_0x0f71 =
     read reg Only66 (by_reg none none PSRLW none PSRAW none PSLLW none) (Two (U X) U8) size_v ∷
     read reg NoPrefix (by_reg none none PSRLW none PSRAW none PSLLW none) (Two Umm U8) size_v ∷
     refusal reg NoRepeat BadOpcode AfterAddress ∷
     otherwise BadOperand AfterAddress ∷ []
--- 0F 72: group 13
-two_byte_rows form.ModRM_0x0f72 =
+group_rows form.ModRM_0x0f72 =
     read reg Only66 (by_reg none none PSRLD none PSRAD none PSLLD none) (Two (U X) U8) size_v ∷
     read reg NoPrefix (by_reg none none PSRLD none PSRAD none PSLLD none) (Two Umm U8) size_v ∷
     refusal reg NoRepeat BadOpcode AfterAddress ∷
     otherwise BadOperand AfterAddress ∷ []
--- 0F 73: group 14
-two_byte_rows form.ModRM_0x0f73 =
+group_rows form.ModRM_0x0f73 =
     read reg Only66 (by_reg none none PSRLQ PSRLDQ none none PSLLQ PSLLDQ) (Two (U X) U8) size_v ∷
     read reg NoPrefix (by_reg none none PSRLQ none none none PSLLQ none) (Two Umm U8) size_v ∷
     refusal (reg_at 3) NoPrefix BadOperand AfterAddress ∷
     refusal (reg_at 7) NoPrefix BadOperand AfterAddress ∷
     refusal reg NoRepeat BadOpcode AfterAddress ∷
     otherwise BadOperand AfterAddress ∷ []
--- 0F AE: group 15
-two_byte_rows form.ModRM_0x0fae =
+-- group 15
+group_rows form.ModRM_0x0fae =
     read (reg_at 6) F2 (Name UMWAIT) (One RdInReg) (size 0) ∷
     refusal mem F2 BadOperand AtModRM ∷
     refusal (both_at 4) F3With66 BadOpcode AtModRM ∷
-    read (both_at 4) F3 (Name PTWRITE) (One (E Dq)) (sizes y (bytes 0)) ∷
+    read (both_at 4) F3 (Name PTWRITE) (One (E Dq)) (Of Dq, Bytes 0) ∷
     read (mem_at 6) F3 (Name CLRSSBSY) (One M) (size 8) ∷
     refusal mem F3 BadOperand AtModRM ∷
     read reg F3 (by_reg RDFSBASE RDGSBASE WRFSBASE WRGSBASE none INCSSP none none) (One (U Dq)) (size 0) ∷
     read (reg_at 6) F3 (Name UMONITOR) (One (U Q)) (size 0) ∷
-    read_without_66 (mem_at 6) Only66 (Name CLWB) (One M) (size 64) ∷
-    read_without_66 (mem_at 7) Only66 (Name CLFLUSHOPT) (One M) (size 64) ∷
-    read_without_66 (reg_at 6) Only66 (Name TPAUSE) (One (U D)) (size 0) ∷
+    changing ClearsOperandSize (mem_at 6) Only66 (Name CLWB) (One M) (size 64) ∷
+    changing ClearsOperandSize (mem_at 7) Only66 (Name CLFLUSHOPT) (One M) (size 64) ∷
+    changing ClearsOperandSize (reg_at 6) Only66 (Name TPAUSE) (One (U D)) (size 0) ∷
     read mem NoPrefix (by_reg FXSAVE FXRSTOR none none XSAVE XRSTOR XSAVEOPT none) (One M) undecided ∷
     read mem NoPrefix (by_reg none none LDMXCSR STMXCSR none none none none) (One M) (size 4) ∷
     read (mem_at 7) NoPrefix (Name CLFLUSH) (One M) (size 64) ∷
-    read reg_zero NoPrefix (by_reg none none none none none LFENCE MFENCE SFENCE) Zero (size 0) ∷
-    refusal (reg_from 5 7) NoPrefix BadOperand AtModRM ∷
+    read (at Register 0 7 ZeroIfStrict) NoPrefix (by_reg none none none none none LFENCE MFENCE SFENCE) Zero (size 0) ∷
+    refusal (at Register 5 7 Any) NoPrefix BadOperand AtModRM ∷
     otherwise BadOpcode AtModRM ∷ []
--- 0F BA: group 8
-two_byte_rows form.ModRM_0x0fba =
-    read both Always (by_reg none none none none BT BTS BTR BTC) (Two (E Vq) I8) (sizes vq (bytes 0)) ∷
+-- group 8
+group_rows form.ModRM_0x0fba =
+    read both Always (by_reg none none none none BT BTS BTR BTC) (Two (E Vq) I8) (Of Vq, Bytes 0) ∷
     otherwise BadOpcode AtModRM ∷ []
--- 0F C7: group 9
-two_byte_rows form.ModRM_0x0fc7 =
+-- group 9
+group_rows form.ModRM_0x0fc7 =
     read (mem_at 1) RexW (Name CMPXCHG16B) (One M) (size 16) ∷
     read (mem_at 1) Always (Name CMPXCHG8B) (One M) (size 8) ∷
     refusal (both_at 1) Always BadOperand AtModRM ∷
@@ -200,86 +185,69 @@ two_byte_rows form.ModRM_0x0fc7 =
     read mem Always (by_reg none none none none none none VMPTRLD VMPTRST) (One M) (size 8) ∷
     read reg Always (by_reg none none none none none none RDRAND RDSEED) (One (U V)) (size 0) ∷
     otherwise BadOperand AtModRM ∷ []
--- 66 0F 78: AMD APM volume 4, EXTRQ
-two_byte_rows form.ModRM_0x660f78 =
+-- AMD APM volume 4, EXTRQ and INSERTQ
+group_rows form.ModRM_0x660f78 =
     read (reg_at 0) Always (Name EXTRQ) (Three (U X) U8 X8) (size 0) ∷
     otherwise BadOperand AtModRM ∷ []
--- F2 0F 78: AMD APM volume 4, INSERTQ
-two_byte_rows form.ModRM_0xf20f78 =
+group_rows form.ModRM_0xf20f78 =
     read reg Always (Name INSERTQ) (Four (G X) (U X) U8 X8) (size 0) ∷
     otherwise BadOperand AtModRM ∷ []
--- F3 0F 1E: ENDBR64, ENDBR32
-two_byte_rows form.ModRM_0xf30f1e =
+-- Intel SDM volume 2, ENDBR32 and ENDBR64
+group_rows form.ModRM_0xf30f1e =
     read (reg_rm 7 2) Always (Name ENDBR64) Zero (size 0) ∷
     read (reg_rm 7 3) Always (Name ENDBR32) Zero (size 0) ∷
     read both Always (Name NOP) (Two (E V) (G V)) size_v ∷ []
-two_byte_rows f = three_byte_rows f
-
--- ---- the one-byte map
-
-unfoldable pub group_rows : Form → List GroupRow
--- 80: group 1
+-- the one-byte map: group 1
 group_rows form.ModRM_0x80 = read both Always (by_reg ADD OR ADC SBB AND SUB XOR CMP) (Two (E B) I8) (size 1) ∷ []
--- 81: group 1
 group_rows form.ModRM_0x81 = read both Always (by_reg ADD OR ADC SBB AND SUB XOR CMP) (Two (E V) Iv) size_v ∷ []
--- 83: group 1
 group_rows form.ModRM_0x83 = read both Always (by_reg ADD OR ADC SBB AND SUB XOR CMP) (Two (E V) I8) size_v ∷ []
--- 8F: group 1A. Another reg is not built
+-- group 1A. Another reg is not built
 group_rows form.ModRM_0x8f =
     read (both_at 0) With66 (Name POP) (One (E V)) size_v ∷
-    read (both_at 0) Always (Name POP) (One (E V)) (sizes (bytes 8) v) ∷
+    read (both_at 0) Always (Name POP) (One (E V)) (Bytes 8, Of V) ∷
     otherwise Incomplete AfterAddress ∷ []
--- C0: group 2
+-- group 2
 group_rows form.ModRM_0xc0 = read both Always (by_reg ROL ROR RCL RCR SHL SHR SAL SAR) (Two (E B) I8) (size 1) ∷ []
--- C1: group 2
 group_rows form.ModRM_0xc1 = read both Always (by_reg ROL ROR RCL RCR SHL SHR SAL SAR) (Two (E V) I8) size_v ∷ []
--- D0: group 2
 group_rows form.ModRM_0xd0 = read both Always (by_reg ROL ROR RCL RCR SHL SHR SAL SAR) (Two (E B) SignedOne) (size 1) ∷ []
--- D1: group 2
 group_rows form.ModRM_0xd1 = read both Always (by_reg ROL ROR RCL RCR SHL SHR SAL SAR) (Two (E V) SignedOne) size_v ∷ []
--- D2: group 2
 group_rows form.ModRM_0xd2 = read both Always (by_reg ROL ROR RCL RCR SHL SHR SAL SAR) (Two (E B) cl) (size 1) ∷ []
--- D3: group 2
 group_rows form.ModRM_0xd3 = read both Always (by_reg ROL ROR RCL RCR SHL SHR SAL SAR) (Two (E V) cl) size_v ∷ []
--- C6: group 11
+-- group 11
 group_rows form.ModRM_0xc6 =
     read (both_at 0) Always (Name MOV) (Two (E B) I8) (size 1) ∷
-    read (reg_any_rm 0) Always (Name XABORT) (One I8) (size 1) ∷
+    read (at Register 0 7 (Is 0)) Always (Name XABORT) (One I8) (size 1) ∷
     otherwise BadOperand AfterAddress ∷ []
--- C7: group 11
 group_rows form.ModRM_0xc7 =
     read (both_at 0) Always (Name MOV) (Two (E V) Iv) size_v ∷
-    read (reg_any_rm 0) Always (Name XBEGIN) (One Jv) size_v ∷
+    read (at Register 0 7 (Is 0)) Always (Name XBEGIN) (One Jv) size_v ∷
     otherwise BadOperand AfterAddress ∷ []
--- F6: group 3
+-- group 3
 group_rows form.ModRM_0xf6 =
     read both Always (by_reg TEST TEST none none none none none none) (Two (E B) I8) (size 1) ∷
     read both Always (by_reg none none NOT NEG MUL IMUL DIV IDIV) (One (E B)) (size 1) ∷ []
--- F7: group 3
 group_rows form.ModRM_0xf7 =
     read both Always (by_reg TEST TEST none none none none none none) (Two (E V) Iv) size_v ∷
     read both Always (by_reg none none NOT NEG MUL IMUL DIV IDIV) (One (E V)) size_v ∷ []
--- FE: group 4
+-- groups 4 and 5
 group_rows form.ModRM_0xfe =
     read both Always (by_reg INC DEC none none none none none none) (One (E B)) (size 1) ∷
     otherwise BadOpcode AfterAddress ∷ []
--- FF: group 5
 group_rows form.ModRM_0xff =
     read both Always (by_reg INC DEC none none none none none none) (One (E V)) size_v ∷
     read (both_at 2) Always (Name CALL) (One (E Q)) (size 8) ∷
     read (mem_at 3) Always (Name CALLF) (One M) (size 10) ∷
-    read (both_at 4) Always (Name JMP) (One (E Q)) (sizes (bytes 8) v) ∷
+    read (both_at 4) Always (Name JMP) (One (E Q)) (Bytes 8, Of V) ∷
     read (mem_at 5) Always (Name JMPF) (One M) (size 10) ∷
     read (both_at 6) With66 (Name PUSH) (One (E V)) (size 2) ∷
     read (both_at 6) Always (Name PUSH) (One (E V)) (size 8) ∷
     refusal (reg_at 3) Always BadOperand AtModRM ∷
     refusal (reg_at 5) Always BadOperand AtModRM ∷
     otherwise BadOpcode AfterAddress ∷ []
--- D8: x87, Intel SDM volume 2, appendix A.5
+-- x87: Intel SDM volume 2, appendix A.5
 group_rows form.x87_d8 =
     read mem Always (by_reg FADD FMUL FCOM FCOMP FSUB FSUBR FDIV FDIVR) (Two st0 M) (size 4) ∷
     read reg Always (by_reg FADD FMUL FCOM FCOMP FSUB FSUBR FDIV FDIVR) (Two st0 StRm) (size 0) ∷ []
--- D9
 group_rows form.x87_d9 =
     read (mem_at 0) Always (Name FLD) (Two st0 M) (size 4) ∷
     read (mem_at 2) Always (Name FST) (Two M st0) (size 4) ∷
@@ -294,13 +262,11 @@ group_rows form.x87_d9 =
     read (reg_at 6) Always (by_rm F2XM1 FYL2X FPTAN FPATAN FXTRACT FPREM1 FDECSTP FINCSTP) Zero (size 0) ∷
     read (reg_at 7) Always (by_rm FPREM FYL2XP1 FSQRT FSINCOS FRNDINT FSCALE FSIN FCOS) Zero (size 0) ∷
     otherwise BadOpcode AtModRM ∷ []
--- DA
 group_rows form.x87_da =
     read mem Always (by_reg FIADD FIMUL FICOM FICOMP FISUB FISUBR FIDIV FIDIVR) (Two st0 M) (size 4) ∷
     read reg Always (by_reg FCMOVB FCMOVE FCMOVBE FCMOVU none none none none) (Two st0 StRm) (size 0) ∷
     read (reg_rm 5 1) Always (Name FUCOMPP) Zero (size 0) ∷
     otherwise BadOpcode AtModRM ∷ []
--- DB
 group_rows form.x87_db =
     read (mem_at 0) Always (Name FILD) (Two st0 M) (size 4) ∷
     read mem Always (by_reg none FISTTP FIST FISTP none none none none) (Two M st0) (size 4) ∷
@@ -309,12 +275,10 @@ group_rows form.x87_db =
     read reg Always (by_reg FCMOVNB FCMOVNE FCMOVNBE FCMOVNU none FUCOMI FCOMI none) (Two st0 StRm) (size 0) ∷
     read (reg_at 4) Always (by_rm FENI8087_NOP FDISI8087_NOP FNCLEX FNINIT FSETPM287_NOP none none none) Zero (size 0) ∷
     otherwise BadOpcode AtModRM ∷ []
--- DC
 group_rows form.x87_dc =
     read mem Always (by_reg FADD FMUL FCOM FCOMP FSUB FSUBR FDIV FDIVR) (Two st0 M) (size 8) ∷
     read reg Always (by_reg none none FCOM FCOMP none none none none) (Two st0 StRm) (size 0) ∷
     read reg Always (by_reg FADD FMUL none none FSUBR FSUB FDIVR FDIV) (Two StRm st0) (size 0) ∷ []
--- DD
 group_rows form.x87_dd =
     read (mem_at 0) Always (Name FLD) (Two st0 M) (size 8) ∷
     read mem Always (by_reg none FISTTP FST FSTP none none none none) (Two M st0) (size 8) ∷
@@ -324,14 +288,12 @@ group_rows form.x87_dd =
     read reg Always (by_reg none FXCH none none FUCOM FUCOMP none none) (Two st0 StRm) (size 0) ∷
     read reg Always (by_reg none none FST FSTP none none none none) (Two StRm st0) (size 0) ∷
     otherwise BadOpcode AtModRM ∷ []
--- DE
 group_rows form.x87_de =
     read mem Always (by_reg FIADD FIMUL FICOM FICOMP FISUB FISUBR FIDIV FIDIVR) (Two st0 M) (size 2) ∷
     read (reg_at 2) Always (Name FCOMP) (Two st0 StRm) (size 0) ∷
     read (reg_rm 3 1) Always (Name FCOMPP) Zero (size 0) ∷
     read reg Always (by_reg FADDP FMULP none none FSUBRP FSUBP FDIVRP FDIVP) (Two StRm st0) (size 0) ∷
     otherwise BadOperand AtModRM ∷ []
--- DF
 group_rows form.x87_df =
     read (mem_at 0) Always (Name FILD) (Two st0 M) (size 2) ∷
     read mem Always (by_reg none FISTTP FIST FISTP none none none none) (Two M st0) (size 2) ∷
@@ -344,4 +306,4 @@ group_rows form.x87_df =
     read reg Always (by_reg none none FSTP FSTP none none none none) (Two StRm st0) (size 0) ∷
     read (reg_rm 4 0) Always (Name FNSTSW) (One (U W)) (size 0) ∷
     otherwise BadOpcode AtModRM ∷ []
-group_rows f = two_byte_rows f
+group_rows f = otherwise Incomplete AtModRM ∷ []

@@ -27,8 +27,8 @@ pub use Rattle.x86_groups.specs.declared.rows.When.{When}
 pub use Rattle.x86_groups.specs.declared.rows.Rm.{Rm}
 pub use Rattle.x86_groups.specs.declared.rows.Names.{Names}
 pub use Rattle.x86_groups.specs.declared.rows.Content.{Content}
+pub use Rattle.x86_groups.specs.declared.rows.Where.{Where}
 pub use Rattle.x86_groups.specs.declared.rows.GroupRow.{GroupRow}
-pub use Rattle.x86_groups.specs.declared.rows.Seen.{Seen}
 pub use Rattle.x86_groups.specs.declared.letters.RowSize.TheVariants.{Bytes, Of}
 pub use Rattle.x86_groups.specs.declared.rows.Place.TheVariants.{Memory, Register, Either}
 pub use Rattle.x86_groups.specs.declared.rows.Names.TheVariants.{Own, BySuffix, Name, ByReg, ByRm}

@@ -1,21 +1,15 @@
 -- The words that rows of groups are written in.
-use Rattle.std.specs.Prelude.{ℕ, List, [], ◌∷◌}
+use Rattle.std.specs.Prelude.{ℕ, [], ◌∷◌}
 use Rattle.x86_regs.specs.declared.RegisterClass.TheVariants as class
 use Rattle.x86_fields.specs.MemorySizes.{undecided_size}
-use Rattle.x86_fields.specs.declared.sizes.Width.TheVariants as width
-use Rattle.x86_groups.specs.Vocabulary.{Fault, Moment, PrefixChange, Keeps, ClearsOperandSize, Letter, Letters, RowSize, Bytes, Of, Place, Memory, Register, Either, When, Rm, Names, ByReg, ByRm, Reads, Refuses, GroupRow}
+use Rattle.x86_fields.specs.declared.sizes.Width.TheVariants.{V}
+use Rattle.x86_groups.specs.Vocabulary.{Fault, Moment, PrefixChange, Keeps, Letter, Letters, RowSize, Bytes, Of, Place, Memory, Register, Either, When, Where, Rm, Names, ByReg, ByRm, Reads, Refuses, GroupRow}
 use Rattle.x86_operands.specs.declared.plans.RegisterSlot.TheVariants as slot
 use Rattle.x86_groups.specs.declared.letters.Letter.TheVariants as letter
 use Rattle.x86_groups.specs.declared.rows.When.TheVariants.{Always}
-use Rattle.x86_groups.specs.declared.rows.Rm.TheVariants.{Any, Is, ZeroIfStrict}
+use Rattle.x86_groups.specs.declared.rows.Rm.TheVariants.{Any, Is}
 
 -- ---- where
-
-pub record Where : Type 0 where
-  pub place : Place
-  pub first : ℕ
-  pub last : ℕ
-  pub rm : Rm
 
 abbrev pub at : Place → ℕ → ℕ → Rm → Where
 at place first last rm = record { place = place; first = first; last = last; rm = rm }
@@ -40,32 +34,17 @@ reg_at n = at Register n n Any
 abbrev pub both_at : ℕ → Where
 both_at n = at Either n n Any
 
--- at these and what is between
-abbrev pub reg_from : ℕ → ℕ → Where
-reg_from first last = at Register first last Any
-
 -- at one reg and one rm
 abbrev pub reg_rm : ℕ → ℕ → Where
 reg_rm n rm = at Register n n (Is rm)
 
--- at one rm and every reg
-abbrev pub reg_any_rm : ℕ → Where
-reg_any_rm rm = at Register 0 7 (Is rm)
-
--- with rm 0, and unless the choice is strict with any other
-abbrev pub reg_zero : Where
-reg_zero = at Register 0 7 ZeroIfStrict
-
 -- ---- names
 
-abbrev pub eight : ℕ → ℕ → ℕ → ℕ → ℕ → ℕ → ℕ → ℕ → List ℕ
-eight a b c d e f g h = a ∷ b ∷ c ∷ d ∷ e ∷ f ∷ g ∷ h ∷ []
-
 abbrev pub by_reg : ℕ → ℕ → ℕ → ℕ → ℕ → ℕ → ℕ → ℕ → Names
-by_reg a b c d e f g h = ByReg (eight a b c d e f g h)
+by_reg a b c d e f g h = ByReg (a ∷ b ∷ c ∷ d ∷ e ∷ f ∷ g ∷ h ∷ [])
 
 abbrev pub by_rm : ℕ → ℕ → ℕ → ℕ → ℕ → ℕ → ℕ → ℕ → Names
-by_rm a b c d e f g h = ByRm (eight a b c d e f g h)
+by_rm a b c d e f g h = ByRm (a ∷ b ∷ c ∷ d ∷ e ∷ f ∷ g ∷ h ∷ [])
 
 -- ---- operands
 
@@ -95,55 +74,31 @@ edx_in_rm = letter.Implied slot.Rm 2 class.D
 abbrev pub ecx_third : Letter
 ecx_third = letter.Implied slot.Third 1 class.D
 
--- ---- memory sizes
-
-pub record Sizes : Type 0 where
-  pub memory : RowSize
-  pub register : RowSize
-
--- in the memory form, and in the register form
-abbrev pub sizes : RowSize → RowSize → Sizes
-sizes memory register = record { memory = memory; register = register }
-
-abbrev pub bytes : ℕ → RowSize
-bytes n = Bytes n
-
-abbrev pub v : RowSize
-v = Of width.V
-
-abbrev pub y : RowSize
-y = Of width.Dq
-
-abbrev pub vq : RowSize
-vq = Of width.Vq
+-- ---- memory sizes, in the memory form and in the register form
 
 -- the same in both forms
-abbrev pub size : ℕ → Sizes
-size n = sizes (bytes n) (bytes n)
+abbrev pub size : ℕ → RowSize × RowSize
+size n = (Bytes n, Bytes n)
 
-abbrev pub size_v : Sizes
-size_v = sizes v v
+abbrev pub size_v : RowSize × RowSize
+size_v = (Of V, Of V)
 
 -- the processor decides
-abbrev pub undecided : Sizes
+abbrev pub undecided : RowSize × RowSize
 undecided = size undecided_size
 
 -- ---- rows
 
-abbrev pub changing : PrefixChange → Where → When → Names → Letters → Sizes → GroupRow
-changing change at when names operands size = record { place = at.place; first = at.first; last = at.last; rm = at.rm; when = when; content = Reads names operands size.memory size.register change }
+-- a row that is read, and the change of the answer's prefixes: where, the prefixes, the name, the operands and the size
+abbrev pub changing : PrefixChange → Where → When → Names → Letters → RowSize × RowSize → GroupRow
+changing change at when names operands size = record { at = at; when = when; content = Reads names operands size.0 size.1 change }
 
--- a row that is read: where, the prefixes, the name, the operands and the memory size
-abbrev pub read : Where → When → Names → Letters → Sizes → GroupRow
+abbrev pub read : Where → When → Names → Letters → RowSize × RowSize → GroupRow
 read at when names operands size = changing Keeps at when names operands size
-
--- the same, where the answer's prefixes show 66 cleared
-abbrev pub read_without_66 : Where → When → Names → Letters → Sizes → GroupRow
-read_without_66 at when names operands size = changing ClearsOperandSize at when names operands size
 
 -- a row that is refused, and after which byte
 abbrev pub refusal : Where → When → Fault → Moment → GroupRow
-refusal at when fault moment = record { place = at.place; first = at.first; last = at.last; rm = at.rm; when = when; content = Refuses fault moment }
+refusal at when fault moment = record { at = at; when = when; content = Refuses fault moment }
 
 -- wherever no row before it is
 abbrev pub otherwise : Fault → Moment → GroupRow

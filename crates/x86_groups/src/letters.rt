@@ -2,7 +2,7 @@
 ghost use Rattle.std.specs.Prelude.{◌≡◌};
 ghost use Rattle.x86_regs.specs.Class.{width_of};
 ghost use Rattle.x86_fields.specs.Sizes.{class_of};
-ghost use Rattle.x86_groups.specs.Columns.{distance_of, letter_encoding, operand_encodings, row_bytes};
+ghost use Rattle.x86_groups.specs.Columns.{letter_encoding, operand_encodings, row_bytes};
 
 use x86_fields::{ModRM, Prefixes, Width};
 use x86_operands::plans::{OperandEncoding, OperandEncodings, RegisterSlot, immediate_of};
@@ -37,7 +37,7 @@ pub enum Letter {
     X8,
     /// A number of v, at most 4 bytes.
     Iv,
-    /// A distance of v, at most 4 bytes.
+    /// A distance of v: 2 bytes, or 4.
     Jv,
     /// 1, which no byte spells.
     SignedOne,
@@ -67,16 +67,6 @@ pub enum RowSize {
     Of(Width),
 }
 
-/// The distance of XBEGIN.
-fn distance_of(class: RegisterClass) -> OperandEncoding
-    ensures { result ≡ distance_of class }
-{
-    match class {
-        RegisterClass::W => OperandEncoding::I32From16,
-        _ => OperandEncoding::I32,
-    }
-}
-
 fn class_of(width: Width, prefixes: &Prefixes) -> RegisterClass
     ensures { result ≡ class_of width prefixes.now }
 {
@@ -101,7 +91,9 @@ impl Letter {
             Letter::U8 => OperandEncoding::U8,
             Letter::X8 => OperandEncoding::X8,
             Letter::Iv => immediate_of(prefixes.v_class()),
-            Letter::Jv => distance_of(prefixes.v_class()),
+            Letter::Jv if prefixes.operand_size() && !prefixes.has_w() =>
+                OperandEncoding::I32From16,
+            Letter::Jv => OperandEncoding::I32,
             Letter::SignedOne => OperandEncoding::ConstantI8(1),
             Letter::Implied(slot, num, class) => OperandEncoding::Fixed(
                 slot,

@@ -3,9 +3,9 @@
 ghost use Rattle.std.specs.Prelude.{◌≡◌, Bool, true};
 ghost use Rattle.x86_forms.specs.Groups.{is_group};
 ghost use Rattle.x86_operands.specs.Asks.{ask_of, record_at};
-ghost use Rattle.x86_groups.specs.Groups.{fault_f30f3af0, is_f3_alone, group_fault, group_modrm, group_plan, group_record};
+ghost use Rattle.x86_groups.specs.Groups.{is_f3_alone, group_fault, group_modrm, group_plan, group_record};
 
-use crate::rows::{Seen, choose};
+use crate::rows::choose;
 use crate::tables::group_rows;
 use x86_fields::{ModRM, Prefixes};
 use x86_forms::{Form, TableRow};
@@ -14,6 +14,7 @@ use x86_operands::{Ask, RecordAt, plan_ask, used_modrm, used_or_none};
 use x86_regs::Segment;
 
 /// Whether F3 is in force, and nothing else.
+#[tactic(auto, unfolding(crate::specs::Groups::is_f3_alone))]
 fn is_f3_alone(prefixes: &Prefixes) -> bool
     ensures { result ≡ is_f3_alone prefixes.now }
 {
@@ -26,7 +27,6 @@ fn is_f3_alone(prefixes: &Prefixes) -> bool
 }
 
 /// The refusal of a form at the opcode byte.
-#[tactic(auto, unfolding(crate::specs::Groups::fault_f30f3af0))]
 pub fn group_fault(form: Form, prefixes: &Prefixes) -> Option<Fault>
     ensures { result ≡ group_fault form prefixes.now }
 {
@@ -47,12 +47,11 @@ pub fn group_modrm(form: Form) -> ModrmUse
 }
 
 /// The plan of a row whose form is a group, at a ModRM byte.
-#[tactic(auto, unfolding(crate::specs::Groups::group_form_plan))]
+#[tactic(auto, unfolding(crate::specs::Groups::group_plan))]
 pub fn group_plan(row: TableRow, strict: bool, prefixes: &Prefixes, modrm: ModRM) -> Plan
     ensures { result ≡ group_plan row prefixes.now modrm strict }
 {
-    let seen = Seen::at(strict, prefixes, modrm);
-    choose(group_rows(row.form), &seen).plan(row.opcode, prefixes, modrm)
+    choose(group_rows(row.form), strict, prefixes, modrm).plan(row.opcode, prefixes, modrm)
 }
 
 /// Which parts a row has whose form is a group, at a ModRM byte: the same under both choices. Where the row refuses

@@ -1,7 +1,6 @@
 //! Rows of groups: where each is, and what it has there. The first row that holds counts.
 ghost use Rattle.std.specs.Prelude.{◌≡◌};
-ghost use Rattle.x86_fields.specs.Raw.{has_r};
-ghost use Rattle.x86_groups.specs.Columns.{choose, is_there, is_placed, is_prefixed, is_rm, is_named, name_at, named, opcode_of, plan_of_row, seen_at, verdict_of};
+ghost use Rattle.x86_groups.specs.Columns.{choose, is_there, is_placed, is_prefixed, is_rm, is_named, name_at, named, opcode_of, plan_of_row};
 
 use crate::letters::{Letters, RowSize};
 use x86_fields::{ModRM, Prefixes};
@@ -78,14 +77,20 @@ pub enum Content {
     },
 }
 
-/// A row of a group.
+/// With which ModRM bytes a row is.
 #[derive(Clone, Copy, Drop)]
-pub struct GroupRow {
+pub struct Where {
     pub place: Place,
     /// The first and the last reg.
     pub first: u8,
     pub last: u8,
     pub rm: Rm,
+}
+
+/// A row of a group.
+#[derive(Clone, Copy, Drop)]
+pub struct GroupRow {
+    pub at: Where,
     pub when: When,
     pub content: Content,
 }
@@ -98,10 +103,12 @@ macro_rules! read {
     };
     ($place:ident $first:literal $last:literal $rm:expr; $when:ident; $names:expr; $operands:expr; $memory:expr; $register:expr; $change:ident) => {
         GroupRow {
-            place: Place::$place,
-            first: $first,
-            last: $last,
-            rm: $rm,
+            at: Where {
+                place: Place::$place,
+                first: $first,
+                last: $last,
+                rm: $rm,
+            },
             when: When::$when,
             content: Content::Reads {
                 names: $names,
@@ -120,10 +127,12 @@ pub(crate) use read;
 macro_rules! refusal {
     ($place:ident $first:literal $last:literal $rm:expr; $when:ident; $fault:ident $moment:ident) => {
         GroupRow {
-            place: Place::$place,
-            first: $first,
-            last: $last,
-            rm: $rm,
+            at: Where {
+                place: Place::$place,
+                first: $first,
+                last: $last,
+                rm: $rm,
+            },
             when: When::$when,
             content: Content::Refuses {
                 fault: Fault::$fault,
@@ -135,131 +144,89 @@ macro_rules! refusal {
 
 pub(crate) use refusal;
 
-/// What rows go by: the prefixes, the choice and ModRM.
-#[derive(Clone, Copy, Drop)]
-pub struct Seen {
-    pub f2: bool,
-    pub f3: bool,
-    pub operand_size: bool,
-    pub w: bool,
-    pub r: bool,
-    pub strict: bool,
-    pub memory: bool,
-    pub reg: u8,
-    pub rm: u8,
-}
-
-fn has_r(prefixes: &Prefixes) -> bool
-    ensures { result ≡ has_r prefixes.now }
-{
-    match prefixes.rex() {
-        Some(rex) => rex.r(),
-        None => false,
-    }
-}
-
-impl Seen {
-    /// What is seen under the choice.
-    pub fn at(strict: bool, prefixes: &Prefixes, modrm: ModRM) -> Seen
-        ensures { result ≡ seen_at strict prefixes.now modrm }
-    {
-        Seen {
-            f2: prefixes.repnz(),
-            f3: prefixes.rep(),
-            operand_size: prefixes.operand_size(),
-            w: prefixes.has_w(),
-            r: has_r(prefixes),
-            strict,
-            memory: modrm.is_memory(),
-            reg: modrm.reg_field(),
-            rm: modrm.rm_field(),
-        }
-    }
-}
-
 /// The number at an index, and 0 where there is none.
-pub fn name_at(names: &[u16], index: u8) -> u16
+fn name_at(names: &[u16], index: u8) -> u16
     ensures { result ≡ name_at names.now index }
 {
-    match names.get(index as usize) {
-        Some(name) => *name,
-        None => 0,
-    }
+    *names.get(index as usize).unwrap_or(&0)
 }
 
 impl GroupRow {
-    fn is_placed(&self, seen: &Seen) -> bool
-        ensures { result ≡ is_placed self.now.place seen.now }
+    fn is_placed(&self, modrm: ModRM) -> bool
+        ensures { result ≡ is_placed self.now.at.place modrm }
     {
-        match self.place {
-            Place::Memory => seen.memory,
-            Place::Register => !seen.memory,
+        match self.at.place {
+            Place::Memory => modrm.is_memory(),
+            Place::Register => !modrm.is_memory(),
             Place::Either => true,
         }
     }
 
-    fn has_rm(&self, seen: &Seen) -> bool
-        ensures { result ≡ is_rm self.now.rm seen.now }
+    fn has_rm(&self, strict: bool, modrm: ModRM) -> bool
+        ensures { result ≡ is_rm self.now.at.rm strict modrm }
     {
-        match self.rm {
+        match self.at.rm {
             Rm::Any => true,
-            Rm::Is(rm) => seen.rm == rm,
-            Rm::ZeroIfStrict => !seen.strict || seen.rm == 0,
+            Rm::Is(rm) => modrm.rm_field() == rm,
+            Rm::ZeroIfStrict => !strict || modrm.rm_field() == 0,
         }
     }
 
-    fn has_prefixes(&self, seen: &Seen) -> bool
-        ensures { result ≡ is_prefixed self.now.when seen.now }
+    fn has_prefixes(&self, prefixes: &Prefixes) -> bool
+        ensures { result ≡ is_prefixed self.now.when prefixes.now }
     {
         match self.when {
             When::Always => true,
-            When::NoPrefix => !seen.f2 && !seen.f3 && !seen.operand_size,
-            When::NoRepeat => !seen.f2 && !seen.f3,
-            When::Only66 => !seen.f2 && !seen.f3 && seen.operand_size,
-            When::F2 => seen.f2,
-            When::F3 => seen.f3,
-            When::With66 => seen.operand_size,
-            When::F3With66 => seen.f3 && seen.operand_size,
-            When::RexW => seen.w,
-            When::RexR => seen.r,
+            When::NoPrefix => !prefixes.repnz() && !prefixes.rep() && !prefixes.operand_size(),
+            When::NoRepeat => !prefixes.repnz() && !prefixes.rep(),
+            When::Only66 => !prefixes.repnz() && !prefixes.rep() && prefixes.operand_size(),
+            When::F2 => prefixes.repnz(),
+            When::F3 => prefixes.rep(),
+            When::With66 => prefixes.operand_size(),
+            When::F3With66 => prefixes.rep() && prefixes.operand_size(),
+            When::RexW => prefixes.has_w(),
+            When::RexR => match prefixes.rex() {
+                Some(rex) => rex.r(),
+                None => false,
+            },
         }
     }
 
-    fn has_name(&self, seen: &Seen) -> bool
-        ensures { result ≡ is_named self.now.content seen.now }
+    fn has_name(&self, modrm: ModRM) -> bool
+        ensures { result ≡ is_named self.now.content modrm }
     {
         match &self.content {
             Content::Reads {
                 names: Names::ByReg(names),
                 ..
-            } => name_at(names, seen.reg) != 0,
+            } => name_at(names, modrm.reg_field()) != 0,
             Content::Reads {
                 names: Names::ByRm(names),
                 ..
-            } => name_at(names, seen.rm) != 0,
+            } => name_at(names, modrm.rm_field()) != 0,
             _ => true,
         }
     }
 
     /// Whether the row is there.
-    fn is_there(&self, seen: &Seen) -> bool
-        ensures { result ≡ is_there self.now seen.now }
+    fn is_there(&self, strict: bool, prefixes: &Prefixes, modrm: ModRM) -> bool
+        ensures { result ≡ is_there self.now strict prefixes.now modrm }
     {
-        self.is_placed(seen)
-            && self.first <= seen.reg
-            && seen.reg <= self.last
-            && self.has_rm(seen)
-            && self.has_prefixes(seen)
-            && self.has_name(seen)
+        self.is_placed(modrm)
+            && self.at.first <= modrm.reg_field()
+            && modrm.reg_field() <= self.at.last
+            && self.has_rm(strict, modrm)
+            && self.has_prefixes(prefixes)
+            && self.has_name(modrm)
     }
 }
 
-/// What the first row that holds has.
-pub fn choose(rows: &[GroupRow], seen: &Seen) -> Content
-    ensures { result ≡ choose rows.now seen.now }
+/// What the first row has that is there.
+pub fn choose(rows: &[GroupRow], strict: bool, prefixes: &Prefixes, modrm: ModRM) -> Content
+    ensures { result ≡ choose rows.now strict prefixes.now modrm }
 {
     for row in rows {
-        if row.is_there(seen) {
+        if row.is_there(strict, prefixes, modrm) {
             return row.content;
         }
     }
@@ -289,15 +256,6 @@ impl Names {
             Names::ByRm(names) => named(name_at(names, modrm.rm_field())),
         }
     }
-
-    fn verdict(&self) -> Verdict
-        ensures { result ≡ verdict_of self.now }
-    {
-        match self {
-            Names::BySuffix => Verdict::NamedBySuffix,
-            _ => Verdict::Accepts,
-        }
-    }
 }
 
 impl Content {
@@ -321,7 +279,10 @@ impl Content {
                     in_register.bytes(prefixes),
                 ),
                 change: *change,
-                verdict: names.verdict(),
+                verdict: match names {
+                    Names::BySuffix => Verdict::NamedBySuffix,
+                    _ => Verdict::Accepts,
+                },
             },
             Content::Refuses { fault, moment } => refuses(*fault, *moment),
         }

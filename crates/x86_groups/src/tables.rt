@@ -3,7 +3,7 @@
 //! Written by tools/tables.py from specs/Rows.antt.
 //! The proof doesn't rest on that script: a wrong entry is refused.
 ghost use Rattle.std.specs.Prelude.{◌≡◌};
-ghost use Rattle.x86_groups.specs.Rows.{group_rows, three_byte_rows, two_byte_rows};
+ghost use Rattle.x86_groups.specs.Rows.{group_rows};
 
 use crate::by_reg::{RegLine, line, rows_alone};
 use crate::letters::Letter;
@@ -14,7 +14,7 @@ use crate::letters::Letters::{Four, One, Three, Two, Zero};
 use crate::letters::RowSize::{Bytes, Of};
 use crate::rows::Names::{ByReg, ByRm, BySuffix, Name, Own};
 use crate::rows::Rm::{Any, Is, ZeroIfStrict};
-use crate::rows::{Content, GroupRow, Place, When, read, refusal};
+use crate::rows::{Content, GroupRow, Place, When, Where, read, refusal};
 use x86_fields::Width::{B, D, Dq, Q, V, Vq, W, X};
 use x86_forms::Form;
 use x86_operands::AfterOpcode::ByPlan;
@@ -575,10 +575,10 @@ pub(crate) const REG_LINES: &[[RegLine; 8]; 15] = &[
 /// The rows of a form that has none.
 const LEFT_OUT: &[GroupRow; 1] = &[refusal!(Either 0 7 Any; Always; Incomplete AtModRM)];
 
-/// Maps 0F38 and 0F3A.
-#[tactic(auto, unfolding(crate::specs::Rows::three_byte_rows))]
-fn three_byte_rows(form: Form) -> &'static [GroupRow]
-    ensures { result.now ≡ three_byte_rows form }
+/// The rows of a form.
+#[tactic(auto, unfolding(crate::specs::Rows::group_rows))]
+pub(crate) fn group_rows(form: Form) -> &'static [GroupRow]
+    ensures { result.now ≡ group_rows form }
 {
     match form {
         Form::ModRM_0xf30f38d8 => ROWS_F30F38D8,
@@ -589,16 +589,6 @@ fn three_byte_rows(form: Form) -> &'static [GroupRow]
         Form::ModRM_0xf30f38fa => ROWS_F30F38FA,
         Form::ModRM_0xf30f38fb => ROWS_F30F38FB,
         Form::ModRM_0xf30f3af0 => ROWS_F30F3AF0,
-        _ => LEFT_OUT,
-    }
-}
-
-/// Map 0F.
-#[tactic(auto, unfolding(crate::specs::Rows::two_byte_rows))]
-fn two_byte_rows(form: Form) -> &'static [GroupRow]
-    ensures { result.now ≡ two_byte_rows form }
-{
-    match form {
         Form::ModRM_0x0f00 => ROWS_0F00,
         Form::ModRM_0x0f01 => ROWS_0F01,
         Form::ModRM_0x0f0d => ROWS_0F0D,
@@ -619,16 +609,6 @@ fn two_byte_rows(form: Form) -> &'static [GroupRow]
         Form::ModRM_0x660f78 => ROWS_660F78,
         Form::ModRM_0xf20f78 => ROWS_F20F78,
         Form::ModRM_0xf30f1e => ROWS_F30F1E,
-        _ => three_byte_rows(form),
-    }
-}
-
-/// The rows of a form.
-#[tactic(auto, unfolding(crate::specs::Rows::group_rows))]
-pub(crate) fn group_rows(form: Form) -> &'static [GroupRow]
-    ensures { result.now ≡ group_rows form }
-{
-    match form {
         Form::ModRM_0x80 => ROWS_80,
         Form::ModRM_0x81 => ROWS_81,
         Form::ModRM_0x83 => ROWS_83,
@@ -653,6 +633,6 @@ pub(crate) fn group_rows(form: Form) -> &'static [GroupRow]
         Form::x87_dd => ROWS_DD,
         Form::x87_de => ROWS_DE,
         Form::x87_df => ROWS_DF,
-        _ => two_byte_rows(form),
+        _ => LEFT_OUT,
     }
 }

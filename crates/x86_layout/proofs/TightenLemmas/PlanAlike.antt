@@ -28,12 +28,12 @@ use Rattle.x86_groups.specs.declared.letters.Letters.{Letters}
 use Rattle.x86_groups.specs.declared.letters.Letters.TheVariants as letters
 use Rattle.x86_groups.specs.declared.rows.Content.{Content}
 use Rattle.x86_groups.specs.declared.rows.Content.TheVariants.{Reads, Refuses}
-use Rattle.x86_groups.specs.Columns.{choose, distance_of, letter_encoding, operand_encodings, plan_of_row, seen_at, verdict_of}
-use Rattle.x86_groups.specs.Groups.{fault_f30f3af0, group_fault, group_form_plan, group_record}
+use Rattle.x86_groups.specs.Columns.{choose, letter_encoding, operand_encodings, plan_of_row, verdict_of}
+use Rattle.x86_groups.specs.Groups.{is_f3_alone, group_fault, group_plan, group_record}
 use Rattle.x86_groups.specs.Rows.{group_rows}
-use Rattle.x86_groups.proofs.RowLemmas.{no_rm_names}
+use Rattle.x86_groups.proofs.RowLemmas.{SamePrefixes, no_rm_names}
 use Rattle.x86_groups.proofs.FactLemmas.{in_memory, is_memory_letter, letters_list, rm_free_letter}
-use Rattle.x86_groups.proofs.PlanLemmas.{SamePrefixes, first_in_memory, plan_alike}
+use Rattle.x86_groups.proofs.PlanLemmas.{first_in_memory, plan_alike}
 
 -- ---- mod and rm
 
@@ -51,7 +51,7 @@ module _ (x b : Bool) (p : Prefixes) (m : ℕ) (mm : is_memory m ≡ true) where
   plain_bits r f o usage = first_of (cc (mm), grind (arith, mm))
 
   fault_bits : (r : PrefixRex) (f : Form) → group_fault f (With (Some (record r { x = x; b = b }))) ≡ group_fault f (With (Some r))
-  unfolding fault_f30f3af0
+  unfolding is_f3_alone
   fault_bits r form.ModRM_0xf30f3af0 = refl
   fault_bits r f = refl
 
@@ -74,7 +74,7 @@ module _ (strict : Bool) (row : TableRow) (p : Prefixes) (x b : Bool) (m n : ℕ
 
   by_plan : (group : Bool) → (By strict row group p).modrm ≡ EitherForm → (By strict row group Other).plan n ≡ (By strict row group p).plan m
   unfolding group_record form_record
-  by_plan true usage = plan_alike row.form row.opcode strict Other p n m same_prefixes nm mm same
+  by_plan true usage = plan_alike row strict Other p n m same_prefixes nm mm same
   by_plan false usage = plain_at m n mm nm same row.form row.opcode Other usage ∙ with_bits x b p m mm (λ q. form_plan row.form row.opcode q m) (λ r. plain_bits x b p m mm r row.form row.opcode usage) p.rex
 
   by_use : (group : Bool) → (By strict row group Other).modrm ≡ (By strict row group p).modrm
@@ -109,14 +109,10 @@ immediate_is_none class.W = refl
 immediate_is_none class.Q = refl
 immediate_is_none c = refl
 
-distance_is_none : (c : RegisterClass) → is_modrm_encoding (distance_of c) ≡ false
-distance_is_none class.W = refl
-distance_is_none c = refl
-
 module _ (p : Prefixes) (m : ℕ) where
   letter_is : (l : Letter) → is_modrm_encoding (letter_encoding l p m) ≡ is_memory_letter l
   letter_is letter.Iv = immediate_is_none (v_class p)
-  letter_is letter.Jv = distance_is_none (v_class p)
+  letter_is letter.Jv = grind arith
   letter_is l = refl
 
   letters_are : (operands : Letters) → list_any is_modrm_encoding (list_of (operand_encodings operands p m)) ≡ list_any is_memory_letter (letters_list operands)
@@ -137,14 +133,14 @@ module _ (p : Prefixes) (m : ℕ) (mm : is_memory m ≡ true) where
   plain_writes : (f : Form) (o : ℕ) → modrm_use f ≡ EitherForm → writes (form_plan f o p m) ≡ true
   plain_writes f o usage = first_of (cc (mm), search (then_writes, either, mm), grind (arith, mm))
 
-  group_writes : (f : Form) (o : ℕ) (strict : Bool) → writes (group_form_plan f o strict p m) ≡ true
-  unfolding group_form_plan
-  group_writes f o strict = content_writes p m (choose (group_rows f) (seen_at strict p m)) o (first_in_memory f strict p m mm)
+  group_writes : (row : TableRow) (strict : Bool) → writes (group_plan row p m strict) ≡ true
+  unfolding group_plan
+  group_writes row strict = content_writes p m (choose (group_rows row.form) strict p m) row.opcode (first_in_memory row.form strict p m mm)
 
 module _ (strict : Bool) (row : TableRow) (p : Prefixes) (m : ℕ) (mm : is_memory m ≡ true) where
   by_kind : (group : Bool) → (By strict row group p).modrm ≡ EitherForm → writes ((By strict row group p).plan m) ≡ true
   unfolding group_record form_record
-  by_kind true usage = group_writes p m mm row.form row.opcode strict
+  by_kind true usage = group_writes p m mm row strict
   by_kind false usage = plain_writes p m mm row.form row.opcode usage
 
   pub row_writes : (record_of strict row p).modrm ≡ EitherForm → is_refusal ((record_of strict row p).plan m).verdict ≡ false → list_any is_modrm_encoding (list_of ((record_of strict row p).plan m).encodings) ≡ true

@@ -9,5 +9,5 @@ returns c = λ strict.
     let row = c.args.row in
     let usage = group_modrm row.form in
     let m = used_modrm usage c.args.modrm in
-    let e = same_ask usage m row.form row.opcode strict c.args.prefixes m in
+    let e = same_ask usage m row strict c.args.prefixes m in
     cc (e, c.plan_ask.ensures, c.group_plan-plan.ensures, c.used_modrm-modrm.ensures, c.group_modrm-usage.ensures)

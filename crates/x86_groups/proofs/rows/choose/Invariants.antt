@@ -3,4 +3,4 @@ use Rattle.x86_groups.specs.Columns.{choose}
 use Rattle.x86_groups.proofs.rows.choose.Given as goal
 
 abbrev pub invariant-loop-row : goal.invariant-loop-row
-invariant-loop-row l = choose l.rows l.seen ≡ choose (drop l.row-index l.rows) l.seen
+invariant-loop-row l = choose l.rows l.strict l.prefixes l.modrm ≡ choose (drop l.row-index l.rows) l.strict l.prefixes l.modrm

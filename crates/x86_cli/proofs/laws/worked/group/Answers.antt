@@ -7,7 +7,7 @@ use Rattle.x86_forms.specs.Rows.{printed_row}
 use Rattle.x86_forms.specs.Words.{rows_of, packed}
 use Rattle.x86_opcodes.specs.Names.{Invalid, NEG}
 use Rattle.x86_groups.specs.Rows.{group_rows}
-use Rattle.x86_groups.specs.Groups.{group_form_plan, group_record}
+use Rattle.x86_groups.specs.Groups.{group_plan, group_record}
 use Rattle.x86_decode.specs.Grammar.{Whole, IsSentence}
 use Rattle.x86_decode.specs.Instruction.{instruction_of}
 use Rattle.x86_cli.specs.Worked.{bytes_f7_d8, neg_eax}
@@ -24,7 +24,7 @@ printed = refl
 
 -- no run, no escape, the opcode byte f7 and its row, ModRM d8, whose reg chooses NEG, and nothing after it
 whole : (strict : Bool) → rows_of packed One Plain 0xf7 ≡ Some row_of_f7 → Whole (rows_of packed) strict bytes_f7_d8 neg_eax
-unfolding group_record group_form_plan group_rows
+unfolding group_record group_plan group_rows
 whole strict row = record {
   run = [];
   map = One;
