@@ -1,6 +1,1 @@
 -- Lemmas on sources and sinks.
-pub mod Reports
-pub mod Writes
-pub mod Reads
-pub mod Flat
-pub mod Skip

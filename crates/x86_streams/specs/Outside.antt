@@ -8,6 +8,6 @@ pub mod StdSource
 pub mod Sink
 pub mod ArraySink
 pub mod Seen
-pub mod Reported
-pub mod Reads
-pub mod Writes
+pub mod Chain
+pub mod OneByOne
+pub mod Gathered

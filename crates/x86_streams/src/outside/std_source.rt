@@ -3,11 +3,12 @@
 ghost use Rattle.std.specs.Prelude.{◌≡◌, ◌≤◌, ◌<◌, [], ◌∷◌, slice_range};
 ghost use Rattle.std.specs.Io.KnownBytes.{prepend_known};
 ghost use Rattle.x86_streams.specs.Outside.Source.{ReportsGot};
-ghost use Rattle.x86_streams.specs.Outside.StdSource.{ReportsRefill, Fetches, Refills};
+ghost use Rattle.x86_streams.specs.Outside.StdSource.{ReportsRefill};
 
-use crate::outside::input::Input;
-use crate::outside::reading::read_some;
+use crate::outside::input::read_some;
+use crate::outside::process::Process;
 use crate::outside::source::{Got, Source};
+use std::io::Read;
 
 /// How many bytes one read may return.
 const BUFFER: usize = 65536;
@@ -15,7 +16,7 @@ const BUFFER: usize = 65536;
 /// The bytes of a reader, one read a buffer. Its bytes are known where the reader's are: first what is buffered, then
 /// those of the reader. A read that returns no byte is the end. One that a signal interrupts is made again.
 #[derive(Drop)]
-pub struct StdSource<R: Input + Drop> {
+pub struct StdSource<R: Read + Drop> {
     reader: R,
     buffer: [u8; BUFFER],
     position: usize,
@@ -25,15 +26,14 @@ pub struct StdSource<R: Input + Drop> {
     ghost in_order: { position ≤ filled },
 }
 
-impl<R: Input + Drop> StdSource<R> {
-    ghost use Rattle.x86_streams.specs.Outside.Seen.{source_reader, source_bytes};
+impl<R: Read + Drop> StdSource<R> {
+    ghost use Rattle.x86_streams.specs.Outside.Seen.{source_reader};
 
     /// A source over the reader, with nothing read.
     pub fn new(reader: R) -> StdSource<R>
-        ensures bytes { ⟦<StdSource<R> as Source>⟧.left result ≡ R.left reader }
+        ensures bytes { ⟦<StdSource<R> as Source>⟧.left result ≡ R.remaining reader }
         ensures sound { ⟦<StdSource<R> as Source>⟧.faults result ≡ 0 }
         ensures reader { source_reader result ≡ reader }
-        ensures empty { source_bytes result ≡ [] }
     {
         StdSource {
             reader,
@@ -67,7 +67,7 @@ enum Refill {
     Fault,
 }
 
-impl<R: Input + Drop> StdSource<R> {
+impl<R: Read + Drop> StdSource<R> {
     /// Reads on, where no byte of the buffer is left.
     #[cold]
     #[inline(never)]
@@ -75,14 +75,12 @@ impl<R: Input + Drop> StdSource<R> {
         requires { self.old.position ≡ self.old.filled }
         ensures reported { ReportsRefill result
             (prepend_known (slice_range self.old.buffer self.old.position self.old.filled)
-            (R.left self.old.reader))
+            (R.remaining self.old.reader))
             (prepend_known (slice_range self.new.buffer self.new.position self.new.filled)
-            (R.left self.new.reader)) self.old.faults self.new.faults }
+            (R.remaining self.new.reader)) self.old.faults self.new.faults }
         ensures some { result ≡ Refill.Bytes → self.new.position < self.new.filled }
-        ensures refills { Refills R.reads result self.old.reader
-            (slice_range self.new.buffer self.new.position self.new.filled) self.new.reader }
     {
-        match read_some(&mut self.reader, &mut self.buffer) {
+        match read_some(&Process, &mut self.reader, &mut self.buffer) {
             Ok(0) => Refill::Nothing,
             Ok(count) => {
                 self.position = 0;
@@ -105,9 +103,9 @@ impl<R: Input + Drop> StdSource<R> {
         ensures reader { self.new.reader ≡ self.old.reader }
         ensures reported { ReportsGot (Got.Byte result)
             (prepend_known (slice_range self.old.buffer self.old.position self.old.filled)
-            (R.left self.old.reader))
+            (R.remaining self.old.reader))
             (prepend_known (slice_range self.new.buffer self.new.position self.new.filled)
-            (R.left self.new.reader)) self.old.faults self.new.faults }
+            (R.remaining self.new.reader)) self.old.faults self.new.faults }
     {
         let byte = self.buffer[self.position];
         self.position += 1;
@@ -115,22 +113,18 @@ impl<R: Input + Drop> StdSource<R> {
     }
 }
 
-impl<R: Input + Drop> Source for StdSource<R> {
+impl<R: Read + Drop> Source for StdSource<R> {
     ghost left = { λ s. prepend_known (slice_range s.buffer s.position s.filled)
-        (R.left s.reader) };
+        (R.remaining s.reader) };
 
     ghost faults = { λ s. s.faults };
 
     ghost gives = { λ s g t. ReportsGot g
-        (prepend_known (slice_range s.buffer s.position s.filled) (R.left s.reader))
-        (prepend_known (slice_range t.buffer t.position t.filled) (R.left t.reader)) s.faults
-        t.faults
-        × Fetches R.reads g (slice_range s.buffer s.position s.filled) s.reader
-        (slice_range t.buffer t.position t.filled) t.reader };
+        (prepend_known (slice_range s.buffer s.position s.filled) (R.remaining s.reader))
+        (prepend_known (slice_range t.buffer t.position t.filled) (R.remaining t.reader)) s.faults
+        t.faults };
 
-    ghost ahead = { λ s. slice_range s.buffer s.position s.filled };
-
-    ghost reports = { λ s g t h. h.0 };
+    ghost reports = { λ s g t h. h };
 
     #[inline(always)]
     fn next(&mut self) -> Got {
@@ -142,20 +136,5 @@ impl<R: Input + Drop> Source for StdSource<R> {
             }
         }
         Got::Byte(self.take())
-    }
-
-    #[inline(always)]
-    fn ahead(&self) -> &[u8] {
-        &self.buffer[self.position..self.filled]
-    }
-
-    #[inline(always)]
-    #[tactic(auto, using(crate::proofs::OutsideLemmas::Skip::skipped_none))]
-    fn skip(&mut self, count: usize) {
-        let mut taken = 0;
-        while taken < count {
-            self.take();
-            taken += 1;
-        }
     }
 }
