@@ -10,4 +10,3 @@ pub mod ArraySink
 pub mod Seen
 pub mod Chain
 pub mod OneByOne
-pub mod Gathered

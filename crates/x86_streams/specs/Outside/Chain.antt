@@ -1,5 +1,5 @@
 -- The calls of a reader and a writer, in one order.
-use Rattle.std.specs.Prelude.{◌≡◌, ℕ, zero, suc, ◌<◌, ◌≤◌, Bool, IsTrue, ◌↔◌, List, [], ◌∷◌, ◌++◌, length, take, Option, Some, None, Result, Ok, Err, IfErr, OnOk, ⊤}
+use Rattle.std.specs.Prelude.{◌≡◌, ℕ, zero, suc, ◌<◌, ◌≤◌, Bool, IsTrue, false, ◌↔◌, List, [], ◌∷◌, ◌++◌, length, take, Option, Some, None, Result, Ok, Err, IfErr, OnOk, ⊤}
 use Rattle.std.specs.Io.{StartsWith}
 use Rattle.std.specs.declared.io.Error.{Error}
 use Rattle.std.specs.declared.io.ErrorKind.TheVariants.{Interrupted, BrokenPipe}
@@ -31,6 +31,13 @@ sent [] = []
 sent (Read buffer answer ∷ cs) = sent cs
 sent (Write bytes answer ∷ cs) = sent cs ++ taken_by answer bytes
 sent (Flush answer ∷ cs) = sent cs
+
+-- what the writes were to take, piece by piece
+abbrev pub pieces : List Call → List (List ℕ)
+pieces [] = []
+pieces (Read buffer answer ∷ cs) = pieces cs
+pieces (Write bytes answer ∷ cs) = pieces cs ++ bytes ∷ []
+pieces (Flush answer ∷ cs) = pieces cs
 
 -- what stopped the reads: one that returned no byte, or an error
 abbrev pub stop_of : List Call → Option Stop
@@ -111,6 +118,11 @@ abbrev pub AllContinue : List Call → Type 0
 AllContinue [] = ⊤
 AllContinue (c ∷ cs) = (Fails c → ⊥) × AllContinue cs
 
+-- No call follows one that failed.
+abbrev pub Follow : List Call → Type 0
+Follow [] = ⊤
+Follow (c ∷ cs) = AllContinue cs
+
 -- The last call failed, and none before it, where the answer says so.
 abbrev pub Cause : {A E : Type 0} → Result A E → List Call → Type 0
 Cause (Ok x) cs = AllContinue cs
@@ -134,6 +146,13 @@ module _ {W : Type 0} (writes : W → List ℕ → Result ℕ Error → W → Ty
     pub order : sent calls ++ held' ≡ held ++ new
     pub failed : IfErr answer (λ f. StartsWith held' (refused calls) × (IsTrue f.gone ↔ EndsIn IsGone calls))
 
-  -- All that was held is sent, and the writer is flushed.
+  -- All that was held is sent, and the writer is flushed. Where nothing was held, nothing is written.
   abbrev pub SendsAll : Result ⊤ WriteFailed → List ℕ → List ℕ → W → W → Type 0
-  SendsAll answer held held' w w' = (s : Sends answer [] held held' w w') × OnOk answer ((held' ≡ []) × EndsIn IsFlush s.calls)
+  SendsAll answer held held' w w' = (s : Sends answer [] held held' w w') × OnOk answer ((held' ≡ []) × EndsIn IsFlush s.calls) × (held ≡ [] → pieces s.calls ≡ [])
+
+  -- A piece was taken, after what was held. Where nothing is gathered, that was one write of it.
+  pub record Puts (gathers : Bool) (answer : Result ⊤ WriteFailed) (piece old new : List ℕ) (w w' : W) : Type 0 where
+    pub rest : List ℕ
+    pub sends : Sends answer piece old rest w w'
+    pub held : OnOk answer (new ≡ rest)
+    pub once : gathers ≡ false → (pieces sends.calls ≡ piece ∷ []) × OnOk answer (rest ≡ [])

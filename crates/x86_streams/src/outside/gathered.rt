@@ -1,11 +1,10 @@
 //! Output that is gathered, without an allocation.
 
-ghost use Rattle.std.specs.Prelude.{◌≡◌, ◌≤◌, [], length, OnOk};
-ghost use Rattle.x86_streams.specs.Outside.Chain.{Sends, SendsAll};
-ghost use Rattle.x86_streams.specs.Outside.Gathered.{put_by};
+ghost use Rattle.std.specs.Prelude.{◌≡◌, ◌≤◌, [], false, length, OnOk};
+ghost use Rattle.x86_streams.specs.Outside.Chain.{Puts, Sends, SendsAll};
 
-use crate::outside::output::{Output, flush_once};
-use crate::outside::sending::{WriteFailed, failed, send_out};
+use crate::outside::output::Output;
+use crate::outside::sending::{WriteFailed, flush_out, put_whole, send_out};
 use x86_lines::Room;
 
 const SIZE: usize = 65536;
@@ -38,7 +37,8 @@ impl Gathered {
         result
     }
 
-    /// Takes a piece. Where it doesn't fit, what was gathered is sent first.
+    /// Takes a piece. Where it doesn't fit, what was gathered is sent first. An output that doesn't gather is written at
+    /// once.
     #[inline(always)]
     pub fn put<W, O: Output<W>>(
         &mut self,
@@ -46,10 +46,14 @@ impl Gathered {
         writer: &mut W,
         piece: &[u8],
     ) -> Result<(), WriteFailed>
-        requires { length piece.now ≤ 65536 }
-        ensures { Sends O.writes O.flushes result (put_by result piece.now)
+        requires fits { length piece.now ≤ 65536 }
+        requires empty { O.gathers ≡ false → self.old.bytes.items ≡ [] }
+        ensures { Puts O.writes O.flushes O.gathers result piece.now
             self.old.bytes.items self.new.bytes.items writer.old writer.new }
     {
+        if !output.gathers() {
+            return put_whole(output, writer, piece);
+        }
         if piece.len() > self.bytes.left() {
             self.send(output, writer)?;
         }
@@ -66,10 +70,9 @@ impl Gathered {
         ensures { SendsAll O.writes O.flushes result self.old.bytes.items self.new.bytes.items
             writer.old writer.new }
     {
-        self.send(output, writer)?;
-        match flush_once(output, writer) {
-            Ok(()) => Ok(()),
-            Err(error) => Err(failed(&error)),
+        if !self.bytes.as_slice().is_empty() {
+            self.send(output, writer)?;
         }
+        flush_out(output, writer)
     }
 }

@@ -1,5 +1,6 @@
 //! Sources and sinks, as readers and writers.
 
+ghost use Rattle.std.specs.Prelude.{false};
 ghost use Rattle.x86_streams.specs.Outside.OneByOne.{ReadsByte, PutsPiece, HoldsNothing};
 
 use crate::outside::input::Input;
@@ -32,6 +33,14 @@ impl<K: Sink> Output<K> for OneByOne {
     ghost writes = { PutsPiece K.takes };
 
     ghost flushes = { HoldsNothing };
+
+    ghost gathers = { false };
+
+    ghost whole = { λ e w v bytes n is. is.0 };
+
+    fn gathers(&self) -> bool {
+        false
+    }
 
     fn write(&self, sink: &mut K, bytes: &[u8]) -> io::Result<usize> {
         match sink.put(bytes) {

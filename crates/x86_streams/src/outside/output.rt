@@ -1,6 +1,6 @@
 //! What a listing is written to.
 
-ghost use Rattle.std.specs.Prelude.{ℕ, List, Result, ⊤};
+ghost use Rattle.std.specs.Prelude.{◌≡◌, ℕ, Bool, false, List, Result, Ok, length, ⊤};
 ghost use Rattle.std.specs.Io.{WritesAtMost};
 ghost use Rattle.std.specs.declared.io.Error.{Error};
 ghost use Rattle.x86_streams.specs.Outside.Chain.{Flushes, Writes};
@@ -17,6 +17,13 @@ pub trait Output<W> {
     /// What a flush may answer, and what it may leave of the writer.
     ghost flushes: { W → Result ⊤ Error → W → Type 0 };
 
+    /// Whether pieces may be gathered before a write.
+    ghost gathers: { Bool };
+
+    /// Whether pieces may be gathered before a write. Where they aren't, a write takes all of its piece or fails.
+    fn gathers(&self) -> bool
+        ensures { result ≡ gathers };
+
     /// One write.
     fn write(&self, writer: &mut W, bytes: &[u8]) -> io::Result<usize>
         ensures bound { WritesAtMost result bytes.now }
@@ -25,6 +32,10 @@ pub trait Output<W> {
     /// One flush.
     fn flush(&self, writer: &mut W) -> io::Result<()>
         ensures { flushes writer.old result writer.new };
+
+    /// Where pieces aren't gathered, a write takes all of its piece or fails.
+    ghost whole: { gathers ≡ false → (w v : W) (bytes : List ℕ) (n : ℕ) →
+        writes w bytes (Ok n) v → n ≡ length bytes };
 }
 
 /// One write, which is made again where a signal interrupts it.

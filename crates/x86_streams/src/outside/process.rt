@@ -1,5 +1,6 @@
 //! The readers and writers of std, as the program uses them.
 
+ghost use Rattle.std.specs.Prelude.{true};
 ghost use Rattle.std.specs.Io.KnownBytes.{Keeps, ReadConsumes, WriteAppends};
 
 use crate::outside::input::Input;
@@ -23,6 +24,15 @@ impl<W: Write> Output<W> for Process {
     ghost writes = { λ s bytes r t. WriteAppends (W.contents s) (W.contents t) r bytes };
 
     ghost flushes = { λ s r t. Keeps (W.contents s) (W.contents t) };
+
+    ghost gathers = { true };
+
+    ghost whole = { λ e. cc };
+
+    #[inline(always)]
+    fn gathers(&self) -> bool {
+        true
+    }
 
     fn write(&self, writer: &mut W, bytes: &[u8]) -> io::Result<usize> {
         writer.write(bytes)

@@ -1,11 +1,11 @@
 //! Bytes that are sent to a writer whole, and its flush.
 
-ghost use Rattle.std.specs.Prelude.{◌≡◌, ◌↔◌, ◌≤◌, IsTrue, length, take, drop, [], Ok, OnOk};
-ghost use Rattle.x86_streams.specs.Outside.Chain.{Sends};
+ghost use Rattle.std.specs.Prelude.{◌≡◌, ◌↔◌, ◌≤◌, IsTrue, false, length, drop, [], OnOk};
+ghost use Rattle.x86_streams.specs.Outside.Chain.{Puts, Sends, SendsAll};
 ghost use Rattle.std.specs.declared.io.ErrorKind.TheVariants.{BrokenPipe};
 ghost use Rattle.std.specs.IoError.{error_kind};
 
-use crate::outside::output::{Output, write_some};
+use crate::outside::output::{Output, flush_once, write_some};
 use std::io::{Error, ErrorKind};
 
 /// The writer took no more.
@@ -44,4 +44,29 @@ pub fn send_out<W, O: Output<W>>(
         }
     }
     (sent, Ok(()))
+}
+
+/// Writes a piece at once, where pieces aren't gathered.
+pub fn put_whole<W, O: Output<W>>(
+    output: &O,
+    writer: &mut W,
+    piece: &[u8],
+) -> Result<(), WriteFailed>
+    requires { O.gathers ≡ false }
+    ensures { Puts O.writes O.flushes O.gathers result piece.now [] [] writer.old writer.new }
+{
+    match write_some(output, writer, piece) {
+        Ok(_) => Ok(()),
+        Err(error) => Err(failed(&error)),
+    }
+}
+
+/// Flushes the writer.
+pub fn flush_out<W, O: Output<W>>(output: &O, writer: &mut W) -> Result<(), WriteFailed>
+    ensures { SendsAll O.writes O.flushes result [] [] writer.old writer.new }
+{
+    match flush_once(output, writer) {
+        Ok(()) => Ok(()),
+        Err(error) => Err(failed(&error)),
+    }
 }
