@@ -3,7 +3,7 @@
 
 use std::process::ExitCode;
 use std::{env, io};
-use x86_cli::{finish, listed, words};
+use x86_cli::{Process, finish, listed, words};
 
 /// The words after the program's name.
 fn arguments(rt: &HostRuntime) -> io::Result<Vec<String>> {
@@ -14,8 +14,9 @@ fn main(rt: HostRuntime) -> ExitCode {
     match arguments(&rt) {
         Err(_) => ExitCode::from(1),
         Ok(words) => {
-            let finished = listed(words.as_slice(), rt.reader(), io::writer(&rt));
-            finish(finished.status, finished.gone, rt.stderr()).0
+            let (mut reader, mut writer) = (rt.reader(), io::writer(&rt));
+            let outcome = listed(words.as_slice(), &Process, &mut reader, &mut writer);
+            finish(outcome, &Process, &mut rt.stderr())
         }
     }
 }

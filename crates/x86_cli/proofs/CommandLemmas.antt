@@ -1,7 +1,6 @@
 -- Lemmas on runs of commands.
 pub mod Causes
-pub mod Says
 pub mod Ends
-pub mod Program
+pub mod Known
+pub mod Says
 pub mod Leaves
-pub mod Obeys

@@ -1,8 +1,9 @@
 -- Lemmas on listings.
 pub mod Listing
 pub mod Grammar
-pub mod Progress
 pub mod NextEntry
 pub mod Sweep
 pub mod Target
 pub mod Live
+pub mod Closes
+pub mod Whole

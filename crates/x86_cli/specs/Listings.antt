@@ -3,7 +3,8 @@ pub mod Line
 pub mod Status
 pub mod Listing
 pub mod Entry
-pub mod Calls
+pub mod Performs
+pub mod Closes
 pub mod Grammar
 pub mod Sweep
 pub mod Targets

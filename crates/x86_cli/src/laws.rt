@@ -1,7 +1,7 @@
 //! Laws of listings and runs, and those of the decoder on which the window rests. The laws of hex text, and of what
 //! calls of sources and sinks say, are those of x86_streams.
 
-ghost use Rattle.std.specs.Prelude.{◌≡◌, ◌≢◌, ◌↔◌, ℕ, Bool, IsTrue, List, Option};
+ghost use Rattle.std.specs.Prelude.{◌≡◌, ◌≢◌, ◌↔◌, ℕ, Bool, IsTrue, true, List, Option};
 ghost use Rattle.x86_decode.specs.declared.instructions.Instruction.{Instruction};
 ghost use Rattle.x86_decode.specs.Instruction.{length_of};
 ghost use Rattle.x86_forms.specs.Words.{rows_of, packed};
@@ -10,7 +10,6 @@ ghost use Rattle.x86_layout.specs.Tightening.Least.{shortest_length};
 ghost use Rattle.x86_text.specs.Lines.{line_of};
 ghost use Rattle.x86_text.specs.Parts.{fields_line};
 ghost use Rattle.x86_cli.specs.DecoderLaws.{DecoderLaws};
-ghost use Rattle.x86_cli.specs.Commands.Causes.{HaveCauses};
 ghost use Rattle.x86_cli.specs.Commands.Command.{goes_past_refusals};
 ghost use Rattle.x86_cli.specs.Commands.Request.{Runs, task_of};
 ghost use Rattle.x86_cli.specs.Commands.Complete.{CompletesTexts};
@@ -27,7 +26,9 @@ ghost use Rattle.x86_cli.specs.Listings.Sweep.{known_sweep_at, sweep_at};
 ghost use Rattle.x86_cli.specs.Listings.Tighten.{least_text};
 ghost use Rattle.x86_streams.specs.Text.{Text};
 ghost use Rattle.x86_cli.specs.Commands.Make.{made_listing};
-ghost use Rattle.x86_cli.specs.Commands.Program.{Performs, EndsAt, Has, Leaves, read_stop};
+ghost use Rattle.x86_cli.specs.Commands.Program.{EndsAt, Has, Leaves};
+ghost use Rattle.x86_cli.specs.Listings.Performs.{Performs};
+ghost use Rattle.x86_streams.specs.Outside.Chain.{stop_of};
 ghost use Rattle.x86_cli.specs.Commands.Says.{Makes, Says, Streams, streams_of};
 ghost use Rattle.x86_streams.specs.Outside.FaultCounts.{Rose};
 
@@ -39,13 +40,13 @@ use crate::commands::request::Request;
 use crate::listings::fields::FieldLines;
 use crate::listings::line::{Lines, Plain};
 use crate::listings::listing::{Course, UpToRefusal};
-use crate::listings::status::Status;
+use crate::listings::status::{Outcome, Status};
 use crate::listings::sweep::PastRefusals;
 use crate::listings::tightening::LeastLines;
 use std::io::{Read, Write};
 use x86_decode::laws;
-pub use x86_streams::laws::{first, reported, sequences};
-use x86_streams::{Got, Input, Output, Sink, SinkFailed, Source};
+pub use x86_streams::laws::{first, sequences};
+use x86_streams::{Got, Input, Output, Process, Sink, SinkFailed, Source};
 use x86_text::LINE_ROOM;
 
 /// The headline, under either choice: what is proved of every byte string, of every run over a source and a sink, and of
@@ -53,13 +54,13 @@ use x86_text::LINE_ROOM;
 pub fn headline<S: Source, K: Sink, R: Read, W: Write>()
     ensures bytes { (strict : Bool) → Headline strict }
     ensures runs { (c : Command) (status : Status) (a b : S) (k l : K)
-        → Runs S.gives S.ahead K.takes (Request.Reads c) status a b k l
+        → Runs S.gives K.takes (Request.Reads c) status a b k l
         → Says status c (streams_of S.left S.faults K.written K.faults a k)
         (streams_of S.left S.faults K.written K.faults b l) }
-    ensures program { (c : Command) (status : Status) (gone : Bool) (r r' : R) (w w' : W) →
-        Performs ⟦<R as Input>⟧.reads ⟦<W as Output>⟧.writes ⟦<W as Output>⟧.flushes
-        (task_of (Request.Reads c)) status gone r r' w w'
-        → Leaves status c (R.remaining r) (W.contents w) (W.contents w') }
+    ensures program { (c : Command) (outcome : Outcome) (r r' : R) (w w' : W) →
+        Performs ⟦<Process as Input<R>>⟧.reads ⟦<Process as Output<W>>⟧.writes
+        ⟦<Process as Output<W>>⟧.flushes true (task_of (Request.Reads c)) outcome r r' w w'
+        → Leaves outcome.status c (R.remaining r) (W.contents w) (W.contents w') }
 {
     headline_of_bytes();
     decoder_laws();
@@ -147,15 +148,10 @@ pub fn values_are_equal()
     x86_streams::laws::values_are_equal();
 }
 
-/// A read fault comes only after a call of the source that failed, and a write fault only after a put that failed.
-pub fn causes<S: Source, K: Sink>()
-    ensures { HaveCauses S.gives S.ahead K.takes }
-{}
-
 /// What a run of `make` says, where the sink's bytes are known.
 pub fn made<S: Source, K: Sink>()
     ensures { (n : ℕ) (status : Status) (a b : S) (k l : K)
-        → Runs S.gives S.ahead K.takes (Request.Makes n) status a b k l
+        → Runs S.gives K.takes (Request.Makes n) status a b k l
         → Makes n status (K.written k) (K.written l) (K.faults k) (K.faults l) }
 {}
 
@@ -185,7 +181,7 @@ pub fn write_faults()
 /// `sweep` and `targets` are never refused.
 pub fn unrefused<S: Source, K: Sink>()
     ensures { (c : Command) (status : Status) (a b : S) (k l : K)
-        → Runs S.gives S.ahead K.takes (Request.Reads c) status a b k l
+        → Runs S.gives K.takes (Request.Reads c) status a b k l
         → IsTrue (goes_past_refusals c) → status ≢ Status.Refused }
 {}
 
@@ -200,26 +196,30 @@ pub fn complete()
     decoder_laws();
 }
 
-/// How the reads of `listed` ended, where a command was requested: `Done` comes only after a read that returned no byte,
-/// `ReadFault` only where the last read answered an error, `Refused`, `BadText` and `TooLarge` only where none did.
-pub fn ends<R: Input, W: Output>()
-    ensures { (c : Command) (status : Status) (gone : Bool) (r r' : R) (w w' : W)
-        → (h : Performs R.reads W.writes W.flushes (task_of (Request.Reads c)) status gone
+/// How the reads of a command ended: `Done` comes only after a read that returned no byte, `ReadFault` only where the
+/// last read answered an error, `Refused`, `BadText` and `TooLarge` only where none did. So it is of the calls of a
+/// source.
+pub fn ends<R, W, O: Input<R> + Output<W>, S: Source, K: Sink>()
+    ensures listed { (c : Command) (outcome : Outcome) (r r' : R) (w w' : W)
+        → (h : Performs O.reads O.writes O.flushes O.gathers (task_of (Request.Reads c)) outcome
         r r' w w')
-        → EndsAt status (read_stop h.calls) }
+        → EndsAt outcome.status (stop_of h.calls) }
+    ensures run { (c : Command) (status : Status) (a b : S) (k l : K)
+        → (h : Runs S.gives K.takes (Request.Reads c) status a b k l)
+        → EndsAt status (stop_of h.1.calls) }
 {}
 
 /// What `listed` leaves, where the bytes that the reader has left and those that the writer has are known: the
 /// writer has what it had and then the listing of these bytes, or a prefix of that where a write failed.
 pub fn program<R: Read, W: Write>()
-    ensures lists { (c : Command) (status : Status) (gone : Bool) (r r' : R) (w w' : W) →
-        Performs ⟦<R as Input>⟧.reads ⟦<W as Output>⟧.writes ⟦<W as Output>⟧.flushes
-        (task_of (Request.Reads c)) status gone r r' w w'
-        → Leaves status c (R.remaining r) (W.contents w) (W.contents w') }
-    ensures made { (n : ℕ) (status : Status) (gone : Bool) (r r' : R) (w w' : W) →
-        Performs ⟦<R as Input>⟧.reads ⟦<W as Output>⟧.writes ⟦<W as Output>⟧.flushes
-        (task_of (Request.Makes n)) status gone r r' w w'
-        → Has status (made_listing n) (W.contents w) (W.contents w') }
+    ensures lists { (c : Command) (outcome : Outcome) (r r' : R) (w w' : W) →
+        Performs ⟦<Process as Input<R>>⟧.reads ⟦<Process as Output<W>>⟧.writes
+        ⟦<Process as Output<W>>⟧.flushes true (task_of (Request.Reads c)) outcome r r' w w'
+        → Leaves outcome.status c (R.remaining r) (W.contents w) (W.contents w') }
+    ensures made { (n : ℕ) (outcome : Outcome) (r r' : R) (w w' : W) →
+        Performs ⟦<Process as Input<R>>⟧.reads ⟦<Process as Output<W>>⟧.writes
+        ⟦<Process as Output<W>>⟧.flushes true (task_of (Request.Makes n)) outcome r r' w w'
+        → Has outcome.status (made_listing n) (W.contents w) (W.contents w') }
 {
     decoder_laws();
 }

@@ -10,7 +10,7 @@
 //! sink.written()                       // b"0 3 ADD rax, rbx m8\n"
 //! ```
 //!
-//! `over_streams` runs a `Program` of yours over a reader and a writer, as x86_show does.
+//! `Program::run` runs a program of yours over a reader and a writer, as x86_show does.
 #![tactic(auto)]
 
 pub mod commands;
@@ -21,11 +21,11 @@ pub mod text;
 pub use commands::command::{TARGETS_MAX, TEXT_MAX};
 pub use commands::make::generate;
 pub use commands::process::{finish, words};
-pub use commands::program::{Finished, Program, listed, over_streams};
-pub use commands::request::{USAGE, run};
-pub use listings::status::Status;
+pub use commands::program::{Program, listed, run};
+pub use commands::request::{Request, USAGE};
+pub use listings::status::{Outcome, Status};
 pub use x86_streams::{
-    ArraySink, Got, NullSink, Sink, SinkFailed, SliceSource, SoundSource, Source, StdSink,
-    StdSource, outside,
+    ArraySink, Got, NullSink, OneByOne, Process, Sink, SinkFailed, SliceSource, SoundSource, Source,
+    StdSink, StdSource, outside,
 };
 pub use x86_text::{fields_line, line_of, refusal_of};

@@ -5,7 +5,7 @@ use Rattle.x86_decode.specs.declared.instructions.Instruction.{Instruction}
 use Rattle.x86_layout.specs.declared.sweeps.cuts.Cut.{Cut}
 use Rattle.x86_layout.specs.Sweeps.Cuts.{cuts_from}
 use Rattle.x86_streams.specs.Text.{Text}
-use Rattle.x86_cli.specs.Commands.Request.{Task}
+use Rattle.x86_cli.specs.Listings.Performs.{Task}
 use Rattle.x86_cli.specs.Listings.Line.{line}
 use Rattle.x86_cli.specs.Listings.Listing.{Listing, with_lines, at_end}
 use Rattle.x86_cli.specs.Listings.Sweep.{before_open}

@@ -11,13 +11,13 @@ use x86_cli::laws::decoder_laws;
 use x86_cli::listings::listing::{Course, Entry, length_of, list};
 use x86_cli::listings::sweep::shown_at;
 use x86_cli::text::window::AtRefusal;
-use x86_cli::{Program, Status};
+use x86_cli::{Outcome, Program};
 use x86_decode::laws::lengths;
 use x86_decode::{DecodeError, InstDecoder, Instruction};
 use x86_lines::cells::{put_bytes, put_first};
 use x86_lines::hexadecimal::{put_hexadecimal, put_spaced_bytes};
 use x86_lines::{Place, Room};
-use x86_streams::{Settling, Sink, Source, Window};
+use x86_streams::{Input, Output, Window};
 
 /// How many bytes a line has room for, its end included.
 const ROOM: usize = 320;
@@ -102,18 +102,18 @@ impl Course<ROOM> for ShowAt {
     }
 }
 
-/// Shows the hex text of a source, whose image begins at the address `base`: a line for each instruction, and for each
+/// Shows the hex text of a reader, whose image begins at the address `base`: a line for each instruction, and for each
 /// byte that begins none, as soon as it is decided. The status is as of `sweep`.
 impl Program for ShowAt {
     ghost task = { λ s. showing s.base };
 
-    fn run<S: Source, K: Sink, T: Settling<K>>(
+    fn run<R, W, O: Input<R> + Output<W>>(
         &self,
-        settling: &T,
-        source: &mut S,
-        sink: &mut K,
-    ) -> Status {
+        outside: &O,
+        reader: &mut R,
+        writer: &mut W,
+    ) -> Outcome {
         let decoder = InstDecoder::default();
-        list(&decoder, self, settling, u64::MAX / 4, source, sink)
+        list(&decoder, self, u64::MAX / 4, outside, reader, writer)
     }
 }

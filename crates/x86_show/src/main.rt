@@ -11,7 +11,7 @@ mod text;
 use program::{finish, shown};
 use std::process::ExitCode;
 use std::{env, io};
-use x86_cli::words;
+use x86_cli::{Process, words};
 
 /// The words after the program's name.
 fn arguments(rt: &HostRuntime) -> io::Result<Vec<String>> {
@@ -22,8 +22,9 @@ fn main(rt: HostRuntime) -> ExitCode {
     match arguments(&rt) {
         Err(_) => ExitCode::from(1),
         Ok(words) => {
-            let finished = shown(words.as_slice(), rt.reader(), io::writer(&rt));
-            finish(finished.status, finished.gone, rt.stderr()).0
+            let (mut reader, mut writer) = (rt.reader(), io::writer(&rt));
+            let outcome = shown(words.as_slice(), &Process, &mut reader, &mut writer);
+            finish(outcome, &Process, &mut rt.stderr())
         }
     }
 }

@@ -3,7 +3,7 @@
 ghost use Rattle.std.specs.Prelude.{◌≡◌, ◌↔◌, None, IfSome, map, string_bytes};
 ghost use Rattle.std.specs.Process.{exit_status};
 ghost use Rattle.x86_cli.specs.Commands.Process.{Reports};
-ghost use Rattle.x86_cli.specs.Commands.Program.{Performs};
+ghost use Rattle.x86_cli.specs.Listings.Performs.{Performs};
 ghost use Rattle.x86_cli.specs.Listings.Status.{code};
 ghost use Rattle.x86_show.specs.Program.{base_number, base_in, said};
 ghost use Rattle.x86_show.specs.Listing.{showing};
@@ -11,7 +11,7 @@ ghost use Rattle.x86_show.specs.Listing.{showing};
 use crate::listing::ShowAt;
 use std::process::ExitCode;
 use x86_cli::commands::process::report;
-use x86_cli::{Finished, Status, over_streams};
+use x86_cli::{Outcome, Program, Status};
 use x86_lines::cells::put_bytes;
 use x86_streams::{Input, Output};
 
@@ -47,36 +47,39 @@ pub fn base_in(words: &[String]) -> Option<u64>
 
 /// Shows the hex text of a reader, whose image begins at the address that the words say. What is written is gathered in
 /// a buffer, and sent and flushed before each read and at the end.
-pub fn shown<R: Input + Drop, W: Output + Drop>(
+pub fn shown<R, W, O: Input<R> + Output<W>>(
     words: &[String],
-    reader: R,
-    writer: W,
-) -> Finished<R, W>
+    outside: &O,
+    reader: &mut R,
+    writer: &mut W,
+) -> Outcome
     ensures performs { IfSome (base_in (map string_bytes words.now))
-        (λ base. Performs R.reads W.writes W.flushes (showing base)
-        result.status result.gone reader result.reader writer result.writer) }
+        (λ base. Performs O.reads O.writes O.flushes O.gathers (showing base) result
+        reader.old reader.new writer.old writer.new) }
     ensures usage { (result.status ≡ Status.Usage) ↔ (base_in (map string_bytes words.now) ≡ None) }
     ensures nothing { result.status ≡ Status.Usage
-        → (result.reader ≡ reader) × (result.writer ≡ writer) }
+        → (reader.new ≡ reader.old) × (writer.new ≡ writer.old) }
 {
     match base_in(words) {
-        Some(base) => over_streams(&ShowAt { base }, reader, writer),
-        None => Finished {
+        Some(base) => ShowAt { base }.run(outside, reader, writer),
+        None => Outcome {
             status: Status::Usage,
             gone: false,
-            reader,
-            writer,
         },
     }
 }
 
 /// How the process ends. The usage line, or `write fault` unless nobody reads it, is written to `errors`.
-pub fn finish<E: Output + Drop>(status: Status, gone: bool, errors: E) -> (ExitCode, E)
-    ensures code { exit_status result.0 ≡ code status }
-    ensures says { Reports E.writes E.flushes (said status gone) errors result.1 }
+pub fn finish<E, O: Output<E>>(outcome: Outcome, output: &O, errors: &mut E) -> ExitCode
+    ensures code { exit_status result ≡ code outcome.status }
+    ensures says { Reports O.writes O.flushes (said outcome.status outcome.gone)
+        errors.old errors.new }
 {
-    match status {
-        Status::Usage => (ExitCode::from(2), report(USAGE, errors)),
-        _ => x86_cli::finish(status, gone, errors),
+    match outcome.status {
+        Status::Usage => {
+            report(USAGE, output, errors);
+            ExitCode::from(2)
+        }
+        _ => x86_cli::finish(outcome, output, errors),
     }
 }

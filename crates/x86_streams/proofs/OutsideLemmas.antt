@@ -1,6 +1,4 @@
--- Lemmas on sources and sinks.
-pub mod Reports
-pub mod Writes
-pub mod Reads
-pub mod Flat
-pub mod Skip
+-- Lemmas on sources and sinks, readers and writers.
+pub mod Tries
+pub mod Calls
+pub mod Buffers

@@ -1,8 +1,8 @@
--- Lemmas on texts, their reader and its window.
+-- Lemmas on texts and the window over them.
 pub mod Text
 pub mod Kind
-pub mod Read
 pub mod Pair
+pub mod Beginning
 pub mod Spells
-pub mod ImageBytes
-pub mod Fill
+pub mod Cells
+pub mod Window

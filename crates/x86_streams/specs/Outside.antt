@@ -4,10 +4,8 @@ pub mod Calls
 pub mod Source
 pub mod Stop
 pub mod SliceSource
-pub mod StdSource
 pub mod Sink
 pub mod ArraySink
 pub mod Seen
-pub mod Reported
-pub mod Reads
-pub mod Writes
+pub mod Chain
+pub mod OneByOne

@@ -1,4 +1,5 @@
 -- A hex text: its image, and how it ends.
+pub mod Beginning
 pub mod Kinds
 pub mod Reader
 pub mod Reading

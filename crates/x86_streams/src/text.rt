@@ -1,7 +1,8 @@
-//! Hex text: its bytes by kind, its reader, and the window over its image.
+//! Hex text.
 
+pub mod beginning;
 pub mod image_bytes;
-mod kinds;
-mod pairs;
+pub mod kinds;
+pub mod pairs;
 pub mod reader;
 pub mod window;

@@ -1,4 +1,4 @@
--- What a run's status says of its causes.
+-- What the status of a listing says of its text.
 use Rattle.std.proofs.Common.{◌≡◌, ◌≢◌, ℕ, suc, zero, false, ◌+◌, ◌<◌, ◌≤◌, Bool, List, [], ◌∷◌, ◌++◌, length, drop, Option, Some, None, Result, Ok, Err, refl, arith, ap, ◌∙◌, sym, length-append}
 use Rattle.std.proofs.Math.Seq.{drop-append_seam}
 use Rattle.std.specs.Prelude.{IsTrue, ⊤}
@@ -6,21 +6,17 @@ use Rattle.std.specs.List.{concat}
 use Rattle.x86_decode.specs.declared.instructions.Instruction.{Instruction}
 use Rattle.x86_fields.specs.declared.errors.DecodeError.TheVariants.{ExhaustedInput}
 use Rattle.x86_decode.specs.Answer.{answer_of}
-use Rattle.x86_streams.specs.declared.outside.source.Got.{Got}
-use Rattle.x86_streams.specs.declared.outside.sink.SinkFailed.{SinkFailed}
 use Rattle.x86_streams.specs.declared.text.reader.Ending.{Ending}
 use Rattle.x86_streams.specs.declared.text.reader.Ending.TheVariants.{Clean}
 use Rattle.x86_streams.specs.Outside.Stop.{Stop, End, Failed}
 use Rattle.x86_cli.specs.declared.text.window.Decoded.TheVariants.{Whole}
-use Rattle.x86_cli.specs.declared.listings.status.Status.{Status}
 use Rattle.x86_cli.specs.declared.listings.status.Status.TheVariants as outcome
 use Rattle.x86_cli.specs.declared.commands.command.Command.{Command}
 use Rattle.x86_cli.specs.declared.commands.command.Command.TheVariants.{List as Listed, Sweep as Swept, Targets as Targeted}
-use Rattle.x86_cli.specs.Commands.Command.{listing_for, known_for, max_of, goes_past_refusals}
+use Rattle.x86_cli.specs.Commands.Command.{listing_for, known_for, max_of}
 use Rattle.x86_streams.specs.Text.{Text, text_at, text_of}
 use Rattle.x86_streams.specs.Text.Reading.{MayCome}
 use Rattle.x86_cli.specs.Listings.Listing.{Listing, at_end, decoded_of, decoded_before_end, listing_from}
-use Rattle.x86_cli.specs.Commands.Run.{Lists, Ran}
 use Rattle.x86_cli.specs.Commands.Complete.{IsOneInstruction, AreSentences, CompletesTexts}
 use Rattle.x86_cli.specs.DecoderLaws.{DecoderLaws}
 use Rattle.x86_cli.proofs.TextLemmas.Decoded.{decoded-stays}
@@ -57,19 +53,13 @@ known_fault Swept t h = h
 known_fault Targeted t h = h
 known_fault c t h = h
 
--- a run at which no put failed ends as its listing
-pub lists_status : (status : Status) (lines : List (List ℕ)) (failed : Option (List ℕ)) (l : Listing) → status ≢ outcome.WriteFault → Lists status lines failed l → l.status ≡ status
-lists_status status lines failed l ne h = grind arith
-
--- Commands that continue after refusals are never refused.
-pub ran_unrefused : {S K : Type 0} (gives : S → Got → S → Type 0) (takes : K → List ℕ → Result ⊤ SinkFailed → K → Type 0) (c : Command) (status : Status) (a b : S) (k l : K) →
-    Ran gives takes (listing_for c) (max_of c) status a b k l → IsTrue (goes_past_refusals c) → status ≢ outcome.Refused
-ran_unrefused gives takes c status a b k l ran goes e =
-    let s = some_stop ran.stop in
-    let ends = lists_status status ran.lines ran.failed _ (λ f. cc) (ran.lists [] s.0 s.1) ∙ e in grind arith
-
 pub fault_stop : (stop : Option Stop) → (MayCome stop [] End → ⊥) → stop ≡ Some Failed
 fault_stop stop never = grind arith
+
+pub end_stop : (c : Command) (max : ℕ) (bytes : List ℕ) (stop : Option Stop) →
+    ((xs : List ℕ) (s : Stop) → MayCome stop xs s → (listing_for c (text_of max (bytes ++ xs) s)).status ≡ outcome.Done) → stop ≡ Some End
+unfolding text_at
+end_stop c max bytes stop done = let h = command_end c (text_of max (bytes ++ []) Failed) in grind (arith, done [] Failed)
 
 -- sequences of sentences
 

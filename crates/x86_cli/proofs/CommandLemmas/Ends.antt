@@ -1,27 +1,31 @@
--- How the reads of the program ended, by its status.
+-- How the reads of a program ended, by its status.
 use Rattle.std.proofs.Common.{◌≡◌, ◌≢◌, ℕ, List, [], ◌∷◌, ◌++◌, Option, Some, Result, Ok, Err, refl, arith, ap, ◌∙◌, sym, append-nil}
-use Rattle.std.specs.Prelude.{⊤, Bool}
+use Rattle.std.specs.Prelude.{Bool, IsTrue, ⊤}
 use Rattle.std.specs.declared.io.Error.{Error}
 use Rattle.x86_cli.specs.declared.commands.command.Command.{Command}
+use Rattle.x86_cli.specs.declared.commands.request.Request.{Request}
+use Rattle.x86_cli.specs.declared.commands.request.Request.TheVariants.{Reads, Makes}
+use Rattle.x86_cli.specs.declared.listings.status.Outcome.{Outcome}
 use Rattle.x86_cli.specs.declared.listings.status.Status.{Status}
 use Rattle.x86_cli.specs.declared.listings.status.Status.TheVariants.{Done, Usage, Refused, ReadFault, WriteFault}
+use Rattle.x86_streams.specs.Outside.Chain.{Call, Read, Write, Flush, received, stop_of}
 use Rattle.x86_streams.specs.Outside.Stop.{Stop, End, Failed}
 use Rattle.x86_streams.specs.Text.{Text, text_of}
 use Rattle.x86_streams.specs.Text.Reading.{MayCome}
-use Rattle.x86_cli.specs.Commands.Command.{listing_for, known_for, max_of}
-use Rattle.x86_cli.specs.declared.commands.request.Request.TheVariants.{Reads}
+use Rattle.x86_cli.specs.Commands.Command.{goes_past_refusals, listing_for, known_for, max_of}
+use Rattle.x86_cli.specs.Commands.Program.{EndsAt}
 use Rattle.x86_cli.specs.Commands.Request.{task_of}
 use Rattle.x86_cli.specs.Commands.Says.{taken_listing}
-use Rattle.x86_cli.specs.Commands.Program.{StreamCall, Read, Send, bytes_read, read_stop, ReadsByRule, EndsAt, Performs}
-use Rattle.x86_cli.proofs.CommandLemmas.Causes.{some_stop, fault_stop, known_fault, command_read, command_status}
-use Rattle.x86_cli.proofs.CommandLemmas.Says.{end_stop}
+use Rattle.x86_cli.specs.Listings.Performs.{ByRule, IsEnd, Performs, Task}
+use Rattle.x86_cli.proofs.CommandLemmas.Causes.{some_stop, fault_stop, known_fault, command_end, command_read, command_status, end_stop}
 
 -- Where a read failed, the listing of the bytes read before ends in a read fault.
-fault_listed : (c : Command) (cs : List StreamCall) → ReadsByRule (known_for c) (text_of (max_of c)) cs → read_stop cs ≡ Some Failed → (taken_listing c (bytes_read cs)).status ≡ ReadFault
+pub fault_listed : (c : Command) (cs : List Call) → ByRule (known_for c) (text_of (max_of c)) cs → stop_of cs ≡ Some Failed → (taken_listing c (received cs)).status ≡ ReadFault
 fault_listed c [] rule e = cc
 fault_listed c (Read buffer (Ok n) ∷ cs) rule e = grind arith
-fault_listed c (Read buffer (Err f) ∷ cs) rule e = rw append-nil (known_fault c (text_of (max_of c) (bytes_read cs) Failed) (ap (λ l. l.status) rule.4.1))
-fault_listed c (Send call ∷ cs) rule e = fault_listed c cs rule e
+fault_listed c (Read buffer (Err f) ∷ cs) rule e = rw append-nil (known_fault c (text_of (max_of c) (received cs) Failed) (ap (λ l. l.status) rule.4.1))
+fault_listed c (Write bytes answer ∷ cs) rule e = fault_listed c cs rule.0 e
+fault_listed c (Flush answer ∷ cs) rule e = fault_listed c cs rule.0 e
 
 -- of every text that begins with these bytes, the listing ends so
 module _ (c : Command) (bytes : List ℕ) (stop : Option Stop) (failed : stop ≡ Some Failed → (taken_listing c bytes).status ≡ ReadFault) where
@@ -34,7 +38,25 @@ module _ (c : Command) (bytes : List ℕ) (stop : Option Stop) (failed : stop �
       let is = rw append-nil at (ends [] Failed (rw e (refl, refl)) (λ e. cc)) in
       let same : ReadFault ≡ status = sym (failed e) ∙ is in cc
 
-pub ends_at : {R W : Type 0} (reads : R → List ℕ → Result ℕ Error → R → Type 0) (writes : W → List ℕ → Result ℕ Error → W → Type 0) (flushes : W → Result ⊤ Error → W → Type 0) (c : Command) (status : Status) (gone : Bool) (r r' : R) (w w' : W) →
-    (h : Performs reads writes flushes (task_of (Reads c)) status gone r r' w w') → EndsAt status (read_stop h.calls)
-ends_at reads writes flushes c status gone r r' w w' h =
-    run_ends c (bytes_read h.calls) (read_stop h.calls) (fault_listed c h.calls h.rule) status (λ xs s may ne. sym ((h.lists xs s may).all ne).1)
+module _ {R W : Type 0} (reads : R → List ℕ → Result ℕ Error → R → Type 0) (writes : W → List ℕ → Result ℕ Error → W → Type 0) (flushes : W → Result ⊤ Error → W → Type 0)
+    (gathers : Bool) (c : Command) (outcome : Outcome) (r r' : R) (w w' : W) (h : Performs reads writes flushes gathers (task_of (Reads c)) outcome r r' w w') where
+  pub ends_at : EndsAt outcome.status (stop_of h.calls)
+  ends_at = run_ends c (received h.calls) (stop_of h.calls) (fault_listed c h.calls h.rule) outcome.status (λ xs s may ne. sym ((h.lists xs s may).all ne).1)
+
+  -- Commands that continue after refusals are never refused.
+  pub unrefused : IsTrue (goes_past_refusals c) → outcome.status ≢ Refused
+  unrefused goes e =
+      let one = some_stop (stop_of h.calls) in
+      let ends = sym ((h.lists [] one.0 one.1).all (λ f. let g : Refused ≡ WriteFault = sym e ∙ f in cc)).1 ∙ e in grind arith
+
+-- What ends with a listing's status is no mistake of usage.
+pub performs_used : {R W : Type 0} (reads : R → List ℕ → Result ℕ Error → R → Type 0) (writes : W → List ℕ → Result ℕ Error → W → Type 0) (flushes : W → Result ⊤ Error → W → Type 0) (gathers : Bool) (task : Task) (outcome : Outcome) (r r' : R) (w w' : W) →
+    ((text : Text) → IsEnd (task.lists text).status) → Performs reads writes flushes gathers task outcome r r' w w' → outcome.status ≢ Usage
+performs_used reads writes flushes gathers task outcome r r' w w' ends h e =
+    let one = some_stop (stop_of h.calls) in
+    let same = ((h.lists [] one.0 one.1).all (λ f. let g : Usage ≡ WriteFault = sym e ∙ f in absurd (cc))).1 in
+    (ends _).0 (sym same ∙ e)
+
+pub task_ends : (request : Request) (t : Text) → IsEnd ((task_of request).lists t).status
+task_ends (Reads c) t = command_status c t
+task_ends (Makes n) t = (λ e. cc, λ e. cc)

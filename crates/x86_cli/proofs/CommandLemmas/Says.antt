@@ -1,152 +1,208 @@
--- What a run says of what is seen, from its calls.
-use Rattle.std.proofs.Common.{◌≡◌, ◌≢◌, ◌⊎◌, inl, inr, ℕ, Bool, List, [], ◌∷◌, ◌++◌, take, drop, Option, Some, None, refl, ap, ◌∙◌, sym, append_assoc, append-nil, arith}
-use Rattle.std.proofs.lemmas.List.{take-append-drop, append_cancel_left}
-use Rattle.std.proofs.lemmas.List.Folds.{concat-append}
+-- What a run says of a source and of a sink whose bytes are known.
+use Rattle.std.proofs.Common.{◌≡◌, ◌≢◌, ◌⊎◌, inl, inr, ℕ, zero, suc, Bool, List, [], ◌∷◌, ◌++◌, take, Option, Some, None, Result, Ok, Err, refl, ap, ◌∙◌, subst, sym, append-nil, arith}
+use Rattle.std.proofs.Math.Seq.{take-length}
 use Rattle.std.proofs.lemmas.Option.{IfSome_then}
-use Rattle.std.specs.Prelude.{IfSome, Result, ⊤}
+use Rattle.std.specs.Prelude.{IfSome, false, ⊤}
 use Rattle.std.specs.List.{concat}
-use Rattle.std.specs.Io.KnownBytes.{Consumes, Appends}
+use Rattle.std.specs.Io.KnownBytes.{Consumes, Appends, IsAtEnd, Keeps}
+use Rattle.std.proofs.KnownBytes.{Keeps-refl}
+use Rattle.std.specs.declared.io.Error.{Error}
+use Rattle.std.specs.declared.io.ErrorKind.TheVariants.{Interrupted}
+use Rattle.std.specs.IoError.{error_kind}
 use Rattle.x86_streams.specs.declared.outside.source.Got.{Got}
+use Rattle.x86_streams.specs.declared.outside.source.Got.TheVariants as got
 use Rattle.x86_streams.specs.declared.outside.sink.SinkFailed.{SinkFailed}
-use Rattle.x86_streams.specs.declared.text.reader.Ending.TheVariants.{Fault}
+use Rattle.x86_streams.specs.Outside.Chain.{Call, Read, Write, Flush, AllContinue, Answers, Calls, EndsIn, Fails, Flushes, Follow, Interruptions, IsFlush, Reads, Writes, received, stop_of}
+use Rattle.x86_streams.specs.Outside.FaultCounts.{Rose}
+use Rattle.x86_streams.specs.Outside.OneByOne.{HoldsNothing, PutsPiece, ReadsByte}
+use Rattle.x86_streams.specs.Outside.Sink.{ReportsPut}
+use Rattle.x86_streams.specs.Outside.Source.{ReportsGot}
 use Rattle.x86_streams.specs.Outside.Stop.{Stop, End, Failed}
+use Rattle.x86_streams.specs.Text.{text_of}
+use Rattle.x86_streams.specs.Text.Reading.{MayCome}
 use Rattle.x86_cli.specs.declared.commands.command.Command.{Command}
+use Rattle.x86_cli.specs.declared.commands.request.Request.TheVariants as request
+use Rattle.x86_cli.specs.declared.listings.status.Outcome.{Outcome}
 use Rattle.x86_cli.specs.declared.listings.status.Status.{Status}
 use Rattle.x86_cli.specs.declared.listings.status.Status.TheVariants.{Done, Usage, Refused, ReadFault, WriteFault}
-use Rattle.x86_streams.specs.Text.{Text, text_at, text_of}
-use Rattle.x86_cli.specs.Listings.Listing.{Listing}
-use Rattle.x86_cli.specs.Commands.Command.{listing_for, max_of}
-use Rattle.x86_streams.specs.Outside.Source.{ReportsGot}
-use Rattle.x86_streams.specs.Outside.Sink.{ReportsPut}
-use Rattle.x86_streams.specs.Text.Reading.{CalledWhileOpen, MayCome}
-use Rattle.x86_cli.specs.Commands.Run.{Lists, Wrote, Ran}
-use Rattle.x86_streams.specs.Outside.Reported.{ReportsBytes, ReportsPieces}
-use Rattle.x86_cli.specs.Commands.Make.{made_listing}
 use Rattle.x86_cli.specs.DecoderLaws.{DecoderLaws}
-use Rattle.x86_cli.specs.Commands.Says.{Streams, streams_of, full_listing, taken_listing, Writes, WritesPrefix, OfAll, OfTaken, Makes, Says}
+use Rattle.x86_cli.specs.Commands.Command.{known_for, listing_for, max_of}
 use Rattle.x86_cli.specs.Commands.Follows.{IsSound, IsExact, HasReadFault, Completes}
-use Rattle.x86_cli.proofs.CommandLemmas.Causes.{command_end, some_stop, fault_stop, command_status, command_read, text_done}
-use Rattle.x86_streams.proofs.OutsideLemmas.Reports.{source_calls_report, sink_calls_report}
+use Rattle.x86_cli.specs.Commands.Make.{made_listing}
+use Rattle.x86_cli.specs.Commands.Program.{EndsAt}
+use Rattle.x86_cli.specs.Commands.Request.{Runs, task_of}
+use Rattle.x86_cli.specs.Commands.Says.{Streams, streams_of, full_listing, taken_listing, Writes as WritesListing, WritesPrefix, OfAll, OfTaken, Makes, Says}
+use Rattle.x86_cli.specs.Listings.Listing.{Listing}
+use Rattle.x86_cli.specs.Listings.Performs.{ByRule, IsLastAt, IsPrinted, Performs, Task}
+use Rattle.x86_cli.proofs.CommandLemmas.Causes.{some_stop, text_done}
+use Rattle.x86_cli.proofs.CommandLemmas.Ends.{ends_at}
+use Rattle.x86_cli.proofs.CommandLemmas.Known.{Adds, Prints, Takes, at_end_of, consumed, continued, follows, not_both, of_all, of_taken, prints}
 
--- options that are known
+none_left : (a b : Option (List ℕ)) (bytes : List ℕ) → Consumes a b bytes → IfSome a (λ xs. IsAtEnd b) → IfSome a (λ xs. b ≡ Some [])
+none_left a b bytes c e = grind arith
 
-pub some_left : (a b : Option (List ℕ)) (bytes : List ℕ) (P : List ℕ → Type 0) → Consumes a b bytes → ((xs : List ℕ) → P (bytes ++ xs)) → IfSome a P
-some_left a b bytes P c h = grind arith
+at_end_left : (a b : Option (List ℕ)) → Consumes a b [] → IfSome a (λ xs. xs ≡ []) → IfSome a (λ xs. IsAtEnd b)
+at_end_left a b c e = grind arith
 
-none_left : (a b : Option (List ℕ)) (bytes : List ℕ) → Consumes a b bytes → IfSome a (λ xs. xs ≡ bytes) → IfSome a (λ xs. b ≡ Some [])
-none_left a b bytes c e = grind (arith, append_cancel_left {A = ℕ}, append-nil {A = ℕ})
+ends_flush : (status : Status) → status ≢ WriteFault → (cs : List Call) → EndsIn (IsLastAt status) cs → EndsIn IsFlush cs
+ends_flush status ne cs h = grind arith
 
--- of all the known bytes of the source, of which those returned are a prefix
-known_bytes : (stop : Option Stop) (a b : Option (List ℕ)) (bytes : List ℕ) (faults faults' : ℕ) (P : List ℕ → Type 0) → ReportsBytes bytes stop a b faults faults' →
-    ((xs : List ℕ) → MayCome stop xs End → P (bytes ++ xs)) → (stop ≡ Some Failed → (xs : List ℕ) → P (bytes ++ xs)) → IfSome a P
-known_bytes stop a b bytes faults faults' P t h f = grind (arith, append-nil {A = ℕ})
+-- a call of a source or of a sink is never interrupted
+never_again : {O A : Type 0} (tries : O → Error → O → Type 0) (call : O → Result A Error → O → Type 0) (answer : Result A Error) (o o' : O) →
+    ((u : O) (e : Error) (v : O) → tries u e v → error_kind e ≢ Interrupted) → Answers tries call answer o o' → call o answer o'
+never_again tries call answer o o' never h = at h.count h.before h.interrupted h.answered
+  where
+    at : (n : ℕ) (u : _) → Interruptions tries n o u → call u answer o' → call o answer o'
+    at zero u is answered = rw is at answered
+    at (suc n) u is answered = absurd (never is.0 is.2.0 u is.2.1 is.2.2)
 
--- texts and listings
+module _ {S K : Type 0} (gives : S → Got → S → Type 0) (takes : K → List ℕ → Result ⊤ SinkFailed → K → Type 0)
+    (left : S → Option (List ℕ)) (faults : S → ℕ) (written : K → Option (List ℕ)) (others : K → ℕ)
+    (source : (s : S) (g : Got) (t : S) → gives s g t → ReportsGot g (left s) (left t) (faults s) (faults t))
+    (sink : (s : K) (piece : List ℕ) (r : Result ⊤ SinkFailed) (t : K) → takes s piece r t → ReportsPut r piece (written s) (written t) (others s) (others t)) where
+  one_read : (buffer : List ℕ) (answer : Result ℕ Error) (s t : S) → Reads (ReadsByte gives) buffer answer s t → ReadsByte gives s buffer answer t
+  one_read buffer answer s t = never_again _ _ answer s t (λ u e v h. h.1.1)
 
-pub end_stop : (c : Command) (max : ℕ) (bytes : List ℕ) (stop : Option Stop) →
-    ((xs : List ℕ) (s : Stop) → MayCome stop xs s → (listing_for c (text_of max (bytes ++ xs) s)).status ≡ Done) → stop ≡ Some End
-unfolding text_at
-end_stop c max bytes stop done = let h = command_end c (text_of max (bytes ++ []) Failed) in grind (arith, done [] Failed)
+  one_write : (bytes : List ℕ) (answer : Result ℕ Error) (k l : K) → Writes (PutsPiece takes) bytes answer k l → PutsPiece takes k bytes answer l
+  one_write bytes answer k l = never_again _ _ answer k l (λ u e v h. h.1)
 
--- lines, what was written of one more, and what was not
-pub written_part : (lines : List (List ℕ)) (failed : List ℕ) (n : ℕ) (more : List (List ℕ)) → concat (lines ++ failed ∷ more) ≡ (concat lines ++ take n failed) ++ (drop n failed ++ concat more)
-written_part lines failed n more = grind (arith, concat-append, append_assoc {A = ℕ}, take-append-drop n failed)
+  one_flush : (answer : Result ⊤ Error) (k l : K) → Flushes HoldsNothing answer k l → (answer ≡ Ok tt) × (l ≡ k)
+  one_flush answer k l = never_again _ _ answer k l (λ u e v h. λ is. cc)
 
-prefix_written : (written written' : Option (List ℕ)) (l : Listing) (lines : List (List ℕ)) (failed : List ℕ) (more : List (List ℕ)) (n : ℕ) → l.lines ≡ lines ++ failed ∷ more →
-    Appends written written' (concat lines ++ take n failed) → WritesPrefix written written' l
-prefix_written written written' l lines failed more n is wrote =
-    record { part = concat lines ++ take n failed; more = drop n failed ++ concat more; whole = ap concat is ∙ written_part lines failed n more; wrote = wrote }
+  read_reports : (buffer : List ℕ) (answer : Result ℕ Error) (s t : S) → Reads (ReadsByte gives) buffer answer s t → Takes (left s) (left t) answer buffer
+  read_reports buffer (Ok zero) s t h = let told = source s got.End t (one_read buffer (Ok zero) s t h) in (told.0, λ _ _. at_end_left (left s) (left t) told.0 told.1)
+  read_reports buffer (Ok (suc n)) s t h = let is = one_read buffer (Ok (suc n)) s t h in let told = source s (got.Byte is.0) t is.3 in rw is.1 (rw is.2 told.0, λ e. cc)
+  read_reports buffer (Err e) s t h = let told = source s got.Failed t (one_read buffer (Err e) s t h).0 in grind (arith, told)
 
-module _ (c : Command) (old new : Streams) (bytes : List ℕ) (stop : Option Stop)
-    (source_calls : ReportsBytes bytes stop old.left new.left old.source_faults new.source_faults)
-    (fault : stop ≡ Some Failed → (taken_listing c bytes).status ≡ ReadFault) where
-  -- a run at which no put failed
-  module _ (lines : List (List ℕ)) (wrote : ReportsPieces lines None old.written new.written old.sink_faults new.sink_faults) where
-    abbrev AllListed : Status → Type 0
-    AllListed status = (xs : List ℕ) (s : Stop) → MayCome stop xs s → listing_for c (text_of (max_of c) (bytes ++ xs) s) ≡ record { lines = lines; status = status }
+  write_reports : (bytes : List ℕ) (answer : Result ℕ Error) (k l : K) → Writes (PutsPiece takes) bytes answer k l → Adds (written k) (written l) answer bytes
+  write_reports bytes (Ok n) k l h = let is = one_write bytes (Ok n) k l h in let told = sink k bytes (Ok tt) l is.1 in rw (is.0, take-length bytes) told.0
+  write_reports bytes (Err e) k l h = let is = one_write bytes (Err e) k l h in (sink k bytes (Err is.0.0) l is.0.1).0
 
-    writes : (status : Status) (l : Listing) → l ≡ record { lines = lines; status = status } → Writes status old new l
-    writes status l is = rw is (refl, wrote.0)
+  flush_reports : (answer : Result ⊤ Error) (k l : K) → Flushes HoldsNothing answer k l → Keeps (written k) (written l)
+  flush_reports answer k l h = rw ((one_flush answer k l h).1) (Keeps-refl (written k))
 
-    all_full : (status : Status) → AllListed status → (stop ≡ Some Failed → (xs : List ℕ) → Writes status old new (full_listing c (bytes ++ xs))) →
-        IfSome old.left (λ b. Writes status old new (full_listing c b))
-    all_full status lists failed = known_bytes stop old.left new.left bytes old.source_faults new.source_faults (λ b. Writes status old new (full_listing c b)) source_calls
-        (λ xs may. writes status (full_listing c (bytes ++ xs)) (lists xs End may)) failed
+  -- how the counts of faults changed
+  abbrev Counts : Option Stop → ℕ → ℕ → Type 0
+  Counts (Some Failed) old new = Rose old new
+  Counts stop old new = new ≡ old
 
-    -- what was listed of the bytes returned, where the source failed after them
-    failed_listed : (status : Status) → AllListed status → stop ≡ Some Failed → listing_for c (text_of (max_of c) bytes Failed) ≡ record { lines = lines; status = status }
-    failed_listed status lists failed = rw append-nil at (lists [] Failed (rw failed (refl, refl)))
+  unfailed_counts : (stop : Option Stop) (old new : ℕ) → stop ≢ Some Failed → Counts stop old new → new ≡ old
+  unfailed_counts stop old new ne h = grind arith
 
-    says_all : (status : Status) → AllListed status → Says status c old new
-    says_all Done lists =
-        let end : stop ≡ Some End = end_stop c (max_of c) bytes stop (λ xs s may. ap (λ l. l.status) (lists xs s may)) in
-        let ended : ReportsBytes bytes (Some End) old.left new.left old.source_faults new.source_faults = rw end at source_calls in
-        (all_full Done lists (λ f. absurd (cc)), ended.1.1, wrote.1, none_left old.left new.left bytes ended.0 ended.1.0)
-    says_all ReadFault lists =
-        let failed : stop ≡ Some Failed = fault_stop stop (λ may. command_read c (max_of c) (bytes ++ []) (ap (λ l. l.status) (lists [] End may))) in
-        let reported : ReportsBytes bytes (Some Failed) old.left new.left old.source_faults new.source_faults = rw failed at source_calls in
-        (record { taken = bytes; takes = reported.0; holds = writes ReadFault (taken_listing c bytes) (failed_listed ReadFault lists failed); cause = reported.1 }, wrote.1)
-    says_all Usage lists = let s = some_stop stop in absurd ((command_status c _).0 (ap (λ l. l.status) (lists [] s.0 s.1)))
-    says_all WriteFault lists = let s = some_stop stop in absurd ((command_status c _).1 (ap (λ l. l.status) (lists [] s.0 s.1)))
-    says_all status lists =
-        let unfailed : stop ≢ Some Failed = λ f. let same : ReadFault ≡ status = sym (fault f) ∙ ap (λ l. l.status) (failed_listed status lists f) in cc in
-        (all_full status lists (λ f. absurd (unfailed f)), grind arith, wrote.1)
+  module _ (c : Command) where
+    source_counts : (cs : List Call) (s t : S) (k l : K) → Calls (ReadsByte gives) (PutsPiece takes) HoldsNothing cs s t k l → ByRule (known_for c) (text_of (max_of c)) cs → Counts (stop_of cs) (faults s) (faults t)
+    source_counts [] s t k l d rule = ap faults d.0
+    source_counts (Read buffer (Ok zero) ∷ cs) s t k l d rule = (source d.0 got.End t (one_read buffer (Ok zero) d.0 t d.2)).2 ∙ (rw rule.2 at (source_counts cs s d.0 k l d.1 rule.0))
+    source_counts (Read buffer (Ok (suc n)) ∷ cs) s t k l d rule =
+        let is = one_read buffer (Ok (suc n)) d.0 t d.2 in (source d.0 (got.Byte is.0) t is.3).2 ∙ (rw rule.2 at (source_counts cs s d.0 k l d.1 rule.0))
+    source_counts (Read buffer (Err e) ∷ cs) s t k l d rule =
+        let before : faults d.0 ≡ faults s = rw rule.2 at (source_counts cs s d.0 k l d.1 rule.0) in rw before at (source d.0 got.Failed t (one_read buffer (Err e) d.0 t d.2).0).2
+    source_counts (Write bytes answer ∷ cs) s t k l d rule = source_counts cs s t k d.0 d.1 rule.0
+    source_counts (Flush answer ∷ cs) s t k l d rule = source_counts cs s t k d.0 d.1 rule.0
 
-  -- a run at which a put failed
-  module _ (lines : List (List ℕ)) (failed : List ℕ) (wrote : ReportsPieces lines (Some failed) old.written new.written old.sink_faults new.sink_faults)
-      (lists : (xs : List ℕ) (s : Stop) → MayCome stop xs s → Lists WriteFault lines (Some failed) (listing_for c (text_of (max_of c) (bytes ++ xs) s))) where
-    abbrev IsPrefix : Listing → Type 0
-    IsPrefix = WritesPrefix old.written new.written
+  sink_keeps : (cs : List Call) (s t : S) (k l : K) → Calls (ReadsByte gives) (PutsPiece takes) HoldsNothing cs s t k l → AllContinue cs → others l ≡ others k
+  sink_keeps [] s t k l d ok = ap others d.1
+  sink_keeps (Read buffer answer ∷ cs) s t k l d ok = sink_keeps cs s d.0 k l d.1 ok.1
+  sink_keeps (Write bytes (Ok n) ∷ cs) s t k l d ok = (sink d.0 bytes (Ok tt) l (one_write bytes (Ok n) d.0 l d.2).1).1 ∙ sink_keeps cs s t k d.0 d.1 ok.1
+  sink_keeps (Write bytes (Err e) ∷ cs) s t k l d ok = absurd (ok.0 tt)
+  sink_keeps (Flush answer ∷ cs) s t k l d ok = ap others (one_flush answer d.0 l d.2).1 ∙ sink_keeps cs s t k d.0 d.1 ok.1
 
-    prefixes : (xs : List ℕ) (s : Stop) → MayCome stop xs s → IsPrefix (listing_for c (text_of (max_of c) (bytes ++ xs) s))
-    prefixes xs s may = let l = lists xs s may in prefix_written old.written new.written _ lines failed l.1.0 wrote.0.0 l.1.1 wrote.0.1
+  sink_rises : (cs : List Call) (s t : S) (k l : K) → Calls (ReadsByte gives) (PutsPiece takes) HoldsNothing cs s t k l → Follow cs → EndsIn Fails cs → Rose (others k) (others l)
+  sink_rises [] s t k l d follow fails = absurd fails
+  sink_rises (Read buffer answer ∷ cs) s t k l d follow fails = absurd fails
+  sink_rises (Write bytes (Ok n) ∷ cs) s t k l d follow fails = let is = (one_write bytes (Ok n) d.0 l d.2).0 in absurd (omega (arith, is, fails.0, fails.1))
+  sink_rises (Write bytes (Err e) ∷ cs) s t k l d follow fails =
+      let is = (one_write bytes (Err e) d.0 l d.2).0 in rw (sink_keeps cs s t k d.0 d.1 follow) at (sink d.0 bytes (Err is.0) l is.1).1
+  sink_rises (Flush (Ok done) ∷ cs) s t k l d follow fails = absurd fails
+  sink_rises (Flush (Err e) ∷ cs) s t k l d follow fails = let is = (one_flush (Err e) d.0 l d.2).0 in cc
 
-    full_or_taken : (p : Option Stop) → p ≡ stop → OfAll IsPrefix c old ⊎ OfTaken IsPrefix c old new
-    full_or_taken (Some Failed) is =
-        let reported : ReportsBytes bytes (Some Failed) old.left new.left old.source_faults new.source_faults = rw (sym is) at source_calls in
-        let part : IsPrefix (taken_listing c bytes) = rw append-nil at (prefixes [] Failed (rw (sym is) (refl, refl))) in
-        inr (record { taken = bytes; takes = reported.0; holds = part; cause = reported.1 })
-    full_or_taken p is = inl (known_bytes stop old.left new.left bytes old.source_faults new.source_faults (λ b. IsPrefix (full_listing c b)) source_calls (λ xs may. prefixes xs End may) (λ f. absurd (cc)))
+  -- the sink's count by how a run ended
+  module _ (task : Task) (outcome : Outcome) (s t : S) (k l : K) (h : Performs (ReadsByte gives) (PutsPiece takes) HoldsNothing false task outcome s t k l) where
+    no_fault : (status : Status) → outcome.status ≡ status → status ≢ WriteFault → others l ≡ others k
+    no_fault status same ne = sink_keeps h.calls s t k l h.did (continued task.known (text_of task.max) h.calls h.rule (λ e. not_both h.calls e (ends_flush status ne h.calls (rw same at h.ends))))
 
-  says_by : (status : Status) (lines : List (List ℕ)) (failed : Option (List ℕ)) → ReportsPieces lines failed old.written new.written old.sink_faults new.sink_faults →
-      ((xs : List ℕ) (s : Stop) → MayCome stop xs s → Lists status lines failed (listing_for c (text_of (max_of c) (bytes ++ xs) s))) → Says status c old new
-  says_by status lines None wrote lists = says_all lines wrote status lists
-  says_by status lines (Some failed) wrote lists =
-      let s = some_stop stop in
-      rw ((lists [] s.0 s.1).0) (wrote.1, full_or_taken lines failed wrote (λ xs s may. (refl, (lists xs s may).1)) stop refl)
+    rose : outcome.status ≡ WriteFault → Rose (others k) (others l)
+    rose same = sink_rises h.calls s t k l h.did (follows task.known (text_of task.max) h.calls h.rule) (rw same at h.ends)
 
--- of every source and sink
-pub ran_says : {S K : Type 0} (gives : S → Got → S → Type 0) (takes : K → List ℕ → Result ⊤ SinkFailed → K → Type 0)
-    (left : S → Option (List ℕ)) (faults : S → ℕ) (written : K → Option (List ℕ)) (others : K → ℕ) →
-    ((s : S) (g : Got) (t : S) → gives s g t → ReportsGot g (left s) (left t) (faults s) (faults t)) →
-    ((s : K) (piece : List ℕ) (r : Result ⊤ SinkFailed) (t : K) → takes s piece r t → ReportsPut r piece (written s) (written t) (others s) (others t)) →
-    (c : Command) (status : Status) (a b : S) (k l : K) (ran : Ran gives takes (listing_for c) (max_of c) status a b k l) → (ran.stop ≡ Some Failed → (taken_listing c ran.bytes).status ≡ ReadFault) →
-    Says status c (streams_of left faults written others a k) (streams_of left faults written others b l)
-ran_says gives takes left faults written others source sink c status a b k l ran fault =
-    let source_calls = source_calls_report gives left faults source ran.bytes ran.stop a b ran.source_calls in
-    let sink_calls = sink_calls_report takes written others sink ran.lines ran.failed k l ran.sink_calls in
-    says_by c (streams_of left faults written others a k) (streams_of left faults written others b l) ran.bytes ran.stop source_calls
-    fault status ran.lines ran.failed sink_calls ran.lists
+  -- `make`
 
--- `make`
+  module _ (n : ℕ) (outcome : Outcome) (s t : S) (k l : K) (h : Performs (ReadsByte gives) (PutsPiece takes) HoldsNothing false (task_of (request.Makes n)) outcome s t k l) where
+    made : Prints (task_of (request.Makes n)) outcome.status h.calls (written k) (written l)
+    made = prints (ReadsByte gives) (PutsPiece takes) HoldsNothing left written read_reports write_reports flush_reports false (task_of (request.Makes n)) outcome s t k l h
 
-made_says : (n : ℕ) (status : Status) (lines : List (List ℕ)) (failed : Option (List ℕ)) (w w' : Option (List ℕ)) (faults faults' : ℕ) →
-    Lists status lines failed (made_listing n) → ReportsPieces lines failed w w' faults faults' → Makes n status w w' faults faults'
-made_says n status lines None w w' faults faults' lists reported = rw (← ap (λ l. l.status) lists) (rw (ap (λ l. concat l.lines) lists) reported)
-made_says n status lines (Some failed) w w' faults faults' lists reported =
-    rw (lists.0) (reported.1, prefix_written w w' (made_listing n) lines failed lists.1.0 reported.0.0 lists.1.1 reported.0.1)
+    made_by : (status : Status) → outcome.status ≡ status → IsPrinted status made.bytes [] (made_listing n) → Makes n status (written k) (written l) (others k) (others l)
+    made_by Done same p = (rw (p.whole ∙ ap (λ b. made.bytes ++ b) (p.all (λ e. cc)).0 ∙ append-nil made.bytes) made.wrote, no_fault (task_of (request.Makes n)) outcome s t k l h Done same (λ e. cc))
+    made_by WriteFault same p = (rose (task_of (request.Makes n)) outcome s t k l h same, record { part = made.bytes; more = p.unsent; whole = p.whole; wrote = made.wrote })
+    made_by status same p = let is = (p.all (λ e. cc)).1 in absurd (cc)
 
-pub wrote_says : {K : Type 0} (takes : K → List ℕ → Result ⊤ SinkFailed → K → Type 0) (written : K → Option (List ℕ)) (others : K → ℕ) →
-    ((s : K) (piece : List ℕ) (r : Result ⊤ SinkFailed) (t : K) → takes s piece r t → ReportsPut r piece (written s) (written t) (others s) (others t)) →
-    (n : ℕ) (status : Status) (k l : K) → Wrote takes (made_listing n) status k l → Makes n status (written k) (written l) (others k) (others l)
-wrote_says takes written others sink n status k l wrote =
-    made_says n status wrote.lines wrote.failed (written k) (written l) (others k) (others l) wrote.lists (sink_calls_report takes written others sink wrote.lines wrote.failed k l wrote.sink_calls)
+    pub made_says : Makes n outcome.status (written k) (written l) (others k) (others l)
+    made_says = let one = some_stop (stop_of h.calls) in made_by outcome.status refl (made.lists [] one.0 one.1)
+
+  -- a command
+
+  module _ (c : Command) (outcome : Outcome) (s t : S) (k l : K) (h : Performs (ReadsByte gives) (PutsPiece takes) HoldsNothing false (task_of (request.Reads c)) outcome s t k l) where
+    abbrev old : Streams
+    old = streams_of left faults written others s k
+
+    abbrev new : Streams
+    new = streams_of left faults written others t l
+
+    printed : Prints (task_of (request.Reads c)) outcome.status h.calls (written k) (written l)
+    printed = prints (ReadsByte gives) (PutsPiece takes) HoldsNothing left written read_reports write_reports flush_reports false (task_of (request.Reads c)) outcome s t k l h
+
+    read : Consumes (left s) (left t) (received h.calls)
+    read = consumed (ReadsByte gives) (PutsPiece takes) HoldsNothing left written read_reports write_reports flush_reports h.calls s t k l h.did
+
+    -- of all the bytes that the source has, and of those that it returned
+    all_of : (Holds : Listing → Type 0) → ((xs : List ℕ) (stop : Stop) → MayCome (stop_of h.calls) xs stop → Holds (listing_for c (text_of (max_of c) (received h.calls ++ xs) stop))) →
+        (stop : Option Stop) → stop_of h.calls ≡ stop → stop ≢ Some Failed → OfAll Holds c old
+    all_of Holds = of_all (ReadsByte gives) (PutsPiece takes) HoldsNothing left written read_reports write_reports flush_reports c h.calls s t k l h.did h.rule Holds
+
+    part_of : (Holds : Listing → Type 0) → ((xs : List ℕ) (stop : Stop) → MayCome (stop_of h.calls) xs stop → Holds (listing_for c (text_of (max_of c) (received h.calls ++ xs) stop))) →
+        stop_of h.calls ≡ Some Failed → OfTaken Holds c old new
+    part_of Holds holds is = record {
+      taken = received h.calls;
+      takes = read;
+      holds = of_taken (ReadsByte gives) (PutsPiece takes) HoldsNothing left written read_reports write_reports flush_reports c h.calls s t k l h.did h.rule Holds holds is;
+      cause = rw is at (source_counts c h.calls s t k l h.did h.rule);
+    }
+
+    writes : (status : Status) → outcome.status ≡ status → status ≢ WriteFault → (xs : List ℕ) (stop : Stop) → MayCome (stop_of h.calls) xs stop → WritesListing status old new (listing_for c (text_of (max_of c) (received h.calls ++ xs) stop))
+    writes status same ne xs stop may =
+        let p = subst (λ status. IsPrinted status printed.bytes [] (listing_for c (text_of (max_of c) (received h.calls ++ xs) stop))) same (printed.lists xs stop may) in
+        ((p.all ne).1, rw (p.whole ∙ ap (λ b. printed.bytes ++ b) (p.all ne).0 ∙ append-nil printed.bytes) printed.wrote)
+
+    prefix : (xs : List ℕ) (stop : Stop) → MayCome (stop_of h.calls) xs stop → WritesPrefix (written k) (written l) (listing_for c (text_of (max_of c) (received h.calls ++ xs) stop))
+    prefix xs stop may = let p = printed.lists xs stop may in record { part = printed.bytes; more = p.unsent; whole = p.whole; wrote = printed.wrote }
+
+    write_fault : outcome.status ≡ WriteFault → (stop : Option Stop) → stop_of h.calls ≡ stop → Says WriteFault c old new
+    write_fault same (Some Failed) is = (rose (task_of (request.Reads c)) outcome s t k l h same, inr (part_of (WritesPrefix (written k) (written l)) prefix is))
+    write_fault same stop is = (rose (task_of (request.Reads c)) outcome s t k l h same, inl (all_of (WritesPrefix (written k) (written l)) prefix stop is (λ e. cc)))
+
+    by_status : (status : Status) → outcome.status ≡ status → EndsAt status (stop_of h.calls) → Says status c old new
+    by_status Usage same ends = absurd ends
+    by_status Done same ends = (
+      all_of (WritesListing Done old new) (writes Done same (λ e. cc)) (Some End) ends (λ e. cc),
+      rw ends at (source_counts c h.calls s t k l h.did h.rule),
+      no_fault (task_of (request.Reads c)) outcome s t k l h Done same (λ e. cc),
+      none_left (left s) (left t) (received h.calls) read (at_end_of (ReadsByte gives) (PutsPiece takes) HoldsNothing left written read_reports write_reports flush_reports (known_for c) (text_of (max_of c)) h.calls s t k l h.did h.rule ends),
+    )
+    by_status ReadFault same ends = (part_of (WritesListing ReadFault old new) (writes ReadFault same (λ e. cc)) ends, no_fault (task_of (request.Reads c)) outcome s t k l h ReadFault same (λ e. cc))
+    by_status WriteFault same ends = write_fault same (stop_of h.calls) refl
+    by_status status same ends = (
+      all_of (WritesListing status old new) (writes status same (λ e. cc)) (stop_of h.calls) refl ends,
+      unfailed_counts (stop_of h.calls) (faults s) (faults t) ends (source_counts c h.calls s t k l h.did h.rule),
+      no_fault (task_of (request.Reads c)) outcome s t k l h status same (λ e. cc),
+    )
+
+    pub says : Says outcome.status c old new
+    says = by_status outcome.status refl (ends_at (ReadsByte gives) (PutsPiece takes) HoldsNothing false c outcome s t k l h)
 
 -- what follows
 
 module _ (c : Command) (old new : Streams) where
   -- the whole listing, where neither count rose
-  writes_all : (result : Status) → Says result c old new → IfSome old.left (λ b. IsSound old new → Writes result old new (full_listing c b))
+  writes_all : (result : Status) → Says result c old new → IfSome old.left (λ b. IsSound old new → WritesListing result old new (full_listing c b))
   writes_all result says = grind arith
 
   pub exact : (result : Status) → Says result c old new → IsExact result c old new

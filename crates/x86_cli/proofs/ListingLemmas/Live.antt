@@ -1,311 +1,259 @@
--- The state of a run that calls the source only where what was read decides no more.
-use Rattle.std.proofs.Common.{◌≡◌, ℕ, ◌+◌, ◌<◌, ◌≤◌, List, [], ◌∷◌, ◌++◌, length, drop, take, Option, Some, None, Result, Ok, Err, refl, arith, ap, ◌∙◌, sym, append_assoc, append-nil, length-append, take-append-drop}
-use Rattle.std.specs.Prelude.{⊤}
-use Rattle.x86_streams.specs.declared.outside.source.Got.{Got}
-use Rattle.x86_streams.specs.declared.outside.source.Got.TheVariants as got
-use Rattle.x86_streams.specs.declared.outside.sink.SinkFailed.{SinkFailed}
+-- The state of a listing, between two of its calls.
+use Rattle.std.proofs.Common.{◌≡◌, ◌≢◌, ℕ, ◌+◌, ◌<◌, List, [], ◌∷◌, ◌++◌, length, drop, take, Option, Some, None, Result, Ok, Err, refl, arith, ap, ◌∙◌, sym, append_assoc, append-nil, length-take, take-append-drop}
+use Rattle.std.proofs.lemmas.List.{take-append-le}
+use Rattle.std.proofs.lemmas.List.Folds.{concat-append}
+use Rattle.std.specs.Prelude.{⊤, ◌↔◌, IsTrue, Bool, false}
+use Rattle.std.specs.List.{concat}
+use Rattle.std.specs.Io.{StartsWith}
+use Rattle.std.specs.declared.io.Error.{Error}
+use Rattle.x86_streams.specs.declared.outside.sending.WriteFailed.{WriteFailed}
 use Rattle.x86_streams.specs.declared.text.reader.Ending.{Ending}
 use Rattle.x86_streams.specs.declared.text.reader.Ending.TheVariants.{Fault}
-use Rattle.x86_streams.specs.Outside.Stop.{Stop, End, Failed}
-use Rattle.x86_streams.specs.Outside.Sink.{SinkCalls}
+use Rattle.x86_streams.specs.Outside.Chain.{Call, Read, Write, Flush, AllContinue, Calls, Cause, EndsIn, Fails, Follow, IsFlush, IsGone, Puts, Sends, SendsAll, WriterCalls, pieces, received, refused, sent, stop_of, taken_by}
+use Rattle.x86_streams.specs.Outside.Stop.{Stop, Failed}
 use Rattle.x86_streams.specs.Text.{Text, text_at, text_of}
-use Rattle.x86_streams.specs.Text.Reading.{IsOpenText, NeedsMore, CalledWhere, SourceCalls, TakesAhead, MayCome, with_bytes, got_of}
-use Rattle.x86_streams.specs.declared.text.window.Window.{Window}
-use Rattle.x86_streams.specs.Text.Window.{rest_of, Open, ReadsOn, TakesBytes}
+use Rattle.x86_streams.specs.Text.Beginning.{IsOpen}
+use Rattle.x86_streams.specs.Text.Reader.{TextPosition}
+use Rattle.x86_streams.specs.Text.Reading.{MayCome, NeedsMore, with_bytes}
+use Rattle.x86_streams.specs.Text.Window.{Fills, LeavesRest, TakesBytes, rest_after, rest_of}
+use Rattle.x86_streams.proofs.OutsideLemmas.Calls.{all_continue_joined, calls_joined, ends_joined, pieces_joined, received_joined, sent_joined, stop_joined}
+use Rattle.x86_streams.proofs.TextLemmas.Text.{with_bytes-with_bytes}
+use Rattle.x86_cli.specs.declared.listings.status.Outcome.{Outcome}
 use Rattle.x86_cli.specs.declared.listings.status.Status.{Status}
-use Rattle.x86_cli.specs.declared.listings.status.Status.TheVariants as outcome
-use Rattle.x86_cli.specs.Commands.Run.{Wrote, Lists, Ran}
-use Rattle.x86_cli.specs.Listings.Calls.{OutsideCall, Next, Take, Put, Settle, returned, lines_of, stop_of, Unfailed, IsSettled, Waits, AreListed, Calls, Lives}
+use Rattle.x86_cli.specs.declared.listings.status.Status.TheVariants.{WriteFault}
+use Rattle.x86_cli.specs.Listings.Closes.{Closes}
 use Rattle.x86_cli.specs.Listings.Entry.{IsLine}
 use Rattle.x86_cli.specs.Listings.Line.{line}
 use Rattle.x86_cli.specs.Listings.Listing.{Listing, with_lines, at_end}
-use Rattle.x86_streams.proofs.TextLemmas.Fill.{with_bytes-with_bytes}
-use Rattle.x86_cli.proofs.ListingLemmas.Progress.{with-with}
+use Rattle.x86_cli.specs.Listings.Performs.{AreBeforeFault, AreFirst, ByRule, IsLastAt, Performs}
 
--- one more turn may come where the text has not ended
-abbrev pub turns : Option Ending → ℕ
-turns None = 1
-turns (Some e) = 0
+pub with-with : (a b : List (List ℕ)) (l : Listing) → with_lines a (with_lines b l) ≡ with_lines (a ++ b) l
+with-with a b l = ap (λ ls. record { lines = ls; status = l.status }) (sym (append_assoc a b l.lines))
 
--- calls of the source after others
+never_failed : (cs : List Call) → AllContinue cs → EndsIn Fails cs → ⊥
+never_failed [] h e = e
+never_failed (c ∷ cs) h e = h.0 e
 
-abbrev nexts : List ℕ → Option Stop → List OutsideCall → List OutsideCall
-nexts [] None cs = cs
-nexts [] (Some stop) cs = Next (got_of stop) ∷ cs
-nexts (b ∷ bs) stop cs = nexts bs stop (Next (got.Byte b) ∷ cs)
+pub follow_of : {A E : Type 0} (answer : Result A E) (cs : List Call) → Cause answer cs → Follow cs
+follow_of (Ok x) [] h = tt
+follow_of (Ok x) (c ∷ cs) h = h.1
+follow_of (Err e) [] h = absurd h
+follow_of (Err e) (c ∷ cs) h = h.1
 
-nexts_bytes : (bs : List ℕ) (stop : Option Stop) (cs : List OutsideCall) → returned (nexts bs stop cs) ≡ returned cs ++ bs
-nexts_bytes [] None cs = sym (append-nil (returned cs))
-nexts_bytes [] (Some End) cs = refl
-nexts_bytes [] (Some Failed) cs = refl
-nexts_bytes (b ∷ bs) stop cs = nexts_bytes bs stop (Next (got.Byte b) ∷ cs) ∙ append_assoc (returned cs) (b ∷ []) bs
+pub fails_last : (f : WriteFailed) (cs : List Call) → Cause {A = ⊤} (Err f) cs → EndsIn Fails cs
+fails_last f [] h = h
+fails_last f (c ∷ cs) h = h.0
 
-nexts_lines : (bs : List ℕ) (stop : Option Stop) (cs : List OutsideCall) → lines_of (nexts bs stop cs) ≡ lines_of cs
-nexts_lines [] None cs = refl
-nexts_lines [] (Some stop) cs = refl
-nexts_lines (b ∷ bs) stop cs = nexts_lines bs stop (Next (got.Byte b) ∷ cs)
+starts_more : (bytes more next : List ℕ) → StartsWith bytes next → StartsWith (bytes ++ more) next
+starts_more bytes more next h = let fits = length-take (length next) bytes in grind (arith, ap length h, fits, take-append-le (length next) bytes more)
 
-nexts_unfailed : (bs : List ℕ) (stop : Option Stop) (cs : List OutsideCall) → Unfailed cs → Unfailed (nexts bs stop cs)
-nexts_unfailed [] None cs h = h
-nexts_unfailed [] (Some stop) cs h = h
-nexts_unfailed (b ∷ bs) stop cs h = nexts_unfailed bs stop (Next (got.Byte b) ∷ cs) h
+module _ {W : Type 0} (writes : W → List ℕ → Result ℕ Error → W → Type 0) (flushes : W → Result ⊤ Error → W → Type 0) where
+  -- the same calls, where new bytes are known by another name
+  abbrev pub sends_as : (answer : Result ⊤ WriteFailed) (new new' held held' : List ℕ) (w w' : W) → new ≡ new' → Sends writes flushes answer new held held' w w' → Sends writes flushes answer new' held held' w w'
+  sends_as answer new new' held held' w w' same s = record { calls = s.calls; did = s.did; cause = s.cause; order = s.order ∙ ap (λ b. held ++ b) same; failed = s.failed }
 
-nexts_stop : (bs : List ℕ) (stop : Option Stop) (cs : List OutsideCall) → stop_of cs ≡ None → stop_of (nexts bs stop cs) ≡ stop
-nexts_stop [] None cs h = h
-nexts_stop [] (Some End) cs h = refl
-nexts_stop [] (Some Failed) cs h = refl
-nexts_stop (b ∷ bs) stop cs h = nexts_stop bs stop (Next (got.Byte b) ∷ cs) h
+  -- calls of the writer, none of which follows one that failed, are by the rule
+  all_by_rule : (known : Text → Listing) (text : List ℕ → Stop → Text) (cs ds : List Call) (w w' : W) → WriterCalls writes flushes cs w w' → AllContinue cs → ByRule known text ds → AllContinue ds →
+      ByRule known text (cs ++ ds)
+  all_by_rule known text [] ds w w' did c rule d = rule
+  all_by_rule known text (Read buffer answer ∷ cs) ds w w' did c rule d = absurd did
+  all_by_rule known text (Write bytes answer ∷ cs) ds w w' did c rule d =
+      (all_by_rule known text cs ds w did.0 did.1 c.1 rule d, never_failed (cs ++ ds) (all_continue_joined cs ds c.1 d))
+  all_by_rule known text (Flush answer ∷ cs) ds w w' did c rule d =
+      (all_by_rule known text cs ds w did.0 did.1 c.1 rule d, never_failed (cs ++ ds) (all_continue_joined cs ds c.1 d))
 
-abbrev takens : List ℕ → List OutsideCall → List OutsideCall
-takens [] cs = cs
-takens (b ∷ bs) cs = takens bs (Take b ∷ cs)
+  pub by_rule_joined : (known : Text → Listing) (text : List ℕ → Stop → Text) (cs ds : List Call) (w w' : W) → WriterCalls writes flushes cs w w' → Follow cs → ByRule known text ds → AllContinue ds →
+      ByRule known text (cs ++ ds)
+  by_rule_joined known text [] ds w w' did f rule d = rule
+  by_rule_joined known text (Read buffer answer ∷ cs) ds w w' did f rule d = absurd did
+  by_rule_joined known text (Write bytes answer ∷ cs) ds w w' did f rule d =
+      (all_by_rule known text cs ds w did.0 did.1 f rule d, never_failed (cs ++ ds) (all_continue_joined cs ds f d))
+  by_rule_joined known text (Flush answer ∷ cs) ds w w' did f rule d =
+      (all_by_rule known text cs ds w did.0 did.1 f rule d, never_failed (cs ++ ds) (all_continue_joined cs ds f d))
 
-takens_bytes : (bs : List ℕ) (cs : List OutsideCall) → returned (takens bs cs) ≡ returned cs ++ bs
-takens_bytes [] cs = sym (append-nil (returned cs))
-takens_bytes (b ∷ bs) cs = takens_bytes bs (Take b ∷ cs) ∙ append_assoc (returned cs) (b ∷ []) bs
+pub fresh : (text : TextPosition) (max : ℕ) → text.position ≡ 0 → text.room ≡ max → text.unread ≡ [] → text ≡ record { position = 0; room = max; unread = [] }
+fresh text max position room unread = grind (arith, position, room, unread)
 
-takens_lines : (bs : List ℕ) (cs : List OutsideCall) → lines_of (takens bs cs) ≡ lines_of cs
-takens_lines [] cs = refl
-takens_lines (b ∷ bs) cs = takens_lines bs (Take b ∷ cs)
+pub read_stop : (buffer : List ℕ) (answer : Result ℕ Error) (cs : List Call) → stop_of (Read buffer answer ∷ cs) ≡ stop_of (Read buffer answer ∷ [])
+read_stop buffer answer cs = grind arith
 
-takens_unfailed : (bs : List ℕ) (cs : List OutsideCall) → Unfailed cs → Unfailed (takens bs cs)
-takens_unfailed [] cs h = h
-takens_unfailed (b ∷ bs) cs h = takens_unfailed bs (Take b ∷ cs) h
+pub refused_first : (c : Call) (cs ds : List Call) → refused (c ∷ cs) ≡ refused (c ∷ ds)
+refused_first c cs ds = grind arith
 
-takens_stop : (bs : List ℕ) (cs : List OutsideCall) → stop_of cs ≡ None → stop_of (takens bs cs) ≡ None
-takens_stop [] cs h = h
-takens_stop (b ∷ bs) cs h = takens_stop bs (Take b ∷ cs) h
+module _ {R W : Type 0} (reads : R → List ℕ → Result ℕ Error → R → Type 0) (writes : W → List ℕ → Result ℕ Error → W → Type 0) (flushes : W → Result ⊤ Error → W → Type 0)
+    (gathers : Bool) (at knows : ℕ → Text → Listing) (max : ℕ) (r : R) (v : W) where
+  -- at place text: what is listed of a text from a place on; knows place text: what is listed of it whatever follows
+  -- The image so far is listed up to a place, and the rest of the text is what the window has.
+  pub record Live (image : List ℕ) (n : ℕ) (ended : Option Ending) (w : List ℕ) (text : TextPosition) (held : List ℕ) (r' : R) (v' : W) : Type 0 where
+    pub calls : List Call
+    pub did : Calls reads writes flushes calls r r' v v'
+    pub rule : ByRule (knows 0) (text_of max) calls
+    pub unfailed : AllContinue calls
+    pub unstopped : ended ≡ None → stop_of calls ≡ None
+    pub lines : List (List ℕ)
+    pub put : sent calls ++ held ≡ concat lines
+    pub each : gathers ≡ false → (held ≡ []) × (pieces calls ≡ lines)
+    pub whole : (xs : List ℕ) (stop : Stop) → MayCome (stop_of calls) xs stop → text_of max (received calls ++ xs) stop ≡ with_bytes image (rest_after ended w text xs stop)
+    pub lists : (xs : List ℕ) (stop : Stop) → MayCome (stop_of calls) xs stop → at 0 (text_of max (received calls ++ xs) stop) ≡ with_lines lines (at n (rest_after ended w text xs stop))
+    pub decided : ended ≡ None → (xs : List ℕ) (stop : Stop) → knows 0 (text_of max (received calls ++ xs) stop) ≡ with_lines lines (knows n (rest_after ended w text xs stop))
 
-module _ (known : Text → Listing) (text : List ℕ → Stop → Text) (Holds : Text → Type 0) where
-  takens_waits : (other : List ℕ → Stop → Text) (bs : List ℕ) (cs : List OutsideCall) → Waits known text cs → Unfailed cs → stop_of cs ≡ None → CalledWhere Holds other bs None →
-      ((xs : List ℕ) → Holds (other xs Failed) → IsOpenText (text (returned cs ++ xs) Failed)) → Waits known text (takens bs cs)
-  takens_waits other [] cs waits unfailed none called e = waits
-  takens_waits other (b ∷ bs) cs waits unfailed none called e =
-      takens_waits (λ xs s. other (b ∷ xs) s) bs (Take b ∷ cs) (waits, (unfailed, none, rw append-nil at (e [] called.0))) unfailed none called.1
-      (λ xs h. rw (append_assoc (returned cs) (b ∷ []) xs) (e (b ∷ xs) h))
+  abbrev pub live_new : (text : TextPosition) → text ≡ record { position = 0; room = max; unread = [] } → Live [] 0 None [] text [] r v
+  live_new text is = record {
+    calls = [];
+    did = (refl, refl);
+    rule = tt;
+    unfailed = tt;
+    unstopped = λ _. refl;
+    lines = [];
+    put = refl;
+    each = λ _. (refl, refl);
+    whole = λ xs s _. rw is refl;
+    lists = λ xs s _. rw is refl;
+    decided = λ _ xs s. rw is refl;
+  }
 
-  nexts_waits : (other : List ℕ → Stop → Text) (bs : List ℕ) (stop : Option Stop) (cs : List OutsideCall) →
-      Waits known text cs → Unfailed cs → stop_of cs ≡ None → IsSettled cs → CalledWhere Holds other bs stop →
-      ((xs : List ℕ) → Holds (other xs Failed) → IsOpenText (text (returned cs ++ xs) Failed)) →
-      ((xs : List ℕ) → Holds (other xs Failed) → known (text (returned cs ++ xs) Failed) ≡ with_lines (lines_of cs) (at_end Fault)) →
-      Waits known text (nexts bs stop cs)
-  nexts_waits other [] None cs waits unfailed none settled called e f = waits
-  nexts_waits other [] (Some stop) cs waits unfailed none settled called e f =
-      (waits, (unfailed, none, rw append-nil at (e [] called)), settled, rw append-nil at (f [] called))
-  nexts_waits other (b ∷ bs) stop cs waits unfailed none settled called e f =
-      nexts_waits (λ xs s. other (b ∷ xs) s) bs stop (Next (got.Byte b) ∷ cs)
-      (waits, (unfailed, none, rw append-nil at (e [] called.0)), settled, rw append-nil at (f [] called.0)) unfailed none settled called.1
-      (λ xs h. rw (append_assoc (returned cs) (b ∷ []) xs) (e (b ∷ xs) h))
-      (λ xs h. rw (append_assoc (returned cs) (b ∷ []) xs) (f (b ∷ xs) h))
-
--- where no call failed, all lines are put
-all_listed : (status : Status) (cs : List OutsideCall) (l : Listing) → Unfailed cs → l ≡ record { lines = lines_of cs; status = status } → AreListed status cs l
-all_listed status [] l h is = is
-all_listed status (Next g ∷ cs) l h is = is
-all_listed status (Take b ∷ cs) l h is = is
-all_listed status (Put piece (Ok done) ∷ cs) l h is = is
-all_listed status (Put piece (Err e) ∷ cs) l h is = absurd h
-all_listed status (Settle (Ok done) ∷ cs) l h is = is
-all_listed status (Settle (Err e) ∷ cs) l h is = absurd h
-
--- lines after others
-lists_after : (status : Status) (lines ls : List (List ℕ)) (failed : Option (List ℕ)) (last l : Listing) → l ≡ with_lines lines last → Lists status ls failed last → Lists status (lines ++ ls) failed l
-lists_after status lines ls None last l is lists = is ∙ ap (with_lines lines) lists
-lists_after status lines ls (Some x) last l is lists =
-    (lists.0, (lists.1.0, ap (λ l. l.lines) is ∙ ap (λ more. lines ++ more) lists.1.1 ∙ sym (append_assoc lines ls (x ∷ lists.1.0))))
-
-module _ {S K : Type 0} (gives : S → Got → S → Type 0) (ahead : S → List ℕ) (takes : K → List ℕ → Result ⊤ SinkFailed → K → Type 0) (settles : K → Result ⊤ SinkFailed → K → Type 0) where
-  nexts_calls : (bs : List ℕ) (stop : Option Stop) (cs : List OutsideCall) (a u v : S) (k l : K) → Calls gives ahead takes settles cs a u k l → SourceCalls gives bs stop u v → Calls gives ahead takes settles (nexts bs stop cs) a v k l
-  nexts_calls [] None cs a u v k l c e = rw e c
-  nexts_calls [] (Some stop) cs a u v k l c e = (u, c, e)
-  nexts_calls (b ∷ bs) stop cs a u v k l c e = nexts_calls bs stop (Next (got.Byte b) ∷ cs) a e.0 v k l (u, c, e.1) e.2
-
-  takens_calls : (bs : List ℕ) (cs : List OutsideCall) (a u v : S) (k l : K) → Calls gives ahead takes settles cs a u k l → TakesAhead gives ahead bs u v → Calls gives ahead takes settles (takens bs cs) a v k l
-  takens_calls [] cs a u v k l c e = rw e c
-  takens_calls (b ∷ bs) cs a u v k l c e = takens_calls bs (Take b ∷ cs) a e.0 v k l (u, c, e.1, e.2) e.3
-
-  -- the last lines, after other calls
-  module _ (known listing : Text → Listing) (text : List ℕ → Stop → Text) (status : Status) (a v : S) (k m : K) where
-    pub close : (ls : List (List ℕ)) (failed : Option (List ℕ)) (cs : List OutsideCall) (l : K) → Calls gives ahead takes settles cs a v k l → Waits known text cs → Unfailed cs → SinkCalls takes ls failed l m →
-        ((xs : List ℕ) (s : Stop) → MayCome (stop_of cs) xs s → Lists status (lines_of cs ++ ls) failed (listing (text (returned cs ++ xs) s))) →
-        Lives gives ahead takes settles known listing text status a v k m
-    close [] None cs l c waits unfailed calls lists = record {
-      calls = cs;
-      did = rw calls c;
-      waits = waits;
-      lists = λ xs s may. all_listed status cs _ unfailed (rw append-nil at (lists xs s may));
+  module _ (image : List ℕ) (n : ℕ) (ended : Option Ending) (w : List ℕ) (text : TextPosition) (held : List ℕ) (r' : R) (v' : W) (s : Live image n ended w text held r' v') where
+    -- the same text is left
+    abbrev pub live_rest : (ended' : Option Ending) (w' : List ℕ) (text' : TextPosition) → LeavesRest ended w text ended' w' text' → (ended' ≡ None → ended ≡ None) → Live image n ended' w' text' held r' v'
+    live_rest ended' w' text' rest was = record {
+      calls = s.calls;
+      did = s.did;
+      rule = s.rule;
+      unfailed = s.unfailed;
+      unstopped = λ e. s.unstopped (was e);
+      lines = s.lines;
+      put = s.put;
+      each = s.each;
+      whole = λ xs stop may. s.whole xs stop may ∙ ap (with_bytes image) (rest xs stop);
+      lists = λ xs stop may. s.lists xs stop may ∙ ap (λ t. with_lines s.lines (at n t)) (rest xs stop);
+      decided = λ e xs stop. s.decided (was e) xs stop ∙ ap (λ t. with_lines s.lines (knows n t)) (rest xs stop);
     }
-    close [] (Some x) cs l c waits unfailed calls lists = record {
-      calls = Put x (Err calls.0) ∷ cs;
-      did = (l, c, calls.1);
-      waits = (waits, unfailed);
-      lists = λ xs s may. rw append-nil at (lists xs s may);
-    }
-    close (x ∷ ls) failed cs l c waits unfailed calls lists =
-        close ls failed (Put x (Ok tt) ∷ cs) calls.0 (l, c, calls.1) (waits, unfailed) unfailed calls.2
-        (λ xs s may. rw (append_assoc (lines_of cs) (x ∷ []) ls) (lists xs s may))
 
-  -- A run that reads its text to the end, and then writes its listing, is one by the rule of reading: nothing of the
-  -- listing is known before.
-  pub ran_lives : (listing : Text → Listing) (max : ℕ) (status : Status) (a b : S) (k l : K) → Ran gives takes listing max status a b k l →
-      Lives gives ahead takes settles (λ t. at_end t.ending) listing (text_of max) status a b k l
-  ran_lives listing max status a b k l ran =
-      let known : Text → Listing = λ t. at_end t.ending in
-      close known listing (text_of max) status a b k l ran.lines ran.failed (nexts ran.bytes ran.stop []) k (nexts_calls ran.bytes ran.stop [] a a b k k (refl, refl) ran.source_calls)
-      (nexts_waits known (text_of max) IsOpenText (text_of max) ran.bytes ran.stop [] tt tt refl tt ran.called (λ xs h. h) (λ xs h. ap at_end h))
-      (nexts_unfailed ran.bytes ran.stop [] tt) ran.sink_calls
-      (λ xs s may. rw (nexts_bytes ran.bytes ran.stop [], nexts_lines ran.bytes ran.stop []) (ran.lists xs s (rw (nexts_stop ran.bytes ran.stop [] refl) at may)))
+    -- bytes that were read came into the window
+    pub live_take : (ended' : Option Ending) (w' : List ℕ) (text' : TextPosition) → ended' ≡ ended → TakesBytes ended w text w' text' → Live image n ended' w' text' held r' v'
+    live_take ended' w' text' same took = rw same (live_rest ended w' text' took.rest (λ e. e))
 
-  -- So is one that reads nothing.
-  pub wrote_lives : (listing : Listing) (text : List ℕ → Stop → Text) (status : Status) (a b : S) (k l : K) → b ≡ a → Wrote takes listing status k l →
-      Lives gives ahead takes settles (λ t. listing) (λ t. listing) text status a b k l
-  wrote_lives listing text status a b k l same wrote =
-      close (λ t. listing) (λ t. listing) text status a b k l wrote.lines wrote.failed [] k (same, refl) tt tt wrote.sink_calls (λ xs s may. wrote.lists)
+    pub split : (len : ℕ) (xs : List ℕ) (stop : Stop) → rest_after ended w text xs stop ≡ with_bytes (take len w) (rest_after ended (drop len w) text xs stop)
+    split len xs stop = grind (arith, take-append-drop len w, append_assoc {A = ℕ})
 
-  -- at place text: the listing of a text from a place on; knows place text: what is listed of it whatever follows
-  module _ (at knows : ℕ → Text → Listing) (max : ℕ) where
-    pub record Live (n : ℕ) (ended : Option Ending) (w : List ℕ) (p r : ℕ) (old new : S) (before after : K) : Type 0 where
-      pub calls : List OutsideCall
-      pub did : Calls gives ahead takes settles calls old new before after
-      pub waits : Waits (knows 0) (text_of max) calls
-      pub unfailed : Unfailed calls
-      pub continues : Open ended (stop_of calls)
-      pub walked : List ℕ
-      pub beginning : (xs : List ℕ) (s : Stop) → MayCome (stop_of calls) xs s → text_of max (returned calls ++ xs) s ≡ with_bytes walked (rest_of ended w p r xs s)
-      pub lists : (xs : List ℕ) (s : Stop) → MayCome (stop_of calls) xs s →
-          at 0 (text_of max (returned calls ++ xs) s) ≡ with_lines (lines_of calls) (at n (rest_of ended w p r xs s))
-      pub decided : ended ≡ None → (xs : List ℕ) (s : Stop) →
-          knows 0 (text_of max (returned calls ++ xs) s) ≡ with_lines (lines_of calls) (knows n (rest_of ended w p r xs s))
-
-    pub live_new : (a : S) (k : K) → Live 0 None [] 0 max a a k k
-    live_new a k = record { calls = []; did = (refl, refl); waits = tt; unfailed = tt; continues = refl; walked = []; beginning = λ xs s _. refl; lists = λ xs s _. refl; decided = λ _ xs s. refl }
-
-    module _ (n : ℕ) (ended : Option Ending) (w : List ℕ) (p r : ℕ) (a u : S) (k l : K) (s : Live n ended w p r a u k l) where
-      split : (len : ℕ) (xs : List ℕ) (stop : Stop) → rest_of ended w p r xs stop ≡ with_bytes (take len w) (rest_of ended (drop len w) p r xs stop)
-      split len xs stop = grind (arith, take-append-drop len w, append_assoc {A = ℕ})
-
-      pub live_line : (x : List ℕ) (len : ℕ) → IsLine at len n x ended w p r → (ended ≡ None → IsLine knows len n x ended w p r) →
-          (m : K) → takes l (line x) (Ok tt) m → Live (n + len) ended (drop len w) p r a u k m
-      live_line x len step known m put = record {
-        calls = Put (line x) (Ok tt) ∷ s.calls;
-        did = (l, s.did, put);
-        waits = (s.waits, s.unfailed);
-        unfailed = s.unfailed;
-        continues = s.continues;
-        walked = s.walked ++ take len w;
-        beginning = λ xs stop may. s.beginning xs stop may ∙ ap (with_bytes s.walked) (split len xs stop) ∙ with_bytes-with_bytes s.walked (take len w) (rest_of ended (drop len w) p r xs stop);
-        lists = λ xs stop may. s.lists xs stop may ∙ ap (with_lines (lines_of s.calls)) (step xs stop) ∙ with-with (lines_of s.calls) ((line x) ∷ []) (at (n + len) (rest_of ended (drop len w) p r xs stop));
-        decided = λ is xs stop. s.decided is xs stop ∙ ap (with_lines (lines_of s.calls)) (known is xs stop) ∙ with-with (lines_of s.calls) ((line x) ∷ []) (knows (n + len) (rest_of ended (drop len w) p r xs stop));
-      }
-
-      pub live_unput : (x : List ℕ) (len : ℕ) → IsLine at len n x ended w p r → (e : SinkFailed) (m : K) → takes l (line x) (Err e) m →
-          Lives gives ahead takes settles (knows 0) (at 0) (text_of max) outcome.WriteFault a u k m
-      live_unput x len step e m put = record {
-        calls = Put (line x) (Err e) ∷ s.calls;
-        did = (l, s.did, put);
-        waits = (s.waits, s.unfailed);
-        lists = λ xs stop may. (refl, ((at (n + len) (rest_of ended (drop len w) p r xs stop)).lines, ap (λ l. l.lines) (s.lists xs stop may ∙ ap (with_lines (lines_of s.calls)) (step xs stop))));
-      }
-
-      pub live_unsettled : (e : SinkFailed) (m : K) → settles l (Err e) m → Lives gives ahead takes settles (knows 0) (at 0) (text_of max) outcome.WriteFault a u k m
-      live_unsettled e m settled = record {
-        calls = Settle (Err e) ∷ s.calls;
-        did = (l, s.did, settled);
-        waits = (s.waits, s.unfailed);
-        lists = λ xs stop may. (refl, ((at n (rest_of ended w p r xs stop)).lines, ap (λ l. l.lines) (s.lists xs stop may)));
-      }
-
-      pub live_closes : (last : Listing) → ((xs : List ℕ) (stop : Stop) → at n (rest_of ended w p r xs stop) ≡ last) → (status : Status) (m : K) → Wrote takes last status l m →
-          Lives gives ahead takes settles (knows 0) (at 0) (text_of max) status a u k m
-      live_closes last is status m wrote =
-          close (knows 0) (at 0) (text_of max) status a u k m wrote.lines wrote.failed s.calls l s.did s.waits s.unfailed wrote.sink_calls
-          (λ xs stop may. lists_after status (lines_of s.calls) wrote.lines wrote.failed last _ (s.lists xs stop may ∙ ap (with_lines (lines_of s.calls)) (is xs stop)) wrote.lists)
-
-    -- bytes that were ahead came into the window
-    live_took : (n : ℕ) (w : List ℕ) (p r : ℕ) (a u v : S) (k l : K) → Live n None w p r a u k l → (w' : List ℕ) (p' r' : ℕ) → TakesBytes gives ahead w p r w' p' r' u v → Live n None w' p' r' a v k l
-    live_took n w p r a u v k l s w' p' r' t =
-        let came : (xs : List ℕ) (stop : Stop) → rest_of None w p r (t.bytes ++ xs) stop ≡ rest_of None w' p' r' xs stop = λ xs stop. rw (t.items, t.position_is, t.room_is) (ap (with_bytes w) (t.begins.rest p r' xs stop) ∙ with_bytes-with_bytes w t.values (text_at (p + length t.bytes) r' xs stop)) in
+    -- lines were put, of bytes that leave the window
+    abbrev pub live_put : (ls : List (List ℕ)) (n' len : ℕ) (held' : List ℕ) (v'' : W) →
+        ((xs : List ℕ) (stop : Stop) → at n (rest_after ended w text xs stop) ≡ with_lines ls (at n' (rest_after ended (drop len w) text xs stop))) →
+        (ended ≡ None → (xs : List ℕ) (stop : Stop) → knows n (rest_after ended w text xs stop) ≡ with_lines ls (knows n' (rest_after ended (drop len w) text xs stop))) →
+        (q : Sends writes flushes (Ok tt) (concat ls) held held' v' v'') → (gathers ≡ false → (held' ≡ []) × (pieces q.calls ≡ ls)) → Live (image ++ take len w) n' ended (drop len w) text held' r' v''
+    live_put ls n' len held' v'' step known q once =
+        let stop_is = stop_joined writes flushes q.calls s.calls v' v'' q.did in
+        let received_is = received_joined writes flushes q.calls s.calls v' v'' q.did in
         record {
-          calls = takens t.bytes s.calls;
-          did = takens_calls t.bytes s.calls a u v k l s.did t.takes;
-          waits = takens_waits (knows 0) (text_of max) IsOpenText (text_at p (length t.bytes + r')) t.bytes s.calls s.waits s.unfailed s.continues (t.begins.called p r')
-              (λ xs h. ap (λ t. t.ending) (s.beginning xs Failed (rw s.continues tt)) ∙ rw t.room_is h);
-          unfailed = takens_unfailed t.bytes s.calls s.unfailed;
-          continues = takens_stop t.bytes s.calls s.continues;
-          walked = s.walked;
-          beginning = λ xs stop may. rw (takens_bytes t.bytes s.calls, append_assoc (returned s.calls) t.bytes xs)
-              (s.beginning (t.bytes ++ xs) stop (rw s.continues tt) ∙ ap (with_bytes s.walked) (came xs stop));
-          lists = λ xs stop may. rw (takens_bytes t.bytes s.calls, takens_lines t.bytes s.calls, append_assoc (returned s.calls) t.bytes xs)
-              (s.lists (t.bytes ++ xs) stop (rw s.continues tt) ∙ ap (λ t. with_lines (lines_of s.calls) (at n t)) (came xs stop));
-          decided = λ is xs stop. rw (takens_bytes t.bytes s.calls, takens_lines t.bytes s.calls, append_assoc (returned s.calls) t.bytes xs)
-              (s.decided refl (t.bytes ++ xs) stop ∙ ap (λ t. with_lines (lines_of s.calls) (knows n t)) (came xs stop));
+          calls = q.calls ++ s.calls;
+          did = calls_joined writes flushes reads q.calls s.calls r r' v v' v'' s.did q.did;
+          rule = by_rule_joined writes flushes (knows 0) (text_of max) q.calls s.calls v' v'' q.did (follow_of {A = ⊤} {E = WriteFailed} (Ok tt) q.calls q.cause) s.rule s.unfailed;
+          unfailed = all_continue_joined q.calls s.calls q.cause s.unfailed;
+          unstopped = λ e. stop_is ∙ s.unstopped e;
+          lines = s.lines ++ ls;
+          put = ap (λ b. b ++ held') (sent_joined q.calls s.calls) ∙ append_assoc (sent s.calls) (sent q.calls) held' ∙ ap (λ b. sent s.calls ++ b) q.order
+              ∙ sym (append_assoc (sent s.calls) held (concat ls)) ∙ ap (λ b. b ++ concat ls) s.put ∙ sym (concat-append s.lines ls);
+          each = λ e. ((once e).0, pieces_joined q.calls s.calls ∙ ap (λ ps. ps ++ pieces q.calls) (s.each e).1 ∙ ap (λ ps. s.lines ++ ps) (once e).1);
+          whole = λ xs stop may. rw received_is (s.whole xs stop (rw stop_is at may) ∙ ap (with_bytes image) (split len xs stop) ∙ with_bytes-with_bytes image (take len w) (rest_after ended (drop len w) text xs stop));
+          lists = λ xs stop may. rw received_is (s.lists xs stop (rw stop_is at may) ∙ ap (with_lines s.lines) (step xs stop) ∙ with-with s.lines ls (at n' (rest_after ended (drop len w) text xs stop)));
+          decided = λ e xs stop. rw received_is (s.decided e xs stop ∙ ap (with_lines s.lines) (known e xs stop) ∙ with-with s.lines ls (knows n' (rest_after ended (drop len w) text xs stop)));
         }
 
-    -- where the text has ended, nothing is taken
-    pub live_take : (n : ℕ) (ended : Option Ending) (v v' : Window) (a u t : S) (k l : K) → v.ended ≡ ended → Live n v.ended v.bytes.items v.reader.position v.reader.room a u k l → v'.ended ≡ v.ended →
-        TakesBytes gives ahead v.bytes.items v.reader.position v.reader.room v'.bytes.items v'.reader.position v'.reader.room u t →
-        ((e : Ending) → v.ended ≡ Some e → (v' ≡ v) × (t ≡ u)) → Live n v'.ended v'.bytes.items v'.reader.position v'.reader.room a t k l
-    live_take n None v v' a u t k l is s same took closed =
-        rw (same, is) (live_took n v.bytes.items v.reader.position v.reader.room a u t k l (rw is at s) v'.bytes.items v'.reader.position v'.reader.room took)
-    live_take n (Some e) v v' a u t k l is s same took closed = let h = closed e is in rw (h.0, h.1) s
+    pub live_line : (x : List ℕ) (len : ℕ) (held' : List ℕ) (v'' : W) → IsLine at len n x ended w text.position text.room → (ended ≡ None → IsLine knows len n x ended w text.position text.room) →
+        Puts writes flushes gathers (Ok tt) (line x) held held' v' v'' → Live (image ++ take len w) (n + len) ended (drop len w) text held' r' v''
+    live_line x len held' v'' step known p =
+        rw p.held (live_put (line x ∷ []) (n + len) len p.rest v'' (λ xs stop. step (text.unread ++ xs) stop) (λ e xs stop. known e (text.unread ++ xs) stop) (sends_as writes flushes (Ok tt) (line x) (line x ++ []) held p.rest v' v'' (sym (append-nil (line x))) p.sends) (λ e. ((p.once e).1, (p.once e).0)))
 
-    -- the sink was settled, and the source was called for a piece, where the window decides no more
-    module _ (n : ℕ) (w : List ℕ) (p r : ℕ) (a u v : S) (k l m : K) (s : Live n None w p r a u k l) (settled : settles l (Ok tt) m)
-        (more : (t : Text) → NeedsMore 1 t → knows n (with_bytes w t) ≡ at_end Fault) where
-      after : List OutsideCall
-      after = Settle (Ok tt) ∷ s.calls
+    -- ---- ends
 
-      asked : (bs : List ℕ) (stop : Option Stop) → CalledWhere (NeedsMore 1) (text_at p r) bs stop → Waits (knows 0) (text_of max) (nexts bs stop (Settle (Ok tt) ∷ s.calls))
-      asked bs stop called =
-          nexts_waits (knows 0) (text_of max) (NeedsMore 1) (text_at p r) bs stop (Settle (Ok tt) ∷ s.calls) (s.waits, s.unfailed) s.unfailed s.continues tt called
-          (λ xs h. ap (λ t. t.ending) (s.beginning xs Failed (rw s.continues tt)) ∙ h.0)
-          (λ xs h. s.decided refl xs Failed ∙ ap (with_lines (lines_of s.calls)) (more (text_at p r xs Failed) h))
+    -- The last calls, after which the writer has taken this beginning of the rest.
+    pub ends_in : (outcome : Outcome) (v'' : W) (cs : List Call) → WriterCalls writes flushes cs v' v'' → Follow cs → EndsIn (IsLastAt outcome.status) cs → (IsTrue outcome.gone ↔ EndsIn IsGone cs) →
+        ((xs : List ℕ) (stop : Stop) → (unsent : List ℕ) × (held ++ concat (at n (rest_after ended w text xs stop)).lines ≡ sent cs ++ unsent) × StartsWith unsent (refused cs)
+        × (outcome.status ≢ WriteFault → (unsent ≡ []) × (outcome.status ≡ (at n (rest_after ended w text xs stop)).status))) →
+        (gathers ≡ false → (xs : List ℕ) (stop : Stop) → AreFirst (pieces cs) (at n (rest_after ended w text xs stop)).lines) →
+        Performs reads writes flushes gathers (record { max = max; known = knows 0; lists = at 0 }) outcome r r' v v''
+    ends_in outcome v'' [] did follow last gone lists each = absurd last
+    ends_in outcome v'' (c ∷ cs) did follow last gone lists each =
+        let stop_is = stop_joined writes flushes (c ∷ cs) s.calls v' v'' did in
+        let received_is = received_joined writes flushes (c ∷ cs) s.calls v' v'' did in
+        record {
+          calls = c ∷ (cs ++ s.calls);
+          did = calls_joined writes flushes reads (c ∷ cs) s.calls r r' v v' v'' s.did did;
+          rule = by_rule_joined writes flushes (knows 0) (text_of max) (c ∷ cs) s.calls v' v'' did follow s.rule s.unfailed;
+          ends = last;
+          gone = gone;
+          lists = λ xs stop may.
+              let rest = at n (rest_after ended w text xs stop) in
+              let is = s.lists xs stop (rw stop_is at may) in
+              let (unsent, part, next, all) = lists xs stop in
+              rw received_is (record {
+                unsent = unsent;
+                whole = ap (λ l. concat l.lines) is ∙ concat-append s.lines rest.lines ∙ ap (λ b. b ++ concat rest.lines) (sym s.put) ∙ append_assoc (sent s.calls) held (concat rest.lines)
+                    ∙ ap (λ b. sent s.calls ++ b) part ∙ sym (append_assoc (sent s.calls) (sent (c ∷ cs)) unsent) ∙ ap (λ b. b ++ unsent) (sym (sent_joined (c ∷ cs) s.calls));
+                next = rw (refused_first c (cs ++ s.calls) cs) next;
+                all = λ ne. ((all ne).0, (all ne).1 ∙ sym (ap (λ l. l.status) is));
+              });
+          each = λ e xs stop may.
+              let first = each e xs stop in
+              rw (received_is, pieces_joined (c ∷ cs) s.calls, (s.each e).1)
+              (first.0, ap (λ l. l.lines) (s.lists xs stop (rw stop_is at may)) ∙ ap (λ ls. s.lines ++ ls) first.1 ∙ sym (append_assoc s.lines (pieces (c ∷ cs)) first.0));
+        }
 
-      came : (bs : List ℕ) (stop : Option Stop) → SourceCalls gives bs stop u v → Calls gives ahead takes settles (nexts bs stop (Settle (Ok tt) ∷ s.calls)) a v k m
-      came bs stop calls = nexts_calls bs stop (Settle (Ok tt) ∷ s.calls) a u v k m (l, s.did, settled) calls
+    pub live_closes : (outcome : Outcome) (v'' : W) (last : Listing) → ((xs : List ℕ) (stop : Stop) → at n (rest_of ended w text.position text.room xs stop) ≡ last) → Closes writes flushes gathers held last outcome v' v'' →
+        Performs reads writes flushes gathers (record { max = max; known = knows 0; lists = at 0 }) outcome r r' v v''
+    live_closes outcome v'' last is q =
+        ends_in outcome v'' q.calls q.did q.follow q.ends q.gone
+        (λ xs stop. let same = is (text.unread ++ xs) stop in (q.unsent, ap (λ l. held ++ concat l.lines) same ∙ q.whole, q.next, λ ne. ((q.all ne).0, (q.all ne).1 ∙ sym (ap (λ l. l.status) same))))
+        (λ e xs stop. ([], ap (λ l. l.lines) (is (text.unread ++ xs) stop) ∙ sym (q.each e) ∙ sym (append-nil (pieces q.calls))))
 
-      pub live_read : (ended' : Option Ending) (w' : List ℕ) (p' r' : ℕ) → ReadsOn gives w p r ended' w' p' r' u v → Live n ended' w' p' r' a v k m
-      live_read None w' p' r' h =
-          let reads = h.3 in
-          let rest : (xs : List ℕ) (stop : Stop) → rest_of None w p r (reads.bytes ++ xs) stop ≡ rest_of None w' p' r' xs stop = λ xs stop. rw h.1 (ap (with_bytes w) (reads.reports xs stop (rw reads.continues tt)) ∙ with_bytes-with_bytes w (h.0 ∷ []) (text_at p' r' xs stop)) in
-          record {
-            calls = nexts reads.bytes reads.stop (Settle (Ok tt) ∷ s.calls);
-            did = came reads.bytes reads.stop reads.source_calls;
-            waits = asked reads.bytes reads.stop reads.called;
-            unfailed = nexts_unfailed reads.bytes reads.stop (Settle (Ok tt) ∷ s.calls) s.unfailed;
-            continues = nexts_stop reads.bytes reads.stop (Settle (Ok tt) ∷ s.calls) s.continues ∙ reads.continues;
-            walked = s.walked;
-            beginning = λ xs stop may. rw (nexts_bytes reads.bytes reads.stop (Settle (Ok tt) ∷ s.calls), append_assoc (returned s.calls) reads.bytes xs)
-                (s.beginning (reads.bytes ++ xs) stop (rw s.continues tt) ∙ ap (with_bytes s.walked) (rest xs stop));
-            lists = λ xs stop may. rw (nexts_bytes reads.bytes reads.stop (Settle (Ok tt) ∷ s.calls), nexts_lines reads.bytes reads.stop (Settle (Ok tt) ∷ s.calls), append_assoc (returned s.calls) reads.bytes xs)
-                (s.lists (reads.bytes ++ xs) stop (rw s.continues tt) ∙ ap (λ t. with_lines (lines_of s.calls) (at n t)) (rest xs stop));
-            decided = λ is xs stop. rw (nexts_bytes reads.bytes reads.stop (Settle (Ok tt) ∷ s.calls), nexts_lines reads.bytes reads.stop (Settle (Ok tt) ∷ s.calls), append_assoc (returned s.calls) reads.bytes xs)
-                (s.decided refl (reads.bytes ++ xs) stop ∙ ap (λ t. with_lines (lines_of s.calls) (knows n t)) (rest xs stop));
-          }
-      live_read (Some e) w' p' r' h =
-          let reads = h.2 in
-          let rest : (xs : List ℕ) (stop : Stop) → MayCome reads.stop xs stop → rest_of None w p r (reads.bytes ++ xs) stop ≡ rest_of (Some e) w' p' r' xs stop = λ xs stop may. rw h.0 (ap (with_bytes w) (reads.reports xs stop may) ∙ ap (λ i. record { image = i; ending = e }) (append-nil w)) in
-          let stopped = nexts_stop reads.bytes reads.stop (Settle (Ok tt) ∷ s.calls) s.continues in
-          record {
-            calls = nexts reads.bytes reads.stop (Settle (Ok tt) ∷ s.calls);
-            did = came reads.bytes reads.stop reads.source_calls;
-            waits = asked reads.bytes reads.stop reads.called;
-            unfailed = nexts_unfailed reads.bytes reads.stop (Settle (Ok tt) ∷ s.calls) s.unfailed;
-            continues = tt;
-            walked = s.walked;
-            beginning = λ xs stop may. rw (nexts_bytes reads.bytes reads.stop (Settle (Ok tt) ∷ s.calls), append_assoc (returned s.calls) reads.bytes xs)
-                (s.beginning (reads.bytes ++ xs) stop (rw s.continues tt) ∙ ap (with_bytes s.walked) (rest xs stop (rw (sym stopped) may)));
-            lists = λ xs stop may. rw (nexts_bytes reads.bytes reads.stop (Settle (Ok tt) ∷ s.calls), nexts_lines reads.bytes reads.stop (Settle (Ok tt) ∷ s.calls), append_assoc (returned s.calls) reads.bytes xs)
-                (s.lists (reads.bytes ++ xs) stop (rw s.continues tt) ∙ ap (λ t. with_lines (lines_of s.calls) (at n t)) (rest xs stop (rw (sym stopped) may)));
-            decided = λ is. absurd (cc);
-          }
+    -- a call failed, at these lines of what is left
+    pub live_fails : (outcome : Outcome) (f : WriteFailed) (ls : List (List ℕ)) (after : List ℕ → Stop → Listing) (rest : List ℕ) (v'' : W) → outcome.status ≡ WriteFault → outcome.gone ≡ f.gone →
+        ((xs : List ℕ) (stop : Stop) → at n (rest_after ended w text xs stop) ≡ with_lines ls (after xs stop)) → (q : Sends writes flushes (Err f) (concat ls) held rest v' v'') → (gathers ≡ false → pieces q.calls ≡ ls) →
+        Performs reads writes flushes gathers (record { max = max; known = knows 0; lists = at 0 }) outcome r r' v v''
+    live_fails outcome f ls after rest v'' status gone step q once =
+        ends_in outcome v'' q.calls q.did (follow_of {A = ⊤} {E = WriteFailed} (Err f) q.calls q.cause) (rw status (fails_last f q.calls q.cause)) (rw gone q.failed.1)
+        (λ xs stop.
+        let more = concat (after xs stop).lines in (
+          rest ++ more,
+          ap (λ l. held ++ concat l.lines) (step xs stop) ∙ ap (λ b. held ++ b) (concat-append ls (after xs stop).lines) ∙ sym (append_assoc held (concat ls) more) ∙ ap (λ b. b ++ more) (sym q.order) ∙ append_assoc (sent q.calls) rest more,
+          starts_more rest more (refused q.calls) q.failed.0,
+          λ ne. absurd (ne status),
+        ))
+        (λ e xs stop. ((after xs stop).lines, ap (λ l. l.lines) (step xs stop) ∙ ap (λ ps. ps ++ (after xs stop).lines) (sym (once e))))
 
--- reading on uses the room
-pub reads_less : {S : Type 0} (gives : S → Got → S → Type 0) (w : List ℕ) (p r : ℕ) (ended : Option Ending) (w' : List ℕ) (p' r' : ℕ) (a b : S) → ReadsOn gives w p r ended w' p' r' a b →
-    (length w' + r' ≤ length w + r) × (length w' + r' + turns ended < length w + r + 1)
-reads_less gives w p r None w' p' r' a b h = let l : length w' ≡ length w + 1 = rw h.1 (length-append w (h.0 ∷ [])) in (omega (arith, l, h.2), omega (arith, l, h.2))
-reads_less gives w p r (Some e) w' p' r' a b h = let l : length w' ≡ length w = ap length h.0 in (omega (arith, l, h.1), omega (arith, l, h.1))
+    pub live_unput : (outcome : Outcome) (f : WriteFailed) (x : List ℕ) (len : ℕ) (held' : List ℕ) (v'' : W) → outcome.status ≡ WriteFault → outcome.gone ≡ f.gone → IsLine at len n x ended w text.position text.room →
+        Puts writes flushes gathers (Err f) (line x) held held' v' v'' → Performs reads writes flushes gathers (record { max = max; known = knows 0; lists = at 0 }) outcome r r' v v''
+    live_unput outcome f x len held' v'' status gone step p =
+        live_fails outcome f (line x ∷ []) (λ xs stop. at (n + len) (rest_after ended (drop len w) text xs stop)) p.rest v'' status gone (λ xs stop. step (text.unread ++ xs) stop)
+        (sends_as writes flushes (Err f) (line x) (line x ++ []) held p.rest v' v'' (sym (append-nil (line x))) p.sends) (λ e. (p.once e).0)
 
--- so does taking what is ahead
-pub takes_less : {S : Type 0} (gives : S → Got → S → Type 0) (ahead : S → List ℕ) (w : List ℕ) (p r : ℕ) (w' : List ℕ) (p' r' : ℕ) (a b : S) → TakesBytes gives ahead w p r w' p' r' a b → length w' + r' ≤ length w + r
-takes_less gives ahead w p r w' p' r' a b t = let l : length w' ≡ length w + length t.values = rw t.items (length-append w t.values) in omega (arith, l, t.room_is, t.pairs)
+    pub live_unsent : (outcome : Outcome) (f : WriteFailed) (held' : List ℕ) (v'' : W) → outcome.status ≡ WriteFault → outcome.gone ≡ f.gone → SendsAll writes flushes (Err f) held held' v' v'' →
+        Performs reads writes flushes gathers (record { max = max; known = knows 0; lists = at 0 }) outcome r r' v v''
+    live_unsent outcome f held' v'' status gone q =
+        live_fails outcome f [] (λ xs stop. at n (rest_after ended w text xs stop)) held' v'' status gone (λ xs stop. refl) q.0 (λ e. q.2 (s.each e).0)
+
+  -- All that was gathered was sent, and a read was made, where the window decides no more.
+  module _ (image : List ℕ) (n : ℕ) (w : List ℕ) (text : TextPosition) (held : List ℕ) (r' : R) (v' : W) (s : Live image n None w text held r' v') where
+    abbrev pub live_fill : (held' : List ℕ) (v'' : W) (ended' : Option Ending) (text' : TextPosition) (r'' : R) → SendsAll writes flushes (Ok tt) held held' v' v'' → IsOpen text.unread text.room →
+        ((t : Text) → NeedsMore 1 t → knows n (with_bytes w t) ≡ at_end Fault) → Fills reads w text ended' text' r' r'' → Live image n ended' w text' held' r'' v''
+    live_fill held' v'' ended' text' r'' q half more f =
+        let t = live_put image n None w text held r' v' s [] n 0 held' v'' (λ xs stop. refl) (λ _ xs stop. refl) q.0 (λ e. (q.1.0, q.2 (s.each e).0)) in
+        let needs : NeedsMore 1 (text_at text.position text.room (text.unread ++ []) Failed) = rw (append-nil, half.failed text.position) (refl, omega arith) in
+        let before : AreBeforeFault (sent t.calls) (knows 0 (text_of max (received t.calls) Failed)) = (
+          t.lines,
+          rw append-nil at (t.decided refl [] Failed) ∙ ap (with_lines t.lines) (more (text_at text.position text.room (text.unread ++ []) Failed) needs),
+          sym t.put ∙ ap (λ b. sent t.calls ++ b) q.1.0 ∙ append-nil (sent t.calls),
+        ) in
+        record {
+          calls = Read f.buffer f.answer ∷ t.calls;
+          did = (r', t.did, f.answered);
+          rule = (t.rule, f.some, t.unstopped refl, ends_joined IsFlush q.0.calls s.calls q.1.1, before);
+          unfailed = ((λ e. e), t.unfailed);
+          unstopped = λ e. read_stop f.buffer f.answer t.calls ∙ f.stop e;
+          lines = t.lines;
+          put = t.put;
+          each = t.each;
+          whole = λ xs stop may. rw append_assoc (rw append-nil at (t.whole (taken_by f.answer f.buffer ++ xs) stop (rw (t.unstopped refl) tt)) ∙ ap (with_bytes image) (f.rest xs stop (rw (read_stop f.buffer f.answer t.calls) at may)));
+          lists = λ xs stop may. rw append_assoc (t.lists (taken_by f.answer f.buffer ++ xs) stop (rw (t.unstopped refl) tt) ∙ ap (λ u. with_lines t.lines (at n u)) (f.rest xs stop (rw (read_stop f.buffer f.answer t.calls) at may)));
+          decided = λ e xs stop. rw append_assoc (t.decided refl (taken_by f.answer f.buffer ++ xs) stop ∙ ap (λ u. with_lines t.lines (knows n u)) (f.rest xs stop (rw (f.stop e) tt)));
+        }

@@ -3,18 +3,19 @@
 ghost use Rattle.x86_decode.specs.Decoder.{is_strict};
 ghost use Rattle.std.specs.Prelude.{◌≡◌, map, string_bytes};
 ghost use Rattle.x86_cli.specs.Commands.Command.{command_by, command_of};
-ghost use Rattle.x86_cli.specs.Commands.Request.{Obeys};
+ghost use Rattle.x86_cli.specs.Commands.Request.{task_of};
+ghost use Rattle.x86_cli.specs.Listings.Performs.{Performs};
 ghost use Rattle.x86_cli.specs.declared.commands.request.Request.TheVariants.{Reads};
 
 use crate::listings::fields::FieldLines;
 use crate::listings::line::Plain;
 use crate::listings::listing::{UpToRefusal, list};
-use crate::listings::status::Status;
+use crate::listings::status::Outcome;
 use crate::listings::sweep::PastRefusals;
 use crate::listings::targets::targets;
 use crate::listings::tightening::LeastLines;
 use x86_decode::InstDecoder;
-use x86_streams::{Settling, Sink, Source};
+use x86_streams::{Input, Output};
 
 /// The most bytes of a text.
 pub const TEXT_MAX: u64 = 67_108_864;
@@ -75,44 +76,28 @@ fn decoder(strict: bool) -> InstDecoder
 }
 
 impl Command {
-    /// Writes the listing of the source's text, over a sink that is settled before the source is called.
-    pub fn obey<S: Source, K: Sink, T: Settling<K>>(
+    /// Writes the listing of the reader's text.
+    pub fn run<R, W, O: Input<R> + Output<W>>(
         self,
-        settling: &T,
-        source: &mut S,
-        sink: &mut K,
-    ) -> Status
-        ensures { Obeys S.gives S.ahead K.takes T.settles (Reads self) result
-            source.old source.new sink.old sink.new }
+        outside: &O,
+        reader: &mut R,
+        writer: &mut W,
+    ) -> Outcome
+        ensures { Performs O.reads O.writes O.flushes O.gathers (task_of (Reads self)) result
+            reader.old reader.new writer.old writer.new }
     {
         let default = InstDecoder::default();
+        let fields = UpToRefusal { lines: FieldLines };
+        let least = UpToRefusal { lines: LeastLines };
+        let plain = UpToRefusal { lines: Plain };
         match self {
-            Command::List { strict } => list(
-                &decoder(strict),
-                &UpToRefusal { lines: Plain },
-                settling,
-                TEXT_MAX,
-                source,
-                sink,
-            ),
-            Command::Fields => list(
-                &default,
-                &UpToRefusal { lines: FieldLines },
-                settling,
-                TEXT_MAX,
-                source,
-                sink,
-            ),
-            Command::Tighten => list(
-                &default,
-                &UpToRefusal { lines: LeastLines },
-                settling,
-                TEXT_MAX,
-                source,
-                sink,
-            ),
-            Command::Sweep => list(&default, &PastRefusals, settling, TEXT_MAX, source, sink),
-            Command::Targets => targets(&default, TARGETS_MAX, source, sink),
+            Command::List { strict } => {
+                list(&decoder(strict), &plain, TEXT_MAX, outside, reader, writer)
+            }
+            Command::Fields => list(&default, &fields, TEXT_MAX, outside, reader, writer),
+            Command::Tighten => list(&default, &least, TEXT_MAX, outside, reader, writer),
+            Command::Sweep => list(&default, &PastRefusals, TEXT_MAX, outside, reader, writer),
+            Command::Targets => targets(&default, TARGETS_MAX, outside, reader, writer),
         }
     }
 }

@@ -1,22 +1,22 @@
 //! Encodings that the program makes by itself, decodes and counts.
 
-ghost use Rattle.std.specs.Prelude.{◌≡◌, ◌↔◌, IsTrue, ◌+◌, ◌≤◌, ◌++◌, ℕ, IfSome, Some, None, length, decimal};
+ghost use Rattle.std.specs.Prelude.{[], ◌≡◌, ◌↔◌, IsTrue, ◌+◌, ◌≤◌, ◌++◌, ℕ, IfSome, Some, None, length, decimal};
 ghost use Rattle.arrayvec.specs.ArrayVec.{array_vec_len};
 ghost use Rattle.x86_decode.specs.Instruction.{holding};
 ghost use Rattle.x86_text.specs.Widths.{line_width};
-ghost use Rattle.x86_cli.specs.Commands.Run.{Wrote};
+ghost use Rattle.x86_cli.specs.Listings.Closes.{Closes};
 ghost use Rattle.x86_layout.specs.Parts.Heads.{one_if};
 ghost use Rattle.x86_cli.specs.Commands.Make.{generate, is_at_rip, is_absolute, has_operand, answer_has, tally_of, tally_text, made_listing};
 
 use crate::listings::listing::put_last;
-use crate::listings::status::Status;
+use crate::listings::status::{Outcome, Status};
 use arrayvec::ArrayVec;
 use itoa::Buffer;
 use x86_decode::{InstDecoder, Instruction};
 use x86_fields::{DecodeError, MEMORY_FORMS, ModRM, displacement_width};
 use x86_operands::Operand;
 use x86_regs::RegisterClass;
-use x86_streams::Sink;
+use x86_streams::{Gathered, Output};
 use x86_text::Line;
 
 /// The most encodings that `make` makes.
@@ -185,9 +185,10 @@ pub fn count_from(argument: &str) -> Option<u32>
 }
 
 /// Makes, decodes and counts `count` encodings, and writes the line of it.
-pub fn make<K: Sink>(count: u32, sink: &mut K) -> Status
-    ensures { Wrote K.takes (made_listing count) result sink.old sink.new }
+pub fn make<W, O: Output<W>>(count: u32, output: &O, writer: &mut W) -> Outcome
+    ensures { Closes O.writes O.flushes O.gathers [] (made_listing count) result writer.old writer.new }
 {
     let tally = tally_of(count);
-    put_last(sink, &mut tally_line(count, &tally), Status::Done)
+    let mut out = Gathered::new();
+    put_last(output, &mut out, writer, &mut tally_line(count, &tally), Status::Done)
 }

@@ -10,11 +10,11 @@ ghost use Rattle.x86_cli.specs.Listings.Line.{line};
 ghost use Rattle.x86_cli.specs.Commands.Process.{Reports, said_at};
 
 use crate::commands::request::USAGE;
-use crate::listings::listing::put_line;
-use crate::listings::status::Status;
+use crate::listings::status::{Outcome, Status};
 use std::alloc::{AllocError, Global};
 use std::process::ExitCode;
-use x86_streams::{Output, StdSink};
+use x86_streams::Output;
+use x86_streams::outside::sending::send_out;
 use x86_text::Line;
 
 /// The words of a program: all arguments but the first, which is its name. It fails only where memory is refused.
@@ -34,29 +34,29 @@ pub fn words<I: Iterator<Item = String> + Drop>(
     Ok(words)
 }
 
-/// Writes a line.
-pub fn report<E: Output + Drop>(said: &str, errors: E) -> E
+/// Writes a line, as far as the writer takes it.
+pub fn report<E, O: Output<E>>(said: &str, output: &O, errors: &mut E)
     requires { length said.now ≤ line_width }
-    ensures { Reports E.writes E.flushes (Some (line said.now)) errors result }
+    ensures { Reports O.writes O.flushes (Some (line said.now)) errors.old errors.new }
 {
     let mut line = Line::new();
     line.extend(said.as_bytes());
-    let mut sink = StdSink::new(errors);
-    let _ = put_line(&mut sink, &mut line);
-    sink.into_writer()
+    line.push(b'\n');
+    let _ = send_out(output, errors, line.as_slice());
 }
 
 /// How the process ends: with the number of the status. To `errors` it writes the usage line at `Usage`, and `write
 /// fault` at `WriteFault` unless the output is `gone` (the reader of its pipe closed it), as far as `errors` takes them;
 /// at every other status nothing.
-pub fn finish<E: Output + Drop>(status: Status, gone: bool, errors: E) -> (ExitCode, E)
-    ensures code { exit_status result.0 ≡ code status }
-    ensures says { Reports E.writes E.flushes (said_at status gone) errors result.1 }
+pub fn finish<E, O: Output<E>>(outcome: Outcome, output: &O, errors: &mut E) -> ExitCode
+    ensures code { exit_status result ≡ code outcome.status }
+    ensures says { Reports O.writes O.flushes (said_at outcome.status outcome.gone)
+        errors.old errors.new }
 {
-    let code = ExitCode::from(status.code());
-    match status {
-        Status::Usage => (code, report(USAGE, errors)),
-        Status::WriteFault if !gone => (code, report("write fault", errors)),
-        _ => (code, errors),
+    match outcome.status {
+        Status::Usage => report(USAGE, output, errors),
+        Status::WriteFault if !outcome.gone => report("write fault", output, errors),
+        _ => {}
     }
+    ExitCode::from(outcome.status.code())
 }

@@ -2,52 +2,84 @@
 
 ghost use Rattle.x86_decode.specs.Decoder.{is_strict};
 ghost use Rattle.x86_decode.specs.Instruction.{length_of};
-ghost use Rattle.std.specs.Prelude.{◌≡◌, ℕ, Bool, ◌<◌, ◌≤◌, ◌^◌, [], ◌∷◌, length};
+ghost use Rattle.std.specs.Prelude.{◌≡◌, ◌≢◌, ℕ, Bool, false, ◌<◌, ◌≤◌, ◌^◌, [], ◌∷◌, length};
 ghost use Rattle.arrayvec.specs.ArrayVec.{array_vec_len};
 ghost use Rattle.x86_text.specs.Widths.{line_width};
 ghost use Rattle.x86_cli.specs.Listings.Line.{line};
-ghost use Rattle.x86_streams.specs.Text.{Text, text_of};
-ghost use Rattle.x86_cli.specs.Listings.Listing.{Listing, at_end, at_refusal, listing_at};
+ghost use Rattle.x86_streams.specs.Outside.Chain.{Puts};
+ghost use Rattle.x86_streams.specs.Text.{Text};
+ghost use Rattle.x86_cli.specs.Listings.Closes.{Closes};
 ghost use Rattle.x86_cli.specs.Listings.Entry.{IsEntry};
-ghost use Rattle.x86_cli.specs.Commands.Run.{Wrote};
-ghost use Rattle.x86_cli.specs.Listings.Calls.{Lives};
+ghost use Rattle.x86_cli.specs.Listings.Listing.{Listing, at_end, listing_at};
+ghost use Rattle.x86_cli.specs.Listings.Performs.{Performs};
 
 use crate::laws::decoder_laws;
 use crate::listings::line::{Lines, bad_text};
-use crate::listings::status::Status;
+use crate::listings::status::{Outcome, Status};
 use crate::text::window::{Decoded, decode_next};
 use x86_decode::{InstDecoder, Instruction};
 use x86_fields::DecodeError;
-use x86_streams::{Ending, Settling, Sink, SinkFailed, Source, Window};
+use x86_streams::{Ending, Gathered, Input, Output, Window, WriteFailed};
 use x86_text::{LINE_ROOM, Line, Place, Room, refusal_of};
 
 /// Writes a line with its end.
 #[inline(always)]
-pub fn put_line<const N: usize, K: Sink>(sink: &mut K, text: &mut Room<N>) -> Result<(), SinkFailed>
-    requires { array_vec_len text.old < N }
-    ensures { K.takes sink.old (line text.old.items) result sink.new }
+pub fn put_line<const N: usize, W, O: Output<W>>(
+    output: &O,
+    out: &mut Gathered,
+    writer: &mut W,
+    text: &mut Room<N>,
+) -> Result<(), WriteFailed>
+    requires size { N ≤ 65536 }
+    requires room { array_vec_len text.old < N }
+    requires empty { O.gathers ≡ false → out.old.bytes.items ≡ [] }
+    ensures { Puts O.writes O.flushes O.gathers result (line text.old.items)
+        out.old.bytes.items out.new.bytes.items writer.old writer.new }
 {
     text.push(b'\n');
-    sink.put(text.as_slice())
+    out.put(output, writer, text.as_slice())
 }
 
-/// Writes the last line of a listing. It returns `status`, or `WriteFault` where that failed.
-pub fn put_last<K: Sink>(sink: &mut K, text: &mut Line, status: Status) -> Status
-    requires { array_vec_len text.old ≤ line_width }
-    ensures { Wrote K.takes (record { lines = line text.old.items ∷ []; status = status })
-        result sink.old sink.new }
+/// Sends all that was gathered, at the end of a listing.
+pub fn close<W, O: Output<W>>(
+    output: &O,
+    out: &mut Gathered,
+    writer: &mut W,
+    status: Status,
+) -> Outcome
+    requires status { status ≢ Status.WriteFault }
+    requires empty { O.gathers ≡ false → out.old.bytes.items ≡ [] }
+    ensures { Closes O.writes O.flushes O.gathers out.old.bytes.items
+        (record { lines = []; status = status }) result writer.old writer.new }
 {
-    match put_line(sink, text) {
-        Ok(()) => status,
-        Err(_) => Status::WriteFault,
+    match out.send_all(output, writer) {
+        Ok(()) => Outcome {
+            status,
+            gone: false,
+        },
+        Err(failed) => Outcome::of_failed(failed),
     }
 }
 
-fn refuse<K: Sink>(sink: &mut K, place: u64, error: DecodeError) -> Status
-    ensures { Wrote K.takes (at_refusal place error) result sink.old sink.new }
+/// Writes the last line of a listing, and sends all.
+pub fn put_last<W, O: Output<W>>(
+    output: &O,
+    out: &mut Gathered,
+    writer: &mut W,
+    text: &mut Line,
+    status: Status,
+) -> Outcome
+    requires short { array_vec_len text.old ≤ line_width }
+    requires status { status ≢ Status.WriteFault }
+    requires empty { O.gathers ≡ false → out.old.bytes.items ≡ [] }
+    ensures { Closes O.writes O.flushes O.gathers out.old.bytes.items
+        (record { lines = line text.old.items ∷ []; status = status })
+        result writer.old writer.new }
 {
-    let mut text = refusal_of(place, error);
-    put_last(sink, &mut text, Status::Refused)
+    match put_line(output, out, writer, text) {
+        Ok(()) => close(output, out, writer, status),
+        Err(failed) => Outcome::of_failed(failed),
+    }
 }
 
 fn constant(text: &[u8]) -> Line
@@ -60,16 +92,24 @@ fn constant(text: &[u8]) -> Line
     line
 }
 
-/// Writes the line of an end, if it has one. It returns how the run ends.
-pub fn end<K: Sink>(sink: &mut K, ending: Ending) -> Status
-    ensures { Wrote K.takes (at_end ending) result sink.old sink.new }
+/// Writes the line of an end, if it has one, and sends all.
+pub fn end<W, O: Output<W>>(
+    output: &O,
+    out: &mut Gathered,
+    writer: &mut W,
+    ending: Ending,
+) -> Outcome
+    requires { O.gathers ≡ false → out.old.bytes.items ≡ [] }
+    ensures { Closes O.writes O.flushes O.gathers out.old.bytes.items (at_end ending) result
+        writer.old writer.new }
 {
-    match ending {
-        Ending::Clean => Status::Done,
-        Ending::Bad(position) => put_last(sink, &mut bad_text(position), Status::BadText),
-        Ending::Large => put_last(sink, &mut constant(b"text too long"), Status::TooLarge),
-        Ending::Fault => put_last(sink, &mut constant(b"read fault"), Status::ReadFault),
-    }
+    let (mut text, status) = match ending {
+        Ending::Clean => return close(output, out, writer, Status::Done),
+        Ending::Bad(position) => (bad_text(position), Status::BadText),
+        Ending::Large => (constant(b"text too long"), Status::TooLarge),
+        Ending::Fault => (constant(b"read fault"), Status::ReadFault),
+    };
+    put_last(output, out, writer, &mut text, status)
 }
 
 pub fn length_of(instruction: &Instruction) -> u64
@@ -110,8 +150,8 @@ pub trait Course<const N: usize> {
         ensures next { IsEntry
             (lists self.now (is_strict decoder.now)) (knows self.now (is_strict decoder.now))
             result place.now line.new.items
-            window.now.ended window.now.bytes.items window.now.reader.position
-            window.now.reader.room }
+            window.now.ended window.now.bytes.items window.now.text.position
+            window.now.text.room }
         ensures short { (n : ℕ) → result ≡ Entry.Line n → array_vec_len line.new < N };
 }
 
@@ -152,47 +192,53 @@ impl<L: Lines + Drop> Course<LINE_ROOM> for UpToRefusal<L> {
     }
 }
 
-/// Writes the listing of the source's text. Each line is put as soon as it is decided, and the source is called only
-/// where what was read decides no more, once the sink is settled.
-pub fn list<const N: usize, W: Course<N>, S: Source, K: Sink, T: Settling<K>>(
+/// Writes the listing of the reader's text. Each line is gathered as soon as it is decided. A read is made only where what
+/// was read decides no more, once all that was gathered is sent.
+pub fn list<const N: usize, C: Course<N>, R, W, O: Input<R> + Output<W>>(
     decoder: &InstDecoder,
-    course: &W,
-    settling: &T,
+    course: &C,
     max: u64,
-    source: &mut S,
-    sink: &mut K,
-) -> Status
-    requires size { N < 2 ^ 32 }
+    outside: &O,
+    reader: &mut R,
+    writer: &mut W,
+) -> Outcome
+    requires size { N ≤ 65536 }
     requires max { max < 2 ^ 62 }
-    ensures { Lives S.gives S.ahead K.takes T.settles
-        (W.knows course.now (is_strict decoder.now) 0)
-        (W.lists course.now (is_strict decoder.now) 0)
-        (text_of max) result source.old source.new sink.old sink.new }
+    ensures { Performs O.reads O.writes O.flushes O.gathers (record { max = max;
+        known = C.knows course.now (is_strict decoder.now) 0;
+        lists = C.lists course.now (is_strict decoder.now) 0 }) result
+        reader.old reader.new writer.old writer.new }
 {
     let mut window = Window::new(max);
+    let mut out = Gathered::new();
     let mut inst = Instruction::invalid();
     let mut line: Room<N> = Room::new();
     let mut place = Place::at(0);
     'lines: loop {
-        window.take_known(source);
+        window.take_known();
         match course.next(decoder, &window, &place, &mut inst, &mut line) {
             Entry::Line(length) => {
-                match put_line(sink, &mut line) {
+                match put_line(outside, &mut out, writer, &mut line) {
                     Ok(()) => {}
-                    Err(_) => return Status::WriteFault,
+                    Err(failed) => return Outcome::of_failed(failed),
                 }
                 window.bytes.leave(length as usize);
                 place.advance(length);
             }
             Entry::Undecided => {
-                match settling.settle(sink) {
-                    Ok(()) => {}
-                    Err(_) => return Status::WriteFault,
+                if !window.step() {
+                    match out.send_all(outside, writer) {
+                        Ok(()) => {}
+                        Err(failed) => return Outcome::of_failed(failed),
+                    }
+                    window.fill(outside, reader);
                 }
-                window.read_on(source);
             }
-            Entry::Refused(error) => return refuse(sink, place.number(), error),
-            Entry::Ended(ending) => return end(sink, ending),
+            Entry::Refused(error) => {
+                let mut text = refusal_of(place.number(), error);
+                return put_last(outside, &mut out, writer, &mut text, Status::Refused);
+            }
+            Entry::Ended(ending) => return end(outside, &mut out, writer, ending),
         }
     }
 }

@@ -3,6 +3,8 @@
 ghost use Rattle.std.specs.Prelude.{◌≡◌};
 ghost use Rattle.x86_cli.specs.Listings.Status.{code};
 
+use x86_streams::WriteFailed;
+
 /// How a run ended.
 #[derive(Clone, Copy, PartialEq, Eq, Debug, Drop)]
 pub enum Status {
@@ -35,6 +37,27 @@ impl Status {
             Status::ReadFault => 5,
             Status::WriteFault => 6,
             Status::TooLarge => 7,
+        }
+    }
+}
+
+/// How a program ended.
+#[derive(Clone, Copy, Drop)]
+pub struct Outcome {
+    pub status: Status,
+    /// Whether the last call of the writer answered that nobody reads what is written.
+    pub gone: bool,
+}
+
+impl Outcome {
+    /// The writer took no more.
+    pub fn of_failed(failed: WriteFailed) -> Outcome
+        ensures status { result.status ≡ Status.WriteFault }
+        ensures gone { result.gone ≡ failed.gone }
+    {
+        Outcome {
+            status: Status::WriteFault,
+            gone: failed.gone,
         }
     }
 }

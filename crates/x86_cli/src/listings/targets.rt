@@ -1,21 +1,21 @@
 //! The places that the instructions of a sweep branch to.
 
 ghost use Rattle.x86_decode.specs.Decoder.{is_strict};
-ghost use Rattle.std.specs.Prelude.{◌≡◌, ℕ, ◌+◌, ◌*◌, ◌<◌, ◌≤◌, ◌++◌, length, slice_index_or, true, false, None, Some, Err, OnOk, IfErr};
-ghost use Rattle.x86_streams.specs.Text.{text_of};
+ghost use Rattle.std.specs.Prelude.{◌≡◌, ℕ, ◌+◌, ◌*◌, ◌<◌, ◌≤◌, ◌++◌, length, slice_index_or, true, false, [], Ok};
 ghost use Rattle.arrayvec.specs.ArrayVec.{array_vec_len};
 ghost use Rattle.x86_layout.specs.Sweeps.Marks.{is_marked};
-ghost use Rattle.x86_streams.specs.Outside.Sink.{SinkCalls};
-ghost use Rattle.x86_cli.specs.Commands.Run.{Ran};
-ghost use Rattle.x86_cli.specs.Listings.Targets.{image_max, place_line, lines_if, targets_at};
-ghost use Rattle.x86_streams.specs.Text.Window.{Fills};
+ghost use Rattle.x86_streams.specs.Outside.Chain.{Puts};
+ghost use Rattle.x86_cli.specs.Listings.Listing.{at_end};
+ghost use Rattle.x86_cli.specs.Listings.Performs.{Performs};
+ghost use Rattle.x86_cli.specs.Listings.Targets.{ReadsWhole, image_max, place_line, targets_at};
 
 use crate::listings::listing::{end, put_line};
-use crate::listings::status::Status;
+use crate::listings::status::Outcome;
 use arrayvec::ArrayVec;
 use x86_decode::InstDecoder;
 use x86_layout::mark_targets;
-use x86_streams::{Ending, Sink, SinkFailed, Source, Window};
+use x86_streams::outside::sending::flush_out;
+use x86_streams::{Ending, Gathered, Input, Output, Window, WriteFailed};
 use x86_text::Line;
 
 /// The most bytes of an image that is held whole.
@@ -41,21 +41,32 @@ fn append(image: &mut ArrayVec<u8, IMAGE_MAX>, window: &Window) -> usize
     bytes.len()
 }
 
-/// Reads a text to its end. Each byte of the image takes at least two bytes of text.
-fn read_whole<S: Source>(max: u64, source: &mut S) -> WholeText
+/// Reads a text to its end. Each byte of the image takes at least two bytes of text. The writer is flushed before each
+/// read.
+fn read_whole<R, W, O: Input<R> + Output<W>>(
+    max: u64,
+    outside: &O,
+    reader: &mut R,
+    writer: &mut W,
+) -> Result<WholeText, WriteFailed>
     requires { max ≤ 2 * image_max }
-    ensures { Fills S.gives (text_of max)
-        (Some result.ending) result.image.items 0 0 source.old source.new }
+    ensures { ReadsWhole O.reads O.writes O.flushes max result
+        reader.old reader.new writer.old writer.new }
 {
     let mut image = ArrayVec::new();
     let mut window = Window::new(max);
     'windows: loop {
-        window.take_known(source);
+        window.take_known();
         let count = append(&mut image, &window);
         window.bytes.leave(count);
-        window.read_on(source);
         if let Some(ending) = window.ended {
-            return WholeText { image, ending };
+            return Ok(WholeText { image, ending });
+        }
+        if !window.step() {
+            match flush_out(outside, writer) {
+                Ok(()) => window.fill(outside, reader),
+                Err(failed) => return Err(failed),
+            }
         }
     }
 }
@@ -70,40 +81,54 @@ fn mark(decoder: &InstDecoder, image: &[u8], marks: &mut [bool; IMAGE_MAX])
 }
 
 /// Writes the line of a place, where it is marked.
-fn put_if_marked<K: Sink>(sink: &mut K, marked: bool, place: u64) -> Result<(), SinkFailed>
-    ensures ok { OnOk result (SinkCalls K.takes (lines_if marked place) None sink.old sink.new) }
-    ensures failed { IfErr result
-        (λ e. (marked ≡ true) × K.takes sink.old (place_line place) (Err e) sink.new) }
+fn put_if_marked<W, O: Output<W>>(
+    output: &O,
+    out: &mut Gathered,
+    writer: &mut W,
+    marked: bool,
+    place: u64,
+) -> Result<(), WriteFailed>
+    requires { O.gathers ≡ false → out.old.bytes.items ≡ [] }
+    ensures marked { marked ≡ true → Puts O.writes O.flushes O.gathers result (place_line place)
+        out.old.bytes.items out.new.bytes.items writer.old writer.new }
+    ensures other { marked ≡ false → (result ≡ Ok tt) × (out.new ≡ out.old)
+        × (writer.new ≡ writer.old) }
 {
     if marked {
         let mut line = Line::new();
         line.push_u64(place);
-        put_line(sink, &mut line)
+        put_line(output, out, writer, &mut line)
     } else {
         Ok(())
     }
 }
 
 /// Writes the places that the instructions of a text branch to, of a text that is short enough to be held whole.
-pub fn targets<S: Source, K: Sink>(
+pub fn targets<R, W, O: Input<R> + Output<W>>(
     decoder: &InstDecoder,
     max: u64,
-    source: &mut S,
-    sink: &mut K,
-) -> Status
+    outside: &O,
+    reader: &mut R,
+    writer: &mut W,
+) -> Outcome
     requires { max ≤ 2 * image_max }
-    ensures { Ran S.gives K.takes
-        (targets_at (is_strict decoder.now) 0) max result source.old source.new sink.old sink.new }
+    ensures { Performs O.reads O.writes O.flushes O.gathers (record { max = max;
+        known = λ t. at_end t.ending; lists = targets_at (is_strict decoder.now) 0 }) result
+        reader.old reader.new writer.old writer.new }
 {
-    let text = read_whole(max, source);
+    let text = match read_whole(max, outside, reader, writer) {
+        Ok(text) => text,
+        Err(failed) => return Outcome::of_failed(failed),
+    };
     let image = text.image.as_slice();
     let mut marks = [false; IMAGE_MAX];
     mark(decoder, image, &mut marks);
+    let mut out = Gathered::new();
     'places: for place in 0..image.len() {
-        match put_if_marked(sink, marks[place], place as u64) {
+        match put_if_marked(outside, &mut out, writer, marks[place], place as u64) {
             Ok(()) => {}
-            Err(_) => return Status::WriteFault,
+            Err(failed) => return Outcome::of_failed(failed),
         }
     }
-    end(sink, text.ending)
+    end(outside, &mut out, writer, text.ending)
 }

@@ -76,8 +76,8 @@ pub fn decode_next(
     inst: &mut Instruction,
 ) -> Option<Decoded<()>>
     ensures rest { IfSome result (λ decoded. (xs : List ℕ) (stop : Stop) →
-        let rest = rest_of window.now.ended window.now.bytes.items window.now.reader.position
-        window.now.reader.room xs stop in decoded_of (is_strict decoder.now) rest.image rest.ending
+        let rest = rest_of window.now.ended window.now.bytes.items window.now.text.position
+        window.now.text.room xs stop in decoded_of (is_strict decoder.now) rest.image rest.ending
         ≡ decoded_with inst.new decoded) }
     ensures shows { IfSome result (λ decoded. Shows (is_strict decoder.now)
         (decoded_with inst.new decoded) window.now.ended window.now.bytes.items) }

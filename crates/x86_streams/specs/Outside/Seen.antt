@@ -1,11 +1,9 @@
 -- What callers see of sources and sinks whose fields are private.
-use Rattle.std.specs.Prelude.{ℕ, Bool, List, slice_range}
+use Rattle.std.specs.Prelude.{ℕ, List, slice_range}
 use Rattle.x86_streams.specs.declared.outside.slice_source.SliceSource.{SliceSource}
 use Rattle.x86_streams.specs.declared.outside.array_sink.ArraySink.{ArraySink}
 use Rattle.x86_streams.specs.declared.outside.std_source.StdSource.{StdSource}
 use Rattle.x86_streams.specs.declared.outside.std_sink.StdSink.{StdSink}
-use Rattle.x86_streams.specs.declared.outside.gathered.Gathered.{Gathered}
-use Rattle.x86_streams.specs.declared.outside.watched.Watched.{Watched}
 
 -- the number of a slice's next call, and the numbers of those that fail
 abbrev pub slice_call : SliceSource → ℕ
@@ -24,20 +22,6 @@ array_fails s = s.fails
 -- the writer of a sink
 abbrev pub sink_writer : {W : Type 0} → StdSink W → W
 sink_writer s = s.writer
-
--- the writer after a buffer, and what the buffer holds
-abbrev pub buffer_writer : {W : Type 0} → Gathered W → W
-buffer_writer g = g.writer
-
-abbrev pub buffer_bytes : {W : Type 0} → Gathered W → List ℕ
-buffer_bytes g = g.bytes.items
-
--- a writer that is watched, and whether it answered that its other end is gone
-abbrev pub watched_writer : {W : Type 0} → Watched W → W
-watched_writer w = w.writer
-
-abbrev pub is_gone : {W : Type 0} → Watched W → Bool
-is_gone w = w.gone
 
 -- the reader of a source, and what it holds of the bytes that were read
 abbrev pub source_reader : {R : Type 0} → {g : _} → StdSource R g → R

@@ -1,12 +1,12 @@
 -- What a window has taken of a text.
-use Rattle.std.specs.Prelude.{◌≡◌, ℕ, ◌+◌, ◌*◌, ◌≤◌, List, [], ◌∷◌, ◌++◌, length, Option, Some, None, ⊤}
-use Rattle.x86_streams.specs.declared.outside.source.Got.{Got}
+use Rattle.std.specs.Prelude.{◌≡◌, ℕ, ◌+◌, ◌-◌, ◌*◌, ◌<◌, ◌≤◌, List, [], ◌∷◌, ◌++◌, length, Option, Some, None, Result}
+use Rattle.std.specs.declared.io.Error.{Error}
 use Rattle.x86_streams.specs.declared.text.reader.Ending.{Ending}
+use Rattle.x86_streams.specs.Outside.Chain.{Read, Reads, stop_of, taken_by}
 use Rattle.x86_streams.specs.Outside.Stop.{Stop}
 use Rattle.x86_streams.specs.Text.{Text, text_at}
-use Rattle.x86_streams.specs.declared.text.reader.Piece.TheVariants.{Byte, Stopped}
-use Rattle.x86_streams.specs.Text.Spells.{Begins}
-use Rattle.x86_streams.specs.Text.Reading.{SourceCalls, TakesAhead, Reads, CalledWhileOpen, MayCome, with_bytes}
+use Rattle.x86_streams.specs.Text.Reader.{TextPosition}
+use Rattle.x86_streams.specs.Text.Reading.{MayCome, with_bytes}
 
 -- the bytes that a window holds
 pub record WindowBytes : Type 0 where
@@ -17,38 +17,48 @@ abbrev pub rest_of : Option Ending → List ℕ → ℕ → ℕ → List ℕ →
 rest_of None window position room xs stop = with_bytes window (text_at position room xs stop)
 rest_of (Some e) window position room xs stop = record { image = window; ending = e }
 
--- Where the text has not ended, the source didn't return a stop.
-abbrev pub Open : Option Ending → Option Stop → Type 0
-Open None stop = stop ≡ None
-Open (Some e) stop = ⊤
+-- the same, where these bytes come after those that were read and not taken
+abbrev pub rest_after : Option Ending → List ℕ → TextPosition → List ℕ → Stop → Text
+rest_after ended window text xs stop = rest_of ended window text.position text.room (text.unread ++ xs) stop
 
--- Bytes that the source had ahead came into the window, and the reader advanced by them.
-pub record TakesBytes {S : Type 0} (gives : S → Got → S → Type 0) (ahead : S → List ℕ) (window : List ℕ) (position room : ℕ)
-    (window' : List ℕ) (position' room' : ℕ) (before after : S) : Type 0 where
-  pub bytes : List ℕ
-  pub takes : TakesAhead gives ahead bytes before after
-  pub values : List ℕ
-  pub begins : Begins bytes values
-  pub pairs : 2 * length values ≤ length bytes
-  pub items : window' ≡ window ++ values
-  pub position_is : position' ≡ position + length bytes
-  pub room_is : room ≡ length bytes + room'
+-- Whatever comes, the text that is left is the same.
+abbrev pub LeavesRest : Option Ending → List ℕ → TextPosition → Option Ending → List ℕ → TextPosition → Type 0
+LeavesRest ended window text ended' window' text' =
+    (xs : List ℕ) (stop : Stop) → rest_after ended window text xs stop ≡ rest_after ended' window' text' xs stop
 
--- A byte of the image came into the window, or the text ended.
-abbrev pub ReadsOn : {S : Type 0} → (S → Got → S → Type 0) → (window : List ℕ) → (position room : ℕ) →
-    (ended : Option Ending) → (window' : List ℕ) → (position' room' : ℕ) → S → S → Type 0
-ReadsOn gives window position room None window' position' room' before after =
-    (v : ℕ) × (window' ≡ window ++ v ∷ []) × (room' + 2 ≤ room) × Reads gives (Byte v) position room position' room' before after
-ReadsOn gives window position room (Some e) window' position' room' before after =
-    (window' ≡ window) × (room' ≤ room) × Reads gives (Stopped e) position room position' room' before after
+-- Each byte that came into the window took at least two of those that may be taken.
+abbrev pub Fits : List ℕ → TextPosition → List ℕ → TextPosition → Type 0
+Fits window text window' text' = (length window' + text'.room ≤ length window + text.room) × (2 * length window' + text'.room ≤ 2 * length window + text.room)
 
--- What reading into a window keeps: the text that is left, for all that may come. Each call was made while the text was
--- open.
-pub record Fills {S : Type 0} (gives : S → Got → S → Type 0) (old : List ℕ → Stop → Text)
-    (ended : Option Ending) (window : List ℕ) (position room : ℕ) (before after : S) : Type 0 where
-  pub bytes : List ℕ
-  pub stop : Option Stop
-  pub source_calls : SourceCalls gives bytes stop before after
-  pub called : CalledWhileOpen old bytes stop
-  pub continues : Open ended stop
-  pub rest : (xs : List ℕ) (s : Stop) → MayCome stop xs s → old (bytes ++ xs) s ≡ rest_of ended window position room xs s
+-- one more turn may come where the text has not ended
+abbrev pub turns : Option Ending → ℕ
+turns None = 1
+turns (Some e) = 0
+
+-- a number that falls with each turn: a byte that may be taken counts three times, one that isn't read yet once
+abbrev pub turns_left : Option Ending → List ℕ → TextPosition → ℕ
+turns_left ended window text = 3 * (length window + text.room + turns ended) + (2 - length text.unread)
+
+-- Bytes that were read came into the window.
+pub record TakesBytes (ended : Option Ending) (window : List ℕ) (text : TextPosition) (window' : List ℕ) (text' : TextPosition) : Type 0 where
+  pub rest : LeavesRest ended window text ended window' text'
+  pub fits : Fits window text window' text'
+  pub turns : turns_left ended window' text' ≤ turns_left ended window text
+
+-- A blank or a pair was taken, or the text ended.
+pub record Steps (window : List ℕ) (text : TextPosition) (ended' : Option Ending) (window' : List ℕ) (text' : TextPosition) : Type 0 where
+  pub rest : LeavesRest None window text ended' window' text'
+  pub fits : Fits window text window' text'
+  pub turns : turns_left ended' window' text' < turns_left None window text
+
+-- A read was made, and what it returned is after what was left, or the text ended.
+pub record Fills {R : Type 0} (reads : R → List ℕ → Result ℕ Error → R → Type 0) (window : List ℕ) (text : TextPosition) (ended' : Option Ending) (text' : TextPosition) (r r' : R) : Type 0 where
+  pub buffer : List ℕ
+  pub some : 0 < length buffer
+  pub answer : Result ℕ Error
+  pub answered : Reads reads buffer answer r r'
+  pub stop : ended' ≡ None → stop_of (Read buffer answer ∷ []) ≡ None
+  pub rest : (xs : List ℕ) (stop : Stop) → MayCome (stop_of (Read buffer answer ∷ [])) xs stop →
+      rest_after None window text (taken_by answer buffer ++ xs) stop ≡ rest_after ended' window text' xs stop
+  pub fits : Fits window text window text'
+  pub turns : turns_left ended' window text' < turns_left None window text

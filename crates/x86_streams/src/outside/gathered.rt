@@ -1,115 +1,102 @@
 //! Output that is gathered, without an allocation.
 
-ghost use Rattle.std.specs.Prelude.{◌≡◌, None, [], length, OnOk, IfOk};
-ghost use Rattle.std.specs.Io.{WritesAtMost};
-ghost use Rattle.x86_streams.specs.Outside.Writes.{Forwards, FlushesOut, Gathers, IsFinalFlush, IsFinalWrite, taken_by};
-ghost use Rattle.x86_streams.specs.Outside.Seen.{buffer_writer, buffer_bytes};
+ghost use Rattle.std.specs.Prelude.{◌≡◌, ◌≤◌, [], false, true, length, OnOk};
+ghost use Rattle.x86_streams.specs.Outside.Chain.{Puts, Sends, SendsAll};
 
 use crate::outside::output::Output;
-use crate::outside::sending::{flush_out, send_out};
-use crate::outside::sink::SinkFailed;
-use std::io;
-use std::io::{Error, ErrorKind};
+use crate::outside::sending::{WriteFailed, flush_out, put_whole, send_out};
 use x86_lines::Room;
 
 const SIZE: usize = 65536;
 
-/// A writer that gathers bytes in a buffer of 64 KiB, and sends it where the next don't fit or at a flush. What a
-/// failed write leaves unsent stays in the buffer, so no byte is sent twice. An error says that the writer failed, and
-/// not how, since a sink needs no more.
+/// Bytes that are gathered in a buffer of 64 KiB, and sent where the next don't fit or at a flush. What a failed write
+/// leaves unsent stays in the buffer, so no byte is sent twice.
 #[derive(Drop)]
-pub struct Gathered<W: Output + Drop> {
-    writer: W,
-    bytes: Room<SIZE>,
+pub struct Gathered {
+    pub bytes: Room<SIZE>,
 }
 
-impl<W: Output + Drop> Gathered<W> {
-    /// Gathers for the writer, with nothing gathered.
-    pub fn new(writer: W) -> Gathered<W>
-        ensures writer { buffer_writer result ≡ writer }
-        ensures empty { buffer_bytes result ≡ [] }
+impl Gathered {
+    /// Nothing gathered.
+    pub fn new() -> Gathered
+        ensures { result.bytes.items ≡ [] }
     {
-        Gathered {
-            writer,
-            bytes: Room::new(),
-        }
-    }
-
-    /// Returns the writer. What is still gathered is dropped.
-    pub fn into_writer(self) -> W
-        ensures { result ≡ buffer_writer self }
-    {
-        self.writer
+        Gathered { bytes: Room::new() }
     }
 
     /// Sends what was gathered.
-    fn send(&mut self) -> Result<(), SinkFailed>
-        ensures empty { OnOk result (buffer_bytes self.new ≡ []) }
-        ensures forwards { Forwards W.writes W.flushes result [] (buffer_bytes self.old)
-            (buffer_bytes self.new) (buffer_writer self.old) (buffer_writer self.new) }
+    fn send<W, O: Output<W>>(&mut self, output: &O, writer: &mut W) -> Result<(), WriteFailed>
+        ensures empty { OnOk result (self.new.bytes.items ≡ []) }
+        ensures sends { Sends O.writes O.flushes result [] self.old.bytes.items
+            self.new.bytes.items writer.old writer.new }
     {
-        let (sent, result) = send_out(&mut self.writer, self.bytes.as_slice());
+        let (sent, result) = send_out(output, writer, self.bytes.as_slice());
         self.bytes.leave(sent);
         result
     }
 
-    /// Takes as much as fits, where not all does. A full buffer is sent first.
+    /// Takes a piece after what was gathered was sent.
     #[cold]
     #[inline(never)]
-    fn write_part(&mut self, buf: &[u8]) -> Result<usize, SinkFailed>
-        ensures bound { WritesAtMost result buf.now }
-        ensures some { IfOk result (λ n. n ≡ 0 → length buf.now ≡ 0) }
-        ensures forwards { Forwards W.writes W.flushes result (taken_by result buf.now)
-            (buffer_bytes self.old) (buffer_bytes self.new) (buffer_writer self.old)
-            (buffer_writer self.new) }
+    fn put_after<W, O: Output<W>>(
+        &mut self,
+        output: &O,
+        writer: &mut W,
+        piece: &[u8],
+    ) -> Result<(), WriteFailed>
+        requires fits { length piece.now ≤ 65536 }
+        requires gathers { O.gathers ≡ true }
+        ensures { Puts O.writes O.flushes O.gathers result piece.now
+            self.old.bytes.items self.new.bytes.items writer.old writer.new }
     {
-        if self.bytes.left() == 0 {
-            self.send()?;
+        match self.send(output, writer) {
+            Ok(()) => {
+                self.bytes.extend(piece);
+                Ok(())
+            }
+            Err(failed) => Err(failed),
         }
-        let count = buf.len().min(self.bytes.left());
-        self.bytes.extend(&buf[..count]);
-        Ok(count)
+    }
+
+    /// Takes a piece. Where it doesn't fit, what was gathered is sent first. An output that doesn't gather is written at
+    /// once.
+    #[inline(always)]
+    pub fn put<W, O: Output<W>>(
+        &mut self,
+        output: &O,
+        writer: &mut W,
+        piece: &[u8],
+    ) -> Result<(), WriteFailed>
+        requires fits { length piece.now ≤ 65536 }
+        requires empty { O.gathers ≡ false → self.old.bytes.items ≡ [] }
+        ensures { Puts O.writes O.flushes O.gathers result piece.now
+            self.old.bytes.items self.new.bytes.items writer.old writer.new }
+    {
+        if !output.gathers() {
+            return put_whole(output, writer, piece);
+        }
+        if piece.len() > self.bytes.left() {
+            return self.put_after(output, writer, piece);
+        }
+        self.bytes.extend(piece);
+        Ok(())
     }
 
     /// Sends what was gathered, and flushes the writer.
-    pub fn send_all(&mut self) -> Result<(), SinkFailed>
-        ensures { FlushesOut W.writes W.flushes result (buffer_bytes self.old)
-            (buffer_bytes self.new)
-            (buffer_writer self.old) (buffer_writer self.new) }
+    pub fn send_all<W, O: Output<W>>(
+        &mut self,
+        output: &O,
+        writer: &mut W,
+    ) -> Result<(), WriteFailed>
+        ensures { SendsAll O.writes O.flushes result self.old.bytes.items self.new.bytes.items
+            writer.old writer.new }
     {
-        self.send()?;
-        flush_out(&mut self.writer)
-    }
-}
-
-/// What it writes is known from the calls of its writer, `Forwards`.
-impl<W: Output + Drop> Output for Gathered<W> {
-    ghost written = { λ s. None };
-
-    ghost writes = { λ s buf r t. Forwards W.writes W.flushes r (taken_by r buf)
-        (buffer_bytes s) (buffer_bytes t) (buffer_writer s) (buffer_writer t)
-        × IsFinalWrite r buf
-        × Gathers r buf (buffer_bytes s) (buffer_bytes t) (buffer_writer s) (buffer_writer t) };
-
-    ghost flushes = { λ s r t. FlushesOut W.writes W.flushes r
-        (buffer_bytes s) (buffer_bytes t) (buffer_writer s) (buffer_writer t)
-        × IsFinalFlush r };
-
-    fn write(&mut self, buf: &[u8]) -> io::Result<usize> {
-        if buf.len() <= self.bytes.left() {
-            self.bytes.extend(buf);
-            return Ok(buf.len());
+        if self.bytes.as_slice().is_empty() {
+            return flush_out(output, writer);
         }
-        match self.write_part(buf) {
-            Ok(count) => Ok(count),
-            Err(_) => Err(Error::from(ErrorKind::Other)),
-        }
-    }
-
-    fn flush(&mut self) -> io::Result<()> {
-        match self.send_all() {
-            Ok(()) => Ok(()),
-            Err(_) => Err(Error::from(ErrorKind::Other)),
+        match self.send(output, writer) {
+            Ok(()) => flush_out(output, writer),
+            Err(failed) => Err(failed),
         }
     }
 }

@@ -1,35 +1,42 @@
-//! What a source reads from.
+//! What a text is read from.
 
-ghost use Rattle.std.specs.Prelude.{ℕ, List, Option, Result};
+ghost use Rattle.std.specs.Prelude.{◌<◌, ℕ, List, Result, length};
 ghost use Rattle.std.specs.Io.{ReadsAtMost};
-ghost use Rattle.std.specs.Io.KnownBytes.{ReadConsumes};
 ghost use Rattle.std.specs.declared.io.Error.{Error};
+ghost use Rattle.x86_streams.specs.Outside.Chain.{Reads};
 
+use crate::outside::interruptions::{TRIES, is_interrupted};
 use std::io;
-use std::io::Read;
 
-/// A reader, with a relation that says which reads there were. Code that is generic over it can't make a read up.
-pub trait Input {
-    /// The bytes that reads will return, where they are known.
-    ghost left: { Self → Option (List ℕ) };
-
+/// How readers of type `R` are read, with a relation that says which reads there were. Code that is generic over it
+/// can't make a read up.
+pub trait Input<R> {
     /// What a read may answer, with this in its buffer, and what it may leave of the reader.
-    ghost reads: { Self → List ℕ → Result ℕ Error → Self → Type 0 };
+    ghost reads: { R → List ℕ → Result ℕ Error → R → Type 0 };
 
-    /// One read. It says of its bytes what std's does.
-    fn read(&mut self, buf: &mut [u8]) -> io::Result<usize>
-        ensures bound { ReadsAtMost result buf.new }
-        ensures bytes { ReadConsumes (left self.old) (left self.new) result buf.new }
-        ensures read { reads self.old buf.new result self.new };
+    /// One read, into a buffer with room for a byte at least.
+    fn read(&self, reader: &mut R, buffer: &mut [u8]) -> io::Result<usize>
+        requires { 0 < length buffer.old }
+        ensures bound { ReadsAtMost result buffer.new }
+        ensures read { reads reader.old buffer.new result reader.new };
 }
 
-/// Each reader of std is one.
-impl<R: Read> Input for R {
-    ghost left = { λ s. R.remaining s };
-
-    ghost reads = { λ s buf r t. ReadConsumes (R.remaining s) (R.remaining t) r buf };
-
-    fn read(&mut self, buf: &mut [u8]) -> io::Result<usize> {
-        Read::read(self, buf)
+/// One read, which is made again where a signal interrupts it.
+#[tactic(auto, using(crate::proofs::OutsideLemmas::Tries::interrupted_more))]
+pub fn read_some<R, I: Input<R>>(input: &I, reader: &mut R, buffer: &mut [u8]) -> io::Result<usize>
+    requires { 0 < length buffer.old }
+    ensures bound { ReadsAtMost result buffer.new }
+    ensures read { Reads I.reads buffer.new result reader.old reader.new }
+{
+    for tried in 0..TRIES {
+        match input.read(reader, buffer) {
+            Ok(count) => return Ok(count),
+            Err(error) => {
+                if !is_interrupted(&error) {
+                    return Err(error);
+                }
+            }
+        }
     }
+    input.read(reader, buffer)
 }

@@ -1,49 +1,77 @@
-//! What a sink writes to.
+//! What a listing is written to.
 
-ghost use Rattle.std.specs.Prelude.{ℕ, List, Option, Result, ⊤};
+ghost use Rattle.std.specs.Prelude.{◌≡◌, ℕ, Bool, false, List, Result, Ok, length, ⊤};
 ghost use Rattle.std.specs.Io.{WritesAtMost};
-ghost use Rattle.std.specs.Io.KnownBytes.{Keeps, WriteAppends};
 ghost use Rattle.std.specs.declared.io.Error.{Error};
+ghost use Rattle.x86_streams.specs.Outside.Chain.{Flushes, Writes};
 
+use crate::outside::interruptions::{TRIES, is_interrupted};
 use std::io;
-use std::io::Write;
 
-/// A writer, with relations that say which calls there were. Code that is generic over it can't make a call up.
-pub trait Output {
-    /// The bytes that the writer has, where they are known.
-    ghost written: { Self → Option (List ℕ) };
-
+/// How writers of type `W` are written, with relations that say which calls there were. Code that is generic over it
+/// can't make a call up.
+pub trait Output<W> {
     /// What a write of these bytes may answer, and what it may leave of the writer.
-    ghost writes: { Self → List ℕ → Result ℕ Error → Self → Type 0 };
+    ghost writes: { W → List ℕ → Result ℕ Error → W → Type 0 };
 
     /// What a flush may answer, and what it may leave of the writer.
-    ghost flushes: { Self → Result ⊤ Error → Self → Type 0 };
+    ghost flushes: { W → Result ⊤ Error → W → Type 0 };
 
-    /// One write. It says of its bytes what std's does.
-    fn write(&mut self, buf: &[u8]) -> io::Result<usize>
-        ensures bound { WritesAtMost result buf.now }
-        ensures bytes { WriteAppends (written self.old) (written self.new) result buf.now }
-        ensures wrote { writes self.old buf.now result self.new };
+    /// Whether pieces may be gathered before a write.
+    ghost gathers: { Bool };
 
-    /// One flush. It says of its bytes what std's does.
-    fn flush(&mut self) -> io::Result<()>
-        ensures bytes { Keeps (written self.old) (written self.new) }
-        ensures flushed { flushes self.old result self.new };
+    /// Whether pieces may be gathered before a write. Where they aren't, a write takes all of its piece or fails.
+    fn gathers(&self) -> bool
+        ensures { result ≡ gathers };
+
+    /// One write.
+    fn write(&self, writer: &mut W, bytes: &[u8]) -> io::Result<usize>
+        ensures bound { WritesAtMost result bytes.now }
+        ensures wrote { writes writer.old bytes.now result writer.new };
+
+    /// One flush.
+    fn flush(&self, writer: &mut W) -> io::Result<()>
+        ensures { flushes writer.old result writer.new };
+
+    /// Where pieces aren't gathered, a write takes all of its piece or fails.
+    ghost whole: { gathers ≡ false → (w v : W) (bytes : List ℕ) (n : ℕ) →
+        writes w bytes (Ok n) v → n ≡ length bytes };
 }
 
-/// Each writer of std is one.
-impl<W: Write> Output for W {
-    ghost written = { λ s. W.contents s };
-
-    ghost writes = { λ s buf r t. WriteAppends (W.contents s) (W.contents t) r buf };
-
-    ghost flushes = { λ s r t. Keeps (W.contents s) (W.contents t) };
-
-    fn write(&mut self, buf: &[u8]) -> io::Result<usize> {
-        Write::write(self, buf)
+/// One write, which is made again where a signal interrupts it.
+#[tactic(auto, using(crate::proofs::OutsideLemmas::Tries::interrupted_more))]
+#[inline(always)]
+pub fn write_some<W, O: Output<W>>(output: &O, writer: &mut W, bytes: &[u8]) -> io::Result<usize>
+    ensures bound { WritesAtMost result bytes.now }
+    ensures wrote { Writes O.writes bytes.now result writer.old writer.new }
+{
+    for tried in 0..TRIES {
+        match output.write(writer, bytes) {
+            Ok(count) => return Ok(count),
+            Err(error) => {
+                if !is_interrupted(&error) {
+                    return Err(error);
+                }
+            }
+        }
     }
+    output.write(writer, bytes)
+}
 
-    fn flush(&mut self) -> io::Result<()> {
-        Write::flush(self)
+/// One flush, which is made again where a signal interrupts it.
+#[tactic(auto, using(crate::proofs::OutsideLemmas::Tries::interrupted_more))]
+pub fn flush_once<W, O: Output<W>>(output: &O, writer: &mut W) -> io::Result<()>
+    ensures { Flushes O.flushes result writer.old writer.new }
+{
+    for tried in 0..TRIES {
+        match output.flush(writer) {
+            Ok(()) => return Ok(()),
+            Err(error) => {
+                if !is_interrupted(&error) {
+                    return Err(error);
+                }
+            }
+        }
     }
+    output.flush(writer)
 }

@@ -1,104 +1,72 @@
 //! Bytes that are sent to a writer whole, and its flush.
 
-ghost use Rattle.std.specs.Prelude.{◌≡◌, ◌<◌, ◌≤◌, length, take, OnOk, IfOk, Ok, ⊤};
-ghost use Rattle.std.specs.Io.{WritesAtMost};
-ghost use Rattle.std.specs.Io.KnownBytes.{Appends, Keeps, WriteAppends};
-ghost use Rattle.x86_streams.specs.Outside.Writes.{Caused, Flushes, taken_by};
-ghost use Rattle.x86_streams.specs.declared.outside.sink.SinkFailed.{SinkFailed};
+ghost use Rattle.std.specs.Prelude.{◌≡◌, ◌↔◌, ◌≤◌, IsTrue, false, length, drop, [], OnOk};
+ghost use Rattle.x86_streams.specs.Outside.Chain.{Puts, Sends, SendsAll};
+ghost use Rattle.std.specs.declared.io.ErrorKind.TheVariants.{BrokenPipe};
+ghost use Rattle.std.specs.IoError.{error_kind};
 
-use crate::outside::interruptions::{TRIES, is_interrupted};
-use crate::outside::output::Output;
-use crate::outside::sink::SinkFailed;
+use crate::outside::output::{Output, flush_once, write_some};
+use std::io::{Error, ErrorKind};
 
-/// One write, which is made again where a signal interrupts it. It takes a byte at least, or fails.
-#[inline(always)]
-fn write_some<W: Output>(writer: &mut W, bytes: &[u8]) -> Result<usize, SinkFailed>
-    requires { 0 < length bytes.now }
-    ensures bound { WritesAtMost result bytes.now }
-    ensures some { IfOk result (λ n. 0 < n) }
-    ensures bytes { WriteAppends (W.written writer.old) (W.written writer.new) result bytes.now }
-    ensures caused { Caused W.writes W.flushes result
-        (taken_by result bytes.now) writer.old writer.new }
-{
-    for tried in 0..TRIES {
-        match writer.write(bytes) {
-            Ok(0) => return Err(SinkFailed),
-            Ok(count) => return Ok(count),
-            Err(error) => {
-                if !is_interrupted(&error) {
-                    return Err(SinkFailed);
-                }
-            }
-        }
-    }
-    Err(SinkFailed)
+/// The writer took no more.
+#[derive(Clone, Copy, Drop)]
+pub struct WriteFailed {
+    /// Whether it answered that nobody reads what is written: a pipe whose other end is closed.
+    pub gone: bool,
 }
 
-/// Writes the bytes that follow the first, until all are written or a write fails, and returns how many were written
-/// with the first.
-#[cold]
-#[inline(never)]
-fn send_rest<W: Output>(
+/// What an error of a writer says.
+pub fn failed(error: &Error) -> WriteFailed
+    ensures { IsTrue result.gone ↔ (error_kind error.now ≡ BrokenPipe) }
+{
+    WriteFailed {
+        gone: error.kind() == ErrorKind::BrokenPipe,
+    }
+}
+
+/// Writes bytes until all are written or a write fails, and returns how many were written.
+pub fn send_out<W, O: Output<W>>(
+    output: &O,
     writer: &mut W,
     bytes: &[u8],
-    first: usize,
-) -> (usize, Result<(), SinkFailed>)
-    requires { first ≤ length bytes.now }
+) -> (usize, Result<(), WriteFailed>)
     ensures bound { result.0 ≤ length bytes.now }
     ensures all { OnOk result.1 (result.0 ≡ length bytes.now) }
-    ensures bytes { (w : W) →
-        Appends (W.written w) (W.written writer.old) (take first bytes.now) →
-        Appends (W.written w) (W.written writer.new) (take result.0 bytes.now) }
-    ensures caused { (w : W) →
-        Caused W.writes W.flushes {A = ⊤} {E = SinkFailed} (Ok tt)
-        (take first bytes.now) w writer.old →
-        Caused W.writes W.flushes result.1 (take result.0 bytes.now) w writer.new }
+    ensures sends { Sends O.writes O.flushes result.1 [] bytes.now (drop result.0 bytes.now)
+        writer.old writer.new }
 {
-    let mut sent = first;
+    let mut sent = 0;
     while sent < bytes.len() {
-        match write_some(writer, &bytes[sent..]) {
+        match write_some(output, writer, &bytes[sent..]) {
+            Ok(0) => return (sent, Err(WriteFailed { gone: false })),
             Ok(count) => sent += count,
-            Err(failed) => return (sent, Err(failed)),
+            Err(error) => return (sent, Err(failed(&error))),
         }
     }
     (sent, Ok(()))
 }
 
-/// Writes the bytes until all are written or a write fails, and returns how many were written. Mostly one write takes
-/// all.
-#[inline(always)]
-pub fn send_out<W: Output>(writer: &mut W, bytes: &[u8]) -> (usize, Result<(), SinkFailed>)
-    ensures bound { result.0 ≤ length bytes.now }
-    ensures all { OnOk result.1 (result.0 ≡ length bytes.now) }
-    ensures bytes { Appends (W.written writer.old) (W.written writer.new)
-        (take result.0 bytes.now) }
-    ensures caused { Caused W.writes W.flushes result.1
-        (take result.0 bytes.now) writer.old writer.new }
+/// Writes a piece at once, where pieces aren't gathered.
+pub fn put_whole<W, O: Output<W>>(
+    output: &O,
+    writer: &mut W,
+    piece: &[u8],
+) -> Result<(), WriteFailed>
+    requires { O.gathers ≡ false }
+    ensures { Puts O.writes O.flushes O.gathers result piece.now [] [] writer.old writer.new }
 {
-    if bytes.is_empty() {
-        return (0, Ok(()));
-    }
-    match write_some(writer, bytes) {
-        Ok(count) if count == bytes.len() => (count, Ok(())),
-        Ok(count) => send_rest(writer, bytes, count),
-        Err(failed) => (0, Err(failed)),
+    match write_some(output, writer, piece) {
+        Ok(_) => Ok(()),
+        Err(error) => Err(failed(&error)),
     }
 }
 
-/// One flush, which is made again where a signal interrupts it.
-pub fn flush_out<W: Output>(writer: &mut W) -> Result<(), SinkFailed>
-    ensures bytes { Keeps (W.written writer.old) (W.written writer.new) }
-    ensures flushed { Flushes W.writes W.flushes result writer.old writer.new }
+/// Flushes the writer.
+pub fn flush_out<W, O: Output<W>>(output: &O, writer: &mut W) -> Result<(), WriteFailed>
+    ensures { SendsAll O.writes O.flushes result [] [] writer.old writer.new }
 {
-    for tried in 0..TRIES {
-        match writer.flush() {
-            Ok(()) => return Ok(()),
-            Err(error) => {
-                if !is_interrupted(&error) {
-                    return Err(SinkFailed);
-                }
-            }
-        }
+    match flush_once(output, writer) {
+        Ok(()) => Ok(()),
+        Err(error) => Err(failed(&error)),
     }
-    Err(SinkFailed)
 }

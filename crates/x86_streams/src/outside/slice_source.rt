@@ -1,6 +1,6 @@
 //! A source over a slice, of which chosen calls fail.
 
-ghost use Rattle.std.specs.Prelude.{[], ◌≡◌, ◌≤◌, Some, drop, length};
+ghost use Rattle.std.specs.Prelude.{◌≡◌, ◌≤◌, Some, drop, length};
 ghost use Rattle.x86_streams.specs.Outside.Source.{ReportsGot};
 ghost use Rattle.x86_streams.specs.Outside.SliceSource.{ByNumber, is_listed};
 
@@ -64,8 +64,6 @@ impl<'a> Source for SliceSource<'a> {
         × ByNumber g (drop s.position s.bytes.now) (slice_call s) (slice_call t) (slice_fails s)
         (slice_fails t) };
 
-    ghost ahead = { λ s. [] };
-
     ghost reports = { λ s g t h. h.0 };
 
     fn next(&mut self) -> Got {
@@ -83,10 +81,4 @@ impl<'a> Source for SliceSource<'a> {
             Got::End
         }
     }
-
-    fn ahead(&self) -> &[u8] {
-        &[]
-    }
-
-    fn skip(&mut self, _count: usize) {}
 }

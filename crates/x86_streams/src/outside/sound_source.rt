@@ -27,8 +27,6 @@ impl<'a> Source for SoundSource<'a> {
 
     ghost gives = { λ s g t. ReportsGot g (Some s.bytes.now) (Some t.bytes.now) 0 0 };
 
-    ghost ahead = { λ s. [] };
-
     ghost reports = { λ s g t h. h };
 
     fn next(&mut self) -> Got
@@ -45,10 +43,4 @@ impl<'a> Source for SoundSource<'a> {
             None => Got::End,
         }
     }
-
-    fn ahead(&self) -> &[u8] {
-        &[]
-    }
-
-    fn skip(&mut self, _count: usize) {}
 }

@@ -1,8 +1,7 @@
 //! What a text is read from.
 
-ghost use Rattle.std.specs.Prelude.{◌≡◌, ◌≤◌, ℕ, List, Option, length, take, drop};
+ghost use Rattle.std.specs.Prelude.{ℕ, List, Option};
 ghost use Rattle.x86_streams.specs.Outside.Source.{ReportsGot};
-ghost use Rattle.x86_streams.specs.Text.Reading.{TakesAhead};
 ghost use Rattle.x86_streams.specs.declared.outside.source.Got.{Got};
 
 /// What a call of a source returns.
@@ -27,19 +26,6 @@ pub trait Source {
     /// The first byte left, if the source doesn't fail. A failed call takes no byte.
     fn next(&mut self) -> Got
         ensures { gives self.old result self.new };
-
-    /// The bytes that the next calls return, as many as the source knows without a call.
-    ghost ahead: { Self → List ℕ };
-
-    /// Those bytes. This takes nothing, and doesn't count as a call of `next`.
-    fn ahead(&self) -> &[u8]
-        ensures { result.now ≡ ahead self.now };
-
-    /// Takes so many of the bytes ahead: as many calls of `next`, each of which returns its byte.
-    fn skip(&mut self, count: usize)
-        requires { count ≤ length (ahead self.old) }
-        ensures takes { TakesAhead gives ahead (take count (ahead self.old)) self.old self.new }
-        ensures rest { ahead self.new ≡ drop count (ahead self.old) };
 
     /// What a call says, where the source's bytes are known.
     ghost reports: { (s : Self) (g : Got) (t : Self) → gives s g t →

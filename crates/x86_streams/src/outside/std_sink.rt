@@ -1,25 +1,23 @@
 //! A sink over a writer.
 
-ghost use Rattle.std.specs.Prelude.{◌≡◌, OnOk, IfErr};
-ghost use Rattle.x86_streams.specs.Outside.FaultCounts.{Rose};
+ghost use Rattle.std.specs.Prelude.{◌≡◌};
 ghost use Rattle.x86_streams.specs.Outside.Sink.{ReportsPut};
-ghost use Rattle.x86_streams.specs.Outside.Writes.{FlushesOut, PutSends};
-ghost use Rattle.x86_streams.specs.Outside.Seen.{buffer_bytes, buffer_writer, sink_writer};
+ghost use Rattle.x86_streams.specs.Outside.Seen.{sink_writer};
 
-use crate::outside::gathered::Gathered;
-use crate::outside::output::Output;
+use crate::outside::process::Process;
 use crate::outside::sending::send_out;
 use crate::outside::sink::{Sink, SinkFailed};
+use std::io::Write;
 
 /// Pieces that go to a writer. Its bytes are known where the writer's are. A write that takes none of a piece that
 /// isn't empty fails, and one that a signal interrupts is made again.
 #[derive(Drop)]
-pub struct StdSink<W: Output + Drop> {
+pub struct StdSink<W: Write + Drop> {
     writer: W,
     faults: u64,
 }
 
-impl<W: Output + Drop> StdSink<W> {
+impl<W: Write + Drop> StdSink<W> {
     /// A sink over the writer.
     pub fn new(writer: W) -> StdSink<W>
         ensures sound { ⟦<StdSink<W> as Sink>⟧.faults result ≡ 0 }
@@ -43,42 +41,25 @@ impl<W: Output + Drop> StdSink<W> {
     }
 }
 
-impl<W: Output + Drop> StdSink<Gathered<W>> {
-    /// Sends what the buffer holds, and flushes its writer.
-    #[cold]
-    #[inline(never)]
-    pub fn send_all(&mut self) -> Result<(), SinkFailed>
-        ensures flushes { FlushesOut W.writes W.flushes result
-            (buffer_bytes (sink_writer self.old)) (buffer_bytes (sink_writer self.new))
-            (buffer_writer (sink_writer self.old)) (buffer_writer (sink_writer self.new)) }
-        ensures kept { OnOk result (self.new.faults ≡ self.old.faults) }
-        ensures counted { IfErr result (λ e. Rose self.old.faults self.new.faults) }
-    {
-        let result = self.writer.send_all();
-        if result.is_err() {
-            self.faults = self.faults.saturating_add(1);
-        }
-        result
-    }
-}
-
-impl<W: Output + Drop> Sink for StdSink<W> {
-    ghost written = { λ s. W.written s.writer };
+impl<W: Write + Drop> Sink for StdSink<W> {
+    ghost written = { λ s. W.contents s.writer };
 
     ghost faults = { λ s. s.faults };
 
-    ghost takes = { λ s piece r t. ReportsPut r piece (W.written s.writer)
-        (W.written t.writer) s.faults t.faults
-        × PutSends W.writes W.flushes r piece s.writer t.writer };
+    ghost takes = { λ s piece r t. ReportsPut r piece (W.contents s.writer)
+        (W.contents t.writer) s.faults t.faults };
 
-    ghost reports = { λ s piece r t h. h.0 };
+    ghost reports = { λ s piece r t h. h };
 
     #[inline(always)]
     fn put(&mut self, piece: &[u8]) -> Result<(), SinkFailed> {
-        let (_, result) = send_out(&mut self.writer, piece);
-        if result.is_err() {
-            self.faults = self.faults.saturating_add(1);
+        let (_, result) = send_out(&Process, &mut self.writer, piece);
+        match result {
+            Ok(()) => Ok(()),
+            Err(_) => {
+                self.faults = self.faults.saturating_add(1);
+                Err(SinkFailed)
+            }
         }
-        result
     }
 }

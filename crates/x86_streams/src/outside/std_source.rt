@@ -1,13 +1,13 @@
 //! A source over a reader.
 
-ghost use Rattle.std.specs.Prelude.{◌≡◌, ◌≤◌, ◌<◌, [], ◌∷◌, slice_range};
+ghost use Rattle.std.specs.Prelude.{◌≡◌, ◌≤◌};
 ghost use Rattle.std.specs.Io.KnownBytes.{prepend_known};
 ghost use Rattle.x86_streams.specs.Outside.Source.{ReportsGot};
-ghost use Rattle.x86_streams.specs.Outside.StdSource.{ReportsRefill, Fetches, Refills};
 
-use crate::outside::input::Input;
-use crate::outside::reading::read_some;
+use crate::outside::input::read_some;
+use crate::outside::process::Process;
 use crate::outside::source::{Got, Source};
+use std::io::Read;
 
 /// How many bytes one read may return.
 const BUFFER: usize = 65536;
@@ -15,7 +15,7 @@ const BUFFER: usize = 65536;
 /// The bytes of a reader, one read a buffer. Its bytes are known where the reader's are: first what is buffered, then
 /// those of the reader. A read that returns no byte is the end. One that a signal interrupts is made again.
 #[derive(Drop)]
-pub struct StdSource<R: Input + Drop> {
+pub struct StdSource<R: Read + Drop> {
     reader: R,
     buffer: [u8; BUFFER],
     position: usize,
@@ -25,15 +25,14 @@ pub struct StdSource<R: Input + Drop> {
     ghost in_order: { position ≤ filled },
 }
 
-impl<R: Input + Drop> StdSource<R> {
-    ghost use Rattle.x86_streams.specs.Outside.Seen.{source_reader, source_bytes};
+impl<R: Read + Drop> StdSource<R> {
+    ghost use Rattle.x86_streams.specs.Outside.Seen.{source_reader};
 
     /// A source over the reader, with nothing read.
     pub fn new(reader: R) -> StdSource<R>
-        ensures bytes { ⟦<StdSource<R> as Source>⟧.left result ≡ R.left reader }
+        ensures bytes { ⟦<StdSource<R> as Source>⟧.left result ≡ R.remaining reader }
         ensures sound { ⟦<StdSource<R> as Source>⟧.faults result ≡ 0 }
         ensures reader { source_reader result ≡ reader }
-        ensures empty { source_bytes result ≡ [] }
     {
         StdSource {
             reader,
@@ -59,103 +58,48 @@ impl<R: Input + Drop> StdSource<R> {
     }
 }
 
-/// What a read returned.
-#[derive(Clone, Copy, Drop)]
-enum Refill {
-    Bytes,
-    Nothing,
-    Fault,
-}
-
-impl<R: Input + Drop> StdSource<R> {
-    /// Reads on, where no byte of the buffer is left.
+impl<R: Read + Drop> StdSource<R> {
+    /// Reads on, where no byte of the buffer is left, and returns the first byte that was read.
     #[cold]
     #[inline(never)]
-    fn refill(&mut self) -> Refill
+    fn read_on(&mut self) -> Got
         requires { self.old.position ≡ self.old.filled }
-        ensures reported { ReportsRefill result
-            (prepend_known (slice_range self.old.buffer self.old.position self.old.filled)
-            (R.left self.old.reader))
-            (prepend_known (slice_range self.new.buffer self.new.position self.new.filled)
-            (R.left self.new.reader)) self.old.faults self.new.faults }
-        ensures some { result ≡ Refill.Bytes → self.new.position < self.new.filled }
-        ensures refills { Refills R.reads result self.old.reader
-            (slice_range self.new.buffer self.new.position self.new.filled) self.new.reader }
+        ensures { ⟦<StdSource<R> as Source>⟧.gives self.old result self.new }
     {
-        match read_some(&mut self.reader, &mut self.buffer) {
-            Ok(0) => Refill::Nothing,
+        match read_some(&Process, &mut self.reader, &mut self.buffer) {
+            Ok(0) => Got::End,
             Ok(count) => {
-                self.position = 0;
+                self.position = 1;
                 self.filled = count;
-                Refill::Bytes
+                Got::Byte(self.buffer[0])
             }
             Err(_) => {
                 self.faults = self.faults.saturating_add(1);
-                Refill::Fault
+                Got::Failed
             }
         }
     }
-
-    /// Takes the first byte that is buffered.
-    #[inline(always)]
-    fn take(&mut self) -> u8
-        requires { self.old.position < self.old.filled }
-        ensures takes { slice_range self.old.buffer self.old.position self.old.filled
-            ≡ result ∷ slice_range self.new.buffer self.new.position self.new.filled }
-        ensures reader { self.new.reader ≡ self.old.reader }
-        ensures reported { ReportsGot (Got.Byte result)
-            (prepend_known (slice_range self.old.buffer self.old.position self.old.filled)
-            (R.left self.old.reader))
-            (prepend_known (slice_range self.new.buffer self.new.position self.new.filled)
-            (R.left self.new.reader)) self.old.faults self.new.faults }
-    {
-        let byte = self.buffer[self.position];
-        self.position += 1;
-        byte
-    }
 }
 
-impl<R: Input + Drop> Source for StdSource<R> {
-    ghost left = { λ s. prepend_known (slice_range s.buffer s.position s.filled)
-        (R.left s.reader) };
+impl<R: Read + Drop> Source for StdSource<R> {
+    ghost use Rattle.x86_streams.specs.Outside.Seen.{source_bytes};
+
+    ghost left = { λ s. prepend_known (source_bytes s) (R.remaining s.reader) };
 
     ghost faults = { λ s. s.faults };
 
-    ghost gives = { λ s g t. ReportsGot g
-        (prepend_known (slice_range s.buffer s.position s.filled) (R.left s.reader))
-        (prepend_known (slice_range t.buffer t.position t.filled) (R.left t.reader)) s.faults
-        t.faults
-        × Fetches R.reads g (slice_range s.buffer s.position s.filled) s.reader
-        (slice_range t.buffer t.position t.filled) t.reader };
+    ghost gives = { λ s g t. ReportsGot g (prepend_known (source_bytes s) (R.remaining s.reader))
+        (prepend_known (source_bytes t) (R.remaining t.reader)) s.faults t.faults };
 
-    ghost ahead = { λ s. slice_range s.buffer s.position s.filled };
-
-    ghost reports = { λ s g t h. h.0 };
+    ghost reports = { λ s g t h. h };
 
     #[inline(always)]
     fn next(&mut self) -> Got {
         if self.position == self.filled {
-            match self.refill() {
-                Refill::Bytes => {}
-                Refill::Nothing => return Got::End,
-                Refill::Fault => return Got::Failed,
-            }
+            return self.read_on();
         }
-        Got::Byte(self.take())
-    }
-
-    #[inline(always)]
-    fn ahead(&self) -> &[u8] {
-        &self.buffer[self.position..self.filled]
-    }
-
-    #[inline(always)]
-    #[tactic(auto, using(crate::proofs::OutsideLemmas::Skip::skipped_none))]
-    fn skip(&mut self, count: usize) {
-        let mut taken = 0;
-        while taken < count {
-            self.take();
-            taken += 1;
-        }
+        let byte = self.buffer[self.position];
+        self.position += 1;
+        Got::Byte(byte)
     }
 }

@@ -1,167 +1,141 @@
-//! Hex text, read byte by byte.
+//! Hex text, read block by block.
 
-ghost use Rattle.std.specs.Prelude.{◌≡◌, ℕ, ◌+◌, ◌<◌, ◌≤◌, take, true, false};
-ghost use Rattle.x86_streams.specs.Text.{is_blank, value_of};
-ghost use Rattle.x86_streams.specs.Text.Reading.{Reads, StaysAt, UsesRoom};
+ghost use Rattle.std.specs.Prelude.{◌≡◌, ◌+◌, ◌≤◌, [], drop, length, take};
+ghost use Rattle.x86_streams.specs.Text.Reader.{ReadsBlock};
 
-use crate::outside::source::{Got, Source};
-use crate::text::kinds::{Kind, kind_of};
+use crate::outside::input::{Input, read_some};
+use std::io;
 use std::marker::Model;
+
+/// How many bytes one read may return.
+const BLOCK: usize = 65536;
+
+/// Room for those, and for half a pair that is left of the block before.
+const ROOM: usize = BLOCK + 1;
 
 /// How a text ends.
 #[derive(Clone, Copy, Drop)]
 pub enum Ending {
-    /// At the source's end, and not inside a pair.
+    /// At the end of what is read, and not inside a pair.
     Clean,
-    /// At the position of a byte that isn't allowed there, or at the source's end inside a pair.
+    /// At the position of a byte that isn't allowed there, or at the end inside a pair.
     Bad(u64),
     /// At a byte more than may be taken.
     Large,
-    /// At a failure of the source.
+    /// At a read that failed.
     Fault,
 }
 
-/// The next byte of a text's image, or the text's end.
-#[derive(Clone, Copy, Drop)]
-pub enum Piece {
-    Byte(u8),
-    Stopped(Ending),
-}
-
-/// Where in a text the reader is, and the position up to which it may take bytes. What contracts see of it is its
-/// position and how many bytes it may still take.
-#[derive(Clone, Copy, Drop)]
+/// A text as far as it was read: the bytes that aren't taken yet, their position in it, and the position up to which
+/// bytes may be taken.
+#[derive(Drop)]
 pub struct TextReader {
+    block: [u8; ROOM],
+    at: usize,
+    filled: usize,
     position: u64,
     end: u64,
 }
 
 impl Model for TextReader {
-    ghost use Rattle.std.specs.Prelude.{ℕ, ◌≤◌, ◌+◌, ◌-◌};
-    ghost use Rattle.std.proofs.Common.{arith, ap};
+    ghost use Rattle.std.specs.Prelude.{◌<◌, ◌≤◌, ◌-◌, ◌^◌, drop, take};
     ghost use Rattle.x86_streams.specs.Text.Reader.{TextPosition};
 
     ghost Value = { TextPosition };
 
-    ghost view = { λ r. record { position = r.position; room = r.end - r.position } };
+    ghost view = { λ r. record {
+      position = r.position;
+      room = r.end - r.position;
+      unread = drop r.at (take r.filled r.block);
+    } };
 
-    ghost invariant = { λ r. r.position ≤ r.end };
-
-    ghost inverse = { λ s. record { position = s.position; end = s.position + s.room } };
-
-    ghost inverse_ok = { λ r h. ap (λ (e : ℕ). record { position = r.position; end = e })
-        (omega (arith, h)) };
+    ghost invariant = { λ r. (r.at ≤ r.filled) × (r.filled ≤ 65537) × (r.position ≤ r.end)
+        × (r.end < 2 ^ 64) };
 }
 
 impl TextReader {
-    /// A reader of a text of at most `max` bytes.
+    /// A reader of a text of at most `max` bytes, with nothing read.
     pub fn new(max: u64) -> TextReader
         ensures position { result.position ≡ 0 }
         ensures room { result.room ≡ max }
+        ensures unread { result.unread ≡ [] }
     {
         TextReader {
+            block: [0; ROOM],
+            at: 0,
+            filled: 0,
             position: 0,
             end: max,
         }
     }
 
-    /// Whether no further byte may be taken.
-    #[inline(always)]
-    fn is_at_end(&self) -> bool
-        ensures at_end { result ≡ true → self.now.room ≡ 0 }
-        ensures before { result ≡ false → 0 < self.now.room }
+    /// The position after so many of the bytes that may be taken.
+    pub fn position_after(&self, count: u64) -> u64
+        requires { count ≤ self.now.room }
+        ensures { result ≡ self.now.position + count }
     {
-        self.position == self.end
+        self.position + count
     }
 
-    /// The beginning of a text that may be taken.
-    #[inline(always)]
-    pub fn within<'a>(&self, text: &'a [u8]) -> &'a [u8]
-        ensures { result.now ≡ take self.now.room text.entry.now }
+    /// How many bytes may still be taken.
+    pub fn room(&self) -> u64
+        ensures { result ≡ self.now.room }
     {
+        self.end - self.position
+    }
+
+    /// The bytes that were read and not taken.
+    pub fn unread(&self) -> &[u8]
+        ensures { result.now ≡ self.now.unread }
+    {
+        &self.block[self.at..self.filled]
+    }
+
+    /// Those of them that may be taken.
+    #[inline(always)]
+    pub fn within(&self) -> &[u8]
+        ensures { result.now ≡ take self.now.room self.now.unread }
+    {
+        let unread = &self.block[self.at..self.filled];
         let room = self.end - self.position;
-        if (text.len() as u64) < room {
-            text
+        if (unread.len() as u64) < room {
+            unread
         } else {
-            &text[..room as usize]
+            &unread[..room as usize]
         }
     }
 
-    /// Advances by bytes that were taken.
+    /// Takes bytes.
     #[inline(always)]
     pub fn advance_by(&mut self, count: usize)
-        requires { count ≤ self.old.room }
+        requires unread { count ≤ length self.old.unread }
+        requires room { count ≤ self.old.room }
         ensures position { self.new.position ≡ self.old.position + count }
         ensures room { self.new.room + count ≡ self.old.room }
+        ensures unread { self.new.unread ≡ drop count self.old.unread }
     {
+        self.at += count;
         self.position += count as u64;
     }
 
-    #[inline(always)]
-    fn position(&self) -> u64
-        ensures { result ≡ self.now.position }
+    /// Reads on, where at most half a pair is left. It returns how many bytes were read.
+    pub fn read<R, I: Input<R>>(&mut self, input: &I, reader: &mut R) -> io::Result<usize>
+        requires { length self.old.unread ≤ 1 }
+        ensures reads { ReadsBlock I.reads result self.old.unread self.new.unread
+            reader.old reader.new }
+        ensures position { self.new.position ≡ self.old.position }
+        ensures room { self.new.room ≡ self.old.room }
     {
-        self.position
-    }
-
-    /// Continues after the first digit of a pair.
-    #[inline(always)]
-    fn second<S: Source>(&mut self, source: &mut S, high: u8) -> Piece
-        requires { high < 16 }
-        // After a digit x at the position before, it is the text of x and what follows.
-        ensures reads { (position room x : ℕ) (before : S) → self.old.position ≡ position + 1 →
-            room ≡ self.old.room + 1 → is_blank x ≡ false → value_of x ≡ Some high →
-            S.gives before (Got.Byte x) source.old →
-            Reads S.gives result position room self.new.position self.new.room before source.new }
-        ensures uses { UsesRoom result (self.old.room + 1) self.new.room }
-        ensures stays { StaysAt result self.new.position self.new.room }
-    {
-        match source.next() {
-            Got::End => Piece::Stopped(Ending::Bad(self.position())),
-            Got::Failed => Piece::Stopped(Ending::Fault),
-            Got::Byte(byte) => {
-                if self.is_at_end() {
-                    return Piece::Stopped(Ending::Large);
-                }
-                match kind_of(byte) {
-                    Kind::Digit(low) => {
-                        self.advance_by(1);
-                        Piece::Byte(16 * high + low)
-                    }
-                    Kind::Blank | Kind::Other => Piece::Stopped(Ending::Bad(self.position())),
-                }
+        let left = self.filled - self.at;
+        self.block.copy_within(self.at..self.filled, 0);
+        self.at = 0;
+        self.filled = left;
+        match read_some(input, reader, &mut self.block[left..left + BLOCK]) {
+            Ok(count) => {
+                self.filled = left + count;
+                Ok(count)
             }
-        }
-    }
-
-    /// Takes bytes up to the end of the next pair, or of the text. At a byte that isn't allowed the reader stays before
-    /// it, and in a text that is too long after the last byte that may be taken.
-    #[inline(always)]
-    #[tactic(auto, using(crate::proofs::TextLemmas::Read::skips_blank))]
-    pub fn next<S: Source>(&mut self, source: &mut S) -> Piece
-        ensures reads { Reads S.gives result self.old.position self.old.room self.new.position
-            self.new.room source.old source.new }
-        ensures uses { UsesRoom result self.old.room self.new.room }
-        ensures stays { StaysAt result self.new.position self.new.room }
-    {
-        loop {
-            match source.next() {
-                Got::End => return Piece::Stopped(Ending::Clean),
-                Got::Failed => return Piece::Stopped(Ending::Fault),
-                Got::Byte(byte) => {
-                    if self.is_at_end() {
-                        return Piece::Stopped(Ending::Large);
-                    }
-                    match kind_of(byte) {
-                        Kind::Digit(high) => {
-                            self.advance_by(1);
-                            return self.second(source, high);
-                        }
-                        Kind::Blank => self.advance_by(1),
-                        Kind::Other => return Piece::Stopped(Ending::Bad(self.position())),
-                    }
-                }
-            }
+            Err(error) => Err(error),
         }
     }
 }

@@ -1,83 +1,114 @@
 //! The next bytes of an image.
 
-ghost use Rattle.std.specs.Prelude.{◌≡◌, ◌<◌, [], length, None, Some};
-ghost use Rattle.x86_streams.specs.declared.text.reader.Ending.{Ending};
-ghost use Rattle.x86_streams.specs.Text.Window.{ReadsOn, TakesBytes};
+ghost use Rattle.std.specs.Prelude.{◌≡◌, ◌+◌, ◌<◌, [], length, None, true, false};
+ghost use Rattle.x86_streams.specs.Text.Window.{Steps, TakesBytes, Fills};
+ghost use Rattle.x86_streams.specs.Text.Beginning.{IsOpen, end_of};
 
-use crate::outside::source::Source;
+use crate::outside::input::Input;
+use crate::text::beginning::{Beginning, beginning_of};
 use crate::text::image_bytes::ImageBytes;
-use crate::text::reader::{Ending, Piece, TextReader};
+use crate::text::reader::{Ending, TextReader};
 
 /// The next bytes of an image, and the reader of what follows them.
 #[derive(Drop)]
 pub struct Window {
     pub bytes: ImageBytes,
-    pub reader: TextReader,
+    pub text: TextReader,
     pub ended: Option<Ending>,
 }
 
 impl Window {
-    /// A window over a text of at most `max` bytes, with nothing taken.
+    /// A window over a text of at most `max` bytes, with nothing read.
     pub fn new(max: u64) -> Window
         ensures bytes { result.bytes.items ≡ [] }
-        ensures position { result.reader.position ≡ 0 }
-        ensures room { result.reader.room ≡ max }
+        ensures position { result.text.position ≡ 0 }
+        ensures room { result.text.room ≡ max }
+        ensures unread { result.text.unread ≡ [] }
         ensures ended { result.ended ≡ None }
     {
         Window {
             bytes: ImageBytes::NONE,
-            reader: TextReader::new(max),
+            text: TextReader::new(max),
             ended: None,
         }
     }
 
-    /// Takes bytes of the image that the source has ahead, many at once.
+    /// Takes bytes of the image from what was read, many at once.
     #[cold]
     #[inline(never)]
-    fn read_known<S: Source>(&mut self, source: &mut S)
-        requires { length self.old.bytes.items < 15 }
-        ensures takes { TakesBytes S.gives S.ahead
-            self.old.bytes.items self.old.reader.position self.old.reader.room
-            self.new.bytes.items self.new.reader.position self.new.reader.room
-            source.old source.new }
+    fn take_many(&mut self)
+        requires ended { self.old.ended ≡ None }
+        requires few { length self.old.bytes.items < 15 }
+        ensures takes { TakesBytes self.old.ended self.old.bytes.items self.old.text
+            self.new.bytes.items self.new.text }
         ensures ended { self.new.ended ≡ self.old.ended }
     {
-        let read = self.bytes.read(self.reader.within(source.ahead()));
-        source.skip(read);
-        self.reader.advance_by(read);
+        let taken = self.bytes.read(self.text.within());
+        self.text.advance_by(taken);
     }
 
-    /// Takes bytes of the image that the source has ahead, where there are fewer than an instruction may have. Nothing
-    /// is read.
+    /// Takes bytes of the image from what was read, where there are fewer than an instruction may have. Nothing is
+    /// read.
     #[inline(always)]
-    pub fn take_known<S: Source>(&mut self, source: &mut S)
-        ensures takes { TakesBytes S.gives S.ahead
-            self.old.bytes.items self.old.reader.position self.old.reader.room
-            self.new.bytes.items self.new.reader.position self.new.reader.room
-            source.old source.new }
+    pub fn take_known(&mut self)
+        ensures takes { TakesBytes self.old.ended self.old.bytes.items self.old.text
+            self.new.bytes.items self.new.text }
         ensures ended { self.new.ended ≡ self.old.ended }
-        ensures closed { (e : Ending) → self.old.ended ≡ Some e →
-            (self.new ≡ self.old) × (source.new ≡ source.old) }
     {
         if !self.bytes.is_full() && self.ended.is_none() {
-            self.read_known(source);
+            self.take_many();
         }
     }
 
-    /// Reads until a byte of the image comes, or the end of the text.
-    #[cold]
-    #[inline(never)]
-    pub fn read_on<S: Source>(&mut self, source: &mut S)
+    /// Takes the next blank or pair of what was read, or ends the text at a byte that isn't allowed. It returns false
+    /// where the bytes that follow decide what comes.
+    pub fn step(&mut self) -> bool
         requires ended { self.old.ended ≡ None }
         requires few { length self.old.bytes.items < 15 }
-        ensures { ReadsOn S.gives
-            self.old.bytes.items self.old.reader.position self.old.reader.room
-            self.new.ended self.new.bytes.items self.new.reader.position self.new.reader.room
-            source.old source.new }
+        ensures steps { result ≡ true → Steps self.old.bytes.items self.old.text
+            self.new.ended self.new.bytes.items self.new.text }
+        ensures same { result ≡ false → self.new ≡ self.old }
+        ensures open { result ≡ false → IsOpen self.old.text.unread self.old.text.room }
     {
-        match self.reader.next(source) {
-            Piece::Byte(byte) => self.bytes.push(byte),
-            Piece::Stopped(ending) => self.ended = Some(ending),
+        match beginning_of(self.text.unread(), self.text.room()) {
+            Beginning::Open => return false,
+            Beginning::Blank => self.text.advance_by(1),
+            Beginning::Pair(byte) => {
+                self.text.advance_by(2);
+                self.bytes.push(byte);
+            }
+            Beginning::Bad(at) => self.ended = Some(Ending::Bad(self.text.position_after(at))),
+            Beginning::Large => self.ended = Some(Ending::Large),
+        }
+        true
+    }
+
+    /// How a text ends that has at most half a pair left.
+    fn end(&self) -> Ending
+        requires { IsOpen self.now.text.unread self.now.text.room }
+        ensures { result ≡ end_of (self.now.text.position + length self.now.text.unread)
+            self.now.text.unread }
+    {
+        let left = self.text.unread().len();
+        if left == 0 {
+            Ending::Clean
+        } else {
+            Ending::Bad(self.text.position_after(left as u64))
+        }
+    }
+
+    /// Reads on, where at most half a pair is left.
+    pub fn fill<R, I: Input<R>>(&mut self, input: &I, reader: &mut R)
+        requires ended { self.old.ended ≡ None }
+        requires open { IsOpen self.old.text.unread self.old.text.room }
+        ensures fills { Fills I.reads self.old.bytes.items self.old.text
+            self.new.ended self.new.text reader.old reader.new }
+        ensures bytes { self.new.bytes ≡ self.old.bytes }
+    {
+        match self.text.read(input, reader) {
+            Ok(0) => self.ended = Some(self.end()),
+            Ok(_) => {}
+            Err(_) => self.ended = Some(Ending::Fault),
         }
     }
 }

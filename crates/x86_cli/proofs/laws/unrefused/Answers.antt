@@ -1,7 +1,7 @@
-use Rattle.x86_cli.proofs.CommandLemmas.Causes.{ran_unrefused}
-use Rattle.x86_cli.proofs.CommandLemmas.Obeys.{lives_ran}
+use Rattle.std.specs.Prelude.{false}
+use Rattle.x86_streams.specs.Outside.OneByOne.{HoldsNothing, PutsPiece, ReadsByte}
+use Rattle.x86_cli.proofs.CommandLemmas.Ends.{unrefused}
 use Rattle.x86_cli.proofs.laws.unrefused.Goals as goal
 
 pub returns : goal.returns
-returns g c command status a b k l runs goes e =
-    ran_unrefused g.S.Source.gives g.K.Sink.takes command status a b k l (lives_ran g.S.Source.gives g.S.Source.ahead g.K.Sink.takes _ _ _ status a b k l runs).0 goes e
+returns g c command status a b k l runs goes = unrefused (ReadsByte g.S.Source.gives) (PutsPiece g.K.Sink.takes) HoldsNothing false command _ a b k l runs.1 goes

@@ -1,7 +1,7 @@
 use Rattle.std.proofs.Common.{◌≡◌}
 use Rattle.x86_streams.specs.declared.text.reader.Ending.{Ending}
 use Rattle.x86_streams.specs.declared.text.reader.Ending.TheVariants.{Clean, Bad, Large, Fault}
-use Rattle.x86_cli.specs.Commands.Program.{IsEnd}
+use Rattle.x86_cli.specs.Listings.Performs.{IsEnd}
 use Rattle.x86_cli.specs.Listings.Listing.{at_end}
 use Rattle.x86_show.proofs.listing.ShowAtProgram.run.Goals as goal
 

@@ -1,0 +1,158 @@
+-- The calls of a reader and a writer, in one order.
+use Rattle.std.specs.Prelude.{◌≡◌, ℕ, zero, suc, ◌<◌, ◌≤◌, Bool, IsTrue, false, ◌↔◌, List, [], ◌∷◌, ◌++◌, length, take, Option, Some, None, Result, Ok, Err, IfErr, OnOk, ⊤}
+use Rattle.std.specs.Io.{StartsWith}
+use Rattle.std.specs.declared.io.Error.{Error}
+use Rattle.std.specs.declared.io.ErrorKind.TheVariants.{Interrupted, BrokenPipe}
+use Rattle.std.specs.IoError.{error_kind}
+use Rattle.x86_streams.specs.Outside.Stop.{Stop, End, Failed}
+use Rattle.x86_streams.specs.declared.outside.sending.WriteFailed.{WriteFailed}
+
+-- A call and its answer, and of a read what is in its buffer then. It was made again where a signal interrupted it.
+pub data Call : Type 0 where
+  Read : List ℕ → Result ℕ Error → Call
+  Write : List ℕ → Result ℕ Error → Call
+  Flush : Result ⊤ Error → Call
+
+-- the bytes that a call with this answer took
+abbrev pub taken_by : {E : Type 0} → Result ℕ E → List ℕ → List ℕ
+taken_by (Ok n) bytes = take n bytes
+taken_by (Err e) bytes = []
+
+-- the bytes that the reads returned, the last call first
+abbrev pub received : List Call → List ℕ
+received [] = []
+received (Read buffer answer ∷ cs) = received cs ++ taken_by answer buffer
+received (Write bytes answer ∷ cs) = received cs
+received (Flush answer ∷ cs) = received cs
+
+-- the bytes that the writer took
+abbrev pub sent : List Call → List ℕ
+sent [] = []
+sent (Read buffer answer ∷ cs) = sent cs
+sent (Write bytes answer ∷ cs) = sent cs ++ taken_by answer bytes
+sent (Flush answer ∷ cs) = sent cs
+
+-- what the writes were to take, piece by piece
+abbrev pub pieces : List Call → List (List ℕ)
+pieces [] = []
+pieces (Read buffer answer ∷ cs) = pieces cs
+pieces (Write bytes answer ∷ cs) = pieces cs ++ bytes ∷ []
+pieces (Flush answer ∷ cs) = pieces cs
+
+-- what stopped the reads: one that returned no byte, or an error
+abbrev pub stop_of : List Call → Option Stop
+stop_of [] = None
+stop_of (Read buffer (Ok zero) ∷ cs) = Some End
+stop_of (Read buffer (Ok (suc n)) ∷ cs) = None
+stop_of (Read buffer (Err e) ∷ cs) = Some Failed
+stop_of (Write bytes answer ∷ cs) = stop_of cs
+stop_of (Flush answer ∷ cs) = stop_of cs
+
+-- A write or a flush that answered an error, or a write that took none of bytes that aren't empty.
+abbrev pub Fails : Call → Type 0
+Fails (Write bytes (Ok n)) = (n ≡ 0) × (0 < length bytes)
+Fails (Write bytes (Err e)) = ⊤
+Fails (Flush (Err e)) = ⊤
+Fails c = ⊥
+
+-- A flush that succeeded.
+abbrev pub IsFlush : Call → Type 0
+IsFlush (Flush (Ok done)) = ⊤
+IsFlush c = ⊥
+
+-- An answer that says that the other end of a pipe is closed.
+abbrev pub IsGone : Call → Type 0
+IsGone (Write bytes (Err e)) = error_kind e ≡ BrokenPipe
+IsGone (Flush (Err e)) = error_kind e ≡ BrokenPipe
+IsGone c = ⊥
+
+-- The last call is one of these.
+abbrev pub EndsIn : (Call → Type 0) → List Call → Type 0
+EndsIn Is [] = ⊥
+EndsIn Is (c ∷ cs) = Is c
+
+-- the bytes that the last call was to write, where it answered an error
+abbrev pub refused : List Call → List ℕ
+refused (Write bytes (Err e) ∷ cs) = bytes
+refused cs = []
+
+-- tries o e o': a call at o may answer this error, and leave o'
+-- So many calls, one after the other, were each interrupted by a signal.
+abbrev pub Interruptions : {O : Type 0} → (O → Error → O → Type 0) → ℕ → O → O → Type 0
+Interruptions tries zero o o' = o' ≡ o
+Interruptions {O} tries (suc n) o o' = (u : O) × Interruptions tries n o u × ((e : Error) × tries u e o' × (error_kind e ≡ Interrupted))
+
+-- A call was made, again after each interruption, and then answered so. An interruption is the answer only after
+-- 2^64 - 1 others.
+pub record Answers {O A : Type 0} (tries : O → Error → O → Type 0) (call : O → Result A Error → O → Type 0) (answer : Result A Error) (o o' : O) : Type 0 where
+  pub count : ℕ
+  pub before : O
+  pub interrupted : Interruptions tries count o before
+  pub answered : call before answer o'
+  pub final : IfErr answer (λ e. error_kind e ≡ Interrupted → 18446744073709551615 ≤ count)
+
+-- reads r buffer answer r': a read of r may answer so, with this in its buffer, and leave r'
+abbrev pub Reads : {R : Type 0} → (R → List ℕ → Result ℕ Error → R → Type 0) → List ℕ → Result ℕ Error → R → R → Type 0
+Reads {R} reads buffer answer r r' = Answers (λ u e v. (part : List ℕ) × reads u part (Err e) v) (λ u a v. reads u buffer a v) answer r r'
+
+-- writes w bytes answer w', flushes w answer w': a call of w may answer so, and leave w'
+abbrev pub Writes : {W : Type 0} → (W → List ℕ → Result ℕ Error → W → Type 0) → List ℕ → Result ℕ Error → W → W → Type 0
+Writes writes bytes answer w w' = Answers (λ u e v. writes u bytes (Err e) v) (λ u a v. writes u bytes a v) answer w w'
+
+abbrev pub Flushes : {W : Type 0} → (W → Result ⊤ Error → W → Type 0) → Result ⊤ Error → W → W → Type 0
+Flushes flushes answer w w' = Answers (λ u e v. flushes u (Err e) v) flushes answer w w'
+
+module _ {R W : Type 0} (reads : R → List ℕ → Result ℕ Error → R → Type 0) (writes : W → List ℕ → Result ℕ Error → W → Type 0)
+    (flushes : W → Result ⊤ Error → W → Type 0) where
+  -- These calls, the last first, led from the one state of reader and writer to the other.
+  abbrev pub Calls : List Call → R → R → W → W → Type 0
+  Calls [] r r' w w' = (r' ≡ r) × (w' ≡ w)
+  Calls (Read buffer answer ∷ cs) r r' w w' = (u : R) × Calls cs r u w w' × Reads reads buffer answer u r'
+  Calls (Write bytes answer ∷ cs) r r' w w' = (v : W) × Calls cs r r' w v × Writes writes bytes answer v w'
+  Calls (Flush answer ∷ cs) r r' w w' = (v : W) × Calls cs r r' w v × Flushes flushes answer v w'
+
+-- ---- what a buffer sends
+
+-- No call failed.
+abbrev pub AllContinue : List Call → Type 0
+AllContinue [] = ⊤
+AllContinue (c ∷ cs) = (Fails c → ⊥) × AllContinue cs
+
+-- No call follows one that failed.
+abbrev pub Follow : List Call → Type 0
+Follow [] = ⊤
+Follow (c ∷ cs) = AllContinue cs
+
+-- The last call failed, and none before it, where the answer says so.
+abbrev pub Cause : {A E : Type 0} → Result A E → List Call → Type 0
+Cause (Ok x) cs = AllContinue cs
+Cause (Err e) [] = ⊥
+Cause (Err e) (c ∷ cs) = Fails c × AllContinue cs
+
+module _ {W : Type 0} (writes : W → List ℕ → Result ℕ Error → W → Type 0) (flushes : W → Result ⊤ Error → W → Type 0) where
+  -- These calls of the writer led from the one state to the other.
+  abbrev pub WriterCalls : List Call → W → W → Type 0
+  WriterCalls [] w w' = w' ≡ w
+  WriterCalls (Read buffer answer ∷ cs) w w' = ⊥
+  WriterCalls (Write bytes answer ∷ cs) w w' = (v : W) × WriterCalls cs w v × Writes writes bytes answer v w'
+  WriterCalls (Flush answer ∷ cs) w w' = (v : W) × WriterCalls cs w v × Flushes flushes answer v w'
+
+  -- The writer took, in order, what was held and what is new; the rest is held. A write that failed was to take what is
+  -- held first.
+  pub record Sends (answer : Result ⊤ WriteFailed) (new held held' : List ℕ) (w w' : W) : Type 0 where
+    pub calls : List Call
+    pub did : WriterCalls calls w w'
+    pub cause : Cause answer calls
+    pub order : sent calls ++ held' ≡ held ++ new
+    pub failed : IfErr answer (λ f. StartsWith held' (refused calls) × (IsTrue f.gone ↔ EndsIn IsGone calls))
+
+  -- All that was held is sent, and the writer is flushed. Where nothing was held, nothing is written.
+  abbrev pub SendsAll : Result ⊤ WriteFailed → List ℕ → List ℕ → W → W → Type 0
+  SendsAll answer held held' w w' = (s : Sends answer [] held held' w w') × OnOk answer ((held' ≡ []) × EndsIn IsFlush s.calls) × (held ≡ [] → pieces s.calls ≡ [])
+
+  -- A piece was taken, after what was held. Where nothing is gathered, that was one write of it.
+  pub record Puts (gathers : Bool) (answer : Result ⊤ WriteFailed) (piece old new : List ℕ) (w w' : W) : Type 0 where
+    pub rest : List ℕ
+    pub sends : Sends answer piece old rest w w'
+    pub held : OnOk answer (new ≡ rest)
+    pub once : gathers ≡ false → (pieces sends.calls ≡ piece ∷ []) × OnOk answer (rest ≡ [])
