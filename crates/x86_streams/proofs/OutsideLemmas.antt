@@ -1,1 +1,4 @@
--- Lemmas on sources and sinks.
+-- Lemmas on sources and sinks, readers and writers.
+pub mod Tries
+pub mod Calls
+pub mod Buffers

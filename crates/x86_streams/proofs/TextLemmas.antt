@@ -2,5 +2,7 @@
 pub mod Text
 pub mod Kind
 pub mod Pair
+pub mod Beginning
 pub mod Spells
-pub mod ImageBytes
+pub mod Cells
+pub mod Window

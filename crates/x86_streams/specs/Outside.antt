@@ -4,7 +4,6 @@ pub mod Calls
 pub mod Source
 pub mod Stop
 pub mod SliceSource
-pub mod StdSource
 pub mod Sink
 pub mod ArraySink
 pub mod Seen

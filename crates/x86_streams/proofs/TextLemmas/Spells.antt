@@ -1,39 +1,18 @@
 -- What blanks and pairs at the beginning of a text say of it.
-use Rattle.std.proofs.Common.{zero-add, add-zero, ◌≡◌, ℕ, zero, suc, ◌+◌, ◌*◌, ◌%◌, ◌<◌, ◌≤◌, List, [], ◌∷◌, ◌++◌, length, take, set, slice_index_or, arith, Some, None, true, false, append_assoc, length-append, length-take-le}
-use Rattle.std.proofs.lemmas.List.{take_more, take_more_set, get_or-set_same, get_or-set_other}
-use Rattle.x86_streams.specs.Outside.Stop.{Failed}
-use Rattle.x86_streams.specs.Text.{is_blank, value_of, text_at}
-use Rattle.x86_streams.specs.Text.Reading.{IsOpenText}
+use Rattle.std.proofs.Common.{add-zero, ◌≡◌, ℕ, zero, suc, ◌+◌, ◌*◌, ◌%◌, ◌<◌, ◌≤◌, List, [], ◌∷◌, ◌++◌, length, take, set, slice_index_or, arith, Some, true, false, append_assoc, length-append}
+use Rattle.std.proofs.lemmas.List.{take_more, get_or-set_same, get_or-set_other}
+use Rattle.x86_streams.specs.Text.{is_blank, value_of}
 use Rattle.x86_streams.specs.Text.Spells.{Begins, Spells}
 use Rattle.x86_streams.proofs.TextLemmas.Text.{text-blank, text-pair, value-blank}
-use Rattle.x86_streams.proofs.TextLemmas.Read.{more_new, more_half, called-called}
-
-pub begins_none : Begins [] []
-begins_none = record { called = λ p r. tt; rest = λ p r xs s. simp (zero-add, add-zero) }
 
 module _ (bs vs : List ℕ) (b : Begins bs vs) where
-  -- a text so begun is open where that of the bytes after it is
-  opens : (p r : ℕ) (ys : List ℕ) → IsOpenText (text_at (p + length bs) r ys Failed) → IsOpenText (text_at p (length bs + r) (bs ++ ys) Failed)
-  opens p r ys h = rw (b.rest p r ys Failed) h
-
   begins_blank : (x : ℕ) → is_blank x ≡ true → Begins (bs ++ x ∷ []) vs
-  begins_blank x blank = record {
-    called = λ p r.
-        let room : length (bs ++ x ∷ []) + r ≡ length bs + suc r = simp length-append (omega arith) in
-        rw room (called-called IsOpenText (text_at p (length bs + suc r)) bs (x ∷ []) None (b.called p (suc r)) (opens p (suc r) [] (more_new (p + length bs) (suc r)).0, tt));
-    rest = λ p r xs s. grind (arith, append_assoc {A = ℕ}, length-append bs (x ∷ []), b.rest p (suc r) (x ∷ xs) s, text-blank (p + length bs) r x xs s blank);
-  }
+  begins_blank x blank p r xs s =
+      grind (arith, append_assoc {A = ℕ}, length-append bs (x ∷ []), b p (suc r) (x ∷ xs) s, text-blank (p + length bs) r x xs s blank)
 
   begins_pair : (x y v w : ℕ) → is_blank x ≡ false → value_of x ≡ Some v → value_of y ≡ Some w → Begins (bs ++ x ∷ y ∷ []) (vs ++ (16 * v + w) ∷ [])
-  begins_pair x y v w blank high low = record {
-    called = λ p r.
-        let room : length (bs ++ x ∷ y ∷ []) + r ≡ length bs + suc (suc r) = simp length-append (omega arith) in
-        rw room (called-called IsOpenText (text_at p (length bs + suc (suc r))) bs (x ∷ y ∷ []) None (b.called p (suc (suc r))) (
-          opens p (suc (suc r)) [] (more_new (p + length bs) (suc (suc r))).0,
-          (opens p (suc (suc r)) (x ∷ []) (more_half (p + length bs) (suc r) x v blank high).0, tt),
-        ));
-    rest = λ p r xs s. grind (arith, append_assoc {A = ℕ}, length-append bs (x ∷ y ∷ []), b.rest p (suc (suc r)) (x ∷ y ∷ xs) s, text-pair (p + length bs) r x y v w xs s blank high low);
-  }
+  begins_pair x y v w blank high low p r xs s =
+      grind (arith, append_assoc {A = ℕ}, length-append bs (x ∷ y ∷ []), b p (suc (suc r)) (x ∷ y ∷ xs) s, text-pair (p + length bs) r x y v w xs s blank high low)
 
 pub spells_blank : (text : List ℕ) (at : ℕ) (vs : List ℕ) → Spells text at vs → at < length text → is_blank (slice_index_or text at 0) ≡ true → Spells text (at + 1) vs
 spells_blank text at vs s inside blank = record {

@@ -1,11 +1,14 @@
 -- What the text is at its first bytes.
-use Rattle.std.proofs.Common.{◌≡◌, ℕ, suc, ◌+◌, ◌*◌, List, [], ◌∷◌, refl, arith, Option, Some, None, true, false, Bool}
+use Rattle.std.proofs.Common.{◌≡◌, ℕ, suc, ◌+◌, ◌*◌, List, [], ◌∷◌, refl, arith, Option, Some, None, true, false, Bool, ◌++◌, ap, sym, append_assoc}
 use Rattle.std.proofs.lemmas.Grind.{common_steps}
 use Rattle.std.specs.Option.{option_map}
 use Rattle.x86_streams.specs.declared.text.reader.Ending.TheVariants.{Clean, Bad, Large, Fault}
 use Rattle.x86_streams.specs.Outside.Stop.{Stop, End, Failed}
-use Rattle.x86_streams.specs.Text.{is_blank, value_of, image_of, bad_of, ends_in_half, ending_by, text_at}
-use Rattle.x86_streams.specs.Text.Reading.{with_byte, ended}
+use Rattle.x86_streams.specs.Text.{Text, is_blank, value_of, image_of, bad_of, ends_in_half, ending_by, text_at}
+use Rattle.x86_streams.specs.Text.Reading.{with_byte, with_bytes, ended}
+
+pub with_bytes-with_bytes : (a b : List ℕ) (t : Text) → with_bytes a (with_bytes b t) ≡ with_bytes (a ++ b) t
+with_bytes-with_bytes a b t = ap (λ i. record { image = i; ending = t.ending }) (sym (append_assoc a b t.image))
 
 -- at the end of the bytes
 

@@ -26,9 +26,9 @@ abbrev pub LeavesRest : Option Ending → List ℕ → TextPosition → Option E
 LeavesRest ended window text ended' window' text' =
     (xs : List ℕ) (stop : Stop) → rest_after ended window text xs stop ≡ rest_after ended' window' text' xs stop
 
--- how many bytes a window and its text may still have
-abbrev pub bytes_left : List ℕ → TextPosition → ℕ
-bytes_left window text = length window + text.room
+-- Each byte that came into the window took at least two of those that may be taken.
+abbrev pub Fits : List ℕ → TextPosition → List ℕ → TextPosition → Type 0
+Fits window text window' text' = (length window' + text'.room ≤ length window + text.room) × (2 * length window' + text'.room ≤ 2 * length window + text.room)
 
 -- one more turn may come where the text has not ended
 abbrev pub turns : Option Ending → ℕ
@@ -37,18 +37,18 @@ turns (Some e) = 0
 
 -- a number that falls with each turn: a byte that may be taken counts three times, one that isn't read yet once
 abbrev pub turns_left : Option Ending → List ℕ → TextPosition → ℕ
-turns_left ended window text = 3 * (bytes_left window text + turns ended) + (2 - length text.unread)
+turns_left ended window text = 3 * (length window + text.room + turns ended) + (2 - length text.unread)
 
 -- Bytes that were read came into the window.
 pub record TakesBytes (ended : Option Ending) (window : List ℕ) (text : TextPosition) (window' : List ℕ) (text' : TextPosition) : Type 0 where
   pub rest : LeavesRest ended window text ended window' text'
-  pub fits : bytes_left window' text' ≤ bytes_left window text
+  pub fits : Fits window text window' text'
   pub turns : turns_left ended window' text' ≤ turns_left ended window text
 
 -- A blank or a pair was taken, or the text ended.
 pub record Steps (window : List ℕ) (text : TextPosition) (ended' : Option Ending) (window' : List ℕ) (text' : TextPosition) : Type 0 where
   pub rest : LeavesRest None window text ended' window' text'
-  pub fits : bytes_left window' text' ≤ bytes_left window text
+  pub fits : Fits window text window' text'
   pub turns : turns_left ended' window' text' < turns_left None window text
 
 -- A read was made, and what it returned is after what was left, or the text ended.
@@ -60,5 +60,5 @@ pub record Fills {R : Type 0} (reads : R → List ℕ → Result ℕ Error → R
   pub stop : ended' ≡ None → stop_of (Read buffer answer ∷ []) ≡ None
   pub rest : (xs : List ℕ) (stop : Stop) → MayCome (stop_of (Read buffer answer ∷ [])) xs stop →
       rest_after None window text (taken_by answer buffer ++ xs) stop ≡ rest_after ended' window text' xs stop
-  pub fits : bytes_left window text' ≤ bytes_left window text
+  pub fits : Fits window text window text'
   pub turns : turns_left ended' window text' < turns_left None window text

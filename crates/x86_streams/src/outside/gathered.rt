@@ -1,6 +1,6 @@
 //! Output that is gathered, without an allocation.
 
-ghost use Rattle.std.specs.Prelude.{◌≡◌, ◌≤◌, [], false, length, OnOk};
+ghost use Rattle.std.specs.Prelude.{◌≡◌, ◌≤◌, [], false, true, length, OnOk};
 ghost use Rattle.x86_streams.specs.Outside.Chain.{Puts, Sends, SendsAll};
 
 use crate::outside::output::Output;
@@ -25,8 +25,6 @@ impl Gathered {
     }
 
     /// Sends what was gathered.
-    #[cold]
-    #[inline(never)]
     fn send<W, O: Output<W>>(&mut self, output: &O, writer: &mut W) -> Result<(), WriteFailed>
         ensures empty { OnOk result (self.new.bytes.items ≡ []) }
         ensures sends { Sends O.writes O.flushes result [] self.old.bytes.items
@@ -35,6 +33,29 @@ impl Gathered {
         let (sent, result) = send_out(output, writer, self.bytes.as_slice());
         self.bytes.leave(sent);
         result
+    }
+
+    /// Takes a piece after what was gathered was sent.
+    #[cold]
+    #[inline(never)]
+    fn put_after<W, O: Output<W>>(
+        &mut self,
+        output: &O,
+        writer: &mut W,
+        piece: &[u8],
+    ) -> Result<(), WriteFailed>
+        requires fits { length piece.now ≤ 65536 }
+        requires gathers { O.gathers ≡ true }
+        ensures { Puts O.writes O.flushes O.gathers result piece.now
+            self.old.bytes.items self.new.bytes.items writer.old writer.new }
+    {
+        match self.send(output, writer) {
+            Ok(()) => {
+                self.bytes.extend(piece);
+                Ok(())
+            }
+            Err(failed) => Err(failed),
+        }
     }
 
     /// Takes a piece. Where it doesn't fit, what was gathered is sent first. An output that doesn't gather is written at
@@ -55,7 +76,7 @@ impl Gathered {
             return put_whole(output, writer, piece);
         }
         if piece.len() > self.bytes.left() {
-            self.send(output, writer)?;
+            return self.put_after(output, writer, piece);
         }
         self.bytes.extend(piece);
         Ok(())
@@ -70,9 +91,12 @@ impl Gathered {
         ensures { SendsAll O.writes O.flushes result self.old.bytes.items self.new.bytes.items
             writer.old writer.new }
     {
-        if !self.bytes.as_slice().is_empty() {
-            self.send(output, writer)?;
+        if self.bytes.as_slice().is_empty() {
+            return flush_out(output, writer);
         }
-        flush_out(output, writer)
+        match self.send(output, writer) {
+            Ok(()) => flush_out(output, writer),
+            Err(failed) => Err(failed),
+        }
     }
 }

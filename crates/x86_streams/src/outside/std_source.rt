@@ -1,9 +1,8 @@
 //! A source over a reader.
 
-ghost use Rattle.std.specs.Prelude.{◌≡◌, ◌≤◌, ◌<◌, [], ◌∷◌, slice_range};
+ghost use Rattle.std.specs.Prelude.{◌≡◌, ◌≤◌};
 ghost use Rattle.std.specs.Io.KnownBytes.{prepend_known};
 ghost use Rattle.x86_streams.specs.Outside.Source.{ReportsGot};
-ghost use Rattle.x86_streams.specs.Outside.StdSource.{ReportsRefill};
 
 use crate::outside::input::read_some;
 use crate::outside::process::Process;
@@ -59,82 +58,48 @@ impl<R: Read + Drop> StdSource<R> {
     }
 }
 
-/// What a read returned.
-#[derive(Clone, Copy, Drop)]
-enum Refill {
-    Bytes,
-    Nothing,
-    Fault,
-}
-
 impl<R: Read + Drop> StdSource<R> {
-    /// Reads on, where no byte of the buffer is left.
+    /// Reads on, where no byte of the buffer is left, and returns the first byte that was read.
     #[cold]
     #[inline(never)]
-    fn refill(&mut self) -> Refill
+    fn read_on(&mut self) -> Got
         requires { self.old.position ≡ self.old.filled }
-        ensures reported { ReportsRefill result
-            (prepend_known (slice_range self.old.buffer self.old.position self.old.filled)
-            (R.remaining self.old.reader))
-            (prepend_known (slice_range self.new.buffer self.new.position self.new.filled)
-            (R.remaining self.new.reader)) self.old.faults self.new.faults }
-        ensures some { result ≡ Refill.Bytes → self.new.position < self.new.filled }
+        ensures { ⟦<StdSource<R> as Source>⟧.gives self.old result self.new }
     {
         match read_some(&Process, &mut self.reader, &mut self.buffer) {
-            Ok(0) => Refill::Nothing,
+            Ok(0) => Got::End,
             Ok(count) => {
-                self.position = 0;
+                self.position = 1;
                 self.filled = count;
-                Refill::Bytes
+                Got::Byte(self.buffer[0])
             }
             Err(_) => {
                 self.faults = self.faults.saturating_add(1);
-                Refill::Fault
+                Got::Failed
             }
         }
-    }
-
-    /// Takes the first byte that is buffered.
-    #[inline(always)]
-    fn take(&mut self) -> u8
-        requires { self.old.position < self.old.filled }
-        ensures takes { slice_range self.old.buffer self.old.position self.old.filled
-            ≡ result ∷ slice_range self.new.buffer self.new.position self.new.filled }
-        ensures reader { self.new.reader ≡ self.old.reader }
-        ensures reported { ReportsGot (Got.Byte result)
-            (prepend_known (slice_range self.old.buffer self.old.position self.old.filled)
-            (R.remaining self.old.reader))
-            (prepend_known (slice_range self.new.buffer self.new.position self.new.filled)
-            (R.remaining self.new.reader)) self.old.faults self.new.faults }
-    {
-        let byte = self.buffer[self.position];
-        self.position += 1;
-        byte
     }
 }
 
 impl<R: Read + Drop> Source for StdSource<R> {
-    ghost left = { λ s. prepend_known (slice_range s.buffer s.position s.filled)
-        (R.remaining s.reader) };
+    ghost use Rattle.x86_streams.specs.Outside.Seen.{source_bytes};
+
+    ghost left = { λ s. prepend_known (source_bytes s) (R.remaining s.reader) };
 
     ghost faults = { λ s. s.faults };
 
-    ghost gives = { λ s g t. ReportsGot g
-        (prepend_known (slice_range s.buffer s.position s.filled) (R.remaining s.reader))
-        (prepend_known (slice_range t.buffer t.position t.filled) (R.remaining t.reader)) s.faults
-        t.faults };
+    ghost gives = { λ s g t. ReportsGot g (prepend_known (source_bytes s) (R.remaining s.reader))
+        (prepend_known (source_bytes t) (R.remaining t.reader)) s.faults t.faults };
 
     ghost reports = { λ s g t h. h };
 
     #[inline(always)]
     fn next(&mut self) -> Got {
         if self.position == self.filled {
-            match self.refill() {
-                Refill::Bytes => {}
-                Refill::Nothing => return Got::End,
-                Refill::Fault => return Got::Failed,
-            }
+            return self.read_on();
         }
-        Got::Byte(self.take())
+        let byte = self.buffer[self.position];
+        self.position += 1;
+        Got::Byte(byte)
     }
 }

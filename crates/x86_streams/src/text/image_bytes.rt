@@ -108,7 +108,7 @@ impl ImageBytes {
 }
 
 /// Moves the bytes of a range to the beginning. It returns how many they are.
-#[tactic(auto, using(crate::proofs::TextLemmas::ImageBytes::moved))]
+#[tactic(auto, using(crate::proofs::TextLemmas::Cells::moved))]
 fn move_to_beginning(values: &mut [u8; ROOM], start: usize, end: usize) -> usize
     requires ordered { start ≤ end }
     requires inside { end ≤ 320 }

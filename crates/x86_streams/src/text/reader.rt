@@ -38,15 +38,19 @@ pub struct TextReader {
 }
 
 impl Model for TextReader {
-    ghost use Rattle.std.specs.Prelude.{◌≤◌, ◌-◌, slice_range};
+    ghost use Rattle.std.specs.Prelude.{◌<◌, ◌≤◌, ◌-◌, ◌^◌, drop, take};
     ghost use Rattle.x86_streams.specs.Text.Reader.{TextPosition};
 
     ghost Value = { TextPosition };
 
-    ghost view = { λ r. record { position = r.position; room = r.end - r.position;
-        unread = slice_range r.block r.at r.filled } };
+    ghost view = { λ r. record {
+      position = r.position;
+      room = r.end - r.position;
+      unread = drop r.at (take r.filled r.block);
+    } };
 
-    ghost invariant = { λ r. (r.at ≤ r.filled) × (r.filled ≤ 65537) × (r.position ≤ r.end) };
+    ghost invariant = { λ r. (r.at ≤ r.filled) × (r.filled ≤ 65537) × (r.position ≤ r.end)
+        × (r.end < 2 ^ 64) };
 }
 
 impl TextReader {
@@ -65,11 +69,12 @@ impl TextReader {
         }
     }
 
-    /// The position of the first byte that isn't taken.
-    pub fn position(&self) -> u64
-        ensures { result ≡ self.now.position }
+    /// The position after so many of the bytes that may be taken.
+    pub fn position_after(&self, count: u64) -> u64
+        requires { count ≤ self.now.room }
+        ensures { result ≡ self.now.position + count }
     {
-        self.position
+        self.position + count
     }
 
     /// How many bytes may still be taken.
@@ -125,8 +130,12 @@ impl TextReader {
         self.block.copy_within(self.at..self.filled, 0);
         self.at = 0;
         self.filled = left;
-        let count = read_some(input, reader, &mut self.block[left..left + BLOCK])?;
-        self.filled = left + count;
-        Ok(count)
+        match read_some(input, reader, &mut self.block[left..left + BLOCK]) {
+            Ok(count) => {
+                self.filled = left + count;
+                Ok(count)
+            }
+            Err(error) => Err(error),
+        }
     }
 }

@@ -77,7 +77,7 @@ impl Window {
                 self.text.advance_by(2);
                 self.bytes.push(byte);
             }
-            Beginning::Bad(at) => self.ended = Some(Ending::Bad(self.text.position() + at)),
+            Beginning::Bad(at) => self.ended = Some(Ending::Bad(self.text.position_after(at))),
             Beginning::Large => self.ended = Some(Ending::Large),
         }
         true
@@ -93,7 +93,7 @@ impl Window {
         if left == 0 {
             Ending::Clean
         } else {
-            Ending::Bad(self.text.position() + left as u64)
+            Ending::Bad(self.text.position_after(left as u64))
         }
     }
 

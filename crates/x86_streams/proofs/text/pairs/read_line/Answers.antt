@@ -1,4 +1,4 @@
-use Rattle.std.proofs.Common.{◌+◌, ◌<◌, length, arith}
+use Rattle.std.proofs.Common.{arith}
 use Rattle.std.proofs.lemmas.List.{take_more_set}
 use Rattle.x86_streams.proofs.TextLemmas.Spells.{spells_blank, spells_pair}
 use Rattle.x86_streams.proofs.text.pairs.read_line.Goals as goal

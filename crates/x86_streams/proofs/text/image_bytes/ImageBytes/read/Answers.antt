@@ -1,5 +1,5 @@
 use Rattle.std.proofs.Common.{◌≡◌, ◌<◌, take, length, arith, ap, ◌∙◌, length-take-le}
-use Rattle.x86_streams.proofs.TextLemmas.ImageBytes.{put_after}
+use Rattle.x86_streams.proofs.TextLemmas.Cells.{put_after}
 use Rattle.x86_streams.proofs.text.image_bytes.ImageBytes.read.Goals as goal
 
 pub returns : goal.returns
