@@ -11,7 +11,7 @@ use Rattle.x86_cli.specs.declared.listings.status.Status.{Status}
 use Rattle.x86_cli.specs.declared.listings.status.Status.TheVariants.{WriteFault}
 use Rattle.x86_cli.specs.Listings.Closes.{Closes}
 use Rattle.x86_cli.specs.Listings.Performs.{IsLastAt}
-use Rattle.x86_cli.proofs.ListingLemmas.Live.{fails_last, follow_of, refused_first}
+use Rattle.x86_cli.proofs.ListingLemmas.Live.{fails_last, follow_of, refused_first, sends_as}
 
 last_at : (status : Status) (cs : List Call) → status ≢ WriteFault → EndsIn IsFlush cs → EndsIn (IsLastAt status) cs
 last_at status cs ne h = grind arith
@@ -31,7 +31,7 @@ module _ {W : Type 0} (writes : W → List ℕ → Result ℕ Error → W → Ty
       record {
         calls = cs;
         did = q.0.did;
-        follow = follow_of (Ok tt) cs q.0.cause;
+        follow = follow_of {A = ⊤} {E = WriteFailed} (Ok tt) cs q.0.cause;
         ends = last_at outcome.status cs ne q.1.1;
         gone = rw gone (λ e. absurd (cc), λ g. absurd (flush_gone cs q.1.1 g));
         unsent = [];
@@ -47,7 +47,7 @@ module _ {W : Type 0} (writes : W → List ℕ → Result ℕ Error → W → Ty
   closes_failed f ls rest status w w' fault gone q once = record {
     calls = q.calls;
     did = q.did;
-    follow = follow_of {A = ⊤} (Err f) q.calls q.cause;
+    follow = follow_of {A = ⊤} {E = WriteFailed} (Err f) q.calls q.cause;
     ends = rw fault (fails_last f q.calls q.cause);
     gone = rw gone q.failed.1;
     unsent = rest;
@@ -56,6 +56,10 @@ module _ {W : Type 0} (writes : W → List ℕ → Result ℕ Error → W → Ty
     all = λ ne. absurd (ne fault);
     each = once;
   }
+
+  pub closes_unput : (f : WriteFailed) (x held' : List ℕ) (status : Status) (w w' : W) → outcome.status ≡ WriteFault → outcome.gone ≡ f.gone →
+      Puts writes flushes gathers (Err f) x held held' w w' → Closes writes flushes gathers held (record { lines = x ∷ []; status = status }) outcome w w'
+  closes_unput f x held' status w w' fault gone p = closes_failed f (x ∷ []) p.rest status w w' fault gone (sends_as writes flushes (Err f) x (x ++ []) held p.rest w w' (sym (append-nil x)) p.sends) (λ e. (p.once e).0)
 
   -- a line was put before
   pub closes_put : (x held' : List ℕ) (status : Status) (u v w : W) → Puts writes flushes gathers (Ok tt) x held held' u v → Closes writes flushes gathers held' (record { lines = []; status = status }) outcome v w →

@@ -15,7 +15,7 @@ use Rattle.x86_streams.specs.Text.{Text, text_at, text_of}
 use Rattle.x86_streams.specs.Text.Beginning.{IsOpen}
 use Rattle.x86_streams.specs.Text.Reader.{TextPosition}
 use Rattle.x86_streams.specs.Text.Reading.{MayCome, NeedsMore, with_bytes}
-use Rattle.x86_streams.specs.Text.Window.{Fills, LeavesRest, rest_after, rest_of}
+use Rattle.x86_streams.specs.Text.Window.{Fills, LeavesRest, TakesBytes, rest_after, rest_of}
 use Rattle.x86_streams.proofs.OutsideLemmas.Calls.{all_continue_joined, calls_joined, ends_joined, pieces_joined, received_joined, sent_joined, stop_joined}
 use Rattle.x86_streams.proofs.TextLemmas.Text.{with_bytes-with_bytes}
 use Rattle.x86_cli.specs.declared.listings.status.Outcome.{Outcome}
@@ -48,6 +48,10 @@ starts_more : (bytes more next : List ℕ) → StartsWith bytes next → StartsW
 starts_more bytes more next h = let fits = length-take (length next) bytes in grind (arith, ap length h, fits, take-append-le (length next) bytes more)
 
 module _ {W : Type 0} (writes : W → List ℕ → Result ℕ Error → W → Type 0) (flushes : W → Result ⊤ Error → W → Type 0) where
+  -- the same calls, where new bytes are known by another name
+  abbrev pub sends_as : (answer : Result ⊤ WriteFailed) (new new' held held' : List ℕ) (w w' : W) → new ≡ new' → Sends writes flushes answer new held held' w w' → Sends writes flushes answer new' held held' w w'
+  sends_as answer new new' held held' w w' same s = record { calls = s.calls; did = s.did; cause = s.cause; order = s.order ∙ ap (λ b. held ++ b) same; failed = s.failed }
+
   -- calls of the writer, none of which follows one that failed, are by the rule
   all_by_rule : (known : Text → Listing) (text : List ℕ → Stop → Text) (cs ds : List Call) (w w' : W) → WriterCalls writes flushes cs w w' → AllContinue cs → ByRule known text ds → AllContinue ds →
       ByRule known text (cs ++ ds)
@@ -67,7 +71,7 @@ module _ {W : Type 0} (writes : W → List ℕ → Result ℕ Error → W → Ty
   by_rule_joined known text (Flush answer ∷ cs) ds w w' did f rule d =
       (all_by_rule known text cs ds w did.0 did.1 f rule d, never_failed (cs ++ ds) (all_continue_joined cs ds f d))
 
-read_stop : (buffer : List ℕ) (answer : Result ℕ Error) (cs : List Call) → stop_of (Read buffer answer ∷ cs) ≡ stop_of (Read buffer answer ∷ [])
+pub read_stop : (buffer : List ℕ) (answer : Result ℕ Error) (cs : List Call) → stop_of (Read buffer answer ∷ cs) ≡ stop_of (Read buffer answer ∷ [])
 read_stop buffer answer cs = grind arith
 
 pub refused_first : (c : Call) (cs ds : List Call) → refused (c ∷ cs) ≡ refused (c ∷ ds)
@@ -82,7 +86,7 @@ module _ {R W : Type 0} (reads : R → List ℕ → Result ℕ Error → R → T
     pub did : Calls reads writes flushes calls r r' v v'
     pub rule : ByRule (knows 0) (text_of max) calls
     pub unfailed : AllContinue calls
-    pub open : ended ≡ None → stop_of calls ≡ None
+    pub unstopped : ended ≡ None → stop_of calls ≡ None
     pub lines : List (List ℕ)
     pub put : sent calls ++ held ≡ concat lines
     pub each : gathers ≡ false → (held ≡ []) × (pieces calls ≡ lines)
@@ -91,7 +95,7 @@ module _ {R W : Type 0} (reads : R → List ℕ → Result ℕ Error → R → T
     pub decided : ended ≡ None → (xs : List ℕ) (stop : Stop) → knows 0 (text_of max (received calls ++ xs) stop) ≡ with_lines lines (knows n (rest_after ended w text xs stop))
 
   pub live_new : (text : TextPosition) → text ≡ record { position = 0; room = max; unread = [] } → Live [] 0 None [] text [] r v
-  live_new text is = rw is (record { calls = []; did = (refl, refl); rule = tt; unfailed = tt; open = λ _. refl; lines = []; put = refl; each = λ _. (refl, refl); whole = λ xs s _. refl; lists = λ xs s _. refl; decided = λ _ xs s. refl })
+  live_new text is = rw is (record { calls = []; did = (refl, refl); rule = tt; unfailed = tt; unstopped = λ _. refl; lines = []; put = refl; each = λ _. (refl, refl); whole = λ xs s _. refl; lists = λ xs s _. refl; decided = λ _ xs s. refl })
 
   module _ (image : List ℕ) (n : ℕ) (ended : Option Ending) (w : List ℕ) (text : TextPosition) (held : List ℕ) (r' : R) (v' : W) (s : Live image n ended w text held r' v') where
     -- the same text is left
@@ -101,7 +105,7 @@ module _ {R W : Type 0} (reads : R → List ℕ → Result ℕ Error → R → T
       did = s.did;
       rule = s.rule;
       unfailed = s.unfailed;
-      open = λ e. s.open (was e);
+      unstopped = λ e. s.unstopped (was e);
       lines = s.lines;
       put = s.put;
       each = s.each;
@@ -110,7 +114,11 @@ module _ {R W : Type 0} (reads : R → List ℕ → Result ℕ Error → R → T
       decided = λ e xs stop. s.decided (was e) xs stop ∙ ap (λ t. with_lines s.lines (knows n t)) (rest xs stop);
     }
 
-    split : (len : ℕ) (xs : List ℕ) (stop : Stop) → rest_after ended w text xs stop ≡ with_bytes (take len w) (rest_after ended (drop len w) text xs stop)
+    -- bytes that were read came into the window
+    pub live_take : (ended' : Option Ending) (w' : List ℕ) (text' : TextPosition) → ended' ≡ ended → TakesBytes ended w text w' text' → Live image n ended' w' text' held r' v'
+    live_take ended' w' text' same took = rw same (live_rest ended w' text' took.rest (λ e. e))
+
+    pub split : (len : ℕ) (xs : List ℕ) (stop : Stop) → rest_after ended w text xs stop ≡ with_bytes (take len w) (rest_after ended (drop len w) text xs stop)
     split len xs stop = grind (arith, take-append-drop len w, append_assoc {A = ℕ})
 
     -- lines were put, of bytes that leave the window
@@ -124,9 +132,9 @@ module _ {R W : Type 0} (reads : R → List ℕ → Result ℕ Error → R → T
         record {
           calls = q.calls ++ s.calls;
           did = calls_joined writes flushes reads q.calls s.calls r r' v v' v'' s.did q.did;
-          rule = by_rule_joined writes flushes (knows 0) (text_of max) q.calls s.calls v' v'' q.did (follow_of (Ok tt) q.calls q.cause) s.rule s.unfailed;
+          rule = by_rule_joined writes flushes (knows 0) (text_of max) q.calls s.calls v' v'' q.did (follow_of {A = ⊤} {E = WriteFailed} (Ok tt) q.calls q.cause) s.rule s.unfailed;
           unfailed = all_continue_joined q.calls s.calls q.cause s.unfailed;
-          open = λ e. stop_is ∙ s.open e;
+          unstopped = λ e. stop_is ∙ s.unstopped e;
           lines = s.lines ++ ls;
           put = ap (λ b. b ++ held') (sent_joined q.calls s.calls) ∙ append_assoc (sent s.calls) (sent q.calls) held' ∙ ap (λ b. sent s.calls ++ b) q.order
               ∙ sym (append_assoc (sent s.calls) held (concat ls)) ∙ ap (λ b. b ++ concat ls) s.put ∙ sym (concat-append s.lines ls);
@@ -139,7 +147,7 @@ module _ {R W : Type 0} (reads : R → List ℕ → Result ℕ Error → R → T
     pub live_line : (x : List ℕ) (len : ℕ) (held' : List ℕ) (v'' : W) → IsLine at len n x ended w text.position text.room → (ended ≡ None → IsLine knows len n x ended w text.position text.room) →
         Puts writes flushes gathers (Ok tt) (line x) held held' v' v'' → Live (image ++ take len w) (n + len) ended (drop len w) text held' r' v''
     live_line x len held' v'' step known p =
-        rw p.held (live_put (line x ∷ []) (n + len) len p.rest v'' (λ xs stop. step (text.unread ++ xs) stop) (λ e xs stop. known e (text.unread ++ xs) stop) (rw append-nil p.sends) (λ e. ((p.once e).1, (p.once e).0)))
+        rw p.held (live_put (line x ∷ []) (n + len) len p.rest v'' (λ xs stop. step (text.unread ++ xs) stop) (λ e xs stop. known e (text.unread ++ xs) stop) (sends_as writes flushes (Ok tt) (line x) (line x ++ []) held p.rest v' v'' (sym (append-nil (line x))) p.sends) (λ e. ((p.once e).1, (p.once e).0)))
 
     -- ---- ends
 
@@ -188,7 +196,7 @@ module _ {R W : Type 0} (reads : R → List ℕ → Result ℕ Error → R → T
         ((xs : List ℕ) (stop : Stop) → at n (rest_after ended w text xs stop) ≡ with_lines ls (after xs stop)) → (q : Sends writes flushes (Err f) (concat ls) held rest v' v'') → (gathers ≡ false → pieces q.calls ≡ ls) →
         Performs reads writes flushes gathers (record { max = max; known = knows 0; lists = at 0 }) outcome r r' v v''
     live_fails outcome f ls after rest v'' status gone step q once =
-        ends_in outcome v'' q.calls q.did (follow_of {A = ⊤} (Err f) q.calls q.cause) (rw status (fails_last f q.calls q.cause)) (rw gone q.failed.1)
+        ends_in outcome v'' q.calls q.did (follow_of {A = ⊤} {E = WriteFailed} (Err f) q.calls q.cause) (rw status (fails_last f q.calls q.cause)) (rw gone q.failed.1)
         (λ xs stop.
         let more = concat (after xs stop).lines in (
           rest ++ more,
@@ -198,13 +206,24 @@ module _ {R W : Type 0} (reads : R → List ℕ → Result ℕ Error → R → T
         ))
         (λ e xs stop. ((after xs stop).lines, ap (λ l. l.lines) (step xs stop) ∙ ap (λ ps. ps ++ (after xs stop).lines) (sym (once e))))
 
+    pub live_unput : (outcome : Outcome) (f : WriteFailed) (x : List ℕ) (len : ℕ) (held' : List ℕ) (v'' : W) → outcome.status ≡ WriteFault → outcome.gone ≡ f.gone → IsLine at len n x ended w text.position text.room →
+        Puts writes flushes gathers (Err f) (line x) held held' v' v'' → Performs reads writes flushes gathers (record { max = max; known = knows 0; lists = at 0 }) outcome r r' v v''
+    live_unput outcome f x len held' v'' status gone step p =
+        live_fails outcome f (line x ∷ []) (λ xs stop. at (n + len) (rest_after ended (drop len w) text xs stop)) p.rest v'' status gone (λ xs stop. step (text.unread ++ xs) stop)
+        (sends_as writes flushes (Err f) (line x) (line x ++ []) held p.rest v' v'' (sym (append-nil (line x))) p.sends) (λ e. (p.once e).0)
+
+    pub live_unsent : (outcome : Outcome) (f : WriteFailed) (held' : List ℕ) (v'' : W) → outcome.status ≡ WriteFault → outcome.gone ≡ f.gone → SendsAll writes flushes (Err f) held held' v' v'' →
+        Performs reads writes flushes gathers (record { max = max; known = knows 0; lists = at 0 }) outcome r r' v v''
+    live_unsent outcome f held' v'' status gone q =
+        live_fails outcome f [] (λ xs stop. at n (rest_after ended w text xs stop)) held' v'' status gone (λ xs stop. refl) q.0 (λ e. q.2 (s.each e).0)
+
   -- All that was gathered was sent, and a read was made, where the window decides no more.
   module _ (image : List ℕ) (n : ℕ) (w : List ℕ) (text : TextPosition) (held : List ℕ) (r' : R) (v' : W) (s : Live image n None w text held r' v') where
     abbrev pub live_fill : (held' : List ℕ) (v'' : W) (ended' : Option Ending) (text' : TextPosition) (r'' : R) → SendsAll writes flushes (Ok tt) held held' v' v'' → IsOpen text.unread text.room →
         ((t : Text) → NeedsMore 1 t → knows n (with_bytes w t) ≡ at_end Fault) → Fills reads w text ended' text' r' r'' → Live image n ended' w text' held' r'' v''
-    live_fill held' v'' ended' text' r'' q open more f =
+    live_fill held' v'' ended' text' r'' q half more f =
         let t = live_put image n None w text held r' v' s [] n 0 held' v'' (λ xs stop. refl) (λ _ xs stop. refl) q.0 (λ e. (q.1.0, q.2 (s.each e).0)) in
-        let needs : NeedsMore 1 (text_at text.position text.room (text.unread ++ []) Failed) = rw (append-nil, open.failed text.position) (refl, omega arith) in
+        let needs : NeedsMore 1 (text_at text.position text.room (text.unread ++ []) Failed) = rw (append-nil, half.failed text.position) (refl, omega arith) in
         let before : AreBeforeFault (sent t.calls) (knows 0 (text_of max (received t.calls) Failed)) = (
           t.lines,
           rw append-nil at (t.decided refl [] Failed) ∙ ap (with_lines t.lines) (more (text_at text.position text.room (text.unread ++ []) Failed) needs),
@@ -213,13 +232,13 @@ module _ {R W : Type 0} (reads : R → List ℕ → Result ℕ Error → R → T
         record {
           calls = Read f.buffer f.answer ∷ t.calls;
           did = (r', t.did, f.answered);
-          rule = (t.rule, f.some, t.open refl, ends_joined IsFlush q.0.calls s.calls q.1.1, before);
+          rule = (t.rule, f.some, t.unstopped refl, ends_joined IsFlush q.0.calls s.calls q.1.1, before);
           unfailed = ((λ e. e), t.unfailed);
-          open = λ e. read_stop f.buffer f.answer t.calls ∙ f.stop e;
+          unstopped = λ e. read_stop f.buffer f.answer t.calls ∙ f.stop e;
           lines = t.lines;
           put = t.put;
           each = t.each;
-          whole = λ xs stop may. rw append_assoc (rw append-nil at (t.whole (taken_by f.answer f.buffer ++ xs) stop (rw (t.open refl) tt)) ∙ ap (with_bytes image) (f.rest xs stop (rw (read_stop f.buffer f.answer t.calls) at may)));
-          lists = λ xs stop may. rw append_assoc (t.lists (taken_by f.answer f.buffer ++ xs) stop (rw (t.open refl) tt) ∙ ap (λ u. with_lines t.lines (at n u)) (f.rest xs stop (rw (read_stop f.buffer f.answer t.calls) at may)));
+          whole = λ xs stop may. rw append_assoc (rw append-nil at (t.whole (taken_by f.answer f.buffer ++ xs) stop (rw (t.unstopped refl) tt)) ∙ ap (with_bytes image) (f.rest xs stop (rw (read_stop f.buffer f.answer t.calls) at may)));
+          lists = λ xs stop may. rw append_assoc (t.lists (taken_by f.answer f.buffer ++ xs) stop (rw (t.unstopped refl) tt) ∙ ap (λ u. with_lines t.lines (at n u)) (f.rest xs stop (rw (read_stop f.buffer f.answer t.calls) at may)));
           decided = λ e xs stop. rw append_assoc (t.decided refl (taken_by f.answer f.buffer ++ xs) stop ∙ ap (λ u. with_lines t.lines (knows n u)) (f.rest xs stop (rw (f.stop e) tt)));
         }

@@ -38,12 +38,12 @@ abbrev pub IsLastAt : Status → Call → Type 0
 IsLastAt WriteFault c = Fails c
 IsLastAt status c = IsFlush c
 
--- These bytes are a prefix of the listing, and the next ones come after them. They are all of it unless a call failed;
+-- These bytes are a prefix of the listing, and the following ones come after them. They are all of it unless a call failed;
 -- then the listing ends with this status.
-pub record IsPrinted (status : Status) (bytes next : List ℕ) (l : Listing) : Type 0 where
+pub record IsPrinted (status : Status) (bytes following : List ℕ) (l : Listing) : Type 0 where
   pub unsent : List ℕ
   pub whole : concat l.lines ≡ bytes ++ unsent
-  pub next : StartsWith unsent next
+  pub next : StartsWith unsent following
   pub all : status ≢ WriteFault → (unsent ≡ []) × (status ≡ l.status)
 
 -- These lines are the first of others.

@@ -47,7 +47,8 @@ pub fn close<W, O: Output<W>>(
     writer: &mut W,
     status: Status,
 ) -> Outcome
-    requires { status ≢ Status.WriteFault }
+    requires status { status ≢ Status.WriteFault }
+    requires empty { O.gathers ≡ false → out.old.bytes.items ≡ [] }
     ensures { Closes O.writes O.flushes O.gathers out.old.bytes.items
         (record { lines = []; status = status }) result writer.old writer.new }
 {

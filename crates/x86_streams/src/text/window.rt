@@ -101,8 +101,8 @@ impl Window {
     pub fn fill<R, I: Input<R>>(&mut self, input: &I, reader: &mut R)
         requires ended { self.old.ended ≡ None }
         requires open { IsOpen self.old.text.unread self.old.text.room }
-        ensures fills { Fills I.reads self.old.bytes.items self.old.text self.new.ended self.new.text
-            reader.old reader.new }
+        ensures fills { Fills I.reads self.old.bytes.items self.old.text
+            self.new.ended self.new.text reader.old reader.new }
         ensures bytes { self.new.bytes ≡ self.old.bytes }
     {
         match self.text.read(input, reader) {

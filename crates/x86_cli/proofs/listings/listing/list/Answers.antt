@@ -1,58 +1,63 @@
-use Rattle.std.proofs.Common.{◌<◌, refl, arith, ap, sym, ◌∙◌, length, length-drop, rules}
-use Rattle.x86_cli.proofs.ListingLemmas.Live.{turns, live_new, live_take, live_line, live_unput, live_unsettled, live_closes, live_read, reads_less, takes_less}
+use Rattle.std.proofs.Common.{◌≡◌, ◌<◌, ◌++◌, take, List, ℕ, [], None, refl, arith, ap, sym, ◌∙◌, length, length-drop, rules}
+use Rattle.x86_streams.specs.Text.Reader.{TextPosition}
+use Rattle.x86_cli.proofs.ListingLemmas.Live.{live_new, live_take, live_line, live_unput, live_unsent, live_closes, live_fill}
 use Rattle.x86_cli.proofs.listings.listing.list.Goals as goal
+
+fresh : (text : TextPosition) (max : ℕ) → text.position ≡ 0 → text.room ≡ max → text.unread ≡ [] → text ≡ record { position = 0; room = max; unread = [] }
+fresh text max position room unread = grind (arith, position, room, unread)
 
 pub lines-init : goal.lines-init
 lines-init g c =
     let e = c.new-window.ensures in
     record {
-      live = rw (e.ended, e.bytes, e.position, e.room, c.at-place.ensures) (live_new g.S.Source.gives g.S.Source.ahead g.K.Sink.takes g.T.Settling.settles (g.W.Course.lists c.args.course.now c.args.decoder.now.strict) (g.W.Course.knows c.args.course.now c.args.decoder.now.strict) c.args.max _ _);
+      image = [];
+      live = rw (e.ended, e.bytes, c.new-out.ensures, c.at-place.ensures) (live_new g.O.Input.reads g.O.Output.writes g.O.Output.flushes g.O.Output.gathers (g.C.Course.lists c.args.course.now c.args.decoder.now.strict) (g.C.Course.knows c.args.course.now c.args.decoder.now.strict) c.args.max _ _ _ (fresh _ _ e.position e.room e.unread));
       fits = omega (arith, ap length e.bytes, e.room);
     }
 
 pub lines-preserved-in-Line : goal.lines-preserved-in-Line
 lines-preserved-in-Line g c =
-    let s = live_take g.S.Source.gives g.S.Source.ahead g.K.Sink.takes g.T.Settling.settles (g.W.Course.lists c.args.course.now c.args.decoder.now.strict) (g.W.Course.knows c.args.course.now c.args.decoder.now.strict) c.args.max _ _ _ _ _ _ _ _ _ refl c.lines.invariant.live c.take_known.ensures.ended c.take_known.ensures.takes c.take_known.ensures.closed in
-    let less = takes_less g.S.Source.gives g.S.Source.ahead _ _ _ _ _ _ _ _ c.take_known.ensures.takes in
+    let t = c.take_known.ensures in
+    let s = live_take g.O.Input.reads g.O.Output.writes g.O.Output.flushes g.O.Output.gathers (g.C.Course.lists c.args.course.now c.args.decoder.now.strict) (g.C.Course.knows c.args.course.now c.args.decoder.now.strict) c.args.max _ _ _ _ _ _ _ _ _ _ c.lines.invariant.live _ _ _ t.ended t.takes in
     let step = c.in-Line.ensures.next in
     record {
-      live = rw (c.advance.ensures, c.leave.ensures) (live_line g.S.Source.gives g.S.Source.ahead g.K.Sink.takes g.T.Settling.settles (g.W.Course.lists c.args.course.now c.args.decoder.now.strict) (g.W.Course.knows c.args.course.now c.args.decoder.now.strict) c.args.max _ _ _ _ _ _ _ _ _ s _ _ step.2 step.3 _ c.in-Ok.ensures);
-      fits = omega (arith, simp length-drop at (ap length c.leave.ensures), less, c.lines.invariant.fits, step.1, c.advance.ensures);
+      image = c.lines.invariant.image ++ take c.in-Line.length c.take_known.new.self.bytes.items;
+      live = rw (c.advance.ensures, c.leave.ensures) (live_line g.O.Input.reads g.O.Output.writes g.O.Output.flushes g.O.Output.gathers (g.C.Course.lists c.args.course.now c.args.decoder.now.strict) (g.C.Course.knows c.args.course.now c.args.decoder.now.strict) c.args.max _ _ _ _ _ _ _ _ _ _ s _ _ _ _ step.2 step.3 c.in-Ok.ensures);
+      fits = omega (arith, simp length-drop at (ap length c.leave.ensures), t.takes.fits.0, c.lines.invariant.fits, step.1, c.advance.ensures);
     }
 
 pub returns-in-Err : goal.returns-in-Err
 returns-in-Err g c =
-    let s = live_take g.S.Source.gives g.S.Source.ahead g.K.Sink.takes g.T.Settling.settles (g.W.Course.lists c.args.course.now c.args.decoder.now.strict) (g.W.Course.knows c.args.course.now c.args.decoder.now.strict) c.args.max _ _ _ _ _ _ _ _ _ refl c.lines.invariant.live c.take_known.ensures.ended c.take_known.ensures.takes c.take_known.ensures.closed in
-    live_unput g.S.Source.gives g.S.Source.ahead g.K.Sink.takes g.T.Settling.settles (g.W.Course.lists c.args.course.now c.args.decoder.now.strict) (g.W.Course.knows c.args.course.now c.args.decoder.now.strict) c.args.max _ _ _ _ _ _ _ _ _ s _ _ c.in-Line.ensures.next.2 _ _ c.in-Err.ensures
+    let t = c.take_known.ensures in
+    let s = live_take g.O.Input.reads g.O.Output.writes g.O.Output.flushes g.O.Output.gathers (g.C.Course.lists c.args.course.now c.args.decoder.now.strict) (g.C.Course.knows c.args.course.now c.args.decoder.now.strict) c.args.max _ _ _ _ _ _ _ _ _ _ c.lines.invariant.live _ _ _ t.ended t.takes in
+    live_unput g.O.Input.reads g.O.Output.writes g.O.Output.flushes g.O.Output.gathers (g.C.Course.lists c.args.course.now c.args.decoder.now.strict) (g.C.Course.knows c.args.course.now c.args.decoder.now.strict) c.args.max _ _ _ _ _ _ _ _ _ _ s _ c.in-Err.failed _ _ _ _ c.of_failed.ensures.status c.of_failed.ensures.gone c.in-Line.ensures.next.2 c.in-Err.ensures
 
-pub returns-in-Err-settle : goal.returns-in-Err-settle
-returns-in-Err-settle g c =
-    let s = live_take g.S.Source.gives g.S.Source.ahead g.K.Sink.takes g.T.Settling.settles (g.W.Course.lists c.args.course.now c.args.decoder.now.strict) (g.W.Course.knows c.args.course.now c.args.decoder.now.strict) c.args.max _ _ _ _ _ _ _ _ _ refl c.lines.invariant.live c.take_known.ensures.ended c.take_known.ensures.takes c.take_known.ensures.closed in
-    live_unsettled g.S.Source.gives g.S.Source.ahead g.K.Sink.takes g.T.Settling.settles (g.W.Course.lists c.args.course.now c.args.decoder.now.strict) (g.W.Course.knows c.args.course.now c.args.decoder.now.strict) c.args.max _ _ _ _ _ _ _ _ _ s _ _ c.in-Err-settle.ensures
+pub returns-in-Err-send_all : goal.returns-in-Err-send_all
+returns-in-Err-send_all g c =
+    let t = c.take_known.ensures in
+    let s = live_take g.O.Input.reads g.O.Output.writes g.O.Output.flushes g.O.Output.gathers (g.C.Course.lists c.args.course.now c.args.decoder.now.strict) (g.C.Course.knows c.args.course.now c.args.decoder.now.strict) c.args.max _ _ _ _ _ _ _ _ _ _ c.lines.invariant.live _ _ _ t.ended t.takes in
+    live_unsent g.O.Input.reads g.O.Output.writes g.O.Output.flushes g.O.Output.gathers (g.C.Course.lists c.args.course.now c.args.decoder.now.strict) (g.C.Course.knows c.args.course.now c.args.decoder.now.strict) c.args.max _ _ _ _ _ _ _ _ _ _ s _ c.in-Err-send_all.failed _ _ c.of_failed-in-Err-send_all.ensures.status c.of_failed-in-Err-send_all.ensures.gone c.in-Err-send_all.ensures
 
-pub lines-preserved : goal.lines-preserved
-lines-preserved g c =
-    let s = live_take g.S.Source.gives g.S.Source.ahead g.K.Sink.takes g.T.Settling.settles (g.W.Course.lists c.args.course.now c.args.decoder.now.strict) (g.W.Course.knows c.args.course.now c.args.decoder.now.strict) c.args.max _ _ _ _ _ _ _ _ _ refl c.lines.invariant.live c.take_known.ensures.ended c.take_known.ensures.takes c.take_known.ensures.closed in
-    let step = c.in-Undecided.ensures.next in
-    let less = takes_less g.S.Source.gives g.S.Source.ahead _ _ _ _ _ _ _ _ c.take_known.ensures.takes in
-    let on = reads_less g.S.Source.gives _ _ _ _ _ _ _ _ _ c.read_on.ensures in
+pub lines-preserved-then-not-step : goal.lines-preserved-then-not-step
+lines-preserved-then-not-step g c =
+    let t = c.take_known.ensures in
+    let s = live_take g.O.Input.reads g.O.Output.writes g.O.Output.flushes g.O.Output.gathers (g.C.Course.lists c.args.course.now c.args.decoder.now.strict) (g.C.Course.knows c.args.course.now c.args.decoder.now.strict) c.args.max _ _ _ _ _ _ _ _ _ _ c.lines.invariant.live _ _ _ t.ended t.takes in
+    let same = c.step.ensures.same c.if-not-step.true in
+    let f = rw same at c.fill.ensures.fills in
     record {
-      live = live_read g.S.Source.gives g.S.Source.ahead g.K.Sink.takes g.T.Settling.settles (g.W.Course.lists c.args.course.now c.args.decoder.now.strict) (g.W.Course.knows c.args.course.now c.args.decoder.now.strict) c.args.max _ _ _ _ _ _ _ _ _ _ (rw step.0 at s) c.in-Ok-settle.ensures step.2 _ _ _ _ c.read_on.ensures;
-      fits = omega (arith, less, on.0, c.lines.invariant.fits);
+      image = c.lines.invariant.image;
+      live = rw (c.fill.ensures.bytes, same) (live_fill g.O.Input.reads g.O.Output.writes g.O.Output.flushes g.O.Output.gathers (g.C.Course.lists c.args.course.now c.args.decoder.now.strict) (g.C.Course.knows c.args.course.now c.args.decoder.now.strict) c.args.max _ _ _ _ _ _ _ _ _ (rw c.in-Undecided.ensures.next.0 at s) _ _ _ _ _ c.in-Ok-send_all.ensures (c.step.ensures.open c.if-not-step.true) c.in-Undecided.ensures.next.2 f);
+      fits = omega (arith, ap (λ b. length b.items) (c.fill.ensures.bytes ∙ ap (λ w. w.bytes) same), f.fits.0, t.takes.fits.0, c.lines.invariant.fits);
     }
-
-pub lines-smaller : goal.lines-smaller
-lines-smaller g c =
-    let less = takes_less g.S.Source.gives g.S.Source.ahead _ _ _ _ _ _ _ _ c.take_known.ensures.takes in
-    let on = reads_less g.S.Source.gives _ _ _ _ _ _ _ _ _ c.read_on.ensures in
-    omega (arith, less, on.1, ap turns (sym c.take_known.ensures.ended ∙ c.in-Undecided.ensures.next.0))
 
 pub returns-in-Refused : goal.returns-in-Refused
 returns-in-Refused g c =
-    let s = live_take g.S.Source.gives g.S.Source.ahead g.K.Sink.takes g.T.Settling.settles (g.W.Course.lists c.args.course.now c.args.decoder.now.strict) (g.W.Course.knows c.args.course.now c.args.decoder.now.strict) c.args.max _ _ _ _ _ _ _ _ _ refl c.lines.invariant.live c.take_known.ensures.ended c.take_known.ensures.takes c.take_known.ensures.closed in
-    live_closes g.S.Source.gives g.S.Source.ahead g.K.Sink.takes g.T.Settling.settles (g.W.Course.lists c.args.course.now c.args.decoder.now.strict) (g.W.Course.knows c.args.course.now c.args.decoder.now.strict) c.args.max _ _ _ _ _ _ _ _ _ s _ c.in-Refused.ensures.next _ _ (rw c.number.ensures at c.refuse.ensures)
+    let t = c.take_known.ensures in
+    let s = live_take g.O.Input.reads g.O.Output.writes g.O.Output.flushes g.O.Output.gathers (g.C.Course.lists c.args.course.now c.args.decoder.now.strict) (g.C.Course.knows c.args.course.now c.args.decoder.now.strict) c.args.max _ _ _ _ _ _ _ _ _ _ c.lines.invariant.live _ _ _ t.ended t.takes in
+    live_closes g.O.Input.reads g.O.Output.writes g.O.Output.flushes g.O.Output.gathers (g.C.Course.lists c.args.course.now c.args.decoder.now.strict) (g.C.Course.knows c.args.course.now c.args.decoder.now.strict) c.args.max _ _ _ _ _ _ _ _ _ _ s _ _ _ c.in-Refused.ensures.next (rw (c.refusal_of-text.ensures.text, c.number.ensures) at c.put_last.ensures)
 
 pub returns-in-Ended : goal.returns-in-Ended
 returns-in-Ended g c =
-    let s = live_take g.S.Source.gives g.S.Source.ahead g.K.Sink.takes g.T.Settling.settles (g.W.Course.lists c.args.course.now c.args.decoder.now.strict) (g.W.Course.knows c.args.course.now c.args.decoder.now.strict) c.args.max _ _ _ _ _ _ _ _ _ refl c.lines.invariant.live c.take_known.ensures.ended c.take_known.ensures.takes c.take_known.ensures.closed in
-    live_closes g.S.Source.gives g.S.Source.ahead g.K.Sink.takes g.T.Settling.settles (g.W.Course.lists c.args.course.now c.args.decoder.now.strict) (g.W.Course.knows c.args.course.now c.args.decoder.now.strict) c.args.max _ _ _ _ _ _ _ _ _ s _ c.in-Ended.ensures.next _ _ c.end.ensures
+    let t = c.take_known.ensures in
+    let s = live_take g.O.Input.reads g.O.Output.writes g.O.Output.flushes g.O.Output.gathers (g.C.Course.lists c.args.course.now c.args.decoder.now.strict) (g.C.Course.knows c.args.course.now c.args.decoder.now.strict) c.args.max _ _ _ _ _ _ _ _ _ _ c.lines.invariant.live _ _ _ t.ended t.takes in
+    live_closes g.O.Input.reads g.O.Output.writes g.O.Output.flushes g.O.Output.gathers (g.C.Course.lists c.args.course.now c.args.decoder.now.strict) (g.C.Course.knows c.args.course.now c.args.decoder.now.strict) c.args.max _ _ _ _ _ _ _ _ _ _ s _ _ _ c.in-Ended.ensures.next c.end.ensures

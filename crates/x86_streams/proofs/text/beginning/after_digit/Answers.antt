@@ -21,12 +21,7 @@ returns-then-room-eq1 c = by_second Large _ _ 1 (omega arith) c.if-room-eq1.true
 
 pub returns-in-Digit : goal.returns-in-Digit
 returns-in-Digit c =
-    let d = c.requires.digit in
-    by_second (Pair _) _ _ (suc (suc (c.args.room - 2))) (omega arith) (omega arith) (omega arith) (
-      omega arith,
-      omega arith,
-      λ p xs s. grind (arith, text-pair),
-    )
+    by_second (Pair _) _ _ (suc (suc (c.args.room - 2))) (omega arith) (omega arith) (omega arith) (omega arith, omega arith, λ p xs s. grind (arith, text-pair))
 
 pub returns-in-Blank : goal.returns-in-Blank
 returns-in-Blank c =

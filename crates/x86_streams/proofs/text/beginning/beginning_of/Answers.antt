@@ -1,6 +1,5 @@
 use Rattle.std.proofs.Common.{arith, rules, suc, ◌-◌}
 use Rattle.std.proofs.lemmas.List.{drop_all}
-use native.Mathlib.Numerals.{unary_clauses}
 use Rattle.x86_streams.specs.declared.text.beginning.Beginning.TheVariants.{Blank, Bad, Large}
 use Rattle.x86_streams.proofs.TextLemmas.Text.{text-end, text-failed, text-large, text-blank, text-bad}
 use Rattle.x86_streams.proofs.TextLemmas.Beginning.{by_first}
@@ -19,4 +18,4 @@ returns-in-Blank c =
 
 pub returns-in-Other : goal.returns-in-Other
 returns-in-Other c =
-    by_first (Bad 0) _ _ (suc (c.args.room - 1)) (search rules) (omega arith) (omega arith, omega arith, λ p xs s. simp unary_clauses (text-bad p _ _ _ s c.in-Other.ensures.0 c.in-Other.ensures.1))
+    by_first (Bad 0) _ _ (suc (c.args.room - 1)) (search rules) (omega arith) (omega arith, omega arith, λ p xs s. grind (arith, text-bad))
