@@ -6,3 +6,4 @@ pub mod Sweep
 pub mod Target
 pub mod Live
 pub mod Closes
+pub mod Whole

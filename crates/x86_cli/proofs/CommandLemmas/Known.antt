@@ -1,10 +1,10 @@
 -- What a program says where the bytes that its reader has left and those that its writer has are known.
-use Rattle.std.proofs.Common.{◌≡◌, ◌≢◌, ℕ, zero, suc, List, [], ◌∷◌, ◌++◌, length, take, drop, Option, Some, None, Result, Ok, Err, refl, ap, ◌∙◌, sym, append_assoc, append-nil, take-append-drop, arith}
+use Rattle.std.proofs.Common.{◌≡◌, ◌≢◌, ℕ, zero, suc, List, [], ◌∷◌, ◌<◌, ◌++◌, length, take, drop, Option, Some, None, Result, Ok, Err, refl, ap, ◌∙◌, sym, append_assoc, append-nil, take-append-drop, arith}
 use Rattle.std.specs.Prelude.{Bool, IfSome, ⊤}
 use Rattle.std.specs.List.{concat}
 use Rattle.std.specs.Io.{StartsWith}
 use Rattle.std.specs.declared.io.Error.{Error}
-use Rattle.std.specs.Io.KnownBytes.{Keeps, Consumes, Appends, IsAtEnd, ReadConsumes}
+use Rattle.std.specs.Io.KnownBytes.{Keeps, Consumes, Appends, IsAtEnd}
 use Rattle.std.proofs.KnownBytes.{Consumes-nil, Consumes-trans, Consumes-kept, Appends-nil, Appends-trans, Appends-kept, Consumes-whole, starts_with_rest}
 use Rattle.x86_cli.specs.declared.commands.command.Command.{Command}
 use Rattle.x86_cli.specs.declared.listings.status.Outcome.{Outcome}
@@ -39,10 +39,22 @@ follows known text (Read buffer answer ∷ cs) rule = continued known text cs ru
 follows known text (Write bytes answer ∷ cs) rule = continued known text cs rule.0 rule.1
 follows known text (Flush answer ∷ cs) rule = continued known text cs rule.0 rule.1
 
+-- What a read takes. One that returns no byte comes only at the end, where the bytes are known.
+abbrev pub Takes : Option (List ℕ) → Option (List ℕ) → Result ℕ Error → List ℕ → Type 0
+Takes old new (Ok n) buffer = Consumes old new (take n buffer) × (n ≡ 0 → 0 < length buffer → IfSome old (λ xs. IsAtEnd new))
+Takes old new (Err e) buffer = Keeps old new
+
 -- What a write appends: the bytes that it took, or where it answered an error the beginning of its bytes.
 abbrev pub Adds : Option (List ℕ) → Option (List ℕ) → Result ℕ Error → List ℕ → Type 0
 Adds old new (Ok n) bytes = Appends old new (take n bytes)
 Adds old new (Err e) bytes = (n : ℕ) × Appends old new (take n bytes)
+
+known_through : (a b d : Option (List ℕ)) (bytes : List ℕ) → Consumes a b bytes → IfSome b (λ xs. IsAtEnd d) → IfSome a (λ xs. IsAtEnd d)
+known_through a b d bytes c e = grind arith
+
+known_whole : (a b : Option (List ℕ)) (bytes : List ℕ) (P : List ℕ → Type 0) → Consumes a b bytes → IfSome a (λ xs. IsAtEnd b) → P bytes → IfSome a P
+known_whole None b bytes P c e p = tt
+known_whole (Some xs) b bytes P c e p = Consumes-whole (Some xs) b bytes P c e p
 
 some_left : (a b : Option (List ℕ)) (bytes : List ℕ) (P : List ℕ → Type 0) → Consumes a b bytes → ((xs : List ℕ) → P (bytes ++ xs)) → IfSome a P
 some_left a b bytes P c h = grind arith
@@ -59,9 +71,15 @@ printed_more status bytes next l n p =
       all = λ ne. let h = p.all ne in (grind (arith, h.0, split), h.1);
     }
 
+-- The bytes that were written are of the listing of every text that begins with those that were read.
+pub record Prints (task : Task) (status : Status) (calls : List Call) (old new : Option (List ℕ)) : Type 0 where
+  pub bytes : List ℕ
+  pub wrote : Appends old new bytes
+  pub lists : (xs : List ℕ) (stop : Stop) → MayCome (stop_of calls) xs stop → IsPrinted status bytes [] (task.lists (text_of task.max (received calls ++ xs) stop))
+
 module _ {R W : Type 0} (reads : R → List ℕ → Result ℕ Error → R → Type 0) (writes : W → List ℕ → Result ℕ Error → W → Type 0) (flushes : W → Result ⊤ Error → W → Type 0)
     (left : R → Option (List ℕ)) (written : W → Option (List ℕ))
-    (read : (buffer : List ℕ) (answer : Result ℕ Error) (r r' : R) → Reads reads buffer answer r r' → ReadConsumes (left r) (left r') answer buffer)
+    (read : (buffer : List ℕ) (answer : Result ℕ Error) (r r' : R) → Reads reads buffer answer r r' → Takes (left r) (left r') answer buffer)
     (write : (bytes : List ℕ) (answer : Result ℕ Error) (w w' : W) → Writes writes bytes answer w w' → Adds (written w) (written w') answer bytes)
     (flush : (answer : Result ⊤ Error) (w w' : W) → Flushes flushes answer w w' → Keeps (written w) (written w')) where
   abbrev Did : List Call → R → R → W → W → Type 0
@@ -93,19 +111,13 @@ module _ {R W : Type 0} (reads : R → List ℕ → Result ℕ Error → R → T
     appended (Flush answer ∷ cs) r r' w w' d rule =
         (0, rw append-nil (Appends-kept (written w) (written d.0) (written w') (sent cs) (appended_all cs r r' w d.0 d.1 (continued known text cs rule.0 rule.1)) (flush answer d.0 w' d.2)))
 
-    pub at_end_of : (cs : List Call) (r r' : R) (w w' : W) → Did cs r r' w w' → ByRule known text cs → stop_of cs ≡ Some End → IsAtEnd (left r')
+    pub at_end_of : (cs : List Call) (r r' : R) (w w' : W) → Did cs r r' w w' → ByRule known text cs → stop_of cs ≡ Some End → IfSome (left r) (λ xs. IsAtEnd (left r'))
     at_end_of [] r r' w w' d rule e = cc
-    at_end_of (Read buffer (Ok zero) ∷ cs) r r' w w' d rule e = (read buffer (Ok zero) d.0 r' d.2).1 refl rule.1
+    at_end_of (Read buffer (Ok zero) ∷ cs) r r' w w' d rule e = known_through (left r) (left d.0) (left r') (received cs) (consumed cs r d.0 w w' d.1) ((read buffer (Ok zero) d.0 r' d.2).1 refl rule.1)
     at_end_of (Read buffer (Ok (suc n)) ∷ cs) r r' w w' d rule e = cc
     at_end_of (Read buffer (Err f) ∷ cs) r r' w w' d rule e = cc
     at_end_of (Write bytes answer ∷ cs) r r' w w' d rule e = at_end_of cs r r' w d.0 d.1 rule.0 e
     at_end_of (Flush answer ∷ cs) r r' w w' d rule e = at_end_of cs r r' w d.0 d.1 rule.0 e
-
-  -- The bytes that were written are of the listing of every text that begins with those that were read.
-  pub record Prints (task : Task) (status : Status) (calls : List Call) (old new : Option (List ℕ)) : Type 0 where
-    pub bytes : List ℕ
-    pub wrote : Appends old new bytes
-    pub lists : (xs : List ℕ) (stop : Stop) → MayCome (stop_of calls) xs stop → IsPrinted status bytes [] (task.lists (text_of task.max (received calls ++ xs) stop))
 
   pub prints : (gathers : Bool) (task : Task) (outcome : Outcome) (r r' : R) (w w' : W) (h : Performs reads writes flushes gathers task outcome r r' w w') → Prints task outcome.status h.calls (written w) (written w')
   prints gathers task outcome r r' w w' h =
@@ -118,7 +130,7 @@ module _ {R W : Type 0} (reads : R → List ℕ → Result ℕ Error → R → T
     pub of_all : (stop : Option Stop) → stop_of calls ≡ stop → stop ≢ Some Failed → IfSome (left r) (λ b. Holds (full_listing c b))
     of_all None is ne = some_left (left r) (left r') (received calls) (λ b. Holds (full_listing c b)) (consumed calls r r' w w' did) (λ xs. holds xs End (rw is tt))
     of_all (Some End) is ne =
-        Consumes-whole (left r) (left r') (received calls) (λ b. Holds (full_listing c b)) (consumed calls r r' w w' did)
+        known_whole (left r) (left r') (received calls) (λ b. Holds (full_listing c b)) (consumed calls r r' w w' did)
         (at_end_of (known_for c) (text_of (max_of c)) calls r r' w w' did rule is) (rw append-nil at (holds [] End (rw is (refl, refl))))
     of_all (Some Failed) is ne = absurd (ne refl)
 

@@ -1,10 +1,10 @@
 -- What a run says of a source and of a sink whose bytes are known.
-use Rattle.std.proofs.Common.{◌≡◌, ◌≢◌, ◌⊎◌, inl, inr, ℕ, zero, suc, Bool, List, [], ◌∷◌, ◌++◌, take, Option, Some, None, Result, Ok, Err, refl, ap, ◌∙◌, sym, append-nil, arith}
-use Rattle.std.proofs.lemmas.List.{append_cancel_left}
+use Rattle.std.proofs.Common.{◌≡◌, ◌≢◌, ◌⊎◌, inl, inr, ℕ, zero, suc, Bool, List, [], ◌∷◌, ◌++◌, take, Option, Some, None, Result, Ok, Err, refl, ap, ◌∙◌, subst, sym, append-nil, arith}
+use Rattle.std.proofs.Math.Seq.{take-length}
 use Rattle.std.proofs.lemmas.Option.{IfSome_then}
 use Rattle.std.specs.Prelude.{IfSome, false, ⊤}
 use Rattle.std.specs.List.{concat}
-use Rattle.std.specs.Io.KnownBytes.{Consumes, Appends, IsAtEnd, Keeps, ReadConsumes}
+use Rattle.std.specs.Io.KnownBytes.{Consumes, Appends, IsAtEnd, Keeps}
 use Rattle.std.proofs.KnownBytes.{Keeps-refl}
 use Rattle.std.specs.declared.io.Error.{Error}
 use Rattle.std.specs.declared.io.ErrorKind.TheVariants.{Interrupted}
@@ -33,13 +33,16 @@ use Rattle.x86_cli.specs.Commands.Program.{EndsAt}
 use Rattle.x86_cli.specs.Commands.Request.{Runs, task_of}
 use Rattle.x86_cli.specs.Commands.Says.{Streams, streams_of, full_listing, taken_listing, Writes as WritesListing, WritesPrefix, OfAll, OfTaken, Makes, Says}
 use Rattle.x86_cli.specs.Listings.Listing.{Listing}
-use Rattle.x86_cli.specs.Listings.Performs.{ByRule, IsLastAt, IsPrinted, Performs}
+use Rattle.x86_cli.specs.Listings.Performs.{ByRule, IsLastAt, IsPrinted, Performs, Task}
 use Rattle.x86_cli.proofs.CommandLemmas.Causes.{some_stop, text_done}
 use Rattle.x86_cli.proofs.CommandLemmas.Ends.{ends_at}
-use Rattle.x86_cli.proofs.CommandLemmas.Known.{Adds, at_end_of, consumed, continued, follows, not_both, of_all, of_taken, prints}
+use Rattle.x86_cli.proofs.CommandLemmas.Known.{Adds, Prints, Takes, at_end_of, consumed, continued, follows, not_both, of_all, of_taken, prints}
 
-none_left : (a b : Option (List ℕ)) (bytes : List ℕ) → Consumes a b bytes → IsAtEnd b → IfSome a (λ xs. b ≡ Some [])
+none_left : (a b : Option (List ℕ)) (bytes : List ℕ) → Consumes a b bytes → IfSome a (λ xs. IsAtEnd b) → IfSome a (λ xs. b ≡ Some [])
 none_left a b bytes c e = grind arith
+
+at_end_left : (a b : Option (List ℕ)) → Consumes a b [] → IfSome a (λ xs. xs ≡ []) → IfSome a (λ xs. IsAtEnd b)
+at_end_left a b c e = grind arith
 
 ends_flush : (status : Status) → status ≢ WriteFault → (cs : List Call) → EndsIn (IsLastAt status) cs → EndsIn IsFlush cs
 ends_flush status ne cs h = grind arith
@@ -66,13 +69,13 @@ module _ {S K : Type 0} (gives : S → Got → S → Type 0) (takes : K → List
   one_flush : (answer : Result ⊤ Error) (k l : K) → Flushes HoldsNothing answer k l → (answer ≡ Ok tt) × (l ≡ k)
   one_flush answer k l = never_again _ _ answer k l (λ u e v h. λ is. cc)
 
-  read_reports : (buffer : List ℕ) (answer : Result ℕ Error) (s t : S) → Reads (ReadsByte gives) buffer answer s t → ReadConsumes (left s) (left t) answer buffer
-  read_reports buffer (Ok zero) s t h = let told = source s got.End t (one_read buffer (Ok zero) s t h) in (told.0, grind (arith, told))
+  read_reports : (buffer : List ℕ) (answer : Result ℕ Error) (s t : S) → Reads (ReadsByte gives) buffer answer s t → Takes (left s) (left t) answer buffer
+  read_reports buffer (Ok zero) s t h = let told = source s got.End t (one_read buffer (Ok zero) s t h) in (told.0, λ _ _. at_end_left (left s) (left t) told.0 told.1)
   read_reports buffer (Ok (suc n)) s t h = let is = one_read buffer (Ok (suc n)) s t h in let told = source s (got.Byte is.0) t is.3 in rw is.1 (rw is.2 told.0, λ e. cc)
   read_reports buffer (Err e) s t h = let told = source s got.Failed t (one_read buffer (Err e) s t h).0 in grind (arith, told)
 
   write_reports : (bytes : List ℕ) (answer : Result ℕ Error) (k l : K) → Writes (PutsPiece takes) bytes answer k l → Adds (written k) (written l) answer bytes
-  write_reports bytes (Ok n) k l h = let is = one_write bytes (Ok n) k l h in let told = sink k bytes (Ok tt) l is.1 in rw is.0 (grind (arith, told))
+  write_reports bytes (Ok n) k l h = let is = one_write bytes (Ok n) k l h in let told = sink k bytes (Ok tt) l is.1 in rw (is.0, take-length bytes) told.0
   write_reports bytes (Err e) k l h = let is = one_write bytes (Err e) k l h in (sink k bytes (Err is.0.0) l is.0.1).0
 
   flush_reports : (answer : Result ⊤ Error) (k l : K) → Flushes HoldsNothing answer k l → Keeps (written k) (written l)
@@ -110,26 +113,41 @@ module _ {S K : Type 0} (gives : S → Got → S → Type 0) (takes : K → List
   sink_rises (Write bytes (Ok n) ∷ cs) s t k l d follow fails = let is = (one_write bytes (Ok n) d.0 l d.2).0 in absurd (omega (arith, is, fails.0, fails.1))
   sink_rises (Write bytes (Err e) ∷ cs) s t k l d follow fails =
       let is = (one_write bytes (Err e) d.0 l d.2).0 in rw (sink_keeps cs s t k d.0 d.1 follow) at (sink d.0 bytes (Err is.0) l is.1).1
-  sink_rises (Flush answer ∷ cs) s t k l d follow fails = let is = (one_flush answer d.0 l d.2).0 in cc
+  sink_rises (Flush (Ok done) ∷ cs) s t k l d follow fails = absurd fails
+  sink_rises (Flush (Err e) ∷ cs) s t k l d follow fails = let is = (one_flush (Err e) d.0 l d.2).0 in cc
+
+  -- the sink's count by how a run ended
+  module _ (task : Task) (outcome : Outcome) (s t : S) (k l : K) (h : Performs (ReadsByte gives) (PutsPiece takes) HoldsNothing false task outcome s t k l) where
+    no_fault : (status : Status) → outcome.status ≡ status → status ≢ WriteFault → others l ≡ others k
+    no_fault status same ne = sink_keeps h.calls s t k l h.did (continued task.known (text_of task.max) h.calls h.rule (λ e. not_both h.calls e (ends_flush status ne h.calls (rw same at h.ends))))
+
+    rose : outcome.status ≡ WriteFault → Rose (others k) (others l)
+    rose same = sink_rises h.calls s t k l h.did (follows task.known (text_of task.max) h.calls h.rule) (rw same at h.ends)
 
   -- `make`
 
   module _ (n : ℕ) (outcome : Outcome) (s t : S) (k l : K) (h : Performs (ReadsByte gives) (PutsPiece takes) HoldsNothing false (task_of (request.Makes n)) outcome s t k l) where
+    made : Prints (task_of (request.Makes n)) outcome.status h.calls (written k) (written l)
     made = prints (ReadsByte gives) (PutsPiece takes) HoldsNothing left written read_reports write_reports flush_reports false (task_of (request.Makes n)) outcome s t k l h
 
-    made_by : (status : Status) → outcome.status ≡ status → (l' : Listing) → l' ≡ made_listing n → IsPrinted status made.bytes [] l' → Makes n status (written k) (written l) (others k) (others l)
-    made_by status same l' is p = ?
+    made_by : (status : Status) → outcome.status ≡ status → IsPrinted status made.bytes [] (made_listing n) → Makes n status (written k) (written l) (others k) (others l)
+    made_by Done same p = (rw (p.whole ∙ ap (λ b. made.bytes ++ b) (p.all (λ e. cc)).0 ∙ append-nil made.bytes) made.wrote, no_fault (task_of (request.Makes n)) outcome s t k l h Done same (λ e. cc))
+    made_by WriteFault same p = (rose (task_of (request.Makes n)) outcome s t k l h same, record { part = made.bytes; more = p.unsent; whole = p.whole; wrote = made.wrote })
+    made_by status same p = let is = (p.all (λ e. cc)).1 in absurd (cc)
 
     pub made_says : Makes n outcome.status (written k) (written l) (others k) (others l)
-    made_says = let one = some_stop (stop_of h.calls) in made_by outcome.status refl (made_listing n) refl (made.lists [] one.0 one.1)
+    made_says = let one = some_stop (stop_of h.calls) in made_by outcome.status refl (made.lists [] one.0 one.1)
 
   -- a command
 
   module _ (c : Command) (outcome : Outcome) (s t : S) (k l : K) (h : Performs (ReadsByte gives) (PutsPiece takes) HoldsNothing false (task_of (request.Reads c)) outcome s t k l) where
+    abbrev old : Streams
     old = streams_of left faults written others s k
 
+    abbrev new : Streams
     new = streams_of left faults written others t l
 
+    printed : Prints (task_of (request.Reads c)) outcome.status h.calls (written k) (written l)
     printed = prints (ReadsByte gives) (PutsPiece takes) HoldsNothing left written read_reports write_reports flush_reports false (task_of (request.Reads c)) outcome s t k l h
 
     read : Consumes (left s) (left t) (received h.calls)
@@ -151,36 +169,30 @@ module _ {S K : Type 0} (gives : S → Got → S → Type 0) (takes : K → List
 
     writes : (status : Status) → outcome.status ≡ status → status ≢ WriteFault → (xs : List ℕ) (stop : Stop) → MayCome (stop_of h.calls) xs stop → WritesListing status old new (listing_for c (text_of (max_of c) (received h.calls ++ xs) stop))
     writes status same ne xs stop may =
-        let p = rw same at (printed.lists xs stop may) in
+        let p = subst (λ status. IsPrinted status printed.bytes [] (listing_for c (text_of (max_of c) (received h.calls ++ xs) stop))) same (printed.lists xs stop may) in
         ((p.all ne).1, rw (p.whole ∙ ap (λ b. printed.bytes ++ b) (p.all ne).0 ∙ append-nil printed.bytes) printed.wrote)
 
     prefix : (xs : List ℕ) (stop : Stop) → MayCome (stop_of h.calls) xs stop → WritesPrefix (written k) (written l) (listing_for c (text_of (max_of c) (received h.calls ++ xs) stop))
     prefix xs stop may = let p = printed.lists xs stop may in record { part = printed.bytes; more = p.unsent; whole = p.whole; wrote = printed.wrote }
 
-    no_fault : (status : Status) → outcome.status ≡ status → status ≢ WriteFault → others l ≡ others k
-    no_fault status same ne = sink_keeps h.calls s t k l h.did (continued (known_for c) (text_of (max_of c)) h.calls h.rule (λ e. not_both h.calls e (ends_flush status ne h.calls (rw same at h.ends))))
-
-    rose : outcome.status ≡ WriteFault → Rose (others k) (others l)
-    rose same = sink_rises h.calls s t k l h.did (follows (known_for c) (text_of (max_of c)) h.calls h.rule) (rw same at h.ends)
-
     write_fault : outcome.status ≡ WriteFault → (stop : Option Stop) → stop_of h.calls ≡ stop → Says WriteFault c old new
-    write_fault same (Some Failed) is = (rose same, inr (part_of (WritesPrefix (written k) (written l)) prefix is))
-    write_fault same stop is = (rose same, inl (all_of (WritesPrefix (written k) (written l)) prefix stop is (λ e. cc)))
+    write_fault same (Some Failed) is = (rose (task_of (request.Reads c)) outcome s t k l h same, inr (part_of (WritesPrefix (written k) (written l)) prefix is))
+    write_fault same stop is = (rose (task_of (request.Reads c)) outcome s t k l h same, inl (all_of (WritesPrefix (written k) (written l)) prefix stop is (λ e. cc)))
 
     by_status : (status : Status) → outcome.status ≡ status → EndsAt status (stop_of h.calls) → Says status c old new
     by_status Usage same ends = absurd ends
     by_status Done same ends = (
       all_of (WritesListing Done old new) (writes Done same (λ e. cc)) (Some End) ends (λ e. cc),
       rw ends at (source_counts c h.calls s t k l h.did h.rule),
-      no_fault Done same (λ e. cc),
+      no_fault (task_of (request.Reads c)) outcome s t k l h Done same (λ e. cc),
       none_left (left s) (left t) (received h.calls) read (at_end_of (ReadsByte gives) (PutsPiece takes) HoldsNothing left written read_reports write_reports flush_reports (known_for c) (text_of (max_of c)) h.calls s t k l h.did h.rule ends),
     )
-    by_status ReadFault same ends = (part_of (WritesListing ReadFault old new) (writes ReadFault same (λ e. cc)) ends, no_fault ReadFault same (λ e. cc))
+    by_status ReadFault same ends = (part_of (WritesListing ReadFault old new) (writes ReadFault same (λ e. cc)) ends, no_fault (task_of (request.Reads c)) outcome s t k l h ReadFault same (λ e. cc))
     by_status WriteFault same ends = write_fault same (stop_of h.calls) refl
     by_status status same ends = (
       all_of (WritesListing status old new) (writes status same (λ e. cc)) (stop_of h.calls) refl ends,
       unfailed_counts (stop_of h.calls) (faults s) (faults t) ends (source_counts c h.calls s t k l h.did h.rule),
-      no_fault status same (λ e. cc),
+      no_fault (task_of (request.Reads c)) outcome s t k l h status same (λ e. cc),
     )
 
     pub says : Says outcome.status c old new

@@ -71,6 +71,9 @@ module _ {W : Type 0} (writes : W → List ℕ → Result ℕ Error → W → Ty
   by_rule_joined known text (Flush answer ∷ cs) ds w w' did f rule d =
       (all_by_rule known text cs ds w did.0 did.1 f rule d, never_failed (cs ++ ds) (all_continue_joined cs ds f d))
 
+pub fresh : (text : TextPosition) (max : ℕ) → text.position ≡ 0 → text.room ≡ max → text.unread ≡ [] → text ≡ record { position = 0; room = max; unread = [] }
+fresh text max position room unread = grind (arith, position, room, unread)
+
 pub read_stop : (buffer : List ℕ) (answer : Result ℕ Error) (cs : List Call) → stop_of (Read buffer answer ∷ cs) ≡ stop_of (Read buffer answer ∷ [])
 read_stop buffer answer cs = grind arith
 
@@ -94,8 +97,20 @@ module _ {R W : Type 0} (reads : R → List ℕ → Result ℕ Error → R → T
     pub lists : (xs : List ℕ) (stop : Stop) → MayCome (stop_of calls) xs stop → at 0 (text_of max (received calls ++ xs) stop) ≡ with_lines lines (at n (rest_after ended w text xs stop))
     pub decided : ended ≡ None → (xs : List ℕ) (stop : Stop) → knows 0 (text_of max (received calls ++ xs) stop) ≡ with_lines lines (knows n (rest_after ended w text xs stop))
 
-  pub live_new : (text : TextPosition) → text ≡ record { position = 0; room = max; unread = [] } → Live [] 0 None [] text [] r v
-  live_new text is = rw is (record { calls = []; did = (refl, refl); rule = tt; unfailed = tt; unstopped = λ _. refl; lines = []; put = refl; each = λ _. (refl, refl); whole = λ xs s _. refl; lists = λ xs s _. refl; decided = λ _ xs s. refl })
+  abbrev pub live_new : (text : TextPosition) → text ≡ record { position = 0; room = max; unread = [] } → Live [] 0 None [] text [] r v
+  live_new text is = record {
+    calls = [];
+    did = (refl, refl);
+    rule = tt;
+    unfailed = tt;
+    unstopped = λ _. refl;
+    lines = [];
+    put = refl;
+    each = λ _. (refl, refl);
+    whole = λ xs s _. rw is refl;
+    lists = λ xs s _. rw is refl;
+    decided = λ _ xs s. rw is refl;
+  }
 
   module _ (image : List ℕ) (n : ℕ) (ended : Option Ending) (w : List ℕ) (text : TextPosition) (held : List ℕ) (r' : R) (v' : W) (s : Live image n ended w text held r' v') where
     -- the same text is left

@@ -22,7 +22,7 @@ use Rattle.x86_cli.specs.declared.listings.listing.Entry.{Entry}
 use Rattle.x86_cli.specs.declared.listings.listing.Entry.TheVariants as entry
 use Rattle.x86_cli.specs.Listings.Sweep.{cut_text, cut_line, sweep_at, before_open, decided, known_sweep_at}
 use Rattle.x86_cli.proofs.ListingLemmas.NextEntry.{no_bytes, few_undecided}
-use Rattle.x86_cli.proofs.ListingLemmas.Progress.{with-with}
+use Rattle.x86_cli.proofs.ListingLemmas.Live.{with-with}
 
 module _ (strict : Bool) where
   sweep-cut : (n len : ℕ) (xs : List ℕ) (e : Ending) (a : Result Instruction DecodeError) → answer_of strict xs ≡ a → cut_length a ≡ len → 0 < len → len ≤ length xs →

@@ -4,7 +4,7 @@ use Rattle.std.specs.declared.io.Error.{Error}
 use Rattle.std.specs.List.{filter, range_with_len}
 use Rattle.x86_layout.specs.Sweeps.Marks.{is_marked}
 use Rattle.x86_streams.specs.declared.outside.sending.WriteFailed.{WriteFailed}
-use Rattle.x86_streams.specs.Outside.Chain.{AllContinue, Call, Calls, EndsIn, Fails, IsGone, received, refused, sent, stop_of}
+use Rattle.x86_streams.specs.Outside.Chain.{AllContinue, Call, Calls, EndsIn, Fails, IsGone, pieces, received, refused, stop_of}
 use Rattle.x86_streams.specs.Outside.Stop.{Stop}
 use Rattle.x86_streams.specs.Text.{Text, text_of}
 use Rattle.x86_streams.specs.Text.Reading.{MayCome}
@@ -43,5 +43,5 @@ pub record ReadsWhole {R W : Type 0} (reads : R → List ℕ → Result ℕ Erro
   pub calls : List Call
   pub did : Calls reads writes flushes calls r r' w w'
   pub rule : ByRule (λ t. at_end t.ending) (text_of max) calls
-  pub none : sent calls ≡ []
+  pub none : pieces calls ≡ []
   pub ends : EndsWhole max result calls

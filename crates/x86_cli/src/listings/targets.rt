@@ -63,8 +63,10 @@ fn read_whole<R, W, O: Input<R> + Output<W>>(
             return Ok(WholeText { image, ending });
         }
         if !window.step() {
-            flush_out(outside, writer)?;
-            window.fill(outside, reader);
+            match flush_out(outside, writer) {
+                Ok(()) => window.fill(outside, reader),
+                Err(failed) => return Err(failed),
+            }
         }
     }
 }

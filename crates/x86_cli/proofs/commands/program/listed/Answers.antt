@@ -6,5 +6,11 @@ pub returns-in-Some-clause-lists : goal.returns-in-Some-clause-lists
 returns-in-Some-clause-lists g c request denotes =
     let same = c.request_of.ensures.every request denotes in grind (arith, c.run.ensures.performs)
 
+pub returns-in-Some-clause-usage : goal.returns-in-Some-clause-usage
+returns-in-Some-clause-usage g c = (
+  λ e. absurd (performs_used _ _ _ _ _ _ _ _ _ _ c.run.ensures.ends c.run.ensures.performs e),
+  λ nothing. absurd (nothing c.in-Some.request c.in-Some.ensures.found),
+)
+
 pub returns-in-Some-clause-nothing : goal.returns-in-Some-clause-nothing
 returns-in-Some-clause-nothing g c e = absurd (performs_used _ _ _ _ _ _ _ _ _ _ c.run.ensures.ends c.run.ensures.performs e)

@@ -1,10 +1,6 @@
 use Rattle.std.proofs.Common.{◌≡◌, ◌<◌, ◌++◌, take, List, ℕ, [], None, refl, arith, ap, sym, ◌∙◌, length, length-drop, rules}
-use Rattle.x86_streams.specs.Text.Reader.{TextPosition}
-use Rattle.x86_cli.proofs.ListingLemmas.Live.{live_new, live_take, live_line, live_unput, live_unsent, live_closes, live_fill}
+use Rattle.x86_cli.proofs.ListingLemmas.Live.{fresh, live_new, live_take, live_line, live_unput, live_unsent, live_closes, live_fill}
 use Rattle.x86_cli.proofs.listings.listing.list.Goals as goal
-
-fresh : (text : TextPosition) (max : ℕ) → text.position ≡ 0 → text.room ≡ max → text.unread ≡ [] → text ≡ record { position = 0; room = max; unread = [] }
-fresh text max position room unread = grind (arith, position, room, unread)
 
 pub lines-init : goal.lines-init
 lines-init g c =

@@ -1,7 +1,9 @@
+use Rattle.std.proofs.Common.{[], Some}
 use Rattle.x86_cli.specs.Listings.Targets.{targets_at}
-use Rattle.x86_cli.proofs.ListingLemmas.Progress.{Progress}
+use Rattle.x86_cli.proofs.ListingLemmas.Live.{Live}
+use Rattle.x86_cli.proofs.ListingLemmas.Whole.{ends_of}
 use Rattle.x86_cli.proofs.listings.targets.targets.Given as goal
 
 abbrev pub invariant-places : goal.invariant-places
 invariant-places g l =
-    Progress g.S.Source.gives g.K.Sink.takes (targets_at l.decoder.strict) l.fn.max l.place (record { image = l.text.image.items; ending = l.text.ending }) l.fn.source l.source l.fn.sink l.sink
+    Live g.O.Input.reads g.O.Output.writes g.O.Output.flushes g.O.Output.gathers (targets_at l.decoder.strict) ends_of l.fn.max l.fn.reader l.fn.writer [] l.place (Some l.text.ending) l.text.image.items (record { position = 0; room = 0; unread = [] }) l.out.bytes.items l.reader l.writer

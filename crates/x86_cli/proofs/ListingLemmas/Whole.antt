@@ -1,0 +1,153 @@
+-- A text that is read to its end before anything is written.
+use Rattle.std.proofs.Common.{◌≡◌, ◌≢◌, ℕ, Bool, false, true, List, [], ◌∷◌, ◌++◌, Option, Some, None, Result, Ok, Err, refl, ap, ◌∙◌, sym, arith, append_assoc, append-nil}
+use Rattle.std.specs.Prelude.{⊤}
+use Rattle.std.specs.List.{concat}
+use Rattle.std.specs.Io.{StartsWith}
+use Rattle.std.specs.declared.io.Error.{Error}
+use Rattle.x86_streams.specs.declared.outside.sending.WriteFailed.{WriteFailed}
+use Rattle.x86_streams.specs.declared.text.reader.Ending.{Ending}
+use Rattle.x86_streams.specs.Outside.Chain.{Call, Read, Write, Flush, EndsIn, Fails, Puts, SendsAll, pieces, received, refused, sent}
+use Rattle.x86_streams.specs.Outside.Stop.{Stop}
+use Rattle.x86_streams.specs.Text.{Text, text_of}
+use Rattle.x86_streams.specs.Text.Reader.{TextPosition}
+use Rattle.x86_streams.specs.Text.Reading.{with_bytes}
+use Rattle.x86_streams.specs.Text.Beginning.{IsOpen}
+use Rattle.x86_streams.specs.Text.Window.{Fills, LeavesRest, rest_after}
+use Rattle.x86_streams.proofs.OutsideLemmas.Calls.{calls_joined, pieces_joined, received_joined, stop_joined}
+use Rattle.x86_streams.proofs.TextLemmas.Text.{with_bytes-with_bytes}
+use Rattle.x86_cli.specs.declared.listings.status.Outcome.{Outcome}
+use Rattle.x86_cli.specs.declared.listings.status.Status.TheVariants.{WriteFault}
+use Rattle.x86_cli.specs.declared.listings.targets.WholeText.{WholeText}
+use Rattle.x86_cli.specs.Listings.Listing.{Listing, at_end}
+use Rattle.x86_cli.specs.Listings.Performs.{Performs}
+use Rattle.x86_cli.specs.Listings.Targets.{ReadsWhole}
+use Rattle.x86_cli.proofs.ListingLemmas.Live.{Live, by_rule_joined, follow_of, live_fill, live_rest, refused_first}
+
+-- what is known of a text that isn't read to its end: how it ends
+abbrev pub ends_of : ℕ → Text → Listing
+ends_of n t = at_end t.ending
+
+never_nil : {A : Type 0} (xs : List A) (x : A) → xs ++ x ∷ [] ≡ [] → ⊥
+never_nil [] x e = cc
+never_nil (y ∷ ys) x e = cc
+
+none_held : (bytes held : List ℕ) → bytes ++ held ≡ [] → held ≡ []
+none_held [] held e = e
+none_held (x ∷ bytes) held e = cc
+
+none_next : (held next : List ℕ) → held ≡ [] → StartsWith held next → next ≡ []
+none_next held [] none h = refl
+none_next held (x ∷ next) none h = let never : [] ≡ x ∷ next = rw none at h in cc
+
+-- where no piece was written, no byte was
+pub none_sent : (cs : List Call) → pieces cs ≡ [] → sent cs ≡ []
+none_sent [] h = refl
+none_sent (Read buffer answer ∷ cs) h = none_sent cs h
+none_sent (Write bytes answer ∷ cs) h = absurd (never_nil (pieces cs) bytes h)
+none_sent (Flush answer ∷ cs) h = none_sent cs h
+
+module _ (ended : Option Ending) (w : List ℕ) (text : TextPosition) (xs : List ℕ) (stop : Stop) where
+  same_end : (w' : List ℕ) → at_end (rest_after ended w text xs stop).ending ≡ at_end (rest_after ended w' text xs stop).ending
+  same_end w' = grind arith
+
+  walked : (image : List ℕ) → with_bytes image (rest_after ended w text xs stop) ≡ with_bytes (image ++ w) (rest_after ended [] text xs stop)
+  walked image = grind (arith, append_assoc {A = ℕ}, append-nil {A = ℕ})
+
+module _ {R W : Type 0} (reads : R → List ℕ → Result ℕ Error → R → Type 0) (writes : W → List ℕ → Result ℕ Error → W → Type 0) (flushes : W → Result ⊤ Error → W → Type 0)
+    (gathers : Bool) (max : ℕ) (r : R) (v : W) where
+  abbrev pub Whole : List ℕ → Option Ending → List ℕ → TextPosition → R → W → Type 0
+  Whole image ended w text r' v' = (s : Live reads writes flushes gathers ends_of ends_of max r v image 0 ended w text [] r' v') × (pieces s.calls ≡ [])
+
+  module _ (image : List ℕ) (ended : Option Ending) (w : List ℕ) (text : TextPosition) (r' : R) (v' : W) (h : Whole image ended w text r' v') where
+    -- the same text is left
+    pub whole_left : (ended' : Option Ending) (w' : List ℕ) (text' : TextPosition) → LeavesRest ended w text ended' w' text' → (ended' ≡ None → ended ≡ None) → Whole image ended' w' text' r' v'
+    whole_left ended' w' text' rest was = (live_rest reads writes flushes gathers ends_of ends_of max r v image 0 ended w text [] r' v' h.0 ended' w' text' rest was, h.1)
+
+    -- the bytes of the window came into the image
+    pub whole_taken : (image' w' : List ℕ) → image' ≡ image ++ w → w' ≡ [] → Whole image' ended w' text r' v'
+    whole_taken image' w' is none =
+        let s = h.0 in
+        rw (is, none) (
+          record {
+            calls = s.calls;
+            did = s.did;
+            rule = s.rule;
+            unfailed = s.unfailed;
+            unstopped = s.unstopped;
+            lines = s.lines;
+            put = s.put;
+            each = s.each;
+            whole = λ xs stop may. s.whole xs stop may ∙ walked ended w text xs stop image;
+            lists = λ xs stop may. s.lists xs stop may ∙ ap (λ l. record { lines = s.lines ++ l.lines; status = l.status }) (same_end ended w text xs stop []);
+            decided = λ e xs stop. s.decided e xs stop ∙ ap (λ l. record { lines = s.lines ++ l.lines; status = l.status }) (same_end ended w text xs stop []);
+          },
+          h.1,
+        )
+
+    -- a flush failed
+    pub whole_unsent : (f : WriteFailed) (held' : List ℕ) (v'' : W) → SendsAll writes flushes (Err f) [] held' v' v'' → ReadsWhole reads writes flushes max (Err f) r r' v v''
+    whole_unsent f held' v'' q = by q.0.calls refl
+      where
+        s : Live reads writes flushes gathers ends_of ends_of max r v image 0 ended w text [] r' v'
+        s = h.0
+
+        by : (cs : List Call) → q.0.calls ≡ cs → ReadsWhole reads writes flushes max (Err f) r r' v v''
+        by [] is = absurd (rw is at q.0.cause)
+        by (c ∷ cs) is = record {
+          calls = c ∷ (cs ++ s.calls);
+          did = calls_joined writes flushes reads (c ∷ cs) s.calls r r' v v' v'' s.did (rw is at q.0.did);
+          rule = by_rule_joined writes flushes (ends_of 0) (text_of max) (c ∷ cs) s.calls v' v'' (rw is at q.0.did) (follow_of {A = ⊤} {E = WriteFailed} (Err f) (c ∷ cs) (rw is at q.0.cause)) s.rule s.unfailed;
+          none = pieces_joined (c ∷ cs) s.calls ∙ ap (λ ps. ps ++ pieces (c ∷ cs)) h.1 ∙ (rw is at (q.2 refl));
+          ends = ((rw is at q.0.cause).0, refused_first c (cs ++ s.calls) cs ∙ none_next held' (refused (c ∷ cs)) (none_held (sent q.0.calls) held' q.0.order) (rw is at q.0.failed).0, (rw is at q.0.failed).1);
+        }
+
+  -- the writer was flushed, and a read was made
+  pub whole_filled : (image w : List ℕ) (text : TextPosition) (r' : R) (v' : W) → Whole image None w text r' v' → (held' : List ℕ) (v'' : W) (ended' : Option Ending) (text' : TextPosition) (r'' : R) → SendsAll writes flushes (Ok tt) [] held' v' v'' →
+      IsOpen text.unread text.room → Fills reads w text ended' text' r' r'' → held' ≡ [] → Whole image ended' w text' r'' v''
+  whole_filled image w text r' v' h held' v'' ended' text' r'' q half f none =
+      let q' : SendsAll writes flushes (Ok tt) [] [] v' v'' = rw none at q in (
+        live_fill reads writes flushes gathers ends_of ends_of max r v image 0 w text [] r' v' h.0 [] v'' ended' text' r'' q' half (λ t needs. ap at_end needs.0) f,
+        pieces_joined q'.0.calls h.0.calls ∙ ap (λ ps. ps ++ pieces q'.0.calls) h.1 ∙ q'.2 refl,
+      )
+
+  -- the text has ended
+  pub whole_read : (image : List ℕ) (e : Ending) (w : List ℕ) (text : TextPosition) (r' : R) (v' : W) (result : WholeText) → Whole image (Some e) w text r' v' → w ≡ [] → result.image.items ≡ image → result.ending ≡ e →
+      ReadsWhole reads writes flushes max (Ok result) r r' v v'
+  whole_read image e w text r' v' result h none same ending = record {
+    calls = h.0.calls;
+    did = h.0.did;
+    rule = h.0.rule;
+    none = h.1;
+    ends = (h.0.unfailed, λ xs stop may. rw (same, ending) (h.0.whole xs stop may ∙ ap (λ i. record { image = i; ending = e }) (ap (λ b. image ++ b) none ∙ append-nil image)));
+  }
+
+  -- the listing of a text that was read
+  pub whole_lists : (at : ℕ → Text → Listing) (text : WholeText) (r' : R) (v' : W) → ReadsWhole reads writes flushes max (Ok text) r r' v v' →
+      Live reads writes flushes gathers at ends_of max r v [] 0 (Some text.ending) text.image.items (record { position = 0; room = 0; unread = [] }) [] r' v'
+  whole_lists at text r' v' h = record {
+    calls = h.calls;
+    did = h.did;
+    rule = h.rule;
+    unfailed = h.ends.0;
+    unstopped = λ e. cc;
+    lines = [];
+    put = append-nil (sent h.calls) ∙ none_sent h.calls h.none;
+    each = λ _. (refl, h.none);
+    whole = λ xs stop may. h.ends.1 xs stop may;
+    lists = λ xs stop may. ap (at 0) (h.ends.1 xs stop may);
+    decided = λ e. cc;
+  }
+
+  pub whole_fails : (at : ℕ → Text → Listing) (f : WriteFailed) (outcome : Outcome) (r' : R) (v' : W) → outcome.status ≡ WriteFault → outcome.gone ≡ f.gone → ReadsWhole reads writes flushes max (Err f) r r' v v' →
+      Performs reads writes flushes gathers (record { max = max; known = ends_of 0; lists = at 0 }) outcome r r' v v'
+  whole_fails at f outcome r' v' status gone h = record {
+    calls = h.calls;
+    did = h.did;
+    rule = h.rule;
+    ends = rw status h.ends.0;
+    gone = rw gone h.ends.2;
+    lists = λ xs stop may.
+        let l = at 0 (text_of max (received h.calls ++ xs) stop) in
+        record { unsent = concat l.lines; whole = rw (none_sent h.calls h.none) refl; next = rw (h.ends.1) refl; all = λ ne. absurd (ne status) };
+    each = λ _ xs stop may. let l = at 0 (text_of max (received h.calls ++ xs) stop) in rw h.none (l.lines, refl);
+  }
