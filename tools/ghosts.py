@@ -16,7 +16,7 @@ import sys
 from pathlib import Path
 
 CRATES = Path(__file__).resolve().parent.parent / "crates"
-PROOFS = {"laws", "total", "matches_eq", "matches_partial_cmp", "reports"}
+PROOFS = {"laws", "total", "matches_eq", "matches_partial_cmp", "reports", "whole"}
 # an implementation with its body, up to the brace below its first letter
 IMPL = re.compile(r"^impl(?:<[^{]*?>)? ([^{]*?) for ([^{]*?)\s*\{\n(.*?)^\}", re.M | re.S)
 MEMBER = re.compile(r"^    ghost (\w+) = ", re.M)

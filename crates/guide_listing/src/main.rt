@@ -7,14 +7,12 @@ ghost use Rattle.x86_decode.specs.Answer.{answer_of};
 ghost use Rattle.x86_lines.specs.Hexadecimal.{hexadecimal};
 ghost use Rattle.x86_text.specs.Lines.{instruction_text};
 
-use arrayvec::ArrayVec;
 use std::io;
+use std::io::{Read, Write};
 use std::process::ExitCode;
 use x86_decode::{DecodeError, InstDecoder, Instruction, laws};
 use x86_lines::hexadecimal::put_hexadecimal;
-use x86_streams::{
-    Ending, Gathered, Piece, Sink, SinkFailed, Source, StdSink, StdSource, TextReader,
-};
+use x86_streams::{Ending, Gathered, Process, Window, WriteFailed};
 use x86_text::{Line, push_instruction};
 
 /// The address that the first byte of the image has.
@@ -62,51 +60,42 @@ fn entry_at(address: u64, bytes: &[u8]) -> Entry
     Entry { line, count }
 }
 
-/// Takes bytes of the text's image until 15 are held, which every instruction fits. It returns how the text ended,
-/// where it did.
-fn fill<S: Source>(
-    held: &mut ArrayVec<u8, 15>,
-    reader: &mut TextReader,
-    source: &mut S,
-) -> Option<Ending> {
-    for _ in held.len()..15 {
-        match reader.next(source) {
-            Piece::Byte(byte) => {
-                let _ = held.try_push(byte);
-            }
-            Piece::Stopped(ending) => return Some(ending),
-        }
-    }
-    None
-}
-
-/// Lists the text of a source. It returns how the text ended.
-fn list<S: Source, K: Sink>(source: &mut S, sink: &mut K) -> Result<Option<Ending>, SinkFailed> {
-    let mut held: ArrayVec<u8, 15> = ArrayVec::new();
-    let mut reader = TextReader::new(u64::MAX);
-    let mut ending = None;
-    let mut address = BASE;
+/// Reads on until 15 bytes of the image are held, which every instruction fits, or the text ends.
+fn read_on<R: Read>(window: &mut Window, reader: &mut R) {
     for _ in 0..u64::MAX {
-        if ending.is_none() {
-            ending = fill(&mut held, &mut reader, source);
-        }
-        if held.is_empty() {
+        window.take_known();
+        if window.bytes.is_full() || window.ended.is_some() {
             break;
         }
-        let entry = entry_at(address, held.as_slice());
-        sink.put(entry.line.as_slice())?;
-        sink.put(b"\n")?;
-        held.drain(..entry.count);
+        if !window.step() {
+            window.fill(&Process, reader);
+        }
+    }
+}
+
+/// Lists the text of a reader. It returns how the text ended.
+fn list<R: Read, W: Write>(reader: &mut R, writer: &mut W) -> Result<Option<Ending>, WriteFailed> {
+    let mut window = Window::new(u64::MAX);
+    let mut out = Gathered::new();
+    let mut address = BASE;
+    for _ in 0..u64::MAX {
+        read_on(&mut window, reader);
+        if window.bytes.is_empty() {
+            break;
+        }
+        let entry = entry_at(address, window.bytes.as_slice());
+        out.put(&Process, writer, entry.line.as_slice())?;
+        out.put(&Process, writer, b"\n")?;
+        window.bytes.leave(entry.count);
         address = address.wrapping_add(entry.count as u64);
     }
-    Ok(ending)
+    out.send_all(&Process, writer)?;
+    Ok(window.ended)
 }
 
 fn main(rt: HostRuntime) -> ExitCode {
-    let mut sink = StdSink::new(Gathered::new(io::writer(&rt)));
-    let listed = list(&mut StdSource::new(rt.reader()), &mut sink);
-    match (listed, sink.send_all()) {
-        (Ok(Some(Ending::Clean)), Ok(())) => ExitCode::from(0),
+    match list(&mut rt.reader(), &mut io::writer(&rt)) {
+        Ok(Some(Ending::Clean)) => ExitCode::from(0),
         _ => ExitCode::from(1),
     }
 }

@@ -1,13 +1,15 @@
-//! Runs over long texts, which sources make.
+//! Runs over long texts, which sources and readers make.
 
-ghost use Rattle.std.specs.Prelude.{None, []};
+ghost use Rattle.std.specs.Prelude.{None};
 ghost use Rattle.x86_streams.specs.Outside.Source.{ReportsGot};
 ghost use Rattle.x86_streams.specs.Outside.Sink.{ReportsPut};
 
-use crate::support::ending;
+use crate::support::{arguments, ending};
 use std::alloc::Global;
+use std::io;
+use std::io::{Read, Write};
 use x86_cli::Status::{Done, TooLarge};
-use x86_cli::{Got, Sink, SinkFailed, Source, Status, TARGETS_MAX, TEXT_MAX};
+use x86_cli::{Got, Process, Sink, SinkFailed, Source, Status, TARGETS_MAX, TEXT_MAX, listed};
 
 /// So many times a unit, then a tail.
 #[derive(Drop)]
@@ -18,18 +20,9 @@ struct Repeated<'a> {
     tail: &'a [u8],
 }
 
-impl Source for Repeated<'_> {
-    ghost left = { λ s. None };
-
-    ghost faults = { λ s. 0 };
-
-    ghost gives = { λ s g t. ReportsGot g None None 0 0 };
-
-    ghost ahead = { λ s. [] };
-
-    ghost reports = { λ s g t h. h };
-
-    fn next(&mut self) -> Got {
+impl Repeated<'_> {
+    /// Takes the next byte.
+    fn take(&mut self) -> Option<u8> {
         if self.left > 0 && self.place < self.unit.len() {
             let byte = self.unit[self.place];
             self.place += 1;
@@ -37,22 +30,41 @@ impl Source for Repeated<'_> {
                 self.place = 0;
                 self.left -= 1;
             }
-            return Got::Byte(byte);
+            return Some(byte);
         }
-        match self.tail.split_first() {
-            Some((first, rest)) => {
-                self.tail = rest;
-                Got::Byte(*first)
-            }
+        let (first, rest) = self.tail.split_first()?;
+        self.tail = rest;
+        Some(*first)
+    }
+}
+
+impl Source for Repeated<'_> {
+    ghost left = { λ s. None };
+
+    ghost faults = { λ s. 0 };
+
+    ghost gives = { λ s g t. ReportsGot g None None 0 0 };
+
+    ghost reports = { λ s g t h. h };
+
+    fn next(&mut self) -> Got {
+        match self.take() {
+            Some(byte) => Got::Byte(byte),
             None => Got::End,
         }
     }
+}
 
-    fn ahead(&self) -> &[u8] {
-        &[]
+impl Read for Repeated<'_> {
+    fn read(&mut self, buf: &mut [u8]) -> io::Result<usize> {
+        for i in 0..buf.len() {
+            match self.take() {
+                Some(byte) => buf[i] = byte,
+                None => return Ok(i),
+            }
+        }
+        Ok(buf.len())
     }
-
-    fn skip(&mut self, _count: usize) {}
 }
 
 /// Counts the pieces, and compares each with what is wanted of the last.
@@ -61,6 +73,13 @@ struct LastPiece<'a> {
     wanted: &'a [u8],
     is_wanted: bool,
     pieces: u64,
+}
+
+impl LastPiece<'_> {
+    fn take(&mut self, piece: &[u8]) {
+        self.is_wanted = piece == self.wanted;
+        self.pieces = self.pieces.saturating_add(1);
+    }
 }
 
 impl Sink for LastPiece<'_> {
@@ -73,14 +92,24 @@ impl Sink for LastPiece<'_> {
     ghost reports = { λ s piece r t h. h };
 
     fn put(&mut self, piece: &[u8]) -> Result<(), SinkFailed> {
-        self.is_wanted = piece == self.wanted;
-        self.pieces = self.pieces.saturating_add(1);
+        self.take(piece);
         Ok(())
     }
 }
 
-/// A run over a long text: the command, the text as so many times a unit and then a tail, how many calls of `put` are
-/// made, what the last of them writes, and how the run ends.
+impl Write for LastPiece<'_> {
+    fn write(&mut self, buf: &[u8]) -> io::Result<usize> {
+        self.take(buf);
+        Ok(buf.len())
+    }
+
+    fn flush(&mut self) -> io::Result<()> {
+        Ok(())
+    }
+}
+
+/// A run over a long text: the command, the text as so many times a unit and then a tail, how many pieces are
+/// written, the last of them, and how the run ends.
 type Run = (
     &'static str,
     (u64, &'static str, &'static str),
@@ -114,47 +143,63 @@ const PAST_THE_LIMIT: &[Run] = &[
     ("list", (67108861, " ", "01d8"), 1, TOO_LONG, TooLarge),
 ];
 
-/// Whether a run is so.
-fn is_run(alloc: Global, (command, (left, unit, tail), pieces, last, status): Run) -> bool {
-    let mut source = Repeated {
+/// The text of a run, and what counts its pieces.
+fn ends_of(
+    (_, (left, unit, tail), pieces, last, _): Run,
+) -> (Repeated<'static>, LastPiece<'static>) {
+    let text = Repeated {
         unit: unit.as_bytes(),
         left,
         place: 0,
         tail: tail.as_bytes(),
     };
-    let mut sink = LastPiece {
+    let listing = LastPiece {
         wanted: last.as_bytes(),
         is_wanted: pieces == 0,
         pieces: 0,
     };
+    (text, listing)
+}
+
+/// Whether a run is so, over a source and a sink.
+fn is_run(alloc: Global, run: Run) -> bool {
+    let (mut source, mut sink) = ends_of(run);
+    let (command, _, pieces, _, status) = run;
     ending(alloc, command, &mut source, &mut sink) == Ok(status)
         && sink.pieces == pieces
         && sink.is_wanted
 }
 
-/// The index of the first run that isn't so.
-fn first_wrong(alloc: Global, runs: &[Run]) -> Option<usize> {
-    for (i, run) in runs.iter().enumerate() {
-        if !is_run(alloc, *run) {
-            return Some(i);
-        }
-    }
-    None
+/// Whether a run is so, over a reader and a writer.
+fn is_listed(alloc: Global, run: Run) -> bool {
+    let (mut reader, mut writer) = ends_of(run);
+    let (command, _, pieces, _, status) = run;
+    let Ok(words) = arguments(alloc, command) else {
+        return false;
+    };
+    let outcome = listed(words.as_slice(), &Process, &mut reader, &mut writer);
+    outcome.status == status && writer.pieces == pieces && writer.is_wanted
 }
 
 #[test]
 fn short_texts(rt: HostRuntime) {
-    assert_eq!(&rt; first_wrong(rt.alloc(), SHORT), None);
+    for (i, run) in SHORT.iter().enumerate() {
+        assert!(&rt; is_run(rt.alloc(), *run), "{i}");
+    }
 }
 
 #[test]
 fn texts_up_to_the_limit(rt: HostRuntime) {
-    assert_eq!(&rt; first_wrong(rt.alloc(), UP_TO_THE_LIMIT), None);
+    for (i, run) in UP_TO_THE_LIMIT.iter().enumerate() {
+        assert!(&rt; is_listed(rt.alloc(), *run), "{i}");
+    }
 }
 
 #[test]
 fn texts_past_the_limit(rt: HostRuntime) {
-    assert_eq!(&rt; first_wrong(rt.alloc(), PAST_THE_LIMIT), None);
+    for (i, run) in PAST_THE_LIMIT.iter().enumerate() {
+        assert!(&rt; is_listed(rt.alloc(), *run), "{i}");
+    }
 }
 
 #[test]

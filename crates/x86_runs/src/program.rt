@@ -4,7 +4,7 @@ use crate::support::{ShortReader, arguments, shows};
 use std::alloc::{AllocError, Global};
 use std::io;
 use std::io::{ErrorKind, Read, Write};
-use x86_cli::{Finished, Status, listed};
+use x86_cli::{Finished, Process, Status, listed};
 
 /// Keeps what it takes, at most so many bytes a write. Each third write is interrupted, and a flush fails if it is to.
 #[derive(Drop)]
@@ -35,13 +35,13 @@ impl Write for ShortWriter {
 }
 
 /// How the program ends with `list` over these.
-fn program_ending<R: Read + Drop, W: Write + Drop>(
+fn program_ending<R: Read, W: Write>(
     alloc: Global,
-    reader: R,
-    writer: W,
-) -> Result<Finished<R, W>, AllocError> {
+    reader: &mut R,
+    writer: &mut W,
+) -> Result<Finished, AllocError> {
     let arguments = arguments(alloc, "list")?;
-    Ok(listed(arguments.as_slice(), reader, writer))
+    Ok(listed(arguments.as_slice(), &Process, reader, writer))
 }
 
 /// A long text, its listing, and the place after it.
@@ -87,15 +87,15 @@ fn lists_whole(alloc: Global, pairs: u64, singles: u64, most: usize) -> bool {
     let Ok(long) = long_text(alloc, pairs, singles) else {
         return false;
     };
-    let writer = ShortWriter {
+    let mut writer = ShortWriter {
         kept: Vec::new(alloc),
         most,
         write: 0,
         flushes: true,
     };
-    match program_ending(alloc, long.text.as_slice(), writer) {
+    match program_ending(alloc, &mut long.text.as_slice(), &mut writer) {
         Ok(end) => {
-            end.status == Status::Done && end.writer.kept.as_slice() == long.listing.as_bytes()
+            end.status == Status::Done && writer.kept.as_slice() == long.listing.as_bytes()
         }
         Err(_) => false,
     }
@@ -118,9 +118,10 @@ fn long_outputs(rt: HostRuntime) {
 }
 
 /// Whether the program over a reader writes these lines, and ends so.
-fn program_shows<R: Read + Drop>(alloc: Global, reader: R, wanted: &str) -> bool {
-    match program_ending(alloc, reader, Vec::new(alloc)) {
-        Ok(end) => shows(alloc, end.writer.as_slice(), Ok(end.status), wanted),
+fn program_shows<R: Read + Drop>(alloc: Global, mut reader: R, wanted: &str) -> bool {
+    let mut written = Vec::new(alloc);
+    match program_ending(alloc, &mut reader, &mut written) {
+        Ok(end) => shows(alloc, written.as_slice(), Ok(end.status), wanted),
         Err(_) => false,
     }
 }
@@ -154,7 +155,7 @@ const FAILING: &[(usize, u64, &str)] = &[
     (1, 4, ONE),
     (1, 5, BOTH),
     (1, 6, WHOLE),
-    // Reads of more than one byte, after which bytes are ahead.
+    // Reads of more than one byte.
     (2, 1, ONE),
     (2, 2, ONE),
     (2, 3, BOTH),
@@ -205,17 +206,14 @@ fn a_read_that_times_out_is_a_fault(rt: HostRuntime) {
 
 /// Whether the listing of this text makes so many reads, where each returns one byte.
 fn makes_reads(alloc: Global, text: &[u8], reads: u64) -> bool {
-    let reader = ShortReader {
+    let mut reader = ShortReader {
         bytes: text,
         most: 1,
         read: 0,
         fails: u64::MAX,
         error: ErrorKind::Other,
     };
-    match program_ending(alloc, reader, Vec::new(alloc)) {
-        Ok(end) => end.reader.read == reads,
-        Err(_) => false,
-    }
+    program_ending(alloc, &mut reader, &mut Vec::new(alloc)).is_ok() && reader.read == reads
 }
 
 /// Texts, each with how many reads its listing makes.
@@ -256,11 +254,15 @@ impl Write for FailingWriter {
     }
 }
 
-/// Whether the writer is called once, and the run ends so.
+/// Whether the writer is called once, and the run ends so: nobody reads on exactly at a broken pipe.
 fn fails_once(alloc: Global, error: ErrorKind) -> bool {
-    let text: &[u8] = b"90";
-    match program_ending(alloc, text, FailingWriter { writes: 0, error }) {
-        Ok(end) => end.status == Status::WriteFault && end.writer.writes == 1,
+    let mut text: &[u8] = b"90";
+    let mut writer = FailingWriter { writes: 0, error };
+    match program_ending(alloc, &mut text, &mut writer) {
+        Ok(end) => {
+            let gone = matches!(error, ErrorKind::BrokenPipe);
+            end.status == Status::WriteFault && end.gone == gone && writer.writes == 1
+        }
         Err(_) => false,
     }
 }
@@ -272,17 +274,18 @@ fn a_failed_write_is_not_tried_again(rt: HostRuntime) {
     assert!(&rt; fails_once(rt.alloc(), ErrorKind::OutOfMemory));
 }
 
-/// Whether the program over a writer whose flush fails writes these lines, and ends so.
+/// Whether the program over a writer whose flush fails reads nothing, writes these lines, and ends so.
 fn unflushed_shows(alloc: Global, wanted: &str) -> bool {
     let text: &[u8] = b"90";
-    let writer = ShortWriter {
+    let mut reader = text;
+    let mut writer = ShortWriter {
         kept: Vec::new(alloc),
         most: usize::MAX,
         write: 0,
         flushes: false,
     };
-    match program_ending(alloc, text, writer) {
-        Ok(end) => shows(alloc, end.writer.kept.as_slice(), Ok(end.status), wanted),
+    match program_ending(alloc, &mut reader, &mut writer) {
+        Ok(end) => reader == text && shows(alloc, writer.kept.as_slice(), Ok(end.status), wanted),
         Err(_) => false,
     }
 }
@@ -296,7 +299,8 @@ fn flushes_that_fail(rt: HostRuntime) {
 #[test]
 fn without_words_nothing_is_read(rt: HostRuntime) {
     let text: &[u8] = b"90";
-    let end = listed(&[], text, Vec::new(rt.alloc()));
-    assert!(&rt; end.status == Status::Usage && end.writer.as_slice().is_empty());
-    assert!(&rt; end.reader == text);
+    let (mut reader, mut written) = (text, Vec::new(rt.alloc()));
+    let end = listed(&[], &Process, &mut reader, &mut written);
+    assert!(&rt; end.status == Status::Usage && written.as_slice().is_empty());
+    assert!(&rt; reader == text);
 }

@@ -5,7 +5,7 @@ use std::alloc::Global;
 use std::io;
 use std::io::{ErrorKind, Write};
 use x86_cli::outside::gathered::Gathered;
-use x86_cli::{ArraySink, NullSink, Sink, SoundSource, Status, StdSink, StdSource};
+use x86_cli::{ArraySink, NullSink, Process, Sink, SoundSource, Status, StdSink, StdSource};
 
 /// Two instructions.
 const TEXT: &[u8] = b"01 d8 01 d8";
@@ -128,16 +128,27 @@ fn a_long_piece(rt: HostRuntime) {
     assert!(&rt; written == [b'x'; 200]);
 }
 
-/// Whether all calls of a sink succeed where its writer has less room than the listing, and the flush fails.
-fn fails_at_its_flush(alloc: Global) -> bool {
-    let mut sink = StdSink::new(Gathered::new(NarrowWriter { room: 30 }));
-    let ended = ending(alloc, "list", &mut StdSource::new(TEXT), &mut sink);
-    ended == Ok(Status::Done) && sink.faults() == 0 && sink.into_writer().send_all().is_err()
+/// A buffer that took the listing's lines, over a writer that has less room than they need.
+fn gathered(writer: &mut NarrowWriter) -> Option<Gathered> {
+    let mut out = Gathered::new();
+    for line in WHOLE.lines() {
+        out.put(&Process, writer, line.as_bytes()).ok()?;
+        out.put(&Process, writer, b"\n").ok()?;
+    }
+    Some(out)
 }
 
 #[test]
-fn a_flush_that_fails(rt: HostRuntime) {
-    assert!(&rt; fails_at_its_flush(rt.alloc()));
+fn a_buffer_that_cannot_be_sent(rt: HostRuntime) {
+    let mut writer = NarrowWriter { room: 30 };
+    let Some(mut out) = gathered(&mut writer) else {
+        panic!(&rt; "a put failed");
+    };
+    assert!(&rt; writer.room == 30);
+    let sent = out.send_all(&Process, &mut writer);
+    // What the writer didn't take is left, and a writer that takes nothing isn't gone.
+    assert!(&rt; matches!(sent, Err(failed) if !failed.gone));
+    assert!(&rt; out.bytes.as_slice() == &WHOLE.as_bytes()[30..]);
 }
 
 #[test]
