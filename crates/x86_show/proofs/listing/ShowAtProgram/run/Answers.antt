@@ -11,8 +11,8 @@ end_status (Bad n) = (λ e. cc, λ e. cc)
 end_status Large = (λ e. cc, λ e. cc)
 end_status Fault = (λ e. cc, λ e. cc)
 
-pub returns-clause-lives : goal.returns-clause-lives
-returns-clause-lives g c = rw c.default-decoder.ensures at c.list.ensures
+pub returns-clause-performs : goal.returns-clause-performs
+returns-clause-performs g c = rw c.default-decoder.ensures at c.list.ensures
 
 pub returns-clause-ends : goal.returns-clause-ends
 returns-clause-ends g c = λ t. end_status t.ending
