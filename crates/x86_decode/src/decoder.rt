@@ -37,7 +37,8 @@ fn make_invalid(inst: &mut Instruction)
 }
 
 /// The encoding by the line of its row, where it has no legacy prefix and its opcode byte follows nothing or 0F; else
-/// what is left of the row, or an error. A legacy prefix and the beginning of a longer escape have no row.
+/// what is left of the row, or an error. An error says only that this walk can't go on: a legacy prefix and the beginning
+/// of a longer escape have no row.
 #[inline(always)]
 fn read_plain<T: ReadIf>(reader: &mut T, inst: &mut Instruction) -> Result<Rest, DecodeError>
     requires { inst.old ≡ invalid_instruction }
@@ -64,9 +65,9 @@ fn read_plain<T: ReadIf>(reader: &mut T, inst: &mut Instruction) -> Result<Rest,
 
 /// The walk within the first fifteen bytes of a slice, into a blank instruction.
 ///
-/// Most encodings have no legacy prefix, and their opcode byte follows nothing or 0F. Where fifteen bytes are there, these
-/// are read first: their number is a constant, and no such encoding has more, so no read tests for an end. What that
-/// leaves is walked from the beginning.
+/// Most encodings have no legacy prefix, and their opcode byte follows nothing or 0F. Where fifteen bytes are there,
+/// `read_plain` is tried first on these fifteen: their number is a constant, and no such encoding has more, so no read
+/// tests for an end. Whatever it refuses is walked from the beginning.
 #[inline(always)]
 fn walk_slice(strict: bool, bytes: &[u8], inst: &mut Instruction) -> Result<(), DecodeError>
     requires { inst.old ≡ invalid_instruction }

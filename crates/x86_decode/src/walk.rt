@@ -154,7 +154,8 @@ fn walk_bounded<'a, W: Words, T: Reader<u64, u8>, K: Start>(
     }
 }
 
-/// The refusal where fifteen bytes were there, or fewer.
+/// The refusal of a walk that saw at most fifteen bytes. Where all fifteen were there (`full`), one that needs more is
+/// `TooLong`.
 fn error_at_limit(error: DecodeError, full: bool) -> DecodeError
     ensures { result ≡ error_at_limit error full }
 {
@@ -164,7 +165,7 @@ fn error_at_limit(error: DecodeError, full: bool) -> DecodeError
     }
 }
 
-/// The walk within fifteen bytes or fewer, into a blank instruction. They are the first of any bytes.
+/// The walk over the first fifteen bytes of an input, or over all where there are fewer, into a blank instruction.
 #[inline(never)]
 pub fn walk_rarely(strict: bool, within: &[u8], inst: &mut Instruction) -> Result<(), DecodeError>
     requires { inst.old ≡ invalid_instruction }

@@ -15,7 +15,7 @@ const ENOUGH: usize = 256;
 /// Room for the bytes that are read at once, and for those before them.
 const ROOM: usize = 320;
 
-/// Bytes of an image. Those before `start` were let go.
+/// Bytes of an image: those from `start` to `end`. Those before were let go, and the rest is room.
 #[derive(Drop)]
 pub struct ImageBytes {
     values: [u8; ROOM],

@@ -145,8 +145,8 @@ fn after_blank(text: &[u8], at: usize) -> usize
     }
 }
 
-/// Reads pairs from a position on, and the blanks between them, up to the end of the line. It returns how many bytes
-/// there are then, at most so many, and the position.
+/// Reads pairs from a position on, and the blanks between them, up to the end of the line, until there are `most` bytes.
+/// It returns how many there are then, and the position.
 #[inline(always)]
 fn read_line(
     text: &[u8],
