@@ -40,7 +40,7 @@ use crate::commands::request::Request;
 use crate::listings::fields::FieldLines;
 use crate::listings::line::{Lines, Plain};
 use crate::listings::listing::{Course, UpToRefusal};
-use crate::listings::status::{Outcome, Status};
+use crate::listings::status::{Finished, Status};
 use crate::listings::sweep::PastRefusals;
 use crate::listings::tightening::LeastLines;
 use std::io::{Read, Write};
@@ -57,7 +57,7 @@ pub fn headline<S: Source, K: Sink, R: Read, W: Write>()
         → Runs S.gives K.takes (Request.Reads c) status a b k l
         → Says status c (streams_of S.left S.faults K.written K.faults a k)
         (streams_of S.left S.faults K.written K.faults b l) }
-    ensures program { (c : Command) (outcome : Outcome) (r r' : R) (w w' : W) →
+    ensures program { (c : Command) (outcome : Finished) (r r' : R) (w w' : W) →
         Performs ⟦<Process as Input<R>>⟧.reads ⟦<Process as Output<W>>⟧.writes
         ⟦<Process as Output<W>>⟧.flushes true (task_of (Request.Reads c)) outcome r r' w w'
         → Leaves outcome.status c (R.remaining r) (W.contents w) (W.contents w') }
@@ -200,7 +200,7 @@ pub fn complete()
 /// last read answered an error, `Refused`, `BadText` and `TooLarge` only where none did. So it is of the calls of a
 /// source.
 pub fn ends<R, W, O: Input<R> + Output<W>, S: Source, K: Sink>()
-    ensures listed { (c : Command) (outcome : Outcome) (r r' : R) (w w' : W)
+    ensures listed { (c : Command) (outcome : Finished) (r r' : R) (w w' : W)
         → (h : Performs O.reads O.writes O.flushes O.gathers (task_of (Request.Reads c)) outcome
         r r' w w')
         → EndsAt outcome.status (stop_of h.calls) }
@@ -212,11 +212,11 @@ pub fn ends<R, W, O: Input<R> + Output<W>, S: Source, K: Sink>()
 /// What `listed` leaves, where the bytes that the reader has left and those that the writer has are known: the
 /// writer has what it had and then the listing of these bytes, or a prefix of that where a write failed.
 pub fn program<R: Read, W: Write>()
-    ensures lists { (c : Command) (outcome : Outcome) (r r' : R) (w w' : W) →
+    ensures lists { (c : Command) (outcome : Finished) (r r' : R) (w w' : W) →
         Performs ⟦<Process as Input<R>>⟧.reads ⟦<Process as Output<W>>⟧.writes
         ⟦<Process as Output<W>>⟧.flushes true (task_of (Request.Reads c)) outcome r r' w w'
         → Leaves outcome.status c (R.remaining r) (W.contents w) (W.contents w') }
-    ensures made { (n : ℕ) (outcome : Outcome) (r r' : R) (w w' : W) →
+    ensures made { (n : ℕ) (outcome : Finished) (r r' : R) (w w' : W) →
         Performs ⟦<Process as Input<R>>⟧.reads ⟦<Process as Output<W>>⟧.writes
         ⟦<Process as Output<W>>⟧.flushes true (task_of (Request.Makes n)) outcome r r' w w'
         → Has outcome.status (made_listing n) (W.contents w) (W.contents w') }

@@ -23,7 +23,7 @@ pub use commands::make::generate;
 pub use commands::process::{finish, words};
 pub use commands::program::{Program, listed, run};
 pub use commands::request::{Request, USAGE};
-pub use listings::status::{Outcome, Status};
+pub use listings::status::{Finished, Status};
 pub use x86_streams::{
     ArraySink, Got, NullSink, OneByOne, Process, Sink, SinkFailed, SliceSource, SoundSource, Source,
     StdSink, StdSource, outside,

@@ -11,7 +11,7 @@ use x86_cli::laws::decoder_laws;
 use x86_cli::listings::listing::{Course, Entry, length_of, list};
 use x86_cli::listings::sweep::shown_at;
 use x86_cli::text::window::AtRefusal;
-use x86_cli::{Outcome, Program};
+use x86_cli::{Finished, Program};
 use x86_decode::laws::lengths;
 use x86_decode::{DecodeError, InstDecoder, Instruction};
 use x86_lines::cells::{put_bytes, put_first};
@@ -112,7 +112,7 @@ impl Program for ShowAt {
         outside: &O,
         reader: &mut R,
         writer: &mut W,
-    ) -> Outcome {
+    ) -> Finished {
         let decoder = InstDecoder::default();
         list(&decoder, self, u64::MAX / 4, outside, reader, writer)
     }

@@ -11,7 +11,7 @@ ghost use Rattle.x86_show.specs.Listing.{showing};
 use crate::listing::ShowAt;
 use std::process::ExitCode;
 use x86_cli::commands::process::report;
-use x86_cli::{Outcome, Program, Status};
+use x86_cli::{Finished, Program, Status};
 use x86_lines::cells::put_bytes;
 use x86_streams::{Input, Output};
 
@@ -52,7 +52,7 @@ pub fn shown<R, W, O: Input<R> + Output<W>>(
     outside: &O,
     reader: &mut R,
     writer: &mut W,
-) -> Outcome
+) -> Finished
     ensures performs { IfSome (base_in (map string_bytes words.now))
         (λ base. Performs O.reads O.writes O.flushes O.gathers (showing base) result
         reader.old reader.new writer.old writer.new) }
@@ -62,7 +62,7 @@ pub fn shown<R, W, O: Input<R> + Output<W>>(
 {
     match base_in(words) {
         Some(base) => ShowAt { base }.run(outside, reader, writer),
-        None => Outcome {
+        None => Finished {
             status: Status::Usage,
             gone: false,
         },
@@ -70,7 +70,7 @@ pub fn shown<R, W, O: Input<R> + Output<W>>(
 }
 
 /// How the process ends. The usage line, or `write fault` unless nobody reads it, is written to `errors`.
-pub fn finish<E, O: Output<E>>(outcome: Outcome, output: &O, errors: &mut E) -> ExitCode
+pub fn finish<E, O: Output<E>>(outcome: Finished, output: &O, errors: &mut E) -> ExitCode
     ensures code { exit_status result ≡ code outcome.status }
     ensures says { Reports O.writes O.flushes (said outcome.status outcome.gone)
         errors.old errors.new }

@@ -1,6 +1,6 @@
 //! Laws of hex text, and of what calls of sources, sinks, readers and writers say.
 
-ghost use Rattle.std.specs.Prelude.{◌≡◌, ◌↔◌, ℕ, IsTrue, List, [], Some, None, Result, drop, ⊤};
+ghost use Rattle.std.specs.Prelude.{◌≡◌, ◌↔◌, ℕ, IsTrue, List, [], Some, None, Result, drop, false, true, ⊤};
 ghost use Rattle.std.specs.Io.KnownBytes.{Keeps, ReadConsumes, WriteAppends, prepend_known};
 ghost use Rattle.std.specs.declared.io.Error.{Error};
 ghost use Rattle.x86_streams.specs.Outside.ArraySink.{PutByNumber};
@@ -64,10 +64,14 @@ pub fn sources_of_readers<R: Read + Drop>()
         ≡ prepend_known (source_bytes s) (R.remaining (source_reader s)) }
 {}
 
-/// The sink over a writer has what the writer has.
+/// The sink over a writer has what the writer has, and a put appends its piece to that or fails.
 pub fn sinks_of_writers<W: Write + Drop>()
-    ensures { (k : StdSink W) →
+    ensures bytes { (k : StdSink W) →
         ⟦<StdSink<W> as Sink>⟧.written k ≡ W.contents (sink_writer k) }
+    ensures takes { (k l : StdSink W) (piece : List ℕ) (r : Result ⊤ SinkFailed) →
+        ⟦<StdSink<W> as Sink>⟧.takes k piece r l →
+        ReportsPut r piece (W.contents (sink_writer k)) (W.contents (sink_writer l))
+        (⟦<StdSink<W> as Sink>⟧.faults k) (⟦<StdSink<W> as Sink>⟧.faults l) }
 {}
 
 /// A read of the process takes the next of the bytes that std's contract says are left.
@@ -78,16 +82,17 @@ pub fn readers<R: Read>()
 {}
 
 /// A write of the process appends the bytes that it took to those that std's contract says are written, and a flush
-/// none.
+/// none. Pieces are gathered before a write.
 pub fn writers<W: Write>()
     ensures writes { (s t : W) (bytes : List ℕ) (r : Result ℕ Error) →
         ⟦<Process as Output<W>>⟧.writes s bytes r t
         → WriteAppends (W.contents s) (W.contents t) r bytes }
     ensures flushes { (s t : W) (r : Result ⊤ Error) →
         ⟦<Process as Output<W>>⟧.flushes s r t → Keeps (W.contents s) (W.contents t) }
+    ensures gathers { ⟦<Process as Output<W>>⟧.gathers ≡ true }
 {}
 
-/// One by one, a read is a call of the source, a write a put, and a flush nothing.
+/// One by one, a read is a call of the source, a write a put, and a flush nothing. No piece is gathered.
 pub fn one_by_one<S: Source, K: Sink>()
     ensures reads { (s t : S) (buffer : List ℕ) (r : Result ℕ Error) →
         ⟦<OneByOne as Input<S>>⟧.reads s buffer r t → ReadsByte S.gives s buffer r t }
@@ -95,6 +100,7 @@ pub fn one_by_one<S: Source, K: Sink>()
         ⟦<OneByOne as Output<K>>⟧.writes k bytes r l → PutsPiece K.takes k bytes r l }
     ensures flushes { (k l : K) (r : Result ⊤ Error) →
         ⟦<OneByOne as Output<K>>⟧.flushes k r l → HoldsNothing k r l }
+    ensures gathers { ⟦<OneByOne as Output<K>>⟧.gathers ≡ false }
 {}
 
 /// The bytes of a `NullSink` aren't known, and none of its puts fails.

@@ -5,7 +5,7 @@ use Rattle.std.specs.declared.io.Error.{Error}
 use Rattle.x86_cli.specs.declared.commands.command.Command.{Command}
 use Rattle.x86_cli.specs.declared.commands.request.Request.{Request}
 use Rattle.x86_cli.specs.declared.commands.request.Request.TheVariants.{Reads, Makes}
-use Rattle.x86_cli.specs.declared.listings.status.Outcome.{Outcome}
+use Rattle.x86_cli.specs.declared.listings.status.Finished.{Finished}
 use Rattle.x86_cli.specs.declared.listings.status.Status.{Status}
 use Rattle.x86_cli.specs.declared.listings.status.Status.TheVariants.{Done, Usage, Refused, ReadFault, WriteFault}
 use Rattle.x86_streams.specs.Outside.Chain.{Call, Read, Write, Flush, received, stop_of}
@@ -39,7 +39,7 @@ module _ (c : Command) (bytes : List ℕ) (stop : Option Stop) (failed : stop �
       let same : ReadFault ≡ status = sym (failed e) ∙ is in cc
 
 module _ {R W : Type 0} (reads : R → List ℕ → Result ℕ Error → R → Type 0) (writes : W → List ℕ → Result ℕ Error → W → Type 0) (flushes : W → Result ⊤ Error → W → Type 0)
-    (gathers : Bool) (c : Command) (outcome : Outcome) (r r' : R) (w w' : W) (h : Performs reads writes flushes gathers (task_of (Reads c)) outcome r r' w w') where
+    (gathers : Bool) (c : Command) (outcome : Finished) (r r' : R) (w w' : W) (h : Performs reads writes flushes gathers (task_of (Reads c)) outcome r r' w w') where
   pub ends_at : EndsAt outcome.status (stop_of h.calls)
   ends_at = run_ends c (received h.calls) (stop_of h.calls) (fault_listed c h.calls h.rule) outcome.status (λ xs s may ne. sym ((h.lists xs s may).all ne).1)
 
@@ -50,7 +50,7 @@ module _ {R W : Type 0} (reads : R → List ℕ → Result ℕ Error → R → T
       let ends = sym ((h.lists [] one.0 one.1).all (λ f. let g : Refused ≡ WriteFault = sym e ∙ f in cc)).1 ∙ e in grind arith
 
 -- What ends with a listing's status is no mistake of usage.
-pub performs_used : {R W : Type 0} (reads : R → List ℕ → Result ℕ Error → R → Type 0) (writes : W → List ℕ → Result ℕ Error → W → Type 0) (flushes : W → Result ⊤ Error → W → Type 0) (gathers : Bool) (task : Task) (outcome : Outcome) (r r' : R) (w w' : W) →
+pub performs_used : {R W : Type 0} (reads : R → List ℕ → Result ℕ Error → R → Type 0) (writes : W → List ℕ → Result ℕ Error → W → Type 0) (flushes : W → Result ⊤ Error → W → Type 0) (gathers : Bool) (task : Task) (outcome : Finished) (r r' : R) (w w' : W) →
     ((text : Text) → IsEnd (task.lists text).status) → Performs reads writes flushes gathers task outcome r r' w w' → outcome.status ≢ Usage
 performs_used reads writes flushes gathers task outcome r r' w w' ends h e =
     let one = some_stop (stop_of h.calls) in

@@ -7,10 +7,10 @@ use Rattle.std.specs.declared.io.Error.{Error}
 use Rattle.std.specs.Io.KnownBytes.{Keeps, Consumes, Appends, IsAtEnd}
 use Rattle.std.proofs.KnownBytes.{Consumes-nil, Consumes-trans, Consumes-kept, Appends-nil, Appends-trans, Appends-kept, Consumes-whole, starts_with_rest}
 use Rattle.x86_cli.specs.declared.commands.command.Command.{Command}
-use Rattle.x86_cli.specs.declared.listings.status.Outcome.{Outcome}
+use Rattle.x86_cli.specs.declared.listings.status.Finished.{Finished}
 use Rattle.x86_cli.specs.declared.listings.status.Status.{Status}
 use Rattle.x86_cli.specs.declared.listings.status.Status.TheVariants.{WriteFault}
-use Rattle.x86_streams.specs.Outside.Chain.{Call, Read, Write, Flush, AllContinue, Calls, EndsIn, Fails, Flushes, Follow, IsFlush, Reads, Writes, received, refused, sent, stop_of, taken_by}
+use Rattle.x86_streams.specs.Outside.Chain.{Call, Read, Write, Flush, AllContinue, Calls, EndsIn, Fails, FlushesOnce, Follow, IsFlush, ReadsOnce, WritesOnce, received, not_taken, sent, stop_of, taken_by}
 use Rattle.x86_streams.specs.Outside.Stop.{Stop, End, Failed}
 use Rattle.x86_streams.specs.Text.{Text, text_of}
 use Rattle.x86_streams.specs.Text.Reading.{MayCome}
@@ -79,9 +79,9 @@ pub record Prints (task : Task) (status : Status) (calls : List Call) (old new :
 
 module _ {R W : Type 0} (reads : R → List ℕ → Result ℕ Error → R → Type 0) (writes : W → List ℕ → Result ℕ Error → W → Type 0) (flushes : W → Result ⊤ Error → W → Type 0)
     (left : R → Option (List ℕ)) (written : W → Option (List ℕ))
-    (read : (buffer : List ℕ) (answer : Result ℕ Error) (r r' : R) → Reads reads buffer answer r r' → Takes (left r) (left r') answer buffer)
-    (write : (bytes : List ℕ) (answer : Result ℕ Error) (w w' : W) → Writes writes bytes answer w w' → Adds (written w) (written w') answer bytes)
-    (flush : (answer : Result ⊤ Error) (w w' : W) → Flushes flushes answer w w' → Keeps (written w) (written w')) where
+    (read : (buffer : List ℕ) (answer : Result ℕ Error) (r r' : R) → ReadsOnce reads buffer answer r r' → Takes (left r) (left r') answer buffer)
+    (write : (bytes : List ℕ) (answer : Result ℕ Error) (w w' : W) → WritesOnce writes bytes answer w w' → Adds (written w) (written w') answer bytes)
+    (flush : (answer : Result ⊤ Error) (w w' : W) → FlushesOnce flushes answer w w' → Keeps (written w) (written w')) where
   abbrev Did : List Call → R → R → W → W → Type 0
   Did = Calls reads writes flushes
 
@@ -100,7 +100,7 @@ module _ {R W : Type 0} (reads : R → List ℕ → Result ℕ Error → R → T
   appended_all (Flush answer ∷ cs) r r' w w' d ok = Appends-kept (written w) (written d.0) (written w') (sent cs) (appended_all cs r r' w d.0 d.1 ok.1) (flush answer d.0 w' d.2)
 
   module _ (known : Text → Listing) (text : List ℕ → Stop → Text) where
-    appended : (cs : List Call) (r r' : R) (w w' : W) → Did cs r r' w w' → ByRule known text cs → (n : ℕ) × Appends (written w) (written w') (sent cs ++ take n (refused cs))
+    appended : (cs : List Call) (r r' : R) (w w' : W) → Did cs r r' w w' → ByRule known text cs → (n : ℕ) × Appends (written w) (written w') (sent cs ++ take n (not_taken cs))
     appended [] r r' w w' d rule = (0, rw (d.1) (Appends-nil (written w)))
     appended (Read buffer answer ∷ cs) r r' w w' d rule = (0, rw append-nil (appended_all (Read buffer answer ∷ cs) r r' w w' d (continued known text (Read buffer answer ∷ cs) rule (λ e. e))))
     appended (Write bytes (Ok n) ∷ cs) r r' w w' d rule =
@@ -119,10 +119,10 @@ module _ {R W : Type 0} (reads : R → List ℕ → Result ℕ Error → R → T
     at_end_of (Write bytes answer ∷ cs) r r' w w' d rule e = at_end_of cs r r' w d.0 d.1 rule.0 e
     at_end_of (Flush answer ∷ cs) r r' w w' d rule e = at_end_of cs r r' w d.0 d.1 rule.0 e
 
-  pub prints : (gathers : Bool) (task : Task) (outcome : Outcome) (r r' : R) (w w' : W) (h : Performs reads writes flushes gathers task outcome r r' w w') → Prints task outcome.status h.calls (written w) (written w')
+  pub prints : (gathers : Bool) (task : Task) (outcome : Finished) (r r' : R) (w w' : W) (h : Performs reads writes flushes gathers task outcome r r' w w') → Prints task outcome.status h.calls (written w) (written w')
   prints gathers task outcome r r' w w' h =
       let more = appended task.known (text_of task.max) h.calls r r' w w' h.did h.rule in
-      record { bytes = sent h.calls ++ take more.0 (refused h.calls); wrote = more.1; lists = λ xs stop may. printed_more outcome.status (sent h.calls) (refused h.calls) _ more.0 (h.lists xs stop may) }
+      record { bytes = sent h.calls ++ take more.0 (not_taken h.calls); wrote = more.1; lists = λ xs stop may. printed_more outcome.status (sent h.calls) (not_taken h.calls) _ more.0 (h.lists xs stop may) }
 
   -- of the listing of all the bytes that the reader had left, or of those that were read before a fault
   module _ (c : Command) (calls : List Call) (r r' : R) (w w' : W) (did : Did calls r r' w w') (rule : ByRule (known_for c) (text_of (max_of c)) calls) (Holds : Listing → Type 0)

@@ -7,11 +7,10 @@ use Rattle.std.specs.Io.KnownBytes.{Keeps, ReadConsumes, WriteAppends}
 use Rattle.std.proofs.KnownBytes.{Appends-nil, Appends-kept}
 use Rattle.x86_cli.specs.declared.commands.command.Command.{Command}
 use Rattle.x86_cli.specs.declared.commands.request.Request.TheVariants.{Reads, Makes}
-use Rattle.x86_cli.specs.declared.listings.status.Outcome.{Outcome}
+use Rattle.x86_cli.specs.declared.listings.status.Finished.{Finished}
 use Rattle.x86_cli.specs.declared.listings.status.Status.{Status}
 use Rattle.x86_cli.specs.declared.listings.status.Status.TheVariants.{Done, Usage, ReadFault, WriteFault}
-use Rattle.x86_streams.specs.Outside.Chain.{Writes, received, stop_of}
-use Rattle.x86_streams.specs.Outside.Chain.{Reads as ReadsOnce}
+use Rattle.x86_streams.specs.Outside.Chain.{ReadsOnce, WritesOnce, received, stop_of}
 use Rattle.x86_streams.specs.Outside.Stop.{Stop, End, Failed}
 use Rattle.x86_streams.proofs.OutsideLemmas.Calls.{read_consumes, write_appends, flush_keeps}
 use Rattle.x86_cli.specs.Commands.Make.{made_listing}
@@ -35,17 +34,17 @@ module _ {R W : Type 0} (left : R → Option (List ℕ)) (written : W → Option
   takes : (buffer : List ℕ) (answer : Result ℕ Error) (r r' : R) → ReadsOnce reads buffer answer r r' → Takes (left r) (left r') answer buffer
   takes buffer answer r r' h = let told = read_consumes left buffer answer r r' h in grind (arith, told)
 
-  adds : (bytes : List ℕ) (answer : Result ℕ Error) (w w' : W) → Writes writes bytes answer w w' → Adds (written w) (written w') answer bytes
+  adds : (bytes : List ℕ) (answer : Result ℕ Error) (w w' : W) → WritesOnce writes bytes answer w w' → Adds (written w) (written w') answer bytes
   adds bytes (Ok n) w w' h = write_appends written bytes (Ok n) w w' h
   adds bytes (Err e) w w' h = (0, Appends-kept (written w) (written w) (written w') [] (Appends-nil (written w)) (write_appends written bytes (Err e) w w' h))
 
-  pub make_leaves : (n : ℕ) (outcome : Outcome) (r r' : R) (w w' : W) → Performs reads writes keeps true (task_of (Makes n)) outcome r r' w w' → Has outcome.status (made_listing n) (written w) (written w')
+  pub make_leaves : (n : ℕ) (outcome : Finished) (r r' : R) (w w' : W) → Performs reads writes keeps true (task_of (Makes n)) outcome r r' w w' → Has outcome.status (made_listing n) (written w) (written w')
   make_leaves n outcome r r' w w' h =
       let p = prints reads writes keeps left written takes adds (flush_keeps written) true (task_of (Makes n)) outcome r r' w w' h in
       let one = some_stop (stop_of h.calls) in
       (p.bytes, p.lists [] one.0 one.1, p.wrote)
 
-  module _ (c : Command) (outcome : Outcome) (r r' : R) (w w' : W) (h : Performs reads writes keeps true (task_of (Reads c)) outcome r r' w w') where
+  module _ (c : Command) (outcome : Finished) (r r' : R) (w w' : W) (h : Performs reads writes keeps true (task_of (Reads c)) outcome r r' w w') where
     printed : Prints (task_of (Reads c)) outcome.status h.calls (written w) (written w')
     printed = prints reads writes keeps left written takes adds (flush_keeps written) true (task_of (Reads c)) outcome r r' w w' h
 

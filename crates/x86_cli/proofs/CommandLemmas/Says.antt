@@ -12,7 +12,7 @@ use Rattle.std.specs.IoError.{error_kind}
 use Rattle.x86_streams.specs.declared.outside.source.Got.{Got}
 use Rattle.x86_streams.specs.declared.outside.source.Got.TheVariants as got
 use Rattle.x86_streams.specs.declared.outside.sink.SinkFailed.{SinkFailed}
-use Rattle.x86_streams.specs.Outside.Chain.{Call, Read, Write, Flush, AllContinue, Answers, Calls, EndsIn, Fails, Flushes, Follow, Interruptions, IsFlush, Reads, Writes, received, stop_of}
+use Rattle.x86_streams.specs.Outside.Chain.{Call, Read, Write, Flush, AllContinue, Uninterrupted, Calls, EndsIn, Fails, FlushesOnce, Follow, Interruptions, IsFlush, ReadsOnce, WritesOnce, received, stop_of}
 use Rattle.x86_streams.specs.Outside.FaultCounts.{Rose}
 use Rattle.x86_streams.specs.Outside.OneByOne.{HoldsNothing, PutsPiece, ReadsByte}
 use Rattle.x86_streams.specs.Outside.Sink.{ReportsPut}
@@ -22,7 +22,7 @@ use Rattle.x86_streams.specs.Text.{text_of}
 use Rattle.x86_streams.specs.Text.Reading.{MayCome}
 use Rattle.x86_cli.specs.declared.commands.command.Command.{Command}
 use Rattle.x86_cli.specs.declared.commands.request.Request.TheVariants as request
-use Rattle.x86_cli.specs.declared.listings.status.Outcome.{Outcome}
+use Rattle.x86_cli.specs.declared.listings.status.Finished.{Finished}
 use Rattle.x86_cli.specs.declared.listings.status.Status.{Status}
 use Rattle.x86_cli.specs.declared.listings.status.Status.TheVariants.{Done, Usage, Refused, ReadFault, WriteFault}
 use Rattle.x86_cli.specs.DecoderLaws.{DecoderLaws}
@@ -49,7 +49,7 @@ ends_flush status ne cs h = grind arith
 
 -- a call of a source or of a sink is never interrupted
 never_again : {O A : Type 0} (tries : O → Error → O → Type 0) (call : O → Result A Error → O → Type 0) (answer : Result A Error) (o o' : O) →
-    ((u : O) (e : Error) (v : O) → tries u e v → error_kind e ≢ Interrupted) → Answers tries call answer o o' → call o answer o'
+    ((u : O) (e : Error) (v : O) → tries u e v → error_kind e ≢ Interrupted) → Uninterrupted tries call answer o o' → call o answer o'
 never_again tries call answer o o' never h = at h.count h.before h.interrupted h.answered
   where
     at : (n : ℕ) (u : _) → Interruptions tries n o u → call u answer o' → call o answer o'
@@ -60,25 +60,25 @@ module _ {S K : Type 0} (gives : S → Got → S → Type 0) (takes : K → List
     (left : S → Option (List ℕ)) (faults : S → ℕ) (written : K → Option (List ℕ)) (others : K → ℕ)
     (source : (s : S) (g : Got) (t : S) → gives s g t → ReportsGot g (left s) (left t) (faults s) (faults t))
     (sink : (s : K) (piece : List ℕ) (r : Result ⊤ SinkFailed) (t : K) → takes s piece r t → ReportsPut r piece (written s) (written t) (others s) (others t)) where
-  one_read : (buffer : List ℕ) (answer : Result ℕ Error) (s t : S) → Reads (ReadsByte gives) buffer answer s t → ReadsByte gives s buffer answer t
+  one_read : (buffer : List ℕ) (answer : Result ℕ Error) (s t : S) → ReadsOnce (ReadsByte gives) buffer answer s t → ReadsByte gives s buffer answer t
   one_read buffer answer s t = never_again _ _ answer s t (λ u e v h. h.1.1)
 
-  one_write : (bytes : List ℕ) (answer : Result ℕ Error) (k l : K) → Writes (PutsPiece takes) bytes answer k l → PutsPiece takes k bytes answer l
+  one_write : (bytes : List ℕ) (answer : Result ℕ Error) (k l : K) → WritesOnce (PutsPiece takes) bytes answer k l → PutsPiece takes k bytes answer l
   one_write bytes answer k l = never_again _ _ answer k l (λ u e v h. h.1)
 
-  one_flush : (answer : Result ⊤ Error) (k l : K) → Flushes HoldsNothing answer k l → (answer ≡ Ok tt) × (l ≡ k)
+  one_flush : (answer : Result ⊤ Error) (k l : K) → FlushesOnce HoldsNothing answer k l → (answer ≡ Ok tt) × (l ≡ k)
   one_flush answer k l = never_again _ _ answer k l (λ u e v h. λ is. cc)
 
-  read_reports : (buffer : List ℕ) (answer : Result ℕ Error) (s t : S) → Reads (ReadsByte gives) buffer answer s t → Takes (left s) (left t) answer buffer
+  read_reports : (buffer : List ℕ) (answer : Result ℕ Error) (s t : S) → ReadsOnce (ReadsByte gives) buffer answer s t → Takes (left s) (left t) answer buffer
   read_reports buffer (Ok zero) s t h = let told = source s got.End t (one_read buffer (Ok zero) s t h) in (told.0, λ _ _. at_end_left (left s) (left t) told.0 told.1)
   read_reports buffer (Ok (suc n)) s t h = let is = one_read buffer (Ok (suc n)) s t h in let told = source s (got.Byte is.0) t is.3 in rw is.1 (rw is.2 told.0, λ e. cc)
   read_reports buffer (Err e) s t h = let told = source s got.Failed t (one_read buffer (Err e) s t h).0 in grind (arith, told)
 
-  write_reports : (bytes : List ℕ) (answer : Result ℕ Error) (k l : K) → Writes (PutsPiece takes) bytes answer k l → Adds (written k) (written l) answer bytes
+  write_reports : (bytes : List ℕ) (answer : Result ℕ Error) (k l : K) → WritesOnce (PutsPiece takes) bytes answer k l → Adds (written k) (written l) answer bytes
   write_reports bytes (Ok n) k l h = let is = one_write bytes (Ok n) k l h in let told = sink k bytes (Ok tt) l is.1 in rw (is.0, take-length bytes) told.0
   write_reports bytes (Err e) k l h = let is = one_write bytes (Err e) k l h in (sink k bytes (Err is.0.0) l is.0.1).0
 
-  flush_reports : (answer : Result ⊤ Error) (k l : K) → Flushes HoldsNothing answer k l → Keeps (written k) (written l)
+  flush_reports : (answer : Result ⊤ Error) (k l : K) → FlushesOnce HoldsNothing answer k l → Keeps (written k) (written l)
   flush_reports answer k l h = rw ((one_flush answer k l h).1) (Keeps-refl (written k))
 
   -- how the counts of faults changed
@@ -117,7 +117,7 @@ module _ {S K : Type 0} (gives : S → Got → S → Type 0) (takes : K → List
   sink_rises (Flush (Err e) ∷ cs) s t k l d follow fails = let is = (one_flush (Err e) d.0 l d.2).0 in cc
 
   -- the sink's count by how a run ended
-  module _ (task : Task) (outcome : Outcome) (s t : S) (k l : K) (h : Performs (ReadsByte gives) (PutsPiece takes) HoldsNothing false task outcome s t k l) where
+  module _ (task : Task) (outcome : Finished) (s t : S) (k l : K) (h : Performs (ReadsByte gives) (PutsPiece takes) HoldsNothing false task outcome s t k l) where
     no_fault : (status : Status) → outcome.status ≡ status → status ≢ WriteFault → others l ≡ others k
     no_fault status same ne = sink_keeps h.calls s t k l h.did (continued task.known (text_of task.max) h.calls h.rule (λ e. not_both h.calls e (ends_flush status ne h.calls (rw same at h.ends))))
 
@@ -126,7 +126,7 @@ module _ {S K : Type 0} (gives : S → Got → S → Type 0) (takes : K → List
 
   -- `make`
 
-  module _ (n : ℕ) (outcome : Outcome) (s t : S) (k l : K) (h : Performs (ReadsByte gives) (PutsPiece takes) HoldsNothing false (task_of (request.Makes n)) outcome s t k l) where
+  module _ (n : ℕ) (outcome : Finished) (s t : S) (k l : K) (h : Performs (ReadsByte gives) (PutsPiece takes) HoldsNothing false (task_of (request.Makes n)) outcome s t k l) where
     made : Prints (task_of (request.Makes n)) outcome.status h.calls (written k) (written l)
     made = prints (ReadsByte gives) (PutsPiece takes) HoldsNothing left written read_reports write_reports flush_reports false (task_of (request.Makes n)) outcome s t k l h
 
@@ -140,7 +140,7 @@ module _ {S K : Type 0} (gives : S → Got → S → Type 0) (takes : K → List
 
   -- a command
 
-  module _ (c : Command) (outcome : Outcome) (s t : S) (k l : K) (h : Performs (ReadsByte gives) (PutsPiece takes) HoldsNothing false (task_of (request.Reads c)) outcome s t k l) where
+  module _ (c : Command) (outcome : Finished) (s t : S) (k l : K) (h : Performs (ReadsByte gives) (PutsPiece takes) HoldsNothing false (task_of (request.Reads c)) outcome s t k l) where
     abbrev old : Streams
     old = streams_of left faults written others s k
 

@@ -4,14 +4,14 @@ use Rattle.std.specs.Prelude.{⊤, ◌↔◌, IsTrue}
 use Rattle.std.specs.List.{concat}
 use Rattle.std.specs.declared.io.Error.{Error}
 use Rattle.x86_streams.specs.declared.outside.sending.WriteFailed.{WriteFailed}
-use Rattle.x86_streams.specs.Outside.Chain.{Call, AllContinue, Cause, EndsIn, Fails, Follow, IsFlush, IsGone, Puts, Sends, SendsAll, pieces, refused, sent}
+use Rattle.x86_streams.specs.Outside.Chain.{Call, AllContinue, Cause, EndsIn, Fails, Follow, IsFlush, IsGone, Puts, Sends, SendsAll, pieces, not_taken, sent}
 use Rattle.x86_streams.proofs.OutsideLemmas.Calls.{all_continue_joined, ends_joined, pieces_joined, sent_joined, writer_calls_joined}
-use Rattle.x86_cli.specs.declared.listings.status.Outcome.{Outcome}
+use Rattle.x86_cli.specs.declared.listings.status.Finished.{Finished}
 use Rattle.x86_cli.specs.declared.listings.status.Status.{Status}
 use Rattle.x86_cli.specs.declared.listings.status.Status.TheVariants.{WriteFault}
 use Rattle.x86_cli.specs.Listings.Closes.{Closes}
 use Rattle.x86_cli.specs.Listings.Performs.{IsLastAt}
-use Rattle.x86_cli.proofs.ListingLemmas.Live.{fails_last, follow_of, refused_first, sends_as}
+use Rattle.x86_cli.proofs.ListingLemmas.Live.{fails_last, follow_of, not_taken_first, sends_as}
 
 last_at : (status : Status) (cs : List Call) → status ≢ WriteFault → EndsIn IsFlush cs → EndsIn (IsLastAt status) cs
 last_at status cs ne h = grind arith
@@ -19,10 +19,10 @@ last_at status cs ne h = grind arith
 flush_gone : (cs : List Call) → EndsIn IsFlush cs → EndsIn IsGone cs → ⊥
 flush_gone cs h g = grind arith
 
-flush_refused : (cs : List Call) → EndsIn IsFlush cs → refused cs ≡ []
-flush_refused cs h = grind arith
+flush_takes : (cs : List Call) → EndsIn IsFlush cs → not_taken cs ≡ []
+flush_takes cs h = grind arith
 
-module _ {W : Type 0} (writes : W → List ℕ → Result ℕ Error → W → Type 0) (flushes : W → Result ⊤ Error → W → Type 0) (gathers : Bool) (held : List ℕ) (outcome : Outcome) where
+module _ {W : Type 0} (writes : W → List ℕ → Result ℕ Error → W → Type 0) (flushes : W → Result ⊤ Error → W → Type 0) (gathers : Bool) (held : List ℕ) (outcome : Finished) where
   -- all was sent
   pub closes_flush : (held' : List ℕ) (w w' : W) → outcome.status ≢ WriteFault → outcome.gone ≡ false → (gathers ≡ false → held ≡ []) → SendsAll writes flushes (Ok tt) held held' w w' →
       Closes writes flushes gathers held (record { lines = []; status = outcome.status }) outcome w w'
@@ -36,7 +36,7 @@ module _ {W : Type 0} (writes : W → List ℕ → Result ℕ Error → W → Ty
         gone = rw gone (λ e. absurd (cc), λ g. absurd (flush_gone cs q.1.1 g));
         unsent = [];
         whole = sym q.0.order ∙ ap (λ b. sent cs ++ b) q.1.0;
-        next = rw (flush_refused cs q.1.1) refl;
+        next = rw (flush_takes cs q.1.1) refl;
         all = λ _. (refl, refl);
         each = λ e. q.2 (empty e);
       }
@@ -80,7 +80,7 @@ module _ {W : Type 0} (writes : W → List ℕ → Result ℕ Error → W → Ty
         unsent = q.unsent;
         whole = ap (λ b. held ++ b) (append-nil x) ∙ sym p.sends.order ∙ ap (λ b. sent ds ++ b) (sym p.held ∙ sym (append-nil held') ∙ (rw is at q.whole)) ∙ sym (append_assoc (sent ds) (sent (c ∷ cs)) q.unsent)
             ∙ ap (λ b. b ++ q.unsent) (sym (sent_joined (c ∷ cs) ds));
-        next = rw (refused_first c (cs ++ ds) cs) (rw is at q.next);
+        next = rw (not_taken_first c (cs ++ ds) cs) (rw is at q.next);
         all = q.all;
         each = λ e. pieces_joined (c ∷ cs) ds ∙ ap (λ ps. ps ++ pieces (c ∷ cs)) (p.once e).0 ∙ ap (λ ps. x ∷ ps) (rw is at (q.each e));
       }

@@ -9,16 +9,16 @@ use Rattle.std.specs.declared.io.Error.{Error}
 use Rattle.x86_streams.specs.declared.outside.sending.WriteFailed.{WriteFailed}
 use Rattle.x86_streams.specs.declared.text.reader.Ending.{Ending}
 use Rattle.x86_streams.specs.declared.text.reader.Ending.TheVariants.{Fault}
-use Rattle.x86_streams.specs.Outside.Chain.{Call, Read, Write, Flush, AllContinue, Calls, Cause, EndsIn, Fails, Follow, IsFlush, IsGone, Puts, Sends, SendsAll, WriterCalls, pieces, received, refused, sent, stop_of, taken_by}
+use Rattle.x86_streams.specs.Outside.Chain.{Call, Read, Write, Flush, AllContinue, Calls, Cause, EndsIn, Fails, Follow, IsFlush, IsGone, Puts, Sends, SendsAll, WriterCalls, pieces, received, not_taken, sent, stop_of, taken_by}
 use Rattle.x86_streams.specs.Outside.Stop.{Stop, Failed}
 use Rattle.x86_streams.specs.Text.{Text, text_at, text_of}
-use Rattle.x86_streams.specs.Text.Beginning.{IsOpen}
+use Rattle.x86_streams.specs.Text.Beginning.{IsOpenText}
 use Rattle.x86_streams.specs.Text.Reader.{TextPosition}
 use Rattle.x86_streams.specs.Text.Reading.{MayCome, NeedsMore, with_bytes}
 use Rattle.x86_streams.specs.Text.Window.{Fills, LeavesRest, TakesBytes, rest_after, rest_of}
 use Rattle.x86_streams.proofs.OutsideLemmas.Calls.{all_continue_joined, calls_joined, ends_joined, pieces_joined, received_joined, sent_joined, stop_joined}
 use Rattle.x86_streams.proofs.TextLemmas.Text.{with_bytes-with_bytes}
-use Rattle.x86_cli.specs.declared.listings.status.Outcome.{Outcome}
+use Rattle.x86_cli.specs.declared.listings.status.Finished.{Finished}
 use Rattle.x86_cli.specs.declared.listings.status.Status.{Status}
 use Rattle.x86_cli.specs.declared.listings.status.Status.TheVariants.{WriteFault}
 use Rattle.x86_cli.specs.Listings.Closes.{Closes}
@@ -77,8 +77,8 @@ fresh text max position room unread = grind (arith, position, room, unread)
 pub read_stop : (buffer : List ℕ) (answer : Result ℕ Error) (cs : List Call) → stop_of (Read buffer answer ∷ cs) ≡ stop_of (Read buffer answer ∷ [])
 read_stop buffer answer cs = grind arith
 
-pub refused_first : (c : Call) (cs ds : List Call) → refused (c ∷ cs) ≡ refused (c ∷ ds)
-refused_first c cs ds = grind arith
+pub not_taken_first : (c : Call) (cs ds : List Call) → not_taken (c ∷ cs) ≡ not_taken (c ∷ ds)
+not_taken_first c cs ds = grind arith
 
 module _ {R W : Type 0} (reads : R → List ℕ → Result ℕ Error → R → Type 0) (writes : W → List ℕ → Result ℕ Error → W → Type 0) (flushes : W → Result ⊤ Error → W → Type 0)
     (gathers : Bool) (at knows : ℕ → Text → Listing) (max : ℕ) (r : R) (v : W) where
@@ -167,8 +167,8 @@ module _ {R W : Type 0} (reads : R → List ℕ → Result ℕ Error → R → T
     -- ---- ends
 
     -- The last calls, after which the writer has taken this beginning of the rest.
-    pub ends_in : (outcome : Outcome) (v'' : W) (cs : List Call) → WriterCalls writes flushes cs v' v'' → Follow cs → EndsIn (IsLastAt outcome.status) cs → (IsTrue outcome.gone ↔ EndsIn IsGone cs) →
-        ((xs : List ℕ) (stop : Stop) → (unsent : List ℕ) × (held ++ concat (at n (rest_after ended w text xs stop)).lines ≡ sent cs ++ unsent) × StartsWith unsent (refused cs)
+    pub ends_in : (outcome : Finished) (v'' : W) (cs : List Call) → WriterCalls writes flushes cs v' v'' → Follow cs → EndsIn (IsLastAt outcome.status) cs → (IsTrue outcome.gone ↔ EndsIn IsGone cs) →
+        ((xs : List ℕ) (stop : Stop) → (unsent : List ℕ) × (held ++ concat (at n (rest_after ended w text xs stop)).lines ≡ sent cs ++ unsent) × StartsWith unsent (not_taken cs)
         × (outcome.status ≢ WriteFault → (unsent ≡ []) × (outcome.status ≡ (at n (rest_after ended w text xs stop)).status))) →
         (gathers ≡ false → (xs : List ℕ) (stop : Stop) → AreFirst (pieces cs) (at n (rest_after ended w text xs stop)).lines) →
         Performs reads writes flushes gathers (record { max = max; known = knows 0; lists = at 0 }) outcome r r' v v''
@@ -190,7 +190,7 @@ module _ {R W : Type 0} (reads : R → List ℕ → Result ℕ Error → R → T
                 unsent = unsent;
                 whole = ap (λ l. concat l.lines) is ∙ concat-append s.lines rest.lines ∙ ap (λ b. b ++ concat rest.lines) (sym s.put) ∙ append_assoc (sent s.calls) held (concat rest.lines)
                     ∙ ap (λ b. sent s.calls ++ b) part ∙ sym (append_assoc (sent s.calls) (sent (c ∷ cs)) unsent) ∙ ap (λ b. b ++ unsent) (sym (sent_joined (c ∷ cs) s.calls));
-                next = rw (refused_first c (cs ++ s.calls) cs) next;
+                next = rw (not_taken_first c (cs ++ s.calls) cs) next;
                 all = λ ne. ((all ne).0, (all ne).1 ∙ sym (ap (λ l. l.status) is));
               });
           each = λ e xs stop may.
@@ -199,7 +199,7 @@ module _ {R W : Type 0} (reads : R → List ℕ → Result ℕ Error → R → T
               (first.0, ap (λ l. l.lines) (s.lists xs stop (rw stop_is at may)) ∙ ap (λ ls. s.lines ++ ls) first.1 ∙ sym (append_assoc s.lines (pieces (c ∷ cs)) first.0));
         }
 
-    pub live_closes : (outcome : Outcome) (v'' : W) (last : Listing) → ((xs : List ℕ) (stop : Stop) → at n (rest_of ended w text.position text.room xs stop) ≡ last) → Closes writes flushes gathers held last outcome v' v'' →
+    pub live_closes : (outcome : Finished) (v'' : W) (last : Listing) → ((xs : List ℕ) (stop : Stop) → at n (rest_of ended w text.position text.room xs stop) ≡ last) → Closes writes flushes gathers held last outcome v' v'' →
         Performs reads writes flushes gathers (record { max = max; known = knows 0; lists = at 0 }) outcome r r' v v''
     live_closes outcome v'' last is q =
         ends_in outcome v'' q.calls q.did q.follow q.ends q.gone
@@ -207,7 +207,7 @@ module _ {R W : Type 0} (reads : R → List ℕ → Result ℕ Error → R → T
         (λ e xs stop. ([], ap (λ l. l.lines) (is (text.unread ++ xs) stop) ∙ sym (q.each e) ∙ sym (append-nil (pieces q.calls))))
 
     -- a call failed, at these lines of what is left
-    pub live_fails : (outcome : Outcome) (f : WriteFailed) (ls : List (List ℕ)) (after : List ℕ → Stop → Listing) (rest : List ℕ) (v'' : W) → outcome.status ≡ WriteFault → outcome.gone ≡ f.gone →
+    pub live_fails : (outcome : Finished) (f : WriteFailed) (ls : List (List ℕ)) (after : List ℕ → Stop → Listing) (rest : List ℕ) (v'' : W) → outcome.status ≡ WriteFault → outcome.gone ≡ f.gone →
         ((xs : List ℕ) (stop : Stop) → at n (rest_after ended w text xs stop) ≡ with_lines ls (after xs stop)) → (q : Sends writes flushes (Err f) (concat ls) held rest v' v'') → (gathers ≡ false → pieces q.calls ≡ ls) →
         Performs reads writes flushes gathers (record { max = max; known = knows 0; lists = at 0 }) outcome r r' v v''
     live_fails outcome f ls after rest v'' status gone step q once =
@@ -216,25 +216,25 @@ module _ {R W : Type 0} (reads : R → List ℕ → Result ℕ Error → R → T
         let more = concat (after xs stop).lines in (
           rest ++ more,
           ap (λ l. held ++ concat l.lines) (step xs stop) ∙ ap (λ b. held ++ b) (concat-append ls (after xs stop).lines) ∙ sym (append_assoc held (concat ls) more) ∙ ap (λ b. b ++ more) (sym q.order) ∙ append_assoc (sent q.calls) rest more,
-          starts_more rest more (refused q.calls) q.failed.0,
+          starts_more rest more (not_taken q.calls) q.failed.0,
           λ ne. absurd (ne status),
         ))
         (λ e xs stop. ((after xs stop).lines, ap (λ l. l.lines) (step xs stop) ∙ ap (λ ps. ps ++ (after xs stop).lines) (sym (once e))))
 
-    pub live_unput : (outcome : Outcome) (f : WriteFailed) (x : List ℕ) (len : ℕ) (held' : List ℕ) (v'' : W) → outcome.status ≡ WriteFault → outcome.gone ≡ f.gone → IsLine at len n x ended w text.position text.room →
+    pub live_unput : (outcome : Finished) (f : WriteFailed) (x : List ℕ) (len : ℕ) (held' : List ℕ) (v'' : W) → outcome.status ≡ WriteFault → outcome.gone ≡ f.gone → IsLine at len n x ended w text.position text.room →
         Puts writes flushes gathers (Err f) (line x) held held' v' v'' → Performs reads writes flushes gathers (record { max = max; known = knows 0; lists = at 0 }) outcome r r' v v''
     live_unput outcome f x len held' v'' status gone step p =
         live_fails outcome f (line x ∷ []) (λ xs stop. at (n + len) (rest_after ended (drop len w) text xs stop)) p.rest v'' status gone (λ xs stop. step (text.unread ++ xs) stop)
         (sends_as writes flushes (Err f) (line x) (line x ++ []) held p.rest v' v'' (sym (append-nil (line x))) p.sends) (λ e. (p.once e).0)
 
-    pub live_unsent : (outcome : Outcome) (f : WriteFailed) (held' : List ℕ) (v'' : W) → outcome.status ≡ WriteFault → outcome.gone ≡ f.gone → SendsAll writes flushes (Err f) held held' v' v'' →
+    pub live_unsent : (outcome : Finished) (f : WriteFailed) (held' : List ℕ) (v'' : W) → outcome.status ≡ WriteFault → outcome.gone ≡ f.gone → SendsAll writes flushes (Err f) held held' v' v'' →
         Performs reads writes flushes gathers (record { max = max; known = knows 0; lists = at 0 }) outcome r r' v v''
     live_unsent outcome f held' v'' status gone q =
         live_fails outcome f [] (λ xs stop. at n (rest_after ended w text xs stop)) held' v'' status gone (λ xs stop. refl) q.0 (λ e. q.2 (s.each e).0)
 
   -- All that was gathered was sent, and a read was made, where the window decides no more.
   module _ (image : List ℕ) (n : ℕ) (w : List ℕ) (text : TextPosition) (held : List ℕ) (r' : R) (v' : W) (s : Live image n None w text held r' v') where
-    abbrev pub live_fill : (held' : List ℕ) (v'' : W) (ended' : Option Ending) (text' : TextPosition) (r'' : R) → SendsAll writes flushes (Ok tt) held held' v' v'' → IsOpen text.unread text.room →
+    abbrev pub live_fill : (held' : List ℕ) (v'' : W) (ended' : Option Ending) (text' : TextPosition) (r'' : R) → SendsAll writes flushes (Ok tt) held held' v' v'' → IsOpenText text.unread text.room →
         ((t : Text) → NeedsMore 1 t → knows n (with_bytes w t) ≡ at_end Fault) → Fills reads w text ended' text' r' r'' → Live image n ended' w text' held' r'' v''
     live_fill held' v'' ended' text' r'' q half more f =
         let t = live_put image n None w text held r' v' s [] n 0 held' v'' (λ xs stop. refl) (λ _ xs stop. refl) q.0 (λ e. (q.1.0, q.2 (s.each e).0)) in

@@ -9,7 +9,7 @@ use Rattle.x86_streams.specs.declared.outside.sending.WriteFailed.{WriteFailed}
 use Rattle.x86_streams.specs.Outside.Chain.{Puts, Sends}
 use Rattle.x86_streams.specs.Text.{Text}
 use Rattle.x86_streams.specs.Text.Reader.{TextPosition}
-use Rattle.x86_cli.specs.declared.listings.status.Outcome.{Outcome}
+use Rattle.x86_cli.specs.declared.listings.status.Finished.{Finished}
 use Rattle.x86_cli.specs.declared.listings.status.Status.TheVariants.{WriteFault}
 use Rattle.x86_cli.specs.Listings.Performs.{Performs}
 use Rattle.x86_cli.specs.Listings.Listing.{with_lines, at_end}
@@ -57,7 +57,7 @@ module _ {R W : Type 0} (reads : R → List ℕ → Result ℕ Error → R → T
       let none : Sends writes flushes (Ok tt) [] held held v' v' = record { calls = []; did = refl; cause = tt; order = sym (append-nil held); failed = tt } in
       rw ((left refl).0, (left refl).1) (live_put reads writes flushes gathers (targets_at strict) ends_of max r v [] n (Some e) image text held r' v' s [] (n + 1) 0 held v' (λ xs stop. place_step false is) (λ some. cc) none (λ e. ((s.each e).0, refl)))
 
-  pub place_failed : (mark : Bool) → mark ≡ is_marked strict image n → (f : WriteFailed) (outcome : Outcome) (held' : List ℕ) (v'' : W) → outcome.status ≡ WriteFault → outcome.gone ≡ f.gone →
+  pub place_failed : (mark : Bool) → mark ≡ is_marked strict image n → (f : WriteFailed) (outcome : Finished) (held' : List ℕ) (v'' : W) → outcome.status ≡ WriteFault → outcome.gone ≡ f.gone →
       (mark ≡ true → Puts writes flushes gathers (Err f) (place_line n) held held' v' v'') → (mark ≡ false → ⊥) →
       Performs reads writes flushes gathers (record { max = max; known = ends_of 0; lists = targets_at strict 0 }) outcome r r' v v''
   place_failed true is f outcome held' v'' status gone put never =

@@ -6,22 +6,22 @@ use Rattle.std.specs.Io.{StartsWith}
 use Rattle.std.specs.declared.io.Error.{Error}
 use Rattle.x86_streams.specs.declared.outside.sending.WriteFailed.{WriteFailed}
 use Rattle.x86_streams.specs.declared.text.reader.Ending.{Ending}
-use Rattle.x86_streams.specs.Outside.Chain.{Call, Read, Write, Flush, EndsIn, Fails, Puts, SendsAll, pieces, received, refused, sent}
+use Rattle.x86_streams.specs.Outside.Chain.{Call, Read, Write, Flush, EndsIn, Fails, Puts, SendsAll, pieces, received, not_taken, sent}
 use Rattle.x86_streams.specs.Outside.Stop.{Stop}
 use Rattle.x86_streams.specs.Text.{Text, text_of}
 use Rattle.x86_streams.specs.Text.Reader.{TextPosition}
 use Rattle.x86_streams.specs.Text.Reading.{with_bytes}
-use Rattle.x86_streams.specs.Text.Beginning.{IsOpen}
+use Rattle.x86_streams.specs.Text.Beginning.{IsOpenText}
 use Rattle.x86_streams.specs.Text.Window.{Fills, LeavesRest, rest_after}
 use Rattle.x86_streams.proofs.OutsideLemmas.Calls.{calls_joined, pieces_joined, received_joined, stop_joined}
 use Rattle.x86_streams.proofs.TextLemmas.Text.{with_bytes-with_bytes}
-use Rattle.x86_cli.specs.declared.listings.status.Outcome.{Outcome}
+use Rattle.x86_cli.specs.declared.listings.status.Finished.{Finished}
 use Rattle.x86_cli.specs.declared.listings.status.Status.TheVariants.{WriteFault}
 use Rattle.x86_cli.specs.declared.listings.targets.WholeText.{WholeText}
 use Rattle.x86_cli.specs.Listings.Listing.{Listing, at_end}
 use Rattle.x86_cli.specs.Listings.Performs.{Performs}
 use Rattle.x86_cli.specs.Listings.Targets.{ReadsWhole}
-use Rattle.x86_cli.proofs.ListingLemmas.Live.{Live, by_rule_joined, follow_of, live_fill, live_rest, refused_first}
+use Rattle.x86_cli.proofs.ListingLemmas.Live.{Live, by_rule_joined, follow_of, live_fill, live_rest, not_taken_first}
 
 -- what is known of a text that isn't read to its end: how it ends
 abbrev pub ends_of : ℕ → Text → Listing
@@ -98,12 +98,12 @@ module _ {R W : Type 0} (reads : R → List ℕ → Result ℕ Error → R → T
           did = calls_joined writes flushes reads (c ∷ cs) s.calls r r' v v' v'' s.did (rw is at q.0.did);
           rule = by_rule_joined writes flushes (ends_of 0) (text_of max) (c ∷ cs) s.calls v' v'' (rw is at q.0.did) (follow_of {A = ⊤} {E = WriteFailed} (Err f) (c ∷ cs) (rw is at q.0.cause)) s.rule s.unfailed;
           none = pieces_joined (c ∷ cs) s.calls ∙ ap (λ ps. ps ++ pieces (c ∷ cs)) h.1 ∙ (rw is at (q.2 refl));
-          ends = ((rw is at q.0.cause).0, refused_first c (cs ++ s.calls) cs ∙ none_next held' (refused (c ∷ cs)) (none_held (sent q.0.calls) held' q.0.order) (rw is at q.0.failed).0, (rw is at q.0.failed).1);
+          ends = ((rw is at q.0.cause).0, not_taken_first c (cs ++ s.calls) cs ∙ none_next held' (not_taken (c ∷ cs)) (none_held (sent q.0.calls) held' q.0.order) (rw is at q.0.failed).0, (rw is at q.0.failed).1);
         }
 
   -- the writer was flushed, and a read was made
   pub whole_filled : (image w : List ℕ) (text : TextPosition) (r' : R) (v' : W) → Whole image None w text r' v' → (held' : List ℕ) (v'' : W) (ended' : Option Ending) (text' : TextPosition) (r'' : R) → SendsAll writes flushes (Ok tt) [] held' v' v'' →
-      IsOpen text.unread text.room → Fills reads w text ended' text' r' r'' → held' ≡ [] → Whole image ended' w text' r'' v''
+      IsOpenText text.unread text.room → Fills reads w text ended' text' r' r'' → held' ≡ [] → Whole image ended' w text' r'' v''
   whole_filled image w text r' v' h held' v'' ended' text' r'' q half f none =
       let q' : SendsAll writes flushes (Ok tt) [] [] v' v'' = rw none at q in (
         live_fill reads writes flushes gathers ends_of ends_of max r v image 0 w text [] r' v' h.0 [] v'' ended' text' r'' q' half (λ t needs. ap at_end needs.0) f,
@@ -138,7 +138,7 @@ module _ {R W : Type 0} (reads : R → List ℕ → Result ℕ Error → R → T
     decided = λ e. cc;
   }
 
-  pub whole_fails : (at : ℕ → Text → Listing) (f : WriteFailed) (outcome : Outcome) (r' : R) (v' : W) → outcome.status ≡ WriteFault → outcome.gone ≡ f.gone → ReadsWhole reads writes flushes max (Err f) r r' v v' →
+  pub whole_fails : (at : ℕ → Text → Listing) (f : WriteFailed) (outcome : Finished) (r' : R) (v' : W) → outcome.status ≡ WriteFault → outcome.gone ≡ f.gone → ReadsWhole reads writes flushes max (Err f) r r' v v' →
       Performs reads writes flushes gathers (record { max = max; known = ends_of 0; lists = at 0 }) outcome r r' v v'
   whole_fails at f outcome r' v' status gone h = record {
     calls = h.calls;

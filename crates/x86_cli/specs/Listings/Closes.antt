@@ -3,15 +3,15 @@ use Rattle.std.specs.Prelude.{◌≡◌, ◌≢◌, ◌↔◌, ℕ, Bool, IsTrue
 use Rattle.std.specs.List.{concat}
 use Rattle.std.specs.Io.{StartsWith}
 use Rattle.std.specs.declared.io.Error.{Error}
-use Rattle.x86_streams.specs.Outside.Chain.{Call, EndsIn, Follow, IsGone, WriterCalls, pieces, refused, sent}
-use Rattle.x86_cli.specs.declared.listings.status.Outcome.{Outcome}
+use Rattle.x86_streams.specs.Outside.Chain.{Call, EndsIn, Follow, IsGone, WriterCalls, pieces, not_taken, sent}
+use Rattle.x86_cli.specs.declared.listings.status.Finished.{Finished}
 use Rattle.x86_cli.specs.declared.listings.status.Status.TheVariants.{WriteFault}
 use Rattle.x86_cli.specs.Listings.Listing.{Listing}
 use Rattle.x86_cli.specs.Listings.Performs.{IsLastAt}
 
 -- The writer took what was held and then these lines, and was flushed; or a call failed, and it took the beginning.
 pub record Closes {W : Type 0} (writes : W → List ℕ → Result ℕ Error → W → Type 0) (flushes : W → Result ⊤ Error → W → Type 0)
-    (gathers : Bool) (held : List ℕ) (last : Listing) (outcome : Outcome) (w w' : W) : Type 0 where
+    (gathers : Bool) (held : List ℕ) (last : Listing) (outcome : Finished) (w w' : W) : Type 0 where
   pub calls : List Call
   pub did : WriterCalls writes flushes calls w w'
   pub follow : Follow calls
@@ -19,6 +19,6 @@ pub record Closes {W : Type 0} (writes : W → List ℕ → Result ℕ Error →
   pub gone : IsTrue outcome.gone ↔ EndsIn IsGone calls
   pub unsent : List ℕ
   pub whole : held ++ concat last.lines ≡ sent calls ++ unsent
-  pub next : StartsWith unsent (refused calls)
+  pub next : StartsWith unsent (not_taken calls)
   pub all : outcome.status ≢ WriteFault → (unsent ≡ []) × (outcome.status ≡ last.status)
   pub each : gathers ≡ false → pieces calls ≡ last.lines

@@ -4,11 +4,11 @@ use Rattle.std.specs.List.{concat}
 use Rattle.std.specs.Io.{StartsWith}
 use Rattle.std.specs.declared.io.Error.{Error}
 use Rattle.x86_streams.specs.declared.text.reader.Ending.TheVariants.{Fault}
-use Rattle.x86_streams.specs.Outside.Chain.{Call, Read, Write, Flush, Calls, EndsIn, Fails, IsFlush, IsGone, pieces, received, refused, sent, stop_of}
+use Rattle.x86_streams.specs.Outside.Chain.{Call, Read, Write, Flush, Calls, EndsIn, Fails, IsFlush, IsGone, pieces, received, not_taken, sent, stop_of}
 use Rattle.x86_streams.specs.Outside.Stop.{Stop, Failed}
 use Rattle.x86_streams.specs.Text.{Text, text_of}
 use Rattle.x86_streams.specs.Text.Reading.{MayCome}
-use Rattle.x86_cli.specs.declared.listings.status.Outcome.{Outcome}
+use Rattle.x86_cli.specs.declared.listings.status.Finished.{Finished}
 use Rattle.x86_cli.specs.declared.listings.status.Status.{Status}
 use Rattle.x86_cli.specs.declared.listings.status.Status.TheVariants.{Usage, WriteFault}
 use Rattle.x86_cli.specs.Listings.Listing.{Listing, with_lines, at_end}
@@ -54,14 +54,14 @@ AreFirst lines all = (more : List (List ℕ)) × (all ≡ lines ++ more)
 -- that begins with what was read, and a write that failed was to take what comes next of it. Where
 -- nothing is gathered, each write is of one line.
 pub record Performs {R W : Type 0} (reads : R → List ℕ → Result ℕ Error → R → Type 0) (writes : W → List ℕ → Result ℕ Error → W → Type 0)
-    (flushes : W → Result ⊤ Error → W → Type 0) (gathers : Bool) (task : Task) (outcome : Outcome) (r r' : R) (w w' : W) : Type 0 where
+    (flushes : W → Result ⊤ Error → W → Type 0) (gathers : Bool) (task : Task) (outcome : Finished) (r r' : R) (w w' : W) : Type 0 where
   pub calls : List Call
   pub did : Calls reads writes flushes calls r r' w w'
   pub rule : ByRule task.known (text_of task.max) calls
   pub ends : EndsIn (IsLastAt outcome.status) calls
   pub gone : IsTrue outcome.gone ↔ EndsIn IsGone calls
   pub lists : (xs : List ℕ) (stop : Stop) → MayCome (stop_of calls) xs stop →
-      IsPrinted outcome.status (sent calls) (refused calls) (task.lists (text_of task.max (received calls ++ xs) stop))
+      IsPrinted outcome.status (sent calls) (not_taken calls) (task.lists (text_of task.max (received calls ++ xs) stop))
   pub each : gathers ≡ false → (xs : List ℕ) (stop : Stop) → MayCome (stop_of calls) xs stop →
       AreFirst (pieces calls) (task.lists (text_of task.max (received calls ++ xs) stop)).lines
 

@@ -4,7 +4,7 @@ use Rattle.std.specs.declared.io.Error.{Error}
 use Rattle.std.specs.List.{filter, range_with_len}
 use Rattle.x86_layout.specs.Sweeps.Marks.{is_marked}
 use Rattle.x86_streams.specs.declared.outside.sending.WriteFailed.{WriteFailed}
-use Rattle.x86_streams.specs.Outside.Chain.{AllContinue, Call, Calls, EndsIn, Fails, IsGone, pieces, received, refused, stop_of}
+use Rattle.x86_streams.specs.Outside.Chain.{AllContinue, Call, Calls, EndsIn, Fails, IsGone, pieces, received, not_taken, stop_of}
 use Rattle.x86_streams.specs.Outside.Stop.{Stop}
 use Rattle.x86_streams.specs.Text.{Text, text_of}
 use Rattle.x86_streams.specs.Text.Reading.{MayCome}
@@ -36,7 +36,7 @@ targets_at strict place t = with_lines (map place_line (marked_from strict place
 abbrev pub EndsWhole : ℕ → Result WholeText WriteFailed → List Call → Type 0
 EndsWhole max (Ok text) cs = AllContinue cs × ((xs : List ℕ) (stop : Stop) → MayCome (stop_of cs) xs stop →
     text_of max (received cs ++ xs) stop ≡ record { image = text.image.items; ending = text.ending })
-EndsWhole max (Err f) cs = EndsIn Fails cs × (refused cs ≡ []) × (IsTrue f.gone ↔ EndsIn IsGone cs)
+EndsWhole max (Err f) cs = EndsIn Fails cs × (not_taken cs ≡ []) × (IsTrue f.gone ↔ EndsIn IsGone cs)
 
 pub record ReadsWhole {R W : Type 0} (reads : R → List ℕ → Result ℕ Error → R → Type 0) (writes : W → List ℕ → Result ℕ Error → W → Type 0)
     (flushes : W → Result ⊤ Error → W → Type 0) (max : ℕ) (result : Result WholeText WriteFailed) (r r' : R) (w w' : W) : Type 0 where

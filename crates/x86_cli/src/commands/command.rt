@@ -10,7 +10,7 @@ ghost use Rattle.x86_cli.specs.declared.commands.request.Request.TheVariants.{Re
 use crate::listings::fields::FieldLines;
 use crate::listings::line::Plain;
 use crate::listings::listing::{UpToRefusal, list};
-use crate::listings::status::Outcome;
+use crate::listings::status::Finished;
 use crate::listings::sweep::PastRefusals;
 use crate::listings::targets::targets;
 use crate::listings::tightening::LeastLines;
@@ -82,7 +82,7 @@ impl Command {
         outside: &O,
         reader: &mut R,
         writer: &mut W,
-    ) -> Outcome
+    ) -> Finished
         ensures { Performs O.reads O.writes O.flushes O.gathers (task_of (Reads self)) result
             reader.old reader.new writer.old writer.new }
     {

@@ -9,7 +9,7 @@ ghost use Rattle.x86_layout.specs.Parts.Heads.{one_if};
 ghost use Rattle.x86_cli.specs.Commands.Make.{generate, is_at_rip, is_absolute, has_operand, answer_has, tally_of, tally_text, made_listing};
 
 use crate::listings::listing::put_last;
-use crate::listings::status::{Outcome, Status};
+use crate::listings::status::{Finished, Status};
 use arrayvec::ArrayVec;
 use itoa::Buffer;
 use x86_decode::{InstDecoder, Instruction};
@@ -185,8 +185,9 @@ pub fn count_from(argument: &str) -> Option<u32>
 }
 
 /// Makes, decodes and counts `count` encodings, and writes the line of it.
-pub fn make<W, O: Output<W>>(count: u32, output: &O, writer: &mut W) -> Outcome
-    ensures { Closes O.writes O.flushes O.gathers [] (made_listing count) result writer.old writer.new }
+pub fn make<W, O: Output<W>>(count: u32, output: &O, writer: &mut W) -> Finished
+    ensures { Closes O.writes O.flushes O.gathers [] (made_listing count) result
+        writer.old writer.new }
 {
     let tally = tally_of(count);
     let mut out = Gathered::new();

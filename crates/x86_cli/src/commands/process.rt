@@ -10,7 +10,7 @@ ghost use Rattle.x86_cli.specs.Listings.Line.{line};
 ghost use Rattle.x86_cli.specs.Commands.Process.{Reports, said_at};
 
 use crate::commands::request::USAGE;
-use crate::listings::status::{Outcome, Status};
+use crate::listings::status::{Finished, Status};
 use std::alloc::{AllocError, Global};
 use std::process::ExitCode;
 use x86_streams::Output;
@@ -48,7 +48,7 @@ pub fn report<E, O: Output<E>>(said: &str, output: &O, errors: &mut E)
 /// How the process ends: with the number of the status. To `errors` it writes the usage line at `Usage`, and `write
 /// fault` at `WriteFault` unless the output is `gone` (the reader of its pipe closed it), as far as `errors` takes them;
 /// at every other status nothing.
-pub fn finish<E, O: Output<E>>(outcome: Outcome, output: &O, errors: &mut E) -> ExitCode
+pub fn finish<E, O: Output<E>>(outcome: Finished, output: &O, errors: &mut E) -> ExitCode
     ensures code { exit_status result ≡ code outcome.status }
     ensures says { Reports O.writes O.flushes (said_at outcome.status outcome.gone)
         errors.old errors.new }

@@ -7,7 +7,7 @@ ghost use Rattle.x86_streams.specs.Text.{Text};
 
 use crate::commands::make::make;
 use crate::commands::request::{Request, request_of};
-use crate::listings::status::{Outcome, Status};
+use crate::listings::status::{Finished, Status};
 use x86_streams::{Input, OneByOne, Output, Sink, Source};
 
 /// What lists a text.
@@ -22,7 +22,7 @@ pub trait Program {
         outside: &O,
         reader: &mut R,
         writer: &mut W,
-    ) -> Outcome
+    ) -> Finished
         ensures performs { Performs O.reads O.writes O.flushes O.gathers (task self.now) result
             reader.old reader.new writer.old writer.new }
         ensures ends { (t : Text) → IsEnd ((task self.now).lists t).status };
@@ -36,7 +36,7 @@ impl Program for Request {
         outside: &O,
         reader: &mut R,
         writer: &mut W,
-    ) -> Outcome {
+    ) -> Finished {
         match *self {
             Request::Reads(command) => command.run(outside, reader, writer),
             Request::Makes(count) => make(count, outside, writer),
@@ -64,7 +64,7 @@ pub fn listed<R, W, O: Input<R> + Output<W>>(
     outside: &O,
     reader: &mut R,
     writer: &mut W,
-) -> Outcome
+) -> Finished
     ensures lists { (request : Request) → Denotes (map string_bytes words.now) request
         → Performs O.reads O.writes O.flushes O.gathers (task_of request) result
         reader.old reader.new writer.old writer.new }
@@ -74,7 +74,7 @@ pub fn listed<R, W, O: Input<R> + Output<W>>(
 {
     match request_of(words) {
         Some(request) => request.run(outside, reader, writer),
-        None => Outcome {
+        None => Finished {
             status: Status::Usage,
             gone: false,
         },

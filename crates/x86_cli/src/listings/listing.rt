@@ -15,7 +15,7 @@ ghost use Rattle.x86_cli.specs.Listings.Performs.{Performs};
 
 use crate::laws::decoder_laws;
 use crate::listings::line::{Lines, bad_text};
-use crate::listings::status::{Outcome, Status};
+use crate::listings::status::{Finished, Status};
 use crate::text::window::{Decoded, decode_next};
 use x86_decode::{InstDecoder, Instruction};
 use x86_fields::DecodeError;
@@ -46,18 +46,18 @@ pub fn close<W, O: Output<W>>(
     out: &mut Gathered,
     writer: &mut W,
     status: Status,
-) -> Outcome
+) -> Finished
     requires status { status ≢ Status.WriteFault }
     requires empty { O.gathers ≡ false → out.old.bytes.items ≡ [] }
     ensures { Closes O.writes O.flushes O.gathers out.old.bytes.items
         (record { lines = []; status = status }) result writer.old writer.new }
 {
     match out.send_all(output, writer) {
-        Ok(()) => Outcome {
+        Ok(()) => Finished {
             status,
             gone: false,
         },
-        Err(failed) => Outcome::of_failed(failed),
+        Err(failed) => Finished::of_failed(failed),
     }
 }
 
@@ -68,7 +68,7 @@ pub fn put_last<W, O: Output<W>>(
     writer: &mut W,
     text: &mut Line,
     status: Status,
-) -> Outcome
+) -> Finished
     requires short { array_vec_len text.old ≤ line_width }
     requires status { status ≢ Status.WriteFault }
     requires empty { O.gathers ≡ false → out.old.bytes.items ≡ [] }
@@ -78,7 +78,7 @@ pub fn put_last<W, O: Output<W>>(
 {
     match put_line(output, out, writer, text) {
         Ok(()) => close(output, out, writer, status),
-        Err(failed) => Outcome::of_failed(failed),
+        Err(failed) => Finished::of_failed(failed),
     }
 }
 
@@ -98,7 +98,7 @@ pub fn end<W, O: Output<W>>(
     out: &mut Gathered,
     writer: &mut W,
     ending: Ending,
-) -> Outcome
+) -> Finished
     requires { O.gathers ≡ false → out.old.bytes.items ≡ [] }
     ensures { Closes O.writes O.flushes O.gathers out.old.bytes.items (at_end ending) result
         writer.old writer.new }
@@ -201,7 +201,7 @@ pub fn list<const N: usize, C: Course<N>, R, W, O: Input<R> + Output<W>>(
     outside: &O,
     reader: &mut R,
     writer: &mut W,
-) -> Outcome
+) -> Finished
     requires size { N ≤ 65536 }
     requires max { max < 2 ^ 62 }
     ensures { Performs O.reads O.writes O.flushes O.gathers (record { max = max;
@@ -220,7 +220,7 @@ pub fn list<const N: usize, C: Course<N>, R, W, O: Input<R> + Output<W>>(
             Entry::Line(length) => {
                 match put_line(outside, &mut out, writer, &mut line) {
                     Ok(()) => {}
-                    Err(failed) => return Outcome::of_failed(failed),
+                    Err(failed) => return Finished::of_failed(failed),
                 }
                 window.bytes.leave(length as usize);
                 place.advance(length);
@@ -229,7 +229,7 @@ pub fn list<const N: usize, C: Course<N>, R, W, O: Input<R> + Output<W>>(
                 if !window.step() {
                     match out.send_all(outside, writer) {
                         Ok(()) => {}
-                        Err(failed) => return Outcome::of_failed(failed),
+                        Err(failed) => return Finished::of_failed(failed),
                     }
                     window.fill(outside, reader);
                 }

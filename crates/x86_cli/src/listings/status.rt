@@ -43,19 +43,19 @@ impl Status {
 
 /// How a program ended.
 #[derive(Clone, Copy, Drop)]
-pub struct Outcome {
+pub struct Finished {
     pub status: Status,
     /// Whether the last call of the writer answered that nobody reads what is written.
     pub gone: bool,
 }
 
-impl Outcome {
+impl Finished {
     /// The writer took no more.
-    pub fn of_failed(failed: WriteFailed) -> Outcome
+    pub fn of_failed(failed: WriteFailed) -> Finished
         ensures status { result.status ≡ Status.WriteFault }
         ensures gone { result.gone ≡ failed.gone }
     {
-        Outcome {
+        Finished {
             status: Status::WriteFault,
             gone: failed.gone,
         }

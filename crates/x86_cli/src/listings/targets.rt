@@ -10,7 +10,7 @@ ghost use Rattle.x86_cli.specs.Listings.Performs.{Performs};
 ghost use Rattle.x86_cli.specs.Listings.Targets.{ReadsWhole, image_max, place_line, targets_at};
 
 use crate::listings::listing::{end, put_line};
-use crate::listings::status::Outcome;
+use crate::listings::status::Finished;
 use arrayvec::ArrayVec;
 use x86_decode::InstDecoder;
 use x86_layout::mark_targets;
@@ -110,7 +110,7 @@ pub fn targets<R, W, O: Input<R> + Output<W>>(
     outside: &O,
     reader: &mut R,
     writer: &mut W,
-) -> Outcome
+) -> Finished
     requires { max ≤ 2 * image_max }
     ensures { Performs O.reads O.writes O.flushes O.gathers (record { max = max;
         known = λ t. at_end t.ending; lists = targets_at (is_strict decoder.now) 0 }) result
@@ -118,7 +118,7 @@ pub fn targets<R, W, O: Input<R> + Output<W>>(
 {
     let text = match read_whole(max, outside, reader, writer) {
         Ok(text) => text,
-        Err(failed) => return Outcome::of_failed(failed),
+        Err(failed) => return Finished::of_failed(failed),
     };
     let image = text.image.as_slice();
     let mut marks = [false; IMAGE_MAX];
@@ -127,7 +127,7 @@ pub fn targets<R, W, O: Input<R> + Output<W>>(
     'places: for place in 0..image.len() {
         match put_if_marked(outside, &mut out, writer, marks[place], place as u64) {
             Ok(()) => {}
-            Err(failed) => return Outcome::of_failed(failed),
+            Err(failed) => return Finished::of_failed(failed),
         }
     }
     end(outside, &mut out, writer, text.ending)

@@ -8,7 +8,7 @@ use Rattle.std.specs.Io.KnownBytes.{Keeps, Appends, ReadConsumes, WriteAppends}
 use Rattle.std.proofs.KnownBytes.{Keeps-refl, Keeps-trans, Appends-nil, Appends-trans, Appends-kept}
 use Rattle.x86_streams.specs.declared.outside.sending.WriteFailed.{WriteFailed}
 use Rattle.x86_streams.specs.Outside.Stop.{Stop}
-use Rattle.x86_streams.specs.Outside.Chain.{Call, Read, Write, Flush, pieces, received, sent, stop_of, taken_by, refused, AllContinue, Cause, EndsIn, IsFlush, IsGone, Interruptions, Reads, Writes, Flushes, Calls, WriterCalls, Puts, Sends, SendsAll}
+use Rattle.x86_streams.specs.Outside.Chain.{Call, Read, Write, Flush, pieces, received, sent, stop_of, taken_by, not_taken, AllContinue, Cause, EndsIn, IsFlush, IsGone, Interruptions, ReadsOnce, WritesOnce, FlushesOnce, Calls, WriterCalls, Puts, Sends, SendsAll}
 
 pub starts_more : (bytes more next : List ℕ) → StartsWith bytes next → StartsWith (bytes ++ more) next
 starts_more bytes more next h = let fits = length-take (length next) bytes in grind (arith, ap length h, fits, take-append-le (length next) bytes more)
@@ -39,7 +39,7 @@ ends_joined Is [] ds e = absurd e
 ends_joined Is (c ∷ cs) ds e = e
 
 abbrev Failed : Result ⊤ WriteFailed → List ℕ → List Call → Type 0
-Failed answer held cs = IfErr answer (λ f. StartsWith held (refused cs) × (IsTrue f.gone ↔ EndsIn IsGone cs))
+Failed answer held cs = IfErr answer (λ f. StartsWith held (not_taken cs) × (IsTrue f.gone ↔ EndsIn IsGone cs))
 
 pub failed_joined : (answer : Result ⊤ WriteFailed) (held : List ℕ) (cs ds : List Call) → Cause answer cs → Failed answer held cs → Failed answer held (cs ++ ds)
 failed_joined (Ok x) held cs ds cause h = tt
@@ -102,9 +102,9 @@ module _ {W : Type 0} (writes : W → List ℕ → Result ℕ Error → W → Ty
       (sends_join answer [] [] held held' held' a b d f g'.0, ends_flush answer (held' ≡ []) g'.0.calls f.calls g'.1, λ e. pieces_joined g'.0.calls f.calls ∙ ap (λ ps. ps ++ pieces g'.0.calls) (wrote e) ∙ g'.2 none)
 
   failed_more : (answer : Result ⊤ WriteFailed) (held more : List ℕ) (cs : List Call) →
-      IfErr answer (λ f. StartsWith held (refused cs) × (IsTrue f.gone ↔ EndsIn IsGone cs)) → IfErr answer (λ f. StartsWith (held ++ more) (refused cs) × (IsTrue f.gone ↔ EndsIn IsGone cs))
+      IfErr answer (λ f. StartsWith held (not_taken cs) × (IsTrue f.gone ↔ EndsIn IsGone cs)) → IfErr answer (λ f. StartsWith (held ++ more) (not_taken cs) × (IsTrue f.gone ↔ EndsIn IsGone cs))
   failed_more (Ok done) held more cs h = tt
-  failed_more (Err f) held more cs h = (starts_more held more (refused cs) h.0, h.1)
+  failed_more (Err f) held more cs h = (starts_more held more (not_taken cs) h.0, h.1)
 
   -- what is held, and then new bytes
   pub sends_new : (answer : Result ⊤ WriteFailed) (new held held' : List ℕ) (w w' : W) → Sends writes flushes answer [] held held' w w' → Sends writes flushes answer new held (held' ++ new) w w'
@@ -139,7 +139,7 @@ module _ {O : Type 0} (view : O → Option (List ℕ)) (tries : O → Error → 
   interruptions_keep (suc n) a b h = Keeps-trans (view a) (view h.0) (view b) (interruptions_keep n a h.0 h.1) (keeps h.0 h.2.0 b h.2.1)
 
 pub read_consumes : {R : Type 0} (left : R → Option (List ℕ)) (buffer : List ℕ) (answer : Result ℕ Error) (r r' : R) →
-    Reads (λ s b a t. ReadConsumes (left s) (left t) a b) buffer answer r r' → ReadConsumes (left r) (left r') answer buffer
+    ReadsOnce (λ s b a t. ReadConsumes (left s) (left t) a b) buffer answer r r' → ReadConsumes (left r) (left r') answer buffer
 read_consumes left buffer answer r r' h =
     let kept = interruptions_keep left _ (λ u e v tried. tried.1) h.count r h.before h.interrupted in kept_read (left r) (left h.before) (left r') answer buffer kept h.answered
 
@@ -150,11 +150,11 @@ module _ {W : Type 0} (contents : W → Option (List ℕ)) where
   abbrev pub StdFlushes : W → Result ⊤ Error → W → Type 0
   StdFlushes w answer v = Keeps (contents w) (contents v)
 
-  pub write_appends : (bytes : List ℕ) (answer : Result ℕ Error) (w w' : W) → Writes StdWrites bytes answer w w' → WriteAppends (contents w) (contents w') answer bytes
+  pub write_appends : (bytes : List ℕ) (answer : Result ℕ Error) (w w' : W) → WritesOnce StdWrites bytes answer w w' → WriteAppends (contents w) (contents w') answer bytes
   write_appends bytes answer w w' h =
       let kept = interruptions_keep contents _ (λ u e v tried. tried) h.count w h.before h.interrupted in kept_write (contents w) (contents h.before) (contents w') answer bytes kept h.answered
 
-  pub flush_keeps : (answer : Result ⊤ Error) (w w' : W) → Flushes StdFlushes answer w w' → Keeps (contents w) (contents w')
+  pub flush_keeps : (answer : Result ⊤ Error) (w w' : W) → FlushesOnce StdFlushes answer w w' → Keeps (contents w) (contents w')
   flush_keeps answer w w' h =
       Keeps-trans (contents w) (contents h.before) (contents w') (interruptions_keep contents _ (λ u e v tried. tried) h.count w h.before h.interrupted) h.answered
 

@@ -72,9 +72,9 @@ EndsIn Is [] = ⊥
 EndsIn Is (c ∷ cs) = Is c
 
 -- the bytes that the last call was to write, where it answered an error
-abbrev pub refused : List Call → List ℕ
-refused (Write bytes (Err e) ∷ cs) = bytes
-refused cs = []
+abbrev pub not_taken : List Call → List ℕ
+not_taken (Write bytes (Err e) ∷ cs) = bytes
+not_taken cs = []
 
 -- tries o e o': a call at o may answer this error, and leave o'
 -- So many calls, one after the other, were each interrupted by a signal.
@@ -84,7 +84,7 @@ Interruptions {O} tries (suc n) o o' = (u : O) × Interruptions tries n o u × (
 
 -- A call was made, again after each interruption, and then answered so. An interruption is the answer only after
 -- 2^64 - 1 others.
-pub record Answers {O A : Type 0} (tries : O → Error → O → Type 0) (call : O → Result A Error → O → Type 0) (answer : Result A Error) (o o' : O) : Type 0 where
+pub record Uninterrupted {O A : Type 0} (tries : O → Error → O → Type 0) (call : O → Result A Error → O → Type 0) (answer : Result A Error) (o o' : O) : Type 0 where
   pub count : ℕ
   pub before : O
   pub interrupted : Interruptions tries count o before
@@ -92,24 +92,24 @@ pub record Answers {O A : Type 0} (tries : O → Error → O → Type 0) (call :
   pub final : IfErr answer (λ e. error_kind e ≡ Interrupted → 18446744073709551615 ≤ count)
 
 -- reads r buffer answer r': a read of r may answer so, with this in its buffer, and leave r'
-abbrev pub Reads : {R : Type 0} → (R → List ℕ → Result ℕ Error → R → Type 0) → List ℕ → Result ℕ Error → R → R → Type 0
-Reads {R} reads buffer answer r r' = Answers (λ u e v. (part : List ℕ) × reads u part (Err e) v) (λ u a v. reads u buffer a v) answer r r'
+abbrev pub ReadsOnce : {R : Type 0} → (R → List ℕ → Result ℕ Error → R → Type 0) → List ℕ → Result ℕ Error → R → R → Type 0
+ReadsOnce {R} reads buffer answer r r' = Uninterrupted (λ u e v. (part : List ℕ) × reads u part (Err e) v) (λ u a v. reads u buffer a v) answer r r'
 
 -- writes w bytes answer w', flushes w answer w': a call of w may answer so, and leave w'
-abbrev pub Writes : {W : Type 0} → (W → List ℕ → Result ℕ Error → W → Type 0) → List ℕ → Result ℕ Error → W → W → Type 0
-Writes writes bytes answer w w' = Answers (λ u e v. writes u bytes (Err e) v) (λ u a v. writes u bytes a v) answer w w'
+abbrev pub WritesOnce : {W : Type 0} → (W → List ℕ → Result ℕ Error → W → Type 0) → List ℕ → Result ℕ Error → W → W → Type 0
+WritesOnce writes bytes answer w w' = Uninterrupted (λ u e v. writes u bytes (Err e) v) (λ u a v. writes u bytes a v) answer w w'
 
-abbrev pub Flushes : {W : Type 0} → (W → Result ⊤ Error → W → Type 0) → Result ⊤ Error → W → W → Type 0
-Flushes flushes answer w w' = Answers (λ u e v. flushes u (Err e) v) flushes answer w w'
+abbrev pub FlushesOnce : {W : Type 0} → (W → Result ⊤ Error → W → Type 0) → Result ⊤ Error → W → W → Type 0
+FlushesOnce flushes answer w w' = Uninterrupted (λ u e v. flushes u (Err e) v) flushes answer w w'
 
 module _ {R W : Type 0} (reads : R → List ℕ → Result ℕ Error → R → Type 0) (writes : W → List ℕ → Result ℕ Error → W → Type 0)
     (flushes : W → Result ⊤ Error → W → Type 0) where
   -- These calls, the last first, led from the one state of reader and writer to the other.
   abbrev pub Calls : List Call → R → R → W → W → Type 0
   Calls [] r r' w w' = (r' ≡ r) × (w' ≡ w)
-  Calls (Read buffer answer ∷ cs) r r' w w' = (u : R) × Calls cs r u w w' × Reads reads buffer answer u r'
-  Calls (Write bytes answer ∷ cs) r r' w w' = (v : W) × Calls cs r r' w v × Writes writes bytes answer v w'
-  Calls (Flush answer ∷ cs) r r' w w' = (v : W) × Calls cs r r' w v × Flushes flushes answer v w'
+  Calls (Read buffer answer ∷ cs) r r' w w' = (u : R) × Calls cs r u w w' × ReadsOnce reads buffer answer u r'
+  Calls (Write bytes answer ∷ cs) r r' w w' = (v : W) × Calls cs r r' w v × WritesOnce writes bytes answer v w'
+  Calls (Flush answer ∷ cs) r r' w w' = (v : W) × Calls cs r r' w v × FlushesOnce flushes answer v w'
 
 -- ---- what a buffer sends
 
@@ -134,8 +134,8 @@ module _ {W : Type 0} (writes : W → List ℕ → Result ℕ Error → W → Ty
   abbrev pub WriterCalls : List Call → W → W → Type 0
   WriterCalls [] w w' = w' ≡ w
   WriterCalls (Read buffer answer ∷ cs) w w' = ⊥
-  WriterCalls (Write bytes answer ∷ cs) w w' = (v : W) × WriterCalls cs w v × Writes writes bytes answer v w'
-  WriterCalls (Flush answer ∷ cs) w w' = (v : W) × WriterCalls cs w v × Flushes flushes answer v w'
+  WriterCalls (Write bytes answer ∷ cs) w w' = (v : W) × WriterCalls cs w v × WritesOnce writes bytes answer v w'
+  WriterCalls (Flush answer ∷ cs) w w' = (v : W) × WriterCalls cs w v × FlushesOnce flushes answer v w'
 
   -- The writer took, in order, what was held and what is new; the rest is held. A write that failed was to take what is
   -- held first.
@@ -144,7 +144,7 @@ module _ {W : Type 0} (writes : W → List ℕ → Result ℕ Error → W → Ty
     pub did : WriterCalls calls w w'
     pub cause : Cause answer calls
     pub order : sent calls ++ held' ≡ held ++ new
-    pub failed : IfErr answer (λ f. StartsWith held' (refused calls) × (IsTrue f.gone ↔ EndsIn IsGone calls))
+    pub failed : IfErr answer (λ f. StartsWith held' (not_taken calls) × (IsTrue f.gone ↔ EndsIn IsGone calls))
 
   -- All that was held is sent, and the writer is flushed. Where nothing was held, nothing is written.
   abbrev pub SendsAll : Result ⊤ WriteFailed → List ℕ → List ℕ → W → W → Type 0

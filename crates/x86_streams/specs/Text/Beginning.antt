@@ -18,7 +18,7 @@ abbrev pub Is : List ℕ → ℕ → (ℕ → List ℕ → Stop → Text) → Ty
 Is text room other = (position : ℕ) (xs : List ℕ) (stop : Stop) → text_at position room (text ++ xs) stop ≡ other position xs stop
 
 -- A text that is open: it is at most half a pair, with nothing in its image.
-pub record IsOpen (text : List ℕ) (room : ℕ) : Type 0 where
+pub record IsOpenText (text : List ℕ) (room : ℕ) : Type 0 where
   pub few : length text ≤ 1
   pub fits : length text ≤ room
   pub failed : (position : ℕ) → text_at position room text Failed ≡ ended ending.Fault
@@ -29,4 +29,4 @@ IsBeginning Blank text room = (1 ≤ length text) × (1 ≤ room) × Is text roo
 IsBeginning (Pair v) text room = (2 ≤ length text) × (2 ≤ room) × Is text room (λ p xs s. with_byte v (text_at (p + 2) (room - 2) (drop 2 text ++ xs) s))
 IsBeginning (Bad n) text room = (n < length text) × (n < room) × Is text room (λ p xs s. ended (ending.Bad (p + n)))
 IsBeginning Large text room = Is text room (λ p xs s. ended ending.Large)
-IsBeginning Open text room = IsOpen text room
+IsBeginning Open text room = IsOpenText text room

@@ -1,7 +1,7 @@
 -- What contracts see of a reader of text, and what a read of it says.
 use Rattle.std.specs.Prelude.{◌≡◌, ℕ, ◌<◌, List, ◌++◌, length, Result}
 use Rattle.std.specs.declared.io.Error.{Error}
-use Rattle.x86_streams.specs.Outside.Chain.{Reads, taken_by}
+use Rattle.x86_streams.specs.Outside.Chain.{ReadsOnce, taken_by}
 
 -- where a reader of a text is, how many bytes it may still take, and those that were read and not taken
 pub record TextPosition : Type 0 where
@@ -13,5 +13,5 @@ pub record TextPosition : Type 0 where
 pub record ReadsBlock {R : Type 0} (reads : R → List ℕ → Result ℕ Error → R → Type 0) (answer : Result ℕ Error) (old new : List ℕ) (r r' : R) : Type 0 where
   pub buffer : List ℕ
   pub some : 0 < length buffer
-  pub answered : Reads reads buffer answer r r'
+  pub answered : ReadsOnce reads buffer answer r r'
   pub unread : new ≡ old ++ taken_by answer buffer

@@ -2,7 +2,7 @@
 use Rattle.std.specs.Prelude.{◌≡◌, ℕ, ◌+◌, ◌-◌, ◌*◌, ◌<◌, ◌≤◌, List, [], ◌∷◌, ◌++◌, length, Option, Some, None, Result}
 use Rattle.std.specs.declared.io.Error.{Error}
 use Rattle.x86_streams.specs.declared.text.reader.Ending.{Ending}
-use Rattle.x86_streams.specs.Outside.Chain.{Read, Reads, stop_of, taken_by}
+use Rattle.x86_streams.specs.Outside.Chain.{Read, ReadsOnce, stop_of, taken_by}
 use Rattle.x86_streams.specs.Outside.Stop.{Stop}
 use Rattle.x86_streams.specs.Text.{Text, text_at}
 use Rattle.x86_streams.specs.Text.Reader.{TextPosition}
@@ -56,7 +56,7 @@ pub record Fills {R : Type 0} (reads : R → List ℕ → Result ℕ Error → R
   pub buffer : List ℕ
   pub some : 0 < length buffer
   pub answer : Result ℕ Error
-  pub answered : Reads reads buffer answer r r'
+  pub answered : ReadsOnce reads buffer answer r r'
   pub stop : ended' ≡ None → stop_of (Read buffer answer ∷ []) ≡ None
   pub rest : (xs : List ℕ) (stop : Stop) → MayCome (stop_of (Read buffer answer ∷ [])) xs stop →
       rest_after None window text (taken_by answer buffer ++ xs) stop ≡ rest_after ended' window text' xs stop

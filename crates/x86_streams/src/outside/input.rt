@@ -3,7 +3,7 @@
 ghost use Rattle.std.specs.Prelude.{◌<◌, ℕ, List, Result, length};
 ghost use Rattle.std.specs.Io.{ReadsAtMost};
 ghost use Rattle.std.specs.declared.io.Error.{Error};
-ghost use Rattle.x86_streams.specs.Outside.Chain.{Reads};
+ghost use Rattle.x86_streams.specs.Outside.Chain.{ReadsOnce};
 
 use crate::outside::interruptions::{TRIES, is_interrupted};
 use std::io;
@@ -26,7 +26,7 @@ pub trait Input<R> {
 pub fn read_some<R, I: Input<R>>(input: &I, reader: &mut R, buffer: &mut [u8]) -> io::Result<usize>
     requires { 0 < length buffer.old }
     ensures bound { ReadsAtMost result buffer.new }
-    ensures read { Reads I.reads buffer.new result reader.old reader.new }
+    ensures read { ReadsOnce I.reads buffer.new result reader.old reader.new }
 {
     for tried in 0..TRIES {
         match input.read(reader, buffer) {

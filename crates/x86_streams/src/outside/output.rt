@@ -3,7 +3,7 @@
 ghost use Rattle.std.specs.Prelude.{◌≡◌, ℕ, Bool, false, List, Result, Ok, length, ⊤};
 ghost use Rattle.std.specs.Io.{WritesAtMost};
 ghost use Rattle.std.specs.declared.io.Error.{Error};
-ghost use Rattle.x86_streams.specs.Outside.Chain.{Flushes, Writes};
+ghost use Rattle.x86_streams.specs.Outside.Chain.{FlushesOnce, WritesOnce};
 
 use crate::outside::interruptions::{TRIES, is_interrupted};
 use std::io;
@@ -43,7 +43,7 @@ pub trait Output<W> {
 #[inline(always)]
 pub fn write_some<W, O: Output<W>>(output: &O, writer: &mut W, bytes: &[u8]) -> io::Result<usize>
     ensures bound { WritesAtMost result bytes.now }
-    ensures wrote { Writes O.writes bytes.now result writer.old writer.new }
+    ensures wrote { WritesOnce O.writes bytes.now result writer.old writer.new }
 {
     for tried in 0..TRIES {
         match output.write(writer, bytes) {
@@ -61,7 +61,7 @@ pub fn write_some<W, O: Output<W>>(output: &O, writer: &mut W, bytes: &[u8]) -> 
 /// One flush, which is made again where a signal interrupts it.
 #[tactic(auto, using(crate::proofs::OutsideLemmas::Tries::interrupted_more))]
 pub fn flush_once<W, O: Output<W>>(output: &O, writer: &mut W) -> io::Result<()>
-    ensures { Flushes O.flushes result writer.old writer.new }
+    ensures { FlushesOnce O.flushes result writer.old writer.new }
 {
     for tried in 0..TRIES {
         match output.flush(writer) {

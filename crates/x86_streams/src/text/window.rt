@@ -2,7 +2,7 @@
 
 ghost use Rattle.std.specs.Prelude.{◌≡◌, ◌+◌, ◌<◌, [], length, None, true, false};
 ghost use Rattle.x86_streams.specs.Text.Window.{Steps, TakesBytes, Fills};
-ghost use Rattle.x86_streams.specs.Text.Beginning.{IsOpen, end_of};
+ghost use Rattle.x86_streams.specs.Text.Beginning.{IsOpenText, end_of};
 
 use crate::outside::input::Input;
 use crate::text::beginning::{Beginning, beginning_of};
@@ -68,7 +68,7 @@ impl Window {
         ensures steps { result ≡ true → Steps self.old.bytes.items self.old.text
             self.new.ended self.new.bytes.items self.new.text }
         ensures same { result ≡ false → self.new ≡ self.old }
-        ensures open { result ≡ false → IsOpen self.old.text.unread self.old.text.room }
+        ensures open { result ≡ false → IsOpenText self.old.text.unread self.old.text.room }
     {
         match beginning_of(self.text.unread(), self.text.room()) {
             Beginning::Open => return false,
@@ -85,7 +85,7 @@ impl Window {
 
     /// How a text ends that has at most half a pair left.
     fn end(&self) -> Ending
-        requires { IsOpen self.now.text.unread self.now.text.room }
+        requires { IsOpenText self.now.text.unread self.now.text.room }
         ensures { result ≡ end_of (self.now.text.position + length self.now.text.unread)
             self.now.text.unread }
     {
@@ -100,7 +100,7 @@ impl Window {
     /// Reads on, where at most half a pair is left.
     pub fn fill<R, I: Input<R>>(&mut self, input: &I, reader: &mut R)
         requires ended { self.old.ended ≡ None }
-        requires open { IsOpen self.old.text.unread self.old.text.room }
+        requires open { IsOpenText self.old.text.unread self.old.text.room }
         ensures fills { Fills I.reads self.old.bytes.items self.old.text
             self.new.ended self.new.text reader.old reader.new }
         ensures bytes { self.new.bytes ≡ self.old.bytes }
