@@ -3,7 +3,7 @@
 use crate::support::arguments;
 use std::alloc::Global;
 use std::process::ExitCode;
-use x86_cli::{Outcome, Process, Status, USAGE, finish, words};
+use x86_cli::{Finished, Process, Status, USAGE, finish, words};
 
 /// Whether these are the words of a process with these arguments.
 fn has_words(alloc: Global, given: &str, wanted: &str) -> bool {
@@ -25,7 +25,7 @@ fn words_are_all_arguments_but_the_first(rt: HostRuntime) {
 /// Whether the process ends with this code, and this is in its third stream. The output may be gone.
 fn finishes(alloc: Global, status: Status, gone: bool, code: u8, written: &str) -> bool {
     let mut errors = Vec::new(alloc);
-    let ended = finish(Outcome { status, gone }, &Process, &mut errors);
+    let ended = finish(Finished { status, gone }, &Process, &mut errors);
     ended == ExitCode::from(code) && errors.as_slice() == written.as_bytes()
 }
 

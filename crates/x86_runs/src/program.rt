@@ -4,7 +4,7 @@ use crate::support::{ShortReader, arguments, shows};
 use std::alloc::{AllocError, Global};
 use std::io;
 use std::io::{ErrorKind, Read, Write};
-use x86_cli::{Outcome, Process, Status, listed};
+use x86_cli::{Finished, Process, Status, listed};
 
 /// Keeps what it takes, at most so many bytes a write. Each third write is interrupted, and a flush fails if it is to.
 #[derive(Drop)]
@@ -39,7 +39,7 @@ fn program_ending<R: Read, W: Write>(
     alloc: Global,
     reader: &mut R,
     writer: &mut W,
-) -> Result<Outcome, AllocError> {
+) -> Result<Finished, AllocError> {
     let arguments = arguments(alloc, "list")?;
     Ok(listed(arguments.as_slice(), &Process, reader, writer))
 }
