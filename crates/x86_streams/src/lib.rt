@@ -1,16 +1,17 @@
 //! Where bytes come from and where they go, and hex text that is read from there. No decoder is needed.
 //!
 //! A `Source` returns its bytes one by one, and a `Sink` takes them piece by piece. Each is there over slices and
-//! arrays, with faults that the caller chooses, and over any reader or writer of std. `Gathered` is the buffer before a
-//! writer. Contracts name each call, so code that is generic over them can't make one up. `TextReader` reads a hex text
-//! from any source:
+//! arrays, with faults that the caller chooses, and over any reader or writer of std. A program reads by `Input` and
+//! writes by `Output`: of `Process`, the readers and writers of std, or of `OneByOne`, a source and a sink. Contracts
+//! name each call, so code that is generic over them can't make one up. A `Window` has the next bytes of the image that
+//! a hex text spells:
 //!
 //! ```
-//! let mut source = SoundSource::new(b"48 d8\n");
-//! let mut reader = TextReader::new(1024); // of a text of at most 1024 bytes
-//! reader.next(&mut source) // Piece::Byte(0x48)
-//! reader.next(&mut source) // Piece::Byte(0xd8)
-//! reader.next(&mut source) // Piece::Stopped(Ending::Clean)
+//! let mut reader: &[u8] = b"48 d8\n";
+//! let mut window = Window::new(1024); // over a text of at most 1024 bytes
+//! window.fill(&Process, &mut reader); // one read
+//! while window.step() {}              // each blank, and each pair
+//! window.bytes.as_slice()             // [0x48, 0xd8]
 //! ```
 #![tactic(auto)]
 
