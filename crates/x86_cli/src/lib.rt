@@ -25,7 +25,7 @@ pub use commands::program::{Program, listed, run};
 pub use commands::request::{Request, USAGE};
 pub use listings::status::{Finished, Status};
 pub use x86_streams::{
-    ArraySink, Got, NullSink, OneByOne, Process, Sink, SinkFailed, SliceSource, SoundSource, Source,
-    StdSink, StdSource, outside,
+    ArraySink, Got, NullSink, OneByOne, Process, Sink, SinkFailed, SliceSource, SoundSource,
+    Source, StdSink, StdSource, outside,
 };
 pub use x86_text::{fields_line, line_of, refusal_of};

@@ -12,12 +12,12 @@ use Rattle.x86_streams.specs.Outside.Chain.{Call, Read, Write, Flush, received, 
 use Rattle.x86_streams.specs.Outside.Stop.{Stop, End, Failed}
 use Rattle.x86_streams.specs.Text.{Text, text_of}
 use Rattle.x86_streams.specs.Text.Reading.{MayCome}
-use Rattle.x86_cli.specs.Commands.Command.{goes_past_refusals, listing_for, known_for, max_of}
+use Rattle.x86_cli.specs.Commands.Command.{goes_past_refusals}
 use Rattle.x86_cli.specs.Commands.Program.{EndsAt}
-use Rattle.x86_cli.specs.Commands.Request.{task_of}
+use Rattle.x86_cli.specs.Commands.Request.{task_of, listing_for, known_for, max_of}
 use Rattle.x86_cli.specs.Commands.Says.{taken_listing}
 use Rattle.x86_cli.specs.Listings.Performs.{ByRule, IsEnd, Performs, Task}
-use Rattle.x86_cli.proofs.CommandLemmas.Causes.{some_stop, fault_stop, known_fault, command_end, command_read, command_status, end_stop}
+use Rattle.x86_cli.proofs.CommandLemmas.Causes.{some_stop, fault_stop, known_fault, command_read, command_status, end_stop}
 
 -- Where a read failed, the listing of the bytes read before ends in a read fault.
 pub fault_listed : (c : Command) (cs : List Call) → ByRule (known_for c) (text_of (max_of c)) cs → stop_of cs ≡ Some Failed → (taken_listing c (received cs)).status ≡ ReadFault

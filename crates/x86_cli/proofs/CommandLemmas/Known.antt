@@ -1,20 +1,17 @@
 -- What a program says where the bytes that its reader has left and those that its writer has are known.
 use Rattle.std.proofs.Common.{◌≡◌, ◌≢◌, ℕ, zero, suc, List, [], ◌∷◌, ◌<◌, ◌++◌, length, take, drop, Option, Some, None, Result, Ok, Err, refl, ap, ◌∙◌, sym, append_assoc, append-nil, take-append-drop, arith}
 use Rattle.std.specs.Prelude.{Bool, IfSome, ⊤}
-use Rattle.std.specs.List.{concat}
-use Rattle.std.specs.Io.{StartsWith}
 use Rattle.std.specs.declared.io.Error.{Error}
 use Rattle.std.specs.Io.KnownBytes.{Keeps, Consumes, Appends, IsAtEnd}
 use Rattle.std.proofs.KnownBytes.{Consumes-nil, Consumes-trans, Consumes-kept, Appends-nil, Appends-trans, Appends-kept, Consumes-whole, starts_with_rest}
 use Rattle.x86_cli.specs.declared.commands.command.Command.{Command}
 use Rattle.x86_cli.specs.declared.listings.status.Finished.{Finished}
 use Rattle.x86_cli.specs.declared.listings.status.Status.{Status}
-use Rattle.x86_cli.specs.declared.listings.status.Status.TheVariants.{WriteFault}
-use Rattle.x86_streams.specs.Outside.Chain.{Call, Read, Write, Flush, AllContinue, Calls, EndsIn, Fails, FlushesOnce, Follow, IsFlush, ReadsOnce, WritesOnce, received, not_taken, sent, stop_of, taken_by}
+use Rattle.x86_streams.specs.Outside.Chain.{Call, Read, Write, Flush, AllContinue, Calls, EndsIn, Fails, FlushesOnce, Follow, IsFlush, ReadsOnce, WritesOnce, received, not_taken, sent, stop_of}
 use Rattle.x86_streams.specs.Outside.Stop.{Stop, End, Failed}
 use Rattle.x86_streams.specs.Text.{Text, text_of}
 use Rattle.x86_streams.specs.Text.Reading.{MayCome}
-use Rattle.x86_cli.specs.Commands.Command.{known_for, listing_for, max_of}
+use Rattle.x86_cli.specs.Commands.Request.{known_for, listing_for, max_of}
 use Rattle.x86_cli.specs.Commands.Says.{full_listing, taken_listing}
 use Rattle.x86_cli.specs.Listings.Listing.{Listing}
 use Rattle.x86_cli.specs.Listings.Performs.{ByRule, IsPrinted, Performs, Task}

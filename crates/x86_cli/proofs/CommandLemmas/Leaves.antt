@@ -55,9 +55,12 @@ module _ {R W : Type 0} (left : R → Option (List ℕ)) (written : W → Option
 
     of_a_part : stop_of h.calls ≡ Some Failed → HasOfTaken outcome.status c (left r) (written w) (written w')
     of_a_part is =
-        let read = consumed reads writes keeps left written takes adds (flush_keeps written) h.calls r r' w w' h.did in
-        (received h.calls, grind (arith, read, take-append_seam {A = ℕ}), of_taken reads writes keeps left written takes adds (flush_keeps written) c h.calls r r' w w' h.did h.rule
-        (λ l. Has outcome.status l (written w) (written w')) (λ xs stop may. (printed.bytes, printed.lists xs stop may, printed.wrote)) is)
+        let read = consumed reads writes keeps left written takes adds (flush_keeps written) h.calls r r' w w' h.did in (
+          received h.calls,
+          grind (arith, read, take-append_seam {A = ℕ}),
+          of_taken reads writes keeps left written takes adds (flush_keeps written) c h.calls r r' w w' h.did h.rule
+              (λ l. Has outcome.status l (written w) (written w')) (λ xs stop may. (printed.bytes, printed.lists xs stop may, printed.wrote)) is,
+        )
 
     written_fault : outcome.status ≡ WriteFault → (stop : Option Stop) → stop_of h.calls ≡ stop → Leaves WriteFault c (left r) (written w) (written w')
     written_fault fault (Some Failed) is = inr (rw fault at (of_a_part is))

@@ -1,10 +1,9 @@
 -- What a run says of a source and of a sink whose bytes are known.
-use Rattle.std.proofs.Common.{◌≡◌, ◌≢◌, ◌⊎◌, inl, inr, ℕ, zero, suc, Bool, List, [], ◌∷◌, ◌++◌, take, Option, Some, None, Result, Ok, Err, refl, ap, ◌∙◌, subst, sym, append-nil, arith}
+use Rattle.std.proofs.Common.{◌≡◌, ◌≢◌, inl, inr, ℕ, zero, suc, Bool, List, [], ◌∷◌, ◌++◌, Option, Some, Result, Ok, Err, refl, ap, ◌∙◌, subst, sym, append-nil, arith}
 use Rattle.std.proofs.Math.Seq.{take-length}
 use Rattle.std.proofs.lemmas.Option.{IfSome_then}
 use Rattle.std.specs.Prelude.{IfSome, false, ⊤}
-use Rattle.std.specs.List.{concat}
-use Rattle.std.specs.Io.KnownBytes.{Consumes, Appends, IsAtEnd, Keeps}
+use Rattle.std.specs.Io.KnownBytes.{Consumes, IsAtEnd, Keeps}
 use Rattle.std.proofs.KnownBytes.{Keeps-refl}
 use Rattle.std.specs.declared.io.Error.{Error}
 use Rattle.std.specs.declared.io.ErrorKind.TheVariants.{Interrupted}
@@ -12,7 +11,7 @@ use Rattle.std.specs.IoError.{error_kind}
 use Rattle.x86_streams.specs.declared.outside.source.Got.{Got}
 use Rattle.x86_streams.specs.declared.outside.source.Got.TheVariants as got
 use Rattle.x86_streams.specs.declared.outside.sink.SinkFailed.{SinkFailed}
-use Rattle.x86_streams.specs.Outside.Chain.{Call, Read, Write, Flush, AllContinue, Uninterrupted, Calls, EndsIn, Fails, FlushesOnce, Follow, Interruptions, IsFlush, ReadsOnce, WritesOnce, received, stop_of}
+use Rattle.x86_streams.specs.Outside.Chain.{Call, Read, Write, Flush, AllContinue, Uninterrupted, Calls, EndsIn, Fails, FlushesOnce, Follow, Interruptions, ReadsOnce, WritesOnce, received, stop_of}
 use Rattle.x86_streams.specs.Outside.FaultCounts.{Rose}
 use Rattle.x86_streams.specs.Outside.OneByOne.{HoldsNothing, PutsPiece, ReadsByte}
 use Rattle.x86_streams.specs.Outside.Sink.{ReportsPut}
@@ -24,16 +23,15 @@ use Rattle.x86_cli.specs.declared.commands.command.Command.{Command}
 use Rattle.x86_cli.specs.declared.commands.request.Request.TheVariants as request
 use Rattle.x86_cli.specs.declared.listings.status.Finished.{Finished}
 use Rattle.x86_cli.specs.declared.listings.status.Status.{Status}
-use Rattle.x86_cli.specs.declared.listings.status.Status.TheVariants.{Done, Usage, Refused, ReadFault, WriteFault}
+use Rattle.x86_cli.specs.declared.listings.status.Status.TheVariants.{Done, Usage, ReadFault, WriteFault}
 use Rattle.x86_cli.specs.DecoderLaws.{DecoderLaws}
-use Rattle.x86_cli.specs.Commands.Command.{known_for, listing_for, max_of}
 use Rattle.x86_cli.specs.Commands.Follows.{IsSound, IsExact, HasReadFault, Completes}
 use Rattle.x86_cli.specs.Commands.Make.{made_listing}
 use Rattle.x86_cli.specs.Commands.Program.{EndsAt}
-use Rattle.x86_cli.specs.Commands.Request.{Runs, task_of}
-use Rattle.x86_cli.specs.Commands.Says.{Streams, streams_of, full_listing, taken_listing, Writes as WritesListing, WritesPrefix, OfAll, OfTaken, Makes, Says}
+use Rattle.x86_cli.specs.Commands.Request.{task_of, known_for, listing_for, max_of}
+use Rattle.x86_cli.specs.Commands.Says.{Streams, streams_of, full_listing, Writes as WritesListing, WritesPrefix, OfAll, OfTaken, Makes, Says}
 use Rattle.x86_cli.specs.Listings.Listing.{Listing}
-use Rattle.x86_cli.specs.Listings.Performs.{ByRule, IsLastAt, IsPrinted, Performs, Task}
+use Rattle.x86_cli.specs.Listings.Performs.{ByRule, IsPrinted, Performs, Task}
 use Rattle.x86_cli.proofs.CommandLemmas.Causes.{some_stop, text_done}
 use Rattle.x86_cli.proofs.CommandLemmas.Ends.{ends_at}
 use Rattle.x86_cli.proofs.CommandLemmas.Known.{Adds, Prints, Takes, at_end_of, consumed, continued, follows, not_both, of_all, of_taken, prints}
@@ -43,9 +41,6 @@ none_left a b bytes c e = grind arith
 
 at_end_left : (a b : Option (List ℕ)) → Consumes a b [] → IfSome a (λ xs. xs ≡ []) → IfSome a (λ xs. IsAtEnd b)
 at_end_left a b c e = grind arith
-
-ends_flush : (status : Status) → status ≢ WriteFault → (cs : List Call) → EndsIn (IsLastAt status) cs → EndsIn IsFlush cs
-ends_flush status ne cs h = grind arith
 
 -- a call of a source or of a sink is never interrupted
 never_again : {O A : Type 0} (tries : O → Error → O → Type 0) (call : O → Result A Error → O → Type 0) (answer : Result A Error) (o o' : O) →
@@ -119,10 +114,10 @@ module _ {S K : Type 0} (gives : S → Got → S → Type 0) (takes : K → List
   -- the sink's count by how a run ended
   module _ (task : Task) (outcome : Finished) (s t : S) (k l : K) (h : Performs (ReadsByte gives) (PutsPiece takes) HoldsNothing false task outcome s t k l) where
     no_fault : (status : Status) → outcome.status ≡ status → status ≢ WriteFault → others l ≡ others k
-    no_fault status same ne = sink_keeps h.calls s t k l h.did (continued task.known (text_of task.max) h.calls h.rule (λ e. not_both h.calls e (ends_flush status ne h.calls (rw same at h.ends))))
+    no_fault status same ne = sink_keeps h.calls s t k l h.did (continued task.known (text_of task.max) h.calls h.rule (λ e. not_both h.calls e (h.flushed (λ is. ne (sym same ∙ is)))))
 
     rose : outcome.status ≡ WriteFault → Rose (others k) (others l)
-    rose same = sink_rises h.calls s t k l h.did (follows task.known (text_of task.max) h.calls h.rule) (rw same at h.ends)
+    rose same = sink_rises h.calls s t k l h.did (follows task.known (text_of task.max) h.calls h.rule) (h.failed same)
 
   -- `make`
 

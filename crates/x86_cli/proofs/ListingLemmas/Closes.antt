@@ -1,16 +1,15 @@
 -- How a listing is closed: its last line, and the flush.
-use Rattle.std.proofs.Common.{◌≡◌, ◌≢◌, ℕ, Bool, true, false, List, [], ◌∷◌, ◌++◌, Result, Ok, Err, refl, arith, ap, ◌∙◌, sym, append_assoc, append-nil}
-use Rattle.std.specs.Prelude.{⊤, ◌↔◌, IsTrue}
+use Rattle.std.proofs.Common.{◌≡◌, ◌≢◌, ℕ, Bool, false, List, [], ◌∷◌, ◌++◌, Result, Ok, Err, refl, arith, ap, ◌∙◌, sym, append_assoc, append-nil}
+use Rattle.std.specs.Prelude.{⊤}
 use Rattle.std.specs.List.{concat}
 use Rattle.std.specs.declared.io.Error.{Error}
 use Rattle.x86_streams.specs.declared.outside.sending.WriteFailed.{WriteFailed}
-use Rattle.x86_streams.specs.Outside.Chain.{Call, AllContinue, Cause, EndsIn, Fails, Follow, IsFlush, IsGone, Puts, Sends, SendsAll, pieces, not_taken, sent}
-use Rattle.x86_streams.proofs.OutsideLemmas.Calls.{all_continue_joined, ends_joined, pieces_joined, sent_joined, writer_calls_joined}
+use Rattle.x86_streams.specs.Outside.Chain.{Call, EndsIn, IsFlush, IsGone, Puts, Sends, SendsAll, pieces, not_taken, sent}
+use Rattle.x86_streams.proofs.OutsideLemmas.Calls.{all_continue_joined, pieces_joined, sent_joined, writer_calls_joined}
 use Rattle.x86_cli.specs.declared.listings.status.Finished.{Finished}
 use Rattle.x86_cli.specs.declared.listings.status.Status.{Status}
 use Rattle.x86_cli.specs.declared.listings.status.Status.TheVariants.{WriteFault}
-use Rattle.x86_cli.specs.Listings.Closes.{Closes}
-use Rattle.x86_cli.specs.Listings.Performs.{IsLastAt}
+use Rattle.x86_cli.specs.Listings.Closes.{Closes, IsLastAt}
 use Rattle.x86_cli.proofs.ListingLemmas.Live.{fails_last, follow_of, not_taken_first, sends_as}
 
 last_at : (status : Status) (cs : List Call) → status ≢ WriteFault → EndsIn IsFlush cs → EndsIn (IsLastAt status) cs

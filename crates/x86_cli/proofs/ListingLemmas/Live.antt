@@ -1,5 +1,5 @@
 -- The state of a listing, between two of its calls.
-use Rattle.std.proofs.Common.{◌≡◌, ◌≢◌, ℕ, ◌+◌, ◌<◌, List, [], ◌∷◌, ◌++◌, length, drop, take, Option, Some, None, Result, Ok, Err, refl, arith, ap, ◌∙◌, sym, append_assoc, append-nil, length-take, take-append-drop}
+use Rattle.std.proofs.Common.{◌≡◌, ◌≢◌, ℕ, ◌+◌, List, [], ◌∷◌, ◌++◌, length, drop, take, Option, None, Result, Ok, Err, refl, arith, ap, ◌∙◌, sym, append_assoc, append-nil, length-take, take-append-drop}
 use Rattle.std.proofs.lemmas.List.{take-append-le}
 use Rattle.std.proofs.lemmas.List.Folds.{concat-append}
 use Rattle.std.specs.Prelude.{⊤, ◌↔◌, IsTrue, Bool, false}
@@ -21,11 +21,11 @@ use Rattle.x86_streams.proofs.TextLemmas.Text.{with_bytes-with_bytes}
 use Rattle.x86_cli.specs.declared.listings.status.Finished.{Finished}
 use Rattle.x86_cli.specs.declared.listings.status.Status.{Status}
 use Rattle.x86_cli.specs.declared.listings.status.Status.TheVariants.{WriteFault}
-use Rattle.x86_cli.specs.Listings.Closes.{Closes}
+use Rattle.x86_cli.specs.Listings.Closes.{Closes, IsLastAt}
 use Rattle.x86_cli.specs.Listings.Entry.{IsLine}
 use Rattle.x86_cli.specs.Listings.Line.{line}
 use Rattle.x86_cli.specs.Listings.Listing.{Listing, with_lines, at_end}
-use Rattle.x86_cli.specs.Listings.Performs.{AreBeforeFault, AreFirst, ByRule, IsLastAt, Performs}
+use Rattle.x86_cli.specs.Listings.Performs.{ByRule, Performs}
 
 pub with-with : (a b : List (List ℕ)) (l : Listing) → with_lines a (with_lines b l) ≡ with_lines (a ++ b) l
 with-with a b l = ap (λ ls. record { lines = ls; status = l.status }) (sym (append_assoc a b l.lines))
@@ -73,6 +73,13 @@ module _ {W : Type 0} (writes : W → List ℕ → Result ℕ Error → W → Ty
 
 pub fresh : (text : TextPosition) (max : ℕ) → text.position ≡ 0 → text.room ≡ max → text.unread ≡ [] → text ≡ record { position = 0; room = max; unread = [] }
 fresh text max position room unread = grind (arith, position, room, unread)
+
+last_flush : (status : Status) (c : Call) → status ≢ WriteFault → IsLastAt status c → IsFlush c
+last_flush status c ne h = grind arith
+
+-- these lines are the first of others
+abbrev pub AreFirst : List (List ℕ) → List (List ℕ) → Type 0
+AreFirst lines all = (more : List (List ℕ)) × (all ≡ lines ++ more)
 
 pub read_stop : (buffer : List ℕ) (answer : Result ℕ Error) (cs : List Call) → stop_of (Read buffer answer ∷ cs) ≡ stop_of (Read buffer answer ∷ [])
 read_stop buffer answer cs = grind arith
@@ -180,7 +187,8 @@ module _ {R W : Type 0} (reads : R → List ℕ → Result ℕ Error → R → T
           calls = c ∷ (cs ++ s.calls);
           did = calls_joined writes flushes reads (c ∷ cs) s.calls r r' v v' v'' s.did did;
           rule = by_rule_joined writes flushes (knows 0) (text_of max) (c ∷ cs) s.calls v' v'' did follow s.rule s.unfailed;
-          ends = last;
+          flushed = λ ne. last_flush outcome.status c ne last;
+          failed = λ is. rw is at last;
           gone = gone;
           lists = λ xs stop may.
               let rest = at n (rest_after ended w text xs stop) in
@@ -239,7 +247,7 @@ module _ {R W : Type 0} (reads : R → List ℕ → Result ℕ Error → R → T
     live_fill held' v'' ended' text' r'' q half more f =
         let t = live_put image n None w text held r' v' s [] n 0 held' v'' (λ xs stop. refl) (λ _ xs stop. refl) q.0 (λ e. (q.1.0, q.2 (s.each e).0)) in
         let needs : NeedsMore 1 (text_at text.position text.room (text.unread ++ []) Failed) = rw (append-nil, half.failed text.position) (refl, omega arith) in
-        let before : AreBeforeFault (sent t.calls) (knows 0 (text_of max (received t.calls) Failed)) = (
+        let before : (lines : List (List ℕ)) × (knows 0 (text_of max (received t.calls) Failed) ≡ with_lines lines (at_end Fault)) × (concat lines ≡ sent t.calls) = (
           t.lines,
           rw append-nil at (t.decided refl [] Failed) ∙ ap (with_lines t.lines) (more (text_at text.position text.room (text.unread ++ []) Failed) needs),
           sym t.put ∙ ap (λ b. sent t.calls ++ b) q.1.0 ∙ append-nil (sent t.calls),

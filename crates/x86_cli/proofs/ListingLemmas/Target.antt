@@ -1,6 +1,6 @@
 -- The targets place by place.
 use Rattle.std.proofs.Common.{Bool, true, false, Some, Result, Ok, Err, append-nil, ◌≡◌, ℕ, suc, ◌+◌, ◌-◌, ◌<◌, List, [], ◌∷◌, ◌++◌, map, length, refl, arith, ap, ◌∙◌, sym, if◌then◌else◌}
-use Rattle.std.specs.Prelude.{⊤}
+use Rattle.std.specs.Prelude.{decimal, ⊤}
 use Rattle.std.specs.List.{filter, range_with_len}
 use Rattle.std.specs.declared.io.Error.{Error}
 use Rattle.x86_layout.specs.Sweeps.Marks.{is_marked}
@@ -13,9 +13,17 @@ use Rattle.x86_cli.specs.declared.listings.status.Finished.{Finished}
 use Rattle.x86_cli.specs.declared.listings.status.Status.TheVariants.{WriteFault}
 use Rattle.x86_cli.specs.Listings.Performs.{Performs}
 use Rattle.x86_cli.specs.Listings.Listing.{with_lines, at_end}
-use Rattle.x86_cli.specs.Listings.Targets.{marked_from, place_line, lines_if, targets_at}
+use Rattle.x86_cli.specs.Listings.Line.{line}
+use Rattle.x86_cli.specs.Listings.Targets.{targets_at}
 use Rattle.x86_cli.proofs.ListingLemmas.Live.{Live, live_fails, live_put, sends_as, with-with}
 use Rattle.x86_cli.proofs.ListingLemmas.Whole.{ends_of}
+
+abbrev place_line : ℕ → List ℕ
+place_line place = line (decimal place)
+
+-- the line of a place, where it is marked
+abbrev lines_if : Bool → ℕ → List (List ℕ)
+lines_if marked place = if marked then place_line place ∷ [] else []
 
 map-filter_first : (test : ℕ → Bool) (f : ℕ → List ℕ) (x : ℕ) (xs : List ℕ) (b : Bool) → test x ≡ b →
     map f (filter test (x ∷ xs)) ≡ (if b then f x ∷ [] else []) ++ map f (filter test xs)
@@ -25,16 +33,14 @@ module _ (strict : Bool) where
   -- one place further
   pub targets-step : (n : ℕ) (t : Text) → n < length t.image →
       targets_at strict n t ≡ with_lines (lines_if (is_marked strict t.image n) n) (targets_at strict (n + 1) t)
-  unfolding marked_from
   targets-step n t lt =
       let more : length t.image - n ≡ suc (length t.image - (n + 1)) = omega arith in
       rw more (ap (λ bs. with_lines bs (at_end t.ending))
       (map-filter_first (is_marked strict t.image) place_line n (range_with_len (n + 1) (length t.image - (n + 1))) (is_marked strict t.image n) refl))
-      ∙ sym (with-with (lines_if (is_marked strict t.image n) n) (map place_line (marked_from strict (n + 1) t.image)) (at_end t.ending))
+      ∙ sym (with-with (lines_if (is_marked strict t.image n) n) (map place_line (filter (is_marked strict t.image) (range_with_len (n + 1) (length t.image - (n + 1))))) (at_end t.ending))
 
   -- after the last place
   pub targets-end : (n : ℕ) (image : List ℕ) (e : Ending) → n ≡ length image → targets_at strict n (record { image = image; ending = e }) ≡ at_end e
-  unfolding marked_from
   targets-end n image e is = grind arith
 
 -- a place of the image, whose line is put where it is marked

@@ -1,20 +1,19 @@
 -- A text that is read to its end before anything is written.
-use Rattle.std.proofs.Common.{◌≡◌, ◌≢◌, ℕ, Bool, false, true, List, [], ◌∷◌, ◌++◌, Option, Some, None, Result, Ok, Err, refl, ap, ◌∙◌, sym, arith, append_assoc, append-nil}
+use Rattle.std.proofs.Common.{◌≡◌, ℕ, Bool, List, [], ◌∷◌, ◌++◌, Option, Some, None, Result, Ok, Err, refl, ap, ◌∙◌, arith, append_assoc, append-nil}
 use Rattle.std.specs.Prelude.{⊤}
 use Rattle.std.specs.List.{concat}
 use Rattle.std.specs.Io.{StartsWith}
 use Rattle.std.specs.declared.io.Error.{Error}
 use Rattle.x86_streams.specs.declared.outside.sending.WriteFailed.{WriteFailed}
 use Rattle.x86_streams.specs.declared.text.reader.Ending.{Ending}
-use Rattle.x86_streams.specs.Outside.Chain.{Call, Read, Write, Flush, EndsIn, Fails, Puts, SendsAll, pieces, received, not_taken, sent}
+use Rattle.x86_streams.specs.Outside.Chain.{Call, Read, Write, Flush, SendsAll, pieces, received, not_taken, sent}
 use Rattle.x86_streams.specs.Outside.Stop.{Stop}
 use Rattle.x86_streams.specs.Text.{Text, text_of}
 use Rattle.x86_streams.specs.Text.Reader.{TextPosition}
 use Rattle.x86_streams.specs.Text.Reading.{with_bytes}
 use Rattle.x86_streams.specs.Text.Beginning.{IsOpenText}
 use Rattle.x86_streams.specs.Text.Window.{Fills, LeavesRest, rest_after}
-use Rattle.x86_streams.proofs.OutsideLemmas.Calls.{calls_joined, pieces_joined, received_joined, stop_joined}
-use Rattle.x86_streams.proofs.TextLemmas.Text.{with_bytes-with_bytes}
+use Rattle.x86_streams.proofs.OutsideLemmas.Calls.{calls_joined, pieces_joined}
 use Rattle.x86_cli.specs.declared.listings.status.Finished.{Finished}
 use Rattle.x86_cli.specs.declared.listings.status.Status.TheVariants.{WriteFault}
 use Rattle.x86_cli.specs.declared.listings.targets.WholeText.{WholeText}
@@ -144,7 +143,8 @@ module _ {R W : Type 0} (reads : R → List ℕ → Result ℕ Error → R → T
     calls = h.calls;
     did = h.did;
     rule = h.rule;
-    ends = rw status h.ends.0;
+    flushed = λ ne. absurd (ne status);
+    failed = λ _. h.ends.0;
     gone = rw gone h.ends.2;
     lists = λ xs stop may.
         let l = at 0 (text_of max (received h.calls ++ xs) stop) in

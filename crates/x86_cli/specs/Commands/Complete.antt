@@ -7,7 +7,7 @@ use Rattle.x86_decode.specs.Answer.{answer_of}
 use Rattle.x86_streams.specs.declared.text.reader.Ending.TheVariants.{Clean}
 use Rattle.x86_cli.specs.declared.listings.status.Status.TheVariants.{Done}
 use Rattle.x86_streams.specs.Text.{Text}
-use Rattle.x86_cli.specs.Commands.Command.{listing_for}
+use Rattle.x86_cli.specs.Commands.Request.{listing_for}
 use Rattle.x86_cli.specs.declared.commands.command.Command.{Command}
 use Rattle.x86_cli.specs.declared.commands.command.Command.TheVariants.{List as Listed, Sweep as Swept, Targets as Targeted, Fields as Fielded, Tighten as Tightened}
 

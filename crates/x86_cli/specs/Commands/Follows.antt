@@ -9,7 +9,7 @@ use Rattle.x86_cli.specs.declared.listings.status.Status.{Status}
 use Rattle.x86_cli.specs.declared.listings.status.Status.TheVariants.{Done, ReadFault}
 use Rattle.x86_streams.specs.Outside.FaultCounts.{Rose}
 use Rattle.x86_streams.specs.Text.{text_of}
-use Rattle.x86_cli.specs.Commands.Command.{max_of}
+use Rattle.x86_cli.specs.Commands.Request.{max_of}
 use Rattle.x86_cli.specs.Commands.Complete.{GoesThrough}
 use Rattle.x86_cli.specs.Commands.Says.{Streams, full_listing, taken_listing}
 

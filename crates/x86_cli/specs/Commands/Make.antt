@@ -42,12 +42,9 @@ abbrev pub is_absolute : Operand → Bool
 is_absolute (operand.AbsoluteU32 n) = true
 is_absolute op = false
 
--- whether one of the operands passes a test
-abbrev pub has_operand : (Operand → Bool) → Instruction → Bool
-has_operand test i = test (operand_at i 0) || (test (operand_at i 1) || (test (operand_at i 2) || test (operand_at i 3)))
-
+-- whether one of the operands of an instruction passes a test
 abbrev pub answer_has : (Operand → Bool) → Result Instruction DecodeError → Bool
-answer_has test (Ok i) = has_operand test i
+answer_has test (Ok i) = test (operand_at i 0) || (test (operand_at i 1) || (test (operand_at i 2) || test (operand_at i 3)))
 answer_has test (Err e) = false
 
 -- the bytes of the first n encodings, and how many of their answers have an operand at rip, and an absolute one
@@ -60,10 +57,9 @@ tally_of (suc n) =
       absolute = (tally_of n).absolute + one_if (answer_has is_absolute answer);
     }
 
-unfoldable pub tally_text : ℕ → Tally → List ℕ
-tally_text n t =
-    decimal n ++ codes " instructions " ++ decimal t.bytes ++ codes " bytes " ++ decimal t.at_rip ++ codes " rip " ++ decimal t.absolute ++ codes " abs"
-
--- what `make` lists
+-- what `make` lists: how many encodings, their bytes, and what is counted of their answers
 abbrev pub made_listing : ℕ → Listing
-made_listing n = record { lines = line (tally_text n (tally_of n)) ∷ []; status = Done }
+made_listing n =
+    let t = tally_of n in
+    let text = decimal n ++ codes " instructions " ++ decimal t.bytes ++ codes " bytes " ++ decimal t.at_rip ++ codes " rip " ++ decimal t.absolute ++ codes " abs" in
+    record { lines = line text ∷ []; status = Done }

@@ -9,7 +9,7 @@ use Rattle.x86_cli.specs.declared.listings.status.Status.TheVariants.{Done, Usag
 use Rattle.x86_streams.specs.Outside.FaultCounts.{Rose}
 use Rattle.x86_streams.specs.Text.{text_of}
 use Rattle.x86_cli.specs.Listings.Listing.{Listing}
-use Rattle.x86_cli.specs.Commands.Command.{listing_for, max_of}
+use Rattle.x86_cli.specs.Commands.Request.{listing_for, max_of}
 use Rattle.x86_cli.specs.Commands.Make.{made_listing}
 
 -- what is seen of a source and a sink

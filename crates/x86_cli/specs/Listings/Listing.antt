@@ -1,5 +1,5 @@
 -- Listings, line by line.
-use Rattle.std.specs.Prelude.{◌≡◌, ℕ, Bool, ◌+◌, ◌-◌, List, [], ◌∷◌, ◌++◌, Result, Ok, Err, codes, zero, suc, take}
+use Rattle.std.specs.Prelude.{◌≡◌, ℕ, Bool, ◌+◌, ◌-◌, List, [], ◌∷◌, ◌++◌, Result, Ok, Err, codes, decimal, zero, suc, take}
 use Rattle.x86_decode.specs.declared.instructions.Instruction.{Instruction}
 use Rattle.x86_fields.specs.declared.errors.DecodeError.{DecodeError}
 use Rattle.x86_fields.specs.declared.errors.DecodeError.TheVariants.{ExhaustedInput}
@@ -9,7 +9,7 @@ use Rattle.x86_streams.specs.declared.text.reader.Ending.{Ending}
 use Rattle.x86_streams.specs.declared.text.reader.Ending.TheVariants.{Clean, Bad, Large, Fault}
 use Rattle.x86_streams.specs.Text.{Text}
 use Rattle.x86_text.specs.Lines.{refusal_of}
-use Rattle.x86_cli.specs.Listings.Line.{line, bad_text}
+use Rattle.x86_cli.specs.Listings.Line.{line}
 use Rattle.x86_cli.specs.declared.listings.status.Status.{Status}
 use Rattle.x86_cli.specs.declared.listings.status.Status.TheVariants.{Done, BadText, TooLarge, ReadFault}
 use Rattle.x86_cli.specs.declared.listings.status.Status.TheVariants as status
@@ -26,7 +26,7 @@ with_lines beginning l = record { lines = beginning ++ l.lines; status = l.statu
 
 abbrev pub at_end : Ending → Listing
 at_end Clean = record { lines = []; status = Done }
-at_end (Bad n) = record { lines = line (bad_text n) ∷ []; status = BadText }
+at_end (Bad n) = record { lines = line (codes "text error at " ++ decimal n) ∷ []; status = BadText }
 at_end Large = record { lines = line (codes "text too long") ∷ []; status = TooLarge }
 at_end Fault = record { lines = line (codes "read fault") ∷ []; status = ReadFault }
 

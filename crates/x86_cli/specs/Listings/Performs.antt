@@ -1,12 +1,12 @@
 -- What a program does with its reader and its writer.
-use Rattle.std.specs.Prelude.{◌≡◌, ◌≢◌, ◌↔◌, ℕ, ◌<◌, Bool, false, IsTrue, List, [], ◌∷◌, ◌++◌, length, Option, None, Result, ⊤}
+use Rattle.std.specs.Prelude.{◌≡◌, ◌≢◌, ◌↔◌, ℕ, ◌<◌, Bool, false, IsTrue, List, [], ◌∷◌, ◌++◌, length, None, Result, ⊤}
 use Rattle.std.specs.List.{concat}
 use Rattle.std.specs.Io.{StartsWith}
 use Rattle.std.specs.declared.io.Error.{Error}
 use Rattle.x86_streams.specs.declared.text.reader.Ending.TheVariants.{Fault}
 use Rattle.x86_streams.specs.Outside.Chain.{Call, Read, Write, Flush, Calls, EndsIn, Fails, IsFlush, IsGone, pieces, received, not_taken, sent, stop_of}
 use Rattle.x86_streams.specs.Outside.Stop.{Stop, Failed}
-use Rattle.x86_streams.specs.Text.{Text, text_of}
+use Rattle.x86_streams.specs.Text.{Text, text_at}
 use Rattle.x86_streams.specs.Text.Reading.{MayCome}
 use Rattle.x86_cli.specs.declared.listings.status.Finished.{Finished}
 use Rattle.x86_cli.specs.declared.listings.status.Status.{Status}
@@ -19,24 +19,15 @@ pub record Task : Type 0 where
   pub known : Text → Listing
   pub lists : Text → Listing
 
--- The listing is these bytes, and then the line of a read fault.
-abbrev pub AreBeforeFault : List ℕ → Listing → Type 0
-AreBeforeFault bytes l = (lines : List (List ℕ)) × (l ≡ with_lines lines (at_end Fault)) × (concat lines ≡ bytes)
-
 -- The rule of reading. Each read was made where, should it fail, nothing were left to write but the line of a read
 -- fault: what was read so far decides no more, and all that it decides was written and flushed. None follows the end of
 -- the input, or an error. No call follows one of the writer that failed.
 abbrev pub ByRule : (known : Text → Listing) → (List ℕ → Stop → Text) → List Call → Type 0
 ByRule known text [] = ⊤
 ByRule known text (Read buffer answer ∷ cs) = ByRule known text cs × (0 < length buffer) × (stop_of cs ≡ None)
-    × EndsIn IsFlush cs × AreBeforeFault (sent cs) (known (text (received cs) Failed))
+    × EndsIn IsFlush cs × ((lines : List (List ℕ)) × (known (text (received cs) Failed) ≡ with_lines lines (at_end Fault)) × (concat lines ≡ sent cs))
 ByRule known text (Write bytes answer ∷ cs) = ByRule known text cs × (EndsIn Fails cs → ⊥)
 ByRule known text (Flush answer ∷ cs) = ByRule known text cs × (EndsIn Fails cs → ⊥)
-
--- The last call by the status: one that failed at a write fault, and else a flush.
-abbrev pub IsLastAt : Status → Call → Type 0
-IsLastAt WriteFault c = Fails c
-IsLastAt status c = IsFlush c
 
 -- These bytes are a prefix of the listing, and the following ones come after them. They are all of it unless a call failed;
 -- then the listing ends with this status.
@@ -46,10 +37,6 @@ pub record IsPrinted (status : Status) (bytes following : List ℕ) (l : Listing
   pub next : StartsWith unsent following
   pub all : status ≢ WriteFault → (unsent ≡ []) × (status ≡ l.status)
 
--- These lines are the first of others.
-abbrev pub AreFirst : List (List ℕ) → List (List ℕ) → Type 0
-AreFirst lines all = (more : List (List ℕ)) × (all ≡ lines ++ more)
-
 -- The program did its task: its calls in one order, by the rule of reading. The writer took the listing of every text
 -- that begins with what was read, and a write that failed was to take what comes next of it. Where
 -- nothing is gathered, each write is of one line.
@@ -57,13 +44,14 @@ pub record Performs {R W : Type 0} (reads : R → List ℕ → Result ℕ Error 
     (flushes : W → Result ⊤ Error → W → Type 0) (gathers : Bool) (task : Task) (outcome : Finished) (r r' : R) (w w' : W) : Type 0 where
   pub calls : List Call
   pub did : Calls reads writes flushes calls r r' w w'
-  pub rule : ByRule task.known (text_of task.max) calls
-  pub ends : EndsIn (IsLastAt outcome.status) calls
+  pub rule : ByRule task.known (text_at 0 task.max) calls
+  pub flushed : outcome.status ≢ WriteFault → EndsIn IsFlush calls
+  pub failed : outcome.status ≡ WriteFault → EndsIn Fails calls
   pub gone : IsTrue outcome.gone ↔ EndsIn IsGone calls
   pub lists : (xs : List ℕ) (stop : Stop) → MayCome (stop_of calls) xs stop →
-      IsPrinted outcome.status (sent calls) (not_taken calls) (task.lists (text_of task.max (received calls ++ xs) stop))
+      IsPrinted outcome.status (sent calls) (not_taken calls) (task.lists (text_at 0 task.max (received calls ++ xs) stop))
   pub each : gathers ≡ false → (xs : List ℕ) (stop : Stop) → MayCome (stop_of calls) xs stop →
-      AreFirst (pieces calls) (task.lists (text_of task.max (received calls ++ xs) stop)).lines
+      (more : List (List ℕ)) × ((task.lists (text_at 0 task.max (received calls ++ xs) stop)).lines ≡ pieces calls ++ more)
 
 -- A listing ends neither in a mistake of usage nor in a failed write.
 abbrev pub IsEnd : Status → Type 0

@@ -1,5 +1,5 @@
 -- The places that the instructions of a sweep branch to.
-use Rattle.std.specs.Prelude.{◌≡◌, ◌↔◌, Bool, IsTrue, ℕ, ◌-◌, List, [], ◌∷◌, ◌++◌, length, map, decimal, if◌then◌else◌, Result, Ok, Err, ⊤}
+use Rattle.std.specs.Prelude.{◌≡◌, ◌↔◌, Bool, IsTrue, ℕ, ◌-◌, List, [], ◌++◌, length, map, decimal, Result, Ok, Err, ⊤}
 use Rattle.std.specs.declared.io.Error.{Error}
 use Rattle.std.specs.List.{filter, range_with_len}
 use Rattle.x86_layout.specs.Sweeps.Marks.{is_marked}
@@ -17,20 +17,9 @@ use Rattle.x86_cli.specs.Listings.Performs.{ByRule}
 abbrev pub image_max : ℕ
 image_max = 8192
 
--- the marked places of an image from one on, in increasing order
-unfoldable pub marked_from : Bool → ℕ → List ℕ → List ℕ
-marked_from strict place image = filter (is_marked strict image) (range_with_len place (length image - place))
-
-abbrev pub place_line : ℕ → List ℕ
-place_line place = line (decimal place)
-
--- the line of a place, where it is marked
-abbrev pub lines_if : Bool → ℕ → List (List ℕ)
-lines_if marked place = if marked then place_line place ∷ [] else []
-
 -- a line for each marked place from one on; then the end's
 abbrev pub targets_at : Bool → ℕ → Text → Listing
-targets_at strict place t = with_lines (map place_line (marked_from strict place t.image)) (at_end t.ending)
+targets_at strict place t = with_lines (map (λ p. line (decimal p)) (filter (is_marked strict t.image) (range_with_len place (length t.image - place)))) (at_end t.ending)
 
 -- A text was read to its end, and is this one; or a flush before a read failed. Nothing was written.
 abbrev pub EndsWhole : ℕ → Result WholeText WriteFailed → List Call → Type 0

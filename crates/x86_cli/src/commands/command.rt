@@ -1,8 +1,8 @@
 //! The commands that read a text, and what each of them writes.
 
 ghost use Rattle.x86_decode.specs.Decoder.{is_strict};
-ghost use Rattle.std.specs.Prelude.{◌≡◌, map, string_bytes};
-ghost use Rattle.x86_cli.specs.Commands.Command.{command_by, command_of};
+ghost use Rattle.std.specs.Prelude.{◌≡◌, [], ◌∷◌, map, string_bytes};
+ghost use Rattle.x86_cli.specs.Commands.Command.{command_of};
 ghost use Rattle.x86_cli.specs.Commands.Request.{task_of};
 ghost use Rattle.x86_cli.specs.Listings.Performs.{Performs};
 ghost use Rattle.x86_cli.specs.declared.commands.request.Request.TheVariants.{Reads};
@@ -40,7 +40,7 @@ pub enum Command {
 
 /// The command of one argument.
 fn command_by(argument: &str) -> Option<Command>
-    ensures { result ≡ command_by argument.now }
+    ensures { result ≡ command_of (argument.now ∷ []) }
 {
     match argument {
         "list" => Some(Command::List { strict: false }),

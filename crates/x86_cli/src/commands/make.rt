@@ -1,12 +1,12 @@
 //! Encodings that the program makes by itself, decodes and counts.
 
-ghost use Rattle.std.specs.Prelude.{[], ◌≡◌, ◌↔◌, IsTrue, ◌+◌, ◌≤◌, ◌++◌, ℕ, IfSome, Some, None, length, decimal};
+ghost use Rattle.std.specs.Prelude.{[], ◌≡◌, ◌↔◌, IsTrue, ◌+◌, ◌≤◌, ◌++◌, ℕ, IfSome, Some, None, Ok, length, codes, decimal};
 ghost use Rattle.arrayvec.specs.ArrayVec.{array_vec_len};
 ghost use Rattle.x86_decode.specs.Instruction.{holding};
 ghost use Rattle.x86_text.specs.Widths.{line_width};
 ghost use Rattle.x86_cli.specs.Listings.Closes.{Closes};
 ghost use Rattle.x86_layout.specs.Parts.Heads.{one_if};
-ghost use Rattle.x86_cli.specs.Commands.Make.{generate, is_at_rip, is_absolute, has_operand, answer_has, tally_of, tally_text, made_listing};
+ghost use Rattle.x86_cli.specs.Commands.Make.{generate, is_at_rip, is_absolute, answer_has, tally_of, made_listing};
 
 use crate::listings::listing::put_last;
 use crate::listings::status::{Finished, Status};
@@ -83,7 +83,7 @@ fn is_absolute(operand: Operand) -> bool
 }
 
 fn has_operand_at_rip(instruction: &Instruction) -> bool
-    ensures { result ≡ has_operand is_at_rip instruction.now }
+    ensures { result ≡ answer_has is_at_rip (Ok instruction.now) }
 {
     is_at_rip(instruction.operand(0))
         || is_at_rip(instruction.operand(1))
@@ -92,7 +92,7 @@ fn has_operand_at_rip(instruction: &Instruction) -> bool
 }
 
 fn has_absolute_operand(instruction: &Instruction) -> bool
-    ensures { result ≡ has_operand is_absolute instruction.now }
+    ensures { result ≡ answer_has is_absolute (Ok instruction.now) }
 {
     is_absolute(instruction.operand(0))
         || is_absolute(instruction.operand(1))
@@ -145,7 +145,9 @@ fn tally_of(count: u32) -> Tally
 }
 
 fn tally_line(count: u32, tally: &Tally) -> Line
-    ensures text { result.items ≡ tally_text count tally.now }
+    ensures text { result.items ≡ decimal count ++ codes " instructions "
+        ++ decimal tally.now.bytes ++ codes " bytes " ++ decimal tally.now.at_rip
+        ++ codes " rip " ++ decimal tally.now.absolute ++ codes " abs" }
     ensures short { array_vec_len result ≤ line_width }
 {
     let mut line = Line::new();
@@ -191,5 +193,11 @@ pub fn make<W, O: Output<W>>(count: u32, output: &O, writer: &mut W) -> Finished
 {
     let tally = tally_of(count);
     let mut out = Gathered::new();
-    put_last(output, &mut out, writer, &mut tally_line(count, &tally), Status::Done)
+    put_last(
+        output,
+        &mut out,
+        writer,
+        &mut tally_line(count, &tally),
+        Status::Done,
+    )
 }

@@ -1,7 +1,7 @@
 //! Programs over a reader and a writer, and over a source and a sink.
 
 ghost use Rattle.std.specs.Prelude.{◌≡◌, ◌↔◌, map, string_bytes};
-ghost use Rattle.x86_cli.specs.Commands.Request.{Denotes, DenoteNothing, Runs, task_of};
+ghost use Rattle.x86_cli.specs.Commands.Request.{Denotes, Runs, task_of};
 ghost use Rattle.x86_cli.specs.Listings.Performs.{IsEnd, Performs, Task};
 ghost use Rattle.x86_streams.specs.Text.{Text};
 
@@ -68,7 +68,8 @@ pub fn listed<R, W, O: Input<R> + Output<W>>(
     ensures lists { (request : Request) → Denotes (map string_bytes words.now) request
         → Performs O.reads O.writes O.flushes O.gathers (task_of request) result
         reader.old reader.new writer.old writer.new }
-    ensures usage { (result.status ≡ Status.Usage) ↔ DenoteNothing (map string_bytes words.now) }
+    ensures usage { (result.status ≡ Status.Usage)
+        ↔ ((request : Request) → Denotes (map string_bytes words.now) request → ⊥) }
     ensures nothing { result.status ≡ Status.Usage
         → (reader.new ≡ reader.old) × (writer.new ≡ writer.old) }
 {
@@ -96,12 +97,13 @@ pub fn listed<R, W, O: Input<R> + Output<W>>(
 /// - `TooLarge`: the whole listing was put, of the bytes that may be read; its last line is `text too long`.
 ///
 /// `ran` names each call, for every source and sink: the source is called only once every line that is decided was put.
-/// The laws of this crate say what follows: `headline` where bytes are known, `made` of `make`, `causes`, `read_faults`
+/// The laws of this crate say what follows: `headline` where bytes are known, `made` of `make`, `ends`, `read_faults`
 /// and `write_faults` of faults, `exact`, `unrefused` and `complete` of statuses.
 pub fn run<S: Source, K: Sink>(words: &[String], source: &mut S, sink: &mut K) -> Status
     ensures ran { (request : Request) → Denotes (map string_bytes words.now) request
         → Runs S.gives K.takes request result source.old source.new sink.old sink.new }
-    ensures usage { (result ≡ Status.Usage) ↔ DenoteNothing (map string_bytes words.now) }
+    ensures usage { (result ≡ Status.Usage)
+        ↔ ((request : Request) → Denotes (map string_bytes words.now) request → ⊥) }
     ensures nothing { result ≡ Status.Usage
         → (source.new ≡ source.old) × (sink.new ≡ sink.old) }
 {

@@ -1,13 +1,12 @@
 //! The lines of a listing.
 
-ghost use Rattle.std.specs.Prelude.{Bool, ℕ, List, Ok, ◌≡◌, ◌≤◌};
+ghost use Rattle.std.specs.Prelude.{Bool, ℕ, List, Ok, ◌≡◌, ◌≤◌, ◌++◌, codes, decimal};
 ghost use Rattle.arrayvec.specs.ArrayVec.{array_vec_len};
 ghost use Rattle.x86_decode.specs.Decoder.{is_strict};
 ghost use Rattle.x86_decode.specs.declared.instructions.Instruction.{Instruction};
 ghost use Rattle.x86_decode.specs.Answer.{answer_of};
 ghost use Rattle.x86_text.specs.Lines.{line_of};
 ghost use Rattle.x86_text.specs.Widths.{line_width};
-ghost use Rattle.x86_cli.specs.Listings.Line.{bad_text};
 
 use x86_decode::{InstDecoder, Instruction};
 use x86_text::{Line, Place, write_instruction};
@@ -52,9 +51,8 @@ impl Lines for Plain {
 }
 
 /// The line of a text whose byte at a position isn't allowed there, without its end.
-#[tactic(auto, unfolding(crate::specs::Listings::Line::bad_text))]
 pub fn bad_text(position: u64) -> Line
-    ensures text { result.items ≡ bad_text position }
+    ensures text { result.items ≡ codes "text error at " ++ decimal position }
     ensures short { array_vec_len result ≤ line_width }
 {
     let mut line = Line::new();

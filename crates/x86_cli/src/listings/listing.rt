@@ -103,13 +103,21 @@ pub fn end<W, O: Output<W>>(
     ensures { Closes O.writes O.flushes O.gathers out.old.bytes.items (at_end ending) result
         writer.old writer.new }
 {
-    let (mut text, status) = match ending {
-        Ending::Clean => return close(output, out, writer, Status::Done),
-        Ending::Bad(position) => (bad_text(position), Status::BadText),
-        Ending::Large => (constant(b"text too long"), Status::TooLarge),
-        Ending::Fault => (constant(b"read fault"), Status::ReadFault),
-    };
-    put_last(output, out, writer, &mut text, status)
+    match ending {
+        Ending::Clean => close(output, out, writer, Status::Done),
+        Ending::Bad(position) => {
+            let mut text = bad_text(position);
+            put_last(output, out, writer, &mut text, Status::BadText)
+        }
+        Ending::Large => {
+            let mut text = constant(b"text too long");
+            put_last(output, out, writer, &mut text, Status::TooLarge)
+        }
+        Ending::Fault => {
+            let mut text = constant(b"read fault");
+            put_last(output, out, writer, &mut text, Status::ReadFault)
+        }
+    }
 }
 
 pub fn length_of(instruction: &Instruction) -> u64
@@ -204,9 +212,11 @@ pub fn list<const N: usize, C: Course<N>, R, W, O: Input<R> + Output<W>>(
 ) -> Finished
     requires size { N ≤ 65536 }
     requires max { max < 2 ^ 62 }
-    ensures { Performs O.reads O.writes O.flushes O.gathers (record { max = max;
-        known = C.knows course.now (is_strict decoder.now) 0;
-        lists = C.lists course.now (is_strict decoder.now) 0 }) result
+    ensures { Performs O.reads O.writes O.flushes O.gathers (record {
+      max = max;
+      known = C.knows course.now (is_strict decoder.now) 0;
+      lists = C.lists course.now (is_strict decoder.now) 0;
+    }) result
         reader.old reader.new writer.old writer.new }
 {
     let mut window = Window::new(max);

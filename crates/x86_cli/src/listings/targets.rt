@@ -1,13 +1,14 @@
 //! The places that the instructions of a sweep branch to.
 
 ghost use Rattle.x86_decode.specs.Decoder.{is_strict};
-ghost use Rattle.std.specs.Prelude.{◌≡◌, ℕ, ◌+◌, ◌*◌, ◌<◌, ◌≤◌, ◌++◌, length, slice_index_or, true, false, [], Ok};
+ghost use Rattle.std.specs.Prelude.{◌≡◌, ℕ, ◌+◌, ◌*◌, ◌<◌, ◌≤◌, ◌++◌, length, slice_index_or, true, false, [], Ok, decimal};
 ghost use Rattle.arrayvec.specs.ArrayVec.{array_vec_len};
 ghost use Rattle.x86_layout.specs.Sweeps.Marks.{is_marked};
 ghost use Rattle.x86_streams.specs.Outside.Chain.{Puts};
+ghost use Rattle.x86_cli.specs.Listings.Line.{line};
 ghost use Rattle.x86_cli.specs.Listings.Listing.{at_end};
 ghost use Rattle.x86_cli.specs.Listings.Performs.{Performs};
-ghost use Rattle.x86_cli.specs.Listings.Targets.{ReadsWhole, image_max, place_line, targets_at};
+ghost use Rattle.x86_cli.specs.Listings.Targets.{ReadsWhole, image_max, targets_at};
 
 use crate::listings::listing::{end, put_line};
 use crate::listings::status::Finished;
@@ -89,7 +90,7 @@ fn put_if_marked<W, O: Output<W>>(
     place: u64,
 ) -> Result<(), WriteFailed>
     requires { O.gathers ≡ false → out.old.bytes.items ≡ [] }
-    ensures marked { marked ≡ true → Puts O.writes O.flushes O.gathers result (place_line place)
+    ensures marked { marked ≡ true → Puts O.writes O.flushes O.gathers result (line (decimal place))
         out.old.bytes.items out.new.bytes.items writer.old writer.new }
     ensures other { marked ≡ false → (result ≡ Ok tt) × (out.new ≡ out.old)
         × (writer.new ≡ writer.old) }
@@ -112,8 +113,11 @@ pub fn targets<R, W, O: Input<R> + Output<W>>(
     writer: &mut W,
 ) -> Finished
     requires { max ≤ 2 * image_max }
-    ensures { Performs O.reads O.writes O.flushes O.gathers (record { max = max;
-        known = λ t. at_end t.ending; lists = targets_at (is_strict decoder.now) 0 }) result
+    ensures { Performs O.reads O.writes O.flushes O.gathers (record {
+      max = max;
+      known = λ t. at_end t.ending;
+      lists = targets_at (is_strict decoder.now) 0;
+    }) result
         reader.old reader.new writer.old writer.new }
 {
     let text = match read_whole(max, outside, reader, writer) {

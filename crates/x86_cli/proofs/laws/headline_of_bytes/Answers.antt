@@ -1,11 +1,11 @@
-use Rattle.std.proofs.Common.{arith, ◌≡◌, ◌↔◌, ℕ, Bool, List, ◌++◌, length, Ok, Err, refl, sym, ap, subst}
+use Rattle.std.proofs.Common.{arith, ◌≡◌, ℕ, Bool, List, ◌++◌, length, Ok, Err, refl, sym, ap, subst}
 use Rattle.std.proofs.Math.Seq.{take-append_seam}
 use Rattle.x86_decode.specs.declared.instructions.Instruction.{Instruction}
 use Rattle.x86_forms.specs.Words.{rows_of, packed}
-use Rattle.x86_decode.specs.Answer.{answer_of, count_of}
+use Rattle.x86_decode.specs.Answer.{count_of}
 use Rattle.x86_decode.specs.Grammar.{IsAnswer, IsAccepted, IsSentence}
 use Rattle.x86_decode.specs.Instruction.{length_of}
-use Rattle.x86_cli.specs.Headline.{Headline, BeginsWith}
+use Rattle.x86_cli.specs.Headline.{BeginsWith}
 use Rattle.x86_cli.proofs.laws.headline_of_bytes.Goals as goal
 
 module _ (strict : Bool) (s rest : List ℕ) (i : Instruction) (is : IsSentence (rows_of packed) strict s i) where

@@ -1,4 +1,4 @@
-use Rattle.std.proofs.Common.{◌≡◌, ◌<◌, ◌++◌, take, List, ℕ, [], None, refl, arith, ap, sym, ◌∙◌, length, length-drop, rules}
+use Rattle.std.proofs.Common.{◌++◌, take, [], arith, ap, ◌∙◌, length, length-drop}
 use Rattle.x86_cli.proofs.ListingLemmas.Live.{fresh, live_new, live_take, live_line, live_unput, live_unsent, live_closes, live_fill}
 use Rattle.x86_cli.proofs.listings.listing.list.Goals as goal
 

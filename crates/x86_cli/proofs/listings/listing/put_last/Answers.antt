@@ -1,4 +1,3 @@
-use Rattle.x86_cli.specs.Listings.Line.{line}
 use Rattle.x86_cli.proofs.ListingLemmas.Closes.{closes_put, closes_unput}
 use Rattle.x86_cli.proofs.listings.listing.put_last.Goals as goal
 

@@ -1,7 +1,6 @@
-use Rattle.std.proofs.Common.{◌≡◌, ◌++◌, [], None, refl, ap, sym, arith, ◌∙◌, length, length-append, append-nil, rules}
+use Rattle.std.proofs.Common.{refl, ap, sym, arith, ◌∙◌, length, length-append}
 use Rattle.std.proofs.lemmas.List.{drop_all}
-use Rattle.x86_streams.specs.Text.Reader.{TextPosition}
-use Rattle.x86_cli.proofs.ListingLemmas.Live.{fresh, live_new, live_rest, live_take, live_fill}
+use Rattle.x86_cli.proofs.ListingLemmas.Live.{fresh, live_new}
 use Rattle.x86_cli.proofs.ListingLemmas.Whole.{ends_of, whole_filled, whole_left, whole_read, whole_taken, whole_unsent}
 use Rattle.x86_cli.proofs.listings.targets.read_whole.Goals as goal
 

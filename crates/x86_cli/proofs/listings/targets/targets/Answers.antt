@@ -1,4 +1,4 @@
-use Rattle.std.proofs.Common.{Bool, List, ◌≡◌, ℕ, ◌<◌, ◌∙◌, [], Some, refl, sym, ap, arith, false, length, ◌+◌, slice_index_or}
+use Rattle.std.proofs.Common.{Bool, List, ◌≡◌, ℕ, ◌<◌, ◌∙◌, sym, ap, arith, false, length, slice_index_or}
 use Rattle.x86_layout.specs.Sweeps.Marks.{is_marked}
 use Rattle.x86_cli.specs.Listings.Targets.{targets_at}
 use Rattle.x86_cli.proofs.ListingLemmas.Live.{live_closes}
