@@ -192,12 +192,7 @@ pub fn make<W, O: Output<W>>(count: u32, output: &O, writer: &mut W) -> Finished
         writer.old writer.new }
 {
     let tally = tally_of(count);
+    let mut line = tally_line(count, &tally);
     let mut out = Gathered::new();
-    put_last(
-        output,
-        &mut out,
-        writer,
-        &mut tally_line(count, &tally),
-        Status::Done,
-    )
+    put_last(output, &mut out, writer, &mut line, Status::Done)
 }
