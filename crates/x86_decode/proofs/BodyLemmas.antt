@@ -18,7 +18,8 @@ use Rattle.x86_forms.specs.declared.Map.TheVariants.{One}
 use Rattle.x86_decode.specs.declared.instructions.Instruction.{Instruction}
 use Rattle.x86_decode.specs.Head.{Rows, is_run, column_of, escape_bytes, is_opcode, vex_refusal, seen_by}
 use Rattle.x86_decode.specs.Walk.{head_step, opcode_step, some_row, row_step, walk_within}
-use Rattle.x86_decode.specs.Grammar.{IsRefusedByRecord, record_of, allows_lock, Whole, IsSentence, DecidesByBytes, case_1, case_2, case_3, case_4, EndsBetweenPieces, in_head, in_tail}
+use Rattle.x86_groups.specs.Groups.{record_of}
+use Rattle.x86_decode.specs.Grammar.{IsRefusedByRecord, allows_lock, Whole, IsSentence, DecidesByBytes, case_1, case_2, case_3, case_4, EndsBetweenPieces, in_head, in_tail}
 use Rattle.x86_decode.proofs.RowSteps.{fault_error, RowYields, ends_row, takes_row, takes_row_refused, halts_row}
 use Rattle.x86_decode.proofs.HeadLemmas.{IsHead, IsRun, ends_head, takes_head, out_head, OpcodeYields, OpcodeBetween, ends_opcode, entry_byte, entry_rest, entry_is, entry_plain, takes_opcode, takes_vex, vex_plain, vex_final, escape_beginning, EscapeBeginning, none, escape}
 

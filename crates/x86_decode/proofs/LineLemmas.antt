@@ -18,10 +18,10 @@ use Rattle.x86_forms.specs.Words.{carried}
 use Rattle.x86_operands.specs.Encodings.{allows, has_fields, is_described, plan_of, use_of}
 use Rattle.x86_operands.specs.FormEncodings.{Belongs, Describes, group_form}
 use Rattle.x86_fields.specs.ModRM.{absent_modrm}
-use Rattle.x86_operands.specs.Forms.{form_plan, form_record, modrm_use}
+use Rattle.x86_operands.specs.Forms.{form_record, modrm_use}
 use Rattle.x86_operands.specs.PlanSteps.{read_modrm, read_plan, record_step}
 use Rattle.x86_groups.specs.ByReg.{Chooses, reg_plan}
-use Rattle.x86_groups.specs.Groups.{group_plan, group_record}
+use Rattle.x86_groups.specs.Groups.{group_record}
 use Rattle.x86_groups.proofs.RegLemmas.{reg_record, reg_chosen, reg_group}
 use Rattle.x86_decode.specs.Walk.{row_step, plan_at}
 
@@ -33,12 +33,17 @@ after_modrm strict row p r s = then_from r s (λ m. read_plan (plan_at strict ro
 
 form_row : {r : Result ℕ DecodeError} {t : State ℕ} (s : State ℕ) (strict : Bool) (row : TableRow) (p : Prefixes) (u : ModrmUse) → modrm_use row.form ≡ u → is_group row.form ≡ false → outcome r t ≡ read_modrm u s → after_modrm strict row p r t ≡ row_step strict row p s
 unfolding record_step form_record
-form_row {r} {t} s strict row p u usage plain e = ap (λ o. after_modrm strict row p o.answer o.after) (e ∙ ap (λ k. read_modrm k s) (sym usage)) ∙ rw plain refl
+form_row {r} {t} s strict row p u usage plain e =
+    let read = read_modrm (modrm_use row.form) s in
+    ap (λ o. after_modrm strict row p o.answer o.after) (e ∙ ap (λ k. read_modrm k s) (sym usage))
+    ∙ ap (λ t. then_from read.answer read.after (λ m. read_plan ((if t then group_record strict row p else form_record row p).plan m) p m)) plain
+    ∙ ap (λ t. record_step (if t then group_record strict row p else form_record row p) p s) (sym plain)
 
 -- ---- groups by reg
 
 chosen_plan : (g : RegGroup) (strict : Bool) (row : TableRow) (p : Prefixes) (m : ℕ) → row.form ≡ group_form g → plan_at strict row p m ≡ reg_plan g p m
-chosen_plan g strict row p m e = ap (λ t. if t then group_plan row p m strict else form_plan row.form row.opcode p m) (reg_group g row.form e) ∙ reg_chosen g strict row p m e
+unfolding group_record
+chosen_plan g strict row p m e = ap (λ t. (if t then group_record strict row p else form_record row p).plan m) (reg_group g row.form e) ∙ reg_chosen g strict row p m e
 
 reg_following : (g : RegGroup) (strict : Bool) (row : TableRow) (p : Prefixes) (r : Result ℕ DecodeError) (t : State ℕ) → row.form ≡ group_form g → then_from r t (λ m. read_plan (reg_plan g p m) p m) ≡ after_modrm strict row p r t
 reg_following g strict row p (Ok m) t e = ap (λ plan. read_plan plan p m t) (sym (chosen_plan g strict row p m e))
@@ -87,6 +92,7 @@ described_plain : (b : AfterOpcode) (f : Form) → IsTrue (is_described b) → B
 described_plain b f h belongs = grind arith
 
 pub form_described : (strict : Bool) (row : TableRow) (p : Prefixes) (m : ℕ) (e : FormEncoding) → Belongs e.after_opcode row.form → Describes e row.form → IsTrue (is_described e.after_opcode) → plan_of e (carried row.form) row.opcode p m ≡ plan_at strict row p m
+unfolding form_record
 form_described strict row p m e belongs d is =
     d is row.opcode m p
-    ∙ ap (λ t. if t then group_plan row p m strict else form_plan row.form row.opcode p m) (sym (described_plain e.after_opcode row.form is belongs))
+    ∙ ap (λ t. (if t then group_record strict row p else form_record row p).plan m) (sym (described_plain e.after_opcode row.form is belongs))

@@ -20,10 +20,10 @@ use Rattle.x86_operands.specs.declared.plans.Verdict.TheVariants.{Refuses}
 use Rattle.x86_operands.specs.Forms.{form_record}
 use Rattle.x86_operands.specs.Asks.{modrm_of}
 use Rattle.x86_operands.specs.Pieces.{at_modrm, after_address, after_suffix, no_name, RefusesRow, at_opcode, past_opcode}
-use Rattle.x86_groups.specs.Groups.{group_record}
+use Rattle.x86_groups.specs.Groups.{group_record, record_of}
 use Rattle.x86_decode.specs.declared.instructions.Instruction.{Instruction}
 use Rattle.x86_decode.specs.Head.{Rows, column_of, seen_by}
-use Rattle.x86_decode.specs.Grammar.{record_of, IsRefusedByRecord, IsAnswer}
+use Rattle.x86_decode.specs.Grammar.{IsRefusedByRecord, IsAnswer}
 use Rattle.x86_decode.specs.Answer.{answer_of, count_of}
 use Rattle.x86_decode.specs.Choices.{IsFence}
 use Rattle.x86_decode.proofs.PrintedLemmas.{printed_answer}

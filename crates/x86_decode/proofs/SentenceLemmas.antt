@@ -17,7 +17,8 @@ use Rattle.x86_decode.specs.Head.{Rows, escape_bytes, clears, column_of, seen_by
 use Rattle.x86_decode.specs.Instruction.{slot_at, operand_at}
 use Rattle.x86_decode.specs.Ties.{HasTiedOperands}
 use Rattle.x86_decode.specs.Addresses.{encodings_within, raw_within}
-use Rattle.x86_decode.specs.Grammar.{record_of, IsSentence, IsAnswer}
+use Rattle.x86_groups.specs.Groups.{record_of}
+use Rattle.x86_decode.specs.Grammar.{IsSentence, IsAnswer}
 use Rattle.x86_decode.specs.Answer.{answer_of, count_of}
 use Rattle.x86_operands.specs.declared.reader.Reading.{Reading}
 use Rattle.x86_operands.specs.Asks.{modrm_of}

@@ -9,5 +9,5 @@
 //! Source: Intel SDM volume 2, sections 2.1 and 2.2.1, and appendix A.
 
 pub use crate::head::{column_of, is_prefix, is_vex, seen_by};
-pub use crate::rows::read_row;
 pub use crate::walk::allows_lock;
+pub use x86_groups::read_row;

@@ -2,27 +2,21 @@
 ghost use Rattle.std.specs.Prelude.{◌≡◌, ℕ, Bool, IfOk, true, false};
 ghost use Rattle.x86_arch.specs.Reader.{State};
 ghost use Rattle.x86_fields.specs.Steps.{outcome, then_from};
-ghost use Rattle.x86_forms.specs.Words.{IsForm};
 ghost use Rattle.x86_operands.specs.Encodings.{has_fields};
 ghost use Rattle.x86_operands.specs.OperandList.{value_if_ok, no_operands};
-ghost use Rattle.x86_operands.specs.PlanSteps.{read_plan, record_step};
+ghost use Rattle.x86_operands.specs.PlanSteps.{read_plan};
 ghost use Rattle.x86_decode.specs.declared.rows.Rest.TheVariants as Rest;
 ghost use Rattle.x86_decode.specs.declared.instructions.Instruction.{Instruction};
-ghost use Rattle.x86_decode.specs.Grammar.{record_of};
 ghost use Rattle.x86_decode.specs.Instruction.{reading_in};
-ghost use Rattle.x86_decode.specs.Walk.{IsFound, IsLineOf, found_row_step, plan_at, rest_step, row_step, is_nothing};
+ghost use Rattle.x86_decode.specs.Walk.{IsFound, IsLineOf, found_row_step, rest_step, row_step, is_nothing};
 
 use crate::instructions::Instruction;
 use x86_arch::Reader;
-use x86_fields::{DecodeError, ModRM, Prefixes};
-use x86_forms::{TableRow, WordRow, unpack};
-use x86_groups::{chosen, group_plan, read_group, read_group_into};
+use x86_fields::{DecodeError, ModRM};
+use x86_forms::{WordRow, unpack};
+use x86_groups::{chosen, read_row_into, row_plan};
 use x86_opcodes::Opcode;
-use x86_operands::plans::Plan;
-use x86_operands::{
-    AfterOpcode, FormEncoding, Reading, form_plan, read_form, read_form_into, read_plan_into,
-    word_encoding,
-};
+use x86_operands::{AfterOpcode, FormEncoding, read_plan_into, word_encoding};
 
 /// What is left of a row that wasn't read at once.
 #[derive(Clone, Copy, Drop)]
@@ -47,24 +41,6 @@ struct RowLine<'a> {
 enum Found<'a> {
     Line(RowLine<'a>),
     Rest(Rest),
-}
-
-/// What a row has after its opcode byte.
-pub fn read_row<T: Reader<u64, u8>>(
-    strict: bool,
-    row: TableRow,
-    prefixes: Prefixes,
-    reader: &mut T,
-) -> Result<Reading, DecodeError>
-    requires { IsForm row.form }
-    ensures { outcome result (T.state reader.new) ≡
-        record_step (record_of strict row prefixes) prefixes (T.state reader.old) }
-{
-    if row.form.is_group() {
-        read_group(reader, row, prefixes, strict)
-    } else {
-        read_form(reader, row, prefixes)
-    }
 }
 
 /// The line of a row without ModRM; else all of the row.
@@ -165,42 +141,6 @@ pub fn read_by_line<T: Reader<u64, u8>>(
     }
 }
 
-fn plan_at(strict: bool, row: TableRow, prefixes: &Prefixes, modrm: ModRM) -> Plan
-    requires { IsForm row.form }
-    ensures { result ≡ plan_at strict row prefixes.now modrm }
-{
-    if row.form.is_group() {
-        group_plan(row, strict, prefixes, modrm)
-    } else {
-        form_plan(row.form, row.opcode, prefixes, modrm)
-    }
-}
-
-/// Reads all of a row, by its plan.
-pub fn read_row_into<T: Reader<u64, u8>>(
-    strict: bool,
-    row: TableRow,
-    reader: &mut T,
-    inst: &mut Instruction,
-) -> Result<(), DecodeError>
-    requires form { IsForm row.form }
-    requires blank { inst.old.operand_list ≡ no_operands }
-    ensures { outcome (value_if_ok result (reading_in inst.new)) (T.state reader.new) ≡
-        row_step strict row inst.old.prefixes (T.state reader.old) }
-{
-    let Instruction {
-        prefixes,
-        opcode,
-        operand_list,
-        ..
-    } = inst;
-    if row.form.is_group() {
-        read_group_into(reader, row, strict, prefixes, opcode, operand_list)
-    } else {
-        read_form_into(reader, row, prefixes, opcode, operand_list)
-    }
-}
-
 /// Reads what follows a ModRM byte in the row of a word, by its plan.
 fn read_after_modrm<T: Reader<u64, u8>>(
     strict: bool,
@@ -216,7 +156,7 @@ fn read_after_modrm<T: Reader<u64, u8>>(
     let Some(row) = unpack(word) else {
         return Err(DecodeError::InvalidOpcode);
     };
-    let plan = plan_at(strict, row, &inst.prefixes, modrm);
+    let plan = row_plan(&row, strict, &inst.prefixes, modrm);
     let Instruction {
         prefixes,
         opcode,
@@ -242,7 +182,15 @@ pub fn read_rest<T: Reader<u64, u8>>(
         Rest::Nothing => Ok(()),
         Rest::Row(word) => match unpack(word) {
             None => Err(DecodeError::InvalidOpcode),
-            Some(row) => read_row_into(strict, row, reader, inst),
+            Some(row) => {
+                let Instruction {
+                    prefixes,
+                    opcode,
+                    operand_list,
+                    ..
+                } = inst;
+                read_row_into(reader, row, strict, prefixes, opcode, operand_list)
+            }
         },
         Rest::AfterModRM(word, modrm) => read_after_modrm(strict, word, modrm, reader, inst),
     }

@@ -3,13 +3,14 @@ use Rattle.std.proofs.Common.{◌≡◌, ℕ, zero, suc, ◌==◌, ◌⊎◌, in
 use Rattle.std.specs.List.{list_all}
 use Rattle.std.proofs.lemmas.Bool.{cases_Bool, ne_eqb}
 use Rattle.x86_groups.specs.Vocabulary.{Prefixes, TableRow, Form, ModrmUse, BadOperand, AtModRM, reg_field, rm_field, Rm, Refuses, GroupRow}
+use Rattle.x86_forms.specs.Groups.{is_group}
 use Rattle.x86_forms.specs.declared.Form.TheVariants as form
 use Rattle.x86_opcodes.specs.Names.{LFENCE, MFENCE, SFENCE}
-use Rattle.x86_operands.specs.Asks.{plan_ask}
+use Rattle.x86_operands.specs.Asks.{ask_of, plan_ask, used_modrm}
 use Rattle.x86_groups.specs.declared.rows.Rm.TheVariants as rms
 use Rattle.x86_groups.specs.Columns.{choose, is_there, name_at, plan_of_row}
 use Rattle.x86_groups.specs.Choices.{NamesFence, lfence, mfence, sfence, IsFenceWithRm}
-use Rattle.x86_groups.specs.Groups.{group_plan, operandless, bad_operand}
+use Rattle.x86_groups.specs.Groups.{group_modrm, group_plan, group_record, operandless, bad_operand, record_of}
 use Rattle.x86_groups.specs.Rows.{group_rows}
 use Rattle.x86_groups.proofs.RowLemmas.{chosen_alike}
 
@@ -84,4 +85,12 @@ same_ask usage at row false p m = refl
 same_ask usage at row true p m = elim (same_elsewhere row p m) [
   | inl e ↦ ap (plan_ask usage at) e
   | inr h ↦ ap (plan_ask usage at) (fence_strictly row p m h) ∙ sym (ap (plan_ask usage at) (fence_by_default row p m h))
+]
+
+-- and so is what a row has
+pub row_same_ask : (strict : Bool) (row : TableRow) (p : Prefixes) (m : ℕ) → ask_of (record_of strict row p) m ≡ ask_of (record_of false row p) m
+unfolding group_record ask_of
+row_same_ask strict row p m = elim (cases_Bool (is_group row.form)) [
+  | inl e ↦ rw e (same_ask (group_modrm row.form) (used_modrm (group_modrm row.form) m) row strict p (used_modrm (group_modrm row.form) m))
+  | inr e ↦ rw e refl
 ]

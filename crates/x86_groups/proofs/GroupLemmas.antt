@@ -2,10 +2,12 @@
 use Rattle.std.proofs.Common.{◌≡◌, ◌≢◌, ◌≤◌, inl, inr, Err, ℕ, nat_le, Bool, true, false, not, ◌&&◌, ◌||◌, Some, refl, sym, subst, ap, ◌∙◌, true≢false, arith}
 use Rattle.x86_arch.specs.Reader.{State}
 use Rattle.x86_fields.specs.declared.errors.DecodeError.TheVariants.{IncompleteDecoder}
-use Rattle.x86_groups.specs.Vocabulary.{Prefixes, Form, TableRow, Incomplete, Plan, Moment, AfterAddress, reg_field}
+use Rattle.x86_groups.specs.Vocabulary.{Prefixes, Form, TableRow, EitherForm, Incomplete, Plan, Moment, AfterAddress, reg_field}
 use Rattle.x86_operands.specs.declared.plans.Verdict.TheVariants.{Refuses}
 use Rattle.x86_forms.specs.declared.Form.TheVariants as form
 use Rattle.x86_forms.specs.Groups.{is_group}
+use Rattle.x86_forms.specs.Words.{IsForm}
+use Rattle.x86_operands.specs.Forms.{modrm_use}
 use Rattle.x86_operands.specs.Asks.{immediates_width}
 use Rattle.x86_operands.specs.PlanSteps.{record_step}
 use Rattle.x86_operands.proofs.RowLemmas.{HasGap, row_left_out}
@@ -15,6 +17,13 @@ use Rattle.x86_groups.specs.Groups.{group_fault, group_plan, group_record}
 use Rattle.x86_groups.specs.Rows.{group_rows}
 use Rattle.x86_groups.proofs.FactLemmas.{is_8f, may_have_gap}
 use Rattle.x86_groups.proofs.PlanLemmas.{group_passes}
+
+-- the form of a group carries no number, and has a ModRM byte
+pub group_form : (f : Form) → is_group f ≡ true → IsForm f
+group_form f h = grind arith
+
+pub group_either : (f : Form) → is_group f ≡ true → modrm_use f ≡ EitherForm
+group_either f h = grind arith
 
 pub group_small : (strict : Bool) (row : TableRow) (p : Prefixes) (m : ℕ) → ((group_record strict row p).plan m).size ≤ 64
 unfolding group_record

@@ -4,7 +4,6 @@ use Rattle.x86_groups.specs.Vocabulary.{EitherForm, Reading, Prefixes, Plan, Reg
 use Rattle.x86_opcodes.specs.Names.{Invalid}
 use Rattle.x86_fields.specs.Steps.{Step, ◌>>=◌}
 use Rattle.x86_operands.specs.PlanSteps.{read_modrm, read_plan}
-use Rattle.x86_operands.specs.declared.encodings.AfterOpcode.TheVariants as after_opcode
 use Rattle.x86_operands.specs.Encodings.{plan_of, is_described}
 use Rattle.x86_groups.specs.Columns.{choose, plan_of_row}
 use Rattle.x86_groups.specs.Rows.{group_rows}
@@ -20,7 +19,7 @@ Chooses g m o e = IsTrue (is_described e.after_opcode) → (n : ℕ) (p : Prefix
 
 -- a line of a group has a ModRM byte of either form
 abbrev pub has_either_form : AfterOpcode → Bool
-has_either_form after_opcode.EitherForm = true
+has_either_form AfterOpcode.EitherForm = true
 has_either_form b = false
 
 -- what a group reads after its opcode byte: ModRM, and what its line has there

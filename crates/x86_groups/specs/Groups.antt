@@ -1,11 +1,12 @@
--- The records of the groups: forms of which ModRM or a suffix chooses the operation. Source: Intel SDM volume 2,
--- appendix A.4.
+-- The records of the groups: forms of which ModRM or a suffix chooses the operation. With them every row of the opcode
+-- maps has its record. Source: Intel SDM volume 2, appendix A.4.
 use Rattle.std.specs.Prelude.{ℕ, Bool, true, false, not, ◌&&◌, if◌then◌else◌, Option, Some, None, is_some}
 use Rattle.x86_regs.specs.declared.Segment.{Segment}
-use Rattle.x86_regs.specs.declared.Segment.TheVariants.{DS}
 use Rattle.x86_groups.specs.Vocabulary.{Prefixes, Fault, BadOpcode, BadOperand, AtModRM, ModrmUse, EitherForm, Registers, Zero, Plan, Form, TableRow, rep}
 use Rattle.x86_fields.specs.Prefixes.{operand_size, address_size, lock, segment, rex}
+use Rattle.x86_forms.specs.Groups.{is_group}
 use Rattle.x86_operands.specs.Plans.{RowRecord, reads, refuses}
+use Rattle.x86_operands.specs.Forms.{form_record}
 use Rattle.x86_forms.specs.declared.Form.TheVariants as form
 use Rattle.x86_groups.specs.Columns.{choose, plan_of_row}
 use Rattle.x86_groups.specs.Rows.{group_rows}
@@ -14,7 +15,7 @@ use Rattle.x86_groups.specs.Rows.{group_rows}
 
 -- neither 64 nor 65 chose a segment
 abbrev pub is_no_override : Segment → Bool
-is_no_override DS = true
+is_no_override Segment.DS = true
 is_no_override s = false
 
 -- F3 is in force, and nothing else: no 66, 67, LOCK, FS, GS or live REX
@@ -43,6 +44,11 @@ group_plan row p m strict = plan_of_row (choose (group_rows row.form) strict p m
 
 unfoldable pub group_record : Bool → TableRow → Prefixes → RowRecord
 group_record strict row p = record { at_opcode = group_fault row.form p; modrm = group_modrm row.form; plan = λ m. group_plan row p m strict }
+
+-- ---- the record of a row, under the choice
+
+abbrev pub record_of : Bool → TableRow → Prefixes → RowRecord
+record_of strict row p = if is_group row.form then group_record strict row p else form_record row p
 
 -- ---- two plans that laws name
 

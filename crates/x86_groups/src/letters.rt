@@ -1,11 +1,10 @@
 //! The columns of operands and of memory sizes.
 ghost use Rattle.std.specs.Prelude.{◌≡◌};
-ghost use Rattle.x86_regs.specs.Class.{width_of};
-ghost use Rattle.x86_fields.specs.Sizes.{class_of};
 ghost use Rattle.x86_groups.specs.Columns.{letter_encoding, operand_encodings, row_bytes};
 
 use x86_fields::{ModRM, Prefixes, Width};
-use x86_operands::plans::{OperandEncoding, OperandEncodings, RegisterSlot, immediate_of};
+use x86_operands::form_sizes::by_class;
+use x86_operands::plans::{OperandEncoding, OperandEncodings, RegisterSlot};
 use x86_regs::{RegSpec, RegisterClass};
 
 /// An operand of a row, in the letters of the Intel SDM, volume 2, appendix A.2.
@@ -67,20 +66,15 @@ pub enum RowSize {
     Of(Width),
 }
 
-fn class_of(width: Width, prefixes: &Prefixes) -> RegisterClass
-    ensures { result ≡ class_of width prefixes.now }
-{
-    width.class(prefixes.size_prefixes())
-}
-
 impl Letter {
     fn encoding(self, prefixes: &Prefixes, modrm: ModRM) -> OperandEncoding
         ensures { result ≡ letter_encoding self prefixes.now modrm }
     {
+        let sizes = prefixes.size_prefixes();
         match self {
-            Letter::E(width) => OperandEncoding::E(class_of(width, prefixes)),
-            Letter::G(width) => OperandEncoding::G(class_of(width, prefixes)),
-            Letter::U(width) => OperandEncoding::U(class_of(width, prefixes)),
+            Letter::E(width) => OperandEncoding::E(width.class(sizes)),
+            Letter::G(width) => OperandEncoding::G(width.class(sizes)),
+            Letter::U(width) => OperandEncoding::U(width.class(sizes)),
             Letter::M => OperandEncoding::M,
             Letter::Gmm => OperandEncoding::Gmm,
             Letter::Emm => OperandEncoding::Emm,
@@ -90,7 +84,12 @@ impl Letter {
             Letter::I8 => OperandEncoding::I8,
             Letter::U8 => OperandEncoding::U8,
             Letter::X8 => OperandEncoding::X8,
-            Letter::Iv => immediate_of(prefixes.v_class()),
+            Letter::Iv => by_class(
+                prefixes.v_class(),
+                OperandEncoding::I16,
+                OperandEncoding::I32,
+                OperandEncoding::I64,
+            ),
             Letter::Jv if prefixes.operand_size() && !prefixes.has_w() =>
                 OperandEncoding::I32From16,
             Letter::Jv => OperandEncoding::I32,
@@ -144,7 +143,7 @@ impl RowSize {
     {
         match self {
             RowSize::Bytes(bytes) => bytes,
-            RowSize::Of(width) => class_of(width, prefixes).width(),
+            RowSize::Of(width) => width.class(prefixes.size_prefixes()).width(),
         }
     }
 }

@@ -1,7 +1,8 @@
-//! Groups: the forms of which ModRM or a suffix chooses the operation.
+//! Groups: the forms of which ModRM or a suffix chooses the operation. With them every row can be read.
 //!
 //! Each group has rows, of which the first that holds counts, and so a plan at each ModRM byte, under the prefixes. The
-//! definitions have them as the manual prints them (specs/Rows.antt). Here they are read by these plans.
+//! definitions have them as the manual prints them (specs/Rows.antt). A row of the opcode maps is read by its plan, that
+//! of its group or that of its plain form.
 #![tactic(auto)]
 
 ghost use Rattle.std.specs.Prelude.{◌≡◌, true};
@@ -10,7 +11,8 @@ ghost use Rattle.x86_fields.specs.Steps.{outcome};
 ghost use Rattle.x86_forms.specs.Groups.{is_group};
 ghost use Rattle.x86_operands.specs.PlanSteps.{record_step};
 ghost use Rattle.x86_operands.specs.OperandList.{value_if_ok, no_operands, reading_with};
-ghost use Rattle.x86_groups.specs.Groups.{group_record};
+ghost use Rattle.x86_forms.specs.Words.{IsForm};
+ghost use Rattle.x86_groups.specs.Groups.{group_record, record_of};
 
 mod by_reg;
 pub mod laws;
@@ -20,18 +22,17 @@ mod rows;
 mod tables;
 
 pub use by_reg::chosen;
-pub use plans::{group_ask, group_at, group_plan};
-use plans::{group_fault, group_modrm};
+pub use plans::{group_ask, row_ask, row_at, row_fault, row_modrm, row_plan};
 use x86_arch::Reader;
 use x86_fields::{DecodeError, Prefixes};
 use x86_forms::TableRow;
 use x86_opcodes::Opcode;
 use x86_operands::{Operands, Reading, read_modrm, read_plan, read_plan_into, refuse_fault};
 
-/// What a row has whose form is a group, written into blank operands.
+/// What a row has after its opcode byte, written into blank operands.
 #[inline(never)]
-#[tactic(auto, unfolding(crate::specs::Groups::group_record, x86_operands::specs::PlanSteps::record_step))]
-pub fn read_group_into<T: Reader<u64, u8>>(
+#[tactic(auto, unfolding(x86_operands::specs::PlanSteps::record_step))]
+pub fn read_row_into<T: Reader<u64, u8>>(
     reader: &mut T,
     row: TableRow,
     strict: bool,
@@ -39,15 +40,34 @@ pub fn read_group_into<T: Reader<u64, u8>>(
     opcode: &mut Opcode,
     operand_list: &mut Operands,
 ) -> Result<(), DecodeError>
-    requires { operand_list.old ≡ no_operands }
+    requires form { IsForm row.form }
+    requires blank { operand_list.old ≡ no_operands }
     ensures { outcome
         (value_if_ok result (reading_with opcode.new prefixes.new operand_list.new)) (T.state reader.new)
-        ≡ record_step (group_record strict row prefixes.old) prefixes.old (T.state reader.old) }
+        ≡ record_step (record_of strict row prefixes.old) prefixes.old (T.state reader.old) }
 {
-    refuse_fault(group_fault(row.form, prefixes))?;
-    let modrm = read_modrm(reader, group_modrm(row.form))?;
-    let plan = group_plan(row, strict, prefixes, modrm);
+    refuse_fault(row_fault(&row, prefixes))?;
+    let modrm = read_modrm(reader, row_modrm(&row))?;
+    let plan = row_plan(&row, strict, prefixes, modrm);
     read_plan_into(reader, &plan, modrm, prefixes, opcode, operand_list)
+}
+
+/// What a row has after its opcode byte.
+#[tactic(auto, unfolding(x86_operands::specs::PlanSteps::record_step))]
+pub fn read_row<T: Reader<u64, u8>>(
+    strict: bool,
+    row: TableRow,
+    prefixes: Prefixes,
+    reader: &mut T,
+) -> Result<Reading, DecodeError>
+    requires { IsForm row.form }
+    ensures { outcome result (T.state reader.new) ≡
+        record_step (record_of strict row prefixes) prefixes (T.state reader.old) }
+{
+    refuse_fault(row_fault(&row, &prefixes))?;
+    let modrm = read_modrm(reader, row_modrm(&row))?;
+    let plan = row_plan(&row, strict, &prefixes, modrm);
+    read_plan(reader, &plan, prefixes, modrm)
 }
 
 /// Reads what a row has after its opcode byte, where its form is a group.
@@ -56,7 +76,7 @@ pub fn read_group_into<T: Reader<u64, u8>>(
 /// the errors come `InvalidOpcode` and `InvalidOperand` where the row's record refuses, `IncompleteDecoder` for 8F
 /// with a reg other than 0, and `ExhaustedInput`. After a refusal the bytes up to its moment are taken: none, ModRM,
 /// the address, or all.
-#[tactic(auto, unfolding(crate::specs::Groups::group_record, x86_operands::specs::PlanSteps::record_step))]
+#[tactic(auto, using(crate::proofs::GroupLemmas::group_form))]
 pub fn read_group<T: Reader<u64, u8>>(
     words: &mut T,
     row: TableRow,
@@ -67,8 +87,5 @@ pub fn read_group<T: Reader<u64, u8>>(
     ensures { outcome result (T.state words.new)
         ≡ record_step (group_record strict row prefixes) prefixes (T.state words.old) }
 {
-    refuse_fault(group_fault(row.form, &prefixes))?;
-    let modrm = read_modrm(words, group_modrm(row.form))?;
-    let plan = group_plan(row, strict, &prefixes, modrm);
-    read_plan(words, &plan, prefixes, modrm)
+    read_row(strict, row, prefixes, words)
 }

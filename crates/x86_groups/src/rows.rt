@@ -1,6 +1,6 @@
 //! Rows of groups: where each is, and what it has there. The first row that holds counts.
 ghost use Rattle.std.specs.Prelude.{◌≡◌};
-ghost use Rattle.x86_groups.specs.Columns.{choose, is_there, is_placed, is_prefixed, is_rm, is_named, name_at, named, opcode_of, plan_of_row};
+ghost use Rattle.x86_groups.specs.Columns.{choose, is_there, is_placed, is_prefixed, is_rm, is_named, named, opcode_of, plan_of_row};
 
 use crate::letters::{Letters, RowSize};
 use x86_fields::{ModRM, Prefixes};
@@ -144,13 +144,6 @@ macro_rules! refusal {
 
 pub(crate) use refusal;
 
-/// The number at an index, and 0 where there is none.
-fn name_at(names: &[u16], index: u8) -> u16
-    ensures { result ≡ name_at names.now index }
-{
-    *names.get(index as usize).unwrap_or(&0)
-}
-
 impl GroupRow {
     fn is_placed(&self, modrm: ModRM) -> bool
         ensures { result ≡ is_placed self.now.at.place modrm }
@@ -199,11 +192,11 @@ impl GroupRow {
             Content::Reads {
                 names: Names::ByReg(names),
                 ..
-            } => name_at(names, modrm.reg_field()) != 0,
+            } => names[modrm.reg_field() as usize] != 0,
             Content::Reads {
                 names: Names::ByRm(names),
                 ..
-            } => name_at(names, modrm.rm_field()) != 0,
+            } => names[modrm.rm_field() as usize] != 0,
             _ => true,
         }
     }
@@ -252,8 +245,8 @@ impl Names {
             Names::Own => own,
             Names::BySuffix => Opcode::Invalid,
             Names::Name(number) => named(*number),
-            Names::ByReg(names) => named(name_at(names, modrm.reg_field())),
-            Names::ByRm(names) => named(name_at(names, modrm.rm_field())),
+            Names::ByReg(names) => named(names[modrm.reg_field() as usize]),
+            Names::ByRm(names) => named(names[modrm.rm_field() as usize]),
         }
     }
 }

@@ -5,13 +5,11 @@ ghost use Rattle.x86_operands.specs.Vocabulary.{Prefixes, is_memory};
 ghost use Rattle.x86_fields.specs.Sizes.{size_prefixes};
 ghost use Rattle.x86_operands.specs.Encodings.{size_bytes, last_encoding, reg_encoding, rm_encoding, encoding_at, encodings_in, plan_of, use_of, is_described, allows, size_at};
 
-use crate::form_sizes::{
-    form_by_opcode, lacks_memory, named_size, push_immediate, whole_immediate,
-};
+use crate::form_sizes::{by_class, named_size};
 use crate::order::Order;
 use crate::plans::{
-    ModrmUse, OperandEncoding, OperandEncodings, Plan, RegisterSlot, accumulator_of, immediate_of,
-    memory_only, reads, register_at, register_only,
+    Fault, ModrmUse, Moment, OperandEncoding, OperandEncodings, Plan, RegisterSlot, accumulator_of,
+    reads, refused, register_at,
 };
 use crate::sizing::SIZES;
 use x86_fields::{ModRM, Prefixes, SizePrefixes, Width};
@@ -145,9 +143,20 @@ impl Last {
             Last::U8 => OperandEncoding::U8,
             Last::U16 => OperandEncoding::U16,
             Last::I32 => OperandEncoding::I32,
-            Last::Iv => immediate_of(prefixes.v_class()),
-            Last::Ivq => whole_immediate(prefixes.v_class()),
-            Last::Ip => push_immediate(prefixes),
+            Last::Iv => by_class(
+                prefixes.v_class(),
+                OperandEncoding::I16,
+                OperandEncoding::I32,
+                OperandEncoding::I64,
+            ),
+            Last::Ivq => by_class(
+                prefixes.v_class(),
+                OperandEncoding::I16,
+                OperandEncoding::I32,
+                OperandEncoding::I64Whole,
+            ),
+            Last::Ip if prefixes.operand_size() && !prefixes.has_w() => OperandEncoding::I16,
+            Last::Ip => OperandEncoding::I32,
             Last::SignedOne => OperandEncoding::ConstantI8(1),
             Last::UnsignedOne => OperandEncoding::ConstantU8(1),
             Last::Three => OperandEncoding::ConstantU8(3),
@@ -248,7 +257,8 @@ impl AfterOpcode {
         match self {
             AfterOpcode::EitherForm => true,
             AfterOpcode::Memory => modrm.is_memory(),
-            AfterOpcode::FormByOpcode => !lacks_memory(opcode, modrm),
+            AfterOpcode::FormByOpcode => modrm.is_memory()
+                || !matches!(opcode, Opcode::MOVLPD | Opcode::MOVHPD),
             AfterOpcode::ByReg(_) | AfterOpcode::ByPlan(_) | AfterOpcode::Group => false,
             _ => !modrm.is_memory(),
         }
@@ -305,11 +315,12 @@ impl FormEncoding {
             encodings,
             self.mem_size(modrm.is_memory(), opcode, prefixes.size_prefixes()),
         );
-        match self.after_opcode {
-            AfterOpcode::Memory => memory_only(modrm, plan),
-            AfterOpcode::Registers => register_only(modrm, plan),
-            AfterOpcode::FormByOpcode => form_by_opcode(modrm, plan),
-            _ => plan,
-        }
+        let moment = match self.after_opcode {
+            AfterOpcode::Memory | AfterOpcode::FormByOpcode => Moment::AtModRM,
+            AfterOpcode::Registers => Moment::AfterAddress,
+            _ => return plan,
+        };
+        let refuses = !self.after_opcode.allows(opcode, modrm);
+        refused(refuses, Fault::BadOperand, moment, plan)
     }
 }

@@ -4,17 +4,15 @@ ghost use Rattle.x86_arch.specs.Reader.{State};
 ghost use Rattle.x86_fields.specs.Steps.{outcome};
 ghost use Rattle.x86_forms.specs.Groups.{is_group};
 ghost use Rattle.x86_forms.specs.Words.{IsForm};
-ghost use Rattle.x86_operands.specs.Asks.{ask_of, record_at};
-ghost use Rattle.x86_operands.specs.OperandList.{value_if_ok, no_operands, reading_with};
+ghost use Rattle.x86_operands.specs.Asks.{ask_of};
 ghost use Rattle.x86_operands.specs.Forms.{form_plan, form_record};
 ghost use Rattle.x86_operands.specs.PlanSteps.{record_step};
 
 use crate::form_encodings::form_encoding;
-use crate::operand_list::Operands;
 use crate::plans::Plan;
-use crate::reader::{Reading, read_modrm, read_plan, read_plan_into};
+use crate::reader::{Reading, read_modrm, read_plan};
 use crate::separate_plans::separate_plan;
-use crate::{Ask, RecordAt, encoding_ask, plan_ask, used_modrm, used_or_none};
+use crate::{Ask, plan_ask, used_modrm};
 use x86_arch::Reader;
 use x86_fields::{DecodeError, ModRM, Prefixes};
 use x86_forms::{Form, TableRow};
@@ -31,27 +29,6 @@ pub fn form_plan(form: Form, opcode: Opcode, prefixes: &Prefixes, modrm: ModRM) 
     } else {
         separate_plan(form, opcode, prefixes, modrm)
     }
-}
-
-/// What a row has whose form is a plain form, written into a blank instruction.
-#[inline(never)]
-#[tactic(auto, unfolding(crate::specs::Forms::form_record, crate::specs::PlanSteps::record_step))]
-pub fn read_form_into<T: Reader<u64, u8>>(
-    reader: &mut T,
-    row: TableRow,
-    prefixes: &mut Prefixes,
-    opcode: &mut Opcode,
-    operand_list: &mut Operands,
-) -> Result<(), DecodeError>
-    requires carried { IsForm row.form }
-    requires blank { operand_list.old ≡ no_operands }
-    ensures { outcome
-        (value_if_ok result (reading_with opcode.new prefixes.new operand_list.new)) (T.state reader.new)
-        ≡ record_step (form_record row prefixes.old) prefixes.old (T.state reader.old) }
-{
-    let modrm = read_modrm(reader, form_encoding(row.form).modrm_use())?;
-    let plan = form_plan(row.form, row.opcode, prefixes, modrm);
-    read_plan_into(reader, &plan, modrm, prefixes, opcode, operand_list)
 }
 
 /// Reads what a row has after its opcode byte, where its form is a plain form: ModRM, the memory operand, the
@@ -79,36 +56,14 @@ pub fn read_form<T: Reader<u64, u8>>(
 /// ModRM. Where the row refuses with every suffix, the answer is open.
 ///
 /// For the row of 03, which is ADD, at ModRM 44 this is a ModRM of the memory form, and nothing else.
-#[tactic(auto, using(crate::proofs::AskLemmas::encoding_has_ask), unfolding(crate::specs::Forms::form_record, crate::specs::Asks::ask_of))]
+#[tactic(auto, unfolding(crate::specs::Forms::form_record, crate::specs::Asks::ask_of))]
 pub fn form_ask(row: TableRow, prefixes: Prefixes, modrm: u8) -> Ask
     requires plain { is_group row.form ≡ false }
     requires carried { IsForm row.form }
     ensures { result ≡ ask_of (form_record row prefixes) modrm }
 {
-    let encoding = form_encoding(row.form);
-    let usage = encoding.modrm_use();
-    let modrm = used_modrm(usage, ModRM::new(modrm));
-    if encoding.after_opcode.is_described() {
-        encoding_ask(encoding, &prefixes, modrm)
-    } else {
-        let plan = separate_plan(row.form, row.opcode, &prefixes, modrm);
-        plan_ask(usage, modrm, &plan)
-    }
-}
-
-/// The record of a row whose form is a plain form, at a ModRM byte.
-#[tactic(auto, unfolding(crate::specs::Forms::form_record, crate::specs::Asks::record_at))]
-pub fn form_at(row: TableRow, prefixes: Prefixes, modrm: Option<u8>) -> RecordAt
-    requires plain { is_group row.form ≡ false }
-    requires carried { IsForm row.form }
-    ensures { result ≡ record_at (form_record row prefixes) modrm }
-{
     let usage = form_encoding(row.form).modrm_use();
-    let modrm = used_or_none(usage, modrm);
-    RecordAt {
-        at_opcode: None,
-        usage,
-        modrm,
-        plan: form_plan(row.form, row.opcode, &prefixes, modrm),
-    }
+    let modrm = used_modrm(usage, ModRM::new(modrm));
+    let plan = form_plan(row.form, row.opcode, &prefixes, modrm);
+    plan_ask(usage, modrm, &plan)
 }

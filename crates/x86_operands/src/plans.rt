@@ -1,6 +1,6 @@
 //! The vocabulary of the rows' records.
 ghost use Rattle.std.specs.Prelude.{◌≡◌, ◌<◌, ℕ};
-ghost use Rattle.x86_operands.specs.Plans.{reads, refused, refuses, memory_only, register_only, size_by, register_at, accumulator_of, immediate_of};
+ghost use Rattle.x86_operands.specs.Plans.{reads, refused, refuses, size_by, register_at, accumulator_of};
 
 pub use x86_fields::UNDECIDED_SIZE;
 use x86_fields::{ModRM, Prefixes, extend};
@@ -186,22 +186,6 @@ pub fn refused(test: bool, fault: Fault, moment: Moment, plan: Plan) -> Plan
     }
 }
 
-/// The plan, for which a register form is refused at ModRM.
-pub fn memory_only(modrm: ModRM, plan: Plan) -> Plan
-    ensures { result ≡ memory_only modrm plan }
-{
-    let register = !modrm.is_memory();
-    refused(register, Fault::BadOperand, Moment::AtModRM, plan)
-}
-
-/// The plan, with a refusal of the memory form after the address.
-pub fn register_only(modrm: ModRM, plan: Plan) -> Plan
-    ensures { result ≡ register_only modrm plan }
-{
-    let memory = modrm.is_memory();
-    refused(memory, Fault::BadOperand, Moment::AfterAddress, plan)
-}
-
 /// The size in the memory form, or in the register form.
 pub fn size_by(modrm: ModRM, memory: u8, register: u8) -> u8
     ensures { result ≡ size_by modrm memory register }
@@ -222,16 +206,4 @@ pub fn accumulator_of(class: RegisterClass, prefixes: &Prefixes) -> OperandEncod
     ensures { result ≡ accumulator_of class prefixes.now }
 {
     OperandEncoding::Fixed(RegisterSlot::Reg, prefixes.register(class, 0))
-}
-
-/// The immediate of a class v.
-#[inline(always)]
-pub fn immediate_of(class: RegisterClass) -> OperandEncoding
-    ensures { result ≡ immediate_of class }
-{
-    match class {
-        RegisterClass::W => OperandEncoding::I16,
-        RegisterClass::Q => OperandEncoding::I64,
-        _ => OperandEncoding::I32,
-    }
 }

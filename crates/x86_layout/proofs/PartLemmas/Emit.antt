@@ -16,7 +16,8 @@ use Rattle.x86_operands.specs.PlanSteps.{record_step}
 use Rattle.x86_operands.proofs.RecordLemmas.{takes_row}
 use Rattle.x86_decode.specs.declared.instructions.Instruction.{Instruction}
 use Rattle.x86_decode.specs.Head.{column_of, escape_bytes, is_opcode, seen_by}
-use Rattle.x86_decode.specs.Grammar.{record_of, allows_lock, IsAccepted, IsAnswer}
+use Rattle.x86_groups.specs.Groups.{record_of}
+use Rattle.x86_decode.specs.Grammar.{allows_lock, IsAccepted, IsAnswer}
 use Rattle.x86_decode.specs.Instruction.{instruction_of}
 use Rattle.x86_decode.specs.Answer.{answer_of, count_of}
 use Rattle.x86_layout.specs.declared.parts.fields.Fields as fields

@@ -16,8 +16,7 @@ use Rattle.x86_operands.proofs.AskLemmas.{encoding_has_ask}
 use Rattle.x86_operands.specs.FormEncodings.{Belongs, Describes, group_form}
 use Rattle.x86_operands.specs.Forms.{form_plan, form_record, modrm_use}
 use Rattle.x86_groups.specs.ByReg.{Chooses, has_either_form, reg_plan}
-use Rattle.x86_groups.specs.Groups.{group_modrm, group_plan, group_record}
-use Rattle.x86_decode.specs.Grammar.{record_of}
+use Rattle.x86_groups.specs.Groups.{group_modrm, group_plan, group_record, record_of}
 
 -- ---- a plain form
 

@@ -23,13 +23,13 @@ use Rattle.x86_layout.specs.Parts.OfBytes.{ask_by, ask_after_run, displacement_l
 use Rattle.x86_layout.proofs.PartLemmas.Part.{cut_is, halves, run_length_is, map_is, as_it_is, read_as, modrm_count, sib_count, immediate_count, suffix_count, immediates_long}
 use Rattle.x86_forms.specs.Words.{rows_of, packed}
 use Rattle.x86_decode.specs.declared.instructions.Instruction.{Instruction}
-use Rattle.x86_decode.specs.Grammar.{IsAnswer, IsSentence, record_of}
+use Rattle.x86_decode.specs.Grammar.{IsAnswer, IsSentence}
 use Rattle.x86_decode.specs.Answer.{answer_of, count_of}
 use Rattle.x86_forms.specs.declared.TableRow.{TableRow}
 use Rattle.x86_forms.specs.Groups.{is_group}
 use Rattle.x86_operands.specs.Forms.{form_record}
 use Rattle.x86_operands.proofs.PlainLemmas.{plain_narrow}
-use Rattle.x86_groups.specs.Groups.{group_record}
+use Rattle.x86_groups.specs.Groups.{group_record, record_of}
 use Rattle.x86_groups.proofs.GroupLemmas.{group_narrow}
 
 -- ---- SIB and displacement

@@ -19,7 +19,6 @@ use Rattle.x86_forms.specs.Groups.{is_group}
 use Rattle.x86_operands.specs.Plans.{RowRecord, immediate_of, list_of}
 use Rattle.x86_operands.specs.Pieces.{is_refusal}
 use Rattle.x86_operands.specs.Forms.{form_plan, form_record, modrm_use}
-use Rattle.x86_decode.specs.Grammar.{record_of}
 use Rattle.x86_decode.specs.Addresses.{is_modrm_encoding}
 use Rattle.x86_layout.specs.Tightening.Tighten.{bits_in}
 use Rattle.x86_groups.specs.declared.letters.Letter.{Letter}
@@ -29,7 +28,7 @@ use Rattle.x86_groups.specs.declared.letters.Letters.TheVariants as letters
 use Rattle.x86_groups.specs.declared.rows.Content.{Content}
 use Rattle.x86_groups.specs.declared.rows.Content.TheVariants.{Reads, Refuses}
 use Rattle.x86_groups.specs.Columns.{choose, letter_encoding, operand_encodings, plan_of_row, verdict_of}
-use Rattle.x86_groups.specs.Groups.{is_f3_alone, group_fault, group_plan, group_record}
+use Rattle.x86_groups.specs.Groups.{is_f3_alone, group_fault, group_plan, group_record, record_of}
 use Rattle.x86_groups.specs.Rows.{group_rows}
 use Rattle.x86_groups.proofs.RowLemmas.{SamePrefixes, no_rm_names}
 use Rattle.x86_groups.proofs.FactLemmas.{in_memory, is_memory_letter, letters_list, rm_free_letter}

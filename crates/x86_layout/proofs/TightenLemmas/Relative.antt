@@ -17,7 +17,8 @@ use Rattle.x86_operands.specs.Pieces.{SpellsMemory, modrm_width}
 use Rattle.x86_operands.specs.Asks.{modrm_of}
 use Rattle.x86_decode.specs.Head.{escape_bytes, seen_by}
 use Rattle.x86_decode.specs.Instruction.{instruction_of}
-use Rattle.x86_decode.specs.Grammar.{record_of, allows_lock, IsSentence}
+use Rattle.x86_groups.specs.Groups.{record_of}
+use Rattle.x86_decode.specs.Grammar.{allows_lock, IsSentence}
 use Rattle.x86_decode.proofs.ByteLemmas.{Bytes, bytes_of, bytes_after, bytes_before}
 use Rattle.x86_layout.specs.Parts.Split.{Encoding, record_in}
 use Rattle.x86_layout.specs.Tightening.Registers.{is_ip_relative}

@@ -12,7 +12,7 @@ use Rattle.x86_forms.specs.Words.{rows_of, packed}
 use Rattle.x86_operands.specs.declared.asks.Ask.{Ask}
 use Rattle.x86_operands.specs.Asks.{ask_of}
 use Rattle.x86_decode.specs.Head.{column_of, escape_bytes, seen_by}
-use Rattle.x86_decode.specs.Grammar.{record_of}
+use Rattle.x86_groups.specs.Groups.{record_of}
 use Rattle.x86_layout.specs.Parts.Heads.{map_of, one_if, has_sib}
 
 -- what a row has at a ModRM byte; nothing where there is no row

@@ -20,7 +20,8 @@ use Rattle.x86_operands.specs.Asks.{uses_modrm, uses_suffix, immediates_width, r
 use Rattle.x86_operands.specs.PlanSteps.{record_step}
 use Rattle.x86_decode.specs.Head.{is_run, column_of, is_opcode, seen_by}
 use Rattle.x86_decode.specs.declared.instructions.Instruction.{Instruction}
-use Rattle.x86_decode.specs.Grammar.{record_of, allows_lock, IsSentence}
+use Rattle.x86_groups.specs.Groups.{record_of}
+use Rattle.x86_decode.specs.Grammar.{allows_lock, IsSentence}
 use Rattle.x86_layout.specs.declared.parts.fields.Fields.{Fields}
 use Rattle.x86_layout.specs.declared.parts.entries.Entry.{Entry}
 use Rattle.x86_layout.specs.declared.parts.emit.EmitError.{EmitError}

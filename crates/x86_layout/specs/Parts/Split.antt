@@ -11,7 +11,8 @@ use Rattle.x86_operands.specs.Asks.{modrm_of}
 use Rattle.x86_decode.specs.declared.instructions.Instruction.{Instruction}
 use Rattle.x86_decode.specs.Instruction.{length_of}
 use Rattle.x86_decode.specs.Head.{escape_bytes, seen_by}
-use Rattle.x86_decode.specs.Grammar.{Whole, IsSentence, record_of}
+use Rattle.x86_groups.specs.Groups.{record_of}
+use Rattle.x86_decode.specs.Grammar.{Whole, IsSentence}
 use Rattle.x86_decode.specs.Answer.{answer_of}
 
 -- whole encodings by the printed rows

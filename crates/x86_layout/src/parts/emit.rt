@@ -11,7 +11,7 @@ ghost use Rattle.x86_layout.specs.Parts.Split.{joined};
 ghost use Rattle.x86_layout.specs.Parts.Fields.{lists_in};
 ghost use Rattle.x86_layout.specs.Parts.Permitted.{lacks_modrm, refuses_suffix, passes_record, displacement_length, has_row_parts, tail_of, has_lawful_lock, is_short, failing_at, first_failing, IsPermitted};
 
-use crate::parts::entries::{Entry, entry_of, record_at};
+use crate::parts::entries::{Entry, entry_of};
 use crate::parts::fields::Fields;
 use crate::parts::split::has_sib;
 use arrayvec::ArrayVec;
@@ -20,6 +20,7 @@ use x86_arch::U8Reader;
 use x86_decode::InstDecoder;
 use x86_decode::builders::{allows_lock, is_prefix, read_row};
 use x86_fields::{ModRM, displacement_width};
+use x86_groups::row_at;
 use x86_operands::plans::Verdict;
 use x86_operands::{RecordAt, plan_ask, suffix_opcode};
 
@@ -187,7 +188,7 @@ fn emit_row(strict: bool, entry: &Entry, fields: &Fields) -> Result<ArrayVec<u8,
         × (bytes.items ≡ joined (lists_in fields.now)))
         (λ error. failing_at strict (Some entry.now) fields.now ≡ Some error) }
 {
-    let record = record_at(strict, entry, fields.modrm);
+    let record = row_at(entry.row, entry.prefixes, fields.modrm, strict);
     if !passes_record(&record, fields) {
         return Err(EmitError::Row);
     }

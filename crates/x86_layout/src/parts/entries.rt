@@ -2,9 +2,7 @@
 
 ghost use Rattle.std.specs.Prelude.{◌≡◌, Some, IfSome, IsTrue};
 ghost use Rattle.x86_forms.specs.Words.{IsForm};
-ghost use Rattle.x86_operands.specs.Asks.{record_at};
 ghost use Rattle.x86_decode.specs.Head.{is_run, is_opcode};
-ghost use Rattle.x86_decode.specs.Grammar.{record_of};
 ghost use Rattle.x86_layout.specs.Parts.Permitted.{map_named, entry_at, entry_of};
 
 use crate::parts::fields::Fields;
@@ -12,8 +10,6 @@ use crate::parts::heads::{escape_length, map_of};
 use x86_decode::builders::{column_of, is_prefix, is_vex, seen_by};
 use x86_fields::{Prefixes, reading_of};
 use x86_forms::{Map, TableRow, packed, unpack};
-use x86_groups::group_at;
-use x86_operands::{RecordAt, form_at};
 
 /// A row, and the prefixes as its record sees them.
 #[derive(Clone, Copy, Drop)]
@@ -73,17 +69,5 @@ pub fn entry_of(fields: &Fields) -> Option<Entry>
     match map_named(&fields.escape) {
         Some(map) => entry_in(map, reading_of(&fields.prefixes), fields.opcode),
         None => None,
-    }
-}
-
-/// The row's record at a ModRM byte.
-pub fn record_at(strict: bool, entry: &Entry, modrm: Option<u8>) -> RecordAt
-    requires { IsForm entry.now.row.form }
-    ensures { result ≡ record_at (record_of strict entry.now.row entry.now.prefixes) modrm }
-{
-    if entry.row.form.is_group() {
-        group_at(entry.row, entry.prefixes, modrm, strict)
-    } else {
-        form_at(entry.row, entry.prefixes, modrm)
     }
 }

@@ -4,23 +4,21 @@ ghost use Rattle.std.specs.Prelude.{◌≡◌, ◌≤◌, Bool, IsTrue, length, 
 ghost use Rattle.std.specs.List.{prefix_len};
 ghost use Rattle.x86_fields.specs.declared.prefixes.Prefixes.{Prefixes};
 ghost use Rattle.x86_fields.specs.Run.{is_prefix, reading_of};
-ghost use Rattle.x86_forms.specs.Words.{IsForm, rows_of, packed};
+ghost use Rattle.x86_forms.specs.Words.{rows_of, packed};
 ghost use Rattle.x86_operands.specs.Asks.{ask_of, encoding_ask, used_modrm};
 ghost use Rattle.x86_operands.specs.Encodings.{is_described, use_of};
 ghost use Rattle.x86_decode.specs.Head.{column_of, escape_bytes, seen_by};
-ghost use Rattle.x86_decode.specs.Grammar.{record_of};
+ghost use Rattle.x86_groups.specs.Groups.{record_of};
 ghost use Rattle.x86_layout.specs.Parts.Heads.{map_of, IsHead};
 ghost use Rattle.x86_layout.specs.Parts.Split.{Encoding, IsSentenceOfSomeChoice};
 ghost use Rattle.x86_operands.specs.declared.reader.Reading.{Reading};
 
 use x86_decode::builders::{column_of, is_prefix, seen_by};
 use x86_fields::{ModRM, Prefixes};
-use x86_forms::{Map, Packed, TableRow, WordRow, Words, word_row};
+use x86_forms::{Map, Packed, WordRow, Words, word_row};
 use x86_groups::laws::reg_groups_are_chosen;
-use x86_groups::{chosen, group_ask};
-use x86_operands::{
-    AfterOpcode, Ask, FormEncoding, encoding_ask, form_ask, used_modrm, word_encoding,
-};
+use x86_groups::{chosen, row_ask};
+use x86_operands::{AfterOpcode, Ask, FormEncoding, encoding_ask, used_modrm, word_encoding};
 
 /// An encoding up to its opcode byte, what follows it, and what its row has there.
 #[derive(Clone, Copy, Drop)]
@@ -99,19 +97,6 @@ pub fn escape_length(map: Map) -> usize
     }
 }
 
-/// What a row has at a ModRM byte by its plan, under either choice.
-#[inline(never)]
-fn ask_by_plan(row: TableRow, prefixes: Prefixes, modrm: u8) -> Ask
-    requires { IsForm row.form }
-    ensures { (strict : Bool) → result ≡ ask_of (record_of strict row prefixes) modrm }
-{
-    if row.form.is_group() {
-        group_ask(row, prefixes, modrm)
-    } else {
-        form_ask(row, prefixes, modrm)
-    }
-}
-
 /// The line of the operand encodings for a row at a ModRM byte. If it describes the row, the row has what it has.
 #[inline(always)]
 fn line_at(found: &WordRow, modrm: ModRM) -> &'static FormEncoding
@@ -137,7 +122,7 @@ fn ask_of_row(found: &WordRow, prefixes: Prefixes, modrm: u8) -> Ask
         let used = used_modrm(line.modrm_use(), ModRM::new(modrm));
         encoding_ask(line, &prefixes, used)
     } else {
-        ask_by_plan(found.row, prefixes, modrm)
+        row_ask(found.row, prefixes, modrm)
     }
 }
 
