@@ -27,9 +27,6 @@ use Rattle.x86_cli.proofs.ListingLemmas.Live.{Live, by_rule_joined, fails_last, 
 abbrev pub ends_of : ℕ → Text → Listing
 ends_of n t = at_end t.ending
 
-none_next : (next : List ℕ) → StartsWith [] next → next ≡ []
-none_next next h = grind arith
-
 -- where no piece was written, no byte was
 pub none_sent : (cs : List Call) → pieces cs ≡ [] → sent cs ≡ []
 none_sent [] h = refl
@@ -65,13 +62,14 @@ module _ {R W : Type 0} (reads : R → List ℕ → Result ℕ Error → R → T
     whole_unsent f held' v'' q =
         let s = h.0 in
         let cs = q.0.calls in
-        let failed = failed_joined (Err f) held' cs s.calls q.0.cause q.0.failed in
+        let failed = rw (rw (none_sent cs (q.2 refl)) at q.0.order) at (failed_joined (Err f) held' cs s.calls q.0.cause q.0.failed) in
+        let next = failed.0 in
         record {
           calls = cs ++ s.calls;
           did = calls_joined writes flushes reads cs s.calls r r' v v' v'' s.did q.0.did;
           rule = by_rule_joined writes flushes (ends_of 0) (text_of max) cs s.calls v' v'' q.0.did (follow_of {A = ⊤} {E = WriteFailed} (Err f) cs q.0.cause) s.rule s.unfailed;
           none = rw (pieces_joined, h.1) (q.2 refl);
-          ends = (ends_joined Fails cs s.calls (fails_last f cs q.0.cause), none_next (not_taken (cs ++ s.calls)) (rw (rw (none_sent cs (q.2 refl)) at q.0.order) at failed.0), failed.1);
+          ends = (ends_joined Fails cs s.calls (fails_last f cs q.0.cause), grind arith, failed.1);
         }
 
   -- the writer was flushed, and a read was made

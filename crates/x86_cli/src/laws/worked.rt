@@ -59,7 +59,8 @@ pub fn chosen_by_66()
     ensures sentence { (strict : Bool) →
         Sentence strict (0x66 ∷ 0x0f ∷ 0x38 ∷ 0x00 ∷ 0xc1 ∷ []) (instruction_of pshufb_xmm0_xmm1 5) }
     ensures answer { (strict : Bool) (rest : List ℕ) →
-        answer_of strict (0x66 ∷ 0x0f ∷ 0x38 ∷ 0x00 ∷ 0xc1 ∷ rest) ≡ Ok (instruction_of pshufb_xmm0_xmm1 5) }
+        answer_of strict (0x66 ∷ 0x0f ∷ 0x38 ∷ 0x00 ∷ 0xc1 ∷ rest)
+        ≡ Ok (instruction_of pshufb_xmm0_xmm1 5) }
 {
     headline_of_bytes();
 }
