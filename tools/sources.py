@@ -96,11 +96,11 @@ class Module:
         return found
 
     def continues(self, head, number):
-        """Whether a line belongs to the definition above it: it is indented more, closes it, or is an equation of it, or a comment before such a line."""
+        """Whether a line belongs to the definition above it: it is indented more, closes it, says what it unfolds, is an equation of it, or a comment before such a line."""
         line = self.lines[number]
         if line.lstrip().startswith("--") and indent(line) == len(head[1]):
             return number + 1 < len(self.lines) and self.continues(head, number + 1)
-        return indent(line) > len(head[1]) or line.strip() == "}" or re.match(rf" *{re.escape(head[3])}(?![\w\-'])", line)
+        return indent(line) > len(head[1]) or line.strip() == "}" or re.match(rf" *(?:unfolding|{re.escape(head[3])})(?![\w\-'])", line)
 
     def heads_above(self, number):
         """The heads of the modules that a line is in, the outermost first, each with the comment above it."""

@@ -132,11 +132,10 @@ pub fn by_grammar()
 pub fn decoder_laws()
     ensures { (strict : Bool) → DecoderLaws strict }
 {
+    headline_of_bytes();
     laws::lengths();
-    laws::answers_of_more();
     laws::fifteen_are_enough();
     laws::empty_input();
-    laws::answer_is();
 }
 
 /// The answers of a source, the refusals of a sink, and statuses are equal exactly where they are the same.

@@ -1,6 +1,5 @@
 -- The state of a listing, between two of its calls.
-use Rattle.std.proofs.Common.{◌≡◌, ◌≢◌, ℕ, ◌+◌, List, [], ◌∷◌, ◌++◌, length, drop, take, Option, None, Result, Ok, Err, refl, arith, ap, ◌∙◌, sym, append_assoc, append-nil, length-take, take-append-drop}
-use Rattle.std.proofs.lemmas.List.{take-append-le}
+use Rattle.std.proofs.Common.{◌≡◌, ◌≢◌, ℕ, ◌+◌, List, [], ◌∷◌, ◌++◌, drop, take, Option, None, Result, Ok, Err, refl, arith, ap, ◌∙◌, sym, append_assoc, append-nil, take-append-drop}
 use Rattle.std.proofs.lemmas.List.Folds.{concat-append}
 use Rattle.std.specs.Prelude.{⊤, ◌↔◌, IsTrue, Bool, false}
 use Rattle.std.specs.List.{concat}
@@ -16,10 +15,8 @@ use Rattle.x86_streams.specs.Text.Beginning.{IsOpenText}
 use Rattle.x86_streams.specs.Text.Reader.{TextPosition}
 use Rattle.x86_streams.specs.Text.Reading.{MayCome, NeedsMore, with_bytes}
 use Rattle.x86_streams.specs.Text.Window.{Fills, LeavesRest, TakesBytes, rest_after, rest_of}
-use Rattle.x86_streams.proofs.OutsideLemmas.Calls.{all_continue_joined, calls_joined, ends_joined, pieces_joined, received_joined, sent_joined, stop_joined}
-use Rattle.x86_streams.proofs.TextLemmas.Text.{with_bytes-with_bytes}
+use Rattle.x86_streams.proofs.OutsideLemmas.Calls.{all_continue_joined, calls_joined, ends_joined, pieces_joined, received_joined, sent_joined, starts_more, stop_joined}
 use Rattle.x86_cli.specs.declared.listings.status.Finished.{Finished}
-use Rattle.x86_cli.specs.declared.listings.status.Status.{Status}
 use Rattle.x86_cli.specs.declared.listings.status.Status.TheVariants.{WriteFault}
 use Rattle.x86_cli.specs.Listings.Closes.{Closes, IsLastAt}
 use Rattle.x86_cli.specs.Listings.Entry.{IsLine}
@@ -30,56 +27,29 @@ use Rattle.x86_cli.specs.Listings.Performs.{ByRule, Performs}
 pub with-with : (a b : List (List ℕ)) (l : Listing) → with_lines a (with_lines b l) ≡ with_lines (a ++ b) l
 with-with a b l = ap (λ ls. record { lines = ls; status = l.status }) (sym (append_assoc a b l.lines))
 
-never_failed : (cs : List Call) → AllContinue cs → EndsIn Fails cs → ⊥
-never_failed [] h e = e
-never_failed (c ∷ cs) h e = h.0 e
-
 pub follow_of : {A E : Type 0} (answer : Result A E) (cs : List Call) → Cause answer cs → Follow cs
-follow_of (Ok x) [] h = tt
-follow_of (Ok x) (c ∷ cs) h = h.1
-follow_of (Err e) [] h = absurd h
-follow_of (Err e) (c ∷ cs) h = h.1
+follow_of answer cs h = grind arith
 
 pub fails_last : (f : WriteFailed) (cs : List Call) → Cause {A = ⊤} (Err f) cs → EndsIn Fails cs
-fails_last f [] h = h
-fails_last f (c ∷ cs) h = h.0
-
-starts_more : (bytes more next : List ℕ) → StartsWith bytes next → StartsWith (bytes ++ more) next
-starts_more bytes more next h = let fits = length-take (length next) bytes in grind (arith, ap length h, fits, take-append-le (length next) bytes more)
+fails_last f cs h = grind arith
 
 module _ {W : Type 0} (writes : W → List ℕ → Result ℕ Error → W → Type 0) (flushes : W → Result ⊤ Error → W → Type 0) where
   -- the same calls, where new bytes are known by another name
   abbrev pub sends_as : (answer : Result ⊤ WriteFailed) (new new' held held' : List ℕ) (w w' : W) → new ≡ new' → Sends writes flushes answer new held held' w w' → Sends writes flushes answer new' held held' w w'
   sends_as answer new new' held held' w w' same s = record { calls = s.calls; did = s.did; cause = s.cause; order = s.order ∙ ap (λ b. held ++ b) same; failed = s.failed }
 
-  -- calls of the writer, none of which follows one that failed, are by the rule
-  all_by_rule : (known : Text → Listing) (text : List ℕ → Stop → Text) (cs ds : List Call) (w w' : W) → WriterCalls writes flushes cs w w' → AllContinue cs → ByRule known text ds → AllContinue ds →
-      ByRule known text (cs ++ ds)
-  all_by_rule known text [] ds w w' did c rule d = rule
-  all_by_rule known text (Read buffer answer ∷ cs) ds w w' did c rule d = absurd did
-  all_by_rule known text (Write bytes answer ∷ cs) ds w w' did c rule d =
-      (all_by_rule known text cs ds w did.0 did.1 c.1 rule d, never_failed (cs ++ ds) (all_continue_joined cs ds c.1 d))
-  all_by_rule known text (Flush answer ∷ cs) ds w w' did c rule d =
-      (all_by_rule known text cs ds w did.0 did.1 c.1 rule d, never_failed (cs ++ ds) (all_continue_joined cs ds c.1 d))
-
+  -- calls of the writer, of which none follows one that failed, are by the rule
   pub by_rule_joined : (known : Text → Listing) (text : List ℕ → Stop → Text) (cs ds : List Call) (w w' : W) → WriterCalls writes flushes cs w w' → Follow cs → ByRule known text ds → AllContinue ds →
       ByRule known text (cs ++ ds)
   by_rule_joined known text [] ds w w' did f rule d = rule
   by_rule_joined known text (Read buffer answer ∷ cs) ds w w' did f rule d = absurd did
   by_rule_joined known text (Write bytes answer ∷ cs) ds w w' did f rule d =
-      (all_by_rule known text cs ds w did.0 did.1 f rule d, never_failed (cs ++ ds) (all_continue_joined cs ds f d))
+      (by_rule_joined known text cs ds w did.0 did.1 (follow_of {A = ⊤} {E = WriteFailed} (Ok tt) cs f) rule d, λ e. (let all = all_continue_joined cs ds f d in grind arith))
   by_rule_joined known text (Flush answer ∷ cs) ds w w' did f rule d =
-      (all_by_rule known text cs ds w did.0 did.1 f rule d, never_failed (cs ++ ds) (all_continue_joined cs ds f d))
+      (by_rule_joined known text cs ds w did.0 did.1 (follow_of {A = ⊤} {E = WriteFailed} (Ok tt) cs f) rule d, λ e. (let all = all_continue_joined cs ds f d in grind arith))
 
 pub fresh : (text : TextPosition) (max : ℕ) → text.position ≡ 0 → text.room ≡ max → text.unread ≡ [] → text ≡ record { position = 0; room = max; unread = [] }
 fresh text max position room unread = grind (arith, position, room, unread)
-
-last_flush : (status : Status) (c : Call) → status ≢ WriteFault → IsLastAt status c → IsFlush c
-last_flush status c ne h = grind arith
-
--- these lines are the first of others
-abbrev pub AreFirst : List (List ℕ) → List (List ℕ) → Type 0
-AreFirst lines all = (more : List (List ℕ)) × (all ≡ lines ++ more)
 
 pub read_stop : (buffer : List ℕ) (answer : Result ℕ Error) (cs : List Call) → stop_of (Read buffer answer ∷ cs) ≡ stop_of (Read buffer answer ∷ [])
 read_stop buffer answer cs = grind arith
@@ -140,7 +110,7 @@ module _ {R W : Type 0} (reads : R → List ℕ → Result ℕ Error → R → T
     pub live_take : (ended' : Option Ending) (w' : List ℕ) (text' : TextPosition) → ended' ≡ ended → TakesBytes ended w text w' text' → Live image n ended' w' text' held r' v'
     live_take ended' w' text' same took = rw same (live_rest ended w' text' took.rest (λ e. e))
 
-    pub split : (len : ℕ) (xs : List ℕ) (stop : Stop) → rest_after ended w text xs stop ≡ with_bytes (take len w) (rest_after ended (drop len w) text xs stop)
+    pub split : (len : ℕ) (xs : List ℕ) (stop : Stop) → with_bytes image (rest_after ended w text xs stop) ≡ with_bytes (image ++ take len w) (rest_after ended (drop len w) text xs stop)
     split len xs stop = grind (arith, take-append-drop len w, append_assoc {A = ℕ})
 
     -- lines were put, of bytes that leave the window
@@ -158,10 +128,9 @@ module _ {R W : Type 0} (reads : R → List ℕ → Result ℕ Error → R → T
           unfailed = all_continue_joined q.calls s.calls q.cause s.unfailed;
           unstopped = λ e. stop_is ∙ s.unstopped e;
           lines = s.lines ++ ls;
-          put = ap (λ b. b ++ held') (sent_joined q.calls s.calls) ∙ append_assoc (sent s.calls) (sent q.calls) held' ∙ ap (λ b. sent s.calls ++ b) q.order
-              ∙ sym (append_assoc (sent s.calls) held (concat ls)) ∙ ap (λ b. b ++ concat ls) s.put ∙ sym (concat-append s.lines ls);
+          put = rw (sent_joined q.calls s.calls, append_assoc, q.order, ← append_assoc, s.put) (sym (concat-append s.lines ls));
           each = λ e. ((once e).0, pieces_joined q.calls s.calls ∙ ap (λ ps. ps ++ pieces q.calls) (s.each e).1 ∙ ap (λ ps. s.lines ++ ps) (once e).1);
-          whole = λ xs stop may. rw received_is (s.whole xs stop (rw stop_is at may) ∙ ap (with_bytes image) (split len xs stop) ∙ with_bytes-with_bytes image (take len w) (rest_after ended (drop len w) text xs stop));
+          whole = λ xs stop may. rw received_is (s.whole xs stop (rw stop_is at may) ∙ split len xs stop);
           lists = λ xs stop may. rw received_is (s.lists xs stop (rw stop_is at may) ∙ ap (with_lines s.lines) (step xs stop) ∙ with-with s.lines ls (at n' (rest_after ended (drop len w) text xs stop)));
           decided = λ e xs stop. rw received_is (s.decided e xs stop ∙ ap (with_lines s.lines) (known e xs stop) ∙ with-with s.lines ls (knows n' (rest_after ended (drop len w) text xs stop)));
         }
@@ -173,61 +142,50 @@ module _ {R W : Type 0} (reads : R → List ℕ → Result ℕ Error → R → T
 
     -- ---- ends
 
-    -- The last calls, after which the writer has taken this beginning of the rest.
-    pub ends_in : (outcome : Finished) (v'' : W) (cs : List Call) → WriterCalls writes flushes cs v' v'' → Follow cs → EndsIn (IsLastAt outcome.status) cs → (IsTrue outcome.gone ↔ EndsIn IsGone cs) →
-        ((xs : List ℕ) (stop : Stop) → (unsent : List ℕ) × (held ++ concat (at n (rest_after ended w text xs stop)).lines ≡ sent cs ++ unsent) × StartsWith unsent (not_taken cs)
-        × (outcome.status ≢ WriteFault → (unsent ≡ []) × (outcome.status ≡ (at n (rest_after ended w text xs stop)).status))) →
-        (gathers ≡ false → (xs : List ℕ) (stop : Stop) → AreFirst (pieces cs) (at n (rest_after ended w text xs stop)).lines) →
+    -- The last calls, after which the writer has taken these lines of the rest, or the beginning of them.
+    ends_in : (outcome : Finished) (v'' : W) (cs : List Call) (ls : List (List ℕ)) (after : List ℕ → Stop → Listing) (unsent : List ℕ) → WriterCalls writes flushes cs v' v'' → Follow cs →
+        EndsIn (IsLastAt outcome.status) cs → (IsTrue outcome.gone ↔ EndsIn IsGone cs) → ((xs : List ℕ) (stop : Stop) → at n (rest_after ended w text xs stop) ≡ with_lines ls (after xs stop)) →
+        held ++ concat ls ≡ sent cs ++ unsent → StartsWith unsent (not_taken cs) →
+        (outcome.status ≢ WriteFault → (unsent ≡ []) × ((xs : List ℕ) (stop : Stop) → record { lines = []; status = outcome.status } ≡ after xs stop)) → (gathers ≡ false → pieces cs ≡ ls) →
         Performs reads writes flushes gathers (record { max = max; known = knows 0; lists = at 0 }) outcome r r' v v''
-    ends_in outcome v'' [] did follow last gone lists each = absurd last
-    ends_in outcome v'' (c ∷ cs) did follow last gone lists each =
+    ends_in outcome v'' [] ls after unsent did follow last gone step part next all once = absurd last
+    ends_in outcome v'' (c ∷ cs) ls after unsent did follow last gone step part next all once =
         let stop_is = stop_joined writes flushes (c ∷ cs) s.calls v' v'' did in
         let received_is = received_joined writes flushes (c ∷ cs) s.calls v' v'' did in
         record {
           calls = c ∷ (cs ++ s.calls);
           did = calls_joined writes flushes reads (c ∷ cs) s.calls r r' v v' v'' s.did did;
           rule = by_rule_joined writes flushes (knows 0) (text_of max) (c ∷ cs) s.calls v' v'' did follow s.rule s.unfailed;
-          flushed = λ ne. last_flush outcome.status c ne last;
+          flushed = λ ne. let status = outcome.status in grind arith;
           failed = λ is. rw is at last;
           gone = gone;
           lists = λ xs stop may.
-              let rest = at n (rest_after ended w text xs stop) in
-              let is = s.lists xs stop (rw stop_is at may) in
-              let (unsent, part, next, all) = lists xs stop in
+              let more = concat (after xs stop).lines in
+              let is = s.lists xs stop (rw stop_is at may) ∙ ap (with_lines s.lines) (step xs stop) in
               rw received_is (record {
-                unsent = unsent;
-                whole = ap (λ l. concat l.lines) is ∙ concat-append s.lines rest.lines ∙ ap (λ b. b ++ concat rest.lines) (sym s.put) ∙ append_assoc (sent s.calls) held (concat rest.lines)
-                    ∙ ap (λ b. sent s.calls ++ b) part ∙ sym (append_assoc (sent s.calls) (sent (c ∷ cs)) unsent) ∙ ap (λ b. b ++ unsent) (sym (sent_joined (c ∷ cs) s.calls));
-                next = rw (not_taken_first c (cs ++ s.calls) cs) next;
-                all = λ ne. ((all ne).0, (all ne).1 ∙ sym (ap (λ l. l.status) is));
+                unsent = unsent ++ more;
+                whole = rw (is, sent_joined (c ∷ cs) s.calls, concat-append s.lines, concat-append ls, ← s.put, append_assoc, append_assoc, ← append_assoc held, part, append_assoc) refl;
+                next = rw (not_taken_first c (cs ++ s.calls) cs) (starts_more unsent more (not_taken (c ∷ cs)) next);
+                all = λ ne. rw (is, (all ne).0, ← (all ne).1 xs stop) (refl, refl);
               });
           each = λ e xs stop may.
-              let first = each e xs stop in
-              rw (received_is, pieces_joined (c ∷ cs) s.calls, (s.each e).1)
-              (first.0, ap (λ l. l.lines) (s.lists xs stop (rw stop_is at may)) ∙ ap (λ ls. s.lines ++ ls) first.1 ∙ sym (append_assoc s.lines (pieces (c ∷ cs)) first.0));
+              rw (received_is, pieces_joined (c ∷ cs) s.calls, (s.each e).1, once e)
+              ((after xs stop).lines, ap (λ l. l.lines) (s.lists xs stop (rw stop_is at may) ∙ ap (with_lines s.lines) (step xs stop)) ∙ sym (append_assoc s.lines ls (after xs stop).lines));
         }
 
     pub live_closes : (outcome : Finished) (v'' : W) (last : Listing) → ((xs : List ℕ) (stop : Stop) → at n (rest_of ended w text.position text.room xs stop) ≡ last) → Closes writes flushes gathers held last outcome v' v'' →
         Performs reads writes flushes gathers (record { max = max; known = knows 0; lists = at 0 }) outcome r r' v v''
     live_closes outcome v'' last is q =
-        ends_in outcome v'' q.calls q.did q.follow q.ends q.gone
-        (λ xs stop. let same = is (text.unread ++ xs) stop in (q.unsent, ap (λ l. held ++ concat l.lines) same ∙ q.whole, q.next, λ ne. ((q.all ne).0, (q.all ne).1 ∙ sym (ap (λ l. l.status) same))))
-        (λ e xs stop. ([], ap (λ l. l.lines) (is (text.unread ++ xs) stop) ∙ sym (q.each e) ∙ sym (append-nil (pieces q.calls))))
+        ends_in outcome v'' q.calls last.lines (λ xs stop. record { lines = []; status = last.status }) q.unsent q.did q.follow q.ends q.gone (λ xs stop. rw append-nil (is (text.unread ++ xs) stop))
+        q.whole q.next (λ ne. ((q.all ne).0, λ xs stop. rw (q.all ne).1 refl)) q.each
 
     -- a call failed, at these lines of what is left
     pub live_fails : (outcome : Finished) (f : WriteFailed) (ls : List (List ℕ)) (after : List ℕ → Stop → Listing) (rest : List ℕ) (v'' : W) → outcome.status ≡ WriteFault → outcome.gone ≡ f.gone →
         ((xs : List ℕ) (stop : Stop) → at n (rest_after ended w text xs stop) ≡ with_lines ls (after xs stop)) → (q : Sends writes flushes (Err f) (concat ls) held rest v' v'') → (gathers ≡ false → pieces q.calls ≡ ls) →
         Performs reads writes flushes gathers (record { max = max; known = knows 0; lists = at 0 }) outcome r r' v v''
     live_fails outcome f ls after rest v'' status gone step q once =
-        ends_in outcome v'' q.calls q.did (follow_of {A = ⊤} {E = WriteFailed} (Err f) q.calls q.cause) (rw status (fails_last f q.calls q.cause)) (rw gone q.failed.1)
-        (λ xs stop.
-        let more = concat (after xs stop).lines in (
-          rest ++ more,
-          ap (λ l. held ++ concat l.lines) (step xs stop) ∙ ap (λ b. held ++ b) (concat-append ls (after xs stop).lines) ∙ sym (append_assoc held (concat ls) more) ∙ ap (λ b. b ++ more) (sym q.order) ∙ append_assoc (sent q.calls) rest more,
-          starts_more rest more (not_taken q.calls) q.failed.0,
-          λ ne. absurd (ne status),
-        ))
-        (λ e xs stop. ((after xs stop).lines, ap (λ l. l.lines) (step xs stop) ∙ ap (λ ps. ps ++ (after xs stop).lines) (sym (once e))))
+        ends_in outcome v'' q.calls ls after rest q.did (follow_of {A = ⊤} {E = WriteFailed} (Err f) q.calls q.cause) (rw status (fails_last f q.calls q.cause)) (rw gone q.failed.1) step (sym q.order) q.failed.0
+        (λ ne. absurd (ne status)) once
 
     pub live_unput : (outcome : Finished) (f : WriteFailed) (x : List ℕ) (len : ℕ) (held' : List ℕ) (v'' : W) → outcome.status ≡ WriteFault → outcome.gone ≡ f.gone → IsLine at len n x ended w text.position text.room →
         Puts writes flushes gathers (Err f) (line x) held held' v' v'' → Performs reads writes flushes gathers (record { max = max; known = knows 0; lists = at 0 }) outcome r r' v v''
@@ -247,15 +205,11 @@ module _ {R W : Type 0} (reads : R → List ℕ → Result ℕ Error → R → T
     live_fill held' v'' ended' text' r'' q half more f =
         let t = live_put image n None w text held r' v' s [] n 0 held' v'' (λ xs stop. refl) (λ _ xs stop. refl) q.0 (λ e. (q.1.0, q.2 (s.each e).0)) in
         let needs : NeedsMore 1 (text_at text.position text.room (text.unread ++ []) Failed) = rw (append-nil, half.failed text.position) (refl, omega arith) in
-        let before : (lines : List (List ℕ)) × (knows 0 (text_of max (received t.calls) Failed) ≡ with_lines lines (at_end Fault)) × (concat lines ≡ sent t.calls) = (
-          t.lines,
-          rw append-nil at (t.decided refl [] Failed) ∙ ap (with_lines t.lines) (more (text_at text.position text.room (text.unread ++ []) Failed) needs),
-          sym t.put ∙ ap (λ b. sent t.calls ++ b) q.1.0 ∙ append-nil (sent t.calls),
-        ) in
+        let known = rw append-nil at (t.decided refl [] Failed) ∙ ap (with_lines t.lines) (more (text_at text.position text.room (text.unread ++ []) Failed) needs) in
         record {
           calls = Read f.buffer f.answer ∷ t.calls;
           did = (r', t.did, f.answered);
-          rule = (t.rule, f.some, t.unstopped refl, ends_joined IsFlush q.0.calls s.calls q.1.1, before);
+          rule = (t.rule, f.some, t.unstopped refl, ends_joined IsFlush q.0.calls s.calls q.1.1, (t.lines, known, sym t.put ∙ rw (q.1.0, append-nil) refl));
           unfailed = ((λ e. e), t.unfailed);
           unstopped = λ e. read_stop f.buffer f.answer t.calls ∙ f.stop e;
           lines = t.lines;

@@ -1,56 +1,41 @@
 -- A text that is read to its end before anything is written.
-use Rattle.std.proofs.Common.{◌≡◌, ℕ, Bool, List, [], ◌∷◌, ◌++◌, Option, Some, None, Result, Ok, Err, refl, ap, ◌∙◌, arith, append_assoc, append-nil}
+use Rattle.std.proofs.Common.{◌≡◌, ℕ, Bool, List, [], ◌∷◌, ◌++◌, length, take, drop, Option, Some, None, Result, Ok, Err, refl, ap, ◌∙◌, arith, append-nil, length-append}
+use Rattle.std.proofs.lemmas.List.{drop_all}
+use Rattle.std.proofs.Math.Seq.{take-length}
 use Rattle.std.specs.Prelude.{⊤}
 use Rattle.std.specs.List.{concat}
 use Rattle.std.specs.Io.{StartsWith}
 use Rattle.std.specs.declared.io.Error.{Error}
 use Rattle.x86_streams.specs.declared.outside.sending.WriteFailed.{WriteFailed}
 use Rattle.x86_streams.specs.declared.text.reader.Ending.{Ending}
-use Rattle.x86_streams.specs.Outside.Chain.{Call, Read, Write, Flush, SendsAll, pieces, received, not_taken, sent}
+use Rattle.x86_streams.specs.Outside.Chain.{Call, Read, Write, Flush, Fails, SendsAll, pieces, received, not_taken, sent}
 use Rattle.x86_streams.specs.Outside.Stop.{Stop}
 use Rattle.x86_streams.specs.Text.{Text, text_of}
 use Rattle.x86_streams.specs.Text.Reader.{TextPosition}
-use Rattle.x86_streams.specs.Text.Reading.{with_bytes}
 use Rattle.x86_streams.specs.Text.Beginning.{IsOpenText}
 use Rattle.x86_streams.specs.Text.Window.{Fills, LeavesRest, rest_after}
-use Rattle.x86_streams.proofs.OutsideLemmas.Calls.{calls_joined, pieces_joined}
+use Rattle.x86_streams.proofs.OutsideLemmas.Calls.{calls_joined, ends_joined, failed_joined, pieces_joined}
 use Rattle.x86_cli.specs.declared.listings.status.Finished.{Finished}
 use Rattle.x86_cli.specs.declared.listings.status.Status.TheVariants.{WriteFault}
 use Rattle.x86_cli.specs.declared.listings.targets.WholeText.{WholeText}
 use Rattle.x86_cli.specs.Listings.Listing.{Listing, at_end}
 use Rattle.x86_cli.specs.Listings.Performs.{Performs}
 use Rattle.x86_cli.specs.Listings.Targets.{ReadsWhole}
-use Rattle.x86_cli.proofs.ListingLemmas.Live.{Live, by_rule_joined, follow_of, live_fill, live_rest, not_taken_first}
+use Rattle.x86_cli.proofs.ListingLemmas.Live.{Live, by_rule_joined, fails_last, follow_of, live_fill, live_put, live_rest}
 
 -- what is known of a text that isn't read to its end: how it ends
 abbrev pub ends_of : ℕ → Text → Listing
 ends_of n t = at_end t.ending
 
-never_nil : {A : Type 0} (xs : List A) (x : A) → xs ++ x ∷ [] ≡ [] → ⊥
-never_nil [] x e = cc
-never_nil (y ∷ ys) x e = cc
-
-none_held : (bytes held : List ℕ) → bytes ++ held ≡ [] → held ≡ []
-none_held [] held e = e
-none_held (x ∷ bytes) held e = cc
-
-none_next : (held next : List ℕ) → held ≡ [] → StartsWith held next → next ≡ []
-none_next held [] none h = refl
-none_next held (x ∷ next) none h = let never : [] ≡ x ∷ next = rw none at h in cc
-
 -- where no piece was written, no byte was
 pub none_sent : (cs : List Call) → pieces cs ≡ [] → sent cs ≡ []
 none_sent [] h = refl
 none_sent (Read buffer answer ∷ cs) h = none_sent cs h
-none_sent (Write bytes answer ∷ cs) h = absurd (never_nil (pieces cs) bytes h)
+none_sent (Write bytes answer ∷ cs) h = absurd (omega (arith, ap length h, length-append (pieces cs) (bytes ∷ [])))
 none_sent (Flush answer ∷ cs) h = none_sent cs h
 
-module _ (ended : Option Ending) (w : List ℕ) (text : TextPosition) (xs : List ℕ) (stop : Stop) where
-  same_end : (w' : List ℕ) → at_end (rest_after ended w text xs stop).ending ≡ at_end (rest_after ended w' text xs stop).ending
-  same_end w' = grind arith
-
-  walked : (image : List ℕ) → with_bytes image (rest_after ended w text xs stop) ≡ with_bytes (image ++ w) (rest_after ended [] text xs stop)
-  walked image = grind (arith, append_assoc {A = ℕ}, append-nil {A = ℕ})
+same_end : (ended : Option Ending) (w w' : List ℕ) (text : TextPosition) (xs : List ℕ) (stop : Stop) → at_end (rest_after ended w text xs stop).ending ≡ at_end (rest_after ended w' text xs stop).ending
+same_end ended w w' text xs stop = grind arith
 
 module _ {R W : Type 0} (reads : R → List ℕ → Result ℕ Error → R → Type 0) (writes : W → List ℕ → Result ℕ Error → W → Type 0) (flushes : W → Result ⊤ Error → W → Type 0)
     (gathers : Bool) (max : ℕ) (r : R) (v : W) where
@@ -65,39 +50,26 @@ module _ {R W : Type 0} (reads : R → List ℕ → Result ℕ Error → R → T
     -- the bytes of the window came into the image
     pub whole_taken : (image' w' : List ℕ) → image' ≡ image ++ w → w' ≡ [] → Whole image' ended w' text r' v'
     whole_taken image' w' is none =
-        let s = h.0 in
-        rw (is, none) (
-          record {
-            calls = s.calls;
-            did = s.did;
-            rule = s.rule;
-            unfailed = s.unfailed;
-            unstopped = s.unstopped;
-            lines = s.lines;
-            put = s.put;
-            each = s.each;
-            whole = λ xs stop may. s.whole xs stop may ∙ walked ended w text xs stop image;
-            lists = λ xs stop may. s.lists xs stop may ∙ ap (λ l. record { lines = s.lines ++ l.lines; status = l.status }) (same_end ended w text xs stop []);
-            decided = λ e xs stop. s.decided e xs stop ∙ ap (λ l. record { lines = s.lines ++ l.lines; status = l.status }) (same_end ended w text xs stop []);
-          },
+        let taken : Whole (image ++ take (length w) w) ended (drop (length w) w) text r' v' = (
+          live_put reads writes flushes gathers ends_of ends_of max r v image 0 ended w text [] r' v' h.0 [] 0 (length w) [] v' (same_end ended w (drop (length w) w) text) (λ _. same_end ended w (drop (length w) w) text)
+              (record { calls = []; did = refl; cause = tt; order = refl; failed = tt }) (λ e. (refl, refl)),
           h.1,
-        )
+        ) in
+        rw (is, none) (rw (take-length, drop_all (length w) w (omega arith)) at taken)
 
     -- a flush failed
     pub whole_unsent : (f : WriteFailed) (held' : List ℕ) (v'' : W) → SendsAll writes flushes (Err f) [] held' v' v'' → ReadsWhole reads writes flushes max (Err f) r r' v v''
-    whole_unsent f held' v'' q = by q.0.calls refl
-      where
-        s : Live reads writes flushes gathers ends_of ends_of max r v image 0 ended w text [] r' v'
-        s = h.0
-
-        by : (cs : List Call) → q.0.calls ≡ cs → ReadsWhole reads writes flushes max (Err f) r r' v v''
-        by [] is = absurd (rw is at q.0.cause)
-        by (c ∷ cs) is = record {
-          calls = c ∷ (cs ++ s.calls);
-          did = calls_joined writes flushes reads (c ∷ cs) s.calls r r' v v' v'' s.did (rw is at q.0.did);
-          rule = by_rule_joined writes flushes (ends_of 0) (text_of max) (c ∷ cs) s.calls v' v'' (rw is at q.0.did) (follow_of {A = ⊤} {E = WriteFailed} (Err f) (c ∷ cs) (rw is at q.0.cause)) s.rule s.unfailed;
-          none = pieces_joined (c ∷ cs) s.calls ∙ ap (λ ps. ps ++ pieces (c ∷ cs)) h.1 ∙ (rw is at (q.2 refl));
-          ends = ((rw is at q.0.cause).0, not_taken_first c (cs ++ s.calls) cs ∙ none_next held' (not_taken (c ∷ cs)) (none_held (sent q.0.calls) held' q.0.order) (rw is at q.0.failed).0, (rw is at q.0.failed).1);
+    whole_unsent f held' v'' q =
+        let s = h.0 in
+        let cs = q.0.calls in
+        let failed = rw (rw (none_sent cs (q.2 refl)) at q.0.order) at (failed_joined (Err f) held' cs s.calls q.0.cause q.0.failed) in
+        let next = failed.0 in
+        record {
+          calls = cs ++ s.calls;
+          did = calls_joined writes flushes reads cs s.calls r r' v v' v'' s.did q.0.did;
+          rule = by_rule_joined writes flushes (ends_of 0) (text_of max) cs s.calls v' v'' q.0.did (follow_of {A = ⊤} {E = WriteFailed} (Err f) cs q.0.cause) s.rule s.unfailed;
+          none = rw (pieces_joined, h.1) (q.2 refl);
+          ends = (ends_joined Fails cs s.calls (fails_last f cs q.0.cause), grind arith, failed.1);
         }
 
   -- the writer was flushed, and a read was made

@@ -1,5 +1,5 @@
 -- What a window shows.
-use Rattle.std.specs.Prelude.{Bool, true, false, ◌≡◌, ◌≢◌, ◌⊎◌, ℕ, ◌<◌, ◌≤◌, List, ◌++◌, length, Option, Some, None}
+use Rattle.std.specs.Prelude.{Bool, ◌≡◌, ◌≢◌, ◌⊎◌, ℕ, ◌<◌, ◌≤◌, List, ◌++◌, length, Option, Some, None, Err}
 use Rattle.x86_decode.specs.declared.instructions.Instruction.{Instruction}
 use Rattle.x86_fields.specs.declared.errors.DecodeError.{DecodeError}
 use Rattle.x86_fields.specs.declared.errors.DecodeError.TheVariants.{ExhaustedInput}
@@ -10,7 +10,7 @@ use Rattle.x86_cli.specs.declared.text.window.AtRefusal.{AtRefusal}
 use Rattle.x86_cli.specs.declared.text.window.AtRefusal.TheVariants as refusal
 use Rattle.x86_cli.specs.declared.text.window.Decoded.{Decoded}
 use Rattle.x86_cli.specs.declared.text.window.Decoded.TheVariants.{Whole, Refused, Ended}
-use Rattle.x86_cli.specs.Listings.Listing.{decoded_of}
+use Rattle.x86_cli.specs.Listings.Listing.{decoded_of, decoded_at_end}
 
 -- a result, where Whole holds this instruction
 abbrev pub decoded_with : Instruction → Decoded (Unit {0}) → Decoded Instruction
@@ -25,18 +25,12 @@ Shows strict (Refused error) ended window =
     (error ≡ ExhaustedInput → ended ≡ Some Clean) × (error ≢ ExhaustedInput → (ys : List ℕ) (e : Ending) → decoded_of strict (window ++ ys) e ≡ Refused error)
 Shows strict (Ended e) ended window = ended ≡ Some e
 
--- An end that isn't clean overrules a refusal that more bytes could lift.
-abbrev pub is_overruled : DecodeError → Ending → Bool
-is_overruled ExhaustedInput Clean = false
-is_overruled ExhaustedInput e = true
-is_overruled error e = false
-
 -- What comes after these bytes, which begin with no instruction.
 abbrev pub IsAtRefusal : AtRefusal → DecodeError → Option Ending → List ℕ → Type 0
 IsAtRefusal refusal.Undecided error ended window = (ended ≡ None) × (error ≡ ExhaustedInput)
 IsAtRefusal refusal.Refused error ended window =
-    (ended ≡ None → error ≢ ExhaustedInput) × ((e : Ending) → ended ≡ Some e → (0 < length window) × (is_overruled error e ≡ false))
-IsAtRefusal (refusal.Ended e) error ended window = (ended ≡ Some e) × ((length window ≡ 0) ⊎ (is_overruled error e ≡ true))
+    (ended ≡ None → error ≢ ExhaustedInput) × ((e : Ending) → ended ≡ Some e → (0 < length window) × (decoded_at_end (Err error) e ≡ Refused error))
+IsAtRefusal (refusal.Ended e) error ended window = (ended ≡ Some e) × ((length window ≡ 0) ⊎ (decoded_at_end (Err error) e ≡ Ended e))
 
 -- The same for a sweep, which a refusal doesn't end.
 abbrev pub IsAtCut : AtRefusal → DecodeError → Option Ending → List ℕ → Type 0

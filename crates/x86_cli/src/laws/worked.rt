@@ -1,103 +1,87 @@
-//! Sentences and refusals of the grammar, worked by hand. The proof of each law is its derivation.
+//! Sentences and refusals of the grammar, worked by hand. Their derivations are in proofs/WorkedLemmas.antt.
 
-ghost use Rattle.std.specs.Prelude.{◌≡◌, ◌≤◌, ◌++◌, ℕ, Bool, List, length, Ok, Err};
-ghost use Rattle.x86_fields.specs.declared.errors.DecodeError.{DecodeError};
+ghost use Rattle.std.specs.Prelude.{◌≡◌, ℕ, Bool, List, [], ◌∷◌, Ok, Err};
 ghost use Rattle.x86_fields.specs.declared.errors.DecodeError.TheVariants.{InvalidOpcode, InvalidPrefixes};
-ghost use Rattle.x86_forms.specs.declared.Map.{Map};
-ghost use Rattle.x86_forms.specs.declared.Column.{Column};
-ghost use Rattle.x86_forms.specs.Rows.{printed_row};
 ghost use Rattle.x86_forms.specs.Words.{rows_of, packed};
-ghost use Rattle.x86_decode.specs.declared.instructions.Instruction.{Instruction};
 ghost use Rattle.x86_decode.specs.Answer.{answer_of};
 ghost use Rattle.x86_decode.specs.Grammar.{Decides};
 ghost use Rattle.x86_decode.specs.Instruction.{instruction_of};
 ghost use Rattle.x86_cli.specs.Headline.{Sentence};
-ghost use Rattle.x86_cli.specs.Worked.{bytes_48_01_d8, add_rax_rbx, bytes_48_8b_45_00, mov_rax_at_rbp, bytes_f7_d8, neg_eax, bytes_f0_48_01_03, add_at_rbx_rax, bytes_66_0f_38_00_c1, pshufb_xmm0_xmm1, bytes_06, bytes_f0_01_d8};
+ghost use Rattle.x86_cli.specs.Worked.{add_rax_rbx, mov_rax_at_rbp, neg_eax, add_at_rbx_rax, pshufb_xmm0_xmm1};
 
-use x86_decode::laws;
-
-/// What these laws rest on: the rows are the printed ones, a sentence is answered, and bytes that decide an error are
-/// refused with it, whatever follows them.
-fn grammar()
-    ensures rows { (map : Map) (column : Column) (byte : ℕ) →
-        rows_of packed map column byte ≡ printed_row map column byte }
-    ensures accepted { (strict : Bool) (s rest : List ℕ) (i : Instruction) →
-        Sentence strict s i → answer_of strict (s ++ rest) ≡ Ok i }
-    ensures refused { (strict : Bool) (q rest : List ℕ) (e : DecodeError) → length q ≤ 15 →
-        Decides (rows_of packed) strict q e → answer_of strict (q ++ rest) ≡ Err e }
-{
-    laws::answer_is();
-    laws::decided_bytes_are_refused();
-    x86_forms::laws::printed_words_are_the_printed_rows();
-}
+use crate::laws::headline_of_bytes;
+use x86_decode::laws::decided_bytes_are_refused;
 
 /// `48 01 d8` is ADD rax, rbx, with a memory size of 8 bytes, whatever follows it.
 pub fn add()
     ensures sentence { (strict : Bool) →
-        Sentence strict bytes_48_01_d8 (instruction_of add_rax_rbx 3) }
+        Sentence strict (0x48 ∷ 0x01 ∷ 0xd8 ∷ []) (instruction_of add_rax_rbx 3) }
     ensures answer { (strict : Bool) (rest : List ℕ) →
-        answer_of strict (bytes_48_01_d8 ++ rest) ≡ Ok (instruction_of add_rax_rbx 3) }
+        answer_of strict (0x48 ∷ 0x01 ∷ 0xd8 ∷ rest) ≡ Ok (instruction_of add_rax_rbx 3) }
 {
-    grammar();
+    headline_of_bytes();
 }
 
 /// `48 8b 45 00` is MOV rax, [rbp], with a memory size of 8 bytes, whatever follows it.
 pub fn load()
     ensures sentence { (strict : Bool) →
-        Sentence strict bytes_48_8b_45_00 (instruction_of mov_rax_at_rbp 4) }
+        Sentence strict (0x48 ∷ 0x8b ∷ 0x45 ∷ 0x00 ∷ []) (instruction_of mov_rax_at_rbp 4) }
     ensures answer { (strict : Bool) (rest : List ℕ) →
-        answer_of strict (bytes_48_8b_45_00 ++ rest) ≡ Ok (instruction_of mov_rax_at_rbp 4) }
+        answer_of strict (0x48 ∷ 0x8b ∷ 0x45 ∷ 0x00 ∷ rest) ≡ Ok (instruction_of mov_rax_at_rbp 4) }
 {
-    grammar();
+    headline_of_bytes();
 }
 
 /// `f7 d8` is NEG eax, with a memory size of 4 bytes: a row of group 3, which reg 3 chooses.
 pub fn group()
     ensures sentence { (strict : Bool) →
-        Sentence strict bytes_f7_d8 (instruction_of neg_eax 2) }
+        Sentence strict (0xf7 ∷ 0xd8 ∷ []) (instruction_of neg_eax 2) }
     ensures answer { (strict : Bool) (rest : List ℕ) →
-        answer_of strict (bytes_f7_d8 ++ rest) ≡ Ok (instruction_of neg_eax 2) }
+        answer_of strict (0xf7 ∷ 0xd8 ∷ rest) ≡ Ok (instruction_of neg_eax 2) }
 {
-    grammar();
+    headline_of_bytes();
 }
 
 /// `f0 48 01 03` is ADD [rbx], rax, with a memory size of 8 bytes: F0 before an operation that takes it, with memory in
 /// its first slot.
 pub fn locked_add()
     ensures sentence { (strict : Bool) →
-        Sentence strict bytes_f0_48_01_03 (instruction_of add_at_rbx_rax 4) }
+        Sentence strict (0xf0 ∷ 0x48 ∷ 0x01 ∷ 0x03 ∷ []) (instruction_of add_at_rbx_rax 4) }
     ensures answer { (strict : Bool) (rest : List ℕ) →
-        answer_of strict (bytes_f0_48_01_03 ++ rest) ≡ Ok (instruction_of add_at_rbx_rax 4) }
+        answer_of strict (0xf0 ∷ 0x48 ∷ 0x01 ∷ 0x03 ∷ rest) ≡ Ok (instruction_of add_at_rbx_rax 4) }
 {
-    grammar();
+    headline_of_bytes();
 }
 
 /// `66 0f 38 00 c1` is PSHUFB xmm0, xmm1, with a memory size of 4 bytes: a row of 0F 38 that 66 chooses, and whose
 /// record sees the prefixes without 66.
 pub fn chosen_by_66()
     ensures sentence { (strict : Bool) →
-        Sentence strict bytes_66_0f_38_00_c1 (instruction_of pshufb_xmm0_xmm1 5) }
+        Sentence strict (0x66 ∷ 0x0f ∷ 0x38 ∷ 0x00 ∷ 0xc1 ∷ []) (instruction_of pshufb_xmm0_xmm1 5) }
     ensures answer { (strict : Bool) (rest : List ℕ) →
-        answer_of strict (bytes_66_0f_38_00_c1 ++ rest) ≡ Ok (instruction_of pshufb_xmm0_xmm1 5) }
+        answer_of strict (0x66 ∷ 0x0f ∷ 0x38 ∷ 0x00 ∷ 0xc1 ∷ rest)
+        ≡ Ok (instruction_of pshufb_xmm0_xmm1 5) }
 {
-    grammar();
+    headline_of_bytes();
 }
 
 /// `06` is refused as an invalid opcode, whatever follows it: the byte has no row.
 pub fn no_row()
-    ensures decides { (strict : Bool) → Decides (rows_of packed) strict bytes_06 InvalidOpcode }
+    ensures decides { (strict : Bool) → Decides (rows_of packed) strict (0x06 ∷ []) InvalidOpcode }
     ensures answer { (strict : Bool) (rest : List ℕ) →
-        answer_of strict (bytes_06 ++ rest) ≡ Err InvalidOpcode }
+        answer_of strict (0x06 ∷ rest) ≡ Err InvalidOpcode }
 {
-    grammar();
+    headline_of_bytes();
+    decided_bytes_are_refused();
 }
 
 /// `f0 01 d8` is refused for its prefixes, whatever follows it: F0, and no memory in the first slot.
 pub fn forbidden_lock()
     ensures decides { (strict : Bool) →
-        Decides (rows_of packed) strict bytes_f0_01_d8 InvalidPrefixes }
+        Decides (rows_of packed) strict (0xf0 ∷ 0x01 ∷ 0xd8 ∷ []) InvalidPrefixes }
     ensures answer { (strict : Bool) (rest : List ℕ) →
-        answer_of strict (bytes_f0_01_d8 ++ rest) ≡ Err InvalidPrefixes }
+        answer_of strict (0xf0 ∷ 0x01 ∷ 0xd8 ∷ rest) ≡ Err InvalidPrefixes }
 {
-    grammar();
+    headline_of_bytes();
+    decided_bytes_are_refused();
 }

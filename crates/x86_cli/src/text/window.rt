@@ -7,7 +7,7 @@ ghost use Rattle.x86_decode.specs.Decoder.{is_strict};
 ghost use Rattle.x86_streams.specs.Outside.Stop.{Stop};
 ghost use Rattle.x86_streams.specs.Text.Window.{rest_of};
 ghost use Rattle.x86_cli.specs.Listings.Listing.{decoded_of};
-ghost use Rattle.x86_cli.specs.Text.Window.{decoded_with, is_overruled, IsAtRefusal, Shows};
+ghost use Rattle.x86_cli.specs.Text.Window.{decoded_with, IsAtRefusal, Shows};
 
 use crate::laws::decoder_laws;
 use x86_decode::{InstDecoder, Instruction};
@@ -35,35 +35,19 @@ pub enum AtRefusal {
     Ended(Ending),
 }
 
-/// Whether an end overrules a refusal, as one that isn't clean does where more bytes could lift the refusal.
-fn is_overruled(error: DecodeError, ending: Ending) -> bool
-    ensures { result ≡ is_overruled error ending }
-{
-    match (error, ending) {
-        (DecodeError::ExhaustedInput, Ending::Clean) => false,
-        (DecodeError::ExhaustedInput, _) => true,
-        _ => false,
-    }
-}
-
 /// What the window shows where its bytes begin with no instruction.
 #[cold]
 #[inline(never)]
 fn shown_at(window: &Window, error: DecodeError) -> AtRefusal
     ensures { IsAtRefusal result error window.now.ended window.now.bytes.items }
 {
-    match window.ended {
-        None => match error {
-            DecodeError::ExhaustedInput => AtRefusal::Undecided,
-            _ => AtRefusal::Refused,
-        },
-        Some(ending) => {
-            if window.bytes.is_empty() || is_overruled(error, ending) {
-                AtRefusal::Ended(ending)
-            } else {
-                AtRefusal::Refused
-            }
-        }
+    match (window.ended, error) {
+        (None, DecodeError::ExhaustedInput) => AtRefusal::Undecided,
+        (None, _) => AtRefusal::Refused,
+        (Some(ending), _) if window.bytes.is_empty() => AtRefusal::Ended(ending),
+        (Some(Ending::Clean), _) => AtRefusal::Refused,
+        (Some(ending), DecodeError::ExhaustedInput) => AtRefusal::Ended(ending),
+        (Some(_), _) => AtRefusal::Refused,
     }
 }
 

@@ -1,23 +1,16 @@
-use Rattle.std.proofs.Common.{arith, ◌≡◌, ℕ, Bool, List, ◌++◌, length, Ok, Err, refl, sym, ap, subst}
+use Rattle.std.proofs.Common.{arith, ℕ, Bool, List, ◌++◌, length, Ok, Err, refl, sym, ap}
 use Rattle.std.proofs.Math.Seq.{take-append_seam}
 use Rattle.x86_decode.specs.declared.instructions.Instruction.{Instruction}
 use Rattle.x86_forms.specs.Words.{rows_of, packed}
 use Rattle.x86_decode.specs.Answer.{count_of}
-use Rattle.x86_decode.specs.Grammar.{IsAnswer, IsAccepted, IsSentence}
+use Rattle.x86_decode.specs.Grammar.{IsAnswer, IsAccepted}
 use Rattle.x86_decode.specs.Instruction.{length_of}
 use Rattle.x86_cli.specs.Headline.{BeginsWith}
 use Rattle.x86_cli.proofs.laws.headline_of_bytes.Goals as goal
 
-module _ (strict : Bool) (s rest : List ℕ) (i : Instruction) (is : IsSentence (rows_of packed) strict s i) where
-  -- a sentence at the beginning is an answer of the bytes
-  accepts : IsAnswer (rows_of packed) strict (s ++ rest) (Ok i) (length s)
-  accepts = record { sentence = s; rest = rest; begins = refl; long = refl; is = is }
-
-  accepts_in : (bytes : List ℕ) → bytes ≡ s ++ rest → IsAnswer (rows_of packed) strict bytes (Ok i) (length s)
-  accepts_in bytes begins = subst (λ b. IsAnswer (rows_of packed) strict b (Ok i) (length s)) (sym begins) accepts
-
-begins_with : (strict : Bool) (bytes : List ℕ) (i : Instruction) (n : ℕ) → IsAccepted (rows_of packed) strict bytes i n → BeginsWith strict bytes i
-begins_with strict bytes i n a = (a.sentence, a.rest, a.begins, a.is)
+-- a sentence at the beginning is an answer of the bytes
+accepts : (strict : Bool) (bytes : List ℕ) (i : Instruction) (h : BeginsWith strict bytes i) → IsAnswer (rows_of packed) strict bytes (Ok i) (length h.0)
+accepts strict bytes i h = record { sentence = h.0; rest = h.1; begins = h.2; long = refl; is = h.3 }
 
 pub returns : goal.returns
 returns c strict =
@@ -26,12 +19,12 @@ returns c strict =
     record {
       rows = c.printed_words_are_the_printed_rows.ensures.rows;
       accepted = λ bytes i. (
-        (λ e. begins_with strict bytes i (count_of strict bytes) (rw e at (there bytes))),
-        (λ h. sym (only bytes (Ok i) (length h.0) (accepts_in strict h.0 h.1 i h.3 bytes h.2)).0),
+        (λ e. let a : IsAccepted (rows_of packed) strict bytes i (count_of strict bytes) = rw e at (there bytes) in (a.sentence, a.rest, a.begins, a.is)),
+        (λ h. sym (only bytes (Ok i) (length h.0) (accepts strict bytes i h)).0),
       );
       unique = λ s rest t more i j same is other.
           let both = c.one_answer.ensures.once (rows_of packed) strict (s ++ rest) (Ok i) (Ok j) (length s) (length t)
-          (accepts strict s rest i is) (accepts_in strict t more j other (s ++ rest) same) in
+          (accepts strict (s ++ rest) i (s, rest, refl, is)) (accepts strict (s ++ rest) j (t, more, same, other)) in
           (grind (arith, take-append_seam s rest, take-append_seam t more, both.1, same), cc both.0);
       fixed = λ s i is. ap length_of is.yields;
       refused = λ bytes e. (
