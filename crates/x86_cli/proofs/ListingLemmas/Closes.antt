@@ -1,15 +1,14 @@
 -- How a listing is closed: its last line, and the flush.
-use Rattle.std.proofs.Common.{◌≡◌, ◌≢◌, ℕ, Bool, false, List, [], ◌∷◌, ◌++◌, Result, Ok, Err, refl, arith, sym, append_assoc, append-nil}
+use Rattle.std.proofs.Common.{◌≡◌, ◌≢◌, ℕ, Bool, false, List, [], ◌∷◌, ◌++◌, Result, Ok, refl, arith, append_assoc, append-nil}
 use Rattle.std.specs.Prelude.{⊤}
-use Rattle.std.specs.List.{concat}
 use Rattle.std.specs.declared.io.Error.{Error}
 use Rattle.x86_streams.specs.declared.outside.sending.WriteFailed.{WriteFailed}
-use Rattle.x86_streams.specs.Outside.Chain.{Call, Puts, Sends, SendsAll, pieces}
+use Rattle.x86_streams.specs.Outside.Chain.{Call, Puts, SendsAll}
 use Rattle.x86_streams.proofs.OutsideLemmas.Calls.{all_continue_joined, pieces_joined, sent_joined, writer_calls_joined}
 use Rattle.x86_cli.specs.declared.listings.status.Finished.{Finished}
 use Rattle.x86_cli.specs.declared.listings.status.Status.{Status}
 use Rattle.x86_cli.specs.Listings.Closes.{Closes}
-use Rattle.x86_cli.proofs.ListingLemmas.Live.{fails_last, follow_of, not_taken_first, sends_as}
+use Rattle.x86_cli.proofs.ListingLemmas.Live.{follow_of, not_taken_first}
 
 module _ {W : Type 0} (writes : W → List ℕ → Result ℕ Error → W → Type 0) (flushes : W → Result ⊤ Error → W → Type 0) (gathers : Bool) (held : List ℕ) (outcome : Finished) where
   -- all was sent
@@ -27,26 +26,6 @@ module _ {W : Type 0} (writes : W → List ℕ → Result ℕ Error → W → Ty
     all = λ _. (refl, refl);
     each = λ e. q.2 (empty e);
   }
-
-  -- a call failed
-  pub closes_failed : (f : WriteFailed) (ls : List (List ℕ)) (rest : List ℕ) (status : Status) (w w' : W) → outcome.status ≡ Status.WriteFault → outcome.gone ≡ f.gone →
-      (q : Sends writes flushes (Err f) (concat ls) held rest w w') → (gathers ≡ false → pieces q.calls ≡ ls) → Closes writes flushes gathers held (record { lines = ls; status = status }) outcome w w'
-  closes_failed f ls rest status w w' fault gone q once = record {
-    calls = q.calls;
-    did = q.did;
-    follow = follow_of {A = ⊤} {E = WriteFailed} (Err f) q.calls q.cause;
-    ends = rw fault (fails_last f q.calls q.cause);
-    gone = rw gone q.failed.1;
-    unsent = rest;
-    whole = sym q.order;
-    next = q.failed.0;
-    all = λ ne. absurd (ne fault);
-    each = once;
-  }
-
-  pub closes_unput : (f : WriteFailed) (x held' : List ℕ) (status : Status) (w w' : W) → outcome.status ≡ Status.WriteFault → outcome.gone ≡ f.gone →
-      Puts writes flushes gathers (Err f) x held held' w w' → Closes writes flushes gathers held (record { lines = x ∷ []; status = status }) outcome w w'
-  closes_unput f x held' status w w' fault gone p = closes_failed f (x ∷ []) p.rest status w w' fault gone (sends_as writes flushes (Err f) x (x ++ []) held p.rest w w' (sym (append-nil x)) p.sends) (λ e. (p.once e).0)
 
   -- a line was put before
   pub closes_put : (x held' : List ℕ) (status : Status) (u v w : W) → Puts writes flushes gathers (Ok tt) x held held' u v → Closes writes flushes gathers held' (record { lines = []; status = status }) outcome v w →

@@ -10,10 +10,9 @@ use Rattle.x86_streams.specs.Text.{Text}
 use Rattle.x86_cli.specs.declared.text.window.Decoded.{Decoded}
 use Rattle.x86_cli.specs.declared.listings.listing.Entry.TheVariants as entry
 use Rattle.x86_cli.specs.Listings.Line.{line}
-use Rattle.x86_cli.specs.Listings.Listing.{Listing, with_lines, at_end, decoded_of, listing_at}
+use Rattle.x86_cli.specs.Listings.Listing.{Listing, with_lines, decoded_of, listing_at}
 use Rattle.x86_cli.specs.DecoderLaws.{DecoderLaws}
 use Rattle.x86_cli.specs.Listings.Entry.{IsEntry}
-use Rattle.x86_streams.specs.Text.Reading.{NeedsMore, with_bytes}
 use Rattle.x86_streams.specs.Text.Window.{rest_of}
 use Rattle.x86_cli.proofs.ListingLemmas.Listing.{listing-whole, listing-refused, listing-ended}
 
@@ -55,13 +54,9 @@ module _ (strict : Bool) (laws : DecoderLaws strict) where
 
   decoded_fault : (w : List ℕ) → answer_of strict w ≡ Err DecodeError.ExhaustedInput → decoded_of strict w Ending.Fault ≡ Decoded.Ended Ending.Fault
   unfolding decoded_of
-  decoded_fault [] h = refl
-  decoded_fault (x ∷ w) h = rw h refl
+  decoded_fault w h = grind arith
 
   -- With a failure next, nothing but that is listed.
-  undecided : (text : ℕ → Instruction → List ℕ → List ℕ) (n : ℕ) (w : List ℕ) (t : Text) → answer_of strict w ≡ Err DecodeError.ExhaustedInput → NeedsMore 1 t → listing_at strict text n (with_bytes w t) ≡ at_end Ending.Fault
-  undecided text n w t h needs = rw (no_bytes t.image needs.1, needs.0, append-nil) (listing-ended strict text n w Ending.Fault Ending.Fault (decoded_fault w h))
-
   pub entry_undecided : (text : ℕ → Instruction → List ℕ → List ℕ) (ended : Option Ending) (n : ℕ) (written w : List ℕ) (p r : ℕ) → ended ≡ None → answer_of strict w ≡ Err DecodeError.ExhaustedInput →
       IsEntry (listing_at strict text) (listing_at strict text) entry.Undecided n written ended w p r
-  entry_undecided text ended n written w p r is h = (is, few_undecided w h, λ t needs. undecided text n w t h needs)
+  entry_undecided text ended n written w p r is h = (is, few_undecided w h, λ t needs. rw (no_bytes t.image needs.1, needs.0, append-nil) (listing-ended strict text n w Ending.Fault Ending.Fault (decoded_fault w h)))

@@ -36,8 +36,7 @@ module _ (strict : Bool) where
 
   -- Where the first cut is open, nothing is known but that a failure is next.
   open_cut : (n : ℕ) (w : List ℕ) → answer_of strict w ≡ Err DecodeError.ExhaustedInput → with_lines (decided (cuts_from strict n w)) (at_end Ending.Fault) ≡ at_end Ending.Fault
-  open_cut n [] h = rw (none_left strict n [] refl) refl
-  open_cut n (x ∷ w) h = rw (first_and_rest strict 1 n (x ∷ w) (ap cut_length h) (omega arith) (omega arith), h) refl
+  open_cut n w h = grind (arith, none_left strict n w, first_and_rest strict 1 n w)
 
   pub sweep_end : (ended : Option Ending) (n : ℕ) (text w : List ℕ) (p r : ℕ) (e : Ending) → ended ≡ Some e → length w ≡ 0 → IsEntry (sweep_at strict) (known_sweep_at strict) (Entry.Ended e) n text ended w p r
   sweep_end ended n text w p r e is none xs stop = rw is (ap (λ cs. with_lines (map cut_line cs) (at_end e)) (none_left strict n w none))
@@ -66,8 +65,7 @@ module _ (strict : Bool) (laws : DecoderLaws strict) where
   some_bytes (x ∷ w) s a sure answer same = omega arith
 
   pub some_refused : (w s : List ℕ) (error : DecodeError) (ended : Option Ending) → Err error ≡ answer_of strict s → s ≡ w → IsAtCut refusal.Refused error ended w → 0 < length w
-  some_refused w s error None answer same h = some_bytes w s (Err error) (λ f. h.0 refl (cc)) answer same
-  some_refused w s error (Some e) answer same h = h.1 e refl
+  some_refused w s error ended answer same h = grind (arith, some_bytes w s (Err error))
 
   pub sweep_undecided : (ended : Option Ending) (n : ℕ) (text w s : List ℕ) (p r : ℕ) (a : Result Instruction DecodeError) → ended ≡ None → a ≡ Err DecodeError.ExhaustedInput → a ≡ answer_of strict s → s ≡ w →
       IsEntry (sweep_at strict) (known_sweep_at strict) Entry.Undecided n text ended w p r

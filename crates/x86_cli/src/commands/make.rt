@@ -1,6 +1,6 @@
 //! Encodings that the program makes by itself, decodes and counts.
 
-ghost use Rattle.std.specs.Prelude.{[], ◌≡◌, ◌↔◌, IsTrue, ◌+◌, ◌≤◌, ◌++◌, ℕ, IfSome, Some, None, length, codes, decimal};
+ghost use Rattle.std.specs.Prelude.{[], ◌≡◌, ◌↔◌, IsTrue, ◌+◌, ◌≤◌, ◌++◌, ℕ, IfSome, Some, None, codes, decimal};
 ghost use Rattle.arrayvec.specs.ArrayVec.{array_vec_len};
 ghost use Rattle.x86_decode.specs.Instruction.{holding};
 ghost use Rattle.x86_text.specs.Widths.{line_width};
@@ -29,14 +29,6 @@ pub struct Tally {
     absolute: u64,
 }
 
-fn push(encoding: &mut ArrayVec<u8, 15>, bytes: &[u8])
-    requires { array_vec_len encoding.old + length bytes.now ≤ 15 }
-    ensures text { encoding.new.items ≡ encoding.old.items ++ bytes.now }
-    ensures len { array_vec_len encoding.new ≡ array_vec_len encoding.old + length bytes.now }
-{
-    let _ = encoding.try_extend_from_slice(bytes);
-}
-
 /// Encoding `i` of `make`: `ADD r32, m32` with ModRM `i` modulo `MEMORY_FORMS`.
 #[tactic(auto, unfolding(crate::specs::Commands::Make::generate))]
 pub fn generate(i: u32) -> ArrayVec<u8, 15>
@@ -49,12 +41,12 @@ pub fn generate(i: u32) -> ArrayVec<u8, 15>
         None
     };
     let mut encoding = ArrayVec::new();
-    push(&mut encoding, &[0x03, modrm]);
+    let _ = encoding.try_extend_from_slice(&[0x03, modrm]);
     if let Some(sib) = sib {
-        push(&mut encoding, &[sib]);
+        let _ = encoding.try_extend_from_slice(&[sib]);
     }
     let width = displacement_width(modrm, sib);
-    push(&mut encoding, &i.to_le_bytes()[..width as usize]);
+    let _ = encoding.try_extend_from_slice(&i.to_le_bytes()[..width as usize]);
     encoding
 }
 

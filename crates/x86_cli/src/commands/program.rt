@@ -31,6 +31,7 @@ pub trait Program {
 impl Program for Request {
     ghost task = { λ s. task_of s };
 
+    #[tactic(auto, using(crate::proofs::CommandLemmas::Ends::task_ends))]
     fn run<R, W, O: Input<R> + Output<W>>(
         &self,
         outside: &O,

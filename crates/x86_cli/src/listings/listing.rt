@@ -41,6 +41,7 @@ pub fn put_line<const N: usize, W, O: Output<W>>(
 }
 
 /// Sends all that was gathered, at the end of a listing.
+#[tactic(auto, using(crate::proofs::ListingLemmas::Closes::closes_flush))]
 pub fn close<W, O: Output<W>>(
     output: &O,
     out: &mut Gathered,

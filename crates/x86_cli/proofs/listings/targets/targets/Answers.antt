@@ -3,7 +3,7 @@ use Rattle.x86_layout.specs.Sweeps.Marks.{is_marked}
 use Rattle.x86_cli.specs.Listings.Targets.{targets_at}
 use Rattle.x86_cli.proofs.ListingLemmas.Live.{live_closes}
 use Rattle.x86_cli.proofs.ListingLemmas.Target.{place_failed, place_passed, place_put, targets-end}
-use Rattle.x86_cli.proofs.ListingLemmas.Whole.{ends_of, whole_fails, whole_lists}
+use Rattle.x86_cli.proofs.ListingLemmas.Whole.{whole_fails, whole_lists}
 use Rattle.x86_cli.proofs.listings.targets.targets.Goals.{then-marks-place+in-Ok-put_line, else-marks-place}
 use Rattle.x86_cli.proofs.listings.targets.targets.Goals as goal
 
@@ -13,10 +13,10 @@ marked_at : (strict : Bool) (image shown : List ℕ) (marks : List Bool) (place 
 marked_at strict image shown marks place same lt all = grind (arith, all place)
 
 pub places-init : goal.places-init
-places-init g c = rw c.new-out.ensures (whole_lists g.O.Input.reads g.O.Output.writes g.O.Output.flushes g.O.Output.gathers c.args.max _ _ (targets_at c.args.decoder.now.strict) c.in-Ok.text _ _ c.in-Ok.ensures)
+places-init g c = rw c.new-out.ensures (whole_lists _ _ _ _ _ _ _ _ c.in-Ok.text _ _ c.in-Ok.ensures)
 
 pub returns-in-Err : goal.returns-in-Err
-returns-in-Err g c = whole_fails g.O.Input.reads g.O.Output.writes g.O.Output.flushes g.O.Output.gathers c.args.max _ _ (targets_at c.args.decoder.now.strict) c.in-Err.failed _ _ _ c.of_failed.ensures.status c.of_failed.ensures.gone c.in-Err.ensures
+returns-in-Err g c = whole_fails _ _ _ _ _ _ _ (targets_at c.args.decoder.now.strict) c.in-Err.failed _ _ _ c.of_failed.ensures.status c.of_failed.ensures.gone c.in-Err.ensures
 
 pub places-preserved : goal.places-preserved
 places-preserved g c =
@@ -34,5 +34,5 @@ returns-in-Err-put_line g c =
 pub returns : goal.returns
 returns g c =
     let all : c.places.place ≡ length c.in-Ok.text.image.items = omega (arith, c.places-test.false, c.places.auto.place-end, ap length c.as_slice-image.ensures.value) in
-    live_closes g.O.Input.reads g.O.Output.writes g.O.Output.flushes g.O.Output.gathers (targets_at c.args.decoder.now.strict) ends_of c.args.max _ _ _ _ _ _ _ _ _ _ c.places.invariant _ _ _
+    live_closes _ _ _ _ _ _ _ _ _ _ _ _ _ _ _ _ _ c.places.invariant _ _ _
     (λ xs stop. targets-end c.args.decoder.now.strict c.places.place c.in-Ok.text.image.items c.in-Ok.text.ending all) c.end.ensures
