@@ -95,7 +95,7 @@ module _ {S K : Type 0} (gives : S → Got → S → Type 0) (takes : K → List
 
     part_of : stop_of h.calls ≡ Some Failed → OfTaken outcome.status c old new
     part_of is =
-        let has = of_taken (ReadsByte gives) (PutsPiece takes) HoldsNothing left faults written others Rose read_reports write_reports flush_reports false c outcome s t k l h is in record { taken = received h.calls; takes = read.0; has = has; cause = rw is at read.1 }
+        let has = of_taken (ReadsByte gives) (PutsPiece takes) HoldsNothing left faults written others Rose read_reports write_reports flush_reports false c outcome s t k l h is in record { taken = received h.calls; takes = read.0; holds = has; cause = rw is at read.1 }
 
     by_status : (status : Status) → outcome.status ≡ status → EndsAt status (stop_of h.calls) → Says status c old new
     by_status Status.Usage same ends = absurd ends
@@ -124,7 +124,7 @@ module _ (c : Command) (old new : Streams) where
   pub has_read_fault : (result : Status) → Says result c old new → HasReadFault result c old new
   has_read_fault result says e =
       let h : Says Status.ReadFault c old new = rw e at says in
-      (h.0.cause, (h.0.taken, h.0.takes, sym (h.0.has.1.all (λ e. cc)).1))
+      (h.0.cause, (h.0.taken, h.0.takes, sym (h.0.holds.1.all (λ e. cc)).1))
 
   pub completes : ((strict : Bool) → DecoderLaws strict) → (result : Status) → Says result c old new → Completes result c old new
   completes laws result says =

@@ -27,7 +27,7 @@ OfAll status c old new = HasOfAll status c old.left old.written new.written
 pub record OfTaken (status : Status) (c : Command) (old new : Streams) : Type 0 where
   pub taken : List ℕ
   pub takes : Consumes old.left new.left taken
-  pub has : Has status (taken_listing c taken) old.written new.written
+  pub holds : Has status (taken_listing c taken) old.written new.written
   pub cause : Rose old.source_faults new.source_faults
 
 -- what each status says
