@@ -1,22 +1,18 @@
 -- What the status of a listing says of its text.
-use Rattle.std.proofs.Common.{◌≡◌, ◌≢◌, ℕ, suc, zero, false, ◌+◌, ◌<◌, ◌≤◌, Bool, List, [], ◌∷◌, ◌++◌, length, drop, Option, Some, None, Ok, Err, refl, arith, ap, ◌∙◌, sym, length-append}
+use Rattle.std.proofs.Common.{◌≡◌, ◌≢◌, ℕ, suc, zero, false, ◌+◌, Bool, List, [], ◌∷◌, ◌++◌, length, Option, Some, None, Ok, Err, refl, arith, ap, ◌∙◌, sym, length-append}
 use Rattle.std.proofs.Math.Seq.{drop-append_seam}
 use Rattle.std.specs.List.{concat}
 use Rattle.x86_decode.specs.declared.instructions.Instruction.{Instruction}
 use Rattle.x86_fields.specs.declared.errors.DecodeError.TheVariants.{ExhaustedInput}
-use Rattle.x86_decode.specs.Answer.{answer_of}
 use Rattle.x86_streams.specs.declared.text.reader.Ending.{Ending}
-use Rattle.x86_streams.specs.declared.text.reader.Ending.TheVariants.{Clean}
 use Rattle.x86_streams.specs.Outside.Stop.{Stop, End, Failed}
-use Rattle.x86_cli.specs.declared.text.window.Decoded.TheVariants.{Whole}
 use Rattle.x86_cli.specs.declared.listings.status.Status.TheVariants as outcome
 use Rattle.x86_cli.specs.declared.commands.command.Command.{Command}
-use Rattle.x86_cli.specs.declared.commands.command.Command.TheVariants.{List as Listed, Sweep as Swept, Targets as Targeted}
 use Rattle.x86_cli.specs.Commands.Request.{listing_for, known_for}
 use Rattle.x86_streams.specs.Text.{Text, text_at, text_of}
 use Rattle.x86_streams.specs.Text.Reading.{MayCome}
 use Rattle.x86_cli.specs.Listings.Listing.{at_end, decoded_of, decoded_before_end, listing_from}
-use Rattle.x86_cli.specs.Commands.Complete.{IsOneInstruction, AreSentences, CompletesTexts}
+use Rattle.x86_cli.specs.Commands.Complete.{AreSentences, CompletesTexts}
 use Rattle.x86_cli.specs.DecoderLaws.{DecoderLaws}
 use Rattle.x86_cli.proofs.TextLemmas.Decoded.{decoded-stays}
 use Rattle.x86_cli.proofs.ListingLemmas.Listing.{listing-whole}
@@ -48,12 +44,7 @@ some_stop (Some given) = (given, (refl, refl))
 
 -- Where nothing is known but a read fault, the listing ends in that.
 pub known_fault : (c : Command) (t : Text) → (known_for c t).status ≡ outcome.ReadFault → (listing_for c t).status ≡ outcome.ReadFault
-known_fault Swept t h = h
-known_fault Targeted t h = h
-known_fault c t h = h
-
-pub fault_stop : (stop : Option Stop) → (MayCome stop [] End → ⊥) → stop ≡ Some Failed
-fault_stop stop never = grind arith
+known_fault c t h = grind arith
 
 pub end_stop : (c : Command) (max : ℕ) (bytes : List ℕ) (stop : Option Stop) →
     ((xs : List ℕ) (s : Stop) → MayCome stop xs s → (listing_for c (text_of max (bytes ++ xs) s)).status ≡ outcome.Done) → stop ≡ Some End
@@ -63,25 +54,18 @@ end_stop c max bytes stop done = let h = command_end c (text_of max (bytes ++ []
 -- sequences of sentences
 
 module _ (strict : Bool) (laws : DecoderLaws strict) (text : ℕ → Instruction → List ℕ → List ℕ) where
-  sentence_beginning : (s rest : List ℕ) → IsOneInstruction strict s → (i : Instruction) × (decoded_of strict (s ++ rest) Clean ≡ Whole i) × (0 < i.length) × (i.length ≡ length s)
-  sentence_beginning s rest is =
-      let i = is.instruction in
-      let ok : answer_of strict s ≢ Err ExhaustedInput = λ e. let f : Ok i ≡ Err ExhaustedInput = sym is.answer ∙ e in cc in
-      (i, decoded-stays strict laws s rest Clean ok ∙ ap decoded_before_end is.answer, (laws.lengths s i is.answer).0, is.whole)
-
-  pub sentences_done : (n : ℕ) (ss : List (List ℕ)) → AreSentences strict ss → (listing_from strict text n 0 (concat ss) Clean).status ≡ outcome.Done
+  pub sentences_done : (n : ℕ) (ss : List (List ℕ)) → AreSentences strict ss → (listing_from strict text n 0 (concat ss) Ending.Clean).status ≡ outcome.Done
   unfolding listing_from
   sentences_done n [] each = refl
-  sentences_done n (s ∷ ss) each =
-      let f = sentence_beginning s (concat ss) each.0 in
-      let i = f.0 in
-      let fits : i.length ≤ length (s ++ concat ss) = simp length-append (omega (arith, f.3)) in
-      let dropped : drop i.length (s ++ concat ss) ≡ concat ss = rw f.3 (drop-append_seam s (concat ss)) in
-      rw (listing-whole strict text n (s ++ concat ss) Clean i f.1 f.2 fits, dropped) (sentences_done (n + i.length) ss each.1)
+  sentences_done n (s ∷ ss) (is, each) =
+      let some = laws.lengths s is.instruction is.answer in
+      let first = decoded-stays strict laws s (concat ss) Ending.Clean (λ e. let f : Ok is.instruction ≡ Err ExhaustedInput = sym is.answer ∙ e in cc) ∙ ap decoded_before_end is.answer in
+      let after = sentences_done (n + length s) ss each in
+      grind (arith, is.whole, listing-whole strict text n (s ++ concat ss) Ending.Clean is.instruction first, drop-append_seam s (concat ss), length-append s (concat ss))
 
 -- the listing of a clean text whose image a command goes through
 pub text_done : ((strict : Bool) → DecoderLaws strict) → CompletesTexts
-text_done laws (Listed strict) t clean sequence = rw (clean, sequence.whole) (sentences_done strict (laws strict) _ 0 sequence.sentences sequence.each)
-text_done laws Swept t clean any = rw clean refl
-text_done laws Targeted t clean any = rw clean refl
+text_done laws (Command.List strict) t clean sequence = rw (clean, sequence.whole) (sentences_done strict (laws strict) _ 0 sequence.sentences sequence.each)
+text_done laws Command.Sweep t clean any = rw clean refl
+text_done laws Command.Targets t clean any = rw clean refl
 text_done laws _ t clean sequence = rw (clean, sequence.whole) (sentences_done false (laws false) _ 0 sequence.sentences sequence.each)

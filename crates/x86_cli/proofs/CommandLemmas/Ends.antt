@@ -1,62 +1,54 @@
 -- How the reads of a program ended, by its status.
-use Rattle.std.proofs.Common.{◌≡◌, ◌≢◌, ℕ, List, [], ◌∷◌, ◌++◌, Option, Some, Result, Ok, Err, refl, arith, ap, ◌∙◌, sym, append-nil}
+use Rattle.std.proofs.Common.{◌≡◌, ◌≢◌, ℕ, List, [], ◌∷◌, ◌++◌, Option, Some, Result, arith, ◌∙◌, sym, append-nil}
 use Rattle.std.specs.Prelude.{Bool, IsTrue, ⊤}
 use Rattle.std.specs.declared.io.Error.{Error}
 use Rattle.x86_cli.specs.declared.commands.command.Command.{Command}
 use Rattle.x86_cli.specs.declared.commands.request.Request.{Request}
-use Rattle.x86_cli.specs.declared.commands.request.Request.TheVariants.{Reads, Makes}
 use Rattle.x86_cli.specs.declared.listings.status.Finished.{Finished}
 use Rattle.x86_cli.specs.declared.listings.status.Status.{Status}
-use Rattle.x86_cli.specs.declared.listings.status.Status.TheVariants.{Done, Usage, Refused, ReadFault, WriteFault}
 use Rattle.x86_streams.specs.Outside.Chain.{Call, Read, Write, Flush, received, stop_of}
 use Rattle.x86_streams.specs.Outside.Stop.{Stop, End, Failed}
 use Rattle.x86_streams.specs.Text.{Text, text_of}
 use Rattle.x86_streams.specs.Text.Reading.{MayCome}
 use Rattle.x86_cli.specs.Commands.Command.{goes_past_refusals}
 use Rattle.x86_cli.specs.Commands.Program.{EndsAt}
-use Rattle.x86_cli.specs.Commands.Request.{task_of, listing_for, known_for, max_of}
-use Rattle.x86_cli.specs.Commands.Says.{taken_listing}
+use Rattle.x86_cli.specs.Commands.Request.{task_of, listing_for, known_for, max_of, taken_listing}
 use Rattle.x86_cli.specs.Listings.Performs.{ByRule, IsEnd, Performs, Task}
-use Rattle.x86_cli.proofs.CommandLemmas.Causes.{some_stop, fault_stop, known_fault, command_read, command_status, end_stop}
+use Rattle.x86_cli.proofs.CommandLemmas.Causes.{some_stop, known_fault, command_read, command_status, end_stop}
 
 -- Where a read failed, the listing of the bytes read before ends in a read fault.
-pub fault_listed : (c : Command) (cs : List Call) → ByRule (known_for c) (text_of (max_of c)) cs → stop_of cs ≡ Some Failed → (taken_listing c (received cs)).status ≡ ReadFault
+pub fault_listed : (c : Command) (cs : List Call) → ByRule (known_for c) (text_of (max_of c)) cs → stop_of cs ≡ Some Failed → (taken_listing c (received cs)).status ≡ Status.ReadFault
 fault_listed c [] rule e = cc
-fault_listed c (Read buffer (Ok n) ∷ cs) rule e = grind arith
-fault_listed c (Read buffer (Err f) ∷ cs) rule e = rw append-nil (known_fault c (text_of (max_of c) (received cs) Failed) (ap (λ l. l.status) rule.4.1))
+fault_listed c (Read buffer answer ∷ cs) rule e = let known = known_fault c (text_of (max_of c) (received cs) Failed) in grind (arith, rule.4.1, append-nil {A = ℕ})
 fault_listed c (Write bytes answer ∷ cs) rule e = fault_listed c cs rule.0 e
 fault_listed c (Flush answer ∷ cs) rule e = fault_listed c cs rule.0 e
 
 -- of every text that begins with these bytes, the listing ends so
-module _ (c : Command) (bytes : List ℕ) (stop : Option Stop) (failed : stop ≡ Some Failed → (taken_listing c bytes).status ≡ ReadFault) where
-  run_ends : (status : Status) → ((xs : List ℕ) (s : Stop) → MayCome stop xs s → status ≢ WriteFault → (listing_for c (text_of (max_of c) (bytes ++ xs) s)).status ≡ status) → EndsAt status stop
-  run_ends Done ends = end_stop c (max_of c) bytes stop (λ xs s may. ends xs s may (λ e. cc))
-  run_ends Usage ends = let one = some_stop stop in absurd ((command_status c _).0 (ends [] one.0 one.1 (λ e. cc)))
-  run_ends ReadFault ends = fault_stop stop (λ may. command_read c (max_of c) (bytes ++ []) (ends [] End may (λ e. cc)))
-  run_ends WriteFault ends = tt
-  run_ends status ends = λ e.
-      let is = rw append-nil at (ends [] Failed (rw e (refl, refl)) (λ e. cc)) in
-      let same : ReadFault ≡ status = sym (failed e) ∙ is in cc
+module _ (c : Command) (bytes : List ℕ) (stop : Option Stop) (failed : stop ≡ Some Failed → (taken_listing c bytes).status ≡ Status.ReadFault) where
+  run_ends : (status : Status) → ((xs : List ℕ) (s : Stop) → MayCome stop xs s → status ≢ Status.WriteFault → (listing_for c (text_of (max_of c) (bytes ++ xs) s)).status ≡ status) → EndsAt status stop
+  run_ends Status.Done ends = end_stop c (max_of c) bytes stop (λ xs s may. ends xs s may (λ e. cc))
+  run_ends Status.ReadFault ends = let is = ends [] End in let read = command_read c (max_of c) (bytes ++ []) in grind arith
+  run_ends status ends = let one = some_stop stop in let is = ends [] one.0 one.1 in let used = (command_status c (text_of (max_of c) (bytes ++ []) one.0)).0 in grind (arith, append-nil {A = ℕ})
 
 module _ {R W : Type 0} (reads : R → List ℕ → Result ℕ Error → R → Type 0) (writes : W → List ℕ → Result ℕ Error → W → Type 0) (flushes : W → Result ⊤ Error → W → Type 0)
-    (gathers : Bool) (c : Command) (outcome : Finished) (r r' : R) (w w' : W) (h : Performs reads writes flushes gathers (task_of (Reads c)) outcome r r' w w') where
+    (gathers : Bool) (c : Command) (outcome : Finished) (r r' : R) (w w' : W) (h : Performs reads writes flushes gathers (task_of (Request.Reads c)) outcome r r' w w') where
   pub ends_at : EndsAt outcome.status (stop_of h.calls)
   ends_at = run_ends c (received h.calls) (stop_of h.calls) (fault_listed c h.calls h.rule) outcome.status (λ xs s may ne. sym ((h.lists xs s may).all ne).1)
 
   -- Commands that continue after refusals are never refused.
-  pub unrefused : IsTrue (goes_past_refusals c) → outcome.status ≢ Refused
+  pub unrefused : IsTrue (goes_past_refusals c) → outcome.status ≢ Status.Refused
   unrefused goes e =
       let one = some_stop (stop_of h.calls) in
-      let ends = sym ((h.lists [] one.0 one.1).all (λ f. let g : Refused ≡ WriteFault = sym e ∙ f in cc)).1 ∙ e in grind arith
+      let ends = sym ((h.lists [] one.0 one.1).all (λ f. let g : Status.Refused ≡ Status.WriteFault = sym e ∙ f in cc)).1 ∙ e in grind arith
 
 -- What ends with a listing's status is no mistake of usage.
 pub performs_used : {R W : Type 0} (reads : R → List ℕ → Result ℕ Error → R → Type 0) (writes : W → List ℕ → Result ℕ Error → W → Type 0) (flushes : W → Result ⊤ Error → W → Type 0) (gathers : Bool) (task : Task) (outcome : Finished) (r r' : R) (w w' : W) →
-    ((text : Text) → IsEnd (task.lists text).status) → Performs reads writes flushes gathers task outcome r r' w w' → outcome.status ≢ Usage
+    ((text : Text) → IsEnd (task.lists text).status) → Performs reads writes flushes gathers task outcome r r' w w' → outcome.status ≢ Status.Usage
 performs_used reads writes flushes gathers task outcome r r' w w' ends h e =
     let one = some_stop (stop_of h.calls) in
-    let same = ((h.lists [] one.0 one.1).all (λ f. let g : Usage ≡ WriteFault = sym e ∙ f in absurd (cc))).1 in
+    let same = ((h.lists [] one.0 one.1).all (λ f. let g : Status.Usage ≡ Status.WriteFault = sym e ∙ f in absurd (cc))).1 in
     (ends _).0 (sym same ∙ e)
 
 pub task_ends : (request : Request) (t : Text) → IsEnd ((task_of request).lists t).status
-task_ends (Reads c) t = command_status c t
-task_ends (Makes n) t = (λ e. cc, λ e. cc)
+task_ends (Request.Reads c) t = command_status c t
+task_ends (Request.Makes n) t = (λ e. cc, λ e. cc)

@@ -1,85 +1,48 @@
 -- How a listing is closed: its last line, and the flush.
-use Rattle.std.proofs.Common.{◌≡◌, ◌≢◌, ℕ, Bool, false, List, [], ◌∷◌, ◌++◌, Result, Ok, Err, refl, arith, ap, ◌∙◌, sym, append_assoc, append-nil}
+use Rattle.std.proofs.Common.{◌≡◌, ◌≢◌, ℕ, Bool, false, List, [], ◌∷◌, ◌++◌, Result, Ok, refl, arith, append_assoc, append-nil}
 use Rattle.std.specs.Prelude.{⊤}
-use Rattle.std.specs.List.{concat}
 use Rattle.std.specs.declared.io.Error.{Error}
 use Rattle.x86_streams.specs.declared.outside.sending.WriteFailed.{WriteFailed}
-use Rattle.x86_streams.specs.Outside.Chain.{Call, EndsIn, IsFlush, IsGone, Puts, Sends, SendsAll, pieces, not_taken, sent}
+use Rattle.x86_streams.specs.Outside.Chain.{Call, Puts, SendsAll}
 use Rattle.x86_streams.proofs.OutsideLemmas.Calls.{all_continue_joined, pieces_joined, sent_joined, writer_calls_joined}
 use Rattle.x86_cli.specs.declared.listings.status.Finished.{Finished}
 use Rattle.x86_cli.specs.declared.listings.status.Status.{Status}
-use Rattle.x86_cli.specs.declared.listings.status.Status.TheVariants.{WriteFault}
-use Rattle.x86_cli.specs.Listings.Closes.{Closes, IsLastAt}
-use Rattle.x86_cli.proofs.ListingLemmas.Live.{fails_last, follow_of, not_taken_first, sends_as}
-
-last_at : (status : Status) (cs : List Call) → status ≢ WriteFault → EndsIn IsFlush cs → EndsIn (IsLastAt status) cs
-last_at status cs ne h = grind arith
-
-flush_gone : (cs : List Call) → EndsIn IsFlush cs → EndsIn IsGone cs → ⊥
-flush_gone cs h g = grind arith
-
-flush_takes : (cs : List Call) → EndsIn IsFlush cs → not_taken cs ≡ []
-flush_takes cs h = grind arith
+use Rattle.x86_cli.specs.Listings.Closes.{Closes}
+use Rattle.x86_cli.proofs.ListingLemmas.Live.{follow_of, not_taken_first}
 
 module _ {W : Type 0} (writes : W → List ℕ → Result ℕ Error → W → Type 0) (flushes : W → Result ⊤ Error → W → Type 0) (gathers : Bool) (held : List ℕ) (outcome : Finished) where
   -- all was sent
-  pub closes_flush : (held' : List ℕ) (w w' : W) → outcome.status ≢ WriteFault → outcome.gone ≡ false → (gathers ≡ false → held ≡ []) → SendsAll writes flushes (Ok tt) held held' w w' →
+  pub closes_flush : (held' : List ℕ) (w w' : W) → outcome.status ≢ Status.WriteFault → outcome.gone ≡ false → (gathers ≡ false → held ≡ []) → SendsAll writes flushes (Ok tt) held held' w w' →
       Closes writes flushes gathers held (record { lines = []; status = outcome.status }) outcome w w'
-  closes_flush held' w w' ne gone empty q =
-      let cs = q.0.calls in
-      record {
-        calls = cs;
-        did = q.0.did;
-        follow = follow_of {A = ⊤} {E = WriteFailed} (Ok tt) cs q.0.cause;
-        ends = last_at outcome.status cs ne q.1.1;
-        gone = rw gone (λ e. absurd (cc), λ g. absurd (flush_gone cs q.1.1 g));
-        unsent = [];
-        whole = sym q.0.order ∙ ap (λ b. sent cs ++ b) q.1.0;
-        next = rw (flush_takes cs q.1.1) refl;
-        all = λ _. (refl, refl);
-        each = λ e. q.2 (empty e);
-      }
-
-  -- a call failed
-  pub closes_failed : (f : WriteFailed) (ls : List (List ℕ)) (rest : List ℕ) (status : Status) (w w' : W) → outcome.status ≡ WriteFault → outcome.gone ≡ f.gone →
-      (q : Sends writes flushes (Err f) (concat ls) held rest w w') → (gathers ≡ false → pieces q.calls ≡ ls) → Closes writes flushes gathers held (record { lines = ls; status = status }) outcome w w'
-  closes_failed f ls rest status w w' fault gone q once = record {
-    calls = q.calls;
-    did = q.did;
-    follow = follow_of {A = ⊤} {E = WriteFailed} (Err f) q.calls q.cause;
-    ends = rw fault (fails_last f q.calls q.cause);
-    gone = rw gone q.failed.1;
-    unsent = rest;
-    whole = sym q.order;
-    next = q.failed.0;
-    all = λ ne. absurd (ne fault);
-    each = once;
+  closes_flush held' w w' ne gone empty q = record {
+    calls = q.0.calls;
+    did = q.0.did;
+    follow = follow_of {A = ⊤} {E = WriteFailed} (Ok tt) q.0.calls q.0.cause;
+    ends = grind (arith, q.1.1);
+    gone = grind (arith, q.1.1, gone);
+    unsent = [];
+    whole = grind (arith, q.0.order, q.1.0);
+    next = grind (arith, q.1.1);
+    all = λ _. (refl, refl);
+    each = λ e. q.2 (empty e);
   }
-
-  pub closes_unput : (f : WriteFailed) (x held' : List ℕ) (status : Status) (w w' : W) → outcome.status ≡ WriteFault → outcome.gone ≡ f.gone →
-      Puts writes flushes gathers (Err f) x held held' w w' → Closes writes flushes gathers held (record { lines = x ∷ []; status = status }) outcome w w'
-  closes_unput f x held' status w w' fault gone p = closes_failed f (x ∷ []) p.rest status w w' fault gone (sends_as writes flushes (Err f) x (x ++ []) held p.rest w w' (sym (append-nil x)) p.sends) (λ e. (p.once e).0)
 
   -- a line was put before
   pub closes_put : (x held' : List ℕ) (status : Status) (u v w : W) → Puts writes flushes gathers (Ok tt) x held held' u v → Closes writes flushes gathers held' (record { lines = []; status = status }) outcome v w →
       Closes writes flushes gathers held (record { lines = x ∷ []; status = status }) outcome u w
   closes_put x held' status u v w p q = after q.calls refl
     where
-      ds : List Call
-      ds = p.sends.calls
-
       after : (cs : List Call) → q.calls ≡ cs → Closes writes flushes gathers held (record { lines = x ∷ []; status = status }) outcome u w
       after [] is = absurd (rw is at q.ends)
       after (c ∷ cs) is = record {
-        calls = c ∷ (cs ++ ds);
-        did = writer_calls_joined writes flushes (c ∷ cs) ds u v w p.sends.did (rw is at q.did);
-        follow = all_continue_joined cs ds (rw is at q.follow) p.sends.cause;
+        calls = c ∷ (cs ++ p.sends.calls);
+        did = writer_calls_joined writes flushes (c ∷ cs) p.sends.calls u v w p.sends.did (rw is at q.did);
+        follow = all_continue_joined cs p.sends.calls (rw is at q.follow) p.sends.cause;
         ends = rw is at q.ends;
         gone = rw is at q.gone;
         unsent = q.unsent;
-        whole = ap (λ b. held ++ b) (append-nil x) ∙ sym p.sends.order ∙ ap (λ b. sent ds ++ b) (sym p.held ∙ sym (append-nil held') ∙ (rw is at q.whole)) ∙ sym (append_assoc (sent ds) (sent (c ∷ cs)) q.unsent)
-            ∙ ap (λ b. b ++ q.unsent) (sym (sent_joined (c ∷ cs) ds));
-        next = rw (not_taken_first c (cs ++ ds) cs) (rw is at q.next);
+        whole = grind (arith, p.sends.order, p.held, rw is at q.whole, sent_joined (c ∷ cs) p.sends.calls, append_assoc {A = ℕ}, append-nil {A = ℕ});
+        next = rw (not_taken_first c (cs ++ p.sends.calls) cs) (rw is at q.next);
         all = q.all;
-        each = λ e. pieces_joined (c ∷ cs) ds ∙ ap (λ ps. ps ++ pieces (c ∷ cs)) (p.once e).0 ∙ ap (λ ps. x ∷ ps) (rw is at (q.each e));
+        each = λ e. grind (arith, pieces_joined (c ∷ cs) p.sends.calls, (p.once e).0, rw is at (q.each e));
       }

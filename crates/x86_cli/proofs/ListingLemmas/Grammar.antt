@@ -6,7 +6,7 @@ use Rattle.x86_decode.specs.declared.instructions.Instruction.{Instruction}
 use Rattle.x86_fields.specs.declared.errors.DecodeError.{DecodeError}
 use Rattle.x86_forms.specs.Words.{rows_of, packed}
 use Rattle.x86_decode.specs.Answer.{answer_of, count_of}
-use Rattle.x86_decode.specs.Grammar.{IsAnswer, IsAccepted, IsSentence}
+use Rattle.x86_decode.specs.Grammar.{IsAnswer, IsSentence}
 use Rattle.x86_streams.specs.declared.text.reader.Ending.{Ending}
 use Rattle.x86_cli.specs.Listings.Line.{line}
 use Rattle.x86_cli.specs.Listings.Listing.{Listing, with_lines, at_end, decoded_of, listing_from}
@@ -41,8 +41,7 @@ module _ (strict : Bool) (laws : GrammarLaws strict) (text : ℕ → Instruction
   unfolding decoded_of
   sentence_here n s rest e i is =
       let all = s ++ rest in
-      let accepted : IsAccepted (rows_of packed) strict all i (length s) = record { sentence = s; rest = rest; begins = refl; long = refl; is = is } in
-      let ok : answer_of strict all ≡ Ok i = sym (laws.only all (Ok i) (length s) accepted) in
+      let ok : answer_of strict all ≡ Ok i = sym (laws.only all (Ok i) (length s) (record { sentence = s; rest = rest; begins = refl; long = refl; is = is })) in
       let l = laws.lengths all i ok in
       let len : i.length ≡ length s = ap (λ i. i.length) is.yields in
       let h = listing-whole strict text n all e i (grind arith) l.0 l.1 in
@@ -51,29 +50,13 @@ module _ (strict : Bool) (laws : GrammarLaws strict) (text : ℕ → Instruction
   listing_is : (n : ℕ) (ss : List (List ℕ)) (left : List ℕ) (e : Ending) (lines : List (List ℕ)) (last : Listing) →
       AreLines (rows_of packed) strict text n ss lines → EndsListing (rows_of packed) strict (n + length (concat ss)) left e last →
       with_lines lines last ≡ listing_from strict text n 0 (concat ss ++ left) e
-  listing_is n [] left e lines last each ends =
-      rw each (end_here n left e last (simp add-zero at ends))
+  listing_is n [] left e lines last each ends = rw each (end_here n left e last (simp add-zero at ends))
   listing_is n (s ∷ ss) left e lines last each ends =
       let same : n + length (s ++ concat ss) ≡ (n + length s) + length (concat ss) = simp length-append (omega arith) in
       let after = listing_is (n + length s) ss left e each.2 last each.4 (subst (λ m. EndsListing (rows_of packed) strict m left e last) same ends) in
-      rw (each.3, append_assoc)
-      (ap (with_lines (line (text n each.0 s) ∷ [])) after ∙ sym (sentence_here n s (concat ss ++ left) e each.0 each.1))
+      let first = sentence_here n s (concat ss ++ left) e each.0 each.1 in grind (arith, append_assoc {A = ℕ})
 
   -- there is such a listing of each image
-  sentence_first : (n : ℕ) (s rest : List ℕ) (e : Ending) (i : Instruction) → IsSentence (rows_of packed) strict s i →
-      IsHere (n + length s) rest e (listing_from strict text (n + length s) 0 rest e) → IsHere n (s ++ rest) e (listing_from strict text n 0 (s ++ rest) e)
-  sentence_first n s rest e i is t =
-      record {
-        sentences = s ∷ t.sentences;
-        left = t.left;
-        whole = ap (λ xs. s ++ xs) t.whole ∙ sym (append_assoc s (concat t.sentences) t.left);
-        lines = line (text n i s) ∷ t.lines;
-        each = (i, is, t.lines, refl, t.each);
-        last = t.last;
-        ends = simp (length-append, ← add_assoc) t.ends;
-        is = sentence_here n s rest e i is ∙ ap (with_lines (line (text n i s) ∷ [])) t.is;
-      }
-
   at_once : (n : ℕ) (xs : List ℕ) (e : Ending) (last : Listing) → EndsListing (rows_of packed) strict n xs e last → IsHere n xs e last
   at_once n xs e last ends =
       record { sentences = []; left = xs; whole = refl; lines = []; each = refl; last = last; ends = simp add-zero ends; is = refl }
@@ -85,8 +68,17 @@ module _ (strict : Bool) (laws : GrammarLaws strict) (text : ℕ → Instruction
   by_answer k n x xs e shorter le (Ok i) h a =
       let s = a.sentence in
       let less : length a.rest ≤ k = omega (arith, ap (λ i. i.length) a.is.yields, ap length a.begins ∙ length-append s a.rest, le, (laws.lengths (x ∷ xs) i h).0) in
-      let t = sentence_first n s a.rest e i a.is (shorter (n + length s) a.rest less) in
-      subst (λ ys. IsHere n ys e (listing_from strict text n 0 ys e)) (sym a.begins) t
+      let t = shorter (n + length s) a.rest less in
+      subst (λ ys. IsHere n ys e (listing_from strict text n 0 ys e)) (sym a.begins) (record {
+        sentences = s ∷ t.sentences;
+        left = t.left;
+        whole = ap (λ xs. s ++ xs) t.whole ∙ sym (append_assoc s (concat t.sentences) t.left);
+        lines = line (text n i s) ∷ t.lines;
+        each = (i, a.is, t.lines, refl, t.each);
+        last = t.last;
+        ends = simp (length-append, ← add_assoc) t.ends;
+        is = sentence_here n s a.rest e i a.is ∙ ap (with_lines (line (text n i s) ∷ [])) t.is;
+      })
   by_answer k n x xs e shorter le (Err error) h a =
       let is = error_here n x xs e error (sym h) in
       rw is (at_once n (x ∷ xs) e (at_error n error e) (error, count_of strict (x ∷ xs), a, refl))

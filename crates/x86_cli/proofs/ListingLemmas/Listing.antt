@@ -18,16 +18,13 @@ module _ (strict : Bool) (text : ℕ → Instruction → List ℕ → List ℕ) 
   listing-skip n (suc k) [] e le = absurd (omega arith)
   listing-skip n (suc k) (x ∷ xs) e le = grind (arith, listing-skip (n + 1) k xs e)
 
-  whole-at : (n k : ℕ) (xs : List ℕ) (e : Ending) (i : Instruction) → decoded_of strict xs e ≡ Whole i → i.length ≡ suc k → suc k ≤ length xs →
-      listing_from strict text n 0 xs e ≡ with_lines (line (text n i (take i.length xs)) ∷ []) (listing_from strict text (n + suc k) 0 (drop (suc k) xs) e)
-  unfolding listing_from
-  whole-at n k [] e i h len le = absurd (omega arith)
-  whole-at n k (x ∷ xs) e i h len le =
-      grind (arith, listing-skip (n + 1) k xs e)
-
   pub listing-whole : (n : ℕ) (xs : List ℕ) (e : Ending) (i : Instruction) → decoded_of strict xs e ≡ Whole i → 0 < i.length → i.length ≤ length xs →
       listing_from strict text n 0 xs e ≡ with_lines (line (text n i (take i.length xs)) ∷ []) (listing_from strict text (n + i.length) 0 (drop i.length xs) e)
-  listing-whole n xs e i h some le = grind (arith, whole-at n (i.length - 1) xs e i)
+  unfolding listing_from
+  listing-whole n [] e i h some le = absurd (omega arith)
+  listing-whole n (x ∷ xs) e i h some le =
+      let long : i.length ≡ suc (i.length - 1) = omega arith in
+      let skip = listing-skip (n + 1) (i.length - 1) xs e (omega arith) in grind arith
 
   pub listing-refused : (n : ℕ) (xs : List ℕ) (e : Ending) (error : DecodeError) → decoded_of strict xs e ≡ Refused error →
       listing_from strict text n 0 xs e ≡ record { lines = line (refusal_of n error) ∷ []; status = status.Refused }

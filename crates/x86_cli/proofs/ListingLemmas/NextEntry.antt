@@ -1,22 +1,18 @@
 -- The next entry of a listing that ends at a refusal.
-use Rattle.std.proofs.Common.{◌≡◌, Bool, ℕ, ◌+◌, ◌<◌, ◌≤◌, List, [], ◌∷◌, ◌++◌, length, take, drop, Option, Some, None, Err, refl, arith, append-nil, length-append}
+use Rattle.std.proofs.Common.{◌≡◌, Bool, ℕ, ◌+◌, ◌<◌, ◌≤◌, List, [], ◌∷◌, length, take, drop, Option, None, Err, refl, arith, append-nil, length-append}
 use Rattle.std.proofs.lemmas.List.{drop-append-le, take-append-le}
 use Rattle.x86_decode.specs.declared.instructions.Instruction.{Instruction}
 use Rattle.x86_decode.specs.Answer.{answer_of}
 use Rattle.x86_fields.specs.declared.errors.DecodeError.{DecodeError}
-use Rattle.x86_fields.specs.declared.errors.DecodeError.TheVariants.{ExhaustedInput}
 use Rattle.x86_streams.specs.declared.text.reader.Ending.{Ending}
-use Rattle.x86_streams.specs.declared.text.reader.Ending.TheVariants.{Fault}
 use Rattle.x86_streams.specs.Outside.Stop.{Stop}
-use Rattle.x86_streams.specs.Text.{Text, text_at}
+use Rattle.x86_streams.specs.Text.{Text}
 use Rattle.x86_cli.specs.declared.text.window.Decoded.{Decoded}
-use Rattle.x86_cli.specs.declared.text.window.Decoded.TheVariants.{Whole, Refused, Ended}
 use Rattle.x86_cli.specs.declared.listings.listing.Entry.TheVariants as entry
 use Rattle.x86_cli.specs.Listings.Line.{line}
-use Rattle.x86_cli.specs.Listings.Listing.{Listing, with_lines, at_end, decoded_of, listing_at}
+use Rattle.x86_cli.specs.Listings.Listing.{Listing, with_lines, decoded_of, listing_at}
 use Rattle.x86_cli.specs.DecoderLaws.{DecoderLaws}
 use Rattle.x86_cli.specs.Listings.Entry.{IsEntry}
-use Rattle.x86_streams.specs.Text.Reading.{NeedsMore, with_bytes}
 use Rattle.x86_streams.specs.Text.Window.{rest_of}
 use Rattle.x86_cli.proofs.ListingLemmas.Listing.{listing-whole, listing-refused, listing-ended}
 
@@ -24,31 +20,27 @@ module _ (strict : Bool) (text : ℕ → Instruction → List ℕ → List ℕ) 
   abbrev at : ℕ → Text → Listing
   at = listing_at strict text
 
-  line_after : (n : ℕ) (w : List ℕ) (i : Instruction) (more : Text) → decoded_of strict (w ++ more.image) more.ending ≡ Whole i → 0 < i.length → i.length ≤ length w →
-      at n (with_bytes w more) ≡ with_lines (line (text n i (take i.length w)) ∷ []) (at (n + i.length) (with_bytes (drop i.length w) more))
-  line_after n w i more h some le =
-      grind (arith, length-append w more.image, drop-append-le i.length w more.image, take-append-le i.length w more.image, listing-whole strict text n (w ++ more.image) more.ending i)
-
   rest_line : (ended : Option Ending) (n : ℕ) (w : List ℕ) (i : Instruction) (p r : ℕ) (xs : List ℕ) (stop : Stop) →
-      decoded_of strict (rest_of ended w p r xs stop).image (rest_of ended w p r xs stop).ending ≡ Whole i → 0 < i.length → i.length ≤ length w →
+      decoded_of strict (rest_of ended w p r xs stop).image (rest_of ended w p r xs stop).ending ≡ Decoded.Whole i → 0 < i.length → i.length ≤ length w →
       at n (rest_of ended w p r xs stop) ≡ with_lines (line (text n i (take i.length w)) ∷ []) (at (n + i.length) (rest_of ended (drop i.length w) p r xs stop))
-  rest_line None n w i p r xs stop h some le = line_after n w i (text_at p r xs stop) h some le
-  rest_line (Some e) n w i p r xs stop h some le = listing-whole strict text n w e i h some le
+  rest_line ended n w i p r xs stop h some le =
+      let whole = listing-whole strict text n (rest_of ended w p r xs stop).image (rest_of ended w p r xs stop).ending i h some in
+      grind (arith, le, drop-append-le i.length w, take-append-le i.length w, length-append {A = ℕ})
 
   -- the next entry, by what is decoded
   module _ (ended : Option Ending) (n : ℕ) (w : List ℕ) (p r : ℕ) where
     abbrev pub DecodedIs : Decoded Instruction → Type 0
     DecodedIs beginning = (xs : List ℕ) (stop : Stop) → decoded_of strict (rest_of ended w p r xs stop).image (rest_of ended w p r xs stop).ending ≡ beginning
 
-    pub entry_line : (i : Instruction) → DecodedIs (Whole i) → 0 < i.length → i.length ≤ length w → (len : ℕ) (written : List ℕ) → len ≡ i.length → written ≡ text n i (take i.length w) →
+    pub entry_line : (i : Instruction) → DecodedIs (Decoded.Whole i) → 0 < i.length → i.length ≤ length w → (len : ℕ) (written : List ℕ) → len ≡ i.length → written ≡ text n i (take i.length w) →
         IsEntry at at (entry.Line len) n written ended w p r
     entry_line i whole some le len written long is =
         rw (long, is) (some, le, (λ xs stop. rest_line ended n w i p r xs stop (whole xs stop) some le), λ _ xs stop. rest_line ended n w i p r xs stop (whole xs stop) some le)
 
-    pub entry_refused : (error : DecodeError) (written : List ℕ) → DecodedIs (Refused error) → IsEntry at at (entry.Refused error) n written ended w p r
+    pub entry_refused : (error : DecodeError) (written : List ℕ) → DecodedIs (Decoded.Refused error) → IsEntry at at (entry.Refused error) n written ended w p r
     entry_refused error written refused xs stop = listing-refused strict text n (rest_of ended w p r xs stop).image (rest_of ended w p r xs stop).ending error (refused xs stop)
 
-    pub entry_ended : (e : Ending) (written : List ℕ) → DecodedIs (Ended e) → IsEntry at at (entry.Ended e) n written ended w p r
+    pub entry_ended : (e : Ending) (written : List ℕ) → DecodedIs (Decoded.Ended e) → IsEntry at at (entry.Ended e) n written ended w p r
     entry_ended e written ends xs stop = listing-ended strict text n (rest_of ended w p r xs stop).image (rest_of ended w p r xs stop).ending e (ends xs stop)
 
 pub no_bytes : (xs : List ℕ) → length xs < 1 → xs ≡ []
@@ -57,18 +49,14 @@ no_bytes (x ∷ xs) h = absurd (omega (arith, h))
 
 -- a window that decides no more
 module _ (strict : Bool) (laws : DecoderLaws strict) where
-  pub few_undecided : (w : List ℕ) → answer_of strict w ≡ Err ExhaustedInput → length w < 15
+  pub few_undecided : (w : List ℕ) → answer_of strict w ≡ Err DecodeError.ExhaustedInput → length w < 15
   few_undecided w h = let enough = laws.enough w in grind arith
 
-  decoded_fault : (w : List ℕ) → answer_of strict w ≡ Err ExhaustedInput → decoded_of strict w Fault ≡ Ended Fault
+  decoded_fault : (w : List ℕ) → answer_of strict w ≡ Err DecodeError.ExhaustedInput → decoded_of strict w Ending.Fault ≡ Decoded.Ended Ending.Fault
   unfolding decoded_of
-  decoded_fault [] h = refl
-  decoded_fault (x ∷ w) h = rw h refl
+  decoded_fault w h = grind arith
 
   -- With a failure next, nothing but that is listed.
-  undecided : (text : ℕ → Instruction → List ℕ → List ℕ) (n : ℕ) (w : List ℕ) (t : Text) → answer_of strict w ≡ Err ExhaustedInput → NeedsMore 1 t → listing_at strict text n (with_bytes w t) ≡ at_end Fault
-  undecided text n w t h needs = rw (no_bytes t.image needs.1, needs.0, append-nil) (listing-ended strict text n w Fault Fault (decoded_fault w h))
-
-  pub entry_undecided : (text : ℕ → Instruction → List ℕ → List ℕ) (ended : Option Ending) (n : ℕ) (written w : List ℕ) (p r : ℕ) → ended ≡ None → answer_of strict w ≡ Err ExhaustedInput →
+  pub entry_undecided : (text : ℕ → Instruction → List ℕ → List ℕ) (ended : Option Ending) (n : ℕ) (written w : List ℕ) (p r : ℕ) → ended ≡ None → answer_of strict w ≡ Err DecodeError.ExhaustedInput →
       IsEntry (listing_at strict text) (listing_at strict text) entry.Undecided n written ended w p r
-  entry_undecided text ended n written w p r is h = (is, few_undecided w h, λ t needs. undecided text n w t h needs)
+  entry_undecided text ended n written w p r is h = (is, few_undecided w h, λ t needs. rw (no_bytes t.image needs.1, needs.0, append-nil) (listing-ended strict text n w Ending.Fault Ending.Fault (decoded_fault w h)))

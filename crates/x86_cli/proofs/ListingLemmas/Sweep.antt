@@ -3,61 +3,42 @@ use Rattle.std.proofs.Common.{Bool, ◌≡◌, ◌≢◌, ℕ, ◌+◌, ◌<◌,
 use Rattle.std.proofs.lemmas.List.{drop-append-le}
 use Rattle.x86_decode.specs.declared.instructions.Instruction.{Instruction}
 use Rattle.x86_fields.specs.declared.errors.DecodeError.{DecodeError}
-use Rattle.x86_fields.specs.declared.errors.DecodeError.TheVariants.{ExhaustedInput}
 use Rattle.x86_decode.specs.Answer.{answer_of}
 use Rattle.x86_cli.specs.DecoderLaws.{DecoderLaws}
 use Rattle.x86_streams.specs.declared.text.reader.Ending.{Ending}
-use Rattle.x86_streams.specs.declared.text.reader.Ending.TheVariants.{Fault}
 use Rattle.x86_streams.specs.Outside.Stop.{Stop}
 use Rattle.x86_streams.specs.Text.{text_at}
 use Rattle.x86_cli.specs.Listings.Line.{line}
 use Rattle.x86_cli.specs.Listings.Listing.{with_lines, at_end}
 use Rattle.x86_streams.specs.Text.Window.{rest_of}
+use Rattle.x86_layout.specs.declared.sweeps.cuts.Cut.{Cut}
 use Rattle.x86_layout.specs.Sweeps.Cuts.{cut_length, cut_at, cuts_from}
 use Rattle.x86_layout.proofs.SweepLemmas.Place.{first_and_rest, none_left}
 use Rattle.x86_cli.specs.Listings.Entry.{IsEntry}
 use Rattle.x86_cli.specs.Text.Window.{IsAtCut}
 use Rattle.x86_cli.specs.declared.text.window.AtRefusal.TheVariants as refusal
 use Rattle.x86_cli.specs.declared.listings.listing.Entry.{Entry}
-use Rattle.x86_cli.specs.declared.listings.listing.Entry.TheVariants as entry
 use Rattle.x86_cli.specs.Listings.Sweep.{cut_text, cut_line, sweep_at, before_open, decided, known_sweep_at}
 use Rattle.x86_cli.proofs.ListingLemmas.NextEntry.{no_bytes, few_undecided}
 use Rattle.x86_cli.proofs.ListingLemmas.Live.{with-with}
 
 module _ (strict : Bool) where
-  sweep-cut : (n len : ℕ) (xs : List ℕ) (e : Ending) (a : Result Instruction DecodeError) → answer_of strict xs ≡ a → cut_length a ≡ len → 0 < len → len ≤ length xs →
-      sweep_at strict n (record { image = xs; ending = e }) ≡ with_lines (line (cut_text n a) ∷ []) (sweep_at strict (n + len) (record { image = drop len xs; ending = e }))
-  sweep-cut n len xs e a h same some le = grind (arith, first_and_rest strict len n xs, with-with (cut_line (cut_at strict n xs) ∷ []) (map cut_line (cuts_from strict (n + len) (drop len xs))) (at_end e))
-
-  -- one cut of the rest
-  rest_cut : (ended : Option Ending) (n : ℕ) (w : List ℕ) (p r : ℕ) (a : Result Instruction DecodeError) → 0 < cut_length a → cut_length a ≤ length w → (xs : List ℕ) (stop : Stop) →
-      answer_of strict (rest_of ended w p r xs stop).image ≡ a →
-      sweep_at strict n (rest_of ended w p r xs stop) ≡ with_lines (line (cut_text n a) ∷ []) (sweep_at strict (n + cut_length a) (rest_of ended (drop (cut_length a) w) p r xs stop))
-  rest_cut ended n w p r a some fits xs stop answers =
-      let cut = sweep-cut n (cut_length a) (rest_of ended w p r xs stop).image (rest_of ended w p r xs stop).ending a answers refl some in
-      grind (arith, fits, drop-append-le (cut_length a) w, length-append {A = ℕ})
-
   -- a cut that more bytes don't change
-  pub before_sure : (a : Result Instruction DecodeError) (lines : List (List ℕ)) → a ≢ Err ExhaustedInput → before_open a lines ≡ lines
+  pub before_sure : (a : Result Instruction DecodeError) (lines : List (List ℕ)) → a ≢ Err DecodeError.ExhaustedInput → before_open a lines ≡ lines
   before_sure a lines ne = grind arith
 
-  known-cut : (n len : ℕ) (xs : List ℕ) (e : Ending) (a : Result Instruction DecodeError) → answer_of strict xs ≡ a → a ≢ Err ExhaustedInput → cut_length a ≡ len → 0 < len → len ≤ length xs →
-      known_sweep_at strict n (record { image = xs; ending = e }) ≡ with_lines (line (cut_text n a) ∷ []) (known_sweep_at strict (n + len) (record { image = drop len xs; ending = e }))
-  known-cut n len xs e a h ne same some le = grind (arith, first_and_rest strict len n xs, before_sure a, with-with (cut_line (cut_at strict n xs) ∷ []) (decided (cuts_from strict (n + len) (drop len xs))) (at_end e))
-
-  rest_known : (n : ℕ) (w : List ℕ) (p r : ℕ) (a : Result Instruction DecodeError) → a ≢ Err ExhaustedInput → 0 < cut_length a → cut_length a ≤ length w → (xs : List ℕ) (stop : Stop) →
-      answer_of strict (rest_of None w p r xs stop).image ≡ a →
-      known_sweep_at strict n (rest_of None w p r xs stop) ≡ with_lines (line (cut_text n a) ∷ []) (known_sweep_at strict (n + cut_length a) (rest_of None (drop (cut_length a) w) p r xs stop))
-  rest_known n w p r a ne some fits xs stop answers =
-      let cut = known-cut n (cut_length a) (rest_of None w p r xs stop).image (rest_of None w p r xs stop).ending a answers ne refl some in
-      grind (arith, fits, drop-append-le (cut_length a) w, length-append {A = ℕ})
+  -- One cut of the rest, where the lines of cuts that begin with it are its line and those of the others.
+  rest_cut : (lines_of : List Cut → List (List ℕ)) (ended : Option Ending) (n : ℕ) (w : List ℕ) (p r : ℕ) (a : Result Instruction DecodeError) → ((c : Cut) (cs : List Cut) → c.answer ≡ a → lines_of (c ∷ cs) ≡ cut_line c ∷ lines_of cs) →
+      0 < cut_length a → cut_length a ≤ length w → (xs : List ℕ) (stop : Stop) → answer_of strict (rest_of ended w p r xs stop).image ≡ a →
+      with_lines (lines_of (cuts_from strict n (rest_of ended w p r xs stop).image)) (at_end (rest_of ended w p r xs stop).ending) ≡ with_lines (line (cut_text n a) ∷ []) (with_lines (lines_of (cuts_from strict (n + cut_length a) (rest_of ended (drop (cut_length a) w) p r xs stop).image)) (at_end (rest_of ended (drop (cut_length a) w) p r xs stop).ending))
+  rest_cut lines_of ended n w p r a first some fits xs stop answers =
+      grind (arith, first (cut_at strict n (rest_of ended w p r xs stop).image), first_and_rest strict (cut_length a) n (rest_of ended w p r xs stop).image, drop-append-le (cut_length a) w, length-append {A = ℕ}, with-with (line (cut_text n a) ∷ []))
 
   -- Where the first cut is open, nothing is known but that a failure is next.
-  open_cut : (n : ℕ) (w : List ℕ) → answer_of strict w ≡ Err ExhaustedInput → with_lines (decided (cuts_from strict n w)) (at_end Fault) ≡ at_end Fault
-  open_cut n [] h = rw (none_left strict n [] refl) refl
-  open_cut n (x ∷ w) h = rw (first_and_rest strict 1 n (x ∷ w) (ap cut_length h) (omega arith) (omega arith), h) refl
+  open_cut : (n : ℕ) (w : List ℕ) → answer_of strict w ≡ Err DecodeError.ExhaustedInput → with_lines (decided (cuts_from strict n w)) (at_end Ending.Fault) ≡ at_end Ending.Fault
+  open_cut n w h = grind (arith, none_left strict n w, first_and_rest strict 1 n w)
 
-  pub sweep_end : (ended : Option Ending) (n : ℕ) (text w : List ℕ) (p r : ℕ) (e : Ending) → ended ≡ Some e → length w ≡ 0 → IsEntry (sweep_at strict) (known_sweep_at strict) (entry.Ended e) n text ended w p r
+  pub sweep_end : (ended : Option Ending) (n : ℕ) (text w : List ℕ) (p r : ℕ) (e : Ending) → ended ≡ Some e → length w ≡ 0 → IsEntry (sweep_at strict) (known_sweep_at strict) (Entry.Ended e) n text ended w p r
   sweep_end ended n text w p r e is none xs stop = rw is (ap (λ cs. with_lines (map cut_line cs) (at_end e)) (none_left strict n w none))
 
 -- what a window that isn't empty shows
@@ -66,29 +47,28 @@ module _ (strict : Bool) (laws : DecoderLaws strict) where
   answer_shows a w h some = let l = laws.lengths w in grind arith
 
   -- a window whose answer stays, or after which nothing comes
-  pub same_answer : (ended : Option Ending) (w : List ℕ) (p r : ℕ) → (ended ≡ None → answer_of strict w ≢ Err ExhaustedInput) → (xs : List ℕ) (stop : Stop) →
+  pub same_answer : (ended : Option Ending) (w : List ℕ) (p r : ℕ) → (ended ≡ None → answer_of strict w ≢ Err DecodeError.ExhaustedInput) → (xs : List ℕ) (stop : Stop) →
       answer_of strict (rest_of ended w p r xs stop).image ≡ answer_of strict w
   same_answer None w p r sure xs stop = laws.stay w (text_at p r xs stop).image (sure refl)
   same_answer (Some e) w p r sure xs stop = refl
 
-  pub sweep_line : (ended : Option Ending) (n : ℕ) (w s : List ℕ) (p r : ℕ) (a : Result Instruction DecodeError) → (ended ≡ None → a ≢ Err ExhaustedInput) → 0 < length w →
-      a ≡ answer_of strict s → s ≡ w → (e : Entry) (text : List ℕ) → e ≡ entry.Line (cut_length a) → text ≡ cut_text n a → IsEntry (sweep_at strict) (known_sweep_at strict) e n text ended w p r
+  pub sweep_line : (ended : Option Ending) (n : ℕ) (w s : List ℕ) (p r : ℕ) (a : Result Instruction DecodeError) → (ended ≡ None → a ≢ Err DecodeError.ExhaustedInput) → 0 < length w →
+      a ≡ answer_of strict s → s ≡ w → (e : Entry) (text : List ℕ) → e ≡ Entry.Line (cut_length a) → text ≡ cut_text n a → IsEntry (sweep_at strict) (known_sweep_at strict) e n text ended w p r
   sweep_line ended n w s p r a sure some answer same e text entry is =
       let here : answer_of strict w ≡ a = sym (answer ∙ ap (answer_of strict) same) in
       let h = answer_shows a w here some in
       let stays : (xs : List ℕ) (stop : Stop) → answer_of strict (rest_of ended w p r xs stop).image ≡ a = λ xs stop. same_answer ended w p r (λ o f. sure o (sym here ∙ f)) xs stop ∙ here in
-      rw (entry, is) (h.0, h.1, (λ xs stop. rest_cut strict ended n w p r a h.0 h.1 xs stop (stays xs stop)), λ o xs stop. rw o (rest_known strict n w p r a (sure o) h.0 h.1 xs stop (rw o at (stays xs stop))))
+      rw (entry, is) (h.0, h.1, (λ xs stop. rest_cut strict (map cut_line) ended n w p r a (λ c cs is. refl) h.0 h.1 xs stop (stays xs stop)), λ o xs stop. rest_cut strict decided ended n w p r a (λ c cs is. before_sure strict c.answer _ (λ f. sure o (sym is ∙ f))) h.0 h.1 xs stop (stays xs stop))
 
-  pub some_bytes : (w s : List ℕ) (a : Result Instruction DecodeError) → a ≢ Err ExhaustedInput → a ≡ answer_of strict s → s ≡ w → 0 < length w
+  pub some_bytes : (w s : List ℕ) (a : Result Instruction DecodeError) → a ≢ Err DecodeError.ExhaustedInput → a ≡ answer_of strict s → s ≡ w → 0 < length w
   some_bytes [] s a sure answer same = absurd (sure (answer ∙ ap (answer_of strict) same ∙ laws.empty))
   some_bytes (x ∷ w) s a sure answer same = omega arith
 
   pub some_refused : (w s : List ℕ) (error : DecodeError) (ended : Option Ending) → Err error ≡ answer_of strict s → s ≡ w → IsAtCut refusal.Refused error ended w → 0 < length w
-  some_refused w s error None answer same h = some_bytes w s (Err error) (λ f. h.0 refl (cc)) answer same
-  some_refused w s error (Some e) answer same h = h.1 e refl
+  some_refused w s error ended answer same h = grind (arith, some_bytes w s (Err error))
 
-  pub sweep_undecided : (ended : Option Ending) (n : ℕ) (text w s : List ℕ) (p r : ℕ) (a : Result Instruction DecodeError) → ended ≡ None → a ≡ Err ExhaustedInput → a ≡ answer_of strict s → s ≡ w →
-      IsEntry (sweep_at strict) (known_sweep_at strict) entry.Undecided n text ended w p r
+  pub sweep_undecided : (ended : Option Ending) (n : ℕ) (text w s : List ℕ) (p r : ℕ) (a : Result Instruction DecodeError) → ended ≡ None → a ≡ Err DecodeError.ExhaustedInput → a ≡ answer_of strict s → s ≡ w →
+      IsEntry (sweep_at strict) (known_sweep_at strict) Entry.Undecided n text ended w p r
   sweep_undecided ended n text w s p r a is more answer same =
-      let here : answer_of strict w ≡ Err ExhaustedInput = sym (answer ∙ ap (answer_of strict) same) ∙ more in
+      let here : answer_of strict w ≡ Err DecodeError.ExhaustedInput = sym (answer ∙ ap (answer_of strict) same) ∙ more in
       (is, few_undecided strict laws w here, λ t needs. rw (no_bytes t.image needs.1, needs.0, append-nil) (open_cut strict n w here))

@@ -9,7 +9,6 @@ use Rattle.x86_cli.specs.declared.listings.status.Status.TheVariants.{Done}
 use Rattle.x86_streams.specs.Text.{Text}
 use Rattle.x86_cli.specs.Commands.Request.{listing_for}
 use Rattle.x86_cli.specs.declared.commands.command.Command.{Command}
-use Rattle.x86_cli.specs.declared.commands.command.Command.TheVariants.{List as Listed, Sweep as Swept, Targets as Targeted, Fields as Fielded, Tighten as Tightened}
 
 -- the bytes are one instruction, whole
 pub record IsOneInstruction (strict : Bool) (bytes : List ℕ) : Type 0 where
@@ -29,11 +28,10 @@ pub record IsSequenceOfSentences (strict : Bool) (image : List ℕ) : Type 0 whe
 
 -- The command goes through the image to its end: a listing where that is a sequence of sentences, a sweep always.
 abbrev pub GoesThrough : Command → List ℕ → Type 0
-GoesThrough (Listed strict) image = IsSequenceOfSentences strict image
-GoesThrough Fielded image = IsSequenceOfSentences false image
-GoesThrough Tightened image = IsSequenceOfSentences false image
-GoesThrough Swept image = ⊤
-GoesThrough Targeted image = ⊤
+GoesThrough Command.Sweep image = ⊤
+GoesThrough Command.Targets image = ⊤
+GoesThrough (Command.List strict) image = IsSequenceOfSentences strict image
+GoesThrough c image = IsSequenceOfSentences false image
 
 -- A command that goes through the image of a clean text is done at its end.
 abbrev pub CompletesTexts : Type 0

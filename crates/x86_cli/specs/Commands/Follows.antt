@@ -6,12 +6,11 @@ use Rattle.x86_cli.specs.declared.commands.command.Command.{Command}
 use Rattle.x86_streams.specs.declared.text.reader.Ending.TheVariants.{Clean}
 use Rattle.x86_streams.specs.Outside.Stop.{End}
 use Rattle.x86_cli.specs.declared.listings.status.Status.{Status}
-use Rattle.x86_cli.specs.declared.listings.status.Status.TheVariants.{Done, ReadFault}
 use Rattle.x86_streams.specs.Outside.FaultCounts.{Rose}
 use Rattle.x86_streams.specs.Text.{text_of}
-use Rattle.x86_cli.specs.Commands.Request.{max_of}
+use Rattle.x86_cli.specs.Commands.Request.{full_listing, max_of, taken_listing}
 use Rattle.x86_cli.specs.Commands.Complete.{GoesThrough}
-use Rattle.x86_cli.specs.Commands.Says.{Streams, full_listing, taken_listing}
+use Rattle.x86_cli.specs.Commands.Says.{Streams}
 
 -- Neither count rose.
 abbrev pub IsSound : Streams → Streams → Type 0
@@ -24,12 +23,12 @@ IsExact result c old new =
 
 -- A read fault comes only where the count rose, and the listing of the bytes taken reaches it.
 abbrev pub HasReadFault : Status → Command → Streams → Streams → Type 0
-HasReadFault result c old new = result ≡ ReadFault → Rose old.source_faults new.source_faults
-    × ((taken : List ℕ) × Consumes old.left new.left taken × ((taken_listing c taken).status ≡ ReadFault))
+HasReadFault result c old new = result ≡ Status.ReadFault → Rose old.source_faults new.source_faults
+    × ((taken : List ℕ) × Consumes old.left new.left taken × ((taken_listing c taken).status ≡ Status.ReadFault))
 
 -- Where the text is clean, the command goes through its image, and neither count rose, the run is done and has
 -- written all.
 abbrev pub Completes : Status → Command → Streams → Streams → Type 0
 Completes result c old new =
     IfSome old.left (λ b. (text_of (max_of c) b End).ending ≡ Clean → GoesThrough c (text_of (max_of c) b End).image → IsSound old new →
-    (result ≡ Done) × Appends old.written new.written (concat (full_listing c b).lines))
+    (result ≡ Status.Done) × Appends old.written new.written (concat (full_listing c b).lines))

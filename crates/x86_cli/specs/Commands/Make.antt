@@ -2,13 +2,11 @@
 use Rattle.std.specs.Prelude.{ℕ, zero, suc, ◌+◌, ◌/◌, ◌%◌, ◌==◌, ◌||◌, Bool, true, false, if◌then◌else◌, List, [], ◌∷◌, ◌++◌, length, take, Result, Ok, Err, Some, None, option_to_list, codes, decimal}
 use Rattle.std.specs.Int.{w32, to_le_bytes}
 use Rattle.x86_regs.specs.declared.RegisterClass.{RegisterClass}
-use Rattle.x86_regs.specs.declared.RegisterClass.TheVariants.{RIP}
 use Rattle.x86_regs.specs.Register.{class}
 use Rattle.x86_fields.specs.declared.errors.DecodeError.{DecodeError}
 use Rattle.x86_fields.specs.ModRM.{rm_field}
 use Rattle.x86_fields.specs.Raw.{displacement_width}
 use Rattle.x86_operands.specs.declared.operands.Operand.{Operand}
-use Rattle.x86_operands.specs.declared.operands.Operand.TheVariants as operand
 use Rattle.x86_decode.specs.declared.instructions.Instruction.{Instruction}
 use Rattle.x86_decode.specs.Instruction.{operand_at}
 use Rattle.x86_decode.specs.Answer.{answer_of}
@@ -28,18 +26,18 @@ generate i =
 
 -- what is counted of an answer
 abbrev pub is_rip : RegisterClass → Bool
-is_rip RIP = true
+is_rip RegisterClass.RIP = true
 is_rip c = false
 
 abbrev pub is_at_rip : Operand → Bool
-is_at_rip (operand.MemDeref base) = is_rip (class base)
-is_at_rip (operand.Disp base d) = is_rip (class base)
-is_at_rip (operand.MemBaseIndexScale base i s) = is_rip (class base)
-is_at_rip (operand.MemBaseIndexScaleDisp base i s d) = is_rip (class base)
+is_at_rip (Operand.MemDeref base) = is_rip (class base)
+is_at_rip (Operand.Disp base d) = is_rip (class base)
+is_at_rip (Operand.MemBaseIndexScale base i s) = is_rip (class base)
+is_at_rip (Operand.MemBaseIndexScaleDisp base i s d) = is_rip (class base)
 is_at_rip op = false
 
 abbrev pub is_absolute : Operand → Bool
-is_absolute (operand.AbsoluteU32 n) = true
+is_absolute (Operand.AbsoluteU32 n) = true
 is_absolute op = false
 
 -- whether one of the operands of an instruction passes a test

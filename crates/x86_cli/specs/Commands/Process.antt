@@ -2,15 +2,14 @@
 use Rattle.std.specs.Prelude.{◌≡◌, ℕ, Bool, false, List, [], Option, Some, None, Result, OnOk, ⊤, codes}
 use Rattle.std.specs.declared.io.Error.{Error}
 use Rattle.x86_cli.specs.declared.listings.status.Status.{Status}
-use Rattle.x86_cli.specs.declared.listings.status.Status.TheVariants.{Usage, WriteFault}
 use Rattle.x86_streams.specs.declared.outside.sending.WriteFailed.{WriteFailed}
 use Rattle.x86_cli.specs.Listings.Line.{line}
 use Rattle.x86_streams.specs.Outside.Chain.{Sends}
 
 -- what is said at a status: where the words request nothing, and where the output failed, unless nobody reads it
 abbrev pub said_at : Status → Bool → Option (List ℕ)
-said_at Usage gone = Some (line (codes "usage: list [--strict] | make N | fields | tighten | sweep | targets"))
-said_at WriteFault false = Some (line (codes "write fault"))
+said_at Status.Usage gone = Some (line (codes "usage: list [--strict] | make N | fields | tighten | sweep | targets"))
+said_at Status.WriteFault false = Some (line (codes "write fault"))
 said_at status gone = None
 
 -- The writer took the line that is said, or where a write failed the beginning of it. Where none is, it is left.

@@ -4,21 +4,18 @@ use Rattle.std.specs.Io.{StartsWith}
 use Rattle.std.specs.Io.KnownBytes.{Appends}
 use Rattle.x86_cli.specs.declared.commands.command.Command.{Command}
 use Rattle.x86_cli.specs.declared.listings.status.Status.{Status}
-use Rattle.x86_cli.specs.declared.listings.status.Status.TheVariants.{Done, Usage, Refused, BadText, ReadFault, WriteFault, TooLarge}
 use Rattle.x86_streams.specs.Outside.Stop.{Stop, End, Failed}
 use Rattle.x86_cli.specs.Listings.Listing.{Listing}
 use Rattle.x86_cli.specs.Listings.Performs.{IsPrinted}
-use Rattle.x86_cli.specs.Commands.Says.{full_listing, taken_listing}
+use Rattle.x86_cli.specs.Commands.Request.{full_listing, taken_listing}
 
 -- How the reads ended, by the status.
 abbrev pub EndsAt : Status → Option Stop → Type 0
-EndsAt Done stop = stop ≡ Some End
-EndsAt ReadFault stop = stop ≡ Some Failed
-EndsAt BadText stop = stop ≢ Some Failed
-EndsAt TooLarge stop = stop ≢ Some Failed
-EndsAt Refused stop = stop ≢ Some Failed
-EndsAt WriteFault stop = ⊤
-EndsAt Usage stop = ⊥
+EndsAt Status.Done stop = stop ≡ Some End
+EndsAt Status.ReadFault stop = stop ≡ Some Failed
+EndsAt Status.WriteFault stop = ⊤
+EndsAt Status.Usage stop = ⊥
+EndsAt status stop = stop ≢ Some Failed
 
 -- ---- what that says where the bytes that the reader has left and those that the writer has are known
 
@@ -35,6 +32,6 @@ abbrev pub HasOfAll : Status → Command → Option (List ℕ) → Option (List 
 HasOfAll status c left old new = IfSome left (λ b. Has status (full_listing c b) old new)
 
 abbrev pub Leaves : Status → Command → Option (List ℕ) → Option (List ℕ) → Option (List ℕ) → Type 0
-Leaves ReadFault c left old new = HasOfTaken ReadFault c left old new
-Leaves WriteFault c left old new = HasOfAll WriteFault c left old new ⊎ HasOfTaken WriteFault c left old new
+Leaves Status.ReadFault c left old new = HasOfTaken Status.ReadFault c left old new
+Leaves Status.WriteFault c left old new = HasOfAll Status.WriteFault c left old new ⊎ HasOfTaken Status.WriteFault c left old new
 Leaves status c left old new = HasOfAll status c left old new

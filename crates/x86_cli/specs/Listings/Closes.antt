@@ -5,13 +5,12 @@ use Rattle.std.specs.Io.{StartsWith}
 use Rattle.std.specs.declared.io.Error.{Error}
 use Rattle.x86_streams.specs.Outside.Chain.{Call, EndsIn, Fails, Follow, IsFlush, IsGone, WriterCalls, pieces, not_taken, sent}
 use Rattle.x86_cli.specs.declared.listings.status.Finished.{Finished}
-use Rattle.x86_cli.specs.declared.listings.status.Status.TheVariants.{WriteFault}
 use Rattle.x86_cli.specs.Listings.Listing.{Listing}
 use Rattle.x86_cli.specs.declared.listings.status.Status.{Status}
 
 -- The last call by the status: one that failed at a write fault, and else a flush.
 abbrev pub IsLastAt : Status → Call → Type 0
-IsLastAt WriteFault c = Fails c
+IsLastAt Status.WriteFault c = Fails c
 IsLastAt status c = IsFlush c
 
 -- The writer took what was held and then these lines, and was flushed; or a call failed, and it took the beginning.
@@ -25,5 +24,5 @@ pub record Closes {W : Type 0} (writes : W → List ℕ → Result ℕ Error →
   pub unsent : List ℕ
   pub whole : held ++ concat last.lines ≡ sent calls ++ unsent
   pub next : StartsWith unsent (not_taken calls)
-  pub all : outcome.status ≢ WriteFault → (unsent ≡ []) × (outcome.status ≡ last.status)
+  pub all : outcome.status ≢ Status.WriteFault → (unsent ≡ []) × (outcome.status ≡ last.status)
   pub each : gathers ≡ false → pieces calls ≡ last.lines

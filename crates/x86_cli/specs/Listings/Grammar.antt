@@ -2,20 +2,18 @@
 use Rattle.std.specs.Prelude.{◌≡◌, ℕ, ◌+◌, Bool, List, [], ◌∷◌, ◌++◌, length, Err}
 use Rattle.std.specs.List.{concat}
 use Rattle.x86_fields.specs.declared.errors.DecodeError.{DecodeError}
-use Rattle.x86_fields.specs.declared.errors.DecodeError.TheVariants.{ExhaustedInput}
 use Rattle.x86_decode.specs.declared.instructions.Instruction.{Instruction}
 use Rattle.x86_decode.specs.Grammar.{IsSentence, IsAnswer}
 use Rattle.x86_decode.specs.Head.{Rows}
 use Rattle.x86_streams.specs.declared.text.reader.Ending.{Ending}
-use Rattle.x86_streams.specs.declared.text.reader.Ending.TheVariants.{Clean}
 use Rattle.x86_cli.specs.Listings.Line.{line}
 use Rattle.x86_cli.specs.Listings.Listing.{Listing, with_lines, at_end, at_refusal}
 
 -- A refusal ends a listing. More bytes could complete an instruction that is cut off: after it the end of the text is
 -- said, unless that is clean.
 abbrev pub at_error : ℕ → DecodeError → Ending → Listing
-at_error place ExhaustedInput Clean = at_refusal place ExhaustedInput
-at_error place ExhaustedInput ending = at_end ending
+at_error place DecodeError.ExhaustedInput Ending.Clean = at_refusal place DecodeError.ExhaustedInput
+at_error place DecodeError.ExhaustedInput ending = at_end ending
 at_error place error ending = at_refusal place error
 
 module _ (rows : Rows) (strict : Bool) where

@@ -4,13 +4,12 @@ use Rattle.std.specs.List.{concat}
 use Rattle.std.specs.Io.{StartsWith}
 use Rattle.std.specs.declared.io.Error.{Error}
 use Rattle.x86_streams.specs.declared.text.reader.Ending.TheVariants.{Fault}
-use Rattle.x86_streams.specs.Outside.Chain.{Call, Read, Write, Flush, Calls, EndsIn, Fails, IsFlush, IsGone, pieces, received, not_taken, sent, stop_of}
+use Rattle.x86_streams.specs.Outside.Chain.{Call, Read, Calls, EndsIn, Fails, IsFlush, IsGone, pieces, received, not_taken, sent, stop_of}
 use Rattle.x86_streams.specs.Outside.Stop.{Stop, Failed}
 use Rattle.x86_streams.specs.Text.{Text, text_at}
 use Rattle.x86_streams.specs.Text.Reading.{MayCome}
 use Rattle.x86_cli.specs.declared.listings.status.Finished.{Finished}
 use Rattle.x86_cli.specs.declared.listings.status.Status.{Status}
-use Rattle.x86_cli.specs.declared.listings.status.Status.TheVariants.{Usage, WriteFault}
 use Rattle.x86_cli.specs.Listings.Listing.{Listing, with_lines, at_end}
 
 -- What is listed of a text, what of that is known whatever follows the text, and the most bytes of it that are read.
@@ -26,8 +25,7 @@ abbrev pub ByRule : (known : Text → Listing) → (List ℕ → Stop → Text) 
 ByRule known text [] = ⊤
 ByRule known text (Read buffer answer ∷ cs) = ByRule known text cs × (0 < length buffer) × (stop_of cs ≡ None)
     × EndsIn IsFlush cs × ((lines : List (List ℕ)) × (known (text (received cs) Failed) ≡ with_lines lines (at_end Fault)) × (concat lines ≡ sent cs))
-ByRule known text (Write bytes answer ∷ cs) = ByRule known text cs × (EndsIn Fails cs → ⊥)
-ByRule known text (Flush answer ∷ cs) = ByRule known text cs × (EndsIn Fails cs → ⊥)
+ByRule known text (c ∷ cs) = ByRule known text cs × (EndsIn Fails cs → ⊥)
 
 -- These bytes are a prefix of the listing, and the following ones come after them. They are all of it unless a call failed;
 -- then the listing ends with this status.
@@ -35,7 +33,7 @@ pub record IsPrinted (status : Status) (bytes following : List ℕ) (l : Listing
   pub unsent : List ℕ
   pub whole : concat l.lines ≡ bytes ++ unsent
   pub next : StartsWith unsent following
-  pub all : status ≢ WriteFault → (unsent ≡ []) × (status ≡ l.status)
+  pub all : status ≢ Status.WriteFault → (unsent ≡ []) × (status ≡ l.status)
 
 -- The program did its task: its calls in one order, by the rule of reading. The writer took the listing of every text
 -- that begins with what was read, and a write that failed was to take what comes next of it. Where
@@ -45,8 +43,8 @@ pub record Performs {R W : Type 0} (reads : R → List ℕ → Result ℕ Error 
   pub calls : List Call
   pub did : Calls reads writes flushes calls r r' w w'
   pub rule : ByRule task.known (text_at 0 task.max) calls
-  pub flushed : outcome.status ≢ WriteFault → EndsIn IsFlush calls
-  pub failed : outcome.status ≡ WriteFault → EndsIn Fails calls
+  pub flushed : outcome.status ≢ Status.WriteFault → EndsIn IsFlush calls
+  pub failed : outcome.status ≡ Status.WriteFault → EndsIn Fails calls
   pub gone : IsTrue outcome.gone ↔ EndsIn IsGone calls
   pub lists : (xs : List ℕ) (stop : Stop) → MayCome (stop_of calls) xs stop →
       IsPrinted outcome.status (sent calls) (not_taken calls) (task.lists (text_at 0 task.max (received calls ++ xs) stop))
@@ -55,4 +53,4 @@ pub record Performs {R W : Type 0} (reads : R → List ℕ → Result ℕ Error 
 
 -- A listing ends neither in a mistake of usage nor in a failed write.
 abbrev pub IsEnd : Status → Type 0
-IsEnd status = (status ≢ Usage) × (status ≢ WriteFault)
+IsEnd status = (status ≢ Status.Usage) × (status ≢ Status.WriteFault)

@@ -2,7 +2,6 @@
 use Rattle.std.specs.Prelude.{Bool, ℕ, List, [], ◌∷◌, map, Result, Ok, Err}
 use Rattle.x86_decode.specs.declared.instructions.Instruction.{Instruction}
 use Rattle.x86_fields.specs.declared.errors.DecodeError.{DecodeError}
-use Rattle.x86_fields.specs.declared.errors.DecodeError.TheVariants.{ExhaustedInput}
 use Rattle.x86_layout.specs.declared.sweeps.cuts.Cut.{Cut}
 use Rattle.x86_layout.specs.Sweeps.Cuts.{cuts_from}
 use Rattle.x86_streams.specs.Text.{Text}
@@ -26,9 +25,8 @@ sweep_at strict place t = with_lines (map cut_line (cuts_from strict place t.ima
 
 -- the lines of cuts up to the first that more bytes may change
 abbrev pub before_open : Result Instruction DecodeError → List (List ℕ) → List (List ℕ)
-before_open (Ok i) lines = lines
-before_open (Err ExhaustedInput) lines = []
-before_open (Err error) lines = lines
+before_open (Err DecodeError.ExhaustedInput) lines = []
+before_open answer lines = lines
 
 abbrev pub decided : List Cut → List (List ℕ)
 decided [] = []

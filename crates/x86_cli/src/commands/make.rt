@@ -1,11 +1,10 @@
 //! Encodings that the program makes by itself, decodes and counts.
 
-ghost use Rattle.std.specs.Prelude.{[], ◌≡◌, ◌↔◌, IsTrue, ◌+◌, ◌≤◌, ◌++◌, ℕ, IfSome, Some, None, Ok, length, codes, decimal};
+ghost use Rattle.std.specs.Prelude.{[], ◌≡◌, ◌↔◌, IsTrue, ◌+◌, ◌≤◌, ◌++◌, ℕ, IfSome, Some, None, codes, decimal};
 ghost use Rattle.arrayvec.specs.ArrayVec.{array_vec_len};
 ghost use Rattle.x86_decode.specs.Instruction.{holding};
 ghost use Rattle.x86_text.specs.Widths.{line_width};
 ghost use Rattle.x86_cli.specs.Listings.Closes.{Closes};
-ghost use Rattle.x86_layout.specs.Parts.Heads.{one_if};
 ghost use Rattle.x86_cli.specs.Commands.Make.{generate, is_at_rip, is_absolute, answer_has, tally_of, made_listing};
 
 use crate::listings::listing::put_last;
@@ -30,14 +29,6 @@ pub struct Tally {
     absolute: u64,
 }
 
-fn push(encoding: &mut ArrayVec<u8, 15>, bytes: &[u8])
-    requires { array_vec_len encoding.old + length bytes.now ≤ 15 }
-    ensures text { encoding.new.items ≡ encoding.old.items ++ bytes.now }
-    ensures len { array_vec_len encoding.new ≡ array_vec_len encoding.old + length bytes.now }
-{
-    let _ = encoding.try_extend_from_slice(bytes);
-}
-
 /// Encoding `i` of `make`: `ADD r32, m32` with ModRM `i` modulo `MEMORY_FORMS`.
 #[tactic(auto, unfolding(crate::specs::Commands::Make::generate))]
 pub fn generate(i: u32) -> ArrayVec<u8, 15>
@@ -50,15 +41,12 @@ pub fn generate(i: u32) -> ArrayVec<u8, 15>
         None
     };
     let mut encoding = ArrayVec::new();
-    push(&mut encoding, &[0x03, modrm]);
+    let _ = encoding.try_extend_from_slice(&[0x03, modrm]);
     if let Some(sib) = sib {
-        push(&mut encoding, &[sib]);
+        let _ = encoding.try_extend_from_slice(&[sib]);
     }
-    match displacement_width(modrm, sib) {
-        1 => push(&mut encoding, &[(i % 256) as u8]),
-        4 => push(&mut encoding, &i.to_le_bytes()),
-        _ => {}
-    }
+    let width = displacement_width(modrm, sib);
+    let _ = encoding.try_extend_from_slice(&i.to_le_bytes()[..width as usize]);
     encoding
 }
 
@@ -82,42 +70,24 @@ fn is_absolute(operand: Operand) -> bool
     matches!(operand, Operand::AbsoluteU32 { .. })
 }
 
-fn has_operand_at_rip(instruction: &Instruction) -> bool
-    ensures { result ≡ answer_has is_at_rip (Ok instruction.now) }
+fn has_operand_at_rip(inst: &Instruction, answer: Result<(), DecodeError>) -> bool
+    ensures { result ≡ answer_has is_at_rip (holding inst.now answer) }
 {
-    is_at_rip(instruction.operand(0))
-        || is_at_rip(instruction.operand(1))
-        || is_at_rip(instruction.operand(2))
-        || is_at_rip(instruction.operand(3))
+    answer.is_ok()
+        && (is_at_rip(inst.operand(0))
+            || is_at_rip(inst.operand(1))
+            || is_at_rip(inst.operand(2))
+            || is_at_rip(inst.operand(3)))
 }
 
-fn has_absolute_operand(instruction: &Instruction) -> bool
-    ensures { result ≡ answer_has is_absolute (Ok instruction.now) }
+fn has_absolute_operand(inst: &Instruction, answer: Result<(), DecodeError>) -> bool
+    ensures { result ≡ answer_has is_absolute (holding inst.now answer) }
 {
-    is_absolute(instruction.operand(0))
-        || is_absolute(instruction.operand(1))
-        || is_absolute(instruction.operand(2))
-        || is_absolute(instruction.operand(3))
-}
-
-fn one_at_rip(inst: &Instruction, answer: Result<(), DecodeError>) -> u64
-    ensures value { result ≡ one_if (answer_has is_at_rip (holding inst.now answer)) }
-    ensures small { result ≤ 1 }
-{
-    match answer {
-        Ok(()) => has_operand_at_rip(inst) as u64,
-        Err(_) => 0,
-    }
-}
-
-fn one_absolute(inst: &Instruction, answer: Result<(), DecodeError>) -> u64
-    ensures value { result ≡ one_if (answer_has is_absolute (holding inst.now answer)) }
-    ensures small { result ≤ 1 }
-{
-    match answer {
-        Ok(()) => has_absolute_operand(inst) as u64,
-        Err(_) => 0,
-    }
+    answer.is_ok()
+        && (is_absolute(inst.operand(0))
+            || is_absolute(inst.operand(1))
+            || is_absolute(inst.operand(2))
+            || is_absolute(inst.operand(3)))
 }
 
 /// Makes and decodes the first encodings.
@@ -134,8 +104,8 @@ fn tally_of(count: u32) -> Tally
         let encoding = generate(i);
         let answer = decoder.decode_slice_into(&mut inst, encoding.as_slice());
         bytes += encoding.len() as u64;
-        at_rip += one_at_rip(&inst, answer);
-        absolute += one_absolute(&inst, answer);
+        at_rip += has_operand_at_rip(&inst, answer) as u64;
+        absolute += has_absolute_operand(&inst, answer) as u64;
     }
     Tally {
         bytes,
@@ -176,13 +146,10 @@ pub fn count_from(argument: &str) -> Option<u32>
     ensures every { (n : ℕ) → 1 ≤ n → n ≤ 1000000 → argument.now ≡ decimal n → result ≡ Some n }
 {
     let count = argument.parse::<u32>().ok()?;
-    if count == 0 || count > MAKE_MAX {
-        return None;
-    }
-    if is_decimal(argument, count) {
-        Some(count)
-    } else {
+    if count == 0 || count > MAKE_MAX || !is_decimal(argument, count) {
         None
+    } else {
+        Some(count)
     }
 }
 
@@ -192,7 +159,7 @@ pub fn make<W, O: Output<W>>(count: u32, output: &O, writer: &mut W) -> Finished
         writer.old writer.new }
 {
     let tally = tally_of(count);
-    let mut line = tally_line(count, &tally);
+    let line = tally_line(count, &tally);
     let mut out = Gathered::new();
-    put_last(output, &mut out, writer, &mut line, Status::Done)
+    put_last(output, &mut out, writer, line, Status::Done)
 }

@@ -31,6 +31,7 @@ pub trait Program {
 impl Program for Request {
     ghost task = { λ s. task_of s };
 
+    #[tactic(auto, using(crate::proofs::CommandLemmas::Ends::task_ends))]
     fn run<R, W, O: Input<R> + Output<W>>(
         &self,
         outside: &O,
@@ -88,13 +89,9 @@ pub fn listed<R, W, O: Input<R> + Output<W>>(
 /// `TEXT_MAX` bytes of it (`TARGETS_MAX` for `targets`), and put its listing to the sink. `make`
 /// with a number from 1 to `MAKE_MAX` reads nothing and puts one line.
 ///
-/// - `Done`: the source was read to its end, but for `make`, and the whole listing was put.
-/// - `Usage`: the words request nothing. Nothing was read or put.
-/// - `Refused`: the whole listing was put; it ends in the line of a refusal. `sweep` and `targets` never end so.
-/// - `BadText`: the whole listing was put; its last line has the position of a byte that can't be where it is.
-/// - `ReadFault`: the source failed. The listing of the bytes taken before was put; its last line is `read fault`.
-/// - `WriteFault`: the sink failed at the last put. What was written is a prefix of the listing.
-/// - `TooLarge`: the whole listing was put, of the bytes that may be read; its last line is `text too long`.
+/// The statuses are those of `listed`, where the source is the reader and a put is a write. The last line of the listing is
+/// a refusal at `Refused`, where `sweep` and `targets` never end, has the position of a byte that can't be where it is at
+/// `BadText`, and is `read fault` at `ReadFault` and `text too long` at `TooLarge`.
 ///
 /// `ran` names each call, for every source and sink: the source is called only once every line that is decided was put.
 /// The laws of this crate say what follows: `headline` where bytes are known, `made` of `make`, `ends`, `read_faults`

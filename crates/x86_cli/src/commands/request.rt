@@ -39,9 +39,6 @@ pub fn request_of(words: &[String]) -> Option<Request>
 {
     match command_of(words) {
         Some(command) => Some(Request::Reads(command)),
-        None => match made_from(words) {
-            Some(count) => Some(Request::Makes(count)),
-            None => None,
-        },
+        None => Some(Request::Makes(made_from(words)?)),
     }
 }

@@ -1,6 +1,6 @@
 //! The lines of a listing.
 
-ghost use Rattle.std.specs.Prelude.{Bool, ℕ, List, Ok, ◌≡◌, ◌≤◌, ◌++◌, codes, decimal};
+ghost use Rattle.std.specs.Prelude.{Bool, ℕ, List, Ok, ◌≡◌, ◌≤◌};
 ghost use Rattle.arrayvec.specs.ArrayVec.{array_vec_len};
 ghost use Rattle.x86_decode.specs.Decoder.{is_strict};
 ghost use Rattle.x86_decode.specs.declared.instructions.Instruction.{Instruction};
@@ -48,15 +48,4 @@ impl Lines for Plain {
     ) {
         write_instruction(line, place, instruction);
     }
-}
-
-/// The line of a text whose byte at a position isn't allowed there, without its end.
-pub fn bad_text(position: u64) -> Line
-    ensures text { result.items ≡ codes "text error at " ++ decimal position }
-    ensures short { array_vec_len result ≤ line_width }
-{
-    let mut line = Line::new();
-    line.extend(b"text error at ");
-    line.push_u64(position);
-    line
 }

@@ -2,7 +2,7 @@
 
 ghost use Rattle.x86_decode.specs.Decoder.{is_strict};
 ghost use Rattle.x86_decode.specs.Instruction.{length_of};
-ghost use Rattle.std.specs.Prelude.{◌≡◌, ◌≢◌, ℕ, Bool, false, ◌<◌, ◌≤◌, ◌^◌, [], ◌∷◌, length};
+ghost use Rattle.std.specs.Prelude.{◌≡◌, ◌≢◌, ℕ, Bool, false, ◌<◌, ◌≤◌, ◌^◌, [], ◌∷◌};
 ghost use Rattle.arrayvec.specs.ArrayVec.{array_vec_len};
 ghost use Rattle.x86_text.specs.Widths.{line_width};
 ghost use Rattle.x86_cli.specs.Listings.Line.{line};
@@ -14,7 +14,7 @@ ghost use Rattle.x86_cli.specs.Listings.Listing.{Listing, at_end, listing_at};
 ghost use Rattle.x86_cli.specs.Listings.Performs.{Performs};
 
 use crate::laws::decoder_laws;
-use crate::listings::line::{Lines, bad_text};
+use crate::listings::line::Lines;
 use crate::listings::status::{Finished, Status};
 use crate::text::window::{Decoded, decode_next};
 use x86_decode::{InstDecoder, Instruction};
@@ -41,6 +41,7 @@ pub fn put_line<const N: usize, W, O: Output<W>>(
 }
 
 /// Sends all that was gathered, at the end of a listing.
+#[tactic(auto, using(crate::proofs::ListingLemmas::Closes::closes_flush))]
 pub fn close<W, O: Output<W>>(
     output: &O,
     out: &mut Gathered,
@@ -66,30 +67,20 @@ pub fn put_last<W, O: Output<W>>(
     output: &O,
     out: &mut Gathered,
     writer: &mut W,
-    text: &mut Line,
+    mut text: Line,
     status: Status,
 ) -> Finished
-    requires short { array_vec_len text.old ≤ line_width }
+    requires short { array_vec_len text ≤ line_width }
     requires status { status ≢ Status.WriteFault }
     requires empty { O.gathers ≡ false → out.old.bytes.items ≡ [] }
     ensures { Closes O.writes O.flushes O.gathers out.old.bytes.items
-        (record { lines = line text.old.items ∷ []; status = status })
+        (record { lines = line text.items ∷ []; status = status })
         result writer.old writer.new }
 {
-    match put_line(output, out, writer, text) {
+    match put_line(output, out, writer, &mut text) {
         Ok(()) => close(output, out, writer, status),
         Err(failed) => Finished::of_failed(failed),
     }
-}
-
-fn constant(text: &[u8]) -> Line
-    requires { length text.now ≤ line_width }
-    ensures text { result.items ≡ text.now }
-    ensures short { array_vec_len result ≤ line_width }
-{
-    let mut line = Line::new();
-    line.extend(text);
-    line
 }
 
 /// Writes the line of an end, if it has one, and sends all.
@@ -103,19 +94,21 @@ pub fn end<W, O: Output<W>>(
     ensures { Closes O.writes O.flushes O.gathers out.old.bytes.items (at_end ending) result
         writer.old writer.new }
 {
+    let mut text = Line::new();
     match ending {
         Ending::Clean => close(output, out, writer, Status::Done),
         Ending::Bad(position) => {
-            let mut text = bad_text(position);
-            put_last(output, out, writer, &mut text, Status::BadText)
+            text.extend(b"text error at ");
+            text.push_u64(position);
+            put_last(output, out, writer, text, Status::BadText)
         }
         Ending::Large => {
-            let mut text = constant(b"text too long");
-            put_last(output, out, writer, &mut text, Status::TooLarge)
+            text.extend(b"text too long");
+            put_last(output, out, writer, text, Status::TooLarge)
         }
         Ending::Fault => {
-            let mut text = constant(b"read fault");
-            put_last(output, out, writer, &mut text, Status::ReadFault)
+            text.extend(b"read fault");
+            put_last(output, out, writer, text, Status::ReadFault)
         }
     }
 }
@@ -245,8 +238,8 @@ pub fn list<const N: usize, C: Course<N>, R, W, O: Input<R> + Output<W>>(
                 }
             }
             Entry::Refused(error) => {
-                let mut text = refusal_of(place.number(), error);
-                return put_last(outside, &mut out, writer, &mut text, Status::Refused);
+                let text = refusal_of(place.number(), error);
+                return put_last(outside, &mut out, writer, text, Status::Refused);
             }
             Entry::Ended(ending) => return end(outside, &mut out, writer, ending),
         }

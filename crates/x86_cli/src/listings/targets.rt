@@ -1,11 +1,9 @@
 //! The places that the instructions of a sweep branch to.
 
 ghost use Rattle.x86_decode.specs.Decoder.{is_strict};
-ghost use Rattle.std.specs.Prelude.{◌≡◌, ℕ, ◌+◌, ◌*◌, ◌<◌, ◌≤◌, ◌++◌, length, slice_index_or, true, false, [], Ok, decimal};
+ghost use Rattle.std.specs.Prelude.{◌≡◌, ℕ, ◌+◌, ◌*◌, ◌<◌, ◌≤◌, ◌++◌, length, slice_index_or, false};
 ghost use Rattle.arrayvec.specs.ArrayVec.{array_vec_len};
 ghost use Rattle.x86_layout.specs.Sweeps.Marks.{is_marked};
-ghost use Rattle.x86_streams.specs.Outside.Chain.{Puts};
-ghost use Rattle.x86_cli.specs.Listings.Line.{line};
 ghost use Rattle.x86_cli.specs.Listings.Listing.{at_end};
 ghost use Rattle.x86_cli.specs.Listings.Performs.{Performs};
 ghost use Rattle.x86_cli.specs.Listings.Targets.{ReadsWhole, image_max, targets_at};
@@ -81,29 +79,6 @@ fn mark(decoder: &InstDecoder, image: &[u8], marks: &mut [bool; IMAGE_MAX])
     mark_targets(decoder, image, &mut marks[..image.len()]);
 }
 
-/// Writes the line of a place, where it is marked.
-fn put_if_marked<W, O: Output<W>>(
-    output: &O,
-    out: &mut Gathered,
-    writer: &mut W,
-    marked: bool,
-    place: u64,
-) -> Result<(), WriteFailed>
-    requires { O.gathers ≡ false → out.old.bytes.items ≡ [] }
-    ensures marked { marked ≡ true → Puts O.writes O.flushes O.gathers result (line (decimal place))
-        out.old.bytes.items out.new.bytes.items writer.old writer.new }
-    ensures other { marked ≡ false → (result ≡ Ok tt) × (out.new ≡ out.old)
-        × (writer.new ≡ writer.old) }
-{
-    if marked {
-        let mut line = Line::new();
-        line.push_u64(place);
-        put_line(output, out, writer, &mut line)
-    } else {
-        Ok(())
-    }
-}
-
 /// Writes the places that the instructions of a text branch to, of a text that is short enough to be held whole.
 pub fn targets<R, W, O: Input<R> + Output<W>>(
     decoder: &InstDecoder,
@@ -129,9 +104,13 @@ pub fn targets<R, W, O: Input<R> + Output<W>>(
     mark(decoder, image, &mut marks);
     let mut out = Gathered::new();
     'places: for place in 0..image.len() {
-        match put_if_marked(outside, &mut out, writer, marks[place], place as u64) {
-            Ok(()) => {}
-            Err(failed) => return Finished::of_failed(failed),
+        if marks[place] {
+            let mut line = Line::new();
+            line.push_u64(place as u64);
+            match put_line(outside, &mut out, writer, &mut line) {
+                Ok(()) => {}
+                Err(failed) => return Finished::of_failed(failed),
+            }
         }
     }
     end(outside, &mut out, writer, text.ending)

@@ -1,6 +1,6 @@
 //! The lines of the shortest encodings.
 
-ghost use Rattle.std.specs.Prelude.{◌≡◌, ◌+◌, ◌≤◌, ◌++◌, length, codes};
+ghost use Rattle.std.specs.Prelude.{◌≡◌, ◌≤◌, length};
 ghost use Rattle.arrayvec.specs.ArrayVec.{array_vec_len};
 ghost use Rattle.x86_decode.specs.Instruction.{length_of};
 ghost use Rattle.x86_layout.specs.Tightening.Least.{shortest_length};

@@ -1,10 +1,5 @@
-use Rattle.std.proofs.Common.{arith}
 use Rattle.x86_cli.proofs.CommandLemmas.Ends.{performs_used}
 use Rattle.x86_cli.proofs.commands.program.listed.Goals as goal
-
-pub returns-in-Some-clause-lists : goal.returns-in-Some-clause-lists
-returns-in-Some-clause-lists g c request denotes =
-    let same = c.request_of.ensures.every request denotes in grind (arith, c.run.ensures.performs)
 
 pub returns-in-Some-clause-usage : goal.returns-in-Some-clause-usage
 returns-in-Some-clause-usage g c = (

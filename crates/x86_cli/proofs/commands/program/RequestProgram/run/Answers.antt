@@ -1,7 +1,6 @@
 use Rattle.std.proofs.Common.{[], None, refl}
 use Rattle.x86_streams.specs.Text.Reader.{TextPosition}
 use Rattle.x86_cli.specs.Commands.Make.{made_listing}
-use Rattle.x86_cli.proofs.CommandLemmas.Ends.{task_ends}
 use Rattle.x86_cli.proofs.ListingLemmas.Live.{live_closes, live_new}
 use Rattle.x86_cli.proofs.commands.program.RequestProgram.run.Goals as goal
 
@@ -11,9 +10,3 @@ returns-in-Makes-clause-performs g c =
     let text : TextPosition = record { position = 0; room = 0; unread = [] } in
     rw c.in-Makes.is (live_closes g.O.Input.reads g.O.Output.writes g.O.Output.flushes g.O.Output.gathers (λ n t. made) (λ n t. made) 0 c.args.reader.now c.args.writer.now [] 0 None [] text [] c.args.reader.now c.args.writer.now
     (live_new g.O.Input.reads g.O.Output.writes g.O.Output.flushes g.O.Output.gathers (λ n t. made) (λ n t. made) 0 c.args.reader.now c.args.writer.now text refl) _ _ made (λ xs stop. refl) c.make.ensures)
-
-pub returns-in-Makes-clause-ends : goal.returns-in-Makes-clause-ends
-returns-in-Makes-clause-ends g c = task_ends c.args.self.now
-
-pub returns-in-Reads-clause-ends : goal.returns-in-Reads-clause-ends
-returns-in-Reads-clause-ends g c = task_ends c.args.self.now

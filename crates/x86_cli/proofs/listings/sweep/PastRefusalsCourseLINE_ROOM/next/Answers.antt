@@ -5,9 +5,15 @@ use Rattle.x86_cli.proofs.listings.sweep.PastRefusalsCourseLINE_ROOM.next.Goals 
 
 pub returns-in-Ok-clause-next : goal.returns-in-Ok-clause-next
 returns-in-Ok-clause-next c =
-    sweep_line c.args.decoder.now.strict (c.decoder_laws.ensures _) c.args.window.now.ended c.args.place.now c.args.window.now.bytes.items _ c.args.window.now.text.position c.args.window.now.text.room (Ok c.decode_slice_into.new.inst) (λ _ f. cc)
-    (some_bytes c.args.decoder.now.strict (c.decoder_laws.ensures _) _ _ (Ok c.decode_slice_into.new.inst) (λ f. cc) c.in-Ok.ensures.value c.as_slice.ensures)
+    sweep_line _ (c.decoder_laws.ensures _) _ _ _ _ _ _ (Ok c.decode_slice_into.new.inst) (λ _ f. cc)
+    (some_bytes _ (c.decoder_laws.ensures _) _ _ (Ok c.decode_slice_into.new.inst) (λ f. cc) c.in-Ok.ensures.value c.as_slice.ensures)
     c.in-Ok.ensures.value c.as_slice.ensures _ _ (ap entry.Line c.length_of.ensures) c.write_instruction.ensures.text
+
+pub returns-in-Refused-clause-next : goal.returns-in-Refused-clause-next
+returns-in-Refused-clause-next c =
+    sweep_line _ (c.decoder_laws.ensures _) _ _ _ _ _ _ (Err c.in-Err.error) (λ none f. c.in-Refused.ensures.0 none (cc))
+    (some_refused _ (c.decoder_laws.ensures _) _ _ c.in-Err.error c.args.window.now.ended c.in-Err.ensures.value c.as_slice.ensures c.in-Refused.ensures)
+    c.in-Err.ensures.value c.as_slice.ensures _ _ refl c.write_refusal.ensures.text
 
 pub returns-in-Undecided-clause-next : goal.returns-in-Undecided-clause-next
 returns-in-Undecided-clause-next c =
@@ -17,9 +23,3 @@ returns-in-Undecided-clause-next c =
 pub returns-in-Ended-clause-next : goal.returns-in-Ended-clause-next
 returns-in-Ended-clause-next c =
     sweep_end c.args.decoder.now.strict c.args.window.now.ended c.args.place.now c.args.line.now.items c.args.window.now.bytes.items c.args.window.now.text.position c.args.window.now.text.room _ c.in-Ended.ensures.0 c.in-Ended.ensures.1
-
-pub returns-in-Refused-clause-next : goal.returns-in-Refused-clause-next
-returns-in-Refused-clause-next c =
-    sweep_line c.args.decoder.now.strict (c.decoder_laws.ensures _) c.args.window.now.ended c.args.place.now c.args.window.now.bytes.items _ c.args.window.now.text.position c.args.window.now.text.room (Err c.in-Err.error) (λ none f. c.in-Refused.ensures.0 none (cc))
-    (some_refused c.args.decoder.now.strict (c.decoder_laws.ensures _) _ _ c.in-Err.error c.args.window.now.ended c.in-Err.ensures.value c.as_slice.ensures c.in-Refused.ensures)
-    c.in-Err.ensures.value c.as_slice.ensures _ _ refl c.write_refusal.ensures.text
