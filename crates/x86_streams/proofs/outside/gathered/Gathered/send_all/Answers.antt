@@ -1,4 +1,4 @@
-use Rattle.std.proofs.Common.{◌≡◌, ◌==◌, Bool, false, true, List, ℕ, [], ◌∷◌, length, ◌∙◌, ap, sym, arith}
+use Rattle.std.proofs.Common.{◌≡◌, ◌==◌, false, true, List, ℕ, [], ◌∷◌, length, ◌∙◌, ap, sym, arith}
 use Rattle.x86_streams.proofs.OutsideLemmas.Calls.{sends_all}
 use Rattle.x86_streams.proofs.outside.gathered.Gathered.send_all.Goals as goal
 

@@ -1,6 +1,6 @@
-use Rattle.std.proofs.Common.{◌≡◌, ◌<◌, ◌-◌, ℕ, List, [], Option, Ok, length, refl, arith, rules, Result, IfSome}
+use Rattle.std.proofs.Common.{◌≡◌, ◌<◌, ◌-◌, ℕ, List, [], Option, Ok, length, refl, arith, rules, IfSome}
 use Rattle.std.specs.declared.io.Error.{Error}
-use Rattle.std.specs.Io.KnownBytes.{Keeps, Consumes, ReadConsumes, prepend_known}
+use Rattle.std.specs.Io.KnownBytes.{Keeps, Consumes, ReadConsumes}
 use Rattle.x86_streams.proofs.OutsideLemmas.Calls.{read_consumes}
 use Rattle.x86_streams.proofs.OutsideLemmas.Buffers.{none_held, first_held, first_returned}
 use Rattle.x86_streams.proofs.outside.std_source.StdSource.read_on.Goals as goal
