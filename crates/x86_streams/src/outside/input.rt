@@ -30,12 +30,8 @@ pub fn read_some<R, I: Input<R>>(input: &I, reader: &mut R, buffer: &mut [u8]) -
 {
     for tried in 0..TRIES {
         match input.read(reader, buffer) {
-            Ok(count) => return Ok(count),
-            Err(error) => {
-                if !is_interrupted(&error) {
-                    return Err(error);
-                }
-            }
+            Err(error) if is_interrupted(&error) => {}
+            answer => return answer,
         }
     }
     input.read(reader, buffer)

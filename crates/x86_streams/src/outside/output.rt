@@ -47,12 +47,8 @@ pub fn write_some<W, O: Output<W>>(output: &O, writer: &mut W, bytes: &[u8]) -> 
 {
     for tried in 0..TRIES {
         match output.write(writer, bytes) {
-            Ok(count) => return Ok(count),
-            Err(error) => {
-                if !is_interrupted(&error) {
-                    return Err(error);
-                }
-            }
+            Err(error) if is_interrupted(&error) => {}
+            answer => return answer,
         }
     }
     output.write(writer, bytes)
@@ -65,12 +61,8 @@ pub fn flush_once<W, O: Output<W>>(output: &O, writer: &mut W) -> io::Result<()>
 {
     for tried in 0..TRIES {
         match output.flush(writer) {
-            Ok(()) => return Ok(()),
-            Err(error) => {
-                if !is_interrupted(&error) {
-                    return Err(error);
-                }
-            }
+            Err(error) if is_interrupted(&error) => {}
+            answer => return answer,
         }
     }
     output.flush(writer)
