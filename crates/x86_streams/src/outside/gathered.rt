@@ -49,13 +49,9 @@ impl Gathered {
         ensures { Puts O.writes O.flushes O.gathers result piece.now
             self.old.bytes.items self.new.bytes.items writer.old writer.new }
     {
-        match self.send(output, writer) {
-            Ok(()) => {
-                self.bytes.extend(piece);
-                Ok(())
-            }
-            Err(failed) => Err(failed),
-        }
+        self.send(output, writer)?;
+        self.bytes.extend(piece);
+        Ok(())
     }
 
     /// Takes a piece. Where it doesn't fit, what was gathered is sent first. An output that doesn't gather is written at
@@ -94,9 +90,7 @@ impl Gathered {
         if self.bytes.as_slice().is_empty() {
             return flush_out(output, writer);
         }
-        match self.send(output, writer) {
-            Ok(()) => flush_out(output, writer),
-            Err(failed) => Err(failed),
-        }
+        self.send(output, writer)?;
+        flush_out(output, writer)
     }
 }

@@ -130,12 +130,8 @@ impl TextReader {
         self.block.copy_within(self.at..self.filled, 0);
         self.at = 0;
         self.filled = left;
-        match read_some(input, reader, &mut self.block[left..left + BLOCK]) {
-            Ok(count) => {
-                self.filled = left + count;
-                Ok(count)
-            }
-            Err(error) => Err(error),
-        }
+        let count = read_some(input, reader, &mut self.block[left..left + BLOCK])?;
+        self.filled = left + count;
+        Ok(count)
     }
 }

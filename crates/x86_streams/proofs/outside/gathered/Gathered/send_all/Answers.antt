@@ -1,4 +1,4 @@
-use Rattle.std.proofs.Common.{◌≡◌, ◌==◌, false, true, List, ℕ, [], ◌∷◌, length, ◌∙◌, ap, sym, arith}
+use Rattle.std.proofs.Common.{◌≡◌, ◌==◌, false, true, List, ℕ, [], ◌∷◌, length, ◌∙◌, ap, sym, arith, rules, Err}
 use Rattle.x86_streams.proofs.OutsideLemmas.Calls.{sends_all}
 use Rattle.x86_streams.proofs.outside.gathered.Gathered.send_all.Goals as goal
 
@@ -12,9 +12,11 @@ never_empty bytes items some same none = let f : false ≡ true = some ∙ ap (�
 pub returns-then-is_empty : goal.returns-then-is_empty
 returns-then-is_empty g c = rw (empty _ _ c.if-is_empty.ensures c.as_slice.ensures) c.flush_out.ensures
 
-pub returns-in-Ok : goal.returns-in-Ok
-returns-in-Ok g c =
-    sends_all _ _ c.flush_out-in-Ok.result _ _ _ _ _ c.in-Ok.ensures.sends c.in-Ok.ensures.empty (λ e. absurd (never_empty _ _ c.if-is_empty.ensures c.as_slice.ensures e)) c.flush_out-in-Ok.ensures
+pub returns : goal.returns
+returns g c =
+    sends_all _ _ c.flush_out-2.result _ _ _ _ _ c.in_ok-send.ensures.sends c.in_ok-send.ensures.empty (λ e. absurd (never_empty _ _ c.if-is_empty.ensures c.as_slice.ensures e)) c.flush_out-2.ensures
 
-pub returns-in-Err : goal.returns-in-Err
-returns-in-Err g c = (c.in-Err.ensures.sends, tt, λ e. absurd (never_empty _ _ c.if-is_empty.ensures c.as_slice.ensures e))
+pub returns-in_err-send : goal.returns-in_err-send
+returns-in_err-send g c =
+    let r : c.from_residual.result ≡ Err c.in_err-send.field-0.0 = search rules in
+    rw r (c.in_err-send.ensures.sends, tt, λ e. absurd (never_empty _ _ c.if-is_empty.ensures c.as_slice.ensures e))
