@@ -9,7 +9,7 @@ use Rattle.std.proofs.KnownBytes.{Keeps-refl, Keeps-trans, Appends-nil, Appends-
 use Rattle.x86_streams.specs.declared.outside.sending.WriteFailed.{WriteFailed}
 use Rattle.x86_streams.specs.Outside.Chain.{Call, Read, Write, Flush, pieces, received, sent, stop_of, taken_by, not_taken, AllContinue, Cause, EndsIn, IsFlush, IsGone, Interruptions, ReadsOnce, WritesOnce, FlushesOnce, Calls, WriterCalls, Puts, Sends, SendsAll}
 
-starts_more : (bytes more next : List ℕ) → StartsWith bytes next → StartsWith (bytes ++ more) next
+pub starts_more : (bytes more next : List ℕ) → StartsWith bytes next → StartsWith (bytes ++ more) next
 starts_more bytes more next h = let fits = length-take (length next) bytes in grind (arith, ap length h, fits, take-append-le (length next) bytes more)
 
 pub sent_joined : (cs ds : List Call) → sent (cs ++ ds) ≡ sent ds ++ sent cs
@@ -77,21 +77,21 @@ module _ {W : Type 0} (writes : W → List ℕ → Result ℕ Error → W → Ty
       SendsAll writes flushes answer [] [] b d → SendsAll writes flushes answer held [] a d
   sends_all answer held a b d f some g = (sends_join answer [] [] held [] [] a b d f g.0, let ends = g.1 in grind (arith, ends_joined), λ none. absurd (some none))
 
-  -- what is held, and then new bytes
-  pub sends_new : (answer : Result ⊤ WriteFailed) (new held held' : List ℕ) (w w' : W) → Sends writes flushes answer [] held held' w w' → Sends writes flushes answer new held (held' ++ new) w w'
-  sends_new answer new held held' w w' s = record {
-    calls = s.calls;
-    did = s.did;
-    cause = s.cause;
-    order = sym (append_assoc (sent s.calls) held' new) ∙ ap (λ b. b ++ new) (s.order ∙ append-nil held);
-    failed = let failed = s.failed in grind (arith, starts_more);
-  }
-
   -- what is held, and then a piece
   pub puts_new : (gathers : Bool) (answer : Result ⊤ WriteFailed) (piece held held' new : List ℕ) (w w' : W) → gathers ≡ true → Sends writes flushes answer [] held held' w w' → OnOk answer (new ≡ held' ++ piece) →
       Puts writes flushes gathers answer piece held new w w'
-  puts_new gathers answer piece held held' new w w' on s is =
-      record { rest = held' ++ piece; sends = sends_new answer piece held held' w w' s; held = is; once = λ off. let never : true ≡ false = sym on ∙ off in absurd (cc) }
+  puts_new gathers answer piece held held' new w w' on s is = record {
+    rest = held' ++ piece;
+    sends = let failed = s.failed in record {
+      calls = s.calls;
+      did = s.did;
+      cause = s.cause;
+      order = rw (← append_assoc, s.order, append-nil) refl;
+      failed = grind (arith, starts_more);
+    };
+    held = is;
+    once = λ off. let never : true ≡ false = sym on ∙ off in absurd (cc);
+  }
 
 -- ---- what std says of its readers and writers
 
@@ -127,7 +127,8 @@ module _ {W : Type 0} (contents : W → Option (List ℕ)) where
   calls_append [] w w' is = rw is (Appends-nil (contents w))
   calls_append (Read buffer answer ∷ cs) w w' did = absurd did
   calls_append (Write bytes answer ∷ cs) w w' did =
-      Appends-trans (contents w) (contents did.0) (contents w') (sent cs) (taken_by answer bytes) (calls_append cs w did.0 did.1) (let wrote = write_appends bytes answer did.0 w' did.2 in grind (arith, append-nil {A = ℕ}))
+      let before = calls_append cs w did.0 did.1 in
+      let wrote = write_appends bytes answer did.0 w' did.2 in grind (arith, append_assoc {A = ℕ}, append-nil {A = ℕ})
   calls_append (Flush answer ∷ cs) w w' did = Appends-kept (contents w) (contents did.0) (contents w') (sent cs) (calls_append cs w did.0 did.1) (flush_keeps answer did.0 w' did.2)
 
   -- What is no longer held is written.
