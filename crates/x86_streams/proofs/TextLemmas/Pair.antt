@@ -6,7 +6,7 @@ use Rattle.std.specs.Option.{option_map}
 use Rattle.std.specs.Prelude.{is_some, ◌||◌}
 use Rattle.x86_streams.specs.Text.{is_blank, value_of, bad_of, image_of, ends_in_half}
 use Rattle.x86_streams.specs.Text.Pairs.{Item, blank, pair, bytes_of, values_of, AreItems, IsHalf, IsSequence, is_half, SequencesAreSound, BadIsFirst}
-use Rattle.x86_streams.proofs.TextLemmas.Text.{value-blank, image-blank, bad-blank, half-blank}
+use Rattle.x86_streams.proofs.TextLemmas.Text.{value-blank, of-blank}
 
 -- from a sequence
 
@@ -15,7 +15,7 @@ items_bad : (items : List Item) (half : List ℕ) → AreItems items → IsHalf 
     × (ends_in_half (flat_map bytes_of items ++ half) ≡ is_half half)
 unfolding image_of ends_in_half bad_of
 items_bad [] half each ok = grind (arith, value-blank)
-items_bad (blank b ∷ items) half each ok = grind (arith, items_bad items half each.1 ok, bad-blank, image-blank, half-blank, value-blank)
+items_bad (blank b ∷ items) half each ok = grind (arith, items_bad items half each.1 ok, of-blank, value-blank)
 items_bad (pair a b ∷ items) half each ok = grind (arith, items_bad items half each.2 ok, value-blank)
 
 sequence_bad : (bytes image half : List ℕ) → IsSequence bytes image half → (bad_of bytes ≡ None) × (image_of bytes ≡ image) × (ends_in_half bytes ≡ is_half half)
