@@ -1,6 +1,5 @@
 -- Lemmas on texts and the window over them.
 pub mod Text
-pub mod Kind
 pub mod Pair
 pub mod Beginning
 pub mod Spells

@@ -1,5 +1,5 @@
 -- What the text is at its first bytes.
-use Rattle.std.proofs.Common.{◌≡◌, ℕ, suc, ◌+◌, ◌*◌, List, [], ◌∷◌, refl, arith, Option, Some, None, true, false, Bool, ◌++◌, ap, sym, append_assoc}
+use Rattle.std.proofs.Common.{◌≡◌, ℕ, suc, ◌+◌, ◌*◌, List, [], ◌∷◌, arith, Option, Some, None, true, false, Bool, ◌++◌, ap, sym, append_assoc}
 use Rattle.std.proofs.lemmas.Grind.{common_steps}
 use Rattle.std.specs.Option.{option_map}
 use Rattle.x86_streams.specs.Outside.Stop.{Stop}
