@@ -38,6 +38,7 @@ impl Gathered {
     /// Takes a piece after what was gathered was sent.
     #[cold]
     #[inline(never)]
+    #[tactic(auto, using(crate::proofs::OutsideLemmas::Calls::puts_new))]
     fn put_after<W, O: Output<W>>(
         &mut self,
         output: &O,
