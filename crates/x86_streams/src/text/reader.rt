@@ -119,6 +119,7 @@ impl TextReader {
     }
 
     /// Reads on, where at most half a pair is left. It returns how many bytes were read.
+    #[tactic(auto, using(crate::proofs::TextLemmas::Cells::read_after, crate::proofs::TextLemmas::Cells::read_none))]
     pub fn read<R, I: Input<R>>(&mut self, input: &I, reader: &mut R) -> io::Result<usize>
         requires { length self.old.unread ≤ 1 }
         ensures reads { ReadsBlock I.reads result self.old.unread self.new.unread

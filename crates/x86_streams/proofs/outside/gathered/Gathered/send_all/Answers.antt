@@ -16,8 +16,3 @@ pub returns : goal.returns
 returns g c =
     let sent = c.in_ok-send.ensures in
     rw sent.empty (sends_all _ _ c.flush_out-2.result _ _ _ _ (rw sent.empty at sent.sends) (some _ _ c.if-is_empty.ensures c.as_slice.ensures) c.flush_out-2.ensures)
-
-pub returns-in_err-send : goal.returns-in_err-send
-returns-in_err-send g c =
-    let r : c.from_residual.result ≡ Err c.in_err-send.field-0.0 = search rules in
-    rw r (c.in_err-send.ensures.sends, tt, λ empty. absurd (some _ _ c.if-is_empty.ensures c.as_slice.ensures empty))
