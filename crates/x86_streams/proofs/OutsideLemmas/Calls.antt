@@ -7,7 +7,7 @@ use Rattle.std.proofs.lemmas.List.{append_cancel_right, take-append-le}
 use Rattle.std.specs.Io.KnownBytes.{Keeps, Appends, ReadConsumes, WriteAppends}
 use Rattle.std.proofs.KnownBytes.{Keeps-refl, Keeps-trans, Appends-nil, Appends-kept}
 use Rattle.x86_streams.specs.declared.outside.sending.WriteFailed.{WriteFailed}
-use Rattle.x86_streams.specs.Outside.Chain.{Call, Read, Write, Flush, pieces, received, sent, stop_of, not_taken, AllContinue, Cause, EndsIn, IsGone, Interruptions, ReadsOnce, WritesOnce, FlushesOnce, Calls, WriterCalls, Puts, Sends, SendsAll}
+use Rattle.x86_streams.specs.Outside.Chain.{Call, Read, Write, Flush, pieces, received, sent, stop_of, taken_by, not_taken, AllContinue, Cause, EndsIn, IsGone, Interruptions, ReadsOnce, WritesOnce, FlushesOnce, Calls, WriterCalls, Puts, Sends, SendsAll}
 
 pub starts_more : (bytes more next : List ℕ) → StartsWith bytes next → StartsWith (bytes ++ more) next
 starts_more bytes more next h = let fits = length-take (length next) bytes in grind (arith, ap length h, fits, take-append-le (length next) bytes more)
@@ -59,23 +59,29 @@ module _ {W : Type 0} (writes : W → List ℕ → Result ℕ Error → W → Ty
 
   -- ---- what a buffer sends
 
-  pub sends_none : (new held held' : List ℕ) (w : W) → held' ≡ held ++ new → Sends writes flushes (Ok tt) new held held' w w
+  abbrev pub sends_none : (new held held' : List ℕ) (w : W) → held' ≡ held ++ new → Sends writes flushes (Ok tt) new held held' w w
   sends_none new held held' w is = record { calls = []; did = refl; cause = tt; order = is; failed = tt }
 
-  abbrev pub sends_join : (answer : Result ⊤ WriteFailed) (new more held held' held'' : List ℕ) (a b d : W) →
-      Sends writes flushes (Ok tt) new held held' a b → Sends writes flushes answer more held' held'' b d → Sends writes flushes answer (new ++ more) held held'' a d
-  sends_join answer new more held held' held'' a b d f g = record {
-    calls = g.calls ++ f.calls;
-    did = writer_calls_joined g.calls f.calls a b d f.did g.did;
-    cause = (failed_joined answer held'' g.calls f.calls f.cause (g.cause, g.failed)).0;
-    order = rw (sent_joined, append_assoc, g.order, ← append_assoc, f.order) (append_assoc held new more);
-    failed = (failed_joined answer held'' g.calls f.calls f.cause (g.cause, g.failed)).1;
+  -- a write after these calls
+  abbrev pub sends_write : (answer : Result ⊤ WriteFailed) (x : Result ℕ Error) (new held held' held'' : List ℕ) (a b d : W) → Sends writes flushes (Ok tt) new held held' a b →
+      WritesOnce writes held' x b d → taken_by x held' ++ held'' ≡ held' → Failed answer held'' (Write held' x ∷ []) → Sends writes flushes answer new held held'' a d
+  sends_write answer x new held held' held'' a b d s wrote left failed = record {
+    calls = Write held' x ∷ s.calls;
+    did = (b, s.did, wrote);
+    cause = (failed_joined answer held'' (Write held' x ∷ []) s.calls s.cause failed).0;
+    order = rw (append_assoc, left) s.order;
+    failed = (failed_joined answer held'' (Write held' x ∷ []) s.calls s.cause failed).1;
   }
 
   -- what was held was sent, and then a flush was made
   pub sends_all : (answer : Result ⊤ WriteFailed) (held : List ℕ) (a b d : W) → Sends writes flushes (Ok tt) [] held [] a b → (held ≡ [] → ⊥) →
       SendsAll writes flushes answer [] [] b d → SendsAll writes flushes answer held [] a d
-  sends_all answer held a b d f some g = (sends_join answer [] [] held [] [] a b d f g.0, let ends = g.1 in grind (arith, ends_joined), λ none. absurd (some none))
+  sends_all answer held a b d f some g =
+      let ends = g.1 in
+      let failed = failed_joined answer [] g.0.calls f.calls f.cause (g.0.cause, g.0.failed) in
+      let order : sent (g.0.calls ++ f.calls) ++ [] ≡ held ++ [] = rw sent_joined (grind (arith, f.order, g.0.order, append-nil {A = ℕ})) in
+      (record { calls = g.0.calls ++ f.calls; did = writer_calls_joined g.0.calls f.calls a b d f.did g.0.did; cause = failed.0; order = order; failed = failed.1 },
+      grind (arith, ends_joined), λ none. absurd (some none))
 
   -- what is held, and then a piece
   pub puts_new : (gathers : Bool) (answer : Result ⊤ WriteFailed) (piece held held' new : List ℕ) (w w' : W) → gathers ≡ true → Sends writes flushes answer [] held held' w w' → OnOk answer (new ≡ held' ++ piece) →

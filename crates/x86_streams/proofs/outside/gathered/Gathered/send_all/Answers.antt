@@ -1,4 +1,4 @@
-use Rattle.std.proofs.Common.{◌≡◌, ◌==◌, false, true, List, ℕ, [], ◌∷◌, length, Err, arith, rules, sym}
+use Rattle.std.proofs.Common.{◌≡◌, ◌==◌, false, true, List, ℕ, [], ◌∷◌, length, arith, sym}
 use Rattle.x86_streams.proofs.OutsideLemmas.Calls.{sends_all}
 use Rattle.x86_streams.proofs.outside.gathered.Gathered.send_all.Goals as goal
 
