@@ -11,18 +11,10 @@ ghost use Rattle.x86_streams.specs.Outside.SliceSource.{ByNumber};
 ghost use Rattle.x86_streams.specs.Outside.Source.{ReportsGot};
 ghost use Rattle.x86_streams.specs.Text.Pairs.{SequencesAreSound, BadIsFirst};
 
-use crate::outside::array_sink::ArraySink;
-use crate::outside::input::Input;
-use crate::outside::null_sink::NullSink;
-use crate::outside::one_by_one::OneByOne;
-use crate::outside::output::Output;
-use crate::outside::process::Process;
-use crate::outside::sink::{Sink, SinkFailed};
-use crate::outside::slice_source::SliceSource;
-use crate::outside::sound_source::SoundSource;
-use crate::outside::source::{Got, Source};
-use crate::outside::std_sink::StdSink;
-use crate::outside::std_source::StdSource;
+use crate::{
+    ArraySink, Got, Input, NullSink, OneByOne, Output, Process, Sink, SinkFailed, SliceSource,
+    SoundSource, Source, StdSink, StdSource,
+};
 use std::io::{Read, Write};
 
 /// No byte is bad exactly in a sequence of blanks and pairs.

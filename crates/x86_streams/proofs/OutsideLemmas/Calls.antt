@@ -79,9 +79,11 @@ module _ {W : Type 0} (writes : W → List ℕ → Result ℕ Error → W → Ty
   sends_all answer held a b d f some g =
       let ends = g.1 in
       let failed = failed_joined answer [] g.0.calls f.calls f.cause (g.0.cause, g.0.failed) in
-      let order : sent (g.0.calls ++ f.calls) ++ [] ≡ held ++ [] = rw sent_joined (grind (arith, f.order, g.0.order, append-nil {A = ℕ})) in
-      (record { calls = g.0.calls ++ f.calls; did = writer_calls_joined g.0.calls f.calls a b d f.did g.0.did; cause = failed.0; order = order; failed = failed.1 },
-      grind (arith, ends_joined), λ none. absurd (some none))
+      let order : sent (g.0.calls ++ f.calls) ++ [] ≡ held ++ [] = rw sent_joined (grind (arith, f.order, g.0.order, append-nil {A = ℕ})) in (
+        record { calls = g.0.calls ++ f.calls; did = writer_calls_joined g.0.calls f.calls a b d f.did g.0.did; cause = failed.0; order = order; failed = failed.1 },
+        grind (arith, ends_joined),
+        λ none. absurd (some none),
+      )
 
   -- what is held, and then a piece
   pub puts_new : (gathers : Bool) (answer : Result ⊤ WriteFailed) (piece held held' new : List ℕ) (w w' : W) → gathers ≡ true → Sends writes flushes answer [] held held' w w' → OnOk answer (new ≡ held' ++ piece) →

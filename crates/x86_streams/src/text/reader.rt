@@ -97,12 +97,8 @@ impl TextReader {
         ensures { result.now ≡ take self.now.room self.now.unread }
     {
         let unread = &self.block[self.at..self.filled];
-        let room = self.end - self.position;
-        if (unread.len() as u64) < room {
-            unread
-        } else {
-            &unread[..room as usize]
-        }
+        let count = (unread.len() as u64).min(self.end - self.position);
+        &unread[..count as usize]
     }
 
     /// Takes bytes.
