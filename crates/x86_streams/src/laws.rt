@@ -1,6 +1,6 @@
 //! Laws of hex text, and of what calls of sources, sinks, readers and writers say.
 
-ghost use Rattle.std.specs.Prelude.{◌≡◌, ◌↔◌, ℕ, IsTrue, List, [], Some, None, Result, drop, false, true, ⊤};
+ghost use Rattle.std.specs.Prelude.{◌≡◌, ◌↔◌, ℕ, IsTrue, List, [], Some, None, Result, false, true, ⊤};
 ghost use Rattle.std.specs.Io.KnownBytes.{Keeps, ReadConsumes, WriteAppends, prepend_known};
 ghost use Rattle.std.specs.declared.io.Error.{Error};
 ghost use Rattle.x86_streams.specs.Outside.ArraySink.{PutByNumber};
@@ -31,7 +31,7 @@ pub fn first()
 /// A call of a source over a slice fails where its number was chosen; the others return the bytes, and then the end.
 pub fn slices<'a>()
     ensures { (s t : SliceSource) (g : Got) → ⟦<SliceSource<'a> as Source>⟧.gives s g t →
-        ByNumber g (drop s.position s.bytes.now) (slice_call s) (slice_call t)
+        ByNumber g s.source.bytes.now (slice_call s) (slice_call t)
         (slice_fails s) (slice_fails t) }
 {}
 
