@@ -3,11 +3,10 @@
 ghost use Rattle.std.specs.Prelude.{◌≡◌, ◌↔◌, ℕ, IsTrue, List, [], Some, None, Result, false, true, ⊤};
 ghost use Rattle.std.specs.Io.KnownBytes.{Keeps, ReadConsumes, WriteAppends, prepend_known};
 ghost use Rattle.std.specs.declared.io.Error.{Error};
-ghost use Rattle.x86_streams.specs.Outside.ArraySink.{PutByNumber};
+ghost use Rattle.x86_streams.specs.Outside.ByNumber.{ByNumber, PutByNumber};
 ghost use Rattle.x86_streams.specs.Outside.OneByOne.{HoldsNothing, PutsPiece, ReadsByte};
 ghost use Rattle.x86_streams.specs.Outside.Seen.{slice_call, slice_fails, array_call, array_fails, sink_writer, source_reader, source_bytes};
 ghost use Rattle.x86_streams.specs.Outside.Sink.{ReportsPut};
-ghost use Rattle.x86_streams.specs.Outside.SliceSource.{ByNumber};
 ghost use Rattle.x86_streams.specs.Outside.Source.{ReportsGot};
 ghost use Rattle.x86_streams.specs.Text.Pairs.{SequencesAreSound, BadIsFirst};
 

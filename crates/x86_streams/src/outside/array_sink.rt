@@ -2,7 +2,7 @@
 
 ghost use Rattle.std.specs.Prelude.{◌≡◌, Some, []};
 ghost use Rattle.x86_streams.specs.Outside.Sink.{ReportsPut};
-ghost use Rattle.x86_streams.specs.Outside.ArraySink.{PutByNumber, is_chosen};
+ghost use Rattle.x86_streams.specs.Outside.ByNumber.{PutByNumber, is_chosen};
 ghost use Rattle.x86_streams.specs.Outside.Seen.{array_call, array_fails};
 
 use crate::outside::sink::{Sink, SinkFailed};

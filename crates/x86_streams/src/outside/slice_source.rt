@@ -2,7 +2,7 @@
 
 ghost use Rattle.std.specs.Prelude.{◌≡◌, Some};
 ghost use Rattle.x86_streams.specs.Outside.Source.{ReportsGot};
-ghost use Rattle.x86_streams.specs.Outside.SliceSource.{ByNumber, is_listed};
+ghost use Rattle.x86_streams.specs.Outside.ByNumber.{ByNumber, is_listed};
 
 use crate::outside::sound_source::SoundSource;
 use crate::outside::source::{Got, Source};

@@ -1,8 +1,7 @@
 //! What a text begins with.
 
 ghost use Rattle.std.specs.Prelude.{◌<◌, length, slice_index_or};
-ghost use Rattle.x86_streams.specs.Text.Beginning.{IsBeginning};
-ghost use Rattle.x86_streams.specs.Text.Kinds.{IsKind};
+ghost use Rattle.x86_streams.specs.Text.Beginning.{IsBeginning, IsKind};
 
 use crate::text::kinds::{Kind, kind_of};
 

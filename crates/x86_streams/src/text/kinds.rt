@@ -1,6 +1,6 @@
 //! What a byte is in a text.
 
-ghost use Rattle.x86_streams.specs.Text.Kinds.{IsKind};
+ghost use Rattle.x86_streams.specs.Text.Beginning.{IsKind};
 
 /// What a byte is in a text.
 #[derive(Clone, Copy, Drop)]

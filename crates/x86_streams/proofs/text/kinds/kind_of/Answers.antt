@@ -7,7 +7,7 @@ use Rattle.x86_streams.specs.declared.text.kinds.TheConstants.{KINDS}
 use Rattle.x86_streams.specs.declared.text.kinds.Kind.{Kind}
 use Rattle.x86_streams.specs.declared.text.kinds.Kind.TheVariants.{Digit, Blank, Other}
 use Rattle.x86_streams.specs.Text.{is_blank, value_of}
-use Rattle.x86_streams.specs.Text.Kinds.{IsKind}
+use Rattle.x86_streams.specs.Text.Beginning.{IsKind}
 use Rattle.x86_streams.proofs.text.kinds.kind_of.Goals as goal
 
 -- the kind of a byte
