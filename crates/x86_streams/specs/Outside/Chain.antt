@@ -67,7 +67,7 @@ abbrev pub EndsIn : (Call → Type 0) → List Call → Type 0
 EndsIn Is [] = ⊥
 EndsIn Is (c ∷ cs) = Is c
 
--- the bytes that the last call was to write, where it answered an error
+-- the bytes that the last call was to write, where it answered an error; of a write that answered 0 this says nothing
 abbrev pub not_taken : List Call → List ℕ
 not_taken (Write bytes (Err e) ∷ cs) = bytes
 not_taken cs = []

@@ -13,6 +13,7 @@ const SIZE: usize = 65536;
 /// leaves unsent stays in the buffer, so no byte is sent twice.
 #[derive(Drop)]
 pub struct Gathered {
+    /// What was gathered and not sent yet, in order.
     pub bytes: Room<SIZE>,
 }
 

@@ -14,7 +14,8 @@ pub trait Input<R> {
     /// What a read may answer, with this in its buffer, and what it may leave of the reader.
     ghost reads: { R → List ℕ → Result ℕ Error → R → Type 0 };
 
-    /// One read, into a buffer with room for a byte at least.
+    /// One read, into a buffer with room for a byte at least. It returns how many bytes were read, 0 at the end, and
+    /// fails with the error of the reader.
     fn read(&self, reader: &mut R, buffer: &mut [u8]) -> io::Result<usize>
         requires { 0 < length buffer.old }
         ensures bound { ReadsAtMost result buffer.new }

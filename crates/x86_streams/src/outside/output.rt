@@ -24,12 +24,12 @@ pub trait Output<W> {
     fn gathers(&self) -> bool
         ensures { result ≡ gathers };
 
-    /// One write.
+    /// One write. It returns how many of the bytes were taken, from the first on, and fails with the writer's error.
     fn write(&self, writer: &mut W, bytes: &[u8]) -> io::Result<usize>
         ensures bound { WritesAtMost result bytes.now }
         ensures wrote { writes writer.old bytes.now result writer.new };
 
-    /// One flush.
+    /// One flush. It fails with the writer's error.
     fn flush(&self, writer: &mut W) -> io::Result<()>
         ensures { flushes writer.old result writer.new };
 
