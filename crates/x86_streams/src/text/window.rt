@@ -86,20 +86,6 @@ impl Window {
         true
     }
 
-    /// How a text ends that has at most half a pair left.
-    fn end(&self) -> Ending
-        requires { IsOpenText self.now.text.unread self.now.text.room }
-        ensures { result ≡ end_of (self.now.text.position + length self.now.text.unread)
-            self.now.text.unread }
-    {
-        let left = self.text.unread().len();
-        if left == 0 {
-            Ending::Clean
-        } else {
-            Ending::Bad(self.text.position_after(left as u64))
-        }
-    }
-
     /// Reads on, where at most half a pair is left.
     pub fn fill<R, I: Input<R>>(&mut self, input: &I, reader: &mut R)
         requires ended { self.old.ended ≡ None }
@@ -109,7 +95,12 @@ impl Window {
         ensures bytes { self.new.bytes ≡ self.old.bytes }
     {
         match self.text.read(input, reader) {
-            Ok(0) => self.ended = Some(self.end()),
+            Ok(0) => {
+                self.ended = Some(match self.text.unread().len() {
+                    0 => Ending::Clean,
+                    left => Ending::Bad(self.text.position_after(left as u64)),
+                });
+            }
             Ok(_) => {}
             Err(_) => self.ended = Some(Ending::Fault),
         }
