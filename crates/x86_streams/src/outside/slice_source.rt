@@ -2,7 +2,7 @@
 
 ghost use Rattle.std.specs.Prelude.{◌≡◌, Some};
 ghost use Rattle.x86_streams.specs.Outside.Source.{ReportsGot};
-ghost use Rattle.x86_streams.specs.Outside.ByNumber.{ByNumber, is_listed};
+ghost use Rattle.x86_streams.specs.Outside.ByNumber.{ByNumber};
 
 use crate::outside::sound_source::SoundSource;
 use crate::outside::source::{Got, Source};
@@ -41,13 +41,6 @@ impl<'a> SliceSource<'a> {
     {
         self.faults
     }
-
-    fn fails_now(&self) -> bool
-        ensures { result ≡ is_listed (slice_call self.now) (slice_fails self.now) }
-    {
-        let call = self.call;
-        call < u64::MAX && self.fails.contains(&call)
-    }
 }
 
 impl<'a> Source for SliceSource<'a> {
@@ -65,7 +58,8 @@ impl<'a> Source for SliceSource<'a> {
     ghost reports = { λ s g t h. h.0 };
 
     fn next(&mut self) -> Got {
-        let failed = self.fails_now();
+        let call = self.call;
+        let failed = call < u64::MAX && self.fails.contains(&call);
         self.call = self.call.saturating_add(1);
         if failed {
             self.faults = self.faults.saturating_add(1);
