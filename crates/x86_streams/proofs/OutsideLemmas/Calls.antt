@@ -1,13 +1,19 @@
 -- Calls of a reader and a writer, one after the other.
-use Rattle.std.proofs.Common.{◌≡◌, ℕ, zero, suc, List, [], ◌∷◌, ◌++◌, take, drop, IfErr, IsTrue, ◌↔◌, take-append-drop, length, length-take, Option, Result, Ok, refl, ap, ◌∙◌, subst, sym, append_assoc, append-nil, arith}
+use Rattle.std.proofs.Common.{◌≡◌, ℕ, zero, suc, ◌+◌, List, [], ◌∷◌, ◌++◌, take, drop, IfErr, IsTrue, ◌↔◌, take-append-drop, length, length-take, Option, Result, Ok, refl, ap, ◌∙◌, subst, sym, append_assoc, append-nil, arith}
 use Rattle.std.specs.Prelude.{Bool, OnOk, false, true, ⊤}
 use Rattle.std.specs.declared.io.Error.{Error}
+use Rattle.std.specs.declared.io.ErrorKind.TheVariants.{Interrupted}
+use Rattle.std.specs.IoError.{error_kind}
 use Rattle.std.specs.Io.{StartsWith}
 use Rattle.std.proofs.lemmas.List.{append_cancel_right, take-append-le}
 use Rattle.std.specs.Io.KnownBytes.{Keeps, Appends, ReadConsumes, WriteAppends}
 use Rattle.std.proofs.KnownBytes.{Keeps-refl, Keeps-trans, Appends-nil, Appends-kept}
 use Rattle.x86_streams.specs.declared.outside.sending.WriteFailed.{WriteFailed}
 use Rattle.x86_streams.specs.Outside.Chain.{Call, Read, Write, Flush, pieces, received, sent, stop_of, taken_by, not_taken, AllContinue, Cause, EndsIn, IsGone, Interruptions, ReadsOnce, WritesOnce, FlushesOnce, Calls, WriterCalls, Puts, Sends, SendsAll}
+
+pub interrupted_more : {O : Type 0} (tries : O → Error → O → Type 0) (n : ℕ) (e : Error) (a b d : O) →
+    Interruptions tries n a b → tries b e d → error_kind e ≡ Interrupted → Interruptions tries (n + 1) a d
+interrupted_more tries n e a b d before try is = let more : n + 1 ≡ suc n = omega arith in rw more (b, before, (e, try, is))
 
 pub starts_more : (bytes more next : List ℕ) → StartsWith bytes next → StartsWith (bytes ++ more) next
 starts_more bytes more next h = let fits = length-take (length next) bytes in grind (arith, ap length h, fits, take-append-le (length next) bytes more)

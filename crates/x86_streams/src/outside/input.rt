@@ -23,7 +23,7 @@ pub trait Input<R> {
 }
 
 /// One read, which is made again where a signal interrupts it.
-#[tactic(auto, using(crate::proofs::OutsideLemmas::Tries::interrupted_more))]
+#[tactic(auto, using(crate::proofs::OutsideLemmas::Calls::interrupted_more))]
 pub fn read_some<R, I: Input<R>>(input: &I, reader: &mut R, buffer: &mut [u8]) -> io::Result<usize>
     requires { 0 < length buffer.old }
     ensures bound { ReadsAtMost result buffer.new }

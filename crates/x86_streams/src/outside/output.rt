@@ -39,7 +39,7 @@ pub trait Output<W> {
 }
 
 /// One write, which is made again where a signal interrupts it.
-#[tactic(auto, using(crate::proofs::OutsideLemmas::Tries::interrupted_more))]
+#[tactic(auto, using(crate::proofs::OutsideLemmas::Calls::interrupted_more))]
 #[inline(always)]
 pub fn write_some<W, O: Output<W>>(output: &O, writer: &mut W, bytes: &[u8]) -> io::Result<usize>
     ensures bound { WritesAtMost result bytes.now }
@@ -55,7 +55,7 @@ pub fn write_some<W, O: Output<W>>(output: &O, writer: &mut W, bytes: &[u8]) -> 
 }
 
 /// One flush, which is made again where a signal interrupts it.
-#[tactic(auto, using(crate::proofs::OutsideLemmas::Tries::interrupted_more))]
+#[tactic(auto, using(crate::proofs::OutsideLemmas::Calls::interrupted_more))]
 pub fn flush_once<W, O: Output<W>>(output: &O, writer: &mut W) -> io::Result<()>
     ensures { FlushesOnce O.flushes result writer.old writer.new }
 {
