@@ -5,7 +5,7 @@ use Rattle.std.specs.Option.{option_map}
 use Rattle.x86_streams.specs.Outside.Stop.{Stop}
 use Rattle.x86_streams.specs.Text.{Text, is_blank, value_of, image_of, bad_of, ends_in_half, ending_by, text_at}
 use Rattle.x86_streams.specs.Text.Beginning.{IsOpenText}
-use Rattle.x86_streams.specs.Text.Reading.{with_byte, with_bytes}
+use Rattle.x86_streams.specs.Text.Reading.{with_bytes}
 
 pub with_bytes-with_bytes : (a b : List ℕ) (t : Text) → with_bytes a (with_bytes b t) ≡ with_bytes (a ++ b) t
 with_bytes-with_bytes a b t = ap (λ i. record { image = i; ending = t.ending }) (sym (append_assoc a b t.image))
@@ -41,6 +41,6 @@ unfolding text_at
 text-blank p r x xs stop e = grind (arith, of-blank, ending-after p 1)
 
 pub text-pair : (p r x y v w : ℕ) (xs : List ℕ) (stop : Stop) → is_blank x ≡ false → value_of x ≡ Some v → value_of y ≡ Some w →
-    text_at p (suc (suc r)) (x ∷ y ∷ xs) stop ≡ with_byte (16 * v + w) (text_at (p + 2) r xs stop)
+    text_at p (suc (suc r)) (x ∷ y ∷ xs) stop ≡ with_bytes ((16 * v + w) ∷ []) (text_at (p + 2) r xs stop)
 unfolding text_at image_of bad_of ends_in_half
 text-pair p r x y v w xs stop e d f = grind (arith, ending-after p 2)

@@ -53,9 +53,7 @@ fn are_digits(digits: &[u8; DIGITS]) -> bool
 {
     let mut most = 0;
     for i in 0..DIGITS {
-        if digits[i] > most {
-            most = digits[i];
-        }
+        most = most.max(digits[i]);
     }
     most < 16
 }

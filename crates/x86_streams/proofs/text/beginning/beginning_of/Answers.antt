@@ -1,11 +1,21 @@
-use Rattle.std.proofs.Common.{arith, rules, suc, ◌-◌, ◌<◌, ◌≡◌, refl, length, None, slice_index_or}
+use Rattle.std.proofs.Common.{arith, rules, suc, ◌-◌, ◌<◌, ◌≡◌, refl, length, ℕ, List, ◌∷◌, drop, subst, sym, None, slice_index_or}
 use Rattle.std.proofs.lemmas.List.{drop_all}
 use Rattle.std.proofs.lemmas.Grind.{common_steps}
 use Rattle.x86_streams.specs.declared.text.beginning.Beginning.TheVariants.{Blank, Pair, Bad, Large, Open}
 use Rattle.x86_streams.specs.Text.{value_of, text_at, image_of, bad_of, ends_in_half}
 use Rattle.x86_streams.proofs.TextLemmas.Text.{open-none, open-half, text-blank, text-pair}
-use Rattle.x86_streams.proofs.TextLemmas.Beginning.{by_first, by_second}
+use Rattle.std.proofs.Math.Seq.{drop-cons}
+use Rattle.x86_streams.specs.declared.text.beginning.Beginning.{Beginning}
+use Rattle.x86_streams.specs.Text.Beginning.{IsBeginning}
 use Rattle.x86_streams.proofs.text.beginning.beginning_of.Goals as goal
+
+-- by the first byte, and by the first two
+module _ (b : Beginning) (text : List ℕ) (room r : ℕ) (some : 0 < length text) (same : room ≡ r) where
+  by_first : IsBeginning b (slice_index_or text 0 0 ∷ drop 1 text) r → IsBeginning b text room
+  by_first h = subst (λ t. IsBeginning b t room) (sym (drop-cons text 0 0 some)) (rw same h)
+
+  by_second : 1 < length text → IsBeginning b (slice_index_or text 0 0 ∷ slice_index_or text 1 0 ∷ drop 2 text) r → IsBeginning b text room
+  by_second two h = by_first (subst (λ t. IsBeginning b (slice_index_or text 0 0 ∷ t) r) (sym (drop-cons text 1 0 two)) h)
 
 pub returns-then-is_empty : goal.returns-then-is_empty
 returns-then-is_empty c = rw (drop_all 0 c.args.text.now (search rules)) (open-none _)

@@ -1,5 +1,5 @@
-use Rattle.std.proofs.Common.{◌≡◌, ◌<◌, ◌≤◌, ◌+◌, ◌-◌, ℕ, suc, List, [], ◌∷◌, Option, length, slice_range, slice_index_or, refl, arith, rules, drop-cons, add-one}
-use Rattle.std.specs.Io.KnownBytes.{Consumes, prepend_known}
+use Rattle.std.proofs.Common.{◌≡◌, ◌<◌, ◌≤◌, ◌-◌, ℕ, suc, List, ◌∷◌, Option, length, slice_range, slice_index_or, refl, arith, drop-cons}
+use Rattle.std.specs.Io.KnownBytes.{prepend_known}
 use Rattle.std.proofs.KnownBytes.{prepend_known-nil}
 use Rattle.x86_streams.proofs.OutsideLemmas.Calls.{read_consumes}
 use Rattle.x86_streams.proofs.outside.std_source.StdSource.read_on.Goals as goal
@@ -10,9 +10,6 @@ none_held buffer position filled known is = let none : filled - position ≡ 0 =
 first_held : (buffer : List ℕ) (filled : ℕ) → 0 < filled → filled ≤ length buffer → slice_range buffer 0 filled ≡ slice_index_or buffer 0 0 ∷ slice_range buffer 1 filled
 first_held buffer filled some inside = let more : filled - 0 ≡ suc (filled - 1) = omega arith in rw (more, drop-cons buffer 0 0 (omega arith)) refl
 
-first_returned : (known known' : Option (List ℕ)) (bytes held : List ℕ) (b : ℕ) → bytes ≡ b ∷ held → Consumes known known' bytes → Consumes known (prepend_known held known') (b ∷ [])
-first_returned known known' bytes held b is h = grind arith
-
 pub returns-in-Ok-eq0 : goal.returns-in-Ok-eq0
 returns-in-Ok-eq0 g c =
     let h = read_consumes g.R.Read.remaining _ _ _ _ c.in-Ok-eq0.ensures.read in
@@ -20,10 +17,8 @@ returns-in-Ok-eq0 g c =
 
 pub returns-in-Ok : goal.returns-in-Ok
 returns-in-Ok g c =
-    let all : c.in-Ok.count - 0 ≡ c.in-Ok.count = omega arith in
-    let first = rw all at (first_held c.read_some.new.buffer c.in-Ok.count (omega arith) (omega arith)) in
     let h = read_consumes g.R.Read.remaining _ _ _ _ c.in-Ok.ensures.read in
-    rw (none_held _ _ _ _ c.requires) (first_returned _ _ _ _ _ first h.0, tt, refl)
+    rw (none_held _ _ _ _ c.requires) (grind (arith, h, first_held c.read_some.new.buffer c.in-Ok.count))
 
 pub returns-in-Err : goal.returns-in-Err
 returns-in-Err g c =
