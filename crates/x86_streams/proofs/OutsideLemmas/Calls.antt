@@ -38,7 +38,8 @@ ends_joined Is (c ∷ cs) ds e = e
 abbrev Failed : Result ⊤ WriteFailed → List ℕ → List Call → Type 0
 Failed answer held cs = Cause answer cs × IfErr answer (λ f. StartsWith held (not_taken cs) × (IsTrue f.gone ↔ EndsIn IsGone cs))
 
-pub failed_joined : (answer : Result ⊤ WriteFailed) (held : List ℕ) (cs ds : List Call) → AllContinue ds → Failed answer held cs → Failed answer held (cs ++ ds)
+pub failed_joined : (answer : Result ⊤ WriteFailed) (held : List ℕ) (cs ds : List Call) → AllContinue ds →
+    Failed answer held cs → Failed answer held (cs ++ ds)
 failed_joined answer held cs ds before h = grind (arith, all_continue_joined)
 
 module _ {W : Type 0} (writes : W → List ℕ → Result ℕ Error → W → Type 0) (flushes : W → Result ⊤ Error → W → Type 0) where
@@ -69,8 +70,9 @@ module _ {W : Type 0} (writes : W → List ℕ → Result ℕ Error → W → Ty
   sends_none new held held' w is = record { calls = []; did = refl; cause = tt; order = is; failed = tt }
 
   -- a write after these calls
-  abbrev pub sends_write : (answer : Result ⊤ WriteFailed) (x : Result ℕ Error) (new held held' held'' : List ℕ) (a b d : W) → Sends writes flushes (Ok tt) new held held' a b →
-      WritesOnce writes held' x b d → taken_by x held' ++ held'' ≡ held' → Failed answer held'' (Write held' x ∷ []) → Sends writes flushes answer new held held'' a d
+  abbrev pub sends_write : (answer : Result ⊤ WriteFailed) (x : Result ℕ Error) (new held held' held'' : List ℕ) (a b d : W) →
+      Sends writes flushes (Ok tt) new held held' a b → WritesOnce writes held' x b d → taken_by x held' ++ held'' ≡ held' →
+      Failed answer held'' (Write held' x ∷ []) → Sends writes flushes answer new held held'' a d
   sends_write answer x new held held' held'' a b d s wrote left failed = record {
     calls = Write held' x ∷ s.calls;
     did = (b, s.did, wrote);
@@ -85,8 +87,9 @@ module _ {W : Type 0} (writes : W → List ℕ → Result ℕ Error → W → Ty
   sends_all answer held a b d f some g =
       let ends = g.1 in
       let failed = failed_joined answer [] g.0.calls f.calls f.cause (g.0.cause, g.0.failed) in
+      let did = writer_calls_joined g.0.calls f.calls a b d f.did g.0.did in
       let order : sent (g.0.calls ++ f.calls) ++ [] ≡ held ++ [] = rw sent_joined (grind (arith, f.order, g.0.order, append-nil {A = ℕ})) in (
-        record { calls = g.0.calls ++ f.calls; did = writer_calls_joined g.0.calls f.calls a b d f.did g.0.did; cause = failed.0; order = order; failed = failed.1 },
+        record { calls = g.0.calls ++ f.calls; did = did; cause = failed.0; order = order; failed = failed.1 },
         grind (arith, ends_joined),
         λ none. absurd (some none),
       )

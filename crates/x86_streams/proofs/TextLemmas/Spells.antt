@@ -11,8 +11,8 @@ spells_blank text at vs s inside blank =
     record {
       inside = omega (arith, inside);
       pairs = omega (arith, s.pairs);
-      begins = rw (take_more text at 0 inside) (λ p r xs stop. grind (arith, append_assoc {A = ℕ}, length-append (take at text) (x ∷ []),
-          s.begins p (suc r) (x ∷ xs) stop, text-blank (p + length (take at text)) r x xs stop blank));
+      begins = rw (take_more text at 0 inside) (λ p r xs stop.
+          let begins = s.begins p (suc r) (x ∷ xs) stop in grind (arith, append_assoc {A = ℕ}, length-append (take at text) (x ∷ []), text-blank));
     }
 
 pub spells_pair : (text : List ℕ) (at v w : ℕ) (vs : List ℕ) → Spells text at vs → at + 1 < length text → is_blank (slice_index_or text at 0) ≡ false →
@@ -24,8 +24,8 @@ spells_pair text at v w vs s inside blank high low =
     record {
       inside = omega (arith, inside);
       pairs = simp length-append (omega (arith, s.pairs));
-      begins = rw two (λ p r xs stop. grind (arith, append_assoc {A = ℕ}, length-append (take at text) (x ∷ y ∷ []),
-          s.begins p (suc (suc r)) (x ∷ y ∷ xs) stop, text-pair (p + length (take at text)) r x y v w xs stop blank high low));
+      begins = rw two (λ p r xs stop.
+          let begins = s.begins p (suc (suc r)) (x ∷ y ∷ xs) stop in grind (arith, append_assoc {A = ℕ}, length-append (take at text) (x ∷ y ∷ []), text-pair));
     }
 
 -- one more cell, of which something holds

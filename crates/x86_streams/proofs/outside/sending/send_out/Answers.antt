@@ -24,4 +24,5 @@ returns-in-Ok-eq0-clause-sends g c =
 
 pub returns-in-Err-clause-sends : goal.returns-in-Err-clause-sends
 returns-in-Err-clause-sends g c =
-    sends_write _ _ (Err _) (Err _) [] _ _ _ _ _ _ c.loop-sent.invariant.sends (rw rest_of at c.in-Err.ensures.wrote) refl ((tt, tt), (take-length _, c.failed.ensures))
+    sends_write _ _ (Err _) (Err _) [] _ _ _ _ _ _ c.loop-sent.invariant.sends (rw rest_of at c.in-Err.ensures.wrote)
+    refl ((tt, tt), (take-length _, c.failed.ensures))

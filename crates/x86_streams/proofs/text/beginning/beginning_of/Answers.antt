@@ -54,4 +54,5 @@ unfolding text_at image_of bad_of ends_in_half
 returns-in-Blank-kind_of c =
     let some : 0 < length c.args.text.now = search rules in
     let none : value_of (slice_index_or c.args.text.now 1 0) ≡ None = grind (arith, c.kind_of-2.ensures, c.in-Blank-kind_of.is) in
-    by_second (Bad 1) _ _ (suc (suc (c.args.room - 2))) some (omega arith) (omega arith) (omega arith, omega arith, λ p xs s. rw (c.in-Digit.ensures.0, c.in-Digit.ensures.1, none) refl)
+    by_second (Bad 1) _ _ (suc (suc (c.args.room - 2))) some (omega arith) (omega arith)
+    (omega arith, omega arith, λ p xs s. rw (c.in-Digit.ensures.0, c.in-Digit.ensures.1, none) refl)

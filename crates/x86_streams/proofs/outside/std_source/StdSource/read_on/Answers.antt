@@ -4,10 +4,12 @@ use Rattle.std.proofs.KnownBytes.{prepend_known-nil}
 use Rattle.x86_streams.proofs.OutsideLemmas.Calls.{read_consumes}
 use Rattle.x86_streams.proofs.outside.std_source.StdSource.read_on.Goals as goal
 
-none_held : (buffer : List ℕ) (position filled : ℕ) (known : Option (List ℕ)) → position ≡ filled → prepend_known (slice_range buffer position filled) known ≡ known
+none_held : (buffer : List ℕ) (position filled : ℕ) (known : Option (List ℕ)) → position ≡ filled →
+    prepend_known (slice_range buffer position filled) known ≡ known
 none_held buffer position filled known is = let none : filled - position ≡ 0 = omega arith in rw none (prepend_known-nil known)
 
-first_held : (buffer : List ℕ) (filled : ℕ) → 0 < filled → filled ≤ length buffer → slice_range buffer 0 filled ≡ slice_index_or buffer 0 0 ∷ slice_range buffer 1 filled
+first_held : (buffer : List ℕ) (filled : ℕ) → 0 < filled → filled ≤ length buffer →
+    slice_range buffer 0 filled ≡ slice_index_or buffer 0 0 ∷ slice_range buffer 1 filled
 first_held buffer filled some inside = let more : filled - 0 ≡ suc (filled - 1) = omega arith in rw (more, drop-cons buffer 0 0 (omega arith)) refl
 
 pub returns-in-Ok-eq0 : goal.returns-in-Ok-eq0
