@@ -26,6 +26,8 @@ impl Gathered {
     }
 
     /// Sends what was gathered.
+    #[cold]
+    #[inline(never)]
     fn send<W, O: Output<W>>(&mut self, output: &O, writer: &mut W) -> Result<(), WriteFailed>
         ensures empty { OnOk result (self.new.bytes.items ≡ []) }
         ensures sends { Sends O.writes O.flushes result [] self.old.bytes.items
@@ -36,29 +38,10 @@ impl Gathered {
         result
     }
 
-    /// Takes a piece after what was gathered was sent.
-    #[cold]
-    #[inline(never)]
-    #[tactic(auto, using(crate::proofs::OutsideLemmas::Calls::puts_new))]
-    fn put_after<W, O: Output<W>>(
-        &mut self,
-        output: &O,
-        writer: &mut W,
-        piece: &[u8],
-    ) -> Result<(), WriteFailed>
-        requires fits { length piece.now ≤ 65536 }
-        requires gathers { O.gathers ≡ true }
-        ensures { Puts O.writes O.flushes O.gathers result piece.now
-            self.old.bytes.items self.new.bytes.items writer.old writer.new }
-    {
-        self.send(output, writer)?;
-        self.bytes.extend(piece);
-        Ok(())
-    }
-
     /// Takes a piece. Where it doesn't fit, what was gathered is sent first. An output that doesn't gather is written at
     /// once.
     #[inline(always)]
+    #[tactic(auto, using(crate::proofs::OutsideLemmas::Calls::puts_new))]
     pub fn put<W, O: Output<W>>(
         &mut self,
         output: &O,
@@ -74,7 +57,7 @@ impl Gathered {
             return put_whole(output, writer, piece);
         }
         if piece.len() > self.bytes.left() {
-            return self.put_after(output, writer, piece);
+            self.send(output, writer)?;
         }
         self.bytes.extend(piece);
         Ok(())
