@@ -1,4 +1,2 @@
--- Lemmas on sources and sinks, readers and writers.
-pub mod Tries
+-- Lemmas on readers and writers.
 pub mod Calls
-pub mod Buffers

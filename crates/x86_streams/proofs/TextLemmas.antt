@@ -1,8 +1,5 @@
 -- Lemmas on texts and the window over them.
 pub mod Text
-pub mod Kind
 pub mod Pair
-pub mod Beginning
 pub mod Spells
 pub mod Cells
-pub mod Window

@@ -1,6 +1,5 @@
 -- A hex text: its image, and how it ends.
 pub mod Beginning
-pub mod Kinds
 pub mod Reader
 pub mod Reading
 pub mod Pairs
@@ -24,9 +23,8 @@ value_of b =
     else (if nat_le 65 b && nat_le b 70 then Some (b - 65 + 10) else None))
 
 abbrev pub paired : Option ℕ → Option ℕ → List ℕ → List ℕ
-paired None low rest = []
-paired (Some high) None rest = []
 paired (Some high) (Some low) rest = (16 * high + low) ∷ rest
+paired high low rest = []
 
 -- the values of the whole pairs, up to the first byte that isn't allowed at its position
 unfoldable pub image_of : List ℕ → List ℕ

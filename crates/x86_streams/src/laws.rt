@@ -1,28 +1,19 @@
 //! Laws of hex text, and of what calls of sources, sinks, readers and writers say.
 
-ghost use Rattle.std.specs.Prelude.{◌≡◌, ◌↔◌, ℕ, IsTrue, List, [], Some, None, Result, drop, false, true, ⊤};
+ghost use Rattle.std.specs.Prelude.{◌≡◌, ◌↔◌, ℕ, IsTrue, List, [], Some, None, Result, false, true, ⊤};
 ghost use Rattle.std.specs.Io.KnownBytes.{Keeps, ReadConsumes, WriteAppends, prepend_known};
 ghost use Rattle.std.specs.declared.io.Error.{Error};
-ghost use Rattle.x86_streams.specs.Outside.ArraySink.{PutByNumber};
+ghost use Rattle.x86_streams.specs.Outside.ByNumber.{ByNumber, PutByNumber};
 ghost use Rattle.x86_streams.specs.Outside.OneByOne.{HoldsNothing, PutsPiece, ReadsByte};
 ghost use Rattle.x86_streams.specs.Outside.Seen.{slice_call, slice_fails, array_call, array_fails, sink_writer, source_reader, source_bytes};
 ghost use Rattle.x86_streams.specs.Outside.Sink.{ReportsPut};
-ghost use Rattle.x86_streams.specs.Outside.SliceSource.{ByNumber};
 ghost use Rattle.x86_streams.specs.Outside.Source.{ReportsGot};
 ghost use Rattle.x86_streams.specs.Text.Pairs.{SequencesAreSound, BadIsFirst};
 
-use crate::outside::array_sink::ArraySink;
-use crate::outside::input::Input;
-use crate::outside::null_sink::NullSink;
-use crate::outside::one_by_one::OneByOne;
-use crate::outside::output::Output;
-use crate::outside::process::Process;
-use crate::outside::sink::{Sink, SinkFailed};
-use crate::outside::slice_source::SliceSource;
-use crate::outside::sound_source::SoundSource;
-use crate::outside::source::{Got, Source};
-use crate::outside::std_sink::StdSink;
-use crate::outside::std_source::StdSource;
+use crate::{
+    ArraySink, Got, Input, NullSink, OneByOne, Output, Process, Sink, SinkFailed, SliceSource,
+    SoundSource, Source, StdSink, StdSource,
+};
 use std::io::{Read, Write};
 
 /// No byte is bad exactly in a sequence of blanks and pairs.
@@ -39,7 +30,7 @@ pub fn first()
 /// A call of a source over a slice fails where its number was chosen; the others return the bytes, and then the end.
 pub fn slices<'a>()
     ensures { (s t : SliceSource) (g : Got) → ⟦<SliceSource<'a> as Source>⟧.gives s g t →
-        ByNumber g (drop s.position s.bytes.now) (slice_call s) (slice_call t)
+        ByNumber g s.source.bytes.now (slice_call s) (slice_call t)
         (slice_fails s) (slice_fails t) }
 {}
 

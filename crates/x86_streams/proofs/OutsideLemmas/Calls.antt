@@ -1,53 +1,46 @@
 -- Calls of a reader and a writer, one after the other.
-use Rattle.std.proofs.Common.{◌≡◌, ℕ, zero, suc, List, [], ◌∷◌, ◌++◌, take, drop, IfErr, IsTrue, ◌↔◌, take-append-drop, length, length-take, Option, Result, Ok, Err, refl, ap, ◌∙◌, subst, sym, append_assoc, append-nil, arith}
+use Rattle.std.proofs.Common.{◌≡◌, ℕ, zero, suc, ◌+◌, List, [], ◌∷◌, ◌++◌, take, drop, IfErr, IsTrue, ◌↔◌, take-append-drop, length, length-take, Option, Result, Ok, refl, ap, ◌∙◌, subst, sym, append_assoc, append-nil, arith}
 use Rattle.std.specs.Prelude.{Bool, OnOk, false, true, ⊤}
 use Rattle.std.specs.declared.io.Error.{Error}
+use Rattle.std.specs.declared.io.ErrorKind.TheVariants.{Interrupted}
+use Rattle.std.specs.IoError.{error_kind}
 use Rattle.std.specs.Io.{StartsWith}
 use Rattle.std.proofs.lemmas.List.{append_cancel_right, take-append-le}
 use Rattle.std.specs.Io.KnownBytes.{Keeps, Appends, ReadConsumes, WriteAppends}
-use Rattle.std.proofs.KnownBytes.{Keeps-refl, Keeps-trans, Appends-nil, Appends-trans, Appends-kept}
+use Rattle.std.proofs.KnownBytes.{Keeps-refl, Keeps-trans, Appends-nil, Appends-kept}
 use Rattle.x86_streams.specs.declared.outside.sending.WriteFailed.{WriteFailed}
-use Rattle.x86_streams.specs.Outside.Stop.{Stop}
-use Rattle.x86_streams.specs.Outside.Chain.{Call, Read, Write, Flush, pieces, received, sent, stop_of, taken_by, not_taken, AllContinue, Cause, EndsIn, IsFlush, IsGone, Interruptions, ReadsOnce, WritesOnce, FlushesOnce, Calls, WriterCalls, Puts, Sends, SendsAll}
+use Rattle.x86_streams.specs.Outside.Chain.{Call, Read, Write, Flush, pieces, received, sent, stop_of, taken_by, not_taken, AllContinue, Cause, EndsIn, IsGone, Interruptions, ReadsOnce, WritesOnce, FlushesOnce, Calls, WriterCalls, Puts, Sends, SendsAll}
+
+pub interrupted_more : {O : Type 0} (tries : O → Error → O → Type 0) (n : ℕ) (e : Error) (a b d : O) →
+    Interruptions tries n a b → tries b e d → error_kind e ≡ Interrupted → Interruptions tries (n + 1) a d
+interrupted_more tries n e a b d before try is = let more : n + 1 ≡ suc n = omega arith in rw more (b, before, (e, try, is))
 
 pub starts_more : (bytes more next : List ℕ) → StartsWith bytes next → StartsWith (bytes ++ more) next
 starts_more bytes more next h = let fits = length-take (length next) bytes in grind (arith, ap length h, fits, take-append-le (length next) bytes more)
 
 pub sent_joined : (cs ds : List Call) → sent (cs ++ ds) ≡ sent ds ++ sent cs
 sent_joined [] ds = sym (append-nil (sent ds))
-sent_joined (Read buffer answer ∷ cs) ds = sent_joined cs ds
-sent_joined (Write bytes answer ∷ cs) ds = ap (λ bs. bs ++ taken_by answer bytes) (sent_joined cs ds) ∙ append_assoc (sent ds) (sent cs) (taken_by answer bytes)
-sent_joined (Flush answer ∷ cs) ds = sent_joined cs ds
+sent_joined (c ∷ cs) ds = grind (arith, sent_joined cs ds, append_assoc {A = ℕ})
 
 pub pieces_joined : (cs ds : List Call) → pieces (cs ++ ds) ≡ pieces ds ++ pieces cs
 pieces_joined [] ds = sym (append-nil (pieces ds))
-pieces_joined (Read buffer answer ∷ cs) ds = pieces_joined cs ds
-pieces_joined (Write bytes answer ∷ cs) ds = ap (λ ps. ps ++ bytes ∷ []) (pieces_joined cs ds) ∙ append_assoc (pieces ds) (pieces cs) (bytes ∷ [])
-pieces_joined (Flush answer ∷ cs) ds = pieces_joined cs ds
+pieces_joined (c ∷ cs) ds = grind (arith, pieces_joined cs ds, append_assoc {A = List ℕ})
 
 pub all_continue_joined : (cs ds : List Call) → AllContinue cs → AllContinue ds → AllContinue (cs ++ ds)
 all_continue_joined [] ds c d = d
 all_continue_joined (x ∷ cs) ds c d = (c.0, all_continue_joined cs ds c.1 d)
 
-pub cause_joined : {A E : Type 0} (answer : Result A E) (cs ds : List Call) → Cause answer cs → AllContinue ds → Cause answer (cs ++ ds)
-cause_joined (Ok x) cs ds c d = all_continue_joined cs ds c d
-cause_joined (Err e) [] ds c d = absurd c
-cause_joined (Err e) (x ∷ cs) ds c d = (c.0, all_continue_joined cs ds c.1 d)
-
 pub ends_joined : (Is : Call → Type 0) (cs ds : List Call) → EndsIn Is cs → EndsIn Is (cs ++ ds)
 ends_joined Is [] ds e = absurd e
 ends_joined Is (c ∷ cs) ds e = e
 
+-- What the last call says of a failure.
 abbrev Failed : Result ⊤ WriteFailed → List ℕ → List Call → Type 0
-Failed answer held cs = IfErr answer (λ f. StartsWith held (not_taken cs) × (IsTrue f.gone ↔ EndsIn IsGone cs))
+Failed answer held cs = Cause answer cs × IfErr answer (λ f. StartsWith held (not_taken cs) × (IsTrue f.gone ↔ EndsIn IsGone cs))
 
-pub failed_joined : (answer : Result ⊤ WriteFailed) (held : List ℕ) (cs ds : List Call) → Cause answer cs → Failed answer held cs → Failed answer held (cs ++ ds)
-failed_joined (Ok x) held cs ds cause h = tt
-failed_joined (Err e) held [] ds cause h = absurd cause
-failed_joined (Err e) held (Read buffer answer ∷ cs) ds cause h = h
-failed_joined (Err e) held (Write bytes (Ok n) ∷ cs) ds cause h = h
-failed_joined (Err e) held (Write bytes (Err f) ∷ cs) ds cause h = h
-failed_joined (Err e) held (Flush answer ∷ cs) ds cause h = h
+pub failed_joined : (answer : Result ⊤ WriteFailed) (held : List ℕ) (cs ds : List Call) → AllContinue ds →
+    Failed answer held cs → Failed answer held (cs ++ ds)
+failed_joined answer held cs ds before h = grind (arith, all_continue_joined)
 
 module _ {W : Type 0} (writes : W → List ℕ → Result ℕ Error → W → Type 0) (flushes : W → Result ⊤ Error → W → Type 0) where
   pub writer_calls_joined : (cs ds : List Call) (a b d : W) → WriterCalls writes flushes ds a b → WriterCalls writes flushes cs b d → WriterCalls writes flushes (cs ++ ds) a d
@@ -58,15 +51,11 @@ module _ {W : Type 0} (writes : W → List ℕ → Result ℕ Error → W → Ty
 
   pub received_joined : (cs ds : List Call) (w w' : W) → WriterCalls writes flushes cs w w' → received (cs ++ ds) ≡ received ds
   received_joined [] ds w w' did = refl
-  received_joined (Read buffer answer ∷ cs) ds w w' did = absurd did
-  received_joined (Write bytes answer ∷ cs) ds w w' did = received_joined cs ds w did.0 did.1
-  received_joined (Flush answer ∷ cs) ds w w' did = received_joined cs ds w did.0 did.1
+  received_joined (c ∷ cs) ds w w' did = grind (arith, received_joined cs ds w)
 
   pub stop_joined : (cs ds : List Call) (w w' : W) → WriterCalls writes flushes cs w w' → stop_of (cs ++ ds) ≡ stop_of ds
   stop_joined [] ds w w' did = refl
-  stop_joined (Read buffer answer ∷ cs) ds w w' did = absurd did
-  stop_joined (Write bytes answer ∷ cs) ds w w' did = stop_joined cs ds w did.0 did.1
-  stop_joined (Flush answer ∷ cs) ds w w' did = stop_joined cs ds w did.0 did.1
+  stop_joined (c ∷ cs) ds w w' did = grind (arith, stop_joined cs ds w)
 
   pub calls_joined : {R : Type 0} (reads : R → List ℕ → Result ℕ Error → R → Type 0) (cs ds : List Call) (r r' : R) (v w w' : W) →
       Calls reads writes flushes ds r r' v w → WriterCalls writes flushes cs w w' → Calls reads writes flushes (cs ++ ds) r r' v w'
@@ -77,61 +66,51 @@ module _ {W : Type 0} (writes : W → List ℕ → Result ℕ Error → W → Ty
 
   -- ---- what a buffer sends
 
-  pub sends_none : (new held held' : List ℕ) (w : W) → held' ≡ held ++ new → Sends writes flushes (Ok tt) new held held' w w
+  abbrev pub sends_none : (new held held' : List ℕ) (w : W) → held' ≡ held ++ new → Sends writes flushes (Ok tt) new held held' w w
   sends_none new held held' w is = record { calls = []; did = refl; cause = tt; order = is; failed = tt }
 
-  abbrev pub sends_join : (answer : Result ⊤ WriteFailed) (new more held held' held'' : List ℕ) (a b d : W) →
-      Sends writes flushes (Ok tt) new held held' a b → Sends writes flushes answer more held' held'' b d → Sends writes flushes answer (new ++ more) held held'' a d
-  sends_join answer new more held held' held'' a b d f g = record {
-    calls = g.calls ++ f.calls;
-    did = writer_calls_joined g.calls f.calls a b d f.did g.did;
-    cause = cause_joined answer g.calls f.calls g.cause f.cause;
-    order = rw (sent_joined, append_assoc, g.order, ← append_assoc, f.order) (append_assoc held new more);
-    failed = failed_joined answer held'' g.calls f.calls g.cause g.failed;
+  -- a write after these calls
+  abbrev pub sends_write : (answer : Result ⊤ WriteFailed) (x : Result ℕ Error) (new held held' held'' : List ℕ) (a b d : W) →
+      Sends writes flushes (Ok tt) new held held' a b → WritesOnce writes held' x b d → taken_by x held' ++ held'' ≡ held' →
+      Failed answer held'' (Write held' x ∷ []) → Sends writes flushes answer new held held'' a d
+  sends_write answer x new held held' held'' a b d s wrote left failed = record {
+    calls = Write held' x ∷ s.calls;
+    did = (b, s.did, wrote);
+    cause = (failed_joined answer held'' (Write held' x ∷ []) s.calls s.cause failed).0;
+    order = rw (append_assoc, left) s.order;
+    failed = (failed_joined answer held'' (Write held' x ∷ []) s.calls s.cause failed).1;
   }
-
-  ends_flush : (answer : Result ⊤ WriteFailed) (P : Type 0) (cs ds : List Call) → OnOk answer (P × EndsIn IsFlush cs) → OnOk answer (P × EndsIn IsFlush (cs ++ ds))
-  ends_flush (Ok done) P cs ds h = (h.0, ends_joined IsFlush cs ds h.1)
-  ends_flush (Err f) P cs ds h = tt
 
   -- what was held was sent, and then a flush was made
-  pub sends_all : (answer : Result ⊤ WriteFailed) (held held' : List ℕ) (a b d : W) (f : Sends writes flushes (Ok tt) [] held held' a b) → held' ≡ [] → (held ≡ [] → pieces f.calls ≡ []) →
-      SendsAll writes flushes answer [] [] b d → SendsAll writes flushes answer held held' a d
-  sends_all answer held held' a b d f none wrote g =
-      let g' : SendsAll writes flushes answer held' held' b d = rw none g in
-      (sends_join answer [] [] held held' held' a b d f g'.0, ends_flush answer (held' ≡ []) g'.0.calls f.calls g'.1, λ e. pieces_joined g'.0.calls f.calls ∙ ap (λ ps. ps ++ pieces g'.0.calls) (wrote e) ∙ g'.2 none)
-
-  failed_more : (answer : Result ⊤ WriteFailed) (held more : List ℕ) (cs : List Call) →
-      IfErr answer (λ f. StartsWith held (not_taken cs) × (IsTrue f.gone ↔ EndsIn IsGone cs)) → IfErr answer (λ f. StartsWith (held ++ more) (not_taken cs) × (IsTrue f.gone ↔ EndsIn IsGone cs))
-  failed_more (Ok done) held more cs h = tt
-  failed_more (Err f) held more cs h = (starts_more held more (not_taken cs) h.0, h.1)
-
-  -- what is held, and then new bytes
-  pub sends_new : (answer : Result ⊤ WriteFailed) (new held held' : List ℕ) (w w' : W) → Sends writes flushes answer [] held held' w w' → Sends writes flushes answer new held (held' ++ new) w w'
-  sends_new answer new held held' w w' s = record {
-    calls = s.calls;
-    did = s.did;
-    cause = s.cause;
-    order = sym (append_assoc (sent s.calls) held' new) ∙ ap (λ b. b ++ new) (s.order ∙ append-nil held);
-    failed = failed_more answer held' new s.calls s.failed;
-  }
+  pub sends_all : (answer : Result ⊤ WriteFailed) (held : List ℕ) (a b d : W) → Sends writes flushes (Ok tt) [] held [] a b → (held ≡ [] → ⊥) →
+      SendsAll writes flushes answer [] [] b d → SendsAll writes flushes answer held [] a d
+  sends_all answer held a b d f some g =
+      let ends = g.1 in
+      let failed = failed_joined answer [] g.0.calls f.calls f.cause (g.0.cause, g.0.failed) in
+      let did = writer_calls_joined g.0.calls f.calls a b d f.did g.0.did in
+      let order : sent (g.0.calls ++ f.calls) ++ [] ≡ held ++ [] = rw sent_joined (grind (arith, f.order, g.0.order, append-nil {A = ℕ})) in (
+        record { calls = g.0.calls ++ f.calls; did = did; cause = failed.0; order = order; failed = failed.1 },
+        grind (arith, ends_joined),
+        λ none. absurd (some none),
+      )
 
   -- what is held, and then a piece
   pub puts_new : (gathers : Bool) (answer : Result ⊤ WriteFailed) (piece held held' new : List ℕ) (w w' : W) → gathers ≡ true → Sends writes flushes answer [] held held' w w' → OnOk answer (new ≡ held' ++ piece) →
       Puts writes flushes gathers answer piece held new w w'
-  puts_new gathers answer piece held held' new w w' on s is =
-      record { rest = held' ++ piece; sends = sends_new answer piece held held' w w' s; held = is; once = λ off. let never : true ≡ false = sym on ∙ off in absurd (cc) }
+  puts_new gathers answer piece held held' new w w' on s is = record {
+    rest = held' ++ piece;
+    sends = let failed = s.failed in record {
+      calls = s.calls;
+      did = s.did;
+      cause = s.cause;
+      order = rw (← append_assoc, s.order, append-nil) refl;
+      failed = grind (arith, starts_more);
+    };
+    held = is;
+    once = λ off. let never : true ≡ false = sym on ∙ off in absurd (cc);
+  }
 
 -- ---- what std says of its readers and writers
-
-kept_read : (a b d : Option (List ℕ)) (answer : Result ℕ Error) (buffer : List ℕ) → Keeps a b → ReadConsumes b d answer buffer → ReadConsumes a d answer buffer
-kept_read a b d answer buffer kept h = grind arith
-
-kept_write : (a b d : Option (List ℕ)) (answer : Result ℕ Error) (bytes : List ℕ) → Keeps a b → WriteAppends b d answer bytes → WriteAppends a d answer bytes
-kept_write a b d answer bytes kept h = grind arith
-
-appends_taken : (a b : Option (List ℕ)) (answer : Result ℕ Error) (bytes : List ℕ) → WriteAppends a b answer bytes → Appends a b (taken_by answer bytes)
-appends_taken a b answer bytes h = grind (arith, append-nil {A = ℕ})
 
 module _ {O : Type 0} (view : O → Option (List ℕ)) (tries : O → Error → O → Type 0) (keeps : (u : O) (e : Error) (v : O) → tries u e v → Keeps (view u) (view v)) where
   interruptions_keep : (n : ℕ) (a b : O) → Interruptions tries n a b → Keeps (view a) (view b)
@@ -141,7 +120,8 @@ module _ {O : Type 0} (view : O → Option (List ℕ)) (tries : O → Error → 
 pub read_consumes : {R : Type 0} (left : R → Option (List ℕ)) (buffer : List ℕ) (answer : Result ℕ Error) (r r' : R) →
     ReadsOnce (λ s b a t. ReadConsumes (left s) (left t) a b) buffer answer r r' → ReadConsumes (left r) (left r') answer buffer
 read_consumes left buffer answer r r' h =
-    let kept = interruptions_keep left _ (λ u e v tried. tried.1) h.count r h.before h.interrupted in kept_read (left r) (left h.before) (left r') answer buffer kept h.answered
+    let kept = interruptions_keep left _ (λ u e v tried. tried.1) h.count r h.before h.interrupted in
+    let answered = h.answered in grind arith
 
 module _ {W : Type 0} (contents : W → Option (List ℕ)) where
   abbrev pub StdWrites : W → List ℕ → Result ℕ Error → W → Type 0
@@ -152,7 +132,8 @@ module _ {W : Type 0} (contents : W → Option (List ℕ)) where
 
   pub write_appends : (bytes : List ℕ) (answer : Result ℕ Error) (w w' : W) → WritesOnce StdWrites bytes answer w w' → WriteAppends (contents w) (contents w') answer bytes
   write_appends bytes answer w w' h =
-      let kept = interruptions_keep contents _ (λ u e v tried. tried) h.count w h.before h.interrupted in kept_write (contents w) (contents h.before) (contents w') answer bytes kept h.answered
+      let kept = interruptions_keep contents _ (λ u e v tried. tried) h.count w h.before h.interrupted in
+      let answered = h.answered in grind arith
 
   pub flush_keeps : (answer : Result ⊤ Error) (w w' : W) → FlushesOnce StdFlushes answer w w' → Keeps (contents w) (contents w')
   flush_keeps answer w w' h =
@@ -163,7 +144,8 @@ module _ {W : Type 0} (contents : W → Option (List ℕ)) where
   calls_append [] w w' is = rw is (Appends-nil (contents w))
   calls_append (Read buffer answer ∷ cs) w w' did = absurd did
   calls_append (Write bytes answer ∷ cs) w w' did =
-      Appends-trans (contents w) (contents did.0) (contents w') (sent cs) (taken_by answer bytes) (calls_append cs w did.0 did.1) (appends_taken (contents did.0) (contents w') answer bytes (write_appends bytes answer did.0 w' did.2))
+      let before = calls_append cs w did.0 did.1 in
+      let wrote = write_appends bytes answer did.0 w' did.2 in grind (arith, append_assoc {A = ℕ}, append-nil {A = ℕ})
   calls_append (Flush answer ∷ cs) w w' did = Appends-kept (contents w) (contents did.0) (contents w') (sent cs) (calls_append cs w did.0 did.1) (flush_keeps answer did.0 w' did.2)
 
   -- What is no longer held is written.

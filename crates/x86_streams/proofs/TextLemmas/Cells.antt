@@ -1,5 +1,5 @@
 -- Cells, and the bytes that some of them hold.
-use Rattle.std.proofs.Common.{◌≡◌, ℕ, ◌+◌, ◌-◌, ◌≤◌, List, ◌++◌, length, take, drop, ap, arith, ◌∙◌, length-take-le, length-drop}
+use Rattle.std.proofs.Common.{◌≡◌, ℕ, ◌+◌, ◌-◌, ◌≤◌, List, [], ◌++◌, length, take, drop, ap, arith, ◌∙◌, length-take-le, length-drop}
 use Rattle.std.proofs.Math.Seq.{take-add, take-append-le}
 use Rattle.std.proofs.lemmas.List.{drop-take, take-take, take_at, drop_at}
 use borrow.Rule.Slice.PartMut.{put_mid}
@@ -24,3 +24,8 @@ read_after cells buffer unread at filled k n m ordered inside fits count is =
     let there = moved cells at filled ordered inside in
     let long : length (take (filled - at) (copy_within cells at filled 0)) ≡ filled - at = grind (arith, ap length there, length-drop at (take filled cells), length-take-le filled cells) in
     rw count (put_after (take (filled - at) (copy_within cells at filled 0)) buffer _ unread (filled - at) n long (there ∙ is) fits)
+
+-- the same where nothing was read
+pub read_none : (cells buffer unread : List ℕ) (at filled k m : ℕ) → at ≤ filled → filled ≤ length cells → m ≡ filled - at →
+    drop at (take filled cells) ≡ unread → take m (put_mid (filled - at) k (copy_within cells at filled 0) buffer) ≡ unread ++ []
+read_none cells buffer unread at filled k m ordered inside count is = read_after cells buffer unread at filled k 0 m ordered inside (omega arith) (omega arith) is

@@ -1,30 +1,12 @@
 -- Sequences of blanks and pairs.
-use Rattle.std.proofs.Common.{if◌then◌else◌, ◌≡◌, ℕ, zero, suc, ◌+◌, ◌*◌, ◌<◌, List, [], ◌∷◌, ◌++◌, length, take, refl, arith, Option, Some, None, Bool, true, false, ap, ◌∙◌, sym, take-take}
+use Rattle.std.proofs.Common.{if◌then◌else◌, ◌≡◌, ℕ, zero, suc, ◌+◌, ◌<◌, List, [], ◌∷◌, ◌++◌, length, take, refl, arith, Option, Some, None, Bool, true, nat_lt}
+use Rattle.std.proofs.Math.Seq.{take-length}
 use Rattle.std.specs.List.{flat_map}
 use Rattle.std.specs.Option.{option_map}
 use Rattle.std.specs.Prelude.{is_some, ◌||◌}
 use Rattle.x86_streams.specs.Text.{is_blank, value_of, bad_of, image_of, ends_in_half}
 use Rattle.x86_streams.specs.Text.Pairs.{Item, blank, pair, bytes_of, values_of, AreItems, IsHalf, IsSequence, is_half, SequencesAreSound, BadIsFirst}
-use Rattle.x86_streams.proofs.TextLemmas.Text.{value-blank, image-blank, bad-blank, half-blank}
-
-digit_not_blank : (b v : ℕ) → value_of b ≡ Some v → is_blank b ≡ false
-digit_not_blank b v e = grind (arith, value-blank)
-
--- the first bad byte of two or more, by those after the first and after the second
-abbrev bad_by : Bool → Option ℕ → Option ℕ → Option ℕ → Option ℕ → Option ℕ
-bad_by skips x y p q = if skips then option_map (λ n. 1 + n) p else (if is_some x then (if is_some y then option_map (λ n. 2 + n) q else Some 1) else Some 0)
-
-bad-pair : (a b v w : ℕ) (s : List ℕ) → value_of a ≡ Some v → value_of b ≡ Some w → bad_of (a ∷ b ∷ s) ≡ option_map (λ n. 2 + n) (bad_of s)
-unfolding bad_of
-bad-pair a b v w s d e = let f = digit_not_blank a v d in rw (f, d, e) refl
-
-image-pair : (a b v w : ℕ) (s : List ℕ) → value_of a ≡ Some v → value_of b ≡ Some w → image_of (a ∷ b ∷ s) ≡ (16 * v + w) ∷ image_of s
-unfolding image_of
-image-pair a b v w s d e = let f = digit_not_blank a v d in rw (f, d, e) refl
-
-half-pair : (a b v : ℕ) (s : List ℕ) → value_of a ≡ Some v → ends_in_half (a ∷ b ∷ s) ≡ ends_in_half s
-unfolding ends_in_half
-half-pair a b v s d = let f = digit_not_blank a v d in rw f refl
+use Rattle.x86_streams.proofs.TextLemmas.Text.{value-blank, of-blank}
 
 -- from a sequence
 
@@ -32,129 +14,79 @@ items_bad : (items : List Item) (half : List ℕ) → AreItems items → IsHalf 
     (bad_of (flat_map bytes_of items ++ half) ≡ None) × (image_of (flat_map bytes_of items ++ half) ≡ flat_map values_of items)
     × (ends_in_half (flat_map bytes_of items ++ half) ≡ is_half half)
 unfolding image_of ends_in_half bad_of
-items_bad [] half each ok = grind (arith, digit_not_blank)
-items_bad (blank b ∷ items) half each ok =
-    let h = items_bad items half each.1 ok in
-    grind (arith, bad-blank, image-blank, half-blank, value-blank)
-items_bad (pair a b ∷ items) half each ok =
-    let h = items_bad items half each.2 ok in
-    grind (arith, digit_not_blank)
+items_bad [] half each ok = grind (arith, value-blank)
+items_bad (blank b ∷ items) half each ok = grind (arith, items_bad items half each.1 ok, of-blank, value-blank)
+items_bad (pair a b ∷ items) half each ok = grind (arith, items_bad items half each.2 ok, value-blank)
 
 sequence_bad : (bytes image half : List ℕ) → IsSequence bytes image half → (bad_of bytes ≡ None) × (image_of bytes ≡ image) × (ends_in_half bytes ≡ is_half half)
-sequence_bad bytes image half sequence =
-    let h = items_bad sequence.items half sequence.each sequence.half_pair in
-    rw (sequence.whole, sequence.values) h
+sequence_bad bytes image half s = rw (s.whole, s.values) (items_bad s.items half s.each s.half_pair)
 
 -- to a sequence
 
 Found : List ℕ → Type 0
-Found bytes = (half : List ℕ) × IsSequence bytes (image_of bytes) half × (ends_in_half bytes ≡ is_half half)
+Found bytes = (image half : List ℕ) × IsSequence bytes image half
+
+found : (items : List Item) (half : List ℕ) → AreItems items → IsHalf half → Found (flat_map bytes_of items ++ half)
+unfolding Found
+found items half each ok = (_, half, record { items = items; each = each; half_pair = ok; whole = refl; values = refl })
 
 from_blank : (b : ℕ) (s : List ℕ) → is_blank b ≡ true → Found s → Found (b ∷ s)
 unfolding Found
-from_blank b s e found =
-    let sequence = found.1 in (
-      found.0,
-      record {
-        items = blank b ∷ sequence.items;
-        each = (e, sequence.each);
-        half_pair = sequence.half_pair;
-        whole = ap (λ xs. b ∷ xs) sequence.whole;
-        values = image-blank b s e ∙ sequence.values;
-      },
-      half-blank b s e (value-blank b e) ∙ found.2,
-    )
+from_blank b s e f = let q = f.2 in rw q.whole (found (blank b ∷ q.items) f.1 (e, q.each) q.half_pair)
 
 from_pair : (a b v w : ℕ) (s : List ℕ) → value_of a ≡ Some v → value_of b ≡ Some w → Found s → Found (a ∷ b ∷ s)
 unfolding Found
-from_pair a b v w s d e found =
-    let sequence = found.1 in (
-      found.0,
-      record {
-        items = pair a b ∷ sequence.items;
-        each = ((v, d), (w, e), sequence.each);
-        half_pair = sequence.half_pair;
-        whole = ap (λ xs. a ∷ b ∷ xs) sequence.whole;
-        values = image-pair a b v w s d e ∙ rw (d, e) (ap (λ xs. (16 * v + w) ∷ xs) sequence.values);
-      },
-      half-pair a b v s d ∙ found.2,
-    )
-
-from_none : Found []
-unfolding Found image_of ends_in_half
-from_none = ([], record { items = []; each = tt; half_pair = tt; whole = refl; values = refl }, refl)
-
-from_half : (a v : ℕ) → value_of a ≡ Some v → Found (a ∷ [])
-unfolding Found image_of ends_in_half
-from_half a v d = (a ∷ [], record { items = []; each = tt; half_pair = (v, d); whole = refl; values = refl }, rw d refl)
+from_pair a b v w s d e f = let q = f.2 in rw q.whole (found (pair a b ∷ q.items) f.1 ((v, d), (w, e), q.each) q.half_pair)
 
 sequence_of : (bytes : List ℕ) → bad_of bytes ≡ None → Found bytes
 unfolding bad_of
-sequence_of [] e = from_none
-sequence_of (a ∷ []) e =
-    let f = from_blank a [] in
-    let g = from_half a in
-    grind (arith, from_none)
-sequence_of (a ∷ b ∷ s) e =
-    let f = sequence_of (b ∷ s) in
-    let g = sequence_of s in
-    grind (arith, from_blank, from_pair)
+sequence_of [] e = found [] [] tt tt
+sequence_of (a ∷ []) e = let half = λ (v : ℕ) (d : value_of a ≡ Some v). found [] (a ∷ []) tt (v, d) in grind (arith, from_blank, sequence_of [] refl)
+sequence_of (a ∷ b ∷ s) e = grind (arith, from_blank, from_pair, sequence_of (b ∷ s), sequence_of s)
 
 pub sequences_sound : SequencesAreSound
 unfolding Found
-sequences_sound = (sequence_of, sequence_bad)
+sequences_sound = (
+  λ bytes e. let f = sequence_of bytes e in let is = sequence_bad bytes _ _ f.2 in (f.1, rw is.1 f.2, is.2),
+  sequence_bad,
+)
 
 -- the first bad byte
 
-record First (bytes : List ℕ) (n : ℕ) : Type 0 where
-  inside : n < length bytes
-  before : bad_of (take n bytes) ≡ None
-  here : bad_of (take (suc n) bytes) ≡ Some n
-  image : image_of (take n bytes) ≡ image_of bytes
+-- that of two or more, by those after the first and after the second
+abbrev bad_by : Bool → Option ℕ → Option ℕ → Option ℕ → Option ℕ → Option ℕ
+bad_by skips x y p q = if skips then option_map (λ n. 1 + n) p else (if is_some x then (if is_some y then option_map (λ n. 2 + n) q else Some 1) else Some 0)
 
-first_blank : (a : ℕ) (s : List ℕ) (m : ℕ) → is_blank a ≡ true → First s m → First (a ∷ s) (suc m)
-first_blank a s m e f = grind (arith, bad-blank, image-blank)
+-- a place, if it is below a bound
+abbrev below : ℕ → Option ℕ → Option ℕ
+below m None = None
+below m (Some n) = if nat_lt n m then Some n else None
 
-first_pair : (a b v w : ℕ) (s : List ℕ) (m : ℕ) → value_of a ≡ Some v → value_of b ≡ Some w → First s m → First (a ∷ b ∷ s) (suc (suc m))
-first_pair a b v w s m d e f = grind (arith, bad-pair, image-pair)
+below_further : (skips : Bool) (x y p q : Option ℕ) (m : ℕ) → bad_by skips x y (below (suc m) p) (below m q) ≡ below (suc (suc m)) (bad_by skips x y p q)
+below_further skips x y p q m = grind arith
 
-mapped : (k : ℕ) (o : Option ℕ) (n m : ℕ) → option_map (λ x. k + x) o ≡ Some n → n ≡ k + m → o ≡ Some m
-mapped k o n m e is = grind arith
+below_one : (skips : Bool) (x y p q : Option ℕ) → (if skips || is_some x then None else Some zero) ≡ below 1 (bad_by skips x y p q)
+below_one skips x y p q = grind arith
 
-first_further : (skips : Bool) (x y : Option ℕ) (a b : ℕ) (s : List ℕ) (n : ℕ) → is_blank a ≡ skips → value_of a ≡ x → value_of b ≡ y →
-    bad_by skips x y (bad_of (b ∷ s)) (bad_of s) ≡ Some (suc (suc n)) → (bad_of (b ∷ s) ≡ Some (suc n) → First (b ∷ s) (suc n)) → (bad_of s ≡ Some n → First s n) → First (a ∷ b ∷ s) (suc (suc n))
-first_further true x y a b s n h d k e f g = first_blank a (b ∷ s) (suc n) h (f (mapped 1 _ _ (suc n) e (omega arith)))
-first_further false (Some v) (Some w) a b s n h d k e f g = first_pair a b v w s n d k (g (mapped 2 _ _ n e (omega arith)))
-first_further false None y a b s n h d k e f g = cc
-first_further false x None a b s n h d k e f g = cc
-
-first_bad : (bytes : List ℕ) (n : ℕ) → bad_of bytes ≡ Some n → First bytes n
-unfolding bad_of image_of
-first_bad [] n e = cc
-first_bad (a ∷ []) n e = grind arith
-first_bad (a ∷ b ∷ s) zero e = grind arith
-first_bad (a ∷ b ∷ s) (suc zero) e = let f = first_bad (b ∷ s) 0 in grind arith
-first_bad (a ∷ b ∷ s) (suc (suc n)) e =
-    first_further (is_blank a) (value_of a) (value_of b) a b s n refl refl refl e (first_bad (b ∷ s) (suc n)) (first_bad s n)
-
--- A beginning of bytes without a bad byte has none.
-good_one : (skips : Bool) (x p q : Option ℕ) → (if skips then p else (if is_some x then q else Some zero)) ≡ None → (if skips || is_some x then None else Some zero) ≡ None
-good_one skips x p q e = grind arith
-
-good_further : (skips : Bool) (x y p q p' q' : Option ℕ) → bad_by skips x y p q ≡ None → (p ≡ None → p' ≡ None) → (q ≡ None → q' ≡ None) → bad_by skips x y p' q' ≡ None
-good_further skips x y p q p' q' e f g = grind arith
-
-beginnings_good : (m : ℕ) (bytes : List ℕ) → bad_of bytes ≡ None → bad_of (take m bytes) ≡ None
+bad-take : (m : ℕ) (bytes : List ℕ) → bad_of (take m bytes) ≡ below m (bad_of bytes)
 unfolding bad_of
-beginnings_good zero bytes e = refl
-beginnings_good (suc m) [] e = refl
-beginnings_good (suc zero) (a ∷ []) e = e
-beginnings_good (suc (suc m)) (a ∷ []) e = e
-beginnings_good (suc zero) (a ∷ b ∷ s) e = good_one (is_blank a) (value_of a) _ _ e
-beginnings_good (suc (suc m)) (a ∷ b ∷ s) e =
-    good_further (is_blank a) (value_of a) (value_of b) _ _ _ _ e (beginnings_good (suc m) (b ∷ s)) (beginnings_good m s)
+bad-take zero bytes = grind arith
+bad-take (suc m) [] = refl
+bad-take (suc zero) (a ∷ []) = grind arith
+bad-take (suc (suc m)) (a ∷ []) = grind arith
+bad-take (suc zero) (a ∷ b ∷ s) = below_one (is_blank a) (value_of a) (value_of b) _ _
+bad-take (suc (suc m)) (a ∷ b ∷ s) = rw (bad-take (suc m) (b ∷ s), bad-take m s) (below_further (is_blank a) (value_of a) (value_of b) _ _ m)
+
+image-take : (n : ℕ) (bytes : List ℕ) → bad_of bytes ≡ Some n → image_of (take n bytes) ≡ image_of bytes
+unfolding bad_of image_of
+image-take n [] e = cc
+image-take n (a ∷ []) e = grind arith
+image-take zero (a ∷ b ∷ s) e = grind arith
+image-take (suc zero) (a ∷ b ∷ s) e = grind (arith, image-take 0 (b ∷ s))
+image-take (suc (suc n)) (a ∷ b ∷ s) e = grind (arith, image-take (suc n) (b ∷ s), image-take n s)
 
 pub bad_is_first : BadIsFirst
 bad_is_first bytes n e =
-    let f = first_bad bytes n e in
-    (f.inside, (λ m le. ap bad_of (sym (take-take m n bytes le)) ∙ beginnings_good m (take n bytes) f.before), grind (arith, f.here), f.image)
+    let all = bad-take (length bytes) bytes in
+    let inside : n < length bytes = grind (arith, take-length bytes) in
+    (inside, (λ m le. rw (bad-take, e) (grind arith)), rw (bad-take, e) (grind arith), image-take n bytes e)

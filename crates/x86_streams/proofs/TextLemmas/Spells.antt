@@ -2,33 +2,30 @@
 use Rattle.std.proofs.Common.{add-zero, ◌≡◌, ℕ, zero, suc, ◌+◌, ◌*◌, ◌%◌, ◌<◌, ◌≤◌, List, [], ◌∷◌, ◌++◌, length, take, set, slice_index_or, arith, Some, true, false, append_assoc, length-append}
 use Rattle.std.proofs.lemmas.List.{take_more, get_or-set_same, get_or-set_other}
 use Rattle.x86_streams.specs.Text.{is_blank, value_of}
-use Rattle.x86_streams.specs.Text.Spells.{Begins, Spells}
+use Rattle.x86_streams.specs.Text.Spells.{Spells}
 use Rattle.x86_streams.proofs.TextLemmas.Text.{text-blank, text-pair, value-blank}
 
-module _ (bs vs : List ℕ) (b : Begins bs vs) where
-  begins_blank : (x : ℕ) → is_blank x ≡ true → Begins (bs ++ x ∷ []) vs
-  begins_blank x blank p r xs s =
-      grind (arith, append_assoc {A = ℕ}, length-append bs (x ∷ []), b p (suc r) (x ∷ xs) s, text-blank (p + length bs) r x xs s blank)
-
-  begins_pair : (x y v w : ℕ) → is_blank x ≡ false → value_of x ≡ Some v → value_of y ≡ Some w → Begins (bs ++ x ∷ y ∷ []) (vs ++ (16 * v + w) ∷ [])
-  begins_pair x y v w blank high low p r xs s =
-      grind (arith, append_assoc {A = ℕ}, length-append bs (x ∷ y ∷ []), b p (suc (suc r)) (x ∷ y ∷ xs) s, text-pair (p + length bs) r x y v w xs s blank high low)
-
 pub spells_blank : (text : List ℕ) (at : ℕ) (vs : List ℕ) → Spells text at vs → at < length text → is_blank (slice_index_or text at 0) ≡ true → Spells text (at + 1) vs
-spells_blank text at vs s inside blank = record {
-  inside = omega (arith, inside);
-  pairs = omega (arith, s.pairs);
-  begins = rw (take_more text at 0 inside) (begins_blank (take at text) vs s.begins (slice_index_or text at 0) blank);
-}
+spells_blank text at vs s inside blank =
+    let x = slice_index_or text at 0 in
+    record {
+      inside = omega (arith, inside);
+      pairs = omega (arith, s.pairs);
+      begins = rw (take_more text at 0 inside) (λ p r xs stop.
+          let begins = s.begins p (suc r) (x ∷ xs) stop in grind (arith, append_assoc {A = ℕ}, length-append (take at text) (x ∷ []), text-blank));
+    }
 
 pub spells_pair : (text : List ℕ) (at v w : ℕ) (vs : List ℕ) → Spells text at vs → at + 1 < length text → is_blank (slice_index_or text at 0) ≡ false →
     value_of (slice_index_or text at 0) ≡ Some v → value_of (slice_index_or text (at + 1) 0) ≡ Some w → Spells text (at + 2) (vs ++ (16 * v + w) ∷ [])
 spells_pair text at v w vs s inside blank high low =
-    let begins = begins_pair (take at text) vs s.begins (slice_index_or text at 0) (slice_index_or text (at + 1) 0) v w blank high low in
+    let x = slice_index_or text at 0 in
+    let y = slice_index_or text (at + 1) 0 in
+    let two : take (at + 2) text ≡ take at text ++ x ∷ y ∷ [] = grind (arith, take_more text at 0, take_more text (at + 1) 0, append_assoc {A = ℕ}) in
     record {
       inside = omega (arith, inside);
       pairs = simp length-append (omega (arith, s.pairs));
-      begins = grind (arith, begins, take_more text at 0, take_more text (at + 1) 0, append_assoc {A = ℕ});
+      begins = rw two (λ p r xs stop.
+          let begins = s.begins p (suc (suc r)) (x ∷ y ∷ xs) stop in grind (arith, append_assoc {A = ℕ}, length-append (take at text) (x ∷ y ∷ []), text-pair));
     }
 
 -- one more cell, of which something holds

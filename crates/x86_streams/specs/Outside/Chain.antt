@@ -22,22 +22,19 @@ taken_by (Err e) bytes = []
 abbrev pub received : List Call → List ℕ
 received [] = []
 received (Read buffer answer ∷ cs) = received cs ++ taken_by answer buffer
-received (Write bytes answer ∷ cs) = received cs
-received (Flush answer ∷ cs) = received cs
+received (c ∷ cs) = received cs
 
 -- the bytes that the writer took
 abbrev pub sent : List Call → List ℕ
 sent [] = []
-sent (Read buffer answer ∷ cs) = sent cs
 sent (Write bytes answer ∷ cs) = sent cs ++ taken_by answer bytes
-sent (Flush answer ∷ cs) = sent cs
+sent (c ∷ cs) = sent cs
 
 -- what the writes were to take, piece by piece
 abbrev pub pieces : List Call → List (List ℕ)
 pieces [] = []
-pieces (Read buffer answer ∷ cs) = pieces cs
 pieces (Write bytes answer ∷ cs) = pieces cs ++ bytes ∷ []
-pieces (Flush answer ∷ cs) = pieces cs
+pieces (c ∷ cs) = pieces cs
 
 -- what stopped the reads: one that returned no byte, or an error
 abbrev pub stop_of : List Call → Option Stop
@@ -45,8 +42,7 @@ stop_of [] = None
 stop_of (Read buffer (Ok zero) ∷ cs) = Some End
 stop_of (Read buffer (Ok (suc n)) ∷ cs) = None
 stop_of (Read buffer (Err e) ∷ cs) = Some Failed
-stop_of (Write bytes answer ∷ cs) = stop_of cs
-stop_of (Flush answer ∷ cs) = stop_of cs
+stop_of (c ∷ cs) = stop_of cs
 
 -- A write or a flush that answered an error, or a write that took none of bytes that aren't empty.
 abbrev pub Fails : Call → Type 0
@@ -71,7 +67,7 @@ abbrev pub EndsIn : (Call → Type 0) → List Call → Type 0
 EndsIn Is [] = ⊥
 EndsIn Is (c ∷ cs) = Is c
 
--- the bytes that the last call was to write, where it answered an error
+-- the bytes that the last call was to write, where it answered an error; of a write that answered 0 this says nothing
 abbrev pub not_taken : List Call → List ℕ
 not_taken (Write bytes (Err e) ∷ cs) = bytes
 not_taken cs = []

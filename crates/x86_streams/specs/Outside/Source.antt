@@ -8,20 +8,17 @@ use Rattle.x86_streams.specs.Outside.FaultCounts.{Rose}
 -- what a call of a source took
 abbrev pub taken : Got → List ℕ
 taken (Byte b) = b ∷ []
-taken End = []
-taken Failed = []
+taken g = []
 
 -- End comes only where no byte is left.
 abbrev pub EndsOnly : Got → Option (List ℕ) → Type 0
-EndsOnly (Byte b) left = ⊤
 EndsOnly End left = IfSome left (λ xs. xs ≡ [])
-EndsOnly Failed left = ⊤
+EndsOnly g left = ⊤
 
 -- Failed comes only where the count rose, and the others leave it.
 abbrev pub CountsFailed : Got → ℕ → ℕ → Type 0
-CountsFailed (Byte b) old new = new ≡ old
-CountsFailed End old new = new ≡ old
 CountsFailed Failed old new = Rose old new
+CountsFailed g old new = new ≡ old
 
 -- What a call of a source says of its bytes, where they are known, and of its faults.
 abbrev pub ReportsGot : Got → Option (List ℕ) → Option (List ℕ) → ℕ → ℕ → Type 0

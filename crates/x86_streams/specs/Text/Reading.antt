@@ -1,5 +1,5 @@
 -- What a text says of every text that begins so.
-use Rattle.std.specs.Prelude.{◌≡◌, ℕ, ◌<◌, List, [], ◌∷◌, ◌++◌, length, Option, Some, None, ⊤}
+use Rattle.std.specs.Prelude.{◌≡◌, ℕ, ◌<◌, List, [], ◌++◌, length, Option, Some, None, ⊤}
 use Rattle.x86_streams.specs.declared.text.reader.Ending.{Ending}
 use Rattle.x86_streams.specs.declared.text.reader.Ending.TheVariants.{Fault}
 use Rattle.x86_streams.specs.Outside.Stop.{Stop}
@@ -8,10 +8,6 @@ use Rattle.x86_streams.specs.Text.{Text}
 -- a text with bytes before its image
 abbrev pub with_bytes : List ℕ → Text → Text
 with_bytes bytes t = record { image = bytes ++ t.image; ending = t.ending }
-
--- a text with a byte before its image
-abbrev pub with_byte : ℕ → Text → Text
-with_byte v t = record { image = v ∷ t.image; ending = t.ending }
 
 -- a text that is at its end
 abbrev pub ended : Ending → Text

@@ -8,6 +8,18 @@ use Rattle.x86_streams.specs.Text.{Text, text_at}
 use Rattle.x86_streams.specs.Text.Reader.{TextPosition}
 use Rattle.x86_streams.specs.Text.Reading.{MayCome, with_bytes}
 
+-- the most bytes that an instruction may have: a window takes more where it has fewer
+abbrev pub instruction_max : ℕ
+instruction_max = 15
+
+-- the most bytes that come into a window at once: up to 256, and then at most 48
+abbrev pub taken_max : ℕ
+taken_max = 256 + 48
+
+-- room for both
+abbrev pub window_room : ℕ
+window_room = 320
+
 -- the bytes that a window holds
 pub record WindowBytes : Type 0 where
   pub items : List ℕ

@@ -2,7 +2,7 @@
 
 ghost use Rattle.std.specs.Prelude.{◌≡◌, Some, []};
 ghost use Rattle.x86_streams.specs.Outside.Sink.{ReportsPut};
-ghost use Rattle.x86_streams.specs.Outside.ArraySink.{PutByNumber, is_chosen};
+ghost use Rattle.x86_streams.specs.Outside.ByNumber.{PutByNumber, is_chosen};
 ghost use Rattle.x86_streams.specs.Outside.Seen.{array_call, array_fails};
 
 use crate::outside::sink::{Sink, SinkFailed};
@@ -70,18 +70,14 @@ impl<const N: usize> Sink for ArraySink<N> {
     fn put(&mut self, piece: &[u8]) -> Result<(), SinkFailed> {
         let failed = self.fails_now();
         self.call = self.call.saturating_add(1);
-        if failed {
-            self.faults = self.faults.saturating_add(1);
-            return Err(SinkFailed);
+        if !failed {
+            let fits = piece.len().min(self.bytes.remaining_capacity());
+            let _ = self.bytes.try_extend_from_slice(&piece[..fits]);
+            if fits == piece.len() {
+                return Ok(());
+            }
         }
-        let room = self.bytes.remaining_capacity();
-        if piece.len() <= room {
-            let _ = self.bytes.try_extend_from_slice(piece);
-            Ok(())
-        } else {
-            let _ = self.bytes.try_extend_from_slice(&piece[..room]);
-            self.faults = self.faults.saturating_add(1);
-            Err(SinkFailed)
-        }
+        self.faults = self.faults.saturating_add(1);
+        Err(SinkFailed)
     }
 }

@@ -13,6 +13,7 @@ const SIZE: usize = 65536;
 /// leaves unsent stays in the buffer, so no byte is sent twice.
 #[derive(Drop)]
 pub struct Gathered {
+    /// What was gathered and not sent yet, in order.
     pub bytes: Room<SIZE>,
 }
 
@@ -25,6 +26,8 @@ impl Gathered {
     }
 
     /// Sends what was gathered.
+    #[cold]
+    #[inline(never)]
     fn send<W, O: Output<W>>(&mut self, output: &O, writer: &mut W) -> Result<(), WriteFailed>
         ensures empty { OnOk result (self.new.bytes.items ≡ []) }
         ensures sends { Sends O.writes O.flushes result [] self.old.bytes.items
@@ -35,32 +38,10 @@ impl Gathered {
         result
     }
 
-    /// Takes a piece after what was gathered was sent.
-    #[cold]
-    #[inline(never)]
-    fn put_after<W, O: Output<W>>(
-        &mut self,
-        output: &O,
-        writer: &mut W,
-        piece: &[u8],
-    ) -> Result<(), WriteFailed>
-        requires fits { length piece.now ≤ 65536 }
-        requires gathers { O.gathers ≡ true }
-        ensures { Puts O.writes O.flushes O.gathers result piece.now
-            self.old.bytes.items self.new.bytes.items writer.old writer.new }
-    {
-        match self.send(output, writer) {
-            Ok(()) => {
-                self.bytes.extend(piece);
-                Ok(())
-            }
-            Err(failed) => Err(failed),
-        }
-    }
-
     /// Takes a piece. Where it doesn't fit, what was gathered is sent first. An output that doesn't gather is written at
     /// once.
     #[inline(always)]
+    #[tactic(auto, using(crate::proofs::OutsideLemmas::Calls::puts_new))]
     pub fn put<W, O: Output<W>>(
         &mut self,
         output: &O,
@@ -76,7 +57,7 @@ impl Gathered {
             return put_whole(output, writer, piece);
         }
         if piece.len() > self.bytes.left() {
-            return self.put_after(output, writer, piece);
+            self.send(output, writer)?;
         }
         self.bytes.extend(piece);
         Ok(())
@@ -94,9 +75,7 @@ impl Gathered {
         if self.bytes.as_slice().is_empty() {
             return flush_out(output, writer);
         }
-        match self.send(output, writer) {
-            Ok(()) => flush_out(output, writer),
-            Err(failed) => Err(failed),
-        }
+        self.send(output, writer)?;
+        flush_out(output, writer)
     }
 }

@@ -14,7 +14,8 @@ pub trait Input<R> {
     /// What a read may answer, with this in its buffer, and what it may leave of the reader.
     ghost reads: { R → List ℕ → Result ℕ Error → R → Type 0 };
 
-    /// One read, into a buffer with room for a byte at least.
+    /// One read, into a buffer with room for a byte at least. It returns how many bytes were read, 0 at the end, and
+    /// fails with the error of the reader.
     fn read(&self, reader: &mut R, buffer: &mut [u8]) -> io::Result<usize>
         requires { 0 < length buffer.old }
         ensures bound { ReadsAtMost result buffer.new }
@@ -22,7 +23,7 @@ pub trait Input<R> {
 }
 
 /// One read, which is made again where a signal interrupts it.
-#[tactic(auto, using(crate::proofs::OutsideLemmas::Tries::interrupted_more))]
+#[tactic(auto, using(crate::proofs::OutsideLemmas::Calls::interrupted_more))]
 pub fn read_some<R, I: Input<R>>(input: &I, reader: &mut R, buffer: &mut [u8]) -> io::Result<usize>
     requires { 0 < length buffer.old }
     ensures bound { ReadsAtMost result buffer.new }
@@ -30,12 +31,8 @@ pub fn read_some<R, I: Input<R>>(input: &I, reader: &mut R, buffer: &mut [u8]) -
 {
     for tried in 0..TRIES {
         match input.read(reader, buffer) {
-            Ok(count) => return Ok(count),
-            Err(error) => {
-                if !is_interrupted(&error) {
-                    return Err(error);
-                }
-            }
+            Err(error) if is_interrupted(&error) => {}
+            answer => return answer,
         }
     }
     input.read(reader, buffer)

@@ -24,12 +24,12 @@ pub trait Output<W> {
     fn gathers(&self) -> bool
         ensures { result ≡ gathers };
 
-    /// One write.
+    /// One write. It returns how many of the bytes were taken, from the first on, and fails with the writer's error.
     fn write(&self, writer: &mut W, bytes: &[u8]) -> io::Result<usize>
         ensures bound { WritesAtMost result bytes.now }
         ensures wrote { writes writer.old bytes.now result writer.new };
 
-    /// One flush.
+    /// One flush. It fails with the writer's error.
     fn flush(&self, writer: &mut W) -> io::Result<()>
         ensures { flushes writer.old result writer.new };
 
@@ -39,7 +39,7 @@ pub trait Output<W> {
 }
 
 /// One write, which is made again where a signal interrupts it.
-#[tactic(auto, using(crate::proofs::OutsideLemmas::Tries::interrupted_more))]
+#[tactic(auto, using(crate::proofs::OutsideLemmas::Calls::interrupted_more))]
 #[inline(always)]
 pub fn write_some<W, O: Output<W>>(output: &O, writer: &mut W, bytes: &[u8]) -> io::Result<usize>
     ensures bound { WritesAtMost result bytes.now }
@@ -47,30 +47,22 @@ pub fn write_some<W, O: Output<W>>(output: &O, writer: &mut W, bytes: &[u8]) -> 
 {
     for tried in 0..TRIES {
         match output.write(writer, bytes) {
-            Ok(count) => return Ok(count),
-            Err(error) => {
-                if !is_interrupted(&error) {
-                    return Err(error);
-                }
-            }
+            Err(error) if is_interrupted(&error) => {}
+            answer => return answer,
         }
     }
     output.write(writer, bytes)
 }
 
 /// One flush, which is made again where a signal interrupts it.
-#[tactic(auto, using(crate::proofs::OutsideLemmas::Tries::interrupted_more))]
+#[tactic(auto, using(crate::proofs::OutsideLemmas::Calls::interrupted_more))]
 pub fn flush_once<W, O: Output<W>>(output: &O, writer: &mut W) -> io::Result<()>
     ensures { FlushesOnce O.flushes result writer.old writer.new }
 {
     for tried in 0..TRIES {
         match output.flush(writer) {
-            Ok(()) => return Ok(()),
-            Err(error) => {
-                if !is_interrupted(&error) {
-                    return Err(error);
-                }
-            }
+            Err(error) if is_interrupted(&error) => {}
+            answer => return answer,
         }
     }
     output.flush(writer)

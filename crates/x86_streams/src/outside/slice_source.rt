@@ -1,21 +1,20 @@
 //! A source over a slice, of which chosen calls fail.
 
-ghost use Rattle.std.specs.Prelude.{◌≡◌, ◌≤◌, Some, drop, length};
+ghost use Rattle.std.specs.Prelude.{◌≡◌, Some};
 ghost use Rattle.x86_streams.specs.Outside.Source.{ReportsGot};
-ghost use Rattle.x86_streams.specs.Outside.SliceSource.{ByNumber, is_listed};
+ghost use Rattle.x86_streams.specs.Outside.ByNumber.{ByNumber};
 
+use crate::outside::sound_source::SoundSource;
 use crate::outside::source::{Got, Source};
 
 /// The bytes of a slice. The calls whose numbers, from 0, are in `fails` answer `Failed`; the number of a call stops
 /// at `u64::MAX`, and a call with that number doesn't fail.
 #[derive(Drop)]
 pub struct SliceSource<'a> {
-    bytes: &'a [u8],
+    source: SoundSource<'a>,
     fails: &'a [u64],
-    position: usize,
     call: u64,
     faults: u64,
-    ghost in_range: { position ≤ length bytes.now },
 }
 
 impl<'a> SliceSource<'a> {
@@ -29,9 +28,8 @@ impl<'a> SliceSource<'a> {
         ensures call { slice_call result ≡ 0 }
     {
         SliceSource {
-            bytes,
+            source: SoundSource::new(bytes),
             fails,
-            position: 0,
             call: 0,
             faults: 0,
         }
@@ -43,42 +41,30 @@ impl<'a> SliceSource<'a> {
     {
         self.faults
     }
-
-    fn fails_now(&self) -> bool
-        ensures { result ≡ is_listed (slice_call self.now) (slice_fails self.now) }
-    {
-        let call = self.call;
-        call < u64::MAX && self.fails.contains(&call)
-    }
 }
 
 impl<'a> Source for SliceSource<'a> {
     ghost use Rattle.x86_streams.specs.Outside.Seen.{slice_call, slice_fails};
 
-    ghost left = { λ s. Some (drop s.position s.bytes.now) };
+    ghost left = { λ s. Some s.source.bytes.now };
 
     ghost faults = { λ s. s.faults };
 
-    ghost gives = { λ s g t. ReportsGot g (Some (drop s.position s.bytes.now))
-        (Some (drop t.position t.bytes.now)) s.faults t.faults
-        × ByNumber g (drop s.position s.bytes.now) (slice_call s) (slice_call t) (slice_fails s)
+    ghost gives = { λ s g t. ReportsGot g (Some s.source.bytes.now)
+        (Some t.source.bytes.now) s.faults t.faults
+        × ByNumber g s.source.bytes.now (slice_call s) (slice_call t) (slice_fails s)
         (slice_fails t) };
 
     ghost reports = { λ s g t h. h.0 };
 
     fn next(&mut self) -> Got {
-        let failed = self.fails_now();
+        let call = self.call;
+        let failed = call < u64::MAX && self.fails.contains(&call);
         self.call = self.call.saturating_add(1);
         if failed {
             self.faults = self.faults.saturating_add(1);
             return Got::Failed;
         }
-        if self.position < self.bytes.len() {
-            let byte = self.bytes[self.position];
-            self.position += 1;
-            Got::Byte(byte)
-        } else {
-            Got::End
-        }
+        self.source.next()
     }
 }

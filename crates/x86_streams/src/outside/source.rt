@@ -7,8 +7,11 @@ ghost use Rattle.x86_streams.specs.declared.outside.source.Got.{Got};
 /// What a call of a source returns.
 #[derive(Clone, Copy, PartialEq, Eq, Debug, Drop)]
 pub enum Got {
+    /// The next byte, which was taken.
     Byte(u8),
+    /// No byte is left.
     End,
+    /// The call failed and took no byte; a later one may succeed.
     Failed,
 }
 

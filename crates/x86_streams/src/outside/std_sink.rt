@@ -53,13 +53,10 @@ impl<W: Write + Drop> Sink for StdSink<W> {
 
     #[inline(always)]
     fn put(&mut self, piece: &[u8]) -> Result<(), SinkFailed> {
-        let (_, result) = send_out(&Process, &mut self.writer, piece);
-        match result {
-            Ok(()) => Ok(()),
-            Err(_) => {
-                self.faults = self.faults.saturating_add(1);
-                Err(SinkFailed)
-            }
+        if send_out(&Process, &mut self.writer, piece).1.is_err() {
+            self.faults = self.faults.saturating_add(1);
+            return Err(SinkFailed);
         }
+        Ok(())
     }
 }

@@ -56,9 +56,7 @@ impl<R: Read + Drop> StdSource<R> {
     {
         self.faults
     }
-}
 
-impl<R: Read + Drop> StdSource<R> {
     /// Reads on, where no byte of the buffer is left, and returns the first byte that was read.
     #[cold]
     #[inline(never)]

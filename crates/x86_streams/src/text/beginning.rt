@@ -1,8 +1,6 @@
 //! What a text begins with.
 
-ghost use Rattle.std.specs.Prelude.{◌<◌, length, slice_index_or};
 ghost use Rattle.x86_streams.specs.Text.Beginning.{IsBeginning};
-ghost use Rattle.x86_streams.specs.Text.Kinds.{IsKind};
 
 use crate::text::kinds::{Kind, kind_of};
 
@@ -30,20 +28,11 @@ pub fn beginning_of(text: &[u8], room: u64) -> Beginning
     if room == 0 {
         return Beginning::Large;
     }
-    match kind_of(text[0]) {
-        Kind::Blank => Beginning::Blank,
-        Kind::Other => Beginning::Bad(0),
-        Kind::Digit(high) => after_digit(text, room, high),
-    }
-}
-
-/// What a text begins with whose first byte is a digit of this value.
-fn after_digit(text: &[u8], room: u64, high: u8) -> Beginning
-    requires some { 0 < length text.now }
-    requires room { 0 < room }
-    requires digit { IsKind (Kind.Digit high) (slice_index_or text.now 0 0) }
-    ensures { IsBeginning result text.now room }
-{
+    let high = match kind_of(text[0]) {
+        Kind::Blank => return Beginning::Blank,
+        Kind::Other => return Beginning::Bad(0),
+        Kind::Digit(high) => high,
+    };
     if text.len() == 1 {
         return Beginning::Open;
     }

@@ -2,6 +2,7 @@
 
 ghost use Rattle.std.specs.Prelude.{◌≡◌, ℕ, ◌+◌, ◌<◌, ◌≤◌, ◌++◌, ◌∷◌, [], length, drop, take, nat_le, ◌==◌};
 ghost use Rattle.x86_streams.specs.Text.Spells.{Brings, Spells};
+ghost use Rattle.x86_streams.specs.Text.Window.{instruction_max, taken_max, window_room};
 
 use crate::text::pairs::read_more;
 use std::marker::Model;
@@ -25,13 +26,13 @@ pub struct ImageBytes {
 
 impl Model for ImageBytes {
     ghost use Rattle.std.specs.Prelude.{ℕ, ◌≤◌, take, drop};
-    ghost use Rattle.x86_streams.specs.Text.Window.{WindowBytes};
+    ghost use Rattle.x86_streams.specs.Text.Window.{WindowBytes, window_room};
 
     ghost Value = { WindowBytes };
 
     ghost view = { λ b. record { items = drop b.start (take b.end b.values) } };
 
-    ghost invariant = { λ b. (b.start ≤ b.end) × (b.end ≤ 320) };
+    ghost invariant = { λ b. (b.start ≤ b.end) × (b.end ≤ window_room) };
 }
 
 impl ImageBytes {
@@ -53,7 +54,7 @@ impl ImageBytes {
     /// Whether there are as many bytes as an instruction may have.
     #[inline(always)]
     pub fn is_full(&self) -> bool
-        ensures { result ≡ nat_le 15 (length self.now.items) }
+        ensures { result ≡ nat_le instruction_max (length self.now.items) }
     {
         INSTRUCTION_MAX <= self.len()
     }
@@ -85,7 +86,7 @@ impl ImageBytes {
 
     /// Appends a byte.
     pub fn push(&mut self, byte: u8)
-        requires { length self.old.items < 15 }
+        requires { length self.old.items < instruction_max }
         ensures { self.new.items ≡ self.old.items ++ byte ∷ [] }
     {
         let count = move_to_beginning(&mut self.values, self.start, self.end);
@@ -96,7 +97,7 @@ impl ImageBytes {
 
     /// Appends bytes that the pairs at the beginning of a text spell. It returns how many bytes of the text were read.
     pub fn read(&mut self, text: &[u8]) -> usize
-        requires { length self.old.items < 15 }
+        requires { length self.old.items < instruction_max }
         ensures { Brings text.now result self.old.items self.new.items }
     {
         let before = move_to_beginning(&mut self.values, self.start, self.end);
@@ -111,7 +112,7 @@ impl ImageBytes {
 #[tactic(auto, using(crate::proofs::TextLemmas::Cells::moved))]
 fn move_to_beginning(values: &mut [u8; ROOM], start: usize, end: usize) -> usize
     requires ordered { start ≤ end }
-    requires inside { end ≤ 320 }
+    requires inside { end ≤ window_room }
     ensures bytes { take result values.new ≡ drop start (take end values.old) }
     ensures count { start + result ≡ end }
 {
@@ -122,8 +123,8 @@ fn move_to_beginning(values: &mut [u8; ROOM], start: usize, end: usize) -> usize
 /// Writes bytes that the pairs at the beginning of a text spell. It returns how many they are, and how many bytes of
 /// the text were read.
 fn read_pairs(text: &[u8], values: &mut [u8]) -> (usize, usize)
-    requires { 304 ≤ length values.old }
-    ensures fits { result.0 ≤ 304 }
+    requires { taken_max ≤ length values.old }
+    ensures fits { result.0 ≤ taken_max }
     ensures spells { Spells text.now result.1 (take result.0 values.new) }
 {
     let mut count = 0;

@@ -53,9 +53,7 @@ fn are_digits(digits: &[u8; DIGITS]) -> bool
 {
     let mut most = 0;
     for i in 0..DIGITS {
-        if digits[i] > most {
-            most = digits[i];
-        }
+        most = most.max(digits[i]);
     }
     most < 16
 }
@@ -120,11 +118,8 @@ fn after_blanks(text: &[u8], from: usize) -> usize
         Spells text.now result values }
 {
     let mut at = from;
-    'blanks: while at < text.len() {
-        match kind_of(text[at]) {
-            Kind::Blank => at += 1,
-            Kind::Digit(_) | Kind::Other => break 'blanks,
-        }
+    'blanks: while at < text.len() && matches!(kind_of(text[at]), Kind::Blank) {
+        at += 1;
     }
     at
 }
@@ -145,23 +140,17 @@ fn after_blank(text: &[u8], at: usize) -> usize
     }
 }
 
-/// Reads pairs from a position on, and the blanks between them, up to the end of the line, until there are `most` bytes.
+/// Reads pairs from a position on, and the blanks between them, up to the end of the line, at most 48 of them.
 /// It returns how many there are then, and the position.
 #[inline(always)]
-fn read_line(
-    text: &[u8],
-    from: usize,
-    values: &mut [u8],
-    before: usize,
-    most: usize,
-) -> (usize, usize)
-    requires most { before ≤ most }
-    requires room { most ≤ length values.old }
+fn read_line(text: &[u8], from: usize, values: &mut [u8], before: usize) -> (usize, usize)
+    requires room { before + 48 ≤ length values.old }
     requires spells { Spells text.now from (take before values.old) }
     ensures more { before ≤ result.0 }
-    ensures fits { result.0 ≤ most }
+    ensures fits { result.0 ≤ before + 48 }
     ensures spells { Spells text.now result.1 (take result.0 values.new) }
 {
+    let most = before + LINE;
     let mut at = from;
     let mut count = before;
     'pairs: while count < most && at + 2 < text.len() && text[at] != b'\n' {
@@ -169,14 +158,14 @@ fn read_line(
         match kind_of(text[first]) {
             Kind::Blank => at = first + 1,
             Kind::Other => break 'pairs,
-            Kind::Digit(high) => match kind_of(text[first + 1]) {
-                Kind::Blank | Kind::Other => break 'pairs,
-                Kind::Digit(low) => {
-                    values[count] = 16 * high + low;
-                    at = first + 2;
-                    count += 1;
-                }
-            },
+            Kind::Digit(high) => {
+                let Kind::Digit(low) = kind_of(text[first + 1]) else {
+                    break 'pairs;
+                };
+                values[count] = 16 * high + low;
+                at = first + 2;
+                count += 1;
+            }
         }
     }
     (count, at)
@@ -195,7 +184,7 @@ pub fn read_more(text: &[u8], from: usize, values: &mut [u8], count: usize) -> (
     let at = after_blanks(text, from);
     let run = read_run(text, at, values, count);
     if run == 0 {
-        return read_line(text, at, values, count, count + LINE);
+        return read_line(text, at, values, count);
     }
     (count + run, at + 2 * run)
 }

@@ -97,12 +97,8 @@ impl TextReader {
         ensures { result.now ≡ take self.now.room self.now.unread }
     {
         let unread = &self.block[self.at..self.filled];
-        let room = self.end - self.position;
-        if (unread.len() as u64) < room {
-            unread
-        } else {
-            &unread[..room as usize]
-        }
+        let count = (unread.len() as u64).min(self.end - self.position);
+        &unread[..count as usize]
     }
 
     /// Takes bytes.
@@ -119,6 +115,7 @@ impl TextReader {
     }
 
     /// Reads on, where at most half a pair is left. It returns how many bytes were read.
+    #[tactic(auto, using(crate::proofs::TextLemmas::Cells::read_after, crate::proofs::TextLemmas::Cells::read_none))]
     pub fn read<R, I: Input<R>>(&mut self, input: &I, reader: &mut R) -> io::Result<usize>
         requires { length self.old.unread ≤ 1 }
         ensures reads { ReadsBlock I.reads result self.old.unread self.new.unread
@@ -130,12 +127,8 @@ impl TextReader {
         self.block.copy_within(self.at..self.filled, 0);
         self.at = 0;
         self.filled = left;
-        match read_some(input, reader, &mut self.block[left..left + BLOCK]) {
-            Ok(count) => {
-                self.filled = left + count;
-                Ok(count)
-            }
-            Err(error) => Err(error),
-        }
+        let count = read_some(input, reader, &mut self.block[left..left + BLOCK])?;
+        self.filled = left + count;
+        Ok(count)
     }
 }

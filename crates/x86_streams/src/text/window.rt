@@ -1,7 +1,7 @@
 //! The next bytes of an image.
 
 ghost use Rattle.std.specs.Prelude.{◌≡◌, ◌+◌, ◌<◌, [], length, None, true, false};
-ghost use Rattle.x86_streams.specs.Text.Window.{Steps, TakesBytes, Fills};
+ghost use Rattle.x86_streams.specs.Text.Window.{Steps, TakesBytes, Fills, instruction_max};
 ghost use Rattle.x86_streams.specs.Text.Beginning.{IsOpenText, end_of};
 
 use crate::outside::input::Input;
@@ -12,8 +12,11 @@ use crate::text::reader::{Ending, TextReader};
 /// The next bytes of an image, and the reader of what follows them.
 #[derive(Drop)]
 pub struct Window {
+    /// The next bytes of the image.
     pub bytes: ImageBytes,
+    /// What reads the text, at what follows those bytes.
     pub text: TextReader,
+    /// How the text ended, where it has: then the image has no byte after these.
     pub ended: Option<Ending>,
 }
 
@@ -38,7 +41,7 @@ impl Window {
     #[inline(never)]
     fn take_many(&mut self)
         requires ended { self.old.ended ≡ None }
-        requires few { length self.old.bytes.items < 15 }
+        requires few { length self.old.bytes.items < instruction_max }
         ensures takes { TakesBytes self.old.ended self.old.bytes.items self.old.text
             self.new.bytes.items self.new.text }
         ensures ended { self.new.ended ≡ self.old.ended }
@@ -64,7 +67,7 @@ impl Window {
     /// where the bytes that follow decide what comes.
     pub fn step(&mut self) -> bool
         requires ended { self.old.ended ≡ None }
-        requires few { length self.old.bytes.items < 15 }
+        requires few { length self.old.bytes.items < instruction_max }
         ensures steps { result ≡ true → Steps self.old.bytes.items self.old.text
             self.new.ended self.new.bytes.items self.new.text }
         ensures same { result ≡ false → self.new ≡ self.old }
@@ -83,20 +86,6 @@ impl Window {
         true
     }
 
-    /// How a text ends that has at most half a pair left.
-    fn end(&self) -> Ending
-        requires { IsOpenText self.now.text.unread self.now.text.room }
-        ensures { result ≡ end_of (self.now.text.position + length self.now.text.unread)
-            self.now.text.unread }
-    {
-        let left = self.text.unread().len();
-        if left == 0 {
-            Ending::Clean
-        } else {
-            Ending::Bad(self.text.position_after(left as u64))
-        }
-    }
-
     /// Reads on, where at most half a pair is left.
     pub fn fill<R, I: Input<R>>(&mut self, input: &I, reader: &mut R)
         requires ended { self.old.ended ≡ None }
@@ -106,7 +95,12 @@ impl Window {
         ensures bytes { self.new.bytes ≡ self.old.bytes }
     {
         match self.text.read(input, reader) {
-            Ok(0) => self.ended = Some(self.end()),
+            Ok(0) => {
+                self.ended = Some(match self.text.unread().len() {
+                    0 => Ending::Clean,
+                    left => Ending::Bad(self.text.position_after(left as u64)),
+                });
+            }
             Ok(_) => {}
             Err(_) => self.ended = Some(Ending::Fault),
         }

@@ -1,20 +1,19 @@
-use Rattle.std.proofs.Common.{◌≡◌, ◌==◌, Bool, false, true, List, ℕ, [], ◌∷◌, length, ◌∙◌, ap, sym, arith}
+use Rattle.std.proofs.Common.{◌≡◌, ◌==◌, false, true, List, ℕ, [], ◌∷◌, length, arith, sym}
 use Rattle.x86_streams.proofs.OutsideLemmas.Calls.{sends_all}
 use Rattle.x86_streams.proofs.outside.gathered.Gathered.send_all.Goals as goal
 
-empty : (bytes items : List ℕ) → true ≡ (length bytes == 0) → bytes ≡ items → items ≡ []
-empty [] items none same = sym same
-empty (x ∷ xs) items none same = grind arith
+none : (bytes items : List ℕ) → true ≡ (length bytes == 0) → bytes ≡ items → items ≡ []
+none [] items test same = sym same
+none (x ∷ xs) items test same = grind arith
 
-never_empty : (bytes items : List ℕ) → false ≡ (length bytes == 0) → bytes ≡ items → items ≡ [] → ⊥
-never_empty bytes items some same none = let f : false ≡ true = some ∙ ap (λ l. length l == 0) (same ∙ none) in cc
+not_empty : (bytes items : List ℕ) → false ≡ (length bytes == 0) → bytes ≡ items → items ≡ [] → ⊥
+not_empty bytes items test same empty = grind arith
 
 pub returns-then-is_empty : goal.returns-then-is_empty
-returns-then-is_empty g c = rw (empty _ _ c.if-is_empty.ensures c.as_slice.ensures) c.flush_out.ensures
+returns-then-is_empty g c = rw (none _ _ c.if-is_empty.ensures c.as_slice.ensures) c.flush_out.ensures
 
-pub returns-in-Ok : goal.returns-in-Ok
-returns-in-Ok g c =
-    sends_all _ _ c.flush_out-in-Ok.result _ _ _ _ _ c.in-Ok.ensures.sends c.in-Ok.ensures.empty (λ e. absurd (never_empty _ _ c.if-is_empty.ensures c.as_slice.ensures e)) c.flush_out-in-Ok.ensures
-
-pub returns-in-Err : goal.returns-in-Err
-returns-in-Err g c = (c.in-Err.ensures.sends, tt, λ e. absurd (never_empty _ _ c.if-is_empty.ensures c.as_slice.ensures e))
+pub returns : goal.returns
+returns g c =
+    let sent = c.in_ok-send.ensures in
+    let some = not_empty _ _ c.if-is_empty.ensures c.as_slice.ensures in
+    rw sent.empty (sends_all _ _ c.flush_out-2.result _ _ _ _ (rw sent.empty at sent.sends) some c.flush_out-2.ensures)
