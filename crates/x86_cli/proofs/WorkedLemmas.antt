@@ -17,13 +17,12 @@ use Rattle.x86_opcodes.specs.Names.{Invalid, ADD, MOV, PSHUFB}
 use Rattle.x86_operands.specs.declared.operands.Slot.{Slot}
 use Rattle.x86_operands.specs.declared.operands.Operand.{Operand}
 use Rattle.x86_operands.specs.declared.plans.OperandEncoding.{OperandEncoding}
-use Rattle.x86_operands.specs.declared.plans.Plan.{Plan}
 use Rattle.x86_operands.specs.declared.plans.Verdict.TheVariants.{Accepts}
 use Rattle.x86_operands.specs.declared.plans.ModrmUse.TheVariants.{EitherForm}
 use Rattle.x86_operands.specs.Asks.{immediate_width}
 use Rattle.x86_operands.specs.Forms.{form_record}
 use Rattle.x86_operands.specs.Pieces.{SpellsOperands, SpellsMemory, operand_from}
-use Rattle.x86_operands.specs.Plans.{RowRecord, list_of}
+use Rattle.x86_operands.specs.Plans.{list_of}
 use Rattle.x86_operands.specs.PlanSteps.{four_of, reading_from}
 use Rattle.x86_operands.specs.Shape.{shape}
 use Rattle.x86_groups.specs.Rows.{group_rows}
@@ -49,18 +48,10 @@ no_immediates (s ∷ rest) p m memory none =
 -- An encoding with ModRM and without an immediate: a run, the opcode byte of a row, ModRM, and the SIB and displacement
 -- of its memory operand.
 module _ (strict : Bool) (run : List ℕ) (in_map : Map) (opcode : ℕ) (row : TableRow) (m : ℕ) (address : List ℕ) (memory : Option Raw) where
-  abbrev seen_prefixes : Prefixes
-  seen_prefixes = seen_by in_map opcode (reading_of run)
-
-  abbrev row_record : RowRecord
-  row_record = record_of strict row seen_prefixes
-
-  abbrev plan_after : Plan
-  plan_after = row_record.plan m
-
-  pub whole_of : is_run run ≡ true → is_opcode in_map opcode ≡ true → rows_of packed in_map (column_of (reading_of run)) opcode ≡ Some row → row_record.at_opcode ≡ None → row_record.modrm ≡ EitherForm →
-      plan_after.verdict ≡ Accepts → total (map immediate_width (list_of plan_after.encodings)) ≡ 0 → SpellsMemory seen_prefixes m address memory →
-      Whole (rows_of packed) strict (run ++ (escape_bytes in_map ++ opcode ∷ m ∷ address)) (reading_from plan_after seen_prefixes plan_after.opcode (four_of (pairs_of (list_of plan_after.encodings) seen_prefixes m memory)))
+  pub whole_of : let p = seen_by in_map opcode (reading_of run) in let r = record_of strict row p in let plan = r.plan m in
+      is_run run ≡ true → is_opcode in_map opcode ≡ true → rows_of packed in_map (column_of (reading_of run)) opcode ≡ Some row → r.at_opcode ≡ None → r.modrm ≡ EitherForm →
+      plan.verdict ≡ Accepts → total (map immediate_width (list_of plan.encodings)) ≡ 0 → SpellsMemory p m address memory →
+      Whole (rows_of packed) strict (run ++ (escape_bytes in_map ++ opcode ∷ m ∷ address)) (reading_from plan p plan.opcode (four_of (pairs_of (list_of plan.encodings) p m memory)))
   whole_of prefixes is_opcode has_row passed modrm accepts none spelled = record {
     run = run;
     map = in_map;
@@ -86,10 +77,10 @@ module _ (strict : Bool) (run : List ℕ) (in_map : Map) (opcode : ℕ) (row : T
           operand_pairs = _;
           spelled = sym (append-nil address);
           address_spelled = spelled;
-          immediates_spelled = no_immediates (list_of plan_after.encodings) seen_prefixes m memory none;
+          immediates_spelled = no_immediates _ _ _ _ none;
           suffix_length = rw accepts refl;
         };
-        opcode = plan_after.opcode;
+        opcode = ((record_of strict row (seen_by in_map opcode (reading_of run))).plan m).opcode;
         named = rw accepts refl;
         accepted = rw accepts refl;
         yields = refl;

@@ -4,16 +4,14 @@ use Rattle.std.proofs.lemmas.List.{drop_all}
 use Rattle.std.proofs.Math.Seq.{take-length}
 use Rattle.std.specs.Prelude.{⊤}
 use Rattle.std.specs.List.{concat}
-use Rattle.std.specs.Io.{StartsWith}
 use Rattle.std.specs.declared.io.Error.{Error}
 use Rattle.x86_streams.specs.declared.outside.sending.WriteFailed.{WriteFailed}
 use Rattle.x86_streams.specs.declared.text.reader.Ending.{Ending}
-use Rattle.x86_streams.specs.Outside.Chain.{Call, Read, Write, Flush, Fails, SendsAll, pieces, received, not_taken, sent}
-use Rattle.x86_streams.specs.Outside.Stop.{Stop}
+use Rattle.x86_streams.specs.Outside.Chain.{Call, Read, Write, Flush, Fails, SendsAll, pieces, received, sent}
 use Rattle.x86_streams.specs.Text.{Text, text_of}
 use Rattle.x86_streams.specs.Text.Reader.{TextPosition}
 use Rattle.x86_streams.specs.Text.Beginning.{IsOpenText}
-use Rattle.x86_streams.specs.Text.Window.{Fills, LeavesRest, rest_after}
+use Rattle.x86_streams.specs.Text.Window.{Fills, LeavesRest}
 use Rattle.x86_streams.proofs.OutsideLemmas.Calls.{calls_joined, ends_joined, failed_joined, pieces_joined}
 use Rattle.x86_cli.specs.declared.listings.status.Finished.{Finished}
 use Rattle.x86_cli.specs.declared.listings.status.Status.TheVariants.{WriteFault}
@@ -34,9 +32,6 @@ none_sent (Read buffer answer ∷ cs) h = none_sent cs h
 none_sent (Write bytes answer ∷ cs) h = absurd (omega (arith, ap length h, length-append (pieces cs) (bytes ∷ [])))
 none_sent (Flush answer ∷ cs) h = none_sent cs h
 
-same_end : (ended : Option Ending) (w w' : List ℕ) (text : TextPosition) (xs : List ℕ) (stop : Stop) → at_end (rest_after ended w text xs stop).ending ≡ at_end (rest_after ended w' text xs stop).ending
-same_end ended w w' text xs stop = grind arith
-
 module _ {R W : Type 0} (reads : R → List ℕ → Result ℕ Error → R → Type 0) (writes : W → List ℕ → Result ℕ Error → W → Type 0) (flushes : W → Result ⊤ Error → W → Type 0)
     (gathers : Bool) (max : ℕ) (r : R) (v : W) where
   abbrev pub Whole : List ℕ → Option Ending → List ℕ → TextPosition → R → W → Type 0
@@ -51,7 +46,7 @@ module _ {R W : Type 0} (reads : R → List ℕ → Result ℕ Error → R → T
     pub whole_taken : (image' w' : List ℕ) → image' ≡ image ++ w → w' ≡ [] → Whole image' ended w' text r' v'
     whole_taken image' w' is none =
         let taken : Whole (image ++ take (length w) w) ended (drop (length w) w) text r' v' = (
-          live_put reads writes flushes gathers ends_of ends_of max r v image 0 ended w text [] r' v' h.0 [] 0 (length w) [] v' (same_end ended w (drop (length w) w) text) (λ _. same_end ended w (drop (length w) w) text)
+          live_put reads writes flushes gathers ends_of ends_of max r v image 0 ended w text [] r' v' h.0 [] 0 (length w) [] v' (λ xs stop. grind arith) (λ _ xs stop. grind arith)
               (record { calls = []; did = refl; cause = tt; order = refl; failed = tt }) (λ e. (refl, refl)),
           h.1,
         ) in
