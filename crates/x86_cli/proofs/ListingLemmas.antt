@@ -1,4 +1,5 @@
 -- Lemmas on listings.
+pub mod Vocabulary
 pub mod Listing
 pub mod Grammar
 pub mod NextEntry

@@ -2,18 +2,13 @@
 use Rattle.std.proofs.Common.{◌≡◌, ◌≢◌, ℕ, suc, zero, false, ◌+◌, Bool, List, [], ◌∷◌, ◌++◌, length, Option, Some, None, Ok, Err, refl, arith, ap, ◌∙◌, sym, length-append}
 use Rattle.std.proofs.Math.Seq.{drop-append_seam}
 use Rattle.std.specs.List.{concat}
-use Rattle.x86_decode.specs.declared.instructions.Instruction.{Instruction}
+use Rattle.x86_streams.specs.Text.{text_at}
+use Rattle.x86_cli.proofs.ListingLemmas.Vocabulary.{Instruction, Ending, Stop, End, Failed, Command, listing_for, known_for, Text, text_of, DecoderLaws}
 use Rattle.x86_fields.specs.declared.errors.DecodeError.TheVariants.{ExhaustedInput}
-use Rattle.x86_streams.specs.declared.text.reader.Ending.{Ending}
-use Rattle.x86_streams.specs.Outside.Stop.{Stop, End, Failed}
 use Rattle.x86_cli.specs.declared.listings.status.Status.TheVariants as outcome
-use Rattle.x86_cli.specs.declared.commands.command.Command.{Command}
-use Rattle.x86_cli.specs.Commands.Request.{listing_for, known_for}
-use Rattle.x86_streams.specs.Text.{Text, text_at, text_of}
 use Rattle.x86_streams.specs.Text.Reading.{MayCome}
 use Rattle.x86_cli.specs.Listings.Listing.{at_end, decoded_of, decoded_before_end, listing_from}
 use Rattle.x86_cli.specs.Commands.Complete.{AreSentences, CompletesTexts}
-use Rattle.x86_cli.specs.DecoderLaws.{DecoderLaws}
 use Rattle.x86_cli.proofs.TextLemmas.Decoded.{decoded-stays}
 use Rattle.x86_cli.proofs.ListingLemmas.Listing.{listing-whole}
 

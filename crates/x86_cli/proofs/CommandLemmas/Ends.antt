@@ -1,19 +1,10 @@
 -- How the reads of a program ended, by its status.
 use Rattle.std.proofs.Common.{◌≡◌, ◌≢◌, ℕ, List, [], ◌∷◌, ◌++◌, Option, Some, Result, arith, ◌∙◌, sym, append-nil}
-use Rattle.std.specs.Prelude.{Bool, IsTrue, ⊤}
-use Rattle.std.specs.declared.io.Error.{Error}
-use Rattle.x86_cli.specs.declared.commands.command.Command.{Command}
+use Rattle.x86_cli.proofs.ListingLemmas.Vocabulary.{Bool, IsTrue, ⊤, Error, Command, Finished, Status, Call, Read, Write, Flush, received, stop_of, Stop, End, Failed}
+use Rattle.x86_cli.proofs.ListingLemmas.Vocabulary.{Text, text_of, EndsAt, task_of, listing_for, known_for, max_of, taken_listing, ByRule, IsEnd, Performs, Task}
 use Rattle.x86_cli.specs.declared.commands.request.Request.{Request}
-use Rattle.x86_cli.specs.declared.listings.status.Finished.{Finished}
-use Rattle.x86_cli.specs.declared.listings.status.Status.{Status}
-use Rattle.x86_streams.specs.Outside.Chain.{Call, Read, Write, Flush, received, stop_of}
-use Rattle.x86_streams.specs.Outside.Stop.{Stop, End, Failed}
-use Rattle.x86_streams.specs.Text.{Text, text_of}
 use Rattle.x86_streams.specs.Text.Reading.{MayCome}
 use Rattle.x86_cli.specs.Commands.Command.{goes_past_refusals}
-use Rattle.x86_cli.specs.Commands.Program.{EndsAt}
-use Rattle.x86_cli.specs.Commands.Request.{task_of, listing_for, known_for, max_of, taken_listing}
-use Rattle.x86_cli.specs.Listings.Performs.{ByRule, IsEnd, Performs, Task}
 use Rattle.x86_cli.proofs.CommandLemmas.Causes.{some_stop, known_fault, command_read, command_status, end_stop}
 
 -- Where a read failed, the listing of the bytes read before ends in a read fault.

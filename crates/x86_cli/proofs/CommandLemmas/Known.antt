@@ -1,21 +1,12 @@
 -- What a program says where the bytes that its reader has left and those that its writer has are known.
 use Rattle.std.proofs.Common.{◌≡◌, ◌≢◌, ℕ, List, [], ◌∷◌, ◌<◌, ◌++◌, length, take, drop, Option, Some, None, Result, Ok, Err, refl, ap, ◌∙◌, sym, append_assoc, append-nil, take-append-drop, arith}
-use Rattle.std.specs.Prelude.{Bool, IfSome, ⊤}
-use Rattle.std.specs.declared.io.Error.{Error}
+use Rattle.x86_cli.proofs.ListingLemmas.Vocabulary.{Bool, IfSome, ⊤, Error, Command, Finished, Status, Call, Read, Write, Flush, Calls, EndsIn, Fails, FlushesOnce}
+use Rattle.x86_cli.proofs.ListingLemmas.Vocabulary.{IsFlush, ReadsOnce, WritesOnce, received, not_taken, sent, stop_of, Stop, End, Failed, Text, text_of, Has, HasOfAll}
+use Rattle.x86_cli.proofs.ListingLemmas.Vocabulary.{taken_listing, task_of, Listing, ByRule, IsPrinted, Performs, Task}
 use Rattle.std.specs.Io.KnownBytes.{Keeps, Consumes, Appends, IsAtEnd}
 use Rattle.std.proofs.KnownBytes.{Consumes-nil, Appends-nil, starts_with_rest}
-use Rattle.x86_cli.specs.declared.commands.command.Command.{Command}
 use Rattle.x86_cli.specs.declared.commands.request.Request.{Request}
-use Rattle.x86_cli.specs.declared.listings.status.Finished.{Finished}
-use Rattle.x86_cli.specs.declared.listings.status.Status.{Status}
-use Rattle.x86_streams.specs.Outside.Chain.{Call, Read, Write, Flush, Calls, EndsIn, Fails, FlushesOnce, IsFlush, ReadsOnce, WritesOnce, received, not_taken, sent, stop_of}
-use Rattle.x86_streams.specs.Outside.Stop.{Stop, End, Failed}
-use Rattle.x86_streams.specs.Text.{Text, text_of}
 use Rattle.x86_streams.specs.Text.Reading.{MayCome}
-use Rattle.x86_cli.specs.Commands.Program.{Has, HasOfAll}
-use Rattle.x86_cli.specs.Commands.Request.{taken_listing, task_of}
-use Rattle.x86_cli.specs.Listings.Listing.{Listing}
-use Rattle.x86_cli.specs.Listings.Performs.{ByRule, IsPrinted, Performs, Task}
 
 not_both : (cs : List Call) → EndsIn Fails cs → EndsIn IsFlush cs → ⊥
 not_both cs e f = grind arith

@@ -1,20 +1,12 @@
 -- What the program leaves of a reader and a writer of std.
 use Rattle.std.proofs.Common.{◌≡◌, ℕ, List, [], Option, Some, Result, refl, arith}
 use Rattle.std.proofs.Math.Seq.{take-append_seam}
-use Rattle.std.specs.Prelude.{true, ⊤}
-use Rattle.std.specs.declared.io.Error.{Error}
+use Rattle.x86_cli.proofs.ListingLemmas.Vocabulary.{true, ⊤, Error, Command, Finished, FlushesOnce, ReadsOnce, WritesOnce, received, stop_of, Failed, made_listing, Has}
+use Rattle.x86_cli.proofs.ListingLemmas.Vocabulary.{HasOfTaken, Leaves, task_of, Performs}
 use Rattle.std.specs.Io.KnownBytes.{Keeps, ReadConsumes, WriteAppends}
 use Rattle.std.proofs.KnownBytes.{Appends-nil, Appends-kept}
-use Rattle.x86_cli.specs.declared.commands.command.Command.{Command}
 use Rattle.x86_cli.specs.declared.commands.request.Request.TheVariants.{Reads, Makes}
-use Rattle.x86_cli.specs.declared.listings.status.Finished.{Finished}
-use Rattle.x86_streams.specs.Outside.Chain.{FlushesOnce, ReadsOnce, WritesOnce, received, stop_of}
-use Rattle.x86_streams.specs.Outside.Stop.{Failed}
 use Rattle.x86_streams.proofs.OutsideLemmas.Calls.{read_consumes, write_appends, flush_keeps}
-use Rattle.x86_cli.specs.Commands.Make.{made_listing}
-use Rattle.x86_cli.specs.Commands.Program.{Has, HasOfTaken, Leaves}
-use Rattle.x86_cli.specs.Commands.Request.{task_of}
-use Rattle.x86_cli.specs.Listings.Performs.{Performs}
 use Rattle.x86_cli.proofs.CommandLemmas.Causes.{some_stop}
 use Rattle.x86_cli.proofs.CommandLemmas.Ends.{ends_at}
 use Rattle.x86_cli.proofs.CommandLemmas.Known.{Adds, Sends, Takes, has_listing, of_all, of_taken, was_read}

@@ -2,33 +2,23 @@
 use Rattle.std.proofs.Common.{◌≡◌, ◌≢◌, ℕ, zero, suc, Bool, List, [], ◌++◌, Option, Some, Result, Ok, Err, refl, ap, ◌∙◌, sym, append-nil, arith}
 use Rattle.std.proofs.Math.Seq.{take-length}
 use Rattle.std.proofs.lemmas.Option.{IfSome_then}
-use Rattle.std.specs.Prelude.{IfSome, false, ⊤}
+use Rattle.x86_cli.proofs.ListingLemmas.Vocabulary.{IfSome, false, ⊤, Error, Uninterrupted, FlushesOnce, Interruptions, ReadsOnce, WritesOnce, received, stop_of, Stop}
+use Rattle.x86_cli.proofs.ListingLemmas.Vocabulary.{End, Failed, text_of, Command, Finished, Status, DecoderLaws, EndsAt, Has, full_listing, max_of, task_of, Listing}
+use Rattle.x86_cli.proofs.ListingLemmas.Vocabulary.{Performs}
 use Rattle.std.specs.List.{concat}
 use Rattle.std.specs.Io.KnownBytes.{Appends, Consumes}
 use Rattle.std.proofs.KnownBytes.{Keeps-refl}
-use Rattle.std.specs.declared.io.Error.{Error}
 use Rattle.std.specs.declared.io.ErrorKind.TheVariants.{Interrupted}
 use Rattle.std.specs.IoError.{error_kind}
 use Rattle.x86_streams.specs.declared.outside.source.Got.{Got}
 use Rattle.x86_streams.specs.declared.outside.sink.SinkFailed.{SinkFailed}
-use Rattle.x86_streams.specs.Outside.Chain.{Uninterrupted, FlushesOnce, Interruptions, ReadsOnce, WritesOnce, received, stop_of}
 use Rattle.x86_streams.specs.Outside.FaultCounts.{Rose}
 use Rattle.x86_streams.specs.Outside.OneByOne.{HoldsNothing, PutsPiece, ReadsByte}
 use Rattle.x86_streams.specs.Outside.Sink.{ReportsPut}
 use Rattle.x86_streams.specs.Outside.Source.{ReportsGot}
-use Rattle.x86_streams.specs.Outside.Stop.{Stop, End, Failed}
-use Rattle.x86_streams.specs.Text.{text_of}
-use Rattle.x86_cli.specs.declared.commands.command.Command.{Command}
 use Rattle.x86_cli.specs.declared.commands.request.Request.TheVariants as request
-use Rattle.x86_cli.specs.declared.listings.status.Finished.{Finished}
-use Rattle.x86_cli.specs.declared.listings.status.Status.{Status}
-use Rattle.x86_cli.specs.DecoderLaws.{DecoderLaws}
 use Rattle.x86_cli.specs.Commands.Follows.{IsSound, IsExact, HasReadFault, Completes}
-use Rattle.x86_cli.specs.Commands.Program.{EndsAt, Has}
-use Rattle.x86_cli.specs.Commands.Request.{full_listing, max_of, task_of}
 use Rattle.x86_cli.specs.Commands.Says.{Streams, streams_of, OfAll, OfTaken, Makes, Says}
-use Rattle.x86_cli.specs.Listings.Listing.{Listing}
-use Rattle.x86_cli.specs.Listings.Performs.{Performs}
 use Rattle.x86_cli.proofs.CommandLemmas.Causes.{some_stop, text_done}
 use Rattle.x86_cli.proofs.CommandLemmas.Ends.{ends_at}
 use Rattle.x86_cli.proofs.CommandLemmas.Known.{Adds, Counts, Sends, Stopped, Takes, has_listing, of_all, of_taken, was_read, was_sent}

@@ -1,12 +1,8 @@
 -- How a listing is closed: its last line, and the flush.
 use Rattle.std.proofs.Common.{◌≡◌, ◌≢◌, ℕ, Bool, false, List, [], ◌∷◌, ◌++◌, Result, Ok, refl, arith, append_assoc, append-nil}
-use Rattle.std.specs.Prelude.{⊤}
-use Rattle.std.specs.declared.io.Error.{Error}
+use Rattle.x86_cli.proofs.ListingLemmas.Vocabulary.{⊤, Error, Call, Puts, SendsAll, Finished, Status}
 use Rattle.x86_streams.specs.declared.outside.sending.WriteFailed.{WriteFailed}
-use Rattle.x86_streams.specs.Outside.Chain.{Call, Puts, SendsAll}
 use Rattle.x86_streams.proofs.OutsideLemmas.Calls.{all_continue_joined, pieces_joined, sent_joined, writer_calls_joined}
-use Rattle.x86_cli.specs.declared.listings.status.Finished.{Finished}
-use Rattle.x86_cli.specs.declared.listings.status.Status.{Status}
 use Rattle.x86_cli.specs.Listings.Closes.{Closes}
 use Rattle.x86_cli.proofs.ListingLemmas.Live.{follow_of, not_taken_first}
 

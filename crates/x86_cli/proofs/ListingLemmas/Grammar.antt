@@ -2,13 +2,9 @@
 use Rattle.std.proofs.Common.{add-zero, add_assoc, Bool, ◌≡◌, ◌↔◌, ℕ, suc, zero, ◌+◌, ◌<◌, ◌≤◌, List, [], ◌∷◌, ◌++◌, length, Result, Ok, Err, refl, arith, ap, ◌∙◌, sym, subst, append_assoc, length-append}
 use Rattle.std.proofs.Math.Seq.{take-append_seam, drop-append_seam}
 use Rattle.std.specs.List.{concat}
-use Rattle.x86_decode.specs.declared.instructions.Instruction.{Instruction}
-use Rattle.x86_fields.specs.declared.errors.DecodeError.{DecodeError}
+use Rattle.x86_cli.proofs.ListingLemmas.Vocabulary.{Instruction, DecodeError, answer_of, count_of, Ending, line}
 use Rattle.x86_forms.specs.Words.{rows_of, packed}
-use Rattle.x86_decode.specs.Answer.{answer_of, count_of}
 use Rattle.x86_decode.specs.Grammar.{IsAnswer, IsSentence}
-use Rattle.x86_streams.specs.declared.text.reader.Ending.{Ending}
-use Rattle.x86_cli.specs.Listings.Line.{line}
 use Rattle.x86_cli.specs.Listings.Listing.{Listing, with_lines, at_end, decoded_of, listing_from}
 use Rattle.x86_cli.specs.Listings.Grammar.{at_error, EndsListing, AreLines, IsListing}
 use Rattle.x86_cli.proofs.ListingLemmas.Listing.{listing-whole}

@@ -1,12 +1,9 @@
 -- The listing by what is decoded first.
 use Rattle.std.proofs.Common.{Bool, ◌≡◌, ℕ, suc, zero, ◌+◌, ◌-◌, ◌<◌, ◌≤◌, List, [], ◌∷◌, length, take, drop, refl, arith}
-use Rattle.x86_decode.specs.declared.instructions.Instruction.{Instruction}
-use Rattle.x86_fields.specs.declared.errors.DecodeError.{DecodeError}
-use Rattle.x86_streams.specs.declared.text.reader.Ending.{Ending}
+use Rattle.x86_cli.proofs.ListingLemmas.Vocabulary.{Instruction, DecodeError, Ending, line}
 use Rattle.x86_cli.specs.declared.text.window.Decoded.TheVariants.{Whole, Refused, Ended}
 use Rattle.x86_cli.specs.declared.listings.status.Status.TheVariants as status
 use Rattle.x86_text.specs.Lines.{refusal_of}
-use Rattle.x86_cli.specs.Listings.Line.{line}
 use Rattle.x86_cli.specs.Listings.Listing.{with_lines, at_end, decoded_of, listing_from, LinesLeaveStatus}
 
 module _ (strict : Bool) (text : ℕ → Instruction → List ℕ → List ℕ) where

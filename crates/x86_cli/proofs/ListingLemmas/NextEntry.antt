@@ -1,19 +1,11 @@
 -- The next entry of a listing that ends at a refusal.
 use Rattle.std.proofs.Common.{◌≡◌, Bool, ℕ, ◌+◌, ◌<◌, ◌≤◌, List, [], ◌∷◌, length, take, drop, Option, None, Err, refl, arith, append-nil, length-append}
 use Rattle.std.proofs.lemmas.List.{drop-append-le, take-append-le}
-use Rattle.x86_decode.specs.declared.instructions.Instruction.{Instruction}
-use Rattle.x86_decode.specs.Answer.{answer_of}
-use Rattle.x86_fields.specs.declared.errors.DecodeError.{DecodeError}
-use Rattle.x86_streams.specs.declared.text.reader.Ending.{Ending}
-use Rattle.x86_streams.specs.Outside.Stop.{Stop}
-use Rattle.x86_streams.specs.Text.{Text}
+use Rattle.x86_cli.proofs.ListingLemmas.Vocabulary.{Instruction, answer_of, DecodeError, Ending, Stop, Text, line, DecoderLaws, rest_of}
 use Rattle.x86_cli.specs.declared.text.window.Decoded.{Decoded}
 use Rattle.x86_cli.specs.declared.listings.listing.Entry.TheVariants as entry
-use Rattle.x86_cli.specs.Listings.Line.{line}
 use Rattle.x86_cli.specs.Listings.Listing.{Listing, with_lines, decoded_of, listing_at}
-use Rattle.x86_cli.specs.DecoderLaws.{DecoderLaws}
 use Rattle.x86_cli.specs.Listings.Entry.{IsEntry}
-use Rattle.x86_streams.specs.Text.Window.{rest_of}
 use Rattle.x86_cli.proofs.ListingLemmas.Listing.{listing-whole, listing-refused, listing-ended}
 
 module _ (strict : Bool) (text : ℕ → Instruction → List ℕ → List ℕ) where

@@ -1,16 +1,7 @@
 -- The sweep by its cuts.
 use Rattle.std.proofs.Common.{Bool, ◌≡◌, ◌≢◌, ℕ, ◌+◌, ◌<◌, ◌≤◌, List, [], ◌∷◌, map, length, drop, Option, Some, None, Result, Err, refl, append-nil, arith, ap, ◌∙◌, sym, length-append}
 use Rattle.std.proofs.lemmas.List.{drop-append-le}
-use Rattle.x86_decode.specs.declared.instructions.Instruction.{Instruction}
-use Rattle.x86_fields.specs.declared.errors.DecodeError.{DecodeError}
-use Rattle.x86_decode.specs.Answer.{answer_of}
-use Rattle.x86_cli.specs.DecoderLaws.{DecoderLaws}
-use Rattle.x86_streams.specs.declared.text.reader.Ending.{Ending}
-use Rattle.x86_streams.specs.Outside.Stop.{Stop}
-use Rattle.x86_streams.specs.Text.{text_at}
-use Rattle.x86_cli.specs.Listings.Line.{line}
-use Rattle.x86_cli.specs.Listings.Listing.{with_lines, at_end}
-use Rattle.x86_streams.specs.Text.Window.{rest_of}
+use Rattle.x86_cli.proofs.ListingLemmas.Vocabulary.{Instruction, DecodeError, answer_of, DecoderLaws, Ending, Stop, text_at, line, with_lines, at_end, rest_of}
 use Rattle.x86_layout.specs.declared.sweeps.cuts.Cut.{Cut}
 use Rattle.x86_layout.specs.Sweeps.Cuts.{cut_length, cut_at, cuts_from}
 use Rattle.x86_layout.proofs.SweepLemmas.Place.{first_and_rest, none_left}

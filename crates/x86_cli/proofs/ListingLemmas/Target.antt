@@ -1,18 +1,10 @@
 -- The targets place by place.
 use Rattle.std.proofs.Common.{Bool, true, false, Some, Result, Ok, Err, append-nil, ◌≡◌, ℕ, suc, ◌+◌, ◌-◌, ◌<◌, List, [], ◌∷◌, ◌++◌, length, refl, arith, sym}
-use Rattle.std.specs.Prelude.{decimal, ⊤}
-use Rattle.std.specs.declared.io.Error.{Error}
+use Rattle.x86_cli.proofs.ListingLemmas.Vocabulary.{decimal, ⊤, Error, Ending, Puts, Sends, Text, Finished, Performs, with_lines, at_end, line}
 use Rattle.x86_layout.specs.Sweeps.Marks.{is_marked}
-use Rattle.x86_streams.specs.declared.text.reader.Ending.{Ending}
 use Rattle.x86_streams.specs.declared.outside.sending.WriteFailed.{WriteFailed}
-use Rattle.x86_streams.specs.Outside.Chain.{Puts, Sends}
-use Rattle.x86_streams.specs.Text.{Text}
 use Rattle.x86_streams.specs.Text.Reader.{TextPosition}
-use Rattle.x86_cli.specs.declared.listings.status.Finished.{Finished}
 use Rattle.x86_cli.specs.declared.listings.status.Status.TheVariants.{WriteFault}
-use Rattle.x86_cli.specs.Listings.Performs.{Performs}
-use Rattle.x86_cli.specs.Listings.Listing.{with_lines, at_end}
-use Rattle.x86_cli.specs.Listings.Line.{line}
 use Rattle.x86_cli.specs.Listings.Targets.{targets_at}
 use Rattle.x86_cli.proofs.ListingLemmas.Live.{Live, live_fails, live_put, sends_as}
 use Rattle.x86_cli.proofs.ListingLemmas.Whole.{ends_of}
