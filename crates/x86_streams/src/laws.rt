@@ -1,6 +1,6 @@
 //! Laws of hex text, and of what calls of sources, sinks, readers and writers say.
 
-ghost use Rattle.std.specs.Prelude.{◌≡◌, ◌↔◌, ℕ, IsTrue, List, [], Some, None, Result, false, true, ⊤};
+ghost use Rattle.std.specs.Prelude.{◌≡◌, ◌↔◌, ℕ, IsTrue, List, Some, None, Result, false, true, ⊤};
 ghost use Rattle.std.specs.Io.KnownBytes.{Keeps, ReadConsumes, WriteAppends, prepend_known};
 ghost use Rattle.std.specs.declared.io.Error.{Error};
 ghost use Rattle.x86_streams.specs.Outside.ByNumber.{ByNumber, PutByNumber};

@@ -1,6 +1,6 @@
 //! Output that is gathered, without an allocation.
 
-ghost use Rattle.std.specs.Prelude.{◌≡◌, ◌≤◌, [], false, true, length, OnOk};
+ghost use Rattle.std.specs.Prelude.{◌≡◌, ◌≤◌, [], false, length, OnOk};
 ghost use Rattle.x86_streams.specs.Outside.Chain.{Puts, Sends, SendsAll};
 
 use crate::outside::output::Output;

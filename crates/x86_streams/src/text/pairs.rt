@@ -1,6 +1,6 @@
 //! Pairs of digits, read many at once.
 
-ghost use Rattle.std.specs.Prelude.{◌≡◌, ℕ, ◌+◌, ◌*◌, ◌%◌, ◌^◌, ◌<◌, ◌≤◌, length, slice_index_or, take, List, Some, true};
+ghost use Rattle.std.specs.Prelude.{◌≡◌, ℕ, ◌+◌, ◌*◌, ◌%◌, ◌<◌, ◌≤◌, length, slice_index_or, take, List, Some, true};
 ghost use Rattle.x86_streams.specs.Text.{value_of};
 ghost use Rattle.x86_streams.specs.Text.Spells.{Spells};
 

@@ -1,8 +1,8 @@
 //! The next bytes of an image.
 
-ghost use Rattle.std.specs.Prelude.{◌≡◌, ◌+◌, ◌<◌, [], length, None, true, false};
+ghost use Rattle.std.specs.Prelude.{◌≡◌, ◌<◌, [], length, None, true, false};
 ghost use Rattle.x86_streams.specs.Text.Window.{Steps, TakesBytes, Fills, instruction_max};
-ghost use Rattle.x86_streams.specs.Text.Beginning.{IsOpenText, end_of};
+ghost use Rattle.x86_streams.specs.Text.Beginning.{IsOpenText};
 
 use crate::outside::input::Input;
 use crate::text::beginning::{Beginning, beginning_of};
