@@ -9,7 +9,7 @@ use Rattle.x86_cli.specs.Listings.Entry.{IsEntry}
 use Rattle.x86_cli.specs.Text.Window.{IsAtCut}
 use Rattle.x86_cli.specs.declared.text.window.AtRefusal.TheVariants as refusal
 use Rattle.x86_cli.specs.declared.listings.listing.Entry.{Entry}
-use Rattle.x86_cli.specs.Listings.Sweep.{cut_text, cut_line, sweep_at, before_open, decided, known_sweep_at}
+use Rattle.x86_cli.specs.Listings.Sweep.{cut_text, sweep_at, before_open, decided, known_sweep_at}
 use Rattle.x86_cli.proofs.ListingLemmas.NextEntry.{no_bytes, few_undecided}
 use Rattle.x86_cli.proofs.ListingLemmas.Live.{with-with}
 
@@ -19,7 +19,7 @@ module _ (strict : Bool) where
   before_sure a lines ne = grind arith
 
   -- One cut of the rest, where the lines of cuts that begin with it are its line and those of the others.
-  rest_cut : (lines_of : List Cut → List (List ℕ)) (ended : Option Ending) (n : ℕ) (w : List ℕ) (p r : ℕ) (a : Result Instruction DecodeError) → ((c : Cut) (cs : List Cut) → c.answer ≡ a → lines_of (c ∷ cs) ≡ cut_line c ∷ lines_of cs) →
+  rest_cut : (lines_of : List Cut → List (List ℕ)) (ended : Option Ending) (n : ℕ) (w : List ℕ) (p r : ℕ) (a : Result Instruction DecodeError) → ((c : Cut) (cs : List Cut) → c.answer ≡ a → lines_of (c ∷ cs) ≡ line (cut_text c.place c.answer) ∷ lines_of cs) →
       0 < cut_length a → cut_length a ≤ length w → (xs : List ℕ) (stop : Stop) → answer_of strict (rest_of ended w p r xs stop).image ≡ a →
       with_lines (lines_of (cuts_from strict n (rest_of ended w p r xs stop).image)) (at_end (rest_of ended w p r xs stop).ending) ≡ with_lines (line (cut_text n a) ∷ []) (with_lines (lines_of (cuts_from strict (n + cut_length a) (rest_of ended (drop (cut_length a) w) p r xs stop).image)) (at_end (rest_of ended (drop (cut_length a) w) p r xs stop).ending))
   rest_cut lines_of ended n w p r a first some fits xs stop answers =
@@ -30,7 +30,7 @@ module _ (strict : Bool) where
   open_cut n w h = grind (arith, none_left strict n w, first_and_rest strict 1 n w)
 
   pub sweep_end : (ended : Option Ending) (n : ℕ) (text w : List ℕ) (p r : ℕ) (e : Ending) → ended ≡ Some e → length w ≡ 0 → IsEntry (sweep_at strict) (known_sweep_at strict) (Entry.Ended e) n text ended w p r
-  sweep_end ended n text w p r e is none xs stop = rw is (ap (λ cs. with_lines (map cut_line cs) (at_end e)) (none_left strict n w none))
+  sweep_end ended n text w p r e is none xs stop = rw is (ap (λ cs. with_lines (map (λ c. line (cut_text c.place c.answer)) cs) (at_end e)) (none_left strict n w none))
 
 -- what a window that isn't empty shows
 module _ (strict : Bool) (laws : DecoderLaws strict) where
@@ -49,7 +49,7 @@ module _ (strict : Bool) (laws : DecoderLaws strict) where
       let here : answer_of strict w ≡ a = sym (answer ∙ ap (answer_of strict) same) in
       let h = answer_shows a w here some in
       let stays : (xs : List ℕ) (stop : Stop) → answer_of strict (rest_of ended w p r xs stop).image ≡ a = λ xs stop. same_answer ended w p r (λ o f. sure o (sym here ∙ f)) xs stop ∙ here in
-      rw (entry, is) (h.0, h.1, (λ xs stop. rest_cut strict (map cut_line) ended n w p r a (λ c cs is. refl) h.0 h.1 xs stop (stays xs stop)), λ o xs stop. rest_cut strict decided ended n w p r a (λ c cs is. before_sure strict c.answer _ (λ f. sure o (sym is ∙ f))) h.0 h.1 xs stop (stays xs stop))
+      rw (entry, is) (h.0, h.1, (λ xs stop. rest_cut strict (map (λ c. line (cut_text c.place c.answer))) ended n w p r a (λ c cs is. refl) h.0 h.1 xs stop (stays xs stop)), λ o xs stop. rest_cut strict decided ended n w p r a (λ c cs is. before_sure strict c.answer _ (λ f. sure o (sym is ∙ f))) h.0 h.1 xs stop (stays xs stop))
 
   pub some_bytes : (w s : List ℕ) (a : Result Instruction DecodeError) → a ≢ Err DecodeError.ExhaustedInput → a ≡ answer_of strict s → s ≡ w → 0 < length w
   some_bytes [] s a sure answer same = absurd (sure (answer ∙ ap (answer_of strict) same ∙ laws.empty))

@@ -14,14 +14,10 @@ abbrev pub cut_text : ℕ → Result Instruction DecodeError → List ℕ
 cut_text place (Ok i) = line_of place i
 cut_text place (Err e) = refusal_of place e
 
--- the line of a cut of the image
-abbrev pub cut_line : Cut → List ℕ
-cut_line c = line (cut_text c.place c.answer)
-
 -- The sweep of a text whose image begins at a place: a line for each cut of the image, in order, and then the
 -- end's.
 abbrev pub sweep_at : Bool → ℕ → Text → Listing
-sweep_at strict place t = with_lines (map cut_line (cuts_from strict place t.image)) (at_end t.ending)
+sweep_at strict place t = with_lines (map (λ c. line (cut_text c.place c.answer)) (cuts_from strict place t.image)) (at_end t.ending)
 
 -- the lines of cuts up to the first that more bytes may change
 abbrev pub before_open : Result Instruction DecodeError → List (List ℕ) → List (List ℕ)
@@ -30,7 +26,7 @@ before_open answer lines = lines
 
 abbrev pub decided : List Cut → List (List ℕ)
 decided [] = []
-decided (c ∷ cs) = before_open c.answer (cut_line c ∷ decided cs)
+decided (c ∷ cs) = before_open c.answer (line (cut_text c.place c.answer) ∷ decided cs)
 
 -- what is listed of a text whatever follows it, and its end
 abbrev pub known_sweep_at : Bool → ℕ → Text → Listing
