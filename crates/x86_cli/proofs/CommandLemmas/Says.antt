@@ -85,7 +85,8 @@ module _ {S K : Type 0} (gives : S → Got → S → Type 0) (takes : K → List
 
     part_of : stop_of h.calls ≡ Some Failed → OfTaken outcome.status c old new
     part_of is =
-        let has = of_taken (ReadsByte gives) (PutsPiece takes) HoldsNothing left faults written others Rose read_reports write_reports flush_reports false c outcome s t k l h is in record { taken = received h.calls; takes = read.0; holds = has; cause = rw is at read.1 }
+        let has = of_taken (ReadsByte gives) (PutsPiece takes) HoldsNothing left faults written others Rose read_reports write_reports flush_reports false c outcome s t k l h is in
+        record { taken = received h.calls; takes = read.0; holds = has; cause = rw is at read.1 }
 
     by_status : (status : Status) → outcome.status ≡ status → EndsAt status (stop_of h.calls) → Says status c old new
     by_status Status.Usage same ends = absurd ends

@@ -1,7 +1,7 @@
 -- The sweep by its cuts.
 use Rattle.std.proofs.Common.{Bool, ◌≡◌, ◌≢◌, ℕ, ◌+◌, ◌<◌, ◌≤◌, List, [], ◌∷◌, map, length, drop, Option, Some, None, Result, Err, refl, append-nil, arith, ap, ◌∙◌, sym, length-append}
 use Rattle.std.proofs.lemmas.List.{drop-append-le}
-use Rattle.x86_cli.proofs.ListingLemmas.Vocabulary.{Instruction, DecodeError, answer_of, DecoderLaws, Ending, Stop, text_at, line, with_lines, at_end, rest_of}
+use Rattle.x86_cli.proofs.ListingLemmas.Vocabulary.{Instruction, DecodeError, answer_of, DecoderLaws, Ending, Stop, text_at, line, with_lines, at_end, rest_of, Text, Listing}
 use Rattle.x86_layout.specs.declared.sweeps.cuts.Cut.{Cut}
 use Rattle.x86_layout.specs.Sweeps.Cuts.{cut_length, cut_at, cuts_from}
 use Rattle.x86_layout.proofs.SweepLemmas.Place.{first_and_rest, none_left}
@@ -18,10 +18,15 @@ module _ (strict : Bool) where
   pub before_sure : (a : Result Instruction DecodeError) (lines : List (List ℕ)) → a ≢ Err DecodeError.ExhaustedInput → before_open a lines ≡ lines
   before_sure a lines ne = grind arith
 
+  -- what is listed of a text from a place on, by the lines of its cuts
+  abbrev at : (List Cut → List (List ℕ)) → ℕ → Text → Listing
+  at lines_of n t = with_lines (lines_of (cuts_from strict n t.image)) (at_end t.ending)
+
   -- One cut of the rest, where the lines of cuts that begin with it are its line and those of the others.
-  rest_cut : (lines_of : List Cut → List (List ℕ)) (ended : Option Ending) (n : ℕ) (w : List ℕ) (p r : ℕ) (a : Result Instruction DecodeError) → ((c : Cut) (cs : List Cut) → c.answer ≡ a → lines_of (c ∷ cs) ≡ line (cut_text c.place c.answer) ∷ lines_of cs) →
-      0 < cut_length a → cut_length a ≤ length w → (xs : List ℕ) (stop : Stop) → answer_of strict (rest_of ended w p r xs stop).image ≡ a →
-      with_lines (lines_of (cuts_from strict n (rest_of ended w p r xs stop).image)) (at_end (rest_of ended w p r xs stop).ending) ≡ with_lines (line (cut_text n a) ∷ []) (with_lines (lines_of (cuts_from strict (n + cut_length a) (rest_of ended (drop (cut_length a) w) p r xs stop).image)) (at_end (rest_of ended (drop (cut_length a) w) p r xs stop).ending))
+  rest_cut : (lines_of : List Cut → List (List ℕ)) (ended : Option Ending) (n : ℕ) (w : List ℕ) (p r : ℕ) (a : Result Instruction DecodeError) →
+      ((c : Cut) (cs : List Cut) → c.answer ≡ a → lines_of (c ∷ cs) ≡ line (cut_text c.place c.answer) ∷ lines_of cs) → 0 < cut_length a → cut_length a ≤ length w → (xs : List ℕ) (stop : Stop) →
+      answer_of strict (rest_of ended w p r xs stop).image ≡ a →
+      at lines_of n (rest_of ended w p r xs stop) ≡ with_lines (line (cut_text n a) ∷ []) (at lines_of (n + cut_length a) (rest_of ended (drop (cut_length a) w) p r xs stop))
   rest_cut lines_of ended n w p r a first some fits xs stop answers =
       grind (arith, first (cut_at strict n (rest_of ended w p r xs stop).image), first_and_rest strict (cut_length a) n (rest_of ended w p r xs stop).image, drop-append-le (cut_length a) w, length-append {A = ℕ}, with-with (line (cut_text n a) ∷ []))
 
@@ -49,7 +54,12 @@ module _ (strict : Bool) (laws : DecoderLaws strict) where
       let here : answer_of strict w ≡ a = sym (answer ∙ ap (answer_of strict) same) in
       let h = answer_shows a w here some in
       let stays : (xs : List ℕ) (stop : Stop) → answer_of strict (rest_of ended w p r xs stop).image ≡ a = λ xs stop. same_answer ended w p r (λ o f. sure o (sym here ∙ f)) xs stop ∙ here in
-      rw (entry, is) (h.0, h.1, (λ xs stop. rest_cut strict (map (λ c. line (cut_text c.place c.answer))) ended n w p r a (λ c cs is. refl) h.0 h.1 xs stop (stays xs stop)), λ o xs stop. rest_cut strict decided ended n w p r a (λ c cs is. before_sure strict c.answer _ (λ f. sure o (sym is ∙ f))) h.0 h.1 xs stop (stays xs stop))
+      rw (entry, is) (
+        h.0,
+        h.1,
+        (λ xs stop. rest_cut strict (map (λ c. line (cut_text c.place c.answer))) ended n w p r a (λ c cs is. refl) h.0 h.1 xs stop (stays xs stop)),
+        λ o xs stop. rest_cut strict decided ended n w p r a (λ c cs is. before_sure strict c.answer _ (λ f. sure o (sym is ∙ f))) h.0 h.1 xs stop (stays xs stop),
+      )
 
   pub some_bytes : (w s : List ℕ) (a : Result Instruction DecodeError) → a ≢ Err DecodeError.ExhaustedInput → a ≡ answer_of strict s → s ≡ w → 0 < length w
   some_bytes [] s a sure answer same = absurd (sure (answer ∙ ap (answer_of strict) same ∙ laws.empty))

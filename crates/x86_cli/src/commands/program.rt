@@ -89,9 +89,9 @@ pub fn listed<R, W, O: Input<R> + Output<W>>(
 /// `TEXT_MAX` bytes of it (`TARGETS_MAX` for `targets`), and put its listing to the sink. `make`
 /// with a number from 1 to `MAKE_MAX` reads nothing and puts one line.
 ///
-/// The statuses are those of `listed`, where the source is the reader and a put is a write. The last line of the listing is
-/// a refusal at `Refused`, where `sweep` and `targets` never end, has the position of a byte that can't be where it is at
-/// `BadText`, and is `read fault` at `ReadFault` and `text too long` at `TooLarge`.
+/// The statuses are those of `listed`, where the source is the reader and a put is a write. At `Refused` the last line is a
+/// refusal; `sweep` and `targets` never end so. At `BadText` it has the position of a byte that can't be where it is. At
+/// `ReadFault` it is `read fault`, and at `TooLarge` `text too long`.
 ///
 /// `ran` names each call, for every source and sink: the source is called only once every line that is decided was put.
 /// The laws of this crate say what follows: `headline` where bytes are known, `made` of `make`, `ends`, `read_faults`
