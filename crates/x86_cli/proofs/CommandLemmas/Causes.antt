@@ -3,7 +3,7 @@ use Rattle.std.proofs.Common.{◌≡◌, ◌≢◌, ℕ, suc, zero, false, ◌+�
 use Rattle.std.proofs.Math.Seq.{drop-append_seam}
 use Rattle.std.specs.List.{concat}
 use Rattle.x86_streams.specs.Text.{text_at}
-use Rattle.x86_cli.proofs.ListingLemmas.Vocabulary.{Instruction, Ending, Stop, End, Failed, Command, listing_for, known_for, Text, text_of, DecoderLaws}
+use Rattle.x86_cli.proofs.ListingLemmas.Vocabulary.{Instruction, Ending, Stop, End, Failed, Command, listing_for, Text, text_of, DecoderLaws}
 use Rattle.x86_fields.specs.declared.errors.DecodeError.TheVariants.{ExhaustedInput}
 use Rattle.x86_cli.specs.declared.listings.status.Status.TheVariants as outcome
 use Rattle.x86_streams.specs.Text.Reading.{MayCome}
@@ -36,10 +36,6 @@ command_read c max bytes = let h = command_end c (text_of max bytes End) in grin
 pub some_stop : (stop : Option Stop) → (s : Stop) × MayCome stop [] s
 some_stop None = (End, tt)
 some_stop (Some given) = (given, (refl, refl))
-
--- Where nothing is known but a read fault, the listing ends in that.
-pub known_fault : (c : Command) (t : Text) → (known_for c t).status ≡ outcome.ReadFault → (listing_for c t).status ≡ outcome.ReadFault
-known_fault c t h = grind arith
 
 pub end_stop : (c : Command) (max : ℕ) (bytes : List ℕ) (stop : Option Stop) →
     ((xs : List ℕ) (s : Stop) → MayCome stop xs s → (listing_for c (text_of max (bytes ++ xs) s)).status ≡ outcome.Done) → stop ≡ Some End

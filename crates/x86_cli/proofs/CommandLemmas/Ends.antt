@@ -5,12 +5,12 @@ use Rattle.x86_cli.proofs.ListingLemmas.Vocabulary.{Text, text_of, EndsAt, task_
 use Rattle.x86_cli.specs.declared.commands.request.Request.{Request}
 use Rattle.x86_streams.specs.Text.Reading.{MayCome}
 use Rattle.x86_cli.specs.Commands.Command.{goes_past_refusals}
-use Rattle.x86_cli.proofs.CommandLemmas.Causes.{some_stop, known_fault, command_read, command_status, end_stop}
+use Rattle.x86_cli.proofs.CommandLemmas.Causes.{some_stop, command_read, command_status, end_stop}
 
 -- Where a read failed, the listing of the bytes read before ends in a read fault.
 pub fault_listed : (c : Command) (cs : List Call) → ByRule (known_for c) (text_of (max_of c)) cs → stop_of cs ≡ Some Failed → (taken_listing c (received cs)).status ≡ Status.ReadFault
 fault_listed c [] rule e = cc
-fault_listed c (Read buffer answer ∷ cs) rule e = let known = known_fault c (text_of (max_of c) (received cs) Failed) in grind (arith, rule.4.1, append-nil {A = ℕ})
+fault_listed c (Read buffer answer ∷ cs) rule e = grind (arith, rule.4.1, append-nil {A = ℕ})
 fault_listed c (Write bytes answer ∷ cs) rule e = fault_listed c cs rule.0 e
 fault_listed c (Flush answer ∷ cs) rule e = fault_listed c cs rule.0 e
 
