@@ -26,10 +26,10 @@ use Rattle.x86_operands.specs.Plans.{list_of}
 use Rattle.x86_operands.specs.PlanSteps.{four_of, reading_from}
 use Rattle.x86_operands.specs.Shape.{shape}
 use Rattle.x86_groups.specs.Rows.{group_rows}
-use Rattle.x86_groups.specs.Groups.{group_plan, group_record}
+use Rattle.x86_groups.specs.Groups.{group_plan, group_record, record_of}
 use Rattle.x86_decode.specs.declared.instructions.Instruction.{Instruction}
 use Rattle.x86_decode.specs.Answer.{answer_of}
-use Rattle.x86_decode.specs.Grammar.{Whole, Decides, IsAnswer, by_bytes, case_2, case_4, record_of}
+use Rattle.x86_decode.specs.Grammar.{Whole, Decides, IsAnswer, by_bytes, case_2, case_4}
 use Rattle.x86_decode.specs.Head.{column_of, escape_bytes, is_opcode, is_run, seen_by}
 use Rattle.x86_decode.specs.Instruction.{instruction_of}
 use Rattle.x86_cli.specs.Headline.{Headline, Sentence}

@@ -57,7 +57,8 @@ module _ {R W : Type 0} (reads : R → List ℕ → Result ℕ Error → R → T
     whole_unsent f held' v'' q =
         let s = h.0 in
         let cs = q.0.calls in
-        let failed = rw (rw (none_sent cs (q.2 refl)) at q.0.order) at (failed_joined (Err f) held' cs s.calls q.0.cause q.0.failed) in
+        let joined = failed_joined (Err f) held' cs s.calls s.unfailed (q.0.cause, q.0.failed) in
+        let failed = rw (rw (none_sent cs (q.2 refl)) at q.0.order) at joined.1 in
         let next = failed.0 in
         record {
           calls = cs ++ s.calls;
