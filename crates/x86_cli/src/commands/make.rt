@@ -45,8 +45,11 @@ pub fn generate(i: u32) -> ArrayVec<u8, 15>
     if let Some(sib) = sib {
         let _ = encoding.try_extend_from_slice(&[sib]);
     }
-    let width = displacement_width(modrm, sib);
-    let _ = encoding.try_extend_from_slice(&i.to_le_bytes()[..width as usize]);
+    let _ = match displacement_width(modrm, sib) {
+        1 => encoding.try_extend_from_slice(&[(i % 256) as u8]),
+        4 => encoding.try_extend_from_slice(&i.to_le_bytes()),
+        _ => Ok(()),
+    };
     encoding
 }
 
